@@ -1,0 +1,3 @@
+//! Runs that are recorded.
+
+pub use lite_laws::run;

@@ -1,0 +1,14 @@
+pub mod Calls
+pub mod Finishes
+pub mod Fuse
+pub mod Half
+pub mod Or
+pub mod Picks
+pub mod PollOnce
+pub mod Race
+pub mod Ready
+pub mod Taking
+pub mod Together
+pub mod TryZip
+pub mod YieldNow
+pub mod Zip

@@ -1,0 +1,35 @@
+-- A closure that is polled as a future is: it is called with a context, and answers.
+use Rattle.std.specs.Prelude.{List}
+use Rattle.std.specs.List.{FoldsTo}
+use Rattle.std.specs.Fn.{Mut, Called}
+use denote.Ref.{MutBor}
+use Rattle.futures.specs.declared.task.Poll.{Poll}
+use Rattle.futures.specs.declared.task.Poll.TheVariants.{Pending}
+use Rattle.futures.specs.declared.task.context.Context.{Context}
+use Rattle.futures.specs.Task.{Holds, Keeps, Lasting}
+use Rattle.lite_base.specs.Answers.{UpToValue, Waiting}
+
+abbrev pub Poller : Type 0 → Type 0 → Type 1
+Poller F A = Mut F (MutBor Context × Unit {0}) (Poll A × (MutBor Context × Unit {0}))
+
+module _ {F A : Type 0} (g : Poller F A) where
+  -- a call with some context answered a
+  abbrev pub Answers : F → Poll A → F → Type 0
+  Answers p a q = (cx left : MutBor Context) × Called g p (cx, tt) (a, (left, tt)) q
+
+  -- the answers of its calls in order, up to its value
+  abbrev pub Polled : F → List (Poll A) → F → Type 0
+  Polled p l q = UpToValue l × FoldsTo Answers p l q
+
+  -- a call with any context may be made, and keeps what the context holds
+  abbrev pub Obeys : F → Type 0
+  Obeys p = (cx : MutBor Context) → g.pre p (cx, tt)
+      × ((a : Poll A) (left : MutBor Context) (q : F) → Called g p (cx, tt) (a, (left, tt)) q → Keeps cx.now left.now)
+
+  -- what each call that was pending, and led to q, has seen to in its context
+  abbrev pub Leaves : F → Lasting → Type 0
+  Leaves q fact = (p : F) (cx left : MutBor Context) → Called g p (cx, tt) (Pending, (left, tt)) q → Holds left.now fact
+
+-- it obeys now, and after each call until its value
+pub record AlwaysObeys {F A : Type 0} (g : Poller F A) (f : F) : Type 0 where
+  pub at : (l : List (Poll A)) (p : F) → Waiting l → FoldsTo (Answers g) f l p → Obeys g p

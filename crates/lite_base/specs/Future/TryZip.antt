@@ -1,0 +1,38 @@
+-- `try_zip`: as `zip`, until the first row with an error, and there that error.
+use Rattle.std.specs.Prelude.{◌≡◌, ◌+◌, ◌⊎◌, ℕ, List, length, Result, Ok, Err}
+use Rattle.futures.specs.declared.task.Poll.{Poll}
+use Rattle.lite_base.specs.Answers.{Gives}
+use Rattle.lite_base.specs.Future.Half.{Stands}
+use Rattle.lite_base.specs.Future.Together.{Together}
+use Rattle.lite_base.specs.declared.future.half.Half.{Half}
+use Rattle.lite_base.specs.declared.future.half.Half.TheVariants.{Asked}
+
+-- the pair of two values, and else the first of the errors
+abbrev pub try_pair : {A B E : Type 0} → Result A E → Result B E → Result (A × B) E
+try_pair (Ok v) (Ok w) = Ok (v, w)
+try_pair (Ok v) (Err e) = Err e
+try_pair (Err e) b = Err e
+
+-- One failed, in the last row, and its error goes out. The other stands in each row, or in each but the last
+-- `unasked` rows, and is left as it stands.
+pub record Fails {F G A B C E : Type 0} (run : F → List (Poll (Result A E)) → F → Type 0) (run_other : G → List (Poll (Result B E)) → G → Type 0) (unasked : ℕ)
+    (x : Half F A) (u : Half G B) (out : List (Poll (Result C E))) (y : Half F A) (v : Half G B) : Type 0 where
+  pub before : F
+  pub was_asked : x ≡ Asked before
+  pub ins : List (Poll (Result A E))
+  pub error : E
+  pub failed : Gives ins (Err error) × (length ins ≡ length out)
+  pub last : F
+  pub came : run before ins last
+  pub is_kept : y ≡ Asked last
+  pub others : List (Poll (Result B E))
+  pub stands : Stands (λ b. Ok b) run_other u others v
+  pub asked : length others + unasked ≡ length out
+  pub gives : Gives out (Err error)
+
+-- no error, or one of the first, beside which the second is not asked, or one of the second
+abbrev pub TryZips : {F G A B E : Type 0} → (F → List (Poll (Result A E)) → F → Type 0) → (G → List (Poll (Result B E)) → G → Type 0)
+    → Half F A → Half G B → List (Poll (Result (A × B) E)) → Half F A → Half G B → Type 0
+TryZips run_first run_second x u out y v =
+    Together (λ a. Ok a) (λ b. Ok b) try_pair run_first run_second x u out y v
+    ⊎ (Fails run_first run_second 1 x u out y v ⊎ Fails run_second run_first 0 u x out v y)

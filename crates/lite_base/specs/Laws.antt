@@ -1,0 +1,4 @@
+pub mod Answers
+pub mod Future
+pub mod Hint
+pub mod Promises

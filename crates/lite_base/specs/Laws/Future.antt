@@ -1,0 +1,13 @@
+pub mod Agree
+pub mod Calls
+pub mod Finishes
+pub mod Fuse
+pub mod Half
+pub mod Or
+pub mod Picks
+pub mod PollOnce
+pub mod Race
+pub mod Ready
+pub mod Together
+pub mod TryZip
+pub mod YieldNow

@@ -1,0 +1,64 @@
+-- Laws of two futures of which one is asked first.
+use Rattle.std.proofs.Common.{◌≡◌, List, [], ◌∷◌, ◌++◌, Bool, true, false, refl, subst, ap}
+use Rattle.futures.specs.declared.task.Poll.{Poll}
+use Rattle.futures.specs.declared.task.Poll.TheVariants.{Ready, Pending}
+use Rattle.lite_base.specs.Answers.{Waiting}
+use Rattle.lite_base.specs.Future.Picks.{Picks, Row, Rows}
+use Rattle.lite_base.specs.Laws.Answers.{waiting_up_to}
+
+module _ {A : Type 0} where
+  row_more : (i j : List (Poll A)) (c : Poll A) (i' j' k h : List (Poll A)) → Row i j c i' j' → Row (i ++ k) (j ++ h) c (i' ++ k) (j' ++ h)
+  row_more [] j c i' j' k h r = absurd r
+  row_more (Ready x ∷ i) j c i' j' k h r = (r.0, ap (λ l. l ++ k) r.1, ap (λ l. l ++ h) r.2)
+  row_more (Pending ∷ i) [] c i' j' k h r = absurd r
+  row_more (Pending ∷ i) (b ∷ j) c i' j' k h r = (r.0, ap (λ l. l ++ k) r.1, ap (λ l. l ++ h) r.2)
+
+  -- a row that was pending, before rows that wait
+  row_waits : (i j i' j' : List (Poll A)) → Row i j Pending i' j' → Waiting i' → Waiting j' → Waiting i × Waiting j
+  row_waits [] j i' j' r w v = absurd r
+  row_waits (Ready x ∷ i) j i' j' r w v = absurd (let e = r.0 in cc)
+  row_waits (Pending ∷ i) [] i' j' r w v = absurd r
+  row_waits (Pending ∷ i) (Ready x ∷ j) i' j' r w v = absurd (let e = r.0 in cc)
+  row_waits (Pending ∷ i) (Pending ∷ j) i' j' r w v = (rw (← r.1) w, rw (← r.2) v)
+
+  pub rows_wait : (order : List Bool) (i j out : List (Poll A)) → Rows order i j out → Waiting out → Waiting i × Waiting j
+  rows_wait [] i j out r w = (rw r.0 tt, rw r.1 tt)
+  rows_wait (b ∷ order) i j [] r w = absurd r
+  rows_wait (b ∷ order) i j (Ready x ∷ out) r w = absurd w
+  rows_wait (true ∷ order) i j (Pending ∷ out) r w =
+      let e = rows_wait order r.0 r.1 out r.3 w in
+      row_waits i j r.0 r.1 r.2 e.0 e.1
+  rows_wait (false ∷ order) i j (Pending ∷ out) r w =
+      let e = rows_wait order r.0 r.1 out r.3 w in
+      let d = row_waits j i r.1 r.0 r.2 e.1 e.0 in
+      (d.1, d.0)
+
+  pub rows_follow : (o p : List Bool) (i j k h l m : List (Poll A)) → Rows o i j l → Rows p k h m → Rows (o ++ p) (i ++ k) (j ++ h) (l ++ m)
+  rows_follow [] p i j k h l m r q = rw (r.0, r.1, r.2) q
+  rows_follow (b ∷ o) p i j k h [] m r q = absurd r
+  rows_follow (true ∷ o) p i j k h (c ∷ l) m r q = (r.0 ++ k, r.1 ++ h, row_more i j c r.0 r.1 k h r.2, rows_follow o p r.0 r.1 k h l m r.3 q)
+  rows_follow (false ∷ o) p i j k h (c ∷ l) m r q = (r.0 ++ k, r.1 ++ h, row_more j i c r.1 r.0 h k r.2, rows_follow o p r.0 r.1 k h l m r.3 q)
+
+module _ {F G A : Type 0} (run_first : F → List (Poll A) → F → Type 0) (run_second : G → List (Poll A) → G → Type 0) where
+  pub picks_rest : ((x : F) → run_first x [] x) → ((x : G) → run_second x [] x) → (f : F) (g : G) → Picks run_first run_second [] f g [] f g
+  picks_rest rests_first rests_second f g = record { i = []; j = []; first = rests_first f; second = rests_second g; rows = (refl, refl, refl); ends = tt }
+
+  pub picks_stay : ((x y : F) → run_first x [] y → y ≡ x) → ((x y : G) → run_second x [] y → y ≡ x)
+      → (f f' : F) (g g' : G) → Picks run_first run_second [] f g [] f' g' → (f' ≡ f) × (g' ≡ g)
+  picks_stay stays_first stays_second f f' g g' h =
+      (stays_first f f' (subst (λ l. run_first f l f') h.rows.0 h.first), stays_second g g' (subst (λ l. run_second g l g') h.rows.1 h.second))
+
+  pub picks_follow : ((x y z : F) (l m : List (Poll A)) → Waiting l → run_first x l y → run_first y m z → run_first x (l ++ m) z)
+      → ((x y z : G) (l m : List (Poll A)) → Waiting l → run_second x l y → run_second y m z → run_second x (l ++ m) z)
+      → (o p : List Bool) (f f' f2 : F) (g g' g2 : G) (l m : List (Poll A)) → Waiting l
+      → Picks run_first run_second o f g l f' g' → Picks run_first run_second p f' g' m f2 g2 → Picks run_first run_second (o ++ p) f g (l ++ m) f2 g2
+  picks_follow follows_first follows_second o p f f' f2 g g' g2 l m w h k =
+      let waits = rows_wait o h.i h.j l h.rows w in
+      record {
+        i = h.i ++ k.i;
+        j = h.j ++ k.j;
+        first = follows_first f f' f2 h.i k.i waits.0 h.first k.first;
+        second = follows_second g g' g2 h.j k.j waits.1 h.second k.second;
+        rows = rows_follow o p h.i h.j k.i k.j l m h.rows k.rows;
+        ends = waiting_up_to l m w k.ends;
+      }

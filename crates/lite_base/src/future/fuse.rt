@@ -1,0 +1,53 @@
+ghost use Rattle.std.specs.Prelude.{◌≡◌, ◌∷◌, [], IfSome, Some};
+ghost use Rattle.futures.specs.Poll.{OnPending};
+ghost use Rattle.futures.specs.Task.{Holds, Keeps, Lasting};
+ghost use Rattle.lite_base.specs.Future.Fuse.{Fuses};
+ghost use Rattle.lite_base.specs.Laws.Future.Fuse.{fuses_follow, fuses_once, fuses_rest, fuses_stay};
+
+use super::Future;
+use crate::{Context, Poll};
+
+/// Lets its future go in the poll that answers ready, and is pending for ever after that.
+///
+/// Made by [`fuse`](super::make::fuse). It may be polled after its value too. Ported from `src/future.rs`, `Fuse`.
+#[derive(Drop)]
+pub struct Fuse<F> {
+    pub(crate) inner: Option<F>,
+}
+
+impl<F: Future + Drop> Future for Fuse<F> {
+    type Output = F::Output;
+
+    ghost can_poll = { λ x. IfSome x.inner F.can_poll };
+
+    ghost run = { Fuses F.run };
+
+    ghost leaves = { λ x fact. (f : F) × (x.inner ≡ Some f) × F.leaves f fact };
+
+    ghost rests = { fuses_rest F.run F.rests };
+
+    ghost stays = { fuses_stay F.run F.stays };
+
+    ghost follows = { λ x y z l m w. fuses_follow F.run F.follows x y z l m };
+
+    ghost once = { fuses_once F.run };
+
+    fn poll(&mut self, cx: &mut Context<'_>) -> Poll<F::Output>
+        requires { IfSome self.old.inner F.can_poll }
+        ensures ran { Fuses F.run self.old (result ∷ []) self.new }
+        ensures again { IfSome self.new.inner F.can_poll }
+        ensures left { OnPending result ((fact : Lasting) → ((f : F) × (self.new.inner ≡ Some f) × F.leaves f fact) → Holds cx.new fact) }
+        ensures kept { Keeps cx.old cx.new }
+    {
+        let Some(future) = &mut self.inner else {
+            return Poll::Pending;
+        };
+        match future.poll(cx) {
+            Poll::Ready(x) => {
+                self.inner = None;
+                Poll::Ready(x)
+            }
+            Poll::Pending => Poll::Pending,
+        }
+    }
+}

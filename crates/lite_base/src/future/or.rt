@@ -1,0 +1,40 @@
+ghost use Rattle.std.specs.Prelude.{◌⊎◌};
+ghost use Rattle.lite_base.specs.Future.Or.{Ors};
+ghost use Rattle.lite_base.specs.Laws.Answers.{up_to_once};
+ghost use Rattle.lite_base.specs.Laws.Future.Or.{ors_follow, ors_rest, ors_stay};
+
+use super::Future;
+use super::picks::poll_in_order;
+use crate::{Context, Poll};
+
+/// The value of the future that is ready first, and of the first future where both are.
+///
+/// Made by [`or`](super::make::or). The second future is polled only where the first was pending. Ported from
+/// `src/future.rs`, `Or`.
+#[derive(Drop)]
+pub struct Or<F1, F2> {
+    pub(crate) future1: F1,
+    pub(crate) future2: F2,
+}
+
+impl<F1: Future, F2: Future<Output = F1::Output>> Future for Or<F1, F2> {
+    type Output = F1::Output;
+
+    ghost can_poll = { λ x. F1.can_poll x.future1 × F2.can_poll x.future2 };
+
+    ghost run = { Ors F1.run F2.run };
+
+    ghost leaves = { λ x fact. F1.leaves x.future1 fact ⊎ F2.leaves x.future2 fact };
+
+    ghost rests = { ors_rest F1.run F2.run F1.rests F2.rests };
+
+    ghost stays = { ors_stay F1.run F2.run F1.stays F2.stays };
+
+    ghost follows = { ors_follow F1.run F2.run F1.follows F2.follows };
+
+    ghost once = { λ x y l h. up_to_once l h.ends };
+
+    fn poll(&mut self, cx: &mut Context<'_>) -> Poll<F1::Output> {
+        poll_in_order(&mut self.future1, &mut self.future2, cx)
+    }
+}

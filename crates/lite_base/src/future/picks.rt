@@ -1,0 +1,30 @@
+ghost use Rattle.std.specs.Prelude.{◌≡◌, ◌⊎◌, List, []};
+ghost use Rattle.futures.specs.Poll.{OnPending};
+ghost use Rattle.futures.specs.Task.{Holds, Keeps, Lasting};
+ghost use Rattle.futures.specs.declared.task.Poll.{Poll};
+ghost use Rattle.lite_base.specs.Future.Picks.{Row};
+
+use super::Future;
+use crate::{Context, Poll};
+
+/// Polls `first`, and `second` only where that was pending.
+pub(crate) fn poll_in_order<F, G>(
+    first: &mut F,
+    second: &mut G,
+    cx: &mut Context<'_>,
+) -> Poll<F::Output>
+where
+    F: Future,
+    G: Future<Output = F::Output>,
+    requires first { F.can_poll first.old }
+    requires second { G.can_poll second.old }
+    ensures row { (i j : List (Poll F.Output)) × F.run first.old i first.new × G.run second.old j second.new × Row i j result [] [] }
+    ensures again { OnPending result (F.can_poll first.new × G.can_poll second.new) }
+    ensures left { OnPending result ((fact : Lasting) → (F.leaves first.new fact ⊎ G.leaves second.new fact) → Holds cx.new fact) }
+    ensures kept { Keeps cx.old cx.new }
+{
+    match first.poll(cx) {
+        Poll::Ready(x) => Poll::Ready(x),
+        Poll::Pending => second.poll(cx),
+    }
+}

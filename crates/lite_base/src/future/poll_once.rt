@@ -1,0 +1,37 @@
+ghost use Rattle.std.specs.Prelude.{refl};
+ghost use Rattle.lite_base.specs.Future.PollOnce.{TellsFirst};
+ghost use Rattle.lite_base.specs.Laws.Future.PollOnce.{tells_follow, tells_once};
+
+use super::Future;
+use crate::{Context, Poll};
+
+/// Polls a future once, and is ready with what it answered: `Some` of its value, or `None` where it was pending.
+///
+/// Made by [`poll_once`](super::make::poll_once). Ported from `src/future.rs`, `PollOnce`.
+#[derive(Drop)]
+pub struct PollOnce<F> {
+    pub(crate) f: F,
+}
+
+impl<F: Future> Future for PollOnce<F> {
+    type Output = Option<F::Output>;
+
+    ghost can_poll = { λ x. F.can_poll x.f };
+
+    ghost run = { TellsFirst F.run };
+
+    ghost rests = { λ x. refl };
+
+    ghost stays = { λ x y h. h };
+
+    ghost follows = { tells_follow F.run };
+
+    ghost once = { tells_once F.run };
+
+    fn poll(&mut self, cx: &mut Context<'_>) -> Poll<Option<F::Output>> {
+        match self.f.poll(cx) {
+            Poll::Ready(x) => Poll::Ready(Some(x)),
+            Poll::Pending => Poll::Ready(None),
+        }
+    }
+}

@@ -1,0 +1,51 @@
+ghost use Rattle.std.specs.Prelude.{◌⊎◌, refl};
+ghost use Rattle.lite_base.specs.Future.Race.{RacesOn};
+ghost use Rattle.lite_base.specs.Laws.Future.Race.{races_follow, races_once};
+
+use super::Future;
+use super::picks::poll_in_order;
+use crate::{Context, Poll};
+use rand_core::Rng;
+
+/// The value of the future that is ready first, with no preference where both are.
+///
+/// Made by [`race`](super::make::race) and [`race_with_seed`](super::make::race_with_seed). Each poll takes one
+/// word of the generator by `next_u32`. Where its lowest bit is 1 the first future is polled first, and else the
+/// second; the other is polled only where that one was pending. Ported from `src/future.rs`, `Race`.
+#[derive(Drop)]
+pub struct Race<F1, F2, G> {
+    pub(crate) future1: F1,
+    pub(crate) future2: F2,
+    pub(crate) rng: G,
+}
+
+impl<F1, F2, G> Future for Race<F1, F2, G>
+where
+    F1: Future,
+    F2: Future<Output = F1::Output>,
+    G: Rng,
+{
+    type Output = F1::Output;
+
+    ghost can_poll = { λ x. F1.can_poll x.future1 × F2.can_poll x.future2 };
+
+    ghost run = { RacesOn F1.run F2.run G.stream };
+
+    ghost leaves = { λ x fact. F1.leaves x.future1 fact ⊎ F2.leaves x.future2 fact };
+
+    ghost rests = { λ x. refl };
+
+    ghost stays = { λ x y h. h };
+
+    ghost follows = { races_follow F1.run F2.run G.stream F1.follows F2.follows };
+
+    ghost once = { races_once F1.run F2.run G.stream };
+
+    fn poll(&mut self, cx: &mut Context<'_>) -> Poll<F1::Output> {
+        if self.rng.next_u32() % 2 == 1 {
+            poll_in_order(&mut self.future1, &mut self.future2, cx)
+        } else {
+            poll_in_order(&mut self.future2, &mut self.future1, cx)
+        }
+    }
+}

@@ -1,0 +1,56 @@
+ghost use Rattle.std.specs.Prelude.{◌⊎◌};
+ghost use Rattle.lite_base.specs.Future.Half.{CanAsk, IsAskedAnd};
+ghost use Rattle.lite_base.specs.Future.TryZip.{TryZips};
+ghost use Rattle.lite_base.specs.Laws.Future.TryZip.{try_zips_follow, try_zips_once, try_zips_rest, try_zips_stay};
+
+use super::Future;
+use super::half::{Half, take_both, try_ask};
+use crate::{Context, Poll};
+
+/// The values of two futures, once both are there, or the first error.
+///
+/// Made by [`try_zip`](super::make::try_zip). Each poll polls each future that has no value yet, the first before
+/// the second, and the second only where the first did not fail in that poll. A future is let go in the poll that
+/// gives its value; after an error both are kept as they are. Ported from `src/future.rs`, `TryZip`.
+#[derive(Drop)]
+pub struct TryZip<F1, T1, F2, T2> {
+    pub(crate) first: Half<F1, T1>,
+    pub(crate) second: Half<F2, T2>,
+}
+
+impl<T1, T2, E, F1, F2> Future for TryZip<F1, T1, F2, T2>
+where
+    F1: Future<Output = Result<T1, E>> + Drop,
+    F2: Future<Output = Result<T2, E>> + Drop,
+    T1: Drop,
+    T2: Drop,
+{
+    type Output = Result<(T1, T2), E>;
+
+    ghost can_poll = { λ x. CanAsk F1.can_poll x.first × CanAsk F2.can_poll x.second };
+
+    ghost run = { λ x l y. TryZips F1.run F2.run x.first x.second l y.first y.second };
+
+    ghost leaves = { λ x fact. IsAskedAnd x.first (λ f. F1.leaves f fact) ⊎ IsAskedAnd x.second (λ f. F2.leaves f fact) };
+
+    ghost rests = { λ x. try_zips_rest F1.run F2.run F1.rests F2.rests x.first x.second };
+
+    ghost stays = { λ x y h. let e = try_zips_stay F1.run F2.run F1.stays F2.stays x.first y.first x.second y.second h in λ i. record { first = e.0 i; second = e.1 i } };
+
+    ghost follows = { λ x y z. try_zips_follow F1.run F2.run F1.follows F2.follows x.first y.first z.first x.second y.second z.second };
+
+    ghost once = { λ x y. try_zips_once F1.run F2.run x.first y.first x.second y.second };
+
+    fn poll(&mut self, cx: &mut Context<'_>) -> Poll<Result<(T1, T2), E>> {
+        if let Err(e) = try_ask(&mut self.first, cx) {
+            return Poll::Ready(Err(e));
+        }
+        if let Err(e) = try_ask(&mut self.second, cx) {
+            return Poll::Ready(Err(e));
+        }
+        match take_both(&mut self.first, &mut self.second) {
+            Poll::Ready(both) => Poll::Ready(Ok(both)),
+            Poll::Pending => Poll::Pending,
+        }
+    }
+}

@@ -1,0 +1,46 @@
+ghost use Rattle.std.specs.Prelude.{◌⊎◌};
+ghost use Rattle.lite_base.specs.Future.Half.{CanAsk, IsAskedAnd};
+ghost use Rattle.lite_base.specs.Future.Zip.{Zips};
+ghost use Rattle.lite_base.specs.Laws.Future.Together.{together_follow, together_once, together_rest, together_stay};
+
+use super::Future;
+use super::half::{Half, ask, take_both};
+use crate::{Context, Poll};
+
+/// The values of two futures, once both are there.
+///
+/// Made by [`zip`](super::make::zip). Each poll polls each future that has no value yet, the first before the
+/// second, and lets a future go in the poll that gives its value. Ported from `src/future.rs`, `Zip`.
+#[derive(Drop)]
+pub struct Zip<F1: Future<Output: Drop>, F2: Future<Output: Drop>> {
+    pub(crate) first: Half<F1, F1::Output>,
+    pub(crate) second: Half<F2, F2::Output>,
+}
+
+impl<F1, F2> Future for Zip<F1, F2>
+where
+    F1: Future<Output: Drop> + Drop,
+    F2: Future<Output: Drop> + Drop,
+{
+    type Output = (F1::Output, F2::Output);
+
+    ghost can_poll = { λ x. CanAsk F1.can_poll x.first × CanAsk F2.can_poll x.second };
+
+    ghost run = { λ x l y. Zips F1.run F2.run x.first x.second l y.first y.second };
+
+    ghost leaves = { λ x fact. IsAskedAnd x.first (λ f. F1.leaves f fact) ⊎ IsAskedAnd x.second (λ f. F2.leaves f fact) };
+
+    ghost rests = { λ x. together_rest (λ v. v) (λ w. w) (λ v w. (v, w)) F1.run F2.run F1.rests F2.rests x.first x.second };
+
+    ghost stays = { λ x y h. let e = together_stay (λ v. v) (λ w. w) (λ v w. (v, w)) F1.run F2.run F1.stays F2.stays x.first y.first x.second y.second h in λ i. record { first = e.0 i; second = e.1 i } };
+
+    ghost follows = { λ x y z. together_follow (λ v. v) (λ w. w) (λ v w. (v, w)) F1.run F2.run F1.follows F2.follows x.first y.first z.first x.second y.second z.second };
+
+    ghost once = { λ x y. together_once (λ v. v) (λ w. w) (λ v w. (v, w)) F1.run F2.run x.first y.first x.second y.second };
+
+    fn poll(&mut self, cx: &mut Context<'_>) -> Poll<(F1::Output, F2::Output)> {
+        ask(&mut self.first, cx);
+        ask(&mut self.second, cx);
+        take_both(&mut self.first, &mut self.second)
+    }
+}

@@ -1,0 +1,16 @@
+//! What the other crates stand on: lists of answers, ranks, the traits of futures and streams, the futures, and
+//! the one loop without a count.
+#![tactic(auto)]
+
+mod counted;
+pub mod future;
+mod lent;
+mod stream;
+mod turns;
+
+pub use counted::Counted;
+pub use future::Future;
+pub use futures::ready;
+pub use futures::task::{Context, Poll};
+pub use stream::Stream;
+pub use turns::{Turns, drive};

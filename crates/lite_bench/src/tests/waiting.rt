@@ -1,0 +1,101 @@
+use super::bell::Bell;
+use super::counting::Counting;
+use super::refusing::Refusing;
+use futures::task::{Doorbell, Solo, Source};
+use futures_lite::future::{self, Future, FutureExt};
+use futures_lite::{Context, Poll};
+use std::alloc::{AllocError, AllocGlobal, Global};
+use std::random::RandomSource;
+use std::sync::Wait;
+use std::sync::atomic::AtomicU64;
+use std::sync::atomic::Ordering::SeqCst;
+use std::test::Fail;
+use std::thread;
+
+fn is_woken(solo: &Solo) -> bool {
+    match solo.sleep() {
+        Some(asleep) => {
+            asleep.end();
+            false
+        }
+        None => true,
+    }
+}
+
+/// Whether a poll of the future is pending, and its task is woken once the bell is rung and not before.
+fn is_woken_by<R, F>(rt: &R, mut future: F, bell: &Bell) -> Result<bool, Fail>
+where
+    R: Wait + RandomSource + AllocGlobal,
+    F: Future + Drop,
+    F::Output: Drop,
+    requires { F.can_poll future }
+{
+    let solo = Solo::new(rt, Doorbell::spinning())?;
+    let source = Source::new();
+    let mut slot = None;
+    let mut cx = solo.begin();
+    let is_pending = future.poll(&mut cx).is_pending();
+    let _: Poll<()> = cx.register(&source, &mut slot);
+    cx.park();
+    let was_woken = is_woken(&solo);
+    bell.ring(rt);
+    Ok(is_pending && !was_woken && is_woken(&solo))
+}
+
+fn two_bells(alloc: Global) -> Result<[Bell; 2], AllocError> {
+    Ok([Bell::new(alloc)?, Bell::new(alloc)?])
+}
+
+#[test]
+fn each_of_two_sources_wakes_the_task(rt: HostRuntime) -> Result<(), Fail> {
+    for rung in 0..2usize {
+        let bells = two_bells(rt.alloc())?;
+        let zip = future::zip(bells[0].other()?, bells[1].other()?);
+        assert!(rt; is_woken_by(&rt, zip, &bells[rung])?);
+        let bells = two_bells(rt.alloc())?;
+        let try_zip = future::try_zip(bells[0].other()?, bells[1].other()?);
+        assert!(rt; is_woken_by(&rt, try_zip, &bells[rung])?);
+        let bells = two_bells(rt.alloc())?;
+        let or = bells[0].other()?.or(bells[1].other()?);
+        assert!(rt; is_woken_by(&rt, or, &bells[rung])?);
+        let bells = two_bells(rt.alloc())?;
+        let race = bells[0]
+            .other()?
+            .race(bells[1].other()?, Counting { next: 1 });
+        assert!(rt; is_woken_by(&rt, race, &bells[rung])?);
+    }
+    Ok(())
+}
+
+#[test]
+fn block_on_ends_at_a_wake_of_its_own_poll(rt: HostRuntime) -> Result<(), Fail> {
+    future::block_on(&rt, future::yield_now())?;
+    assert_eq!(rt; future::block_on(&rt, future::ready(7u8))?, 7);
+    Ok(())
+}
+
+#[test]
+fn block_on_ends_at_a_wake_of_another_thread(rt: HostRuntime) -> Result<(), Fail> {
+    let bell = Bell::new(rt.alloc())?;
+    let future = bell.other()?;
+    let ended = thread::join(
+        &rt,
+        || future::block_on(&rt, future),
+        || bell.ring_when_waited_for(&rt),
+    );
+    assert_eq!(rt; ended.0?, Ok(()));
+    Ok(())
+}
+
+#[test]
+fn a_refused_block_on_polls_nothing(rt: HostRuntime) -> Result<(), Fail> {
+    let polls = AtomicU64::new(0);
+    let future = future::poll_fn(|_cx: &mut Context<'_>| {
+        polls.fetch_add(1, SeqCst);
+        Poll::Ready(1u8)
+    });
+    let refused = future::block_on(&Refusing { rt: &rt }, future);
+    assert_eq!(rt; refused, Err(AllocError));
+    assert_eq!(rt; polls.load(SeqCst), 0);
+    Ok(())
+}

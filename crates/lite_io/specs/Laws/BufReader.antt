@@ -1,0 +1,115 @@
+use Rattle.std.proofs.Common.{◌≡◌, ◌∙◌, ℕ, zero, suc, ◌+◌, ◌-◌, List, [], ◌∷◌, ◌++◌, length, refl, sym, ap, subst, arith, append_assoc, append-nil, length-append}
+use Rattle.lite_base.specs.Answers.{Comparable}
+use Rattle.lite_io_base.specs.Falls.{Falls}
+use Rattle.lite_io_base.specs.Laws.Falls.{falls_held}
+use Rattle.lite_io_base.specs.Laws.Marks.{all_reading, bytes_given, given-append, given-bytes, given_all, given_are_reading, given_both, given_last, given_reading, reading-append, reading_all, writing-append, writing_none}
+use Rattle.lite_io_base.specs.Marks.{AllGiven, AllReading, Mark, bytes, given, reading}
+use Rattle.lite_io_base.specs.Runs.{Follows, Rests, Runs, Shows}
+use Rattle.lite_io.specs.declared.buf_reader.BufReader.{BufReader}
+use Rattle.lite_io.specs.BufReader.{Padded, Passes, Through, ahead, capacity_of}
+
+pub padded_same : (l : List Mark) → Padded l l
+padded_same [] = Padded.none
+padded_same (m ∷ l) = Padded.same m l l (padded_same l)
+
+padded_both : (l k m n : List Mark) → Padded l k → Padded m n → Padded (l ++ m) (k ++ n)
+padded_both _ _ m n Padded.none q = q
+padded_both _ _ m n (Padded.same a l k p) q = Padded.same a (l ++ m) (k ++ n) (padded_both l k m n p q)
+padded_both _ _ m n (Padded.more l k p) q = Padded.more (l ++ m) (k ++ n) (padded_both l k m n p q)
+
+given_one : (a : Mark) (l k : List Mark) → given l ≡ given k → given (a ∷ l) ≡ given (a ∷ k)
+given_one a l k e = given-append (a ∷ []) l ∙ ap (λ n. given (a ∷ []) + n) e ∙ sym (given-append (a ∷ []) k)
+
+padded_given : (l k : List Mark) → Padded l k → given l ≡ given k
+padded_given _ _ Padded.none = refl
+padded_given _ _ (Padded.same a l k p) = given_one a l k (padded_given l k p)
+padded_given _ _ (Padded.more l k p) = padded_given l k p
+
+padded_all_given : (l k : List Mark) → Padded l k → AllGiven k → AllGiven l
+padded_all_given _ _ Padded.none g = tt
+padded_all_given _ _ (Padded.same a l k p) g = (g.0, padded_all_given l k p g.1)
+padded_all_given _ _ (Padded.more l k p) g = absurd g.0
+
+-- the equation, and nothing ahead where there is no capacity
+pub passes_of : (n : ℕ) (p : List ℕ) (came out : List Mark) (q : List ℕ) → bytes p ++ came ≡ out ++ bytes q → (n ≡ 0 → (p ≡ []) × (q ≡ [])) → Passes n p came out q
+passes_of zero p came out q e none =
+    let both = none refl in
+    let is : came ≡ out = ap (λ l. bytes l ++ came) (sym both.0) ∙ e ∙ ap (λ l. out ++ bytes l) both.1 ∙ append-nil out in
+    (both.0, both.1, subst (λ l. Padded came l) is (padded_same came))
+passes_of (suc n) p came out q e none = e
+
+passes_both : (n : ℕ) (p q r : List ℕ) (came out more next : List Mark) → Passes n p came out q → Passes n q more next r → Passes n p (came ++ more) (out ++ next) r
+passes_both zero p q r came out more next a b = (a.0, b.1, padded_both came out more next a.2 b.2)
+passes_both (suc n) p q r came out more next a b =
+    sym (append_assoc (bytes p) came more) ∙ ap (λ l. l ++ more) a ∙ append_assoc out (bytes q) more
+    ∙ ap (λ l. out ++ l) b ∙ sym (append_assoc out next (bytes r))
+
+-- as many bytes and errors come out as were ahead and came in, less those ahead now
+passes_given : (n : ℕ) (p q : List ℕ) (came out : List Mark) → Passes n p came out q → given came + length p ≡ given out + length q
+passes_given zero p q came out h = let e = padded_given came out h.2 in rw (h.0, h.1) (ap (λ k. k + 0) e)
+passes_given (suc n) p q came out h =
+    let e = ap given h in
+    omega (arith, e, given-append (bytes p) came, given-append out (bytes q), given-bytes p, given-bytes q)
+
+passes_all_given : (n : ℕ) (p q : List ℕ) (came out : List Mark) → Passes n p came out q → AllGiven out → AllGiven came
+passes_all_given zero p q came out h g = padded_all_given came out h.2 g
+passes_all_given (suc n) p q came out h g = given_last (bytes p) came (subst AllGiven (sym h) (given_both out (bytes q) g (bytes_given q)))
+
+heads : (a b : Mark) (l k : List Mark) → ◌≡◌ {A = List Mark} (a ∷ l) (b ∷ k) → a ≡ b
+heads a b l k e = cc
+
+tails : (a b : Mark) (l k : List Mark) → ◌≡◌ {A = List Mark} (a ∷ l) (b ∷ k) → l ≡ k
+tails a b l k e = cc
+
+front : (l m k n : List Mark) → l ++ m ≡ k ++ n → Comparable l k
+front [] m k n e = tt
+front (a ∷ l) m [] n e = tt
+front (a ∷ l) m (b ∷ k) n e = (heads a b (l ++ m) (k ++ n) e, front l m k n (tails a b (l ++ m) (k ++ n) e))
+
+passes_front : (n : ℕ) (p q : List ℕ) (came out : List Mark) → Passes n p came out q → Comparable (bytes p) out
+passes_front zero p q came out h = rw h.0 tt
+passes_front (suc n) p q came out h = front (bytes p) came out (bytes q) h
+
+-- without a buffer nothing is ahead
+pub ahead_none : {R : Type 0} (x : BufReader R) → capacity_of x ≡ 0 → ahead x ≡ []
+ahead_none x none = let nothing : x.cap - x.pos ≡ 0 = omega arith in rw nothing refl
+
+pub held_sized : (xs : List ℕ) (k n : ℕ) → length xs ≡ n → length (xs ++ k ∷ []) ≡ n + 1
+held_sized xs k n e = omega (arith, length-append xs (k ∷ []), e)
+
+module _ {R : Type 0} (run : Runs R) where
+  pub through_rests : Rests run → Rests (Through run)
+  through_rests rests x = record { inner = []; ran = rests x.inner; capacity = refl; passes = passes_of (capacity_of x) (ahead x) [] [] (ahead x) (append-nil (bytes (ahead x))) (λ none. (ahead_none x none, ahead_none x none)); writes = refl }
+
+  pub through_follows : Follows run → Follows (Through run)
+  through_follows follows x y z l m a b =
+      let next = subst (λ n. Passes n (ahead y) (reading b.inner) (reading m) (ahead z)) a.capacity b.passes in
+      record {
+        inner = a.inner ++ b.inner;
+        ran = follows x.inner y.inner z.inner a.inner b.inner a.ran b.ran;
+        capacity = b.capacity ∙ a.capacity;
+        passes = rw (reading-append a.inner b.inner, reading-append l m) (passes_both (capacity_of x) (ahead x) (ahead y) (ahead z) (reading a.inner) (reading l) (reading b.inner) (reading m) a.passes next);
+        writes = rw (writing-append a.inner b.inner, writing-append l m) (cc (a.writes, b.writes));
+      }
+
+  pub through_shows : Shows (Through run) ahead
+  through_shows x y l h r = subst (λ k. Comparable (bytes (ahead x)) k) (reading_all l r) (passes_front (capacity_of x) (ahead x) (ahead y) (reading h.inner) (reading l) h.passes)
+
+  module _ (rank : R → List ℕ) (x y : BufReader R) (l : List Mark) where
+    counted : (h : Through run x l y) → given h.inner + length (ahead x) ≡ given l + length (ahead y)
+    counted h = rw (← given_reading h.inner, ← given_reading l) (passes_given (capacity_of x) (ahead x) (ahead y) (reading h.inner) (reading l) h.passes)
+
+    came_reading : (h : Through run x l y) → AllReading l → AllReading h.inner
+    came_reading h r = all_reading h.inner (sym h.writes ∙ writing_none l r)
+
+    pub through_lowers : ((m : List Mark) → AllReading m → run x.inner m y.inner → Falls (given m) (rank y.inner) (rank x.inner)) → AllReading l → Through run x l y → Falls (given l) (rank y.inner ++ length (ahead y) ∷ []) (rank x.inner ++ length (ahead x) ∷ [])
+    through_lowers lowers r h = falls_held (given h.inner) (given l) (length (ahead x)) (length (ahead y)) (rank y.inner) (rank x.inner) (lowers h.inner (came_reading h r) h.ran) (counted h)
+
+    pub through_falls : ((m : List Mark) → AllGiven m → run x.inner m y.inner → Falls (length m) (rank y.inner) (rank x.inner)) → AllGiven l → Through run x l y → Falls (length l) (rank y.inner ++ length (ahead y) ∷ []) (rank x.inner ++ length (ahead x) ∷ [])
+    through_falls falls g h =
+        let r = given_are_reading l g in
+        let out : AllGiven (reading l) = subst AllGiven (sym (reading_all l r)) g in
+        let came = subst AllGiven (reading_all h.inner (came_reading h r)) (passes_all_given (capacity_of x) (ahead x) (ahead y) (reading h.inner) (reading l) h.passes out) in
+        let less = subst (λ n. Falls n (rank y.inner) (rank x.inner)) (sym (given_all h.inner came)) (falls h.inner came h.ran) in
+        subst (λ n. Falls n (rank y.inner ++ length (ahead y) ∷ []) (rank x.inner ++ length (ahead x) ∷ [])) (given_all l g)
+        (falls_held (given h.inner) (given l) (length (ahead x)) (length (ahead y)) (rank y.inner) (rank x.inner) less (counted h))

@@ -1,0 +1,339 @@
+ghost use Rattle.std.specs.Prelude.{◌≡◌, ◌+◌, ◌<◌, ◌≤◌, ◌++◌, ◌∷◌, [], Ok, length, IfOk, IfErr};
+ghost use Rattle.std.specs.Borrow.{Lends, sem};
+ghost use Rattle.futures.specs.Poll.{IfReady, OnPending};
+ghost use Rattle.futures.specs.Task.{Keeps, Lasting, Holds};
+ghost use Rattle.lite_io_base.specs.Marks.{fill_marks, read_marks};
+ghost use Rattle.lite_io_base.specs.Runs.{ReadsInto, room_in};
+
+use lite_base::{Context, Poll, ready};
+use lite_io_base::{
+    AsyncBufRead, AsyncRead, AsyncSeek, AsyncWrite, CountedRead, Tale, fill_slices, total_room,
+};
+use std::alloc::Global;
+use std::io;
+use std::io::{IoSliceMut, SeekFrom};
+
+/// The capacity of a buffer, in bytes, where none is named.
+const DEFAULT_CAPACITY: usize = 8192;
+
+/// Reads ahead into a buffer, so that small reads do not each reach the inner reader.
+///
+/// The buffer is made once, and no call of the reader takes memory after that. Writes and seeks reach the inner value
+/// past what is buffered. What is buffered is lost by `into_inner` and by a drop. Ported from `src/io.rs`,
+/// `BufReader`.
+#[derive(Drop)]
+pub struct BufReader<R> {
+    inner: R,
+    // As long as the capacity. What was read and not yet taken is at pos..cap.
+    buf: Vec<u8>,
+    pos: usize,
+    cap: usize,
+    ghost in_range: { (pos ≤ cap) × (cap ≤ length buf.items) },
+}
+
+impl<R: Drop> BufReader<R> {
+    ghost use Rattle.lite_io.specs.contracts.buf_reader.BufReader.{the_row};
+    ghost use Rattle.lite_io.specs.BufReader.{ahead, capacity_of, inner_of};
+
+    /// A reader with a buffer of 8192 bytes. `Err` hands `inner` back, where there was no memory for the buffer.
+    pub fn new(alloc: Global, inner: R) -> Result<BufReader<R>, R>
+        ensures inner { IfOk result (λ r. inner_of r ≡ inner) }
+        ensures empty { IfOk result (λ r. ahead r ≡ []) }
+        ensures capacity { IfOk result (λ r. capacity_of r ≡ 8192) }
+        ensures handed_back { IfErr result (λ r. r ≡ inner) }
+    {
+        BufReader::with_capacity(alloc, DEFAULT_CAPACITY, inner)
+    }
+
+    /// A reader with a buffer of `capacity` bytes, with none of them used. `Err` hands `inner` back, where there was no
+    /// memory for the buffer. With a capacity of 0 each read goes to `inner`, and nothing is lent.
+    pub fn with_capacity(alloc: Global, capacity: usize, inner: R) -> Result<BufReader<R>, R>
+        ensures inner { IfOk result (λ r. inner_of r ≡ inner) }
+        ensures empty { IfOk result (λ r. ahead r ≡ []) }
+        ensures capacity { IfOk result (λ r. capacity_of r ≡ capacity) }
+        ensures handed_back { IfErr result (λ r. r ≡ inner) }
+    {
+        match vec![in alloc; 0; capacity] {
+            Ok(buf) => Ok(BufReader {
+                inner,
+                buf,
+                pos: 0,
+                cap: 0,
+            }),
+            Err(_) => Err(inner),
+        }
+    }
+
+    /// The inner reader.
+    pub fn get_ref(&self) -> &R
+        ensures { result.now ≡ inner_of self.now }
+    {
+        &self.inner
+    }
+
+    /// The inner reader, to be changed. What it reads meanwhile is not buffered.
+    pub fn get_mut(&mut self) -> &mut R
+        ensures value { result.now ≡ inner_of self.old }
+        ensures* writes_back { sem 𝓛 (Lends (the_row R.row) R.row self.entry result
+            (λ w. record self.old { inner = w })) }
+    {
+        &mut self.inner
+    }
+
+    /// The bytes that were read ahead and are not yet taken.
+    pub fn buffer(&self) -> &[u8]
+        ensures { result.now ≡ ahead self.now }
+    {
+        &self.buf[self.pos..self.cap]
+    }
+
+    /// The inner reader. The bytes that were read ahead are lost.
+    pub fn into_inner(self) -> R
+        ensures { result ≡ inner_of self }
+    {
+        self.inner
+    }
+}
+
+impl<R: Tale> Tale for BufReader<R> {
+    ghost use Rattle.lite_io.specs.BufReader.{Through};
+    ghost use Rattle.lite_io.specs.Laws.BufReader.{through_follows, through_rests};
+
+    ghost run = { Through R.run };
+
+    ghost rests = { through_rests R.run R.rests };
+
+    ghost follows = { through_follows R.run R.follows };
+}
+
+impl<R: AsyncRead> BufReader<R> {
+    ghost use Rattle.lite_io.specs.BufReader.{Through, ahead, count_of, inner_of};
+
+    // Reads ahead if nothing is there.
+    fn fill(&mut self, cx: &mut Context<'_>) -> Poll<io::Result<()>>
+        ensures ran { Through R.run self.old (fill_marks result (ahead self.new)) self.new }
+        ensures left { OnPending result ((fact : Lasting) → R.leaves (inner_of self.new) fact → Holds cx.new fact) }
+        ensures kept { Keeps cx.old cx.new }
+    {
+        if self.pos < self.cap {
+            return Poll::Ready(Ok(()));
+        }
+        match ready!(self.refill(cx)) {
+            Ok(_) => Poll::Ready(Ok(())),
+            Err(e) => Poll::Ready(Err(e)),
+        }
+    }
+
+    // Reads as much as there is room for into the whole buffer. What was ahead is lost.
+    fn refill(&mut self, cx: &mut Context<'_>) -> Poll<io::Result<usize>>
+        ensures ran { R.run self.old.inner (read_marks result self.new.buf.items) self.new.inner }
+        ensures bound { IfReady result (λ r. IfOk r (λ n. n ≤ length self.new.buf.items)) }
+        ensures ahead { self.new.pos ≡ 0 }
+        ensures count { self.new.cap ≡ count_of result }
+        ensures capacity { length self.new.buf.items ≡ length self.old.buf.items }
+        ensures left { OnPending result ((fact : Lasting) → R.leaves self.new.inner fact → Holds cx.new fact) }
+        ensures kept { Keeps cx.old cx.new }
+    {
+        self.pos = 0;
+        self.cap = 0;
+        let polled = self.inner.poll_read(cx, self.buf.as_mut_slice());
+        if let Poll::Ready(Ok(n)) = &polled {
+            self.cap = *n;
+        }
+        polled
+    }
+
+    // Takes the first `amount` bytes of those that are ahead.
+    fn advance(&mut self, amount: usize)
+        requires { amount ≤ length (ahead self.old) }
+        ensures inner { self.new.inner ≡ self.old.inner }
+        ensures buf { self.new.buf ≡ self.old.buf }
+        ensures pos { self.new.pos ≡ self.old.pos + amount }
+        ensures cap { self.new.cap ≡ self.old.cap }
+    {
+        self.pos += amount;
+    }
+
+    fn show(&self) -> &[u8]
+        ensures { result.now ≡ ahead self.now }
+    {
+        &self.buf[self.pos..self.cap]
+    }
+}
+
+impl<R: AsyncRead> AsyncRead for BufReader<R> {
+    ghost use Rattle.lite_io.specs.BufReader.{Through, capacity_of, inner_of};
+
+    ghost leaves = { λ r. R.leaves (inner_of r) };
+
+    fn poll_read(&mut self, cx: &mut Context<'_>, buf: &mut [u8]) -> Poll<io::Result<usize>>
+        ensures bound { IfReady result (λ r. IfOk r (λ n. n ≤ length buf.new)) }
+        ensures ran { Through R.run self.old (read_marks result buf.new) self.new }
+        ensures left { OnPending result ((fact : Lasting) → R.leaves (inner_of self.new) fact → Holds cx.new fact) }
+        ensures kept { Keeps cx.old cx.new }
+
+        // Without room nothing is polled.
+        ensures idle { length buf.old ≡ 0 → (result ≡ Poll.Ready (Ok 0)) × (self.new ≡ self.old) }
+
+        // Without a buffer the inner reader is read.
+        ensures unbuffered { capacity_of self.old ≡ 0 → R.run (inner_of self.old) (read_marks result buf.new) (inner_of self.new) }
+    {
+        if buf.is_empty() {
+            return Poll::Ready(Ok(0));
+        }
+        if self.pos == self.cap && buf.len() >= self.buf.len() {
+            return self.inner.poll_read(cx, buf);
+        }
+        match ready!(self.fill(cx)) {
+            Ok(()) => {}
+            Err(e) => return Poll::Ready(Err(e)),
+        }
+        let n = (self.cap - self.pos).min(buf.len());
+        buf[..n].copy_from_slice(&self.buf[self.pos..self.pos + n]);
+        self.advance(n);
+        Poll::Ready(Ok(n))
+    }
+
+    fn poll_read_vectored(
+        &mut self,
+        cx: &mut Context<'_>,
+        bufs: &mut [IoSliceMut<'_>],
+    ) -> Poll<io::Result<usize>>
+        ensures bound { IfReady result (λ r. IfOk r (λ n. n ≤ room_in bufs.old)) }
+        ensures ran { ReadsInto (Through R.run) self.old result bufs.old self.new }
+        ensures left { OnPending result ((fact : Lasting) → R.leaves (inner_of self.new) fact → Holds cx.new fact) }
+        ensures kept { Keeps cx.old cx.new }
+
+        // Without room nothing is polled.
+        ensures idle { room_in bufs.old ≡ 0 → (result ≡ Poll.Ready (Ok 0)) × (self.new ≡ self.old) }
+    {
+        let total = total_room(bufs);
+        if total == 0 {
+            return Poll::Ready(Ok(0));
+        }
+        if self.pos == self.cap && total >= self.buf.len() {
+            return self.inner.poll_read_vectored(cx, bufs);
+        }
+        match ready!(self.fill(cx)) {
+            Ok(()) => {}
+            Err(e) => return Poll::Ready(Err(e)),
+        }
+        let n = fill_slices(self.show(), bufs);
+        self.advance(n);
+        Poll::Ready(Ok(n))
+    }
+}
+
+impl<R: AsyncRead> AsyncBufRead for BufReader<R> {
+    ghost use Rattle.lite_io.specs.BufReader.{ahead};
+    ghost use Rattle.lite_io.specs.Laws.BufReader.{through_shows};
+
+    ghost lent = { ahead };
+
+    ghost shows = { through_shows R.run };
+
+    fn poll_fill_buf(&mut self, cx: &mut Context<'_>) -> Poll<io::Result<&[u8]>> {
+        match ready!(self.fill(cx)) {
+            Ok(()) => Poll::Ready(Ok(self.show())),
+            Err(e) => Poll::Ready(Err(e)),
+        }
+    }
+
+    fn buffer(&self) -> &[u8] {
+        &self.buf[self.pos..self.cap]
+    }
+
+    fn consume(&mut self, amount: usize) {
+        self.advance(amount);
+    }
+}
+
+impl<R: AsyncWrite> AsyncWrite for BufReader<R> {
+    ghost use Rattle.lite_io.specs.BufReader.{inner_of};
+
+    ghost write_leaves = { λ r. R.write_leaves (inner_of r) };
+
+    fn poll_write(&mut self, cx: &mut Context<'_>, buf: &[u8]) -> Poll<io::Result<usize>> {
+        self.inner.poll_write(cx, buf)
+    }
+
+    fn poll_flush(&mut self, cx: &mut Context<'_>) -> Poll<io::Result<()>> {
+        self.inner.poll_flush(cx)
+    }
+
+    fn poll_close(&mut self, cx: &mut Context<'_>) -> Poll<io::Result<()>> {
+        self.inner.poll_close(cx)
+    }
+}
+
+impl<R: AsyncSeek> AsyncSeek for BufReader<R> {
+    ghost use Rattle.lite_io.specs.BufReader.{inner_of};
+    ghost use Rattle.lite_io.specs.SeeksThrough.{SeeksThrough};
+
+    ghost seeks = { SeeksThrough R.seeks };
+
+    ghost seek_leaves = { λ r. R.seek_leaves (inner_of r) };
+
+    /// Seeks the inner reader. The position is that of the bytes that come next, so a seek from where it is counts from
+    /// there: by `offset` less the bytes that are ahead. Where that is no `i64`, it seeks back by those bytes, drops
+    /// them, and then seeks by `offset`. A success drops the bytes that are ahead; a pending and an error keep them,
+    /// but for the second of two seeks.
+    fn poll_seek(&mut self, cx: &mut Context<'_>, pos: SeekFrom) -> Poll<io::Result<u64>> {
+        let SeekFrom::Current(offset) = pos else {
+            return self.seek_once(cx, pos);
+        };
+        let ahead = (self.cap - self.pos) as i64;
+        if let Some(less) = offset.checked_sub(ahead) {
+            return self.seek_once(cx, SeekFrom::Current(less));
+        }
+        match ready!(self.seek_once(cx, SeekFrom::Current(-ahead))) {
+            Ok(_) => self.seek_once(cx, pos),
+            Err(e) => Poll::Ready(Err(e)),
+        }
+    }
+}
+
+impl<R: AsyncSeek> BufReader<R> {
+    ghost use Rattle.lite_io_base.specs.Kinds.{by_kind};
+    ghost use Rattle.lite_io.specs.BufReader.{inner_of};
+    ghost use Rattle.lite_io.specs.SeeksThrough.{SeeksOnce};
+
+    // Seeks the inner reader, and drops what is ahead if that succeeds.
+    fn seek_once(&mut self, cx: &mut Context<'_>, pos: SeekFrom) -> Poll<io::Result<u64>>
+        ensures sought { SeeksOnce R.seeks self.old pos (by_kind result) self.new }
+        ensures left { OnPending result ((fact : Lasting) → R.seek_leaves (inner_of self.new) fact → Holds cx.new fact) }
+        ensures kept { Keeps cx.old cx.new }
+    {
+        match ready!(self.inner.poll_seek(cx, pos)) {
+            Ok(n) => {
+                self.pos = 0;
+                self.cap = 0;
+                Poll::Ready(Ok(n))
+            }
+            Err(e) => Poll::Ready(Err(e)),
+        }
+    }
+}
+
+impl<R: CountedRead> CountedRead for BufReader<R> {
+    ghost use Rattle.lite_io.specs.BufReader.{ahead, inner_of};
+    ghost use Rattle.lite_io.specs.Laws.BufReader.{held_sized, through_falls, through_lowers};
+
+    ghost width = { R.width + 1 };
+
+    ghost rank = { λ r. R.rank (inner_of r) ++ length (ahead r) ∷ [] };
+
+    ghost counts = { λ r. R.counts (inner_of r) };
+
+    ghost firm = { λ r. R.firm (inner_of r) };
+
+    ghost sized = { λ x. held_sized (R.rank (inner_of x)) (length (ahead x)) R.width (R.sized (inner_of x)) };
+
+    ghost counts_on = { λ x y l c h. R.counts_on (inner_of x) (inner_of y) h.inner c h.ran };
+
+    ghost firm_on = { λ x y l c h. R.firm_on (inner_of x) (inner_of y) h.inner c h.ran };
+
+    ghost falls = { λ x y l c. through_falls R.run (λ r. R.rank r) x y l (λ m. R.falls (inner_of x) (inner_of y) m c) };
+
+    ghost lowers = { λ x y l c. through_lowers R.run (λ r. R.rank r) x y l (λ m. R.lowers (inner_of x) (inner_of y) m c) };
+}

@@ -1,0 +1,9 @@
+pub mod Boxed
+pub mod Falls
+pub mod Grows
+pub mod Kinds
+pub mod Laws
+pub mod Marks
+pub mod Runs
+pub mod Steps
+pub mod Told

@@ -1,0 +1,173 @@
+ghost use Rattle.std.specs.Prelude.{◌≡◌, ◌≤◌, ◌+◌, ◌<◌, ◌++◌, ◌∷◌, [], List, length, take, drop, map, refl, OnOk, OnErr, MatchResult};
+ghost use Rattle.lite_io_base.specs.Marks.{Mark, bytes};
+ghost use Rattle.lite_io_base.specs.Told.{Told};
+ghost use Rattle.lite_io_base.specs.Laws.Told.{told_falls, told_follows};
+ghost use Rattle.lite_mock.specs.Laws.Marks.{told_fall};
+
+use lite_base::{Context, Poll};
+use lite_io_base::{AsyncRead, CountedRead, Tale};
+use std::alloc::{AllocError, Global};
+use std::io;
+use std::io::ErrorKind;
+use std::marker::Model;
+
+/// A reader that gives chunks, pendings, errors and ends, in the order in which it was told of them, and then ends for
+/// ever. A contract sees it as the list of the marks that are left.
+///
+/// A read takes from the chunk at the front as much as it has room for, or takes one other mark. Without room it
+/// answers `Ok(0)` at a chunk or an end, and takes nothing. The original has no such type.
+#[derive(Clone, Drop)]
+pub struct Marks {
+    answers: Vec<Answer>,
+    // How many were taken.
+    next: usize,
+}
+
+#[derive(Clone, Copy)]
+enum Answer {
+    Byte { byte: u8, ends_chunk: bool },
+    Pending,
+    Fault(ErrorKind),
+    End,
+}
+
+impl Model for Marks {
+    ghost use Rattle.std.specs.Prelude.{List, ◌≤◌, length};
+    ghost use Rattle.lite_io_base.specs.Marks.{Mark};
+
+    ghost Value = { List Mark };
+
+    ghost use Rattle.lite_mock.specs.Marks.{marks_left};
+
+    ghost view = { λ m. marks_left m.answers.items m.next };
+
+    ghost invariant = { λ m. m.next ≤ length m.answers.items };
+}
+
+impl Marks {
+    /// A reader that is at its end.
+    pub fn new(alloc: Global) -> Marks
+        ensures { result ≡ [] }
+    {
+        Marks {
+            answers: Vec::new(alloc),
+            next: 0,
+        }
+    }
+
+    /// Adds a chunk after what is there already. `AllocError` says that there was no memory; nothing changes then.
+    pub fn chunk(&mut self, chunk: &[u8]) -> Result<(), AllocError>
+        ensures { MatchResult result (λ _. self.new ≡ self.old ++ bytes chunk.now) (λ _. self.new ≡ self.old) }
+    {
+        self.answers.reserve(chunk.len())?;
+        for (i, byte) in chunk.iter().enumerate() {
+            let ends_chunk = i + 1 == chunk.len();
+            let byte = *byte;
+            self.answers
+                .push_reserved(Answer::Byte { byte, ends_chunk });
+        }
+        Ok(())
+    }
+
+    /// Adds a pending, as `chunk` adds a chunk.
+    pub fn pending(&mut self) -> Result<(), AllocError>
+        ensures { MatchResult result (λ _. self.new ≡ self.old ++ Mark.pending ∷ []) (λ _. self.new ≡ self.old) }
+    {
+        self.answers.push(Answer::Pending)?;
+        Ok(())
+    }
+
+    /// Adds an error, as `chunk` adds a chunk.
+    pub fn fault(&mut self, kind: ErrorKind) -> Result<(), AllocError>
+        ensures { MatchResult result (λ _. self.new ≡ self.old ++ Mark.fault kind ∷ []) (λ _. self.new ≡ self.old) }
+    {
+        self.answers.push(Answer::Fault(kind))?;
+        Ok(())
+    }
+
+    /// Adds an end, as `chunk` adds a chunk.
+    pub fn end(&mut self) -> Result<(), AllocError>
+        ensures { MatchResult result (λ _. self.new ≡ self.old ++ Mark.end ∷ []) (λ _. self.new ≡ self.old) }
+    {
+        self.answers.push(Answer::End)?;
+        Ok(())
+    }
+}
+
+impl Tale for Marks {
+    ghost run = { Told };
+
+    ghost rests = { λ x. refl };
+
+    ghost follows = { told_follows };
+}
+
+impl AsyncRead for Marks {
+    fn poll_read(&mut self, _cx: &mut Context<'_>, buf: &mut [u8]) -> Poll<io::Result<usize>> {
+        match self.answers.get(self.next) {
+            None => Poll::Ready(Ok(0)),
+            Some(Answer::Byte { .. }) => {
+                let n = copy_chunk(&self.answers[self.next..], buf);
+                self.next += n;
+                Poll::Ready(Ok(n))
+            }
+            Some(Answer::Pending) => {
+                self.next += 1;
+                Poll::Pending
+            }
+            Some(Answer::Fault(kind)) => {
+                let error = io::Error::from(*kind);
+                self.next += 1;
+                Poll::Ready(Err(error))
+            }
+            Some(Answer::End) => {
+                if !buf.is_empty() {
+                    self.next += 1;
+                }
+                Poll::Ready(Ok(0))
+            }
+        }
+    }
+}
+
+impl CountedRead for Marks {
+    ghost width = { 1 };
+
+    ghost rank = { λ x. length x ∷ [] };
+
+    ghost sized = { λ x. refl };
+
+    ghost counts_on = { λ x y l c h. tt };
+
+    ghost firm_on = { λ x y l c h. tt };
+
+    ghost falls = { λ x y l c g h. told_fall x y l g h };
+
+    ghost lowers = { λ x y l c g h. told_falls x y l h };
+}
+
+ghost use Rattle.lite_mock.specs.Marks.{mark_of, BeginsChunk};
+
+// Copies what `buf` has room for of the chunk that stands first, and answers how much.
+fn copy_chunk(answers: &[Answer], buf: &mut [u8]) -> usize
+    requires { BeginsChunk answers.now }
+    ensures some { result ≡ 0 → length buf.old ≡ 0 }
+    ensures within { result ≤ length buf.old }
+    ensures copied { map mark_of (take result answers.now) ≡ bytes (take result buf.new) }
+{
+    let mut n = 0;
+    for answer in answers {
+        if n == buf.len() {
+            break;
+        }
+        let Answer::Byte { byte, ends_chunk } = *answer else {
+            break;
+        };
+        buf[n] = byte;
+        n += 1;
+        if ends_chunk {
+            break;
+        }
+    }
+    n
+}

@@ -1,0 +1,122 @@
+ghost use Rattle.std.specs.Prelude.{◌≡◌, ◌≤◌, ◌⊎◌, ◌++◌, ◌∷◌, [], Err, refl, MatchResult};
+ghost use Rattle.lite_io_base.specs.Kinds.{by_kind};
+
+use lite_base::{Context, Poll};
+use lite_io_base::{AsyncWrite, Tale};
+use std::alloc::{AllocError, Global};
+use std::io;
+use std::io::ErrorKind;
+use std::marker::Model;
+
+/// What one write to a [`Takes`] is to do.
+#[derive(Clone, Copy)]
+pub enum Order {
+    /// Take at most so many bytes.
+    AtMost(usize),
+    /// Be pending.
+    Wait,
+    /// Answer an error of this kind.
+    Fail(ErrorKind),
+}
+
+/// A writer whose writes follow orders, one each, and which takes all that is offered once no order is left. Its flush
+/// and its close answer `Ok`. A contract sees the orders that are left and the bytes that were taken.
+///
+/// A write that finds no memory for the bytes answers an error of the kind `OutOfMemory`; it uses up no order and
+/// takes nothing. The original has no such type.
+#[derive(Clone, Drop)]
+pub struct Takes {
+    orders: Vec<Order>,
+    // How many were followed.
+    next: usize,
+    taken: Vec<u8>,
+}
+
+impl Model for Takes {
+    ghost use Rattle.std.specs.Prelude.{drop, ◌≤◌, length};
+    ghost use Rattle.lite_mock.specs.Takes.{Taking};
+
+    ghost Value = { Taking };
+
+    ghost view = { λ t. record { orders = drop t.next t.orders.items; taken = t.taken.items } };
+
+    ghost invariant = { λ t. t.next ≤ length t.orders.items };
+}
+
+impl Takes {
+    ghost use Rattle.lite_mock.specs.Takes.{Taking};
+
+    /// A writer that takes all.
+    pub fn new(alloc: Global) -> Takes
+        ensures orders { result.orders ≡ [] }
+        ensures taken { result.taken ≡ [] }
+    {
+        Takes {
+            orders: Vec::new(alloc),
+            next: 0,
+            taken: Vec::new(alloc),
+        }
+    }
+
+    /// Adds an order after those that are there already. `AllocError` says that there was no memory; nothing changes
+    /// then.
+    pub fn order(&mut self, order: Order) -> Result<(), AllocError>
+        ensures { MatchResult result (λ _. self.new ≡ record self.old { orders = self.old.orders ++ order ∷ [] }) (λ _. self.new ≡ self.old) }
+    {
+        self.orders.push(order)?;
+        Ok(())
+    }
+
+    /// The bytes that were taken.
+    pub fn taken(&self) -> &[u8]
+        ensures { result.now ≡ self.now.taken }
+    {
+        self.taken.as_slice()
+    }
+}
+
+impl Tale for Takes {
+    ghost use Rattle.lite_mock.specs.Takes.{Obeys, Takings};
+    ghost use Rattle.lite_io_base.specs.Laws.Steps.{steps_follow};
+
+    ghost run = { Takings };
+
+    ghost rests = { λ x. refl };
+
+    ghost follows = { steps_follow Obeys };
+}
+
+impl AsyncWrite for Takes {
+    ghost use Rattle.lite_mock.specs.Takes.{answer_of};
+
+    fn poll_write(&mut self, _cx: &mut Context<'_>, buf: &[u8]) -> Poll<io::Result<usize>> {
+        let order = self.orders.get(self.next).copied();
+        let most = match order {
+            None => buf.len(),
+            Some(Order::AtMost(n)) => n.min(buf.len()),
+            Some(Order::Wait) => {
+                self.next += 1;
+                return Poll::Pending;
+            }
+            Some(Order::Fail(kind)) => {
+                self.next += 1;
+                return Poll::Ready(Err(io::Error::from(kind)));
+            }
+        };
+        if let Err(e) = self.taken.extend_from_slice(&buf[..most]) {
+            return Poll::Ready(Err(io::Error::from(e)));
+        }
+        if order.is_some() {
+            self.next += 1;
+        }
+        Poll::Ready(Ok(most))
+    }
+
+    fn poll_flush(&mut self, _cx: &mut Context<'_>) -> Poll<io::Result<()>> {
+        Poll::Ready(Ok(()))
+    }
+
+    fn poll_close(&mut self, _cx: &mut Context<'_>) -> Poll<io::Result<()>> {
+        Poll::Ready(Ok(()))
+    }
+}

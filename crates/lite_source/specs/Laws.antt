@@ -1,0 +1,10 @@
+pub mod Always
+pub mod Empty
+pub mod Handed
+pub mod Iter
+pub mod Once
+pub mod OnceFuture
+pub mod Pending
+pub mod Repeat
+pub mod Script
+pub mod Unfolding

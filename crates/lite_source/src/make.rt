@@ -1,0 +1,116 @@
+//! What makes the sources.
+ghost use Rattle.std.specs.Prelude.{◌≡◌, Some};
+ghost use Rattle.lite_source.specs.declared.unfolding.Unfolding.TheVariants.{Seed};
+
+use crate::empty::Empty;
+use crate::iter::Iter;
+use crate::once::Once;
+use crate::once_future::OnceFuture;
+use crate::pending::Pending;
+use crate::poll_fn::PollFn;
+use crate::repeat::Repeat;
+use crate::repeat_with::RepeatWith;
+use crate::script::Script;
+use crate::try_unfold::TryUnfold;
+use crate::unfold::Unfold;
+use crate::unfolding::Unfolding;
+use lite_base::{Context, Future, Poll};
+use std::marker::PhantomData;
+
+/// A stream that ends for ever. Ported from `src/stream.rs`, `empty`.
+pub fn empty<T>() -> Empty<T> {
+    Empty { item: PhantomData }
+}
+
+/// A stream that gives what the iterator of `iter` answers. Ported from `src/stream.rs`, `iter`.
+pub fn iter<I: IntoIterator>(iter: I) -> Iter<I::IntoIter>
+    ensures { I.into_iter_gives iter result.iter }
+{
+    Iter {
+        iter: iter.into_iter(),
+    }
+}
+
+/// A stream that gives `t`, and then ends for ever. Ported from `src/stream.rs`, `once`.
+pub fn once<T>(t: T) -> Once<T>
+    ensures { result ≡ record { value = Some t } }
+{
+    Once { value: Some(t) }
+}
+
+/// A stream that gives the value of `future`, and then ends for ever. Ported from `src/stream.rs`, `once_future`.
+pub fn once_future<F: Future>(future: F) -> OnceFuture<F>
+    ensures { result ≡ record { future = Some future } }
+{
+    OnceFuture {
+        future: Some(future),
+    }
+}
+
+/// A stream that is pending for ever. Ported from `src/stream.rs`, `pending`.
+pub fn pending<T>() -> Pending<T> {
+    Pending { item: PhantomData }
+}
+
+/// A stream whose polls call `poll_fn` and hand on what it answers. Ported from `src/stream.rs`, `poll_fn`.
+pub fn poll_fn<T, F>(f: F) -> PollFn<F>
+where
+    F: FnMut(&mut Context<'_>) -> Poll<Option<T>>,
+    ensures { result ≡ record { f = f } }
+{
+    PollFn { f }
+}
+
+/// A stream that gives clones of `item`, one a poll, for ever. Ported from `src/stream.rs`, `repeat`.
+pub fn repeat<T: Clone>(item: T) -> Repeat<T>
+    ensures { result ≡ record { item = item } }
+{
+    Repeat { item }
+}
+
+/// A stream that gives what `repeater` answers, one call a poll, for ever. Ported from `src/stream.rs`,
+/// `repeat_with`.
+pub fn repeat_with<T, F>(repeater: F) -> RepeatWith<F>
+where
+    F: FnMut() -> T,
+    ensures { result ≡ record { f = repeater } }
+{
+    RepeatWith { f: repeater }
+}
+
+/// A stream that gives these answers, one a poll and in order, and then ends for ever. A poll takes no memory.
+///
+/// The original has no such call.
+pub fn script<T>(answers: Vec<Poll<Option<T>>>) -> Script<T>
+    ensures { result ≡ answers.items }
+{
+    Script::new(answers)
+}
+
+/// A stream that gives the items of the futures that `f` makes, the first of `init` and each later one of what the
+/// value before it left, up to an error, which is its last item. Ported from `src/stream.rs`, `try_unfold`.
+pub fn try_unfold<T, E, F, Fut, Item>(init: T, f: F) -> TryUnfold<T, F, Fut>
+where
+    F: FnMut(T) -> Fut,
+    Fut: Future<Output = Result<Option<(Item, T)>, E>>,
+    ensures { result ≡ record { f = f; state = Seed init } }
+{
+    TryUnfold {
+        f,
+        state: Unfolding::Seed(init),
+    }
+}
+
+/// A stream that gives the items of the futures that `f` makes, the first of `seed` and each later one of what the
+/// value before it left. Ported from `src/stream.rs`, `unfold`.
+pub fn unfold<T, F, Fut, Item>(seed: T, f: F) -> Unfold<T, F, Fut>
+where
+    F: FnMut(T) -> Fut,
+    Fut: Future<Output = Option<(Item, T)>>,
+    ensures { result ≡ record { f = f; state = Seed seed } }
+{
+    Unfold {
+        f,
+        state: Unfolding::Seed(seed),
+    }
+}

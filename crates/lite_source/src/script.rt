@@ -1,0 +1,102 @@
+ghost use Rattle.std.specs.Prelude.{◌≡◌, ℕ, List, [], ◌∷◌, IfOk, None, Some, length, refl};
+ghost use Rattle.std.specs.List.{AllZip};
+ghost use Rattle.lite_base.specs.Answers.{items};
+ghost use Rattle.lite_base.specs.Laws.Hint.{same_hint};
+ghost use Rattle.lite_source.specs.Script.{Gives, IsCloneBy};
+ghost use Rattle.lite_source.specs.Laws.Script.{gives_bounded, gives_follow, gives_lowers};
+
+use lite_base::{Context, Counted, Poll, Stream};
+use std::alloc::AllocError;
+use std::marker::Model;
+
+/// Gives its answers in order, and then ends for ever. A contract sees it as the list of answers that are left.
+///
+/// Made by [`script`](crate::make::script). The original has no such type.
+#[derive(Drop)]
+pub struct Script<T> {
+    // The next answer stands last, so that a poll takes it without moving the others.
+    answers: Vec<Poll<Option<T>>>,
+}
+
+impl<T> Model for Script<T> {
+    ghost use Rattle.std.specs.Prelude.{List, reverse};
+    ghost use Rattle.lite_base.specs.Answers.{Answer};
+
+    ghost Value = { List (Answer T) };
+
+    ghost view = { λ s. reverse s.answers.items };
+}
+
+impl<T> Script<T> {
+    pub(crate) fn new(mut answers: Vec<Poll<Option<T>>>) -> Script<T>
+        ensures { result ≡ answers.items }
+    {
+        answers.reverse();
+        Script { answers }
+    }
+}
+
+fn clone_answer<T: Clone>(answer: &Poll<Option<T>>) -> Result<Poll<Option<T>>, AllocError>
+    ensures { IfOk result (IsCloneBy T.is_clone answer.now) }
+{
+    match answer {
+        Poll::Pending => Ok(Poll::Pending),
+        Poll::Ready(None) => Ok(Poll::Ready(None)),
+        Poll::Ready(Some(item)) => Ok(Poll::Ready(Some(item.clone()?))),
+    }
+}
+
+impl<T: Clone> Clone for Script<T> {
+    ghost is_clone = { AllZip (IsCloneBy T.is_clone) };
+
+    fn clone(&self) -> Result<Script<T>, AllocError> {
+        let mut answers = Vec::with_capacity(*self.answers.allocator(), self.answers.len())?;
+        for answer in &self.answers {
+            answers.push(clone_answer(answer)?)?;
+        }
+        Ok(Script { answers })
+    }
+}
+
+impl<T> Stream for Script<T> {
+    type Item = T;
+
+    ghost run = { Gives };
+
+    ghost hints = { λ x hint. hint ≡ (0, None) };
+
+    ghost rests = { λ x. refl };
+
+    ghost stays = { λ x y h. h };
+
+    ghost follows = { gives_follow };
+
+    ghost bounded = { λ x y hint l e h. same_hint hint (0, None) l e tt };
+
+    fn poll_next(&mut self, _cx: &mut Context<'_>) -> Poll<Option<T>> {
+        match self.answers.pop() {
+            Some(answer) => answer,
+            None => Poll::Ready(None),
+        }
+    }
+
+    fn size_hint(&self) -> (usize, Option<usize>) {
+        (0, None)
+    }
+}
+
+impl<T> Counted for Script<T> {
+    ghost width = { 1 };
+
+    ghost rank = { λ x. length x ∷ [] };
+
+    ghost sized = { λ x. refl };
+
+    ghost counts_on = { λ x y l c h. tt };
+
+    ghost firm_on = { λ x y l c h. tt };
+
+    ghost falls = { λ x y a more c h. gives_lowers x y (items (a ∷ more)) h };
+
+    ghost lowers = { λ x y l c h. gives_lowers x y l h };
+}

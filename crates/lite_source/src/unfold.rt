@@ -1,0 +1,66 @@
+ghost use Rattle.std.specs.Prelude.{◌≡◌, None};
+ghost use Rattle.std.specs.Fn.{AlwaysReturns};
+ghost use Rattle.lite_base.specs.Laws.Hint.{same_hint};
+ghost use Rattle.lite_source.specs.Unfold.{UnfoldsBy, item_of, seed_of};
+ghost use Rattle.lite_source.specs.Unfolding.{IfAsked, UnfoldLeaves};
+ghost use Rattle.lite_source.specs.Laws.Unfolding.{unfolds_follow, unfolds_rest, unfolds_stay};
+
+use crate::unfolding::Unfolding;
+use lite_base::{Context, Future, Poll, Stream, ready};
+
+/// Gives the items that the futures of a function make, each of the seed that the one before it left.
+///
+/// Made by [`unfold`](crate::make::unfold). A future is polled in the poll that made it, and is held while it is pending.
+/// A `None` of a future is an end, and then it ends for ever. Ported from `src/stream.rs`, `Unfold`, which panics where
+/// it is polled after its end.
+#[derive(Drop)]
+pub struct Unfold<T, F, Fut> {
+    pub(crate) f: F,
+    pub(crate) state: Unfolding<T, Fut>,
+}
+
+impl<T, F, Fut, Item> Stream for Unfold<T, F, Fut>
+where
+    T: Drop,
+    F: FnMut(T) -> Fut,
+    Fut: Future<Output = Option<(Item, T)>> + Drop,
+{
+    type Item = Item;
+
+    ghost can_poll = { λ x. F.IsAlwaysCallable x.f × AlwaysReturns F.FnMut (λ s v. Fut.can_poll v) x.f × IfAsked x.state Fut.can_poll };
+
+    ghost run = { UnfoldsBy F.FnMut Fut.run };
+
+    ghost leaves = { λ x. UnfoldLeaves Fut.leaves x.state };
+
+    ghost hints = { λ x hint. hint ≡ (0, None) };
+
+    ghost rests = { λ x. unfolds_rest F.FnMut Fut.run seed_of item_of (x.f, x.state) };
+
+    ghost stays = { λ x y h. let e = unfolds_stay F.FnMut Fut.run seed_of item_of (x.f, x.state) (y.f, y.state) h in λ i. record { f = (e i).0; state = (e i).1 } };
+
+    ghost follows = { λ x y z. unfolds_follow F.FnMut Fut.run seed_of item_of (x.f, x.state) (y.f, y.state) (z.f, z.state) };
+
+    ghost bounded = { λ x y hint l e h. same_hint hint (0, None) l e tt };
+
+    fn poll_next(&mut self, cx: &mut Context<'_>) -> Poll<Option<Item>> {
+        self.state.start(&mut self.f);
+        let Unfolding::Asked(future) = &mut self.state else {
+            return Poll::Ready(None);
+        };
+        match ready!(future.poll(cx)) {
+            Some((item, seed)) => {
+                self.state = Unfolding::Seed(seed);
+                Poll::Ready(Some(item))
+            }
+            None => {
+                self.state = Unfolding::Over;
+                Poll::Ready(None)
+            }
+        }
+    }
+
+    fn size_hint(&self) -> (usize, Option<usize>) {
+        (0, None)
+    }
+}

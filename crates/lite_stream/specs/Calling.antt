@@ -1,0 +1,17 @@
+-- What is asked about each item: `call p x o q` says that, asked about the item x, it goes from p to q and answers o.
+use Rattle.std.specs.Prelude.{◌≡◌, Option, Some, None, Bool, true, false}
+use Rattle.std.specs.Fn.{Mut, Called}
+
+-- a call of a function with one argument
+abbrev pub Calls : {F A B : Type 0} → Mut F (A × Unit {0}) B → F → A → B → F → Type 0
+Calls g p x y q = Called g p (x, tt) y q
+
+-- a call that always answers an item
+abbrev pub Always : {F A B : Type 0} → (F → A → B → F → Type 0) → F → A → Option B → F → Type 0
+Always call p x None q = ⊥
+Always call p x (Some y) q = call p x y q
+
+-- a call of a test, which answers an item that it accepts as it is
+abbrev pub Accepts : {F A : Type 0} → (F → A → Bool → F → Type 0) → F → A → Option A → F → Type 0
+Accepts test p x None q = test p x false q
+Accepts test p x (Some y) q = (y ≡ x) × test p x true q

@@ -1,0 +1,14 @@
+-- `copied`: each reference is replaced by what it refers to.
+use Rattle.std.specs.Prelude.{◌≡◌, List}
+use denote.Ref.{Bor}
+use Rattle.lite_base.specs.Answers.{Answer}
+use Rattle.lite_stream.specs.Pointwise.{Replaces}
+use Rattle.lite_stream.specs.Through.{Through}
+use Rattle.lite_stream.specs.declared.copied.Copied.{Copied}
+
+-- nothing is asked, so nothing is gone through
+abbrev pub Copies : {A : Type 0} → Unit {0} → Bor A → A → Unit {0} → Type 0
+Copies p x y q = y ≡ x.now
+
+abbrev pub CopiesAll : {S A : Type 0} → (S → List (Answer (Bor A)) → S → Type 0) → Copied S → List (Answer A) → Copied S → Type 0
+CopiesAll run x l y = Through run (Replaces Copies) x.stream tt l y.stream tt

@@ -1,0 +1,63 @@
+-- `flatten`: each item is a stream, and is replaced by the answers of that stream before its first end.
+use Rattle.std.specs.Prelude.{◌≡◌, ◌⊎◌, ℕ, List, [], ◌∷◌, ◌++◌, Option, Some, None, IfSome, replicate}
+use Rattle.futures.specs.declared.task.Poll.TheVariants.{Ready, Pending}
+use Rattle.lite_base.specs.Answers.{Answer, end, item, until_end}
+use Rattle.lite_stream.specs.Through.{Through}
+
+-- there is no end among the answers
+abbrev pub Endless : {A : Type 0} → List (Answer A) → Type 0
+Endless l = until_end l ≡ l
+
+module _ {B A : Type 0} (run : B → List (Answer A) → B → Type 0) where
+  -- b is held to the last, and all answers are its own
+  abbrev pub HeldOn : B → List (Answer B) → List (Answer A) → Option B → Type 0
+  HeldOn b ins out last = (ins ≡ []) × Endless out × (c : B) × run b out c × (last ≡ Some c)
+
+  -- the answers of b before its first end, which is left out, and then at least one that follows
+  abbrev pub Replaced : B → (List (Answer A) → Option B → Type 0) → List (Answer A) → Option B → Type 0
+  Replaced b follows out last =
+      (own : List (Answer A)) × (a : Answer A) × (rest : List (Answer A)) × (out ≡ own ++ a ∷ rest) × Endless own × (c : B) × run b (own ++ end ∷ []) c × follows (a ∷ rest) last
+
+  -- with the outer list `ins` and no inner stream held at first; no inner stream is taken before there is an answer after it
+  abbrev pub Flat : List (Answer B) → List (Answer A) → Option B → Type 0
+  Flat [] [] last = last ≡ None
+  Flat [] (a ∷ out) last = ⊥
+  Flat (i ∷ ins) [] last = ⊥
+  Flat (Pending ∷ ins) (a ∷ out) last = (a ≡ Pending) × Flat ins out last
+  Flat (Ready None ∷ ins) (a ∷ out) last = (a ≡ end) × Flat ins out last
+  Flat (Ready (Some b) ∷ ins) (a ∷ out) last = HeldOn b ins (a ∷ out) last ⊎ Replaced b (Flat ins) (a ∷ out) last
+
+  -- an inner stream that is held stands before the outer list
+  abbrev pub Flattening : Option B → List (Answer B) → List (Answer A) → Option B → Type 0
+  Flattening None ins out last = Flat ins out last
+  Flattening (Some b) ins out last = HeldOn b ins out last ⊎ Replaced b (Flat ins) out last
+
+  module _ {S : Type 0} (outer : S → List (Answer B) → S → Type 0) where
+    abbrev pub Flattens : S → Option B → List (Answer A) → S → Option B → Type 0
+    Flattens s held out t last = Through outer Flattening s held out t last
+
+    -- one turn of a poll: the inner stream is polled, or else the outer one; an inner stream that ends is let go
+    abbrev pub FlatTurn : S → Option B → Option (Answer A) → S → Option B → Type 0
+    FlatTurn s None None t last = (b : B) × outer s (item b ∷ []) t × (last ≡ Some b)
+    FlatTurn s None (Some Pending) t last = outer s (Pending ∷ []) t × (last ≡ None)
+    FlatTurn s None (Some (Ready None)) t last = outer s (end ∷ []) t × (last ≡ None)
+    FlatTurn s None (Some (Ready (Some x))) t last = ⊥
+    FlatTurn s (Some b) None t last = (t ≡ s) × (last ≡ None) × (c : B) × run b (end ∷ []) c
+    FlatTurn s (Some b) (Some a) t last = (t ≡ s) × Endless (a ∷ []) × (c : B) × run b (a ∷ []) c × (last ≡ Some c)
+
+    -- a turn of an adapter, which has an outer stream and may hold an inner one; after it another turn may be made
+    abbrev pub FlatTurns : {T : Type 0} → (T → Type 0) → (T → S) → (T → Option B) → T → Option (Answer A) → T → Type 0
+    FlatTurns can_turn source held x r y = can_turn y × FlatTurn (source x) (held x) r (source y) (held y)
+
+-- the inner stream that is held has the fact, and so does each one that may come
+abbrev pub EachInner : {S B : Type 0} → (S → List (Answer B) → S → Type 0) → (B → Type 0) → S → Option B → Type 0
+EachInner {S} {B} outer Fact s held = IfSome held Fact × ((t : S) (before after : List (Answer B)) (b : B) → outer s (before ++ item b ∷ after) t → Fact b)
+
+-- a poll may be made: the outer stream may be polled and its rank counts, and each inner stream may be polled
+abbrev pub CanFlatten : {S B : Type 0} → (S → List (Answer B) → S → Type 0) → (S → Type 0) → (S → Type 0) → (B → Type 0) → S → Option B → Type 0
+CanFlatten outer can_poll counts can_poll' s held = can_poll s × counts s × EachInner outer can_poll' s held
+
+-- the rank of the inner stream; one that is gone counts 0
+abbrev pub inner_rank : {B : Type 0} → ℕ → (B → List ℕ) → Option B → List ℕ
+inner_rank width rank None = replicate width 0
+inner_rank width rank (Some b) = rank b

@@ -1,0 +1,183 @@
+//! What makes the adapters.
+ghost use Rattle.std.specs.Prelude.{◌≡◌, ◌<◌, None, Some, false};
+ghost use Rattle.lite_stream.specs.declared.chain.Part.TheVariants.{First};
+
+use crate::chain::{Chain, Part};
+use crate::cloned::Cloned;
+use crate::copied::Copied;
+use crate::enumerate::Enumerate;
+use crate::filter::Filter;
+use crate::filter_map::FilterMap;
+use crate::flat_map::FlatMap;
+use crate::flatten::Flatten;
+use crate::fuse::Fuse;
+use crate::inspect::Inspect;
+use crate::map::Map;
+use crate::map_while::MapWhile;
+use crate::scan::Scan;
+use crate::skip::Skip;
+use crate::skip_while::SkipWhile;
+use crate::step_by::StepBy;
+use crate::take::Take;
+use crate::take_while::TakeWhile;
+use crate::then::Then;
+use lite_base::Stream;
+
+/// The stream of what `f` answers to each item of `stream`.
+pub fn map<S, F>(stream: S, f: F) -> Map<S, F>
+    ensures { result ≡ record { stream = stream; f = f } }
+{
+    Map { stream, f }
+}
+
+/// The stream of the items of `stream` that `predicate` accepts.
+pub fn filter<S, P>(stream: S, predicate: P) -> Filter<S, P>
+    ensures { result ≡ record { stream = stream; predicate = predicate } }
+{
+    Filter { stream, predicate }
+}
+
+/// The stream of the items of `stream`, each paired with its number, from 0 on.
+pub fn enumerate<S>(stream: S) -> Enumerate<S>
+    ensures { result ≡ record { stream = stream; i = 0 } }
+{
+    Enumerate { stream, i: 0 }
+}
+
+/// The stream of the items of `stream`, each of which is shown to `f`.
+pub fn inspect<S, F>(stream: S, f: F) -> Inspect<S, F>
+    ensures { result ≡ record { stream = stream; f = f } }
+{
+    Inspect { stream, f }
+}
+
+/// The stream of the items of `first`, and after its end those of `second`.
+pub fn chain<S, U>(first: S, second: U) -> Chain<S, U>
+    ensures { result ≡ record { first = first; second = second; part = First } }
+{
+    Chain {
+        first,
+        second,
+        part: Part::First,
+    }
+}
+
+/// The stream of clones of what the items of `stream` refer to. A clone has to equal its original.
+pub fn cloned<S: Stream>(stream: S) -> Cloned<S>
+    ensures { result ≡ record { stream = stream; held = None } }
+{
+    Cloned { stream, held: None }
+}
+
+/// The stream of copies of what the items of `stream` refer to.
+pub fn copied<S>(stream: S) -> Copied<S>
+    ensures { result ≡ record { stream = stream } }
+{
+    Copied { stream }
+}
+
+/// The stream of the first `n` items of `stream`.
+pub fn take<S>(stream: S, n: usize) -> Take<S>
+    ensures { result ≡ record { stream = stream; n = n } }
+{
+    Take { stream, n }
+}
+
+/// The stream of the items of `stream` until its first end.
+pub fn fuse<S>(stream: S) -> Fuse<S>
+    ensures { result ≡ record { stream = stream; done = false } }
+{
+    Fuse {
+        stream,
+        done: false,
+    }
+}
+
+/// The stream of the items of `stream`, with an end in the place of each one that `predicate` rejects.
+pub fn take_while<S, P>(stream: S, predicate: P) -> TakeWhile<S, P>
+    ensures { result ≡ record { stream = stream; predicate = predicate } }
+{
+    TakeWhile { stream, predicate }
+}
+
+/// The stream of what `f` answers to each item of `stream`, with an end in the place of each `None`.
+pub fn map_while<S, F>(stream: S, f: F) -> MapWhile<S, F>
+    ensures { result ≡ record { stream = stream; f = f } }
+{
+    MapWhile { stream, f }
+}
+
+/// The stream of what `f` answers to a state, which is `initial_state` at first, and each item of `stream`, with an
+/// end in the place of each `None`.
+pub fn scan<S, St, F>(stream: S, initial_state: St, f: F) -> Scan<S, St, F>
+    ensures { result ≡ record { stream = stream; state = initial_state; f = f } }
+{
+    Scan {
+        stream,
+        state: initial_state,
+        f,
+    }
+}
+
+/// The stream of what `f` answers to each item of `stream`, without each `None`.
+pub fn filter_map<S, F>(stream: S, f: F) -> FilterMap<S, F>
+    ensures { result ≡ record { stream = stream; f = f } }
+{
+    FilterMap { stream, f }
+}
+
+/// The stream of the items of `stream` without the first `n`.
+pub fn skip<S>(stream: S, n: usize) -> Skip<S>
+    ensures { result ≡ record { stream = stream; n = n } }
+{
+    Skip { stream, n }
+}
+
+/// The stream of the items of `stream` from the first one that `predicate` rejects.
+pub fn skip_while<S, P>(stream: S, predicate: P) -> SkipWhile<S, P>
+    ensures { result ≡ record { stream = stream; predicate = Some predicate } }
+{
+    SkipWhile {
+        stream,
+        predicate: Some(predicate),
+    }
+}
+
+/// The stream of the items of `stream` whose numbers, counted from 0, are multiples of `step`, which is above 0.
+pub fn step_by<S>(stream: S, step: usize) -> StepBy<S>
+    requires { 0 < step }
+    ensures { result ≡ record { stream = stream; step = step; i = 0 } }
+{
+    StepBy { stream, step, i: 0 }
+}
+
+/// The stream of the values of the futures that `f` makes of the items of `stream`.
+pub fn then<S, F, Fut>(stream: S, f: F) -> Then<S, F, Fut>
+    ensures { result ≡ record { stream = stream; future = None; f = f } }
+{
+    Then {
+        stream,
+        future: None,
+        f,
+    }
+}
+
+/// The stream of the items of the streams that `stream` gives, one after the other.
+pub fn flatten<S: Stream>(stream: S) -> Flatten<S>
+    ensures { result ≡ record { stream = stream; inner_stream = None } }
+{
+    Flatten {
+        stream,
+        inner_stream: None,
+    }
+}
+
+/// The stream of the items of the streams that `f` makes of the items of `stream`, one after the other.
+pub fn flat_map<S, U, F>(stream: S, f: F) -> FlatMap<S, U, F>
+    ensures { result ≡ record { stream = record { stream = stream; f = f }; inner_stream = None } }
+{
+    FlatMap {
+        stream: map(stream, f),
+        inner_stream: None,
+    }
+}

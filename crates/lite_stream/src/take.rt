@@ -1,0 +1,76 @@
+ghost use Rattle.std.specs.Prelude.{◌≡◌, [], ◌∷◌, None, refl};
+ghost use Rattle.lite_base.specs.Answers.{items};
+ghost use Rattle.lite_base.specs.Laws.Hint.{same_hint};
+ghost use Rattle.lite_stream.specs.Take.{Takes, is_none_left, left_after};
+ghost use Rattle.lite_stream.specs.Laws.Cutting.{cuts_turning};
+ghost use Rattle.lite_stream.specs.Laws.Take.{takes_lowers};
+ghost use Rattle.lite_stream.specs.Laws.Through.{through_follows, through_rests, through_stays};
+
+use lite_base::{Context, Counted, Poll, Stream, ready};
+
+/// The first items of a stream, and then an end for ever.
+///
+/// Made by [`take`](crate::make::take). With no item left to take the stream is not polled, and an end of the stream
+/// leaves none. It has a rank over any stream: the number of items that are left to take. Ported from
+/// `src/stream.rs`, `Take`.
+#[derive(Clone, Drop)]
+pub struct Take<S> {
+    pub(crate) stream: S,
+    pub(crate) n: usize,
+}
+
+impl<S: Stream> Stream for Take<S> {
+    type Item = S::Item;
+
+    ghost can_poll = { λ m. S.can_poll m.stream };
+
+    ghost run = { Takes S.run };
+
+    ghost leaves = { λ m. S.leaves m.stream };
+
+    ghost hints = { λ m hint. hint ≡ (0, None) };
+
+    ghost rests = { λ x. through_rests S.run (cuts_turning is_none_left left_after) S.rests x.stream x.n };
+
+    ghost stays = { λ x y h. let e = through_stays S.run (cuts_turning is_none_left left_after) S.stays x.stream y.stream x.n y.n h in λ i. record { stream = e.0 i; n = e.1 i } };
+
+    ghost follows = { λ x y z. through_follows S.run (cuts_turning is_none_left left_after) S.follows x.stream y.stream z.stream x.n y.n z.n };
+
+    ghost bounded = { λ x y hint l e h. same_hint hint (0, None) l e tt };
+
+    fn poll_next(&mut self, cx: &mut Context<'_>) -> Poll<Option<S::Item>> {
+        if self.n == 0 {
+            return Poll::Ready(None);
+        }
+        match ready!(self.stream.poll_next(cx)) {
+            Some(item) => {
+                self.n -= 1;
+                Poll::Ready(Some(item))
+            }
+            None => {
+                self.n = 0;
+                Poll::Ready(None)
+            }
+        }
+    }
+
+    fn size_hint(&self) -> (usize, Option<usize>) {
+        (0, None)
+    }
+}
+
+impl<S: Stream> Counted for Take<S> {
+    ghost width = { 1 };
+
+    ghost rank = { λ m. m.n ∷ [] };
+
+    ghost sized = { λ x. refl };
+
+    ghost counts_on = { λ x y l c h. tt };
+
+    ghost firm_on = { λ x y l c h. tt };
+
+    ghost falls = { λ x y a more c h. takes_lowers x.n y.n h.ins (items (a ∷ more)) h.turned };
+
+    ghost lowers = { λ x y l c h. takes_lowers x.n y.n h.ins l h.turned };
+}

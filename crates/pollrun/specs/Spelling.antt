@@ -1,0 +1,15 @@
+-- How answers are written, in the words of the program and in what it prints.
+use Rattle.std.specs.Prelude.{ℕ, List, map, codes, Some, None}
+use Rattle.std.specs.List.{join_with_byte}
+use Rattle.futures.specs.declared.task.Poll.TheVariants.{Ready, Pending}
+use Rattle.lite_base.specs.Answers.{Answer}
+
+-- an answer: P, E, or the text of its number
+abbrev pub spelled : {A : Type 0} → (A → List ℕ) → Answer A → List ℕ
+spelled text Pending = codes "P"
+spelled text (Ready None) = codes "E"
+spelled text (Ready (Some x)) = text x
+
+-- a list of answers: with a comma between each two
+abbrev pub spelled_list : {A : Type 0} → (A → List ℕ) → List (Answer A) → List ℕ
+spelled_list text l = join_with_byte 44 (map (spelled text) l)
