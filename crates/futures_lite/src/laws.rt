@@ -1,3 +1,4 @@
-//! Runs that are recorded.
+//! Runs that are recorded, and laws that a call states.
 
 pub use lite_laws::run;
+pub use lite_seek::answers_as_bare;

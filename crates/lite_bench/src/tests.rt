@@ -5,7 +5,7 @@ mod adapt;
 mod bell;
 mod counting;
 mod future;
-mod io;
+mod join;
 mod refusing;
 mod source;
 mod stream;

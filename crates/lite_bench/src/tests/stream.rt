@@ -1,4 +1,6 @@
 use super::{answers, item, ranked};
+use crate::nest::{evens, poll_nest};
+use futures::task::{Doorbell, Solo};
 use futures_lite::{Poll, Stream, StreamExt, stream};
 use std::test::Fail;
 
@@ -84,5 +86,37 @@ fn a_nest_three_deep_is_a_ranked_stream(rt: HostRuntime) -> Result<(), Fail> {
     let got = answers(&rt, &mut nest, 3)?;
     let expected = [item(3), Poll::Pending, item(4)];
     assert_eq!(rt; got.as_slice(), expected.as_slice());
+    Ok(())
+}
+
+#[test]
+fn a_nest_answers_through_the_traits_alone(rt: HostRuntime) -> Result<(), Fail> {
+    let list = vec![in rt.alloc(); item(1u8), Poll::Pending, item(2), item(1)]?;
+    let mut nest = stream::script(list)
+        .map(|x: u8| x as u16 * 10)
+        .filter(|x: &u16| *x > 10);
+    let solo = Solo::new(&rt, Doorbell::spinning())?;
+    let mut cx = solo.begin();
+    let answers = [
+        poll_nest(&mut nest, &mut cx),
+        poll_nest(&mut nest, &mut cx),
+        poll_nest(&mut nest, &mut cx),
+    ];
+    cx.cancel();
+    assert_eq!(rt; answers, [Poll::Pending, item(20), Poll::Ready(None)]);
+    Ok(())
+}
+
+#[test]
+fn a_nest_of_bytes_mixed_with_their_places_gives_even_items(rt: HostRuntime) -> Result<(), Fail> {
+    let list = vec![in rt.alloc(); item(3u8), Poll::Pending, item(2), item(4)]?;
+    let solo = Solo::new(&rt, Doorbell::spinning())?;
+    let mut out = vec![in rt.alloc(); item(9u64)]?;
+    let mut cx = solo.begin();
+    let ran = evens(stream::script(list), &mut cx, 4, &mut out);
+    cx.cancel();
+    ran?;
+    let expected = [item(9), item(2), Poll::Pending, item(0), Poll::Ready(None)];
+    assert_eq!(rt; out.as_slice(), expected.as_slice());
     Ok(())
 }

@@ -1,0 +1,49 @@
+//! Nests compose: what is known of a nest of adapters is known by the contracts of the traits alone.
+ghost use Rattle.std.specs.Prelude.{◌≡◌, ◌%◌, ◌++◌, ◌∷◌, [], List, length, IfOk};
+ghost use Rattle.futures.specs.Poll.{OnPending};
+ghost use Rattle.futures.specs.Task.{Holds, Keeps, Lasting};
+ghost use Rattle.lite_base.specs.Answers.{Answer};
+ghost use Rattle.lite_bench.specs.Nest.{EachItem};
+
+use futures_lite::stream::{Counted, Filter, Map, Script};
+use futures_lite::{Context, Poll, Stream, StreamExt, laws};
+use std::alloc::AllocError;
+
+/// Polls a nest of two adapters over any stream whose rank counts. The answer is one that the nest's definition gives,
+/// and a pending one leaves in `cx` what the nest says that it leaves.
+pub fn poll_nest<S, U, F, P>(
+    nest: &mut Filter<Map<S, F>, P>,
+    cx: &mut Context<'_>,
+) -> Poll<Option<U>>
+where
+    S: Counted,
+    U: Drop,
+    F: FnMut(S::Item) -> U,
+    P: FnMut(&U) -> bool,
+    requires { ⟦<Filter<Map<S, F>, P> as Stream>⟧.can_poll nest.old }
+    ensures ran { ⟦<Filter<Map<S, F>, P> as Stream>⟧.run nest.old (result ∷ []) nest.new }
+    ensures again { ⟦<Filter<Map<S, F>, P> as Stream>⟧.can_poll nest.new }
+    ensures left { OnPending result ((fact : Lasting) → ⟦<Filter<Map<S, F>, P> as Stream>⟧.leaves nest.new fact → Holds cx.new fact) }
+    ensures kept { Keeps cx.old cx.new }
+{
+    nest.poll_next(cx)
+}
+
+/// Mixes each byte of a script with its place, from 1 on, leaves out the odd results, and appends the first `polls`
+/// answers to `out`. `Err` where memory for `out` is refused: then fewer were appended.
+pub fn evens(
+    script: Script<u8>,
+    cx: &mut Context<'_>,
+    polls: usize,
+    out: &mut Vec<Poll<Option<u64>>>,
+) -> Result<(), AllocError>
+    ensures even { (l : List (Answer _)) × (out.new.items ≡ out.old.items ++ l) × IfOk result (λ _. length l ≡ polls) × EachItem (λ x. x % 2 ≡ 0) l }
+{
+    let mut place = 0u64;
+    let mixed = script.map(move |x: u8| {
+        place = place.wrapping_add(1);
+        place ^ x as u64
+    });
+    let mut nest = mixed.filter(|x: &u64| *x % 2 == 0);
+    laws::run(&mut nest, cx, polls, out)
+}
