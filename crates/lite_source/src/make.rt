@@ -18,7 +18,9 @@ use lite_base::{Context, Future, Poll};
 use std::marker::PhantomData;
 
 /// A stream that ends for ever. Ported from `src/stream.rs`, `empty`.
-pub fn empty<T>() -> Empty<T> {
+pub fn empty<T>() -> Empty<T>
+    ensures { result ≡ record { item = record {} } }
+{
     Empty { item: PhantomData }
 }
 
@@ -48,7 +50,9 @@ pub fn once_future<F: Future>(future: F) -> OnceFuture<F>
 }
 
 /// A stream that is pending for ever. Ported from `src/stream.rs`, `pending`.
-pub fn pending<T>() -> Pending<T> {
+pub fn pending<T>() -> Pending<T>
+    ensures { result ≡ record { item = record {} } }
+{
     Pending { item: PhantomData }
 }
 
