@@ -1,4 +1,4 @@
 pub mod Cursor
 pub mod Laws
-pub mod MovesLent
+pub mod MovesIn
 pub mod Put

@@ -4,7 +4,7 @@ ghost use Rattle.futures.specs.Poll.{IfReady, OnPending};
 ghost use Rattle.futures.specs.Task.{Holds, Keeps, Lasting};
 ghost use Rattle.lite_io_base.specs.Marks.{write_marks};
 ghost use Rattle.lite_bridge.specs.Put.{PutsLent};
-ghost use Rattle.lite_bridge.specs.MovesLent.{MovesLent};
+ghost use Rattle.lite_bridge.specs.MovesIn.{MovesLent};
 
 use crate::cursor::Cursor;
 use lite_base::{Context, Poll};
@@ -40,11 +40,18 @@ impl AsyncWrite for Cursor<&mut [u8]> {
         Poll::Ready(Ok(self.put(buf)))
     }
 
+    /// Writes what fits at the position, one buffer after another.
     fn poll_write_vectored(
         &mut self,
         _cx: &mut Context<'_>,
         bufs: &[IoSlice<'_>],
-    ) -> Poll<io::Result<usize>> {
+    ) -> Poll<io::Result<usize>>
+        ensures bound { IfReady result (λ r. IfOk r (λ n. n ≤ length (io_slices_bytes bufs.now))) }
+        ensures ran { MovesLent self.old (write_marks result (io_slices_bytes bufs.now)) self.new }
+        ensures fits { result ≡ Poll.Ready (Ok (min (length (io_slices_bytes bufs.now)) (length self.old.inner.now - self.old.position))) }
+        ensures left { OnPending result ((fact : Lasting) → ⊥ → Holds _cx.new fact) }
+        ensures kept { Keeps _cx.old _cx.new }
+    {
         let mut total = 0;
         for buf in bufs {
             let offered: &[u8] = buf;

@@ -1,7 +1,10 @@
-ghost use Rattle.std.specs.Prelude.{◌≡◌, ◌++◌, refl, OnOk, OnErr};
+ghost use Rattle.std.specs.Prelude.{◌≡◌, ◌≤◌, ◌++◌, length, refl, IfOk, OnOk, OnErr};
 ghost use Rattle.std.specs.Io.Slices.{io_slices_bytes};
+ghost use Rattle.futures.specs.Poll.{IfReady, OnPending};
+ghost use Rattle.futures.specs.Task.{Holds, Keeps, Lasting};
 ghost use Rattle.lite_io_base.specs.Grows.{Grows};
 ghost use Rattle.lite_io_base.specs.Laws.Grows.{grows_follows};
+ghost use Rattle.lite_io_base.specs.Marks.{write_marks};
 
 use crate::async_write::AsyncWrite;
 use crate::tale::Tale;
@@ -19,18 +22,32 @@ impl Tale for Vec<u8> {
 }
 
 impl AsyncWrite for Vec<u8> {
-    fn poll_write(&mut self, _cx: &mut Context<'_>, buf: &[u8]) -> Poll<io::Result<usize>> {
+    /// Takes all that is offered, or answers an error of the kind `OutOfMemory` and takes nothing.
+    fn poll_write(&mut self, _cx: &mut Context<'_>, buf: &[u8]) -> Poll<io::Result<usize>>
+        ensures bound { IfReady result (λ r. IfOk r (λ n. n ≤ length buf.now)) }
+        ensures ran { Grows self.old.items (write_marks result buf.now) self.new.items }
+        ensures all { IfReady result (λ r. IfOk r (λ n. n ≡ length buf.now)) }
+        ensures left { OnPending result ((fact : Lasting) → ⊥ → Holds _cx.new fact) }
+        ensures kept { Keeps _cx.old _cx.new }
+    {
         match self.extend_from_slice(buf) {
             Ok(()) => Poll::Ready(Ok(buf.len())),
             Err(e) => Poll::Ready(Err(io::Error::from(e))),
         }
     }
 
+    /// Takes all that is offered, or answers an error of the kind `OutOfMemory` and takes nothing.
     fn poll_write_vectored(
         &mut self,
         _cx: &mut Context<'_>,
         bufs: &[IoSlice<'_>],
-    ) -> Poll<io::Result<usize>> {
+    ) -> Poll<io::Result<usize>>
+        ensures bound { IfReady result (λ r. IfOk r (λ n. n ≤ length (io_slices_bytes bufs.now))) }
+        ensures ran { Grows self.old.items (write_marks result (io_slices_bytes bufs.now)) self.new.items }
+        ensures all { IfReady result (λ r. IfOk r (λ n. n ≡ length (io_slices_bytes bufs.now))) }
+        ensures left { OnPending result ((fact : Lasting) → ⊥ → Holds _cx.new fact) }
+        ensures kept { Keeps _cx.old _cx.new }
+    {
         let start = self.len();
         match extend_from_slices(self, bufs) {
             Ok(()) => Poll::Ready(Ok(self.len() - start)),

@@ -1,5 +1,8 @@
-ghost use Rattle.std.specs.Prelude.{◌≡◌, ◌≤◌, ◌⊎◌, ◌++◌, ◌∷◌, [], Err, refl, MatchResult};
+ghost use Rattle.std.specs.Prelude.{◌≡◌, ◌≤◌, ◌⊎◌, ◌++◌, ◌∷◌, [], Err, length, refl, IfOk, MatchResult};
+ghost use Rattle.futures.specs.Poll.{IfReady, OnPending};
+ghost use Rattle.futures.specs.Task.{Holds, Keeps, Lasting};
 ghost use Rattle.lite_io_base.specs.Kinds.{by_kind};
+ghost use Rattle.lite_io_base.specs.Marks.{write_marks};
 
 use lite_base::{Context, Poll};
 use lite_io_base::{AsyncWrite, Tale};
@@ -87,9 +90,15 @@ impl Tale for Takes {
 }
 
 impl AsyncWrite for Takes {
-    ghost use Rattle.lite_mock.specs.Takes.{answer_of};
+    ghost use Rattle.lite_mock.specs.Takes.{Takings, answer_of};
 
-    fn poll_write(&mut self, _cx: &mut Context<'_>, buf: &[u8]) -> Poll<io::Result<usize>> {
+    fn poll_write(&mut self, _cx: &mut Context<'_>, buf: &[u8]) -> Poll<io::Result<usize>>
+        ensures bound { IfReady result (λ r. IfOk r (λ n. n ≤ length buf.now)) }
+        ensures ran { Takings self.old (write_marks result buf.now) self.new }
+        ensures order { (by_kind result ≡ answer_of self.old.orders buf.now) ⊎ (by_kind result ≡ Poll.Ready (Err ErrorKind.OutOfMemory)) }
+        ensures left { OnPending result ((fact : Lasting) → ⊥ → Holds _cx.new fact) }
+        ensures kept { Keeps _cx.old _cx.new }
+    {
         let order = self.orders.get(self.next).copied();
         let most = match order {
             None => buf.len(),

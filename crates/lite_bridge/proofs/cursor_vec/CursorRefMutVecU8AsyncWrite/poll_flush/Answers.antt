@@ -1,5 +1,0 @@
-use Rattle.std.proofs.Common.{refl}
-use Rattle.lite_bridge.proofs.cursor_vec.CursorRefMutVecU8AsyncWrite.poll_flush.Goals as goal
-
-pub returns-clause-ran : goal.returns-clause-ran
-returns-clause-ran c = (c.args.self.now, refl, refl)
