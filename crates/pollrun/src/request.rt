@@ -6,7 +6,7 @@ ghost use Rattle.lite_base.specs.Answers.{Answer};
 ghost use Rattle.pollrun.specs.Request.{Asks, IsScript, IsShort, IsWritten, name_of, scripts_of};
 ghost use Rattle.pollrun.specs.Job.{Takes, pipe_in, scripts_in};
 ghost use Rattle.pollrun.specs.Spelling.{spelled, spelled_list};
-ghost use Rattle.pollrun.specs.declared.fault.Fault.TheVariants.{Arguments};
+ghost use Rattle.pollrun.specs.declared.fault.Fault.TheVariants.{Arguments, Output};
 
 use crate::fault::Fault;
 use futures_lite::Poll;
@@ -71,6 +71,7 @@ impl Request {
     pub fn read(alloc: Global, words: &[String]) -> Result<Request, Fault>
         ensures read { IfOk result (λ r. Asks (map string_bytes words.now) (pipe_in r.job) r.polls (scripts_in r.job)) }
         ensures refused { result ≡ Err Arguments → (pipe : _) (polls : _) (scripts : _) → Asks (map string_bytes words.now) pipe polls scripts → ⊥ }
+        ensures failed { IfErr result (λ fault. fault ≢ Output) }
     {
         let [pipe, polls, scripts @ ..] = words else {
             return Err(Fault::Arguments);
@@ -89,6 +90,7 @@ impl Request {
 fn job_of(alloc: Global, pipe: Pipe, scripts: &[String]) -> Result<Job, Fault>
     ensures read { IfOk result (λ job. Takes pipe (map string_bytes scripts.now) job) }
     ensures refused { result ≡ Err Arguments → (l : _) → length l ≡ scripts_of pipe → All IsScript l → map string_bytes scripts.now ≢ map (spelled_list signed_decimal) l }
+    ensures failed { IfErr result (λ fault. fault ≢ Output) }
 {
     match (pipe, scripts) {
         (Pipe::One(pipe), [script]) => Ok(Job::One(pipe, script_of(alloc, script.as_str())?)),
@@ -146,6 +148,7 @@ fn answer_of(word: &str) -> Option<Poll<Option<i32>>>
 fn script_of(alloc: Global, word: &str) -> Result<Answers, Fault>
     ensures read { IfOk result (λ script. IsScript script.items × (word.now ≡ spelled_list signed_decimal script.items)) }
     ensures refused { result ≡ Err Arguments → (script : _) → IsScript script → word.now ≢ spelled_list signed_decimal script }
+    ensures failed { IfErr result (λ fault. fault ≢ Output) }
 {
     let found = pieces_of(alloc, word)?;
     let pieces = found.as_slice();
