@@ -1,0 +1,1 @@
+//! A list of calls, made one after the other.
