@@ -1,6 +1,7 @@
 //! Journals: streams of bytes that write down each of their calls, and the two halves of a stream.
 #![tactic(auto)]
 
+mod answers;
 mod entry;
 mod journal;
 

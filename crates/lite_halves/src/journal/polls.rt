@@ -1,15 +1,16 @@
 //! The journal as a reader and a writer.
-ghost use Rattle.std.specs.Prelude.{◌≡◌, ◌≤◌, ◌<◌, ◌+◌, ◌^◌, ◌++◌, ◌∷◌, [], length, vec_capacity, vec_len, IfNone, IfOk, IfSome};
+ghost use Rattle.std.specs.Prelude.{◌≡◌, ◌≤◌, ◌<◌, ◌+◌, ◌^◌, ◌++◌, ◌∷◌, [], length, IfNone, IfOk, IfSome};
 ghost use Rattle.futures.specs.Poll.{IfReady, OnPending};
 ghost use Rattle.futures.specs.Task.{Holds, Keeps, Lasting};
 ghost use Rattle.lite_io_base.specs.Marks.{done_marks, read_marks, write_marks};
 ghost use Rattle.lite_io_base.specs.Marks.Mark.{closed, flushed};
-ghost use Rattle.lite_halves.specs.Entry.{close_note, flush_note, read_note, told_of, told_of_done, told_of_read, told_of_write, write_note};
+ghost use Rattle.lite_halves.specs.Entry.{close_note, flush_note, read_note, write_note};
 ghost use Rattle.lite_halves.specs.Journal.{Adds, AddsOrStays, Journals};
 ghost use Rattle.lite_halves.specs.Laws.Journal.{journals_follow, journals_rest};
 
 use super::Journal;
-use crate::entry::{Answer, Call, Entry};
+use crate::answers::{done_answer, read_answer, write_answer};
+use crate::entry::{Call, Entry};
 use lite_base::{Context, Poll};
 use lite_io_base::{AsyncRead, AsyncWrite, Tale};
 use std::io;
@@ -169,44 +170,5 @@ impl<T: AsyncWrite + Clone> AsyncWrite for Journal<T> {
             Some(polled) => polled,
             None => Poll::Ready(Err(io::Error::from(ErrorKind::OutOfMemory))),
         }
-    }
-}
-
-// The answer of a read, its bytes in room that was made before.
-fn read_answer(polled: &Poll<io::Result<usize>>, mut bytes: Vec<u8>, buf: &[u8]) -> Answer
-    requires empty { bytes.items ≡ [] }
-    requires room { length buf.now ≤ vec_capacity bytes }
-    requires bound { IfReady polled.now (λ r. IfOk r (λ n. n ≤ length buf.now)) }
-    ensures { told_of result ≡ told_of_read polled.now buf.now }
-{
-    match polled {
-        Poll::Pending => Answer::Pending,
-        Poll::Ready(Ok(n)) => {
-            let Ok(()) = bytes.extend_from_slice(&buf[..*n]) else {
-                unreachable!()
-            };
-            Answer::Read(bytes)
-        }
-        Poll::Ready(Err(e)) => Answer::Fault(e.kind()),
-    }
-}
-
-fn write_answer(polled: &Poll<io::Result<usize>>) -> Answer
-    ensures { told_of result ≡ told_of_write polled.now }
-{
-    match polled {
-        Poll::Pending => Answer::Pending,
-        Poll::Ready(Ok(n)) => Answer::Wrote(*n),
-        Poll::Ready(Err(e)) => Answer::Fault(e.kind()),
-    }
-}
-
-fn done_answer(polled: &Poll<io::Result<()>>) -> Answer
-    ensures { told_of result ≡ told_of_done polled.now }
-{
-    match polled {
-        Poll::Pending => Answer::Pending,
-        Poll::Ready(Ok(())) => Answer::Done,
-        Poll::Ready(Err(e)) => Answer::Fault(e.kind()),
     }
 }
