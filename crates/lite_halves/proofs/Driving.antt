@@ -2,6 +2,8 @@
 use Rattle.std.proofs.Common.{◌≡◌, ◌∙◌, ℕ, ◌+◌, List, [], ◌∷◌, ◌++◌, length, ap, append_assoc, length-append, arith}
 use Rattle.std.proofs.lemmas.List.{map-append}
 use Rattle.lite_halves.specs.declared.entry.Answer.{Answer}
+use Rattle.std.proofs.lemmas.List.Sums.{sum_by-append}
+use Rattle.lite_halves.specs.Counts.{count_moved, moved_by}
 use Rattle.lite_halves.specs.Entry.{Told, told_in, told_of}
 
 pub told_more : (out before more : List Answer) (answers : List Told) (answer : Answer) (after : List Answer)
@@ -11,3 +13,6 @@ told_more out before more answers answer after so_far same pushed =
 
 pub one_longer : (answers : List Told) (t : Told) (n : ℕ) → length answers ≡ n → length (answers ++ t ∷ []) ≡ n + 1
 one_longer answers t n many = omega (arith, many, length-append answers (t ∷ []))
+
+pub count_more : (answers : List Told) (t : Told) → count_moved (answers ++ t ∷ []) ≡ count_moved answers + moved_by t
+count_more answers t = omega (arith, sum_by-append moved_by answers (t ∷ []))

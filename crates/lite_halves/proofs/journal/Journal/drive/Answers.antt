@@ -21,7 +21,7 @@ loop-call-preserved g c =
       told = inv.told ++ t ∷ [];
       out = told_more c.args.out.now.items c.loop-call.out.items _ inv.told c.in-Some.answer _ inv.out c.in_ok-reserve.ensures.items c.push_reserved.ensures.items;
       many = one_longer inv.told t c.loop-call.call-index inv.many;
-      added = drive_more g.T.Tale.run g.T.Tale.follows c.args.self.now c.loop-call.self c.make.new.self asked_of c.args.calls.now inv.told t c.call-item.result c.loop-call.call-index
-          inv.many c.loop-call-test.true c.call-item.is inv.added c.in-Some.ensures.added;
+      added = drive_more g.T.Tale.run g.T.Tale.follows c.args.self.now c.loop-call.self c.make.new.self asked_of c.args.calls.now inv.told t c.call-item.result c.call-item.result c.loop-call.call-index
+          inv.many c.loop-call-test.true (sym c.call-item.is) inv.added c.in-Some.ensures.added;
       kept = λ fact h. c.make.ensures.kept fact (inv.kept fact h);
     }
