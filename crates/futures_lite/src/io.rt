@@ -4,6 +4,10 @@ ghost use Rattle.lite_io.specs.Chain.{first_of, has_ended, second_of};
 ghost use Rattle.lite_io.specs.Take.{inner_of, limit_of};
 
 pub use lite_bridge::{BytesLike, Cursor};
+pub use lite_halves::{
+    Answer, Blanks, Call, Entry, Journal, JournalReadHalf, JournalWriteHalf, ReadHalf, WriteHalf,
+    history, split, split_journalled,
+};
 use lite_io::make;
 pub use lite_io::make::{empty, repeat};
 pub use lite_io::{BufReader, Chain, Empty, Repeat, Take};

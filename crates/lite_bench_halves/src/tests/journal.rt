@@ -1,0 +1,198 @@
+use super::{are, cursor_on, finishes, got, journal_on, read, write};
+use futures::task::{Doorbell, Solo};
+use futures_lite::Poll;
+use futures_lite::io::{
+    Answer, AsyncRead, AsyncWrite, Call, ErrorKind, IoSlice, IoSliceMut, Journal,
+};
+use lite_mock::{Marks, Order, Takes};
+use std::alloc::{AllocError, Global};
+use std::test::Fail;
+
+/// What `drive` answers, in a task of its own.
+fn drive<T: AsyncRead + AsyncWrite + Clone>(
+    rt: &HostRuntime,
+    journal: &mut Journal<T>,
+    calls: &[Call],
+    out: &mut Vec<Answer>,
+) -> Result<Result<(), AllocError>, Fail> {
+    let solo = Solo::new(rt, Doorbell::spinning())?;
+    let mut cx = solo.begin();
+    let driven = journal.drive(&mut cx, calls, out);
+    cx.cancel();
+    Ok(driven)
+}
+
+/// A journal of a reader of the chunk `xy`.
+fn journal_of_chunk(alloc: Global) -> Result<Journal<Marks>, AllocError> {
+    let mut marks = Marks::new(alloc);
+    marks.chunk(b"xy")?;
+    match Journal::new(alloc, marks) {
+        Ok(journal) => Ok(journal),
+        Err(_) => Err(AllocError),
+    }
+}
+
+#[test]
+fn drive_makes_each_call_with_its_entry(rt: HostRuntime) -> Result<(), Fail> {
+    let alloc = rt.alloc();
+    let mut journal = journal_on(alloc, b"xy")?;
+    let calls = [
+        Call::Read { room: 1 },
+        Call::Write(Vec::from_slice(alloc, b"z")?),
+        Call::Flush,
+        Call::Close,
+        Call::Read { room: 1 },
+    ];
+    let mut out = Vec::new(alloc);
+    drive(&rt, &mut journal, &calls, &mut out)??;
+    let answers = [
+        got(alloc, b"x")?,
+        Answer::Wrote(1),
+        Answer::Done,
+        Answer::Done,
+        got(alloc, b"")?,
+    ];
+    assert_eq!(rt; out.as_slice(), answers.as_slice());
+    assert!(rt; are(journal.entries(), &calls, &answers));
+    assert_eq!(rt; journal.start().get_ref().as_slice(), b"xy".as_slice());
+    assert_eq!(rt; journal.start().position(), 0);
+    assert_eq!(rt;
+        journal.into_inner().into_inner().as_slice(),
+        b"xz".as_slice()
+    );
+    Ok(())
+}
+
+#[test]
+fn a_refused_call_of_drive_reaches_nothing(rt: HostRuntime) -> Result<(), Fail> {
+    let alloc = rt.alloc();
+    let mut journal = journal_on(alloc, b"xy")?;
+    let calls = [
+        Call::Read { room: 1 },
+        Call::Read { room: usize::MAX },
+        Call::Read { room: 1 },
+    ];
+    let mut out = Vec::new(alloc);
+    assert_eq!(rt;
+        drive(&rt, &mut journal, &calls, &mut out)?,
+        Err(AllocError)
+    );
+    let answers = [got(alloc, b"x")?];
+    assert_eq!(rt; out.as_slice(), answers.as_slice());
+    assert!(rt; are(journal.entries(), &[Call::Read { room: 1 }], &answers));
+    drive(&rt, &mut journal, &[Call::Read { room: 1 }], &mut out)??;
+    assert_eq!(rt;
+        out.as_slice(),
+        [got(alloc, b"x")?, got(alloc, b"y")?].as_slice()
+    );
+    assert_eq!(rt; journal.entries().len(), 2);
+    Ok(())
+}
+
+#[test]
+fn a_journal_writes_down_errors_and_pendings(rt: HostRuntime) -> Result<(), Fail> {
+    let alloc = rt.alloc();
+    let mut takes = Takes::new(alloc);
+    takes.order(Order::AtMost(1))?;
+    takes.order(Order::Wait)?;
+    takes.order(Order::Fail(ErrorKind::Other))?;
+    let Ok(mut journal) = Journal::new(alloc, takes) else {
+        return Err(Fail::from("memory"));
+    };
+    assert_eq!(rt; write(&rt, &mut journal, b"ab")?, Poll::Ready(Ok(1)));
+    assert_eq!(rt; write(&rt, &mut journal, b"ab")?, Poll::Pending);
+    assert_eq!(rt;
+        write(&rt, &mut journal, b"ab")?,
+        Poll::Ready(Err(ErrorKind::Other))
+    );
+    assert_eq!(rt; write(&rt, &mut journal, b"ab")?, Poll::Ready(Ok(2)));
+    assert!(rt; finishes(&rt, &mut journal)?);
+    let calls = [
+        Call::Write(Vec::from_slice(alloc, b"ab")?),
+        Call::Write(Vec::from_slice(alloc, b"ab")?),
+        Call::Write(Vec::from_slice(alloc, b"ab")?),
+        Call::Write(Vec::from_slice(alloc, b"ab")?),
+        Call::Flush,
+        Call::Close,
+    ];
+    let answers = [
+        Answer::Wrote(1),
+        Answer::Pending,
+        Answer::Fault(ErrorKind::Other),
+        Answer::Wrote(2),
+        Answer::Done,
+        Answer::Done,
+    ];
+    assert!(rt; are(journal.entries(), &calls, &answers));
+    let copy = journal.clone()?;
+    assert!(rt; are(copy.entries(), &calls, &answers));
+    assert_eq!(rt; copy.into_inner().taken(), b"aab".as_slice());
+    Ok(())
+}
+
+#[test]
+fn a_vectored_call_is_one_entry_of_the_first_nonempty_buffer(rt: HostRuntime) -> Result<(), Fail> {
+    let alloc = rt.alloc();
+    let mut journal = journal_on(alloc, b"xy")?;
+    let solo = Solo::new(&rt, Doorbell::spinning())?;
+    let mut cx = solo.begin();
+    let (mut one, mut two) = ([0u8; 1], [0u8; 2]);
+    let mut bufs = [
+        IoSliceMut::new(&mut []),
+        IoSliceMut::new(&mut one),
+        IoSliceMut::new(&mut two),
+    ];
+    let read = journal.poll_read_vectored(&mut cx, &mut bufs);
+    assert!(rt; matches!(read, Poll::Ready(Ok(1))));
+    let wrote = journal.poll_write_vectored(&mut cx, &[IoSlice::new(b""), IoSlice::new(b"z")]);
+    assert!(rt; matches!(wrote, Poll::Ready(Ok(1))));
+    cx.cancel();
+    let calls = [
+        Call::Read { room: 1 },
+        Call::Write(Vec::from_slice(alloc, b"z")?),
+    ];
+    assert!(rt;
+        are(
+            journal.entries(),
+            &calls,
+            &[got(alloc, b"x")?, Answer::Wrote(1)]
+        )
+    );
+    Ok(())
+}
+
+// Memory is refused here where the test is run with allocations that fail.
+#[test]
+fn a_refused_entry_changes_nothing(rt: HostRuntime) -> Result<(), Fail> {
+    let mut journal = journal_of_chunk(rt.alloc())?;
+    let mut buf = [0u8];
+    let mut entries = 0;
+    for byte in *b"xy" {
+        let mut answer = read(&rt, &mut journal, &mut buf)?;
+        if answer == Poll::Ready(Err(ErrorKind::OutOfMemory)) {
+            assert_eq!(rt; journal.entries().len(), entries);
+            answer = read(&rt, &mut journal, &mut buf)?;
+        }
+        entries += 1;
+        assert_eq!(rt; answer, Poll::Ready(Ok(1)));
+        assert_eq!(rt; buf[0], byte);
+        assert_eq!(rt; journal.entries().len(), entries);
+    }
+    Ok(())
+}
+
+#[test]
+fn the_start_is_what_was_handed_in(rt: HostRuntime) -> Result<(), Fail> {
+    let alloc = rt.alloc();
+    let mut cursor = cursor_on(alloc, b"xy")?;
+    cursor.set_position(1);
+    let Ok(mut journal) = Journal::new(alloc, cursor) else {
+        return Err(Fail::from("memory"));
+    };
+    let mut buf = [0u8];
+    assert_eq!(rt; read(&rt, &mut journal, &mut buf)?, Poll::Ready(Ok(1)));
+    assert_eq!(rt; buf[0], b'y');
+    assert_eq!(rt; journal.start().position(), 1);
+    assert_eq!(rt; journal.into_inner().position(), 2);
+    Ok(())
+}

@@ -1,0 +1,26 @@
+use std::alloc::{Alloc, AllocError};
+use std::sync::Wait;
+
+/// A runtime whose clone is refused, as for want of memory.
+#[derive(Drop)]
+pub(super) struct Refusing<R> {
+    pub(super) rt: R,
+}
+
+impl<R: Drop> Clone for Refusing<R> {
+    ghost is_clone = { λ _ _. ⊥ };
+
+    fn clone(&self) -> Result<Refusing<R>, AllocError> {
+        Err(AllocError)
+    }
+}
+
+impl<R: Wait> Wait for Refusing<R> {}
+
+impl<R: Alloc> Alloc for Refusing<R> {
+    type A = R::A;
+
+    fn alloc(&self) -> R::A {
+        self.rt.alloc()
+    }
+}

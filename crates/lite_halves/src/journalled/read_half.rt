@@ -1,0 +1,195 @@
+//! The journalled half that reads.
+ghost use Rattle.std.specs.Prelude.{◌≡◌, ◌≤◌, ◌<◌, ◌+◌, ◌%◌, ◌^◌, ◌⊎◌, ◌∷◌, [], length, map, IfNone, IfOk, IfSome};
+ghost use Rattle.futures.specs.Poll.{IfReady, OnPending};
+ghost use Rattle.futures.specs.Task.{Holds, Keeps, Lasting};
+ghost use Rattle.lite_io_base.specs.Marks.{read_marks};
+ghost use Rattle.lite_halves.specs.Counts.{Counts, HalfDrives, IsOutOfMemory, count_of, moved_by};
+ghost use Rattle.lite_halves.specs.Entry.{Asked, Fits, told_in, told_of};
+ghost use Rattle.lite_halves.specs.Laws.Counts.{counts_follow, counts_rest};
+
+use super::locked::{Locked, count};
+use crate::answers::buffer_answer;
+use crate::entry::Answer;
+use lite_base::{Context, Poll};
+use lite_io_base::{AsyncRead, Tale};
+use std::alloc::{AllocError, AllocGlobal};
+use std::io;
+use std::io::ErrorKind;
+use std::marker::Model;
+use std::sync::ledger::{Ledger, Share};
+use std::sync::{Arc, Mutex, Wait};
+
+/// The half of a journal that reads. Made by [`split_journalled`](crate::split_journalled).
+///
+/// Each call locks the journal, and so it may wait. A contract sees the entries of reads in the journal and the bytes in
+/// their answers, those from before the split included; what the stream does between two calls is not known, since the
+/// other half may call it. The original has no such type.
+#[derive(Drop)]
+pub struct JournalReadHalf<R, T: Tale + Clone, A: Ledger, B: Ledger, C: Ledger, D: Ledger> {
+    pub(super) rt: R,
+    pub(super) shared: Arc<Mutex<Locked<T, A, B, C, D>>>,
+    pub(super) calls: u64,
+    pub(super) bytes: u64,
+    pub(super) call_share: Share<A>,
+    pub(super) byte_share: Share<B>,
+}
+
+impl<R, T: Tale + Clone, A: Ledger, B: Ledger, C: Ledger, D: Ledger> Model
+    for JournalReadHalf<R, T, A, B, C, D> {
+    ghost use Rattle.std.specs.Prelude.{◌≡◌, ◌<◌, ◌+◌, ◌%◌, ◌^◌};
+    ghost use Rattle.lite_halves.specs.Counts.{Counted};
+
+    ghost Value = { Counted };
+
+    ghost view = { λ h. record { calls = h.calls; bytes = h.byte_share.amount } };
+
+    ghost invariant = { λ h. (0 < h.call_share.parts) × (0 < h.byte_share.parts) × (h.call_share.parts ≡ A.parts) × (h.byte_share.parts ≡ B.parts) × (h.call_share.amount ≡ h.calls + 1) × (h.bytes ≡ h.byte_share.amount % 2 ^ 64) };
+}
+
+impl<R, T: Tale + Clone, A: Ledger, B: Ledger, C: Ledger, D: Ledger> JournalReadHalf<
+    R,
+    T,
+    A,
+    B,
+    C,
+    D,
+> {
+    /// How many reads the journal has an entry of. It doesn't wait.
+    pub fn calls(&self) -> u64
+        ensures { result ≡ self.now.calls }
+    {
+        self.calls
+    }
+
+    /// How many bytes those reads were told, modulo 2^64. It doesn't wait.
+    pub fn bytes(&self) -> u64
+        ensures { result ≡ self.now.bytes % 2 ^ 64 }
+    {
+        self.bytes
+    }
+}
+
+impl<R: Wait, T: AsyncRead + Clone, A: Ledger, B: Ledger, C: Ledger, D: Ledger> JournalReadHalf<
+    R,
+    T,
+    A,
+    B,
+    C,
+    D,
+> {
+    // One read with its entry. `None`: there was no memory for the entry, and nothing was called.
+    fn step(&mut self, cx: &mut Context<'_>, buf: &mut [u8]) -> Option<Poll<io::Result<usize>>>
+        ensures some { IfSome result (λ r. (self.new.calls ≡ self.old.calls + 1) × (self.new.bytes ≡ self.old.bytes + count_of r)) }
+        ensures none { IfNone result (self.new ≡ self.old) }
+        ensures bound { IfSome result (λ r. IfReady r (λ a. IfOk a (λ n. n ≤ length buf.new))) }
+        ensures kept { Keeps cx.old cx.new }
+    {
+        let polled = read_locked(
+            &self.rt,
+            &self.shared,
+            &mut self.call_share,
+            &mut self.byte_share,
+            cx,
+            buf,
+        )?;
+        self.calls += 1;
+        self.bytes = self.bytes.wrapping_add(count(&polled) as u64);
+        Some(polled)
+    }
+}
+
+fn read_locked<R: Wait, T: AsyncRead + Clone, A: Ledger, B: Ledger, C: Ledger, D: Ledger>(
+    rt: &R,
+    shared: &Mutex<Locked<T, A, B, C, D>>,
+    calls: &mut Share<A>,
+    bytes: &mut Share<B>,
+    cx: &mut Context<'_>,
+    buf: &mut [u8],
+) -> Option<Poll<io::Result<usize>>>
+    requires { (0 < calls.old.amount) × (0 < calls.old.parts) × (0 < bytes.old.parts) }
+    ensures some { IfSome result (λ r. (calls.new.amount ≡ calls.old.amount + 1) × (bytes.new.amount ≡ bytes.old.amount + count_of r)) }
+    ensures none { IfNone result ((calls.new.amount ≡ calls.old.amount) × (bytes.new.amount ≡ bytes.old.amount)) }
+    ensures parts { (calls.new.parts ≡ calls.old.parts) × (bytes.new.parts ≡ bytes.old.parts) }
+    ensures fits { IfSome result (λ r. calls.new.amount ≤ 2 ^ 64) }
+    ensures bound { IfSome result (λ r. IfReady r (λ a. IfOk a (λ n. n ≤ length buf.new))) }
+    ensures kept { Keeps cx.old cx.new }
+{
+    shared.lock(rt).read(calls, bytes, cx, buf)
+}
+
+impl<R, T: Tale + Clone, A: Ledger, B: Ledger, C: Ledger, D: Ledger> Tale
+    for JournalReadHalf<R, T, A, B, C, D> {
+    ghost run = { Counts };
+
+    ghost rests = { counts_rest };
+
+    ghost follows = { counts_follow };
+}
+
+impl<R: Wait, T: AsyncRead + Clone, A: Ledger, B: Ledger, C: Ledger, D: Ledger> AsyncRead
+    for JournalReadHalf<R, T, A, B, C, D> {
+    /// Reads from the stream, and writes the call down with its answer, both under one lock.
+    ///
+    /// Room for the entry is made first. Where that is refused the answer is `OutOfMemory`: the stream is not called,
+    /// there is no entry, and nothing changes.
+    fn poll_read(&mut self, cx: &mut Context<'_>, buf: &mut [u8]) -> Poll<io::Result<usize>>
+        ensures bound { IfReady result (λ r. IfOk r (λ n. n ≤ length buf.new)) }
+        ensures ran { Counts self.old (read_marks result buf.new) self.new }
+        ensures calls { (self.new.calls ≡ self.old.calls + 1) ⊎ (IsOutOfMemory result × (self.new ≡ self.old)) }
+        ensures bytes { self.new.bytes ≡ self.old.bytes + count_of result }
+        ensures left { OnPending result ((fact : Lasting) → ⊥ → Holds cx.new fact) }
+        ensures kept { Keeps cx.old cx.new }
+    {
+        match self.step(cx, buf) {
+            Some(polled) => polled,
+            None => Poll::Ready(Err(io::Error::from(ErrorKind::OutOfMemory))),
+        }
+    }
+}
+
+impl<R, T, A, B, C, D> JournalReadHalf<R, T, A, B, C, D>
+where
+    R: Wait + AllocGlobal,
+    T: AsyncRead + Clone,
+    A: Ledger,
+    B: Ledger,
+    C: Ledger,
+    D: Ledger,
+{
+    // One read with its entry. `None`: there was no memory for the entry or the answer, and nothing was called.
+    fn make(&mut self, cx: &mut Context<'_>, room: usize) -> Option<Answer>
+        ensures some { IfSome result (λ a. (self.new.calls ≡ self.old.calls + 1) × (self.new.bytes ≡ self.old.bytes + moved_by (told_of a))) }
+        ensures fits { IfSome result (λ a. Fits (Asked.room room) (told_of a)) }
+        ensures none { IfNone result (self.new ≡ self.old) }
+        ensures kept { Keeps cx.old cx.new }
+    {
+        let mut buf = vec![in self.rt.alloc(); 0; room].ok()?;
+        let polled = self.step(cx, &mut buf)?;
+        Some(buffer_answer(&polled, buf))
+    }
+
+    /// Reads into so many bytes of room, one read for each of `rooms`, and appends what each was told to `out`. The
+    /// journal is locked once for each read, so the other half's calls may come between.
+    ///
+    /// `Err`: there was no memory for the next read's entry or answer. The answers so far stand in `out`; the refused
+    /// read reached neither the stream nor the journal. An error of the stream itself, `OutOfMemory` too, is an
+    /// answer, after which the reads go on.
+    pub fn drive(
+        &mut self,
+        cx: &mut Context<'_>,
+        rooms: &[usize],
+        out: &mut Vec<Answer>,
+    ) -> Result<(), AllocError>
+        ensures drives { HalfDrives (map Asked.room rooms.now) (told_in out.old.items) result self.old self.new (told_in out.new.items) }
+        ensures kept { Keeps cx.old cx.new }
+    {
+        for room in rooms {
+            out.reserve(1)?;
+            let Some(answer) = self.make(cx, *room) else {
+                return Err(AllocError);
+            };
+            out.push_reserved(answer);
+        }
+        Ok(())
+    }
+}

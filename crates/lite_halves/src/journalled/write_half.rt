@@ -1,0 +1,271 @@
+//! The journalled half that writes.
+ghost use Rattle.std.specs.Prelude.{◌≡◌, ◌≤◌, ◌<◌, ◌+◌, ◌%◌, ◌^◌, ◌⊎◌, ◌∷◌, [], length, IfNone, IfOk, IfSome};
+ghost use Rattle.futures.specs.Poll.{IfReady, OnPending};
+ghost use Rattle.futures.specs.Task.{Holds, Keeps, Lasting};
+ghost use Rattle.lite_io_base.specs.Marks.{done_marks, write_marks};
+ghost use Rattle.lite_io_base.specs.Marks.Mark.{closed, flushed};
+ghost use Rattle.lite_halves.specs.Counts.{AllWrites, Counts, HalfDrives, IsOutOfMemory, IsWrite, count_of, moved_by};
+ghost use Rattle.lite_halves.specs.Entry.{Fits, asked_in, asked_of, told_in, told_of};
+ghost use Rattle.lite_halves.specs.Laws.Counts.{counts_follow, counts_rest};
+
+use super::locked::{Locked, count};
+use crate::answers::{done_answer, write_answer};
+use crate::entry::{Answer, Call};
+use lite_base::{Context, Poll};
+use lite_io_base::{AsyncWrite, Tale};
+use std::alloc::AllocError;
+use std::io;
+use std::io::ErrorKind;
+use std::marker::Model;
+use std::sync::ledger::{Ledger, Share};
+use std::sync::{Arc, Mutex, Wait};
+
+/// The half of a journal that writes. Made by [`split_journalled`](crate::split_journalled).
+///
+/// Each call locks the journal, and so it may wait. A contract sees the entries of writes, flushes and closes in the
+/// journal and the bytes that were taken, those from before the split included; what the stream does between two calls
+/// is not known, since the other half may call it. The original has no such type.
+#[derive(Drop)]
+pub struct JournalWriteHalf<R, T: Tale + Clone, A: Ledger, B: Ledger, C: Ledger, D: Ledger> {
+    pub(super) rt: R,
+    pub(super) shared: Arc<Mutex<Locked<T, A, B, C, D>>>,
+    pub(super) calls: u64,
+    pub(super) bytes: u64,
+    pub(super) call_share: Share<C>,
+    pub(super) byte_share: Share<D>,
+}
+
+impl<R, T: Tale + Clone, A: Ledger, B: Ledger, C: Ledger, D: Ledger> Model
+    for JournalWriteHalf<R, T, A, B, C, D> {
+    ghost use Rattle.std.specs.Prelude.{◌≡◌, ◌<◌, ◌+◌, ◌%◌, ◌^◌};
+    ghost use Rattle.lite_halves.specs.Counts.{Counted};
+
+    ghost Value = { Counted };
+
+    ghost view = { λ h. record { calls = h.calls; bytes = h.byte_share.amount } };
+
+    ghost invariant = { λ h. (0 < h.call_share.parts) × (0 < h.byte_share.parts) × (h.call_share.parts ≡ C.parts) × (h.byte_share.parts ≡ D.parts) × (h.call_share.amount ≡ h.calls + 1) × (h.bytes ≡ h.byte_share.amount % 2 ^ 64) };
+}
+
+impl<R, T: Tale + Clone, A: Ledger, B: Ledger, C: Ledger, D: Ledger> JournalWriteHalf<
+    R,
+    T,
+    A,
+    B,
+    C,
+    D,
+> {
+    /// How many writes, flushes and closes the journal has an entry of. It doesn't wait.
+    pub fn calls(&self) -> u64
+        ensures { result ≡ self.now.calls }
+    {
+        self.calls
+    }
+
+    /// How many bytes of those writes were taken, modulo 2^64. It doesn't wait.
+    pub fn bytes(&self) -> u64
+        ensures { result ≡ self.now.bytes % 2 ^ 64 }
+    {
+        self.bytes
+    }
+}
+
+impl<R: Wait, T: AsyncWrite + Clone, A: Ledger, B: Ledger, C: Ledger, D: Ledger> JournalWriteHalf<
+    R,
+    T,
+    A,
+    B,
+    C,
+    D,
+> {
+    // One write with its entry. `None`: there was no memory for the entry, and nothing was called.
+    fn step_write(&mut self, cx: &mut Context<'_>, buf: &[u8]) -> Option<Poll<io::Result<usize>>>
+        ensures some { IfSome result (λ r. (self.new.calls ≡ self.old.calls + 1) × (self.new.bytes ≡ self.old.bytes + count_of r)) }
+        ensures none { IfNone result (self.new ≡ self.old) }
+        ensures bound { IfSome result (λ r. IfReady r (λ a. IfOk a (λ n. n ≤ length buf.now))) }
+        ensures kept { Keeps cx.old cx.new }
+    {
+        let polled = write_locked(
+            &self.rt,
+            &self.shared,
+            &mut self.call_share,
+            &mut self.byte_share,
+            cx,
+            buf,
+        )?;
+        self.calls += 1;
+        self.bytes = self.bytes.wrapping_add(count(&polled) as u64);
+        Some(polled)
+    }
+
+    // One flush with its entry. `None`: there was no memory for the entry, and nothing was called.
+    fn step_flush(&mut self, cx: &mut Context<'_>) -> Option<Poll<io::Result<()>>>
+        ensures some { IfSome result (λ r. (self.new.calls ≡ self.old.calls + 1) × (self.new.bytes ≡ self.old.bytes)) }
+        ensures none { IfNone result (self.new ≡ self.old) }
+        ensures kept { Keeps cx.old cx.new }
+    {
+        let polled = flush_locked(&self.rt, &self.shared, &mut self.call_share, cx)?;
+        self.calls += 1;
+        Some(polled)
+    }
+
+    // One close with its entry. `None`: there was no memory for the entry, and nothing was called.
+    fn step_close(&mut self, cx: &mut Context<'_>) -> Option<Poll<io::Result<()>>>
+        ensures some { IfSome result (λ r. (self.new.calls ≡ self.old.calls + 1) × (self.new.bytes ≡ self.old.bytes)) }
+        ensures none { IfNone result (self.new ≡ self.old) }
+        ensures kept { Keeps cx.old cx.new }
+    {
+        let polled = close_locked(&self.rt, &self.shared, &mut self.call_share, cx)?;
+        self.calls += 1;
+        Some(polled)
+    }
+
+    // One call with its entry. `None`: there was no memory for the entry, and nothing was called.
+    fn make(&mut self, cx: &mut Context<'_>, call: &Call) -> Option<Answer>
+        requires { IsWrite call.now }
+        ensures some { IfSome result (λ a. (self.new.calls ≡ self.old.calls + 1) × (self.new.bytes ≡ self.old.bytes + moved_by (told_of a))) }
+        ensures fits { IfSome result (λ a. Fits (asked_of call.now) (told_of a)) }
+        ensures none { IfNone result (self.new ≡ self.old) }
+        ensures kept { Keeps cx.old cx.new }
+    {
+        match call {
+            Call::Read { .. } => unreachable!(),
+            Call::Write(bytes) => Some(write_answer(&self.step_write(cx, bytes)?)),
+            Call::Flush => Some(done_answer(&self.step_flush(cx)?)),
+            Call::Close => Some(done_answer(&self.step_close(cx)?)),
+        }
+    }
+
+    /// Makes the calls one after the other, and appends what each was told to `out`. No call may be a read. The journal
+    /// is locked once for each call, so the other half's calls may come between.
+    ///
+    /// `Err`: there was no memory for the next call's entry or answer. The answers so far stand in `out`; the refused
+    /// call reached neither the stream nor the journal. An error of the stream itself, `OutOfMemory` too, is an
+    /// answer, after which the calls go on.
+    pub fn drive(
+        &mut self,
+        cx: &mut Context<'_>,
+        calls: &[Call],
+        out: &mut Vec<Answer>,
+    ) -> Result<(), AllocError>
+        requires { AllWrites calls.now }
+        ensures drives { HalfDrives (asked_in calls.now) (told_in out.old.items) result self.old self.new (told_in out.new.items) }
+        ensures kept { Keeps cx.old cx.new }
+    {
+        for call in calls {
+            out.reserve(1)?;
+            let Some(answer) = self.make(cx, call) else {
+                return Err(AllocError);
+            };
+            out.push_reserved(answer);
+        }
+        Ok(())
+    }
+}
+
+fn write_locked<R: Wait, T: AsyncWrite + Clone, A: Ledger, B: Ledger, C: Ledger, D: Ledger>(
+    rt: &R,
+    shared: &Mutex<Locked<T, A, B, C, D>>,
+    calls: &mut Share<C>,
+    bytes: &mut Share<D>,
+    cx: &mut Context<'_>,
+    buf: &[u8],
+) -> Option<Poll<io::Result<usize>>>
+    requires { (0 < calls.old.amount) × (0 < calls.old.parts) × (0 < bytes.old.parts) }
+    ensures some { IfSome result (λ r. (calls.new.amount ≡ calls.old.amount + 1) × (bytes.new.amount ≡ bytes.old.amount + count_of r)) }
+    ensures none { IfNone result ((calls.new.amount ≡ calls.old.amount) × (bytes.new.amount ≡ bytes.old.amount)) }
+    ensures parts { (calls.new.parts ≡ calls.old.parts) × (bytes.new.parts ≡ bytes.old.parts) }
+    ensures fits { IfSome result (λ r. calls.new.amount ≤ 2 ^ 64) }
+    ensures bound { IfSome result (λ r. IfReady r (λ a. IfOk a (λ n. n ≤ length buf.now))) }
+    ensures kept { Keeps cx.old cx.new }
+{
+    shared.lock(rt).write(calls, bytes, cx, buf)
+}
+
+fn flush_locked<R: Wait, T: AsyncWrite + Clone, A: Ledger, B: Ledger, C: Ledger, D: Ledger>(
+    rt: &R,
+    shared: &Mutex<Locked<T, A, B, C, D>>,
+    calls: &mut Share<C>,
+    cx: &mut Context<'_>,
+) -> Option<Poll<io::Result<()>>>
+    requires { (0 < calls.old.amount) × (0 < calls.old.parts) }
+    ensures some { IfSome result (λ r. calls.new.amount ≡ calls.old.amount + 1) }
+    ensures none { IfNone result (calls.new.amount ≡ calls.old.amount) }
+    ensures parts { calls.new.parts ≡ calls.old.parts }
+    ensures fits { IfSome result (λ r. calls.new.amount ≤ 2 ^ 64) }
+    ensures kept { Keeps cx.old cx.new }
+{
+    shared.lock(rt).flush(calls, cx)
+}
+
+fn close_locked<R: Wait, T: AsyncWrite + Clone, A: Ledger, B: Ledger, C: Ledger, D: Ledger>(
+    rt: &R,
+    shared: &Mutex<Locked<T, A, B, C, D>>,
+    calls: &mut Share<C>,
+    cx: &mut Context<'_>,
+) -> Option<Poll<io::Result<()>>>
+    requires { (0 < calls.old.amount) × (0 < calls.old.parts) }
+    ensures some { IfSome result (λ r. calls.new.amount ≡ calls.old.amount + 1) }
+    ensures none { IfNone result (calls.new.amount ≡ calls.old.amount) }
+    ensures parts { calls.new.parts ≡ calls.old.parts }
+    ensures fits { IfSome result (λ r. calls.new.amount ≤ 2 ^ 64) }
+    ensures kept { Keeps cx.old cx.new }
+{
+    shared.lock(rt).close(calls, cx)
+}
+
+impl<R, T: Tale + Clone, A: Ledger, B: Ledger, C: Ledger, D: Ledger> Tale
+    for JournalWriteHalf<R, T, A, B, C, D> {
+    ghost run = { Counts };
+
+    ghost rests = { counts_rest };
+
+    ghost follows = { counts_follow };
+}
+
+impl<R: Wait, T: AsyncWrite + Clone, A: Ledger, B: Ledger, C: Ledger, D: Ledger> AsyncWrite
+    for JournalWriteHalf<R, T, A, B, C, D> {
+    /// Writes to the stream, and writes the call down with its answer, both under one lock.
+    ///
+    /// Room for the entry and a copy of `buf` is made first. Where that is refused the answer is `OutOfMemory`: the
+    /// stream is not called, there is no entry, and nothing changes. So it is with a flush and a close.
+    fn poll_write(&mut self, cx: &mut Context<'_>, buf: &[u8]) -> Poll<io::Result<usize>>
+        ensures bound { IfReady result (λ r. IfOk r (λ n. n ≤ length buf.now)) }
+        ensures ran { Counts self.old (write_marks result buf.now) self.new }
+        ensures calls { (self.new.calls ≡ self.old.calls + 1) ⊎ (IsOutOfMemory result × (self.new ≡ self.old)) }
+        ensures bytes { self.new.bytes ≡ self.old.bytes + count_of result }
+        ensures left { OnPending result ((fact : Lasting) → ⊥ → Holds cx.new fact) }
+        ensures kept { Keeps cx.old cx.new }
+    {
+        match self.step_write(cx, buf) {
+            Some(polled) => polled,
+            None => Poll::Ready(Err(io::Error::from(ErrorKind::OutOfMemory))),
+        }
+    }
+
+    fn poll_flush(&mut self, cx: &mut Context<'_>) -> Poll<io::Result<()>>
+        ensures ran { Counts self.old (done_marks flushed result) self.new }
+        ensures calls { (self.new.calls ≡ self.old.calls + 1) ⊎ (IsOutOfMemory result × (self.new ≡ self.old)) }
+        ensures bytes { self.new.bytes ≡ self.old.bytes }
+        ensures left { OnPending result ((fact : Lasting) → ⊥ → Holds cx.new fact) }
+        ensures kept { Keeps cx.old cx.new }
+    {
+        match self.step_flush(cx) {
+            Some(polled) => polled,
+            None => Poll::Ready(Err(io::Error::from(ErrorKind::OutOfMemory))),
+        }
+    }
+
+    fn poll_close(&mut self, cx: &mut Context<'_>) -> Poll<io::Result<()>>
+        ensures ran { Counts self.old (done_marks closed result) self.new }
+        ensures calls { (self.new.calls ≡ self.old.calls + 1) ⊎ (IsOutOfMemory result × (self.new ≡ self.old)) }
+        ensures bytes { self.new.bytes ≡ self.old.bytes }
+        ensures left { OnPending result ((fact : Lasting) → ⊥ → Holds cx.new fact) }
+        ensures kept { Keeps cx.old cx.new }
+    {
+        match self.step_close(cx) {
+            Some(polled) => polled,
+            None => Poll::Ready(Err(io::Error::from(ErrorKind::OutOfMemory))),
+        }
+    }
+}
