@@ -1,5 +1,5 @@
 -- The poll in which a `Chain` goes on to its second reader, and those after it.
-use Rattle.std.proofs.Common.{◌≡◌, ◌<◌, ℕ, List, [], ◌∷◌, Bool, true, false, length, refl, arith}
+use Rattle.std.proofs.Common.{◌≡◌, ◌<◌, ℕ, List, [], ◌∷◌, true, false, length, refl, arith}
 use Rattle.lite_io_base.specs.Marks.{Mark, filled, moved}
 use Rattle.lite_io_base.specs.Runs.{Rests, Runs}
 use Rattle.lite_io.specs.declared.chain.Chain.{Chain}

@@ -1,13 +1,13 @@
 -- A read of a buffered reader over a cursor is one of the bare cursor.
-use Rattle.std.proofs.Common.{◌≡◌, ◌∙◌, ◌≤◌, ◌<◌, ◌^◌, ℕ, zero, suc, ◌+◌, ◌-◌, List, [], ◌∷◌, ◌++◌, length, take, drop, refl, sym, ap, subst, arith, length-take, length-drop, drop-drop}
+use Rattle.std.proofs.Common.{◌≡◌, ◌∙◌, ◌≤◌, ◌<◌, ◌^◌, ℕ, zero, suc, ◌+◌, ◌-◌, List, [], ◌∷◌, ◌++◌, length, take, refl, sym, ap, subst, arith, length-take, length-drop}
 use Rattle.lite_io_base.specs.Laws.Marks.{all_reading, reading_all, writing_none}
 use Rattle.lite_io_base.specs.Laws.Steps.{steps_follow, steps_split}
-use Rattle.lite_io_base.specs.Marks.{AllReading, Mark, bytes as marks_of, reading, writing}
+use Rattle.lite_io_base.specs.Marks.{AllReading, Mark, bytes as marks_of, reading}
 use Rattle.lite_io.specs.declared.buf_reader.BufReader.{BufReader}
 use Rattle.lite_io.specs.BufReader.{Passes, Through, ahead, capacity_of}
 use Rattle.lite_bridge.specs.declared.cursor.Cursor.{Cursor}
 use Rattle.lite_bridge.specs.Cursor.{Moves, Step, left}
-use Rattle.lite_bridge.proofs.Reading.{cursor_taken, further}
+use Rattle.lite_bridge.proofs.Reading.{cursor_taken}
 use Rattle.lite_seek.specs.Logical.{IsInStep, logical}
 
 passes_some : (n : ℕ) (p q : List ℕ) (came out : List Mark) → 0 < n → Passes n p came out q → marks_of p ++ came ≡ out ++ marks_of q

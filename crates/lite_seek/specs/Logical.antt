@@ -1,5 +1,5 @@
 -- A buffered reader over a cursor, seen as the bare cursor at its logical position.
-use Rattle.std.specs.Prelude.{◌≡◌, ◌≤◌, ◌<◌, ◌^◌, ℕ, ◌-◌, List, length, take, drop}
+use Rattle.std.specs.Prelude.{◌≡◌, ◌≤◌, ◌<◌, ◌^◌, ℕ, ◌-◌, List, length, take}
 use Rattle.lite_io.specs.declared.buf_reader.BufReader.{BufReader}
 use Rattle.lite_io.specs.BufReader.{Through, ahead, capacity_of}
 use Rattle.lite_io.specs.SeeksThrough.{SeeksThrough}

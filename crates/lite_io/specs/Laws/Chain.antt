@@ -1,4 +1,4 @@
-use Rattle.std.proofs.Common.{◌≡◌, ◌∙◌, ℕ, zero, suc, Bool, true, false, cond, replicate, ◌+◌, List, [], ◌∷◌, ◌++◌, length, refl, sym, ap, subst, append_assoc, add-zero, zero-add, inl, length-append}
+use Rattle.std.proofs.Common.{◌≡◌, ◌∙◌, ℕ, Bool, true, false, cond, replicate, ◌+◌, List, [], ◌∷◌, ◌++◌, length, refl, sym, ap, subst, append_assoc, add-zero, zero-add, inl, length-append}
 use Rattle.std.proofs.lemmas.List.{length-replicate}
 use Rattle.lite_io_base.specs.Falls.{Falls}
 use Rattle.lite_io_base.specs.Laws.Falls.{falls_both, falls_to_zeros}

@@ -1,4 +1,4 @@
-use Rattle.std.proofs.Common.{◌≡◌, ℕ, List, [], ◌∷◌, ◌++◌, refl, ap, subst}
+use Rattle.std.proofs.Common.{List, [], ◌∷◌, ◌++◌, subst}
 use Rattle.lite_io_base.specs.Marks.{Mark}
 use Rattle.lite_io.specs.declared.repeat.Repeat.{Repeat}
 use Rattle.lite_io.specs.Repeat.{Repeats}

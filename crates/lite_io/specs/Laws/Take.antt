@@ -1,7 +1,7 @@
-use Rattle.std.proofs.Common.{◌≡◌, ◌∙◌, ℕ, zero, suc, ◌+◌, ◌≤◌, List, [], ◌∷◌, ◌++◌, length, take, refl, sym, ap, subst, arith, append_assoc, append-nil}
+use Rattle.std.proofs.Common.{◌≡◌, ◌∙◌, ℕ, zero, suc, List, [], ◌∷◌, ◌++◌, length, take, refl, sym, ap, subst, arith, append_assoc, append-nil}
 use Rattle.lite_base.specs.Answers.{Comparable}
 use Rattle.lite_io_base.specs.Falls.{Falls}
-use Rattle.lite_io_base.specs.Laws.Marks.{given-append, given_all}
+use Rattle.lite_io_base.specs.Laws.Marks.{given-append}
 use Rattle.lite_io_base.specs.Marks.{AllGiven, AllReading, Mark, bytes, given}
 use Rattle.lite_io_base.specs.Runs.{Follows, Rests, Runs, Shows}
 use Rattle.lite_io.specs.declared.take.Take.{Take}

@@ -1,4 +1,4 @@
-use Rattle.std.proofs.Common.{◌≡◌, ℕ, List, [], ◌∷◌, subst, sym, ap}
+use Rattle.std.proofs.Common.{ℕ, List, [], ◌∷◌, subst, sym, ap}
 use Rattle.lite_io.specs.declared.buf_reader.BufReader.{BufReader}
 use Rattle.lite_io.specs.BufReader.{Through}
 use Rattle.lite_io.specs.SeeksThrough.{SeeksThrough}

@@ -1,8 +1,7 @@
-use Rattle.std.proofs.Common.{◌≡◌, ◌≤◌, ◌<◌, ◌∙◌, false, true, Bool, ap, sym, subst, [], ◌∷◌, ℕ, List, Ok, length, take, rules, arith, refl, length-take-le}
+use Rattle.std.proofs.Common.{◌≡◌, ◌≤◌, ◌<◌, ◌∙◌, false, true, ap, sym, Ok, length, take, rules, arith, refl, length-take-le}
 use Rattle.std.proofs.lemmas.Grind.{common_steps}
 use Rattle.futures.specs.declared.task.Poll.TheVariants.{Ready}
-use Rattle.lite_io_base.specs.Marks.{Mark, bytes, moved, read_marks}
-use Rattle.lite_io.specs.Chain.{NoEnd}
+use Rattle.lite_io_base.specs.Marks.{read_marks}
 use Rattle.lite_io.specs.declared.chain.Chain.{Chain}
 use Rattle.lite_io.proofs.Crossing.{crossed, moved_end, went_on}
 use Rattle.lite_io.proofs.Ends.{no_end_moved}

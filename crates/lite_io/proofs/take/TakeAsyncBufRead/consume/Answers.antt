@@ -1,4 +1,4 @@
-use Rattle.std.proofs.Common.{◌≡◌, ◌≤◌, ◌+◌, ◌-◌, ◌∙◌, [], length, take, drop, refl, sym, ap, subst, arith, append-nil, length-take, length-take-le, take-take}
+use Rattle.std.proofs.Common.{◌≡◌, ◌≤◌, ◌+◌, ◌-◌, ◌∙◌, [], length, take, drop, sym, ap, subst, arith, append-nil, length-take, length-take-le, take-take}
 use Rattle.std.proofs.lemmas.List.{drop-take}
 use Rattle.lite_io_base.specs.Marks.{bytes}
 use Rattle.lite_io.specs.Take.{Fits}

@@ -1,8 +1,8 @@
-use Rattle.std.proofs.Common.{◌≡◌, ◌≤◌, ◌<◌, ◌-◌, ◌++◌, [], ◌∷◌, ℕ, zero, suc, List, Ok, length, take, drop, rules, arith, refl, sym, ◌∙◌, append-nil, length-take-le, subst}
+use Rattle.std.proofs.Common.{◌≡◌, ◌≤◌, ◌<◌, ◌-◌, [], Ok, length, take, drop, rules, arith, sym, ◌∙◌, append-nil, length-take-le, subst}
 use Rattle.std.proofs.lemmas.Grind.{common_steps}
 use Rattle.futures.specs.declared.task.Poll.TheVariants.{Ready}
 use Rattle.lite_io_base.specs.Laws.Runs.{read_marks_room}
-use Rattle.lite_io_base.specs.Marks.{Mark, bytes, moved}
+use Rattle.lite_io_base.specs.Marks.{moved}
 use Rattle.lite_io.specs.Take.{Fits}
 use Rattle.lite_io.proofs.Limits.{fits_moved}
 use Rattle.lite_io.proofs.take.TakeAsyncRead.poll_read.Goals as goal
