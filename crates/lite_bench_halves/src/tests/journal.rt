@@ -166,17 +166,14 @@ fn a_vectored_call_is_one_entry_of_the_first_nonempty_buffer(rt: HostRuntime) ->
 fn a_refused_entry_changes_nothing(rt: HostRuntime) -> Result<(), Fail> {
     let mut journal = journal_of_chunk(rt.alloc())?;
     let mut buf = [0u8];
-    let mut entries = 0;
-    for byte in *b"xy" {
+    for (entries, byte) in b"xy".iter().enumerate() {
         let mut answer = read(&rt, &mut journal, &mut buf)?;
         if answer == Poll::Ready(Err(ErrorKind::OutOfMemory)) {
             assert_eq!(rt; journal.entries().len(), entries);
             answer = read(&rt, &mut journal, &mut buf)?;
         }
-        entries += 1;
-        assert_eq!(rt; answer, Poll::Ready(Ok(1)));
-        assert_eq!(rt; buf[0], byte);
-        assert_eq!(rt; journal.entries().len(), entries);
+        assert_eq!(rt; (answer, buf[0]), (Poll::Ready(Ok(1)), *byte));
+        assert_eq!(rt; journal.entries().len(), entries + 1);
     }
     Ok(())
 }
