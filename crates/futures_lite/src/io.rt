@@ -5,8 +5,8 @@ ghost use Rattle.lite_io.specs.Take.{inner_of, limit_of};
 
 pub use lite_bridge::{BytesLike, Cursor};
 pub use lite_halves::{
-    Answer, Blanks, Call, Entry, Journal, JournalReadHalf, JournalWriteHalf, ReadHalf, WriteHalf,
-    history, split, split_journalled,
+    Blanks, JournalReadHalf, JournalWriteHalf, ReadHalf, WriteHalf, history, split,
+    split_journalled,
 };
 use lite_io::make;
 pub use lite_io::make::{empty, repeat};
@@ -15,6 +15,7 @@ pub use lite_io_base::{
     AsyncBufRead, AsyncRead, AsyncSeek, AsyncWrite, BoxedReader, BoxedWriter, CountedRead, Error,
     ErrorKind, IoSlice, IoSliceMut, Result, SeekFrom, Tale,
 };
+pub use lite_journal::{Answer, Call, Entry, Journal};
 
 /// What every reader can be combined by. Ported from `src/io.rs`, `AsyncReadExt`.
 pub trait AsyncReadExt: AsyncRead {

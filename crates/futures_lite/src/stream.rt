@@ -1,9 +1,10 @@
 //! Streams: sources, and what every stream can be adapted by.
 ghost use Rattle.std.specs.Prelude.{◌≡◌, ◌<◌, None, Some, false};
-ghost use Rattle.lite_stream.specs.declared.chain.Part.TheVariants.{First};
+ghost use Rattle.lite_flatten.specs.declared.chain.Part.TheVariants.{First};
 
 use lite_base::Future;
 pub use lite_base::{Counted, Stream};
+pub use lite_flatten::{Chain, FlatMap, Flatten, Then};
 pub use lite_source::make::{
     empty, iter, once, once_future, pending, poll_fn, repeat, repeat_with, script, try_unfold,
     unfold,
@@ -13,8 +14,8 @@ pub use lite_source::{
 };
 use lite_stream::make;
 pub use lite_stream::{
-    Chain, Cloned, Copied, Enumerate, Filter, FilterMap, FlatMap, Flatten, Fuse, Inspect, Map,
-    MapWhile, Scan, Skip, SkipWhile, StepBy, Take, TakeWhile, Then,
+    Cloned, Copied, Enumerate, Filter, FilterMap, Fuse, Inspect, Map, MapWhile, Scan, Skip,
+    SkipWhile, StepBy, Take, TakeWhile,
 };
 
 /// What every stream can be adapted by. Ported from `src/stream.rs`, `StreamExt`.
@@ -49,7 +50,7 @@ pub trait StreamExt: Stream {
         F: FnMut(Self::Item) -> U,
         ensures { result ≡ record { stream = record { stream = self; f = f }; inner_stream = None } }
     {
-        make::flat_map(self, f)
+        lite_flatten::make::flat_map(self, f)
     }
 
     /// The stream of the items of the streams that are the items, one after the other. A poll goes on over inner
@@ -60,7 +61,7 @@ pub trait StreamExt: Stream {
         Self::Item: Stream,
         ensures { result ≡ record { stream = self; inner_stream = None } }
     {
-        make::flatten(self)
+        lite_flatten::make::flatten(self)
     }
 
     /// The stream of the values of the futures that `f` makes of the items. A future is polled in the poll that made
@@ -72,7 +73,7 @@ pub trait StreamExt: Stream {
         Fut: Future,
         ensures { result ≡ record { stream = self; future = None; f = f } }
     {
-        make::then(self, f)
+        lite_flatten::make::then(self, f)
     }
 
     /// The stream of what `f` answers to the items, without each `None`. A poll goes on over rejected items, so the
@@ -154,7 +155,7 @@ pub trait StreamExt: Stream {
         U: Stream<Item = Self::Item>,
         ensures { result ≡ record { first = self; second = other; part = First } }
     {
-        make::chain(self, other)
+        lite_flatten::make::chain(self, other)
     }
 
     /// The stream of clones of what the items refer to, in which a refused clone is an `Err` item. A clone has to

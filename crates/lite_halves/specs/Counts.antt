@@ -9,11 +9,11 @@ use Rattle.futures.specs.declared.task.Poll.{Poll}
 use Rattle.futures.specs.declared.task.Poll.TheVariants.{Ready, Pending}
 use Rattle.lite_io_base.specs.Marks.{Mark}
 use Rattle.lite_io_base.specs.Runs.{Runs}
-use Rattle.lite_halves.specs.declared.entry.Call.{Call}
-use Rattle.lite_halves.specs.declared.entry.Call.TheVariants.{Read, Write, Flush, Close}
-use Rattle.lite_halves.specs.Drive.{Answered, pairs}
-use Rattle.lite_halves.specs.Entry.{AllFit, Asked, Note, Told}
-use Rattle.lite_halves.specs.Journal.{Adds, Chronicle}
+use Rattle.lite_journal.specs.declared.entry.Call.{Call}
+use Rattle.lite_journal.specs.declared.entry.Call.TheVariants.{Read, Write, Flush, Close}
+use Rattle.lite_journal.specs.Drive.{Answered, pairs}
+use Rattle.lite_journal.specs.Entry.{AllFit, Asked, Note, Told}
+use Rattle.lite_journal.specs.Journal.{Adds, Chronicle}
 
 abbrev pub one_if_read : Asked → ℕ
 one_if_read (Asked.room n) = 1

@@ -1,14 +1,10 @@
-pub mod Chain
 pub mod Counting
 pub mod Cutting
-pub mod FlatMap
-pub mod Flatten
 pub mod Leaving
 pub mod Lingering
 pub mod Lower
 pub mod Map
 pub mod Pointwise
 pub mod Take
-pub mod Then
 pub mod Through
 pub mod Turns

@@ -1,15 +1,11 @@
 pub mod Calling
-pub mod Chain
 pub mod Cloned
 pub mod Copied
 pub mod Cutting
 pub mod Enumerate
 pub mod Filter
 pub mod FilterMap
-pub mod FlatMap
-pub mod Flatten
 pub mod Fuse
-pub mod HeldLeaves
 pub mod Inspect
 pub mod Laws
 pub mod Leaving
@@ -23,5 +19,4 @@ pub mod SkipWhile
 pub mod StepBy
 pub mod Take
 pub mod TakeWhile
-pub mod Then
 pub mod Through

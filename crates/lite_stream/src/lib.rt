@@ -1,14 +1,11 @@
-//! Adapters of one stream, and `chain` of two.
+//! Adapters of one stream.
 #![tactic(auto)]
 
-mod chain;
 mod cloned;
 mod copied;
 mod enumerate;
 mod filter;
 mod filter_map;
-mod flat_map;
-mod flatten;
 mod fuse;
 mod inspect;
 pub mod make;
@@ -20,16 +17,12 @@ mod skip_while;
 mod step_by;
 mod take;
 mod take_while;
-mod then;
 
-pub use chain::Chain;
 pub use cloned::Cloned;
 pub use copied::Copied;
 pub use enumerate::Enumerate;
 pub use filter::Filter;
 pub use filter_map::FilterMap;
-pub use flat_map::FlatMap;
-pub use flatten::Flatten;
 pub use fuse::Fuse;
 pub use inspect::Inspect;
 pub use map::Map;
@@ -40,4 +33,3 @@ pub use skip_while::SkipWhile;
 pub use step_by::StepBy;
 pub use take::Take;
 pub use take_while::TakeWhile;
-pub use then::Then;

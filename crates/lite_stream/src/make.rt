@@ -1,15 +1,11 @@
 //! What makes the adapters.
 ghost use Rattle.std.specs.Prelude.{◌≡◌, ◌<◌, None, Some, false};
-ghost use Rattle.lite_stream.specs.declared.chain.Part.TheVariants.{First};
 
-use crate::chain::{Chain, Part};
 use crate::cloned::Cloned;
 use crate::copied::Copied;
 use crate::enumerate::Enumerate;
 use crate::filter::Filter;
 use crate::filter_map::FilterMap;
-use crate::flat_map::FlatMap;
-use crate::flatten::Flatten;
 use crate::fuse::Fuse;
 use crate::inspect::Inspect;
 use crate::map::Map;
@@ -20,7 +16,6 @@ use crate::skip_while::SkipWhile;
 use crate::step_by::StepBy;
 use crate::take::Take;
 use crate::take_while::TakeWhile;
-use crate::then::Then;
 use lite_base::Stream;
 
 /// The stream of what `f` answers to each item of `stream`.
@@ -49,17 +44,6 @@ pub fn inspect<S, F>(stream: S, f: F) -> Inspect<S, F>
     ensures { result ≡ record { stream = stream; f = f } }
 {
     Inspect { stream, f }
-}
-
-/// The stream of the items of `first`, and after its end those of `second`.
-pub fn chain<S, U>(first: S, second: U) -> Chain<S, U>
-    ensures { result ≡ record { first = first; second = second; part = First } }
-{
-    Chain {
-        first,
-        second,
-        part: Part::First,
-    }
 }
 
 /// The stream of clones of what the items of `stream` refer to. A clone has to equal its original.
@@ -149,35 +133,4 @@ pub fn step_by<S>(stream: S, step: usize) -> StepBy<S>
     ensures { result ≡ record { stream = stream; step = step; i = 0 } }
 {
     StepBy { stream, step, i: 0 }
-}
-
-/// The stream of the values of the futures that `f` makes of the items of `stream`.
-pub fn then<S, F, Fut>(stream: S, f: F) -> Then<S, F, Fut>
-    ensures { result ≡ record { stream = stream; future = None; f = f } }
-{
-    Then {
-        stream,
-        future: None,
-        f,
-    }
-}
-
-/// The stream of the items of the streams that `stream` gives, one after the other.
-pub fn flatten<S: Stream>(stream: S) -> Flatten<S>
-    ensures { result ≡ record { stream = stream; inner_stream = None } }
-{
-    Flatten {
-        stream,
-        inner_stream: None,
-    }
-}
-
-/// The stream of the items of the streams that `f` makes of the items of `stream`, one after the other.
-pub fn flat_map<S, U, F>(stream: S, f: F) -> FlatMap<S, U, F>
-    ensures { result ≡ record { stream = record { stream = stream; f = f }; inner_stream = None } }
-{
-    FlatMap {
-        stream: map(stream, f),
-        inner_stream: None,
-    }
 }

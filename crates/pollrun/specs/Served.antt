@@ -9,12 +9,12 @@ use Rattle.lite_stream.specs.Calling.{Accepts}
 use Rattle.lite_stream.specs.Leaving.{Leaves}
 use Rattle.pollrun.specs.Request.{Asks}
 use Rattle.pollrun.specs.Spelling.{spelled_list}
-use Rattle.lite_stream.specs.Chain.{Joins}
+use Rattle.lite_flatten.specs.Chain.{Joins}
 use Rattle.lite_stream.specs.Cutting.{Cuts}
 use Rattle.lite_stream.specs.StepBy.{Steps}
 use Rattle.lite_stream.specs.Take.{is_none_left, left_after}
-use Rattle.lite_stream.specs.declared.chain.Part.{Part}
-use Rattle.lite_stream.specs.declared.chain.Part.TheVariants.{First}
+use Rattle.lite_flatten.specs.declared.chain.Part.{Part}
+use Rattle.lite_flatten.specs.declared.chain.Part.TheVariants.{First}
 use Rattle.pollrun.specs.declared.request.Single.{Single}
 use Rattle.pollrun.specs.declared.request.Single.TheVariants.{Plain, Double, Evens, Take2, Step2}
 use Rattle.pollrun.specs.declared.request.Paired.{Paired}

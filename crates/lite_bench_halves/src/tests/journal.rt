@@ -1,9 +1,10 @@
-use super::{are, cursor_on, finishes, got, journal_on, read, write};
+use super::{are, by_kind, cursor_on, finishes, got, journal_on, read, write};
 use futures::task::{Doorbell, Solo};
 use futures_lite::Poll;
 use futures_lite::io::{
     Answer, AsyncRead, AsyncWrite, Call, ErrorKind, IoSlice, IoSliceMut, Journal,
 };
+use lite_journal::{buffer_answer, done_answer, write_answer};
 use lite_mock::{Marks, Order, Takes};
 use std::alloc::{AllocError, Global};
 use std::test::Fail;
@@ -158,6 +159,42 @@ fn a_vectored_call_is_one_entry_of_the_first_nonempty_buffer(rt: HostRuntime) ->
             &[got(alloc, b"x")?, Answer::Wrote(1)]
         )
     );
+    Ok(())
+}
+
+#[test]
+fn a_step_answers_as_the_stream_does(rt: HostRuntime) -> Result<(), Fail> {
+    let alloc = rt.alloc();
+    let mut takes = Takes::new(alloc);
+    takes.order(Order::Fail(ErrorKind::OutOfMemory))?;
+    let (Ok(mut writing), mut reading) = (Journal::new(alloc, takes), journal_of_chunk(alloc)?)
+    else {
+        return Err(Fail::from("memory"));
+    };
+    let solo = Solo::new(&rt, Doorbell::spinning())?;
+    let mut cx = solo.begin();
+    let mut buf = [0u8];
+    let read = reading.step_read(&mut cx, &mut buf);
+    let failed = writing.step_write(&mut cx, b"ab");
+    let flushed = writing.step_flush(&mut cx);
+    let closed = writing.step_close(&mut cx);
+    cx.cancel();
+    let (Some(read), Some(failed), Some(flushed), Some(closed)) = (read, failed, flushed, closed)
+    else {
+        return Err(Fail::from("memory"));
+    };
+    assert_eq!(rt;
+        write_answer(&failed),
+        Answer::Fault(ErrorKind::OutOfMemory)
+    );
+    assert_eq!(rt; by_kind(failed), Poll::Ready(Err(ErrorKind::OutOfMemory)));
+    assert_eq!(rt; done_answer(&flushed), Answer::Done);
+    assert_eq!(rt; done_answer(&closed), Answer::Done);
+    assert_eq!(rt; writing.entries().len(), 3);
+    assert_eq!(rt; by_kind(read), Poll::Ready(Ok(1)));
+    assert_eq!(rt; (buf[0], reading.entries().len()), (b'x', 1));
+    let room = Vec::from_slice(alloc, b"xy")?;
+    assert_eq!(rt; buffer_answer(&Poll::Ready(Ok(1)), room), got(alloc, b"x")?);
     Ok(())
 }
 

@@ -1,5 +1,5 @@
 -- Laws of what is counted.
-use Rattle.std.proofs.Common.{◌≡◌, ◌∙◌, ℕ, List, [], ◌∷◌, ◌++◌, length, take, refl, sym, arith, add-zero, length-take-le}
+use Rattle.std.proofs.Common.{◌≡◌, ◌∙◌, ℕ, ◌+◌, List, [], ◌∷◌, ◌++◌, length, take, refl, sym, arith, add-zero, length-take-le}
 use Rattle.std.specs.Prelude.{Result, Ok, Err}
 use Rattle.std.proofs.lemmas.List.Sums.{sum_by-append, sum_by-cons}
 use Rattle.std.specs.declared.io.Error.{Error}
@@ -7,8 +7,8 @@ use Rattle.futures.specs.declared.task.Poll.{Poll}
 use Rattle.futures.specs.declared.task.Poll.TheVariants.{Ready, Pending}
 use Rattle.lite_io_base.specs.Marks.{Mark, bytes, done_marks, moved, read_marks, write_marks}
 use Rattle.lite_io_base.specs.Laws.Runs.{Within}
-use Rattle.lite_halves.specs.Counts.{Counted, Counts, bytes_in, bytes_of, count_of, moved_by}
-use Rattle.lite_halves.specs.Entry.{told_of_done, told_of_read, told_of_write}
+use Rattle.lite_halves.specs.Counts.{Counted, Counts, bytes_in, bytes_of, count_moved, count_of, moved_by}
+use Rattle.lite_journal.specs.Entry.{Told, told_of_done, told_of_read, told_of_write}
 
 pub counts_rest : (c : Counted) → Counts c [] c
 counts_rest c = (sym (add-zero c.bytes), omega arith)
@@ -61,3 +61,7 @@ pub done_moved : (r : Poll (Result (Unit {0}) Error)) → moved_by (told_of_done
 done_moved Pending = refl
 done_moved (Ready (Err e)) = refl
 done_moved (Ready (Ok u)) = refl
+
+-- with one answer more
+pub count_more : (answers : List Told) (t : Told) → count_moved (answers ++ t ∷ []) ≡ count_moved answers + moved_by t
+count_more answers t = omega (arith, sum_by-append moved_by answers (t ∷ []))

@@ -3,14 +3,14 @@ ghost use Rattle.std.specs.Prelude.{◌≡◌, ◌≤◌, ◌<◌, ◌+◌, ◌%
 ghost use Rattle.futures.specs.Poll.{IfReady};
 ghost use Rattle.futures.specs.Task.{Keeps};
 ghost use Rattle.lite_halves.specs.Counts.{AddsInside, bytes_with, calls_with, count_of, got_in, reads_in, taken_in, writes_in};
-ghost use Rattle.lite_halves.specs.Entry.{close_note, flush_note, read_note, write_note};
-ghost use Rattle.lite_halves.specs.Journal.{IsSound, Replays};
+ghost use Rattle.lite_journal.specs.Entry.{close_note, flush_note, read_note, write_note};
+ghost use Rattle.lite_journal.specs.Journal.{IsSound, Replays};
 
 use super::Blanks;
 use super::tally::{book_got, book_taken, count_reads, count_writes};
-use crate::journal::Journal;
 use lite_base::{Context, Poll};
 use lite_io_base::{AsyncRead, AsyncWrite, Tale};
+use lite_journal::Journal;
 use std::alloc::AllocError;
 use std::io;
 use std::sync::ledger::{Book, Ledger, Share};

@@ -4,14 +4,13 @@ ghost use Rattle.futures.specs.Poll.{IfReady, OnPending};
 ghost use Rattle.futures.specs.Task.{Holds, Keeps, Lasting};
 ghost use Rattle.lite_io_base.specs.Marks.{read_marks};
 ghost use Rattle.lite_halves.specs.Counts.{Counts, HalfDrives, IsOutOfMemory, count_of, moved_by};
-ghost use Rattle.lite_halves.specs.Entry.{Asked, Fits, told_in, told_of};
+ghost use Rattle.lite_journal.specs.Entry.{Asked, Fits, told_in, told_of};
 ghost use Rattle.lite_halves.specs.Laws.Counts.{counts_follow, counts_rest};
 
 use super::locked::{Locked, count};
-use crate::answers::buffer_answer;
-use crate::entry::Answer;
 use lite_base::{Context, Poll};
 use lite_io_base::{AsyncRead, Tale};
+use lite_journal::{Answer, buffer_answer};
 use std::alloc::{AllocError, AllocGlobal};
 use std::io;
 use std::io::ErrorKind;

@@ -5,14 +5,13 @@ ghost use Rattle.futures.specs.Task.{Holds, Keeps, Lasting};
 ghost use Rattle.lite_io_base.specs.Marks.{done_marks, write_marks};
 ghost use Rattle.lite_io_base.specs.Marks.Mark.{closed, flushed};
 ghost use Rattle.lite_halves.specs.Counts.{AllWrites, Counts, HalfDrives, IsOutOfMemory, IsWrite, count_of, moved_by};
-ghost use Rattle.lite_halves.specs.Entry.{Fits, asked_in, asked_of, told_in, told_of};
+ghost use Rattle.lite_journal.specs.Entry.{Fits, asked_in, asked_of, told_in, told_of};
 ghost use Rattle.lite_halves.specs.Laws.Counts.{counts_follow, counts_rest};
 
 use super::locked::{Locked, count};
-use crate::answers::{done_answer, write_answer};
-use crate::entry::{Answer, Call};
 use lite_base::{Context, Poll};
 use lite_io_base::{AsyncWrite, Tale};
+use lite_journal::{Answer, Call, done_answer, write_answer};
 use std::alloc::AllocError;
 use std::io;
 use std::io::ErrorKind;

@@ -1,9 +1,9 @@
 use Rattle.std.proofs.Common.{ℤ, List}
 use Rattle.lite_base.specs.Answers.{Answer}
 use Rattle.lite_source.specs.Script.{Gives}
-use Rattle.lite_stream.specs.Chain.{Joins}
-use Rattle.lite_stream.specs.declared.chain.Part.{Part}
-use Rattle.lite_stream.specs.declared.chain.Part.TheVariants.{First}
+use Rattle.lite_flatten.specs.Chain.{Joins}
+use Rattle.lite_flatten.specs.declared.chain.Part.{Part}
+use Rattle.lite_flatten.specs.declared.chain.Part.TheVariants.{First}
 use Rattle.pollrun.proofs.Piped.{on_ok}
 use Rattle.pollrun.specs.Served.{Joined}
 use Rattle.pollrun.specs.declared.request.Paired.{Paired}

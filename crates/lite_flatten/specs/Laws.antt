@@ -1,0 +1,4 @@
+pub mod Chain
+pub mod FlatMap
+pub mod Flatten
+pub mod Then

@@ -1,0 +1,242 @@
+-- Laws of a stream of streams that is flattened.
+use Rattle.std.specs.Prelude.{IfSome, replicate}
+use Rattle.std.proofs.Common.{◌≡◌, ◌∙◌, ℕ, zero, suc, ◌+◌, ◌⊎◌, List, [], ◌∷◌, ◌++◌, length, Option, Some, None, inl, inr, refl, ap, sym, subst, arith, length-append, append_assoc}
+use Rattle.std.proofs.lemmas.List.{length-replicate}
+use Rattle.futures.specs.declared.task.Poll.TheVariants.{Ready, Pending}
+use Rattle.lite_base.specs.Answers.{Answer, end, item, items}
+use Rattle.lite_base.specs.Chain.{Goes, Goes-back, Next}
+use Rattle.lite_base.specs.Ends.{Ends, Ends-lex, Ends-map, Ends-rests, Lex, Rests}
+use Rattle.lite_base.specs.Falling.{AtMost-both, Below-after, Below-first, Below-then, ItemRun, Lowers-at_most, Lowers-below}
+use Rattle.lite_base.specs.Rank.{AtMost, Below, Lowers}
+use Rattle.lite_flatten.specs.Flatten.{EachInner, Endless, Flat, Flattening, Flattens, FlatTurn, FlatTurns, HeldOn, Replaced, inner_rank}
+use Rattle.lite_stream.specs.Laws.Lower.{at_most_below, lowers_after, lowers_at_most}
+use Rattle.lite_stream.specs.Laws.Through.{Following}
+
+module _ {A : Type 0} where
+  endless_both : (l m : List (Answer A)) → Endless l → Endless m → Endless (l ++ m)
+  endless_both [] m h k = k
+  endless_both (Pending ∷ l) m h k = ap (λ n. Pending ∷ n) (endless_both l m (cc h) k)
+  endless_both (Ready None ∷ l) m h k = absurd (cc h)
+  endless_both (Ready (Some x) ∷ l) m h k = ap (λ n. item x ∷ n) (endless_both l m (cc h) k)
+
+  -- what follows among items are items
+  items_after : (before after : List (Answer A)) (l : List A) → items l ≡ before ++ after → (m : List A) × (after ≡ items m)
+  items_after [] after l e = (l, sym e)
+  items_after (a ∷ before) after [] e = absurd (cc e)
+  items_after (a ∷ before) after (x ∷ l) e = items_after before after l (cc e)
+
+module _ {B A : Type 0} (run : B → List (Answer A) → B → Type 0) (stays : (x y : B) → run x [] y → y ≡ x) (follows : (x y z : B) (l m : List (Answer A)) → run x l y → run y m z → run x (l ++ m) z) where
+  -- the list of a stream may be cut while it is held
+  begun : (b c : B) (i j : List (Answer B)) (l m : List (Answer A)) (h : Option B) → i ≡ [] → Endless l → run b l c → HeldOn run c j m h ⊎ Replaced run c (Flat run j) m h → HeldOn run b (i ++ j) (l ++ m) h ⊎ Replaced run b (Flat run (i ++ j)) (l ++ m) h
+  begun b c i j l m h none endless ran (inl k) =
+      inl (rw none k.0, endless_both l m endless k.1, k.2, follows b c k.2 l m ran k.3, k.4)
+  begun b c i j l m h none endless ran (inr k) =
+      inr (
+        l ++ k.0,
+        k.1,
+        k.2,
+        ap (λ n. l ++ n) k.3 ∙ sym (append_assoc l k.0 (k.1 ∷ k.2)),
+        endless_both l k.0 endless k.4,
+        k.5,
+        subst (λ n. run b n k.5) (sym (append_assoc l k.0 (end ∷ []))) (follows b c k.5 l (k.0 ++ end ∷ []) ran k.6),
+        rw none k.7,
+      )
+
+  goes_on : (b : B) (g h : Option B) (i j : List (Answer B)) (l m : List (Answer A))
+      → ((a : Answer A) (rest : List (Answer A)) → Flat run i (a ∷ rest) g → Flat run (i ++ j) (a ∷ rest ++ m) h)
+      → HeldOn run b i l g ⊎ Replaced run b (Flat run i) l g → Flattening run g j m h → HeldOn run b (i ++ j) (l ++ m) h ⊎ Replaced run b (Flat run (i ++ j)) (l ++ m) h
+  goes_on b g h i j l m rest (inl k) d = begun b k.2 i j l m h k.0 k.1 k.3 (subst (λ o. Flattening run o j m h) k.4 d)
+  goes_on b g h i j l m rest (inr k) d =
+      inr (k.0, k.1, k.2 ++ m, ap (λ n. n ++ m) k.3 ∙ append_assoc k.0 (k.1 ∷ k.2) m, k.4, k.5, k.6, rest k.1 k.2 k.7)
+
+  flat_follow : (g h : Option B) (i j : List (Answer B)) (l m : List (Answer A)) → Flat run i l g → Flattening run g j m h → Flat run (i ++ j) (l ++ m) h
+  flat_follow g h [] j [] m c d = subst (λ o. Flattening run o j m h) c d
+  flat_follow g h [] j (a ∷ l) m c d = absurd c
+  flat_follow g h (a ∷ i) j [] m c d = absurd c
+  flat_follow g h (Pending ∷ i) j (a ∷ l) m c d = (c.0, flat_follow g h i j l m c.1 d)
+  flat_follow g h (Ready None ∷ i) j (a ∷ l) m c d = (c.0, flat_follow g h i j l m c.1 d)
+  flat_follow g h (Ready (Some b) ∷ i) j (a ∷ l) m c d = goes_on b g h i j (a ∷ l) m (λ x rest k. flat_follow g h i j (x ∷ rest) m k d) c d
+
+  flattening_follow : (f g h : Option B) (i j : List (Answer B)) (l m : List (Answer A)) → Flattening run f i l g → Flattening run g j m h → Flattening run f (i ++ j) (l ++ m) h
+  flattening_follow None g h i j l m c d = flat_follow g h i j l m c d
+  flattening_follow (Some b) g h i j l m c d = goes_on b g h i j l m (λ x rest k. flat_follow g h i j (x ∷ rest) m k d) c d
+
+  flattening_empty : (f g : Option B) (i : List (Answer B)) → Flattening run f i [] g → (i ≡ []) × (g ≡ f)
+  flattening_empty None g [] c = (refl, c)
+  flattening_empty None g (a ∷ i) c = absurd c
+  flattening_empty (Some b) g i (inl k) = (k.0, k.4 ∙ ap Some (stays b k.2 k.3))
+  flattening_empty (Some b) g i (inr k) = absurd (nothing k.0 k.1 k.2 k.3)
+    where
+      nothing : (own : List (Answer A)) (a : Answer A) (rest : List (Answer A)) → [] ≡ own ++ a ∷ rest → ⊥
+      nothing [] a rest e = cc e
+      nothing (o ∷ own) a rest e = cc e
+
+  pub flattening_following : ((x : B) → run x [] x) → Following (Flattening run)
+  flattening_following rests = record { starts = starts; empty = flattening_empty; joins = flattening_follow }
+    where
+      starts : (f : Option B) → Flattening run f [] [] f
+      starts None = refl
+      starts (Some b) = inl (refl, refl, b, rests b, refl)
+
+  module _ {S : Type 0} (outer : S → List (Answer B) → S → Type 0) (rests : (x : B) → run x [] x) (outer_rests : (x : S) → outer x [] x) (outer_follows : (x y z : S) (l m : List (Answer B)) → outer x l y → outer y m z → outer x (l ++ m) z) where
+    -- the last turn of a poll
+    turn_answers : (s t : S) (held last : Option B) (a : Answer A) → FlatTurn run outer s held (Some a) t last → Flattens run outer s held (a ∷ []) t last
+    turn_answers s t None last Pending h = record { ins = Pending ∷ []; came = h.0; turned = (refl, h.1) }
+    turn_answers s t None last (Ready None) h = record { ins = end ∷ []; came = h.0; turned = (refl, h.1) }
+    turn_answers s t None last (Ready (Some x)) h = absurd h
+    turn_answers s t (Some b) last a h = record { ins = []; came = subst (λ k. outer s [] k) (sym h.0) (outer_rests s); turned = inl (refl, h.1, h.2, h.3, h.4) }
+
+    -- a turn before others
+    turn_before : (s t u : S) (held next last : Option B) (a : Answer A) → FlatTurn run outer s held None t next → Flattens run outer t next (a ∷ []) u last → Flattens run outer s held (a ∷ []) u last
+    turn_before s t u None next last a h m =
+        record { ins = item h.0 ∷ m.ins; came = outer_follows s t u (item h.0 ∷ []) m.ins h.1 m.came; turned = subst (λ o. Flattening run o m.ins (a ∷ []) last) h.2 m.turned }
+    turn_before s t u (Some b) next last a h m =
+        record {
+          ins = m.ins;
+          came = subst (λ k. outer k m.ins u) h.0 m.came;
+          turned = inr ([], a, [], refl, refl, h.2, h.3, subst (λ o. Flattening run o m.ins (a ∷ []) last) h.1 m.turned);
+        }
+
+    -- the turns of a poll of an adapter, which has an outer stream and may hold an inner one
+    pub flat_answer : {T : Type 0} (can_turn : T → Type 0) (source : T → S) (held : T → Option B) (x y z : T) (a : Answer A)
+        → Goes (Next (FlatTurns run outer can_turn source held)) x y → FlatTurns run outer can_turn source held y (Some a) z → Flattens run outer (source x) (held x) (a ∷ []) (source z) (held z)
+    flat_answer can_turn source held x y z a goes last =
+        Goes-back (λ m. Flattens run outer (source m) (held m) (a ∷ []) (source z) (held z))
+        (λ v w t. turn_before (source v) (source w) (source z) (held v) (held w) (held z) a t.1)
+        x y goes (turn_answers (source y) (source z) (held y) (held z) a last.1)
+
+-- what holds of each inner stream that may come holds of each that may come later
+pub to_come : {S B : Type 0} {outer : S → List (Answer B) → S → Type 0} {Fact : B → Type 0} → ((x y z : S) (l m : List (Answer B)) → outer x l y → outer y m z → outer x (l ++ m) z)
+    → (s t : S) (held : Option B) (i : List (Answer B)) → EachInner outer Fact s held → outer s i t → (u : S) (before after : List (Answer B)) (b : B) → outer t (before ++ item b ∷ after) u → Fact b
+to_come {outer = outer} follows s t held i each came u before after b h =
+    each.1 u (i ++ before) after b (subst (λ k. outer s k u) (sym (append_assoc i before (item b ∷ after))) (follows s t u i (before ++ item b ∷ after) came h))
+
+module _ {S B A : Type 0} (run : B → List (Answer A) → B → Type 0) (outer : S → List (Answer B) → S → Type 0) where
+  -- no inner stream is asked twice where it does not answer
+  abbrev Asked : B → B → Type 0
+  Asked b c = ⊥
+
+  turn_step : (s t : S) (held last : Option B) → FlatTurn run outer s held None t last → Lex (ItemRun outer) (Rests Asked) (s, held) (t, last)
+  turn_step s t None last h = inl (h.0, [], h.1)
+  turn_step s t (Some b) last h = inr (h.0, subst (Rests Asked (Some b)) (sym h.1) tt)
+
+  -- no chain of turns that go on is endless, if no chain of items of the outer stream is
+  pub flat_ends : {T : Type 0} (can_turn : T → Type 0) (source : T → S) (held : T → Option B) (x : T) → Ends (ItemRun outer) (source x) → Ends (Next (FlatTurns run outer can_turn source held)) x
+  flat_ends can_turn source held x h =
+      Ends-map (λ m. (source m, held m)) (λ m n t. turn_step (source m) (source n) (held m) (held n) t.1) x
+      (Ends-lex (ItemRun outer) (Rests Asked) (Ends-rests (λ b. Ends.ends (λ c k. absurd k))) (source x) h (held x))
+
+  module _ (Fact : B → Type 0) (kept : (b c : B) (l : List (Answer A)) → Fact b → run b l c → Fact c) where
+    last_has : (last : Option B) (i : List (Answer B)) (l : List (Answer A)) → ((before after : List (Answer B)) (b : B) → i ≡ before ++ item b ∷ after → Fact b) → Flat run i l last → IfSome last Fact
+    last_has last [] [] come h = rw h tt
+    last_has last [] (a ∷ l) come h = absurd h
+    last_has last (a ∷ i) [] come h = absurd h
+    last_has last (Pending ∷ i) (a ∷ l) come h = last_has last i l (λ before after b e. come (Pending ∷ before) after b (ap (λ k. Pending ∷ k) e)) h.1
+    last_has last (Ready None ∷ i) (a ∷ l) come h = last_has last i l (λ before after b e. come (end ∷ before) after b (ap (λ k. end ∷ k) e)) h.1
+    last_has last (Ready (Some b) ∷ i) (a ∷ l) come (inl h) = rw h.4 (kept b h.2 (a ∷ l) (come [] i b refl) h.3)
+    last_has last (Ready (Some b) ∷ i) (a ∷ l) come (inr h) = last_has last i (h.1 ∷ h.2) (λ before after c e. come (item b ∷ before) after c (ap (λ k. item b ∷ k) e)) h.7
+
+    held_has : (held last : Option B) (i : List (Answer B)) (l : List (Answer A)) → IfSome held Fact → ((before after : List (Answer B)) (b : B) → i ≡ before ++ item b ∷ after → Fact b) → Flattening run held i l last → IfSome last Fact
+    held_has None last i l has come h = last_has last i l come h
+    held_has (Some b) last i l has come (inl h) = rw h.4 (kept b h.2 l has h.3)
+    held_has (Some b) last i l has come (inr h) = last_has last i (h.1 ∷ h.2) come h.7
+
+    pub each_inner_on : ((x y z : S) (l m : List (Answer B)) → outer x l y → outer y m z → outer x (l ++ m) z)
+        → (s t : S) (held last : Option B) (l : List (Answer A)) → EachInner outer Fact s held → Flattens run outer s held l t last → EachInner outer Fact t last
+    each_inner_on follows s t held last l each h =
+        (held_has held last h.ins l each.0 (λ before after b e. each.1 t before after b (subst (λ i. outer s i t) e h.came)) h.turned, to_come follows s t held h.ins each h.came)
+
+-- ranks
+
+none_least : (n : ℕ) (ys : List ℕ) → length ys ≡ n → AtMost (replicate n 0) ys
+none_least zero [] e = inl refl
+none_least zero (y ∷ ys) e = absurd (omega (arith, e))
+none_least (suc n) [] e = absurd (omega (arith, e))
+none_least (suc n) (zero ∷ ys) e = elim (none_least n ys (omega (arith, e))) [ inl d ↦ inl (ap (λ l. 0 ∷ l) d) | inr p ↦ inr (inr (refl, p)) ]
+none_least (suc n) (suc y ∷ ys) e = inr (inl (omega arith, length-replicate n 0 ∙ omega (arith, e)))
+
+module _ {B A : Type 0} (run : B → List (Answer A) → B → Type 0) (n : ℕ) (rank : B → List ℕ) (sized : (b : B) → length (rank b) ≡ n) where
+  pub inner_sized : (held : Option B) → length (inner_rank n rank held) ≡ n
+  inner_sized None = length-replicate n 0
+  inner_sized (Some b) = sized b
+
+  same_size : (g f : Option B) → length (inner_rank n rank g) ≡ length (inner_rank n rank f)
+  same_size g f = inner_sized g ∙ sym (inner_sized f)
+
+  pub flat_sized : (xs : List ℕ) (held : Option B) {m : ℕ} → length xs ≡ m → length (xs ++ inner_rank n rank held) ≡ m + n
+  flat_sized xs held e = length-append xs (inner_rank n rank held) ∙ omega (arith, e, inner_sized held)
+
+  -- where items came out, only items came in
+  came_items : (g : Option B) (i : List (Answer B)) (l : List A) → Flat run i (items l) g → (before : List B) × (i ≡ items before)
+  came_items g [] [] h = ([], refl)
+  came_items g [] (y ∷ l) h = absurd h
+  came_items g (a ∷ i) [] h = absurd h
+  came_items g (Pending ∷ i) (y ∷ l) h = absurd (cc h.0)
+  came_items g (Ready None ∷ i) (y ∷ l) h = absurd (cc h.0)
+  came_items g (Ready (Some b) ∷ i) (y ∷ l) (inl h) = (b ∷ [], ap (λ k. item b ∷ k) h.0)
+  came_items g (Ready (Some b) ∷ i) (y ∷ l) (inr h) =
+      let m = items_after h.0 (h.1 ∷ h.2) (y ∷ l) h.3 in
+      let e = came_items g i m.0 (subst (λ k. Flat run i k g) m.1 h.7) in
+      (b ∷ e.0, ap (λ k. item b ∷ k) e.1)
+
+  outer_falls : (f g : Option B) (i : List (Answer B)) (a : Answer A) (out : List (Answer A)) (l : List A) (xs us : List ℕ)
+      → ((b : B) (before : List B) → i ≡ items (b ∷ before) → Below xs us) → a ∷ out ≡ items l → Flat run i (a ∷ out) g → Below (xs ++ inner_rank n rank g) (us ++ inner_rank n rank f)
+  outer_falls f g i a out l xs us falls e h = at_start (came_items g i l (subst (λ k. Flat run i k g) e h))
+    where
+      at_start : (before : List B) × (i ≡ items before) → Below (xs ++ inner_rank n rank g) (us ++ inner_rank n rank f)
+      at_start ([], d) = absurd (subst (λ k. Flat run k (a ∷ out) g) d h)
+      at_start (b ∷ before, d) = Below-first xs us (inner_rank n rank g) (inner_rank n rank f) (falls b before d) (same_size g f)
+
+  flat_falls : (f g : Option B) (i : List (Answer B)) (y : A) (l : List A) (xs us : List ℕ)
+      → ((b : B) (before : List B) → i ≡ items (b ∷ before) → Below xs us) → (i ≡ [] → xs ≡ us) → IfSome f (λ b. (c : B) → run b (items (y ∷ l)) c → Below (rank c) (rank b))
+      → Flattening run f i (items (y ∷ l)) g → Below (xs ++ inner_rank n rank g) (us ++ inner_rank n rank f)
+  flat_falls None g i y l xs us falls same inner h = outer_falls None g i (item y) (items l) (y ∷ l) xs us falls refl h
+  flat_falls (Some b) g i y l xs us falls same inner (inl h) = rw h.4 (Below-after xs us (rank h.2) (rank b) (inl (same h.0)) (inner h.2 h.3))
+  flat_falls (Some b) g i y l xs us falls same inner (inr h) =
+      let m = items_after h.0 (h.1 ∷ h.2) (y ∷ l) h.3 in outer_falls (Some b) g i h.1 h.2 m.0 xs us falls m.1 h.7
+
+  -- with no inner stream held at first
+  outer_lowers : (g : Option B) (i : List (Answer B)) (l : List (Answer A)) (xs us : List ℕ) → Flat run i l g → Lowers i xs us → Lowers l (xs ++ inner_rank n rank g) (us ++ replicate n 0)
+  outer_lowers g [] [] xs us h low = rw h (AtMost-both xs us (replicate n 0) (replicate n 0) low (inl refl))
+  outer_lowers g [] (a ∷ l) xs us h low = absurd h
+  outer_lowers g (a ∷ i) [] xs us h low = absurd h
+  outer_lowers g (Pending ∷ i) (a ∷ l) xs us h low = rw h.0 (outer_lowers g i l xs us h.1 low)
+  outer_lowers g (Ready None ∷ i) (a ∷ l) xs us h low = rw h.0 (outer_lowers g i l xs us h.1 low)
+  outer_lowers g (Ready (Some b) ∷ i) (a ∷ l) xs us h low =
+      Lowers-below (a ∷ l) (xs ++ inner_rank n rank g) (us ++ replicate n 0) (Below-first xs us (inner_rank n rank g) (replicate n 0) low (same_size g None))
+
+  -- the answers of an inner stream that ends, and what follows them
+  own_lowers : (b c : B) (own rest : List (Answer A)) (xs us : List ℕ) → Lowers (own ++ end ∷ []) (rank c) (rank b) → Lowers rest xs (us ++ replicate n 0) → Lowers (own ++ rest) xs (us ++ rank b)
+  own_lowers b c [] rest xs us low h = lowers_at_most rest xs (us ++ replicate n 0) (us ++ rank b) h (AtMost-both us us (replicate n 0) (rank b) (inl refl) (none_least n (rank b) (sized b)))
+  own_lowers b c (Pending ∷ own) rest xs us low h = own_lowers b c own rest xs us low h
+  own_lowers b c (Ready None ∷ own) rest xs us low h = own_lowers b c own rest xs us low h
+  own_lowers b c (Ready (Some x) ∷ own) rest xs us low h =
+      let gone = at_most_below (replicate n 0) (rank c) (rank b) (none_least n (rank c) (sized c)) low in
+      at_most_below xs (us ++ replicate n 0) (us ++ rank b) (Lowers-at_most rest xs (us ++ replicate n 0) h) (Below-then us (replicate n 0) (rank b) gone)
+
+  flat_lowers : (f g : Option B) (i : List (Answer B)) (l : List (Answer A)) (xs us : List ℕ) → IfSome f (λ b. (c : B) (m : List (Answer A)) → run b m c → Lowers m (rank c) (rank b))
+      → Flattening run f i l g → Lowers i xs us → Lowers l (xs ++ inner_rank n rank g) (us ++ inner_rank n rank f)
+  flat_lowers None g i l xs us inner h low = outer_lowers g i l xs us h low
+  flat_lowers (Some b) g i l xs us inner (inl h) low =
+      rw h.4 (lowers_after l xs us (rank h.2) (rank b) (subst (λ k. Lowers k xs us) h.0 low) (inner h.2 l h.3))
+  flat_lowers (Some b) g i l xs us inner (inr h) low =
+      rw h.3 (own_lowers b h.5 h.0 (h.1 ∷ h.2) (xs ++ inner_rank n rank g) us (inner h.5 (h.0 ++ end ∷ []) h.6) (outer_lowers g i (h.1 ∷ h.2) xs us h.7 low))
+
+  module _ {S : Type 0} (outer : S → List (Answer B) → S → Type 0) (outer_rank : S → List ℕ) where
+    some_has : {Fact More : B → Type 0} (held : Option B) → ((b : B) → Fact b → More b) → IfSome held Fact → IfSome held More
+    some_has None to h = tt
+    some_has (Some b) to h = to b h
+
+    pub flattens_falls : (counts : B → Type 0) (s t : S) (f g : Option B) (y : A) (l : List A)
+        → ((b : B) (before : List B) → outer s (items (b ∷ before)) t → Below (outer_rank t) (outer_rank s)) → (outer s [] t → t ≡ s) → ((b c : B) → counts b → run b (items (y ∷ l)) c → Below (rank c) (rank b))
+        → EachInner outer counts s f → Flattens run outer s f (items (y ∷ l)) t g → Below (outer_rank t ++ inner_rank n rank g) (outer_rank s ++ inner_rank n rank f)
+    flattens_falls counts s t f g y l falls stays inner each h =
+        flat_falls f g h.ins y l (outer_rank t) (outer_rank s)
+        (λ b before e. falls b before (subst (λ i. outer s i t) e h.came)) (λ e. ap outer_rank (stays (subst (λ i. outer s i t) e h.came)))
+        (some_has f (λ b k c. inner b c k) each.0) h.turned
+
+    pub flattens_lowers : (firm : B → Type 0) (s t : S) (f g : Option B) (l : List (Answer A))
+        → ((i : List (Answer B)) → outer s i t → Lowers i (outer_rank t) (outer_rank s)) → ((b c : B) (m : List (Answer A)) → firm b → run b m c → Lowers m (rank c) (rank b))
+        → EachInner outer firm s f → Flattens run outer s f l t g → Lowers l (outer_rank t ++ inner_rank n rank g) (outer_rank s ++ inner_rank n rank f)
+    flattens_lowers firm s t f g l lowers inner each h =
+        flat_lowers f g h.ins l (outer_rank t) (outer_rank s) (some_has f (λ b k c m. inner b c m k) each.0) h.turned (lowers h.ins h.came)

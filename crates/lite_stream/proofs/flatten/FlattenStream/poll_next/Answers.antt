@@ -1,9 +1,0 @@
-use Rattle.lite_stream.specs.Laws.Flatten.{flat_answer}
-use Rattle.lite_stream.proofs.flatten.FlattenStream.poll_next.Goals as goal
-
-pub returns-clause-ran : goal.returns-clause-ran
-returns-clause-ran g c =
-    let turns = c.drive.ensures.turned in
-    let inner = g.met.B.Stream in
-    let outer = g.met.S.Stream in
-    flat_answer g.B.Stream.run inner.stays inner.follows g.S.Stream.run inner.rests outer.rests outer.follows _ (λ m. m.stream) (λ m. m.inner_stream) _ turns.0 _ _ turns.1 turns.2
