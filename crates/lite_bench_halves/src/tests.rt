@@ -26,8 +26,25 @@ fn by_kind(polled: Poll<io::Result<usize>>) -> Answered {
     }
 }
 
-/// What one read into `buf` answers, in a task of its own.
+/// The answer, or the end of the test where memory was refused.
+fn told(answer: Answered) -> Result<Answered, Fail> {
+    match answer {
+        Poll::Ready(Err(ErrorKind::OutOfMemory)) => Err(Fail::from("memory")),
+        Poll::Pending | Poll::Ready(_) => Ok(answer),
+    }
+}
+
+/// What one read into `buf` answers, in a task of its own. A refusal for memory ends the test.
 fn read<R, S>(rt: &R, reader: &mut S, buf: &mut [u8]) -> Result<Answered, Fail>
+where
+    R: RandomSource + AllocGlobal,
+    S: AsyncRead,
+{
+    told(try_read(rt, reader, buf)?)
+}
+
+/// What one read into `buf` answers, in a task of its own.
+fn try_read<R, S>(rt: &R, reader: &mut S, buf: &mut [u8]) -> Result<Answered, Fail>
 where
     R: RandomSource + AllocGlobal,
     S: AsyncRead,
@@ -50,8 +67,17 @@ where
     Ok(answer == Poll::Ready(Ok(1)) && buf[0] == byte)
 }
 
-/// What one write of `bytes` answers, in a task of its own.
+/// What one write of `bytes` answers, in a task of its own. A refusal for memory ends the test.
 fn write<R, S>(rt: &R, writer: &mut S, bytes: &[u8]) -> Result<Answered, Fail>
+where
+    R: RandomSource + AllocGlobal,
+    S: AsyncWrite,
+{
+    told(try_write(rt, writer, bytes)?)
+}
+
+/// What one write of `bytes` answers, in a task of its own.
+fn try_write<R, S>(rt: &R, writer: &mut S, bytes: &[u8]) -> Result<Answered, Fail>
 where
     R: RandomSource + AllocGlobal,
     S: AsyncWrite,
@@ -63,7 +89,17 @@ where
     Ok(answer)
 }
 
-/// Whether a flush and then a close are done.
+/// Whether a flush or a close is done. A refusal for memory ends the test.
+fn is_done(polled: Poll<io::Result<()>>) -> Result<bool, Fail> {
+    let answer = match polled {
+        Poll::Pending => Poll::Pending,
+        Poll::Ready(Ok(())) => Poll::Ready(Ok(0)),
+        Poll::Ready(Err(e)) => Poll::Ready(Err(e.kind())),
+    };
+    Ok(told(answer)? == Poll::Ready(Ok(0)))
+}
+
+/// Whether a flush and then a close are done. A refusal for memory ends the test.
 fn finishes<R, S>(rt: &R, writer: &mut S) -> Result<bool, Fail>
 where
     R: RandomSource + AllocGlobal,
@@ -71,10 +107,10 @@ where
 {
     let solo = Solo::new(rt, Doorbell::spinning())?;
     let mut cx = solo.begin();
-    let flushed = matches!(writer.poll_flush(&mut cx), Poll::Ready(Ok(())));
-    let closed = matches!(writer.poll_close(&mut cx), Poll::Ready(Ok(())));
+    let flushed = writer.poll_flush(&mut cx);
+    let closed = writer.poll_close(&mut cx);
     cx.cancel();
-    Ok(flushed && closed)
+    Ok(is_done(flushed)? && is_done(closed)?)
 }
 
 /// The answer of a read that got these bytes.

@@ -1,4 +1,4 @@
-use super::{are, by_kind, cursor_on, finishes, got, journal_on, read, write};
+use super::{are, by_kind, cursor_on, finishes, got, journal_on, read, told, try_read, write};
 use futures::task::{Doorbell, Solo};
 use futures_lite::Poll;
 use futures_lite::io::{
@@ -78,6 +78,9 @@ fn a_refused_call_of_drive_reaches_nothing(rt: HostRuntime) -> Result<(), Fail> 
         drive(&rt, &mut journal, &calls, &mut out)?,
         Err(AllocError)
     );
+    if out.is_empty() {
+        return Err(Fail::from("memory"));
+    }
     let answers = [got(alloc, b"x")?];
     assert_eq!(rt; out.as_slice(), answers.as_slice());
     assert!(rt; are(journal.entries(), &[Call::Read { room: 1 }], &answers));
@@ -144,10 +147,10 @@ fn a_vectored_call_is_one_entry_of_the_first_nonempty_buffer(rt: HostRuntime) ->
         IoSliceMut::new(&mut two),
     ];
     let read = journal.poll_read_vectored(&mut cx, &mut bufs);
-    assert!(rt; matches!(read, Poll::Ready(Ok(1))));
     let wrote = journal.poll_write_vectored(&mut cx, &[IoSlice::new(b""), IoSlice::new(b"z")]);
-    assert!(rt; matches!(wrote, Poll::Ready(Ok(1))));
     cx.cancel();
+    assert_eq!(rt; told(by_kind(read))?, Poll::Ready(Ok(1)));
+    assert_eq!(rt; told(by_kind(wrote))?, Poll::Ready(Ok(1)));
     let calls = [
         Call::Read { room: 1 },
         Call::Write(Vec::from_slice(alloc, b"z")?),
@@ -204,7 +207,7 @@ fn a_refused_entry_changes_nothing(rt: HostRuntime) -> Result<(), Fail> {
     let mut journal = journal_of_chunk(rt.alloc())?;
     let mut buf = [0u8];
     for (entries, byte) in b"xy".iter().enumerate() {
-        let mut answer = read(&rt, &mut journal, &mut buf)?;
+        let mut answer = try_read(&rt, &mut journal, &mut buf)?;
         if answer == Poll::Ready(Err(ErrorKind::OutOfMemory)) {
             assert_eq!(rt; journal.entries().len(), entries);
             answer = read(&rt, &mut journal, &mut buf)?;

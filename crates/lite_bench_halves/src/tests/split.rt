@@ -1,5 +1,5 @@
 use super::refusing::Refusing;
-use super::{cursor_on, finishes, read, write};
+use super::{by_kind, cursor_on, finishes, read, told, write};
 use futures::task::{Doorbell, Solo};
 use futures_lite::Poll;
 use futures_lite::io::{self, AsyncRead, AsyncWrite, IoSlice, IoSliceMut};
@@ -29,10 +29,10 @@ fn a_vectored_read_goes_on_to_the_stream_and_a_write_does_not(rt: HostRuntime) -
     let (mut one, mut two) = ([0u8; 1], [0u8; 2]);
     let mut bufs = [IoSliceMut::new(&mut one), IoSliceMut::new(&mut two)];
     let got = reader.poll_read_vectored(&mut cx, &mut bufs);
-    assert!(rt; matches!(got, Poll::Ready(Ok(3))));
     let wrote = writer.poll_write_vectored(&mut cx, &[IoSlice::new(b"a"), IoSlice::new(b"bc")]);
-    assert!(rt; matches!(wrote, Poll::Ready(Ok(1))));
     cx.cancel();
+    assert_eq!(rt; told(by_kind(got))?, Poll::Ready(Ok(3)));
+    assert_eq!(rt; told(by_kind(wrote))?, Poll::Ready(Ok(1)));
     assert_eq!(rt; (one, two), ([b'x'], [b'y', b'z']));
     Ok(())
 }
