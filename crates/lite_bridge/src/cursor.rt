@@ -129,6 +129,7 @@ impl<T: BytesLike> AsyncBufRead for Cursor<T> {
 
     ghost shows = { cursor_shows T.bytes T.puts T.refuses };
 
+    #[tactic(auto, using(crate::proofs::Reading::cursor_filled))]
     fn poll_fill_buf(&mut self, _cx: &mut Context<'_>) -> Poll<io::Result<&[u8]>> {
         Poll::Ready(Ok(self.rest()))
     }
@@ -137,6 +138,7 @@ impl<T: BytesLike> AsyncBufRead for Cursor<T> {
         self.rest()
     }
 
+    #[tactic(auto, using(crate::proofs::Reading::cursor_taken))]
     fn consume(&mut self, amount: usize) {
         self.advance(amount);
     }

@@ -75,6 +75,7 @@ impl<R, T> Tale for ReadHalf<R, T> {
     ghost follows = { λ x y z. reading_both };
 }
 
+#[tactic(auto, using(lite_io_base::specs::Laws::Marks::read_marks_reading))]
 impl<R: Wait, T: AsyncRead> AsyncRead for ReadHalf<R, T> {
     fn poll_read(&mut self, cx: &mut Context<'_>, buf: &mut [u8]) -> Poll<io::Result<usize>> {
         self.shared.lock(&self.rt).poll_read(cx, buf)

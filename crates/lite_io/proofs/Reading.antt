@@ -18,10 +18,6 @@ moved_none [] [] p q = refl
 moved_none [] (x ∷ xs) p q = absurd (omega (arith, q))
 moved_none (b ∷ buf) xs p q = absurd (omega (arith, p))
 
-pub filled_some : (xs : List ℕ) → 0 < length xs → filled xs ≡ []
-filled_some [] some = absurd (omega (arith, some))
-filled_some (x ∷ xs) some = refl
-
 -- a fill, and then a read of what it lent, is a read
 pub fill_then_read : (shown room : List ℕ) (n : ℕ) → n ≡ min (length shown) (length room) → 0 < length room → moved room (take n shown) ≡ filled shown ++ bytes (take n shown)
 fill_then_read shown [] n is some = absurd (omega (arith, some))

@@ -110,6 +110,7 @@ impl<R: AsyncRead> BufReader<R> {
     ghost use Rattle.lite_io.specs.BufReader.{Through, ahead, count_of, inner_of};
 
     // Reads ahead if nothing is there.
+    #[tactic(auto, using(crate::proofs::Reading::through_fill, crate::proofs::Reading::through_past))]
     fn fill(&mut self, cx: &mut Context<'_>) -> Poll<io::Result<()>>
         ensures ran { Through R.run self.old (fill_marks result (ahead self.new)) self.new }
         ensures left { OnPending result ((fact : Lasting) → R.leaves (inner_of self.new) fact → Holds cx.new fact) }
@@ -243,11 +244,13 @@ impl<R: AsyncRead> AsyncBufRead for BufReader<R> {
         &self.buf[self.pos..self.cap]
     }
 
+    #[tactic(auto, using(crate::proofs::Ranges::slice_range_advance, crate::proofs::Reading::through_advance))]
     fn consume(&mut self, amount: usize) {
         self.advance(amount);
     }
 }
 
+#[tactic(auto, using(crate::proofs::Reading::through_write))]
 impl<R: AsyncWrite> AsyncWrite for BufReader<R> {
     ghost use Rattle.lite_io.specs.BufReader.{inner_of};
 

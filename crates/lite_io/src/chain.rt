@@ -68,6 +68,7 @@ impl<R1: AsyncRead, R2: AsyncRead> AsyncRead for Chain<R1, R2> {
 
     ghost leaves = { Waits R1.leaves R2.leaves };
 
+    #[tactic(auto, using(crate::proofs::Crossing::crossed, crate::proofs::Ends::no_end_moved))]
     fn poll_read(&mut self, cx: &mut Context<'_>, buf: &mut [u8]) -> Poll<io::Result<usize>>
         ensures bound { IfReady result (λ r. IfOk r (λ n. n ≤ length buf.new)) }
         ensures ran { Chains R1.run R2.run self.old (read_marks result buf.new) self.new }
@@ -95,6 +96,7 @@ impl<R1: AsyncBufRead, R2: AsyncBufRead> Chain<R1, R2> {
     ghost use Rattle.lite_io.specs.Chain.{Chains, Waits, shown};
 
     // Fills the reader that is read, and goes on to the second where the first is at its end.
+    #[tactic(auto, using(crate::proofs::Crossing::crossed))]
     fn fill(&mut self, cx: &mut Context<'_>) -> Poll<io::Result<()>>
         ensures ran { Chains R1.run R2.run self.old (fill_marks result (shown R1.lent R2.lent self.new)) self.new }
         ensures left { OnPending result ((fact : Lasting) → Waits R1.leaves R2.leaves self.new fact → Holds cx.new fact) }
@@ -144,6 +146,7 @@ impl<R1: AsyncBufRead, R2: AsyncBufRead> AsyncBufRead for Chain<R1, R2> {
         self.show()
     }
 
+    #[tactic(auto, using(crate::proofs::Ends::no_end_bytes))]
     fn consume(&mut self, amount: usize) {
         if self.has_ended {
             self.second.consume(amount);

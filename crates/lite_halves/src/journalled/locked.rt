@@ -38,6 +38,7 @@ pub(super) struct Locked<T: Tale + Clone, A: Ledger, B: Ledger, C: Ledger, D: Le
     ghost taken_are: { taken.total ≡ bytes_with taken_in journal },
 }
 
+#[tactic(auto, using(crate::proofs::Fits::read_fits))]
 impl<T: AsyncRead + Clone, A: Ledger, B: Ledger, C: Ledger, D: Ledger> Locked<T, A, B, C, D> {
     /// One read with its entry. `None`: there was no memory for the entry, and nothing was called.
     pub(super) fn read(
@@ -76,6 +77,7 @@ impl<T: AsyncRead + Clone, A: Ledger, B: Ledger, C: Ledger, D: Ledger> Locked<T,
     }
 }
 
+#[tactic(auto, using(crate::proofs::Fits::write_fits))]
 impl<T: AsyncWrite + Clone, A: Ledger, B: Ledger, C: Ledger, D: Ledger> Locked<T, A, B, C, D> {
     /// One write with its entry. `None`: there was no memory for the entry, and nothing was called.
     pub(super) fn write(

@@ -131,6 +131,7 @@ impl<R: Wait, T: AsyncRead + Clone, A: Ledger, B: Ledger, C: Ledger, D: Ledger> 
     ///
     /// Room for the entry is made first. Where that is refused the answer is `OutOfMemory`: the stream is not called,
     /// there is no entry, and nothing changes.
+    #[tactic(auto, using(crate::specs::Laws::Counts::read_bytes))]
     fn poll_read(&mut self, cx: &mut Context<'_>, buf: &mut [u8]) -> Poll<io::Result<usize>>
         ensures bound { IfReady result (λ r. IfOk r (λ n. n ≤ length buf.new)) }
         ensures ran { Counts self.old (read_marks result buf.new) self.new }
