@@ -1,4 +1,4 @@
--- The poll in which a `Chain` goes on to its second reader, and those after it.
+-- The poll in which a `Chain` goes on to its second reader.
 use Rattle.std.proofs.Common.{◌≡◌, List, [], ◌∷◌, true, false, refl}
 use Rattle.lite_io_base.specs.Marks.{Mark}
 use Rattle.lite_io_base.specs.Runs.{Rests, Runs}
