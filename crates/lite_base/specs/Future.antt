@@ -7,6 +7,7 @@ pub mod Picks
 pub mod PollOnce
 pub mod Race
 pub mod Ready
+pub mod Spent
 pub mod Taking
 pub mod Together
 pub mod TryZip

@@ -1,19 +1,48 @@
 -- A stream or a future that is lent: what is behind the reference runs, and the reference stays.
-use Rattle.std.specs.Prelude.{◌≡◌, List, [], ◌++◌}
-use Rattle.std.proofs.Common.{◌∙◌, ap}
+use Rattle.std.specs.Prelude.{◌≡◌, ℕ, List, [], Option}
+use Rattle.std.proofs.Common.{◌∙◌, ap, refl}
 use denote.MutBor.{MutBor}
 use Rattle.futures.specs.declared.task.Poll.{Poll}
-use Rattle.lite_base.specs.Answers.{Waiting}
+use Rattle.lite_base.specs.Answers.{Answer}
+use Rattle.lite_base.specs.FutureLaws.{FutureLaws}
+use Rattle.lite_base.specs.Ranks.{Counting, Ranks, ranks_of}
+use Rattle.lite_base.specs.StreamLaws.{StreamLaws}
 
-module _ {S A : Type 0} (run : S → List A → S → Type 0) where
-  abbrev pub Lent : MutBor S → List A → MutBor S → Type 0
-  Lent x l y = run x.now l y.now × (y ≡ record x { now = y.now })
+abbrev pub Lent : {S A : Type 0} → (S → List A → S → Type 0) → MutBor S → List A → MutBor S → Type 0
+Lent run x l y = run x.now l y.now × (y ≡ record x { now = y.now })
 
-  pub lent_stays : ((x y : S) → run x [] y → y ≡ x) → (x y : MutBor S) → Lent x [] y → y ≡ x
-  lent_stays stays x y h = h.1 ∙ ap (λ (v : S). record x { now = v }) (stays x.now y.now h.0)
+-- runs of what is behind two references, one after the other
+lent_stays : {S A : Type 0} (run : S → List A → S → Type 0) → ((x y : S) → run x [] y → y ≡ x) → (x y : MutBor S) → Lent run x [] y → y ≡ x
+lent_stays {S = S} run stays x y h = h.1 ∙ ap (λ (v : S). record x { now = v }) (stays x.now y.now h.0)
 
-  pub lent_follows : ((x y z : S) (l m : List A) → run x l y → run y m z → run x (l ++ m) z) → (x y z : MutBor S) (l m : List A) → Lent x l y → Lent y m z → Lent x (l ++ m) z
-  lent_follows follows x y z l m h k = (follows x.now y.now z.now l m h.0 k.0, k.1 ∙ ap (λ (r : MutBor S). record r { now = z.now }) h.1)
+lent_still : {S : Type 0} (x y z : MutBor S) → y ≡ record x { now = y.now } → z ≡ record y { now = z.now } → z ≡ record x { now = z.now }
+lent_still {S} x y z e d = d ∙ ap (λ (r : MutBor S). record r { now = z.now }) e
 
-pub lent_follows_waiting : {F A : Type 0} (run : F → List (Poll A) → F → Type 0) → ((x y z : F) (l m : List (Poll A)) → Waiting l → run x l y → run y m z → run x (l ++ m) z) → (x y z : MutBor F) (l m : List (Poll A)) → Waiting l → Lent run x l y → Lent run y m z → Lent run x (l ++ m) z
-lent_follows_waiting {F = F} run follows x y z l m w h k = (follows x.now y.now z.now l m w h.0 k.0, k.1 ∙ ap (λ (r : MutBor F). record r { now = z.now }) h.1)
+module _ {S A : Type 0} {run : S → List (Answer A) → S → Type 0} where
+  pub lent_laws : {hints : S → ℕ × Option ℕ → Type 0} → StreamLaws run hints → StreamLaws (Lent run) (λ s hint. hints s.now hint)
+  lent_laws laws =
+      record {
+        rests = λ x. (laws.rests x.now, refl);
+        stays = lent_stays run laws.stays;
+        follows = λ x y z l m h k. (laws.follows x.now y.now z.now l m h.0 k.0, lent_still x y z h.1 k.1);
+        bounded = λ x y hint l e h. laws.bounded x.now y.now hint l e h.0;
+      }
+
+  pub lent_counting : {r : Ranks S} → Counting run r → Counting (Lent run) (ranks_of (λ (s : MutBor S). s.now) r)
+  lent_counting c =
+      record {
+        sized = λ s. c.sized s.now;
+        counts_on = λ x y l k h. c.counts_on x.now y.now l k h.0;
+        firm_on = λ x y l k h. c.firm_on x.now y.now l k h.0;
+        falls = λ x y a more k h. c.falls x.now y.now a more k h.0;
+        lowers = λ x y l k h. c.lowers x.now y.now l k h.0;
+      }
+
+pub lent_future_laws : {F A : Type 0} {run : F → List (Poll A) → F → Type 0} → FutureLaws run → FutureLaws (Lent run)
+lent_future_laws {run = run} laws =
+    record {
+      rests = λ x. (laws.rests x.now, refl);
+      stays = lent_stays run laws.stays;
+      follows = λ x y z l m w h k. (laws.follows x.now y.now z.now l m w h.0 k.0, lent_still x y z h.1 k.1);
+      once = λ x y l h. laws.once x.now y.now l h.0;
+    }

@@ -1,8 +1,12 @@
 pub mod Answers
 pub mod Chain
 pub mod Ends
+pub mod Falling
 pub mod Future
+pub mod FutureLaws
 pub mod Laws
 pub mod Lent
+pub mod OkRanks
 pub mod Rank
-pub mod Falling
+pub mod Ranks
+pub mod StreamLaws

@@ -1,9 +1,9 @@
 //! Futures: the trait, what makes futures, and how two of them are combined.
-ghost use Rattle.std.specs.Prelude.{List, [], ◌∷◌, ◌++◌, ◌≡◌, ◌≤◌, length, ⊤};
+ghost use Rattle.std.specs.Prelude.{List, [], ◌∷◌, ⊤};
 ghost use Rattle.futures.specs.Poll.{OnPending};
 ghost use Rattle.futures.specs.Task.{Keeps, Lasting, Holds};
 ghost use Rattle.futures.specs.declared.task.Poll.{Poll};
-ghost use Rattle.lite_base.specs.Answers.{Waiting, strip};
+ghost use Rattle.lite_base.specs.FutureLaws.{FutureLaws};
 
 use futures::task::{Context, Poll};
 
@@ -58,12 +58,5 @@ pub trait Future {
         ensures left { OnPending result ((fact : Lasting) → leaves self.new fact → Holds cx.new fact) }
         ensures kept { Keeps cx.old cx.new };
 
-    ghost rests: { (x : Self) → run x [] x };
-
-    ghost stays: { (x y : Self) → run x [] y → y ≡ x };
-
-    ghost follows: { (x y z : Self) (l m : List (Poll Self.Output)) → Waiting l → run x l y → run y m z → run x (l ++ m) z };
-
-    /// No run has two values.
-    ghost once: { (x y : Self) (l : List (Poll Self.Output)) → run x l y → length (strip l) ≤ 1 };
+    ghost laws: { FutureLaws run };
 }

@@ -1,8 +1,10 @@
-ghost use Rattle.std.specs.Prelude.{refl};
-ghost use Rattle.lite_base.specs.Lent.{Lent, lent_follows, lent_follows_waiting, lent_stays};
+ghost use Rattle.lite_base.specs.Lent.{Lent, lent_counting, lent_future_laws, lent_laws};
+ghost use Rattle.lite_base.specs.OkRanks.{lent_ok_counting};
+ghost use Rattle.lite_base.specs.Ranks.{ranks_of};
 
 use crate::counted::Counted;
 use crate::future::Future;
+use crate::ok_counted::OkCounted;
 use crate::stream::Stream;
 use futures::task::{Context, Poll};
 
@@ -15,13 +17,7 @@ impl<F: Future> Future for &mut F {
 
     ghost leaves = { λ f. F.leaves f.now };
 
-    ghost rests = { λ x. (F.rests x.now, refl) };
-
-    ghost stays = { lent_stays F.run F.stays };
-
-    ghost follows = { lent_follows_waiting F.run F.follows };
-
-    ghost once = { λ x y l h. F.once x.now y.now l h.0 };
+    ghost laws = { lent_future_laws F.laws };
 
     fn poll(&mut self, cx: &mut Context<'_>) -> Poll<F::Output> {
         (**self).poll(cx)
@@ -39,13 +35,7 @@ impl<S: Stream> Stream for &mut S {
 
     ghost hints = { λ s hint. S.hints s.now hint };
 
-    ghost rests = { λ x. (S.rests x.now, refl) };
-
-    ghost stays = { lent_stays S.run S.stays };
-
-    ghost follows = { lent_follows S.run S.follows };
-
-    ghost bounded = { λ x y hint l e h. S.bounded x.now y.now hint l e h.0 };
+    ghost laws = { lent_laws S.laws };
 
     fn poll_next(&mut self, cx: &mut Context<'_>) -> Poll<Option<S::Item>> {
         (**self).poll_next(cx)
@@ -57,21 +47,17 @@ impl<S: Stream> Stream for &mut S {
 }
 
 impl<S: Counted> Counted for &mut S {
-    ghost width = { S.width };
+    ghost ranks = { ranks_of (λ s. s.now) S.ranks };
 
-    ghost rank = { λ s. S.rank s.now };
+    ghost counting = { lent_counting S.counting };
+}
 
-    ghost counts = { λ s. S.counts s.now };
+impl<S: OkCounted> OkCounted for &mut S {
+    type Ok = S::Ok;
 
-    ghost firm = { λ s. S.firm s.now };
+    type Err = S::Err;
 
-    ghost sized = { λ x. S.sized x.now };
+    ghost ok_ranks = { ranks_of (λ s. s.now) S.ok_ranks };
 
-    ghost counts_on = { λ x y l c h. S.counts_on x.now y.now l c h.0 };
-
-    ghost firm_on = { λ x y l c h. S.firm_on x.now y.now l c h.0 };
-
-    ghost falls = { λ x y a more c h. S.falls x.now y.now a more c h.0 };
-
-    ghost lowers = { λ x y l c h. S.lowers x.now y.now l c h.0 };
+    ghost ok_counting = { lent_ok_counting S.ok_counting };
 }

@@ -5,6 +5,7 @@
 mod counted;
 pub mod future;
 mod lent;
+mod ok_counted;
 mod stream;
 mod turns;
 
@@ -12,5 +13,6 @@ pub use counted::Counted;
 pub use future::Future;
 pub use futures::ready;
 pub use futures::task::{Context, Poll};
+pub use ok_counted::OkCounted;
 pub use stream::Stream;
 pub use turns::{Turns, drive};

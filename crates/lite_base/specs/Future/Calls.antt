@@ -7,7 +7,7 @@ use Rattle.futures.specs.declared.task.Poll.{Poll}
 use Rattle.futures.specs.declared.task.Poll.TheVariants.{Pending}
 use Rattle.futures.specs.declared.task.context.Context.{Context}
 use Rattle.futures.specs.Task.{Holds, Keeps, Lasting}
-use Rattle.lite_base.specs.Answers.{UpToValue, Waiting}
+use Rattle.lite_base.specs.Answers.{UpToValue}
 
 abbrev pub Poller : Type 0 → Type 0 → Type 1
 Poller F A = Mut F (MutBor Context × Unit {0}) (Poll A × (MutBor Context × Unit {0}))
@@ -30,6 +30,6 @@ module _ {F A : Type 0} (g : Poller F A) where
   abbrev pub Leaves : F → Lasting → Type 0
   Leaves q fact = (p : F) (cx left : MutBor Context) → Called g p (cx, tt) (Pending, (left, tt)) q → Holds left.now fact
 
--- it obeys now, and after each call until its value
-pub record AlwaysObeys {F A : Type 0} (g : Poller F A) (f : F) : Type 0 where
-  pub at : (l : List (Poll A)) (p : F) → Waiting l → FoldsTo (Answers g) f l p → Obeys g p
+-- it obeys now, and after calls whose answers are `On`
+pub record AlwaysObeys {F A : Type 0} (g : Poller F A) (On : List (Poll A) → Type 0) (f : F) : Type 0 where
+  pub at : (l : List (Poll A)) (p : F) → On l → FoldsTo (Answers g) f l p → Obeys g p

@@ -1,13 +1,15 @@
-pub mod Agree
 pub mod Calls
 pub mod Finishes
 pub mod Fuse
 pub mod Half
 pub mod Or
+pub mod Pending
 pub mod Picks
 pub mod PollOnce
 pub mod Race
 pub mod Ready
+pub mod Spent
 pub mod Together
 pub mod TryZip
 pub mod YieldNow
+pub mod Zip

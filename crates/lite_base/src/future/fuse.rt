@@ -2,7 +2,7 @@ ghost use Rattle.std.specs.Prelude.{◌≡◌, ◌∷◌, [], IfSome, Some};
 ghost use Rattle.futures.specs.Poll.{OnPending};
 ghost use Rattle.futures.specs.Task.{Holds, Keeps, Lasting};
 ghost use Rattle.lite_base.specs.Future.Fuse.{Fuses};
-ghost use Rattle.lite_base.specs.Laws.Future.Fuse.{fuses_follow, fuses_once, fuses_rest, fuses_stay};
+ghost use Rattle.lite_base.specs.Laws.Future.Fuse.{fuses_laws};
 
 use super::Future;
 use crate::{Context, Poll};
@@ -24,13 +24,7 @@ impl<F: Future + Drop> Future for Fuse<F> {
 
     ghost leaves = { λ x fact. (f : F) × (x.inner ≡ Some f) × F.leaves f fact };
 
-    ghost rests = { fuses_rest F.run F.rests };
-
-    ghost stays = { fuses_stay F.run F.stays };
-
-    ghost follows = { λ x y z l m w. fuses_follow F.run F.follows x y z l m };
-
-    ghost once = { fuses_once F.run };
+    ghost laws = { fuses_laws F.run F.laws };
 
     fn poll(&mut self, cx: &mut Context<'_>) -> Poll<F::Output>
         requires { IfSome self.old.inner F.can_poll }

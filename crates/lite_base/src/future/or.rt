@@ -1,7 +1,6 @@
 ghost use Rattle.std.specs.Prelude.{◌⊎◌};
 ghost use Rattle.lite_base.specs.Future.Or.{Ors};
-ghost use Rattle.lite_base.specs.Laws.Answers.{up_to_once};
-ghost use Rattle.lite_base.specs.Laws.Future.Or.{ors_follow, ors_rest, ors_stay};
+ghost use Rattle.lite_base.specs.Laws.Future.Or.{ors_laws};
 
 use super::Future;
 use super::picks::poll_in_order;
@@ -26,13 +25,7 @@ impl<F1: Future, F2: Future<Output = F1::Output>> Future for Or<F1, F2> {
 
     ghost leaves = { λ x fact. F1.leaves x.future1 fact ⊎ F2.leaves x.future2 fact };
 
-    ghost rests = { ors_rest F1.run F2.run F1.rests F2.rests };
-
-    ghost stays = { ors_stay F1.run F2.run F1.stays F2.stays };
-
-    ghost follows = { ors_follow F1.run F2.run F1.follows F2.follows };
-
-    ghost once = { λ x y l h. up_to_once l h.ends };
+    ghost laws = { ors_laws F1.laws F2.laws };
 
     fn poll(&mut self, cx: &mut Context<'_>) -> Poll<F1::Output> {
         poll_in_order(&mut self.future1, &mut self.future2, cx)

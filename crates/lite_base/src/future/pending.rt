@@ -1,7 +1,6 @@
-ghost use Rattle.std.specs.Prelude.{◌≡◌, ⊤, refl};
-ghost use Rattle.std.proofs.Common.{◌∙◌};
+ghost use Rattle.std.specs.Prelude.{◌≡◌, ⊤};
 ghost use Rattle.lite_base.specs.Answers.{Waiting};
-ghost use Rattle.lite_base.specs.Laws.Answers.{waiting_once, waiting_waiting};
+ghost use Rattle.lite_base.specs.Laws.Future.Pending.{waits_laws};
 
 use super::Future;
 use crate::{Context, Poll};
@@ -34,13 +33,7 @@ impl<T> Future for Pending<T> {
 
     ghost run = { λ x l y. Waiting l × (y ≡ x) };
 
-    ghost rests = { λ x. (tt, refl) };
-
-    ghost stays = { λ x y h. h.1 };
-
-    ghost follows = { λ x y z l m w h k. (waiting_waiting l m w k.0, k.1 ∙ h.1) };
-
-    ghost once = { λ x y l h. waiting_once l h.0 };
+    ghost laws = { waits_laws };
 
     fn poll(&mut self, _cx: &mut Context<'_>) -> Poll<T> {
         Poll::Pending

@@ -1,8 +1,6 @@
-ghost use Rattle.std.specs.Prelude.{refl};
-ghost use Rattle.std.proofs.Common.{ap, sym};
+ghost use Rattle.lite_base.specs.Answers.{Waiting};
 ghost use Rattle.lite_base.specs.Future.Calls.{AlwaysObeys, Leaves, Polled};
-ghost use Rattle.lite_base.specs.Laws.Answers.{up_to_once};
-ghost use Rattle.lite_base.specs.Laws.Future.Calls.{polled_follow};
+ghost use Rattle.lite_base.specs.Laws.Future.Calls.{polled_laws};
 
 use super::Future;
 use crate::{Context, Poll};
@@ -18,19 +16,13 @@ pub struct PollFn<F> {
 impl<T, F: FnMut(&mut Context<'_>) -> Poll<T>> Future for PollFn<F> {
     type Output = T;
 
-    ghost can_poll = { λ x. AlwaysObeys F.FnMut x.f };
+    ghost can_poll = { λ x. AlwaysObeys F.FnMut Waiting x.f };
 
     ghost run = { λ x l y. Polled F.FnMut x.f l y.f };
 
     ghost leaves = { λ x. Leaves F.FnMut x.f };
 
-    ghost rests = { λ x. (tt, refl) };
-
-    ghost stays = { λ x y h. ap (λ v. record x { f = v }) (sym h.1) };
-
-    ghost follows = { λ x y z. polled_follow F.FnMut x.f y.f z.f };
-
-    ghost once = { λ x y l h. up_to_once l h.0 };
+    ghost laws = { polled_laws F.FnMut };
 
     fn poll(&mut self, cx: &mut Context<'_>) -> Poll<T> {
         (self.f)(cx)

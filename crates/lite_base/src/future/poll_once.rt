@@ -1,6 +1,5 @@
-ghost use Rattle.std.specs.Prelude.{refl};
 ghost use Rattle.lite_base.specs.Future.PollOnce.{TellsFirst};
-ghost use Rattle.lite_base.specs.Laws.Future.PollOnce.{tells_follow, tells_once};
+ghost use Rattle.lite_base.specs.Laws.Future.PollOnce.{tells_laws};
 
 use super::Future;
 use crate::{Context, Poll};
@@ -20,13 +19,7 @@ impl<F: Future> Future for PollOnce<F> {
 
     ghost run = { TellsFirst F.run };
 
-    ghost rests = { λ x. refl };
-
-    ghost stays = { λ x y h. h };
-
-    ghost follows = { tells_follow F.run };
-
-    ghost once = { tells_once F.run };
+    ghost laws = { tells_laws F.run };
 
     fn poll(&mut self, cx: &mut Context<'_>) -> Poll<Option<F::Output>> {
         match self.f.poll(cx) {

@@ -1,6 +1,6 @@
-ghost use Rattle.std.specs.Prelude.{◌⊎◌, refl};
+ghost use Rattle.std.specs.Prelude.{◌⊎◌};
 ghost use Rattle.lite_base.specs.Future.Race.{RacesOn};
-ghost use Rattle.lite_base.specs.Laws.Future.Race.{races_follow, races_once};
+ghost use Rattle.lite_base.specs.Laws.Future.Race.{races_laws};
 
 use super::Future;
 use super::picks::poll_in_order;
@@ -33,13 +33,7 @@ where
 
     ghost leaves = { λ x fact. F1.leaves x.future1 fact ⊎ F2.leaves x.future2 fact };
 
-    ghost rests = { λ x. refl };
-
-    ghost stays = { λ x y h. h };
-
-    ghost follows = { races_follow F1.run F2.run G.stream F1.follows F2.follows };
-
-    ghost once = { races_once F1.run F2.run G.stream };
+    ghost laws = { races_laws F1.run F2.run G.stream F1.laws F2.laws };
 
     fn poll(&mut self, cx: &mut Context<'_>) -> Poll<F1::Output> {
         if self.rng.next_u32() % 2 == 1 {

@@ -1,7 +1,6 @@
-ghost use Rattle.std.specs.Prelude.{IsSome, refl};
-ghost use Rattle.std.proofs.Common.{ap};
+ghost use Rattle.std.specs.Prelude.{IsSome};
 ghost use Rattle.lite_base.specs.Future.Ready.{GivesHeld};
-ghost use Rattle.lite_base.specs.Laws.Future.Ready.{held_follows, held_once};
+ghost use Rattle.lite_base.specs.Laws.Future.Ready.{held_laws};
 
 use super::Future;
 use crate::{Context, Poll};
@@ -22,13 +21,7 @@ impl<T> Future for Ready<T> {
 
     ghost run = { λ x l y. GivesHeld x.value l y.value };
 
-    ghost rests = { λ x. refl };
-
-    ghost stays = { λ x y h. ap (λ v. record x { value = v }) h };
-
-    ghost follows = { λ x y z. held_follows x.value y.value z.value };
-
-    ghost once = { λ x y. held_once x.value y.value };
+    ghost laws = { held_laws };
 
     fn poll(&mut self, _cx: &mut Context<'_>) -> Poll<T> {
         Poll::Ready(self.value.take().unwrap())

@@ -1,7 +1,7 @@
 ghost use Rattle.std.specs.Prelude.{◌⊎◌};
 ghost use Rattle.lite_base.specs.Future.Half.{CanAsk, IsAskedAnd};
 ghost use Rattle.lite_base.specs.Future.TryZip.{TryZips};
-ghost use Rattle.lite_base.specs.Laws.Future.TryZip.{try_zips_follow, try_zips_once, try_zips_rest, try_zips_stay};
+ghost use Rattle.lite_base.specs.Laws.Future.TryZip.{try_zips_laws};
 
 use super::Future;
 use super::half::{Half, take_both, try_ask};
@@ -33,13 +33,7 @@ where
 
     ghost leaves = { λ x fact. IsAskedAnd x.first (λ f. F1.leaves f fact) ⊎ IsAskedAnd x.second (λ f. F2.leaves f fact) };
 
-    ghost rests = { λ x. try_zips_rest F1.run F2.run F1.rests F2.rests x.first x.second };
-
-    ghost stays = { λ x y h. let e = try_zips_stay F1.run F2.run F1.stays F2.stays x.first y.first x.second y.second h in λ i. record { first = e.0 i; second = e.1 i } };
-
-    ghost follows = { λ x y z. try_zips_follow F1.run F2.run F1.follows F2.follows x.first y.first z.first x.second y.second z.second };
-
-    ghost once = { λ x y. try_zips_once F1.run F2.run x.first y.first x.second y.second };
+    ghost laws = { try_zips_laws F1.run F2.run F1.laws F2.laws };
 
     fn poll(&mut self, cx: &mut Context<'_>) -> Poll<Result<(T1, T2), E>> {
         if let Err(e) = try_ask(&mut self.first, cx) {

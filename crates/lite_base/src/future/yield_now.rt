@@ -1,8 +1,7 @@
-ghost use Rattle.std.specs.Prelude.{◌≡◌, ◌⊎◌, ℕ, refl};
-ghost use Rattle.std.proofs.Common.{ap};
+ghost use Rattle.std.specs.Prelude.{◌≡◌, ◌⊎◌, ℕ};
 ghost use Rattle.futures.specs.Task.{Lasting};
 ghost use Rattle.lite_base.specs.Future.YieldNow.{YieldsOnce};
-ghost use Rattle.lite_base.specs.Laws.Future.YieldNow.{yields_follow, yields_once};
+ghost use Rattle.lite_base.specs.Laws.Future.YieldNow.{yields_laws};
 
 use super::Future;
 use crate::{Context, Poll};
@@ -22,13 +21,7 @@ impl Future for YieldNow {
 
     ghost leaves = { λ x fact. (fact ≡ Lasting.armed) ⊎ ((source : ℕ) × (fact ≡ Lasting.hears source)) };
 
-    ghost rests = { λ x. refl };
-
-    ghost stays = { λ x y h. ap (λ v. record x { yielded = v }) h };
-
-    ghost follows = { λ x y z. yields_follow x.yielded y.yielded z.yielded };
-
-    ghost once = { λ x y. yields_once x.yielded y.yielded };
+    ghost laws = { yields_laws };
 
     fn poll(&mut self, cx: &mut Context<'_>) -> Poll<()> {
         if self.yielded {

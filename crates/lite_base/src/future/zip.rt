@@ -1,7 +1,7 @@
 ghost use Rattle.std.specs.Prelude.{◌⊎◌};
 ghost use Rattle.lite_base.specs.Future.Half.{CanAsk, IsAskedAnd};
 ghost use Rattle.lite_base.specs.Future.Zip.{Zips};
-ghost use Rattle.lite_base.specs.Laws.Future.Together.{together_follow, together_once, together_rest, together_stay};
+ghost use Rattle.lite_base.specs.Laws.Future.Zip.{zips_laws};
 
 use super::Future;
 use super::half::{Half, ask, take_both};
@@ -30,13 +30,7 @@ where
 
     ghost leaves = { λ x fact. IsAskedAnd x.first (λ f. F1.leaves f fact) ⊎ IsAskedAnd x.second (λ f. F2.leaves f fact) };
 
-    ghost rests = { λ x. together_rest (λ v. v) (λ w. w) (λ v w. (v, w)) F1.run F2.run F1.rests F2.rests x.first x.second };
-
-    ghost stays = { λ x y h. let e = together_stay (λ v. v) (λ w. w) (λ v w. (v, w)) F1.run F2.run F1.stays F2.stays x.first y.first x.second y.second h in λ i. record { first = e.0 i; second = e.1 i } };
-
-    ghost follows = { λ x y z. together_follow (λ v. v) (λ w. w) (λ v w. (v, w)) F1.run F2.run F1.follows F2.follows x.first y.first z.first x.second y.second z.second };
-
-    ghost once = { λ x y. together_once (λ v. v) (λ w. w) (λ v w. (v, w)) F1.run F2.run x.first y.first x.second y.second };
+    ghost laws = { zips_laws F1.laws F2.laws };
 
     fn poll(&mut self, cx: &mut Context<'_>) -> Poll<(F1::Output, F2::Output)> {
         ask(&mut self.first, cx);

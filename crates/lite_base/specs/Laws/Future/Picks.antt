@@ -4,6 +4,7 @@ use Rattle.futures.specs.declared.task.Poll.{Poll}
 use Rattle.futures.specs.declared.task.Poll.TheVariants.{Ready, Pending}
 use Rattle.lite_base.specs.Answers.{Waiting}
 use Rattle.lite_base.specs.Future.Picks.{Picks, Row, Rows}
+use Rattle.lite_base.specs.FutureLaws.{FutureLaws}
 use Rattle.lite_base.specs.Laws.Answers.{waiting_up_to}
 
 module _ {A : Type 0} where
@@ -40,25 +41,24 @@ module _ {A : Type 0} where
   rows_follow (false ∷ o) p i j k h (c ∷ l) m r q = (r.0 ++ k, r.1 ++ h, row_more j i c r.1 r.0 h k r.2, rows_follow o p r.0 r.1 k h l m r.3 q)
 
 module _ {F G A : Type 0} (run_first : F → List (Poll A) → F → Type 0) (run_second : G → List (Poll A) → G → Type 0) where
-  pub picks_rest : ((x : F) → run_first x [] x) → ((x : G) → run_second x [] x) → (f : F) (g : G) → Picks run_first run_second [] f g [] f g
-  picks_rest rests_first rests_second f g = record { i = []; j = []; first = rests_first f; second = rests_second g; rows = (refl, refl, refl); ends = tt }
+  pub picks_rest : FutureLaws run_first → FutureLaws run_second → (f : F) (g : G) → Picks run_first run_second [] f g [] f g
+  picks_rest laws_first laws_second f g = record { i = []; j = []; first = laws_first.rests f; second = laws_second.rests g; rows = (refl, refl, refl); ends = tt }
 
-  pub picks_stay : ((x y : F) → run_first x [] y → y ≡ x) → ((x y : G) → run_second x [] y → y ≡ x)
+  pub picks_stay : FutureLaws run_first → FutureLaws run_second
       → (f f' : F) (g g' : G) → Picks run_first run_second [] f g [] f' g' → (f' ≡ f) × (g' ≡ g)
-  picks_stay stays_first stays_second f f' g g' h =
-      (stays_first f f' (subst (λ l. run_first f l f') h.rows.0 h.first), stays_second g g' (subst (λ l. run_second g l g') h.rows.1 h.second))
+  picks_stay laws_first laws_second f f' g g' h =
+      (laws_first.stays f f' (subst (λ l. run_first f l f') h.rows.0 h.first), laws_second.stays g g' (subst (λ l. run_second g l g') h.rows.1 h.second))
 
-  pub picks_follow : ((x y z : F) (l m : List (Poll A)) → Waiting l → run_first x l y → run_first y m z → run_first x (l ++ m) z)
-      → ((x y z : G) (l m : List (Poll A)) → Waiting l → run_second x l y → run_second y m z → run_second x (l ++ m) z)
+  pub picks_follow : FutureLaws run_first → FutureLaws run_second
       → (o p : List Bool) (f f' f2 : F) (g g' g2 : G) (l m : List (Poll A)) → Waiting l
       → Picks run_first run_second o f g l f' g' → Picks run_first run_second p f' g' m f2 g2 → Picks run_first run_second (o ++ p) f g (l ++ m) f2 g2
-  picks_follow follows_first follows_second o p f f' f2 g g' g2 l m w h k =
+  picks_follow laws_first laws_second o p f f' f2 g g' g2 l m w h k =
       let waits = rows_wait o h.i h.j l h.rows w in
       record {
         i = h.i ++ k.i;
         j = h.j ++ k.j;
-        first = follows_first f f' f2 h.i k.i waits.0 h.first k.first;
-        second = follows_second g g' g2 h.j k.j waits.1 h.second k.second;
+        first = laws_first.follows f f' f2 h.i k.i waits.0 h.first k.first;
+        second = laws_second.follows g g' g2 h.j k.j waits.1 h.second k.second;
         rows = rows_follow o p h.i h.j k.i k.j l m h.rows k.rows;
         ends = waiting_up_to l m w k.ends;
       }

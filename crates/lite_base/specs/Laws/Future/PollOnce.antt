@@ -1,18 +1,22 @@
 -- Laws of `poll_once`.
-use Rattle.std.proofs.Common.{◌≤◌, List, [], ◌∷◌, ◌++◌, length, Option, subst, arith}
+use Rattle.std.proofs.Common.{◌≤◌, List, [], ◌∷◌, ◌++◌, length, Option, refl, subst, arith}
 use Rattle.futures.specs.declared.task.Poll.{Poll}
 use Rattle.futures.specs.declared.task.Poll.TheVariants.{Ready, Pending}
 use Rattle.lite_base.specs.Answers.{Waiting, strip}
 use Rattle.lite_base.specs.Future.PollOnce.{TellsFirst}
+use Rattle.lite_base.specs.FutureLaws.{FutureLaws}
 use Rattle.lite_base.specs.declared.future.poll_once.PollOnce.{PollOnce}
 
 module _ {F A : Type 0} (run : F → List (Poll A) → F → Type 0) where
-  pub tells_follow : (x y z : PollOnce F) (l m : List (Poll (Option A))) → Waiting l → TellsFirst run x l y → TellsFirst run y m z → TellsFirst run x (l ++ m) z
+  tells_follow : (x y z : PollOnce F) (l m : List (Poll (Option A))) → Waiting l → TellsFirst run x l y → TellsFirst run y m z → TellsFirst run x (l ++ m) z
   tells_follow x y z [] m w h k = subst (λ t. TellsFirst run t m z) h k
   tells_follow x y z (Pending ∷ l) m w h k = absurd (let e = h.2 in cc)
   tells_follow x y z (Ready b ∷ l) m w h k = absurd w
 
-  pub tells_once : (x y : PollOnce F) (l : List (Poll (Option A))) → TellsFirst run x l y → length (strip l) ≤ 1
+  tells_once : (x y : PollOnce F) (l : List (Poll (Option A))) → TellsFirst run x l y → length (strip l) ≤ 1
   tells_once x y [] h = omega arith
   tells_once x y (Pending ∷ l) h = absurd (let e = h.2 in cc)
   tells_once x y (Ready b ∷ l) h = rw h.3 (omega arith)
+
+  pub tells_laws : FutureLaws (TellsFirst run)
+  tells_laws = record { rests = λ x. refl; stays = λ x y h. h; follows = tells_follow; once = tells_once }

@@ -1,35 +1,37 @@
 -- Laws of `race`.
-use Rattle.std.proofs.Common.{◌≡◌, ◌≤◌, List, [], ◌∷◌, ◌++◌, length, map, subst, sym, append-nil, arith}
+use Rattle.std.proofs.Common.{◌≡◌, ◌≤◌, List, [], ◌∷◌, ◌++◌, length, map, refl, subst, sym, append-nil, arith}
 use Rattle.std.proofs.lemmas.List.{map-append}
 use Rattle.rand_core.specs.Stream.{Stream, next_u32}
 use Rattle.futures.specs.declared.task.Poll.{Poll}
 use Rattle.lite_base.specs.Answers.{Waiting, strip}
 use Rattle.lite_base.specs.Future.Race.{Races, RacesOn, is_first}
+use Rattle.lite_base.specs.FutureLaws.{FutureLaws}
 use Rattle.lite_base.specs.Laws.Answers.{up_to_once}
-use Rattle.lite_base.specs.Laws.Future.Calls.{folds_follow}
+use Rattle.lite_base.specs.Laws.Calls.{folds_follow}
 use Rattle.lite_base.specs.Laws.Future.Picks.{picks_follow}
 use Rattle.lite_base.specs.declared.future.race.Race.{Race}
 
 module _ {F G R A : Type 0} (run_first : F → List (Poll A) → F → Type 0) (run_second : G → List (Poll A) → G → Type 0) (stream : R → Stream) where
-  pub races_once : (x y : Race F G R) (l : List (Poll A)) → RacesOn run_first run_second stream x l y → length (strip l) ≤ 1
+  races_once : (x y : Race F G R) (l : List (Poll A)) → RacesOn run_first run_second stream x l y → length (strip l) ≤ 1
   races_once x y [] h = omega arith
   races_once x y (c ∷ l) h = up_to_once (c ∷ l) h.picks.ends
 
-  joined : ((x y z : F) (l m : List (Poll A)) → Waiting l → run_first x l y → run_first y m z → run_first x (l ++ m) z)
-      → ((x y z : G) (l m : List (Poll A)) → Waiting l → run_second x l y → run_second y m z → run_second x (l ++ m) z)
+  joined : FutureLaws run_first → FutureLaws run_second
       → (x y z : Race F G R) (l m : List (Poll A)) → Waiting l → Races run_first run_second stream x l y → Races run_first run_second stream y m z → Races run_first run_second stream x (l ++ m) z
-  joined follows_first follows_second x y z l m w h k =
+  joined laws_first laws_second x y z l m w h k =
       record {
         words = h.words ++ k.words;
         drawn = folds_follow (λ s word left. (word, left) ≡ next_u32 s) (stream x.rng) (stream y.rng) (stream z.rng) h.words k.words h.drawn k.drawn;
         picks = rw (map-append is_first h.words k.words)
-            (picks_follow run_first run_second follows_first follows_second (map is_first h.words) (map is_first k.words) x.future1 y.future1 z.future1 x.future2 y.future2 z.future2 l m w h.picks k.picks);
+            (picks_follow run_first run_second laws_first laws_second (map is_first h.words) (map is_first k.words) x.future1 y.future1 z.future1 x.future2 y.future2 z.future2 l m w h.picks k.picks);
       }
 
-  pub races_follow : ((x y z : F) (l m : List (Poll A)) → Waiting l → run_first x l y → run_first y m z → run_first x (l ++ m) z)
-      → ((x y z : G) (l m : List (Poll A)) → Waiting l → run_second x l y → run_second y m z → run_second x (l ++ m) z)
+  races_follow : FutureLaws run_first → FutureLaws run_second
       → (x y z : Race F G R) (l m : List (Poll A)) → Waiting l → RacesOn run_first run_second stream x l y → RacesOn run_first run_second stream y m z → RacesOn run_first run_second stream x (l ++ m) z
-  races_follow follows_first follows_second x y z [] m w h k = subst (λ t. RacesOn run_first run_second stream t m z) h k
-  races_follow follows_first follows_second x y z (c ∷ l) [] w h k =
+  races_follow laws_first laws_second x y z [] m w h k = subst (λ t. RacesOn run_first run_second stream t m z) h k
+  races_follow laws_first laws_second x y z (c ∷ l) [] w h k =
       subst (λ t. RacesOn run_first run_second stream x t z) (sym (append-nil (c ∷ l))) (subst (λ t. RacesOn run_first run_second stream x (c ∷ l) t) (sym k) h)
-  races_follow follows_first follows_second x y z (c ∷ l) (d ∷ m) w h k = joined follows_first follows_second x y z (c ∷ l) (d ∷ m) w h k
+  races_follow laws_first laws_second x y z (c ∷ l) (d ∷ m) w h k = joined laws_first laws_second x y z (c ∷ l) (d ∷ m) w h k
+
+  pub races_laws : FutureLaws run_first → FutureLaws run_second → FutureLaws (RacesOn run_first run_second stream)
+  races_laws laws_first laws_second = record { rests = λ x. refl; stays = λ x y h. h; follows = races_follow laws_first laws_second; once = races_once }

@@ -9,7 +9,7 @@ returns-in-Ready g c =
     let waited = c.polls.invariant.waited in
     let e : c.poll.result ≡ Ready c.in-Ready.value = search rules in
     let last = rw e at c.poll.ensures.ran in
-    (_, finishes_later g.F.Future.run g.met.F.Future.follows _ _ waited.0 _ _ waited.1 waited.2 record { gives = (refl, refl); last = c.poll.new.self; came = last })
+    (_, finishes_later g.met.F.Future.laws _ _ waited.0 _ _ waited.1 waited.2 record { gives = (refl, refl); last = c.poll.new.self; came = last })
 
 pub polls-preserved : goal.polls-preserved
 polls-preserved g c =
@@ -19,5 +19,5 @@ polls-preserved g c =
     record {
       goes_on = search rules;
       ready = rw e at c.poll.ensures.again;
-      waited = (waited.0 ++ Pending ∷ [], waiting_waiting waited.0 _ waited.1 tt, g.met.F.Future.follows _ _ _ _ _ waited.1 waited.2 next);
+      waited = (waited.0 ++ Pending ∷ [], waiting_waiting waited.0 _ waited.1 tt, g.met.F.Future.laws.follows _ _ _ _ _ waited.1 waited.2 next);
     }

@@ -1,6 +1,6 @@
 use Rattle.std.proofs.Common.{[], refl}
 use Rattle.lite_base.specs.Laws.Answers.{up_to_one}
-use Rattle.lite_base.specs.Laws.Future.Calls.{obeys_on}
+use Rattle.lite_base.specs.Laws.Future.Calls.{obeys_until}
 use Rattle.lite_base.proofs.future.poll_fn.PollFnFuture.poll.Goals as goal
 
 pub f-requires : goal.f-requires
@@ -10,7 +10,7 @@ pub returns-clause-ran : goal.returns-clause-ran
 returns-clause-ran g c = (up_to_one c.f.result, (_, (_, _, c.f.ensures), refl))
 
 pub returns-clause-again : goal.returns-clause-again
-returns-clause-again g c = obeys_on g.F.FnMut _ _ c.f.result c.requires (_, _, c.f.ensures)
+returns-clause-again g c = obeys_until g.F.FnMut _ _ c.f.result c.requires (_, _, c.f.ensures)
 
 pub returns-clause-kept : goal.returns-clause-kept
 returns-clause-kept g c = (c.requires.at [] _ tt refl _).1 _ _ _ c.f.ensures

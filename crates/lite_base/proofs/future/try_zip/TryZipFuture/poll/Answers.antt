@@ -18,7 +18,7 @@ returns-in-Err-clause-ran g c =
       came = f.3;
       is_kept = f.4;
       others = [];
-      stands = stands_rest (λ b. Ok b) g.F2.Future.run g.met.F2.Future.rests _;
+      stands = stands_rest (λ b. Ok b) g.F2.Future.run g.met.F2.Future.laws _;
       asked = omega arith;
       gives = (refl, refl);
     })

@@ -1,0 +1,22 @@
+-- A future that is held until its value, and what goes out after that.
+use Rattle.std.specs.Prelude.{◌≡◌, List, ◌++◌, map, Option, Some, None}
+use Rattle.futures.specs.declared.task.Poll.{Poll}
+use Rattle.lite_base.specs.Answers.{Waiting}
+use Rattle.lite_base.specs.Future.Finishes.{Finishes}
+
+-- each answer of the future goes out as what is `shown` of it, and `Later` are the answers after its value
+module _ {F A B : Type 0} (run : F → List (Poll A) → F → Type 0) (shown : Poll A → Poll B) (Later : List (Poll B) → Type 0) where
+  -- the future gave its list up to its value, and then there were later answers
+  pub record Spent (f : F) (out : List (Poll B)) : Type 0 where
+    pub ins : List (Poll A)
+    pub value : A
+    pub finishes : Finishes run f ins value
+    pub after : List (Poll B)
+    pub later : Later after
+    pub joined : out ≡ map shown ins ++ after
+
+  -- by whether there is still a future, before and after
+  abbrev pub Spends : Option F → List (Poll B) → Option F → Type 0
+  Spends None out y = Later out × (y ≡ None)
+  Spends (Some f) out (Some g) = (ins : List (Poll A)) × Waiting ins × run f ins g × (out ≡ map shown ins)
+  Spends (Some f) out None = Spent f out

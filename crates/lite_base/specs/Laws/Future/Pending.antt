@@ -1,0 +1,15 @@
+-- Laws of `pending`.
+use Rattle.std.proofs.Common.{◌≡◌, ◌∙◌, List, refl}
+use Rattle.futures.specs.declared.task.Poll.{Poll}
+use Rattle.lite_base.specs.Answers.{Waiting}
+use Rattle.lite_base.specs.FutureLaws.{FutureLaws}
+use Rattle.lite_base.specs.Laws.Answers.{waiting_once, waiting_waiting}
+
+pub waits_laws : {F A : Type 0} → FutureLaws (λ (x : F) (l : List (Poll A)) (y : F). Waiting l × (y ≡ x))
+waits_laws =
+    record {
+      rests = λ x. (tt, refl);
+      stays = λ x y h. h.1;
+      follows = λ x y z l m w h k. (waiting_waiting l m w k.0, k.1 ∙ h.1);
+      once = λ x y l h. waiting_once l h.0;
+    }

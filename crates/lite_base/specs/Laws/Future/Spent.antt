@@ -1,0 +1,55 @@
+-- Laws of a future that is held until its value.
+use Rattle.std.proofs.Common.{◌≡◌, List, [], ◌∷◌, ◌++◌, map, refl, Option, Some, None, append_assoc, ap}
+use Rattle.std.proofs.lemmas.List.{map-append}
+use Rattle.futures.specs.declared.task.Poll.{Poll}
+use Rattle.lite_base.specs.Answers.{Gives, Waiting}
+use Rattle.lite_base.specs.Future.Spent.{Spends}
+use Rattle.lite_base.specs.FutureLaws.{FutureLaws}
+use Rattle.lite_base.specs.Laws.Answers.{waiting_waiting}
+use Rattle.lite_base.specs.Laws.Future.Finishes.{finishes_later}
+
+module _ {A B : Type 0} (shown : Poll A → Poll B) where
+  pub shown_none : (ins : List (Poll A)) → [] ≡ map shown ins → ins ≡ []
+  shown_none [] e = refl
+  shown_none (a ∷ ins) e = absurd (cc e)
+
+  pub shown_gives : (ins : List (Poll A)) (after : List (Poll B)) (x : A) → [] ≡ map shown ins ++ after → Gives ins x → ⊥
+  shown_gives [] after x e g = g
+  shown_gives (a ∷ ins) after x e g = cc e
+
+module _ {F A B : Type 0} {run : F → List (Poll A) → F → Type 0} (shown : Poll A → Poll B) (Later : List (Poll B) → Type 0) (laws : FutureLaws run) where
+  pub spends_rest : Later [] → (x : Option F) → Spends run shown Later x [] x
+  spends_rest none None = (none, refl)
+  spends_rest none (Some f) = ([], tt, laws.rests f, refl)
+
+  pub spends_stay : (x y : Option F) → Spends run shown Later x [] y → y ≡ x
+  spends_stay None y h = h.1
+  spends_stay (Some f) (Some g) h = ap (λ v. Some v) (laws.stays f g (rw (shown_none shown h.0 h.3) at h.2))
+  spends_stay (Some f) None h = absurd (shown_gives shown h.ins h.after h.value h.joined h.finishes.gives)
+
+  -- of any two runs, the first with its value or without
+  pub spends_follow : ((l m : List (Poll B)) → Later l → Later m → Later (l ++ m))
+      → (x y z : Option F) (l m : List (Poll B)) → Spends run shown Later x l y → Spends run shown Later y m z → Spends run shown Later x (l ++ m) z
+  spends_follow more None None z l m h k = (more l m h.0 k.0, k.1)
+  spends_follow more None (Some g) z l m h k = absurd (let e = h.1 in cc)
+  spends_follow more (Some f) None None l m h k =
+      record {
+        ins = h.ins;
+        value = h.value;
+        finishes = h.finishes;
+        after = h.after ++ m;
+        later = more h.after m h.later k.0;
+        joined = rw (h.joined, append_assoc) refl;
+      }
+  spends_follow more (Some f) None (Some g) l m h k = absurd (let e = k.1 in cc)
+  spends_follow more (Some f) (Some g) None l m h k =
+      record {
+        ins = h.0 ++ k.ins;
+        value = k.value;
+        finishes = finishes_later laws f g h.0 k.ins k.value h.1 h.2 k.finishes;
+        after = k.after;
+        later = k.later;
+        joined = rw (h.3, k.joined, map-append, append_assoc) refl;
+      }
+  spends_follow more (Some f) (Some g) (Some j) l m h k =
+      (h.0 ++ k.0, waiting_waiting h.0 k.0 h.1 k.1, laws.follows f g j h.0 k.0 h.1 h.2 k.2, rw (h.3, k.3, map-append) refl)
