@@ -3,7 +3,7 @@ use Rattle.std.specs.Prelude.{◌≡◌, ℕ, ◌+◌, ◌-◌, ◌^◌, min, Li
 use Rattle.futures.specs.declared.task.Poll.{Poll}
 use Rattle.futures.specs.declared.task.Poll.TheVariants.{Ready, Pending}
 use Rattle.lite_base.specs.Answers.{Answer}
-use Rattle.lite_stream.specs.Lingering.{Lingering}
+use Rattle.lite_flatten.specs.Lingering.{Lingering}
 use Rattle.lite_stream.specs.Through.{Through}
 use Rattle.lite_flatten.specs.declared.then.Then.{Then}
 

@@ -5,7 +5,7 @@ ghost use Rattle.lite_base.specs.Laws.Hint.{same_hint};
 ghost use Rattle.lite_stream.specs.Calling.{Calls};
 ghost use Rattle.lite_flatten.specs.HeldLeaves.{HeldLeaves};
 ghost use Rattle.lite_flatten.specs.Then.{Polls, Thens, one_more, then_hint};
-ghost use Rattle.lite_stream.specs.Laws.Lingering.{held_rank, held_sized, lingering_following, lingers_bounded, lingers_falls, lingers_lowers};
+ghost use Rattle.lite_flatten.specs.Laws.Lingering.{held_rank, held_sized, lingering_following, lingers_bounded, lingers_falls, lingers_lowers};
 ghost use Rattle.lite_flatten.specs.Laws.Then.{polls_endless, polls_once, then_bounded};
 ghost use Rattle.lite_stream.specs.Laws.Through.{following_follows, following_rests, following_stays};
 

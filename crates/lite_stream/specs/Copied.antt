@@ -3,7 +3,7 @@ use Rattle.std.specs.Prelude.{◌≡◌, List}
 use denote.Ref.{Bor}
 use Rattle.lite_base.specs.Answers.{Answer}
 use Rattle.lite_stream.specs.Pointwise.{Replaces}
-use Rattle.lite_stream.specs.Through.{Through}
+use Rattle.lite_stream.specs.Through.{Parts, Through}
 use Rattle.lite_stream.specs.declared.copied.Copied.{Copied}
 
 -- nothing is asked, so nothing is gone through
@@ -12,3 +12,6 @@ Copies p x y q = y ≡ x.now
 
 abbrev pub CopiesAll : {S A : Type 0} → (S → List (Answer (Bor A)) → S → Type 0) → Copied S → List (Answer A) → Copied S → Type 0
 CopiesAll run x l y = Through run (Replaces Copies) x.stream tt l y.stream tt
+
+abbrev pub copied_parts : {S : Type 0} → Parts (Copied S) S (Unit {0})
+copied_parts = record { source = λ m. m.stream; held = λ m. tt; same = λ x y e d. λ i. record { stream = e i } }

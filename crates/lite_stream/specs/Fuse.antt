@@ -3,7 +3,7 @@ use Rattle.std.specs.Prelude.{◌≡◌, List, Some, None, Bool, true, false}
 use Rattle.futures.specs.declared.task.Poll.TheVariants.{Ready, Pending}
 use Rattle.lite_base.specs.Answers.{Answer}
 use Rattle.lite_stream.specs.Cutting.{Cuts}
-use Rattle.lite_stream.specs.Through.{Through}
+use Rattle.lite_stream.specs.Through.{Parts, Through}
 use Rattle.lite_stream.specs.declared.fuse.Fuse.{Fuse}
 
 abbrev pub is_end : {A : Type 0} → Answer A → Bool
@@ -20,3 +20,6 @@ ended_after b before = is_end b
 
 abbrev pub Fuses : {S A : Type 0} → (S → List (Answer A) → S → Type 0) → Fuse S → List (Answer A) → Fuse S → Type 0
 Fuses run x l y = Through run (Cuts has_ended ended_after) x.stream x.done l y.stream y.done
+
+abbrev pub fuse_parts : {S : Type 0} → Parts (Fuse S) S Bool
+fuse_parts = record { source = λ m. m.stream; held = λ m. m.done; same = λ x y e d. λ i. record { stream = e i; done = d i } }

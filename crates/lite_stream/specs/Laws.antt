@@ -1,10 +1,5 @@
-pub mod Counting
 pub mod Cutting
-pub mod Leaving
-pub mod Lingering
 pub mod Lower
-pub mod Map
 pub mod Pointwise
 pub mod Take
 pub mod Through
-pub mod Turns

@@ -4,7 +4,7 @@ use Rattle.std.specs.Fn.{Mut, CalledWithState}
 use denote.Ref.{MutBor}
 use Rattle.lite_base.specs.Answers.{Answer}
 use Rattle.lite_stream.specs.Pointwise.{Exchanges}
-use Rattle.lite_stream.specs.Through.{Through}
+use Rattle.lite_stream.specs.Through.{Parts, Through}
 use Rattle.lite_stream.specs.declared.scan.Scan.{Scan}
 
 -- a call at a state, which goes on to the next call
@@ -13,3 +13,6 @@ CallsWith g p x o q = CalledWithState g p.0 p.1 x o q.0 q.1
 
 abbrev pub Scans : {S V F A B : Type 0} → (S → List (Answer A) → S → Type 0) → (F × V → A → Option B → F × V → Type 0) → Scan S V F → List (Answer B) → Scan S V F → Type 0
 Scans run call x l y = Through run (Exchanges call) x.stream (x.f, x.state) l y.stream (y.f, y.state)
+
+abbrev pub scan_parts : {S V F : Type 0} → Parts (Scan S V F) S (F × V)
+scan_parts = record { source = λ m. m.stream; held = λ m. (m.f, m.state); same = λ x y e d. λ i. record { stream = e i; f = (d i).0; state = (d i).1 } }

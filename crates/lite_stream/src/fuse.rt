@@ -1,8 +1,8 @@
+ghost use Rattle.lite_base.specs.Ranks.{ranks_of};
 ghost use Rattle.std.specs.Prelude.{◌≡◌, None};
-ghost use Rattle.lite_base.specs.Laws.Hint.{same_hint};
-ghost use Rattle.lite_stream.specs.Fuse.{Fuses, ended_after, has_ended};
+ghost use Rattle.lite_stream.specs.Fuse.{Fuses, ended_after, fuse_parts, has_ended};
 ghost use Rattle.lite_stream.specs.Laws.Cutting.{cuts_turning};
-ghost use Rattle.lite_stream.specs.Laws.Through.{through_falls, through_follows, through_lowers, through_rests, through_stays};
+ghost use Rattle.lite_stream.specs.Laws.Through.{laws_unhinted, through_counting};
 
 use lite_base::{Context, Counted, Poll, Stream, ready};
 
@@ -27,13 +27,7 @@ impl<S: Stream> Stream for Fuse<S> {
 
     ghost hints = { λ m hint. hint ≡ (0, None) };
 
-    ghost rests = { λ x. through_rests S.run (cuts_turning has_ended ended_after) S.rests x.stream x.done };
-
-    ghost stays = { λ x y h. let e = through_stays S.run (cuts_turning has_ended ended_after) S.stays x.stream y.stream x.done y.done h in λ i. record { stream = e.0 i; done = e.1 i } };
-
-    ghost follows = { λ x y z. through_follows S.run (cuts_turning has_ended ended_after) S.follows x.stream y.stream z.stream x.done y.done z.done };
-
-    ghost bounded = { λ x y hint l e h. same_hint hint (0, None) l e tt };
+    ghost laws = { laws_unhinted fuse_parts S.laws (cuts_turning has_ended ended_after) };
 
     fn poll_next(&mut self, cx: &mut Context<'_>) -> Poll<Option<S::Item>> {
         if self.done {
@@ -54,21 +48,7 @@ impl<S: Stream> Stream for Fuse<S> {
 }
 
 impl<S: Counted> Counted for Fuse<S> {
-    ghost width = { S.width };
+    ghost ranks = { ranks_of (λ m. m.stream) S.ranks };
 
-    ghost rank = { λ m. S.rank m.stream };
-
-    ghost counts = { λ m. S.counts m.stream };
-
-    ghost firm = { λ m. S.firm m.stream };
-
-    ghost sized = { λ x. S.sized x.stream };
-
-    ghost counts_on = { λ x y l c h. S.counts_on x.stream y.stream h.ins c h.came };
-
-    ghost firm_on = { λ x y l c h. S.firm_on x.stream y.stream h.ins c h.came };
-
-    ghost falls = { λ x y b more c. through_falls S.run (cuts_turning has_ended ended_after) (S.rank y.stream) (S.rank x.stream) x.stream y.stream x.done y.done b more (λ a before. S.falls x.stream y.stream a before c) };
-
-    ghost lowers = { λ x y l c. through_lowers S.run (cuts_turning has_ended ended_after) (S.rank y.stream) (S.rank x.stream) x.stream y.stream x.done y.done l (λ i. S.lowers x.stream y.stream i c) };
+    ghost counting = { through_counting fuse_parts S.counting (cuts_turning has_ended ended_after) };
 }

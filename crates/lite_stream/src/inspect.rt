@@ -1,9 +1,9 @@
+ghost use Rattle.lite_base.specs.Ranks.{ranks_of};
 ghost use Rattle.std.specs.Prelude.{◌≡◌, None};
 ghost use Rattle.std.specs.Fn.{CalledAt};
-ghost use Rattle.lite_base.specs.Laws.Hint.{same_hint};
-ghost use Rattle.lite_stream.specs.Inspect.{Inspects, Shows};
+ghost use Rattle.lite_stream.specs.Inspect.{Inspects, Shows, inspect_parts};
 ghost use Rattle.lite_stream.specs.Laws.Pointwise.{replaces_turning};
-ghost use Rattle.lite_stream.specs.Laws.Through.{through_falls, through_follows, through_lowers, through_rests, through_stays};
+ghost use Rattle.lite_stream.specs.Laws.Through.{laws_unhinted, through_counting};
 
 use lite_base::{Context, Counted, Poll, Stream, ready};
 
@@ -27,13 +27,7 @@ impl<S: Stream, F: FnMut(&S::Item)> Stream for Inspect<S, F> {
 
     ghost hints = { λ m hint. hint ≡ (0, None) };
 
-    ghost rests = { λ x. through_rests S.run (replaces_turning (Shows (CalledAt F.FnMut))) S.rests x.stream x.f };
-
-    ghost stays = { λ x y h. let e = through_stays S.run (replaces_turning (Shows (CalledAt F.FnMut))) S.stays x.stream y.stream x.f y.f h in λ i. record { stream = e.0 i; f = e.1 i } };
-
-    ghost follows = { λ x y z. through_follows S.run (replaces_turning (Shows (CalledAt F.FnMut))) S.follows x.stream y.stream z.stream x.f y.f z.f };
-
-    ghost bounded = { λ x y hint l e h. same_hint hint (0, None) l e tt };
+    ghost laws = { laws_unhinted inspect_parts S.laws (replaces_turning (Shows (CalledAt F.FnMut))) };
 
     fn poll_next(&mut self, cx: &mut Context<'_>) -> Poll<Option<S::Item>> {
         match ready!(self.stream.poll_next(cx)) {
@@ -51,21 +45,7 @@ impl<S: Stream, F: FnMut(&S::Item)> Stream for Inspect<S, F> {
 }
 
 impl<S: Counted, F: FnMut(&S::Item)> Counted for Inspect<S, F> {
-    ghost width = { S.width };
+    ghost ranks = { ranks_of (λ m. m.stream) S.ranks };
 
-    ghost rank = { λ m. S.rank m.stream };
-
-    ghost counts = { λ m. S.counts m.stream };
-
-    ghost firm = { λ m. S.firm m.stream };
-
-    ghost sized = { λ x. S.sized x.stream };
-
-    ghost counts_on = { λ x y l c h. S.counts_on x.stream y.stream h.ins c h.came };
-
-    ghost firm_on = { λ x y l c h. S.firm_on x.stream y.stream h.ins c h.came };
-
-    ghost falls = { λ x y b more c. through_falls S.run (replaces_turning (Shows (CalledAt F.FnMut))) (S.rank y.stream) (S.rank x.stream) x.stream y.stream x.f y.f b more (λ a before. S.falls x.stream y.stream a before c) };
-
-    ghost lowers = { λ x y l c. through_lowers S.run (replaces_turning (Shows (CalledAt F.FnMut))) (S.rank y.stream) (S.rank x.stream) x.stream y.stream x.f y.f l (λ i. S.lowers x.stream y.stream i c) };
+    ghost counting = { through_counting inspect_parts S.counting (replaces_turning (Shows (CalledAt F.FnMut))) };
 }

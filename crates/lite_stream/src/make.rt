@@ -1,35 +1,21 @@
 //! What makes the adapters.
-ghost use Rattle.std.specs.Prelude.{◌≡◌, ◌<◌, None, Some, false};
+ghost use Rattle.std.specs.Prelude.{◌≡◌, false};
 
-use crate::cloned::Cloned;
 use crate::copied::Copied;
 use crate::enumerate::Enumerate;
-use crate::filter::Filter;
-use crate::filter_map::FilterMap;
 use crate::fuse::Fuse;
 use crate::inspect::Inspect;
 use crate::map::Map;
 use crate::map_while::MapWhile;
 use crate::scan::Scan;
-use crate::skip::Skip;
-use crate::skip_while::SkipWhile;
-use crate::step_by::StepBy;
 use crate::take::Take;
 use crate::take_while::TakeWhile;
-use lite_base::Stream;
 
 /// The stream of what `f` answers to each item of `stream`.
 pub fn map<S, F>(stream: S, f: F) -> Map<S, F>
     ensures { result ≡ record { stream = stream; f = f } }
 {
     Map { stream, f }
-}
-
-/// The stream of the items of `stream` that `predicate` accepts.
-pub fn filter<S, P>(stream: S, predicate: P) -> Filter<S, P>
-    ensures { result ≡ record { stream = stream; predicate = predicate } }
-{
-    Filter { stream, predicate }
 }
 
 /// The stream of the items of `stream`, each paired with its number, from 0 on.
@@ -44,13 +30,6 @@ pub fn inspect<S, F>(stream: S, f: F) -> Inspect<S, F>
     ensures { result ≡ record { stream = stream; f = f } }
 {
     Inspect { stream, f }
-}
-
-/// The stream of clones of what the items of `stream` refer to. A clone has to equal its original.
-pub fn cloned<S: Stream>(stream: S) -> Cloned<S>
-    ensures { result ≡ record { stream = stream; held = None } }
-{
-    Cloned { stream, held: None }
 }
 
 /// The stream of copies of what the items of `stream` refer to.
@@ -101,36 +80,4 @@ pub fn scan<S, St, F>(stream: S, initial_state: St, f: F) -> Scan<S, St, F>
         state: initial_state,
         f,
     }
-}
-
-/// The stream of what `f` answers to each item of `stream`, without each `None`.
-pub fn filter_map<S, F>(stream: S, f: F) -> FilterMap<S, F>
-    ensures { result ≡ record { stream = stream; f = f } }
-{
-    FilterMap { stream, f }
-}
-
-/// The stream of the items of `stream` without the first `n`.
-pub fn skip<S>(stream: S, n: usize) -> Skip<S>
-    ensures { result ≡ record { stream = stream; n = n } }
-{
-    Skip { stream, n }
-}
-
-/// The stream of the items of `stream` from the first one that `predicate` rejects.
-pub fn skip_while<S, P>(stream: S, predicate: P) -> SkipWhile<S, P>
-    ensures { result ≡ record { stream = stream; predicate = Some predicate } }
-{
-    SkipWhile {
-        stream,
-        predicate: Some(predicate),
-    }
-}
-
-/// The stream of the items of `stream` whose numbers, counted from 0, are multiples of `step`, which is above 0.
-pub fn step_by<S>(stream: S, step: usize) -> StepBy<S>
-    requires { 0 < step }
-    ensures { result ≡ record { stream = stream; step = step; i = 0 } }
-{
-    StepBy { stream, step, i: 0 }
 }

@@ -1,8 +1,8 @@
+ghost use Rattle.lite_base.specs.Ranks.{ranks_of};
 ghost use Rattle.lite_stream.specs.Calling.{Calls};
-ghost use Rattle.lite_stream.specs.Map.{Maps};
-ghost use Rattle.lite_stream.specs.Laws.Map.{maps_follow, maps_rest, maps_stay};
+ghost use Rattle.lite_stream.specs.Map.{Maps, map_parts};
 ghost use Rattle.lite_stream.specs.Laws.Pointwise.{replaces_turning};
-ghost use Rattle.lite_stream.specs.Laws.Through.{through_bounded, through_falls, through_lowers};
+ghost use Rattle.lite_stream.specs.Laws.Through.{laws_hinted, through_counting};
 
 use lite_base::{Context, Counted, Poll, Stream, ready};
 
@@ -27,13 +27,7 @@ impl<U, S: Stream, F: FnMut(S::Item) -> U> Stream for Map<S, F> {
 
     ghost hints = { λ m hint. S.hints m.stream hint };
 
-    ghost rests = { maps_rest S.run (Calls F.FnMut) S.rests };
-
-    ghost stays = { maps_stay S.run (Calls F.FnMut) S.stays };
-
-    ghost follows = { maps_follow S.run (Calls F.FnMut) S.follows };
-
-    ghost bounded = { λ x y hint l e. through_bounded S.run (replaces_turning (Calls F.FnMut)) hint.1 x.stream y.stream x.f y.f l (λ i. S.bounded x.stream y.stream hint i e) };
+    ghost laws = { laws_hinted map_parts S.laws (replaces_turning (Calls F.FnMut)) };
 
     fn poll_next(&mut self, cx: &mut Context<'_>) -> Poll<Option<U>> {
         match ready!(self.stream.poll_next(cx)) {
@@ -48,21 +42,7 @@ impl<U, S: Stream, F: FnMut(S::Item) -> U> Stream for Map<S, F> {
 }
 
 impl<U, S: Counted, F: FnMut(S::Item) -> U> Counted for Map<S, F> {
-    ghost width = { S.width };
+    ghost ranks = { ranks_of (λ m. m.stream) S.ranks };
 
-    ghost rank = { λ m. S.rank m.stream };
-
-    ghost counts = { λ m. S.counts m.stream };
-
-    ghost firm = { λ m. S.firm m.stream };
-
-    ghost sized = { λ x. S.sized x.stream };
-
-    ghost counts_on = { λ x y l c h. S.counts_on x.stream y.stream h.ins c h.came };
-
-    ghost firm_on = { λ x y l c h. S.firm_on x.stream y.stream h.ins c h.came };
-
-    ghost falls = { λ x y b more c. through_falls S.run (replaces_turning (Calls F.FnMut)) (S.rank y.stream) (S.rank x.stream) x.stream y.stream x.f y.f b more (λ a before. S.falls x.stream y.stream a before c) };
-
-    ghost lowers = { λ x y l c. through_lowers S.run (replaces_turning (Calls F.FnMut)) (S.rank y.stream) (S.rank x.stream) x.stream y.stream x.f y.f l (λ i. S.lowers x.stream y.stream i c) };
+    ghost counting = { through_counting map_parts S.counting (replaces_turning (Calls F.FnMut)) };
 }

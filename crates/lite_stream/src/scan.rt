@@ -1,8 +1,8 @@
+ghost use Rattle.lite_base.specs.Ranks.{ranks_of};
 ghost use Rattle.std.specs.Prelude.{◌≡◌, None};
-ghost use Rattle.lite_base.specs.Laws.Hint.{same_hint};
-ghost use Rattle.lite_stream.specs.Scan.{CallsWith, Scans};
+ghost use Rattle.lite_stream.specs.Scan.{CallsWith, Scans, scan_parts};
 ghost use Rattle.lite_stream.specs.Laws.Pointwise.{exchanges_turning};
-ghost use Rattle.lite_stream.specs.Laws.Through.{through_falls, through_follows, through_lowers, through_rests, through_stays};
+ghost use Rattle.lite_stream.specs.Laws.Through.{laws_unhinted, through_counting};
 
 use lite_base::{Context, Counted, Poll, Stream, ready};
 
@@ -28,13 +28,7 @@ impl<St, B, S: Stream, F: FnMut(&mut St, S::Item) -> Option<B>> Stream for Scan<
 
     ghost hints = { λ m hint. hint ≡ (0, None) };
 
-    ghost rests = { λ x. through_rests S.run (exchanges_turning (CallsWith F.FnMut)) S.rests x.stream (x.f, x.state) };
-
-    ghost stays = { λ x y h. let e = through_stays S.run (exchanges_turning (CallsWith F.FnMut)) S.stays x.stream y.stream (x.f, x.state) (y.f, y.state) h in λ i. record { stream = e.0 i; f = (e.1 i).0; state = (e.1 i).1 } };
-
-    ghost follows = { λ x y z. through_follows S.run (exchanges_turning (CallsWith F.FnMut)) S.follows x.stream y.stream z.stream (x.f, x.state) (y.f, y.state) (z.f, z.state) };
-
-    ghost bounded = { λ x y hint l e h. same_hint hint (0, None) l e tt };
+    ghost laws = { laws_unhinted scan_parts S.laws (exchanges_turning (CallsWith F.FnMut)) };
 
     fn poll_next(&mut self, cx: &mut Context<'_>) -> Poll<Option<B>> {
         match ready!(self.stream.poll_next(cx)) {
@@ -49,21 +43,7 @@ impl<St, B, S: Stream, F: FnMut(&mut St, S::Item) -> Option<B>> Stream for Scan<
 }
 
 impl<St, B, S: Counted, F: FnMut(&mut St, S::Item) -> Option<B>> Counted for Scan<S, St, F> {
-    ghost width = { S.width };
+    ghost ranks = { ranks_of (λ m. m.stream) S.ranks };
 
-    ghost rank = { λ m. S.rank m.stream };
-
-    ghost counts = { λ m. S.counts m.stream };
-
-    ghost firm = { λ m. S.firm m.stream };
-
-    ghost sized = { λ x. S.sized x.stream };
-
-    ghost counts_on = { λ x y l c h. S.counts_on x.stream y.stream h.ins c h.came };
-
-    ghost firm_on = { λ x y l c h. S.firm_on x.stream y.stream h.ins c h.came };
-
-    ghost falls = { λ x y b more c. through_falls S.run (exchanges_turning (CallsWith F.FnMut)) (S.rank y.stream) (S.rank x.stream) x.stream y.stream (x.f, x.state) (y.f, y.state) b more (λ a before. S.falls x.stream y.stream a before c) };
-
-    ghost lowers = { λ x y l c. through_lowers S.run (exchanges_turning (CallsWith F.FnMut)) (S.rank y.stream) (S.rank x.stream) x.stream y.stream (x.f, x.state) (y.f, y.state) l (λ i. S.lowers x.stream y.stream i c) };
+    ghost counting = { through_counting scan_parts S.counting (exchanges_turning (CallsWith F.FnMut)) };
 }

@@ -1,10 +1,10 @@
+ghost use Rattle.lite_base.specs.Ranks.{number_counting, number_ranks};
 ghost use Rattle.std.specs.Prelude.{◌≡◌, [], ◌∷◌, None, refl};
 ghost use Rattle.lite_base.specs.Answers.{items};
-ghost use Rattle.lite_base.specs.Laws.Hint.{same_hint};
-ghost use Rattle.lite_stream.specs.Take.{Takes, is_none_left, left_after};
+ghost use Rattle.lite_stream.specs.Take.{Takes, is_none_left, left_after, take_parts};
 ghost use Rattle.lite_stream.specs.Laws.Cutting.{cuts_turning};
 ghost use Rattle.lite_stream.specs.Laws.Take.{takes_lowers};
-ghost use Rattle.lite_stream.specs.Laws.Through.{through_follows, through_rests, through_stays};
+ghost use Rattle.lite_stream.specs.Laws.Through.{laws_unhinted};
 
 use lite_base::{Context, Counted, Poll, Stream, ready};
 
@@ -30,13 +30,7 @@ impl<S: Stream> Stream for Take<S> {
 
     ghost hints = { λ m hint. hint ≡ (0, None) };
 
-    ghost rests = { λ x. through_rests S.run (cuts_turning is_none_left left_after) S.rests x.stream x.n };
-
-    ghost stays = { λ x y h. let e = through_stays S.run (cuts_turning is_none_left left_after) S.stays x.stream y.stream x.n y.n h in λ i. record { stream = e.0 i; n = e.1 i } };
-
-    ghost follows = { λ x y z. through_follows S.run (cuts_turning is_none_left left_after) S.follows x.stream y.stream z.stream x.n y.n z.n };
-
-    ghost bounded = { λ x y hint l e h. same_hint hint (0, None) l e tt };
+    ghost laws = { laws_unhinted take_parts S.laws (cuts_turning is_none_left left_after) };
 
     fn poll_next(&mut self, cx: &mut Context<'_>) -> Poll<Option<S::Item>> {
         if self.n == 0 {
@@ -60,17 +54,7 @@ impl<S: Stream> Stream for Take<S> {
 }
 
 impl<S: Stream> Counted for Take<S> {
-    ghost width = { 1 };
+    ghost ranks = { number_ranks (λ m. m.n) };
 
-    ghost rank = { λ m. m.n ∷ [] };
-
-    ghost sized = { λ x. refl };
-
-    ghost counts_on = { λ x y l c h. tt };
-
-    ghost firm_on = { λ x y l c h. tt };
-
-    ghost falls = { λ x y a more c h. takes_lowers x.n y.n h.ins (items (a ∷ more)) h.turned };
-
-    ghost lowers = { λ x y l c h. takes_lowers x.n y.n h.ins l h.turned };
+    ghost counting = { number_counting (λ x y l h. takes_lowers x.n y.n h.ins l h.turned) };
 }

@@ -4,7 +4,7 @@ use Rattle.futures.specs.declared.task.Poll.{Poll}
 use Rattle.lite_base.specs.Answers.{item}
 use Rattle.futures.specs.declared.task.Poll.TheVariants.{Ready}
 use Rattle.lite_flatten.specs.Then.{Polls, one_more_at_most, then_hint}
-use Rattle.lite_stream.specs.Laws.Lingering.{count_held}
+use Rattle.lite_flatten.specs.Laws.Lingering.{count_held}
 
 module _ {V B : Type 0} (gives : V → List (Poll B) → V → Type 0) where
   pub polls_once : (v : V) (y : B) (next : Option V) → Polls gives v (item y) next → next ≡ None

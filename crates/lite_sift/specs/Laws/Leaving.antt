@@ -1,0 +1,78 @@
+-- Laws of answers of which some are left out.
+use Rattle.std.proofs.Common.{◌≡◌, ◌∙◌, ℕ, ◌≤◌, List, [], ◌∷◌, ◌++◌, Option, Some, None, ◌⊎◌, inl, inr, refl, ap, subst, sym, arith, append_assoc}
+use Rattle.std.proofs.lemmas.List.{map-append}
+use Rattle.futures.specs.declared.task.Poll.TheVariants.{Ready, Pending}
+use Rattle.lite_base.specs.Answers.{Answer, before_end, item, items}
+use Rattle.lite_base.specs.Rank.{Below, Lowers}
+use Rattle.lite_base.specs.Falling.{Lowers-below}
+use Rattle.lite_sift.specs.Leaving.{Leaves}
+use Rattle.lite_stream.specs.Laws.Through.{Turning}
+
+module _ {A : Type 0} where
+  -- items that stand before add to what stands before the end
+  items_before : (r : List A) (l : List (Answer A)) → before_end l ≤ before_end (items r ++ l)
+  items_before [] l = omega arith
+  items_before (x ∷ r) l = let e = items_before r l in omega arith
+
+  past : (r : List A) (b : Answer A) (l : List (Answer A)) (xs ys : List ℕ) → Lowers (items r ++ b ∷ l) xs ys → Below xs ys ⊎ Lowers (b ∷ l) xs ys
+  past [] b l xs ys h = inr h
+  past (y ∷ r) b l xs ys h = inl h
+
+  headed : (r : List A) (y : A) (l : List A) → (x : A) × (before : List A) × (items r ++ item y ∷ items l ≡ items (x ∷ before))
+  headed [] y l = (y, l, refl)
+  headed (x ∷ r) y l = (x, r ++ y ∷ l, sym (map-append item (x ∷ r) (y ∷ l)))
+
+  -- a list that is cut, with the answer at the cut named
+  cut_at : {i : List (Answer A)} (r : List A) (a b : Answer A) (l : List (Answer A)) → i ≡ items r ++ a ∷ l → a ≡ b → i ≡ items r ++ b ∷ l
+  cut_at r a b l cut e = cut ∙ ap (λ k. items r ++ k ∷ l) e
+
+module _ {F A B : Type 0} (call : F → A → Option B → F → Type 0) where
+  leaves_follow : (f g h : F) (i j : List (Answer A)) (o p : List (Answer B)) → Leaves call f i o g → Leaves call g j p h → Leaves call f (i ++ j) (o ++ p) h
+  leaves_follow f g h i j [] p c d = subst (λ k. Leaves call f (k ++ j) p h) (sym c.0) (subst (λ k. Leaves call k j p h) c.1 d)
+  leaves_follow f g h i j (b ∷ o) p c d =
+      let s = c.2 in
+      (c.0 ++ j, c.1, record { rejected = s.rejected; last = s.last; cut = ap (λ k. k ++ j) s.cut ∙ append_assoc (items s.rejected) (s.last ∷ c.0) j; between = s.between; rejects = s.rejects; passes = s.passes }, leaves_follow c.1 g h c.0 j o p c.3 d)
+
+  leaves_bounded : (f g : F) (i : List (Answer A)) (o : List (Answer B)) → Leaves call f i o g → before_end o ≤ before_end i
+  leaves_bounded f g i [] c = omega arith
+  leaves_bounded f g i (Pending ∷ o) c =
+      let e = leaves_bounded c.1 g c.0 o c.3 in
+      let k = items_before c.2.rejected (Pending ∷ c.0) in
+      rw (cut_at c.2.rejected c.2.last Pending c.0 c.2.cut c.2.passes.0) (omega arith)
+  leaves_bounded f g i (Ready None ∷ o) c = omega arith
+  leaves_bounded f g i (Ready (Some y) ∷ o) c =
+      let e = leaves_bounded c.1 g c.0 o c.3 in
+      let k = items_before c.2.rejected (item c.2.passes.0 ∷ c.0) in
+      rw (cut_at c.2.rejected c.2.last (item c.2.passes.0) c.0 c.2.cut c.2.passes.1) (omega arith)
+
+  leaves_lowers : (f g : F) (i : List (Answer A)) (o : List (Answer B)) (xs ys : List ℕ) → Leaves call f i o g → Lowers i xs ys → Lowers o xs ys
+  leaves_lowers f g i [] xs ys c h = subst (λ k. Lowers k xs ys) c.0 h
+  leaves_lowers f g i (Pending ∷ o) xs ys c h =
+      let cut = cut_at c.2.rejected c.2.last Pending c.0 c.2.cut c.2.passes.0 in
+      elim (past c.2.rejected Pending c.0 xs ys (subst (λ k. Lowers k xs ys) cut h)) [ inl p ↦ Lowers-below o xs ys p | inr k ↦ leaves_lowers c.1 g c.0 o xs ys c.3 k ]
+  leaves_lowers f g i (Ready None ∷ o) xs ys c h =
+      let cut = cut_at c.2.rejected c.2.last (Ready None) c.0 c.2.cut c.2.passes.0 in
+      elim (past c.2.rejected (Ready None) c.0 xs ys (subst (λ k. Lowers k xs ys) cut h)) [ inl p ↦ Lowers-below o xs ys p | inr k ↦ leaves_lowers c.1 g c.0 o xs ys c.3 k ]
+  leaves_lowers f g i (Ready (Some y) ∷ o) xs ys c h =
+      let cut = cut_at c.2.rejected c.2.last (item c.2.passes.0) c.0 c.2.cut c.2.passes.1 in
+      elim (past c.2.rejected (item c.2.passes.0) c.0 xs ys (subst (λ k. Lowers k xs ys) cut h)) [ inl p ↦ p | inr k ↦ k ]
+
+  -- where items came out, only items came in
+  came_of : (f g : F) (i : List (Answer A)) (l : List B) → Leaves call f i (items l) g → (before : List A) × (i ≡ items before)
+  came_of f g i [] c = ([], c.0)
+  came_of f g i (y ∷ l) c =
+      let e = came_of c.1 g c.0 l c.3 in
+      let x = c.2.passes.0 in
+      let cut = cut_at c.2.rejected c.2.last (item x) c.0 c.2.cut c.2.passes.1 in
+      (c.2.rejected ++ x ∷ e.0, cut ∙ ap (λ k. items c.2.rejected ++ item x ∷ k) e.1 ∙ sym (map-append item c.2.rejected (x ∷ e.0)))
+
+  leaves_items : (f g : F) (i : List (Answer A)) (y : B) (l : List B) → Leaves call f i (items (y ∷ l)) g → (x : A) × (before : List A) × (i ≡ items (x ∷ before))
+  leaves_items f g i y l c =
+      let e = came_of c.1 g c.0 l c.3 in
+      let x = c.2.passes.0 in
+      let cut = cut_at c.2.rejected c.2.last (item x) c.0 c.2.cut c.2.passes.1 in
+      let h = headed c.2.rejected x e.0 in
+      (h.0, h.1, cut ∙ ap (λ k. items c.2.rejected ++ item x ∷ k) e.1 ∙ h.2)
+
+  pub leaves_turning : Turning (Leaves call)
+  leaves_turning = record { following = record { starts = λ f. (refl, refl); empty = λ f g i c. c; joins = leaves_follow }; bounds = leaves_bounded; lowers = leaves_lowers; from_items = leaves_items }

@@ -1,0 +1,30 @@
+-- The turns of a poll that leaves items out make one segment.
+use Rattle.std.proofs.Common.{List, [], ◌∷◌, ◌++◌, Option, Some, None, refl, ap}
+use Rattle.lite_base.specs.Answers.{Answer, item}
+use Rattle.lite_base.specs.Chain.{Goes, Next, Goes-back}
+use Rattle.lite_sift.specs.Leaving.{Leaves, Segment, Sifts, Turn}
+use Rattle.lite_stream.specs.Through.{Through}
+
+module _ {S F A B : Type 0} (call : F → A → Option B → F → Type 0) (run : S → List (Answer A) → S → Type 0) where
+  -- the last turn of a poll
+  turn_answers : (s t : S) (p q : F) (b : Answer B) → Turn call run s p (Some b) t q → Through run (Leaves call) s p (b ∷ []) t q
+  turn_answers s t p q b h =
+      let last : Segment call p (h.0 ∷ []) b [] q = record { rejected = []; last = h.0; cut = refl; between = p; rejects = refl; passes = h.2 } in
+      record { ins = h.0 ∷ []; came = h.1; turned = ([], q, last, (refl, refl)) }
+
+  -- a turn before others
+  turn_rejects : ((x y z : S) (l m : List (Answer A)) → run x l y → run y m z → run x (l ++ m) z)
+      → (s t u : S) (p q r : F) (b : Answer B) → Turn call run s p None t q → Through run (Leaves call) t q (b ∷ []) u r → Through run (Leaves call) s p (b ∷ []) u r
+  turn_rejects follows s t u p q r b h m =
+      let old = m.turned.2 in
+      let longer : Segment call p (item h.0 ∷ m.ins) b m.turned.0 m.turned.1 = record { rejected = h.0 ∷ old.rejected; last = old.last; cut = ap (λ l. item h.0 ∷ l) old.cut; between = old.between; rejects = (q, h.2, old.rejects); passes = old.passes } in
+      record { ins = item h.0 ∷ m.ins; came = follows s t u (item h.0 ∷ []) m.ins h.1 m.came; turned = (m.turned.0, m.turned.1, longer, m.turned.3) }
+
+  -- the turns of a poll of an adapter
+  pub sifts_answer : {T : Type 0} (can_turn : T → Type 0) (source : T → S) (asked : T → F)
+      → ((x y z : S) (l m : List (Answer A)) → run x l y → run y m z → run x (l ++ m) z)
+      → (x y z : T) (b : Answer B) → Goes (Next (Sifts call run can_turn source asked)) x y → Sifts call run can_turn source asked y (Some b) z → Through run (Leaves call) (source x) (asked x) (b ∷ []) (source z) (asked z)
+  sifts_answer can_turn source asked follows x y z b goes last =
+      Goes-back (λ m. Through run (Leaves call) (source m) (asked m) (b ∷ []) (source z) (asked z))
+      (λ v w t. turn_rejects follows (source v) (source w) (source z) (asked v) (asked w) (asked z) b t.1)
+      x y goes (turn_answers (source y) (source z) (asked y) (asked z) b last.1)

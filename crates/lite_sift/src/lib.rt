@@ -1,0 +1,15 @@
+//! Adapters of one stream that leave items out.
+#![tactic(auto)]
+
+mod filter;
+mod filter_map;
+pub mod make;
+mod skip;
+mod skip_while;
+mod step_by;
+
+pub use filter::Filter;
+pub use filter_map::FilterMap;
+pub use skip::Skip;
+pub use skip_while::SkipWhile;
+pub use step_by::StepBy;

@@ -1,0 +1,90 @@
+ghost use Rattle.lite_base.specs.Ranks.{ranks_of};
+ghost use Rattle.std.specs.Prelude.{◌≡◌, [], None};
+ghost use Rattle.std.specs.Fn.{CalledAt};
+ghost use Rattle.lite_base.specs.Ends.{Ends-map};
+ghost use Rattle.lite_sift.specs.SkipWhile.{CanSkip, SkipsUntil, SkipsWhile, skip_while_parts};
+ghost use Rattle.lite_sift.specs.Leaving.{Sifts};
+ghost use Rattle.lite_sift.specs.Laws.Leaving.{leaves_turning};
+ghost use Rattle.lite_stream.specs.Laws.Through.{laws_unhinted, through_counting};
+
+use lite_base::{Context, Counted, Poll, Stream, Turns, drive};
+
+/// The items of a stream from the first one that a predicate rejects.
+///
+/// Made by [`skip_while`](crate::make::skip_while). At the first item that goes out the predicate is dropped, and is
+/// not asked again. A poll goes on over items that are left out until there is another one, a pending or an end, so
+/// the stream's rank has to count. Ported from `src/stream.rs`, `SkipWhile`.
+#[derive(Drop)]
+pub struct SkipWhile<S, P> {
+    pub(crate) stream: S,
+    pub(crate) predicate: Option<P>,
+}
+
+impl<S: Counted, P: FnMut(&S::Item) -> bool + Drop> Turns for SkipWhile<S, P>
+where
+    S::Item: Drop,
+{
+    type Output = Option<S::Item>;
+
+    ghost can_turn = { CanSkip S.can_poll S.ranks.counts P.IsAlwaysCallable };
+
+    ghost turn = { Sifts (SkipsUntil (CalledAt P.FnMut)) S.run (CanSkip S.can_poll S.ranks.counts P.IsAlwaysCallable) (λ m. m.stream) (λ m. m.predicate) };
+
+    ghost turn_leaves = { λ m. S.leaves m.stream };
+
+    ghost goes_on = { λ x y c h. h.0 };
+
+    ghost finite = { λ x c. Ends-map (λ m. m.stream) (λ m n h. (h.1.0, [], h.1.1)) x (S.ends x.stream c.1) };
+
+    fn turn_once(&mut self, cx: &mut Context<'_>) -> Option<Poll<Option<S::Item>>> {
+        match self.stream.poll_next(cx) {
+            Poll::Ready(Some(item)) => match &mut self.predicate {
+                Some(predicate) => {
+                    if predicate(&item) {
+                        None
+                    } else {
+                        self.predicate = None;
+                        Some(Poll::Ready(Some(item)))
+                    }
+                }
+                None => Some(Poll::Ready(Some(item))),
+            },
+            Poll::Ready(None) => Some(Poll::Ready(None)),
+            Poll::Pending => Some(Poll::Pending),
+        }
+    }
+}
+
+impl<S: Counted, P: FnMut(&S::Item) -> bool + Drop> Stream for SkipWhile<S, P>
+where
+    S::Item: Drop,
+{
+    type Item = S::Item;
+
+    ghost can_poll = { CanSkip S.can_poll S.ranks.counts P.IsAlwaysCallable };
+
+    ghost run = { SkipsWhile S.run (CalledAt P.FnMut) };
+
+    ghost leaves = { λ m. S.leaves m.stream };
+
+    ghost hints = { λ m hint. hint ≡ (0, None) };
+
+    ghost laws = { laws_unhinted skip_while_parts S.laws (leaves_turning (SkipsUntil (CalledAt P.FnMut))) };
+
+    fn poll_next(&mut self, cx: &mut Context<'_>) -> Poll<Option<S::Item>> {
+        drive(self, cx)
+    }
+
+    fn size_hint(&self) -> (usize, Option<usize>) {
+        (0, None)
+    }
+}
+
+impl<S: Counted, P: FnMut(&S::Item) -> bool + Drop> Counted for SkipWhile<S, P>
+where
+    S::Item: Drop,
+{
+    ghost ranks = { ranks_of (λ m. m.stream) S.ranks };
+
+    ghost counting = { through_counting skip_while_parts S.counting (leaves_turning (SkipsUntil (CalledAt P.FnMut))) };
+}

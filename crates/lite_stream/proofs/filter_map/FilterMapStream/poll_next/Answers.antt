@@ -1,6 +1,0 @@
-use Rattle.lite_stream.specs.Calling.{Calls}
-use Rattle.lite_stream.specs.Laws.Turns.{sifts_answer}
-use Rattle.lite_stream.proofs.filter_map.FilterMapStream.poll_next.Goals as goal
-
-pub returns-clause-ran : goal.returns-clause-ran
-returns-clause-ran g c = let turns = c.drive.ensures.turned in sifts_answer (Calls g.F.FnMut) g.S.Stream.run _ (λ m. m.stream) (λ m. m.f) g.met.S.Stream.follows _ turns.0 _ _ turns.1 turns.2

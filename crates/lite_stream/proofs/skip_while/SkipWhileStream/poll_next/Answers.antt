@@ -1,7 +1,0 @@
-use Rattle.std.specs.Fn.{CalledAt}
-use Rattle.lite_stream.specs.SkipWhile.{SkipsUntil}
-use Rattle.lite_stream.specs.Laws.Turns.{sifts_answer}
-use Rattle.lite_stream.proofs.skip_while.SkipWhileStream.poll_next.Goals as goal
-
-pub returns-clause-ran : goal.returns-clause-ran
-returns-clause-ran g c = let turns = c.drive.ensures.turned in sifts_answer (SkipsUntil (CalledAt g.P.FnMut)) g.S.Stream.run _ (λ m. m.stream) (λ m. m.predicate) g.met.S.Stream.follows _ turns.0 _ _ turns.1 turns.2
