@@ -5,9 +5,9 @@ use Rattle.lite_sift.specs.Leaving.{Leaves}
 use Rattle.lite_stream.specs.Through.{Parts, Through}
 use Rattle.lite_sift.specs.declared.filter_map.FilterMap.{FilterMap}
 
--- a poll may be made: the source may be polled, its rank counts, and the function may be called
-abbrev pub CanFilterMap : {S F : Type 0} → (S → Type 0) → (S → Type 0) → (F → Type 0) → FilterMap S F → Type 0
-CanFilterMap can_poll counts callable x = can_poll x.stream × counts x.stream × callable x.f
+-- a poll may be made: the source may be polled, its rank counts, and the function may be called with each item of it
+abbrev pub CanFilterMap : {S F : Type 0} → (S → Type 0) → (S → Type 0) → (S → F → Type 0) → FilterMap S F → Type 0
+CanFilterMap can_poll counts asks x = can_poll x.stream × counts x.stream × asks x.stream x.f
 
 abbrev pub FilterMaps : {S F A B : Type 0} → (S → List (Answer A) → S → Type 0) → (F → A → Option B → F → Type 0) → FilterMap S F → List (Answer B) → FilterMap S F → Type 0
 FilterMaps run call x l y = Through run (Leaves call) x.stream x.f l y.stream y.f

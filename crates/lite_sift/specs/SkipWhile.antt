@@ -1,7 +1,10 @@
 -- `skip_while`: the items before the first one that the predicate rejects are left out.
 use Rattle.std.specs.Prelude.{◌≡◌, List, Option, Some, None, Bool, true, false, IfSome}
+use Rattle.std.specs.Fn.{Mut, CalledAt, TakesAt}
+use denote.Ref.{Bor}
 use Rattle.lite_base.specs.Answers.{Answer}
 use Rattle.lite_sift.specs.Leaving.{Leaves}
+use Rattle.lite_stream.specs.EachItem.{AtEachItem}
 use Rattle.lite_stream.specs.Through.{Parts, Through}
 use Rattle.lite_sift.specs.declared.skip_while.SkipWhile.{SkipWhile}
 
@@ -12,9 +15,13 @@ SkipsUntil test None x (Some y) q = (q ≡ None) × (y ≡ x)
 SkipsUntil {F} test (Some p) x None q = (r : F) × (q ≡ Some r) × test p x true r
 SkipsUntil {F} test (Some p) x (Some y) q = (r : F) × (q ≡ None) × (y ≡ x) × test p x false r
 
--- a poll may be made: the source may be polled, its rank counts, and the predicate may be called if it is still there
-abbrev pub CanSkip : {S F : Type 0} → (S → Type 0) → (S → Type 0) → (F → Type 0) → SkipWhile S F → Type 0
-CanSkip can_poll counts callable x = can_poll x.stream × counts x.stream × IfSome x.predicate callable
+-- the predicate may be asked about each item of the source until it is gone
+abbrev pub MayAskUntil : {S F A : Type 0} → (S → List (Answer A) → S → Type 0) → Mut F (Bor A × Unit {0}) Bool → S → Option F → Type 0
+MayAskUntil run g = AtEachItem run (SkipsUntil (CalledAt g)) (λ held x. IfSome held (λ p. TakesAt g p x))
+
+-- a poll may be made: the source may be polled, its rank counts, and the predicate may be asked
+abbrev pub CanSkip : {S F : Type 0} → (S → Type 0) → (S → Type 0) → (S → Option F → Type 0) → SkipWhile S F → Type 0
+CanSkip can_poll counts asks x = can_poll x.stream × counts x.stream × asks x.stream x.predicate
 
 abbrev pub SkipsWhile : {S F A : Type 0} → (S → List (Answer A) → S → Type 0) → (F → A → Bool → F → Type 0) → SkipWhile S F → List (Answer A) → SkipWhile S F → Type 0
 SkipsWhile run test x l y = Through run (Leaves (SkipsUntil test)) x.stream x.predicate l y.stream y.predicate

@@ -2,6 +2,7 @@ ghost use Rattle.lite_base.specs.Ranks.{ranks_of};
 ghost use Rattle.std.specs.Prelude.{Option, ℕ, ◌≡◌, []};
 ghost use Rattle.std.specs.Fn.{CalledAt};
 ghost use Rattle.lite_base.specs.Ends.{Ends-map};
+ghost use Rattle.lite_stream.specs.EachItem.{MayShowEach};
 ghost use Rattle.lite_stream.specs.Calling.{Accepts};
 ghost use Rattle.lite_sift.specs.Filter.{CanFilter, Filters, filter_parts};
 ghost use Rattle.lite_sift.specs.Leaving.{Sifts};
@@ -26,9 +27,9 @@ where
 {
     type Output = Option<S::Item>;
 
-    ghost can_turn = { CanFilter S.can_poll S.ranks.counts P.IsAlwaysCallable };
+    ghost can_turn = { CanFilter S.can_poll S.ranks.counts (MayShowEach S.run P.FnMut) };
 
-    ghost turn = { Sifts (Accepts (CalledAt P.FnMut)) S.run (CanFilter S.can_poll S.ranks.counts P.IsAlwaysCallable) (λ m. m.stream) (λ m. m.predicate) };
+    ghost turn = { Sifts (Accepts (CalledAt P.FnMut)) S.run (CanFilter S.can_poll S.ranks.counts (MayShowEach S.run P.FnMut)) (λ m. m.stream) (λ m. m.predicate) };
 
     ghost turn_leaves = { λ m. S.leaves m.stream };
 
@@ -36,6 +37,7 @@ where
 
     ghost finite = { λ x c. Ends-map (λ m. m.stream) (λ m n h. (h.1.0, [], h.1.1)) x (S.ends x.stream c.1) };
 
+    #[tactic(auto, using(lite_stream::specs::Laws::EachItem::each_rules))]
     fn turn_once(&mut self, cx: &mut Context<'_>) -> Option<Poll<Option<S::Item>>> {
         match self.stream.poll_next(cx) {
             Poll::Ready(Some(item)) => {
@@ -57,7 +59,7 @@ where
 {
     type Item = S::Item;
 
-    ghost can_poll = { CanFilter S.can_poll S.ranks.counts P.IsAlwaysCallable };
+    ghost can_poll = { CanFilter S.can_poll S.ranks.counts (MayShowEach S.run P.FnMut) };
 
     ghost run = { Filters S.run (CalledAt P.FnMut) };
 

@@ -1,6 +1,7 @@
 ghost use Rattle.lite_base.specs.Ranks.{ranks_of};
 ghost use Rattle.std.specs.Prelude.{◌≡◌, [], None};
 ghost use Rattle.lite_base.specs.Ends.{Ends-map};
+ghost use Rattle.lite_stream.specs.EachItem.{MayCallEach};
 ghost use Rattle.lite_stream.specs.Calling.{Calls};
 ghost use Rattle.lite_sift.specs.FilterMap.{CanFilterMap, FilterMaps, filter_map_parts};
 ghost use Rattle.lite_sift.specs.Leaving.{Sifts};
@@ -22,9 +23,9 @@ pub struct FilterMap<S, F> {
 impl<B, S: Counted, F: FnMut(S::Item) -> Option<B>> Turns for FilterMap<S, F> {
     type Output = Option<B>;
 
-    ghost can_turn = { CanFilterMap S.can_poll S.ranks.counts F.IsAlwaysCallable };
+    ghost can_turn = { CanFilterMap S.can_poll S.ranks.counts (MayCallEach S.run F.FnMut) };
 
-    ghost turn = { Sifts (Calls F.FnMut) S.run (CanFilterMap S.can_poll S.ranks.counts F.IsAlwaysCallable) (λ m. m.stream) (λ m. m.f) };
+    ghost turn = { Sifts (Calls F.FnMut) S.run (CanFilterMap S.can_poll S.ranks.counts (MayCallEach S.run F.FnMut)) (λ m. m.stream) (λ m. m.f) };
 
     ghost turn_leaves = { λ m. S.leaves m.stream };
 
@@ -32,6 +33,7 @@ impl<B, S: Counted, F: FnMut(S::Item) -> Option<B>> Turns for FilterMap<S, F> {
 
     ghost finite = { λ x c. Ends-map (λ m. m.stream) (λ m n h. (h.1.0, [], h.1.1)) x (S.ends x.stream c.1) };
 
+    #[tactic(auto, using(lite_stream::specs::Laws::EachItem::each_rules))]
     fn turn_once(&mut self, cx: &mut Context<'_>) -> Option<Poll<Option<B>>> {
         match self.stream.poll_next(cx) {
             Poll::Ready(Some(item)) => {
@@ -47,7 +49,7 @@ impl<B, S: Counted, F: FnMut(S::Item) -> Option<B>> Turns for FilterMap<S, F> {
 impl<B, S: Counted, F: FnMut(S::Item) -> Option<B>> Stream for FilterMap<S, F> {
     type Item = B;
 
-    ghost can_poll = { CanFilterMap S.can_poll S.ranks.counts F.IsAlwaysCallable };
+    ghost can_poll = { CanFilterMap S.can_poll S.ranks.counts (MayCallEach S.run F.FnMut) };
 
     ghost run = { FilterMaps S.run (Calls F.FnMut) };
 

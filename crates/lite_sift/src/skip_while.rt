@@ -2,7 +2,7 @@ ghost use Rattle.lite_base.specs.Ranks.{ranks_of};
 ghost use Rattle.std.specs.Prelude.{◌≡◌, [], None};
 ghost use Rattle.std.specs.Fn.{CalledAt};
 ghost use Rattle.lite_base.specs.Ends.{Ends-map};
-ghost use Rattle.lite_sift.specs.SkipWhile.{CanSkip, SkipsUntil, SkipsWhile, skip_while_parts};
+ghost use Rattle.lite_sift.specs.SkipWhile.{CanSkip, MayAskUntil, SkipsUntil, SkipsWhile, skip_while_parts};
 ghost use Rattle.lite_sift.specs.Leaving.{Sifts};
 ghost use Rattle.lite_sift.specs.Laws.Leaving.{leaves_turning};
 ghost use Rattle.lite_stream.specs.Laws.Through.{laws_unhinted, through_counting};
@@ -26,9 +26,9 @@ where
 {
     type Output = Option<S::Item>;
 
-    ghost can_turn = { CanSkip S.can_poll S.ranks.counts P.IsAlwaysCallable };
+    ghost can_turn = { CanSkip S.can_poll S.ranks.counts (MayAskUntil S.run P.FnMut) };
 
-    ghost turn = { Sifts (SkipsUntil (CalledAt P.FnMut)) S.run (CanSkip S.can_poll S.ranks.counts P.IsAlwaysCallable) (λ m. m.stream) (λ m. m.predicate) };
+    ghost turn = { Sifts (SkipsUntil (CalledAt P.FnMut)) S.run (CanSkip S.can_poll S.ranks.counts (MayAskUntil S.run P.FnMut)) (λ m. m.stream) (λ m. m.predicate) };
 
     ghost turn_leaves = { λ m. S.leaves m.stream };
 
@@ -36,6 +36,7 @@ where
 
     ghost finite = { λ x c. Ends-map (λ m. m.stream) (λ m n h. (h.1.0, [], h.1.1)) x (S.ends x.stream c.1) };
 
+    #[tactic(auto, using(lite_stream::specs::Laws::EachItem::each_rules))]
     fn turn_once(&mut self, cx: &mut Context<'_>) -> Option<Poll<Option<S::Item>>> {
         match self.stream.poll_next(cx) {
             Poll::Ready(Some(item)) => match &mut self.predicate {
@@ -61,7 +62,7 @@ where
 {
     type Item = S::Item;
 
-    ghost can_poll = { CanSkip S.can_poll S.ranks.counts P.IsAlwaysCallable };
+    ghost can_poll = { CanSkip S.can_poll S.ranks.counts (MayAskUntil S.run P.FnMut) };
 
     ghost run = { SkipsWhile S.run (CalledAt P.FnMut) };
 

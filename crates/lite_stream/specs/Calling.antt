@@ -1,10 +1,15 @@
 -- What is asked about each item: `call p x o q` says that, asked about the item x, it goes from p to q and answers o.
 use Rattle.std.specs.Prelude.{◌≡◌, Option, Some, None, Bool, true, false}
-use Rattle.std.specs.Fn.{Mut, Called}
+use Rattle.std.specs.Fn.{Mut, Called, CalledWithState}
+use denote.Ref.{MutBor}
 
 -- a call of a function with one argument
 abbrev pub Calls : {F A B : Type 0} → Mut F (A × Unit {0}) B → F → A → B → F → Type 0
 Calls g p x y q = Called g p (x, tt) y q
+
+-- a call at a state, which goes on to the next call
+abbrev pub CallsWith : {F V A B : Type 0} → Mut F (MutBor V × (A × Unit {0})) (B × (MutBor V × Unit {0})) → F × V → A → B → F × V → Type 0
+CallsWith g p x o q = CalledWithState g p.0 p.1 x o q.0 q.1
 
 -- a call that always answers an item
 abbrev pub Always : {F A B : Type 0} → (F → A → B → F → Type 0) → F → A → Option B → F → Type 0

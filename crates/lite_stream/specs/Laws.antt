@@ -1,4 +1,5 @@
 pub mod Cutting
+pub mod EachItem
 pub mod Lower
 pub mod Pointwise
 pub mod Take

@@ -1,6 +1,7 @@
 pub mod Calling
 pub mod Copied
 pub mod Cutting
+pub mod EachItem
 pub mod Enumerate
 pub mod Fuse
 pub mod Inspect

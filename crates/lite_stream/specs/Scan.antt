@@ -1,15 +1,9 @@
 -- `scan`: as `map_while`, with a state that the function is lent at each call.
 use Rattle.std.specs.Prelude.{List, Option}
-use Rattle.std.specs.Fn.{Mut, CalledWithState}
-use denote.Ref.{MutBor}
 use Rattle.lite_base.specs.Answers.{Answer}
 use Rattle.lite_stream.specs.Pointwise.{Exchanges}
 use Rattle.lite_stream.specs.Through.{Parts, Through}
 use Rattle.lite_stream.specs.declared.scan.Scan.{Scan}
-
--- a call at a state, which goes on to the next call
-abbrev pub CallsWith : {F V A B : Type 0} → Mut F (MutBor V × (A × Unit {0})) (B × (MutBor V × Unit {0})) → F × V → A → B → F × V → Type 0
-CallsWith g p x o q = CalledWithState g p.0 p.1 x o q.0 q.1
 
 abbrev pub Scans : {S V F A B : Type 0} → (S → List (Answer A) → S → Type 0) → (F × V → A → Option B → F × V → Type 0) → Scan S V F → List (Answer B) → Scan S V F → Type 0
 Scans run call x l y = Through run (Exchanges call) x.stream (x.f, x.state) l y.stream (y.f, y.state)

@@ -1,6 +1,7 @@
 ghost use Rattle.lite_base.specs.Ranks.{ranks_of};
 ghost use Rattle.std.specs.Prelude.{◌≡◌, None};
 ghost use Rattle.std.specs.Fn.{CalledAt};
+ghost use Rattle.lite_stream.specs.EachItem.{MayShowEach};
 ghost use Rattle.lite_stream.specs.Inspect.{Inspects, Shows, inspect_parts};
 ghost use Rattle.lite_stream.specs.Laws.Pointwise.{replaces_turning};
 ghost use Rattle.lite_stream.specs.Laws.Through.{laws_unhinted, through_counting};
@@ -19,7 +20,7 @@ pub struct Inspect<S, F> {
 impl<S: Stream, F: FnMut(&S::Item)> Stream for Inspect<S, F> {
     type Item = S::Item;
 
-    ghost can_poll = { λ m. S.can_poll m.stream × F.IsAlwaysCallable m.f };
+    ghost can_poll = { λ m. S.can_poll m.stream × MayShowEach S.run F.FnMut m.stream m.f };
 
     ghost run = { Inspects S.run (CalledAt F.FnMut) };
 
@@ -29,6 +30,7 @@ impl<S: Stream, F: FnMut(&S::Item)> Stream for Inspect<S, F> {
 
     ghost laws = { laws_unhinted inspect_parts S.laws (replaces_turning (Shows (CalledAt F.FnMut))) };
 
+    #[tactic(auto, using(crate::specs::Laws::EachItem::each_rules))]
     fn poll_next(&mut self, cx: &mut Context<'_>) -> Poll<Option<S::Item>> {
         match ready!(self.stream.poll_next(cx)) {
             Some(item) => {

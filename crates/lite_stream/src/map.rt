@@ -1,4 +1,5 @@
 ghost use Rattle.lite_base.specs.Ranks.{ranks_of};
+ghost use Rattle.lite_stream.specs.EachItem.{MayCallEach};
 ghost use Rattle.lite_stream.specs.Calling.{Calls};
 ghost use Rattle.lite_stream.specs.Map.{Maps, map_parts};
 ghost use Rattle.lite_stream.specs.Laws.Pointwise.{replaces_turning};
@@ -19,7 +20,7 @@ pub struct Map<S, F> {
 impl<U, S: Stream, F: FnMut(S::Item) -> U> Stream for Map<S, F> {
     type Item = U;
 
-    ghost can_poll = { λ m. S.can_poll m.stream × F.IsAlwaysCallable m.f };
+    ghost can_poll = { λ m. S.can_poll m.stream × MayCallEach S.run F.FnMut m.stream m.f };
 
     ghost run = { Maps S.run (Calls F.FnMut) };
 
@@ -29,6 +30,7 @@ impl<U, S: Stream, F: FnMut(S::Item) -> U> Stream for Map<S, F> {
 
     ghost laws = { laws_hinted map_parts S.laws (replaces_turning (Calls F.FnMut)) };
 
+    #[tactic(auto, using(crate::specs::Laws::EachItem::each_rules))]
     fn poll_next(&mut self, cx: &mut Context<'_>) -> Poll<Option<U>> {
         match ready!(self.stream.poll_next(cx)) {
             Some(x) => Poll::Ready(Some((self.f)(x))),

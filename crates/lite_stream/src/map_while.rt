@@ -1,5 +1,6 @@
 ghost use Rattle.lite_base.specs.Ranks.{ranks_of};
 ghost use Rattle.std.specs.Prelude.{◌≡◌, None};
+ghost use Rattle.lite_stream.specs.EachItem.{MayCallEach};
 ghost use Rattle.lite_stream.specs.Calling.{Calls};
 ghost use Rattle.lite_stream.specs.MapWhile.{MapsWhile, map_while_parts};
 ghost use Rattle.lite_stream.specs.Laws.Pointwise.{exchanges_turning};
@@ -20,7 +21,7 @@ pub struct MapWhile<S, F> {
 impl<B, S: Stream, F: FnMut(S::Item) -> Option<B>> Stream for MapWhile<S, F> {
     type Item = B;
 
-    ghost can_poll = { λ m. S.can_poll m.stream × F.IsAlwaysCallable m.f };
+    ghost can_poll = { λ m. S.can_poll m.stream × MayCallEach S.run F.FnMut m.stream m.f };
 
     ghost run = { MapsWhile S.run (Calls F.FnMut) };
 
@@ -30,6 +31,7 @@ impl<B, S: Stream, F: FnMut(S::Item) -> Option<B>> Stream for MapWhile<S, F> {
 
     ghost laws = { laws_unhinted map_while_parts S.laws (exchanges_turning (Calls F.FnMut)) };
 
+    #[tactic(auto, using(crate::specs::Laws::EachItem::each_rules))]
     fn poll_next(&mut self, cx: &mut Context<'_>) -> Poll<Option<B>> {
         match ready!(self.stream.poll_next(cx)) {
             Some(item) => Poll::Ready((self.f)(item)),

@@ -1,6 +1,8 @@
 ghost use Rattle.lite_base.specs.Ranks.{ranks_of};
 ghost use Rattle.std.specs.Prelude.{◌≡◌, None};
-ghost use Rattle.lite_stream.specs.Scan.{CallsWith, Scans, scan_parts};
+ghost use Rattle.lite_stream.specs.Calling.{CallsWith};
+ghost use Rattle.lite_stream.specs.EachItem.{MayCallEachWith};
+ghost use Rattle.lite_stream.specs.Scan.{Scans, scan_parts};
 ghost use Rattle.lite_stream.specs.Laws.Pointwise.{exchanges_turning};
 ghost use Rattle.lite_stream.specs.Laws.Through.{laws_unhinted, through_counting};
 
@@ -20,7 +22,7 @@ pub struct Scan<S, St, F> {
 impl<St, B, S: Stream, F: FnMut(&mut St, S::Item) -> Option<B>> Stream for Scan<S, St, F> {
     type Item = B;
 
-    ghost can_poll = { λ m. S.can_poll m.stream × F.IsAlwaysCallable m.f };
+    ghost can_poll = { λ m. S.can_poll m.stream × MayCallEachWith S.run F.FnMut m.stream (m.f, m.state) };
 
     ghost run = { Scans S.run (CallsWith F.FnMut) };
 
@@ -30,6 +32,7 @@ impl<St, B, S: Stream, F: FnMut(&mut St, S::Item) -> Option<B>> Stream for Scan<
 
     ghost laws = { laws_unhinted scan_parts S.laws (exchanges_turning (CallsWith F.FnMut)) };
 
+    #[tactic(auto, using(crate::specs::Laws::EachItem::each_rules))]
     fn poll_next(&mut self, cx: &mut Context<'_>) -> Poll<Option<B>> {
         match ready!(self.stream.poll_next(cx)) {
             Some(item) => Poll::Ready((self.f)(&mut self.state, item)),

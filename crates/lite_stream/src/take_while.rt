@@ -1,6 +1,7 @@
 ghost use Rattle.lite_base.specs.Ranks.{ranks_of};
 ghost use Rattle.std.specs.Prelude.{◌≡◌, None};
 ghost use Rattle.std.specs.Fn.{CalledAt};
+ghost use Rattle.lite_stream.specs.EachItem.{MayShowEach};
 ghost use Rattle.lite_stream.specs.Calling.{Accepts};
 ghost use Rattle.lite_stream.specs.TakeWhile.{TakesWhile, take_while_parts};
 ghost use Rattle.lite_stream.specs.Laws.Pointwise.{exchanges_turning};
@@ -24,7 +25,7 @@ where
 {
     type Item = S::Item;
 
-    ghost can_poll = { λ m. S.can_poll m.stream × P.IsAlwaysCallable m.predicate };
+    ghost can_poll = { λ m. S.can_poll m.stream × MayShowEach S.run P.FnMut m.stream m.predicate };
 
     ghost run = { TakesWhile S.run (CalledAt P.FnMut) };
 
@@ -34,6 +35,7 @@ where
 
     ghost laws = { laws_unhinted take_while_parts S.laws (exchanges_turning (Accepts (CalledAt P.FnMut))) };
 
+    #[tactic(auto, using(crate::specs::Laws::EachItem::each_rules))]
     fn poll_next(&mut self, cx: &mut Context<'_>) -> Poll<Option<S::Item>> {
         match ready!(self.stream.poll_next(cx)) {
             Some(item) => {
