@@ -1,10 +1,10 @@
 ghost use Rattle.lite_base.specs.Ranks.{ranks_of};
 ghost use Rattle.std.specs.Prelude.{◌≡◌, None};
 ghost use Rattle.lite_base.specs.Ends.{Ends-count};
-ghost use Rattle.lite_sift.specs.StepBy.{CanStep, Steps, StepsBy, step_by_parts};
+ghost use Rattle.lite_sift.specs.StepBy.{CanStep, StepsBy, step_by_parts};
 ghost use Rattle.lite_sift.specs.Laws.Counting.{one_less};
 ghost use Rattle.lite_sift.specs.Leaving.{Sifts};
-ghost use Rattle.lite_sift.specs.Laws.Leaving.{leaves_turning};
+ghost use Rattle.lite_sift.specs.Laws.StepBy.{Countdown, steps_turning};
 ghost use Rattle.lite_stream.specs.Laws.Through.{laws_unhinted, through_counting};
 
 use lite_base::{Context, Counted, Poll, Stream, Turns, drive};
@@ -28,7 +28,7 @@ where
 
     ghost can_turn = { CanStep S.can_poll };
 
-    ghost turn = { Sifts Steps S.run (CanStep S.can_poll) (λ m. m.stream) (λ m. (m.step, m.i)) };
+    ghost turn = { Sifts Countdown S.run (CanStep S.can_poll) (λ m. m.stream) (λ m. (m.step, m.i)) };
 
     ghost turn_leaves = { λ m. S.leaves m.stream };
 
@@ -67,7 +67,7 @@ where
 
     ghost hints = { λ m hint. hint ≡ (0, None) };
 
-    ghost laws = { laws_unhinted step_by_parts S.laws (leaves_turning Steps) };
+    ghost laws = { laws_unhinted step_by_parts S.laws steps_turning };
 
     fn poll_next(&mut self, cx: &mut Context<'_>) -> Poll<Option<S::Item>> {
         drive(self, cx)
@@ -84,5 +84,5 @@ where
 {
     ghost ranks = { ranks_of (λ m. m.stream) S.ranks };
 
-    ghost counting = { through_counting step_by_parts S.counting (leaves_turning Steps) };
+    ghost counting = { through_counting step_by_parts S.counting steps_turning };
 }

@@ -1,11 +1,12 @@
 -- Laws of answers of which some are left out.
 use Rattle.std.proofs.Common.{◌≡◌, ◌∙◌, ℕ, ◌≤◌, List, [], ◌∷◌, ◌++◌, Option, Some, None, ◌⊎◌, inl, inr, refl, ap, subst, sym, arith, append_assoc}
+use Rattle.std.specs.List.{FoldsTo}
 use Rattle.std.proofs.lemmas.List.{map-append}
 use Rattle.futures.specs.declared.task.Poll.TheVariants.{Ready, Pending}
 use Rattle.lite_base.specs.Answers.{Answer, before_end, item, items}
 use Rattle.lite_base.specs.Rank.{Below, Lowers}
 use Rattle.lite_base.specs.Falling.{Lowers-below}
-use Rattle.lite_sift.specs.Leaving.{Leaves}
+use Rattle.lite_sift.specs.Leaving.{Leaves, Passes}
 use Rattle.lite_stream.specs.Laws.Through.{Turning}
 
 module _ {A : Type 0} where
@@ -76,3 +77,27 @@ module _ {F A B : Type 0} (call : F → A → Option B → F → Type 0) where
 
   pub leaves_turning : Turning (Leaves call)
   leaves_turning = record { following = record { starts = λ f. (refl, refl); empty = λ f g i c. c; joins = leaves_follow }; bounds = leaves_bounded; lowers = leaves_lowers; from_items = leaves_items }
+
+-- where one question may be asked in place of another, of what goes with what is asked
+module _ {F G A B : Type 0} (call : F → A → Option B → F → Type 0) (other : G → A → Option B → G → Type 0) (Goes : F → G → Type 0)
+    (also : (p q : F) (n : G) (x : A) (o : Option B) → Goes p n → call p x o q → (m : G) × Goes q m × other n x o m) where
+  rejects_as : (p q : F) (n : G) (xs : List A) → Goes p n → FoldsTo (λ p x q. call p x None q) p xs q → (m : G) × Goes q m × FoldsTo (λ p x q. other p x None q) n xs m
+  rejects_as p q n [] g h = (n, subst (λ z. Goes z n) h g, refl)
+  rejects_as p q n (x ∷ xs) g h =
+      let e = also p h.0 n x None g h.1 in
+      let d = rejects_as h.0 q e.0 xs e.1 h.2 in
+      (d.0, d.1, (e.0, e.2, d.2))
+
+  passes_as : (p q : F) (n : G) (a : Answer A) (b : Answer B) → Goes p n → Passes call p a b q → (m : G) × Goes q m × Passes other n a b m
+  passes_as p q n a Pending g h = (n, subst (λ z. Goes z n) (sym h.1) g, (h.0, refl))
+  passes_as p q n a (Ready None) g h = (n, subst (λ z. Goes z n) (sym h.1) g, (h.0, refl))
+  passes_as p q n a (Ready (Some y)) g h = let e = also p q n h.0 (Some y) g h.2 in (e.0, e.1, (h.0, h.1, e.2))
+
+  pub leaves_as : (p q : F) (n : G) (i : List (Answer A)) (o : List (Answer B)) → Goes p n → Leaves call p i o q → (m : G) × Goes q m × Leaves other n i o m
+  leaves_as p q n i [] g h = (n, subst (λ z. Goes z n) (sym h.1) g, (h.0, refl))
+  leaves_as p q n i (b ∷ o) g h =
+      let s = h.2 in
+      let e = rejects_as p s.between n s.rejected g s.rejects in
+      let d = passes_as s.between h.1 e.0 s.last b e.1 s.passes in
+      let f = leaves_as h.1 q d.0 h.0 o d.1 h.3 in
+      (f.0, f.1, (h.0, d.0, record { rejected = s.rejected; last = s.last; cut = s.cut; between = e.0; rejects = e.2; passes = d.2 }, f.2))

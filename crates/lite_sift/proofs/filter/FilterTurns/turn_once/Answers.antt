@@ -12,8 +12,8 @@ pub returns-then-predicate-clause-turned : goal.returns-then-predicate-clause-tu
 returns-then-predicate-clause-turned g c =
     let ran = rw c.in-Ready-Some.field-0-is at c.in-Ready-Some.ensures.ran in
     let more =
-        each_asked g.S.Stream.run (CalledAt g.P.FnMut) (TakesAt g.P.FnMut) g.met.S.Stream.laws.follows _ _ _ _ _ c.predicate.result c.requires.2 ran
-        record { shown = _; shows = refl; called = c.predicate.ensures } in
+    each_asked g.S.Stream.run (CalledAt g.P.FnMut) (TakesAt g.P.FnMut) g.met.S.Stream.laws.follows _ _ _ _ _ c.predicate.result c.requires.2 ran
+    record { shown = _; shows = refl; called = c.predicate.ensures } in
     let called = rw c.if-predicate.true at c.predicate.ensures in
     ((c.poll_next.ensures.again, g.met.S.Counted.counting.counts_on _ _ _ c.requires.1 c.poll_next.ensures.ran, more), (_, ran, (_, refl, (refl, record { shown = _; shows = refl; called = called }))))
 
@@ -21,7 +21,7 @@ pub returns-else-predicate-clause-turned : goal.returns-else-predicate-clause-tu
 returns-else-predicate-clause-turned g c =
     let ran = rw c.in-Ready-Some.field-0-is at c.in-Ready-Some.ensures.ran in
     let more =
-        each_asked g.S.Stream.run (CalledAt g.P.FnMut) (TakesAt g.P.FnMut) g.met.S.Stream.laws.follows _ _ _ _ _ c.predicate.result c.requires.2 ran
-        record { shown = _; shows = refl; called = c.predicate.ensures } in
+    each_asked g.S.Stream.run (CalledAt g.P.FnMut) (TakesAt g.P.FnMut) g.met.S.Stream.laws.follows _ _ _ _ _ c.predicate.result c.requires.2 ran
+    record { shown = _; shows = refl; called = c.predicate.ensures } in
     let called = rw c.if-predicate.false at c.predicate.ensures in
     ((c.poll_next.ensures.again, g.met.S.Counted.counting.counts_on _ _ _ c.requires.1 c.poll_next.ensures.ran, more), (c.in-Ready-Some.item, ran, record { shown = _; shows = refl; called = called }))
