@@ -4,6 +4,7 @@
 mod filter;
 mod filter_map;
 pub mod make;
+mod ok_counted;
 mod skip;
 mod skip_while;
 mod step_by;

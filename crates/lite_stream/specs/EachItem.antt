@@ -1,6 +1,6 @@
 -- What holds of each item that a source may still give.
 use Rattle.std.specs.Prelude.{List, [], ◌∷◌, ◌++◌, Some, None}
-use Rattle.std.specs.Fn.{Mut, CalledAt, CalledWithState, TakesAt, TakesWithState}
+use Rattle.std.specs.Fn.{Mut, CalledAt, TakesAt, TakesWithState}
 use Rattle.std.specs.List.{FoldsTo}
 use denote.Ref.{Bor, MutBor}
 use Rattle.futures.specs.declared.task.Poll.TheVariants.{Ready, Pending}

@@ -1,5 +1,6 @@
 pub mod Cutting
 pub mod EachItem
+pub mod Fuse
 pub mod Lower
 pub mod Pointwise
 pub mod Take

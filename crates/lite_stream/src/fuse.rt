@@ -1,7 +1,7 @@
 ghost use Rattle.lite_base.specs.Ranks.{ranks_of};
 ghost use Rattle.std.specs.Prelude.{◌≡◌, None};
-ghost use Rattle.lite_stream.specs.Fuse.{Fuses, ended_after, fuse_parts, has_ended};
-ghost use Rattle.lite_stream.specs.Laws.Cutting.{cuts_turning};
+ghost use Rattle.lite_stream.specs.Fuse.{Fuses, fuse_parts};
+ghost use Rattle.lite_stream.specs.Laws.Fuse.{fuses_turning};
 ghost use Rattle.lite_stream.specs.Laws.Through.{laws_unhinted, through_counting};
 
 use lite_base::{Context, Counted, Poll, Stream, ready};
@@ -27,7 +27,7 @@ impl<S: Stream> Stream for Fuse<S> {
 
     ghost hints = { λ m hint. hint ≡ (0, None) };
 
-    ghost laws = { laws_unhinted fuse_parts S.laws (cuts_turning has_ended ended_after) };
+    ghost laws = { laws_unhinted fuse_parts S.laws fuses_turning };
 
     fn poll_next(&mut self, cx: &mut Context<'_>) -> Poll<Option<S::Item>> {
         if self.done {
@@ -50,5 +50,5 @@ impl<S: Stream> Stream for Fuse<S> {
 impl<S: Counted> Counted for Fuse<S> {
     ghost ranks = { ranks_of (λ m. m.stream) S.ranks };
 
-    ghost counting = { through_counting fuse_parts S.counting (cuts_turning has_ended ended_after) };
+    ghost counting = { through_counting fuse_parts S.counting fuses_turning };
 }

@@ -8,6 +8,7 @@ mod inspect;
 pub mod make;
 mod map;
 mod map_while;
+mod ok_counted;
 mod scan;
 mod take;
 mod take_while;

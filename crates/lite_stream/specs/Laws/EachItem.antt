@@ -1,12 +1,8 @@
 -- Laws of what holds of each item that a source may still give.
-use Rattle.std.specs.Fn.{Mut}
-use Rattle.std.specs.List.{FoldsTo}
-use Rattle.std.proofs.Common.{◌≡◌, List, [], ◌∷◌, ◌++◌, refl, subst, sym}
-use denote.Param.Always.{always_mut, mut_next}
-use Rattle.futures.specs.declared.task.Poll.TheVariants.{Ready, Pending}
+use Rattle.std.proofs.Common.{List, [], ◌∷◌, ◌++◌, refl}
+use Rattle.futures.specs.declared.task.Poll.TheVariants.{Pending}
 use Rattle.lite_base.specs.Answers.{Answer, end, item}
-use Rattle.lite_stream.specs.Calling.{Calls}
-use Rattle.lite_stream.specs.EachItem.{AtEachItem, MayCallEach}
+use Rattle.lite_stream.specs.EachItem.{AtEachItem}
 
 module _ {S F A O : Type 0} (run : S → List (Answer A) → S → Type 0) (call : F → A → O → F → Type 0) (P : F → A → Type 0) where
   -- of the next item

@@ -1,4 +1,4 @@
-use Rattle.std.proofs.Common.{refl, rules, ◌≡◌}
+use Rattle.std.proofs.Common.{rules, ◌≡◌}
 use Rattle.lite_base.specs.Answers.{item}
 use Rattle.lite_stream.specs.Calling.{Calls}
 use Rattle.lite_stream.specs.Laws.EachItem.{each_asked, each_here}
