@@ -3,8 +3,9 @@ ghost use Rattle.std.specs.Prelude.{◌≡◌, ◌<◌, None, Some, false};
 ghost use Rattle.lite_flatten.specs.declared.chain.Part.TheVariants.{First};
 
 use lite_base::Future;
-pub use lite_base::{Counted, Stream};
-pub use lite_flatten::{Chain, FlatMap, Flatten, Then};
+pub use lite_base::{Counted, OkCounted, Stream};
+pub use lite_flatten::{Chain, Cloned, FlatMap, Flatten, Then};
+pub use lite_sift::{Filter, FilterMap, Skip, SkipWhile, StepBy};
 pub use lite_source::make::{
     empty, iter, once, once_future, pending, poll_fn, repeat, repeat_with, script, try_unfold,
     unfold,
@@ -14,8 +15,7 @@ pub use lite_source::{
 };
 use lite_stream::make;
 pub use lite_stream::{
-    Cloned, Copied, Enumerate, Filter, FilterMap, Fuse, Inspect, Map, MapWhile, Scan, Skip,
-    SkipWhile, StepBy, Take, TakeWhile,
+    Copied, Enumerate, Fuse, Inspect, Map, MapWhile, Scan, Take, TakeWhile,
 };
 
 /// What every stream can be adapted by. Ported from `src/stream.rs`, `StreamExt`.
@@ -38,7 +38,7 @@ pub trait StreamExt: Stream {
         P: FnMut(&Self::Item) -> bool,
         ensures { result ≡ record { stream = self; predicate = predicate } }
     {
-        make::filter(self, predicate)
+        lite_sift::make::filter(self, predicate)
     }
 
     /// The stream of the items of the streams that `f` makes of the items, one after the other. A poll goes on over
@@ -84,7 +84,7 @@ pub trait StreamExt: Stream {
         F: FnMut(Self::Item) -> Option<T>,
         ensures { result ≡ record { stream = self; f = f } }
     {
-        make::filter_map(self, f)
+        lite_sift::make::filter_map(self, f)
     }
 
     /// The stream of the first `n` items, which then ends for ever. An end of this stream leaves none to take.
@@ -124,7 +124,7 @@ pub trait StreamExt: Stream {
         Self: Sized,
         ensures { result ≡ record { stream = self; n = n } }
     {
-        make::skip(self, n)
+        lite_sift::make::skip(self, n)
     }
 
     /// The stream of the items from the first one that `predicate` rejects. A poll goes on over the items before it,
@@ -135,7 +135,7 @@ pub trait StreamExt: Stream {
         P: FnMut(&Self::Item) -> bool,
         ensures { result ≡ record { stream = self; predicate = Some predicate } }
     {
-        make::skip_while(self, predicate)
+        lite_sift::make::skip_while(self, predicate)
     }
 
     /// The stream of the items whose numbers, counted from 0, are multiples of `step`, which is above 0.
@@ -145,7 +145,7 @@ pub trait StreamExt: Stream {
         requires { 0 < step }
         ensures { result ≡ record { stream = self; step = step; i = 0 } }
     {
-        make::step_by(self, step)
+        lite_sift::make::step_by(self, step)
     }
 
     /// The stream of the items, and after its end those of `other`, which is asked in the same poll.
@@ -158,15 +158,14 @@ pub trait StreamExt: Stream {
         lite_flatten::make::chain(self, other)
     }
 
-    /// The stream of clones of what the items refer to, in which a refused clone is an `Err` item. A clone has to
-    /// equal its original.
+    /// The stream of clones of what the items refer to, in which a refused clone is an `Err` item.
     final fn cloned<'a, T: 'a>(self) -> Cloned<Self>
     where
         Self: Stream<Item = &'a T> + Sized,
         T: Clone,
         ensures { result ≡ record { stream = self; held = None } }
     {
-        make::cloned(self)
+        lite_flatten::make::cloned(self)
     }
 
     /// The stream of copies of what the items refer to.

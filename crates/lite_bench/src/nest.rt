@@ -1,5 +1,5 @@
 //! Nests compose: what is known of a nest of adapters is known by the contracts of the traits alone.
-ghost use Rattle.std.specs.Prelude.{◌≡◌, ◌%◌, ◌++◌, ◌∷◌, [], List, length, IfOk};
+ghost use Rattle.std.specs.Prelude.{◌≡◌, ◌%◌, ◌<◌, ◌≤◌, ◌++◌, ◌∷◌, [], List, length, IfOk};
 ghost use Rattle.futures.specs.Poll.{OnPending};
 ghost use Rattle.futures.specs.Task.{Holds, Keeps, Lasting};
 ghost use Rattle.lite_base.specs.Answers.{Answer};
@@ -45,5 +45,22 @@ pub fn evens(
         place ^ x as u64
     });
     let mut nest = mixed.filter(|x: &u64| *x % 2 == 0);
+    laws::run(&mut nest, cx, polls, out)
+}
+
+/// Divides 100 by each item of a script, none of which is 0, leaves out the quotients below 2, and appends the first
+/// `polls` answers to `out`. `Err` where memory for `out` is refused: then fewer were appended.
+pub fn hundredths(
+    script: Script<u8>,
+    cx: &mut Context<'_>,
+    polls: usize,
+    out: &mut Vec<Poll<Option<u8>>>,
+) -> Result<(), AllocError>
+    requires { EachItem (λ x. 0 < x) script }
+    ensures { (l : List (Answer _)) × (out.new.items ≡ out.old.items ++ l) × IfOk result (λ _. length l ≡ polls) × EachItem (λ y. 2 ≤ y) l }
+{
+    let mut nest = script
+        .map(|x: u8| requires { 0 < x } { 100 / x })
+        .filter(|y: &u8| *y >= 2);
     laws::run(&mut nest, cx, polls, out)
 }

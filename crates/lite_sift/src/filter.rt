@@ -21,10 +21,7 @@ pub struct Filter<S, P> {
     pub(crate) predicate: P,
 }
 
-impl<S: Counted, P: FnMut(&S::Item) -> bool> Turns for Filter<S, P>
-where
-    S::Item: Drop,
-{
+impl<S: Counted<Item: Drop>, P: FnMut(&S::Item) -> bool> Turns for Filter<S, P> {
     type Output = Option<S::Item>;
 
     ghost can_turn = { CanFilter S.can_poll S.ranks.counts (MayShowEach S.run P.FnMut) };
@@ -53,10 +50,7 @@ where
     }
 }
 
-impl<S: Counted, P: FnMut(&S::Item) -> bool> Stream for Filter<S, P>
-where
-    S::Item: Drop,
-{
+impl<S: Counted<Item: Drop>, P: FnMut(&S::Item) -> bool> Stream for Filter<S, P> {
     type Item = S::Item;
 
     ghost can_poll = { CanFilter S.can_poll S.ranks.counts (MayShowEach S.run P.FnMut) };
@@ -78,10 +72,7 @@ where
     }
 }
 
-impl<S: Counted, P: FnMut(&S::Item) -> bool> Counted for Filter<S, P>
-where
-    S::Item: Drop,
-{
+impl<S: Counted<Item: Drop>, P: FnMut(&S::Item) -> bool> Counted for Filter<S, P> {
     ghost ranks = { ranks_of (λ m. m.stream) S.ranks };
 
     ghost counting = { through_counting filter_parts S.counting (leaves_turning (Accepts (CalledAt P.FnMut))) };

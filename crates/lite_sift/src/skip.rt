@@ -20,10 +20,7 @@ pub struct Skip<S> {
     pub(crate) n: usize,
 }
 
-impl<S: Stream> Turns for Skip<S>
-where
-    S::Item: Drop,
-{
+impl<S: Stream<Item: Drop>> Turns for Skip<S> {
     type Output = Option<S::Item>;
 
     ghost can_turn = { λ m. S.can_poll m.stream };
@@ -52,10 +49,7 @@ where
     }
 }
 
-impl<S: Stream> Stream for Skip<S>
-where
-    S::Item: Drop,
-{
+impl<S: Stream<Item: Drop>> Stream for Skip<S> {
     type Item = S::Item;
 
     ghost can_poll = { λ m. S.can_poll m.stream };
@@ -77,10 +71,7 @@ where
     }
 }
 
-impl<S: Counted> Counted for Skip<S>
-where
-    S::Item: Drop,
-{
+impl<S: Counted<Item: Drop>> Counted for Skip<S> {
     ghost ranks = { ranks_of (λ m. m.stream) S.ranks };
 
     ghost counting = { through_counting skip_parts S.counting (leaves_turning Skips) };

@@ -20,10 +20,7 @@ pub struct SkipWhile<S, P> {
     pub(crate) predicate: Option<P>,
 }
 
-impl<S: Counted, P: FnMut(&S::Item) -> bool + Drop> Turns for SkipWhile<S, P>
-where
-    S::Item: Drop,
-{
+impl<S: Counted<Item: Drop>, P: FnMut(&S::Item) -> bool + Drop> Turns for SkipWhile<S, P> {
     type Output = Option<S::Item>;
 
     ghost can_turn = { CanSkip S.can_poll S.ranks.counts (MayAskUntil S.run P.FnMut) };
@@ -56,10 +53,7 @@ where
     }
 }
 
-impl<S: Counted, P: FnMut(&S::Item) -> bool + Drop> Stream for SkipWhile<S, P>
-where
-    S::Item: Drop,
-{
+impl<S: Counted<Item: Drop>, P: FnMut(&S::Item) -> bool + Drop> Stream for SkipWhile<S, P> {
     type Item = S::Item;
 
     ghost can_poll = { CanSkip S.can_poll S.ranks.counts (MayAskUntil S.run P.FnMut) };
@@ -81,10 +75,7 @@ where
     }
 }
 
-impl<S: Counted, P: FnMut(&S::Item) -> bool + Drop> Counted for SkipWhile<S, P>
-where
-    S::Item: Drop,
-{
+impl<S: Counted<Item: Drop>, P: FnMut(&S::Item) -> bool + Drop> Counted for SkipWhile<S, P> {
     ghost ranks = { ranks_of (λ m. m.stream) S.ranks };
 
     ghost counting = { through_counting skip_while_parts S.counting (leaves_turning (SkipsUntil (CalledAt P.FnMut))) };

@@ -20,10 +20,7 @@ pub struct StepBy<S> {
     pub(crate) i: usize,
 }
 
-impl<S: Stream> Turns for StepBy<S>
-where
-    S::Item: Drop,
-{
+impl<S: Stream<Item: Drop>> Turns for StepBy<S> {
     type Output = Option<S::Item>;
 
     ghost can_turn = { CanStep S.can_poll };
@@ -53,10 +50,7 @@ where
     }
 }
 
-impl<S: Stream> Stream for StepBy<S>
-where
-    S::Item: Drop,
-{
+impl<S: Stream<Item: Drop>> Stream for StepBy<S> {
     type Item = S::Item;
 
     ghost can_poll = { CanStep S.can_poll };
@@ -78,10 +72,7 @@ where
     }
 }
 
-impl<S: Counted> Counted for StepBy<S>
-where
-    S::Item: Drop,
-{
+impl<S: Counted<Item: Drop>> Counted for StepBy<S> {
     ghost ranks = { ranks_of (λ m. m.stream) S.ranks };
 
     ghost counting = { through_counting step_by_parts S.counting steps_turning };

@@ -1,6 +1,5 @@
 ghost use Rattle.lite_base.specs.Ranks.{number_counting, number_ranks};
-ghost use Rattle.std.specs.Prelude.{◌≡◌, [], ◌∷◌, None, refl};
-ghost use Rattle.lite_base.specs.Answers.{items};
+ghost use Rattle.std.specs.Prelude.{◌≡◌, None};
 ghost use Rattle.lite_stream.specs.Take.{Takes, is_none_left, left_after, take_parts};
 ghost use Rattle.lite_stream.specs.Laws.Cutting.{cuts_turning};
 ghost use Rattle.lite_stream.specs.Laws.Take.{takes_lowers};
@@ -36,16 +35,12 @@ impl<S: Stream> Stream for Take<S> {
         if self.n == 0 {
             return Poll::Ready(None);
         }
-        match ready!(self.stream.poll_next(cx)) {
-            Some(item) => {
-                self.n -= 1;
-                Poll::Ready(Some(item))
-            }
-            None => {
-                self.n = 0;
-                Poll::Ready(None)
-            }
+        let next = ready!(self.stream.poll_next(cx));
+        match &next {
+            Some(_) => self.n -= 1,
+            None => self.n = 0,
         }
+        Poll::Ready(next)
     }
 
     fn size_hint(&self) -> (usize, Option<usize>) {

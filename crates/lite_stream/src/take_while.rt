@@ -19,10 +19,7 @@ pub struct TakeWhile<S, P> {
     pub(crate) predicate: P,
 }
 
-impl<S: Stream, P: FnMut(&S::Item) -> bool> Stream for TakeWhile<S, P>
-where
-    S::Item: Drop,
-{
+impl<S: Stream<Item: Drop>, P: FnMut(&S::Item) -> bool> Stream for TakeWhile<S, P> {
     type Item = S::Item;
 
     ghost can_poll = { λ m. S.can_poll m.stream × MayShowEach S.run P.FnMut m.stream m.predicate };
@@ -54,10 +51,7 @@ where
     }
 }
 
-impl<S: Counted, P: FnMut(&S::Item) -> bool> Counted for TakeWhile<S, P>
-where
-    S::Item: Drop,
-{
+impl<S: Counted<Item: Drop>, P: FnMut(&S::Item) -> bool> Counted for TakeWhile<S, P> {
     ghost ranks = { ranks_of (λ m. m.stream) S.ranks };
 
     ghost counting = { through_counting take_while_parts S.counting (exchanges_turning (Accepts (CalledAt P.FnMut))) };

@@ -6,12 +6,12 @@ use Rattle.futures.specs.declared.task.Poll.TheVariants.{Ready, Pending}
 use Rattle.lite_base.specs.Answers.{Answer, item, end}
 use Rattle.lite_source.specs.Script.{Gives}
 use Rattle.lite_stream.specs.Calling.{Accepts}
-use Rattle.lite_stream.specs.Leaving.{Leaves}
+use Rattle.lite_sift.specs.Leaving.{Leaves}
 use Rattle.pollrun.specs.Request.{Asks}
 use Rattle.pollrun.specs.Spelling.{spelled_list}
 use Rattle.lite_flatten.specs.Chain.{Joins}
 use Rattle.lite_stream.specs.Cutting.{Cuts}
-use Rattle.lite_stream.specs.StepBy.{Steps}
+use Rattle.lite_sift.specs.StepBy.{StepsOn}
 use Rattle.lite_stream.specs.Take.{is_none_left, left_after}
 use Rattle.lite_flatten.specs.declared.chain.Part.{Part}
 use Rattle.lite_flatten.specs.declared.chain.Part.TheVariants.{First}
@@ -37,7 +37,7 @@ Pipes Plain ins out = out ≡ ins
 Pipes Double ins out = out ≡ map doubled ins
 Pipes Evens ins out = Leaves (Accepts (λ (p : Unit {0}) (z : ℤ) (b : Bool) (q : Unit {0}). b ≡ is_even z)) tt ins out tt
 Pipes Take2 ins out = (left : ℕ) × Cuts is_none_left left_after 2 ins out left
-Pipes Step2 ins out = (left : ℕ × ℕ) × Leaves Steps (2, 0) ins out left
+Pipes Step2 ins out = (left : ℕ × ℕ) × StepsOn (2, 0) ins out left
 
 -- what a pipe answers where its two scripts give the answers `firsts` and `seconds`
 abbrev pub Joined : Paired → List (Answer ℤ) → List (Answer ℤ) → List (Answer ℤ) → Type 0

@@ -1,5 +1,5 @@
 //! The words of the program, read.
-ghost use Rattle.std.specs.Prelude.{◌≡◌, ◌≢◌, ◌==◌, ◌≤◌, ◌<◌, ◌++◌, ◌∷◌, [], All, List, length, ℕ, ℤ, map, decimal, IfOk, IfErr, IsOkUnless, MatchOption, MatchResult, string_bytes};
+ghost use Rattle.std.specs.Prelude.{◌≡◌, ◌≢◌, ◌==◌, ◌≤◌, ◌<◌, ◌++◌, ◌∷◌, [], All, List, length, ℕ, ℤ, map, decimal, IfOk, IfErr, IsOkUnless, MatchOption, MatchResult, string_bytes, take};
 ghost use Rattle.std.specs.Fmt.{signed_decimal};
 ghost use Rattle.std.specs.List.{slice_split};
 ghost use Rattle.lite_base.specs.Answers.{Answer};
@@ -9,8 +9,8 @@ ghost use Rattle.pollrun.specs.Spelling.{spelled, spelled_list};
 ghost use Rattle.pollrun.specs.declared.fault.Fault.TheVariants.{Arguments, Output};
 
 use crate::fault::Fault;
-use futures_lite::Poll;
 use itoa::Buffer;
+use lite_base::Poll;
 use std::alloc::{AllocError, Global};
 
 /// The most polls, and the most answers of a script.
@@ -165,8 +165,9 @@ fn script_of(alloc: Global, word: &str) -> Result<Answers, Fault>
     Ok(script)
 }
 
+// The pieces between the commas, and of too many only one more than may be.
 fn pieces_of(alloc: Global, word: &str) -> Result<Vec<&str>, AllocError>
-    ensures { IfOk result (λ pieces. map (λ x. x.now) pieces.items ≡ slice_split (λ b. b == 44) word.now) }
+    ensures { IfOk result (λ pieces. map (λ x. x.now) pieces.items ≡ take 1001 (slice_split (λ b. b == 44) word.now)) }
 {
-    word.split(',').collect(alloc)
+    word.split(',').take(MOST + 1).collect(alloc)
 }

@@ -13,9 +13,13 @@ ghost use Rattle.pollrun.specs.Spelling.{spelled_list};
 use crate::fault::Fault;
 use crate::request::{Answers, Job, Paired, Pipe, Request, Single};
 use crate::spelling::line_of;
-use futures_lite::stream::script;
-use futures_lite::{Context, Stream, StreamExt, laws};
 use itoa::Integer;
+use lite_base::{Context, Stream};
+use lite_flatten::make::chain;
+use lite_laws::run;
+use lite_sift::make::{filter, step_by};
+use lite_source::make::script;
+use lite_stream::make::{map, take};
 use std::alloc::{AllocError, Global};
 use std::io::{self, Write};
 
@@ -106,10 +110,10 @@ fn line_of_one(
     let source = script(answers);
     match pipe {
         Single::Plain => polled(alloc, cx, source, polls),
-        Single::Double => polled(alloc, cx, source.map(twice), polls),
-        Single::Evens => polled(alloc, cx, source.filter(is_even), polls),
-        Single::Take2 => polled(alloc, cx, source.take(2), polls),
-        Single::Step2 => polled(alloc, cx, source.step_by(2), polls),
+        Single::Double => polled(alloc, cx, map(source, twice), polls),
+        Single::Evens => polled(alloc, cx, filter(source, is_even), polls),
+        Single::Take2 => polled(alloc, cx, take(source, 2), polls),
+        Single::Step2 => polled(alloc, cx, step_by(source, 2), polls),
     }
 }
 
@@ -124,7 +128,7 @@ fn line_of_two(
     ensures { IfOk result (λ line. Prints (Pipe.Two pipe) (first.items ∷ second.items ∷ []) polls (string_bytes line)) }
 {
     match pipe {
-        Paired::Chain => polled(alloc, cx, script(first).chain(script(second)), polls),
+        Paired::Chain => polled(alloc, cx, chain(script(first), script(second)), polls),
     }
 }
 
@@ -154,6 +158,6 @@ where
     ensures { IfOk result (λ line. (out : List (Answer S.Item)) × (last : S) × S.run stream out last × (length out ≡ polls) × (string_bytes line ≡ spelled_list S.Item.text out ++ 10 ∷ [])) }
 {
     let mut answers = Vec::new(alloc);
-    laws::run(&mut stream, cx, polls, &mut answers)?;
+    run(&mut stream, cx, polls, &mut answers)?;
     line_of(alloc, &answers)
 }

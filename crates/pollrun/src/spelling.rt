@@ -2,7 +2,7 @@
 ghost use Rattle.std.specs.Prelude.{◌≡◌, ◌++◌, ◌∷◌, [], IfOk, OnOk, string_bytes};
 ghost use Rattle.pollrun.specs.Spelling.{spelled, spelled_list};
 
-use futures_lite::Poll;
+use lite_base::Poll;
 use itoa::{Buffer, Integer};
 use std::alloc::{AllocError, Global};
 

@@ -21,7 +21,9 @@ const ROWS: [Row; 11] = [
 ];
 
 /// Words that are no request.
-const BAD: [&str; 19] = [
+const BAD: [&str; 21] = [
+    "plain  1 1",
+    "plain 1 ",
     "plain 1 01",
     "plain 1 -0",
     "plain 1 1,,2",
@@ -81,9 +83,7 @@ fn served(
 ) -> Result<(Vec<u8>, Vec<u8>, u8), Fail> {
     let mut words = Vec::new(rt.alloc());
     for word in line.split(' ') {
-        if !word.is_empty() {
-            words.push(String::from_str(rt.alloc(), word)?)?;
-        }
+        words.push(String::from_str(rt.alloc(), word)?)?;
     }
     let mut out = Limited {
         calls: out_calls,

@@ -1,9 +1,9 @@
-use Rattle.std.proofs.Common.{◌≡◌, ◌≤◌, ◌==◌, ℕ, ℤ, List, [], length, map, sym, ap, ◌∙◌, arith, Bor}
+use Rattle.std.proofs.Common.{◌≡◌, ◌≤◌, ◌==◌, ℕ, ℤ, List, [], length, map, take, sym, ap, ◌∙◌, arith, Bor}
 use Rattle.std.specs.Fmt.{signed_decimal}
 use Rattle.std.specs.List.{join_with_byte, slice_split}
 use Rattle.std.proofs.lemmas.List.Splits.{join_with_byte-slice_split, length-slice_split}
 use Rattle.std.proofs.Math.ListN.{length-map}
-use Rattle.std.proofs.lemmas.List.{take_all, take_more}
+use Rattle.std.proofs.lemmas.List.{length-take, take_all, take_more}
 use Rattle.std.proofs.lemmas.Slice.Zip.{all_zipped_more}
 use Rattle.lite_base.specs.Answers.{Answer}
 use Rattle.pollrun.specs.Request.{IsScript, IsWritten}
@@ -12,16 +12,29 @@ use Rattle.pollrun.proofs.Pieces.{AreSpelled, AreSpelled-from_zip, piece_spelled
 use Rattle.pollrun.proofs.request.script_of.Goals as goal
 
 -- where a word spells a script, its pieces are the answers, each spelled
-pieces_spelled : (word : List ℕ) (pieces : List (Bor (List ℕ))) (l : List (Answer ℤ)) → map (λ x. x.now) pieces ≡ slice_split (λ b. b == 44) word → IsScript l → word ≡ spelled_list signed_decimal l → map (λ x. x.now) pieces ≡ map (spelled signed_decimal) l
-pieces_spelled word pieces l cut script e = cut ∙ ap (slice_split (λ b. b == 44)) e ∙ slice_split-spelled_list l script.some script.each
+pieces_spelled : (word : List ℕ) (pieces : List (Bor (List ℕ))) (l : List (Answer ℤ)) → map (λ x. x.now) pieces ≡ take 1001 (slice_split (λ b. b == 44) word) → IsScript l → word ≡ spelled_list signed_decimal l → map (λ x. x.now) pieces ≡ map (spelled signed_decimal) l
+pieces_spelled word pieces l cut script e =
+    let parts : slice_split (λ b. b == 44) word ≡ map (spelled signed_decimal) l = ap (slice_split (λ b. b == 44)) e ∙ slice_split-spelled_list l script.some script.each in
+    let long : length (map (spelled signed_decimal) l) ≡ length l = simp length-map in
+    let few = script.few in
+    cut ∙ ap (take 1001) parts ∙ take_all 1001 (map (spelled signed_decimal) l) (omega (arith, long, few))
 
-is_script : (word : List ℕ) (pieces : List (Bor (List ℕ))) (l : List (Answer ℤ)) → map (λ x. x.now) pieces ≡ slice_split (λ b. b == 44) word → AreSpelled (λ x. x.now) pieces l → length pieces ≤ 1000 → IsScript l × (word ≡ spelled_list signed_decimal l)
+-- fewer pieces than were asked for are all of them
+all_pieces : (parts : List (List ℕ)) (pieces : List (Bor (List ℕ))) → map (λ x. x.now) pieces ≡ take 1001 parts → length pieces ≤ 1000 → map (λ x. x.now) pieces ≡ parts
+all_pieces parts pieces cut few =
+    let long : length (map (λ (x : Bor (List ℕ)). x.now) pieces) ≡ length pieces = simp length-map in
+    let taken = length-take 1001 parts in
+    let same = ap length cut in
+    cut ∙ take_all 1001 parts (omega (arith, long, taken, same, few))
+
+is_script : (word : List ℕ) (pieces : List (Bor (List ℕ))) (l : List (Answer ℤ)) → map (λ x. x.now) pieces ≡ take 1001 (slice_split (λ b. b == 44) word) → AreSpelled (λ x. x.now) pieces l → length pieces ≤ 1000 → IsScript l × (word ≡ spelled_list signed_decimal l)
 is_script word pieces l cut spell few =
-    let parts : slice_split (λ b. b == 44) word ≡ map (spelled signed_decimal) l = sym cut ∙ spell.as_written in
+    let whole = all_pieces (slice_split (λ b. b == 44) word) pieces cut few in
+    let parts : slice_split (λ b. b == 44) word ≡ map (spelled signed_decimal) l = sym whole ∙ spell.as_written in
     let long = length-slice_split (λ (b : ℕ). b == 44) word in
     let long_in : length (map (λ (x : Bor (List ℕ)). x.now) pieces) ≡ length pieces = simp length-map in
     let long_out : length (map (spelled signed_decimal) l) ≡ length l = simp length-map in
-    let same_in = ap length cut in
+    let same_in = ap length whole in
     let same_out = ap length parts in
     (record { some = omega (arith, long, long_out, same_out); few = omega (arith, few, long_in, long_out, same_in, same_out); each = spell.each }, sym (join_with_byte-slice_split 44 word) ∙ ap (join_with_byte 44) parts)
 

@@ -1,0 +1,11 @@
+use Rattle.std.proofs.Common.{rules}
+use Rattle.lite_bench.proofs.Kept.{each_given, each_left}
+use Rattle.lite_bench.proofs.nest.hundredths.Goals as goal
+
+pub run-requires : goal.run-requires
+run-requires c = ?
+
+pub returns : goal.returns
+returns c =
+    let ran = c.run.ensures.ran in
+    (ran.0, ran.1, ran.3, each_left _ _ (λ p q x y called. search rules) _ _ ran.2.ins ran.0 ran.2.turned)

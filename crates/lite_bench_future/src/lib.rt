@@ -1,0 +1,5 @@
+//! Tests of futures, of `block_on` and of wakes.
+#![tactic(auto)]
+
+#[cfg(test)]
+mod tests;

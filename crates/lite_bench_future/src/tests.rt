@@ -1,0 +1,5 @@
+mod bell;
+mod counting;
+mod future;
+mod refusing;
+mod waiting;

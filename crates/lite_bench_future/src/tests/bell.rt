@@ -1,0 +1,96 @@
+ghost use Rattle.std.specs.Prelude.{◌≡◌, refl};
+ghost use Rattle.std.proofs.Common.{◌∙◌};
+ghost use Rattle.futures.specs.Task.{Lasting};
+ghost use Rattle.lite_base.specs.Laws.Answers.{up_to_once, waiting_up_to};
+ghost use Rattle.lite_bench_future.specs.Bell.{Rings};
+
+use futures::task::{Source, Waker};
+use futures_lite::{Context, Future, Poll};
+use std::alloc::{AllocError, Global};
+use std::sync::{Arc, Mutex, Wait};
+
+/// A future that registers at a source of its own, and is ready once the bell was rung.
+#[derive(Drop)]
+pub(super) struct Bell {
+    shared: Arc<Shared>,
+}
+
+#[derive(Drop)]
+struct Shared {
+    source: Source,
+    state: Mutex<State>,
+}
+
+#[derive(Drop)]
+struct State {
+    is_rung: bool,
+    waiting: Option<Waker>,
+}
+
+impl Bell {
+    pub(super) fn new(alloc: Global) -> Result<Bell, AllocError> {
+        let state = State {
+            is_rung: false,
+            waiting: None,
+        };
+        let shared = Shared {
+            source: Source::new(),
+            state: Mutex::new(state),
+        };
+        Ok(Bell {
+            shared: Arc::new(alloc, shared)?,
+        })
+    }
+
+    /// The same bell.
+    pub(super) fn other(&self) -> Result<Bell, AllocError> {
+        Ok(Bell {
+            shared: Arc::try_clone(&self.shared)?,
+        })
+    }
+
+    /// Makes it ready, and wakes what waits for it.
+    pub(super) fn ring<R: Wait>(&self, rt: &R) {
+        let mut state = self.shared.state.lock(rt);
+        state.is_rung = true;
+        state.waiting = None;
+    }
+
+    /// Rings once something waits for it.
+    pub(super) fn ring_when_waited_for<R: Wait>(&self, rt: &R) {
+        for _ in rt.forever() {
+            let is_waited_for = self.shared.state.lock(rt).waiting.is_some();
+            if is_waited_for {
+                self.ring(rt);
+                return;
+            }
+        }
+    }
+}
+
+impl Future for Bell {
+    type Output = Result<(), ()>;
+
+    ghost run = { Rings };
+
+    ghost leaves = { λ _ fact. fact ≡ Lasting.armed };
+
+    ghost rests = { λ x. (tt, refl) };
+
+    ghost stays = { λ x y h. h.1 };
+
+    ghost follows = { λ x y z l m w h k. (waiting_up_to l m w k.0, k.1 ∙ h.1) };
+
+    ghost once = { λ x y l h. up_to_once l h.0 };
+
+    fn poll(&mut self, cx: &mut Context<'_>) -> Poll<Result<(), ()>> {
+        let Some(mut guard) = self.shared.state.try_lock() else {
+            return cx.yield_now();
+        };
+        let state = &mut *guard;
+        if state.is_rung {
+            return Poll::Ready(Ok(()));
+        }
+        cx.register(&self.shared.source, &mut state.waiting)
+    }
+}

@@ -1,0 +1,5 @@
+//! Tests of the sources.
+#![tactic(auto)]
+
+#[cfg(test)]
+mod tests;
