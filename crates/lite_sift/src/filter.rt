@@ -15,7 +15,7 @@ use lite_base::{Context, Counted, Poll, Stream, Turns, drive};
 ///
 /// Made by [`filter`](crate::make::filter). A poll goes on over rejected items until there is an accepted one, a
 /// pending or an end, so the stream's rank has to count. Ported from `src/stream.rs`, `Filter`.
-#[derive(Drop)]
+#[derive(Debug, Drop)]
 pub struct Filter<S, P> {
     pub(crate) stream: S,
     pub(crate) predicate: P,

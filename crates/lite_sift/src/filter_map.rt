@@ -14,7 +14,7 @@ use lite_base::{Context, Counted, Poll, Stream, Turns, drive};
 ///
 /// Made by [`filter_map`](crate::make::filter_map). A poll goes on over rejected items until there is a kept one, a
 /// pending or an end, so the stream's rank has to count. Ported from `src/stream.rs`, `FilterMap`.
-#[derive(Drop)]
+#[derive(Debug, Drop)]
 pub struct FilterMap<S, F> {
     pub(crate) stream: S,
     pub(crate) f: F,

@@ -14,7 +14,7 @@ use lite_base::{Context, Counted, Poll, Stream, Turns, drive};
 /// Made by [`skip`](crate::make::skip). A poll goes on over items that are left out until there is another item, a
 /// pending or an end; how many are still to be left out is counted across pendings and ends. Ported from
 /// `src/stream.rs`, `Skip`.
-#[derive(Clone, Drop)]
+#[derive(Clone, Debug, Drop)]
 pub struct Skip<S> {
     pub(crate) stream: S,
     pub(crate) n: usize,

@@ -14,7 +14,7 @@ use lite_base::{Context, Counted, Poll, Stream, Turns, drive};
 /// Made by [`skip_while`](crate::make::skip_while). At the first item that goes out the predicate is dropped, and is
 /// not asked again. A poll goes on over items that are left out until there is another one, a pending or an end, so
 /// the stream's rank has to count. Ported from `src/stream.rs`, `SkipWhile`.
-#[derive(Drop)]
+#[derive(Debug, Drop)]
 pub struct SkipWhile<S, P> {
     pub(crate) stream: S,
     pub(crate) predicate: Option<P>,

@@ -13,7 +13,7 @@ use lite_base::{Context, Counted, Poll, Stream, Turns, drive};
 ///
 /// Made by [`step_by`](crate::make::step_by). A poll goes on over items that are left out until there is a kept one, a
 /// pending or an end; the numbers run on across pendings and ends. Ported from `src/stream.rs`, `StepBy`.
-#[derive(Clone, Drop)]
+#[derive(Clone, Debug, Drop)]
 pub struct StepBy<S> {
     pub(crate) stream: S,
     pub(crate) step: usize,

@@ -9,7 +9,7 @@ use lite_base::{Context, Counted, Poll, Stream, ready};
 /// What the references of a stream refer to, copied.
 ///
 /// Made by [`copied`](crate::make::copied). Ported from `src/stream.rs`, `Copied`.
-#[derive(Clone, Drop)]
+#[derive(Clone, Debug, Drop)]
 pub struct Copied<S> {
     pub(crate) stream: S,
 }

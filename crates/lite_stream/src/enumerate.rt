@@ -11,7 +11,7 @@ use lite_base::{Context, Counted, Poll, Stream, ready};
 /// Made by [`enumerate`](crate::make::enumerate). The numbers are 0, 1, 2 and so on; they run on across pendings and
 /// ends, and after `usize::MAX` comes 0. Ported from `src/stream.rs`, `Enumerate`, which panics there in a build that
 /// checks for overflow.
-#[derive(Clone, Drop)]
+#[derive(Clone, Debug, Drop)]
 pub struct Enumerate<S> {
     pub(crate) stream: S,
     pub(crate) i: usize,

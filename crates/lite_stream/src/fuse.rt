@@ -10,7 +10,7 @@ use lite_base::{Context, Counted, Poll, Stream, ready};
 ///
 /// Made by [`fuse`](crate::make::fuse). After its first end the stream is not polled any more. Ported from
 /// `src/stream.rs`, `Fuse`.
-#[derive(Clone, Drop)]
+#[derive(Clone, Debug, Drop)]
 pub struct Fuse<S> {
     pub(crate) stream: S,
     pub(crate) done: bool,

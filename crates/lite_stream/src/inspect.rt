@@ -11,7 +11,7 @@ use lite_base::{Context, Counted, Poll, Stream, ready};
 /// The items of a stream, each of which is shown to a function before it goes out.
 ///
 /// Made by [`inspect`](crate::make::inspect). Ported from `src/stream.rs`, `Inspect`.
-#[derive(Drop)]
+#[derive(Debug, Drop)]
 pub struct Inspect<S, F> {
     pub(crate) stream: S,
     pub(crate) f: F,

@@ -11,7 +11,7 @@ use lite_base::{Context, Counted, Poll, Stream, ready};
 ///
 /// Made by [`map`](crate::make::map). A pending and an end of the stream go out as they are. Ported from
 /// `src/stream.rs`, `Map`.
-#[derive(Drop)]
+#[derive(Debug, Drop)]
 pub struct Map<S, F> {
     pub(crate) stream: S,
     pub(crate) f: F,

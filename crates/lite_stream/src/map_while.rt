@@ -12,7 +12,7 @@ use lite_base::{Context, Counted, Poll, Stream, ready};
 ///
 /// Made by [`map_while`](crate::make::map_while). That end is not for ever: polled again it goes on with the stream's
 /// next answer. Ported from `src/stream.rs`, `MapWhile`.
-#[derive(Drop)]
+#[derive(Debug, Drop)]
 pub struct MapWhile<S, F> {
     pub(crate) stream: S,
     pub(crate) f: F,

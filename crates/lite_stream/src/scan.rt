@@ -12,7 +12,7 @@ use lite_base::{Context, Counted, Poll, Stream, ready};
 ///
 /// Made by [`scan`](crate::make::scan). The state goes from call to call. An end in the place of an item is not for
 /// ever: polled again it goes on with the stream's next answer. Ported from `src/stream.rs`, `Scan`.
-#[derive(Drop)]
+#[derive(Debug, Drop)]
 pub struct Scan<S, St, F> {
     pub(crate) stream: S,
     pub(crate) state: St,

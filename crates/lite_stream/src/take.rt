@@ -12,7 +12,7 @@ use lite_base::{Context, Counted, Poll, Stream, ready};
 /// Made by [`take`](crate::make::take). With no item left to take the stream is not polled, and an end of the stream
 /// leaves none. It has a rank over any stream: the number of items that are left to take. Ported from
 /// `src/stream.rs`, `Take`.
-#[derive(Clone, Drop)]
+#[derive(Clone, Debug, Drop)]
 pub struct Take<S> {
     pub(crate) stream: S,
     pub(crate) n: usize,

@@ -13,7 +13,7 @@ use lite_base::{Context, Counted, Poll, Stream, ready};
 ///
 /// Made by [`take_while`](crate::make::take_while). A rejected item is lost. That end is not for ever: polled again it
 /// goes on with the stream's next answer. Ported from `src/stream.rs`, `TakeWhile`.
-#[derive(Drop)]
+#[derive(Debug, Drop)]
 pub struct TakeWhile<S, P> {
     pub(crate) stream: S,
     pub(crate) predicate: P,

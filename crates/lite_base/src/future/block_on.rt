@@ -15,7 +15,9 @@ use std::sync::Wait;
 ///
 /// Where a poll is pending the thread sleeps until the context of that poll is woken, and sleeps for ever where
 /// nothing wakes it. `Err` says that there was no memory for what the thread sleeps on, which is made anew for
-/// each call and before the first poll: then the future was not polled. Ported from `src/future.rs`, `block_on`.
+/// each call and before the first poll: then the future was not polled. While the system gives no random bytes, of
+/// which that is named, they are asked for again, so a source that always fails is asked for ever. Ported from
+/// `src/future.rs`, `block_on`.
 pub fn block_on<R, F>(rt: &R, mut future: F) -> Result<F::Output, AllocError>
 where
     R: Wait + RandomSource + AllocGlobal,
@@ -48,7 +50,7 @@ where
 }
 
 /// A queue with a random name of its own. `Err` is want of memory alone: where there are no random bytes, they are
-/// asked for again.
+/// asked for again, for as long as there are none.
 fn named_queue<R>(rt: &R) -> Result<Queue, AllocError>
 where
     R: Wait + RandomSource + AllocGlobal,

@@ -10,7 +10,7 @@ use crate::{Context, Poll};
 /// Lets its future go in the poll that answers ready, and is pending for ever after that.
 ///
 /// Made by [`fuse`](super::make::fuse). It may be polled after its value too. Ported from `src/future.rs`, `Fuse`.
-#[derive(Drop)]
+#[derive(Debug, Drop)]
 pub struct Fuse<F> {
     pub(crate) inner: Option<F>,
 }

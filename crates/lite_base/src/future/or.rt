@@ -10,7 +10,7 @@ use crate::{Context, Poll};
 ///
 /// Made by [`or`](super::make::or). The second future is polled only where the first was pending. Ported from
 /// `src/future.rs`, `Or`.
-#[derive(Drop)]
+#[derive(Debug, Drop)]
 pub struct Or<F1, F2> {
     pub(crate) future1: F1,
     pub(crate) future2: F2,

@@ -11,7 +11,7 @@ use std::marker::PhantomData;
 ///
 /// Made by [`pending`](super::make::pending). A poll leaves nothing in its context. Ported from
 /// `core::future::Pending`, which `src/future.rs` re-exports.
-#[derive(Drop)]
+#[derive(Debug, Drop)]
 pub struct Pending<T> {
     pub(crate) marker: PhantomData<T>,
 }

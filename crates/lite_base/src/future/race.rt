@@ -12,7 +12,7 @@ use rand_core::Rng;
 /// Made by [`race`](super::make::race) and [`race_with_seed`](super::make::race_with_seed). Each poll takes one
 /// word of the generator by `next_u32`. Where its lowest bit is 1 the first future is polled first, and else the
 /// second; the other is polled only where that one was pending. Ported from `src/future.rs`, `Race`.
-#[derive(Drop)]
+#[derive(Debug, Drop)]
 pub struct Race<F1, F2, G> {
     pub(crate) future1: F1,
     pub(crate) future2: F2,

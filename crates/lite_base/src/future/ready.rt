@@ -9,7 +9,7 @@ use crate::{Context, Poll};
 ///
 /// Made by [`ready`](super::make::ready). A poll asks that the value is still there. Ported from
 /// `core::future::Ready`, which `src/future.rs` re-exports.
-#[derive(Clone, Drop)]
+#[derive(Clone, Debug, Drop)]
 pub struct Ready<T> {
     pub(crate) value: Option<T>,
 }

@@ -12,7 +12,7 @@ use crate::{Context, Poll};
 /// Made by [`try_zip`](super::make::try_zip). Each poll polls each future that has no value yet, the first before
 /// the second, and the second only where the first did not fail in that poll. A future is let go in the poll that
 /// gives its value; after an error both are kept as they are. Ported from `src/future.rs`, `TryZip`.
-#[derive(Drop)]
+#[derive(Debug, Drop)]
 pub struct TryZip<F1, T1, F2, T2> {
     pub(crate) first: Half<F1, T1>,
     pub(crate) second: Half<F2, T2>,

@@ -9,7 +9,7 @@ use crate::{Context, Poll};
 /// Wakes its context and is pending once, and is then ready.
 ///
 /// Made by [`yield_now`](super::make::yield_now). Ported from `src/future.rs`, `YieldNow`.
-#[derive(Drop)]
+#[derive(Debug, Drop)]
 pub struct YieldNow {
     pub(crate) yielded: bool,
 }

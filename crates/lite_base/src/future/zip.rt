@@ -11,7 +11,7 @@ use crate::{Context, Poll};
 ///
 /// Made by [`zip`](super::make::zip). Each poll polls each future that has no value yet, the first before the
 /// second, and lets a future go in the poll that gives its value. Ported from `src/future.rs`, `Zip`.
-#[derive(Drop)]
+#[derive(Debug, Drop)]
 pub struct Zip<F1: Future<Output: Drop>, F2: Future<Output: Drop>> {
     pub(crate) first: Half<F1, F1::Output>,
     pub(crate) second: Half<F2, F2::Output>,

@@ -1,5 +1,5 @@
 -- Laws of a closure that is polled.
-use Rattle.std.proofs.Common.{List, ◌∷◌, ◌++◌, refl, sym, ap}
+use Rattle.std.proofs.Common.{List, ◌∷◌, refl, sym, ap}
 use Rattle.futures.specs.Poll.{OnPending}
 use Rattle.futures.specs.declared.task.Poll.{Poll}
 use Rattle.futures.specs.declared.task.Poll.TheVariants.{Ready, Pending}
