@@ -235,3 +235,15 @@ fn a_nest_of_adapters_is_firm_where_its_source_is(rt: HostRuntime) -> Result<(),
     assert_eq!(rt; got.as_slice(), expected.as_slice());
     Ok(())
 }
+
+#[test]
+fn an_adapter_shows_what_it_holds(rt: HostRuntime) -> Result<(), Fail> {
+    let shown = format!(in rt.alloc(); "{:?}", stream::iter(0u8..2).take(1).enumerate())?;
+    assert_eq!(rt;
+        shown.as_str(),
+        "Enumerate { stream: Take { stream: Iter { iter: 0..2 }, n: 1 }, i: 0 }"
+    );
+    let shown = format!(in rt.alloc(); "{:?}", stream::once(5u8).fuse())?;
+    assert_eq!(rt; shown.as_str(), "Fuse { stream: Once { value: Some(5) }, done: false }");
+    Ok(())
+}

@@ -208,3 +208,13 @@ fn step_by_over_an_iterator(rt: HostRuntime) -> Result<(), Fail> {
     assert_eq!(rt; got.as_slice(), expected.as_slice());
     Ok(())
 }
+
+#[test]
+fn an_adapter_that_skips_shows_what_it_holds(rt: HostRuntime) -> Result<(), Fail> {
+    let shown = format!(in rt.alloc(); "{:?}", stream::iter(0u8..2).skip(1).step_by(2))?;
+    assert_eq!(rt;
+        shown.as_str(),
+        "StepBy { stream: Skip { stream: Iter { iter: 0..2 }, n: 1 }, step: 2, i: 0 }"
+    );
+    Ok(())
+}

@@ -229,3 +229,16 @@ fn fuse_lets_its_future_go_with_its_value(rt: HostRuntime) -> Result<(), Fail> {
     assert_eq!(rt; drops.load(SeqCst), 1);
     Ok(())
 }
+
+#[test]
+fn a_future_shows_what_it_holds(rt: HostRuntime) -> Result<(), Fail> {
+    let both = future::or(future::ready(1u8), future::ready(2u8));
+    let shown = format!(in rt.alloc(); "{both:?}")?;
+    assert_eq!(rt;
+        shown.as_str(),
+        "Or { future1: Ready { value: Some(1) }, future2: Ready { value: Some(2) } }"
+    );
+    let shown = format!(in rt.alloc(); "{:?}", future::yield_now())?;
+    assert_eq!(rt; shown.as_str(), "YieldNow { yielded: false }");
+    Ok(())
+}
