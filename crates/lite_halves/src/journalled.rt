@@ -22,9 +22,13 @@ pub use write_half::JournalWriteHalf;
 /// A ledger is a token of std's that takes no bytes. The original has no such type.
 #[derive(Drop)]
 pub struct Blanks {
+    /// Of the calls of the half that reads.
     pub reads: Blank,
+    /// Of the bytes that it was told.
     pub got: Blank,
+    /// Of the calls of the half that writes.
     pub writes: Blank,
+    /// Of the bytes that were taken from it.
     pub taken: Blank,
 }
 

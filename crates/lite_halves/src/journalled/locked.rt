@@ -2,7 +2,8 @@
 ghost use Rattle.std.specs.Prelude.{◌≡◌, ◌≤◌, ◌<◌, ◌+◌, ◌%◌, ◌^◌, length, IfNone, IfOk, IfSome};
 ghost use Rattle.futures.specs.Poll.{IfReady};
 ghost use Rattle.futures.specs.Task.{Keeps};
-ghost use Rattle.lite_halves.specs.Counts.{AddsInside, bytes_with, calls_with, count_of, got_in, reads_in, taken_in, writes_in};
+ghost use Rattle.lite_halves.specs.Counts.{AddsInside, bytes_with, calls_with, got_in, reads_in, taken_in, writes_in};
+ghost use Rattle.lite_io_base.specs.Marks.{count_of};
 ghost use Rattle.lite_journal.specs.Entry.{close_note, flush_note, read_note, write_note};
 ghost use Rattle.lite_journal.specs.Journal.{IsSound, Replays};
 

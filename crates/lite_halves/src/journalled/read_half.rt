@@ -2,18 +2,19 @@
 ghost use Rattle.std.specs.Prelude.{◌≡◌, ◌≤◌, ◌<◌, ◌+◌, ◌%◌, ◌^◌, ◌⊎◌, ◌∷◌, [], length, map, IfNone, IfOk, IfSome};
 ghost use Rattle.futures.specs.Poll.{IfReady, OnPending};
 ghost use Rattle.futures.specs.Task.{Holds, Keeps, Lasting};
-ghost use Rattle.lite_io_base.specs.Marks.{read_marks};
-ghost use Rattle.lite_halves.specs.Counts.{HalfDrives, IsOutOfMemory, ReadCounts, count_of, moved_by, read_bytes_of};
+ghost use Rattle.lite_io_base.specs.Marks.{count_of, read_marks};
+ghost use Rattle.lite_io_base.specs.Runs.{ReadsInto, room_in};
+ghost use Rattle.lite_halves.specs.Counts.{HalfDrives, IsOutOfMemory, ReadCounts, moved_by, read_bytes_of};
 ghost use Rattle.lite_journal.specs.Entry.{Asked, Fits, told_in, told_of};
 ghost use Rattle.lite_halves.specs.Laws.Counts.{counts_laws};
 
 use super::locked::{Locked, count};
 use lite_base::{Context, Poll};
-use lite_io_base::{AsyncRead, Takings, Tale};
+use lite_io_base::{AsyncRead, Takings, Tale, first_with_room};
 use lite_journal::{Answer, buffer_answer};
 use std::alloc::{AllocError, AllocGlobal};
 use std::io;
-use std::io::ErrorKind;
+use std::io::{ErrorKind, IoSliceMut};
 use std::marker::Model;
 use std::sync::ledger::{Ledger, Share};
 use std::sync::{Arc, Mutex, Wait};
@@ -148,6 +149,26 @@ impl<R: Wait, T: AsyncRead + Takings + Clone, A: Ledger, B: Ledger, C: Ledger, D
         match self.step(cx, buf) {
             Some(polled) => polled,
             None => Poll::Ready(Err(io::Error::from(ErrorKind::OutOfMemory))),
+        }
+    }
+
+    /// Reads as `poll_read` does into the first buffer that has room, or into an empty one if none has: one call with
+    /// one entry.
+    fn poll_read_vectored(
+        &mut self,
+        cx: &mut Context<'_>,
+        bufs: &mut [IoSliceMut<'_>],
+    ) -> Poll<io::Result<usize>>
+        ensures bound { IfReady result (λ r. IfOk r (λ n. n ≤ room_in bufs.old)) }
+        ensures ran { ReadsInto ReadCounts self.old result bufs.old self.new }
+        ensures calls { (self.new.calls ≡ self.old.calls + 1) ⊎ (IsOutOfMemory result × (self.new ≡ self.old)) }
+        ensures bytes { self.new.bytes ≡ self.old.bytes + count_of result }
+        ensures left { OnPending result ((fact : Lasting) → ⊥ → Holds cx.new fact) }
+        ensures kept { Keeps cx.old cx.new }
+    {
+        match first_with_room(bufs) {
+            Some(i) => self.poll_read(cx, &mut bufs[i]),
+            None => self.poll_read(cx, &mut []),
         }
     }
 }

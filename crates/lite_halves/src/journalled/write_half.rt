@@ -1,20 +1,22 @@
 //! The journalled half that writes.
 ghost use Rattle.std.specs.Prelude.{◌≡◌, ◌≤◌, ◌<◌, ◌+◌, ◌%◌, ◌^◌, ◌⊎◌, ◌∷◌, [], length, IfNone, IfOk, IfSome};
+ghost use Rattle.std.specs.Io.Slices.{io_slices_bytes};
 ghost use Rattle.futures.specs.Poll.{IfReady, OnPending};
 ghost use Rattle.futures.specs.Task.{Holds, Keeps, Lasting};
+ghost use Rattle.lite_io_base.specs.Marks.{count_of};
 ghost use Rattle.lite_io_base.specs.Takings.{done_marks, write_marks};
 ghost use Rattle.lite_io_base.specs.Takings.Taking.{closed, flushed};
-ghost use Rattle.lite_halves.specs.Counts.{AllWrites, HalfDrives, IsOutOfMemory, IsWrite, WriteCounts, count_of, moved_by, taken_bytes_of};
+ghost use Rattle.lite_halves.specs.Counts.{AllWrites, HalfDrives, IsOutOfMemory, IsWrite, WriteCounts, moved_by, taken_bytes_of};
 ghost use Rattle.lite_journal.specs.Entry.{Fits, asked_in, asked_of, told_in, told_of};
 ghost use Rattle.lite_halves.specs.Laws.Counts.{counts_laws};
 
 use super::locked::{Locked, count};
 use lite_base::{Context, Poll};
-use lite_io_base::{AsyncWrite, Takings, Tale};
+use lite_io_base::{AsyncWrite, Takings, Tale, first_nonempty};
 use lite_journal::{Answer, Call, done_answer, write_answer};
 use std::alloc::AllocError;
 use std::io;
-use std::io::ErrorKind;
+use std::io::{ErrorKind, IoSlice};
 use std::marker::Model;
 use std::sync::ledger::{Ledger, Share};
 use std::sync::{Arc, Mutex, Wait};
@@ -245,6 +247,24 @@ impl<R: Wait, T: Tale + AsyncWrite + Clone, A: Ledger, B: Ledger, C: Ledger, D: 
             Some(polled) => polled,
             None => Poll::Ready(Err(io::Error::from(ErrorKind::OutOfMemory))),
         }
+    }
+
+    /// Writes as `poll_write` does the first buffer that has a byte, or an empty one if none has: one call with one
+    /// entry.
+    #[tactic(auto, using(lite_io_base::specs::Laws::Runs::write_front, lite_io_base::specs::Laws::Runs::within_front))]
+    fn poll_write_vectored(
+        &mut self,
+        cx: &mut Context<'_>,
+        bufs: &[IoSlice<'_>],
+    ) -> Poll<io::Result<usize>>
+        ensures bound { IfReady result (λ r. IfOk r (λ n. n ≤ length (io_slices_bytes bufs.now))) }
+        ensures ran { WriteCounts self.old (write_marks result (io_slices_bytes bufs.now)) self.new }
+        ensures calls { (self.new.calls ≡ self.old.calls + 1) ⊎ (IsOutOfMemory result × (self.new ≡ self.old)) }
+        ensures bytes { self.new.bytes ≡ self.old.bytes + count_of result }
+        ensures left { OnPending result ((fact : Lasting) → ⊥ → Holds cx.new fact) }
+        ensures kept { Keeps cx.old cx.new }
+    {
+        self.poll_write(cx, first_nonempty(bufs))
     }
 
     fn poll_flush(&mut self, cx: &mut Context<'_>) -> Poll<io::Result<()>>
