@@ -1,6 +1,7 @@
 mod buffered;
 mod cursors;
 mod readers;
+mod through;
 mod told;
 mod writers;
 

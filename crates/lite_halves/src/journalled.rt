@@ -8,7 +8,7 @@ mod read_half;
 mod tally;
 mod write_half;
 
-use lite_io_base::Tale;
+use lite_io_base::{Takings, Tale};
 use lite_journal::Journal;
 use locked::{Locked, Tally};
 pub use read_half::JournalReadHalf;
@@ -22,9 +22,13 @@ pub use write_half::JournalWriteHalf;
 /// A ledger is a token of std's that takes no bytes. The original has no such type.
 #[derive(Drop)]
 pub struct Blanks {
+    /// Of the calls of the half that reads.
     pub reads: Blank,
+    /// Of the bytes that it was told.
     pub got: Blank,
+    /// Of the calls of the half that writes.
     pub writes: Blank,
+    /// Of the bytes that were taken from it.
     pub taken: Blank,
 }
 
@@ -61,7 +65,7 @@ pub fn split_journalled<R, T, A, B, C, D>(
 >
 where
     R: Wait + AllocGlobal + Clone + Drop,
-    T: Tale + Clone + Drop,
+    T: Tale + Takings + Clone + Drop,
     A: Ledger,
     B: Ledger,
     C: Ledger,
@@ -105,7 +109,14 @@ where
     Ok((read, write))
 }
 
-fn fill_locked<R: Wait, T: Tale + Clone + Drop, A: Ledger, B: Ledger, C: Ledger, D: Ledger>(
+fn fill_locked<
+    R: Wait,
+    T: Tale + Takings + Clone + Drop,
+    A: Ledger,
+    B: Ledger,
+    C: Ledger,
+    D: Ledger,
+>(
     rt: &R,
     shared: &Mutex<Locked<T, A, B, C, D>>,
     journal: Journal<T>,
@@ -129,13 +140,13 @@ fn fill_locked<R: Wait, T: Tale + Clone + Drop, A: Ledger, B: Ledger, C: Ledger,
 ///
 /// `Err`: there was no memory for the clone, and nothing changes. It locks the journal, and so it may wait. The original
 /// has no such call.
-pub fn history<R: Wait, T: Tale + Clone, A: Ledger, B: Ledger, C: Ledger, D: Ledger>(
+pub fn history<R: Wait, T: Tale + Takings + Clone, A: Ledger, B: Ledger, C: Ledger, D: Ledger>(
     read: &mut JournalReadHalf<R, T, A, B, C, D>,
     write: &mut JournalWriteHalf<R, T, A, B, C, D>,
 ) -> Result<Journal<T>, AllocError>
     ensures same { (read.new ≡ read.old) × (write.new ≡ write.old) }
-    ensures sound { IfOk result (λ j. IsSound T.run T.is_clone j) }
-    ensures replays { IfOk result (λ j. Replays T.run T.is_clone j) }
+    ensures sound { IfOk result (λ j. IsSound T.reads T.writes T.is_clone j) }
+    ensures replays { IfOk result (λ j. Replays T.reads T.writes T.is_clone j) }
     ensures reads { IfOk result (λ j. reads_in j.notes ≡ read.old.calls) }
     ensures got { IfOk result (λ j. got_in j.notes ≡ read.old.bytes) }
     ensures writes { IfOk result (λ j. writes_in j.notes ≡ write.old.calls) }
@@ -151,7 +162,7 @@ pub fn history<R: Wait, T: Tale + Clone, A: Ledger, B: Ledger, C: Ledger, D: Led
     )
 }
 
-fn history_locked<R: Wait, T: Tale + Clone, A: Ledger, B: Ledger, C: Ledger, D: Ledger>(
+fn history_locked<R: Wait, T: Tale + Takings + Clone, A: Ledger, B: Ledger, C: Ledger, D: Ledger>(
     rt: &R,
     shared: &Mutex<Locked<T, A, B, C, D>>,
     reads: &mut Share<A>,
@@ -161,8 +172,8 @@ fn history_locked<R: Wait, T: Tale + Clone, A: Ledger, B: Ledger, C: Ledger, D: 
 ) -> Result<Journal<T>, AllocError>
     requires whole { (reads.old.parts ≡ A.parts) × (got.old.parts ≡ B.parts) × (writes.old.parts ≡ C.parts) × (taken.old.parts ≡ D.parts) }
     requires some { 0 < reads.old.amount }
-    ensures sound { IfOk result (λ j. IsSound T.run T.is_clone j) }
-    ensures replays { IfOk result (λ j. Replays T.run T.is_clone j) }
+    ensures sound { IfOk result (λ j. IsSound T.reads T.writes T.is_clone j) }
+    ensures replays { IfOk result (λ j. Replays T.reads T.writes T.is_clone j) }
     ensures reads { IfOk result (λ j. reads_in j.notes + 1 ≡ reads.old.amount) }
     ensures got { IfOk result (λ j. got_in j.notes ≡ got.old.amount) }
     ensures writes { IfOk result (λ j. writes_in j.notes + 1 ≡ writes.old.amount) }

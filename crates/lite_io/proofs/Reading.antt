@@ -2,9 +2,8 @@
 use Rattle.std.proofs.Common.{◌≡◌, ◌∙◌, ℕ, zero, suc, ◌+◌, ◌≤◌, ◌<◌, min, List, [], ◌∷◌, ◌++◌, length, take, slice_range, refl, sym, ap, subst, arith, append-nil, length-take-le}
 use Rattle.std.proofs.Math.Nat.{sub-zero}
 use Rattle.std.proofs.lemmas.List.{map-append}
-use Rattle.lite_io_base.specs.Laws.Marks.{bytes_given, given_are_reading, filled_reading, moved_reading, reading_all, reading_none, writing_none}
-use Rattle.lite_io_base.specs.Marks.{AllReading, AllWriting, Mark, bytes, filled, moved}
-use Rattle.lite_io_base.specs.Runs.{Rests, Runs}
+use Rattle.lite_io_base.specs.Marks.{Mark, bytes, filled, moved}
+use Rattle.lite_io_base.specs.Runs.{RunLaws, Runs}
 use Rattle.std.specs.declared.vec.Vec.{Vec}
 use Rattle.std.proofs.Common.{Global}
 use Rattle.lite_io.specs.declared.buf_reader.BufReader.{BufReader}
@@ -32,59 +31,37 @@ fill_passes [] (x ∷ xs) fits = absurd (omega (arith, fits))
 fill_passes (b ∷ buf) [] fits = refl
 fill_passes (b ∷ buf) (x ∷ xs) fits = refl
 
-module _ {R : Type 0} (run : Runs R) (x y : BufReader R) where
-  pub through_reading : (came out : List Mark) → AllReading came → AllReading out → run x.inner came y.inner → capacity_of y ≡ capacity_of x → Passes (capacity_of x) (ahead x) came out (ahead y) → Through run x out y
-  through_reading came out rc ro ran same passes =
-      record {
-        inner = came;
-        ran = ran;
-        capacity = same;
-        passes = rw (reading_all came rc, reading_all out ro) passes;
-        writes = writing_none out ro ∙ sym (writing_none came rc);
-      }
-
+module _ {R : Type 0} (reads : Runs Mark R) (x y : BufReader R) where
   -- what was ahead and came in is what went out and is ahead
-  pub through_read : (came out : List Mark) → AllReading came → AllReading out → run x.inner came y.inner → capacity_of y ≡ capacity_of x → bytes (ahead x) ++ came ≡ out ++ bytes (ahead y) → Through run x out y
-  through_read came out rc ro ran same e =
-      through_reading came out rc ro ran same (passes_of (capacity_of x) (ahead x) came out (ahead y) e (λ none. (ahead_none x none, ahead_none y (same ∙ none))))
+  pub through_read : (came out : List Mark) → reads x.inner came y.inner → capacity_of y ≡ capacity_of x → bytes (ahead x) ++ came ≡ out ++ bytes (ahead y) → Through reads x out y
+  through_read came out ran same e =
+      record { came = came; ran = ran; capacity = same; passes = passes_of (capacity_of x) (ahead x) came out (ahead y) e (λ none. (ahead_none x none, ahead_none y (same ∙ none))) }
 
   -- the inner reader was read past the buffer, in which nothing is ahead
-  pub through_past : (l : List Mark) → AllReading l → run x.inner l y.inner → capacity_of y ≡ capacity_of x → ahead x ≡ [] → ahead y ≡ [] → Through run x l y
-  through_past l r ran same p q = through_read l l r r ran same (rw (p, q) (sym (append-nil l)))
+  pub through_past : (l : List Mark) → reads x.inner l y.inner → capacity_of y ≡ capacity_of x → ahead x ≡ [] → ahead y ≡ [] → Through reads x l y
+  through_past l ran same p q = through_read l l ran same (rw (p, q) (sym (append-nil l)))
 
   -- bytes were taken from what is ahead
-  pub through_taken : Rests run → (xs : List ℕ) → y.inner ≡ x.inner → capacity_of y ≡ capacity_of x → ahead x ≡ xs ++ ahead y → Through run x (bytes xs) y
-  through_taken rests xs stays same e =
-      through_read [] (bytes xs) tt (given_are_reading (bytes xs) (bytes_given xs)) (subst (λ v. run x.inner [] v) (sym stays) (rests x.inner)) same
+  pub through_taken : RunLaws reads → (xs : List ℕ) → y.inner ≡ x.inner → capacity_of y ≡ capacity_of x → ahead x ≡ xs ++ ahead y → Through reads x (bytes xs) y
+  through_taken laws xs stays same e =
+      through_read [] (bytes xs) (subst (λ v. reads x.inner [] v) (sym stays) (laws.rests x.inner)) same
       (append-nil (bytes (ahead x)) ∙ ap bytes e ∙ map-append Mark.byte xs (ahead y))
 
-  -- what was written past the buffer
-  pub through_write : (l : List Mark) → AllWriting l → run x.inner l y.inner → capacity_of y ≡ capacity_of x → ahead y ≡ ahead x → Through run x l y
-  through_write l w ran same e =
-      record {
-        inner = l;
-        ran = ran;
-        capacity = same;
-        passes = rw (reading_none l w) (passes_of (capacity_of x) (ahead x) [] [] (ahead y) (append-nil (bytes (ahead x)) ∙ ap bytes (sym e)) (λ none. (ahead_none x none, ahead_none y (same ∙ none))));
-        writes = refl;
-      }
-
   -- the inner reader was read into the whole buffer
-  pub through_fill : (n : ℕ) → ahead x ≡ [] → y.pos ≡ 0 → y.cap ≡ n → n ≤ length y.buf.items → capacity_of y ≡ capacity_of x → run x.inner (moved y.buf.items (take n y.buf.items)) y.inner → Through run x (filled (ahead y)) y
-  through_fill n none pos cap fits same ran =
+  pub through_fill : (n : ℕ) → ahead x ≡ [] → y.pos ≡ 0 → y.end ≡ n → n ≤ length y.buf.items → capacity_of y ≡ capacity_of x → reads x.inner (moved y.buf.items (take n y.buf.items)) y.inner → Through reads x (filled (ahead y)) y
+  through_fill n none pos end fits same ran =
       let buf = y.buf.items in
-      let shown : ahead y ≡ take n buf = rw (pos, cap) (ap (λ k. take k buf) (sub-zero n)) in
+      let shown : ahead y ≡ take n buf = rw (pos, end) (ap (λ k. take k buf) (sub-zero n)) in
       let passes = subst (λ k. Passes k [] (moved buf (take n buf)) (filled (take n buf)) (take n buf)) same (fill_passes buf (take n buf) (omega (arith, length-take-le n buf fits))) in
-      rw shown
-      (through_reading (moved buf (take n buf)) (filled (take n buf)) (moved_reading buf (take n buf)) (filled_reading (take n buf)) ran same (rw (none, shown) passes))
+      rw shown (record { came = moved buf (take n buf); ran = ran; capacity = same; passes = rw (none, shown) passes })
 
-  advanced : (n : ℕ) → y.buf ≡ x.buf → y.pos ≡ x.pos + n → y.cap ≡ x.cap → n ≤ length (ahead x) → ahead x ≡ take n (ahead x) ++ ahead y
-  advanced n buf pos cap fits =
-      let within : x.pos + n ≤ x.cap = omega (arith, length-slice_range x.buf.items x.pos x.cap x.in_range.0 x.in_range.1) in
-      let next : ahead y ≡ slice_range x.buf.items (x.pos + n) x.cap = rw (buf, pos, cap) refl in
-      slice_range_split x.buf.items x.pos x.cap n within ∙ ap (λ l. take n (ahead x) ++ l) (sym next)
+  advanced : (n : ℕ) → y.buf ≡ x.buf → y.pos ≡ x.pos + n → y.end ≡ x.end → n ≤ length (ahead x) → ahead x ≡ take n (ahead x) ++ ahead y
+  advanced n buf pos end fits =
+      let within : x.pos + n ≤ x.end = omega (arith, length-slice_range x.buf.items x.pos x.end x.in_range.0 x.in_range.1) in
+      let next : ahead y ≡ slice_range x.buf.items (x.pos + n) x.end = rw (buf, pos, end) refl in
+      slice_range_split x.buf.items x.pos x.end n within ∙ ap (λ l. take n (ahead x) ++ l) (sym next)
 
   -- bytes were taken from what is ahead, and nothing else changed
-  pub through_advance : Rests run → (n : ℕ) → y.inner ≡ x.inner → y.buf ≡ x.buf → y.pos ≡ x.pos + n → y.cap ≡ x.cap → n ≤ length (ahead x) → Through run x (bytes (take n (ahead x))) y
-  through_advance rests n inner buf pos cap fits =
-      through_taken rests (take n (ahead x)) inner (ap (λ (v : Vec ℕ Global). length v.items) buf) (advanced n buf pos cap fits)
+  pub through_advance : RunLaws reads → (n : ℕ) → y.inner ≡ x.inner → y.buf ≡ x.buf → y.pos ≡ x.pos + n → y.end ≡ x.end → n ≤ length (ahead x) → Through reads x (bytes (take n (ahead x))) y
+  through_advance laws n inner buf pos end fits =
+      through_taken laws (take n (ahead x)) inner (ap (λ (v : Vec ℕ Global). length v.items) buf) (advanced n buf pos end fits)

@@ -1,27 +1,22 @@
 -- What passes through a `BufReader`.
-use Rattle.std.specs.Prelude.{◌≡◌, ℕ, zero, suc, List, [], ◌∷◌, ◌++◌, length, slice_range, Result, Ok, Err}
+use Rattle.std.specs.Prelude.{◌≡◌, ℕ, zero, suc, ◌+◌, List, [], ◌∷◌, ◌++◌, ◌≤◌, ◌⊎◌, length, slice_range, Result}
 use Rattle.std.specs.declared.io.Error.{Error}
 use Rattle.futures.specs.declared.task.Poll.{Poll}
-use Rattle.futures.specs.declared.task.Poll.TheVariants.{Ready, Pending}
-use Rattle.lite_io_base.specs.Marks.{Mark, bytes, reading, writing}
+use Rattle.lite_io_base.specs.Marks.{Mark, bytes, read_marks}
 use Rattle.lite_io_base.specs.Runs.{Runs}
+use Rattle.lite_io_base.specs.Takings.{Taking}
+use Rattle.lite_base.specs.Ranks.{Ranks}
 use Rattle.lite_io.specs.declared.buf_reader.BufReader.{BufReader}
 
 -- the bytes that were read ahead
 abbrev pub ahead : {R : Type 0} → BufReader R → List ℕ
-ahead r = slice_range r.buf.items r.pos r.cap
+ahead r = slice_range r.buf.items r.pos r.end
 
 abbrev pub inner_of : {R : Type 0} → BufReader R → R
 inner_of r = r.inner
 
 abbrev pub capacity_of : {R : Type 0} → BufReader R → ℕ
 capacity_of r = length r.buf.items
-
--- how many bytes a read answers
-abbrev pub count_of : Poll (Result ℕ Error) → ℕ
-count_of Pending = 0
-count_of (Ready (Err e)) = 0
-count_of (Ready (Ok n)) = n
 
 -- the same marks, and ends put among them
 pub data Padded : List Mark → List Mark → Type 0 where
@@ -35,10 +30,27 @@ abbrev pub Passes : ℕ → List ℕ → List Mark → List Mark → List ℕ �
 Passes zero before came out after = (before ≡ []) × (after ≡ []) × Padded came out
 Passes (suc n) before came out after = bytes before ++ came ≡ out ++ bytes after
 
--- the inner reader ran; what it read passed through the buffer, and what it wrote is what was written
-pub record Through {R : Type 0} (run : Runs R) (x : BufReader R) (ms : List Mark) (y : BufReader R) : Type 0 where
-  pub inner : List Mark
-  pub ran : run x.inner inner y.inner
+-- the inner reader ran, and what it told passed through the buffer
+pub record Through {R : Type 0} (reads : Runs Mark R) (x : BufReader R) (ms : List Mark) (y : BufReader R) : Type 0 where
+  pub came : List Mark
+  pub ran : reads x.inner came y.inner
   pub capacity : capacity_of y ≡ capacity_of x
-  pub passes : Passes (capacity_of x) (ahead x) (reading inner) (reading ms) (ahead y)
-  pub writes : writing ms ≡ writing inner
+  pub passes : Passes (capacity_of x) (ahead x) came ms (ahead y)
+
+-- no mark, or those of one answer to a read into at most so much room
+abbrev pub OfOneRead : ℕ → List Mark → Type 0
+OfOneRead most told = (told ≡ []) ⊎ ((r : Poll (Result ℕ Error)) × (buf : List ℕ) × (length buf ≤ most) × (told ≡ read_marks r buf))
+
+-- the inner reader gave at most one answer, to a read into at most so much room
+pub record PollsOnce {R : Type 0} (reads : Runs Mark R) (most : ℕ) (x y : R) : Type 0 where
+  pub told : List Mark
+  pub ran : reads x told y
+  pub one : OfOneRead most told
+
+-- what is written goes past the buffer
+abbrev pub Past : {R : Type 0} → Runs Taking R → Runs Taking (BufReader R)
+Past writes x ms y = writes x.inner ms y.inner × (capacity_of y ≡ capacity_of x) × (ahead y ≡ ahead x)
+
+-- the rank of the inner reader, and then how much is ahead
+abbrev pub held_ranks : {R : Type 0} → Ranks R → Ranks (BufReader R)
+held_ranks r = record { width = r.width + 1; rank = λ x. r.rank x.inner ++ length (ahead x) ∷ []; counts = λ x. r.counts x.inner; firm = λ x. r.firm x.inner }

@@ -1,5 +1,6 @@
 pub mod BufReader
 pub mod Chain
-pub mod Empty
+pub mod InOrder
 pub mod Repeat
+pub mod SeeksThrough
 pub mod Take

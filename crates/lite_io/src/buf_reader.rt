@@ -1,13 +1,14 @@
-ghost use Rattle.std.specs.Prelude.{◌≡◌, ◌+◌, ◌<◌, ◌≤◌, ◌++◌, ◌∷◌, [], Ok, length, IfOk, IfErr};
+ghost use Rattle.std.specs.Prelude.{◌≡◌, ◌+◌, ◌<◌, ◌≤◌, [], Ok, length, max, IfOk, IfErr};
 ghost use Rattle.std.specs.Borrow.{Lends, sem};
 ghost use Rattle.futures.specs.Poll.{IfReady, OnPending};
 ghost use Rattle.futures.specs.Task.{Keeps, Lasting, Holds};
-ghost use Rattle.lite_io_base.specs.Marks.{fill_marks, read_marks};
-ghost use Rattle.lite_io_base.specs.Runs.{ReadsInto, room_in};
+ghost use Rattle.lite_io_base.specs.Marks.{count_of, fill_marks, read_marks};
+ghost use Rattle.lite_io_base.specs.Runs.{OnlyOkLends, ReadsInto, room_in};
 
 use lite_base::{Context, Poll, ready};
 use lite_io_base::{
-    AsyncBufRead, AsyncRead, AsyncSeek, AsyncWrite, CountedRead, Tale, fill_slices, total_room,
+    AsyncBufRead, AsyncRead, AsyncSeek, AsyncWrite, CountedRead, Takings, Tale, fill_slices,
+    total_room,
 };
 use std::alloc::Global;
 use std::io;
@@ -24,11 +25,11 @@ const DEFAULT_CAPACITY: usize = 8192;
 #[derive(Drop)]
 pub struct BufReader<R> {
     inner: R,
-    // As long as the capacity. What was read and not yet taken is at pos..cap.
+    // As long as the capacity. What was read and not yet taken is at pos..end.
     buf: Vec<u8>,
     pos: usize,
-    cap: usize,
-    ghost in_range: { (pos ≤ cap) × (cap ≤ length buf.items) },
+    end: usize,
+    ghost in_range: { (pos ≤ end) × (end ≤ length buf.items) },
 }
 
 impl<R: Drop> BufReader<R> {
@@ -58,7 +59,7 @@ impl<R: Drop> BufReader<R> {
                 inner,
                 buf,
                 pos: 0,
-                cap: 0,
+                end: 0,
             }),
             Err(_) => Err(inner),
         }
@@ -80,13 +81,6 @@ impl<R: Drop> BufReader<R> {
         &mut self.inner
     }
 
-    /// The bytes that were read ahead and are not yet taken.
-    pub fn buffer(&self) -> &[u8]
-        ensures { result.now ≡ ahead self.now }
-    {
-        &self.buf[self.pos..self.cap]
-    }
-
     /// The inner reader. The bytes that were read ahead are lost.
     pub fn into_inner(self) -> R
         ensures { result ≡ inner_of self }
@@ -95,28 +89,65 @@ impl<R: Drop> BufReader<R> {
     }
 }
 
+impl<R> BufReader<R> {
+    ghost use Rattle.lite_io.specs.BufReader.{ahead};
+
+    /// The bytes that were read ahead and are not yet taken.
+    pub fn buffer(&self) -> &[u8]
+        ensures { result.now ≡ ahead self.now }
+    {
+        self.show()
+    }
+
+    fn show(&self) -> &[u8]
+        ensures { result.now ≡ ahead self.now }
+    {
+        &self.buf[self.pos..self.end]
+    }
+
+    // Takes the first `amount` bytes of those that are ahead.
+    fn advance(&mut self, amount: usize)
+        requires { amount ≤ length (ahead self.old) }
+        ensures inner { self.new.inner ≡ self.old.inner }
+        ensures buf { self.new.buf ≡ self.old.buf }
+        ensures pos { self.new.pos ≡ self.old.pos + amount }
+        ensures end { self.new.end ≡ self.old.end }
+    {
+        self.pos += amount;
+    }
+}
+
 impl<R: Tale> Tale for BufReader<R> {
     ghost use Rattle.lite_io.specs.BufReader.{Through};
-    ghost use Rattle.lite_io.specs.Laws.BufReader.{through_follows, through_rests};
+    ghost use Rattle.lite_io.specs.Laws.BufReader.{through_laws};
 
-    ghost run = { Through R.run };
+    ghost reads = { Through R.reads };
 
-    ghost rests = { through_rests R.run R.rests };
+    ghost read_laws = { through_laws R.read_laws };
+}
 
-    ghost follows = { through_follows R.run R.follows };
+impl<R: Takings> Takings for BufReader<R> {
+    ghost use Rattle.lite_io.specs.BufReader.{Past};
+    ghost use Rattle.lite_io.specs.Laws.BufReader.{past_laws};
+
+    ghost writes = { Past R.writes };
+
+    ghost write_laws = { past_laws R.write_laws };
 }
 
 impl<R: AsyncRead> BufReader<R> {
-    ghost use Rattle.lite_io.specs.BufReader.{Through, ahead, count_of, inner_of};
+    ghost use Rattle.lite_io.specs.BufReader.{PollsOnce, Through, ahead, capacity_of, inner_of};
 
     // Reads ahead if nothing is there.
-    #[tactic(auto, using(crate::proofs::Reading::through_fill, crate::proofs::Reading::through_past))]
+    #[tactic(auto, using(crate::proofs::Reading::through_fill, crate::proofs::Reading::through_past, crate::proofs::Ranges::slice_range_none, crate::proofs::Polling::polls_none, crate::proofs::Polling::polls_one))]
     fn fill(&mut self, cx: &mut Context<'_>) -> Poll<io::Result<()>>
-        ensures ran { Through R.run self.old (fill_marks result (ahead self.new)) self.new }
+        ensures ran { Through R.reads self.old (fill_marks result (ahead self.new)) self.new }
+        ensures lends { OnlyOkLends result (ahead self.new) }
+        ensures once { PollsOnce R.reads (capacity_of self.old) self.old.inner self.new.inner }
         ensures left { OnPending result ((fact : Lasting) → R.leaves (inner_of self.new) fact → Holds cx.new fact) }
         ensures kept { Keeps cx.old cx.new }
     {
-        if self.pos < self.cap {
+        if self.pos < self.end {
             return Poll::Ready(Ok(()));
         }
         match ready!(self.refill(cx)) {
@@ -127,92 +158,86 @@ impl<R: AsyncRead> BufReader<R> {
 
     // Reads as much as there is room for into the whole buffer. What was ahead is lost.
     fn refill(&mut self, cx: &mut Context<'_>) -> Poll<io::Result<usize>>
-        ensures ran { R.run self.old.inner (read_marks result self.new.buf.items) self.new.inner }
+        ensures ran { R.reads self.old.inner (read_marks result self.new.buf.items) self.new.inner }
         ensures bound { IfReady result (λ r. IfOk r (λ n. n ≤ length self.new.buf.items)) }
         ensures ahead { self.new.pos ≡ 0 }
-        ensures count { self.new.cap ≡ count_of result }
+        ensures count { self.new.end ≡ count_of result }
         ensures capacity { length self.new.buf.items ≡ length self.old.buf.items }
         ensures left { OnPending result ((fact : Lasting) → R.leaves self.new.inner fact → Holds cx.new fact) }
         ensures kept { Keeps cx.old cx.new }
     {
         self.pos = 0;
-        self.cap = 0;
+        self.end = 0;
         let polled = self.inner.poll_read(cx, self.buf.as_mut_slice());
         if let Poll::Ready(Ok(n)) = &polled {
-            self.cap = *n;
+            self.end = *n;
         }
         polled
-    }
-
-    // Takes the first `amount` bytes of those that are ahead.
-    fn advance(&mut self, amount: usize)
-        requires { amount ≤ length (ahead self.old) }
-        ensures inner { self.new.inner ≡ self.old.inner }
-        ensures buf { self.new.buf ≡ self.old.buf }
-        ensures pos { self.new.pos ≡ self.old.pos + amount }
-        ensures cap { self.new.cap ≡ self.old.cap }
-    {
-        self.pos += amount;
-    }
-
-    fn show(&self) -> &[u8]
-        ensures { result.now ≡ ahead self.now }
-    {
-        &self.buf[self.pos..self.cap]
     }
 }
 
 impl<R: AsyncRead> AsyncRead for BufReader<R> {
-    ghost use Rattle.lite_io.specs.BufReader.{Through, capacity_of, inner_of};
+    ghost use Rattle.lite_io.specs.BufReader.{PollsOnce, Through, capacity_of, inner_of};
 
     ghost leaves = { λ r. R.leaves (inner_of r) };
 
+    #[tactic(auto, using(crate::proofs::Polling::polls_none, crate::proofs::Polling::polls_one, crate::proofs::Polling::polls_within))]
     fn poll_read(&mut self, cx: &mut Context<'_>, buf: &mut [u8]) -> Poll<io::Result<usize>>
         ensures bound { IfReady result (λ r. IfOk r (λ n. n ≤ length buf.new)) }
-        ensures ran { Through R.run self.old (read_marks result buf.new) self.new }
+        ensures ran { Through R.reads self.old (read_marks result buf.new) self.new }
         ensures left { OnPending result ((fact : Lasting) → R.leaves (inner_of self.new) fact → Holds cx.new fact) }
         ensures kept { Keeps cx.old cx.new }
+
+        // The inner reader is polled at most once.
+        ensures once { PollsOnce R.reads (max (capacity_of self.old) (length buf.old)) (inner_of self.old) (inner_of self.new) }
 
         // Without room nothing is polled.
         ensures idle { length buf.old ≡ 0 → (result ≡ Poll.Ready (Ok 0)) × (self.new ≡ self.old) }
 
         // Without a buffer the inner reader is read.
-        ensures unbuffered { capacity_of self.old ≡ 0 → R.run (inner_of self.old) (read_marks result buf.new) (inner_of self.new) }
+        ensures unbuffered { capacity_of self.old ≡ 0 → R.reads (inner_of self.old) (read_marks result buf.new) (inner_of self.new) }
     {
         if buf.is_empty() {
             return Poll::Ready(Ok(0));
         }
-        if self.pos == self.cap && buf.len() >= self.buf.len() {
+        if self.pos == self.end && buf.len() >= self.buf.len() {
             return self.inner.poll_read(cx, buf);
         }
         match ready!(self.fill(cx)) {
             Ok(()) => {}
             Err(e) => return Poll::Ready(Err(e)),
         }
-        let n = (self.cap - self.pos).min(buf.len());
+        let n = (self.end - self.pos).min(buf.len());
         buf[..n].copy_from_slice(&self.buf[self.pos..self.pos + n]);
         self.advance(n);
         Poll::Ready(Ok(n))
     }
 
+    #[tactic(auto, using(crate::proofs::Polling::polls_none, crate::proofs::Polling::polls_one, crate::proofs::Polling::polls_within))]
     fn poll_read_vectored(
         &mut self,
         cx: &mut Context<'_>,
         bufs: &mut [IoSliceMut<'_>],
     ) -> Poll<io::Result<usize>>
         ensures bound { IfReady result (λ r. IfOk r (λ n. n ≤ room_in bufs.old)) }
-        ensures ran { ReadsInto (Through R.run) self.old result bufs.old self.new }
+        ensures ran { ReadsInto (Through R.reads) self.old result bufs.old self.new }
         ensures left { OnPending result ((fact : Lasting) → R.leaves (inner_of self.new) fact → Holds cx.new fact) }
         ensures kept { Keeps cx.old cx.new }
 
+        // The inner reader is polled at most once.
+        ensures once { PollsOnce R.reads (max (capacity_of self.old) (room_in bufs.old)) (inner_of self.old) (inner_of self.new) }
+
         // Without room nothing is polled.
         ensures idle { room_in bufs.old ≡ 0 → (result ≡ Poll.Ready (Ok 0)) × (self.new ≡ self.old) }
+
+        // Without a buffer the inner reader is read.
+        ensures unbuffered { capacity_of self.old ≡ 0 → ReadsInto R.reads (inner_of self.old) result bufs.old (inner_of self.new) }
     {
         let total = total_room(bufs);
         if total == 0 {
             return Poll::Ready(Ok(0));
         }
-        if self.pos == self.cap && total >= self.buf.len() {
+        if self.pos == self.end && total >= self.buf.len() {
             return self.inner.poll_read_vectored(cx, bufs);
         }
         match ready!(self.fill(cx)) {
@@ -231,7 +256,7 @@ impl<R: AsyncRead> AsyncBufRead for BufReader<R> {
 
     ghost lent = { ahead };
 
-    ghost shows = { through_shows R.run };
+    ghost shows = { through_shows };
 
     fn poll_fill_buf(&mut self, cx: &mut Context<'_>) -> Poll<io::Result<&[u8]>> {
         match ready!(self.fill(cx)) {
@@ -241,7 +266,7 @@ impl<R: AsyncRead> AsyncBufRead for BufReader<R> {
     }
 
     fn buffer(&self) -> &[u8] {
-        &self.buf[self.pos..self.cap]
+        self.show()
     }
 
     #[tactic(auto, using(crate::proofs::Ranges::slice_range_advance, crate::proofs::Reading::through_advance))]
@@ -250,7 +275,6 @@ impl<R: AsyncRead> AsyncBufRead for BufReader<R> {
     }
 }
 
-#[tactic(auto, using(crate::proofs::Reading::through_write))]
 impl<R: AsyncWrite> AsyncWrite for BufReader<R> {
     ghost use Rattle.lite_io.specs.BufReader.{inner_of};
 
@@ -285,7 +309,7 @@ impl<R: AsyncSeek> AsyncSeek for BufReader<R> {
         let SeekFrom::Current(offset) = pos else {
             return self.seek_once(cx, pos);
         };
-        let ahead = (self.cap - self.pos) as i64;
+        let ahead = (self.end - self.pos) as i64;
         if let Some(less) = offset.checked_sub(ahead) {
             return self.seek_once(cx, SeekFrom::Current(less));
         }
@@ -310,7 +334,7 @@ impl<R: AsyncSeek> BufReader<R> {
         match ready!(self.inner.poll_seek(cx, pos)) {
             Ok(n) => {
                 self.pos = 0;
-                self.cap = 0;
+                self.end = 0;
                 Poll::Ready(Ok(n))
             }
             Err(e) => Poll::Ready(Err(e)),
@@ -319,24 +343,10 @@ impl<R: AsyncSeek> BufReader<R> {
 }
 
 impl<R: CountedRead> CountedRead for BufReader<R> {
-    ghost use Rattle.lite_io.specs.BufReader.{ahead, inner_of};
-    ghost use Rattle.lite_io.specs.Laws.BufReader.{held_sized, through_falls, through_lowers};
+    ghost use Rattle.lite_io.specs.BufReader.{held_ranks};
+    ghost use Rattle.lite_io.specs.Laws.BufReader.{through_counting};
 
-    ghost width = { R.width + 1 };
+    ghost ranks = { held_ranks R.ranks };
 
-    ghost rank = { λ r. R.rank (inner_of r) ++ length (ahead r) ∷ [] };
-
-    ghost counts = { λ r. R.counts (inner_of r) };
-
-    ghost firm = { λ r. R.firm (inner_of r) };
-
-    ghost sized = { λ x. held_sized (R.rank (inner_of x)) (length (ahead x)) R.width (R.sized (inner_of x)) };
-
-    ghost counts_on = { λ x y l c h. R.counts_on (inner_of x) (inner_of y) h.inner c h.ran };
-
-    ghost firm_on = { λ x y l c h. R.firm_on (inner_of x) (inner_of y) h.inner c h.ran };
-
-    ghost falls = { λ x y l c. through_falls R.run (λ r. R.rank r) x y l (λ m. R.falls (inner_of x) (inner_of y) m c) };
-
-    ghost lowers = { λ x y l c. through_lowers R.run (λ r. R.rank r) x y l (λ m. R.lowers (inner_of x) (inner_of y) m c) };
+    ghost counting = { through_counting R.counting };
 }

@@ -1,13 +1,16 @@
 ghost use Rattle.std.specs.Prelude.{◌≡◌, ◌≤◌, Ok, length, IfOk, false};
-ghost use Rattle.std.specs.Borrow.{sem};
+ghost use Rattle.std.specs.Borrow.{Lends, sem};
 ghost use Rattle.futures.specs.Poll.{IfReady, OnPending};
 ghost use Rattle.futures.specs.Task.{Keeps, Lasting, Holds};
 ghost use Rattle.lite_io_base.specs.Marks.{fill_marks, read_marks};
+ghost use Rattle.lite_io_base.specs.Runs.{Idle, OnlyOkLends, ReadsInto, room_in};
+ghost use Rattle.lite_io_base.specs.Laws.Runs.{idle_laws};
 
 use crate::fill::fill;
 use lite_base::{Context, Poll, ready};
-use lite_io_base::{AsyncBufRead, AsyncRead, CountedRead, Tale};
+use lite_io_base::{AsyncBufRead, AsyncRead, CountedRead, Takings, Tale, fill_slices, total_room};
 use std::io;
+use std::io::IoSliceMut;
 
 /// What one reader gives up to its end, and then what another gives.
 ///
@@ -21,6 +24,7 @@ pub struct Chain<R1, R2> {
 }
 
 impl<R1, R2> Chain<R1, R2> {
+    ghost use Rattle.lite_io.specs.contracts.chain.Chain.{the_row};
     ghost use Rattle.lite_io.specs.Chain.{first_of, has_ended, second_of};
 
     pub(crate) fn new(first: R1, second: R2) -> Chain<R1, R2>
@@ -43,6 +47,33 @@ impl<R1, R2> Chain<R1, R2> {
         (&self.first, &self.second)
     }
 
+    /// Both readers, to be changed. What they read meanwhile doesn't count. No contract says what the chain then has:
+    /// `first_mut` and `second_mut` tell it of one.
+    pub fn get_mut(&mut self) -> (&mut R1, &mut R2)
+        ensures first { result.0.now ≡ first_of self.old }
+        ensures second { result.1.now ≡ second_of self.old }
+    {
+        (&mut self.first, &mut self.second)
+    }
+
+    /// The first reader, to be changed. What it reads meanwhile doesn't count. The original has no such call.
+    pub fn first_mut(&mut self) -> &mut R1
+        ensures value { result.now ≡ first_of self.old }
+        ensures* writes_back { sem 𝓛 (Lends (the_row R1.row R2.row) R1.row self.entry result
+            (λ w. record self.old { first = w })) }
+    {
+        &mut self.first
+    }
+
+    /// The second reader, to be changed, as `first_mut` gives the first. The original has no such call.
+    pub fn second_mut(&mut self) -> &mut R2
+        ensures value { result.now ≡ second_of self.old }
+        ensures* writes_back { sem 𝓛 (Lends (the_row R1.row R2.row) R2.row self.entry result
+            (λ w. record self.old { second = w })) }
+    {
+        &mut self.second
+    }
+
     /// Both readers.
     pub fn into_inner(self) -> (R1, R2)
         ensures first { result.0 ≡ first_of self }
@@ -54,13 +85,18 @@ impl<R1, R2> Chain<R1, R2> {
 
 impl<R1: Tale, R2: Tale> Tale for Chain<R1, R2> {
     ghost use Rattle.lite_io.specs.Chain.{Chains};
-    ghost use Rattle.lite_io.specs.Laws.Chain.{chains_follow, chains_rest};
+    ghost use Rattle.lite_io.specs.Laws.Chain.{chains_laws};
 
-    ghost run = { Chains R1.run R2.run };
+    ghost reads = { Chains R1.reads R2.reads };
 
-    ghost rests = { chains_rest R1.run R2.run R1.rests R2.rests };
+    ghost read_laws = { chains_laws R1.reads R2.reads R1.read_laws R2.read_laws };
+}
 
-    ghost follows = { chains_follow R1.run R2.run R1.follows R2.follows };
+// It is not written to.
+impl<R1, R2> Takings for Chain<R1, R2> {
+    ghost writes = { Idle };
+
+    ghost write_laws = { idle_laws };
 }
 
 impl<R1: AsyncRead, R2: AsyncRead> AsyncRead for Chain<R1, R2> {
@@ -71,7 +107,7 @@ impl<R1: AsyncRead, R2: AsyncRead> AsyncRead for Chain<R1, R2> {
     #[tactic(auto, using(crate::proofs::Crossing::crossed, crate::proofs::Ends::no_end_moved))]
     fn poll_read(&mut self, cx: &mut Context<'_>, buf: &mut [u8]) -> Poll<io::Result<usize>>
         ensures bound { IfReady result (λ r. IfOk r (λ n. n ≤ length buf.new)) }
-        ensures ran { Chains R1.run R2.run self.old (read_marks result buf.new) self.new }
+        ensures ran { Chains R1.reads R2.reads self.old (read_marks result buf.new) self.new }
         ensures left { OnPending result ((fact : Lasting) → Waits R1.leaves R2.leaves self.new fact → Holds cx.new fact) }
         ensures kept { Keeps cx.old cx.new }
 
@@ -90,6 +126,47 @@ impl<R1: AsyncRead, R2: AsyncRead> AsyncRead for Chain<R1, R2> {
         }
         self.second.poll_read(cx, buf)
     }
+
+    #[tactic(auto, using(crate::proofs::Crossing::crossed, crate::proofs::Ends::no_end_moved))]
+    fn poll_read_vectored(
+        &mut self,
+        cx: &mut Context<'_>,
+        bufs: &mut [IoSliceMut<'_>],
+    ) -> Poll<io::Result<usize>>
+        ensures bound { IfReady result (λ r. IfOk r (λ n. n ≤ room_in bufs.old)) }
+        ensures ran { ReadsInto (Chains R1.reads R2.reads) self.old result bufs.old self.new }
+        ensures left { OnPending result ((fact : Lasting) → Waits R1.leaves R2.leaves self.new fact → Holds cx.new fact) }
+        ensures kept { Keeps cx.old cx.new }
+
+        // Without room nothing is polled.
+        ensures idle { room_in bufs.old ≡ 0 → (result ≡ Poll.Ready (Ok 0)) × (self.new ≡ self.old) }
+    {
+        let total = total_room(bufs);
+        if total == 0 {
+            return Poll::Ready(Ok(0));
+        }
+        if self.has_ended {
+            return self.second.poll_read_vectored(cx, bufs);
+        }
+        match ready!(self.first.poll_read_vectored(cx, bufs)) {
+            Ok(0) => {}
+            Ok(count) => return Poll::Ready(Ok(count)),
+            Err(e) => return Poll::Ready(Err(e)),
+        }
+        self.has_ended = true;
+        // No contract says that the first left the buffers' room as it was.
+        if total_room(bufs) == total {
+            return self.second.poll_read_vectored(cx, bufs);
+        }
+        let mut one = [0];
+        match ready!(self.second.poll_read(cx, &mut one)) {
+            Ok(n) => {
+                fill_slices(&one[..n], bufs);
+                Poll::Ready(Ok(n))
+            }
+            Err(e) => Poll::Ready(Err(e)),
+        }
+    }
 }
 
 impl<R1: AsyncBufRead, R2: AsyncBufRead> Chain<R1, R2> {
@@ -98,7 +175,8 @@ impl<R1: AsyncBufRead, R2: AsyncBufRead> Chain<R1, R2> {
     // Fills the reader that is read, and goes on to the second where the first is at its end.
     #[tactic(auto, using(crate::proofs::Crossing::crossed))]
     fn fill(&mut self, cx: &mut Context<'_>) -> Poll<io::Result<()>>
-        ensures ran { Chains R1.run R2.run self.old (fill_marks result (shown R1.lent R2.lent self.new)) self.new }
+        ensures ran { Chains R1.reads R2.reads self.old (fill_marks result (shown R1.lent R2.lent self.new)) self.new }
+        ensures lends { OnlyOkLends result (shown R1.lent R2.lent self.new) }
         ensures left { OnPending result ((fact : Lasting) → Waits R1.leaves R2.leaves self.new fact → Holds cx.new fact) }
         ensures kept { Keeps cx.old cx.new }
     {
@@ -133,7 +211,7 @@ impl<R1: AsyncBufRead, R2: AsyncBufRead> AsyncBufRead for Chain<R1, R2> {
 
     ghost lent = { shown R1.lent R2.lent };
 
-    ghost shows = { chains_show R1.run R2.run R1.lent R2.lent R1.follows R1.shows R2.shows };
+    ghost shows = { chains_show R1.reads R2.reads R1.lent R2.lent R1.read_laws R1.shows R2.shows };
 
     fn poll_fill_buf(&mut self, cx: &mut Context<'_>) -> Poll<io::Result<&[u8]>> {
         match ready!(self.fill(cx)) {
@@ -157,28 +235,10 @@ impl<R1: AsyncBufRead, R2: AsyncBufRead> AsyncBufRead for Chain<R1, R2> {
 }
 
 impl<R1: CountedRead, R2: CountedRead> CountedRead for Chain<R1, R2> {
-    ghost use Rattle.std.specs.Prelude.{◌+◌};
-    ghost use Rattle.lite_io_base.specs.Marks.{AllGiven, AllReading, given};
-    ghost use Rattle.lite_io_base.specs.Laws.Marks.{given-append};
-    ghost use Rattle.std.proofs.Common.{length-append};
-    ghost use Rattle.lite_io.specs.Chain.{ranks};
-    ghost use Rattle.lite_io.specs.Laws.Chain.{chains_fall, chains_keep, given_parts, ranks_sized, reading_parts};
+    ghost use Rattle.lite_io.specs.Chain.{chain_ranks};
+    ghost use Rattle.lite_io.specs.Laws.Chain.{chains_counting};
 
-    ghost width = { R1.width + R2.width };
+    ghost ranks = { chain_ranks R1.ranks R2.ranks };
 
-    ghost rank = { ranks R1.width (λ r. R1.rank r) (λ r. R2.rank r) };
-
-    ghost counts = { λ x. R1.counts x.first × R2.counts x.second };
-
-    ghost firm = { λ x. R1.firm x.first × R2.firm x.second };
-
-    ghost sized = { ranks_sized R1.width R2.width (λ r. R1.rank r) (λ r. R2.rank r) R1.sized R2.sized };
-
-    ghost counts_on = { chains_keep R1.run R2.run (λ r. R1.counts r) (λ r. R2.counts r) R1.counts_on R2.counts_on };
-
-    ghost firm_on = { chains_keep R1.run R2.run (λ r. R1.firm r) (λ r. R2.firm r) R1.firm_on R2.firm_on };
-
-    ghost falls = { λ x y l c. chains_fall R1.run R2.run R1.width (λ r. R1.rank r) (λ r. R2.rank r) R1.sized AllGiven length given_parts length-append x y (λ v m. R1.falls x.first v m c.0) (λ m. R2.falls x.second y.second m c.1) l };
-
-    ghost lowers = { λ x y l c. chains_fall R1.run R2.run R1.width (λ r. R1.rank r) (λ r. R2.rank r) R1.sized AllReading given reading_parts given-append x y (λ v m. R1.lowers x.first v m c.0) (λ m. R2.lowers x.second y.second m c.1) l };
+    ghost counting = { chains_counting R1.reads R2.reads R1.counting R2.counting };
 }

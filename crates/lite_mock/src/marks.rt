@@ -1,11 +1,14 @@
-ghost use Rattle.std.specs.Prelude.{◌≡◌, ◌≤◌, ◌+◌, ◌<◌, ◌++◌, ◌∷◌, [], List, length, take, drop, map, refl, OnOk, OnErr, MatchResult};
+ghost use Rattle.std.specs.Prelude.{◌≡◌, ◌≤◌, ◌+◌, ◌<◌, ◌++◌, ◌∷◌, [], List, length, take, drop, map, OnOk, OnErr, MatchResult};
 ghost use Rattle.lite_io_base.specs.Marks.{Mark, bytes};
 ghost use Rattle.lite_io_base.specs.Told.{Told};
-ghost use Rattle.lite_io_base.specs.Laws.Told.{told_falls, told_follows};
-ghost use Rattle.lite_mock.specs.Laws.Marks.{told_fall};
+ghost use Rattle.lite_io_base.specs.Laws.Told.{told_falls, told_laws};
+ghost use Rattle.lite_base.specs.Ranks.{number_ranks};
+ghost use Rattle.lite_io_base.specs.Counting.{number_counting};
+ghost use Rattle.lite_io_base.specs.Runs.{Idle};
+ghost use Rattle.lite_io_base.specs.Laws.Runs.{idle_laws};
 
 use lite_base::{Context, Poll};
-use lite_io_base::{AsyncRead, CountedRead, Tale};
+use lite_io_base::{AsyncRead, CountedRead, Takings, Tale};
 use std::alloc::{AllocError, Global};
 use std::io;
 use std::io::ErrorKind;
@@ -16,7 +19,7 @@ use std::marker::Model;
 ///
 /// A read takes from the chunk at the front as much as it has room for, or takes one other mark. Without room it
 /// answers `Ok(0)` at a chunk or an end, and takes nothing. The original has no such type.
-#[derive(Clone, Drop)]
+#[derive(Drop)]
 pub struct Marks {
     answers: Vec<Answer>,
     // How many were taken.
@@ -94,12 +97,29 @@ impl Marks {
     }
 }
 
+impl Clone for Marks {
+    ghost is_clone = { λ a b. b ≡ a };
+
+    fn clone(&self) -> Result<Marks, AllocError> {
+        let answers = self.answers.clone()?;
+        Ok(Marks {
+            answers,
+            next: self.next,
+        })
+    }
+}
+
 impl Tale for Marks {
-    ghost run = { Told };
+    ghost reads = { Told };
 
-    ghost rests = { λ x. refl };
+    ghost read_laws = { told_laws (λ x. x) };
+}
 
-    ghost follows = { told_follows };
+// It is not written to.
+impl Takings for Marks {
+    ghost writes = { Idle };
+
+    ghost write_laws = { idle_laws };
 }
 
 impl AsyncRead for Marks {
@@ -131,19 +151,9 @@ impl AsyncRead for Marks {
 }
 
 impl CountedRead for Marks {
-    ghost width = { 1 };
+    ghost ranks = { number_ranks (λ x. length x) };
 
-    ghost rank = { λ x. length x ∷ [] };
-
-    ghost sized = { λ x. refl };
-
-    ghost counts_on = { λ x y l c h. tt };
-
-    ghost firm_on = { λ x y l c h. tt };
-
-    ghost falls = { λ x y l c g h. told_fall x y l g h };
-
-    ghost lowers = { λ x y l c g h. told_falls x y l h };
+    ghost counting = { number_counting told_falls };
 }
 
 ghost use Rattle.lite_mock.specs.Marks.{mark_of, BeginsChunk};

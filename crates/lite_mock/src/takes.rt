@@ -1,11 +1,14 @@
-ghost use Rattle.std.specs.Prelude.{◌≡◌, ◌≤◌, ◌⊎◌, ◌++◌, ◌∷◌, [], Err, length, refl, IfOk, MatchResult};
+ghost use Rattle.std.specs.Prelude.{◌≡◌, ◌≤◌, ◌⊎◌, ◌++◌, ◌∷◌, [], Ok, Err, length, IfOk, MatchResult};
 ghost use Rattle.futures.specs.Poll.{IfReady, OnPending};
 ghost use Rattle.futures.specs.Task.{Holds, Keeps, Lasting};
 ghost use Rattle.lite_io_base.specs.Kinds.{by_kind};
-ghost use Rattle.lite_io_base.specs.Marks.{write_marks};
+ghost use Rattle.lite_io_base.specs.Takings.{done_marks, write_marks};
+ghost use Rattle.lite_io_base.specs.Takings.Taking.{closed, flushed};
+ghost use Rattle.lite_io_base.specs.Runs.{Idle};
+ghost use Rattle.lite_io_base.specs.Laws.Runs.{idle_laws};
 
 use lite_base::{Context, Poll};
-use lite_io_base::{AsyncWrite, Tale};
+use lite_io_base::{AsyncWrite, Takings, Tale};
 use std::alloc::{AllocError, Global};
 use std::io;
 use std::io::ErrorKind;
@@ -37,9 +40,9 @@ pub struct Takes {
 
 impl Model for Takes {
     ghost use Rattle.std.specs.Prelude.{drop, ◌≤◌, length};
-    ghost use Rattle.lite_mock.specs.Takes.{Taking};
+    ghost use Rattle.lite_mock.specs.Takes.{Orders};
 
-    ghost Value = { Taking };
+    ghost Value = { Orders };
 
     ghost view = { λ t. record { orders = drop t.next t.orders.items; taken = t.taken.items } };
 
@@ -47,7 +50,7 @@ impl Model for Takes {
 }
 
 impl Takes {
-    ghost use Rattle.lite_mock.specs.Takes.{Taking};
+    ghost use Rattle.lite_mock.specs.Takes.{Orders};
 
     /// A writer that takes all.
     pub fn new(alloc: Global) -> Takes
@@ -78,23 +81,28 @@ impl Takes {
     }
 }
 
+impl Takings for Takes {
+    ghost use Rattle.lite_mock.specs.Takes.{AllObey, Obeys};
+    ghost use Rattle.lite_io_base.specs.Laws.Steps.{steps_laws};
+
+    ghost writes = { AllObey };
+
+    ghost write_laws = { steps_laws Obeys };
+}
+
+// It is not read from.
 impl Tale for Takes {
-    ghost use Rattle.lite_mock.specs.Takes.{Obeys, Takings};
-    ghost use Rattle.lite_io_base.specs.Laws.Steps.{steps_follow};
+    ghost reads = { Idle };
 
-    ghost run = { Takings };
-
-    ghost rests = { λ x. refl };
-
-    ghost follows = { steps_follow Obeys };
+    ghost read_laws = { idle_laws };
 }
 
 impl AsyncWrite for Takes {
-    ghost use Rattle.lite_mock.specs.Takes.{Takings, answer_of};
+    ghost use Rattle.lite_mock.specs.Takes.{AllObey, answer_of};
 
     fn poll_write(&mut self, _cx: &mut Context<'_>, buf: &[u8]) -> Poll<io::Result<usize>>
         ensures bound { IfReady result (λ r. IfOk r (λ n. n ≤ length buf.now)) }
-        ensures ran { Takings self.old (write_marks result buf.now) self.new }
+        ensures ran { AllObey self.old (write_marks result buf.now) self.new }
         ensures order { (by_kind result ≡ answer_of self.old.orders buf.now) ⊎ (by_kind result ≡ Poll.Ready (Err ErrorKind.OutOfMemory)) }
         ensures left { OnPending result ((fact : Lasting) → ⊥ → Holds _cx.new fact) }
         ensures kept { Keeps _cx.old _cx.new }
@@ -121,11 +129,23 @@ impl AsyncWrite for Takes {
         Poll::Ready(Ok(most))
     }
 
-    fn poll_flush(&mut self, _cx: &mut Context<'_>) -> Poll<io::Result<()>> {
+    fn poll_flush(&mut self, _cx: &mut Context<'_>) -> Poll<io::Result<()>>
+        ensures ran { AllObey self.old (done_marks flushed result) self.new }
+        ensures done { result ≡ Poll.Ready (Ok tt) }
+        ensures left { OnPending result ((fact : Lasting) → ⊥ → Holds _cx.new fact) }
+        ensures kept { Keeps _cx.old _cx.new }
+    {
+        // What was taken is in place already.
         Poll::Ready(Ok(()))
     }
 
-    fn poll_close(&mut self, _cx: &mut Context<'_>) -> Poll<io::Result<()>> {
+    fn poll_close(&mut self, _cx: &mut Context<'_>) -> Poll<io::Result<()>>
+        ensures ran { AllObey self.old (done_marks closed result) self.new }
+        ensures done { result ≡ Poll.Ready (Ok tt) }
+        ensures left { OnPending result ((fact : Lasting) → ⊥ → Holds _cx.new fact) }
+        ensures kept { Keeps _cx.old _cx.new }
+    {
+        // It can be written to as before.
         Poll::Ready(Ok(()))
     }
 }

@@ -1,28 +1,28 @@
 -- A buffered reader over a cursor, seen as the bare cursor at its logical position.
 use Rattle.std.specs.Prelude.{◌≡◌, ◌≤◌, ◌<◌, ◌^◌, ℕ, ◌-◌, List, length, take}
 use Rattle.lite_io.specs.declared.buf_reader.BufReader.{BufReader}
-use Rattle.lite_io.specs.BufReader.{Through, ahead, capacity_of}
+use Rattle.lite_io.specs.BufReader.{Through, ahead, capacity_of, inner_of}
 use Rattle.lite_io.specs.SeeksThrough.{SeeksThrough}
 use Rattle.lite_bridge.specs.declared.cursor.Cursor.{Cursor}
-use Rattle.lite_bridge.specs.Cursor.{Moves, Seeks, left}
+use Rattle.lite_bridge.specs.Cursor.{Moves, Seeks, at_place, inner_of as value_of, left, position_of}
 use Rattle.lite_seek.specs.Calls.{Event, Goes}
 
 -- the cursor, as many bytes back as are ahead
 abbrev pub logical : {T : Type 0} → BufReader (Cursor T) → Cursor T
-logical r = record { inner = r.inner.inner; position = r.inner.position - length (ahead r) }
+logical r = at_place (inner_of r) (position_of (inner_of r) - length (ahead r))
 
 -- There is a buffer, and the bytes that are ahead are those before the inner position. It holds of a fresh reader whose
 -- capacity is 1 or more.
 pub record IsInStep {T : Type 0} (bytes : T → List ℕ) (r : BufReader (Cursor T)) : Type 0 where
   pub buffered : 0 < capacity_of r
-  pub behind : length (ahead r) ≤ r.inner.position
+  pub behind : length (ahead r) ≤ position_of (inner_of r)
   pub same : ahead r ≡ take (length (ahead r)) (left bytes (logical r))
-  pub place : r.inner.position < 2 ^ 64
-  pub size : length (bytes r.inner.inner) < 2 ^ 64
+  pub place : position_of (inner_of r) < 2 ^ 64
+  pub size : length (bytes (value_of (inner_of r))) < 2 ^ 64
 
 -- However reads and seeks follow one another on r, what they are told is what they are told on the bare cursor at the
 -- logical position, and there they leave it.
-abbrev pub AnswersAsBare : {T : Type 0} (bytes : T → List ℕ) (puts : T → ℕ → List ℕ → T → Type 0) (refuses : T → T → Type 0) → BufReader (Cursor T) → Type 0
-AnswersAsBare {T} bytes puts refuses r =
-    (calls : List Event) (last : BufReader (Cursor T)) → Goes (Through (Moves bytes puts refuses)) (SeeksThrough (Seeks bytes)) r calls last
-    → Goes (Moves bytes puts refuses) (Seeks bytes) (logical r) calls (logical last) × IsInStep bytes last
+abbrev pub AnswersAsBare : {T : Type 0} → (T → List ℕ) → BufReader (Cursor T) → Type 0
+AnswersAsBare {T} bytes r =
+    (calls : List Event) (last : BufReader (Cursor T)) → Goes (Through (Moves bytes)) (SeeksThrough (Seeks bytes)) r calls last
+    → Goes (Moves bytes) (Seeks bytes) (logical r) calls (logical last) × IsInStep bytes last

@@ -1,6 +1,8 @@
 use super::{failed, finishes, gives, gives_both, lends, ok, seek, write};
-use futures_lite::io::{AsyncBufRead, AsyncReadExt, BufReader, Cursor, ErrorKind, SeekFrom};
-use futures_lite::laws::answers_as_bare;
+use futures_lite::io::{
+    self, AsyncBufRead, AsyncReadExt, BufReader, Cursor, ErrorKind, SeekFrom,
+};
+use futures_lite::laws::{answers_as_bare, counts_after_seek, keeps_order};
 use lite_mock::Marks;
 use std::alloc::AllocError;
 use std::test::Fail;
@@ -151,5 +153,65 @@ fn a_buffered_reader_writes_past_what_is_ahead(rt: HostRuntime) -> Result<(), Fa
     assert!(rt; gives(&rt, &mut reader, 1, b"d")?);
     let cursor = reader.into_inner();
     assert_eq!(rt; cursor.into_inner().as_slice(), b"abXdef".as_slice());
+    Ok(())
+}
+
+#[test]
+fn a_reader_of_no_named_capacity_reads_8192_ahead(rt: HostRuntime) -> Result<(), Fail> {
+    let reader = BufReader::new(rt.alloc(), io::repeat(b'x'));
+    let mut reader = reader.map_err(|_| Fail::from(AllocError))?;
+    assert!(rt; gives(&rt, &mut reader, 1, b"x")?);
+    assert_eq!(rt; reader.buffer().len(), 8191);
+    Ok(())
+}
+
+#[test]
+fn a_refused_buffer_hands_the_reader_back(rt: HostRuntime) -> Result<(), Fail> {
+    let mut cursor = Cursor::new(b"ab".as_slice());
+    cursor.set_position(1);
+    let Err(mut back) = BufReader::with_capacity(rt.alloc(), usize::MAX, cursor) else {
+        return Err(Fail::from("nothing was refused"));
+    };
+    assert_eq!(rt; back.position(), 1);
+    assert!(rt; gives(&rt, &mut back, 2, b"b")?);
+    Ok(())
+}
+
+#[test]
+fn the_inner_reader_can_be_changed(rt: HostRuntime) -> Result<(), Fail> {
+    let mut reader = digits(&rt, 4)?;
+    assert!(rt; gives(&rt, &mut reader, 1, b"0")?);
+    reader.get_mut().set_position(8);
+    assert!(rt; gives(&rt, &mut reader, 4, b"123")?);
+    assert!(rt; gives(&rt, &mut reader, 4, b"89")?);
+    Ok(())
+}
+
+#[test]
+fn buffers_without_room_are_passed_over(rt: HostRuntime) -> Result<(), Fail> {
+    let mut reader = digits(&rt, 4)?;
+    assert!(rt; gives_both(&rt, &mut reader, (0, 1), b"", b"0")?);
+    assert!(rt; gives_both(&rt, &mut reader, (0, 2), b"", b"12")?);
+    assert!(rt; gives_both(&rt, &mut reader, (2, 0), b"3", b"")?);
+    assert!(rt; gives_both(&rt, &mut reader, (0, 5), b"", b"45678")?);
+
+    let bare = BufReader::with_capacity(rt.alloc(), 0, Cursor::new(b"abc".as_slice()));
+    let mut bare = bare.map_err(|_| Fail::from(AllocError))?;
+    assert!(rt; gives_both(&rt, &mut bare, (1, 1), b"a", b"b")?);
+    assert!(rt; gives_both(&rt, &mut bare, (0, 2), b"", b"c")?);
+    Ok(())
+}
+
+#[test]
+fn laws_of_a_buffered_reader_can_be_asked(rt: HostRuntime) -> Result<(), Fail> {
+    let mut reader = BufReader::with_capacity(
+        rt.alloc(),
+        4,
+        Cursor::new(Vec::from_slice(rt.alloc(), b"abcdef")?),
+    )
+    .map_err(|_| Fail::from(AllocError))?;
+    keeps_order(&reader);
+    counts_after_seek(&reader);
+    assert!(rt; gives(&rt, &mut reader, 1, b"a")?);
     Ok(())
 }

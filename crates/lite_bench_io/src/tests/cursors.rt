@@ -61,3 +61,18 @@ fn a_slice_cursor_writes_what_fits(rt: HostRuntime) -> Result<(), Fail> {
     assert_eq!(rt; bytes.as_slice(), b"abcde".as_slice());
     Ok(())
 }
+
+#[test]
+fn a_cursor_is_cloned_and_begins_empty(rt: HostRuntime) -> Result<(), Fail> {
+    let mut cursor = Cursor::new(Vec::from_slice(rt.alloc(), b"abc")?);
+    cursor.set_position(1);
+    let mut same = cursor.clone()?;
+    same.get_mut().truncate(2);
+    assert!(rt; gives(&rt, &mut same, 9, b"b")?);
+    assert!(rt; gives_both(&rt, &mut cursor, (0, 9), b"", b"bc")?);
+
+    let mut empty: Cursor<&'static [u8]> = Cursor::default();
+    assert_eq!(rt; empty.position(), 0);
+    assert!(rt; gives(&rt, &mut empty, 1, b"")?);
+    Ok(())
+}

@@ -79,3 +79,41 @@ fn slices_and_boxes_read(rt: HostRuntime) -> Result<(), Fail> {
     assert!(rt; finishes(&rt, &mut writer)?);
     Ok(())
 }
+
+#[test]
+fn vectored_reads_of_take_and_chain(rt: HostRuntime) -> Result<(), Fail> {
+    let mut first = Cursor::new(b"hello".as_slice()).take(3);
+    assert!(rt; gives_both(&rt, &mut first, (0, 0), b"", b"")?);
+    assert!(rt; gives_both(&rt, &mut first, (0, 2), b"", b"he")?);
+    assert!(rt; gives_both(&rt, &mut first, (0, 2), b"", b"l")?);
+    assert!(rt; gives_both(&rt, &mut first, (0, 2), b"", b"")?);
+    assert_eq!(rt; first.get_ref().position(), 3);
+
+    let mut both = Cursor::new(b"abc".as_slice()).chain(Cursor::new(b"def".as_slice()));
+    assert!(rt; gives_both(&rt, &mut both, (0, 0), b"", b"")?);
+    assert!(rt; gives_both(&rt, &mut both, (1, 1), b"a", b"b")?);
+    assert!(rt; gives_both(&rt, &mut both, (0, 2), b"", b"c")?);
+    assert!(rt; gives_both(&rt, &mut both, (1, 1), b"d", b"e")?);
+    assert!(rt; gives_both(&rt, &mut both, (0, 2), b"", b"f")?);
+    assert!(rt; gives_both(&rt, &mut both, (0, 2), b"", b"")?);
+    Ok(())
+}
+
+#[test]
+fn inner_readers_can_be_changed(rt: HostRuntime) -> Result<(), Fail> {
+    let mut first = Cursor::new(b"hello".as_slice()).take(2);
+    first.get_mut().set_position(3);
+    assert!(rt; gives(&rt, &mut first, 9, b"lo")?);
+
+    let mut both = Cursor::new(b"abc".as_slice()).chain(Cursor::new(b"def".as_slice()));
+    let (one, two) = both.get_mut();
+    one.set_position(2);
+    two.set_position(1);
+    assert_eq!(rt; (both.get_ref().0.position(), both.get_ref().1.position()), (2, 1));
+    assert!(rt; gives(&rt, &mut both, 9, b"c")?);
+    both.second_mut().set_position(2);
+    assert!(rt; gives(&rt, &mut both, 9, b"f")?);
+    both.first_mut().set_position(0);
+    assert!(rt; gives(&rt, &mut both, 9, b"")?);
+    Ok(())
+}

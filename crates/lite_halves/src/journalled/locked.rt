@@ -2,14 +2,15 @@
 ghost use Rattle.std.specs.Prelude.{◌≡◌, ◌≤◌, ◌<◌, ◌+◌, ◌%◌, ◌^◌, length, IfNone, IfOk, IfSome};
 ghost use Rattle.futures.specs.Poll.{IfReady};
 ghost use Rattle.futures.specs.Task.{Keeps};
-ghost use Rattle.lite_halves.specs.Counts.{AddsInside, bytes_with, calls_with, count_of, got_in, reads_in, taken_in, writes_in};
+ghost use Rattle.lite_halves.specs.Counts.{AddsInside, bytes_with, calls_with, got_in, reads_in, taken_in, writes_in};
+ghost use Rattle.lite_io_base.specs.Marks.{count_of};
 ghost use Rattle.lite_journal.specs.Entry.{close_note, flush_note, read_note, write_note};
 ghost use Rattle.lite_journal.specs.Journal.{IsSound, Replays};
 
 use super::Blanks;
 use super::tally::{book_got, book_taken, count_reads, count_writes};
 use lite_base::{Context, Poll};
-use lite_io_base::{AsyncRead, AsyncWrite, Tale};
+use lite_io_base::{AsyncRead, AsyncWrite, Takings, Tale};
 use lite_journal::Journal;
 use std::alloc::AllocError;
 use std::io;
@@ -26,7 +27,7 @@ pub(super) struct Tally {
 
 /// A journal beside the books of its calls and bytes. Each step is one call of the stream together with its entry.
 #[derive(Drop)]
-pub(super) struct Locked<T: Tale + Clone, A: Ledger, B: Ledger, C: Ledger, D: Ledger> {
+pub(super) struct Locked<T: Tale + Takings + Clone, A: Ledger, B: Ledger, C: Ledger, D: Ledger> {
     journal: Option<Journal<T>>,
     reads: Book<A>,
     got: Book<B>,
@@ -39,7 +40,13 @@ pub(super) struct Locked<T: Tale + Clone, A: Ledger, B: Ledger, C: Ledger, D: Le
 }
 
 #[tactic(auto, using(crate::proofs::Fits::read_fits))]
-impl<T: AsyncRead + Clone, A: Ledger, B: Ledger, C: Ledger, D: Ledger> Locked<T, A, B, C, D> {
+impl<T: AsyncRead + Takings + Clone, A: Ledger, B: Ledger, C: Ledger, D: Ledger> Locked<
+    T,
+    A,
+    B,
+    C,
+    D,
+> {
     /// One read with its entry. `None`: there was no memory for the entry, and nothing was called.
     pub(super) fn read(
         &mut self,
@@ -49,7 +56,7 @@ impl<T: AsyncRead + Clone, A: Ledger, B: Ledger, C: Ledger, D: Ledger> Locked<T,
         buf: &mut [u8],
     ) -> Option<Poll<io::Result<usize>>>
         requires { (0 < calls.old.amount) × (0 < calls.old.parts) × (0 < bytes.old.parts) }
-        ensures added { IfSome result (λ r. AddsInside T.run self.old.journal (read_note r buf.new) self.new.journal) }
+        ensures added { IfSome result (λ r. AddsInside T.reads T.writes self.old.journal (read_note r buf.new) self.new.journal) }
         ensures some { IfSome result (λ r. (calls.new.amount ≡ calls.old.amount + 1) × (bytes.new.amount ≡ bytes.old.amount + count_of r)) }
         ensures none { IfNone result ((calls.new.amount ≡ calls.old.amount) × (bytes.new.amount ≡ bytes.old.amount)) }
         ensures parts { (calls.new.parts ≡ calls.old.parts) × (bytes.new.parts ≡ bytes.old.parts) }
@@ -78,7 +85,13 @@ impl<T: AsyncRead + Clone, A: Ledger, B: Ledger, C: Ledger, D: Ledger> Locked<T,
 }
 
 #[tactic(auto, using(crate::proofs::Fits::write_fits))]
-impl<T: AsyncWrite + Clone, A: Ledger, B: Ledger, C: Ledger, D: Ledger> Locked<T, A, B, C, D> {
+impl<T: Tale + AsyncWrite + Clone, A: Ledger, B: Ledger, C: Ledger, D: Ledger> Locked<
+    T,
+    A,
+    B,
+    C,
+    D,
+> {
     /// One write with its entry. `None`: there was no memory for the entry, and nothing was called.
     pub(super) fn write(
         &mut self,
@@ -88,7 +101,7 @@ impl<T: AsyncWrite + Clone, A: Ledger, B: Ledger, C: Ledger, D: Ledger> Locked<T
         buf: &[u8],
     ) -> Option<Poll<io::Result<usize>>>
         requires { (0 < calls.old.amount) × (0 < calls.old.parts) × (0 < bytes.old.parts) }
-        ensures added { IfSome result (λ r. AddsInside T.run self.old.journal (write_note r buf.now) self.new.journal) }
+        ensures added { IfSome result (λ r. AddsInside T.reads T.writes self.old.journal (write_note r buf.now) self.new.journal) }
         ensures some { IfSome result (λ r. (calls.new.amount ≡ calls.old.amount + 1) × (bytes.new.amount ≡ bytes.old.amount + count_of r)) }
         ensures none { IfNone result ((calls.new.amount ≡ calls.old.amount) × (bytes.new.amount ≡ bytes.old.amount)) }
         ensures parts { (calls.new.parts ≡ calls.old.parts) × (bytes.new.parts ≡ bytes.old.parts) }
@@ -122,7 +135,7 @@ impl<T: AsyncWrite + Clone, A: Ledger, B: Ledger, C: Ledger, D: Ledger> Locked<T
         cx: &mut Context<'_>,
     ) -> Option<Poll<io::Result<()>>>
         requires { (0 < calls.old.amount) × (0 < calls.old.parts) }
-        ensures added { IfSome result (λ r. AddsInside T.run self.old.journal (flush_note r) self.new.journal) }
+        ensures added { IfSome result (λ r. AddsInside T.reads T.writes self.old.journal (flush_note r) self.new.journal) }
         ensures some { IfSome result (λ r. calls.new.amount ≡ calls.old.amount + 1) }
         ensures none { IfNone result (calls.new.amount ≡ calls.old.amount) }
         ensures parts { calls.new.parts ≡ calls.old.parts }
@@ -153,7 +166,7 @@ impl<T: AsyncWrite + Clone, A: Ledger, B: Ledger, C: Ledger, D: Ledger> Locked<T
         cx: &mut Context<'_>,
     ) -> Option<Poll<io::Result<()>>>
         requires { (0 < calls.old.amount) × (0 < calls.old.parts) }
-        ensures added { IfSome result (λ r. AddsInside T.run self.old.journal (close_note r) self.new.journal) }
+        ensures added { IfSome result (λ r. AddsInside T.reads T.writes self.old.journal (close_note r) self.new.journal) }
         ensures some { IfSome result (λ r. calls.new.amount ≡ calls.old.amount + 1) }
         ensures none { IfNone result (calls.new.amount ≡ calls.old.amount) }
         ensures parts { calls.new.parts ≡ calls.old.parts }
@@ -178,7 +191,7 @@ impl<T: AsyncWrite + Clone, A: Ledger, B: Ledger, C: Ledger, D: Ledger> Locked<T
     }
 }
 
-impl<T: Tale + Clone, A: Ledger, B: Ledger, C: Ledger, D: Ledger> Locked<T, A, B, C, D> {
+impl<T: Tale + Takings + Clone, A: Ledger, B: Ledger, C: Ledger, D: Ledger> Locked<T, A, B, C, D> {
     /// No journal yet, and the whole shares of its four ledgers.
     pub(super) fn open(
         blanks: Blanks,
@@ -268,8 +281,8 @@ impl<T: Tale + Clone, A: Ledger, B: Ledger, C: Ledger, D: Ledger> Locked<T, A, B
     ) -> Result<Journal<T>, AllocError>
         requires whole { (reads.old.parts ≡ A.parts) × (got.old.parts ≡ B.parts) × (writes.old.parts ≡ C.parts) × (taken.old.parts ≡ D.parts) }
         requires some { 0 < reads.old.amount }
-        ensures sound { IfOk result (λ j. IsSound T.run T.is_clone j) }
-        ensures replays { IfOk result (λ j. Replays T.run T.is_clone j) }
+        ensures sound { IfOk result (λ j. IsSound T.reads T.writes T.is_clone j) }
+        ensures replays { IfOk result (λ j. Replays T.reads T.writes T.is_clone j) }
         ensures reads { IfOk result (λ j. reads_in j.notes + 1 ≡ reads.old.amount) }
         ensures got { IfOk result (λ j. got_in j.notes ≡ got.old.amount) }
         ensures writes { IfOk result (λ j. writes_in j.notes + 1 ≡ writes.old.amount) }

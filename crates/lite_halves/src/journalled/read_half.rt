@@ -2,18 +2,19 @@
 ghost use Rattle.std.specs.Prelude.{◌≡◌, ◌≤◌, ◌<◌, ◌+◌, ◌%◌, ◌^◌, ◌⊎◌, ◌∷◌, [], length, map, IfNone, IfOk, IfSome};
 ghost use Rattle.futures.specs.Poll.{IfReady, OnPending};
 ghost use Rattle.futures.specs.Task.{Holds, Keeps, Lasting};
-ghost use Rattle.lite_io_base.specs.Marks.{read_marks};
-ghost use Rattle.lite_halves.specs.Counts.{Counts, HalfDrives, IsOutOfMemory, count_of, moved_by};
+ghost use Rattle.lite_io_base.specs.Marks.{count_of, read_marks};
+ghost use Rattle.lite_io_base.specs.Runs.{ReadsInto, room_in};
+ghost use Rattle.lite_halves.specs.Counts.{HalfDrives, IsOutOfMemory, ReadCounts, moved_by, read_bytes_of};
 ghost use Rattle.lite_journal.specs.Entry.{Asked, Fits, told_in, told_of};
-ghost use Rattle.lite_halves.specs.Laws.Counts.{counts_follow, counts_rest};
+ghost use Rattle.lite_halves.specs.Laws.Counts.{counts_laws};
 
 use super::locked::{Locked, count};
 use lite_base::{Context, Poll};
-use lite_io_base::{AsyncRead, Tale};
+use lite_io_base::{AsyncRead, Takings, Tale, first_with_room};
 use lite_journal::{Answer, buffer_answer};
 use std::alloc::{AllocError, AllocGlobal};
 use std::io;
-use std::io::ErrorKind;
+use std::io::{ErrorKind, IoSliceMut};
 use std::marker::Model;
 use std::sync::ledger::{Ledger, Share};
 use std::sync::{Arc, Mutex, Wait};
@@ -24,7 +25,14 @@ use std::sync::{Arc, Mutex, Wait};
 /// their answers, those from before the split included; what the stream does between two calls is not known, since the
 /// other half may call it. The original has no such type.
 #[derive(Drop)]
-pub struct JournalReadHalf<R, T: Tale + Clone, A: Ledger, B: Ledger, C: Ledger, D: Ledger> {
+pub struct JournalReadHalf<
+    R,
+    T: Tale + Takings + Clone,
+    A: Ledger,
+    B: Ledger,
+    C: Ledger,
+    D: Ledger,
+> {
     pub(super) rt: R,
     pub(super) shared: Arc<Mutex<Locked<T, A, B, C, D>>>,
     pub(super) calls: u64,
@@ -33,7 +41,7 @@ pub struct JournalReadHalf<R, T: Tale + Clone, A: Ledger, B: Ledger, C: Ledger, 
     pub(super) byte_share: Share<B>,
 }
 
-impl<R, T: Tale + Clone, A: Ledger, B: Ledger, C: Ledger, D: Ledger> Model
+impl<R, T: Tale + Takings + Clone, A: Ledger, B: Ledger, C: Ledger, D: Ledger> Model
     for JournalReadHalf<R, T, A, B, C, D> {
     ghost use Rattle.std.specs.Prelude.{◌≡◌, ◌<◌, ◌+◌, ◌%◌, ◌^◌};
     ghost use Rattle.lite_halves.specs.Counts.{Counted};
@@ -45,7 +53,7 @@ impl<R, T: Tale + Clone, A: Ledger, B: Ledger, C: Ledger, D: Ledger> Model
     ghost invariant = { λ h. (0 < h.call_share.parts) × (0 < h.byte_share.parts) × (h.call_share.parts ≡ A.parts) × (h.byte_share.parts ≡ B.parts) × (h.call_share.amount ≡ h.calls + 1) × (h.bytes ≡ h.byte_share.amount % 2 ^ 64) };
 }
 
-impl<R, T: Tale + Clone, A: Ledger, B: Ledger, C: Ledger, D: Ledger> JournalReadHalf<
+impl<R, T: Tale + Takings + Clone, A: Ledger, B: Ledger, C: Ledger, D: Ledger> JournalReadHalf<
     R,
     T,
     A,
@@ -68,14 +76,14 @@ impl<R, T: Tale + Clone, A: Ledger, B: Ledger, C: Ledger, D: Ledger> JournalRead
     }
 }
 
-impl<R: Wait, T: AsyncRead + Clone, A: Ledger, B: Ledger, C: Ledger, D: Ledger> JournalReadHalf<
-    R,
-    T,
-    A,
-    B,
-    C,
-    D,
-> {
+impl<
+    R: Wait,
+    T: AsyncRead + Takings + Clone,
+    A: Ledger,
+    B: Ledger,
+    C: Ledger,
+    D: Ledger,
+> JournalReadHalf<R, T, A, B, C, D> {
     // One read with its entry. `None`: there was no memory for the entry, and nothing was called.
     fn step(&mut self, cx: &mut Context<'_>, buf: &mut [u8]) -> Option<Poll<io::Result<usize>>>
         ensures some { IfSome result (λ r. (self.new.calls ≡ self.old.calls + 1) × (self.new.bytes ≡ self.old.bytes + count_of r)) }
@@ -97,7 +105,7 @@ impl<R: Wait, T: AsyncRead + Clone, A: Ledger, B: Ledger, C: Ledger, D: Ledger> 
     }
 }
 
-fn read_locked<R: Wait, T: AsyncRead + Clone, A: Ledger, B: Ledger, C: Ledger, D: Ledger>(
+fn read_locked<R: Wait, T: AsyncRead + Takings + Clone, A: Ledger, B: Ledger, C: Ledger, D: Ledger>(
     rt: &R,
     shared: &Mutex<Locked<T, A, B, C, D>>,
     calls: &mut Share<A>,
@@ -116,16 +124,14 @@ fn read_locked<R: Wait, T: AsyncRead + Clone, A: Ledger, B: Ledger, C: Ledger, D
     shared.lock(rt).read(calls, bytes, cx, buf)
 }
 
-impl<R, T: Tale + Clone, A: Ledger, B: Ledger, C: Ledger, D: Ledger> Tale
+impl<R, T: Tale + Takings + Clone, A: Ledger, B: Ledger, C: Ledger, D: Ledger> Tale
     for JournalReadHalf<R, T, A, B, C, D> {
-    ghost run = { Counts };
+    ghost reads = { ReadCounts };
 
-    ghost rests = { counts_rest };
-
-    ghost follows = { counts_follow };
+    ghost read_laws = { counts_laws read_bytes_of };
 }
 
-impl<R: Wait, T: AsyncRead + Clone, A: Ledger, B: Ledger, C: Ledger, D: Ledger> AsyncRead
+impl<R: Wait, T: AsyncRead + Takings + Clone, A: Ledger, B: Ledger, C: Ledger, D: Ledger> AsyncRead
     for JournalReadHalf<R, T, A, B, C, D> {
     /// Reads from the stream, and writes the call down with its answer, both under one lock.
     ///
@@ -134,7 +140,7 @@ impl<R: Wait, T: AsyncRead + Clone, A: Ledger, B: Ledger, C: Ledger, D: Ledger> 
     #[tactic(auto, using(crate::specs::Laws::Counts::read_bytes))]
     fn poll_read(&mut self, cx: &mut Context<'_>, buf: &mut [u8]) -> Poll<io::Result<usize>>
         ensures bound { IfReady result (λ r. IfOk r (λ n. n ≤ length buf.new)) }
-        ensures ran { Counts self.old (read_marks result buf.new) self.new }
+        ensures ran { ReadCounts self.old (read_marks result buf.new) self.new }
         ensures calls { (self.new.calls ≡ self.old.calls + 1) ⊎ (IsOutOfMemory result × (self.new ≡ self.old)) }
         ensures bytes { self.new.bytes ≡ self.old.bytes + count_of result }
         ensures left { OnPending result ((fact : Lasting) → ⊥ → Holds cx.new fact) }
@@ -145,12 +151,32 @@ impl<R: Wait, T: AsyncRead + Clone, A: Ledger, B: Ledger, C: Ledger, D: Ledger> 
             None => Poll::Ready(Err(io::Error::from(ErrorKind::OutOfMemory))),
         }
     }
+
+    /// Reads as `poll_read` does into the first buffer that has room, or into an empty one if none has: one call with
+    /// one entry.
+    fn poll_read_vectored(
+        &mut self,
+        cx: &mut Context<'_>,
+        bufs: &mut [IoSliceMut<'_>],
+    ) -> Poll<io::Result<usize>>
+        ensures bound { IfReady result (λ r. IfOk r (λ n. n ≤ room_in bufs.old)) }
+        ensures ran { ReadsInto ReadCounts self.old result bufs.old self.new }
+        ensures calls { (self.new.calls ≡ self.old.calls + 1) ⊎ (IsOutOfMemory result × (self.new ≡ self.old)) }
+        ensures bytes { self.new.bytes ≡ self.old.bytes + count_of result }
+        ensures left { OnPending result ((fact : Lasting) → ⊥ → Holds cx.new fact) }
+        ensures kept { Keeps cx.old cx.new }
+    {
+        match first_with_room(bufs) {
+            Some(i) => self.poll_read(cx, &mut bufs[i]),
+            None => self.poll_read(cx, &mut []),
+        }
+    }
 }
 
 impl<R, T, A, B, C, D> JournalReadHalf<R, T, A, B, C, D>
 where
     R: Wait + AllocGlobal,
-    T: AsyncRead + Clone,
+    T: AsyncRead + Takings + Clone,
     A: Ledger,
     B: Ledger,
     C: Ledger,

@@ -1,20 +1,22 @@
 //! The journalled half that writes.
 ghost use Rattle.std.specs.Prelude.{◌≡◌, ◌≤◌, ◌<◌, ◌+◌, ◌%◌, ◌^◌, ◌⊎◌, ◌∷◌, [], length, IfNone, IfOk, IfSome};
+ghost use Rattle.std.specs.Io.Slices.{io_slices_bytes};
 ghost use Rattle.futures.specs.Poll.{IfReady, OnPending};
 ghost use Rattle.futures.specs.Task.{Holds, Keeps, Lasting};
-ghost use Rattle.lite_io_base.specs.Marks.{done_marks, write_marks};
-ghost use Rattle.lite_io_base.specs.Marks.Mark.{closed, flushed};
-ghost use Rattle.lite_halves.specs.Counts.{AllWrites, Counts, HalfDrives, IsOutOfMemory, IsWrite, count_of, moved_by};
+ghost use Rattle.lite_io_base.specs.Marks.{count_of};
+ghost use Rattle.lite_io_base.specs.Takings.{done_marks, write_marks};
+ghost use Rattle.lite_io_base.specs.Takings.Taking.{closed, flushed};
+ghost use Rattle.lite_halves.specs.Counts.{AllWrites, HalfDrives, IsOutOfMemory, IsWrite, WriteCounts, moved_by, taken_bytes_of};
 ghost use Rattle.lite_journal.specs.Entry.{Fits, asked_in, asked_of, told_in, told_of};
-ghost use Rattle.lite_halves.specs.Laws.Counts.{counts_follow, counts_rest};
+ghost use Rattle.lite_halves.specs.Laws.Counts.{counts_laws};
 
 use super::locked::{Locked, count};
 use lite_base::{Context, Poll};
-use lite_io_base::{AsyncWrite, Tale};
+use lite_io_base::{AsyncWrite, Takings, Tale, first_nonempty};
 use lite_journal::{Answer, Call, done_answer, write_answer};
 use std::alloc::AllocError;
 use std::io;
-use std::io::ErrorKind;
+use std::io::{ErrorKind, IoSlice};
 use std::marker::Model;
 use std::sync::ledger::{Ledger, Share};
 use std::sync::{Arc, Mutex, Wait};
@@ -25,7 +27,14 @@ use std::sync::{Arc, Mutex, Wait};
 /// journal and the bytes that were taken, those from before the split included; what the stream does between two calls
 /// is not known, since the other half may call it. The original has no such type.
 #[derive(Drop)]
-pub struct JournalWriteHalf<R, T: Tale + Clone, A: Ledger, B: Ledger, C: Ledger, D: Ledger> {
+pub struct JournalWriteHalf<
+    R,
+    T: Tale + Takings + Clone,
+    A: Ledger,
+    B: Ledger,
+    C: Ledger,
+    D: Ledger,
+> {
     pub(super) rt: R,
     pub(super) shared: Arc<Mutex<Locked<T, A, B, C, D>>>,
     pub(super) calls: u64,
@@ -34,7 +43,7 @@ pub struct JournalWriteHalf<R, T: Tale + Clone, A: Ledger, B: Ledger, C: Ledger,
     pub(super) byte_share: Share<D>,
 }
 
-impl<R, T: Tale + Clone, A: Ledger, B: Ledger, C: Ledger, D: Ledger> Model
+impl<R, T: Tale + Takings + Clone, A: Ledger, B: Ledger, C: Ledger, D: Ledger> Model
     for JournalWriteHalf<R, T, A, B, C, D> {
     ghost use Rattle.std.specs.Prelude.{◌≡◌, ◌<◌, ◌+◌, ◌%◌, ◌^◌};
     ghost use Rattle.lite_halves.specs.Counts.{Counted};
@@ -46,7 +55,7 @@ impl<R, T: Tale + Clone, A: Ledger, B: Ledger, C: Ledger, D: Ledger> Model
     ghost invariant = { λ h. (0 < h.call_share.parts) × (0 < h.byte_share.parts) × (h.call_share.parts ≡ C.parts) × (h.byte_share.parts ≡ D.parts) × (h.call_share.amount ≡ h.calls + 1) × (h.bytes ≡ h.byte_share.amount % 2 ^ 64) };
 }
 
-impl<R, T: Tale + Clone, A: Ledger, B: Ledger, C: Ledger, D: Ledger> JournalWriteHalf<
+impl<R, T: Tale + Takings + Clone, A: Ledger, B: Ledger, C: Ledger, D: Ledger> JournalWriteHalf<
     R,
     T,
     A,
@@ -69,14 +78,14 @@ impl<R, T: Tale + Clone, A: Ledger, B: Ledger, C: Ledger, D: Ledger> JournalWrit
     }
 }
 
-impl<R: Wait, T: AsyncWrite + Clone, A: Ledger, B: Ledger, C: Ledger, D: Ledger> JournalWriteHalf<
-    R,
-    T,
-    A,
-    B,
-    C,
-    D,
-> {
+impl<
+    R: Wait,
+    T: Tale + AsyncWrite + Clone,
+    A: Ledger,
+    B: Ledger,
+    C: Ledger,
+    D: Ledger,
+> JournalWriteHalf<R, T, A, B, C, D> {
     // One write with its entry. `None`: there was no memory for the entry, and nothing was called.
     fn step_write(&mut self, cx: &mut Context<'_>, buf: &[u8]) -> Option<Poll<io::Result<usize>>>
         ensures some { IfSome result (λ r. (self.new.calls ≡ self.old.calls + 1) × (self.new.bytes ≡ self.old.bytes + count_of r)) }
@@ -162,7 +171,7 @@ impl<R: Wait, T: AsyncWrite + Clone, A: Ledger, B: Ledger, C: Ledger, D: Ledger>
     }
 }
 
-fn write_locked<R: Wait, T: AsyncWrite + Clone, A: Ledger, B: Ledger, C: Ledger, D: Ledger>(
+fn write_locked<R: Wait, T: Tale + AsyncWrite + Clone, A: Ledger, B: Ledger, C: Ledger, D: Ledger>(
     rt: &R,
     shared: &Mutex<Locked<T, A, B, C, D>>,
     calls: &mut Share<C>,
@@ -181,7 +190,7 @@ fn write_locked<R: Wait, T: AsyncWrite + Clone, A: Ledger, B: Ledger, C: Ledger,
     shared.lock(rt).write(calls, bytes, cx, buf)
 }
 
-fn flush_locked<R: Wait, T: AsyncWrite + Clone, A: Ledger, B: Ledger, C: Ledger, D: Ledger>(
+fn flush_locked<R: Wait, T: Tale + AsyncWrite + Clone, A: Ledger, B: Ledger, C: Ledger, D: Ledger>(
     rt: &R,
     shared: &Mutex<Locked<T, A, B, C, D>>,
     calls: &mut Share<C>,
@@ -197,7 +206,7 @@ fn flush_locked<R: Wait, T: AsyncWrite + Clone, A: Ledger, B: Ledger, C: Ledger,
     shared.lock(rt).flush(calls, cx)
 }
 
-fn close_locked<R: Wait, T: AsyncWrite + Clone, A: Ledger, B: Ledger, C: Ledger, D: Ledger>(
+fn close_locked<R: Wait, T: Tale + AsyncWrite + Clone, A: Ledger, B: Ledger, C: Ledger, D: Ledger>(
     rt: &R,
     shared: &Mutex<Locked<T, A, B, C, D>>,
     calls: &mut Share<C>,
@@ -213,16 +222,14 @@ fn close_locked<R: Wait, T: AsyncWrite + Clone, A: Ledger, B: Ledger, C: Ledger,
     shared.lock(rt).close(calls, cx)
 }
 
-impl<R, T: Tale + Clone, A: Ledger, B: Ledger, C: Ledger, D: Ledger> Tale
+impl<R, T: Tale + Takings + Clone, A: Ledger, B: Ledger, C: Ledger, D: Ledger> Takings
     for JournalWriteHalf<R, T, A, B, C, D> {
-    ghost run = { Counts };
+    ghost writes = { WriteCounts };
 
-    ghost rests = { counts_rest };
-
-    ghost follows = { counts_follow };
+    ghost write_laws = { counts_laws taken_bytes_of };
 }
 
-impl<R: Wait, T: AsyncWrite + Clone, A: Ledger, B: Ledger, C: Ledger, D: Ledger> AsyncWrite
+impl<R: Wait, T: Tale + AsyncWrite + Clone, A: Ledger, B: Ledger, C: Ledger, D: Ledger> AsyncWrite
     for JournalWriteHalf<R, T, A, B, C, D> {
     /// Writes to the stream, and writes the call down with its answer, both under one lock.
     ///
@@ -230,7 +237,7 @@ impl<R: Wait, T: AsyncWrite + Clone, A: Ledger, B: Ledger, C: Ledger, D: Ledger>
     /// stream is not called, there is no entry, and nothing changes. So it is with a flush and a close.
     fn poll_write(&mut self, cx: &mut Context<'_>, buf: &[u8]) -> Poll<io::Result<usize>>
         ensures bound { IfReady result (λ r. IfOk r (λ n. n ≤ length buf.now)) }
-        ensures ran { Counts self.old (write_marks result buf.now) self.new }
+        ensures ran { WriteCounts self.old (write_marks result buf.now) self.new }
         ensures calls { (self.new.calls ≡ self.old.calls + 1) ⊎ (IsOutOfMemory result × (self.new ≡ self.old)) }
         ensures bytes { self.new.bytes ≡ self.old.bytes + count_of result }
         ensures left { OnPending result ((fact : Lasting) → ⊥ → Holds cx.new fact) }
@@ -242,8 +249,26 @@ impl<R: Wait, T: AsyncWrite + Clone, A: Ledger, B: Ledger, C: Ledger, D: Ledger>
         }
     }
 
+    /// Writes as `poll_write` does the first buffer that has a byte, or an empty one if none has: one call with one
+    /// entry.
+    #[tactic(auto, using(lite_io_base::specs::Laws::Runs::write_front, lite_io_base::specs::Laws::Runs::within_front))]
+    fn poll_write_vectored(
+        &mut self,
+        cx: &mut Context<'_>,
+        bufs: &[IoSlice<'_>],
+    ) -> Poll<io::Result<usize>>
+        ensures bound { IfReady result (λ r. IfOk r (λ n. n ≤ length (io_slices_bytes bufs.now))) }
+        ensures ran { WriteCounts self.old (write_marks result (io_slices_bytes bufs.now)) self.new }
+        ensures calls { (self.new.calls ≡ self.old.calls + 1) ⊎ (IsOutOfMemory result × (self.new ≡ self.old)) }
+        ensures bytes { self.new.bytes ≡ self.old.bytes + count_of result }
+        ensures left { OnPending result ((fact : Lasting) → ⊥ → Holds cx.new fact) }
+        ensures kept { Keeps cx.old cx.new }
+    {
+        self.poll_write(cx, first_nonempty(bufs))
+    }
+
     fn poll_flush(&mut self, cx: &mut Context<'_>) -> Poll<io::Result<()>>
-        ensures ran { Counts self.old (done_marks flushed result) self.new }
+        ensures ran { WriteCounts self.old (done_marks flushed result) self.new }
         ensures calls { (self.new.calls ≡ self.old.calls + 1) ⊎ (IsOutOfMemory result × (self.new ≡ self.old)) }
         ensures bytes { self.new.bytes ≡ self.old.bytes }
         ensures left { OnPending result ((fact : Lasting) → ⊥ → Holds cx.new fact) }
@@ -256,7 +281,7 @@ impl<R: Wait, T: AsyncWrite + Clone, A: Ledger, B: Ledger, C: Ledger, D: Ledger>
     }
 
     fn poll_close(&mut self, cx: &mut Context<'_>) -> Poll<io::Result<()>>
-        ensures ran { Counts self.old (done_marks closed result) self.new }
+        ensures ran { WriteCounts self.old (done_marks closed result) self.new }
         ensures calls { (self.new.calls ≡ self.old.calls + 1) ⊎ (IsOutOfMemory result × (self.new ≡ self.old)) }
         ensures bytes { self.new.bytes ≡ self.old.bytes }
         ensures left { OnPending result ((fact : Lasting) → ⊥ → Holds cx.new fact) }

@@ -1,12 +1,15 @@
 use Rattle.std.proofs.Common.{◌≡◌, ◌∙◌, ℕ, zero, suc, ◌+◌, ◌-◌, List, [], ◌∷◌, ◌++◌, length, refl, sym, ap, subst, arith, append_assoc, append-nil, length-append}
 use Rattle.lite_base.specs.Answers.{Comparable}
+use Rattle.lite_base.specs.Ranks.{Ranks}
+use Rattle.lite_io_base.specs.Counting.{ReadCounting}
+use Rattle.lite_io_base.specs.Takings.{Taking}
 use Rattle.lite_io_base.specs.Falls.{Falls}
 use Rattle.lite_io_base.specs.Laws.Falls.{falls_held}
-use Rattle.lite_io_base.specs.Laws.Marks.{all_reading, bytes_given, given-append, given-bytes, given_all, given_are_reading, given_both, given_last, given_reading, reading-append, reading_all, writing-append, writing_none}
-use Rattle.lite_io_base.specs.Marks.{AllGiven, AllReading, Mark, bytes, given, reading}
-use Rattle.lite_io_base.specs.Runs.{Follows, Rests, Runs, Shows}
+use Rattle.lite_io_base.specs.Laws.Marks.{bytes_given, given-append, given-bytes, given_all, given_both, given_parts}
+use Rattle.lite_io_base.specs.Marks.{AllGiven, Mark, bytes, given}
+use Rattle.lite_io_base.specs.Runs.{RunLaws, Runs, Shows}
 use Rattle.lite_io.specs.declared.buf_reader.BufReader.{BufReader}
-use Rattle.lite_io.specs.BufReader.{Padded, Passes, Through, ahead, capacity_of}
+use Rattle.lite_io.specs.BufReader.{Padded, Passes, Past, Through, ahead, capacity_of, held_ranks}
 
 pub padded_same : (l : List Mark) → Padded l l
 padded_same [] = Padded.none
@@ -38,7 +41,7 @@ passes_of zero p came out q e none =
     (both.0, both.1, subst (λ l. Padded came l) is (padded_same came))
 passes_of (suc n) p came out q e none = e
 
-passes_both : (n : ℕ) (p q r : List ℕ) (came out more next : List Mark) → Passes n p came out q → Passes n q more next r → Passes n p (came ++ more) (out ++ next) r
+pub passes_both : (n : ℕ) (p q r : List ℕ) (came out more next : List Mark) → Passes n p came out q → Passes n q more next r → Passes n p (came ++ more) (out ++ next) r
 passes_both zero p q r came out more next a b = (a.0, b.1, padded_both came out more next a.2 b.2)
 passes_both (suc n) p q r came out more next a b =
     sym (append_assoc (bytes p) came more) ∙ ap (λ l. l ++ more) a ∙ append_assoc out (bytes q) more
@@ -53,7 +56,7 @@ passes_given (suc n) p q came out h =
 
 passes_all_given : (n : ℕ) (p q : List ℕ) (came out : List Mark) → Passes n p came out q → AllGiven out → AllGiven came
 passes_all_given zero p q came out h g = padded_all_given came out h.2 g
-passes_all_given (suc n) p q came out h g = given_last (bytes p) came (subst AllGiven (sym h) (given_both out (bytes q) g (bytes_given q)))
+passes_all_given (suc n) p q came out h g = (given_parts (bytes p) came (subst AllGiven (sym h) (given_both out (bytes q) g (bytes_given q)))).1
 
 heads : (a b : Mark) (l k : List Mark) → ◌≡◌ {A = List Mark} (a ∷ l) (b ∷ k) → a ≡ b
 heads a b l k e = cc
@@ -72,44 +75,55 @@ passes_front (suc n) p q came out h = front (bytes p) came out (bytes q) h
 
 -- without a buffer nothing is ahead
 pub ahead_none : {R : Type 0} (x : BufReader R) → capacity_of x ≡ 0 → ahead x ≡ []
-ahead_none x none = let nothing : x.cap - x.pos ≡ 0 = omega arith in rw nothing refl
+ahead_none x none = let nothing : x.end - x.pos ≡ 0 = omega arith in rw nothing refl
 
-pub held_sized : (xs : List ℕ) (k n : ℕ) → length xs ≡ n → length (xs ++ k ∷ []) ≡ n + 1
+held_sized : (xs : List ℕ) (k n : ℕ) → length xs ≡ n → length (xs ++ k ∷ []) ≡ n + 1
 held_sized xs k n e = omega (arith, length-append xs (k ∷ []), e)
 
-module _ {R : Type 0} (run : Runs R) where
-  pub through_rests : Rests run → Rests (Through run)
-  through_rests rests x = record { inner = []; ran = rests x.inner; capacity = refl; passes = passes_of (capacity_of x) (ahead x) [] [] (ahead x) (append-nil (bytes (ahead x))) (λ none. (ahead_none x none, ahead_none x none)); writes = refl }
-
-  pub through_follows : Follows run → Follows (Through run)
-  through_follows follows x y z l m a b =
-      let next = subst (λ n. Passes n (ahead y) (reading b.inner) (reading m) (ahead z)) a.capacity b.passes in
+module _ {R : Type 0} {reads : Runs Mark R} where
+  through_follows : RunLaws reads → (x y z : BufReader R) (l m : List Mark) → Through reads x l y → Through reads y m z → Through reads x (l ++ m) z
+  through_follows laws x y z l m a b =
+      let next = subst (λ n. Passes n (ahead y) b.came m (ahead z)) a.capacity b.passes in
       record {
-        inner = a.inner ++ b.inner;
-        ran = follows x.inner y.inner z.inner a.inner b.inner a.ran b.ran;
+        came = a.came ++ b.came;
+        ran = laws.follows x.inner y.inner z.inner a.came b.came a.ran b.ran;
         capacity = b.capacity ∙ a.capacity;
-        passes = rw (reading-append a.inner b.inner, reading-append l m) (passes_both (capacity_of x) (ahead x) (ahead y) (ahead z) (reading a.inner) (reading l) (reading b.inner) (reading m) a.passes next);
-        writes = rw (writing-append a.inner b.inner, writing-append l m) (cc (a.writes, b.writes));
+        passes = passes_both (capacity_of x) (ahead x) (ahead y) (ahead z) a.came l b.came m a.passes next;
       }
 
-  pub through_shows : Shows (Through run) ahead
-  through_shows x y l h r = subst (λ k. Comparable (bytes (ahead x)) k) (reading_all l r) (passes_front (capacity_of x) (ahead x) (ahead y) (reading h.inner) (reading l) h.passes)
+  pub through_laws : RunLaws reads → RunLaws (Through reads)
+  through_laws laws = record {
+    rests = λ x. record { came = []; ran = laws.rests x.inner; capacity = refl; passes = passes_of (capacity_of x) (ahead x) [] [] (ahead x) (append-nil (bytes (ahead x))) (λ none. (ahead_none x none, ahead_none x none)) };
+    follows = through_follows laws;
+  }
 
-  module _ (rank : R → List ℕ) (x y : BufReader R) (l : List Mark) where
-    counted : (h : Through run x l y) → given h.inner + length (ahead x) ≡ given l + length (ahead y)
-    counted h = rw (← given_reading h.inner, ← given_reading l) (passes_given (capacity_of x) (ahead x) (ahead y) (reading h.inner) (reading l) h.passes)
+  pub through_shows : Shows (Through reads) ahead
+  through_shows x y l h = passes_front (capacity_of x) (ahead x) (ahead y) h.came l h.passes
 
-    came_reading : (h : Through run x l y) → AllReading l → AllReading h.inner
-    came_reading h r = all_reading h.inner (sym h.writes ∙ writing_none l r)
+  module _ {r : Ranks R} (c : ReadCounting reads r) where
+    through_lowers : (x y : BufReader R) (l : List Mark) → r.firm x.inner → Through reads x l y → Falls (given l) ((held_ranks r).rank y) ((held_ranks r).rank x)
+    through_lowers x y l firm h =
+        falls_held (given h.came) (given l) (length (ahead x)) (length (ahead y)) (r.rank y.inner) (r.rank x.inner) (c.lowers x.inner y.inner h.came firm h.ran)
+        (passes_given (capacity_of x) (ahead x) (ahead y) h.came l h.passes)
 
-    pub through_lowers : ((m : List Mark) → AllReading m → run x.inner m y.inner → Falls (given m) (rank y.inner) (rank x.inner)) → AllReading l → Through run x l y → Falls (given l) (rank y.inner ++ length (ahead y) ∷ []) (rank x.inner ++ length (ahead x) ∷ [])
-    through_lowers lowers r h = falls_held (given h.inner) (given l) (length (ahead x)) (length (ahead y)) (rank y.inner) (rank x.inner) (lowers h.inner (came_reading h r) h.ran) (counted h)
+    through_falls : (x y : BufReader R) (l : List Mark) → r.counts x.inner → AllGiven l → Through reads x l y → Falls (length l) ((held_ranks r).rank y) ((held_ranks r).rank x)
+    through_falls x y l counts g h =
+        let came = passes_all_given (capacity_of x) (ahead x) (ahead y) h.came l h.passes g in
+        let less = subst (λ n. Falls n (r.rank y.inner) (r.rank x.inner)) (sym (given_all h.came came)) (c.falls x.inner y.inner h.came counts came h.ran) in
+        subst (λ n. Falls n ((held_ranks r).rank y) ((held_ranks r).rank x)) (given_all l g)
+        (falls_held (given h.came) (given l) (length (ahead x)) (length (ahead y)) (r.rank y.inner) (r.rank x.inner) less (passes_given (capacity_of x) (ahead x) (ahead y) h.came l h.passes))
 
-    pub through_falls : ((m : List Mark) → AllGiven m → run x.inner m y.inner → Falls (length m) (rank y.inner) (rank x.inner)) → AllGiven l → Through run x l y → Falls (length l) (rank y.inner ++ length (ahead y) ∷ []) (rank x.inner ++ length (ahead x) ∷ [])
-    through_falls falls g h =
-        let r = given_are_reading l g in
-        let out : AllGiven (reading l) = subst AllGiven (sym (reading_all l r)) g in
-        let came = subst AllGiven (reading_all h.inner (came_reading h r)) (passes_all_given (capacity_of x) (ahead x) (ahead y) (reading h.inner) (reading l) h.passes out) in
-        let less = subst (λ n. Falls n (rank y.inner) (rank x.inner)) (sym (given_all h.inner came)) (falls h.inner came h.ran) in
-        subst (λ n. Falls n (rank y.inner ++ length (ahead y) ∷ []) (rank x.inner ++ length (ahead x) ∷ [])) (given_all l g)
-        (falls_held (given h.inner) (given l) (length (ahead x)) (length (ahead y)) (rank y.inner) (rank x.inner) less (counted h))
+    pub through_counting : ReadCounting (Through reads) (held_ranks r)
+    through_counting = record {
+      sized = λ x. held_sized (r.rank x.inner) (length (ahead x)) r.width (c.sized x.inner);
+      counts_on = λ x y l k h. c.counts_on x.inner y.inner h.came k h.ran;
+      firm_on = λ x y l k h. c.firm_on x.inner y.inner h.came k h.ran;
+      falls = through_falls;
+      lowers = through_lowers;
+    }
+
+pub past_laws : {R : Type 0} {writes : Runs Taking R} → RunLaws writes → RunLaws (Past writes)
+past_laws laws = record {
+  rests = λ x. (laws.rests x.inner, refl, refl);
+  follows = λ x y z l m h k. (laws.follows x.inner y.inner z.inner l m h.0 k.0, k.1 ∙ h.1, k.2 ∙ h.2);
+}

@@ -1,0 +1,22 @@
+-- A read that polls the inner reader at most once.
+use Rattle.std.proofs.Common.{◌≡◌, ◌≤◌, ℕ, List, [], Result, length, refl, sym, subst, inl, inr, arith}
+use Rattle.std.specs.declared.io.Error.{Error}
+use Rattle.futures.specs.declared.task.Poll.{Poll}
+use Rattle.lite_io_base.specs.Marks.{Mark, read_marks}
+use Rattle.lite_io_base.specs.Runs.{RunLaws, Runs}
+use Rattle.lite_io.specs.BufReader.{PollsOnce}
+
+module _ {R : Type 0} (reads : Runs Mark R) (most : ℕ) (x y : R) where
+  pub polls_none : RunLaws reads → y ≡ x → PollsOnce reads most x y
+  polls_none laws same = record { told = []; ran = subst (λ v. reads x [] v) (sym same) (laws.rests x); one = inl refl }
+
+  pub polls_one : (r : Poll (Result ℕ Error)) (buf : List ℕ) → length buf ≤ most → reads x (read_marks r buf) y → PollsOnce reads most x y
+  polls_one r buf fits ran = record { told = read_marks r buf; ran = ran; one = inr (r, buf, fits, refl) }
+
+  pub polls_within : (fewer : ℕ) → fewer ≤ most → PollsOnce reads fewer x y → PollsOnce reads most x y
+  polls_within fewer within h =
+      record {
+        told = h.told;
+        ran = h.ran;
+        one = elim h.one [ inl none ↦ inl none | inr (r, buf, fits, is) ↦ inr (r, buf, omega (arith, fits, within), is) ];
+      }
