@@ -3,6 +3,7 @@ mod journal;
 mod journalled;
 mod pipe;
 mod refusing;
+mod replays;
 mod split;
 mod threads;
 

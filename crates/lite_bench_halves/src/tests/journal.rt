@@ -233,3 +233,19 @@ fn the_start_is_what_was_handed_in(rt: HostRuntime) -> Result<(), Fail> {
     assert_eq!(rt; journal.into_inner().position(), 2);
     Ok(())
 }
+
+#[test]
+fn an_entry_keeps_no_more_room_than_what_came(rt: HostRuntime) -> Result<(), Fail> {
+    let mut journal = journal_of_chunk(rt.alloc())?;
+    let mut buf = [0u8; 1000];
+    assert_eq!(rt; read(&rt, &mut journal, &mut buf)?, Poll::Ready(Ok(2)));
+    let [entry] = journal.entries() else {
+        return Err(Fail::from("one call is one entry"));
+    };
+    let Answer::Read(bytes) = &entry.answer else {
+        return Err(Fail::from("a read tells bytes"));
+    };
+    assert_eq!(rt; bytes.as_slice(), b"xy".as_slice());
+    assert!(rt; bytes.capacity() < 1000);
+    Ok(())
+}

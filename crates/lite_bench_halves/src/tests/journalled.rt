@@ -1,13 +1,14 @@
 ghost use Rattle.lite_bench_halves.specs.Named.{IsOf};
 
 use super::refusing::Refusing;
-use super::{are, finishes, got, journal_on, read, reads_byte, try_read, try_write, write};
+use super::{are, by_kind, finishes, got, journal_on, read, reads_byte, told, try_read, try_write, write};
 use futures::task::{Doorbell, Solo};
 use futures_lite::Poll;
 use futures_lite::io::{
-    Answer, Blanks, Call, Cursor, ErrorKind, Journal, history, split_journalled,
+    Answer, AsyncRead, AsyncWrite, Blanks, Call, Cursor, ErrorKind, IoSlice, IoSliceMut, Journal,
+    history, split_journalled,
 };
-use lite_mock::Marks;
+use lite_mock::{Marks, Order, Takes};
 use std::alloc::{AllocError, AllocGlobal};
 use std::marker::Brand;
 use std::process::Abort;
@@ -292,4 +293,97 @@ fn a_refused_split_hands_the_journal_back(rt: HostRuntime) -> Result<(), Fail> {
     );
     assert_eq!(rt; back.into_inner().position(), 1);
     Ok(())
+}
+
+fn vectored_calls<R, A, B, C, D>(
+    rt: R,
+    journal: Journal<VecCursor>,
+    blanks: Blanks,
+) -> Result<(), Fail>
+where
+    R: Wait + Abort + RandomSource + AllocGlobal + Copy,
+    A: Ledger,
+    B: Ledger,
+    C: Ledger,
+    D: Ledger,
+    requires reads { IsOf blanks.reads A.name A.parts }
+    requires got { IsOf blanks.got B.name B.parts }
+    requires writes { IsOf blanks.writes C.name C.parts }
+    requires taken { IsOf blanks.taken D.name D.parts }
+{
+    let Ok((mut reader, mut writer)) = split_journalled::<R, VecCursor, A, B, C, D>(
+        rt, journal, blanks,
+    ) else {
+        return Err(Fail::from("memory"));
+    };
+    let solo = Solo::new(&rt, Doorbell::spinning())?;
+    let mut cx = solo.begin();
+    let mut one = [0u8; 2];
+    let mut bufs = [IoSliceMut::new(&mut []), IoSliceMut::new(&mut one)];
+    let got_two = by_kind(reader.poll_read_vectored(&mut cx, &mut bufs));
+    let wrote = by_kind(writer.poll_write_vectored(
+        &mut cx,
+        &[IoSlice::new(b""), IoSlice::new(b"z"), IoSlice::new(b"w")],
+    ));
+    cx.cancel();
+    assert_eq!(rt; told(got_two)?, Poll::Ready(Ok(2)));
+    assert_eq!(rt; told(wrote)?, Poll::Ready(Ok(1)));
+    assert_eq!(rt; (reader.calls(), reader.bytes()), (1, 2));
+    assert_eq!(rt; (writer.calls(), writer.bytes()), (1, 1));
+    let kept = history(&mut reader, &mut writer)?;
+    let calls = [
+        Call::Read { room: 2 },
+        Call::Write(Vec::from_slice(rt.alloc(), b"z")?),
+    ];
+    let answers = [got(rt.alloc(), b"xy")?, Answer::Wrote(1)];
+    assert!(rt; are(kept.entries(), &calls, &answers));
+    Ok(())
+}
+
+#[test]
+fn a_vectored_call_of_a_half_is_one_entry(rt: HostRuntime) -> Result<(), Fail> {
+    let journal = journal_on(rt.alloc(), b"xy")?;
+    vectored_calls::<HostRuntime, Brand, Brand, Brand, Brand>(rt, journal, Blanks::new())
+}
+
+fn writes_that_wait<R, A, B, C, D>(
+    rt: R,
+    journal: Journal<Takes>,
+    blanks: Blanks,
+) -> Result<(), Fail>
+where
+    R: Wait + Abort + RandomSource + AllocGlobal + Copy,
+    A: Ledger,
+    B: Ledger,
+    C: Ledger,
+    D: Ledger,
+    requires reads { IsOf blanks.reads A.name A.parts }
+    requires got { IsOf blanks.got B.name B.parts }
+    requires writes { IsOf blanks.writes C.name C.parts }
+    requires taken { IsOf blanks.taken D.name D.parts }
+{
+    let Ok((mut reader, mut writer)) = split_journalled::<R, Takes, A, B, C, D>(rt, journal, blanks)
+    else {
+        return Err(Fail::from("memory"));
+    };
+    assert_eq!(rt; write(&rt, &mut writer, b"ab")?, Poll::Pending);
+    assert_eq!(rt; (writer.calls(), writer.bytes()), (1, 0));
+    assert_eq!(rt; write(&rt, &mut writer, b"ab")?, Poll::Ready(Ok(2)));
+    assert_eq!(rt; (writer.calls(), writer.bytes()), (2, 2));
+    let offered = Vec::from_slice(rt.alloc(), b"ab")?;
+    let calls = [Call::Write(offered.clone()?), Call::Write(offered)];
+    let kept = history(&mut reader, &mut writer)?;
+    assert!(rt; are(kept.entries(), &calls, &[Answer::Pending, Answer::Wrote(2)]));
+    assert_eq!(rt; kept.into_inner().taken(), b"ab".as_slice());
+    Ok(())
+}
+
+#[test]
+fn a_pending_write_is_an_entry(rt: HostRuntime) -> Result<(), Fail> {
+    let mut takes = Takes::new(rt.alloc());
+    takes.order(Order::Wait)?;
+    let Ok(journal) = Journal::new(rt.alloc(), takes) else {
+        return Err(Fail::from("memory"));
+    };
+    writes_that_wait::<HostRuntime, Brand, Brand, Brand, Brand>(rt, journal, Blanks::new())
 }

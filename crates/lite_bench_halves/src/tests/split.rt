@@ -3,6 +3,7 @@ use super::{by_kind, cursor_on, finishes, read, told, write};
 use futures::task::{Doorbell, Solo};
 use futures_lite::Poll;
 use futures_lite::io::{self, AsyncRead, AsyncWrite, IoSlice, IoSliceMut};
+use lite_mock::{Order, Takes};
 use std::test::Fail;
 
 #[test]
@@ -34,6 +35,18 @@ fn a_vectored_read_goes_on_to_the_stream_and_a_write_does_not(rt: HostRuntime) -
     assert_eq!(rt; told(by_kind(got))?, Poll::Ready(Ok(3)));
     assert_eq!(rt; told(by_kind(wrote))?, Poll::Ready(Ok(1)));
     assert_eq!(rt; (one, two), ([b'x'], [b'y', b'z']));
+    Ok(())
+}
+
+#[test]
+fn a_pending_write_goes_through_a_half(rt: HostRuntime) -> Result<(), Fail> {
+    let mut takes = Takes::new(rt.alloc());
+    takes.order(Order::Wait)?;
+    let Ok((_reader, mut writer)) = io::split(rt, takes) else {
+        return Err(Fail::from("memory"));
+    };
+    assert_eq!(rt; write(&rt, &mut writer, b"ab")?, Poll::Pending);
+    assert_eq!(rt; write(&rt, &mut writer, b"ab")?, Poll::Ready(Ok(2)));
     Ok(())
 }
 
