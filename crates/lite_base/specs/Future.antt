@@ -2,6 +2,7 @@ pub mod Calls
 pub mod Finishes
 pub mod Fuse
 pub mod Half
+pub mod Handed
 pub mod Or
 pub mod Picks
 pub mod PollOnce

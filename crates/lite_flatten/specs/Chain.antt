@@ -1,12 +1,13 @@
 -- `chain`: the first stream's answers before its first end, the second's before its first end, and then an end for ever.
-use Rattle.std.specs.Prelude.{◌≡◌, ℕ, List, [], ◌∷◌, ◌++◌, Some, None}
+use Rattle.std.specs.Prelude.{◌≡◌, ℕ, ◌+◌, List, [], ◌∷◌, ◌++◌, length, replicate, Some, None}
 use Rattle.futures.specs.declared.task.Poll.TheVariants.{Ready, Pending}
 use Rattle.futures.specs.Task.{Lasting}
 use Rattle.lite_base.specs.Answers.{Answer}
-use Rattle.lite_stream.specs.Cutting.{Cuts}
+use Rattle.lite_base.specs.Ranks.{Ranks}
 use Rattle.lite_flatten.specs.declared.chain.Chain.{Chain}
-use Rattle.lite_flatten.specs.declared.chain.Part.{Part}
 use Rattle.lite_flatten.specs.declared.chain.Part.TheVariants.{First, Second, Done}
+use Rattle.lite_flatten.specs.declared.chain.Part.{Part}
+use Rattle.lite_stream.specs.Cutting.{Cuts}
 
 abbrev pub is_done : Part → Type 0
 is_done part = part ≡ Done
@@ -34,16 +35,22 @@ pub record Chains {S U A : Type 0} (run : S → List (Answer A) → S → Type 0
   pub then_came : run' x.second seconds y.second
   pub joined : Joins x.part firsts seconds out y.part
 
+-- the second stream, which has not ended, was asked for one answer
+abbrev pub SecondAnswers : {S U A : Type 0} → (U → List (Answer A) → U → Type 0) → Chain S U → Answer A → Chain S U → Type 0
+SecondAnswers {A = A} run' x a y = (seconds : List (Answer A)) × run' x.second seconds y.second × Cuts is_done second_after Second seconds (a ∷ []) y.part
+
 -- what a pending poll leaves is left by the part that it asked
-abbrev pub ChainLeaves : {S U : Type 0} → (S → Lasting → Type 0) → (U → Lasting → Type 0) → Part → S → U → Lasting → Type 0
-ChainLeaves leaves leaves' First s u fact = leaves s fact
-ChainLeaves leaves leaves' Second s u fact = leaves' u fact
-ChainLeaves leaves leaves' Done s u fact = ⊥
+abbrev pub PartLeaves : {S U : Type 0} → (S → Lasting → Type 0) → (U → Lasting → Type 0) → Part → S → U → Lasting → Type 0
+PartLeaves leaves leaves' First s u fact = leaves s fact
+PartLeaves leaves leaves' Second s u fact = leaves' u fact
+PartLeaves leaves leaves' Done s u fact = ⊥
+
+abbrev pub ChainLeaves : {S U : Type 0} → (S → Lasting → Type 0) → (U → Lasting → Type 0) → Chain S U → Lasting → Type 0
+ChainLeaves leaves leaves' m fact = PartLeaves leaves leaves' m.part m.first m.second fact
 
 -- as many zeros
 abbrev pub zeros : List ℕ → List ℕ
-zeros [] = []
-zeros (x ∷ xs) = 0 ∷ zeros xs
+zeros xs = replicate (length xs) 0
 
 -- the first's rank and then the second's; a part that has ended counts 0
 abbrev pub second_rank : Part → List ℕ → List ℕ
@@ -55,3 +62,12 @@ abbrev pub chain_rank : Part → List ℕ → List ℕ → List ℕ
 chain_rank First xs ys = xs ++ ys
 chain_rank Second xs ys = zeros xs ++ ys
 chain_rank Done xs ys = zeros xs ++ zeros ys
+
+abbrev pub chain_ranks : {S U : Type 0} → Ranks S → Ranks U → Ranks (Chain S U)
+chain_ranks r r' =
+    record {
+      width = r.width + r'.width;
+      rank = λ m. chain_rank m.part (r.rank m.first) (r'.rank m.second);
+      counts = λ m. r.counts m.first × r'.counts m.second;
+      firm = λ m. r.firm m.first × r'.firm m.second;
+    }

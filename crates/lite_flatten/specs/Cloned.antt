@@ -1,20 +1,28 @@
--- `cloned`: each reference is replaced by what it refers to, after the refusals of its clone, each an Err item.
-use Rattle.std.specs.Prelude.{◌≡◌, List, Option, Some, None, Result, Ok, Err}
-use Rattle.futures.specs.declared.task.Poll.TheVariants.{Ready, Pending}
+-- `cloned`: each reference is replaced by the refusals of its clone, each an Err item, and then the clone as an Ok item.
+use Rattle.std.specs.Prelude.{◌≡◌, List, [], ◌∷◌, ◌++◌, Option, Some, None, Result, Ok, Err}
+use Rattle.std.specs.List.{AllByRecursion}
 use denote.Ref.{Bor}
-use Rattle.lite_base.specs.Answers.{Answer}
+use Rattle.lite_base.specs.Answers.{Answer, item}
 use Rattle.lite_flatten.specs.Lingering.{Lingering}
+use Rattle.lite_flatten.specs.declared.cloned.Cloned.{Cloned}
+use Rattle.lite_stream.specs.Through.{Parts, Through}
 
 -- of a reference that comes in, itself is made
 abbrev pub Refers : {R : Type 0} → Unit {0} → R → R → Unit {0} → Type 0
 Refers p x v q = v ≡ x
 
--- a clone of x is asked for: it goes out, or a refusal goes out and x is held, to be asked for again
-abbrev pub Tries : {A E : Type 0} → Bor A → Answer (Result A E) → Option (Bor A) → Type 0
-Tries x (Ready (Some (Ok y))) held = (y ≡ x.now) × (held ≡ None)
-Tries x (Ready (Some (Err e))) held = held ≡ Some x
-Tries x (Ready None) held = ⊥
-Tries x Pending held = ⊥
+module _ {T E : Type 0} (is_clone : T → T → Type 0) (is_infallible : T → Type 0) where
+  -- each answer is a refusal of a clone of x, and comes only where such a clone may fail
+  abbrev pub Refuses : Bor T → List (Answer (Result T E)) → Type 0
+  Refuses x out = AllByRecursion (λ a. (is_infallible x.now → ⊥) × (e : E) × (a ≡ item (Err e))) out
 
-abbrev pub Clones : {A E : Type 0} → Unit {0} × Option (Bor A) → List (Answer (Bor A)) → List (Answer (Result A E)) → Unit {0} × Option (Bor A) → Type 0
-Clones = Lingering Refers Tries
+  -- refusals while the reference is left, and then what T says may be a clone
+  abbrev pub Clones : Bor T → List (Answer (Result T E)) → Option (Bor T) → Type 0
+  Clones x out (Some y) = Refuses x out × (y ≡ x)
+  Clones x out None = (refused : List (Answer (Result T E))) × (copy : T) × Refuses x refused × is_clone x.now copy × (out ≡ refused ++ item (Ok copy) ∷ [])
+
+  abbrev pub ClonesAll : {S : Type 0} → (S → List (Answer (Bor T)) → S → Type 0) → Cloned S (Bor T) → List (Answer (Result T E)) → Cloned S (Bor T) → Type 0
+  ClonesAll run x l y = Through run (Lingering Refers Clones) x.stream (tt, x.held) l y.stream (tt, y.held)
+
+abbrev pub cloned_parts : {S R : Type 0} → Parts (Cloned S R) S (Unit {0} × Option R)
+cloned_parts = record { source = λ m. m.stream; held = λ m. (tt, m.held); same = λ x y e d. λ i. record { stream = e i; held = (d i).1 } }

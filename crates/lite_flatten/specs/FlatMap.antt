@@ -1,15 +1,42 @@
 -- `flat_map`: `flatten` of what the function makes of each item.
-use Rattle.std.specs.Prelude.{List, Option, IfSome}
+use Rattle.std.specs.Prelude.{◌+◌, ◌++◌, List, Option, IfSome}
 use Rattle.std.specs.Fn.{Mut, AlwaysReturns}
 use Rattle.lite_base.specs.Answers.{Answer}
+use Rattle.lite_base.specs.Ranks.{Ranks}
+use Rattle.lite_flatten.specs.Flatten.{CanTurn, FlatTurns, Flattening, inner_rank}
+use Rattle.lite_flatten.specs.declared.flat_map.FlatMap.{FlatMap}
 use Rattle.lite_stream.specs.Calling.{Calls}
-use Rattle.lite_flatten.specs.Flatten.{Flattens}
 use Rattle.lite_stream.specs.Map.{Maps}
+use Rattle.lite_stream.specs.Through.{Parts, Through}
 use Rattle.lite_stream.specs.declared.map.Map.{Map}
 
-abbrev pub FlatMaps : {S F V A B : Type 0} → (S → List (Answer A) → S → Type 0) → Mut F (A × Unit {0}) V → (V → List (Answer B) → V → Type 0) → Map S F → Option V → List (Answer B) → Map S F → Option V → Type 0
-FlatMaps run g run' = Flattens run' (Maps run (Calls g))
+abbrev pub FlatMaps : {S F V A B : Type 0} → (S → List (Answer A) → S → Type 0) → Mut F (A × Unit {0}) V → (V → List (Answer B) → V → Type 0) → FlatMap S V F → List (Answer B) → FlatMap S V F → Type 0
+FlatMaps run g run' x l y = Through (Maps run (Calls g)) (Flattening run') x.stream x.inner_stream l y.stream y.inner_stream
 
 -- the inner stream that is held has the fact, and so does each one that the function makes
 abbrev pub EachMade : {F X V : Type 0} → Mut F X V → (V → Type 0) → F → Option V → Type 0
 EachMade g Fact f held = IfSome held Fact × AlwaysReturns g (λ x v. Fact v) f
+
+abbrev pub flat_map_parts : {S V F : Type 0} → Parts (FlatMap S V F) (Map S F) (Option V)
+flat_map_parts = record { source = λ m. m.stream; held = λ m. m.inner_stream; same = λ x y e d. λ i. record { stream = e i; inner_stream = d i } }
+
+-- a poll may be made: the `map` may be polled, its rank counts, and each stream that the function makes may be polled
+abbrev pub CanFlatMap : {S V F X : Type 0} → Mut F X V → (Map S F → Type 0) → (S → Type 0) → (V → Type 0) → FlatMap S V F → Type 0
+CanFlatMap g can_poll counts can_poll' x = can_poll x.stream × counts x.stream.stream × EachMade g can_poll' x.stream.f x.inner_stream
+
+-- so of a turn, of each stream that comes
+abbrev pub CanTurnMap : {S V F A : Type 0} → (S → List (Answer A) → S → Type 0) → Mut F (A × Unit {0}) V → (Map S F → Type 0) → (S → Type 0) → (V → Type 0) → FlatMap S V F → Type 0
+CanTurnMap run g can_poll counts can_poll' = CanTurn flat_map_parts (Maps run (Calls g)) can_poll (λ m. counts m.stream) can_poll'
+
+abbrev pub FlatMapTurns : {S F V A B : Type 0} → (S → List (Answer A) → S → Type 0) → Mut F (A × Unit {0}) V → (V → List (Answer B) → V → Type 0) → (FlatMap S V F → Type 0) → FlatMap S V F → Option (Answer B) → FlatMap S V F → Type 0
+FlatMapTurns run g run' can_turn = FlatTurns run' (Maps run (Calls g)) flat_map_parts can_turn
+
+-- the stream's rank and then that of the stream that is held; each stream that is made has to count
+abbrev pub flat_map_ranks : {S V F X : Type 0} → Mut F X V → Ranks S → Ranks V → Ranks (FlatMap S V F)
+flat_map_ranks g r r' =
+    record {
+      width = r.width + r'.width;
+      rank = λ m. r.rank m.stream.stream ++ inner_rank r'.width r'.rank m.inner_stream;
+      counts = λ m. r.counts m.stream.stream × EachMade g r'.counts m.stream.f m.inner_stream;
+      firm = λ m. r.firm m.stream.stream × EachMade g r'.firm m.stream.f m.inner_stream;
+    }

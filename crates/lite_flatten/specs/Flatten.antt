@@ -1,8 +1,10 @@
 -- `flatten`: each item is a stream, and is replaced by the answers of that stream before its first end.
-use Rattle.std.specs.Prelude.{◌≡◌, ◌⊎◌, ℕ, List, [], ◌∷◌, ◌++◌, Option, Some, None, IfSome, replicate}
+use Rattle.std.specs.Prelude.{◌≡◌, ◌⊎◌, ℕ, ◌+◌, List, [], ◌∷◌, ◌++◌, Option, Some, None, IfSome, replicate}
 use Rattle.futures.specs.declared.task.Poll.TheVariants.{Ready, Pending}
 use Rattle.lite_base.specs.Answers.{Answer, end, item, until_end}
-use Rattle.lite_stream.specs.Through.{Through}
+use Rattle.lite_base.specs.Ranks.{Ranks}
+use Rattle.lite_flatten.specs.declared.flatten.Flatten.{Flatten}
+use Rattle.lite_stream.specs.Through.{Parts, Through}
 
 -- there is no end among the answers
 abbrev pub Endless : {A : Type 0} → List (Answer A) → Type 0
@@ -33,8 +35,8 @@ module _ {B A : Type 0} (run : B → List (Answer A) → B → Type 0) where
   Flattening (Some b) ins out last = HeldOn b ins out last ⊎ Replaced b (Flat ins) out last
 
   module _ {S : Type 0} (outer : S → List (Answer B) → S → Type 0) where
-    abbrev pub Flattens : S → Option B → List (Answer A) → S → Option B → Type 0
-    Flattens s held out t last = Through outer Flattening s held out t last
+    abbrev pub Flattens : Flatten S B → List (Answer A) → Flatten S B → Type 0
+    Flattens x l y = Through outer Flattening x.stream x.inner_stream l y.stream y.inner_stream
 
     -- one turn of a poll: the inner stream is polled, or else the outer one; an inner stream that ends is let go
     abbrev pub FlatTurn : S → Option B → Option (Answer A) → S → Option B → Type 0
@@ -46,8 +48,8 @@ module _ {B A : Type 0} (run : B → List (Answer A) → B → Type 0) where
     FlatTurn s (Some b) (Some a) t last = (t ≡ s) × Endless (a ∷ []) × (c : B) × run b (a ∷ []) c × (last ≡ Some c)
 
     -- a turn of an adapter, which has an outer stream and may hold an inner one; after it another turn may be made
-    abbrev pub FlatTurns : {T : Type 0} → (T → Type 0) → (T → S) → (T → Option B) → T → Option (Answer A) → T → Type 0
-    FlatTurns can_turn source held x r y = can_turn y × FlatTurn (source x) (held x) r (source y) (held y)
+    abbrev pub FlatTurns : {M : Type 0} → Parts M S (Option B) → (M → Type 0) → M → Option (Answer A) → M → Type 0
+    FlatTurns p can_turn x r y = can_turn y × FlatTurn (p.source x) (p.held x) r (p.source y) (p.held y)
 
 -- the inner stream that is held has the fact, and so does each one that may come
 abbrev pub EachInner : {S B : Type 0} → (S → List (Answer B) → S → Type 0) → (B → Type 0) → S → Option B → Type 0
@@ -57,7 +59,24 @@ EachInner {S} {B} outer Fact s held = IfSome held Fact × ((t : S) (before after
 abbrev pub CanFlatten : {S B : Type 0} → (S → List (Answer B) → S → Type 0) → (S → Type 0) → (S → Type 0) → (B → Type 0) → S → Option B → Type 0
 CanFlatten outer can_poll counts can_poll' s held = can_poll s × counts s × EachInner outer can_poll' s held
 
+-- so of an adapter
+abbrev pub CanTurn : {M S B : Type 0} → Parts M S (Option B) → (S → List (Answer B) → S → Type 0) → (S → Type 0) → (S → Type 0) → (B → Type 0) → M → Type 0
+CanTurn p outer can_poll counts can_poll' x = CanFlatten outer can_poll counts can_poll' (p.source x) (p.held x)
+
 -- the rank of the inner stream; one that is gone counts 0
 abbrev pub inner_rank : {B : Type 0} → ℕ → (B → List ℕ) → Option B → List ℕ
 inner_rank width rank None = replicate width 0
 inner_rank width rank (Some b) = rank b
+
+abbrev pub flatten_parts : {S B : Type 0} → Parts (Flatten S B) S (Option B)
+flatten_parts = record { source = λ m. m.stream; held = λ m. m.inner_stream; same = λ x y e d. λ i. record { stream = e i; inner_stream = d i } }
+
+-- the outer stream's rank and then the inner one's; each inner stream has to count where it comes
+abbrev pub flattening_ranks : {M S B : Type 0} → Parts M S (Option B) → (S → List (Answer B) → S → Type 0) → Ranks S → Ranks B → Ranks M
+flattening_ranks p outer r r' =
+    record {
+      width = r.width + r'.width;
+      rank = λ m. r.rank (p.source m) ++ inner_rank r'.width r'.rank (p.held m);
+      counts = λ m. r.counts (p.source m) × EachInner outer r'.counts (p.source m) (p.held m);
+      firm = λ m. r.firm (p.source m) × EachInner outer r'.firm (p.source m) (p.held m);
+    }

@@ -1,20 +1,27 @@
--- `then`: each item is replaced by what the future answers that the function makes of it, its value as an item.
-use Rattle.std.specs.Prelude.{◌≡◌, ℕ, ◌+◌, ◌-◌, ◌^◌, min, List, [], ◌∷◌, Option, Some, None, cond, nat_lt}
+-- `then`: each item is replaced by the list of the future that the function makes of it, its value as an item.
+use Rattle.std.specs.Prelude.{◌≡◌, ℕ, ◌+◌, ◌-◌, ◌^◌, min, List, [], Option, Some, None, IfSome, cond, nat_lt}
+use Rattle.std.specs.Fn.{Mut, AlwaysReturns}
 use Rattle.futures.specs.declared.task.Poll.{Poll}
-use Rattle.futures.specs.declared.task.Poll.TheVariants.{Ready, Pending}
 use Rattle.lite_base.specs.Answers.{Answer}
+use Rattle.lite_base.specs.Future.Handed.{handed}
+use Rattle.lite_base.specs.Future.Spent.{Spends}
 use Rattle.lite_flatten.specs.Lingering.{Lingering}
-use Rattle.lite_stream.specs.Through.{Through}
 use Rattle.lite_flatten.specs.declared.then.Then.{Then}
+use Rattle.lite_stream.specs.Through.{Parts, Through}
 
--- the future v is polled: it goes on, or its value goes out and it is done
-abbrev pub Polls : {V B : Type 0} → (V → List (Poll B) → V → Type 0) → V → Answer B → Option V → Type 0
-Polls {V} gives v Pending held = (w : V) × gives v (Pending ∷ []) w × (held ≡ Some w)
-Polls {V} gives v (Ready (Some y)) held = (w : V) × gives v (Ready y ∷ []) w × (held ≡ None)
-Polls gives v (Ready None) held = ⊥
+-- the future's list, its value as an item, and nothing after that
+abbrev pub HandsOut : {V B : Type 0} → (V → List (Poll B) → V → Type 0) → V → List (Answer B) → Option V → Type 0
+HandsOut run v out left = Spends run (handed Some) (λ after. after ≡ []) (Some v) out left
 
 abbrev pub Thens : {S F V A B : Type 0} → (S → List (Answer A) → S → Type 0) → (F → A → V → F → Type 0) → (V → List (Poll B) → V → Type 0) → Then S F V → List (Answer B) → Then S F V → Type 0
-Thens run call gives x l y = Through run (Lingering call (Polls gives)) x.stream (x.f, x.future) l y.stream (y.f, y.future)
+Thens run call run' x l y = Through run (Lingering call (HandsOut run')) x.stream (x.f, x.future) l y.stream (y.f, y.future)
+
+abbrev pub then_parts : {S F V : Type 0} → Parts (Then S F V) S (F × Option V)
+then_parts = record { source = λ m. m.stream; held = λ m. (m.f, m.future); same = λ x y e d. λ i. record { stream = e i; future = (d i).1; f = (d i).0 } }
+
+-- a poll may be made: the stream may be polled, the function may be called, and each future that it makes may be polled
+abbrev pub CanThen : {S F V X : Type 0} → (S → Type 0) → (F → Type 0) → Mut F X V → (V → Type 0) → Then S F V → Type 0
+CanThen can_poll callable g can_poll' x = can_poll x.stream × callable x.f × AlwaysReturns g (λ a v. can_poll' v) x.f × IfSome x.future can_poll'
 
 -- one more, where that fits
 abbrev pub one_more : ℕ → Option ℕ

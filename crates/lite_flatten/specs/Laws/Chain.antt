@@ -1,37 +1,31 @@
 -- Laws of two streams that are chained.
-use Rattle.std.proofs.Common.{◌≡◌, ◌∙◌, ℕ, zero, suc, ◌+◌, ◌⊎◌, List, [], ◌∷◌, ◌++◌, length, Some, None, inl, inr, refl, ap, sym, subst, arith, length-append}
+use Rattle.std.specs.Prelude.{replicate}
+use Rattle.std.proofs.lemmas.List.{length-replicate}
+use Rattle.std.proofs.Common.{◌≡◌, ◌∙◌, ℕ, ◌+◌, ◌⊎◌, List, [], ◌∷◌, ◌++◌, length, Option, Some, None, inl, inr, refl, ap, sym, subst, arith, length-append}
 use Rattle.futures.specs.declared.task.Poll.TheVariants.{Ready, Pending}
 use Rattle.lite_base.specs.Answers.{Answer, item, items}
-use Rattle.lite_base.specs.Rank.{AtMost, Below, Lowers}
 use Rattle.lite_base.specs.Falling.{AtMost-both, AtMost-length, Below-after, Below-first, Lowers-at_most}
-use Rattle.lite_stream.specs.Cutting.{Cuts}
-use Rattle.lite_flatten.specs.Chain.{Chains, Joins, chain_rank, is_done, second_after, second_rank, zeros}
-use Rattle.lite_stream.specs.Laws.Lower.{at_most_below, lowers_after}
-use Rattle.lite_stream.specs.Laws.Cutting.{cuts_turning}
+use Rattle.lite_base.specs.Laws.Hint.{same_hint}
+use Rattle.lite_base.specs.Rank.{AtMost, Below, Lowers}
+use Rattle.lite_base.specs.Ranks.{Counting, Ranks}
+use Rattle.lite_base.specs.StreamLaws.{StreamLaws}
+use Rattle.lite_flatten.specs.Chain.{Chains, Joins, chain_rank, chain_ranks, is_done, second_after, second_rank, zeros}
+use Rattle.lite_flatten.specs.Laws.Zeros.{zeros_least}
 use Rattle.lite_flatten.specs.declared.chain.Chain.{Chain}
-use Rattle.lite_flatten.specs.declared.chain.Part.{Part}
 use Rattle.lite_flatten.specs.declared.chain.Part.TheVariants.{First, Second, Done}
+use Rattle.lite_flatten.specs.declared.chain.Part.{Part}
+use Rattle.lite_stream.specs.Cutting.{Cuts}
+use Rattle.lite_stream.specs.Laws.Cutting.{cuts_turning}
+use Rattle.lite_stream.specs.Laws.Lower.{at_most_below, lowers_after}
 
 zeros_length : (xs : List ℕ) → length (zeros xs) ≡ length xs
-zeros_length [] = refl
-zeros_length (x ∷ xs) = let e = zeros_length xs in omega arith
+zeros_length xs = length-replicate (length xs) 0
 
 zeros_same : (xs ys : List ℕ) → length xs ≡ length ys → zeros xs ≡ zeros ys
-zeros_same [] [] e = refl
-zeros_same [] (y ∷ ys) e = absurd (omega (arith, e))
-zeros_same (x ∷ xs) [] e = absurd (omega (arith, e))
-zeros_same (x ∷ xs) (y ∷ ys) e = ap (λ l. 0 ∷ l) (zeros_same xs ys (omega (arith, e)))
-
--- no list of that length is lower
-zeros_least : (xs ys : List ℕ) → length xs ≡ length ys → AtMost (zeros xs) ys
-zeros_least [] [] e = inl refl
-zeros_least [] (y ∷ ys) e = absurd (omega (arith, e))
-zeros_least (x ∷ xs) [] e = absurd (omega (arith, e))
-zeros_least (x ∷ xs) (zero ∷ ys) e = elim (zeros_least xs ys (omega (arith, e))) [ inl d ↦ inl (ap (λ l. 0 ∷ l) d) | inr p ↦ inr (inr (refl, p)) ]
-zeros_least (x ∷ xs) (suc y ∷ ys) e = inr (inl (omega arith, zeros_length xs ∙ omega (arith, e)))
+zeros_same xs ys e = ap (λ n. replicate n 0) e
 
 zeros_below : (xs ys : List ℕ) → Below xs ys → Below (zeros xs) ys
-zeros_below xs ys h = at_most_below (zeros xs) xs ys (zeros_least xs xs refl) h
+zeros_below xs ys h = at_most_below (zeros xs) xs ys (zeros_least (length xs) xs refl) h
 
 second_below : (g : Part) (xs ys : List ℕ) → Below xs ys → Below (second_rank g xs) ys
 second_below First xs ys h = h
@@ -103,7 +97,7 @@ module _ {A : Type 0} where
   second_lowers g j (Pending ∷ l) xs ys (inr r) h = second_lowers g r.1 l xs ys r.3 (subst (λ k. Lowers k xs ys) r.2 h)
   second_lowers g j (Ready None ∷ l) xs ys (inr r) h =
       let same = AtMost-length xs ys (Lowers-at_most r.1 xs ys (subst (λ k. Lowers k xs ys) r.2 h)) in
-      let e = done_lowers g r.1 l (zeros xs) ys (zeros_least xs ys same) r.3 in
+      let e = done_lowers g r.1 l (zeros xs) ys (zeros_least (length xs) ys (sym same)) r.3 in
       rw e.0 e.1
   second_lowers g j (Ready (Some x) ∷ l) xs ys (inr r) h = second_below g xs ys (subst (λ k. Lowers k xs ys) r.2 h)
 
@@ -116,7 +110,7 @@ module _ {A : Type 0} where
   joins_lowers First g (Pending ∷ i) j (b ∷ l) xs us ys vs r h k = rw r.0 (joins_lowers First g i j l xs us ys vs r.1 h k)
   joins_lowers First g (Ready None ∷ i) j (b ∷ l) xs us ys vs r h k =
       let same = AtMost-length xs us (Lowers-at_most i xs us h) in
-      rw (ended_rank g xs ys (not_first Second g j (b ∷ l) r.1 (λ d. absurd (cc d)))) (lowers_after (b ∷ l) (zeros xs) us (second_rank g ys) vs (zeros_least xs us same) (second_lowers g j (b ∷ l) ys vs r.1 k))
+      rw (ended_rank g xs ys (not_first Second g j (b ∷ l) r.1 (λ d. absurd (cc d)))) (lowers_after (b ∷ l) (zeros xs) us (second_rank g ys) vs (zeros_least (length xs) us (sym same)) (second_lowers g j (b ∷ l) ys vs r.1 k))
   joins_lowers First g (Ready (Some x) ∷ i) j (b ∷ l) xs us ys vs r h k =
       rw r.0 (chain_below g xs us ys vs h (AtMost-length ys vs (Lowers-at_most j ys vs k)))
   joins_lowers Second g i j l xs us ys vs r h k =
@@ -159,7 +153,7 @@ module _ {A : Type 0} where
   joins_falls First g i j y l xs us ys vs falls falls' same same' r =
       elim (first_items g i j (y ∷ l) r) [
         | inl e ↦ rw e.2 (Below-first xs us ys vs (falls y l e.0) same')
-        | inr e ↦ second_falls g j e.0 e.1 xs us ys vs falls' (zeros_least xs us same) e.2
+        | inr e ↦ second_falls g j e.0 e.1 xs us ys vs falls' (zeros_least (length xs) us (sym same)) e.2
       ]
   joins_falls Second g i j y l xs us ys vs falls falls' same same' r = second_falls g j y l xs (zeros us) ys vs falls' (inl (zeros_same xs us same)) r.1
   joins_falls Done g i j y l xs us ys vs falls falls' same same' r = absurd (elim r.1 [ inl e ↦ cc e.1 | inr e ↦ e.0 refl ])
@@ -170,17 +164,17 @@ joins_start A Second = (refl, (refl, refl))
 joins_start A Done = (refl, (refl, refl))
 
 module _ {S U A : Type 0} (run : S → List (Answer A) → S → Type 0) (run' : U → List (Answer A) → U → Type 0) where
-  pub chains_rest : ((x : S) → run x [] x) → ((x : U) → run' x [] x) → (x : Chain S U) → Chains run run' x [] x
+  chains_rest : ((x : S) → run x [] x) → ((x : U) → run' x [] x) → (x : Chain S U) → Chains run run' x [] x
   chains_rest rests rests' x = record { firsts = []; seconds = []; came = rests x.first; then_came = rests' x.second; joined = joins_start A x.part }
 
-  pub chains_stay : ((x y : S) → run x [] y → y ≡ x) → ((x y : U) → run' x [] y → y ≡ x) → (x y : Chain S U) → Chains run run' x [] y → y ≡ x
+  chains_stay : ((x y : S) → run x [] y → y ≡ x) → ((x y : U) → run' x [] y → y ≡ x) → (x y : Chain S U) → Chains run run' x [] y → y ≡ x
   chains_stay stays stays' x y h =
       let e = joins_stay x.part y.part h.firsts h.seconds h.joined in
       let same = stays x.first y.first (subst (λ l. run x.first l y.first) e.0 h.came) in
       let same' = stays' x.second y.second (subst (λ l. run' x.second l y.second) e.1 h.then_came) in
       λ i. record { first = same i; second = same' i; part = e.2 i }
 
-  pub chains_follow : ((x y z : S) (l m : List (Answer A)) → run x l y → run y m z → run x (l ++ m) z) → ((x y z : U) (l m : List (Answer A)) → run' x l y → run' y m z → run' x (l ++ m) z)
+  chains_follow : ((x y z : S) (l m : List (Answer A)) → run x l y → run y m z → run x (l ++ m) z) → ((x y z : U) (l m : List (Answer A)) → run' x l y → run' y m z → run' x (l ++ m) z)
       → (x y z : Chain S U) (l m : List (Answer A)) → Chains run run' x l y → Chains run run' y m z → Chains run run' x (l ++ m) z
   chains_follow follows follows' x y z l m a b =
       record {
@@ -192,7 +186,7 @@ module _ {S U A : Type 0} (run : S → List (Answer A) → S → Type 0) (run' :
       }
 
   module _ (rank : S → List ℕ) (rank' : U → List ℕ) where
-    pub chains_falls : (x y : Chain S U) (a : A) (more : List A)
+    chains_falls : (x y : Chain S U) (a : A) (more : List A)
         → ((b : A) (before : List A) → run x.first (items (b ∷ before)) y.first → Below (rank y.first) (rank x.first)) → ((b : A) (before : List A) → run' x.second (items (b ∷ before)) y.second → Below (rank' y.second) (rank' x.second))
         → length (rank y.first) ≡ length (rank x.first) → length (rank' y.second) ≡ length (rank' x.second)
         → Chains run run' x (items (a ∷ more)) y → Below (chain_rank y.part (rank y.first) (rank' y.second)) (chain_rank x.part (rank x.first) (rank' x.second))
@@ -200,16 +194,36 @@ module _ {S U A : Type 0} (run : S → List (Answer A) → S → Type 0) (run' :
         joins_falls x.part y.part h.firsts h.seconds a more (rank y.first) (rank x.first) (rank' y.second) (rank' x.second)
         (λ b before e. falls b before (subst (λ l. run x.first l y.first) e h.came)) (λ b before e. falls' b before (subst (λ l. run' x.second l y.second) e h.then_came)) same same' h.joined
 
-    pub chains_lowers : (x y : Chain S U) (l : List (Answer A))
+    chains_lowers : (x y : Chain S U) (l : List (Answer A))
         → ((i : List (Answer A)) → run x.first i y.first → Lowers i (rank y.first) (rank x.first)) → ((j : List (Answer A)) → run' x.second j y.second → Lowers j (rank' y.second) (rank' x.second))
         → Chains run run' x l y → Lowers l (chain_rank y.part (rank y.first) (rank' y.second)) (chain_rank x.part (rank x.first) (rank' x.second))
     chains_lowers x y l lowers lowers' h =
         joins_lowers x.part y.part h.firsts h.seconds l (rank y.first) (rank x.first) (rank' y.second) (rank' x.second) h.joined (lowers h.firsts h.came) (lowers' h.seconds h.then_came)
 
-pub chain_sized : (part : Part) (xs ys : List ℕ) (m n : ℕ) → length xs ≡ m → length ys ≡ n → length (chain_rank part xs ys) ≡ m + n
+chain_sized : (part : Part) (xs ys : List ℕ) (m n : ℕ) → length xs ≡ m → length ys ≡ n → length (chain_rank part xs ys) ≡ m + n
 chain_sized First xs ys m n d e = length-append xs ys ∙ omega (arith, d, e)
 chain_sized Second xs ys m n d e = length-append (zeros xs) ys ∙ omega (arith, zeros_length xs, d, e)
 chain_sized Done xs ys m n d e = length-append (zeros xs) (zeros ys) ∙ omega (arith, zeros_length xs, zeros_length ys, d, e)
 
-pub same_length : (xs ys : List ℕ) {n : ℕ} → length xs ≡ n → length ys ≡ n → length xs ≡ length ys
+same_length : (xs ys : List ℕ) {n : ℕ} → length xs ≡ n → length ys ≡ n → length xs ≡ length ys
 same_length xs ys d e = d ∙ sym e
+
+module _ {S U A : Type 0} {run : S → List (Answer A) → S → Type 0} {run' : U → List (Answer A) → U → Type 0} where
+  pub chain_laws : {hints : S → ℕ × Option ℕ → Type 0} {hints' : U → ℕ × Option ℕ → Type 0} → StreamLaws run hints → StreamLaws run' hints' → StreamLaws (Chains run run') (λ m hint. hint ≡ (0, None))
+  chain_laws s u =
+      record {
+        rests = chains_rest run run' s.rests u.rests;
+        stays = chains_stay run run' s.stays u.stays;
+        follows = chains_follow run run' s.follows u.follows;
+        bounded = λ x y hint l e h. same_hint hint (0, None) l e tt;
+      }
+
+  pub chain_counting : {r : Ranks S} {r' : Ranks U} → Counting run r → Counting run' r' → Counting (Chains run run') (chain_ranks r r')
+  chain_counting {r} {r'} s u =
+      record {
+        sized = λ x. chain_sized x.part (r.rank x.first) (r'.rank x.second) r.width r'.width (s.sized x.first) (u.sized x.second);
+        counts_on = λ x y l c h. (s.counts_on x.first y.first h.firsts c.0 h.came, u.counts_on x.second y.second h.seconds c.1 h.then_came);
+        firm_on = λ x y l c h. (s.firm_on x.first y.first h.firsts c.0 h.came, u.firm_on x.second y.second h.seconds c.1 h.then_came);
+        falls = λ x y a more c. chains_falls run run' r.rank r'.rank x y a more (λ b before. s.falls x.first y.first b before c.0) (λ b before. u.falls x.second y.second b before c.1) (same_length (r.rank y.first) (r.rank x.first) (s.sized y.first) (s.sized x.first)) (same_length (r'.rank y.second) (r'.rank x.second) (u.sized y.second) (u.sized x.second));
+        lowers = λ x y l c. chains_lowers run run' r.rank r'.rank x y l (λ i. s.lowers x.first y.first i c.0) (λ j. u.lowers x.second y.second j c.1);
+      }

@@ -1,14 +1,21 @@
 -- Laws of streams that a function makes.
 use Rattle.std.specs.Fn.{Mut, AlwaysReturns}
-use Rattle.std.proofs.Common.{◌≡◌, List, [], ◌∷◌, ◌++◌, Option, Some, None, sym, subst}
+use Rattle.std.proofs.Common.{◌≡◌, ℕ, List, [], ◌∷◌, ◌++◌, Option, Some, None, sym, subst}
 use Rattle.futures.specs.declared.task.Poll.TheVariants.{Ready, Pending}
 use Rattle.lite_base.specs.Answers.{Answer, item}
-use Rattle.lite_stream.specs.Calling.{Calls}
-use Rattle.lite_flatten.specs.FlatMap.{EachMade, FlatMaps}
-use Rattle.lite_flatten.specs.Flatten.{EachInner}
+use Rattle.lite_base.specs.Ends.{Ends}
+use Rattle.lite_base.specs.Falling.{ItemRun}
 use Rattle.lite_base.specs.Laws.Promises.{call_promises}
-use Rattle.lite_flatten.specs.Laws.Flatten.{each_inner_on}
-use Rattle.lite_stream.specs.Map.{Maps}
+use Rattle.lite_base.specs.Ranks.{Counting, Ranks, counting_ends, ranks_of}
+use Rattle.lite_base.specs.StreamLaws.{StreamLaws}
+use Rattle.lite_flatten.specs.FlatMap.{EachMade, FlatMaps, flat_map_parts, flat_map_ranks}
+use Rattle.lite_flatten.specs.Flatten.{EachInner}
+use Rattle.lite_flatten.specs.Laws.Flatten.{each_inner_on, flattening, flattening_counting}
+use Rattle.lite_flatten.specs.declared.flat_map.FlatMap.{FlatMap}
+use Rattle.lite_stream.specs.Calling.{Calls}
+use Rattle.lite_stream.specs.Laws.Pointwise.{replaces_turning}
+use Rattle.lite_stream.specs.Laws.Through.{laws_following, laws_hinted, through_counting}
+use Rattle.lite_stream.specs.Map.{Maps, map_parts}
 use Rattle.lite_stream.specs.Pointwise.{Replaces}
 use Rattle.lite_stream.specs.declared.map.Map.{Map}
 
@@ -42,10 +49,37 @@ module _ {F A V : Type 0} (g : Mut F (A × Unit {0}) V) (Fact : V → Type 0) wh
     pub each_made : (x : Map S F) (held : Option V) → EachMade g Fact x.f held → EachInner (Maps run (Calls g)) Fact x held
     each_made x held each = (each.0, λ y before after v h. made_has x.f y.f h.ins before after v each.1 h.turned)
 
-    pub made_promises : (x y : Map S F) (held last : Option V) (l : List (Answer B)) → EachMade g Fact x.f held → FlatMaps run g run' x held l y last → AlwaysReturns g (λ x v. Fact v) y.f
-    made_promises x y held last l each h = still_promises x.f y.f h.came.ins h.ins each.1 h.came.turned
+    pub made_promises : (x y : FlatMap S V F) (l : List (Answer B)) → EachMade g Fact x.stream.f x.inner_stream → FlatMaps run g run' x l y → AlwaysReturns g (λ x v. Fact v) y.stream.f
+    made_promises x y l each h = still_promises x.stream.f y.stream.f h.came.ins h.ins each.1 h.came.turned
 
-    pub each_made_on : ((b c : V) (l : List (Answer B)) → Fact b → run' b l c → Fact c) → ((x y z : Map S F) (l m : List (Answer V)) → Maps run (Calls g) x l y → Maps run (Calls g) y m z → Maps run (Calls g) x (l ++ m) z)
-        → (x y : Map S F) (held last : Option V) (l : List (Answer B)) → EachMade g Fact x.f held → FlatMaps run g run' x held l y last → EachMade g Fact y.f last
-    each_made_on kept follows x y held last l each h =
-        ((each_inner_on run' (Maps run (Calls g)) Fact kept follows x y held last l (each_made x held each) h).0, made_promises x y held last l each h)
+    each_made_on : ((b c : V) (l : List (Answer B)) → Fact b → run' b l c → Fact c) → ((x y z : Map S F) (l m : List (Answer V)) → Maps run (Calls g) x l y → Maps run (Calls g) y m z → Maps run (Calls g) x (l ++ m) z)
+        → (x y : FlatMap S V F) (l : List (Answer B)) → EachMade g Fact x.stream.f x.inner_stream → FlatMaps run g run' x l y → EachMade g Fact y.stream.f y.inner_stream
+    each_made_on kept follows x y l each h =
+        ((each_inner_on run' (Maps run (Calls g)) Fact kept follows x.stream y.stream x.inner_stream y.inner_stream l (each_made x.stream x.inner_stream each) h).0, made_promises x y l each h)
+
+module _ {S F A V : Type 0} (g : Mut F (A × Unit {0}) V) {run : S → List (Answer A) → S → Type 0} where
+  outer_laws : {hints : S → ℕ × Option ℕ → Type 0} → StreamLaws run hints → StreamLaws (Maps run (Calls g)) (λ (m : Map S F) hint. hints m.stream hint)
+  outer_laws laws = laws_hinted map_parts laws (replaces_turning (Calls g))
+
+  outer_counting : {r : Ranks S} → Counting run r → Counting (Maps run (Calls g)) (ranks_of (λ (m : Map S F). m.stream) r)
+  outer_counting c = through_counting map_parts c (replaces_turning (Calls g))
+
+  -- no chain of items that are made is endless
+  pub made_end : {r : Ranks S} → Counting run r → (x : Map S F) → r.counts x.stream → Ends (ItemRun (Maps run (Calls g))) x
+  made_end c = counting_ends (outer_counting c)
+
+  module _ {B : Type 0} {run' : V → List (Answer B) → V → Type 0} {hints : S → ℕ × Option ℕ → Type 0} where
+    pub flat_map_laws : {hints' : V → ℕ × Option ℕ → Type 0} → StreamLaws run hints → StreamLaws run' hints' → StreamLaws (FlatMaps run g run') (λ m hint. hint ≡ (0, None))
+    flat_map_laws laws laws' = laws_following flat_map_parts (outer_laws laws) (flattening laws')
+
+    pub flat_map_counting : {r : Ranks S} {r' : Ranks V} → StreamLaws run hints → Counting run r → Counting run' r' → Counting (FlatMaps run g run') (flat_map_ranks g r r')
+    flat_map_counting {r} {r'} laws c c' =
+        let outer = outer_laws laws in
+        let all = flattening_counting flat_map_parts outer (outer_counting c) c' in
+        record {
+          sized = all.sized;
+          counts_on = λ x y l k h. (c.counts_on x.stream.stream y.stream.stream h.came.ins k.0 h.came.came, each_made_on g r'.counts run run' c'.counts_on outer.follows x y l k.1 h);
+          firm_on = λ x y l k h. (c.firm_on x.stream.stream y.stream.stream h.came.ins k.0 h.came.came, each_made_on g r'.firm run run' c'.firm_on outer.follows x y l k.1 h);
+          falls = λ x y a more k h. all.falls x y a more (k.0, each_made g r'.counts run run' x.stream x.inner_stream k.1) h;
+          lowers = λ x y l k h. all.lowers x y l (k.0, each_made g r'.firm run run' x.stream x.inner_stream k.1) h;
+        }

@@ -1,16 +1,20 @@
 -- Laws of a stream of streams that is flattened.
 use Rattle.std.specs.Prelude.{IfSome, replicate}
-use Rattle.std.proofs.Common.{◌≡◌, ◌∙◌, ℕ, zero, suc, ◌+◌, ◌⊎◌, List, [], ◌∷◌, ◌++◌, length, Option, Some, None, inl, inr, refl, ap, sym, subst, arith, length-append, append_assoc}
+use Rattle.std.proofs.Common.{◌≡◌, ◌∙◌, ℕ, ◌+◌, ◌⊎◌, List, [], ◌∷◌, ◌++◌, length, Option, Some, None, inl, inr, refl, ap, sym, subst, arith, length-append, append_assoc}
 use Rattle.std.proofs.lemmas.List.{length-replicate}
 use Rattle.futures.specs.declared.task.Poll.TheVariants.{Ready, Pending}
 use Rattle.lite_base.specs.Answers.{Answer, end, item, items}
 use Rattle.lite_base.specs.Chain.{Goes, Goes-back, Next}
 use Rattle.lite_base.specs.Ends.{Ends, Ends-lex, Ends-map, Ends-rests, Lex, Rests}
 use Rattle.lite_base.specs.Falling.{AtMost-both, Below-after, Below-first, Below-then, ItemRun, Lowers-at_most, Lowers-below}
-use Rattle.lite_base.specs.Rank.{AtMost, Below, Lowers}
-use Rattle.lite_flatten.specs.Flatten.{EachInner, Endless, Flat, Flattening, Flattens, FlatTurn, FlatTurns, HeldOn, Replaced, inner_rank}
+use Rattle.lite_base.specs.Rank.{Below, Lowers}
+use Rattle.lite_base.specs.Ranks.{Counting, Ranks}
+use Rattle.lite_base.specs.StreamLaws.{StreamLaws}
+use Rattle.lite_flatten.specs.Flatten.{EachInner, Endless, Flat, Flattening, FlatTurn, FlatTurns, HeldOn, Replaced, flattening_ranks, inner_rank}
+use Rattle.lite_flatten.specs.Laws.Zeros.{zeros_least}
 use Rattle.lite_stream.specs.Laws.Lower.{at_most_below, lowers_after, lowers_at_most}
 use Rattle.lite_stream.specs.Laws.Through.{Following}
+use Rattle.lite_stream.specs.Through.{Adapts, Parts, Through}
 
 module _ {A : Type 0} where
   endless_both : (l m : List (Answer A)) → Endless l → Endless m → Endless (l ++ m)
@@ -20,7 +24,7 @@ module _ {A : Type 0} where
   endless_both (Ready (Some x) ∷ l) m h k = ap (λ n. item x ∷ n) (endless_both l m (cc h) k)
 
   -- what follows among items are items
-  items_after : (before after : List (Answer A)) (l : List A) → items l ≡ before ++ after → (m : List A) × (after ≡ items m)
+  pub items_after : (before after : List (Answer A)) (l : List A) → items l ≡ before ++ after → (m : List A) × (after ≡ items m)
   items_after [] after l e = (l, sym e)
   items_after (a ∷ before) after [] e = absurd (cc e)
   items_after (a ∷ before) after (x ∷ l) e = items_after before after l (cc e)
@@ -80,14 +84,14 @@ module _ {B A : Type 0} (run : B → List (Answer A) → B → Type 0) (stays : 
 
   module _ {S : Type 0} (outer : S → List (Answer B) → S → Type 0) (rests : (x : B) → run x [] x) (outer_rests : (x : S) → outer x [] x) (outer_follows : (x y z : S) (l m : List (Answer B)) → outer x l y → outer y m z → outer x (l ++ m) z) where
     -- the last turn of a poll
-    turn_answers : (s t : S) (held last : Option B) (a : Answer A) → FlatTurn run outer s held (Some a) t last → Flattens run outer s held (a ∷ []) t last
+    turn_answers : (s t : S) (held last : Option B) (a : Answer A) → FlatTurn run outer s held (Some a) t last → Through outer (Flattening run) s held (a ∷ []) t last
     turn_answers s t None last Pending h = record { ins = Pending ∷ []; came = h.0; turned = (refl, h.1) }
     turn_answers s t None last (Ready None) h = record { ins = end ∷ []; came = h.0; turned = (refl, h.1) }
     turn_answers s t None last (Ready (Some x)) h = absurd h
     turn_answers s t (Some b) last a h = record { ins = []; came = subst (λ k. outer s [] k) (sym h.0) (outer_rests s); turned = inl (refl, h.1, h.2, h.3, h.4) }
 
     -- a turn before others
-    turn_before : (s t u : S) (held next last : Option B) (a : Answer A) → FlatTurn run outer s held None t next → Flattens run outer t next (a ∷ []) u last → Flattens run outer s held (a ∷ []) u last
+    turn_before : (s t u : S) (held next last : Option B) (a : Answer A) → FlatTurn run outer s held None t next → Through outer (Flattening run) t next (a ∷ []) u last → Through outer (Flattening run) s held (a ∷ []) u last
     turn_before s t u None next last a h m =
         record { ins = item h.0 ∷ m.ins; came = outer_follows s t u (item h.0 ∷ []) m.ins h.1 m.came; turned = subst (λ o. Flattening run o m.ins (a ∷ []) last) h.2 m.turned }
     turn_before s t u (Some b) next last a h m =
@@ -98,12 +102,12 @@ module _ {B A : Type 0} (run : B → List (Answer A) → B → Type 0) (stays : 
         }
 
     -- the turns of a poll of an adapter, which has an outer stream and may hold an inner one
-    pub flat_answer : {T : Type 0} (can_turn : T → Type 0) (source : T → S) (held : T → Option B) (x y z : T) (a : Answer A)
-        → Goes (Next (FlatTurns run outer can_turn source held)) x y → FlatTurns run outer can_turn source held y (Some a) z → Flattens run outer (source x) (held x) (a ∷ []) (source z) (held z)
-    flat_answer can_turn source held x y z a goes last =
-        Goes-back (λ m. Flattens run outer (source m) (held m) (a ∷ []) (source z) (held z))
-        (λ v w t. turn_before (source v) (source w) (source z) (held v) (held w) (held z) a t.1)
-        x y goes (turn_answers (source y) (source z) (held y) (held z) a last.1)
+    pub flat_answer : {M : Type 0} (p : Parts M S (Option B)) (can_turn : M → Type 0) (x y z : M) (a : Answer A)
+        → Goes (Next (FlatTurns run outer p can_turn)) x y → FlatTurns run outer p can_turn y (Some a) z → Adapts p outer (Flattening run) x (a ∷ []) z
+    flat_answer p can_turn x y z a goes last =
+        Goes-back (λ m. Adapts p outer (Flattening run) m (a ∷ []) z)
+        (λ v w t. turn_before (p.source v) (p.source w) (p.source z) (p.held v) (p.held w) (p.held z) a t.1)
+        x y goes (turn_answers (p.source y) (p.source z) (p.held y) (p.held z) a last.1)
 
 -- what holds of each inner stream that may come holds of each that may come later
 pub to_come : {S B : Type 0} {outer : S → List (Answer B) → S → Type 0} {Fact : B → Type 0} → ((x y z : S) (l m : List (Answer B)) → outer x l y → outer y m z → outer x (l ++ m) z)
@@ -121,10 +125,10 @@ module _ {S B A : Type 0} (run : B → List (Answer A) → B → Type 0) (outer 
   turn_step s t (Some b) last h = inr (h.0, subst (Rests Asked (Some b)) (sym h.1) tt)
 
   -- no chain of turns that go on is endless, if no chain of items of the outer stream is
-  pub flat_ends : {T : Type 0} (can_turn : T → Type 0) (source : T → S) (held : T → Option B) (x : T) → Ends (ItemRun outer) (source x) → Ends (Next (FlatTurns run outer can_turn source held)) x
-  flat_ends can_turn source held x h =
-      Ends-map (λ m. (source m, held m)) (λ m n t. turn_step (source m) (source n) (held m) (held n) t.1) x
-      (Ends-lex (ItemRun outer) (Rests Asked) (Ends-rests (λ b. Ends.ends (λ c k. absurd k))) (source x) h (held x))
+  pub flat_ends : {M : Type 0} (p : Parts M S (Option B)) {can_turn : M → Type 0} → ((x : M) → can_turn x → Ends (ItemRun outer) (p.source x)) → (x : M) → can_turn x → Ends (Next (FlatTurns run outer p can_turn)) x
+  flat_ends p ends x c =
+      Ends-map (λ m. (p.source m, p.held m)) (λ m n t. turn_step (p.source m) (p.source n) (p.held m) (p.held n) t.1) x
+      (Ends-lex (ItemRun outer) (Rests Asked) (Ends-rests (λ b. Ends.ends (λ c k. absurd k))) (p.source x) (ends x c) (p.held x))
 
   module _ (Fact : B → Type 0) (kept : (b c : B) (l : List (Answer A)) → Fact b → run b l c → Fact c) where
     last_has : (last : Option B) (i : List (Answer B)) (l : List (Answer A)) → ((before after : List (Answer B)) (b : B) → i ≡ before ++ item b ∷ after → Fact b) → Flat run i l last → IfSome last Fact
@@ -142,18 +146,11 @@ module _ {S B A : Type 0} (run : B → List (Answer A) → B → Type 0) (outer 
     held_has (Some b) last i l has come (inr h) = last_has last i (h.1 ∷ h.2) come h.7
 
     pub each_inner_on : ((x y z : S) (l m : List (Answer B)) → outer x l y → outer y m z → outer x (l ++ m) z)
-        → (s t : S) (held last : Option B) (l : List (Answer A)) → EachInner outer Fact s held → Flattens run outer s held l t last → EachInner outer Fact t last
+        → (s t : S) (held last : Option B) (l : List (Answer A)) → EachInner outer Fact s held → Through outer (Flattening run) s held l t last → EachInner outer Fact t last
     each_inner_on follows s t held last l each h =
         (held_has held last h.ins l each.0 (λ before after b e. each.1 t before after b (subst (λ i. outer s i t) e h.came)) h.turned, to_come follows s t held h.ins each h.came)
 
 -- ranks
-
-none_least : (n : ℕ) (ys : List ℕ) → length ys ≡ n → AtMost (replicate n 0) ys
-none_least zero [] e = inl refl
-none_least zero (y ∷ ys) e = absurd (omega (arith, e))
-none_least (suc n) [] e = absurd (omega (arith, e))
-none_least (suc n) (zero ∷ ys) e = elim (none_least n ys (omega (arith, e))) [ inl d ↦ inl (ap (λ l. 0 ∷ l) d) | inr p ↦ inr (inr (refl, p)) ]
-none_least (suc n) (suc y ∷ ys) e = inr (inl (omega arith, length-replicate n 0 ∙ omega (arith, e)))
 
 module _ {B A : Type 0} (run : B → List (Answer A) → B → Type 0) (n : ℕ) (rank : B → List ℕ) (sized : (b : B) → length (rank b) ≡ n) where
   pub inner_sized : (held : Option B) → length (inner_rank n rank held) ≡ n
@@ -207,11 +204,11 @@ module _ {B A : Type 0} (run : B → List (Answer A) → B → Type 0) (n : ℕ)
 
   -- the answers of an inner stream that ends, and what follows them
   own_lowers : (b c : B) (own rest : List (Answer A)) (xs us : List ℕ) → Lowers (own ++ end ∷ []) (rank c) (rank b) → Lowers rest xs (us ++ replicate n 0) → Lowers (own ++ rest) xs (us ++ rank b)
-  own_lowers b c [] rest xs us low h = lowers_at_most rest xs (us ++ replicate n 0) (us ++ rank b) h (AtMost-both us us (replicate n 0) (rank b) (inl refl) (none_least n (rank b) (sized b)))
+  own_lowers b c [] rest xs us low h = lowers_at_most rest xs (us ++ replicate n 0) (us ++ rank b) h (AtMost-both us us (replicate n 0) (rank b) (inl refl) (zeros_least n (rank b) (sized b)))
   own_lowers b c (Pending ∷ own) rest xs us low h = own_lowers b c own rest xs us low h
   own_lowers b c (Ready None ∷ own) rest xs us low h = own_lowers b c own rest xs us low h
   own_lowers b c (Ready (Some x) ∷ own) rest xs us low h =
-      let gone = at_most_below (replicate n 0) (rank c) (rank b) (none_least n (rank c) (sized c)) low in
+      let gone = at_most_below (replicate n 0) (rank c) (rank b) (zeros_least n (rank c) (sized c)) low in
       at_most_below xs (us ++ replicate n 0) (us ++ rank b) (Lowers-at_most rest xs (us ++ replicate n 0) h) (Below-then us (replicate n 0) (rank b) gone)
 
   flat_lowers : (f g : Option B) (i : List (Answer B)) (l : List (Answer A)) (xs us : List ℕ) → IfSome f (λ b. (c : B) (m : List (Answer A)) → run b m c → Lowers m (rank c) (rank b))
@@ -229,7 +226,7 @@ module _ {B A : Type 0} (run : B → List (Answer A) → B → Type 0) (n : ℕ)
 
     pub flattens_falls : (counts : B → Type 0) (s t : S) (f g : Option B) (y : A) (l : List A)
         → ((b : B) (before : List B) → outer s (items (b ∷ before)) t → Below (outer_rank t) (outer_rank s)) → (outer s [] t → t ≡ s) → ((b c : B) → counts b → run b (items (y ∷ l)) c → Below (rank c) (rank b))
-        → EachInner outer counts s f → Flattens run outer s f (items (y ∷ l)) t g → Below (outer_rank t ++ inner_rank n rank g) (outer_rank s ++ inner_rank n rank f)
+        → EachInner outer counts s f → Through outer (Flattening run) s f (items (y ∷ l)) t g → Below (outer_rank t ++ inner_rank n rank g) (outer_rank s ++ inner_rank n rank f)
     flattens_falls counts s t f g y l falls stays inner each h =
         flat_falls f g h.ins y l (outer_rank t) (outer_rank s)
         (λ b before e. falls b before (subst (λ i. outer s i t) e h.came)) (λ e. ap outer_rank (stays (subst (λ i. outer s i t) e h.came)))
@@ -237,6 +234,23 @@ module _ {B A : Type 0} (run : B → List (Answer A) → B → Type 0) (n : ℕ)
 
     pub flattens_lowers : (firm : B → Type 0) (s t : S) (f g : Option B) (l : List (Answer A))
         → ((i : List (Answer B)) → outer s i t → Lowers i (outer_rank t) (outer_rank s)) → ((b c : B) (m : List (Answer A)) → firm b → run b m c → Lowers m (rank c) (rank b))
-        → EachInner outer firm s f → Flattens run outer s f l t g → Lowers l (outer_rank t ++ inner_rank n rank g) (outer_rank s ++ inner_rank n rank f)
+        → EachInner outer firm s f → Through outer (Flattening run) s f l t g → Lowers l (outer_rank t ++ inner_rank n rank g) (outer_rank s ++ inner_rank n rank f)
     flattens_lowers firm s t f g l lowers inner each h =
         flat_lowers f g h.ins l (outer_rank t) (outer_rank s) (some_has f (λ b k c m. inner b c m k) each.0) h.turned (lowers h.ins h.came)
+
+module _ {B A : Type 0} {run : B → List (Answer A) → B → Type 0} where
+  pub flattening : {hints : B → ℕ × Option ℕ → Type 0} → StreamLaws run hints → Following (Flattening run)
+  flattening inner = flattening_following run inner.stays inner.follows inner.rests
+
+  pub flattening_counting : {M S : Type 0} (p : Parts M S (Option B)) {outer : S → List (Answer B) → S → Type 0} {hints : S → ℕ × Option ℕ → Type 0} {r : Ranks S} {r' : Ranks B} → StreamLaws outer hints → Counting outer r → Counting run r'
+      → Counting (Adapts p outer (Flattening run)) (flattening_ranks p outer r r')
+  flattening_counting p {outer = outer} {r = r} {r' = r'} laws c c' =
+      record {
+        sized = λ x. flat_sized run r'.width r'.rank c'.sized (r.rank (p.source x)) (p.held x) (c.sized (p.source x));
+        counts_on = λ x y l k h. (c.counts_on (p.source x) (p.source y) h.ins k.0 h.came, each_inner_on run outer r'.counts c'.counts_on laws.follows (p.source x) (p.source y) (p.held x) (p.held y) l k.1 h);
+        firm_on = λ x y l k h. (c.firm_on (p.source x) (p.source y) h.ins k.0 h.came, each_inner_on run outer r'.firm c'.firm_on laws.follows (p.source x) (p.source y) (p.held x) (p.held y) l k.1 h);
+        falls = λ x y a more k h.
+            flattens_falls run r'.width r'.rank c'.sized outer r.rank r'.counts (p.source x) (p.source y) (p.held x) (p.held y) a more
+            (λ b before e. c.falls (p.source x) (p.source y) b before k.0 e) (laws.stays (p.source x) (p.source y)) (λ b b' e. c'.falls b b' a more e) k.1 h;
+        lowers = λ x y l k h. flattens_lowers run r'.width r'.rank c'.sized outer r.rank r'.firm (p.source x) (p.source y) (p.held x) (p.held y) l (λ i. c.lowers (p.source x) (p.source y) i k.0) c'.lowers k.1 h;
+      }

@@ -1,107 +1,209 @@
--- Laws of answers of what is made of each item.
-use Rattle.std.proofs.Common.{◌≡◌, ◌∙◌, ℕ, ◌+◌, ◌≤◌, List, [], ◌∷◌, ◌++◌, length, Option, Some, None, inl, refl, ap, subst, arith, length-append}
+-- Laws of items that are replaced by the list of what is made of them.
+use Rattle.std.proofs.Common.{◌≡◌, ◌∙◌, ◌⊎◌, ℕ, ◌+◌, ◌≤◌, List, [], ◌∷◌, ◌++◌, length, Option, Some, None, inl, inr, refl, ap, sym, subst, arith, length-append, append_assoc}
 use Rattle.futures.specs.declared.task.Poll.TheVariants.{Ready, Pending}
-use Rattle.lite_base.specs.Answers.{Answer, before_end, item, items}
-use Rattle.lite_base.specs.Rank.{AtMost, Below, Lowers}
+use Rattle.lite_base.specs.Answers.{Answer, Gives, Waiting, before_end, item, items}
 use Rattle.lite_base.specs.Falling.{AtMost-both, Below-after, Below-first, Lowers-at_most, Lowers-below}
-use Rattle.lite_flatten.specs.Lingering.{Lingering, Lingers}
-use Rattle.lite_stream.specs.Laws.Lower.{at_most_below, lowers_below}
+use Rattle.lite_base.specs.Rank.{AtMost, Below, Lowers}
+use Rattle.lite_base.specs.Ranks.{Counting, Ranks}
+use Rattle.lite_base.specs.StreamLaws.{StreamLaws}
+use Rattle.lite_flatten.specs.Laws.Flatten.{items_after}
+use Rattle.lite_flatten.specs.Lingering.{HeldOn, Lingering, Lingers, Replaced}
+use Rattle.lite_stream.specs.Laws.Lower.{at_most_below}
 use Rattle.lite_stream.specs.Laws.Through.{Following}
+use Rattle.lite_stream.specs.Through.{Adapts, Parts, Through}
+
+-- what the lists of what is made of an item have to meet, that runs may follow one another
+pub record Giving {V B : Type 0} (gives : V → List (Answer B) → Option V → Type 0) : Type 0 where
+  pub rests : (v : V) → gives v [] (Some v)
+  pub stays : (v w : V) → gives v [] (Some w) → w ≡ v
+  -- nothing is done before it answers
+  pub answers : (v : V) → gives v [] None → ⊥
+  pub joins : (v w : V) (next : Option V) (l m : List (Answer B)) → gives v l (Some w) → gives w m next → gives v (l ++ m) next
+
+-- and that one item comes of each, with the last answer
+pub record GivingOne {V B : Type 0} (gives : V → List (Answer B) → Option V → Type 0) : Type 0 where
+  pub waits : (v w : V) (l : List (Answer B)) → gives v l (Some w) → Waiting l
+  pub hands : (v : V) (l : List (Answer B)) → gives v l None → (y : B) × Gives l (Some y)
+
+module _ {F A V B : Type 0} (call : F → A → V → F → Type 0) (gives : V → List (Answer B) → Option V → Type 0) (g : Giving gives) where
+  -- the list of what is held may be cut
+  begun : (p q : F) (v w : V) (j : List (Answer A)) (l m : List (Answer B)) (h : Option V) → gives v l (Some w)
+      → HeldOn call gives p w j m q h ⊎ Replaced call gives w (Lingers call gives p j) m q h → HeldOn call gives p v j (l ++ m) q h ⊎ Replaced call gives v (Lingers call gives p j) (l ++ m) q h
+  begun p q v w j l m h ran (inl k) = inl (k.0, k.1, k.2, g.joins v w (Some k.2) l m ran k.3, k.4)
+  begun p q v w j l m h ran (inr k) =
+      inr (l ++ k.0, k.1, ap (λ n. l ++ n) k.2 ∙ sym (append_assoc l k.0 k.1), g.joins v w None l k.0 ran k.3, k.4)
+
+  goes_on : (p q : F) (t : F × Option V) (v : V) (f : Option V) (i j : List (Answer A)) (l m : List (Answer B))
+      → ((rest : List (Answer B)) → Lingers call gives p i rest q f → Lingers call gives p (i ++ j) (rest ++ m) t.0 t.1)
+      → HeldOn call gives p v i l q f ⊎ Replaced call gives v (Lingers call gives p i) l q f → Lingering call gives (q, f) j m t
+      → HeldOn call gives p v (i ++ j) (l ++ m) t.0 t.1 ⊎ Replaced call gives v (Lingers call gives p (i ++ j)) (l ++ m) t.0 t.1
+  goes_on p q t v f i j l m rest (inl k) d =
+      rw k.0 (begun p t.0 v k.2 j l m t.1 k.3 (subst (λ r. Lingering call gives (r, Some k.2) j m t) k.1 (subst (λ o. Lingering call gives (q, o) j m t) k.4 d)))
+  goes_on p q t v f i j l m rest (inr k) d = inr (k.0, k.1 ++ m, ap (λ n. n ++ m) k.2 ∙ append_assoc k.0 k.1 m, k.3, rest k.1 k.4)
+
+  lingers_follow : (p q : F) (t : F × Option V) (f : Option V) (i j : List (Answer A)) (l m : List (Answer B)) → Lingers call gives p i l q f → Lingering call gives (q, f) j m t → Lingers call gives p (i ++ j) (l ++ m) t.0 t.1
+  lingers_follow p q t f [] j [] m c d = subst (λ r. Lingering call gives (r, None) j m t) c.0 (subst (λ o. Lingering call gives (q, o) j m t) c.1 d)
+  lingers_follow p q t f [] j (b ∷ l) m c d = absurd c
+  lingers_follow p q t f (a ∷ i) j [] m c d = absurd c
+  lingers_follow p q t f (Pending ∷ i) j (b ∷ l) m c d = (c.0, lingers_follow p q t f i j l m c.1 d)
+  lingers_follow p q t f (Ready None ∷ i) j (b ∷ l) m c d = (c.0, lingers_follow p q t f i j l m c.1 d)
+  lingers_follow p q t f (Ready (Some x) ∷ i) j (b ∷ l) m c d =
+      (c.0, c.1, c.2, goes_on c.1 q t c.0 f i j (b ∷ l) m (λ rest k. lingers_follow c.1 q t f i j rest m k d) c.3 d)
+
+  joins : (s r t : F × Option V) (i j : List (Answer A)) (l m : List (Answer B)) → Lingering call gives s i l r → Lingering call gives r j m t → Lingering call gives s (i ++ j) (l ++ m) t
+  joins (p, None) (q, f) t i j l m c d = lingers_follow p q t f i j l m c d
+  joins (p, Some v) (q, f) t i j l m c d = goes_on p q t v f i j l m (λ rest k. lingers_follow p q t f i j rest m k d) c d
+
+  -- what is done has answered, so no part of an empty list is its own
+  nothing : (v : V) (own rest : List (Answer B)) → [] ≡ own ++ rest → gives v own None → ⊥
+  nothing v [] rest e h = g.answers v h
+  nothing v (b ∷ own) rest e h = cc e
+
+  empty : (s t : F × Option V) (i : List (Answer A)) → Lingering call gives s i [] t → (i ≡ []) × (t ≡ s)
+  empty (p, None) (q, f) [] c = (refl, λ k. (c.0 k, c.1 k))
+  empty (p, None) t (a ∷ i) c = absurd c
+  empty (p, Some v) (q, f) i (inl c) = let same = c.4 ∙ ap Some (g.stays v c.2 c.3) in (c.0, λ k. (c.1 k, same k))
+  empty (p, Some v) t i (inr c) = absurd (nothing v c.0 c.1 c.2 c.3)
+
+  starts : (s : F × Option V) → Lingering call gives s [] [] s
+  starts (p, None) = (refl, refl)
+  starts (p, Some v) = inl (refl, refl, v, g.rests v, refl)
+
+  pub lingering_following : Following (Lingering call gives)
+  lingering_following = record { starts = starts; empty = empty; joins = joins }
+
+-- one poll
+module _ {S F A V B : Type 0} (run : S → List (Answer A) → S → Type 0) (call : F → A → V → F → Type 0) (gives : V → List (Answer B) → Option V → Type 0) where
+  -- of what is held, where the source is not asked
+  pub held_answers : (s : S) (f : F) (v : V) (b : Answer B) (left : Option V) → run s [] s → gives v (b ∷ []) left → Through run (Lingering call gives) s (f, Some v) (b ∷ []) s (f, left)
+  held_answers s f v b None came given = record { ins = []; came = came; turned = inr (b ∷ [], [], refl, given, (refl, refl)) }
+  held_answers s f v b (Some w) came given = record { ins = []; came = came; turned = inl (refl, refl, w, given, refl) }
+
+  -- of what is made of an item
+  pub made_answers : (s t : S) (f g : F) (a : Answer A) (x : A) (v : V) (b : Answer B) (left : Option V) → a ≡ item x → run s (a ∷ []) t → call f x v g → gives v (b ∷ []) left → Through run (Lingering call gives) s (f, None) (b ∷ []) t (g, left)
+  made_answers s t f g a x v b None is came called given =
+      record { ins = item x ∷ []; came = subst (λ c. run s (c ∷ []) t) is came; turned = (v, g, called, inr (b ∷ [], [], refl, given, (refl, refl))) }
+  made_answers s t f g a x v b (Some w) is came called given =
+      record { ins = item x ∷ []; came = subst (λ c. run s (c ∷ []) t) is came; turned = (v, g, called, inl (refl, refl, w, given, refl)) }
+
+  -- of the source, which is pending
+  pub none_answers : (s t : S) (f : F) (a : Answer A) → a ≡ Pending → run s (a ∷ []) t → Through run (Lingering call gives) s (f, None) (Pending ∷ []) t (f, None)
+  none_answers s t f a is came = record { ins = Pending ∷ []; came = subst (λ c. run s (c ∷ []) t) is came; turned = (refl, (refl, refl)) }
 
 -- how many things are held
 abbrev pub count_held : {V : Type 0} → Option V → ℕ
 count_held None = 0
 count_held (Some v) = 1
 
-count_most : {V : Type 0} (held : Option V) → count_held held ≤ 1
-count_most None = omega arith
-count_most (Some v) = omega arith
-
 -- a rank, and then a place that counts what is held
 abbrev pub held_rank : {V : Type 0} → List ℕ → Option V → List ℕ
 held_rank xs held = xs ++ count_held held ∷ []
 
-pub held_sized : {V : Type 0} (xs : List ℕ) (held : Option V) {n : ℕ} → length xs ≡ n → length (held_rank xs held) ≡ n + 1
+held_sized : {V : Type 0} (xs : List ℕ) (held : Option V) {n : ℕ} → length xs ≡ n → length (held_rank xs held) ≡ n + 1
 held_sized xs held e = length-append xs (count_held held ∷ []) ∙ ap (λ k. k + 1) e
 
--- what is held counts in the last place
-held_below : {V : Type 0} (xs us : List ℕ) (v : V) → AtMost xs us → Below (held_rank {V = V} xs None) (held_rank us (Some v))
-held_below xs us v h = Below-after xs us (0 ∷ []) (1 ∷ []) h (inl (omega arith, refl))
+module _ {B : Type 0} where
+  waiting_bounded : (l : List (Answer B)) → Waiting l → before_end l ≤ 0
+  waiting_bounded [] w = omega arith
+  waiting_bounded (Pending ∷ l) w = waiting_bounded l w
+  waiting_bounded (Ready b ∷ l) w = absurd w
 
-module _ {F A V B : Type 0} (call : F → A → V → F → Type 0) (asks : V → Answer B → Option V → Type 0) where
-  lingers_follow : (p q r : F) (f g h : Option V) (i j : List (Answer A)) (o l : List (Answer B)) → Lingers call asks p f i o q g → Lingers call asks q g j l r h → Lingers call asks p f (i ++ j) (o ++ l) r h
-  lingers_follow p q r f g h i j [] l c d = rw c.0 (subst (λ v. Lingers call asks v f j l r h) c.1 (subst (λ v. Lingers call asks q v j l r h) c.2 d))
-  lingers_follow p q r (Some v) g h i j (b ∷ o) l c d = (c.0, c.1, lingers_follow p q r c.0 g h i j o l c.2 d)
-  lingers_follow p q r None g h [] j (b ∷ o) l c d = absurd c
-  lingers_follow p q r None g h (Pending ∷ i) j (b ∷ o) l c d = (c.0, lingers_follow p q r None g h i j o l c.1 d)
-  lingers_follow p q r None g h (Ready None ∷ i) j (b ∷ o) l c d = (c.0, lingers_follow p q r None g h i j o l c.1 d)
-  lingers_follow p q r None g h (Ready (Some x) ∷ i) j (b ∷ o) l c d = (c.0, c.1, c.2, c.3, c.4, lingers_follow c.1 q r c.2 g h i j o l c.5 d)
+  one_bounded : (l m : List (Answer B)) (y : B) → Gives l (Some y) → before_end (l ++ m) ≤ before_end m + 1
+  one_bounded [] m y h = absurd h
+  one_bounded (Pending ∷ l) m y h = one_bounded l m y h
+  one_bounded (Ready b ∷ l) m y h = rw (h.0, h.1) (omega arith)
 
-  pub lingering_following : Following (Lingering call asks)
-  lingering_following =
+  waiting_lowers : (l : List (Answer B)) (xs ys : List ℕ) → Waiting l → AtMost xs ys → Lowers l xs ys
+  waiting_lowers [] xs ys w h = h
+  waiting_lowers (Pending ∷ l) xs ys w h = waiting_lowers l xs ys w h
+  waiting_lowers (Ready b ∷ l) xs ys w h = absurd w
+
+module _ {F A V B : Type 0} (call : F → A → V → F → Type 0) (gives : V → List (Answer B) → Option V → Type 0) (g : GivingOne gives) where
+  held_bounded : (p q : F) (v : V) (f : Option V) (n : ℕ) (i : List (Answer A)) (o : List (Answer B)) → ((rest : List (Answer B)) → Lingers call gives p i rest q f → before_end rest ≤ n)
+      → HeldOn call gives p v i o q f ⊎ Replaced call gives v (Lingers call gives p i) o q f → before_end o ≤ n + 1
+  held_bounded p q v f n i o rest (inl c) = let e = waiting_bounded o (g.waits v c.2 o c.3) in omega arith
+  held_bounded p q v f n i o rest (inr c) =
+      let h = g.hands v c.0 c.3 in let e = one_bounded c.0 c.1 h.0 h.1 in let d = rest c.1 c.4 in rw c.2 (omega arith)
+
+  lingers_bounded : (p q : F) (f : Option V) (i : List (Answer A)) (o : List (Answer B)) → Lingers call gives p i o q f → before_end o ≤ before_end i
+  lingers_bounded p q f [] [] c = omega arith
+  lingers_bounded p q f [] (b ∷ o) c = absurd c
+  lingers_bounded p q f (a ∷ i) [] c = omega arith
+  lingers_bounded p q f (Pending ∷ i) (b ∷ o) c = rw c.0 (lingers_bounded p q f i o c.1)
+  lingers_bounded p q f (Ready None ∷ i) (b ∷ o) c = rw c.0 (omega arith)
+  lingers_bounded p q f (Ready (Some x) ∷ i) (b ∷ o) c = held_bounded c.1 q c.0 f (before_end i) i (b ∷ o) (λ rest k. lingers_bounded c.1 q f i rest k) c.3
+
+  pub lingering_bounded : (s t : F × Option V) (i : List (Answer A)) (o : List (Answer B)) → Lingering call gives s i o t → before_end o ≤ before_end i + count_held s.1
+  lingering_bounded (p, None) (q, f) i o c = let e = lingers_bounded p q f i o c in omega arith
+  lingering_bounded (p, Some v) (q, f) i o c = held_bounded p q v f (before_end i) i o (λ rest k. lingers_bounded p q f i rest k) c
+
+  lingers_lowers : (p q : F) (f : Option V) (i : List (Answer A)) (o : List (Answer B)) (xs us : List ℕ) → Lingers call gives p i o q f → Lowers i xs us → Lowers o (held_rank xs f) (held_rank {V = V} us None)
+  lingers_lowers p q f [] [] xs us c h = rw c.1 (AtMost-both xs us (0 ∷ []) (0 ∷ []) h (inl refl))
+  lingers_lowers p q f [] (b ∷ o) xs us c h = absurd c
+  lingers_lowers p q f (a ∷ i) [] xs us c h = absurd c
+  lingers_lowers p q f (Pending ∷ i) (b ∷ o) xs us c h = rw c.0 (lingers_lowers p q f i o xs us c.1 h)
+  lingers_lowers p q f (Ready None ∷ i) (b ∷ o) xs us c h = rw c.0 (lingers_lowers p q f i o xs us c.1 h)
+  lingers_lowers p q f (Ready (Some x) ∷ i) (b ∷ o) xs us c h = Lowers-below (b ∷ o) (held_rank xs f) (held_rank {V = V} us None) (Below-first xs us (count_held f ∷ []) (0 ∷ []) h refl)
+
+  -- what is held counts in the last place
+  held_below : (xs us : List ℕ) (v : V) → AtMost xs us → Below (held_rank {V = V} xs None) (held_rank us (Some v))
+  held_below xs us v h = Below-after xs us (0 ∷ []) (1 ∷ []) h (inl (omega arith, refl))
+
+  lingering_lowers : (s t : F × Option V) (i : List (Answer A)) (o : List (Answer B)) (xs us : List ℕ) → Lingering call gives s i o t → Lowers i xs us → Lowers o (held_rank xs t.1) (held_rank us s.1)
+  lingering_lowers (p, None) (q, f) i o xs us c h = lingers_lowers p q f i o xs us c h
+  lingering_lowers (p, Some v) (q, f) i o xs us (inl c) h =
+      rw c.4 (waiting_lowers o (held_rank xs (Some c.2)) (held_rank us (Some v)) (g.waits v c.2 o c.3) (AtMost-both xs us (1 ∷ []) (1 ∷ []) (subst (λ k. Lowers k xs us) c.0 h) (inl refl)))
+  lingering_lowers (p, Some v) (q, f) i o xs us (inr c) h =
+      let e = lingers_lowers p q f i c.1 xs us c.4 h in
+      Lowers-below o (held_rank xs f) (held_rank us (Some v)) (at_most_below (held_rank xs f) (held_rank {V = V} us None) (held_rank us (Some v)) (Lowers-at_most c.1 (held_rank xs f) (held_rank {V = V} us None) e) (held_below us us v (inl refl)))
+
+  -- where items came out, only items came in
+  came_items : (p q : F) (f : Option V) (i : List (Answer A)) (l : List B) → Lingers call gives p i (items l) q f → (before : List A) × (i ≡ items before)
+  came_items p q f [] l c = ([], refl)
+  came_items p q f (a ∷ i) [] c = absurd c
+  came_items p q f (Pending ∷ i) (y ∷ l) c = absurd (cc c.0)
+  came_items p q f (Ready None ∷ i) (y ∷ l) c = absurd (cc c.0)
+  came_items p q f (Ready (Some x) ∷ i) (y ∷ l) (v, r, called, inl c) = (x ∷ [], ap (λ k. item x ∷ k) c.0)
+  came_items p q f (Ready (Some x) ∷ i) (y ∷ l) (v, r, called, inr c) =
+      let m = items_after c.0 c.1 (y ∷ l) c.2 in
+      let e = came_items r q f i m.0 (subst (λ k. Lingers call gives r i k q f) m.1 c.4) in
+      (x ∷ e.0, ap (λ k. item x ∷ k) e.1)
+
+  -- where nothing came in, nothing is held
+  none_held : (p q : F) (f : Option V) (o : List (Answer B)) → Lingers call gives p [] o q f → f ≡ None
+  none_held p q f [] c = c.1
+  none_held p q f (b ∷ o) c = absurd c
+
+  lingering_falls : (s t : F × Option V) (i : List (Answer A)) (y : B) (l : List B) (xs us : List ℕ)
+      → ((a : A) (before : List A) → i ≡ items (a ∷ before) → Below xs us) → (i ≡ [] → xs ≡ us) → Lingering call gives s i (items (y ∷ l)) t → Below (held_rank xs t.1) (held_rank us s.1)
+  lingering_falls (p, None) (q, f) i y l xs us falls same c = at_start (came_items p q f i (y ∷ l) c)
+    where
+      at_start : (before : List A) × (i ≡ items before) → Below (held_rank xs f) (held_rank {V = V} us None)
+      at_start ([], e) = absurd (subst (λ k. Lingers call gives p k (items (y ∷ l)) q f) e c)
+      at_start (x ∷ before, e) = Below-first xs us (count_held f ∷ []) (0 ∷ []) (falls x before e) refl
+  lingering_falls (p, Some v) (q, f) i y l xs us falls same (inl c) = absurd (g.waits v c.2 (items (y ∷ l)) c.3)
+  lingering_falls (p, Some v) (q, f) i y l xs us falls same (inr c) =
+      let m = items_after c.0 c.1 (y ∷ l) c.2 in at_start (came_items p q f i m.0 (subst (λ k. Lingers call gives p i k q f) m.1 c.4))
+    where
+      at_start : (before : List A) × (i ≡ items before) → Below (held_rank xs f) (held_rank us (Some v))
+      at_start ([], e) = rw (none_held p q f c.1 (subst (λ k. Lingers call gives p k c.1 q f) e c.4)) (held_below xs us v (inl (same e)))
+      at_start (x ∷ before, e) = Below-first xs us (count_held f ∷ []) (1 ∷ []) (falls x before e) refl
+
+-- the source's rank, and then a place that counts what is held
+abbrev pub held_ranks : {M S F V : Type 0} → Parts M S (F × Option V) → Ranks S → Ranks M
+held_ranks p r =
+    record { width = r.width + 1; rank = λ m. held_rank (r.rank (p.source m)) (p.held m).1; counts = λ m. r.counts (p.source m); firm = λ m. r.firm (p.source m) }
+
+module _ {M S F A V B : Type 0} (p : Parts M S (F × Option V)) {call : F → A → V → F → Type 0} {gives : V → List (Answer B) → Option V → Type 0} {run : S → List (Answer A) → S → Type 0} {hints : S → ℕ × Option ℕ → Type 0} {r : Ranks S} where
+  pub held_counting : StreamLaws run hints → Counting run r → GivingOne gives → Counting (Adapts p run (Lingering call gives)) (held_ranks p r)
+  held_counting laws c g =
       record {
-        starts = λ s. (refl, refl, refl);
-        empty = λ s t i c. (c.0, λ k. (c.1 k, c.2 k));
-        joins = λ s t u i j l m. lingers_follow s.0 t.0 u.0 s.1 t.1 u.1 i j l m;
+        sized = λ x. held_sized (r.rank (p.source x)) (p.held x).1 (c.sized (p.source x));
+        counts_on = λ x y l k h. c.counts_on (p.source x) (p.source y) h.ins k h.came;
+        firm_on = λ x y l k h. c.firm_on (p.source x) (p.source y) h.ins k h.came;
+        falls = λ x y a more k h.
+            lingering_falls call gives g (p.held x) (p.held y) h.ins a more (r.rank (p.source y)) (r.rank (p.source x))
+            (λ b before e. c.falls (p.source x) (p.source y) b before k (subst (λ i. run (p.source x) i (p.source y)) e h.came))
+            (λ e. ap r.rank (laws.stays (p.source x) (p.source y) (subst (λ i. run (p.source x) i (p.source y)) e h.came))) h.turned;
+        lowers = λ x y l k h. lingering_lowers call gives g (p.held x) (p.held y) h.ins l (r.rank (p.source y)) (r.rank (p.source x)) h.turned (c.lowers (p.source x) (p.source y) h.ins k h.came);
       }
-
-  -- where what is made of an item is done at its first item, and does not end
-  module _ (once : (v : V) (y : B) (next : Option V) → asks v (item y) next → next ≡ None) (endless : (v : V) (next : Option V) → asks v (Ready None) next → ⊥) where
-    pub lingers_bounded : (p q : F) (f g : Option V) (i : List (Answer A)) (o : List (Answer B)) → Lingers call asks p f i o q g → before_end o ≤ before_end i + count_held f
-    lingers_bounded p q f g i [] c = omega arith
-    lingers_bounded p q (Some v) g i (Pending ∷ o) c = let e = lingers_bounded p q c.0 g i o c.2 in let k = count_most c.0 in omega arith
-    lingers_bounded p q (Some v) g i (Ready None ∷ o) c = omega arith
-    lingers_bounded p q (Some v) g i (Ready (Some y) ∷ o) c =
-        let e = lingers_bounded p q None g i o (subst (λ h. Lingers call asks p h i o q g) (once v y c.0 c.1) c.2) in omega arith
-    lingers_bounded p q None g [] (b ∷ o) c = absurd c
-    lingers_bounded p q None g (Pending ∷ i) (b ∷ o) c = rw c.0 (lingers_bounded p q None g i o c.1)
-    lingers_bounded p q None g (Ready None ∷ i) (b ∷ o) c = rw c.0 (omega arith)
-    lingers_bounded p q None g (Ready (Some x) ∷ i) (Pending ∷ o) c = let e = lingers_bounded c.1 q c.2 g i o c.5 in let k = count_most c.2 in omega arith
-    lingers_bounded p q None g (Ready (Some x) ∷ i) (Ready None ∷ o) c = omega arith
-    lingers_bounded p q None g (Ready (Some x) ∷ i) (Ready (Some y) ∷ o) c =
-        let e = lingers_bounded c.1 q None g i o (subst (λ h. Lingers call asks c.1 h i o q g) (once c.0 y c.2 c.4) c.5) in omega arith
-
-    -- what is left of a thing counts no more than it did
-    left_lowers : (next g : Option V) (o : List (Answer B)) (xs us : List ℕ) (v : V) → Lowers o (held_rank xs g) (held_rank us next) → Lowers o (held_rank xs g) (held_rank us (Some v))
-    left_lowers (Some w) g o xs us v h = h
-    left_lowers None g o xs us v h = lowers_below o (held_rank xs g) (held_rank {V = V} us None) (held_rank us (Some v)) h (held_below us us v (inl refl))
-
-    pub lingers_lowers : (p q : F) (f g : Option V) (i : List (Answer A)) (o : List (Answer B)) (xs us : List ℕ) → Lingers call asks p f i o q g → Lowers i xs us → Lowers o (held_rank xs g) (held_rank us f)
-    lingers_lowers p q f g i [] xs us c h = AtMost-both xs us (count_held g ∷ []) (count_held f ∷ []) (subst (λ k. Lowers k xs us) c.0 h) (inl (ap (λ k. count_held k ∷ []) c.2))
-    lingers_lowers p q (Some v) g i (Pending ∷ o) xs us c h = left_lowers c.0 g o xs us v (lingers_lowers p q c.0 g i o xs us c.2 h)
-    lingers_lowers p q (Some v) g i (Ready None ∷ o) xs us c h = absurd (endless v c.0 c.1)
-    lingers_lowers p q (Some v) g i (Ready (Some y) ∷ o) xs us c h =
-        let e = lingers_lowers p q None g i o xs us (subst (λ k. Lingers call asks p k i o q g) (once v y c.0 c.1) c.2) h in
-        at_most_below (held_rank xs g) (held_rank {V = V} us None) (held_rank us (Some v)) (Lowers-at_most o (held_rank xs g) (held_rank {V = V} us None) e) (held_below us us v (inl refl))
-    lingers_lowers p q None g [] (b ∷ o) xs us c h = absurd c
-    lingers_lowers p q None g (Pending ∷ i) (b ∷ o) xs us c h = rw c.0 (lingers_lowers p q None g i o xs us c.1 h)
-    lingers_lowers p q None g (Ready None ∷ i) (b ∷ o) xs us c h = rw c.0 (lingers_lowers p q None g i o xs us c.1 h)
-    lingers_lowers p q None g (Ready (Some x) ∷ i) (b ∷ o) xs us c h = Lowers-below (b ∷ o) (held_rank xs g) (held_rank {V = V} us None) (Below-first xs us (count_held g ∷ []) (0 ∷ []) h refl)
-
-    -- where items came out, only items came in, and nothing is held after the last
-    lingers_items : (p q : F) (f g : Option V) (i : List (Answer A)) (l : List B) → Lingers call asks p f i (items l) q g → (before : List A) × (i ≡ items before)
-    lingers_items p q f g i [] c = ([], c.0)
-    lingers_items p q (Some v) g i (y ∷ l) c = lingers_items p q c.0 g i l c.2
-    lingers_items p q None g [] (y ∷ l) c = absurd c
-    lingers_items p q None g (Pending ∷ i) (y ∷ l) c = absurd (cc c.0)
-    lingers_items p q None g (Ready None ∷ i) (y ∷ l) c = absurd (cc c.0)
-    lingers_items p q None g (Ready (Some x) ∷ i) (y ∷ l) c = let e = lingers_items c.1 q c.2 g i l c.5 in (x ∷ e.0, ap (λ k. item x ∷ k) e.1)
-
-    -- with nothing held and nothing coming in, nothing goes out
-    lingers_none : (p q : F) (g : Option V) (l : List B) → Lingers call asks p None [] (items l) q g → g ≡ None
-    lingers_none p q g [] c = c.2
-    lingers_none p q g (y ∷ l) c = absurd c
-
-    fall : (p q : F) (f g : Option V) (i : List (Answer A)) (y : B) (l : List B) (xs us : List ℕ)
-        → ((a : A) (before : List A) → i ≡ items (a ∷ before) → Below xs us) → (i ≡ [] → xs ≡ us) → Lingers call asks p f i (items (y ∷ l)) q g → (before : List A) → i ≡ items before → Below (held_rank xs g) (held_rank us f)
-    fall p q f g i y l xs us falls same c (x ∷ before) e = Below-first xs us (count_held g ∷ []) (count_held f ∷ []) (falls x before e) refl
-    fall p q None g i y l xs us falls same c [] e = absurd (subst (λ k. Lingers call asks p None k (items (y ∷ l)) q g) e c)
-    fall p q (Some v) g i y l xs us falls same c [] e =
-        let d = subst (λ k. Lingers call asks p k i (items l) q g) (once v y c.0 c.1) c.2 in
-        rw (lingers_none p q g l (subst (λ k. Lingers call asks p None k (items l) q g) e d)) (held_below xs us v (inl (same e)))
-
-    pub lingers_falls : (p q : F) (f g : Option V) (i : List (Answer A)) (y : B) (l : List B) (xs us : List ℕ)
-        → ((a : A) (before : List A) → i ≡ items (a ∷ before) → Below xs us) → (i ≡ [] → xs ≡ us) → Lingers call asks p f i (items (y ∷ l)) q g → Below (held_rank xs g) (held_rank us f)
-    lingers_falls p q f g i y l xs us falls same c =
-        let e = lingers_items p q f g i (y ∷ l) c in
-        fall p q f g i y l xs us falls same c e.0 e.1

@@ -1,17 +1,52 @@
+-- Laws of items that are replaced by the lists of futures.
 use Rattle.std.specs.Prelude.{IfSome, cond, nat_lt}
-use Rattle.std.proofs.Common.{◌≡◌, ℕ, ◌+◌, ◌-◌, ◌^◌, ◌≤◌, List, Option, Some, None, Bool, true, false, arith}
+use Rattle.std.proofs.Common.{◌≡◌, ℕ, ◌+◌, ◌-◌, ◌^◌, ◌≤◌, List, [], ◌∷◌, ◌++◌, Option, Some, None, Bool, true, false, map, refl, subst, arith}
 use Rattle.futures.specs.declared.task.Poll.{Poll}
-use Rattle.lite_base.specs.Answers.{item}
-use Rattle.futures.specs.declared.task.Poll.TheVariants.{Ready}
-use Rattle.lite_flatten.specs.Then.{Polls, one_more_at_most, then_hint}
-use Rattle.lite_flatten.specs.Laws.Lingering.{count_held}
+use Rattle.futures.specs.declared.task.Poll.TheVariants.{Ready, Pending}
+use Rattle.lite_base.specs.Answers.{Answer, Gives, Waiting, item}
+use Rattle.lite_base.specs.Future.Handed.{handed}
+use Rattle.lite_base.specs.FutureLaws.{FutureLaws}
+use Rattle.lite_base.specs.Laws.Future.Spent.{shown_gives, spends_follow, spends_rest, spends_stay}
+use Rattle.lite_base.specs.Laws.Hint.{same_hint}
+use Rattle.lite_base.specs.StreamLaws.{StreamLaws}
+use Rattle.lite_flatten.specs.Laws.Lingering.{Giving, GivingOne, count_held, lingering_bounded, lingering_following}
+use Rattle.lite_flatten.specs.Then.{HandsOut, Thens, one_more_at_most, then_hint, then_parts}
+use Rattle.lite_flatten.specs.declared.then.Then.{Then}
+use Rattle.lite_stream.specs.Laws.Through.{laws_bounded}
 
-module _ {V B : Type 0} (gives : V → List (Poll B) → V → Type 0) where
-  pub polls_once : (v : V) (y : B) (next : Option V) → Polls gives v (item y) next → next ≡ None
-  polls_once v y next h = h.2
+module _ {B : Type 0} where
+  handed_waiting : (l : List (Poll B)) → Waiting l → Waiting (map (handed Some) l)
+  handed_waiting [] w = tt
+  handed_waiting (Pending ∷ l) w = handed_waiting l w
+  handed_waiting (Ready x ∷ l) w = absurd w
 
-  pub polls_endless : (v : V) (next : Option V) → Polls gives v (Ready None) next → ⊥
-  polls_endless v next h = h
+  handed_gives : (l : List (Poll B)) (x : B) → Gives l x → Gives (map (handed Some) l ++ []) (Some x)
+  handed_gives [] x h = absurd h
+  handed_gives (Pending ∷ l) x h = handed_gives l x h
+  handed_gives (Ready y ∷ l) x h = rw (h.0, h.1) (refl, refl)
+
+module _ {V B : Type 0} {run : V → List (Poll B) → V → Type 0} where
+  hands_giving : FutureLaws run → Giving (HandsOut run)
+  hands_giving laws =
+      record {
+        rests = λ v. spends_rest (handed Some) (λ after. after ≡ []) laws refl (Some v);
+        stays = λ v w h. cc (spends_stay (handed Some) (λ after. after ≡ []) laws (Some v) (Some w) h);
+        answers = λ v h. shown_gives (handed Some) h.ins h.after h.value h.joined h.finishes.gives;
+        joins = λ v w next l m. spends_follow (handed Some) (λ after. after ≡ []) laws (λ j k e d. rw (e, d) refl) (Some v) (Some w) next l m;
+      }
+
+  pub hands_one : GivingOne (HandsOut run)
+  hands_one =
+      record { waits = λ v w l h. rw h.3 (handed_waiting h.0 h.1); hands = λ v l h. (h.value, rw (h.joined, h.later) (handed_gives h.ins h.value h.finishes.gives)) }
+
+-- one poll of a future
+module _ {V B : Type 0} (run : V → List (Poll B) → V → Type 0) where
+  pub hands_pending : (v w : V) (a : Poll B) → a ≡ Pending → run v (a ∷ []) w → HandsOut run v (Pending ∷ []) (Some w)
+  hands_pending v w a is came = (Pending ∷ [], tt, subst (λ c. run v (c ∷ []) w) is came, refl)
+
+  pub hands_value : (v w : V) (a : Poll B) (y : B) → a ≡ Ready y → run v (a ∷ []) w → HandsOut run v (item y ∷ []) None
+  hands_value v w a y is came =
+      record { ins = Ready y ∷ []; value = y; finishes = record { gives = (refl, refl); last = w; came = subst (λ c. run v (c ∷ []) w) is came }; after = []; later = refl; joined = refl }
 
 bounded_if : (b : Bool) (k n : ℕ) → k ≤ n + 1 → IfSome (cond b (Some (n + 1)) None) (λ most. k ≤ most)
 bounded_if true k n h = h
@@ -25,6 +60,14 @@ bounded_some : (most : Option ℕ) (k n : ℕ) → k ≤ n + 1 → IfSome most (
 bounded_some None k n h b = tt
 bounded_some (Some m) k n h b = bounded_if (nat_lt m (2 ^ 64 - 1)) k m (omega (arith, h, b))
 
-pub then_bounded : {V : Type 0} (held : Option V) (hint : ℕ × Option ℕ) (k n : ℕ) → k ≤ n + count_held held → IfSome hint.1 (λ most. n ≤ most) → IfSome (then_hint held hint).1 (λ most. k ≤ most)
+then_bounded : {V : Type 0} (held : Option V) (hint : ℕ × Option ℕ) (k n : ℕ) → k ≤ n + count_held held → IfSome hint.1 (λ most. n ≤ most) → IfSome (then_hint held hint).1 (λ most. k ≤ most)
 then_bounded None hint k n h b = bounded_none hint.1 k n h b
 then_bounded (Some v) hint k n h b = bounded_some hint.1 k n h b
+
+pub then_laws : {S F V A B : Type 0} (call : F → A → V → F → Type 0) {gives : V → List (Poll B) → V → Type 0} {run : S → List (Answer A) → S → Type 0} {hints : S → ℕ × Option ℕ → Type 0} → StreamLaws run hints → FutureLaws gives
+    → StreamLaws (Thens run call gives) (λ (m : Then S F V) hint. (inner : ℕ × Option ℕ) × hints m.stream inner × (hint ≡ then_hint m.future inner))
+then_laws call {gives = gives} laws laws' =
+    laws_bounded then_parts laws (lingering_following call (HandsOut gives) (hands_giving laws'))
+    (λ x y hint l e h.
+    let fewer = lingering_bounded call (HandsOut gives) hands_one (x.f, x.future) (y.f, y.future) h.ins l h.turned in
+    same_hint hint (then_hint x.future e.0) l e.2 (then_bounded x.future e.0 _ _ fewer (laws.bounded x.stream y.stream e.0 h.ins e.1 h.came)))

@@ -1,0 +1,108 @@
+-- Laws of references that are replaced by clones.
+use Rattle.std.specs.Prelude.{Result, Ok}
+use Rattle.std.proofs.Common.{◌≡◌, ◌∙◌, ◌⊎◌, ℕ, List, [], ◌∷◌, ◌++◌, Option, Some, None, inl, inr, refl, ap, sym, subst, append_assoc}
+use Rattle.futures.specs.declared.task.Poll.TheVariants.{Ready, Pending}
+use denote.Ref.{Bor}
+use Rattle.lite_base.specs.Answers.{Answer, end, item}
+use Rattle.lite_base.specs.OkRanks.{OkCounting, all_ok, ok_counting_by}
+use Rattle.lite_base.specs.Ranks.{Counting, Ranks}
+use Rattle.lite_base.specs.StreamLaws.{StreamLaws}
+use Rattle.lite_flatten.specs.Cloned.{Clones, ClonesAll, Refers, Refuses, cloned_parts}
+use Rattle.lite_flatten.specs.Laws.Lingering.{Giving, GivingOne, held_counting, held_ranks, lingering_following}
+use Rattle.lite_flatten.specs.Lingering.{HeldOn, Lingering, Lingers, Replaced}
+use Rattle.lite_stream.specs.Laws.Through.{laws_following}
+
+module _ {T E : Type 0} (is_clone : T → T → Type 0) (is_infallible : T → Type 0) where
+  refuses_both : (x : Bor T) (l m : List (Answer (Result T E))) → Refuses is_clone is_infallible x l → Refuses is_clone is_infallible x m → Refuses is_clone is_infallible x (l ++ m)
+  refuses_both x [] m h k = k
+  refuses_both x (a ∷ l) m h k = (h.0, refuses_both x l m h.1 k)
+
+  nothing : (refused : List (Answer (Result T E))) (b : Answer (Result T E)) → [] ≡ refused ++ b ∷ [] → ⊥
+  nothing [] b e = cc e
+  nothing (a ∷ refused) b e = cc e
+
+  clones_join : (x y : Bor T) (next : Option (Bor T)) (l m : List (Answer (Result T E))) → Clones is_clone is_infallible x l (Some y) → Clones is_clone is_infallible y m next → Clones is_clone is_infallible x (l ++ m) next
+  clones_join x y (Some z) l m h k = let d = subst (λ v. Clones is_clone is_infallible v m (Some z)) h.1 k in (refuses_both x l m h.0 d.0, d.1)
+  clones_join x y None l m h k =
+      let d = subst (λ v. Clones is_clone is_infallible v m None) h.1 k in
+      (l ++ d.0, d.1, refuses_both x l d.0 h.0 d.2, d.3, ap (λ n. l ++ n) d.4 ∙ sym (append_assoc l d.0 (item (Ok d.1) ∷ [])))
+
+  clones_giving : Giving (Clones {E = E} is_clone is_infallible)
+  clones_giving = record { rests = λ x. (tt, refl); stays = λ x y h. h.1; answers = λ x h. nothing h.0 (item (Ok h.1)) h.4; joins = clones_join }
+
+  pub cloned_laws : {S : Type 0} {run : S → List (Answer (Bor T)) → S → Type 0} {hints : S → ℕ × Option ℕ → Type 0} → StreamLaws run hints → StreamLaws (ClonesAll {E = E} is_clone is_infallible run) (λ m hint. hint ≡ (0, None))
+  cloned_laws laws = laws_following cloned_parts laws (lingering_following Refers (Clones is_clone is_infallible) clones_giving)
+
+-- a clone that is not refused
+abbrev Copies : {T : Type 0} → Bor T → List (Answer T) → Option (Bor T) → Type 0
+Copies x out (Some y) = (out ≡ []) × (y ≡ x)
+Copies {T} x out None = (copy : T) × (out ≡ item copy ∷ [])
+
+copies_one : {T : Type 0} → GivingOne (Copies {T = T})
+copies_one = record { waits = λ x y l h. rw h.0 tt; hands = λ x l h. (h.0, rw h.1 (refl, refl)) }
+
+module _ {T : Type 0} (E : Type 0) (is_clone : T → T → Type 0) (is_infallible : T → Type 0) where
+  -- among Ok items and answers that are no items
+  no_refusal : (x : Bor T) (l : List (Answer T)) (a : Answer (Result T E)) (refused rest : List (Answer (Result T E))) → all_ok l ≡ a ∷ rest → Refuses is_clone is_infallible x (a ∷ refused) → ⊥
+  no_refusal x [] a refused rest e h = cc e
+  no_refusal x (Pending ∷ l) a refused rest e h = let d = h.0.2 in cc
+  no_refusal x (Ready None ∷ l) a refused rest e h = let d = h.0.2 in cc
+  no_refusal x (Ready (Some y) ∷ l) a refused rest e h = let d = h.0.2 in cc
+
+  one_copy : (l : List (Answer T)) (copy : T) (rest : List (Answer (Result T E))) → all_ok l ≡ item (Ok copy) ∷ rest → (m : List (Answer T)) × (l ≡ item copy ∷ m) × (rest ≡ all_ok m)
+  one_copy [] copy rest e = absurd (cc e)
+  one_copy (Pending ∷ l) copy rest e = absurd (cc e)
+  one_copy (Ready None ∷ l) copy rest e = absurd (cc e)
+  one_copy (Ready (Some y) ∷ l) copy rest e = let same : y ≡ copy = cc e in (l, ap (λ z. item z ∷ l) same, cc e)
+
+  unrefused_copy : (x : Bor T) (l : List (Answer T)) (refused rest : List (Answer (Result T E))) (copy : T) → all_ok l ≡ (refused ++ item (Ok copy) ∷ []) ++ rest → Refuses is_clone is_infallible x refused → (m : List (Answer T)) × (l ≡ item copy ∷ m) × (rest ≡ all_ok m)
+  unrefused_copy x l [] rest copy e h = one_copy l copy rest e
+  unrefused_copy x l (a ∷ refused) rest copy e h = absurd (no_refusal x l a refused ((refused ++ item (Ok copy) ∷ []) ++ rest) e h)
+
+  none_refused : (x : Bor T) (l : List (Answer T)) → Refuses {E = E} is_clone is_infallible x (all_ok l) → l ≡ []
+  none_refused x [] h = refl
+  none_refused x (Pending ∷ l) h = absurd (cc h.0.2)
+  none_refused x (Ready None ∷ l) h = absurd (cc h.0.2)
+  none_refused x (Ready (Some y) ∷ l) h = absurd (cc h.0.2)
+
+  module _ (p q : Unit {0}) (v : Bor T) (f : Option (Bor T)) (i : List (Answer (Bor T))) (l : List (Answer T)) (rest : (m : List (Answer T)) → Lingers Refers (Clones {E = E} is_clone is_infallible) p i (all_ok m) q f → Lingers Refers Copies p i m q f) where
+    held_unrefused : HeldOn Refers (Clones {E = E} is_clone is_infallible) p v i (all_ok l) q f ⊎ Replaced Refers (Clones is_clone is_infallible) v (Lingers Refers (Clones {E = E} is_clone is_infallible) p i) (all_ok l) q f
+        → HeldOn Refers Copies p v i l q f ⊎ Replaced Refers Copies v (Lingers Refers Copies p i) l q f
+    held_unrefused (inl c) = inl (c.0, c.1, c.2, (none_refused v l c.3.0, c.3.1), c.4)
+    held_unrefused (inr c) =
+        let own = c.3 in
+        let d = unrefused_copy v l own.0 c.1 own.1 (c.2 ∙ ap (λ n. n ++ c.1) own.4) own.2 in
+        inr (item own.1 ∷ [], d.0, d.1, (own.1, refl), rest d.0 (subst (λ n. Lingers Refers (Clones is_clone is_infallible) p i n q f) d.2 c.4))
+
+  unrefused : (p q : Unit {0}) (f : Option (Bor T)) (i : List (Answer (Bor T))) (l : List (Answer T)) → Lingers Refers (Clones {E = E} is_clone is_infallible) p i (all_ok l) q f → Lingers Refers Copies p i l q f
+  unrefused p q f [] [] c = c
+  unrefused p q f [] (Pending ∷ l) c = absurd c
+  unrefused p q f [] (Ready None ∷ l) c = absurd c
+  unrefused p q f [] (Ready (Some y) ∷ l) c = absurd c
+  unrefused p q f (a ∷ i) [] c = absurd c
+  unrefused p q f (Pending ∷ i) (Pending ∷ l) c = (refl, unrefused p q f i l c.1)
+  unrefused p q f (Pending ∷ i) (Ready None ∷ l) c = absurd (cc c.0)
+  unrefused p q f (Pending ∷ i) (Ready (Some y) ∷ l) c = absurd (cc c.0)
+  unrefused p q f (Ready None ∷ i) (Pending ∷ l) c = absurd (cc c.0)
+  unrefused p q f (Ready None ∷ i) (Ready None ∷ l) c = (refl, unrefused p q f i l c.1)
+  unrefused p q f (Ready None ∷ i) (Ready (Some y) ∷ l) c = absurd (cc c.0)
+  unrefused p q f (Ready (Some x) ∷ i) (Pending ∷ l) c = (c.0, c.1, c.2, held_unrefused c.1 q c.0 f i (Pending ∷ l) (λ m k. unrefused c.1 q f i m k) c.3)
+  unrefused p q f (Ready (Some x) ∷ i) (Ready None ∷ l) c = (c.0, c.1, c.2, held_unrefused c.1 q c.0 f i (end ∷ l) (λ m k. unrefused c.1 q f i m k) c.3)
+  unrefused p q f (Ready (Some x) ∷ i) (Ready (Some y) ∷ l) c = (c.0, c.1, c.2, held_unrefused c.1 q c.0 f i (item y ∷ l) (λ m k. unrefused c.1 q f i m k) c.3)
+
+  lingering_unrefused : (f g : Option (Bor T)) (i : List (Answer (Bor T))) (l : List (Answer T)) → Lingering Refers (Clones {E = E} is_clone is_infallible) (tt, f) i (all_ok l) (tt, g) → Lingering Refers Copies (tt, f) i l (tt, g)
+  lingering_unrefused None g i l c = unrefused tt tt g i l c
+  lingering_unrefused (Some v) g i l c = held_unrefused tt tt v g i l (λ m k. unrefused tt tt g i m k) c
+
+-- the rank falls with each clone; a refusal keeps it
+pub cloned_ok_counting : {T E : Type 0} (is_clone : T → T → Type 0) (is_infallible : T → Type 0) {S : Type 0} {run : S → List (Answer (Bor T)) → S → Type 0} {hints : S → ℕ × Option ℕ → Type 0} {r : Ranks S} → StreamLaws run hints → Counting run r
+    → OkCounting (ClonesAll {E = E} is_clone is_infallible run) (held_ranks cloned_parts r)
+cloned_ok_counting {E = E} is_clone is_infallible laws c =
+    ok_counting_by
+    (λ x y l h. record { ins = h.ins; came = h.came; turned = lingering_unrefused E is_clone is_infallible x.held y.held h.ins l h.turned })
+    (held_counting cloned_parts {call = Refers} laws c copies_one)
+    (λ x y l k h. c.counts_on x.stream y.stream h.ins k h.came) (λ x y l k h. c.firm_on x.stream y.stream h.ins k h.came)
+
+-- one poll in which a clone was made
+pub gives_copy : {T E : Type 0} (is_clone : T → T → Type 0) (is_infallible : T → Type 0) (x : Bor T) (copy : T) → is_clone x.now copy → Clones {E = E} is_clone is_infallible x (item (Ok copy) ∷ []) None
+gives_copy is_clone is_infallible x copy h = ([], copy, tt, h, refl)
