@@ -1,12 +1,14 @@
 -- `then`: each item is replaced by the list of the future that the function makes of it, its value as an item.
 use Rattle.std.specs.Prelude.{◌≡◌, ℕ, ◌+◌, ◌-◌, ◌^◌, min, List, [], Option, Some, None, IfSome, cond, nat_lt}
-use Rattle.std.specs.Fn.{Mut, AlwaysReturns}
+use Rattle.std.specs.Fn.{Mut, Called}
 use Rattle.futures.specs.declared.task.Poll.{Poll}
 use Rattle.lite_base.specs.Answers.{Answer}
 use Rattle.lite_base.specs.Future.Handed.{handed}
 use Rattle.lite_base.specs.Future.Spent.{Spends}
 use Rattle.lite_flatten.specs.Lingering.{Lingering}
 use Rattle.lite_flatten.specs.declared.then.Then.{Then}
+use Rattle.lite_stream.specs.Calling.{Calls}
+use Rattle.lite_stream.specs.EachItem.{AtEachItem}
 use Rattle.lite_stream.specs.Through.{Parts, Through}
 
 -- the future's list, its value as an item, and nothing after that
@@ -19,9 +21,13 @@ Thens run call run' x l y = Through run (Lingering call (HandsOut run')) x.strea
 abbrev pub then_parts : {S F V : Type 0} → Parts (Then S F V) S (F × Option V)
 then_parts = record { source = λ m. m.stream; held = λ m. (m.f, m.future); same = λ x y e d. λ i. record { stream = e i; future = (d i).1; f = (d i).0 } }
 
--- a poll may be made: the stream may be polled, the function may be called, and each future that it makes may be polled
-abbrev pub CanThen : {S F V X : Type 0} → (S → Type 0) → (F → Type 0) → Mut F X V → (V → Type 0) → Then S F V → Type 0
-CanThen can_poll callable g can_poll' x = can_poll x.stream × callable x.f × AlwaysReturns g (λ a v. can_poll' v) x.f × IfSome x.future can_poll'
+-- the function may be called with each item that the stream may still give, and what it makes of it has the fact
+abbrev pub MakesEach : {S F V A : Type 0} → (S → List (Answer A) → S → Type 0) → Mut F (A × Unit {0}) V → (V → Type 0) → S → F → Type 0
+MakesEach {F = F} {V = V} run g Fact = AtEachItem run (Calls g) (λ p x. g.pre p (x, tt) × ((v : V) (q : F) → Called g p (x, tt) v q → Fact v))
+
+-- a poll may be made: the stream may be polled, and each future that the function makes, or that is held
+abbrev pub CanThen : {S F V : Type 0} → (S → Type 0) → (S → F → Type 0) → (V → Type 0) → Then S F V → Type 0
+CanThen can_poll makes can_poll' x = can_poll x.stream × makes x.stream x.f × IfSome x.future can_poll'
 
 -- one more, where that fits
 abbrev pub one_more : ℕ → Option ℕ

@@ -2,7 +2,7 @@ ghost use Rattle.std.specs.Prelude.{Option, ℕ, ◌≡◌};
 ghost use Rattle.lite_flatten.specs.HeldLeaves.{HeldLeaves};
 ghost use Rattle.lite_flatten.specs.Laws.Lingering.{held_counting, held_ranks};
 ghost use Rattle.lite_flatten.specs.Laws.Then.{hands_one, then_laws};
-ghost use Rattle.lite_flatten.specs.Then.{CanThen, Thens, then_hint, then_parts};
+ghost use Rattle.lite_flatten.specs.Then.{CanThen, MakesEach, Thens, then_hint, then_parts};
 ghost use Rattle.lite_stream.specs.Calling.{Calls};
 
 use lite_base::{Context, Counted, Future, Poll, Stream, ready};
@@ -21,7 +21,7 @@ pub struct Then<S, F, Fut> {
 impl<S: Stream, F: FnMut(S::Item) -> Fut, Fut: Future + Drop> Stream for Then<S, F, Fut> {
     type Item = Fut::Output;
 
-    ghost can_poll = { CanThen S.can_poll F.IsAlwaysCallable F.FnMut Fut.can_poll };
+    ghost can_poll = { CanThen S.can_poll (MakesEach S.run F.FnMut Fut.can_poll) Fut.can_poll };
 
     ghost run = { Thens S.run (Calls F.FnMut) Fut.run };
 
@@ -31,6 +31,7 @@ impl<S: Stream, F: FnMut(S::Item) -> Fut, Fut: Future + Drop> Stream for Then<S,
 
     ghost laws = { then_laws (Calls F.FnMut) S.laws Fut.laws };
 
+    #[tactic(auto, using(lite_stream::specs::Laws::EachItem::each_rules))]
     fn poll_next(&mut self, cx: &mut Context<'_>) -> Poll<Option<Fut::Output>> {
         match &mut self.future {
             Some(future) => {
