@@ -59,8 +59,8 @@ pub fn hundredths(
     requires { EachItem (λ x. 0 < x) script }
     ensures { (l : List (Answer _)) × (out.new.items ≡ out.old.items ++ l) × IfOk result (λ _. length l ≡ polls) × EachItem (λ y. 2 ≤ y) l }
 {
-    let mut nest = script
+    let mut quotients = script
         .map(|x: u8| requires { 0 < x } { 100 / x })
         .filter(|y: &u8| *y >= 2);
-    laws::run(&mut nest, cx, polls, out)
+    laws::run(&mut quotients, cx, polls, out)
 }

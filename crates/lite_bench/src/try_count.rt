@@ -1,7 +1,6 @@
 //! A loop over `Ok` items, as a caller's own poll makes it.
-ghost use Rattle.std.specs.Prelude.{[], ◌∷◌, ◌++◌, ◌+◌, ◌%◌, ◌^◌, List, length};
+ghost use Rattle.std.specs.Prelude.{◌≡◌, []};
 ghost use Rattle.futures.specs.Task.{Keeps};
-ghost use Rattle.lite_base.specs.Answers.{Answer};
 ghost use Rattle.lite_base.specs.Ends.{Ends-map};
 ghost use Rattle.lite_bench.specs.TryCount.{Counted, TryTurns};
 

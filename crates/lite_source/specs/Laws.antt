@@ -1,10 +1,12 @@
 pub mod Always
 pub mod Empty
-pub mod Handed
+pub mod Folds
 pub mod Iter
 pub mod Once
 pub mod OnceFuture
 pub mod Pending
 pub mod Repeat
 pub mod Script
+pub mod TryUnfold
+pub mod Unfold
 pub mod Unfolding

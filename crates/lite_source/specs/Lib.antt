@@ -1,12 +1,10 @@
 pub mod Always
 pub mod Empty
-pub mod Handed
 pub mod Iter
 pub mod Laws
 pub mod Once
 pub mod OnceFuture
 pub mod Pending
-pub mod PollFn
 pub mod Repeat
 pub mod RepeatWith
 pub mod Script

@@ -5,4 +5,4 @@ use Rattle.lite_base.specs.Answers.{Answer}
 use Rattle.lite_source.specs.Always.{Always}
 
 abbrev pub Waits : {S A : Type 0} → S → List (Answer A) → S → Type 0
-Waits = Always (λ a. a ≡ Pending)
+Waits = Always (λ _ a. a ≡ Pending)

@@ -1,7 +1,16 @@
--- `repeat`: each answer is an item, its own or a refusal for memory.
-use Rattle.std.specs.Prelude.{◌≡◌, ◌⊎◌, List, Result, Ok, Err}
-use Rattle.lite_base.specs.Answers.{Answer, item}
+-- `repeat`: each answer is an item, a clone of its own item or a refusal of one that may be refused.
+use Rattle.std.specs.Prelude.{List, Some, None, Result, MatchResult}
+use Rattle.futures.specs.declared.task.Poll.TheVariants.{Ready, Pending}
+use Rattle.lite_base.specs.Answers.{Answer}
 use Rattle.lite_source.specs.Always.{Always}
+use Rattle.lite_source.specs.declared.repeat.Repeat.{Repeat}
 
-abbrev pub Repeats : {S A E : Type 0} → A → S → List (Answer (Result A E)) → S → Type 0
-Repeats {E = E} own = Always (λ a. (a ≡ item (Ok own)) ⊎ ((refused : E) × (a ≡ item (Err refused))))
+module _ {A E : Type 0} (is_clone : A → A → Type 0) (is_infallible : A → Type 0) where
+  -- an item that a clone of `own` may give
+  abbrev pub IsCloned : A → Answer (Result A E) → Type 0
+  IsCloned own (Ready (Some r)) = MatchResult r (is_clone own) (λ _. ¬ (is_infallible own))
+  IsCloned own (Ready None) = ⊥
+  IsCloned own Pending = ⊥
+
+  abbrev pub Repeats : Repeat A → List (Answer (Result A E)) → Repeat A → Type 0
+  Repeats = Always (λ x. IsCloned x.item)

@@ -1,13 +1,14 @@
 -- What `unfold` and `try_unfold` share: a function makes a future of each seed, and the future's value says what goes out, and which seed comes next.
-use Rattle.std.specs.Prelude.{◌≡◌, ⊤, List, ◌∷◌, map, flat_map, Option, Some, None}
+use Rattle.std.specs.Prelude.{◌≡◌, ◌⊎◌, ⊤, List, [], ◌∷◌, map, flat_map, Option, Some, None}
 use Rattle.std.specs.Fn.{Mut, Called}
 use Rattle.std.specs.List.{FoldsTo}
 use Rattle.futures.specs.declared.task.Poll.{Poll}
+use Rattle.futures.specs.declared.task.Poll.TheVariants.{Ready, Pending}
 use Rattle.futures.specs.Task.{Lasting}
 use Rattle.lite_base.specs.Answers.{Answer, Waiting}
 use Rattle.lite_base.specs.Future.Finishes.{Finishes}
 use Rattle.lite_source.specs.Empty.{Ends}
-use Rattle.lite_source.specs.Handed.{handed}
+use Rattle.lite_base.specs.Future.Handed.{handed}
 use Rattle.lite_source.specs.declared.unfolding.Unfolding.{Unfolding}
 use Rattle.lite_source.specs.declared.unfolding.Unfolding.TheVariants.{Seed, Asked, Over}
 
@@ -23,27 +24,43 @@ UnfoldLeaves leaves (Asked v) fact = leaves v fact
 UnfoldLeaves leaves (Seed s) fact = ⊥
 UnfoldLeaves leaves Over fact = ⊥
 
--- a seed becomes the future that the function makes of it
-abbrev pub Starts : {F S V : Type 0} → Mut F (S × Unit {0}) V → F → Unfolding S V → F → Unfolding S V → Type 0
-Starts {V = V} call p (Seed s) q next = (v : V) × Called call p (s, tt) v q × (next ≡ Asked v)
-Starts call p (Asked v) q next = (q ≡ p) × (next ≡ Asked v)
-Starts call p Over q next = (q ≡ p) × (next ≡ Over)
+module _ {F S V : Type 0} (call : Mut F (S × Unit {0}) V) where
+  -- v is the future that is held, or that the function makes of the seed
+  abbrev pub IsCurrent : F → Unfolding S V → F → V → Type 0
+  IsCurrent p (Seed s) q v = Called call p (s, tt) v q
+  IsCurrent p (Asked w) q v = (v ≡ w) × (q ≡ p)
+  IsCurrent p Over q v = ⊥
 
--- of the value o of a future, `shown o` goes out, and `after o` is the next seed; None ends it for ever
-module _ {F S V O B : Type 0} (call : Mut F (S × Unit {0}) V) (gives : V → List (Poll O) → V → Type 0) (after : O → Option S) (shown : O → Option B) where
-  -- the future v gave ins: it is still pending, or its value says what comes next
-  abbrev pub Leads : V → List (Poll O) → Unfolding S V → Type 0
-  Leads v ins (Asked w) = Waiting ins × gives v ins w
-  Leads v ins (Seed s) = (o : O) × Finishes gives v ins o × (after o ≡ Some s)
-  Leads v ins Over = (o : O) × Finishes gives v ins o × (after o ≡ None)
+  -- the future is made, if there is a seed
+  abbrev pub Starts : F → Unfolding S V → F → Unfolding S V → Type 0
+  Starts p x q (Asked v) = IsCurrent p x q v
+  Starts p x q Over = (x ≡ Over) × (q ≡ p)
+  Starts p x q (Seed s) = ⊥
 
-  -- the answers of one future; and where it is over, ends
-  abbrev pub Part : F → Unfolding S V → List (Answer B) → F → Unfolding S V → Type 0
-  Part p (Asked v) out q next = (ins : List (Poll O)) × Leads v ins next × (out ≡ map (handed shown) ins) × (q ≡ p)
-  Part p (Seed s) out q next = (v : V) × (ins : List (Poll O)) × Called call p (s, tt) v q × Leads v ins next × (out ≡ map (handed shown) ins)
-  Part p Over out q next = Ends Over out next × (q ≡ p)
+-- what comes after a value: the next seed, or the end
+abbrev pub comes : {S V : Type 0} → Option S → Unfolding S V
+comes None = Over
+comes (Some s) = Seed s
 
-  -- the parts one after the other, each of at least one answer
-  abbrev pub Unfolds : F × Unfolding S V → List (Answer B) → F × Unfolding S V → Type 0
-  Unfolds x out y = (parts : List (Answer B × List (Answer B))) × FoldsTo (λ s part t. Part s.0 s.1 (part.0 ∷ part.1) t.0 t.1) x parts y
-      × (out ≡ flat_map (λ part. part.0 ∷ part.1) parts)
+module _ {F S V O : Type 0} (call : Mut F (S × Unit {0}) V) (gives : V → List (Poll O) → V → Type 0) where
+  -- one poll of the future; a value leaves nothing, and None comes where there is no future
+  abbrev pub Asks : F → Unfolding S V → Poll (Option O) → F → Unfolding S V → Type 0
+  Asks p x Pending q next = (v w : V) × IsCurrent call p x q v × gives v (Pending ∷ []) w × (next ≡ Asked w)
+  Asks p x (Ready (Some o)) q next = (v : V) × IsCurrent call p x q v × Finishes gives v (Ready o ∷ []) o × (next ≡ Over)
+  Asks p x (Ready None) q next = (x ≡ Over) × (q ≡ p) × (next ≡ Over)
+
+  -- of the value o of a future, `shown o` goes out, and `after o` is the next seed; None ends it for ever
+  module _ {B : Type 0} (after : O → Option S) (shown : O → Option B) where
+    -- the future v gave ins: it is still pending, or its value says what comes next
+    abbrev pub Leads : V → List (Poll O) → Unfolding S V → Type 0
+    Leads v ins next = ((w : V) × Waiting ins × gives v ins w × (next ≡ Asked w)) ⊎ ((o : O) × Finishes gives v ins o × (next ≡ comes (after o)))
+
+    -- the answers of one future; and where it is over, ends
+    abbrev pub Part : F → Unfolding S V → List (Answer B) → F → Unfolding S V → Type 0
+    Part p x out q next = ((v : V) × (ins : List (Poll O)) × IsCurrent call p x q v × Leads v ins next × (out ≡ map (handed shown) ins))
+        ⊎ ((x ≡ Over) × (q ≡ p) × Ends Over out next)
+
+    -- the parts one after the other, each of at least one answer
+    abbrev pub Unfolds : F × Unfolding S V → List (Answer B) → F × Unfolding S V → Type 0
+    Unfolds x out y = (parts : List (Answer B × List (Answer B))) × FoldsTo (λ s part t. Part s.0 s.1 (part.0 ∷ part.1) t.0 t.1) x parts y
+        × (out ≡ flat_map (λ part. part.0 ∷ part.1) parts)

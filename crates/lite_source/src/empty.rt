@@ -1,10 +1,10 @@
-ghost use Rattle.std.specs.Prelude.{◌≡◌, [], None, Some, refl};
-ghost use Rattle.lite_base.specs.Answers.{items};
-ghost use Rattle.lite_base.specs.Laws.Hint.{same_hint};
+ghost use Rattle.std.specs.Prelude.{◌≡◌, Some};
+ghost use Rattle.lite_base.specs.OkRanks.{ok_counting};
+ghost use Rattle.lite_source.specs.Always.{no_ranks};
 ghost use Rattle.lite_source.specs.Empty.{Ends};
-ghost use Rattle.lite_source.specs.Laws.Empty.{empty_falls, empty_follows, empty_has_no_item, empty_lowers};
+ghost use Rattle.lite_source.specs.Laws.Empty.{empty_counting, empty_laws};
 
-use lite_base::{Context, Counted, Poll, Stream};
+use lite_base::{Context, Counted, OkCounted, Poll, Stream};
 use std::marker::PhantomData;
 
 /// Ends for ever.
@@ -22,13 +22,7 @@ impl<T> Stream for Empty<T> {
 
     ghost hints = { λ x hint. hint ≡ (0, Some 0) };
 
-    ghost rests = { λ x. (tt, refl) };
-
-    ghost stays = { λ x y h. h.1 };
-
-    ghost follows = { empty_follows };
-
-    ghost bounded = { λ x y hint l e h. same_hint hint (0, Some 0) l e (empty_has_no_item x y l h) };
+    ghost laws = { empty_laws };
 
     fn poll_next(&mut self, _cx: &mut Context<'_>) -> Poll<Option<T>> {
         Poll::Ready(None)
@@ -40,17 +34,17 @@ impl<T> Stream for Empty<T> {
 }
 
 impl<T> Counted for Empty<T> {
-    ghost width = { 0 };
+    ghost ranks = { no_ranks };
 
-    ghost rank = { λ x. [] };
+    ghost counting = { empty_counting };
+}
 
-    ghost sized = { λ x. refl };
+impl<T, E> OkCounted for Empty<Result<T, E>> {
+    type Ok = T;
 
-    ghost counts_on = { λ x y l c h. tt };
+    type Err = E;
 
-    ghost firm_on = { λ x y l c h. tt };
+    ghost ok_ranks = { no_ranks };
 
-    ghost falls = { λ x y a more c. empty_falls x y a more };
-
-    ghost lowers = { λ x y l c. empty_lowers x y l };
+    ghost ok_counting = { ok_counting empty_counting };
 }

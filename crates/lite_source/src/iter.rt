@@ -1,11 +1,8 @@
-ghost use Rattle.std.specs.Prelude.{◌≡◌, ℕ, [], ◌∷◌, refl};
-ghost use Rattle.std.specs.Iterator.{IsFinite, size};
-ghost use Rattle.std.proofs.Common.{ap, sym};
-ghost use Rattle.lite_base.specs.Laws.Future.Calls.{folds_follow};
-ghost use Rattle.lite_source.specs.Iter.{AlwaysNext, IterHints, Iterates, NeverRaised, Nexts};
-ghost use Rattle.lite_source.specs.Laws.Iter.{finite_on, iter_bounded, iter_falls, iter_lowers, never_on};
+ghost use Rattle.lite_base.specs.OkRanks.{ok_counting};
+ghost use Rattle.lite_source.specs.Iter.{AlwaysNext, IterHints, Iterates, iter_ranks};
+ghost use Rattle.lite_source.specs.Laws.Iter.{iter_counting, iter_laws};
 
-use lite_base::{Context, Counted, Poll, Stream};
+use lite_base::{Context, Counted, OkCounted, Poll, Stream};
 
 /// Gives what an iterator answers, one call of `next` a poll.
 ///
@@ -25,13 +22,7 @@ impl<I: Iterator> Stream for Iter<I> {
 
     ghost hints = { λ x. IterHints (I.remaining x.iter) };
 
-    ghost rests = { λ x. refl };
-
-    ghost stays = { λ x y h. ap (λ v. record x { iter = v }) (sym h) };
-
-    ghost follows = { λ x y z. folds_follow (Nexts I.can_next I.next_gives I.remaining) x.iter y.iter z.iter };
-
-    ghost bounded = { λ x y hint l e. iter_bounded I.can_next I.next_gives I.remaining x.iter y.iter hint.1 l e.1 };
+    ghost laws = { iter_laws I.can_next I.next_gives I.remaining };
 
     fn poll_next(&mut self, _cx: &mut Context<'_>) -> Poll<Option<I::Item>> {
         Poll::Ready(self.iter.next())
@@ -43,21 +34,17 @@ impl<I: Iterator> Stream for Iter<I> {
 }
 
 impl<I: Iterator> Counted for Iter<I> {
-    ghost width = { 1 };
+    ghost ranks = { iter_ranks I.can_next I.next_gives I.remaining };
 
-    ghost rank = { λ x. size (I.remaining x.iter) ∷ [] };
+    ghost counting = { iter_counting I.can_next I.next_gives I.remaining };
+}
 
-    ghost counts = { λ x. IsFinite (I.remaining x.iter) };
+impl<T, E, I: Iterator<Item = Result<T, E>>> OkCounted for Iter<I> {
+    type Ok = T;
 
-    ghost firm = { λ x. IsFinite (I.remaining x.iter) × NeverRaised I.can_next I.next_gives I.remaining x.iter };
+    type Err = E;
 
-    ghost sized = { λ x. refl };
+    ghost ok_ranks = { iter_ranks I.can_next I.next_gives I.remaining };
 
-    ghost counts_on = { λ x y l. finite_on I.can_next I.next_gives I.remaining x.iter y.iter l };
-
-    ghost firm_on = { λ x y l f h. (finite_on I.can_next I.next_gives I.remaining x.iter y.iter l f.0 h, never_on I.can_next I.next_gives I.remaining x.iter y.iter l f.1 h) };
-
-    ghost falls = { λ x y. iter_falls I.can_next I.next_gives I.remaining x.iter y.iter };
-
-    ghost lowers = { λ x y l f. iter_lowers I.can_next I.next_gives I.remaining x.iter y.iter l f.0 f.1 };
+    ghost ok_counting = { ok_counting (iter_counting I.can_next I.next_gives I.remaining) };
 }

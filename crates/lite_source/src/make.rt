@@ -17,14 +17,15 @@ use crate::unfolding::Unfolding;
 use lite_base::{Context, Future, Poll};
 use std::marker::PhantomData;
 
-/// A stream that ends for ever. Ported from `src/stream.rs`, `empty`.
+/// A stream that ends at each poll. Ported from `src/stream.rs`, `empty`.
 pub fn empty<T>() -> Empty<T>
     ensures { result ≡ record { item = record {} } }
 {
     Empty { item: PhantomData }
 }
 
-/// A stream that gives what the iterator of `iter` answers. Ported from `src/stream.rs`, `iter`.
+/// A stream that gives what the iterator of `iter` answers, one call of `next` a poll. A poll asks that `next` may be
+/// called, now and after any calls. Ported from `src/stream.rs`, `iter`.
 pub fn iter<I: IntoIterator>(iter: I) -> Iter<I::IntoIter>
     ensures { I.into_iter_gives iter result.iter }
 {
@@ -40,7 +41,8 @@ pub fn once<T>(t: T) -> Once<T>
     Once { value: Some(t) }
 }
 
-/// A stream that gives the value of `future`, and then ends for ever. Ported from `src/stream.rs`, `once_future`.
+/// A stream that gives the value of `future`, and then ends for ever. A poll asks that the future may be polled. Ported
+/// from `src/stream.rs`, `once_future`.
 pub fn once_future<F: Future>(future: F) -> OnceFuture<F>
     ensures { result ≡ record { future = Some future } }
 {
@@ -56,7 +58,8 @@ pub fn pending<T>() -> Pending<T>
     Pending { item: PhantomData }
 }
 
-/// A stream whose polls call `poll_fn` and hand on what it answers. Ported from `src/stream.rs`, `poll_fn`.
+/// A stream that calls `f` at each poll, and hands on what it answers. A poll asks that `f` may be called with any
+/// context, and keeps what the context holds. Ported from `src/stream.rs`, `poll_fn`.
 pub fn poll_fn<T, F>(f: F) -> PollFn<F>
 where
     F: FnMut(&mut Context<'_>) -> Poll<Option<T>>,
@@ -65,15 +68,16 @@ where
     PollFn { f }
 }
 
-/// A stream that gives clones of `item`, one a poll, for ever. Ported from `src/stream.rs`, `repeat`.
+/// A stream that gives clones of `item`, one a poll, for ever. A clone that is refused for want of memory is the item
+/// `Err(AllocError)`. Ported from `src/stream.rs`, `repeat`.
 pub fn repeat<T: Clone>(item: T) -> Repeat<T>
     ensures { result ≡ record { item = item } }
 {
     Repeat { item }
 }
 
-/// A stream that gives what `repeater` answers, one call a poll, for ever. Ported from `src/stream.rs`,
-/// `repeat_with`.
+/// A stream that gives what `repeater` answers, one call a poll, for ever. A poll asks that `repeater` may always be
+/// called. Ported from `src/stream.rs`, `repeat_with`.
 pub fn repeat_with<T, F>(repeater: F) -> RepeatWith<F>
 where
     F: FnMut() -> T,
@@ -92,7 +96,8 @@ pub fn script<T>(answers: Vec<Poll<Option<T>>>) -> Script<T>
 }
 
 /// A stream that gives the items of the futures that `f` makes, the first of `init` and each later one of what the
-/// value before it left, up to an error, which is its last item. Ported from `src/stream.rs`, `try_unfold`.
+/// value before it left, up to `Ok(None)` or an error, which is its last item. A poll asks that `f` may always be called
+/// and makes futures that may be polled. Ported from `src/stream.rs`, `try_unfold`.
 pub fn try_unfold<T, E, F, Fut, Item>(init: T, f: F) -> TryUnfold<T, F, Fut>
 where
     F: FnMut(T) -> Fut,
@@ -106,7 +111,8 @@ where
 }
 
 /// A stream that gives the items of the futures that `f` makes, the first of `seed` and each later one of what the
-/// value before it left. Ported from `src/stream.rs`, `unfold`.
+/// value before it left, up to `None`. A poll asks that `f` may always be called and makes futures that may be polled.
+/// Ported from `src/stream.rs`, `unfold`.
 pub fn unfold<T, F, Fut, Item>(seed: T, f: F) -> Unfold<T, F, Fut>
 where
     F: FnMut(T) -> Fut,

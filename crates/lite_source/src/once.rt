@@ -1,10 +1,9 @@
-ghost use Rattle.std.specs.Prelude.{◌≡◌, ℕ, [], ◌∷◌, Some, length, refl};
-ghost use Rattle.lite_base.specs.Answers.{items};
-ghost use Rattle.lite_base.specs.Laws.Hint.{same_hint};
-ghost use Rattle.lite_source.specs.Once.{GivesOnce, held};
-ghost use Rattle.lite_source.specs.Laws.Once.{once_bounded, once_follows, once_lowers, once_stays};
+ghost use Rattle.std.specs.Prelude.{◌≡◌, Some, length};
+ghost use Rattle.lite_base.specs.OkRanks.{ok_counting};
+ghost use Rattle.lite_source.specs.Laws.Once.{once_counting, once_laws};
+ghost use Rattle.lite_source.specs.Once.{GivesOnce, held, once_ranks};
 
-use lite_base::{Context, Counted, Poll, Stream};
+use lite_base::{Context, Counted, OkCounted, Poll, Stream};
 
 /// Gives one item, and then ends for ever.
 ///
@@ -21,13 +20,7 @@ impl<T> Stream for Once<T> {
 
     ghost hints = { λ x hint. hint ≡ (length (held x.value), Some (length (held x.value))) };
 
-    ghost rests = { λ x. refl };
-
-    ghost stays = { once_stays };
-
-    ghost follows = { once_follows };
-
-    ghost bounded = { λ x y hint l e h. same_hint hint (length (held x.value), Some (length (held x.value))) l e (once_bounded x y l h) };
+    ghost laws = { once_laws };
 
     fn poll_next(&mut self, _cx: &mut Context<'_>) -> Poll<Option<T>> {
         Poll::Ready(self.value.take())
@@ -43,17 +36,17 @@ impl<T> Stream for Once<T> {
 }
 
 impl<T> Counted for Once<T> {
-    ghost width = { 1 };
+    ghost ranks = { once_ranks };
 
-    ghost rank = { λ x. length (held x.value) ∷ [] };
+    ghost counting = { once_counting };
+}
 
-    ghost sized = { λ x. refl };
+impl<T, E> OkCounted for Once<Result<T, E>> {
+    type Ok = T;
 
-    ghost counts_on = { λ x y l c h. tt };
+    type Err = E;
 
-    ghost firm_on = { λ x y l c h. tt };
+    ghost ok_ranks = { once_ranks };
 
-    ghost falls = { λ x y a more c. once_lowers x y (items (a ∷ more)) };
-
-    ghost lowers = { λ x y l c. once_lowers x y l };
+    ghost ok_counting = { ok_counting once_counting };
 }

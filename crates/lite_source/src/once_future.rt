@@ -1,10 +1,9 @@
-ghost use Rattle.std.specs.Prelude.{◌≡◌, ℕ, [], ◌∷◌, None, IfSome, refl};
-ghost use Rattle.lite_base.specs.Answers.{items};
-ghost use Rattle.lite_base.specs.Laws.Hint.{same_hint};
-ghost use Rattle.lite_source.specs.OnceFuture.{GivesFuture, OnceLeaves};
-ghost use Rattle.lite_source.specs.Laws.OnceFuture.{count_futures, once_future_follows, once_future_lowers, once_future_rests, once_future_stays};
+ghost use Rattle.std.specs.Prelude.{◌≡◌, IfSome, None, Some};
+ghost use Rattle.lite_base.specs.OkRanks.{ok_counting};
+ghost use Rattle.lite_source.specs.Laws.OnceFuture.{once_future_counting, once_future_laws};
+ghost use Rattle.lite_source.specs.OnceFuture.{GivesFuture, once_future_ranks};
 
-use lite_base::{Context, Counted, Future, Poll, Stream, ready};
+use lite_base::{Context, Counted, Future, OkCounted, Poll, Stream, ready};
 
 /// Gives the value of a future, and then ends for ever.
 ///
@@ -22,17 +21,11 @@ impl<F: Future + Drop> Stream for OnceFuture<F> {
 
     ghost run = { GivesFuture F.run };
 
-    ghost leaves = { OnceLeaves F.leaves };
+    ghost leaves = { λ x fact. (f : F) × (x.future ≡ Some f) × F.leaves f fact };
 
     ghost hints = { λ x hint. hint ≡ (0, None) };
 
-    ghost rests = { once_future_rests F.run F.rests };
-
-    ghost stays = { once_future_stays F.run F.stays };
-
-    ghost follows = { once_future_follows F.run F.follows };
-
-    ghost bounded = { λ x y hint l e h. same_hint hint (0, None) l e tt };
+    ghost laws = { once_future_laws F.run F.laws };
 
     fn poll_next(&mut self, cx: &mut Context<'_>) -> Poll<Option<F::Output>> {
         let Some(future) = &mut self.future else {
@@ -49,17 +42,17 @@ impl<F: Future + Drop> Stream for OnceFuture<F> {
 }
 
 impl<F: Future + Drop> Counted for OnceFuture<F> {
-    ghost width = { 1 };
+    ghost ranks = { once_future_ranks };
 
-    ghost rank = { λ x. count_futures x.future ∷ [] };
+    ghost counting = { once_future_counting F.run };
+}
 
-    ghost sized = { λ x. refl };
+impl<T, E, F: Future<Output = Result<T, E>> + Drop> OkCounted for OnceFuture<F> {
+    type Ok = T;
 
-    ghost counts_on = { λ x y l c h. tt };
+    type Err = E;
 
-    ghost firm_on = { λ x y l c h. tt };
+    ghost ok_ranks = { once_future_ranks };
 
-    ghost falls = { λ x y a more c. once_future_lowers F.run x y (items (a ∷ more)) };
-
-    ghost lowers = { λ x y l c. once_future_lowers F.run x y l };
+    ghost ok_counting = { ok_counting (once_future_counting F.run) };
 }

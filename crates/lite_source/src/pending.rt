@@ -1,10 +1,10 @@
-ghost use Rattle.std.specs.Prelude.{◌≡◌, [], None, Some, refl};
-ghost use Rattle.lite_base.specs.Answers.{items};
-ghost use Rattle.lite_base.specs.Laws.Hint.{same_hint};
+ghost use Rattle.std.specs.Prelude.{◌≡◌, Some};
+ghost use Rattle.lite_base.specs.OkRanks.{ok_counting};
+ghost use Rattle.lite_source.specs.Always.{no_ranks};
+ghost use Rattle.lite_source.specs.Laws.Pending.{pending_counting, pending_laws};
 ghost use Rattle.lite_source.specs.Pending.{Waits};
-ghost use Rattle.lite_source.specs.Laws.Pending.{pending_falls, pending_follows, pending_has_no_item, pending_lowers};
 
-use lite_base::{Context, Counted, Poll, Stream};
+use lite_base::{Context, Counted, OkCounted, Poll, Stream};
 use std::marker::PhantomData;
 
 /// Is pending for ever. It does not see to being polled again.
@@ -22,13 +22,7 @@ impl<T> Stream for Pending<T> {
 
     ghost hints = { λ x hint. hint ≡ (0, Some 0) };
 
-    ghost rests = { λ x. (tt, refl) };
-
-    ghost stays = { λ x y h. h.1 };
-
-    ghost follows = { pending_follows };
-
-    ghost bounded = { λ x y hint l e h. same_hint hint (0, Some 0) l e (pending_has_no_item x y l h) };
+    ghost laws = { pending_laws };
 
     fn poll_next(&mut self, _cx: &mut Context<'_>) -> Poll<Option<T>> {
         Poll::Pending
@@ -40,17 +34,17 @@ impl<T> Stream for Pending<T> {
 }
 
 impl<T> Counted for Pending<T> {
-    ghost width = { 0 };
+    ghost ranks = { no_ranks };
 
-    ghost rank = { λ x. [] };
+    ghost counting = { pending_counting };
+}
 
-    ghost sized = { λ x. refl };
+impl<T, E> OkCounted for Pending<Result<T, E>> {
+    type Ok = T;
 
-    ghost counts_on = { λ x y l c h. tt };
+    type Err = E;
 
-    ghost firm_on = { λ x y l c h. tt };
+    ghost ok_ranks = { no_ranks };
 
-    ghost falls = { λ x y a more c. pending_falls x y a more };
-
-    ghost lowers = { λ x y l c. pending_lowers x y l };
+    ghost ok_counting = { ok_counting pending_counting };
 }

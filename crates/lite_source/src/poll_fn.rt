@@ -1,9 +1,8 @@
-ghost use Rattle.std.specs.Prelude.{◌≡◌, None, refl};
-ghost use Rattle.std.proofs.Common.{ap, sym};
-ghost use Rattle.lite_base.specs.Future.Calls.{Answers, Leaves};
-ghost use Rattle.lite_base.specs.Laws.Future.Calls.{folds_follow};
-ghost use Rattle.lite_base.specs.Laws.Hint.{same_hint};
-ghost use Rattle.lite_source.specs.PollFn.{AlwaysObeys, Polls};
+ghost use Rattle.std.specs.Prelude.{◌≡◌, ⊤, None};
+ghost use Rattle.std.specs.List.{FoldsTo};
+ghost use Rattle.std.proofs.Common.{ap};
+ghost use Rattle.lite_base.specs.Future.Calls.{AlwaysObeys, Answers, Leaves};
+ghost use Rattle.lite_source.specs.Laws.Folds.{folds_laws};
 
 use lite_base::{Context, Poll, Stream};
 
@@ -18,21 +17,15 @@ pub struct PollFn<F> {
 impl<T, F: FnMut(&mut Context<'_>) -> Poll<Option<T>>> Stream for PollFn<F> {
     type Item = T;
 
-    ghost can_poll = { λ x. AlwaysObeys F.FnMut x.f };
+    ghost can_poll = { λ x. AlwaysObeys F.FnMut (λ _. ⊤) x.f };
 
-    ghost run = { λ x l y. Polls F.FnMut x.f l y.f };
+    ghost run = { λ x l y. FoldsTo (Answers F.FnMut) x.f l y.f };
 
     ghost leaves = { λ x. Leaves F.FnMut x.f };
 
     ghost hints = { λ x hint. hint ≡ (0, None) };
 
-    ghost rests = { λ x. refl };
-
-    ghost stays = { λ x y h. ap (λ v. record x { f = v }) (sym h) };
-
-    ghost follows = { λ x y z. folds_follow (Answers F.FnMut) x.f y.f z.f };
-
-    ghost bounded = { λ x y hint l e h. same_hint hint (0, None) l e tt };
+    ghost laws = { folds_laws (λ x. x.f) (Answers F.FnMut) (λ x y. ap (λ v. record x { f = v })) 0 };
 
     fn poll_next(&mut self, cx: &mut Context<'_>) -> Poll<Option<T>> {
         (self.f)(cx)

@@ -1,18 +1,18 @@
-ghost use Rattle.std.specs.Prelude.{◌≡◌, ℕ, List, [], ◌∷◌, IfOk, None, Some, length, refl};
+ghost use Rattle.std.specs.Prelude.{◌≡◌, IfOk, List, None, length};
 ghost use Rattle.std.specs.List.{AllZip};
-ghost use Rattle.lite_base.specs.Answers.{items};
-ghost use Rattle.lite_base.specs.Laws.Hint.{same_hint};
+ghost use Rattle.lite_base.specs.OkRanks.{ok_counting};
+ghost use Rattle.lite_base.specs.Ranks.{number_counting, number_ranks};
+ghost use Rattle.lite_source.specs.Laws.Script.{gives_lowers, script_laws};
 ghost use Rattle.lite_source.specs.Script.{Gives, IsCloneBy};
-ghost use Rattle.lite_source.specs.Laws.Script.{gives_bounded, gives_follow, gives_lowers};
 
-use lite_base::{Context, Counted, Poll, Stream};
+use lite_base::{Context, Counted, OkCounted, Poll, Stream};
 use std::alloc::AllocError;
 use std::marker::Model;
 
 /// Gives its answers in order, and then ends for ever. A contract sees it as the list of answers that are left.
 ///
 /// Made by [`script`](crate::make::script). The original has no such type.
-#[derive(Drop)]
+#[derive(Debug, Drop)]
 pub struct Script<T> {
     // The next answer stands last, so that a poll takes it without moving the others.
     answers: Vec<Poll<Option<T>>>,
@@ -65,13 +65,7 @@ impl<T> Stream for Script<T> {
 
     ghost hints = { λ x hint. hint ≡ (0, None) };
 
-    ghost rests = { λ x. refl };
-
-    ghost stays = { λ x y h. h };
-
-    ghost follows = { gives_follow };
-
-    ghost bounded = { λ x y hint l e h. same_hint hint (0, None) l e tt };
+    ghost laws = { script_laws };
 
     fn poll_next(&mut self, _cx: &mut Context<'_>) -> Poll<Option<T>> {
         match self.answers.pop() {
@@ -86,17 +80,17 @@ impl<T> Stream for Script<T> {
 }
 
 impl<T> Counted for Script<T> {
-    ghost width = { 1 };
+    ghost ranks = { number_ranks length };
 
-    ghost rank = { λ x. length x ∷ [] };
+    ghost counting = { number_counting gives_lowers };
+}
 
-    ghost sized = { λ x. refl };
+impl<T, E> OkCounted for Script<Result<T, E>> {
+    type Ok = T;
 
-    ghost counts_on = { λ x y l c h. tt };
+    type Err = E;
 
-    ghost firm_on = { λ x y l c h. tt };
+    ghost ok_ranks = { number_ranks length };
 
-    ghost falls = { λ x y a more c h. gives_lowers x y (items (a ∷ more)) h };
-
-    ghost lowers = { λ x y l c h. gives_lowers x y l h };
+    ghost ok_counting = { ok_counting (number_counting gives_lowers) };
 }

@@ -1,9 +1,8 @@
 ghost use Rattle.std.specs.Prelude.{◌≡◌, None};
 ghost use Rattle.std.specs.Fn.{AlwaysReturns};
-ghost use Rattle.lite_base.specs.Laws.Hint.{same_hint};
-ghost use Rattle.lite_source.specs.TryUnfold.{TryUnfoldsBy, try_item_of, try_seed_of};
+ghost use Rattle.lite_source.specs.TryUnfold.{TryUnfoldsBy};
 ghost use Rattle.lite_source.specs.Unfolding.{IfAsked, UnfoldLeaves};
-ghost use Rattle.lite_source.specs.Laws.Unfolding.{unfolds_follow, unfolds_rest, unfolds_stay};
+ghost use Rattle.lite_source.specs.Laws.TryUnfold.{try_unfold_laws};
 
 use crate::unfolding::Unfolding;
 use lite_base::{Context, Future, Poll, Stream, ready};
@@ -35,32 +34,18 @@ where
 
     ghost hints = { λ x hint. hint ≡ (0, None) };
 
-    ghost rests = { λ x. unfolds_rest F.FnMut Fut.run try_seed_of try_item_of (x.f, x.state) };
+    ghost laws = { try_unfold_laws F.FnMut Fut.run };
 
-    ghost stays = { λ x y h. let e = unfolds_stay F.FnMut Fut.run try_seed_of try_item_of (x.f, x.state) (y.f, y.state) h in λ i. record { f = (e i).0; state = (e i).1 } };
-
-    ghost follows = { λ x y z. unfolds_follow F.FnMut Fut.run try_seed_of try_item_of (x.f, x.state) (y.f, y.state) (z.f, z.state) };
-
-    ghost bounded = { λ x y hint l e h. same_hint hint (0, None) l e tt };
-
+    #[tactic(auto, using(crate::specs::Laws::Unfolding::unfolds_rules))]
     fn poll_next(&mut self, cx: &mut Context<'_>) -> Poll<Option<Result<Item, E>>> {
-        self.state.start(&mut self.f);
-        let Unfolding::Asked(future) = &mut self.state else {
-            return Poll::Ready(None);
-        };
-        match ready!(future.poll(cx)) {
-            Ok(Some((item, seed))) => {
+        match ready!(self.state.poll(&mut self.f, cx)) {
+            Some(Ok(Some((item, seed)))) => {
                 self.state = Unfolding::Seed(seed);
                 Poll::Ready(Some(Ok(item)))
             }
-            Ok(None) => {
-                self.state = Unfolding::Over;
-                Poll::Ready(None)
-            }
-            Err(error) => {
-                self.state = Unfolding::Over;
-                Poll::Ready(Some(Err(error)))
-            }
+            Some(Ok(None)) => Poll::Ready(None),
+            Some(Err(error)) => Poll::Ready(Some(Err(error))),
+            None => Poll::Ready(None),
         }
     }
 

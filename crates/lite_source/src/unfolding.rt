@@ -1,5 +1,9 @@
-ghost use Rattle.lite_source.specs.Unfolding.{Starts};
+ghost use Rattle.std.specs.Fn.{AlwaysReturns};
+ghost use Rattle.futures.specs.Poll.{OnPending};
+ghost use Rattle.futures.specs.Task.{Holds, Keeps, Lasting};
+ghost use Rattle.lite_source.specs.Unfolding.{Asks, IfAsked, Starts, UnfoldLeaves};
 
+use lite_base::{Context, Future, Poll, ready};
 use std::mem;
 
 /// What an unfolding stream holds between two polls.
@@ -13,12 +17,16 @@ pub enum Unfolding<T, Fut> {
     Over,
 }
 
-impl<T: Drop, Fut: Drop> Unfolding<T, Fut> {
+impl<T: Drop, Fut: Future + Drop> Unfolding<T, Fut> {
     /// Makes the future, where there is a seed.
-    pub(crate) fn start<F: FnMut(T) -> Fut>(&mut self, f: &mut F)
-        requires { F.IsAlwaysCallable f.old }
+    fn start<F: FnMut(T) -> Fut>(&mut self, f: &mut F)
+        requires callable { F.IsAlwaysCallable f.old }
+        requires makes { AlwaysReturns F.FnMut (λ s v. Fut.can_poll v) f.old }
+        requires asked { IfAsked self.old Fut.can_poll }
         ensures started { Starts F.FnMut f.old self.old f.new self.new }
-        ensures again { F.IsAlwaysCallable f.new }
+        ensures callable { F.IsAlwaysCallable f.new }
+        ensures makes { AlwaysReturns F.FnMut (λ s v. Fut.can_poll v) f.new }
+        ensures asked { IfAsked self.new Fut.can_poll }
     {
         if !matches!(self, Unfolding::Seed(_)) {
             return;
@@ -26,5 +34,31 @@ impl<T: Drop, Fut: Drop> Unfolding<T, Fut> {
         if let Unfolding::Seed(seed) = mem::replace(self, Unfolding::Over) {
             *self = Unfolding::Asked(f(seed));
         }
+    }
+
+    /// Polls the future, which `f` makes where there is a seed, and lets it go once it is ready. `Ready(None)` says that
+    /// there is none.
+    pub(crate) fn poll<F: FnMut(T) -> Fut>(
+        &mut self,
+        f: &mut F,
+        cx: &mut Context<'_>,
+    ) -> Poll<Option<Fut::Output>>
+        requires callable { F.IsAlwaysCallable f.old }
+        requires makes { AlwaysReturns F.FnMut (λ s v. Fut.can_poll v) f.old }
+        requires asked { IfAsked self.old Fut.can_poll }
+        ensures ran { Asks F.FnMut Fut.run f.old self.old result f.new self.new }
+        ensures callable { F.IsAlwaysCallable f.new }
+        ensures makes { AlwaysReturns F.FnMut (λ s v. Fut.can_poll v) f.new }
+        ensures asked { IfAsked self.new Fut.can_poll }
+        ensures left { OnPending result ((fact : Lasting) → UnfoldLeaves Fut.leaves self.new fact → Holds cx.new fact) }
+        ensures kept { Keeps cx.old cx.new }
+    {
+        self.start(f);
+        let Unfolding::Asked(future) = self else {
+            return Poll::Ready(None);
+        };
+        let value = ready!(future.poll(cx));
+        *self = Unfolding::Over;
+        Poll::Ready(Some(value))
     }
 }

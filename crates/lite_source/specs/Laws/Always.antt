@@ -1,21 +1,23 @@
-use Rattle.std.proofs.Common.{◌≤◌, ◌∙◌, ℕ, List, [], ◌∷◌, ◌++◌, Some, None, arith}
+-- Laws of sources that never change.
+use Rattle.std.proofs.Common.{◌≡◌, ◌≤◌, ◌∙◌, ℕ, List, [], ◌∷◌, ◌++◌, Option, Some, None, refl, inl, subst, arith}
+use Rattle.std.specs.Prelude.{IfSome}
 use Rattle.std.specs.List.{AllByRecursion}
 use Rattle.futures.specs.declared.task.Poll.TheVariants.{Ready, Pending}
 use Rattle.lite_base.specs.Answers.{Answer, before_end, item}
+use Rattle.lite_base.specs.Laws.Hint.{same_hint}
 use Rattle.lite_base.specs.Rank.{AtMost, Lowers}
-use Rattle.lite_source.specs.Always.{Always}
+use Rattle.lite_base.specs.Ranks.{Counting}
+use Rattle.lite_base.specs.StreamLaws.{StreamLaws}
+use Rattle.lite_source.specs.Always.{Always, no_ranks}
 
 module _ {A : Type 0} (may : Answer A → Type 0) where
   pub all_append : (l m : List (Answer A)) → AllByRecursion may l → AllByRecursion may m → AllByRecursion may (l ++ m)
   all_append [] m h k = k
   all_append (a ∷ l) m h k = (h.0, all_append l m h.1 k)
 
-  pub always_follow : {S : Type 0} (x y z : S) (l m : List (Answer A)) → Always may x l y → Always may y m z → Always may x (l ++ m) z
-  always_follow x y z l m h k = (all_append l m h.0 k.0, k.1 ∙ h.1)
-
   -- where no item may come
   module _ (none : (x : A) → may (item x) → ⊥) where
-    pub no_items : (l : List (Answer A)) → AllByRecursion may l → before_end l ≤ 0
+    no_items : (l : List (Answer A)) → AllByRecursion may l → before_end l ≤ 0
     no_items [] h = omega arith
     no_items (Pending ∷ l) h = no_items l h.1
     no_items (Ready None ∷ l) h = omega arith
@@ -26,3 +28,26 @@ module _ {A : Type 0} (may : Answer A → Type 0) where
     no_items_lower (Pending ∷ l) xs ys h e = no_items_lower l xs ys h.1 e
     no_items_lower (Ready None ∷ l) xs ys h e = no_items_lower l xs ys h.1 e
     no_items_lower (Ready (Some x) ∷ l) xs ys h e = absurd (none x h.0)
+
+module _ {S A : Type 0} (may : S → Answer A → Type 0) where
+  always_follow : (x y z : S) (l m : List (Answer A)) → Always may x l y → Always may y m z → Always may x (l ++ m) z
+  always_follow x y z l m h k = (all_append (may x) l m h.0 (subst (λ s. AllByRecursion (may s) m) h.1 k.0), k.1 ∙ h.1)
+
+  -- its hint is `known`, which bounds the items that may come
+  pub always_laws : (known : ℕ × Option ℕ) → ((x : S) (l : List (Answer A)) → AllByRecursion (may x) l → IfSome known.1 (λ most. before_end l ≤ most)) → StreamLaws (Always may) (λ x hint. hint ≡ known)
+  always_laws known bound = record { rests = λ x. (tt, refl); stays = λ x y h. h.1; follows = always_follow; bounded = λ x y hint l e h. same_hint hint known l e (bound x l h.0) }
+
+  -- where no item may come, the hint is that none does, and there is nothing to count
+  module _ (none : (s : S) (x : A) → may s (item x) → ⊥) where
+    pub itemless_laws : StreamLaws (Always may) (λ x hint. hint ≡ (0, Some 0))
+    itemless_laws = always_laws (0, Some 0) (λ x. no_items (may x) (none x))
+
+    pub itemless_counting : Counting (Always may) no_ranks
+    itemless_counting =
+        record {
+          sized = λ x. refl;
+          counts_on = λ x y l c h. tt;
+          firm_on = λ x y l c h. tt;
+          falls = λ x y a more c h. absurd (none x a h.0.0);
+          lowers = λ x y l c h. no_items_lower (may x) (none x) l [] [] h.0 (inl refl);
+        }

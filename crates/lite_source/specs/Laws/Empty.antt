@@ -1,18 +1,15 @@
-use Rattle.std.proofs.Common.{◌≡◌, ◌≤◌, List, [], ◌∷◌, ◌++◌, refl, inl}
-use Rattle.lite_base.specs.Answers.{Answer, before_end, end, items}
-use Rattle.lite_base.specs.Rank.{Below, Lowers}
+-- Laws of `empty`.
+use Rattle.std.proofs.Common.{◌≡◌, Some}
+use Rattle.lite_base.specs.Answers.{end}
+use Rattle.lite_base.specs.Ranks.{Counting}
+use Rattle.lite_base.specs.StreamLaws.{StreamLaws}
+use Rattle.lite_source.specs.Always.{no_ranks}
 use Rattle.lite_source.specs.Empty.{Ends}
-use Rattle.lite_source.specs.Laws.Always.{always_follow, no_items, no_items_lower}
+use Rattle.lite_source.specs.Laws.Always.{itemless_counting, itemless_laws}
 
 module _ {S A : Type 0} where
-  pub empty_follows : (x y z : S) (l m : List (Answer A)) → Ends x l y → Ends y m z → Ends x (l ++ m) z
-  empty_follows = always_follow (λ a. a ≡ end)
+  pub empty_laws : StreamLaws (Ends {S = S} {A = A}) (λ x hint. hint ≡ (0, Some 0))
+  empty_laws = itemless_laws (λ _ a. a ≡ end) (λ s x e. cc e)
 
-  pub empty_has_no_item : (x y : S) (l : List (Answer A)) → Ends x l y → before_end l ≤ 0
-  empty_has_no_item x y l h = no_items (λ a. a ≡ end) (λ x e. cc e) l h.0
-
-  pub empty_lowers : (x y : S) (l : List (Answer A)) → Ends x l y → Lowers l [] []
-  empty_lowers x y l h = no_items_lower (λ a. a ≡ end) (λ x e. cc e) l [] [] h.0 (inl refl)
-
-  pub empty_falls : (x y : S) (a : A) (more : List A) → Ends x (items (a ∷ more)) y → Below [] []
-  empty_falls x y a more h = absurd (cc (h.0.0))
+  pub empty_counting : Counting (Ends {S = S} {A = A}) no_ranks
+  empty_counting = itemless_counting (λ _ a. a ≡ end) (λ s x e. cc e)

@@ -1,14 +1,17 @@
 -- Laws of `iter`.
 use Rattle.std.specs.Prelude.{IfSome}
-use Rattle.std.proofs.Common.{◌≤◌, ◌<◌, ℕ, List, [], ◌∷◌, ◌++◌, Option, Some, None, refl, ap, subst, arith, inl, inr}
+use Rattle.std.proofs.Common.{◌≤◌, ◌<◌, sym, ℕ, List, [], ◌∷◌, ◌++◌, Option, Some, None, refl, ap, subst, arith, inl, inr}
 use Rattle.std.proofs.Math.Nat.{eq-or-lt_of_le}
 use Rattle.std.specs.Iterator.{Count, IsFinite, MakesProgress, UpTo, size}
 use Rattle.futures.specs.declared.task.Poll.TheVariants.{Ready, Pending}
 use Rattle.lite_base.specs.Answers.{Answer, before_end, items}
 use Rattle.lite_base.specs.Falling.{Below-one, Lowers-at_most}
-use Rattle.lite_base.specs.Laws.Future.Calls.{folds_follow}
+use Rattle.lite_base.specs.Laws.Calls.{folds_follow}
 use Rattle.lite_base.specs.Rank.{AtMost, Below, Lowers}
-use Rattle.lite_source.specs.Iter.{AlwaysNext, Iterates, NeverRaised, Nexts}
+use Rattle.lite_base.specs.Ranks.{Counting}
+use Rattle.lite_base.specs.StreamLaws.{StreamLaws}
+use Rattle.lite_source.specs.Iter.{AlwaysNext, IterHints, Iterates, NeverRaised, Nexts, iter_ranks}
+use Rattle.lite_source.specs.declared.iter.Iter.{Iter}
 
 up_to : (most : Option ℕ) (count : Count) (n : ℕ) → (IsFinite count → n ≤ size count) → IfSome most (UpTo count) → IfSome most (λ m. n ≤ m)
 up_to None count n h b = tt
@@ -22,14 +25,14 @@ module _ {I A : Type 0} (can : I → Type 0) (gives : I → Option A → I → T
   pub always_on : (i j : I) (a : Answer A) → AlwaysNext can gives remaining i → Nexts can gives remaining i a j → AlwaysNext can gives remaining j
   always_on i j a h c = record { at = λ l k d. h.at (a ∷ l) k (j, c, d) }
 
-  pub never_on : (i j : I) (l : List (Answer A)) → NeverRaised can gives remaining i → Iterates can gives remaining i l j → NeverRaised can gives remaining j
+  never_on : (i j : I) (l : List (Answer A)) → NeverRaised can gives remaining i → Iterates can gives remaining i l j → NeverRaised can gives remaining j
   never_on i j l h c = record { at = λ m k n d e. h.at (l ++ m) k n (folds_follow (Nexts can gives remaining) i j k l m c d) e }
 
   finite_next : (i j : I) (r : Option A) → MakesProgress can remaining i r j → IsFinite (remaining i) → IsFinite (remaining j)
   finite_next i j None m f = m.rests f
   finite_next i j (Some x) m f = (m.on f).1
 
-  pub finite_on : (i j : I) (l : List (Answer A)) → IsFinite (remaining i) → Iterates can gives remaining i l j → IsFinite (remaining j)
+  finite_on : (i j : I) (l : List (Answer A)) → IsFinite (remaining i) → Iterates can gives remaining i l j → IsFinite (remaining j)
   finite_on i j [] f h = subst (λ k. IsFinite (remaining k)) h f
   finite_on i j (Pending ∷ l) f h = absurd h.1
   finite_on i j (Ready r ∷ l) f h = finite_on h.0 j l (finite_next i h.0 r h.1.1 f) h.2
@@ -44,7 +47,7 @@ module _ {I A : Type 0} (can : I → Type 0) (gives : I → Option A → I → T
       let e = no_more h.0 j l h.2 on.1 in
       omega arith
 
-  pub iter_bounded : (i j : I) (most : Option ℕ) (l : List (Answer A)) → IfSome most (UpTo (remaining i)) → Iterates can gives remaining i l j → IfSome most (λ m. before_end l ≤ m)
+  iter_bounded : (i j : I) (most : Option ℕ) (l : List (Answer A)) → IfSome most (UpTo (remaining i)) → Iterates can gives remaining i l j → IfSome most (λ m. before_end l ≤ m)
   iter_bounded i j most l b h = up_to most (remaining i) (before_end l) (no_more i j l h) b
 
   items_lower : (i j : I) (l : List A) → IsFinite (remaining i) → Iterates can gives remaining i (items l) j → size (remaining j) ≤ size (remaining i)
@@ -55,7 +58,7 @@ module _ {I A : Type 0} (can : I → Type 0) (gives : I → Option A → I → T
       let e = items_lower h.0 j l on.1 h.2 in
       omega arith
 
-  pub iter_falls : (i j : I) (a : A) (more : List A) → IsFinite (remaining i) → Iterates can gives remaining i (items (a ∷ more)) j → Below (size (remaining j) ∷ []) (size (remaining i) ∷ [])
+  iter_falls : (i j : I) (a : A) (more : List A) → IsFinite (remaining i) → Iterates can gives remaining i (items (a ∷ more)) j → Below (size (remaining j) ∷ []) (size (remaining i) ∷ [])
   iter_falls i j a more f h =
       let on = h.1.1.on f in
       let less : size (remaining h.0) < size (remaining i) = on.2 in
@@ -74,5 +77,24 @@ module _ {I A : Type 0} (can : I → Type 0) (gives : I → Option A → I → T
       let e = lowers_from h.0 j (size (remaining h.0)) l (omega arith) on.1 (never_on i h.0 (Ready (Some x) ∷ []) r (h.0, h.1, refl)) h.2 in
       Below-one (Lowers-at_most l _ _ e) (omega (arith, less, least))
 
-  pub iter_lowers : (i j : I) (l : List (Answer A)) → IsFinite (remaining i) → NeverRaised can gives remaining i → Iterates can gives remaining i l j → Lowers l (size (remaining j) ∷ []) (size (remaining i) ∷ [])
+  iter_lowers : (i j : I) (l : List (Answer A)) → IsFinite (remaining i) → NeverRaised can gives remaining i → Iterates can gives remaining i l j → Lowers l (size (remaining j) ∷ []) (size (remaining i) ∷ [])
   iter_lowers i j l = lowers_from i j (size (remaining i)) l (omega arith)
+
+  pub iter_laws : StreamLaws (λ (x : Iter I) (l : List (Answer A)) (y : Iter I). Iterates can gives remaining x.iter l y.iter) (λ x. IterHints (remaining x.iter))
+  iter_laws =
+      record {
+        rests = λ x. refl;
+        stays = λ x y h. ap (λ (v : I). record x { iter = v }) (sym h);
+        follows = λ x y z. folds_follow (Nexts can gives remaining) x.iter y.iter z.iter;
+        bounded = λ x y hint l e. iter_bounded x.iter y.iter hint.1 l e.1;
+      }
+
+  pub iter_counting : Counting (λ (x : Iter I) (l : List (Answer A)) (y : Iter I). Iterates can gives remaining x.iter l y.iter) (iter_ranks can gives remaining)
+  iter_counting =
+      record {
+        sized = λ x. refl;
+        counts_on = λ x y l. finite_on x.iter y.iter l;
+        firm_on = λ x y l f h. (finite_on x.iter y.iter l f.0 h, never_on x.iter y.iter l f.1 h);
+        falls = λ x y. iter_falls x.iter y.iter;
+        lowers = λ x y l f. iter_lowers x.iter y.iter l f.0 f.1;
+      }

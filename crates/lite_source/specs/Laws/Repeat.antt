@@ -1,8 +1,9 @@
-use Rattle.std.proofs.Common.{List, ◌++◌, Result, subst}
-use Rattle.lite_base.specs.Answers.{Answer}
+-- Laws of `repeat`.
+use Rattle.std.proofs.Common.{◌≡◌, ℕ, None}
+use Rattle.lite_base.specs.StreamLaws.{StreamLaws}
 use Rattle.lite_source.specs.Repeat.{Repeats}
-use Rattle.lite_source.specs.Laws.Always.{always_follow}
-use Rattle.lite_source.specs.declared.repeat.Repeat.{Repeat}
+use Rattle.lite_source.specs.Laws.Always.{always_laws}
 
-pub repeats_follow : {A E : Type 0} (x y z : Repeat A) (l m : List (Answer (Result A E))) → Repeats x.item x l y → Repeats y.item y m z → Repeats x.item x (l ++ m) z
-repeats_follow {E = E} x y z l m h k = always_follow _ x y z l m h (subst (λ (v : Repeat _). Repeats {E = E} v.item y m z) h.1 k)
+-- its hint bounds nothing
+pub repeat_laws : {A E : Type 0} (is_clone : A → A → Type 0) (is_infallible : A → Type 0) (least : ℕ) → StreamLaws (Repeats {A = A} {E = E} is_clone is_infallible) (λ x hint. hint ≡ (least, None))
+repeat_laws is_clone is_infallible least = always_laws _ (least, None) (λ x l h. tt)

@@ -1,55 +1,16 @@
-use Rattle.std.proofs.Common.{◌≡◌, [], ◌∷◌, Some, None, refl, subst}
-use Rattle.futures.specs.Poll.{OnPending}
-use Rattle.futures.specs.declared.task.Poll.TheVariants.{Ready, Pending}
+use Rattle.std.proofs.Common.{◌≡◌, Some, None, refl}
+use Rattle.futures.specs.declared.task.Poll.TheVariants.{Ready}
 use Rattle.lite_source.specs.Unfold.{item_of, seed_of}
-use Rattle.lite_source.specs.Laws.Unfolding.{asked_is, starts_over, starts_promise, unfolds_asked, unfolds_over}
-use Rattle.lite_source.specs.declared.unfolding.Unfolding.TheVariants.{Seed, Asked, Over}
+use Rattle.lite_source.specs.Laws.Unfolding.{unfolds_value}
 use Rattle.lite_source.proofs.unfold.UnfoldStream.poll_next.Goals as goal
 
-pub returns-in_default : goal.returns-in_default
-returns-in_default g c =
-    let over = starts_over g.F.FnMut _ _ _ _ c.start.ensures.started c.in_default.not-Asked in
-    let kept = starts_promise g.F.FnMut g.Fut.Future.can_poll _ _ _ _ c.start.ensures.started c.requires.1 c.requires.2 in
-    record {
-      ran = unfolds_over g.F.FnMut g.Fut.Future.run seed_of item_of _ _ _ _ c.start.ensures.started over;
-      again = (c.start.ensures.again, kept.0, kept.1);
-      left = tt;
-      kept = λ fact h. h;
-    }
+pub returns-in-Some-Some-clause-ran : goal.returns-in-Some-Some-clause-ran
+returns-in-Some-Some-clause-ran g c =
+    let is : c.poll.result ≡ Ready (Some (Some (c.in-Some-Some.item, c.in-Some-Some.seed))) = cc in
+    unfolds_value g.F.FnMut g.Fut.Future.run seed_of item_of _ _ _ _ _ (Some (c.in-Some-Some.item, c.in-Some-Some.seed)) (rw is at c.poll.ensures.ran) refl
 
-pub poll-requires : goal.poll-requires
-poll-requires g c = asked_is g.Fut.Future.can_poll _ _ (starts_promise g.F.FnMut g.Fut.Future.can_poll _ _ _ _ c.start.ensures.started c.requires.1 c.requires.2).1 c.in-Asked.is
-
-pub returns-clause-ran : goal.returns-clause-ran
-returns-clause-ran g c =
-    let is : c.poll.result ≡ Pending = cc in
-    unfolds_asked g.F.FnMut g.Fut.Future.run seed_of item_of _ _ _ _ (Asked c.poll.new.self) c.in-Asked.future Pending c.start.ensures.started c.in-Asked.is
-    (tt, subst (λ a. g.Fut.Future.run c.in-Asked.future (a ∷ []) c.poll.new.self) is c.poll.ensures.ran)
-
-pub returns-clause-again : goal.returns-clause-again
-returns-clause-again g c =
-    let is : c.poll.result ≡ Pending = cc in (
-      c.start.ensures.again,
-      (starts_promise g.F.FnMut g.Fut.Future.can_poll _ _ _ _ c.start.ensures.started c.requires.1 c.requires.2).0,
-      subst (λ a. OnPending a (g.Fut.Future.can_poll c.poll.new.self)) is c.poll.ensures.again,
-    )
-
-pub returns-in-Some-clause-ran : goal.returns-in-Some-clause-ran
-returns-in-Some-clause-ran g c =
-    let is : c.poll.result ≡ Ready (Some (c.in-Some.item, c.in-Some.seed)) = cc in
-    unfolds_asked g.F.FnMut g.Fut.Future.run seed_of item_of _ _ _ _ (Seed c.in-Some.seed) c.in-Asked.future (Ready (Some (c.in-Some.item, c.in-Some.seed))) c.start.ensures.started c.in-Asked.is
-    (Some (c.in-Some.item, c.in-Some.seed), record { gives = (refl, refl); last = c.poll.new.self; came = subst (λ a. g.Fut.Future.run c.in-Asked.future (a ∷ []) c.poll.new.self) is c.poll.ensures.ran }, refl)
-
-pub returns-in-Some-clause-again : goal.returns-in-Some-clause-again
-returns-in-Some-clause-again g c =
-    (c.start.ensures.again, (starts_promise g.F.FnMut g.Fut.Future.can_poll _ _ _ _ c.start.ensures.started c.requires.1 c.requires.2).0, tt)
-
-pub returns-in-None-clause-ran : goal.returns-in-None-clause-ran
-returns-in-None-clause-ran g c =
-    let is : c.poll.result ≡ Ready None = cc in
-    unfolds_asked g.F.FnMut g.Fut.Future.run seed_of item_of _ _ _ _ Over c.in-Asked.future (Ready None) c.start.ensures.started c.in-Asked.is
-    (None, record { gives = (refl, refl); last = c.poll.new.self; came = subst (λ a. g.Fut.Future.run c.in-Asked.future (a ∷ []) c.poll.new.self) is c.poll.ensures.ran }, refl)
-
-pub returns-in-None-clause-again : goal.returns-in-None-clause-again
-returns-in-None-clause-again g c =
-    (c.start.ensures.again, (starts_promise g.F.FnMut g.Fut.Future.can_poll _ _ _ _ c.start.ensures.started c.requires.1 c.requires.2).0, tt)
+pub returns-in-Some-None-clause-ran : goal.returns-in-Some-None-clause-ran
+returns-in-Some-None-clause-ran g c =
+    let is : c.poll.result ≡ Ready (Some None) = cc in
+    let ran = rw is at c.poll.ensures.ran in
+    unfolds_value g.F.FnMut g.Fut.Future.run seed_of item_of _ _ _ _ _ None ran ran.3
