@@ -1,3 +1,4 @@
+mod bridge;
 mod buffered;
 mod cursors;
 mod readers;

@@ -280,14 +280,17 @@ impl<R: AsyncWrite> AsyncWrite for BufReader<R> {
 
     ghost write_leaves = { λ r. R.write_leaves (inner_of r) };
 
+    /// Writes to the inner writer, past what is ahead.
     fn poll_write(&mut self, cx: &mut Context<'_>, buf: &[u8]) -> Poll<io::Result<usize>> {
         self.inner.poll_write(cx, buf)
     }
 
+    /// Flushes the inner writer. What is ahead stays.
     fn poll_flush(&mut self, cx: &mut Context<'_>) -> Poll<io::Result<()>> {
         self.inner.poll_flush(cx)
     }
 
+    /// Closes the inner writer. What is ahead can still be read.
     fn poll_close(&mut self, cx: &mut Context<'_>) -> Poll<io::Result<()>> {
         self.inner.poll_close(cx)
     }

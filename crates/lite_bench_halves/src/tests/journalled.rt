@@ -1,7 +1,9 @@
 ghost use Rattle.lite_bench_halves.specs.Named.{IsOf};
 
 use super::refusing::Refusing;
-use super::{are, by_kind, finishes, got, journal_on, read, reads_byte, told, try_read, try_write, write};
+use super::{
+    are, by_kind, finishes, got, journal_on, read, reads_byte, told, try_read, try_write, write,
+};
 use futures::task::{Doorbell, Solo};
 use futures_lite::Poll;
 use futures_lite::io::{

@@ -6,8 +6,6 @@ ghost use Rattle.lite_io_base.specs.Runs.{Idle};
 ghost use Rattle.lite_io_base.specs.Told.{Told};
 ghost use Rattle.lite_journal.specs.Entry.{parts_in};
 
-use super::{read, reads_byte};
-use futures_lite::Poll;
 use futures_lite::io::{BytesLike, Cursor, Journal};
 use lite_mock::Marks;
 use std::alloc::AllocError;
@@ -60,23 +58,20 @@ pub(super) fn entries_of_cursor(journal: &Journal<Cursor<Plain>>) -> usize
 }
 
 #[test]
-fn a_journal_of_equal_clones_is_a_run_from_its_start(rt: HostRuntime) -> Result<(), Fail> {
+fn a_journal_of_a_cursor_is_a_run_from_its_start(rt: HostRuntime) -> Result<(), Fail> {
     let bytes = Vec::from_slice(rt.alloc(), b"xy")?;
-    let Ok(mut journal) = Journal::new(rt.alloc(), Cursor::new(Plain { bytes })) else {
+    let Ok(journal) = Journal::new(rt.alloc(), Cursor::new(Plain { bytes })) else {
         return Err(Fail::from("memory"));
     };
-    assert!(rt; reads_byte(&rt, &mut journal, b'x')?);
-    assert_eq!(rt; entries_of_cursor(&journal), 1);
-    let mut copy = journal.clone()?;
-    assert!(rt; reads_byte(&rt, &mut copy, b'y')?);
-    assert_eq!(rt; (entries_of_cursor(&journal), entries_of_cursor(&copy)), (1, 2));
+    assert_eq!(rt; entries_of_cursor(&journal), 0);
+    Ok(())
+}
 
-    let mut marks = Marks::new(rt.alloc());
-    marks.pending()?;
-    let Ok(mut journal) = Journal::new(rt.alloc(), marks) else {
+#[test]
+fn a_journal_of_a_told_reader_is_a_run_from_its_start(rt: HostRuntime) -> Result<(), Fail> {
+    let Ok(journal) = Journal::new(rt.alloc(), Marks::new(rt.alloc())) else {
         return Err(Fail::from("memory"));
     };
-    assert_eq!(rt; read(&rt, &mut journal, &mut [0])?, Poll::Pending);
-    assert_eq!(rt; entries_of_marks(&journal), 1);
+    assert_eq!(rt; entries_of_marks(&journal), 0);
     Ok(())
 }

@@ -1,7 +1,5 @@
 use super::{failed, finishes, gives, gives_both, lends, ok, seek, write};
-use futures_lite::io::{
-    self, AsyncBufRead, AsyncReadExt, BufReader, Cursor, ErrorKind, SeekFrom,
-};
+use futures_lite::io::{self, AsyncBufRead, AsyncReadExt, BufReader, Cursor, ErrorKind, SeekFrom};
 use futures_lite::laws::{answers_as_bare, counts_after_seek, keeps_order};
 use lite_mock::Marks;
 use std::alloc::AllocError;

@@ -109,7 +109,10 @@ fn inner_readers_can_be_changed(rt: HostRuntime) -> Result<(), Fail> {
     let (one, two) = both.get_mut();
     one.set_position(2);
     two.set_position(1);
-    assert_eq!(rt; (both.get_ref().0.position(), both.get_ref().1.position()), (2, 1));
+    assert_eq!(rt;
+        (both.get_ref().0.position(), both.get_ref().1.position()),
+        (2, 1)
+    );
     assert!(rt; gives(&rt, &mut both, 9, b"c")?);
     both.second_mut().set_position(2);
     assert!(rt; gives(&rt, &mut both, 9, b"f")?);
