@@ -14,9 +14,7 @@ pub use lite_source::{
     Empty, Iter, Once, OnceFuture, Pending, PollFn, Repeat, RepeatWith, Script, TryUnfold, Unfold,
 };
 use lite_stream::make;
-pub use lite_stream::{
-    Copied, Enumerate, Fuse, Inspect, Map, MapWhile, Scan, Take, TakeWhile,
-};
+pub use lite_stream::{Copied, Enumerate, Fuse, Inspect, Map, MapWhile, Scan, Take, TakeWhile};
 
 /// What every stream can be adapted by. Ported from `src/stream.rs`, `StreamExt`.
 pub trait StreamExt: Stream {

@@ -3,6 +3,6 @@
 #![tactic(auto)]
 
 pub mod nest;
-pub mod try_count;
 #[cfg(test)]
 mod tests;
+pub mod try_count;

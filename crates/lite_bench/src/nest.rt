@@ -60,7 +60,11 @@ pub fn hundredths(
     ensures { (l : List (Answer _)) × (out.new.items ≡ out.old.items ++ l) × IfOk result (λ _. length l ≡ polls) × EachItem (λ y. 2 ≤ y) l }
 {
     let mut quotients = script
-        .map(|x: u8| requires { 0 < x } { 100 / x })
+        .map(
+            |x: u8|
+                requires { 0 < x }
+            { 100 / x },
+        )
         .filter(|y: &u8| *y >= 2);
     laws::run(&mut quotients, cx, polls, out)
 }

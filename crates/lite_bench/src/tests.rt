@@ -138,7 +138,13 @@ fn a_nest_whose_closure_asks_something_of_its_items(rt: HostRuntime) -> Result<(
 
 #[test]
 fn ok_items_are_counted_up_to_an_error_and_an_end(rt: HostRuntime) -> Result<(), Fail> {
-    let list = vec![in rt.alloc(); item(Ok(1u8)), item(Ok(2)), Poll::Pending, item(Err('x')), item(Ok(3))]?;
+    let list = vec![in rt.alloc();
+        item(Ok(1u8)),
+        item(Ok(2)),
+        Poll::Pending,
+        item(Err('x')),
+        item(Ok(3)),
+    ]?;
     let mut count = TryCount::new(stream::script(list));
     let solo = Solo::new(&rt, Doorbell::spinning())?;
     let mut cx = solo.begin();
@@ -148,6 +154,9 @@ fn ok_items_are_counted_up_to_an_error_and_an_end(rt: HostRuntime) -> Result<(),
         poll_count(&mut count, &mut cx),
     ];
     cx.cancel();
-    assert_eq!(rt; answers, [Poll::Pending, Poll::Ready(Err('x')), Poll::Ready(Ok(3))]);
+    assert_eq!(rt;
+        answers,
+        [Poll::Pending, Poll::Ready(Err('x')), Poll::Ready(Ok(3))]
+    );
     Ok(())
 }

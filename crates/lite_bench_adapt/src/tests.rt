@@ -229,7 +229,11 @@ fn map_while_over_an_iterator(rt: HostRuntime) -> Result<(), Fail> {
 #[test]
 fn a_nest_of_adapters_is_firm_where_its_source_is(rt: HostRuntime) -> Result<(), Fail> {
     let list = vec![in rt.alloc(); item(1u8), Poll::Pending, item(2)]?;
-    let mut nest = firm(firm(firm(stream::script(list)).map(|x: u8| x / 2)).enumerate().fuse());
+    let mut nest = firm(
+        firm(firm(stream::script(list)).map(|x: u8| x / 2))
+            .enumerate()
+            .fuse(),
+    );
     let got = answers(&rt, &mut nest, 4)?;
     let expected = [item((0, 0)), Poll::Pending, item((1, 1)), Poll::Ready(None)];
     assert_eq!(rt; got.as_slice(), expected.as_slice());
@@ -244,6 +248,9 @@ fn an_adapter_shows_what_it_holds(rt: HostRuntime) -> Result<(), Fail> {
         "Enumerate { stream: Take { stream: Iter { iter: 0..2 }, n: 1 }, i: 0 }"
     );
     let shown = format!(in rt.alloc(); "{:?}", stream::once(5u8).fuse())?;
-    assert_eq!(rt; shown.as_str(), "Fuse { stream: Once { value: Some(5) }, done: false }");
+    assert_eq!(rt;
+        shown.as_str(),
+        "Fuse { stream: Once { value: Some(5) }, done: false }"
+    );
     Ok(())
 }

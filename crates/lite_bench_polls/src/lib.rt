@@ -14,11 +14,7 @@ use std::random::RandomSource;
 
 /// What `polls` polls of a stream answer, in a task of its own. An error is the system's: no memory, or no random bytes
 /// for the task's name; fewer polls were made then, or none.
-pub fn answers<R, S>(
-    rt: &R,
-    stream: &mut S,
-    polls: usize,
-) -> io::Result<Vec<Poll<Option<S::Item>>>>
+pub fn answers<R, S>(rt: &R, stream: &mut S, polls: usize) -> io::Result<Vec<Poll<Option<S::Item>>>>
 where
     R: RandomSource + AllocGlobal,
     S: Stream<Item: Drop>,

@@ -1,5 +1,4 @@
-use futures_lite::stream;
-use futures_lite::{Poll, Stream, StreamExt};
+use futures_lite::{Poll, Stream, StreamExt, stream};
 use lite_bench_polls::{answers, item, ranked};
 use std::alloc::AllocError;
 use std::cell::Cell;
@@ -197,7 +196,10 @@ fn filter_map_over_an_iterator(rt: HostRuntime) -> Result<(), Fail> {
 fn skip_while_over_an_iterator(rt: HostRuntime) -> Result<(), Fail> {
     let numbers = stream::iter(vec![in rt.alloc(); -1i32, 0, 1]?);
     let got = answers(&rt, &mut numbers.skip_while(|x: &i32| *x < 0), 3)?;
-    assert_eq!(rt; got.as_slice(), [item(0), item(1), Poll::Ready(None)].as_slice());
+    assert_eq!(rt;
+        got.as_slice(),
+        [item(0), item(1), Poll::Ready(None)].as_slice()
+    );
     Ok(())
 }
 

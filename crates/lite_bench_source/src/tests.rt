@@ -206,7 +206,9 @@ fn clones_of_sources_go_on_from_where_they_are(rt: HostRuntime) -> Result<(), Fa
     assert_eq!(rt; got.as_slice(), [Poll::Ready(None)].as_slice());
     let got = answers(&rt, &mut stream::pending::<u8>().clone()?, 1)?;
     assert_eq!(rt; got.as_slice(), [Poll::Pending].as_slice());
-    let mut fives = stream::repeat(5u8).clone()?.map(|x: Result<u8, AllocError>| x.ok());
+    let mut fives = stream::repeat(5u8)
+        .clone()?
+        .map(|x: Result<u8, AllocError>| x.ok());
     let got = answers(&rt, &mut fives, 1)?;
     assert_eq!(rt; got.as_slice(), [item(Some(5))].as_slice());
     Ok(())

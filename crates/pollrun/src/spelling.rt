@@ -2,8 +2,8 @@
 ghost use Rattle.std.specs.Prelude.{◌≡◌, ◌++◌, ◌∷◌, [], IfOk, OnOk, string_bytes};
 ghost use Rattle.pollrun.specs.Spelling.{spelled, spelled_list};
 
-use lite_base::Poll;
 use itoa::{Buffer, Integer};
+use lite_base::Poll;
 use std::alloc::{AllocError, Global};
 
 fn push_answer<I: Integer>(text: &mut String, answer: &Poll<Option<I>>) -> Result<(), AllocError>
