@@ -1,8 +1,6 @@
-ghost use Rattle.std.specs.Prelude.{◌≡◌, refl};
-ghost use Rattle.std.proofs.Common.{◌∙◌};
+ghost use Rattle.std.specs.Prelude.{◌≡◌};
 ghost use Rattle.futures.specs.Task.{Lasting};
-ghost use Rattle.lite_base.specs.Laws.Answers.{up_to_once, waiting_up_to};
-ghost use Rattle.lite_bench_future.specs.Bell.{Rings};
+ghost use Rattle.lite_bench_future.specs.Bell.{Rings, rings_laws};
 
 use futures::task::{Source, Waker};
 use futures_lite::{Context, Future, Poll};
@@ -75,13 +73,7 @@ impl Future for Bell {
 
     ghost leaves = { λ _ fact. fact ≡ Lasting.armed };
 
-    ghost rests = { λ x. (tt, refl) };
-
-    ghost stays = { λ x y h. h.1 };
-
-    ghost follows = { λ x y z l m w h k. (waiting_up_to l m w k.0, k.1 ∙ h.1) };
-
-    ghost once = { λ x y l h. up_to_once l h.0 };
+    ghost laws = { rings_laws };
 
     fn poll(&mut self, cx: &mut Context<'_>) -> Poll<Result<(), ()>> {
         let Some(mut guard) = self.shared.state.try_lock() else {
