@@ -3,6 +3,7 @@ use Rattle.std.specs.Prelude.{◌≡◌, List, Option, Some, None, Bool, true, f
 use Rattle.std.specs.Fn.{Mut, CalledAt, TakesAt}
 use denote.Ref.{Bor}
 use Rattle.lite_base.specs.Answers.{Answer}
+use Rattle.lite_base.specs.Ranks.{Ranks}
 use Rattle.lite_sift.specs.Leaving.{Leaves}
 use Rattle.lite_stream.specs.EachItem.{AtEachItem}
 use Rattle.lite_stream.specs.Through.{Parts, Through}
@@ -20,8 +21,8 @@ abbrev pub MayAskUntil : {S F A : Type 0} → (S → List (Answer A) → S → T
 MayAskUntil run g = AtEachItem run (SkipsUntil (CalledAt g)) (λ held x. IfSome held (λ p. TakesAt g p x))
 
 -- a poll may be made: the source may be polled, its rank counts, and the predicate may be asked
-abbrev pub CanSkip : {S F : Type 0} → (S → Type 0) → (S → Type 0) → (S → Option F → Type 0) → SkipWhile S F → Type 0
-CanSkip can_poll counts asks x = can_poll x.stream × counts x.stream × asks x.stream x.predicate
+abbrev pub CanSkip : {S F : Type 0} → (S → Type 0) → Ranks S → (S → Option F → Type 0) → SkipWhile S F → Type 0
+CanSkip can_poll ranks asks x = can_poll x.stream × ranks.counts x.stream × asks x.stream x.predicate
 
 abbrev pub SkipsWhile : {S F A : Type 0} → (S → List (Answer A) → S → Type 0) → (F → A → Bool → F → Type 0) → SkipWhile S F → List (Answer A) → SkipWhile S F → Type 0
 SkipsWhile run test x l y = Through run (Leaves (SkipsUntil test)) x.stream x.predicate l y.stream y.predicate

@@ -24,9 +24,9 @@ pub struct Filter<S, P> {
 impl<S: Counted<Item: Drop>, P: FnMut(&S::Item) -> bool> Turns for Filter<S, P> {
     type Output = Option<S::Item>;
 
-    ghost can_turn = { CanFilter S.can_poll S.ranks.counts (MayShowEach S.run P.FnMut) };
+    ghost can_turn = { CanFilter S.can_poll S.ranks (MayShowEach S.run P.FnMut) };
 
-    ghost turn = { Sifts (Accepts (CalledAt P.FnMut)) S.run (CanFilter S.can_poll S.ranks.counts (MayShowEach S.run P.FnMut)) (λ m. m.stream) (λ m. m.predicate) };
+    ghost turn = { Sifts (Accepts (CalledAt P.FnMut)) S.run (CanFilter S.can_poll S.ranks (MayShowEach S.run P.FnMut)) (λ m. m.stream) (λ m. m.predicate) };
 
     ghost turn_leaves = { λ m. S.leaves m.stream };
 
@@ -53,7 +53,7 @@ impl<S: Counted<Item: Drop>, P: FnMut(&S::Item) -> bool> Turns for Filter<S, P> 
 impl<S: Counted<Item: Drop>, P: FnMut(&S::Item) -> bool> Stream for Filter<S, P> {
     type Item = S::Item;
 
-    ghost can_poll = { CanFilter S.can_poll S.ranks.counts (MayShowEach S.run P.FnMut) };
+    ghost can_poll = { CanFilter S.can_poll S.ranks (MayShowEach S.run P.FnMut) };
 
     ghost run = { Filters S.run (CalledAt P.FnMut) };
 

@@ -23,9 +23,9 @@ pub struct FilterMap<S, F> {
 impl<B, S: Counted, F: FnMut(S::Item) -> Option<B>> Turns for FilterMap<S, F> {
     type Output = Option<B>;
 
-    ghost can_turn = { CanFilterMap S.can_poll S.ranks.counts (MayCallEach S.run F.FnMut) };
+    ghost can_turn = { CanFilterMap S.can_poll S.ranks (MayCallEach S.run F.FnMut) };
 
-    ghost turn = { Sifts (Calls F.FnMut) S.run (CanFilterMap S.can_poll S.ranks.counts (MayCallEach S.run F.FnMut)) (λ m. m.stream) (λ m. m.f) };
+    ghost turn = { Sifts (Calls F.FnMut) S.run (CanFilterMap S.can_poll S.ranks (MayCallEach S.run F.FnMut)) (λ m. m.stream) (λ m. m.f) };
 
     ghost turn_leaves = { λ m. S.leaves m.stream };
 
@@ -49,7 +49,7 @@ impl<B, S: Counted, F: FnMut(S::Item) -> Option<B>> Turns for FilterMap<S, F> {
 impl<B, S: Counted, F: FnMut(S::Item) -> Option<B>> Stream for FilterMap<S, F> {
     type Item = B;
 
-    ghost can_poll = { CanFilterMap S.can_poll S.ranks.counts (MayCallEach S.run F.FnMut) };
+    ghost can_poll = { CanFilterMap S.can_poll S.ranks (MayCallEach S.run F.FnMut) };
 
     ghost run = { FilterMaps S.run (Calls F.FnMut) };
 

@@ -23,9 +23,9 @@ pub struct SkipWhile<S, P> {
 impl<S: Counted<Item: Drop>, P: FnMut(&S::Item) -> bool + Drop> Turns for SkipWhile<S, P> {
     type Output = Option<S::Item>;
 
-    ghost can_turn = { CanSkip S.can_poll S.ranks.counts (MayAskUntil S.run P.FnMut) };
+    ghost can_turn = { CanSkip S.can_poll S.ranks (MayAskUntil S.run P.FnMut) };
 
-    ghost turn = { Sifts (SkipsUntil (CalledAt P.FnMut)) S.run (CanSkip S.can_poll S.ranks.counts (MayAskUntil S.run P.FnMut)) (λ m. m.stream) (λ m. m.predicate) };
+    ghost turn = { Sifts (SkipsUntil (CalledAt P.FnMut)) S.run (CanSkip S.can_poll S.ranks (MayAskUntil S.run P.FnMut)) (λ m. m.stream) (λ m. m.predicate) };
 
     ghost turn_leaves = { λ m. S.leaves m.stream };
 
@@ -56,7 +56,7 @@ impl<S: Counted<Item: Drop>, P: FnMut(&S::Item) -> bool + Drop> Turns for SkipWh
 impl<S: Counted<Item: Drop>, P: FnMut(&S::Item) -> bool + Drop> Stream for SkipWhile<S, P> {
     type Item = S::Item;
 
-    ghost can_poll = { CanSkip S.can_poll S.ranks.counts (MayAskUntil S.run P.FnMut) };
+    ghost can_poll = { CanSkip S.can_poll S.ranks (MayAskUntil S.run P.FnMut) };
 
     ghost run = { SkipsWhile S.run (CalledAt P.FnMut) };
 
