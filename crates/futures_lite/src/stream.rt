@@ -3,7 +3,7 @@ ghost use Rattle.std.specs.Prelude.{◌≡◌, ◌<◌, None, Some, false};
 ghost use Rattle.lite_flatten.specs.declared.chain.Part.TheVariants.{First};
 
 use lite_base::Future;
-pub use lite_base::{Counted, OkCounted, Stream};
+pub use lite_base::{CalmStream, Counted, OkCounted, SteadyStream, Stream};
 pub use lite_flatten::{Chain, Cloned, FlatMap, Flatten, Then};
 pub use lite_sift::{Filter, FilterMap, Skip, SkipWhile, StepBy};
 pub use lite_source::make::{

@@ -1,4 +1,6 @@
+pub mod Alike
 pub mod Answers
+pub mod Calm
 pub mod Chain
 pub mod Ends
 pub mod Falling
@@ -9,4 +11,5 @@ pub mod Lent
 pub mod OkRanks
 pub mod Rank
 pub mod Ranks
+pub mod Steady
 pub mod StreamLaws

@@ -8,6 +8,7 @@ ghost use Rattle.lite_base.specs.FutureLaws.{FutureLaws};
 use futures::task::{Context, Poll};
 
 pub mod block_on;
+mod calm;
 mod fuse;
 mod half;
 pub mod make;
@@ -18,10 +19,12 @@ mod poll_fn;
 mod poll_once;
 mod race;
 mod ready;
+mod steady;
 mod try_zip;
 mod yield_now;
 mod zip;
 
+pub use calm::CalmFuture;
 pub use fuse::Fuse;
 pub use or::Or;
 pub use pending::Pending;
@@ -29,6 +32,7 @@ pub use poll_fn::PollFn;
 pub use poll_once::PollOnce;
 pub use race::Race;
 pub use ready::Ready;
+pub use steady::SteadyFuture;
 pub use try_zip::TryZip;
 pub use yield_now::YieldNow;
 pub use zip::Zip;

@@ -1,10 +1,14 @@
+ghost use Rattle.lite_base.specs.Calm.{lent_calm};
 ghost use Rattle.lite_base.specs.Lent.{Lent, lent_counting, lent_future_laws, lent_laws};
 ghost use Rattle.lite_base.specs.OkRanks.{lent_ok_counting};
 ghost use Rattle.lite_base.specs.Ranks.{ranks_of};
+ghost use Rattle.lite_base.specs.Steady.{lent_future_steady, lent_steady};
 
+use crate::calm::CalmStream;
 use crate::counted::Counted;
-use crate::future::Future;
+use crate::future::{CalmFuture, Future, SteadyFuture};
 use crate::ok_counted::OkCounted;
+use crate::steady::SteadyStream;
 use crate::stream::Stream;
 use futures::task::{Context, Poll};
 
@@ -60,4 +64,36 @@ impl<S: OkCounted> OkCounted for &mut S {
     ghost ok_ranks = { ranks_of (λ s. s.now) S.ok_ranks };
 
     ghost ok_counting = { lent_ok_counting S.ok_counting };
+}
+
+impl<S: SteadyStream> SteadyStream for &mut S {
+    ghost ample = { Lent S.ample };
+
+    ghost needs_none = { S.needs_none };
+
+    ghost alike = { λ x y. S.alike x.now y.now };
+
+    ghost steady = { lent_steady S.steady };
+}
+
+impl<S: CalmStream> CalmStream for &mut S {
+    ghost is_calm = { λ s. S.is_calm s.now };
+
+    ghost calm = { lent_calm S.calm };
+}
+
+impl<F: SteadyFuture> SteadyFuture for &mut F {
+    ghost ample = { Lent F.ample };
+
+    ghost needs_none = { F.needs_none };
+
+    ghost alike = { λ x y. F.alike x.now y.now };
+
+    ghost steady = { lent_future_steady F.steady };
+}
+
+impl<F: CalmFuture> CalmFuture for &mut F {
+    ghost is_calm = { λ f. F.is_calm f.now };
+
+    ghost calm = { lent_calm F.calm };
 }

@@ -2,17 +2,21 @@
 //! the one loop without a count.
 #![tactic(auto)]
 
+mod calm;
 mod counted;
 pub mod future;
 mod lent;
 mod ok_counted;
+mod steady;
 mod stream;
 mod turns;
 
+pub use calm::CalmStream;
 pub use counted::Counted;
-pub use future::Future;
+pub use future::{CalmFuture, Future, SteadyFuture};
 pub use futures::ready;
 pub use futures::task::{Context, Poll};
 pub use ok_counted::OkCounted;
+pub use steady::SteadyStream;
 pub use stream::Stream;
 pub use turns::{Turns, drive};

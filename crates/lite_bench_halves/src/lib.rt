@@ -1,4 +1,4 @@
-//! Tests of journals and of the halves of streams, in one thread and in two.
+//! Tests of the halves of streams, and of the entries that vectored and pending calls of journalled ones are.
 #![tactic(auto)]
 
 #[cfg(test)]

@@ -1,5 +1,4 @@
-//! Tests that cross crates. What a contract proves is not tested again: the tests show that the definitions say
-//! what was meant, at values worked out by hand, and that calls succeed where memory is ample.
+//! Tests of cursors, writers, of what does as it is told, and of readers and writers of std.
 #![tactic(auto)]
 
 #[cfg(test)]

@@ -12,9 +12,12 @@ abbrev pub Refers : {R : Type 0} → Unit {0} → R → R → Unit {0} → Type 
 Refers p x v q = v ≡ x
 
 module _ {T E : Type 0} (is_clone : T → T → Type 0) (is_infallible : T → Type 0) where
-  -- each answer is a refusal of a clone of x, and comes only where such a clone may fail
+  -- the answer is a refusal of a clone of x, where such a clone may fail
+  abbrev pub IsRefusal : Bor T → Answer (Result T E) → Type 0
+  IsRefusal x a = (is_infallible x.now → ⊥) × (e : E) × (a ≡ item (Err e))
+
   abbrev pub Refuses : Bor T → List (Answer (Result T E)) → Type 0
-  Refuses x out = AllByRecursion (λ a. (is_infallible x.now → ⊥) × (e : E) × (a ≡ item (Err e))) out
+  Refuses x out = AllByRecursion (IsRefusal x) out
 
   -- refusals while the reference is left, and then what T says may be a clone
   abbrev pub Clones : Bor T → List (Answer (Result T E)) → Option (Bor T) → Type 0

@@ -17,7 +17,8 @@ pub(crate) fn poll_part<B: Stream + Drop, S: Counted<Item = B>>(
     requires { CanFlatten S.run S.can_poll S.ranks.counts B.can_poll stream.old inner_stream.old }
     ensures turned { FlatTurn B.run S.run stream.old inner_stream.old result stream.new inner_stream.new }
     ensures again { CanFlatten S.run S.can_poll S.ranks.counts B.can_poll stream.new inner_stream.new }
-    ensures left { IfSome result (λ a. OnPending a ((fact : Lasting) → HeldLeaves S.leaves B.leaves stream.new inner_stream.new fact → Holds cx.new fact)) }
+    ensures left { IfSome result (λ answer. OnPending answer ((fact : Lasting)
+        → HeldLeaves S.leaves B.leaves stream.new inner_stream.new fact → Holds cx.new fact)) }
     ensures kept { Keeps cx.old cx.new }
 {
     match inner_stream {

@@ -20,3 +20,5 @@ module _ {R : Type 0} (reads : Runs Mark R) (most : ℕ) (x y : R) where
         ran = h.ran;
         one = elim h.one [ inl none ↦ inl none | inr (r, buf, fits, is) ↦ inr (r, buf, omega (arith, fits, within), is) ];
       }
+
+  pub ruleset polls_rules = (polls_none, polls_one, polls_within)

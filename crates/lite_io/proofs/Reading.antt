@@ -9,7 +9,7 @@ use Rattle.std.proofs.Common.{Global}
 use Rattle.lite_io.specs.declared.buf_reader.BufReader.{BufReader}
 use Rattle.lite_io.specs.BufReader.{Padded, Passes, Through, ahead, capacity_of}
 use Rattle.lite_io.specs.Laws.BufReader.{ahead_none, passes_of}
-use Rattle.lite_io.proofs.Ranges.{length-slice_range, slice_range_split}
+use Rattle.lite_io.proofs.Ranges.{length-slice_range, slice_range_none, slice_range_split}
 
 -- nothing is moved into no room
 pub moved_none : (buf xs : List ℕ) → length buf ≡ 0 → length xs ≡ 0 → moved buf xs ≡ []
@@ -65,3 +65,6 @@ module _ {R : Type 0} (reads : Runs Mark R) (x y : BufReader R) where
   pub through_advance : RunLaws reads → (n : ℕ) → y.inner ≡ x.inner → y.buf ≡ x.buf → y.pos ≡ x.pos + n → y.end ≡ x.end → n ≤ length (ahead x) → Through reads x (bytes (take n (ahead x))) y
   through_advance laws n inner buf pos end fits =
       through_taken laws (take n (ahead x)) inner (ap (λ (v : Vec ℕ Global). length v.items) buf) (advanced n buf pos end fits)
+
+-- what a fill is shown by
+pub ruleset fill_rules = (through_fill, through_past, slice_range_none)

@@ -7,8 +7,8 @@ ghost use Rattle.lite_io_base.specs.Runs.{OnlyOkLends, ReadsInto, room_in};
 
 use lite_base::{Context, Poll, ready};
 use lite_io_base::{
-    AsyncBufRead, AsyncRead, AsyncSeek, AsyncWrite, CountedRead, Takings, Tale, fill_slices,
-    total_room,
+    AsyncBufRead, AsyncRead, AsyncSeek, AsyncWrite, CountedRead, Takings, Tale, fill_slice,
+    fill_slices, total_room,
 };
 use std::alloc::Global;
 use std::io;
@@ -139,7 +139,7 @@ impl<R: AsyncRead> BufReader<R> {
     ghost use Rattle.lite_io.specs.BufReader.{PollsOnce, Through, ahead, capacity_of, inner_of};
 
     // Reads ahead if nothing is there.
-    #[tactic(auto, using(crate::proofs::Reading::through_fill, crate::proofs::Reading::through_past, crate::proofs::Ranges::slice_range_none, crate::proofs::Polling::polls_none, crate::proofs::Polling::polls_one))]
+    #[tactic(auto, using(crate::proofs::Reading::fill_rules, crate::proofs::Polling::polls_rules))]
     fn fill(&mut self, cx: &mut Context<'_>) -> Poll<io::Result<()>>
         ensures ran { Through R.reads self.old (fill_marks result (ahead self.new)) self.new }
         ensures lends { OnlyOkLends result (ahead self.new) }
@@ -181,7 +181,9 @@ impl<R: AsyncRead> AsyncRead for BufReader<R> {
 
     ghost leaves = { λ r. R.leaves (inner_of r) };
 
-    #[tactic(auto, using(crate::proofs::Polling::polls_none, crate::proofs::Polling::polls_one, crate::proofs::Polling::polls_within))]
+    // A call would hand its answer, which is large, through memory.
+    #[inline(always)]
+    #[tactic(auto, using(crate::proofs::Polling::polls_rules))]
     fn poll_read(&mut self, cx: &mut Context<'_>, buf: &mut [u8]) -> Poll<io::Result<usize>>
         ensures bound { IfReady result (λ r. IfOk r (λ n. n ≤ length buf.new)) }
         ensures ran { Through R.reads self.old (read_marks result buf.new) self.new }
@@ -207,13 +209,12 @@ impl<R: AsyncRead> AsyncRead for BufReader<R> {
             Ok(()) => {}
             Err(e) => return Poll::Ready(Err(e)),
         }
-        let n = (self.end - self.pos).min(buf.len());
-        buf[..n].copy_from_slice(&self.buf[self.pos..self.pos + n]);
+        let n = fill_slice(self.show(), buf);
         self.advance(n);
         Poll::Ready(Ok(n))
     }
 
-    #[tactic(auto, using(crate::proofs::Polling::polls_none, crate::proofs::Polling::polls_one, crate::proofs::Polling::polls_within))]
+    #[tactic(auto, using(crate::proofs::Polling::polls_rules))]
     fn poll_read_vectored(
         &mut self,
         cx: &mut Context<'_>,

@@ -31,12 +31,6 @@ module _ {F S V : Type 0} (call : Mut F (S × Unit {0}) V) where
   IsCurrent p (Asked w) q v = (v ≡ w) × (q ≡ p)
   IsCurrent p Over q v = ⊥
 
-  -- the future is made, if there is a seed
-  abbrev pub Starts : F → Unfolding S V → F → Unfolding S V → Type 0
-  Starts p x q (Asked v) = IsCurrent p x q v
-  Starts p x q Over = (x ≡ Over) × (q ≡ p)
-  Starts p x q (Seed s) = ⊥
-
 -- what comes after a value: the next seed, or the end
 abbrev pub comes : {S V : Type 0} → Option S → Unfolding S V
 comes None = Over

@@ -1,7 +1,7 @@
 ghost use Rattle.std.specs.Fn.{AlwaysReturns};
 ghost use Rattle.futures.specs.Poll.{OnPending};
 ghost use Rattle.futures.specs.Task.{Holds, Keeps, Lasting};
-ghost use Rattle.lite_source.specs.Unfolding.{Asks, IfAsked, Starts, UnfoldLeaves};
+ghost use Rattle.lite_source.specs.Unfolding.{Asks, IfAsked, UnfoldLeaves};
 
 use lite_base::{Context, Future, Poll, ready};
 use std::mem;
@@ -11,31 +11,13 @@ use std::mem;
 pub enum Unfolding<T, Fut> {
     /// What the next future is made of.
     Seed(T),
-    /// A future that was pending, or was not polled yet.
+    /// A future that was pending.
     Asked(Fut),
     /// Nothing: it ends for ever.
     Over,
 }
 
 impl<T: Drop, Fut: Future + Drop> Unfolding<T, Fut> {
-    /// Makes the future, where there is a seed.
-    fn start<F: FnMut(T) -> Fut>(&mut self, f: &mut F)
-        requires callable { F.IsAlwaysCallable f.old }
-        requires makes { AlwaysReturns F.FnMut (λ s v. Fut.can_poll v) f.old }
-        requires asked { IfAsked self.old Fut.can_poll }
-        ensures started { Starts F.FnMut f.old self.old f.new self.new }
-        ensures callable { F.IsAlwaysCallable f.new }
-        ensures makes { AlwaysReturns F.FnMut (λ s v. Fut.can_poll v) f.new }
-        ensures asked { IfAsked self.new Fut.can_poll }
-    {
-        if !matches!(self, Unfolding::Seed(_)) {
-            return;
-        }
-        if let Unfolding::Seed(seed) = mem::replace(self, Unfolding::Over) {
-            *self = Unfolding::Asked(f(seed));
-        }
-    }
-
     /// Polls the future, which `f` makes where there is a seed, and lets it go once it is ready. `Ready(None)` says that
     /// there is none.
     pub(crate) fn poll<F: FnMut(T) -> Fut>(
@@ -53,12 +35,21 @@ impl<T: Drop, Fut: Future + Drop> Unfolding<T, Fut> {
         ensures left { OnPending result ((fact : Lasting) → UnfoldLeaves Fut.leaves self.new fact → Holds cx.new fact) }
         ensures kept { Keeps cx.old cx.new }
     {
-        self.start(f);
-        let Unfolding::Asked(future) = self else {
+        if let Unfolding::Asked(future) = self {
+            let value = ready!(future.poll(cx));
+            *self = Unfolding::Over;
+            return Poll::Ready(Some(value));
+        }
+        let Unfolding::Seed(seed) = mem::replace(self, Unfolding::Over) else {
             return Poll::Ready(None);
         };
-        let value = ready!(future.poll(cx));
-        *self = Unfolding::Over;
-        Poll::Ready(Some(value))
+        let mut future = f(seed);
+        match future.poll(cx) {
+            Poll::Ready(value) => Poll::Ready(Some(value)),
+            Poll::Pending => {
+                *self = Unfolding::Asked(future);
+                Poll::Pending
+            }
+        }
     }
 }

@@ -1,7 +1,10 @@
+pub mod Agreeing
+pub mod Calming
 pub mod Cutting
 pub mod EachItem
 pub mod Fuse
 pub mod Lower
+pub mod Matching
 pub mod Pointwise
 pub mod Take
 pub mod Through

@@ -1,5 +1,6 @@
 //! The words of the program, read.
-ghost use Rattle.std.specs.Prelude.{◌≡◌, ◌≢◌, ◌==◌, ◌≤◌, ◌<◌, ◌++◌, ◌∷◌, [], All, List, length, ℕ, ℤ, map, decimal, IfOk, IfErr, IsOkUnless, MatchOption, MatchResult, string_bytes, take};
+ghost use Rattle.std.specs.Prelude.{◌≡◌, ◌≢◌, ◌==◌, ◌≤◌, ◌<◌, ◌++◌, ◌∷◌, [], All, List, length, ℕ, ℤ, map, take};
+ghost use Rattle.std.specs.Prelude.{decimal, string_bytes, IfOk, IfErr, IsOkUnless, MatchOption, MatchResult};
 ghost use Rattle.std.specs.Fmt.{signed_decimal};
 ghost use Rattle.std.specs.List.{slice_split};
 ghost use Rattle.lite_base.specs.Answers.{Answer};
@@ -89,7 +90,8 @@ impl Request {
 
 fn job_of(alloc: Global, pipe: Pipe, scripts: &[String]) -> Result<Job, Fault>
     ensures read { IfOk result (λ job. Takes pipe (map string_bytes scripts.now) job) }
-    ensures refused { result ≡ Err Arguments → (l : _) → length l ≡ scripts_of pipe → All IsScript l → map string_bytes scripts.now ≢ map (spelled_list signed_decimal) l }
+    ensures refused { result ≡ Err Arguments → (l : _) → length l ≡ scripts_of pipe → All IsScript l
+        → map string_bytes scripts.now ≢ map (spelled_list signed_decimal) l }
     ensures failed { IfErr result (λ fault. fault ≢ Output) }
 {
     match (pipe, scripts) {
@@ -136,7 +138,8 @@ fn number_of(word: &str) -> Option<i32>
 }
 
 fn answer_of(word: &str) -> Option<Poll<Option<i32>>>
-    ensures { MatchOption result ((a : Answer ℤ) → IsWritten a → word.now ≢ spelled signed_decimal a) (λ a. IsWritten a × (word.now ≡ spelled signed_decimal a)) }
+    ensures { MatchOption result ((a : Answer ℤ) → IsWritten a → word.now ≢ spelled signed_decimal a)
+        (λ a. IsWritten a × (word.now ≡ spelled signed_decimal a)) }
 {
     match word {
         "P" => Some(Poll::Pending),

@@ -8,6 +8,7 @@ use Rattle.futures.specs.declared.task.Poll.TheVariants.{Pending}
 use Rattle.futures.specs.declared.task.context.Context.{Context}
 use Rattle.futures.specs.Task.{Holds, Keeps, Lasting}
 use Rattle.lite_base.specs.Answers.{UpToValue}
+use Rattle.lite_base.specs.Calm.{Prompt}
 
 abbrev pub Poller : Type 0 → Type 0 → Type 1
 Poller F A = Mut F (MutBor Context × Unit {0}) (Poll A × (MutBor Context × Unit {0}))
@@ -33,3 +34,7 @@ module _ {F A : Type 0} (g : Poller F A) where
 -- it obeys now, and after calls whose answers are `On`
 pub record AlwaysObeys {F A : Type 0} (g : Poller F A) (On : List (Poll A) → Type 0) (f : F) : Type 0 where
   pub at : (l : List (Poll A)) (p : F) → On l → FoldsTo (Answers g) f l p → Obeys g p
+
+-- from now on, no call of it is answered Pending
+pub record NeverPends {F A : Type 0} (g : Poller F A) (f : F) : Type 0 where
+  pub at : (l : List (Poll A)) (p : F) → FoldsTo (Answers g) f l p → Prompt l

@@ -1,3 +1,4 @@
+pub mod Agree
 pub mod Calls
 pub mod Finishes
 pub mod Fuse

@@ -13,40 +13,75 @@ use std::sync::Wait;
 
 /// Polls `future` on this thread until it is ready, and answers its value. It may wait for ever.
 ///
-/// Where a poll is pending the thread sleeps until the context of that poll is woken, and sleeps for ever where
-/// nothing wakes it. `Err` says that there was no memory for what the thread sleeps on, which is made anew for
-/// each call and before the first poll: then the future was not polled. While the system gives no random bytes, of
-/// which that is named, they are asked for again, so a source that always fails is asked for ever. Ported from
-/// `src/future.rs`, `block_on`.
-pub fn block_on<R, F>(rt: &R, mut future: F) -> Result<F::Output, AllocError>
+/// It is [`BlockOn::block_on`] over a `BlockOn` of its own: `Err` says that there was no memory for that, and the future
+/// was not polled. Whoever waits often keeps a [`BlockOn`], and saves making one at each call. Ported from
+/// `src/future.rs`, `block_on`, which keeps what it sleeps on for each thread.
+pub fn block_on<R, F>(rt: &R, future: F) -> Result<F::Output, AllocError>
 where
     R: Wait + RandomSource + AllocGlobal,
     F: Future + Drop,
     requires { F.can_poll future }
     ensures { IfOk result (λ value. (ins : List (Poll F.Output)) × Finishes F.run future ins value) }
 {
-    let queue = named_queue(rt)?;
-    queue.add()?.schedule();
-    // The task waits here too, so that it may be parked after any pending poll.
-    let source = Source::new();
-    let mut slot: Option<Waker> = None;
-    'polls: for _ in rt.forever() {
-        let Some(mut cx) = queue.next(rt) else {
-            // There is no answer without a task, and the task is there until the future is ready.
-            continue;
-        };
-        match future.poll(&mut cx) {
-            Poll::Ready(value) => {
-                cx.cancel();
-                return Ok(value);
-            }
-            Poll::Pending => {
-                let _: Poll<()> = cx.register(&source, &mut slot);
-                cx.park();
+    BlockOn::new(rt)?.block_on(rt, future)
+}
+
+/// What a thread sleeps on while it waits for a future. It serves any number of futures, one after another.
+///
+/// The original has no such type: its `block_on` keeps this for each thread, where there are no thread-local values here.
+#[derive(Drop)]
+pub struct BlockOn {
+    queue: Queue,
+    // Each task waits here too, so that it may be parked after any pending poll.
+    source: Source,
+    slot: Option<Waker>,
+}
+
+impl BlockOn {
+    /// Makes what a thread sleeps on. `Err` is want of memory alone. While the system gives no random bytes, of which it
+    /// is named, they are asked for again, so a source that always fails is asked for ever.
+    pub fn new<R>(rt: &R) -> Result<BlockOn, AllocError>
+    where
+        R: Wait + RandomSource + AllocGlobal,
+    {
+        Ok(BlockOn {
+            queue: named_queue(rt)?,
+            source: Source::new(),
+            slot: None,
+        })
+    }
+
+    /// Polls `future` on this thread until it is ready, and answers its value. It may wait for ever.
+    ///
+    /// Where a poll is pending the thread sleeps until the context of that poll is woken, and sleeps for ever where
+    /// nothing wakes it. `Err` says that there was no memory for one more task: then the future was not polled.
+    pub fn block_on<R: Wait, F: Future + Drop>(
+        &mut self,
+        rt: &R,
+        mut future: F,
+    ) -> Result<F::Output, AllocError>
+        requires { F.can_poll future }
+        ensures { IfOk result (λ value. (ins : List (Poll F.Output)) × Finishes F.run future ins value) }
+    {
+        self.queue.add()?.schedule();
+        'polls: for _ in rt.forever() {
+            let Some(mut cx) = self.queue.next(rt) else {
+                // There is no answer without a task, and the task is there until the future is ready.
+                continue;
+            };
+            match future.poll(&mut cx) {
+                Poll::Ready(value) => {
+                    cx.cancel();
+                    return Ok(value);
+                }
+                Poll::Pending => {
+                    let _: Poll<()> = cx.register(&self.source, &mut self.slot);
+                    cx.park();
+                }
             }
         }
+        unreachable!()
     }
-    unreachable!()
 }
 
 /// A queue with a random name of its own. `Err` is want of memory alone: where there are no random bytes, they are

@@ -110,7 +110,11 @@ pub fn race_with_seed<T, F1, F2>(future1: F1, future2: F2, seed: u64) -> Race<F1
 where
     F1: Future<Output = T>,
     F2: Future<Output = T>,
-    ensures { result ≡ record { future1 = future1; future2 = future2; rng = ⟦<Pcg32 as SeedableRng>⟧.of_seed (⟦<Pcg32 as SeedableRng>⟧.seed_of_u64 seed) } }
+    ensures { result ≡ record {
+      future1 = future1;
+      future2 = future2;
+      rng = ⟦<Pcg32 as SeedableRng>⟧.of_seed (⟦<Pcg32 as SeedableRng>⟧.seed_of_u64 seed);
+    } }
 {
     race(future1, future2, Pcg32::seed_from_u64(seed))
 }

@@ -2,7 +2,7 @@ use super::bell::Bell;
 use super::counting::Counting;
 use super::refusing::Refusing;
 use futures::task::{Doorbell, Solo, Source};
-use futures_lite::future::{self, Future, FutureExt};
+use futures_lite::future::{self, BlockOn, Future, FutureExt};
 use futures_lite::{Context, Poll};
 use std::alloc::{AllocError, AllocGlobal, Global};
 use std::random::RandomSource;
@@ -71,6 +71,33 @@ fn each_of_two_sources_wakes_the_task(rt: HostRuntime) -> Result<(), Fail> {
 fn block_on_ends_at_a_wake_of_its_own_poll(rt: HostRuntime) -> Result<(), Fail> {
     future::block_on(&rt, future::yield_now())?;
     assert_eq!(rt; future::block_on(&rt, future::ready(7u8))?, 7);
+    Ok(())
+}
+
+#[test]
+fn one_sleeper_waits_for_many_futures(rt: HostRuntime) -> Result<(), Fail> {
+    let mut sleeper = BlockOn::new(&rt)?;
+    for i in 0..3u8 {
+        assert_eq!(rt; sleeper.block_on(&rt, future::ready(i))?, i);
+        sleeper.block_on(&rt, future::yield_now())?;
+    }
+    assert!(rt; BlockOn::new(&Refusing { rt: &rt }).is_err());
+    Ok(())
+}
+
+#[test]
+fn a_sleeper_ends_at_a_wake_of_another_thread(rt: HostRuntime) -> Result<(), Fail> {
+    let mut sleeper = BlockOn::new(&rt)?;
+    for _ in 0..2usize {
+        let bell = Bell::new(rt.alloc())?;
+        let future = bell.other()?;
+        let ended = thread::join(
+            &rt,
+            || sleeper.block_on(&rt, future),
+            || bell.ring_when_waited_for(&rt),
+        );
+        assert_eq!(rt; ended.0?, Ok(()));
+    }
     Ok(())
 }
 

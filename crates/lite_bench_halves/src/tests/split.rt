@@ -1,8 +1,7 @@
-use super::refusing::Refusing;
-use super::{by_kind, cursor_on, finishes, read, told, write};
 use futures::task::{Doorbell, Solo};
 use futures_lite::Poll;
 use futures_lite::io::{self, AsyncRead, AsyncWrite, IoSlice, IoSliceMut};
+use lite_bench_calls::{Refusing, by_kind, cursor_on, finishes, read, told, write};
 use lite_mock::{Order, Takes};
 use std::test::Fail;
 

@@ -2,9 +2,9 @@
 ghost use Rattle.lite_bench_io.specs.Bridge.{Drains, Holds};
 ghost use Rattle.lite_bench_io.specs.Laws.Bridge.{drains_laws, holds_laws};
 
-use super::{finishes, gives, ok, write};
 use futures_lite::io::{self, AsyncRead, AsyncWrite, Takings, Tale};
 use futures_lite::{Context, Poll};
+use lite_bench_calls::{finishes, gives, write};
 use std::io::{Read, Write};
 use std::test::Fail;
 
@@ -59,7 +59,7 @@ fn readers_and_writers_of_std_have_a_tale_and_takings(rt: HostRuntime) -> Result
     let mut writer = Bridge {
         inner: Vec::new(rt.alloc()),
     };
-    assert_eq!(rt; write(&rt, &mut writer, b"ab")?, ok(2));
+    assert_eq!(rt; write(&rt, &mut writer, b"ab")?, Poll::Ready(Ok(2)));
     assert!(rt; finishes(&rt, &mut writer)?);
     assert_eq!(rt; writer.inner.as_slice(), b"ab".as_slice());
     Ok(())

@@ -1,29 +1,31 @@
-use super::{answers, failed, finishes, gives, ok, ranked, write, write_both};
+use super::ranked;
 use futures_lite::Poll;
 use futures_lite::io::ErrorKind;
+use lite_bench_calls::{finishes, gives, try_read_room, try_write_both, write};
 use lite_mock::{Marks, Order, Takes};
+use std::io;
 use std::test::Fail;
 
 /// Whether a reader gives `abc`, `d`, a pending and an end, and then ends for ever.
-fn gives_what_is_told(rt: &HostRuntime, marks: &mut Marks) -> Result<bool, Fail> {
+fn gives_what_is_told(rt: &HostRuntime, marks: &mut Marks) -> io::Result<bool> {
     Ok(
         gives(rt, marks, 0, b"")?
             && gives(rt, marks, 2, b"ab")?
             && gives(rt, marks, 2, b"c")?
             && gives(rt, marks, 2, b"d")?
-            && answers(rt, marks, 0, Poll::Pending)?
+            && try_read_room(rt, marks, 0)? == Poll::Pending
             && gives(rt, marks, 2, b"")?
             && gives(rt, marks, 2, b"")?,
     )
 }
 
 /// Whether a writer takes two bytes, waits, fails, and then takes all.
-fn takes_what_is_told(rt: &HostRuntime, takes: &mut Takes) -> Result<bool, Fail> {
+fn takes_what_is_told(rt: &HostRuntime, takes: &mut Takes) -> io::Result<bool> {
     Ok(
-        write(rt, takes, b"abc")? == ok(2)
+        write(rt, takes, b"abc")? == Poll::Ready(Ok(2))
             && write(rt, takes, b"c")? == Poll::Pending
-            && write(rt, takes, b"c")? == failed(ErrorKind::Other)
-            && write_both(rt, takes, b"", b"cde")? == ok(3)
+            && write(rt, takes, b"c")? == Poll::Ready(Err(ErrorKind::Other))
+            && try_write_both(rt, takes, b"", b"cde")? == Poll::Ready(Ok(3))
             && finishes(rt, takes)?
             && takes.taken() == b"abcde".as_slice(),
     )

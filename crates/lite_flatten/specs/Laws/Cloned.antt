@@ -4,28 +4,25 @@ use Rattle.std.proofs.Common.{◌≡◌, ◌∙◌, ◌⊎◌, ℕ, List, [], �
 use Rattle.futures.specs.declared.task.Poll.TheVariants.{Ready, Pending}
 use denote.Ref.{Bor}
 use Rattle.lite_base.specs.Answers.{Answer, end, item}
+use Rattle.lite_base.specs.Laws.All.{all_append}
 use Rattle.lite_base.specs.OkRanks.{OkCounting, all_ok, ok_counting_by}
 use Rattle.lite_base.specs.Ranks.{Counting, Ranks}
 use Rattle.lite_base.specs.StreamLaws.{StreamLaws}
-use Rattle.lite_flatten.specs.Cloned.{Clones, ClonesAll, Refers, Refuses, cloned_parts}
+use Rattle.lite_flatten.specs.Cloned.{Clones, ClonesAll, IsRefusal, Refers, Refuses, cloned_parts}
 use Rattle.lite_flatten.specs.Laws.Lingering.{Giving, GivingOne, held_counting, held_ranks, lingering_following}
 use Rattle.lite_flatten.specs.Lingering.{HeldOn, Lingering, Lingers, Replaced}
 use Rattle.lite_stream.specs.Laws.Through.{laws_following}
 
 module _ {T E : Type 0} (is_clone : T → T → Type 0) (is_infallible : T → Type 0) where
-  refuses_both : (x : Bor T) (l m : List (Answer (Result T E))) → Refuses is_clone is_infallible x l → Refuses is_clone is_infallible x m → Refuses is_clone is_infallible x (l ++ m)
-  refuses_both x [] m h k = k
-  refuses_both x (a ∷ l) m h k = (h.0, refuses_both x l m h.1 k)
-
   nothing : (refused : List (Answer (Result T E))) (b : Answer (Result T E)) → [] ≡ refused ++ b ∷ [] → ⊥
   nothing [] b e = cc e
   nothing (a ∷ refused) b e = cc e
 
   clones_join : (x y : Bor T) (next : Option (Bor T)) (l m : List (Answer (Result T E))) → Clones is_clone is_infallible x l (Some y) → Clones is_clone is_infallible y m next → Clones is_clone is_infallible x (l ++ m) next
-  clones_join x y (Some z) l m h k = let d = subst (λ v. Clones is_clone is_infallible v m (Some z)) h.1 k in (refuses_both x l m h.0 d.0, d.1)
+  clones_join x y (Some z) l m h k = let d = subst (λ v. Clones is_clone is_infallible v m (Some z)) h.1 k in (all_append (IsRefusal is_clone is_infallible x) l m h.0 d.0, d.1)
   clones_join x y None l m h k =
       let d = subst (λ v. Clones is_clone is_infallible v m None) h.1 k in
-      (l ++ d.0, d.1, refuses_both x l d.0 h.0 d.2, d.3, ap (λ n. l ++ n) d.4 ∙ sym (append_assoc l d.0 (item (Ok d.1) ∷ [])))
+      (l ++ d.0, d.1, all_append (IsRefusal is_clone is_infallible x) l d.0 h.0 d.2, d.3, ap (λ n. l ++ n) d.4 ∙ sym (append_assoc l d.0 (item (Ok d.1) ∷ [])))
 
   clones_giving : Giving (Clones {E = E} is_clone is_infallible)
   clones_giving = record { rests = λ x. (tt, refl); stays = λ x y h. h.1; answers = λ x h. nothing h.0 (item (Ok h.1)) h.4; joins = clones_join }

@@ -3,7 +3,9 @@ use Rattle.std.proofs.Common.{◌≡◌, ◌≤◌, ◌∙◌, ℕ, List, [], �
 use Rattle.std.specs.Prelude.{IfSome}
 use Rattle.std.specs.List.{AllByRecursion}
 use Rattle.futures.specs.declared.task.Poll.TheVariants.{Ready, Pending}
-use Rattle.lite_base.specs.Answers.{Answer, before_end, item}
+use Rattle.lite_base.specs.Answers.{Answer, Comparable, before_end, item, strip}
+use Rattle.lite_base.specs.Calm.{Prompt}
+use Rattle.lite_base.specs.Laws.All.{all_append}
 use Rattle.lite_base.specs.Laws.Hint.{same_hint}
 use Rattle.lite_base.specs.Rank.{AtMost, Lowers}
 use Rattle.lite_base.specs.Ranks.{Counting}
@@ -11,10 +13,6 @@ use Rattle.lite_base.specs.StreamLaws.{StreamLaws}
 use Rattle.lite_source.specs.Always.{Always, no_ranks}
 
 module _ {A : Type 0} (may : Answer A → Type 0) where
-  pub all_append : (l m : List (Answer A)) → AllByRecursion may l → AllByRecursion may m → AllByRecursion may (l ++ m)
-  all_append [] m h k = k
-  all_append (a ∷ l) m h k = (h.0, all_append l m h.1 k)
-
   -- where no item may come
   module _ (none : (x : A) → may (item x) → ⊥) where
     no_items : (l : List (Answer A)) → AllByRecursion may l → before_end l ≤ 0
@@ -51,3 +49,18 @@ module _ {S A : Type 0} (may : S → Answer A → Type 0) where
           falls = λ x y a more c h. absurd (none x a h.0.0);
           lowers = λ x y l c h. no_items_lower (may x) (none x) l [] [] h.0 (inl refl);
         }
+
+module _ {A : Type 0} (b : Option A) where
+  -- lists of one answer
+  pub answers_same : (l m : List (Answer A)) → AllByRecursion (λ a. a ≡ Ready b) l → AllByRecursion (λ a. a ≡ Ready b) m → Comparable (strip l) (strip m)
+  answers_same [] m h k = tt
+  answers_same (a ∷ l) [] h k = rw h.0 tt
+  answers_same (a ∷ l) (c ∷ m) h k = rw (h.0, k.0) (refl, answers_same l m h.1 k.1)
+
+  pub answers_prompt : (l : List (Answer A)) → AllByRecursion (λ a. a ≡ Ready b) l → Prompt l
+  answers_prompt [] h = tt
+  answers_prompt (a ∷ l) h = rw h.0 (answers_prompt l h.1)
+
+pub pendings_strip : {A : Type 0} (l : List (Answer A)) → AllByRecursion (λ a. a ≡ Pending) l → strip l ≡ []
+pendings_strip [] h = refl
+pendings_strip (a ∷ l) h = rw h.0 (pendings_strip l h.1)

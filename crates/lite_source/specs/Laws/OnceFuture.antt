@@ -8,6 +8,7 @@ use Rattle.lite_base.specs.Answers.{Answer, Waiting, end}
 use Rattle.lite_base.specs.Falling.{Lowers-below}
 use Rattle.lite_base.specs.Future.Spent.{Spends}
 use Rattle.lite_base.specs.FutureLaws.{FutureLaws}
+use Rattle.lite_base.specs.Laws.All.{all_append}
 use Rattle.lite_base.specs.Laws.Future.Spent.{spends_follow, spends_rest, spends_stay}
 use Rattle.lite_base.specs.Laws.Hint.{same_hint}
 use Rattle.lite_base.specs.Rank.{AtMost, Lowers}
@@ -15,7 +16,7 @@ use Rattle.lite_base.specs.Ranks.{Counting, number_counting}
 use Rattle.lite_base.specs.StreamLaws.{StreamLaws}
 use Rattle.lite_base.specs.Future.Handed.{handed}
 use Rattle.lite_source.specs.OnceFuture.{GivesFuture, once_future_ranks}
-use Rattle.lite_source.specs.Laws.Always.{all_append, no_items_lower}
+use Rattle.lite_source.specs.Laws.Always.{no_items_lower}
 
 module _ {F A : Type 0} (run : F → List (Poll A) → F → Type 0) where
   pub once_future_laws : FutureLaws run → StreamLaws (GivesFuture run) (λ x hint. hint ≡ (0, None))

@@ -1,10 +1,13 @@
 -- Laws of `script`, and of other sources whose answers to come are a list.
-use Rattle.std.proofs.Common.{◌≡◌, ◌≤◌, List, [], ◌∷◌, ◌++◌, length, Some, None, refl, ap, subst, inl, arith}
+use Rattle.std.specs.Prelude.{⊤}
+use Rattle.std.proofs.Common.{◌≡◌, ◌∙◌, ◌≤◌, List, [], ◌∷◌, ◌++◌, length, Option, Some, None, refl, ap, subst, sym, inl, arith}
 use Rattle.futures.specs.declared.task.Poll.TheVariants.{Ready, Pending}
-use Rattle.lite_base.specs.Answers.{Answer, before_end}
+use Rattle.lite_base.specs.Answers.{Answer, Comparable, before_end, strip}
+use Rattle.lite_base.specs.Calm.{CalmLaws, Prompt}
 use Rattle.lite_base.specs.Falling.{Below-one, Lowers-at_most, Lowers-below}
 use Rattle.lite_base.specs.Rank.{Lowers}
 use Rattle.lite_base.specs.Laws.Hint.{same_hint}
+use Rattle.lite_base.specs.Steady.{Steadiness}
 use Rattle.lite_base.specs.StreamLaws.{StreamLaws}
 use Rattle.lite_source.specs.Script.{Gives}
 
@@ -30,3 +33,35 @@ module _ {A : Type 0} where
 
   pub script_laws : StreamLaws (Gives {A = A}) (λ x hint. hint ≡ (0, None))
   script_laws = record { rests = λ x. refl; stays = λ x y h. h; follows = gives_follow; bounded = λ x y hint l e h. same_hint hint (0, None) l e tt }
+
+  -- these, in order, and then ends
+  abbrev Emits : List (Option A) → List (Option A) → Type 0
+  Emits s [] = ⊤
+  Emits [] (a ∷ l) = (a ≡ None) × Emits [] l
+  Emits (b ∷ s) (a ∷ l) = (a ≡ b) × Emits s l
+
+  gives_emits : (x y l : List (Answer A)) → Gives x l y → Emits (strip x) (strip l)
+  gives_emits x y [] h = tt
+  gives_emits [] y (a ∷ l) h = rw h.0 (refl, gives_emits [] y l h.1)
+  gives_emits (Pending ∷ x) y (a ∷ l) h = rw h.0 (gives_emits x y l h.1)
+  gives_emits (Ready b ∷ x) y (a ∷ l) h = rw h.0 (refl, gives_emits x y l h.1)
+
+  emits_same : (s l m : List (Option A)) → Emits s l → Emits s m → Comparable l m
+  emits_same s [] m h k = tt
+  emits_same s (a ∷ l) [] h k = tt
+  emits_same [] (a ∷ l) (b ∷ m) h k = (h.0 ∙ sym k.0, emits_same [] l m h.1 k.1)
+  emits_same (c ∷ s) (a ∷ l) (b ∷ m) h k = (h.0 ∙ sym k.0, emits_same s l m h.1 k.1)
+
+  -- lists that differ in their Pendings alone
+  pub gives_steady : Steadiness (Gives {A = A}) (λ x y. strip x ≡ strip y)
+  gives_steady x y e l m x' y' h k = emits_same (strip x) (strip l) (strip m) (gives_emits x x' l h) (rw e (gives_emits y y' m k))
+
+  gives_prompt : (x y l : List (Answer A)) → Prompt x → Gives x l y → Prompt l × Prompt y
+  gives_prompt x y [] k h = rw h (tt, k)
+  gives_prompt [] y (a ∷ l) k h = rw h.0 (gives_prompt [] y l k h.1)
+  gives_prompt (Pending ∷ x) y (a ∷ l) k h = absurd k
+  gives_prompt (Ready b ∷ x) y (a ∷ l) k h = rw h.0 (gives_prompt x y l k h.1)
+
+  -- a list without a Pending
+  pub gives_calm : CalmLaws (Gives {A = A}) Prompt
+  gives_calm = record { prompt = λ x y l k h. (gives_prompt x y l k h).0; calm_on = λ x y l k h. (gives_prompt x y l k h).1 }

@@ -4,7 +4,9 @@ use Rattle.futures.specs.declared.task.Poll.TheVariants.{Ready, Pending}
 use Rattle.lite_base.specs.Answers.{Answer, end, item, until_end}
 use Rattle.lite_stream.specs.Cutting.{Cuts}
 use Rattle.lite_stream.specs.Fuse.{AllEnds, FusesOn}
-use Rattle.lite_stream.specs.Laws.Cutting.{cuts_turning}
+use Rattle.lite_stream.specs.Laws.Agreeing.{Agreeing}
+use Rattle.lite_stream.specs.Laws.Calming.{Calming}
+use Rattle.lite_stream.specs.Laws.Cutting.{cuts_agreeing, cuts_calming, cuts_turning}
 use Rattle.lite_stream.specs.Laws.Through.{Turning, turning_by}
 
 abbrev pub is_end : {A : Type 0} → Answer A → Bool
@@ -21,6 +23,10 @@ ended_after b before = is_end b
 
 not_ended : false ≡ true → ⊥
 not_ended e = cc e
+
+pends : (A : Type 0) (f : Bool) → (has_ended f → ⊥) → ended_after {A = A} Pending f ≡ f
+pends A true n = absurd (n refl)
+pends A false n = refl
 
 module _ {A : Type 0} where
   -- before an answer that is no end
@@ -73,3 +79,9 @@ module _ {A : Type 0} where
 
   pub fuses_turning : Turning (FusesOn {A = A})
   fuses_turning = turning_by to_cuts of_cuts (cuts_turning has_ended ended_after)
+
+  pub fuses_agreeing : Agreeing (FusesOn {A = A}) (λ f k. k ≡ f)
+  fuses_agreeing f k g l i j o p a r q = cuts_agreeing has_ended ended_after (pends A) f k g l i j o p a (to_cuts f g i o r) (to_cuts k l j p q)
+
+  pub fuses_calming : Calming (FusesOn {A = A})
+  fuses_calming f g i o r = cuts_calming has_ended ended_after f g i o (to_cuts f g i o r)

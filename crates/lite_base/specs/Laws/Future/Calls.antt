@@ -1,13 +1,18 @@
 -- Laws of a closure that is polled.
-use Rattle.std.proofs.Common.{List, ◌∷◌, refl, sym, ap}
+use Rattle.std.specs.Prelude.{⊤}
+use Rattle.std.proofs.Common.{List, ◌∷◌, ◌++◌, refl, sym, ap}
 use Rattle.futures.specs.Poll.{OnPending}
 use Rattle.futures.specs.declared.task.Poll.{Poll}
 use Rattle.futures.specs.declared.task.Poll.TheVariants.{Ready, Pending}
+use Rattle.lite_base.specs.Alike.{Alike}
 use Rattle.lite_base.specs.Answers.{Waiting}
-use Rattle.lite_base.specs.Future.Calls.{AlwaysObeys, Answers, Polled, Poller}
+use Rattle.lite_base.specs.Calm.{CalmLaws}
+use Rattle.lite_base.specs.Future.Calls.{AlwaysObeys, Answers, NeverPends, Polled, Poller}
 use Rattle.lite_base.specs.FutureLaws.{FutureLaws}
 use Rattle.lite_base.specs.Laws.Answers.{up_to_once, waiting_up_to}
 use Rattle.lite_base.specs.Laws.Calls.{folds_follow}
+use Rattle.lite_base.specs.Laws.Calm.{prompt_back}
+use Rattle.lite_base.specs.Steady.{FutureSteadyLaws, future_steady_always}
 use Rattle.lite_base.specs.declared.future.poll_fn.PollFn.{PollFn}
 
 module _ {F A : Type 0} (g : Poller F A) where
@@ -18,6 +23,17 @@ module _ {F A : Type 0} (g : Poller F A) where
         stays = λ x y h. ap (λ v. record x { f = v }) (sym h.1);
         follows = λ x y z l m w h k. (waiting_up_to l m w k.0, folds_follow (Answers g) x.f y.f z.f l m h.1 k.1);
         once = λ x y l h. up_to_once l h.0;
+      }
+
+  -- by what its answers are, a function is its own source
+  pub polled_steady : FutureSteadyLaws (λ (x : PollFn F) (l : List (Poll A)) (y : PollFn F). Polled g x.f l y.f) (λ x l y. Polled g x.f l y.f) ⊤ (Alike (λ x l y. Polled g x.f l y.f))
+  polled_steady = future_steady_always polled_laws (λ x y e. e)
+
+  pub polled_calm : CalmLaws (λ (x : PollFn F) (l : List (Poll A)) (y : PollFn F). Polled g x.f l y.f) (λ x. NeverPends g x.f)
+  polled_calm =
+      record {
+        prompt = λ x y l k h. k.at l y.f h.1;
+        calm_on = λ x y l k h. record { at = λ m q d. prompt_back l m (k.at (l ++ m) q (folds_follow (Answers g) x.f y.f q l m h.1 d)) };
       }
 
   -- after a call whose answer goes on, it still obeys

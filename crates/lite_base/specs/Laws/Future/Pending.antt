@@ -1,9 +1,11 @@
 -- Laws of `pending`.
+use Rattle.std.specs.Prelude.{⊤}
 use Rattle.std.proofs.Common.{◌≡◌, ◌∙◌, List, refl}
 use Rattle.futures.specs.declared.task.Poll.{Poll}
 use Rattle.lite_base.specs.Answers.{Waiting}
 use Rattle.lite_base.specs.FutureLaws.{FutureLaws}
-use Rattle.lite_base.specs.Laws.Answers.{waiting_once, waiting_waiting}
+use Rattle.lite_base.specs.Laws.Answers.{waiting_once, waiting_strip, waiting_waiting}
+use Rattle.lite_base.specs.Steady.{FutureSteadyLaws, future_steady_always}
 
 pub waits_laws : {F A : Type 0} → FutureLaws (λ (x : F) (l : List (Poll A)) (y : F). Waiting l × (y ≡ x))
 waits_laws =
@@ -13,3 +15,6 @@ waits_laws =
       follows = λ x y z l m w h k. (waiting_waiting l m w k.0, k.1 ∙ h.1);
       once = λ x y l h. waiting_once l h.0;
     }
+
+pub waits_steady : {F A : Type 0} → FutureSteadyLaws (λ (x : F) (l : List (Poll A)) (y : F). Waiting l × (y ≡ x)) (λ x l y. Waiting l × (y ≡ x)) ⊤ (λ x y. ⊤)
+waits_steady = future_steady_always waits_laws (λ x y e l m x' y' h k. rw (waiting_strip l h.0) tt)

@@ -1,8 +1,10 @@
 -- Laws of `poll_once`.
+use Rattle.std.specs.Prelude.{⊤}
 use Rattle.std.proofs.Common.{◌≤◌, List, [], ◌∷◌, ◌++◌, length, Option, refl, subst, arith}
 use Rattle.futures.specs.declared.task.Poll.{Poll}
 use Rattle.futures.specs.declared.task.Poll.TheVariants.{Ready, Pending}
 use Rattle.lite_base.specs.Answers.{Waiting, strip}
+use Rattle.lite_base.specs.Calm.{CalmLaws, Prompt}
 use Rattle.lite_base.specs.Future.PollOnce.{TellsFirst}
 use Rattle.lite_base.specs.FutureLaws.{FutureLaws}
 use Rattle.lite_base.specs.declared.future.poll_once.PollOnce.{PollOnce}
@@ -17,6 +19,14 @@ module _ {F A : Type 0} (run : F → List (Poll A) → F → Type 0) where
   tells_once x y [] h = omega arith
   tells_once x y (Pending ∷ l) h = absurd (let e = h.2 in cc)
   tells_once x y (Ready b ∷ l) h = rw h.3 (omega arith)
+
+  tells_prompt : (x y : PollOnce F) (l : List (Poll (Option A))) → TellsFirst run x l y → Prompt l
+  tells_prompt x y [] h = tt
+  tells_prompt x y (Pending ∷ l) h = absurd (let e = h.2 in cc)
+  tells_prompt x y (Ready b ∷ l) h = rw h.3 tt
+
+  pub tells_calm : CalmLaws (TellsFirst run) (λ x. ⊤)
+  tells_calm = record { prompt = λ x y l k h. tells_prompt x y l h; calm_on = λ x y l k h. tt }
 
   pub tells_laws : FutureLaws (TellsFirst run)
   tells_laws = record { rests = λ x. refl; stays = λ x y h. h; follows = tells_follow; once = tells_once }

@@ -6,7 +6,8 @@ use Rattle.lite_base.specs.Answers.{Gives}
 use Rattle.lite_base.specs.Future.Spent.{Spends}
 use Rattle.lite_base.specs.FutureLaws.{FutureLaws}
 use Rattle.lite_base.specs.Laws.Answers.{waiting_waiting}
-use Rattle.lite_base.specs.Laws.Future.Finishes.{finishes_later}
+use Rattle.lite_base.specs.Laws.Future.Finishes.{finishes_found, finishes_later}
+use Rattle.lite_base.specs.Steady.{TakesNone}
 
 module _ {A B : Type 0} (shown : Poll A → Poll B) where
   pub shown_none : (ins : List (Poll A)) → [] ≡ map shown ins → ins ≡ []
@@ -53,3 +54,18 @@ module _ {F A B : Type 0} {run : F → List (Poll A) → F → Type 0} (shown : 
       }
   spends_follow more (Some f) (Some g) (Some j) l m h k =
       (h.0 ++ k.0, waiting_waiting h.0 k.0 h.1 k.1, laws.follows f g j h.0 k.0 h.1 h.2 k.2, rw (h.3, k.3, map-append) refl)
+
+module _ {F A B : Type 0} {run ample : F → List (Poll A) → F → Type 0} (shown : Poll A → Poll B) (Later : List (Poll B) → Type 0) where
+  -- where no poll asks for memory
+  pub spends_found : TakesNone run ample → (x y : Option F) (l : List (Poll B)) → Spends run shown Later x l y → Spends ample shown Later x l y
+  spends_found takes None y l h = h
+  spends_found takes (Some f) (Some g) l h = (h.0, h.1, takes f g h.0 h.2, h.3)
+  spends_found takes (Some f) None l h =
+      record {
+        ins = h.ins;
+        value = h.value;
+        finishes = finishes_found takes f h.ins h.value h.finishes;
+        after = h.after;
+        later = h.later;
+        joined = h.joined;
+      }

@@ -1,14 +1,26 @@
 -- Laws of `zip`.
 use Rattle.std.proofs.Common.{List}
 use Rattle.futures.specs.declared.task.Poll.{Poll}
+use Rattle.lite_base.specs.Answers.{strip}
+use Rattle.lite_base.specs.Calm.{CalmLaws}
+use Rattle.lite_base.specs.Future.Half.{HalvesBy, IfAsked}
 use Rattle.lite_base.specs.Future.Zip.{Zips}
 use Rattle.lite_base.specs.FutureLaws.{FutureLaws}
-use Rattle.lite_base.specs.Laws.Future.Together.{together_follow, together_once, together_rest, together_stay}
+use Rattle.lite_base.specs.Laws.Alike.{alike_agrees, by_value, up_to_gives}
+use Rattle.lite_base.specs.Laws.Future.Agree.{HalvesAgree, zips_agree}
+use Rattle.lite_base.specs.Laws.Future.Half.{stands_calm, stands_found}
+use Rattle.lite_base.specs.Laws.Future.Together.{leaves_calm, leaves_up_to, rows_prompt, together_follow, together_once, together_rest, together_stay}
+use Rattle.lite_base.specs.Steady.{FutureSteadyLaws, Steadiness}
+use Rattle.lite_base.specs.declared.future.half.Half.{Half}
+use Rattle.lite_base.specs.declared.future.half.Half.TheVariants.{Asked, Gave, Taken}
 use Rattle.lite_base.specs.declared.future.zip.Zip.{Zip}
 
+-- `zip` of futures that run so
+abbrev Zipped : {F G A B : Type 0} → (F → List (Poll A) → F → Type 0) → (G → List (Poll B) → G → Type 0) → Zip F G A B → List (Poll (A × B)) → Zip F G A B → Type 0
+Zipped run_first run_second x l y = Zips run_first run_second x.first x.second l y.first y.second
+
 module _ {F G A B : Type 0} {run_first : F → List (Poll A) → F → Type 0} {run_second : G → List (Poll B) → G → Type 0} where
-  pub zips_laws : FutureLaws run_first → FutureLaws run_second
-      → FutureLaws (λ (x : Zip F G A B) (l : List (Poll (A × B))) (y : Zip F G A B). Zips run_first run_second x.first x.second l y.first y.second)
+  pub zips_laws : FutureLaws run_first → FutureLaws run_second → FutureLaws (Zipped run_first run_second)
   zips_laws laws_first laws_second =
       record {
         rests = λ x. together_rest (λ v. v) (λ w. w) (λ v w. (v, w)) run_first run_second laws_first laws_second x.first x.second;
@@ -17,4 +29,53 @@ module _ {F G A B : Type 0} {run_first : F → List (Poll A) → F → Type 0} {
             λ i. record { first = e.0 i; second = e.1 i };
         follows = λ x y z. together_follow (λ v. v) (λ w. w) (λ v w. (v, w)) run_first run_second laws_first laws_second x.first y.first z.first x.second y.second z.second;
         once = λ x y. together_once (λ v. v) (λ w. w) (λ v w. (v, w)) run_first run_second x.first y.first x.second y.second;
+      }
+
+  pub zips_calm : {calm_first : F → Type 0} {calm_second : G → Type 0} → CalmLaws run_first calm_first → CalmLaws run_second calm_second
+      → CalmLaws (Zipped run_first run_second) (λ x. IfAsked x.first calm_first × IfAsked x.second calm_second)
+  zips_calm {calm_first} {calm_second} c d =
+      record {
+        prompt = λ x y l k h.
+            rows_prompt (λ v w. (v, w)) h.i h.j l h.rows
+            (stands_calm (λ v. v) run_first c x.first h.p h.i k.0 h.first).0 (stands_calm (λ w. w) run_second d x.second h.q h.j k.1 h.second).0;
+        calm_on = λ x y l k h. (
+          leaves_calm calm_first l h.p y.first h.leaves.0 (stands_calm (λ v. v) run_first c x.first h.p h.i k.0 h.first).1,
+          leaves_calm calm_second l h.q y.second h.leaves.1 (stands_calm (λ w. w) run_second d x.second h.q h.j k.1 h.second).1,
+        );
+      }
+
+halves_agree : {F A : Type 0} (run : F → List (Poll A) → F → Type 0) (alike : F → F → Type 0) → Steadiness run alike → (x y : Half F A) → HalvesBy alike x y → HalvesAgree run x y
+halves_agree run alike s (Asked f) (Asked g) e = alike_agrees run f g (s f g e)
+halves_agree run alike s (Asked f) (Gave w) e = e
+halves_agree run alike s (Asked f) Taken e = e
+halves_agree run alike s (Gave v) (Gave w) e = e
+halves_agree run alike s (Gave v) (Asked g) e = e
+halves_agree run alike s (Gave v) Taken e = e
+halves_agree run alike s Taken y e = e
+
+module _ {F G A B : Type 0} {run_first ample_first : F → List (Poll A) → F → Type 0} {run_second ample_second : G → List (Poll B) → G → Type 0}
+    {none_first none_second : Type 0} {alike_first : F → F → Type 0} {alike_second : G → G → Type 0}
+    (s : FutureSteadyLaws run_first ample_first none_first alike_first) (t : FutureSteadyLaws run_second ample_second none_second alike_second) where
+  pub zips_steady : FutureSteadyLaws (Zipped run_first run_second) (Zipped ample_first ample_second) (none_first × none_second)
+      (λ (x y : Zip F G A B). HalvesBy alike_first x.first y.first × HalvesBy alike_second x.second y.second)
+  zips_steady =
+      record {
+        laws = zips_laws s.laws t.laws;
+        steady = λ x y e l m x' y' h k.
+            by_value (strip l) (strip m) ((zips_laws s.laws t.laws).once x x' l h) ((zips_laws s.laws t.laws).once y y' m k)
+            (λ v w f g.
+            zips_agree ample_first ample_second x.first y.first x'.first y'.first x.second y.second x'.second y'.second l m v w
+            (halves_agree ample_first alike_first s.steady x.first y.first e.0) (halves_agree ample_second alike_second t.steady x.second y.second e.1) h k
+            (up_to_gives l v (leaves_up_to l h.p x'.first h.leaves.0) f) (up_to_gives m w (leaves_up_to m k.p y'.first k.leaves.0) g));
+        found = λ n x y l h.
+            record {
+              i = h.i;
+              j = h.j;
+              p = h.p;
+              q = h.q;
+              first = stands_found (λ v. v) (s.found n.0) x.first h.p h.i h.first;
+              second = stands_found (λ w. w) (t.found n.1) x.second h.q h.j h.second;
+              rows = h.rows;
+              leaves = h.leaves;
+            };
       }

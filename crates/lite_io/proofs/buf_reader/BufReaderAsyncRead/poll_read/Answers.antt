@@ -1,4 +1,4 @@
-use Rattle.std.proofs.Common.{◌≡◌, ◌≤◌, ◌<◌, ◌++◌, [], Ok, length, take, drop, min, refl, rules, arith, take-take}
+use Rattle.std.proofs.Common.{◌≡◌, ◌≤◌, ◌<◌, [], Ok, length, take, min, refl, rules, arith, take-take}
 use Rattle.std.proofs.lemmas.Grind.{common_steps}
 use Rattle.futures.specs.declared.task.Poll.TheVariants.{Ready}
 use Rattle.lite_io_base.specs.Marks.{bytes, filled, read_marks}
@@ -29,8 +29,8 @@ returns-2-clause-ran g c =
     let s = c.fill.new.self in
     let y = c.advance.new.self in
     let e = c.advance.ensures in
-    let n = c.min-n.result in
-    let room = c.copy_from_slice.new.self ++ drop n c.args.buf.now in
+    let n = c.fill_slice-n.result in
+    let room = c.fill_slice-n.new.buf in
     let ready : c.fill.result ≡ Ready (Ok c.in-Ok.field-0) = search rules in
     let fills : Through reads x (filled (ahead s)) s = rw ready at c.fill.ensures.ran in
     let len = length-slice_range s.buf.items s.pos s.end s.in_range.0 s.in_range.1 in

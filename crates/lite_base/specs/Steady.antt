@@ -1,0 +1,48 @@
+-- Streams and futures whose answers do not depend on when they were pending, where memory was found: the runs in which it was are the ample ones.
+use Rattle.std.specs.Prelude.{⊤, List}
+use denote.MutBor.{MutBor}
+use Rattle.futures.specs.declared.task.Poll.{Poll}
+use Rattle.lite_base.specs.Alike.{Alike}
+use Rattle.lite_base.specs.FutureLaws.{FutureLaws}
+use Rattle.lite_base.specs.Lent.{Lent, lent_future_laws}
+
+module _ {S A : Type 0} where
+  -- values that are alike have runs that are
+  abbrev pub Steadiness : (S → List (Poll A) → S → Type 0) → (S → S → Type 0) → Type 0
+  Steadiness ample alike = (x y : S) → alike x y → Alike ample x y
+
+  -- no poll asks for memory: each run is ample
+  abbrev pub TakesNone : (S → List (Poll A) → S → Type 0) → (S → List (Poll A) → S → Type 0) → Type 0
+  TakesNone run ample = (x y : S) (l : List (Poll A)) → run x l y → ample x l y
+
+-- what a steady stream's runs meet
+pub record SteadyLaws {S A : Type 0} (run ample : S → List (Poll A) → S → Type 0) (needs_none : Type 0) (alike : S → S → Type 0) : Type 0 where
+  pub steady : Steadiness ample alike
+  pub found : needs_none → TakesNone run ample
+
+-- what a steady future's runs meet: the ample ones have the laws of all too
+pub record FutureSteadyLaws {F A : Type 0} (run ample : F → List (Poll A) → F → Type 0) (needs_none : Type 0) (alike : F → F → Type 0) : Type 0 where
+  pub laws : FutureLaws ample
+  pub steady : Steadiness ample alike
+  pub found : needs_none → TakesNone run ample
+
+lent_steadiness : {S A : Type 0} {ample : S → List (Poll A) → S → Type 0} {alike : S → S → Type 0} → Steadiness ample alike → Steadiness (Lent ample) (λ (x y : MutBor S). alike x.now y.now)
+lent_steadiness s x y e l m x' y' h k = s x.now y.now e l m x'.now y'.now h.0 k.0
+
+lent_takes_none : {S A : Type 0} {run ample : S → List (Poll A) → S → Type 0} → TakesNone run ample → TakesNone (Lent run) (Lent ample)
+lent_takes_none t x y l h = (t x.now y.now l h.0, h.1)
+
+module _ {S A : Type 0} {run ample : S → List (Poll A) → S → Type 0} {needs_none : Type 0} {alike : S → S → Type 0} where
+  pub lent_steady : SteadyLaws run ample needs_none alike → SteadyLaws (Lent run) (Lent ample) needs_none (λ (x y : MutBor S). alike x.now y.now)
+  lent_steady s = record { steady = lent_steadiness s.steady; found = λ n. lent_takes_none (s.found n) }
+
+  pub lent_future_steady : FutureSteadyLaws run ample needs_none alike → FutureSteadyLaws (Lent run) (Lent ample) needs_none (λ (x y : MutBor S). alike x.now y.now)
+  lent_future_steady s = record { laws = lent_future_laws s.laws; steady = lent_steadiness s.steady; found = λ n. lent_takes_none (s.found n) }
+
+module _ {S A : Type 0} {run : S → List (Poll A) → S → Type 0} {alike : S → S → Type 0} where
+  -- where no poll asks for memory
+  pub steady_always : Steadiness run alike → SteadyLaws run run ⊤ alike
+  steady_always s = record { steady = s; found = λ n x y l h. h }
+
+  pub future_steady_always : FutureLaws run → Steadiness run alike → FutureSteadyLaws run run ⊤ alike
+  future_steady_always laws s = record { laws = laws; steady = s; found = λ n x y l h. h }

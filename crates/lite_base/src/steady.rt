@@ -1,0 +1,24 @@
+ghost use Rattle.std.specs.Prelude.{List, ⊤};
+ghost use Rattle.lite_base.specs.Answers.{Answer};
+ghost use Rattle.lite_base.specs.Steady.{SteadyLaws};
+
+use crate::stream::Stream;
+
+/// A stream whose answers do not depend on when it was pending, where memory was found.
+///
+/// The original has no such trait: it is a law, which its documentation leaves unsaid.
+pub trait SteadyStream: Stream {
+    /// The runs in which no memory was refused.
+    ghost ample: { Self → List (Answer Self.Item) → Self → Type 0 };
+
+    /// That no poll asks for memory; then each run is ample.
+    ghost needs_none: { Type 0 } = { ⊤ };
+
+    /// The values whose answers are the same, pendings aside.
+    ghost alike: { Self → Self → Type 0 };
+
+    /// Does nothing. The trait is its law.
+    fn is_steady(&self) {}
+
+    ghost steady: { SteadyLaws Self.run ample needs_none alike };
+}

@@ -1,0 +1,5 @@
+//! Tests of journals.
+#![tactic(auto)]
+
+#[cfg(test)]
+mod tests;

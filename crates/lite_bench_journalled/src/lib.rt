@@ -1,0 +1,5 @@
+//! Tests of the halves of journals.
+#![tactic(auto)]
+
+#[cfg(test)]
+mod tests;

@@ -1,0 +1,215 @@
+ghost use Rattle.lite_bench_calls.specs.Named.{IsOf};
+
+use futures_lite::Poll;
+use futures_lite::io::{
+    Answer, AsyncRead, AsyncWrite, Blanks, Call, Cursor, Entry, Journal, JournalReadHalf,
+    JournalWriteHalf, history, split_journalled,
+};
+use lite_bench_calls::{are, finishes, got, journal_on, read, reads_byte, write};
+use lite_mock::Marks;
+use std::alloc::AllocGlobal;
+use std::marker::Brand;
+use std::process::Abort;
+use std::random::RandomSource;
+use std::sync::Wait;
+use std::sync::ledger::Ledger;
+use std::test::Fail;
+
+type VecCursor = Cursor<Vec<u8>>;
+
+/// Asserts that two reads of one byte give `xy`, and that a third waits.
+fn assert_reads_both_and_waits<R, S>(rt: R, reader: &mut S) -> Result<(), Fail>
+where
+    R: Abort + RandomSource + AllocGlobal + Copy,
+    S: AsyncRead,
+{
+    assert!(rt; reads_byte(&rt, reader, b'x')? && reads_byte(&rt, reader, b'y')?);
+    assert_eq!(rt; read(&rt, reader, &mut [0])?, Poll::Pending);
+    Ok(())
+}
+
+/// Asserts that the entries are three reads of one byte, of which the last one waited.
+fn assert_three_reads<R: Abort + AllocGlobal + Copy>(rt: R, entries: &[Entry]) -> Result<(), Fail> {
+    let calls = [
+        Call::Read { room: 1 },
+        Call::Read { room: 1 },
+        Call::Read { room: 1 },
+    ];
+    let (first, second) = (got(rt.alloc(), b"x")?, got(rt.alloc(), b"y")?);
+    assert!(rt; are(entries, &calls, &[first, second, Answer::Pending]));
+    Ok(())
+}
+
+/// Three reads by a half, of `x`, of `y` and of nothing yet, and what is told of them.
+fn read_thrice<R, A, B, C, D>(
+    rt: R,
+    reader: &mut JournalReadHalf<R, Marks, A, B, C, D>,
+    writer: &mut JournalWriteHalf<R, Marks, A, B, C, D>,
+) -> Result<(), Fail>
+where
+    R: Wait + Abort + RandomSource + AllocGlobal + Copy,
+    A: Ledger,
+    B: Ledger,
+    C: Ledger,
+    D: Ledger,
+{
+    assert_reads_both_and_waits(rt, reader)?;
+    assert_eq!(rt; (reader.calls(), reader.bytes()), (3, 2));
+    assert_eq!(rt; (writer.calls(), writer.bytes()), (0, 0));
+    let told = history(reader, writer)?;
+    assert_three_reads(rt, told.entries())
+}
+
+fn three_reads<R, A, B, C, D>(rt: R, journal: Journal<Marks>, blanks: Blanks) -> Result<(), Fail>
+where
+    R: Wait + Abort + RandomSource + AllocGlobal + Copy,
+    A: Ledger,
+    B: Ledger,
+    C: Ledger,
+    D: Ledger,
+    requires reads { IsOf blanks.reads A.name A.parts }
+    requires got { IsOf blanks.got B.name B.parts }
+    requires writes { IsOf blanks.writes C.name C.parts }
+    requires taken { IsOf blanks.taken D.name D.parts }
+{
+    let Ok((mut reader, mut writer)) = split_journalled::<R, Marks, A, B, C, D>(rt, journal, blanks)
+    else {
+        return Err(Fail::from("memory"));
+    };
+    read_thrice(rt, &mut reader, &mut writer)
+}
+
+#[test]
+fn three_reads_of_one_byte_are_three_entries(rt: HostRuntime) -> Result<(), Fail> {
+    let mut marks = Marks::new(rt.alloc());
+    marks.chunk(b"xy")?;
+    marks.pending()?;
+    let Ok(journal) = Journal::new(rt.alloc(), marks) else {
+        return Err(Fail::from("memory"));
+    };
+    three_reads::<HostRuntime, Brand, Brand, Brand, Brand>(rt, journal, Blanks::new())
+}
+
+/// Asserts that a read, a write and a read move `x`, `z` and nothing.
+fn assert_reads_and_writes<R, S, T>(rt: R, reader: &mut S, writer: &mut T) -> Result<(), Fail>
+where
+    R: Abort + RandomSource + AllocGlobal + Copy,
+    S: AsyncRead,
+    T: AsyncWrite,
+{
+    assert!(rt; reads_byte(&rt, reader, b'x')?);
+    assert_eq!(rt; write(&rt, writer, b"z")?, Poll::Ready(Ok(1)));
+    assert_eq!(rt; read(&rt, reader, &mut [0])?, Poll::Ready(Ok(0)));
+    Ok(())
+}
+
+/// Asserts that the entries are those of `assert_reads_and_writes`.
+fn assert_read_write_read<R: Abort + AllocGlobal + Copy>(
+    rt: R,
+    entries: &[Entry],
+) -> Result<(), Fail> {
+    let z = Call::Write(Vec::from_slice(rt.alloc(), b"z")?);
+    let calls = [Call::Read { room: 1 }, z, Call::Read { room: 1 }];
+    let (first, last) = (got(rt.alloc(), b"x")?, got(rt.alloc(), b"")?);
+    assert!(rt; are(entries, &calls, &[first, Answer::Wrote(1), last]));
+    Ok(())
+}
+
+/// A read, a write and a read by two halves, and what is told of them.
+fn read_write_and_read<R, A, B, C, D>(
+    rt: R,
+    reader: &mut JournalReadHalf<R, VecCursor, A, B, C, D>,
+    writer: &mut JournalWriteHalf<R, VecCursor, A, B, C, D>,
+) -> Result<(), Fail>
+where
+    R: Wait + Abort + RandomSource + AllocGlobal + Copy,
+    A: Ledger,
+    B: Ledger,
+    C: Ledger,
+    D: Ledger,
+{
+    assert_reads_and_writes(rt, reader, writer)?;
+    assert_eq!(rt; (reader.calls(), reader.bytes()), (2, 1));
+    assert_eq!(rt; (writer.calls(), writer.bytes()), (1, 1));
+    let told = history(reader, writer)?;
+    assert_read_write_read(rt, told.entries())?;
+    assert_eq!(rt; told.into_inner().into_inner().as_slice(), b"xz".as_slice());
+    assert!(rt; finishes(&rt, writer)?);
+    assert_eq!(rt; (writer.calls(), writer.bytes()), (3, 1));
+    Ok(())
+}
+
+fn read_write_read<R, A, B, C, D>(
+    rt: R,
+    journal: Journal<VecCursor>,
+    blanks: Blanks,
+) -> Result<(), Fail>
+where
+    R: Wait + Abort + RandomSource + AllocGlobal + Copy,
+    A: Ledger,
+    B: Ledger,
+    C: Ledger,
+    D: Ledger,
+    requires reads { IsOf blanks.reads A.name A.parts }
+    requires got { IsOf blanks.got B.name B.parts }
+    requires writes { IsOf blanks.writes C.name C.parts }
+    requires taken { IsOf blanks.taken D.name D.parts }
+{
+    let Ok((mut reader, mut writer)) = split_journalled::<R, VecCursor, A, B, C, D>(
+        rt, journal, blanks,
+    ) else {
+        return Err(Fail::from("memory"));
+    };
+    read_write_and_read(rt, &mut reader, &mut writer)
+}
+
+#[test]
+fn the_history_has_the_calls_of_both_halves(rt: HostRuntime) -> Result<(), Fail> {
+    let journal = journal_on(rt.alloc(), b"xy")?;
+    read_write_read::<HostRuntime, Brand, Brand, Brand, Brand>(rt, journal, Blanks::new())
+}
+
+fn told_at_once<R, A, B, C, D>(
+    rt: R,
+    journal: Journal<VecCursor>,
+    blanks: Blanks,
+) -> Result<(), Fail>
+where
+    R: Wait + Abort + RandomSource + AllocGlobal + Copy,
+    A: Ledger,
+    B: Ledger,
+    C: Ledger,
+    D: Ledger,
+    requires reads { IsOf blanks.reads A.name A.parts }
+    requires got { IsOf blanks.got B.name B.parts }
+    requires writes { IsOf blanks.writes C.name C.parts }
+    requires taken { IsOf blanks.taken D.name D.parts }
+{
+    let Ok((reader, writer)) = split_journalled::<R, VecCursor, A, B, C, D>(rt, journal, blanks)
+    else {
+        return Err(Fail::from("memory"));
+    };
+    assert_eq!(rt; (reader.calls(), reader.bytes()), (2, 1));
+    assert_eq!(rt; (writer.calls(), writer.bytes()), (3, 1));
+    Ok(())
+}
+
+/// Asserts that a read, a write, a flush, a close and a read move `x`, `z` and nothing.
+fn assert_used_by_all_calls<R, S>(rt: R, stream: &mut S) -> Result<(), Fail>
+where
+    R: Abort + RandomSource + AllocGlobal + Copy,
+    S: AsyncRead + AsyncWrite,
+{
+    assert!(rt; reads_byte(&rt, stream, b'x')?);
+    assert_eq!(rt; write(&rt, stream, b"z")?, Poll::Ready(Ok(1)));
+    assert!(rt; finishes(&rt, stream)?);
+    assert_eq!(rt; read(&rt, stream, &mut [0])?, Poll::Ready(Ok(0)));
+    Ok(())
+}
+
+#[test]
+fn the_halves_tell_the_entries_from_before_the_split(rt: HostRuntime) -> Result<(), Fail> {
+    let mut journal = journal_on(rt.alloc(), b"xy")?;
+    assert_used_by_all_calls(rt, &mut journal)?;
+    told_at_once::<HostRuntime, Brand, Brand, Brand, Brand>(rt, journal, Blanks::new())
+}

@@ -1,0 +1,34 @@
+ghost use Rattle.std.specs.Prelude.{◌≡◌, ◌++◌, List, length, IfOk};
+ghost use Rattle.futures.specs.Task.{Keeps};
+ghost use Rattle.lite_base.specs.Answers.{Answer};
+ghost use Rattle.lite_laws.specs.Both.{Agreed};
+
+use crate::polls::run;
+use lite_base::{Context, Poll, SteadyStream};
+use std::alloc::AllocError;
+
+/// Polls two streams that are alike, the first `polls` times and the second `more` times, and appends what each answers
+/// to a list of its own. Pendings aside, one of the two lists of answers begins the other, as long as memory was found.
+///
+/// On `Ok` exactly so many answers were appended. `AllocError` says that there was no room for one more: fewer were
+/// appended, and each stream can be polled on from where it stands. The original has no such call.
+pub fn run_both<S: SteadyStream>(
+    x: &mut S,
+    y: &mut S,
+    cx: &mut Context<'_>,
+    polls: usize,
+    more: usize,
+    out: &mut Vec<Poll<Option<S::Item>>>,
+    out_more: &mut Vec<Poll<Option<S::Item>>>,
+) -> Result<(), AllocError>
+    requires first { S.can_poll x.old }
+    requires second { S.can_poll y.old }
+    requires alike { S.alike x.old y.old }
+    ensures agree { (l m : List (Answer S.Item)) × (out.new.items ≡ out.old.items ++ l) × (out_more.new.items ≡ out_more.old.items ++ m)
+        × Agreed S.run S.ample S.needs_none x.old l x.new y.old m y.new × IfOk result (λ _. (length l ≡ polls) × (length m ≡ more)) }
+    ensures again { S.can_poll x.new × S.can_poll y.new }
+    ensures kept { Keeps cx.old cx.new }
+{
+    run(x, cx, polls, out)?;
+    run(y, cx, more, out_more)
+}

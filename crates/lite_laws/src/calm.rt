@@ -1,0 +1,27 @@
+ghost use Rattle.std.specs.Prelude.{◌≡◌, ◌<◌, ◌++◌, List, length, IfOk, IfErr};
+ghost use Rattle.futures.specs.Task.{Keeps};
+ghost use Rattle.lite_base.specs.Answers.{Answer};
+ghost use Rattle.lite_base.specs.Calm.{Prompt};
+
+use crate::polls::run;
+use lite_base::{CalmStream, Context, Poll};
+use std::alloc::AllocError;
+
+/// Polls a calm stream `polls` times and appends each answer to `out`: none is pending, and the stream is calm on.
+///
+/// `Ok` and `AllocError` are those of [`run`](crate::run). The original has no such call.
+pub fn run_calm<S: CalmStream>(
+    s: &mut S,
+    cx: &mut Context<'_>,
+    polls: usize,
+    out: &mut Vec<Poll<Option<S::Item>>>,
+) -> Result<(), AllocError>
+    requires can { S.can_poll s.old }
+    requires calm { S.is_calm s.old }
+    ensures prompt { (l : List (Answer S.Item)) × (out.new.items ≡ out.old.items ++ l) × S.run s.old l s.new × Prompt l
+        × IfOk result (λ _. length l ≡ polls) × IfErr result (λ _. length l < polls) }
+    ensures again { S.can_poll s.new × S.is_calm s.new }
+    ensures kept { Keeps cx.old cx.new }
+{
+    run(s, cx, polls, out)
+}

@@ -1,0 +1,136 @@
+//! Readers and writers. A case of a reader reads `n` bytes, one of a writer makes `n` writes.
+
+use crate::fault::Fault;
+use futures_lite::io::{AsyncBufRead, AsyncRead, AsyncReadExt, AsyncWrite, BufReader, Cursor};
+use futures_lite::{Context, Poll};
+use std::alloc::{AllocError, Global};
+
+/// How many bytes one write of `cursor_overwrite` and `cursor_extend` offers.
+const BLOCK: u64 = 16;
+
+/// So many bytes, in which the same 256 come again and again.
+pub(crate) fn noise(alloc: Global, n: u64) -> Result<Vec<u8>, AllocError> {
+    let mut pattern = [0u8; 256];
+    let mut next = 13u8;
+    for byte in &mut pattern {
+        *byte = next;
+        next = next.wrapping_add(167);
+    }
+    let mut bytes = Vec::with_capacity(alloc, n as usize)?;
+    for _ in 0..n / 256 {
+        bytes.extend_from_slice(&pattern)?;
+    }
+    bytes.extend_from_slice(&pattern[..(n % 256) as usize])?;
+    Ok(bytes)
+}
+
+/// The bytes of so many blocks. More than memory can hold are refused as any are.
+fn blocks_len(blocks: u64) -> Result<u64, Fault> {
+    match blocks.checked_mul(BLOCK) {
+        Some(len) => Ok(len),
+        None => Err(Fault::Memory),
+    }
+}
+
+/// Reads to the end, a byte at a time.
+#[inline(never)]
+fn read_each<R: AsyncRead>(reader: &mut R, cx: &mut Context<'_>) -> u64 {
+    let mut sum = 0u64;
+    let mut room = [0u8; 1];
+    for _ in 0..u64::MAX {
+        match reader.poll_read(cx, &mut room) {
+            Poll::Ready(Ok(1)) => sum = sum.wrapping_add(room[0] as u64),
+            _ => break,
+        }
+    }
+    sum
+}
+
+/// Looks at what is lent and consumes one byte of it, as a parser by hand does.
+#[inline(never)]
+fn consume_each<R: AsyncBufRead>(reader: &mut R, cx: &mut Context<'_>) -> u64 {
+    let mut sum = 0u64;
+    for _ in 0..u64::MAX {
+        let byte = match reader.poll_fill_buf(cx) {
+            Poll::Ready(Ok(lent)) => lent.first().copied(),
+            _ => None,
+        };
+        let Some(byte) = byte else {
+            break;
+        };
+        sum = sum.wrapping_add(byte as u64);
+        reader.consume(1);
+    }
+    sum
+}
+
+/// Writes blocks, and counts the bytes that were taken.
+#[inline(never)]
+fn write_blocks<W: AsyncWrite>(writer: &mut W, cx: &mut Context<'_>, blocks: u64) -> u64 {
+    let mut sum = 0u64;
+    for i in 0..blocks {
+        match writer.poll_write(cx, &[(i & 255) as u8; BLOCK as usize]) {
+            Poll::Ready(Ok(taken)) => sum = sum.wrapping_add(taken as u64),
+            _ => break,
+        }
+    }
+    sum
+}
+
+/// A buffered reader over a cursor, or a fault where its buffer was refused.
+fn buffered(alloc: Global, bytes: &[u8]) -> Result<BufReader<Cursor<&[u8]>>, Fault> {
+    match BufReader::new(alloc, Cursor::new(bytes)) {
+        Ok(reader) => Ok(reader),
+        Err(_) => Err(Fault::Memory),
+    }
+}
+
+pub(crate) fn cursor_read(alloc: Global, cx: &mut Context<'_>, n: u64) -> Result<u64, Fault> {
+    let bytes = noise(alloc, n)?;
+    Ok(read_each(&mut Cursor::new(bytes.as_slice()), cx))
+}
+
+pub(crate) fn buf_reader(alloc: Global, cx: &mut Context<'_>, n: u64) -> Result<u64, Fault> {
+    let bytes = noise(alloc, n)?;
+    Ok(read_each(&mut buffered(alloc, &bytes)?, cx))
+}
+
+pub(crate) fn chain_read(alloc: Global, cx: &mut Context<'_>, n: u64) -> Result<u64, Fault> {
+    let bytes = noise(alloc, n)?;
+    let (front, rest) = bytes.split_at(bytes.len() / 2);
+    Ok(read_each(
+        &mut buffered(alloc, front)?.chain(buffered(alloc, rest)?),
+        cx,
+    ))
+}
+
+pub(crate) fn fill(alloc: Global, cx: &mut Context<'_>, n: u64) -> Result<u64, Fault> {
+    let bytes = noise(alloc, n)?;
+    Ok(consume_each(&mut buffered(alloc, &bytes)?, cx))
+}
+
+pub(crate) fn take_fill(alloc: Global, cx: &mut Context<'_>, n: u64) -> Result<u64, Fault> {
+    let bytes = noise(alloc, n)?;
+    Ok(consume_each(&mut buffered(alloc, &bytes)?.take(n), cx))
+}
+
+pub(crate) fn chain_fill(alloc: Global, cx: &mut Context<'_>, n: u64) -> Result<u64, Fault> {
+    let bytes = noise(alloc, n)?;
+    let (front, rest) = bytes.split_at(bytes.len() / 2);
+    Ok(consume_each(
+        &mut buffered(alloc, front)?.chain(buffered(alloc, rest)?),
+        cx,
+    ))
+}
+
+/// Over a vector that has the bytes already.
+pub(crate) fn cursor_overwrite(alloc: Global, cx: &mut Context<'_>, n: u64) -> Result<u64, Fault> {
+    let mut cursor = Cursor::new(noise(alloc, blocks_len(n)?)?);
+    Ok(write_blocks(&mut cursor, cx, n))
+}
+
+/// Into a vector with room for the bytes.
+pub(crate) fn cursor_extend(alloc: Global, cx: &mut Context<'_>, n: u64) -> Result<u64, Fault> {
+    let mut cursor = Cursor::new(Vec::with_capacity(alloc, blocks_len(n)? as usize)?);
+    Ok(write_blocks(&mut cursor, cx, n))
+}

@@ -1,0 +1,52 @@
+use crate::fault::Fault;
+use crate::{bytes, journals, streams, values};
+use futures_lite::Context;
+use std::alloc::AllocGlobal;
+use std::random::RandomSource;
+use std::sync::Wait;
+
+/// What the case of this name computes at size `n`. A name of none is a fault of the arguments.
+pub(crate) fn computed<R>(rt: &R, cx: &mut Context<'_>, name: &str, n: u64) -> Result<u64, Fault>
+where
+    R: Wait + RandomSource + AllocGlobal + Copy,
+{
+    let alloc = rt.alloc();
+    match name {
+        "iter" => Ok(streams::iter(cx, n)),
+        "map" => Ok(streams::map(cx, n)),
+        "filter" => Ok(streams::filter(cx, n)),
+        "filter_map" => Ok(streams::filter_map(cx, n)),
+        "skip" => Ok(streams::skip(cx, n)),
+        "step_by" => Ok(streams::step_by(cx, n)),
+        "take" => Ok(streams::take(cx, n)),
+        "take_while" => Ok(streams::take_while(cx, n)),
+        "map_while" => Ok(streams::map_while(cx, n)),
+        "scan" => Ok(streams::scan(cx, n)),
+        "enumerate" => Ok(streams::enumerate(cx, n)),
+        "chain" => Ok(streams::chain(cx, n)),
+        "flat_map" => Ok(streams::flat_map(cx, n)),
+        "then" => Ok(streams::then(cx, n)),
+        "unfold" => Ok(streams::unfold(cx, n)),
+        "nest" => Ok(streams::nest(cx, n)),
+        "joined" => Ok(streams::joined(cx, n)),
+        "scripts" => Ok(streams::scripts(alloc, cx, n)?),
+        "zip" => Ok(values::zip(cx, n)),
+        "or" => Ok(values::or(cx, n)),
+        "race_with_seed" => Ok(values::race_with_seed(cx, n)),
+        "block_on_ready" => Ok(values::block_on_ready(rt, n)?),
+        "block_on_yield" => Ok(values::block_on_yield(rt, n)?),
+        "held_ready" => Ok(values::held_ready(rt, n)?),
+        "held_yield" => Ok(values::held_yield(rt, n)?),
+        "cursor_read" => bytes::cursor_read(alloc, cx, n),
+        "buf_reader" => bytes::buf_reader(alloc, cx, n),
+        "chain_read" => bytes::chain_read(alloc, cx, n),
+        "fill" => bytes::fill(alloc, cx, n),
+        "take_fill" => bytes::take_fill(alloc, cx, n),
+        "chain_fill" => bytes::chain_fill(alloc, cx, n),
+        "cursor_overwrite" => bytes::cursor_overwrite(alloc, cx, n),
+        "cursor_extend" => bytes::cursor_extend(alloc, cx, n),
+        "journal" => journals::journal(alloc, cx, n),
+        "half" => journals::half(*rt, cx, n),
+        _ => Err(Fault::Arguments),
+    }
+}

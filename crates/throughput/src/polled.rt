@@ -1,0 +1,46 @@
+//! Streams that are polled by hand.
+
+use futures_lite::{Context, Poll, Stream};
+
+/// Folds the items of so many polls, up to the first end.
+pub(crate) fn fold_items<S: Stream<Item = u64>>(
+    stream: &mut S,
+    cx: &mut Context<'_>,
+    polls: u64,
+) -> u64
+    requires { S.can_poll stream.old }
+{
+    let mut sum = 0u64;
+    for _ in 0..polls {
+        match stream.poll_next(cx) {
+            Poll::Ready(Some(x)) => sum = with_item(sum, x),
+            Poll::Ready(None) => break,
+            Poll::Pending => {}
+        }
+    }
+    sum
+}
+
+/// As `fold_items`, of numbered items.
+pub(crate) fn fold_numbered<S: Stream<Item = (usize, u64)>>(
+    stream: &mut S,
+    cx: &mut Context<'_>,
+    polls: u64,
+) -> u64
+    requires { S.can_poll stream.old }
+{
+    let mut sum = 0u64;
+    for _ in 0..polls {
+        match stream.poll_next(cx) {
+            Poll::Ready(Some((i, x))) => sum = with_item(sum, x.wrapping_add(i as u64)),
+            Poll::Ready(None) => break,
+            Poll::Pending => {}
+        }
+    }
+    sum
+}
+
+/// The sum after one more item.
+pub(crate) fn with_item(sum: u64, x: u64) -> u64 {
+    sum.wrapping_add(x ^ (sum >> 7))
+}

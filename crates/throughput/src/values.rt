@@ -1,0 +1,102 @@
+//! Futures that are ready, `n` of each, one after another.
+
+use futures_lite::future::{self, BlockOn};
+use futures_lite::{Context, Future, Poll};
+use std::alloc::{AllocError, AllocGlobal};
+use std::random::RandomSource;
+use std::sync::Wait;
+
+#[inline(never)]
+pub(crate) fn zip(cx: &mut Context<'_>, n: u64) -> u64 {
+    let mut sum = 0u64;
+    for i in 0..n {
+        let mut both = future::zip(future::ready(i), future::ready(sum));
+        if let Poll::Ready((a, b)) = both.poll(cx) {
+            sum = sum.wrapping_add(a ^ (b >> 7));
+        }
+    }
+    sum
+}
+
+#[inline(never)]
+pub(crate) fn or(cx: &mut Context<'_>, n: u64) -> u64 {
+    let mut sum = 0u64;
+    for i in 0..n {
+        let mut either = future::or(future::ready(i ^ (sum >> 7)), future::ready(sum));
+        if let Poll::Ready(a) = either.poll(cx) {
+            sum = sum.wrapping_add(a);
+        }
+    }
+    sum
+}
+
+/// A generator is made of each number.
+#[inline(never)]
+pub(crate) fn race_with_seed(cx: &mut Context<'_>, n: u64) -> u64 {
+    let mut sum = 0u64;
+    for i in 0..n {
+        let mut either = future::race_with_seed(
+            future::ready(i ^ (sum >> 7)),
+            future::ready(sum >> 9),
+            i,
+        );
+        if let Poll::Ready(a) = either.poll(cx) {
+            sum = sum.wrapping_add(a);
+        }
+    }
+    sum
+}
+
+#[inline(never)]
+pub(crate) fn block_on_ready<R>(rt: &R, n: u64) -> Result<u64, AllocError>
+where
+    R: Wait + RandomSource + AllocGlobal,
+{
+    let mut sum = 0u64;
+    for i in 0..n {
+        sum = sum.wrapping_add(future::block_on(rt, future::ready(i ^ sum))?);
+    }
+    Ok(sum)
+}
+
+#[inline(never)]
+pub(crate) fn block_on_yield<R>(rt: &R, n: u64) -> Result<u64, AllocError>
+where
+    R: Wait + RandomSource + AllocGlobal,
+{
+    let mut sum = 0u64;
+    for i in 0..n {
+        future::block_on(rt, future::yield_now())?;
+        sum = sum.wrapping_add(i);
+    }
+    Ok(sum)
+}
+
+/// As `block_on_ready`, with one `BlockOn` for all.
+#[inline(never)]
+pub(crate) fn held_ready<R>(rt: &R, n: u64) -> Result<u64, AllocError>
+where
+    R: Wait + RandomSource + AllocGlobal,
+{
+    let mut sleeper = BlockOn::new(rt)?;
+    let mut sum = 0u64;
+    for i in 0..n {
+        sum = sum.wrapping_add(sleeper.block_on(rt, future::ready(i ^ sum))?);
+    }
+    Ok(sum)
+}
+
+/// As `block_on_yield`, with one `BlockOn` for all.
+#[inline(never)]
+pub(crate) fn held_yield<R>(rt: &R, n: u64) -> Result<u64, AllocError>
+where
+    R: Wait + RandomSource + AllocGlobal,
+{
+    let mut sleeper = BlockOn::new(rt)?;
+    let mut sum = 0u64;
+    for i in 0..n {
+        sleeper.block_on(rt, future::yield_now())?;
+        sum = sum.wrapping_add(i);
+    }
+    Ok(sum)
+}
