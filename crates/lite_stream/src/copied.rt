@@ -1,13 +1,10 @@
 ghost use Rattle.lite_base.specs.Ranks.{ranks_of};
-ghost use Rattle.std.specs.Prelude.{◌≡◌, None, ⊤};
+ghost use Rattle.std.specs.Prelude.{◌≡◌, None};
 ghost use Rattle.lite_stream.specs.Copied.{Copies, CopiesAll, copied_parts};
-ghost use Rattle.lite_stream.specs.Laws.Agreeing.{through_steady};
-ghost use Rattle.lite_stream.specs.Laws.Calming.{through_calm};
-ghost use Rattle.lite_stream.specs.Laws.Matching.{copies_match};
-ghost use Rattle.lite_stream.specs.Laws.Pointwise.{replaces_agreeing_where, replaces_calming, replaces_turning};
+ghost use Rattle.lite_stream.specs.Laws.Pointwise.{replaces_turning};
 ghost use Rattle.lite_stream.specs.Laws.Through.{laws_unhinted, through_counting};
 
-use lite_base::{CalmStream, Context, Counted, Poll, SteadyStream, Stream, ready};
+use lite_base::{Context, Counted, Poll, Stream, ready};
 
 /// What the references of a stream refer to, copied.
 ///
@@ -46,20 +43,4 @@ impl<'a, T: Copy + 'a, S: Counted<Item = &'a T>> Counted for Copied<S> {
     ghost ranks = { ranks_of (λ m. m.stream) S.ranks };
 
     ghost counting = { through_counting copied_parts S.counting (replaces_turning Copies) };
-}
-
-impl<'a, T: Copy + 'a, S: SteadyStream<Item = &'a T>> SteadyStream for Copied<S> {
-    ghost ample = { CopiesAll S.ample };
-
-    ghost needs_none = { S.needs_none };
-
-    ghost alike = { λ x y. S.alike x.stream y.stream × ⊤ };
-
-    ghost steady = { through_steady copied_parts S.steady (replaces_agreeing_where Copies copies_match) };
-}
-
-impl<'a, T: Copy + 'a, S: CalmStream<Item = &'a T>> CalmStream for Copied<S> {
-    ghost is_calm = { λ m. S.is_calm m.stream };
-
-    ghost calm = { through_calm copied_parts S.calm (replaces_calming Copies) };
 }

@@ -1,13 +1,10 @@
 ghost use Rattle.lite_base.specs.Ranks.{ranks_of};
 ghost use Rattle.std.specs.Prelude.{◌≡◌, None};
 ghost use Rattle.lite_stream.specs.Enumerate.{Enumerates, Numbers, enumerate_parts};
-ghost use Rattle.lite_stream.specs.Laws.Agreeing.{through_steady};
-ghost use Rattle.lite_stream.specs.Laws.Calming.{through_calm};
-ghost use Rattle.lite_stream.specs.Laws.Matching.{numbers_match};
-ghost use Rattle.lite_stream.specs.Laws.Pointwise.{replaces_agreeing_where, replaces_calming, replaces_turning};
+ghost use Rattle.lite_stream.specs.Laws.Pointwise.{replaces_turning};
 ghost use Rattle.lite_stream.specs.Laws.Through.{laws_unhinted, through_counting};
 
-use lite_base::{CalmStream, Context, Counted, Poll, SteadyStream, Stream, ready};
+use lite_base::{Context, Counted, Poll, Stream, ready};
 
 /// The items of a stream, each paired with its number.
 ///
@@ -53,20 +50,4 @@ impl<S: Counted> Counted for Enumerate<S> {
     ghost ranks = { ranks_of (λ m. m.stream) S.ranks };
 
     ghost counting = { through_counting enumerate_parts S.counting (replaces_turning Numbers) };
-}
-
-impl<S: SteadyStream> SteadyStream for Enumerate<S> {
-    ghost ample = { Enumerates S.ample };
-
-    ghost needs_none = { S.needs_none };
-
-    ghost alike = { λ x y. S.alike x.stream y.stream × (y.i ≡ x.i) };
-
-    ghost steady = { through_steady enumerate_parts S.steady (replaces_agreeing_where Numbers numbers_match) };
-}
-
-impl<S: CalmStream> CalmStream for Enumerate<S> {
-    ghost is_calm = { λ m. S.is_calm m.stream };
-
-    ghost calm = { through_calm enumerate_parts S.calm (replaces_calming Numbers) };
 }

@@ -1,12 +1,10 @@
 ghost use Rattle.lite_base.specs.Ranks.{ranks_of};
 ghost use Rattle.std.specs.Prelude.{◌≡◌, None};
 ghost use Rattle.lite_stream.specs.Fuse.{Fuses, fuse_parts};
-ghost use Rattle.lite_stream.specs.Laws.Agreeing.{through_steady};
-ghost use Rattle.lite_stream.specs.Laws.Calming.{through_calm};
-ghost use Rattle.lite_stream.specs.Laws.Fuse.{fuses_agreeing, fuses_calming, fuses_turning};
+ghost use Rattle.lite_stream.specs.Laws.Fuse.{fuses_turning};
 ghost use Rattle.lite_stream.specs.Laws.Through.{laws_unhinted, through_counting};
 
-use lite_base::{CalmStream, Context, Counted, Poll, SteadyStream, Stream, ready};
+use lite_base::{Context, Counted, Poll, Stream, ready};
 
 /// A stream that ends for ever once it has ended.
 ///
@@ -53,20 +51,4 @@ impl<S: Counted> Counted for Fuse<S> {
     ghost ranks = { ranks_of (λ m. m.stream) S.ranks };
 
     ghost counting = { through_counting fuse_parts S.counting fuses_turning };
-}
-
-impl<S: SteadyStream> SteadyStream for Fuse<S> {
-    ghost ample = { Fuses S.ample };
-
-    ghost needs_none = { S.needs_none };
-
-    ghost alike = { λ x y. S.alike x.stream y.stream × (y.done ≡ x.done) };
-
-    ghost steady = { through_steady fuse_parts S.steady fuses_agreeing };
-}
-
-impl<S: CalmStream> CalmStream for Fuse<S> {
-    ghost is_calm = { λ m. S.is_calm m.stream };
-
-    ghost calm = { through_calm fuse_parts S.calm fuses_calming };
 }

@@ -1,15 +1,12 @@
 ghost use Rattle.lite_base.specs.Ranks.{ranks_of};
-ghost use Rattle.std.specs.Prelude.{◌≡◌, None, ⊤};
+ghost use Rattle.std.specs.Prelude.{◌≡◌, None};
 ghost use Rattle.std.specs.Fn.{CalledAt};
 ghost use Rattle.lite_stream.specs.EachItem.{MayShowEach};
 ghost use Rattle.lite_stream.specs.Inspect.{Inspects, Shows, inspect_parts};
-ghost use Rattle.lite_stream.specs.Laws.Agreeing.{through_steady};
-ghost use Rattle.lite_stream.specs.Laws.Calming.{through_calm};
-ghost use Rattle.lite_stream.specs.Laws.Matching.{shows_match};
-ghost use Rattle.lite_stream.specs.Laws.Pointwise.{replaces_agreeing_where, replaces_calming, replaces_turning};
+ghost use Rattle.lite_stream.specs.Laws.Pointwise.{replaces_turning};
 ghost use Rattle.lite_stream.specs.Laws.Through.{laws_unhinted, through_counting};
 
-use lite_base::{CalmStream, Context, Counted, Poll, SteadyStream, Stream, ready};
+use lite_base::{Context, Counted, Poll, Stream, ready};
 
 /// The items of a stream, each of which is shown to a function before it goes out.
 ///
@@ -53,20 +50,4 @@ impl<S: Counted, F: FnMut(&S::Item)> Counted for Inspect<S, F> {
     ghost ranks = { ranks_of (λ m. m.stream) S.ranks };
 
     ghost counting = { through_counting inspect_parts S.counting (replaces_turning (Shows (CalledAt F.FnMut))) };
-}
-
-impl<S: SteadyStream, F: FnMut(&S::Item)> SteadyStream for Inspect<S, F> {
-    ghost ample = { Inspects S.ample (CalledAt F.FnMut) };
-
-    ghost needs_none = { S.needs_none };
-
-    ghost alike = { λ x y. S.alike x.stream y.stream × ⊤ };
-
-    ghost steady = { through_steady inspect_parts S.steady (replaces_agreeing_where (Shows (CalledAt F.FnMut)) (shows_match (CalledAt F.FnMut))) };
-}
-
-impl<S: CalmStream, F: FnMut(&S::Item)> CalmStream for Inspect<S, F> {
-    ghost is_calm = { λ m. S.is_calm m.stream };
-
-    ghost calm = { through_calm inspect_parts S.calm (replaces_calming (Shows (CalledAt F.FnMut))) };
 }

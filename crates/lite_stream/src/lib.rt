@@ -1,6 +1,7 @@
 //! Adapters of one stream that answer once for each answer of it, or cut it off.
 #![tactic(auto)]
 
+mod calm;
 mod copied;
 mod enumerate;
 mod fuse;
@@ -10,6 +11,7 @@ mod map;
 mod map_while;
 mod ok_counted;
 mod scan;
+mod steady;
 mod take;
 mod take_while;
 

@@ -1,13 +1,11 @@
 ghost use Rattle.lite_base.specs.Ranks.{ranks_of};
 ghost use Rattle.lite_stream.specs.EachItem.{MayCallEach};
-ghost use Rattle.lite_stream.specs.Calling.{Agree, Calls};
+ghost use Rattle.lite_stream.specs.Calling.{Calls};
 ghost use Rattle.lite_stream.specs.Map.{Maps, map_parts};
-ghost use Rattle.lite_stream.specs.Laws.Agreeing.{through_steady};
-ghost use Rattle.lite_stream.specs.Laws.Calming.{through_calm};
-ghost use Rattle.lite_stream.specs.Laws.Pointwise.{replaces_agreeing, replaces_calming, replaces_turning};
+ghost use Rattle.lite_stream.specs.Laws.Pointwise.{replaces_turning};
 ghost use Rattle.lite_stream.specs.Laws.Through.{laws_hinted, through_counting};
 
-use lite_base::{CalmStream, Context, Counted, Poll, SteadyStream, Stream, ready};
+use lite_base::{Context, Counted, Poll, Stream, ready};
 
 /// What a function answers to each item of a stream.
 ///
@@ -49,20 +47,4 @@ impl<U, S: Counted, F: FnMut(S::Item) -> U> Counted for Map<S, F> {
     ghost ranks = { ranks_of (λ m. m.stream) S.ranks };
 
     ghost counting = { through_counting map_parts S.counting (replaces_turning (Calls F.FnMut)) };
-}
-
-impl<U, S: SteadyStream, F: FnMut(S::Item) -> U> SteadyStream for Map<S, F> {
-    ghost ample = { Maps S.ample (Calls F.FnMut) };
-
-    ghost needs_none = { S.needs_none };
-
-    ghost alike = { λ x y. S.alike x.stream y.stream × Agree (Calls F.FnMut) x.f y.f };
-
-    ghost steady = { through_steady map_parts S.steady (replaces_agreeing (Calls F.FnMut)) };
-}
-
-impl<U, S: CalmStream, F: FnMut(S::Item) -> U> CalmStream for Map<S, F> {
-    ghost is_calm = { λ m. S.is_calm m.stream };
-
-    ghost calm = { through_calm map_parts S.calm (replaces_calming (Calls F.FnMut)) };
 }

@@ -1,14 +1,12 @@
 ghost use Rattle.lite_base.specs.Ranks.{ranks_of};
 ghost use Rattle.std.specs.Prelude.{◌≡◌, None};
 ghost use Rattle.lite_stream.specs.EachItem.{MayCallEach};
-ghost use Rattle.lite_stream.specs.Calling.{Agree, Calls};
+ghost use Rattle.lite_stream.specs.Calling.{Calls};
 ghost use Rattle.lite_stream.specs.MapWhile.{MapsWhile, map_while_parts};
-ghost use Rattle.lite_stream.specs.Laws.Agreeing.{agree_matches, through_steady};
-ghost use Rattle.lite_stream.specs.Laws.Calming.{through_calm};
-ghost use Rattle.lite_stream.specs.Laws.Pointwise.{exchanges_agreeing, exchanges_calming, exchanges_turning};
+ghost use Rattle.lite_stream.specs.Laws.Pointwise.{exchanges_turning};
 ghost use Rattle.lite_stream.specs.Laws.Through.{laws_unhinted, through_counting};
 
-use lite_base::{CalmStream, Context, Counted, Poll, SteadyStream, Stream, ready};
+use lite_base::{Context, Counted, Poll, Stream, ready};
 
 /// What a function answers to each item of a stream, and an end in the place of each `None`.
 ///
@@ -50,20 +48,4 @@ impl<B, S: Counted, F: FnMut(S::Item) -> Option<B>> Counted for MapWhile<S, F> {
     ghost ranks = { ranks_of (λ m. m.stream) S.ranks };
 
     ghost counting = { through_counting map_while_parts S.counting (exchanges_turning (Calls F.FnMut)) };
-}
-
-impl<B, S: SteadyStream, F: FnMut(S::Item) -> Option<B>> SteadyStream for MapWhile<S, F> {
-    ghost ample = { MapsWhile S.ample (Calls F.FnMut) };
-
-    ghost needs_none = { S.needs_none };
-
-    ghost alike = { λ x y. S.alike x.stream y.stream × Agree (Calls F.FnMut) x.f y.f };
-
-    ghost steady = { through_steady map_while_parts S.steady (exchanges_agreeing (Calls F.FnMut) (agree_matches (λ y z. y ≡ z) (Calls F.FnMut))) };
-}
-
-impl<B, S: CalmStream, F: FnMut(S::Item) -> Option<B>> CalmStream for MapWhile<S, F> {
-    ghost is_calm = { λ m. S.is_calm m.stream };
-
-    ghost calm = { through_calm map_while_parts S.calm (exchanges_calming (Calls F.FnMut)) };
 }

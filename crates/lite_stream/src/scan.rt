@@ -1,14 +1,12 @@
 ghost use Rattle.lite_base.specs.Ranks.{ranks_of};
 ghost use Rattle.std.specs.Prelude.{◌≡◌, None};
-ghost use Rattle.lite_stream.specs.Calling.{Agree, CallsWith};
+ghost use Rattle.lite_stream.specs.Calling.{CallsWith};
 ghost use Rattle.lite_stream.specs.EachItem.{MayCallEachWith};
 ghost use Rattle.lite_stream.specs.Scan.{Scans, scan_parts};
-ghost use Rattle.lite_stream.specs.Laws.Agreeing.{agree_matches, through_steady};
-ghost use Rattle.lite_stream.specs.Laws.Calming.{through_calm};
-ghost use Rattle.lite_stream.specs.Laws.Pointwise.{exchanges_agreeing, exchanges_calming, exchanges_turning};
+ghost use Rattle.lite_stream.specs.Laws.Pointwise.{exchanges_turning};
 ghost use Rattle.lite_stream.specs.Laws.Through.{laws_unhinted, through_counting};
 
-use lite_base::{CalmStream, Context, Counted, Poll, SteadyStream, Stream, ready};
+use lite_base::{Context, Counted, Poll, Stream, ready};
 
 /// What a function answers to a state and each item of a stream, and an end in the place of each `None`.
 ///
@@ -51,21 +49,4 @@ impl<St, B, S: Counted, F: FnMut(&mut St, S::Item) -> Option<B>> Counted for Sca
     ghost ranks = { ranks_of (λ m. m.stream) S.ranks };
 
     ghost counting = { through_counting scan_parts S.counting (exchanges_turning (CallsWith F.FnMut)) };
-}
-
-impl<St, B, S: SteadyStream, F: FnMut(&mut St, S::Item) -> Option<B>> SteadyStream
-    for Scan<S, St, F> {
-    ghost ample = { Scans S.ample (CallsWith F.FnMut) };
-
-    ghost needs_none = { S.needs_none };
-
-    ghost alike = { λ x y. S.alike x.stream y.stream × Agree (CallsWith F.FnMut) (x.f, x.state) (y.f, y.state) };
-
-    ghost steady = { through_steady scan_parts S.steady (exchanges_agreeing (CallsWith F.FnMut) (agree_matches (λ y z. y ≡ z) (CallsWith F.FnMut))) };
-}
-
-impl<St, B, S: CalmStream, F: FnMut(&mut St, S::Item) -> Option<B>> CalmStream for Scan<S, St, F> {
-    ghost is_calm = { λ m. S.is_calm m.stream };
-
-    ghost calm = { through_calm scan_parts S.calm (exchanges_calming (CallsWith F.FnMut)) };
 }

@@ -1,13 +1,11 @@
 ghost use Rattle.lite_base.specs.Ranks.{number_counting, number_ranks};
 ghost use Rattle.std.specs.Prelude.{◌≡◌, None};
 ghost use Rattle.lite_stream.specs.Take.{Takes, is_none_left, left_after, take_parts};
-ghost use Rattle.lite_stream.specs.Laws.Agreeing.{through_steady};
-ghost use Rattle.lite_stream.specs.Laws.Calming.{through_calm};
-ghost use Rattle.lite_stream.specs.Laws.Cutting.{cuts_calming, cuts_turning};
-ghost use Rattle.lite_stream.specs.Laws.Take.{takes_agreeing, takes_lowers};
+ghost use Rattle.lite_stream.specs.Laws.Cutting.{cuts_turning};
+ghost use Rattle.lite_stream.specs.Laws.Take.{takes_lowers};
 ghost use Rattle.lite_stream.specs.Laws.Through.{laws_unhinted};
 
-use lite_base::{CalmStream, Context, Counted, Poll, SteadyStream, Stream, ready};
+use lite_base::{Context, Counted, Poll, Stream, ready};
 
 /// The first items of a stream, and then an end for ever.
 ///
@@ -53,20 +51,4 @@ impl<S: Stream> Counted for Take<S> {
     ghost ranks = { number_ranks (λ m. m.n) };
 
     ghost counting = { number_counting (λ x y l h. takes_lowers x.n y.n h.ins l h.turned) };
-}
-
-impl<S: SteadyStream> SteadyStream for Take<S> {
-    ghost ample = { Takes S.ample };
-
-    ghost needs_none = { S.needs_none };
-
-    ghost alike = { λ x y. S.alike x.stream y.stream × (y.n ≡ x.n) };
-
-    ghost steady = { through_steady take_parts S.steady takes_agreeing };
-}
-
-impl<S: CalmStream> CalmStream for Take<S> {
-    ghost is_calm = { λ m. S.is_calm m.stream };
-
-    ghost calm = { through_calm take_parts S.calm (cuts_calming is_none_left left_after) };
 }

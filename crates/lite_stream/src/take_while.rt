@@ -2,14 +2,12 @@ ghost use Rattle.lite_base.specs.Ranks.{ranks_of};
 ghost use Rattle.std.specs.Prelude.{◌≡◌, None};
 ghost use Rattle.std.specs.Fn.{CalledAt};
 ghost use Rattle.lite_stream.specs.EachItem.{MayShowEach};
-ghost use Rattle.lite_stream.specs.Calling.{Accepts, Agree};
+ghost use Rattle.lite_stream.specs.Calling.{Accepts};
 ghost use Rattle.lite_stream.specs.TakeWhile.{TakesWhile, take_while_parts};
-ghost use Rattle.lite_stream.specs.Laws.Agreeing.{accepts_agree, through_steady};
-ghost use Rattle.lite_stream.specs.Laws.Calming.{through_calm};
-ghost use Rattle.lite_stream.specs.Laws.Pointwise.{exchanges_agreeing, exchanges_calming, exchanges_turning};
+ghost use Rattle.lite_stream.specs.Laws.Pointwise.{exchanges_turning};
 ghost use Rattle.lite_stream.specs.Laws.Through.{laws_unhinted, through_counting};
 
-use lite_base::{CalmStream, Context, Counted, Poll, SteadyStream, Stream, ready};
+use lite_base::{Context, Counted, Poll, Stream, ready};
 
 /// The items of a stream while a predicate accepts them, and an end in the place of each one that it rejects.
 ///
@@ -52,20 +50,4 @@ impl<S: Counted<Item: Drop>, P: FnMut(&S::Item) -> bool> Counted for TakeWhile<S
     ghost ranks = { ranks_of (λ m. m.stream) S.ranks };
 
     ghost counting = { through_counting take_while_parts S.counting (exchanges_turning (Accepts (CalledAt P.FnMut))) };
-}
-
-impl<S: SteadyStream<Item: Drop>, P: FnMut(&S::Item) -> bool> SteadyStream for TakeWhile<S, P> {
-    ghost ample = { TakesWhile S.ample (CalledAt P.FnMut) };
-
-    ghost needs_none = { S.needs_none };
-
-    ghost alike = { λ x y. S.alike x.stream y.stream × Agree (CalledAt P.FnMut) x.predicate y.predicate };
-
-    ghost steady = { through_steady take_while_parts S.steady (exchanges_agreeing (Accepts (CalledAt P.FnMut)) (accepts_agree (CalledAt P.FnMut))) };
-}
-
-impl<S: CalmStream<Item: Drop>, P: FnMut(&S::Item) -> bool> CalmStream for TakeWhile<S, P> {
-    ghost is_calm = { λ m. S.is_calm m.stream };
-
-    ghost calm = { through_calm take_while_parts S.calm (exchanges_calming (Accepts (CalledAt P.FnMut))) };
 }

@@ -1,11 +1,10 @@
 ghost use Rattle.std.specs.Prelude.{◌≡◌, ◌∷◌, [], IfSome, Some};
 ghost use Rattle.futures.specs.Poll.{OnPending};
 ghost use Rattle.futures.specs.Task.{Holds, Keeps, Lasting};
-ghost use Rattle.lite_base.specs.Alike.{OptionBy};
 ghost use Rattle.lite_base.specs.Future.Fuse.{Fuses};
-ghost use Rattle.lite_base.specs.Laws.Future.Fuse.{fuses_laws, fuses_steady};
+ghost use Rattle.lite_base.specs.Laws.Future.Fuse.{fuses_laws};
 
-use super::{Future, SteadyFuture};
+use super::Future;
 use crate::{Context, Poll};
 
 /// Lets its future go in the poll that answers ready, and is pending for ever after that.
@@ -45,14 +44,4 @@ impl<F: Future + Drop> Future for Fuse<F> {
             Poll::Pending => Poll::Pending,
         }
     }
-}
-
-impl<F: SteadyFuture + Drop> SteadyFuture for Fuse<F> {
-    ghost ample = { Fuses F.ample };
-
-    ghost needs_none = { F.needs_none };
-
-    ghost alike = { λ x y. OptionBy F.alike x.inner y.inner };
-
-    ghost steady = { fuses_steady F.steady };
 }

@@ -1,9 +1,8 @@
-ghost use Rattle.lite_base.specs.Alike.{Alike};
 ghost use Rattle.lite_base.specs.Answers.{Waiting};
-ghost use Rattle.lite_base.specs.Future.Calls.{AlwaysObeys, Leaves, NeverPends, Polled};
-ghost use Rattle.lite_base.specs.Laws.Future.Calls.{polled_calm, polled_laws, polled_steady};
+ghost use Rattle.lite_base.specs.Future.Calls.{AlwaysObeys, Leaves, Polled};
+ghost use Rattle.lite_base.specs.Laws.Future.Calls.{polled_laws};
 
-use super::{CalmFuture, Future, SteadyFuture};
+use super::Future;
 use crate::{Context, Poll};
 
 /// Calls a function at each poll, and hands on what it answers.
@@ -28,19 +27,4 @@ impl<T, F: FnMut(&mut Context<'_>) -> Poll<T>> Future for PollFn<F> {
     fn poll(&mut self, cx: &mut Context<'_>) -> Poll<T> {
         (self.f)(cx)
     }
-}
-
-// A function is its own source: it is alike to one whose answers are the same, pendings aside.
-impl<T, F: FnMut(&mut Context<'_>) -> Poll<T>> SteadyFuture for PollFn<F> {
-    ghost ample = { λ x l y. Polled F.FnMut x.f l y.f };
-
-    ghost alike = { Alike (λ x l y. Polled F.FnMut x.f l y.f) };
-
-    ghost steady = { polled_steady F.FnMut };
-}
-
-impl<T, F: FnMut(&mut Context<'_>) -> Poll<T>> CalmFuture for PollFn<F> {
-    ghost is_calm = { λ x. NeverPends F.FnMut x.f };
-
-    ghost calm = { polled_calm F.FnMut };
 }

@@ -1,8 +1,7 @@
-ghost use Rattle.std.specs.Prelude.{⊤};
 ghost use Rattle.lite_base.specs.Future.PollOnce.{TellsFirst};
-ghost use Rattle.lite_base.specs.Laws.Future.PollOnce.{tells_calm, tells_laws};
+ghost use Rattle.lite_base.specs.Laws.Future.PollOnce.{tells_laws};
 
-use super::{CalmFuture, Future};
+use super::Future;
 use crate::{Context, Poll};
 
 /// Polls a future once, and is ready with what it answered: `Some` of its value, or `None` where it was pending.
@@ -28,10 +27,4 @@ impl<F: Future> Future for PollOnce<F> {
             Poll::Pending => Poll::Ready(None),
         }
     }
-}
-
-impl<F: Future> CalmFuture for PollOnce<F> {
-    ghost is_calm = { λ _. ⊤ };
-
-    ghost calm = { tells_calm F.run };
 }

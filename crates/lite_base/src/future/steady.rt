@@ -1,8 +1,23 @@
-ghost use Rattle.std.specs.Prelude.{List, ⊤};
 ghost use Rattle.futures.specs.declared.task.Poll.{Poll};
+ghost use Rattle.lite_base.specs.Alike.{Alike, OptionBy};
+ghost use Rattle.lite_base.specs.Answers.{Waiting};
+ghost use Rattle.lite_base.specs.Future.Calls.{Polled};
+ghost use Rattle.lite_base.specs.Future.Fuse.{Fuses};
+ghost use Rattle.lite_base.specs.Future.Half.{HalvesBy};
+ghost use Rattle.lite_base.specs.Future.Ready.{GivesHeld};
+ghost use Rattle.lite_base.specs.Future.YieldNow.{YieldsOnce};
+ghost use Rattle.lite_base.specs.Future.Zip.{Zips};
+ghost use Rattle.lite_base.specs.Laws.Future.Calls.{polled_steady};
+ghost use Rattle.lite_base.specs.Laws.Future.Fuse.{fuses_steady};
+ghost use Rattle.lite_base.specs.Laws.Future.Pending.{waits_steady};
+ghost use Rattle.lite_base.specs.Laws.Future.Ready.{held_steady};
+ghost use Rattle.lite_base.specs.Laws.Future.YieldNow.{yields_steady};
+ghost use Rattle.lite_base.specs.Laws.Future.Zip.{zips_steady};
 ghost use Rattle.lite_base.specs.Steady.{FutureSteadyLaws};
+ghost use Rattle.std.specs.Prelude.{List, ⊤, ◌≡◌};
 
-use super::Future;
+use super::{Fuse, Future, Pending, PollFn, Ready, YieldNow, Zip};
+use crate::{Context, Poll};
 
 /// A future whose value does not depend on when it was pending, where memory was found.
 ///
@@ -21,4 +36,61 @@ pub trait SteadyFuture: Future {
     fn is_steady_future(&self) {}
 
     ghost steady: { FutureSteadyLaws Self.run ample needs_none alike };
+}
+
+impl<F: SteadyFuture + Drop> SteadyFuture for Fuse<F> {
+    ghost ample = { Fuses F.ample };
+
+    ghost needs_none = { F.needs_none };
+
+    ghost alike = { λ x y. OptionBy F.alike x.inner y.inner };
+
+    ghost steady = { fuses_steady F.steady };
+}
+
+impl<T> SteadyFuture for Pending<T> {
+    ghost ample = { λ x l y. Waiting l × (y ≡ x) };
+
+    ghost alike = { λ _ _. ⊤ };
+
+    ghost steady = { waits_steady };
+}
+
+// A function is its own source: it is alike to one whose answers are the same, pendings aside.
+impl<T, F: FnMut(&mut Context<'_>) -> Poll<T>> SteadyFuture for PollFn<F> {
+    ghost ample = { λ x l y. Polled F.FnMut x.f l y.f };
+
+    ghost alike = { Alike (λ x l y. Polled F.FnMut x.f l y.f) };
+
+    ghost steady = { polled_steady F.FnMut };
+}
+
+impl<T> SteadyFuture for Ready<T> {
+    ghost ample = { λ x l y. GivesHeld x.value l y.value };
+
+    ghost alike = { λ x y. y.value ≡ x.value };
+
+    ghost steady = { held_steady };
+}
+
+impl SteadyFuture for YieldNow {
+    ghost ample = { λ x l y. YieldsOnce x.yielded l y.yielded };
+
+    ghost alike = { λ _ _. ⊤ };
+
+    ghost steady = { yields_steady };
+}
+
+impl<F1, F2> SteadyFuture for Zip<F1, F2>
+where
+    F1: SteadyFuture<Output: Drop> + Drop,
+    F2: SteadyFuture<Output: Drop> + Drop,
+{
+    ghost ample = { λ x l y. Zips F1.ample F2.ample x.first x.second l y.first y.second };
+
+    ghost needs_none = { F1.needs_none × F2.needs_none };
+
+    ghost alike = { λ x y. HalvesBy F1.alike x.first y.first × HalvesBy F2.alike x.second y.second };
+
+    ghost steady = { zips_steady F1.steady F2.steady };
 }

@@ -1,9 +1,9 @@
-ghost use Rattle.std.specs.Prelude.{◌≡◌, ◌⊎◌, ℕ, ⊤, true};
+ghost use Rattle.std.specs.Prelude.{◌≡◌, ◌⊎◌, ℕ, true};
 ghost use Rattle.futures.specs.Task.{Lasting};
 ghost use Rattle.lite_base.specs.Future.YieldNow.{YieldsOnce};
-ghost use Rattle.lite_base.specs.Laws.Future.YieldNow.{yields_calm, yields_laws, yields_steady};
+ghost use Rattle.lite_base.specs.Laws.Future.YieldNow.{yields_laws};
 
-use super::{CalmFuture, Future, SteadyFuture};
+use super::Future;
 use crate::{Context, Poll};
 
 /// Wakes its context and is pending once, and is then ready.
@@ -32,17 +32,4 @@ impl Future for YieldNow {
     }
 }
 
-impl SteadyFuture for YieldNow {
-    ghost ample = { λ x l y. YieldsOnce x.yielded l y.yielded };
-
-    ghost alike = { λ _ _. ⊤ };
-
-    ghost steady = { yields_steady };
-}
-
 // Once it has yielded.
-impl CalmFuture for YieldNow {
-    ghost is_calm = { λ x. x.yielded ≡ true };
-
-    ghost calm = { yields_calm };
-}

@@ -1,5 +1,6 @@
 -- Laws of a closure that is polled.
 use Rattle.std.specs.Prelude.{⊤}
+use Rattle.std.specs.List.{FoldsTo}
 use Rattle.std.proofs.Common.{List, ◌∷◌, ◌++◌, refl, sym, ap}
 use Rattle.futures.specs.Poll.{OnPending}
 use Rattle.futures.specs.declared.task.Poll.{Poll}
@@ -29,11 +30,15 @@ module _ {F A : Type 0} (g : Poller F A) where
   pub polled_steady : FutureSteadyLaws (λ (x : PollFn F) (l : List (Poll A)) (y : PollFn F). Polled g x.f l y.f) (λ x l y. Polled g x.f l y.f) ⊤ (Alike (λ x l y. Polled g x.f l y.f))
   polled_steady = future_steady_always polled_laws (λ x y e. e)
 
+  -- it is so on
+  pub never_pends_on : (f q : F) (l : List (Poll A)) → NeverPends g f → FoldsTo (Answers g) f l q → NeverPends g q
+  never_pends_on f q l k h = record { at = λ m p d. prompt_back l m (k.at (l ++ m) p (folds_follow (Answers g) f q p l m h d)) }
+
   pub polled_calm : CalmLaws (λ (x : PollFn F) (l : List (Poll A)) (y : PollFn F). Polled g x.f l y.f) (λ x. NeverPends g x.f)
   polled_calm =
       record {
         prompt = λ x y l k h. k.at l y.f h.1;
-        calm_on = λ x y l k h. record { at = λ m q d. prompt_back l m (k.at (l ++ m) q (folds_follow (Answers g) x.f y.f q l m h.1 d)) };
+        calm_on = λ x y l k h. never_pends_on x.f y.f l k h.1;
       }
 
   -- after a call whose answer goes on, it still obeys

@@ -1,12 +1,14 @@
 -- Laws of `or`.
+use Rattle.std.specs.Prelude.{◌⊎◌}
 use Rattle.std.proofs.Common.{List, ◌++◌, map, true}
 use Rattle.std.proofs.lemmas.List.{map-append}
 use Rattle.futures.specs.declared.task.Poll.{Poll}
 use Rattle.lite_base.specs.Answers.{Waiting}
+use Rattle.lite_base.specs.Calm.{CalmLaws}
 use Rattle.lite_base.specs.Future.Or.{Ors}
 use Rattle.lite_base.specs.FutureLaws.{FutureLaws}
 use Rattle.lite_base.specs.Laws.Answers.{up_to_once}
-use Rattle.lite_base.specs.Laws.Future.Picks.{picks_follow, picks_rest, picks_stay}
+use Rattle.lite_base.specs.Laws.Future.Picks.{picks_calm, picks_follow, picks_rest, picks_stay}
 use Rattle.lite_base.specs.declared.future.or.Or.{Or}
 
 module _ {F G A : Type 0} {run_first : F → List (Poll A) → F → Type 0} {run_second : G → List (Poll A) → G → Type 0} (laws_first : FutureLaws run_first) (laws_second : FutureLaws run_second) where
@@ -23,3 +25,12 @@ module _ {F G A : Type 0} {run_first : F → List (Poll A) → F → Type 0} {ru
         follows = ors_follow;
         once = λ x y l h. up_to_once l h.ends;
       }
+
+-- where one of the two is never pending
+pub ors_calm : {F G A : Type 0} {run_first : F → List (Poll A) → F → Type 0} {run_second : G → List (Poll A) → G → Type 0} {calm_first : F → Type 0} {calm_second : G → Type 0}
+    → CalmLaws run_first calm_first → CalmLaws run_second calm_second → CalmLaws (Ors run_first run_second) (λ x. calm_first x.future1 ⊎ calm_second x.future2)
+ors_calm c d =
+    record {
+      prompt = λ x y l k h. (picks_calm c d (map (λ _. true) l) x.future1 y.future1 x.future2 y.future2 l k h).0;
+      calm_on = λ x y l k h. (picks_calm c d (map (λ _. true) l) x.future1 y.future1 x.future2 y.future2 l k h).1;
+    }

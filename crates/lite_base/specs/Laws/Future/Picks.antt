@@ -1,11 +1,18 @@
 -- Laws of two futures of which one is asked first.
-use Rattle.std.proofs.Common.{◌≡◌, List, [], ◌∷◌, ◌++◌, Bool, true, false, refl, subst, ap}
+use Rattle.std.specs.Prelude.{◌⊎◌}
+use Rattle.std.proofs.Common.{◌≡◌, List, [], ◌∷◌, ◌++◌, Bool, true, false, refl, subst, ap, inl, inr}
 use Rattle.futures.specs.declared.task.Poll.{Poll}
 use Rattle.futures.specs.declared.task.Poll.TheVariants.{Ready, Pending}
 use Rattle.lite_base.specs.Answers.{Waiting}
+use Rattle.lite_base.specs.Calm.{CalmLaws, Prompt}
 use Rattle.lite_base.specs.Future.Picks.{Picks, Row, Rows}
 use Rattle.lite_base.specs.FutureLaws.{FutureLaws}
 use Rattle.lite_base.specs.Laws.Answers.{waiting_up_to}
+use Rattle.lite_base.specs.Laws.Calm.{prompt_join}
+
+other_way : {P Q : Type 0} → P ⊎ Q → Q ⊎ P
+other_way (inl p) = inr p
+other_way (inr q) = inl q
 
 module _ {A : Type 0} where
   row_more : (i j : List (Poll A)) (c : Poll A) (i' j' k h : List (Poll A)) → Row i j c i' j' → Row (i ++ k) (j ++ h) c (i' ++ k) (j' ++ h)
@@ -40,6 +47,26 @@ module _ {A : Type 0} where
   rows_follow (true ∷ o) p i j k h (c ∷ l) m r q = (r.0 ++ k, r.1 ++ h, row_more i j c r.0 r.1 k h r.2, rows_follow o p r.0 r.1 k h l m r.3 q)
   rows_follow (false ∷ o) p i j k h (c ∷ l) m r q = (r.0 ++ k, r.1 ++ h, row_more j i c r.1 r.0 h k r.2, rows_follow o p r.0 r.1 k h l m r.3 q)
 
+  -- where one of the two lists has no Pending, no row has
+  row_calm : (i j : List (Poll A)) (c : Poll A) (i' j' : List (Poll A)) → Row i j c i' j' → Prompt i ⊎ Prompt j → Prompt (c ∷ []) × (Prompt i' ⊎ Prompt j')
+  row_calm [] j c i' j' r p = absurd r
+  row_calm (Ready x ∷ i) j c i' j' r (inl p) = (rw r.0 tt, inl (rw r.1 p))
+  row_calm (Ready x ∷ i) j c i' j' r (inr p) = (rw r.0 tt, inr (rw r.2 p))
+  row_calm (Pending ∷ i) [] c i' j' r p = absurd r
+  row_calm (Pending ∷ i) (b ∷ j) c i' j' r (inl p) = absurd p
+  row_calm (Pending ∷ i) (Pending ∷ j) c i' j' r (inr p) = absurd p
+  row_calm (Pending ∷ i) (Ready x ∷ j) c i' j' r (inr p) = (rw r.0 tt, inr (rw r.2 p))
+
+  rows_calm : (order : List Bool) (i j out : List (Poll A)) → Rows order i j out → Prompt i ⊎ Prompt j → Prompt out
+  rows_calm [] i j out r p = rw r.2 tt
+  rows_calm (b ∷ order) i j [] r p = absurd r
+  rows_calm (true ∷ order) i j (c ∷ out) r p =
+      let d = row_calm i j c r.0 r.1 r.2 p in
+      prompt_join (c ∷ []) out d.0 (rows_calm order r.0 r.1 out r.3 d.1)
+  rows_calm (false ∷ order) i j (c ∷ out) r p =
+      let d = row_calm j i c r.1 r.0 r.2 (other_way p) in
+      prompt_join (c ∷ []) out d.0 (rows_calm order r.0 r.1 out r.3 (other_way d.1))
+
 module _ {F G A : Type 0} (run_first : F → List (Poll A) → F → Type 0) (run_second : G → List (Poll A) → G → Type 0) where
   pub picks_rest : FutureLaws run_first → FutureLaws run_second → (f : F) (g : G) → Picks run_first run_second [] f g [] f g
   picks_rest laws_first laws_second f g = record { i = []; j = []; first = laws_first.rests f; second = laws_second.rests g; rows = (refl, refl, refl); ends = tt }
@@ -62,3 +89,11 @@ module _ {F G A : Type 0} (run_first : F → List (Poll A) → F → Type 0) (ru
         rows = rows_follow o p h.i h.j k.i k.j l m h.rows k.rows;
         ends = waiting_up_to l m w k.ends;
       }
+
+module _ {F G A : Type 0} {run_first : F → List (Poll A) → F → Type 0} {run_second : G → List (Poll A) → G → Type 0} {calm_first : F → Type 0} {calm_second : G → Type 0}
+    (c : CalmLaws run_first calm_first) (d : CalmLaws run_second calm_second) where
+  -- where one of the two is never pending, they are not
+  pub picks_calm : (order : List Bool) (f f' : F) (g g' : G) (out : List (Poll A)) → calm_first f ⊎ calm_second g → Picks run_first run_second order f g out f' g'
+      → Prompt out × (calm_first f' ⊎ calm_second g')
+  picks_calm order f f' g g' out (inl k) h = (rows_calm order h.i h.j out h.rows (inl (c.prompt f f' h.i k h.first)), inl (c.calm_on f f' h.i k h.first))
+  picks_calm order f f' g g' out (inr k) h = (rows_calm order h.i h.j out h.rows (inr (d.prompt g g' h.j k h.second)), inr (d.calm_on g g' h.j k h.second))

@@ -1,14 +1,16 @@
 -- Laws of `race`.
+use Rattle.std.specs.Prelude.{◌⊎◌}
 use Rattle.std.proofs.Common.{◌≡◌, ◌≤◌, List, [], ◌∷◌, ◌++◌, length, map, refl, subst, sym, append-nil, arith}
 use Rattle.std.proofs.lemmas.List.{map-append}
 use Rattle.rand_core.specs.Stream.{Stream, next_u32}
 use Rattle.futures.specs.declared.task.Poll.{Poll}
 use Rattle.lite_base.specs.Answers.{Waiting, strip}
+use Rattle.lite_base.specs.Calm.{CalmLaws, Prompt}
 use Rattle.lite_base.specs.Future.Race.{Races, RacesOn, is_first}
 use Rattle.lite_base.specs.FutureLaws.{FutureLaws}
 use Rattle.lite_base.specs.Laws.Answers.{up_to_once}
 use Rattle.lite_base.specs.Laws.Calls.{folds_follow}
-use Rattle.lite_base.specs.Laws.Future.Picks.{picks_follow}
+use Rattle.lite_base.specs.Laws.Future.Picks.{picks_calm, picks_follow}
 use Rattle.lite_base.specs.declared.future.race.Race.{Race}
 
 module _ {F G R A : Type 0} (run_first : F → List (Poll A) → F → Type 0) (run_second : G → List (Poll A) → G → Type 0) (stream : R → Stream) where
@@ -35,3 +37,13 @@ module _ {F G R A : Type 0} (run_first : F → List (Poll A) → F → Type 0) (
 
   pub races_laws : FutureLaws run_first → FutureLaws run_second → FutureLaws (RacesOn run_first run_second stream)
   races_laws laws_first laws_second = record { rests = λ x. refl; stays = λ x y h. h; follows = races_follow laws_first laws_second; once = races_once }
+
+module _ {F G R A : Type 0} {run_first : F → List (Poll A) → F → Type 0} {run_second : G → List (Poll A) → G → Type 0} (stream : R → Stream) {calm_first : F → Type 0} {calm_second : G → Type 0}
+    (c : CalmLaws run_first calm_first) (d : CalmLaws run_second calm_second) where
+  calm_run : (x y : Race F G R) (l : List (Poll A)) → calm_first x.future1 ⊎ calm_second x.future2 → RacesOn run_first run_second stream x l y → Prompt l × (calm_first y.future1 ⊎ calm_second y.future2)
+  calm_run x y [] k h = rw h (tt, k)
+  calm_run x y (a ∷ l) k h = picks_calm c d (map is_first h.words) x.future1 y.future1 x.future2 y.future2 (a ∷ l) k h.picks
+
+  -- where one of the two is never pending
+  pub races_calm : CalmLaws (RacesOn run_first run_second stream) (λ x. calm_first x.future1 ⊎ calm_second x.future2)
+  races_calm = record { prompt = λ x y l k h. (calm_run x y l k h).0; calm_on = λ x y l k h. (calm_run x y l k h).1 }

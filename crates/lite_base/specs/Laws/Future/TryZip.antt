@@ -1,14 +1,16 @@
 -- Laws of `try_zip`.
 use Rattle.std.specs.Prelude.{Result, Ok, Err}
-use Rattle.std.proofs.Common.{◌≡◌, ◌∙◌, ◌≤◌, ℕ, List, [], ◌++◌, length, subst, sym, inl, inr, arith, length-append}
+use Rattle.std.proofs.Common.{◌≡◌, ◌∙◌, ◌≤◌, ℕ, List, [], ◌∷◌, ◌++◌, length, subst, sym, inl, inr, arith, length-append}
 use Rattle.futures.specs.declared.task.Poll.{Poll}
-use Rattle.lite_base.specs.Answers.{Waiting, strip}
-use Rattle.lite_base.specs.Future.Half.{Stands}
+use Rattle.futures.specs.declared.task.Poll.TheVariants.{Ready, Pending}
+use Rattle.lite_base.specs.Answers.{Gives, Waiting, strip}
+use Rattle.lite_base.specs.Calm.{CalmLaws, Prompt}
+use Rattle.lite_base.specs.Future.Half.{IfAsked, Stands}
 use Rattle.lite_base.specs.Future.TryZip.{Fails, TryZips, try_pair}
 use Rattle.lite_base.specs.FutureLaws.{FutureLaws}
 use Rattle.lite_base.specs.Laws.Answers.{gives_once, waiting_gives, waiting_not_gives}
-use Rattle.lite_base.specs.Laws.Future.Half.{stands_asked, stands_follow}
-use Rattle.lite_base.specs.Laws.Future.Together.{leaves_waiting, rows_long, together_follow, together_once, together_rest, together_stay}
+use Rattle.lite_base.specs.Laws.Future.Half.{stands_asked, stands_calm, stands_follow}
+use Rattle.lite_base.specs.Laws.Future.Together.{leaves_waiting, rows_long, together_calm, together_follow, together_once, together_rest, together_stay}
 use Rattle.lite_base.specs.declared.future.half.Half.{Half}
 use Rattle.lite_base.specs.declared.future.try_zip.TryZip.{TryZip}
 
@@ -76,4 +78,40 @@ module _ {F G A B E : Type 0} (run_first : F → List (Poll (Result A E)) → F 
         stays = λ x y h. let e = try_zips_stay laws_first laws_second x.first y.first x.second y.second h in λ i. record { first = e.0 i; second = e.1 i };
         follows = λ x y z. try_zips_follow laws_first laws_second x.first y.first z.first x.second y.second z.second;
         once = λ x y. try_zips_once x.first y.first x.second y.second;
+      }
+
+-- a value at the first poll, by a list that is no longer than one
+gives_prompt : {A B : Type 0} (i : List (Poll A)) (o : List (Poll B)) (x : A) (y : B) → Prompt i → Gives i x → length i ≡ length o → Gives o y → Prompt o
+gives_prompt i [] x y p g e h = absurd h
+gives_prompt [] (b ∷ o) x y p g e h = absurd g
+gives_prompt (Pending ∷ i) (b ∷ o) x y p g e h = absurd p
+gives_prompt (Ready a ∷ i) (Ready b ∷ o) x y p g e h = rw h.1 tt
+gives_prompt (Ready a ∷ i) (Pending ∷ []) x y p g e h = absurd h
+gives_prompt (Ready a ∷ i) (Pending ∷ b ∷ o) x y p g e h = absurd (let d = rw g.1 at e in omega (arith, d))
+
+module _ {F G A B E : Type 0} {run_first : F → List (Poll (Result A E)) → F → Type 0} {run_second : G → List (Poll (Result B E)) → G → Type 0}
+    {calm_first : F → Type 0} {calm_second : G → Type 0} (c : CalmLaws run_first calm_first) (d : CalmLaws run_second calm_second) where
+  -- a failure, where neither of the two is ever pending
+  fails_calm : {C : Type 0} (unasked : ℕ) (x y : Half F A) (u v : Half G B) (l : List (Poll (Result C E))) → IfAsked x calm_first × IfAsked u calm_second → Fails run_first run_second unasked x u l y v
+      → Prompt l × (IfAsked y calm_first × IfAsked v calm_second)
+  fails_calm unasked x y u v l k h =
+      let calm : calm_first h.before = subst (λ p. IfAsked p calm_first) h.was_asked k.0 in (
+        gives_prompt h.ins l (Err h.error) (Err h.error) (c.prompt h.before h.last h.ins calm h.came) h.failed.0 h.failed.1 h.gives,
+        (rw h.is_kept (c.calm_on h.before h.last h.ins calm h.came), (stands_calm (λ b. Ok b) run_second d u v h.others k.1 h.stands).1),
+      )
+
+module _ {F G A B E : Type 0} {run_first : F → List (Poll (Result A E)) → F → Type 0} {run_second : G → List (Poll (Result B E)) → G → Type 0}
+    {calm_first : F → Type 0} {calm_second : G → Type 0} (c : CalmLaws run_first calm_first) (d : CalmLaws run_second calm_second) where
+  calm_run : (x y : Half F A) (u v : Half G B) (l : List (Poll (Result (A × B) E))) → IfAsked x calm_first × IfAsked u calm_second → TryZips run_first run_second x u l y v
+      → Prompt l × (IfAsked y calm_first × IfAsked v calm_second)
+  calm_run x y u v l k (inl h) = together_calm (λ a. Ok a) (λ b. Ok b) try_pair c d x y u v l k h
+  calm_run x y u v l k (inr (inl h)) = fails_calm c d 1 x y u v l k h
+  calm_run x y u v l k (inr (inr h)) = let e = fails_calm d c 0 u v x y l (k.1, k.0) h in (e.0, (e.1.1, e.1.0))
+
+  -- where neither of the two is ever pending
+  pub try_zips_calm : CalmLaws (λ (x : TryZip F A G B) l y. TryZips run_first run_second x.first x.second l y.first y.second) (λ x. IfAsked x.first calm_first × IfAsked x.second calm_second)
+  try_zips_calm =
+      record {
+        prompt = λ x y l k h. (calm_run x.first y.first x.second y.second l k h).0;
+        calm_on = λ x y l k h. (calm_run x.first y.first x.second y.second l k h).1;
       }

@@ -8,8 +8,8 @@ use Rattle.lite_base.specs.Future.Zip.{Zips}
 use Rattle.lite_base.specs.FutureLaws.{FutureLaws}
 use Rattle.lite_base.specs.Laws.Alike.{alike_agrees, by_value, up_to_gives}
 use Rattle.lite_base.specs.Laws.Future.Agree.{HalvesAgree, zips_agree}
-use Rattle.lite_base.specs.Laws.Future.Half.{stands_calm, stands_found}
-use Rattle.lite_base.specs.Laws.Future.Together.{leaves_calm, leaves_up_to, rows_prompt, together_follow, together_once, together_rest, together_stay}
+use Rattle.lite_base.specs.Laws.Future.Half.{stands_found}
+use Rattle.lite_base.specs.Laws.Future.Together.{leaves_up_to, together_calm, together_follow, together_once, together_rest, together_stay}
 use Rattle.lite_base.specs.Steady.{FutureSteadyLaws, Steadiness}
 use Rattle.lite_base.specs.declared.future.half.Half.{Half}
 use Rattle.lite_base.specs.declared.future.half.Half.TheVariants.{Asked, Gave, Taken}
@@ -33,15 +33,10 @@ module _ {F G A B : Type 0} {run_first : F → List (Poll A) → F → Type 0} {
 
   pub zips_calm : {calm_first : F → Type 0} {calm_second : G → Type 0} → CalmLaws run_first calm_first → CalmLaws run_second calm_second
       → CalmLaws (Zipped run_first run_second) (λ x. IfAsked x.first calm_first × IfAsked x.second calm_second)
-  zips_calm {calm_first} {calm_second} c d =
+  zips_calm c d =
       record {
-        prompt = λ x y l k h.
-            rows_prompt (λ v w. (v, w)) h.i h.j l h.rows
-            (stands_calm (λ v. v) run_first c x.first h.p h.i k.0 h.first).0 (stands_calm (λ w. w) run_second d x.second h.q h.j k.1 h.second).0;
-        calm_on = λ x y l k h. (
-          leaves_calm calm_first l h.p y.first h.leaves.0 (stands_calm (λ v. v) run_first c x.first h.p h.i k.0 h.first).1,
-          leaves_calm calm_second l h.q y.second h.leaves.1 (stands_calm (λ w. w) run_second d x.second h.q h.j k.1 h.second).1,
-        );
+        prompt = λ x y l k h. (together_calm (λ v. v) (λ w. w) (λ v w. (v, w)) c d x.first y.first x.second y.second l k h).0;
+        calm_on = λ x y l k h. (together_calm (λ v. v) (λ w. w) (λ v w. (v, w)) c d x.first y.first x.second y.second l k h).1;
       }
 
 halves_agree : {F A : Type 0} (run : F → List (Poll A) → F → Type 0) (alike : F → F → Type 0) → Steadiness run alike → (x y : Half F A) → HalvesBy alike x y → HalvesAgree run x y

@@ -1,0 +1,73 @@
+//! The adapters that are never pending over a stream that never is.
+ghost use Rattle.lite_stream.specs.Calling.{Accepts, Calls, CallsWith};
+ghost use Rattle.lite_stream.specs.Copied.{Copies, copied_parts};
+ghost use Rattle.lite_stream.specs.Enumerate.{Numbers, enumerate_parts};
+ghost use Rattle.lite_stream.specs.Fuse.{fuse_parts};
+ghost use Rattle.lite_stream.specs.Inspect.{Shows, inspect_parts};
+ghost use Rattle.lite_stream.specs.Laws.Calming.{through_calm};
+ghost use Rattle.lite_stream.specs.Laws.Cutting.{cuts_calming};
+ghost use Rattle.lite_stream.specs.Laws.Fuse.{fuses_calming};
+ghost use Rattle.lite_stream.specs.Laws.Pointwise.{exchanges_calming, replaces_calming};
+ghost use Rattle.lite_stream.specs.Map.{map_parts};
+ghost use Rattle.lite_stream.specs.MapWhile.{map_while_parts};
+ghost use Rattle.lite_stream.specs.Scan.{scan_parts};
+ghost use Rattle.lite_stream.specs.Take.{is_none_left, left_after, take_parts};
+ghost use Rattle.lite_stream.specs.TakeWhile.{take_while_parts};
+ghost use Rattle.std.specs.Fn.{CalledAt};
+
+use crate::{Copied, Enumerate, Fuse, Inspect, Map, MapWhile, Scan, Take, TakeWhile};
+use lite_base::CalmStream;
+
+impl<'a, T: Copy + 'a, S: CalmStream<Item = &'a T>> CalmStream for Copied<S> {
+    ghost is_calm = { λ m. S.is_calm m.stream };
+
+    ghost calm = { through_calm copied_parts S.calm (replaces_calming Copies) };
+}
+
+impl<S: CalmStream> CalmStream for Enumerate<S> {
+    ghost is_calm = { λ m. S.is_calm m.stream };
+
+    ghost calm = { through_calm enumerate_parts S.calm (replaces_calming Numbers) };
+}
+
+impl<S: CalmStream> CalmStream for Fuse<S> {
+    ghost is_calm = { λ m. S.is_calm m.stream };
+
+    ghost calm = { through_calm fuse_parts S.calm fuses_calming };
+}
+
+impl<S: CalmStream, F: FnMut(&S::Item)> CalmStream for Inspect<S, F> {
+    ghost is_calm = { λ m. S.is_calm m.stream };
+
+    ghost calm = { through_calm inspect_parts S.calm (replaces_calming (Shows (CalledAt F.FnMut))) };
+}
+
+impl<U, S: CalmStream, F: FnMut(S::Item) -> U> CalmStream for Map<S, F> {
+    ghost is_calm = { λ m. S.is_calm m.stream };
+
+    ghost calm = { through_calm map_parts S.calm (replaces_calming (Calls F.FnMut)) };
+}
+
+impl<B, S: CalmStream, F: FnMut(S::Item) -> Option<B>> CalmStream for MapWhile<S, F> {
+    ghost is_calm = { λ m. S.is_calm m.stream };
+
+    ghost calm = { through_calm map_while_parts S.calm (exchanges_calming (Calls F.FnMut)) };
+}
+
+impl<St, B, S: CalmStream, F: FnMut(&mut St, S::Item) -> Option<B>> CalmStream for Scan<S, St, F> {
+    ghost is_calm = { λ m. S.is_calm m.stream };
+
+    ghost calm = { through_calm scan_parts S.calm (exchanges_calming (CallsWith F.FnMut)) };
+}
+
+impl<S: CalmStream> CalmStream for Take<S> {
+    ghost is_calm = { λ m. S.is_calm m.stream };
+
+    ghost calm = { through_calm take_parts S.calm (cuts_calming is_none_left left_after) };
+}
+
+impl<S: CalmStream<Item: Drop>, P: FnMut(&S::Item) -> bool> CalmStream for TakeWhile<S, P> {
+    ghost is_calm = { λ m. S.is_calm m.stream };
+
+    ghost calm = { through_calm take_while_parts S.calm (exchanges_calming (Accepts (CalledAt P.FnMut))) };
+}
