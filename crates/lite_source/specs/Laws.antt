@@ -5,6 +5,7 @@ pub mod Iter
 pub mod Once
 pub mod OnceFuture
 pub mod Pending
+pub mod PollFn
 pub mod Repeat
 pub mod Script
 pub mod TryUnfold

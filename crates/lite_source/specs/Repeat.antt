@@ -1,9 +1,13 @@
 -- `repeat`: each answer is an item, a clone of its own item or a refusal of one that may be refused.
-use Rattle.std.specs.Prelude.{List, Some, None, Result, MatchResult}
+use Rattle.std.specs.Prelude.{◌≡◌, List, Some, None, Result, MatchResult}
 use Rattle.futures.specs.declared.task.Poll.TheVariants.{Ready, Pending}
 use Rattle.lite_base.specs.Answers.{Answer}
 use Rattle.lite_source.specs.Always.{Always}
 use Rattle.lite_source.specs.declared.repeat.Repeat.{Repeat}
+
+-- each clone that the one may give is each that the other may
+abbrev pub SameClones : {A : Type 0} → (A → A → Type 0) → A → A → Type 0
+SameClones {A} is_clone own other = (v w : A) → is_clone own v → is_clone other w → v ≡ w
 
 module _ {A E : Type 0} (is_clone : A → A → Type 0) (is_infallible : A → Type 0) where
   -- an item that a clone of `own` may give

@@ -1,11 +1,10 @@
-ghost use Rattle.std.specs.Prelude.{◌≡◌, Some, ⊤};
+ghost use Rattle.std.specs.Prelude.{◌≡◌, Some};
 ghost use Rattle.lite_base.specs.OkRanks.{ok_counting};
-ghost use Rattle.lite_base.specs.Steady.{steady_always};
 ghost use Rattle.lite_source.specs.Always.{no_ranks};
 ghost use Rattle.lite_source.specs.Empty.{Ends};
-ghost use Rattle.lite_source.specs.Laws.Empty.{empty_calm, empty_counting, empty_laws, empty_steady};
+ghost use Rattle.lite_source.specs.Laws.Empty.{empty_counting, empty_laws};
 
-use lite_base::{CalmStream, Context, Counted, OkCounted, Poll, SteadyStream, Stream};
+use lite_base::{Context, Counted, OkCounted, Poll, Stream};
 use std::marker::PhantomData;
 
 /// Ends for ever.
@@ -48,18 +47,4 @@ impl<T, E> OkCounted for Empty<Result<T, E>> {
     ghost ok_ranks = { no_ranks };
 
     ghost ok_counting = { ok_counting empty_counting };
-}
-
-impl<T> SteadyStream for Empty<T> {
-    ghost ample = { Ends };
-
-    ghost alike = { λ _ _. ⊤ };
-
-    ghost steady = { steady_always empty_steady };
-}
-
-impl<T> CalmStream for Empty<T> {
-    ghost is_calm = { λ _. ⊤ };
-
-    ghost calm = { empty_calm };
 }

@@ -1,11 +1,8 @@
-ghost use Rattle.std.specs.Prelude.{⊤};
-ghost use Rattle.lite_base.specs.Alike.{Alike};
 ghost use Rattle.lite_base.specs.OkRanks.{ok_counting};
-ghost use Rattle.lite_base.specs.Steady.{steady_always};
 ghost use Rattle.lite_source.specs.Iter.{AlwaysNext, IterHints, Iterates, iter_ranks};
-ghost use Rattle.lite_source.specs.Laws.Iter.{iter_calm, iter_counting, iter_laws, iter_steady};
+ghost use Rattle.lite_source.specs.Laws.Iter.{iter_counting, iter_laws};
 
-use lite_base::{CalmStream, Context, Counted, OkCounted, Poll, SteadyStream, Stream};
+use lite_base::{Context, Counted, OkCounted, Poll, Stream};
 
 /// Gives what an iterator answers, one call of `next` a poll.
 ///
@@ -50,18 +47,4 @@ impl<T, E, I: Iterator<Item = Result<T, E>>> OkCounted for Iter<I> {
     ghost ok_ranks = { iter_ranks I.can_next I.next_gives I.remaining };
 
     ghost ok_counting = { ok_counting (iter_counting I.can_next I.next_gives I.remaining) };
-}
-
-impl<I: Iterator> SteadyStream for Iter<I> {
-    ghost ample = { λ x l y. Iterates I.can_next I.next_gives I.remaining x.iter l y.iter };
-
-    ghost alike = { λ x y. Alike (Iterates I.can_next I.next_gives I.remaining) x.iter y.iter };
-
-    ghost steady = { steady_always (iter_steady I.can_next I.next_gives I.remaining) };
-}
-
-impl<I: Iterator> CalmStream for Iter<I> {
-    ghost is_calm = { λ _. ⊤ };
-
-    ghost calm = { iter_calm I.can_next I.next_gives I.remaining };
 }

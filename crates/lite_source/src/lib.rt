@@ -1,6 +1,7 @@
 //! Sources: streams that give answers of their own.
 #![tactic(auto)]
 
+mod calm;
 mod empty;
 mod iter;
 pub mod make;
@@ -11,6 +12,7 @@ mod poll_fn;
 mod repeat;
 mod repeat_with;
 mod script;
+mod steady;
 mod try_unfold;
 mod unfold;
 mod unfolding;

@@ -1,10 +1,9 @@
-ghost use Rattle.std.specs.Prelude.{◌≡◌, Some, length, ⊤};
+ghost use Rattle.std.specs.Prelude.{◌≡◌, Some, length};
 ghost use Rattle.lite_base.specs.OkRanks.{ok_counting};
-ghost use Rattle.lite_base.specs.Steady.{steady_always};
-ghost use Rattle.lite_source.specs.Laws.Once.{once_calm, once_counting, once_laws, once_steady};
+ghost use Rattle.lite_source.specs.Laws.Once.{once_counting, once_laws};
 ghost use Rattle.lite_source.specs.Once.{GivesOnce, held, once_ranks};
 
-use lite_base::{CalmStream, Context, Counted, OkCounted, Poll, SteadyStream, Stream};
+use lite_base::{Context, Counted, OkCounted, Poll, Stream};
 
 /// Gives one item, and then ends for ever.
 ///
@@ -50,18 +49,4 @@ impl<T, E> OkCounted for Once<Result<T, E>> {
     ghost ok_ranks = { once_ranks };
 
     ghost ok_counting = { ok_counting once_counting };
-}
-
-impl<T> SteadyStream for Once<T> {
-    ghost ample = { GivesOnce };
-
-    ghost alike = { λ x y. y.value ≡ x.value };
-
-    ghost steady = { steady_always once_steady };
-}
-
-impl<T> CalmStream for Once<T> {
-    ghost is_calm = { λ _. ⊤ };
-
-    ghost calm = { once_calm };
 }

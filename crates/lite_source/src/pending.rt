@@ -1,11 +1,10 @@
-ghost use Rattle.std.specs.Prelude.{◌≡◌, Some, ⊤};
+ghost use Rattle.std.specs.Prelude.{◌≡◌, Some};
 ghost use Rattle.lite_base.specs.OkRanks.{ok_counting};
-ghost use Rattle.lite_base.specs.Steady.{steady_always};
 ghost use Rattle.lite_source.specs.Always.{no_ranks};
-ghost use Rattle.lite_source.specs.Laws.Pending.{pending_counting, pending_laws, pending_steady};
+ghost use Rattle.lite_source.specs.Laws.Pending.{pending_counting, pending_laws};
 ghost use Rattle.lite_source.specs.Pending.{Waits};
 
-use lite_base::{Context, Counted, OkCounted, Poll, SteadyStream, Stream};
+use lite_base::{Context, Counted, OkCounted, Poll, Stream};
 use std::marker::PhantomData;
 
 /// Is pending for ever. It does not see to being polled again.
@@ -48,12 +47,4 @@ impl<T, E> OkCounted for Pending<Result<T, E>> {
     ghost ok_ranks = { no_ranks };
 
     ghost ok_counting = { ok_counting pending_counting };
-}
-
-impl<T> SteadyStream for Pending<T> {
-    ghost ample = { Waits };
-
-    ghost alike = { λ _ _. ⊤ };
-
-    ghost steady = { steady_always pending_steady };
 }

@@ -1,14 +1,11 @@
 ghost use Rattle.std.specs.Prelude.{◌≡◌, IfOk, List, None, length};
 ghost use Rattle.std.specs.List.{AllZip};
-ghost use Rattle.lite_base.specs.Answers.{strip};
-ghost use Rattle.lite_base.specs.Calm.{Prompt};
 ghost use Rattle.lite_base.specs.OkRanks.{ok_counting};
 ghost use Rattle.lite_base.specs.Ranks.{number_counting, number_ranks};
-ghost use Rattle.lite_base.specs.Steady.{steady_always};
-ghost use Rattle.lite_source.specs.Laws.Script.{gives_calm, gives_lowers, gives_steady, script_laws};
+ghost use Rattle.lite_source.specs.Laws.Script.{gives_lowers, script_laws};
 ghost use Rattle.lite_source.specs.Script.{Gives, IsCloneBy};
 
-use lite_base::{CalmStream, Context, Counted, OkCounted, Poll, SteadyStream, Stream};
+use lite_base::{Context, Counted, OkCounted, Poll, Stream};
 use std::alloc::AllocError;
 use std::marker::Model;
 
@@ -96,18 +93,4 @@ impl<T, E> OkCounted for Script<Result<T, E>> {
     ghost ok_ranks = { number_ranks length };
 
     ghost ok_counting = { ok_counting (number_counting gives_lowers) };
-}
-
-impl<T> SteadyStream for Script<T> {
-    ghost ample = { Gives };
-
-    ghost alike = { λ x y. strip x ≡ strip y };
-
-    ghost steady = { steady_always gives_steady };
-}
-
-impl<T> CalmStream for Script<T> {
-    ghost is_calm = { Prompt };
-
-    ghost calm = { gives_calm };
 }

@@ -3,10 +3,14 @@ use Rattle.std.proofs.Common.{◌≡◌, ◌≤◌, List, [], ◌∷◌, length,
 use Rattle.futures.specs.declared.task.Poll.{Poll}
 use Rattle.futures.specs.declared.task.Poll.TheVariants.{Ready, Pending}
 use Rattle.lite_base.specs.Alike.{Alike, OptionBy}
-use Rattle.lite_base.specs.Answers.{Comparable, Gives, UpToValue, strip}
+use Rattle.lite_base.specs.Answers.{Comparable, ComparableBy, Gives, UpToValue, strip}
 use Rattle.lite_base.specs.Future.Finishes.{Finishes}
 
 module _ {A : Type 0} where
+  pub comparable_nil : (same : A → A → Type 0) (l : List A) → ComparableBy same l []
+  comparable_nil same [] = tt
+  comparable_nil same (a ∷ l) = tt
+
   -- lists of at most one value, by that value
   pub by_value : (i j : List A) → length i ≤ 1 → length j ≤ 1 → ((v w : A) → i ≡ v ∷ [] → j ≡ w ∷ [] → v ≡ w) → Comparable i j
   by_value [] j few fewer same = tt

@@ -3,6 +3,7 @@ pub mod Calls
 pub mod Finishes
 pub mod Fuse
 pub mod Half
+pub mod Handed
 pub mod Or
 pub mod Pending
 pub mod Picks

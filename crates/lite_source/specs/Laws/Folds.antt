@@ -1,9 +1,14 @@
 -- Laws of sources that make one call a poll.
-use Rattle.std.proofs.Common.{◌≡◌, ℕ, None, refl, sym}
+use Rattle.std.specs.Prelude.{⊤}
+use Rattle.std.proofs.Common.{◌≡◌, ℕ, List, [], ◌∷◌, None, refl, sym}
 use Rattle.std.specs.List.{FoldsTo}
+use Rattle.futures.specs.declared.task.Poll.TheVariants.{Ready, Pending}
+use Rattle.lite_base.specs.Alike.{Alike}
 use Rattle.lite_base.specs.Answers.{Answer}
+use Rattle.lite_base.specs.Calm.{CalmLaws, Prompt}
 use Rattle.lite_base.specs.Laws.Calls.{folds_follow}
 use Rattle.lite_base.specs.Laws.Hint.{same_hint}
+use Rattle.lite_base.specs.Steady.{Steadiness}
 use Rattle.lite_base.specs.StreamLaws.{StreamLaws}
 
 -- `part` of the source is what changes, by `next` at each poll, and all that it holds
@@ -17,3 +22,17 @@ module _ {S P A : Type 0} (part : S → P) (next : P → Answer A → P → Type
         follows = λ x y z. folds_follow next (part x) (part y) (part z);
         bounded = λ x y hint l e h. same_hint hint (least, None) l e tt;
       }
+
+module _ {S P A : Type 0} (part : S → P) (next : P → Answer A → P → Type 0) where
+  -- it is its own source: those whose answers are the same are alike
+  pub folds_steady : Steadiness (λ x l y. FoldsTo next (part x) l (part y)) (λ x y. Alike (FoldsTo next) (part x) (part y))
+  folds_steady x y e l m x' y' h k = e l m (part x') (part y') h k
+
+  folds_prompt : ((p q : P) → next p Pending q → ⊥) → (p q : P) (l : List (Answer A)) → FoldsTo next p l q → Prompt l
+  folds_prompt never p q [] h = tt
+  folds_prompt never p q (Pending ∷ l) h = absurd (never p h.0 h.1)
+  folds_prompt never p q (Ready r ∷ l) h = folds_prompt never h.0 q l h.2
+
+  -- no call is answered Pending
+  pub folds_calm : ((p q : P) → next p Pending q → ⊥) → CalmLaws (λ x l y. FoldsTo next (part x) l (part y)) (λ x. ⊤)
+  folds_calm never = record { prompt = λ x y l k h. folds_prompt never (part x) (part y) l h; calm_on = λ x y l k h. tt }

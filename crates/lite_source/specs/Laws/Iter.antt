@@ -1,17 +1,15 @@
 -- Laws of `iter`.
-use Rattle.std.specs.Prelude.{IfSome, ⊤}
+use Rattle.std.specs.Prelude.{IfSome}
 use Rattle.std.proofs.Common.{◌≡◌, ◌≤◌, ◌<◌, sym, ℕ, List, [], ◌∷◌, ◌++◌, Option, Some, None, refl, ap, subst, arith, inl, inr}
 use Rattle.std.proofs.Math.Nat.{eq-or-lt_of_le}
 use Rattle.std.specs.Iterator.{Count, IsFinite, MakesProgress, UpTo, size}
 use Rattle.futures.specs.declared.task.Poll.TheVariants.{Ready, Pending}
 use Rattle.lite_base.specs.Alike.{Alike}
 use Rattle.lite_base.specs.Answers.{Answer, Comparable, before_end, items, strip}
-use Rattle.lite_base.specs.Calm.{CalmLaws, Prompt}
 use Rattle.lite_base.specs.Falling.{Below-one, Lowers-at_most}
 use Rattle.lite_base.specs.Laws.Calls.{folds_follow}
 use Rattle.lite_base.specs.Rank.{AtMost, Below, Lowers}
 use Rattle.lite_base.specs.Ranks.{Counting}
-use Rattle.lite_base.specs.Steady.{Steadiness}
 use Rattle.lite_base.specs.StreamLaws.{StreamLaws}
 use Rattle.lite_source.specs.Iter.{AlwaysNext, IterHints, Iterates, NeverRaised, Nexts, iter_ranks}
 use Rattle.lite_source.specs.declared.iter.Iter.{Iter}
@@ -102,11 +100,7 @@ module _ {I A : Type 0} (can : I → Type 0) (gives : I → Option A → I → T
         lowers = λ x y l f. iter_lowers x.iter y.iter l f.0 f.1;
       }
 
-  -- an iterator is its own source: those whose answers are the same are alike
-  pub iter_steady : Steadiness (λ (x : Iter I) (l : List (Answer A)) (y : Iter I). Iterates can gives remaining x.iter l y.iter) (λ x y. Alike (Iterates can gives remaining) x.iter y.iter)
-  iter_steady x y e l m x' y' h k = e l m x'.iter y'.iter h k
-
-  -- as they are where equal ones answer the same, and are so again
+  -- those are alike that answer the same where they are equal so, and are so again
   pub iter_alike : (agree : I → I → Type 0) → ((i j k n : I) (r s : Option A) → agree i j → gives i r k → gives j s n → (r ≡ s) × agree k n) → (i j : I) → agree i j → Alike (Iterates can gives remaining) i j
   iter_alike agree step i j a l m i' j' h k = same l m i j a h k
     where
@@ -116,11 +110,3 @@ module _ {I A : Type 0} (can : I → Type 0) (gives : I → Option A → I → T
       same (Ready r ∷ l) [] i j a h k = tt
       same (Ready r ∷ l) (Pending ∷ m) i j a h k = absurd k.1
       same (Ready r ∷ l) (Ready s ∷ m) i j a h k = let e = step i j h.0 k.0 r s a h.1.0 k.1.0 in (e.0, same l m h.0 k.0 e.1 h.2 k.2)
-
-  iterates_prompt : (i j : I) (l : List (Answer A)) → Iterates can gives remaining i l j → Prompt l
-  iterates_prompt i j [] h = tt
-  iterates_prompt i j (Pending ∷ l) h = absurd h.1
-  iterates_prompt i j (Ready r ∷ l) h = iterates_prompt h.0 j l h.2
-
-  pub iter_calm : CalmLaws (λ (x : Iter I) (l : List (Answer A)) (y : Iter I). Iterates can gives remaining x.iter l y.iter) (λ x. ⊤)
-  iter_calm = record { prompt = λ x y l k h. iterates_prompt x.iter y.iter l h; calm_on = λ x y l k h. tt }

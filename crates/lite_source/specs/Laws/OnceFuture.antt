@@ -1,22 +1,29 @@
 -- Laws of `once_future`.
-use Rattle.std.proofs.Common.{◌≡◌, ℕ, List, [], ◌∷◌, map, refl, Option, Some, None, ap, arith, inl}
+use Rattle.std.specs.Prelude.{IfSome}
+use Rattle.std.proofs.Common.{◌≡◌, ◌∙◌, ℕ, List, [], ◌∷◌, map, refl, Option, Some, None, ap, arith, inl}
 use Rattle.std.specs.List.{AllByRecursion}
 use Rattle.std.specs.Option.{option_len}
 use Rattle.futures.specs.declared.task.Poll.{Poll}
 use Rattle.futures.specs.declared.task.Poll.TheVariants.{Ready, Pending}
-use Rattle.lite_base.specs.Answers.{Answer, Waiting, end}
+use Rattle.lite_base.specs.Alike.{OptionBy}
+use Rattle.lite_base.specs.Answers.{Answer, Comparable, Waiting, end, strip}
+use Rattle.lite_base.specs.Calm.{CalmLaws, Prompt}
 use Rattle.lite_base.specs.Falling.{Lowers-below}
 use Rattle.lite_base.specs.Future.Spent.{Spends}
 use Rattle.lite_base.specs.FutureLaws.{FutureLaws}
+use Rattle.lite_base.specs.Laws.Alike.{alike_agrees, comparable_nil}
 use Rattle.lite_base.specs.Laws.All.{all_append}
-use Rattle.lite_base.specs.Laws.Future.Spent.{spends_follow, spends_rest, spends_stay}
+use Rattle.lite_base.specs.Laws.Calm.{prompt_join}
+use Rattle.lite_base.specs.Laws.Future.Handed.{handed_gives, handed_prompt, handed_waits}
+use Rattle.lite_base.specs.Laws.Future.Spent.{spends_found, spends_follow, spends_rest, spends_stay}
 use Rattle.lite_base.specs.Laws.Hint.{same_hint}
 use Rattle.lite_base.specs.Rank.{AtMost, Lowers}
 use Rattle.lite_base.specs.Ranks.{Counting, number_counting}
+use Rattle.lite_base.specs.Steady.{FutureSteadyLaws, Steadiness, SteadyLaws}
 use Rattle.lite_base.specs.StreamLaws.{StreamLaws}
 use Rattle.lite_base.specs.Future.Handed.{handed}
 use Rattle.lite_source.specs.OnceFuture.{GivesFuture, once_future_ranks}
-use Rattle.lite_source.specs.Laws.Always.{no_items_lower}
+use Rattle.lite_source.specs.Laws.Always.{answers_prompt, answers_same, no_items_lower}
 
 module _ {F A : Type 0} (run : F → List (Poll A) → F → Type 0) where
   pub once_future_laws : FutureLaws run → StreamLaws (GivesFuture run) (λ x hint. hint ≡ (0, None))
@@ -40,3 +47,40 @@ module _ {F A : Type 0} (run : F → List (Poll A) → F → Type 0) where
 
   pub once_future_counting : Counting (GivesFuture run) once_future_ranks
   once_future_counting = number_counting (λ x y. spends_lower x.future y.future)
+
+-- what a held future answers, and then ends
+abbrev Handing : {F A : Type 0} → (F → List (Poll A) → F → Type 0) → Option F → List (Answer A) → Option F → Type 0
+Handing run = Spends run (handed (λ v. Some v)) (AllByRecursion (λ a. a ≡ end))
+
+module _ {F A : Type 0} {run : F → List (Poll A) → F → Type 0} {alike : F → F → Type 0} (s : Steadiness run alike) where
+  handing_same : (f g f' g' : Option F) (l m : List (Answer A)) → OptionBy alike f g → Handing run f l f' → Handing run g m g' → Comparable (strip l) (strip m)
+  handing_same None None f' g' l m e h k = answers_same None l m h.0 k.0
+  handing_same None (Some g) f' g' l m e h k = absurd e
+  handing_same (Some f) None f' g' l m e h k = absurd e
+  handing_same (Some f) (Some g) (Some f') g' l m e h k = let none = ap strip h.3 ∙ handed_waits (λ v. Some v) h.0 h.1 in rw none tt
+  handing_same (Some f) (Some g) None (Some g') l m e h k =
+      let none = ap strip k.3 ∙ handed_waits (λ v. Some v) k.0 k.1 in
+      rw none (comparable_nil (λ a b. a ≡ b) (strip l))
+  handing_same (Some f) (Some g) None None l m e h k =
+      let one = ap strip h.joined ∙ handed_gives (λ v. Some v) h.ins h.after h.value h.finishes.gives in
+      let two = ap strip k.joined ∙ handed_gives (λ v. Some v) k.ins k.after k.value k.finishes.gives in
+      rw (one, two) (ap (λ v. Some v) (alike_agrees run f g (s f g e) h.ins k.ins h.value k.value h.finishes k.finishes), answers_same None h.after k.after h.later k.later)
+
+pub once_future_steady : {F A : Type 0} {run ample : F → List (Poll A) → F → Type 0} {needs_none : Type 0} {alike : F → F → Type 0} → FutureSteadyLaws run ample needs_none alike
+    → SteadyLaws (GivesFuture run) (GivesFuture ample) needs_none (λ x y. OptionBy alike x.future y.future)
+once_future_steady s =
+    record {
+      steady = λ x y e l m x' y'. handing_same s.steady x.future y.future x'.future y'.future l m e;
+      found = λ n x y l. spends_found (handed (λ v. Some v)) (AllByRecursion (λ a. a ≡ end)) (s.found n) x.future y.future l;
+    }
+
+module _ {F A : Type 0} {run : F → List (Poll A) → F → Type 0} {is_calm : F → Type 0} (c : CalmLaws run is_calm) where
+  handing_calm : (x y : Option F) (l : List (Answer A)) → IfSome x is_calm → Handing run x l y → Prompt l × IfSome y is_calm
+  handing_calm None y l k h = rw h.1 (answers_prompt None l h.0, tt)
+  handing_calm (Some f) (Some g) l k h = rw h.3 (handed_prompt (λ v. Some v) h.0 (c.prompt f g h.0 k h.2), c.calm_on f g h.0 k h.2)
+  handing_calm (Some f) None l k h =
+      let before = handed_prompt (λ v. Some v) h.ins (c.prompt f h.finishes.last h.ins k h.finishes.came) in
+      rw h.joined (prompt_join (map (handed (λ v. Some v)) h.ins) h.after before (answers_prompt None h.after h.later), tt)
+
+  pub once_future_calm : CalmLaws (GivesFuture run) (λ x. IfSome x.future is_calm)
+  once_future_calm = record { prompt = λ x y l k h. (handing_calm x.future y.future l k h).0; calm_on = λ x y l k h. (handing_calm x.future y.future l k h).1 }

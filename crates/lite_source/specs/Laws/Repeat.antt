@@ -1,9 +1,51 @@
 -- Laws of `repeat`.
-use Rattle.std.proofs.Common.{◌≡◌, ℕ, None}
+use Rattle.std.specs.Prelude.{⊤, Result, Ok, Err}
+use Rattle.std.proofs.Common.{◌≡◌, ℕ, List, [], ◌∷◌, Some, None, ap}
+use Rattle.std.specs.List.{AllByRecursion}
+use Rattle.futures.specs.declared.task.Poll.TheVariants.{Ready, Pending}
+use Rattle.lite_base.specs.Answers.{Answer, Comparable, strip}
+use Rattle.lite_base.specs.Calm.{CalmLaws, Prompt}
+use Rattle.lite_base.specs.Steady.{SteadyLaws}
 use Rattle.lite_base.specs.StreamLaws.{StreamLaws}
-use Rattle.lite_source.specs.Repeat.{Repeats}
+use Rattle.lite_source.specs.Repeat.{IsCloned, Repeats, SameClones}
 use Rattle.lite_source.specs.Laws.Always.{always_laws}
 
--- its hint bounds nothing
-pub repeat_laws : {A E : Type 0} (is_clone : A → A → Type 0) (is_infallible : A → Type 0) (least : ℕ) → StreamLaws (Repeats {A = A} {E = E} is_clone is_infallible) (λ x hint. hint ≡ (least, None))
-repeat_laws is_clone is_infallible least = always_laws _ (least, None) (λ x l h. tt)
+module _ {A E : Type 0} (is_clone : A → A → Type 0) (is_infallible : A → Type 0) where
+  -- its hint bounds nothing
+  pub repeat_laws : (least : ℕ) → StreamLaws (Repeats {E = E} is_clone is_infallible) (λ x hint. hint ≡ (least, None))
+  repeat_laws least = always_laws _ (least, None) (λ x l h. tt)
+
+  clones_found : ((x : A) → is_infallible x) → (own : A) (l : List (Answer (Result A E))) → AllByRecursion (IsCloned is_clone is_infallible own) l → AllByRecursion (IsCloned is_clone (λ _. ⊤) own) l
+  clones_found n own [] h = tt
+  clones_found n own (Pending ∷ l) h = absurd h.0
+  clones_found n own (Ready None ∷ l) h = absurd h.0
+  clones_found n own (Ready (Some (Ok v)) ∷ l) h = (h.0, clones_found n own l h.1)
+  clones_found n own (Ready (Some (Err e)) ∷ l) h = absurd (h.0 (n own))
+
+  clones_same : (own other : A) → SameClones is_clone own other → (l m : List (Answer (Result A E))) → AllByRecursion (IsCloned is_clone (λ _. ⊤) own) l → AllByRecursion (IsCloned is_clone (λ _. ⊤) other) m
+      → Comparable (strip l) (strip m)
+  clones_same own other e [] m h k = tt
+  clones_same own other e (Pending ∷ l) m h k = absurd h.0
+  clones_same own other e (Ready None ∷ l) m h k = absurd h.0
+  clones_same own other e (Ready (Some (Err x)) ∷ l) m h k = absurd (h.0 tt)
+  clones_same own other e (Ready (Some (Ok v)) ∷ l) [] h k = tt
+  clones_same own other e (Ready (Some (Ok v)) ∷ l) (Pending ∷ m) h k = absurd k.0
+  clones_same own other e (Ready (Some (Ok v)) ∷ l) (Ready None ∷ m) h k = absurd k.0
+  clones_same own other e (Ready (Some (Ok v)) ∷ l) (Ready (Some (Err x)) ∷ m) h k = absurd (k.0 tt)
+  clones_same own other e (Ready (Some (Ok v)) ∷ l) (Ready (Some (Ok w)) ∷ m) h k = (ap (λ z. Some (Ok z)) (e v w h.0 k.0), clones_same own other e l m h.1 k.1)
+
+  -- where no clone is refused, those of the same clones
+  pub repeat_steady : SteadyLaws (Repeats {E = E} is_clone is_infallible) (Repeats is_clone (λ _. ⊤)) ((x : A) → is_infallible x) (λ x y. SameClones is_clone x.item y.item)
+  repeat_steady =
+      record {
+        steady = λ x y e l m x' y' h k. clones_same x.item y.item e l m h.0 k.0;
+        found = λ n x y l h. (clones_found n x.item l h.0, h.1);
+      }
+
+  clones_prompt : (own : A) (l : List (Answer (Result A E))) → AllByRecursion (IsCloned is_clone is_infallible own) l → Prompt l
+  clones_prompt own [] h = tt
+  clones_prompt own (Pending ∷ l) h = absurd h.0
+  clones_prompt own (Ready r ∷ l) h = clones_prompt own l h.1
+
+  pub repeat_calm : CalmLaws (Repeats {E = E} is_clone is_infallible) (λ x. ⊤)
+  repeat_calm = record { prompt = λ x y l k h. clones_prompt x.item l h.0; calm_on = λ x y l k h. tt }

@@ -76,10 +76,6 @@ accepts_matches test m f k g l x (Some y) (Some z) a c d = (ap (λ v. Some v) (c
 pub accepts_agree : {F A : Type 0} (test : F → A → Bool → F → Type 0) → Matches (λ y z. y ≡ z) (Accepts test) (Agree test)
 accepts_agree test = accepts_matches test (agree_matches (λ y z. y ≡ z) test)
 
-pub comparable_nil : {A : Type 0} (same : A → A → Type 0) (o : List A) → ComparableBy same o []
-comparable_nil same [] = tt
-comparable_nil same (a ∷ o) = tt
-
 -- a closure that answers what a function does agrees with itself
 pub function_agree : {F A B : Type 0} (call : F → A → B → F → Type 0) (function : A → B) → ((f g : F) (x : A) (y : B) → call f x y g → y ≡ function x) → (f k : F) → Agree call f k
 function_agree call function answers f k =

@@ -1,0 +1,25 @@
+-- Laws of what a stream answers that polls a future.
+use Rattle.std.proofs.Common.{◌≡◌, List, [], ◌∷◌, ◌++◌, map, Option, Some, refl}
+use Rattle.futures.specs.declared.task.Poll.{Poll}
+use Rattle.futures.specs.declared.task.Poll.TheVariants.{Ready, Pending}
+use Rattle.lite_base.specs.Answers.{Answer, Gives, Waiting, strip}
+use Rattle.lite_base.specs.Calm.{Prompt}
+use Rattle.lite_base.specs.Future.Handed.{handed}
+
+module _ {A B : Type 0} (shown : A → Option B) where
+  -- while it waits nothing else goes out
+  pub handed_waits : (l : List (Poll A)) → Waiting l → strip (map (handed shown) l) ≡ []
+  handed_waits [] w = refl
+  handed_waits (Pending ∷ l) w = handed_waits l w
+  handed_waits (Ready x ∷ l) w = absurd w
+
+  -- and then what is shown of the value, before what comes later
+  pub handed_gives : (l : List (Poll A)) (later : List (Answer B)) (x : A) → Gives l x → strip (map (handed shown) l ++ later) ≡ shown x ∷ strip later
+  handed_gives [] later x g = absurd g
+  handed_gives (Pending ∷ l) later x g = handed_gives l later x g
+  handed_gives (Ready y ∷ l) later x g = rw (g.0, g.1) refl
+
+  pub handed_prompt : (l : List (Poll A)) → Prompt l → Prompt (map (handed shown) l)
+  handed_prompt [] h = tt
+  handed_prompt (Pending ∷ l) h = absurd h
+  handed_prompt (Ready x ∷ l) h = handed_prompt l h

@@ -1,0 +1,101 @@
+//! The sources whose answers do not depend on when they were pending.
+ghost use Rattle.lite_base.specs.Alike.{Alike, OptionBy};
+ghost use Rattle.lite_base.specs.Answers.{strip};
+ghost use Rattle.lite_base.specs.Future.Calls.{Answers};
+ghost use Rattle.lite_base.specs.Steady.{steady_always};
+ghost use Rattle.lite_source.specs.Empty.{Ends};
+ghost use Rattle.lite_source.specs.Iter.{Iterates, Nexts};
+ghost use Rattle.lite_source.specs.Laws.Empty.{empty_steady};
+ghost use Rattle.lite_source.specs.Laws.Folds.{folds_steady};
+ghost use Rattle.lite_source.specs.Laws.Once.{once_steady};
+ghost use Rattle.lite_source.specs.Laws.OnceFuture.{once_future_steady};
+ghost use Rattle.lite_source.specs.Laws.Pending.{pending_steady};
+ghost use Rattle.lite_source.specs.Laws.Repeat.{repeat_steady};
+ghost use Rattle.lite_source.specs.Laws.Script.{gives_steady};
+ghost use Rattle.lite_source.specs.Once.{GivesOnce};
+ghost use Rattle.lite_source.specs.OnceFuture.{GivesFuture};
+ghost use Rattle.lite_source.specs.Pending.{Waits};
+ghost use Rattle.lite_source.specs.Repeat.{Repeats, SameClones};
+ghost use Rattle.lite_source.specs.RepeatWith.{Call};
+ghost use Rattle.lite_source.specs.Script.{Gives};
+ghost use Rattle.std.specs.List.{FoldsTo};
+ghost use Rattle.std.specs.Prelude.{⊤, ◌≡◌};
+
+use crate::{Empty, Iter, Once, OnceFuture, Pending, PollFn, Repeat, RepeatWith, Script};
+use lite_base::{Context, Poll, SteadyFuture, SteadyStream};
+
+impl<T> SteadyStream for Empty<T> {
+    ghost ample = { Ends };
+
+    ghost alike = { λ _ _. ⊤ };
+
+    ghost steady = { steady_always empty_steady };
+}
+
+impl<I: Iterator> SteadyStream for Iter<I> {
+    ghost ample = { λ x l y. Iterates I.can_next I.next_gives I.remaining x.iter l y.iter };
+
+    ghost alike = { λ x y. Alike (Iterates I.can_next I.next_gives I.remaining) x.iter y.iter };
+
+    ghost steady = { steady_always (folds_steady (λ x. x.iter) (Nexts I.can_next I.next_gives I.remaining)) };
+}
+
+impl<T> SteadyStream for Once<T> {
+    ghost ample = { GivesOnce };
+
+    ghost alike = { λ x y. y.value ≡ x.value };
+
+    ghost steady = { steady_always once_steady };
+}
+
+impl<F: SteadyFuture + Drop> SteadyStream for OnceFuture<F> {
+    ghost ample = { GivesFuture F.ample };
+
+    ghost needs_none = { F.needs_none };
+
+    ghost alike = { λ x y. OptionBy F.alike x.future y.future };
+
+    ghost steady = { once_future_steady F.steady };
+}
+
+impl<T> SteadyStream for Pending<T> {
+    ghost ample = { Waits };
+
+    ghost alike = { λ _ _. ⊤ };
+
+    ghost steady = { steady_always pending_steady };
+}
+
+impl<T, F: FnMut(&mut Context<'_>) -> Poll<Option<T>>> SteadyStream for PollFn<F> {
+    ghost ample = { λ x l y. FoldsTo (Answers F.FnMut) x.f l y.f };
+
+    ghost alike = { λ x y. Alike (FoldsTo (Answers F.FnMut)) x.f y.f };
+
+    ghost steady = { steady_always (folds_steady (λ x. x.f) (Answers F.FnMut)) };
+}
+
+impl<T: Clone> SteadyStream for Repeat<T> {
+    ghost ample = { Repeats T.is_clone (λ _. ⊤) };
+
+    ghost needs_none = { (x : T) → T.is_infallible x };
+
+    ghost alike = { λ x y. SameClones T.is_clone x.item y.item };
+
+    ghost steady = { repeat_steady T.is_clone T.is_infallible };
+}
+
+impl<T, F: FnMut() -> T> SteadyStream for RepeatWith<F> {
+    ghost ample = { λ x l y. FoldsTo (Call F.FnMut) x.f l y.f };
+
+    ghost alike = { λ x y. Alike (FoldsTo (Call F.FnMut)) x.f y.f };
+
+    ghost steady = { steady_always (folds_steady (λ x. x.f) (Call F.FnMut)) };
+}
+
+impl<T> SteadyStream for Script<T> {
+    ghost ample = { Gives };
+
+    ghost alike = { λ x y. strip x ≡ strip y };
+
+    ghost steady = { steady_always gives_steady };
+}
