@@ -1,6 +1,8 @@
--- Two runs of streams that are alike.
-use Rattle.std.specs.Prelude.{List}
+-- Two runs of streams that are alike, and two of futures.
+use Rattle.std.specs.Prelude.{◌≡◌, List}
+use Rattle.futures.specs.declared.task.Poll.{Poll}
 use Rattle.lite_base.specs.Answers.{Answer, Comparable, strip}
+use Rattle.lite_base.specs.Future.Finishes.{Finishes}
 
 -- the two ran so, and where memory was found in both, or no poll asks for it, one list of answers begins the other, Pendings aside
 pub record Agreed {S A : Type 0} (run ample : S → List (Answer A) → S → Type 0) (needs_none : Type 0) (x : S) (l : List (Answer A)) (x' y : S) (m : List (Answer A)) (y' : S) : Type 0 where
@@ -8,3 +10,12 @@ pub record Agreed {S A : Type 0} (run ample : S → List (Answer A) → S → Ty
   pub second : run y m y'
   pub found : ample x l x' → ample y m y' → Comparable (strip l) (strip m)
   pub always : needs_none → Comparable (strip l) (strip m)
+
+-- the two finished with these values, and where memory was found in both, or no poll asks for it, they are one value
+pub record OneValue {F A : Type 0} (run ample : F → List (Poll A) → F → Type 0) (needs_none : Type 0) (x : F) (v : A) (y : F) (w : A) : Type 0 where
+  pub ins : List (Poll A)
+  pub others : List (Poll A)
+  pub first : Finishes run x ins v
+  pub second : Finishes run y others w
+  pub found : Finishes ample x ins v → Finishes ample y others w → v ≡ w
+  pub always : needs_none → v ≡ w

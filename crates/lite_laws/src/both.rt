@@ -2,6 +2,7 @@ ghost use Rattle.std.specs.Prelude.{◌≡◌, ◌++◌, List, length, IfOk};
 ghost use Rattle.futures.specs.Task.{Keeps};
 ghost use Rattle.lite_base.specs.Answers.{Answer};
 ghost use Rattle.lite_laws.specs.Both.{Agreed};
+ghost use Rattle.lite_laws.specs.Waits.{HoldsEach, IfWaits};
 
 use crate::polls::run;
 use lite_base::{Context, Poll, SteadyStream};
@@ -10,7 +11,7 @@ use std::alloc::AllocError;
 /// Polls two streams that are alike, the first `polls` times and the second `more` times, and appends what each answers
 /// to a list of its own. Pendings aside, one of the two lists of answers begins the other, as long as memory was found.
 ///
-/// On `Ok` exactly so many answers were appended. `AllocError` says that there was no room for one more: fewer were
+/// Where the last answer of a run is pending, the context holds what that stream leaves in it. On `Ok` exactly so many answers were appended. `AllocError` says that there was no room for one more: fewer were
 /// appended, and each stream can be polled on from where it stands. The original has no such call.
 pub fn run_both<S: SteadyStream>(
     x: &mut S,
@@ -25,7 +26,8 @@ pub fn run_both<S: SteadyStream>(
     requires second { S.can_poll y.old }
     requires alike { S.alike x.old y.old }
     ensures agree { (l m : List (Answer S.Item)) × (out.new.items ≡ out.old.items ++ l) × (out_more.new.items ≡ out_more.old.items ++ m)
-        × Agreed S.run S.ample S.needs_none x.old l x.new y.old m y.new × IfOk result (λ _. (length l ≡ polls) × (length m ≡ more)) }
+        × Agreed S.run S.ample S.needs_none x.old l x.new y.old m y.new × IfOk result (λ _. (length l ≡ polls) × (length m ≡ more))
+        × IfWaits l (HoldsEach (S.leaves x.new) cx.new) × IfWaits m (HoldsEach (S.leaves y.new) cx.new) }
     ensures again { S.can_poll x.new × S.can_poll y.new }
     ensures kept { Keeps cx.old cx.new }
 {

@@ -1,4 +1,5 @@
 use Rattle.std.proofs.Common.{rules, IfOk, Result, Ok, Err, []}
+use Rattle.lite_laws.specs.Waits.{waits_on}
 use Rattle.lite_laws.proofs.both.run_both.Goals as goal
 
 both_ok : {A E P : Type 0} (Q : Type 0) (r : Result A E) → P → IfOk r (λ _. Q) → IfOk r (λ _. P × Q)
@@ -11,7 +12,7 @@ returns-in_err-run-clause-agree g c =
     let steady = g.met.S.SteadyStream.steady in
     let rests = g.met.S.Stream.laws.rests c.args.y.now in
     let same = steady.steady c.args.x.now c.args.y.now c.requires.alike ran.0 [] c.run.new.s c.args.y.now in
-    (ran.0, [], ran.1, search rules, record { first = ran.2; second = rests; found = same; always = λ n. same (steady.found n _ _ _ ran.2) (steady.found n _ _ _ rests) }, search rules)
+    (ran.0, [], ran.1, search rules, record { first = ran.2; second = rests; found = same; always = λ n. same (steady.found n _ _ _ ran.2) (steady.found n _ _ _ rests) }, search rules, ran.5, tt)
 
 pub returns-clause-agree : goal.returns-clause-agree
 returns-clause-agree g c =
@@ -19,4 +20,4 @@ returns-clause-agree g c =
     let two = c.run-2.ensures.ran in
     let steady = g.met.S.SteadyStream.steady in
     let same = steady.steady c.args.x.now c.args.y.now c.requires.alike one.0 two.0 c.run.new.s c.run-2.new.s in
-    (one.0, two.0, one.1, two.1, record { first = one.2; second = two.2; found = same; always = λ n. same (steady.found n _ _ _ one.2) (steady.found n _ _ _ two.2) }, both_ok _ c.run-2.result (search rules) two.3)
+    (one.0, two.0, one.1, two.1, record { first = one.2; second = two.2; found = same; always = λ n. same (steady.found n _ _ _ one.2) (steady.found n _ _ _ two.2) }, both_ok _ c.run-2.result (search rules) two.3, waits_on _ one.0 (λ left fact h. c.run-2.ensures.kept fact (left fact h)) one.5, two.5)

@@ -1,0 +1,19 @@
+use Rattle.std.proofs.Common.{rules, ◌∙◌, ◌+◌, [], ◌∷◌, ◌++◌, ap, append_assoc, length-append}
+use Rattle.lite_laws.specs.Waits.{waits_last}
+use Rattle.lite_laws.proofs.polls.run.Goals as goal
+
+pub loop-preserved : goal.loop-preserved
+loop-preserved g c =
+    let ran = c.loop.invariant.ran in
+    let last = c.poll_next.result ∷ [] in
+    record {
+      ready = c.poll_next.ensures.again;
+      kept = search rules;
+      ran = (
+        ran.0 ++ last,
+        c.push_reserved.ensures.items ∙ (ap (λ k. k ++ last) (c.reserve.ensures.items ∙ ran.1) ∙ append_assoc _ ran.0 last),
+        g.met.S.Stream.laws.follows _ _ _ ran.0 last ran.2 c.poll_next.ensures.ran,
+        length-append ran.0 last ∙ ap (λ k. k + 1) ran.3,
+        waits_last ran.0 c.poll_next.result _ c.poll_next.ensures.left,
+      );
+    }
