@@ -1,6 +1,6 @@
 //! What makes the sources.
 ghost use Rattle.std.specs.Prelude.{◌≡◌, Some};
-ghost use Rattle.lite_source.specs.declared.unfolding.Unfolding.TheVariants.{Seed};
+ghost use Rattle.lite_source.specs.Unfolding.{Stage};
 
 use crate::empty::Empty;
 use crate::iter::Iter;
@@ -102,11 +102,11 @@ pub fn try_unfold<T, E, F, Fut, Item>(init: T, f: F) -> TryUnfold<T, F, Fut>
 where
     F: FnMut(T) -> Fut,
     Fut: Future<Output = Result<Option<(Item, T)>, E>>,
-    ensures { result ≡ record { f = f; state = Seed init } }
+    ensures { result ≡ record { f = f; state = Stage.Seed init } }
 {
     TryUnfold {
         f,
-        state: Unfolding::Seed(init),
+        state: Unfolding::new(init),
     }
 }
 
@@ -117,10 +117,10 @@ pub fn unfold<T, F, Fut, Item>(seed: T, f: F) -> Unfold<T, F, Fut>
 where
     F: FnMut(T) -> Fut,
     Fut: Future<Output = Option<(Item, T)>>,
-    ensures { result ≡ record { f = f; state = Seed seed } }
+    ensures { result ≡ record { f = f; state = Stage.Seed seed } }
 {
     Unfold {
         f,
-        state: Unfolding::Seed(seed),
+        state: Unfolding::new(seed),
     }
 }

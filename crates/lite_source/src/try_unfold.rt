@@ -40,7 +40,7 @@ where
     fn poll_next(&mut self, cx: &mut Context<'_>) -> Poll<Option<Result<Item, E>>> {
         match ready!(self.state.poll(&mut self.f, cx)) {
             Some(Ok(Some((item, seed)))) => {
-                self.state = Unfolding::Seed(seed);
+                self.state.go_on(seed);
                 Poll::Ready(Some(Ok(item)))
             }
             Some(Ok(None)) => Poll::Ready(None),

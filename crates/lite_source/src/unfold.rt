@@ -40,7 +40,7 @@ where
     fn poll_next(&mut self, cx: &mut Context<'_>) -> Poll<Option<Item>> {
         match ready!(self.state.poll(&mut self.f, cx)) {
             Some(Some((item, seed))) => {
-                self.state = Unfolding::Seed(seed);
+                self.state.go_on(seed);
                 Poll::Ready(Some(item))
             }
             Some(None) => Poll::Ready(None),

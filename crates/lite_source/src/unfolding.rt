@@ -1,20 +1,39 @@
+ghost use Rattle.std.specs.Prelude.{◌≡◌};
 ghost use Rattle.std.specs.Fn.{AlwaysReturns};
 ghost use Rattle.futures.specs.Poll.{OnPending};
 ghost use Rattle.futures.specs.Task.{Holds, Keeps, Lasting};
-ghost use Rattle.lite_source.specs.Unfolding.{Asks, IfAsked, UnfoldLeaves};
+ghost use Rattle.lite_source.specs.Unfolding.{Asks, IfAsked, Stage, UnfoldLeaves};
 
 use lite_base::{Context, Future, Poll, ready};
-use std::mem;
+use std::marker::Model;
 
-/// What an unfolding stream holds between two polls.
+/// What an unfolding stream holds between two polls: what the next future is made of, a future that was pending, or
+/// nothing, and then it ends for ever.
 #[derive(Drop)]
-pub enum Unfolding<T, Fut> {
-    /// What the next future is made of.
-    Seed(T),
-    /// A future that was pending.
-    Asked(Fut),
-    /// Nothing: it ends for ever.
-    Over,
+pub struct Unfolding<T, Fut> {
+    // Each has a place of its own, so that a poll moves neither; a future that is held beside a seed is of no account.
+    seed: Option<T>,
+    future: Option<Fut>,
+}
+
+impl<T, Fut> Model for Unfolding<T, Fut> {
+    ghost use Rattle.lite_source.specs.Unfolding.{Stage, stage};
+
+    ghost Value = { Stage T Fut };
+
+    ghost view = { λ u. stage u.seed u.future };
+}
+
+impl<T, Fut> Unfolding<T, Fut> {
+    /// The next future is made of `seed`.
+    pub(crate) fn new(seed: T) -> Unfolding<T, Fut>
+        ensures { result ≡ Stage.Seed seed }
+    {
+        Unfolding {
+            seed: Some(seed),
+            future: None,
+        }
+    }
 }
 
 impl<T: Drop, Fut: Future + Drop> Unfolding<T, Fut> {
@@ -35,21 +54,21 @@ impl<T: Drop, Fut: Future + Drop> Unfolding<T, Fut> {
         ensures left { OnPending result ((fact : Lasting) → UnfoldLeaves Fut.leaves self.new fact → Holds cx.new fact) }
         ensures kept { Keeps cx.old cx.new }
     {
-        if let Unfolding::Asked(future) = self {
-            let value = ready!(future.poll(cx));
-            *self = Unfolding::Over;
-            return Poll::Ready(Some(value));
+        if let Some(seed) = self.seed.take() {
+            self.future = Some(f(seed));
         }
-        let Unfolding::Seed(seed) = mem::replace(self, Unfolding::Over) else {
+        let Some(future) = &mut self.future else {
             return Poll::Ready(None);
         };
-        let mut future = f(seed);
-        match future.poll(cx) {
-            Poll::Ready(value) => Poll::Ready(Some(value)),
-            Poll::Pending => {
-                *self = Unfolding::Asked(future);
-                Poll::Pending
-            }
-        }
+        let value = ready!(future.poll(cx));
+        self.future = None;
+        Poll::Ready(Some(value))
+    }
+
+    /// Goes on from `seed`.
+    pub(crate) fn go_on(&mut self, seed: T)
+        ensures { self.new ≡ Stage.Seed seed }
+    {
+        self.seed = Some(seed);
     }
 }

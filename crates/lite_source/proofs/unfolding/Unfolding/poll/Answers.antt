@@ -1,11 +1,25 @@
+use Rattle.std.proofs.Common.{rules}
 use Rattle.lite_base.specs.Laws.Promises.{call_promises}
 use Rattle.lite_source.proofs.unfolding.Unfolding.poll.Goals as goal
+use Rattle.lite_source.proofs.unfolding.Unfolding.poll.Goals.{in-Some+in-Some-1, in-Some+in-None-1, in_default}
 
-pub poll-requires-2 : goal.poll-requires-2
-poll-requires-2 g c = (call_promises g.F.FnMut (λ s v. g.Fut.Future.can_poll v) _ _ c.f-future.result _ c.requires.makes c.f-future.ensures).0
+pub poll-requires : goal.poll-requires
+poll-requires g c = elim c.match-take.branch [
+  | in-Some+in-Some-1 w ↦ let made = (call_promises g.F.FnMut (λ s v. g.Fut.Future.can_poll v) _ _ w.f.result _ c.requires.makes w.f.ensures).0 in search rules
+  | in-Some+in-None-1 w ↦ let made = (call_promises g.F.FnMut (λ s v. g.Fut.Future.can_poll v) _ _ w.f.result _ c.requires.makes w.f.ensures).0 in search rules
+  | in_default w ↦ search rules
+]
 
-pub returns-in-Ready-clause-makes : goal.returns-in-Ready-clause-makes
-returns-in-Ready-clause-makes g c = (call_promises g.F.FnMut (λ s v. g.Fut.Future.can_poll v) _ _ c.f-future.result _ c.requires.makes c.f-future.ensures).1
+pub returns-clause-makes : goal.returns-clause-makes
+returns-clause-makes g c = elim c.match-take.branch [
+  | in-Some+in-Some-1 w ↦ rw w.f-is (call_promises g.F.FnMut (λ s v. g.Fut.Future.can_poll v) _ _ w.f.result _ c.requires.makes w.f.ensures).1
+  | in-Some+in-None-1 w ↦ rw w.f-is (call_promises g.F.FnMut (λ s v. g.Fut.Future.can_poll v) _ _ w.f.result _ c.requires.makes w.f.ensures).1
+  | in_default w ↦ rw w.f-is c.requires.makes
+]
 
-pub returns-in-Pending-clause-makes : goal.returns-in-Pending-clause-makes
-returns-in-Pending-clause-makes g c = (call_promises g.F.FnMut (λ s v. g.Fut.Future.can_poll v) _ _ c.f-future.result _ c.requires.makes c.f-future.ensures).1
+pub returns-2-clause-makes : goal.returns-2-clause-makes
+returns-2-clause-makes g c = elim c.match-take.branch [
+  | in-Some+in-Some-1 w ↦ rw w.f-is (call_promises g.F.FnMut (λ s v. g.Fut.Future.can_poll v) _ _ w.f.result _ c.requires.makes w.f.ensures).1
+  | in-Some+in-None-1 w ↦ rw w.f-is (call_promises g.F.FnMut (λ s v. g.Fut.Future.can_poll v) _ _ w.f.result _ c.requires.makes w.f.ensures).1
+  | in_default w ↦ rw w.f-is c.requires.makes
+]
