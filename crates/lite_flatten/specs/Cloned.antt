@@ -1,5 +1,5 @@
 -- `cloned`: each reference is replaced by the refusals of its clone, each an Err item, and then the clone as an Ok item.
-use Rattle.std.specs.Prelude.{◌≡◌, List, [], ◌∷◌, ◌++◌, Option, Some, None, Result, Ok, Err}
+use Rattle.std.specs.Prelude.{◌≡◌, ⊤, List, [], ◌∷◌, ◌++◌, Option, Some, None, Result, Ok, Err}
 use Rattle.std.specs.List.{AllByRecursion}
 use denote.Ref.{Bor}
 use Rattle.lite_base.specs.Answers.{Answer, item}
@@ -26,6 +26,14 @@ module _ {T E : Type 0} (is_clone : T → T → Type 0) (is_infallible : T → T
 
   abbrev pub ClonesAll : {S : Type 0} → (S → List (Answer (Bor T)) → S → Type 0) → Cloned S (Bor T) → List (Answer (Result T E)) → Cloned S (Bor T) → Type 0
   ClonesAll run x l y = Through run (Lingering Refers Clones) x.stream (tt, x.held) l y.stream (tt, y.held)
+
+-- as ClonesAll, where no clone is refused
+abbrev pub ClonesUnrefused : {T E S : Type 0} → (T → T → Type 0) → (S → List (Answer (Bor T)) → S → Type 0) → Cloned S (Bor T) → List (Answer (Result T E)) → Cloned S (Bor T) → Type 0
+ClonesUnrefused is_clone = ClonesAll is_clone (λ x. ⊤)
+
+-- all clones of a thing are equal
+abbrev pub EqualClones : {T : Type 0} → (T → T → Type 0) → Type 0
+EqualClones {T} is_clone = (x y z : T) → is_clone x y → is_clone x z → y ≡ z
 
 abbrev pub cloned_parts : {S R : Type 0} → Parts (Cloned S R) S (Unit {0} × Option R)
 cloned_parts = record { source = λ m. m.stream; held = λ m. (tt, m.held); same = λ x y e d. λ i. record { stream = e i; held = (d i).1 } }

@@ -13,7 +13,7 @@ use Rattle.lite_stream.specs.declared.map.Map.{Map}
 abbrev pub FlatMaps : {S F V A B : Type 0} → (S → List (Answer A) → S → Type 0) → Mut F (A × Unit {0}) V → (V → List (Answer B) → V → Type 0) → FlatMap S V F → List (Answer B) → FlatMap S V F → Type 0
 FlatMaps run g run' x l y = Through (Maps run (Calls g)) (Flattening run') x.stream x.inner_stream l y.stream y.inner_stream
 
--- the inner stream that is held has the fact, and so does each one that the function makes
+-- what is held has the fact, and so does each thing that the function makes
 abbrev pub EachMade : {F X V : Type 0} → Mut F X V → (V → Type 0) → F → Option V → Type 0
 EachMade g Fact f held = IfSome held Fact × AlwaysReturns g (λ x v. Fact v) f
 

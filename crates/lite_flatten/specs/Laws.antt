@@ -1,7 +1,12 @@
+pub mod Calming
 pub mod Chain
 pub mod Cloned
 pub mod FlatMap
 pub mod Flatten
 pub mod Lingering
+pub mod Replacing
+pub mod SteadyChain
+pub mod SteadyFlatten
+pub mod SteadyLingering
 pub mod Then
 pub mod Zeros

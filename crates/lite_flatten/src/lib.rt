@@ -1,6 +1,7 @@
 //! Adapters that hold something between polls, or have a second stream.
 #![tactic(auto)]
 
+mod calm;
 mod chain;
 mod cloned;
 mod flat_map;
@@ -8,6 +9,7 @@ mod flatten;
 mod inner;
 pub mod make;
 mod ok_counted;
+mod steady;
 mod then;
 
 pub use chain::Chain;

@@ -1,3 +1,4 @@
+pub mod Agreeing
 pub mod Counting
 pub mod Leaving
 pub mod StepBy

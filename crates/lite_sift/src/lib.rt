@@ -1,12 +1,14 @@
 //! Adapters of one stream that leave items out.
 #![tactic(auto)]
 
+mod calm;
 mod filter;
 mod filter_map;
 pub mod make;
 mod ok_counted;
 mod skip;
 mod skip_while;
+mod steady;
 mod step_by;
 
 pub use filter::Filter;

@@ -1,16 +1,24 @@
 -- Laws of references that are replaced by clones.
-use Rattle.std.specs.Prelude.{Result, Ok}
+use Rattle.std.specs.Prelude.{⊤, Result, Ok}
 use Rattle.std.proofs.Common.{◌≡◌, ◌∙◌, ◌⊎◌, ℕ, List, [], ◌∷◌, ◌++◌, Option, Some, None, inl, inr, refl, ap, sym, subst, append_assoc}
 use Rattle.futures.specs.declared.task.Poll.TheVariants.{Ready, Pending}
 use denote.Ref.{Bor}
-use Rattle.lite_base.specs.Answers.{Answer, end, item}
+use Rattle.lite_base.specs.Alike.{OptionBy}
+use Rattle.lite_base.specs.Answers.{Answer, Gives, Waiting, end, item}
+use Rattle.lite_base.specs.Calm.{Prompt}
 use Rattle.lite_base.specs.Laws.All.{all_append}
+use Rattle.lite_base.specs.Laws.Calm.{prompt_join}
 use Rattle.lite_base.specs.OkRanks.{OkCounting, all_ok, ok_counting_by}
 use Rattle.lite_base.specs.Ranks.{Counting, Ranks}
+use Rattle.lite_base.specs.Steady.{SteadyLaws}
 use Rattle.lite_base.specs.StreamLaws.{StreamLaws}
-use Rattle.lite_flatten.specs.Cloned.{Clones, ClonesAll, IsRefusal, Refers, Refuses, cloned_parts}
+use Rattle.lite_flatten.specs.Cloned.{Clones, ClonesAll, ClonesUnrefused, EqualClones, IsRefusal, Refers, Refuses, cloned_parts}
+use Rattle.lite_flatten.specs.Laws.Calming.{lingering_calming}
 use Rattle.lite_flatten.specs.Laws.Lingering.{Giving, GivingOne, held_counting, held_ranks, lingering_following}
+use Rattle.lite_flatten.specs.Laws.SteadyLingering.{OneValue, lingering_agreeing, lingering_found}
 use Rattle.lite_flatten.specs.Lingering.{HeldOn, Lingering, Lingers, Replaced}
+use Rattle.lite_stream.specs.Laws.Agreeing.{Matches, through_alike}
+use Rattle.lite_stream.specs.Laws.Calming.{Calming}
 use Rattle.lite_stream.specs.Laws.Through.{laws_following}
 
 module _ {T E : Type 0} (is_clone : T → T → Type 0) (is_infallible : T → Type 0) where
@@ -103,3 +111,64 @@ cloned_ok_counting {E = E} is_clone is_infallible laws c =
 -- one poll in which a clone was made
 pub gives_copy : {T E : Type 0} (is_clone : T → T → Type 0) (is_infallible : T → Type 0) (x : Bor T) (copy : T) → is_clone x.now copy → Clones {E = E} is_clone is_infallible x (item (Ok copy) ∷ []) None
 gives_copy is_clone is_infallible x copy h = ([], copy, tt, h, refl)
+
+refers_match : {R : Type 0} → Matches (λ (v w : R). v ≡ w) Refers (λ (p q : Unit {0}). ⊤)
+refers_match f k g l x y z a c d = (c ∙ sym d, tt)
+
+held_same : {R : Type 0} (v w : Option R) → w ≡ v → OptionBy (λ a b. a ≡ b) v w
+held_same None None e = tt
+held_same None (Some w) e = absurd (cc e)
+held_same (Some v) None e = absurd (cc e)
+held_same (Some v) (Some w) e = cc
+
+-- where no clone is refused, one item comes of each reference
+module _ {T E : Type 0} (is_clone : T → T → Type 0) where
+  waits : (x y : Bor T) (l : List (Answer (Result T E))) → Clones is_clone (λ _. ⊤) x l (Some y) → Waiting l
+  waits x y [] h = tt
+  waits x y (a ∷ l) h = absurd (h.0.0.0 tt)
+
+  hands : (x : Bor T) (l refused : List (Answer (Result T E))) (copy : T) → Refuses is_clone (λ _. ⊤) x refused → l ≡ refused ++ item (Ok copy) ∷ [] → Gives l (Some (Ok copy))
+  hands x l [] copy h e = rw e (refl, refl)
+  hands x l (a ∷ refused) copy h e = absurd (h.0.0 tt)
+
+  clones_one : GivingOne (Clones {E = E} is_clone (λ _. ⊤))
+  clones_one = record { waits = waits; hands = λ x l h. (Ok h.1, hands x l h.0 h.1 h.2 h.4) }
+
+  clones_alike : EqualClones is_clone → OneValue clones_one (λ x y. x ≡ y)
+  unfolding clones_one
+  clones_alike equal x y l m e h k = ap Ok (equal x.now h.1 k.1 h.3 (subst (λ r. is_clone r.now k.1) (sym e) k.3))
+
+  module _ (is_infallible : T → Type 0) (never : (x : T) → is_infallible x) where
+    refuses_found : (x : Bor T) (l : List (Answer (Result T E))) → Refuses is_clone is_infallible x l → Refuses is_clone (λ _. ⊤) x l
+    refuses_found x [] h = tt
+    refuses_found x (a ∷ l) h = absurd (h.0.0 (never x.now))
+
+    clones_found : (x : Bor T) (l : List (Answer (Result T E))) (next : Option (Bor T)) → Clones is_clone is_infallible x l next → Clones is_clone (λ _. ⊤) x l next
+    clones_found x l (Some y) h = (refuses_found x l h.0, h.1)
+    clones_found x l None h = (h.0, h.1, refuses_found x h.0 h.2, h.3, h.4)
+
+-- no poll asks for memory where no clone does
+pub cloned_steady : {T E : Type 0} (is_clone : T → T → Type 0) (is_infallible : T → Type 0) {S : Type 0} {run ample : S → List (Answer (Bor T)) → S → Type 0} {none : Type 0} {alike : S → S → Type 0} → SteadyLaws run ample none alike
+    → SteadyLaws (ClonesAll {E = E} is_clone is_infallible run) (ClonesUnrefused is_clone ample) (none × ((x : T) → is_infallible x)) (λ x y. alike x.stream y.stream × (y.held ≡ x.held) × EqualClones is_clone)
+cloned_steady is_clone is_infallible s =
+    record {
+      steady = λ x y e.
+          through_alike cloned_parts x y (s.steady x.stream y.stream e.0) (tt, held_same x.held y.held e.1)
+          (lingering_agreeing (clones_one is_clone) Refers refers_match (clones_alike is_clone e.2));
+      found = λ n x y l h.
+          record { ins = h.ins; came = s.found n.0 x.stream y.stream h.ins h.came; turned = lingering_found Refers (clones_found is_clone is_infallible n.1) (tt, x.held) (tt, y.held) h.ins l h.turned };
+    }
+
+-- a clone is there at once, and so is its refusal
+module _ {T E : Type 0} (is_clone : T → T → Type 0) (is_infallible : T → Type 0) where
+  refuses_prompt : (x : Bor T) (l : List (Answer (Result T E))) → Refuses is_clone is_infallible x l → Prompt l
+  refuses_prompt x [] h = tt
+  refuses_prompt x (Pending ∷ l) h = absurd (cc h.0.2)
+  refuses_prompt x (Ready a ∷ l) h = refuses_prompt x l h.1
+
+  clones_prompt : (x : Bor T) (l : List (Answer (Result T E))) (next : Option (Bor T)) → Clones is_clone is_infallible x l next → Prompt l
+  clones_prompt x l (Some y) h = refuses_prompt x l h.0
+  clones_prompt x l None h = rw h.4 (prompt_join h.0 (item (Ok h.1) ∷ []) (refuses_prompt x h.0 h.2) tt)
+
+  pub clones_calming : Calming (Lingering Refers (Clones {E = E} is_clone is_infallible))
+  clones_calming = lingering_calming Refers (Clones is_clone is_infallible) clones_prompt

@@ -2,18 +2,25 @@
 use Rattle.std.specs.Fn.{Mut, AlwaysReturns}
 use Rattle.std.proofs.Common.{◌≡◌, ℕ, List, [], ◌∷◌, ◌++◌, Option, Some, None, sym, subst}
 use Rattle.futures.specs.declared.task.Poll.TheVariants.{Ready, Pending}
+use Rattle.lite_base.specs.Alike.{OptionBy}
 use Rattle.lite_base.specs.Answers.{Answer, item}
+use Rattle.lite_base.specs.Calm.{CalmLaws}
 use Rattle.lite_base.specs.Ends.{Ends}
 use Rattle.lite_base.specs.Falling.{ItemRun}
 use Rattle.lite_base.specs.Laws.Promises.{call_promises}
 use Rattle.lite_base.specs.Ranks.{Counting, Ranks, counting_ends, ranks_of}
+use Rattle.lite_base.specs.Steady.{SteadyLaws}
 use Rattle.lite_base.specs.StreamLaws.{StreamLaws}
 use Rattle.lite_flatten.specs.FlatMap.{EachMade, FlatMaps, flat_map_parts, flat_map_ranks}
 use Rattle.lite_flatten.specs.Flatten.{EachInner}
+use Rattle.lite_flatten.specs.Laws.Calming.{flattening_calm}
 use Rattle.lite_flatten.specs.Laws.Flatten.{each_inner_on, flattening, flattening_counting}
+use Rattle.lite_flatten.specs.Laws.SteadyFlatten.{flattening_steady}
 use Rattle.lite_flatten.specs.declared.flat_map.FlatMap.{FlatMap}
-use Rattle.lite_stream.specs.Calling.{Calls}
-use Rattle.lite_stream.specs.Laws.Pointwise.{replaces_turning}
+use Rattle.lite_stream.specs.Calling.{AgreeBy, Calls}
+use Rattle.lite_stream.specs.Laws.Agreeing.{through_alike, through_steady}
+use Rattle.lite_stream.specs.Laws.Calming.{through_calm}
+use Rattle.lite_stream.specs.Laws.Pointwise.{replaces_calming, replaces_agreeing, replaces_agreeing_by, replaces_turning}
 use Rattle.lite_stream.specs.Laws.Through.{laws_following, laws_hinted, through_counting}
 use Rattle.lite_stream.specs.Map.{Maps, map_parts}
 use Rattle.lite_stream.specs.Pointwise.{Replaces}
@@ -83,3 +90,23 @@ module _ {S F A V : Type 0} (g : Mut F (A × Unit {0}) V) {run : S → List (Ans
           falls = λ x y a more k h. all.falls x y a more (k.0, each_made g r'.counts run run' x.stream x.inner_stream k.1) h;
           lowers = λ x y l k h. all.lowers x y l (k.0, each_made g r'.firm run run' x.stream x.inner_stream k.1) h;
         }
+
+module _ {S F A V B : Type 0} (g : Mut F (A × Unit {0}) V) {run ample : S → List (Answer A) → S → Type 0} {run' found : V → List (Answer B) → V → Type 0} {none none' : Type 0} {alike : S → S → Type 0} {alike' : V → V → Type 0} where
+  -- by functions that make streams which are alike
+  pub flat_map_steady : SteadyLaws run ample none alike → SteadyLaws run' found none' alike'
+      → SteadyLaws (FlatMaps run g run') (FlatMaps ample g found) (none × none') (λ (x y : FlatMap S V F). alike x.stream.stream y.stream.stream × AgreeBy alike' (Calls g) x.stream.f y.stream.f × OptionBy alike' x.inner_stream y.inner_stream)
+  flat_map_steady s =
+      flattening_steady flat_map_parts
+      (λ x y e. (through_alike map_parts x.stream y.stream (s.steady x.stream.stream y.stream.stream e.0) e.1 (replaces_agreeing_by (Calls g) alike'), e.2))
+      (through_steady map_parts s (replaces_agreeing (Calls g))).found
+
+-- by a function that makes calm streams
+pub flat_map_calm : {S F A V B : Type 0} (g : Mut F (A × Unit {0}) V) {run : S → List (Answer A) → S → Type 0} {run' : V → List (Answer B) → V → Type 0} {hints : S → ℕ × Option ℕ → Type 0} {is_calm : S → Type 0} {calm : V → Type 0}
+    → StreamLaws run hints → CalmLaws run is_calm → CalmLaws run' calm → CalmLaws (FlatMaps run g run') (λ (m : FlatMap S V F). is_calm m.stream.stream × EachMade g calm m.stream.f m.inner_stream)
+flat_map_calm g {run = run} {run' = run'} {calm = calm} laws c d =
+    let outer = outer_laws g laws in
+    let all = flattening_calm d flat_map_parts outer.follows (through_calm map_parts c (replaces_calming (Calls g))) in
+    record {
+      prompt = λ x y l k h. all.prompt x y l (k.0, each_made g calm run run' x.stream x.inner_stream k.1) h;
+      calm_on = λ x y l k h. (c.calm_on x.stream.stream y.stream.stream h.came.ins k.0 h.came.came, each_made_on g calm run run' d.calm_on outer.follows x y l k.1 h);
+    }

@@ -1,17 +1,29 @@
 -- Laws of items that are replaced by the lists of futures.
 use Rattle.std.specs.Prelude.{IfSome, cond, nat_lt}
+use Rattle.std.specs.Fn.{Mut}
 use Rattle.std.proofs.Common.{◌≡◌, ℕ, ◌+◌, ◌-◌, ◌^◌, ◌≤◌, List, [], ◌∷◌, ◌++◌, Option, Some, None, Bool, true, false, map, refl, subst, arith}
 use Rattle.futures.specs.declared.task.Poll.{Poll}
 use Rattle.futures.specs.declared.task.Poll.TheVariants.{Ready, Pending}
+use Rattle.lite_base.specs.Alike.{OptionBy}
 use Rattle.lite_base.specs.Answers.{Answer, Gives, Waiting, item}
+use Rattle.lite_base.specs.Calm.{CalmLaws, Prompt}
 use Rattle.lite_base.specs.Future.Handed.{handed}
 use Rattle.lite_base.specs.FutureLaws.{FutureLaws}
-use Rattle.lite_base.specs.Laws.Future.Spent.{shown_gives, spends_follow, spends_rest, spends_stay}
+use Rattle.lite_base.specs.Laws.Alike.{alike_agrees}
+use Rattle.lite_base.specs.Laws.Calm.{prompt_join}
+use Rattle.lite_base.specs.Laws.Future.Spent.{shown_gives, spends_follow, spends_found, spends_rest, spends_stay}
 use Rattle.lite_base.specs.Laws.Hint.{same_hint}
+use Rattle.lite_base.specs.Laws.Promises.{call_promises}
+use Rattle.lite_base.specs.Steady.{FutureSteadyLaws, SteadyLaws}
 use Rattle.lite_base.specs.StreamLaws.{StreamLaws}
+use Rattle.lite_flatten.specs.FlatMap.{EachMade}
+use Rattle.lite_flatten.specs.Laws.Calming.{lingering_calm, through_calm_by}
 use Rattle.lite_flatten.specs.Laws.Lingering.{Giving, GivingOne, count_held, lingering_bounded, lingering_following}
+use Rattle.lite_flatten.specs.Laws.SteadyLingering.{OneValue, lingering_agreeing, lingering_found}
 use Rattle.lite_flatten.specs.Then.{HandsOut, Thens, one_more_at_most, then_hint, then_parts}
 use Rattle.lite_flatten.specs.declared.then.Then.{Then}
+use Rattle.lite_stream.specs.Calling.{AgreeBy, Calls}
+use Rattle.lite_stream.specs.Laws.Agreeing.{agree_matches, through_steady_by}
 use Rattle.lite_stream.specs.Laws.Through.{laws_bounded}
 
 module _ {B : Type 0} where
@@ -71,3 +83,33 @@ then_laws call {gives = gives} laws laws' =
     (λ x y hint l e h.
     let fewer = lingering_bounded call (HandsOut gives) hands_one (x.f, x.future) (y.f, y.future) h.ins l h.turned in
     same_hint hint (then_hint x.future e.0) l e.2 (then_bounded x.future e.0 _ _ fewer (laws.bounded x.stream y.stream e.0 h.ins e.1 h.came)))
+
+module _ {V B : Type 0} {gives found : V → List (Poll B) → V → Type 0} {none : Type 0} {alike : V → V → Type 0} (s : FutureSteadyLaws gives found none alike) where
+  hands_alike : OneValue (hands_one {run = found}) alike
+  unfolding hands_one
+  hands_alike v w l m a h k = alike_agrees found v w (s.steady v w a) h.ins k.ins h.value k.value h.finishes k.finishes
+
+  -- by functions that make futures which are alike
+  pub then_steady : {S F A : Type 0} (call : F → A → V → F → Type 0) {run ample : S → List (Answer A) → S → Type 0} {none' : Type 0} {alike' : S → S → Type 0} → SteadyLaws run ample none' alike'
+      → SteadyLaws (Thens run call gives) (Thens ample call found) (none' × none) (λ (x y : Then S F V). alike' x.stream y.stream × (AgreeBy alike call x.f y.f × OptionBy alike x.future y.future))
+  then_steady call outer =
+      through_steady_by then_parts outer (lingering_agreeing hands_one call (agree_matches alike call) hands_alike)
+      (λ n. (n.0, lingering_found call (λ v l next h. spends_found (handed Some) (λ after. after ≡ []) (s.found n.1) (Some v) next l h)))
+
+handed_prompt : {B : Type 0} (l : List (Poll B)) → Prompt l → Prompt (map (handed Some) l)
+handed_prompt [] h = tt
+handed_prompt (Pending ∷ l) h = absurd h
+handed_prompt (Ready x ∷ l) h = handed_prompt l h
+
+module _ {V B : Type 0} {gives : V → List (Poll B) → V → Type 0} {calm : V → Type 0} (c : CalmLaws gives calm) where
+  hands_calm : (v : V) (l : List (Answer B)) (next : Option V) → calm v → HandsOut gives v l next → Prompt l × IfSome next calm
+  hands_calm v l (Some w) k h = (rw h.3 (handed_prompt h.0 (c.prompt v w h.0 k h.2)), c.calm_on v w h.0 k h.2)
+  hands_calm v l None k h =
+      let ins = handed_prompt h.ins (c.prompt v h.finishes.last h.ins k h.finishes.came) in
+      (rw (h.joined, h.later) (prompt_join (map (handed Some) h.ins) [] ins tt), tt)
+
+  -- by a function that makes calm futures
+  pub then_calm : {S F A : Type 0} (g : Mut F (A × Unit {0}) V) {run : S → List (Answer A) → S → Type 0} {is_calm : S → Type 0} → CalmLaws run is_calm
+      → CalmLaws (Thens run (Calls g) gives) (λ (m : Then S F V). is_calm m.stream × EachMade g calm m.f m.future)
+  then_calm g d =
+      through_calm_by then_parts d (lingering_calm (Calls g) (HandsOut gives) (λ f x v h k called. call_promises g (λ x v. calm v) f (x, tt) v h k called) hands_calm)

@@ -1,0 +1,70 @@
+-- Items that are replaced by the list of what is made of them, where that gives one item: the same, where it is alike.
+use Rattle.std.proofs.Common.{◌≡◌, ◌∙◌, ◌⊎◌, List, [], ◌∷◌, ◌++◌, Option, Some, None, inl, inr, refl, ap, subst, sym}
+use Rattle.futures.specs.declared.task.Poll.TheVariants.{Ready, Pending}
+use Rattle.lite_base.specs.Alike.{OptionBy}
+use Rattle.lite_base.specs.Answers.{Answer, Comparable, strip}
+use Rattle.lite_base.specs.Laws.Alike.{gives_strip}
+use Rattle.lite_base.specs.Laws.Answers.{waiting_strip}
+use Rattle.lite_flatten.specs.Laws.Lingering.{GivingOne}
+use Rattle.lite_flatten.specs.Laws.Replacing.{Placed, PlacedFrom, items_same, placed_from_same, strip_join}
+use Rattle.lite_flatten.specs.Lingering.{HeldOn, Lingering, Lingers, Replaced}
+use Rattle.lite_stream.specs.Laws.Agreeing.{Agreeing, Matches, comparable_nil}
+
+module _ {V B : Type 0} {gives : V → List (Answer B) → Option V → Type 0} (one : GivingOne gives) where
+  -- alike things are done with equal items
+  abbrev pub OneValue : (V → V → Type 0) → Type 0
+  OneValue alike = (v w : V) (l m : List (Answer B)) → alike v w → (h : gives v l None) (k : gives w m None) → (one.hands v l h).0 ≡ (one.hands w m k).0
+
+  -- v is not done, or its item stands before what follows
+  abbrev OneInPlace : V → (List (Option B) → Type 0) → List (Option B) → Type 0
+  OneInPlace v follows out = (out ≡ []) ⊎ ((l : List (Answer B)) × (h : gives v l None) × (more : List (Option B)) × (out ≡ Some (one.hands v l h).0 ∷ more) × follows more)
+
+  module _ {F A : Type 0} (call : F → A → V → F → Type 0) where
+    in_place : (p q : F) (v : V) (last : Option V) (i : List (Answer A)) (o : List (Answer B)) → ((rest : List (Answer B)) → Lingers call gives p i rest q last → Placed call OneInPlace p (strip i) (strip rest))
+        → HeldOn call gives p v i o q last ⊎ Replaced call gives v (Lingers call gives p i) o q last → OneInPlace v (Placed call OneInPlace p (strip i)) (strip o)
+    in_place p q v last i o rest (inl c) = inl (waiting_strip o (one.waits v c.2 o c.3))
+    in_place p q v last i o rest (inr c) =
+        let h = one.hands v c.0 c.3 in
+        inr (c.0, c.3, strip c.1, ap strip c.2 ∙ strip_join c.0 c.1 ∙ ap (λ k. k ++ strip c.1) (gives_strip c.0 (Some h.0) h.1), rest c.1 c.4)
+
+    placed : (p q : F) (last : Option V) (i : List (Answer A)) (o : List (Answer B)) → Lingers call gives p i o q last → Placed call OneInPlace p (strip i) (strip o)
+    placed p q last [] [] c = refl
+    placed p q last [] (b ∷ o) c = absurd c
+    placed p q last (a ∷ i) [] c = absurd c
+    placed p q last (Pending ∷ i) (b ∷ o) c = rw c.0 (placed p q last i o c.1)
+    placed p q last (Ready None ∷ i) (b ∷ o) c = rw c.0 (strip o, refl, placed p q last i o c.1)
+    placed p q last (Ready (Some x) ∷ i) (b ∷ o) c = (c.0, c.1, c.2, in_place c.1 q c.0 last i (b ∷ o) (λ rest k. placed c.1 q last i rest k) c.3)
+
+    placed_from : (s t : F × Option V) (i : List (Answer A)) (o : List (Answer B)) → Lingering call gives s i o t → PlacedFrom call OneInPlace s.0 s.1 (strip i) (strip o)
+    placed_from (p, None) (q, last) i o c = placed p q last i o c
+    placed_from (p, Some v) (q, last) i o c = in_place p q v last i o (λ rest k. placed p q last i rest k) c
+
+    module _ {alike : V → V → Type 0} {agree : F → F → Type 0} (m : Matches alike call agree) (value : OneValue alike) where
+      places : (v w : V) (P Q : List (Option B) → Type 0) (o p : List (Option B)) → alike v w → OneInPlace v P o → OneInPlace w Q p → ((o' p' : List (Option B)) → P o' → Q p' → Comparable o' p') → Comparable o p
+      places v w P Q o p a (inl e) q rest = subst (λ k. Comparable k p) (sym e) tt
+      places v w P Q o p a (inr r) (inl e) rest = subst (λ k. Comparable o k) (sym e) (comparable_nil (λ x y. x ≡ y) o)
+      places v w P Q o p a (inr r) (inr q) rest = rw (r.3, q.3) (ap (λ y. Some y) (value v w r.0 q.0 a r.1 q.1), rest r.2 q.2 r.4 q.4)
+
+      pub lingering_agreeing : Agreeing (Lingering call gives) (λ s t. agree s.0 t.0 × OptionBy alike s.1 t.1)
+      lingering_agreeing s t s' t' i j o p a r q c =
+          placed_from_same call OneInPlace (λ f k g l x y v w e b d d'. m f k g l x v w b d (subst (λ z. call k z w l) (sym e) d')) places
+          s.0 t.0 s.1 t.1 (strip i) (strip j) (strip o) (strip p) a.0 a.1 (items_same (λ x y. x ≡ y) i (strip j) (λ before after x e. refl) c) (placed_from s s' i o r) (placed_from t t' j p q)
+
+-- what is made of the items by another relation
+module _ {F A V B : Type 0} (call : F → A → V → F → Type 0) {gives gives' : V → List (Answer B) → Option V → Type 0} (found : (v : V) (l : List (Answer B)) (next : Option V) → gives v l next → gives' v l next) where
+  place_found : (p q : F) (v : V) (last : Option V) (i : List (Answer A)) (o : List (Answer B)) → ((rest : List (Answer B)) → Lingers call gives p i rest q last → Lingers call gives' p i rest q last)
+      → HeldOn call gives p v i o q last ⊎ Replaced call gives v (Lingers call gives p i) o q last → HeldOn call gives' p v i o q last ⊎ Replaced call gives' v (Lingers call gives' p i) o q last
+  place_found p q v last i o rest (inl c) = inl (c.0, c.1, c.2, found v o (Some c.2) c.3, c.4)
+  place_found p q v last i o rest (inr c) = inr (c.0, c.1, c.2, found v c.0 None c.3, rest c.1 c.4)
+
+  lingers_found : (p q : F) (last : Option V) (i : List (Answer A)) (o : List (Answer B)) → Lingers call gives p i o q last → Lingers call gives' p i o q last
+  lingers_found p q last [] [] c = c
+  lingers_found p q last [] (b ∷ o) c = absurd c
+  lingers_found p q last (a ∷ i) [] c = absurd c
+  lingers_found p q last (Pending ∷ i) (b ∷ o) c = (c.0, lingers_found p q last i o c.1)
+  lingers_found p q last (Ready None ∷ i) (b ∷ o) c = (c.0, lingers_found p q last i o c.1)
+  lingers_found p q last (Ready (Some x) ∷ i) (b ∷ o) c = (c.0, c.1, c.2, place_found c.1 q c.0 last i (b ∷ o) (λ rest k. lingers_found c.1 q last i rest k) c.3)
+
+  pub lingering_found : (s t : F × Option V) (i : List (Answer A)) (o : List (Answer B)) → Lingering call gives s i o t → Lingering call gives' s i o t
+  lingering_found (p, None) (q, last) i o c = lingers_found p q last i o c
+  lingering_found (p, Some v) (q, last) i o c = place_found p q v last i o (λ rest k. lingers_found p q last i rest k) c

@@ -1,0 +1,70 @@
+//! The adapters whose answers do not depend on when their streams were pending.
+ghost use Rattle.std.specs.Prelude.{◌≡◌};
+ghost use Rattle.lite_base.specs.Alike.{AlikeBy, OptionBy};
+ghost use Rattle.lite_flatten.specs.Chain.{Chains};
+ghost use Rattle.lite_flatten.specs.Cloned.{ClonesUnrefused, EqualClones};
+ghost use Rattle.lite_flatten.specs.FlatMap.{FlatMaps};
+ghost use Rattle.lite_flatten.specs.Flatten.{Flattens, flatten_parts};
+ghost use Rattle.lite_flatten.specs.Laws.Cloned.{cloned_steady};
+ghost use Rattle.lite_flatten.specs.Laws.FlatMap.{flat_map_steady};
+ghost use Rattle.lite_flatten.specs.Laws.SteadyChain.{chain_steady};
+ghost use Rattle.lite_flatten.specs.Laws.SteadyFlatten.{flattening_steady};
+ghost use Rattle.lite_flatten.specs.Laws.Then.{then_steady};
+ghost use Rattle.lite_flatten.specs.Then.{Thens};
+ghost use Rattle.lite_stream.specs.Calling.{AgreeBy, Calls};
+
+use crate::{Chain, Cloned, FlatMap, Flatten, Then};
+use lite_base::{Counted, SteadyFuture, SteadyStream};
+
+impl<S: SteadyStream, U: SteadyStream<Item = S::Item>> SteadyStream for Chain<S, U> {
+    ghost ample = { Chains S.ample U.ample };
+
+    ghost needs_none = { S.needs_none × U.needs_none };
+
+    ghost alike = { λ x y. S.alike x.first y.first × U.alike x.second y.second × (y.part ≡ x.part) };
+
+    ghost steady = { chain_steady S.steady U.steady };
+}
+
+impl<'a, T: Clone + 'a, S: SteadyStream<Item = &'a T>> SteadyStream for Cloned<S> {
+    ghost ample = { ClonesUnrefused T.is_clone S.ample };
+
+    ghost needs_none = { S.needs_none × ((x : T) → T.is_infallible x) };
+
+    ghost alike = { λ x y. S.alike x.stream y.stream × (y.held ≡ x.held) × EqualClones T.is_clone };
+
+    ghost steady = { cloned_steady T.is_clone T.is_infallible S.steady };
+}
+
+impl<S: Counted + SteadyStream, U: SteadyStream + Drop, F: FnMut(S::Item) -> U> SteadyStream
+    for FlatMap<S, U, F> {
+    ghost ample = { FlatMaps S.ample F.FnMut U.ample };
+
+    ghost needs_none = { S.needs_none × U.needs_none };
+
+    ghost alike = { λ x y. S.alike x.stream.stream y.stream.stream × AgreeBy U.alike (Calls F.FnMut) x.stream.f y.stream.f
+        × OptionBy U.alike x.inner_stream y.inner_stream };
+
+    ghost steady = { flat_map_steady F.FnMut S.steady U.steady };
+}
+
+impl<B: SteadyStream + Drop, S: Counted<Item = B> + SteadyStream> SteadyStream for Flatten<S> {
+    ghost ample = { Flattens B.ample S.ample };
+
+    ghost needs_none = { S.needs_none × B.needs_none };
+
+    ghost alike = { λ x y. AlikeBy (OptionBy B.alike) S.ample x.stream y.stream × OptionBy B.alike x.inner_stream y.inner_stream };
+
+    ghost steady = { flattening_steady flatten_parts (λ x y e. e) S.steady.found B.steady };
+}
+
+impl<S: SteadyStream, F: FnMut(S::Item) -> Fut, Fut: SteadyFuture + Drop> SteadyStream
+    for Then<S, F, Fut> {
+    ghost ample = { Thens S.ample (Calls F.FnMut) Fut.ample };
+
+    ghost needs_none = { S.needs_none × Fut.needs_none };
+
+    ghost alike = { λ x y. S.alike x.stream y.stream × (AgreeBy Fut.alike (Calls F.FnMut) x.f y.f × OptionBy Fut.alike x.future y.future) };
+
+    ghost steady = { then_steady Fut.steady (Calls F.FnMut) S.steady };
+}
