@@ -4,7 +4,7 @@ use Rattle.futures.specs.declared.task.Poll.{Poll}
 use Rattle.futures.specs.declared.task.Poll.TheVariants.{Ready, Pending}
 use Rattle.lite_base.specs.Alike.{OptionBy}
 use Rattle.lite_base.specs.Answers.{Answer, Comparable, ComparableBy, end, item, strip}
-use Rattle.lite_stream.specs.Laws.Agreeing.{comparable_nil}
+use Rattle.lite_base.specs.Laws.Alike.{comparable_nil}
 
 pub strip_join : {A : Type 0} (l m : List (Poll A)) → strip (l ++ m) ≡ strip l ++ strip m
 strip_join [] m = refl

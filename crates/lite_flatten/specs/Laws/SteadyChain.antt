@@ -6,7 +6,7 @@ use Rattle.lite_base.specs.Steady.{SteadyLaws}
 use Rattle.lite_flatten.specs.Chain.{Chains, Joins, is_done, second_after}
 use Rattle.lite_flatten.specs.declared.chain.Part.{Part}
 use Rattle.lite_flatten.specs.declared.chain.Part.TheVariants.{First, Second, Done}
-use Rattle.lite_stream.specs.Laws.Agreeing.{comparable_nil}
+use Rattle.lite_base.specs.Laws.Alike.{comparable_nil}
 use Rattle.lite_stream.specs.Laws.Cutting.{Cut, cut_same, cuts_stripped}
 
 module _ {A : Type 0} where

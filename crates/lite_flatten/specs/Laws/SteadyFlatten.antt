@@ -8,7 +8,7 @@ use Rattle.lite_base.specs.Steady.{SteadyLaws, Steadiness, TakesNone}
 use Rattle.lite_flatten.specs.Cloned.{Refers}
 use Rattle.lite_flatten.specs.Flatten.{EachInner, Endless, Flat, Flattening, HeldOn, Replaced}
 use Rattle.lite_flatten.specs.Laws.Replacing.{Placed, PlacedFrom, items_same, placed_from_same, strip_join}
-use Rattle.lite_stream.specs.Laws.Agreeing.{comparable_nil}
+use Rattle.lite_base.specs.Laws.Alike.{comparable_nil}
 use Rattle.lite_stream.specs.Through.{Adapts, Parts}
 
 module _ {A : Type 0} where

@@ -8,7 +8,8 @@ use Rattle.lite_base.specs.Laws.Answers.{waiting_strip}
 use Rattle.lite_flatten.specs.Laws.Lingering.{GivingOne}
 use Rattle.lite_flatten.specs.Laws.Replacing.{Placed, PlacedFrom, items_same, placed_from_same, strip_join}
 use Rattle.lite_flatten.specs.Lingering.{HeldOn, Lingering, Lingers, Replaced}
-use Rattle.lite_stream.specs.Laws.Agreeing.{Agreeing, Matches, comparable_nil}
+use Rattle.lite_base.specs.Laws.Alike.{comparable_nil}
+use Rattle.lite_stream.specs.Laws.Agreeing.{Agreeing, Matches}
 
 module _ {V B : Type 0} {gives : V → List (Answer B) → Option V → Type 0} (one : GivingOne gives) where
   -- alike things are done with equal items

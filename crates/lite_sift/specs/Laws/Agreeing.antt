@@ -6,7 +6,8 @@ use Rattle.futures.specs.declared.task.Poll.TheVariants.{Ready, Pending}
 use Rattle.lite_base.specs.Alike.{OptionBy}
 use Rattle.lite_base.specs.Answers.{Answer, Comparable, end, item, items, strip}
 use Rattle.lite_stream.specs.Calling.{Agree}
-use Rattle.lite_stream.specs.Laws.Agreeing.{Agreeing, Matches, agree_matches, comparable_nil}
+use Rattle.lite_base.specs.Laws.Alike.{comparable_nil}
+use Rattle.lite_stream.specs.Laws.Agreeing.{Agreeing, Matches, agree_matches}
 use Rattle.lite_sift.specs.Laws.Leaving.{cut_at}
 use Rattle.lite_sift.specs.Leaving.{Leaves, Segment}
 use Rattle.lite_sift.specs.Skip.{Skips}
