@@ -5,7 +5,7 @@ use Rattle.lite_base.specs.Answers.{Answer}
 use Rattle.lite_base.specs.Ranks.{Ranks}
 use Rattle.lite_flatten.specs.Flatten.{CanTurn, FlatTurns, Flattening, inner_rank}
 use Rattle.lite_flatten.specs.declared.flat_map.FlatMap.{FlatMap}
-use Rattle.lite_stream.specs.Calling.{Calls}
+use Rattle.lite_base.specs.Calling.{Calls}
 use Rattle.lite_stream.specs.Map.{Maps}
 use Rattle.lite_stream.specs.Through.{Parts, Through}
 use Rattle.lite_stream.specs.declared.map.Map.{Map}

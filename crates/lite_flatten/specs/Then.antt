@@ -7,7 +7,7 @@ use Rattle.lite_base.specs.Future.Handed.{handed}
 use Rattle.lite_base.specs.Future.Spent.{Spends}
 use Rattle.lite_flatten.specs.Lingering.{Lingering}
 use Rattle.lite_flatten.specs.declared.then.Then.{Then}
-use Rattle.lite_stream.specs.Calling.{Calls}
+use Rattle.lite_base.specs.Calling.{Calls}
 use Rattle.lite_stream.specs.EachItem.{AtEachItem}
 use Rattle.lite_stream.specs.Through.{Parts, Through}
 

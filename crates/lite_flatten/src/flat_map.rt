@@ -3,7 +3,7 @@ ghost use Rattle.lite_flatten.specs.FlatMap.{CanFlatMap, CanTurnMap, FlatMapTurn
 ghost use Rattle.lite_flatten.specs.HeldLeaves.{HeldLeaves};
 ghost use Rattle.lite_flatten.specs.Laws.FlatMap.{flat_map_counting, flat_map_laws, made_end};
 ghost use Rattle.lite_flatten.specs.Laws.Flatten.{flat_ends};
-ghost use Rattle.lite_stream.specs.Calling.{Calls};
+ghost use Rattle.lite_base.specs.Calling.{Calls};
 ghost use Rattle.lite_stream.specs.Map.{Maps};
 
 use crate::inner::poll_part;

@@ -11,7 +11,7 @@ ghost use Rattle.lite_flatten.specs.Laws.SteadyChain.{chain_steady};
 ghost use Rattle.lite_flatten.specs.Laws.SteadyFlatten.{flattening_steady};
 ghost use Rattle.lite_flatten.specs.Laws.Then.{then_steady};
 ghost use Rattle.lite_flatten.specs.Then.{Thens};
-ghost use Rattle.lite_stream.specs.Calling.{AgreeBy, Calls};
+ghost use Rattle.lite_base.specs.Calling.{AgreeBy, Calls};
 
 use crate::{Chain, Cloned, FlatMap, Flatten, Then};
 use lite_base::{Counted, SteadyFuture, SteadyStream};

@@ -3,7 +3,7 @@ ghost use Rattle.lite_flatten.specs.HeldLeaves.{HeldLeaves};
 ghost use Rattle.lite_flatten.specs.Laws.Lingering.{held_counting, held_ranks};
 ghost use Rattle.lite_flatten.specs.Laws.Then.{hands_one, then_laws};
 ghost use Rattle.lite_flatten.specs.Then.{CanThen, MakesEach, Thens, then_hint, then_parts};
-ghost use Rattle.lite_stream.specs.Calling.{Calls};
+ghost use Rattle.lite_base.specs.Calling.{Calls};
 
 use lite_base::{Context, Counted, Future, Poll, Stream, ready};
 

@@ -2,7 +2,7 @@
 use Rattle.std.specs.Prelude.{List, Bool}
 use Rattle.lite_base.specs.Answers.{Answer}
 use Rattle.lite_base.specs.Ranks.{Ranks}
-use Rattle.lite_stream.specs.Calling.{Accepts}
+use Rattle.lite_base.specs.Calling.{Accepts}
 use Rattle.lite_sift.specs.Leaving.{Leaves}
 use Rattle.lite_stream.specs.Through.{Parts, Through}
 use Rattle.lite_sift.specs.declared.filter.Filter.{Filter}

@@ -1,6 +1,6 @@
 //! Which values are never pending: those whose source is not.
 ghost use Rattle.std.specs.Fn.{CalledAt};
-ghost use Rattle.lite_stream.specs.Calling.{Accepts, Calls};
+ghost use Rattle.lite_base.specs.Calling.{Accepts, Calls};
 ghost use Rattle.lite_stream.specs.Laws.Calming.{through_calm};
 ghost use Rattle.lite_sift.specs.Filter.{filter_parts};
 ghost use Rattle.lite_sift.specs.FilterMap.{filter_map_parts};

@@ -3,7 +3,7 @@ ghost use Rattle.std.specs.Prelude.{Option, ℕ, ◌≡◌, []};
 ghost use Rattle.std.specs.Fn.{CalledAt};
 ghost use Rattle.lite_base.specs.Ends.{Ends-map};
 ghost use Rattle.lite_stream.specs.EachItem.{MayShowEach};
-ghost use Rattle.lite_stream.specs.Calling.{Accepts};
+ghost use Rattle.lite_base.specs.Calling.{Accepts};
 ghost use Rattle.lite_sift.specs.Filter.{CanFilter, Filters, filter_parts};
 ghost use Rattle.lite_sift.specs.Leaving.{Sifts};
 ghost use Rattle.lite_sift.specs.Laws.Leaving.{leaves_turning};

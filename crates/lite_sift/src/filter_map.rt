@@ -2,7 +2,7 @@ ghost use Rattle.lite_base.specs.Ranks.{ranks_of};
 ghost use Rattle.std.specs.Prelude.{◌≡◌, [], None};
 ghost use Rattle.lite_base.specs.Ends.{Ends-map};
 ghost use Rattle.lite_stream.specs.EachItem.{MayCallEach};
-ghost use Rattle.lite_stream.specs.Calling.{Calls};
+ghost use Rattle.lite_base.specs.Calling.{Calls};
 ghost use Rattle.lite_sift.specs.FilterMap.{CanFilterMap, FilterMaps, filter_map_parts};
 ghost use Rattle.lite_sift.specs.Leaving.{Sifts};
 ghost use Rattle.lite_sift.specs.Laws.Leaving.{leaves_turning};

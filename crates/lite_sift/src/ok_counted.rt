@@ -2,7 +2,7 @@
 ghost use Rattle.std.specs.Fn.{CalledAt};
 ghost use Rattle.lite_base.specs.OkRanks.{ok_counting};
 ghost use Rattle.lite_base.specs.Ranks.{ranks_of};
-ghost use Rattle.lite_stream.specs.Calling.{Accepts, Calls};
+ghost use Rattle.lite_base.specs.Calling.{Accepts, Calls};
 ghost use Rattle.lite_stream.specs.Laws.Through.{through_counting};
 ghost use Rattle.lite_sift.specs.Filter.{filter_parts};
 ghost use Rattle.lite_sift.specs.FilterMap.{filter_map_parts};

@@ -2,8 +2,9 @@
 ghost use Rattle.std.specs.Prelude.{◌≡◌};
 ghost use Rattle.std.specs.Fn.{CalledAt};
 ghost use Rattle.lite_base.specs.Alike.{OptionBy};
-ghost use Rattle.lite_stream.specs.Calling.{Accepts, Agree, Calls};
-ghost use Rattle.lite_stream.specs.Laws.Agreeing.{accepts_agree, agree_matches, through_steady};
+ghost use Rattle.lite_base.specs.Calling.{Accepts, Agree, Calls};
+ghost use Rattle.lite_base.specs.Laws.Calling.{accepts_agree, agree_matches};
+ghost use Rattle.lite_stream.specs.Laws.Agreeing.{through_steady};
 ghost use Rattle.lite_sift.specs.Filter.{Filters, filter_parts};
 ghost use Rattle.lite_sift.specs.FilterMap.{FilterMaps, filter_map_parts};
 ghost use Rattle.lite_sift.specs.Skip.{Skips, SkipsFirst, skip_parts};

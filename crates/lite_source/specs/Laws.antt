@@ -10,4 +10,5 @@ pub mod Repeat
 pub mod Script
 pub mod TryUnfold
 pub mod Unfold
+pub mod Unfolded
 pub mod Unfolding

@@ -28,6 +28,13 @@ IfAsked (Stage.Asked v) P = P v
 IfAsked (Stage.Seed s) P = ⊤
 IfAsked Stage.Over P = ⊤
 
+-- equal seeds, or futures that are the same so, or nothing
+abbrev pub StagesBy : {S V : Type 0} → (V → V → Type 0) → Stage S V → Stage S V → Type 0
+StagesBy same (Stage.Seed s) (Stage.Seed t) = s ≡ t
+StagesBy same (Stage.Asked v) (Stage.Asked w) = same v w
+StagesBy same Stage.Over Stage.Over = ⊤
+StagesBy same x y = ⊥
+
 -- what a pending poll leaves is left by the future
 abbrev pub UnfoldLeaves : {S V : Type 0} → (V → Lasting → Type 0) → Stage S V → Lasting → Type 0
 UnfoldLeaves leaves (Stage.Asked v) fact = leaves v fact

@@ -9,10 +9,15 @@ ghost use Rattle.lite_source.specs.Laws.OnceFuture.{once_future_calm};
 ghost use Rattle.lite_source.specs.Laws.PollFn.{poll_fn_calm};
 ghost use Rattle.lite_source.specs.Laws.Repeat.{repeat_calm};
 ghost use Rattle.lite_source.specs.Laws.Script.{gives_calm};
+ghost use Rattle.lite_source.specs.Laws.Unfolded.{unfolds_calm};
 ghost use Rattle.lite_source.specs.RepeatWith.{Call};
+ghost use Rattle.lite_source.specs.TryUnfold.{try_item_of, try_seed_of};
+ghost use Rattle.lite_source.specs.Unfold.{item_of, seed_of};
+ghost use Rattle.lite_source.specs.Unfolding.{IfAsked};
+ghost use Rattle.std.specs.Fn.{AlwaysReturns};
 ghost use Rattle.std.specs.Prelude.{IfSome, ⊤};
 
-use crate::{Empty, Iter, Once, OnceFuture, PollFn, Repeat, RepeatWith, Script};
+use crate::{Empty, Iter, Once, OnceFuture, PollFn, Repeat, RepeatWith, Script, TryUnfold, Unfold};
 use lite_base::{CalmFuture, CalmStream, Context, Poll};
 
 impl<T> CalmStream for Empty<T> {
@@ -61,4 +66,26 @@ impl<T> CalmStream for Script<T> {
     ghost is_calm = { Prompt };
 
     ghost calm = { gives_calm };
+}
+
+impl<T, F, Fut, Item, E> CalmStream for TryUnfold<T, F, Fut>
+where
+    T: Drop,
+    F: FnMut(T) -> Fut,
+    Fut: CalmFuture<Output = Result<Option<(Item, T)>, E>> + Drop,
+{
+    ghost is_calm = { λ x. AlwaysReturns F.FnMut (λ s v. Fut.is_calm v) x.f × IfAsked x.state Fut.is_calm };
+
+    ghost calm = { unfolds_calm F.FnMut Fut.calm try_seed_of try_item_of (λ x. (x.f, x.state)) };
+}
+
+impl<T, F, Fut, Item> CalmStream for Unfold<T, F, Fut>
+where
+    T: Drop,
+    F: FnMut(T) -> Fut,
+    Fut: CalmFuture<Output = Option<(Item, T)>> + Drop,
+{
+    ghost is_calm = { λ x. AlwaysReturns F.FnMut (λ s v. Fut.is_calm v) x.f × IfAsked x.state Fut.is_calm };
+
+    ghost calm = { unfolds_calm F.FnMut Fut.calm seed_of item_of (λ x. (x.f, x.state)) };
 }

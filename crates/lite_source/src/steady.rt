@@ -1,6 +1,7 @@
 //! The sources whose answers do not depend on when they were pending.
 ghost use Rattle.lite_base.specs.Alike.{Alike, OptionBy};
 ghost use Rattle.lite_base.specs.Answers.{strip};
+ghost use Rattle.lite_base.specs.Calling.{AgreeBy, Calls};
 ghost use Rattle.lite_base.specs.Future.Calls.{Answers};
 ghost use Rattle.lite_base.specs.Steady.{steady_always};
 ghost use Rattle.lite_source.specs.Empty.{Ends};
@@ -12,16 +13,22 @@ ghost use Rattle.lite_source.specs.Laws.OnceFuture.{once_future_steady};
 ghost use Rattle.lite_source.specs.Laws.Pending.{pending_steady};
 ghost use Rattle.lite_source.specs.Laws.Repeat.{repeat_steady};
 ghost use Rattle.lite_source.specs.Laws.Script.{gives_steady};
+ghost use Rattle.lite_source.specs.Laws.Unfolded.{unfolds_steady};
 ghost use Rattle.lite_source.specs.Once.{GivesOnce};
 ghost use Rattle.lite_source.specs.OnceFuture.{GivesFuture};
 ghost use Rattle.lite_source.specs.Pending.{Waits};
 ghost use Rattle.lite_source.specs.Repeat.{Repeats, SameClones};
 ghost use Rattle.lite_source.specs.RepeatWith.{Call};
 ghost use Rattle.lite_source.specs.Script.{Gives};
+ghost use Rattle.lite_source.specs.TryUnfold.{TryUnfoldsBy, try_item_of, try_seed_of};
+ghost use Rattle.lite_source.specs.Unfold.{UnfoldsBy, item_of, seed_of};
+ghost use Rattle.lite_source.specs.Unfolding.{StagesBy};
 ghost use Rattle.std.specs.List.{FoldsTo};
 ghost use Rattle.std.specs.Prelude.{⊤, ◌≡◌};
 
-use crate::{Empty, Iter, Once, OnceFuture, Pending, PollFn, Repeat, RepeatWith, Script};
+use crate::{
+    Empty, Iter, Once, OnceFuture, Pending, PollFn, Repeat, RepeatWith, Script, TryUnfold, Unfold,
+};
 use lite_base::{Context, Poll, SteadyFuture, SteadyStream};
 
 impl<T> SteadyStream for Empty<T> {
@@ -98,4 +105,34 @@ impl<T> SteadyStream for Script<T> {
     ghost alike = { λ x y. strip x ≡ strip y };
 
     ghost steady = { steady_always gives_steady };
+}
+
+impl<T, F, Fut, Item, E> SteadyStream for TryUnfold<T, F, Fut>
+where
+    T: Drop,
+    F: FnMut(T) -> Fut,
+    Fut: SteadyFuture<Output = Result<Option<(Item, T)>, E>> + Drop,
+{
+    ghost ample = { TryUnfoldsBy F.FnMut Fut.ample };
+
+    ghost needs_none = { Fut.needs_none };
+
+    ghost alike = { λ x y. AgreeBy Fut.alike (Calls F.FnMut) x.f y.f × StagesBy Fut.alike x.state y.state };
+
+    ghost steady = { unfolds_steady F.FnMut try_seed_of try_item_of (λ x. (x.f, x.state)) Fut.steady };
+}
+
+impl<T, F, Fut, Item> SteadyStream for Unfold<T, F, Fut>
+where
+    T: Drop,
+    F: FnMut(T) -> Fut,
+    Fut: SteadyFuture<Output = Option<(Item, T)>> + Drop,
+{
+    ghost ample = { UnfoldsBy F.FnMut Fut.ample };
+
+    ghost needs_none = { Fut.needs_none };
+
+    ghost alike = { λ x y. AgreeBy Fut.alike (Calls F.FnMut) x.f y.f × StagesBy Fut.alike x.state y.state };
+
+    ghost steady = { unfolds_steady F.FnMut seed_of item_of (λ x. (x.f, x.state)) Fut.steady };
 }

@@ -5,7 +5,7 @@ use Rattle.std.specs.List.{FoldsTo}
 use denote.Ref.{Bor, MutBor}
 use Rattle.futures.specs.declared.task.Poll.TheVariants.{Ready, Pending}
 use Rattle.lite_base.specs.Answers.{Answer, item}
-use Rattle.lite_stream.specs.Calling.{Calls, CallsWith}
+use Rattle.lite_base.specs.Calling.{Calls, CallsWith}
 
 -- the items among the answers
 abbrev pub items_in : {A : Type 0} → List (Answer A) → List A

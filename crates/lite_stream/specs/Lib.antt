@@ -1,4 +1,3 @@
-pub mod Calling
 pub mod Copied
 pub mod Cutting
 pub mod EachItem

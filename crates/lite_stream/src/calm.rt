@@ -1,5 +1,5 @@
 //! The adapters that are never pending over a stream that never is.
-ghost use Rattle.lite_stream.specs.Calling.{Accepts, Calls, CallsWith};
+ghost use Rattle.lite_base.specs.Calling.{Accepts, Calls, CallsWith};
 ghost use Rattle.lite_stream.specs.Copied.{Copies, copied_parts};
 ghost use Rattle.lite_stream.specs.Enumerate.{Numbers, enumerate_parts};
 ghost use Rattle.lite_stream.specs.Fuse.{fuse_parts};

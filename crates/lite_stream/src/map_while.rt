@@ -1,7 +1,7 @@
 ghost use Rattle.lite_base.specs.Ranks.{ranks_of};
 ghost use Rattle.std.specs.Prelude.{◌≡◌, None};
 ghost use Rattle.lite_stream.specs.EachItem.{MayCallEach};
-ghost use Rattle.lite_stream.specs.Calling.{Calls};
+ghost use Rattle.lite_base.specs.Calling.{Calls};
 ghost use Rattle.lite_stream.specs.MapWhile.{MapsWhile, map_while_parts};
 ghost use Rattle.lite_stream.specs.Laws.Pointwise.{exchanges_turning};
 ghost use Rattle.lite_stream.specs.Laws.Through.{laws_unhinted, through_counting};

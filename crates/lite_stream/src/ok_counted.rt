@@ -2,7 +2,7 @@
 ghost use Rattle.std.specs.Fn.{CalledAt};
 ghost use Rattle.lite_base.specs.OkRanks.{ok_counting};
 ghost use Rattle.lite_base.specs.Ranks.{number_counting, number_ranks, ranks_of};
-ghost use Rattle.lite_stream.specs.Calling.{Accepts, Calls, CallsWith};
+ghost use Rattle.lite_base.specs.Calling.{Accepts, Calls, CallsWith};
 ghost use Rattle.lite_stream.specs.Copied.{Copies, copied_parts};
 ghost use Rattle.lite_stream.specs.Fuse.{fuse_parts};
 ghost use Rattle.lite_stream.specs.Inspect.{Shows, inspect_parts};

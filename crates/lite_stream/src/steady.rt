@@ -1,10 +1,11 @@
 //! The adapters whose answers do not depend on when their stream was pending.
-ghost use Rattle.lite_stream.specs.Calling.{Accepts, Agree, Calls, CallsWith};
+ghost use Rattle.lite_base.specs.Calling.{Accepts, Agree, Calls, CallsWith};
 ghost use Rattle.lite_stream.specs.Copied.{Copies, CopiesAll, copied_parts};
 ghost use Rattle.lite_stream.specs.Enumerate.{Enumerates, Numbers, enumerate_parts};
 ghost use Rattle.lite_stream.specs.Fuse.{Fuses, fuse_parts};
 ghost use Rattle.lite_stream.specs.Inspect.{Inspects, Shows, inspect_parts};
-ghost use Rattle.lite_stream.specs.Laws.Agreeing.{accepts_agree, agree_matches, through_steady};
+ghost use Rattle.lite_base.specs.Laws.Calling.{accepts_agree, agree_matches};
+ghost use Rattle.lite_stream.specs.Laws.Agreeing.{through_steady};
 ghost use Rattle.lite_stream.specs.Laws.Fuse.{fuses_agreeing};
 ghost use Rattle.lite_stream.specs.Laws.Matching.{copies_match, numbers_match, shows_match};
 ghost use Rattle.lite_stream.specs.Laws.Pointwise.{exchanges_agreeing, replaces_agreeing, replaces_agreeing_where};

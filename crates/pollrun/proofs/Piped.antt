@@ -3,7 +3,7 @@ use Rattle.std.proofs.Common.{◌≡◌, ℤ, ◌+ℤ◌, Bool, true, false, Lis
 use Rattle.std.specs.List.{FoldsTo}
 use Rattle.futures.specs.declared.task.Poll.TheVariants.{Ready, Pending}
 use Rattle.lite_base.specs.Answers.{Answer}
-use Rattle.lite_stream.specs.Calling.{Accepts, Always}
+use Rattle.lite_base.specs.Calling.{Accepts, Always}
 use Rattle.lite_sift.specs.Leaving.{Leaves, Passes, Segment}
 use Rattle.lite_stream.specs.Pointwise.{Replaces}
 use Rattle.pollrun.specs.Served.{doubled, is_even}

@@ -5,7 +5,7 @@ use Rattle.std.specs.Io.KnownBytes.{Appends}
 use Rattle.futures.specs.declared.task.Poll.TheVariants.{Ready, Pending}
 use Rattle.lite_base.specs.Answers.{Answer, item, end}
 use Rattle.lite_source.specs.Script.{Gives}
-use Rattle.lite_stream.specs.Calling.{Accepts}
+use Rattle.lite_base.specs.Calling.{Accepts}
 use Rattle.lite_sift.specs.Leaving.{Leaves}
 use Rattle.pollrun.specs.Request.{Asks}
 use Rattle.pollrun.specs.Spelling.{spelled_list}

@@ -17,7 +17,8 @@ use Rattle.lite_flatten.specs.Laws.Calming.{lingering_calming}
 use Rattle.lite_flatten.specs.Laws.Lingering.{Giving, GivingOne, held_counting, held_ranks, lingering_following}
 use Rattle.lite_flatten.specs.Laws.SteadyLingering.{OneValue, lingering_agreeing, lingering_found}
 use Rattle.lite_flatten.specs.Lingering.{HeldOn, Lingering, Lingers, Replaced}
-use Rattle.lite_stream.specs.Laws.Agreeing.{Matches, through_alike}
+use Rattle.lite_base.specs.Laws.Calling.{Matches}
+use Rattle.lite_stream.specs.Laws.Agreeing.{through_alike}
 use Rattle.lite_stream.specs.Laws.Calming.{Calming}
 use Rattle.lite_stream.specs.Laws.Through.{laws_following}
 

@@ -17,7 +17,7 @@ use Rattle.lite_flatten.specs.Laws.Calming.{flattening_calm}
 use Rattle.lite_flatten.specs.Laws.Flatten.{each_inner_on, flattening, flattening_counting}
 use Rattle.lite_flatten.specs.Laws.SteadyFlatten.{flattening_steady}
 use Rattle.lite_flatten.specs.declared.flat_map.FlatMap.{FlatMap}
-use Rattle.lite_stream.specs.Calling.{AgreeBy, Calls}
+use Rattle.lite_base.specs.Calling.{AgreeBy, Calls}
 use Rattle.lite_stream.specs.Laws.Agreeing.{through_alike, through_steady}
 use Rattle.lite_stream.specs.Laws.Calming.{through_calm}
 use Rattle.lite_stream.specs.Laws.Pointwise.{replaces_calming, replaces_agreeing, replaces_agreeing_by, replaces_turning}

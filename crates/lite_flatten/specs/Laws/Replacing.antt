@@ -6,11 +6,6 @@ use Rattle.lite_base.specs.Alike.{OptionBy}
 use Rattle.lite_base.specs.Answers.{Answer, Comparable, ComparableBy, end, item, strip}
 use Rattle.lite_base.specs.Laws.Alike.{comparable_nil}
 
-pub strip_join : {A : Type 0} (l m : List (Poll A)) → strip (l ++ m) ≡ strip l ++ strip m
-strip_join [] m = refl
-strip_join (Pending ∷ l) m = strip_join l m
-strip_join (Ready x ∷ l) m = ap (λ k. x ∷ k) (strip_join l m)
-
 -- equal items each of which is the same as itself
 pub items_same : {A : Type 0} (same : A → A → Type 0) (l : List (Answer A)) (m : List (Option A)) → ((before after : List (Answer A)) (x : A) → l ≡ before ++ item x ∷ after → same x x) → Comparable (strip l) m → ComparableBy (OptionBy same) (strip l) m
 items_same same [] m come c = tt

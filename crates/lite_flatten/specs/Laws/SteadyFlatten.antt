@@ -7,7 +7,8 @@ use Rattle.lite_base.specs.Answers.{Answer, Comparable, end, strip}
 use Rattle.lite_base.specs.Steady.{SteadyLaws, Steadiness, TakesNone}
 use Rattle.lite_flatten.specs.Cloned.{Refers}
 use Rattle.lite_flatten.specs.Flatten.{EachInner, Endless, Flat, Flattening, HeldOn, Replaced}
-use Rattle.lite_flatten.specs.Laws.Replacing.{Placed, PlacedFrom, items_same, placed_from_same, strip_join}
+use Rattle.lite_flatten.specs.Laws.Replacing.{Placed, PlacedFrom, items_same, placed_from_same}
+use Rattle.lite_base.specs.Laws.Answers.{strip_join}
 use Rattle.lite_base.specs.Laws.Alike.{comparable_nil}
 use Rattle.lite_stream.specs.Through.{Adapts, Parts}
 

@@ -3,13 +3,13 @@ use Rattle.std.proofs.Common.{◌≡◌, ◌∙◌, ◌⊎◌, List, [], ◌∷�
 use Rattle.futures.specs.declared.task.Poll.TheVariants.{Ready, Pending}
 use Rattle.lite_base.specs.Alike.{OptionBy}
 use Rattle.lite_base.specs.Answers.{Answer, Comparable, strip}
-use Rattle.lite_base.specs.Laws.Alike.{gives_strip}
-use Rattle.lite_base.specs.Laws.Answers.{waiting_strip}
+use Rattle.lite_base.specs.Laws.Answers.{strip_join, waiting_strip}
+use Rattle.lite_base.specs.Laws.Alike.{gives_strip, comparable_nil}
 use Rattle.lite_flatten.specs.Laws.Lingering.{GivingOne}
-use Rattle.lite_flatten.specs.Laws.Replacing.{Placed, PlacedFrom, items_same, placed_from_same, strip_join}
+use Rattle.lite_flatten.specs.Laws.Replacing.{Placed, PlacedFrom, items_same, placed_from_same}
 use Rattle.lite_flatten.specs.Lingering.{HeldOn, Lingering, Lingers, Replaced}
-use Rattle.lite_base.specs.Laws.Alike.{comparable_nil}
-use Rattle.lite_stream.specs.Laws.Agreeing.{Agreeing, Matches}
+use Rattle.lite_base.specs.Laws.Calling.{Matches}
+use Rattle.lite_stream.specs.Laws.Agreeing.{Agreeing}
 
 module _ {V B : Type 0} {gives : V → List (Answer B) → Option V → Type 0} (one : GivingOne gives) where
   -- alike things are done with equal items

@@ -22,8 +22,9 @@ use Rattle.lite_flatten.specs.Laws.Lingering.{Giving, GivingOne, count_held, lin
 use Rattle.lite_flatten.specs.Laws.SteadyLingering.{OneValue, lingering_agreeing, lingering_found}
 use Rattle.lite_flatten.specs.Then.{HandsOut, Thens, one_more_at_most, then_hint, then_parts}
 use Rattle.lite_flatten.specs.declared.then.Then.{Then}
-use Rattle.lite_stream.specs.Calling.{AgreeBy, Calls}
-use Rattle.lite_stream.specs.Laws.Agreeing.{agree_matches, through_steady_by}
+use Rattle.lite_base.specs.Calling.{AgreeBy, Calls}
+use Rattle.lite_base.specs.Laws.Calling.{agree_matches}
+use Rattle.lite_stream.specs.Laws.Agreeing.{through_steady_by}
 use Rattle.lite_stream.specs.Laws.Through.{laws_bounded}
 
 module _ {B : Type 0} where

@@ -5,9 +5,10 @@ use Rattle.std.specs.List.{FoldsTo}
 use Rattle.futures.specs.declared.task.Poll.TheVariants.{Ready, Pending}
 use Rattle.lite_base.specs.Alike.{OptionBy}
 use Rattle.lite_base.specs.Answers.{Answer, Comparable, end, item, items, strip}
-use Rattle.lite_stream.specs.Calling.{Agree}
+use Rattle.lite_base.specs.Calling.{Agree}
 use Rattle.lite_base.specs.Laws.Alike.{comparable_nil}
-use Rattle.lite_stream.specs.Laws.Agreeing.{Agreeing, Matches, agree_matches}
+use Rattle.lite_base.specs.Laws.Calling.{Matches, agree_matches}
+use Rattle.lite_stream.specs.Laws.Agreeing.{Agreeing}
 use Rattle.lite_sift.specs.Laws.Leaving.{cut_at}
 use Rattle.lite_sift.specs.Leaving.{Leaves, Segment}
 use Rattle.lite_sift.specs.Skip.{Skips}

@@ -4,7 +4,8 @@ use Rattle.std.proofs.Math.Nat.{add-mod-mod, mod_self, mod-add-mod, mod-eq_of_lt
 use Rattle.lite_base.specs.Answers.{Answer, before_end, strip}
 use Rattle.lite_base.specs.Rank.{Lowers}
 use Rattle.lite_base.specs.Laws.Alike.{comparable_nil}
-use Rattle.lite_stream.specs.Laws.Agreeing.{Agreeing, Matches}
+use Rattle.lite_base.specs.Laws.Calling.{Matches}
+use Rattle.lite_stream.specs.Laws.Agreeing.{Agreeing}
 use Rattle.lite_stream.specs.Laws.Calming.{Calming}
 use Rattle.lite_stream.specs.Laws.Through.{Turning}
 use Rattle.lite_stream.specs.Through.{Through}

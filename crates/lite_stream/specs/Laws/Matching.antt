@@ -1,10 +1,10 @@
 -- What is asked about each item where no closure's answer goes out.
 use Rattle.std.specs.Prelude.{⊤}
-use Rattle.std.proofs.Common.{◌≡◌, ℕ, refl}
+use Rattle.std.proofs.Common.{◌≡◌, refl}
 use Rattle.lite_stream.specs.Copied.{Copies}
 use Rattle.lite_stream.specs.Enumerate.{Numbers}
 use Rattle.lite_stream.specs.Inspect.{Shows}
-use Rattle.lite_stream.specs.Laws.Agreeing.{Matches}
+use Rattle.lite_base.specs.Laws.Calling.{Matches}
 
 module _ {A : Type 0} where
   -- from one number on

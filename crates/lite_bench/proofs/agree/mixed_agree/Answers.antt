@@ -1,5 +1,5 @@
 use Rattle.std.proofs.Common.{rules, bit_xor, nat_lt}
-use Rattle.lite_stream.specs.Laws.Agreeing.{function_agree}
+use Rattle.lite_base.specs.Laws.Calling.{function_agree}
 use Rattle.lite_bench.proofs.agree.mixed_agree.Goals as goal
 
 pub run_both-requires-clause-alike : goal.run_both-requires-clause-alike

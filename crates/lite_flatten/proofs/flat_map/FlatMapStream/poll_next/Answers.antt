@@ -1,7 +1,7 @@
 use Rattle.lite_flatten.specs.FlatMap.{flat_map_parts}
 use Rattle.lite_flatten.specs.Laws.FlatMap.{each_made, made_promises}
 use Rattle.lite_flatten.specs.Laws.Flatten.{flat_answer}
-use Rattle.lite_stream.specs.Calling.{Calls}
+use Rattle.lite_base.specs.Calling.{Calls}
 use Rattle.lite_stream.specs.Laws.Pointwise.{replaces_turning}
 use Rattle.lite_stream.specs.Laws.Through.{laws_hinted}
 use Rattle.lite_stream.specs.Map.{Maps, map_parts}

@@ -1,5 +1,5 @@
 use Rattle.std.specs.Fn.{CalledAt}
-use Rattle.lite_stream.specs.Calling.{Accepts}
+use Rattle.lite_base.specs.Calling.{Accepts}
 use Rattle.lite_sift.specs.Laws.Turns.{sifts_answer}
 use Rattle.lite_sift.proofs.filter.FilterStream.poll_next.Goals as goal
 

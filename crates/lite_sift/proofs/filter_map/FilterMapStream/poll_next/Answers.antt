@@ -1,4 +1,4 @@
-use Rattle.lite_stream.specs.Calling.{Calls}
+use Rattle.lite_base.specs.Calling.{Calls}
 use Rattle.lite_sift.specs.Laws.Turns.{sifts_answer}
 use Rattle.lite_sift.proofs.filter_map.FilterMapStream.poll_next.Goals as goal
 

@@ -1,5 +1,5 @@
 use Rattle.std.proofs.Common.{refl}
-use Rattle.lite_stream.specs.Calling.{Calls}
+use Rattle.lite_base.specs.Calling.{Calls}
 use Rattle.lite_stream.specs.Laws.EachItem.{each_asked, each_end, each_here}
 use Rattle.lite_sift.proofs.filter_map.FilterMapTurns.turn_once.Goals as goal
 

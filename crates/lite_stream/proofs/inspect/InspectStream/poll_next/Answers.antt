@@ -1,6 +1,6 @@
 use Rattle.std.proofs.Common.{Some, refl, rules, ◌≡◌}
 use Rattle.std.specs.Fn.{CalledAt}
-use Rattle.lite_stream.specs.Calling.{Always}
+use Rattle.lite_base.specs.Calling.{Always}
 use Rattle.lite_stream.specs.Inspect.{Shows}
 use Rattle.lite_stream.specs.Laws.Pointwise.{exchanged}
 use Rattle.lite_base.specs.Answers.{item}

@@ -1,5 +1,5 @@
 use Rattle.std.proofs.Common.{refl, rules, ◌≡◌}
-use Rattle.lite_stream.specs.Calling.{CallsWith}
+use Rattle.lite_base.specs.Calling.{CallsWith}
 use Rattle.lite_stream.specs.Laws.Pointwise.{exchanged}
 use Rattle.lite_base.specs.Answers.{item}
 use Rattle.std.specs.Fn.{TakesWithState}
