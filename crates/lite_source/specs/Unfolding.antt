@@ -11,67 +11,67 @@ use Rattle.lite_source.specs.Empty.{Ends}
 use Rattle.lite_base.specs.Future.Handed.{handed}
 
 -- what the next future is made of, or the future that is held, or nothing: it is over
-pub data Stage (S V : Type 0) : Type 0 where
-  Seed : S → Stage S V
-  Asked : V → Stage S V
-  Over : Stage S V
+pub data Holding (S V : Type 0) : Type 0 where
+  Seed : S → Holding S V
+  Asked : V → Holding S V
+  Over : Holding S V
 
 -- by what is held
-abbrev pub stage : {S V : Type 0} → Option S → Option V → Stage S V
-stage (Some s) future = Stage.Seed s
-stage None (Some v) = Stage.Asked v
-stage None None = Stage.Over
+abbrev pub holding : {S V : Type 0} → Option S → Option V → Holding S V
+holding (Some s) future = Holding.Seed s
+holding None (Some v) = Holding.Asked v
+holding None None = Holding.Over
 
 -- the future that is held, if any, is such
-abbrev pub IfAsked : {S V : Type 0} → Stage S V → (V → Type 0) → Type 0
-IfAsked (Stage.Asked v) P = P v
-IfAsked (Stage.Seed s) P = ⊤
-IfAsked Stage.Over P = ⊤
+abbrev pub IfAsked : {S V : Type 0} → Holding S V → (V → Type 0) → Type 0
+IfAsked (Holding.Asked v) P = P v
+IfAsked (Holding.Seed s) P = ⊤
+IfAsked Holding.Over P = ⊤
 
 -- equal seeds, or futures that are the same so, or nothing
-abbrev pub StagesBy : {S V : Type 0} → (V → V → Type 0) → Stage S V → Stage S V → Type 0
-StagesBy same (Stage.Seed s) (Stage.Seed t) = s ≡ t
-StagesBy same (Stage.Asked v) (Stage.Asked w) = same v w
-StagesBy same Stage.Over Stage.Over = ⊤
-StagesBy same x y = ⊥
+abbrev pub HoldingsBy : {S V : Type 0} → (V → V → Type 0) → Holding S V → Holding S V → Type 0
+HoldingsBy same (Holding.Seed s) (Holding.Seed t) = s ≡ t
+HoldingsBy same (Holding.Asked v) (Holding.Asked w) = same v w
+HoldingsBy same Holding.Over Holding.Over = ⊤
+HoldingsBy same x y = ⊥
 
 -- what a pending poll leaves is left by the future
-abbrev pub UnfoldLeaves : {S V : Type 0} → (V → Lasting → Type 0) → Stage S V → Lasting → Type 0
-UnfoldLeaves leaves (Stage.Asked v) fact = leaves v fact
-UnfoldLeaves leaves (Stage.Seed s) fact = ⊥
-UnfoldLeaves leaves Stage.Over fact = ⊥
+abbrev pub UnfoldLeaves : {S V : Type 0} → (V → Lasting → Type 0) → Holding S V → Lasting → Type 0
+UnfoldLeaves leaves (Holding.Asked v) fact = leaves v fact
+UnfoldLeaves leaves (Holding.Seed s) fact = ⊥
+UnfoldLeaves leaves Holding.Over fact = ⊥
 
 module _ {F S V : Type 0} (call : Mut F (S × Unit {0}) V) where
   -- v is the future that is held, or that the function makes of the seed
-  abbrev pub IsCurrent : F → Stage S V → F → V → Type 0
-  IsCurrent p (Stage.Seed s) q v = Called call p (s, tt) v q
-  IsCurrent p (Stage.Asked w) q v = (v ≡ w) × (q ≡ p)
-  IsCurrent p Stage.Over q v = ⊥
+  abbrev pub IsCurrent : F → Holding S V → F → V → Type 0
+  IsCurrent p (Holding.Seed s) q v = Called call p (s, tt) v q
+  IsCurrent p (Holding.Asked w) q v = (v ≡ w) × (q ≡ p)
+  IsCurrent p Holding.Over q v = ⊥
 
 -- what comes after a value: the next seed, or the end
-abbrev pub comes : {S V : Type 0} → Option S → Stage S V
-comes None = Stage.Over
-comes (Some s) = Stage.Seed s
+abbrev pub comes : {S V : Type 0} → Option S → Holding S V
+comes None = Holding.Over
+comes (Some s) = Holding.Seed s
 
 module _ {F S V O : Type 0} (call : Mut F (S × Unit {0}) V) (gives : V → List (Poll O) → V → Type 0) where
   -- one poll of the future; a value leaves nothing, and None comes where there is no future
-  abbrev pub Asks : F → Stage S V → Poll (Option O) → F → Stage S V → Type 0
-  Asks p x Pending q next = (v w : V) × IsCurrent call p x q v × gives v (Pending ∷ []) w × (next ≡ Stage.Asked w)
-  Asks p x (Ready (Some o)) q next = (v : V) × IsCurrent call p x q v × Finishes gives v (Ready o ∷ []) o × (next ≡ Stage.Over)
-  Asks p x (Ready None) q next = (x ≡ Stage.Over) × (q ≡ p) × (next ≡ Stage.Over)
+  abbrev pub Asks : F → Holding S V → Poll (Option O) → F → Holding S V → Type 0
+  Asks p x Pending q next = (v w : V) × IsCurrent call p x q v × gives v (Pending ∷ []) w × (next ≡ Holding.Asked w)
+  Asks p x (Ready (Some o)) q next = (v : V) × IsCurrent call p x q v × Finishes gives v (Ready o ∷ []) o × (next ≡ Holding.Over)
+  Asks p x (Ready None) q next = (x ≡ Holding.Over) × (q ≡ p) × (next ≡ Holding.Over)
 
   -- of the value o of a future, `shown o` goes out, and `after o` is the next seed; None ends it for ever
   module _ {B : Type 0} (after : O → Option S) (shown : O → Option B) where
     -- the future v gave ins: it is still pending, or its value says what comes next
-    abbrev pub Leads : V → List (Poll O) → Stage S V → Type 0
-    Leads v ins next = ((w : V) × Waiting ins × gives v ins w × (next ≡ Stage.Asked w)) ⊎ ((o : O) × Finishes gives v ins o × (next ≡ comes (after o)))
+    abbrev pub Leads : V → List (Poll O) → Holding S V → Type 0
+    Leads v ins next = ((w : V) × Waiting ins × gives v ins w × (next ≡ Holding.Asked w)) ⊎ ((o : O) × Finishes gives v ins o × (next ≡ comes (after o)))
 
     -- the answers of one future; and where it is over, ends
-    abbrev pub Part : F → Stage S V → List (Answer B) → F → Stage S V → Type 0
+    abbrev pub Part : F → Holding S V → List (Answer B) → F → Holding S V → Type 0
     Part p x out q next = ((v : V) × (ins : List (Poll O)) × IsCurrent call p x q v × Leads v ins next × (out ≡ map (handed shown) ins))
-        ⊎ ((x ≡ Stage.Over) × (q ≡ p) × Ends Stage.Over out next)
+        ⊎ ((x ≡ Holding.Over) × (q ≡ p) × Ends Holding.Over out next)
 
     -- the parts one after the other, each of at least one answer
-    abbrev pub Unfolds : F × Stage S V → List (Answer B) → F × Stage S V → Type 0
+    abbrev pub Unfolds : F × Holding S V → List (Answer B) → F × Holding S V → Type 0
     Unfolds x out y = (parts : List (Answer B × List (Answer B))) × FoldsTo (λ s part t. Part s.0 s.1 (part.0 ∷ part.1) t.0 t.1) x parts y
         × (out ≡ flat_map (λ part. part.0 ∷ part.1) parts)

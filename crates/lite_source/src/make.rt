@@ -1,6 +1,6 @@
 //! What makes the sources.
 ghost use Rattle.std.specs.Prelude.{◌≡◌, Some};
-ghost use Rattle.lite_source.specs.Unfolding.{Stage};
+ghost use Rattle.lite_source.specs.Unfolding.{Holding};
 
 use crate::empty::Empty;
 use crate::iter::Iter;
@@ -102,7 +102,7 @@ pub fn try_unfold<T, E, F, Fut, Item>(init: T, f: F) -> TryUnfold<T, F, Fut>
 where
     F: FnMut(T) -> Fut,
     Fut: Future<Output = Result<Option<(Item, T)>, E>>,
-    ensures { result ≡ record { f = f; state = Stage.Seed init } }
+    ensures { result ≡ record { f = f; state = Holding.Seed init } }
 {
     TryUnfold {
         f,
@@ -117,7 +117,7 @@ pub fn unfold<T, F, Fut, Item>(seed: T, f: F) -> Unfold<T, F, Fut>
 where
     F: FnMut(T) -> Fut,
     Fut: Future<Output = Option<(Item, T)>>,
-    ensures { result ≡ record { f = f; state = Stage.Seed seed } }
+    ensures { result ≡ record { f = f; state = Holding.Seed seed } }
 {
     Unfold {
         f,

@@ -22,7 +22,7 @@ ghost use Rattle.lite_source.specs.RepeatWith.{Call};
 ghost use Rattle.lite_source.specs.Script.{Gives};
 ghost use Rattle.lite_source.specs.TryUnfold.{TryUnfoldsBy, try_item_of, try_seed_of};
 ghost use Rattle.lite_source.specs.Unfold.{UnfoldsBy, item_of, seed_of};
-ghost use Rattle.lite_source.specs.Unfolding.{StagesBy};
+ghost use Rattle.lite_source.specs.Unfolding.{HoldingsBy};
 ghost use Rattle.std.specs.List.{FoldsTo};
 ghost use Rattle.std.specs.Prelude.{⊤, ◌≡◌};
 
@@ -117,7 +117,7 @@ where
 
     ghost needs_none = { Fut.needs_none };
 
-    ghost alike = { λ x y. AgreeBy Fut.alike (Calls F.FnMut) x.f y.f × StagesBy Fut.alike x.state y.state };
+    ghost alike = { λ x y. AgreeBy Fut.alike (Calls F.FnMut) x.f y.f × HoldingsBy Fut.alike x.state y.state };
 
     ghost steady = { unfolds_steady F.FnMut try_seed_of try_item_of (λ x. (x.f, x.state)) Fut.steady };
 }
@@ -132,7 +132,7 @@ where
 
     ghost needs_none = { Fut.needs_none };
 
-    ghost alike = { λ x y. AgreeBy Fut.alike (Calls F.FnMut) x.f y.f × StagesBy Fut.alike x.state y.state };
+    ghost alike = { λ x y. AgreeBy Fut.alike (Calls F.FnMut) x.f y.f × HoldingsBy Fut.alike x.state y.state };
 
     ghost steady = { unfolds_steady F.FnMut seed_of item_of (λ x. (x.f, x.state)) Fut.steady };
 }

@@ -2,7 +2,7 @@ ghost use Rattle.std.specs.Prelude.{◌≡◌};
 ghost use Rattle.std.specs.Fn.{AlwaysReturns};
 ghost use Rattle.futures.specs.Poll.{OnPending};
 ghost use Rattle.futures.specs.Task.{Holds, Keeps, Lasting};
-ghost use Rattle.lite_source.specs.Unfolding.{Asks, IfAsked, Stage, UnfoldLeaves};
+ghost use Rattle.lite_source.specs.Unfolding.{Asks, IfAsked, Holding, UnfoldLeaves};
 
 use lite_base::{Context, Future, Poll, ready};
 use std::marker::Model;
@@ -17,17 +17,17 @@ pub struct Unfolding<T, Fut> {
 }
 
 impl<T, Fut> Model for Unfolding<T, Fut> {
-    ghost use Rattle.lite_source.specs.Unfolding.{Stage, stage};
+    ghost use Rattle.lite_source.specs.Unfolding.{Holding, holding};
 
-    ghost Value = { Stage T Fut };
+    ghost Value = { Holding T Fut };
 
-    ghost view = { λ u. stage u.seed u.future };
+    ghost view = { λ u. holding u.seed u.future };
 }
 
 impl<T, Fut> Unfolding<T, Fut> {
     /// The next future is made of `seed`.
     pub(crate) fn new(seed: T) -> Unfolding<T, Fut>
-        ensures { result ≡ Stage.Seed seed }
+        ensures { result ≡ Holding.Seed seed }
     {
         Unfolding {
             seed: Some(seed),
@@ -67,7 +67,7 @@ impl<T: Drop, Fut: Future + Drop> Unfolding<T, Fut> {
 
     /// Goes on from `seed`.
     pub(crate) fn go_on(&mut self, seed: T)
-        ensures { self.new ≡ Stage.Seed seed }
+        ensures { self.new ≡ Holding.Seed seed }
     {
         self.seed = Some(seed);
     }

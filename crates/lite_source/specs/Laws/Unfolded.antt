@@ -18,17 +18,17 @@ use Rattle.lite_base.specs.Laws.Future.Finishes.{finishes_found, finishes_later}
 use Rattle.lite_base.specs.Laws.Future.Handed.{handed_gives, handed_prompt, handed_waits}
 use Rattle.lite_base.specs.Laws.Promises.{call_promises}
 use Rattle.lite_base.specs.Steady.{FutureSteadyLaws, Steadiness, SteadyLaws, TakesNone}
-use Rattle.lite_source.specs.Unfolding.{IfAsked, IsCurrent, Leads, Part, Stage, StagesBy, Unfolds, comes}
+use Rattle.lite_source.specs.Unfolding.{IfAsked, IsCurrent, Leads, Part, Holding, HoldingsBy, Unfolds, comes}
 
 module _ {F S V O B : Type 0} (call : Mut F (S × Unit {0}) V) (gives : V → List (Poll O) → V → Type 0) (after : O → Option S) (shown : O → Option B) where
   -- the values of futures, one after the other, and after the last of them ends
-  abbrev Values : F → Stage S V → List (Option B) → Type 0
+  abbrev Values : F → Holding S V → List (Option B) → Type 0
   Values p x [] = ⊤
   Values p x (b ∷ out) = ((v : V) × (q : F) × (ins : List (Poll O)) × (o : O) × IsCurrent call p x q v × Finishes gives v ins o × (b ≡ shown o) × Values q (comes (after o)) out)
-      ⊎ ((x ≡ Stage.Over) × (b ≡ None) × Values p Stage.Over out)
+      ⊎ ((x ≡ Holding.Over) × (b ≡ None) × Values p Holding.Over out)
 
   -- some Pendings of a future change nothing of it
-  waited : FutureLaws gives → (p q : F) (x : Stage S V) (v w : V) (ins : List (Poll O)) (out : List (Option B)) → IsCurrent call p x q v → Waiting ins → gives v ins w → Values q (Stage.Asked w) out → Values p x out
+  waited : FutureLaws gives → (p q : F) (x : Holding S V) (v w : V) (ins : List (Poll O)) (out : List (Option B)) → IsCurrent call p x q v → Waiting ins → gives v ins w → Values q (Holding.Asked w) out → Values p x out
   waited laws p q x v w ins [] c i g h = tt
   waited laws p q x v w ins (b ∷ out) c i g (inr h) = absurd (let e = h.0 in cc)
   waited laws p q x v w ins (b ∷ out) c i g (inl h) =
@@ -36,14 +36,14 @@ module _ {F S V O B : Type 0} (call : Mut F (S × Unit {0}) V) (gives : V → Li
       let rest : Values q (comes (after h.3)) out = subst (λ k. Values k (comes (after h.3)) out) h.4.1 h.7 in
       inl (v, q, ins ++ h.2, h.3, c, finishes_later laws v w ins h.2 h.3 i g (subst (λ u. Finishes gives u h.2 h.3) same h.5), h.6, rest)
 
-  over : (p : F) (l : List (Answer B)) (out : List (Option B)) → AllByRecursion (λ a. a ≡ end) l → Values p Stage.Over out → Values p Stage.Over (strip l ++ out)
+  over : (p : F) (l : List (Answer B)) (out : List (Option B)) → AllByRecursion (λ a. a ≡ end) l → Values p Holding.Over out → Values p Holding.Over (strip l ++ out)
   over p [] out h k = k
   over p (a ∷ l) out h k = rw h.0 (inr (refl, refl, over p l out h.1 k))
 
-  part_values : FutureLaws gives → (p q : F) (x y : Stage S V) (l : List (Answer B)) (out : List (Option B)) → Part call gives after shown p x l q y → Values q y out → Values p x (strip l ++ out)
+  part_values : FutureLaws gives → (p q : F) (x y : Holding S V) (l : List (Answer B)) (out : List (Option B)) → Part call gives after shown p x l q y → Values q y out → Values p x (strip l ++ out)
   part_values laws p q x y l out (inr h) k =
       let k' = subst (λ s. Values q s out) h.2.1 k in
-      subst (λ s. Values p s (strip l ++ out)) (sym h.0) (over p l out h.2.0 (subst (λ r. Values r Stage.Over out) h.1 k'))
+      subst (λ s. Values p s (strip l ++ out)) (sym h.0) (over p l out h.2.0 (subst (λ r. Values r Holding.Over out) h.1 k'))
   part_values laws p q x y l out (inl h) k = leading h.0 h.1 h.2 h.3 h.4
     where
       leading : (v : V) (ins : List (Poll O)) → IsCurrent call p x q v → Leads call gives after shown v ins y → l ≡ map (handed shown) ins → Values p x (strip l ++ out)
@@ -54,7 +54,7 @@ module _ {F S V O B : Type 0} (call : Mut F (S × Unit {0}) V) (gives : V → Li
           let one : strip l ≡ shown d.0 ∷ [] = ap strip (e ∙ sym (append-nil (map (handed shown) ins))) ∙ handed_gives shown ins [] d.0 d.1.gives in
           rw one (inl (v, q, ins, d.0, c, d.1, refl, subst (λ s. Values q s out) d.2 k))
 
-  unfolds_values : FutureLaws gives → (x y : F × Stage S V) (parts : List (Answer B × List (Answer B)))
+  unfolds_values : FutureLaws gives → (x y : F × Holding S V) (parts : List (Answer B × List (Answer B)))
       → FoldsTo (λ s part t. Part call gives after shown s.0 s.1 (part.0 ∷ part.1) t.0 t.1) x parts y → Values x.0 x.1 (strip (flat_map (λ part. part.0 ∷ part.1) parts))
   unfolds_values laws x y [] h = tt
   unfolds_values laws x y (part ∷ parts) h =
@@ -63,61 +63,61 @@ module _ {F S V O B : Type 0} (call : Mut F (S × Unit {0}) V) (gives : V → Li
 
 -- by functions that make futures which are alike
 module _ {F S V O B : Type 0} (call : Mut F (S × Unit {0}) V) (ample : V → List (Poll O) → V → Type 0) {alike : V → V → Type 0} (s : Steadiness ample alike) (after : O → Option S) (shown : O → Option B) where
-  current_alike : (p k q l : F) (x y : Stage S V) (v w : V) → AgreeBy alike (Calls call) p k → StagesBy alike x y → IsCurrent call p x q v → IsCurrent call k y l w → alike v w × AgreeBy alike (Calls call) q l
-  current_alike p k q l (Stage.Seed r) (Stage.Seed t) v w a e c d = agree_matches alike (Calls call) p k q l r v w a c (subst (λ z. Calls call k z w l) (sym e) d)
-  current_alike p k q l (Stage.Seed r) (Stage.Asked t) v w a e c d = absurd e
-  current_alike p k q l (Stage.Seed r) Stage.Over v w a e c d = absurd e
-  current_alike p k q l (Stage.Asked r) (Stage.Seed t) v w a e c d = absurd e
-  current_alike p k q l (Stage.Asked r) (Stage.Asked t) v w a e c d = rw (c.0, d.0, c.1, d.1) (e, a)
-  current_alike p k q l (Stage.Asked r) Stage.Over v w a e c d = absurd e
-  current_alike p k q l Stage.Over y v w a e c d = absurd c
+  current_alike : (p k q l : F) (x y : Holding S V) (v w : V) → AgreeBy alike (Calls call) p k → HoldingsBy alike x y → IsCurrent call p x q v → IsCurrent call k y l w → alike v w × AgreeBy alike (Calls call) q l
+  current_alike p k q l (Holding.Seed r) (Holding.Seed t) v w a e c d = agree_matches alike (Calls call) p k q l r v w a c (subst (λ z. Calls call k z w l) (sym e) d)
+  current_alike p k q l (Holding.Seed r) (Holding.Asked t) v w a e c d = absurd e
+  current_alike p k q l (Holding.Seed r) Holding.Over v w a e c d = absurd e
+  current_alike p k q l (Holding.Asked r) (Holding.Seed t) v w a e c d = absurd e
+  current_alike p k q l (Holding.Asked r) (Holding.Asked t) v w a e c d = rw (c.0, d.0, c.1, d.1) (e, a)
+  current_alike p k q l (Holding.Asked r) Holding.Over v w a e c d = absurd e
+  current_alike p k q l Holding.Over y v w a e c d = absurd c
 
   -- one that is over has no future
-  not_over : (p q : F) (x : Stage S V) (v : V) → StagesBy alike x Stage.Over → IsCurrent call p x q v → ⊥
-  not_over p q (Stage.Seed r) v e c = e
-  not_over p q (Stage.Asked w) v e c = e
-  not_over p q Stage.Over v e c = c
+  not_over : (p q : F) (x : Holding S V) (v : V) → HoldingsBy alike x Holding.Over → IsCurrent call p x q v → ⊥
+  not_over p q (Holding.Seed r) v e c = e
+  not_over p q (Holding.Asked w) v e c = e
+  not_over p q Holding.Over v e c = c
 
-  over_not : (p q : F) (x : Stage S V) (v : V) → StagesBy alike Stage.Over x → IsCurrent call p x q v → ⊥
-  over_not p q (Stage.Seed r) v e c = e
-  over_not p q (Stage.Asked w) v e c = e
-  over_not p q Stage.Over v e c = c
+  over_not : (p q : F) (x : Holding S V) (v : V) → HoldingsBy alike Holding.Over x → IsCurrent call p x q v → ⊥
+  over_not p q (Holding.Seed r) v e c = e
+  over_not p q (Holding.Asked w) v e c = e
+  over_not p q Holding.Over v e c = c
 
-  comes_alike : (m : Option S) → StagesBy alike (comes m) (comes m)
+  comes_alike : (m : Option S) → HoldingsBy alike (comes m) (comes m)
   comes_alike None = tt
   comes_alike (Some r) = refl
 
-  values_same : (p k : F) (x y : Stage S V) (o o' : List (Option B)) → AgreeBy alike (Calls call) p k → StagesBy alike x y → Values call ample after shown p x o → Values call ample after shown k y o' → Comparable o o'
+  values_same : (p k : F) (x y : Holding S V) (o o' : List (Option B)) → AgreeBy alike (Calls call) p k → HoldingsBy alike x y → Values call ample after shown p x o → Values call ample after shown k y o' → Comparable o o'
   values_same p k x y [] o' a e h g = tt
   values_same p k x y (b ∷ o) [] a e h g = tt
   values_same p k x y (b ∷ o) (c ∷ o') a e (inl h) (inl g) =
       let f = current_alike p k h.1 g.1 x y h.0 g.0 a e h.4 g.4 in
       let same : h.3 ≡ g.3 = alike_agrees ample h.0 g.0 (s h.0 g.0 f.0) h.2 g.2 h.3 g.3 h.5 g.5 in
-      let next : StagesBy alike (comes (after h.3)) (comes (after g.3)) = subst (λ z. StagesBy alike (comes (after h.3)) (comes (after z))) same (comes_alike (after h.3)) in
+      let next : HoldingsBy alike (comes (after h.3)) (comes (after g.3)) = subst (λ z. HoldingsBy alike (comes (after h.3)) (comes (after z))) same (comes_alike (after h.3)) in
       (h.6 ∙ (ap shown same ∙ sym g.6), values_same h.1 g.1 (comes (after h.3)) (comes (after g.3)) o o' f.1 next h.7 g.7)
-  values_same p k x y (b ∷ o) (c ∷ o') a e (inl h) (inr g) = absurd (not_over p h.1 x h.0 (subst (λ z. StagesBy alike x z) g.0 e) h.4)
-  values_same p k x y (b ∷ o) (c ∷ o') a e (inr h) (inl g) = absurd (over_not k g.1 y g.0 (subst (λ z. StagesBy alike z y) h.0 e) g.4)
-  values_same p k x y (b ∷ o) (c ∷ o') a e (inr h) (inr g) = (h.1 ∙ sym g.1, values_same p k Stage.Over Stage.Over o o' a tt h.2 g.2)
+  values_same p k x y (b ∷ o) (c ∷ o') a e (inl h) (inr g) = absurd (not_over p h.1 x h.0 (subst (λ z. HoldingsBy alike x z) g.0 e) h.4)
+  values_same p k x y (b ∷ o) (c ∷ o') a e (inr h) (inl g) = absurd (over_not k g.1 y g.0 (subst (λ z. HoldingsBy alike z y) h.0 e) g.4)
+  values_same p k x y (b ∷ o) (c ∷ o') a e (inr h) (inr g) = (h.1 ∙ sym g.1, values_same p k Holding.Over Holding.Over o o' a tt h.2 g.2)
 
 -- where no poll asks for memory
 module _ {F S V O B : Type 0} (call : Mut F (S × Unit {0}) V) {run ample : V → List (Poll O) → V → Type 0} (takes : TakesNone run ample) (after : O → Option S) (shown : O → Option B) where
-  leads_found : (v : V) (ins : List (Poll O)) (next : Stage S V) → Leads call run after shown v ins next → Leads call ample after shown v ins next
+  leads_found : (v : V) (ins : List (Poll O)) (next : Holding S V) → Leads call run after shown v ins next → Leads call ample after shown v ins next
   leads_found v ins next (inl h) = inl (h.0, h.1, takes v h.0 ins h.2, h.3)
   leads_found v ins next (inr h) = inr (h.0, finishes_found takes v ins h.0 h.1, h.2)
 
-  part_found : (p q : F) (x y : Stage S V) (l : List (Answer B)) → Part call run after shown p x l q y → Part call ample after shown p x l q y
+  part_found : (p q : F) (x y : Holding S V) (l : List (Answer B)) → Part call run after shown p x l q y → Part call ample after shown p x l q y
   part_found p q x y l (inl h) = inl (h.0, h.1, h.2, leads_found h.0 h.1 y h.3, h.4)
   part_found p q x y l (inr h) = inr h
 
-  parts_found : (x y : F × Stage S V) (parts : List (Answer B × List (Answer B))) → FoldsTo (λ s part t. Part call run after shown s.0 s.1 (part.0 ∷ part.1) t.0 t.1) x parts y
+  parts_found : (x y : F × Holding S V) (parts : List (Answer B × List (Answer B))) → FoldsTo (λ s part t. Part call run after shown s.0 s.1 (part.0 ∷ part.1) t.0 t.1) x parts y
       → FoldsTo (λ s part t. Part call ample after shown s.0 s.1 (part.0 ∷ part.1) t.0 t.1) x parts y
   parts_found x y [] h = h
   parts_found x y (part ∷ parts) h = (h.0, part_found x.0 h.0.0 x.1 h.0.1 (part.0 ∷ part.1) h.1, parts_found h.0 y parts h.2)
 
 module _ {F S V O B : Type 0} (call : Mut F (S × Unit {0}) V) {run ample : V → List (Poll O) → V → Type 0} {none : Type 0} {alike : V → V → Type 0} (after : O → Option S) (shown : O → Option B) where
   -- a source that holds such a pair
-  pub unfolds_steady : {X : Type 0} (pair : X → F × Stage S V) → FutureSteadyLaws run ample none alike
-      → SteadyLaws (λ x l y. Unfolds call run after shown (pair x) l (pair y)) (λ x l y. Unfolds call ample after shown (pair x) l (pair y)) none (λ x y. AgreeBy alike (Calls call) (pair x).0 (pair y).0 × StagesBy alike (pair x).1 (pair y).1)
+  pub unfolds_steady : {X : Type 0} (pair : X → F × Holding S V) → FutureSteadyLaws run ample none alike
+      → SteadyLaws (λ x l y. Unfolds call run after shown (pair x) l (pair y)) (λ x l y. Unfolds call ample after shown (pair x) l (pair y)) none (λ x y. AgreeBy alike (Calls call) (pair x).0 (pair y).0 × HoldingsBy alike (pair x).1 (pair y).1)
   unfolds_steady pair s =
       record {
         steady = λ x y e l m x' y' h k.
@@ -130,19 +130,19 @@ module _ {F S V O B : Type 0} (call : Mut F (S × Unit {0}) V) {run ample : V �
 -- by a function that makes calm futures
 module _ {F S V O B : Type 0} (call : Mut F (S × Unit {0}) V) {run : V → List (Poll O) → V → Type 0} {calm : V → Type 0} (c : CalmLaws run calm) (after : O → Option S) (shown : O → Option B) where
   -- the function makes calm futures, and one that is held is calm
-  abbrev Calmly : F → Stage S V → Type 0
+  abbrev Calmly : F → Holding S V → Type 0
   Calmly p x = AlwaysReturns call (λ s v. calm v) p × IfAsked x calm
 
-  current_calm : (p q : F) (x : Stage S V) (v : V) → Calmly p x → IsCurrent call p x q v → calm v × AlwaysReturns call (λ s v. calm v) q
-  current_calm p q (Stage.Seed s) v k h = call_promises call (λ s v. calm v) p (s, tt) v q k.0 h
-  current_calm p q (Stage.Asked w) v k h = rw (h.0, h.1) (k.1, k.0)
-  current_calm p q Stage.Over v k h = absurd h
+  current_calm : (p q : F) (x : Holding S V) (v : V) → Calmly p x → IsCurrent call p x q v → calm v × AlwaysReturns call (λ s v. calm v) q
+  current_calm p q (Holding.Seed s) v k h = call_promises call (λ s v. calm v) p (s, tt) v q k.0 h
+  current_calm p q (Holding.Asked w) v k h = rw (h.0, h.1) (k.1, k.0)
+  current_calm p q Holding.Over v k h = absurd h
 
   comes_calm : (m : Option S) → IfAsked (comes m) calm
   comes_calm None = tt
   comes_calm (Some s) = tt
 
-  leads_calm : (v : V) (ins : List (Poll O)) (next : Stage S V) → calm v → Leads call run after shown v ins next → Prompt ins × IfAsked next calm
+  leads_calm : (v : V) (ins : List (Poll O)) (next : Holding S V) → calm v → Leads call run after shown v ins next → Prompt ins × IfAsked next calm
   leads_calm v ins next k (inl h) = (c.prompt v h.0 ins k h.2, rw h.3 (c.calm_on v h.0 ins k h.2))
   leads_calm v ins next k (inr h) = (c.prompt v h.1.last ins k h.1.came, rw h.2 (comes_calm (after h.0)))
 
@@ -150,14 +150,14 @@ module _ {F S V O B : Type 0} (call : Mut F (S × Unit {0}) V) {run : V → List
   ends_prompt [] h = tt
   ends_prompt (a ∷ l) h = rw h.0 (ends_prompt l h.1)
 
-  part_calm : (p q : F) (x y : Stage S V) (l : List (Answer B)) → Calmly p x → Part call run after shown p x l q y → Prompt l × Calmly q y
+  part_calm : (p q : F) (x y : Holding S V) (l : List (Answer B)) → Calmly p x → Part call run after shown p x l q y → Prompt l × Calmly q y
   part_calm p q x y l k (inl h) =
       let made = current_calm p q x h.0 k h.2 in
       let led = leads_calm h.0 h.1 y made.0 h.3 in
       (rw h.4 (handed_prompt shown h.1 led.0), (made.1, led.1))
   part_calm p q x y l k (inr h) = (ends_prompt l h.2.0, (rw h.1 k.0, rw h.2.1 tt))
 
-  parts_calm : (x y : F × Stage S V) (parts : List (Answer B × List (Answer B))) → Calmly x.0 x.1 → FoldsTo (λ s part t. Part call run after shown s.0 s.1 (part.0 ∷ part.1) t.0 t.1) x parts y
+  parts_calm : (x y : F × Holding S V) (parts : List (Answer B × List (Answer B))) → Calmly x.0 x.1 → FoldsTo (λ s part t. Part call run after shown s.0 s.1 (part.0 ∷ part.1) t.0 t.1) x parts y
       → Prompt (flat_map (λ part. part.0 ∷ part.1) parts) × Calmly y.0 y.1
   parts_calm x y [] k h = (tt, subst (λ s. Calmly s.0 s.1) h k)
   parts_calm x y (part ∷ parts) k h =
@@ -165,7 +165,7 @@ module _ {F S V O B : Type 0} (call : Mut F (S × Unit {0}) V) {run : V → List
       let more = parts_calm h.0 y parts one.1 h.2 in
       (prompt_join (part.0 ∷ part.1) (flat_map (λ part. part.0 ∷ part.1) parts) one.0 more.0, more.1)
 
-  pub unfolds_calm : {X : Type 0} (pair : X → F × Stage S V) → CalmLaws (λ x l y. Unfolds call run after shown (pair x) l (pair y)) (λ x. AlwaysReturns call (λ s v. calm v) (pair x).0 × IfAsked (pair x).1 calm)
+  pub unfolds_calm : {X : Type 0} (pair : X → F × Holding S V) → CalmLaws (λ x l y. Unfolds call run after shown (pair x) l (pair y)) (λ x. AlwaysReturns call (λ s v. calm v) (pair x).0 × IfAsked (pair x).1 calm)
   unfolds_calm pair =
       record {
         prompt = λ x y l k h. rw h.2 (parts_calm (pair x) (pair y) h.0 k h.1).0;
