@@ -27,6 +27,7 @@ module _ {A : Type 0} where
   joins_prompt Done g i j l r c d = cuts_calming is_done second_after Done g j l r.1 d
 
 module _ {S U A : Type 0} {run : S → List (Answer A) → S → Type 0} {run' : U → List (Answer A) → U → Type 0} where
+  -- where both are calm, the one that is not asked yet too
   pub chain_calm : {is_calm : S → Type 0} {is_calm' : U → Type 0} → CalmLaws run is_calm → CalmLaws run' is_calm' → CalmLaws (Chains run run') (λ x. is_calm x.first × is_calm' x.second)
   chain_calm s u =
       record {
@@ -38,6 +39,7 @@ module _ {S U A : Type 0} {run : S → List (Answer A) → S → Type 0} {run' :
 abbrev pub CalmingBy : {F A B : Type 0} → (F → Type 0) → (F → List (Answer A) → List (Answer B) → F → Type 0) → Type 0
 CalmingBy {F} {A} {B} held_calm turns = (f g : F) (i : List (Answer A)) (o : List (Answer B)) → held_calm f → turns f i o g → Prompt i → Prompt o × held_calm g
 
+-- an adapter of one source, where what it holds is calm
 pub through_calm_by : {M S F A B : Type 0} (p : Parts M S F) {run : S → List (Answer A) → S → Type 0} {turns : F → List (Answer A) → List (Answer B) → F → Type 0} {is_calm : S → Type 0} {held_calm : F → Type 0}
     → CalmLaws run is_calm → CalmingBy held_calm turns → CalmLaws (Adapts p run turns) (λ m. is_calm (p.source m) × held_calm (p.held m))
 through_calm_by p c t =
@@ -69,6 +71,7 @@ module _ {F A V B : Type 0} (call : F → A → V → F → Type 0) (gives : V �
         let e = calls p x c.0 c.1 n c.2 in
         place_calm c.1 q c.0 last i (b ∷ o) e.0 e.1 (λ rest k. lingers_calm c.1 q last i rest e.1 k d) c.3
 
+    -- where what is made of each item is calm, and what is held
     pub lingering_calm : CalmingBy (λ (s : F × Option V). IfSome s.1 calm_made × calm s.0) (Lingering call gives)
     lingering_calm (p, None) (q, last) i o k c d = lingers_calm p q last i o k.1 c d
     lingering_calm (p, Some v) (q, last) i o k c d = place_calm p q v last i o k.0 k.1 (λ rest r. lingers_calm p q last i rest k.1 r d) c

@@ -1,5 +1,6 @@
 -- Laws of references that are replaced by clones.
-use Rattle.std.specs.Prelude.{⊤, Result, Ok}
+use Rattle.std.specs.List.{AllByRecursion}
+use Rattle.std.specs.Prelude.{⊤, Result, Ok, Err}
 use Rattle.std.proofs.Common.{◌≡◌, ◌∙◌, ◌⊎◌, ℕ, List, [], ◌∷◌, ◌++◌, Option, Some, None, inl, inr, refl, ap, sym, subst, append_assoc}
 use Rattle.futures.specs.declared.task.Poll.TheVariants.{Ready, Pending}
 use denote.Ref.{Bor}
@@ -10,12 +11,13 @@ use Rattle.lite_base.specs.Laws.All.{all_append}
 use Rattle.lite_base.specs.Laws.Calm.{prompt_join}
 use Rattle.lite_base.specs.OkRanks.{OkCounting, all_ok, ok_counting_by}
 use Rattle.lite_base.specs.Ranks.{Counting, Ranks}
-use Rattle.lite_base.specs.Steady.{SteadyLaws}
+use Rattle.lite_base.specs.Steady.{SteadyLaws, TakesNone}
 use Rattle.lite_base.specs.StreamLaws.{StreamLaws}
 use Rattle.lite_flatten.specs.Cloned.{Clones, ClonesAll, ClonesUnrefused, EqualClones, IsRefusal, Refers, Refuses, cloned_parts}
 use Rattle.lite_flatten.specs.Laws.Calming.{lingering_calming}
 use Rattle.lite_flatten.specs.Laws.Lingering.{Giving, GivingOne, held_counting, held_ranks, lingering_following}
-use Rattle.lite_flatten.specs.Laws.SteadyLingering.{OneValue, lingering_agreeing, lingering_found}
+use Rattle.lite_flatten.specs.Laws.SteadyLingering.{OneValue, all_any, all_split, lingering_agreeing, lingering_found_where}
+use Rattle.lite_flatten.specs.declared.cloned.Cloned.{Cloned}
 use Rattle.lite_flatten.specs.Lingering.{HeldOn, Lingering, Lingers, Replaced}
 use Rattle.lite_base.specs.Laws.Calling.{Matches}
 use Rattle.lite_stream.specs.Laws.Agreeing.{through_alike}
@@ -139,26 +141,51 @@ module _ {T E : Type 0} (is_clone : T → T → Type 0) where
   unfolding clones_one
   clones_alike equal x y l m e h k = ap Ok (equal x.now h.1 k.1 h.3 (subst (λ r. is_clone r.now k.1) (sym e) k.3))
 
-  module _ (is_infallible : T → Type 0) (never : (x : T) → is_infallible x) where
-    refuses_found : (x : Bor T) (l : List (Answer (Result T E))) → Refuses is_clone is_infallible x l → Refuses is_clone (λ _. ⊤) x l
-    refuses_found x [] h = tt
-    refuses_found x (a ∷ l) h = absurd (h.0.0 (never x.now))
+  -- among answers that are no refusals
+  module _ (is_infallible : T → Type 0) (may : Answer (Result T E) → Type 0) (never : (x : Bor T) (a : Answer (Result T E)) → may a → IsRefusal is_clone is_infallible x a → ⊥) where
+    refuses_found : (x : Bor T) (l : List (Answer (Result T E))) → AllByRecursion may l → Refuses is_clone is_infallible x l → Refuses is_clone (λ _. ⊤) x l
+    refuses_found x [] all h = tt
+    refuses_found x (a ∷ l) all h = absurd (never x a all.0 h.0)
 
-    clones_found : (x : Bor T) (l : List (Answer (Result T E))) (next : Option (Bor T)) → Clones is_clone is_infallible x l next → Clones is_clone (λ _. ⊤) x l next
-    clones_found x l (Some y) h = (refuses_found x l h.0, h.1)
-    clones_found x l None h = (h.0, h.1, refuses_found x h.0 h.2, h.3, h.4)
+    clones_found : (x : Bor T) (l : List (Answer (Result T E))) (next : Option (Bor T)) → AllByRecursion may l → Clones is_clone is_infallible x l next → Clones is_clone (λ _. ⊤) x l next
+    clones_found x l (Some y) all h = (refuses_found x l all h.0, h.1)
+    clones_found x l None all h =
+        let own = all_split may h.0 (item (Ok h.1) ∷ []) (subst (AllByRecursion may) h.4 all) in
+        (h.0, h.1, refuses_found x h.0 own.0 h.2, h.3, h.4)
 
--- no poll asks for memory where no clone does
-pub cloned_steady : {T E : Type 0} (is_clone : T → T → Type 0) (is_infallible : T → Type 0) {S : Type 0} {run ample : S → List (Answer (Bor T)) → S → Type 0} {none : Type 0} {alike : S → S → Type 0} → SteadyLaws run ample none alike
-    → SteadyLaws (ClonesAll {E = E} is_clone is_infallible run) (ClonesUnrefused is_clone ample) (none × ((x : T) → is_infallible x)) (λ x y. alike x.stream y.stream × (y.held ≡ x.held) × EqualClones is_clone)
-cloned_steady is_clone is_infallible s =
-    record {
-      steady = λ x y e.
-          through_alike cloned_parts x y (s.steady x.stream y.stream e.0) (tt, held_same x.held y.held e.1)
-          (lingering_agreeing (clones_one is_clone) Refers refers_match (clones_alike is_clone e.2));
-      found = λ n x y l h.
-          record { ins = h.ins; came = s.found n.0 x.stream y.stream h.ins h.came; turned = lingering_found Refers (clones_found is_clone is_infallible n.1) (tt, x.held) (tt, y.held) h.ins l h.turned };
-    }
+abbrev NotErr : {T E : Type 0} → Answer (Result T E) → Type 0
+NotErr {E = E} a = (e : E) → a ≡ item (Err e) → ⊥
+
+none_err : {T : Type 0} (E : Type 0) (l : List (Answer T)) → AllByRecursion (NotErr {E = E}) (all_ok l)
+none_err E [] = tt
+none_err E (Pending ∷ l) = ((λ e d. cc), none_err E l)
+none_err E (Ready None ∷ l) = ((λ e d. cc), none_err E l)
+none_err E (Ready (Some x) ∷ l) = ((λ e d. cc), none_err E l)
+
+module _ {T E : Type 0} (is_clone : T → T → Type 0) (is_infallible : T → Type 0) {S : Type 0} {run ample : S → List (Answer (Bor T)) → S → Type 0} where
+  found_where : (may : Answer (Result T E) → Type 0) → ((x : Bor T) (a : Answer (Result T E)) → may a → IsRefusal is_clone is_infallible x a → ⊥) → TakesNone run ample
+      → (x y : Cloned S (Bor T)) (l : List (Answer (Result T E))) → AllByRecursion may l → ClonesAll is_clone is_infallible run x l y → ClonesUnrefused is_clone ample x l y
+  found_where may never takes x y l all h =
+      record {
+        ins = h.ins;
+        came = takes x.stream y.stream h.ins h.came;
+        turned = lingering_found_where Refers may (clones_found is_clone is_infallible may never) (tt, x.held) (tt, y.held) h.ins l all h.turned;
+      }
+
+  -- a run whose items are all Ok is one in which no memory was refused, where no poll of the source asks for any
+  pub cloned_ample : TakesNone run ample → (x y : Cloned S (Bor T)) (l : List (Answer T)) → ClonesAll {E = E} is_clone is_infallible run x (all_ok l) y → ClonesUnrefused {E = E} is_clone ample x (all_ok l) y
+  cloned_ample takes x y l h = found_where NotErr (λ r a ok refused. ok refused.1 refused.2) takes x y (all_ok l) (none_err E l) h
+
+  -- no poll asks for memory where no clone does
+  pub cloned_steady : {none : Type 0} {alike : S → S → Type 0} → SteadyLaws run ample none alike
+      → SteadyLaws (ClonesAll {E = E} is_clone is_infallible run) (ClonesUnrefused is_clone ample) (none × ((x : T) → is_infallible x)) (λ x y. alike x.stream y.stream × (y.held ≡ x.held) × EqualClones is_clone)
+  cloned_steady s =
+      record {
+        steady = λ x y e.
+            through_alike cloned_parts x y (s.steady x.stream y.stream e.0) (tt, held_same x.held y.held e.1)
+            (lingering_agreeing (clones_one is_clone) Refers refers_match (clones_alike is_clone e.2));
+        found = λ n x y l h. found_where (λ _. ⊤) (λ r a all refused. refused.0 (n.1 r.now)) (s.found n.0) x y l (all_any l) h;
+      }
 
 -- a clone is there at once, and so is its refusal
 module _ {T E : Type 0} (is_clone : T → T → Type 0) (is_infallible : T → Type 0) where

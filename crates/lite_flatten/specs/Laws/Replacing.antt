@@ -44,6 +44,7 @@ module _ {F A V B : Type 0} (call : F → A → V → F → Type 0) (InPlace : V
         let e = made f k r.1 q.1 x y r.0 q.0 c.0 a r.2 q.2 in
         places r.0 q.0 (Placed r.1 i) (Placed q.1 j) o p e.0 r.3 q.3 (λ o' p' u v. placed_same r.1 q.1 i j o' p' e.1 c.1 u v)
 
+    -- from things that are alike, in the places of items that are, the same goes out, as far as both go
     pub placed_from_same : (f k : F) (v w : Option V) (i j : List (Option A)) (o p : List (Option B)) → agree f k → OptionBy alike v w → ComparableBy (OptionBy same) i j → PlacedFrom f v i o → PlacedFrom k w j p → Comparable o p
     placed_from_same f k None None i j o p a e c r q = placed_same f k i j o p a c r q
     placed_from_same f k None (Some w) i j o p a e c r q = absurd e

@@ -1,4 +1,6 @@
 -- Items that are replaced by the list of what is made of them, where that gives one item: the same, where it is alike.
+use Rattle.std.specs.List.{AllByRecursion}
+use Rattle.std.specs.Prelude.{⊤}
 use Rattle.std.proofs.Common.{◌≡◌, ◌∙◌, ◌⊎◌, List, [], ◌∷◌, ◌++◌, Option, Some, None, inl, inr, refl, ap, subst, sym}
 use Rattle.futures.specs.declared.task.Poll.TheVariants.{Ready, Pending}
 use Rattle.lite_base.specs.Alike.{OptionBy}
@@ -46,26 +48,45 @@ module _ {V B : Type 0} {gives : V → List (Answer B) → Option V → Type 0} 
       places v w P Q o p a (inr r) (inl e) rest = subst (λ k. Comparable o k) (sym e) (comparable_nil (λ x y. x ≡ y) o)
       places v w P Q o p a (inr r) (inr q) rest = rw (r.3, q.3) (ap (λ y. Some y) (value v w r.0 q.0 a r.1 q.1), rest r.2 q.2 r.4 q.4)
 
+      -- by a call that makes alike things of equal items
       pub lingering_agreeing : Agreeing (Lingering call gives) (λ s t. agree s.0 t.0 × OptionBy alike s.1 t.1)
       lingering_agreeing s t s' t' i j o p a r q c =
           placed_from_same call OneInPlace (λ f k g l x y v w e b d d'. m f k g l x v w b d (subst (λ z. call k z w l) (sym e) d')) places
           s.0 t.0 s.1 t.1 (strip i) (strip j) (strip o) (strip p) a.0 a.1 (items_same (λ x y. x ≡ y) i (strip j) (λ before after x e. refl) c) (placed_from s s' i o r) (placed_from t t' j p q)
 
--- what is made of the items by another relation
-module _ {F A V B : Type 0} (call : F → A → V → F → Type 0) {gives gives' : V → List (Answer B) → Option V → Type 0} (found : (v : V) (l : List (Answer B)) (next : Option V) → gives v l next → gives' v l next) where
-  place_found : (p q : F) (v : V) (last : Option V) (i : List (Answer A)) (o : List (Answer B)) → ((rest : List (Answer B)) → Lingers call gives p i rest q last → Lingers call gives' p i rest q last)
-      → HeldOn call gives p v i o q last ⊎ Replaced call gives v (Lingers call gives p i) o q last → HeldOn call gives' p v i o q last ⊎ Replaced call gives' v (Lingers call gives' p i) o q last
-  place_found p q v last i o rest (inl c) = inl (c.0, c.1, c.2, found v o (Some c.2) c.3, c.4)
-  place_found p q v last i o rest (inr c) = inr (c.0, c.1, c.2, found v c.0 None c.3, rest c.1 c.4)
+module _ {A : Type 0} (may : A → Type 0) where
+  -- each part of a list has what all of it has
+  pub all_split : (l m : List A) → AllByRecursion may (l ++ m) → AllByRecursion may l × AllByRecursion may m
+  all_split [] m h = (tt, h)
+  all_split (a ∷ l) m h = let e = all_split l m h.1 in ((h.0, e.0), e.1)
 
-  lingers_found : (p q : F) (last : Option V) (i : List (Answer A)) (o : List (Answer B)) → Lingers call gives p i o q last → Lingers call gives' p i o q last
-  lingers_found p q last [] [] c = c
-  lingers_found p q last [] (b ∷ o) c = absurd c
-  lingers_found p q last (a ∷ i) [] c = absurd c
-  lingers_found p q last (Pending ∷ i) (b ∷ o) c = (c.0, lingers_found p q last i o c.1)
-  lingers_found p q last (Ready None ∷ i) (b ∷ o) c = (c.0, lingers_found p q last i o c.1)
-  lingers_found p q last (Ready (Some x) ∷ i) (b ∷ o) c = (c.0, c.1, c.2, place_found c.1 q c.0 last i (b ∷ o) (λ rest k. lingers_found c.1 q last i rest k) c.3)
+-- nothing is asked of any
+pub all_any : {A : Type 0} (l : List A) → AllByRecursion (λ _. ⊤) l
+all_any [] = tt
+all_any (a ∷ l) = (tt, all_any l)
 
-  pub lingering_found : (s t : F × Option V) (i : List (Answer A)) (o : List (Answer B)) → Lingering call gives s i o t → Lingering call gives' s i o t
-  lingering_found (p, None) (q, last) i o c = lingers_found p q last i o c
-  lingering_found (p, Some v) (q, last) i o c = place_found p q v last i o (λ rest k. lingers_found p q last i rest k) c
+module _ {F A V B : Type 0} (call : F → A → V → F → Type 0) {gives gives' : V → List (Answer B) → Option V → Type 0} where
+  module _ (may : Answer B → Type 0) (found : (v : V) (l : List (Answer B)) (next : Option V) → AllByRecursion may l → gives v l next → gives' v l next) where
+    place_found : (p q : F) (v : V) (last : Option V) (i : List (Answer A)) (o : List (Answer B)) → AllByRecursion may o → ((rest : List (Answer B)) → AllByRecursion may rest → Lingers call gives p i rest q last → Lingers call gives' p i rest q last)
+        → HeldOn call gives p v i o q last ⊎ Replaced call gives v (Lingers call gives p i) o q last → HeldOn call gives' p v i o q last ⊎ Replaced call gives' v (Lingers call gives' p i) o q last
+    place_found p q v last i o all rest (inl c) = inl (c.0, c.1, c.2, found v o (Some c.2) all c.3, c.4)
+    place_found p q v last i o all rest (inr c) =
+        let both = all_split may c.0 c.1 (subst (AllByRecursion may) c.2 all) in
+        inr (c.0, c.1, c.2, found v c.0 None both.0 c.3, rest c.1 both.1 c.4)
+
+    lingers_found : (p q : F) (last : Option V) (i : List (Answer A)) (o : List (Answer B)) → AllByRecursion may o → Lingers call gives p i o q last → Lingers call gives' p i o q last
+    lingers_found p q last [] [] all c = c
+    lingers_found p q last [] (b ∷ o) all c = absurd c
+    lingers_found p q last (a ∷ i) [] all c = absurd c
+    lingers_found p q last (Pending ∷ i) (b ∷ o) all c = (c.0, lingers_found p q last i o all.1 c.1)
+    lingers_found p q last (Ready None ∷ i) (b ∷ o) all c = (c.0, lingers_found p q last i o all.1 c.1)
+    lingers_found p q last (Ready (Some x) ∷ i) (b ∷ o) all c = (c.0, c.1, c.2, place_found c.1 q c.0 last i (b ∷ o) all (λ rest d k. lingers_found c.1 q last i rest d k) c.3)
+
+    -- where each list of what is made of an item is one of another relation too, if its answers are such, what goes out is too
+    pub lingering_found_where : (s t : F × Option V) (i : List (Answer A)) (o : List (Answer B)) → AllByRecursion may o → Lingering call gives s i o t → Lingering call gives' s i o t
+    lingering_found_where (p, None) (q, last) i o all c = lingers_found p q last i o all c
+    lingering_found_where (p, Some v) (q, last) i o all c = place_found p q v last i o all (λ rest d k. lingers_found p q last i rest d k) c
+
+  -- and where each list is, whatever its answers
+  pub lingering_found : ((v : V) (l : List (Answer B)) (next : Option V) → gives v l next → gives' v l next) → (s t : F × Option V) (i : List (Answer A)) (o : List (Answer B)) → Lingering call gives s i o t → Lingering call gives' s i o t
+  lingering_found found s t i o c = lingering_found_where (λ _. ⊤) (λ v l next all h. found v l next h) s t i o (all_any o) c
