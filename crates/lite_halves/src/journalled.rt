@@ -10,10 +10,10 @@ mod write_half;
 
 use lite_io_base::{Takings, Tale};
 use lite_journal::Journal;
-use locked::{Locked, Tally};
+use locked::Locked;
 pub use read_half::JournalReadHalf;
 use std::alloc::{AllocError, AllocGlobal};
-use std::sync::ledger::{Blank, Ledger, Share};
+use std::sync::ledger::{Blank, Ledger};
 use std::sync::{Arc, Mutex, Wait};
 pub use write_half::JournalWriteHalf;
 
@@ -81,7 +81,7 @@ where
     let Ok(other_rt) = rt.clone() else {
         return Err(journal);
     };
-    let (locked, (mut a, mut b), (mut c, mut d)) = Locked::open(blanks);
+    let (locked, read_shares, write_shares) = Locked::open(blanks);
     // The journal is put in last, so that a refusal hands it back.
     let Ok(shared) = Arc::new(rt.alloc(), Mutex::new(locked)) else {
         return Err(journal);
@@ -89,50 +89,18 @@ where
     let Ok(other) = Arc::try_clone(&shared) else {
         return Err(journal);
     };
-    let tally = fill_locked(&rt, &shared, journal, &mut a, &mut b, &mut c, &mut d);
+    let (reads, writes) = shared.lock(&rt).fill(journal, read_shares, write_shares);
     let read = JournalReadHalf {
         rt,
         shared,
-        calls: tally.reads,
-        bytes: tally.got,
-        call_share: a,
-        byte_share: b,
+        tally: reads,
     };
     let write = JournalWriteHalf {
         rt: other_rt,
         shared: other,
-        calls: tally.writes,
-        bytes: tally.taken,
-        call_share: c,
-        byte_share: d,
+        tally: writes,
     };
     Ok((read, write))
-}
-
-fn fill_locked<
-    R: Wait,
-    T: Tale + Takings + Clone + Drop,
-    A: Ledger,
-    B: Ledger,
-    C: Ledger,
-    D: Ledger,
->(
-    rt: &R,
-    shared: &Mutex<Locked<T, A, B, C, D>>,
-    journal: Journal<T>,
-    reads: &mut Share<A>,
-    got: &mut Share<B>,
-    writes: &mut Share<C>,
-    taken: &mut Share<D>,
-) -> Tally
-    requires whole { (reads.old.parts ≡ A.parts) × (got.old.parts ≡ B.parts) × (writes.old.parts ≡ C.parts) × (taken.old.parts ≡ D.parts) }
-    requires some { (0 < A.parts) × (0 < B.parts) × (0 < C.parts) × (0 < D.parts) }
-    requires amounts { (reads.old.amount ≡ 0) × (got.old.amount ≡ 0) × (writes.old.amount ≡ 0) × (taken.old.amount ≡ 0) }
-    ensures amounts { (reads.new.amount ≡ reads_in journal.notes + 1) × (got.new.amount ≡ got_in journal.notes) × (writes.new.amount ≡ writes_in journal.notes + 1) × (taken.new.amount ≡ taken_in journal.notes) }
-    ensures tally { (result.reads ≡ reads_in journal.notes) × (result.got ≡ got_in journal.notes % 2 ^ 64) × (result.writes ≡ writes_in journal.notes) × (result.taken ≡ taken_in journal.notes % 2 ^ 64) }
-    ensures parts { (reads.new.parts ≡ reads.old.parts) × (got.new.parts ≡ got.old.parts) × (writes.new.parts ≡ writes.old.parts) × (taken.new.parts ≡ taken.old.parts) }
-{
-    shared.lock(rt).fill(journal, reads, got, writes, taken)
 }
 
 /// A clone of the journal so far, whose entries are as many, and moved as many bytes, as the two halves tell, whatever
@@ -152,34 +120,7 @@ pub fn history<R: Wait, T: Tale + Takings + Clone, A: Ledger, B: Ledger, C: Ledg
     ensures writes { IfOk result (λ j. writes_in j.notes ≡ write.old.calls) }
     ensures taken { IfOk result (λ j. taken_in j.notes ≡ write.old.bytes) }
 {
-    history_locked(
-        &read.rt,
-        &read.shared,
-        &mut read.call_share,
-        &mut read.byte_share,
-        &mut write.call_share,
-        &mut write.byte_share,
-    )
-}
-
-fn history_locked<R: Wait, T: Tale + Takings + Clone, A: Ledger, B: Ledger, C: Ledger, D: Ledger>(
-    rt: &R,
-    shared: &Mutex<Locked<T, A, B, C, D>>,
-    reads: &mut Share<A>,
-    got: &mut Share<B>,
-    writes: &mut Share<C>,
-    taken: &mut Share<D>,
-) -> Result<Journal<T>, AllocError>
-    requires whole { (reads.old.parts ≡ A.parts) × (got.old.parts ≡ B.parts) × (writes.old.parts ≡ C.parts) × (taken.old.parts ≡ D.parts) }
-    requires some { 0 < reads.old.amount }
-    ensures sound { IfOk result (λ j. IsSound T.reads T.writes T.is_clone j) }
-    ensures replays { IfOk result (λ j. Replays T.reads T.writes T.is_clone j) }
-    ensures reads { IfOk result (λ j. reads_in j.notes + 1 ≡ reads.old.amount) }
-    ensures got { IfOk result (λ j. got_in j.notes ≡ got.old.amount) }
-    ensures writes { IfOk result (λ j. writes_in j.notes + 1 ≡ writes.old.amount) }
-    ensures taken { IfOk result (λ j. taken_in j.notes ≡ taken.old.amount) }
-    ensures amounts { (reads.new.amount ≡ reads.old.amount) × (got.new.amount ≡ got.old.amount) × (writes.new.amount ≡ writes.old.amount) × (taken.new.amount ≡ taken.old.amount) }
-    ensures parts { (reads.new.parts ≡ reads.old.parts) × (got.new.parts ≡ got.old.parts) × (writes.new.parts ≡ writes.old.parts) × (taken.new.parts ≡ taken.old.parts) }
-{
-    shared.lock(rt).history(reads, got, writes, taken)
+    read.shared
+        .lock(&read.rt)
+        .history(&mut read.tally, &mut write.tally)
 }

@@ -1,14 +1,15 @@
 //! The journalled half that reads.
-ghost use Rattle.std.specs.Prelude.{◌≡◌, ◌≤◌, ◌<◌, ◌+◌, ◌%◌, ◌^◌, ◌⊎◌, ◌∷◌, [], length, map, IfNone, IfOk, IfSome};
+ghost use Rattle.std.specs.Prelude.{◌≡◌, ◌≤◌, ◌+◌, ◌%◌, ◌^◌, ◌⊎◌, ◌∷◌, [], length, map, IfNone, IfOk, IfSome};
 ghost use Rattle.futures.specs.Poll.{IfReady, OnPending};
 ghost use Rattle.futures.specs.Task.{Holds, Keeps, Lasting};
 ghost use Rattle.lite_io_base.specs.Marks.{count_of, read_marks};
 ghost use Rattle.lite_io_base.specs.Runs.{ReadsInto, room_in};
-ghost use Rattle.lite_halves.specs.Counts.{HalfDrives, IsOutOfMemory, ReadCounts, moved_by, read_bytes_of};
+ghost use Rattle.lite_halves.specs.Counts.{CountsOn, HalfDrives, IsOutOfMemory, ReadCounts, moved_by, read_bytes_of};
 ghost use Rattle.lite_journal.specs.Entry.{Asked, Fits, told_in, told_of};
 ghost use Rattle.lite_halves.specs.Laws.Counts.{counts_laws};
 
-use super::locked::{Locked, count};
+use super::locked::Locked;
+use super::tally::Tally;
 use lite_base::{Context, Poll};
 use lite_io_base::{AsyncRead, Takings, Tale, first_with_room};
 use lite_journal::{Answer, buffer_answer};
@@ -16,7 +17,7 @@ use std::alloc::{AllocError, AllocGlobal};
 use std::io;
 use std::io::{ErrorKind, IoSliceMut};
 use std::marker::Model;
-use std::sync::ledger::{Ledger, Share};
+use std::sync::ledger::Ledger;
 use std::sync::{Arc, Mutex, Wait};
 
 /// The half of a journal that reads. Made by [`split_journalled`](crate::split_journalled).
@@ -35,22 +36,16 @@ pub struct JournalReadHalf<
 > {
     pub(super) rt: R,
     pub(super) shared: Arc<Mutex<Locked<T, A, B, C, D>>>,
-    pub(super) calls: u64,
-    pub(super) bytes: u64,
-    pub(super) call_share: Share<A>,
-    pub(super) byte_share: Share<B>,
+    pub(super) tally: Tally<A, B>,
 }
 
 impl<R, T: Tale + Takings + Clone, A: Ledger, B: Ledger, C: Ledger, D: Ledger> Model
     for JournalReadHalf<R, T, A, B, C, D> {
-    ghost use Rattle.std.specs.Prelude.{◌≡◌, ◌<◌, ◌+◌, ◌%◌, ◌^◌};
     ghost use Rattle.lite_halves.specs.Counts.{Counted};
 
     ghost Value = { Counted };
 
-    ghost view = { λ h. record { calls = h.calls; bytes = h.byte_share.amount } };
-
-    ghost invariant = { λ h. (0 < h.call_share.parts) × (0 < h.byte_share.parts) × (h.call_share.parts ≡ A.parts) × (h.byte_share.parts ≡ B.parts) × (h.call_share.amount ≡ h.calls + 1) × (h.bytes ≡ h.byte_share.amount % 2 ^ 64) };
+    ghost view = { λ h. h.tally };
 }
 
 impl<R, T: Tale + Takings + Clone, A: Ledger, B: Ledger, C: Ledger, D: Ledger> JournalReadHalf<
@@ -65,14 +60,14 @@ impl<R, T: Tale + Takings + Clone, A: Ledger, B: Ledger, C: Ledger, D: Ledger> J
     pub fn calls(&self) -> u64
         ensures { result ≡ self.now.calls }
     {
-        self.calls
+        self.tally.calls()
     }
 
     /// How many bytes those reads were told, modulo 2^64. It doesn't wait.
     pub fn bytes(&self) -> u64
         ensures { result ≡ self.now.bytes % 2 ^ 64 }
     {
-        self.bytes
+        self.tally.bytes()
     }
 }
 
@@ -86,42 +81,13 @@ impl<
 > JournalReadHalf<R, T, A, B, C, D> {
     // One read with its entry. `None`: there was no memory for the entry, and nothing was called.
     fn step(&mut self, cx: &mut Context<'_>, buf: &mut [u8]) -> Option<Poll<io::Result<usize>>>
-        ensures some { IfSome result (λ r. (self.new.calls ≡ self.old.calls + 1) × (self.new.bytes ≡ self.old.bytes + count_of r)) }
+        ensures some { IfSome result (λ r. CountsOn 1 (count_of r) self.old self.new) }
         ensures none { IfNone result (self.new ≡ self.old) }
         ensures bound { IfSome result (λ r. IfReady r (λ a. IfOk a (λ n. n ≤ length buf.new))) }
         ensures kept { Keeps cx.old cx.new }
     {
-        let polled = read_locked(
-            &self.rt,
-            &self.shared,
-            &mut self.call_share,
-            &mut self.byte_share,
-            cx,
-            buf,
-        )?;
-        self.calls += 1;
-        self.bytes = self.bytes.wrapping_add(count(&polled) as u64);
-        Some(polled)
+        self.shared.lock(&self.rt).read(&mut self.tally, cx, buf)
     }
-}
-
-fn read_locked<R: Wait, T: AsyncRead + Takings + Clone, A: Ledger, B: Ledger, C: Ledger, D: Ledger>(
-    rt: &R,
-    shared: &Mutex<Locked<T, A, B, C, D>>,
-    calls: &mut Share<A>,
-    bytes: &mut Share<B>,
-    cx: &mut Context<'_>,
-    buf: &mut [u8],
-) -> Option<Poll<io::Result<usize>>>
-    requires { (0 < calls.old.amount) × (0 < calls.old.parts) × (0 < bytes.old.parts) }
-    ensures some { IfSome result (λ r. (calls.new.amount ≡ calls.old.amount + 1) × (bytes.new.amount ≡ bytes.old.amount + count_of r)) }
-    ensures none { IfNone result ((calls.new.amount ≡ calls.old.amount) × (bytes.new.amount ≡ bytes.old.amount)) }
-    ensures parts { (calls.new.parts ≡ calls.old.parts) × (bytes.new.parts ≡ bytes.old.parts) }
-    ensures fits { IfSome result (λ r. calls.new.amount ≤ 2 ^ 64) }
-    ensures bound { IfSome result (λ r. IfReady r (λ a. IfOk a (λ n. n ≤ length buf.new))) }
-    ensures kept { Keeps cx.old cx.new }
-{
-    shared.lock(rt).read(calls, bytes, cx, buf)
 }
 
 impl<R, T: Tale + Takings + Clone, A: Ledger, B: Ledger, C: Ledger, D: Ledger> Tale
@@ -184,7 +150,7 @@ where
 {
     // One read with its entry. `None`: there was no memory for the entry or the answer, and nothing was called.
     fn make(&mut self, cx: &mut Context<'_>, room: usize) -> Option<Answer>
-        ensures some { IfSome result (λ a. (self.new.calls ≡ self.old.calls + 1) × (self.new.bytes ≡ self.old.bytes + moved_by (told_of a))) }
+        ensures some { IfSome result (λ a. CountsOn 1 (moved_by (told_of a)) self.old self.new) }
         ensures fits { IfSome result (λ a. Fits (Asked.room room) (told_of a)) }
         ensures none { IfNone result (self.new ≡ self.old) }
         ensures kept { Keeps cx.old cx.new }

@@ -1,16 +1,17 @@
 //! The journalled half that writes.
-ghost use Rattle.std.specs.Prelude.{◌≡◌, ◌≤◌, ◌<◌, ◌+◌, ◌%◌, ◌^◌, ◌⊎◌, ◌∷◌, [], length, IfNone, IfOk, IfSome};
+ghost use Rattle.std.specs.Prelude.{◌≡◌, ◌≤◌, ◌+◌, ◌%◌, ◌^◌, ◌⊎◌, ◌∷◌, [], length, IfNone, IfOk, IfSome};
 ghost use Rattle.std.specs.Io.Slices.{io_slices_bytes};
 ghost use Rattle.futures.specs.Poll.{IfReady, OnPending};
 ghost use Rattle.futures.specs.Task.{Holds, Keeps, Lasting};
 ghost use Rattle.lite_io_base.specs.Marks.{count_of};
 ghost use Rattle.lite_io_base.specs.Takings.{done_marks, write_marks};
 ghost use Rattle.lite_io_base.specs.Takings.Taking.{closed, flushed};
-ghost use Rattle.lite_halves.specs.Counts.{AllWrites, HalfDrives, IsOutOfMemory, IsWrite, WriteCounts, moved_by, taken_bytes_of};
+ghost use Rattle.lite_halves.specs.Counts.{AllWrites, CountsOn, HalfDrives, IsOutOfMemory, IsWrite, WriteCounts, moved_by, taken_bytes_of};
 ghost use Rattle.lite_journal.specs.Entry.{Fits, asked_in, asked_of, told_in, told_of};
 ghost use Rattle.lite_halves.specs.Laws.Counts.{counts_laws};
 
-use super::locked::{Locked, count};
+use super::locked::Locked;
+use super::tally::Tally;
 use lite_base::{Context, Poll};
 use lite_io_base::{AsyncWrite, Takings, Tale, first_nonempty};
 use lite_journal::{Answer, Call, done_answer, write_answer};
@@ -18,7 +19,7 @@ use std::alloc::AllocError;
 use std::io;
 use std::io::{ErrorKind, IoSlice};
 use std::marker::Model;
-use std::sync::ledger::{Ledger, Share};
+use std::sync::ledger::Ledger;
 use std::sync::{Arc, Mutex, Wait};
 
 /// The half of a journal that writes. Made by [`split_journalled`](crate::split_journalled).
@@ -37,22 +38,16 @@ pub struct JournalWriteHalf<
 > {
     pub(super) rt: R,
     pub(super) shared: Arc<Mutex<Locked<T, A, B, C, D>>>,
-    pub(super) calls: u64,
-    pub(super) bytes: u64,
-    pub(super) call_share: Share<C>,
-    pub(super) byte_share: Share<D>,
+    pub(super) tally: Tally<C, D>,
 }
 
 impl<R, T: Tale + Takings + Clone, A: Ledger, B: Ledger, C: Ledger, D: Ledger> Model
     for JournalWriteHalf<R, T, A, B, C, D> {
-    ghost use Rattle.std.specs.Prelude.{◌≡◌, ◌<◌, ◌+◌, ◌%◌, ◌^◌};
     ghost use Rattle.lite_halves.specs.Counts.{Counted};
 
     ghost Value = { Counted };
 
-    ghost view = { λ h. record { calls = h.calls; bytes = h.byte_share.amount } };
-
-    ghost invariant = { λ h. (0 < h.call_share.parts) × (0 < h.byte_share.parts) × (h.call_share.parts ≡ C.parts) × (h.byte_share.parts ≡ D.parts) × (h.call_share.amount ≡ h.calls + 1) × (h.bytes ≡ h.byte_share.amount % 2 ^ 64) };
+    ghost view = { λ h. h.tally };
 }
 
 impl<R, T: Tale + Takings + Clone, A: Ledger, B: Ledger, C: Ledger, D: Ledger> JournalWriteHalf<
@@ -67,14 +62,14 @@ impl<R, T: Tale + Takings + Clone, A: Ledger, B: Ledger, C: Ledger, D: Ledger> J
     pub fn calls(&self) -> u64
         ensures { result ≡ self.now.calls }
     {
-        self.calls
+        self.tally.calls()
     }
 
     /// How many bytes of those writes were taken, modulo 2^64. It doesn't wait.
     pub fn bytes(&self) -> u64
         ensures { result ≡ self.now.bytes % 2 ^ 64 }
     {
-        self.bytes
+        self.tally.bytes()
     }
 }
 
@@ -88,50 +83,36 @@ impl<
 > JournalWriteHalf<R, T, A, B, C, D> {
     // One write with its entry. `None`: there was no memory for the entry, and nothing was called.
     fn step_write(&mut self, cx: &mut Context<'_>, buf: &[u8]) -> Option<Poll<io::Result<usize>>>
-        ensures some { IfSome result (λ r. (self.new.calls ≡ self.old.calls + 1) × (self.new.bytes ≡ self.old.bytes + count_of r)) }
+        ensures some { IfSome result (λ r. CountsOn 1 (count_of r) self.old self.new) }
         ensures none { IfNone result (self.new ≡ self.old) }
         ensures bound { IfSome result (λ r. IfReady r (λ a. IfOk a (λ n. n ≤ length buf.now))) }
         ensures kept { Keeps cx.old cx.new }
     {
-        let polled = write_locked(
-            &self.rt,
-            &self.shared,
-            &mut self.call_share,
-            &mut self.byte_share,
-            cx,
-            buf,
-        )?;
-        self.calls += 1;
-        self.bytes = self.bytes.wrapping_add(count(&polled) as u64);
-        Some(polled)
+        self.shared.lock(&self.rt).write(&mut self.tally, cx, buf)
     }
 
     // One flush with its entry. `None`: there was no memory for the entry, and nothing was called.
     fn step_flush(&mut self, cx: &mut Context<'_>) -> Option<Poll<io::Result<()>>>
-        ensures some { IfSome result (λ r. (self.new.calls ≡ self.old.calls + 1) × (self.new.bytes ≡ self.old.bytes)) }
+        ensures some { IfSome result (λ r. CountsOn 1 0 self.old self.new) }
         ensures none { IfNone result (self.new ≡ self.old) }
         ensures kept { Keeps cx.old cx.new }
     {
-        let polled = flush_locked(&self.rt, &self.shared, &mut self.call_share, cx)?;
-        self.calls += 1;
-        Some(polled)
+        self.shared.lock(&self.rt).flush(&mut self.tally, cx)
     }
 
     // One close with its entry. `None`: there was no memory for the entry, and nothing was called.
     fn step_close(&mut self, cx: &mut Context<'_>) -> Option<Poll<io::Result<()>>>
-        ensures some { IfSome result (λ r. (self.new.calls ≡ self.old.calls + 1) × (self.new.bytes ≡ self.old.bytes)) }
+        ensures some { IfSome result (λ r. CountsOn 1 0 self.old self.new) }
         ensures none { IfNone result (self.new ≡ self.old) }
         ensures kept { Keeps cx.old cx.new }
     {
-        let polled = close_locked(&self.rt, &self.shared, &mut self.call_share, cx)?;
-        self.calls += 1;
-        Some(polled)
+        self.shared.lock(&self.rt).close(&mut self.tally, cx)
     }
 
     // One call with its entry. `None`: there was no memory for the entry, and nothing was called.
     fn make(&mut self, cx: &mut Context<'_>, call: &Call) -> Option<Answer>
         requires { IsWrite call.now }
-        ensures some { IfSome result (λ a. (self.new.calls ≡ self.old.calls + 1) × (self.new.bytes ≡ self.old.bytes + moved_by (told_of a))) }
+        ensures some { IfSome result (λ a. CountsOn 1 (moved_by (told_of a)) self.old self.new) }
         ensures fits { IfSome result (λ a. Fits (asked_of call.now) (told_of a)) }
         ensures none { IfNone result (self.new ≡ self.old) }
         ensures kept { Keeps cx.old cx.new }
@@ -169,57 +150,6 @@ impl<
         }
         Ok(())
     }
-}
-
-fn write_locked<R: Wait, T: Tale + AsyncWrite + Clone, A: Ledger, B: Ledger, C: Ledger, D: Ledger>(
-    rt: &R,
-    shared: &Mutex<Locked<T, A, B, C, D>>,
-    calls: &mut Share<C>,
-    bytes: &mut Share<D>,
-    cx: &mut Context<'_>,
-    buf: &[u8],
-) -> Option<Poll<io::Result<usize>>>
-    requires { (0 < calls.old.amount) × (0 < calls.old.parts) × (0 < bytes.old.parts) }
-    ensures some { IfSome result (λ r. (calls.new.amount ≡ calls.old.amount + 1) × (bytes.new.amount ≡ bytes.old.amount + count_of r)) }
-    ensures none { IfNone result ((calls.new.amount ≡ calls.old.amount) × (bytes.new.amount ≡ bytes.old.amount)) }
-    ensures parts { (calls.new.parts ≡ calls.old.parts) × (bytes.new.parts ≡ bytes.old.parts) }
-    ensures fits { IfSome result (λ r. calls.new.amount ≤ 2 ^ 64) }
-    ensures bound { IfSome result (λ r. IfReady r (λ a. IfOk a (λ n. n ≤ length buf.now))) }
-    ensures kept { Keeps cx.old cx.new }
-{
-    shared.lock(rt).write(calls, bytes, cx, buf)
-}
-
-fn flush_locked<R: Wait, T: Tale + AsyncWrite + Clone, A: Ledger, B: Ledger, C: Ledger, D: Ledger>(
-    rt: &R,
-    shared: &Mutex<Locked<T, A, B, C, D>>,
-    calls: &mut Share<C>,
-    cx: &mut Context<'_>,
-) -> Option<Poll<io::Result<()>>>
-    requires { (0 < calls.old.amount) × (0 < calls.old.parts) }
-    ensures some { IfSome result (λ r. calls.new.amount ≡ calls.old.amount + 1) }
-    ensures none { IfNone result (calls.new.amount ≡ calls.old.amount) }
-    ensures parts { calls.new.parts ≡ calls.old.parts }
-    ensures fits { IfSome result (λ r. calls.new.amount ≤ 2 ^ 64) }
-    ensures kept { Keeps cx.old cx.new }
-{
-    shared.lock(rt).flush(calls, cx)
-}
-
-fn close_locked<R: Wait, T: Tale + AsyncWrite + Clone, A: Ledger, B: Ledger, C: Ledger, D: Ledger>(
-    rt: &R,
-    shared: &Mutex<Locked<T, A, B, C, D>>,
-    calls: &mut Share<C>,
-    cx: &mut Context<'_>,
-) -> Option<Poll<io::Result<()>>>
-    requires { (0 < calls.old.amount) × (0 < calls.old.parts) }
-    ensures some { IfSome result (λ r. calls.new.amount ≡ calls.old.amount + 1) }
-    ensures none { IfNone result (calls.new.amount ≡ calls.old.amount) }
-    ensures parts { calls.new.parts ≡ calls.old.parts }
-    ensures fits { IfSome result (λ r. calls.new.amount ≤ 2 ^ 64) }
-    ensures kept { Keeps cx.old cx.new }
-{
-    shared.lock(rt).close(calls, cx)
 }
 
 impl<R, T: Tale + Takings + Clone, A: Ledger, B: Ledger, C: Ledger, D: Ledger> Takings
