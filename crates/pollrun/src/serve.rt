@@ -155,7 +155,8 @@ where
     S: Stream + Drop,
     S::Item: Integer,
     requires { S.can_poll stream }
-    ensures { IfOk result (λ line. (out : List (Answer S.Item)) × (last : S) × S.run stream out last × (length out ≡ polls) × (string_bytes line ≡ spelled_list S.Item.text out ++ 10 ∷ [])) }
+    ensures { IfOk result (λ line. (out : List (Answer S.Item)) × (last : S) × S.run stream out last × (length out ≡ polls)
+        × (string_bytes line ≡ spelled_list S.Item.text out ++ 10 ∷ [])) }
 {
     let mut answers = Vec::new(alloc);
     run(&mut stream, cx, polls, &mut answers)?;

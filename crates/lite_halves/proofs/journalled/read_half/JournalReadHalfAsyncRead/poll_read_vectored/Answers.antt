@@ -5,7 +5,8 @@ use Rattle.lite_halves.proofs.journalled.read_half.JournalReadHalfAsyncRead.poll
 
 pub returns-in-Some-clause-bound : goal.returns-in-Some-clause-bound
 returns-in-Some-clause-bound g c =
-    within_at c.poll_read.result c.poll_read.new.buf c.args.bufs.now c.in-Some.i _ c.in-Some.ensures.some (c.poll_read.auto.buf ∙ ap length c.deref_mut.ensures) c.poll_read.ensures.bound
+    within_at c.poll_read.result c.poll_read.new.buf c.args.bufs.now c.in-Some.i _ c.in-Some.ensures.some
+    (c.poll_read.auto.buf ∙ ap length c.deref_mut.ensures) c.poll_read.ensures.bound
 
 pub returns-in-Some-clause-ran : goal.returns-in-Some-clause-ran
 returns-in-Some-clause-ran g c =
