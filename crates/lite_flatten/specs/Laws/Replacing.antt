@@ -1,6 +1,5 @@
 -- Where something stands in the place of each item: what goes out, Pendings aside, is the same from things that are alike.
 use Rattle.std.proofs.Common.{◌≡◌, List, [], ◌∷◌, ◌++◌, Option, Some, None, refl, ap, subst, sym}
-use Rattle.futures.specs.declared.task.Poll.{Poll}
 use Rattle.futures.specs.declared.task.Poll.TheVariants.{Ready, Pending}
 use Rattle.lite_base.specs.Alike.{OptionBy}
 use Rattle.lite_base.specs.Answers.{Answer, Comparable, ComparableBy, end, item, strip}
