@@ -11,8 +11,9 @@ use std::alloc::AllocError;
 /// Polls two streams that are alike, the first `polls` times and the second `more` times, and appends what each answers
 /// to a list of its own. Pendings aside, one of the two lists of answers begins the other, as long as memory was found.
 ///
-/// Where the last answer of a run is pending, the context holds what that stream leaves in it. On `Ok` exactly so many answers were appended. `AllocError` says that there was no room for one more: fewer were
-/// appended, and each stream can be polled on from where it stands. The original has no such call.
+/// Where the last answer of a run is pending, the context holds what that stream leaves in it. On `Ok` exactly so many
+/// answers were appended. `AllocError` says that there was no room for one more: fewer were appended, and each stream can
+/// be polled on from where it stands. The original has no such call.
 pub fn run_both<S: SteadyStream>(
     x: &mut S,
     y: &mut S,

@@ -1,5 +1,6 @@
 //! The words of the program, read.
-ghost use Rattle.std.specs.Prelude.{◌≡◌, ◌≢◌, ◌==◌, ◌≤◌, ◌<◌, ◌++◌, ◌∷◌, [], All, List, length, ℕ, ℤ, map, take, decimal, string_bytes, IfOk, IfErr, IsOkUnless, MatchOption, MatchResult};
+ghost use Rattle.std.specs.Prelude.{◌≡◌, ◌≢◌, ◌==◌, ◌≤◌, ◌<◌, ◌++◌, ◌∷◌, [], All, List, length, ℕ, ℤ, map, take};
+ghost use Rattle.std.specs.Prelude.{decimal, string_bytes, IfOk, IfErr, IsOkUnless, MatchOption, MatchResult};
 ghost use Rattle.std.specs.Fmt.{signed_decimal};
 ghost use Rattle.std.specs.List.{slice_split};
 ghost use Rattle.lite_base.specs.Answers.{Answer};
