@@ -1,5 +1,5 @@
 -- Streams and futures that are never pending.
-use Rattle.std.specs.Prelude.{⊤, List, [], ◌∷◌}
+use Rattle.std.specs.Prelude.{⊤, ℕ, ◌+◌, List, [], ◌∷◌}
 use denote.MutBor.{MutBor}
 use Rattle.futures.specs.declared.task.Poll.{Poll}
 use Rattle.futures.specs.declared.task.Poll.TheVariants.{Ready, Pending}
@@ -10,6 +10,12 @@ abbrev pub Prompt : {A : Type 0} → List (Poll A) → Type 0
 Prompt [] = ⊤
 Prompt (Pending ∷ l) = ⊥
 Prompt (Ready x ∷ l) = Prompt l
+
+-- how many answers are Pending
+abbrev pub waits : {A : Type 0} → List (Poll A) → ℕ
+waits [] = 0
+waits (Pending ∷ l) = waits l + 1
+waits (Ready x ∷ l) = waits l
 
 -- no run of a calm value has a Pending, and each leaves a calm value
 pub record CalmLaws {S A : Type 0} (run : S → List (Poll A) → S → Type 0) (is_calm : S → Type 0) : Type 0 where

@@ -1,10 +1,10 @@
 -- Adapters that hold something, or have a second stream, over what is never pending.
-use Rattle.std.specs.Prelude.{⊤, IfSome}
-use Rattle.std.proofs.Common.{◌≡◌, ◌⊎◌, List, [], ◌∷◌, ◌++◌, Option, Some, None, inl, inr, refl, ap, subst, sym}
+use Rattle.std.specs.Prelude.{IfSome}
+use Rattle.std.proofs.Common.{◌≡◌, ◌≤◌, ◌+◌, arith, ◌⊎◌, List, [], ◌∷◌, ◌++◌, Option, Some, None, inl, inr, refl, ap, subst, sym}
 use Rattle.futures.specs.declared.task.Poll.TheVariants.{Ready, Pending}
 use Rattle.lite_base.specs.Answers.{Answer, end, item}
-use Rattle.lite_base.specs.Calm.{CalmLaws, Prompt}
-use Rattle.lite_base.specs.Laws.Calm.{prompt_front, prompt_join}
+use Rattle.lite_base.specs.Calm.{CalmLaws, Prompt, waits}
+use Rattle.lite_base.specs.Laws.Calm.{none_prompt, prompt_front, prompt_join, prompt_none, waits_join}
 use Rattle.lite_flatten.specs.Chain.{Chains, Joins, is_done, second_after}
 use Rattle.lite_flatten.specs.Flatten.{EachInner, Flat, Flattening, HeldOn as InnerHeld, Replaced as InnerReplaced}
 use Rattle.lite_flatten.specs.Laws.Flatten.{each_inner_on}
@@ -16,22 +16,27 @@ use Rattle.lite_stream.specs.Laws.Cutting.{cuts_calming}
 use Rattle.lite_stream.specs.Through.{Adapts, Parts}
 
 module _ {A : Type 0} where
-  joins_prompt : (f g : Part) (i j l : List (Answer A)) → Joins f i j l g → Prompt i → Prompt j → Prompt l
-  joins_prompt First g [] j l r c d = subst Prompt (sym r.1) tt
-  joins_prompt First g (Pending ∷ i) j l r c d = absurd c
-  joins_prompt First g (Ready None ∷ i) j [] r c d = absurd r
-  joins_prompt First g (Ready (Some x) ∷ i) j [] r c d = absurd r
-  joins_prompt First g (Ready None ∷ i) j (b ∷ l) r c d = cuts_calming is_done second_after Second g j (b ∷ l) r.1 d
-  joins_prompt First g (Ready (Some x) ∷ i) j (b ∷ l) r c d = rw r.0 (joins_prompt First g i j l r.1 c d)
-  joins_prompt Second g i j l r c d = cuts_calming is_done second_after Second g j l r.1 d
-  joins_prompt Done g i j l r c d = cuts_calming is_done second_after Done g j l r.1 d
+  joins_waits : (f g : Part) (i j l : List (Answer A)) → Joins f i j l g → waits l ≤ waits i + waits j
+  joins_waits First g [] j l r = rw r.1 (omega arith)
+  joins_waits First g (Pending ∷ i) j [] r = absurd r
+  joins_waits First g (Ready None ∷ i) j [] r = absurd r
+  joins_waits First g (Ready (Some x) ∷ i) j [] r = absurd r
+  joins_waits First g (Pending ∷ i) j (b ∷ l) r = let e = joins_waits First g i j l r.1 in rw r.0 (omega (arith, e))
+  joins_waits First g (Ready None ∷ i) j (b ∷ l) r = let e = cuts_calming is_done second_after Second g j (b ∷ l) r.1 in omega (arith, e)
+  joins_waits First g (Ready (Some x) ∷ i) j (b ∷ l) r = rw r.0 (joins_waits First g i j l r.1)
+  joins_waits Second g i j l r = let e = cuts_calming is_done second_after Second g j l r.1 in omega (arith, e)
+  joins_waits Done g i j l r = let e = cuts_calming is_done second_after Done g j l r.1 in omega (arith, e)
 
 module _ {S U A : Type 0} {run : S → List (Answer A) → S → Type 0} {run' : U → List (Answer A) → U → Type 0} where
   -- where both are calm, the one that is not asked yet too
   pub chain_calm : {is_calm : S → Type 0} {is_calm' : U → Type 0} → CalmLaws run is_calm → CalmLaws run' is_calm' → CalmLaws (Chains run run') (λ x. is_calm x.first × is_calm' x.second)
   chain_calm s u =
       record {
-        prompt = λ x y l k h. joins_prompt x.part y.part h.firsts h.seconds l h.joined (s.prompt x.first y.first h.firsts k.0 h.came) (u.prompt x.second y.second h.seconds k.1 h.then_came);
+        prompt = λ x y l k h.
+            let fewer = joins_waits x.part y.part h.firsts h.seconds l h.joined in
+            let first = prompt_none h.firsts (s.prompt x.first y.first h.firsts k.0 h.came) in
+            let second = prompt_none h.seconds (u.prompt x.second y.second h.seconds k.1 h.then_came) in
+            none_prompt l (omega (arith, fewer, first, second));
         calm_on = λ x y l k h. (s.calm_on x.first y.first h.firsts k.0 h.came, u.calm_on x.second y.second h.seconds k.1 h.then_came);
       }
 
@@ -76,13 +81,28 @@ module _ {F A V B : Type 0} (call : F → A → V → F → Type 0) (gives : V �
     lingering_calm (p, None) (q, last) i o k c d = lingers_calm p q last i o k.1 c d
     lingering_calm (p, Some v) (q, last) i o k c d = place_calm p q v last i o k.0 k.1 (λ rest r. lingers_calm p q last i rest k.1 r d) c
 
-  held_any : (f : Option V) → IfSome f (λ _. ⊤)
-  held_any None = tt
-  held_any (Some v) = tt
-
   -- where no list of what is made of an item has a Pending
-  pub lingering_calming : ((v : V) (l : List (Answer B)) (next : Option V) → gives v l next → Prompt l) → Calming (Lingering call gives)
-  lingering_calming prompt s t i o c d = (lingering_calm {calm = λ _. ⊤} {calm_made = λ _. ⊤} (λ f x v g k h. (tt, tt)) (λ v l next k h. (prompt v l next h, held_any next)) s t i o (held_any s.1, tt) c d).0
+  module _ (prompt : (v : V) (l : List (Answer B)) (next : Option V) → gives v l next → Prompt l) where
+    place_waits : (p q : F) (v : V) (last : Option V) (i : List (Answer A)) (o : List (Answer B)) → ((rest : List (Answer B)) → Lingers call gives p i rest q last → waits rest ≤ waits i)
+        → HeldOn call gives p v i o q last ⊎ Replaced call gives v (Lingers call gives p i) o q last → waits o ≤ waits i
+    place_waits p q v last i o rest (inl c) = let none = prompt_none o (prompt v o (Some c.2) c.3) in omega (arith, none)
+    place_waits p q v last i o rest (inr c) =
+        let none = prompt_none c.0 (prompt v c.0 None c.3) in
+        let join = waits_join c.0 c.1 in
+        let fewer = rest c.1 c.4 in
+        rw c.2 (omega (arith, none, join, fewer))
+
+    lingers_waits : (p q : F) (last : Option V) (i : List (Answer A)) (o : List (Answer B)) → Lingers call gives p i o q last → waits o ≤ waits i
+    lingers_waits p q last [] [] c = omega arith
+    lingers_waits p q last [] (b ∷ o) c = absurd c
+    lingers_waits p q last (a ∷ i) [] c = absurd c
+    lingers_waits p q last (Pending ∷ i) (b ∷ o) c = let e = lingers_waits p q last i o c.1 in rw c.0 (omega (arith, e))
+    lingers_waits p q last (Ready None ∷ i) (b ∷ o) c = rw c.0 (lingers_waits p q last i o c.1)
+    lingers_waits p q last (Ready (Some x) ∷ i) (b ∷ o) c = place_waits c.1 q c.0 last i (b ∷ o) (λ rest k. lingers_waits c.1 q last i rest k) c.3
+
+    pub lingering_calming : Calming (Lingering call gives)
+    lingering_calming (p, None) t i o c = lingers_waits p t.0 t.1 i o c
+    lingering_calming (p, Some v) t i o c = place_waits p t.0 v t.1 i o (λ rest k. lingers_waits p t.0 t.1 i rest k) c
 
 module _ {B A : Type 0} {run : B → List (Answer A) → B → Type 0} {calm : B → Type 0} (c : CalmLaws run calm) where
   inner_prompt : (b : B) (i : List (Answer B)) (l : List (Answer A)) (last : Option B) → calm b → ((m : List (Answer A)) → Flat run i m last → Prompt m) → InnerHeld run b i l last ⊎ InnerReplaced run b (Flat run i) l last → Prompt l

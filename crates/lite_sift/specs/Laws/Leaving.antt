@@ -4,8 +4,8 @@ use Rattle.std.specs.List.{FoldsTo}
 use Rattle.std.proofs.lemmas.List.{map-append}
 use Rattle.futures.specs.declared.task.Poll.TheVariants.{Ready, Pending}
 use Rattle.lite_base.specs.Answers.{Answer, before_end, end, item, items}
-use Rattle.lite_base.specs.Calm.{Prompt}
-use Rattle.lite_base.specs.Laws.Calm.{prompt_back}
+use Rattle.lite_base.specs.Calm.{waits}
+use Rattle.lite_base.specs.Laws.Calm.{waits_join}
 use Rattle.lite_base.specs.Rank.{Below, Lowers}
 use Rattle.lite_base.specs.Falling.{Lowers-below}
 use Rattle.lite_sift.specs.Leaving.{Leaves, Passes, Segment}
@@ -81,16 +81,34 @@ module _ {F A B : Type 0} (call : F → A → Option B → F → Type 0) where
   pub leaves_turning : Turning (Leaves call)
   leaves_turning = record { following = record { starts = λ f. (refl, refl); empty = λ f g i c. c; joins = leaves_follow }; bounds = leaves_bounded; lowers = leaves_lowers; from_items = leaves_items }
 
-  -- from the last answer of a segment on nothing is pending
-  rest_prompt : (p q : F) (i rest : List (Answer A)) (a : Answer A) (b : Answer B) (s : Segment call p i b rest q) → s.last ≡ a → Prompt i → Prompt (a ∷ rest)
-  rest_prompt p q i rest a b s e c = prompt_back (items s.rejected) (a ∷ rest) (subst Prompt (cut_at s.rejected s.last a rest s.cut e) c)
+  -- the rejected items have none
+  waits_items : (r : List A) → waits (items r) ≡ 0
+  waits_items [] = refl
+  waits_items (x ∷ r) = waits_items r
+
+  -- of a segment and what follows only its last answer may be pending before what follows
+  rest_waits : (p q : F) (i rest : List (Answer A)) (a : Answer A) (b : Answer B) (s : Segment call p i b rest q) → s.last ≡ a → waits i ≡ waits (a ∷ rest)
+  rest_waits p q i rest a b s e =
+      let cut = ap waits (cut_at s.rejected s.last a rest s.cut e) in
+      let join = waits_join (items s.rejected) (a ∷ rest) in
+      let none = waits_items s.rejected in
+      omega (arith, cut, join, none)
 
   -- no Pending is made up
   pub leaves_calming : Calming (Leaves call)
-  leaves_calming f g i [] r c = tt
-  leaves_calming f g i (Pending ∷ o) r c = rest_prompt f r.1 i r.0 Pending Pending r.2 r.2.passes.0 c
-  leaves_calming f g i (Ready None ∷ o) r c = leaves_calming r.1 g r.0 o r.3 (rest_prompt f r.1 i r.0 end end r.2 r.2.passes.0 c)
-  leaves_calming f g i (Ready (Some y) ∷ o) r c = leaves_calming r.1 g r.0 o r.3 (rest_prompt f r.1 i r.0 (item r.2.passes.0) (item y) r.2 r.2.passes.1 c)
+  leaves_calming f g i [] r = omega arith
+  leaves_calming f g i (Pending ∷ o) r =
+      let whole = rest_waits f r.1 i r.0 Pending Pending r.2 r.2.passes.0 in
+      let fewer = leaves_calming r.1 g r.0 o r.3 in
+      omega (arith, whole, fewer)
+  leaves_calming f g i (Ready None ∷ o) r =
+      let whole = rest_waits f r.1 i r.0 end end r.2 r.2.passes.0 in
+      let fewer = leaves_calming r.1 g r.0 o r.3 in
+      omega (arith, whole, fewer)
+  leaves_calming f g i (Ready (Some y) ∷ o) r =
+      let whole = rest_waits f r.1 i r.0 (item r.2.passes.0) (item y) r.2 r.2.passes.1 in
+      let fewer = leaves_calming r.1 g r.0 o r.3 in
+      omega (arith, whole, fewer)
 
 -- where one question may be asked in place of another, of what goes with what is asked
 module _ {F G A B : Type 0} (call : F → A → Option B → F → Type 0) (other : G → A → Option B → G → Type 0) (Goes : F → G → Type 0)

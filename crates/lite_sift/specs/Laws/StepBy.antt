@@ -157,5 +157,5 @@ module _ {A : Type 0} where
 
   -- no Pending is made up
   pub steps_calming : Calming (StepsOn {A = A})
-  steps_calming p q i [] h c = tt
-  steps_calming p q i (b ∷ o) h c = leaves_calming (Numbered p.0) h.1 h.2 i (b ∷ o) h.5 c
+  steps_calming p q i [] h = omega arith
+  steps_calming p q i (b ∷ o) h = leaves_calming (Numbered p.0) h.1 h.2 i (b ∷ o) h.5
