@@ -1,5 +1,5 @@
 -- Two runs of streams that are alike, and two of futures.
-use Rattle.std.specs.Prelude.{◌≡◌, List}
+use Rattle.std.specs.Prelude.{◌≡◌, ◌⊎◌, ◌<◌, ℕ, List, [], length}
 use Rattle.futures.specs.declared.task.Poll.{Poll}
 use Rattle.lite_base.specs.Answers.{Answer, Comparable, strip}
 use Rattle.lite_base.specs.Future.Finishes.{Finishes}
@@ -19,3 +19,7 @@ pub record OneValue {F A : Type 0} (run ample : F → List (Poll A) → F → Ty
   pub second : Finishes run y others w
   pub found : Finishes ample x ins v → Finishes ample y others w → v ≡ w
   pub always : needs_none → v ≡ w
+
+-- fewer answers than were asked for: the first list is short and the second empty, or the second alone is short
+abbrev pub Fewer : {A : Type 0} → List A → List A → ℕ → ℕ → Type 0
+Fewer l m polls more = ((length l < polls) × (m ≡ [])) ⊎ ((length l ≡ polls) × (length m < more))

@@ -1,7 +1,7 @@
-ghost use Rattle.std.specs.Prelude.{◌≡◌, ◌++◌, List, length, IfOk};
+ghost use Rattle.std.specs.Prelude.{◌≡◌, ◌++◌, List, length, IfOk, IfErr};
 ghost use Rattle.futures.specs.Task.{Keeps};
 ghost use Rattle.lite_base.specs.Answers.{Answer};
-ghost use Rattle.lite_laws.specs.Both.{Agreed};
+ghost use Rattle.lite_laws.specs.Both.{Agreed, Fewer};
 ghost use Rattle.lite_laws.specs.Waits.{HoldsEach, IfWaits};
 
 use crate::polls::run;
@@ -12,8 +12,9 @@ use std::alloc::AllocError;
 /// to a list of its own. Pendings aside, one of the two lists of answers begins the other, as long as memory was found.
 ///
 /// Where the last answer of a run is pending, the context holds what that stream leaves in it. On `Ok` exactly so many
-/// answers were appended. `AllocError` says that there was no room for one more: fewer were appended, and each stream can
-/// be polled on from where it stands. The original has no such call.
+/// answers were appended. `AllocError` says that there was no room for one more: of the first stream fewer were appended,
+/// and the second was not polled, or of the second alone fewer were. Each can be polled on from where it stands. The
+/// original has no such call.
 pub fn run_both<S: SteadyStream>(
     x: &mut S,
     y: &mut S,
@@ -28,7 +29,8 @@ pub fn run_both<S: SteadyStream>(
     requires alike { S.alike x.old y.old }
     ensures agree { (l m : List (Answer S.Item)) × (out.new.items ≡ out.old.items ++ l) × (out_more.new.items ≡ out_more.old.items ++ m)
         × Agreed S.run S.ample S.needs_none x.old l x.new y.old m y.new × IfOk result (λ _. (length l ≡ polls) × (length m ≡ more))
-        × IfWaits l (HoldsEach (S.leaves x.new) cx.new) × IfWaits m (HoldsEach (S.leaves y.new) cx.new) }
+        × IfWaits l (HoldsEach (S.leaves x.new) cx.new) × IfWaits m (HoldsEach (S.leaves y.new) cx.new)
+        × IfErr result (λ _. Fewer l m polls more) }
     ensures again { S.can_poll x.new × S.can_poll y.new }
     ensures kept { Keeps cx.old cx.new }
 {
