@@ -1,0 +1,31 @@
+//! Clones of what two sources of references give.
+ghost use Rattle.std.specs.Prelude.{◌≡◌, ◌++◌, List, length, IfOk};
+ghost use Rattle.lite_base.specs.Answers.{Answer, Comparable, strip};
+ghost use Rattle.lite_base.specs.Steady.{TakesNone};
+ghost use Rattle.lite_bench_pendings.specs.NoneRefused.{NoneRefused};
+
+use lite_base::{Context, Poll, SteadyStream, Stream};
+use lite_flatten::Cloned;
+use lite_laws::run_both;
+use std::alloc::AllocError;
+
+/// Clones of the items of two streams that are alike and take no memory. Where no clone was refused, they are the same.
+/// On `Ok` so many answers were appended; `Err` where memory for an answer is refused: then fewer were.
+pub fn clones_agree<'a, T: Clone + 'a, S: SteadyStream<Item = &'a T>>(
+    x: &mut Cloned<S>,
+    y: &mut Cloned<S>,
+    cx: &mut Context<'_>,
+    polls: usize,
+    more: usize,
+    out: &mut Vec<Poll<Option<Result<T, AllocError>>>>,
+    out_more: &mut Vec<Poll<Option<Result<T, AllocError>>>>,
+) -> Result<(), AllocError>
+    requires first { ⟦<Cloned<S> as Stream>⟧.can_poll x.old }
+    requires second { ⟦<Cloned<S> as Stream>⟧.can_poll y.old }
+    requires alike { ⟦<Cloned<S> as SteadyStream>⟧.alike x.old y.old }
+    requires found { TakesNone S.run S.ample }
+    ensures { (l m : List (Answer _)) × (out.new.items ≡ out.old.items ++ l) × (out_more.new.items ≡ out_more.old.items ++ m)
+        × (NoneRefused l → NoneRefused m → Comparable (strip l) (strip m)) × IfOk result (λ _. (length l ≡ polls) × (length m ≡ more)) }
+{
+    run_both(x, y, cx, polls, more, out, out_more)
+}

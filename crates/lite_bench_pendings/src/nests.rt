@@ -1,0 +1,44 @@
+//! A nest over any two steady sources that are alike.
+ghost use Rattle.std.specs.Prelude.{◌≡◌, ◌++◌, List, length, IfOk};
+ghost use Rattle.std.specs.Fn.{CalledAt};
+ghost use Rattle.lite_base.specs.Answers.{Answer, Comparable, strip};
+ghost use Rattle.lite_base.specs.Calling.{Agree, Calls};
+ghost use Rattle.lite_laws.specs.Waits.{HoldsEach, IfWaits};
+
+use lite_base::{Context, Counted, Poll, SteadyStream, Stream};
+use lite_laws::run_both;
+use lite_sift::Filter;
+use lite_stream::{Map, Take};
+use std::alloc::AllocError;
+
+/// A nest over two streams that are alike and take no memory, by closures that agree. The answers are the same, pendings
+/// aside, as far as both go. Where a run's last answer is pending, the context holds what the nest's source leaves in it.
+/// On `Ok` so many answers were appended; `Err` where memory for an answer is refused: then fewer were.
+pub fn nests_agree<S, U, F, P>(
+    x: &mut Take<Filter<Map<S, F>, P>>,
+    y: &mut Take<Filter<Map<S, F>, P>>,
+    cx: &mut Context<'_>,
+    polls: usize,
+    more: usize,
+    out: &mut Vec<Poll<Option<U>>>,
+    out_more: &mut Vec<Poll<Option<U>>>,
+) -> Result<(), AllocError>
+where
+    S: Counted + SteadyStream,
+    U: Drop,
+    F: FnMut(S::Item) -> U,
+    P: FnMut(&U) -> bool,
+    requires first { ⟦<Take<Filter<Map<S, F>, P>> as Stream>⟧.can_poll x.old }
+    requires second { ⟦<Take<Filter<Map<S, F>, P>> as Stream>⟧.can_poll y.old }
+    requires alike { S.alike x.old.stream.stream.stream y.old.stream.stream.stream }
+    requires calls { Agree (Calls F.FnMut) x.old.stream.stream.f y.old.stream.stream.f }
+    requires tests { Agree (CalledAt P.FnMut) x.old.stream.predicate y.old.stream.predicate }
+    requires counts { y.old.n ≡ x.old.n }
+    requires found { S.needs_none }
+    ensures { (l m : List (Answer _)) × (out.new.items ≡ out.old.items ++ l) × (out_more.new.items ≡ out_more.old.items ++ m)
+        × Comparable (strip l) (strip m) × IfOk result (λ _. (length l ≡ polls) × (length m ≡ more))
+        × IfWaits l (HoldsEach (S.leaves x.new.stream.stream.stream) cx.new)
+        × IfWaits m (HoldsEach (S.leaves y.new.stream.stream.stream) cx.new) }
+{
+    run_both(x, y, cx, polls, more, out, out_more)
+}

@@ -1,0 +1,120 @@
+//! Each type that carries a mark is asked for it by the bound alone.
+use lite_base::future::make as future;
+use lite_base::{CalmFuture, CalmStream, Context, Poll, SteadyFuture, SteadyStream};
+use lite_flatten::make as flatten;
+use lite_sift::make as sift;
+use lite_source::make as source;
+use lite_stream::make as stream;
+use std::test::Fail;
+
+fn steady<S: SteadyStream>(stream: &S) {
+    stream.is_steady();
+}
+
+fn calm<S: CalmStream>(stream: &S) {
+    stream.is_calm_stream();
+}
+
+/// Asks for both marks of a stream.
+fn both<S: SteadyStream + CalmStream>(stream: &S) {
+    steady(stream);
+    calm(stream);
+}
+
+fn steady_future<F: SteadyFuture>(future: &F) {
+    future.is_steady_future();
+}
+
+fn calm_future<F: CalmFuture>(future: &F) {
+    future.is_calm_future();
+}
+
+/// Asks for both marks of a future.
+fn both_future<F: SteadyFuture + CalmFuture>(future: &F) {
+    steady_future(future);
+    calm_future(future);
+}
+
+#[test]
+fn futures_are_steady_and_calm(_rt: HostRuntime) -> Result<(), Fail> {
+    let answer = |_cx: &mut Context<'_>| Poll::Ready(1u8);
+    steady_future(&future::fuse(future::ready(1u8)));
+    steady_future(&future::pending::<u8>());
+    both_future(&future::poll_fn(answer));
+    both_future(&future::ready(1u8));
+    both_future(&future::yield_now());
+    both_future(&future::zip(future::ready(1u8), future::ready('a')));
+    calm_future(&future::or(future::ready(1u8), future::ready(2)));
+    calm_future(&future::poll_once(future::pending::<u8>()));
+    calm_future(&future::race_with_seed(future::ready(1u8), future::ready(2), 7));
+    let good: Result<u8, char> = Ok(1);
+    let bad: Result<u16, char> = Err('a');
+    calm_future(&future::try_zip(future::ready(good), future::ready(bad)));
+    Ok(())
+}
+
+#[test]
+fn what_is_lent_is_steady_and_calm(_rt: HostRuntime) -> Result<(), Fail> {
+    let mut once = source::once(1u8);
+    both(&&mut once);
+    let mut ready = future::ready(1u8);
+    both_future(&&mut ready);
+    Ok(())
+}
+
+#[test]
+fn sources_are_steady_and_calm(rt: HostRuntime) -> Result<(), Fail> {
+    let answer = |_cx: &mut Context<'_>| Poll::Ready(Some(1u8));
+    steady(&source::pending::<u8>());
+    both(&source::empty::<u8>());
+    both(&source::iter(vec![in rt.alloc(); 1u8, 2]?));
+    both(&source::once(1u8));
+    both(&source::once_future(future::ready(1u8)));
+    both(&source::poll_fn(answer));
+    both(&source::repeat(1u8));
+    both(&source::repeat_with(|| 1u8));
+    both(&source::script(vec![in rt.alloc(); Poll::Ready(Some(1u8))]?));
+    both(&source::unfold(1u8, |x: u8| future::ready(Some(('a', x)))));
+    let next = |x: u8| {
+        let answer: Result<Option<(char, u8)>, u16> = Ok(Some(('a', x)));
+        future::ready(answer)
+    };
+    both(&source::try_unfold(1u8, next));
+    Ok(())
+}
+
+#[test]
+fn adapters_are_steady_and_calm(_rt: HostRuntime) -> Result<(), Fail> {
+    let one = 1u8;
+    both(&stream::copied(source::once(&one)));
+    both(&stream::enumerate(source::once(1u8)));
+    both(&stream::fuse(source::once(1u8)));
+    both(&stream::inspect(source::once(1u8), |_x: &u8| ()));
+    both(&stream::map(source::once(1u8), |x: u8| x == 1));
+    both(&stream::map_while(source::once(1u8), |x: u8| Some(x)));
+    both(&stream::scan(source::once(1u8), 'a', |_c: &mut char, x: u8| Some(x)));
+    both(&stream::take(source::once(1u8), 1));
+    both(&stream::take_while(source::once(1u8), |x: &u8| *x == 1));
+    Ok(())
+}
+
+#[test]
+fn adapters_that_leave_items_out_are_steady_and_calm(_rt: HostRuntime) -> Result<(), Fail> {
+    both(&sift::filter(source::once(1u8), |x: &u8| *x == 1));
+    both(&sift::filter_map(source::once(1u8), |x: u8| Some(x)));
+    both(&sift::skip(source::once(1u8), 1));
+    both(&sift::skip_while(source::once(1u8), |x: &u8| *x == 1));
+    both(&sift::step_by(source::once(1u8), 2));
+    Ok(())
+}
+
+#[test]
+fn adapters_of_several_streams_are_steady_and_calm(_rt: HostRuntime) -> Result<(), Fail> {
+    let one = 1u8;
+    both(&flatten::chain(source::once(1u8), source::empty()));
+    both(&flatten::cloned(source::once(&one)));
+    both(&flatten::flat_map(source::once(1u8), |x: u8| source::once(x)));
+    both(&flatten::flatten(source::once(source::once(1u8))));
+    both(&flatten::then(source::once(1u8), |x: u8| future::ready(x)));
+    Ok(())
+}
