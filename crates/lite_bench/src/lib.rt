@@ -2,7 +2,6 @@
 //! what was meant, at values worked out by hand, and that calls succeed where memory is ample.
 #![tactic(auto)]
 
-pub mod agree;
 pub mod nest;
 #[cfg(test)]
 mod tests;

@@ -1,4 +1,3 @@
-use crate::agree::{mixed_agree, none_waits};
 use crate::nest::{evens, hundredths, poll_nest};
 use crate::try_count::{TryCount, poll_count};
 use futures::task::{Doorbell, Solo};
@@ -134,74 +133,6 @@ fn a_nest_whose_closure_asks_something_of_its_items(rt: HostRuntime) -> Result<(
     ran?;
     let expected = [item(2), Poll::Pending, item(14), Poll::Ready(None)];
     assert_eq!(rt; out.as_slice(), expected.as_slice());
-    Ok(())
-}
-
-#[test]
-fn a_nest_answers_the_same_with_a_pending_before_each_answer(rt: HostRuntime) -> Result<(), Fail> {
-    let plain = vec![in rt.alloc(); item(1u8), item(6), item(3), item(8)]?;
-    let late = vec![in rt.alloc();
-        Poll::Pending,
-        item(1u8),
-        Poll::Pending,
-        item(6),
-        Poll::Pending,
-        item(3),
-        Poll::Pending,
-        item(8),
-    ]?;
-    let (mut got, mut got_late) = (Vec::new(rt.alloc()), Vec::new(rt.alloc()));
-    let solo = Solo::new(&rt, Doorbell::spinning())?;
-    let mut cx = solo.begin();
-    let ran = mixed_agree(
-        stream::script(plain),
-        stream::script(late),
-        &mut cx,
-        7,
-        &mut got,
-        &mut got_late,
-    );
-    cx.cancel();
-    ran?;
-    let expected = [
-        item(0),
-        item(7),
-        item(2),
-        Poll::Ready(None),
-        Poll::Ready(None),
-        Poll::Ready(None),
-        Poll::Ready(None),
-    ];
-    assert_eq!(rt; got.as_slice(), expected.as_slice());
-    let expected = [
-        Poll::Pending,
-        item(0),
-        Poll::Pending,
-        item(7),
-        Poll::Pending,
-        item(2),
-        Poll::Ready(None),
-    ];
-    assert_eq!(rt; got_late.as_slice(), expected.as_slice());
-    Ok(())
-}
-
-#[test]
-fn a_nest_over_a_script_without_a_pending_never_waits(rt: HostRuntime) -> Result<(), Fail> {
-    let plain = vec![in rt.alloc(); item(1u8), item(100), item(3)]?;
-    let mut got = Vec::new(rt.alloc());
-    let solo = Solo::new(&rt, Doorbell::spinning())?;
-    let mut cx = solo.begin();
-    let ran = none_waits(stream::script(plain), &mut cx, 4, &mut got);
-    cx.cancel();
-    ran?;
-    let expected = [
-        item(0),
-        Poll::Ready(None),
-        Poll::Ready(None),
-        Poll::Ready(None),
-    ];
-    assert_eq!(rt; got.as_slice(), expected.as_slice());
     Ok(())
 }
 
