@@ -1,8 +1,9 @@
 //! Nests over two scripts that differ only in where they are pending. The answers of the two runs are the same, pendings
 //! aside, as far as both go. `Err` where memory for an answer is refused: then fewer were appended.
-ghost use Rattle.std.specs.Prelude.{◌≡◌, ◌++◌, List, length, IfOk};
+ghost use Rattle.std.specs.Prelude.{◌≡◌, ◌<◌, ◌++◌, List, length, IfOk, IfErr};
 ghost use Rattle.lite_base.specs.Answers.{Answer, Comparable, strip};
 ghost use Rattle.lite_base.specs.Calm.{Prompt};
+ghost use Rattle.lite_laws.specs.Both.{Fewer};
 
 use lite_base::future::make::{ready, yield_now, zip};
 use lite_base::{Context, Poll};
@@ -26,7 +27,8 @@ pub fn evens_agree(
 ) -> Result<(), AllocError>
     requires { strip one ≡ strip other }
     ensures { (l m : List (Answer _)) × (out.new.items ≡ out.old.items ++ l) × (out_more.new.items ≡ out_more.old.items ++ m)
-        × Comparable (strip l) (strip m) × IfOk result (λ _. (length l ≡ polls) × (length m ≡ more)) }
+        × Comparable (strip l) (strip m) × IfOk result (λ _. (length l ≡ polls) × (length m ≡ more))
+        × IfErr result (λ _. Fewer l m polls more) }
 {
     let mix = |x: u8| x ^ 1;
     let is_even = |x: &u8| *x % 2 == 0;
@@ -48,7 +50,8 @@ pub fn waits_agree(
 ) -> Result<(), AllocError>
     requires { strip one ≡ strip other }
     ensures { (l m : List (Answer _)) × (out.new.items ≡ out.old.items ++ l) × (out_more.new.items ≡ out_more.old.items ++ m)
-        × Comparable (strip l) (strip m) × IfOk result (λ _. (length l ≡ polls) × (length m ≡ more)) }
+        × Comparable (strip l) (strip m) × IfOk result (λ _. (length l ≡ polls) × (length m ≡ more))
+        × IfErr result (λ _. Fewer l m polls more) }
 {
     let wait = |x: u8| zip(yield_now(), ready(x));
     let mut x = then(one, wait);
@@ -68,7 +71,8 @@ pub fn lists_agree(
 ) -> Result<(), AllocError>
     requires { strip one ≡ strip other }
     ensures { (l m : List (Answer _)) × (out.new.items ≡ out.old.items ++ l) × (out_more.new.items ≡ out_more.old.items ++ m)
-        × Comparable (strip l) (strip m) × IfOk result (λ _. (length l ≡ polls) × (length m ≡ more)) }
+        × Comparable (strip l) (strip m) × IfOk result (λ _. (length l ≡ polls) × (length m ≡ more))
+        × IfErr result (λ _. Fewer l m polls more) }
 {
     let both = |x: u8| chain(once(x), once(x ^ 1));
     let mut x = flat_map(one, both);
@@ -84,7 +88,8 @@ pub fn none_waits(
     out: &mut Vec<Poll<Option<u8>>>,
 ) -> Result<(), AllocError>
     requires { Prompt script }
-    ensures { (l : List (Answer _)) × (out.new.items ≡ out.old.items ++ l) × Prompt l × IfOk result (λ _. length l ≡ polls) }
+    ensures { (l : List (Answer _)) × (out.new.items ≡ out.old.items ++ l) × Prompt l
+        × IfOk result (λ _. length l ≡ polls) × IfErr result (λ _. length l < polls) }
 {
     let mixed = map(script, |x: u8| x ^ 1);
     let small = take_while(mixed, |x: &u8| *x < 100);

@@ -1,7 +1,8 @@
 //! Clones of what two sources of references give.
-ghost use Rattle.std.specs.Prelude.{◌≡◌, ◌++◌, List, length, IfOk};
+ghost use Rattle.std.specs.Prelude.{◌≡◌, ◌++◌, List, length, IfOk, IfErr};
 ghost use Rattle.lite_base.specs.Answers.{Answer, Comparable, strip};
 ghost use Rattle.lite_base.specs.Steady.{TakesNone};
+ghost use Rattle.lite_laws.specs.Both.{Fewer};
 ghost use Rattle.lite_bench_pendings.specs.NoneRefused.{NoneRefused};
 
 use lite_base::{Context, Poll, SteadyStream, Stream};
@@ -25,7 +26,8 @@ pub fn clones_agree<'a, T: Clone + 'a, S: SteadyStream<Item = &'a T>>(
     requires alike { ⟦<Cloned<S> as SteadyStream>⟧.alike x.old y.old }
     requires found { TakesNone S.run S.ample }
     ensures { (l m : List (Answer _)) × (out.new.items ≡ out.old.items ++ l) × (out_more.new.items ≡ out_more.old.items ++ m)
-        × (NoneRefused l → NoneRefused m → Comparable (strip l) (strip m)) × IfOk result (λ _. (length l ≡ polls) × (length m ≡ more)) }
+        × (NoneRefused l → NoneRefused m → Comparable (strip l) (strip m)) × IfOk result (λ _. (length l ≡ polls) × (length m ≡ more))
+        × IfErr result (λ _. Fewer l m polls more) }
 {
     run_both(x, y, cx, polls, more, out, out_more)
 }

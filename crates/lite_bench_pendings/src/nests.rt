@@ -1,8 +1,9 @@
 //! A nest over any two steady sources that are alike.
-ghost use Rattle.std.specs.Prelude.{◌≡◌, ◌++◌, List, length, IfOk};
+ghost use Rattle.std.specs.Prelude.{◌≡◌, ◌++◌, List, length, IfOk, IfErr};
 ghost use Rattle.std.specs.Fn.{CalledAt};
 ghost use Rattle.lite_base.specs.Answers.{Answer, Comparable, strip};
 ghost use Rattle.lite_base.specs.Calling.{Agree, Calls};
+ghost use Rattle.lite_laws.specs.Both.{Fewer};
 ghost use Rattle.lite_laws.specs.Waits.{HoldsEach, IfWaits};
 
 use lite_base::{Context, Counted, Poll, SteadyStream, Stream};
@@ -38,7 +39,7 @@ where
     ensures { (l m : List (Answer _)) × (out.new.items ≡ out.old.items ++ l) × (out_more.new.items ≡ out_more.old.items ++ m)
         × Comparable (strip l) (strip m) × IfOk result (λ _. (length l ≡ polls) × (length m ≡ more))
         × IfWaits l (HoldsEach (S.leaves x.new.stream.stream.stream) cx.new)
-        × IfWaits m (HoldsEach (S.leaves y.new.stream.stream.stream) cx.new) }
+        × IfWaits m (HoldsEach (S.leaves y.new.stream.stream.stream) cx.new) × IfErr result (λ _. Fewer l m polls more) }
 {
     run_both(x, y, cx, polls, more, out, out_more)
 }

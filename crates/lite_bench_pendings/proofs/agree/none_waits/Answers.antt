@@ -8,4 +8,4 @@ run_calm-requires-clause-calm c = (search rules, (search rules, answers_always _
 pub returns : goal.returns
 returns c =
     let ran = c.run_calm.ensures.prompt in
-    (ran.0, ran.1, ran.3, ran.4)
+    (ran.0, ran.1, ran.3, ran.4, ran.5)

@@ -16,4 +16,4 @@ run_both-requires-clause-alike c =
 pub returns : goal.returns
 returns c =
     let both = c.run_both.ensures.agree in
-    (both.0, both.1, both.2, both.3, both.4.always (tt, (tt, tt)), both.5)
+    (both.0, both.1, both.2, both.3, both.4.always (tt, (tt, tt)), both.5, both.8)
