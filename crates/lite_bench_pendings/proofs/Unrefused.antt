@@ -1,7 +1,7 @@
 -- Runs of clones without a refusal are those in which memory was found.
 use Rattle.std.specs.Prelude.{⊤, Result}
 use Rattle.std.specs.List.{AllByRecursion}
-use Rattle.std.proofs.Common.{◌≡◌, ◌⊎◌, List, [], ◌∷◌, ◌++◌, Option, Some, None, inl, inr, subst}
+use Rattle.std.proofs.Common.{◌⊎◌, List, [], ◌∷◌, ◌++◌, Option, Some, None, inl, inr, subst}
 use Rattle.futures.specs.declared.task.Poll.TheVariants.{Ready, Pending}
 use denote.Ref.{Bor}
 use Rattle.lite_base.specs.Answers.{Answer}
