@@ -1,1 +1,1 @@
-pub mod NoneRefused
+pub mod Paced

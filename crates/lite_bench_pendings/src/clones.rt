@@ -3,7 +3,7 @@ ghost use Rattle.std.specs.Prelude.{◌≡◌, ◌++◌, List, length, IfOk, IfE
 ghost use Rattle.lite_base.specs.Answers.{Answer, Comparable, strip};
 ghost use Rattle.lite_base.specs.Steady.{TakesNone};
 ghost use Rattle.lite_laws.specs.Both.{Fewer};
-ghost use Rattle.lite_bench_pendings.specs.NoneRefused.{NoneRefused};
+ghost use Rattle.lite_flatten.specs.Cloned.{NoneRefused};
 
 use lite_base::{Context, Poll, SteadyStream, Stream};
 use lite_flatten::Cloned;

@@ -5,6 +5,7 @@
 pub mod agree;
 pub mod clones;
 pub mod nests;
+pub mod paced;
 #[cfg(test)]
 mod tests;
 pub mod values;

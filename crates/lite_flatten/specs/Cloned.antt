@@ -31,6 +31,13 @@ module _ {T E : Type 0} (is_clone : T → T → Type 0) (is_infallible : T → T
 abbrev pub ClonesUnrefused : {T E S : Type 0} → (T → T → Type 0) → (S → List (Answer (Bor T)) → S → Type 0) → Cloned S (Bor T) → List (Answer (Result T E)) → Cloned S (Bor T) → Type 0
 ClonesUnrefused is_clone = ClonesAll is_clone (λ x. ⊤)
 
+-- no answer is a refusal
+abbrev pub NotRefused : {T E : Type 0} → Answer (Result T E) → Type 0
+NotRefused {E = E} a = (e : E) → a ≡ item (Err e) → ⊥
+
+abbrev pub NoneRefused : {T E : Type 0} → List (Answer (Result T E)) → Type 0
+NoneRefused = AllByRecursion NotRefused
+
 -- all clones of a thing are equal
 abbrev pub EqualClones : {T : Type 0} → (T → T → Type 0) → Type 0
 EqualClones {T} is_clone = (x y z : T) → is_clone x y → is_clone x z → y ≡ z

@@ -3,6 +3,7 @@ use super::scripts::{plain_and_late, ready_ones};
 use crate::agree::{evens_agree, lists_agree, none_waits, waits_agree};
 use crate::clones::clones_agree;
 use crate::nests::nests_agree;
+use crate::paced::{Paced, paces_agree};
 use crate::values::values_agree;
 use futures::task::{Doorbell, Solo};
 use lite_base::future::make::yield_now;
@@ -131,6 +132,29 @@ fn a_nest_over_any_source_agrees(rt: HostRuntime) -> Result<(), Fail> {
     ran?;
     let expected = [Some(0), Some(2), None];
     assert_eq!(rt; ready_ones(&rt, got)?.as_slice(), expected.as_slice());
+    assert_eq!(rt; ready_ones(&rt, got_late)?.as_slice(), expected.as_slice());
+    Ok(())
+}
+
+#[test]
+fn a_stream_of_a_callers_own_agrees(rt: HostRuntime) -> Result<(), Fail> {
+    let mut x = Paced {
+        item: 7,
+        waits: false,
+    };
+    let mut y = Paced {
+        item: 7,
+        waits: true,
+    };
+    let (mut got, mut got_late) = (Vec::new(rt.alloc()), Vec::new(rt.alloc()));
+    let solo = Solo::new(&rt, Doorbell::spinning())?;
+    let mut cx = solo.begin();
+    let ran = paces_agree(&mut x, &mut y, &mut cx, 3, 6, &mut got, &mut got_late);
+    cx.cancel();
+    ran?;
+    let expected = [item(7), Poll::Pending, item(7)];
+    assert_eq!(rt; got.as_slice(), expected.as_slice());
+    let expected = [Some(7), Some(7), Some(7)];
     assert_eq!(rt; ready_ones(&rt, got_late)?.as_slice(), expected.as_slice());
     Ok(())
 }

@@ -13,7 +13,7 @@ use Rattle.lite_base.specs.OkRanks.{OkCounting, all_ok, ok_counting_by}
 use Rattle.lite_base.specs.Ranks.{Counting, Ranks}
 use Rattle.lite_base.specs.Steady.{SteadyLaws, TakesNone}
 use Rattle.lite_base.specs.StreamLaws.{StreamLaws}
-use Rattle.lite_flatten.specs.Cloned.{Clones, ClonesAll, ClonesUnrefused, EqualClones, IsRefusal, Refers, Refuses, cloned_parts}
+use Rattle.lite_flatten.specs.Cloned.{Clones, ClonesAll, ClonesUnrefused, EqualClones, IsRefusal, NoneRefused, NotRefused, Refers, Refuses, cloned_parts}
 use Rattle.lite_flatten.specs.Laws.Calming.{lingering_calming}
 use Rattle.lite_flatten.specs.Laws.Lingering.{Giving, GivingOne, held_counting, held_ranks, lingering_following}
 use Rattle.lite_flatten.specs.Laws.SteadyLingering.{OneValue, all_any, all_split, lingering_agreeing, lingering_found_where}
@@ -153,15 +153,6 @@ module _ {T E : Type 0} (is_clone : T → T → Type 0) where
         let own = all_split may h.0 (item (Ok h.1) ∷ []) (subst (AllByRecursion may) h.4 all) in
         (h.0, h.1, refuses_found x h.0 own.0 h.2, h.3, h.4)
 
-abbrev NotErr : {T E : Type 0} → Answer (Result T E) → Type 0
-NotErr {E = E} a = (e : E) → a ≡ item (Err e) → ⊥
-
-none_err : {T : Type 0} (E : Type 0) (l : List (Answer T)) → AllByRecursion (NotErr {E = E}) (all_ok l)
-none_err E [] = tt
-none_err E (Pending ∷ l) = ((λ e d. cc), none_err E l)
-none_err E (Ready None ∷ l) = ((λ e d. cc), none_err E l)
-none_err E (Ready (Some x) ∷ l) = ((λ e d. cc), none_err E l)
-
 module _ {T E : Type 0} (is_clone : T → T → Type 0) (is_infallible : T → Type 0) {S : Type 0} {run ample : S → List (Answer (Bor T)) → S → Type 0} where
   found_where : (may : Answer (Result T E) → Type 0) → ((x : Bor T) (a : Answer (Result T E)) → may a → IsRefusal is_clone is_infallible x a → ⊥) → TakesNone run ample
       → (x y : Cloned S (Bor T)) (l : List (Answer (Result T E))) → AllByRecursion may l → ClonesAll is_clone is_infallible run x l y → ClonesUnrefused is_clone ample x l y
@@ -172,9 +163,9 @@ module _ {T E : Type 0} (is_clone : T → T → Type 0) (is_infallible : T → T
         turned = lingering_found_where Refers may (clones_found is_clone is_infallible may never) (tt, x.held) (tt, y.held) h.ins l all h.turned;
       }
 
-  -- a run whose items are all Ok is one in which no memory was refused, where no poll of the source asks for any
-  pub cloned_ample : TakesNone run ample → (x y : Cloned S (Bor T)) (l : List (Answer T)) → ClonesAll {E = E} is_clone is_infallible run x (all_ok l) y → ClonesUnrefused {E = E} is_clone ample x (all_ok l) y
-  cloned_ample takes x y l h = found_where NotErr (λ r a ok refused. ok refused.1 refused.2) takes x y (all_ok l) (none_err E l) h
+  -- a run without a refusal is one in which memory was found, where no poll of the source asks for any
+  pub cloned_ample : TakesNone run ample → (x y : Cloned S (Bor T)) (l : List (Answer (Result T E))) → NoneRefused l → ClonesAll is_clone is_infallible run x l y → ClonesUnrefused is_clone ample x l y
+  cloned_ample = found_where NotRefused (λ r a ok refused. ok refused.1 refused.2)
 
   -- no poll asks for memory where no clone does
   pub cloned_steady : {none : Type 0} {alike : S → S → Type 0} → SteadyLaws run ample none alike

@@ -1,10 +1,10 @@
 -- Laws of sources that make one call a poll.
 use Rattle.std.specs.Prelude.{⊤}
-use Rattle.std.proofs.Common.{◌≡◌, ℕ, List, [], ◌∷◌, None, refl, sym}
+use Rattle.std.proofs.Common.{◌≡◌, ℕ, List, [], ◌∷◌, Option, None, refl, sym}
 use Rattle.std.specs.List.{FoldsTo}
 use Rattle.futures.specs.declared.task.Poll.TheVariants.{Ready, Pending}
 use Rattle.lite_base.specs.Alike.{Alike}
-use Rattle.lite_base.specs.Answers.{Answer}
+use Rattle.lite_base.specs.Answers.{Answer, Comparable, strip}
 use Rattle.lite_base.specs.Calm.{CalmLaws, Prompt}
 use Rattle.lite_base.specs.Laws.Calls.{folds_follow}
 use Rattle.lite_base.specs.Laws.Hint.{same_hint}
@@ -36,3 +36,21 @@ module _ {S P A : Type 0} (part : S → P) (next : P → Answer A → P → Type
   -- no call is answered Pending
   pub folds_calm : ((p q : P) → next p Pending q → ⊥) → CalmLaws (λ x l y. FoldsTo next (part x) l (part y)) (λ x. ⊤)
   folds_calm never = record { prompt = λ x y l k h. folds_prompt never (part x) (part y) l h; calm_on = λ x y l k h. tt }
+
+-- by steps: those are alike whose ready answers are the same where they agree, if they agree again after each of these, and a Pending of either keeps what they agree in
+pub folds_alike : {P A : Type 0} (next : P → Answer A → P → Type 0) (agree : P → P → Type 0)
+    → ((p q r : P) → agree p q → next p Pending r → agree r q) → ((p q r : P) → agree p q → next q Pending r → agree p r)
+    → ((p q r s : P) (a b : Option A) → agree p q → next p (Ready a) r → next q (Ready b) s → (a ≡ b) × agree r s)
+    → (p q : P) → agree p q → Alike (FoldsTo next) p q
+folds_alike {P} {A} next agree left right same p q e l m p' q' h k = answers l m p q e h k
+  where
+    after : (a : Option A) (l : List (Answer A)) → ((m : List (Answer A)) (p q : P) → agree p q → FoldsTo next p l p' → FoldsTo next q m q' → Comparable (strip l) (strip m))
+        → (m : List (Answer A)) (p q : P) → agree p q → FoldsTo next p (Ready a ∷ l) p' → FoldsTo next q m q' → Comparable (a ∷ strip l) (strip m)
+    after a l rest [] p q e h k = tt
+    after a l rest (Pending ∷ m) p q e h k = after a l rest m p k.0 (right p q k.0 e k.1) h k.2
+    after a l rest (Ready b ∷ m) p q e h k = let s = same p q h.0 k.0 a b e h.1 k.1 in (s.0, rest m h.0 k.0 s.1 h.2 k.2)
+
+    answers : (l m : List (Answer A)) (p q : P) → agree p q → FoldsTo next p l p' → FoldsTo next q m q' → Comparable (strip l) (strip m)
+    answers [] m p q e h k = tt
+    answers (Pending ∷ l) m p q e h k = answers l m h.0 q (left p q h.0 e h.1) h.2 k
+    answers (Ready a ∷ l) m p q e h k = after a l (λ m' p q e h k. answers l m' p q e h k) m p q e h k

@@ -99,14 +99,3 @@ module _ {I A : Type 0} (can : I → Type 0) (gives : I → Option A → I → T
         falls = λ x y. iter_falls x.iter y.iter;
         lowers = λ x y l f. iter_lowers x.iter y.iter l f.0 f.1;
       }
-
-  -- those are alike that answer the same where they are equal so, and are so again
-  pub iter_alike : (agree : I → I → Type 0) → ((i j k n : I) (r s : Option A) → agree i j → gives i r k → gives j s n → (r ≡ s) × agree k n) → (i j : I) → agree i j → Alike (Iterates can gives remaining) i j
-  iter_alike agree step i j a l m i' j' h k = same l m i j a h k
-    where
-      same : (l m : List (Answer A)) (i j : I) → agree i j → Iterates can gives remaining i l i' → Iterates can gives remaining j m j' → Comparable (strip l) (strip m)
-      same [] m i j a h k = tt
-      same (Pending ∷ l) m i j a h k = absurd h.1
-      same (Ready r ∷ l) [] i j a h k = tt
-      same (Ready r ∷ l) (Pending ∷ m) i j a h k = absurd k.1
-      same (Ready r ∷ l) (Ready s ∷ m) i j a h k = let e = step i j h.0 k.0 r s a h.1.0 k.1.0 in (e.0, same l m h.0 k.0 e.1 h.2 k.2)
