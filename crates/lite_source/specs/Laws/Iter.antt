@@ -1,11 +1,10 @@
 -- Laws of `iter`.
 use Rattle.std.specs.Prelude.{IfSome}
-use Rattle.std.proofs.Common.{◌≡◌, ◌≤◌, ◌<◌, sym, ℕ, List, [], ◌∷◌, ◌++◌, Option, Some, None, refl, ap, subst, arith, inl, inr}
+use Rattle.std.proofs.Common.{◌≤◌, ◌<◌, sym, ℕ, List, [], ◌∷◌, ◌++◌, Option, Some, None, refl, ap, subst, arith, inl, inr}
 use Rattle.std.proofs.Math.Nat.{eq-or-lt_of_le}
 use Rattle.std.specs.Iterator.{Count, IsFinite, MakesProgress, UpTo, size}
 use Rattle.futures.specs.declared.task.Poll.TheVariants.{Ready, Pending}
-use Rattle.lite_base.specs.Alike.{Alike}
-use Rattle.lite_base.specs.Answers.{Answer, Comparable, before_end, items, strip}
+use Rattle.lite_base.specs.Answers.{Answer, before_end, items}
 use Rattle.lite_base.specs.Falling.{Below-one, Lowers-at_most}
 use Rattle.lite_base.specs.Laws.Calls.{folds_follow}
 use Rattle.lite_base.specs.Rank.{AtMost, Below, Lowers}
