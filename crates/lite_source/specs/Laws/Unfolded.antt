@@ -18,6 +18,7 @@ use Rattle.lite_base.specs.Laws.Future.Finishes.{finishes_found, finishes_later}
 use Rattle.lite_base.specs.Laws.Future.Handed.{handed_gives, handed_prompt, handed_waits}
 use Rattle.lite_base.specs.Laws.Promises.{call_promises}
 use Rattle.lite_base.specs.Steady.{FutureSteadyLaws, Steadiness, SteadyLaws, TakesNone}
+use Rattle.lite_source.specs.Laws.Always.{answers_prompt}
 use Rattle.lite_source.specs.Unfolding.{IfAsked, IsCurrent, Leads, Part, Holding, HoldingsBy, Unfolds, comes}
 
 module _ {F S V O B : Type 0} (call : Mut F (S × Unit {0}) V) (gives : V → List (Poll O) → V → Type 0) (after : O → Option S) (shown : O → Option B) where
@@ -146,16 +147,12 @@ module _ {F S V O B : Type 0} (call : Mut F (S × Unit {0}) V) {run : V → List
   leads_calm v ins next k (inl h) = (c.prompt v h.0 ins k h.2, rw h.3 (c.calm_on v h.0 ins k h.2))
   leads_calm v ins next k (inr h) = (c.prompt v h.1.last ins k h.1.came, rw h.2 (comes_calm (after h.0)))
 
-  ends_prompt : (l : List (Answer B)) → AllByRecursion (λ a. a ≡ end) l → Prompt l
-  ends_prompt [] h = tt
-  ends_prompt (a ∷ l) h = rw h.0 (ends_prompt l h.1)
-
   part_calm : (p q : F) (x y : Holding S V) (l : List (Answer B)) → Calmly p x → Part call run after shown p x l q y → Prompt l × Calmly q y
   part_calm p q x y l k (inl h) =
       let made = current_calm p q x h.0 k h.2 in
       let led = leads_calm h.0 h.1 y made.0 h.3 in
       (rw h.4 (handed_prompt shown h.1 led.0), (made.1, led.1))
-  part_calm p q x y l k (inr h) = (ends_prompt l h.2.0, (rw h.1 k.0, rw h.2.1 tt))
+  part_calm p q x y l k (inr h) = (answers_prompt None l h.2.0, (rw h.1 k.0, rw h.2.1 tt))
 
   parts_calm : (x y : F × Holding S V) (parts : List (Answer B × List (Answer B))) → Calmly x.0 x.1 → FoldsTo (λ s part t. Part call run after shown s.0 s.1 (part.0 ∷ part.1) t.0 t.1) x parts y
       → Prompt (flat_map (λ part. part.0 ∷ part.1) parts) × Calmly y.0 y.1
