@@ -4,6 +4,11 @@ ghost use Rattle.lite_flatten.specs.declared.chain.Part.TheVariants.{First};
 
 use lite_base::Future;
 pub use lite_base::{CalmStream, Counted, OkCounted, SteadyStream, Stream};
+pub use lite_consume::{
+    AllFuture, AnyFuture, Consume, CountFuture, FindFuture, FindMapFuture, FoldFuture, Folder,
+    ForEachFuture, LastFuture, NextFuture, NthFuture, PositionFuture, TryFoldFuture,
+    TryForEachFuture, TryNextFuture,
+};
 pub use lite_flatten::{Chain, Cloned, FlatMap, Flatten, Then};
 pub use lite_sift::{Filter, FilterMap, Skip, SkipWhile, StepBy};
 pub use lite_source::make::{
@@ -16,7 +21,10 @@ pub use lite_source::{
 use lite_stream::make;
 pub use lite_stream::{Copied, Enumerate, Fuse, Inspect, Map, MapWhile, Scan, Take, TakeWhile};
 
-/// What every stream can be adapted by. Ported from `src/stream.rs`, `StreamExt`.
+/// What every stream can be adapted and consumed by. Ported from `src/stream.rs`, `StreamExt`.
+///
+/// A future that consumes a stream takes in items within one poll, so the stream's rank has to count, but where the method
+/// says that it takes any stream. Those that are lent the stream leave it behind the last answer that they asked for.
 pub trait StreamExt: Stream {
     /// The stream of what `f` answers to each item. A pending and an end stay.
     final fn map<U, F>(self, f: F) -> Map<Self, F>
@@ -213,6 +221,145 @@ pub trait StreamExt: Stream {
         ensures { result ≡ record { stream = self; f = f } }
     {
         make::inspect(self, f)
+    }
+
+    /// The future of the next item, and `None` where the stream ends. It takes any stream, and polls it once a poll.
+    final fn next(&mut self) -> NextFuture<'_, Self>
+    where
+        Self: Sized,
+        ensures { result ≡ record { stream = self.entry; folder = record {} } }
+    {
+        lite_consume::make::next(self)
+    }
+
+    /// The future of what the next item holds, or its error, and `Ok(None)` where the stream ends. It takes any stream of
+    /// Results, and polls it once a poll.
+    final fn try_next<T, E>(&mut self) -> TryNextFuture<'_, Self>
+    where
+        Self: Stream<Item = Result<T, E>> + Sized,
+        ensures { result ≡ record { stream = self.entry; folder = record {} } }
+    {
+        lite_consume::make::try_next(self)
+    }
+
+    /// The future of how many items there are before the end. After `usize::MAX` comes 0.
+    final fn count(self) -> CountFuture<Self>
+    where
+        Self: Counted + Sized,
+        ensures { result ≡ record { stream = self; folder = record { count = 0 } } }
+    {
+        lite_consume::make::count(self)
+    }
+
+    /// The future of what `f` makes of `init` and of the items before the end, one after the other.
+    final fn fold<T, F>(self, init: T, f: F) -> FoldFuture<Self, F, T>
+    where
+        Self: Counted + Sized,
+        F: FnMut(T, Self::Item) -> T,
+        ensures { result ≡ record { stream = self; folder = record { f = f; acc = Some init } } }
+    {
+        lite_consume::make::fold(self, init, f)
+    }
+
+    /// The future of what `f` makes of `init` and of what the items hold, one after the other, up to the end or the first
+    /// error, an item's or one that `f` answers.
+    final fn try_fold<T, E, F, B>(&mut self, init: B, f: F) -> TryFoldFuture<'_, Self, F, B>
+    where
+        Self: OkCounted<Ok = T, Err = E> + Sized,
+        F: FnMut(B, T) -> Result<B, E>,
+        ensures { result ≡ record { stream = self.entry; folder = record { f = f; acc = Some init } } }
+    {
+        lite_consume::make::try_fold(self, init, f)
+    }
+
+    /// The future of the item with the number `n`, counted from 0, and `None` where the stream ends before it. It takes any
+    /// stream.
+    final fn nth(&mut self, n: usize) -> NthFuture<'_, Self>
+    where
+        Self: Sized,
+        ensures { result ≡ record { stream = self.entry; folder = record { n = n } } }
+    {
+        lite_consume::make::nth(self, n)
+    }
+
+    /// The future of the last item before the end, and `None` where there is none.
+    final fn last(self) -> LastFuture<Self>
+    where
+        Self: Counted + Sized,
+        ensures { result ≡ record { stream = self; folder = record { last = None } } }
+    {
+        lite_consume::make::last(self)
+    }
+
+    /// The future of the first item that `predicate` accepts, and `None` where the stream ends before it.
+    final fn find<P>(&mut self, predicate: P) -> FindFuture<'_, Self, P>
+    where
+        Self: Counted + Sized,
+        P: FnMut(&Self::Item) -> bool,
+        ensures { result ≡ record { stream = self.entry; folder = record { predicate = predicate } } }
+    {
+        lite_consume::make::find(self, predicate)
+    }
+
+    /// The future of the first answer of `f` to the items that is not `None`, and `None` where the stream ends before it.
+    final fn find_map<F, B>(&mut self, f: F) -> FindMapFuture<'_, Self, F>
+    where
+        Self: Counted + Sized,
+        F: FnMut(Self::Item) -> Option<B>,
+        ensures { result ≡ record { stream = self.entry; folder = record { f = f } } }
+    {
+        lite_consume::make::find_map(self, f)
+    }
+
+    /// The future of the number of the first item that `predicate` accepts, counted from 0, and `None` where the stream
+    /// ends before it. After `usize::MAX` comes 0.
+    final fn position<P>(&mut self, predicate: P) -> PositionFuture<'_, Self, P>
+    where
+        Self: Counted + Sized,
+        P: FnMut(Self::Item) -> bool,
+        ensures { result ≡ record { stream = self.entry; folder = record { predicate = predicate; index = 0 } } }
+    {
+        lite_consume::make::position(self, predicate)
+    }
+
+    /// The future of whether `predicate` accepts each item; the first one that it rejects decides.
+    final fn all<P>(&mut self, predicate: P) -> AllFuture<'_, Self, P>
+    where
+        Self: Counted + Sized,
+        P: FnMut(Self::Item) -> bool,
+        ensures { result ≡ record { stream = self.entry; folder = record { predicate = predicate } } }
+    {
+        lite_consume::make::all(self, predicate)
+    }
+
+    /// The future of whether `predicate` accepts an item; the first one that it accepts decides.
+    final fn any<P>(&mut self, predicate: P) -> AnyFuture<'_, Self, P>
+    where
+        Self: Counted + Sized,
+        P: FnMut(Self::Item) -> bool,
+        ensures { result ≡ record { stream = self.entry; folder = record { predicate = predicate } } }
+    {
+        lite_consume::make::any(self, predicate)
+    }
+
+    /// The future that calls `f` with each item before the end.
+    final fn for_each<F>(self, f: F) -> ForEachFuture<Self, F>
+    where
+        Self: Counted + Sized,
+        F: FnMut(Self::Item),
+        ensures { result ≡ record { stream = self; folder = record { f = f } } }
+    {
+        lite_consume::make::for_each(self, f)
+    }
+
+    /// The future that calls `f` with each item, up to the end or the first error that `f` answers, which is the value.
+    final fn try_for_each<F, E>(&mut self, f: F) -> TryForEachFuture<'_, Self, F>
+    where
+        Self: Counted + Sized,
+        F: FnMut(Self::Item) -> Result<(), E>,
+        ensures { result ≡ record { stream = self.entry; folder = record { f = f } } }
+    {
+        lite_consume::make::try_for_each(self, f)
     }
 }
 

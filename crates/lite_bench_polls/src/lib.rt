@@ -2,10 +2,11 @@
 #![tactic(auto)]
 
 ghost use Rattle.std.specs.Prelude.{◌≡◌, IfOk, length, Some};
+ghost use Rattle.lite_bench_polls.specs.Polled.{Polled};
 ghost use Rattle.futures.specs.declared.task.Poll.TheVariants.{Ready};
 
 use futures::task::{Doorbell, Solo};
-use lite_base::{Counted, Poll, Stream};
+use lite_base::{Counted, Future, Poll, Stream};
 use lite_laws::run;
 use std::alloc::{AllocError, AllocGlobal};
 use std::cell::Cell;
@@ -28,6 +29,33 @@ where
     let ran = run(stream, &mut cx, polls, &mut out);
     cx.cancel();
     ran?;
+    Ok(out)
+}
+
+/// What the polls of a future answer, up to its value and at most `polls` of them, in a task of its own. An error is the
+/// system's: no memory, or no random bytes for the task's name; what was polled before it is not told then.
+pub fn polled<R, F>(rt: &R, future: &mut F, polls: usize) -> io::Result<Vec<Poll<F::Output>>>
+where
+    R: RandomSource + AllocGlobal,
+    F: Future<Output: Drop>,
+    requires { F.can_poll future.old }
+    ensures { IfOk result (λ out. F.run future.old out.items future.new × Polled polls out.items) }
+{
+    let solo = Solo::new(rt, Doorbell::spinning())?;
+    let mut out = Vec::new(rt.alloc());
+    for _ in 0..polls {
+        out.reserve(1)?;
+        let mut cx = solo.begin();
+        let answer = future.poll(&mut cx);
+        cx.cancel();
+        match answer {
+            Poll::Pending => out.push_reserved(Poll::Pending),
+            Poll::Ready(value) => {
+                out.push_reserved(Poll::Ready(value));
+                return Ok(out);
+            }
+        }
+    }
     Ok(out)
 }
 

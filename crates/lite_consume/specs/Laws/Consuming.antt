@@ -1,0 +1,62 @@
+-- Laws of what is made of a stream's items.
+use Rattle.std.proofs.Common.{◌≡◌, ◌∙◌, ℕ, ◌≤◌, Option, List, [], ◌∷◌, ◌++◌, length, refl, ap, subst, sym, arith, append_assoc}
+use Rattle.futures.specs.declared.task.Poll.{Poll}
+use Rattle.futures.specs.declared.task.Poll.TheVariants.{Ready, Pending}
+use Rattle.lite_base.specs.Answers.{Answer, Waiting, items, strip}
+use Rattle.lite_base.specs.Calm.{CalmLaws, Prompt}
+use Rattle.lite_base.specs.FutureLaws.{FutureLaws}
+use Rattle.lite_base.specs.Laws.Calm.{prompt_back}
+use Rattle.lite_base.specs.StreamLaws.{StreamLaws}
+use Rattle.lite_consume.specs.Consume.{Folds}
+use Rattle.lite_consume.specs.Consuming.{Consumes, Fold, Waits}
+use Rattle.lite_consume.specs.declared.consume.Consume.{Consume}
+
+module _ {M A R : Type 0} (fold : Fold M A R) where
+  -- what comes after answers that were all Pending
+  joins : (p q r : M) (i j : List (Answer A)) (l m : List (Poll R)) → Waiting l → Consumes fold p i l q → Consumes fold q j m r → Consumes fold p (i ++ j) (l ++ m) r
+  joins p q r i j [] m w h k = rw (h.0, sym h.1) k
+  joins p q r i j (Pending ∷ l) m w h k =
+      let first = h.2 in
+      let cut = ap (λ v. v ++ j) first.cut ∙ append_assoc (items first.taken) (Pending ∷ h.0) j in
+      let longer : Waits fold p (i ++ j) (h.0 ++ j) h.1 = record { taken = first.taken; cut = cut; folds = first.folds } in
+      (h.0 ++ j, h.1, longer, joins h.1 q r h.0 j l m w h.3 k)
+  joins p q r i j (Ready x ∷ l) m w h k = absurd w
+
+  once : (p q : M) (i : List (Answer A)) (l : List (Poll R)) → Consumes fold p i l q → length (strip l) ≤ 1
+  once p q i [] h = omega arith
+  once p q i (Pending ∷ l) h = once h.1 q h.0 l h.3
+  once p q i (Ready r ∷ l) h = rw h.1 (omega arith)
+
+  -- no Pending is made up
+  prompt : (p q : M) (i : List (Answer A)) (l : List (Poll R)) → Consumes fold p i l q → Prompt i → Prompt l
+  prompt p q i [] h k = tt
+  prompt p q i (Pending ∷ l) h k = absurd (prompt_back (items h.2.taken) (Pending ∷ h.0) (subst (λ v. Prompt v) h.2.cut k))
+  prompt p q i (Ready r ∷ l) h k = rw h.1 tt
+
+module _ {S M A R : Type 0} {run : S → List (Answer A) → S → Type 0} (fold : Fold M A R) where
+  stays : ((s t : S) → run s [] t → t ≡ s) → (x y : Consume S M) → Folds run fold x [] y → y ≡ x
+  stays source x y h =
+      let e = source x.stream y.stream (subst (λ i. run x.stream i y.stream) h.consumed.0 h.came) in
+      λ i. record { stream = e i; folder = h.consumed.1 i }
+
+  pub consumed_laws : {hints : S → ℕ × Option ℕ → Type 0} → StreamLaws run hints → FutureLaws (Folds run fold)
+  consumed_laws laws =
+      record {
+        rests = λ x. record { ins = []; came = laws.rests x.stream; consumed = (refl, refl) };
+        stays = stays laws.stays;
+        follows = λ x y z l m w h k.
+            record {
+              ins = h.ins ++ k.ins;
+              came = laws.follows x.stream y.stream z.stream h.ins k.ins h.came k.came;
+              consumed = joins fold x.folder y.folder z.folder h.ins k.ins l m w h.consumed k.consumed;
+            };
+        once = λ x y l h. once fold x.folder y.folder h.ins l h.consumed;
+      }
+
+  -- over a stream that is never pending it is not either
+  pub consumed_calm : {is_calm : S → Type 0} → CalmLaws run is_calm → CalmLaws (Folds run fold) (λ x. is_calm x.stream)
+  consumed_calm c =
+      record {
+        prompt = λ x y l k h. prompt fold x.folder y.folder h.ins l h.consumed (c.prompt x.stream y.stream h.ins k h.came);
+        calm_on = λ x y l k h. c.calm_on x.stream y.stream h.ins k h.came;
+      }

@@ -1,0 +1,50 @@
+-- That a poll which takes in items returns.
+use Rattle.std.proofs.Common.{◌≡◌, ℕ, ◌+◌, ◌<◌, List, [], arith}
+use Rattle.std.specs.Prelude.{⊤, Result, Ok, Err}
+use Rattle.lite_base.specs.Answers.{Answer}
+use Rattle.lite_base.specs.Ends.{Ends-count, Ends-map}
+use Rattle.lite_base.specs.OkRanks.{OkCounting, OkRun, ok_counting_ends}
+use Rattle.lite_base.specs.Ranks.{Counting, Ranks, counting_ends}
+use Rattle.lite_consume.specs.Consuming.{Fold, TakesIn}
+use Rattle.lite_consume.specs.Turns.{Returns, Step}
+
+-- a count that goes down
+pub one_less : {n m : ℕ} → n ≡ m + 1 → m < n
+one_less e = omega (arith, e)
+
+module _ {S M A R : Type 0} {run : S → List (Answer A) → S → Type 0} {fold : Fold M A R} {is_open : M → Type 0} where
+  -- since items lower the stream's rank
+  pub returns_counted : {r : Ranks S} → Counting run r → ((p q : M) (x : A) → is_open p → TakesIn fold p x q → is_open q) → Returns run fold r.counts is_open
+  returns_counted {r} c opens =
+      record {
+        counts_on = c.counts_on;
+        ends = λ s p k. Ends-map (λ v. v.0) (λ v w h. (h.0, [], h.1)) (s, p) (counting_ends c s k);
+        opens = opens;
+      }
+
+  -- since each item that is taken in lowers a count of its own
+  pub returns_fewer : (left : M → ℕ) → ((p q : M) (x : A) → TakesIn fold p x q → left q < left p) → ((p q : M) (x : A) → is_open p → TakesIn fold p x q → is_open q) → Returns run fold (λ _. ⊤) is_open
+  returns_fewer left fewer opens =
+      record {
+        counts_on = λ s t l k h. tt;
+        ends = λ s p k. Ends-count (λ v. left v.1) (λ v w h. fewer v.1 w.1 h.0 h.2) (s, p);
+        opens = opens;
+      }
+
+  -- since no item is taken in
+  pub returns_none : ((p q : M) (x : A) → TakesIn fold p x q → ⊥) → Returns run fold (λ _. ⊤) is_open
+  returns_none none = returns_fewer (λ p. 0) (λ p q x h. absurd (none p q x h)) (λ p q x o h. absurd (none p q x h))
+
+module _ {S M T E R : Type 0} {run : S → List (Answer (Result T E)) → S → Type 0} {fold : Fold M (Result T E) R} {is_open : M → Type 0} where
+  -- since Ok items lower the stream's rank, and no other item is taken in
+  pub returns_ok : {r : Ranks S} → OkCounting run r → ((p q : M) (e : E) → TakesIn fold p (Err e) q → ⊥) → ((p q : M) (x : Result T E) → is_open p → TakesIn fold p x q → is_open q) → Returns run fold r.counts is_open
+  returns_ok {r} c errors opens =
+      record {
+        counts_on = c.counts_on;
+        ends = λ s p k. Ends-map (λ v. v.0) (λ v w h. ok_step errors v w h) (s, p) (ok_counting_ends c s k);
+        opens = opens;
+      }
+    where
+      ok_step : ((p q : M) (e : E) → TakesIn fold p (Err e) q → ⊥) → (v w : S × M) → Step run fold v w → OkRun run v.0 w.0
+      ok_step none v w (Ok x, came, takes) = (x, [], came)
+      ok_step none v w (Err e, came, takes) = absurd (none v.1 w.1 e takes)

@@ -1,0 +1,44 @@
+ghost use Rattle.lite_base.specs.Calling.{Calls};
+ghost use Rattle.lite_consume.specs.Any.{anys};
+ghost use Rattle.lite_consume.specs.Consuming.{fold_of};
+ghost use Rattle.lite_consume.specs.Laws.Returning.{returns_counted};
+
+use crate::consume::Consume;
+use crate::folder::Folder;
+use lite_base::Counted;
+
+/// Whether a predicate accepts an item of a stream; it does not where there is none.
+///
+/// Made by [`any`](crate::make::any). The first item that the predicate accepts decides, and the stream goes on behind it.
+/// Ported from `src/stream.rs`, `AnyFuture`.
+pub type AnyFuture<'a, S, P> = Consume<&'a mut S, Any<P>>;
+
+/// Asks the predicate about each item, and decides at the first that it accepts.
+#[derive(Debug, Drop)]
+pub struct Any<P> {
+    pub(crate) predicate: P,
+}
+
+impl<S: Counted, P: FnMut(S::Item) -> bool> Folder<S> for Any<P> {
+    type Output = bool;
+
+    ghost fold = { fold_of (λ f. f.predicate) (anys (Calls P.FnMut)) };
+
+    ghost can_take = { λ f x. P.FnMut.pre f.predicate (x, tt) };
+
+    ghost counts = { S.ranks.counts };
+
+    fn take_in(&mut self, item: S::Item) -> Option<bool> {
+        if (self.predicate)(item) {
+            Some(true)
+        } else {
+            None
+        }
+    }
+
+    fn close(&mut self) -> bool {
+        false
+    }
+
+    ghost returns = { returns_counted S.counting (λ p q x o h. tt) };
+}

@@ -1,0 +1,44 @@
+ghost use Rattle.std.specs.Fn.{CalledAt, TakesAt};
+ghost use Rattle.lite_consume.specs.Consuming.{fold_of};
+ghost use Rattle.lite_consume.specs.Find.{finds};
+ghost use Rattle.lite_consume.specs.Laws.Returning.{returns_counted};
+
+use crate::consume::Consume;
+use crate::folder::Folder;
+use lite_base::Counted;
+
+/// The first item of a stream that a predicate accepts, and `None` where the stream ends before it.
+///
+/// Made by [`find`](crate::make::find). After the value the stream goes on behind that item. Ported from `src/stream.rs`,
+/// `FindFuture`.
+pub type FindFuture<'a, S, P> = Consume<&'a mut S, Find<P>>;
+
+/// Asks the predicate about each item, and decides at the first that it accepts.
+#[derive(Debug, Drop)]
+pub struct Find<P> {
+    pub(crate) predicate: P,
+}
+
+impl<S: Counted<Item: Drop>, P: FnMut(&S::Item) -> bool> Folder<S> for Find<P> {
+    type Output = Option<S::Item>;
+
+    ghost fold = { fold_of (λ f. f.predicate) (finds (CalledAt P.FnMut)) };
+
+    ghost can_take = { λ f. TakesAt P.FnMut f.predicate };
+
+    ghost counts = { S.ranks.counts };
+
+    fn take_in(&mut self, item: S::Item) -> Option<Option<S::Item>> {
+        if (self.predicate)(&item) {
+            Some(Some(item))
+        } else {
+            None
+        }
+    }
+
+    fn close(&mut self) -> Option<S::Item> {
+        None
+    }
+
+    ghost returns = { returns_counted S.counting (λ p q x o h. tt) };
+}

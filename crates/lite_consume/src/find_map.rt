@@ -1,0 +1,43 @@
+ghost use Rattle.lite_base.specs.Calling.{Calls};
+ghost use Rattle.lite_consume.specs.Consuming.{fold_of};
+ghost use Rattle.lite_consume.specs.FindMap.{finds_map};
+ghost use Rattle.lite_consume.specs.Laws.Returning.{returns_counted};
+
+use crate::consume::Consume;
+use crate::folder::Folder;
+use lite_base::Counted;
+
+/// The first answer of a function to the items of a stream that is not `None`, and `None` where the stream ends before it.
+///
+/// Made by [`find_map`](crate::make::find_map). After the value the stream goes on behind that item. Ported from
+/// `src/stream.rs`, `FindMapFuture`.
+pub type FindMapFuture<'a, S, F> = Consume<&'a mut S, FindMap<F>>;
+
+/// Calls the function with each item, and decides at its first answer that is not `None`.
+#[derive(Debug, Drop)]
+pub struct FindMap<F> {
+    pub(crate) f: F,
+}
+
+impl<B, S: Counted, F: FnMut(S::Item) -> Option<B>> Folder<S> for FindMap<F> {
+    type Output = Option<B>;
+
+    ghost fold = { fold_of (λ m. m.f) (finds_map (Calls F.FnMut)) };
+
+    ghost can_take = { λ m x. F.FnMut.pre m.f (x, tt) };
+
+    ghost counts = { S.ranks.counts };
+
+    fn take_in(&mut self, item: S::Item) -> Option<Option<B>> {
+        match (self.f)(item) {
+            Some(value) => Some(Some(value)),
+            None => None,
+        }
+    }
+
+    fn close(&mut self) -> Option<B> {
+        None
+    }
+
+    ghost returns = { returns_counted S.counting (λ p q x o h. tt) };
+}

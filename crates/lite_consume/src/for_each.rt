@@ -1,0 +1,38 @@
+ghost use Rattle.lite_base.specs.Calling.{Calls};
+ghost use Rattle.lite_consume.specs.Consuming.{fold_of};
+ghost use Rattle.lite_consume.specs.ForEach.{calls_each};
+ghost use Rattle.lite_consume.specs.Laws.Returning.{returns_counted};
+
+use crate::consume::Consume;
+use crate::folder::Folder;
+use lite_base::Counted;
+
+/// Calls a function with each item of a stream, up to its end.
+///
+/// Made by [`for_each`](crate::make::for_each). Ported from `src/stream.rs`, `ForEachFuture`.
+pub type ForEachFuture<S, F> = Consume<S, ForEach<F>>;
+
+/// Calls the function with each item.
+#[derive(Debug, Drop)]
+pub struct ForEach<F> {
+    pub(crate) f: F,
+}
+
+impl<S: Counted, F: FnMut(S::Item)> Folder<S> for ForEach<F> {
+    type Output = ();
+
+    ghost fold = { fold_of (λ m. m.f) (calls_each (Calls F.FnMut)) };
+
+    ghost can_take = { λ m x. F.FnMut.pre m.f (x, tt) };
+
+    ghost counts = { S.ranks.counts };
+
+    fn take_in(&mut self, item: S::Item) -> Option<()> {
+        (self.f)(item);
+        None
+    }
+
+    fn close(&mut self) {}
+
+    ghost returns = { returns_counted S.counting (λ p q x o h. tt) };
+}

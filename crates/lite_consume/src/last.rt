@@ -1,0 +1,37 @@
+ghost use Rattle.lite_consume.specs.Consuming.{fold_of};
+ghost use Rattle.lite_consume.specs.Last.{lasts};
+ghost use Rattle.lite_consume.specs.Laws.Returning.{returns_counted};
+
+use crate::consume::Consume;
+use crate::folder::Folder;
+use lite_base::{Counted, Stream};
+
+/// The last item of a stream before its end, and `None` where there is none.
+///
+/// Made by [`last`](crate::make::last). Ported from `src/stream.rs`, `LastFuture`.
+pub type LastFuture<S> = Consume<S, Last<<S as Stream>::Item>>;
+
+/// Keeps the item that it took in last.
+#[derive(Debug, Drop)]
+pub struct Last<T> {
+    pub(crate) last: Option<T>,
+}
+
+impl<T: Drop, S: Counted<Item = T>> Folder<S> for Last<T> {
+    type Output = Option<T>;
+
+    ghost fold = { fold_of (λ f. f.last) lasts };
+
+    ghost counts = { S.ranks.counts };
+
+    fn take_in(&mut self, item: T) -> Option<Option<T>> {
+        self.last = Some(item);
+        None
+    }
+
+    fn close(&mut self) -> Option<T> {
+        self.last.take()
+    }
+
+    ghost returns = { returns_counted S.counting (λ p q x o h. tt) };
+}

@@ -1,0 +1,38 @@
+//! Futures that consume a stream: what they make of its items, and the one future that asks it.
+#![tactic(auto)]
+
+mod all;
+mod any;
+mod calm;
+mod consume;
+mod count;
+mod find;
+mod find_map;
+mod fold;
+mod folder;
+mod for_each;
+mod last;
+pub mod make;
+mod next;
+mod nth;
+mod position;
+mod try_fold;
+mod try_for_each;
+mod try_next;
+
+pub use all::{All, AllFuture};
+pub use any::{Any, AnyFuture};
+pub use consume::Consume;
+pub use count::{Count, CountFuture};
+pub use find::{Find, FindFuture};
+pub use find_map::{FindMap, FindMapFuture};
+pub use fold::{Fold, FoldFuture};
+pub use folder::Folder;
+pub use for_each::{ForEach, ForEachFuture};
+pub use last::{Last, LastFuture};
+pub use next::{Next, NextFuture};
+pub use nth::{Nth, NthFuture};
+pub use position::{Position, PositionFuture};
+pub use try_fold::{TryFold, TryFoldFuture};
+pub use try_for_each::{TryForEach, TryForEachFuture};
+pub use try_next::{TryNext, TryNextFuture};

@@ -1,0 +1,39 @@
+ghost use Rattle.lite_consume.specs.Consuming.{fold_of};
+ghost use Rattle.lite_consume.specs.Laws.Returning.{one_less, returns_fewer};
+ghost use Rattle.lite_consume.specs.Nth.{nths};
+
+use crate::consume::Consume;
+use crate::folder::Folder;
+use lite_base::Stream;
+
+/// The item of a stream with a given number, counted from 0, and `None` where the stream ends before it.
+///
+/// Made by [`nth`](crate::make::nth). How many items are still to be left out is kept across pendings. After the value the
+/// stream goes on behind that item. Ported from `src/stream.rs`, `NthFuture`.
+pub type NthFuture<'a, S> = Consume<&'a mut S, Nth>;
+
+/// Takes in `n` items, and decides at the one after them.
+#[derive(Debug, Drop)]
+pub struct Nth {
+    pub(crate) n: usize,
+}
+
+impl<S: Stream<Item: Drop>> Folder<S> for Nth {
+    type Output = Option<S::Item>;
+
+    ghost fold = { fold_of (λ f. f.n) nths };
+
+    fn take_in(&mut self, item: S::Item) -> Option<Option<S::Item>> {
+        if self.n == 0 {
+            return Some(Some(item));
+        }
+        self.n -= 1;
+        None
+    }
+
+    fn close(&mut self) -> Option<S::Item> {
+        None
+    }
+
+    ghost returns = { returns_fewer (λ f. f.n) (λ p q x h. one_less h) (λ p q x o h. tt) };
+}

@@ -1,0 +1,60 @@
+ghost use Rattle.std.specs.Prelude.{◌≡◌, IsSome, Ok, Some};
+ghost use Rattle.lite_consume.specs.Calls.{CallsBoth};
+ghost use Rattle.lite_consume.specs.Consuming.{fold_of};
+ghost use Rattle.lite_consume.specs.Laws.Returning.{returns_ok};
+ghost use Rattle.lite_consume.specs.TryFold.{tries_fold, tries_fold_open};
+
+use crate::consume::Consume;
+use crate::folder::Folder;
+use lite_base::OkCounted;
+
+/// What a function makes of a start and of what the items of a stream hold, one after the other, up to the first error.
+///
+/// Made by [`try_fold`](crate::make::try_fold). An error among the items, or one that the function answers, is the value,
+/// and the stream goes on behind that item. Ported from `src/stream.rs`, `TryFoldFuture`.
+pub type TryFoldFuture<'a, S, F, B> = Consume<&'a mut S, TryFold<F, B>>;
+
+/// Calls the function with what was folded and what each item holds; the answer is folded next, or decides as an error.
+#[derive(Debug, Drop)]
+pub struct TryFold<F, B> {
+    pub(crate) f: F,
+    pub(crate) acc: Option<B>,
+}
+
+impl<B: Drop, S: OkCounted, F: FnMut(B, S::Ok) -> Result<B, S::Err>> Folder<S> for TryFold<F, B> {
+    type Output = Result<B, S::Err>;
+
+    ghost fold = { fold_of (λ m. (m.f, m.acc)) (tries_fold (CallsBoth F.FnMut)) };
+
+    ghost can_take = { λ m x. (a : B) (y : S.Ok) → m.acc ≡ Some a → x ≡ Ok y → F.FnMut.pre m.f (a, (y, tt)) };
+
+    ghost is_open = { λ m. IsSome m.acc };
+
+    ghost counts = { S.ok_ranks.counts };
+
+    fn take_in(&mut self, item: Result<S::Ok, S::Err>) -> Option<Result<B, S::Err>> {
+        let value = match item {
+            Ok(value) => value,
+            Err(error) => return Some(Err(error)),
+        };
+        match self.acc.take() {
+            Some(acc) => match (self.f)(acc, value) {
+                Ok(folded) => {
+                    self.acc = Some(folded);
+                    None
+                }
+                Err(error) => Some(Err(error)),
+            },
+            None => unreachable!(),
+        }
+    }
+
+    fn close(&mut self) -> Result<B, S::Err> {
+        match self.acc.take() {
+            Some(acc) => Ok(acc),
+            None => unreachable!(),
+        }
+    }
+
+    ghost returns = { returns_ok S.ok_counting (λ p q e h. h) (λ p q x o h. tries_fold_open (CallsBoth F.FnMut) (p.f, p.acc) (q.f, q.acc) x h) };
+}

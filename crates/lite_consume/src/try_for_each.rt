@@ -1,0 +1,43 @@
+ghost use Rattle.lite_base.specs.Calling.{Calls};
+ghost use Rattle.lite_consume.specs.Consuming.{fold_of};
+ghost use Rattle.lite_consume.specs.Laws.Returning.{returns_counted};
+ghost use Rattle.lite_consume.specs.TryForEach.{tries_each};
+
+use crate::consume::Consume;
+use crate::folder::Folder;
+use lite_base::Counted;
+
+/// Calls a function with each item of a stream, up to its end or the first error that the function answers.
+///
+/// Made by [`try_for_each`](crate::make::try_for_each). The value is that error, or `Ok(())` at the end; after an error the
+/// stream goes on behind that item. Ported from `src/stream.rs`, `TryForEachFuture`.
+pub type TryForEachFuture<'a, S, F> = Consume<&'a mut S, TryForEach<F>>;
+
+/// Calls the function with each item, and decides at the first error.
+#[derive(Debug, Drop)]
+pub struct TryForEach<F> {
+    pub(crate) f: F,
+}
+
+impl<E, S: Counted, F: FnMut(S::Item) -> Result<(), E>> Folder<S> for TryForEach<F> {
+    type Output = Result<(), E>;
+
+    ghost fold = { fold_of (λ m. m.f) (tries_each (Calls F.FnMut)) };
+
+    ghost can_take = { λ m x. F.FnMut.pre m.f (x, tt) };
+
+    ghost counts = { S.ranks.counts };
+
+    fn take_in(&mut self, item: S::Item) -> Option<Result<(), E>> {
+        match (self.f)(item) {
+            Ok(()) => None,
+            Err(error) => Some(Err(error)),
+        }
+    }
+
+    fn close(&mut self) -> Result<(), E> {
+        Ok(())
+    }
+
+    ghost returns = { returns_counted S.counting (λ p q x o h. tt) };
+}

@@ -1,0 +1,35 @@
+ghost use Rattle.lite_consume.specs.Laws.Returning.{returns_none};
+ghost use Rattle.lite_consume.specs.TryNext.{none_given, tries_next};
+
+use crate::consume::Consume;
+use crate::folder::Folder;
+use lite_base::Stream;
+
+/// What the next item of a stream holds, and `Ok(None)` where it ends; an error among the items is the value's.
+///
+/// Made by [`try_next`](crate::make::try_next). A poll polls the stream once. Ported from `src/stream.rs`,
+/// `TryNextFuture`.
+pub type TryNextFuture<'a, S> = Consume<&'a mut S, TryNext>;
+
+/// Decides at the first item, an error or not.
+#[derive(Debug, Drop)]
+pub struct TryNext;
+
+impl<T, E, S: Stream<Item = Result<T, E>>> Folder<S> for TryNext {
+    type Output = Result<Option<T>, E>;
+
+    ghost fold = { tries_next };
+
+    fn take_in(&mut self, item: Result<T, E>) -> Option<Result<Option<T>, E>> {
+        match item {
+            Ok(value) => Some(Ok(Some(value))),
+            Err(error) => Some(Err(error)),
+        }
+    }
+
+    fn close(&mut self) -> Result<Option<T>, E> {
+        Ok(None)
+    }
+
+    ghost returns = { returns_none none_given };
+}
