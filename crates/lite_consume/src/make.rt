@@ -18,6 +18,13 @@ use crate::try_for_each::{TryForEach, TryForEachFuture};
 use crate::try_next::{TryNext, TryNextFuture};
 use lite_base::Stream;
 
+/// The future of what `folder` makes of the items of `stream`. The original has no such function.
+pub fn consume<S, F>(stream: S, folder: F) -> Consume<S, F>
+    ensures { result ≡ record { stream = stream; folder = folder } }
+{
+    Consume { stream, folder }
+}
+
 /// The future of whether `predicate` accepts each item of `stream`. Ported from `src/stream.rs`, `StreamExt::all`.
 pub fn all<S, P>(stream: &mut S, predicate: P) -> AllFuture<'_, S, P>
     ensures { result ≡ record { stream = stream.entry; folder = record { predicate = predicate } } }

@@ -1,0 +1,18 @@
+-- `collect`: a collection takes in the items, and is the value at the end. An item that it refuses decides.
+use Rattle.std.specs.Prelude.{◌≡◌, List, Option, Some, None, Result, Ok, Err, IsSome, refl}
+use Rattle.lite_consume.specs.Consuming.{Fold}
+use Rattle.lite_gather.specs.Gathering.{Kept, Took}
+use Rattle.lite_gather.specs.declared.refused.Refused.{Refused}
+
+-- `may_refuse`: whether memory may be refused. None says that the collection was handed out
+module _ {C T : Type 0} (may_refuse : Type 0) (holds : C → List T → Type 0) where
+  abbrev pub Collected : Option C → T → Option (Result C (Refused C T)) → Option C → Type 0
+  Collected p x None q = (c d : C) × (p ≡ Some c) × Took holds c x d × (q ≡ Some d)
+  Collected p x (Some r) q = may_refuse × (c d : C) × (p ≡ Some c) × Kept holds c d × (r ≡ Err (record { collected = d; item = x })) × (q ≡ None)
+
+  abbrev pub collects : Fold (Option C) T (Result C (Refused C T))
+  collects = record { asks = Collected; closes = λ p r q. (c : C) × (p ≡ Some c) × (r ≡ Ok c) × (q ≡ None) }
+
+  -- after an item there is a collection
+  pub collects_open : (p q : Option C) (x : T) → Collected p x None q → IsSome q
+  collects_open p q x h = rw h.4 refl

@@ -1,0 +1,56 @@
+ghost use Rattle.std.specs.Prelude.{IsSome, ⊤};
+ghost use Rattle.lite_consume.specs.Consuming.{fold_of};
+ghost use Rattle.lite_consume.specs.Laws.Returning.{returns_counted};
+ghost use Rattle.lite_gather.specs.Collect.{collects, collects_open};
+
+use crate::gather::Gather;
+use crate::refused::Refused;
+use lite_base::Counted;
+use lite_consume::{Consume, Folder};
+
+/// The collection of the items of a stream.
+///
+/// Made by [`collect`](crate::make::collect). What was taken in is kept across pendings. The value is the collection, or
+/// what it was with the item that it refused; after either the future may not be polled. Ported from `src/stream.rs`,
+/// `CollectFuture`.
+pub type CollectFuture<S, C> = Consume<S, Collect<C>>;
+
+/// Takes each item into the collection.
+#[derive(Debug, Drop)]
+pub struct Collect<C> {
+    pub(crate) collection: Option<C>,
+}
+
+impl<S: Counted, C: Gather<S::Item>> Folder<S> for Collect<C> {
+    type Output = Result<C, Refused<C, S::Item>>;
+
+    ghost fold = { fold_of (λ f. f.collection) (collects ⊤ C.holds) };
+
+    ghost is_open = { λ f. IsSome f.collection };
+
+    ghost counts = { S.ranks.counts };
+
+    fn take_in(&mut self, item: S::Item) -> Option<Result<C, Refused<C, S::Item>>> {
+        let taken = match &mut self.collection {
+            Some(collection) => collection.take_in(item),
+            None => unreachable!(),
+        };
+        let item = match taken {
+            Ok(()) => return None,
+            Err(item) => item,
+        };
+        match self.collection.take() {
+            Some(collected) => Some(Err(Refused { collected, item })),
+            None => unreachable!(),
+        }
+    }
+
+    fn close(&mut self) -> Result<C, Refused<C, S::Item>> {
+        match self.collection.take() {
+            Some(collection) => Ok(collection),
+            None => unreachable!(),
+        }
+    }
+
+    ghost returns = { returns_counted S.counting (λ p q x o h. collects_open ⊤ C.holds p.collection q.collection x h) };
+}

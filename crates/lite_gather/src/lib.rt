@@ -1,0 +1,18 @@
+//! Collections that take in the items of a stream, and the futures that give them.
+#![tactic(auto)]
+
+mod collect;
+mod collections;
+mod gather;
+pub mod make;
+mod partition;
+mod refused;
+mod try_collect;
+mod unzip;
+
+pub use collect::{Collect, CollectFuture};
+pub use gather::Gather;
+pub use partition::{Partition, PartitionFuture};
+pub use refused::{Refused, TryCollectError, UnzipRefused};
+pub use try_collect::{TryCollect, TryCollectFuture};
+pub use unzip::{Unzip, UnzipFuture};

@@ -1,0 +1,77 @@
+ghost use Rattle.std.specs.Prelude.{◌≡◌, IfErr, IsSome, OnOk, ⊤};
+ghost use Rattle.std.specs.Fn.{CalledAt, TakesAt};
+ghost use Rattle.lite_consume.specs.Consuming.{fold_of};
+ghost use Rattle.lite_consume.specs.Laws.Returning.{returns_counted};
+ghost use Rattle.lite_gather.specs.Partition.{Sorted, Unsorted, partitions, partitions_open};
+
+use crate::gather::Gather;
+use crate::refused::Refused;
+use lite_base::Counted;
+use lite_consume::{Consume, Folder};
+
+/// The collection of the items of a stream that a predicate accepts, and that of those that it rejects.
+///
+/// Made by [`partition`](crate::make::partition). What was taken in is kept across pendings. The value is both collections,
+/// or what they were with the item that was refused; after either the future may not be polled. Ported from
+/// `src/stream.rs`, `PartitionFuture`.
+pub type PartitionFuture<S, P, B> = Consume<S, Partition<P, B>>;
+
+fn take_one<T, B: Gather<T>>(
+    accepted: &mut B,
+    rejected: &mut B,
+    is_accepted: bool,
+    item: T,
+) -> Result<(), T>
+    ensures took { OnOk result (Sorted B.holds is_accepted (accepted.old, rejected.old) item (accepted.new, rejected.new)) }
+    ensures kept { IfErr result (λ back. (back ≡ item) × Unsorted B.holds (accepted.old, rejected.old) (accepted.new, rejected.new)) }
+{
+    if is_accepted {
+        accepted.take_in(item)
+    } else {
+        rejected.take_in(item)
+    }
+}
+
+/// Takes each item into the one collection or the other.
+#[derive(Debug, Drop)]
+pub struct Partition<P, B> {
+    pub(crate) predicate: P,
+    pub(crate) res: Option<(B, B)>,
+}
+
+impl<S: Counted, P: FnMut(&S::Item) -> bool, B: Gather<S::Item>> Folder<S> for Partition<P, B> {
+    type Output = Result<(B, B), Refused<(B, B), S::Item>>;
+
+    ghost fold = { fold_of (λ f. (f.predicate, f.res)) (partitions B.holds (CalledAt P.FnMut) ⊤) };
+
+    ghost can_take = { λ f. TakesAt P.FnMut f.predicate };
+
+    ghost is_open = { λ f. IsSome f.res };
+
+    ghost counts = { S.ranks.counts };
+
+    fn take_in(&mut self, item: S::Item) -> Option<Result<(B, B), Refused<(B, B), S::Item>>> {
+        let is_accepted = (self.predicate)(&item);
+        let taken = match &mut self.res {
+            Some((accepted, rejected)) => take_one(accepted, rejected, is_accepted, item),
+            None => unreachable!(),
+        };
+        let item = match taken {
+            Ok(()) => return None,
+            Err(item) => item,
+        };
+        match self.res.take() {
+            Some(collected) => Some(Err(Refused { collected, item })),
+            None => unreachable!(),
+        }
+    }
+
+    fn close(&mut self) -> Result<(B, B), Refused<(B, B), S::Item>> {
+        match self.res.take() {
+            Some(both) => Ok(both),
+            None => unreachable!(),
+        }
+    }
+
+    ghost returns = { returns_counted S.counting (λ p q x o h. partitions_open B.holds (CalledAt P.FnMut) ⊤ (p.predicate, p.res) (q.predicate, q.res) x h) };
+}

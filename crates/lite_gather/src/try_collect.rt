@@ -1,0 +1,66 @@
+ghost use Rattle.std.specs.Prelude.{IsSome, ⊤};
+ghost use Rattle.lite_consume.specs.Consuming.{fold_of};
+ghost use Rattle.lite_consume.specs.Laws.Returning.{returns_ok};
+ghost use Rattle.lite_gather.specs.TryCollect.{tries_collect, tries_collect_open};
+
+use crate::gather::Gather;
+use crate::refused::{Refused, TryCollectError};
+use lite_base::OkCounted;
+use lite_consume::{Consume, Folder};
+
+/// The collection of what the items of a stream hold, up to the first error.
+///
+/// Made by [`try_collect`](crate::make::try_collect). What was taken in is kept across pendings. The value is the
+/// collection, the first error among the items, or what the collection was with what it refused; after any of them the
+/// future may not be polled. Ported from `src/stream.rs`, `TryCollectFuture`.
+pub type TryCollectFuture<S, C> = Consume<S, TryCollect<C>>;
+
+/// Takes what each item holds into the collection, and decides at the first error.
+#[derive(Debug, Drop)]
+pub struct TryCollect<C> {
+    pub(crate) items: Option<C>,
+}
+
+impl<S: OkCounted, C: Gather<S::Ok>> Folder<S> for TryCollect<C> {
+    type Output = Result<C, TryCollectError<C, S::Ok, S::Err>>;
+
+    ghost fold = { fold_of (λ f. f.items) (tries_collect ⊤ C.holds) };
+
+    ghost is_open = { λ f. IsSome f.items };
+
+    ghost counts = { S.ok_ranks.counts };
+
+    fn take_in(
+        &mut self,
+        item: Result<S::Ok, S::Err>,
+    ) -> Option<Result<C, TryCollectError<C, S::Ok, S::Err>>> {
+        let value = match item {
+            Ok(value) => value,
+            Err(error) => return Some(Err(TryCollectError::Source(error))),
+        };
+        let taken = match &mut self.items {
+            Some(items) => items.take_in(value),
+            None => unreachable!(),
+        };
+        let item = match taken {
+            Ok(()) => return None,
+            Err(item) => item,
+        };
+        match self.items.take() {
+            Some(collected) => {
+                let refused = Refused { collected, item };
+                Some(Err(TryCollectError::Memory(refused)))
+            }
+            None => unreachable!(),
+        }
+    }
+
+    fn close(&mut self) -> Result<C, TryCollectError<C, S::Ok, S::Err>> {
+        match self.items.take() {
+            Some(items) => Ok(items),
+            None => unreachable!(),
+        }
+    }
+
+    ghost returns = { returns_ok S.ok_counting (λ p q e h. h) (λ p q x o h. tries_collect_open ⊤ C.holds p.items q.items x h) };
+}

@@ -1,0 +1,100 @@
+ghost use Rattle.std.specs.Prelude.{◌≡◌, IfErr, IsSome, OnOk, ⊤};
+ghost use Rattle.lite_consume.specs.Consuming.{fold_of};
+ghost use Rattle.lite_consume.specs.Laws.Returning.{returns_counted};
+ghost use Rattle.lite_gather.specs.Gathering.{Took};
+ghost use Rattle.lite_gather.specs.Refused.{refused_of};
+ghost use Rattle.lite_gather.specs.Unzip.{RefusedOne, unzips, unzips_open};
+
+use crate::gather::Gather;
+use crate::refused::UnzipRefused;
+use lite_base::Counted;
+use lite_consume::{Consume, Folder};
+
+/// The collections of the first and of the second parts of the items of a stream.
+///
+/// Made by [`unzip`](crate::make::unzip). What was taken in is kept across pendings. The value is both collections, or what
+/// they were with what was refused; after either the future may not be polled. Ported from `src/stream.rs`, `UnzipFuture`.
+pub type UnzipFuture<S, FromA, FromB> = Consume<S, Unzip<FromA, FromB>>;
+
+/// What was refused of an item: both its parts, since the first was, or the second alone.
+enum Part<A, B> {
+    Both(A, B),
+    Second(B),
+}
+
+impl<A, B> Part<A, B> {
+    fn with<FromA, FromB>(self, collected: (FromA, FromB)) -> UnzipRefused<FromA, FromB, A, B>
+        ensures { result ≡ refused_of self collected }
+    {
+        match self {
+            Part::Both(a, b) => UnzipRefused::Left {
+                collected,
+                item: (a, b),
+            },
+            Part::Second(item) => UnzipRefused::Right { collected, item },
+        }
+    }
+}
+
+fn take_both<A, B, FromA: Gather<A>, FromB: Gather<B>>(
+    left: &mut FromA,
+    right: &mut FromB,
+    a: A,
+    b: B,
+) -> Result<(), Part<A, B>>
+    ensures took { OnOk result (Took FromA.holds left.old a left.new × Took FromB.holds right.old b right.new) }
+    ensures refused { IfErr result (λ part. RefusedOne FromA.holds FromB.holds (left.old, right.old) (a, b) (refused_of part (left.new, right.new))) }
+{
+    if let Err(a) = left.take_in(a) {
+        return Err(Part::Both(a, b));
+    }
+    match right.take_in(b) {
+        Ok(()) => Ok(()),
+        Err(b) => Err(Part::Second(b)),
+    }
+}
+
+/// Takes the first part of each item into one collection, and the second into another.
+#[derive(Debug, Drop)]
+pub struct Unzip<FromA, FromB> {
+    pub(crate) res: Option<(FromA, FromB)>,
+}
+
+impl<A, B, S: Counted<Item = (A, B)>, FromA: Gather<A>, FromB: Gather<B>> Folder<S>
+    for Unzip<FromA, FromB> {
+    type Output = Result<(FromA, FromB), UnzipRefused<FromA, FromB, A, B>>;
+
+    ghost fold = { fold_of (λ f. f.res) (unzips FromA.holds FromB.holds ⊤) };
+
+    ghost is_open = { λ f. IsSome f.res };
+
+    ghost counts = { S.ranks.counts };
+
+    fn take_in(
+        &mut self,
+        item: (A, B),
+    ) -> Option<Result<(FromA, FromB), UnzipRefused<FromA, FromB, A, B>>> {
+        let (a, b) = item;
+        let taken = match &mut self.res {
+            Some((left, right)) => take_both(left, right, a, b),
+            None => unreachable!(),
+        };
+        let part = match taken {
+            Ok(()) => return None,
+            Err(part) => part,
+        };
+        match self.res.take() {
+            Some(collected) => Some(Err(part.with(collected))),
+            None => unreachable!(),
+        }
+    }
+
+    fn close(&mut self) -> Result<(FromA, FromB), UnzipRefused<FromA, FromB, A, B>> {
+        match self.res.take() {
+            Some(both) => Ok(both),
+            None => unreachable!(),
+        }
+    }
+
+    ghost returns = { returns_counted S.counting (λ p q x o h. unzips_open FromA.holds FromB.holds ⊤ p.res q.res x h) };
+}
