@@ -1,11 +1,12 @@
 //! Streams: sources, and what every stream can be adapted by.
-ghost use Rattle.std.specs.Prelude.{◌≡◌, ◌<◌, None, Some, false};
+ghost use Rattle.std.specs.Prelude.{◌≡◌, ◌<◌, [], IfSome, IsSome, None, Some, false};
 ghost use Rattle.lite_flatten.specs.declared.chain.Part.TheVariants.{First};
 
 use lite_base::Future;
 pub use lite_base::{CalmStream, Counted, OkCounted, SteadyStream, Stream};
+pub use lite_consume::make::block_on;
 pub use lite_consume::{
-    AllFuture, AnyFuture, Consume, CountFuture, FindFuture, FindMapFuture, FoldFuture, Folder,
+    AllFuture, AnyFuture, BlockOn, Consume, CountFuture, FindFuture, FindMapFuture, FoldFuture, Folder,
     ForEachFuture, LastFuture, NextFuture, NthFuture, PositionFuture, TryFoldFuture,
     TryForEachFuture, TryNextFuture,
 };
@@ -17,6 +18,10 @@ pub use lite_source::make::{
 };
 pub use lite_source::{
     Empty, Iter, Once, OnceFuture, Pending, PollFn, Repeat, RepeatWith, Script, TryUnfold, Unfold,
+};
+pub use lite_gather::{
+    CollectFuture, Gather, PartitionFuture, Refused, TryCollectError, TryCollectFuture, UnzipFuture,
+    UnzipRefused,
 };
 use lite_stream::make;
 pub use lite_stream::{Copied, Enumerate, Fuse, Inspect, Map, MapWhile, Scan, Take, TakeWhile};
@@ -360,6 +365,64 @@ pub trait StreamExt: Stream {
         ensures { result ≡ record { stream = self.entry; folder = record { f = f } } }
     {
         lite_consume::make::try_for_each(self, f)
+    }
+
+    /// The future of a collection of the items before the end, which takes its memory from `alloc`. Where it refuses an item,
+    /// the value is what was collected, with that item.
+    final fn collect<C>(self, alloc: C::Alloc) -> CollectFuture<Self, C>
+    where
+        Self: Counted + Sized,
+        C: Gather<Self::Item>,
+        ensures stream { result.stream ≡ self }
+        ensures open { IsSome result.folder.collection }
+        ensures empty { IfSome result.folder.collection (λ c. C.holds c []) }
+    {
+        lite_gather::make::collect(self, alloc)
+    }
+
+    /// The future of a collection of what the items hold, up to the end or the first error among them, which is the value. It
+    /// takes its memory from `alloc`; where it refuses what an item holds, the value is what was collected, with that.
+    final fn try_collect<T, E, C>(self, alloc: C::Alloc) -> TryCollectFuture<Self, C>
+    where
+        Self: OkCounted<Ok = T, Err = E> + Sized,
+        C: Gather<T>,
+        ensures stream { result.stream ≡ self }
+        ensures open { IsSome result.folder.items }
+        ensures empty { IfSome result.folder.items (λ c. C.holds c []) }
+    {
+        lite_gather::make::try_collect(self, alloc)
+    }
+
+    /// The future of two collections: of the items that `predicate` accepts, and of the others. Both take their memory from
+    /// `alloc`; where one refuses an item, the value is what was collected, with that item.
+    final fn partition<B, P>(self, alloc: B::Alloc, predicate: P) -> PartitionFuture<Self, P, B>
+    where
+        Self: Counted + Sized,
+        B: Gather<Self::Item, Alloc: Copy>,
+        P: FnMut(&Self::Item) -> bool,
+        ensures stream { result.stream ≡ self }
+        ensures predicate { result.folder.predicate ≡ predicate }
+        ensures open { IsSome result.folder.res }
+        ensures empty { IfSome result.folder.res (λ c. B.holds c.0 [] × B.holds c.1 []) }
+    {
+        lite_gather::make::partition(self, alloc, predicate)
+    }
+
+    /// The future of two collections: of the first and of the second parts of the items. Both take their memory from `alloc`;
+    /// where one refuses its part, the value is what was collected, with what was refused.
+    final fn unzip<A, B, FromA, FromB>(
+        self,
+        alloc: FromA::Alloc,
+    ) -> UnzipFuture<Self, FromA, FromB>
+    where
+        Self: Counted<Item = (A, B)> + Sized,
+        FromA: Gather<A, Alloc: Copy>,
+        FromB: Gather<B, Alloc = FromA::Alloc>,
+        ensures stream { result.stream ≡ self }
+        ensures open { IsSome result.folder.res }
+        ensures empty { IfSome result.folder.res (λ c. FromA.holds c.0 [] × FromB.holds c.1 []) }
+    {
+        lite_gather::make::unzip(self, alloc)
     }
 }
 

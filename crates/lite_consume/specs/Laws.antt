@@ -1,3 +1,4 @@
 pub mod Consuming
+pub mod Given
 pub mod Returning
 pub mod Turns

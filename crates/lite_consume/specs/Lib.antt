@@ -8,6 +8,7 @@ pub mod Find
 pub mod FindMap
 pub mod Fold
 pub mod ForEach
+pub mod Given
 pub mod Last
 pub mod Laws
 pub mod Next

@@ -3,6 +3,7 @@
 
 mod all;
 mod any;
+mod block_on;
 mod calm;
 mod consume;
 mod count;
@@ -12,6 +13,7 @@ mod fold;
 mod folder;
 mod for_each;
 mod last;
+mod lent;
 pub mod make;
 mod next;
 mod nth;
@@ -22,6 +24,7 @@ mod try_next;
 
 pub use all::{All, AllFuture};
 pub use any::{Any, AnyFuture};
+pub use block_on::BlockOn;
 pub use consume::Consume;
 pub use count::{Count, CountFuture};
 pub use find::{Find, FindFuture};

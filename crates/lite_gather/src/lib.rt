@@ -1,14 +1,18 @@
 //! Collections that take in the items of a stream, and the futures that give them.
 #![tactic(auto)]
 
+mod btree_map;
+mod btree_set;
 mod collect;
-mod collections;
 mod gather;
 pub mod make;
 mod partition;
 mod refused;
+mod string;
 mod try_collect;
 mod unzip;
+mod vec;
+mod vec_deque;
 
 pub use collect::{Collect, CollectFuture};
 pub use gather::Gather;

@@ -1,5 +1,6 @@
 //! Waits on this thread for a future.
-ghost use Rattle.std.specs.Prelude.{IfOk, List};
+ghost use Rattle.std.specs.Prelude.{◌≡◌, IfOk, List, OnErr};
+ghost use Rattle.lite_base.specs.Answers.{Gives};
 ghost use Rattle.futures.specs.declared.task.Poll.{Poll};
 ghost use Rattle.lite_base.specs.Future.Finishes.{Finishes};
 
@@ -53,8 +54,7 @@ impl BlockOn {
 
     /// Polls `future` on this thread until it is ready, and answers its value. It may wait for ever.
     ///
-    /// Where a poll is pending the thread sleeps until the context of that poll is woken, and sleeps for ever where
-    /// nothing wakes it. `Err` says that there was no memory for one more task: then the future was not polled.
+    /// It is [`wait_for`](BlockOn::wait_for), which lets the future go.
     pub fn block_on<R: Wait, F: Future + Drop>(
         &mut self,
         rt: &R,
@@ -62,6 +62,23 @@ impl BlockOn {
     ) -> Result<F::Output, AllocError>
         requires { F.can_poll future }
         ensures { IfOk result (λ value. (ins : List (Poll F.Output)) × Finishes F.run future ins value) }
+    {
+        self.wait_for(rt, &mut future)
+    }
+
+    /// Polls `future`, which stays with the caller, on this thread until it is ready, and answers its value. It may wait for
+    /// ever.
+    ///
+    /// Where a poll is pending the thread sleeps until the context of that poll is woken, and sleeps for ever where
+    /// nothing wakes it. `Err` says that there was no memory for one more task: then the future was not polled.
+    pub fn wait_for<R: Wait, F: Future>(
+        &mut self,
+        rt: &R,
+        future: &mut F,
+    ) -> Result<F::Output, AllocError>
+        requires { F.can_poll future.old }
+        ensures gave { IfOk result (λ value. (ins : List (Poll F.Output)) × Gives ins value × F.run future.old ins future.new) }
+        ensures kept { OnErr result (future.new ≡ future.old) }
     {
         self.queue.add()?.schedule();
         'polls: for _ in rt.forever() {

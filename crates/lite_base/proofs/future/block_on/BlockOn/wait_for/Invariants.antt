@@ -1,5 +1,5 @@
 use Rattle.lite_base.specs.Answers.{Waiting}
-use Rattle.lite_base.proofs.future.block_on.BlockOn.block_on.Given as goal
+use Rattle.lite_base.proofs.future.block_on.BlockOn.wait_for.Given as goal
 
 abbrev pub invariant-polls : goal.invariant-polls
 invariant-polls g l = record {

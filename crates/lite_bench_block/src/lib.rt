@@ -1,0 +1,5 @@
+//! Tests of the blocking stream.
+#![tactic(auto)]
+
+#[cfg(test)]
+mod tests;

@@ -1,0 +1,256 @@
+use crate::{Few, Room};
+use bumpalo::Bump;
+use futures_lite::stream::{Gather, Refused, TryCollectError, UnzipRefused};
+use futures_lite::{Poll, StreamExt, stream};
+use lite_bench_polls::{item, polled};
+use std::alloc::Global;
+use std::collections::{BTreeMap, BTreeSet, VecDeque};
+use std::test::Fail;
+
+#[test]
+fn collect_keeps_the_items_in_order(rt: HostRuntime) -> Result<(), Fail> {
+    let evens = stream::iter([1u8, 2, 3, 4].into_iter()).filter(|x: &u8| *x % 2 == 0);
+    let got: Vec<Poll<Result<Vec<u8>, Refused<Vec<u8>, u8>>>> = polled(
+        &rt,
+        &mut evens.collect(rt.alloc()),
+        1,
+    )?;
+    let expected = [Poll::Ready(Ok(vec![in rt.alloc(); 2u8, 4]?))];
+    assert_eq!(rt; got.as_slice(), expected.as_slice());
+    Ok(())
+}
+
+#[test]
+fn collect_keeps_what_it_has_across_pendings(rt: HostRuntime) -> Result<(), Fail> {
+    let list = vec![in rt.alloc();
+        item(1u8),
+        Poll::Pending,
+        item(2),
+        Poll::Ready(None),
+        item(3),
+    ]?;
+    let mut numbers = stream::script(list);
+    let got: Vec<Poll<Result<Vec<u8>, Refused<Vec<u8>, u8>>>> = polled(
+        &rt,
+        &mut (&mut numbers).collect(rt.alloc()),
+        3,
+    )?;
+    let expected = [Poll::Pending, Poll::Ready(Ok(vec![in rt.alloc(); 1u8, 2]?))];
+    assert_eq!(rt; got.as_slice(), expected.as_slice());
+    let got = polled(&rt, &mut numbers.next(), 1)?;
+    assert_eq!(rt; got.as_slice(), [Poll::Ready(Some(3))].as_slice());
+    Ok(())
+}
+
+#[test]
+fn collect_hands_back_the_item_that_was_refused(rt: HostRuntime) -> Result<(), Fail> {
+    let bump = Bump::new(rt.alloc());
+    bump.set_allocation_limit(Some(0));
+    let mut numbers = stream::iter(1u8..4);
+    let got: Vec<Poll<Result<Vec<u8, &Bump<Global>>, Refused<Vec<u8, &Bump<Global>>, u8>>>> =
+        polled(&rt, &mut (&mut numbers).collect(&bump), 1)?;
+    let expected = Refused {
+        collected: Vec::new(&bump),
+        item: 1,
+    };
+    assert_eq!(rt; got.as_slice(), [Poll::Ready(Err(expected))].as_slice());
+    let got = polled(&rt, &mut numbers.next(), 1)?;
+    assert_eq!(rt; got.as_slice(), [Poll::Ready(Some(2))].as_slice());
+    Ok(())
+}
+
+#[test]
+fn collect_fills_a_collection_of_a_users_own(rt: HostRuntime) -> Result<(), Fail> {
+    let two = Room {
+        alloc: rt.alloc(),
+        items: 2,
+    };
+    let mut numbers = stream::iter(1u8..5);
+    let got: Vec<Poll<Result<Few<u8>, Refused<Few<u8>, u8>>>> = polled(
+        &rt,
+        &mut (&mut numbers).collect(two),
+        1,
+    )?;
+    let collected = Few {
+        items: vec![in rt.alloc(); 1u8, 2]?,
+        room: 2,
+    };
+    let expected = [Poll::Ready(Err(Refused { collected, item: 3 }))];
+    assert_eq!(rt; got.as_slice(), expected.as_slice());
+    let got: Vec<Poll<Result<Few<u8>, Refused<Few<u8>, u8>>>> = polled(
+        &rt,
+        &mut numbers.collect(two),
+        1,
+    )?;
+    let collected = Few {
+        items: vec![in rt.alloc(); 4u8]?,
+        room: 2,
+    };
+    assert_eq!(rt; got.as_slice(), [Poll::Ready(Ok(collected))].as_slice());
+    Ok(())
+}
+
+/// What taking in some items gives.
+fn gathered<T, C: Gather<T> + Drop, const N: usize>(alloc: C::Alloc, items: [T; N]) -> Result<C, T>
+where
+    T: Drop,
+{
+    let mut all = C::empty(alloc);
+    for item in items {
+        all.take_in(item)?;
+    }
+    Ok(all)
+}
+
+#[test]
+fn each_collection_takes_items_in_by_its_own_rule(rt: HostRuntime) -> Result<(), Fail> {
+    let deque: Result<VecDeque<u8>, u8> = gathered(rt.alloc(), [2, 1, 2]);
+    let mut expected = VecDeque::new(rt.alloc());
+    for x in [2u8, 1, 2] {
+        expected.push_back(x)?;
+    }
+    assert_eq!(rt; deque, Ok(expected));
+    let list: Result<Vec<u8>, u8> = gathered(rt.alloc(), [2, 1, 2]);
+    assert_eq!(rt; list, Ok(vec![in rt.alloc(); 2u8, 1, 2]?));
+    let text: Result<String, char> = gathered(rt.alloc(), ['a', 'b', 'ä']);
+    assert_eq!(rt; text, Ok(String::from_str(rt.alloc(), "abä")?));
+    let map: Result<BTreeMap<u8, &str>, (u8, &str)> = gathered(rt.alloc(), [(1, "a"), (1, "b")]);
+    let mut expected = BTreeMap::new(rt.alloc());
+    expected.insert(1u8, "b")?;
+    assert_eq!(rt; map, Ok(expected));
+    let set: Result<BTreeSet<u8>, u8> = gathered(rt.alloc(), [2, 1, 2]);
+    let mut expected = BTreeSet::new(rt.alloc());
+    for x in [1u8, 2] {
+        expected.insert(x)?;
+    }
+    assert_eq!(rt; set, Ok(expected));
+    Ok(())
+}
+
+#[test]
+fn collect_gives_each_collection(rt: HostRuntime) -> Result<(), Fail> {
+    let got: Vec<Poll<Result<VecDeque<u8>, Refused<VecDeque<u8>, u8>>>> = polled(
+        &rt,
+        &mut stream::iter([2u8, 1, 2].into_iter()).collect(rt.alloc()),
+        1,
+    )?;
+    assert_eq!(rt;
+        got.as_slice(),
+        [Poll::Ready(Ok(
+            gathered(rt.alloc(), [2u8, 1, 2])
+                .ok()
+                .unwrap_or(VecDeque::new(rt.alloc()))
+        ))]
+        .as_slice()
+    );
+    Ok(())
+}
+
+#[test]
+fn try_collect_stops_at_the_first_error(rt: HostRuntime) -> Result<(), Fail> {
+    let list = vec![in rt.alloc(); item(Ok(1u8)), Poll::Pending, item(Err(2u8)), item(Ok(3))]?;
+    let mut results = stream::script(list);
+    let got: Vec<Poll<Result<Vec<u8>, TryCollectError<Vec<u8>, u8, u8>>>> = polled(
+        &rt,
+        &mut (&mut results).try_collect(rt.alloc()),
+        3,
+    )?;
+    let expected = [Poll::Pending, Poll::Ready(Err(TryCollectError::Source(2)))];
+    assert_eq!(rt; got.as_slice(), expected.as_slice());
+    let got = polled(&rt, &mut results.try_next(), 1)?;
+    assert_eq!(rt; got.as_slice(), [Poll::Ready(Ok(Some(3)))].as_slice());
+    let list = vec![in rt.alloc(); item(Ok(1u8)), item(Ok(2))]?;
+    let results: stream::Script<Result<u8, u8>> = stream::script(list);
+    let got: Vec<Poll<Result<Vec<u8>, TryCollectError<Vec<u8>, u8, u8>>>> = polled(
+        &rt,
+        &mut results.try_collect(rt.alloc()),
+        1,
+    )?;
+    let expected = [Poll::Ready(Ok(vec![in rt.alloc(); 1u8, 2]?))];
+    assert_eq!(rt; got.as_slice(), expected.as_slice());
+    Ok(())
+}
+
+#[test]
+fn try_collect_hands_back_what_was_refused(rt: HostRuntime) -> Result<(), Fail> {
+    let one = Room {
+        alloc: rt.alloc(),
+        items: 1,
+    };
+    let list = vec![in rt.alloc(); item(Ok(1u8)), item(Ok(2)), item(Err("late"))]?;
+    let results = stream::script(list);
+    let got: Vec<Poll<Result<Few<u8>, TryCollectError<Few<u8>, u8, &str>>>> = polled(
+        &rt,
+        &mut results.try_collect(one),
+        1,
+    )?;
+    let collected = Few {
+        items: vec![in rt.alloc(); 1u8]?,
+        room: 1,
+    };
+    let refused = TryCollectError::Memory(Refused { collected, item: 2 });
+    assert_eq!(rt; got.as_slice(), [Poll::Ready(Err(refused))].as_slice());
+    Ok(())
+}
+
+#[test]
+fn partition_sorts_by_the_predicate(rt: HostRuntime) -> Result<(), Fail> {
+    let list = vec![in rt.alloc(); item(1u8), item(2), Poll::Pending, item(3)]?;
+    let sorted = stream::script(list).partition(rt.alloc(), |x: &u8| *x % 2 == 0);
+    let mut sorted: stream::PartitionFuture<_, _, Vec<u8>> = sorted;
+    let got = polled(&rt, &mut sorted, 3)?;
+    let both = (vec![in rt.alloc(); 2u8]?, vec![in rt.alloc(); 1u8, 3]?);
+    assert_eq!(rt;
+        got.as_slice(),
+        [Poll::Pending, Poll::Ready(Ok(both))].as_slice()
+    );
+    let one = Room {
+        alloc: rt.alloc(),
+        items: 1,
+    };
+    let sorted = stream::iter(1u8..5).partition(one, |x: &u8| *x % 2 == 0);
+    let mut sorted: stream::PartitionFuture<_, _, Few<u8>> = sorted;
+    let got = polled(&rt, &mut sorted, 1)?;
+    let few = |x: u8| -> Result<Few<u8>, Fail> {
+        Ok(Few {
+            items: vec![in rt.alloc(); x]?,
+            room: 1,
+        })
+    };
+    let refused = Refused {
+        collected: (few(2)?, few(1)?),
+        item: 3,
+    };
+    assert_eq!(rt; got.as_slice(), [Poll::Ready(Err(refused))].as_slice());
+    Ok(())
+}
+
+#[test]
+fn unzip_parts_each_pair(rt: HostRuntime) -> Result<(), Fail> {
+    let list = vec![in rt.alloc(); item((1u8, 2u8)), Poll::Pending, item((3, 4))]?;
+    let mut parts: stream::UnzipFuture<_, Vec<u8>, Vec<u8>> = stream::script(list).unzip(
+        rt.alloc(),
+    );
+    let got = polled(&rt, &mut parts, 3)?;
+    let both = (vec![in rt.alloc(); 1u8, 3]?, vec![in rt.alloc(); 2u8, 4]?);
+    assert_eq!(rt;
+        got.as_slice(),
+        [Poll::Pending, Poll::Ready(Ok(both))].as_slice()
+    );
+    Ok(())
+}
+
+#[test]
+fn unzip_hands_back_what_was_refused(rt: HostRuntime) -> Result<(), Fail> {
+    let bump = Bump::new(rt.alloc());
+    bump.set_allocation_limit(Some(0));
+    let mut parts: stream::UnzipFuture<_, Vec<u8, &Bump<Global>>, Vec<u8, &Bump<Global>>> =
+        stream::once((1u8, 2u8)).unzip(&bump);
+    let got = polled(&rt, &mut parts, 1)?;
+    let refused = UnzipRefused::Left {
+        collected: (Vec::new(&bump), Vec::new(&bump)),
+        item: (1, 2),
+    };
+    assert_eq!(rt; got.as_slice(), [Poll::Ready(Err(refused))].as_slice());
+    Ok(())
+}

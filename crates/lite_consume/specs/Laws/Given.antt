@@ -1,0 +1,92 @@
+-- What is given of a part, and of a stream that is lent.
+use Rattle.std.specs.Prelude.{Result, Ok, Err, IfOk}
+use Rattle.std.proofs.Common.{List, [], ◌∷◌, Some, None}
+use Rattle.std.specs.List.{FoldsTo}
+use Rattle.futures.specs.declared.task.Poll.{Poll}
+use Rattle.futures.specs.declared.task.Poll.TheVariants.{Ready, Pending}
+use denote.MutBor.{MutBor}
+use Rattle.lite_base.specs.Answers.{Answer, Gives}
+use Rattle.lite_base.specs.Ends.{Ends-map}
+use Rattle.lite_base.specs.Lent.{Lent}
+use Rattle.lite_consume.specs.Consume.{Folds}
+use Rattle.lite_consume.specs.Consuming.{Concludes, Consumes, Decides, Fold, TakesIn, Waits, fold_of}
+use Rattle.lite_consume.specs.Turns.{MayTakeEach, Returns}
+use Rattle.lite_stream.specs.EachItem.{items_in}
+use Rattle.lite_consume.specs.declared.consume.Consume.{Consume}
+use Rattle.lite_consume.specs.Given.{Given}
+
+module _ {N M A R : Type 0} (part : N → M) (fold : Fold M A R) where
+  part_folds : (p q : N) (l : List A) → FoldsTo (TakesIn (fold_of part fold)) p l q → FoldsTo (TakesIn fold) (part p) l (part q)
+  part_folds p q [] e = λ i. part (e i)
+  part_folds p q (x ∷ l) h = (part h.0, h.1, part_folds h.0 q l h.2)
+
+  part_decides : (p q : N) (a : Answer A) (r : R) → Decides (fold_of part fold) p a r q → Decides fold (part p) a r (part q)
+  part_decides p q Pending r h = h
+  part_decides p q (Ready None) r h = h
+  part_decides p q (Ready (Some x)) r h = h
+
+  -- what a part folds
+  part_consumes : (p q : N) (i : List (Answer A)) (l : List (Poll R)) → Consumes (fold_of part fold) p i l q → Consumes fold (part p) i l (part q)
+  part_consumes p q i [] h = (h.0, λ j. part (h.1 j))
+  part_consumes p q i (Pending ∷ l) h =
+      let first = h.2 in
+      let whole : Waits fold (part p) i h.0 (part h.1) = record { taken = first.taken; cut = first.cut; folds = part_folds p h.1 first.taken first.folds } in
+      (h.0, part h.1, whole, part_consumes h.1 q h.0 l h.3)
+  part_consumes p q i (Ready r ∷ l) h =
+      let last = h.0 in
+      let whole : Concludes fold (part p) i r (part q) =
+      record {
+        taken = last.taken;
+        last = last.last;
+        cut = last.cut;
+        between = part last.between;
+        folds = part_folds p last.between last.taken last.folds;
+        decides = part_decides last.between q last.last r last.decides;
+      } in
+      (whole, h.1)
+
+  -- what was given of it
+  pub given : {S E : Type 0} (run : S → List (Answer A) → S → Type 0) (s t : S) (p : N) (r : Result R E)
+      → IfOk r (λ v. Given (fold_of part fold) run s p v t) → IfOk r (λ v. Given fold run s (part p) v t)
+  given run s t p (Ok v) h =
+      let old = h.3 in
+      (h.0, part h.1, h.2, record { ins = old.ins; came = old.came; consumed = part_consumes p h.1 old.ins h.0 old.consumed })
+  given run s t p (Err e) h = tt
+
+  -- where the stream is gone
+  pub given_last : {S E : Type 0} (run : S → List (Answer A) → S → Type 0) (s t : S) (p : N) (r : Result R E)
+      → IfOk r (λ v. Given (fold_of part fold) run s p v t) → IfOk r (λ v. (left : S) × Given fold run s (part p) v left)
+  given_last {E = E} run s t p (Ok v) h = (t, given {E = E} run s t p (Ok v) h)
+  given_last run s t p (Err e) h = tt
+
+  asked_of : (p q : N) (l : List A) → FoldsTo (λ v x w. (o : Unit {0}) × TakesIn (fold_of part fold) v x w) p l q → FoldsTo (λ v x w. (o : Unit {0}) × TakesIn fold v x w) (part p) l (part q)
+  asked_of p q [] e = λ i. part (e i)
+  asked_of p q (x ∷ l) h = (part h.0, (tt, h.1.1), asked_of h.0 q l h.2)
+
+  -- what it may take in
+  pub each_of : {S : Type 0} (run : S → List (Answer A) → S → Type 0) (can_take : M → A → Type 0) (s : S) (p : N)
+      → MayTakeEach run fold can_take s (part p) → MayTakeEach run (fold_of part fold) (λ q x. can_take (part q) x) s p
+  each_of run can_take s p h = record { at = λ ins x t q came asked. h.at ins x t (part q) came (asked_of p q (items_in ins) asked) }
+
+-- a fold that is lent, over a stream that is
+module _ {S M A R : Type 0} (run : S → List (Answer A) → S → Type 0) (fold : Fold M A R) where
+  abbrev now : MutBor M → M
+  now p = p.now
+
+  pub lent_given : {E : Type 0} (x y : Consume (MutBor S) (MutBor M)) (r : Result R E)
+      → IfOk r (λ v. (l : List (Poll R)) × Gives l v × Folds (Lent run) (fold_of now fold) x l y) → IfOk r (λ v. Given fold run x.stream.now x.folder.now v y.stream.now)
+  lent_given x y (Ok v) h =
+      let lent = h.2 in
+      (h.0, y.folder.now, h.1, record { ins = lent.ins; came = lent.came.0; consumed = part_consumes now fold x.folder y.folder lent.ins h.0 lent.consumed })
+  lent_given x y (Err e) h = tt
+
+  pub lent_each : (can_take : M → A → Type 0) (s : MutBor S) (p : MutBor M) → MayTakeEach run fold can_take s.now p.now → MayTakeEach (Lent run) (fold_of now fold) (λ q x. can_take q.now x) s p
+  lent_each can_take s p h = record { at = λ ins x t q came asked. h.at ins x t.now q.now came.0 (asked_of now fold p q (items_in ins) asked) }
+
+  pub lent_returns : {counts : S → Type 0} {is_open : M → Type 0} → Returns run fold counts is_open → Returns (Lent run) (fold_of now fold) (λ s. counts s.now) (λ p. is_open p.now)
+  lent_returns r =
+      record {
+        counts_on = λ s t l k h. r.counts_on s.now t.now l k h.0;
+        ends = λ s p k. Ends-map (λ v. (v.0.now, v.1.now)) (λ v w h. (h.0, h.1.0, h.2)) (s, p) (r.ends s.now p.now k);
+        opens = λ p q x k h. r.opens p.now q.now x k h;
+      }

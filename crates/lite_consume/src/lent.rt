@@ -1,0 +1,27 @@
+ghost use Rattle.lite_consume.specs.Consuming.{fold_of};
+ghost use Rattle.lite_consume.specs.Laws.Given.{lent_returns};
+
+use crate::folder::Folder;
+use lite_base::Stream;
+
+impl<S: Stream, F: Folder<S>> Folder<&mut S> for &mut F {
+    type Output = F::Output;
+
+    ghost fold = { fold_of (λ f. f.now) F.fold };
+
+    ghost can_take = { λ f. F.can_take f.now };
+
+    ghost is_open = { λ f. F.is_open f.now };
+
+    ghost counts = { λ s. F.counts s.now };
+
+    fn take_in(&mut self, item: S::Item) -> Option<F::Output> {
+        (**self).take_in(item)
+    }
+
+    fn close(&mut self) -> F::Output {
+        (**self).close()
+    }
+
+    ghost returns = { lent_returns S.run F.fold F.returns };
+}

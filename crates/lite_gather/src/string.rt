@@ -1,0 +1,24 @@
+ghost use Rattle.std.specs.Prelude.{◌≡◌, string_bytes};
+ghost use Rattle.std.specs.Char.{encode_utf8};
+ghost use Rattle.std.specs.List.{flat_map};
+
+use crate::gather::Gather;
+use std::alloc::Allocator;
+
+/// Characters go to the end.
+impl<A: Allocator> Gather<char> for String<A> {
+    type Alloc = A;
+
+    ghost holds = { λ c l. string_bytes c ≡ flat_map encode_utf8 l };
+
+    fn empty(alloc: A) -> String<A> {
+        String::new(alloc)
+    }
+
+    fn take_in(&mut self, item: char) -> Result<(), char> {
+        match self.push(item) {
+            Ok(()) => Ok(()),
+            Err(_error) => Err(item),
+        }
+    }
+}

@@ -1,0 +1,22 @@
+ghost use Rattle.std.specs.Prelude.{◌≡◌};
+
+use crate::gather::Gather;
+use std::alloc::Allocator;
+
+/// Items go to the back.
+impl<T, A: Allocator> Gather<T> for Vec<T, A> {
+    type Alloc = A;
+
+    ghost holds = { λ c l. c.items ≡ l };
+
+    fn empty(alloc: A) -> Vec<T, A> {
+        Vec::new(alloc)
+    }
+
+    fn take_in(&mut self, item: T) -> Result<(), T> {
+        match self.push(item) {
+            Ok(()) => Ok(()),
+            Err(refused) => Err(refused.value),
+        }
+    }
+}

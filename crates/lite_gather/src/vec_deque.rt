@@ -1,0 +1,23 @@
+ghost use Rattle.std.specs.Prelude.{◌≡◌};
+
+use crate::gather::Gather;
+use std::alloc::Allocator;
+use std::collections::VecDeque;
+
+/// Items go to the back.
+impl<T, A: Allocator> Gather<T> for VecDeque<T, A> {
+    type Alloc = A;
+
+    ghost holds = { λ c l. c.items ≡ l };
+
+    fn empty(alloc: A) -> VecDeque<T, A> {
+        VecDeque::new(alloc)
+    }
+
+    fn take_in(&mut self, item: T) -> Result<(), T> {
+        match self.push_back(item) {
+            Ok(()) => Ok(()),
+            Err(refused) => Err(refused.value),
+        }
+    }
+}
