@@ -2,7 +2,9 @@
 #![tactic(auto)]
 
 mod few;
+mod gathered;
 #[cfg(test)]
 mod tests;
 
 pub use few::{Few, Room};
+pub use gathered::gathered;

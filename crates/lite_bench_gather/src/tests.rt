@@ -1,6 +1,6 @@
-use crate::{Few, Room};
+use crate::{Few, Room, gathered};
 use bumpalo::Bump;
-use futures_lite::stream::{Gather, Refused, TryCollectError, UnzipRefused};
+use futures_lite::stream::{Refused, TryCollectError, UnzipRefused};
 use futures_lite::{Poll, StreamExt, stream};
 use lite_bench_polls::{item, polled};
 use std::alloc::Global;
@@ -90,35 +90,26 @@ fn collect_fills_a_collection_of_a_users_own(rt: HostRuntime) -> Result<(), Fail
     Ok(())
 }
 
-/// What taking in some items gives.
-fn gathered<T, C: Gather<T> + Drop, const N: usize>(alloc: C::Alloc, items: [T; N]) -> Result<C, T>
-where
-    T: Drop,
-{
-    let mut all = C::empty(alloc);
-    for item in items {
-        all.take_in(item)?;
-    }
-    Ok(all)
-}
-
 #[test]
 fn each_collection_takes_items_in_by_its_own_rule(rt: HostRuntime) -> Result<(), Fail> {
-    let deque: Result<VecDeque<u8>, u8> = gathered(rt.alloc(), [2, 1, 2]);
+    let deque: Result<VecDeque<u8>, u8> = gathered(rt.alloc(), vec![in rt.alloc(); 2, 1, 2]?);
     let mut expected = VecDeque::new(rt.alloc());
     for x in [2u8, 1, 2] {
         expected.push_back(x)?;
     }
     assert_eq!(rt; deque, Ok(expected));
-    let list: Result<Vec<u8>, u8> = gathered(rt.alloc(), [2, 1, 2]);
+    let list: Result<Vec<u8>, u8> = gathered(rt.alloc(), vec![in rt.alloc(); 2, 1, 2]?);
     assert_eq!(rt; list, Ok(vec![in rt.alloc(); 2u8, 1, 2]?));
-    let text: Result<String, char> = gathered(rt.alloc(), ['a', 'b', 'ä']);
+    let text: Result<String, char> = gathered(rt.alloc(), vec![in rt.alloc(); 'a', 'b', 'ä']?);
     assert_eq!(rt; text, Ok(String::from_str(rt.alloc(), "abä")?));
-    let map: Result<BTreeMap<u8, &str>, (u8, &str)> = gathered(rt.alloc(), [(1, "a"), (1, "b")]);
+    let map: Result<BTreeMap<u8, &str>, (u8, &str)> = gathered(
+        rt.alloc(),
+        vec![in rt.alloc(); (1, "a"), (1, "b")]?,
+    );
     let mut expected = BTreeMap::new(rt.alloc());
     expected.insert(1u8, "b")?;
     assert_eq!(rt; map, Ok(expected));
-    let set: Result<BTreeSet<u8>, u8> = gathered(rt.alloc(), [2, 1, 2]);
+    let set: Result<BTreeSet<u8>, u8> = gathered(rt.alloc(), vec![in rt.alloc(); 2, 1, 2]?);
     let mut expected = BTreeSet::new(rt.alloc());
     for x in [1u8, 2] {
         expected.insert(x)?;
@@ -134,15 +125,17 @@ fn collect_gives_each_collection(rt: HostRuntime) -> Result<(), Fail> {
         &mut stream::iter([2u8, 1, 2].into_iter()).collect(rt.alloc()),
         1,
     )?;
-    assert_eq!(rt;
-        got.as_slice(),
-        [Poll::Ready(Ok(
-            gathered(rt.alloc(), [2u8, 1, 2])
-                .ok()
-                .unwrap_or(VecDeque::new(rt.alloc()))
-        ))]
-        .as_slice()
-    );
+    let mut expected = VecDeque::new(rt.alloc());
+    for x in [2u8, 1, 2] {
+        expected.push_back(x)?;
+    }
+    assert_eq!(rt; got.as_slice(), [Poll::Ready(Ok(expected))].as_slice());
+    let pairs = stream::iter([(1u8, "a"), (1, "b")].into_iter());
+    let got: Vec<Poll<Result<BTreeMap<u8, &str>, Refused<BTreeMap<u8, &str>, (u8, &str)>>>> =
+        polled(&rt, &mut pairs.collect(rt.alloc()), 1)?;
+    let mut expected = BTreeMap::new(rt.alloc());
+    expected.insert(1u8, "b")?;
+    assert_eq!(rt; got.as_slice(), [Poll::Ready(Ok(expected))].as_slice());
     Ok(())
 }
 
