@@ -1,5 +1,6 @@
 use futures_lite::{Poll, Stream, stream};
 use lite_bench_polls::item;
+use std::cell::Cell;
 use std::test::Fail;
 
 #[test]
@@ -23,12 +24,12 @@ fn what_ends_at_the_end_takes_the_stream(rt: HostRuntime) -> Result<(), Fail> {
         |a: u8, x: u8| a.wrapping_add(x),
     );
     assert_eq!(rt; sum, Ok(6));
-    let mut calls = 0u8;
+    let sum = Cell::new(0u8);
     let called = stream::block_on(rt, stream::iter(1u8..4)).for_each(|x: u8| {
-        calls = calls.wrapping_add(x);
+        sum.set(sum.get().wrapping_add(x));
     });
     assert_eq!(rt; called, Ok(()));
-    assert_eq!(rt; calls, 6);
+    assert_eq!(rt; sum.get(), 6);
     Ok(())
 }
 

@@ -1,4 +1,4 @@
-ghost use Rattle.lite_bench_gather.specs.Few.{HoldsItems};
+ghost use Rattle.lite_bench_gather.specs.Few.{HoldsAll, HoldsItems};
 
 use futures_lite::stream::Gather;
 use std::alloc::Global;
@@ -37,5 +37,27 @@ impl<T> Gather<T> for Few<T> {
             Ok(()) => Ok(()),
             Err(refused) => Err(refused.value),
         }
+    }
+}
+
+/// One that has room for every item, as far as memory goes.
+#[derive(Debug, PartialEq, Drop)]
+pub struct Tall<T> {
+    pub items: Vec<T>,
+}
+
+impl<T> Gather<T> for Tall<T> {
+    type Alloc = Room;
+
+    ghost holds = { HoldsAll };
+
+    fn empty(alloc: Room) -> Tall<T> {
+        Tall {
+            items: Vec::new(alloc.alloc),
+        }
+    }
+
+    fn take_in(&mut self, item: T) -> Result<(), T> {
+        self.items.take_in(item)
     }
 }

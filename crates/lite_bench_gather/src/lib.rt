@@ -2,9 +2,9 @@
 #![tactic(auto)]
 
 mod few;
-mod gathered;
+mod gather;
 #[cfg(test)]
 mod tests;
 
-pub use few::{Few, Room};
-pub use gathered::gathered;
+pub use few::{Few, Room, Tall};
+pub use gather::gather_all;
