@@ -1,1 +1,2 @@
+pub mod SteadyZip
 pub mod Zip

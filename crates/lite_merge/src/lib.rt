@@ -3,6 +3,7 @@
 
 mod calm;
 pub mod make;
+mod steady;
 mod zip;
 
 pub use zip::Zip;
