@@ -3,7 +3,12 @@
 
 mod calm;
 pub mod make;
+mod or;
+mod picks;
+mod race;
 mod steady;
 mod zip;
 
+pub use or::Or;
+pub use race::Race;
 pub use zip::Zip;

@@ -29,7 +29,8 @@ impl<A: Stream<Item: Drop>, B: Stream> Zip<A, B> {
             × Held item [] (Pairs []) seconds (result ∷ []) self.new.item_slot }
         ensures first { self.new.first ≡ self.old.first }
         ensures again { B.can_poll self.new.second }
-        ensures left { OnPending result ((fact : Lasting) → ZipLeaves A.leaves B.leaves self.new.item_slot self.new.first self.new.second fact → Holds cx.new fact) }
+        ensures left { OnPending result ((fact : Lasting)
+            → ZipLeaves A.leaves B.leaves self.new.item_slot self.new.first self.new.second fact → Holds cx.new fact) }
         ensures kept { Keeps cx.old cx.new }
     {
         match self.second.poll_next(cx) {
@@ -58,7 +59,7 @@ impl<A: Stream<Item: Drop>, B: Stream> Stream for Zip<A, B> {
 
     fn poll_next(&mut self, cx: &mut Context<'_>) -> Poll<Option<(A::Item, B::Item)>> {
         match self.item_slot.take() {
-            Some(item) => self.poll_pair(item, cx),
+            Some(held) => self.poll_pair(held, cx),
             None => match ready!(self.first.poll_next(cx)) {
                 Some(item) => self.poll_pair(item, cx),
                 None => Poll::Ready(None),

@@ -1,11 +1,11 @@
 -- Two streams whose items are paired, by what each of them answers.
-use Rattle.std.proofs.Common.{◌≡◌, ◌∙◌, ◌⊎◌, ℕ, zero, suc, List, [], ◌∷◌, Option, Some, None, inl, inr, refl, ap, subst, sym}
+use Rattle.std.proofs.Common.{◌≡◌, ◌∙◌, ℕ, zero, suc, List, [], ◌∷◌, Option, Some, None, inl, inr, refl, ap, subst, sym}
 use Rattle.futures.specs.declared.task.Poll.{Poll}
 use Rattle.futures.specs.declared.task.Poll.TheVariants.{Ready, Pending}
 use Rattle.lite_base.specs.Answers.{Answer, Comparable, strip}
 use Rattle.lite_base.specs.Laws.Alike.{comparable_nil}
 use Rattle.lite_base.specs.Steady.{SteadyLaws}
-use Rattle.lite_merge.specs.Zip.{Held, Paired, Pairing, Pairs, Zips, pair_with, pendings}
+use Rattle.lite_merge.specs.Zip.{Held, Pairing, Pairs, Zips, pair_with, pendings}
 use Rattle.lite_merge.specs.declared.zip.Zip.{Zip}
 
 strip_pendings : {C : Type 0} (n : ℕ) (l : List (Poll C)) → strip (pendings n l) ≡ strip l

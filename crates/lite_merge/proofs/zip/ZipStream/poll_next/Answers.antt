@@ -1,4 +1,4 @@
-use Rattle.std.proofs.Common.{◌≡◌, [], ◌∷◌, Some, None, refl, subst, sym}
+use Rattle.std.proofs.Common.{◌≡◌, [], ◌∷◌, Some, None, refl}
 use Rattle.futures.specs.declared.task.Poll.TheVariants.{Pending}
 use Rattle.lite_merge.proofs.zip.ZipStream.poll_next.Goals as goal
 
@@ -10,12 +10,12 @@ returns-in-None-clause-ran g c =
 
 pub returns-in-Some-clause-ran : goal.returns-in-Some-clause-ran
 returns-in-Some-clause-ran g c =
-    let held : c.args.self.now.item_slot ≡ Some c.in-Some.item = cc in
+    let held : c.args.self.now.item_slot ≡ Some c.in-Some.held = cc in
     let met = c.poll_pair.ensures.met in
     record {
       firsts = [];
       seconds = met.0;
-      came = subst (λ k. g.A.Stream.run c.args.self.now.first [] k) (sym c.poll_pair.ensures.first) (g.met.A.Stream.laws.rests _);
+      came = rw c.poll_pair.ensures.first (g.met.A.Stream.laws.rests _);
       then_came = met.1;
       paired = rw held met.2;
     }
