@@ -3,6 +3,7 @@
 
 mod calm;
 pub mod make;
+mod ok_counted;
 mod or;
 mod picks;
 mod race;
