@@ -30,7 +30,8 @@ Rows {A} (true ∷ order) i j (c ∷ out) = (i' j' : List (Answer A)) × Row i j
 Rows {A} (false ∷ order) i j (c ∷ out) = (i' j' : List (Answer A)) × Row j i c j' i' × Rows order i' j' out
 
 -- each of the two answers through its first end, is asked no more after it, and counts as an end from there on; what goes out of their rows is out
-pub record Merges {S U A : Type 0} (run : S → List (Answer A) → S → Type 0) (run' : U → List (Answer A) → U → Type 0) (order : List Bool) (s : Fuse S) (u : Fuse U) (out : List (Answer A)) (t : Fuse S) (v : Fuse U) : Type 0 where
+pub record Merges {S U A : Type 0} (run : S → List (Answer A) → S → Type 0) (run' : U → List (Answer A) → U → Type 0)
+    (order : List Bool) (s : Fuse S) (u : Fuse U) (out : List (Answer A)) (t : Fuse S) (v : Fuse U) : Type 0 where
   pub firsts : List (Answer A)
   pub seconds : List (Answer A)
   pub came : Fuses run s firsts t

@@ -7,7 +7,8 @@ use Rattle.lite_base.specs.Ranks.{Ranks}
 use Rattle.lite_merge.specs.Merge.{Merges, merge_ranks}
 use Rattle.lite_merge.specs.declared.race.Race.{Race}
 
-pub record Races {S U R A : Type 0} (run : S → List (Answer A) → S → Type 0) (run' : U → List (Answer A) → U → Type 0) (stream : R → Stream) (x : Race S U R) (out : List (Answer A)) (y : Race S U R) : Type 0 where
+pub record Races {S U R A : Type 0} (run : S → List (Answer A) → S → Type 0) (run' : U → List (Answer A) → U → Type 0) (stream : R → Stream)
+    (x : Race S U R) (out : List (Answer A)) (y : Race S U R) : Type 0 where
   pub words : List ℕ
   pub drawn : Words (stream x.rng) words (stream y.rng)
   pub merges : Merges run run' (map is_first words) x.stream1 x.stream2 out y.stream1 y.stream2

@@ -44,7 +44,8 @@ module _ {A B : Type 0} where
   Pairing None is js out last = Pairs is js out last
   Pairing (Some x) is js out last = Held x is (Pairs is) js out last
 
-pub record Zips {S U A B : Type 0} (run : S → List (Answer A) → S → Type 0) (run' : U → List (Answer B) → U → Type 0) (x : Zip S U A) (out : List (Answer (A × B))) (y : Zip S U A) : Type 0 where
+pub record Zips {S U A B : Type 0} (run : S → List (Answer A) → S → Type 0) (run' : U → List (Answer B) → U → Type 0)
+    (x : Zip S U A) (out : List (Answer (A × B))) (y : Zip S U A) : Type 0 where
   pub firsts : List (Answer A)
   pub seconds : List (Answer B)
   pub came : run x.first firsts y.first
