@@ -1,0 +1,96 @@
+-- Two streams whose items are paired, by what each of them answers.
+use Rattle.std.proofs.Common.{◌≡◌, ◌∙◌, ℕ, zero, suc, List, [], ◌∷◌, Option, Some, None, inl, inr, refl, ap, subst, sym}
+use Rattle.futures.specs.declared.task.Poll.{Poll}
+use Rattle.futures.specs.declared.task.Poll.TheVariants.{Ready, Pending}
+use Rattle.lite_base.specs.Answers.{Answer, Comparable, strip}
+use Rattle.lite_base.specs.Laws.Alike.{comparable_nil}
+use Rattle.lite_base.specs.Steady.{SteadyLaws}
+use Rattle.lite_merge.specs.Zip.{Held, Pairing, Pairs, Zips, pair_with, pendings}
+use Rattle.lite_merge.specs.declared.zip.Zip.{Zip}
+
+strip_pendings : {C : Type 0} (n : ℕ) (l : List (Poll C)) → strip (pendings n l) ≡ strip l
+strip_pendings zero l = refl
+strip_pendings (suc n) l = strip_pendings n l
+
+module _ {A B : Type 0} where
+  -- the pair, or the end
+  abbrev with_other : A → Option B → Option (A × B)
+  with_other x None = None
+  with_other x (Some y) = Some (x, y)
+
+  strip_pair : (x : A) (b : Option B) (l : List (Answer (A × B))) → strip (pair_with x b ∷ l) ≡ with_other x b ∷ strip l
+  strip_pair x None l = refl
+  strip_pair x (Some y) l = refl
+
+  -- as Held, where nothing is pending
+  abbrev Meets : A → (List (Option B) → List (Option (A × B)) → Type 0) → List (Option B) → List (Option (A × B)) → Type 0
+  Meets x follows [] out = out ≡ []
+  Meets x follows (b ∷ js) out = (more : List (Option (A × B))) × (out ≡ with_other x b ∷ more) × follows js more
+
+  -- as Pairs and Pairing, where nothing is pending
+  abbrev Matched : List (Option A) → List (Option B) → List (Option (A × B)) → Type 0
+  Matched [] js out = out ≡ []
+  Matched (None ∷ is) js out = (more : List (Option (A × B))) × (out ≡ None ∷ more) × Matched is js more
+  Matched (Some x ∷ is) js out = Meets x (Matched is) js out
+
+  abbrev Matching : Option A → List (Option A) → List (Option B) → List (Option (A × B)) → Type 0
+  Matching None is js out = Matched is js out
+  Matching (Some x) is js out = Meets x (Matched is) js out
+
+  met : (x : A) (i : List (Answer A)) (j : List (Answer B)) (l : List (Answer (A × B))) (g : Option A)
+      → ((more : List (Answer B)) (rest : List (Answer (A × B))) → Pairs i more rest g → Matched (strip i) (strip more) (strip rest)) → Held x i (Pairs i) j l g → Meets x (Matched (strip i)) (strip j) (strip l)
+  met x i j l g rest (inl c) =
+      let e : strip j ≡ [] = ap strip c.2 ∙ strip_pendings c.0 [] in
+      let d : strip l ≡ [] = ap strip c.3 ∙ strip_pendings c.0 [] in
+      rw (e, d) refl
+  met x i j l g rest (inr c) =
+      let e : strip j ≡ c.1 ∷ strip c.2 = ap strip c.4 ∙ strip_pendings c.0 (Ready c.1 ∷ c.2) in
+      let d : strip l ≡ with_other x c.1 ∷ strip c.3 = ap strip c.5 ∙ strip_pendings c.0 (pair_with x c.1 ∷ c.3) ∙ strip_pair x c.1 c.3 in
+      rw (e, d) (strip c.3, refl, rest c.2 c.3 c.6)
+
+  matched : (g : Option A) (i : List (Answer A)) (j : List (Answer B)) (l : List (Answer (A × B))) → Pairs i j l g → Matched (strip i) (strip j) (strip l)
+  matched g [] j l c = ap strip c.1
+  matched g (a ∷ i) j [] c = absurd c
+  matched g (Pending ∷ i) j (b ∷ l) c = rw c.0 (matched g i j l c.1)
+  matched g (Ready None ∷ i) j (b ∷ l) c = rw c.0 (strip l, refl, matched g i j l c.1)
+  matched g (Ready (Some x) ∷ i) j (b ∷ l) c = met x i j (b ∷ l) g (λ more rest e. matched g i more rest e) c
+
+  matching : (f g : Option A) (i : List (Answer A)) (j : List (Answer B)) (l : List (Answer (A × B))) → Pairing f i j l g → Matching f (strip i) (strip j) (strip l)
+  matching None g i j l c = matched g i j l c
+  matching (Some x) g i j l c = met x i j l g (λ more rest e. matched g i more rest e) c
+
+  meets_same : (x y : A) (P Q : List (Option B) → List (Option (A × B)) → Type 0) (j k : List (Option B)) (o p : List (Option (A × B))) → x ≡ y
+      → ((more more' : List (Option B)) (rest rest' : List (Option (A × B))) → P more rest → Q more' rest' → Comparable more more' → Comparable rest rest')
+      → Meets x P j o → Meets y Q k p → Comparable j k → Comparable o p
+  meets_same x y P Q [] k o p e rest r q d = subst (λ l. Comparable l p) (sym r) tt
+  meets_same x y P Q (b ∷ j) [] o p e rest r q d = subst (λ l. Comparable o l) (sym q) (comparable_nil (λ x y. x ≡ y) o)
+  meets_same x y P Q (b ∷ j) (c ∷ k) o p e rest r q d =
+      let same : with_other x b ≡ with_other y c = (let d' = d.0 in cc) in
+      rw (r.1, q.1) (same, rest j k r.0 q.0 r.2 q.2 d.1)
+
+  matched_same : (i k : List (Option A)) (j h : List (Option B)) (o p : List (Option (A × B))) → Matched i j o → Matched k h p → Comparable i k → Comparable j h → Comparable o p
+  matched_same [] k j h o p r q c d = subst (λ l. Comparable l p) (sym r) tt
+  matched_same (x ∷ i) [] j h o p r q c d = subst (λ l. Comparable o l) (sym q) (comparable_nil (λ x y. x ≡ y) o)
+  matched_same (None ∷ i) (None ∷ k) j h o p r q c d = rw (r.1, q.1) (refl, matched_same i k j h r.0 q.0 r.2 q.2 c.1 d)
+  matched_same (None ∷ i) (Some y ∷ k) j h o p r q c d = absurd (let e = c.0 in cc)
+  matched_same (Some x ∷ i) (None ∷ k) j h o p r q c d = absurd (let e = c.0 in cc)
+  matched_same (Some x ∷ i) (Some y ∷ k) j h o p r q c d =
+      meets_same x y (Matched i) (Matched k) j h o p (let e = c.0 in cc) (λ more more' rest rest' u v w. matched_same i k more more' rest rest' u v c.1 w) r q d
+
+  matching_same : (f : Option A) (i k : List (Option A)) (j h : List (Option B)) (o p : List (Option (A × B))) → Matching f i j o → Matching f k h p → Comparable i k → Comparable j h → Comparable o p
+  matching_same None i k j h o p r q c d = matched_same i k j h o p r q c d
+  matching_same (Some x) i k j h o p r q c d = meets_same x x (Matched i) (Matched k) j h o p refl (λ more more' rest rest' u v w. matched_same i k more more' rest rest' u v c w) r q d
+
+module _ {S U A B : Type 0} {run ample : S → List (Answer A) → S → Type 0} {run' ample' : U → List (Answer B) → U → Type 0} {none none' : Type 0} {alike : S → S → Type 0} {alike' : U → U → Type 0} where
+  -- where they hold the same
+  pub zip_steady : SteadyLaws run ample none alike → SteadyLaws run' ample' none' alike'
+      → SteadyLaws (Zips run run') (Zips ample ample') (none × none') (λ (x y : Zip S U A). alike x.first y.first × alike' x.second y.second × (y.item_slot ≡ x.item_slot))
+  zip_steady s u =
+      record {
+        steady = λ x y e l m x' y' h k.
+            matching_same x.item_slot (strip h.firsts) (strip k.firsts) (strip h.seconds) (strip k.seconds) (strip l) (strip m) (matching x.item_slot x'.item_slot h.firsts h.seconds l h.paired)
+            (subst (λ o. Matching o (strip k.firsts) (strip k.seconds) (strip m)) e.2 (matching y.item_slot y'.item_slot k.firsts k.seconds m k.paired))
+            (s.steady x.first y.first e.0 h.firsts k.firsts x'.first y'.first h.came k.came) (u.steady x.second y.second e.1 h.seconds k.seconds x'.second y'.second h.then_came k.then_came);
+        found = λ n x y l h.
+            record { firsts = h.firsts; seconds = h.seconds; came = s.found n.0 x.first y.first h.firsts h.came; then_came = u.found n.1 x.second y.second h.seconds h.then_came; paired = h.paired };
+      }

@@ -1,0 +1,47 @@
+ghost use Rattle.std.specs.Prelude.{◌≡◌, None};
+ghost use Rattle.lite_merge.specs.Laws.Or.{or_counting, or_laws};
+ghost use Rattle.lite_merge.specs.Merge.{MergeLeaves};
+ghost use Rattle.lite_merge.specs.Or.{Ors, or_ranks};
+
+use crate::picks::poll_in_order;
+use lite_base::{Context, Counted, Poll, Stream};
+use lite_stream::Fuse;
+
+/// The items of two streams as they come, the first stream's before the second's where both have one.
+///
+/// Made by [`or`](crate::make::or). The second stream is polled only where the first gave no item. A stream that has ended
+/// is not polled any more. A poll without an item is an end where both streams have ended, and then this stream ends for
+/// ever; else it is pending. Ported from `src/stream.rs`, `Or`.
+#[derive(Clone, Debug, Drop)]
+pub struct Or<S1, S2> {
+    pub(crate) stream1: Fuse<S1>,
+    pub(crate) stream2: Fuse<S2>,
+}
+
+impl<S1: Stream, S2: Stream<Item = S1::Item>> Stream for Or<S1, S2> {
+    type Item = S1::Item;
+
+    ghost can_poll = { λ m. S1.can_poll m.stream1.stream × S2.can_poll m.stream2.stream };
+
+    ghost run = { Ors S1.run S2.run };
+
+    ghost leaves = { λ m. MergeLeaves S1.leaves S2.leaves m.stream1 m.stream2 };
+
+    ghost hints = { λ m hint. hint ≡ (0, None) };
+
+    ghost laws = { or_laws S1.laws S2.laws };
+
+    fn poll_next(&mut self, cx: &mut Context<'_>) -> Poll<Option<S1::Item>> {
+        poll_in_order(&mut self.stream1, &mut self.stream2, cx)
+    }
+
+    fn size_hint(&self) -> (usize, Option<usize>) {
+        (0, None)
+    }
+}
+
+impl<S1: Counted, S2: Counted<Item = S1::Item>> Counted for Or<S1, S2> {
+    ghost ranks = { or_ranks S1.ranks S2.ranks };
+
+    ghost counting = { or_counting S2.laws S1.counting S2.counting };
+}

@@ -1,0 +1,55 @@
+ghost use Rattle.std.specs.Prelude.{◌≡◌, None};
+ghost use Rattle.lite_merge.specs.Laws.Race.{race_counting, race_laws};
+ghost use Rattle.lite_merge.specs.Merge.{MergeLeaves};
+ghost use Rattle.lite_merge.specs.Race.{RacesOn, race_ranks};
+
+use crate::picks::poll_in_order;
+use lite_base::{Context, Counted, Poll, Stream};
+use lite_stream::Fuse;
+use rand_core::Rng;
+
+/// The items of two streams as they come, with no preference where both have one.
+///
+/// Made by [`race`](crate::make::race) and [`race_with_seed`](crate::make::race_with_seed). Each poll takes one word of
+/// the generator by `next_u32`. Where its lowest bit is 1 the first stream is polled first, and else the second; the other
+/// is polled only where that one gave no item. A stream that has ended is not polled any more. A poll without an item is an
+/// end where both streams have ended, and then this stream ends for ever; else it is pending. Ported from
+/// `src/stream.rs`, `Race`.
+#[derive(Clone, Debug, Drop)]
+pub struct Race<S1, S2, R> {
+    pub(crate) stream1: Fuse<S1>,
+    pub(crate) stream2: Fuse<S2>,
+    pub(crate) rng: R,
+}
+
+impl<S1: Stream, S2: Stream<Item = S1::Item>, R: Rng> Stream for Race<S1, S2, R> {
+    type Item = S1::Item;
+
+    ghost can_poll = { λ m. S1.can_poll m.stream1.stream × S2.can_poll m.stream2.stream };
+
+    ghost run = { RacesOn S1.run S2.run R.stream };
+
+    ghost leaves = { λ m. MergeLeaves S1.leaves S2.leaves m.stream1 m.stream2 };
+
+    ghost hints = { λ m hint. hint ≡ (0, None) };
+
+    ghost laws = { race_laws R.stream S1.laws S2.laws };
+
+    fn poll_next(&mut self, cx: &mut Context<'_>) -> Poll<Option<S1::Item>> {
+        if self.rng.next_u32() % 2 == 1 {
+            poll_in_order(&mut self.stream1, &mut self.stream2, cx)
+        } else {
+            poll_in_order(&mut self.stream2, &mut self.stream1, cx)
+        }
+    }
+
+    fn size_hint(&self) -> (usize, Option<usize>) {
+        (0, None)
+    }
+}
+
+impl<S1: Counted, S2: Counted<Item = S1::Item>, R: Rng> Counted for Race<S1, S2, R> {
+    ghost ranks = { race_ranks S1.ranks S2.ranks };
+
+    ghost counting = { race_counting R.stream S1.counting S2.counting };
+}

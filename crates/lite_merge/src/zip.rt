@@ -1,0 +1,79 @@
+ghost use Rattle.std.specs.Prelude.{◌≡◌, List, [], ◌∷◌, None};
+ghost use Rattle.futures.specs.Poll.{OnPending};
+ghost use Rattle.futures.specs.Task.{Keeps, Lasting, Holds};
+ghost use Rattle.lite_base.specs.Answers.{Answer};
+ghost use Rattle.lite_merge.specs.Laws.Zip.{zip_counting, zip_laws};
+ghost use Rattle.lite_merge.specs.Zip.{Held, Pairs, ZipLeaves, Zips, zip_ranks};
+
+use lite_base::{Context, Counted, Poll, Stream, ready};
+
+/// The pairs of the items of two streams.
+///
+/// Made by [`zip`](crate::make::zip). An item of the first stream is held until the second stream has answered with an
+/// item, which makes the pair, or with an end, with which the held item is let go. While an item is held the first stream is
+/// not polled. An end of either stream goes out; polled again, this stream goes on as the two do. Ported from
+/// `src/stream.rs`, `Zip`.
+#[derive(Clone, Debug, Drop)]
+pub struct Zip<A: Stream, B> {
+    pub(crate) item_slot: Option<A::Item>,
+    pub(crate) first: A,
+    pub(crate) second: B,
+}
+
+impl<A: Stream<Item: Drop>, B: Stream> Zip<A, B> {
+    // Asks the second stream for what makes a pair with `item`.
+    fn poll_pair(&mut self, item: A::Item, cx: &mut Context<'_>) -> Poll<Option<(A::Item, B::Item)>>
+        requires empty { self.old.item_slot ≡ None }
+        requires can_poll { B.can_poll self.old.second }
+        ensures met { (seconds : List (Answer B.Item)) × B.run self.old.second seconds self.new.second
+            × Held item [] (Pairs []) seconds (result ∷ []) self.new.item_slot }
+        ensures first { self.new.first ≡ self.old.first }
+        ensures again { B.can_poll self.new.second }
+        ensures left { OnPending result ((fact : Lasting)
+            → ZipLeaves A.leaves B.leaves self.new.item_slot self.new.first self.new.second fact → Holds cx.new fact) }
+        ensures kept { Keeps cx.old cx.new }
+    {
+        match self.second.poll_next(cx) {
+            Poll::Ready(Some(other)) => Poll::Ready(Some((item, other))),
+            Poll::Ready(None) => Poll::Ready(None),
+            Poll::Pending => {
+                self.item_slot = Some(item);
+                Poll::Pending
+            }
+        }
+    }
+}
+
+impl<A: Stream<Item: Drop>, B: Stream> Stream for Zip<A, B> {
+    type Item = (A::Item, B::Item);
+
+    ghost can_poll = { λ m. A.can_poll m.first × B.can_poll m.second };
+
+    ghost run = { Zips A.run B.run };
+
+    ghost leaves = { λ m. ZipLeaves A.leaves B.leaves m.item_slot m.first m.second };
+
+    ghost hints = { λ m hint. hint ≡ (0, None) };
+
+    ghost laws = { zip_laws A.laws B.laws };
+
+    fn poll_next(&mut self, cx: &mut Context<'_>) -> Poll<Option<(A::Item, B::Item)>> {
+        match self.item_slot.take() {
+            Some(held) => self.poll_pair(held, cx),
+            None => match ready!(self.first.poll_next(cx)) {
+                Some(item) => self.poll_pair(item, cx),
+                None => Poll::Ready(None),
+            },
+        }
+    }
+
+    fn size_hint(&self) -> (usize, Option<usize>) {
+        (0, None)
+    }
+}
+
+impl<A: Counted<Item: Drop>, B: Stream> Counted for Zip<A, B> {
+    ghost ranks = { zip_ranks A.ranks };
+
+    ghost counting = { zip_counting A.laws A.counting };
+}
