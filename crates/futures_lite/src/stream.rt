@@ -6,11 +6,17 @@ use lite_base::Future;
 pub use lite_base::{CalmStream, Counted, OkCounted, SteadyStream, Stream};
 pub use lite_consume::make::block_on;
 pub use lite_consume::{
-    AllFuture, AnyFuture, BlockOn, Consume, CountFuture, FindFuture, FindMapFuture, FoldFuture, Folder,
-    ForEachFuture, LastFuture, NextFuture, NthFuture, PositionFuture, TryFoldFuture,
+    AllFuture, AnyFuture, BlockOn, Consume, CountFuture, FindFuture, FindMapFuture, FoldFuture,
+    Folder, ForEachFuture, LastFuture, NextFuture, NthFuture, PositionFuture, TryFoldFuture,
     TryForEachFuture, TryNextFuture,
 };
 pub use lite_flatten::{Chain, Cloned, FlatMap, Flatten, Then};
+pub use lite_gather::{
+    CollectFuture, Gather, PartitionFuture, Refused, TryCollectError, TryCollectFuture,
+    UnzipFuture, UnzipRefused,
+};
+pub use lite_merge::make::{or, race, race_with_seed};
+pub use lite_merge::{Or, Race, Zip};
 pub use lite_sift::{Filter, FilterMap, Skip, SkipWhile, StepBy};
 pub use lite_source::make::{
     empty, iter, once, once_future, pending, poll_fn, repeat, repeat_with, script, try_unfold,
@@ -19,12 +25,9 @@ pub use lite_source::make::{
 pub use lite_source::{
     Empty, Iter, Once, OnceFuture, Pending, PollFn, Repeat, RepeatWith, Script, TryUnfold, Unfold,
 };
-pub use lite_gather::{
-    CollectFuture, Gather, PartitionFuture, Refused, TryCollectError, TryCollectFuture, UnzipFuture,
-    UnzipRefused,
-};
 use lite_stream::make;
 pub use lite_stream::{Copied, Enumerate, Fuse, Inspect, Map, MapWhile, Scan, Take, TakeWhile};
+use rand_core::Rng;
 
 /// What every stream can be adapted and consumed by. Ported from `src/stream.rs`, `StreamExt`.
 ///
@@ -167,6 +170,46 @@ pub trait StreamExt: Stream {
         ensures { result ≡ record { first = self; second = other; part = First } }
     {
         lite_flatten::make::chain(self, other)
+    }
+
+    /// The stream of the pairs of the items and those of `other`. An item is held while `other` is pending, and is let go
+    /// where `other` ends.
+    final fn zip<U>(self, other: U) -> Zip<Self, U>
+    where
+        Self: Sized,
+        U: Stream,
+        ensures { result ≡ record { item_slot = None; first = self; second = other } }
+    {
+        lite_merge::make::zip(self, other)
+    }
+
+    /// The stream of the items and those of `other` as they come, these first where both have one. It ends once both have.
+    final fn or<S>(self, other: S) -> Or<Self, S>
+    where
+        Self: Sized,
+        S: Stream<Item = Self::Item>,
+        ensures { result ≡ record {
+          stream1 = record { stream = self; done = false };
+          stream2 = record { stream = other; done = false };
+        } }
+    {
+        lite_merge::make::or(self, other)
+    }
+
+    /// The stream of the items and those of `other` as they come; where both have one, the generator chooses. It ends once
+    /// both have.
+    final fn race<S, R>(self, other: S, rng: R) -> Race<Self, S, R>
+    where
+        Self: Sized,
+        S: Stream<Item = Self::Item>,
+        R: Rng,
+        ensures { result ≡ record {
+          stream1 = record { stream = self; done = false };
+          stream2 = record { stream = other; done = false };
+          rng = rng;
+        } }
+    {
+        lite_merge::make::race(self, other, rng)
     }
 
     /// The stream of clones of what the items refer to, in which a refused clone is an `Err` item.
@@ -410,10 +453,7 @@ pub trait StreamExt: Stream {
 
     /// The future of two collections: of the first and of the second parts of the items. Both take their memory from `alloc`;
     /// where one refuses its part, the value is what was collected, with what was refused.
-    final fn unzip<A, B, FromA, FromB>(
-        self,
-        alloc: FromA::Alloc,
-    ) -> UnzipFuture<Self, FromA, FromB>
+    final fn unzip<A, B, FromA, FromB>(self, alloc: FromA::Alloc) -> UnzipFuture<Self, FromA, FromB>
     where
         Self: Counted<Item = (A, B)> + Sized,
         FromA: Gather<A, Alloc: Copy>,

@@ -1,0 +1,2 @@
+mod always;
+mod merge;
