@@ -1,1 +1,3 @@
 pub mod Drain
+pub mod Endless
+pub mod StopAfterFuture

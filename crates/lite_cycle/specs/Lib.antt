@@ -1,2 +1,4 @@
 pub mod Drain
+pub mod Endless
 pub mod Laws
+pub mod StopAfterFuture

@@ -1,12 +1,21 @@
 //! The adapters that are never pending, or are not over a stream that never is.
 ghost use Rattle.std.specs.Prelude.{⊤};
+ghost use Rattle.lite_cycle.specs.Laws.StopAfterFuture.{stops_calming};
+ghost use Rattle.lite_cycle.specs.StopAfterFuture.{stop_parts};
 ghost use Rattle.lite_cycle.specs.Laws.Drain.{drain_calm};
+ghost use Rattle.lite_stream.specs.Laws.Calming.{through_calm};
 
-use crate::Drain;
-use lite_base::{CalmStream, Stream};
+use crate::{Drain, StopAfterFuture};
+use lite_base::{CalmStream, Future, Stream};
 
 impl<'a, S: Stream> CalmStream for Drain<'a, S> {
     ghost is_calm = { λ _. ⊤ };
 
     ghost calm = { drain_calm S.run };
+}
+
+impl<S: CalmStream, Fut: Future + Drop> CalmStream for StopAfterFuture<S, Fut> {
+    ghost is_calm = { λ m. S.is_calm m.stream };
+
+    ghost calm = { through_calm stop_parts S.calm (stops_calming Fut.laws) };
 }

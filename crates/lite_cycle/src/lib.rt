@@ -5,5 +5,7 @@ mod calm;
 mod drain;
 pub mod make;
 mod ok_counted;
+mod stop_after_future;
 
 pub use drain::Drain;
+pub use stop_after_future::StopAfterFuture;
