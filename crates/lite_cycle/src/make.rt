@@ -1,10 +1,25 @@
 //! What makes the adapters.
-ghost use Rattle.std.specs.Prelude.{◌≡◌};
+ghost use Rattle.std.specs.Prelude.{◌≡◌, MatchResult, Some};
 ghost use Rattle.lite_cycle.specs.declared.stop_after_future.Stopping.TheVariants.{Holding};
 
+use crate::cycle::Cycle;
 use crate::drain::Drain;
 use crate::stop_after_future::{StopAfterFuture, Stopping};
 use lite_base::Future;
+
+/// The stream of the items of `stream` over and over, or `stream` itself where memory for a copy of it was refused.
+/// Ported from `src/stream.rs`, `StreamExt::cycle`, which can't be refused.
+pub fn cycle<S: Clone>(stream: S) -> Result<Cycle<S>, S>
+    ensures { MatchResult result (λ made. (made.stream ≡ Some stream) × S.is_clone stream made.original) (λ back. (back ≡ stream) × ¬ (S.is_infallible stream)) }
+{
+    match stream.clone() {
+        Ok(original) => Ok(Cycle {
+            original,
+            stream: Some(stream),
+        }),
+        Err(_refused) => Err(stream),
+    }
+}
 
 /// The stream that ends wherever `stream` is pending. Ported from `src/stream.rs`, `StreamExt::drain`.
 pub fn drain<S>(stream: &mut S) -> Drain<'_, S>
