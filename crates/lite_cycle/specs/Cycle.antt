@@ -30,14 +30,30 @@ module _ {S A E : Type 0} (run : S → List (Answer A) → S → Type 0) where
     Renews (Ok copy) out s = is_clone original copy × Begins copy out s
     Renews (Err e) out s = ¬ (is_infallible original) × (out ≡ item (Err e) ∷ []) × (s ≡ None)
 
-    -- lap by lap, between which copies were asked for; ends that are left out lie before the answer after them
+    -- a lap that is over, and what came of asking for a copy; the end lies before the answer after it. `Rest` is what follows
+    pub record LapThen (asked : Result S E) (Rest : Option S → List (Answer (Result A E)) → Type 0) (x : Option S) (out : List (Answer (Result A E))) : Type 0 where
+      pub own : List (Answer A)
+      pub over : LapOver run x own
+      pub anew : List (Answer (Result A E))
+      pub next : Option S
+      pub renews : Renews asked anew next
+      pub rest : List (Answer (Result A E))
+      pub goes_on : Rest next rest
+      pub joined : out ≡ all_ok own ++ (anew ++ rest)
+
+    -- lap by lap, by what came each time that a copy was asked for
     abbrev pub Laps : List (Result S E) → Option S → List (Answer (Result A E)) → Option S → Type 0
     Laps [] x out y = (own : List (Answer A)) × Lap run x own y × (out ≡ all_ok own)
-    Laps (asked ∷ more) x out y = (own : List (Answer A)) × LapOver run x own × (anew : List (Answer (Result A E))) × (s : Option S) × Renews asked anew s
-        × (rest : List (Answer (Result A E))) × Laps more s rest y × (out ≡ all_ok own ++ (anew ++ rest))
+    Laps (asked ∷ more) x out y = LapThen asked (λ s rest. Laps more s rest y) x out
 
+-- laps of the stream, and of copies of what is kept, which stays
 abbrev pub Cycles : {S A E : Type 0} → (S → List (Answer A) → S → Type 0) → (S → S → Type 0) → (S → Type 0) → Cycle S → List (Answer (Result A E)) → Cycle S → Type 0
-Cycles {S} {A} {E} run is_clone is_infallible x out y = (asked : List (Result S E)) × Laps run is_clone is_infallible x.original asked x.stream out y.stream × (y.original ≡ x.original)
+Cycles {S} {A} {E} run is_clone is_infallible x out y =
+    (asked : List (Result S E)) × Laps run is_clone is_infallible x.original asked x.stream out y.stream × (y.original ≡ x.original)
+
+-- the stream is polled first, and a copy of it is kept
+abbrev pub CycleOf : {S : Type 0} → (S → S → Type 0) → S → Cycle S → Type 0
+CycleOf is_clone stream made = (made.stream ≡ Some stream) × is_clone stream made.original
 
 -- it holds of the stream, and of each copy
 abbrev pub AllCopies : {S : Type 0} → (S → Type 0) → (S → S → Type 0) → Cycle S → Type 0

@@ -11,7 +11,7 @@ use Rattle.lite_cycle.specs.declared.stop_after_future.Stopping.{Stopping}
 use Rattle.lite_stream.specs.Fuse.{AllEnds}
 use Rattle.lite_stream.specs.Through.{Parts, Through}
 
--- `ins` are the stream's answers; the future's are those of the same polls, and its value comes in a poll of its own
+-- in rows: `ins` are the stream's answers, beside each of which the future was pending; the future's value has a row of its own
 module _ {F A R : Type 0} (run : F → List (Poll R) → F → Type 0) where
   -- the future was pending beside each answer
   pub record Beside (f : F) (ins : List (Answer A)) (g : F) : Type 0 where
@@ -50,6 +50,7 @@ module _ {F A R : Type 0} (run : F → List (Poll R) → F → Type 0) where
   StopsBy (Holding f) ins out (Stopped None) = StoppedByEnd f ins out
   StopsBy (Holding f) ins out TakenOut = ⊥
 
+-- the stream's list before the stop, or for ever after the future was taken out
 abbrev pub Stops : {S F A R : Type 0} → (S → List (Answer A) → S → Type 0) → (F → List (Poll R) → F → Type 0) → StopAfterFuture S F R → List (Answer A) → StopAfterFuture S F R → Type 0
 Stops run run' x out y = Through run (StopsBy run') x.stream x.future out y.stream y.future
 

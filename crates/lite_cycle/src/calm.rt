@@ -1,10 +1,10 @@
 //! The adapters that are never pending, or are not over a stream that never is.
 ghost use Rattle.std.specs.Prelude.{⊤};
-ghost use Rattle.lite_cycle.specs.Laws.StopAfterFuture.{stops_calming};
-ghost use Rattle.lite_cycle.specs.StopAfterFuture.{stop_parts};
 ghost use Rattle.lite_cycle.specs.Cycle.{AllCopies};
 ghost use Rattle.lite_cycle.specs.Laws.Cycle.{cycle_calm};
 ghost use Rattle.lite_cycle.specs.Laws.Drain.{drain_calm};
+ghost use Rattle.lite_cycle.specs.Laws.StopAfterFuture.{stops_calming};
+ghost use Rattle.lite_cycle.specs.StopAfterFuture.{stop_parts};
 ghost use Rattle.lite_stream.specs.Laws.Calming.{through_calm};
 
 use crate::{Cycle, Drain, StopAfterFuture};

@@ -1,5 +1,6 @@
 //! What makes the adapters.
-ghost use Rattle.std.specs.Prelude.{◌≡◌, MatchResult, Some};
+ghost use Rattle.std.specs.Prelude.{◌≡◌, MatchResult};
+ghost use Rattle.lite_cycle.specs.Cycle.{CycleOf};
 ghost use Rattle.lite_cycle.specs.declared.stop_after_future.Stopping.TheVariants.{Holding};
 
 use crate::cycle::Cycle;
@@ -10,7 +11,7 @@ use lite_base::Future;
 /// The stream of the items of `stream` over and over, or `stream` itself where memory for a copy of it was refused.
 /// Ported from `src/stream.rs`, `StreamExt::cycle`, which can't be refused.
 pub fn cycle<S: Clone>(stream: S) -> Result<Cycle<S>, S>
-    ensures { MatchResult result (λ made. (made.stream ≡ Some stream) × S.is_clone stream made.original) (λ back. (back ≡ stream) × ¬ (S.is_infallible stream)) }
+    ensures { MatchResult result (CycleOf S.is_clone stream) (λ back. (back ≡ stream) × ¬ (S.is_infallible stream)) }
 {
     match stream.clone() {
         Ok(original) => Ok(Cycle {

@@ -71,7 +71,7 @@ module _ {S A E : Type 0} (is_clone : S → S → Type 0) (is_infallible : S →
     -- and one that met an end, or a copy that is still to be made
     pub renewed : (x : Option S) (asked : Result S E) (b : Answer (Result A E)) (y : Option S) → LapOver run x [] → Renews run is_clone is_infallible original asked (b ∷ []) y
         → Laps run is_clone is_infallible original (asked ∷ []) x (b ∷ []) y
-    renewed x asked b y over renews = ([], over, b ∷ [], y, renews, [], ([], lap_rest laws y, refl), refl)
+    renewed x asked b y over renews = record { own = []; over = over; anew = b ∷ []; next = y; renews = renews; rest = []; goes_on = ([], lap_rest laws y, refl); joined = refl }
 
     renews_some : (asked : Result S E) (out : List (Answer (Result A E))) (s : Option S) → Renews run is_clone is_infallible original asked out s → [] ≡ out → ⊥
     renews_some (Err e) out s h none = cc (none ∙ h.1)
@@ -80,20 +80,38 @@ module _ {S A E : Type 0} (is_clone : S → S → Type 0) (is_infallible : S →
 
     laps_stay : (asked : List (Result S E)) (x y : Option S) → Laps run is_clone is_infallible original asked x [] y → y ≡ x
     laps_stay [] x y h = lap_stay laws x y (subst (λ i. Lap run x i y) (all_ok_none E h.0 h.2) h.1)
-    laps_stay (r ∷ asked) x y h = absurd (none_after (all_ok h.0) h.2 h.5 (renews_some r h.2 h.3 h.4) h.7)
+    laps_stay (r ∷ asked) x y h = absurd (none_after (all_ok h.own) h.anew h.rest (renews_some r h.anew h.next h.renews) h.joined)
 
     -- after a part of the first lap
     laps_after : (asked : List (Result S E)) (x y z : Option S) (own : List (Answer A)) (out : List (Answer (Result A E))) → Lap run x own y → Laps run is_clone is_infallible original asked y out z
         → Laps run is_clone is_infallible original asked x (all_ok own ++ out) z
     laps_after [] x y z own out h k = (own ++ k.0, lap_join laws x y z own k.0 h k.1, rw (k.2, all_ok_join E own k.0) refl)
     laps_after (r ∷ asked) x y z own out h k =
-        (own ++ k.0, lap_over laws x y own k.0 h k.1, k.2, k.3, k.4, k.5, k.6, ap (λ l. all_ok own ++ l) k.7 ∙ rw (all_ok_join E own k.0) (sym (append_assoc (all_ok own) (all_ok k.0) (k.2 ++ k.5))))
+        record {
+          own = own ++ k.own;
+          over = lap_over laws x y own k.own h k.over;
+          anew = k.anew;
+          next = k.next;
+          renews = k.renews;
+          rest = k.rest;
+          goes_on = k.goes_on;
+          joined = ap (λ l. all_ok own ++ l) k.joined ∙ rw (all_ok_join E own k.own) (sym (append_assoc (all_ok own) (all_ok k.own) (k.anew ++ k.rest)));
+        }
 
     laps_join : (asked more : List (Result S E)) (x y z : Option S) (l m : List (Answer (Result A E))) → Laps run is_clone is_infallible original asked x l y → Laps run is_clone is_infallible original more y m z
         → Laps run is_clone is_infallible original (asked ++ more) x (l ++ m) z
     laps_join [] more x y z l m h k = rw h.2 (laps_after more x y z h.0 m h.1 k)
     laps_join (r ∷ asked) more x y z l m h k =
-        (h.0, h.1, h.2, h.3, h.4, h.5 ++ m, laps_join asked more h.3 y z h.5 m h.6 k, ap (λ v. v ++ m) h.7 ∙ append_assoc (all_ok h.0) (h.2 ++ h.5) m ∙ ap (λ v. all_ok h.0 ++ v) (append_assoc h.2 h.5 m))
+        record {
+          own = h.own;
+          over = h.over;
+          anew = h.anew;
+          next = h.next;
+          renews = h.renews;
+          rest = h.rest ++ m;
+          goes_on = laps_join asked more h.next y z h.rest m h.goes_on k;
+          joined = ap (λ v. v ++ m) h.joined ∙ append_assoc (all_ok h.own) (h.anew ++ h.rest) m ∙ ap (λ v. all_ok h.own ++ v) (append_assoc h.anew h.rest m);
+        }
 
   pub cycle_laws : StreamLaws (Cycles {E = E} run is_clone is_infallible) (λ m hint. hint ≡ (0, None))
   cycle_laws =
@@ -129,10 +147,10 @@ module _ {S A E : Type 0} (is_clone : S → S → Type 0) (is_infallible : S →
     laps_calm : (asked : List (Result S E)) (x y : Option S) (out : List (Answer (Result A E))) → IfSome x is_calm → Laps run is_clone is_infallible original asked x out y → Prompt out × IfSome y is_calm
     laps_calm [] x y out k h = let e = lap_calm c x y h.0 k h.1 in (rw h.2 (all_ok_prompt E h.0 e.0), e.1)
     laps_calm (r ∷ asked) x y out k h =
-        let before = all_ok_prompt E h.0 (over_calm c x h.0 k h.1) in
-        let anew = renews_calm r h.2 h.3 h.4 in
-        let after = laps_calm asked h.3 y h.5 anew.1 h.6 in
-        (rw h.7 (prompt_join (all_ok h.0) (h.2 ++ h.5) before (prompt_join h.2 h.5 anew.0 after.0)), after.1)
+        let before = all_ok_prompt E h.own (over_calm c x h.own k h.over) in
+        let anew = renews_calm r h.anew h.next h.renews in
+        let after = laps_calm asked h.next y h.rest anew.1 h.goes_on in
+        (rw h.joined (prompt_join (all_ok h.own) (h.anew ++ h.rest) before (prompt_join h.anew h.rest anew.0 after.0)), after.1)
 
   -- where the stream and each copy are calm
   pub cycle_calm : CalmLaws (Cycles {E = E} run is_clone is_infallible) (AllCopies is_calm is_clone)
