@@ -1,4 +1,4 @@
-//! The adapters that are never pending, or are not over a stream that never is.
+//! The adapters that are never pending, over each stream or over one that never is.
 ghost use Rattle.std.specs.Prelude.{⊤};
 ghost use Rattle.lite_cycle.specs.Cycle.{AllCopies};
 ghost use Rattle.lite_cycle.specs.Laws.Cycle.{cycle_calm};

@@ -12,9 +12,9 @@ use std::alloc::AllocError;
 ///
 /// Made by [`cycle`](crate::make::cycle). `Ok` is an item. At an end a copy of the stream as it was handed in is made, and
 /// polled once in the same poll; what it answers goes out whatever it is, so the cycle of a stream without items ends.
-/// `Err(AllocError)` is a copy that was refused for want of memory; the next poll asks for it again, and polls nothing
-/// else. A copy is what the stream's own `Clone` may give. Ported from `src/stream.rs`, `Cycle`, whose copies are not
-/// refused.
+/// `Err(AllocError)` is a copy that was refused for want of memory; the next poll asks for it again, without polling the
+/// stream that has ended. A copy is what the stream's own `Clone` may give. Ported from `src/stream.rs`, `Cycle`, whose
+/// copies are not refused.
 #[derive(Clone, Debug, Drop)]
 pub struct Cycle<S> {
     pub(crate) original: S,

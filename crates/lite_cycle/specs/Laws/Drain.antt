@@ -4,39 +4,39 @@ use Rattle.futures.specs.declared.task.Poll.TheVariants.{Ready, Pending}
 use Rattle.lite_base.specs.Answers.{Answer, before_end, items}
 use Rattle.lite_base.specs.Calm.{CalmLaws, Prompt}
 use Rattle.lite_base.specs.Rank.{Lowers}
-use Rattle.lite_cycle.specs.Drain.{Drained, Drains, drained}
+use Rattle.lite_cycle.specs.Drain.{Drained, Drains, with_ends}
 use Rattle.lite_stream.specs.Laws.Through.{Turning}
 
 module _ {A : Type 0} where
-  drained_join : (i j : List (Answer A)) → drained (i ++ j) ≡ drained i ++ drained j
+  drained_join : (i j : List (Answer A)) → with_ends (i ++ j) ≡ with_ends i ++ with_ends j
   drained_join [] j = refl
   drained_join (Pending ∷ i) j = ap (λ l. Ready None ∷ l) (drained_join i j)
   drained_join (Ready o ∷ i) j = ap (λ l. Ready o ∷ l) (drained_join i j)
 
-  drained_none : (i : List (Answer A)) → [] ≡ drained i → i ≡ []
+  drained_none : (i : List (Answer A)) → [] ≡ with_ends i → i ≡ []
   drained_none [] e = refl
   drained_none (Pending ∷ i) e = absurd (cc e)
   drained_none (Ready o ∷ i) e = absurd (cc e)
 
   -- an end goes out where a Pending came in, so no more items stand before the first end
-  drained_bounded : (i : List (Answer A)) → before_end (drained i) ≤ before_end i
+  drained_bounded : (i : List (Answer A)) → before_end (with_ends i) ≤ before_end i
   drained_bounded [] = omega arith
   drained_bounded (Pending ∷ i) = omega arith
   drained_bounded (Ready None ∷ i) = omega arith
   drained_bounded (Ready (Some x) ∷ i) = let e = drained_bounded i in omega (arith, e)
 
-  drained_lowers : (i : List (Answer A)) (xs ys : List ℕ) → Lowers i xs ys → Lowers (drained i) xs ys
+  drained_lowers : (i : List (Answer A)) (xs ys : List ℕ) → Lowers i xs ys → Lowers (with_ends i) xs ys
   drained_lowers [] xs ys h = h
   drained_lowers (Pending ∷ i) xs ys h = drained_lowers i xs ys h
   drained_lowers (Ready None ∷ i) xs ys h = drained_lowers i xs ys h
   drained_lowers (Ready (Some x) ∷ i) xs ys h = h
 
-  drained_items : (i : List (Answer A)) (l : List A) → items l ≡ drained i → i ≡ items l
+  drained_items : (i : List (Answer A)) (l : List A) → items l ≡ with_ends i → i ≡ items l
   drained_items [] [] e = refl
   drained_items [] (x ∷ l) e = absurd (cc e)
   drained_items (a ∷ i) [] e = absurd (drained_some a i e)
     where
-      drained_some : (a : Answer A) (i : List (Answer A)) → [] ≡ drained (a ∷ i) → ⊥
+      drained_some : (a : Answer A) (i : List (Answer A)) → [] ≡ with_ends (a ∷ i) → ⊥
       drained_some Pending i e = cc e
       drained_some (Ready o) i e = cc e
   drained_items (Pending ∷ i) (x ∷ l) e = absurd (cc e)
@@ -59,7 +59,7 @@ module _ {A : Type 0} where
         from_items = λ f g i y l h. (y, l, drained_items i (y ∷ l) h);
       }
 
-  drained_prompt : (i : List (Answer A)) → Prompt (drained i)
+  drained_prompt : (i : List (Answer A)) → Prompt (with_ends i)
   drained_prompt [] = tt
   drained_prompt (Pending ∷ i) = drained_prompt i
   drained_prompt (Ready o ∷ i) = drained_prompt i
