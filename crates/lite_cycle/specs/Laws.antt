@@ -1,0 +1,4 @@
+pub mod Cycle
+pub mod Drain
+pub mod Endless
+pub mod StopAfterFuture

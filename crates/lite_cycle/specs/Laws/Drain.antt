@@ -1,0 +1,69 @@
+-- Laws of `drain`.
+use Rattle.std.proofs.Common.{◌≡◌, ℕ, ◌≤◌, List, [], ◌∷◌, ◌++◌, Some, None, refl, ap, arith}
+use Rattle.futures.specs.declared.task.Poll.TheVariants.{Ready, Pending}
+use Rattle.lite_base.specs.Answers.{Answer, before_end, items}
+use Rattle.lite_base.specs.Calm.{CalmLaws, Prompt}
+use Rattle.lite_base.specs.Rank.{Lowers}
+use Rattle.lite_cycle.specs.Drain.{Drained, Drains, with_ends}
+use Rattle.lite_stream.specs.Laws.Through.{Turning}
+
+module _ {A : Type 0} where
+  drained_join : (i j : List (Answer A)) → with_ends (i ++ j) ≡ with_ends i ++ with_ends j
+  drained_join [] j = refl
+  drained_join (Pending ∷ i) j = ap (λ l. Ready None ∷ l) (drained_join i j)
+  drained_join (Ready o ∷ i) j = ap (λ l. Ready o ∷ l) (drained_join i j)
+
+  drained_none : (i : List (Answer A)) → [] ≡ with_ends i → i ≡ []
+  drained_none [] e = refl
+  drained_none (Pending ∷ i) e = absurd (cc e)
+  drained_none (Ready o ∷ i) e = absurd (cc e)
+
+  -- an end goes out where a Pending came in, so no more items stand before the first end
+  drained_bounded : (i : List (Answer A)) → before_end (with_ends i) ≤ before_end i
+  drained_bounded [] = omega arith
+  drained_bounded (Pending ∷ i) = omega arith
+  drained_bounded (Ready None ∷ i) = omega arith
+  drained_bounded (Ready (Some x) ∷ i) = let e = drained_bounded i in omega (arith, e)
+
+  drained_lowers : (i : List (Answer A)) (xs ys : List ℕ) → Lowers i xs ys → Lowers (with_ends i) xs ys
+  drained_lowers [] xs ys h = h
+  drained_lowers (Pending ∷ i) xs ys h = drained_lowers i xs ys h
+  drained_lowers (Ready None ∷ i) xs ys h = drained_lowers i xs ys h
+  drained_lowers (Ready (Some x) ∷ i) xs ys h = h
+
+  drained_items : (i : List (Answer A)) (l : List A) → items l ≡ with_ends i → i ≡ items l
+  drained_items [] [] e = refl
+  drained_items [] (x ∷ l) e = absurd (cc e)
+  drained_items (a ∷ i) [] e = absurd (drained_some a i e)
+    where
+      drained_some : (a : Answer A) (i : List (Answer A)) → [] ≡ with_ends (a ∷ i) → ⊥
+      drained_some Pending i e = cc e
+      drained_some (Ready o) i e = cc e
+  drained_items (Pending ∷ i) (x ∷ l) e = absurd (cc e)
+  drained_items (Ready None ∷ i) (x ∷ l) e = absurd (cc e)
+  drained_items (Ready (Some y) ∷ i) (x ∷ l) e =
+      let same : x ≡ y = cc e in
+      rw (same, drained_items i l (cc e)) refl
+
+  pub drained_turning : Turning (Drained {A = A})
+  drained_turning =
+      record {
+        following =
+            record {
+              starts = λ f. refl;
+              empty = λ f g i h. (drained_none i h, refl);
+              joins = λ f g h i j l m a b. rw (a, b, drained_join i j) refl;
+            };
+        bounds = λ f g i o h. rw h (drained_bounded i);
+        lowers = λ f g i o xs ys h k. rw h (drained_lowers i xs ys k);
+        from_items = λ f g i y l h. (y, l, drained_items i (y ∷ l) h);
+      }
+
+  drained_prompt : (i : List (Answer A)) → Prompt (with_ends i)
+  drained_prompt [] = tt
+  drained_prompt (Pending ∷ i) = drained_prompt i
+  drained_prompt (Ready o ∷ i) = drained_prompt i
+
+-- it is never pending, whatever its stream is
+pub drain_calm : {S A : Type 0} (run : S → List (Answer A) → S → Type 0) → CalmLaws (Drains run) (λ m. Unit {0})
+drain_calm run = record { prompt = λ x y l k h. rw h.turned (drained_prompt h.ins); calm_on = λ x y l k h. tt }
