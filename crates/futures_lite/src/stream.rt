@@ -1,5 +1,6 @@
 //! Streams: sources, and what every stream can be adapted by.
-ghost use Rattle.std.specs.Prelude.{◌≡◌, ◌<◌, [], IfSome, IsSome, None, Some, false};
+ghost use Rattle.std.specs.Prelude.{◌≡◌, ◌<◌, [], IfSome, IsSome, MatchResult, None, Some, false};
+ghost use Rattle.lite_cycle.specs.Cycle.{CycleOf};
 ghost use Rattle.lite_flatten.specs.declared.chain.Part.TheVariants.{First};
 
 use lite_base::Future;
@@ -10,6 +11,8 @@ pub use lite_consume::{
     Folder, ForEachFuture, LastFuture, NextFuture, NthFuture, PositionFuture, TryFoldFuture,
     TryForEachFuture, TryNextFuture,
 };
+pub use lite_cycle::make::stop_after_future;
+pub use lite_cycle::{Cycle, Drain, StopAfterFuture};
 pub use lite_flatten::{Chain, Cloned, FlatMap, Flatten, Then};
 pub use lite_gather::{
     CollectFuture, Gather, PartitionFuture, Refused, TryCollectError, TryCollectFuture,
@@ -210,6 +213,25 @@ pub trait StreamExt: Stream {
         } }
     {
         lite_merge::make::race(self, other, rng)
+    }
+
+    /// The stream of the items over and over, by copies of this stream as it is now, or this stream itself where memory for
+    /// the first copy was refused. The items are `Ok`; a copy that is refused later is an `Err` item in its place.
+    final fn cycle(self) -> Result<Cycle<Self>, Self>
+    where
+        Self: Clone + Sized,
+        ensures { MatchResult result (CycleOf Self.is_clone self) (λ back. (back ≡ self) × ¬ (Self.is_infallible self)) }
+    {
+        lite_cycle::make::cycle(self)
+    }
+
+    /// The stream that ends wherever this one is pending, and goes on when it is polled again.
+    final fn drain(&mut self) -> Drain<'_, Self>
+    where
+        Self: Sized,
+        ensures { result ≡ record { stream = self.entry } }
+    {
+        lite_cycle::make::drain(self)
     }
 
     /// The stream of clones of what the items refer to, in which a refused clone is an `Err` item.

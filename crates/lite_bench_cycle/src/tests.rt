@@ -1,18 +1,29 @@
-use lite_base::future::make::{ready, yield_now};
-use lite_base::{Poll, Stream};
+use futures_lite::future::{ready, yield_now};
+use futures_lite::stream::{iter, script, stop_after_future};
+use futures_lite::{Poll, Stream, StreamExt};
 use lite_bench_polls::{answers, item};
-use lite_cycle::make::{cycle, drain, stop_after_future};
-use lite_source::make::{iter, script};
 use std::test::Fail;
 
 #[test]
 fn drain_ends_where_its_stream_is_pending(rt: HostRuntime) -> Result<(), Fail> {
     let mut numbers = script(vec![in rt.alloc(); item(1u8), Poll::Pending, item(2)]?);
-    let mut drained = drain(&mut numbers);
+    let mut drained = numbers.drain();
     let got = answers(&rt, &mut drained, 4)?;
     let expected = [item(1), Poll::Ready(None), item(2), Poll::Ready(None)];
     assert_eq!(rt; got.as_slice(), expected.as_slice());
     assert_eq!(rt; drained.size_hint(), (0, None));
+    Ok(())
+}
+
+#[test]
+fn drain_lends_its_stream(rt: HostRuntime) -> Result<(), Fail> {
+    let mut numbers = script(vec![in rt.alloc(); item(1u8), item(2)]?);
+    let mut drained = numbers.drain();
+    assert_eq!(rt; drained.get_ref().size_hint(), (0, None));
+    let got = answers(&rt, drained.get_mut(), 1)?;
+    assert_eq!(rt; got.as_slice(), [item(1)].as_slice());
+    let got = answers(&rt, drained.into_inner(), 2)?;
+    assert_eq!(rt; got.as_slice(), [item(2), Poll::Ready(None)].as_slice());
     Ok(())
 }
 
@@ -52,7 +63,7 @@ fn a_future_that_is_taken_out_stops_nothing(rt: HostRuntime) -> Result<(), Fail>
 #[test]
 fn cycle_starts_anew_at_each_end(rt: HostRuntime) -> Result<(), Fail> {
     let numbers = script(vec![in rt.alloc(); item(1u8), Poll::Pending, item(2)]?);
-    let Ok(mut round) = cycle(numbers) else {
+    let Ok(mut round) = numbers.cycle() else {
         assert!(rt; false);
         return Ok(());
     };
@@ -73,7 +84,7 @@ fn cycle_starts_anew_at_each_end(rt: HostRuntime) -> Result<(), Fail> {
 #[test]
 fn the_cycle_of_nothing_ends(rt: HostRuntime) -> Result<(), Fail> {
     let none = script::<u8>(vec![in rt.alloc();]?);
-    let Ok(mut round) = cycle(none) else {
+    let Ok(mut round) = none.cycle() else {
         assert!(rt; false);
         return Ok(());
     };
