@@ -1,10 +1,12 @@
 -- Streams and futures whose answers do not depend on when they were pending, where memory was found: the runs in which it was are the ample ones.
-use Rattle.std.specs.Prelude.{⊤, List}
+use Rattle.std.specs.Prelude.{ℕ, ⊤, List, Option}
 use denote.MutBor.{MutBor}
 use Rattle.futures.specs.declared.task.Poll.{Poll}
 use Rattle.lite_base.specs.Alike.{Alike}
+use Rattle.lite_base.specs.Answers.{Answer}
 use Rattle.lite_base.specs.FutureLaws.{FutureLaws}
-use Rattle.lite_base.specs.Lent.{Lent, lent_future_laws}
+use Rattle.lite_base.specs.Lent.{Lent, lent_future_laws, lent_runs}
+use Rattle.lite_base.specs.StreamLaws.{RunLaws, StreamLaws, runs_of}
 
 module _ {S A : Type 0} where
   -- values that are alike have runs that are
@@ -15,8 +17,9 @@ module _ {S A : Type 0} where
   abbrev pub TakesNone : (S → List (Poll A) → S → Type 0) → (S → List (Poll A) → S → Type 0) → Type 0
   TakesNone run ample = (x y : S) (l : List (Poll A)) → run x l y → ample x l y
 
--- what a steady stream's runs meet
+-- what a steady stream's runs meet: the ample ones follow one another too
 pub record SteadyLaws {S A : Type 0} (run ample : S → List (Poll A) → S → Type 0) (needs_none : Type 0) (alike : S → S → Type 0) : Type 0 where
+  pub laws : RunLaws ample
   pub steady : Steadiness ample alike
   pub found : needs_none → TakesNone run ample
 
@@ -34,15 +37,14 @@ lent_takes_none t x y l h = (t x.now y.now l h.0, h.1)
 
 module _ {S A : Type 0} {run ample : S → List (Poll A) → S → Type 0} {needs_none : Type 0} {alike : S → S → Type 0} where
   pub lent_steady : SteadyLaws run ample needs_none alike → SteadyLaws (Lent run) (Lent ample) needs_none (λ (x y : MutBor S). alike x.now y.now)
-  lent_steady s = record { steady = lent_steadiness s.steady; found = λ n. lent_takes_none (s.found n) }
+  lent_steady s = record { laws = lent_runs s.laws; steady = lent_steadiness s.steady; found = λ n. lent_takes_none (s.found n) }
 
   pub lent_future_steady : FutureSteadyLaws run ample needs_none alike → FutureSteadyLaws (Lent run) (Lent ample) needs_none (λ (x y : MutBor S). alike x.now y.now)
   lent_future_steady s = record { laws = lent_future_laws s.laws; steady = lent_steadiness s.steady; found = λ n. lent_takes_none (s.found n) }
 
-module _ {S A : Type 0} {run : S → List (Poll A) → S → Type 0} {alike : S → S → Type 0} where
-  -- where no poll asks for memory
-  pub steady_always : Steadiness run alike → SteadyLaws run run ⊤ alike
-  steady_always s = record { steady = s; found = λ n x y l h. h }
+-- where no poll asks for memory
+pub steady_always : {S A : Type 0} {run : S → List (Answer A) → S → Type 0} {hints : S → ℕ × Option ℕ → Type 0} {alike : S → S → Type 0} → StreamLaws run hints → Steadiness run alike → SteadyLaws run run ⊤ alike
+steady_always laws s = record { laws = runs_of laws; steady = s; found = λ n x y l h. h }
 
-  pub future_steady_always : FutureLaws run → Steadiness run alike → FutureSteadyLaws run run ⊤ alike
-  future_steady_always laws s = record { laws = laws; steady = s; found = λ n x y l h. h }
+pub future_steady_always : {F A : Type 0} {run : F → List (Poll A) → F → Type 0} {alike : F → F → Type 0} → FutureLaws run → Steadiness run alike → FutureSteadyLaws run run ⊤ alike
+future_steady_always laws s = record { laws = laws; steady = s; found = λ n x y l h. h }

@@ -55,7 +55,7 @@ impl<B: SteadyStream + Drop, S: Counted<Item = B> + SteadyStream> SteadyStream f
 
     ghost alike = { λ x y. AlikeBy (OptionBy B.alike) S.ample x.stream y.stream × OptionBy B.alike x.inner_stream y.inner_stream };
 
-    ghost steady = { flattening_steady flatten_parts (λ x y e. e) S.steady.found B.steady };
+    ghost steady = { flattening_steady flatten_parts (λ x y e. e) S.steady.laws S.steady.found B.steady };
 }
 
 impl<S: SteadyStream, F: FnMut(S::Item) -> Fut, Fut: SteadyFuture + Drop> SteadyStream
