@@ -48,11 +48,14 @@ pub trait SteadyFolder<S: Stream>: Folder<S> {
     /// That no step asks for memory; then each is ample.
     ghost needs_none: { Type 0 } = { ⊤ };
 
-    /// The values that make the same of the same items.
+    /// When two values that it gives are the same: where they are equal, if its type says nothing else.
+    ghost same: { Self.Output → Self.Output → Type 0 } = { λ v w. v ≡ w };
+
+    /// The folders that make the same of the same items.
     ghost agree: { Self → Self → Type 0 };
 
     /// Does nothing. The trait is its law.
     fn is_steady_folder(&self) {}
 
-    ghost steady_fold: { FoldSteadyLaws Self.fold ample needs_none agree (λ r t. r ≡ t) };
+    ghost steady_fold: { FoldSteadyLaws Self.fold ample needs_none agree same };
 }

@@ -48,6 +48,8 @@ impl<S: SteadyStream, F: SteadyFolder<S>> SteadyFuture for Consume<S, F> {
 
     ghost needs_none = { S.needs_none × F.needs_none };
 
+    ghost same = { F.same };
+
     ghost alike = { λ x y. S.alike x.stream y.stream × F.agree x.folder y.folder };
 
     ghost steady = { consumed_steady S.steady F.steady_fold };
@@ -57,6 +59,8 @@ impl<S: Stream, F: SteadyFolder<S>> SteadyFolder<&mut S> for &mut F {
     ghost ample = { fold_of (λ f. f.now) F.ample };
 
     ghost needs_none = { F.needs_none };
+
+    ghost same = { F.same };
 
     ghost agree = { λ f g. F.agree f.now g.now };
 

@@ -25,7 +25,8 @@ impl<S: Counted<Item: Drop> + SteadyStream, P: FnMut(&S::Item) -> bool> SteadySt
 
     ghost alike = { λ x y. S.alike x.stream y.stream × Agree (CalledAt P.FnMut) x.predicate y.predicate };
 
-    ghost steady = { through_steady filter_parts S.steady (leaves_turning (Accepts (CalledAt P.FnMut))).following (leaves_agreeing (Accepts (CalledAt P.FnMut)) (accepts_agree (CalledAt P.FnMut))) };
+    ghost steady = { through_steady filter_parts S.steady (leaves_turning (Accepts (CalledAt P.FnMut))).following
+        (leaves_agreeing (Accepts (CalledAt P.FnMut)) (accepts_agree (CalledAt P.FnMut))) };
 }
 
 impl<B, S: Counted + SteadyStream, F: FnMut(S::Item) -> Option<B>> SteadyStream
@@ -36,7 +37,8 @@ impl<B, S: Counted + SteadyStream, F: FnMut(S::Item) -> Option<B>> SteadyStream
 
     ghost alike = { λ x y. S.alike x.stream y.stream × Agree (Calls F.FnMut) x.f y.f };
 
-    ghost steady = { through_steady filter_map_parts S.steady (leaves_turning (Calls F.FnMut)).following (leaves_agreeing (Calls F.FnMut) (agree_matches (λ y z. y ≡ z) (Calls F.FnMut))) };
+    ghost steady = { through_steady filter_map_parts S.steady (leaves_turning (Calls F.FnMut)).following
+        (leaves_agreeing (Calls F.FnMut) (agree_matches (λ y z. y ≡ z) (Calls F.FnMut))) };
 }
 
 impl<S: SteadyStream<Item: Drop>> SteadyStream for Skip<S> {
@@ -57,7 +59,8 @@ impl<S: Counted<Item: Drop> + SteadyStream, P: FnMut(&S::Item) -> bool + Drop> S
 
     ghost alike = { λ x y. S.alike x.stream y.stream × OptionBy (Agree (CalledAt P.FnMut)) x.predicate y.predicate };
 
-    ghost steady = { through_steady skip_while_parts S.steady (leaves_turning (SkipsUntil (CalledAt P.FnMut))).following (leaves_agreeing (SkipsUntil (CalledAt P.FnMut)) (skips_until_match (CalledAt P.FnMut))) };
+    ghost steady = { through_steady skip_while_parts S.steady (leaves_turning (SkipsUntil (CalledAt P.FnMut))).following
+        (leaves_agreeing (SkipsUntil (CalledAt P.FnMut)) (skips_until_match (CalledAt P.FnMut))) };
 }
 
 impl<S: SteadyStream<Item: Drop>> SteadyStream for StepBy<S> {

@@ -1,9 +1,9 @@
 //! The sources whose answers do not depend on when they were pending.
-ghost use Rattle.lite_base.specs.Alike.{Alike, OptionBy};
+ghost use Rattle.lite_base.specs.Alike.{Alike, Exactly, OptionBy};
 ghost use Rattle.lite_base.specs.Answers.{strip};
 ghost use Rattle.lite_base.specs.Calling.{AgreeBy, Calls};
 ghost use Rattle.lite_base.specs.Future.Calls.{Answers};
-ghost use Rattle.lite_base.specs.Steady.{steady_always};
+ghost use Rattle.lite_base.specs.Steady.{exact_steady, steady_always};
 ghost use Rattle.lite_source.specs.Empty.{Ends};
 ghost use Rattle.lite_source.specs.Iter.{Iterates, Nexts};
 ghost use Rattle.lite_source.specs.Laws.Empty.{empty_laws, empty_steady};
@@ -63,9 +63,9 @@ impl<F: SteadyFuture + Drop> SteadyStream for OnceFuture<F> {
 
     ghost needs_none = { F.needs_none };
 
-    ghost alike = { λ x y. OptionBy F.alike x.future y.future };
+    ghost alike = { λ x y. OptionBy (Exactly F.alike F.same) x.future y.future };
 
-    ghost steady = { once_future_steady F.steady };
+    ghost steady = { once_future_steady (exact_steady F.steady) };
 }
 
 impl<T> SteadyStream for Pending<T> {
@@ -120,9 +120,10 @@ where
 
     ghost needs_none = { Fut.needs_none };
 
-    ghost alike = { λ x y. AgreeBy Fut.alike (Calls F.FnMut) x.f y.f × HoldingsBy Fut.alike x.state y.state };
+    ghost alike = { λ x y. AgreeBy (Exactly Fut.alike Fut.same) (Calls F.FnMut) x.f y.f
+        × HoldingsBy (Exactly Fut.alike Fut.same) x.state y.state };
 
-    ghost steady = { unfolds_steady F.FnMut try_seed_of try_item_of (λ x. (x.f, x.state)) (try_unfold_laws F.FnMut Fut.ample) Fut.steady };
+    ghost steady = { unfolds_steady F.FnMut try_seed_of try_item_of (λ x. (x.f, x.state)) (try_unfold_laws F.FnMut Fut.ample) (exact_steady Fut.steady) };
 }
 
 impl<T, F, Fut, Item> SteadyStream for Unfold<T, F, Fut>
@@ -135,7 +136,8 @@ where
 
     ghost needs_none = { Fut.needs_none };
 
-    ghost alike = { λ x y. AgreeBy Fut.alike (Calls F.FnMut) x.f y.f × HoldingsBy Fut.alike x.state y.state };
+    ghost alike = { λ x y. AgreeBy (Exactly Fut.alike Fut.same) (Calls F.FnMut) x.f y.f
+        × HoldingsBy (Exactly Fut.alike Fut.same) x.state y.state };
 
-    ghost steady = { unfolds_steady F.FnMut seed_of item_of (λ x. (x.f, x.state)) (unfold_laws F.FnMut Fut.ample) Fut.steady };
+    ghost steady = { unfolds_steady F.FnMut seed_of item_of (λ x. (x.f, x.state)) (unfold_laws F.FnMut Fut.ample) (exact_steady Fut.steady) };
 }

@@ -59,7 +59,8 @@ impl<S: SteadyStream, F: FnMut(&S::Item)> SteadyStream for Inspect<S, F> {
 
     ghost alike = { λ x y. S.alike x.stream y.stream × ⊤ };
 
-    ghost steady = { through_steady inspect_parts S.steady (replaces_turning (Shows (CalledAt F.FnMut))).following (replaces_agreeing_where (Shows (CalledAt F.FnMut)) (shows_match (CalledAt F.FnMut))) };
+    ghost steady = { through_steady inspect_parts S.steady (replaces_turning (Shows (CalledAt F.FnMut))).following
+        (replaces_agreeing_where (Shows (CalledAt F.FnMut)) (shows_match (CalledAt F.FnMut))) };
 }
 
 impl<U, S: SteadyStream, F: FnMut(S::Item) -> U> SteadyStream for Map<S, F> {
@@ -79,7 +80,8 @@ impl<B, S: SteadyStream, F: FnMut(S::Item) -> Option<B>> SteadyStream for MapWhi
 
     ghost alike = { λ x y. S.alike x.stream y.stream × Agree (Calls F.FnMut) x.f y.f };
 
-    ghost steady = { through_steady map_while_parts S.steady (exchanges_turning (Calls F.FnMut)).following (exchanges_agreeing (Calls F.FnMut) (agree_matches (λ y z. y ≡ z) (Calls F.FnMut))) };
+    ghost steady = { through_steady map_while_parts S.steady (exchanges_turning (Calls F.FnMut)).following
+        (exchanges_agreeing (Calls F.FnMut) (agree_matches (λ y z. y ≡ z) (Calls F.FnMut))) };
 }
 
 impl<St, B, S: SteadyStream, F: FnMut(&mut St, S::Item) -> Option<B>> SteadyStream
@@ -90,7 +92,8 @@ impl<St, B, S: SteadyStream, F: FnMut(&mut St, S::Item) -> Option<B>> SteadyStre
 
     ghost alike = { λ x y. S.alike x.stream y.stream × Agree (CallsWith F.FnMut) (x.f, x.state) (y.f, y.state) };
 
-    ghost steady = { through_steady scan_parts S.steady (exchanges_turning (CallsWith F.FnMut)).following (exchanges_agreeing (CallsWith F.FnMut) (agree_matches (λ y z. y ≡ z) (CallsWith F.FnMut))) };
+    ghost steady = { through_steady scan_parts S.steady (exchanges_turning (CallsWith F.FnMut)).following
+        (exchanges_agreeing (CallsWith F.FnMut) (agree_matches (λ y z. y ≡ z) (CallsWith F.FnMut))) };
 }
 
 impl<S: SteadyStream> SteadyStream for Take<S> {
@@ -110,5 +113,6 @@ impl<S: SteadyStream<Item: Drop>, P: FnMut(&S::Item) -> bool> SteadyStream for T
 
     ghost alike = { λ x y. S.alike x.stream y.stream × Agree (CalledAt P.FnMut) x.predicate y.predicate };
 
-    ghost steady = { through_steady take_while_parts S.steady (exchanges_turning (Accepts (CalledAt P.FnMut))).following (exchanges_agreeing (Accepts (CalledAt P.FnMut)) (accepts_agree (CalledAt P.FnMut))) };
+    ghost steady = { through_steady take_while_parts S.steady (exchanges_turning (Accepts (CalledAt P.FnMut))).following
+        (exchanges_agreeing (Accepts (CalledAt P.FnMut)) (accepts_agree (CalledAt P.FnMut))) };
 }

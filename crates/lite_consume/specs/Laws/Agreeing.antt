@@ -6,7 +6,7 @@ use Rattle.futures.specs.declared.task.Poll.{Poll}
 use Rattle.futures.specs.declared.task.Poll.TheVariants.{Ready, Pending}
 use Rattle.lite_base.specs.Answers.{Answer, Comparable, ComparableBy, items, strip}
 use Rattle.lite_base.specs.Laws.Alike.{comparable_nil}
-use Rattle.lite_base.specs.Steady.{FutureSteadyLaws, SteadyLaws}
+use Rattle.lite_base.specs.Steady.{FutureSteadyLawsBy, SteadyLaws}
 use Rattle.lite_consume.specs.Agreeing.{FoldSteadyLaws, Within}
 use Rattle.lite_consume.specs.Consume.{Folds}
 use Rattle.lite_consume.specs.Consuming.{Consumes, Decides, Fold, TakesIn, fold_of}
@@ -55,9 +55,9 @@ module _ {M A R : Type 0} {fold ample : Fold M A R} {none : Type 0} {agree : M �
       item_same p k x i j o u a (λ q l b h' g'. made_same q l i j o u b c.1 h' g') h (subst (λ z. Made ample k (Some z ∷ j) u) e g)
 
 -- over a steady stream, a fold whose values agree
-pub consumed_steady : {S M A R : Type 0} {run found : S → List (Answer A) → S → Type 0} {fold ample : Fold M A R} {none none' : Type 0} {alike : S → S → Type 0} {agree : M → M → Type 0}
-    → SteadyLaws run found none alike → FoldSteadyLaws fold ample none' agree (λ r t. r ≡ t)
-    → FutureSteadyLaws (Folds run fold) (Folds found ample) (none × none') (λ (x y : Consume S M). alike x.stream y.stream × agree x.folder y.folder)
+pub consumed_steady : {S M A R : Type 0} {run found : S → List (Answer A) → S → Type 0} {fold ample : Fold M A R} {none none' : Type 0} {alike : S → S → Type 0} {agree : M → M → Type 0} {same : R → R → Type 0}
+    → SteadyLaws run found none alike → FoldSteadyLaws fold ample none' agree same
+    → FutureSteadyLawsBy same (Folds run fold) (Folds found ample) (none × none') (λ (x y : Consume S M). alike x.stream y.stream × agree x.folder y.folder)
 consumed_steady {fold = fold} {ample} s f =
     record {
       laws = consumed_laws ample s.laws;
