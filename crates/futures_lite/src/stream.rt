@@ -6,11 +6,15 @@ use lite_base::Future;
 pub use lite_base::{CalmStream, Counted, OkCounted, SteadyStream, Stream};
 pub use lite_consume::make::block_on;
 pub use lite_consume::{
-    AllFuture, AnyFuture, BlockOn, Consume, CountFuture, FindFuture, FindMapFuture, FoldFuture, Folder,
-    ForEachFuture, LastFuture, NextFuture, NthFuture, PositionFuture, TryFoldFuture,
-    TryForEachFuture, TryNextFuture,
+    AllFuture, AnyFuture, BlockOn, Consume, CountFuture, FindFuture, FindMapFuture, FoldFuture,
+    Folder, ForEachFuture, LastFuture, NextFuture, NthFuture, PositionFuture, SteadyFolder,
+    TryFoldFuture, TryForEachFuture, TryNextFuture,
 };
 pub use lite_flatten::{Chain, Cloned, FlatMap, Flatten, Then};
+pub use lite_gather::{
+    CollectFuture, Gather, PartitionFuture, Refused, TryCollectError, TryCollectFuture,
+    UnzipFuture, UnzipRefused,
+};
 pub use lite_sift::{Filter, FilterMap, Skip, SkipWhile, StepBy};
 pub use lite_source::make::{
     empty, iter, once, once_future, pending, poll_fn, repeat, repeat_with, script, try_unfold,
@@ -18,10 +22,6 @@ pub use lite_source::make::{
 };
 pub use lite_source::{
     Empty, Iter, Once, OnceFuture, Pending, PollFn, Repeat, RepeatWith, Script, TryUnfold, Unfold,
-};
-pub use lite_gather::{
-    CollectFuture, Gather, PartitionFuture, Refused, TryCollectError, TryCollectFuture, UnzipFuture,
-    UnzipRefused,
 };
 use lite_stream::make;
 pub use lite_stream::{Copied, Enumerate, Fuse, Inspect, Map, MapWhile, Scan, Take, TakeWhile};
@@ -410,10 +410,7 @@ pub trait StreamExt: Stream {
 
     /// The future of two collections: of the first and of the second parts of the items. Both take their memory from `alloc`;
     /// where one refuses its part, the value is what was collected, with what was refused.
-    final fn unzip<A, B, FromA, FromB>(
-        self,
-        alloc: FromA::Alloc,
-    ) -> UnzipFuture<Self, FromA, FromB>
+    final fn unzip<A, B, FromA, FromB>(self, alloc: FromA::Alloc) -> UnzipFuture<Self, FromA, FromB>
     where
         Self: Counted<Item = (A, B)> + Sized,
         FromA: Gather<A, Alloc: Copy>,
