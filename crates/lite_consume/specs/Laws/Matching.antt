@@ -34,6 +34,10 @@ module _ {M A R : Type 0} (fold : Fold M A R) (agree : M → M → Type 0) where
   steady : SameAsked → SameClosed → Steady fold agree
   steady asks closes = record { asks = asks; closes = closes; found = within_itself fold }
 
+-- closures that agree, and equal things beside them
+abbrev Beside : {F B : Type 0} → (F → F → Type 0) → F × B → F × B → Type 0
+Beside agree p k = agree p.0 k.0 × (k.1 ≡ p.1)
+
 -- by tests that agree
 module _ {F A : Type 0} (test : F → A → Bool → F → Type 0) {agree : F → F → Type 0} (m : Matches (λ y z. y ≡ z) test agree) where
   never_both : (f k g l : F) (x : A) → agree f k → test f x true g → test k x false l → ⊥
@@ -69,18 +73,14 @@ module _ {F A : Type 0} (test : F → A → Bool → F → Type 0) {agree : F �
   pub find_steady : Steady (finds test) agree
   find_steady = steady (finds test) agree find_asked (λ p k q l r t a c d. c.0 ∙ sym d.0)
 
-  -- and equal numbers
-  abbrev Counting : F × ℕ → F × ℕ → Type 0
-  Counting p k = agree p.0 k.0 × (k.1 ≡ p.1)
-
-  position_asked : SameAsked (positions test) Counting
+  position_asked : SameAsked (positions test) (Beside agree)
   position_asked p k q l x None None a c d = ((m p.0 k.0 q.0 l.0 x false false a.0 c.0 d.0).1, rw (c.1, d.1, a.1) refl)
   position_asked p k q l x None (Some t) a c d = never_both_ways p.0 k.0 q.0 l.0 x a.0 c.0 d.1
   position_asked p k q l x (Some r) None a c d = never_both p.0 k.0 q.0 l.0 x a.0 c.1 d.0
   position_asked p k q l x (Some r) (Some t) a c d = rw (c.0, d.0, a.1) refl
 
-  pub position_steady : Steady (positions test) Counting
-  position_steady = steady (positions test) Counting position_asked (λ p k q l r t a c d. c.0 ∙ sym d.0)
+  pub position_steady : Steady (positions test) (Beside agree)
+  position_steady = steady (positions test) (Beside agree) position_asked (λ p k q l r t a c d. c.0 ∙ sym d.0)
 
 -- by functions that agree
 module _ {F A B : Type 0} (call : F → A → Option B → F → Type 0) {agree : F → F → Type 0} (m : Matches (λ y z. y ≡ z) call agree) where
@@ -112,29 +112,26 @@ module _ {F A E : Type 0} (call : F → A → Result (Unit {0}) E → F → Type
   pub try_for_each_steady : Steady (tries_each call) agree
   try_for_each_steady = steady (tries_each call) agree try_for_each_asked (λ p k q l r t a c d. c.0 ∙ sym d.0)
 
--- and where the same was folded so far
+-- where the same was folded so far
 module _ {F B T R : Type 0} (call : F → B × T → R → F → Type 0) {agree : F → F → Type 0} (m : Matches (λ y z. y ≡ z) call agree) where
-  abbrev Folding : F × Option B → F × Option B → Type 0
-  Folding p k = agree p.0 k.0 × (k.1 ≡ p.1)
-
-  folded_same : (p k q l : F × Option B) (x : T) (b c : B) (r t : R) → Folding p k → p.1 ≡ Some b → k.1 ≡ Some c → call p.0 (b, x) r q.0 → call k.0 (c, x) t l.0 → (r ≡ t) × agree q.0 l.0
+  folded_same : (p k q l : F × Option B) (x : T) (b c : B) (r t : R) → Beside agree p k → p.1 ≡ Some b → k.1 ≡ Some c → call p.0 (b, x) r q.0 → call k.0 (c, x) t l.0 → (r ≡ t) × agree q.0 l.0
   folded_same p k q l x b c r t a e d h g =
       let same : c ≡ b = (let f = a.1 in cc) in
       m p.0 k.0 q.0 l.0 (b, x) r t a.0 h (subst (λ z. call k.0 (z, x) t l.0) same g)
 
 module _ {F T A : Type 0} (call : F → T × A → T → F → Type 0) {agree : F → F → Type 0} (m : Matches (λ y z. y ≡ z) call agree) where
-  fold_asked : SameAsked (folds call) (Folding call m)
+  fold_asked : SameAsked (folds call) (Beside agree)
   fold_asked p k q l x None None a c d =
       let s = folded_same call m p k q l x c.0 d.0 c.1 d.1 a c.2 d.2 c.3 d.3 in
       (s.1, rw (c.4, d.4, s.0) refl)
   fold_asked p k q l x None (Some t) a c d = absurd d
   fold_asked p k q l x (Some r) u a c d = absurd c
 
-  pub fold_steady : Steady (folds call) (Folding call m)
-  fold_steady = steady (folds call) (Folding call m) fold_asked (λ p k q l r t a c d. let e = a.1 in let h = c.0 in let g = d.0 in cc)
+  pub fold_steady : Steady (folds call) (Beside agree)
+  fold_steady = steady (folds call) (Beside agree) fold_asked (λ p k q l r t a c d. let e = a.1 in let h = c.0 in let g = d.0 in cc)
 
 module _ {F B T E : Type 0} (call : F → B × T → Result B E → F → Type 0) {agree : F → F → Type 0} (m : Matches (λ y z. y ≡ z) call agree) where
-  try_fold_asked : SameAsked (tries_fold call) (Folding call m)
+  try_fold_asked : SameAsked (tries_fold call) (Beside agree)
   try_fold_asked p k q l (Ok x) None None a c d =
       let s = folded_same call m p k q l x c.0 d.0 (Ok c.1) (Ok d.1) a c.2 d.2 c.3 d.3 in
       (s.1, let e = s.0 in let h = c.4 in let g = d.4 in cc)
@@ -145,8 +142,8 @@ module _ {F B T E : Type 0} (call : F → B × T → Result B E → F → Type 0
   try_fold_asked p k q l (Err e) (Some r) None a c d = absurd d
   try_fold_asked p k q l (Err e) (Some r) (Some t) a c d = c.0 ∙ sym d.0
 
-  pub try_fold_steady : Steady (tries_fold call) (Folding call m)
-  try_fold_steady = steady (tries_fold call) (Folding call m) try_fold_asked (λ p k q l r t a c d. let e = a.1 in let h = c.1 in let g = d.1 in let v = c.2 in let w = d.2 in cc)
+  pub try_fold_steady : Steady (tries_fold call) (Beside agree)
+  try_fold_steady = steady (tries_fold call) (Beside agree) try_fold_asked (λ p k q l r t a c d. let e = a.1 in let h = c.1 in let g = d.1 in let v = c.2 in let w = d.2 in cc)
 
 -- without a closure
 module _ {A : Type 0} where
