@@ -1,6 +1,6 @@
 -- Which values of each fold agree: by closures that do, and by equal numbers and items.
 use Rattle.std.specs.Prelude.{⊤, Result, Ok, Err, IsErr, IsSome, Bool, true, false}
-use Rattle.std.proofs.Common.{◌≡◌, ◌∙◌, ℕ, Option, Some, None, refl, subst, sym, arith}
+use Rattle.std.proofs.Common.{◌≡◌, ◌∙◌, Option, Some, None, refl, subst, sym, arith}
 use Rattle.lite_base.specs.Laws.Calling.{Matches}
 use Rattle.lite_consume.specs.Agreeing.{Both, FoldSteadyLaws}
 use Rattle.lite_consume.specs.All.{alls}
