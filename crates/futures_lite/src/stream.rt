@@ -8,8 +8,8 @@ pub use lite_base::{CalmStream, Counted, OkCounted, SteadyStream, Stream};
 pub use lite_consume::make::block_on;
 pub use lite_consume::{
     AllFuture, AnyFuture, BlockOn, Consume, CountFuture, FindFuture, FindMapFuture, FoldFuture,
-    Folder, ForEachFuture, LastFuture, NextFuture, NthFuture, PositionFuture, TryFoldFuture,
-    TryForEachFuture, TryNextFuture,
+    Folder, ForEachFuture, LastFuture, NextFuture, NthFuture, PositionFuture, SteadyFolder,
+    TryFoldFuture, TryForEachFuture, TryNextFuture,
 };
 pub use lite_cycle::make::stop_after_future;
 pub use lite_cycle::{Cycle, Drain, StopAfterFuture};

@@ -6,7 +6,7 @@ use Rattle.futures.specs.declared.task.Poll.{Poll}
 use Rattle.lite_base.specs.Answers.{Answer}
 use Rattle.lite_base.specs.FutureLaws.{FutureLaws}
 use Rattle.lite_base.specs.Ranks.{Counting, Ranks, ranks_of}
-use Rattle.lite_base.specs.StreamLaws.{StreamLaws}
+use Rattle.lite_base.specs.StreamLaws.{RunLaws, StreamLaws, laws_of, runs_of}
 
 abbrev pub Lent : {S A : Type 0} → (S → List A → S → Type 0) → MutBor S → List A → MutBor S → Type 0
 Lent run x l y = run x.now l y.now × (y ≡ record x { now = y.now })
@@ -18,15 +18,17 @@ lent_stays {S = S} run stays x y h = h.1 ∙ ap (λ (v : S). record x { now = v 
 lent_still : {S : Type 0} (x y z : MutBor S) → y ≡ record x { now = y.now } → z ≡ record y { now = z.now } → z ≡ record x { now = z.now }
 lent_still {S} x y z e d = d ∙ ap (λ (r : MutBor S). record r { now = z.now }) e
 
+pub lent_runs : {S A : Type 0} {run : S → List A → S → Type 0} → RunLaws run → RunLaws (Lent run)
+lent_runs {run = run} laws =
+    record {
+      rests = λ x. (laws.rests x.now, refl);
+      stays = lent_stays run laws.stays;
+      follows = λ x y z l m h k. (laws.follows x.now y.now z.now l m h.0 k.0, lent_still x y z h.1 k.1);
+    }
+
 module _ {S A : Type 0} {run : S → List (Answer A) → S → Type 0} where
   pub lent_laws : {hints : S → ℕ × Option ℕ → Type 0} → StreamLaws run hints → StreamLaws (Lent run) (λ s hint. hints s.now hint)
-  lent_laws laws =
-      record {
-        rests = λ x. (laws.rests x.now, refl);
-        stays = lent_stays run laws.stays;
-        follows = λ x y z l m h k. (laws.follows x.now y.now z.now l m h.0 k.0, lent_still x y z h.1 k.1);
-        bounded = λ x y hint l e h. laws.bounded x.now y.now hint l e h.0;
-      }
+  lent_laws laws = laws_of (lent_runs (runs_of laws)) (λ x y hint l e h. laws.bounded x.now y.now hint l e h.0)
 
   pub lent_counting : {r : Ranks S} → Counting run r → Counting (Lent run) (ranks_of (λ (s : MutBor S). s.now) r)
   lent_counting c =

@@ -87,6 +87,8 @@ impl<F: SteadyFuture> SteadyFuture for &mut F {
 
     ghost needs_none = { F.needs_none };
 
+    ghost same = { F.same };
+
     ghost alike = { λ x y. F.alike x.now y.now };
 
     ghost steady = { lent_future_steady F.steady };

@@ -47,7 +47,7 @@ impl SteadyStream for Paced {
 
     ghost alike = { λ x y. y.item ≡ x.item };
 
-    ghost steady = { steady_always paced_alike };
+    ghost steady = { steady_always (folds_laws (λ x. x) Step (λ x y e. e) 0) paced_alike };
 }
 
 /// Runs two such streams of one item, whether the next poll of each is pending or not. The answers of the two runs are

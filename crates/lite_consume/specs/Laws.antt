@@ -1,4 +1,6 @@
+pub mod Agreeing
 pub mod Consuming
 pub mod Given
+pub mod Matching
 pub mod Returning
 pub mod Turns

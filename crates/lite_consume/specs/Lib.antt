@@ -1,3 +1,4 @@
+pub mod Agreeing
 pub mod All
 pub mod Any
 pub mod Calls

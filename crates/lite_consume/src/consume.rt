@@ -1,4 +1,5 @@
 ghost use Rattle.lite_base.specs.Ends.{Ends-map};
+ghost use Rattle.lite_base.specs.StreamLaws.{runs_of};
 ghost use Rattle.lite_consume.specs.Consume.{CanFold, FoldTurn, Folds};
 ghost use Rattle.lite_consume.specs.Laws.Consuming.{consumed_laws};
 
@@ -50,7 +51,7 @@ impl<S: Stream, F: Folder<S>> Future for Consume<S, F> {
 
     ghost leaves = { λ m. S.leaves m.stream };
 
-    ghost laws = { consumed_laws F.fold S.laws };
+    ghost laws = { consumed_laws F.fold (runs_of S.laws) };
 
     fn poll(&mut self, cx: &mut Context<'_>) -> Poll<F::Output> {
         drive(self, cx)

@@ -1,4 +1,5 @@
-ghost use Rattle.std.specs.Prelude.{⊤, None, Some, MatchOption};
+ghost use Rattle.std.specs.Prelude.{⊤, ◌≡◌, None, Some, MatchOption};
+ghost use Rattle.lite_consume.specs.Agreeing.{FoldSteadyLaws};
 ghost use Rattle.lite_consume.specs.Consuming.{Fold};
 ghost use Rattle.lite_consume.specs.Turns.{Returns};
 
@@ -35,4 +36,26 @@ pub trait Folder<S: Stream> {
         ensures { fold.closes self.old result self.new };
 
     ghost returns: { Returns S.run fold counts is_open };
+}
+
+/// What makes the same of the same items, where memory was found.
+///
+/// Its future over a steady stream is a steady one. The original has no such trait.
+pub trait SteadyFolder<S: Stream>: Folder<S> {
+    /// The steps in which no memory was refused.
+    ghost ample: { Fold Self S.Item Self.Output };
+
+    /// That no step asks for memory; then each is ample.
+    ghost needs_none: { Type 0 } = { ⊤ };
+
+    /// When two values that it gives are the same: where they are equal, if its type says nothing else.
+    ghost same: { Self.Output → Self.Output → Type 0 } = { λ v w. v ≡ w };
+
+    /// The folders that make the same of the same items.
+    ghost agree: { Self → Self → Type 0 };
+
+    /// Does nothing. The trait is its law.
+    fn is_steady_folder(&self) {}
+
+    ghost steady_fold: { FoldSteadyLaws Self.fold ample needs_none agree same };
 }

@@ -1,4 +1,5 @@
 ghost use Rattle.std.specs.Prelude.{◌≡◌, None};
+ghost use Rattle.lite_base.specs.StreamLaws.{runs_of};
 ghost use Rattle.lite_flatten.specs.Flatten.{CanTurn, FlatTurns, Flattens, flatten_parts, flattening_ranks};
 ghost use Rattle.lite_flatten.specs.HeldLeaves.{HeldLeaves};
 ghost use Rattle.lite_flatten.specs.Laws.Flatten.{flat_ends, flattening, flattening_counting};
@@ -47,7 +48,7 @@ impl<B: Stream + Drop, S: Counted<Item = B>> Stream for Flatten<S> {
 
     ghost hints = { λ m hint. hint ≡ (0, None) };
 
-    ghost laws = { laws_following flatten_parts S.laws (flattening B.laws) };
+    ghost laws = { laws_following flatten_parts S.laws (flattening (runs_of B.laws)) };
 
     fn poll_next(&mut self, cx: &mut Context<'_>) -> Poll<Option<B::Item>> {
         drive(self, cx)

@@ -1,6 +1,6 @@
 //! The adapters whose answers do not depend on when their streams were pending.
 ghost use Rattle.std.specs.Prelude.{◌≡◌};
-ghost use Rattle.lite_base.specs.Alike.{AlikeBy, OptionBy};
+ghost use Rattle.lite_base.specs.Alike.{AlikeBy, Exactly, OptionBy};
 ghost use Rattle.lite_flatten.specs.Chain.{Chains};
 ghost use Rattle.lite_flatten.specs.Cloned.{ClonesUnrefused, EqualClones};
 ghost use Rattle.lite_flatten.specs.FlatMap.{FlatMaps};
@@ -11,6 +11,7 @@ ghost use Rattle.lite_flatten.specs.Laws.SteadyChain.{chain_steady};
 ghost use Rattle.lite_flatten.specs.Laws.SteadyFlatten.{flattening_steady};
 ghost use Rattle.lite_flatten.specs.Laws.Then.{then_steady};
 ghost use Rattle.lite_flatten.specs.Then.{Thens};
+ghost use Rattle.lite_base.specs.Steady.{exact_steady};
 ghost use Rattle.lite_base.specs.Calling.{AgreeBy, Calls};
 
 use crate::{Chain, Cloned, FlatMap, Flatten, Then};
@@ -55,7 +56,7 @@ impl<B: SteadyStream + Drop, S: Counted<Item = B> + SteadyStream> SteadyStream f
 
     ghost alike = { λ x y. AlikeBy (OptionBy B.alike) S.ample x.stream y.stream × OptionBy B.alike x.inner_stream y.inner_stream };
 
-    ghost steady = { flattening_steady flatten_parts (λ x y e. e) S.steady.found B.steady };
+    ghost steady = { flattening_steady flatten_parts (λ x y e. e) S.steady.laws S.steady.found B.steady };
 }
 
 impl<S: SteadyStream, F: FnMut(S::Item) -> Fut, Fut: SteadyFuture + Drop> SteadyStream
@@ -64,7 +65,8 @@ impl<S: SteadyStream, F: FnMut(S::Item) -> Fut, Fut: SteadyFuture + Drop> Steady
 
     ghost needs_none = { S.needs_none × Fut.needs_none };
 
-    ghost alike = { λ x y. S.alike x.stream y.stream × (AgreeBy Fut.alike (Calls F.FnMut) x.f y.f × OptionBy Fut.alike x.future y.future) };
+    ghost alike = { λ x y. S.alike x.stream y.stream × (AgreeBy (Exactly Fut.alike Fut.same) (Calls F.FnMut) x.f y.f
+        × OptionBy (Exactly Fut.alike Fut.same) x.future y.future) };
 
-    ghost steady = { then_steady Fut.steady (Calls F.FnMut) S.steady };
+    ghost steady = { then_steady (exact_steady Fut.steady) (Calls F.FnMut) S.steady };
 }

@@ -1,5 +1,7 @@
+pub mod Agreeing
 pub mod Collect
 pub mod Gathering
+pub mod Laws
 pub mod Partition
 pub mod Refused
 pub mod TryCollect

@@ -2,7 +2,6 @@
 use Rattle.std.specs.Prelude.{◌≡◌, List, Option, Some, None, Result, Ok, Err, IsSome, refl}
 use Rattle.lite_consume.specs.Consuming.{Fold}
 use Rattle.lite_gather.specs.Gathering.{Kept, Took}
-use Rattle.lite_gather.specs.declared.refused.Refused.{Refused}
 use Rattle.lite_gather.specs.declared.refused.TryCollectError.{TryCollectError}
 use Rattle.lite_gather.specs.declared.refused.TryCollectError.TheVariants.{Source, Memory}
 

@@ -11,14 +11,14 @@ pub record Agreed {S A : Type 0} (run ample : S → List (Answer A) → S → Ty
   pub found : ample x l x' → ample y m y' → Comparable (strip l) (strip m)
   pub always : needs_none → Comparable (strip l) (strip m)
 
--- the two finished with these values, and where memory was found in both, or no poll asks for it, they are one value
-pub record OneValue {F A : Type 0} (run ample : F → List (Poll A) → F → Type 0) (needs_none : Type 0) (x : F) (v : A) (y : F) (w : A) : Type 0 where
+-- the two finished with these values, and where memory was found in both, or no poll asks for it, they are the same
+pub record OneValue {F A : Type 0} (same : A → A → Type 0) (run ample : F → List (Poll A) → F → Type 0) (needs_none : Type 0) (x : F) (v : A) (y : F) (w : A) : Type 0 where
   pub ins : List (Poll A)
   pub others : List (Poll A)
   pub first : Finishes run x ins v
   pub second : Finishes run y others w
-  pub found : Finishes ample x ins v → Finishes ample y others w → v ≡ w
-  pub always : needs_none → v ≡ w
+  pub found : Finishes ample x ins v → Finishes ample y others w → same v w
+  pub always : needs_none → same v w
 
 -- fewer answers than were asked for: the first list is short and the second empty, or the second alone is short
 abbrev pub Fewer : {A : Type 0} → List A → List A → ℕ → ℕ → Type 0

@@ -7,7 +7,7 @@ use std::alloc::{AllocError, AllocGlobal};
 use std::random::RandomSource;
 use std::sync::Wait;
 
-/// Waits on this thread for two futures that are alike, one after the other, and answers their values. They are equal,
+/// Waits on this thread for two futures that are alike, one after the other, and answers their values. They are the same,
 /// as long as memory was found.
 ///
 /// It may wait for ever. `Err` says that there was no memory for what the thread sleeps on: then the second future was
@@ -19,7 +19,7 @@ where
     requires first { F.can_poll x }
     requires second { F.can_poll y }
     requires alike { F.alike x y }
-    ensures { IfOk result (λ values. OneValue F.run F.ample F.needs_none x values.0 y values.1) }
+    ensures { IfOk result (λ values. OneValue F.same F.run F.ample F.needs_none x values.0 y values.1) }
 {
     let mut on = BlockOn::new(rt)?;
     let first = on.block_on(rt, x)?;

@@ -11,7 +11,8 @@ ghost use Rattle.lite_sift.specs.Skip.{Skips, SkipsFirst, skip_parts};
 ghost use Rattle.lite_sift.specs.SkipWhile.{SkipsUntil, SkipsWhile, skip_while_parts};
 ghost use Rattle.lite_sift.specs.StepBy.{StepsBy, step_by_parts};
 ghost use Rattle.lite_sift.specs.Laws.Agreeing.{leaves_agreeing, skips_match, skips_until_match};
-ghost use Rattle.lite_sift.specs.Laws.StepBy.{steps_agreeing};
+ghost use Rattle.lite_sift.specs.Laws.Leaving.{leaves_turning};
+ghost use Rattle.lite_sift.specs.Laws.StepBy.{steps_agreeing, steps_turning};
 
 use crate::{Filter, FilterMap, Skip, SkipWhile, StepBy};
 use lite_base::{Counted, SteadyStream};
@@ -24,7 +25,8 @@ impl<S: Counted<Item: Drop> + SteadyStream, P: FnMut(&S::Item) -> bool> SteadySt
 
     ghost alike = { λ x y. S.alike x.stream y.stream × Agree (CalledAt P.FnMut) x.predicate y.predicate };
 
-    ghost steady = { through_steady filter_parts S.steady (leaves_agreeing (Accepts (CalledAt P.FnMut)) (accepts_agree (CalledAt P.FnMut))) };
+    ghost steady = { through_steady filter_parts S.steady (leaves_turning (Accepts (CalledAt P.FnMut))).following
+        (leaves_agreeing (Accepts (CalledAt P.FnMut)) (accepts_agree (CalledAt P.FnMut))) };
 }
 
 impl<B, S: Counted + SteadyStream, F: FnMut(S::Item) -> Option<B>> SteadyStream
@@ -35,7 +37,8 @@ impl<B, S: Counted + SteadyStream, F: FnMut(S::Item) -> Option<B>> SteadyStream
 
     ghost alike = { λ x y. S.alike x.stream y.stream × Agree (Calls F.FnMut) x.f y.f };
 
-    ghost steady = { through_steady filter_map_parts S.steady (leaves_agreeing (Calls F.FnMut) (agree_matches (λ y z. y ≡ z) (Calls F.FnMut))) };
+    ghost steady = { through_steady filter_map_parts S.steady (leaves_turning (Calls F.FnMut)).following
+        (leaves_agreeing (Calls F.FnMut) (agree_matches (λ y z. y ≡ z) (Calls F.FnMut))) };
 }
 
 impl<S: SteadyStream<Item: Drop>> SteadyStream for Skip<S> {
@@ -45,7 +48,7 @@ impl<S: SteadyStream<Item: Drop>> SteadyStream for Skip<S> {
 
     ghost alike = { λ x y. S.alike x.stream y.stream × (y.n ≡ x.n) };
 
-    ghost steady = { through_steady skip_parts S.steady (leaves_agreeing Skips skips_match) };
+    ghost steady = { through_steady skip_parts S.steady (leaves_turning Skips).following (leaves_agreeing Skips skips_match) };
 }
 
 impl<S: Counted<Item: Drop> + SteadyStream, P: FnMut(&S::Item) -> bool + Drop> SteadyStream
@@ -56,7 +59,8 @@ impl<S: Counted<Item: Drop> + SteadyStream, P: FnMut(&S::Item) -> bool + Drop> S
 
     ghost alike = { λ x y. S.alike x.stream y.stream × OptionBy (Agree (CalledAt P.FnMut)) x.predicate y.predicate };
 
-    ghost steady = { through_steady skip_while_parts S.steady (leaves_agreeing (SkipsUntil (CalledAt P.FnMut)) (skips_until_match (CalledAt P.FnMut))) };
+    ghost steady = { through_steady skip_while_parts S.steady (leaves_turning (SkipsUntil (CalledAt P.FnMut))).following
+        (leaves_agreeing (SkipsUntil (CalledAt P.FnMut)) (skips_until_match (CalledAt P.FnMut))) };
 }
 
 impl<S: SteadyStream<Item: Drop>> SteadyStream for StepBy<S> {
@@ -66,5 +70,5 @@ impl<S: SteadyStream<Item: Drop>> SteadyStream for StepBy<S> {
 
     ghost alike = { λ x y. S.alike x.stream y.stream × ((y.step ≡ x.step) × (y.i ≡ x.i)) };
 
-    ghost steady = { through_steady step_by_parts S.steady steps_agreeing };
+    ghost steady = { through_steady step_by_parts S.steady steps_turning.following steps_agreeing };
 }

@@ -1,18 +1,20 @@
 //! The sources whose answers do not depend on when they were pending.
-ghost use Rattle.lite_base.specs.Alike.{Alike, OptionBy};
+ghost use Rattle.lite_base.specs.Alike.{Alike, Exactly, OptionBy};
 ghost use Rattle.lite_base.specs.Answers.{strip};
 ghost use Rattle.lite_base.specs.Calling.{AgreeBy, Calls};
 ghost use Rattle.lite_base.specs.Future.Calls.{Answers};
-ghost use Rattle.lite_base.specs.Steady.{steady_always};
+ghost use Rattle.lite_base.specs.Steady.{exact_steady, steady_always};
 ghost use Rattle.lite_source.specs.Empty.{Ends};
 ghost use Rattle.lite_source.specs.Iter.{Iterates, Nexts};
-ghost use Rattle.lite_source.specs.Laws.Empty.{empty_steady};
+ghost use Rattle.lite_source.specs.Laws.Empty.{empty_laws, empty_steady};
 ghost use Rattle.lite_source.specs.Laws.Folds.{folds_steady};
-ghost use Rattle.lite_source.specs.Laws.Once.{once_steady};
+ghost use Rattle.lite_source.specs.Laws.Once.{once_laws, once_steady};
 ghost use Rattle.lite_source.specs.Laws.OnceFuture.{once_future_steady};
-ghost use Rattle.lite_source.specs.Laws.Pending.{pending_steady};
+ghost use Rattle.lite_source.specs.Laws.Pending.{pending_laws, pending_steady};
 ghost use Rattle.lite_source.specs.Laws.Repeat.{repeat_steady};
-ghost use Rattle.lite_source.specs.Laws.Script.{gives_steady};
+ghost use Rattle.lite_source.specs.Laws.Script.{gives_steady, script_laws};
+ghost use Rattle.lite_source.specs.Laws.TryUnfold.{try_unfold_laws};
+ghost use Rattle.lite_source.specs.Laws.Unfold.{unfold_laws};
 ghost use Rattle.lite_source.specs.Laws.Unfolded.{unfolds_steady};
 ghost use Rattle.lite_source.specs.Once.{GivesOnce};
 ghost use Rattle.lite_source.specs.OnceFuture.{GivesFuture};
@@ -24,6 +26,7 @@ ghost use Rattle.lite_source.specs.TryUnfold.{TryUnfoldsBy, try_item_of, try_see
 ghost use Rattle.lite_source.specs.Unfold.{UnfoldsBy, item_of, seed_of};
 ghost use Rattle.lite_source.specs.Unfolding.{HoldingsBy};
 ghost use Rattle.std.specs.List.{FoldsTo};
+ghost use Rattle.std.proofs.Common.{ap};
 ghost use Rattle.std.specs.Prelude.{⊤, ◌≡◌};
 
 use crate::{
@@ -36,7 +39,7 @@ impl<T> SteadyStream for Empty<T> {
 
     ghost alike = { λ _ _. ⊤ };
 
-    ghost steady = { steady_always empty_steady };
+    ghost steady = { steady_always empty_laws empty_steady };
 }
 
 impl<I: Iterator> SteadyStream for Iter<I> {
@@ -44,7 +47,7 @@ impl<I: Iterator> SteadyStream for Iter<I> {
 
     ghost alike = { λ x y. Alike (Iterates I.can_next I.next_gives I.remaining) x.iter y.iter };
 
-    ghost steady = { steady_always (folds_steady (λ x. x.iter) (Nexts I.can_next I.next_gives I.remaining)) };
+    ghost steady = { folds_steady (λ x. x.iter) (Nexts I.can_next I.next_gives I.remaining) (λ x y. ap (λ v. record x { iter = v })) };
 }
 
 impl<T> SteadyStream for Once<T> {
@@ -52,7 +55,7 @@ impl<T> SteadyStream for Once<T> {
 
     ghost alike = { λ x y. y.value ≡ x.value };
 
-    ghost steady = { steady_always once_steady };
+    ghost steady = { steady_always once_laws once_steady };
 }
 
 impl<F: SteadyFuture + Drop> SteadyStream for OnceFuture<F> {
@@ -60,9 +63,9 @@ impl<F: SteadyFuture + Drop> SteadyStream for OnceFuture<F> {
 
     ghost needs_none = { F.needs_none };
 
-    ghost alike = { λ x y. OptionBy F.alike x.future y.future };
+    ghost alike = { λ x y. OptionBy (Exactly F.alike F.same) x.future y.future };
 
-    ghost steady = { once_future_steady F.steady };
+    ghost steady = { once_future_steady (exact_steady F.steady) };
 }
 
 impl<T> SteadyStream for Pending<T> {
@@ -70,7 +73,7 @@ impl<T> SteadyStream for Pending<T> {
 
     ghost alike = { λ _ _. ⊤ };
 
-    ghost steady = { steady_always pending_steady };
+    ghost steady = { steady_always pending_laws pending_steady };
 }
 
 impl<T, F: FnMut(&mut Context<'_>) -> Poll<Option<T>>> SteadyStream for PollFn<F> {
@@ -78,7 +81,7 @@ impl<T, F: FnMut(&mut Context<'_>) -> Poll<Option<T>>> SteadyStream for PollFn<F
 
     ghost alike = { λ x y. Alike (FoldsTo (Answers F.FnMut)) x.f y.f };
 
-    ghost steady = { steady_always (folds_steady (λ x. x.f) (Answers F.FnMut)) };
+    ghost steady = { folds_steady (λ x. x.f) (Answers F.FnMut) (λ x y. ap (λ v. record x { f = v })) };
 }
 
 impl<T: Clone> SteadyStream for Repeat<T> {
@@ -96,7 +99,7 @@ impl<T, F: FnMut() -> T> SteadyStream for RepeatWith<F> {
 
     ghost alike = { λ x y. Alike (FoldsTo (Call F.FnMut)) x.f y.f };
 
-    ghost steady = { steady_always (folds_steady (λ x. x.f) (Call F.FnMut)) };
+    ghost steady = { folds_steady (λ x. x.f) (Call F.FnMut) (λ x y. ap (λ v. record x { f = v })) };
 }
 
 impl<T> SteadyStream for Script<T> {
@@ -104,7 +107,7 @@ impl<T> SteadyStream for Script<T> {
 
     ghost alike = { λ x y. strip x ≡ strip y };
 
-    ghost steady = { steady_always gives_steady };
+    ghost steady = { steady_always script_laws gives_steady };
 }
 
 impl<T, F, Fut, Item, E> SteadyStream for TryUnfold<T, F, Fut>
@@ -117,9 +120,10 @@ where
 
     ghost needs_none = { Fut.needs_none };
 
-    ghost alike = { λ x y. AgreeBy Fut.alike (Calls F.FnMut) x.f y.f × HoldingsBy Fut.alike x.state y.state };
+    ghost alike = { λ x y. AgreeBy (Exactly Fut.alike Fut.same) (Calls F.FnMut) x.f y.f
+        × HoldingsBy (Exactly Fut.alike Fut.same) x.state y.state };
 
-    ghost steady = { unfolds_steady F.FnMut try_seed_of try_item_of (λ x. (x.f, x.state)) Fut.steady };
+    ghost steady = { unfolds_steady F.FnMut try_seed_of try_item_of (λ x. (x.f, x.state)) (try_unfold_laws F.FnMut Fut.ample) (exact_steady Fut.steady) };
 }
 
 impl<T, F, Fut, Item> SteadyStream for Unfold<T, F, Fut>
@@ -132,7 +136,8 @@ where
 
     ghost needs_none = { Fut.needs_none };
 
-    ghost alike = { λ x y. AgreeBy Fut.alike (Calls F.FnMut) x.f y.f × HoldingsBy Fut.alike x.state y.state };
+    ghost alike = { λ x y. AgreeBy (Exactly Fut.alike Fut.same) (Calls F.FnMut) x.f y.f
+        × HoldingsBy (Exactly Fut.alike Fut.same) x.state y.state };
 
-    ghost steady = { unfolds_steady F.FnMut seed_of item_of (λ x. (x.f, x.state)) Fut.steady };
+    ghost steady = { unfolds_steady F.FnMut seed_of item_of (λ x. (x.f, x.state)) (unfold_laws F.FnMut Fut.ample) (exact_steady Fut.steady) };
 }

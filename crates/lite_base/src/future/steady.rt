@@ -1,5 +1,5 @@
 ghost use Rattle.futures.specs.declared.task.Poll.{Poll};
-ghost use Rattle.lite_base.specs.Alike.{Alike, OptionBy};
+ghost use Rattle.lite_base.specs.Alike.{Alike, Exactly, OptionBy};
 ghost use Rattle.lite_base.specs.Answers.{Waiting};
 ghost use Rattle.lite_base.specs.Future.Calls.{Polled};
 ghost use Rattle.lite_base.specs.Future.Fuse.{Fuses};
@@ -13,7 +13,7 @@ ghost use Rattle.lite_base.specs.Laws.Future.Pending.{waits_steady};
 ghost use Rattle.lite_base.specs.Laws.Future.Ready.{held_steady};
 ghost use Rattle.lite_base.specs.Laws.Future.YieldNow.{yields_steady};
 ghost use Rattle.lite_base.specs.Laws.Future.Zip.{zips_steady};
-ghost use Rattle.lite_base.specs.Steady.{FutureSteadyLaws};
+ghost use Rattle.lite_base.specs.Steady.{FutureSteadyLawsBy, exact_steady};
 ghost use Rattle.std.specs.Prelude.{List, ⊤, ◌≡◌};
 
 use super::{Fuse, Future, Pending, PollFn, Ready, YieldNow, Zip};
@@ -29,19 +29,24 @@ pub trait SteadyFuture: Future {
     /// That no poll asks for memory; then each run is ample.
     ghost needs_none: { Type 0 } = { ⊤ };
 
-    /// The values whose answers are the same, pendings aside.
+    /// When two values that it gives are the same: where they are equal, if its type says nothing else.
+    ghost same: { Self.Output → Self.Output → Type 0 } = { λ v w. v ≡ w };
+
+    /// The futures whose values are the same.
     ghost alike: { Self → Self → Type 0 };
 
     /// Does nothing. The trait is its law.
     fn is_steady_future(&self) {}
 
-    ghost steady: { FutureSteadyLaws Self.run ample needs_none alike };
+    ghost steady: { FutureSteadyLawsBy same Self.run ample needs_none alike };
 }
 
 impl<F: SteadyFuture + Drop> SteadyFuture for Fuse<F> {
     ghost ample = { Fuses F.ample };
 
     ghost needs_none = { F.needs_none };
+
+    ghost same = { F.same };
 
     ghost alike = { λ x y. OptionBy F.alike x.inner y.inner };
 
@@ -90,7 +95,7 @@ where
 
     ghost needs_none = { F1.needs_none × F2.needs_none };
 
-    ghost alike = { λ x y. HalvesBy F1.alike x.first y.first × HalvesBy F2.alike x.second y.second };
+    ghost alike = { λ x y. HalvesBy (Exactly F1.alike F1.same) x.first y.first × HalvesBy (Exactly F2.alike F2.same) x.second y.second };
 
-    ghost steady = { zips_steady F1.steady F2.steady };
+    ghost steady = { zips_steady (exact_steady F1.steady) (exact_steady F2.steady) };
 }

@@ -1,7 +1,9 @@
 //! Each type that carries a mark is asked for it by the bound alone.
 use lite_base::future::make as future;
 use lite_base::{CalmFuture, CalmStream, Context, Poll, SteadyFuture, SteadyStream};
+use lite_consume::make as consume;
 use lite_flatten::make as flatten;
+use lite_gather::{CollectFuture, PartitionFuture, TryCollectFuture, UnzipFuture, make as gather};
 use lite_sift::make as sift;
 use lite_source::make as source;
 use lite_stream::make as stream;
@@ -59,6 +61,55 @@ fn what_is_lent_is_steady_and_calm(_rt: HostRuntime) -> Result<(), Fail> {
     both(&&mut once);
     let mut ready = future::ready(1u8);
     both_future(&&mut ready);
+    Ok(())
+}
+
+#[test]
+fn futures_that_consume_are_steady_and_calm(_rt: HostRuntime) -> Result<(), Fail> {
+    both_future(&consume::count(source::once(1u8)));
+    both_future(&consume::fold(source::once(1u8), 0u8, |acc: u8, x: u8| acc ^ x));
+    both_future(&consume::for_each(source::once(1u8), |_x: u8| ()));
+    both_future(&consume::last(source::once(1u8)));
+    Ok(())
+}
+
+#[test]
+fn futures_that_are_lent_a_stream_are_steady_and_calm(_rt: HostRuntime) -> Result<(), Fail> {
+    let mut once = source::once(1u8);
+    both_future(&consume::next(&mut once));
+    both_future(&consume::nth(&mut once, 1));
+    both_future(&consume::all(&mut once, |x: u8| x == 1));
+    both_future(&consume::any(&mut once, |x: u8| x == 1));
+    both_future(&consume::find(&mut once, |x: &u8| *x == 1));
+    both_future(&consume::find_map(&mut once, |x: u8| Some(x)));
+    both_future(&consume::position(&mut once, |x: u8| x == 1));
+    both_future(&consume::try_for_each(&mut once, |x: u8| if x == 1 { Ok(()) } else { Err('a') }));
+    let good: Result<u8, char> = Ok(1);
+    let mut tried = source::once(good);
+    both_future(&consume::try_next(&mut tried));
+    both_future(&consume::try_fold(&mut tried, 0u8, |acc: u8, x: u8| Ok(acc ^ x)));
+    Ok(())
+}
+
+#[test]
+fn collections_are_steady_and_calm(rt: HostRuntime) -> Result<(), Fail> {
+    let good: Result<u8, char> = Ok(1);
+    let items: CollectFuture<_, Vec<u8>> = gather::collect(source::once(1u8), rt.alloc());
+    both_future(&items);
+    let held: TryCollectFuture<_, Vec<u8>> = gather::try_collect(source::once(good), rt.alloc());
+    both_future(&held);
+    let accepted = |x: &u8| *x == 1;
+    let sorted: PartitionFuture<_, _, Vec<u8>> = gather::partition(
+        source::once(1u8),
+        rt.alloc(),
+        accepted,
+    );
+    both_future(&sorted);
+    let parts: UnzipFuture<_, Vec<u8>, Vec<char>> = gather::unzip(
+        source::once((1u8, 'a')),
+        rt.alloc(),
+    );
+    both_future(&parts);
     Ok(())
 }
 

@@ -1,49 +1,24 @@
 -- What is given of a part, and of a stream that is lent.
 use Rattle.std.specs.Prelude.{Result, Ok, Err, IfOk}
-use Rattle.std.proofs.Common.{List, [], ◌∷◌, Some, None}
+use Rattle.std.proofs.Common.{List, [], ◌∷◌}
 use Rattle.std.specs.List.{FoldsTo}
 use Rattle.futures.specs.declared.task.Poll.{Poll}
-use Rattle.futures.specs.declared.task.Poll.TheVariants.{Ready, Pending}
 use denote.MutBor.{MutBor}
 use Rattle.lite_base.specs.Answers.{Answer, Gives}
 use Rattle.lite_base.specs.Ends.{Ends-map}
 use Rattle.lite_base.specs.Lent.{Lent}
 use Rattle.lite_consume.specs.Consume.{Folds}
-use Rattle.lite_consume.specs.Consuming.{Concludes, Consumes, Decides, Fold, TakesIn, Waits, fold_of}
+use Rattle.lite_consume.specs.Consuming.{Consumes, Fold, TakesIn, fold_of}
+use Rattle.lite_consume.specs.Laws.Consuming.{consumes_by}
 use Rattle.lite_consume.specs.Turns.{MayTakeEach, Returns}
 use Rattle.lite_stream.specs.EachItem.{items_in}
 use Rattle.lite_consume.specs.declared.consume.Consume.{Consume}
 use Rattle.lite_consume.specs.Given.{Given}
 
 module _ {N M A R : Type 0} (part : N → M) (fold : Fold M A R) where
-  part_folds : (p q : N) (l : List A) → FoldsTo (TakesIn (fold_of part fold)) p l q → FoldsTo (TakesIn fold) (part p) l (part q)
-  part_folds p q [] e = λ i. part (e i)
-  part_folds p q (x ∷ l) h = (part h.0, h.1, part_folds h.0 q l h.2)
-
-  part_decides : (p q : N) (a : Answer A) (r : R) → Decides (fold_of part fold) p a r q → Decides fold (part p) a r (part q)
-  part_decides p q Pending r h = h
-  part_decides p q (Ready None) r h = h
-  part_decides p q (Ready (Some x)) r h = h
-
   -- what a part folds
   part_consumes : (p q : N) (i : List (Answer A)) (l : List (Poll R)) → Consumes (fold_of part fold) p i l q → Consumes fold (part p) i l (part q)
-  part_consumes p q i [] h = (h.0, λ j. part (h.1 j))
-  part_consumes p q i (Pending ∷ l) h =
-      let first = h.2 in
-      let whole : Waits fold (part p) i h.0 (part h.1) = record { taken = first.taken; cut = first.cut; folds = part_folds p h.1 first.taken first.folds } in
-      (h.0, part h.1, whole, part_consumes h.1 q h.0 l h.3)
-  part_consumes p q i (Ready r ∷ l) h =
-      let last = h.0 in
-      let whole : Concludes fold (part p) i r (part q) =
-      record {
-        taken = last.taken;
-        last = last.last;
-        cut = last.cut;
-        between = part last.between;
-        folds = part_folds p last.between last.taken last.folds;
-        decides = part_decides last.between q last.last r last.decides;
-      } in
-      (whole, h.1)
+  part_consumes = consumes_by part (fold_of part fold) fold (λ p q x o h. h) (λ p q r h. h)
 
   -- what was given of it
   pub given : {S E : Type 0} (run : S → List (Answer A) → S → Type 0) (s t : S) (p : N) (r : Result R E)

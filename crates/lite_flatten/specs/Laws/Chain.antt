@@ -8,7 +8,7 @@ use Rattle.lite_base.specs.Falling.{AtMost-both, AtMost-length, Below-after, Bel
 use Rattle.lite_base.specs.Laws.Hint.{same_hint}
 use Rattle.lite_base.specs.Rank.{AtMost, Below, Lowers}
 use Rattle.lite_base.specs.Ranks.{Counting, Ranks}
-use Rattle.lite_base.specs.StreamLaws.{StreamLaws}
+use Rattle.lite_base.specs.StreamLaws.{RunLaws, StreamLaws, laws_of, runs_of}
 use Rattle.lite_flatten.specs.Chain.{Chains, Joins, chain_rank, chain_ranks, is_done, second_after, second_rank, zeros}
 use Rattle.lite_flatten.specs.Laws.Zeros.{zeros_least}
 use Rattle.lite_flatten.specs.declared.chain.Chain.{Chain}
@@ -209,14 +209,11 @@ same_length : (xs ys : List ℕ) {n : ℕ} → length xs ≡ n → length ys ≡
 same_length xs ys d e = d ∙ sym e
 
 module _ {S U A : Type 0} {run : S → List (Answer A) → S → Type 0} {run' : U → List (Answer A) → U → Type 0} where
+  pub chain_runs : RunLaws run → RunLaws run' → RunLaws (Chains run run')
+  chain_runs s u = record { rests = chains_rest run run' s.rests u.rests; stays = chains_stay run run' s.stays u.stays; follows = chains_follow run run' s.follows u.follows }
+
   pub chain_laws : {hints : S → ℕ × Option ℕ → Type 0} {hints' : U → ℕ × Option ℕ → Type 0} → StreamLaws run hints → StreamLaws run' hints' → StreamLaws (Chains run run') (λ m hint. hint ≡ (0, None))
-  chain_laws s u =
-      record {
-        rests = chains_rest run run' s.rests u.rests;
-        stays = chains_stay run run' s.stays u.stays;
-        follows = chains_follow run run' s.follows u.follows;
-        bounded = λ x y hint l e h. same_hint hint (0, None) l e tt;
-      }
+  chain_laws s u = laws_of (chain_runs (runs_of s) (runs_of u)) (λ x y hint l e h. same_hint hint (0, None) l e tt)
 
   pub chain_counting : {r : Ranks S} {r' : Ranks U} → Counting run r → Counting run' r' → Counting (Chains run run') (chain_ranks r r')
   chain_counting {r} {r'} s u =

@@ -22,7 +22,7 @@ use Rattle.lite_flatten.specs.Lingering.{HeldOn, Lingering, Lingers, Replaced}
 use Rattle.lite_base.specs.Laws.Calling.{Matches}
 use Rattle.lite_stream.specs.Laws.Agreeing.{through_alike}
 use Rattle.lite_stream.specs.Laws.Calming.{Calming}
-use Rattle.lite_stream.specs.Laws.Through.{laws_following}
+use Rattle.lite_stream.specs.Laws.Through.{laws_following, through_runs}
 
 module _ {T E : Type 0} (is_clone : T → T → Type 0) (is_infallible : T → Type 0) where
   nothing : (refused : List (Answer (Result T E))) (b : Answer (Result T E)) → [] ≡ refused ++ b ∷ [] → ⊥
@@ -172,6 +172,7 @@ module _ {T E : Type 0} (is_clone : T → T → Type 0) (is_infallible : T → T
       → SteadyLaws (ClonesAll {E = E} is_clone is_infallible run) (ClonesUnrefused is_clone ample) (none × ((x : T) → is_infallible x)) (λ x y. alike x.stream y.stream × (y.held ≡ x.held) × EqualClones is_clone)
   cloned_steady s =
       record {
+        laws = through_runs cloned_parts s.laws (lingering_following Refers (Clones is_clone (λ _. ⊤)) (clones_giving is_clone (λ _. ⊤)));
         steady = λ x y e.
             through_alike cloned_parts x y (s.steady x.stream y.stream e.0) (tt, held_same x.held y.held e.1)
             (lingering_agreeing (clones_one is_clone) Refers refers_match (clones_alike is_clone e.2));

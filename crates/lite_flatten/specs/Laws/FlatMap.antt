@@ -10,7 +10,7 @@ use Rattle.lite_base.specs.Falling.{ItemRun}
 use Rattle.lite_base.specs.Laws.Promises.{call_promises}
 use Rattle.lite_base.specs.Ranks.{Counting, Ranks, counting_ends, ranks_of}
 use Rattle.lite_base.specs.Steady.{SteadyLaws}
-use Rattle.lite_base.specs.StreamLaws.{StreamLaws}
+use Rattle.lite_base.specs.StreamLaws.{StreamLaws, runs_of}
 use Rattle.lite_flatten.specs.FlatMap.{EachMade, FlatMaps, flat_map_parts, flat_map_ranks}
 use Rattle.lite_flatten.specs.Flatten.{EachInner}
 use Rattle.lite_flatten.specs.Laws.Calming.{flattening_calm}
@@ -77,7 +77,7 @@ module _ {S F A V : Type 0} (g : Mut F (A × Unit {0}) V) {run : S → List (Ans
 
   module _ {B : Type 0} {run' : V → List (Answer B) → V → Type 0} {hints : S → ℕ × Option ℕ → Type 0} where
     pub flat_map_laws : {hints' : V → ℕ × Option ℕ → Type 0} → StreamLaws run hints → StreamLaws run' hints' → StreamLaws (FlatMaps run g run') (λ m hint. hint ≡ (0, None))
-    flat_map_laws laws laws' = laws_following flat_map_parts (outer_laws laws) (flattening laws')
+    flat_map_laws laws laws' = laws_following flat_map_parts (outer_laws laws) (flattening (runs_of laws'))
 
     pub flat_map_counting : {r : Ranks S} {r' : Ranks V} → StreamLaws run hints → Counting run r → Counting run' r' → Counting (FlatMaps run g run') (flat_map_ranks g r r')
     flat_map_counting {r} {r'} laws c c' =
@@ -96,9 +96,10 @@ module _ {S F A V B : Type 0} (g : Mut F (A × Unit {0}) V) {run ample : S → L
   pub flat_map_steady : SteadyLaws run ample none alike → SteadyLaws run' found none' alike'
       → SteadyLaws (FlatMaps run g run') (FlatMaps ample g found) (none × none') (λ (x y : FlatMap S V F). alike x.stream.stream y.stream.stream × AgreeBy alike' (Calls g) x.stream.f y.stream.f × OptionBy alike' x.inner_stream y.inner_stream)
   flat_map_steady s =
+      let outer = through_steady map_parts s (replaces_turning (Calls g)).following (replaces_agreeing (Calls g)) in
       flattening_steady flat_map_parts
       (λ x y e. (through_alike map_parts x.stream y.stream (s.steady x.stream.stream y.stream.stream e.0) e.1 (replaces_agreeing_by (Calls g) alike'), e.2))
-      (through_steady map_parts s (replaces_agreeing (Calls g))).found
+      outer.laws outer.found
 
 -- by a function that makes calm streams
 pub flat_map_calm : {S F A V B : Type 0} (g : Mut F (A × Unit {0}) V) {run : S → List (Answer A) → S → Type 0} {run' : V → List (Answer B) → V → Type 0} {hints : S → ℕ × Option ℕ → Type 0} {is_calm : S → Type 0} {calm : V → Type 0}

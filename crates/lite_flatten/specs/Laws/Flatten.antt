@@ -9,7 +9,7 @@ use Rattle.lite_base.specs.Ends.{Ends, Ends-lex, Ends-map, Ends-rests, Lex, Rest
 use Rattle.lite_base.specs.Falling.{AtMost-both, Below-after, Below-first, Below-then, ItemRun, Lowers-at_most, Lowers-below}
 use Rattle.lite_base.specs.Rank.{Below, Lowers}
 use Rattle.lite_base.specs.Ranks.{Counting, Ranks}
-use Rattle.lite_base.specs.StreamLaws.{StreamLaws}
+use Rattle.lite_base.specs.StreamLaws.{RunLaws, StreamLaws}
 use Rattle.lite_flatten.specs.Flatten.{EachInner, Endless, Flat, Flattening, FlatTurn, FlatTurns, HeldOn, Replaced, flattening_ranks, inner_rank}
 use Rattle.lite_flatten.specs.Laws.Zeros.{zeros_least}
 use Rattle.lite_stream.specs.Laws.Lower.{at_most_below, lowers_after, lowers_at_most}
@@ -239,7 +239,7 @@ module _ {B A : Type 0} (run : B → List (Answer A) → B → Type 0) (n : ℕ)
         flat_lowers f g h.ins l (outer_rank t) (outer_rank s) (some_has f (λ b k c m. inner b c m k) each.0) h.turned (lowers h.ins h.came)
 
 module _ {B A : Type 0} {run : B → List (Answer A) → B → Type 0} where
-  pub flattening : {hints : B → ℕ × Option ℕ → Type 0} → StreamLaws run hints → Following (Flattening run)
+  pub flattening : RunLaws run → Following (Flattening run)
   flattening inner = flattening_following run inner.stays inner.follows inner.rests
 
   pub flattening_counting : {M S : Type 0} (p : Parts M S (Option B)) {outer : S → List (Answer B) → S → Type 0} {hints : S → ℕ × Option ℕ → Type 0} {r : Ranks S} {r' : Ranks B} → StreamLaws outer hints → Counting outer r → Counting run r'

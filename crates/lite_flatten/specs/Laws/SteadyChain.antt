@@ -7,6 +7,7 @@ use Rattle.lite_flatten.specs.Chain.{Chains, Joins, is_done, second_after}
 use Rattle.lite_flatten.specs.declared.chain.Part.{Part}
 use Rattle.lite_flatten.specs.declared.chain.Part.TheVariants.{First, Second, Done}
 use Rattle.lite_base.specs.Laws.Alike.{comparable_nil}
+use Rattle.lite_flatten.specs.Laws.Chain.{chain_runs}
 use Rattle.lite_stream.specs.Laws.Cutting.{Cut, cut_same, cuts_stripped}
 
 module _ {A : Type 0} where
@@ -44,6 +45,7 @@ module _ {S U A : Type 0} {run ample : S → List (Answer A) → S → Type 0} {
   pub chain_steady : SteadyLaws run ample none alike → SteadyLaws run' ample' none' alike' → SteadyLaws (Chains run run') (Chains ample ample') (none × none') (λ x y. alike x.first y.first × alike' x.second y.second × (y.part ≡ x.part))
   chain_steady s u =
       record {
+        laws = chain_runs s.laws u.laws;
         steady = λ x y e l m x' y' h k.
             joined_same x.part (strip h.firsts) (strip k.firsts) (strip h.seconds) (strip k.seconds) (strip l) (strip m) (stripped x.part x'.part h.firsts h.seconds l h.joined)
             (subst (λ p. Joined p (strip k.firsts) (strip k.seconds) (strip m)) e.2 (stripped y.part y'.part k.firsts k.seconds m k.joined))

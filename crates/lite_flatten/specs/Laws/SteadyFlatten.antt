@@ -10,6 +10,9 @@ use Rattle.lite_flatten.specs.Flatten.{EachInner, Endless, Flat, Flattening, Hel
 use Rattle.lite_flatten.specs.Laws.Replacing.{Placed, PlacedFrom, items_same, placed_from_same}
 use Rattle.lite_base.specs.Laws.Answers.{strip_join}
 use Rattle.lite_base.specs.Laws.Alike.{comparable_nil}
+use Rattle.lite_base.specs.StreamLaws.{RunLaws}
+use Rattle.lite_flatten.specs.Laws.Flatten.{flattening}
+use Rattle.lite_stream.specs.Laws.Through.{through_runs}
 use Rattle.lite_stream.specs.Through.{Adapts, Parts}
 
 module _ {A : Type 0} where
@@ -109,10 +112,11 @@ module _ {B A : Type 0} {run ample : B → List (Answer A) → B → Type 0} (t 
 
 module _ {M S B A : Type 0} (p : Parts M S (Option B)) {outer ample : S → List (Answer B) → S → Type 0} {run found : B → List (Answer A) → B → Type 0} {none none' : Type 0} {alike : M → M → Type 0} {alike' : B → B → Type 0} where
   -- an adapter, where what is alike of it has outer streams whose items are alike
-  pub flattening_steady : ((x y : M) → alike x y → AlikeBy (OptionBy alike') ample (p.source x) (p.source y) × OptionBy alike' (p.held x) (p.held y)) → (none → TakesNone outer ample) → SteadyLaws run found none' alike'
+  pub flattening_steady : ((x y : M) → alike x y → AlikeBy (OptionBy alike') ample (p.source x) (p.source y) × OptionBy alike' (p.held x) (p.held y)) → RunLaws ample → (none → TakesNone outer ample) → SteadyLaws run found none' alike'
       → SteadyLaws (Adapts p outer (Flattening run)) (Adapts p ample (Flattening found)) (none × none') alike
-  flattening_steady items takes s =
+  flattening_steady items laws takes s =
       record {
+        laws = through_runs p laws (flattening s.laws);
         steady = λ x y e. flattening_alike found s.steady p ample x y (items x y e).0 (items x y e).1;
         found = λ n x y l h. record { ins = h.ins; came = takes n.0 (p.source x) (p.source y) h.ins h.came; turned = flattening_found (s.found n.1) (p.held x) (p.held y) h.ins l h.turned };
       }

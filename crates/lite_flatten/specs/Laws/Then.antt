@@ -94,7 +94,7 @@ module _ {V B : Type 0} {gives found : V → List (Poll B) → V → Type 0} {no
   pub then_steady : {S F A : Type 0} (call : F → A → V → F → Type 0) {run ample : S → List (Answer A) → S → Type 0} {none' : Type 0} {alike' : S → S → Type 0} → SteadyLaws run ample none' alike'
       → SteadyLaws (Thens run call gives) (Thens ample call found) (none' × none) (λ (x y : Then S F V). alike' x.stream y.stream × (AgreeBy alike call x.f y.f × OptionBy alike x.future y.future))
   then_steady call outer =
-      through_steady_by then_parts outer (lingering_agreeing hands_one call (agree_matches alike call) hands_alike)
+      through_steady_by then_parts outer (lingering_following call (HandsOut found) (hands_giving s.laws)) (lingering_agreeing hands_one call (agree_matches alike call) hands_alike)
       (λ n. (n.0, lingering_found call (λ v l next h. spends_found (handed Some) (λ after. after ≡ []) (s.found n.1) (Some v) next l h)))
 
 handed_prompt : {B : Type 0} (l : List (Poll B)) → Prompt l → Prompt (map (handed Some) l)

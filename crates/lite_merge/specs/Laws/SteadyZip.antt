@@ -5,6 +5,7 @@ use Rattle.futures.specs.declared.task.Poll.TheVariants.{Ready, Pending}
 use Rattle.lite_base.specs.Answers.{Answer, Comparable, strip}
 use Rattle.lite_base.specs.Laws.Alike.{comparable_nil}
 use Rattle.lite_base.specs.Steady.{SteadyLaws}
+use Rattle.lite_merge.specs.Laws.Zip.{zip_runs}
 use Rattle.lite_merge.specs.Zip.{Held, Pairing, Pairs, Zips, pair_with, pendings}
 use Rattle.lite_merge.specs.declared.zip.Zip.{Zip}
 
@@ -87,6 +88,7 @@ module _ {S U A B : Type 0} {run ample : S → List (Answer A) → S → Type 0}
       → SteadyLaws (Zips run run') (Zips ample ample') (none × none') (λ (x y : Zip S U A). alike x.first y.first × alike' x.second y.second × (y.item_slot ≡ x.item_slot))
   zip_steady s u =
       record {
+        laws = zip_runs s.laws u.laws;
         steady = λ x y e l m x' y' h k.
             matching_same x.item_slot (strip h.firsts) (strip k.firsts) (strip h.seconds) (strip k.seconds) (strip l) (strip m) (matching x.item_slot x'.item_slot h.firsts h.seconds l h.paired)
             (subst (λ o. Matching o (strip k.firsts) (strip k.seconds) (strip m)) e.2 (matching y.item_slot y'.item_slot k.firsts k.seconds m k.paired))

@@ -9,7 +9,7 @@ use Rattle.lite_base.specs.Laws.Calm.{none_prompt, prompt_none}
 use Rattle.lite_base.specs.Laws.Hint.{same_hint}
 use Rattle.lite_base.specs.Rank.{AtMost, Below, Lowers}
 use Rattle.lite_base.specs.Ranks.{Counting, Ranks}
-use Rattle.lite_base.specs.StreamLaws.{StreamLaws}
+use Rattle.lite_base.specs.StreamLaws.{RunLaws, StreamLaws, laws_of, runs_of}
 use Rattle.lite_merge.specs.Zip.{Held, Pairing, Pairs, Zips, held_count, held_rank, pair_with, pendings, zip_ranks}
 use Rattle.lite_merge.specs.declared.zip.Zip.{Zip}
 use Rattle.lite_stream.specs.Laws.Lower.{at_most_below}
@@ -198,8 +198,8 @@ module _ {S U A B : Type 0} {run : S → List (Answer A) → S → Type 0} {run'
       let same' = stays' x.second y.second (subst (λ l. run' x.second l y.second) e.1 h.then_came) in
       λ i. record { item_slot = e.2 i; first = same i; second = same' i }
 
-  pub zip_laws : {hints : S → ℕ × Option ℕ → Type 0} {hints' : U → ℕ × Option ℕ → Type 0} → StreamLaws run hints → StreamLaws run' hints' → StreamLaws (Zips run run') (λ m hint. hint ≡ (0, None))
-  zip_laws s u =
+  pub zip_runs : RunLaws run → RunLaws run' → RunLaws (Zips run run')
+  zip_runs s u =
       record {
         rests = λ x. record { firsts = []; seconds = []; came = s.rests x.first; then_came = u.rests x.second; paired = pairing_starts B x.item_slot };
         stays = zips_stay s.stays u.stays;
@@ -211,8 +211,10 @@ module _ {S U A B : Type 0} {run : S → List (Answer A) → S → Type 0} {run'
               then_came = u.follows x.second y.second z.second h.seconds k.seconds h.then_came k.then_came;
               paired = pairing_follow x.item_slot y.item_slot z.item_slot h.firsts k.firsts h.seconds k.seconds l m h.paired k.paired;
             };
-        bounded = λ x y hint l e h. same_hint hint (0, None) l e tt;
       }
+
+  pub zip_laws : {hints : S → ℕ × Option ℕ → Type 0} {hints' : U → ℕ × Option ℕ → Type 0} → StreamLaws run hints → StreamLaws run' hints' → StreamLaws (Zips run run') (λ m hint. hint ≡ (0, None))
+  zip_laws s u = laws_of (zip_runs (runs_of s) (runs_of u)) (λ x y hint l e h. same_hint hint (0, None) l e tt)
 
   pub zip_counting : {hints : S → ℕ × Option ℕ → Type 0} {r : Ranks S} → StreamLaws run hints → Counting run r → Counting (Zips run run') (zip_ranks r)
   zip_counting {r = r} s c =

@@ -8,7 +8,7 @@ use Rattle.lite_base.specs.Answers.{Answer, Comparable, strip}
 use Rattle.lite_base.specs.Calm.{CalmLaws, Prompt}
 use Rattle.lite_base.specs.Laws.Calls.{folds_follow}
 use Rattle.lite_base.specs.Laws.Hint.{same_hint}
-use Rattle.lite_base.specs.Steady.{Steadiness}
+use Rattle.lite_base.specs.Steady.{SteadyLaws, steady_always}
 use Rattle.lite_base.specs.StreamLaws.{StreamLaws}
 
 -- `part` of the source is what changes, by `next` at each poll, and all that it holds
@@ -23,11 +23,11 @@ module _ {S P A : Type 0} (part : S → P) (next : P → Answer A → P → Type
         bounded = λ x y hint l e h. same_hint hint (least, None) l e tt;
       }
 
-module _ {S P A : Type 0} (part : S → P) (next : P → Answer A → P → Type 0) where
   -- it is its own source: those whose answers are the same are alike
-  pub folds_steady : Steadiness (λ x l y. FoldsTo next (part x) l (part y)) (λ x y. Alike (FoldsTo next) (part x) (part y))
-  folds_steady x y e l m x' y' h k = e l m (part x') (part y') h k
+  pub folds_steady : SteadyLaws (λ x l y. FoldsTo next (part x) l (part y)) (λ x l y. FoldsTo next (part x) l (part y)) ⊤ (λ x y. Alike (FoldsTo next) (part x) (part y))
+  folds_steady = steady_always (folds_laws 0) (λ x y e l m x' y' h k. e l m (part x') (part y') h k)
 
+module _ {S P A : Type 0} (part : S → P) (next : P → Answer A → P → Type 0) where
   folds_prompt : ((p q : P) → next p Pending q → ⊥) → (p q : P) (l : List (Answer A)) → FoldsTo next p l q → Prompt l
   folds_prompt never p q [] h = tt
   folds_prompt never p q (Pending ∷ l) h = absurd (never p h.0 h.1)

@@ -20,7 +20,7 @@ use Rattle.lite_base.specs.Laws.Hint.{same_hint}
 use Rattle.lite_base.specs.Rank.{AtMost, Lowers}
 use Rattle.lite_base.specs.Ranks.{Counting, number_counting}
 use Rattle.lite_base.specs.Steady.{FutureSteadyLaws, Steadiness, SteadyLaws}
-use Rattle.lite_base.specs.StreamLaws.{StreamLaws}
+use Rattle.lite_base.specs.StreamLaws.{StreamLaws, runs_of}
 use Rattle.lite_base.specs.Future.Handed.{handed}
 use Rattle.lite_source.specs.OnceFuture.{GivesFuture, once_future_ranks}
 use Rattle.lite_source.specs.Laws.Always.{answers_prompt, answers_same, no_items_lower}
@@ -70,6 +70,7 @@ pub once_future_steady : {F A : Type 0} {run ample : F → List (Poll A) → F �
     → SteadyLaws (GivesFuture run) (GivesFuture ample) needs_none (λ x y. OptionBy alike x.future y.future)
 once_future_steady s =
     record {
+      laws = runs_of (once_future_laws _ s.laws);
       steady = λ x y e l m x' y'. handing_same s.steady x.future y.future x'.future y'.future l m e;
       found = λ n x y l. spends_found (handed (λ v. Some v)) (AllByRecursion (λ a. a ≡ end)) (s.found n) x.future y.future l;
     }

@@ -6,7 +6,7 @@ use Rattle.futures.specs.declared.task.Poll.TheVariants.{Ready, Pending}
 use Rattle.lite_base.specs.Answers.{Answer, Comparable, strip}
 use Rattle.lite_base.specs.Calm.{CalmLaws, Prompt}
 use Rattle.lite_base.specs.Steady.{SteadyLaws}
-use Rattle.lite_base.specs.StreamLaws.{StreamLaws}
+use Rattle.lite_base.specs.StreamLaws.{StreamLaws, runs_of}
 use Rattle.lite_source.specs.Repeat.{IsCloned, Repeats, SameClones}
 use Rattle.lite_source.specs.Laws.Always.{always_laws}
 
@@ -38,6 +38,7 @@ module _ {A E : Type 0} (is_clone : A → A → Type 0) (is_infallible : A → T
   pub repeat_steady : SteadyLaws (Repeats {E = E} is_clone is_infallible) (Repeats is_clone (λ _. ⊤)) ((x : A) → is_infallible x) (λ x y. SameClones is_clone x.item y.item)
   repeat_steady =
       record {
+        laws = runs_of (always_laws (λ x. IsCloned is_clone (λ _. ⊤) x.item) (0, None) (λ x l h. tt));
         steady = λ x y e l m x' y' h k. clones_same x.item y.item e l m h.0 k.0;
         found = λ n x y l h. (clones_found n x.item l h.0, h.1);
       }

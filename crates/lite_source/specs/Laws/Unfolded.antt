@@ -1,6 +1,6 @@
 -- What `unfold` and `try_unfold` answer, Pendings aside: the same from futures that are alike.
 use Rattle.std.specs.Prelude.{⊤}
-use Rattle.std.proofs.Common.{inl, inr, ◌≡◌, ◌∙◌, ◌⊎◌, List, [], ◌∷◌, ◌++◌, map, flat_map, Option, Some, None, refl, ap, subst, sym, append-nil}
+use Rattle.std.proofs.Common.{inl, inr, ◌≡◌, ◌∙◌, ◌⊎◌, ℕ, List, [], ◌∷◌, ◌++◌, map, flat_map, Option, Some, None, refl, ap, subst, sym, append-nil}
 use Rattle.std.specs.Fn.{AlwaysReturns, Mut}
 use Rattle.std.specs.List.{AllByRecursion, FoldsTo}
 use Rattle.futures.specs.declared.task.Poll.{Poll}
@@ -18,6 +18,7 @@ use Rattle.lite_base.specs.Laws.Future.Finishes.{finishes_found, finishes_later}
 use Rattle.lite_base.specs.Laws.Future.Handed.{handed_gives, handed_prompt, handed_waits}
 use Rattle.lite_base.specs.Laws.Promises.{call_promises}
 use Rattle.lite_base.specs.Steady.{FutureSteadyLaws, Steadiness, SteadyLaws, TakesNone}
+use Rattle.lite_base.specs.StreamLaws.{StreamLaws, runs_of}
 use Rattle.lite_source.specs.Laws.Always.{answers_prompt}
 use Rattle.lite_source.specs.Unfolding.{IfAsked, IsCurrent, Leads, Part, Holding, HoldingsBy, Unfolds, comes}
 
@@ -117,10 +118,11 @@ module _ {F S V O B : Type 0} (call : Mut F (S × Unit {0}) V) {run ample : V �
 
 module _ {F S V O B : Type 0} (call : Mut F (S × Unit {0}) V) {run ample : V → List (Poll O) → V → Type 0} {none : Type 0} {alike : V → V → Type 0} (after : O → Option S) (shown : O → Option B) where
   -- a source that holds such a pair
-  pub unfolds_steady : {X : Type 0} (pair : X → F × Holding S V) → FutureSteadyLaws run ample none alike
+  pub unfolds_steady : {X : Type 0} (pair : X → F × Holding S V) {hints : X → ℕ × Option ℕ → Type 0} → StreamLaws (λ x l y. Unfolds call ample after shown (pair x) l (pair y)) hints → FutureSteadyLaws run ample none alike
       → SteadyLaws (λ x l y. Unfolds call run after shown (pair x) l (pair y)) (λ x l y. Unfolds call ample after shown (pair x) l (pair y)) none (λ x y. AgreeBy alike (Calls call) (pair x).0 (pair y).0 × HoldingsBy alike (pair x).1 (pair y).1)
-  unfolds_steady pair s =
+  unfolds_steady pair laws s =
       record {
+        laws = runs_of laws;
         steady = λ x y e l m x' y' h k.
             rw (ap strip h.2, ap strip k.2)
             (values_same call ample s.steady after shown (pair x).0 (pair y).0 (pair x).1 (pair y).1 _ _ e.0 e.1

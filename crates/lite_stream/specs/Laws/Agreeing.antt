@@ -3,6 +3,7 @@ use Rattle.std.proofs.Common.{◌≡◌, List, Option}
 use Rattle.lite_base.specs.Alike.{AlikeBy, Alike}
 use Rattle.lite_base.specs.Answers.{Answer, Comparable, ComparableBy, strip}
 use Rattle.lite_base.specs.Steady.{SteadyLaws}
+use Rattle.lite_stream.specs.Laws.Through.{Following, through_runs}
 use Rattle.lite_stream.specs.Through.{Adapts, Parts}
 
 -- from what agrees, the same answers out come of equal answers in, Pendings aside
@@ -19,18 +20,20 @@ through_alike p x y e a agrees l m x' y' h k =
 
 module _ {M S F A B : Type 0} (p : Parts M S F) {run ample : S → List (Answer A) → S → Type 0} {needs_none : Type 0} {turns : F → List (Answer A) → List (Answer B) → F → Type 0} {alike : S → S → Type 0} {agree : F → F → Type 0} where
   -- an adapter that takes no memory itself
-  pub through_steady : SteadyLaws run ample needs_none alike → Agreeing turns agree → SteadyLaws (Adapts p run turns) (Adapts p ample turns) needs_none (λ x y. alike (p.source x) (p.source y) × agree (p.held x) (p.held y))
-  through_steady s agrees =
+  pub through_steady : SteadyLaws run ample needs_none alike → Following turns → Agreeing turns agree → SteadyLaws (Adapts p run turns) (Adapts p ample turns) needs_none (λ x y. alike (p.source x) (p.source y) × agree (p.held x) (p.held y))
+  through_steady s t agrees =
       record {
+        laws = through_runs p s.laws t;
         steady = λ x y e. through_alike p x y (s.steady (p.source x) (p.source y) e.0) e.1 agrees;
         found = λ n x y l h. record { ins = h.ins; came = s.found n (p.source x) (p.source y) h.ins h.came; turned = h.turned };
       }
 
   -- one whose answers are others where memory was found
-  pub through_steady_by : {turns' : F → List (Answer A) → List (Answer B) → F → Type 0} {needs_none' : Type 0} → SteadyLaws run ample needs_none alike → Agreeing turns agree → (needs_none' → needs_none × ((f g : F) (i : List (Answer A)) (o : List (Answer B)) → turns' f i o g → turns f i o g))
+  pub through_steady_by : {turns' : F → List (Answer A) → List (Answer B) → F → Type 0} {needs_none' : Type 0} → SteadyLaws run ample needs_none alike → Following turns → Agreeing turns agree → (needs_none' → needs_none × ((f g : F) (i : List (Answer A)) (o : List (Answer B)) → turns' f i o g → turns f i o g))
       → SteadyLaws (Adapts p run turns') (Adapts p ample turns) needs_none' (λ x y. alike (p.source x) (p.source y) × agree (p.held x) (p.held y))
-  through_steady_by s agrees found =
+  through_steady_by s t agrees found =
       record {
+        laws = through_runs p s.laws t;
         steady = λ x y e. through_alike p x y (s.steady (p.source x) (p.source y) e.0) e.1 agrees;
         found = λ n x y l h. record { ins = h.ins; came = s.found (found n).0 (p.source x) (p.source y) h.ins h.came; turned = (found n).1 (p.held x) (p.held y) h.ins l h.turned };
       }

@@ -1,0 +1,23 @@
+-- Folds that make the same of the same items.
+use Rattle.std.specs.Prelude.{Option, Some, None}
+use Rattle.lite_consume.specs.Consuming.{Fold}
+
+-- both took the item in, and that holds, or both decided, and the values are the same
+abbrev pub Both : {R : Type 0} → (R → R → Type 0) → Type 0 → Option R → Option R → Type 0
+Both same holds None None = holds
+Both same holds None (Some t) = ⊥
+Both same holds (Some r) None = ⊥
+Both same holds (Some r) (Some t) = same r t
+
+-- each step of the one is a step of the other
+pub record Within {M A R : Type 0} (fold other : Fold M A R) : Type 0 where
+  pub asks : (p q : M) (x : A) (o : Option R) → fold.asks p x o q → other.asks p x o q
+  pub closes : (p q : M) (r : R) → fold.closes p r q → other.closes p r q
+
+-- what a steady fold meets: from values that agree, steps in which memory was found do the same
+pub record FoldSteadyLaws {M A R : Type 0} (fold ample : Fold M A R) (needs_none : Type 0) (agree : M → M → Type 0) (same : R → R → Type 0) : Type 0 where
+  -- with an item, after which the values agree again
+  pub asks : (p k q l : M) (x : A) (o u : Option R) → agree p k → ample.asks p x o q → ample.asks k x u l → Both same (agree q l) o u
+  -- and at an end
+  pub closes : (p k q l : M) (r t : R) → agree p k → ample.closes p r q → ample.closes k t l → same r t
+  pub found : needs_none → Within fold ample

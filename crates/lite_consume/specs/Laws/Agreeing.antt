@@ -1,0 +1,88 @@
+-- Laws of what is made of a stream's items: it does not depend on when the stream was pending.
+use Rattle.std.proofs.Common.{◌≡◌, ◌⊎◌, List, [], ◌∷◌, ◌++◌, Option, Some, None, inl, inr, refl, subst, sym}
+use Rattle.std.specs.List.{FoldsTo}
+use Rattle.std.specs.Prelude.{⊤}
+use Rattle.futures.specs.declared.task.Poll.{Poll}
+use Rattle.futures.specs.declared.task.Poll.TheVariants.{Ready, Pending}
+use Rattle.lite_base.specs.Answers.{Answer, Comparable, ComparableBy, items, strip}
+use Rattle.lite_base.specs.Laws.Alike.{comparable_nil}
+use Rattle.lite_base.specs.Steady.{FutureSteadyLawsBy, SteadyLaws}
+use Rattle.lite_consume.specs.Agreeing.{FoldSteadyLaws, Within}
+use Rattle.lite_consume.specs.Consume.{Folds}
+use Rattle.lite_consume.specs.Consuming.{Consumes, Decides, Fold, TakesIn, fold_of}
+use Rattle.lite_consume.specs.Laws.Consuming.{consumed_laws, consumes_by}
+use Rattle.lite_consume.specs.declared.consume.Consume.{Consume}
+
+module _ {M A R : Type 0} (fold : Fold M A R) where
+  -- as Consumes, where nothing is pending
+  abbrev Made : M → List (Option A) → List R → Type 0
+  Made p [] out = out ≡ []
+  Made p (None ∷ ins) out = (r : R) × (q : M) × fold.closes p r q × (out ≡ r ∷ [])
+  Made p (Some x ∷ ins) out = ((q : M) × fold.asks p x None q × Made q ins out) ⊎ ((r : R) × (q : M) × fold.asks p x (Some r) q × (out ≡ r ∷ []))
+
+  after_taken : (p q : M) (taken : List A) (l : List (Answer A)) (out : List R) → FoldsTo (TakesIn fold) p taken q → Made q (strip l) out → Made p (strip (items taken ++ l)) out
+  after_taken p q [] l out e h = subst (λ v. Made v (strip l) out) (sym e) h
+  after_taken p q (x ∷ taken) l out e h = inl (e.0, e.1, after_taken e.0 q taken l out e.2 h)
+
+  decided : (p q : M) (a : Answer A) (r : R) → Decides fold p a r q → Made p (strip (a ∷ [])) (r ∷ [])
+  decided p q Pending r h = absurd h
+  decided p q (Ready None) r h = (r, q, h, refl)
+  decided p q (Ready (Some x)) r h = inr (r, q, h, refl)
+
+  stripped : (p q : M) (i : List (Answer A)) (o : List (Poll R)) → Consumes fold p i o q → Made p (strip i) (strip o)
+  stripped p q i [] h = rw h.0 refl
+  stripped p q i (Pending ∷ o) h = rw h.2.cut (after_taken p h.1 h.2.taken (Pending ∷ h.0) (strip o) h.2.folds (stripped h.1 q h.0 o h.3))
+  stripped p q i (Ready r ∷ o) h =
+      let last = h.0 in
+      rw (last.cut, h.1) (after_taken p last.between last.taken (last.last ∷ []) (r ∷ []) last.folds (decided last.between q last.last r last.decides))
+
+module _ {M A R : Type 0} {fold ample : Fold M A R} {none : Type 0} {agree : M → M → Type 0} {same : R → R → Type 0} (f : FoldSteadyLaws fold ample none agree same) where
+  item_same : (p k : M) (x : A) (i j : List (Option A)) (o u : List R) → agree p k → ((q l : M) → agree q l → Made ample q i o → Made ample l j u → ComparableBy same o u)
+      → Made ample p (Some x ∷ i) o → Made ample k (Some x ∷ j) u → ComparableBy same o u
+  item_same p k x i j o u a rest (inl h) (inl g) = rest h.0 g.0 (f.asks p k h.0 g.0 x None None a h.1 g.1) h.2 g.2
+  item_same p k x i j o u a rest (inl h) (inr g) = absurd (f.asks p k h.0 g.1 x None (Some g.0) a h.1 g.2)
+  item_same p k x i j o u a rest (inr h) (inl g) = absurd (f.asks p k h.1 g.0 x (Some h.0) None a h.2 g.1)
+  item_same p k x i j o u a rest (inr h) (inr g) = rw (h.3, g.3) (f.asks p k h.1 g.1 x (Some h.0) (Some g.0) a h.2 g.2, tt)
+
+  made_same : (p k : M) (i j : List (Option A)) (o u : List R) → agree p k → Comparable i j → Made ample p i o → Made ample k j u → ComparableBy same o u
+  made_same p k [] j o u a c h g = rw h tt
+  made_same p k (x ∷ i) [] o u a c h g = rw g (comparable_nil same o)
+  made_same p k (None ∷ i) (None ∷ j) o u a c h g = rw (h.3, g.3) (f.closes p k h.1 g.1 h.0 g.0 a h.2 g.2, tt)
+  made_same p k (None ∷ i) (Some y ∷ j) o u a c h g = absurd (let e = c.0 in cc)
+  made_same p k (Some x ∷ i) (None ∷ j) o u a c h g = absurd (let e = c.0 in cc)
+  made_same p k (Some x ∷ i) (Some y ∷ j) o u a c h g =
+      let e : y ≡ x = (let e' = c.0 in cc) in
+      item_same p k x i j o u a (λ q l b h' g'. made_same q l i j o u b c.1 h' g') h (subst (λ z. Made ample k (Some z ∷ j) u) e g)
+
+-- over a steady stream, a fold whose values agree
+pub consumed_steady : {S M A R : Type 0} {run found : S → List (Answer A) → S → Type 0} {fold ample : Fold M A R} {none none' : Type 0} {alike : S → S → Type 0} {agree : M → M → Type 0} {same : R → R → Type 0}
+    → SteadyLaws run found none alike → FoldSteadyLaws fold ample none' agree same
+    → FutureSteadyLawsBy same (Folds run fold) (Folds found ample) (none × none') (λ (x y : Consume S M). alike x.stream y.stream × agree x.folder y.folder)
+consumed_steady {fold = fold} {ample} s f =
+    record {
+      laws = consumed_laws ample s.laws;
+      steady = λ x y e l m x' y' h k.
+          made_same f x.folder y.folder (strip h.ins) (strip k.ins) (strip l) (strip m) e.1 (s.steady x.stream y.stream e.0 h.ins k.ins x'.stream y'.stream h.came k.came)
+          (stripped ample x.folder x'.folder h.ins l h.consumed) (stripped ample y.folder y'.folder k.ins m k.consumed);
+      found = λ n x y l h.
+          let same = f.found n.1 in
+          record {
+            ins = h.ins;
+            came = s.found n.0 x.stream y.stream h.ins h.came;
+            consumed = consumes_by (λ p. p) fold ample same.asks same.closes x.folder y.folder h.ins l h.consumed;
+          };
+    }
+
+-- a fold of a part
+pub part_steady : {N M A R : Type 0} (part : N → M) {fold ample : Fold M A R} {none : Type 0} {agree : M → M → Type 0} {same : R → R → Type 0} → FoldSteadyLaws fold ample none agree same
+    → FoldSteadyLaws (fold_of part fold) (fold_of part ample) none (λ x y. agree (part x) (part y)) same
+part_steady part f =
+    record {
+      asks = λ p k q l. f.asks (part p) (part k) (part q) (part l);
+      closes = λ p k q l. f.closes (part p) (part k) (part q) (part l);
+      found = λ n. record { asks = λ p q. (f.found n).asks (part p) (part q); closes = λ p q. (f.found n).closes (part p) (part q) };
+    }
+
+-- each step of a fold is one of its own
+pub within_itself : {M A R : Type 0} (fold : Fold M A R) → ⊤ → Within fold fold
+within_itself fold n = record { asks = λ p q x o h. h; closes = λ p q r h. h }
