@@ -5,11 +5,12 @@ ghost use Rattle.lite_flatten.specs.declared.chain.Part.TheVariants.{First};
 
 use lite_base::Future;
 pub use lite_base::{CalmStream, Counted, OkCounted, SteadyStream, Stream};
-pub use lite_consume::make::block_on;
+pub use lite_block::BlockOn;
+pub use lite_block::make::block_on;
 pub use lite_consume::{
-    AllFuture, AnyFuture, BlockOn, Consume, CountFuture, FindFuture, FindMapFuture, FoldFuture,
-    Folder, ForEachFuture, LastFuture, NextFuture, NthFuture, PositionFuture, SteadyFolder,
-    TryFoldFuture, TryForEachFuture, TryNextFuture,
+    AllFuture, AnyFuture, Consume, CountFuture, FindFuture, FindMapFuture, FoldFuture, Folder,
+    ForEachFuture, LastFuture, NextFuture, NthFuture, PositionFuture, SteadyFolder, TryFoldFuture,
+    TryForEachFuture, TryNextFuture,
 };
 pub use lite_cycle::make::stop_after_future;
 pub use lite_cycle::{Cycle, Drain, StopAfterFuture};

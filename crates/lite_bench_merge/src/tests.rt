@@ -1,2 +1,3 @@
 mod always;
 mod merge;
+mod waking;

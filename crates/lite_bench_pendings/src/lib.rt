@@ -4,6 +4,7 @@
 
 pub mod agree;
 pub mod clones;
+pub mod collections;
 pub mod nests;
 pub mod paced;
 #[cfg(test)]

@@ -1,3 +1,4 @@
+mod collections;
 mod marks;
 mod runs;
 mod scripts;

@@ -1,5 +1,5 @@
 -- Folds that make the same of the same items.
-use Rattle.std.specs.Prelude.{Option, Some, None}
+use Rattle.std.specs.Prelude.{⊤, Option, Some, None, IfSome}
 use Rattle.lite_consume.specs.Consuming.{Fold}
 
 -- both took the item in, and that holds, or both decided, and the values are the same
@@ -9,10 +9,14 @@ Both same holds None (Some t) = ⊥
 Both same holds (Some r) None = ⊥
 Both same holds (Some r) (Some t) = same r t
 
--- each step of the one is a step of the other
-pub record Within {M A R : Type 0} (fold other : Fold M A R) : Type 0 where
-  pub asks : (p q : M) (x : A) (o : Option R) → fold.asks p x o q → other.asks p x o q
-  pub closes : (p q : M) (r : R) → fold.closes p r q → other.closes p r q
+-- each step of the one is a step of the other, where the value that it gives, if it gives one, is such
+pub record WithinWhere {M A R : Type 0} (may : R → Type 0) (fold other : Fold M A R) : Type 0 where
+  pub asks : (p q : M) (x : A) (o : Option R) → IfSome o may → fold.asks p x o q → other.asks p x o q
+  pub closes : (p q : M) (r : R) → may r → fold.closes p r q → other.closes p r q
+
+-- whatever the value
+abbrev pub Within : {M A R : Type 0} → Fold M A R → Fold M A R → Type 0
+Within = WithinWhere (λ _. ⊤)
 
 -- what a steady fold meets: from values that agree, steps in which memory was found do the same
 pub record FoldSteadyLaws {M A R : Type 0} (fold ample : Fold M A R) (needs_none : Type 0) (agree : M → M → Type 0) (same : R → R → Type 0) : Type 0 where

@@ -9,7 +9,6 @@ pub mod Find
 pub mod FindMap
 pub mod Fold
 pub mod ForEach
-pub mod Given
 pub mod Last
 pub mod Laws
 pub mod Next

@@ -16,7 +16,8 @@ pub type AllFuture<'a, S, P> = Consume<&'a mut S, All<P>>;
 /// Asks the predicate about each item, and decides at the first that it rejects.
 #[derive(Debug, Drop)]
 pub struct All<P> {
-    pub(crate) predicate: P,
+    /// What each item is tested by.
+    pub predicate: P,
 }
 
 impl<S: Counted, P: FnMut(S::Item) -> bool> Folder<S> for All<P> {

@@ -16,7 +16,8 @@ pub type AnyFuture<'a, S, P> = Consume<&'a mut S, Any<P>>;
 /// Asks the predicate about each item, and decides at the first that it accepts.
 #[derive(Debug, Drop)]
 pub struct Any<P> {
-    pub(crate) predicate: P,
+    /// What each item is tested by.
+    pub predicate: P,
 }
 
 impl<S: Counted, P: FnMut(S::Item) -> bool> Folder<S> for Any<P> {

@@ -14,7 +14,8 @@ pub type CountFuture<S> = Consume<S, Count>;
 /// Counts the items that it takes in.
 #[derive(Debug, Drop)]
 pub struct Count {
-    pub(crate) count: usize,
+    /// How many items were taken in, in 64 bits.
+    pub count: usize,
 }
 
 impl<S: Counted<Item: Drop>> Folder<S> for Count {

@@ -16,7 +16,8 @@ pub type FindFuture<'a, S, P> = Consume<&'a mut S, Find<P>>;
 /// Asks the predicate about each item, and decides at the first that it accepts.
 #[derive(Debug, Drop)]
 pub struct Find<P> {
-    pub(crate) predicate: P,
+    /// What each item is tested by.
+    pub predicate: P,
 }
 
 impl<S: Counted<Item: Drop>, P: FnMut(&S::Item) -> bool> Folder<S> for Find<P> {

@@ -16,7 +16,8 @@ pub type FindMapFuture<'a, S, F> = Consume<&'a mut S, FindMap<F>>;
 /// Calls the function with each item, and decides at its first answer that is not `None`.
 #[derive(Debug, Drop)]
 pub struct FindMap<F> {
-    pub(crate) f: F,
+    /// What is called with each item.
+    pub f: F,
 }
 
 impl<B, S: Counted, F: FnMut(S::Item) -> Option<B>> Folder<S> for FindMap<F> {

@@ -17,8 +17,10 @@ pub type FoldFuture<S, F, T> = Consume<S, Fold<F, T>>;
 /// Calls the function with what was folded and each item; the answer is folded next.
 #[derive(Debug, Drop)]
 pub struct Fold<F, T> {
-    pub(crate) f: F,
-    pub(crate) acc: Option<T>,
+    /// What is called with what was folded and each item.
+    pub f: F,
+    /// What was folded so far; `None` says that it was handed out.
+    pub acc: Option<T>,
 }
 
 impl<T: Drop, S: Counted, F: FnMut(T, S::Item) -> T> Folder<S> for Fold<F, T> {

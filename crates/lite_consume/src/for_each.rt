@@ -15,7 +15,8 @@ pub type ForEachFuture<S, F> = Consume<S, ForEach<F>>;
 /// Calls the function with each item.
 #[derive(Debug, Drop)]
 pub struct ForEach<F> {
-    pub(crate) f: F,
+    /// What is called with each item.
+    pub f: F,
 }
 
 impl<S: Counted, F: FnMut(S::Item)> Folder<S> for ForEach<F> {

@@ -14,7 +14,8 @@ pub type LastFuture<S> = Consume<S, Last<<S as Stream>::Item>>;
 /// Keeps the item that it took in last.
 #[derive(Debug, Drop)]
 pub struct Last<T> {
-    pub(crate) last: Option<T>,
+    /// The last item that was taken in, and `None` where none was.
+    pub last: Option<T>,
 }
 
 impl<T: Drop, S: Counted<Item = T>> Folder<S> for Last<T> {

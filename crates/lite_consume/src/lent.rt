@@ -1,5 +1,5 @@
 ghost use Rattle.lite_consume.specs.Consuming.{fold_of};
-ghost use Rattle.lite_consume.specs.Laws.Given.{lent_returns};
+ghost use Rattle.lite_consume.specs.Laws.Returning.{lent_returns};
 
 use crate::folder::Folder;
 use lite_base::Stream;

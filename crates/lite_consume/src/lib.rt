@@ -3,7 +3,6 @@
 
 mod all;
 mod any;
-mod block_on;
 mod calm;
 mod consume;
 mod count;
@@ -25,7 +24,6 @@ mod try_next;
 
 pub use all::{All, AllFuture};
 pub use any::{Any, AnyFuture};
-pub use block_on::BlockOn;
 pub use consume::Consume;
 pub use count::{Count, CountFuture};
 pub use find::{Find, FindFuture};

@@ -15,7 +15,8 @@ pub type NthFuture<'a, S> = Consume<&'a mut S, Nth>;
 /// Takes in `n` items, and decides at the one after them.
 #[derive(Debug, Drop)]
 pub struct Nth {
-    pub(crate) n: usize,
+    /// How many items are still to be left out.
+    pub n: usize,
 }
 
 impl<S: Stream<Item: Drop>> Folder<S> for Nth {

@@ -17,8 +17,10 @@ pub type PositionFuture<'a, S, P> = Consume<&'a mut S, Position<P>>;
 /// Asks the predicate about each item, and decides at the first that it accepts.
 #[derive(Debug, Drop)]
 pub struct Position<P> {
-    pub(crate) predicate: P,
-    pub(crate) index: usize,
+    /// What each item is tested by.
+    pub predicate: P,
+    /// The number of the next item.
+    pub index: usize,
 }
 
 impl<S: Counted, P: FnMut(S::Item) -> bool> Folder<S> for Position<P> {

@@ -17,8 +17,10 @@ pub type TryFoldFuture<'a, S, F, B> = Consume<&'a mut S, TryFold<F, B>>;
 /// Calls the function with what was folded and what each item holds; the answer is folded next, or decides as an error.
 #[derive(Debug, Drop)]
 pub struct TryFold<F, B> {
-    pub(crate) f: F,
-    pub(crate) acc: Option<B>,
+    /// What is called with what was folded and what each item holds.
+    pub f: F,
+    /// What was folded so far; `None` says that it was handed out.
+    pub acc: Option<B>,
 }
 
 impl<B: Drop, S: OkCounted, F: FnMut(B, S::Ok) -> Result<B, S::Err>> Folder<S> for TryFold<F, B> {

@@ -16,7 +16,8 @@ pub type TryForEachFuture<'a, S, F> = Consume<&'a mut S, TryForEach<F>>;
 /// Calls the function with each item, and decides at the first error.
 #[derive(Debug, Drop)]
 pub struct TryForEach<F> {
-    pub(crate) f: F,
+    /// What is called with each item.
+    pub f: F,
 }
 
 impl<E, S: Counted, F: FnMut(S::Item) -> Result<(), E>> Folder<S> for TryForEach<F> {

@@ -1,8 +1,7 @@
 -- `cycle`: a stream's list before its first end, and then that of each copy of it, of which the first answer may be an end.
 use Rattle.std.specs.Prelude.{◌≡◌, List, [], ◌∷◌, ◌++◌, Option, Some, None, IfSome, Result, Ok, Err}
-use Rattle.lite_base.specs.Answers.{Answer, end, item}
+use Rattle.lite_base.specs.Answers.{Answer, Endless, end, item}
 use Rattle.lite_base.specs.OkRanks.{all_ok}
-use Rattle.lite_cycle.specs.Endless.{Endless}
 use Rattle.lite_cycle.specs.declared.cycle.Cycle.{Cycle}
 
 module _ {S A : Type 0} (run : S → List (Answer A) → S → Type 0) where

@@ -1,4 +1,4 @@
 pub mod Cycle
 pub mod Drain
-pub mod Endless
+pub mod Ends
 pub mod StopAfterFuture

@@ -2,9 +2,8 @@
 use Rattle.std.specs.Prelude.{◌≡◌, ◌⊎◌, ℕ, ◌+◌, List, [], ◌∷◌, ◌++◌, length, Option, Some, None, IfSome, ⊤}
 use Rattle.futures.specs.Task.{Lasting}
 use Rattle.futures.specs.declared.task.Poll.{Poll}
-use Rattle.lite_base.specs.Answers.{Answer, Waiting, end}
+use Rattle.lite_base.specs.Answers.{Answer, Endless, Waiting, end}
 use Rattle.lite_base.specs.Future.Finishes.{Finishes}
-use Rattle.lite_cycle.specs.Endless.{Endless}
 use Rattle.lite_cycle.specs.declared.stop_after_future.StopAfterFuture.{StopAfterFuture}
 use Rattle.lite_cycle.specs.declared.stop_after_future.Stopping.TheVariants.{Holding, TakenOut, Stopped}
 use Rattle.lite_cycle.specs.declared.stop_after_future.Stopping.{Stopping}

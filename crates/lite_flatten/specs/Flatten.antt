@@ -1,14 +1,17 @@
 -- `flatten`: each item is a stream, and is replaced by the answers of that stream before its first end.
 use Rattle.std.specs.Prelude.{◌≡◌, ◌⊎◌, ℕ, ◌+◌, List, [], ◌∷◌, ◌++◌, Option, Some, None, IfSome, replicate}
 use Rattle.futures.specs.declared.task.Poll.TheVariants.{Ready, Pending}
-use Rattle.lite_base.specs.Answers.{Answer, end, item, until_end}
+use Rattle.lite_base.specs.Answers.{Answer, Endless, end, item}
 use Rattle.lite_base.specs.Ranks.{Ranks}
 use Rattle.lite_flatten.specs.declared.flatten.Flatten.{Flatten}
 use Rattle.lite_stream.specs.Through.{Parts, Through}
 
--- there is no end among the answers
-abbrev pub Endless : {A : Type 0} → List (Answer A) → Type 0
-Endless l = until_end l ≡ l
+-- the outer stream answers; an item of it is the inner stream that is held from then on
+abbrev pub OuterTurn : {S B A : Type 0} → (S → List (Answer B) → S → Type 0) → S → Option (Answer A) → S → Option B → Type 0
+OuterTurn {B = B} outer s None t last = (b : B) × outer s (item b ∷ []) t × (last ≡ Some b)
+OuterTurn outer s (Some Pending) t last = outer s (Pending ∷ []) t × (last ≡ None)
+OuterTurn outer s (Some (Ready None)) t last = outer s (end ∷ []) t × (last ≡ None)
+OuterTurn outer s (Some (Ready (Some x))) t last = ⊥
 
 module _ {B A : Type 0} (run : B → List (Answer A) → B → Type 0) where
   -- b is held to the last, and all answers are its own
@@ -38,14 +41,15 @@ module _ {B A : Type 0} (run : B → List (Answer A) → B → Type 0) where
     abbrev pub Flattens : Flatten S B → List (Answer A) → Flatten S B → Type 0
     Flattens x l y = Through outer Flattening x.stream x.inner_stream l y.stream y.inner_stream
 
-    -- one turn of a poll: the inner stream is polled, or else the outer one; an inner stream that ends is let go
+    -- the inner stream that is held answers, and its answer goes out
+    abbrev pub InnerTurn : B → S → Option (Answer A) → S → Option B → Type 0
+    InnerTurn b s None t last = ⊥
+    InnerTurn b s (Some a) t last = (t ≡ s) × Endless (a ∷ []) × (c : B) × run b (a ∷ []) c × (last ≡ Some c)
+
+    -- one turn of a poll: the inner stream answers, and where it ends, or none is held, the outer one does
     abbrev pub FlatTurn : S → Option B → Option (Answer A) → S → Option B → Type 0
-    FlatTurn s None None t last = (b : B) × outer s (item b ∷ []) t × (last ≡ Some b)
-    FlatTurn s None (Some Pending) t last = outer s (Pending ∷ []) t × (last ≡ None)
-    FlatTurn s None (Some (Ready None)) t last = outer s (end ∷ []) t × (last ≡ None)
-    FlatTurn s None (Some (Ready (Some x))) t last = ⊥
-    FlatTurn s (Some b) None t last = (t ≡ s) × (last ≡ None) × (c : B) × run b (end ∷ []) c
-    FlatTurn s (Some b) (Some a) t last = (t ≡ s) × Endless (a ∷ []) × (c : B) × run b (a ∷ []) c × (last ≡ Some c)
+    FlatTurn s None r t last = OuterTurn outer s r t last
+    FlatTurn s (Some b) r t last = InnerTurn b s r t last ⊎ ((c : B) × run b (end ∷ []) c × OuterTurn outer s r t last)
 
     -- a turn of an adapter, which has an outer stream and may hold an inner one; after it another turn may be made
     abbrev pub FlatTurns : {M : Type 0} → Parts M S (Option B) → (M → Type 0) → M → Option (Answer A) → M → Type 0

@@ -1,14 +1,15 @@
 //! What `flatten` and `flat_map` share: a turn over an outer stream and the inner stream that is held.
-ghost use Rattle.std.specs.Prelude.{IfSome};
+ghost use Rattle.std.specs.Prelude.{◌≡◌, IfSome, None};
 ghost use Rattle.futures.specs.Poll.{OnPending};
 ghost use Rattle.futures.specs.Task.{Keeps, Lasting, Holds};
-ghost use Rattle.lite_flatten.specs.Flatten.{CanFlatten, FlatTurn};
+ghost use Rattle.lite_flatten.specs.Flatten.{CanFlatten, FlatTurn, OuterTurn};
 ghost use Rattle.lite_flatten.specs.HeldLeaves.{HeldLeaves};
 
 use lite_base::{Context, Counted, Poll, Stream};
 
-// Polls the inner stream that is held, or else the outer one. `None` says that the poll goes on: an inner stream has
-// come, or has ended.
+// Polls the inner stream that is held, and the outer one where none is held or it has ended. `None` says that the poll
+// goes on: an inner stream has come.
+#[inline]
 pub(crate) fn poll_part<B: Stream + Drop, S: Counted<Item = B>>(
     stream: &mut S,
     inner_stream: &mut Option<B>,
@@ -26,17 +27,35 @@ pub(crate) fn poll_part<B: Stream + Drop, S: Counted<Item = B>>(
             Poll::Ready(Some(item)) => Some(Poll::Ready(Some(item))),
             Poll::Ready(None) => {
                 *inner_stream = None;
-                None
+                poll_outer(stream, inner_stream, cx)
             }
             Poll::Pending => Some(Poll::Pending),
         },
-        None => match stream.poll_next(cx) {
-            Poll::Ready(Some(inner)) => {
-                *inner_stream = Some(inner);
-                None
-            }
-            Poll::Ready(None) => Some(Poll::Ready(None)),
-            Poll::Pending => Some(Poll::Pending),
-        },
+        None => poll_outer(stream, inner_stream, cx),
+    }
+}
+
+// Polls the outer stream. `None` says that an inner stream has come.
+#[inline]
+fn poll_outer<B: Stream + Drop, S: Counted<Item = B>>(
+    stream: &mut S,
+    inner_stream: &mut Option<B>,
+    cx: &mut Context<'_>,
+) -> Option<Poll<Option<B::Item>>>
+    requires can { CanFlatten S.run S.can_poll S.ranks.counts B.can_poll stream.old inner_stream.old }
+    requires empty { inner_stream.old ≡ None }
+    ensures turned { OuterTurn S.run stream.old result stream.new inner_stream.new }
+    ensures again { CanFlatten S.run S.can_poll S.ranks.counts B.can_poll stream.new inner_stream.new }
+    ensures left { IfSome result (λ answer. OnPending answer ((fact : Lasting)
+        → HeldLeaves S.leaves B.leaves stream.new inner_stream.new fact → Holds cx.new fact)) }
+    ensures kept { Keeps cx.old cx.new }
+{
+    match stream.poll_next(cx) {
+        Poll::Ready(Some(inner)) => {
+            *inner_stream = Some(inner);
+            None
+        }
+        Poll::Ready(None) => Some(Poll::Ready(None)),
+        Poll::Pending => Some(Poll::Pending),
     }
 }

@@ -1,9 +1,15 @@
 -- `try_collect`: as `collect` of what the Ok items hold. The first error among the items decides.
-use Rattle.std.specs.Prelude.{◌≡◌, List, Option, Some, None, Result, Ok, Err, IsSome, refl}
+use Rattle.std.specs.Prelude.{◌≡◌, ⊤, List, Option, Some, None, Result, Ok, Err, IsSome, refl}
 use Rattle.lite_consume.specs.Consuming.{Fold}
 use Rattle.lite_gather.specs.Gathering.{Kept, Took}
 use Rattle.lite_gather.specs.declared.refused.TryCollectError.{TryCollectError}
 use Rattle.lite_gather.specs.declared.refused.TryCollectError.TheVariants.{Source, Memory}
+
+-- the value is no refusal of memory
+abbrev pub NotRefused : {C T E : Type 0} → Result C (TryCollectError C T E) → Type 0
+NotRefused (Ok c) = ⊤
+NotRefused (Err (Source e)) = ⊤
+NotRefused (Err (Memory m)) = ⊥
 
 -- `may_refuse`: whether memory may be refused. None says that the collection was handed out
 module _ {C T E : Type 0} (may_refuse : Type 0) (holds : C → List T → Type 0) where

@@ -1,3 +1,4 @@
+pub mod Ended
 pub mod Joined
 pub mod Pieces
 pub mod Piped

@@ -5,7 +5,7 @@ use Rattle.futures.specs.declared.task.Poll.TheVariants.{Ready, Pending}
 use Rattle.lite_base.specs.Answers.{Answer}
 use Rattle.pollrun.specs.Spelling.{spelled_list}
 use Rattle.pollrun.specs.declared.request.Single.TheVariants.{Plain, Double, Evens, Take2, Step2}
-use Rattle.pollrun.specs.declared.request.Paired.TheVariants.{Chain}
+use Rattle.pollrun.specs.declared.request.Paired.TheVariants.{Chain, Or, Zip}
 use Rattle.pollrun.specs.declared.request.Pipe.{Pipe}
 use Rattle.pollrun.specs.declared.request.Pipe.TheVariants.{One, Two}
 
@@ -32,6 +32,8 @@ name_of (One Evens) = codes "evens"
 name_of (One Take2) = codes "take2"
 name_of (One Step2) = codes "step2"
 name_of (Two Chain) = codes "chain"
+name_of (Two Or) = codes "or"
+name_of (Two Zip) = codes "zip"
 
 -- how many scripts a pipe takes
 abbrev pub scripts_of : Pipe → ℕ

@@ -1,15 +1,17 @@
 -- What a request is answered.
-use Rattle.std.specs.Prelude.{◌≡◌, ◌%◌, ◌==◌, ◌++◌, ℕ, ℤ, ◌+ℤ◌, Bool, List, [], ◌∷◌, length, map, Option, Some, None, unsigned_abs}
+use Rattle.std.specs.Prelude.{◌≡◌, ◌%◌, ◌==◌, ◌++◌, ℕ, ℤ, ◌+ℤ◌, Bool, true, List, [], ◌∷◌, length, map, Option, Some, None, unsigned_abs}
 use Rattle.std.specs.Fmt.{signed_decimal}
 use Rattle.std.specs.Io.KnownBytes.{Appends}
 use Rattle.futures.specs.declared.task.Poll.TheVariants.{Ready, Pending}
-use Rattle.lite_base.specs.Answers.{Answer, item, end}
+use Rattle.lite_base.specs.Answers.{Answer, item, end, until_end}
 use Rattle.lite_source.specs.Script.{Gives}
 use Rattle.lite_base.specs.Calling.{Accepts}
 use Rattle.lite_sift.specs.Leaving.{Leaves}
 use Rattle.pollrun.specs.Request.{Asks}
-use Rattle.pollrun.specs.Spelling.{spelled_list}
+use Rattle.pollrun.specs.Spelling.{pair_text, spelled_list}
 use Rattle.lite_flatten.specs.Chain.{Joins}
+use Rattle.lite_merge.specs.Merge.{Rows}
+use Rattle.lite_merge.specs.Zip.{Pairs}
 use Rattle.lite_stream.specs.Cutting.{Cuts}
 use Rattle.lite_sift.specs.StepBy.{StepsOn}
 use Rattle.lite_stream.specs.Take.{is_none_left, left_after}
@@ -18,7 +20,7 @@ use Rattle.lite_flatten.specs.declared.chain.Part.TheVariants.{First}
 use Rattle.pollrun.specs.declared.request.Single.{Single}
 use Rattle.pollrun.specs.declared.request.Single.TheVariants.{Plain, Double, Evens, Take2, Step2}
 use Rattle.pollrun.specs.declared.request.Paired.{Paired}
-use Rattle.pollrun.specs.declared.request.Paired.TheVariants.{Chain}
+use Rattle.pollrun.specs.declared.request.Paired.TheVariants.{Chain, Or, Zip}
 use Rattle.pollrun.specs.declared.request.Pipe.{Pipe}
 use Rattle.pollrun.specs.declared.request.Pipe.TheVariants.{One, Two}
 
@@ -39,23 +41,46 @@ Pipes Evens ins out = Leaves (Accepts (λ (p : Unit {0}) (z : ℤ) (b : Bool) (q
 Pipes Take2 ins out = (left : ℕ) × Cuts is_none_left left_after 2 ins out left
 Pipes Step2 ins out = (left : ℕ × ℕ) × StepsOn (2, 0) ins out left
 
--- what a pipe answers where its two scripts give the answers `firsts` and `seconds`
-abbrev pub Joined : Paired → List (Answer ℤ) → List (Answer ℤ) → List (Answer ℤ) → Type 0
+-- what a pipe's items are: numbers, or pairs of them
+abbrev pub Item : Pipe → Type 0
+Item (One pipe) = ℤ
+Item (Two Chain) = ℤ
+Item (Two Or) = ℤ
+Item (Two Zip) = ℤ × ℤ
+
+-- how an item is printed
+abbrev pub text_of : (pipe : Pipe) → Item pipe → List ℕ
+text_of (One pipe) z = signed_decimal z
+text_of (Two Chain) z = signed_decimal z
+text_of (Two Or) z = signed_decimal z
+text_of (Two Zip) pair = pair_text pair
+
+-- as much of a script as a pipe reads: `or` asks for nothing after the first end
+abbrev pub read_by : Paired → List (Answer ℤ) → List (Answer ℤ)
+read_by Chain script = script
+read_by Or script = until_end script
+read_by Zip script = script
+
+-- what a pipe answers where what it reads of its two scripts gives the answers `firsts` and `seconds`
+abbrev pub Joined : (pipe : Paired) → List (Answer ℤ) → List (Answer ℤ) → List (Answer (Item (Two pipe))) → Type 0
 Joined Chain firsts seconds out = (part : Part) × Joins First firsts seconds out part
+Joined Or firsts seconds out = Rows (map (λ _. true) out) firsts seconds out
+Joined Zip firsts seconds out = (held : Option ℤ) × Pairs firsts seconds out held
 
 -- the pipe over the scripts answers this list
-abbrev pub Answers : Pipe → List (List (Answer ℤ)) → List (Answer ℤ) → Type 0
+abbrev pub Answers : (pipe : Pipe) → List (List (Answer ℤ)) → List (Answer (Item pipe)) → Type 0
 Answers (One pipe) (script ∷ []) out = (ins rest : List (Answer ℤ)) × Gives script ins rest × Pipes pipe ins out
 Answers (Two pipe) (first ∷ second ∷ []) out =
-    (firsts seconds rest rest' : List (Answer ℤ)) × Gives first firsts rest × Gives second seconds rest' × Joined pipe firsts seconds out
+    (firsts seconds rest rest' : List (Answer ℤ)) × Gives (read_by pipe first) firsts rest × Gives (read_by pipe second) seconds rest'
+    × Joined pipe firsts seconds out
 Answers pipe scripts out = ⊥
 
 -- a line of as many answers of the pipe as there are polls
 pub record Prints (pipe : Pipe) (scripts : List (List (Answer ℤ))) (polls : ℕ) (line : List ℕ) : Type 0 where
-  pub out : List (Answer ℤ)
+  pub out : List (Answer (Item pipe))
   pub answers : Answers pipe scripts out
   pub all_polls : length out ≡ polls
-  pub spells : line ≡ spelled_list signed_decimal out ++ 10 ∷ []
+  pub spells : line ≡ spelled_list (text_of pipe) out ++ 10 ∷ []
 
 -- the words are a request, and what was written is its answers, one for each poll, and a newline
 pub record Served (words : List (List ℕ)) (old new : Option (List ℕ)) : Type 0 where

@@ -40,6 +40,10 @@ pub enum Single {
 pub enum Paired {
     /// The one after the other.
     Chain,
+    /// The numbers of both as they come, the first's before the second's.
+    Or,
+    /// The pairs of their numbers.
+    Zip,
 }
 
 /// What stands between the scripts and what is printed.
@@ -115,6 +119,8 @@ fn pipe_of(word: &str) -> Option<Pipe>
         "take2" => Some(Pipe::One(Single::Take2)),
         "step2" => Some(Pipe::One(Single::Step2)),
         "chain" => Some(Pipe::Two(Paired::Chain)),
+        "or" => Some(Pipe::Two(Paired::Or)),
+        "zip" => Some(Pipe::Two(Paired::Zip)),
         _ => None,
     }
 }

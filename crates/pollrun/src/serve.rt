@@ -12,11 +12,11 @@ ghost use Rattle.pollrun.specs.Spelling.{spelled_list};
 
 use crate::fault::Fault;
 use crate::request::{Answers, Job, Paired, Pipe, Request, Single};
-use crate::spelling::line_of;
-use itoa::Integer;
+use crate::spelling::{HasText, line_of};
 use lite_base::{Context, Stream};
 use lite_flatten::make::chain;
 use lite_laws::run;
+use lite_merge::make::{or, zip};
 use lite_sift::make::{filter, step_by};
 use lite_source::make::script;
 use lite_stream::make::{map, take};
@@ -129,6 +129,8 @@ fn line_of_two(
 {
     match pipe {
         Paired::Chain => polled(alloc, cx, chain(script(first), script(second)), polls),
+        Paired::Or => polled(alloc, cx, or(script(first), script(second)), polls),
+        Paired::Zip => polled(alloc, cx, zip(script(first), script(second)), polls),
     }
 }
 
@@ -153,7 +155,7 @@ fn polled<S>(
 ) -> Result<String, AllocError>
 where
     S: Stream + Drop,
-    S::Item: Integer,
+    S::Item: HasText,
     requires { S.can_poll stream }
     ensures { IfOk result (λ line. (out : List (Answer S.Item)) × (last : S) × S.run stream out last × (length out ≡ polls)
         × (string_bytes line ≡ spelled_list S.Item.text out ++ 10 ∷ [])) }

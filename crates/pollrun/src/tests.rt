@@ -6,7 +6,7 @@ use std::test::Fail;
 /// Words, what is printed, what is told, and the status.
 type Row = (&'static str, &'static str, &'static str, u8);
 
-const ROWS: [Row; 11] = [
+const ROWS: [Row; 19] = [
     ("evens 4 1,P,2,3", "P,2,E,E\n", "", 0),
     ("double 3 -999999,P,0", "-1999998,P,0\n", "", 0),
     ("evens 2 1,3", "E,E\n", "", 0),
@@ -16,12 +16,20 @@ const ROWS: [Row; 11] = [
     ("take2 3 1,E,2", "1,E,E\n", "", 0),
     ("chain 6 1,E,9 P,2", "1,P,2,E,E,E\n", "", 0),
     ("chain 0 1 2", "\n", "", 0),
+    ("or 3 P,5 E", "P,5,E\n", "", 0),
+    ("or 5 1,P,2 P,7", "1,P,2,7,E\n", "", 0),
+    ("or 5 1,E,3 2,E,4", "1,2,E,E,E\n", "", 0),
+    ("or 0 1 2", "\n", "", 0),
+    ("zip 3 1,2 P,7", "P,1:7,E\n", "", 0),
+    ("zip 2 -1 -999999", "-1:-999999,E\n", "", 0),
+    ("zip 4 1,E,2 P,E,3", "P,E,E,2:3\n", "", 0),
+    ("zip 0 1 2", "\n", "", 0),
     ("step2 4 1,2,E,3", "1,E,3,E\n", "", 0),
     ("step2 3 1,2,P,3", "1,P,3\n", "", 0),
 ];
 
 /// Words that are no request.
-const BAD: [&str; 21] = [
+const BAD: [&str; 25] = [
     "plain  1 1",
     "plain 1 ",
     "plain 1 01",
@@ -38,6 +46,10 @@ const BAD: [&str; 21] = [
     "take3 1 5",
     "chain 1 5",
     "chain 1 5 x",
+    "or 1 5",
+    "zip 1 5",
+    "zip 1 5 1:2",
+    "zip 1 5 6 7",
     "Plain 1 5",
     "",
     "plain",

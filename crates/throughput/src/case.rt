@@ -1,5 +1,5 @@
 use crate::fault::Fault;
-use crate::{bytes, journals, streams, values};
+use crate::{bytes, consuming, journals, merging, streams, values};
 use futures_lite::Context;
 use std::alloc::AllocGlobal;
 use std::random::RandomSource;
@@ -30,6 +30,18 @@ where
         "nest" => Ok(streams::nest(cx, n)),
         "joined" => Ok(streams::joined(cx, n)),
         "scripts" => Ok(streams::scripts(alloc, cx, n)?),
+        "next" => Ok(consuming::next(cx, n)),
+        "count" => Ok(consuming::count(cx, n)),
+        "fold" => Ok(consuming::fold(cx, n)),
+        "find" => Ok(consuming::find(cx, n)),
+        "all" => Ok(consuming::all(cx, n)),
+        "collect" => consuming::collect(alloc, cx, n),
+        "zip_streams" => Ok(merging::zip(cx, n)),
+        "or_streams" => Ok(merging::or(cx, n)),
+        "race_streams" => Ok(merging::race_with_seed(cx, n)),
+        "cycle" => Ok(merging::cycle(cx, n)?),
+        "drain" => Ok(merging::drain(cx, n)),
+        "stop_after_future" => Ok(merging::stop_after_future(cx, n)),
         "zip" => Ok(values::zip(cx, n)),
         "or" => Ok(values::or(cx, n)),
         "race_with_seed" => Ok(values::race_with_seed(cx, n)),

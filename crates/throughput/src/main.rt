@@ -4,8 +4,10 @@
 
 mod bytes;
 mod case;
+mod consuming;
 mod fault;
 mod journals;
+mod merging;
 mod polled;
 mod streams;
 #[cfg(test)]

@@ -11,7 +11,7 @@ use std::test::Fail;
 /// A case of streams, its size, and the items that it folds.
 type Row = (&'static str, u64, &'static [u64]);
 
-const ROWS: [Row; 17] = [
+const ROWS: [Row; 25] = [
     ("iter", 4, &[0, 1, 2, 3]),
     ("map", 4, &[0, 3, 6, 9]),
     ("filter", 6, &[1, 2, 4, 5]),
@@ -29,6 +29,14 @@ const ROWS: [Row; 17] = [
     ("unfold", 4, &[1, 0, 3, 2]),
     ("nest", 10, &[4, 10, 16, 22, 28]),
     ("joined", 12, &[6, 10, 14, 18, 22]),
+    ("next", 4, &[0, 1, 2, 3]),
+    ("fold", 4, &[0, 1, 2, 3]),
+    ("collect", 4, &[0, 1, 2, 3]),
+    ("zip_streams", 4, &[5, 7, 9, 11]),
+    ("or_streams", 4, &[0, 1, 2, 3]),
+    ("cycle", 10, &[0, 1, 2, 3, 4, 5, 6, 7, 0, 1]),
+    ("drain", 4, &[0, 1, 2, 3]),
+    ("stop_after_future", 4, &[0, 1, 2, 3]),
 ];
 
 fn number<R>(rt: &R, name: &str, n: u64) -> Result<Result<u64, Fault>, Fail>
@@ -91,6 +99,20 @@ fn each_case_of_futures_takes_each_value(rt: HostRuntime) -> Result<(), Fail> {
     assert_eq!(rt; number(&rt, "block_on_ready", 3)?, Ok(4));
     assert_eq!(rt; number(&rt, "held_ready", 3)?, Ok(4));
     assert!(rt; matches!(number(&rt, "race_with_seed", 3)?, Ok(0..=3)));
+    Ok(())
+}
+
+#[test]
+fn each_case_that_consumes_has_its_value(rt: HostRuntime) -> Result<(), Fail> {
+    assert_eq!(rt; number(&rt, "count", 6)?, Ok(4));
+    assert_eq!(rt; number(&rt, "find", 6)?, Ok(6));
+    assert_eq!(rt; number(&rt, "all", 6)?, Ok(1));
+    Ok(())
+}
+
+#[test]
+fn a_race_gives_an_item_of_either_stream(rt: HostRuntime) -> Result<(), Fail> {
+    assert!(rt; matches!(number(&rt, "race_streams", 1)?, Ok(0 | 1)));
     Ok(())
 }
 

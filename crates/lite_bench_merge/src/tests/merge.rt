@@ -93,6 +93,30 @@ fn or_polls_no_stream_that_has_ended(rt: HostRuntime) -> Result<(), Fail> {
 }
 
 #[test]
+fn or_polls_nothing_once_both_have_ended(rt: HostRuntime) -> Result<(), Fail> {
+    let mut first = stream::script(vec![in rt.alloc(); item(1u8), Poll::Ready(None), item(5)]?);
+    let mut second = stream::script(vec![in rt.alloc(); item(2u8), Poll::Ready(None), item(6)]?);
+    let got = answers(&rt, &mut (&mut first).or(&mut second), 5)?;
+    let expected = [
+        item(1),
+        item(2),
+        Poll::Ready(None),
+        Poll::Ready(None),
+        Poll::Ready(None),
+    ];
+    assert_eq!(rt; got.as_slice(), expected.as_slice());
+    assert_eq!(rt;
+        answers(&rt, &mut first, 1)?.as_slice(),
+        [item(5)].as_slice()
+    );
+    assert_eq!(rt;
+        answers(&rt, &mut second, 1)?.as_slice(),
+        [item(6)].as_slice()
+    );
+    Ok(())
+}
+
+#[test]
 fn or_loses_nothing(rt: HostRuntime) -> Result<(), Fail> {
     let first = stream::script(vec![in rt.alloc(); Poll::Pending, item(1u8)]?);
     let second = stream::script(vec![in rt.alloc(); item(7u8)]?);
@@ -131,6 +155,33 @@ fn race_takes_the_order_from_its_generator(rt: HostRuntime) -> Result<(), Fail> 
         got.as_slice(),
         [Poll::Ready(None), Poll::Ready(None)].as_slice()
     );
+    Ok(())
+}
+
+#[test]
+fn race_ends_for_ever_with_both_in_either_order(rt: HostRuntime) -> Result<(), Fail> {
+    for word in 0..2u32 {
+        let mut first = stream::script(vec![in rt.alloc(); Poll::Ready(None), item(5u8)]?);
+        let second = stream::script(vec![in rt.alloc();
+            Poll::Pending,
+            Poll::Pending,
+            Poll::Ready(None),
+            item(6u8),
+        ]?);
+        let got = answers(&rt, &mut (&mut first).race(second, Always { word }), 5)?;
+        let expected = [
+            Poll::Pending,
+            Poll::Pending,
+            Poll::Ready(None),
+            Poll::Ready(None),
+            Poll::Ready(None),
+        ];
+        assert_eq!(rt; got.as_slice(), expected.as_slice());
+        assert_eq!(rt;
+            answers(&rt, &mut first, 1)?.as_slice(),
+            [item(5)].as_slice()
+        );
+    }
     Ok(())
 }
 

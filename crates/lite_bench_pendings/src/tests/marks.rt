@@ -1,9 +1,13 @@
 //! Each type that carries a mark is asked for it by the bound alone.
 use lite_base::future::make as future;
-use lite_base::{CalmFuture, CalmStream, Context, Poll, SteadyFuture, SteadyStream};
+use lite_base::{
+    CalmFuture, CalmStream, Context, Counted, OkCounted, Poll, SteadyFuture, SteadyStream,
+};
 use lite_consume::make as consume;
+use lite_cycle::make as cycle;
 use lite_flatten::make as flatten;
 use lite_gather::{CollectFuture, PartitionFuture, TryCollectFuture, UnzipFuture, make as gather};
+use lite_merge::make as merge;
 use lite_sift::make as sift;
 use lite_source::make as source;
 use lite_stream::make as stream;
@@ -21,6 +25,16 @@ fn calm<S: CalmStream>(stream: &S) {
 fn both<S: SteadyStream + CalmStream>(stream: &S) {
     steady(stream);
     calm(stream);
+}
+
+fn counted<S: Counted>(stream: &S) {
+    stream.is_counted();
+}
+
+/// Asks for the ranks over items and over `Ok` items.
+fn ok_counted<S: OkCounted + Counted>(stream: &S) {
+    counted(stream);
+    stream.is_ok_counted();
 }
 
 fn steady_future<F: SteadyFuture>(future: &F) {
@@ -167,5 +181,38 @@ fn adapters_of_several_streams_are_steady_and_calm(_rt: HostRuntime) -> Result<(
     both(&flatten::flat_map(source::once(1u8), |x: u8| source::once(x)));
     both(&flatten::flatten(source::once(source::once(1u8))));
     both(&flatten::then(source::once(1u8), |x: u8| future::ready(x)));
+    Ok(())
+}
+
+#[test]
+fn adapters_that_merge_have_their_marks(_rt: HostRuntime) -> Result<(), Fail> {
+    let pairs = merge::zip(source::once(1u8), source::once('a'));
+    both(&pairs);
+    counted(&pairs);
+    let good: Result<u8, char> = Ok(1);
+    let or = merge::or(source::once(good), source::once(Err('a')));
+    calm(&or);
+    ok_counted(&or);
+    let race = merge::race_with_seed(source::once(good), source::once(Err('a')), 7);
+    calm(&race);
+    ok_counted(&race);
+    Ok(())
+}
+
+#[test]
+fn adapters_that_go_round_or_stop_have_their_marks(rt: HostRuntime) -> Result<(), Fail> {
+    let Ok(round) = cycle::cycle(source::once(1u8)) else {
+        assert!(rt; false);
+        return Ok(());
+    };
+    calm(&round);
+    let good: Result<u8, char> = Ok(1);
+    let mut once = source::once(good);
+    let drained = cycle::drain(&mut once);
+    calm(&drained);
+    ok_counted(&drained);
+    let stopped = cycle::stop_after_future(source::once(good), future::yield_now());
+    calm(&stopped);
+    ok_counted(&stopped);
     Ok(())
 }

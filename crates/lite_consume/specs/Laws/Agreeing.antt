@@ -4,10 +4,11 @@ use Rattle.std.specs.List.{FoldsTo}
 use Rattle.std.specs.Prelude.{⊤}
 use Rattle.futures.specs.declared.task.Poll.{Poll}
 use Rattle.futures.specs.declared.task.Poll.TheVariants.{Ready, Pending}
-use Rattle.lite_base.specs.Answers.{Answer, Comparable, ComparableBy, items, strip}
-use Rattle.lite_base.specs.Laws.Alike.{comparable_nil}
-use Rattle.lite_base.specs.Steady.{FutureSteadyLawsBy, SteadyLaws}
-use Rattle.lite_consume.specs.Agreeing.{FoldSteadyLaws, Within}
+use Rattle.lite_base.specs.Answers.{Answer, Comparable, ComparableBy, Gives, items, strip}
+use Rattle.lite_base.specs.Future.Finishes.{Finishes}
+use Rattle.lite_base.specs.Laws.Alike.{comparable_nil, gives_strip}
+use Rattle.lite_base.specs.Steady.{FutureSteadyLawsBy, SteadyLaws, TakesNone}
+use Rattle.lite_consume.specs.Agreeing.{FoldSteadyLaws, Within, WithinWhere}
 use Rattle.lite_consume.specs.Consume.{Folds}
 use Rattle.lite_consume.specs.Consuming.{Consumes, Decides, Fold, TakesIn, fold_of}
 use Rattle.lite_consume.specs.Laws.Consuming.{consumed_laws, consumes_by}
@@ -54,35 +55,58 @@ module _ {M A R : Type 0} {fold ample : Fold M A R} {none : Type 0} {agree : M �
       let e : y ≡ x = (let e' = c.0 in cc) in
       item_same p k x i j o u a (λ q l b h' g'. made_same q l i j o u b c.1 h' g') h (subst (λ z. Made ample k (Some z ∷ j) u) e g)
 
+-- one value is given
+gives_one : {A : Type 0} (l : List (Poll A)) (v w : A) → Gives l v → Gives l w → v ≡ w
+gives_one l v w g h =
+    let e = gives_strip l v g in
+    let d = gives_strip l w h in
+    cc
+
+-- if memory was found in each step but those that give another value, and no poll of the stream asks for any, then it was found in a run that gave no other
+module _ {S M A R : Type 0} {run found : S → List (Answer A) → S → Type 0} {fold ample : Fold M A R} {may : R → Type 0} (takes : TakesNone run found) (within : WithinWhere may fold ample) where
+  pub consumed_ample : (x y : Consume S M) (l : List (Poll R)) → ((r : R) → Gives l r → may r) → Folds run fold x l y → Folds found ample x l y
+  consumed_ample x y l m h =
+      record {
+        ins = h.ins;
+        came = takes x.stream y.stream h.ins h.came;
+        consumed = consumes_by (λ p. p) fold ample within x.folder y.folder h.ins l m h.consumed;
+      }
+
+  -- one that was polled until its value
+  pub finished_ample : (x : Consume S M) (l : List (Poll R)) (value : R) → may value → Finishes (Folds run fold) x l value → Finishes (Folds found ample) x l value
+  finished_ample x l value m f =
+      record {
+        gives = f.gives;
+        last = f.last;
+        came = consumed_ample x f.last l (λ r g. subst may (gives_one l value r f.gives g) m) f.came;
+      }
+
 -- over a steady stream, a fold whose values agree
 pub consumed_steady : {S M A R : Type 0} {run found : S → List (Answer A) → S → Type 0} {fold ample : Fold M A R} {none none' : Type 0} {alike : S → S → Type 0} {agree : M → M → Type 0} {same : R → R → Type 0}
     → SteadyLaws run found none alike → FoldSteadyLaws fold ample none' agree same
     → FutureSteadyLawsBy same (Folds run fold) (Folds found ample) (none × none') (λ (x y : Consume S M). alike x.stream y.stream × agree x.folder y.folder)
-consumed_steady {fold = fold} {ample} s f =
+consumed_steady {ample = ample} s f =
     record {
       laws = consumed_laws ample s.laws;
       steady = λ x y e l m x' y' h k.
           made_same f x.folder y.folder (strip h.ins) (strip k.ins) (strip l) (strip m) e.1 (s.steady x.stream y.stream e.0 h.ins k.ins x'.stream y'.stream h.came k.came)
           (stripped ample x.folder x'.folder h.ins l h.consumed) (stripped ample y.folder y'.folder k.ins m k.consumed);
-      found = λ n x y l h.
-          let same = f.found n.1 in
-          record {
-            ins = h.ins;
-            came = s.found n.0 x.stream y.stream h.ins h.came;
-            consumed = consumes_by (λ p. p) fold ample same.asks same.closes x.folder y.folder h.ins l h.consumed;
-          };
+      found = λ n x y l h. consumed_ample (s.found n.0) (f.found n.1) x y l (λ v g. tt) h;
     }
 
 -- a fold of a part
+pub part_within : {N M A R : Type 0} (part : N → M) {may : R → Type 0} {fold ample : Fold M A R} → WithinWhere may fold ample → WithinWhere may (fold_of part fold) (fold_of part ample)
+part_within part w = record { asks = λ p q. w.asks (part p) (part q); closes = λ p q. w.closes (part p) (part q) }
+
 pub part_steady : {N M A R : Type 0} (part : N → M) {fold ample : Fold M A R} {none : Type 0} {agree : M → M → Type 0} {same : R → R → Type 0} → FoldSteadyLaws fold ample none agree same
     → FoldSteadyLaws (fold_of part fold) (fold_of part ample) none (λ x y. agree (part x) (part y)) same
 part_steady part f =
     record {
       asks = λ p k q l. f.asks (part p) (part k) (part q) (part l);
       closes = λ p k q l. f.closes (part p) (part k) (part q) (part l);
-      found = λ n. record { asks = λ p q. (f.found n).asks (part p) (part q); closes = λ p q. (f.found n).closes (part p) (part q) };
+      found = λ n. part_within part (f.found n);
     }
 
 -- each step of a fold is one of its own
 pub within_itself : {M A R : Type 0} (fold : Fold M A R) → ⊤ → Within fold fold
-within_itself fold n = record { asks = λ p q x o h. h; closes = λ p q r h. h }
+within_itself fold n = record { asks = λ p q x o m h. h; closes = λ p q r m h. h }

@@ -1,15 +1,16 @@
 -- Laws of what is made of a stream's items.
-use Rattle.std.proofs.Common.{◌≡◌, ◌∙◌, ◌≤◌, Some, None, Option, List, [], ◌∷◌, ◌++◌, length, refl, ap, subst, sym, arith, append_assoc}
+use Rattle.std.proofs.Common.{◌≡◌, ◌∙◌, ◌≤◌, Some, None, List, [], ◌∷◌, ◌++◌, length, refl, ap, subst, sym, arith, append_assoc}
 use Rattle.std.specs.List.{FoldsTo}
 use Rattle.futures.specs.declared.task.Poll.{Poll}
 use Rattle.futures.specs.declared.task.Poll.TheVariants.{Ready, Pending}
-use Rattle.lite_base.specs.Answers.{Answer, Waiting, items, strip}
+use Rattle.lite_base.specs.Answers.{Answer, Gives, Waiting, items, strip}
 use Rattle.lite_base.specs.Calm.{CalmLaws, Prompt}
 use Rattle.lite_base.specs.FutureLaws.{FutureLaws}
 use Rattle.lite_base.specs.Laws.Calm.{prompt_back}
 use Rattle.lite_base.specs.StreamLaws.{RunLaws}
+use Rattle.lite_consume.specs.Agreeing.{WithinWhere}
 use Rattle.lite_consume.specs.Consume.{Folds}
-use Rattle.lite_consume.specs.Consuming.{Concludes, Consumes, Decides, Fold, TakesIn, Waits}
+use Rattle.lite_consume.specs.Consuming.{Concludes, Consumes, Decides, Fold, TakesIn, Waits, fold_of}
 use Rattle.lite_consume.specs.declared.consume.Consume.{Consume}
 
 module _ {M A R : Type 0} (fold : Fold M A R) where
@@ -34,25 +35,24 @@ module _ {M A R : Type 0} (fold : Fold M A R) where
   prompt p q i (Pending ∷ l) h k = absurd (prompt_back (items h.2.taken) (Pending ∷ h.0) (subst (λ v. Prompt v) h.2.cut k))
   prompt p q i (Ready r ∷ l) h k = rw h.1 tt
 
--- where each step of the one fold is one of the other, by a part
-module _ {N M A R : Type 0} (part : N → M) (fold : Fold N A R) (other : Fold M A R) (asks : (p q : N) (x : A) (o : Option R) → fold.asks p x o q → other.asks (part p) x o (part q))
-    (closes : (p q : N) (r : R) → fold.closes p r q → other.closes (part p) r (part q)) where
+-- where each step of the one fold is one of the other, by a part, if the value that it gives is such
+module _ {N M A R : Type 0} (part : N → M) (fold : Fold N A R) (other : Fold M A R) {may : R → Type 0} (within : WithinWhere may fold (fold_of part other)) where
   folds_by : (p q : N) (l : List A) → FoldsTo (TakesIn fold) p l q → FoldsTo (TakesIn other) (part p) l (part q)
   folds_by p q [] e = λ i. part (e i)
-  folds_by p q (x ∷ l) h = (part h.0, asks p h.0 x None h.1, folds_by h.0 q l h.2)
+  folds_by p q (x ∷ l) h = (part h.0, within.asks p h.0 x None tt h.1, folds_by h.0 q l h.2)
 
-  decides_by : (p q : N) (a : Answer A) (r : R) → Decides fold p a r q → Decides other (part p) a r (part q)
-  decides_by p q Pending r h = h
-  decides_by p q (Ready None) r h = closes p q r h
-  decides_by p q (Ready (Some x)) r h = asks p q x (Some r) h
+  decides_by : (p q : N) (a : Answer A) (r : R) → may r → Decides fold p a r q → Decides other (part p) a r (part q)
+  decides_by p q Pending r m h = h
+  decides_by p q (Ready None) r m h = within.closes p q r m h
+  decides_by p q (Ready (Some x)) r m h = within.asks p q x (Some r) m h
 
-  pub consumes_by : (p q : N) (i : List (Answer A)) (l : List (Poll R)) → Consumes fold p i l q → Consumes other (part p) i l (part q)
-  consumes_by p q i [] h = (h.0, λ j. part (h.1 j))
-  consumes_by p q i (Pending ∷ l) h =
+  pub consumes_by : (p q : N) (i : List (Answer A)) (l : List (Poll R)) → ((r : R) → Gives l r → may r) → Consumes fold p i l q → Consumes other (part p) i l (part q)
+  consumes_by p q i [] m h = (h.0, λ j. part (h.1 j))
+  consumes_by p q i (Pending ∷ l) m h =
       let first = h.2 in
       let whole : Waits other (part p) i h.0 (part h.1) = record { taken = first.taken; cut = first.cut; folds = folds_by p h.1 first.taken first.folds } in
-      (h.0, part h.1, whole, consumes_by h.1 q h.0 l h.3)
-  consumes_by p q i (Ready r ∷ l) h =
+      (h.0, part h.1, whole, consumes_by h.1 q h.0 l m h.3)
+  consumes_by p q i (Ready r ∷ l) m h =
       let last = h.0 in
       let whole : Concludes other (part p) i r (part q) =
       record {
@@ -61,7 +61,7 @@ module _ {N M A R : Type 0} (part : N → M) (fold : Fold N A R) (other : Fold M
         cut = last.cut;
         between = part last.between;
         folds = folds_by p last.between last.taken last.folds;
-        decides = decides_by last.between q last.last r last.decides;
+        decides = decides_by last.between q last.last r (m r (refl, h.1)) last.decides;
       } in
       (whole, h.1)
 

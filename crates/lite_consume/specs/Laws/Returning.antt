@@ -1,11 +1,13 @@
 -- That a poll which takes in items returns.
 use Rattle.std.proofs.Common.{◌≡◌, ℕ, ◌+◌, ◌<◌, List, [], arith}
 use Rattle.std.specs.Prelude.{⊤, Result, Ok, Err}
+use denote.MutBor.{MutBor}
 use Rattle.lite_base.specs.Answers.{Answer}
 use Rattle.lite_base.specs.Ends.{Ends-count, Ends-map}
+use Rattle.lite_base.specs.Lent.{Lent}
 use Rattle.lite_base.specs.OkRanks.{OkCounting, OkRun, ok_counting_ends}
 use Rattle.lite_base.specs.Ranks.{Counting, Ranks, counting_ends}
-use Rattle.lite_consume.specs.Consuming.{Fold, TakesIn}
+use Rattle.lite_consume.specs.Consuming.{Fold, TakesIn, fold_of}
 use Rattle.lite_consume.specs.Turns.{Returns, Step}
 
 -- a count that goes down
@@ -48,3 +50,13 @@ module _ {S M T E R : Type 0} {run : S → List (Answer (Result T E)) → S → 
       ok_step : ((p q : M) (e : E) → TakesIn fold p (Err e) q → ⊥) → (v w : S × M) → Step run fold v w → OkRun run v.0 w.0
       ok_step none v w (Ok x, came, takes) = (x, [], came)
       ok_step none v w (Err e, came, takes) = absurd (none v.1 w.1 e takes)
+
+-- a fold that is lent, over a stream that is
+pub lent_returns : {S M A R : Type 0} (run : S → List (Answer A) → S → Type 0) (fold : Fold M A R) {counts : S → Type 0} {is_open : M → Type 0} → Returns run fold counts is_open
+    → Returns (Lent run) (fold_of (λ (p : MutBor M). p.now) fold) (λ s. counts s.now) (λ p. is_open p.now)
+lent_returns run fold r =
+    record {
+      counts_on = λ s t l k h. r.counts_on s.now t.now l k h.0;
+      ends = λ s p k. Ends-map (λ v. (v.0.now, v.1.now)) (λ v w h. (h.0, h.1.0, h.2)) (s, p) (r.ends s.now p.now k);
+      opens = λ p q x k h. r.opens p.now q.now x k h;
+    }

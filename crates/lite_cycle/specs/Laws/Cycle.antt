@@ -2,15 +2,14 @@
 use Rattle.std.specs.Prelude.{IfSome, Result, Ok, Err}
 use Rattle.std.proofs.Common.{◌≡◌, ◌∙◌, ℕ, List, [], ◌∷◌, ◌++◌, Option, Some, None, refl, ap, subst, sym, append_assoc}
 use Rattle.futures.specs.declared.task.Poll.TheVariants.{Ready, Pending}
-use Rattle.lite_base.specs.Answers.{Answer, end, item}
+use Rattle.lite_base.specs.Answers.{Answer, Endless, end, item}
 use Rattle.lite_base.specs.Calm.{CalmLaws, Prompt}
 use Rattle.lite_base.specs.Laws.Calm.{prompt_front, prompt_join}
 use Rattle.lite_base.specs.Laws.Hint.{same_hint}
 use Rattle.lite_base.specs.OkRanks.{all_ok}
 use Rattle.lite_base.specs.StreamLaws.{StreamLaws}
 use Rattle.lite_cycle.specs.Cycle.{AllCopies, Cycles, Lap, LapOver, Laps, Renews}
-use Rattle.lite_cycle.specs.Endless.{Endless}
-use Rattle.lite_cycle.specs.Laws.Endless.{endless_join}
+use Rattle.lite_base.specs.Laws.Endless.{endless_join}
 
 module _ {A : Type 0} (E : Type 0) where
   all_ok_join : (i j : List (Answer A)) → all_ok {E = E} (i ++ j) ≡ all_ok i ++ all_ok j

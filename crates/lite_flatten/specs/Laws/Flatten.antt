@@ -3,26 +3,21 @@ use Rattle.std.specs.Prelude.{IfSome, replicate}
 use Rattle.std.proofs.Common.{◌≡◌, ◌∙◌, ℕ, ◌+◌, ◌⊎◌, List, [], ◌∷◌, ◌++◌, length, Option, Some, None, inl, inr, refl, ap, sym, subst, arith, length-append, append_assoc}
 use Rattle.std.proofs.lemmas.List.{length-replicate}
 use Rattle.futures.specs.declared.task.Poll.TheVariants.{Ready, Pending}
-use Rattle.lite_base.specs.Answers.{Answer, end, item, items}
+use Rattle.lite_base.specs.Answers.{Answer, Endless, end, item, items}
 use Rattle.lite_base.specs.Chain.{Goes, Goes-back, Next}
-use Rattle.lite_base.specs.Ends.{Ends, Ends-lex, Ends-map, Ends-rests, Lex, Rests}
+use Rattle.lite_base.specs.Ends.{Ends, Ends-map}
 use Rattle.lite_base.specs.Falling.{AtMost-both, Below-after, Below-first, Below-then, ItemRun, Lowers-at_most, Lowers-below}
+use Rattle.lite_base.specs.Laws.Endless.{endless_join}
 use Rattle.lite_base.specs.Rank.{Below, Lowers}
 use Rattle.lite_base.specs.Ranks.{Counting, Ranks}
 use Rattle.lite_base.specs.StreamLaws.{RunLaws, StreamLaws}
-use Rattle.lite_flatten.specs.Flatten.{EachInner, Endless, Flat, Flattening, FlatTurn, FlatTurns, HeldOn, Replaced, flattening_ranks, inner_rank}
+use Rattle.lite_flatten.specs.Flatten.{EachInner, Flat, Flattening, FlatTurn, FlatTurns, HeldOn, OuterTurn, Replaced, flattening_ranks, inner_rank}
 use Rattle.lite_flatten.specs.Laws.Zeros.{zeros_least}
 use Rattle.lite_stream.specs.Laws.Lower.{at_most_below, lowers_after, lowers_at_most}
 use Rattle.lite_stream.specs.Laws.Through.{Following}
 use Rattle.lite_stream.specs.Through.{Adapts, Parts, Through}
 
 module _ {A : Type 0} where
-  endless_both : (l m : List (Answer A)) → Endless l → Endless m → Endless (l ++ m)
-  endless_both [] m h k = k
-  endless_both (Pending ∷ l) m h k = ap (λ n. Pending ∷ n) (endless_both l m (cc h) k)
-  endless_both (Ready None ∷ l) m h k = absurd (cc h)
-  endless_both (Ready (Some x) ∷ l) m h k = ap (λ n. item x ∷ n) (endless_both l m (cc h) k)
-
   -- what follows among items are items
   pub items_after : (before after : List (Answer A)) (l : List A) → items l ≡ before ++ after → (m : List A) × (after ≡ items m)
   items_after [] after l e = (l, sym e)
@@ -33,14 +28,14 @@ module _ {B A : Type 0} (run : B → List (Answer A) → B → Type 0) (stays : 
   -- the list of a stream may be cut while it is held
   begun : (b c : B) (i j : List (Answer B)) (l m : List (Answer A)) (h : Option B) → i ≡ [] → Endless l → run b l c → HeldOn run c j m h ⊎ Replaced run c (Flat run j) m h → HeldOn run b (i ++ j) (l ++ m) h ⊎ Replaced run b (Flat run (i ++ j)) (l ++ m) h
   begun b c i j l m h none endless ran (inl k) =
-      inl (rw none k.0, endless_both l m endless k.1, k.2, follows b c k.2 l m ran k.3, k.4)
+      inl (rw none k.0, endless_join l m endless k.1, k.2, follows b c k.2 l m ran k.3, k.4)
   begun b c i j l m h none endless ran (inr k) =
       inr (
         l ++ k.0,
         k.1,
         k.2,
         ap (λ n. l ++ n) k.3 ∙ sym (append_assoc l k.0 (k.1 ∷ k.2)),
-        endless_both l k.0 endless k.4,
+        endless_join l k.0 endless k.4,
         k.5,
         subst (λ n. run b n k.5) (sym (append_assoc l k.0 (end ∷ []))) (follows b c k.5 l (k.0 ++ end ∷ []) ran k.6),
         rw none k.7,
@@ -83,23 +78,38 @@ module _ {B A : Type 0} (run : B → List (Answer A) → B → Type 0) (stays : 
       starts (Some b) = inl (refl, refl, b, rests b, refl)
 
   module _ {S : Type 0} (outer : S → List (Answer B) → S → Type 0) (rests : (x : B) → run x [] x) (outer_rests : (x : S) → outer x [] x) (outer_follows : (x y z : S) (l m : List (Answer B)) → outer x l y → outer y m z → outer x (l ++ m) z) where
+    -- an inner stream that ends, before what follows it
+    after_end : (s t : S) (b c : B) (last : Option B) (a : Answer A) → run b (end ∷ []) c
+        → Through outer (Flattening run) s None (a ∷ []) t last → Through outer (Flattening run) s (Some b) (a ∷ []) t last
+    after_end s t b c last a ended m = record { ins = m.ins; came = m.came; turned = inr ([], a, [], refl, refl, c, ended, m.turned) }
+
+    outer_answers : (s t : S) (last : Option B) (a : Answer A) → OuterTurn outer s (Some a) t last → Through outer (Flattening run) s None (a ∷ []) t last
+    outer_answers s t last Pending h = record { ins = Pending ∷ []; came = h.0; turned = (refl, h.1) }
+    outer_answers s t last (Ready None) h = record { ins = end ∷ []; came = h.0; turned = (refl, h.1) }
+    outer_answers s t last (Ready (Some x)) h = absurd h
+
     -- the last turn of a poll
     turn_answers : (s t : S) (held last : Option B) (a : Answer A) → FlatTurn run outer s held (Some a) t last → Through outer (Flattening run) s held (a ∷ []) t last
-    turn_answers s t None last Pending h = record { ins = Pending ∷ []; came = h.0; turned = (refl, h.1) }
-    turn_answers s t None last (Ready None) h = record { ins = end ∷ []; came = h.0; turned = (refl, h.1) }
-    turn_answers s t None last (Ready (Some x)) h = absurd h
-    turn_answers s t (Some b) last a h = record { ins = []; came = subst (λ k. outer s [] k) (sym h.0) (outer_rests s); turned = inl (refl, h.1, h.2, h.3, h.4) }
+    turn_answers s t None last a h = outer_answers s t last a h
+    turn_answers s t (Some b) last a (inl h) =
+        record { ins = []; came = subst (λ k. outer s [] k) (sym h.0) (outer_rests s); turned = inl (refl, h.1, h.2, h.3, h.4) }
+    turn_answers s t (Some b) last a (inr h) = after_end s t b h.0 last a h.1 (outer_answers s t last a h.2)
+
+    outer_before : (s t u : S) (next last : Option B) (a : Answer A) → OuterTurn {A = A} outer s None t next
+        → Through outer (Flattening run) t next (a ∷ []) u last → Through outer (Flattening run) s None (a ∷ []) u last
+    outer_before s t u next last a h m =
+        record {
+          ins = item h.0 ∷ m.ins;
+          came = outer_follows s t u (item h.0 ∷ []) m.ins h.1 m.came;
+          turned = subst (λ o. Flattening run o m.ins (a ∷ []) last) h.2 m.turned;
+        }
 
     -- a turn before others
-    turn_before : (s t u : S) (held next last : Option B) (a : Answer A) → FlatTurn run outer s held None t next → Through outer (Flattening run) t next (a ∷ []) u last → Through outer (Flattening run) s held (a ∷ []) u last
-    turn_before s t u None next last a h m =
-        record { ins = item h.0 ∷ m.ins; came = outer_follows s t u (item h.0 ∷ []) m.ins h.1 m.came; turned = subst (λ o. Flattening run o m.ins (a ∷ []) last) h.2 m.turned }
-    turn_before s t u (Some b) next last a h m =
-        record {
-          ins = m.ins;
-          came = subst (λ k. outer k m.ins u) h.0 m.came;
-          turned = inr ([], a, [], refl, refl, h.2, h.3, subst (λ o. Flattening run o m.ins (a ∷ []) last) h.1 m.turned);
-        }
+    turn_before : (s t u : S) (held next last : Option B) (a : Answer A) → FlatTurn run outer s held None t next
+        → Through outer (Flattening run) t next (a ∷ []) u last → Through outer (Flattening run) s held (a ∷ []) u last
+    turn_before s t u None next last a h m = outer_before s t u next last a h m
+    turn_before s t u (Some b) next last a (inl h) m = absurd h
+    turn_before s t u (Some b) next last a (inr h) m = after_end s u b h.0 last a h.1 (outer_before s t u next last a h.2 m)
 
     -- the turns of a poll of an adapter, which has an outer stream and may hold an inner one
     pub flat_answer : {M : Type 0} (p : Parts M S (Option B)) (can_turn : M → Type 0) (x y z : M) (a : Answer A)
@@ -116,19 +126,15 @@ to_come {outer = outer} follows s t held i each came u before after b h =
     each.1 u (i ++ before) after b (subst (λ k. outer s k u) (sym (append_assoc i before (item b ∷ after))) (follows s t u i (before ++ item b ∷ after) came h))
 
 module _ {S B A : Type 0} (run : B → List (Answer A) → B → Type 0) (outer : S → List (Answer B) → S → Type 0) where
-  -- no inner stream is asked twice where it does not answer
-  abbrev Asked : B → B → Type 0
-  Asked b c = ⊥
-
-  turn_step : (s t : S) (held last : Option B) → FlatTurn run outer s held None t last → Lex (ItemRun outer) (Rests Asked) (s, held) (t, last)
-  turn_step s t None last h = inl (h.0, [], h.1)
-  turn_step s t (Some b) last h = inr (h.0, subst (Rests Asked (Some b)) (sym h.1) tt)
+  turn_step : (s t : S) (held last : Option B) → FlatTurn run outer s held None t last → ItemRun outer s t
+  turn_step s t None last h = (h.0, [], h.1)
+  turn_step s t (Some b) last (inl h) = absurd h
+  turn_step s t (Some b) last (inr h) = (h.2.0, [], h.2.1)
 
   -- no chain of turns that go on is endless, if no chain of items of the outer stream is
-  pub flat_ends : {M : Type 0} (p : Parts M S (Option B)) {can_turn : M → Type 0} → ((x : M) → can_turn x → Ends (ItemRun outer) (p.source x)) → (x : M) → can_turn x → Ends (Next (FlatTurns run outer p can_turn)) x
-  flat_ends p ends x c =
-      Ends-map (λ m. (p.source m, p.held m)) (λ m n t. turn_step (p.source m) (p.source n) (p.held m) (p.held n) t.1) x
-      (Ends-lex (ItemRun outer) (Rests Asked) (Ends-rests (λ b. Ends.ends (λ c k. absurd k))) (p.source x) (ends x c) (p.held x))
+  pub flat_ends : {M : Type 0} (p : Parts M S (Option B)) {can_turn : M → Type 0} → ((x : M) → can_turn x → Ends (ItemRun outer) (p.source x))
+      → (x : M) → can_turn x → Ends (Next (FlatTurns run outer p can_turn)) x
+  flat_ends p ends x c = Ends-map p.source (λ m n t. turn_step (p.source m) (p.source n) (p.held m) (p.held n) t.1) x (ends x c)
 
   module _ (Fact : B → Type 0) (kept : (b c : B) (l : List (Answer A)) → Fact b → run b l c → Fact c) where
     last_has : (last : Option B) (i : List (Answer B)) (l : List (Answer A)) → ((before after : List (Answer B)) (b : B) → i ≡ before ++ item b ∷ after → Fact b) → Flat run i l last → IfSome last Fact

@@ -3,10 +3,10 @@ use Rattle.std.specs.Prelude.{⊤}
 use Rattle.std.proofs.Common.{◌≡◌, ◌∙◌, ◌⊎◌, List, [], ◌∷◌, ◌++◌, Option, Some, None, inl, inr, refl, ap, subst, sym}
 use Rattle.futures.specs.declared.task.Poll.TheVariants.{Ready, Pending}
 use Rattle.lite_base.specs.Alike.{Alike, AlikeBy, OptionBy}
-use Rattle.lite_base.specs.Answers.{Answer, Comparable, end, strip}
+use Rattle.lite_base.specs.Answers.{Answer, Comparable, Endless, end, strip}
 use Rattle.lite_base.specs.Steady.{SteadyLaws, Steadiness, TakesNone}
 use Rattle.lite_flatten.specs.Cloned.{Refers}
-use Rattle.lite_flatten.specs.Flatten.{EachInner, Endless, Flat, Flattening, HeldOn, Replaced}
+use Rattle.lite_flatten.specs.Flatten.{EachInner, Flat, Flattening, HeldOn, Replaced}
 use Rattle.lite_flatten.specs.Laws.Replacing.{Placed, PlacedFrom, items_same, placed_from_same}
 use Rattle.lite_base.specs.Laws.Answers.{strip_join}
 use Rattle.lite_base.specs.Laws.Alike.{comparable_nil}

@@ -7,7 +7,7 @@ use Rattle.pollrun.proofs.spelling.line_of.Goals.{then-place-gt0+in_ok-push_str,
 
 pub loop-place-preserved : goal.loop-place-preserved
 loop-place-preserved g c =
-    let text = g.I.Integer.text in
+    let text = g.I.HasText.text in
     let answers = c.args.answers.now in
     let place = c.loop-place.place in
     let a = c.index-answers-place.result in

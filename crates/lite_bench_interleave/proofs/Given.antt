@@ -1,0 +1,54 @@
+-- A script gives the items before its first end whole, and the last answer of a future that was polled is its value.
+use Rattle.std.proofs.Common.{◌≡◌, ◌∙◌, List, [], ◌∷◌, ◌++◌, Some, None, map, refl, ap, subst, sym}
+use Rattle.futures.specs.declared.task.Poll.{Poll}
+use Rattle.futures.specs.declared.task.Poll.TheVariants.{Ready, Pending}
+use Rattle.lite_base.specs.Answers.{Answer, Gives, UpToValue, end, strip}
+use Rattle.lite_interleave.specs.Interleaving.{GivesWhole, Interleaves, items_given}
+use Rattle.lite_source.specs.Script.{Gives as Scripts}
+
+none_left : {A : Type 0} (own t : List (Answer A)) (l : List A) → Scripts [] (own ++ end ∷ []) t → strip own ≡ map Some l → l ≡ []
+none_left own t [] h e = refl
+none_left [] t (x ∷ l) h e = absurd (cc e)
+none_left (Pending ∷ own) t (x ∷ l) h e = absurd (cc h.0)
+none_left (Ready None ∷ own) t (x ∷ l) h e = absurd (cc e)
+none_left (Ready (Some y) ∷ own) t (x ∷ l) h e = absurd (cc h.0)
+
+script_given : {A : Type 0} (s own t : List (Answer A)) (l : List A) → Scripts s (own ++ end ∷ []) t → strip own ≡ map Some l → l ≡ items_given s
+script_given [] own t l h e = none_left own t l h e
+script_given (Pending ∷ s) [] t l h e = absurd (cc h.0)
+script_given (Ready None ∷ s) [] t [] h e = refl
+script_given (Ready None ∷ s) [] t (x ∷ l) h e = absurd (cc e)
+script_given (Ready (Some y) ∷ s) [] t l h e = absurd (cc h.0)
+script_given (Pending ∷ s) (Pending ∷ own) t l h e = script_given s own t l h.1 e
+script_given (Ready None ∷ s) (Pending ∷ own) t l h e = absurd (cc h.0)
+script_given (Ready (Some y) ∷ s) (Pending ∷ own) t l h e = absurd (cc h.0)
+script_given s (Ready None ∷ own) t [] h e = absurd (cc e)
+script_given s (Ready None ∷ own) t (x ∷ l) h e = absurd (cc e)
+script_given s (Ready (Some z) ∷ own) t [] h e = absurd (cc e)
+script_given (Pending ∷ s) (Ready (Some z) ∷ own) t (x ∷ l) h e = absurd (cc h.0)
+script_given (Ready None ∷ s) (Ready (Some z) ∷ own) t (x ∷ l) h e = absurd (cc h.0)
+script_given (Ready (Some y) ∷ s) (Ready (Some z) ∷ own) t (x ∷ l) h e =
+    let same : x ≡ y = (let d = h.0 in cc) in
+    rw (sym same) (ap (λ k. x ∷ k) (script_given s own t l h.1 (cc e)))
+
+script_whole : {A : Type 0} (s : List (Answer A)) (l : List A) → GivesWhole Scripts s l → l ≡ items_given s
+script_whole s l h = script_given s h.0 h.1 l h.2 h.3
+
+-- a value that comes last is the one that was given
+given_last : {A : Type 0} (l : List (Poll A)) (x : A) → UpToValue (l ++ Ready x ∷ []) → Gives (l ++ Ready x ∷ []) x
+given_last [] x u = (refl, refl)
+given_last (Pending ∷ l) x u = given_last l x u
+given_last (Ready y ∷ []) x u = absurd (cc u)
+given_last (Ready y ∷ b ∷ l) x u = absurd (cc u)
+
+-- what two scripts gave whole are the items of each before its first end
+pub scripts_given : {A : Type 0} (s u : List (Answer A)) (firsts seconds all : List A) → GivesWhole Scripts s firsts → GivesWhole Scripts u seconds
+    → Interleaves firsts seconds all → Interleaves (items_given s) (items_given u) all
+scripts_given s u firsts seconds all h k merged =
+    subst (λ l. Interleaves (items_given s) l all) (script_whole u seconds k) (subst (λ l. Interleaves l seconds all) (script_whole s firsts h) merged)
+
+-- a value that was popped off all answers is the one that was given
+pub given_popped : {A : Type 0} (all l : List (Poll A)) (a : Poll A) (x : A) → all ≡ l ++ a ∷ [] → a ≡ Ready x → UpToValue all → Gives all x
+given_popped all l a x e is u =
+    let last : all ≡ l ++ Ready x ∷ [] = e ∙ ap (λ b. l ++ b ∷ []) is in
+    subst (λ k. Gives k x) (sym last) (given_last l x (subst (λ k. UpToValue k) last u))

@@ -1,0 +1,3 @@
+mod pairs;
+mod rows;
+mod words;

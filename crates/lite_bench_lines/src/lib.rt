@@ -1,0 +1,5 @@
+//! Tests of lines.
+#![tactic(auto)]
+
+#[cfg(test)]
+mod tests;

@@ -1,0 +1,3 @@
+mod read;
+mod seek;
+mod told;

@@ -1,0 +1,26 @@
+-- Laws of futures each poll of which is one call.
+use Rattle.std.proofs.Common.{◌≡◌, ◌≤◌, List, [], ◌∷◌, ◌++◌, length, refl, subst, arith}
+use Rattle.futures.specs.declared.task.Poll.{Poll}
+use Rattle.futures.specs.declared.task.Poll.TheVariants.{Ready, Pending}
+use Rattle.lite_base.specs.Answers.{Waiting, strip}
+use Rattle.lite_base.specs.FutureLaws.{FutureLaws}
+use Rattle.lite_read.specs.Polled.{Polled}
+
+module _ {F A : Type 0} (call : F → Poll A → F → Type 0) where
+  polled_follows : (x y z : F) (l m : List (Poll A)) → Waiting l → Polled call x l y → Polled call y m z → Polled call x (l ++ m) z
+  polled_follows x y z [] m w h k = subst (λ t. Polled call t m z) h k
+  polled_follows x y z (Pending ∷ l) m w h k = (h.0, h.1, polled_follows h.0 y z l m w h.2 k)
+  polled_follows x y z (Ready r ∷ l) m w h k = absurd w
+
+  polled_once : (x y : F) (l : List (Poll A)) → Polled call x l y → length (strip l) ≤ 1
+  polled_once x y [] h = omega arith
+  polled_once x y (Pending ∷ l) h = polled_once h.0 y l h.2
+  polled_once x y (Ready r ∷ l) h = rw h.1 (omega arith)
+
+  pub polled_laws : FutureLaws (Polled call)
+  polled_laws = record { rests = λ x. refl; stays = λ x y h. h; follows = polled_follows; once = polled_once }
+
+  -- one poll
+  pub polled_one : (x y : F) (c : Poll A) → call x c y → Polled call x (c ∷ []) y
+  polled_one x y Pending h = (y, h, refl)
+  polled_one x y (Ready r) h = (h, refl)

@@ -1,0 +1,86 @@
+-- Laws of `read_exact`.
+use Rattle.std.proofs.Common.{◌≡◌, ◌∙◌, ◌≤◌, ◌<◌, ◌-◌, ◌+◌, ℕ, List, [], ◌∷◌, ◌++◌, length, take, min, Option, Some, None, Result, refl, ap, sym, subst, arith, length-append}
+use Rattle.std.proofs.lemmas.List.{length-take}
+use Rattle.std.specs.List.{FoldsTo}
+use Rattle.std.specs.declared.io.Error.{Error}
+use denote.MutBor.{MutBor}
+use Rattle.futures.specs.declared.task.Poll.{Poll}
+use Rattle.futures.specs.declared.task.Poll.TheVariants.{Ready, Pending}
+use Rattle.lite_base.specs.Answers.{Waiting}
+use Rattle.lite_base.specs.Chain.{Goes, Goes-back, Next}
+use Rattle.lite_base.specs.FutureLaws.{FutureLaws}
+use Rattle.lite_io_base.specs.Marks.{Mark, bytes}
+use Rattle.lite_io_base.specs.Runs.{RunLaws, Runs}
+use Rattle.lite_read.specs.Laws.Gathering.{gathered_before, gathered_follow, gathered_none, gathers_once}
+use Rattle.lite_read.specs.ReadExact.{ExactTurn, ReadsExactly, ReadsMore, Stays, fills, filling_of}
+use Rattle.lite_read.specs.declared.read_exact.ReadExactFuture.{ReadExactFuture}
+
+still : {S : Type 0} (x y z : MutBor S) → y ≡ record x { now = y.now } → z ≡ record y { now = z.now } → z ≡ record x { now = z.now }
+still {S} x y z e d = d ∙ ap (λ (r : MutBor S). record r { now = z.now }) e
+
+-- bytes that were taken in were filled in
+filled_more : (g h : List ℕ × ℕ) (xs : List ℕ) → FoldsTo fills.takes g xs h → (length h.0 ≡ length g.0 + length xs) × (h.1 ≡ g.1)
+filled_more g h [] e =
+    let same : length h.0 ≡ length g.0 = ap (λ k. length k.0) (sym e) in
+    (omega (arith, same), ap (λ k. k.1) (sym e))
+filled_more g h (x ∷ xs) e =
+    let rest = filled_more e.0 h xs e.2 in
+    let grown : length e.0.0 ≡ length g.0 + 1 = ap (λ k. length k.0) e.1.1 ∙ length-append g.0 (x ∷ []) in
+    (omega (arith, rest.0, grown), rest.1 ∙ ap (λ k. k.1) e.1.1)
+
+had_room : (g h : List ℕ × ℕ) (xs : List ℕ) → 0 < length xs → FoldsTo fills.takes g xs h → length g.0 < g.1
+had_room g h [] some e = absurd (omega (arith, some))
+had_room g h (x ∷ xs) some e = e.1.0
+
+module _ {R : Type 0} where
+  stays_none : (x : ReadExactFuture R) → Stays x x
+  stays_none x = record { reader = refl; buf = refl; within = λ h. h }
+
+  stays_join : (x y z : ReadExactFuture R) → Stays x y → Stays y z → Stays x z
+  stays_join x y z h k =
+      record { reader = still x.reader y.reader z.reader h.reader k.reader; buf = still x.buf y.buf z.buf h.buf k.buf; within = λ w. k.within (h.within w) }
+
+  module _ {reads : Runs Mark R} (laws : RunLaws reads) where
+    idle_join : (x y z : ReadExactFuture R) (l m : List (Poll (Result (Unit {0}) Error))) → (l ≡ [] → y ≡ x) → (m ≡ [] → z ≡ y) → l ++ m ≡ [] → z ≡ x
+    idle_join x y z [] m h k e = k e ∙ h refl
+    idle_join x y z (a ∷ l) m h k e = absurd (cc e)
+
+    follows : (x y z : ReadExactFuture R) (l m : List (Poll (Result (Unit {0}) Error))) → Waiting l → ReadsExactly reads x l y
+        → ReadsExactly reads y m z → ReadsExactly reads x (l ++ m) z
+    follows x y z l m w h k =
+        record {
+          gathered = gathered_follow fills laws x.reader.now y.reader.now z.reader.now (filling_of x) (filling_of y) (filling_of z) l m w h.gathered k.gathered;
+          stays = stays_join x y z h.stays k.stays;
+          idle = idle_join x y z l m h.idle k.idle;
+        }
+
+    pub exact_laws : FutureLaws (ReadsExactly reads)
+    exact_laws =
+        record {
+          rests = λ x. record { gathered = gathered_none fills laws x.reader.now (filling_of x); stays = stays_none x; idle = λ e. refl };
+          stays = λ x y h. h.idle refl;
+          follows = follows;
+          once = λ x y l h. gathers_once fills (filling_of x) (filling_of y) h.gathered.marks l h.gathered.gathered;
+        }
+
+    -- a turn before others
+    turn_before : (x y z : ReadExactFuture R) (a : Poll (Result (Unit {0}) Error)) → ReadsMore reads x y → ReadsExactly reads y (a ∷ []) z
+        → ReadsExactly reads x (a ∷ []) z
+    turn_before x y z a t h =
+        record {
+          gathered = gathered_before fills laws x.reader.now y.reader.now z.reader.now (filling_of x) (filling_of y) (filling_of z) t.taken a t.came t.folds h.gathered;
+          stays = stays_join x y z t.stays h.stays;
+          idle = λ e. absurd (cc e);
+        }
+
+    -- the turns of a poll
+    pub exact_answer : (x y z : ReadExactFuture R) (a : Poll (Result (Unit {0}) Error)) → Goes (Next (ExactTurn reads)) x y
+        → ExactTurn reads y (Some a) z → ReadsExactly reads x (a ∷ []) z
+    exact_answer x y z a goes last = Goes-back (λ v. ReadsExactly reads v (a ∷ []) z) (λ v w t h. turn_before v w z a t h) x y goes last
+
+  -- the room that is left falls
+  pub room_falls : {reads : Runs Mark R} (x y : ReadExactFuture R) → ReadsMore reads x y → length y.buf.now - y.filled < length x.buf.now - x.filled
+  room_falls x y t =
+      let more = filled_more (filling_of x) (filling_of y) t.taken t.folds in
+      let room = had_room (filling_of x) (filling_of y) t.taken t.some t.folds in
+      omega (arith, more.0, more.1, room, t.some, length-take x.filled x.buf.now, length-take y.filled y.buf.now)

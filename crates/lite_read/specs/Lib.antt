@@ -1,0 +1,6 @@
+pub mod Gathering
+pub mod Laws
+pub mod Polled
+pub mod Read
+pub mod ReadExact
+pub mod Seek

@@ -1,0 +1,66 @@
+ghost use Rattle.std.specs.Prelude.{◌≤◌, ◌-◌, length};
+ghost use Rattle.lite_base.specs.Ends.{Ends-count};
+ghost use Rattle.lite_read.specs.Laws.ReadExact.{exact_laws, room_falls};
+ghost use Rattle.lite_read.specs.ReadExact.{ExactTurn, ReadsExactly};
+
+use lite_base::{Context, Future, Poll, Turns, drive};
+use lite_io_base::AsyncRead;
+use std::io;
+use std::io::ErrorKind;
+
+/// The future of reads that fill a buffer.
+///
+/// Made by [`read_exact`](crate::make::read_exact). Where the buffer is full nothing is read. The value is `Ok` where it is
+/// full, an `UnexpectedEof` where the reader ended before, and else the reader's error; what was read stands at the front
+/// of the buffer then. Ported from `src/io.rs`, `ReadExactFuture`.
+#[derive(Drop)]
+pub struct ReadExactFuture<'a, R> {
+    pub(crate) reader: &'a mut R,
+    pub(crate) buf: &'a mut [u8],
+    pub(crate) filled: usize,
+}
+
+impl<R: AsyncRead> Turns for ReadExactFuture<'_, R> {
+    type Output = io::Result<()>;
+
+    ghost can_turn = { λ x. x.filled ≤ length x.buf.now };
+
+    ghost turn = { ExactTurn R.reads };
+
+    ghost turn_leaves = { λ x. R.leaves x.reader.now };
+
+    ghost goes_on = { λ x y c h. h.stays.within c };
+
+    ghost finite = { λ x c. Ends-count (λ y. length y.buf.now - y.filled) room_falls x };
+
+    fn turn_once(&mut self, cx: &mut Context<'_>) -> Option<Poll<io::Result<()>>> {
+        if self.filled == self.buf.len() {
+            return Some(Poll::Ready(Ok(())));
+        }
+        match self.reader.poll_read(cx, &mut self.buf[self.filled..]) {
+            Poll::Ready(Ok(0)) => Some(Poll::Ready(Err(ErrorKind::UnexpectedEof.into()))),
+            Poll::Ready(Ok(n)) => {
+                self.filled += n;
+                None
+            }
+            Poll::Ready(Err(e)) => Some(Poll::Ready(Err(e))),
+            Poll::Pending => Some(Poll::Pending),
+        }
+    }
+}
+
+impl<R: AsyncRead> Future for ReadExactFuture<'_, R> {
+    type Output = io::Result<()>;
+
+    ghost can_poll = { λ x. x.filled ≤ length x.buf.now };
+
+    ghost run = { ReadsExactly R.reads };
+
+    ghost leaves = { λ x. R.leaves x.reader.now };
+
+    ghost laws = { exact_laws R.read_laws };
+
+    fn poll(&mut self, cx: &mut Context<'_>) -> Poll<io::Result<()>> {
+        drive(self, cx)
+    }
+}

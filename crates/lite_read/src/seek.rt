@@ -1,0 +1,32 @@
+ghost use Rattle.lite_read.specs.Laws.Polled.{polled_laws};
+ghost use Rattle.lite_read.specs.Polled.{Polled};
+ghost use Rattle.lite_read.specs.Seek.{Seeks};
+
+use lite_base::{Context, Future, Poll};
+use lite_io_base::AsyncSeek;
+use std::io;
+use std::io::SeekFrom;
+
+/// The future of one seek.
+///
+/// Made by [`seek`](crate::make::seek). Each poll is one seek of the seeker. The value is the new position, in bytes from the
+/// start, or the seeker's error. Ported from `src/io.rs`, `SeekFuture`.
+#[derive(Drop)]
+pub struct SeekFuture<'a, S> {
+    pub(crate) seeker: &'a mut S,
+    pub(crate) pos: SeekFrom,
+}
+
+impl<S: AsyncSeek> Future for SeekFuture<'_, S> {
+    type Output = io::Result<u64>;
+
+    ghost run = { Polled (Seeks S.seeks) };
+
+    ghost leaves = { λ x. S.seek_leaves x.seeker.now };
+
+    ghost laws = { polled_laws (Seeks S.seeks) };
+
+    fn poll(&mut self, cx: &mut Context<'_>) -> Poll<io::Result<u64>> {
+        self.seeker.poll_seek(cx, self.pos)
+    }
+}
