@@ -22,6 +22,9 @@ fn a_seek_of_a_buffered_reader_drops_what_is_ahead(rt: HostRuntime) -> Result<()
     assert_eq!(rt; answers, vec![in rt.alloc(); Poll::Ready(Ok(()))]?);
     assert_eq!(rt; buf, *b"7");
     let answers = told(&rt, &mut seek(&mut reader, SeekFrom::Current(-20)))?;
-    assert_eq!(rt; answers, vec![in rt.alloc(); Poll::Ready(Err(ErrorKind::InvalidInput))]?);
+    assert_eq!(rt;
+        answers,
+        vec![in rt.alloc(); Poll::Ready(Err(ErrorKind::InvalidInput))]?
+    );
     Ok(())
 }
