@@ -3,4 +3,5 @@ pub mod Chain
 pub mod InOrder
 pub mod Repeat
 pub mod SeeksThrough
+pub mod Steady
 pub mod Take

@@ -1,6 +1,8 @@
 ghost use Rattle.std.specs.Prelude.{◌≡◌, ◌≤◌, ◌+◌, ◌<◌, ◌++◌, ◌∷◌, [], List, length, take, drop, map, OnOk, OnErr, MatchResult};
 ghost use Rattle.lite_io_base.specs.Marks.{Mark, bytes};
+ghost use Rattle.lite_io_base.specs.Steady.{NoWait, unhurried};
 ghost use Rattle.lite_io_base.specs.Told.{Told};
+ghost use Rattle.lite_io_base.specs.Laws.Steady.{told_calm, told_steady};
 ghost use Rattle.lite_io_base.specs.Laws.Told.{told_falls, told_laws};
 ghost use Rattle.lite_base.specs.Ranks.{number_ranks};
 ghost use Rattle.lite_io_base.specs.Counting.{number_counting};
@@ -8,7 +10,7 @@ ghost use Rattle.lite_io_base.specs.Runs.{Idle};
 ghost use Rattle.lite_io_base.specs.Laws.Runs.{idle_laws};
 
 use lite_base::{Context, Poll};
-use lite_io_base::{AsyncRead, CountedRead, Takings, Tale};
+use lite_io_base::{AsyncRead, CalmRead, CountedRead, SteadyRead, Takings, Tale};
 use std::alloc::{AllocError, Global};
 use std::io;
 use std::io::ErrorKind;
@@ -113,6 +115,21 @@ impl Tale for Marks {
     ghost reads = { Told };
 
     ghost read_laws = { told_laws (λ x. x) };
+}
+
+// Two that say the same, pendings aside.
+impl SteadyRead for Marks {
+    ghost ample = { Told };
+
+    ghost alike = { λ x y. unhurried x ≡ unhurried y };
+
+    ghost steady = { told_steady (λ x. x) };
+}
+
+impl CalmRead for Marks {
+    ghost is_calm = { NoWait };
+
+    ghost calm = { told_calm (λ x. x) };
 }
 
 // It is not written to.

@@ -1,3 +1,5 @@
 pub mod Gathering
 pub mod Polled
 pub mod ReadExact
+pub mod Settling
+pub mod SteadyReadExact

@@ -4,3 +4,4 @@ pub mod Polled
 pub mod Read
 pub mod ReadExact
 pub mod Seek
+pub mod Settling

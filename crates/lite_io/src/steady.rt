@@ -1,0 +1,63 @@
+//! The readers whose tale does not depend on when they were pending.
+ghost use Rattle.lite_io.specs.BufReader.{Through};
+ghost use Rattle.lite_io.specs.Chain.{Chains};
+ghost use Rattle.lite_io.specs.Laws.Steady.BufReader.{AheadAlike, buf_reader_steady};
+ghost use Rattle.lite_io.specs.Laws.Steady.Chain.{PlaceAlike, chain_steady};
+ghost use Rattle.lite_io.specs.Laws.Steady.Repeat.{repeat_steady};
+ghost use Rattle.lite_io.specs.Laws.Steady.Take.{LimitAlike, take_steady};
+ghost use Rattle.lite_io.specs.Repeat.{Repeats};
+ghost use Rattle.lite_io.specs.Take.{Takes};
+ghost use Rattle.lite_io_base.specs.Laws.Steady.{told_steady};
+ghost use Rattle.lite_io_base.specs.Steady.{unhurried};
+ghost use Rattle.lite_io_base.specs.Told.{Told};
+ghost use Rattle.std.specs.Prelude.{◌≡◌, []};
+
+use crate::{BufReader, Chain, Empty, Repeat, Take};
+use lite_io_base::SteadyRead;
+
+// Where it has some capacity: without one a fill looks like an end.
+impl<R: SteadyRead> SteadyRead for BufReader<R> {
+    ghost ample = { Through R.ample };
+
+    ghost needs_none = { R.needs_none };
+
+    ghost alike = { AheadAlike R.alike };
+
+    ghost steady = { buf_reader_steady R.steady };
+}
+
+impl<R1: SteadyRead, R2: SteadyRead> SteadyRead for Chain<R1, R2> {
+    ghost ample = { Chains R1.ample R2.ample };
+
+    ghost needs_none = { R1.needs_none × R2.needs_none };
+
+    ghost alike = { PlaceAlike R1.alike R2.alike };
+
+    ghost steady = { chain_steady R1.steady R2.steady };
+}
+
+impl SteadyRead for Empty {
+    ghost ample = { λ x l y. Told [] l [] };
+
+    ghost alike = { λ x y. unhurried [] ≡ unhurried [] };
+
+    ghost steady = { told_steady (λ x. []) };
+}
+
+impl SteadyRead for Repeat {
+    ghost ample = { Repeats };
+
+    ghost alike = { λ x y. x.byte ≡ y.byte };
+
+    ghost steady = { repeat_steady };
+}
+
+impl<R: SteadyRead> SteadyRead for Take<R> {
+    ghost ample = { Takes R.ample };
+
+    ghost needs_none = { R.needs_none };
+
+    ghost alike = { LimitAlike R.alike };
+
+    ghost steady = { take_steady R.steady };
+}

@@ -1,0 +1,16 @@
+ghost use Rattle.lite_io_base.specs.Steady.{CalmReadLaws};
+
+use crate::async_read::AsyncRead;
+
+/// A reader of which some values, the calm ones, are never pending.
+///
+/// The original has no such trait.
+pub trait CalmRead: AsyncRead {
+    /// The values that are never pending, from now on.
+    ghost is_calm: { Self → Type 0 };
+
+    /// Does nothing. The trait is its law.
+    fn is_calm_read(&self) {}
+
+    ghost calm: { CalmReadLaws Self.reads is_calm };
+}
