@@ -1,4 +1,2 @@
-mod collections;
-mod marks;
 mod runs;
 mod scripts;

@@ -1,7 +1,5 @@
 //! Collections of what is there at once, and of an item that is there after a pending.
-use crate::collections::{
-    TryCollected, collects_agree, partitions_agree, tries_agree, unzips_agree,
-};
+use crate::agree::{TryCollected, collects_agree, partitions_agree, tries_agree, unzips_agree};
 use futures::task::{Doorbell, Solo};
 use lite_base::future::make::yield_now;
 use lite_base::{Future, Poll};

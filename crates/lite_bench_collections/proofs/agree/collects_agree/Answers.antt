@@ -1,8 +1,8 @@
 use Rattle.std.proofs.Common.{◌≡◌}
 use Rattle.lite_consume.specs.Laws.Agreeing.{finished_ample, part_within}
 use Rattle.lite_gather.specs.Laws.Ample.{collect_within}
-use Rattle.lite_bench_pendings.proofs.Found.{both_found, gathered_as, same_items}
-use Rattle.lite_bench_pendings.proofs.collections.collects_agree.Goals as goal
+use Rattle.lite_bench_collections.proofs.Found.{both_found, gathered_as, same_items}
+use Rattle.lite_bench_collections.proofs.agree.collects_agree.Goals as goal
 
 pub returns : goal.returns
 returns g c =

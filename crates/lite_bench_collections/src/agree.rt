@@ -55,11 +55,8 @@ where
     requires found { S.needs_none }
     ensures { IfOk result (λ values. NotRefused values.0 → NotRefused values.1 → TryGathered (λ v w. v.items ≡ w.items) values.0 values.1) }
 {
-    block_on_both(
-        rt,
-        try_collect(one, rt.alloc()),
-        try_collect(other, rt.alloc()),
-    )
+    let tried = try_collect(one, rt.alloc());
+    block_on_both(rt, tried, try_collect(other, rt.alloc()))
 }
 
 /// Collects the even items of each, and the others.
@@ -75,11 +72,8 @@ where
     ensures { IfOk result (λ values. IsOk values.0 → IsOk values.1 → Gathered (λ v w. (v.0.items ≡ w.0.items) × (v.1.items ≡ w.1.items)) values.0 values.1) }
 {
     let is_even = |x: &u8| *x % 2 == 0;
-    block_on_both(
-        rt,
-        partition(one, rt.alloc(), is_even),
-        partition(other, rt.alloc(), is_even),
-    )
+    let sorted = partition(one, rt.alloc(), is_even);
+    block_on_both(rt, sorted, partition(other, rt.alloc(), is_even))
 }
 
 /// Collects the first parts of the items of each, and the second.

@@ -1,8 +1,8 @@
 use Rattle.std.proofs.Common.{◌≡◌}
 use Rattle.lite_consume.specs.Laws.Agreeing.{finished_ample, part_within}
 use Rattle.lite_gather.specs.Laws.Ample.{unzip_within}
-use Rattle.lite_bench_pendings.proofs.Found.{both_found, both_items, gathered_as}
-use Rattle.lite_bench_pendings.proofs.collections.unzips_agree.Goals as goal
+use Rattle.lite_bench_collections.proofs.Found.{both_found, both_items, gathered_as}
+use Rattle.lite_bench_collections.proofs.agree.unzips_agree.Goals as goal
 
 pub returns : goal.returns
 returns g c =
