@@ -1,1 +1,2 @@
 mod marks;
+mod readers;

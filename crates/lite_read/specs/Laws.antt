@@ -1,3 +1,4 @@
+pub mod CalmRead
 pub mod Gathering
 pub mod Polled
 pub mod ReadExact

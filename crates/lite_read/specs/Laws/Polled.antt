@@ -1,8 +1,9 @@
 -- Laws of futures each poll of which is one call.
-use Rattle.std.proofs.Common.{◌≡◌, ◌≤◌, List, [], ◌∷◌, ◌++◌, length, refl, subst, arith}
+use Rattle.std.proofs.Common.{◌≡◌, ◌≤◌, List, [], ◌∷◌, ◌++◌, length, refl, subst, sym, arith}
 use Rattle.futures.specs.declared.task.Poll.{Poll}
 use Rattle.futures.specs.declared.task.Poll.TheVariants.{Ready, Pending}
 use Rattle.lite_base.specs.Answers.{Waiting, strip}
+use Rattle.lite_base.specs.Calm.{CalmLaws, Prompt}
 use Rattle.lite_base.specs.FutureLaws.{FutureLaws}
 use Rattle.lite_read.specs.Polled.{Polled}
 
@@ -24,3 +25,18 @@ module _ {F A : Type 0} (call : F → Poll A → F → Type 0) where
   pub polled_one : (x y : F) (c : Poll A) → call x c y → Polled call x (c ∷ []) y
   polled_one x y Pending h = (y, h, refl)
   polled_one x y (Ready r) h = (h, refl)
+
+  -- where no call of a calm value is pending, and each leaves a calm one
+  module _ {is_calm : F → Type 0} (never : (x y : F) → is_calm x → call x Pending y → ⊥) (calm_on : (x y : F) (r : A) → is_calm x → call x (Ready r) y → is_calm y) where
+    prompt : (x y : F) (l : List (Poll A)) → is_calm x → Polled call x l y → Prompt l
+    prompt x y [] k h = tt
+    prompt x y (Pending ∷ l) k h = absurd (never x h.0 k h.1)
+    prompt x y (Ready r ∷ l) k h = rw h.1 tt
+
+    still_calm : (x y : F) (l : List (Poll A)) → is_calm x → Polled call x l y → is_calm y
+    still_calm x y [] k h = subst is_calm (sym h) k
+    still_calm x y (Pending ∷ l) k h = absurd (never x h.0 k h.1)
+    still_calm x y (Ready r ∷ l) k h = calm_on x y r k h.0
+
+    pub polled_calm : CalmLaws (Polled call) is_calm
+    polled_calm = record { prompt = prompt; calm_on = still_calm }

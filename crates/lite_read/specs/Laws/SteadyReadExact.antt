@@ -1,5 +1,8 @@
 -- `read_exact` is steady over a steady reader, and calm over a calm one.
-use Rattle.std.proofs.Common.{◌≡◌, ◌∙◌, ℕ, List, [], ◌∷◌, Result, Ok, Err, refl, sym, subst, arith}
+use Rattle.std.proofs.Common.{◌≡◌, ◌∙◌, ℕ, List, [], ◌∷◌, length, Result, Ok, Err, refl, sym, subst, arith}
+use Rattle.std.specs.IoError.{error_kind}
+use Rattle.std.specs.declared.io.ErrorKind.{ErrorKind}
+use Rattle.std.specs.declared.io.ErrorKind.TheVariants.{UnexpectedEof}
 use Rattle.std.specs.declared.io.Error.{Error}
 use Rattle.futures.specs.declared.task.Poll.{Poll}
 use Rattle.lite_base.specs.Answers.{Comparable, ComparableBy, strip}
@@ -15,40 +18,51 @@ use Rattle.lite_read.specs.ReadExact.{Filling, Fulfils, HasRoom, ReadsExactly, f
 use Rattle.lite_read.specs.Settling.{SameByKind, Settles}
 use Rattle.lite_read.specs.declared.read_exact.ReadExactFuture.{ReadExactFuture}
 
-at_once : (g : Filling) (l : List Mark) (v : Result (Unit {0}) Error) → Fulfils g l v → NoWait l
-at_once g [] v h = tt
-at_once g (Mark.end ∷ []) v h = tt
-at_once g (Mark.fault kind ∷ []) v h = tt
-at_once g (Mark.byte b ∷ l) v h = absurd h
-at_once g (Mark.pending ∷ l) v h = absurd h
-at_once g (Mark.end ∷ m ∷ l) v h = absurd h
-at_once g (Mark.fault kind ∷ m ∷ l) v h = absurd h
+-- the three ways in which a value is given
+data Answered (g : Filling) : List Mark → Result (Unit {0}) Error → Type 0 where
+  full : length g.0 ≡ g.1 → Answered g [] (Ok tt)
+  ended : (e : Error) → HasRoom g → error_kind e ≡ UnexpectedEof → Answered g (Mark.end ∷ []) (Err e)
+  failed : (e : Error) (kind : ErrorKind) → HasRoom g → error_kind e ≡ kind → Answered g (Mark.fault kind ∷ []) (Err e)
 
-given_or_taken : (g : Filling) (l m : List Mark) (v : Result (Unit {0}) Error) (b : ℕ) → Fulfils g l v → HasRoom g → Comparable l (Mark.byte b ∷ m) → ⊥
-given_or_taken g [] m v b h room c = omega (arith, h.0, room)
-given_or_taken g (Mark.byte d ∷ l) m v b h room c = h
-given_or_taken g (Mark.pending ∷ l) m v b h room c = cc c.0
-given_or_taken g (Mark.fault kind ∷ l) m v b h room c = cc c.0
-given_or_taken g (Mark.end ∷ l) m v b h room c = cc c.0
+answered : (g : Filling) (l : List Mark) (v : Result (Unit {0}) Error) → Fulfils g l v → Answered g l v
+answered g [] v h = subst (Answered g []) (sym h.1) (Answered.full h.0)
+answered g (Mark.byte b ∷ l) v h = absurd h
+answered g (Mark.pending ∷ l) v h = absurd h
+answered g (Mark.end ∷ m ∷ l) v h = absurd h
+answered g (Mark.fault kind ∷ m ∷ l) v h = absurd h
+answered g (Mark.end ∷ []) (Ok u) h = absurd h
+answered g (Mark.end ∷ []) (Err e) h = Answered.ended e h.0 h.1
+answered g (Mark.fault kind ∷ []) (Ok u) h = absurd h
+answered g (Mark.fault kind ∷ []) (Err e) h = Answered.failed e kind h.0 h.1
 
-one_value : (g : Filling) (l m : List Mark) (v w : Result (Unit {0}) Error) → Fulfils g l v → Fulfils g m w → Comparable l m → SameByKind v w
-one_value g [] [] v w h k c = rw (h.1, k.1) refl
-one_value g [] (Mark.end ∷ []) v (Err e) h k c = absurd (omega (arith, h.0, k.0))
-one_value g [] (Mark.fault kind ∷ []) v (Err e) h k c = absurd (omega (arith, h.0, k.0))
-one_value g (Mark.end ∷ []) [] (Err e) w h k c = absurd (omega (arith, h.0, k.0))
-one_value g (Mark.fault kind ∷ []) [] (Err e) w h k c = absurd (omega (arith, h.0, k.0))
-one_value g (Mark.end ∷ []) (Mark.end ∷ []) (Err e) (Err f) h k c = h.1 ∙ sym k.1
-one_value g (Mark.fault kind ∷ []) (Mark.fault kind2 ∷ []) (Err e) (Err f) h k c = let same : kind ≡ kind2 = cc c.0 in h.1 ∙ same ∙ sym k.1
-one_value g (Mark.end ∷ []) (Mark.fault kind ∷ []) (Err e) (Err f) h k c = absurd (cc c.0)
-one_value g (Mark.fault kind ∷ []) (Mark.end ∷ []) (Err e) (Err f) h k c = absurd (cc c.0)
+at_once : (g : Filling) (l : List Mark) (v : Result (Unit {0}) Error) → Answered g l v → NoWait l
+at_once g _ _ (Answered.full h) = tt
+at_once g _ _ (Answered.ended e room h) = tt
+at_once g _ _ (Answered.failed e kind room h) = tt
+
+given_or_taken : (g : Filling) (l m : List Mark) (v : Result (Unit {0}) Error) (b : ℕ) → Answered g l v → HasRoom g → Comparable l (Mark.byte b ∷ m) → ⊥
+given_or_taken g _ m _ b (Answered.full h) room c = omega (arith, h, room)
+given_or_taken g _ m _ b (Answered.ended e k h) room c = cc c.0
+given_or_taken g _ m _ b (Answered.failed e kind k h) room c = cc c.0
+
+one_value : (g : Filling) (l m : List Mark) (v w : Result (Unit {0}) Error) → Answered g l v → Answered g m w → Comparable l m → SameByKind v w
+one_value g _ _ _ _ (Answered.full h) (Answered.full k) c = refl
+one_value g _ _ _ _ (Answered.full h) (Answered.ended e room k) c = absurd (omega (arith, h, room))
+one_value g _ _ _ _ (Answered.full h) (Answered.failed e kind room k) c = absurd (omega (arith, h, room))
+one_value g _ _ _ _ (Answered.ended e room h) (Answered.full k) c = absurd (omega (arith, k, room))
+one_value g _ _ _ _ (Answered.failed e kind room h) (Answered.full k) c = absurd (omega (arith, k, room))
+one_value g _ _ _ _ (Answered.ended e room h) (Answered.ended f more k) c = h ∙ sym k
+one_value g _ _ _ _ (Answered.failed e kind room h) (Answered.failed f other more k) c = let same : kind ≡ other = cc c.0 in h ∙ same ∙ sym k
+one_value g _ _ _ _ (Answered.ended e room h) (Answered.failed f kind more k) c = absurd (cc c.0)
+one_value g _ _ _ _ (Answered.failed e kind room h) (Answered.ended f more k) c = absurd (cc c.0)
 
 fills_settles : Settles SameByKind fills
 fills_settles =
     record {
       one_way = λ p q r b h k. h.1 ∙ sym k.1;
-      at_once = λ p q l v h. at_once p l v h.0;
-      given_or_taken = λ p q r l m v b h k c. given_or_taken p l m v b h.0 k.0 c;
-      one_value = λ p q r l m v w h k c. one_value p l m v w h.0 k.0 c;
+      at_once = λ p q l v h. at_once p l v (answered p l v h.0);
+      given_or_taken = λ p q r l m v b h k c. given_or_taken p l m v b (answered p l v h.0) k.0 c;
+      one_value = λ p q r l m v w h k c. one_value p l m v w (answered p l v h.0) (answered p m w k.0) c;
     }
 
 -- two that have gathered the same, over readers that are alike

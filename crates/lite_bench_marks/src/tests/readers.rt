@@ -1,0 +1,47 @@
+//! Readers, and the futures over them.
+use lite_base::{CalmFuture, SteadyFuture};
+use lite_bridge::Cursor;
+use lite_io::{BufReader, make as io};
+use lite_io_base::{CalmRead, SteadyRead};
+use lite_mock::Marks;
+use lite_read::make::{read, read_exact};
+use std::alloc::AllocError;
+use std::test::Fail;
+
+/// Asks for both marks of a reader.
+fn both<R: SteadyRead + CalmRead>(reader: &R) {
+    reader.is_steady_read();
+    reader.is_calm_read();
+}
+
+/// Asks for both marks of a future.
+fn both_future<F: SteadyFuture + CalmFuture>(future: &F) {
+    future.is_steady_future();
+    future.is_calm_future();
+}
+
+#[test]
+fn readers_are_steady_and_calm(rt: HostRuntime) -> Result<(), Fail> {
+    let mut bytes: &[u8] = b"ab";
+    both(&bytes);
+    both(&&mut bytes);
+    both(&io::empty());
+    both(&io::repeat(7));
+    both(&Cursor::new(bytes));
+    both(&io::take(bytes, 1));
+    both(&io::chain(bytes, bytes));
+    both(&Marks::new(rt.alloc()));
+    let Ok(reader) = BufReader::with_capacity(rt.alloc(), 4, bytes) else {
+        return Err(AllocError.into());
+    };
+    both(&reader);
+    Ok(())
+}
+
+#[test]
+fn futures_of_readers_are_steady_and_calm(_rt: HostRuntime) -> Result<(), Fail> {
+    let mut bytes: &[u8] = b"ab";
+    both_future(&read_exact(&mut bytes, &mut [0]));
+    read(&mut bytes, &mut [0]).is_calm_future();
+    Ok(())
+}
