@@ -1,0 +1,3 @@
+mod told;
+mod write;
+mod write_all;

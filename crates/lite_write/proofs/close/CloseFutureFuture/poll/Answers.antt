@@ -1,0 +1,7 @@
+use Rattle.std.proofs.Common.{refl}
+use Rattle.lite_read.specs.Laws.Polled.{polled_one}
+use Rattle.lite_write.specs.Close.{Closes}
+use Rattle.lite_write.proofs.close.CloseFutureFuture.poll.Goals as goal
+
+pub returns-clause-ran : goal.returns-clause-ran
+returns-clause-ran g c = polled_one (Closes g.W.Takings.writes) _ _ c.poll_close.result (record { came = c.poll_close.ensures.ran; stays = refl })

@@ -1,0 +1,7 @@
+use Rattle.std.proofs.Common.{refl}
+use Rattle.lite_read.specs.Laws.Polled.{polled_one}
+use Rattle.lite_write.specs.Flush.{Flushes}
+use Rattle.lite_write.proofs.flush.FlushFutureFuture.poll.Goals as goal
+
+pub returns-clause-ran : goal.returns-clause-ran
+returns-clause-ran g c = polled_one (Flushes g.W.Takings.writes) _ _ c.poll_flush.result (record { came = c.poll_flush.ensures.ran; stays = refl })

@@ -1,0 +1,9 @@
+use Rattle.std.proofs.Common.{refl}
+use Rattle.lite_read.specs.Laws.Polled.{polled_one}
+use Rattle.lite_write.specs.WriteVectored.{WritesVectored}
+use Rattle.lite_write.proofs.write_vectored.WriteVectoredFutureFuture.poll.Goals as goal
+
+pub returns-clause-ran : goal.returns-clause-ran
+returns-clause-ran g c =
+    let e = c.poll_write_vectored.ensures in
+    polled_one (WritesVectored g.W.Takings.writes) _ _ c.poll_write_vectored.result (record { came = e.ran; bound = e.bound; stays = refl })

@@ -1,0 +1,7 @@
+pub mod Close
+pub mod Flush
+pub mod Laws
+pub mod Sink
+pub mod Write
+pub mod WriteAll
+pub mod WriteVectored

@@ -1,0 +1,66 @@
+-- `write_all`: some bytes are handed to a writer, from the front, until all are taken.
+use Rattle.std.specs.Prelude.{◌≡◌, ◌<◌, ℕ, List, [], ◌∷◌, ◌++◌, length, Option, Some, None, Result, Ok, Err}
+use Rattle.std.specs.IoError.{error_kind}
+use Rattle.std.specs.declared.io.Error.{Error}
+use Rattle.std.specs.declared.io.ErrorKind.TheVariants.{WriteZero}
+use Rattle.futures.specs.declared.task.Poll.{Poll}
+use Rattle.futures.specs.declared.task.Poll.TheVariants.{Ready, Pending}
+use Rattle.lite_io_base.specs.Runs.{Runs}
+use Rattle.lite_io_base.specs.Takings.{Taking}
+use Rattle.lite_write.specs.declared.write_all.WriteAllFuture.{WriteAllFuture}
+
+-- each mark takes some of the bytes from the front, and these are left
+abbrev pub Hands : List ℕ → List Taking → List ℕ → Type 0
+Hands offered [] left = left ≡ offered
+Hands offered (Taking.wrote xs ∷ l) left = (rest : List ℕ) × (0 < length xs) × (offered ≡ xs ++ rest) × Hands rest l left
+Hands offered (m ∷ l) left = ⊥
+
+-- all are taken; a write took none; an error
+abbrev pub Ended : List ℕ → List Taking → Result (Unit {0}) Error → Type 0
+Ended left [] r = (left ≡ []) × (r ≡ Ok tt)
+Ended left (Taking.wrote [] ∷ []) (Err e) = (0 < length left) × (error_kind e ≡ WriteZero)
+Ended left (Taking.fault kind ∷ []) (Err e) = (0 < length left) × (error_kind e ≡ kind)
+Ended left marks r = ⊥
+
+-- some bytes are taken, and the next mark is a pending
+pub record Halts (offered : List ℕ) (marks rest : List Taking) (left : List ℕ) : Type 0 where
+  pub before : List Taking
+  pub cut : marks ≡ before ++ Taking.pending ∷ rest
+  pub handed : Hands offered before left
+  pub some : 0 < length left
+
+-- some bytes are taken, and the marks that are left give the value
+pub record Finishes (offered : List ℕ) (marks : List Taking) (r : Result (Unit {0}) Error) (left : List ℕ) : Type 0 where
+  pub before : List Taking
+  pub last : List Taking
+  pub cut : marks ≡ before ++ last
+  pub handed : Hands offered before left
+  pub ended : Ended left last r
+
+-- the marks are cut into segments, one for each answer
+abbrev pub HandsOver : List ℕ → List Taking → List (Poll (Result (Unit {0}) Error)) → List ℕ → Type 0
+HandsOver offered marks [] left = (marks ≡ []) × (left ≡ offered)
+HandsOver offered marks (Pending ∷ out) left = (rest : List Taking) × (m : List ℕ) × Halts offered marks rest m × HandsOver m rest out left
+HandsOver offered marks (Ready r ∷ out) left = Finishes offered marks r left × (out ≡ [])
+
+module _ {W : Type 0} (writes : Runs Taking W) where
+  -- no answer leaves all as it is
+  pub record WritesAll (x : WriteAllFuture W) (out : List (Poll (Result (Unit {0}) Error))) (y : WriteAllFuture W) : Type 0 where
+    pub marks : List Taking
+    pub came : writes x.writer.now marks y.writer.now
+    pub handed : HandsOver x.buf.now marks out y.buf.now
+    pub stays : y.writer ≡ record x.writer { now = y.writer.now }
+    pub idle : out ≡ [] → y ≡ x
+
+  -- one write took some bytes
+  pub record WritesSome (x y : WriteAllFuture W) : Type 0 where
+    pub taken : List ℕ
+    pub some : 0 < length taken
+    pub came : writes x.writer.now (Taking.wrote taken ∷ []) y.writer.now
+    pub front : x.buf.now ≡ taken ++ y.buf.now
+    pub stays : y.writer ≡ record x.writer { now = y.writer.now }
+
+  -- one turn of a poll: a write that takes bytes, or the answer; after the former another turn may be made
+  abbrev pub AllTurn : WriteAllFuture W → Option (Poll (Result (Unit {0}) Error)) → WriteAllFuture W → Type 0
+  AllTurn x None y = WritesSome x y
+  AllTurn x (Some a) y = WritesAll x (a ∷ []) y

@@ -1,0 +1,30 @@
+ghost use Rattle.lite_read.specs.Laws.Polled.{polled_laws};
+ghost use Rattle.lite_read.specs.Polled.{Polled};
+ghost use Rattle.lite_write.specs.Close.{Closes};
+
+use lite_base::{Context, Future, Poll};
+use lite_io_base::AsyncWrite;
+use std::io;
+
+/// The future of the close of a writer.
+///
+/// Made by [`close`](crate::make::close). Each poll is one `poll_close` of the writer. The value is `Ok`, or the writer's error.
+/// Ported from `src/io.rs`, `CloseFuture`.
+#[derive(Drop)]
+pub struct CloseFuture<'a, W> {
+    pub(crate) writer: &'a mut W,
+}
+
+impl<W: AsyncWrite> Future for CloseFuture<'_, W> {
+    type Output = io::Result<()>;
+
+    ghost run = { Polled (Closes W.writes) };
+
+    ghost leaves = { λ x. W.write_leaves x.writer.now };
+
+    ghost laws = { polled_laws (Closes W.writes) };
+
+    fn poll(&mut self, cx: &mut Context<'_>) -> Poll<io::Result<()>> {
+        self.writer.poll_close(cx)
+    }
+}

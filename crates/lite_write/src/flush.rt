@@ -1,0 +1,30 @@
+ghost use Rattle.lite_read.specs.Laws.Polled.{polled_laws};
+ghost use Rattle.lite_read.specs.Polled.{Polled};
+ghost use Rattle.lite_write.specs.Flush.{Flushes};
+
+use lite_base::{Context, Future, Poll};
+use lite_io_base::AsyncWrite;
+use std::io;
+
+/// The future of one flush of a writer.
+///
+/// Made by [`flush`](crate::make::flush). Each poll is one `poll_flush` of the writer. The value is `Ok`, or the writer's error.
+/// Ported from `src/io.rs`, `FlushFuture`.
+#[derive(Drop)]
+pub struct FlushFuture<'a, W> {
+    pub(crate) writer: &'a mut W,
+}
+
+impl<W: AsyncWrite> Future for FlushFuture<'_, W> {
+    type Output = io::Result<()>;
+
+    ghost run = { Polled (Flushes W.writes) };
+
+    ghost leaves = { λ x. W.write_leaves x.writer.now };
+
+    ghost laws = { polled_laws (Flushes W.writes) };
+
+    fn poll(&mut self, cx: &mut Context<'_>) -> Poll<io::Result<()>> {
+        self.writer.poll_flush(cx)
+    }
+}

@@ -1,0 +1,52 @@
+ghost use Rattle.std.specs.Prelude.{◌≡◌, ◌≤◌, Ok, length, IfOk};
+ghost use Rattle.futures.specs.Poll.{IfReady, OnPending};
+ghost use Rattle.futures.specs.Task.{Holds, Keeps, Lasting};
+ghost use Rattle.lite_io_base.specs.Laws.Runs.{idle_laws};
+ghost use Rattle.lite_io_base.specs.Runs.{Idle};
+ghost use Rattle.lite_io_base.specs.Takings.{write_marks};
+ghost use Rattle.lite_write.specs.Laws.Sink.{sinks_laws};
+ghost use Rattle.lite_write.specs.Sink.{Sinks};
+
+use lite_base::{Context, Poll};
+use lite_io_base::{AsyncWrite, Takings, Tale};
+use std::io;
+
+/// A writer that takes all that is offered, and keeps none of it.
+///
+/// Made by [`sink`](crate::make::sink). Ported from `src/io.rs`, `Sink`.
+#[derive(Clone, Copy)]
+pub struct Sink {}
+
+impl Takings for Sink {
+    ghost writes = { Sinks };
+
+    ghost write_laws = { sinks_laws };
+}
+
+// It is not read from.
+impl Tale for Sink {
+    ghost reads = { Idle };
+
+    ghost read_laws = { idle_laws };
+}
+
+impl AsyncWrite for Sink {
+    /// Takes all of `buf`.
+    fn poll_write(&mut self, _cx: &mut Context<'_>, buf: &[u8]) -> Poll<io::Result<usize>>
+        ensures bound { IfReady result (λ r. IfOk r (λ n. n ≤ length buf.now)) }
+        ensures ran { Sinks self.old (write_marks result buf.now) self.new }
+        ensures all { result ≡ Poll.Ready (Ok (length buf.now)) }
+        ensures left { OnPending result ((fact : Lasting) → ⊥ → Holds _cx.new fact) }
+        ensures kept { Keeps _cx.old _cx.new }
+    {
+        Poll::Ready(Ok(buf.len()))
+    }
+
+    fn poll_flush(&mut self, _cx: &mut Context<'_>) -> Poll<io::Result<()>> {
+        Poll::Ready(Ok(()))
+    }
+
+    fn poll_close(&mut self, _cx: &mut Context<'_>) -> Poll<io::Result<()>> {
+        Poll::Ready(Ok(()))
+    }
+}

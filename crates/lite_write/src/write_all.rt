@@ -1,0 +1,64 @@
+ghost use Rattle.std.specs.Prelude.{length, ⊤};
+ghost use Rattle.lite_base.specs.Ends.{Ends-count};
+ghost use Rattle.lite_write.specs.Laws.WriteAll.{all_laws, left_falls};
+ghost use Rattle.lite_write.specs.WriteAll.{AllTurn, WritesAll};
+
+use lite_base::{Context, Future, Poll, Turns, drive};
+use lite_io_base::AsyncWrite;
+use std::io;
+use std::io::ErrorKind;
+
+/// The future of writes that go on until all bytes are taken.
+///
+/// Made by [`write_all`](crate::make::write_all). Where no byte is left nothing is written. The value is `Ok` once all are
+/// taken, an error of the kind `WriteZero` where a write took none, and else the writer's error; what was taken stays
+/// taken. Ported from `src/io.rs`, `WriteAllFuture`.
+#[derive(Drop)]
+pub struct WriteAllFuture<'a, W> {
+    pub(crate) writer: &'a mut W,
+    // What is not taken yet.
+    pub(crate) buf: &'a [u8],
+}
+
+impl<W: AsyncWrite> Turns for WriteAllFuture<'_, W> {
+    type Output = io::Result<()>;
+
+    ghost can_turn = { λ _. ⊤ };
+
+    ghost turn = { AllTurn W.writes };
+
+    ghost turn_leaves = { λ x. W.write_leaves x.writer.now };
+
+    ghost goes_on = { λ x y c h. tt };
+
+    ghost finite = { λ x c. Ends-count (λ y. length y.buf.now) left_falls x };
+
+    fn turn_once(&mut self, cx: &mut Context<'_>) -> Option<Poll<io::Result<()>>> {
+        if self.buf.is_empty() {
+            return Some(Poll::Ready(Ok(())));
+        }
+        match self.writer.poll_write(cx, self.buf) {
+            Poll::Ready(Ok(0)) => Some(Poll::Ready(Err(ErrorKind::WriteZero.into()))),
+            Poll::Ready(Ok(n)) => {
+                self.buf = &self.buf[n..];
+                None
+            }
+            Poll::Ready(Err(e)) => Some(Poll::Ready(Err(e))),
+            Poll::Pending => Some(Poll::Pending),
+        }
+    }
+}
+
+impl<W: AsyncWrite> Future for WriteAllFuture<'_, W> {
+    type Output = io::Result<()>;
+
+    ghost run = { WritesAll W.writes };
+
+    ghost leaves = { λ x. W.write_leaves x.writer.now };
+
+    ghost laws = { all_laws W.write_laws };
+
+    fn poll(&mut self, cx: &mut Context<'_>) -> Poll<io::Result<()>> {
+        drive(self, cx)
+    }
+}

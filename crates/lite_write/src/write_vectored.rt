@@ -1,0 +1,33 @@
+ghost use Rattle.lite_read.specs.Laws.Polled.{polled_laws};
+ghost use Rattle.lite_read.specs.Polled.{Polled};
+ghost use Rattle.lite_write.specs.WriteVectored.{WritesVectored};
+
+use lite_base::{Context, Future, Poll};
+use lite_io_base::AsyncWrite;
+use std::io;
+use std::io::IoSlice;
+
+/// The future of one write of the bytes of several buffers.
+///
+/// Made by [`write_vectored`](crate::make::write_vectored). Each poll is one vectored write to the writer. The value is
+/// how many of the bytes, one buffer after another, were taken, or the writer's error, after which none was. Ported from
+/// `src/io.rs`, `WriteVectoredFuture`.
+#[derive(Drop)]
+pub struct WriteVectoredFuture<'a, W> {
+    pub(crate) writer: &'a mut W,
+    pub(crate) bufs: &'a [IoSlice<'a>],
+}
+
+impl<W: AsyncWrite> Future for WriteVectoredFuture<'_, W> {
+    type Output = io::Result<usize>;
+
+    ghost run = { Polled (WritesVectored W.writes) };
+
+    ghost leaves = { λ x. W.write_leaves x.writer.now };
+
+    ghost laws = { polled_laws (WritesVectored W.writes) };
+
+    fn poll(&mut self, cx: &mut Context<'_>) -> Poll<io::Result<usize>> {
+        self.writer.poll_write_vectored(cx, self.bufs)
+    }
+}
