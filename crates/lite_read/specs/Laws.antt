@@ -1,3 +1,4 @@
 pub mod Gathering
 pub mod Polled
 pub mod ReadExact
+pub mod ReadToEnd

@@ -3,4 +3,5 @@ pub mod Laws
 pub mod Polled
 pub mod Read
 pub mod ReadExact
+pub mod ReadToEnd
 pub mod Seek

@@ -4,8 +4,10 @@
 pub mod make;
 mod read;
 mod read_exact;
+mod read_to_end;
 mod seek;
 
 pub use read::ReadFuture;
 pub use read_exact::ReadExactFuture;
+pub use read_to_end::ReadToEndFuture;
 pub use seek::SeekFuture;

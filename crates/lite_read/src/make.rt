@@ -1,9 +1,11 @@
 //! What makes the futures.
-ghost use Rattle.std.specs.Prelude.{◌≡◌};
+ghost use Rattle.std.specs.Prelude.{◌≡◌, length};
 
 use crate::read::ReadFuture;
 use crate::read_exact::ReadExactFuture;
+use crate::read_to_end::ReadToEndFuture;
 use crate::seek::SeekFuture;
+use std::alloc::Allocator;
 use std::io::SeekFrom;
 
 /// The future of one read into `buf`. Ported from `src/io.rs`, `AsyncReadExt::read`.
@@ -21,6 +23,24 @@ pub fn read_exact<'a, R>(reader: &'a mut R, buf: &'a mut [u8]) -> ReadExactFutur
         reader,
         buf,
         filled: 0,
+    }
+}
+
+/// The future of reads up to an end, whose bytes are appended to `buf`. Ported from `src/io.rs`,
+/// `AsyncReadExt::read_to_end`.
+pub fn read_to_end<'a, R, A: Allocator>(
+    reader: &'a mut R,
+    buf: &'a mut Vec<u8, A>,
+) -> ReadToEndFuture<'a, R, A>
+    ensures { let start = length buf.old.items in result ≡ record { reader = reader.entry; buf = buf.entry; start = start; filled = start; room = 0 } }
+{
+    let start = buf.len();
+    ReadToEndFuture {
+        reader,
+        buf,
+        start,
+        filled: start,
+        room: 0,
     }
 }
 
