@@ -1,3 +1,4 @@
+mod bytes;
 mod read;
 mod read_to_end;
 mod seek;

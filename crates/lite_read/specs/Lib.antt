@@ -1,3 +1,4 @@
+pub mod Bytes
 pub mod Gathering
 pub mod Laws
 pub mod Polled

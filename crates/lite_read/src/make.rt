@@ -1,12 +1,20 @@
 //! What makes the futures.
 ghost use Rattle.std.specs.Prelude.{◌≡◌, length};
 
+use crate::bytes::Bytes;
 use crate::read::ReadFuture;
 use crate::read_exact::ReadExactFuture;
 use crate::read_to_end::ReadToEndFuture;
 use crate::seek::SeekFuture;
 use std::alloc::Allocator;
 use std::io::SeekFrom;
+
+/// The bytes of a reader, one by one. Ported from `src/io.rs`, `AsyncReadExt::bytes`.
+pub fn bytes<R>(reader: R) -> Bytes<R>
+    ensures { result ≡ record { inner = reader } }
+{
+    Bytes { inner: reader }
+}
 
 /// The future of one read into `buf`. Ported from `src/io.rs`, `AsyncReadExt::read`.
 pub fn read<'a, R>(reader: &'a mut R, buf: &'a mut [u8]) -> ReadFuture<'a, R>
