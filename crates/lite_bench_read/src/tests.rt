@@ -1,3 +1,5 @@
+mod bytes;
 mod read;
+mod read_to_end;
 mod seek;
 mod told;

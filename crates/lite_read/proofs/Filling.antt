@@ -9,7 +9,7 @@ use Rattle.lite_io_base.specs.Runs.{Runs}
 use Rattle.lite_read.specs.ReadExact.{ReadsMore, fills}
 use Rattle.lite_read.specs.declared.read_exact.ReadExactFuture.{ReadExactFuture}
 
-moved_some : (room xs : List ℕ) → 0 < length xs → moved room xs ≡ bytes xs
+pub moved_some : (room xs : List ℕ) → 0 < length xs → moved room xs ≡ bytes xs
 moved_some room [] some = absurd (omega (arith, some))
 moved_some room (x ∷ xs) some = refl
 
@@ -21,7 +21,7 @@ fills_all g room (x ∷ xs) h =
     ((g ++ x ∷ [], room), (omega (arith, h), refl), subst (λ l. FoldsTo fills.takes (g ++ x ∷ [], room) xs (l, room)) (append_assoc g (x ∷ []) xs) (fills_all (g ++ x ∷ []) room xs longer))
 
 -- the front behind a write of which the first n count
-front : (at k n : ℕ) (old new : List ℕ) → at ≤ length old → n ≤ length new → take (at + n) (put_mid at k old new) ≡ take at old ++ take n new
+pub front : (at k n : ℕ) (old new : List ℕ) → at ≤ length old → n ≤ length new → take (at + n) (put_mid at k old new) ≡ take at old ++ take n new
 front at k n old new room most =
     ap (λ m. take (m + n) (put_mid at k old new)) (sym (length-take-le at old room)) ∙ take-append-add (take at old) (new ++ post_of at k old) n
     ∙ ap (λ l. take at old ++ l) (take-append-le n new (post_of at k old) most)

@@ -1,5 +1,5 @@
 -- `read`: one read into a buffer.
-use Rattle.std.specs.Prelude.{◌≡◌, ◌≤◌, ℕ, List, length, Result, IfOk}
+use Rattle.std.specs.Prelude.{◌≡◌, ◌≤◌, ℕ, length, Result, IfOk}
 use Rattle.std.specs.declared.io.Error.{Error}
 use Rattle.futures.specs.Poll.{IfReady}
 use Rattle.futures.specs.declared.task.Poll.{Poll}

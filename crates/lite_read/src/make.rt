@@ -1,10 +1,20 @@
 //! What makes the futures.
-ghost use Rattle.std.specs.Prelude.{◌≡◌};
+ghost use Rattle.std.specs.Prelude.{◌≡◌, length};
 
+use crate::bytes::Bytes;
 use crate::read::ReadFuture;
 use crate::read_exact::ReadExactFuture;
+use crate::read_to_end::ReadToEndFuture;
 use crate::seek::SeekFuture;
+use std::alloc::Allocator;
 use std::io::SeekFrom;
+
+/// The bytes of a reader, one by one. Ported from `src/io.rs`, `AsyncReadExt::bytes`.
+pub fn bytes<R>(reader: R) -> Bytes<R>
+    ensures { result ≡ record { inner = reader } }
+{
+    Bytes { inner: reader }
+}
 
 /// The future of one read into `buf`. Ported from `src/io.rs`, `AsyncReadExt::read`.
 pub fn read<'a, R>(reader: &'a mut R, buf: &'a mut [u8]) -> ReadFuture<'a, R>
@@ -21,6 +31,24 @@ pub fn read_exact<'a, R>(reader: &'a mut R, buf: &'a mut [u8]) -> ReadExactFutur
         reader,
         buf,
         filled: 0,
+    }
+}
+
+/// The future of reads up to an end, whose bytes are appended to `buf`. Ported from `src/io.rs`,
+/// `AsyncReadExt::read_to_end`.
+pub fn read_to_end<'a, R, A: Allocator>(
+    reader: &'a mut R,
+    buf: &'a mut Vec<u8, A>,
+) -> ReadToEndFuture<'a, R, A>
+    ensures { let start = length buf.old.items in result ≡ record { reader = reader.entry; buf = buf.entry; start = start; filled = start; room = 0 } }
+{
+    let start = buf.len();
+    ReadToEndFuture {
+        reader,
+        buf,
+        start,
+        filled: start,
+        room: 0,
     }
 }
 

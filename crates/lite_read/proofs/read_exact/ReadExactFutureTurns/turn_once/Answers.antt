@@ -1,4 +1,4 @@
-use Rattle.std.proofs.Common.{◌<◌, ◌≤◌, ◌≡◌, ◌-◌, ◌∙◌, length, arith}
+use Rattle.std.proofs.Common.{◌∙◌, length, arith}
 use borrow.Rule.Slice.PartMut.{mid_len}
 use Rattle.lite_read.proofs.Filling.{read_more}
 use Rattle.lite_read.proofs.read_exact.ReadExactFutureTurns.turn_once.Goals as goal

@@ -1,0 +1,37 @@
+-- `bytes`: a reader's marks, one by one.
+use Rattle.std.specs.Prelude.{◌≡◌, ◌⊎◌, ℕ, List, [], ◌∷◌, ⊤, Some, None, Result, Ok, Err}
+use Rattle.std.specs.IoError.{error_kind}
+use Rattle.std.specs.declared.io.Error.{Error}
+use Rattle.std.specs.declared.io.ErrorKind.TheVariants.{Interrupted}
+use Rattle.futures.specs.Task.{Lasting}
+use Rattle.futures.specs.declared.task.Poll.TheVariants.{Ready, Pending}
+use Rattle.lite_base.specs.Answers.{Answer}
+use Rattle.lite_io_base.specs.Marks.{Mark}
+use Rattle.lite_io_base.specs.Runs.{Runs}
+use Rattle.lite_read.specs.declared.bytes.Bytes.{Bytes}
+
+-- A byte is an item, an end an end, and a pending `Pending`. An error is an item too, but an `Interrupted` one is `Pending`.
+abbrev pub TellsMark : Mark → Answer (Result ℕ Error) → Type 0
+TellsMark (Mark.byte b) (Ready (Some (Ok x))) = x ≡ b
+TellsMark (Mark.fault kind) (Ready (Some (Err e))) = (error_kind e ≡ kind) × (kind ≡ Interrupted → ⊥)
+TellsMark (Mark.fault kind) Pending = kind ≡ Interrupted
+TellsMark Mark.pending Pending = ⊤
+TellsMark Mark.end (Ready None) = ⊤
+TellsMark m a = ⊥
+
+-- each answer tells one mark
+abbrev pub TellsEach : List Mark → List (Answer (Result ℕ Error)) → Type 0
+TellsEach [] [] = ⊤
+TellsEach (m ∷ ms) (a ∷ l) = TellsMark m a × TellsEach ms l
+TellsEach ms l = ⊥
+
+-- the reader left some marks, and each answer tells one; no answer leaves all as it is
+pub record Tells {R : Type 0} (reads : Runs Mark R) (x : Bytes R) (out : List (Answer (Result ℕ Error))) (y : Bytes R) : Type 0 where
+  pub marks : List Mark
+  pub came : reads x.inner marks y.inner
+  pub told : TellsEach marks out
+  pub idle : out ≡ [] → y ≡ x
+
+-- what a context holds that was woken: the task runs again, and it hears each source
+abbrev pub HoldsWoken : Lasting → Type 0
+HoldsWoken fact = (fact ≡ Lasting.armed) ⊎ ((source : ℕ) × (fact ≡ Lasting.hears source))

@@ -1,0 +1,105 @@
+-- Laws of `bytes`.
+use Rattle.std.proofs.Common.{◌≡◌, ◌∙◌, ℕ, suc, ◌+◌, List, [], ◌∷◌, ◌++◌, length, Some, None, Result, refl, ap, subst, add-one}
+use Rattle.std.specs.declared.io.Error.{Error}
+use Rattle.futures.specs.declared.task.Poll.TheVariants.{Ready, Pending}
+use Rattle.lite_base.specs.Answers.{Answer, items}
+use Rattle.lite_base.specs.Falling.{Lowers-below}
+use Rattle.lite_base.specs.Laws.Hint.{same_hint}
+use Rattle.lite_base.specs.Rank.{Below, Lowers}
+use Rattle.lite_base.specs.Ranks.{Counting, Ranks, ranks_of}
+use Rattle.lite_base.specs.StreamLaws.{RunLaws as StreamRunLaws, StreamLaws, laws_of}
+use Rattle.lite_io_base.specs.Counting.{ReadCounting}
+use Rattle.lite_io_base.specs.Falls.{Falls}
+use Rattle.lite_io_base.specs.Marks.{AllGiven, Mark, given}
+use Rattle.lite_io_base.specs.Runs.{RunLaws, Runs}
+use Rattle.lite_read.specs.Bytes.{Tells, TellsEach}
+use Rattle.lite_read.specs.declared.bytes.Bytes.{Bytes}
+
+tells_join : (i j : List Mark) (l m : List (Answer (Result ℕ Error))) → TellsEach i l → TellsEach j m → TellsEach (i ++ j) (l ++ m)
+tells_join [] j [] m h k = k
+tells_join [] j (a ∷ l) m h k = absurd h
+tells_join (x ∷ i) j [] m h k = absurd h
+tells_join (x ∷ i) j (a ∷ l) m h k = (h.0, tells_join i j l m h.1 k)
+
+-- as many as one byte or error lower the rank
+one_below : (n : ℕ) (xs ys : List ℕ) → Falls (n + 1) xs ys → Below xs ys
+one_below n xs ys h = subst (λ k. Falls k xs ys) (add-one n) h
+
+-- what the marks do to a rank, the answers do
+tells_lower : (i : List Mark) (l : List (Answer (Result ℕ Error))) (xs ys : List ℕ) → TellsEach i l → Falls (given i) xs ys → Lowers l xs ys
+tells_lower [] [] xs ys h f = f
+tells_lower [] (a ∷ l) xs ys h f = absurd h
+tells_lower (x ∷ i) [] xs ys h f = absurd h
+tells_lower (Mark.byte b ∷ i) (Pending ∷ l) xs ys h f = absurd h.0
+tells_lower (Mark.byte b ∷ i) (Ready None ∷ l) xs ys h f = absurd h.0
+tells_lower (Mark.byte b ∷ i) (Ready (Some r) ∷ l) xs ys h f = one_below (given i) xs ys f
+tells_lower (Mark.fault k ∷ i) (Pending ∷ l) xs ys h f = Lowers-below l xs ys (one_below (given i) xs ys f)
+tells_lower (Mark.fault k ∷ i) (Ready None ∷ l) xs ys h f = absurd h.0
+tells_lower (Mark.fault k ∷ i) (Ready (Some r) ∷ l) xs ys h f = one_below (given i) xs ys f
+tells_lower (Mark.pending ∷ i) (Pending ∷ l) xs ys h f = tells_lower i l xs ys h.1 f
+tells_lower (Mark.pending ∷ i) (Ready None ∷ l) xs ys h f = absurd h.0
+tells_lower (Mark.pending ∷ i) (Ready (Some r) ∷ l) xs ys h f = absurd h.0
+tells_lower (Mark.end ∷ i) (Pending ∷ l) xs ys h f = absurd h.0
+tells_lower (Mark.end ∷ i) (Ready None ∷ l) xs ys h f = tells_lower i l xs ys h.1 f
+tells_lower (Mark.end ∷ i) (Ready (Some r) ∷ l) xs ys h f = absurd h.0
+
+-- items are bytes and errors
+tells_items : (i : List Mark) (l : List (Result ℕ Error)) → TellsEach i (items l) → AllGiven i × (length i ≡ length l)
+tells_items [] [] h = (tt, refl)
+tells_items [] (r ∷ l) h = absurd h
+tells_items (x ∷ i) [] h = absurd h
+tells_items (Mark.byte b ∷ i) (r ∷ l) h = let e = tells_items i l h.1 in ((tt, e.0), ap suc e.1)
+tells_items (Mark.fault k ∷ i) (r ∷ l) h = let e = tells_items i l h.1 in ((tt, e.0), ap suc e.1)
+tells_items (Mark.pending ∷ i) (r ∷ l) h = absurd h.0
+tells_items (Mark.end ∷ i) (r ∷ l) h = absurd h.0
+
+idle_join : {R : Type 0} (x y z : Bytes R) (l m : List (Answer (Result ℕ Error))) → (l ≡ [] → y ≡ x) → (m ≡ [] → z ≡ y) → l ++ m ≡ [] → z ≡ x
+idle_join x y z [] m h k e = k e ∙ h refl
+idle_join x y z (a ∷ l) m h k e = absurd (cc e)
+
+module _ {R : Type 0} {reads : Runs Mark R} where
+  tells_follow : RunLaws reads → (x y z : Bytes R) (l m : List (Answer (Result ℕ Error))) → Tells reads x l y → Tells reads y m z → Tells reads x (l ++ m) z
+  tells_follow laws x y z l m h k =
+      record {
+        marks = h.marks ++ k.marks;
+        came = laws.follows x.inner y.inner z.inner h.marks k.marks h.came k.came;
+        told = tells_join h.marks k.marks l m h.told k.told;
+        idle = idle_join x y z l m h.idle k.idle;
+      }
+
+  tells_runs : RunLaws reads → StreamRunLaws (Tells reads)
+  tells_runs laws =
+      record {
+        rests = λ x. record { marks = []; came = laws.rests x.inner; told = tt; idle = λ e. refl };
+        stays = λ x y h. h.idle refl;
+        follows = tells_follow laws;
+      }
+
+  pub bytes_laws : RunLaws reads → StreamLaws (Tells reads) (λ x hint. hint ≡ (0, None))
+  bytes_laws laws = laws_of (tells_runs laws) (λ x y hint l e h. same_hint hint (0, None) l e tt)
+
+  pub bytes_counting : {r : Ranks R} → ReadCounting reads r → Counting (Tells reads) (ranks_of (λ (b : Bytes R). b.inner) r)
+  bytes_counting {r} c =
+      record {
+        sized = λ x. c.sized x.inner;
+        counts_on = λ x y l k h. c.counts_on x.inner y.inner h.marks k h.came;
+        firm_on = λ x y l k h. c.firm_on x.inner y.inner h.marks k h.came;
+        falls = λ x y a more k h.
+            let e = tells_items h.marks (a ∷ more) h.told in
+            subst (λ n. Falls n (r.rank y.inner) (r.rank x.inner)) e.1 (c.falls x.inner y.inner h.marks k e.0 h.came);
+        lowers = λ x y l k h. tells_lower h.marks l (r.rank y.inner) (r.rank x.inner) h.told (c.lowers x.inner y.inner h.marks k h.came);
+      }
+
+  -- it is read as its reader is
+  pub inner_laws : RunLaws reads → RunLaws (λ (x : Bytes R) l (y : Bytes R). reads x.inner l y.inner)
+  inner_laws laws = record { rests = λ x. laws.rests x.inner; follows = λ x y z. laws.follows x.inner y.inner z.inner }
+
+  pub inner_counting : {r : Ranks R} → ReadCounting reads r → ReadCounting (λ (x : Bytes R) l (y : Bytes R). reads x.inner l y.inner) (ranks_of (λ (b : Bytes R). b.inner) r)
+  inner_counting c =
+      record {
+        sized = λ x. c.sized x.inner;
+        counts_on = λ x y. c.counts_on x.inner y.inner;
+        firm_on = λ x y. c.firm_on x.inner y.inner;
+        falls = λ x y. c.falls x.inner y.inner;
+        lowers = λ x y. c.lowers x.inner y.inner;
+      }

@@ -1,0 +1,103 @@
+ghost use Rattle.std.specs.Prelude.{◌≡◌, None};
+ghost use Rattle.lite_base.specs.Ranks.{ranks_of};
+ghost use Rattle.lite_io_base.specs.Laws.Runs.{idle_laws};
+ghost use Rattle.lite_io_base.specs.Runs.{Idle};
+ghost use Rattle.lite_read.specs.Bytes.{HoldsWoken, Tells};
+ghost use Rattle.lite_read.specs.Laws.Bytes.{bytes_counting, bytes_laws, inner_counting, inner_laws};
+
+use lite_base::{Context, Counted, OkCounted, Poll, Stream};
+use lite_io_base::{AsyncRead, CountedRead, Takings, Tale};
+use std::io;
+use std::io::{ErrorKind, IoSliceMut};
+
+/// The bytes of a reader, one by one.
+///
+/// Made by [`bytes`](crate::make::bytes). Each poll is one read of one byte. An error of the reader is an item, after which
+/// it may be polled again; one of the kind `Interrupted` is none, but wakes the context and is pending. It ends where the
+/// reader does. It can be read from as its reader can. Ported from `src/io.rs`, `Bytes`.
+#[derive(Drop)]
+pub struct Bytes<R> {
+    pub(crate) inner: R,
+}
+
+impl<R: AsyncRead> Stream for Bytes<R> {
+    type Item = io::Result<u8>;
+
+    ghost run = { Tells R.reads };
+
+    ghost leaves = { λ x fact. R.leaves x.inner fact × HoldsWoken fact };
+
+    ghost hints = { λ x hint. hint ≡ (0, None) };
+
+    ghost laws = { bytes_laws R.read_laws };
+
+    fn poll_next(&mut self, cx: &mut Context<'_>) -> Poll<Option<io::Result<u8>>> {
+        let mut byte = [0];
+        match self.inner.poll_read(cx, &mut byte) {
+            Poll::Ready(Ok(0)) => Poll::Ready(None),
+            Poll::Ready(Ok(_)) => Poll::Ready(Some(Ok(byte[0]))),
+            Poll::Ready(Err(e)) => match e.kind() {
+                ErrorKind::Interrupted => cx.yield_now(),
+                _ => Poll::Ready(Some(Err(e))),
+            },
+            Poll::Pending => Poll::Pending,
+        }
+    }
+
+    fn size_hint(&self) -> (usize, Option<usize>) {
+        (0, None)
+    }
+}
+
+impl<R: CountedRead> Counted for Bytes<R> {
+    ghost ranks = { ranks_of (λ x. x.inner) R.ranks };
+
+    ghost counting = { bytes_counting R.counting };
+}
+
+impl<R: CountedRead> OkCounted for Bytes<R> {
+    ghost use Rattle.lite_base.specs.OkRanks.{ok_counting};
+
+    type Ok = u8;
+
+    type Err = io::Error;
+
+    ghost ok_ranks = { ranks_of (λ x. x.inner) R.ranks };
+
+    ghost ok_counting = { ok_counting (bytes_counting R.counting) };
+}
+
+impl<R: Tale> Tale for Bytes<R> {
+    ghost reads = { λ x l y. R.reads x.inner l y.inner };
+
+    ghost read_laws = { inner_laws R.read_laws };
+}
+
+// It is not written to.
+impl<R> Takings for Bytes<R> {
+    ghost writes = { Idle };
+
+    ghost write_laws = { idle_laws };
+}
+
+impl<R: AsyncRead> AsyncRead for Bytes<R> {
+    ghost leaves = { λ x. R.leaves x.inner };
+
+    fn poll_read(&mut self, cx: &mut Context<'_>, buf: &mut [u8]) -> Poll<io::Result<usize>> {
+        self.inner.poll_read(cx, buf)
+    }
+
+    fn poll_read_vectored(
+        &mut self,
+        cx: &mut Context<'_>,
+        bufs: &mut [IoSliceMut<'_>],
+    ) -> Poll<io::Result<usize>> {
+        self.inner.poll_read_vectored(cx, bufs)
+    }
+}
+
+impl<R: CountedRead> CountedRead for Bytes<R> {
+    ghost ranks = { ranks_of (λ x. x.inner) R.ranks };
+
+    ghost counting = { inner_counting R.counting };
+}

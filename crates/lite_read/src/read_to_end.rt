@@ -1,0 +1,101 @@
+ghost use Rattle.std.specs.Prelude.{◌≡◌, ◌≤◌, ◌<◌, length, ⊤, OnOk};
+ghost use Rattle.lite_read.specs.Laws.ReadToEnd.{append_laws, some_falls, turns_on};
+ghost use Rattle.lite_read.specs.ReadToEnd.{AppendTurn, CanTurn, ReadsToEnd, front_of};
+
+use lite_base::{Context, Future, Poll, Turns, drive};
+use lite_io_base::CountedRead;
+use std::alloc::{AllocError, Allocator, Global};
+use std::io;
+use std::io::ErrorKind;
+
+/// How many bytes the first read has room for.
+const FIRST_ROOM: usize = 32;
+
+/// The future of reads up to an end, whose bytes are appended to a vector.
+///
+/// Made by [`read_to_end`](crate::make::read_to_end). The value is how many bytes were appended, the reader's error, or an
+/// error of the kind `OutOfMemory` where there was no memory for more; what was read is appended in each case, and when a
+/// poll is pending. Room is made before each read, so that a refusal loses nothing, and is cut off before each answer.
+/// Of the room of a poll each byte is zeroed once: there are 32 at first, and twice as many as the largest read that left
+/// no room. Ported from `src/io.rs`, `ReadToEndFuture`.
+#[derive(Drop)]
+pub struct ReadToEndFuture<'a, R, A: Allocator = Global> {
+    pub(crate) reader: &'a mut R,
+    pub(crate) buf: &'a mut Vec<u8, A>,
+    // How long the vector was.
+    pub(crate) start: usize,
+    // How much of the vector was there or was read. What stands behind it is room.
+    pub(crate) filled: usize,
+    // How much room is made at once, if that is more than the first.
+    pub(crate) room: usize,
+}
+
+impl<R, A: Allocator> ReadToEndFuture<'_, R, A> {
+    // Makes room for a read, if there is none.
+    fn make_room(&mut self) -> Result<(), AllocError>
+        requires { self.old.filled ≤ length self.old.buf.now.items }
+        ensures same { self.new ≡ record self.old { buf = record self.old.buf { now = self.new.buf.now } } }
+        ensures front { front_of self.new ≡ front_of self.old }
+        ensures room { OnOk result (self.new.filled < length self.new.buf.now.items) }
+        ensures within { self.new.filled ≤ length self.new.buf.now.items }
+    {
+        if self.filled < self.buf.len() {
+            return Ok(());
+        }
+        match self.filled.checked_add(self.room.max(FIRST_ROOM)) {
+            Some(len) => self.buf.resize(len, 0),
+            None => Err(AllocError),
+        }
+    }
+}
+
+impl<R: CountedRead, A: Allocator> Turns for ReadToEndFuture<'_, R, A> {
+    type Output = io::Result<usize>;
+
+    ghost can_turn = { CanTurn R.ranks.counts };
+
+    ghost turn = { AppendTurn ⊤ R.reads };
+
+    ghost turn_leaves = { λ x. R.leaves x.reader.now };
+
+    ghost goes_on = { turns_on R.counting };
+
+    ghost finite = { some_falls R.ranks.counts R.ends };
+
+    fn turn_once(&mut self, cx: &mut Context<'_>) -> Option<Poll<io::Result<usize>>> {
+        if self.make_room().is_err() {
+            return Some(Poll::Ready(Err(ErrorKind::OutOfMemory.into())));
+        }
+        match self.reader.poll_read(cx, &mut self.buf[self.filled..]) {
+            Poll::Ready(Ok(0)) => Some(Poll::Ready(Ok(self.filled - self.start))),
+            Poll::Ready(Ok(n)) => {
+                self.filled += n;
+                if self.filled == self.buf.len() {
+                    self.room = self.room.max(n.saturating_mul(2));
+                }
+                None
+            }
+            Poll::Ready(Err(e)) => Some(Poll::Ready(Err(e))),
+            Poll::Pending => Some(Poll::Pending),
+        }
+    }
+}
+
+impl<R: CountedRead, A: Allocator> Future for ReadToEndFuture<'_, R, A> {
+    type Output = io::Result<usize>;
+
+    ghost can_poll = { λ x. (x.start ≤ length x.buf.now.items) × R.ranks.counts x.reader.now };
+
+    ghost run = { ReadsToEnd ⊤ R.reads };
+
+    ghost leaves = { λ x. R.leaves x.reader.now };
+
+    ghost laws = { append_laws ⊤ R.read_laws };
+
+    fn poll(&mut self, cx: &mut Context<'_>) -> Poll<io::Result<usize>> {
+        self.filled = self.buf.len();
+        let answer = drive(self, cx);
+        self.buf.truncate(self.filled);
+        answer
+    }
+}
