@@ -1,0 +1,20 @@
+//! What makes the streams and the futures.
+ghost use Rattle.std.specs.Prelude.{◌≡◌, []};
+
+use crate::split::Split;
+use std::alloc::Global;
+
+/// The stream of the pieces of `reader` between bytes that are `byte`. Its pieces take their memory from `alloc`.
+/// Ported from `src/io.rs`, `AsyncBufReadExt::split`.
+pub fn split<R>(reader: R, alloc: Global, byte: u8) -> Split<R>
+    ensures reader { result.reader ≡ reader }
+    ensures byte { result.byte ≡ byte }
+    ensures empty { result.held.items ≡ [] }
+{
+    Split {
+        reader,
+        byte,
+        held: Vec::new(alloc),
+        alloc,
+    }
+}
