@@ -1,2 +1,3 @@
 mod Cutting
-mod Splitting
+mod Items
+pub mod Texts

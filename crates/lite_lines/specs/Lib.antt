@@ -1,4 +1,7 @@
+pub mod Find
 pub mod Laws
+pub mod Lines
 pub mod Pieces
 pub mod Segments
 pub mod Split
+pub mod Texts

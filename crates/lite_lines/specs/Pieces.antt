@@ -40,3 +40,8 @@ Itemised whole final (Cut.last xs) held (Some r) after = final xs r × (after �
 Itemised whole final Cut.nothing held None after = after ≡ []
 Itemised whole final (Cut.failed e) held (Some r) after = (r ≡ Err e) × (after ≡ held)
 Itemised whole final cut held r after = ⊥
+
+-- the answer at an end, of what is held
+abbrev pub AtEnd : {A : Type 0} → (List ℕ → Result A Error → Type 0) → List ℕ → Option (Result A Error) → Type 0
+AtEnd final held (Some r) = (0 < length held) × final held r
+AtEnd final held None = held ≡ []

@@ -16,11 +16,6 @@ abbrev pub IsVec : List ℕ → Result (Vec ℕ Global) Error → Type 0
 IsVec xs (Ok v) = v.items ≡ xs
 IsVec xs (Err e) = ⊥
 
--- what is held at an end, if it is something
-abbrev pub LastOf : Option (Result (Vec ℕ Global) Error) → List ℕ → Type 0
-LastOf (Some r) held = (0 < length held) × IsVec held r
-LastOf None held = held ≡ []
-
 abbrev pub splitting : Type 0 → ℕ → Gather (List ℕ) (Option (Result (Vec ℕ Global) Error))
 splitting may_refuse byte = pieces byte may_refuse (Itemised IsVec IsVec)
 

@@ -2,7 +2,10 @@
 #![tactic(auto)]
 
 mod find;
+mod lines;
 pub mod make;
 mod split;
+mod text;
 
+pub use lines::Lines;
 pub use split::Split;

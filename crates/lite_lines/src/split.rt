@@ -4,7 +4,8 @@ ghost use Rattle.std.specs.declared.io.ErrorKind.TheVariants.{OutOfMemory};
 ghost use Rattle.lite_base.specs.Ends.{Ends-map};
 ghost use Rattle.lite_io_base.specs.Marks.{bytes};
 ghost use Rattle.lite_lines.specs.Laws.Segments.{flow_laws, given_more};
-ghost use Rattle.lite_lines.specs.Split.{LastOf, SplitTurn, Splits, split_over, splitting};
+ghost use Rattle.lite_lines.specs.Pieces.{AtEnd};
+ghost use Rattle.lite_lines.specs.Split.{IsVec, SplitTurn, Splits, split_over, splitting};
 
 use crate::find::find_byte;
 use lite_base::{Context, Poll, Stream, Turns, drive};
@@ -30,12 +31,9 @@ impl<R: AsyncBufRead> Split<R> {
     // The piece that ends at the delimiter at `at`, which is taken with it.
     fn cut(&mut self, at: usize) -> io::Result<Vec<u8>>
         requires { at < length (R.lent self.old.reader) }
-        ensures ok { IfOk result (λ v. v.items ≡ self.old.held.items ++ take at (R.lent self.old.reader)) }
-        ensures taken { IfOk result (λ v. R.reads self.old.reader (bytes (take (at + 1) (R.lent self.old.reader))) self.new.reader) }
-        ensures empty { IfOk result (λ v. self.new.held.items ≡ []) }
-        ensures refused { IfErr result (λ e. error_kind e ≡ OutOfMemory) }
-        ensures unread { IfErr result (λ e. self.new.reader ≡ self.old.reader) }
-        ensures held { IfErr result (λ e. self.new.held.items ≡ self.old.held.items) }
+        ensures ok { IfOk result (λ v. IsVec (self.old.held.items ++ take at (R.lent self.old.reader)) result
+            × R.reads self.old.reader (bytes (take (at + 1) (R.lent self.old.reader))) self.new.reader × (self.new.held.items ≡ [])) }
+        ensures err { IfErr result (λ e. (error_kind e ≡ OutOfMemory) × (self.new.reader ≡ self.old.reader) × (self.new.held.items ≡ self.old.held.items)) }
         ensures byte { self.new.byte ≡ self.old.byte }
     {
         self.held.reserve_exact(at)?;
@@ -62,7 +60,7 @@ impl<R: AsyncBufRead> Split<R> {
 
     // What is held at an end, if it is something.
     fn last(&mut self) -> Option<io::Result<Vec<u8>>>
-        ensures value { LastOf result self.old.held.items }
+        ensures value { AtEnd IsVec self.old.held.items result }
         ensures empty { self.new.held.items ≡ [] }
         ensures reader { self.new.reader ≡ self.old.reader }
         ensures byte { self.new.byte ≡ self.old.byte }
