@@ -30,7 +30,7 @@ found_at byte shown k first =
     let at : get_or shown k 0 ≡ byte = eqb-true _ _ first.1 in
     (inside, lacks_before byte shown k (omega (arith, inside)) first.0.before, rw add-one (take-suc shown k 0 inside ∙ ap (λ y. take k shown ++ y ∷ []) at))
 
-take_whole : (shown : List ℕ) → take (length shown) shown ≡ shown
+pub take_whole : (shown : List ℕ) → take (length shown) shown ≡ shown
 take_whole [] = refl
 take_whole (x ∷ shown) = ap (λ l. x ∷ l) (take_whole shown)
 

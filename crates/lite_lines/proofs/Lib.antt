@@ -1,3 +1,4 @@
 mod Cutting
 mod Items
 pub mod Texts
+mod Until

@@ -1,5 +1,5 @@
 //! Fills that look at what is there, and lend nothing.
-ghost use Rattle.std.specs.Prelude.{◌≡◌, IfOk};
+ghost use Rattle.std.specs.Prelude.{◌≡◌, ◌+◌, ◌<◌, ◌^◌, IfOk, IfSome};
 ghost use Rattle.std.specs.Char.{is_ascii};
 ghost use Rattle.std.specs.List.{list_all};
 ghost use Rattle.futures.specs.Poll.{IfReady, OnPending};
@@ -22,6 +22,7 @@ pub(crate) fn find_byte<R: AsyncBufRead>(
 ) -> Poll<io::Result<Option<usize>>>
     ensures ran { R.reads reader.old (fill_marks result (R.lent reader.new)) reader.new }
     ensures found { IfReady result (λ r. IfOk r (λ at. IsFirstByte (is_byte byte) (R.lent reader.new) at)) }
+    ensures fits { IfReady result (λ r. IfOk r (λ at. IfSome at (λ k. k + 1 < 2 ^ 64))) }
     ensures left { OnPending result ((fact : Lasting) → R.leaves reader.new fact → Holds cx.new fact) }
     ensures kept { Keeps cx.old cx.new }
 {

@@ -1,7 +1,8 @@
 //! What makes the streams and the futures.
-ghost use Rattle.std.specs.Prelude.{◌≡◌, []};
+ghost use Rattle.std.specs.Prelude.{◌≡◌, [], length};
 
 use crate::lines::Lines;
+use crate::read_until::ReadUntilFuture;
 use crate::split::Split;
 use crate::text::LineBytes;
 use std::alloc::Global;
@@ -31,5 +32,23 @@ pub fn lines<R>(reader: R, alloc: Global) -> Lines<R>
         reader,
         held: LineBytes::new(alloc),
         alloc,
+    }
+}
+
+/// The future of reads of `reader` that are appended to `buf`, up to a byte that is `byte`. Ported from `src/io.rs`,
+/// `AsyncBufReadExt::read_until`.
+pub fn read_until<'a, R>(
+    reader: &'a mut R,
+    byte: u8,
+    buf: &'a mut Vec<u8>,
+) -> ReadUntilFuture<'a, R>
+    ensures { result ≡ record { reader = reader.entry; byte = byte; buf = buf.entry; start = length buf.old.items } }
+{
+    let start = buf.len();
+    ReadUntilFuture {
+        reader,
+        byte,
+        buf,
+        start,
     }
 }
