@@ -1,0 +1,4 @@
+mod Cutting
+mod Items
+pub mod Texts
+mod Until

@@ -1,0 +1,76 @@
+-- Laws of `read_until`.
+use Rattle.std.specs.Prelude.{⊤}
+use Rattle.std.proofs.Common.{◌≡◌, ◌∙◌, ◌≤◌, List, [], ◌∷◌, ◌++◌, length, take, Some, Result, ℕ, refl, ap, subst, arith}
+use Rattle.std.specs.declared.io.Error.{Error}
+use denote.MutBor.{MutBor}
+use Rattle.futures.specs.declared.task.Poll.{Poll}
+use Rattle.lite_base.specs.Answers.{Waiting}
+use Rattle.lite_base.specs.Chain.{Goes, Goes-back, Next}
+use Rattle.lite_base.specs.FutureLaws.{FutureLaws}
+use Rattle.lite_io_base.specs.Marks.{Mark}
+use Rattle.lite_io_base.specs.Runs.{RunLaws, Runs}
+use Rattle.lite_read.specs.Gathering.{Gathered}
+use Rattle.lite_read.specs.Laws.Gathering.{gathered_before, gathered_follow, gathered_none, gathers_once}
+use Rattle.lite_lines.specs.ReadUntil.{AppendsMore, ReadsUntil, Stays, UntilTurn, read_of, until}
+use Rattle.lite_lines.specs.declared.read_until.ReadUntilFuture.{ReadUntilFuture}
+
+still : {S : Type 0} (x y z : MutBor S) → y ≡ record x { now = y.now } → z ≡ record y { now = z.now } → z ≡ record x { now = z.now }
+still {S} x y z e d = d ∙ ap (λ (r : MutBor S). record r { now = z.now }) e
+
+module _ {R : Type 0} where
+  stays_none : (x : ReadUntilFuture R) → Stays x x
+  stays_none x = record { reader = refl; buf = refl; byte = refl; start = refl; before = refl; grows = omega arith }
+
+  -- what was there at first is there still
+  pub stays_within : (x y : ReadUntilFuture R) → Stays x y → x.start ≤ length x.buf.now.items → y.start ≤ length y.buf.now.items
+  stays_within x y h within = omega (arith, h.start, h.grows, within)
+
+  stays_join : (x y z : ReadUntilFuture R) → Stays x y → Stays y z → Stays x z
+  stays_join x y z h k =
+      record {
+        reader = still x.reader y.reader z.reader h.reader k.reader;
+        buf = still x.buf y.buf z.buf h.buf k.buf;
+        byte = k.byte ∙ h.byte;
+        start = k.start ∙ h.start;
+        before = subst (λ n. take n z.buf.now.items ≡ take n y.buf.now.items) h.start k.before ∙ h.before;
+        grows = omega (arith, h.grows, k.grows);
+      }
+
+  module _ {reads : Runs Mark R} (laws : RunLaws reads) where
+    idle_join : (x y z : ReadUntilFuture R) (l m : List (Poll (Result ℕ Error))) → (l ≡ [] → y ≡ x) → (m ≡ [] → z ≡ y) → l ++ m ≡ [] → z ≡ x
+    idle_join x y z [] m h k e = k e ∙ h refl
+    idle_join x y z (a ∷ l) m h k e = absurd (cc e)
+
+    follows : (x y z : ReadUntilFuture R) (l m : List (Poll (Result ℕ Error))) → Waiting l → ReadsUntil reads ⊤ x l y
+        → ReadsUntil reads ⊤ y m z → ReadsUntil reads ⊤ x (l ++ m) z
+    follows x y z l m w h k =
+        let next = subst (λ b. Gathered (until b ⊤) reads y.reader.now (read_of y) m z.reader.now (read_of z)) h.stays.byte k.gathered in
+        record {
+          gathered = gathered_follow (until x.byte ⊤) laws x.reader.now y.reader.now z.reader.now (read_of x) (read_of y) (read_of z) l m w h.gathered next;
+          stays = stays_join x y z h.stays k.stays;
+          idle = idle_join x y z l m h.idle k.idle;
+        }
+
+    pub until_laws : FutureLaws (ReadsUntil reads ⊤)
+    until_laws =
+        record {
+          rests = λ x. record { gathered = gathered_none (until x.byte ⊤) laws x.reader.now (read_of x); stays = stays_none x; idle = λ e. refl };
+          stays = λ x y h. h.idle refl;
+          follows = follows;
+          once = λ x y l h. gathers_once (until x.byte ⊤) (read_of x) (read_of y) h.gathered.marks l h.gathered.gathered;
+        }
+
+    -- a turn before others
+    turn_before : (x y z : ReadUntilFuture R) (a : Poll (Result ℕ Error)) → AppendsMore reads ⊤ x y → ReadsUntil reads ⊤ y (a ∷ []) z → ReadsUntil reads ⊤ x (a ∷ []) z
+    turn_before x y z a t h =
+        let next = subst (λ b. Gathered (until b ⊤) reads y.reader.now (read_of y) (a ∷ []) z.reader.now (read_of z)) t.stays.byte h.gathered in
+        record {
+          gathered = gathered_before (until x.byte ⊤) laws x.reader.now y.reader.now z.reader.now (read_of x) (read_of y) (read_of z) t.taken a t.came t.folds next;
+          stays = stays_join x y z t.stays h.stays;
+          idle = λ e. absurd (cc e);
+        }
+
+    -- the turns of a poll
+    pub until_answer : (x y z : ReadUntilFuture R) (a : Poll (Result ℕ Error)) → Goes (Next (UntilTurn reads ⊤)) x y
+        → UntilTurn reads ⊤ y (Some a) z → ReadsUntil reads ⊤ x (a ∷ []) z
+    until_answer x y z a goes last = Goes-back (λ v. ReadsUntil reads ⊤ v (a ∷ []) z) (λ v w t h. turn_before v w z a t h) x y goes last

@@ -1,0 +1,123 @@
+-- Laws of streams over what a reader tells.
+use Rattle.std.proofs.Common.{◌≡◌, ◌∙◌, ◌<◌, ◌≤◌, ℕ, List, [], ◌∷◌, ◌++◌, length, Option, Some, None, refl, ap, sym, subst, arith, append_assoc}
+use Rattle.std.proofs.lemmas.List.{map-append}
+use Rattle.std.specs.Prelude.{IfSome}
+use Rattle.std.specs.List.{FoldsTo}
+use Rattle.futures.specs.declared.task.Poll.{Poll}
+use Rattle.futures.specs.declared.task.Poll.TheVariants.{Ready, Pending}
+use Rattle.lite_base.specs.Answers.{before_end}
+use Rattle.lite_base.specs.Chain.{Goes, Goes-back, Next}
+use Rattle.lite_base.specs.StreamLaws.{StreamLaws}
+use Rattle.lite_io_base.specs.Laws.Falls.{GivenRun}
+use Rattle.lite_io_base.specs.Laws.Marks.{bytes_given}
+use Rattle.lite_io_base.specs.Marks.{Mark, bytes}
+use Rattle.lite_io_base.specs.Runs.{RunLaws, Runs}
+use Rattle.lite_read.specs.Gathering.{Gather}
+use Rattle.lite_read.specs.Laws.Gathering.{folds_join}
+use Rattle.lite_lines.specs.Segments.{Answers, FlowTurn, Flows, Over, Segmented, Segments, TakesIn}
+
+unbounded : (hint : ℕ × Option ℕ) (n : ℕ) → hint ≡ (0, None) → IfSome hint.1 (λ most. n ≤ most)
+unbounded hint n e = subst (λ (v : ℕ × Option ℕ). IfSome v.1 (λ most. n ≤ most)) (sym e) tt
+
+-- a run of some bytes
+pub given_more : {S : Type 0} (reads : Runs Mark S) (x y : S) (taken : List ℕ) → 0 < length taken → reads x (bytes taken) y → GivenRun reads x y
+given_more reads x y [] some came = absurd (omega (arith, some))
+given_more reads x y (b ∷ taken) some came = (Mark.byte b, bytes taken, bytes_given (b ∷ taken), came)
+
+module _ {M R : Type 0} (gather : Gather M R) where
+  segments_join : (p q r : M) (i j : List Mark) (l m : List (Poll R)) → Segments gather p i l q → Segments gather q j m r
+      → Segments gather p (i ++ j) (l ++ m) r
+  segments_join p q r i j [] m h k = rw (h.0, sym h.1) k
+  segments_join p q r i j (a ∷ l) m h k =
+      (h.0, h.1 ++ j, h.2, ap (λ v. v ++ j) h.3 ∙ append_assoc h.0 h.1 j, h.4, segments_join h.2 q r h.1 j l m h.5 k)
+
+  -- bytes that are taken in before an answer
+  answer_before : (p m q : M) (xs : List ℕ) (i : List Mark) (a : Poll R) → FoldsTo gather.takes p xs m → Answers gather m i a q
+      → Answers gather p (bytes xs ++ i) a q
+  answer_before p m q xs i Pending f h =
+      let cut = ap (λ v. bytes xs ++ v) h.cut ∙ sym (append_assoc (bytes xs) (bytes h.taken) _)
+      ∙ ap (λ v. v ++ Mark.pending ∷ []) (sym (map-append Mark.byte xs h.taken)) in
+      record { taken = xs ++ h.taken; cut = cut; folds = folds_join gather.takes p m q xs h.taken f h.folds; asks = h.asks }
+  answer_before p m q xs i (Ready r) f h =
+      let cut = ap (λ v. bytes xs ++ v) h.cut ∙ sym (append_assoc (bytes xs) (bytes h.taken) _)
+      ∙ ap (λ v. v ++ h.last) (sym (map-append Mark.byte xs h.taken)) in
+      record {
+        taken = xs ++ h.taken;
+        last = h.last;
+        cut = cut;
+        between = h.between;
+        folds = folds_join gather.takes p m h.between xs h.taken f h.folds;
+        gives = h.gives;
+      }
+
+  module _ {S : Type 0} {reads : Runs Mark S} (laws : RunLaws reads) where
+    segmented_none : (s : S) (p : M) → Segmented gather reads s p [] s p
+    segmented_none s p = record { marks = []; came = laws.rests s; cut = (refl, refl) }
+
+    segmented_follow : (s t u : S) (p q r : M) (l m : List (Poll R)) → Segmented gather reads s p l t q → Segmented gather reads t q m u r
+        → Segmented gather reads s p (l ++ m) u r
+    segmented_follow s t u p q r l m h k =
+        record { marks = h.marks ++ k.marks; came = laws.follows s t u h.marks k.marks h.came k.came; cut = segments_join p q r h.marks k.marks l m h.cut k.cut }
+
+    segmented_before : (s t u : S) (p m q : M) (xs : List ℕ) (a : Poll R) → reads s (bytes xs) t → FoldsTo gather.takes p xs m
+        → Segmented gather reads t m (a ∷ []) u q → Segmented gather reads s p (a ∷ []) u q
+    segmented_before s t u p m q xs a came f h =
+        let c = h.cut in
+        record {
+          marks = bytes xs ++ h.marks;
+          came = laws.follows s t u (bytes xs) h.marks came h.came;
+          cut = (
+            bytes xs ++ c.0,
+            c.1,
+            c.2,
+            ap (λ v. bytes xs ++ v) c.3 ∙ sym (append_assoc (bytes xs) c.0 c.1),
+            answer_before p m c.2 xs c.0 a f c.4,
+            c.5,
+          );
+        }
+
+module _ {X S M K R : Type 0} (over : Over X S M K) (gather : K → Gather M R) {reads : Runs Mark S} (laws : RunLaws reads) where
+  idle_join : (x y z : X) (l m : List (Poll R)) → (l ≡ [] → y ≡ x) → (m ≡ [] → z ≡ y) → l ++ m ≡ [] → z ≡ x
+  idle_join x y z [] m h k e = k e ∙ h refl
+  idle_join x y z (a ∷ l) m h k e = absurd (cc e)
+
+  flows_follow : (x y z : X) (l m : List (Poll R)) → Flows over gather reads x l y → Flows over gather reads y m z
+      → Flows over gather reads x (l ++ m) z
+  flows_follow x y z l m h k =
+      let next = subst (λ v. Segmented (gather v) reads (over.reader y) (over.held y) m (over.reader z) (over.held z)) h.stays k.segmented in
+      record {
+        segmented = segmented_follow (gather (over.kept x)) laws _ _ _ _ _ _ l m h.segmented next;
+        stays = k.stays ∙ h.stays;
+        idle = idle_join x y z l m h.idle k.idle;
+      }
+
+  -- a turn before others
+  turn_before : (x y z : X) (a : Poll R) → TakesIn over gather reads x y → Flows over gather reads y (a ∷ []) z → Flows over gather reads x (a ∷ []) z
+  turn_before x y z a t h =
+      let next = subst (λ v. Segmented (gather v) reads (over.reader y) (over.held y) (a ∷ []) (over.reader z) (over.held z)) t.stays h.segmented in
+      record {
+        segmented = segmented_before (gather (over.kept x)) laws _ _ _ _ _ _ t.taken a t.came t.folds next;
+        stays = h.stays ∙ t.stays;
+        idle = λ e. absurd (cc e);
+      }
+
+  -- the turns of a poll
+  pub flow_answer : (x y z : X) (a : Poll R) → Goes (Next (FlowTurn over gather reads)) x y → FlowTurn over gather reads y (Some a) z
+      → Flows over gather reads x (a ∷ []) z
+  flow_answer x y z a goes last = Goes-back (λ v. Flows over gather reads v (a ∷ []) z) (λ v w t h. turn_before v w z a t h) x y goes last
+
+module _ {X S M K A : Type 0} (over : Over X S M K) (gather : K → Gather M (Option A)) {reads : Runs Mark S} (laws : RunLaws reads) where
+  -- a stream whose hint is no bound
+  pub flow_laws : StreamLaws (Flows over gather reads) (λ x hint. hint ≡ (0, None))
+  flow_laws =
+      record {
+        rests = λ x. record { segmented = segmented_none (gather (over.kept x)) laws (over.reader x) (over.held x); stays = refl; idle = λ e. refl };
+        stays = λ x y h. h.idle refl;
+        follows = flows_follow over gather laws;
+        bounded = λ x y hint l allowed h. unbounded hint (before_end l) allowed;
+      }
+
+  -- what holds of a reader through its runs holds after a run of the stream
+  pub flow_keeps : (P : S → Type 0) → ((s t : S) (l : List Mark) → P s → reads s l t → P t) → (x y : X) (l : List (Poll (Option A))) → P (over.reader x)
+      → Flows over gather reads x l y → P (over.reader y)
+  flow_keeps P keeps x y l p h = keeps (over.reader x) (over.reader y) h.segmented.marks p h.segmented.came

@@ -1,0 +1,27 @@
+//! What is lent goes to the end of a vector.
+ghost use Rattle.std.specs.Prelude.{◌≡◌, ◌≤◌, ◌++◌, length, take, IfErr, IfOk};
+ghost use Rattle.std.specs.IoError.{error_kind};
+ghost use Rattle.std.specs.declared.io.ErrorKind.TheVariants.{OutOfMemory};
+ghost use Rattle.lite_io_base.specs.Marks.{bytes};
+
+use lite_io_base::AsyncBufRead;
+use std::io;
+
+/// Appends the first `amount` bytes that `reader` lends, and takes them. `Err` says that memory was refused; nothing
+/// changes then.
+pub(crate) fn append<R: AsyncBufRead>(
+    reader: &mut R,
+    amount: usize,
+    buf: &mut Vec<u8>,
+) -> io::Result<()>
+    requires { amount ≤ length (R.lent reader.old) }
+    ensures ok { IfOk result (λ u. buf.new.items ≡ buf.old.items ++ take amount (R.lent reader.old)) }
+    ensures taken { IfOk result (λ u. R.reads reader.old (bytes (take amount (R.lent reader.old))) reader.new) }
+    ensures refused { IfErr result (λ e. error_kind e ≡ OutOfMemory) }
+    ensures unread { IfErr result (λ e. reader.new ≡ reader.old) }
+    ensures held { IfErr result (λ e. buf.new.items ≡ buf.old.items) }
+{
+    buf.extend_from_slice(&reader.buffer()[..amount])?;
+    reader.consume(amount);
+    Ok(())
+}

@@ -1,0 +1,14 @@
+//! What cuts the bytes of a reader into pieces and lines.
+#![tactic(auto)]
+
+mod append;
+mod find;
+mod lines;
+pub mod make;
+mod read_until;
+mod split;
+mod text;
+
+pub use lines::Lines;
+pub use read_until::ReadUntilFuture;
+pub use split::Split;
