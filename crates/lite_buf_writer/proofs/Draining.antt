@@ -1,10 +1,9 @@
 -- What a flush of the buffer does.
-use Rattle.std.proofs.Common.{◌≡◌, ◌∙◌, ℕ, ◌+◌, ◌-◌, ◌≤◌, ◌<◌, List, [], ◌∷◌, ◌++◌, length, take, drop, slice_range, inl, inr, refl, sym, ap, subst, arith, take-append-drop, drop-drop, length-drop, length-take-le}
+use Rattle.std.proofs.Common.{◌≡◌, ◌∙◌, ℕ, ◌+◌, ◌-◌, ◌≤◌, ◌<◌, List, [], ◌∷◌, ◌++◌, length, take, drop, slice_range, refl, sym, ap, subst, arith, take-append-drop, drop-drop, length-drop, length-take-le}
 use Rattle.std.proofs.lemmas.List.{drop-take, drop-append-le, length-take}
 use Rattle.std.specs.declared.io.ErrorKind.{ErrorKind}
-use Rattle.std.specs.declared.io.ErrorKind.TheVariants.{Interrupted, WriteZero}
-use Rattle.std.specs.Prelude.{Result, Ok, Err}
-use Rattle.futures.specs.declared.task.Poll.{Poll}
+use Rattle.std.specs.declared.io.ErrorKind.TheVariants.{Interrupted}
+use Rattle.std.specs.Prelude.{Ok, Err}
 use Rattle.futures.specs.declared.task.Poll.TheVariants.{Ready, Pending}
 use Rattle.lite_io_base.specs.Runs.{RunLaws, Runs}
 use Rattle.lite_io_base.specs.Takings.{Taking}
@@ -32,7 +31,7 @@ range_split xs i j n within =
     sym (ap (λ k. drop n (take k (drop i xs))) len ∙ drop-take n (j - (i + n)) (drop i xs) ∙ ap (take (j - (i + n))) (drop-drop n i xs)) in
     sym (take-append-drop n (slice_range xs i j)) ∙ ap (λ ws. take n (slice_range xs i j) ++ ws) (sym next)
 
-range_none : (xs : List ℕ) (i j : ℕ) → j ≤ i → slice_range xs i j ≡ []
+pub range_none : (xs : List ℕ) (i j : ℕ) → j ≤ i → slice_range xs i j ≡ []
 range_none xs i j e = let nothing : j - i ≡ 0 = omega arith in rw nothing refl
 
 length-range : (xs : List ℕ) (i j : ℕ) → i ≤ j → j ≤ length xs → length (slice_range xs i j) ≡ j - i

@@ -1,5 +1,5 @@
 -- What passes through a `BufWriter`.
-use Rattle.std.specs.Prelude.{◌≡◌, ◌<◌, ◌⊎◌, ◌+◌, ℕ, List, [], ◌∷◌, ◌++◌, length, take, slice_range, flat_map, Result, Ok, Err}
+use Rattle.std.specs.Prelude.{◌≡◌, ◌<◌, ◌≤◌, ◌⊎◌, ◌+◌, ℕ, List, [], ◌∷◌, ◌++◌, length, take, slice_range, flat_map, Result, Ok, Err}
 use Rattle.std.specs.declared.io.ErrorKind.{ErrorKind}
 use Rattle.std.specs.declared.io.ErrorKind.TheVariants.{Interrupted, WriteZero}
 use Rattle.std.specs.declared.io.traits.SeekFrom.{SeekFrom}
@@ -104,6 +104,18 @@ pub record FlushesBuffer {W : Type 0} (writes : Runs Taking W) (x : BufWriter W)
   pub ran : writes x.inner taken y.inner
   pub capacity : capacity_of y ≡ capacity_of x
   pub empties : Empties (held x) taken r (held y)
+
+-- the buffer is flushed, or has room for so many more bytes
+abbrev pub MakesRoom : {W : Type 0} → Runs Taking W → BufWriter W → ℕ → Poll (Result (Unit {0}) ErrorKind) → BufWriter W → Type 0
+MakesRoom writes x count r y = FlushesBuffer writes x r y ⊎ ((y ≡ x) × (r ≡ Ready (Ok tt)) × (length (buffered x) + count ≤ capacity_of x))
+
+-- these bytes fit into the buffer, and are fewer than would pass it
+abbrev pub HasRoom : {W : Type 0} → BufWriter W → List ℕ → Type 0
+HasRoom w xs = (length (buffered w) + length xs ≤ capacity_of w) × (length xs < capacity_of w)
+
+-- all of these bytes are put behind what is buffered, and the inner writer is left alone
+abbrev pub HoldsAll : {E W : Type 0} → BufWriter W → List ℕ → Poll (Result ℕ E) → BufWriter W → Type 0
+HoldsAll x xs r y = (r ≡ Ready (Ok (length xs))) × (inner_of y ≡ inner_of x) × (buffered y ≡ buffered x ++ xs)
 
 -- A seek takes all that was held to the inner writer before it seeks there.
 pub record SeeksAfter {W : Type 0} (writes : Runs Taking W) (seeks : W → SeekFrom → Poll (Result ℕ ErrorKind) → W → Type 0) (x : BufWriter W) (to : SeekFrom) (r : Poll (Result ℕ ErrorKind)) (y : BufWriter W) : Type 0 where

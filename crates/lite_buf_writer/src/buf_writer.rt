@@ -135,7 +135,7 @@ impl<W: Takings> Takings for BufWriter<W> {
 }
 
 impl<W: AsyncWrite> BufWriter<W> {
-    ghost use Rattle.lite_buf_writer.specs.BufWriter.{FlushesBuffer, ShownAfter, buffered, capacity_of, held, inner_of};
+    ghost use Rattle.lite_buf_writer.specs.BufWriter.{FlushesBuffer, MakesRoom, ShownAfter, buffered, capacity_of, held, inner_of};
 
     // Writes what is held to the inner writer. A pending moves no byte; an error drops what was taken.
     fn flush_buf(&mut self, cx: &mut Context<'_>) -> Poll<io::Result<()>>
@@ -182,5 +182,74 @@ impl<W: AsyncWrite> BufWriter<W> {
         ensures kept { Keeps cx.old cx.new }
     {
         self.inner.poll_write(cx, &self.buf[self.written..self.len])
+    }
+
+    // Flushes the buffer if it has no room for `count` more bytes.
+    fn make_room(&mut self, cx: &mut Context<'_>, count: usize) -> Poll<io::Result<()>>
+        ensures ran { MakesRoom W.writes self.old count (by_kind result) self.new }
+        ensures room { IfReady result (λ r. IfOk r (λ _. count < capacity_of self.new → length (buffered self.new) + count ≤ capacity_of self.new)) }
+        ensures idle { length (buffered self.old) + count ≤ capacity_of self.old → (self.new ≡ self.old) × (result ≡ Poll.Ready (Ok tt)) }
+        ensures left { OnPending result ((fact : Lasting) → W.write_leaves (inner_of self.new) fact → Holds cx.new fact) }
+        ensures kept { Keeps cx.old cx.new }
+    {
+        if count <= self.buf.len() - self.len {
+            return Poll::Ready(Ok(()));
+        }
+        self.flush_buf(cx)
+    }
+}
+
+impl<W: AsyncWrite> AsyncWrite for BufWriter<W> {
+    ghost use Rattle.lite_buf_writer.specs.BufWriter.{Buffers, HasRoom, HoldsAll, ShownAfter, inner_of};
+
+    ghost write_leaves = { λ w. W.write_leaves (inner_of w) };
+
+    /// Holds the bytes of `buf`, or offers them to the inner writer where there are as many as the capacity. Where the
+    /// buffer has no room for them behind what is there, it is flushed first; while that is pending, and where it fails,
+    /// none of `buf` is taken.
+    fn poll_write(&mut self, cx: &mut Context<'_>, buf: &[u8]) -> Poll<io::Result<usize>>
+        ensures bound { IfReady result (λ r. IfOk r (λ n. n ≤ length buf.now)) }
+        ensures ran { Buffers W.writes self.old (write_marks result buf.now) self.new }
+        ensures left { OnPending result ((fact : Lasting) → W.write_leaves (inner_of self.new) fact → Holds cx.new fact) }
+        ensures kept { Keeps cx.old cx.new }
+
+        // What there is room for is held, and the inner writer is left alone.
+        ensures holds { HasRoom self.old buf.now → HoldsAll self.old buf.now result self.new }
+    {
+        match ready!(self.make_room(cx, buf.len())) {
+            Ok(()) => {}
+            Err(e) => return Poll::Ready(Err(e)),
+        }
+        if buf.len() >= self.buf.len() {
+            return self.inner.poll_write(cx, buf);
+        }
+        self.hold(buf);
+        Poll::Ready(Ok(buf.len()))
+    }
+
+    /// Writes what is held to the inner writer, and then flushes that.
+    fn poll_flush(&mut self, cx: &mut Context<'_>) -> Poll<io::Result<()>>
+        ensures ran { Buffers W.writes self.old (done_marks flushed result) self.new }
+        ensures shown { ShownAfter result self.old self.new }
+        ensures left { OnPending result ((fact : Lasting) → W.write_leaves (inner_of self.new) fact → Holds cx.new fact) }
+        ensures kept { Keeps cx.old cx.new }
+    {
+        match ready!(self.flush_buf(cx)) {
+            Ok(()) => self.inner.poll_flush(cx),
+            Err(e) => Poll::Ready(Err(e)),
+        }
+    }
+
+    /// Writes what is held to the inner writer, and then closes that.
+    fn poll_close(&mut self, cx: &mut Context<'_>) -> Poll<io::Result<()>>
+        ensures ran { Buffers W.writes self.old (done_marks closed result) self.new }
+        ensures shown { ShownAfter result self.old self.new }
+        ensures left { OnPending result ((fact : Lasting) → W.write_leaves (inner_of self.new) fact → Holds cx.new fact) }
+        ensures kept { Keeps cx.old cx.new }
+    {
+        match ready!(self.flush_buf(cx)) {
+            Ok(()) => self.inner.poll_close(cx),
+            Err(e) => Poll::Ready(Err(e)),
+        }
     }
 }

@@ -1,4 +1,4 @@
-use Rattle.std.proofs.Common.{rules, arith}
+use Rattle.std.proofs.Common.{arith}
 use Rattle.std.proofs.lemmas.Grind.{common_steps}
 use Rattle.lite_buf_writer.proofs.Draining.{range_more}
 use Rattle.lite_buf_writer.proofs.buf_writer.BufWriter.hold.Goals as goal
