@@ -253,3 +253,25 @@ impl<W: AsyncWrite> AsyncWrite for BufWriter<W> {
         }
     }
 }
+
+impl<W: AsyncWrite + AsyncSeek> AsyncSeek for BufWriter<W> {
+    ghost use Rattle.lite_buf_writer.specs.BufWriter.{SeekLeaves, SeeksAfter, ShownAfter};
+
+    ghost seeks = { SeeksAfter W.writes W.seeks };
+
+    ghost seek_leaves = { SeekLeaves W.write_leaves W.seek_leaves };
+
+    /// Writes what is held to the inner writer, and then seeks that. While the former is pending, and where it fails,
+    /// there is no seek.
+    fn poll_seek(&mut self, cx: &mut Context<'_>, pos: SeekFrom) -> Poll<io::Result<u64>>
+        ensures sought { SeeksAfter W.writes W.seeks self.old pos (by_kind result) self.new }
+        ensures shown { ShownAfter result self.old self.new }
+        ensures left { OnPending result ((fact : Lasting) → SeekLeaves W.write_leaves W.seek_leaves self.new fact → Holds cx.new fact) }
+        ensures kept { Keeps cx.old cx.new }
+    {
+        match ready!(self.flush_buf(cx)) {
+            Ok(()) => self.inner.poll_seek(cx, pos),
+            Err(e) => Poll::Ready(Err(e)),
+        }
+    }
+}

@@ -27,7 +27,7 @@ answers_balance n left after last (Taking.fault kind) (inr f, h) = rw (f.0, h) (
 answers_balance n left after last Taking.flushed h = rw (h.0, h.1, h.2) refl
 answers_balance n left after last Taking.closed h = rw (h.0, h.1, h.2) refl
 
-segment_balance : (before after : List ℕ) (taken : List Taking) (told : Taking) → Segment before taken told after → before ++ bytes_in told ≡ bytes_of taken ++ after
+pub segment_balance : (before after : List ℕ) (taken : List Taking) (told : Taking) → Segment before taken told after → before ++ bytes_in told ≡ bytes_of taken ++ after
 segment_balance before after taken told s =
     ap (λ l. l ++ bytes_in told) (drains_balance before s.left s.drained s.interruptions s.drains)
     ∙ append_assoc (bytes_of s.drained) s.left (bytes_in told)
