@@ -40,8 +40,10 @@ Balanced before out taken after = before ++ bytes_of out ≡ bytes_of taken ++ a
 -- number is how many came last.
 pub data Drains (held : List ℕ) : List Taking → List ℕ → ℕ → Type 0 where
   none : Drains held [] held 0
-  some : (ms : List Taking) (xs rest : List ℕ) (n : ℕ) → Drains held ms (xs ++ rest) n → 0 < length xs → Drains held (ms ++ Taking.wrote xs ∷ []) rest 0
-  interrupted : (ms : List Taking) (rest : List ℕ) (n : ℕ) → Drains held ms rest n → 0 < length rest → n < 16 → Drains held (ms ++ Taking.fault Interrupted ∷ []) rest (n + 1)
+  some : (ms : List Taking) (xs rest : List ℕ) (n : ℕ) → Drains held ms (xs ++ rest) n → 0 < length xs
+      → Drains held (ms ++ Taking.wrote xs ∷ []) rest 0
+  interrupted : (ms : List Taking) (rest : List ℕ) (n : ℕ) → Drains held ms rest n → 0 < length rest → n < 16
+      → Drains held (ms ++ Taking.fault Interrupted ∷ []) rest (n + 1)
 
 -- The inner writer's error, or that it took none of what is left. An interruption is handed on only where nothing is
 -- left, or where 16 came before it.
@@ -53,7 +55,8 @@ IsFault n left last kind =
 -- An answer, after n interruptions, with `left` not yet taken: the inner writer's last mark, if there is one, the mark of
 -- the answer, and what is held then. Flush, close and bytes that pass the buffer come only where nothing is left.
 abbrev pub Answers : ℕ → List ℕ → List Taking → Taking → List ℕ → Type 0
-Answers n left last (Taking.wrote xs) after = ((last ≡ []) × (after ≡ left ++ xs)) ⊎ ((last ≡ Taking.wrote xs ∷ []) × (left ≡ []) × (after ≡ []))
+Answers n left last (Taking.wrote xs) after =
+    ((last ≡ []) × (after ≡ left ++ xs)) ⊎ ((last ≡ Taking.wrote xs ∷ []) × (left ≡ []) × (after ≡ []))
 Answers n left last Taking.pending after = (last ≡ Taking.pending ∷ []) × (after ≡ left)
 Answers n left last (Taking.fault kind) after = IsFault n left last kind × (after ≡ left)
 Answers n left last Taking.flushed after = (last ≡ Taking.flushed ∷ []) × (left ≡ []) × (after ≡ [])
@@ -73,7 +76,8 @@ pub record Segment (before : List ℕ) (taken : List Taking) (told : Taking) (af
 abbrev pub Segments : List ℕ → List Taking → List Taking → List ℕ → Type 0
 Segments before taken [] after = (taken ≡ []) × (after ≡ before)
 Segments before taken (told ∷ out) after =
-    (front : List Taking) × (rest : List Taking) × (between : List ℕ) × (taken ≡ front ++ rest) × Segment before front told between × Segments between rest out after
+    (front : List Taking) × (rest : List Taking) × (between : List ℕ) × (taken ≡ front ++ rest)
+    × Segment before front told between × Segments between rest out after
 
 -- the inner writer ran, and no byte was lost
 pub record Buffers {W : Type 0} (writes : Runs Taking W) (x : BufWriter W) (out : List Taking) (y : BufWriter W) : Type 0 where
@@ -93,12 +97,13 @@ Stops before taken (Ready (Ok a)) after = ⊥
 Stops before taken (Ready (Err kind)) after = Segment before taken (Taking.fault kind) after × (0 < length after)
 Stops before taken Pending after = Segment before taken Taking.pending after × (0 < length after)
 
--- a flush of the buffer
+-- a flush of the buffer, by the inner writer's marks
 abbrev pub Empties : List ℕ → List Taking → Poll (Result (Unit {0}) ErrorKind) → List ℕ → Type 0
 Empties before taken (Ready (Ok u)) after = TakesAll before taken after
 Empties before taken (Ready (Err kind)) after = Stops {A = Unit {0}} before taken (Ready (Err kind)) after
 Empties before taken Pending after = Stops {A = Unit {0}} before taken Pending after
 
+-- the inner writer ran for a flush of the buffer
 pub record FlushesBuffer {W : Type 0} (writes : Runs Taking W) (x : BufWriter W) (r : Poll (Result (Unit {0}) ErrorKind)) (y : BufWriter W) : Type 0 where
   pub taken : List Taking
   pub ran : writes x.inner taken y.inner
@@ -118,7 +123,8 @@ abbrev pub HoldsAll : {E W : Type 0} → BufWriter W → List ℕ → Poll (Resu
 HoldsAll x xs r y = (r ≡ Ready (Ok (length xs))) × (inner_of y ≡ inner_of x) × (buffered y ≡ buffered x ++ xs)
 
 -- A seek takes all that was held to the inner writer before it seeks there.
-pub record SeeksAfter {W : Type 0} (writes : Runs Taking W) (seeks : W → SeekFrom → Poll (Result ℕ ErrorKind) → W → Type 0) (x : BufWriter W) (to : SeekFrom) (r : Poll (Result ℕ ErrorKind)) (y : BufWriter W) : Type 0 where
+pub record SeeksAfter {W : Type 0} (writes : Runs Taking W) (seeks : W → SeekFrom → Poll (Result ℕ ErrorKind) → W → Type 0)
+    (x : BufWriter W) (to : SeekFrom) (r : Poll (Result ℕ ErrorKind)) (y : BufWriter W) : Type 0 where
   pub taken : List Taking
   pub between : W
   pub ran : writes x.inner taken between

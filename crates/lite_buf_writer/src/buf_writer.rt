@@ -3,11 +3,13 @@ ghost use Rattle.std.specs.Borrow.{Lends, sem};
 ghost use Rattle.futures.specs.Poll.{IfReady, OnPending};
 ghost use Rattle.futures.specs.Task.{Keeps, Lasting, Holds};
 ghost use Rattle.lite_io_base.specs.Kinds.{by_kind};
+ghost use Rattle.lite_io_base.specs.Laws.Runs.{idle_laws};
+ghost use Rattle.lite_io_base.specs.Runs.{Idle};
 ghost use Rattle.lite_io_base.specs.Takings.{done_marks, write_marks};
 ghost use Rattle.lite_io_base.specs.Takings.Taking.{closed, flushed};
 
 use lite_base::{Context, Poll, ready};
-use lite_io_base::{AsyncSeek, AsyncWrite, Takings};
+use lite_io_base::{AsyncSeek, AsyncWrite, Takings, Tale};
 use std::alloc::Global;
 use std::io;
 use std::io::{ErrorKind, SeekFrom};
@@ -132,6 +134,13 @@ impl<W: Takings> Takings for BufWriter<W> {
     ghost writes = { Buffers W.writes };
 
     ghost write_laws = { buffers_laws W.write_laws };
+}
+
+// It is not read from.
+impl<W> Tale for BufWriter<W> {
+    ghost reads = { Idle };
+
+    ghost read_laws = { idle_laws };
 }
 
 impl<W: AsyncWrite> BufWriter<W> {
