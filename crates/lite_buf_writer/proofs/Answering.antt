@@ -38,43 +38,77 @@ module _ {W : Type 0} (writes : Runs Taking W) where
   room_waits x y count (inl f) = stopped_waits x y f
   room_waits x y count (inr h) = absurd (cc h.1)
 
-  pub room_fails : (x y : BufWriter W) (count : ℕ) (kind : ErrorKind) → MakesRoom writes x count (Ready (Err kind)) y → Buffers writes x (Taking.fault kind ∷ []) y
+  pub room_fails : (x y : BufWriter W) (count : ℕ) (kind : ErrorKind) → MakesRoom writes x count (Ready (Err kind)) y
+      → Buffers writes x (Taking.fault kind ∷ []) y
   room_fails x y count kind (inl f) = stopped_fails x y kind f
   room_fails x y count kind (inr h) = absurd (cc h.1)
 
+  -- from m, where the flush of the buffer ended, the inner writer left these marks
+  record Then (x : BufWriter W) (last : List Taking) (y : BufWriter W) : Type 0 where
+    pub mid : BufWriter W
+    pub flushed : FlushesBuffer writes x (Ready (Ok tt)) mid
+    pub ran : writes mid.inner last y.inner
+    pub capacity : capacity_of y ≡ capacity_of mid
+    pub same : held y ≡ held mid
+
   module _ (laws : RunLaws writes) where
     -- all that was held is taken, and then comes the inner writer's answer
-    after_flush : (x m y : BufWriter W) (last : List Taking) (told : Taking) → FlushesBuffer writes x (Ready (Ok tt)) m → writes m.inner last y.inner
-        → capacity_of y ≡ capacity_of m → held y ≡ held m → ((n : ℕ) → Answers n [] last told []) → Buffers writes x (told ∷ []) y
-    after_flush x m y last told f ran capacity same answers =
-        let none : held y ≡ [] = same ∙ f.empties.2 in
-        buffers_one x y (f.taken ++ last) told (laws.follows x.inner m.inner y.inner f.taken last f.ran ran) (capacity ∙ f.capacity)
-        (record { drained = f.taken; last = last; cut = refl; left = []; interruptions = f.empties.0; drains = f.empties.1; answers = subst (Answers f.empties.0 [] last told) (sym none) (answers f.empties.0) })
+    answered : (x y : BufWriter W) (last : List Taking) (told : Taking) → Then x last y → ((n : ℕ) → Answers n [] last told [])
+        → Buffers writes x (told ∷ []) y
+    answered x y last told t answers =
+        let f = t.flushed in
+        let none : held y ≡ [] = t.same ∙ f.empties.2 in
+        buffers_one x y (f.taken ++ last) told (laws.follows x.inner t.mid.inner y.inner f.taken last f.ran t.ran) (t.capacity ∙ f.capacity)
+        (record {
+          drained = f.taken;
+          last = last;
+          cut = refl;
+          left = [];
+          interruptions = f.empties.0;
+          drains = f.empties.1;
+          answers = subst (Answers f.empties.0 [] last told) (sym none) (answers f.empties.0);
+        })
 
-    pub then_flush : (x m y : BufWriter W) (r : Poll (Result (Unit {0}) Error)) → FlushesBuffer writes x (Ready (Ok tt)) m → writes m.inner (done_marks Taking.flushed r) y.inner
-        → capacity_of y ≡ capacity_of m → held y ≡ held m → Buffers writes x (done_marks Taking.flushed r) y
-    then_flush x m y Pending f ran capacity same = after_flush x m y _ Taking.pending f ran capacity same (λ n. (refl, refl))
-    then_flush x m y (Ready (Err e)) f ran capacity same = after_flush x m y _ (Taking.fault (error_kind e)) f ran capacity same (λ n. (inl (refl, λ is. inl refl), refl))
-    then_flush x m y (Ready (Ok u)) f ran capacity same = after_flush x m y _ Taking.flushed f ran capacity same (λ n. (refl, refl, refl))
+    waits : (x y : BufWriter W) → Then x (Taking.pending ∷ []) y → Buffers writes x (Taking.pending ∷ []) y
+    waits x y t = answered x y (Taking.pending ∷ []) Taking.pending t (λ n. (refl, refl))
 
-    pub then_close : (x m y : BufWriter W) (r : Poll (Result (Unit {0}) Error)) → FlushesBuffer writes x (Ready (Ok tt)) m → writes m.inner (done_marks Taking.closed r) y.inner
-        → capacity_of y ≡ capacity_of m → held y ≡ held m → Buffers writes x (done_marks Taking.closed r) y
-    then_close x m y Pending f ran capacity same = after_flush x m y _ Taking.pending f ran capacity same (λ n. (refl, refl))
-    then_close x m y (Ready (Err e)) f ran capacity same = after_flush x m y _ (Taking.fault (error_kind e)) f ran capacity same (λ n. (inl (refl, λ is. inl refl), refl))
-    then_close x m y (Ready (Ok u)) f ran capacity same = after_flush x m y _ Taking.closed f ran capacity same (λ n. (refl, refl, refl))
+    fails : (x y : BufWriter W) (kind : ErrorKind) → Then x (Taking.fault kind ∷ []) y → Buffers writes x (Taking.fault kind ∷ []) y
+    fails x y kind t = answered x y (Taking.fault kind ∷ []) (Taking.fault kind) t (λ n. (inl (refl, λ is. inl refl), refl))
 
-    then_past : (x m y : BufWriter W) (xs : List ℕ) (r : Poll (Result ℕ Error)) → FlushesBuffer writes x (Ready (Ok tt)) m → writes m.inner (write_marks r xs) y.inner
-        → capacity_of y ≡ capacity_of m → held y ≡ held m → Buffers writes x (write_marks r xs) y
-    then_past x m y xs Pending f ran capacity same = after_flush x m y _ Taking.pending f ran capacity same (λ n. (refl, refl))
-    then_past x m y xs (Ready (Err e)) f ran capacity same = after_flush x m y _ (Taking.fault (error_kind e)) f ran capacity same (λ n. (inl (refl, λ is. inl refl), refl))
-    then_past x m y xs (Ready (Ok k)) f ran capacity same = after_flush x m y _ (Taking.wrote (take k xs)) f ran capacity same (λ n. inr (refl, refl, refl))
+    flushes : (x y : BufWriter W) (r : Poll (Result (Unit {0}) Error)) → Then x (done_marks Taking.flushed r) y
+        → Buffers writes x (done_marks Taking.flushed r) y
+    flushes x y Pending t = waits x y t
+    flushes x y (Ready (Err e)) t = fails x y (error_kind e) t
+    flushes x y (Ready (Ok u)) t = answered x y (Taking.flushed ∷ []) Taking.flushed t (λ n. (refl, refl, refl))
+
+    closes : (x y : BufWriter W) (r : Poll (Result (Unit {0}) Error)) → Then x (done_marks Taking.closed r) y
+        → Buffers writes x (done_marks Taking.closed r) y
+    closes x y Pending t = waits x y t
+    closes x y (Ready (Err e)) t = fails x y (error_kind e) t
+    closes x y (Ready (Ok u)) t = answered x y (Taking.closed ∷ []) Taking.closed t (λ n. (refl, refl, refl))
+
+    passes : (x y : BufWriter W) (xs : List ℕ) (r : Poll (Result ℕ Error)) → Then x (write_marks r xs) y → Buffers writes x (write_marks r xs) y
+    passes x y xs Pending t = waits x y t
+    passes x y xs (Ready (Err e)) t = fails x y (error_kind e) t
+    passes x y xs (Ready (Ok k)) t = answered x y (Taking.wrote (take k xs) ∷ []) (Taking.wrote (take k xs)) t (λ n. inr (refl, refl, refl))
+
+    pub then_flush : (x m y : BufWriter W) (r : Poll (Result (Unit {0}) Error)) → FlushesBuffer writes x (Ready (Ok tt)) m
+        → writes m.inner (done_marks Taking.flushed r) y.inner → capacity_of y ≡ capacity_of m → held y ≡ held m
+        → Buffers writes x (done_marks Taking.flushed r) y
+    then_flush x m y r f ran capacity same = flushes x y r (record { mid = m; flushed = f; ran = ran; capacity = capacity; same = same })
+
+    pub then_close : (x m y : BufWriter W) (r : Poll (Result (Unit {0}) Error)) → FlushesBuffer writes x (Ready (Ok tt)) m
+        → writes m.inner (done_marks Taking.closed r) y.inner → capacity_of y ≡ capacity_of m → held y ≡ held m
+        → Buffers writes x (done_marks Taking.closed r) y
+    then_close x m y r f ran capacity same = closes x y r (record { mid = m; flushed = f; ran = ran; capacity = capacity; same = same })
 
     -- where nothing is held a flush of the buffer does nothing
     flush_none : (x : BufWriter W) → held x ≡ [] → FlushesBuffer writes x (Ready (Ok tt)) x
     flush_none x none =
         record { taken = []; ran = laws.rests x.inner; capacity = refl; empties = (0, subst (λ l. Drains (held x) [] l 0) none Drains.none, none) }
 
-    emptied : (x m : BufWriter W) (count : ℕ) → MakesRoom writes x count (Ready (Ok tt)) m → capacity_of m ≤ count → FlushesBuffer writes x (Ready (Ok tt)) m
+    emptied : (x m : BufWriter W) (count : ℕ) → MakesRoom writes x count (Ready (Ok tt)) m → capacity_of m ≤ count
+        → FlushesBuffer writes x (Ready (Ok tt)) m
     emptied x m count (inl f) large = f
     emptied x m count (inr (same, is, fits)) large =
         let big : capacity_of x ≤ count = subst (λ v. capacity_of v ≤ count) same large in
@@ -82,18 +116,36 @@ module _ {W : Type 0} (writes : Runs Taking W) where
         subst (λ v. FlushesBuffer writes x (Ready (Ok tt)) v) (sym same) (flush_none x (range_none x.buf.items x.written x.len (omega (arith, none))))
 
     -- a write of as many bytes as the capacity
-    pub room_then_past : (x m y : BufWriter W) (xs : List ℕ) (r : Poll (Result ℕ Error)) → MakesRoom writes x (length xs) (Ready (Ok tt)) m → capacity_of m ≤ length xs
-        → writes m.inner (write_marks r xs) y.inner → capacity_of y ≡ capacity_of m → held y ≡ held m → Buffers writes x (write_marks r xs) y
-    room_then_past x m y xs r made large = then_past x m y xs r (emptied x m (length xs) made large)
+    pub room_then_past : (x m y : BufWriter W) (xs : List ℕ) (r : Poll (Result ℕ Error)) → MakesRoom writes x (length xs) (Ready (Ok tt)) m
+        → capacity_of m ≤ length xs → writes m.inner (write_marks r xs) y.inner → capacity_of y ≡ capacity_of m → held y ≡ held m
+        → Buffers writes x (write_marks r xs) y
+    room_then_past x m y xs r made large ran capacity same =
+        passes x y xs r (record { mid = m; flushed = emptied x m (length xs) made large; ran = ran; capacity = capacity; same = same })
 
     -- bytes are held
-    pub room_then_hold : (x m y : BufWriter W) (xs : List ℕ) → MakesRoom writes x (length xs) (Ready (Ok tt)) m → y.inner ≡ m.inner → capacity_of y ≡ capacity_of m
-        → held y ≡ held m ++ xs → Buffers writes x (Taking.wrote (take (length xs) xs) ∷ []) y
+    pub room_then_hold : (x m y : BufWriter W) (xs : List ℕ) → MakesRoom writes x (length xs) (Ready (Ok tt)) m → y.inner ≡ m.inner
+        → capacity_of y ≡ capacity_of m → held y ≡ held m ++ xs → Buffers writes x (Taking.wrote (take (length xs) xs) ∷ []) y
     room_then_hold x m y xs (inl f) inner capacity more =
         let whole : take (length xs) xs ≡ xs = take_all (length xs) xs (omega arith) in
         buffers_one x y f.taken _ (rw inner f.ran) (capacity ∙ f.capacity)
-        (record { drained = f.taken; last = []; cut = sym (append-nil f.taken); left = []; interruptions = f.empties.0; drains = f.empties.1; answers = inl (refl, more ∙ ap (λ l. l ++ xs) f.empties.2 ∙ sym whole) })
+        (record {
+          drained = f.taken;
+          last = [];
+          cut = sym (append-nil f.taken);
+          left = [];
+          interruptions = f.empties.0;
+          drains = f.empties.1;
+          answers = inl (refl, more ∙ ap (λ l. l ++ xs) f.empties.2 ∙ sym whole);
+        })
     room_then_hold x m y xs (inr (same, is, fits)) inner capacity more =
         let whole : take (length xs) xs ≡ xs = take_all (length xs) xs (omega arith) in
         buffers_one x y [] _ (rw (inner, same) (laws.rests x.inner)) (capacity ∙ ap (λ v. capacity_of v) same)
-        (record { drained = []; last = []; cut = refl; left = held x; interruptions = 0; drains = Drains.none; answers = inl (refl, more ∙ ap (λ v. held v ++ xs) same ∙ ap (λ l. held x ++ l) (sym whole)) })
+        (record {
+          drained = [];
+          last = [];
+          cut = refl;
+          left = held x;
+          interruptions = 0;
+          drains = Drains.none;
+          answers = inl (refl, more ∙ ap (λ v. held v ++ xs) same ∙ ap (λ l. held x ++ l) (sym whole));
+        })

@@ -1,5 +1,6 @@
 -- What a flush of the buffer does.
-use Rattle.std.proofs.Common.{◌≡◌, ◌∙◌, ℕ, ◌+◌, ◌-◌, ◌≤◌, ◌<◌, List, [], ◌∷◌, ◌++◌, length, take, drop, slice_range, refl, sym, ap, subst, arith, take-append-drop, drop-drop, length-drop, length-take-le}
+use Rattle.std.proofs.Common.{◌≡◌, ◌∙◌, ℕ, ◌+◌, ◌-◌, ◌≤◌, ◌<◌, List, [], ◌∷◌, ◌++◌, length, take, drop, slice_range}
+use Rattle.std.proofs.Common.{refl, sym, ap, subst, arith, take-append-drop, drop-drop, length-drop, length-take-le}
 use Rattle.std.proofs.lemmas.List.{drop-take, drop-append-le, length-take}
 use Rattle.std.specs.declared.io.ErrorKind.{ErrorKind}
 use Rattle.std.specs.declared.io.ErrorKind.TheVariants.{Interrupted}
@@ -17,7 +18,8 @@ range_of_front xs i j within =
     sym (ap (λ k. drop i (take k xs)) len ∙ drop-take i (j - i) xs)
 
 -- bytes put behind a front stand behind each of its ranges
-pub range_more : (xs ys bytes : List ℕ) (i j : ℕ) → i ≤ j → j ≤ length xs → take (j + length bytes) ys ≡ take j xs ++ bytes → slice_range ys i (j + length bytes) ≡ slice_range xs i j ++ bytes
+pub range_more : (xs ys bytes : List ℕ) (i j : ℕ) → i ≤ j → j ≤ length xs → take (j + length bytes) ys ≡ take j xs ++ bytes
+    → slice_range ys i (j + length bytes) ≡ slice_range xs i j ++ bytes
 range_more xs ys bytes i j within fits is =
     range_of_front ys i (j + length bytes) (omega arith) ∙ ap (drop i) is
     ∙ drop-append-le i (take j xs) bytes (omega (arith, length-take j xs))
@@ -63,10 +65,11 @@ module _ {W : Type 0} (writes : Runs Taking W) (laws : RunLaws writes) where
       let within : y.written + k ≤ y.len = omega (arith, length-held y, y.in_range.0) in
       let next : slice_range y.buf.items (y.written + k) y.len ≡ held z = rw (buf, written, len) refl in
       let cut : held y ≡ take k (held y) ++ held z = range_split y.buf.items y.written y.len k within ∙ ap (λ l. take k (held y) ++ l) next in
+      let front = take k (held y) in
       record {
-        taken = d.taken ++ Taking.wrote (take k (held y)) ∷ [];
-        ran = laws.follows x.inner y.inner z.inner d.taken (Taking.wrote (take k (held y)) ∷ []) d.ran ran;
-        drains = Drains.some d.taken (take k (held y)) (held z) n (subst (λ l. Drains (held x) d.taken l n) cut d.drains) (omega (arith, length-take-le k (held y) fits));
+        taken = d.taken ++ Taking.wrote front ∷ [];
+        ran = laws.follows x.inner y.inner z.inner d.taken (Taking.wrote front ∷ []) d.ran ran;
+        drains = Drains.some d.taken front (held z) n (subst (λ l. Drains (held x) d.taken l n) cut d.drains) (omega (arith, length-take-le k (held y) fits));
         buf = buf ∙ d.buf;
         len = len ∙ d.len;
         few = omega arith;
@@ -87,17 +90,22 @@ module _ {W : Type 0} (writes : Runs Taking W) (laws : RunLaws writes) where
       }
 
   -- all was taken
-  pub drain_all : (x y z : BufWriter W) (n : ℕ) → Draining writes x y n → y.len ≤ y.written → z.inner ≡ y.inner → capacity_of z ≡ capacity_of y → z.len ≡ 0
-      → FlushesBuffer writes x (Ready (Ok tt)) z
+  pub drain_all : (x y z : BufWriter W) (n : ℕ) → Draining writes x y n → y.len ≤ y.written → z.inner ≡ y.inner
+      → capacity_of z ≡ capacity_of y → z.len ≡ 0 → FlushesBuffer writes x (Ready (Ok tt)) z
   drain_all x y z n d none inner capacity len =
       record {
         taken = d.taken;
         ran = rw inner d.ran;
         capacity = capacity ∙ ap (λ b. length b.items) d.buf;
-        empties = (n, subst (λ l. Drains (held x) d.taken l n) (range_none y.buf.items y.written y.len none) d.drains, range_none z.buf.items z.written z.len (omega (arith, len)));
+        empties = (
+          n,
+          subst (λ l. Drains (held x) d.taken l n) (range_none y.buf.items y.written y.len none) d.drains,
+          range_none z.buf.items z.written z.len (omega (arith, len)),
+        );
       }
 
-  segment_of : (x y z : BufWriter W) (n : ℕ) (last : List Taking) (told : Taking) → (d : Draining writes x y n) → Answers n (held y) last told (held z) → Segment (held x) (d.taken ++ last) told (held z)
+  segment_of : (x y z : BufWriter W) (n : ℕ) (last : List Taking) (told : Taking) → (d : Draining writes x y n)
+      → Answers n (held y) last told (held z) → Segment (held x) (d.taken ++ last) told (held z)
   segment_of x y z n last told d answers =
       record { drained = d.taken; last = last; cut = refl; left = held y; interruptions = n; drains = d.drains; answers = answers }
 

@@ -14,14 +14,29 @@ use Rattle.lite_buf_writer.specs.Laws.BufWriter.{drains_balance, segment_balance
 module _ {W : Type 0} (writes : Runs Taking W) (seeks : W → SeekFrom → Poll (Result ℕ ErrorKind) → W → Type 0) where
   pub seek_waits : (x y : BufWriter W) (to : SeekFrom) → FlushesBuffer writes x Pending y → SeeksAfter writes seeks x to Pending y
   seek_waits x y to f =
-      record { taken = f.taken; between = y.inner; ran = f.ran; capacity = f.capacity; sought = inr (f.empties, refl); balanced = segment_balance (held x) (held y) f.taken Taking.pending f.empties.0 }
+      record {
+        taken = f.taken;
+        between = y.inner;
+        ran = f.ran;
+        capacity = f.capacity;
+        sought = inr (f.empties, refl);
+        balanced = segment_balance (held x) (held y) f.taken Taking.pending f.empties.0;
+      }
 
-  pub seek_fails : (x y : BufWriter W) (to : SeekFrom) (kind : ErrorKind) → FlushesBuffer writes x (Ready (Err kind)) y → SeeksAfter writes seeks x to (Ready (Err kind)) y
+  pub seek_fails : (x y : BufWriter W) (to : SeekFrom) (kind : ErrorKind) → FlushesBuffer writes x (Ready (Err kind)) y
+      → SeeksAfter writes seeks x to (Ready (Err kind)) y
   seek_fails x y to kind f =
-      record { taken = f.taken; between = y.inner; ran = f.ran; capacity = f.capacity; sought = inr (f.empties, refl); balanced = segment_balance (held x) (held y) f.taken (Taking.fault kind) f.empties.0 }
+      record {
+        taken = f.taken;
+        between = y.inner;
+        ran = f.ran;
+        capacity = f.capacity;
+        sought = inr (f.empties, refl);
+        balanced = segment_balance (held x) (held y) f.taken (Taking.fault kind) f.empties.0;
+      }
 
-  pub seek_follows : (x m y : BufWriter W) (to : SeekFrom) (r : Poll (Result ℕ ErrorKind)) → FlushesBuffer writes x (Ready (Ok tt)) m → seeks m.inner to r y.inner
-      → capacity_of y ≡ capacity_of m → held y ≡ held m → SeeksAfter writes seeks x to r y
+  pub seek_follows : (x m y : BufWriter W) (to : SeekFrom) (r : Poll (Result ℕ ErrorKind)) → FlushesBuffer writes x (Ready (Ok tt)) m
+      → seeks m.inner to r y.inner → capacity_of y ≡ capacity_of m → held y ≡ held m → SeeksAfter writes seeks x to r y
   seek_follows x m y to r f sought capacity same =
       let none : held y ≡ [] = same ∙ f.empties.2 in
       record {

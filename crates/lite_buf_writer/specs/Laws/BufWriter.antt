@@ -18,7 +18,8 @@ drains_balance before _ _ _ (Drains.some ms xs rest n d more) =
 drains_balance before _ _ _ (Drains.interrupted ms rest n d more few) =
     drains_balance before rest ms n d ∙ ap (λ l. l ++ rest) (sym (append-nil (bytes_of ms)) ∙ sym (bytes_both ms _))
 
-answers_balance : (n : ℕ) (left after : List ℕ) (last : List Taking) (told : Taking) → Answers n left last told after → left ++ bytes_in told ≡ bytes_of last ++ after
+answers_balance : (n : ℕ) (left after : List ℕ) (last : List Taking) (told : Taking) → Answers n left last told after
+    → left ++ bytes_in told ≡ bytes_of last ++ after
 answers_balance n left after last (Taking.wrote xs) (inl h) = rw (h.0, h.1) refl
 answers_balance n left after last (Taking.wrote xs) (inr h) = rw (h.0, h.1, h.2) (sym (append-nil (xs ++ []) ∙ append-nil xs))
 answers_balance n left after last Taking.pending h = rw (h.0, h.1) (append-nil left)
@@ -27,7 +28,8 @@ answers_balance n left after last (Taking.fault kind) (inr f, h) = rw (f.0, h) (
 answers_balance n left after last Taking.flushed h = rw (h.0, h.1, h.2) refl
 answers_balance n left after last Taking.closed h = rw (h.0, h.1, h.2) refl
 
-pub segment_balance : (before after : List ℕ) (taken : List Taking) (told : Taking) → Segment before taken told after → before ++ bytes_in told ≡ bytes_of taken ++ after
+pub segment_balance : (before after : List ℕ) (taken : List Taking) (told : Taking) → Segment before taken told after
+    → before ++ bytes_in told ≡ bytes_of taken ++ after
 segment_balance before after taken told s =
     ap (λ l. l ++ bytes_in told) (drains_balance before s.left s.drained s.interruptions s.drains)
     ∙ append_assoc (bytes_of s.drained) s.left (bytes_in told)
@@ -36,13 +38,15 @@ segment_balance before after taken told s =
     ∙ ap (λ l. l ++ after) (sym (bytes_both s.drained s.last) ∙ ap bytes_of (sym s.cut))
 
 -- no byte is lost over one run and the next
-balanced_both : (a b c : List ℕ) (taken more out next : List Taking) → Balanced a out taken b → Balanced b next more c → Balanced a (out ++ next) (taken ++ more) c
+balanced_both : (a b c : List ℕ) (taken more out next : List Taking) → Balanced a out taken b → Balanced b next more c
+    → Balanced a (out ++ next) (taken ++ more) c
 balanced_both a b c taken more out next h k =
     ap (λ l. a ++ l) (bytes_both out next) ∙ sym (append_assoc a (bytes_of out) (bytes_of next)) ∙ ap (λ l. l ++ bytes_of next) h
     ∙ append_assoc (bytes_of taken) b (bytes_of next) ∙ ap (λ l. bytes_of taken ++ l) k
     ∙ sym (append_assoc (bytes_of taken) (bytes_of more) c) ∙ ap (λ l. l ++ c) (sym (bytes_both taken more))
 
-segments_follow : (a b c : List ℕ) (taken more out next : List Taking) → Segments a taken out b → Segments b more next c → Segments a (taken ++ more) (out ++ next) c
+segments_follow : (a b c : List ℕ) (taken more out next : List Taking) → Segments a taken out b → Segments b more next c
+    → Segments a (taken ++ more) (out ++ next) c
 segments_follow a b c taken more [] next h k = rw (h.0, ← h.1) k
 segments_follow a b c taken more (told ∷ out) next e k =
     (e.0, e.1 ++ more, e.2, ap (λ l. l ++ more) e.3 ∙ append_assoc e.0 e.1 more, e.4, segments_follow e.2 b c e.1 more out next e.5 k)

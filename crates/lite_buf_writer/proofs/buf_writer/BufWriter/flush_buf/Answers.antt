@@ -16,7 +16,8 @@ returns-in-Ready-Ok-eq0-clause-ran g c =
     let s = c.shift.ensures in
     let ran = rw c.in-Ready-Ok-eq0.field-0-0-test at (rw c.in-Ready-Ok-eq0.field-0-is at (rw c.in-Ready-Ok-eq0.is at e.ran)) in
     let same = held_same y c.offer.new.self e.buf e.written e.len in
-    drain_fails g.W.Takings.writes g.W.Takings.write_laws c.args.self.now y c.shift.new.self c.writes.interruptions _ (error_kind c.into.result) c.offer.new.self.inner
+    drain_fails g.W.Takings.writes g.W.Takings.write_laws c.args.self.now
+    y c.shift.new.self c.writes.interruptions _ (error_kind c.into.result) c.offer.new.self.inner
     c.writes.invariant.0 ran s.inner c.writes-test.true (inr (refl, c.into.ensures, omega (arith, length-held y, c.writes-test.true)))
     (s.capacity ∙ ap (λ b. length b.items) e.buf) (s.held ∙ same)
 
@@ -27,7 +28,8 @@ writes-preserved-in-Ready-Ok g c =
     let n = c.in-Ready-Ok.n in
     let most = rw c.in-Ready-Ok.field-0-is at (rw c.in-Ready-Ok.is at e.bound) in
     let ran = rw c.in-Ready-Ok.field-0-is at (rw c.in-Ready-Ok.is at e.ran) in (
-      drain_some g.W.Takings.writes g.W.Takings.write_laws c.args.self.now y _ c.writes.interruptions n c.writes.invariant.0 ran (omega (arith, c.in-Ready-Ok.n-test)) most
+      drain_some g.W.Takings.writes g.W.Takings.write_laws c.args.self.now
+          y _ c.writes.interruptions n c.writes.invariant.0 ran (omega (arith, c.in-Ready-Ok.n-test)) most
           e.buf (ap (λ k. k + n) e.written) e.len,
       λ fact holds. e.kept fact (c.writes.invariant.1 fact holds),
     )
@@ -38,7 +40,8 @@ writes-preserved g c =
     let e = c.offer.ensures in
     let is : error_kind c.in-Ready-Err.e ≡ Interrupted = search rules in
     let ran = rw is at (rw c.in-Ready-Err.field-0-is at (rw c.in-Ready-Err.is at e.ran)) in (
-      drain_interrupted g.W.Takings.writes g.W.Takings.write_laws c.args.self.now y c.offer.new.self c.writes.interruptions c.writes.invariant.0 ran c.writes-test.true
+      drain_interrupted g.W.Takings.writes g.W.Takings.write_laws c.args.self.now
+          y c.offer.new.self c.writes.interruptions c.writes.invariant.0 ran c.writes-test.true
           c.if-interruptions-lt-MOST_INTERRUPTIONS.true e.buf e.written e.len,
       λ fact holds. e.kept fact (c.writes.invariant.1 fact holds),
     )
@@ -52,9 +55,16 @@ returns-in-Ready-Err-2-clause-ran g c =
     let got : c.offer.result ≡ Ready (Err error) = search rules in
     let ran = rw got at e.ran in
     let same = held_same y c.offer.new.self e.buf e.written e.len in
-    drain_fails g.W.Takings.writes g.W.Takings.write_laws c.args.self.now y c.shift-in-Ready-Err-2.new.self c.writes.interruptions _ (error_kind error) c.offer.new.self.inner
+    drain_fails g.W.Takings.writes g.W.Takings.write_laws c.args.self.now
+    y c.shift-in-Ready-Err-2.new.self c.writes.interruptions _ (error_kind error) c.offer.new.self.inner
     c.writes.invariant.0 ran s.inner c.writes-test.true
-    (inl (refl, λ is. elim c.if-eq.branch [ then-eq+else-interruptions-lt-MOST_INTERRUPTIONS w ↦ inr (omega (arith, c.writes.invariant.0.few, w.if-interruptions-lt-MOST_INTERRUPTIONS.false)) | else-eq w ↦ absurd (search rules) ]))
+    (inl (
+      refl,
+      λ is. elim c.if-eq.branch [
+        | then-eq+else-interruptions-lt-MOST_INTERRUPTIONS w ↦ inr (omega (arith, c.writes.invariant.0.few, w.if-interruptions-lt-MOST_INTERRUPTIONS.false))
+        | else-eq w ↦ absurd (search rules)
+      ],
+    ))
     (s.capacity ∙ ap (λ b. length b.items) e.buf) (s.held ∙ same)
 
 pub returns-in-Pending-clause-ran : goal.returns-in-Pending-clause-ran
@@ -62,5 +72,6 @@ returns-in-Pending-clause-ran g c =
     let y = c.writes.self in
     let e = c.offer.ensures in
     let ran = rw c.in-Pending.is at e.ran in
-    drain_waits g.W.Takings.writes g.W.Takings.write_laws c.args.self.now y c.offer.new.self c.writes.interruptions c.writes.invariant.0 ran c.writes-test.true
+    drain_waits g.W.Takings.writes g.W.Takings.write_laws c.args.self.now
+    y c.offer.new.self c.writes.interruptions c.writes.invariant.0 ran c.writes-test.true
     (ap (λ b. length b.items) e.buf) (held_same y c.offer.new.self e.buf e.written e.len)

@@ -18,7 +18,8 @@ pub returns-then-buf-len-clause-ran : goal.returns-then-buf-len-clause-ran
 returns-then-buf-len-clause-ran g c =
     let got : c.make_room.result ≡ Ready (Ok c.in-Ok.field-0) = search rules in
     let ran = rw got at c.make_room.ensures.ran in
-    room_then_past g.W.Takings.writes g.W.Takings.write_laws c.args.self.now c.make_room.new.self _ c.args.buf.now c.poll_write.result ran (search rules) c.poll_write.ensures.ran refl refl
+    room_then_past g.W.Takings.writes g.W.Takings.write_laws c.args.self.now c.make_room.new.self _
+    c.args.buf.now c.poll_write.result ran (search rules) c.poll_write.ensures.ran refl refl
 
 pub returns-2-clause-ran : goal.returns-2-clause-ran
 returns-2-clause-ran g c =
