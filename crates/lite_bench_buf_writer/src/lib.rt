@@ -1,0 +1,5 @@
+//! Tests of buffered writing.
+#![tactic(auto)]
+
+#[cfg(test)]
+mod tests;

@@ -1,0 +1,3 @@
+pub mod Draining
+pub mod Answering
+pub mod Seeking

@@ -1,0 +1,29 @@
+use Rattle.std.proofs.Common.{◌≡◌, Ok, Err, rules, refl}
+use Rattle.std.specs.IoError.{error_kind}
+use Rattle.futures.specs.declared.task.Poll.TheVariants.{Ready, Pending}
+use Rattle.lite_buf_writer.proofs.Answering.{room_fails, room_then_hold, room_then_past, room_waits}
+use Rattle.lite_buf_writer.proofs.buf_writer.BufWriterAsyncWrite.poll_write.Goals as goal
+
+pub returns-clause-ran : goal.returns-clause-ran
+returns-clause-ran g c =
+    let got : c.make_room.result ≡ Pending = search rules in
+    room_waits g.W.Takings.writes c.args.self.now c.make_room.new.self _ (rw got at c.make_room.ensures.ran)
+
+pub returns-in-Err-clause-ran : goal.returns-in-Err-clause-ran
+returns-in-Err-clause-ran g c =
+    let got : c.make_room.result ≡ Ready (Err c.in-Err.e) = search rules in
+    room_fails g.W.Takings.writes c.args.self.now c.make_room.new.self _ (error_kind c.in-Err.e) (rw got at c.make_room.ensures.ran)
+
+pub returns-then-buf-len-clause-ran : goal.returns-then-buf-len-clause-ran
+returns-then-buf-len-clause-ran g c =
+    let got : c.make_room.result ≡ Ready (Ok c.in-Ok.field-0) = search rules in
+    let ran = rw got at c.make_room.ensures.ran in
+    room_then_past g.W.Takings.writes g.W.Takings.write_laws c.args.self.now c.make_room.new.self _
+    c.args.buf.now c.poll_write.result ran (search rules) c.poll_write.ensures.ran refl refl
+
+pub returns-2-clause-ran : goal.returns-2-clause-ran
+returns-2-clause-ran g c =
+    let got : c.make_room.result ≡ Ready (Ok c.in-Ok.field-0) = search rules in
+    let ran = rw got at c.make_room.ensures.ran in
+    let e = c.hold.ensures in
+    room_then_hold g.W.Takings.writes g.W.Takings.write_laws c.args.self.now c.make_room.new.self c.hold.new.self c.args.buf.now ran e.inner e.capacity e.held

@@ -1,0 +1,2 @@
+pub mod BufWriter
+pub mod Laws

@@ -1,0 +1,6 @@
+//! Buffered writing.
+#![tactic(auto)]
+
+mod buf_writer;
+
+pub use buf_writer::BufWriter;
