@@ -1,3 +1,3 @@
-pub mod Draining
 pub mod Answering
+pub mod Draining
 pub mod Seeking

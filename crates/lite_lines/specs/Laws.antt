@@ -1,2 +1,2 @@
-pub mod Segments
 pub mod ReadUntil
+pub mod Segments
