@@ -6,3 +6,4 @@ pub mod ReadExact
 pub mod ReadToEnd
 pub mod Settling
 pub mod SteadyReadExact
+pub mod SteadyReadToEnd

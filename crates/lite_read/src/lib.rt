@@ -1,8 +1,8 @@
 //! Futures of reading and seeking.
 #![tactic(auto)]
 
-mod calm;
 mod bytes;
+mod calm;
 pub mod make;
 mod read;
 mod read_exact;

@@ -39,6 +39,11 @@ comparable_fronts [] k m n c = tt
 comparable_fronts (a ∷ l) k [] n c = tt
 comparable_fronts (a ∷ l) k (b ∷ m) n c = (c.0, comparable_fronts l k m n c.1)
 
+-- and what stands behind one front
+pub comparable_rest : (p l m : List Mark) → Comparable (p ++ l) (p ++ m) → Comparable l m
+comparable_rest [] l m c = c
+comparable_rest (a ∷ p) l m c = comparable_rest p l m c.1
+
 -- one front before both
 pub comparable_behind : (p l m : List Mark) → Comparable l m → Comparable (p ++ l) (p ++ m)
 comparable_behind [] l m c = c

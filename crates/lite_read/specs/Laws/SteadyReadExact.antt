@@ -1,5 +1,5 @@
 -- `read_exact` is steady over a steady reader, and calm over a calm one.
-use Rattle.std.proofs.Common.{◌≡◌, ◌∙◌, ℕ, List, [], ◌∷◌, length, Result, Ok, Err, refl, sym, subst, arith}
+use Rattle.std.proofs.Common.{◌≡◌, ◌∙◌, ℕ, List, [], ◌∷◌, length, Result, Ok, Err, refl, sym, ap, subst, arith}
 use Rattle.std.specs.IoError.{error_kind}
 use Rattle.std.specs.declared.io.ErrorKind.{ErrorKind}
 use Rattle.std.specs.declared.io.ErrorKind.TheVariants.{UnexpectedEof}
@@ -11,9 +11,9 @@ use Rattle.lite_base.specs.Steady.{FutureSteadyLawsBy}
 use Rattle.lite_io_base.specs.Marks.{Mark}
 use Rattle.lite_io_base.specs.Runs.{Runs}
 use Rattle.lite_io_base.specs.Steady.{CalmReadLaws, NoWait, SteadyReadLaws}
-use Rattle.lite_read.specs.Gathering.{Gathered, Gathers}
+use Rattle.lite_read.specs.Gathering.{Gathered}
 use Rattle.lite_read.specs.Laws.ReadExact.{exact_laws}
-use Rattle.lite_read.specs.Laws.Settling.{gathers_alike, gathers_prompt}
+use Rattle.lite_read.specs.Laws.Settling.{gathered_alike, gathers_prompt}
 use Rattle.lite_read.specs.ReadExact.{Filling, Fulfils, HasRoom, ReadsExactly, fills, filling_of}
 use Rattle.lite_read.specs.Settling.{SameByKind, Settles}
 use Rattle.lite_read.specs.declared.read_exact.ReadExactFuture.{ReadExactFuture}
@@ -45,14 +45,19 @@ given_or_taken g _ m _ b (Answered.full h) room c = omega (arith, h, room)
 given_or_taken g _ m _ b (Answered.ended e k h) room c = cc c.0
 given_or_taken g _ m _ b (Answered.failed e kind k h) room c = cc c.0
 
-one_value : (g : Filling) (l m : List Mark) (v w : Result (Unit {0}) Error) → Answered g l v → Answered g m w → Comparable l m → SameByKind v w
-one_value g _ _ _ _ (Answered.full h) (Answered.full k) c = refl
+abbrev OneValue : Result (Unit {0}) Error → Result (Unit {0}) Error → List Mark → List Mark → Type 0
+OneValue v w l m = SameByKind v w × (l ≡ m)
+
+one_value : (g : Filling) (l m : List Mark) (v w : Result (Unit {0}) Error) → Answered g l v → Answered g m w → Comparable l m → OneValue v w l m
+one_value g _ _ _ _ (Answered.full h) (Answered.full k) c = (refl, refl)
 one_value g _ _ _ _ (Answered.full h) (Answered.ended e room k) c = absurd (omega (arith, h, room))
 one_value g _ _ _ _ (Answered.full h) (Answered.failed e kind room k) c = absurd (omega (arith, h, room))
 one_value g _ _ _ _ (Answered.ended e room h) (Answered.full k) c = absurd (omega (arith, k, room))
 one_value g _ _ _ _ (Answered.failed e kind room h) (Answered.full k) c = absurd (omega (arith, k, room))
-one_value g _ _ _ _ (Answered.ended e room h) (Answered.ended f more k) c = h ∙ sym k
-one_value g _ _ _ _ (Answered.failed e kind room h) (Answered.failed f other more k) c = let same : kind ≡ other = cc c.0 in h ∙ same ∙ sym k
+one_value g _ _ _ _ (Answered.ended e room h) (Answered.ended f more k) c = (h ∙ sym k, refl)
+one_value g _ _ _ _ (Answered.failed e kind room h) (Answered.failed f other more k) c =
+    let same : kind ≡ other = cc c.0 in
+    (h ∙ same ∙ sym k, ap (λ n. Mark.fault n ∷ []) same)
 one_value g _ _ _ _ (Answered.ended e room h) (Answered.failed f kind more k) c = absurd (cc c.0)
 one_value g _ _ _ _ (Answered.failed e kind room h) (Answered.ended f more k) c = absurd (cc c.0)
 
@@ -62,7 +67,7 @@ fills_settles =
       one_way = λ p q r b h k. h.1 ∙ sym k.1;
       at_once = λ p q l v h. at_once p l v (answered p l v h.0);
       given_or_taken = λ p q r l m v b h k c. given_or_taken p l m v b (answered p l v h.0) k.0 c;
-      one_value = λ p q r l m v w h k c. one_value p l m v w (answered p l v h.0) (answered p m w k.0) c;
+      one_value = λ p q r l m v w h k c. let both = one_value p l m v w (answered p l v h.0) (answered p m w k.0) c in (both.0, h.1 ∙ sym k.1, both.1);
     }
 
 -- two that have gathered the same, over readers that are alike
@@ -74,11 +79,8 @@ module _ {R : Type 0} {reads : Runs Mark R} where
     one_answer : (x y : ReadExactFuture R) (l m : List (Poll (Result (Unit {0}) Error))) (x' y' : ReadExactFuture R) → ExactAlike alike x y → ReadsExactly ample x l x'
         → ReadsExactly ample y m y' → ComparableBy SameByKind (strip l) (strip m)
     one_answer x y l m x' y' e h k =
-        let g = h.gathered in
-        let j = k.gathered in
-        let tales = s.steady x.reader.now y.reader.now x'.reader.now y'.reader.now g.marks j.marks e.0 g.came j.came in
-        gathers_alike fills fills_settles (filling_of x) (filling_of x') (filling_of y') g.marks j.marks l m tales g.gathered
-        (subst (λ p. Gathers fills p j.marks m (filling_of y')) (sym e.1) j.gathered)
+        gathered_alike fills fills_settles s x.reader.now y.reader.now x'.reader.now y'.reader.now (filling_of x) (filling_of x') (filling_of y') l m e.0 h.gathered
+        (subst (λ p. Gathered fills ample y.reader.now p m y'.reader.now (filling_of y')) (sym e.1) k.gathered)
 
     all_ample : needs_none → (x y : ReadExactFuture R) (l : List (Poll (Result (Unit {0}) Error))) → ReadsExactly reads x l y → ReadsExactly ample x l y
     all_ample n x y l h =
