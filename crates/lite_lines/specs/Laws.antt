@@ -1,2 +1,3 @@
-pub mod Segments
+pub mod Counting
 pub mod ReadUntil
+pub mod Segments
