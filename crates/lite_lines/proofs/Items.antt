@@ -1,5 +1,5 @@
 -- The turns of a stream of the pieces of a reader.
-use Rattle.std.proofs.Common.{◌≡◌, ◌<◌, ◌+◌, ℕ, List, [], ◌∷◌, ◌++◌, Option, Some, None, Result, Ok, Err, length, take, refl, arith}
+use Rattle.std.proofs.Common.{inl, inr, ◌≡◌, ◌<◌, ◌+◌, ℕ, List, [], ◌∷◌, ◌++◌, Option, Some, None, Result, Ok, Err, length, take, refl, arith}
 use Rattle.std.specs.IoError.{error_kind}
 use Rattle.std.specs.Prelude.{⊤, IfErr, IfOk}
 use Rattle.std.specs.declared.io.Error.{Error}
@@ -24,27 +24,27 @@ module _ {X S K A : Type 0} (over : Over X S (List ℕ) K) (byte : K → ℕ) (w
         → Flows over (λ k. pieces (byte k) ⊤ (Itemised whole final)) reads x (Ready (Some (Err e)) ∷ []) y
     item_fails e came =
         flow_one over (λ k. pieces (byte k) ⊤ (Itemised whole final)) reads x y _ _ came
-        (concludes_at (byte (over.kept x)) ⊤ (Itemised whole final) (over.held x) _ (Cut.failed e) (Some (Err e)) (over.held y) refl (refl, held)) same
+        (concludes_at (byte (over.kept x)) ⊤ (Itemised whole final) (over.held x) _ (Cut.failed e) (Some (Err e)) (over.held y) (inl refl) (refl, held)) same
 
     pub item_refused : (e : Error) (mid : S) (shown : List ℕ) → reads (over.reader x) (filled shown) mid → 0 < length shown → error_kind e ≡ OutOfMemory → over.reader y ≡ mid
         → Flows over (λ k. pieces (byte k) ⊤ (Itemised whole final)) reads x (Ready (Some (Err e)) ∷ []) y
     item_refused e mid shown fills some is unread =
         let came = fill_then reads laws (over.reader x) mid (over.reader y) shown [] some fills (rw unread (laws.rests mid)) in
         flow_one over (λ k. pieces (byte k) ⊤ (Itemised whole final)) reads x y [] _ came
-        (concludes_at (byte (over.kept x)) ⊤ (Itemised whole final) (over.held x) [] (Cut.failed e) (Some (Err e)) (over.held y) (tt, is) (refl, held)) same
+        (concludes_at (byte (over.kept x)) ⊤ (Itemised whole final) (over.held x) [] (Cut.failed e) (Some (Err e)) (over.held y) (inr (refl, tt, is)) (refl, held)) same
 
   module _ (empty : over.held y ≡ []) where
     item_last : (r : Result A Error) → 0 < length (over.held x) → final (over.held x) r → reads (over.reader x) (Mark.end ∷ []) (over.reader y)
         → Flows over (λ k. pieces (byte k) ⊤ (Itemised whole final)) reads x (Ready (Some r) ∷ []) y
     item_last r some is came =
         flow_one over (λ k. pieces (byte k) ⊤ (Itemised whole final)) reads x y _ _ came
-        (concludes_at (byte (over.kept x)) ⊤ (Itemised whole final) (over.held x) _ (Cut.last (over.held x)) (Some r) (over.held y) (some, refl) (is, empty)) same
+        (concludes_at (byte (over.kept x)) ⊤ (Itemised whole final) (over.held x) _ (Cut.last (over.held x)) (Some r) (over.held y) (refl, some, refl) (is, empty)) same
 
     item_ends : over.held x ≡ [] → reads (over.reader x) (Mark.end ∷ []) (over.reader y)
         → Flows over (λ k. pieces (byte k) ⊤ (Itemised whole final)) reads x (Ready None ∷ []) y
     item_ends none came =
         flow_one over (λ k. pieces (byte k) ⊤ (Itemised whole final)) reads x y _ _ came
-        (concludes_at (byte (over.kept x)) ⊤ (Itemised whole final) (over.held x) _ Cut.nothing None (over.held y) none empty) same
+        (concludes_at (byte (over.kept x)) ⊤ (Itemised whole final) (over.held x) _ Cut.nothing None (over.held y) (refl, none) empty) same
 
     pub item_at_end : (r : Option (Result A Error)) → AtEnd final (over.held x) r → reads (over.reader x) (Mark.end ∷ []) (over.reader y)
         → Flows over (λ k. pieces (byte k) ⊤ (Itemised whole final)) reads x (Ready r ∷ []) y

@@ -1,5 +1,5 @@
 -- The turns of `read_until`.
-use Rattle.std.proofs.Common.{◌≡◌, ◌∙◌, ◌<◌, ◌≤◌, ◌+◌, ◌-◌, ℕ, List, [], ◌∷◌, ◌++◌, Some, None, Result, Ok, Err, length, take, drop, refl, ap, sym, subst, arith, append-nil, append_assoc, length-append}
+use Rattle.std.proofs.Common.{◌≡◌, ◌∙◌, ◌<◌, ◌≤◌, ◌+◌, ◌-◌, inl, inr, ℕ, List, [], ◌∷◌, ◌++◌, Some, None, Result, Ok, Err, length, take, drop, refl, ap, sym, subst, arith, append-nil, append_assoc, length-append}
 use Rattle.std.proofs.lemmas.List.{drop-append-le, length-drop, take-append-le}
 use Rattle.std.specs.IoError.{error_kind}
 use Rattle.std.specs.Prelude.{⊤}
@@ -60,20 +60,20 @@ module _ {R : Type 0} (reads : Runs Mark R) (laws : RunLaws reads) (x y : ReadUn
 
     pub until_fails : (e : Error) → reads x.reader.now (Mark.fault (error_kind e) ∷ []) y.reader.now → ReadsUntil reads ⊤ x (Ready (Err e) ∷ []) y
     until_fails e came =
-        cut_here _ (Err e) came (λ after is. (concludes_at x.byte ⊤ (Counted x.byte) (read_of x) _ (Cut.failed e) (Err e) after refl (is, refl), refl))
+        cut_here _ (Err e) came (λ after is. (concludes_at x.byte ⊤ (Counted x.byte) (read_of x) _ (Cut.failed e) (Err e) after (inl refl) (is, refl), refl))
 
     pub until_refused : (e : Error) (mid : R) (shown : List ℕ) → reads x.reader.now (filled shown) mid → 0 < length shown → error_kind e ≡ OutOfMemory → y.reader.now ≡ mid
         → ReadsUntil reads ⊤ x (Ready (Err e) ∷ []) y
     until_refused e mid shown fills some is unread =
         let came = fill_then reads laws x.reader.now mid y.reader.now shown [] some fills (rw unread (laws.rests mid)) in
-        cut_here [] (Err e) came (λ after same. (concludes_at x.byte ⊤ (Counted x.byte) (read_of x) [] (Cut.failed e) (Err e) after (tt, is) (same, refl), refl))
+        cut_here [] (Err e) came (λ after same. (concludes_at x.byte ⊤ (Counted x.byte) (read_of x) [] (Cut.failed e) (Err e) after (inr (refl, tt, is)) (same, refl), refl))
 
     ends_by : (held : List ℕ) (n : ℕ) (after : List ℕ) → after ≡ held → n ≡ length held → Gathers (until x.byte ⊤) held (Mark.end ∷ []) (Ready (Ok n) ∷ []) after
     ends_by [] n after is count =
-        (concludes_at x.byte ⊤ (Counted x.byte) [] _ Cut.nothing (Ok n) after refl (is, ap Ok (count ∙ ap length (sym is))), refl)
+        (concludes_at x.byte ⊤ (Counted x.byte) [] _ Cut.nothing (Ok n) after (refl, refl) (is, ap Ok (count ∙ ap length (sym is))), refl)
     ends_by (b ∷ held) n after is count =
         let some : 0 < length (b ∷ held) = omega arith in
-        (concludes_at x.byte ⊤ (Counted x.byte) (b ∷ held) _ (Cut.last (b ∷ held)) (Ok n) after (some, refl) (is, ap Ok (count ∙ ap length (sym is))), refl)
+        (concludes_at x.byte ⊤ (Counted x.byte) (b ∷ held) _ (Cut.last (b ∷ held)) (Ok n) after (refl, some, refl) (is, ap Ok (count ∙ ap length (sym is))), refl)
 
     pub until_ends : (n : ℕ) → n ≡ length x.buf.now.items - x.start → reads x.reader.now (Mark.end ∷ []) y.reader.now → ReadsUntil reads ⊤ x (Ready (Ok n) ∷ []) y
     until_ends n count came =

@@ -1,5 +1,5 @@
 -- How the bytes of a reader are cut into pieces: at each delimiter, and at an end.
-use Rattle.std.specs.Prelude.{◌≡◌, ◌≢◌, ◌<◌, ⊤, ℕ, List, [], ◌∷◌, ◌++◌, length, Option, Some, None, Result, Err}
+use Rattle.std.specs.Prelude.{◌≡◌, ◌≢◌, ◌<◌, ◌⊎◌, ⊤, ℕ, List, [], ◌∷◌, ◌++◌, length, Option, Some, None, Result, Err}
 use Rattle.std.specs.IoError.{error_kind}
 use Rattle.std.specs.declared.io.Error.{Error}
 use Rattle.std.specs.declared.io.ErrorKind.TheVariants.{OutOfMemory}
@@ -16,12 +16,11 @@ pub data Cut : Type 0 where
 -- The mark that cuts, and what is cut off of the bytes that are held. Where may_refuse holds memory may be refused, which
 -- takes no mark.
 abbrev pub Cuts : ℕ → Type 0 → List ℕ → List Mark → Cut → Type 0
-Cuts byte may_refuse held (Mark.byte b ∷ []) (Cut.piece xs) = (b ≡ byte) × (xs ≡ held)
-Cuts byte may_refuse held (Mark.end ∷ []) (Cut.last xs) = (0 < length held) × (xs ≡ held)
-Cuts byte may_refuse held (Mark.end ∷ []) Cut.nothing = held ≡ []
-Cuts byte may_refuse held (Mark.fault kind ∷ []) (Cut.failed e) = error_kind e ≡ kind
-Cuts byte may_refuse held [] (Cut.failed e) = may_refuse × (error_kind e ≡ OutOfMemory)
-Cuts byte may_refuse held marks cut = ⊥
+Cuts byte may_refuse held marks (Cut.piece xs) = (marks ≡ Mark.byte byte ∷ []) × (xs ≡ held)
+Cuts byte may_refuse held marks (Cut.last xs) = (marks ≡ Mark.end ∷ []) × (0 < length held) × (xs ≡ held)
+Cuts byte may_refuse held marks Cut.nothing = (marks ≡ Mark.end ∷ []) × (held ≡ [])
+Cuts byte may_refuse held marks (Cut.failed e) =
+    (marks ≡ Mark.fault (error_kind e) ∷ []) ⊎ ((marks ≡ []) × may_refuse × (error_kind e ≡ OutOfMemory))
 
 -- Bytes are held up to a cut; `becomes` says what value is made of it, from what is held, and what is held then.
 abbrev pub pieces : {R : Type 0} → ℕ → Type 0 → (Cut → List ℕ → R → List ℕ → Type 0) → Gather (List ℕ) R

@@ -5,6 +5,7 @@ mod append;
 mod find;
 mod lines;
 pub mod make;
+mod ok_counted;
 mod read_until;
 mod split;
 mod text;

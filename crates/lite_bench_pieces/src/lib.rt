@@ -1,0 +1,5 @@
+//! Tests of pieces and lines.
+#![tactic(auto)]
+
+#[cfg(test)]
+mod tests;

@@ -1,0 +1,4 @@
+mod lines;
+mod split;
+mod told;
+mod until;
