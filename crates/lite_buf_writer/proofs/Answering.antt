@@ -10,9 +10,18 @@ use Rattle.futures.specs.declared.task.Poll.TheVariants.{Ready, Pending}
 use Rattle.lite_io_base.specs.Runs.{RunLaws, Runs}
 use Rattle.lite_io_base.specs.Takings.{Taking, done_marks, write_marks}
 use Rattle.lite_buf_writer.specs.declared.buf_writer.BufWriter.{BufWriter}
-use Rattle.lite_buf_writer.specs.BufWriter.{Answers, Buffers, Drains, FlushesBuffer, MakesRoom, Segment, capacity_of, held}
+use Rattle.lite_buf_writer.specs.BufWriter.{Answers, Buffers, Drains, FlushesBuffer, MakesRoom, Segment, ShownAfter, buffered, capacity_of, held}
 use Rattle.lite_buf_writer.specs.Laws.BufWriter.{balanced_one, segments_one}
 use Rattle.lite_buf_writer.proofs.Draining.{range_none}
+
+-- nothing is in the buffer
+pub shown_none : {W E : Type 0} (x m y : BufWriter W) (r : Poll (Result ℕ E)) → buffered m ≡ [] → y.buf ≡ m.buf → y.written ≡ m.written → y.len ≡ m.len
+    → ShownAfter r x y
+shown_none x m y Pending none buf written len = let same : buffered y ≡ buffered m = rw (buf, len) refl in inr (same ∙ none)
+shown_none x m y (Ready r) none buf written len =
+    let same : buffered y ≡ buffered m = rw (buf, len) refl in
+    let empty : y.len ≡ 0 = omega (arith, ap length (same ∙ none), length-take y.len y.buf.items, y.in_range.1) in
+    same ∙ none ∙ sym (range_none y.buf.items y.written y.len (omega (arith, empty)))
 
 module _ {W : Type 0} (writes : Runs Taking W) where
   -- one answer
@@ -50,6 +59,10 @@ module _ {W : Type 0} (writes : Runs Taking W) where
     pub ran : writes mid.inner last y.inner
     pub capacity : capacity_of y ≡ capacity_of mid
     pub same : held y ≡ held mid
+
+  pub room_capacity : (x y : BufWriter W) (count : ℕ) (r : Poll (Result (Unit {0}) ErrorKind)) → MakesRoom writes x count r y → capacity_of y ≡ capacity_of x
+  room_capacity x y count r (inl f) = f.capacity
+  room_capacity x y count r (inr h) = ap (λ v. capacity_of v) h.0
 
   module _ (laws : RunLaws writes) where
     -- all that was held is taken, and then comes the inner writer's answer

@@ -197,6 +197,8 @@ impl<W: AsyncWrite> BufWriter<W> {
     fn make_room(&mut self, cx: &mut Context<'_>, count: usize) -> Poll<io::Result<()>>
         ensures ran { MakesRoom W.writes self.old count (by_kind result) self.new }
         ensures room { IfReady result (λ r. IfOk r (λ _. count < capacity_of self.new → length (buffered self.new) + count ≤ capacity_of self.new)) }
+        ensures free { IfReady result (λ r. IfOk r (λ _. capacity_of self.new ≤ count → buffered self.new ≡ [])) }
+        ensures shown { (length (buffered self.old) + count ≤ capacity_of self.old → ⊥) → ShownAfter result self.old self.new }
         ensures idle { length (buffered self.old) + count ≤ capacity_of self.old → (self.new ≡ self.old) × (result ≡ Poll.Ready (Ok tt)) }
         ensures left { OnPending result ((fact : Lasting) → W.write_leaves (inner_of self.new) fact → Holds cx.new fact) }
         ensures kept { Keeps cx.old cx.new }
@@ -224,6 +226,7 @@ impl<W: AsyncWrite> AsyncWrite for BufWriter<W> {
 
         // What there is room for is held, and the inner writer is left alone.
         ensures holds { HasRoom self.old buf.now → HoldsAll self.old buf.now result self.new }
+        ensures shown { (HasRoom self.old buf.now → ⊥) → ShownAfter result self.old self.new }
     {
         match ready!(self.make_room(cx, buf.len())) {
             Ok(()) => {}
@@ -278,9 +281,9 @@ impl<W: AsyncWrite + AsyncSeek> AsyncSeek for BufWriter<W> {
         ensures left { OnPending result ((fact : Lasting) → SeekLeaves W.write_leaves W.seek_leaves self.new fact → Holds cx.new fact) }
         ensures kept { Keeps cx.old cx.new }
     {
-        match ready!(self.flush_buf(cx)) {
-            Ok(()) => self.inner.poll_seek(cx, pos),
-            Err(e) => Poll::Ready(Err(e)),
+        if let Err(e) = ready!(self.flush_buf(cx)) {
+            return Poll::Ready(Err(e));
         }
+        self.inner.poll_seek(cx, pos)
     }
 }

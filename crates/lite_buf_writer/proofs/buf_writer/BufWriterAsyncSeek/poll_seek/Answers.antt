@@ -10,9 +10,9 @@ returns-clause-sought g c =
     let got : c.flush_buf.result ≡ Pending = search rules in
     seek_waits g.W.Takings.writes g.W.AsyncSeek.seeks c.args.self.now c.flush_buf.new.self c.args.pos (rw got at c.flush_buf.ensures.ran)
 
-pub returns-in-Ok-clause-sought : goal.returns-in-Ok-clause-sought
-returns-in-Ok-clause-sought g c =
-    let got : c.flush_buf.result ≡ Ready (Ok c.in-Ok.field-0) = search rules in
+pub returns-2-clause-sought : goal.returns-2-clause-sought
+returns-2-clause-sought g c =
+    let got : c.flush_buf.result ≡ Ready (Ok tt) = search rules in
     let ran = rw got at c.flush_buf.ensures.ran in
     seek_follows g.W.Takings.writes g.W.AsyncSeek.seeks c.args.self.now c.flush_buf.new.self _
     c.args.pos (by_kind c.poll_seek.result) ran c.poll_seek.ensures.sought refl refl
