@@ -11,6 +11,9 @@ pub mod prelude;
 pub mod stream;
 
 pub use future::FutureExt;
-pub use io::{AsyncBufRead, AsyncRead, AsyncReadExt, AsyncSeek, AsyncSeekExt, AsyncWrite};
+pub use io::{
+    AsyncBufRead, AsyncBufReadExt, AsyncRead, AsyncReadExt, AsyncSeek, AsyncSeekExt, AsyncWrite,
+    AsyncWriteExt,
+};
 pub use lite_base::{Context, Future, Poll, Stream, ready};
 pub use stream::StreamExt;

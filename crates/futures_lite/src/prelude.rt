@@ -1,6 +1,9 @@
 //! The traits, and what they are extended by.
 
 pub use crate::future::FutureExt;
-pub use crate::io::{AsyncBufRead, AsyncRead, AsyncReadExt, AsyncSeek, AsyncSeekExt, AsyncWrite};
+pub use crate::io::{
+    AsyncBufRead, AsyncBufReadExt, AsyncRead, AsyncReadExt, AsyncSeek, AsyncSeekExt, AsyncWrite,
+    AsyncWriteExt,
+};
 pub use crate::stream::StreamExt;
 pub use lite_base::{Future, Stream};
