@@ -21,7 +21,7 @@ fn a_write_offers_its_bytes_once(rt: HostRuntime) -> Result<(), Fail> {
         answers,
         vec![in rt.alloc(); Poll::Ready(Err(ErrorKind::Other))]?
     );
-    assert_eq!(rt; takes.taken(), b"ab");
+    assert_eq!(rt; takes.taken(), b"ab".as_slice());
     Ok(())
 }
 
@@ -31,7 +31,7 @@ fn a_vectored_write_offers_the_first_bytes(rt: HostRuntime) -> Result<(), Fail> 
     let bufs = [IoSlice::new(b"ab"), IoSlice::new(b"c")];
     let answers = told(&rt, &mut write_vectored(&mut bytes, &bufs))?;
     assert_eq!(rt; answers, vec![in rt.alloc(); Poll::Ready(Ok(3))]?);
-    assert_eq!(rt; bytes.as_slice(), b"abc");
+    assert_eq!(rt; bytes.as_slice(), b"abc".as_slice());
     Ok(())
 }
 

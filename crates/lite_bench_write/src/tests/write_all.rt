@@ -17,7 +17,7 @@ fn all_bytes_are_written_over_a_pending(rt: HostRuntime) -> Result<(), Fail> {
         answers,
         vec![in rt.alloc(); Poll::Pending, Poll::Ready(Ok(()))]?
     );
-    assert_eq!(rt; takes.taken(), b"abcd");
+    assert_eq!(rt; takes.taken(), b"abcd".as_slice());
     Ok(())
 }
 
@@ -46,7 +46,7 @@ fn an_error_is_handed_on_and_what_was_taken_stays(rt: HostRuntime) -> Result<(),
         answers,
         vec![in rt.alloc(); Poll::Ready(Err(ErrorKind::Other))]?
     );
-    assert_eq!(rt; takes.taken(), b"ab");
+    assert_eq!(rt; takes.taken(), b"ab".as_slice());
     Ok(())
 }
 
