@@ -1,4 +1,5 @@
 mod bytes;
+mod lent;
 mod read;
 mod read_to_end;
 mod seek;

@@ -1,9 +1,11 @@
 pub mod Bytes
+pub mod FillBuf
 pub mod Gathering
 pub mod Laws
 pub mod Polled
 pub mod Read
 pub mod ReadExact
 pub mod ReadToEnd
+pub mod ReadVectored
 pub mod Seek
 pub mod Settling

@@ -1,19 +1,30 @@
 //! What makes the futures.
-ghost use Rattle.std.specs.Prelude.{◌≡◌, length};
+ghost use Rattle.std.specs.Prelude.{◌≡◌, length, Some};
 
 use crate::bytes::Bytes;
+use crate::fill_buf::FillBuf;
 use crate::read::ReadFuture;
 use crate::read_exact::ReadExactFuture;
 use crate::read_to_end::ReadToEndFuture;
+use crate::read_vectored::ReadVectoredFuture;
 use crate::seek::SeekFuture;
 use std::alloc::Allocator;
-use std::io::SeekFrom;
+use std::io::{IoSliceMut, SeekFrom};
 
 /// The bytes of a reader, one by one. Ported from `src/io.rs`, `AsyncReadExt::bytes`.
 pub fn bytes<R>(reader: R) -> Bytes<R>
     ensures { result ≡ record { inner = reader } }
 {
     Bytes { inner: reader }
+}
+
+/// The future of the bytes that come next, which the reader lends. Ported from `src/io.rs`, `AsyncBufReadExt::fill_buf`.
+pub fn fill_buf<R>(reader: &mut R) -> FillBuf<'_, R>
+    ensures { result ≡ record { reader = Some reader.entry } }
+{
+    FillBuf {
+        reader: Some(reader),
+    }
 }
 
 /// The future of one read into `buf`. Ported from `src/io.rs`, `AsyncReadExt::read`.
@@ -49,6 +60,19 @@ pub fn read_to_end<'a, R, A: Allocator>(
         start,
         filled: start,
         room: 0,
+    }
+}
+
+/// The future of one read into `bufs`. Ported from `src/io.rs`, `AsyncReadExt::read_vectored`.
+pub fn read_vectored<'a, 'b, R>(
+    reader: &'a mut R,
+    bufs: &'a mut [IoSliceMut<'b>],
+) -> ReadVectoredFuture<'a, 'b, R>
+    ensures { result ≡ record { reader = reader.entry; bufs = Some bufs.entry } }
+{
+    ReadVectoredFuture {
+        reader,
+        bufs: Some(bufs),
     }
 }
 

@@ -1,0 +1,70 @@
+ghost use Rattle.std.specs.Prelude.{◌≡◌, IsSome, IfSome};
+ghost use Rattle.futures.specs.Poll.{OnPending};
+ghost use Rattle.futures.specs.Task.{Holds, Keeps, Lasting};
+ghost use Rattle.lite_io_base.specs.Marks.{fill_marks};
+ghost use Rattle.lite_io_base.specs.Runs.{OnlyOkLends};
+ghost use Rattle.lite_read.specs.FillBuf.{FillsOnce};
+ghost use Rattle.lite_read.specs.Laws.Polled.{polled_laws};
+ghost use Rattle.lite_read.specs.Polled.{Polled};
+
+use lite_base::{Context, Future, Poll};
+use lite_io_base::AsyncBufRead;
+use std::io;
+
+/// The future of the bytes that come next, which the reader lends.
+///
+/// Made by [`fill_buf`](crate::make::fill_buf). Each poll is one fill of the reader. The value is the bytes, none of them
+/// taken and none where the reader is at an end, or the reader's error. After the value it holds no reader, and is not
+/// polled again. Ported from `src/io.rs`, `FillBuf`.
+#[derive(Drop)]
+pub struct FillBuf<'a, R> {
+    // None once there was a value.
+    pub(crate) reader: Option<&'a mut R>,
+}
+
+impl<'a, R: AsyncBufRead> Future for FillBuf<'a, R> {
+    type Output = io::Result<&'a [u8]>;
+
+    ghost can_poll = { λ x. IsSome x.reader };
+
+    ghost run = { Polled (FillsOnce R.reads R.lent) };
+
+    ghost leaves = { λ x fact. IfSome x.reader (λ r. R.leaves r.now fact) };
+
+    ghost laws = { polled_laws (FillsOnce R.reads R.lent) };
+
+    fn poll(&mut self, cx: &mut Context<'_>) -> Poll<io::Result<&'a [u8]>> {
+        let Some(reader) = self.reader.take() else {
+            unreachable!();
+        };
+        match fill(reader, cx) {
+            Poll::Ready(Ok(())) => Poll::Ready(Ok(shown(reader))),
+            Poll::Ready(Err(e)) => Poll::Ready(Err(e)),
+            Poll::Pending => {
+                self.reader = Some(reader);
+                Poll::Pending
+            }
+        }
+    }
+}
+
+// Fills the reader without keeping what it lends.
+fn fill<R: AsyncBufRead>(reader: &mut R, cx: &mut Context<'_>) -> Poll<io::Result<()>>
+    ensures ran { R.reads reader.old (fill_marks result (R.lent reader.new)) reader.new }
+    ensures lends { OnlyOkLends result (R.lent reader.new) }
+    ensures left { OnPending result ((fact : Lasting) → R.leaves reader.new fact → Holds cx.new fact) }
+    ensures kept { Keeps cx.old cx.new }
+{
+    match reader.poll_fill_buf(cx) {
+        Poll::Ready(Ok(_)) => Poll::Ready(Ok(())),
+        Poll::Ready(Err(e)) => Poll::Ready(Err(e)),
+        Poll::Pending => Poll::Pending,
+    }
+}
+
+// What the reader has to lend, for as long as it was borrowed.
+fn shown<'a, R: AsyncBufRead>(reader: &'a R) -> &'a [u8]
+    ensures { result.now ≡ R.lent reader.now }
+{
+    reader.buffer()
+}
