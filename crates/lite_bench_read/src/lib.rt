@@ -1,4 +1,4 @@
-//! Tests of the futures of reading and seeking.
+//! Tests of the futures of reading, seeking and writing.
 #![tactic(auto)]
 
 #[cfg(test)]

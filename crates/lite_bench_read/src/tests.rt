@@ -4,3 +4,5 @@ mod read;
 mod read_to_end;
 mod seek;
 mod told;
+mod write;
+mod write_all;

@@ -1,3 +1,0 @@
-mod told;
-mod write;
-mod write_all;
