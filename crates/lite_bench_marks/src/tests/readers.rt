@@ -4,7 +4,7 @@ use lite_bridge::Cursor;
 use lite_io::{BufReader, make as io};
 use lite_io_base::{CalmRead, SteadyRead};
 use lite_mock::Marks;
-use lite_read::make::{read, read_exact};
+use lite_read::make::{read, read_exact, read_to_end};
 use std::alloc::AllocError;
 use std::test::Fail;
 
@@ -39,9 +39,10 @@ fn readers_are_steady_and_calm(rt: HostRuntime) -> Result<(), Fail> {
 }
 
 #[test]
-fn futures_of_readers_are_steady_and_calm(_rt: HostRuntime) -> Result<(), Fail> {
+fn futures_of_readers_are_steady_and_calm(rt: HostRuntime) -> Result<(), Fail> {
     let mut bytes: &[u8] = b"ab";
     both_future(&read_exact(&mut bytes, &mut [0]));
+    both_future(&read_to_end(&mut bytes, &mut Vec::new(rt.alloc())));
     read(&mut bytes, &mut [0]).is_calm_future();
     Ok(())
 }
