@@ -1,8 +1,7 @@
 ghost use Rattle.std.specs.Prelude.{⊤, ◌≡◌, ◌≤◌, length};
 ghost use Rattle.lite_base.specs.Ends.{Ends-map};
 ghost use Rattle.lite_io_base.specs.Marks.{bytes};
-ghost use Rattle.lite_lines.specs.Laws.ReadUntil.{stays_within, until_laws};
-ghost use Rattle.lite_lines.specs.Laws.Segments.{given_more};
+ghost use Rattle.lite_lines.specs.Laws.ReadUntil.{more_given, stays_within, until_laws};
 ghost use Rattle.lite_lines.specs.ReadUntil.{ReadsUntil, UntilTurn};
 
 use crate::append::append;
@@ -37,7 +36,7 @@ impl<R: AsyncBufRead + CountedRead> Turns for ReadUntilFuture<'_, R> {
 
     ghost goes_on = { λ x y c h. (R.counting.counts_on x.reader.now y.reader.now (bytes h.taken) c.0 h.came, stays_within x y h.stays c.1) };
 
-    ghost finite = { λ x c. Ends-map (λ y. y.reader.now) (λ y z h. given_more R.reads y.reader.now z.reader.now h.taken h.some h.came) x (R.ends x.reader.now c.0) };
+    ghost finite = { λ x c. Ends-map (λ y. y.reader.now) more_given x (R.ends x.reader.now c.0) };
 
     fn turn_once(&mut self, cx: &mut Context<'_>) -> Option<Poll<io::Result<usize>>> {
         match find_byte(self.reader, cx, self.byte) {

@@ -7,10 +7,12 @@ use Rattle.futures.specs.declared.task.Poll.{Poll}
 use Rattle.lite_base.specs.Answers.{Waiting}
 use Rattle.lite_base.specs.Chain.{Goes, Goes-back, Next}
 use Rattle.lite_base.specs.FutureLaws.{FutureLaws}
+use Rattle.lite_io_base.specs.Laws.Falls.{GivenRun}
 use Rattle.lite_io_base.specs.Marks.{Mark}
 use Rattle.lite_io_base.specs.Runs.{RunLaws, Runs}
 use Rattle.lite_read.specs.Gathering.{Gathered}
 use Rattle.lite_read.specs.Laws.Gathering.{gathered_before, gathered_follow, gathered_none, gathers_once}
+use Rattle.lite_lines.specs.Laws.Segments.{given_more}
 use Rattle.lite_lines.specs.ReadUntil.{AppendsMore, ReadsUntil, Stays, UntilTurn, read_of, until}
 use Rattle.lite_lines.specs.declared.read_until.ReadUntilFuture.{ReadUntilFuture}
 
@@ -74,3 +76,7 @@ module _ {R : Type 0} where
     pub until_answer : (x y z : ReadUntilFuture R) (a : Poll (Result ℕ Error)) → Goes (Next (UntilTurn reads ⊤)) x y
         → UntilTurn reads ⊤ y (Some a) z → ReadsUntil reads ⊤ x (a ∷ []) z
     until_answer x y z a goes last = Goes-back (λ v. ReadsUntil reads ⊤ v (a ∷ []) z) (λ v w t h. turn_before v w z a t h) x y goes last
+
+  -- a turn that goes on is a run of bytes
+  pub more_given : {reads : Runs Mark R} (x y : ReadUntilFuture R) → AppendsMore reads ⊤ x y → GivenRun reads x.reader.now y.reader.now
+  more_given {reads} x y h = given_more reads x.reader.now y.reader.now h.taken h.some h.came
