@@ -22,6 +22,11 @@ const MOST_INTERRUPTIONS: usize = 16;
 
 /// Keeps written bytes in a buffer, so that small writes do not each reach the inner writer.
 ///
+/// What is held is written before each flush, close and seek, and before a write that the buffer has no room for. Where
+/// the inner writer takes none of it, that is an error of the kind `WriteZero`; after an `Interrupted` it is called again,
+/// up to 16 times in a row. After an error and after a pending, what was not taken is still held, and the call may be made
+/// again.
+///
 /// The buffer is made once, and no call of the writer takes memory after that. What is held is lost by `into_inner` and
 /// by a drop: flush it before. Ported from `src/io.rs`, `BufWriter`.
 #[derive(Drop)]
@@ -211,7 +216,7 @@ impl<W: AsyncWrite> BufWriter<W> {
 }
 
 impl<W: AsyncWrite> AsyncWrite for BufWriter<W> {
-    ghost use Rattle.lite_buf_writer.specs.BufWriter.{Buffers, HasRoom, HoldsAll, ShownAfter, inner_of};
+    ghost use Rattle.lite_buf_writer.specs.BufWriter.{Buffers, HasRoom, HoldsAll, ShownAfter, capacity_of, inner_of};
 
     ghost write_leaves = { λ w. W.write_leaves (inner_of w) };
 
@@ -223,6 +228,9 @@ impl<W: AsyncWrite> AsyncWrite for BufWriter<W> {
         ensures ran { Buffers W.writes self.old (write_marks result buf.now) self.new }
         ensures left { OnPending result ((fact : Lasting) → W.write_leaves (inner_of self.new) fact → Holds cx.new fact) }
         ensures kept { Keeps cx.old cx.new }
+
+        // What is shorter than the capacity is taken whole.
+        ensures whole { length buf.now < capacity_of self.old → IfReady result (λ r. IfOk r (λ n. n ≡ length buf.now)) }
 
         // What there is room for is held, and the inner writer is left alone.
         ensures holds { HasRoom self.old buf.now → HoldsAll self.old buf.now result self.new }
@@ -239,7 +247,8 @@ impl<W: AsyncWrite> AsyncWrite for BufWriter<W> {
         Poll::Ready(Ok(buf.len()))
     }
 
-    /// Writes what is held to the inner writer, and then flushes that.
+    /// Writes what is held to the inner writer, and then flushes that. While the former is pending, and where it fails,
+    /// there is no flush.
     fn poll_flush(&mut self, cx: &mut Context<'_>) -> Poll<io::Result<()>>
         ensures ran { Buffers W.writes self.old (done_marks flushed result) self.new }
         ensures shown { ShownAfter result self.old self.new }
@@ -252,7 +261,8 @@ impl<W: AsyncWrite> AsyncWrite for BufWriter<W> {
         }
     }
 
-    /// Writes what is held to the inner writer, and then closes that.
+    /// Writes what is held to the inner writer, and then closes that. While the former is pending, and where it fails,
+    /// there is no close.
     fn poll_close(&mut self, cx: &mut Context<'_>) -> Poll<io::Result<()>>
         ensures ran { Buffers W.writes self.old (done_marks closed result) self.new }
         ensures shown { ShownAfter result self.old self.new }

@@ -1,4 +1,4 @@
-use Rattle.std.proofs.Common.{◌≡◌, ◌∙◌, ◌++◌, ◌<◌, ◌≤◌, length, Ok, Err, rules, refl, sym, ap}
+use Rattle.std.proofs.Common.{◌≡◌, ◌∙◌, ◌++◌, ◌<◌, ◌≤◌, length, Ok, Err, rules, refl, sym, ap, arith}
 use Rattle.std.specs.IoError.{error_kind}
 use Rattle.futures.specs.declared.task.Poll.TheVariants.{Ready, Pending}
 use Rattle.lite_buf_writer.specs.BufWriter.{capacity_of}
@@ -57,3 +57,10 @@ returns-2-clause-shown g c none =
     let kept : capacity_of c.make_room.new.self ≡ capacity_of c.args.self.now = room_capacity g.W.Takings.writes c.args.self.now c.make_room.new.self _ _ e.ran in
     let shown = rw got at (e.shown (λ fits. none (fits, rw kept at small))) in
     c.hold.ensures.buffered ∙ ap (λ l. l ++ c.args.buf.now) shown ∙ sym c.hold.ensures.held
+
+pub returns-then-buf-len-clause-whole : goal.returns-then-buf-len-clause-whole
+returns-then-buf-len-clause-whole g c small =
+    let m = c.make_room.new.self in
+    let kept : capacity_of m ≡ capacity_of c.args.self.now = room_capacity g.W.Takings.writes c.args.self.now m _ _ c.make_room.ensures.ran in
+    let large : capacity_of m ≤ length c.args.buf.now = search rules in
+    absurd (omega (arith, kept, large, small))
