@@ -75,7 +75,7 @@ fn a_reader_is_cut_by_each_method(rt: HostRuntime) -> Result<(), Fail> {
     let lines = items(&rt, bytes.lines(rt.alloc()), 3)?;
     assert_eq!(rt; lines.len(), 2);
     assert!(rt; lines[0].as_str() == "ab" && lines[1].as_str() == "cd");
-    let pieces = items(&rt, bytes.split(rt.alloc(), b'c'), 3)?;
+    let pieces = items(&rt, Cursor::new(bytes).split(rt.alloc(), b'c'), 3)?;
     assert_eq!(rt; pieces.len(), 2);
     assert!(rt;
         pieces[0].as_slice() == b"ab\n".as_slice() && pieces[1].as_slice() == b"d".as_slice()
