@@ -6,7 +6,7 @@ use futures_lite::{Context, Poll};
 use std::alloc::{AllocError, Global};
 
 /// How many bytes one write of `cursor_overwrite` and `cursor_extend` offers.
-const BLOCK: u64 = 16;
+pub(crate) const BLOCK: u64 = 16;
 
 /// So many bytes, in which the same 256 come again and again.
 pub(crate) fn noise(alloc: Global, n: u64) -> Result<Vec<u8>, AllocError> {
@@ -25,7 +25,7 @@ pub(crate) fn noise(alloc: Global, n: u64) -> Result<Vec<u8>, AllocError> {
 }
 
 /// The bytes of so many blocks. More than memory can hold are refused as any are.
-fn blocks_len(blocks: u64) -> Result<u64, Fault> {
+pub(crate) fn blocks_len(blocks: u64) -> Result<u64, Fault> {
     match blocks.checked_mul(BLOCK) {
         Some(len) => Ok(len),
         None => Err(Fault::Memory),
@@ -66,7 +66,11 @@ fn consume_each<R: AsyncBufRead>(reader: &mut R, cx: &mut Context<'_>) -> u64 {
 
 /// Writes blocks, and counts the bytes that were taken.
 #[inline(never)]
-fn write_blocks<W: AsyncWrite>(writer: &mut W, cx: &mut Context<'_>, blocks: u64) -> u64 {
+pub(crate) fn write_blocks<W: AsyncWrite>(
+    writer: &mut W,
+    cx: &mut Context<'_>,
+    blocks: u64,
+) -> u64 {
     let mut sum = 0u64;
     for i in 0..blocks {
         match writer.poll_write(cx, &[(i & 255) as u8; BLOCK as usize]) {
@@ -78,7 +82,7 @@ fn write_blocks<W: AsyncWrite>(writer: &mut W, cx: &mut Context<'_>, blocks: u64
 }
 
 /// A buffered reader over a cursor, or a fault where its buffer was refused.
-fn buffered(alloc: Global, bytes: &[u8]) -> Result<BufReader<Cursor<&[u8]>>, Fault> {
+pub(crate) fn buffered(alloc: Global, bytes: &[u8]) -> Result<BufReader<Cursor<&[u8]>>, Fault> {
     match BufReader::new(alloc, Cursor::new(bytes)) {
         Ok(reader) => Ok(reader),
         Err(_) => Err(Fault::Memory),

@@ -1,5 +1,5 @@
 use crate::fault::Fault;
-use crate::{bytes, consuming, journals, merging, streams, values};
+use crate::{bytes, consuming, journals, merging, streams, texts, values};
 use futures_lite::Context;
 use std::alloc::AllocGlobal;
 use std::random::RandomSource;
@@ -57,6 +57,13 @@ where
         "chain_fill" => bytes::chain_fill(alloc, cx, n),
         "cursor_overwrite" => bytes::cursor_overwrite(alloc, cx, n),
         "cursor_extend" => bytes::cursor_extend(alloc, cx, n),
+        "lines" => texts::lines(alloc, cx, n),
+        "split" => texts::split(alloc, cx, n),
+        "read_until" => texts::read_until(alloc, cx, n),
+        "read_exact" => texts::read_exact(alloc, cx, n),
+        "read_to_end" => texts::read_to_end(alloc, cx, n),
+        "write_all" => texts::write_all(alloc, cx, n),
+        "buf_writer" => texts::buf_writer(alloc, cx, n),
         "journal" => journals::journal(alloc, cx, n),
         "half" => journals::half(*rt, cx, n),
         _ => Err(Fault::Arguments),

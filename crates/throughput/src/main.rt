@@ -12,6 +12,7 @@ mod polled;
 mod streams;
 #[cfg(test)]
 mod tests;
+mod texts;
 mod values;
 
 use crate::case::computed;

@@ -85,9 +85,21 @@ fn each_case_of_readers_reads_each_byte(rt: HostRuntime) -> Result<(), Fail> {
 }
 
 #[test]
+fn each_case_of_texts_reads_all(rt: HostRuntime) -> Result<(), Fail> {
+    assert_eq!(rt; number(&rt, "lines", 6)?, Ok(90));
+    assert_eq!(rt; number(&rt, "split", 6)?, Ok(90));
+    assert_eq!(rt; number(&rt, "read_until", 6)?, Ok(96));
+    assert_eq!(rt; number(&rt, "read_exact", 6)?, Ok(288));
+    assert_eq!(rt; number(&rt, "read_to_end", 600)?, Ok(600));
+    Ok(())
+}
+
+#[test]
 fn each_case_of_writers_writes_whole_blocks(rt: HostRuntime) -> Result<(), Fail> {
     assert_eq!(rt; number(&rt, "cursor_overwrite", 6)?, Ok(96));
     assert_eq!(rt; number(&rt, "cursor_extend", 6)?, Ok(96));
+    assert_eq!(rt; number(&rt, "write_all", 6)?, Ok(96));
+    assert_eq!(rt; number(&rt, "buf_writer", 6)?, Ok(96));
     Ok(())
 }
 

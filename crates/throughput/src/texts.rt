@@ -1,0 +1,115 @@
+//! Lines, pieces and whole texts, and writes that go through a buffer. A line has 16 bytes, its newline included.
+
+use crate::bytes::{BLOCK, blocks_len, buffered, noise, write_blocks};
+use crate::fault::Fault;
+use futures_lite::io::{AsyncBufReadExt, AsyncReadExt, AsyncWriteExt, BufWriter, Cursor};
+use futures_lite::{Context, Future, Poll, Stream};
+use std::alloc::Global;
+
+/// So many lines.
+fn text(alloc: Global, n: u64) -> Result<Vec<u8>, Fault> {
+    let mut bytes = Vec::with_capacity(alloc, blocks_len(n)? as usize)?;
+    for _ in 0..n {
+        bytes.extend_from_slice(b"0123456789abcde\n")?;
+    }
+    Ok(bytes)
+}
+
+/// The bytes of all lines, without their newlines.
+#[inline(never)]
+pub(crate) fn lines(alloc: Global, cx: &mut Context<'_>, n: u64) -> Result<u64, Fault> {
+    let bytes = text(alloc, n)?;
+    let mut lines = buffered(alloc, &bytes)?.lines(alloc);
+    let mut sum = 0u64;
+    for _ in 0..n {
+        let Poll::Ready(Some(Ok(line))) = lines.poll_next(cx) else {
+            break;
+        };
+        sum = sum.wrapping_add(line.len() as u64);
+    }
+    Ok(sum)
+}
+
+/// The bytes of all pieces, without their delimiters.
+#[inline(never)]
+pub(crate) fn split(alloc: Global, cx: &mut Context<'_>, n: u64) -> Result<u64, Fault> {
+    let bytes = text(alloc, n)?;
+    let mut pieces = buffered(alloc, &bytes)?.split(alloc, b'\n');
+    let mut sum = 0u64;
+    for _ in 0..n {
+        let Poll::Ready(Some(Ok(piece))) = pieces.poll_next(cx) else {
+            break;
+        };
+        sum = sum.wrapping_add(piece.len() as u64);
+    }
+    Ok(sum)
+}
+
+/// So many lines into one vector, which is emptied before each.
+#[inline(never)]
+pub(crate) fn read_until(alloc: Global, cx: &mut Context<'_>, n: u64) -> Result<u64, Fault> {
+    let bytes = text(alloc, n)?;
+    let mut reader = buffered(alloc, &bytes)?;
+    let mut line = Vec::new(alloc);
+    let mut sum = 0u64;
+    for _ in 0..n {
+        line.clear();
+        let Poll::Ready(Ok(read)) = reader.read_until(b'\n', &mut line).poll(cx) else {
+            break;
+        };
+        sum = sum.wrapping_add(read as u64);
+    }
+    Ok(sum)
+}
+
+/// So many reads that fill 16 bytes.
+#[inline(never)]
+pub(crate) fn read_exact(alloc: Global, cx: &mut Context<'_>, n: u64) -> Result<u64, Fault> {
+    let bytes = text(alloc, n)?;
+    let mut reader = buffered(alloc, &bytes)?;
+    let mut block = [0u8; BLOCK as usize];
+    let mut sum = 0u64;
+    for _ in 0..n {
+        let Poll::Ready(Ok(())) = reader.read_exact(&mut block).poll(cx) else {
+            break;
+        };
+        sum = sum.wrapping_add(block[0] as u64);
+    }
+    Ok(sum)
+}
+
+/// So many bytes into one vector.
+#[inline(never)]
+pub(crate) fn read_to_end(alloc: Global, cx: &mut Context<'_>, n: u64) -> Result<u64, Fault> {
+    let bytes = noise(alloc, n)?;
+    let mut reader = Cursor::new(bytes.as_slice());
+    let mut read = Vec::new(alloc);
+    match reader.read_to_end(&mut read).poll(cx) {
+        Poll::Ready(Ok(count)) => Ok(count as u64),
+        Poll::Ready(Err(_refused)) => Err(Fault::Memory),
+        Poll::Pending => Ok(0),
+    }
+}
+
+/// So many blocks into a vector with room for them.
+#[inline(never)]
+pub(crate) fn write_all(alloc: Global, cx: &mut Context<'_>, n: u64) -> Result<u64, Fault> {
+    let mut bytes = Vec::with_capacity(alloc, blocks_len(n)? as usize)?;
+    for i in 0..n {
+        let block = [(i & 255) as u8; BLOCK as usize];
+        let Poll::Ready(Ok(())) = bytes.write_all(&block).poll(cx) else {
+            break;
+        };
+    }
+    Ok(bytes.len() as u64)
+}
+
+/// So many blocks through a buffer into a vector with room for them.
+#[inline(never)]
+pub(crate) fn buf_writer(alloc: Global, cx: &mut Context<'_>, n: u64) -> Result<u64, Fault> {
+    let bytes = Vec::with_capacity(alloc, blocks_len(n)? as usize)?;
+    match BufWriter::new(alloc, bytes) {
+        Ok(mut writer) => Ok(write_blocks(&mut writer, cx, n)),
+        Err(_) => Err(Fault::Memory),
+    }
+}
