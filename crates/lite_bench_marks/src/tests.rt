@@ -1,2 +1,3 @@
 mod marks;
 mod readers;
+mod writers;
