@@ -1,3 +1,4 @@
 mod marks;
+mod pieces;
 mod readers;
 mod writers;
