@@ -1,2 +1,4 @@
 mod marks;
+mod pieces;
 mod readers;
+mod writers;

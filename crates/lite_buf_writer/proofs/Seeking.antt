@@ -6,9 +6,9 @@ use Rattle.std.specs.declared.io.traits.SeekFrom.{SeekFrom}
 use Rattle.futures.specs.declared.task.Poll.{Poll}
 use Rattle.futures.specs.declared.task.Poll.TheVariants.{Ready, Pending}
 use Rattle.lite_io_base.specs.Runs.{Runs}
-use Rattle.lite_io_base.specs.Takings.{Taking}
+use Rattle.lite_io_base.specs.Takings.{Taking, bytes_of}
 use Rattle.lite_buf_writer.specs.declared.buf_writer.BufWriter.{BufWriter}
-use Rattle.lite_buf_writer.specs.BufWriter.{FlushesBuffer, SeeksAfter, bytes_of, capacity_of, held}
+use Rattle.lite_buf_writer.specs.BufWriter.{FlushesBuffer, SeeksAfter, capacity_of, held}
 use Rattle.lite_buf_writer.specs.Laws.BufWriter.{drains_balance, segment_balance}
 
 module _ {W : Type 0} (writes : Runs Taking W) (seeks : W → SeekFrom → Poll (Result ℕ ErrorKind) → W → Type 0) where

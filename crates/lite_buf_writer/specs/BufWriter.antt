@@ -1,5 +1,5 @@
 -- What passes through a `BufWriter`.
-use Rattle.std.specs.Prelude.{◌≡◌, ◌<◌, ◌≤◌, ◌⊎◌, ◌+◌, ℕ, List, [], ◌∷◌, ◌++◌, length, take, slice_range, flat_map, Result, Ok, Err}
+use Rattle.std.specs.Prelude.{◌≡◌, ◌<◌, ◌≤◌, ◌⊎◌, ◌+◌, ℕ, List, [], ◌∷◌, ◌++◌, length, take, slice_range, Result, Ok, Err}
 use Rattle.std.specs.declared.io.ErrorKind.{ErrorKind}
 use Rattle.std.specs.declared.io.ErrorKind.TheVariants.{Interrupted, WriteZero}
 use Rattle.std.specs.declared.io.traits.SeekFrom.{SeekFrom}
@@ -7,7 +7,7 @@ use Rattle.futures.specs.Task.{Lasting}
 use Rattle.futures.specs.declared.task.Poll.{Poll}
 use Rattle.futures.specs.declared.task.Poll.TheVariants.{Ready, Pending}
 use Rattle.lite_io_base.specs.Runs.{Runs}
-use Rattle.lite_io_base.specs.Takings.{Taking}
+use Rattle.lite_io_base.specs.Takings.{Taking, bytes_of}
 use Rattle.lite_buf_writer.specs.declared.buf_writer.BufWriter.{BufWriter}
 
 -- the bytes in the buffer
@@ -23,14 +23,6 @@ inner_of w = w.inner
 
 abbrev pub capacity_of : {W : Type 0} → BufWriter W → ℕ
 capacity_of w = length w.buf.items
-
--- the bytes that were taken
-abbrev pub bytes_in : Taking → List ℕ
-bytes_in (Taking.wrote xs) = xs
-bytes_in m = []
-
-abbrev pub bytes_of : List Taking → List ℕ
-bytes_of = flat_map bytes_in
 
 -- what was held and then accepted is what the inner writer took and then is held
 abbrev pub Balanced : List ℕ → List Taking → List Taking → List ℕ → Type 0

@@ -1,1 +1,2 @@
 pub mod BufWriter
+pub mod SteadyWrite

@@ -1,3 +1,5 @@
 pub mod Counting
+pub mod Marks
 pub mod ReadUntil
 pub mod Segments
+pub mod Settling

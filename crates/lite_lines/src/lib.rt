@@ -2,12 +2,14 @@
 #![tactic(auto)]
 
 mod append;
+mod calm;
 mod find;
 mod lines;
 pub mod make;
 mod ok_counted;
 mod read_until;
 mod split;
+mod steady;
 mod text;
 
 pub use lines::Lines;

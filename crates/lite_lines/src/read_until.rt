@@ -69,7 +69,7 @@ impl<R: AsyncBufRead + CountedRead> Future for ReadUntilFuture<'_, R> {
 
     ghost leaves = { λ x. R.leaves x.reader.now };
 
-    ghost laws = { until_laws R.read_laws };
+    ghost laws = { until_laws ⊤ R.read_laws };
 
     fn poll(&mut self, cx: &mut Context<'_>) -> Poll<io::Result<usize>> {
         drive(self, cx)

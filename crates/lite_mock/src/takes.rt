@@ -6,9 +6,10 @@ ghost use Rattle.lite_io_base.specs.Takings.{done_marks, write_marks};
 ghost use Rattle.lite_io_base.specs.Takings.Taking.{closed, flushed};
 ghost use Rattle.lite_io_base.specs.Runs.{Idle};
 ghost use Rattle.lite_io_base.specs.Laws.Runs.{idle_laws};
+ghost use Rattle.lite_mock.specs.SteadyTakes.{NoneWaits, takes_calm, takes_steady};
 
 use lite_base::{Context, Poll};
-use lite_io_base::{AsyncWrite, Takings, Tale};
+use lite_io_base::{AsyncWrite, CalmWrite, SteadyWrite, Takings, Tale};
 use std::alloc::{AllocError, Global};
 use std::io;
 use std::io::ErrorKind;
@@ -148,4 +149,19 @@ impl AsyncWrite for Takes {
         // It can be written to as before.
         Poll::Ready(Ok(()))
     }
+}
+
+// Two that took the same.
+impl SteadyWrite for Takes {
+    ghost alike = { λ x y. x.taken ≡ y.taken };
+
+    ghost below = { λ x. x.taken };
+
+    ghost steady = { takes_steady };
+}
+
+impl CalmWrite for Takes {
+    ghost is_calm = { λ x. NoneWaits x.orders };
+
+    ghost calm = { takes_calm };
 }

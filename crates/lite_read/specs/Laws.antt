@@ -5,5 +5,6 @@ pub mod Polled
 pub mod ReadExact
 pub mod ReadToEnd
 pub mod Settling
+pub mod SteadyBytes
 pub mod SteadyReadExact
 pub mod SteadyReadToEnd

@@ -9,3 +9,4 @@ pub mod ReadToEnd
 pub mod ReadVectored
 pub mod Seek
 pub mod Settling
+pub mod SteadyBy

@@ -11,6 +11,7 @@ mod read_to_end;
 mod read_vectored;
 mod seek;
 mod steady;
+mod steady_stream_by;
 
 pub use bytes::Bytes;
 pub use fill_buf::FillBuf;
@@ -19,3 +20,4 @@ pub use read_exact::ReadExactFuture;
 pub use read_to_end::ReadToEndFuture;
 pub use read_vectored::ReadVectoredFuture;
 pub use seek::SeekFuture;
+pub use steady_stream_by::SteadyStreamBy;

@@ -1,14 +1,28 @@
-//! The futures whose value does not depend on when their reader was pending.
+//! The futures and streams whose answers do not depend on when their reader was pending.
+ghost use Rattle.lite_read.specs.Bytes.{Tells};
+ghost use Rattle.lite_read.specs.Laws.SteadyBytes.{bytes_steady};
 ghost use Rattle.lite_read.specs.Laws.SteadyReadExact.{ExactAlike, exact_steady};
 ghost use Rattle.lite_read.specs.Laws.SteadyReadToEnd.{ToEndAlike, to_end_steady};
 ghost use Rattle.lite_read.specs.ReadExact.{ReadsExactly};
 ghost use Rattle.lite_read.specs.ReadToEnd.{ReadsToEnd};
 ghost use Rattle.lite_read.specs.Settling.{SameByKind};
 
-use crate::{ReadExactFuture, ReadToEndFuture};
+use crate::{Bytes, ReadExactFuture, ReadToEndFuture, SteadyStreamBy};
 use lite_base::SteadyFuture;
 use lite_io_base::{CountedRead, SteadyRead};
 use std::alloc::Allocator;
+
+impl<R: SteadyRead> SteadyStreamBy for Bytes<R> {
+    ghost ample = { Tells R.ample };
+
+    ghost needs_none = { R.needs_none };
+
+    ghost same = { SameByKind };
+
+    ghost alike = { λ x y. R.alike x.inner y.inner };
+
+    ghost steady = { bytes_steady R.steady };
+}
 
 impl<R: SteadyRead> SteadyFuture for ReadExactFuture<'_, R> {
     ghost ample = { ReadsExactly R.ample };

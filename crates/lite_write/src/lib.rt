@@ -1,10 +1,12 @@
 //! Futures of writing, and the writer that takes all.
 #![tactic(auto)]
 
+mod calm;
 mod close;
 mod flush;
 pub mod make;
 mod sink;
+mod steady;
 mod write;
 mod write_all;
 mod write_vectored;

@@ -1,14 +1,14 @@
-ghost use Rattle.std.specs.Prelude.{◌≡◌, ◌≤◌, Ok, length, IfOk};
+ghost use Rattle.std.specs.Prelude.{◌≡◌, ◌≤◌, [], Ok, length, IfOk, ⊤};
 ghost use Rattle.futures.specs.Poll.{IfReady, OnPending};
 ghost use Rattle.futures.specs.Task.{Holds, Keeps, Lasting};
 ghost use Rattle.lite_io_base.specs.Laws.Runs.{idle_laws};
 ghost use Rattle.lite_io_base.specs.Runs.{Idle};
 ghost use Rattle.lite_io_base.specs.Takings.{write_marks};
-ghost use Rattle.lite_write.specs.Laws.Sink.{sinks_laws};
+ghost use Rattle.lite_write.specs.Laws.Sink.{sinks_calm, sinks_laws, sinks_steady};
 ghost use Rattle.lite_write.specs.Sink.{Sinks};
 
 use lite_base::{Context, Poll};
-use lite_io_base::{AsyncWrite, Takings, Tale};
+use lite_io_base::{AsyncWrite, CalmWrite, SteadyWrite, Takings, Tale};
 use std::io;
 
 /// A writer that takes all that is offered, and keeps none of it.
@@ -49,4 +49,18 @@ impl AsyncWrite for Sink {
     fn poll_close(&mut self, _cx: &mut Context<'_>) -> Poll<io::Result<()>> {
         Poll::Ready(Ok(()))
     }
+}
+
+impl SteadyWrite for Sink {
+    ghost alike = { λ _ _. ⊤ };
+
+    ghost below = { λ _. [] };
+
+    ghost steady = { sinks_steady };
+}
+
+impl CalmWrite for Sink {
+    ghost is_calm = { λ _. ⊤ };
+
+    ghost calm = { sinks_calm };
 }

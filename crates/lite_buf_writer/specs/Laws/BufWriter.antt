@@ -2,9 +2,9 @@
 use Rattle.std.proofs.Common.{◌≡◌, ◌∙◌, ℕ, List, [], ◌∷◌, ◌++◌, inl, inr, refl, sym, ap, append_assoc, append-nil}
 use Rattle.std.proofs.lemmas.Grind.{flat_map-append}
 use Rattle.lite_io_base.specs.Runs.{RunLaws, Runs}
-use Rattle.lite_io_base.specs.Takings.{Taking}
+use Rattle.lite_io_base.specs.Takings.{Taking, bytes_in, bytes_of}
 use Rattle.lite_buf_writer.specs.declared.buf_writer.BufWriter.{BufWriter}
-use Rattle.lite_buf_writer.specs.BufWriter.{Answers, Balanced, Buffers, Drains, Segment, Segments, bytes_in, bytes_of, held}
+use Rattle.lite_buf_writer.specs.BufWriter.{Answers, Balanced, Buffers, Drains, Segment, Segments, held}
 
 bytes_both : (l m : List Taking) → bytes_of (l ++ m) ≡ bytes_of l ++ bytes_of m
 bytes_both l m = flat_map-append bytes_in l m

@@ -43,23 +43,23 @@ module _ {R : Type 0} where
     idle_join x y z [] m h k e = k e ∙ h refl
     idle_join x y z (a ∷ l) m h k e = absurd (cc e)
 
-    follows : (x y z : ReadUntilFuture R) (l m : List (Poll (Result ℕ Error))) → Waiting l → ReadsUntil reads ⊤ x l y
-        → ReadsUntil reads ⊤ y m z → ReadsUntil reads ⊤ x (l ++ m) z
-    follows x y z l m w h k =
-        let next = subst (λ b. Gathered (until b ⊤) reads y.reader.now (read_of y) m z.reader.now (read_of z)) h.stays.byte k.gathered in
+    follows : (may_refuse : Type 0) (x y z : ReadUntilFuture R) (l m : List (Poll (Result ℕ Error))) → Waiting l → ReadsUntil reads may_refuse x l y
+        → ReadsUntil reads may_refuse y m z → ReadsUntil reads may_refuse x (l ++ m) z
+    follows may_refuse x y z l m w h k =
+        let next = subst (λ b. Gathered (until b may_refuse) reads y.reader.now (read_of y) m z.reader.now (read_of z)) h.stays.byte k.gathered in
         record {
-          gathered = gathered_follow (until x.byte ⊤) laws x.reader.now y.reader.now z.reader.now (read_of x) (read_of y) (read_of z) l m w h.gathered next;
+          gathered = gathered_follow (until x.byte may_refuse) laws x.reader.now y.reader.now z.reader.now (read_of x) (read_of y) (read_of z) l m w h.gathered next;
           stays = stays_join x y z h.stays k.stays;
           idle = idle_join x y z l m h.idle k.idle;
         }
 
-    pub until_laws : FutureLaws (ReadsUntil reads ⊤)
-    until_laws =
+    until_laws_of : (may_refuse : Type 0) → FutureLaws (ReadsUntil reads may_refuse)
+    until_laws_of may_refuse =
         record {
-          rests = λ x. record { gathered = gathered_none (until x.byte ⊤) laws x.reader.now (read_of x); stays = stays_none x; idle = λ e. refl };
+          rests = λ x. record { gathered = gathered_none (until x.byte may_refuse) laws x.reader.now (read_of x); stays = stays_none x; idle = λ e. refl };
           stays = λ x y h. h.idle refl;
-          follows = follows;
-          once = λ x y l h. gathers_once (until x.byte ⊤) (read_of x) (read_of y) h.gathered.marks l h.gathered.gathered;
+          follows = follows may_refuse;
+          once = λ x y l h. gathers_once (until x.byte may_refuse) (read_of x) (read_of y) h.gathered.marks l h.gathered.gathered;
         }
 
     -- a turn before others
@@ -80,3 +80,7 @@ module _ {R : Type 0} where
   -- a turn that goes on is a run of bytes
   pub more_given : {reads : Runs Mark R} (x y : ReadUntilFuture R) → AppendsMore reads ⊤ x y → GivenRun reads x.reader.now y.reader.now
   more_given {reads} x y h = given_more reads x.reader.now y.reader.now h.taken h.some h.came
+
+-- whether memory may be refused or not
+pub until_laws : {R : Type 0} {reads : Runs Mark R} (may_refuse : Type 0) → RunLaws reads → FutureLaws (ReadsUntil {R = R} reads may_refuse)
+until_laws may_refuse laws = until_laws_of laws may_refuse

@@ -12,7 +12,7 @@ use Rattle.lite_io_base.specs.Takings.{Taking}
 use Rattle.lite_write.specs.WriteAll.{AllTurn, Finishes, Halts, Hands, HandsOver, WritesAll, WritesSome}
 use Rattle.lite_write.specs.declared.write_all.WriteAllFuture.{WriteAllFuture}
 
-abbrev Value : Type 0
+abbrev pub Value : Type 0
 Value = Result (Unit {0}) Error
 
 still : {S : Type 0} (x y z : MutBor S) → y ≡ record x { now = y.now } → z ≡ record y { now = z.now } → z ≡ record x { now = z.now }

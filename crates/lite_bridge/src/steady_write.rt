@@ -1,0 +1,49 @@
+//! The cursors that leave the same bytes where the same are taken, and are never pending.
+ghost use Rattle.std.specs.Prelude.{⊤};
+ghost use Rattle.lite_bridge.specs.Laws.SteadyWrite.{lent_vec_calm_write, lent_vec_steady_write, slice_calm_write, slice_steady_write};
+ghost use Rattle.lite_bridge.specs.Laws.SteadyWrite.{SameLentVec, SameSlice, SameVec, vec_calm_write, vec_steady_write};
+
+use crate::cursor::Cursor;
+use lite_io_base::{CalmWrite, SteadyWrite};
+
+impl SteadyWrite for Cursor<Vec<u8>> {
+    ghost alike = { SameVec };
+
+    ghost below = { λ x. x.inner.items };
+
+    ghost steady = { vec_steady_write };
+}
+
+impl CalmWrite for Cursor<Vec<u8>> {
+    ghost is_calm = { λ _. ⊤ };
+
+    ghost calm = { vec_calm_write };
+}
+
+impl SteadyWrite for Cursor<&mut Vec<u8>> {
+    ghost alike = { SameLentVec };
+
+    ghost below = { λ x. x.inner.now.items };
+
+    ghost steady = { lent_vec_steady_write };
+}
+
+impl CalmWrite for Cursor<&mut Vec<u8>> {
+    ghost is_calm = { λ _. ⊤ };
+
+    ghost calm = { lent_vec_calm_write };
+}
+
+impl SteadyWrite for Cursor<&mut [u8]> {
+    ghost alike = { SameSlice };
+
+    ghost below = { λ x. x.inner.now };
+
+    ghost steady = { slice_steady_write };
+}
+
+impl CalmWrite for Cursor<&mut [u8]> {
+    ghost is_calm = { λ _. ⊤ };
+
+    ghost calm = { slice_calm_write };
+}

@@ -1,0 +1,49 @@
+//! The streams and the future that do not depend on when their reader was pending, where memory was found.
+ghost use Rattle.lite_lines.specs.Laws.Marks.{SameText, SameVec, UntilAlike, line_one, text_one, until_steady, vec_one};
+ghost use Rattle.lite_lines.specs.Laws.Settling.{FlowAlike, flow_steady, items_settle};
+ghost use Rattle.lite_lines.specs.Lines.{GivesLines, lines_over, lining};
+ghost use Rattle.lite_lines.specs.ReadUntil.{ReadsUntil};
+ghost use Rattle.lite_lines.specs.Split.{Splits, split_over, splitting};
+ghost use Rattle.lite_read.specs.Settling.{SameByKind, SameOr};
+ghost use Rattle.std.specs.Prelude.{⊤};
+
+use crate::{Lines, ReadUntilFuture, Split};
+use lite_base::SteadyFuture;
+use lite_io_base::{AsyncBufRead, CountedRead, SteadyRead};
+use lite_read::SteadyStreamBy;
+
+impl<R: AsyncBufRead + CountedRead + SteadyRead> SteadyStreamBy for Lines<R> {
+    ghost ample = { GivesLines R.ample ⊥ };
+
+    ghost needs_none = { ⊥ };
+
+    ghost same = { SameOr SameText };
+
+    ghost alike = { FlowAlike lines_over R.alike };
+
+    ghost steady = { flow_steady lines_over (lining ⊤) (lining ⊥) (λ k. items_settle line_one text_one 10) R.steady };
+}
+
+impl<R: AsyncBufRead + CountedRead + SteadyRead> SteadyStreamBy for Split<R> {
+    ghost ample = { Splits R.ample ⊥ };
+
+    ghost needs_none = { ⊥ };
+
+    ghost same = { SameOr SameVec };
+
+    ghost alike = { FlowAlike split_over R.alike };
+
+    ghost steady = { flow_steady split_over (splitting ⊤) (splitting ⊥) (items_settle vec_one vec_one) R.steady };
+}
+
+impl<R: AsyncBufRead + CountedRead + SteadyRead> SteadyFuture for ReadUntilFuture<'_, R> {
+    ghost ample = { ReadsUntil R.ample ⊥ };
+
+    ghost needs_none = { ⊥ };
+
+    ghost same = { SameByKind };
+
+    ghost alike = { UntilAlike R.alike };
+
+    ghost steady = { until_steady R.steady };
+}
