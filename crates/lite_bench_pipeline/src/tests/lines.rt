@@ -19,7 +19,7 @@ const TEXT: &[u8] = b"ab\ncd\nef";
 /// A reader of these bytes in chunks of so many, with a pending before each and before the end.
 fn slow(rt: &HostRuntime, bytes: &[u8], chunk: usize) -> Result<Marks, Fail> {
     let mut marks = Marks::new(rt.alloc());
-    for piece in bytes.chunks(chunk) {
+    for piece in bytes.chunks(chunk.max(1)) {
         marks.pending()?;
         marks.chunk(piece)?;
     }
