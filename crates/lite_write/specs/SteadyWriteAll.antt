@@ -15,3 +15,7 @@ Prospers (Taking.closed ∷ l) = Prospers l
 
 abbrev pub Prospering : {W : Type 0} → Runs Taking W → Runs Taking W
 Prospering writes x l y = writes x l y × Prospers l
+
+-- no write fails, and each takes something
+abbrev pub AllProsper : {W : Type 0} → Runs Taking W → Type 0
+AllProsper {W} writes = (x y : W) (l : List Taking) → writes x l y → Prospers l

@@ -1,8 +1,7 @@
 //! The future whose value does not depend on when its writer was pending.
-ghost use Rattle.std.specs.Prelude.{List, ⊤};
-ghost use Rattle.lite_io_base.specs.Takings.{Taking};
+ghost use Rattle.std.specs.Prelude.{⊤};
 ghost use Rattle.lite_write.specs.Laws.SteadyWriteAll.{all_steady};
-ghost use Rattle.lite_write.specs.SteadyWriteAll.{Prospering, Prospers};
+ghost use Rattle.lite_write.specs.SteadyWriteAll.{AllProsper, Prospering};
 ghost use Rattle.lite_write.specs.WriteAll.{WritesAll};
 
 use crate::WriteAllFuture;
@@ -13,7 +12,7 @@ use lite_io_base::AsyncWrite;
 impl<W: AsyncWrite> SteadyFuture for WriteAllFuture<'_, W> {
     ghost ample = { WritesAll (Prospering W.writes) };
 
-    ghost needs_none = { (x y : W) (l : List Taking) → W.writes x l y → Prospers l };
+    ghost needs_none = { AllProsper W.writes };
 
     ghost alike = { λ _ _. ⊤ };
 

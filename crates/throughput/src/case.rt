@@ -62,6 +62,7 @@ where
         "read_until" => texts::read_until(alloc, cx, n),
         "read_exact" => texts::read_exact(alloc, cx, n),
         "read_to_end" => texts::read_to_end(alloc, cx, n),
+        "copy" => texts::copy(alloc, cx, n),
         "write_all" => texts::write_all(alloc, cx, n),
         "buf_writer" => texts::buf_writer(alloc, cx, n),
         "journal" => journals::journal(alloc, cx, n),

@@ -91,6 +91,7 @@ fn each_case_of_texts_reads_all(rt: HostRuntime) -> Result<(), Fail> {
     assert_eq!(rt; number(&rt, "read_until", 6)?, Ok(96));
     assert_eq!(rt; number(&rt, "read_exact", 6)?, Ok(288));
     assert_eq!(rt; number(&rt, "read_to_end", 600)?, Ok(600));
+    assert_eq!(rt; number(&rt, "copy", 60000)?, Ok(60000));
     Ok(())
 }
 

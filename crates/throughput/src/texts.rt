@@ -3,7 +3,7 @@
 use crate::bytes::{BLOCK, blocks_len, buffered, noise, write_blocks};
 use crate::fault::Fault;
 use futures_lite::io::{AsyncBufReadExt, AsyncReadExt, AsyncWriteExt, BufWriter, Cursor};
-use futures_lite::{Context, Future, Poll, Stream};
+use futures_lite::{Context, Future, Poll, Stream, io};
 use std::alloc::Global;
 
 /// So many lines.
@@ -88,6 +88,19 @@ pub(crate) fn read_to_end(alloc: Global, cx: &mut Context<'_>, n: u64) -> Result
         Poll::Ready(Ok(count)) => Ok(count as u64),
         Poll::Ready(Err(_refused)) => Err(Fault::Memory),
         Poll::Pending => Ok(0),
+    }
+}
+
+/// So many bytes to a writer that takes all.
+#[inline(never)]
+pub(crate) fn copy(alloc: Global, cx: &mut Context<'_>, n: u64) -> Result<u64, Fault> {
+    let bytes = noise(alloc, n)?;
+    let Ok(mut copying) = io::copy(alloc, bytes.as_slice(), io::sink()) else {
+        return Err(Fault::Memory);
+    };
+    match copying.poll(cx) {
+        Poll::Ready(Ok(count)) => Ok(count),
+        Poll::Ready(Err(_)) | Poll::Pending => Ok(0),
     }
 }
 

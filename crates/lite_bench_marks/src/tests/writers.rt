@@ -2,6 +2,7 @@
 use lite_base::{CalmFuture, SteadyFuture};
 use lite_bridge::Cursor;
 use lite_buf_writer::BufWriter;
+use lite_copy::make::copy;
 use lite_io_base::{CalmWrite, SteadyWrite};
 use lite_mock::Takes;
 use lite_write::make::{sink, write_all};
@@ -40,8 +41,13 @@ fn writers_are_steady_and_calm(rt: HostRuntime) -> Result<(), Fail> {
 }
 
 #[test]
-fn a_future_of_a_writer_is_steady_and_calm(rt: HostRuntime) -> Result<(), Fail> {
+fn futures_of_a_writer_are_steady_and_calm(rt: HostRuntime) -> Result<(), Fail> {
     let mut bytes: Vec<u8> = Vec::new(rt.alloc());
     both_future(&write_all(&mut bytes, b"ab"));
+    let text: &[u8] = b"ab";
+    let Ok(copied) = copy(rt.alloc(), text, bytes) else {
+        return Err(AllocError.into());
+    };
+    both_future(&copied);
     Ok(())
 }

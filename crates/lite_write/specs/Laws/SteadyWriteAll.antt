@@ -12,7 +12,7 @@ use Rattle.lite_io_base.specs.Runs.{RunLaws, Runs}
 use Rattle.lite_io_base.specs.SteadyWrite.{CalmWriteLaws, NeverWaits}
 use Rattle.lite_io_base.specs.Takings.{Taking}
 use Rattle.lite_write.specs.Laws.WriteAll.{Value, all_laws}
-use Rattle.lite_write.specs.SteadyWriteAll.{Prospers, Prospering}
+use Rattle.lite_write.specs.SteadyWriteAll.{AllProsper, Prospers, Prospering}
 use Rattle.lite_write.specs.WriteAll.{Ended, Hands, HandsOver, WritesAll}
 use Rattle.lite_write.specs.declared.write_all.WriteAllFuture.{WriteAllFuture}
 
@@ -26,7 +26,7 @@ prospers_both (Taking.flushed ∷ l) m a b = prospers_both l m a b
 prospers_both (Taking.closed ∷ l) m a b = prospers_both l m a b
 
 -- what stands behind
-prospers_last : (l m : List Taking) → Prospers (l ++ m) → Prospers m
+pub prospers_last : (l m : List Taking) → Prospers (l ++ m) → Prospers m
 prospers_last [] m a = a
 prospers_last (Taking.wrote [] ∷ l) m a = absurd a
 prospers_last (Taking.wrote (x ∷ xs) ∷ l) m a = prospers_last l m a
@@ -85,7 +85,7 @@ hands_prompt p q i (Pending ∷ l) a h = absurd (waits_last h.2.before h.0 (subs
 hands_prompt p q i (Ready r ∷ l) a h = rw h.1 tt
 
 module _ {W : Type 0} {writes : Runs Taking W} where
-  pub all_steady : RunLaws writes → FutureSteadyLaws (WritesAll writes) (WritesAll (Prospering writes)) ((x y : W) (l : List Taking) → writes x l y → Prospers l) (λ x y. ⊤)
+  pub all_steady : RunLaws writes → FutureSteadyLaws (WritesAll writes) (WritesAll (Prospering writes)) (AllProsper writes) (λ x y. ⊤)
   all_steady laws =
       record {
         laws = all_laws (prospering_laws laws);

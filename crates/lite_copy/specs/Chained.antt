@@ -1,0 +1,43 @@
+-- A copy of two readers, one after the other, to a buffered writer.
+use Rattle.std.specs.Prelude.{◌≡◌, ◌%◌, ◌^◌, ℕ, List, [], ◌∷◌, ◌++◌, length, Result, Ok}
+use Rattle.futures.specs.declared.task.Poll.{Poll}
+use Rattle.lite_base.specs.Answers.{Gives}
+use Rattle.lite_buf_writer.specs.BufWriter.{held, inner_of}
+use Rattle.lite_buf_writer.specs.declared.buf_writer.BufWriter.{BufWriter}
+use Rattle.lite_io.specs.Chain.{first_of, second_of}
+use Rattle.lite_io.specs.declared.chain.Chain.{Chain}
+use Rattle.lite_io_base.specs.Marks.{Mark}
+use Rattle.lite_io_base.specs.Runs.{Runs}
+use Rattle.lite_io_base.specs.Takings.{Taking, bytes_of}
+use Rattle.lite_copy.specs.Copy.{GoesOn, bytes_told, source_of}
+use Rattle.lite_copy.specs.declared.copy.CopyFuture.{CopyFuture}
+use denote.MutBor.{MutBor}
+
+-- the reader told these bytes, with pendings among them, and then its first end
+pub record TellsWhole {R : Type 0} (reads : Runs Mark R) (x : R) (xs : List ℕ) (y : R) : Type 0 where
+  pub told : List Mark
+  pub goes_on : GoesOn told
+  pub all : bytes_told told ≡ xs
+  pub came : reads x (told ++ Mark.end ∷ []) y
+
+-- the writer took these bytes, and was flushed after them
+pub record TakesWhole {W : Type 0} (writes : Runs Taking W) (x : W) (xs : List ℕ) (y : W) : Type 0 where
+  pub taken : List Taking
+  pub all : bytes_of taken ≡ xs
+  pub went : writes x (taken ++ Taking.flushed ∷ []) y
+
+-- Both readers told all up to their first ends. The inner writer took what was held, and then the bytes of the one and of the
+-- other, and was flushed. Nothing is held any more, and n is how many bytes were copied, in 64 bits.
+pub record CopiesBoth {R S W : Type 0} (first : Runs Mark R) (second : Runs Mark S) (writes : Runs Taking W) (r : R) (s : S) (w : BufWriter W)
+    (y : CopyFuture (Chain R S) (MutBor (BufWriter W))) (n : ℕ) : Type 0 where
+  pub firsts : List ℕ
+  pub seconds : List ℕ
+  pub first_told : TellsWhole first r firsts (first_of (source_of y))
+  pub second_told : TellsWhole second s seconds (second_of (source_of y))
+  pub took : TakesWhole writes (inner_of w) (held w ++ (firsts ++ seconds)) (inner_of y.writer.now)
+  pub empty : held y.writer.now ≡ []
+  pub count : n ≡ length (firsts ++ seconds) % 2 ^ 64
+
+-- P holds wherever the future x gives an Ok, of what it is then and of the value
+abbrev pub AtEachOk : {F A E : Type 0} → (F → List (Poll (Result A E)) → F → Type 0) → F → (F → A → Type 0) → Type 0
+AtEachOk {F} {A} {E} run x P = (out : List (Poll (Result A E))) (y : F) (n : A) → run x out y → Gives out (Ok n) → P y n

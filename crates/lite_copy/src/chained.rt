@@ -1,0 +1,43 @@
+//! What comes through a chain, a copy and a buffered writer, by their contracts alone.
+ghost use Rattle.std.specs.Prelude.{◌≡◌, IfErr, IfOk, false};
+ghost use Rattle.lite_base.specs.Lent.{Lent};
+ghost use Rattle.lite_buf_writer.specs.BufWriter.{Buffers};
+ghost use Rattle.lite_copy.specs.Chained.{AtEachOk, CopiesBoth};
+ghost use Rattle.lite_copy.specs.Copy.{Begins, Copies, source_of};
+ghost use Rattle.lite_io.specs.Chain.{Chains, first_of, has_ended, second_of};
+
+use crate::copy::CopyFuture;
+use crate::make::copy;
+use lite_buf_writer::BufWriter;
+use lite_io::Chain;
+use lite_io::make::chain;
+use lite_io_base::{AsyncWrite, CountedRead};
+use std::alloc::Global;
+
+/// The future of a copy of what `first` gives up to its first end, and then `second` up to its own, to `writer`. Where it
+/// gives `Ok`, in however many polls and wherever the three were pending, the inner writer took what `writer` held before
+/// and then exactly those bytes, in their order, and was flushed; nothing is held any more, and the value is how many were
+/// copied, in 64 bits.
+///
+/// It is the future that [`copy`] makes of `chain`; it may be polled where the ranks of the two readers count. `Err` is that
+/// of `copy`: there was no memory for its buffer. The original has no such call.
+pub fn copy_chain<'a, R1, R2, W>(
+    alloc: Global,
+    first: R1,
+    second: R2,
+    writer: &'a mut BufWriter<W>,
+) -> Result<CopyFuture<Chain<R1, R2>, &'a mut BufWriter<W>>, (Chain<R1, R2>, &'a mut BufWriter<W>)>
+where
+    R1: CountedRead + Drop,
+    R2: CountedRead + Drop,
+    W: AsyncWrite,
+    ensures first { IfOk result (λ f. first_of (source_of f) ≡ first) }
+    ensures second { IfOk result (λ f. second_of (source_of f) ≡ second) }
+    ensures fresh { IfOk result (λ f. has_ended (source_of f) ≡ false) }
+    ensures writer { IfOk result (λ f. f.writer ≡ writer.entry) }
+    ensures begins { IfOk result (λ f. Begins f) }
+    ensures whole { IfOk result (λ f. AtEachOk (Copies (Chains R1.reads R2.reads) (Lent (Buffers W.writes))) f
+        (CopiesBoth R1.reads R2.reads W.writes first second writer.old)) }
+{
+    copy(alloc, chain(first, second), writer)
+}

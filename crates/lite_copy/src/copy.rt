@@ -1,0 +1,148 @@
+ghost use Rattle.std.specs.Prelude.{◌≡◌, ◌<◌, ◌↔◌, ◌^◌, [], ◌∷◌, length, IfOk, IfSome, IsTrue};
+ghost use Rattle.futures.specs.Poll.{IfReady, OnPending};
+ghost use Rattle.futures.specs.Task.{Holds, Keeps, Lasting};
+ghost use Rattle.lite_base.specs.Ends.{Ends-map};
+ghost use Rattle.lite_copy.specs.declared.copy.Phase.TheVariants.{Copying, Flushing};
+ghost use Rattle.lite_io.specs.BufReader.{ahead, capacity_of, inner_of};
+ghost use Rattle.lite_io.specs.Laws.BufReader.{through_counting};
+ghost use Rattle.lite_io_base.specs.Counting.{counting_ends};
+ghost use Rattle.lite_io_base.specs.Marks.{fill_marks};
+ghost use Rattle.lite_io_base.specs.Runs.{OnlyOkLends};
+
+use lite_base::{Context, Future, Poll, Turns, drive};
+use lite_io::BufReader;
+use lite_io_base::{AsyncBufRead, AsyncRead, AsyncWrite, CountedRead};
+use std::io;
+use std::io::ErrorKind;
+
+/// How far a copy is.
+#[derive(Clone, Copy)]
+pub(crate) enum Phase {
+    Copying,
+    // The reader's end was met, and all that it gave is written.
+    Flushing,
+}
+
+/// The future of a copy of what a reader gives, up to its first end, to a writer, which is then flushed.
+///
+/// Made by [`copy`](crate::make::copy). The value is how many bytes were written, in 64 bits: all that the reader gave
+/// before its end. Or it is an error of the reader, of a write or of the flush, or one of the kind `WriteZero` where a write
+/// took none. After an error what was written stays written, and what was read and not written is lost with the future.
+///
+/// The reader is asked only where nothing is left to be written, and no more after its end: where the flush is pending, the
+/// next poll flushes again. No poll takes memory. Ported from `src/io.rs`, `CopyFuture`.
+#[derive(Drop)]
+pub struct CopyFuture<R, W> {
+    pub(crate) reader: BufReader<R>,
+    pub(crate) writer: W,
+    // How many bytes the writer took, in 64 bits.
+    pub(crate) amount: u64,
+    pub(crate) phase: Phase,
+    ghost buffered: { 0 < capacity_of reader },
+    ghost counted: { amount < 2 ^ 64 },
+    ghost drained: { phase ≡ Flushing → ahead reader ≡ [] },
+}
+
+/// Fills a reader, and answers whether it then lends nothing.
+fn fill<R: AsyncBufRead>(reader: &mut R, cx: &mut Context<'_>) -> Poll<io::Result<bool>>
+    ensures ran { R.reads reader.old (fill_marks result (R.lent reader.new)) reader.new }
+    ensures empty { IfReady result (λ r. IfOk r (λ empty. IsTrue empty ↔ R.lent reader.new ≡ [])) }
+    ensures lends { OnlyOkLends result (R.lent reader.new) }
+    ensures left { OnPending result ((fact : Lasting) → R.leaves reader.new fact → Holds cx.new fact) }
+    ensures kept { Keeps cx.old cx.new }
+{
+    match reader.poll_fill_buf(cx) {
+        Poll::Ready(Ok(bytes)) => Poll::Ready(Ok(bytes.is_empty())),
+        Poll::Ready(Err(e)) => Poll::Ready(Err(e)),
+        Poll::Pending => Poll::Pending,
+    }
+}
+
+impl<R: AsyncRead, W: AsyncWrite> CopyFuture<R, W> {
+    ghost use Rattle.lite_copy.specs.Copy.{CopyLeaves, CopyTurn, Moves};
+
+    // Offers what is buffered to the writer, and takes what was written from the buffer.
+    fn write_some(&mut self, cx: &mut Context<'_>) -> Option<Poll<io::Result<u64>>>
+        requires phase { self.old.phase ≡ Copying }
+        requires some { 0 < length (ahead self.old.reader) }
+        ensures turned { CopyTurn R.reads W.writes self.old result self.new }
+        ensures left { IfSome result (λ answer. OnPending answer ((fact : Lasting) → CopyLeaves R.leaves W.write_leaves self.new fact → Holds cx.new fact)) }
+        ensures kept { Keeps cx.old cx.new }
+    {
+        match self.writer.poll_write(cx, self.reader.buffer()) {
+            Poll::Ready(Ok(0)) => Some(Poll::Ready(Err(ErrorKind::WriteZero.into()))),
+            Poll::Ready(Ok(n)) => {
+                self.reader.consume(n);
+                self.amount = self.amount.wrapping_add(n as u64);
+                None
+            }
+            Poll::Ready(Err(e)) => Some(Poll::Ready(Err(e))),
+            Poll::Pending => Some(Poll::Pending),
+        }
+    }
+
+    // Flushes the writer.
+    fn flush(&mut self, cx: &mut Context<'_>) -> Poll<io::Result<u64>>
+        requires phase { self.old.phase ≡ Flushing }
+        ensures ran { Moves R.reads W.writes self.old (result ∷ []) self.new }
+        ensures left { OnPending result ((fact : Lasting) → CopyLeaves R.leaves W.write_leaves self.new fact → Holds cx.new fact) }
+        ensures kept { Keeps cx.old cx.new }
+    {
+        match self.writer.poll_flush(cx) {
+            Poll::Ready(Ok(())) => Poll::Ready(Ok(self.amount)),
+            Poll::Ready(Err(e)) => Poll::Ready(Err(e)),
+            Poll::Pending => Poll::Pending,
+        }
+    }
+}
+
+impl<R: CountedRead, W: AsyncWrite> Turns for CopyFuture<R, W> {
+    ghost use Rattle.lite_copy.specs.Copy.{CopyLeaves, CopyTurn};
+    ghost use Rattle.lite_copy.specs.Laws.Copy.{some_given};
+
+    type Output = io::Result<u64>;
+
+    ghost can_turn = { λ x. R.ranks.counts (inner_of x.reader) };
+
+    ghost turn = { CopyTurn R.reads W.writes };
+
+    ghost turn_leaves = { CopyLeaves R.leaves W.write_leaves };
+
+    ghost goes_on = { λ x y c h. R.counting.counts_on (inner_of x.reader) (inner_of y.reader) h.moves.told c h.moves.came };
+
+    ghost finite = { λ x c. Ends-map (λ y. y.reader) some_given x (counting_ends (through_counting R.counting) x.reader c) };
+
+    fn turn_once(&mut self, cx: &mut Context<'_>) -> Option<Poll<io::Result<u64>>> {
+        if let Phase::Flushing = self.phase {
+            return Some(self.flush(cx));
+        }
+        match fill(&mut self.reader, cx) {
+            Poll::Ready(Ok(true)) => {
+                self.phase = Phase::Flushing;
+                Some(self.flush(cx))
+            }
+            Poll::Ready(Ok(false)) => self.write_some(cx),
+            Poll::Ready(Err(e)) => Some(Poll::Ready(Err(e))),
+            Poll::Pending => Some(Poll::Pending),
+        }
+    }
+}
+
+impl<R: CountedRead, W: AsyncWrite> Future for CopyFuture<R, W> {
+    ghost use Rattle.lite_copy.specs.Copy.{Copies, CopyLeaves};
+    ghost use Rattle.lite_copy.specs.Laws.Copy.{copies_laws};
+
+    type Output = io::Result<u64>;
+
+    ghost can_poll = { λ x. R.ranks.counts (inner_of x.reader) };
+
+    ghost run = { Copies R.reads W.writes };
+
+    ghost leaves = { CopyLeaves R.leaves W.write_leaves };
+
+    ghost laws = { copies_laws R.read_laws W.write_laws };
+
+    fn poll(&mut self, cx: &mut Context<'_>) -> Poll<io::Result<u64>> {
+        drive(self, cx)
+    }
+}
