@@ -59,7 +59,8 @@ copying_on : (a b : Phase) (came : List Mark) → a ≡ Copying → b ≡ Copyin
 copying_on a b came e d = rw (e, d) (sym (append-nil came))
 
 -- a fill that lent something left no mark
-fills_some : {R : Type 0} (reads : Runs Mark R) (x y : BufReader R) (shown : List ℕ) → 0 < length shown → Through reads x (filled shown) y → Through reads x [] y
+fills_some : {R : Type 0} (reads : Runs Mark R) (x y : BufReader R) (shown : List ℕ) → 0 < length shown → Through reads x (filled shown) y
+    → Through reads x [] y
 fills_some reads x y [] some h = absurd (omega (arith, some))
 fills_some reads x y (b ∷ shown) some h = h
 
@@ -73,7 +74,8 @@ module _ {R W : Type 0} (reads : Runs Mark R) (writes : Runs Taking W) (rl : Run
       same_amount took none = amount ∙ counted_none x.amount x.counted ∙ ap (λ l. (x.amount + length l) % 2 ^ 64) (sym none)
 
       -- one call of the writer, which took no byte
-      pub writer_answers : (m : Taking) (a : Poll (Result ℕ Error)) (written last : List Taking) → m ∷ [] ≡ written ++ last → TakesSome written → bytes_of (m ∷ []) ≡ []
+      pub writer_answers : (m : Taking) (a : Poll (Result ℕ Error)) (written last : List Taking) → m ∷ [] ≡ written ++ last → TakesSome written
+          → bytes_of (m ∷ []) ≡ []
           → waits (a ∷ []) ≡ waits_taken (m ∷ []) → Answers (a ∷ []) [] last (held_of y) (met_of y) y.amount → writes x.writer (m ∷ []) y.writer
           → Moves reads writes x (a ∷ []) y
       writer_answers m a written last cut some none waits answers went =
@@ -113,7 +115,8 @@ module _ {R W : Type 0} (reads : Runs Mark R) (writes : Runs Taking W) (rl : Run
 
       pub writer_is_flushed : y.phase ≡ Flushing → writes x.writer (Taking.flushed ∷ []) y.writer → Moves reads writes x (Ready (Ok y.amount) ∷ []) y
       writer_is_flushed flushing went =
-          writer_answers Taking.flushed (Ready (Ok y.amount)) [] (Taking.flushed ∷ []) refl tt refl refl ((refl, refl, y.drained flushing, ap met_in flushing, refl), refl) went
+          writer_answers Taking.flushed (Ready (Ok y.amount)) [] (Taking.flushed ∷ []) refl tt refl refl
+          ((refl, refl, y.drained flushing, ap met_in flushing, refl), refl) went
 
     -- the writer took some bytes, which were taken from the buffer
     pub writes_more : (xs : List ℕ) → 0 < length xs → x.phase ≡ Copying → y.phase ≡ Copying → y.amount ≡ (x.amount + length xs) % 2 ^ 64
@@ -194,7 +197,8 @@ module _ {R W : Type 0} (reads : Runs Mark R) (writes : Runs Taking W) (rl : Run
             let equation = passes_some (capacity_of x.reader) (held_of x) h.came (m ∷ []) (held_of y) x.buffered h.passes in
             one_mark (held_of x) h.came m other (equation ∙ ap (λ l. m ∷ bytes l) empty)
 
-        reader_marks : (read failed : List Mark) (out : List (Poll (Result ℕ Error))) → m ∷ [] ≡ read ++ (met_of y ++ failed) → GoesOn read → bytes_told (m ∷ []) ≡ []
+        reader_marks : (read failed : List Mark) (out : List (Poll (Result ℕ Error))) → m ∷ [] ≡ read ++ (met_of y ++ failed) → GoesOn read
+            → bytes_told (m ∷ []) ≡ []
             → waits out ≡ waits_told (m ∷ []) → Answers out failed [] (held_of y) (met_of y) y.amount → Moves reads writes x out y
         reader_marks read failed out cut on none waits answers =
             let came = subst (λ l. reads (source_of x) l (source_of y)) marked.1 h.ran in
@@ -203,13 +207,15 @@ module _ {R W : Type 0} (reads : Runs Mark R) (writes : Runs Taking W) (rl : Run
 
       pub reader_waits : y.phase ≡ Copying → held_of y ≡ [] → Through reads x.reader (Mark.pending ∷ []) y.reader → Moves reads writes x (Pending ∷ []) y
       reader_waits still empty h =
-          reader_marks Mark.pending (λ b e. cc (e)) empty h (Mark.pending ∷ []) [] (Pending ∷ []) (ap (λ a. Mark.pending ∷ (met_in a ++ [])) (sym still)) tt refl refl (refl, refl)
+          reader_marks Mark.pending (λ b e. cc (e)) empty h (Mark.pending ∷ []) [] (Pending ∷ [])
+          (ap (λ a. Mark.pending ∷ (met_in a ++ [])) (sym still)) tt refl refl (refl, refl)
 
       pub reader_fails : (e : Error) → y.phase ≡ Copying → held_of y ≡ [] → Through reads x.reader (Mark.fault (error_kind e) ∷ []) y.reader
           → Moves reads writes x (Ready (Err e) ∷ []) y
       reader_fails e still empty h =
           let failed = Mark.fault (error_kind e) ∷ [] in
-          reader_marks (Mark.fault (error_kind e)) (λ b d. cc (d)) empty h [] failed (Ready (Err e) ∷ []) (ap (λ a. met_in a ++ failed) (sym still)) tt refl refl (inl (refl, refl, ap met_in still), refl)
+          reader_marks (Mark.fault (error_kind e)) (λ b d. cc (d)) empty h [] failed (Ready (Err e) ∷ [])
+          (ap (λ a. met_in a ++ failed) (sym still)) tt refl refl (inl (refl, refl, ap met_in still), refl)
 
       pub reader_ends : y.phase ≡ Flushing → held_of y ≡ [] → Through reads x.reader (Mark.end ∷ []) y.reader → Moves reads writes x [] y
       reader_ends ended empty h =

@@ -109,16 +109,20 @@ module _ {R S W : Type 0} (first : Runs Mark R) (second : Runs Mark S) (writes :
       let c = m.copied in
       let value = gave_ok out c.failed c.last (held_of y) (met_of y) y.amount n c.answers g in
       let ended : m.told ≡ c.read ++ Mark.end ∷ [] =
-      ap (λ l. l ++ m.told) (sym begins.met) ∙ c.reading ∙ ap (λ l. c.read ++ (met_of y ++ l)) value.0 ∙ ap (λ l. c.read ++ l) (append-nil (met_of y) ∙ value.3) in
+      ap (λ l. l ++ m.told) (sym begins.met) ∙ c.reading ∙ ap (λ l. c.read ++ (met_of y ++ l)) value.0
+      ∙ ap (λ l. c.read ++ l) (append-nil (met_of y) ∙ value.3) in
       let flushed : m.took ≡ c.written ++ Taking.flushed ∷ [] = c.writing ∙ ap (λ l. c.written ++ l) value.1 in
-      let told = both_told first second fl (source_of f) (source_of y) c.read fresh c.goes_on (subst (λ l. Chains first second (source_of f) l (source_of y)) ended m.came) in
+      let told = both_told first second fl (source_of f) (source_of y) c.read fresh c.goes_on
+      (subst (λ l. Chains first second (source_of f) l (source_of y)) ended m.came) in
       let took = buffered_whole writes f.writer.now y.writer.now c.written (subst (λ l. Buffers writes f.writer.now l y.writer.now) flushed m.went.0) in
       let moved : bytes_told c.read ≡ bytes_of c.written =
-      sym (append-nil (bytes_told c.read)) ∙ sym (told_both c.read (Mark.end ∷ [])) ∙ ap bytes_told (sym ended) ∙ ap (λ l. l ++ bytes_told m.told) (sym begins.held)
+      sym (append-nil (bytes_told c.read)) ∙ sym (told_both c.read (Mark.end ∷ [])) ∙ ap bytes_told (sym ended)
+      ∙ ap (λ l. l ++ bytes_told m.told) (sym begins.held)
       ∙ c.balanced ∙ ap (λ l. bytes_of m.took ++ l) value.2 ∙ append-nil (bytes_of m.took) ∙ ap bytes_of flushed
       ∙ taken_both c.written (Taking.flushed ∷ []) ∙ append-nil (bytes_of c.written) in
       let all : bytes_of c.written ≡ told.firsts ++ told.seconds = sym moved ∙ told.all in
-      let bytes : bytes_of m.took ≡ told.firsts ++ told.seconds = ap bytes_of flushed ∙ taken_both c.written (Taking.flushed ∷ []) ∙ append-nil (bytes_of c.written) ∙ all in
+      let bytes : bytes_of m.took ≡ told.firsts ++ told.seconds = ap bytes_of flushed ∙ taken_both c.written (Taking.flushed ∷ [])
+      ∙ append-nil (bytes_of c.written) ∙ all in
       let count : f.amount + length (bytes_of m.took) ≡ length (told.firsts ++ told.seconds) = omega (arith, begins.none, ap length bytes) in
       record {
         firsts = told.firsts;
@@ -130,7 +134,8 @@ module _ {R S W : Type 0} (first : Runs Mark R) (second : Runs Mark S) (writes :
         count = value.4 ∙ m.counted ∙ ap (λ k. k % 2 ^ 64) count;
       }
 
-  pub chained : {E : Type 0} (c : Chain R S) (w : MutBor (BufWriter W)) (s : R) (t : S) (r : Result Copying E) → first_of c ≡ s → second_of c ≡ t → has_ended c ≡ false → IfOk r (λ f. source_of f ≡ c) → IfOk r (λ f. f.writer ≡ w)
+  pub chained : {E : Type 0} (c : Chain R S) (w : MutBor (BufWriter W)) (s : R) (t : S) (r : Result Copying E) → first_of c ≡ s → second_of c ≡ t
+      → has_ended c ≡ false → IfOk r (λ f. source_of f ≡ c) → IfOk r (λ f. f.writer ≡ w)
       → IfOk r (λ f. Begins f)
       → IfOk r (λ f. AtEachOk (Copies (Chains first second) (Lent (Buffers writes))) f (CopiesBoth first second writes s t w.now))
   chained c w s t (Err e) one two fresh reader writer begins = tt

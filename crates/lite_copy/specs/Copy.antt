@@ -76,7 +76,8 @@ Answers (Ready r ∷ out) failed last after met total = Values r failed last aft
 -- What was read and not yet written, and what the reader told, is what the writer took and what is then read and not yet
 -- written. The end that was met, if it was, and what the reader told are bytes and pendings, and then the end that is met, or
 -- an error: after an end it told nothing. Each pending of the answers is one of the two.
-pub record Copied (before : List ℕ) (met told : List Mark) (took : List Taking) (out : List (Poll (Result ℕ Error))) (after : List ℕ) (met' : List Mark) (total : ℕ) : Type 0 where
+pub record Copied (before : List ℕ) (met told : List Mark) (took : List Taking) (out : List (Poll (Result ℕ Error))) (after : List ℕ)
+    (met' : List Mark) (total : ℕ) : Type 0 where
   pub read : List Mark
   pub failed : List Mark
   pub written : List Taking

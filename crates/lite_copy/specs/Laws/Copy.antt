@@ -82,7 +82,8 @@ copied_none p a n =
     record { read = []; failed = []; written = []; last = []; reading = refl; goes_on = tt; writing = refl; takes_some = tt; balanced = append-nil p; waited = refl; answers = (refl, refl) }
 
 -- what comes after answers that were all Pending
-module _ (p q r : List ℕ) (a b c : List Mark) (i j : List Mark) (s t : List Taking) (l m : List (Poll Value)) (n k : ℕ) (w : Waiting l) (h : Copied p a i s l q b n) (g : Copied q b j t m r c k) where
+module _ (p q r : List ℕ) (a b c : List Mark) (i j : List Mark) (s t : List Taking) (l m : List (Poll Value)) (n k : ℕ) (w : Waiting l)
+    (h : Copied p a i s l q b n) (g : Copied q b j t m r c k) where
   none : (h.failed ≡ []) × (h.last ≡ [])
   none = answers_none h.failed h.last q b n l w h.answers
 
@@ -124,7 +125,8 @@ counted_none n fits = let whole : n ≡ n + 0 = omega arith in sym (mod-eq_of_lt
 counted_both : (x y z : ℕ) (s t : List Taking) → y ≡ (x + length (bytes_of s)) % 2 ^ 64 → z ≡ (y + length (bytes_of t)) % 2 ^ 64
     → z ≡ (x + length (bytes_of (s ++ t))) % 2 ^ 64
 counted_both x y z s t h k =
-    let all : x + length (bytes_of s) + length (bytes_of t) ≡ x + length (bytes_of (s ++ t)) = omega (arith, ap length (taken_both s t), length-append (bytes_of s) (bytes_of t)) in
+    let all : x + length (bytes_of s) + length (bytes_of t) ≡ x + length (bytes_of (s ++ t)) =
+    omega (arith, ap length (taken_both s t), length-append (bytes_of s) (bytes_of t)) in
     k ∙ ap (λ v. (v + length (bytes_of t)) % 2 ^ 64) h ∙ mod-add-mod (x + length (bytes_of s)) (2 ^ 64) (length (bytes_of t)) ∙ ap (λ v. v % 2 ^ 64) all
 
 given_of : {S : Type 0} (reads : Runs Mark S) (s t : S) (xs : List ℕ) → 0 < length xs → reads s (bytes xs) t → GivenRun reads s t
@@ -146,7 +148,8 @@ module _ {R W : Type 0} where
           took = h.took ++ k.took;
           came = rl.follows (source_of x) (source_of y) (source_of z) h.told k.told h.came k.came;
           went = wl.follows x.writer y.writer z.writer h.took k.took h.went k.went;
-          copied = copied_both (held_of x) (held_of y) (held_of z) (met_of x) (met_of y) (met_of z) h.told k.told h.took k.took l m y.amount z.amount w h.copied k.copied;
+          copied = copied_both (held_of x) (held_of y) (held_of z) (met_of x) (met_of y)
+              (met_of z) h.told k.told h.took k.took l m y.amount z.amount w h.copied k.copied;
           counted = counted_both x.amount y.amount z.amount h.took k.took h.counted k.counted;
         }
 
@@ -171,5 +174,6 @@ module _ {R W : Type 0} where
         record { moves = all; idle = λ e. absurd (cc e) }
 
   -- a turn that goes on took bytes from the buffer
-  pub some_given : {reads : Runs Mark R} {writes : Runs Taking W} (x y : CopyFuture R W) → CopiesSome reads writes x y → GivenRun (Through reads) x.reader y.reader
+  pub some_given : {reads : Runs Mark R} {writes : Runs Taking W} (x y : CopyFuture R W) → CopiesSome reads writes x y
+      → GivenRun (Through reads) x.reader y.reader
   some_given {reads} x y h = given_of (Through reads) x.reader y.reader h.taken h.some h.given

@@ -20,16 +20,19 @@ returns-in-Ready-Ok-clause-turned g c =
     let some : 0 < length (take n shown) = omega (arith, all, c.in-Ready-Ok.n-test.1) in
     let went = rw (is, c.buffer.ensures) at c.poll_write.ensures.ran in
     let amount = ap (λ k. (c.args.self.now.amount + k) % 2 ^ 64) (sym all) in
-    writes_more g.R.Tale.reads g.W.Takings.writes g.R.Tale.read_laws g.W.Takings.write_laws c.args.self.now _ (take n shown) some c.requires.phase c.requires.phase amount
+    writes_more g.R.Tale.reads g.W.Takings.writes g.R.Tale.read_laws g.W.Takings.write_laws c.args.self.now _
+    (take n shown) some c.requires.phase c.requires.phase amount
     c.consume.ensures.ran went
 
 pub returns-in-Ready-Err-clause-turned : goal.returns-in-Ready-Err-clause-turned
 returns-in-Ready-Err-clause-turned g c =
     let e = c.in-Ready-Err.e in
     let is : c.poll_write.result ≡ Ready (Err e) = search rules in
-    writer_fails g.R.Tale.reads g.W.Takings.writes g.R.Tale.read_laws g.W.Takings.write_laws c.args.self.now _ refl refl refl e (rw is at c.poll_write.ensures.ran)
+    writer_fails g.R.Tale.reads g.W.Takings.writes g.R.Tale.read_laws g.W.Takings.write_laws c.args.self.now _ refl refl refl e
+    (rw is at c.poll_write.ensures.ran)
 
 pub returns-in-Pending-clause-turned : goal.returns-in-Pending-clause-turned
 returns-in-Pending-clause-turned g c =
     let is : c.poll_write.result ≡ Pending = search rules in
-    writer_waits g.R.Tale.reads g.W.Takings.writes g.R.Tale.read_laws g.W.Takings.write_laws c.args.self.now _ refl refl refl (rw is at c.poll_write.ensures.ran)
+    writer_waits g.R.Tale.reads g.W.Takings.writes g.R.Tale.read_laws g.W.Takings.write_laws c.args.self.now _ refl refl refl
+    (rw is at c.poll_write.ensures.ran)
