@@ -2,7 +2,7 @@
 #![tactic(auto)]
 
 mod append;
-mod find;
+pub mod find;
 mod lines;
 pub mod make;
 mod ok_counted;

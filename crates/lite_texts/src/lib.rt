@@ -1,0 +1,10 @@
+//! What is read of a reader as text.
+#![tactic(auto)]
+
+mod held;
+pub mod make;
+mod read_line;
+mod read_to_string;
+
+pub use read_line::ReadLineFuture;
+pub use read_to_string::ReadToStringFuture;
