@@ -53,14 +53,22 @@ pub(super) fn failing(rt: &HostRuntime, bytes: &[u8], at: usize) -> Result<Marks
     Ok(marks)
 }
 
-/// Takes the one error of this kind out of what was told, and answers how many items stand before it.
+/// Takes the first error of this kind out of what was told, and answers how many items stand before it.
 pub(super) fn take_error<T: Drop>(
     told: &mut Vec<Option<Result<T, ErrorKind>>>,
     kind: ErrorKind,
 ) -> Option<usize> {
+    let at = place_of(told.as_slice(), kind)?;
+    if at < told.len() {
+        told.remove(at);
+    }
+    Some(at)
+}
+
+/// Where the first error of this kind stands.
+fn place_of<T>(told: &[Option<Result<T, ErrorKind>>], kind: ErrorKind) -> Option<usize> {
     for i in 0..told.len() {
         if matches!(&told[i], Some(Err(k)) if *k == kind) {
-            told.remove(i);
             return Some(i);
         }
     }
