@@ -1,4 +1,4 @@
-mod Cutting
+pub mod Cutting
 mod Items
 pub mod Texts
 mod Until

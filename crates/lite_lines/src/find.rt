@@ -36,12 +36,13 @@ pub(crate) fn find_byte<R: AsyncBufRead>(
 /// Fills a reader, and answers where the first newline stands in what its `buffer` then shows, and whether what stands
 /// before it, or all of it, is ASCII.
 #[tactic(auto, using(crate::proofs::Texts::first_newline, crate::proofs::Texts::line_ascii))]
-pub(crate) fn find_line<R: AsyncBufRead>(
+pub fn find_line<R: AsyncBufRead>(
     reader: &mut R,
     cx: &mut Context<'_>,
 ) -> Poll<io::Result<(Option<usize>, bool)>>
     ensures ran { R.reads reader.old (fill_marks result (R.lent reader.new)) reader.new }
     ensures found { IfReady result (λ r. IfOk r (λ line. IsFirstByte (is_byte 10) (R.lent reader.new) line.0)) }
+    ensures fits { IfReady result (λ r. IfOk r (λ line. IfSome line.0 (λ k. k + 1 < 2 ^ 64))) }
     ensures ascii { IfReady result (λ r. IfOk r (λ line. line.1 ≡ list_all is_ascii (up_to line.0 (R.lent reader.new)))) }
     ensures left { OnPending result ((fact : Lasting) → R.leaves reader.new fact → Holds cx.new fact) }
     ensures kept { Keeps cx.old cx.new }

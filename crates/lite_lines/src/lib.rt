@@ -3,7 +3,7 @@
 
 mod append;
 mod calm;
-mod find;
+pub mod find;
 mod lines;
 pub mod make;
 mod ok_counted;

@@ -70,6 +70,16 @@ fn a_reader_is_read_by_each_method(rt: HostRuntime) -> Result<(), Fail> {
 }
 
 #[test]
+fn a_reader_is_read_as_text_by_each_method(rt: HostRuntime) -> Result<(), Fail> {
+    let mut bytes: &[u8] = b"ab\ncd";
+    let mut text = String::new(rt.alloc());
+    assert_eq!(rt; value(&rt, bytes.read_line(&mut text))?, 3);
+    assert_eq!(rt; value(&rt, bytes.read_to_string(&mut text))?, 2);
+    assert_eq!(rt; text.as_str(), "ab\ncd");
+    Ok(())
+}
+
+#[test]
 fn a_reader_is_cut_by_each_method(rt: HostRuntime) -> Result<(), Fail> {
     let bytes: &[u8] = b"ab\ncd";
     let lines = items(&rt, bytes.lines(rt.alloc()), 3)?;

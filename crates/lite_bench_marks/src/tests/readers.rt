@@ -5,6 +5,7 @@ use lite_io::{BufReader, make as io};
 use lite_io_base::{CalmRead, SteadyRead};
 use lite_mock::Marks;
 use lite_read::make::{read, read_exact, read_to_end};
+use lite_texts::make::{read_line, read_to_string};
 use std::alloc::AllocError;
 use std::test::Fail;
 
@@ -43,6 +44,8 @@ fn futures_of_readers_are_steady_and_calm(rt: HostRuntime) -> Result<(), Fail> {
     let mut bytes: &[u8] = b"ab";
     both_future(&read_exact(&mut bytes, &mut [0]));
     both_future(&read_to_end(&mut bytes, &mut Vec::new(rt.alloc())));
+    both_future(&read_line(&mut bytes, &mut String::new(rt.alloc())));
+    both_future(&read_to_string(&mut bytes, &mut String::new(rt.alloc())));
     read(&mut bytes, &mut [0]).is_calm_future();
     Ok(())
 }

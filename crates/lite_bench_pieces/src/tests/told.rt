@@ -38,6 +38,54 @@ pub(super) fn slow(rt: &HostRuntime, bytes: &[u8]) -> Result<Marks, Fail> {
     Ok(marks)
 }
 
+/// A reader of these bytes, one at a time, with an error before the one at `at`, or at the end.
+pub(super) fn failing(rt: &HostRuntime, bytes: &[u8], at: usize) -> Result<Marks, Fail> {
+    let mut marks = Marks::new(rt.alloc());
+    for i in 0..bytes.len() {
+        if i == at {
+            marks.fault(ErrorKind::Other)?;
+        }
+        marks.chunk(&bytes[i..i + 1])?;
+    }
+    if at >= bytes.len() {
+        marks.fault(ErrorKind::Other)?;
+    }
+    Ok(marks)
+}
+
+/// Takes the first error of this kind out of what was told, and answers how many items stand before it.
+pub(super) fn take_error<T: Drop>(
+    told: &mut Vec<Option<Result<T, ErrorKind>>>,
+    kind: ErrorKind,
+) -> Option<usize> {
+    let at = place_of(told.as_slice(), kind)?;
+    if at < told.len() {
+        told.remove(at);
+    }
+    Some(at)
+}
+
+/// Where the first error of this kind stands.
+fn place_of<T>(told: &[Option<Result<T, ErrorKind>>], kind: ErrorKind) -> Option<usize> {
+    for i in 0..told.len() {
+        if matches!(&told[i], Some(Err(k)) if *k == kind) {
+            return Some(i);
+        }
+    }
+    None
+}
+
+/// How many of the first bytes are `byte`.
+pub(super) fn count(bytes: &[u8], byte: u8) -> usize {
+    let mut n = 0_usize;
+    for b in bytes {
+        if *b == byte {
+            n = n.saturating_add(1);
+        }
+    }
+    n
+}
+
 /// What so many polls of a stream answer, without their pendings, and errors by their kinds.
 pub(super) fn told<T, S>(
     rt: &HostRuntime,

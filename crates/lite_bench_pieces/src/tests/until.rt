@@ -1,4 +1,4 @@
-use super::told::{buffered, chunk, slow};
+use super::told::{buffered, chunk, failing, slow};
 use lite_base::Poll;
 use lite_bench_polls::polled;
 use lite_lines::make::read_until;
@@ -33,5 +33,25 @@ fn what_was_read_before_an_error_stays(rt: HostRuntime) -> Result<(), Fail> {
     let told = polled(&rt, &mut read_until(&mut reader, b'-', &mut bytes), 1)?;
     assert!(rt; matches!(told.as_slice(), [Poll::Ready(Ok(2))]));
     assert_eq!(rt; bytes.as_slice(), b"abc-".as_slice());
+    Ok(())
+}
+
+#[test]
+fn an_error_before_any_byte_comes_once_and_none_is_lost(rt: HostRuntime) -> Result<(), Fail> {
+    let all = b"a--b-";
+    for at in 0..all.len() + 1 {
+        let mut reader = buffered(&rt, 2, failing(&rt, all, at)?)?;
+        let mut bytes = Vec::new(rt.alloc());
+        let mut errors = 0_usize;
+        for _ in 0..5 {
+            let told = polled(&rt, &mut read_until(&mut reader, b'-', &mut bytes), 1)?;
+            if matches!(told.as_slice(), [Poll::Ready(Err(e))] if e.kind() == ErrorKind::Other) {
+                errors = errors.saturating_add(1);
+                assert_eq!(rt; bytes.as_slice(), &all[..at]);
+            }
+        }
+        assert_eq!(rt; errors, 1);
+        assert_eq!(rt; bytes.as_slice(), all.as_slice());
+    }
     Ok(())
 }

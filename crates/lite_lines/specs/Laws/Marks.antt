@@ -15,7 +15,7 @@ use Rattle.lite_io_base.specs.Runs.{Runs}
 use Rattle.lite_io_base.specs.Steady.{CalmReadLaws, SteadyReadLaws}
 use Rattle.lite_read.specs.Gathering.{Gathered}
 use Rattle.lite_read.specs.Laws.Settling.{gathered_alike, gathers_prompt}
-use Rattle.lite_read.specs.Settling.{SameByKind, SameOr}
+use Rattle.lite_read.specs.Settling.{SameByKind, SameOr, Settles}
 use Rattle.lite_lines.specs.Laws.ReadUntil.{until_laws}
 use Rattle.lite_lines.specs.Laws.Settling.{BecomesOne, MakesOne, pieces_settle}
 use Rattle.lite_lines.specs.Pieces.{Cut}
@@ -65,6 +65,9 @@ counted_one byte (Cut.failed a) (Cut.piece ys) held v w p q e h k = absurd e
 counted_one byte (Cut.failed a) (Cut.last ys) held v w p q e h k = absurd e
 counted_one byte (Cut.failed a) Cut.nothing held v w p q e h k = absurd e
 
+pub until_settles : (byte : ℕ) → Settles SameByKind (until byte ⊥)
+until_settles byte = pieces_settle byte (Counted byte) (counted_one byte)
+
 module _ {R : Type 0} where
   -- they read to the same byte, and have read the same, over readers that are alike
   abbrev pub UntilAlike : (R → R → Type 0) → ReadUntilFuture R → ReadUntilFuture R → Type 0
@@ -79,7 +82,7 @@ module _ {R : Type 0} where
           steady = λ x y e l m x' y' h k.
               let byte = subst (λ b. Gathered (until b ⊥) ample y.reader.now (read_of y) m y'.reader.now (read_of y')) (sym e.2) k.gathered in
               let other = subst (λ p. Gathered (until x.byte ⊥) ample y.reader.now p m y'.reader.now (read_of y')) (sym e.1) byte in
-              gathered_alike (until x.byte ⊥) (pieces_settle x.byte (Counted x.byte) (counted_one x.byte)) s x.reader.now y.reader.now x'.reader.now y'.reader.now
+              gathered_alike (until x.byte ⊥) (until_settles x.byte) s x.reader.now y.reader.now x'.reader.now y'.reader.now
               (read_of x) (read_of x') (read_of y') l m e.0 h.gathered other;
           found = λ n. absurd n;
         }

@@ -54,7 +54,7 @@ one_value start g _ _ _ _ (Answered.failed e kind h) (Answered.failed f other k)
 one_value start g _ _ _ _ (Answered.ended n h) (Answered.failed f kind k) c = absurd (cc c.0)
 one_value start g _ _ _ _ (Answered.failed e kind h) (Answered.ended n k) c = absurd (cc c.0)
 
-appends_settles : (start : ℕ) → Settles SameByKind (appends ⊥ start)
+pub appends_settles : (start : ℕ) → Settles SameByKind (appends ⊥ start)
 appends_settles start =
     record {
       one_way = λ p q r b h k. h ∙ sym k;

@@ -1,0 +1,3 @@
+mod Lines
+mod Strings
+mod Turns

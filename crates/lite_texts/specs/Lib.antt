@@ -1,0 +1,4 @@
+pub mod Laws
+pub mod ReadLine
+pub mod ReadToString
+pub mod Texts
