@@ -1,0 +1,3 @@
+pub mod AssertAsync
+pub mod Known
+pub mod Laws
