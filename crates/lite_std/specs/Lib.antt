@@ -1,3 +1,6 @@
 pub mod AssertAsync
+pub mod AsyncAsSync
+pub mod BlockOn
 pub mod Known
 pub mod Laws
+pub mod Waits

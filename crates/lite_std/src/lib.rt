@@ -2,6 +2,10 @@
 #![tactic(auto)]
 
 mod assert_async;
+mod async_as_sync;
+mod block_on;
 mod interrupted;
 
 pub use assert_async::AssertAsync;
+pub use async_as_sync::AsyncAsSync;
+pub use block_on::BlockOn;
