@@ -1,20 +1,22 @@
-ghost use Rattle.std.specs.Prelude.{◌≡◌, None, drop, take};
+ghost use Rattle.std.specs.Prelude.{◌≡◌, ℕ, List, [], length, None, IfSome, IfOk, drop, take};
 ghost use Rattle.std.specs.Borrow.{Lends, sem};
-ghost use Rattle.std.specs.Io.{ReadsAtMost, WritesAtMost};
+ghost use Rattle.std.specs.Io.{ReadsAtMost, StartsWith, WritesAtMost};
+ghost use Rattle.std.specs.Io.BufRead.{DropsConsumable, FillKeeps, Rests};
 ghost use Rattle.std.specs.Io.KnownBytes.{Keeps, ReadConsumes, WriteAppends};
 ghost use Rattle.std.specs.Io.Seek.{SeekMoves};
-ghost use Rattle.lite_io_base.specs.Kinds.{by_kind};
-ghost use Rattle.lite_io_base.specs.Marks.{Mark, read_marks};
+ghost use Rattle.lite_io_base.specs.Marks.{Mark, bytes, fill_marks, read_marks};
 ghost use Rattle.lite_io_base.specs.Takings.{Taking, done_marks, write_marks};
-ghost use Rattle.lite_std.specs.Waits.{Blocks, Gave};
+ghost use Rattle.lite_std.specs.Waits.{Blocks, Gave, SeekBlocks};
 
+use crate::filling::Filling;
 use lite_base::Future;
 use lite_base::future::block_on::BlockOn as Waiter;
-use lite_io_base::{AsyncRead, AsyncSeek, AsyncWrite};
-use lite_read::make::read;
+use lite_io_base::{AsyncBufRead, AsyncRead, AsyncSeek, AsyncWrite};
+use lite_read::make::{read, seek};
+use lite_write::make::{flush, write};
 use std::alloc::{AllocError, AllocGlobal};
 use std::io;
-use std::io::{Read, Seek, SeekFrom, Write};
+use std::io::{BufRead, Read, Seek, SeekFrom, Write};
 use std::random::RandomSource;
 use std::sync::Wait;
 
@@ -112,5 +114,65 @@ impl<R: Wait + RandomSource + AllocGlobal, T: AsyncRead> Read for BlockOn<R, T> 
         ensures ran { Blocks T.reads Mark.pending (λ answer. read_marks answer buf.new) (io_of self.old) result (io_of self.new) }
     {
         wait_for(&self.rt, &mut self.waiter, &mut read(&mut self.io, buf))
+    }
+}
+
+impl<R: Wait + RandomSource + AllocGlobal, T: AsyncBufRead> BufRead for BlockOn<R, T> {
+    ghost use Rattle.lite_std.specs.contracts.block_on.BlockOn.{the_row};
+    ghost use Rattle.lite_std.specs.BlockOn.{io_of};
+
+    /// Waits until there are bytes to be lent, or an end, and lends them.
+    fn fill_buf(&mut self) -> io::Result<&[u8]>
+        ensures front { IfSome None (λ (xs : List ℕ). IfOk result (λ s. StartsWith xs s.now)) }
+        ensures end { IfSome None (λ (xs : List ℕ). IfOk result (λ s. length s.now ≡ 0 → xs ≡ [])) }
+        ensures* after_borrow { sem 𝓛 (Rests (the_row R.row T.row) self.entry (λ new. FillKeeps None None None result)) }
+        ensures shown { (left : T) × Blocks T.reads Mark.pending (λ answer. fill_marks answer (T.lent left)) (io_of self.old) result left × IfOk result (λ s. s.now ≡ T.lent left) }
+    {
+        let mut filling = Filling { io: &mut self.io };
+        match wait_for(&self.rt, &mut self.waiter, &mut filling) {
+            Ok(()) => Ok(self.io.buffer()),
+            Err(e) => Err(e),
+        }
+    }
+
+    /// Waits for nothing. Of more bytes than are there to be lent, those are taken.
+    fn consume(&mut self, amount: usize)
+        ensures bytes { DropsConsumable None None None amount }
+        ensures ran { T.reads (io_of self.old) (bytes (take amount (T.lent (io_of self.old)))) (io_of self.new) }
+        ensures rest { T.lent (io_of self.new) ≡ drop amount (T.lent (io_of self.old)) }
+    {
+        let most = self.io.buffer().len();
+        self.io.consume(amount.min(most));
+    }
+}
+
+impl<R: Wait + RandomSource + AllocGlobal, T: AsyncWrite> Write for BlockOn<R, T> {
+    ghost use Rattle.lite_std.specs.BlockOn.{io_of};
+
+    fn write(&mut self, buf: &[u8]) -> io::Result<usize>
+        ensures bound { WritesAtMost result buf.now }
+        ensures bytes { WriteAppends None None result buf.now }
+        ensures ran { Blocks T.writes Taking.pending (λ answer. write_marks answer buf.now) (io_of self.old) result (io_of self.new) }
+    {
+        wait_for(&self.rt, &mut self.waiter, &mut write(&mut self.io, buf))
+    }
+
+    fn flush(&mut self) -> io::Result<()>
+        ensures bytes { Keeps None None }
+        ensures ran { Blocks T.writes Taking.pending (λ answer. done_marks Taking.flushed answer) (io_of self.old) result (io_of self.new) }
+    {
+        wait_for(&self.rt, &mut self.waiter, &mut flush(&mut self.io))
+    }
+}
+
+impl<R: Wait + RandomSource + AllocGlobal, T: AsyncSeek> Seek for BlockOn<R, T> {
+    ghost use Rattle.lite_std.specs.BlockOn.{io_of};
+
+    fn seek(&mut self, to: SeekFrom) -> io::Result<u64>
+        ensures moves { SeekMoves None None None to result }
+        ensures bytes { Keeps None None }
+        ensures ran { SeekBlocks T.seeks (io_of self.old) to result (io_of self.new) }
+    {
+        wait_for(&self.rt, &mut self.waiter, &mut seek(&mut self.io, to))
     }
 }

@@ -4,6 +4,7 @@
 mod assert_async;
 mod async_as_sync;
 mod block_on;
+mod filling;
 mod interrupted;
 
 pub use assert_async::AssertAsync;

@@ -1,7 +1,7 @@
 -- Laws of calls that wait.
 use Rattle.std.proofs.Common.{◌≡◌, ◌≤◌, ◌∙◌, ℕ, suc, List, [], ◌∷◌, ◌++◌, length, length-take-le, ap, inl, inr, subst, sym}
 use Rattle.std.specs.Prelude.{◌⊎◌, Result, Ok, Err, IfOk, replicate}
-use Rattle.std.specs.Io.{ReadsAtMost}
+use Rattle.std.specs.Io.{ReadsAtMost, WritesAtMost}
 use Rattle.std.specs.declared.io.Error.{Error}
 use Rattle.futures.specs.declared.task.Poll.{Poll}
 use Rattle.futures.specs.declared.task.Poll.TheVariants.{Pending, Ready}
@@ -56,3 +56,7 @@ refused_reads (Err e) buf h = tt
 pub read_at_most : (r : Result ℕ Error) (buf : List ℕ) → IfOk r (λ n. n ≤ length buf) → ReadsAtMost r buf
 read_at_most (Ok n) buf h = (h, sym (length-take-le n buf h))
 read_at_most (Err e) buf h = tt
+
+pub refused_writes : (r : Result ℕ Error) (buf : List ℕ) → IsRefused r → WritesAtMost r buf
+refused_writes (Ok n) buf h = absurd h
+refused_writes (Err e) buf h = tt
