@@ -51,7 +51,10 @@ fn a_cursor_is_written_and_read(rt: HostRuntime) -> Result<(), Fail> {
     let closed = kind(handle.close());
     handle.as_mut().set_position(0);
     handle.borrow_mut().set_position(2);
-    let position = handle.borrow().position().checked_add(handle.as_ref().position());
+    let position = handle
+        .borrow()
+        .position()
+        .checked_add(handle.as_ref().position());
     drop(handle);
     cx.cancel();
     assert_eq!(rt; written, Ok(3));
