@@ -1,0 +1,7 @@
+//! Tests of the bridges between the traits of I/O of std and polls.
+#![tactic(auto)]
+
+#[cfg(test)]
+mod stubborn;
+#[cfg(test)]
+mod tests;

@@ -1,0 +1,3 @@
+mod assert_async;
+mod async_as_sync;
+mod block_on;

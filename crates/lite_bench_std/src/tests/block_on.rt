@@ -1,0 +1,42 @@
+use lite_bridge::Cursor;
+use lite_mock::Marks;
+use lite_std::BlockOn;
+use std::io::{BufRead, ErrorKind, Read, Seek, SeekFrom, Write};
+use std::test::Fail;
+
+#[test]
+fn a_cursor_is_waited_for(rt: HostRuntime) -> Result<(), Fail> {
+    let mut bytes = Vec::new(rt.alloc());
+    bytes.extend_from_slice(b"xy")?;
+    let mut io = BlockOn::new(rt, Cursor::new(bytes));
+    let mut one = [b'-'; 1];
+    assert_eq!(rt; io.read(&mut one)?, 1);
+    assert_eq!(rt; one, [b'x']);
+    assert_eq!(rt; io.write(b"z")?, 1);
+    io.flush()?;
+    assert_eq!(rt; io.seek(SeekFrom::Start(0))?, 0);
+    assert_eq!(rt; io.fill_buf()?, b"xz".as_slice());
+    io.consume(1);
+    assert_eq!(rt; io.fill_buf()?, b"z".as_slice());
+    io.consume(7);
+    assert_eq!(rt; io.get_ref().position(), 2);
+    io.get_mut().set_position(1);
+    assert_eq!(rt; io.into_inner().position(), 1);
+    Ok(())
+}
+
+#[test]
+fn an_error_is_handed_on(rt: HostRuntime) -> Result<(), Fail> {
+    let mut marks = Marks::new(rt.alloc());
+    marks.chunk(b"ab")?;
+    marks.fault(ErrorKind::Other)?;
+    let mut io = BlockOn::new(rt, marks);
+    let mut buf = [b'-'; 3];
+    assert_eq!(rt; io.read(&mut buf)?, 2);
+    assert_eq!(rt; buf, [b'a', b'b', b'-']);
+    assert!(rt;
+        io.read(&mut buf)
+            .is_err_and(|e| e.kind() == ErrorKind::Other)
+    );
+    Ok(())
+}

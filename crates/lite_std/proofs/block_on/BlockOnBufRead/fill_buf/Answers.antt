@@ -1,0 +1,17 @@
+use Rattle.std.proofs.Common.{List, ℕ, refl, sym}
+use Rattle.std.specs.Borrow.{Bor}
+use Rattle.lite_std.specs.Laws.Blocks.{fill_fails, fill_lends, filling_stays}
+use Rattle.lite_std.proofs.block_on.BlockOnBufRead.fill_buf.Goals as goal
+
+pub shape_of-self : goal.shape_of-self
+shape_of-self g c = sym (filling_stays _ _ _ c.wait_for.ensures)
+
+pub returns-in-Err : goal.returns-in-Err
+returns-in-Err g c =
+    let left = c.wait_for.new.future.io.now in
+    ((refl, (λ _. tt), (tt, tt)), record { front = tt; end = tt; after_borrow = tt; shown = (left, fill_fails (Bor (List ℕ)) g.T.Tale.read_laws _ _ _ c.in-Err.e c.in-Err.is c.wait_for.ensures, tt) })
+
+pub returns-in-Ok : goal.returns-in-Ok
+returns-in-Ok g c =
+    let left = c.wait_for.new.future.io.now in
+    ((refl, (λ _. tt), (tt, tt)), record { front = tt; end = tt; after_borrow = tt; shown = (left, fill_lends g.T.Tale.read_laws _ _ _ c.buffer.result c.in-Ok.is c.wait_for.ensures, c.buffer.ensures) })

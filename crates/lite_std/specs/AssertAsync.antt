@@ -1,0 +1,5 @@
+-- What stands in an `AssertAsync`.
+use Rattle.lite_std.specs.declared.assert_async.AssertAsync.{AssertAsync}
+
+abbrev pub handle_of : {T : Type 0} → AssertAsync T → T
+handle_of x = x.inner

@@ -1,0 +1,5 @@
+-- What stands in a `BlockOn`.
+use Rattle.lite_std.specs.declared.block_on.BlockOn.{BlockOn}
+
+abbrev pub io_of : {R T : Type 0} → BlockOn R T → T
+io_of x = x.io

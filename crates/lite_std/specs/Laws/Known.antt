@@ -1,0 +1,194 @@
+-- Laws of reads and writes of std.
+use Rattle.std.proofs.Common.{◌≡◌, ◌<◌, ◌∙◌, ℕ, List, [], ◌∷◌, ◌++◌, length, take, ap, arith, refl, subst, sym}
+use Rattle.std.specs.Prelude.{Option, None, Some, Result, Ok, Err}
+use Rattle.std.specs.Io.{ReadsAtMost}
+use Rattle.std.specs.Io.KnownBytes.{Keeps, ReadConsumes, WriteAppends}
+use Rattle.std.specs.Io.Seek.{IsAtOffset, IsSeekTarget, SeekMoves, StaysAt}
+use Rattle.std.specs.declared.io.Error.{Error}
+use Rattle.std.specs.declared.io.traits.SeekFrom.{SeekFrom}
+use Rattle.std.specs.declared.io.traits.SeekFrom.TheVariants.{Current, End, Start}
+use Rattle.futures.specs.declared.task.Poll.{Poll}
+use Rattle.futures.specs.declared.task.Poll.TheVariants.{Pending, Ready}
+use Rattle.lite_io_base.specs.Kinds.{by_kind}
+use Rattle.lite_io_base.specs.Marks.{Mark, bytes, moved, read_marks}
+use Rattle.lite_io_base.specs.Runs.{RunLaws}
+use Rattle.lite_io_base.specs.Steady.{CalmReadLaws, NoWait}
+use Rattle.lite_io_base.specs.Takings.{Taking, done_marks, write_marks}
+use Rattle.lite_std.specs.Known.{Gains, GainsKnown, MovesKnown, NoDelay, Spends, SpendsKnown}
+
+spends_follows : (x y z : List ℕ) (l m : List Mark) → Spends x l y → Spends y m z → Spends x (l ++ m) z
+spends_follows x y z [] m h k = subst (λ t. Spends t m z) h k
+spends_follows [] y z (Mark.byte b ∷ l) m h k = absurd h
+spends_follows (a ∷ x) y z (Mark.byte b ∷ l) m h k = (h.0, spends_follows x y z l m h.1 k)
+spends_follows x y z (Mark.pending ∷ l) m h k = absurd h
+spends_follows x y z (Mark.fault kind ∷ l) m h k = spends_follows x y z l m h k
+spends_follows x y z (Mark.end ∷ l) m h k = (h.0, spends_follows x y z l m h.1 k)
+
+spends_no_wait : (x y : List ℕ) (l : List Mark) → Spends x l y → NoWait l
+spends_no_wait x y [] h = tt
+spends_no_wait [] y (Mark.byte b ∷ l) h = absurd h
+spends_no_wait (a ∷ x) y (Mark.byte b ∷ l) h = spends_no_wait x y l h.1
+spends_no_wait x y (Mark.pending ∷ l) h = absurd h
+spends_no_wait x y (Mark.fault kind ∷ l) h = spends_no_wait x y l h
+spends_no_wait x y (Mark.end ∷ l) h = spends_no_wait x y l h.1
+
+no_wait_follows : (l m : List Mark) → NoWait l → NoWait m → NoWait (l ++ m)
+no_wait_follows [] m h k = k
+no_wait_follows (Mark.byte b ∷ l) m h k = no_wait_follows l m h k
+no_wait_follows (Mark.pending ∷ l) m h k = absurd h
+no_wait_follows (Mark.fault kind ∷ l) m h k = no_wait_follows l m h k
+no_wait_follows (Mark.end ∷ l) m h k = no_wait_follows l m h k
+
+known_no_wait : (x y : Option (List ℕ)) (l : List Mark) → SpendsKnown x l y → NoWait l
+known_no_wait None y l h = h
+known_no_wait (Some xs) None l h = absurd h
+known_no_wait (Some xs) (Some ys) l h = spends_no_wait xs ys l h
+
+known_rests : (x : Option (List ℕ)) → SpendsKnown x [] x
+known_rests None = tt
+known_rests (Some xs) = refl
+
+known_follows : (x y z : Option (List ℕ)) (l m : List Mark) → SpendsKnown x l y → SpendsKnown y m z → SpendsKnown x (l ++ m) z
+known_follows None y z l m h k = no_wait_follows l m h (known_no_wait y z m k)
+known_follows (Some xs) None z l m h k = absurd h
+known_follows (Some xs) (Some ys) None l m h k = absurd k
+known_follows (Some xs) (Some ys) (Some zs) l m h k = spends_follows xs ys zs l m h k
+
+-- a reader whose bytes to come are known at some values
+pub spends_laws : {S : Type 0} (remaining : S → Option (List ℕ)) → RunLaws (λ x l y. SpendsKnown (remaining x) l (remaining y))
+spends_laws remaining =
+    record {
+      rests = λ x. known_rests (remaining x);
+      follows = λ x y z l m h k. known_follows (remaining x) (remaining y) (remaining z) l m h k;
+    }
+
+-- it is never pending
+pub spends_calm : {S : Type 0} (remaining : S → Option (List ℕ)) → CalmReadLaws (λ (x : S) l y. SpendsKnown (remaining x) l (remaining y)) (λ x. Unit {0})
+spends_calm remaining = record { prompt = λ x y l c h. known_no_wait (remaining x) (remaining y) l h; calm_on = λ x y l c h. tt }
+
+gains_follows : (x y z : List ℕ) (l m : List Taking) → Gains x l y → Gains y m z → Gains x (l ++ m) z
+gains_follows x y z [] m h k = subst (λ t. Gains t m z) h k
+gains_follows x y z (Taking.wrote xs ∷ l) m h k = gains_follows (x ++ xs) y z l m h k
+gains_follows x y z (Taking.pending ∷ l) m h k = absurd h
+gains_follows x y z (Taking.fault kind ∷ l) m h k = gains_follows x y z l m h k
+gains_follows x y z (Taking.flushed ∷ l) m h k = gains_follows x y z l m h k
+gains_follows x y z (Taking.closed ∷ l) m h k = gains_follows x y z l m h k
+
+gains_no_delay : (x y : List ℕ) (l : List Taking) → Gains x l y → NoDelay l
+gains_no_delay x y [] h = tt
+gains_no_delay x y (Taking.wrote xs ∷ l) h = gains_no_delay (x ++ xs) y l h
+gains_no_delay x y (Taking.pending ∷ l) h = absurd h
+gains_no_delay x y (Taking.fault kind ∷ l) h = gains_no_delay x y l h
+gains_no_delay x y (Taking.flushed ∷ l) h = gains_no_delay x y l h
+gains_no_delay x y (Taking.closed ∷ l) h = gains_no_delay x y l h
+
+no_delay_follows : (l m : List Taking) → NoDelay l → NoDelay m → NoDelay (l ++ m)
+no_delay_follows [] m h k = k
+no_delay_follows (Taking.wrote xs ∷ l) m h k = no_delay_follows l m h k
+no_delay_follows (Taking.pending ∷ l) m h k = absurd h
+no_delay_follows (Taking.fault kind ∷ l) m h k = no_delay_follows l m h k
+no_delay_follows (Taking.flushed ∷ l) m h k = no_delay_follows l m h k
+no_delay_follows (Taking.closed ∷ l) m h k = no_delay_follows l m h k
+
+gained_no_delay : (x y : Option (List ℕ)) (l : List Taking) → GainsKnown x l y → NoDelay l
+gained_no_delay None y l h = h
+gained_no_delay (Some xs) None l h = absurd h
+gained_no_delay (Some xs) (Some ys) l h = gains_no_delay xs ys l h
+
+gained_rests : (x : Option (List ℕ)) → GainsKnown x [] x
+gained_rests None = tt
+gained_rests (Some xs) = refl
+
+gained_follows : (x y z : Option (List ℕ)) (l m : List Taking) → GainsKnown x l y → GainsKnown y m z → GainsKnown x (l ++ m) z
+gained_follows None y z l m h k = no_delay_follows l m h (gained_no_delay y z m k)
+gained_follows (Some xs) None z l m h k = absurd h
+gained_follows (Some xs) (Some ys) None l m h k = absurd k
+gained_follows (Some xs) (Some ys) (Some zs) l m h k = gains_follows xs ys zs l m h k
+
+-- a writer whose bytes are known at some values
+pub gains_laws : {S : Type 0} (contents : S → Option (List ℕ)) → RunLaws (λ x l y. GainsKnown (contents x) l (contents y))
+gains_laws contents =
+    record {
+      rests = λ x. gained_rests (contents x);
+      follows = λ x y z l m h k. gained_follows (contents x) (contents y) (contents z) l m h k;
+    }
+
+-- Calls of std's traits, after calls that failed and so kept what is known.
+no_wait_bytes : (xs : List ℕ) → NoWait (bytes xs)
+no_wait_bytes [] = tt
+no_wait_bytes (x ∷ xs) = no_wait_bytes xs
+
+no_wait_moved : (room xs : List ℕ) → NoWait (moved room xs)
+no_wait_moved room (x ∷ xs) = no_wait_bytes xs
+no_wait_moved (r ∷ room) [] = tt
+no_wait_moved [] [] = tt
+
+spends_front : (xs ys : List ℕ) → Spends (xs ++ ys) (bytes xs) ys
+spends_front [] ys = refl
+spends_front (x ∷ xs) ys = (refl, spends_front xs ys)
+
+spends_moved : (room xs ys : List ℕ) → (xs ≡ [] → 0 < length room → ys ≡ []) → Spends (xs ++ ys) (moved room xs) ys
+spends_moved room (x ∷ xs) ys none = (refl, spends_front xs ys)
+spends_moved [] [] ys none = refl
+spends_moved (r ∷ room) [] ys none = (none refl (omega arith), refl)
+
+keeps_trans : (x y z : Option (List ℕ)) → Keeps x y → Keeps y z → Keeps x z
+keeps_trans None y z h k = tt
+keeps_trans (Some xs) None z h k = absurd h
+keeps_trans (Some xs) (Some ys) None h k = absurd k
+keeps_trans (Some xs) (Some ys) (Some zs) h k = k ∙ h
+
+none_taken : (n : ℕ) (buf : List ℕ) → n ≡ length (take n buf) → take n buf ≡ [] → n ≡ 0
+none_taken n buf counts none = counts ∙ ap length none
+
+pub read_spends : (x y z : Option (List ℕ)) (r : Result ℕ Error) (buf : List ℕ) → Keeps x y → ReadsAtMost r buf → ReadConsumes y z r buf → SpendsKnown x (read_marks (Ready r) buf) z
+read_spends None y z (Ok n) buf k b h = no_wait_moved buf (take n buf)
+read_spends None y z (Err e) buf k b h = tt
+read_spends (Some xs) None z r buf k b h = absurd k
+read_spends (Some xs) (Some ys) None (Ok n) buf k b h = absurd h.0
+read_spends (Some xs) (Some ys) None (Err e) buf k b h = absurd h
+read_spends (Some xs) (Some ys) (Some zs) (Ok n) buf k b h =
+    subst (λ t. Spends t (moved buf (take n buf)) zs) (sym h.0 ∙ k) (spends_moved buf (take n buf) zs (λ none room. h.1 (none_taken n buf b.1 none) room))
+read_spends (Some xs) (Some ys) (Some zs) (Err e) buf k b h = h ∙ k
+
+pub write_gains : (x y z : Option (List ℕ)) (r : Result ℕ Error) (buf : List ℕ) → Keeps x y → WriteAppends y z r buf → GainsKnown x (write_marks (Ready r) buf) z
+write_gains None y z (Ok n) buf k h = tt
+write_gains None y z (Err e) buf k h = tt
+write_gains (Some xs) None z r buf k h = absurd k
+write_gains (Some xs) (Some ys) None (Ok n) buf k h = absurd h
+write_gains (Some xs) (Some ys) None (Err e) buf k h = absurd h
+write_gains (Some xs) (Some ys) (Some zs) (Ok n) buf k h = h ∙ ap (λ t. t ++ take n buf) k
+write_gains (Some xs) (Some ys) (Some zs) (Err e) buf k h = h ∙ k
+
+pub flush_gains : (x y z : Option (List ℕ)) (r : Result (Unit {0}) Error) → Keeps x y → Keeps y z → GainsKnown x (done_marks Taking.flushed (Ready r)) z
+flush_gains None y z (Ok u) k h = tt
+flush_gains None y z (Err e) k h = tt
+flush_gains (Some xs) None z r k h = absurd k
+flush_gains (Some xs) (Some ys) None r k h = absurd h
+flush_gains (Some xs) (Some ys) (Some zs) (Ok u) k h = h ∙ k
+flush_gains (Some xs) (Some ys) (Some zs) (Err e) k h = h ∙ k
+
+-- a close is a flush
+pub close_gains : (x y : Option (List ℕ)) (r : Poll (Result (Unit {0}) Error)) → GainsKnown x (done_marks Taking.flushed r) y → GainsKnown x (done_marks Taking.closed r) y
+close_gains None y Pending h = h
+close_gains None y (Ready (Ok u)) h = h
+close_gains None y (Ready (Err e)) h = h
+close_gains (Some xs) None r h = absurd h
+close_gains (Some xs) (Some ys) Pending h = h
+close_gains (Some xs) (Some ys) (Ready (Ok u)) h = h
+close_gains (Some xs) (Some ys) (Ready (Err e)) h = h
+
+target_kept : (at : ℕ) (x y : Option (List ℕ)) (to : SeekFrom) (n : ℕ) → Keeps x y → IsSeekTarget at y to n → IsSeekTarget at x to n
+target_kept at x y (Start k) n s h = h
+target_kept at None y (End k) n s h = tt
+target_kept at (Some xs) None (End k) n s h = absurd s
+target_kept at (Some xs) (Some ys) (End k) n s h = subst (λ t. IsAtOffset (length t) k n) s h
+target_kept at x y (Current k) n s h = h
+
+pub seek_moves : (p q s : Option ℕ) (x y z : Option (List ℕ)) (to : SeekFrom) (r : Result ℕ Error) → StaysAt p q → Keeps x y → SeekMoves q s y to r → Keeps y z → MovesKnown p s x z to (by_kind (Ready r))
+seek_moves None q s x y z to (Ok n) stays k h l = (tt, keeps_trans x y z k l)
+seek_moves None q s x y z to (Err e) stays k h l = (tt, keeps_trans x y z k l)
+seek_moves (Some at) q s x y z to (Ok n) stays k h l =
+    let moved : IsSeekTarget at y to n × (s ≡ Some n) = subst (λ t. SeekMoves {E = Error} t s y to (Ok n)) stays h in
+    ((target_kept at x y to n k moved.0, moved.1), keeps_trans x y z k l)
+seek_moves (Some at) q s x y z to (Err e) stays k h l = (subst (λ t. SeekMoves {E = Error} t s y to (Err e)) stays h, keeps_trans x y z k l)
