@@ -168,7 +168,8 @@ keeps_trans (Some xs) (Some ys) (Some zs) h k = k ∙ h
 none_taken : (n : ℕ) (buf : List ℕ) → n ≡ length (take n buf) → take n buf ≡ [] → n ≡ 0
 none_taken n buf counts none = counts ∙ ap length none
 
-pub read_spends : (x y z : Option (List ℕ)) (r : Result ℕ Error) (buf : List ℕ) → Keeps x y → ReadsAtMost r buf → ReadConsumes y z r buf → SpendsKnown x (read_marks (Ready r) buf) z
+pub read_spends : (x y z : Option (List ℕ)) (r : Result ℕ Error) (buf : List ℕ) → Keeps x y → ReadsAtMost r buf → ReadConsumes y z r buf
+    → SpendsKnown x (read_marks (Ready r) buf) z
 read_spends None y z (Ok n) buf k b h = no_wait_moved buf (take n buf)
 read_spends None y z (Err e) buf k b h = tt
 read_spends (Some xs) None z r buf k b h = absurd k
@@ -178,7 +179,8 @@ read_spends (Some xs) (Some ys) (Some zs) (Ok n) buf k b h =
     subst (λ t. Spends t (moved buf (take n buf)) zs) (sym h.0 ∙ k) (spends_moved buf (take n buf) zs (λ none room. h.1 (none_taken n buf b.1 none) room))
 read_spends (Some xs) (Some ys) (Some zs) (Err e) buf k b h = h ∙ k
 
-pub write_gains : (x y z : Option (List ℕ)) (r : Result ℕ Error) (buf : List ℕ) → Keeps x y → WriteAppends y z r buf → GainsKnown x (write_marks (Ready r) buf) z
+pub write_gains : (x y z : Option (List ℕ)) (r : Result ℕ Error) (buf : List ℕ) → Keeps x y → WriteAppends y z r buf
+    → GainsKnown x (write_marks (Ready r) buf) z
 write_gains None y z (Ok n) buf k h = tt
 write_gains None y z (Err e) buf k h = tt
 write_gains (Some xs) None z r buf k h = absurd k
@@ -196,7 +198,8 @@ flush_gains (Some xs) (Some ys) (Some zs) (Ok u) k h = h ∙ k
 flush_gains (Some xs) (Some ys) (Some zs) (Err e) k h = h ∙ k
 
 -- a close is a flush
-pub close_gains : (x y : Option (List ℕ)) (r : Poll (Result (Unit {0}) Error)) → GainsKnown x (done_marks Taking.flushed r) y → GainsKnown x (done_marks Taking.closed r) y
+pub close_gains : (x y : Option (List ℕ)) (r : Poll (Result (Unit {0}) Error)) → GainsKnown x (done_marks Taking.flushed r) y
+    → GainsKnown x (done_marks Taking.closed r) y
 close_gains None y Pending h = h
 close_gains None y (Ready (Ok u)) h = h
 close_gains None y (Ready (Err e)) h = h
@@ -212,7 +215,8 @@ target_kept at (Some xs) None (End k) n s h = absurd s
 target_kept at (Some xs) (Some ys) (End k) n s h = subst (λ t. IsAtOffset (length t) k n) s h
 target_kept at x y (Current k) n s h = h
 
-pub seek_moves : (p q s : Option ℕ) (x y z : Option (List ℕ)) (to : SeekFrom) (r : Result ℕ Error) → StaysAt p q → Keeps x y → SeekMoves q s y to r → Keeps y z → MovesKnown p s x z to (by_kind (Ready r))
+pub seek_moves : (p q s : Option ℕ) (x y z : Option (List ℕ)) (to : SeekFrom) (r : Result ℕ Error) → StaysAt p q → Keeps x y → SeekMoves q s y to r
+    → Keeps y z → MovesKnown p s x z to (by_kind (Ready r))
 seek_moves None q s x y z to (Ok n) stays k h l = (tt, keeps_trans x y z k l)
 seek_moves None q s x y z to (Err e) stays k h l = (tt, keeps_trans x y z k l)
 seek_moves (Some at) q s x y z to (Ok n) stays k h l =
