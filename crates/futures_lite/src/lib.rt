@@ -15,5 +15,6 @@ pub use io::{
     AsyncBufRead, AsyncBufReadExt, AsyncRead, AsyncReadExt, AsyncSeek, AsyncSeekExt, AsyncWrite,
     AsyncWriteExt,
 };
+pub use futures::task::{Doorbell, Solo};
 pub use lite_base::{Context, Future, Poll, Stream, ready};
 pub use stream::StreamExt;
