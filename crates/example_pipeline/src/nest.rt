@@ -1,19 +1,21 @@
 //! Three nests over a vector, each polled by hand, and what their contracts say of the answers.
-ghost use Rattle.std.specs.Prelude.{◌≡◌, ◌<◌, ◌*◌, ◌%◌, ◌++◌, List, map, take, nat_eq, IfOk};
+ghost use Rattle.std.specs.Prelude.{◌≡◌, ◌<◌, ◌*◌, ◌%◌, ◌++◌, List, length, map, take, nat_eq, IfOk};
 ghost use Rattle.std.specs.List.{filter};
 ghost use Rattle.futures_lite.specs.Answers.{Answer, EachItem, Front, items, items_in};
 
 use futures_lite::{Context, Poll, StreamExt, laws, stream};
 use std::alloc::AllocError;
 
-/// Appends what `polls` polls answer of the triples that are even and below 1000. Each item among them is so.
+/// Appends what `polls` polls answer of the triples that are even and below 1000. Each item among them is so. `Err` where memory
+/// for `out` is refused: then fewer were appended.
 pub fn small_evens(
     numbers: Vec<u32>,
     cx: &mut Context<'_>,
     polls: usize,
     out: &mut Vec<Poll<Option<u64>>>,
 ) -> Result<(), AllocError>
-    ensures { (l : List (Answer _)) × (out.new.items ≡ out.old.items ++ l) × EachItem (λ x. (x % 2 ≡ 0) × (x < 1000)) l }
+    ensures { (l : List (Answer _)) × (out.new.items ≡ out.old.items ++ l) × IfOk result (λ _. length l ≡ polls)
+        × EachItem (λ x. (x % 2 ≡ 0) × (x < 1000)) l }
 {
     let tripled = stream::iter(numbers).map(|x| x as u64 * 3);
     let mut small = tripled.filter(|x| *x % 2 == 0 && *x < 1000);
@@ -21,7 +23,7 @@ pub fn small_evens(
 }
 
 /// Appends what `polls` polls answer of the first `count` even triples. However many polls those are, their items are the first
-/// of the list that the same functions of lists give.
+/// of the list that the same functions of lists give. `Err` where memory for `out` is refused: then fewer were appended.
 pub fn first_evens(
     numbers: Vec<u32>,
     count: usize,
@@ -29,7 +31,7 @@ pub fn first_evens(
     polls: usize,
     out: &mut Vec<Poll<Option<u64>>>,
 ) -> Result<(), AllocError>
-    ensures { (l : List (Answer _)) × (out.new.items ≡ out.old.items ++ l)
+    ensures { (l : List (Answer _)) × (out.new.items ≡ out.old.items ++ l) × IfOk result (λ _. length l ≡ polls)
         × Front (items_in l) (take count (filter (λ x. nat_eq (x % 2) 0) (map (λ x. x * 3) numbers.items))) }
 {
     let tripled = stream::iter(numbers).map(|x| x as u64 * 3);
@@ -37,7 +39,7 @@ pub fn first_evens(
     laws::run(&mut evens, cx, polls, out)
 }
 
-/// Appends all triples, as items, in order.
+/// Appends all triples, as items, in order. `Err` where memory for `out` is refused: then fewer were appended.
 pub fn tripled(
     numbers: Vec<u32>,
     cx: &mut Context<'_>,

@@ -11,10 +11,10 @@ pub mod prelude;
 pub mod stream;
 
 pub use future::FutureExt;
+pub use futures::task::{Doorbell, Solo};
 pub use io::{
     AsyncBufRead, AsyncBufReadExt, AsyncRead, AsyncReadExt, AsyncSeek, AsyncSeekExt, AsyncWrite,
     AsyncWriteExt,
 };
-pub use futures::task::{Doorbell, Solo};
 pub use lite_base::{Context, Future, Poll, Stream, ready};
 pub use stream::StreamExt;

@@ -61,7 +61,8 @@ each_weaker P Q weaker (Pending ∷ l) h = each_weaker P Q weaker l h
 each_weaker P Q weaker (Ready None ∷ l) h = each_weaker P Q weaker l h
 each_weaker P Q weaker (Ready (Some x) ∷ l) h = (weaker x h.0, each_weaker P Q weaker l h.1)
 
-module _ {F A B : Type 0} (call : F → A → Option B → F → Type 0) (P : A → Type 0) (Q : B → Type 0) (answers : (p q : F) (x : A) (y : B) → P x → call p x (Some y) q → Q y) where
+module _ {F A B : Type 0} (call : F → A → Option B → F → Type 0) (P : A → Type 0) (Q : B → Type 0)
+    (answers : (p q : F) (x : A) (y : B) → P x → call p x (Some y) q → Q y) where
   -- take_while, map_while, scan
   pub each_exchanged : (f g : F) (i : List (Answer A)) (o : List (Answer B)) → EachItem P i → Exchanges call f i o g → EachItem Q o
   each_exchanged f g [] [] e h = tt
@@ -98,7 +99,8 @@ pub each_replaced : {F A B : Type 0} (call : F → A → B → F → Type 0) (P 
 each_replaced call P Q answers = each_exchanged (Always call) P Q answers
 
 -- take
-pub each_cut : {F A : Type 0} (is_over : F → Type 0) (after : Answer A → F → F) (P : A → Type 0) (f g : F) (i o : List (Answer A)) → EachItem P i → Cuts is_over after f i o g → EachItem P o
+pub each_cut : {F A : Type 0} (is_over : F → Type 0) (after : Answer A → F → F) (P : A → Type 0)
+    (f g : F) (i o : List (Answer A)) → EachItem P i → Cuts is_over after f i o g → EachItem P o
 each_cut is_over after P f g i [] e h = tt
 each_cut is_over after P f g i (b ∷ o) e (inl h) = subst (λ (c : Answer _). EachItem P (c ∷ o)) (sym h.1) (each_cut is_over after P f g i o e h.2)
 each_cut is_over after P f g i (b ∷ o) e (inr h) =
@@ -126,7 +128,8 @@ each_joined P Second q i j o e d h = each_cut is_done second_after P Second q j 
 each_joined P Done q i j o e d h = each_cut is_done second_after P Done q j o d h.1
 
 -- flatten, flat_map: R holds of each stream that comes in, and a stream of which it holds gives items with the fact
-module _ {B A : Type 0} (run : B → List (Answer A) → B → Type 0) (R : B → Type 0) (P : A → Type 0) (gives : (b c : B) (l : List (Answer A)) → R b → run b l c → EachItem P l) where
+module _ {B A : Type 0} (run : B → List (Answer A) → B → Type 0) (R : B → Type 0) (P : A → Type 0)
+    (gives : (b c : B) (l : List (Answer A)) → R b → run b l c → EachItem P l) where
   pub each_flat : (i : List (Answer B)) (o : List (Answer A)) (last : Option B) → EachItem R i → Flat run i o last → EachItem P o
   each_flat [] [] last e h = tt
   each_flat [] (a ∷ o) last e h = absurd h
@@ -151,18 +154,25 @@ module _ {F A V B : Type 0} (call : F → A → V → F → Type 0) (gives : V �
   each_lingering f g (Ready (Some x) ∷ i) (b ∷ o) last e (v, r, called, inr h) =
       subst (EachItem Q) (sym h.2) (each_join Q h.0 h.1 (made f r x v h.0 None e.0 called h.3) (each_lingering r g i h.1 last e.1 h.4))
 
+each_one : {A : Type 0} (P : A → Type 0) (b c : Answer A) → c ≡ b → EachItem P (b ∷ []) → EachItem P (c ∷ [])
+each_one P b c e h = subst (λ (a : Answer _). EachItem P (a ∷ [])) (sym e) h
+
+each_same : {A : Type 0} (P : A → Type 0) (i j : List (Answer A)) → j ≡ i → EachItem P i → EachItem P j
+each_same P i j e h = subst (EachItem P) (sym e) h
+
 -- or, race
-pub each_row : {A : Type 0} (P : A → Type 0) (i j : List (Answer A)) (c : Answer A) (i' j' : List (Answer A)) → EachItem P i → EachItem P j → Row i j c i' j' → EachItem P (c ∷ []) × EachItem P i' × EachItem P j'
+pub each_row : {A : Type 0} (P : A → Type 0) (i j : List (Answer A)) (c : Answer A) (i' j' : List (Answer A))
+    → EachItem P i → EachItem P j → Row i j c i' j' → EachItem P (c ∷ []) × EachItem P i' × EachItem P j'
 each_row P [] j c i' j' e d h = absurd h
-each_row P (Ready (Some x) ∷ i) j c i' j' e d h = (subst (λ (a : Answer _). EachItem P (a ∷ [])) (sym h.0) (e.0, tt), subst (EachItem P) (sym h.1) e.1, subst (EachItem P) (sym h.2) d)
+each_row P (Ready (Some x) ∷ i) j c i' j' e d h = (each_one P _ _ h.0 (e.0, tt), each_same P _ _ h.1 e.1, each_same P _ _ h.2 d)
 each_row P (Ready None ∷ i) [] c i' j' e d h = absurd h
 each_row P (Ready None ∷ i) (b ∷ j) c i' j' e d h =
-    (subst (λ (a : Answer _). EachItem P (a ∷ [])) (sym h.0) (each_front P (b ∷ []) j d), subst (EachItem P) (sym h.1) e, subst (EachItem P) (sym h.2) (each_tail P b j d))
+    (each_one P _ _ h.0 (each_front P (b ∷ []) j d), each_same P _ _ h.1 e, each_same P _ _ h.2 (each_tail P b j d))
 each_row P (Pending ∷ i) [] c i' j' e d h = absurd h
-each_row P (Pending ∷ i) (Pending ∷ j) c i' j' e d h = (subst (λ (a : Answer _). EachItem P (a ∷ [])) (sym h.0) tt, subst (EachItem P) (sym h.1) e, subst (EachItem P) (sym h.2) d)
-each_row P (Pending ∷ i) (Ready None ∷ j) c i' j' e d h = (subst (λ (a : Answer _). EachItem P (a ∷ [])) (sym h.0) tt, subst (EachItem P) (sym h.1) e, subst (EachItem P) (sym h.2) d)
+each_row P (Pending ∷ i) (Pending ∷ j) c i' j' e d h = (each_one P _ _ h.0 tt, each_same P _ _ h.1 e, each_same P _ _ h.2 d)
+each_row P (Pending ∷ i) (Ready None ∷ j) c i' j' e d h = (each_one P _ _ h.0 tt, each_same P _ _ h.1 e, each_same P _ _ h.2 d)
 each_row P (Pending ∷ i) (Ready (Some y) ∷ j) c i' j' e d h =
-    (subst (λ (a : Answer _). EachItem P (a ∷ [])) (sym h.0) (d.0, tt), subst (EachItem P) (sym h.1) e, subst (EachItem P) (sym h.2) d.1)
+    (each_one P _ _ h.0 (d.0, tt), each_same P _ _ h.1 e, each_same P _ _ h.2 d.1)
 
 pub each_merged : {A : Type 0} (P : A → Type 0) (order : List Bool) (i j o : List (Answer A)) → EachItem P i → EachItem P j → Rows order i j o → EachItem P o
 each_merged P [] i j o e d h = rw h.2 tt
@@ -184,11 +194,14 @@ module _ {A B : Type 0} (P : A → Type 0) (Q : B → Type 0) where
   each_pending zero l h = h
   each_pending (suc n) l h = each_pending n l h
 
-  pub each_paired : (i : List (Answer A)) (j : List (Answer B)) (o : List (Answer (A × B))) (last : Option A) → EachItem P i → EachItem Q j → Pairs i j o last → EachItem (λ z. P z.0 × Q z.1) o
+  pub each_paired : (i : List (Answer A)) (j : List (Answer B)) (o : List (Answer (A × B))) (last : Option A)
+      → EachItem P i → EachItem Q j → Pairs i j o last → EachItem (λ z. P z.0 × Q z.1) o
   each_paired [] j o last e d h = rw h.1 tt
   each_paired (a ∷ i) j [] last e d h = tt
-  each_paired (Pending ∷ i) j (c ∷ o) last e d h = subst (λ (c : Answer (A × B)). EachItem (λ z. P z.0 × Q z.1) (c ∷ o)) (sym h.0) (each_paired i j o last e d h.1)
-  each_paired (Ready None ∷ i) j (c ∷ o) last e d h = subst (λ (c : Answer (A × B)). EachItem (λ z. P z.0 × Q z.1) (c ∷ o)) (sym h.0) (each_paired i j o last e d h.1)
+  each_paired (Pending ∷ i) j (c ∷ o) last e d h =
+      subst (λ (c : Answer (A × B)). EachItem (λ z. P z.0 × Q z.1) (c ∷ o)) (sym h.0) (each_paired i j o last e d h.1)
+  each_paired (Ready None ∷ i) j (c ∷ o) last e d h =
+      subst (λ (c : Answer (A × B)). EachItem (λ z. P z.0 × Q z.1) (c ∷ o)) (sym h.0) (each_paired i j o last e d h.1)
   each_paired (Ready (Some x) ∷ i) j (c ∷ o) last e d (inl h) = subst (EachItem (λ z. P z.0 × Q z.1)) (sym h.3) (each_pending h.0 [] tt)
   each_paired (Ready (Some x) ∷ i) j (c ∷ o) last e d (inr (n, None, more, rest, came, went, follows)) =
       let after : EachItem Q (end ∷ more) = each_after n (end ∷ more) (subst (EachItem Q) came d) in

@@ -65,9 +65,12 @@ module _ {F A : Type 0} (call : F → A → Option A → F → Type 0) (test : A
       rw off (rejected_none h.0 q xs h.2)
 
   -- what came in: rejected items, an answer and the rest
-  segment_in : (xs : List A) (a : Answer A) (i rest : List (Answer A)) → i ≡ items xs ++ a ∷ rest → filter test xs ≡ [] → filter test (items_in i) ≡ filter test (items_in (a ∷ rest))
+  segment_in : (xs : List A) (a : Answer A) (i rest : List (Answer A)) → i ≡ items xs ++ a ∷ rest
+      → filter test xs ≡ [] → filter test (items_in i) ≡ filter test (items_in (a ∷ rest))
   segment_in xs a i rest cut off =
-      ap (λ l. filter test (items_in l)) cut ∙ (ap (filter test) (items_join (items xs) (a ∷ rest) ∙ ap (λ l. l ++ items_in (a ∷ rest)) (items_of xs)) ∙ (filter-append test xs (items_in (a ∷ rest)) ∙ ap (λ l. l ++ filter test (items_in (a ∷ rest))) off))
+      let came = items_join (items xs) (a ∷ rest) ∙ ap (λ l. l ++ items_in (a ∷ rest)) (items_of xs) in
+      let kept = filter-append test xs (items_in (a ∷ rest)) ∙ ap (λ l. l ++ filter test (items_in (a ∷ rest))) off in
+      ap (λ l. filter test (items_in l)) cut ∙ (ap (filter test) came ∙ kept)
 
   pub left_in : (p q : F) (i : List (Answer A)) (o : List (Answer A)) → Leaves call p i o q → items_in o ≡ filter test (items_in i)
   left_in p q i [] h = sym (ap (λ l. filter test (items_in l)) h.0)
@@ -90,7 +93,8 @@ module _ {F A : Type 0} (call : F → A → Option A → F → Type 0) (test : A
       ap (λ k. y ∷ k) rest ∙ (ap (λ z. z ∷ filter test (items_in h.0)) passed.0 ∙ sym (came ∙ (ap (λ a. filter test (items_in (a ∷ h.0))) passes.1 ∙ kept)))
 
 -- take: the items that came in, which are as many as were left to be taken at most
-pub cut_in : {F A : Type 0} (is_over : F → Type 0) (after : Answer A → F → F) (f g : F) (i o : List (Answer A)) → Cuts is_over after f i o g → items_in o ≡ items_in i
+pub cut_in : {F A : Type 0} (is_over : F → Type 0) (after : Answer A → F → F) (f g : F) (i o : List (Answer A))
+    → Cuts is_over after f i o g → items_in o ≡ items_in i
 cut_in is_over after f g i [] h = sym (ap items_in h.0)
 cut_in is_over after f g i (b ∷ o) (inl h) = ap (λ a. items_in (a ∷ o)) h.1 ∙ cut_in is_over after f g i o h.2
 cut_in is_over after f g i (Pending ∷ o) (inr h) = cut_in is_over after (after Pending f) g h.1 o h.3 ∙ sym (ap items_in h.2)

@@ -44,7 +44,8 @@ each_listed P (Ready (Some x) ∷ l) h = (h.0, each_listed P l h.1)
 
 -- an iterator: `left` are the items that are left and `len` says how many, so that none are left after an end
 module _ {I A : Type 0} (can : I → Type 0) (gives : I → Option A → I → Type 0) (remaining : I → Count) (left : I → List A) (len : I → ℕ)
-    (some : (i j : I) (x : A) → gives i (Some x) j → (left i ≡ x ∷ left j) × (len j + 1 ≡ len i)) (none : (i j : I) → gives i None j → (len i ≡ 0) × (len j ≡ 0)) where
+    (some : (i j : I) (x : A) → gives i (Some x) j → (left i ≡ x ∷ left j) × (len j + 1 ≡ len i))
+    (none : (i j : I) → gives i None j → (len i ≡ 0) × (len j ≡ 0)) where
   iterated_none : (i j : I) (l : List (Answer A)) → Iterates can gives remaining i l j → len i ≡ 0 → items_in l ≡ []
   iterated_none i j [] h gone = refl
   iterated_none i j (Pending ∷ l) h gone = absurd h.1
@@ -62,10 +63,12 @@ module _ {I A : Type 0} (can : I → Type 0) (gives : I → Option A → I → T
       (rest.0, here.0 ∙ ap (λ k. x ∷ k) rest.1)
 
   -- polled as often as it has items, it gives them all
-  pub iterated_items : (i j : I) (l : List (Answer A)) → Iterates can gives remaining i l j → len i ≡ length (left i) → length l ≡ length (left i) → l ≡ items (left i)
+  pub iterated_items : (i j : I) (l : List (Answer A)) → Iterates can gives remaining i l j
+      → len i ≡ length (left i) → length l ≡ length (left i) → l ≡ items (left i)
   iterated_items i j l h counted same = iterated_all i j l (left i) h refl counted same
     where
-      iterated_all : (i j : I) (l : List (Answer A)) (xs : List A) → Iterates can gives remaining i l j → left i ≡ xs → len i ≡ length xs → length l ≡ length xs → l ≡ items xs
+      iterated_all : (i j : I) (l : List (Answer A)) (xs : List A) → Iterates can gives remaining i l j
+          → left i ≡ xs → len i ≡ length xs → length l ≡ length xs → l ≡ items xs
       iterated_all i j [] [] h is counted same = refl
       iterated_all i j [] (x ∷ xs) h is counted same = absurd (omega (arith, same))
       iterated_all i j (b ∷ l) [] h is counted same = absurd (omega (arith, same))
@@ -82,10 +85,12 @@ module _ {A Z : Type 0} (can : IntoIter A Z → Type 0) (remaining : IntoIter A 
   pub vec_front : (i j : IntoIter A Z) (l : List (Answer A)) → Iterates can into_iter_steps remaining i l j → Front (items_in l) (into_iter_items i)
   vec_front = iterated_front can into_iter_steps remaining into_iter_items into_iter_len (λ i j x g. g) (λ i j g. g)
 
-  pub vec_items : (i j : IntoIter A Z) (l : List (Answer A)) → Iterates can into_iter_steps remaining i l j → into_iter_len i ≡ length (into_iter_items i) → length l ≡ length (into_iter_items i) → l ≡ items (into_iter_items i)
+  pub vec_items : (i j : IntoIter A Z) (l : List (Answer A)) → Iterates can into_iter_steps remaining i l j
+      → into_iter_len i ≡ length (into_iter_items i) → length l ≡ length (into_iter_items i) → l ≡ items (into_iter_items i)
   vec_items = iterated_items can into_iter_steps remaining into_iter_items into_iter_len (λ i j x g. g) (λ i j g. g)
 
-  pub each_of_vec : (P : A → Type 0) (i j : IntoIter A Z) (l : List (Answer A)) → AllByRecursion P (into_iter_items i) → Iterates can into_iter_steps remaining i l j → EachItem P l
+  pub each_of_vec : (P : A → Type 0) (i j : IntoIter A Z) (l : List (Answer A))
+      → AllByRecursion P (into_iter_items i) → Iterates can into_iter_steps remaining i l j → EachItem P l
   each_of_vec P i j l all h =
       let front = vec_front i j l h in
       each_listed P l (all_front P (items_in l) front.0 (subst (AllByRecursion P) front.1 all))
