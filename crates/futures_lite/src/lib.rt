@@ -11,6 +11,7 @@ pub mod prelude;
 pub mod stream;
 
 pub use future::FutureExt;
+pub use futures::task::{Doorbell, Solo};
 pub use io::{
     AsyncBufRead, AsyncBufReadExt, AsyncRead, AsyncReadExt, AsyncSeek, AsyncSeekExt, AsyncWrite,
     AsyncWriteExt,

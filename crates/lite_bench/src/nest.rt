@@ -2,8 +2,7 @@
 ghost use Rattle.std.specs.Prelude.{◌≡◌, ◌%◌, ◌<◌, ◌≤◌, ◌++◌, ◌∷◌, [], List, length, IfOk};
 ghost use Rattle.futures.specs.Poll.{OnPending};
 ghost use Rattle.futures.specs.Task.{Holds, Keeps, Lasting};
-ghost use Rattle.lite_base.specs.Answers.{Answer};
-ghost use Rattle.lite_bench.specs.Nest.{EachItem};
+ghost use Rattle.futures_lite.specs.Answers.{Answer, EachItem};
 
 use futures_lite::stream::{Counted, Filter, Map, Script};
 use futures_lite::{Context, Poll, Stream, StreamExt, laws};

@@ -1,5 +1,6 @@
 use Rattle.std.proofs.Common.{rules, ◌<◌}
-use Rattle.lite_bench.proofs.Kept.{each_given, each_left}
+use Rattle.futures_lite.specs.Laws.Each.{each_kept}
+use Rattle.futures_lite.specs.Laws.Sources.{each_given}
 use Rattle.lite_bench.proofs.nest.hundredths.Goals as goal
 
 pub run-requires : goal.run-requires
@@ -9,4 +10,4 @@ run-requires c =
 pub returns : goal.returns
 returns c =
     let ran = c.run.ensures.ran in
-    (ran.0, ran.1, ran.3, each_left _ _ (λ p q x y called. search rules) _ _ ran.2.ins ran.0 ran.2.turned)
+    (ran.0, ran.1, ran.3, each_kept _ _ (λ p q x y called. search rules) _ _ ran.2.ins ran.0 ran.2.turned)

@@ -1,0 +1,5 @@
+-- Contexts: what a poll keeps in one, and what a pending poll leaves.
+pub use Rattle.futures.specs.Poll.{IfReady, OnPending}
+pub use Rattle.futures.specs.Task.{Holds, Keeps, Lasting}
+pub use Rattle.futures.specs.declared.task.context.Context.{Context}
+pub use Rattle.lite_laws.specs.Waits.{HoldsEach, IfWaits}

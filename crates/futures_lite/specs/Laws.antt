@@ -1,0 +1,17 @@
+-- Laws with their proofs: of lists of answers, of the families, and of nests ("EachItem" and "Front" of Answers).
+pub use Rattle.lite_base.specs.Laws.All
+pub use Rattle.lite_base.specs.Laws.Alike
+pub use Rattle.lite_base.specs.Laws.Answers
+pub use Rattle.lite_base.specs.Laws.Calling
+pub use Rattle.lite_base.specs.Laws.Calm
+pub use Rattle.lite_base.specs.Laws.Endless
+pub use Rattle.lite_stream.specs.Laws.Cutting
+pub use Rattle.lite_stream.specs.Laws.EachItem
+pub use Rattle.lite_stream.specs.Laws.Pointwise
+pub use Rattle.lite_stream.specs.Laws.Through
+pub use Rattle.lite_sift.specs.Laws.Leaving
+pub use Rattle.lite_source.specs.Laws.Script
+pub use Rattle.lite_nests.specs.Laws.Each
+pub use Rattle.lite_nests.specs.Laws.Fronts
+pub use Rattle.lite_nests.specs.Laws.Items
+pub use Rattle.lite_nests.specs.Laws.Sources

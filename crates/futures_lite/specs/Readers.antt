@@ -1,0 +1,14 @@
+-- Readers: what runs of calls may do, what is lent, and what each reader of the library does, by its own file.
+pub use Rattle.lite_io_base.specs.Runs.{Afterwards, Fills, Idle, LendsFront, OnlyOkLends, ReadsInto, Runs, Shows, StandsFirst, room_in}
+pub use Rattle.lite_io_base.specs.Told.{Told}
+pub use Rattle.lite_io_base.specs.Steps.{Steps}
+pub use Rattle.lite_io_base.specs.SeekKeeps.{SeekKeeps}
+pub use Rattle.lite_io_base.specs.Steady.{CalmReadLaws, NoWait, OneTale, SteadyReadLaws, unhurried}
+pub use Rattle.lite_io.specs.BufReader
+pub use Rattle.lite_io.specs.Chain
+pub use Rattle.lite_io.specs.Repeat
+pub use Rattle.lite_io.specs.Take
+pub use Rattle.lite_bridge.specs.Cursor
+pub use Rattle.lite_read.specs.Bytes
+pub use Rattle.lite_read.specs.ReadExact
+pub use Rattle.lite_read.specs.ReadToEnd

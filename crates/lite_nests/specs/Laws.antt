@@ -1,0 +1,4 @@
+pub mod Each
+pub mod Fronts
+pub mod Items
+pub mod Sources

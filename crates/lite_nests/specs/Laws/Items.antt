@@ -1,0 +1,117 @@
+-- Which items come out: each adapter of a function of its own has a plain function of lists.
+use Rattle.std.proofs.Common.{◌≡◌, ◌≤◌, ◌⊎◌, ℕ, zero, suc, ◌+◌, ◌-◌, List, [], ◌∷◌, ◌++◌, ◌∙◌, length, map, refl, ap, sym, inl, inr, subst, arith}
+use Rattle.std.specs.List.{FoldsTo, filter}
+use Rattle.std.specs.Prelude.{Bool, true, false, Option, Some, None, Result, Ok, Err, IfOk}
+use Rattle.std.proofs.lemmas.List.Elements.{filter-append}
+use Rattle.futures.specs.declared.task.Poll.TheVariants.{Ready, Pending}
+use Rattle.lite_base.specs.Answers.{Answer, end, item, items}
+use Rattle.lite_stream.specs.Cutting.{Cuts}
+use Rattle.lite_stream.specs.EachItem.{items_in}
+use Rattle.lite_stream.specs.Pointwise.{Replaces}
+use Rattle.lite_stream.specs.Take.{is_none_left, left_after}
+use Rattle.lite_sift.specs.Leaving.{Leaves}
+
+pub items_join : {A : Type 0} (l m : List (Answer A)) → items_in (l ++ m) ≡ items_in l ++ items_in m
+items_join [] m = refl
+items_join (Pending ∷ l) m = items_join l m
+items_join (Ready None ∷ l) m = items_join l m
+items_join (Ready (Some x) ∷ l) m = ap (λ k. x ∷ k) (items_join l m)
+
+pub items_of : {A : Type 0} (xs : List A) → items_in (items xs) ≡ xs
+items_of [] = refl
+items_of (x ∷ xs) = ap (λ k. x ∷ k) (items_of xs)
+
+-- map: as many answers, the items by the function
+module _ {F A B : Type 0} (call : F → A → B → F → Type 0) where
+  pub replaced_length : (p q : F) (i : List (Answer A)) (o : List (Answer B)) → Replaces call p i o q → length i ≡ length o
+  replaced_length p q [] [] h = refl
+  replaced_length p q [] (b ∷ o) h = absurd h
+  replaced_length p q (a ∷ i) [] h = absurd h
+  replaced_length p q (Pending ∷ i) (b ∷ o) h = ap suc (replaced_length p q i o h.1)
+  replaced_length p q (Ready None ∷ i) (b ∷ o) h = ap suc (replaced_length p q i o h.1)
+  replaced_length p q (Ready (Some x) ∷ i) (b ∷ o) h = ap suc (replaced_length h.1 q i o h.4)
+
+  module _ (f : A → B) (answers : (p q : F) (x : A) (y : B) → call p x y q → y ≡ f x) where
+    pub replaced_in : (p q : F) (i : List (Answer A)) (o : List (Answer B)) → Replaces call p i o q → items_in o ≡ map f (items_in i)
+    replaced_in p q [] [] h = refl
+    replaced_in p q [] (b ∷ o) h = absurd h
+    replaced_in p q (a ∷ i) [] h = absurd h
+    replaced_in p q (Pending ∷ i) (b ∷ o) h = ap (λ (c : Answer B). items_in (c ∷ o)) h.0 ∙ replaced_in p q i o h.1
+    replaced_in p q (Ready None ∷ i) (b ∷ o) h = ap (λ (c : Answer B). items_in (c ∷ o)) h.0 ∙ replaced_in p q i o h.1
+    replaced_in p q (Ready (Some x) ∷ i) (b ∷ o) (None, r, same, called, more) = absurd called
+    replaced_in p q (Ready (Some x) ∷ i) (b ∷ o) (Some y, r, same, called, more) =
+        let rest = replaced_in r q i o more in
+        let value = answers p r x y called in
+        ap (λ (c : Answer B). items_in (c ∷ o)) same ∙ (ap (λ z. z ∷ items_in o) value ∙ ap (λ k. f x ∷ k) rest)
+
+    -- where all answers were items
+    pub replaced_items : (p q : F) (xs : List A) (o : List (Answer B)) → Replaces call p (items xs) o q → o ≡ items (map f xs)
+    replaced_items p q [] [] h = refl
+    replaced_items p q [] (b ∷ o) h = absurd h
+    replaced_items p q (x ∷ xs) [] h = absurd h
+    replaced_items p q (x ∷ xs) (b ∷ o) (None, r, same, called, more) = absurd called
+    replaced_items p q (x ∷ xs) (b ∷ o) (Some y, r, same, called, more) =
+        let rest = replaced_items r q xs o more in
+        let value = answers p r x y called in
+        cc
+
+-- filter: the items that the test accepts
+module _ {F A : Type 0} (call : F → A → Option A → F → Type 0) (test : A → Bool) (keeps : (p q : F) (x y : A) → call p x (Some y) q → (y ≡ x) × (test x ≡ true))
+    (rejects : (p q : F) (x : A) → call p x None q → test x ≡ false) where
+  rejected_none : (p q : F) (xs : List A) → FoldsTo (λ f x g. call f x None g) p xs q → filter test xs ≡ []
+  rejected_none p q [] h = refl
+  rejected_none p q (x ∷ xs) h =
+      let off = rejects p h.0 x h.1 in
+      rw off (rejected_none h.0 q xs h.2)
+
+  -- what came in: rejected items, an answer and the rest
+  segment_in : (xs : List A) (a : Answer A) (i rest : List (Answer A)) → i ≡ items xs ++ a ∷ rest
+      → filter test xs ≡ [] → filter test (items_in i) ≡ filter test (items_in (a ∷ rest))
+  segment_in xs a i rest cut off =
+      let came = items_join (items xs) (a ∷ rest) ∙ ap (λ l. l ++ items_in (a ∷ rest)) (items_of xs) in
+      let kept = filter-append test xs (items_in (a ∷ rest)) ∙ ap (λ l. l ++ filter test (items_in (a ∷ rest))) off in
+      ap (λ l. filter test (items_in l)) cut ∙ (ap (filter test) came ∙ kept)
+
+  pub left_in : (p q : F) (i : List (Answer A)) (o : List (Answer A)) → Leaves call p i o q → items_in o ≡ filter test (items_in i)
+  left_in p q i [] h = sym (ap (λ l. filter test (items_in l)) h.0)
+  left_in p q i (Pending ∷ o) h =
+      let s = h.2 in
+      let came = segment_in s.rejected s.last i h.0 s.cut (rejected_none p s.between s.rejected s.rejects) in
+      left_in h.1 q h.0 o h.3 ∙ sym (came ∙ ap (λ a. filter test (items_in (a ∷ h.0))) s.passes.0)
+  left_in p q i (Ready None ∷ o) h =
+      let s = h.2 in
+      let came = segment_in s.rejected s.last i h.0 s.cut (rejected_none p s.between s.rejected s.rejects) in
+      left_in h.1 q h.0 o h.3 ∙ sym (came ∙ ap (λ a. filter test (items_in (a ∷ h.0))) s.passes.0)
+  left_in p q i (Ready (Some y) ∷ o) h =
+      let s = h.2 in
+      let passes = s.passes in
+      let came = segment_in s.rejected s.last i h.0 s.cut (rejected_none p s.between s.rejected s.rejects) in
+      let passed = keeps s.between h.1 passes.0 y passes.2 in
+      let on : test passes.0 ≡ true = passed.1 in
+      let kept : filter test (passes.0 ∷ items_in h.0) ≡ passes.0 ∷ filter test (items_in h.0) = rw on refl in
+      let rest = left_in h.1 q h.0 o h.3 in
+      ap (λ k. y ∷ k) rest ∙ (ap (λ z. z ∷ filter test (items_in h.0)) passed.0 ∙ sym (came ∙ (ap (λ a. filter test (items_in (a ∷ h.0))) passes.1 ∙ kept)))
+
+-- take: the items that came in, which are as many as were left to be taken at most
+pub cut_in : {F A : Type 0} (is_over : F → Type 0) (after : Answer A → F → F) (f g : F) (i o : List (Answer A))
+    → Cuts is_over after f i o g → items_in o ≡ items_in i
+cut_in is_over after f g i [] h = sym (ap items_in h.0)
+cut_in is_over after f g i (b ∷ o) (inl h) = ap (λ a. items_in (a ∷ o)) h.1 ∙ cut_in is_over after f g i o h.2
+cut_in is_over after f g i (Pending ∷ o) (inr h) = cut_in is_over after (after Pending f) g h.1 o h.3 ∙ sym (ap items_in h.2)
+cut_in is_over after f g i (Ready None ∷ o) (inr h) = cut_in is_over after (after end f) g h.1 o h.3 ∙ sym (ap items_in h.2)
+cut_in is_over after f g i (Ready (Some x) ∷ o) (inr h) = ap (λ k. x ∷ k) (cut_in is_over after (after (item x) f) g h.1 o h.3) ∙ sym (ap items_in h.2)
+
+pub taken_length : {A : Type 0} (n m : ℕ) (i o : List (Answer A)) → Cuts is_none_left left_after n i o m → length (items_in o) ≤ n
+taken_length n m i [] h = omega arith
+taken_length n m i (b ∷ o) (inl h) = rw h.1 (taken_length n m i o h.2)
+taken_length n m i (Pending ∷ o) (inr h) = taken_length n m h.1 o h.3
+taken_length n m i (Ready None ∷ o) (inr h) = let rest = taken_length 0 m h.1 o h.3 in omega (arith, rest)
+taken_length n m i (Ready (Some x) ∷ o) (inr h) =
+    let rest : length (items_in o) ≤ n - 1 = taken_length (n - 1) m h.1 o h.3 in
+    let some : ¬ (n ≡ 0) = h.0 in
+    omega (arith, rest, some)
+
+-- what a call that went well says, said otherwise
+pub on_ok : {A E P Q : Type 0} (r : Result A E) → (P → Q) → IfOk r (λ _. P) → IfOk r (λ _. Q)
+on_ok (Ok x) to h = to h
+on_ok (Err e) to h = tt
