@@ -1,7 +1,7 @@
 //! A future that says nothing of what it answers.
 ghost use Rattle.lite_steps.specs.Anything.{AnyValue, anything_future};
 
-use lite_base::{Context, Future, Poll};
+use futures_lite::{Context, Future, Poll};
 
 /// Is pending `left` times, and then gives `value`.
 #[derive(Drop)]

@@ -22,5 +22,9 @@ pub uppers_laws : {R : Type 0} {reads : Runs Mark R} → RunLaws reads → RunLa
 uppers_laws laws =
     record {
       rests = λ x. record { ins = []; came = laws.rests x.inner; out = refl };
-      follows = λ x y z l m h k. record { ins = h.ins ++ k.ins; came = laws.follows x.inner y.inner z.inner h.ins k.ins h.came k.came; out = rw (h.out, k.out, map-append) refl };
+      follows = λ x y z l m h k. record {
+        ins = h.ins ++ k.ins;
+        came = laws.follows x.inner y.inner z.inner h.ins k.ins h.came k.came;
+        out = rw (h.out, k.out, map-append) refl;
+      };
     }

@@ -6,11 +6,9 @@ mod upper;
 
 use crate::table::Table;
 use crate::upper::Upper;
-use lite_base::future::block_on::block_on;
-use lite_consume::make::next;
-use lite_io::BufReader;
-use lite_lines::make::lines;
-use lite_read::make::read_exact;
+use futures_lite::future::block_on;
+use futures_lite::io::BufReader;
+use futures_lite::{AsyncBufReadExt, AsyncReadExt, StreamExt};
 use std::io;
 use std::io::ErrorKind;
 
@@ -22,9 +20,9 @@ fn main(rt: HostRuntime) -> io::Result<()> {
     let Ok(reader) = BufReader::with_capacity(rt.alloc(), 4, table) else {
         return Err(io::Error::from(ErrorKind::OutOfMemory));
     };
-    let mut lines = lines(reader, rt.alloc());
+    let mut lines = reader.lines(rt.alloc());
     for _ in 0..3 {
-        match block_on(&rt, next(&mut lines))? {
+        match block_on(&rt, lines.next())? {
             Some(line) => println!(rt; "{}", line?)?,
             None => println!(rt; "end")?,
         }
@@ -34,6 +32,6 @@ fn main(rt: HostRuntime) -> io::Result<()> {
         at: 3,
     };
     let mut five = [0u8; 5];
-    block_on(&rt, read_exact(&mut Upper { inner }, &mut five))??;
+    block_on(&rt, Upper { inner }.read_exact(&mut five))??;
     println!(rt; "{five:?}")
 }

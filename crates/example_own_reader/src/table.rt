@@ -4,8 +4,8 @@ ghost use Rattle.lite_io_base.specs.Steps.{Steps};
 ghost use Rattle.lite_steps.specs.Readers.{reader_by_steps, reader_counting};
 ghost use Rattle.example_own_reader.specs.Table.{Step, size, table_lowers};
 
-use lite_base::{Context, Poll};
-use lite_io_base::{AsyncRead, CountedRead, Tale};
+use futures_lite::io::{AsyncRead, CountedRead, Tale};
+use futures_lite::{Context, Poll};
 use std::io;
 
 /// Reads a table from its place on, and then ends.

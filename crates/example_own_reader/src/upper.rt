@@ -3,8 +3,8 @@ ghost use Rattle.std.specs.Prelude.{◌≡◌, map};
 ghost use Rattle.std.specs.Char.{to_ascii_uppercase};
 ghost use Rattle.example_own_reader.specs.Upper.{Uppers, uppers_laws};
 
-use lite_base::{Context, Poll};
-use lite_io_base::{AsyncRead, Tale};
+use futures_lite::io::{AsyncRead, Tale};
+use futures_lite::{Context, Poll};
 use std::io;
 
 /// Reads what `inner` reads, in upper case.

@@ -4,7 +4,8 @@ ghost use Rattle.lite_base.specs.Ranks.{number_ranks};
 ghost use Rattle.lite_steps.specs.Streams.{HintsAt, stream_counting, stream_hinting};
 ghost use Rattle.example_own_stream.specs.Counter.{Step, counter_lowers, left};
 
-use lite_base::{Context, Counted, Poll, Stream};
+use futures_lite::stream::Counted;
+use futures_lite::{Context, Poll, Stream};
 
 /// Gives `next`, `next + 1` and so on below `end`, and then ends for ever.
 #[derive(Drop)]

@@ -2,7 +2,7 @@
 ghost use Rattle.lite_steps.specs.Anything.{AnyAnswers, anything_stream};
 ghost use Rattle.lite_steps.specs.Streams.{NoHint};
 
-use lite_base::{Context, Poll, Stream};
+use futures_lite::{Context, Poll, Stream};
 
 /// Gives `next`, `next + 1` and so on below `end`, and then ends for ever.
 #[derive(Drop)]

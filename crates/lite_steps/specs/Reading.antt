@@ -37,5 +37,6 @@ module _ {S : Type 0} {step : S → Mark → S → Type 0} {left : S → List �
       subst (λ l. Steps step x (bytes (take (suc n) l)) (further x (suc n))) e (reads_front x (suc n) fits)
 
   -- a read that copies as many as are left, and as there is room for
-  pub reads_into : (x : S) (buf : List ℕ) (n : ℕ) → n ≡ min (length (left x)) (length buf) → take n buf ≡ take n (left x) → Steps step x (moved buf (take n buf)) (further x n)
+  pub reads_into : (x : S) (buf : List ℕ) (n : ℕ) → n ≡ min (length (left x)) (length buf) → take n buf ≡ take n (left x)
+      → Steps step x (moved buf (take n buf)) (further x n)
   reads_into x buf n few same = subst (λ l. Steps step x (moved buf l) (further x n)) (sym same) (reads_at x (left x) buf n refl few)
