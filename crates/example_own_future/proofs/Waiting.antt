@@ -1,10 +1,8 @@
 use Rattle.std.specs.List.{FoldsTo}
 use Rattle.std.proofs.Common.{◌≡◌, ◌∙◌, ℕ, List, [], ◌∷◌, ap, sym}
-use Rattle.futures.specs.declared.task.Poll.{Poll}
-use Rattle.futures.specs.declared.task.Poll.TheVariants.{Ready, Pending}
-use Rattle.lite_base.specs.Answers.{Gives}
-use Rattle.lite_base.specs.Future.Finishes.{Finishes}
-use Rattle.lite_steps.specs.Futures.{StepsToValue}
+use Rattle.futures_lite.specs.Answers.{Gives, Pending, Poll, Ready}
+use Rattle.futures_lite.specs.Futures.{Finishes}
+use Rattle.futures_lite.specs.Own.{StepsToValue}
 use Rattle.example_own_future.specs.Countdown.{Step}
 use Rattle.example_own_future.specs.declared.countdown.Countdown.{Countdown}
 

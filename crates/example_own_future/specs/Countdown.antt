@@ -1,7 +1,6 @@
 -- What one poll of a countdown does.
 use Rattle.std.specs.Prelude.{◌≡◌, ℕ, ◌-◌, ◌<◌}
-use Rattle.futures.specs.declared.task.Poll.{Poll}
-use Rattle.futures.specs.declared.task.Poll.TheVariants.{Ready, Pending}
+use Rattle.futures_lite.specs.Answers.{Pending, Poll, Ready}
 use Rattle.example_own_future.specs.declared.countdown.Countdown.{Countdown}
 
 -- one poll of x, which gave this answer and left y

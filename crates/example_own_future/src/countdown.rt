@@ -1,5 +1,5 @@
 //! A future that says what each of its polls answers.
-ghost use Rattle.lite_steps.specs.Futures.{StepsToValue, future_by_steps};
+ghost use Rattle.futures_lite.specs.Own.{StepsToValue, future_by_steps};
 ghost use Rattle.example_own_future.specs.Countdown.{Step};
 
 use futures_lite::{Context, Future, Poll};

@@ -1,5 +1,5 @@
 //! A future that says nothing of what it answers.
-ghost use Rattle.lite_steps.specs.Anything.{AnyValue, anything_future};
+ghost use Rattle.futures_lite.specs.Own.{AnyValue, anything_future};
 
 use futures_lite::{Context, Future, Poll};
 

@@ -1,9 +1,8 @@
 -- What a read of a table does.
 use Rattle.std.proofs.Common.{◌≡◌, ◌∙◌, ◌+◌, ◌-◌, ℕ, zero, suc, List, [], ◌∷◌, length, min, take, drop, refl, sym, ap, arith, add-zero, drop-drop}
 use Rattle.std.proofs.lemmas.List.{take_rest}
-use Rattle.lite_io_base.specs.Marks.{moved}
-use Rattle.lite_io_base.specs.Steps.{Steps}
-use Rattle.lite_steps.specs.Reading.{ReadsLeft, reads_into}
+use Rattle.futures_lite.specs.Marks.{moved}
+use Rattle.futures_lite.specs.Own.{ReadsLeft, Steps, reads_into}
 use Rattle.example_own_reader.specs.Table.{Step, left}
 use Rattle.example_own_reader.specs.declared.table.Table.{Table}
 

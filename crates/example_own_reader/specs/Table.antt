@@ -1,8 +1,8 @@
 -- What the reads of a table do.
 use Rattle.std.specs.Prelude.{◌≡◌, ℕ, ◌+◌, List, [], ◌∷◌, length, drop}
 use Rattle.std.proofs.Common.{arith, ap}
-use Rattle.lite_io_base.specs.Marks.{Mark}
-use Rattle.lite_steps.specs.Readers.{MarksLower}
+use Rattle.futures_lite.specs.Marks.{Mark}
+use Rattle.futures_lite.specs.Own.{MarksLower}
 use Rattle.example_own_reader.specs.declared.table.Table.{Table}
 
 -- the bytes that are to come

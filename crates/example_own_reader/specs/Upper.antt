@@ -2,8 +2,8 @@
 use Rattle.std.proofs.Common.{◌≡◌, List, [], ◌++◌, map, refl}
 use Rattle.std.specs.Char.{to_ascii_uppercase}
 use Rattle.std.proofs.lemmas.List.{map-append}
-use Rattle.lite_io_base.specs.Marks.{Mark}
-use Rattle.lite_io_base.specs.Runs.{RunLaws, Runs}
+use Rattle.futures_lite.specs.Marks.{Mark}
+use Rattle.futures_lite.specs.Own.{RunLaws, Runs}
 use Rattle.example_own_reader.specs.declared.upper.Upper.{Upper}
 
 abbrev pub upper_mark : Mark → Mark

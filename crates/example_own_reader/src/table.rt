@@ -1,7 +1,6 @@
 //! A reader that says what each mark of its reads is, and is ranked.
-ghost use Rattle.lite_base.specs.Ranks.{number_ranks};
-ghost use Rattle.lite_io_base.specs.Steps.{Steps};
-ghost use Rattle.lite_steps.specs.Readers.{reader_by_steps, reader_counting};
+ghost use Rattle.futures_lite.specs.Ranks.{number_ranks};
+ghost use Rattle.futures_lite.specs.Own.{Steps, reader_by_steps, reader_counting};
 ghost use Rattle.example_own_reader.specs.Table.{Step, size, table_lowers};
 
 use futures_lite::io::{AsyncRead, CountedRead, Tale};

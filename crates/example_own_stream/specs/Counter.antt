@@ -1,9 +1,8 @@
 -- What one poll of a counter does.
 use Rattle.std.specs.Prelude.{◌≡◌, ℕ, ◌+◌, ◌-◌, ◌<◌, ◌≤◌, Some, None}
 use Rattle.std.proofs.Common.{arith}
-use Rattle.futures.specs.declared.task.Poll.TheVariants.{Ready, Pending}
-use Rattle.lite_base.specs.Answers.{Answer}
-use Rattle.lite_steps.specs.Streams.{ItemsLower}
+use Rattle.futures_lite.specs.Answers.{Answer, Pending, Ready}
+use Rattle.futures_lite.specs.Own.{ItemsLower}
 use Rattle.example_own_stream.specs.declared.counter.Counter.{Counter}
 
 -- one poll of x, which gave this answer and left y

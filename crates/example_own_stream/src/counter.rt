@@ -1,7 +1,7 @@
 //! A stream that says what each of its polls answers, and is ranked.
 ghost use Rattle.std.specs.List.{FoldsTo};
-ghost use Rattle.lite_base.specs.Ranks.{number_ranks};
-ghost use Rattle.lite_steps.specs.Streams.{HintsAt, stream_counting, stream_hinting};
+ghost use Rattle.futures_lite.specs.Ranks.{number_ranks};
+ghost use Rattle.futures_lite.specs.Own.{HintsAt, stream_counting, stream_hinting};
 ghost use Rattle.example_own_stream.specs.Counter.{Step, counter_lowers, left};
 
 use futures_lite::stream::Counted;

@@ -1,6 +1,5 @@
 //! A stream that says nothing of what it answers.
-ghost use Rattle.lite_steps.specs.Anything.{AnyAnswers, anything_stream};
-ghost use Rattle.lite_steps.specs.Streams.{NoHint};
+ghost use Rattle.futures_lite.specs.Own.{AnyAnswers, NoHint, anything_stream};
 
 use futures_lite::{Context, Poll, Stream};
 

@@ -8,6 +8,7 @@ pub mod Futures
 pub mod Laws
 pub mod Lines
 pub mod Marks
+pub mod Own
 pub mod Ranks
 pub mod Readers
 pub mod Runs

@@ -1,7 +1,7 @@
 use Rattle.std.proofs.Common.{◌≡◌, ◌≤◌, ℕ, List, [], ◌∷◌, ◌++◌, map, length, take, drop, refl, ap, arith}
 use Rattle.std.proofs.lemmas.Grind.{common_steps}
 use Rattle.std.specs.Char.{to_ascii_uppercase}
-use Rattle.lite_io_base.specs.Marks.{Mark, bytes, moved}
+use Rattle.futures_lite.specs.Marks.{Mark, bytes, moved}
 use Rattle.example_own_reader.specs.Upper.{upper_mark}
 use Rattle.example_own_reader.proofs.upper.UpperAsyncRead.poll_read.Goals as goal
 
