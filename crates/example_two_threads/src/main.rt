@@ -33,7 +33,7 @@ fn in_two_threads<R, B>(
 ) -> io::Result<String>
 where
     R: Threads + Wait + RandomSource + AllocGlobal + Copy + Send + Sync,
-    B: Books,
+    B: Books + Send + Sync,
     requires { blanks ≡ B.names }
 {
     let Ok((mut reader, mut writer)) = split_journalled::<R, Cursor<Vec<u8>>, B>(

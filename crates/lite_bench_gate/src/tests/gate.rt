@@ -64,7 +64,7 @@ where
 fn through_the_pipe<R, B>(rt: R, journal: Journal<Pipe>, blanks: Blanks) -> Result<(), Fail>
 where
     R: Threads + Wait + Abort + RandomSource + AllocGlobal + Copy + Send + Sync,
-    B: Books,
+    B: Books + Send + Sync,
     requires { blanks ≡ B.names }
 {
     let Ok((mut reader, mut writer)) = split_journalled::<R, Pipe, B>(rt, journal, blanks) else {

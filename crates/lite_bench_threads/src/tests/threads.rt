@@ -132,7 +132,7 @@ fn asked_in_a_thread<R, B>(
 ) -> Result<Journal<VecCursor>, AllocError>
 where
     R: Threads + Wait + Send + Sync,
-    B: Books,
+    B: Books + Send + Sync,
 {
     thread::join(rt, || history(reader, writer), || ()).0
 }
@@ -140,7 +140,7 @@ where
 fn two_rounds<R, B>(rt: R, journal: Journal<VecCursor>, blanks: Blanks) -> Result<(), Fail>
 where
     R: Threads + Wait + Abort + RandomSource + AllocGlobal + Copy + Send + Sync,
-    B: Books,
+    B: Books + Send + Sync,
     requires { blanks ≡ B.names }
 {
     let Ok((reader, writer)) = split_journalled::<R, VecCursor, B>(rt, journal, blanks) else {
