@@ -1,14 +1,13 @@
-ghost use Rattle.lite_bench_calls.specs.Named.{IsOf};
+ghost use Rattle.std.specs.Prelude.{◌≡◌};
 
 use super::pipe::Pipe;
 use futures::task::{Doorbell, Solo};
 use futures_lite::Poll;
-use futures_lite::io::{AsyncRead, AsyncWrite, Blanks, Journal, history, split_journalled};
+use futures_lite::io::{AsyncRead, AsyncWrite, Blanks, Books, Journal, history, split_journalled};
 use std::alloc::AllocGlobal;
 use std::marker::Brand;
 use std::process::Abort;
 use std::random::RandomSource;
-use std::sync::ledger::Ledger;
 use std::sync::{Barrier, Wait};
 use std::test::Fail;
 use std::thread;
@@ -62,24 +61,13 @@ where
     false
 }
 
-fn through_the_pipe<R, A, B, C, D>(
-    rt: R,
-    journal: Journal<Pipe>,
-    blanks: Blanks,
-) -> Result<(), Fail>
+fn through_the_pipe<R, B>(rt: R, journal: Journal<Pipe>, blanks: Blanks) -> Result<(), Fail>
 where
     R: Threads + Wait + Abort + RandomSource + AllocGlobal + Copy + Send + Sync,
-    A: Ledger + Send + Sync,
-    B: Ledger + Send + Sync,
-    C: Ledger + Send + Sync,
-    D: Ledger + Send + Sync,
-    requires reads { IsOf blanks.reads A.name A.parts }
-    requires got { IsOf blanks.got B.name B.parts }
-    requires writes { IsOf blanks.writes C.name C.parts }
-    requires taken { IsOf blanks.taken D.name D.parts }
+    B: Books + Send + Sync,
+    requires { blanks ≡ B.names }
 {
-    let Ok((mut reader, mut writer)) = split_journalled::<R, Pipe, A, B, C, D>(rt, journal, blanks)
-    else {
+    let Ok((mut reader, mut writer)) = split_journalled::<R, Pipe, B>(rt, journal, blanks) else {
         return Err(Fail::from("memory"));
     };
     let barrier = Barrier::new(2);
@@ -114,5 +102,5 @@ fn neither_half_waits_until_the_other_is_done(rt: HostRuntime) -> Result<(), Fai
     let Ok(journal) = Journal::new(rt.alloc(), Pipe::new()) else {
         return Err(Fail::from("memory"));
     };
-    through_the_pipe::<HostRuntime, Brand, Brand, Brand, Brand>(rt, journal, Blanks::new())
+    through_the_pipe::<HostRuntime, Brand>(rt, journal, Blanks::new())
 }

@@ -1,10 +1,10 @@
-ghost use Rattle.lite_bench_calls.specs.Named.{IsOf};
+ghost use Rattle.std.specs.Prelude.{◌≡◌};
 
 use futures::task::{Doorbell, Solo};
 use futures_lite::Poll;
 use futures_lite::io::{
-    Answer, AsyncRead, AsyncWrite, Blanks, Call, Cursor, Entry, IoSlice, IoSliceMut, Journal,
-    JournalReadHalf, JournalWriteHalf, history, split_journalled,
+    Answer, AsyncRead, AsyncWrite, Blanks, Books, Call, Cursor, Entry, IoSlice, IoSliceMut,
+    Journal, JournalReadHalf, JournalWriteHalf, history, split_journalled,
 };
 use lite_bench_calls::{Answered, are, by_kind, got, journal_on, told, write};
 use lite_mock::{Order, Takes};
@@ -13,7 +13,6 @@ use std::marker::Brand;
 use std::process::Abort;
 use std::random::RandomSource;
 use std::sync::Wait;
-use std::sync::ledger::Ledger;
 use std::test::Fail;
 
 type VecCursor = Cursor<Vec<u8>>;
@@ -55,17 +54,14 @@ fn assert_two_entries<R: Abort + AllocGlobal + Copy>(rt: R, entries: &[Entry]) -
 }
 
 /// A vectored read and a vectored write by two halves, and what is told of them.
-fn move_first_buffers<R, A, B, C, D>(
+fn move_first_buffers<R, B>(
     rt: R,
-    reader: &mut JournalReadHalf<R, VecCursor, A, B, C, D>,
-    writer: &mut JournalWriteHalf<R, VecCursor, A, B, C, D>,
+    reader: &mut JournalReadHalf<R, VecCursor, B>,
+    writer: &mut JournalWriteHalf<R, VecCursor, B>,
 ) -> Result<(), Fail>
 where
     R: Wait + Abort + RandomSource + AllocGlobal + Copy,
-    A: Ledger,
-    B: Ledger,
-    C: Ledger,
-    D: Ledger,
+    B: Books,
 {
     assert_moves_first_buffers(rt, reader, writer)?;
     assert_eq!(rt; (reader.calls(), reader.bytes()), (1, 2));
@@ -74,25 +70,14 @@ where
     assert_two_entries(rt, kept.entries())
 }
 
-fn vectored_calls<R, A, B, C, D>(
-    rt: R,
-    journal: Journal<VecCursor>,
-    blanks: Blanks,
-) -> Result<(), Fail>
+fn vectored_calls<R, B>(rt: R, journal: Journal<VecCursor>, blanks: Blanks) -> Result<(), Fail>
 where
     R: Wait + Abort + RandomSource + AllocGlobal + Copy,
-    A: Ledger,
-    B: Ledger,
-    C: Ledger,
-    D: Ledger,
-    requires reads { IsOf blanks.reads A.name A.parts }
-    requires got { IsOf blanks.got B.name B.parts }
-    requires writes { IsOf blanks.writes C.name C.parts }
-    requires taken { IsOf blanks.taken D.name D.parts }
+    B: Books,
+    requires { blanks ≡ B.names }
 {
-    let Ok((mut reader, mut writer)) = split_journalled::<R, VecCursor, A, B, C, D>(
-        rt, journal, blanks,
-    ) else {
+    let Ok((mut reader, mut writer)) = split_journalled::<R, VecCursor, B>(rt, journal, blanks)
+    else {
         return Err(Fail::from("memory"));
     };
     move_first_buffers(rt, &mut reader, &mut writer)
@@ -101,7 +86,7 @@ where
 #[test]
 fn a_vectored_call_of_a_half_is_one_entry(rt: HostRuntime) -> Result<(), Fail> {
     let journal = journal_on(rt.alloc(), b"xy")?;
-    vectored_calls::<HostRuntime, Brand, Brand, Brand, Brand>(rt, journal, Blanks::new())
+    vectored_calls::<HostRuntime, Brand>(rt, journal, Blanks::new())
 }
 
 /// Asserts that a write of `ab` is told so.
@@ -129,17 +114,14 @@ fn assert_two_writes<R: Abort + AllocGlobal + Copy>(rt: R, entries: &[Entry]) ->
 }
 
 /// Two writes by a half, of which the first waits, and what is told of them.
-fn write_twice<R, A, B, C, D>(
+fn write_twice<R, B>(
     rt: R,
-    reader: &mut JournalReadHalf<R, Takes, A, B, C, D>,
-    writer: &mut JournalWriteHalf<R, Takes, A, B, C, D>,
+    reader: &mut JournalReadHalf<R, Takes, B>,
+    writer: &mut JournalWriteHalf<R, Takes, B>,
 ) -> Result<(), Fail>
 where
     R: Wait + Abort + RandomSource + AllocGlobal + Copy,
-    A: Ledger,
-    B: Ledger,
-    C: Ledger,
-    D: Ledger,
+    B: Books,
 {
     assert_write_of_ab(rt, writer, Poll::Pending)?;
     assert_eq!(rt; (writer.calls(), writer.bytes()), (1, 0));
@@ -151,24 +133,13 @@ where
     Ok(())
 }
 
-fn writes_that_wait<R, A, B, C, D>(
-    rt: R,
-    journal: Journal<Takes>,
-    blanks: Blanks,
-) -> Result<(), Fail>
+fn writes_that_wait<R, B>(rt: R, journal: Journal<Takes>, blanks: Blanks) -> Result<(), Fail>
 where
     R: Wait + Abort + RandomSource + AllocGlobal + Copy,
-    A: Ledger,
-    B: Ledger,
-    C: Ledger,
-    D: Ledger,
-    requires reads { IsOf blanks.reads A.name A.parts }
-    requires got { IsOf blanks.got B.name B.parts }
-    requires writes { IsOf blanks.writes C.name C.parts }
-    requires taken { IsOf blanks.taken D.name D.parts }
+    B: Books,
+    requires { blanks ≡ B.names }
 {
-    let Ok((mut reader, mut writer)) = split_journalled::<R, Takes, A, B, C, D>(rt, journal, blanks)
-    else {
+    let Ok((mut reader, mut writer)) = split_journalled::<R, Takes, B>(rt, journal, blanks) else {
         return Err(Fail::from("memory"));
     };
     write_twice(rt, &mut reader, &mut writer)
@@ -181,5 +152,5 @@ fn a_pending_write_is_an_entry(rt: HostRuntime) -> Result<(), Fail> {
     let Ok(journal) = Journal::new(rt.alloc(), takes) else {
         return Err(Fail::from("memory"));
     };
-    writes_that_wait::<HostRuntime, Brand, Brand, Brand, Brand>(rt, journal, Blanks::new())
+    writes_that_wait::<HostRuntime, Brand>(rt, journal, Blanks::new())
 }

@@ -1,8 +1,8 @@
-ghost use Rattle.lite_bench_calls.specs.Named.{IsOf};
+ghost use Rattle.std.specs.Prelude.{◌≡◌};
 
 use futures_lite::Poll;
 use futures_lite::io::{
-    Answer, AsyncRead, AsyncWrite, Blanks, Call, Cursor, Entry, Journal, JournalReadHalf,
+    Answer, AsyncRead, AsyncWrite, Blanks, Books, Call, Cursor, Entry, Journal, JournalReadHalf,
     JournalWriteHalf, history, split_journalled,
 };
 use lite_bench_calls::{are, finishes, got, journal_on, read, reads_byte, write};
@@ -12,7 +12,6 @@ use std::marker::Brand;
 use std::process::Abort;
 use std::random::RandomSource;
 use std::sync::Wait;
-use std::sync::ledger::Ledger;
 use std::test::Fail;
 
 type VecCursor = Cursor<Vec<u8>>;
@@ -41,17 +40,14 @@ fn assert_three_reads<R: Abort + AllocGlobal + Copy>(rt: R, entries: &[Entry]) -
 }
 
 /// Three reads by a half, of `x`, of `y` and of nothing yet, and what is told of them.
-fn read_thrice<R, A, B, C, D>(
+fn read_thrice<R, B>(
     rt: R,
-    reader: &mut JournalReadHalf<R, Marks, A, B, C, D>,
-    writer: &mut JournalWriteHalf<R, Marks, A, B, C, D>,
+    reader: &mut JournalReadHalf<R, Marks, B>,
+    writer: &mut JournalWriteHalf<R, Marks, B>,
 ) -> Result<(), Fail>
 where
     R: Wait + Abort + RandomSource + AllocGlobal + Copy,
-    A: Ledger,
-    B: Ledger,
-    C: Ledger,
-    D: Ledger,
+    B: Books,
 {
     assert_reads_both_and_waits(rt, reader)?;
     assert_eq!(rt; (reader.calls(), reader.bytes()), (3, 2));
@@ -60,20 +56,13 @@ where
     assert_three_reads(rt, told.entries())
 }
 
-fn three_reads<R, A, B, C, D>(rt: R, journal: Journal<Marks>, blanks: Blanks) -> Result<(), Fail>
+fn three_reads<R, B>(rt: R, journal: Journal<Marks>, blanks: Blanks) -> Result<(), Fail>
 where
     R: Wait + Abort + RandomSource + AllocGlobal + Copy,
-    A: Ledger,
-    B: Ledger,
-    C: Ledger,
-    D: Ledger,
-    requires reads { IsOf blanks.reads A.name A.parts }
-    requires got { IsOf blanks.got B.name B.parts }
-    requires writes { IsOf blanks.writes C.name C.parts }
-    requires taken { IsOf blanks.taken D.name D.parts }
+    B: Books,
+    requires { blanks ≡ B.names }
 {
-    let Ok((mut reader, mut writer)) = split_journalled::<R, Marks, A, B, C, D>(rt, journal, blanks)
-    else {
+    let Ok((mut reader, mut writer)) = split_journalled::<R, Marks, B>(rt, journal, blanks) else {
         return Err(Fail::from("memory"));
     };
     read_thrice(rt, &mut reader, &mut writer)
@@ -87,7 +76,7 @@ fn three_reads_of_one_byte_are_three_entries(rt: HostRuntime) -> Result<(), Fail
     let Ok(journal) = Journal::new(rt.alloc(), marks) else {
         return Err(Fail::from("memory"));
     };
-    three_reads::<HostRuntime, Brand, Brand, Brand, Brand>(rt, journal, Blanks::new())
+    three_reads::<HostRuntime, Brand>(rt, journal, Blanks::new())
 }
 
 /// Asserts that a read, a write and a read move `x`, `z` and nothing.
@@ -116,17 +105,14 @@ fn assert_read_write_read<R: Abort + AllocGlobal + Copy>(
 }
 
 /// A read, a write and a read by two halves, and what is told of them.
-fn read_write_and_read<R, A, B, C, D>(
+fn read_write_and_read<R, B>(
     rt: R,
-    reader: &mut JournalReadHalf<R, VecCursor, A, B, C, D>,
-    writer: &mut JournalWriteHalf<R, VecCursor, A, B, C, D>,
+    reader: &mut JournalReadHalf<R, VecCursor, B>,
+    writer: &mut JournalWriteHalf<R, VecCursor, B>,
 ) -> Result<(), Fail>
 where
     R: Wait + Abort + RandomSource + AllocGlobal + Copy,
-    A: Ledger,
-    B: Ledger,
-    C: Ledger,
-    D: Ledger,
+    B: Books,
 {
     assert_reads_and_writes(rt, reader, writer)?;
     assert_eq!(rt; (reader.calls(), reader.bytes()), (2, 1));
@@ -139,25 +125,14 @@ where
     Ok(())
 }
 
-fn read_write_read<R, A, B, C, D>(
-    rt: R,
-    journal: Journal<VecCursor>,
-    blanks: Blanks,
-) -> Result<(), Fail>
+fn read_write_read<R, B>(rt: R, journal: Journal<VecCursor>, blanks: Blanks) -> Result<(), Fail>
 where
     R: Wait + Abort + RandomSource + AllocGlobal + Copy,
-    A: Ledger,
-    B: Ledger,
-    C: Ledger,
-    D: Ledger,
-    requires reads { IsOf blanks.reads A.name A.parts }
-    requires got { IsOf blanks.got B.name B.parts }
-    requires writes { IsOf blanks.writes C.name C.parts }
-    requires taken { IsOf blanks.taken D.name D.parts }
+    B: Books,
+    requires { blanks ≡ B.names }
 {
-    let Ok((mut reader, mut writer)) = split_journalled::<R, VecCursor, A, B, C, D>(
-        rt, journal, blanks,
-    ) else {
+    let Ok((mut reader, mut writer)) = split_journalled::<R, VecCursor, B>(rt, journal, blanks)
+    else {
         return Err(Fail::from("memory"));
     };
     read_write_and_read(rt, &mut reader, &mut writer)
@@ -166,27 +141,16 @@ where
 #[test]
 fn the_history_has_the_calls_of_both_halves(rt: HostRuntime) -> Result<(), Fail> {
     let journal = journal_on(rt.alloc(), b"xy")?;
-    read_write_read::<HostRuntime, Brand, Brand, Brand, Brand>(rt, journal, Blanks::new())
+    read_write_read::<HostRuntime, Brand>(rt, journal, Blanks::new())
 }
 
-fn told_at_once<R, A, B, C, D>(
-    rt: R,
-    journal: Journal<VecCursor>,
-    blanks: Blanks,
-) -> Result<(), Fail>
+fn told_at_once<R, B>(rt: R, journal: Journal<VecCursor>, blanks: Blanks) -> Result<(), Fail>
 where
     R: Wait + Abort + RandomSource + AllocGlobal + Copy,
-    A: Ledger,
-    B: Ledger,
-    C: Ledger,
-    D: Ledger,
-    requires reads { IsOf blanks.reads A.name A.parts }
-    requires got { IsOf blanks.got B.name B.parts }
-    requires writes { IsOf blanks.writes C.name C.parts }
-    requires taken { IsOf blanks.taken D.name D.parts }
+    B: Books,
+    requires { blanks ≡ B.names }
 {
-    let Ok((reader, writer)) = split_journalled::<R, VecCursor, A, B, C, D>(rt, journal, blanks)
-    else {
+    let Ok((reader, writer)) = split_journalled::<R, VecCursor, B>(rt, journal, blanks) else {
         return Err(Fail::from("memory"));
     };
     assert_eq!(rt; (reader.calls(), reader.bytes()), (2, 1));
@@ -211,5 +175,5 @@ where
 fn the_halves_tell_the_entries_from_before_the_split(rt: HostRuntime) -> Result<(), Fail> {
     let mut journal = journal_on(rt.alloc(), b"xy")?;
     assert_used_by_all_calls(rt, &mut journal)?;
-    told_at_once::<HostRuntime, Brand, Brand, Brand, Brand>(rt, journal, Blanks::new())
+    told_at_once::<HostRuntime, Brand>(rt, journal, Blanks::new())
 }

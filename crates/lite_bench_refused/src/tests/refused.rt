@@ -1,10 +1,10 @@
-ghost use Rattle.lite_bench_calls.specs.Named.{IsOf};
+ghost use Rattle.std.specs.Prelude.{◌≡◌};
 
 use futures::task::{Doorbell, Solo};
 use futures_lite::Poll;
 use futures_lite::io::{
-    Answer, AsyncRead, AsyncWrite, Blanks, Call, Cursor, ErrorKind, Journal, JournalReadHalf,
-    JournalWriteHalf, history, split_journalled,
+    Answer, AsyncRead, AsyncWrite, Blanks, Books, Call, Cursor, ErrorKind, Journal,
+    JournalReadHalf, JournalWriteHalf, history, split_journalled,
 };
 use lite_bench_calls::{Refusing, are, got, journal_on, reads_byte, try_read, try_write, write};
 use std::alloc::{AllocError, AllocGlobal};
@@ -12,23 +12,19 @@ use std::marker::Brand;
 use std::process::Abort;
 use std::random::RandomSource;
 use std::sync::Wait;
-use std::sync::ledger::Ledger;
 use std::test::Fail;
 
 type VecCursor = Cursor<Vec<u8>>;
 
 /// Drives a half over the reader of `xy`, first also into room for which there is no memory; that is asserted to stop it.
-fn assert_drives_on<R, A, B, C, D>(
+fn assert_drives_on<R, B>(
     rt: R,
-    reader: &mut JournalReadHalf<R, VecCursor, A, B, C, D>,
+    reader: &mut JournalReadHalf<R, VecCursor, B>,
     out: &mut Vec<Answer>,
 ) -> Result<(), Fail>
 where
     R: Wait + Abort + RandomSource + AllocGlobal + Copy,
-    A: Ledger,
-    B: Ledger,
-    C: Ledger,
-    D: Ledger,
+    B: Books,
 {
     let solo = Solo::new(&rt, Doorbell::spinning())?;
     let mut cx = solo.begin();
@@ -56,17 +52,14 @@ fn assert_read_to_the_end<R: Abort + AllocGlobal + Copy>(
 }
 
 /// Two lists of reads by a half, of which one is cut short, and what is told of them.
-fn drive_again<R, A, B, C, D>(
+fn drive_again<R, B>(
     rt: R,
-    reader: &mut JournalReadHalf<R, VecCursor, A, B, C, D>,
-    writer: &mut JournalWriteHalf<R, VecCursor, A, B, C, D>,
+    reader: &mut JournalReadHalf<R, VecCursor, B>,
+    writer: &mut JournalWriteHalf<R, VecCursor, B>,
 ) -> Result<(), Fail>
 where
     R: Wait + Abort + RandomSource + AllocGlobal + Copy,
-    A: Ledger,
-    B: Ledger,
-    C: Ledger,
-    D: Ledger,
+    B: Books,
 {
     let mut out = Vec::new(rt.alloc());
     assert_drives_on(rt, reader, &mut out)?;
@@ -76,25 +69,14 @@ where
     Ok(())
 }
 
-fn refused_room<R, A, B, C, D>(
-    rt: R,
-    journal: Journal<VecCursor>,
-    blanks: Blanks,
-) -> Result<(), Fail>
+fn refused_room<R, B>(rt: R, journal: Journal<VecCursor>, blanks: Blanks) -> Result<(), Fail>
 where
     R: Wait + Abort + RandomSource + AllocGlobal + Copy,
-    A: Ledger,
-    B: Ledger,
-    C: Ledger,
-    D: Ledger,
-    requires reads { IsOf blanks.reads A.name A.parts }
-    requires got { IsOf blanks.got B.name B.parts }
-    requires writes { IsOf blanks.writes C.name C.parts }
-    requires taken { IsOf blanks.taken D.name D.parts }
+    B: Books,
+    requires { blanks ≡ B.names }
 {
-    let Ok((mut reader, mut writer)) = split_journalled::<R, VecCursor, A, B, C, D>(
-        rt, journal, blanks,
-    ) else {
+    let Ok((mut reader, mut writer)) = split_journalled::<R, VecCursor, B>(rt, journal, blanks)
+    else {
         return Err(Fail::from("memory"));
     };
     drive_again(rt, &mut reader, &mut writer)
@@ -103,7 +85,7 @@ where
 #[test]
 fn a_refused_read_of_a_half_reaches_nothing(rt: HostRuntime) -> Result<(), Fail> {
     let journal = journal_on(rt.alloc(), b"xy")?;
-    refused_room::<HostRuntime, Brand, Brand, Brand, Brand>(rt, journal, Blanks::new())
+    refused_room::<HostRuntime, Brand>(rt, journal, Blanks::new())
 }
 
 // Memory is refused in the next two where a test is run with allocations that fail.
@@ -136,17 +118,14 @@ where
 }
 
 /// A read and a write by two halves, each made again where memory was refused, and what is told of them.
-fn move_at_last<R, A, B, C, D>(
+fn move_at_last<R, B>(
     rt: R,
-    reader: &mut JournalReadHalf<R, VecCursor, A, B, C, D>,
-    writer: &mut JournalWriteHalf<R, VecCursor, A, B, C, D>,
+    reader: &mut JournalReadHalf<R, VecCursor, B>,
+    writer: &mut JournalWriteHalf<R, VecCursor, B>,
 ) -> Result<(), Fail>
 where
     R: Wait + Abort + RandomSource + AllocGlobal + Copy,
-    A: Ledger,
-    B: Ledger,
-    C: Ledger,
-    D: Ledger,
+    B: Books,
 {
     if !finds_memory_to_read(rt, reader)? {
         assert_eq!(rt; (reader.calls(), reader.bytes()), (0, 0));
@@ -166,25 +145,14 @@ where
     Ok(())
 }
 
-fn refused_entries<R, A, B, C, D>(
-    rt: R,
-    journal: Journal<VecCursor>,
-    blanks: Blanks,
-) -> Result<(), Fail>
+fn refused_entries<R, B>(rt: R, journal: Journal<VecCursor>, blanks: Blanks) -> Result<(), Fail>
 where
     R: Wait + Abort + RandomSource + AllocGlobal + Copy,
-    A: Ledger,
-    B: Ledger,
-    C: Ledger,
-    D: Ledger,
-    requires reads { IsOf blanks.reads A.name A.parts }
-    requires got { IsOf blanks.got B.name B.parts }
-    requires writes { IsOf blanks.writes C.name C.parts }
-    requires taken { IsOf blanks.taken D.name D.parts }
+    B: Books,
+    requires { blanks ≡ B.names }
 {
-    let Ok((mut reader, mut writer)) = split_journalled::<R, VecCursor, A, B, C, D>(
-        rt, journal, blanks,
-    ) else {
+    let Ok((mut reader, mut writer)) = split_journalled::<R, VecCursor, B>(rt, journal, blanks)
+    else {
         return Err(Fail::from("memory"));
     };
     move_at_last(rt, &mut reader, &mut writer)
@@ -193,27 +161,21 @@ where
 #[test]
 fn a_refused_entry_of_a_half_changes_nothing(rt: HostRuntime) -> Result<(), Fail> {
     let journal = journal_on(rt.alloc(), b"xy")?;
-    refused_entries::<HostRuntime, Brand, Brand, Brand, Brand>(rt, journal, Blanks::new())
+    refused_entries::<HostRuntime, Brand>(rt, journal, Blanks::new())
 }
 
 /// The journal that a refused split hands back.
-fn handed_back<R, A, B, C, D>(
+fn handed_back<R, B>(
     rt: R,
     journal: Journal<VecCursor>,
     blanks: Blanks,
 ) -> Option<Journal<VecCursor>>
 where
     R: Wait + AllocGlobal + Clone + Drop,
-    A: Ledger,
-    B: Ledger,
-    C: Ledger,
-    D: Ledger,
-    requires reads { IsOf blanks.reads A.name A.parts }
-    requires got { IsOf blanks.got B.name B.parts }
-    requires writes { IsOf blanks.writes C.name C.parts }
-    requires taken { IsOf blanks.taken D.name D.parts }
+    B: Books,
+    requires { blanks ≡ B.names }
 {
-    match split_journalled::<R, VecCursor, A, B, C, D>(rt, journal, blanks) {
+    match split_journalled::<R, VecCursor, B>(rt, journal, blanks) {
         Ok(_) => None,
         Err(back) => Some(back),
     }
@@ -223,11 +185,7 @@ where
 fn a_refused_split_hands_the_journal_back(rt: HostRuntime) -> Result<(), Fail> {
     let mut journal = journal_on(rt.alloc(), b"xy")?;
     assert!(rt; reads_byte(&rt, &mut journal, b'x')?);
-    let back = handed_back::<Refusing<HostRuntime>, Brand, Brand, Brand, Brand>(
-        Refusing { rt },
-        journal,
-        Blanks::new(),
-    );
+    let back = handed_back::<Refusing<HostRuntime>, Brand>(Refusing { rt }, journal, Blanks::new());
     let Some(back) = back else {
         return Err(Fail::from("nothing was refused"));
     };

@@ -1,11 +1,10 @@
-ghost use Rattle.std.specs.Prelude.{IfOk};
-ghost use Rattle.lite_bench_calls.specs.Named.{IsOf};
+ghost use Rattle.std.specs.Prelude.{◌≡◌, IfOk};
 ghost use Rattle.lite_halves.specs.Counts.{AllWrites};
 
 use futures::task::{Doorbell, Solo};
 use futures_lite::io::{
-    Answer, Blanks, Call, Cursor, Entry, Journal, JournalReadHalf, JournalWriteHalf, history,
-    split_journalled,
+    Answer, Blanks, Books, Call, Cursor, Entry, Journal, JournalReadHalf, JournalWriteHalf,
+    history, split_journalled,
 };
 use lite_bench_calls::{are, journal_on};
 use std::alloc::{AllocError, AllocGlobal, Global};
@@ -13,7 +12,6 @@ use std::marker::Brand;
 use std::process::Abort;
 use std::random::RandomSource;
 use std::sync::Wait;
-use std::sync::ledger::Ledger;
 use std::test::Fail;
 use std::thread;
 use std::thread::Threads;
@@ -35,22 +33,16 @@ fn writes(alloc: Global) -> Result<Vec<Call>, AllocError>
     Ok(calls)
 }
 
-type Reading<R, A, B, C, D> = JournalReadHalf<R, VecCursor, A, B, C, D>;
+type Reading<R, B> = JournalReadHalf<R, VecCursor, B>;
 
-type Writing<R, A, B, C, D> = JournalWriteHalf<R, VecCursor, A, B, C, D>;
+type Writing<R, B> = JournalWriteHalf<R, VecCursor, B>;
 
 /// A round of reads of one byte, in a task of its own. `None`: memory was refused.
-fn read_round<
-    R: Wait + RandomSource + AllocGlobal + Drop,
-    A: Ledger,
-    B: Ledger,
-    C: Ledger,
-    D: Ledger,
->(
+fn read_round<R: Wait + RandomSource + AllocGlobal + Drop, B: Books>(
     rt: R,
-    mut reader: Reading<R, A, B, C, D>,
+    mut reader: Reading<R, B>,
     mut out: Vec<Answer>,
-) -> Option<(Reading<R, A, B, C, D>, Vec<Answer>)> {
+) -> Option<(Reading<R, B>, Vec<Answer>)> {
     let solo = Solo::new(&rt, Doorbell::spinning()).ok()?;
     let rooms = vec![in rt.alloc(); 1usize; CALLS].ok()?;
     let mut cx = solo.begin();
@@ -61,17 +53,11 @@ fn read_round<
 }
 
 /// A round of writes, in a task of its own. `None`: memory was refused.
-fn write_round<
-    R: Wait + RandomSource + AllocGlobal + Drop,
-    A: Ledger,
-    B: Ledger,
-    C: Ledger,
-    D: Ledger,
->(
+fn write_round<R: Wait + RandomSource + AllocGlobal + Drop, B: Books>(
     rt: R,
-    mut writer: Writing<R, A, B, C, D>,
+    mut writer: Writing<R, B>,
     mut out: Vec<Answer>,
-) -> Option<(Writing<R, A, B, C, D>, Vec<Answer>)> {
+) -> Option<(Writing<R, B>, Vec<Answer>)> {
     let solo = Solo::new(&rt, Doorbell::spinning()).ok()?;
     let Ok(calls) = writes(rt.alloc()) else {
         return None;
@@ -139,35 +125,25 @@ fn assert_replays<R: Abort + RandomSource + AllocGlobal + Copy>(
 }
 
 /// The history, asked for by a thread that is lent both halves.
-fn asked_in_a_thread<R, A, B, C, D>(
+fn asked_in_a_thread<R, B>(
     rt: &R,
-    reader: &mut Reading<R, A, B, C, D>,
-    writer: &mut Writing<R, A, B, C, D>,
+    reader: &mut Reading<R, B>,
+    writer: &mut Writing<R, B>,
 ) -> Result<Journal<VecCursor>, AllocError>
 where
     R: Threads + Wait + Send + Sync,
-    A: Ledger + Send + Sync,
-    B: Ledger + Send + Sync,
-    C: Ledger + Send + Sync,
-    D: Ledger + Send + Sync,
+    B: Books + Send + Sync,
 {
     thread::join(rt, || history(reader, writer), || ()).0
 }
 
-fn two_rounds<R, A, B, C, D>(rt: R, journal: Journal<VecCursor>, blanks: Blanks) -> Result<(), Fail>
+fn two_rounds<R, B>(rt: R, journal: Journal<VecCursor>, blanks: Blanks) -> Result<(), Fail>
 where
     R: Threads + Wait + Abort + RandomSource + AllocGlobal + Copy + Send + Sync,
-    A: Ledger + Send + Sync,
-    B: Ledger + Send + Sync,
-    C: Ledger + Send + Sync,
-    D: Ledger + Send + Sync,
-    requires reads { IsOf blanks.reads A.name A.parts }
-    requires got { IsOf blanks.got B.name B.parts }
-    requires writes { IsOf blanks.writes C.name C.parts }
-    requires taken { IsOf blanks.taken D.name D.parts }
+    B: Books + Send + Sync,
+    requires { blanks ≡ B.names }
 {
-    let Ok((reader, writer)) = split_journalled::<R, VecCursor, A, B, C, D>(rt, journal, blanks)
-    else {
+    let Ok((reader, writer)) = split_journalled::<R, VecCursor, B>(rt, journal, blanks) else {
         return Err(Fail::from("memory"));
     };
     let none = Vec::new(rt.alloc());
@@ -210,5 +186,5 @@ fn two_threads_leave_one_history(rt: HostRuntime) -> Result<(), Fail> {
         bytes.push((i % 256) as u8)?;
     }
     let journal = journal_on(rt.alloc(), &bytes)?;
-    two_rounds::<HostRuntime, Brand, Brand, Brand, Brand>(rt, journal, Blanks::new())
+    two_rounds::<HostRuntime, Brand>(rt, journal, Blanks::new())
 }

@@ -1,5 +1,5 @@
 //! What stands under the lock of two journalled halves.
-ghost use Rattle.std.specs.Prelude.{◌≡◌, ◌≤◌, ◌<◌, length, IfNone, IfOk, IfSome};
+ghost use Rattle.std.specs.Prelude.{◌≡◌, ◌≤◌, length, IfNone, IfOk, IfSome};
 ghost use Rattle.futures.specs.Poll.{IfReady};
 ghost use Rattle.futures.specs.Task.{Keeps};
 ghost use Rattle.lite_halves.specs.Counts.{AddsInside, CountsOn, booked_in, counted_in, got_in, nothing_counted, reads_in, taken_in, writes_in};
@@ -8,39 +8,32 @@ ghost use Rattle.lite_io_base.specs.Marks.{count_of};
 ghost use Rattle.lite_journal.specs.Entry.{close_note, flush_note, read_note, write_note};
 ghost use Rattle.lite_journal.specs.Journal.{IsSound, Replays};
 
-use super::Blanks;
-use super::tally::{Books, Shares, Side, Tally};
+use super::books::{Blanks, Books, Got, Reads, Taken, Writes};
+use super::tally::{Shares, Side, SideBooks, Tally};
 use lite_base::{Context, Poll};
 use lite_io_base::{AsyncRead, AsyncWrite, Takings, Tale};
 use lite_journal::Journal;
 use std::alloc::AllocError;
 use std::io;
-use std::sync::ledger::Ledger;
 
 /// A journal beside the books of its two sides. Each step is one call of the stream together with its entry.
 ///
 /// The journal is put in after the lock is made. Each book of calls has one for it, so who has a tally finds it there.
 #[derive(Drop)]
-pub(super) struct Locked<T: Tale + Takings + Clone, A: Ledger, B: Ledger, C: Ledger, D: Ledger> {
+pub(super) struct Locked<T: Tale + Takings + Clone, B: Books> {
     journal: Option<Journal<T>>,
-    reading: Books<A, B>,
-    writing: Books<C, D>,
+    reading: SideBooks<Reads<B>, Got<B>>,
+    writing: SideBooks<Writes<B>, Taken<B>>,
     ghost reading_is: { reading ≡ booked_in Reading journal },
     ghost writing_is: { writing ≡ booked_in Writing journal },
 }
 
 #[tactic(auto, using(crate::proofs::Fits::call_fits))]
-impl<T: AsyncRead + Takings + Clone, A: Ledger, B: Ledger, C: Ledger, D: Ledger> Locked<
-    T,
-    A,
-    B,
-    C,
-    D,
-> {
+impl<T: AsyncRead + Takings + Clone, B: Books> Locked<T, B> {
     /// One read with its entry. `None`: there was no memory for the entry, and nothing was called.
     pub(super) fn read(
         &mut self,
-        tally: &mut Tally<A, B>,
+        tally: &mut Tally<Reads<B>, Got<B>>,
         cx: &mut Context<'_>,
         buf: &mut [u8],
     ) -> Option<Poll<io::Result<usize>>>
@@ -58,17 +51,11 @@ impl<T: AsyncRead + Takings + Clone, A: Ledger, B: Ledger, C: Ledger, D: Ledger>
 }
 
 #[tactic(auto, using(crate::proofs::Fits::call_fits))]
-impl<T: Tale + AsyncWrite + Clone, A: Ledger, B: Ledger, C: Ledger, D: Ledger> Locked<
-    T,
-    A,
-    B,
-    C,
-    D,
-> {
+impl<T: Tale + AsyncWrite + Clone, B: Books> Locked<T, B> {
     /// One write with its entry. `None`: there was no memory for the entry, and nothing was called.
     pub(super) fn write(
         &mut self,
-        tally: &mut Tally<C, D>,
+        tally: &mut Tally<Writes<B>, Taken<B>>,
         cx: &mut Context<'_>,
         buf: &[u8],
     ) -> Option<Poll<io::Result<usize>>>
@@ -87,7 +74,7 @@ impl<T: Tale + AsyncWrite + Clone, A: Ledger, B: Ledger, C: Ledger, D: Ledger> L
     /// One flush with its entry. `None`: there was no memory for the entry, and nothing was called.
     pub(super) fn flush(
         &mut self,
-        tally: &mut Tally<C, D>,
+        tally: &mut Tally<Writes<B>, Taken<B>>,
         cx: &mut Context<'_>,
     ) -> Option<Poll<io::Result<()>>>
         ensures added { IfSome result (λ r. AddsInside T.reads T.writes self.old.journal (flush_note r) self.new.journal) }
@@ -104,7 +91,7 @@ impl<T: Tale + AsyncWrite + Clone, A: Ledger, B: Ledger, C: Ledger, D: Ledger> L
     /// One close with its entry. `None`: there was no memory for the entry, and nothing was called.
     pub(super) fn close(
         &mut self,
-        tally: &mut Tally<C, D>,
+        tally: &mut Tally<Writes<B>, Taken<B>>,
         cx: &mut Context<'_>,
     ) -> Option<Poll<io::Result<()>>>
         ensures added { IfSome result (λ r. AddsInside T.reads T.writes self.old.journal (close_note r) self.new.journal) }
@@ -119,13 +106,16 @@ impl<T: Tale + AsyncWrite + Clone, A: Ledger, B: Ledger, C: Ledger, D: Ledger> L
     }
 }
 
-impl<T: Tale + Takings + Clone, A: Ledger, B: Ledger, C: Ledger, D: Ledger> Locked<T, A, B, C, D> {
+impl<T: Tale + Takings + Clone, B: Books> Locked<T, B> {
     /// No journal yet, and all shares of its four ledgers.
-    pub(super) fn open(blanks: Blanks) -> (Locked<T, A, B, C, D>, Shares<A, B>, Shares<C, D>)
-        requires reads { (blanks.reads.name ≡ A.name) × (blanks.reads.parts ≡ A.parts) × (0 < A.parts) }
-        requires got { (blanks.got.name ≡ B.name) × (blanks.got.parts ≡ B.parts) × (0 < B.parts) }
-        requires writes { (blanks.writes.name ≡ C.name) × (blanks.writes.parts ≡ C.parts) × (0 < C.parts) }
-        requires taken { (blanks.taken.name ≡ D.name) × (blanks.taken.parts ≡ D.parts) × (0 < D.parts) }
+    pub(super) fn open(
+        blanks: Blanks,
+    ) -> (
+        Locked<T, B>,
+        Shares<Reads<B>, Got<B>>,
+        Shares<Writes<B>, Taken<B>>,
+    )
+        requires { blanks ≡ B.names }
         ensures { (result.1 ≡ nothing_counted) × (result.2 ≡ nothing_counted) }
     {
         let Blanks {
@@ -134,8 +124,8 @@ impl<T: Tale + Takings + Clone, A: Ledger, B: Ledger, C: Ledger, D: Ledger> Lock
             writes,
             taken,
         } = blanks;
-        let (reading, read_shares) = Books::open(reads, got);
-        let (writing, write_shares) = Books::open(writes, taken);
+        let (reading, read_shares) = SideBooks::open(reads, got);
+        let (writing, write_shares) = SideBooks::open(writes, taken);
         let locked = Locked {
             journal: None,
             reading,
@@ -148,9 +138,9 @@ impl<T: Tale + Takings + Clone, A: Ledger, B: Ledger, C: Ledger, D: Ledger> Lock
     pub(super) fn fill(
         &mut self,
         journal: Journal<T>,
-        read_shares: Shares<A, B>,
-        write_shares: Shares<C, D>,
-    ) -> (Tally<A, B>, Tally<C, D>)
+        read_shares: Shares<Reads<B>, Got<B>>,
+        write_shares: Shares<Writes<B>, Taken<B>>,
+    ) -> (Tally<Reads<B>, Got<B>>, Tally<Writes<B>, Taken<B>>)
     where
         T: Drop,
         requires { (read_shares ≡ nothing_counted) × (write_shares ≡ nothing_counted) }
@@ -166,8 +156,8 @@ impl<T: Tale + Takings + Clone, A: Ledger, B: Ledger, C: Ledger, D: Ledger> Lock
     /// A clone of the journal so far. It has what the two tallies tell.
     pub(super) fn history(
         &mut self,
-        reads: &mut Tally<A, B>,
-        writes: &mut Tally<C, D>,
+        reads: &mut Tally<Reads<B>, Got<B>>,
+        writes: &mut Tally<Writes<B>, Taken<B>>,
     ) -> Result<Journal<T>, AllocError>
         ensures same { (reads.new ≡ reads.old) × (writes.new ≡ writes.old) }
         ensures sound { IfOk result (λ j. IsSound T.reads T.writes T.is_clone j) }

@@ -8,6 +8,7 @@ ghost use Rattle.lite_halves.specs.Counts.{CountsOn, HalfDrives, IsOutOfMemory, 
 ghost use Rattle.lite_journal.specs.Entry.{Asked, Fits, told_in, told_of};
 ghost use Rattle.lite_halves.specs.Laws.Counts.{counts_laws};
 
+use super::books::{Books, Got, Reads};
 use super::locked::Locked;
 use super::tally::Tally;
 use lite_base::{Context, Poll};
@@ -17,7 +18,6 @@ use std::alloc::{AllocError, AllocGlobal};
 use std::io;
 use std::io::{ErrorKind, IoSliceMut};
 use std::marker::Model;
-use std::sync::ledger::Ledger;
 use std::sync::{Arc, Mutex, Wait};
 
 /// The half of a journal that reads. Made by [`split_journalled`](crate::split_journalled).
@@ -26,21 +26,13 @@ use std::sync::{Arc, Mutex, Wait};
 /// their answers, those from before the split included; what the stream does between two calls is not known, since the
 /// other half may call it. The original has no such type.
 #[derive(Drop)]
-pub struct JournalReadHalf<
-    R,
-    T: Tale + Takings + Clone,
-    A: Ledger,
-    B: Ledger,
-    C: Ledger,
-    D: Ledger,
-> {
+pub struct JournalReadHalf<R, T: Tale + Takings + Clone, B: Books> {
     pub(super) rt: R,
-    pub(super) shared: Arc<Mutex<Locked<T, A, B, C, D>>>,
-    pub(super) tally: Tally<A, B>,
+    pub(super) shared: Arc<Mutex<Locked<T, B>>>,
+    pub(super) tally: Tally<Reads<B>, Got<B>>,
 }
 
-impl<R, T: Tale + Takings + Clone, A: Ledger, B: Ledger, C: Ledger, D: Ledger> Model
-    for JournalReadHalf<R, T, A, B, C, D> {
+impl<R, T: Tale + Takings + Clone, B: Books> Model for JournalReadHalf<R, T, B> {
     ghost use Rattle.lite_halves.specs.Counts.{Counted};
 
     ghost Value = { Counted };
@@ -48,14 +40,7 @@ impl<R, T: Tale + Takings + Clone, A: Ledger, B: Ledger, C: Ledger, D: Ledger> M
     ghost view = { λ h. h.tally };
 }
 
-impl<R, T: Tale + Takings + Clone, A: Ledger, B: Ledger, C: Ledger, D: Ledger> JournalReadHalf<
-    R,
-    T,
-    A,
-    B,
-    C,
-    D,
-> {
+impl<R, T: Tale + Takings + Clone, B: Books> JournalReadHalf<R, T, B> {
     /// How many reads the journal has an entry of. It doesn't wait.
     pub fn calls(&self) -> u64
         ensures { result ≡ self.now.calls }
@@ -71,14 +56,7 @@ impl<R, T: Tale + Takings + Clone, A: Ledger, B: Ledger, C: Ledger, D: Ledger> J
     }
 }
 
-impl<
-    R: Wait,
-    T: AsyncRead + Takings + Clone,
-    A: Ledger,
-    B: Ledger,
-    C: Ledger,
-    D: Ledger,
-> JournalReadHalf<R, T, A, B, C, D> {
+impl<R: Wait, T: AsyncRead + Takings + Clone, B: Books> JournalReadHalf<R, T, B> {
     // One read with its entry. `None`: there was no memory for the entry, and nothing was called.
     fn step(&mut self, cx: &mut Context<'_>, buf: &mut [u8]) -> Option<Poll<io::Result<usize>>>
         ensures some { IfSome result (λ r. CountsOn 1 (count_of r) self.old self.new) }
@@ -90,15 +68,13 @@ impl<
     }
 }
 
-impl<R, T: Tale + Takings + Clone, A: Ledger, B: Ledger, C: Ledger, D: Ledger> Tale
-    for JournalReadHalf<R, T, A, B, C, D> {
+impl<R, T: Tale + Takings + Clone, B: Books> Tale for JournalReadHalf<R, T, B> {
     ghost reads = { ReadCounts };
 
     ghost read_laws = { counts_laws read_bytes_of };
 }
 
-impl<R: Wait, T: AsyncRead + Takings + Clone, A: Ledger, B: Ledger, C: Ledger, D: Ledger> AsyncRead
-    for JournalReadHalf<R, T, A, B, C, D> {
+impl<R: Wait, T: AsyncRead + Takings + Clone, B: Books> AsyncRead for JournalReadHalf<R, T, B> {
     /// Reads from the stream, and writes the call down with its answer, both under one lock.
     ///
     /// Room for the entry is made first. Where that is refused the answer is `OutOfMemory`: the stream is not called,
@@ -139,14 +115,11 @@ impl<R: Wait, T: AsyncRead + Takings + Clone, A: Ledger, B: Ledger, C: Ledger, D
     }
 }
 
-impl<R, T, A, B, C, D> JournalReadHalf<R, T, A, B, C, D>
+impl<R, T, B> JournalReadHalf<R, T, B>
 where
     R: Wait + AllocGlobal,
     T: AsyncRead + Takings + Clone,
-    A: Ledger,
-    B: Ledger,
-    C: Ledger,
-    D: Ledger,
+    B: Books,
 {
     // One read with its entry. `None`: there was no memory for the entry or the answer, and nothing was called.
     fn make(&mut self, cx: &mut Context<'_>, room: usize) -> Option<Answer>

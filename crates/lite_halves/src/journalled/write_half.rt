@@ -10,6 +10,7 @@ ghost use Rattle.lite_halves.specs.Counts.{AllWrites, CountsOn, HalfDrives, IsOu
 ghost use Rattle.lite_journal.specs.Entry.{Fits, asked_in, asked_of, told_in, told_of};
 ghost use Rattle.lite_halves.specs.Laws.Counts.{counts_laws};
 
+use super::books::{Books, Taken, Writes};
 use super::locked::Locked;
 use super::tally::Tally;
 use lite_base::{Context, Poll};
@@ -19,7 +20,6 @@ use std::alloc::AllocError;
 use std::io;
 use std::io::{ErrorKind, IoSlice};
 use std::marker::Model;
-use std::sync::ledger::Ledger;
 use std::sync::{Arc, Mutex, Wait};
 
 /// The half of a journal that writes. Made by [`split_journalled`](crate::split_journalled).
@@ -28,21 +28,13 @@ use std::sync::{Arc, Mutex, Wait};
 /// journal and the bytes that were taken, those from before the split included; what the stream does between two calls
 /// is not known, since the other half may call it. The original has no such type.
 #[derive(Drop)]
-pub struct JournalWriteHalf<
-    R,
-    T: Tale + Takings + Clone,
-    A: Ledger,
-    B: Ledger,
-    C: Ledger,
-    D: Ledger,
-> {
+pub struct JournalWriteHalf<R, T: Tale + Takings + Clone, B: Books> {
     pub(super) rt: R,
-    pub(super) shared: Arc<Mutex<Locked<T, A, B, C, D>>>,
-    pub(super) tally: Tally<C, D>,
+    pub(super) shared: Arc<Mutex<Locked<T, B>>>,
+    pub(super) tally: Tally<Writes<B>, Taken<B>>,
 }
 
-impl<R, T: Tale + Takings + Clone, A: Ledger, B: Ledger, C: Ledger, D: Ledger> Model
-    for JournalWriteHalf<R, T, A, B, C, D> {
+impl<R, T: Tale + Takings + Clone, B: Books> Model for JournalWriteHalf<R, T, B> {
     ghost use Rattle.lite_halves.specs.Counts.{Counted};
 
     ghost Value = { Counted };
@@ -50,14 +42,7 @@ impl<R, T: Tale + Takings + Clone, A: Ledger, B: Ledger, C: Ledger, D: Ledger> M
     ghost view = { λ h. h.tally };
 }
 
-impl<R, T: Tale + Takings + Clone, A: Ledger, B: Ledger, C: Ledger, D: Ledger> JournalWriteHalf<
-    R,
-    T,
-    A,
-    B,
-    C,
-    D,
-> {
+impl<R, T: Tale + Takings + Clone, B: Books> JournalWriteHalf<R, T, B> {
     /// How many writes, flushes and closes the journal has an entry of. It doesn't wait.
     pub fn calls(&self) -> u64
         ensures { result ≡ self.now.calls }
@@ -73,14 +58,7 @@ impl<R, T: Tale + Takings + Clone, A: Ledger, B: Ledger, C: Ledger, D: Ledger> J
     }
 }
 
-impl<
-    R: Wait,
-    T: Tale + AsyncWrite + Clone,
-    A: Ledger,
-    B: Ledger,
-    C: Ledger,
-    D: Ledger,
-> JournalWriteHalf<R, T, A, B, C, D> {
+impl<R: Wait, T: Tale + AsyncWrite + Clone, B: Books> JournalWriteHalf<R, T, B> {
     // One write with its entry. `None`: there was no memory for the entry, and nothing was called.
     fn step_write(&mut self, cx: &mut Context<'_>, buf: &[u8]) -> Option<Poll<io::Result<usize>>>
         ensures some { IfSome result (λ r. CountsOn 1 (count_of r) self.old self.new) }
@@ -152,15 +130,13 @@ impl<
     }
 }
 
-impl<R, T: Tale + Takings + Clone, A: Ledger, B: Ledger, C: Ledger, D: Ledger> Takings
-    for JournalWriteHalf<R, T, A, B, C, D> {
+impl<R, T: Tale + Takings + Clone, B: Books> Takings for JournalWriteHalf<R, T, B> {
     ghost writes = { WriteCounts };
 
     ghost write_laws = { counts_laws taken_bytes_of };
 }
 
-impl<R: Wait, T: Tale + AsyncWrite + Clone, A: Ledger, B: Ledger, C: Ledger, D: Ledger> AsyncWrite
-    for JournalWriteHalf<R, T, A, B, C, D> {
+impl<R: Wait, T: Tale + AsyncWrite + Clone, B: Books> AsyncWrite for JournalWriteHalf<R, T, B> {
     /// Writes to the stream, and writes the call down with its answer, both under one lock.
     ///
     /// Room for the entry and a copy of `buf` is made first. Where that is refused the answer is `OutOfMemory`: the

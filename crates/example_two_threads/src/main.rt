@@ -1,0 +1,57 @@
+//! `example_two_threads` reads and writes one journal in two threads, and prints what its history has of both.
+#![tactic(auto)]
+
+ghost use Rattle.std.specs.Prelude.{◌≡◌};
+
+mod twice;
+
+use crate::twice::{read_twice, write_twice};
+use futures_lite::io::{Blanks, Books, Cursor, Journal, history, split_journalled};
+use std::alloc::AllocGlobal;
+use std::io::ErrorKind;
+use std::marker::Brand;
+use std::random::RandomSource;
+use std::sync::Wait;
+use std::thread::Threads;
+use std::{io, thread};
+
+fn main(rt: HostRuntime) -> io::Result<()> {
+    let cursor = Cursor::new(Vec::from_slice(rt.alloc(), b"abcdefgh")?);
+    let Ok(journal) = Journal::new(rt.alloc(), cursor) else {
+        return Err(ErrorKind::OutOfMemory.into());
+    };
+    // The proof of this call picks the books: `proofs/main/Invariants.antt`.
+    let told = in_two_threads::<HostRuntime, Brand>(rt, journal, Blanks::new())?;
+    println!(rt; "{told}")
+}
+
+/// Each half is used in a thread of its own; then they tell their calls, which are those of the history.
+fn in_two_threads<R, B>(
+    rt: R,
+    journal: Journal<Cursor<Vec<u8>>>,
+    blanks: Blanks,
+) -> io::Result<String>
+where
+    R: Threads + Wait + RandomSource + AllocGlobal + Copy + Send + Sync,
+    B: Books + Send + Sync,
+    requires { blanks ≡ B.names }
+{
+    let Ok((mut reader, mut writer)) = split_journalled::<R, Cursor<Vec<u8>>, B>(
+        rt, journal, blanks,
+    ) else {
+        return Err(ErrorKind::OutOfMemory.into());
+    };
+    let (read, written) = thread::join(
+        &rt,
+        || read_twice(&rt, &mut reader),
+        || write_twice(&rt, &mut writer),
+    );
+    read?;
+    written?;
+    let entries = history(&mut reader, &mut writer)?.entries().len();
+    let (reads, got) = (reader.calls(), reader.bytes());
+    let (writes, taken) = (writer.calls(), writer.bytes());
+    Ok(format!(in rt.alloc();
+        "{entries} entries: {reads} reads of {got} bytes, {writes} writes of {taken} bytes"
+    )?)
+}
