@@ -1,5 +1,5 @@
 -- A reader by steps that reads many bytes at once, of those that are left: each is one step.
-use Rattle.std.proofs.Common.{◌≡◌, ◌∙◌, ◌+◌, ◌≤◌, ℕ, zero, suc, List, [], ◌∷◌, ◌++◌, length, min, take, drop, refl, sym, ap, subst, arith, length-take-le, take-append-drop}
+use Rattle.std.proofs.Common.{◌≡◌, ◌∙◌, ◌+◌, ◌<◌, ◌≤◌, ℕ, zero, suc, List, [], ◌∷◌, ◌++◌, length, min, take, drop, refl, sym, ap, subst, arith, length-take-le, slice_set, take-append-drop}
 use Rattle.lite_io_base.specs.Marks.{Mark, bytes, moved}
 use Rattle.lite_io_base.specs.Steps.{Steps}
 
@@ -40,3 +40,9 @@ module _ {S : Type 0} {step : S → Mark → S → Type 0} {left : S → List �
   pub reads_into : (x : S) (buf : List ℕ) (n : ℕ) → n ≡ min (length (left x)) (length buf) → take n buf ≡ take n (left x)
       → Steps step x (moved buf (take n buf)) (further x n)
   reads_into x buf n few same = subst (λ l. Steps step x (moved buf l) (further x n)) (sym same) (reads_at x (left x) buf n refl few)
+
+-- a read of one byte, which is stored at the front
+pub reads_one : {S : Type 0} (step : S → Mark → S → Type 0) (x y : S) (b : ℕ) (buf : List ℕ) → 0 < length buf → step x (Mark.byte b) y
+    → Steps step x (moved (slice_set buf 0 b) (take 1 (slice_set buf 0 b))) y
+reads_one step x y b [] some h = absurd (omega (arith, some))
+reads_one step x y b (r ∷ buf) some h = (y, h, refl)
