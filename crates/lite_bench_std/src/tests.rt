@@ -1,3 +1,4 @@
 mod assert_async;
 mod async_as_sync;
 mod block_on;
+mod marks;

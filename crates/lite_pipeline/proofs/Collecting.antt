@@ -68,7 +68,8 @@ module _ {C : Type 0} (holds : C → List (String Global) → Type 0) where
     Collecting = fold_of part (tries_collect ⊤ holds)
 
     -- behind items that were taken in
-    behind : (p q : N) (taken : List Text) (before : List (String Global)) (ins : List (Answer Text)) (v : Value) → Has p before → FoldsTo (TakesIn Collecting) p taken q
+    behind : (p q : N) (taken : List Text) (before : List (String Global)) (ins : List (Answer Text)) (v : Value) → Has p before
+        → FoldsTo (TakesIn Collecting) p taken q
         → ((l : List (String Global)) → Has q l → Says l (Given ins) v) → Says before (Given (items taken ++ ins)) v
     behind p q [] before ins v has f next = next before (subst (λ m. Has m before) f has)
     behind p q (Ok text ∷ taken) before ins v has f next =
@@ -78,14 +79,16 @@ module _ {C : Type 0} (holds : C → List (String Global) → Type 0) where
     behind p q (Err e ∷ taken) before ins v has f next = absurd f.1
 
     -- the answer that decides
-    decides : (p q : N) (before : List (String Global)) (last : Answer Text) (v : Value) → Has p before → Decides Collecting p last v q → Says before (Given (last ∷ [])) v
+    decides : (p q : N) (before : List (String Global)) (last : Answer Text) (v : Value) → Has p before → Decides Collecting p last v q
+        → Says before (Given (last ∷ [])) v
     decides p q before Pending v has d = absurd d
     decides p q before (Ready None) v has d = rw d.2 ([], subst (holds d.0) (sym (append-nil before)) (held_by p before d.0 has d.1), λ l g. g)
     decides p q before (Ready (Some (Err e))) v has d = rw d.0 ([], λ l g. (l, refl, g))
     decides p q before (Ready (Some (Ok text))) v has d =
         rw d.5 ([], subst (holds d.2) (sym (append-nil before)) (d.4 before (held_by p before d.1 has d.3)), λ l g. (g.0, g.1))
 
-    pub says : (out : List (Poll Value)) (p q : N) (ins : List (Answer Text)) (before : List (String Global)) (v : Value) → Has p before → Consumes Collecting p ins out q
+    pub says : (out : List (Poll Value)) (p q : N) (ins : List (Answer Text)) (before : List (String Global)) (v : Value) → Has p before
+        → Consumes Collecting p ins out q
         → Gives out v → Says before (Given ins) v
     says [] p q ins before v has k g = absurd g
     says (Pending ∷ out) p q ins before v has k g =

@@ -50,7 +50,8 @@ line_given : (xs : List ℕ) (r : Text) (ins : List (Answer Text)) (l : List Lin
 line_given xs (Ok text) ins l is g = (l, rw is refl, g)
 line_given xs (Err e) ins l is g = inr is
 
-cut_given : (p q : List ℕ) (last : List Mark) (r : Option Text) (ins : List (Answer Text)) (l : List Mark) → (lining ⊤ tt).gives p last r q → Given ins (lines_told q l)
+cut_given : (p q : List ℕ) (last : List Mark) (r : Option Text) (ins : List (Answer Text)) (l : List Mark) → (lining ⊤ tt).gives p last r q
+    → Given ins (lines_told q l)
     → Given (Ready r ∷ ins) (lines_told p (last ++ l))
 cut_given p q last (Some r) ins l (Cut.piece xs, is, becomes) g =
     rw is.0 (line_given (without_return p) r ins (lines_told [] l) (subst (λ ys. IsText (without_return ys) r) is.1 becomes.0)
@@ -66,7 +67,8 @@ cut_given p q last None ins l (Cut.failed e, is, becomes) g = absurd becomes
 cut_given p q last (Some r) ins l (Cut.failed e, inl is, becomes) g = rw (is, becomes.0) (inr refl)
 cut_given p q last (Some r) ins l (Cut.failed e, inr is, becomes) g = rw becomes.0 (refused e (lines_told p (last ++ l)) is.2)
 
-pub given : (p q : List ℕ) (ms : List Mark) (ins : List (Answer Text)) → Segments (lining ⊤ tt) p ms ins q → (l : List Mark) → Given ins (lines_told p (ms ++ l))
+pub given : (p q : List ℕ) (ms : List Mark) (ins : List (Answer Text)) → Segments (lining ⊤ tt) p ms ins q → (l : List Mark)
+    → Given ins (lines_told p (ms ++ l))
 given p q ms [] h l = tt
 given p q ms (Pending ∷ ins) h l =
     let w = h.4 in

@@ -6,8 +6,11 @@ use Rattle.std.specs.declared.io.ErrorKind.{ErrorKind}
 use Rattle.std.specs.declared.io.traits.SeekFrom.{SeekFrom}
 use Rattle.futures.specs.declared.task.Poll.{Poll}
 use Rattle.futures.specs.declared.task.Poll.TheVariants.{Ready, Pending}
+use Rattle.lite_base.specs.Answers.{Comparable}
 use Rattle.lite_io_base.specs.Marks.{Mark}
-use Rattle.lite_io_base.specs.Steady.{NoWait}
+use Rattle.lite_io_base.specs.Runs.{Runs}
+use Rattle.lite_io_base.specs.Steady.{NoWait, unhurried}
+use Rattle.lite_io_base.specs.SteadyWrite.{NeverWaits}
 use Rattle.lite_io_base.specs.Takings.{Taking}
 
 -- reads give the bytes xs in their order, an end only where none is left, and errors anywhere; ys is what is left
@@ -25,15 +28,6 @@ SpendsKnown None l new = NoWait l
 SpendsKnown (Some xs) l None = ⊥
 SpendsKnown (Some xs) l (Some ys) = Spends xs l ys
 
--- no mark of a writing call is a pending
-abbrev pub NoDelay : List Taking → Type 0
-NoDelay [] = ⊤
-NoDelay (Taking.wrote xs ∷ l) = NoDelay l
-NoDelay (Taking.pending ∷ l) = ⊥
-NoDelay (Taking.fault kind ∷ l) = NoDelay l
-NoDelay (Taking.flushed ∷ l) = NoDelay l
-NoDelay (Taking.closed ∷ l) = NoDelay l
-
 -- what is taken comes behind the bytes xs that were there; errors, flushes and closes change nothing; ys is what is there
 abbrev pub Gains : List ℕ → List Taking → List ℕ → Type 0
 Gains xs [] ys = ys ≡ xs
@@ -45,7 +39,7 @@ Gains xs (Taking.closed ∷ l) ys = Gains xs l ys
 
 -- where the bytes that are there are not known, it is known that no call is pending
 abbrev pub GainsKnown : Option (List ℕ) → List Taking → Option (List ℕ) → Type 0
-GainsKnown None l new = NoDelay l
+GainsKnown None l new = NeverWaits l
 GainsKnown (Some xs) l None = ⊥
 GainsKnown (Some xs) l (Some ys) = Gains xs l ys
 
@@ -53,3 +47,18 @@ GainsKnown (Some xs) l (Some ys) = Gains xs l ys
 abbrev pub MovesKnown : Option ℕ → Option ℕ → Option (List ℕ) → Option (List ℕ) → SeekFrom → Poll (Result ℕ ErrorKind) → Type 0
 MovesKnown old new bytes after pos (Ready r) = SeekMoves old new bytes pos r × Keeps bytes after
 MovesKnown old new bytes after pos Pending = ⊥
+
+-- two readers whose tales are one, whenever they are read
+abbrev pub OneTaleOf : {S : Type 0} → Runs Mark S → S → S → Type 0
+OneTaleOf {S} reads x y = (x' y' : S) (l m : List Mark) → reads x l x' → reads y m y' → Comparable (unhurried l) (unhurried m)
+
+-- the same bytes are known to be there
+abbrev pub SameKnown : Option (List ℕ) → Option (List ℕ) → Type 0
+SameKnown None other = ⊥
+SameKnown (Some xs) None = ⊥
+SameKnown (Some xs) (Some ys) = xs ≡ ys
+
+-- the bytes that are known to be there, if they are known
+abbrev pub known_bytes : Option (List ℕ) → List ℕ
+known_bytes None = []
+known_bytes (Some xs) = xs

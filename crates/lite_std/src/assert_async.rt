@@ -2,12 +2,14 @@ ghost use Rattle.std.specs.Prelude.{◌≡◌, ⊤};
 ghost use Rattle.std.specs.Borrow.{Lends, sem};
 ghost use Rattle.lite_io_base.specs.Laws.Runs.{idle_laws};
 ghost use Rattle.lite_io_base.specs.Runs.{Idle};
-ghost use Rattle.lite_std.specs.Known.{GainsKnown, MovesKnown, SpendsKnown};
-ghost use Rattle.lite_std.specs.Laws.Known.{gains_laws, spends_calm, spends_laws};
+ghost use Rattle.lite_std.specs.Known.{GainsKnown, MovesKnown, OneTaleOf, SameKnown, SpendsKnown, known_bytes};
+ghost use Rattle.lite_std.specs.Laws.Known.{gains_calm, gains_laws, gains_steady, spends_calm, spends_laws, spends_steady};
 
 use crate::interrupted::{MOST_INTERRUPTIONS, insist};
 use lite_base::{Context, Poll};
-use lite_io_base::{AsyncRead, AsyncSeek, AsyncWrite, CalmRead, Takings, Tale};
+use lite_io_base::{
+    AsyncRead, AsyncSeek, AsyncWrite, CalmRead, CalmWrite, SteadyRead, SteadyWrite, Takings, Tale,
+};
 use std::io;
 use std::io::{ErrorKind, IoSlice, Read, Seek, SeekFrom, Write};
 
@@ -79,6 +81,17 @@ impl<T: Read> CalmRead for AssertAsync<T> {
     ghost calm = { spends_calm (λ x. T.remaining (handle_of x)) };
 }
 
+// Two that tell one tale: what std says of errors doesn't say when they come.
+impl<T: Read> SteadyRead for AssertAsync<T> {
+    ghost use Rattle.lite_std.specs.AssertAsync.{handle_of};
+
+    ghost ample = { λ x l y. SpendsKnown (T.remaining (handle_of x)) l (T.remaining (handle_of y)) };
+
+    ghost alike = { OneTaleOf (λ x l y. SpendsKnown (T.remaining (handle_of x)) l (T.remaining (handle_of y))) };
+
+    ghost steady = { spends_steady (λ x. T.remaining (handle_of x)) };
+}
+
 impl<T: Write> Takings for AssertAsync<T> {
     ghost use Rattle.lite_std.specs.AssertAsync.{handle_of};
 
@@ -109,6 +122,26 @@ impl<T: Write> AsyncWrite for AssertAsync<T> {
     fn poll_close(&mut self, cx: &mut Context<'_>) -> Poll<io::Result<()>> {
         self.poll_flush(cx)
     }
+}
+
+// Two of which the same bytes are known to be there.
+impl<T: Write> SteadyWrite for AssertAsync<T> {
+    ghost use Rattle.lite_std.specs.AssertAsync.{handle_of};
+
+    ghost alike = { λ x y. SameKnown (T.contents (handle_of x)) (T.contents (handle_of y)) };
+
+    ghost below = { λ x. known_bytes (T.contents (handle_of x)) };
+
+    ghost steady = { gains_steady (λ x. T.contents (handle_of x)) };
+}
+
+// It is never pending.
+impl<T: Write> CalmWrite for AssertAsync<T> {
+    ghost use Rattle.lite_std.specs.AssertAsync.{handle_of};
+
+    ghost is_calm = { λ _. ⊤ };
+
+    ghost calm = { gains_calm (λ x. T.contents (handle_of x)) };
 }
 
 #[tactic(auto, using(crate::specs::Laws::Known::seek_moves))]

@@ -47,7 +47,8 @@ after_fill x r = record { reader = record x.reader { now = r }; text = x.text; b
 
 module _ {R A : Type 0} {reads : Runs Mark R} (laws : RunLaws reads) (x : ReadLineFuture R A) (mid : R) where
   -- the fill tells how reading ended
-  pub filled_last : (y : ReadLineFuture R A) (marks : List Mark) (v r : Result ℕ Error) → y.reader ≡ record x.reader { now = mid } → y.text ≡ record x.text { now = y.text.now }
+  pub filled_last : (y : ReadLineFuture R A) (marks : List Mark) (v r : Result ℕ Error) → y.reader ≡ record x.reader { now = mid }
+      → y.text ≡ record x.text { now = y.text.now }
       → ValueOf x.bytes.items v r → Gains x.bytes.items (string_bytes x.text.now) (string_bytes y.text.now) → y.bytes.items ≡ [] → Holds y
       → Concludes (lining ⊤) x.bytes.items marks v x.bytes.items → reads x.reader.now marks mid → LineTurn ⊤ reads x (Some (Ready r)) y
   filled_last y marks v r reader after value gains empty holds h came =
@@ -79,7 +80,8 @@ module _ {R A : Type 0} {reads : Runs Mark R} (laws : RunLaws reads) (x : ReadLi
           (subst (λ l. Concludes (lining ⊤) x.bytes.items [] v l) (sym kept) h) came
 
     -- all was taken in
-    pub line_more : IsFirstByte (is_byte 10) shown None → 0 < length shown → w.bytes.items ≡ x.bytes.items ++ shown → reads mid (bytes shown) w.reader.now → Holds w
+    pub line_more : IsFirstByte (is_byte 10) shown None → 0 < length shown → w.bytes.items ≡ x.bytes.items ++ shown
+        → reads mid (bytes shown) w.reader.now → Holds w
         → TakesIn line_over (lining ⊤) reads x w
     line_more first some more took holds =
         let all = takes_all 10 ⊤ (Counted 10) x.bytes.items shown (found_none 10 shown first) in
@@ -94,7 +96,8 @@ module _ {R A : Type 0} {reads : Runs Mark R} (laws : RunLaws reads) (x : ReadLi
         }
 
 -- the newline is ASCII too
-pub ascii_line : (shown : List ℕ) (k : ℕ) (a : Bool) → IsFirstByte (is_byte 10) shown (Some k) → a ≡ list_all is_ascii (take k shown) → a ≡ list_all is_ascii (take (k + 1) shown)
+pub ascii_line : (shown : List ℕ) (k : ℕ) (a : Bool) → IsFirstByte (is_byte 10) shown (Some k) → a ≡ list_all is_ascii (take k shown)
+    → a ≡ list_all is_ascii (take (k + 1) shown)
 ascii_line shown k a first is =
     let at = found_at 10 shown k first in
     is ∙ sym (ap (list_all is_ascii) at.2 ∙ list_all-append is_ascii (take k shown) (10 ∷ []) ∙ and_true (list_all is_ascii (take k shown)))

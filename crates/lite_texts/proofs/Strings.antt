@@ -80,7 +80,8 @@ module _ {R A : Type 0} (reads : Runs Mark R) (x w y : ReadToStringFuture R A) (
     (front_is : front_of w ≡ front_of x) where
   -- what was read goes into the text
   pub finished : (marks : List Mark) (v r : Result ℕ Error) → y.reader ≡ w.reader → y.text ≡ record w.text { now = y.text.now } → ValueOf (front_of w) v r
-      → Gains (front_of w) (string_bytes w.text.now) (string_bytes y.text.now) → front_of y ≡ [] → Holds y → Concludes (taking ⊤) (front_of w) marks v (front_of w)
+      → Gains (front_of w) (string_bytes w.text.now) (string_bytes y.text.now) → front_of y ≡ [] → Holds y
+      → Concludes (taking ⊤) (front_of w) marks v (front_of w)
       → reads x.reader.now marks w.reader.now → StringTurn ⊤ reads x (Some (Ready r)) y
   finished marks v r reader after value gains empty holds h came =
       text_finished all_over (taking ⊤) reads x w y stays text marks v r reader after value gains empty holds (subst (λ l. Concludes (taking ⊤) l marks v (front_of w)) front_is h) came
@@ -101,13 +102,15 @@ module _ {R A : Type 0} (reads : Runs Mark R) (x w : ReadToStringFuture R A) (r 
       let put = put_mid at (length old - at) old new in
       let kept : length put ≡ length old = same_len_mid at (length old - at) old new (long ∙ sym (mid_len at (length old) old (omega arith))) in
       let all : (with_items w.bytes put).items ≡ put = with_all w.bytes put (kept ∙ ap length is) in
-      let ahead : take at put ≡ take at old = take-append-le at (take at old) (new ++ post_of at (length old - at) old) (omega (arith, length-take-le at old inside)) ∙ take_all at (take at old) (omega (arith, length-take-le at old inside)) in
+      let ahead : take at put ≡ take at old =
+      take-append-le at (take at old) (new ++ post_of at (length old - at) old) (omega (arith, length-take-le at old inside)) ∙ take_all at (take at old) (omega (arith, length-take-le at old inside)) in
       ap (take at) all ∙ ahead ∙ ap (take at) is ∙ front_is
 
   -- the reader answered, and what was read goes into the text
   pub answered : (y : ReadToStringFuture R A) (marks : List Mark) (v res : Result ℕ Error) → string_bytes w.text.now ≡ string_bytes x.text.now
       → y.reader ≡ wrote.reader → y.text ≡ record w.text { now = y.text.now } → ValueOf (front_of wrote) v res
-      → Gains (front_of wrote) (string_bytes w.text.now) (string_bytes y.text.now) → front_of y ≡ [] → Holds y → Concludes (taking ⊤) (front_of wrote) marks v (front_of wrote)
+      → Gains (front_of wrote) (string_bytes w.text.now) (string_bytes y.text.now) → front_of y ≡ [] → Holds y
+      → Concludes (taking ⊤) (front_of wrote) marks v (front_of wrote)
       → reads w.reader.now marks r → StringTurn ⊤ reads x (Some (Ready res)) y
   answered y marks v res text end after value gains empty held h came =
       finished reads x wrote y wrote_stays text wrote_front marks v res end after value gains empty held h (subst (λ (b : MutBor R). reads b.now marks r) reader came)

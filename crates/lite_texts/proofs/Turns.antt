@@ -20,7 +20,8 @@ module _ {X R A : Type 0} (over : Over X R A) (gather : Gather (List ℕ) (Resul
   pub text_waits : over.read y ≡ over.read x → string_bytes (over.text y).now ≡ string_bytes (over.text x).now → gather.asks (over.read x)
       → reads (over.reader x).now (Mark.pending ∷ []) (over.reader y).now → ReadsText over gather reads x (Pending ∷ []) y
   text_waits read text asks came =
-      let here : Waits (in_text gather) (reading over x) (Mark.pending ∷ []) [] (reading over x) = record { taken = []; cut = refl; folds = refl; asks = asks } in
+      let here : Waits (in_text gather) (reading over x) (Mark.pending ∷ []) [] (reading over x) =
+      record { taken = []; cut = refl; folds = refl; asks = asks } in
       let same : reading over y ≡ reading over x = cc (read, text) in
       one (Mark.pending ∷ []) Pending came ([], reading over x, here, (refl, same))
 
@@ -47,13 +48,16 @@ kept_ref a b e = rw e refl
 module _ {X R A : Type 0} (over : Over X R A) (gather : Gather (List ℕ) (Result ℕ Error)) (reads : Runs Mark R) (x w y : X) (stays : Stays over x w)
     (text : string_bytes (over.text w).now ≡ string_bytes (over.text x).now) where
   -- more was read, and then it goes into the text
-  pub text_finished : (marks : List Mark) (v r : Result ℕ Error) → over.reader y ≡ over.reader w → over.text y ≡ record (over.text w) { now = (over.text y).now }
+  pub text_finished : (marks : List Mark) (v r : Result ℕ Error) → over.reader y ≡ over.reader w
+      → over.text y ≡ record (over.text w) { now = (over.text y).now }
       → ValueOf (over.read w) v r → Gains (over.read w) (string_bytes (over.text w).now) (string_bytes (over.text y).now) → over.read y ≡ [] → over.holds y
-      → Concludes gather (over.read x) marks v (over.read w) → reads (over.reader x).now marks (over.reader w).now → TextTurn over gather reads x (Some (Ready r)) y
+      → Concludes gather (over.read x) marks v (over.read w) → reads (over.reader x).now marks (over.reader w).now
+      → TextTurn over gather reads x (Some (Ready r)) y
   text_finished marks v r reader after value gains empty holds h came =
       let end : reads (over.reader x).now marks (over.reader y).now = subst (λ (b : MutBor R). reads (over.reader x).now marks b.now) (sym reader) came in
       let all = stays_join over x w y stays (record { reader = kept_ref (over.reader w) (over.reader y) reader; text = after }) in
-      let into : Gains (over.read w) (string_bytes (over.text x).now) (string_bytes (over.text y).now) = subst (λ l. Gains (over.read w) l (string_bytes (over.text y).now)) text gains in
+      let into : Gains (over.read w) (string_bytes (over.text x).now) (string_bytes (over.text y).now) =
+      subst (λ l. Gains (over.read w) l (string_bytes (over.text y).now)) text gains in
       (text_given over gather reads x y all marks v r (over.read w) h value into empty end, holds)
 
 -- what holds anyhow holds after a pending

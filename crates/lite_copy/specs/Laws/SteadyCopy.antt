@@ -94,7 +94,8 @@ abbrev AllTold : List Value → ℕ → List Mark → Type 0
 AllTold [] held tale = ⊤
 AllTold (v ∷ l) held tale = Told v held tale × (l ≡ [])
 
-stopped : (read tale : List Mark) (m : Mark) → GoesOn read → tale ≡ read ++ m ∷ [] → unhurried (m ∷ []) ≡ m ∷ [] → unhurried tale ≡ bytes (bytes_told read) ++ m ∷ []
+stopped : (read tale : List Mark) (m : Mark) → GoesOn read → tale ≡ read ++ m ∷ [] → unhurried (m ∷ []) ≡ m ∷ []
+    → unhurried tale ≡ bytes (bytes_told read) ++ m ∷ []
 stopped read tale m on cut stop =
     ap unhurried cut ∙ unhurried-append read (m ∷ []) ∙ ap (λ k. k ++ unhurried (m ∷ [])) (goes_unhurried read on) ∙ ap (λ k. bytes (bytes_told read) ++ k) stop
 
@@ -138,9 +139,11 @@ module _ {R W : Type 0} where
         → Values (Ok n) h.copied.failed h.copied.last (held_of y) (met_of y) y.amount → Told (Ok n) (before_of x) (tale_of x h.told)
     ok_told x y out h n a =
         let c = h.copied in
-        let end : c.read ++ (met_of y ++ c.failed) ≡ c.read ++ Mark.end ∷ [] = ap (λ k. c.read ++ (k ++ c.failed)) a.3 ∙ ap (λ k. c.read ++ (Mark.end ∷ k)) a.0 in
+        let end : c.read ++ (met_of y ++ c.failed) ≡ c.read ++ Mark.end ∷ [] =
+        ap (λ k. c.read ++ (k ++ c.failed)) a.3 ∙ ap (λ k. c.read ++ (Mark.end ∷ k)) a.0 in
         let took = taken_all x y out h a.2 end in
-        let sum : x.amount + length (bytes_of h.took) ≡ before_of x + length (bytes_told c.read) = omega (arith, ap length took, length-append (held_of x) (bytes_told c.read)) in
+        let sum : x.amount + length (bytes_of h.took) ≡ before_of x + length (bytes_told c.read) =
+        omega (arith, ap length took, length-append (held_of x) (bytes_told c.read)) in
         (bytes_told c.read, stopped c.read (tale_of x h.told) Mark.end c.goes_on (c.reading ∙ end) refl, a.4 ∙ h.counted ∙ ap (λ (k : ℕ). k % 2 ^ 64) sum)
 
     err_told : (x y : CopyFuture R W) (out : List (Poll Value)) (h : Moves reads (Prospering writes) x out y) (e : Error)
@@ -161,7 +164,8 @@ module _ {R W : Type 0} where
     all_told x y out h (Ready (Ok n) ∷ l) a = (ok_told x y out h n a.0, ap strip a.1)
     all_told x y out h (Ready (Err e) ∷ l) a = (err_told x y out h e a.0, ap strip a.1)
 
-all_same : (l m : List Value) (held : ℕ) (i j : List Mark) → AllTold l held i → AllTold m held j → Comparable (unhurried i) (unhurried j) → ComparableBy SameByKind l m
+all_same : (l m : List Value) (held : ℕ) (i j : List Mark) → AllTold l held i → AllTold m held j → Comparable (unhurried i) (unhurried j)
+    → ComparableBy SameByKind l m
 all_same [] m held i j h g c = tt
 all_same (v ∷ l) [] held i j h g c = tt
 all_same (v ∷ l) (w ∷ m) held i j h g c = rw h.1 (same_told v w held i j h.0 g.0 c, tt)

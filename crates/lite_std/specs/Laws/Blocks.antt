@@ -55,7 +55,8 @@ module _ {T : Type 0} {writes : Runs Taking T} where
       (gave_blocks (Writes writes) laws (λ (x : WriteFuture T). x.writer.now) Taking.pending (λ c y. write_marks c y.buf.now) (λ y. refl)
       (λ x y c h. subst (λ (b : List ℕ). writes x.writer.now (write_marks c b) y.writer.now) (sym (ap (λ (t : WriteFuture T). t.buf.now) h.stays)) h.came) x y r h)
 
-  within_last : (x y : WriteFuture T) (r : Result ℕ Error) → y.buf.now ≡ x.buf.now → ((m : WriteFuture T) × Writes writes m (Ready r) y) ⊎ (IsRefused r × (y ≡ x)) → WritesAtMost r x.buf.now
+  within_last : (x y : WriteFuture T) (r : Result ℕ Error) → y.buf.now ≡ x.buf.now
+      → ((m : WriteFuture T) × Writes writes m (Ready r) y) ⊎ (IsRefused r × (y ≡ x)) → WritesAtMost r x.buf.now
   within_last x y r e (inl h) = subst (λ (b : List ℕ). WritesAtMost r b) (sym (ap (λ (t : WriteFuture T). t.buf.now) h.1.stays) ∙ e) h.1.bound
   within_last x y r e (inr h) = refused_writes r x.buf.now h.0
 
@@ -76,7 +77,8 @@ module _ {T : Type 0} (seeks : T → SeekFrom → Poll (Result ℕ ErrorKind) �
   pub seeker_stays : (x y : SeekFuture T) (r : Result ℕ Error) → Gave (Polled (Seeks seeks)) x r y → y.seeker.ghost_name ≡ x.seeker.ghost_name
   seeker_stays = gave_stays (Seeks seeks) (λ (x : SeekFuture T). x.seeker.ghost_name) (λ x y c h. ap (λ (t : SeekFuture T). t.seeker.ghost_name) h.stays)
 
-  sought : (to : SeekFrom) (ins : List (Poll (Result ℕ Error))) (x y : SeekFuture T) (r : Result ℕ Error) → x.pos ≡ to → Gives ins r → Polled (Seeks seeks) x ins y
+  sought : (to : SeekFrom) (ins : List (Poll (Result ℕ Error))) (x y : SeekFuture T) (r : Result ℕ Error) → x.pos ≡ to → Gives ins r
+      → Polled (Seeks seeks) x ins y
       → (n : ℕ) × (last : T) × Awaits seeks to n x.seeker.now last × seeks last to (by_kind (Ready r)) y.seeker.now
   sought to [] x y r e g h = absurd g
   sought to (Pending ∷ ins) x y r e g h =
@@ -109,7 +111,8 @@ module _ {T : Type 0} {reads : Runs Mark T} {lent : T → List ℕ} where
   fill_lends laws x y r s e h =
       subst (λ (t : Result (Unit {0}) Error). Blocks reads Mark.pending (λ c. fill_marks c (lent y.io.now)) x.io.now t y.io.now) e (fill_blocks laws x y r h)
 
-  pub fill_fails : (A : Type 0) → RunLaws reads → (x y : Filling T) (r : Result (Unit {0}) Error) (e : Error) → r ≡ Err e → Gave (Polled (Fills reads lent)) x r y
+  pub fill_fails : (A : Type 0) → RunLaws reads → (x y : Filling T) (r : Result (Unit {0}) Error) (e : Error) → r ≡ Err e
+      → Gave (Polled (Fills reads lent)) x r y
       → Blocks reads Mark.pending (λ (c : Poll (Result A Error)). fill_marks c (lent y.io.now)) x.io.now (Err e) y.io.now
   fill_fails A laws x y r e is h =
       subst (λ (t : Result (Unit {0}) Error). Blocks reads Mark.pending (λ c. fill_marks c (lent y.io.now)) x.io.now t y.io.now) is (fill_blocks laws x y r h)

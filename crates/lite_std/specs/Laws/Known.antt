@@ -1,5 +1,5 @@
 -- Laws of reads and writes of std.
-use Rattle.std.proofs.Common.{◌≡◌, ◌<◌, ◌∙◌, ℕ, List, [], ◌∷◌, ◌++◌, length, take, ap, arith, refl, subst, sym}
+use Rattle.std.proofs.Common.{◌≡◌, ◌<◌, ◌∙◌, ℕ, List, [], ◌∷◌, ◌++◌, append-nil, append_assoc, length, take, ap, arith, refl, subst, sym}
 use Rattle.std.specs.Prelude.{Option, None, Some, Result, Ok, Err}
 use Rattle.std.specs.Io.{ReadsAtMost}
 use Rattle.std.specs.Io.KnownBytes.{Keeps, ReadConsumes, WriteAppends}
@@ -12,9 +12,11 @@ use Rattle.futures.specs.declared.task.Poll.TheVariants.{Pending, Ready}
 use Rattle.lite_io_base.specs.Kinds.{by_kind}
 use Rattle.lite_io_base.specs.Marks.{Mark, bytes, moved, read_marks}
 use Rattle.lite_io_base.specs.Runs.{RunLaws}
-use Rattle.lite_io_base.specs.Steady.{CalmReadLaws, NoWait}
-use Rattle.lite_io_base.specs.Takings.{Taking, done_marks, write_marks}
-use Rattle.lite_std.specs.Known.{Gains, GainsKnown, MovesKnown, NoDelay, Spends, SpendsKnown}
+use Rattle.lite_io_base.specs.Laws.Steady.{no_wait_both, no_wait_bytes}
+use Rattle.lite_io_base.specs.Steady.{CalmReadLaws, NoWait, SteadyReadLaws, steady_read_always}
+use Rattle.lite_io_base.specs.SteadyWrite.{CalmWriteLaws, NeverWaits, SteadyWriteLaws}
+use Rattle.lite_io_base.specs.Takings.{Taking, bytes_of, done_marks, write_marks}
+use Rattle.lite_std.specs.Known.{Gains, GainsKnown, MovesKnown, OneTaleOf, SameKnown, Spends, SpendsKnown, known_bytes}
 
 spends_follows : (x y z : List ℕ) (l m : List Mark) → Spends x l y → Spends y m z → Spends x (l ++ m) z
 spends_follows x y z [] m h k = subst (λ t. Spends t m z) h k
@@ -32,13 +34,6 @@ spends_no_wait x y (Mark.pending ∷ l) h = absurd h
 spends_no_wait x y (Mark.fault kind ∷ l) h = spends_no_wait x y l h
 spends_no_wait x y (Mark.end ∷ l) h = spends_no_wait x y l h.1
 
-no_wait_follows : (l m : List Mark) → NoWait l → NoWait m → NoWait (l ++ m)
-no_wait_follows [] m h k = k
-no_wait_follows (Mark.byte b ∷ l) m h k = no_wait_follows l m h k
-no_wait_follows (Mark.pending ∷ l) m h k = absurd h
-no_wait_follows (Mark.fault kind ∷ l) m h k = no_wait_follows l m h k
-no_wait_follows (Mark.end ∷ l) m h k = no_wait_follows l m h k
-
 known_no_wait : (x y : Option (List ℕ)) (l : List Mark) → SpendsKnown x l y → NoWait l
 known_no_wait None y l h = h
 known_no_wait (Some xs) None l h = absurd h
@@ -49,7 +44,7 @@ known_rests None = tt
 known_rests (Some xs) = refl
 
 known_follows : (x y z : Option (List ℕ)) (l m : List Mark) → SpendsKnown x l y → SpendsKnown y m z → SpendsKnown x (l ++ m) z
-known_follows None y z l m h k = no_wait_follows l m h (known_no_wait y z m k)
+known_follows None y z l m h k = no_wait_both l m h (known_no_wait y z m k)
 known_follows (Some xs) None z l m h k = absurd h
 known_follows (Some xs) (Some ys) None l m h k = absurd k
 known_follows (Some xs) (Some ys) (Some zs) l m h k = spends_follows xs ys zs l m h k
@@ -74,33 +69,33 @@ gains_follows x y z (Taking.fault kind ∷ l) m h k = gains_follows x y z l m h 
 gains_follows x y z (Taking.flushed ∷ l) m h k = gains_follows x y z l m h k
 gains_follows x y z (Taking.closed ∷ l) m h k = gains_follows x y z l m h k
 
-gains_no_delay : (x y : List ℕ) (l : List Taking) → Gains x l y → NoDelay l
-gains_no_delay x y [] h = tt
-gains_no_delay x y (Taking.wrote xs ∷ l) h = gains_no_delay (x ++ xs) y l h
-gains_no_delay x y (Taking.pending ∷ l) h = absurd h
-gains_no_delay x y (Taking.fault kind ∷ l) h = gains_no_delay x y l h
-gains_no_delay x y (Taking.flushed ∷ l) h = gains_no_delay x y l h
-gains_no_delay x y (Taking.closed ∷ l) h = gains_no_delay x y l h
+gains_never_wait : (x y : List ℕ) (l : List Taking) → Gains x l y → NeverWaits l
+gains_never_wait x y [] h = tt
+gains_never_wait x y (Taking.wrote xs ∷ l) h = gains_never_wait (x ++ xs) y l h
+gains_never_wait x y (Taking.pending ∷ l) h = absurd h
+gains_never_wait x y (Taking.fault kind ∷ l) h = gains_never_wait x y l h
+gains_never_wait x y (Taking.flushed ∷ l) h = gains_never_wait x y l h
+gains_never_wait x y (Taking.closed ∷ l) h = gains_never_wait x y l h
 
-no_delay_follows : (l m : List Taking) → NoDelay l → NoDelay m → NoDelay (l ++ m)
-no_delay_follows [] m h k = k
-no_delay_follows (Taking.wrote xs ∷ l) m h k = no_delay_follows l m h k
-no_delay_follows (Taking.pending ∷ l) m h k = absurd h
-no_delay_follows (Taking.fault kind ∷ l) m h k = no_delay_follows l m h k
-no_delay_follows (Taking.flushed ∷ l) m h k = no_delay_follows l m h k
-no_delay_follows (Taking.closed ∷ l) m h k = no_delay_follows l m h k
+never_waits_both : (l m : List Taking) → NeverWaits l → NeverWaits m → NeverWaits (l ++ m)
+never_waits_both [] m h k = k
+never_waits_both (Taking.wrote xs ∷ l) m h k = never_waits_both l m h k
+never_waits_both (Taking.pending ∷ l) m h k = absurd h
+never_waits_both (Taking.fault kind ∷ l) m h k = never_waits_both l m h k
+never_waits_both (Taking.flushed ∷ l) m h k = never_waits_both l m h k
+never_waits_both (Taking.closed ∷ l) m h k = never_waits_both l m h k
 
-gained_no_delay : (x y : Option (List ℕ)) (l : List Taking) → GainsKnown x l y → NoDelay l
-gained_no_delay None y l h = h
-gained_no_delay (Some xs) None l h = absurd h
-gained_no_delay (Some xs) (Some ys) l h = gains_no_delay xs ys l h
+gained_never_wait : (x y : Option (List ℕ)) (l : List Taking) → GainsKnown x l y → NeverWaits l
+gained_never_wait None y l h = h
+gained_never_wait (Some xs) None l h = absurd h
+gained_never_wait (Some xs) (Some ys) l h = gains_never_wait xs ys l h
 
 gained_rests : (x : Option (List ℕ)) → GainsKnown x [] x
 gained_rests None = tt
 gained_rests (Some xs) = refl
 
 gained_follows : (x y z : Option (List ℕ)) (l m : List Taking) → GainsKnown x l y → GainsKnown y m z → GainsKnown x (l ++ m) z
-gained_follows None y z l m h k = no_delay_follows l m h (gained_no_delay y z m k)
+gained_follows None y z l m h k = never_waits_both l m h (gained_never_wait y z m k)
 gained_follows (Some xs) None z l m h k = absurd h
 gained_follows (Some xs) (Some ys) None l m h k = absurd k
 gained_follows (Some xs) (Some ys) (Some zs) l m h k = gains_follows xs ys zs l m h k
@@ -113,11 +108,43 @@ gains_laws contents =
       follows = λ x y z l m h k. gained_follows (contents x) (contents y) (contents z) l m h k;
     }
 
--- Calls of std's traits, after calls that failed and so kept what is known.
-no_wait_bytes : (xs : List ℕ) → NoWait (bytes xs)
-no_wait_bytes [] = tt
-no_wait_bytes (x ∷ xs) = no_wait_bytes xs
+-- it is never pending
+pub gains_calm : {S : Type 0} (contents : S → Option (List ℕ)) → CalmWriteLaws (λ (x : S) l y. GainsKnown (contents x) l (contents y)) (λ x. Unit {0})
+gains_calm contents = record { prompt = λ x y l c h. gained_never_wait (contents x) (contents y) l h; calm_on = λ x y l c h. tt }
 
+-- one tale is told where one is asked for
+pub spends_steady : {S : Type 0} (remaining : S → Option (List ℕ))
+    → SteadyReadLaws (λ (x : S) l y. SpendsKnown (remaining x) l (remaining y)) (λ x l y. SpendsKnown (remaining x) l (remaining y)) (Unit {0})
+    (OneTaleOf (λ x l y. SpendsKnown (remaining x) l (remaining y)))
+spends_steady remaining = record { laws = spends_laws remaining; steady = λ x y x' y' l m e h k. e x' y' l m h k; found = λ n x y l h. h }
+
+gains_all : (x y : List ℕ) (l : List Taking) → Gains x l y → y ≡ x ++ bytes_of l
+gains_all x y [] h = h ∙ sym (append-nil x)
+gains_all x y (Taking.wrote xs ∷ l) h = gains_all (x ++ xs) y l h ∙ append_assoc x xs (bytes_of l)
+gains_all x y (Taking.pending ∷ l) h = absurd h
+gains_all x y (Taking.fault kind ∷ l) h = gains_all x y l h
+gains_all x y (Taking.flushed ∷ l) h = gains_all x y l h
+gains_all x y (Taking.closed ∷ l) h = gains_all x y l h
+
+abbrev OneContents : Option (List ℕ) → Option (List ℕ) → Type 0
+OneContents x y = (known_bytes x ≡ known_bytes y) × SameKnown x y
+
+one_contents : (x y p q : Option (List ℕ)) (l m : List Taking) → SameKnown x y → GainsKnown x l p → GainsKnown y m q → bytes_of l ≡ bytes_of m → OneContents p q
+one_contents None y p q l m e h k same = absurd e
+one_contents (Some xs) None p q l m e h k same = absurd e
+one_contents (Some xs) (Some ys) None q l m e h k same = absurd h
+one_contents (Some xs) (Some ys) (Some ps) None l m e h k same = absurd k
+one_contents (Some xs) (Some ys) (Some ps) (Some qs) l m e h k same =
+    let one = gains_all xs ps l h ∙ ap (λ t. t ++ bytes_of l) e ∙ ap (λ t. ys ++ t) same ∙ sym (gains_all ys qs m k) in
+    (one, one)
+
+-- the same bytes are known to be there, and are so after the same bytes
+pub gains_steady : {S : Type 0} (contents : S → Option (List ℕ))
+    → SteadyWriteLaws (λ (x : S) l y. GainsKnown (contents x) l (contents y)) (λ x y. SameKnown (contents x) (contents y)) (λ x. known_bytes (contents x))
+gains_steady contents =
+    record { steady = λ x y x' y' l m e h k a b f g same. one_contents (contents x) (contents y) (contents x') (contents y') l m e h k same }
+
+-- Calls of std's traits, after calls that failed and so kept what is known.
 no_wait_moved : (room xs : List ℕ) → NoWait (moved room xs)
 no_wait_moved room (x ∷ xs) = no_wait_bytes xs
 no_wait_moved (r ∷ room) [] = tt
@@ -141,7 +168,8 @@ keeps_trans (Some xs) (Some ys) (Some zs) h k = k ∙ h
 none_taken : (n : ℕ) (buf : List ℕ) → n ≡ length (take n buf) → take n buf ≡ [] → n ≡ 0
 none_taken n buf counts none = counts ∙ ap length none
 
-pub read_spends : (x y z : Option (List ℕ)) (r : Result ℕ Error) (buf : List ℕ) → Keeps x y → ReadsAtMost r buf → ReadConsumes y z r buf → SpendsKnown x (read_marks (Ready r) buf) z
+pub read_spends : (x y z : Option (List ℕ)) (r : Result ℕ Error) (buf : List ℕ) → Keeps x y → ReadsAtMost r buf → ReadConsumes y z r buf
+    → SpendsKnown x (read_marks (Ready r) buf) z
 read_spends None y z (Ok n) buf k b h = no_wait_moved buf (take n buf)
 read_spends None y z (Err e) buf k b h = tt
 read_spends (Some xs) None z r buf k b h = absurd k
@@ -151,7 +179,8 @@ read_spends (Some xs) (Some ys) (Some zs) (Ok n) buf k b h =
     subst (λ t. Spends t (moved buf (take n buf)) zs) (sym h.0 ∙ k) (spends_moved buf (take n buf) zs (λ none room. h.1 (none_taken n buf b.1 none) room))
 read_spends (Some xs) (Some ys) (Some zs) (Err e) buf k b h = h ∙ k
 
-pub write_gains : (x y z : Option (List ℕ)) (r : Result ℕ Error) (buf : List ℕ) → Keeps x y → WriteAppends y z r buf → GainsKnown x (write_marks (Ready r) buf) z
+pub write_gains : (x y z : Option (List ℕ)) (r : Result ℕ Error) (buf : List ℕ) → Keeps x y → WriteAppends y z r buf
+    → GainsKnown x (write_marks (Ready r) buf) z
 write_gains None y z (Ok n) buf k h = tt
 write_gains None y z (Err e) buf k h = tt
 write_gains (Some xs) None z r buf k h = absurd k
@@ -169,7 +198,8 @@ flush_gains (Some xs) (Some ys) (Some zs) (Ok u) k h = h ∙ k
 flush_gains (Some xs) (Some ys) (Some zs) (Err e) k h = h ∙ k
 
 -- a close is a flush
-pub close_gains : (x y : Option (List ℕ)) (r : Poll (Result (Unit {0}) Error)) → GainsKnown x (done_marks Taking.flushed r) y → GainsKnown x (done_marks Taking.closed r) y
+pub close_gains : (x y : Option (List ℕ)) (r : Poll (Result (Unit {0}) Error)) → GainsKnown x (done_marks Taking.flushed r) y
+    → GainsKnown x (done_marks Taking.closed r) y
 close_gains None y Pending h = h
 close_gains None y (Ready (Ok u)) h = h
 close_gains None y (Ready (Err e)) h = h
@@ -185,7 +215,8 @@ target_kept at (Some xs) None (End k) n s h = absurd s
 target_kept at (Some xs) (Some ys) (End k) n s h = subst (λ t. IsAtOffset (length t) k n) s h
 target_kept at x y (Current k) n s h = h
 
-pub seek_moves : (p q s : Option ℕ) (x y z : Option (List ℕ)) (to : SeekFrom) (r : Result ℕ Error) → StaysAt p q → Keeps x y → SeekMoves q s y to r → Keeps y z → MovesKnown p s x z to (by_kind (Ready r))
+pub seek_moves : (p q s : Option ℕ) (x y z : Option (List ℕ)) (to : SeekFrom) (r : Result ℕ Error) → StaysAt p q → Keeps x y → SeekMoves q s y to r
+    → Keeps y z → MovesKnown p s x z to (by_kind (Ready r))
 seek_moves None q s x y z to (Ok n) stays k h l = (tt, keeps_trans x y z k l)
 seek_moves None q s x y z to (Err e) stays k h l = (tt, keeps_trans x y z k l)
 seek_moves (Some at) q s x y z to (Ok n) stays k h l =

@@ -23,7 +23,8 @@ module _ {X R A : Type 0} (over : Over X R A) where
 
   module _ (gather : Type 0 → Gather (List ℕ) (Result ℕ Error)) {reads : Runs Mark R} where
     module _ (settles : Settles SameByKind (gather ⊥)) {ample : Runs Mark R} {needs_none : Type 0} {alike : R → R → Type 0} (s : SteadyReadLaws reads ample needs_none alike) where
-      one_answer : (x y : X) (l m : List (Poll (Result ℕ Error))) (x' y' : X) → TextAlike alike x y → ReadsText over (gather ⊥) ample x l x' → ReadsText over (gather ⊥) ample y m y'
+      one_answer : (x y : X) (l m : List (Poll (Result ℕ Error))) (x' y' : X) → TextAlike alike x y → ReadsText over (gather ⊥) ample x l x'
+          → ReadsText over (gather ⊥) ample y m y'
           → ComparableBy SameByKind (strip l) (strip m)
       one_answer x y l m x' y' e h k =
           let other = subst (λ p. Gathered (in_text (gather ⊥)) ample (over.reader y).now p m (over.reader y').now (reading over y')) (sym e.1) k.gathered in

@@ -65,10 +65,13 @@ module _ {X R A : Type 0} (over : Over X R A) where
           }
 
       -- a turn before others
-      turn_before : (x y z : X) (a : Poll (Result ℕ Error)) → TakesIn over gather reads x y → ReadsText over gather reads y (a ∷ []) z → ReadsText over gather reads x (a ∷ []) z
+      turn_before : (x y z : X) (a : Poll (Result ℕ Error)) → TakesIn over gather reads x y → ReadsText over gather reads y (a ∷ []) z
+          → ReadsText over gather reads x (a ∷ []) z
       turn_before x y z a t h =
-          let same : reading over y ≡ record { read = over.read y; text = string_bytes (over.text x).now } = ap (λ v. record { read = over.read y; text = v }) t.same in
-          let folds : FoldsTo (in_text gather).takes (reading over x) t.taken (reading over y) = subst (λ (q : Reading). FoldsTo (in_text gather).takes (reading over x) t.taken q) (sym same)
+          let same : reading over y ≡ record { read = over.read y; text = string_bytes (over.text x).now } =
+          ap (λ v. record { read = over.read y; text = v }) t.same in
+          let folds : FoldsTo (in_text gather).takes (reading over x) t.taken (reading over y) =
+          subst (λ (q : Reading). FoldsTo (in_text gather).takes (reading over x) t.taken q) (sym same)
           (folds_in gather (string_bytes (over.text x).now) (over.read x) (over.read y) t.taken t.folds) in
           record {
             gathered = gathered_before (in_text gather) laws (over.reader x).now (over.reader y).now (over.reader z).now (reading over x) (reading over y) (reading over z) t.taken a t.came folds h.gathered;

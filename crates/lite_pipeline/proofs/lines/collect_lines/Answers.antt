@@ -40,7 +40,8 @@ module _ {R C : Type 0} (reads : Runs Mark R) (holds : C → List (String Global
       in
       let told = passed 8192 b.came t.front (ahead (inner_of y.stream.reader)) (omega arith) full in
       let fits : Fits limit t.front (limit_of y.stream.reader) = subst (λ (n : ℕ). Fits n t.front (limit_of y.stream.reader)) bound t.fits in
-      let cut : Segments (lining ⊤ tt) [] s.marks h.ins y.stream.held.bytes.items = subst (λ k. Segments (lining ⊤ tt) k s.marks h.ins y.stream.held.bytes.items) held s.cut in
+      let cut : Segments (lining ⊤ tt) [] s.marks h.ins y.stream.held.bytes.items =
+      subst (λ k. Segments (lining ⊤ tt) k s.marks h.ins y.stream.held.bytes.items) held s.cut in
       let each : (more : List Mark) → Given h.ins (lines_told [] (limited limit b.came ++ more)) =
       λ more.
       let l = told_through limit (limit_of y.stream.reader) s.marks t.front t.ends after t.cut fits t.used_up more in

@@ -1,0 +1,23 @@
+-- A future by steps.
+use Rattle.std.specs.List.{FoldsTo}
+use Rattle.std.proofs.Common.{List, refl, sym}
+use Rattle.futures.specs.declared.task.Poll.{Poll}
+use Rattle.lite_base.specs.Answers.{UpToValue}
+use Rattle.lite_base.specs.FutureLaws.{FutureLaws}
+use Rattle.lite_base.specs.Laws.Answers.{up_to_once, waiting_up_to}
+use Rattle.lite_base.specs.Laws.Calls.{folds_follow}
+
+-- `step` is what one poll may answer and leave
+module _ {F A : Type 0} (step : F → Poll A → F → Type 0) where
+  -- each poll is a step, and none comes after a value
+  abbrev pub StepsToValue : F → List (Poll A) → F → Type 0
+  StepsToValue x l y = UpToValue l × FoldsTo step x l y
+
+  pub future_by_steps : FutureLaws StepsToValue
+  future_by_steps =
+      record {
+        rests = λ x. (tt, refl);
+        stays = λ x y h. sym h.1;
+        follows = λ x y z l m w h k. (waiting_up_to l m w k.0, folds_follow step x y z l m h.1 k.1);
+        once = λ x y l h. up_to_once l h.0;
+      }
