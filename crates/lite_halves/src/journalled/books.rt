@@ -6,8 +6,9 @@ use std::sync::ledger::{Blank, Ledger};
 
 /// The books of a split: one type that names its four ledgers.
 ///
-/// A function that splits is generic in it, and asks `blanks ≡ B.names`. It is called with `Brand` for it, and the proof of
-/// that call picks the names: `record { names = a.blanks }`. The original has no such trait.
+/// A function that splits is generic in it, `B: Books`, or `B: Books + Send + Sync` where a half goes to another thread, and
+/// asks `blanks ≡ B.names`. It is called with `Brand` for it, and the proof of that call picks the names:
+/// `record { names = a.blanks }`. The original has no such trait.
 pub trait Books {
     ghost names: { Names };
 }
