@@ -1,2 +1,4 @@
+pub mod Dots
 pub mod Table
+pub mod Tally
 pub mod Upper

@@ -1,18 +1,28 @@
-//! Two readers of one's own, read through a buffer on this thread.
+//! Three readers and a writer of one's own, used on this thread.
 #![tactic(auto)]
 
+mod dots;
 mod table;
+mod tally;
 mod upper;
 
+use crate::dots::Dots;
 use crate::table::Table;
+use crate::tally::Tally;
 use crate::upper::Upper;
 use futures_lite::future::block_on;
 use futures_lite::io::BufReader;
-use futures_lite::{AsyncBufReadExt, AsyncReadExt, StreamExt};
+use futures_lite::{AsyncBufReadExt, AsyncReadExt, AsyncWriteExt, StreamExt};
 use std::io;
 use std::io::ErrorKind;
 
 fn main(rt: HostRuntime) -> io::Result<()> {
+    let mut text = Vec::new(rt.alloc());
+    let read = block_on(&rt, Dots { left: 3 }.read_to_end(&mut text))??;
+    println!(rt; "{read} bytes: {text:?}")?;
+    let mut tally = Tally { bytes: 0 };
+    block_on(&rt, tally.write_all(&text))??;
+    println!(rt; "{} bytes were written", tally.bytes)?;
     let table = Table {
         bytes: Vec::from_array(rt.alloc(), *b"one\ntwo\n")?,
         at: 0,
@@ -31,7 +41,7 @@ fn main(rt: HostRuntime) -> io::Result<()> {
         bytes: Vec::from_array(rt.alloc(), *b"in three")?,
         at: 3,
     };
-    let mut five = [0u8; 5];
-    block_on(&rt, Upper { inner }.read_exact(&mut five))??;
-    println!(rt; "{five:?}")
+    let mut loud = Vec::new(rt.alloc());
+    block_on(&rt, Upper { inner }.read_to_end(&mut loud))??;
+    println!(rt; "{loud:?}")
 }

@@ -1,9 +1,11 @@
 //! A reader that hands on what another reads.
 ghost use Rattle.std.specs.Prelude.{◌≡◌, map};
 ghost use Rattle.std.specs.Char.{to_ascii_uppercase};
-ghost use Rattle.example_own_reader.specs.Upper.{Uppers, uppers_laws};
+ghost use Rattle.futures_lite.specs.Own.{HandsOn, handing_counting, reader_handing};
+ghost use Rattle.futures_lite.specs.Ranks.{ranks_of};
+ghost use Rattle.example_own_reader.specs.Upper.{inner_of};
 
-use futures_lite::io::{AsyncRead, Tale};
+use futures_lite::io::{AsyncRead, CountedRead, Tale};
 use futures_lite::{Context, Poll};
 use std::io;
 
@@ -14,9 +16,9 @@ pub struct Upper<R> {
 }
 
 impl<R: Tale> Tale for Upper<R> {
-    ghost reads = { Uppers R.reads };
+    ghost reads = { HandsOn inner_of to_ascii_uppercase R.reads };
 
-    ghost read_laws = { uppers_laws R.read_laws };
+    ghost read_laws = { reader_handing R.read_laws };
 }
 
 impl<R: AsyncRead> AsyncRead for Upper<R> {
@@ -32,6 +34,13 @@ impl<R: AsyncRead> AsyncRead for Upper<R> {
             Poll::Pending => Poll::Pending,
         }
     }
+}
+
+// Its rank is the inner reader's, since as many bytes and errors go out as came in.
+impl<R: CountedRead> CountedRead for Upper<R> {
+    ghost ranks = { ranks_of inner_of R.ranks };
+
+    ghost counting = { handing_counting R.counting };
 }
 
 fn make_upper(bytes: &mut [u8])

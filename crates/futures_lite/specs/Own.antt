@@ -5,6 +5,7 @@ pub use Rattle.lite_steps.specs.Streams.{HintsAt, ItemsLower, NoHint, stream_by_
 -- of readers and writers
 pub use Rattle.lite_io_base.specs.Runs.{RunLaws, Runs}
 pub use Rattle.lite_io_base.specs.Steps.{Steps}
+pub use Rattle.lite_steps.specs.Handing.{HandsOn, each_byte, handed_moved, handing_counting, reader_handing}
 pub use Rattle.lite_steps.specs.Readers.{MarksLower, reader_by_steps, reader_counting}
 pub use Rattle.lite_steps.specs.Reading.{ReadsLeft, reads_bytes, reads_into, reads_one}
 pub use Rattle.lite_steps.specs.Writers.{writer_by_steps}

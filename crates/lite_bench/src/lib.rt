@@ -2,6 +2,7 @@
 //! what was meant, at values worked out by hand, and that calls succeed where memory is ample.
 #![tactic(auto)]
 
+pub mod families;
 pub mod nest;
 #[cfg(test)]
 mod tests;

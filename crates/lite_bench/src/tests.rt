@@ -1,3 +1,5 @@
+mod families;
+
 use crate::nest::{evens, hundredths, poll_nest};
 use crate::try_count::{TryCount, poll_count};
 use futures::task::{Doorbell, Solo};

@@ -1,5 +1,6 @@
 pub mod Anything
 pub mod Futures
+pub mod Handing
 pub mod Readers
 pub mod Reading
 pub mod Streams

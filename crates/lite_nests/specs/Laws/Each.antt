@@ -1,10 +1,13 @@
 -- Each item that comes out has a fact, where each that goes in has one: a lemma for each family of adapters.
-use Rattle.std.proofs.Common.{◌≡◌, ◌⊎◌, ℕ, zero, suc, List, [], ◌∷◌, ◌++◌, inl, inr, subst, sym}
+use Rattle.std.proofs.Common.{◌≡◌, ◌⊎◌, ℕ, zero, suc, List, [], ◌∷◌, ◌++◌, inl, inr, map, subst, sym}
 use Rattle.std.specs.List.{AllByRecursion}
 use Rattle.std.specs.Prelude.{⊤, Bool, true, false, Option, Some, None}
+use Rattle.futures.specs.declared.task.Poll.{Poll}
 use Rattle.futures.specs.declared.task.Poll.TheVariants.{Ready, Pending}
-use Rattle.lite_base.specs.Answers.{Answer, end, item, items}
+use Rattle.lite_base.specs.Answers.{Answer, Gives, Waiting, end, item, items}
 use Rattle.lite_base.specs.Calling.{Always}
+use Rattle.lite_base.specs.Future.Finishes.{Finishes}
+use Rattle.lite_base.specs.Future.Handed.{handed}
 use Rattle.lite_stream.specs.Cutting.{Cuts}
 use Rattle.lite_stream.specs.Fuse.{AllEnds, FusesOn}
 use Rattle.lite_stream.specs.Pointwise.{Exchanges, Replaces}
@@ -12,6 +15,7 @@ use Rattle.lite_sift.specs.Leaving.{Leaves}
 use Rattle.lite_flatten.specs.Chain.{Joins, is_done, second_after}
 use Rattle.lite_flatten.specs.Flatten.{Flat}
 use Rattle.lite_flatten.specs.Lingering.{Lingers}
+use Rattle.lite_flatten.specs.Then.{HandsOut}
 use Rattle.lite_flatten.specs.declared.chain.Part.{Part}
 use Rattle.lite_flatten.specs.declared.chain.Part.TheVariants.{First, Second, Done}
 use Rattle.lite_merge.specs.Merge.{Row, Rows}
@@ -153,6 +157,25 @@ module _ {F A V B : Type 0} (call : F → A → V → F → Type 0) (gives : V �
   each_lingering f g (Ready (Some x) ∷ i) (b ∷ o) last e (v, r, called, inl h) = made f r x v (b ∷ o) (Some h.2) e.0 called h.3
   each_lingering f g (Ready (Some x) ∷ i) (b ∷ o) last e (v, r, called, inr h) =
       subst (EachItem Q) (sym h.2) (each_join Q h.0 h.1 (made f r x v h.0 None e.0 called h.3) (each_lingering r g i h.1 last e.1 h.4))
+
+-- a future that is held hands out pendings and then its value, which has the fact
+module _ {V B : Type 0} (run : V → List (Poll B) → V → Type 0) (R : V → Type 0) (Q : B → Type 0)
+    (finishes : (v : V) (ins : List (Poll B)) (y : B) → R v → Finishes run v ins y → Q y) where
+  each_waiting : (ins : List (Poll B)) → Waiting ins → EachItem Q (map (handed Some) ins)
+  each_waiting [] h = tt
+  each_waiting (Pending ∷ ins) h = each_waiting ins h
+  each_waiting (Ready y ∷ ins) h = absurd h
+
+  each_value : (ins : List (Poll B)) (y : B) → Gives ins y → Q y → EachItem Q (map (handed Some) ins)
+  each_value [] y g q = absurd g
+  each_value (Pending ∷ ins) y g q = each_value ins y g q
+  each_value (Ready z ∷ ins) y g q = (subst Q (sym g.0) q, rw g.1 tt)
+
+  pub each_handed : (v : V) (o : List (Answer B)) (left : Option V) → R v → HandsOut run v o left → EachItem Q o
+  each_handed v o None r h =
+      let own = each_value h.ins h.value h.finishes.gives (finishes v h.ins h.value r h.finishes) in
+      subst (EachItem Q) (sym h.joined) (each_join Q (map (handed Some) h.ins) h.after own (rw h.later tt))
+  each_handed v o (Some w) r h = subst (EachItem Q) (sym h.3) (each_waiting h.0 h.1)
 
 each_one : {A : Type 0} (P : A → Type 0) (b c : Answer A) → c ≡ b → EachItem P (b ∷ []) → EachItem P (c ∷ [])
 each_one P b c e h = subst (λ (a : Answer _). EachItem P (a ∷ [])) (sym e) h

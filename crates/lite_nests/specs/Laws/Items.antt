@@ -1,5 +1,5 @@
 -- Which items come out: each adapter of a function of its own has a plain function of lists.
-use Rattle.std.proofs.Common.{◌≡◌, ◌≤◌, ◌⊎◌, ℕ, zero, suc, ◌+◌, ◌-◌, List, [], ◌∷◌, ◌++◌, ◌∙◌, length, map, refl, ap, sym, inl, inr, subst, arith}
+use Rattle.std.proofs.Common.{◌≡◌, ◌≤◌, ◌⊎◌, ℕ, zero, suc, ◌+◌, ◌-◌, List, [], ◌∷◌, ◌++◌, ◌∙◌, length, map, take, refl, ap, sym, inl, inr, subst, arith}
 use Rattle.std.specs.List.{FoldsTo, filter}
 use Rattle.std.specs.Prelude.{Bool, true, false, Option, Some, None, Result, Ok, Err, IfOk}
 use Rattle.std.proofs.lemmas.List.Elements.{filter-append}
@@ -10,6 +10,8 @@ use Rattle.lite_stream.specs.EachItem.{items_in}
 use Rattle.lite_stream.specs.Pointwise.{Replaces}
 use Rattle.lite_stream.specs.Take.{is_none_left, left_after}
 use Rattle.lite_sift.specs.Leaving.{Leaves}
+use Rattle.lite_nests.specs.Fronts.{Front}
+use Rattle.lite_nests.specs.Laws.Fronts.{front_filter, front_map, front_take}
 
 pub items_join : {A : Type 0} (l m : List (Answer A)) → items_in (l ++ m) ≡ items_in l ++ items_in m
 items_join [] m = refl
@@ -43,6 +45,10 @@ module _ {F A B : Type 0} (call : F → A → B → F → Type 0) where
         let rest = replaced_in r q i o more in
         let value = answers p r x y called in
         ap (λ (c : Answer B). items_in (c ∷ o)) same ∙ (ap (λ z. z ∷ items_in o) value ∙ ap (λ k. f x ∷ k) rest)
+
+    pub replaced_front : (p q : F) (xs : List A) (i : List (Answer A)) (o : List (Answer B))
+        → Front (items_in i) xs → Replaces call p i o q → Front (items_in o) (map f xs)
+    replaced_front p q xs i o came h = subst (λ l. Front l (map f xs)) (sym (replaced_in p q i o h)) (front_map f (items_in i) xs came)
 
     -- where all answers were items
     pub replaced_items : (p q : F) (xs : List A) (o : List (Answer B)) → Replaces call p (items xs) o q → o ≡ items (map f xs)
@@ -92,6 +98,9 @@ module _ {F A : Type 0} (call : F → A → Option A → F → Type 0) (test : A
       let rest = left_in h.1 q h.0 o h.3 in
       ap (λ k. y ∷ k) rest ∙ (ap (λ z. z ∷ filter test (items_in h.0)) passed.0 ∙ sym (came ∙ (ap (λ a. filter test (items_in (a ∷ h.0))) passes.1 ∙ kept)))
 
+  pub left_front : (p q : F) (xs : List A) (i o : List (Answer A)) → Front (items_in i) xs → Leaves call p i o q → Front (items_in o) (filter test xs)
+  left_front p q xs i o came h = subst (λ l. Front l (filter test xs)) (sym (left_in p q i o h)) (front_filter test (items_in i) xs came)
+
 -- take: the items that came in, which are as many as were left to be taken at most
 pub cut_in : {F A : Type 0} (is_over : F → Type 0) (after : Answer A → F → F) (f g : F) (i o : List (Answer A))
     → Cuts is_over after f i o g → items_in o ≡ items_in i
@@ -110,6 +119,12 @@ taken_length n m i (Ready (Some x) ∷ o) (inr h) =
     let rest : length (items_in o) ≤ n - 1 = taken_length (n - 1) m h.1 o h.3 in
     let some : ¬ (n ≡ 0) = h.0 in
     omega (arith, rest, some)
+
+pub cut_front : {A : Type 0} (n m : ℕ) (xs : List A) (i o : List (Answer A))
+    → Front (items_in i) xs → Cuts is_none_left left_after n i o m → Front (items_in o) (take n xs)
+cut_front n m xs i o came h =
+    let same = cut_in is_none_left left_after n m i o h in
+    front_take n (items_in o) xs (taken_length n m i o h) (subst (λ l. Front l xs) (sym same) came)
 
 -- what a call that went well says, said otherwise
 pub on_ok : {A E P Q : Type 0} (r : Result A E) → (P → Q) → IfOk r (λ _. P) → IfOk r (λ _. Q)

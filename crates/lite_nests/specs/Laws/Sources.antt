@@ -1,7 +1,7 @@
 -- What sources give: a script, and an iterator of known items.
 use Rattle.std.proofs.Common.{◌≡◌, ◌≤◌, ℕ, zero, suc, ◌+◌, List, [], ◌∷◌, ◌++◌, ◌∙◌, length, refl, ap, sym, subst, arith}
 use Rattle.std.specs.Iterator.{Count}
-use Rattle.std.specs.List.{AllByRecursion}
+use Rattle.std.specs.List.{AllByRecursion, FoldsTo}
 use Rattle.std.specs.Prelude.{Option, Some, None}
 use Rattle.std.specs.Vec.Iter.{into_iter_items, into_iter_len, into_iter_steps}
 use Rattle.std.specs.declared.vec.IntoIter.{IntoIter}
@@ -23,14 +23,14 @@ module _ {A : Type 0} (P : A → Type 0) where
   each_scripted (Ready (Some y) ∷ s) (a ∷ l) t e h = subst (λ (c : Answer A). EachItem P (c ∷ l)) (sym h.0) (e.0, each_scripted s l t e.1 h.1)
 
   -- and of the next item
+  pub last_given : (x : A) (l : List (Answer A)) → EachItem P (l ++ item x ∷ []) → P x
+  last_given x [] h = h.0
+  last_given x (Pending ∷ l) h = last_given x l h
+  last_given x (Ready None ∷ l) h = last_given x l h
+  last_given x (Ready (Some y) ∷ l) h = last_given x l h.1
+
   pub each_given : (s t ins : List (Answer A)) (x : A) → EachItem P s → Gives s (ins ++ item x ∷ []) t → P x
-  each_given s t ins x e h = last ins (each_scripted s (ins ++ item x ∷ []) t e h)
-    where
-      last : (l : List (Answer A)) → EachItem P (l ++ item x ∷ []) → P x
-      last [] k = k.0
-      last (Pending ∷ l) k = last l k
-      last (Ready None ∷ l) k = last l k
-      last (Ready (Some y) ∷ l) k = last l k.1
+  each_given s t ins x e h = last_given x ins (each_scripted s (ins ++ item x ∷ []) t e h)
 
 all_front : {A : Type 0} (P : A → Type 0) (xs ys : List A) → AllByRecursion P (xs ++ ys) → AllByRecursion P xs
 all_front P [] ys h = tt
@@ -94,3 +94,16 @@ module _ {A Z : Type 0} (can : IntoIter A Z → Type 0) (remaining : IntoIter A 
   each_of_vec P i j l all h =
       let front = vec_front i j l h in
       each_listed P l (all_front P (items_in l) front.0 (subst (AllByRecursion P) front.1 all))
+
+  pub given_of_vec : (P : A → Type 0) (i j : IntoIter A Z) (ins : List (Answer A)) (x : A)
+      → AllByRecursion P (into_iter_items i) → Iterates can into_iter_steps remaining i (ins ++ item x ∷ []) j → P x
+  given_of_vec P i j ins x all h = last_given P x ins (each_of_vec P i j (ins ++ item x ∷ []) all h)
+
+-- a stream by steps: each step keeps a fact of the stream, and where that holds the item of a step has the other
+module _ {S A : Type 0} (step : S → Answer A → S → Type 0) (Kept : S → Type 0) (P : A → Type 0)
+    (keeps : (x y : S) (a : Answer A) → Kept x → step x a y → Kept y) (gives : (x y : S) (n : A) → Kept x → step x (item n) y → P n) where
+  pub each_stepped : (x y : S) (l : List (Answer A)) → Kept x → FoldsTo step x l y → EachItem P l
+  each_stepped x y [] k h = tt
+  each_stepped x y (Pending ∷ l) k h = each_stepped h.0 y l (keeps x h.0 Pending k h.1) h.2
+  each_stepped x y (Ready None ∷ l) k h = each_stepped h.0 y l (keeps x h.0 end k h.1) h.2
+  each_stepped x y (Ready (Some n) ∷ l) k h = (gives x h.0 n k h.1, each_stepped h.0 y l (keeps x h.0 (item n) k h.1) h.2)

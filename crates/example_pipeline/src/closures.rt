@@ -1,0 +1,27 @@
+//! Closures that ask something of their items.
+ghost use Rattle.std.specs.Prelude.{◌≡◌, ◌<◌, ◌≤◌, ◌++◌, List, length, IfOk};
+ghost use Rattle.std.specs.List.{AllByRecursion};
+ghost use Rattle.futures_lite.specs.Answers.{Answer, EachItem};
+
+use futures_lite::{Context, Poll, StreamExt, laws, stream};
+use std::alloc::AllocError;
+
+/// Appends what `polls` polls answer of 100 divided by each number, none of which is 0. Each item among them is at most 100.
+/// `Err` where memory for `out` is refused: then fewer were appended.
+pub fn hundredths(
+    numbers: Vec<u64>,
+    cx: &mut Context<'_>,
+    polls: usize,
+    out: &mut Vec<Poll<Option<u64>>>,
+) -> Result<(), AllocError>
+    requires { AllByRecursion (λ x. 0 < x) numbers.items }
+    ensures { (l : List (Answer _)) × (out.new.items ≡ out.old.items ++ l) × IfOk result (λ _. length l ≡ polls)
+        × EachItem (λ y. y ≤ 100) l }
+{
+    let mut quotients = stream::iter(numbers).map(
+        |x: u64|
+            requires { 0 < x }
+        { 100 / x },
+    );
+    laws::run(&mut quotients, cx, polls, out)
+}
