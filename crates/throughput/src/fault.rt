@@ -9,6 +9,8 @@ pub(crate) enum Fault {
     Memory,
     /// The output could not be written.
     Output,
+    /// The case of this name gives another number than it has to.
+    Wrong(&'static str),
 }
 
 impl Fault {
@@ -16,15 +18,25 @@ impl Fault {
     pub(crate) fn status(self) -> u8 {
         match self {
             Fault::Arguments => 2,
-            Fault::Memory | Fault::Output => 1,
+            Fault::Memory | Fault::Output | Fault::Wrong(_) => 1,
         }
     }
 
     pub(crate) fn text(self) -> &'static str {
         match self {
-            Fault::Arguments => "bad arguments: a case of docs/SPEED.md and a size are asked for",
+            Fault::Arguments =>
+                "bad arguments: a case of docs/SPEED.md and a size are asked for, or `check`",
             Fault::Memory => "out of memory",
             Fault::Output => "output failed",
+            Fault::Wrong(_) => "a case gives another number than it has to: ",
+        }
+    }
+
+    /// The name of the case that is wrong.
+    pub(crate) fn case(self) -> &'static str {
+        match self {
+            Fault::Wrong(name) => name,
+            _ => "",
         }
     }
 }
