@@ -1,5 +1,0 @@
-//! Tests of the blocking stream.
-#![tactic(auto)]
-
-#[cfg(test)]
-mod tests;

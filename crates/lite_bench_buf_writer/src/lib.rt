@@ -1,5 +1,0 @@
-//! Tests of buffered writing.
-#![tactic(auto)]
-
-#[cfg(test)]
-mod tests;

@@ -1,2 +1,0 @@
-mod buffered;
-mod through;

@@ -1,2 +1,0 @@
-mod gate;
-mod pipe;

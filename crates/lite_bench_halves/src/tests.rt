@@ -1,2 +1,0 @@
-mod entries;
-mod split;

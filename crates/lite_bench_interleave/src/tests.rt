@@ -1,3 +1,0 @@
-mod pairs;
-mod rows;
-mod words;

@@ -1,2 +1,0 @@
-mod journal;
-mod replays;

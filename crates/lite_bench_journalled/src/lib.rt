@@ -1,5 +1,0 @@
-//! Tests of the halves of journals.
-#![tactic(auto)]
-
-#[cfg(test)]
-mod tests;

@@ -1,2 +1,0 @@
-mod methods;
-mod scan;

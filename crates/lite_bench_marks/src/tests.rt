@@ -1,4 +1,0 @@
-mod marks;
-mod pieces;
-mod readers;
-mod writers;

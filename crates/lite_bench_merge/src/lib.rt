@@ -1,5 +1,0 @@
-//! Tests of the adapters that merge two streams.
-#![tactic(auto)]
-
-#[cfg(test)]
-mod tests;

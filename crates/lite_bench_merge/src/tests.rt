@@ -1,3 +1,0 @@
-mod always;
-mod merge;
-mod waking;

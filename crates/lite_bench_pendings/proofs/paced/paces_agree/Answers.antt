@@ -1,6 +1,0 @@
-use Rattle.lite_bench_pendings.proofs.paced.paces_agree.Goals as goal
-
-pub returns : goal.returns
-returns c =
-    let both = c.run_both.ensures.agree in
-    (both.0, both.1, both.2, both.3, both.4.always tt, both.5, both.8)

@@ -1,2 +1,0 @@
-mod runs;
-mod scripts;

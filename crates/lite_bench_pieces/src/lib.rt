@@ -1,5 +1,0 @@
-//! Tests of pieces and lines.
-#![tactic(auto)]
-
-#[cfg(test)]
-mod tests;

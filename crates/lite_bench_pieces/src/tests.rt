@@ -1,4 +1,0 @@
-mod lines;
-mod split;
-mod told;
-mod until;

@@ -1,5 +1,0 @@
-//! Tests of readers, and of readers of readers.
-#![tactic(auto)]
-
-#[cfg(test)]
-mod tests;

@@ -1,5 +1,0 @@
-//! Tests of the sources.
-#![tactic(auto)]
-
-#[cfg(test)]
-mod tests;

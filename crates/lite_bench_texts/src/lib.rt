@@ -1,5 +1,0 @@
-//! Tests of what is read as text.
-#![tactic(auto)]
-
-#[cfg(test)]
-mod tests;

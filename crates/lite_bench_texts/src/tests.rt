@@ -1,3 +1,0 @@
-mod line;
-mod string;
-mod told;

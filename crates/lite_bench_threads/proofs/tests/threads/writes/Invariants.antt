@@ -1,5 +1,0 @@
-use Rattle.lite_halves.specs.Counts.{AllWrites}
-use Rattle.lite_bench_threads.proofs.tests.threads.writes.Given as goal
-
-abbrev pub invariant-loop-i : goal.invariant-loop-i
-invariant-loop-i l = AllWrites l.calls.items

@@ -1,0 +1,25 @@
+use Rattle.std.proofs.Common.{rules, of_calls, ◌≡◌, refl, Some, ℕ, bit_xor}
+use Rattle.std.proofs.lemmas.List.Sorted.{answers_always}
+use Rattle.lite_base.specs.Laws.Calling.{answers_agree}
+use Rattle.lite_flatten.specs.declared.chain.Chain.{Chain}
+use Rattle.lite_flatten.specs.declared.chain.Part.TheVariants.{First}
+use Rattle.lite_source.specs.declared.once.Once.{Once}
+use Rattle.nests_agree.proofs.agree.lists_agree.Goals as goal
+
+abbrev IsBoth : ℕ → Chain (Once ℕ) (Once ℕ) → Type 0
+IsBoth x v = v ≡ record { first = record { value = Some x }; second = record { value = Some (bit_xor x 1) }; part = First }
+
+pub run_both-requires-clause-first : goal.run_both-requires-clause-first
+run_both-requires-clause-first c = ((tt, search of_calls), search rules, (search rules, answers_always _ _ _ (λ f a r f' d. (tt, tt))))
+
+pub run_both-requires-clause-second : goal.run_both-requires-clause-second
+run_both-requires-clause-second c = ((tt, search of_calls), search rules, (search rules, answers_always _ _ _ (λ f a r f' d. (tt, tt))))
+
+pub run_both-requires-clause-alike : goal.run_both-requires-clause-alike
+run_both-requires-clause-alike c =
+    (search rules, answers_agree _ _ IsBoth (λ f g x y d. search rules) (λ x y z p q. rw (p, q) (refl, refl, refl)) _ _, search rules)
+
+pub returns : goal.returns
+returns c =
+    let both = c.run_both.ensures.agree in
+    (both.0, both.1, both.2, both.3, both.4.always (tt, (tt, tt)), both.5, both.8)

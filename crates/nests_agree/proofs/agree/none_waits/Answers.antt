@@ -1,0 +1,11 @@
+use Rattle.std.proofs.Common.{rules}
+use Rattle.std.proofs.lemmas.List.Sorted.{answers_always}
+use Rattle.nests_agree.proofs.agree.none_waits.Goals as goal
+
+pub run_calm-requires-clause-calm : goal.run_calm-requires-clause-calm
+run_calm-requires-clause-calm c = (search rules, (search rules, answers_always _ _ _ (λ f a r f' d. tt)))
+
+pub returns : goal.returns
+returns c =
+    let ran = c.run_calm.ensures.prompt in
+    (ran.0, ran.1, ran.3, ran.4, ran.5)

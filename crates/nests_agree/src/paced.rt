@@ -1,0 +1,70 @@
+//! A stream of a caller's own.
+ghost use Rattle.std.specs.Prelude.{◌≡◌, ◌++◌, List, length, None, IfOk, IfErr};
+ghost use Rattle.std.specs.List.{FoldsTo};
+ghost use Rattle.lite_base.specs.Answers.{Answer, Comparable, strip};
+ghost use Rattle.lite_base.specs.Steady.{steady_always};
+ghost use Rattle.nests_agree.specs.Paced.{Step, paced_alike};
+ghost use Rattle.lite_laws.specs.Both.{Fewer};
+ghost use Rattle.lite_source.specs.Laws.Folds.{folds_laws};
+
+use lite_base::{Context, Poll, SteadyStream, Stream};
+use lite_laws::run_both;
+use std::alloc::AllocError;
+
+/// Gives one item for ever, and is pending before each. It does not see to being polled again.
+#[derive(Drop)]
+pub struct Paced {
+    pub item: u8,
+    /// The next poll is pending.
+    pub waits: bool,
+}
+
+impl Stream for Paced {
+    type Item = u8;
+
+    ghost run = { FoldsTo Step };
+
+    ghost hints = { λ m hint. hint ≡ (0, None) };
+
+    ghost laws = { folds_laws (λ x. x) Step (λ x y e. e) 0 };
+
+    fn poll_next(&mut self, _cx: &mut Context<'_>) -> Poll<Option<u8>> {
+        if self.waits {
+            self.waits = false;
+            return Poll::Pending;
+        }
+        self.waits = true;
+        Poll::Ready(Some(self.item))
+    }
+
+    fn size_hint(&self) -> (usize, Option<usize>) {
+        (0, None)
+    }
+}
+
+impl SteadyStream for Paced {
+    ghost ample = { FoldsTo Step };
+
+    ghost alike = { λ x y. y.item ≡ x.item };
+
+    ghost steady = { steady_always (folds_laws (λ x. x) Step (λ x y e. e) 0) paced_alike };
+}
+
+/// Runs two such streams of one item, whether the next poll of each is pending or not. The answers of the two runs are
+/// the same, pendings aside, as far as both go. `Err` where memory for an answer is refused: then fewer were appended.
+pub fn paces_agree(
+    x: &mut Paced,
+    y: &mut Paced,
+    cx: &mut Context<'_>,
+    polls: usize,
+    more: usize,
+    out: &mut Vec<Poll<Option<u8>>>,
+    out_more: &mut Vec<Poll<Option<u8>>>,
+) -> Result<(), AllocError>
+    requires { y.old.item ≡ x.old.item }
+    ensures { (l m : List (Answer _)) × (out.new.items ≡ out.old.items ++ l) × (out_more.new.items ≡ out_more.old.items ++ m)
+        × Comparable (strip l) (strip m) × IfOk result (λ _. (length l ≡ polls) × (length m ≡ more))
+        × IfErr result (λ _. Fewer l m polls more) }
+{
+    run_both(x, y, cx, polls, more, out, out_more)
+}

@@ -1,0 +1,64 @@
+//! A loop over `Ok` items, as a caller's own poll makes it.
+ghost use Rattle.std.specs.Prelude.{◌≡◌, []};
+ghost use Rattle.futures.specs.Task.{Keeps};
+ghost use Rattle.lite_base.specs.Ends.{Ends-map};
+ghost use Rattle.nests_polled.specs.TryCount.{Counted, TryTurns};
+
+use lite_base::{Context, OkCounted, Poll, Stream, Turns, drive};
+
+/// Counts the `Ok` items of a stream until there is an error or an end.
+#[derive(Drop)]
+pub struct TryCount<S> {
+    pub(crate) stream: S,
+    pub(crate) n: u64,
+}
+
+impl<S> TryCount<S> {
+    /// Counts from 0.
+    pub fn new(stream: S) -> TryCount<S>
+        ensures { result ≡ record { stream = stream; n = 0 } }
+    {
+        TryCount { stream, n: 0 }
+    }
+}
+
+impl<S: OkCounted<Ok: Drop>> Turns for TryCount<S> {
+    type Output = Result<u64, S::Err>;
+
+    ghost can_turn = { λ m. S.can_poll m.stream × S.ok_ranks.counts m.stream };
+
+    ghost turn = { TryTurns S.run (λ s. S.can_poll s × S.ok_ranks.counts s) };
+
+    ghost turn_leaves = { λ m. S.leaves m.stream };
+
+    ghost goes_on = { λ x y c h. h.0 };
+
+    ghost finite = { λ x c. Ends-map (λ m. m.stream) (λ m n h. (h.1.0, [], h.1.1)) x (S.ok_ends x.stream c.1) };
+
+    fn turn_once(&mut self, cx: &mut Context<'_>) -> Option<Poll<Result<u64, S::Err>>> {
+        match self.stream.poll_next(cx) {
+            Poll::Ready(Some(Ok(_))) => {
+                self.n = self.n.wrapping_add(1);
+                None
+            }
+            Poll::Ready(Some(Err(error))) => Some(Poll::Ready(Err(error))),
+            Poll::Ready(None) => Some(Poll::Ready(Ok(self.n))),
+            Poll::Pending => Some(Poll::Pending),
+        }
+    }
+}
+
+/// Goes on over `Ok` items until there is an error, which it answers, an end, at which it answers how many `Ok` items
+/// there were, or a pending.
+pub fn poll_count<S: OkCounted<Ok: Drop>>(
+    count: &mut TryCount<S>,
+    cx: &mut Context<'_>,
+) -> Poll<Result<u64, S::Err>>
+    requires can_poll { S.can_poll count.old.stream }
+    requires counts { S.ok_ranks.counts count.old.stream }
+    ensures counted { Counted S.run count.old result count.new }
+    ensures again { S.can_poll count.new.stream × S.ok_ranks.counts count.new.stream }
+    ensures kept { Keeps cx.old cx.new }
+{
+    drive(count, cx)
+}

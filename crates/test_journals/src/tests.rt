@@ -1,0 +1,10 @@
+mod entries;
+mod gate;
+mod journal;
+mod journalled;
+mod pipe;
+mod refused;
+mod replays;
+mod split;
+mod steps;
+mod threads;

@@ -1,0 +1,201 @@
+ghost use Rattle.std.specs.Prelude.{◌≡◌};
+
+use futures::task::{Doorbell, Solo};
+use futures_lite::Poll;
+use futures_lite::io::{
+    Answer, AsyncRead, AsyncWrite, Blanks, Books, Call, Cursor, ErrorKind, Journal,
+    JournalReadHalf, JournalWriteHalf, history, split_journalled,
+};
+use std::alloc::{AllocError, AllocGlobal};
+use std::marker::Brand;
+use std::process::Abort;
+use std::random::RandomSource;
+use std::sync::Wait;
+use std::test::Fail;
+use test_support::{Refusing, are, got, journal_on, reads_byte, try_read, try_write, write};
+
+type VecCursor = Cursor<Vec<u8>>;
+
+/// Drives a half over the reader of `xy`, first also into room for which there is no memory; that is asserted to stop it.
+fn assert_drives_on<R, B>(
+    rt: R,
+    reader: &mut JournalReadHalf<R, VecCursor, B>,
+    out: &mut Vec<Answer>,
+) -> Result<(), Fail>
+where
+    R: Wait + Abort + RandomSource + AllocGlobal + Copy,
+    B: Books,
+{
+    let solo = Solo::new(&rt, Doorbell::spinning())?;
+    let mut cx = solo.begin();
+    let refused = reader.drive(&mut cx, &[1, usize::MAX, 1], out);
+    let before = out.len();
+    let driven = reader.drive(&mut cx, &[1, 1], out);
+    cx.cancel();
+    assert_eq!(rt; refused, Err(AllocError));
+    driven?;
+    if before == 0 {
+        return Err(Fail::from("memory"));
+    }
+    Ok(())
+}
+
+/// Asserts that the answers are those of three reads of `xy` by one byte.
+fn assert_read_to_the_end<R: Abort + AllocGlobal + Copy>(
+    rt: R,
+    out: &[Answer],
+) -> Result<(), Fail> {
+    let (first, second) = (got(rt.alloc(), b"x")?, got(rt.alloc(), b"y")?);
+    let answers = [first, second, Answer::Read(Vec::new(rt.alloc()))];
+    assert_eq!(rt; out, answers.as_slice());
+    Ok(())
+}
+
+/// Two lists of reads by a half, of which one is cut short, and what is told of them.
+fn drive_again<R, B>(
+    rt: R,
+    reader: &mut JournalReadHalf<R, VecCursor, B>,
+    writer: &mut JournalWriteHalf<R, VecCursor, B>,
+) -> Result<(), Fail>
+where
+    R: Wait + Abort + RandomSource + AllocGlobal + Copy,
+    B: Books,
+{
+    let mut out = Vec::new(rt.alloc());
+    assert_drives_on(rt, reader, &mut out)?;
+    assert_read_to_the_end(rt, &out)?;
+    assert_eq!(rt; (reader.calls(), reader.bytes()), (3, 2));
+    assert_eq!(rt; history(reader, writer)?.entries().len(), 3);
+    Ok(())
+}
+
+fn refused_room<R, B>(rt: R, journal: Journal<VecCursor>, blanks: Blanks) -> Result<(), Fail>
+where
+    R: Wait + Abort + RandomSource + AllocGlobal + Copy,
+    B: Books,
+    requires { blanks ≡ B.names }
+{
+    let Ok((mut reader, mut writer)) = split_journalled::<R, VecCursor, B>(rt, journal, blanks)
+    else {
+        return Err(Fail::from("memory"));
+    };
+    drive_again(rt, &mut reader, &mut writer)
+}
+
+#[test]
+fn a_refused_read_of_a_half_reaches_nothing(rt: HostRuntime) -> Result<(), Fail> {
+    let journal = journal_on(rt.alloc(), b"xy")?;
+    refused_room::<HostRuntime, Brand>(rt, journal, Blanks::new())
+}
+
+// Memory is refused in the next two where a test is run with allocations that fail.
+
+/// Whether memory was found for a read of one byte, which is asserted to give `x` then.
+fn finds_memory_to_read<R, S>(rt: R, reader: &mut S) -> Result<bool, Fail>
+where
+    R: Abort + RandomSource + AllocGlobal + Copy,
+    S: AsyncRead,
+{
+    let mut buf = [0u8];
+    let answer = try_read(&rt, reader, &mut buf)?;
+    if answer == Poll::Ready(Err(ErrorKind::OutOfMemory)) {
+        return Ok(false);
+    }
+    assert_eq!(rt; (answer, buf[0]), (Poll::Ready(Ok(1)), b'x'));
+    Ok(true)
+}
+
+/// Asserts that a write of `z`, made again where memory was refused to it, takes it.
+fn assert_writes_at_last<R, S>(rt: R, writer: &mut S) -> Result<(), Fail>
+where
+    R: Abort + RandomSource + AllocGlobal + Copy,
+    S: AsyncWrite,
+{
+    if try_write(&rt, writer, b"z")? == Poll::Ready(Err(ErrorKind::OutOfMemory)) {
+        assert_eq!(rt; write(&rt, writer, b"z")?, Poll::Ready(Ok(1)));
+    }
+    Ok(())
+}
+
+/// A read and a write by two halves, each made again where memory was refused, and what is told of them.
+fn move_at_last<R, B>(
+    rt: R,
+    reader: &mut JournalReadHalf<R, VecCursor, B>,
+    writer: &mut JournalWriteHalf<R, VecCursor, B>,
+) -> Result<(), Fail>
+where
+    R: Wait + Abort + RandomSource + AllocGlobal + Copy,
+    B: Books,
+{
+    if !finds_memory_to_read(rt, reader)? {
+        assert_eq!(rt; (reader.calls(), reader.bytes()), (0, 0));
+        assert!(rt; reads_byte(&rt, reader, b'x')?);
+    }
+    assert_eq!(rt; (reader.calls(), reader.bytes()), (1, 1));
+    assert_writes_at_last(rt, writer)?;
+    let told = match history(reader, writer) {
+        Ok(told) => told,
+        Err(AllocError) => history(reader, writer)?,
+    };
+    assert_eq!(rt;
+        told.entries().len() as u64,
+        reader.calls().wrapping_add(writer.calls())
+    );
+    assert_eq!(rt; told.into_inner().into_inner().as_slice(), b"xz".as_slice());
+    Ok(())
+}
+
+fn refused_entries<R, B>(rt: R, journal: Journal<VecCursor>, blanks: Blanks) -> Result<(), Fail>
+where
+    R: Wait + Abort + RandomSource + AllocGlobal + Copy,
+    B: Books,
+    requires { blanks ≡ B.names }
+{
+    let Ok((mut reader, mut writer)) = split_journalled::<R, VecCursor, B>(rt, journal, blanks)
+    else {
+        return Err(Fail::from("memory"));
+    };
+    move_at_last(rt, &mut reader, &mut writer)
+}
+
+#[test]
+fn a_refused_entry_of_a_half_changes_nothing(rt: HostRuntime) -> Result<(), Fail> {
+    let journal = journal_on(rt.alloc(), b"xy")?;
+    refused_entries::<HostRuntime, Brand>(rt, journal, Blanks::new())
+}
+
+/// The journal that a refused split hands back.
+fn handed_back<R, B>(
+    rt: R,
+    journal: Journal<VecCursor>,
+    blanks: Blanks,
+) -> Option<Journal<VecCursor>>
+where
+    R: Wait + AllocGlobal + Clone + Drop,
+    B: Books,
+    requires { blanks ≡ B.names }
+{
+    match split_journalled::<R, VecCursor, B>(rt, journal, blanks) {
+        Ok(_) => None,
+        Err(back) => Some(back),
+    }
+}
+
+#[test]
+fn a_refused_split_hands_the_journal_back(rt: HostRuntime) -> Result<(), Fail> {
+    let mut journal = journal_on(rt.alloc(), b"xy")?;
+    assert!(rt; reads_byte(&rt, &mut journal, b'x')?);
+    let back = handed_back::<Refusing<HostRuntime>, Brand>(Refusing { rt }, journal, Blanks::new());
+    let Some(back) = back else {
+        return Err(Fail::from("nothing was refused"));
+    };
+    assert!(rt;
+        are(
+            back.entries(),
+            &[Call::Read { room: 1 }],
+            &[got(rt.alloc(), b"x")?]
+        )
+    );
+    assert_eq!(rt; back.into_inner().position(), 1);
+    Ok(())
+}

@@ -1,0 +1,4 @@
+mod lines;
+mod scan;
+mod texts;
+mod told;

@@ -1,0 +1,6 @@
+mod agreeing;
+mod marks;
+mod pieces;
+mod readers;
+mod scripts;
+mod writers;

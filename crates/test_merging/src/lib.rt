@@ -1,0 +1,7 @@
+//! A collection of two merged scripts, with a contract that says what it holds; tests of all pairs of short scripts; and tests
+//! of merged streams, where a case of `cases/merging.txt` cannot say it.
+#![tactic(auto)]
+
+pub mod scripts;
+#[cfg(test)]
+mod tests;

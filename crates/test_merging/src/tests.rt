@@ -1,0 +1,5 @@
+mod always;
+mod merge;
+mod pairs;
+mod waking;
+mod words;

@@ -1,0 +1,67 @@
+use super::always::Always;
+use futures_lite::{Poll, StreamExt, stream};
+use std::test::Fail;
+use test_support::{answers, firm, item, polled};
+
+#[test]
+fn a_clone_of_a_zip_goes_on_from_where_it_is(rt: HostRuntime) -> Result<(), Fail> {
+    let mut pairs = stream::iter(1u8..4).zip(stream::iter(4u8..8));
+    let got = answers(&rt, &mut pairs, 1)?;
+    assert_eq!(rt; got.as_slice(), [item((1, 4))].as_slice());
+    let got = answers(&rt, &mut pairs.clone()?, 3)?;
+    let expected = [item((2, 5)), item((3, 6)), Poll::Ready(None)];
+    assert_eq!(rt; got.as_slice(), expected.as_slice());
+    Ok(())
+}
+
+#[test]
+fn or_polls_nothing_once_both_have_ended(rt: HostRuntime) -> Result<(), Fail> {
+    let mut first = stream::script(vec![in rt.alloc(); item(1u8), Poll::Ready(None), item(5)]?);
+    let mut second = stream::script(vec![in rt.alloc(); item(2u8), Poll::Ready(None), item(6)]?);
+    let got = answers(&rt, &mut (&mut first).or(&mut second), 5)?;
+    let expected = [
+        item(1),
+        item(2),
+        Poll::Ready(None),
+        Poll::Ready(None),
+        Poll::Ready(None),
+    ];
+    assert_eq!(rt; got.as_slice(), expected.as_slice());
+    assert_eq!(rt;
+        answers(&rt, &mut first, 1)?.as_slice(),
+        [item(5)].as_slice()
+    );
+    assert_eq!(rt;
+        answers(&rt, &mut second, 1)?.as_slice(),
+        [item(6)].as_slice()
+    );
+    Ok(())
+}
+
+#[test]
+fn race_polls_no_stream_that_has_ended(rt: HostRuntime) -> Result<(), Fail> {
+    for word in 0..2u32 {
+        let mut first = stream::script(vec![in rt.alloc(); Poll::Ready(None), item(5u8)]?);
+        let second = stream::script(vec![in rt.alloc(); Poll::Pending, Poll::Ready(None)]?);
+        let got = answers(
+            &rt,
+            &mut firm((&mut first).race(second, Always { word })),
+            3,
+        )?;
+        let expected = [Poll::Pending, Poll::Ready(None), Poll::Ready(None)];
+        assert_eq!(rt; got.as_slice(), expected.as_slice());
+        assert_eq!(rt;
+            answers(&rt, &mut first, 1)?.as_slice(),
+            [item(5)].as_slice()
+        );
+    }
+    Ok(())
+}
+
+#[test]
+fn a_seeded_race_gives_each_item_once(rt: HostRuntime) -> Result<(), Fail> {
+    let race = stream::race_with_seed(stream::iter(0u8..3), stream::iter(0u8..3), 0x42);
+    let got = polled(&rt, &mut race.count(), 1)?;
+    assert_eq!(rt; got.as_slice(), [Poll::Ready(6)].as_slice());
+    Ok(())
+}

@@ -1,0 +1,16 @@
+mod buffered;
+mod bytes;
+mod cursors;
+mod methods;
+mod polls;
+mod read_to_end;
+mod readers;
+mod told;
+
+use futures_lite::io::CountedRead;
+
+/// Asks for a rank by the bound alone, and hands the reader back.
+fn ranked<R: CountedRead>(reader: R) -> R {
+    reader.is_counted();
+    reader
+}

@@ -1,0 +1,5 @@
+mod adapters;
+mod cycles;
+mod scarce;
+mod sources;
+mod text;

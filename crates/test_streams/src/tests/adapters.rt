@@ -1,0 +1,157 @@
+use super::text::Text;
+use futures_lite::stream::{self, Script};
+use futures_lite::{Poll, StreamExt};
+use std::alloc::AllocError;
+use std::cell::Cell;
+use std::io;
+use std::test::Fail;
+use test_support::{answers, firm, item};
+
+/// The next answer of a script, which tells how far it was polled.
+fn next(rt: &HostRuntime, script: &mut Script<u8>) -> io::Result<Poll<Option<u8>>> {
+    let mut answer = answers(rt, script, 1)?;
+    Ok(answer.pop().unwrap_or(Poll::Pending))
+}
+
+#[test]
+fn take_polls_no_more_after_its_last_item(rt: HostRuntime) -> Result<(), Fail> {
+    let mut script = stream::script(vec![in rt.alloc(); item(1u8), item(2), item(3)]?);
+    let lent = &mut script;
+    let got = answers(&rt, &mut lent.take(0), 1)?;
+    assert_eq!(rt; got.as_slice(), [Poll::Ready(None)].as_slice());
+    let lent = &mut script;
+    let got = answers(&rt, &mut lent.take(2), 4)?;
+    let expected = [item(1), item(2), Poll::Ready(None), Poll::Ready(None)];
+    assert_eq!(rt; got.as_slice(), expected.as_slice());
+    assert_eq!(rt; next(&rt, &mut script)?, item(3));
+    Ok(())
+}
+
+#[test]
+fn fuse_polls_no_more_after_an_end(rt: HostRuntime) -> Result<(), Fail> {
+    let mut script = stream::script(vec![in rt.alloc(); item(1u8), Poll::Ready(None), item(2)]?);
+    let lent = &mut script;
+    let got = answers(&rt, &mut lent.fuse(), 3)?;
+    let expected = [item(1), Poll::Ready(None), Poll::Ready(None)];
+    assert_eq!(rt; got.as_slice(), expected.as_slice());
+    assert_eq!(rt; next(&rt, &mut script)?, item(2));
+    Ok(())
+}
+
+#[test]
+fn chain_polls_neither_after_its_end(rt: HostRuntime) -> Result<(), Fail> {
+    let mut first = stream::script(vec![in rt.alloc(); item(1u8), Poll::Ready(None), item(9)]?);
+    let mut second = stream::script(vec![in rt.alloc(); item(2u8), Poll::Ready(None), item(8)]?);
+    let (lent, other) = (&mut first, &mut second);
+    let got = answers(&rt, &mut lent.chain(other), 4)?;
+    let expected = [item(1), item(2), Poll::Ready(None), Poll::Ready(None)];
+    assert_eq!(rt; got.as_slice(), expected.as_slice());
+    assert_eq!(rt; next(&rt, &mut first)?, item(9));
+    assert_eq!(rt; next(&rt, &mut second)?, item(8));
+    Ok(())
+}
+
+#[test]
+fn inspect_shows_each_item_once(rt: HostRuntime) -> Result<(), Fail> {
+    let list = vec![in rt.alloc(); item(1u8), Poll::Pending, item(2), Poll::Ready(None)]?;
+    let seen = Cell::new(0u16);
+    let mut shown = stream::script(list).inspect(|x: &u8| {
+        seen.set(seen.get().wrapping_mul(10).wrapping_add(*x as u16));
+    });
+    let got = answers(&rt, &mut shown, 4)?;
+    let expected = [item(1), Poll::Pending, item(2), Poll::Ready(None)];
+    assert_eq!(rt; got.as_slice(), expected.as_slice());
+    assert_eq!(rt; seen.get(), 12);
+    Ok(())
+}
+
+#[test]
+fn skip_while_asks_until_the_first_item_that_it_keeps(rt: HostRuntime) -> Result<(), Fail> {
+    let list = vec![in rt.alloc(); item(-1i32), Poll::Pending, item(0), item(1), item(-2)]?;
+    let asked = Cell::new(0u8);
+    let mut rest = stream::script(list).skip_while(|x: &i32| {
+        asked.set(asked.get().wrapping_add(1));
+        *x < 0
+    });
+    let got = answers(&rt, &mut rest, 5)?;
+    let expected = [Poll::Pending, item(0), item(1), item(-2), Poll::Ready(None)];
+    assert_eq!(rt; got.as_slice(), expected.as_slice());
+    assert_eq!(rt; asked.get(), 2);
+    Ok(())
+}
+
+#[test]
+fn cloned_asks_again_for_a_refused_clone_without_polling(rt: HostRuntime) -> Result<(), Fail> {
+    let text = Text {
+        text: "a",
+        refusals: Cell::new(1),
+    };
+    let list = vec![in rt.alloc(); item(&text), Poll::Ready(None), item(&text)]?;
+    let mut script = stream::script(list);
+    let lent = &mut script;
+    let mut texts = lent.cloned().map(|clone: Result<Text, AllocError>| match &clone {
+        Ok(copy) => Some(copy.text),
+        Err(_) => None,
+    });
+    let got = answers(&rt, &mut texts, 3)?;
+    let expected = [item(None), item(Some("a")), Poll::Ready(None)];
+    assert_eq!(rt; got.as_slice(), expected.as_slice());
+    let left = answers(&rt, &mut script.map(|text: &Text| text.text), 2)?;
+    assert_eq!(rt; left.as_slice(), [item("a"), Poll::Ready(None)].as_slice());
+    Ok(())
+}
+
+#[test]
+fn clones_of_adapters_go_on_from_where_they_are(rt: HostRuntime) -> Result<(), Fail> {
+    let numbers = [1u8, 2, 3, 4, 5];
+    let [one, two, three, four, five] = &numbers;
+    let first = stream::script(vec![in rt.alloc(); item(one), item(two), item(three)]?);
+    let second = stream::script(vec![in rt.alloc(); item(four), item(five)]?);
+    let mut nest = first
+        .chain(second)
+        .copied()
+        .skip(1)
+        .step_by(2)
+        .fuse()
+        .take(2)
+        .enumerate();
+    let first = answers(&rt, &mut nest, 1)?;
+    assert_eq!(rt; first.as_slice(), [item((0, 2))].as_slice());
+    let mut copy = nest.clone()?;
+    let expected = [item((1, 4)), Poll::Ready(None)];
+    let rest = answers(&rt, &mut nest, 2)?;
+    assert_eq!(rt; rest.as_slice(), expected.as_slice());
+    let copied = answers(&rt, &mut copy, 2)?;
+    assert_eq!(rt; copied.as_slice(), expected.as_slice());
+    Ok(())
+}
+
+#[test]
+fn a_nest_of_adapters_is_firm_where_its_source_is(rt: HostRuntime) -> Result<(), Fail> {
+    let list = vec![in rt.alloc(); item(1u8), Poll::Pending, item(2)]?;
+    let mut nest = firm(
+        firm(firm(stream::script(list)).map(|x: u8| x / 2))
+            .enumerate()
+            .fuse(),
+    );
+    let got = answers(&rt, &mut nest, 4)?;
+    let expected = [item((0, 0)), Poll::Pending, item((1, 1)), Poll::Ready(None)];
+    assert_eq!(rt; got.as_slice(), expected.as_slice());
+    Ok(())
+}
+
+#[test]
+fn an_adapter_shows_what_it_holds(rt: HostRuntime) -> Result<(), Fail> {
+    let nest = stream::iter(0u8..2).take(1).skip(1).step_by(2).enumerate();
+    let shown = format!(in rt.alloc(); "{nest:?}")?;
+    assert_eq!(rt;
+        shown.as_str(),
+        "Enumerate { stream: StepBy { stream: Skip { stream: Take { stream: Iter { iter: 0..2 }, n: 1 }, n: 1 }, step: 2, i: 0 }, i: 0 }"
+    );
+    let shown = format!(in rt.alloc(); "{:?}", stream::once(5u8).fuse())?;
+    assert_eq!(rt;
+        shown.as_str(),
+        "Fuse { stream: Once { value: Some(5) }, done: false }"
+    );
+    Ok(())
+}

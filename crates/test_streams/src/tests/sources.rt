@@ -1,0 +1,61 @@
+use super::text::Text;
+use futures_lite::{Context, Poll, StreamExt, stream};
+use std::alloc::AllocError;
+use std::cell::Cell;
+use std::test::Fail;
+use test_support::{answers, item};
+
+#[test]
+fn poll_fn_hands_on_what_its_function_answers(rt: HostRuntime) -> Result<(), Fail> {
+    let mut calls = 0u8;
+    let mut polls = stream::poll_fn(move |_cx: &mut Context<'_>| {
+        calls = calls.wrapping_add(1);
+        match calls {
+            1 => Poll::Pending,
+            2 => Poll::Ready(Some(5u8)),
+            _ => Poll::Ready(None),
+        }
+    });
+    let got = answers(&rt, &mut polls, 3)?;
+    let expected = [Poll::Pending, item(5), Poll::Ready(None)];
+    assert_eq!(rt; got.as_slice(), expected.as_slice());
+    Ok(())
+}
+
+#[test]
+fn repeat_asks_again_for_a_refused_clone(rt: HostRuntime) -> Result<(), Fail> {
+    let text = Text {
+        text: "a",
+        refusals: Cell::new(1),
+    };
+    let mut texts = stream::repeat(text).map(|clone: Result<Text, AllocError>| match &clone {
+        Ok(copy) => Some(copy.text),
+        Err(_) => None,
+    });
+    let got = answers(&rt, &mut texts, 3)?;
+    let expected = [item(None), item(Some("a")), item(Some("a"))];
+    assert_eq!(rt; got.as_slice(), expected.as_slice());
+    Ok(())
+}
+
+#[test]
+fn clones_of_sources_go_on_from_where_they_are(rt: HostRuntime) -> Result<(), Fail> {
+    let mut script = stream::script(vec![in rt.alloc(); item(1u8), Poll::Pending, item(2)]?);
+    let first = answers(&rt, &mut script, 1)?;
+    assert_eq!(rt; first.as_slice(), [item(1)].as_slice());
+    let copied = answers(&rt, &mut script.clone()?, 3)?;
+    let expected = [Poll::Pending, item(2), Poll::Ready(None)];
+    assert_eq!(rt; copied.as_slice(), expected.as_slice());
+    let got = answers(&rt, &mut stream::once(7u8).clone()?, 2)?;
+    assert_eq!(rt; got.as_slice(), [item(7), Poll::Ready(None)].as_slice());
+    let got = answers(&rt, &mut stream::empty::<u8>().clone()?, 1)?;
+    assert_eq!(rt; got.as_slice(), [Poll::Ready(None)].as_slice());
+    let got = answers(&rt, &mut stream::pending::<u8>().clone()?, 1)?;
+    assert_eq!(rt; got.as_slice(), [Poll::Pending].as_slice());
+    let mut fives = stream::repeat(5u8)
+        .clone()?
+        .map(|x: Result<u8, AllocError>| x.ok());
+    let got = answers(&rt, &mut fives, 1)?;
+    assert_eq!(rt; got.as_slice(), [item(Some(5))].as_slice());
+    Ok(())
+}

@@ -1,0 +1,82 @@
+//! Journals and cursors to begin with, and entries.
+ghost use Rattle.std.specs.Prelude.{◌≡◌, [], IfOk};
+ghost use Rattle.std.specs.Bool.{Decides};
+ghost use Rattle.lite_bridge.specs.Cursor.{inner_of, position_of};
+ghost use Rattle.lite_journal.specs.Entry.{Told, asked_of, told_of};
+ghost use Rattle.test_support.specs.Entries.{AreAnswers, AreCalls};
+
+use lite_bridge::Cursor;
+use lite_journal::{Answer, Call, Entry, Journal};
+use std::alloc::{AllocError, Global};
+
+/// The answer of a read that got these bytes.
+pub fn got(alloc: Global, bytes: &[u8]) -> Result<Answer, AllocError>
+    ensures { IfOk result (λ answer. told_of answer ≡ Told.got bytes.now) }
+{
+    Ok(Answer::Read(Vec::from_slice(alloc, bytes)?))
+}
+
+/// A cursor at the front of a vector of these bytes.
+pub fn cursor_on(alloc: Global, bytes: &[u8]) -> Result<Cursor<Vec<u8>>, AllocError>
+    ensures { IfOk result (λ cursor. ((inner_of cursor).items ≡ bytes.now) × (position_of cursor ≡ 0)) }
+{
+    Ok(Cursor::new(Vec::from_slice(alloc, bytes)?))
+}
+
+/// A journal of such a cursor, without entries.
+pub fn journal_on(alloc: Global, bytes: &[u8]) -> Result<Journal<Cursor<Vec<u8>>>, AllocError>
+    ensures entries { IfOk result (λ journal. journal.notes ≡ []) }
+    ensures stream { IfOk result (λ journal. ((inner_of journal.stream).items ≡ bytes.now) × (position_of journal.stream ≡ 0)) }
+{
+    match Journal::new(alloc, cursor_on(alloc, bytes)?) {
+        Ok(journal) => Ok(journal),
+        Err(_) => Err(AllocError),
+    }
+}
+
+/// Whether the entries are these calls with these answers, in order.
+pub fn are(entries: &[Entry], calls: &[Call], answers: &[Answer]) -> bool
+    ensures { Decides result (AreCalls entries.now calls.now × AreAnswers entries.now answers.now) }
+{
+    have_calls(entries, calls) && have_answers(entries, answers)
+}
+
+fn have_calls(entries: &[Entry], calls: &[Call]) -> bool
+    ensures { Decides result (AreCalls entries.now calls.now) }
+{
+    if entries.len() != calls.len() {
+        return false;
+    }
+    for (entry, call) in entries.iter().zip(calls) {
+        if !is_call(&entry.call, call) {
+            return false;
+        }
+    }
+    true
+}
+
+fn have_answers(entries: &[Entry], answers: &[Answer]) -> bool
+    ensures { Decides result (AreAnswers entries.now answers.now) }
+{
+    if entries.len() != answers.len() {
+        return false;
+    }
+    for (entry, answer) in entries.iter().zip(answers) {
+        if !is_answer(&entry.answer, answer) {
+            return false;
+        }
+    }
+    true
+}
+
+fn is_call(call: &Call, other: &Call) -> bool
+    ensures { Decides result (asked_of call.now ≡ asked_of other.now) }
+{
+    call == other
+}
+
+fn is_answer(answer: &Answer, other: &Answer) -> bool
+    ensures { Decides result (told_of answer.now ≡ told_of other.now) }
+{
+    answer == other
+}

@@ -1,0 +1,17 @@
+//! What the tests share.
+#![tactic(auto)]
+
+mod calls;
+mod compared;
+mod entries;
+mod polls;
+mod refusing;
+
+pub use calls::{
+    Answered, by_kind, finishes, is_done, read, reads_byte, seek, told, try_read, try_read_both,
+    try_write, try_write_both, write,
+};
+pub use compared::{gives, lends, try_read_room};
+pub use entries::{are, cursor_on, got, journal_on};
+pub use polls::{answers, firm, item, polled, ranked};
+pub use refusing::Refusing;

@@ -1,0 +1,3 @@
+pub mod Bridge
+pub mod Budget
+pub mod Laws

@@ -1,0 +1,9 @@
+mod assert_async;
+mod async_as_sync;
+mod block_on;
+mod bridge;
+mod budget;
+mod buf_writer;
+mod copy;
+mod marks;
+mod vectors;

@@ -1,0 +1,83 @@
+use super::buf_writer::buffered;
+use lite_base::{Future, Poll};
+use lite_buf_writer::BufWriter;
+use lite_copy::make::copy;
+use lite_copy::{CopyFuture, copy_chain};
+use lite_io::Chain;
+use lite_io_base::{AsyncWrite, CountedRead};
+use lite_mock::{Order, Takes};
+use std::alloc::AllocError;
+use std::io;
+use std::io::ErrorKind;
+use std::test::Fail;
+use test_support::{by_kind, polled, write};
+
+/// What a poll of a copy answers, its error named by its kind.
+type Copied = Poll<Result<u64, ErrorKind>>;
+
+/// What the polls of a copy answer up to its value, and at most 40 of them.
+fn told<F>(rt: &HostRuntime, copying: &mut F) -> Result<Vec<Copied>, Fail>
+where
+    F: Future<Output = io::Result<u64>>,
+    requires { F.can_poll copying.old }
+{
+    let mut told = Vec::new(rt.alloc());
+    for answer in polled(rt, copying, 40)? {
+        told.push(by_kind(answer))?;
+    }
+    Ok(told)
+}
+
+/// A copy of two readers to a buffered writer, where there is memory for its buffer.
+fn chaining<'a, R, S, W>(
+    rt: &HostRuntime,
+    first: R,
+    second: S,
+    writer: &'a mut BufWriter<W>,
+) -> Result<CopyFuture<Chain<R, S>, &'a mut BufWriter<W>>, AllocError>
+where
+    R: CountedRead + Drop,
+    S: CountedRead + Drop,
+    W: AsyncWrite,
+{
+    match copy_chain(rt.alloc(), first, second, writer) {
+        Ok(copying) => Ok(copying),
+        Err(_) => Err(AllocError),
+    }
+}
+
+#[test]
+fn what_was_held_goes_first(rt: HostRuntime) -> Result<(), Fail> {
+    let mut takes = Takes::new(rt.alloc());
+    takes.order(Order::AtMost(2))?;
+    takes.order(Order::Wait)?;
+    let mut writer = buffered(&rt, 4, takes)?;
+    assert_eq!(rt; write(&rt, &mut writer, b"-")?, Poll::Ready(Ok(1)));
+    let first: &[u8] = b"ab";
+    let second: &[u8] = b"cd";
+    let answers = told(&rt, &mut chaining(&rt, first, second, &mut writer)?)?;
+    assert_eq!(rt;
+        answers,
+        vec![in rt.alloc(); Poll::Pending, Poll::Ready(Ok(4))]?
+    );
+    assert_eq!(rt; writer.get_ref().taken(), b"-abcd".as_slice());
+    assert_eq!(rt; writer.buffer(), b"".as_slice());
+    Ok(())
+}
+
+#[test]
+fn a_long_text_is_copied_whole(rt: HostRuntime) -> Result<(), Fail> {
+    let mut text = Vec::with_capacity(rt.alloc(), 1 << 20)?;
+    for i in 0u32..1 << 20 {
+        text.push((i % 251) as u8)?;
+    }
+    let mut copied = Vec::new(rt.alloc());
+    let Ok(mut copying) = copy(rt.alloc(), text.as_slice(), &mut copied) else {
+        return Err(AllocError.into());
+    };
+    let answers = told(&rt, &mut copying)?;
+    drop(copying);
+    assert_eq!(rt; answers, vec![in rt.alloc(); Poll::Ready(Ok(1048576))]?);
+    assert!(rt; copied == text);
+    Ok(())
+}

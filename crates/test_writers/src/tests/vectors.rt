@@ -1,0 +1,18 @@
+use lite_base::Poll;
+use lite_bridge::Cursor;
+use std::test::Fail;
+use test_support::{finishes, gives, try_write_both, write};
+
+#[test]
+fn a_lent_vector_is_written_to(rt: HostRuntime) -> Result<(), Fail> {
+    let mut bytes = Vec::from_slice(rt.alloc(), b"a")?;
+    let appended = try_write_both(&rt, &mut &mut bytes, b"b", b"cd")?;
+    assert_eq!(rt; appended, Poll::Ready(Ok(3)));
+    let mut cursor = Cursor::new(&mut bytes);
+    assert_eq!(rt; write(&rt, &mut cursor, b"A")?, Poll::Ready(Ok(1)));
+    assert!(rt; finishes(&rt, &mut cursor)?);
+    drop(cursor);
+    assert_eq!(rt; bytes.as_slice(), b"Abcd".as_slice());
+    assert!(rt; gives(&rt, &mut Cursor::new(&bytes), 9, b"Abcd")?);
+    Ok(())
+}

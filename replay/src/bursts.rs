@@ -1,0 +1,117 @@
+//! A stream and futures that are given by few numbers.
+ghost use Rattle.futures_lite.specs.Own.{AnyAnswers, AnyValue, NoHint, anything_future, anything_stream};
+
+use futures_lite::stream::Counted;
+use futures_lite::{Context, Future, Poll, Stream};
+
+/// Gives `left` numbers from `next` on, with a pending where it waits; after a multiple of three it waits.
+#[derive(Drop)]
+pub(crate) struct Burst {
+    pub(crate) left: usize,
+    pub(crate) next: i64,
+    pub(crate) waits: bool,
+}
+
+impl Stream for Burst {
+    type Item = i64;
+
+    ghost run = { AnyAnswers };
+
+    ghost hints = { NoHint };
+
+    ghost laws = { anything_stream };
+
+    fn poll_next(&mut self, cx: &mut Context<'_>) -> Poll<Option<i64>> {
+        if self.waits {
+            self.waits = false;
+            return cx.yield_now();
+        }
+        if self.left == 0 {
+            return Poll::Ready(None);
+        }
+        self.left -= 1;
+        let item = self.next;
+        self.next = item.wrapping_add(1);
+        self.waits = self.next % 3 == 0;
+        Poll::Ready(Some(item))
+    }
+
+    fn size_hint(&self) -> (usize, Option<usize>) {
+        (0, None)
+    }
+}
+
+impl Counted for Burst {
+    ghost ranks = { ? };
+
+    ghost counting = { ? };
+}
+
+/// Is pending `left` times, and then gives `value`.
+#[derive(Drop)]
+pub(crate) struct Later {
+    pub(crate) left: usize,
+    pub(crate) value: i64,
+}
+
+impl Future for Later {
+    type Output = i64;
+
+    ghost run = { AnyValue };
+
+    ghost laws = { anything_future };
+
+    fn poll(&mut self, cx: &mut Context<'_>) -> Poll<i64> {
+        if self.left == 0 {
+            return Poll::Ready(self.value);
+        }
+        self.left -= 1;
+        cx.yield_now()
+    }
+}
+
+/// Is pending once where it waits, and then gives `value`.
+#[derive(Drop)]
+pub(crate) struct UnfoldStep {
+    pub(crate) waits: bool,
+    pub(crate) value: Option<(i64, i64)>,
+}
+
+impl Future for UnfoldStep {
+    type Output = Option<(i64, i64)>;
+
+    ghost run = { AnyValue };
+
+    ghost laws = { anything_future };
+
+    fn poll(&mut self, cx: &mut Context<'_>) -> Poll<Option<(i64, i64)>> {
+        if self.waits {
+            self.waits = false;
+            return cx.yield_now();
+        }
+        Poll::Ready(self.value)
+    }
+}
+
+/// Is pending once where it waits, and then gives `value`.
+#[derive(Drop)]
+pub(crate) struct TryStep {
+    pub(crate) waits: bool,
+    pub(crate) value: Result<Option<(i64, i64)>, i64>,
+}
+
+impl Future for TryStep {
+    type Output = Result<Option<(i64, i64)>, i64>;
+
+    ghost run = { AnyValue };
+
+    ghost laws = { anything_future };
+
+    fn poll(&mut self, cx: &mut Context<'_>) -> Poll<Result<Option<(i64, i64)>, i64>> {
+        if self.waits {
+            self.waits = false;
+            return cx.yield_now();
+        }
+        Poll::Ready(self.value)
+    }
+}

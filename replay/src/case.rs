@@ -1,0 +1,77 @@
+//! A case: how many polls it has, its mode, and what is polled.
+use crate::answers::Answers;
+pub(crate) use crate::answers::finish;
+use crate::consuming::Consumer;
+use crate::kid::Kid;
+use crate::layer::Layer;
+use crate::leaf::{Build, Leaf};
+use crate::polling::Polling;
+use crate::searching::Search;
+use crate::trying::Trial;
+use crate::words::{Fault, Words};
+use crate::{future_nest, io_case};
+use futures_lite::Context;
+use std::alloc::Global;
+
+/// A stream of at most three adapters, one over the other.
+type Nest = Layer<Kid<Layer<Kid<Layer<Kid<Leaf>>>>>>;
+
+/// What is printed of a case.
+pub(crate) fn answered(
+    alloc: Global,
+    cx: &mut Context<'_>,
+    words: &mut Words<'_>,
+) -> Result<String, Fault> {
+    let polls = words.number()?;
+    let mut answers = Answers {
+        text: String::new(alloc),
+        polls,
+    };
+    match words.take()? {
+        "io" => io_case::answered(alloc, cx, words, polls, &mut answers.text)?,
+        "future" => future_nest::answered(alloc, cx, words, &mut answers)?,
+        "fused" => future_nest::fused(alloc, cx, words, &mut answers)?,
+        "rest" => of_lent_nest(alloc, cx, words, &mut answers)?,
+        mode => of_nest(mode, alloc, cx, words, &mut answers)?,
+    }
+    Ok(answers.text)
+}
+
+/// A mode of a nest of streams.
+fn of_nest(
+    mode: &str,
+    alloc: Global,
+    cx: &mut Context<'_>,
+    words: &mut Words<'_>,
+    answers: &mut Answers,
+) -> Result<(), Fault> {
+    if let Some(polling) = Polling::of(mode, words)? {
+        return polling.answered(Nest::build(alloc, words)?, cx, answers);
+    }
+    if let Some(consumer) = Consumer::of(mode, words)? {
+        return consumer.answered(Nest::build(alloc, words)?, alloc, cx, answers);
+    }
+    if let Some(search) = Search::of(mode, words)? {
+        return search.answered(Nest::build(alloc, words)?, cx, answers);
+    }
+    match Trial::of(mode, words)? {
+        Some(trial) => trial.answered(Nest::build(alloc, words)?, cx, answers),
+        None => Err(Fault::Words),
+    }
+}
+
+/// A future that takes its stream is lent it, and what is left of the stream is polled after the value.
+fn of_lent_nest(
+    alloc: Global,
+    cx: &mut Context<'_>,
+    words: &mut Words<'_>,
+    answers: &mut Answers,
+) -> Result<(), Fault> {
+    let mode = words.take()?;
+    let Some(consumer) = Consumer::of(mode, words)? else {
+        return Err(Fault::Words);
+    };
+    let mut nest = Nest::build(alloc, words)?;
+    consumer.answered(&mut nest, alloc, cx, answers)?;
+    Ok(answers.drive(&mut nest, cx)?)
+}

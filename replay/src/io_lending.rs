@@ -1,0 +1,223 @@
+//! Cases of readers that lend: lines, pieces, texts, and what is lent.
+use crate::io_calls::{goes_on, read_poll, room_of};
+use crate::io_reading::{exact_once, item, read_once};
+use crate::io_run::Run;
+use crate::io_words::{byte_of, bytes_of, text_of};
+use crate::lenders::Lender;
+use crate::readers::{BuildReader, Nest};
+use crate::words::{Fault, Words};
+use futures_lite::io::{AsyncBufRead, CountedRead};
+use futures_lite::laws::collect_lines;
+use futures_lite::stream::{Stream, TryCollectError};
+use futures_lite::{AsyncBufReadExt, Poll};
+
+/// Runs a case of one of these modes; `false`: `mode` is none of them.
+pub(crate) fn answered(
+    mode: &str,
+    run: &mut Run<'_, '_>,
+    words: &mut Words<'_>,
+) -> Result<bool, Fault> {
+    match mode {
+        "until" => until(run, words)?,
+        "until_onto" => until_onto(run, words)?,
+        "line" => line(run, words)?,
+        "line_onto" => line_onto(run, words)?,
+        "lines" => lines(run, words)?,
+        "split" => split(run, words)?,
+        "fill" => fill(run, words)?,
+        "mixed" => mixed(run, words)?,
+        "lends" => lends(run, words)?,
+        "collect" => collect(run, words)?,
+        _ => return Ok(false),
+    }
+    Ok(true)
+}
+
+/// `until BYTE LENDER`: reads up to a byte, each into an empty vector.
+fn until(run: &mut Run<'_, '_>, words: &mut Words<'_>) -> Result<(), Fault> {
+    let byte = byte_of(words)?;
+    let mut reader = Lender::build(run.alloc, words)?;
+    while run.has_polls() {
+        until_once(run, &mut reader, byte)?;
+    }
+    Ok(())
+}
+
+/// The future of one read up to a byte.
+pub(crate) fn until_once<R: AsyncBufRead + CountedRead>(
+    run: &mut Run<'_, '_>,
+    reader: &mut R,
+    byte: u8,
+) -> Result<(), Fault> {
+    let mut piece = Vec::new(run.alloc);
+    if let Some(read) = run.finish(&mut reader.read_until(byte, &mut piece))? {
+        run.bytes(piece.as_slice())?;
+        run.value(read)?;
+    }
+    Ok(())
+}
+
+/// `until_onto HEX BYTE LENDER`: reads up to a byte behind these; what stands in the vector is shown after each.
+fn until_onto(run: &mut Run<'_, '_>, words: &mut Words<'_>) -> Result<(), Fault> {
+    let mut all = bytes_of(run.alloc, words.take()?)?;
+    let byte = byte_of(words)?;
+    let mut reader = Lender::build(run.alloc, words)?;
+    while run.has_polls() {
+        let read = run.finish(&mut reader.read_until(byte, &mut all))?;
+        run.given(read)?;
+        run.bytes(all.as_slice())?;
+    }
+    Ok(())
+}
+
+/// `line LENDER`: reads of a line, each into an empty text.
+fn line(run: &mut Run<'_, '_>, words: &mut Words<'_>) -> Result<(), Fault> {
+    let mut reader = Lender::build(run.alloc, words)?;
+    while run.has_polls() {
+        let mut text = String::new(run.alloc);
+        if let Some(read) = run.finish(&mut reader.read_line(&mut text))? {
+            run.bytes(text.as_bytes())?;
+            run.value(read)?;
+        }
+    }
+    Ok(())
+}
+
+/// `line_onto HEX LENDER`: reads of a line behind this text; the text is shown after each.
+fn line_onto(run: &mut Run<'_, '_>, words: &mut Words<'_>) -> Result<(), Fault> {
+    let mut text = text_of(run.alloc, words.take()?)?;
+    let mut reader = Lender::build(run.alloc, words)?;
+    while run.has_polls() {
+        let read = run.finish(&mut reader.read_line(&mut text))?;
+        run.given(read)?;
+        run.bytes(text.as_bytes())?;
+    }
+    Ok(())
+}
+
+/// `lines LENDER`: polls of the stream of the lines.
+fn lines(run: &mut Run<'_, '_>, words: &mut Words<'_>) -> Result<(), Fault> {
+    let mut lines = Lender::build(run.alloc, words)?.lines(run.alloc);
+    while run.has_polls() {
+        let answer = lines.poll_next(run.poll());
+        item(run, answer)?;
+    }
+    Ok(())
+}
+
+/// `split BYTE LENDER`: polls of the stream of the pieces.
+fn split(run: &mut Run<'_, '_>, words: &mut Words<'_>) -> Result<(), Fault> {
+    let byte = byte_of(words)?;
+    let mut pieces = Lender::build(run.alloc, words)?.split(run.alloc, byte);
+    while run.has_polls() {
+        let answer = pieces.poll_next(run.poll());
+        item(run, answer)?;
+    }
+    Ok(())
+}
+
+/// `fill MOST LENDER`: polls of a fill, of which at most so many bytes are then taken.
+fn fill(run: &mut Run<'_, '_>, words: &mut Words<'_>) -> Result<(), Fault> {
+    let most = words.number()?;
+    let mut reader = Lender::build(run.alloc, words)?;
+    while run.has_polls() {
+        let lent = fill_poll(run, &mut reader)?;
+        reader.consume(lent.min(most));
+    }
+    Ok(())
+}
+
+/// One poll of a fill, and how many bytes it lends.
+fn fill_poll(run: &mut Run<'_, '_>, reader: &mut Lender) -> Result<usize, Fault> {
+    match reader.poll_fill_buf(run.poll()) {
+        Poll::Pending => {
+            run.word("P")?;
+            Ok(0)
+        }
+        Poll::Ready(Ok(bytes)) => {
+            run.bytes(bytes)?;
+            Ok(bytes.len())
+        }
+        Poll::Ready(Err(e)) => {
+            run.kind(e.kind())?;
+            Ok(0)
+        }
+    }
+}
+
+/// The future of a fill.
+fn fill_once(run: &mut Run<'_, '_>, reader: &mut Lender) -> Result<(), Fault> {
+    match run.finish(&mut reader.fill_buf())? {
+        Some(Ok(lent)) => run.bytes(lent),
+        Some(Err(e)) => run.kind(e.kind()),
+        None => Ok(()),
+    }
+}
+
+/// `mixed SIZE LENDER`: in turn a read of so much room, and one up to a newline.
+fn mixed(run: &mut Run<'_, '_>, words: &mut Words<'_>) -> Result<(), Fault> {
+    let mut room = room_of(run, words)?;
+    let mut reader = Lender::build(run.alloc, words)?;
+    while run.has_polls() {
+        read_once(run, &mut reader, room.as_mut_slice())?;
+        until_once(run, &mut reader, b'\n')?;
+    }
+    Ok(())
+}
+
+/// `lends LENDER CALL..`: one poll for each `r SIZE`, `rv SIZE SIZE` and `lend`; `k N` takes at most so many of the bytes that are
+/// lent, `b` shows them; `fill`, `x SIZE` and `u BYTE` are the futures of a fill, of an exact read and of one up to a byte; `limit` and
+/// `set_limit N` are of the outermost `take`.
+fn lends(run: &mut Run<'_, '_>, words: &mut Words<'_>) -> Result<(), Fault> {
+    let mut reader = Lender::build(run.alloc, words)?;
+    while goes_on(run, words) {
+        match words.take()? {
+            "limit" => run.number(reader.limit()?)?,
+            "set_limit" => reader.set_limit(words.number()? as u64)?,
+            "b" => run.bytes(reader.buffer())?,
+            "k" => {
+                let lent = reader.buffer().len();
+                reader.consume(words.number()?.min(lent));
+            }
+            "lend" => {
+                fill_poll(run, &mut reader)?;
+            }
+            "fill" => fill_once(run, &mut reader)?,
+            "x" => {
+                let mut room = room_of(run, words)?;
+                exact_once(run, &mut reader, room.as_mut_slice())?;
+            }
+            "u" => {
+                let byte = byte_of(words)?;
+                until_once(run, &mut reader, byte)?;
+            }
+            word => {
+                if !read_poll(run, &mut reader, word, words)? {
+                    return Err(Fault::Words);
+                }
+            }
+        }
+    }
+    Ok(())
+}
+
+/// `collect LIMIT NEST`: the lines of the first bytes, collected.
+fn collect(run: &mut Run<'_, '_>, words: &mut Words<'_>) -> Result<(), Fault> {
+    let limit = words.number()? as u64;
+    let reader = Nest::build(run.alloc, words)?;
+    let Ok(mut future) = collect_lines::<_, Vec<String>>(run.alloc, reader, limit, run.alloc) else {
+        return Err(Fault::Memory);
+    };
+    match run.finish(&mut future)? {
+        None => Ok(()),
+        Some(Ok(lines)) => {
+            run.part("[")?;
+            for line in &lines {
+                run.bytes(line.as_bytes())?;
+            }
+            run.word("]")
+        }
+        Some(Err(TryCollectError::Source(e))) => run.kind(e.kind()),
+        Some(Err(TryCollectError::Memory(_))) => Err(Fault::Memory),
+    }
+}

@@ -1,0 +1,63 @@
+"""What the tools share: where the repository is, its crates by the lines of crates.txt, and how a tool stops at bad words."""
+import argparse
+import os
+import sys
+
+TOP = os.path.dirname(os.path.dirname(os.path.abspath(__file__)))
+# The folders of a crate that its proof reads.
+PARTS = ("src", "specs", "proofs")
+FACADE = "futures_lite"
+
+
+def stop(why):
+    """Ends the tool with one line on standard error."""
+    print(f"tools/{os.path.basename(sys.argv[0])}: {why}", file=sys.stderr)
+    sys.exit(2)
+
+
+class Words(argparse.ArgumentParser):
+    """What a tool is called with; its help is the tool's docstring."""
+
+    def __init__(self, told):
+        super().__init__(description=told, formatter_class=argparse.RawDescriptionHelpFormatter, allow_abbrev=False)
+
+    def error(self, message):
+        stop(f"{message}; --help says more")
+
+
+class Crate:
+    """A line of crates.txt."""
+
+    def __init__(self, line):
+        head, _, below = line.partition(":")
+        self.line = line
+        self.name = head.split()[0]
+        self.below = below.split()
+
+
+def read_text(path):
+    with open(path, encoding="utf-8") as file:
+        return file.read()
+
+
+def crates_in(top):
+    """Returns the crates that top's crates.txt lists, in its order, by name."""
+    rows = (row.split("#")[0].strip() for row in read_text(f"{top}/crates.txt").splitlines())
+    return {it.name: it for it in map(Crate, filter(None, rows))}
+
+
+def with_below(crates, names):
+    """Returns the names and those of all crates of the repository below them, in the order of crates.txt."""
+    found, left = set(), list(names)
+    while left:
+        name = left.pop()
+        if name in crates and name not in found:
+            found.add(name)
+            left += crates[name].below
+    return [name for name in crates if name in found]
+
+
+def files_of(folder):
+    """Returns the files below the folder that a proof may read or a check look at, by their paths from there."""
+    walked = ((at, name) for at, _, names in os.walk(folder) for name in names)
+    return sorted(os.path.relpath(f"{at}/{name}", folder) for at, name in walked)
