@@ -34,7 +34,10 @@ pub(crate) fn answered(
         "rest" => of_lent_nest(alloc, cx, words, &mut answers)?,
         mode => of_nest(mode, alloc, cx, words, &mut answers)?,
     }
-    Ok(answers.text)
+    match words.words {
+        [] => Ok(answers.text),
+        _ => Err(Fault::Words),
+    }
 }
 
 /// A mode of a nest of streams.
