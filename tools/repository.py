@@ -1,6 +1,7 @@
 """What the tools share: where the repository is, its crates by the lines of crates.txt, and how a tool stops at bad words."""
 import argparse
 import os
+import re
 import sys
 
 TOP = os.path.dirname(os.path.dirname(os.path.abspath(__file__)))
@@ -33,6 +34,8 @@ class Crate:
         self.line = line
         self.name = head.split()[0]
         self.below = below.split()
+        # (a line says how many functions of the crate may wait, where any may)
+        self.may_wait = sum(map(int, re.findall(r"\bmay_wait=(\d+)", head)))
 
 
 def read_text(path):

@@ -28,7 +28,10 @@ pub(crate) fn answered(
         polls,
     };
     match words.take()? {
-        "io" => io_case::answered(alloc, cx, words, polls, &mut answers.text)?,
+        "io" => {
+            io_case::answered(alloc, cx, words, polls, &mut answers.text)?;
+            return Ok(answers.text);
+        }
         "future" => future_nest::answered(alloc, cx, words, &mut answers)?,
         "fused" => future_nest::fused(alloc, cx, words, &mut answers)?,
         "rest" => of_lent_nest(alloc, cx, words, &mut answers)?,
