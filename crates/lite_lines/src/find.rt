@@ -15,6 +15,8 @@ use memchr::memchr;
 use std::io;
 
 /// Fills a reader, and answers where `byte` first stands in what its `buffer` then shows.
+// An answer of I/O has about a hundred bytes, which a call would write and read again.
+#[inline(always)]
 pub(crate) fn find_byte<R: AsyncBufRead>(
     reader: &mut R,
     cx: &mut Context<'_>,

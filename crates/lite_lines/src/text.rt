@@ -7,10 +7,9 @@ ghost use Rattle.std.specs.declared.io.ErrorKind.TheVariants.{OutOfMemory};
 ghost use Rattle.lite_lines.specs.Pieces.{AtEnd};
 ghost use Rattle.lite_lines.specs.Texts.{IsText, without_return};
 
-use simdutf8::basic;
 use std::alloc::{AllocError, Global};
 use std::io::ErrorKind;
-use std::{io, mem};
+use std::{io, mem, str};
 
 const RETURN: u8 = b'\r';
 
@@ -87,12 +86,13 @@ fn drop_return(bytes: &mut Vec<u8>)
 }
 
 // The text of some bytes. Those that are known as ASCII are not checked.
+#[inline(always)]
 fn text_of(bytes: Vec<u8>, ascii: bool) -> io::Result<String>
     requires { ascii ≡ true → IsUtf8 bytes.items }
     ensures { IsText bytes.items result }
 {
     if !ascii {
-        if let Err(_) = basic::from_utf8(&bytes) {
+        if let Err(_) = str::from_utf8(&bytes) {
             return Err(io::Error::from(ErrorKind::InvalidData));
         }
     }

@@ -6,10 +6,9 @@ ghost use Rattle.lite_io_base.specs.Marks.{bytes as read_bytes};
 ghost use Rattle.lite_texts.specs.Texts.{Fits, Gains, ValueOf};
 
 use lite_io_base::AsyncBufRead;
-use simdutf8::basic;
 use std::alloc::{AllocError, Allocator};
-use std::io;
 use std::io::ErrorKind;
+use std::{io, str};
 
 /// Adds the first `amount` bytes that `reader` lends, and takes them. `Err` says that memory was refused; nothing changes
 /// then, but how much room there is.
@@ -106,7 +105,7 @@ fn add_text<A: Allocator>(text: &mut String<A>, bytes: &[u8], known: bool) -> bo
         prove!(appended.is_ok());
         return true;
     }
-    match basic::from_utf8(bytes) {
+    match str::from_utf8(bytes) {
         Ok(added) => {
             let appended = text.push_str(added);
             prove!(appended.is_ok());

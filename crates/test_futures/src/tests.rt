@@ -2,4 +2,5 @@ mod bell;
 mod counting;
 mod future;
 mod refusing;
+mod sleeping;
 mod waiting;

@@ -32,6 +32,8 @@ where
 /// The original has no such type: its `block_on` keeps this for each thread, where there are no thread-local values here.
 #[derive(Drop)]
 pub struct BlockOn {
+    // It has one task, which is queued between two calls. A queue that gets its first task rings its doorbell, and a ring
+    // that nobody sleeps for stays there: with a task for each call a later sleep would end once for each of them.
     queue: Queue,
     // Each task waits here too, so that it may be parked after any pending poll.
     source: Source,
@@ -45,8 +47,10 @@ impl BlockOn {
     where
         R: Wait + RandomSource + AllocGlobal,
     {
+        let queue = named_queue(rt)?;
+        queue.add()?.schedule();
         Ok(BlockOn {
-            queue: named_queue(rt)?,
+            queue,
             source: Source::new(),
             slot: None,
         })
@@ -70,7 +74,8 @@ impl BlockOn {
     /// ever.
     ///
     /// Where a poll is pending the thread sleeps until the context of that poll is woken, and sleeps for ever where
-    /// nothing wakes it. `Err` says that there was no memory for one more task: then the future was not polled.
+    /// nothing wakes it. `Err` would say that there was no memory to wait with, and that the future was not polled; what a
+    /// wait needs is made with the sleeper, so it does not come.
     pub fn wait_for<R: Wait, F: Future>(
         &mut self,
         rt: &R,
@@ -80,7 +85,6 @@ impl BlockOn {
         ensures gave { IfOk result (λ value. (ins : List (Poll F.Output)) × Gives ins value × F.run future.old ins future.new) }
         ensures kept { OnErr result (future.new ≡ future.old) }
     {
-        self.queue.add()?.schedule();
         'polls: for _ in rt.forever() {
             let Some(mut cx) = self.queue.next(rt) else {
                 // There is no answer without a task, and the task is there until the future is ready.
@@ -88,7 +92,9 @@ impl BlockOn {
             };
             match future.poll(&mut cx) {
                 Poll::Ready(value) => {
-                    cx.cancel();
+                    // The task stays, and is queued for the next future.
+                    let _: Poll<()> = cx.yield_now();
+                    cx.park();
                     return Ok(value);
                 }
                 Poll::Pending => {
