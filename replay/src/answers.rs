@@ -24,6 +24,11 @@ impl Answers {
         self.word(itoa::Buffer::new().format(n))
     }
 
+    /// A star before the next word, where it holds.
+    pub(crate) fn star(&mut self, holds: bool) -> Result<(), AllocError> {
+        if holds { self.text.push_str("*") } else { Ok(()) }
+    }
+
     pub(crate) fn truth(&mut self, holds: bool) -> Result<(), AllocError> {
         self.word(if holds { "true" } else { "false" })
     }

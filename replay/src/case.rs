@@ -9,17 +9,19 @@ use crate::polling::Polling;
 use crate::searching::Search;
 use crate::trying::Trial;
 use crate::words::{Fault, Words};
-use crate::{future_nest, io_case};
+use crate::{future_nest, io_case, wakes};
+use futures::task::Solo;
 use futures_lite::Context;
 use std::alloc::Global;
 
 /// A stream of at most three adapters, one over the other.
-type Nest = Layer<Kid<Layer<Kid<Layer<Kid<Leaf>>>>>>;
+pub(crate) type Nest = Layer<Kid<Layer<Kid<Layer<Kid<Leaf>>>>>>;
 
-/// What is printed of a case.
+/// What is printed of a case. What makes contexts of its own makes them of `solo`.
 pub(crate) fn answered(
     alloc: Global,
     cx: &mut Context<'_>,
+    solo: &Solo,
     words: &mut Words<'_>,
 ) -> Result<String, Fault> {
     let polls = words.number()?;
@@ -34,6 +36,8 @@ pub(crate) fn answered(
         }
         "future" => future_nest::answered(alloc, cx, words, &mut answers)?,
         "fused" => future_nest::fused(alloc, cx, words, &mut answers)?,
+        "wakes" => wakes::of_stream(alloc, solo, words, &mut answers)?,
+        "wakes_future" => wakes::of_future(alloc, solo, words, &mut answers)?,
         "rest" => of_lent_nest(alloc, cx, words, &mut answers)?,
         mode => of_nest(mode, alloc, cx, words, &mut answers)?,
     }

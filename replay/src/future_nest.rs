@@ -16,7 +16,7 @@ use futures_lite::{Context, Future, Poll};
 use std::alloc::{AllocError, Global};
 
 /// A future of at most three combinators, one over the other.
-type Nest = Combined<Kid<Combined<Kid<Combined<Kid<Plain>>>>>>;
+pub(crate) type Nest = Combined<Kid<Combined<Kid<Combined<Kid<Plain>>>>>>;
 
 /// Polls a future until its value.
 pub(crate) fn answered(

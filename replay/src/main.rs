@@ -27,6 +27,7 @@ mod polling;
 mod readers;
 mod searching;
 mod trying;
+mod wakes;
 mod words;
 mod writers;
 
@@ -37,6 +38,7 @@ use std::io::{self, BufRead, BufReader, BufWriter, Write};
 
 fn main(rt: HostRuntime) -> io::Result<()> {
     let solo = Solo::new(&rt, Doorbell::spinning())?;
+    let other = Solo::new(&rt, Doorbell::spinning())?;
     let mut out = BufWriter::new(rt.alloc(), io::writer(&rt))?;
     for line in BufReader::new(rt.alloc(), rt.reader())?.lines(rt.alloc()) {
         let line = line?;
@@ -45,6 +47,7 @@ fn main(rt: HostRuntime) -> io::Result<()> {
         let answer = answered(
             rt.alloc(),
             &mut cx,
+            &other,
             &mut Words {
                 words: words.as_slice(),
             },
