@@ -1,4 +1,4 @@
-//! A stream and futures that are given by few numbers.
+//! A stream and futures that are given by few numbers, and what wakes its task at each poll.
 ghost use Rattle.futures_lite.specs.Own.{AnyAnswers, AnyValue, NoHint, anything_future, anything_stream};
 
 use futures_lite::stream::Counted;
@@ -113,5 +113,49 @@ impl Future for TryStep {
             return cx.yield_now();
         }
         Poll::Ready(self.value)
+    }
+}
+
+/// Answers as what is in it, and wakes its task at each poll.
+#[derive(Clone, Drop)]
+pub(crate) struct Bell<S: Drop> {
+    pub(crate) inner: S,
+}
+
+impl<S: Counted<Item = i64> + Drop> Stream for Bell<S> {
+    type Item = i64;
+
+    ghost run = { AnyAnswers };
+
+    ghost hints = { NoHint };
+
+    ghost laws = { anything_stream };
+
+    fn poll_next(&mut self, cx: &mut Context<'_>) -> Poll<Option<i64>> {
+        let _: Poll<()> = cx.yield_now();
+        self.inner.poll_next(cx)
+    }
+
+    fn size_hint(&self) -> (usize, Option<usize>) {
+        self.inner.size_hint()
+    }
+}
+
+impl<S: Counted<Item = i64> + Drop> Counted for Bell<S> {
+    ghost ranks = { ? };
+
+    ghost counting = { ? };
+}
+
+impl<F: Future<Output = i64> + Drop> Future for Bell<F> {
+    type Output = i64;
+
+    ghost run = { AnyValue };
+
+    ghost laws = { anything_future };
+
+    fn poll(&mut self, cx: &mut Context<'_>) -> Poll<i64> {
+        let _: Poll<()> = cx.yield_now();
+        self.inner.poll(cx)
     }
 }

@@ -12,13 +12,15 @@ use crate::words::{Fault, Words};
 use crate::{future_nest, io_case, wakes};
 use futures::task::Solo;
 use futures_lite::Context;
-use std::alloc::Global;
+use std::alloc::{AllocGlobal, Global};
+use std::sync::Wait;
 
 /// A stream of at most three adapters, one over the other.
 pub(crate) type Nest = Layer<Kid<Layer<Kid<Layer<Kid<Leaf>>>>>>;
 
-/// What is printed of a case. What makes contexts of its own makes them of `solo`.
-pub(crate) fn answered(
+/// What is printed of a case. What makes contexts of its own makes them of `solo`, and what waits does so by `rt`.
+pub(crate) fn answered<R: Wait + AllocGlobal + Copy + Drop>(
+    rt: R,
     alloc: Global,
     cx: &mut Context<'_>,
     solo: &Solo,
@@ -31,7 +33,7 @@ pub(crate) fn answered(
     };
     match words.take()? {
         "io" => {
-            io_case::answered(alloc, cx, words, polls, &mut answers.text)?;
+            io_case::answered(rt, alloc, cx, words, polls, &mut answers.text)?;
             return Ok(answers.text);
         }
         "future" => future_nest::answered(alloc, cx, words, &mut answers)?,

@@ -3,7 +3,7 @@ ghost use Rattle.futures_lite.specs.Own.{AnyValue, anything_future};
 
 use crate::answers::Answers;
 use crate::bits::Bits;
-use crate::bursts::Later;
+use crate::bursts::{Bell, Later};
 use crate::closures::{ok_of, pair_of};
 use crate::kid::Kid;
 use crate::leaf::Build;
@@ -62,6 +62,7 @@ fn drive<F: Future<Output = i64>>(
 pub(crate) enum Plain {
     Ready(Ready<i64>),
     Later(Later),
+    Bell(Bell<Later>),
     Never(Pending<i64>),
     Yield(YieldNow),
 }
@@ -77,6 +78,7 @@ impl Future for Plain {
         match self {
             Plain::Ready(f) => f.poll(cx),
             Plain::Later(f) => f.poll(cx),
+            Plain::Bell(f) => f.poll(cx),
             Plain::Never(f) => f.poll(cx),
             Plain::Yield(f) => match f.poll(cx) {
                 Poll::Ready(()) => Poll::Ready(0),
@@ -90,16 +92,21 @@ impl Build for Plain {
     fn build(_alloc: Global, words: &mut Words<'_>) -> Result<Plain, Fault> {
         match words.take()? {
             "ready" => Ok(Plain::Ready(future::ready(words.signed()?))),
-            "later" => {
-                let left = words.number()?;
-                let value = words.signed()?;
-                Ok(Plain::Later(Later { left, value }))
-            }
+            "later" => Ok(Plain::Later(later_of(words)?)),
+            "bell" => Ok(Plain::Bell(Bell {
+                inner: later_of(words)?,
+            })),
             "never" => Ok(Plain::Never(future::pending())),
             "yield" => Ok(Plain::Yield(future::yield_now())),
             _ => Err(Fault::Words),
         }
     }
+}
+
+fn later_of(words: &mut Words<'_>) -> Result<Later, Fault> {
+    let left = words.number()?;
+    let value = words.signed()?;
+    Ok(Later { left, value })
 }
 
 /// A future whose value may fail.

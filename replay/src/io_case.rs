@@ -1,12 +1,16 @@
 //! A case of readers and writers.
 use crate::io_run::Run;
 use crate::words::{Fault, Words};
-use crate::{io_bridges, io_copying, io_cursors, io_journals, io_lending, io_reading, io_writing};
+use crate::{
+    io_bridges, io_copying, io_cursors, io_halves, io_journals, io_lending, io_reading, io_writing,
+};
 use futures_lite::Context;
-use std::alloc::Global;
+use std::alloc::{AllocGlobal, Global};
+use std::sync::Wait;
 
-/// Runs the case that the words name.
-pub(crate) fn answered(
+/// Runs the case that the words name. What waits does so by `rt`.
+pub(crate) fn answered<R: Wait + AllocGlobal + Copy + Drop>(
+    rt: R,
     alloc: Global,
     cx: &mut Context<'_>,
     words: &mut Words<'_>,
@@ -21,6 +25,7 @@ pub(crate) fn answered(
         || io_cursors::answered(mode, &mut run, words)?
         || io_copying::answered(mode, &mut run, words)?
         || io_journals::answered(mode, &mut run, words)?
+        || io_halves::answered(rt, mode, &mut run, words)?
         || io_bridges::answered(mode, &mut run, words)?;
     // Calls may be left where no polls are.
     if is_known && (words.words.is_empty() || !run.has_polls()) {

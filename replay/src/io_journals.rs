@@ -11,7 +11,7 @@ use futures_lite::io::{
 };
 use futures_lite::{Context, Poll};
 use lite_mock::Marks;
-use std::alloc::Global;
+use std::alloc::{AllocError, Global};
 use std::io;
 
 /// Runs a case of one of these modes; `false`: `mode` is none of them.
@@ -40,14 +40,18 @@ pub(crate) fn answered(
 
 /// A stream that is read by a script and written by orders.
 #[derive(Clone, Drop)]
-struct Duplex {
+pub(crate) struct Duplex {
     reader: Marks,
     writer: Ordered,
 }
 
 impl Duplex {
     /// The stream of the words `M:.. WRITES FLUSHES CLOSES`, of which `word` is the first.
-    fn build(alloc: Global, word: &str, words: &mut Words<'_>) -> Result<Duplex, Fault> {
+    pub(crate) fn build(
+        alloc: Global,
+        word: &str,
+        words: &mut Words<'_>,
+    ) -> Result<Duplex, Fault> {
         let Some(marks) = word.strip_prefix("M:") else {
             return Err(Fault::Words);
         };
@@ -91,7 +95,7 @@ impl AsyncWrite for Duplex {
 }
 
 /// A stream that can be shown.
-trait Shown {
+pub(crate) trait Shown {
     fn show(&self, run: &mut Run<'_, '_>) -> Result<(), Fault>;
 }
 
@@ -124,6 +128,14 @@ fn journalled<T: AsyncRead + AsyncWrite + Shown + Clone + Drop>(
     } else {
         call(run, &mut journal, words)?;
     }
+    show(run, journal)
+}
+
+/// Shows the entries of a journal, its start, and the stream as it is now.
+pub(crate) fn show<T: AsyncRead + AsyncWrite + Shown + Clone + Drop>(
+    run: &mut Run<'_, '_>,
+    journal: Journal<T>,
+) -> Result<(), Fault> {
     run.part("[")?;
     for entry in journal.entries() {
         shown(run, entry)?;
@@ -161,17 +173,28 @@ fn drive<T: AsyncRead + AsyncWrite + Clone>(
         let calls = list_of(run.alloc, words)?;
         let mut answers = Vec::new(run.alloc);
         let driven = journal.drive(run.poll(), calls.as_slice(), &mut answers);
-        for answer in &answers {
-            told(run, answer)?;
-        }
-        if driven.is_err() {
-            run.word("refused")?;
-        }
+        answers_of(run, driven, answers.as_slice())?;
     }
     Ok(())
 }
 
-fn list_of(alloc: Global, words: &mut Words<'_>) -> Result<Vec<Call>, Fault> {
+/// The answers to a list of calls, and whether memory was refused to it.
+pub(crate) fn answers_of(
+    run: &mut Run<'_, '_>,
+    driven: Result<(), AllocError>,
+    answers: &[Answer],
+) -> Result<(), Fault> {
+    for answer in answers {
+        told(run, answer)?;
+    }
+    match driven {
+        Ok(()) => Ok(()),
+        Err(AllocError) => run.word("refused"),
+    }
+}
+
+/// The calls up to the word `then`, or to the end.
+pub(crate) fn list_of(alloc: Global, words: &mut Words<'_>) -> Result<Vec<Call>, Fault> {
     let mut calls = Vec::new(alloc);
     while !words.first().is_empty() {
         if words.first() == "then" {

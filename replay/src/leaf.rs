@@ -1,7 +1,7 @@
 //! The sources.
 ghost use Rattle.futures_lite.specs.Own.{AnyAnswers, NoHint, anything_stream};
 
-use crate::bursts::{Later, TryStep, UnfoldStep};
+use crate::bursts::{Bell, Later, TryStep, UnfoldStep};
 use crate::closures::{later, try_unfolding, unfolding};
 use crate::trying::either;
 use crate::words::{Fault, Words, answers_of, numbers_of};
@@ -29,6 +29,7 @@ fn eleven() -> i64 {
 #[derive(Drop)]
 pub(crate) enum Leaf {
     Script(Script<i64>),
+    Bell(Bell<Script<i64>>),
     Iter(Iter<IntoIter<i64>>),
     Once(Once<i64>),
     Empty(Empty<i64>),
@@ -38,6 +39,7 @@ pub(crate) enum Leaf {
     Repeats(Repeat<i64>),
     Cycle(Take<Cycle<Script<i64>>>),
     CycleTake(Take<Cycle<Take<Script<i64>>>>),
+    CycleBell(Take<Cycle<Bell<Script<i64>>>>),
     CycleChain(Take<Cycle<Chain<Script<i64>, Script<i64>>>>),
     RepeatWith(Take<RepeatWith<fn() -> i64>>),
     RepeatsWith(RepeatWith<fn() -> i64>),
@@ -68,6 +70,7 @@ impl Stream for Leaf {
     fn poll_next(&mut self, cx: &mut Context<'_>) -> Poll<Option<i64>> {
         match self {
             Leaf::Script(s) => s.poll_next(cx),
+            Leaf::Bell(s) => s.poll_next(cx),
             Leaf::Iter(s) => s.poll_next(cx),
             Leaf::Once(s) => s.poll_next(cx),
             Leaf::Empty(s) => s.poll_next(cx),
@@ -77,6 +80,7 @@ impl Stream for Leaf {
             Leaf::Repeats(s) => opened(s.poll_next(cx)),
             Leaf::Cycle(s) => opened(s.poll_next(cx)),
             Leaf::CycleTake(s) => opened(s.poll_next(cx)),
+            Leaf::CycleBell(s) => opened(s.poll_next(cx)),
             Leaf::CycleChain(s) => opened(s.poll_next(cx)),
             Leaf::RepeatWith(s) => s.poll_next(cx),
             Leaf::RepeatsWith(s) => s.poll_next(cx),
@@ -94,6 +98,7 @@ impl Stream for Leaf {
     fn size_hint(&self) -> (usize, Option<usize>) {
         match self {
             Leaf::Script(s) => s.size_hint(),
+            Leaf::Bell(s) => s.size_hint(),
             Leaf::Iter(s) => s.size_hint(),
             Leaf::Once(s) => s.size_hint(),
             Leaf::Empty(s) => s.size_hint(),
@@ -103,6 +108,7 @@ impl Stream for Leaf {
             Leaf::Repeats(s) => s.size_hint(),
             Leaf::Cycle(s) => s.size_hint(),
             Leaf::CycleTake(s) => s.size_hint(),
+            Leaf::CycleBell(s) => s.size_hint(),
             Leaf::CycleChain(s) => s.size_hint(),
             Leaf::RepeatWith(s) => s.size_hint(),
             Leaf::RepeatsWith(s) => s.size_hint(),
@@ -144,6 +150,9 @@ impl Build for Leaf {
             return Ok(leaf);
         }
         match word {
+            "bell" => Ok(Leaf::Bell(Bell {
+                inner: script_of(alloc, words)?,
+            })),
             "once" => Ok(Leaf::Once(stream::once(words.signed()?))),
             "empty" => Ok(Leaf::Empty(stream::empty())),
             "pending" => Ok(Leaf::Pending(stream::pending())),
@@ -195,6 +204,13 @@ fn again(word: &str, alloc: Global, words: &mut Words<'_>) -> Result<Option<Leaf
             let n = words.number()?;
             let most = words.number()?;
             Leaf::CycleTake(cycle_of(script_of(alloc, words)?.take(most))?.take(n))
+        }
+        "cyclebell" => {
+            let n = words.number()?;
+            let bell = Bell {
+                inner: script_of(alloc, words)?,
+            };
+            Leaf::CycleBell(cycle_of(bell)?.take(n))
         }
         "cyclechain" => {
             let n = words.number()?;

@@ -13,6 +13,7 @@ mod io_calls;
 mod io_case;
 mod io_copying;
 mod io_cursors;
+mod io_halves;
 mod io_journals;
 mod io_lending;
 mod io_reading;
@@ -45,6 +46,7 @@ fn main(rt: HostRuntime) -> io::Result<()> {
         let words: Vec<&str> = line.split(' ').collect(rt.alloc())?;
         let mut cx = solo.begin();
         let answer = answered(
+            &rt,
             rt.alloc(),
             &mut cx,
             &other,

@@ -8,22 +8,26 @@ use futures::task::{Solo, Source};
 use futures_lite::{Context, Future, Poll, Stream, StreamExt};
 use std::alloc::{AllocError, Global};
 
-/// Polls a stream, or `drain` of it; a star stands before the answer of a poll that woke its task.
+/// Polls a stream, `drain` of it or `count` of it; a star stands before the answer of a poll that woke its task.
 pub(crate) fn of_stream(
     alloc: Global,
     solo: &Solo,
     words: &mut Words<'_>,
     answers: &mut Answers,
 ) -> Result<(), Fault> {
-    let is_drained = words.first() == "drain";
-    if is_drained {
-        words.take()?;
-    }
-    let mut nest = Nest::build(alloc, words)?;
-    if is_drained {
-        polled(solo, &mut nest.drain(), answers)?;
-    } else {
-        polled(solo, &mut nest, answers)?;
+    let ahead = words.words;
+    match words.take()? {
+        "drain" => polled(solo, &mut Nest::build(alloc, words)?.drain(), answers)?,
+        "count" => {
+            let mut count = Nest::build(alloc, words)?.count();
+            if let Some(n) = waited(solo, &mut count, answers)? {
+                answers.size(n)?;
+            }
+        }
+        _ => {
+            words.words = ahead;
+            polled(solo, &mut Nest::build(alloc, words)?, answers)?;
+        }
     }
     Ok(())
 }
@@ -53,16 +57,28 @@ pub(crate) fn of_future(
     answers: &mut Answers,
 ) -> Result<(), Fault> {
     let mut nest = future_nest::Nest::build(alloc, words)?;
+    if let Some(value) = waited(solo, &mut nest, answers)? {
+        answers.number(value)?;
+    }
+    Ok(())
+}
+
+/// Polls a future up to its value, which is not printed.
+fn waited<F: Future<Output: Drop>>(
+    solo: &Solo,
+    future: &mut F,
+    answers: &mut Answers,
+) -> Result<Option<F::Output>, AllocError> {
     for _ in 0..answers.polls {
         let mut cx = solo.begin();
-        let answer = nest.poll(&mut cx);
+        let answer = future.poll(&mut cx);
         answers.star(is_woken(solo, cx))?;
         match answer {
             Poll::Pending => answers.word("P")?,
-            Poll::Ready(value) => return Ok(answers.number(value)?),
+            Poll::Ready(value) => return Ok(Some(value)),
         }
     }
-    Ok(())
+    Ok(None)
 }
 
 /// Ends the context, and tells whether its task was woken while it stood.

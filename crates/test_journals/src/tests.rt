@@ -1,10 +1,7 @@
-mod entries;
 mod gate;
 mod journal;
-mod journalled;
 mod pipe;
 mod refused;
 mod replays;
-mod split;
 mod steps;
 mod threads;

@@ -50,6 +50,28 @@ fn zip_polls_each_future_up_to_its_value(rt: HostRuntime) -> Result<(), Fail> {
 }
 
 #[test]
+fn zip_and_try_zip_poll_the_first_before_the_second(rt: HostRuntime) -> Result<(), Fail> {
+    let polls = AtomicU64::new(0);
+    let first = future::poll_fn(|_cx: &mut Context<'_>| Poll::Ready(polls.fetch_add(1, SeqCst)));
+    let second = future::poll_fn(|_cx: &mut Context<'_>| Poll::Ready(polls.fetch_add(1, SeqCst)));
+    let got = polled(&rt, &mut future::zip(first, second), 1)?;
+    assert_eq!(rt; got.as_slice(), [Poll::Ready((0, 1))].as_slice());
+    let first = future::poll_fn(|_cx: &mut Context<'_>| Poll::Ready(Ok(polls.fetch_add(
+        1, SeqCst,
+    ))));
+    let second = future::poll_fn(|_cx: &mut Context<'_>| Poll::Ready(Ok(polls.fetch_add(
+        1, SeqCst,
+    ))));
+    let got: Vec<Poll<Result<(u64, u64), u8>>> = polled(
+        &rt,
+        &mut future::try_zip(first, second),
+        1,
+    )?;
+    assert_eq!(rt; got.as_slice(), [Poll::Ready(Ok((2, 3)))].as_slice());
+    Ok(())
+}
+
+#[test]
 fn try_zip_polls_no_second_after_an_error(rt: HostRuntime) -> Result<(), Fail> {
     let polls = AtomicU64::new(0);
     let second = future::poll_fn(|_cx: &mut Context<'_>| {

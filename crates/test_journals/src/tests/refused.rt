@@ -1,10 +1,9 @@
 ghost use Rattle.std.specs.Prelude.{◌≡◌};
 
-use futures::task::{Doorbell, Solo};
 use futures_lite::Poll;
 use futures_lite::io::{
-    Answer, AsyncRead, AsyncWrite, Blanks, Books, Call, Cursor, ErrorKind, Journal,
-    JournalReadHalf, JournalWriteHalf, history, split_journalled,
+    self, AsyncRead, AsyncWrite, Blanks, Books, Call, Cursor, ErrorKind, Journal, JournalReadHalf,
+    JournalWriteHalf, history, split_journalled,
 };
 use std::alloc::{AllocError, AllocGlobal};
 use std::marker::Brand;
@@ -12,83 +11,13 @@ use std::process::Abort;
 use std::random::RandomSource;
 use std::sync::Wait;
 use std::test::Fail;
-use test_support::{Refusing, are, got, journal_on, reads_byte, try_read, try_write, write};
+use test_support::{
+    Refusing, are, cursor_on, got, journal_on, reads_byte, try_read, try_write, write,
+};
 
 type VecCursor = Cursor<Vec<u8>>;
 
-/// Drives a half over the reader of `xy`, first also into room for which there is no memory; that is asserted to stop it.
-fn assert_drives_on<R, B>(
-    rt: R,
-    reader: &mut JournalReadHalf<R, VecCursor, B>,
-    out: &mut Vec<Answer>,
-) -> Result<(), Fail>
-where
-    R: Wait + Abort + RandomSource + AllocGlobal + Copy,
-    B: Books,
-{
-    let solo = Solo::new(&rt, Doorbell::spinning())?;
-    let mut cx = solo.begin();
-    let refused = reader.drive(&mut cx, &[1, usize::MAX, 1], out);
-    let before = out.len();
-    let driven = reader.drive(&mut cx, &[1, 1], out);
-    cx.cancel();
-    assert_eq!(rt; refused, Err(AllocError));
-    driven?;
-    if before == 0 {
-        return Err(Fail::from("memory"));
-    }
-    Ok(())
-}
-
-/// Asserts that the answers are those of three reads of `xy` by one byte.
-fn assert_read_to_the_end<R: Abort + AllocGlobal + Copy>(
-    rt: R,
-    out: &[Answer],
-) -> Result<(), Fail> {
-    let (first, second) = (got(rt.alloc(), b"x")?, got(rt.alloc(), b"y")?);
-    let answers = [first, second, Answer::Read(Vec::new(rt.alloc()))];
-    assert_eq!(rt; out, answers.as_slice());
-    Ok(())
-}
-
-/// Two lists of reads by a half, of which one is cut short, and what is told of them.
-fn drive_again<R, B>(
-    rt: R,
-    reader: &mut JournalReadHalf<R, VecCursor, B>,
-    writer: &mut JournalWriteHalf<R, VecCursor, B>,
-) -> Result<(), Fail>
-where
-    R: Wait + Abort + RandomSource + AllocGlobal + Copy,
-    B: Books,
-{
-    let mut out = Vec::new(rt.alloc());
-    assert_drives_on(rt, reader, &mut out)?;
-    assert_read_to_the_end(rt, &out)?;
-    assert_eq!(rt; (reader.calls(), reader.bytes()), (3, 2));
-    assert_eq!(rt; history(reader, writer)?.entries().len(), 3);
-    Ok(())
-}
-
-fn refused_room<R, B>(rt: R, journal: Journal<VecCursor>, blanks: Blanks) -> Result<(), Fail>
-where
-    R: Wait + Abort + RandomSource + AllocGlobal + Copy,
-    B: Books,
-    requires { blanks ≡ B.names }
-{
-    let Ok((mut reader, mut writer)) = split_journalled::<R, VecCursor, B>(rt, journal, blanks)
-    else {
-        return Err(Fail::from("memory"));
-    };
-    drive_again(rt, &mut reader, &mut writer)
-}
-
-#[test]
-fn a_refused_read_of_a_half_reaches_nothing(rt: HostRuntime) -> Result<(), Fail> {
-    let journal = journal_on(rt.alloc(), b"xy")?;
-    refused_room::<HostRuntime, Brand>(rt, journal, Blanks::new())
-}
-
-// Memory is refused in the next two where a test is run with allocations that fail.
+// Memory is refused in the next where a test is run with allocations that fail.
 
 /// Whether memory was found for a read of one byte, which is asserted to give `x` then.
 fn finds_memory_to_read<R, S>(rt: R, reader: &mut S) -> Result<bool, Fail>
@@ -197,5 +126,17 @@ fn a_refused_split_hands_the_journal_back(rt: HostRuntime) -> Result<(), Fail> {
         )
     );
     assert_eq!(rt; back.into_inner().position(), 1);
+    Ok(())
+}
+
+#[test]
+fn a_refused_split_hands_the_stream_back(rt: HostRuntime) -> Result<(), Fail> {
+    let mut cursor = cursor_on(rt.alloc(), b"xy")?;
+    cursor.set_position(1);
+    let Err(back) = io::split(Refusing { rt }, cursor) else {
+        return Err(Fail::from("nothing was refused"));
+    };
+    assert_eq!(rt; back.position(), 1);
+    assert_eq!(rt; back.into_inner().as_slice(), b"xy".as_slice());
     Ok(())
 }

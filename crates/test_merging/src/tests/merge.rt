@@ -1,5 +1,7 @@
 use super::always::Always;
-use futures_lite::{Poll, StreamExt, stream};
+use futures_lite::{Context, Poll, StreamExt, stream};
+use std::sync::atomic::AtomicU64;
+use std::sync::atomic::Ordering::SeqCst;
 use std::test::Fail;
 use test_support::{answers, firm, item, polled};
 
@@ -11,6 +13,16 @@ fn a_clone_of_a_zip_goes_on_from_where_it_is(rt: HostRuntime) -> Result<(), Fail
     let got = answers(&rt, &mut pairs.clone()?, 3)?;
     let expected = [item((2, 5)), item((3, 6)), Poll::Ready(None)];
     assert_eq!(rt; got.as_slice(), expected.as_slice());
+    Ok(())
+}
+
+#[test]
+fn zip_polls_the_first_before_the_second(rt: HostRuntime) -> Result<(), Fail> {
+    let polls = AtomicU64::new(0);
+    let first = stream::poll_fn(|_cx: &mut Context<'_>| item(polls.fetch_add(1, SeqCst)));
+    let second = stream::poll_fn(|_cx: &mut Context<'_>| item(polls.fetch_add(1, SeqCst)));
+    let got = answers(&rt, &mut first.zip(second), 2)?;
+    assert_eq!(rt; got.as_slice(), [item((0, 1)), item((2, 3))].as_slice());
     Ok(())
 }
 
