@@ -3,9 +3,10 @@ use crate::io_run::Run;
 use crate::io_words::bytes_of;
 use crate::readers::{BuildReader, Nest};
 use crate::words::{Fault, Words};
-use crate::writers::{buf_writer_of, writer_of};
+use crate::writers::{Ordered, buf_writer_of, writer_of};
 use futures_lite::AsyncWriteExt;
-use futures_lite::io::{self as lite, AsyncWrite, CountedRead};
+use futures_lite::io::{self as lite, AsyncWrite, BufWriter, CountedRead};
+use futures_lite::laws::copy_buffered;
 
 /// Runs a case of one of these modes; `false`: `mode` is none of them.
 pub(crate) fn answered(
@@ -16,7 +17,7 @@ pub(crate) fn answered(
     match mode {
         "copy" => copy(run, words)?,
         "copies" => copies(run, words)?,
-        "copybuf" => copy_buffered(run, words)?,
+        "copybuf" => copy_to_buffered(run, words)?,
         "copyheld" => copy_held(run, words)?,
         _ => return Ok(false),
     }
@@ -56,13 +57,27 @@ fn copies(run: &mut Run<'_, '_>, words: &mut Words<'_>) -> Result<(), Fault> {
     Ok(())
 }
 
-/// `copybuf CAPACITY WRITER NEST`: one copy to a buffered writer; what is held and what was taken is shown at last.
-fn copy_buffered(run: &mut Run<'_, '_>, words: &mut Words<'_>) -> Result<(), Fault> {
-    let mut writer = buf_writer_of(run.alloc, words)?;
-    let reader = Nest::build(run.alloc, words)?;
-    copy_once(run, reader, &mut writer)?;
+/// One copy to a buffered writer; what is held and what was taken is shown at last.
+fn buffered<R: CountedRead + Drop>(
+    run: &mut Run<'_, '_>,
+    reader: R,
+    mut writer: BufWriter<Ordered>,
+) -> Result<(), Fault> {
+    {
+        let Ok(mut future) = copy_buffered(run.alloc, reader, &mut writer) else {
+            return Err(Fault::Memory);
+        };
+        let copied = run.finish(&mut future)?;
+        run.given(copied)?;
+    }
     run.bytes(writer.buffer())?;
     run.bytes(writer.get_ref().taken.as_slice())
+}
+
+/// `copybuf CAPACITY WRITER NEST`: one copy to a buffered writer.
+fn copy_to_buffered(run: &mut Run<'_, '_>, words: &mut Words<'_>) -> Result<(), Fault> {
+    let writer = buf_writer_of(run.alloc, words)?;
+    buffered(run, Nest::build(run.alloc, words)?, writer)
 }
 
 /// `copyheld HEX CAPACITY WRITER NEST`: a write of these bytes to a buffered writer, and then as `copybuf`.
@@ -73,7 +88,5 @@ fn copy_held(run: &mut Run<'_, '_>, words: &mut Words<'_>) -> Result<(), Fault> 
     let written = run.finish(&mut writer.write(bytes.as_slice()))?;
     run.given(written)?;
     run.bytes(writer.buffer())?;
-    copy_once(run, reader, &mut writer)?;
-    run.bytes(writer.buffer())?;
-    run.bytes(writer.get_ref().taken.as_slice())
+    buffered(run, reader, writer)
 }

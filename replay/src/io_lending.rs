@@ -6,8 +6,8 @@ use crate::io_words::{byte_of, bytes_of, text_of};
 use crate::lenders::Lender;
 use crate::readers::{BuildReader, Nest};
 use crate::words::{Fault, Words};
-use futures_lite::io::{AsyncBufRead, CountedRead};
-use futures_lite::laws::collect_lines;
+use futures_lite::io::{AsyncBufRead, AsyncRead, BufReader, CountedRead};
+use futures_lite::laws::{CollectLinesFuture, collect_buffered_lines, collect_lines};
 use futures_lite::stream::{Stream, TryCollectError};
 use futures_lite::{AsyncBufReadExt, Poll};
 
@@ -28,6 +28,7 @@ pub(crate) fn answered(
         "mixed" => mixed(run, words)?,
         "lends" => lends(run, words)?,
         "collect" => collect(run, words)?,
+        "collectbuf" => collect_rest(run, words)?,
         _ => return Ok(false),
     }
     Ok(true)
@@ -205,9 +206,33 @@ fn lends(run: &mut Run<'_, '_>, words: &mut Words<'_>) -> Result<(), Fault> {
 fn collect(run: &mut Run<'_, '_>, words: &mut Words<'_>) -> Result<(), Fault> {
     let limit = words.number()? as u64;
     let reader = Nest::build(run.alloc, words)?;
-    let Ok(mut future) = collect_lines::<_, Vec<String>>(run.alloc, reader, limit, run.alloc) else {
+    match collect_lines(run.alloc, reader, limit, run.alloc) {
+        Ok(future) => collected(run, future),
+        Err(_) => Err(Fault::Memory),
+    }
+}
+
+/// `collectbuf CAPACITY SIZE LIMIT NEST`: a read from a buffered reader, and then the lines of the first bytes of what is left of it.
+fn collect_rest(run: &mut Run<'_, '_>, words: &mut Words<'_>) -> Result<(), Fault> {
+    let capacity = words.number()?;
+    let mut room = room_of(run, words)?;
+    let limit = words.number()? as u64;
+    let nest = Nest::build(run.alloc, words)?;
+    let Ok(mut reader) = BufReader::with_capacity(run.alloc, capacity, nest) else {
         return Err(Fault::Memory);
     };
+    match reader.poll_read(run.poll(), room.as_mut_slice()) {
+        Poll::Pending => run.word("P")?,
+        Poll::Ready(read) => run.read(read, room.as_slice())?,
+    }
+    let future = collect_buffered_lines(run.alloc, reader, limit, run.alloc);
+    collected(run, future)
+}
+
+fn collected<R: CountedRead + Drop>(
+    run: &mut Run<'_, '_>,
+    mut future: CollectLinesFuture<R, Vec<String>>,
+) -> Result<(), Fault> {
     match run.finish(&mut future)? {
         None => Ok(()),
         Some(Ok(lines)) => {

@@ -15,3 +15,8 @@ pub use Rattle.lite_nests.specs.Laws.Each
 pub use Rattle.lite_nests.specs.Laws.Fronts
 pub use Rattle.lite_nests.specs.Laws.Items
 pub use Rattle.lite_nests.specs.Laws.Sources
+-- that a collection of a merge has all items: `or_collected`, `race_collected`
+pub use Rattle.lite_interleave.specs.Laws.Collected
+pub use Rattle.lite_interleave.specs.Laws.Or
+pub use Rattle.lite_interleave.specs.Laws.Race
+pub use Rattle.lite_interleave.specs.Laws.Rows

@@ -1,10 +1,10 @@
--- A copy of two readers, one after the other, to a buffered writer.
-use Rattle.std.specs.Prelude.{◌≡◌, ◌%◌, ◌^◌, ℕ, List, [], ◌∷◌, ◌++◌, length, Result, Ok}
+-- A copy to a buffered writer, also of two readers, one after the other.
+use Rattle.std.specs.Prelude.{◌≡◌, ◌%◌, ◌^◌, ℕ, Bool, true, false, List, [], ◌∷◌, ◌++◌, length, Result, Ok}
 use Rattle.futures.specs.declared.task.Poll.{Poll}
 use Rattle.lite_base.specs.Answers.{Gives}
 use Rattle.lite_buf_writer.specs.BufWriter.{held, inner_of}
 use Rattle.lite_buf_writer.specs.declared.buf_writer.BufWriter.{BufWriter}
-use Rattle.lite_io.specs.Chain.{first_of, second_of}
+use Rattle.lite_io.specs.Chain.{first_of, has_ended, second_of}
 use Rattle.lite_io.specs.declared.chain.Chain.{Chain}
 use Rattle.lite_io_base.specs.Marks.{Mark}
 use Rattle.lite_io_base.specs.Runs.{Runs}
@@ -26,8 +26,30 @@ pub record TakesWhole {W : Type 0} (writes : Runs Taking W) (x : W) (xs : List �
   pub all : bytes_of taken ≡ xs
   pub went : writes x (taken ++ Taking.flushed ∷ []) y
 
--- Both readers told all up to their first ends. The inner writer took what was held, and then the bytes of the one and of the
--- other, and was flushed. Nothing is held any more, and n is how many bytes were copied, in 64 bits.
+-- The reader told all up to its first end. The inner writer took what was held, and then those bytes, and was flushed. Nothing is
+-- held any more, and n is how many bytes were copied, in 64 bits.
+pub record CopiesWhole {R W : Type 0} (reads : Runs Mark R) (writes : Runs Taking W) (r : R) (w : BufWriter W) (y : CopyFuture R (MutBor (BufWriter W)))
+    (n : ℕ) : Type 0 where
+  pub all : List ℕ
+  pub told : TellsWhole reads r all (source_of y)
+  pub took : TakesWhole writes (inner_of w) (held w ++ all) (inner_of y.writer.now)
+  pub empty : held y.writer.now ≡ []
+  pub count : n ≡ length all % 2 ^ 64
+
+-- by whether the reader had ended before: it is read no more and tells nothing, or it tells these bytes whole
+abbrev pub TellsRest : {R : Type 0} → Bool → Runs Mark R → R → List ℕ → R → Type 0
+TellsRest true reads x xs y = (xs ≡ []) × (y ≡ x)
+TellsRest false reads x xs y = TellsWhole reads x xs y
+
+-- a chain told these bytes: all that was left of the first reader, and then all of the second
+pub record TellsBoth {R S : Type 0} (first : Runs Mark R) (second : Runs Mark S) (x : Chain R S) (xs : List ℕ) (y : Chain R S) : Type 0 where
+  pub firsts : List ℕ
+  pub seconds : List ℕ
+  pub first_told : TellsRest (has_ended x) first (first_of x) firsts (first_of y)
+  pub second_told : TellsWhole second (second_of x) seconds (second_of y)
+  pub all : xs ≡ firsts ++ seconds
+
+-- the same of two readers, one after the other
 pub record CopiesBoth {R S W : Type 0} (first : Runs Mark R) (second : Runs Mark S) (writes : Runs Taking W) (r : R) (s : S) (w : BufWriter W)
     (y : CopyFuture (Chain R S) (MutBor (BufWriter W))) (n : ℕ) : Type 0 where
   pub firsts : List ℕ

@@ -1,8 +1,8 @@
-//! What comes through a chain, a copy and a buffered writer, by their contracts alone.
+//! What comes through a copy to a buffered writer, also of a chain, by the contracts of the traits alone.
 ghost use Rattle.std.specs.Prelude.{◌≡◌, IfErr, IfOk, false};
 ghost use Rattle.lite_base.specs.Lent.{Lent};
 ghost use Rattle.lite_buf_writer.specs.BufWriter.{Buffers};
-ghost use Rattle.lite_copy.specs.Chained.{AtEachOk, CopiesBoth};
+ghost use Rattle.lite_copy.specs.Chained.{AtEachOk, CopiesBoth, CopiesWhole};
 ghost use Rattle.lite_copy.specs.Copy.{Begins, Copies, source_of};
 ghost use Rattle.lite_io.specs.Chain.{Chains, first_of, has_ended, second_of};
 
@@ -13,6 +13,29 @@ use lite_io::Chain;
 use lite_io::make::chain;
 use lite_io_base::{AsyncWrite, CountedRead};
 use std::alloc::Global;
+
+/// The future of a copy of what `reader` gives up to its first end, to `writer`. Where it gives `Ok`, in however many polls and
+/// wherever the two were pending, the inner writer took what `writer` held before and then exactly those bytes, in their order,
+/// and was flushed; nothing is held any more, and the value is how many were copied, in 64 bits.
+///
+/// It is the future that [`copy`] makes; it may be polled where the rank of the reader counts. `Err` is that of `copy`: there was
+/// no memory for its buffer. The reader may be a chain at any point of its life, or one of chains: what it told is then what was
+/// left of each of its readers (the lemma `tells_both`). The original has no such call.
+pub fn copy_buffered<'a, R, W>(
+    alloc: Global,
+    reader: R,
+    writer: &'a mut BufWriter<W>,
+) -> Result<CopyFuture<R, &'a mut BufWriter<W>>, (R, &'a mut BufWriter<W>)>
+where
+    R: CountedRead + Drop,
+    W: AsyncWrite,
+    ensures reader { IfOk result (λ f. source_of f ≡ reader) }
+    ensures writer { IfOk result (λ f. f.writer ≡ writer.entry) }
+    ensures begins { IfOk result (λ f. Begins f) }
+    ensures whole { IfOk result (λ f. AtEachOk (Copies R.reads (Lent (Buffers W.writes))) f (CopiesWhole R.reads W.writes reader writer.old)) }
+{
+    copy(alloc, reader, writer)
+}
 
 /// The future of a copy of what `first` gives up to its first end, and then `second` up to its own, to `writer`. Where it
 /// gives `Ok`, in however many polls and wherever the three were pending, the inner writer took what `writer` held before
@@ -39,5 +62,5 @@ where
     ensures whole { IfOk result (λ f. AtEachOk (Copies (Chains R1.reads R2.reads) (Lent (Buffers W.writes))) f
         (CopiesBoth R1.reads R2.reads W.writes first second writer.old)) }
 {
-    copy(alloc, chain(first, second), writer)
+    copy_buffered(alloc, chain(first, second), writer)
 }

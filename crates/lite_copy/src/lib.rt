@@ -7,5 +7,5 @@ mod copy;
 pub mod make;
 mod steady;
 
-pub use chained::copy_chain;
+pub use chained::{copy_buffered, copy_chain};
 pub use copy::CopyFuture;

@@ -1,5 +1,5 @@
 ghost use Rattle.std.specs.Prelude.{◌≡◌, [], IfSome, IsSome, false};
-ghost use Rattle.lite_interleave.specs.Interleaving.{AtEachOk, HoldsBoth};
+ghost use Rattle.lite_interleave.specs.Interleaving.{AtEachOk, RaceHolds};
 
 use lite_base::{Counted, Future};
 use lite_gather::make::collect;
@@ -33,7 +33,7 @@ where
     } }
     ensures open { IsSome result.folder.collection }
     ensures empty { IfSome result.folder.collection (λ c. C.holds c []) }
-    ensures whole { AtEachOk ⟦<CollectFuture<Race<S1, S2, R>, C> as Future>⟧.run result (HoldsBoth C.holds S1.run S2.run first second) }
+    ensures whole { AtEachOk ⟦<CollectFuture<Race<S1, S2, R>, C> as Future>⟧.run result (RaceHolds C.holds S1.run S2.run [] result) }
 {
     collect(race(first, second, rng), alloc)
 }

@@ -5,10 +5,11 @@ use Rattle.lite_io.specs.Take.{Ends, Fits}
 use Rattle.lite_io_base.specs.Marks.{Mark, bytes}
 use Rattle.lite_pipeline.specs.Lines.{Line, limited, lines_told}
 
--- where there is a capacity and nothing is ahead
-pub passed : (n : ℕ) (came out : List Mark) (after : List ℕ) → 0 < n → Passes n [] came out after → came ≡ out ++ bytes after
-passed zero came out after some h = absurd (omega (arith, some))
-passed (suc n) came out after some h = h
+-- where there is a capacity
+pub passed : (n : ℕ) (before : List ℕ) (came out : List Mark) (after : List ℕ) → 0 < n → Passes n before came out after
+    → bytes before ++ came ≡ out ++ bytes after
+passed zero before came out after some h = absurd (omega (arith, some))
+passed (suc n) before came out after some h = h
 
 -- marks that fit
 fitted : (n rest : ℕ) (front l : List Mark) → Fits n front rest → limited n (front ++ l) ≡ front ++ limited rest l

@@ -10,7 +10,7 @@ use Rattle.futures.specs.declared.task.Poll.{Poll}
 use Rattle.lite_base.specs.Answers.{Gives}
 use Rattle.lite_gather.specs.declared.refused.TryCollectError.{TryCollectError}
 use Rattle.lite_gather.specs.declared.refused.TryCollectError.TheVariants.{Source, Memory}
-use Rattle.lite_io_base.specs.Marks.{Mark}
+use Rattle.lite_io_base.specs.Marks.{Mark, bytes}
 use Rattle.lite_io_base.specs.Runs.{Runs}
 use Rattle.lite_lines.specs.Texts.{without_return}
 
@@ -58,12 +58,12 @@ CollectsOf holds tale (Err (Memory m)) =
     × (lines_told [] tale ≡ as_lines texts ++ Ok (string_bytes m.item) ∷ rest)
 
 module _ {R C : Type 0} (reads : Runs Mark R) (holds : C → List (String Global) → Type 0) where
-  -- the reader told a tale, and the value is made of the lines of its first bytes
-  pub record CollectsLines (reader : R) (limit : ℕ) (value : Result C (TryCollectError C (String Global) Error)) : Type 0 where
+  -- the reader told a tale, and the value is made of the lines of the first bytes of what was ahead and of that tale
+  pub record CollectsLines (front : List ℕ) (reader : R) (limit : ℕ) (value : Result C (TryCollectError C (String Global) Error)) : Type 0 where
     pub tale : List Mark
     pub later : R
     pub told : reads reader tale later
-    pub collects : CollectsOf holds (limited limit tale) value
+    pub collects : CollectsOf holds (limited limit (bytes front ++ tale)) value
 
 -- P holds of the value x wherever the future gives one
 abbrev pub AtEachValue : {F V : Type 0} → (F → List (Poll V) → F → Type 0) → F → (V → Type 0) → Type 0

@@ -4,4 +4,4 @@
 
 mod lines;
 
-pub use lines::{CollectLinesFuture, collect_lines};
+pub use lines::{CollectLinesFuture, collect_buffered_lines, collect_lines};

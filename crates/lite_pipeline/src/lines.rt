@@ -1,4 +1,5 @@
-ghost use Rattle.std.specs.Prelude.{◌≡◌, IfErr, IfOk};
+ghost use Rattle.std.specs.Prelude.{◌≡◌, ◌<◌, [], IfErr, IfOk};
+ghost use Rattle.lite_io.specs.BufReader.{ahead, capacity_of, inner_of};
 ghost use Rattle.lite_pipeline.specs.Lines.{AtEachValue, CollectsLines};
 
 use lite_base::Future;
@@ -32,10 +33,32 @@ pub fn collect_lines<R, C>(
 where
     R: CountedRead + Drop,
     C: Gather<String, Alloc: Drop>,
-    ensures lines { IfOk result (λ f. AtEachValue ⟦<CollectLinesFuture<R, C> as Future>⟧.run f (CollectsLines R.reads C.holds reader limit)) }
+    ensures lines { IfOk result (λ f. AtEachValue ⟦<CollectLinesFuture<R, C> as Future>⟧.run f (CollectsLines R.reads C.holds [] reader limit)) }
     ensures pollable { IfOk result (λ f. R.ranks.counts reader → R.ranks.firm reader → ⟦<CollectLinesFuture<R, C> as Future>⟧.can_poll f) }
     ensures handed_back { IfErr result (λ r. r ≡ reader) }
 {
     let buffered = BufReader::new(alloc, reader)?;
-    Ok(try_collect(lines(take(buffered, limit), alloc), memory))
+    Ok(collect_buffered_lines(alloc, buffered, limit, memory))
+}
+
+/// The future of a collection of the lines of the first `limit` bytes of a buffered reader as it is: of what it has read ahead, and
+/// then of what its inner reader tells. It takes its memory from `memory`, and that of a line from `alloc`.
+///
+/// It is the future that `try_collect` makes of `lines` of `take` of `reader`, and its value is that of [`collect_lines`]. Nothing
+/// is said of a buffered reader of capacity 0, each fill of which looks like an end. The future may be polled where the rank of the
+/// inner reader counts and is firm. The original has no such call.
+pub fn collect_buffered_lines<R, C>(
+    alloc: Global,
+    reader: BufReader<R>,
+    limit: u64,
+    memory: C::Alloc,
+) -> CollectLinesFuture<R, C>
+where
+    R: CountedRead + Drop,
+    C: Gather<String, Alloc: Drop>,
+    ensures lines { 0 < capacity_of reader
+        → AtEachValue ⟦<CollectLinesFuture<R, C> as Future>⟧.run result (CollectsLines R.reads C.holds (ahead reader) (inner_of reader) limit) }
+    ensures pollable { R.ranks.counts (inner_of reader) → R.ranks.firm (inner_of reader) → ⟦<CollectLinesFuture<R, C> as Future>⟧.can_poll result }
+{
+    try_collect(lines(take(reader, limit), alloc), memory)
 }

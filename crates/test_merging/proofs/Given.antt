@@ -31,8 +31,8 @@ script_given (Ready (Some y) ∷ s) (Ready (Some z) ∷ own) t (x ∷ l) h e =
     let same : x ≡ y = (let d = h.0 in cc) in
     rw (sym same) (ap (λ k. x ∷ k) (script_given s own t l h.1 (cc e)))
 
-script_whole : {A : Type 0} (s : List (Answer A)) (l : List A) → GivesWhole Scripts s l → l ≡ items_given s
-script_whole s l h = script_given s h.0 h.1 l h.2 h.3
+script_whole : {A : Type 0} (s t : List (Answer A)) (l : List A) → GivesWhole Scripts s l t → l ≡ items_given s
+script_whole s t l h = script_given s h.0 t l h.1 h.2
 
 -- a value that comes last is the one that was given
 given_last : {A : Type 0} (l : List (Poll A)) (x : A) → UpToValue (l ++ Ready x ∷ []) → Gives (l ++ Ready x ∷ []) x
@@ -42,10 +42,10 @@ given_last (Ready y ∷ []) x u = absurd (cc u)
 given_last (Ready y ∷ b ∷ l) x u = absurd (cc u)
 
 -- what two scripts gave whole are the items of each before its first end
-pub scripts_given : {A : Type 0} (s u : List (Answer A)) (firsts seconds all : List A) → GivesWhole Scripts s firsts → GivesWhole Scripts u seconds
+pub scripts_given : {A : Type 0} (s t u v : List (Answer A)) (firsts seconds all : List A) → GivesWhole Scripts s firsts t → GivesWhole Scripts u seconds v
     → Interleaves firsts seconds all → Interleaves (items_given s) (items_given u) all
-scripts_given s u firsts seconds all h k merged =
-    subst (λ l. Interleaves (items_given s) l all) (script_whole u seconds k) (subst (λ l. Interleaves l seconds all) (script_whole s firsts h) merged)
+scripts_given s t u v firsts seconds all h k merged =
+    subst (λ l. Interleaves (items_given s) l all) (script_whole u v seconds k) (subst (λ l. Interleaves l seconds all) (script_whole s t firsts h) merged)
 
 -- a value that was popped off all answers is the one that was given
 pub given_popped : {A : Type 0} (all l : List (Poll A)) (a : Poll A) (x : A) → all ≡ l ++ a ∷ [] → a ≡ Ready x → UpToValue all → Gives all x

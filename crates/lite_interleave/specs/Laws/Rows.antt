@@ -3,9 +3,9 @@ use Rattle.std.specs.Prelude.{◌⊎◌, ⊤, true, false, Some, None}
 use Rattle.std.proofs.Common.{◌≡◌, ◌∙◌, Bool, List, [], ◌∷◌, ◌++◌, map, inl, inr, refl, ap, sym, subst}
 use Rattle.futures.specs.declared.task.Poll.TheVariants.{Ready, Pending}
 use Rattle.lite_base.specs.Answers.{Answer, end, strip, until_end}
-use Rattle.lite_interleave.specs.Interleaving.{GivesWhole, Interleaves, items_given}
+use Rattle.lite_interleave.specs.Interleaving.{EndsWith, GivesRest, Interleaves, items_given}
 use Rattle.lite_merge.specs.Merge.{Merges, Row, Rows, beside_pending}
-use Rattle.lite_stream.specs.Fuse.{AllEnds, Fuses, FusesOn}
+use Rattle.lite_stream.specs.Fuse.{AllEnds, FusesOn}
 use Rattle.lite_stream.specs.declared.fuse.Fuse.{Fuse}
 
 module _ {A : Type 0} where
@@ -178,23 +178,24 @@ module _ {A : Type 0} where
       let e = ended_list h.0 h.1 h.3 h.5 in
       (subst (λ k. EndsForEver k) (sym h.4) e.0, λ d. (h.0, h.2, e.1 ∙ ap (λ k. map Some (items_given k)) (sym h.4)))
 
--- a stream that is asked through its first end, from the start
-abbrev pub fresh : {S : Type 0} → S → Fuse S
-fresh s = record { stream = s; done = false }
+-- a list of a fused stream ends for ever, and where it ends, its items are all that the stream had
+fused_rest : {S A : Type 0} (run : S → List (Answer A) → S → Type 0) → ((x y : S) → run x [] y → y ≡ x) → (g : Bool) (s t : S) (i l : List (Answer A))
+    → (d : Bool) → run s i t → FusesOn g i l d → EndsForEver l × (HasEnd l → EndsWith run g s (items_given l) t)
+fused_rest run stays true s t i l d came h =
+    let e = ends_for_ever l h.1 in
+    (e.0, λ _. (e.1, stays s t (subst (λ j. run s j t) h.0 came)))
+fused_rest run stays false s t i l d came h =
+    let f = fused_list i l d h in
+    (f.0, λ e. let g = f.1 e in (g.0, subst (λ j. run s j t) g.1 came, g.2))
 
-fused_whole : {S A : Type 0} (run : S → List (Answer A) → S → Type 0) (s : S) (t : Fuse S) (l : List (Answer A)) → Fuses run (fresh s) l t
-    → EndsForEver l × (HasEnd l → GivesWhole run s (items_given l))
-fused_whole run s t l h =
-    let f = fused_list h.ins l t.done h.turned in
-    (f.0, λ e. let g = f.1 e in (g.0, t.stream, subst (λ i. run s i t.stream) g.1 h.came, g.2))
-
-module _ {S U A : Type 0} (run : S → List (Answer A) → S → Type 0) (run' : U → List (Answer A) → U → Type 0) where
-  -- of answers that end once: both lists were given whole, and what went out is an interleaving
-  pub merged_whole : (o : List Bool) (s : S) (u : U) (body : List (Answer A)) (t : Fuse S) (v : Fuse U) → NoEnd body
-      → Merges run run' o (fresh s) (fresh u) (body ++ end ∷ []) t v
-      → (firsts seconds : List A) × GivesWhole run s firsts × GivesWhole run' u seconds × Interleaves firsts seconds (items_given body)
+module _ {S U A : Type 0} (run : S → List (Answer A) → S → Type 0) (run' : U → List (Answer A) → U → Type 0)
+    (stays : (x y : S) → run x [] y → y ≡ x) (stays' : (x y : U) → run' x [] y → y ≡ x) where
+  -- of answers that end once: both streams gave all that they had, and what went out is an interleaving
+  pub merged_whole : (o : List Bool) (s : Fuse S) (u : Fuse U) (body : List (Answer A)) (t : Fuse S) (v : Fuse U) → NoEnd body
+      → Merges run run' o s u (body ++ end ∷ []) t v
+      → (firsts seconds : List A) × GivesRest run s firsts t × GivesRest run' u seconds v × Interleaves firsts seconds (items_given body)
   merged_whole o s u body t v n h =
-      let first = fused_whole run s t h.firsts h.came in
-      let second = fused_whole run' u v h.seconds h.then_came in
+      let first = fused_rest run stays s.done s.stream t.stream h.came.ins h.firsts t.done h.came.came h.came.turned in
+      let second = fused_rest run' stays' u.done u.stream v.stream h.then_came.ins h.seconds v.done h.then_came.came h.then_came.turned in
       let m = rows_merged o h.firsts h.seconds body h.rows n first.0 second.0 in
       (items_given h.firsts, items_given h.seconds, first.1 m.first_end, second.1 m.second_end, m.interleaved)

@@ -1,2 +1,4 @@
 pub mod Collected
+pub mod Or
+pub mod Race
 pub mod Rows

@@ -9,7 +9,7 @@ use Rattle.lite_consume.specs.Consuming.{Consumes, Decides, Fold, TakesIn, fold_
 use Rattle.lite_gather.specs.Collect.{collects}
 use Rattle.lite_gather.specs.declared.refused.Refused.{Refused}
 use Rattle.lite_interleave.specs.Interleaving.{items_given}
-use Rattle.lite_interleave.proofs.Rows.{NoEnd}
+use Rattle.lite_interleave.specs.Laws.Rows.{NoEnd}
 
 same_some : {C : Type 0} (c d : C) → ◌≡◌ {A = Option C} (Some c) (Some d) → c ≡ d
 same_some c d e = cc e
@@ -31,10 +31,10 @@ module _ {A : Type 0} where
 abbrev pub Has : {C A : Type 0} → (C → List A → Type 0) → Option C → List A → Type 0
 Has {C} holds o l = (c : C) × (o ≡ Some c) × holds c l
 
--- a collection that was made holds nothing
-pub has_none : {C A : Type 0} (holds : C → List A → Type 0) (o : Option C) → IsSome o → IfSome o (λ c. holds c []) → Has holds o []
-has_none holds None s h = absurd (cc s)
-has_none holds (Some c) s h = (c, refl, h)
+-- a collection that is there, as a contract says it
+pub has : {C A : Type 0} (holds : C → List A → Type 0) (o : Option C) (l : List A) → IsSome o → IfSome o (λ c. holds c l) → Has holds o l
+has holds None l s h = absurd (cc s)
+has holds (Some c) l s h = (c, refl, h)
 
 -- the one that is there
 held_by : {C A : Type 0} (holds : C → List A → Type 0) (o : Option C) (l : List A) (c : C) → Has holds o l → o ≡ Some c → holds c l
