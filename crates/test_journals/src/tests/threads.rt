@@ -137,6 +137,62 @@ where
     thread::join(rt, || history(reader, writer), || ()).0
 }
 
+/// The two halves, and what each was told.
+#[derive(Drop)]
+struct Halves<R, B: Books> {
+    reader: Reading<R, B>,
+    writer: Writing<R, B>,
+    reads: Vec<Answer>,
+    wrote: Vec<Answer>,
+}
+
+/// A round of each half, in two threads. `None`: memory was refused.
+fn round<R, B>(rt: R, halves: Halves<R, B>) -> Option<Halves<R, B>>
+where
+    R: Threads + Wait + RandomSource + AllocGlobal + Copy + Send + Sync,
+    B: Books + Send + Sync,
+{
+    let Halves {
+        reader,
+        writer,
+        reads,
+        wrote,
+    } = halves;
+    let (read, written) = thread::join(
+        &rt,
+        move || read_round(rt, reader, reads),
+        move || write_round(rt, writer, wrote),
+    );
+    let (reader, reads) = read?;
+    let (writer, wrote) = written?;
+    Some(Halves {
+        reader,
+        writer,
+        reads,
+        wrote,
+    })
+}
+
+/// What is told after each half has made so many calls.
+fn told_after<R, B>(
+    rt: R,
+    halves: &mut Halves<R, B>,
+    calls: u64,
+) -> Result<Journal<VecCursor>, Fail>
+where
+    R: Threads + Wait + Abort + AllocGlobal + Copy + Send + Sync,
+    B: Books + Send + Sync,
+{
+    let told = asked_in_a_thread(&rt, &mut halves.reader, &mut halves.writer)?;
+    assert_eq!(rt;
+        (halves.reader.calls(), halves.writer.calls()),
+        (calls, calls)
+    );
+    assert_eq!(rt; told.entries().len() as u64, calls.wrapping_mul(2));
+    assert_in_order(rt, told.entries(), &halves.reads, &halves.wrote)?;
+    Ok(told)
+}
+
 fn two_rounds<R, B>(rt: R, journal: Journal<VecCursor>, blanks: Blanks) -> Result<(), Fail>
 where
     R: Threads + Wait + Abort + RandomSource + AllocGlobal + Copy + Send + Sync,
@@ -146,35 +202,17 @@ where
     let Ok((reader, writer)) = split_journalled::<R, VecCursor, B>(rt, journal, blanks) else {
         return Err(Fail::from("memory"));
     };
-    let none = Vec::new(rt.alloc());
-    let (read, written) = thread::join(
-        &rt,
-        move || read_round(rt, reader, none),
-        move || write_round(rt, writer, Vec::new(rt.alloc())),
-    );
-    let (Some((mut reader, reads)), Some((mut writer, wrote))) = (read, written) else {
-        return Err(Fail::from("memory"));
+    let (reads, wrote) = (Vec::new(rt.alloc()), Vec::new(rt.alloc()));
+    let halves = Halves {
+        reader,
+        writer,
+        reads,
+        wrote,
     };
-    let first = asked_in_a_thread(&rt, &mut reader, &mut writer)?;
-    assert_eq!(rt;
-        (first.entries().len(), reader.calls(), writer.calls()),
-        (2000, 1000, 1000)
-    );
-    assert_in_order(rt, first.entries(), &reads, &wrote)?;
-    let (read, written) = thread::join(
-        &rt,
-        move || read_round(rt, reader, reads),
-        move || write_round(rt, writer, wrote),
-    );
-    let (Some((mut reader, reads)), Some((mut writer, wrote))) = (read, written) else {
-        return Err(Fail::from("memory"));
-    };
-    let second = asked_in_a_thread(&rt, &mut reader, &mut writer)?;
-    assert_eq!(rt;
-        (second.entries().len(), reader.calls(), writer.calls()),
-        (4000, 2000, 2000)
-    );
-    assert_in_order(rt, second.entries(), &reads, &wrote)?;
+    let mut halves = round(rt, halves).ok_or(AllocError)?;
+    let first = told_after(rt, &mut halves, 1000)?;
+    let mut halves = round(rt, halves).ok_or(AllocError)?;
+    let second = told_after(rt, &mut halves, 2000)?;
     assert!(rt; second.entries().starts_with(first.entries()));
     assert_replays(rt, second)
 }
