@@ -36,8 +36,10 @@ module _ {S A : Type 0} (run : S → List (Answer A) → S → Type 0) where
   abbrev pub GivesRest : Fuse S → List A → Fuse S → Type 0
   GivesRest s l t = EndsWith s.done s.stream l t.stream
 
-module _ {C S U A : Type 0} (holds : C → List A → Type 0) (run : S → List (Answer A) → S → Type 0) (run' : U → List (Answer A) → U → Type 0) where
-  -- c holds what stood there before, and then an interleaving of two lists of items: s gave the one and u the other, each all that it had, and t and v are left
+module _ {C S U A : Type 0} (holds : C → List A → Type 0)
+    (run : S → List (Answer A) → S → Type 0) (run' : U → List (Answer A) → U → Type 0) where
+  -- c holds what stood there before, and then an interleaving of two lists of items:
+  -- s gave the one and u the other, each all that it had, and t and v are left
   abbrev pub HoldsBoth : List A → Fuse S → Fuse U → Fuse S → Fuse U → C → Type 0
   HoldsBoth before s u t v c =
       (firsts seconds all : List A) × GivesRest run s firsts t × GivesRest run' u seconds v × Interleaves firsts seconds all × holds c (before ++ all)

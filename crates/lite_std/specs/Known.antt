@@ -6,10 +6,8 @@ use Rattle.std.specs.declared.io.ErrorKind.{ErrorKind}
 use Rattle.std.specs.declared.io.traits.SeekFrom.{SeekFrom}
 use Rattle.futures.specs.declared.task.Poll.{Poll}
 use Rattle.futures.specs.declared.task.Poll.TheVariants.{Ready, Pending}
-use Rattle.lite_base.specs.Answers.{Comparable}
 use Rattle.lite_io_base.specs.Marks.{Mark}
-use Rattle.lite_io_base.specs.Runs.{Runs}
-use Rattle.lite_io_base.specs.Steady.{NoWait, unhurried}
+use Rattle.lite_io_base.specs.Steady.{NoWait}
 use Rattle.lite_io_base.specs.SteadyWrite.{NeverWaits}
 use Rattle.lite_io_base.specs.Takings.{Taking}
 
@@ -48,9 +46,17 @@ abbrev pub MovesKnown : Option ℕ → Option ℕ → Option (List ℕ) → Opti
 MovesKnown old new bytes after pos (Ready r) = SeekMoves old new bytes pos r × Keeps bytes after
 MovesKnown old new bytes after pos Pending = ⊥
 
--- two readers whose tales are one, whenever they are read
-abbrev pub OneTaleOf : {S : Type 0} → Runs Mark S → S → S → Type 0
-OneTaleOf {S} reads x y = (x' y' : S) (l m : List Mark) → reads x l x' → reads y m y' → Comparable (unhurried l) (unhurried m)
+-- no read failed
+abbrev pub NoFault : List Mark → Type 0
+NoFault [] = ⊤
+NoFault (Mark.byte b ∷ l) = NoFault l
+NoFault (Mark.pending ∷ l) = NoFault l
+NoFault (Mark.fault kind ∷ l) = ⊥
+NoFault (Mark.end ∷ l) = NoFault l
+
+-- as SpendsKnown, where no read failed
+abbrev pub SpendsWell : Option (List ℕ) → List Mark → Option (List ℕ) → Type 0
+SpendsWell old l new = SpendsKnown old l new × NoFault l
 
 -- the same bytes are known to be there
 abbrev pub SameKnown : Option (List ℕ) → Option (List ℕ) → Type 0

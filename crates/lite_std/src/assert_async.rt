@@ -2,7 +2,7 @@ ghost use Rattle.std.specs.Prelude.{◌≡◌, ⊤};
 ghost use Rattle.std.specs.Borrow.{Lends, sem};
 ghost use Rattle.lite_io_base.specs.Laws.Runs.{idle_laws};
 ghost use Rattle.lite_io_base.specs.Runs.{Idle};
-ghost use Rattle.lite_std.specs.Known.{GainsKnown, MovesKnown, OneTaleOf, SameKnown, SpendsKnown, known_bytes};
+ghost use Rattle.lite_std.specs.Known.{GainsKnown, MovesKnown, SameKnown, SpendsKnown, SpendsWell, known_bytes};
 ghost use Rattle.lite_std.specs.Laws.Known.{gains_calm, gains_laws, gains_steady, spends_calm, spends_laws, spends_steady};
 
 use crate::interrupted::{MOST_INTERRUPTIONS, insist};
@@ -81,13 +81,15 @@ impl<T: Read> CalmRead for AssertAsync<T> {
     ghost calm = { spends_calm (λ x. T.remaining (handle_of x)) };
 }
 
-// Two that tell one tale: what std says of errors doesn't say when they come.
+// Two of which the same bytes are known, where no read fails: std doesn't say when an error comes.
 impl<T: Read> SteadyRead for AssertAsync<T> {
     ghost use Rattle.lite_std.specs.AssertAsync.{handle_of};
 
-    ghost ample = { λ x l y. SpendsKnown (T.remaining (handle_of x)) l (T.remaining (handle_of y)) };
+    ghost ample = { λ x l y. SpendsWell (T.remaining (handle_of x)) l (T.remaining (handle_of y)) };
 
-    ghost alike = { OneTaleOf (λ x l y. SpendsKnown (T.remaining (handle_of x)) l (T.remaining (handle_of y))) };
+    ghost needs_none = { ⊥ };
+
+    ghost alike = { λ x y. SameKnown (T.remaining (handle_of x)) (T.remaining (handle_of y)) };
 
     ghost steady = { spends_steady (λ x. T.remaining (handle_of x)) };
 }

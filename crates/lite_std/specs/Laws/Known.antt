@@ -13,10 +13,11 @@ use Rattle.lite_io_base.specs.Kinds.{by_kind}
 use Rattle.lite_io_base.specs.Marks.{Mark, bytes, moved, read_marks}
 use Rattle.lite_io_base.specs.Runs.{RunLaws}
 use Rattle.lite_io_base.specs.Laws.Steady.{no_wait_both, no_wait_bytes}
-use Rattle.lite_io_base.specs.Steady.{CalmReadLaws, NoWait, SteadyReadLaws, steady_read_always}
+use Rattle.lite_io_base.specs.Steady.{CalmReadLaws, NoWait, SteadyReadLaws, unhurried}
 use Rattle.lite_io_base.specs.SteadyWrite.{CalmWriteLaws, NeverWaits, SteadyWriteLaws}
 use Rattle.lite_io_base.specs.Takings.{Taking, bytes_of, done_marks, write_marks}
-use Rattle.lite_std.specs.Known.{Gains, GainsKnown, MovesKnown, OneTaleOf, SameKnown, Spends, SpendsKnown, known_bytes}
+use Rattle.lite_base.specs.Answers.{Comparable}
+use Rattle.lite_std.specs.Known.{Gains, GainsKnown, MovesKnown, NoFault, SameKnown, Spends, SpendsKnown, SpendsWell, known_bytes}
 
 spends_follows : (x y z : List ℕ) (l m : List Mark) → Spends x l y → Spends y m z → Spends x (l ++ m) z
 spends_follows x y z [] m h k = subst (λ t. Spends t m z) h k
@@ -112,11 +113,54 @@ gains_laws contents =
 pub gains_calm : {S : Type 0} (contents : S → Option (List ℕ)) → CalmWriteLaws (λ (x : S) l y. GainsKnown (contents x) l (contents y)) (λ x. Unit {0})
 gains_calm contents = record { prompt = λ x y l c h. gained_never_wait (contents x) (contents y) l h; calm_on = λ x y l c h. tt }
 
--- one tale is told where one is asked for
+no_fault_both : (l m : List Mark) → NoFault l → NoFault m → NoFault (l ++ m)
+no_fault_both [] m h k = k
+no_fault_both (Mark.byte b ∷ l) m h k = no_fault_both l m h k
+no_fault_both (Mark.pending ∷ l) m h k = no_fault_both l m h k
+no_fault_both (Mark.fault kind ∷ l) m h k = absurd h
+no_fault_both (Mark.end ∷ l) m h k = no_fault_both l m h k
+
+-- of the same bytes one tale is told, where no read failed
+spends_one_tale : (x y z : List ℕ) (l m : List Mark) → Spends x l y → Spends x m z → NoFault l → NoFault m → Comparable (unhurried l) (unhurried m)
+spends_one_tale x y z [] m h k n o = tt
+spends_one_tale x y z (Mark.pending ∷ l) m h k n o = absurd h
+spends_one_tale x y z (Mark.fault kind ∷ l) m h k n o = absurd n
+spends_one_tale x y z (Mark.byte b ∷ l) [] h k n o = tt
+spends_one_tale x y z (Mark.end ∷ l) [] h k n o = tt
+spends_one_tale x y z (Mark.byte b ∷ l) (Mark.pending ∷ m) h k n o = absurd k
+spends_one_tale x y z (Mark.end ∷ l) (Mark.pending ∷ m) h k n o = absurd k
+spends_one_tale x y z (Mark.byte b ∷ l) (Mark.fault kind ∷ m) h k n o = absurd o
+spends_one_tale x y z (Mark.end ∷ l) (Mark.fault kind ∷ m) h k n o = absurd o
+spends_one_tale [] y z (Mark.byte b ∷ l) (Mark.byte c ∷ m) h k n o = absurd h
+spends_one_tale (a ∷ x) y z (Mark.byte b ∷ l) (Mark.byte c ∷ m) h k n o =
+    (ap Mark.byte (h.0 ∙ sym k.0), spends_one_tale x y z l m h.1 k.1 n o)
+spends_one_tale [] y z (Mark.byte b ∷ l) (Mark.end ∷ m) h k n o = absurd h
+spends_one_tale (a ∷ x) y z (Mark.byte b ∷ l) (Mark.end ∷ m) h k n o = absurd (cc k.0)
+spends_one_tale [] y z (Mark.end ∷ l) (Mark.byte c ∷ m) h k n o = absurd k
+spends_one_tale (a ∷ x) y z (Mark.end ∷ l) (Mark.byte c ∷ m) h k n o = absurd (cc h.0)
+spends_one_tale x y z (Mark.end ∷ l) (Mark.end ∷ m) h k n o = (refl, spends_one_tale x y z l m h.1 k.1 n o)
+
+known_one_tale : (x x' y z : Option (List ℕ)) (l m : List Mark) → SameKnown x x' → SpendsWell x l y → SpendsWell x' m z
+    → Comparable (unhurried l) (unhurried m)
+known_one_tale None x' y z l m e h k = absurd e
+known_one_tale (Some xs) None y z l m e h k = absurd e
+known_one_tale (Some xs) (Some ys) None z l m e h k = absurd h.0
+known_one_tale (Some xs) (Some ys) (Some y) None l m e h k = absurd k.0
+known_one_tale (Some xs) (Some ys) (Some y) (Some z) l m e h k = spends_one_tale xs y z l m h.0 (subst (λ t. Spends t m z) (sym e) k.0) h.1 k.1
+
+-- two readers of which the same bytes are known tell one tale, where no read failed
 pub spends_steady : {S : Type 0} (remaining : S → Option (List ℕ))
-    → SteadyReadLaws (λ (x : S) l y. SpendsKnown (remaining x) l (remaining y)) (λ x l y. SpendsKnown (remaining x) l (remaining y)) (Unit {0})
-    (OneTaleOf (λ x l y. SpendsKnown (remaining x) l (remaining y)))
-spends_steady remaining = record { laws = spends_laws remaining; steady = λ x y x' y' l m e h k. e x' y' l m h k; found = λ n x y l h. h }
+    → SteadyReadLaws (λ (x : S) l y. SpendsKnown (remaining x) l (remaining y)) (λ x l y. SpendsWell (remaining x) l (remaining y)) ⊥
+    (λ x y. SameKnown (remaining x) (remaining y))
+spends_steady remaining =
+    record {
+      laws = record {
+        rests = λ x. (known_rests (remaining x), tt);
+        follows = λ x y z l m h k. (known_follows (remaining x) (remaining y) (remaining z) l m h.0 k.0, no_fault_both l m h.1 k.1);
+      };
+      steady = λ x y x' y' l m e h k. known_one_tale (remaining x) (remaining y) (remaining x') (remaining y') l m e h k;
+      found = λ n. absurd n;
+    }
 
 gains_all : (x y : List ℕ) (l : List Taking) → Gains x l y → y ≡ x ++ bytes_of l
 gains_all x y [] h = h ∙ sym (append-nil x)
