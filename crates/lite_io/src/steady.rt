@@ -1,8 +1,9 @@
-//! The readers whose tale does not depend on when they were pending.
+//! The readers whose tale does not depend on when they were pending, and the writer that leaves the same bytes.
 ghost use Rattle.lite_io.specs.BufReader.{Through};
 ghost use Rattle.lite_io.specs.Chain.{Chains};
 ghost use Rattle.lite_io.specs.Laws.Steady.BufReader.{AheadAlike, buf_reader_steady};
 ghost use Rattle.lite_io.specs.Laws.Steady.Chain.{PlaceAlike, chain_steady};
+ghost use Rattle.lite_io.specs.Laws.Steady.Past.{past_steady};
 ghost use Rattle.lite_io.specs.Laws.Steady.Repeat.{repeat_steady};
 ghost use Rattle.lite_io.specs.Laws.Steady.Take.{LimitAlike, take_steady};
 ghost use Rattle.lite_io.specs.Repeat.{Repeats};
@@ -13,7 +14,7 @@ ghost use Rattle.lite_io_base.specs.Told.{Told};
 ghost use Rattle.std.specs.Prelude.{◌≡◌, []};
 
 use crate::{BufReader, Chain, Empty, Repeat, Take};
-use lite_io_base::SteadyRead;
+use lite_io_base::{SteadyRead, SteadyWrite};
 
 // Where it has some capacity: without one a fill looks like an end.
 impl<R: SteadyRead> SteadyRead for BufReader<R> {
@@ -24,6 +25,15 @@ impl<R: SteadyRead> SteadyRead for BufReader<R> {
     ghost alike = { AheadAlike R.alike };
 
     ghost steady = { buf_reader_steady R.steady };
+}
+
+// Past what is ahead.
+impl<R: SteadyWrite> SteadyWrite for BufReader<R> {
+    ghost alike = { λ x y. R.alike x.inner y.inner };
+
+    ghost below = { λ x. R.below x.inner };
+
+    ghost steady = { past_steady R.steady };
 }
 
 impl<R1: SteadyRead, R2: SteadyRead> SteadyRead for Chain<R1, R2> {

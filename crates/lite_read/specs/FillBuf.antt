@@ -1,5 +1,5 @@
 -- `fill_buf`: one fill a poll, and the bytes that were lent.
-use Rattle.std.specs.Prelude.{◌≡◌, ℕ, List, Option, Some, None, Result}
+use Rattle.std.specs.Prelude.{◌≡◌, ℕ, List, Option, Some, None, Result, Ok, Err}
 use Rattle.std.specs.Borrow.{Bor, MutBor}
 use Rattle.std.specs.declared.io.Error.{Error}
 use Rattle.futures.specs.declared.task.Poll.{Poll}
@@ -8,12 +8,13 @@ use Rattle.lite_io_base.specs.Marks.{Mark, fill_marks}
 use Rattle.lite_io_base.specs.Runs.{LendsFront, Runs}
 use Rattle.lite_read.specs.declared.fill_buf.FillBuf.{FillBuf}
 
--- the future holds its reader while it is pending
-abbrev pub held_after : {A S : Type 0} → Poll A → S → Option S
+-- the future holds its reader, but where it has lent the reader's bytes
+abbrev pub held_after : {A S : Type 0} → Poll (Result A Error) → S → Option S
 held_after Pending r = Some r
-held_after (Ready a) r = None
+held_after (Ready (Err e)) r = Some r
+held_after (Ready (Ok a)) r = None
 
--- The reader left the marks of a fill, and what it then has to lend is the value. After a value it is held no more.
+-- The reader left the marks of a fill, and what it then has to lend is the value. It is held on but where it lends that.
 pub record FillsOnce {R : Type 0} (reads : Runs Mark R) (lent : R → List ℕ) (x : FillBuf R) (c : Poll (Result (Bor (List ℕ)) Error)) (y : FillBuf R) : Type 0 where
   pub reader : MutBor R
   pub filled : R

@@ -14,11 +14,11 @@ use std::io;
 /// The future of the bytes that come next, which the reader lends.
 ///
 /// Made by [`fill_buf`](crate::make::fill_buf). Each poll is one fill of the reader. The value is the bytes, none of them
-/// taken and none where the reader is at an end, or the reader's error. After the value it holds no reader, and is not
-/// polled again. Ported from `src/io.rs`, `FillBuf`.
+/// taken and none where the reader is at an end, or the reader's error. After bytes it holds no reader, and is not polled
+/// again. After an error it holds the reader as the error left it, and may be polled again. Ported from `src/io.rs`, `FillBuf`.
 #[derive(Drop)]
 pub struct FillBuf<'a, R> {
-    // None once there was a value.
+    // None once its bytes are lent.
     pub(crate) reader: Option<&'a mut R>,
 }
 
@@ -39,7 +39,10 @@ impl<'a, R: AsyncBufRead> Future for FillBuf<'a, R> {
         };
         match fill(reader, cx) {
             Poll::Ready(Ok(())) => Poll::Ready(Ok(shown(reader))),
-            Poll::Ready(Err(e)) => Poll::Ready(Err(e)),
+            Poll::Ready(Err(e)) => {
+                self.reader = Some(reader);
+                Poll::Ready(Err(e))
+            }
             Poll::Pending => {
                 self.reader = Some(reader);
                 Poll::Pending

@@ -1,5 +1,6 @@
 //! The futures and streams whose answers do not depend on when their reader was pending.
 ghost use Rattle.lite_read.specs.Bytes.{Tells};
+ghost use Rattle.lite_read.specs.Laws.Bytes.{inner_steady};
 ghost use Rattle.lite_read.specs.Laws.SteadyBytes.{bytes_steady};
 ghost use Rattle.lite_read.specs.Laws.SteadyReadExact.{ExactAlike, exact_steady};
 ghost use Rattle.lite_read.specs.Laws.SteadyReadToEnd.{ToEndAlike, to_end_steady};
@@ -22,6 +23,17 @@ impl<R: SteadyRead> SteadyStreamBy for Bytes<R> {
     ghost alike = { λ x y. R.alike x.inner y.inner };
 
     ghost steady = { bytes_steady R.steady };
+}
+
+// As a reader.
+impl<R: SteadyRead> SteadyRead for Bytes<R> {
+    ghost ample = { λ x l y. R.ample x.inner l y.inner };
+
+    ghost needs_none = { R.needs_none };
+
+    ghost alike = { λ x y. R.alike x.inner y.inner };
+
+    ghost steady = { inner_steady R.steady };
 }
 
 impl<R: SteadyRead> SteadyFuture for ReadExactFuture<'_, R> {

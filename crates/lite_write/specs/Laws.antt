@@ -1,3 +1,5 @@
+pub mod CalmWrite
 pub mod Sink
+pub mod SteadyDone
 pub mod SteadyWriteAll
 pub mod WriteAll

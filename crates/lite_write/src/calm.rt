@@ -1,12 +1,37 @@
 //! The futures that are never pending where their writer isn't.
+ghost use Rattle.lite_write.specs.Laws.CalmWrite.{close_calm, flush_calm, vectored_calm, write_calm};
 ghost use Rattle.lite_write.specs.Laws.SteadyWriteAll.{all_calm};
 
-use crate::WriteAllFuture;
+use crate::{CloseFuture, FlushFuture, WriteAllFuture, WriteFuture, WriteVectoredFuture};
 use lite_base::CalmFuture;
 use lite_io_base::CalmWrite;
+
+impl<W: CalmWrite> CalmFuture for CloseFuture<'_, W> {
+    ghost is_calm = { λ x. W.is_calm x.writer.now };
+
+    ghost calm = { close_calm W.calm };
+}
+
+impl<W: CalmWrite> CalmFuture for FlushFuture<'_, W> {
+    ghost is_calm = { λ x. W.is_calm x.writer.now };
+
+    ghost calm = { flush_calm W.calm };
+}
 
 impl<W: CalmWrite> CalmFuture for WriteAllFuture<'_, W> {
     ghost is_calm = { λ x. W.is_calm x.writer.now };
 
     ghost calm = { all_calm W.calm };
+}
+
+impl<W: CalmWrite> CalmFuture for WriteFuture<'_, W> {
+    ghost is_calm = { λ x. W.is_calm x.writer.now };
+
+    ghost calm = { write_calm W.calm };
+}
+
+impl<W: CalmWrite> CalmFuture for WriteVectoredFuture<'_, W> {
+    ghost is_calm = { λ x. W.is_calm x.writer.now };
+
+    ghost calm = { vectored_calm W.calm };
 }

@@ -1,14 +1,37 @@
-//! The future whose value does not depend on when its writer was pending.
+//! The futures whose value does not depend on when their writer was pending: where each write took something, and none failed.
 ghost use Rattle.std.specs.Prelude.{⊤};
+ghost use Rattle.lite_read.specs.Polled.{Polled};
+ghost use Rattle.lite_write.specs.Close.{Closes};
+ghost use Rattle.lite_write.specs.Flush.{Flushes};
+ghost use Rattle.lite_write.specs.Laws.SteadyDone.{close_steady, flush_steady};
 ghost use Rattle.lite_write.specs.Laws.SteadyWriteAll.{all_steady};
 ghost use Rattle.lite_write.specs.SteadyWriteAll.{AllProsper, Prospering};
 ghost use Rattle.lite_write.specs.WriteAll.{WritesAll};
 
-use crate::WriteAllFuture;
+use crate::{CloseFuture, FlushFuture, WriteAllFuture};
 use lite_base::SteadyFuture;
 use lite_io_base::AsyncWrite;
 
-// Where each write took something, and none failed.
+impl<W: AsyncWrite> SteadyFuture for CloseFuture<'_, W> {
+    ghost ample = { Polled (Closes (Prospering W.writes)) };
+
+    ghost needs_none = { AllProsper W.writes };
+
+    ghost alike = { λ _ _. ⊤ };
+
+    ghost steady = { close_steady };
+}
+
+impl<W: AsyncWrite> SteadyFuture for FlushFuture<'_, W> {
+    ghost ample = { Polled (Flushes (Prospering W.writes)) };
+
+    ghost needs_none = { AllProsper W.writes };
+
+    ghost alike = { λ _ _. ⊤ };
+
+    ghost steady = { flush_steady };
+}
+
 impl<W: AsyncWrite> SteadyFuture for WriteAllFuture<'_, W> {
     ghost ample = { WritesAll (Prospering W.writes) };
 

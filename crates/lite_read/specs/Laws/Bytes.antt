@@ -12,6 +12,7 @@ use Rattle.lite_io_base.specs.Counting.{ReadCounting}
 use Rattle.lite_io_base.specs.Falls.{Falls}
 use Rattle.lite_io_base.specs.Marks.{AllGiven, Mark, given}
 use Rattle.lite_io_base.specs.Runs.{RunLaws, Runs}
+use Rattle.lite_io_base.specs.Steady.{CalmReadLaws, SteadyReadLaws}
 use Rattle.lite_read.specs.Bytes.{Tells, TellsEach}
 use Rattle.lite_read.specs.declared.bytes.Bytes.{Bytes}
 
@@ -93,6 +94,18 @@ module _ {R : Type 0} {reads : Runs Mark R} where
   -- it is read as its reader is
   pub inner_laws : RunLaws reads → RunLaws (λ (x : Bytes R) l (y : Bytes R). reads x.inner l y.inner)
   inner_laws laws = record { rests = λ x. laws.rests x.inner; follows = λ x y z. laws.follows x.inner y.inner z.inner }
+
+  pub inner_steady : {ample : Runs Mark R} {needs_none : Type 0} {alike : R → R → Type 0} → SteadyReadLaws reads ample needs_none alike
+      → SteadyReadLaws (λ (x : Bytes R) l (y : Bytes R). reads x.inner l y.inner) (λ x l y. ample x.inner l y.inner) needs_none (λ x y. alike x.inner y.inner)
+  inner_steady s =
+      record {
+        laws = record { rests = λ x. s.laws.rests x.inner; follows = λ x y z. s.laws.follows x.inner y.inner z.inner };
+        steady = λ x y x' y'. s.steady x.inner y.inner x'.inner y'.inner;
+        found = λ n x y. s.found n x.inner y.inner;
+      }
+
+  pub inner_calm : {is_calm : R → Type 0} → CalmReadLaws reads is_calm → CalmReadLaws (λ (x : Bytes R) l (y : Bytes R). reads x.inner l y.inner) (λ x. is_calm x.inner)
+  inner_calm c = record { prompt = λ x y. c.prompt x.inner y.inner; calm_on = λ x y. c.calm_on x.inner y.inner }
 
   pub inner_counting : {r : Ranks R} → ReadCounting reads r → ReadCounting (λ (x : Bytes R) l (y : Bytes R). reads x.inner l y.inner) (ranks_of (λ (b : Bytes R). b.inner) r)
   inner_counting c =

@@ -43,7 +43,7 @@ prospering_laws laws =
     }
 
 -- no answer but Ok
-abbrev AllOk : List Value → Type 0
+abbrev pub AllOk : List Value → Type 0
 AllOk [] = ⊤
 AllOk (v ∷ l) = (v ≡ Ok tt) × AllOk l
 
@@ -66,7 +66,7 @@ hands_ok p q i (Ready r ∷ l) a h =
     let some = prospers_last last.before last.last (subst Prospers last.cut a) in
     rw h.1 (ended_ok q last.last r some last.ended, tt)
 
-all_ok_same : (l m : List Value) → AllOk l → AllOk m → ComparableBy (λ v w. v ≡ w) l m
+pub all_ok_same : (l m : List Value) → AllOk l → AllOk m → ComparableBy (λ v w. v ≡ w) l m
 all_ok_same [] m a b = tt
 all_ok_same (v ∷ l) [] a b = tt
 all_ok_same (v ∷ l) (w ∷ m) a b = rw (a.0, b.0) (refl, all_ok_same l m a.1 b.1)

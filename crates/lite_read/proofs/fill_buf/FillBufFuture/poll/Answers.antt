@@ -14,7 +14,7 @@ returns-in-Ready-Err-clause-ran g c =
     let ran = rw c.in-Ready-Err.field-0-is at (rw c.in-Ready-Err.is at c.fill.ensures.ran) in
     let lends = rw c.in-Ready-Err.field-0-is at (rw c.in-Ready-Err.is at c.fill.ensures.lends) in
     let held = sym c.take.ensures.value ∙ c.in-Some.is in
-    (record { reader = c.in-Some.reader; filled = c.fill.new.reader; held = held; came = ran; lends = lends; after = c.take.ensures.after }, refl)
+    (record { reader = c.in-Some.reader; filled = c.fill.new.reader; held = held; came = ran; lends = lends; after = refl }, refl)
 
 pub returns-in-Pending-clause-ran : goal.returns-in-Pending-clause-ran
 returns-in-Pending-clause-ran g c =
