@@ -2,12 +2,15 @@
 import argparse
 import os
 import re
+import shutil
 import sys
 
 TOP = os.path.dirname(os.path.dirname(os.path.abspath(__file__)))
 # The folders of a crate that its proof reads.
 PARTS = ("src", "specs", "proofs")
 FACADE = "futures_lite"
+# The suffixes in a crate of those of a program beside the crates: `rt ci` takes a file of a crate's kind in a crate alone.
+IN_A_CRATE = {".rs": ".rt", ".txt": ".antt"}
 
 
 def stop(why):
@@ -64,3 +67,18 @@ def files_of(folder):
     """Returns the files below the folder that a proof may read or a check look at, by their paths from there."""
     walked = ((at, name) for at, _, names in os.walk(folder) for name in names)
     return sorted(os.path.relpath(f"{at}/{name}", folder) for at, name in walked)
+
+
+def lay_program(copy, line):
+    """Copies the crates, and the program beside them that the line of crates.txt names as one more; returns its folder in the copy."""
+    name = Crate(line).name
+    shutil.copytree(f"{TOP}/crates", f"{copy}/crates", ignore=shutil.ignore_patterns("out", "must-fail"))
+    for file in files_of(f"{TOP}/{name}"):
+        stem, suffix = os.path.splitext(file)
+        to = f"{copy}/crates/{name}/{stem}{IN_A_CRATE[suffix]}"
+        os.makedirs(os.path.dirname(to), exist_ok=True)
+        shutil.copy(f"{TOP}/{name}/{file}", to)
+    shutil.copy(f"{TOP}/HANDLES", copy)
+    with open(f"{copy}/crates.txt", "w", encoding="utf-8") as lines:
+        lines.write(f"{read_text(f'{TOP}/crates.txt')}{line}\n")
+    return f"{copy}/crates/{name}"
