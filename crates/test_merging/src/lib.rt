@@ -1,5 +1,5 @@
-//! A collection of two merged scripts, with a contract that says what it holds; tests of all pairs of short scripts; and tests
-//! of merged streams, where a case of `cases/merging.txt` cannot say it.
+//! A collection of two merged scripts, with a contract that says what it holds; and tests of merged
+//! streams, where a case of `cases/merging.txt` cannot say it.
 #![tactic(auto)]
 
 pub mod scripts;

@@ -1,5 +1,4 @@
 mod always;
+mod collected;
 mod merge;
-mod pairs;
 mod waking;
-mod words;

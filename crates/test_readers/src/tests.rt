@@ -1,6 +1,7 @@
 mod buffered;
 mod bytes;
 mod cursors;
+mod fill_buf;
 mod methods;
 mod polls;
 mod read_to_end;

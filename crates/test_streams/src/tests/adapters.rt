@@ -103,18 +103,8 @@ fn cloned_asks_again_for_a_refused_clone_without_polling(rt: HostRuntime) -> Res
 
 #[test]
 fn clones_of_adapters_go_on_from_where_they_are(rt: HostRuntime) -> Result<(), Fail> {
-    let numbers = [1u8, 2, 3, 4, 5];
-    let [one, two, three, four, five] = &numbers;
-    let first = stream::script(vec![in rt.alloc(); item(one), item(two), item(three)]?);
-    let second = stream::script(vec![in rt.alloc(); item(four), item(five)]?);
-    let mut nest = first
-        .chain(second)
-        .copied()
-        .skip(1)
-        .step_by(2)
-        .fuse()
-        .take(2)
-        .enumerate();
+    let list = vec![in rt.alloc(); item(1u8), item(2), item(3), item(4), item(5)]?;
+    let mut nest = stream::script(list).skip(1).step_by(2).enumerate();
     let first = answers(&rt, &mut nest, 1)?;
     assert_eq!(rt; first.as_slice(), [item((0, 2))].as_slice());
     let mut copy = nest.clone()?;
@@ -142,11 +132,11 @@ fn a_nest_of_adapters_is_firm_where_its_source_is(rt: HostRuntime) -> Result<(),
 
 #[test]
 fn an_adapter_shows_what_it_holds(rt: HostRuntime) -> Result<(), Fail> {
-    let nest = stream::iter(0u8..2).take(1).skip(1).step_by(2).enumerate();
+    let nest = stream::iter(0u8..2).take(1).step_by(2);
     let shown = format!(in rt.alloc(); "{nest:?}")?;
     assert_eq!(rt;
         shown.as_str(),
-        "Enumerate { stream: StepBy { stream: Skip { stream: Take { stream: Iter { iter: 0..2 }, n: 1 }, n: 1 }, step: 2, i: 0 }, i: 0 }"
+        "StepBy { stream: Take { stream: Iter { iter: 0..2 }, n: 1 }, step: 2, i: 0 }"
     );
     let shown = format!(in rt.alloc(); "{:?}", stream::once(5u8).fuse())?;
     assert_eq!(rt;

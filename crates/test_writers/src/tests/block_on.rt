@@ -1,4 +1,5 @@
 use lite_bridge::Cursor;
+use lite_io::BufReader;
 use lite_mock::Marks;
 use lite_std::BlockOn;
 use std::io::{BufRead, ErrorKind, Read, Seek, SeekFrom, Write};
@@ -38,5 +39,23 @@ fn an_error_is_handed_on(rt: HostRuntime) -> Result<(), Fail> {
         io.read(&mut buf)
             .is_err_and(|e| e.kind() == ErrorKind::Other)
     );
+    Ok(())
+}
+
+#[test]
+fn a_fill_goes_on_behind_an_error(rt: HostRuntime) -> Result<(), Fail> {
+    let mut marks = Marks::new(rt.alloc());
+    marks.fault(ErrorKind::Other)?;
+    marks.chunk(b"ab")?;
+    let Ok(reader) = BufReader::with_capacity(rt.alloc(), 2, marks) else {
+        assert!(rt; false);
+        return Ok(());
+    };
+    let mut io = BlockOn::new(rt, reader);
+    assert!(rt;
+        io.fill_buf()
+            .is_err_and(|e| e.kind() == ErrorKind::Other)
+    );
+    assert_eq!(rt; io.fill_buf()?, b"ab".as_slice());
     Ok(())
 }
