@@ -1,4 +1,4 @@
-ghost use Rattle.std.specs.Prelude.{◌≡◌, IfErr, List, OnOk, []};
+ghost use Rattle.std.specs.Prelude.{◌≡◌, IfErr, IsOk, List, OnOk, []};
 ghost use Rattle.lite_gather.specs.Gathering.{Kept, Took};
 
 /// A collection that takes in items one after the other, each of which it may refuse for want of memory.
@@ -12,6 +12,9 @@ pub trait Gather<T> {
     /// The collection is what comes of taking in these items in order.
     ghost holds: { Self → List T → Type 0 };
 
+    /// It has room for the item, so that it asks for no memory. Where nothing is said, that is never known.
+    ghost has_room: { Self → T → Type 0 } = { λ _ _. ⊥ };
+
     /// A collection that took in nothing. It takes no memory.
     fn empty(alloc: Self::Alloc) -> Self
         ensures { holds result [] };
@@ -19,5 +22,6 @@ pub trait Gather<T> {
     /// Takes in an item. `Err` hands it back: there was no memory for it, and the collection is as it was.
     fn take_in(&mut self, item: T) -> Result<(), T>
         ensures took { OnOk result (Took holds self.old item self.new) }
+        ensures fits { has_room self.old item → IsOk result }
         ensures kept { IfErr result (λ back. (back ≡ item) × Kept holds self.old self.new) };
 }

@@ -1,4 +1,4 @@
-ghost use Rattle.std.specs.Prelude.{◌≡◌, string_bytes};
+ghost use Rattle.std.specs.Prelude.{◌≡◌, ◌≤◌, ◌+◌, length, string_bytes, string_capacity, string_len};
 ghost use Rattle.std.specs.Char.{encode_utf8};
 ghost use Rattle.std.specs.List.{flat_map};
 
@@ -10,6 +10,8 @@ impl<A: Allocator> Gather<char> for String<A> {
     type Alloc = A;
 
     ghost holds = { λ c l. string_bytes c ≡ flat_map encode_utf8 l };
+
+    ghost has_room = { λ c item. string_len c + length (encode_utf8 item) ≤ string_capacity c };
 
     fn empty(alloc: A) -> String<A> {
         String::new(alloc)

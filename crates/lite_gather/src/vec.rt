@@ -1,4 +1,4 @@
-ghost use Rattle.std.specs.Prelude.{◌≡◌};
+ghost use Rattle.std.specs.Prelude.{◌≡◌, ◌<◌, vec_capacity, vec_len};
 
 use crate::gather::Gather;
 use std::alloc::Allocator;
@@ -8,6 +8,8 @@ impl<T, A: Allocator> Gather<T> for Vec<T, A> {
     type Alloc = A;
 
     ghost holds = { λ c l. c.items ≡ l };
+
+    ghost has_room = { λ c _. vec_len c < vec_capacity c };
 
     fn empty(alloc: A) -> Vec<T, A> {
         Vec::new(alloc)

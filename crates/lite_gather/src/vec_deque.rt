@@ -1,4 +1,5 @@
-ghost use Rattle.std.specs.Prelude.{◌≡◌};
+ghost use Rattle.std.specs.Prelude.{◌≡◌, ◌<◌};
+ghost use Rattle.std.specs.VecDeque.{deque_capacity, deque_len};
 
 use crate::gather::Gather;
 use std::alloc::Allocator;
@@ -9,6 +10,8 @@ impl<T, A: Allocator> Gather<T> for VecDeque<T, A> {
     type Alloc = A;
 
     ghost holds = { λ c l. c.items ≡ l };
+
+    ghost has_room = { λ c _. deque_len c < deque_capacity c };
 
     fn empty(alloc: A) -> VecDeque<T, A> {
         VecDeque::new(alloc)
