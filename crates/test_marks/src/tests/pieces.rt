@@ -1,8 +1,12 @@
-//! Streams and a future that cut what a reader tells.
+//! Streams and a future that cut what a reader tells, and copies.
+use crate::reading::{copies_have_marks, pieces_have_marks};
 use lite_base::{CalmFuture, CalmStream, SteadyFuture};
+use lite_copy::make::copy;
 use lite_lines::make::{lines, read_until, split};
 use lite_read::SteadyStreamBy;
 use lite_read::make::bytes;
+use lite_write::make::sink;
+use std::alloc::AllocError;
 use std::test::Fail;
 
 fn steady<S: SteadyStreamBy>(stream: &S) {
@@ -29,5 +33,22 @@ fn what_cuts_a_reader_is_steady_and_calm(rt: HostRuntime) -> Result<(), Fail> {
     // It is pending where its reader is interrupted.
     steady(&bytes(text));
     both_future(&read_until(&mut text, b'-', &mut Vec::new(rt.alloc())));
+    Ok(())
+}
+
+#[test]
+fn pieces_and_copies_have_marks(rt: HostRuntime) -> Result<(), Fail> {
+    let text: &[u8] = b"ab-";
+    let (x, y) = (lines(text, rt.alloc()), lines(text, rt.alloc()));
+    let (v, w) = (split(text, rt.alloc(), b'-'), split(text, rt.alloc(), b'-'));
+    pieces_have_marks(&x, &y, &v, &w);
+    let (first, second) = (
+        copy(rt.alloc(), text, sink()),
+        copy(rt.alloc(), text, sink()),
+    );
+    let (Ok(one), Ok(other)) = (first, second) else {
+        return Err(AllocError.into());
+    };
+    copies_have_marks(&one, &other);
     Ok(())
 }
