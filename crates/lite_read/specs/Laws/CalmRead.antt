@@ -41,5 +41,5 @@ module _ {R : Type 0} {reads : Runs Mark R} {is_calm : R → Type 0} where
       polled_calm (FillsOnce reads lent)
       (λ x y k h. c.prompt h.reader.now h.filled (fill_marks {A = Bor (List ℕ)} Pending (lent h.filled)) (subst (HeldCalm is_calm) h.held k) h.came)
       (λ x y r k h.
-          let calm = c.calm_on h.reader.now h.filled (fill_marks (Ready r) (lent h.filled)) (subst (HeldCalm is_calm) h.held k) h.came in
-          subst (HeldCalm is_calm) (sym h.after) (held_calm is_calm r (record h.reader { now = h.filled }) calm))
+      let calm = c.calm_on h.reader.now h.filled (fill_marks (Ready r) (lent h.filled)) (subst (HeldCalm is_calm) h.held k) h.came in
+      subst (HeldCalm is_calm) (sym h.after) (held_calm is_calm r (record h.reader { now = h.filled }) calm))

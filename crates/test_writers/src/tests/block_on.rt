@@ -52,10 +52,7 @@ fn a_fill_goes_on_behind_an_error(rt: HostRuntime) -> Result<(), Fail> {
         return Ok(());
     };
     let mut io = BlockOn::new(rt, reader);
-    assert!(rt;
-        io.fill_buf()
-            .is_err_and(|e| e.kind() == ErrorKind::Other)
-    );
+    assert!(rt; io.fill_buf().is_err_and(|e| e.kind() == ErrorKind::Other));
     assert_eq!(rt; io.fill_buf()?, b"ab".as_slice());
     Ok(())
 }
