@@ -9,6 +9,8 @@ TOP = os.path.dirname(os.path.dirname(os.path.abspath(__file__)))
 # The folders of a crate that its proof reads.
 PARTS = ("src", "specs", "proofs")
 FACADE = "futures_lite"
+# The crates of tests stand below one folder, with their lines.
+TESTS, TEST_LINES = "tests", "tests/lines.txt"
 # The suffixes in a crate of those of a program beside the crates: `rt ci` takes a file of a crate's kind in a crate alone.
 IN_A_CRATE = {".rs": ".rt", ".txt": ".antt"}
 
@@ -46,9 +48,9 @@ def read_text(path):
         return file.read()
 
 
-def crates_in(top):
-    """Returns the crates that top's crates.txt lists, in its order, by name."""
-    rows = (row.split("#")[0].strip() for row in read_text(f"{top}/crates.txt").splitlines())
+def crates_in(top, lines="crates.txt"):
+    """Returns the crates that a file of top lists, in its order, by name."""
+    rows = (row.split("#")[0].strip() for row in read_text(f"{top}/{lines}").splitlines())
     return {it.name: it for it in map(Crate, filter(None, rows))}
 
 
@@ -69,16 +71,47 @@ def files_of(folder):
     return sorted(os.path.relpath(f"{at}/{name}", folder) for at, name in walked)
 
 
+def link(source, to):
+    try:
+        os.link(source, to)
+    except OSError:
+        shutil.copy2(source, to)
+
+
+def hand_on(name, place, to):
+    """Gives what is built of the crate in one place to another, where `rt` takes it by the sum of what it was made from."""
+    built, there = (f"{it}/crates/{name}/out/rlib" for it in (place, to))
+    stamps = [read_text(f"{it}/stamp") if os.path.isfile(f"{it}/stamp") else None for it in (built, there)]
+    if stamps[0] and stamps[0] != stamps[1]:
+        shutil.rmtree(f"{there}.part", ignore_errors=True)
+        shutil.copytree(built, f"{there}.part", copy_function=link)
+        shutil.rmtree(there, ignore_errors=True)
+        os.rename(f"{there}.part", there)
+
+
+def lay_crates(copy):
+    """Copies the crates, but for their wrong bodies, with what is built of them."""
+    shutil.copytree(f"{TOP}/crates", f"{copy}/crates", ignore=shutil.ignore_patterns("out", "must-fail"))
+    for name in ("crates.txt", "HANDLES"):
+        shutil.copy(f"{TOP}/{name}", copy)
+    for name in os.listdir(f"{TOP}/crates"):
+        hand_on(name, TOP, copy)
+
+
+def lay_beside(copy, folder, line):
+    """Copies a crate that stands beside the others, by its line for crates.txt, into the copy; returns its folder there."""
+    at = f"{copy}/crates/{Crate(line).name}"
+    for file in files_of(f"{TOP}/{folder}"):
+        stem, suffix = os.path.splitext(file)
+        to = f"{at}/{stem}{IN_A_CRATE[suffix]}"
+        os.makedirs(os.path.dirname(to), exist_ok=True)
+        shutil.copy(f"{TOP}/{folder}/{file}", to)
+    with open(f"{copy}/crates.txt", "a", encoding="utf-8") as lines:
+        lines.write(f"{line}\n")
+    return at
+
+
 def lay_program(copy, line):
     """Copies the crates, and the program beside them that the line of crates.txt names as one more; returns its folder in the copy."""
-    name = Crate(line).name
-    shutil.copytree(f"{TOP}/crates", f"{copy}/crates", ignore=shutil.ignore_patterns("out", "must-fail"))
-    for file in files_of(f"{TOP}/{name}"):
-        stem, suffix = os.path.splitext(file)
-        to = f"{copy}/crates/{name}/{stem}{IN_A_CRATE[suffix]}"
-        os.makedirs(os.path.dirname(to), exist_ok=True)
-        shutil.copy(f"{TOP}/{name}/{file}", to)
-    shutil.copy(f"{TOP}/HANDLES", copy)
-    with open(f"{copy}/crates.txt", "w", encoding="utf-8") as lines:
-        lines.write(f"{read_text(f'{TOP}/crates.txt')}{line}\n")
-    return f"{copy}/crates/{name}"
+    lay_crates(copy)
+    return lay_beside(copy, Crate(line).name, line)

@@ -1,0 +1,8 @@
+use Rattle.std.proofs.Common.{None}
+use Rattle.lite_flatten.specs.Laws.SteadyFlatten.{inner_alike}
+use Rattle.marks_met.proofs.merges.inner_streams_are_alike.Goals as goal
+
+pub returns : goal.returns
+returns g c =
+    let outer = g.met.S.SteadyStream.steady.steady _ _ c.requires.outer in
+    (inner_alike g.S.SteadyStream.ample g.B.SteadyStream.alike _ _ None outer c.requires.inner, tt)

@@ -1,0 +1,12 @@
+//! For each type with a mark, two values that the mark relates, and a calm one: no mark holds of nothing.
+#![tactic(auto)]
+
+pub mod conditions;
+pub mod consuming;
+pub mod future_marks;
+pub mod merges;
+pub mod readers;
+pub mod reading;
+pub mod sources;
+pub mod streams;
+pub mod writers;

@@ -1,4 +1,0 @@
-use Rattle.test_journals.proofs.tests.replays.entries_of_marks.Goals as goal
-
-pub returns : goal.returns
-returns c = c.entries.ensures.replays (λ x y h. h)

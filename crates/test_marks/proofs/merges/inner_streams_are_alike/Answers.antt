@@ -1,8 +1,0 @@
-use Rattle.std.proofs.Common.{None}
-use Rattle.lite_flatten.specs.Laws.SteadyFlatten.{inner_alike}
-use Rattle.test_marks.proofs.merges.inner_streams_are_alike.Goals as goal
-
-pub returns : goal.returns
-returns g c =
-    let outer = g.met.S.SteadyStream.steady.steady _ _ c.requires.outer in
-    (inner_alike g.S.SteadyStream.ample g.B.SteadyStream.alike _ _ None outer c.requires.inner, tt)

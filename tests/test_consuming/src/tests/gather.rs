@@ -1,0 +1,172 @@
+use bumpalo::Bump;
+use futures_lite::stream::{Refused, TryCollectError, UnzipRefused};
+use futures_lite::{Poll, StreamExt, stream};
+use std::alloc::Global;
+use std::collections::{BTreeMap, BTreeSet, VecDeque};
+use std::test::Fail;
+use test_support::{item, polled};
+use theorems_at_types::{Few, Room, Tall, gather_all};
+
+#[test]
+fn collect_hands_back_the_item_that_was_refused(rt: HostRuntime) -> Result<(), Fail> {
+    let bump = Bump::new(rt.alloc());
+    bump.set_allocation_limit(Some(0));
+    let mut numbers = stream::iter(1u8..4);
+    let mut got: Vec<Poll<Result<Vec<u8, &Bump<Global>>, Refused<Vec<u8, &Bump<Global>>, u8>>>> =
+        polled(&rt, &mut (&mut numbers).collect(&bump), 1)?;
+    match got.pop() {
+        Some(Poll::Ready(Err(refused))) => {
+            assert_eq!(rt; refused.collected.len(), 0);
+            assert_eq!(rt; refused.item, 1);
+        }
+        _ => return Err(Fail::from("it was not refused")),
+    }
+    let got = polled(&rt, &mut numbers.next(), 1)?;
+    assert_eq!(rt; got.as_slice(), [Poll::Ready(Some(2))].as_slice());
+    Ok(())
+}
+
+#[test]
+fn collect_fills_a_collection_of_a_users_own(rt: HostRuntime) -> Result<(), Fail> {
+    let two = Room {
+        alloc: rt.alloc(),
+        items: 2,
+    };
+    let mut numbers = stream::iter(1u8..5);
+    let got: Vec<Poll<Result<Few<u8>, Refused<Few<u8>, u8>>>> = polled(
+        &rt,
+        &mut (&mut numbers).collect(two),
+        1,
+    )?;
+    let collected = Few {
+        items: vec![in rt.alloc(); 1u8, 2]?,
+        room: 2,
+    };
+    let expected = [Poll::Ready(Err(Refused { collected, item: 3 }))];
+    assert_eq!(rt; got.as_slice(), expected.as_slice());
+    let got: Vec<Poll<Result<Few<u8>, Refused<Few<u8>, u8>>>> = polled(
+        &rt,
+        &mut numbers.collect(two),
+        1,
+    )?;
+    let collected = Few {
+        items: vec![in rt.alloc(); 4u8]?,
+        room: 2,
+    };
+    assert_eq!(rt; got.as_slice(), [Poll::Ready(Ok(collected))].as_slice());
+    Ok(())
+}
+
+#[test]
+fn each_collection_takes_items_in_by_its_own_rule(rt: HostRuntime) -> Result<(), Fail> {
+    let deque: Result<VecDeque<u8>, u8> = gather_all(rt.alloc(), vec![in rt.alloc(); 2, 1, 2]?);
+    let mut expected = VecDeque::new(rt.alloc());
+    for x in [2u8, 1, 2] {
+        expected.push_back(x)?;
+    }
+    assert_eq!(rt; deque, Ok(expected));
+    let list: Result<Vec<u8>, u8> = gather_all(rt.alloc(), vec![in rt.alloc(); 2, 1, 2]?);
+    assert_eq!(rt; list, Ok(vec![in rt.alloc(); 2u8, 1, 2]?));
+    let text: Result<String, char> = gather_all(rt.alloc(), vec![in rt.alloc(); 'a', 'b', 'ä']?);
+    assert_eq!(rt; text, Ok(String::from_str(rt.alloc(), "abä")?));
+    let map: Result<BTreeMap<u8, &str>, (u8, &str)> = gather_all(
+        rt.alloc(),
+        vec![in rt.alloc(); (1, "a"), (1, "b")]?,
+    );
+    let mut expected = BTreeMap::new(rt.alloc());
+    expected.insert(1u8, "b")?;
+    assert_eq!(rt; map, Ok(expected));
+    let set: Result<BTreeSet<u8>, u8> = gather_all(rt.alloc(), vec![in rt.alloc(); 2, 1, 2]?);
+    let mut expected = BTreeSet::new(rt.alloc());
+    for x in [1u8, 2] {
+        expected.insert(x)?;
+    }
+    assert_eq!(rt; set, Ok(expected));
+    Ok(())
+}
+
+#[test]
+fn try_collect_hands_back_what_was_refused(rt: HostRuntime) -> Result<(), Fail> {
+    let one = Room {
+        alloc: rt.alloc(),
+        items: 1,
+    };
+    let list = vec![in rt.alloc(); item(Ok(1u8)), item(Ok(2)), item(Err(9u8))]?;
+    let results = stream::script(list);
+    let got: Vec<Poll<Result<Few<u8>, TryCollectError<Few<u8>, u8, u8>>>> = polled(
+        &rt,
+        &mut results.try_collect(one),
+        1,
+    )?;
+    let collected = Few {
+        items: vec![in rt.alloc(); 1u8]?,
+        room: 1,
+    };
+    let refused = TryCollectError::Memory(Refused { collected, item: 2 });
+    assert_eq!(rt; got.as_slice(), [Poll::Ready(Err(refused))].as_slice());
+    Ok(())
+}
+
+#[test]
+fn partition_hands_back_what_was_refused(rt: HostRuntime) -> Result<(), Fail> {
+    let one = Room {
+        alloc: rt.alloc(),
+        items: 1,
+    };
+    let sorted = stream::iter(1u8..5).partition(one, |x: &u8| *x % 2 == 0);
+    let mut sorted: stream::PartitionFuture<_, _, Few<u8>> = sorted;
+    let got = polled(&rt, &mut sorted, 1)?;
+    let few = |x: u8| -> Result<Few<u8>, Fail> {
+        Ok(Few {
+            items: vec![in rt.alloc(); x]?,
+            room: 1,
+        })
+    };
+    let refused = Refused {
+        collected: (few(2)?, few(1)?),
+        item: 3,
+    };
+    assert_eq!(rt; got.as_slice(), [Poll::Ready(Err(refused))].as_slice());
+    Ok(())
+}
+
+#[test]
+fn unzip_hands_back_what_was_refused(rt: HostRuntime) -> Result<(), Fail> {
+    let bump = Bump::new(rt.alloc());
+    bump.set_allocation_limit(Some(0));
+    let mut parts: stream::UnzipFuture<_, Vec<u8, &Bump<Global>>, Vec<u8, &Bump<Global>>> =
+        stream::once((1u8, 2u8)).unzip(&bump);
+    let mut got = polled(&rt, &mut parts, 1)?;
+    match got.pop() {
+        Some(Poll::Ready(Err(UnzipRefused::Left { collected, item }))) => {
+            assert_eq!(rt; (collected.0.len(), collected.1.len()), (0, 0));
+            assert_eq!(rt; item, (1, 2));
+        }
+        _ => return Err(Fail::from("the first part was not refused")),
+    }
+    Ok(())
+}
+
+#[test]
+fn unzip_keeps_the_first_part_where_the_second_is_refused(rt: HostRuntime) -> Result<(), Fail> {
+    let one = Room {
+        alloc: rt.alloc(),
+        items: 1,
+    };
+    let pairs = stream::iter([(1u8, 2u8), (3, 4)].into_iter());
+    let mut parts: stream::UnzipFuture<_, Tall<u8>, Few<u8>> = pairs.unzip(one);
+    let got = polled(&rt, &mut parts, 1)?;
+    let left = Tall {
+        items: vec![in rt.alloc(); 1u8, 3]?,
+    };
+    let right = Few {
+        items: vec![in rt.alloc(); 2u8]?,
+        room: 1,
+    };
+    let refused = UnzipRefused::Right {
+        collected: (left, right),
+        item: 4,
+    };
+    assert_eq!(rt; got.as_slice(), [Poll::Ready(Err(refused))].as_slice());
+    Ok(())
+}

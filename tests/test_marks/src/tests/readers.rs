@@ -1,0 +1,85 @@
+//! Readers, and the futures over them.
+use lite_base::{CalmFuture, SteadyFuture};
+use lite_bridge::Cursor;
+use lite_io::{BufReader, make as io};
+use lite_io_base::{CalmRead, IoSliceMut, SteadyRead};
+use lite_journal::Journal;
+use lite_mock::Marks;
+use lite_read::make::{bytes as each_byte, fill_buf, read, read_exact, read_to_end, read_vectored};
+use lite_texts::make::{read_line, read_to_string};
+use marks_met::readers::{buffered_readers_have_marks, journals_have_marks};
+use std::alloc::AllocError;
+use std::test::Fail;
+
+/// Asks for both marks of a reader.
+fn both<R: SteadyRead + CalmRead>(reader: &R) {
+    reader.is_steady_read();
+    reader.is_calm_read();
+}
+
+/// Asks for both marks of a future.
+fn both_future<F: SteadyFuture + CalmFuture>(future: &F) {
+    future.is_steady_future();
+    future.is_calm_future();
+}
+
+#[test]
+fn readers_and_their_futures_are_steady_and_calm(rt: HostRuntime) -> Result<(), Fail> {
+    let mut bytes: &[u8] = b"ab";
+    both(&bytes);
+    both(&&mut bytes);
+    both(&io::empty());
+    both(&io::repeat(7));
+    both(&Cursor::new(bytes));
+    both(&io::take(bytes, 1));
+    both(&io::chain(bytes, bytes));
+    both(&Marks::new(rt.alloc()));
+    both(&each_byte(bytes));
+    let Ok(reader) = BufReader::with_capacity(rt.alloc(), 4, bytes) else {
+        return Err(AllocError.into());
+    };
+    both(&reader);
+    both_future(&read_exact(&mut bytes, &mut [0]));
+    both_future(&read_to_end(&mut bytes, &mut Vec::new(rt.alloc())));
+    both_future(&read_line(&mut bytes, &mut String::new(rt.alloc())));
+    both_future(&read_to_string(&mut bytes, &mut String::new(rt.alloc())));
+    read(&mut bytes, &mut [0]).is_calm_future();
+    Ok(())
+}
+
+fn calm_read_into<'a, 'b, R: CalmRead>(reader: &'a mut R, bufs: &'a mut [IoSliceMut<'b>]) {
+    read_vectored(reader, bufs).is_calm_future();
+}
+
+#[test]
+fn futures_of_some_reads_are_calm(_rt: HostRuntime) -> Result<(), Fail> {
+    let mut bytes: &[u8] = b"ab";
+    let mut room = [0; 2];
+    calm_read_into(&mut bytes, &mut [IoSliceMut::new(&mut room)]);
+    fill_buf(&mut bytes).is_calm_future();
+    Ok(())
+}
+
+#[test]
+fn buffered_readers_and_journals_are_steady_and_calm(rt: HostRuntime) -> Result<(), Fail> {
+    let bytes: &[u8] = b"ab";
+    let (first, second) = (
+        BufReader::new(rt.alloc(), bytes),
+        BufReader::new(rt.alloc(), bytes),
+    );
+    let (Ok(one), Ok(other)) = (first, second) else {
+        return Err(AllocError.into());
+    };
+    buffered_readers_have_marks(&one, &other);
+    let first: Result<Journal<Cursor<Vec<u8>>>, _> = Journal::new(
+        rt.alloc(),
+        Cursor::new(Vec::new(rt.alloc())),
+    );
+    let second = Journal::new(rt.alloc(), Cursor::new(Vec::new(rt.alloc())));
+    let (Ok(one), Ok(other)) = (first, second) else {
+        return Err(AllocError.into());
+    };
+    both(&one);
+    journals_have_marks(&one, &other);
+    Ok(())
+}
