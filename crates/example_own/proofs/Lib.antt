@@ -1,0 +1,3 @@
+mod Waiting
+mod Below
+mod Reading

@@ -1,0 +1,24 @@
+-- What one poll of a counter does.
+use Rattle.std.specs.Prelude.{◌≡◌, ℕ, ◌+◌, ◌-◌, ◌<◌, ◌≤◌, Some, None}
+use Rattle.std.proofs.Common.{arith}
+use Rattle.futures_lite.specs.Answers.{Answer, Pending, Ready}
+use Rattle.futures_lite.specs.Own.{ItemsLower}
+use Rattle.example_own.specs.declared.counter.Counter.{Counter}
+
+-- one poll of x, which gave this answer and left y
+abbrev pub Step : Counter → Answer ℕ → Counter → Type 0
+Step x Pending y = ⊥
+Step x (Ready (Some n)) y = (x.next < x.end) × (n ≡ x.next) × (y ≡ record x { next = x.next + 1 })
+Step x (Ready None) y = (x.end ≤ x.next) × (y ≡ x)
+
+-- how many items are to come
+abbrev pub left : Counter → ℕ
+left x = x.end - x.next
+
+pub counter_lowers : ItemsLower Step left
+counter_lowers =
+    record {
+      by_item = λ x y n h. rw h.2 (omega (arith, h.0));
+      by_pending = λ x y h. absurd h;
+      by_end = λ x y h. rw h.1 (omega arith);
+    }

@@ -1,0 +1,37 @@
+//! Two streams of one's own, adapted and consumed on this thread.
+use crate::counter::Counter;
+use crate::evens::even_numbers;
+use crate::ticks::Ticks;
+use futures_lite::future::{block_on, poll_fn};
+use futures_lite::{Doorbell, Solo, Stream, StreamExt};
+use std::alloc::AllocGlobal;
+use std::io;
+use std::io::ErrorKind;
+use std::random::RandomSource;
+use std::sync::Wait;
+
+/// Polls the one, filters and collects the other, and prints what came.
+pub fn show<R>(rt: &R) -> io::Result<()>
+where
+    R: Wait + RandomSource + AllocGlobal + Print,
+{
+    let mut ticks = Ticks { next: 1, end: 3 }.map(|x| x as u64 * 3);
+    for _ in 0..3 {
+        match block_on(rt, poll_fn(|cx| ticks.poll_next(cx)))? {
+            Some(x) => println!(rt; "{x}")?,
+            None => println!(rt; "end")?,
+        }
+    }
+    let solo = Solo::new(rt, Doorbell::spinning())?;
+    let mut answers = Vec::new(rt.alloc());
+    let mut cx = solo.begin();
+    let ran = even_numbers(Counter { next: 97, end: 100 }, &mut cx, 2, &mut answers);
+    cx.cancel();
+    ran?;
+    println!(rt; "{answers:?}")?;
+    let evens = Counter { next: 1, end: 10 }.filter(|x| *x % 2 == 0);
+    match block_on(rt, evens.collect::<Vec<u32>>(rt.alloc()))? {
+        Ok(numbers) => println!(rt; "{numbers:?}"),
+        Err(_) => Err(io::Error::from(ErrorKind::OutOfMemory)),
+    }
+}

@@ -1,0 +1,50 @@
+//! A reader that hands on what another reads.
+ghost use Rattle.std.specs.Prelude.{◌≡◌, map};
+ghost use Rattle.std.specs.Char.{to_ascii_uppercase};
+ghost use Rattle.futures_lite.specs.Own.{HandsOn, handing_counting, reader_handing};
+ghost use Rattle.futures_lite.specs.Ranks.{ranks_of};
+ghost use Rattle.example_own.specs.Upper.{inner_of};
+
+use futures_lite::io::{AsyncRead, CountedRead, Tale};
+use futures_lite::{Context, Poll};
+use std::io;
+
+/// Reads what `inner` reads, in upper case.
+#[derive(Drop)]
+pub struct Upper<R> {
+    pub inner: R,
+}
+
+impl<R: Tale> Tale for Upper<R> {
+    ghost reads = { HandsOn inner_of to_ascii_uppercase R.reads };
+
+    ghost read_laws = { reader_handing R.read_laws };
+}
+
+impl<R: AsyncRead> AsyncRead for Upper<R> {
+    ghost leaves = { λ x. R.leaves x.inner };
+
+    fn poll_read(&mut self, cx: &mut Context<'_>, buf: &mut [u8]) -> Poll<io::Result<usize>> {
+        match self.inner.poll_read(cx, buf) {
+            Poll::Ready(Ok(n)) => {
+                make_upper(&mut buf[..n]);
+                Poll::Ready(Ok(n))
+            }
+            Poll::Ready(Err(e)) => Poll::Ready(Err(e)),
+            Poll::Pending => Poll::Pending,
+        }
+    }
+}
+
+// Its rank is the inner reader's, since as many bytes and errors go out as came in.
+impl<R: CountedRead> CountedRead for Upper<R> {
+    ghost ranks = { ranks_of inner_of R.ranks };
+
+    ghost counting = { handing_counting R.counting };
+}
+
+fn make_upper(bytes: &mut [u8])
+    ensures { bytes.new ≡ map to_ascii_uppercase bytes.old }
+{
+    bytes.make_ascii_uppercase();
+}

@@ -1,5 +1,0 @@
-use Rattle.example_own_future.proofs.Waiting.{gives_its_value}
-use Rattle.example_own_future.proofs.waited.Goals as goal
-
-pub returns : goal.returns
-returns g c = gives_its_value _ _ c.in_ok-given.ensures

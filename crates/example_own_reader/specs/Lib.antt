@@ -1,4 +1,0 @@
-pub mod Dots
-pub mod Table
-pub mod Tally
-pub mod Upper
