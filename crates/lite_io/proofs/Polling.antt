@@ -1,5 +1,5 @@
 -- A read that polls the inner reader at most once.
-use Rattle.std.proofs.Common.{◌≡◌, ◌≤◌, ℕ, List, [], Result, length, refl, sym, subst, inl, inr, arith}
+use Rattle.std.proofs.Common.{◌≡◌, ◌≤◌, ℕ, List, [], Result, length, max, refl, sym, subst, inl, inr, arith}
 use Rattle.std.specs.declared.io.Error.{Error}
 use Rattle.futures.specs.declared.task.Poll.{Poll}
 use Rattle.lite_io_base.specs.Marks.{Mark, read_marks}
@@ -21,4 +21,8 @@ module _ {R : Type 0} (reads : Runs Mark R) (most : ℕ) (x y : R) where
         one = elim h.one [ inl none ↦ inl none | inr (r, buf, fits, is) ↦ inr (r, buf, omega (arith, fits, within), is) ];
       }
 
-  pub ruleset polls_rules = (polls_none, polls_one, polls_within)
+-- a read of as much as the buffer has room for
+pub polls_filled : {R : Type 0} (reads : Runs Mark R) (capacity room : ℕ) (x y : R) → PollsOnce reads capacity x y → PollsOnce reads (max capacity room) x y
+polls_filled reads capacity room x y h = polls_within reads (max capacity room) x y capacity (omega arith) h
+
+pub ruleset polls_rules = (polls_none, polls_one, polls_filled)

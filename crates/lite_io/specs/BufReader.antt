@@ -1,5 +1,5 @@
 -- What passes through a `BufReader`.
-use Rattle.std.specs.Prelude.{◌≡◌, ℕ, zero, suc, ◌+◌, List, [], ◌∷◌, ◌++◌, ◌≤◌, ◌⊎◌, length, slice_range, Result}
+use Rattle.std.specs.Prelude.{◌≡◌, ℕ, zero, suc, ◌+◌, List, [], ◌∷◌, ◌++◌, ◌≤◌, ◌<◌, ◌⊎◌, length, slice_range, Result}
 use Rattle.std.specs.declared.io.Error.{Error}
 use Rattle.futures.specs.declared.task.Poll.{Poll}
 use Rattle.lite_io_base.specs.Marks.{Mark, bytes, read_marks}
@@ -46,6 +46,21 @@ pub record PollsOnce {R : Type 0} (reads : Runs Mark R) (most : ℕ) (x y : R) :
   pub told : List Mark
   pub ran : reads x told y
   pub one : OfOneRead most told
+
+-- the inner reader gave one answer, to a read into just so much room
+pub record ReadsOnce {R : Type 0} (reads : Runs Mark R) (room : ℕ) (x y : R) : Type 0 where
+  pub answer : Poll (Result ℕ Error)
+  pub buf : List ℕ
+  pub whole : length buf ≡ room
+  pub ran : reads x (read_marks answer buf) y
+
+-- the inner reader is asked once, for so much room, where nothing is ahead, and else not at all
+abbrev pub AsksWhereEmpty : {R : Type 0} → Runs Mark R → ℕ → BufReader R → BufReader R → Type 0
+AsksWhereEmpty reads room x y = (ahead x ≡ [] → ReadsOnce reads room x.inner y.inner) × (0 < length (ahead x) → y.inner ≡ x.inner)
+
+-- a read past the buffer: the inner reader gave this answer, and nothing is ahead
+abbrev pub ReadsPast : {R : Type 0} → Runs Mark R → BufReader R → List Mark → BufReader R → Type 0
+ReadsPast reads x ms y = reads x.inner ms y.inner × (ahead y ≡ [])
 
 -- what is written goes past the buffer
 abbrev pub Past : {R : Type 0} → Runs Taking R → Runs Taking (BufReader R)

@@ -136,14 +136,15 @@ impl<R: Takings> Takings for BufReader<R> {
 }
 
 impl<R: AsyncRead> BufReader<R> {
-    ghost use Rattle.lite_io.specs.BufReader.{PollsOnce, Through, ahead, capacity_of, inner_of};
+    ghost use Rattle.lite_io.specs.BufReader.{AsksWhereEmpty, PollsOnce, Through, ahead, capacity_of, inner_of};
 
     // Reads ahead if nothing is there.
-    #[tactic(auto, using(crate::proofs::Reading::fill_rules, crate::proofs::Polling::polls_rules))]
+    #[tactic(auto, using(crate::proofs::Reading::fill_rules, crate::proofs::Polling::polls_rules, crate::proofs::Asking::asks_rules))]
     fn fill(&mut self, cx: &mut Context<'_>) -> Poll<io::Result<()>>
         ensures ran { Through R.reads self.old (fill_marks result (ahead self.new)) self.new }
         ensures lends { OnlyOkLends result (ahead self.new) }
         ensures once { PollsOnce R.reads (capacity_of self.old) self.old.inner self.new.inner }
+        ensures asks { AsksWhereEmpty R.reads (capacity_of self.old) self.old self.new }
         ensures left { OnPending result ((fact : Lasting) → R.leaves (inner_of self.new) fact → Holds cx.new fact) }
         ensures kept { Keeps cx.old cx.new }
     {
@@ -177,13 +178,13 @@ impl<R: AsyncRead> BufReader<R> {
 }
 
 impl<R: AsyncRead> AsyncRead for BufReader<R> {
-    ghost use Rattle.lite_io.specs.BufReader.{PollsOnce, Through, capacity_of, inner_of};
+    ghost use Rattle.lite_io.specs.BufReader.{AsksWhereEmpty, PollsOnce, ReadsPast, Through, ahead, capacity_of, inner_of};
 
     ghost leaves = { λ r. R.leaves (inner_of r) };
 
     // A call would hand its answer, which is large, through memory.
     #[inline(always)]
-    #[tactic(auto, using(crate::proofs::Polling::polls_rules))]
+    #[tactic(auto, using(crate::proofs::Polling::polls_rules, crate::proofs::Asking::asks_rules))]
     fn poll_read(&mut self, cx: &mut Context<'_>, buf: &mut [u8]) -> Poll<io::Result<usize>>
         ensures bound { IfReady result (λ r. IfOk r (λ n. n ≤ length buf.new)) }
         ensures ran { Through R.reads self.old (read_marks result buf.new) self.new }
@@ -192,6 +193,13 @@ impl<R: AsyncRead> AsyncRead for BufReader<R> {
 
         // The inner reader is polled at most once.
         ensures once { PollsOnce R.reads (max (capacity_of self.old) (length buf.old)) (inner_of self.old) (inner_of self.new) }
+
+        // With bytes ahead it is not; with none it is asked for as much as the buffer or `buf` has room for.
+        ensures asks { 0 < length buf.old → AsksWhereEmpty R.reads (max (capacity_of self.old) (length buf.old)) self.old self.new }
+
+        // With none ahead, and no less room than the capacity, it reads into `buf` itself.
+        ensures past { 0 < length buf.old → ahead self.old ≡ [] → capacity_of self.old ≤ length buf.old
+            → ReadsPast R.reads self.old (read_marks result buf.new) self.new }
 
         // Without room nothing is polled.
         ensures idle { length buf.old ≡ 0 → (result ≡ Poll.Ready (Ok 0)) × (self.new ≡ self.old) }
@@ -214,7 +222,7 @@ impl<R: AsyncRead> AsyncRead for BufReader<R> {
         Poll::Ready(Ok(n))
     }
 
-    #[tactic(auto, using(crate::proofs::Polling::polls_rules))]
+    #[tactic(auto, using(crate::proofs::Polling::polls_rules, crate::proofs::Asking::asks_rules))]
     fn poll_read_vectored(
         &mut self,
         cx: &mut Context<'_>,
@@ -227,6 +235,13 @@ impl<R: AsyncRead> AsyncRead for BufReader<R> {
 
         // The inner reader is polled at most once.
         ensures once { PollsOnce R.reads (max (capacity_of self.old) (room_in bufs.old)) (inner_of self.old) (inner_of self.new) }
+
+        // With bytes ahead it is not; with none it is asked for as much as the buffer or `bufs` have room for.
+        ensures asks { 0 < room_in bufs.old → AsksWhereEmpty R.reads (max (capacity_of self.old) (room_in bufs.old)) self.old self.new }
+
+        // With none ahead, and no less room than the capacity, it reads into `bufs` themselves.
+        ensures past { 0 < room_in bufs.old → ahead self.old ≡ [] → capacity_of self.old ≤ room_in bufs.old
+            → ReadsInto R.reads (inner_of self.old) result bufs.old (inner_of self.new) × (ahead self.new ≡ []) }
 
         // Without room nothing is polled.
         ensures idle { room_in bufs.old ≡ 0 → (result ≡ Poll.Ready (Ok 0)) × (self.new ≡ self.old) }

@@ -1,4 +1,4 @@
-ghost use Rattle.std.specs.Prelude.{◌≡◌, ◌++◌, List, length, IfOk, IfErr};
+ghost use Rattle.std.specs.Prelude.{◌≡◌, ◌+◌, ◌<◌, ◌⊎◌, ◌++◌, List, length, vec_capacity, vec_len, IfOk, IfErr};
 ghost use Rattle.futures.specs.Task.{Keeps};
 ghost use Rattle.lite_base.specs.Answers.{Answer};
 ghost use Rattle.lite_laws.specs.Both.{Agreed, Fewer};
@@ -13,8 +13,8 @@ use std::alloc::AllocError;
 ///
 /// Where the last answer of a run is pending, the context holds what that stream leaves in it. On `Ok` exactly so many
 /// answers were appended. `AllocError` says that there was no room for one more: of the first stream fewer were appended,
-/// and the second was not polled, or of the second alone fewer were. Each can be polled on from where it stands. The
-/// original has no such call.
+/// and the second was not polled, or of the second alone fewer were; so it does not come where both lists have room. Each
+/// can be polled on from where it stands. The original has no such call.
 pub fn run_both<S: SteadyStream>(
     x: &mut S,
     y: &mut S,
@@ -31,6 +31,7 @@ pub fn run_both<S: SteadyStream>(
         × Agreed S.run S.ample S.needs_none x.old l x.new y.old m y.new × IfOk result (λ _. (length l ≡ polls) × (length m ≡ more))
         × IfWaits l (HoldsEach (S.leaves x.new) cx.new) × IfWaits m (HoldsEach (S.leaves y.new) cx.new)
         × IfErr result (λ _. Fewer l m polls more) }
+    ensures full { IfErr result (λ _. (vec_capacity out.old < vec_len out.old + polls) ⊎ (vec_capacity out_more.old < vec_len out_more.old + more)) }
     ensures again { S.can_poll x.new × S.can_poll y.new }
     ensures kept { Keeps cx.old cx.new }
 {

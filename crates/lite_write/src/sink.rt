@@ -1,4 +1,5 @@
-ghost use Rattle.std.specs.Prelude.{◌≡◌, ◌≤◌, [], Ok, length, IfOk, ⊤};
+ghost use Rattle.std.specs.Prelude.{◌≡◌, ◌<◌, ◌≤◌, [], Ok, length, IfOk, ⊤};
+ghost use Rattle.std.specs.Io.Slices.{io_slices_bytes};
 ghost use Rattle.futures.specs.Poll.{IfReady, OnPending};
 ghost use Rattle.futures.specs.Task.{Holds, Keeps, Lasting};
 ghost use Rattle.lite_io_base.specs.Laws.Runs.{idle_laws};
@@ -8,8 +9,9 @@ ghost use Rattle.lite_write.specs.Laws.Sink.{sinks_calm, sinks_laws, sinks_stead
 ghost use Rattle.lite_write.specs.Sink.{Sinks};
 
 use lite_base::{Context, Poll};
-use lite_io_base::{AsyncWrite, CalmWrite, SteadyWrite, Takings, Tale};
+use lite_io_base::{AsyncWrite, CalmWrite, SteadyWrite, Takings, Tale, first_nonempty};
 use std::io;
+use std::io::IoSlice;
 
 /// A writer that takes all that is offered, and keeps none of it.
 ///
@@ -40,6 +42,21 @@ impl AsyncWrite for Sink {
         ensures kept { Keeps _cx.old _cx.new }
     {
         Poll::Ready(Ok(buf.len()))
+    }
+
+    /// Takes the first of the buffers that has bytes, whole.
+    fn poll_write_vectored(
+        &mut self,
+        cx: &mut Context<'_>,
+        bufs: &[IoSlice<'_>],
+    ) -> Poll<io::Result<usize>>
+        ensures bound { IfReady result (λ r. IfOk r (λ n. n ≤ length (io_slices_bytes bufs.now))) }
+        ensures ran { Sinks self.old (write_marks result (io_slices_bytes bufs.now)) self.new }
+        ensures some { 0 < length (io_slices_bytes bufs.now) → IfReady result (λ r. IfOk r (λ n. 0 < n)) }
+        ensures left { OnPending result ((fact : Lasting) → ⊥ → Holds cx.new fact) }
+        ensures kept { Keeps cx.old cx.new }
+    {
+        self.poll_write(cx, first_nonempty(bufs))
     }
 
     fn poll_flush(&mut self, _cx: &mut Context<'_>) -> Poll<io::Result<()>> {

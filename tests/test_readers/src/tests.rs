@@ -1,3 +1,4 @@
+mod asking;
 mod buffered;
 mod bytes;
 mod cursors;

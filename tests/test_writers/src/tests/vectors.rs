@@ -1,5 +1,6 @@
 use lite_base::Poll;
 use lite_bridge::Cursor;
+use lite_write::make::sink;
 use std::test::Fail;
 use test_support::{finishes, gives, try_write_both, write};
 
@@ -14,5 +15,22 @@ fn a_lent_vector_is_written_to(rt: HostRuntime) -> Result<(), Fail> {
     drop(cursor);
     assert_eq!(rt; bytes.as_slice(), b"Abcd".as_slice());
     assert!(rt; gives(&rt, &mut Cursor::new(&bytes), 9, b"Abcd")?);
+    Ok(())
+}
+
+#[test]
+fn a_sink_takes_the_first_slice_that_has_bytes(rt: HostRuntime) -> Result<(), Fail> {
+    assert_eq!(rt;
+        try_write_both(&rt, &mut sink(), b"", b"cd")?,
+        Poll::Ready(Ok(2))
+    );
+    assert_eq!(rt;
+        try_write_both(&rt, &mut sink(), b"b", b"cd")?,
+        Poll::Ready(Ok(1))
+    );
+    assert_eq!(rt;
+        try_write_both(&rt, &mut sink(), b"", b"")?,
+        Poll::Ready(Ok(0))
+    );
     Ok(())
 }

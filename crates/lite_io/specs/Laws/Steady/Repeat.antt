@@ -1,5 +1,5 @@
 -- `repeat` tells one tale, and is never pending.
-use Rattle.std.proofs.Common.{◌≡◌, ◌∙◌, ℕ, List, [], ◌∷◌, ap, refl, sym}
+use Rattle.std.proofs.Common.{◌≡◌, ◌∙◌, List, [], ◌∷◌, ap, sym}
 use Rattle.std.specs.Prelude.{⊤}
 use Rattle.lite_base.specs.Answers.{Comparable}
 use Rattle.lite_io_base.specs.Laws.Steady.{comparable_unhurried}

@@ -1,4 +1,5 @@
-use Rattle.std.proofs.Common.{rules, ◌∙◌, ◌+◌, [], ◌∷◌, ◌++◌, ap, append_assoc, length-append}
+use Rattle.std.proofs.Common.{rules, arith, ◌∙◌, ◌+◌, [], ◌∷◌, ◌++◌, ap, append_assoc, length-append}
+use Rattle.std.proofs.lemmas.Grind.{common_steps}
 use Rattle.lite_laws.specs.Waits.{waits_last}
 use Rattle.lite_laws.proofs.polls.run.Goals as goal
 
@@ -9,6 +10,7 @@ loop-preserved g c =
     record {
       ready = c.poll_next.ensures.again;
       kept = search rules;
+      grown = grind (arith, common_steps);
       ran = (
         ran.0 ++ last,
         c.push_reserved.ensures.items ∙ (ap (λ k. k ++ last) (c.reserve.ensures.items ∙ ran.1) ∙ append_assoc _ ran.0 last),

@@ -4,6 +4,7 @@ use Rattle.futures.specs.declared.task.Poll.TheVariants.{Ready}
 use Rattle.lite_io_base.specs.Marks.{bytes, filled, read_marks}
 use Rattle.lite_io.specs.BufReader.{Through, ahead}
 use Rattle.lite_io.specs.Laws.BufReader.{through_laws}
+use Rattle.lite_io.proofs.Polling.{polls_filled}
 use Rattle.lite_io.proofs.Ranges.{length-slice_range, slice_range_none}
 use Rattle.lite_io.proofs.Reading.{fill_then_read, moved_none, through_advance, through_past, through_taken}
 use Rattle.lite_io.proofs.buf_reader.BufReaderAsyncRead.poll_read.Goals as goal
@@ -40,3 +41,6 @@ returns-2-clause-ran g c =
     let fits : n ≤ length (ahead s) = omega (arith, len) in
     rw (got, fill_then_read (ahead s) room n is some)
     ((through_laws g.R.Tale.read_laws).follows x s y (filled (ahead s)) (bytes (take n (ahead s))) fills (through_advance reads s y g.R.Tale.read_laws n e.inner e.buf e.pos e.end fits))
+
+pub returns-2-clause-once : goal.returns-2-clause-once
+returns-2-clause-once g c = rw c.advance.ensures.inner (polls_filled g.R.Tale.reads _ (length c.args.buf.now) _ _ c.fill.ensures.once)

@@ -6,6 +6,7 @@ use Rattle.lite_io_base.specs.Marks.{bytes, filled, read_marks}
 use Rattle.lite_io_base.specs.Runs.{room_in}
 use Rattle.lite_io.specs.BufReader.{Through, ahead}
 use Rattle.lite_io.specs.Laws.BufReader.{through_laws}
+use Rattle.lite_io.proofs.Polling.{polls_filled}
 use Rattle.lite_io.proofs.Ranges.{length-slice_range, slice_range_none}
 use Rattle.lite_io.proofs.Reading.{fill_then_read, moved_none, through_advance, through_past, through_taken}
 use Rattle.lite_io.proofs.buf_reader.BufReaderAsyncRead.poll_read_vectored.Goals as goal
@@ -44,3 +45,6 @@ returns-2-clause-ran g c =
     let taken = through_advance reads s y g.R.Tale.read_laws n e.inner e.buf e.pos e.end fits in
     reads_front (Through reads) x y n (take n (ahead s)) bufs (length-take-le n (ahead s) fits) (omega arith)
     (λ buf room. rw (fill_then_read (ahead s) buf n (omega arith) (omega arith)) ((through_laws g.R.Tale.read_laws).follows x s y (filled (ahead s)) (bytes (take n (ahead s))) fills taken))
+
+pub returns-2-clause-once : goal.returns-2-clause-once
+returns-2-clause-once g c = rw c.advance.ensures.inner (polls_filled g.R.Tale.reads _ (room_in c.args.bufs.now) _ _ c.fill.ensures.once)
