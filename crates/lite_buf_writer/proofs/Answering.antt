@@ -1,6 +1,7 @@
 -- What an answer leaves.
 use Rattle.std.proofs.Common.{◌≡◌, ◌∙◌, ℕ, ◌≤◌, List, [], ◌∷◌, ◌++◌, length, take, inl, inr, refl, sym, ap, subst, arith, take_all, append-nil}
 use Rattle.std.proofs.lemmas.List.{length-take}
+use Rattle.std.specs.Box.{boxed_slice_items}
 use Rattle.std.specs.IoError.{error_kind}
 use Rattle.std.specs.Prelude.{Result, Ok, Err}
 use Rattle.std.specs.declared.io.Error.{Error}
@@ -20,8 +21,8 @@ pub shown_none : {W E : Type 0} (x m y : BufWriter W) (r : Poll (Result ℕ E)) 
 shown_none x m y Pending none buf written len = let same : buffered y ≡ buffered m = rw (buf, len) refl in inr (same ∙ none)
 shown_none x m y (Ready r) none buf written len =
     let same : buffered y ≡ buffered m = rw (buf, len) refl in
-    let empty : y.len ≡ 0 = omega (arith, ap length (same ∙ none), length-take y.len y.buf.items, y.in_range.1) in
-    same ∙ none ∙ sym (range_none y.buf.items y.written y.len (omega (arith, empty)))
+    let empty : y.len ≡ 0 = omega (arith, ap length (same ∙ none), length-take y.len (boxed_slice_items y.buf), y.in_range.1) in
+    same ∙ none ∙ sym (range_none (boxed_slice_items y.buf) y.written y.len (omega (arith, empty)))
 
 module _ {W : Type 0} (writes : Runs Taking W) where
   -- one answer
@@ -125,8 +126,8 @@ module _ {W : Type 0} (writes : Runs Taking W) where
     emptied x m count (inl f) large = f
     emptied x m count (inr (same, is, fits)) large =
         let big : capacity_of x ≤ count = subst (λ v. capacity_of v ≤ count) same large in
-        let none : x.len ≡ 0 = omega (arith, fits, big, length-take x.len x.buf.items, x.in_range.1) in
-        subst (λ v. FlushesBuffer writes x (Ready (Ok tt)) v) (sym same) (flush_none x (range_none x.buf.items x.written x.len (omega (arith, none))))
+        let none : x.len ≡ 0 = omega (arith, fits, big, length-take x.len (boxed_slice_items x.buf), x.in_range.1) in
+        subst (λ v. FlushesBuffer writes x (Ready (Ok tt)) v) (sym same) (flush_none x (range_none (boxed_slice_items x.buf) x.written x.len (omega (arith, none))))
 
     -- a write of as many bytes as the capacity
     pub room_then_past : (x m y : BufWriter W) (xs : List ℕ) (r : Poll (Result ℕ Error)) → MakesRoom writes x (length xs) (Ready (Ok tt)) m

@@ -2,6 +2,7 @@
 use Rattle.std.proofs.Common.{◌≡◌, ◌∙◌, ℕ, ◌+◌, ◌-◌, ◌≤◌, ◌<◌, List, [], ◌∷◌, ◌++◌, length, take, drop, slice_range}
 use Rattle.std.proofs.Common.{refl, sym, ap, subst, arith, take-append-drop, drop-drop, length-drop, length-take-le}
 use Rattle.std.proofs.lemmas.List.{drop-take, drop-append-le, length-take}
+use Rattle.std.specs.Box.{boxed_slice_items}
 use Rattle.std.specs.declared.io.ErrorKind.{ErrorKind}
 use Rattle.std.specs.declared.io.ErrorKind.TheVariants.{Interrupted}
 use Rattle.std.specs.Prelude.{Ok, Err}
@@ -40,7 +41,7 @@ length-range : (xs : List ℕ) (i j : ℕ) → i ≤ j → j ≤ length xs → l
 length-range xs i j p q = omega (arith, length-take (j - i) (drop i xs), length-drop i xs)
 
 pub length-held : {W : Type 0} (x : BufWriter W) → length (held x) ≡ x.len - x.written
-length-held x = length-range x.buf.items x.written x.len x.in_range.0 x.in_range.1
+length-held x = length-range (boxed_slice_items x.buf) x.written x.len x.in_range.0 x.in_range.1
 
 pub held_same : {W : Type 0} (x y : BufWriter W) → y.buf ≡ x.buf → y.written ≡ x.written → y.len ≡ x.len → held y ≡ held x
 held_same x y buf written len = rw (buf, written, len) refl
@@ -63,8 +64,8 @@ module _ {W : Type 0} (writes : Runs Taking W) (laws : RunLaws writes) where
       → 0 < k → k ≤ length (held y) → z.buf ≡ y.buf → z.written ≡ y.written + k → z.len ≡ y.len → Draining writes x z 0
   drain_some x y z n k d ran some fits buf written len =
       let within : y.written + k ≤ y.len = omega (arith, length-held y, y.in_range.0) in
-      let next : slice_range y.buf.items (y.written + k) y.len ≡ held z = rw (buf, written, len) refl in
-      let cut : held y ≡ take k (held y) ++ held z = range_split y.buf.items y.written y.len k within ∙ ap (λ l. take k (held y) ++ l) next in
+      let next : slice_range (boxed_slice_items y.buf) (y.written + k) y.len ≡ held z = rw (buf, written, len) refl in
+      let cut : held y ≡ take k (held y) ++ held z = range_split (boxed_slice_items y.buf) y.written y.len k within ∙ ap (λ l. take k (held y) ++ l) next in
       let front = take k (held y) in
       record {
         taken = d.taken ++ Taking.wrote front ∷ [];
@@ -96,11 +97,11 @@ module _ {W : Type 0} (writes : Runs Taking W) (laws : RunLaws writes) where
       record {
         taken = d.taken;
         ran = rw inner d.ran;
-        capacity = capacity ∙ ap (λ b. length b.items) d.buf;
+        capacity = capacity ∙ ap (λ b. length (boxed_slice_items b)) d.buf;
         empties = (
           n,
-          subst (λ l. Drains (held x) d.taken l n) (range_none y.buf.items y.written y.len none) d.drains,
-          range_none z.buf.items z.written z.len (omega (arith, len)),
+          subst (λ l. Drains (held x) d.taken l n) (range_none (boxed_slice_items y.buf) y.written y.len none) d.drains,
+          range_none (boxed_slice_items z.buf) z.written z.len (omega (arith, len)),
         );
       }
 
@@ -116,7 +117,7 @@ module _ {W : Type 0} (writes : Runs Taking W) (laws : RunLaws writes) where
       record {
         taken = d.taken ++ Taking.pending ∷ [];
         ran = laws.follows x.inner y.inner z.inner d.taken (Taking.pending ∷ []) d.ran ran;
-        capacity = capacity ∙ ap (λ b. length b.items) d.buf;
+        capacity = capacity ∙ ap (λ b. length (boxed_slice_items b)) d.buf;
         empties = (segment_of x y z n (Taking.pending ∷ []) Taking.pending d (refl, same), omega (arith, length-held y, ap length same));
       }
 
@@ -127,6 +128,6 @@ module _ {W : Type 0} (writes : Runs Taking W) (laws : RunLaws writes) where
       record {
         taken = d.taken ++ last;
         ran = rw inner (laws.follows x.inner y.inner w d.taken last d.ran ran);
-        capacity = capacity ∙ ap (λ b. length b.items) d.buf;
+        capacity = capacity ∙ ap (λ b. length (boxed_slice_items b)) d.buf;
         empties = (segment_of x y z n last (Taking.fault kind) d (fault, same), omega (arith, length-held y, ap length same));
       }

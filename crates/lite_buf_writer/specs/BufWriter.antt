@@ -1,5 +1,6 @@
 -- What passes through a `BufWriter`.
 use Rattle.std.specs.Prelude.{◌≡◌, ◌<◌, ◌≤◌, ◌⊎◌, ◌+◌, ℕ, List, [], ◌∷◌, ◌++◌, length, take, slice_range, Result, Ok, Err}
+use Rattle.std.specs.Box.{boxed_slice_items}
 use Rattle.std.specs.declared.io.ErrorKind.{ErrorKind}
 use Rattle.std.specs.declared.io.ErrorKind.TheVariants.{Interrupted, WriteZero}
 use Rattle.std.specs.declared.io.traits.SeekFrom.{SeekFrom}
@@ -12,17 +13,17 @@ use Rattle.lite_buf_writer.specs.declared.buf_writer.BufWriter.{BufWriter}
 
 -- the bytes in the buffer
 abbrev pub buffered : {W : Type 0} → BufWriter W → List ℕ
-buffered w = take w.len w.buf.items
+buffered w = take w.len (boxed_slice_items w.buf)
 
 -- those of them that the inner writer has not taken
 abbrev pub held : {W : Type 0} → BufWriter W → List ℕ
-held w = slice_range w.buf.items w.written w.len
+held w = slice_range (boxed_slice_items w.buf) w.written w.len
 
 abbrev pub inner_of : {W : Type 0} → BufWriter W → W
 inner_of w = w.inner
 
 abbrev pub capacity_of : {W : Type 0} → BufWriter W → ℕ
-capacity_of w = length w.buf.items
+capacity_of w = length (boxed_slice_items w.buf)
 
 -- what was held and then accepted is what the inner writer took and then is held
 abbrev pub Balanced : List ℕ → List Taking → List Taking → List ℕ → Type 0

@@ -1,5 +1,6 @@
 ghost use Rattle.std.specs.Prelude.{◌≡◌, ◌+◌, ◌<◌, ◌≤◌, [], Ok, ◌++◌, length, IfOk, IfErr};
 ghost use Rattle.std.specs.Borrow.{Lends, sem};
+ghost use Rattle.std.specs.Box.{boxed_slice_items};
 ghost use Rattle.futures.specs.Poll.{IfReady, OnPending};
 ghost use Rattle.futures.specs.Task.{Keeps, Lasting, Holds};
 ghost use Rattle.lite_io_base.specs.Kinds.{by_kind};
@@ -11,6 +12,7 @@ ghost use Rattle.lite_io_base.specs.Takings.Taking.{closed, flushed};
 use lite_base::{Context, Poll, ready};
 use lite_io_base::{AsyncSeek, AsyncWrite, Takings, Tale};
 use std::alloc::Global;
+use std::boxed::BoxedSlice;
 use std::io;
 use std::io::{ErrorKind, SeekFrom};
 
@@ -33,10 +35,10 @@ const MOST_INTERRUPTIONS: usize = 16;
 pub struct BufWriter<W> {
     inner: W,
     // As long as the capacity. The buffered bytes are at ..len, and the inner writer took those at ..written.
-    buf: Vec<u8>,
+    buf: BoxedSlice<u8>,
     written: usize,
     len: usize,
-    ghost in_range: { (written ≤ len) × (len ≤ length buf.items) },
+    ghost in_range: { (written ≤ len) × (len ≤ length (boxed_slice_items buf)) },
 }
 
 impl<W: Drop> BufWriter<W> {
@@ -64,7 +66,7 @@ impl<W: Drop> BufWriter<W> {
         match vec![in alloc; 0; capacity] {
             Ok(buf) => Ok(BufWriter {
                 inner,
-                buf,
+                buf: buf.into_boxed_slice(),
                 written: 0,
                 len: 0,
             }),

@@ -1,4 +1,5 @@
 use Rattle.std.proofs.Common.{◌≡◌, ◌∙◌, ◌+◌, length, Err, inl, inr, refl, ap, rules, arith}
+use Rattle.std.specs.Box.{boxed_slice_items}
 use Rattle.std.specs.IoError.{error_kind}
 use Rattle.std.specs.declared.io.ErrorKind.TheVariants.{Interrupted}
 use Rattle.futures.specs.declared.task.Poll.TheVariants.{Ready}
@@ -19,7 +20,7 @@ returns-in-Ready-Ok-eq0-clause-ran g c =
     drain_fails g.W.Takings.writes g.W.Takings.write_laws c.args.self.now
     y c.shift.new.self c.writes.interruptions _ (error_kind c.into.result) c.offer.new.self.inner
     c.writes.invariant.0 ran s.inner c.writes-test.true (inr (refl, c.into.ensures, omega (arith, length-held y, c.writes-test.true)))
-    (s.capacity ∙ ap (λ b. length b.items) e.buf) (s.held ∙ same)
+    (s.capacity ∙ ap (λ b. length (boxed_slice_items b)) e.buf) (s.held ∙ same)
 
 pub writes-preserved-in-Ready-Ok : goal.writes-preserved-in-Ready-Ok
 writes-preserved-in-Ready-Ok g c =
@@ -65,7 +66,7 @@ returns-in-Ready-Err-2-clause-ran g c =
         | else-eq w ↦ absurd (search rules)
       ],
     ))
-    (s.capacity ∙ ap (λ b. length b.items) e.buf) (s.held ∙ same)
+    (s.capacity ∙ ap (λ b. length (boxed_slice_items b)) e.buf) (s.held ∙ same)
 
 pub returns-in-Pending-clause-ran : goal.returns-in-Pending-clause-ran
 returns-in-Pending-clause-ran g c =
@@ -74,4 +75,4 @@ returns-in-Pending-clause-ran g c =
     let ran = rw c.in-Pending.is at e.ran in
     drain_waits g.W.Takings.writes g.W.Takings.write_laws c.args.self.now
     y c.offer.new.self c.writes.interruptions c.writes.invariant.0 ran c.writes-test.true
-    (ap (λ b. length b.items) e.buf) (held_same y c.offer.new.self e.buf e.written e.len)
+    (ap (λ b. length (boxed_slice_items b)) e.buf) (held_same y c.offer.new.self e.buf e.written e.len)
