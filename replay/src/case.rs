@@ -60,10 +60,10 @@ fn of_nest(
     if let Some(polling) = Polling::of(mode, words)? {
         return polling.answered(Nest::build(alloc, words)?, cx, answers);
     }
-    if let Some(consumer) = Consumer::of(mode, words)? {
+    if let Some(consumer) = Consumer::of(mode, alloc, words)? {
         return consumer.answered(Nest::build(alloc, words)?, alloc, cx, answers);
     }
-    if let Some(search) = Search::of(mode, words)? {
+    if let Some(search) = Search::of(mode, alloc, words)? {
         return search.answered(Nest::build(alloc, words)?, cx, answers);
     }
     match Trial::of(mode, words)? {
@@ -80,7 +80,7 @@ fn of_lent_nest(
     answers: &mut Answers,
 ) -> Result<(), Fault> {
     let mode = words.take()?;
-    let Some(consumer) = Consumer::of(mode, words)? else {
+    let Some(consumer) = Consumer::of(mode, alloc, words)? else {
         return Err(Fault::Words);
     };
     let mut nest = Nest::build(alloc, words)?;

@@ -1,14 +1,38 @@
 //! The functions that a case names by a number, and the streams and futures that are made of items.
 use crate::bursts::{Burst, Later, TryStep, UnfoldStep};
 use crate::words::Fault;
+use std::alloc::Global;
 
-pub(crate) fn map_of(k: usize) -> Result<fn(i64) -> i64, Fault> {
-    match k {
-        0 => Ok(double),
-        1 => Ok(negate),
-        2 => Ok(plus_three),
-        _ => Err(Fault::Words),
-    }
+/// A function that is called again and again, which may keep something of its calls.
+pub(crate) type Change = Box<dyn FnMut(i64) -> i64>;
+
+pub(crate) type Test = Box<dyn FnMut(&i64) -> bool>;
+
+pub(crate) type ValueTest = Box<dyn FnMut(i64) -> bool>;
+
+pub(crate) type Part = Box<dyn FnMut(i64) -> Option<i64>>;
+
+pub(crate) type Step = Box<dyn FnMut(&mut i64, i64) -> Option<i64>>;
+
+pub(crate) fn map_of(alloc: Global, k: usize) -> Result<Change, Fault> {
+    let f: fn(i64) -> i64 = match k {
+        0 => double,
+        1 => negate,
+        2 => plus_three,
+        5 => return times_calls(alloc),
+        _ => return Err(Fault::Words),
+    };
+    Ok(Box::new(alloc, f)?)
+}
+
+/// The item times how many calls there were, this one among them.
+fn times_calls(alloc: Global) -> Result<Change, Fault> {
+    let mut calls = 0i64;
+    let f = move |x: i64| {
+        calls = calls.wrapping_add(1);
+        x.wrapping_mul(calls)
+    };
+    Ok(Box::new(alloc, f)?)
 }
 
 fn double(x: i64) -> i64 {
@@ -23,15 +47,27 @@ fn plus_three(x: i64) -> i64 {
     x.wrapping_add(3)
 }
 
-pub(crate) fn predicate_of(k: usize) -> Result<fn(&i64) -> bool, Fault> {
-    match k {
-        0 => Ok(is_even),
-        1 => Ok(is_large),
-        2 => Ok(is_any),
-        3 => Ok(is_none),
-        4 => Ok(is_third),
-        _ => Err(Fault::Words),
-    }
+pub(crate) fn predicate_of(alloc: Global, k: usize) -> Result<Test, Fault> {
+    let f: fn(&i64) -> bool = match k {
+        0 => is_even,
+        1 => is_large,
+        2 => is_any,
+        3 => is_none,
+        4 => is_third,
+        5 => return is_second_call(alloc),
+        _ => return Err(Fault::Words),
+    };
+    Ok(Box::new(alloc, f)?)
+}
+
+/// Whether this is the second call, the fourth and so on, whatever the item is.
+fn is_second_call(alloc: Global) -> Result<Test, Fault> {
+    let mut is_second = true;
+    let f = move |_x: &i64| {
+        is_second = !is_second;
+        is_second
+    };
+    Ok(Box::new(alloc, f)?)
 }
 
 fn is_even(x: &i64) -> bool {
@@ -54,15 +90,26 @@ fn is_third(x: &i64) -> bool {
     *x % 3 == 0
 }
 
-pub(crate) fn value_of(k: usize) -> Result<fn(i64) -> bool, Fault> {
-    match k {
-        0 => Ok(even),
-        1 => Ok(large),
-        2 => Ok(any),
-        3 => Ok(none),
-        4 => Ok(third),
-        _ => Err(Fault::Words),
-    }
+pub(crate) fn value_of(alloc: Global, k: usize) -> Result<ValueTest, Fault> {
+    let f: fn(i64) -> bool = match k {
+        0 => even,
+        1 => large,
+        2 => any,
+        3 => none,
+        4 => third,
+        5 => return second_call(alloc),
+        _ => return Err(Fault::Words),
+    };
+    Ok(Box::new(alloc, f)?)
+}
+
+fn second_call(alloc: Global) -> Result<ValueTest, Fault> {
+    let mut is_second = true;
+    let f = move |_x: i64| {
+        is_second = !is_second;
+        is_second
+    };
+    Ok(Box::new(alloc, f)?)
 }
 
 fn even(x: i64) -> bool {
@@ -85,15 +132,26 @@ fn third(x: i64) -> bool {
     is_third(&x)
 }
 
-pub(crate) fn part_of(k: usize) -> Result<fn(i64) -> Option<i64>, Fault> {
-    match k {
-        0 => Ok(half),
-        1 => Ok(less),
-        2 => Ok(all),
-        3 => Ok(nothing),
-        4 => Ok(tripled),
-        _ => Err(Fault::Words),
-    }
+pub(crate) fn part_of(alloc: Global, k: usize) -> Result<Part, Fault> {
+    let f: fn(i64) -> Option<i64> = match k {
+        0 => half,
+        1 => less,
+        2 => all,
+        3 => nothing,
+        4 => tripled,
+        5 => return all_at_second_calls(alloc),
+        _ => return Err(Fault::Words),
+    };
+    Ok(Box::new(alloc, f)?)
+}
+
+fn all_at_second_calls(alloc: Global) -> Result<Part, Fault> {
+    let mut is_second = true;
+    let f = move |x: i64| {
+        is_second = !is_second;
+        if is_second { Some(x) } else { None }
+    };
+    Ok(Box::new(alloc, f)?)
 }
 
 fn half(x: i64) -> Option<i64> {
@@ -120,13 +178,26 @@ fn tripled(x: i64) -> Option<i64> {
     }
 }
 
-pub(crate) fn step_of(k: usize) -> Result<fn(&mut i64, i64) -> Option<i64>, Fault> {
-    match k {
-        0 => Ok(sum_below),
-        1 => Ok(count_out),
-        2 => Ok(difference),
-        _ => Err(Fault::Words),
-    }
+pub(crate) fn step_of(alloc: Global, k: usize) -> Result<Step, Fault> {
+    let f: fn(&mut i64, i64) -> Option<i64> = match k {
+        0 => sum_below,
+        1 => count_out,
+        2 => difference,
+        5 => return sum_at_second_calls(alloc),
+        _ => return Err(Fault::Words),
+    };
+    Ok(Box::new(alloc, f)?)
+}
+
+/// Adds up at each call, and tells the sum at each second one.
+fn sum_at_second_calls(alloc: Global) -> Result<Step, Fault> {
+    let mut is_second = true;
+    let f = move |sum: &mut i64, x: i64| {
+        is_second = !is_second;
+        *sum = (*sum).wrapping_add(x);
+        if is_second { Some(*sum) } else { None }
+    };
+    Ok(Box::new(alloc, f)?)
 }
 
 fn sum_below(sum: &mut i64, x: i64) -> Option<i64> {

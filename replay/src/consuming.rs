@@ -1,6 +1,6 @@
 //! Futures that take their stream.
 use crate::answers::Answers;
-use crate::closures::{folded, ok_of, paired, predicate_of};
+use crate::closures::{Test, folded, ok_of, paired, predicate_of};
 use crate::words::{Fault, Words};
 use futures_lite::stream::{Counted, TryCollectError};
 use futures_lite::{Context, StreamExt};
@@ -8,7 +8,7 @@ use std::alloc::{AllocError, Global};
 use std::collections::{BTreeMap, BTreeSet, VecDeque};
 
 /// A future that takes its stream, with what it is made of.
-#[derive(Clone, Copy)]
+#[derive(Drop)]
 pub(crate) enum Consumer {
     Count,
     Last,
@@ -19,14 +19,18 @@ pub(crate) enum Consumer {
     CollectSet,
     CollectMap,
     CollectText,
-    Partition(fn(&i64) -> bool),
+    Partition(Test),
     Unzip,
     TryCollect(fn(i64) -> Result<i64, i64>),
 }
 
 impl Consumer {
     /// The future of this name.
-    pub(crate) fn of(mode: &str, words: &mut Words<'_>) -> Result<Option<Consumer>, Fault> {
+    pub(crate) fn of(
+        mode: &str,
+        alloc: Global,
+        words: &mut Words<'_>,
+    ) -> Result<Option<Consumer>, Fault> {
         let consumer = match mode {
             "count" => Consumer::Count,
             "last" => Consumer::Last,
@@ -37,7 +41,7 @@ impl Consumer {
             "collect_set" => Consumer::CollectSet,
             "collect_map" => Consumer::CollectMap,
             "collect_text" => Consumer::CollectText,
-            "partition" => Consumer::Partition(predicate_of(words.number()?)?),
+            "partition" => Consumer::Partition(predicate_of(alloc, words.number()?)?),
             "unzip" => Consumer::Unzip,
             "try_collect" => Consumer::TryCollect(ok_of(words.number()?)?),
             _ => return Ok(None),
@@ -183,7 +187,7 @@ fn letter(x: i64) -> char {
 
 fn partitioned<S: Counted<Item = i64> + Drop>(
     nest: S,
-    f: fn(&i64) -> bool,
+    f: Test,
     alloc: Global,
     cx: &mut Context<'_>,
     answers: &mut Answers,

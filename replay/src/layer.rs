@@ -4,7 +4,8 @@ ghost use Rattle.futures_lite.specs.Own.{AnyAnswers, NoHint, anything_stream};
 use crate::bits::Bits;
 use crate::bursts::{Burst, Later};
 use crate::closures::{
-    burst, later, map_of, nothing_seen, pair_of, part_of, predicate_of, step_of,
+    Change, Part, Step, Test, burst, later, map_of, nothing_seen, pair_of, part_of, predicate_of,
+    step_of,
 };
 use crate::leaf::Build;
 use crate::words::{Fault, Words};
@@ -20,21 +21,21 @@ use std::alloc::Global;
 #[derive(Drop)]
 pub(crate) enum Layer<S: Counted<Item = i64> + Drop> {
     Plain(S),
-    Map(Map<S, fn(i64) -> i64>),
-    Filter(Filter<S, fn(&i64) -> bool>),
-    FilterMap(FilterMap<S, fn(i64) -> Option<i64>>),
+    Map(Map<S, Change>),
+    Filter(Filter<S, Test>),
+    FilterMap(FilterMap<S, Part>),
     Take(Take<S>),
     Skip(Skip<S>),
     StepBy(StepBy<S>),
-    TakeWhile(TakeWhile<S, fn(&i64) -> bool>),
-    SkipWhile(SkipWhile<S, fn(&i64) -> bool>),
-    MapWhile(MapWhile<S, fn(i64) -> Option<i64>>),
+    TakeWhile(TakeWhile<S, Test>),
+    SkipWhile(SkipWhile<S, Test>),
+    MapWhile(MapWhile<S, Part>),
     Enumerate(Enumerate<S>),
     Inspect(Inspect<S, fn(&i64)>),
     Flatten(Flatten<Map<S, fn(i64) -> Burst>>),
     FlatMap(FlatMap<S, Burst, fn(i64) -> Burst>),
     Then(Then<S, fn(i64) -> Later, Later>),
-    Scan(Scan<S, i64, fn(&mut i64, i64) -> Option<i64>>),
+    Scan(Scan<S, i64, Step>),
     Fuse(Fuse<S>),
     Chain(Chain<S, S>),
     Zip(Zip<S, S>),
@@ -164,27 +165,27 @@ fn by_answers<S: Build + Counted<Item = i64> + Drop>(
 ) -> Result<Option<Layer<S>>, Fault> {
     let layer = match word {
         "map" => {
-            let f = map_of(words.number()?)?;
+            let f = map_of(alloc, words.number()?)?;
             Layer::Map(S::build(alloc, words)?.map(f))
         }
         "filter" => {
-            let f = predicate_of(words.number()?)?;
+            let f = predicate_of(alloc, words.number()?)?;
             Layer::Filter(S::build(alloc, words)?.filter(f))
         }
         "filter_map" => {
-            let f = part_of(words.number()?)?;
+            let f = part_of(alloc, words.number()?)?;
             Layer::FilterMap(S::build(alloc, words)?.filter_map(f))
         }
         "take_while" => {
-            let f = predicate_of(words.number()?)?;
+            let f = predicate_of(alloc, words.number()?)?;
             Layer::TakeWhile(S::build(alloc, words)?.take_while(f))
         }
         "skip_while" => {
-            let f = predicate_of(words.number()?)?;
+            let f = predicate_of(alloc, words.number()?)?;
             Layer::SkipWhile(S::build(alloc, words)?.skip_while(f))
         }
         "map_while" => {
-            let f = part_of(words.number()?)?;
+            let f = part_of(alloc, words.number()?)?;
             Layer::MapWhile(S::build(alloc, words)?.map_while(f))
         }
         _ => return Ok(None),
@@ -211,7 +212,7 @@ fn by_streams_and_futures<S: Build + Counted<Item = i64> + Drop>(
             Layer::Then(S::build(alloc, words)?.then(f))
         }
         "scan" => {
-            let f = step_of(words.number()?)?;
+            let f = step_of(alloc, words.number()?)?;
             let initial = words.signed()?;
             Layer::Scan(S::build(alloc, words)?.scan(initial, f))
         }

@@ -1,32 +1,36 @@
 //! Futures that are lent their stream and stop at an item. What is left of the stream is polled after the value.
 use crate::answers::Answers;
-use crate::closures::{part_of, predicate_of, value_of};
+use crate::closures::{Part, Test, ValueTest, part_of, predicate_of, value_of};
 use crate::words::{Fault, Words};
 use futures_lite::stream::Counted;
 use futures_lite::{Context, StreamExt};
-use std::alloc::AllocError;
+use std::alloc::{AllocError, Global};
 
 /// A future that looks for an item, with what it is made of.
-#[derive(Clone, Copy)]
+#[derive(Drop)]
 pub(crate) enum Search {
     Nth(usize),
-    Find(fn(&i64) -> bool),
-    FindMap(fn(i64) -> Option<i64>),
-    Position(fn(i64) -> bool),
-    All(fn(i64) -> bool),
-    Any(fn(i64) -> bool),
+    Find(Test),
+    FindMap(Part),
+    Position(ValueTest),
+    All(ValueTest),
+    Any(ValueTest),
 }
 
 impl Search {
     /// The future of this name.
-    pub(crate) fn of(mode: &str, words: &mut Words<'_>) -> Result<Option<Search>, Fault> {
+    pub(crate) fn of(
+        mode: &str,
+        alloc: Global,
+        words: &mut Words<'_>,
+    ) -> Result<Option<Search>, Fault> {
         let search = match mode {
             "nth" => Search::Nth(words.number()?),
-            "find" => Search::Find(predicate_of(words.number()?)?),
-            "find_map" => Search::FindMap(part_of(words.number()?)?),
-            "position" => Search::Position(value_of(words.number()?)?),
-            "all" => Search::All(value_of(words.number()?)?),
-            "any" => Search::Any(value_of(words.number()?)?),
+            "find" => Search::Find(predicate_of(alloc, words.number()?)?),
+            "find_map" => Search::FindMap(part_of(alloc, words.number()?)?),
+            "position" => Search::Position(value_of(alloc, words.number()?)?),
+            "all" => Search::All(value_of(alloc, words.number()?)?),
+            "any" => Search::Any(value_of(alloc, words.number()?)?),
             _ => return Ok(None),
         };
         Ok(Some(search))
