@@ -10,6 +10,7 @@ pub use Rattle.lite_stream.specs.Laws.EachItem
 pub use Rattle.lite_stream.specs.Laws.Pointwise
 pub use Rattle.lite_stream.specs.Laws.Through
 pub use Rattle.lite_sift.specs.Laws.Leaving
+pub use Rattle.lite_source.specs.Laws.Iterators
 pub use Rattle.lite_source.specs.Laws.Script
 pub use Rattle.lite_nests.specs.Laws.Each
 pub use Rattle.lite_nests.specs.Laws.Fronts

@@ -9,6 +9,8 @@ pub use Rattle.lite_io.specs.Chain
 pub use Rattle.lite_io.specs.Repeat
 pub use Rattle.lite_io.specs.Take
 pub use Rattle.lite_bridge.specs.Cursor
+pub use Rattle.lite_laws.specs.BothReaders.{BothRead, NotRefused, ReadsUp}
 pub use Rattle.lite_read.specs.Bytes
 pub use Rattle.lite_read.specs.ReadExact
 pub use Rattle.lite_read.specs.ReadToEnd
+pub use Rattle.lite_read.specs.Settling.{SameByKind, SameOr}

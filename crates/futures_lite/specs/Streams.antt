@@ -1,7 +1,9 @@
 -- Streams: the type of each adapter of the library, as specs see it, and what its runs are.
 pub use Rattle.lite_source.specs.Iter.{AlwaysNext, Iterates, NeverRaised, Nexts}
 pub use Rattle.lite_source.specs.Script.{Gives as GivesScript}
+pub use Rattle.lite_source.specs.Unfolding.{BothHave, HoldingsBy, PartOf, UnfoldAlike}
 pub use Rattle.lite_source.specs.declared.iter.Iter.{Iter}
+pub use Rattle.lite_stream.specs.Copied.{Referred}
 pub use Rattle.lite_stream.specs.Enumerate.{Enumerates, Numbers}
 pub use Rattle.lite_stream.specs.Fuse.{Fuses}
 pub use Rattle.lite_stream.specs.Map.{Maps}
@@ -27,7 +29,7 @@ pub use Rattle.lite_sift.specs.declared.skip.Skip.{Skip}
 pub use Rattle.lite_sift.specs.declared.skip_while.SkipWhile.{SkipWhile}
 pub use Rattle.lite_sift.specs.declared.step_by.StepBy.{StepBy}
 pub use Rattle.lite_flatten.specs.Chain.{Chains}
-pub use Rattle.lite_flatten.specs.Cloned.{ClonesAll, ClonesUnrefused}
+pub use Rattle.lite_flatten.specs.Cloned.{AlikeCloned, ClonedFrom, ClonesAll, ClonesUnrefused, EqualClones}
 pub use Rattle.lite_flatten.specs.FlatMap.{FlatMaps}
 pub use Rattle.lite_flatten.specs.Flatten.{Flattens}
 pub use Rattle.lite_flatten.specs.Then.{Thens}

@@ -1,6 +1,7 @@
 //! Futures: what makes them, and what every future can be combined by.
 ghost use Rattle.std.specs.Prelude.{◌≡◌};
 
+pub use lite_base::Future;
 pub use lite_base::future::block_on::{BlockOn, block_on};
 pub use lite_base::future::make::{
     fuse, or, pending, poll_fn, poll_once, race, race_with_seed, ready, try_zip, yield_now, zip,
@@ -8,7 +9,6 @@ pub use lite_base::future::make::{
 pub use lite_base::future::{
     Fuse, Or, Pending, PollFn, PollOnce, Race, Ready, TryZip, YieldNow, Zip,
 };
-pub use lite_base::{CalmFuture, Future, SteadyFuture};
 use rand_core::Rng;
 
 /// What every future can be combined by. Ported from `src/future.rs`, `FutureExt`.

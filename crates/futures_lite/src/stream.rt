@@ -4,7 +4,7 @@ ghost use Rattle.lite_cycle.specs.Cycle.{CycleOf};
 ghost use Rattle.lite_flatten.specs.declared.chain.Part.TheVariants.{First};
 
 use lite_base::Future;
-pub use lite_base::{CalmStream, Counted, OkCounted, SteadyStream, Stream};
+pub use lite_base::{Counted, OkCounted, Stream};
 pub use lite_block::BlockOn;
 pub use lite_block::make::block_on;
 pub use lite_consume::{

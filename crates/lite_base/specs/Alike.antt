@@ -1,5 +1,6 @@
 -- Runs that differ in when they were pending alone.
-use Rattle.std.specs.Prelude.{◌≡◌, ⊤, List, Option, Some, None}
+use Rattle.std.specs.Prelude.{◌≡◌, ◌⊎◌, ⊤, List, Option, Some, None, Result, Ok, Err}
+use Rattle.std.specs.List.{AllZip}
 use Rattle.futures.specs.declared.task.Poll.{Poll}
 use Rattle.lite_base.specs.Answers.{ComparableBy, strip}
 
@@ -14,13 +15,59 @@ OptionBy same (Some x) (Some y) = same x y
 abbrev pub AlikeBy : {S A : Type 0} → (A → A → Type 0) → (S → List (Poll A) → S → Type 0) → S → S → Type 0
 AlikeBy {S} {A} same run x y = (l m : List (Poll A)) (x' y' : S) → run x l x' → run y m y' → ComparableBy same (strip l) (strip m)
 
--- what is the same is equal
-abbrev pub Exact : {A : Type 0} → (A → A → Type 0) → Type 0
-Exact {A} same = (v w : A) → same v w → v ≡ w
+-- when two items are the same: where they are equal, or by a relation
+pub data Sameness (A : Type 0) : Type 1 where
+  equal : Sameness A
+  by : (A → A → Type 0) → Sameness A
 
--- the two are so, and their values are the same where they are equal
-abbrev pub Exactly : {F A : Type 0} → (F → F → Type 0) → (A → A → Type 0) → F → F → Type 0
-Exactly alike same x y = alike x y × Exact same
+-- answers that are the same: two ends, or two items that are
+abbrev pub SameAnswer : {A : Type 0} → Sameness A → Option A → Option A → Type 0
+SameAnswer Sameness.equal x y = x ≡ y
+SameAnswer (Sameness.by same) x y = OptionBy same x y
+
+-- items that are
+abbrev pub SameItem : {A : Type 0} → Sameness A → A → A → Type 0
+SameItem Sameness.equal x y = x ≡ y
+SameItem (Sameness.by same) x y = same x y
+
+-- of items that come from two sources, in either's way
+abbrev pub Either : {A : Type 0} → Sameness A → Sameness A → Sameness A
+Either Sameness.equal Sameness.equal = Sameness.equal
+Either same other = Sameness.by (λ x y. SameItem same x y ⊎ SameItem other x y)
+
+-- of pairs, part by part
+abbrev pub Pairwise : {A B : Type 0} → Sameness A → Sameness B → Sameness (A × B)
+Pairwise Sameness.equal Sameness.equal = Sameness.equal
+Pairwise same other = Sameness.by (λ p q. SameItem same p.0 q.0 × SameItem other p.1 q.1)
+
+-- of what is made of items: equal where these are, and else made of two that are the same
+abbrev pub MadeOf : {A B : Type 0} → Sameness A → (A → B → Type 0) → Sameness B
+MadeOf Sameness.equal makes = Sameness.equal
+MadeOf {A} (Sameness.by same) makes = Sameness.by (λ y z. (x : A) × (w : A) × same x w × makes x y × makes w z)
+
+-- of what is there or not
+abbrev pub Optional : {A : Type 0} → Sameness A → Sameness (Option A)
+Optional Sameness.equal = Sameness.equal
+Optional (Sameness.by same) = Sameness.by (OptionBy same)
+
+-- what two values hold is the same, or neither holds anything
+abbrev pub SameHeld : {A : Type 0} → Sameness A → Option A → Option A → Type 0
+SameHeld Sameness.equal x y = y ≡ x
+SameHeld (Sameness.by same) x y = OptionBy same x y
+
+-- lists of one length, which are the same item by item
+abbrev pub SameList : {A : Type 0} → Sameness A → List A → List A → Type 0
+SameList Sameness.equal l m = l ≡ m
+SameList (Sameness.by same) l m = AllZip same l m
+
+-- of what is Ok or an error: by what Ok holds, and by the errors
+abbrev pub SameOk : {A E : Type 0} → Sameness (Result A E) → Sameness A
+SameOk Sameness.equal = Sameness.equal
+SameOk (Sameness.by same) = Sameness.by (λ x y. same (Ok x) (Ok y))
+
+abbrev pub SameErr : {A E : Type 0} → Sameness (Result A E) → Sameness E
+SameErr Sameness.equal = Sameness.equal
+SameErr (Sameness.by same) = Sameness.by (λ d e. same (Err d) (Err e))
 
 abbrev pub Alike : {S A : Type 0} → (S → List (Poll A) → S → Type 0) → S → S → Type 0
 Alike = AlikeBy (λ x y. x ≡ y)

@@ -1,7 +1,8 @@
 -- What is asked about each item: `call p x o q` says that, asked about the item x, it goes from p to q and answers o.
-use Rattle.std.specs.Prelude.{◌≡◌, List, [], ◌∷◌, Option, Some, None, Bool, true, false}
+use Rattle.std.specs.Prelude.{◌≡◌, ⊤, List, [], ◌∷◌, Option, Some, None, Bool, true, false}
 use Rattle.std.specs.Fn.{Mut, Called, CalledWithState}
 use denote.Ref.{MutBor}
+use Rattle.lite_base.specs.Alike.{OptionBy, Sameness}
 use Rattle.lite_base.specs.Answers.{ComparableBy}
 
 -- a call of a function with one argument
@@ -29,10 +30,44 @@ Answered call f [] (y ∷ ys) g = ⊥
 Answered call f (x ∷ xs) [] g = ⊥
 Answered {F} call f (x ∷ xs) (y ∷ ys) g = (h : F) × call f x y h × Answered call h xs ys g
 
--- equal lists of arguments get answers that are the same, from f and from k on
-pub record AgreeBy {F A B : Type 0} (same : B → B → Type 0) (call : F → A → B → F → Type 0) (f k : F) : Type 0 where
-  pub at : (xs : List A) (ys zs : List B) (g l : F) → Answered call f xs ys g → Answered call k xs zs l → ComparableBy same ys zs
+-- lists of arguments that are alike get answers that are the same, from f and from k on
+pub record AgreeFrom {F A B : Type 0} (like : A → A → Type 0) (same : B → B → Type 0) (call : F → A → B → F → Type 0) (f k : F) : Type 0 where
+  pub at : (xs ws : List A) (ys zs : List B) (g l : F) → ComparableBy like xs ws → Answered call f xs ys g → Answered call k ws zs l → ComparableBy same ys zs
+
+-- equal lists of arguments do
+abbrev pub AgreeBy : {F A B : Type 0} → (B → B → Type 0) → (F → A → B → F → Type 0) → F → F → Type 0
+AgreeBy = AgreeFrom (λ x w. x ≡ w)
 
 -- equal lists of arguments get equal answers
 abbrev pub Agree : {F A B : Type 0} → (F → A → B → F → Type 0) → F → F → Type 0
 Agree = AgreeBy (λ y z. y ≡ z)
+
+-- closures are kin that are equal, or that were made of kin by calls at items that are alike
+pub data Kin {F A B : Type 0} (like : A → A → Type 0) (call : F → A → B → F → Type 0) : F → F → Type 0 where
+  one : (f : F) → Kin like call f f
+  called : (f k g l : F) (x w : A) (y z : B) → Kin like call f k → like x w → call f x y g → call k w z l → Kin like call g l
+
+-- what kin answer to items that are alike
+abbrev pub KinAnswers : {F A B : Type 0} → (A → A → Type 0) → (F → A → B → F → Type 0) → B → B → Type 0
+KinAnswers {F} {A} {B} like call y z =
+    (f : F) × (k : F) × (g : F) × (l : F) × (x : A) × (w : A) × Kin like call f k × like x w × call f x y g × call k w z l
+
+-- as they go out of an adapter: equal where equal items came in, and else what kin answer
+abbrev pub Answering : {F A B : Type 0} → Sameness A → (F → A → B → F → Type 0) → Sameness B
+Answering Sameness.equal call = Sameness.equal
+Answering (Sameness.by same) call = Sameness.by (KinAnswers same call)
+
+-- of what is an item only where it is Some
+abbrev pub Keeping : {F A B : Type 0} → Sameness A → (F → A → Option B → F → Type 0) → Sameness B
+Keeping Sameness.equal call = Sameness.equal
+Keeping (Sameness.by same) call = Sameness.by (λ y z. KinAnswers same call (Some y) (Some z))
+
+-- what an adapter asks of two closures: that they agree where equal items come in, and else that they are kin
+abbrev pub AgreeOver : {F A B : Type 0} → Sameness A → (F → A → B → F → Type 0) → F → F → Type 0
+AgreeOver Sameness.equal call f k = Agree call f k
+AgreeOver (Sameness.by same) call f k = Kin same call f k
+
+-- and that both keep an item, or none does
+abbrev pub AgreeKeeping : {F A B : Type 0} → Sameness A → (F → A → Option B → F → Type 0) → F → F → Type 0
+AgreeKeeping Sameness.equal call f k = Agree call f k
+AgreeKeeping (Sameness.by same) call f k = Kin same call f k × AgreeFrom same (OptionBy (λ _ _. ⊤)) call f k

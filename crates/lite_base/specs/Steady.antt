@@ -1,9 +1,9 @@
 -- Streams and futures whose answers do not depend on when they were pending, where memory was found: the runs in which it was are the ample ones.
-use Rattle.std.specs.Prelude.{◌≡◌, ℕ, ⊤, List, [], ◌∷◌, Option}
+use Rattle.std.specs.Prelude.{◌≡◌, ℕ, ⊤, List, Option}
 use denote.MutBor.{MutBor}
 use Rattle.futures.specs.declared.task.Poll.{Poll}
-use Rattle.lite_base.specs.Alike.{AlikeBy, Exact, Exactly}
-use Rattle.lite_base.specs.Answers.{Answer, Comparable, ComparableBy, strip}
+use Rattle.lite_base.specs.Alike.{AlikeBy, SameAnswer, SameItem, Sameness}
+use Rattle.lite_base.specs.Answers.{Answer}
 use Rattle.lite_base.specs.FutureLaws.{FutureLaws}
 use Rattle.lite_base.specs.Lent.{Lent, lent_future_laws, lent_runs}
 use Rattle.lite_base.specs.StreamLaws.{RunLaws, StreamLaws, runs_of}
@@ -20,21 +20,25 @@ module _ {S A : Type 0} where
   abbrev pub TakesNone : (S → List (Poll A) → S → Type 0) → (S → List (Poll A) → S → Type 0) → Type 0
   TakesNone run ample = (x y : S) (l : List (Poll A)) → run x l y → ample x l y
 
--- what a steady stream's runs meet: the ample ones follow one another too
-pub record SteadyLaws {S A : Type 0} (run ample : S → List (Poll A) → S → Type 0) (needs_none : Type 0) (alike : S → S → Type 0) : Type 0 where
+-- what a steady stream's runs meet: the ample ones follow one another too, and give answers that are the same
+pub record SteadyLawsBy {S A : Type 0} (same : Sameness A) (run ample : S → List (Answer A) → S → Type 0) (needs_none : Type 0) (alike : S → S → Type 0) : Type 0 where
   pub laws : RunLaws ample
-  pub steady : Steadiness ample alike
+  pub steady : SteadinessBy (SameAnswer same) ample alike
   pub found : needs_none → TakesNone run ample
 
+-- and equal ones
+abbrev pub SteadyLaws : {S A : Type 0} → (S → List (Answer A) → S → Type 0) → (S → List (Answer A) → S → Type 0) → Type 0 → (S → S → Type 0) → Type 0
+SteadyLaws = SteadyLawsBy Sameness.equal
+
 -- what a steady future's runs meet: the ample ones have the laws of all too, and give values that are the same
-pub record FutureSteadyLawsBy {F A : Type 0} (same : A → A → Type 0) (run ample : F → List (Poll A) → F → Type 0) (needs_none : Type 0) (alike : F → F → Type 0) : Type 0 where
+pub record FutureSteadyLawsBy {F A : Type 0} (same : Sameness A) (run ample : F → List (Poll A) → F → Type 0) (needs_none : Type 0) (alike : F → F → Type 0) : Type 0 where
   pub laws : FutureLaws ample
-  pub steady : SteadinessBy same ample alike
+  pub steady : SteadinessBy (SameItem same) ample alike
   pub found : needs_none → TakesNone run ample
 
 -- and equal ones
 abbrev pub FutureSteadyLaws : {F A : Type 0} → (F → List (Poll A) → F → Type 0) → (F → List (Poll A) → F → Type 0) → Type 0 → (F → F → Type 0) → Type 0
-FutureSteadyLaws = FutureSteadyLawsBy (λ v w. v ≡ w)
+FutureSteadyLaws = FutureSteadyLawsBy Sameness.equal
 
 lent_steadiness : {S A : Type 0} {same : A → A → Type 0} {ample : S → List (Poll A) → S → Type 0} {alike : S → S → Type 0} → SteadinessBy same ample alike → SteadinessBy same (Lent ample) (λ (x y : MutBor S). alike x.now y.now)
 lent_steadiness s x y e l m x' y' h k = s x.now y.now e l m x'.now y'.now h.0 k.0
@@ -42,12 +46,13 @@ lent_steadiness s x y e l m x' y' h k = s x.now y.now e l m x'.now y'.now h.0 k.
 lent_takes_none : {S A : Type 0} {run ample : S → List (Poll A) → S → Type 0} → TakesNone run ample → TakesNone (Lent run) (Lent ample)
 lent_takes_none t x y l h = (t x.now y.now l h.0, h.1)
 
-module _ {S A : Type 0} {run ample : S → List (Poll A) → S → Type 0} {needs_none : Type 0} {alike : S → S → Type 0} where
-  pub lent_steady : SteadyLaws run ample needs_none alike → SteadyLaws (Lent run) (Lent ample) needs_none (λ (x y : MutBor S). alike x.now y.now)
-  lent_steady s = record { laws = lent_runs s.laws; steady = lent_steadiness s.steady; found = λ n. lent_takes_none (s.found n) }
+pub lent_steady : {S A : Type 0} {same : Sameness A} {run ample : S → List (Answer A) → S → Type 0} {needs_none : Type 0} {alike : S → S → Type 0} → SteadyLawsBy same run ample needs_none alike
+    → SteadyLawsBy same (Lent run) (Lent ample) needs_none (λ (x y : MutBor S). alike x.now y.now)
+lent_steady s = record { laws = lent_runs s.laws; steady = lent_steadiness s.steady; found = λ n. lent_takes_none (s.found n) }
 
-  pub lent_future_steady : {same : A → A → Type 0} → FutureSteadyLawsBy same run ample needs_none alike → FutureSteadyLawsBy same (Lent run) (Lent ample) needs_none (λ (x y : MutBor S). alike x.now y.now)
-  lent_future_steady s = record { laws = lent_future_laws s.laws; steady = lent_steadiness s.steady; found = λ n. lent_takes_none (s.found n) }
+pub lent_future_steady : {F A : Type 0} {same : Sameness A} {run ample : F → List (Poll A) → F → Type 0} {needs_none : Type 0} {alike : F → F → Type 0} → FutureSteadyLawsBy same run ample needs_none alike
+    → FutureSteadyLawsBy same (Lent run) (Lent ample) needs_none (λ (x y : MutBor F). alike x.now y.now)
+lent_future_steady s = record { laws = lent_future_laws s.laws; steady = lent_steadiness s.steady; found = λ n. lent_takes_none (s.found n) }
 
 -- where no poll asks for memory
 pub steady_always : {S A : Type 0} {run : S → List (Answer A) → S → Type 0} {hints : S → ℕ × Option ℕ → Type 0} {alike : S → S → Type 0} → StreamLaws run hints → Steadiness run alike → SteadyLaws run run ⊤ alike
@@ -55,14 +60,3 @@ steady_always laws s = record { laws = runs_of laws; steady = s; found = λ n x 
 
 pub future_steady_always : {F A : Type 0} {run : F → List (Poll A) → F → Type 0} {alike : F → F → Type 0} → FutureLaws run → Steadiness run alike → FutureSteadyLaws run run ⊤ alike
 future_steady_always laws s = record { laws = laws; steady = s; found = λ n x y l h. h }
-
-exact_comparable : {A : Type 0} (same : A → A → Type 0) → Exact same → (l m : List A) → ComparableBy same l m → Comparable l m
-exact_comparable same exact [] m c = tt
-exact_comparable same exact (v ∷ l) [] c = tt
-exact_comparable same exact (v ∷ l) (w ∷ m) c = (exact v w c.0, exact_comparable same exact l m c.1)
-
--- where values that are the same are equal
-pub exact_steady : {F A : Type 0} {same : A → A → Type 0} {run ample : F → List (Poll A) → F → Type 0} {needs_none : Type 0} {alike : F → F → Type 0} → FutureSteadyLawsBy same run ample needs_none alike
-    → FutureSteadyLaws run ample needs_none (Exactly alike same)
-exact_steady {same} s =
-    record { laws = s.laws; steady = λ x y e l m x' y' h k. exact_comparable same e.1 (strip l) (strip m) (s.steady x y e.0 l m x' y' h k); found = s.found }

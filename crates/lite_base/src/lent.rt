@@ -71,6 +71,8 @@ impl<S: SteadyStream> SteadyStream for &mut S {
 
     ghost needs_none = { S.needs_none };
 
+    ghost same = { S.same };
+
     ghost alike = { λ x y. S.alike x.now y.now };
 
     ghost steady = { lent_steady S.steady };

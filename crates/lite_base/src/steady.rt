@@ -1,6 +1,7 @@
 ghost use Rattle.std.specs.Prelude.{List, ⊤};
+ghost use Rattle.lite_base.specs.Alike.{Sameness};
 ghost use Rattle.lite_base.specs.Answers.{Answer};
-ghost use Rattle.lite_base.specs.Steady.{SteadyLaws};
+ghost use Rattle.lite_base.specs.Steady.{SteadyLawsBy};
 
 use crate::stream::Stream;
 
@@ -14,11 +15,14 @@ pub trait SteadyStream: Stream {
     /// That no poll asks for memory; then each run is ample.
     ghost needs_none: { Type 0 } = { ⊤ };
 
+    /// When two items are the same: where they are equal, if its type says nothing else.
+    ghost same: { Sameness Self.Item } = { Sameness.equal };
+
     /// The values whose answers are the same, pendings aside.
     ghost alike: { Self → Self → Type 0 };
 
     /// Does nothing. The trait is its law.
     fn is_steady(&self) {}
 
-    ghost steady: { SteadyLaws Self.run ample needs_none alike };
+    ghost steady: { SteadyLawsBy same Self.run ample needs_none alike };
 }

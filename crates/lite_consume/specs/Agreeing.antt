@@ -19,9 +19,9 @@ abbrev pub Within : {M A R : Type 0} → Fold M A R → Fold M A R → Type 0
 Within = WithinWhere (λ _. ⊤)
 
 -- what a steady fold meets: from values that agree, steps in which memory was found do the same
-pub record FoldSteadyLaws {M A R : Type 0} (fold ample : Fold M A R) (needs_none : Type 0) (agree : M → M → Type 0) (same : R → R → Type 0) : Type 0 where
-  -- with an item, after which the values agree again
-  pub asks : (p k q l : M) (x : A) (o u : Option R) → agree p k → ample.asks p x o q → ample.asks k x u l → Both same (agree q l) o u
+pub record FoldSteadyLaws {M A R : Type 0} (like : A → A → Type 0) (fold ample : Fold M A R) (needs_none : Type 0) (agree : M → M → Type 0) (same : R → R → Type 0) : Type 0 where
+  -- with items that are the same, after which the values agree again
+  pub asks : (p k q l : M) (x w : A) (o u : Option R) → agree p k → like x w → ample.asks p x o q → ample.asks k w u l → Both same (agree q l) o u
   -- and at an end
   pub closes : (p k q l : M) (r t : R) → agree p k → ample.closes p r q → ample.closes k t l → same r t
   pub found : needs_none → Within fold ample

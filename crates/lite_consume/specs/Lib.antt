@@ -9,6 +9,7 @@ pub mod Find
 pub mod FindMap
 pub mod Fold
 pub mod ForEach
+pub mod Kin
 pub mod Last
 pub mod Laws
 pub mod Next

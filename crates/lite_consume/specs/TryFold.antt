@@ -6,7 +6,7 @@ use Rattle.lite_consume.specs.Consuming.{Fold}
 module _ {F B T E : Type 0} (call : F → B × T → Result B E → F → Type 0) where
   abbrev pub TryFolded : F × Option B → Result T E → Option (Result B E) → F × Option B → Type 0
   TryFolded p (Ok x) None q = (a : B) × (b : B) × (p.1 ≡ Some a) × call p.0 (a, x) (Ok b) q.0 × (q.1 ≡ Some b)
-  TryFolded p (Ok x) (Some r) q = (a : B) × (e : E) × (p.1 ≡ Some a) × call p.0 (a, x) (Err e) q.0 × (r ≡ Err e)
+  TryFolded p (Ok x) (Some r) q = (a : B) × (e : E) × (p.1 ≡ Some a) × call p.0 (a, x) (Err e) q.0 × (r ≡ Err e) × (q.1 ≡ None)
   TryFolded p (Err e) None q = ⊥
   TryFolded p (Err e) (Some r) q = (r ≡ Err e) × (q ≡ p)
 

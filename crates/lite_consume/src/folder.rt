@@ -1,9 +1,10 @@
 ghost use Rattle.std.specs.Prelude.{⊤, ◌≡◌, None, Some, MatchOption};
+ghost use Rattle.lite_base.specs.Alike.{SameItem, Sameness};
 ghost use Rattle.lite_consume.specs.Agreeing.{FoldSteadyLaws};
 ghost use Rattle.lite_consume.specs.Consuming.{Fold};
 ghost use Rattle.lite_consume.specs.Turns.{Returns};
 
-use lite_base::Stream;
+use lite_base::{SteadyStream, Stream};
 
 /// What a future makes of the items of the stream `S`: they are taken in one after the other, until the stream ends or an
 /// item decides.
@@ -38,10 +39,10 @@ pub trait Folder<S: Stream> {
     ghost returns: { Returns S.run fold counts is_open };
 }
 
-/// What makes the same of the same items, where memory was found.
+/// What makes the same of items that are the same for the stream, where memory was found.
 ///
 /// Its future over a steady stream is a steady one. The original has no such trait.
-pub trait SteadyFolder<S: Stream>: Folder<S> {
+pub trait SteadyFolder<S: SteadyStream>: Folder<S> {
     /// The steps in which no memory was refused.
     ghost ample: { Fold Self S.Item Self.Output };
 
@@ -49,13 +50,13 @@ pub trait SteadyFolder<S: Stream>: Folder<S> {
     ghost needs_none: { Type 0 } = { ⊤ };
 
     /// When two values that it gives are the same: where they are equal, if its type says nothing else.
-    ghost same: { Self.Output → Self.Output → Type 0 } = { λ v w. v ≡ w };
+    ghost same: { Sameness Self.Output } = { Sameness.equal };
 
-    /// The folders that make the same of the same items.
+    /// The folders that make the same of items that are the same.
     ghost agree: { Self → Self → Type 0 };
 
     /// Does nothing. The trait is its law.
     fn is_steady_folder(&self) {}
 
-    ghost steady_fold: { FoldSteadyLaws Self.fold ample needs_none agree same };
+    ghost steady_fold: { FoldSteadyLaws (SameItem S.same) Self.fold ample needs_none agree (SameItem same) };
 }

@@ -1,4 +1,5 @@
 //! The future whose value does not depend on when its reader and its writer were pending.
+ghost use Rattle.lite_base.specs.Alike.{Sameness};
 ghost use Rattle.lite_copy.specs.Copy.{Copies};
 ghost use Rattle.lite_copy.specs.Laws.SteadyCopy.{CopyAlike, copy_steady};
 ghost use Rattle.lite_read.specs.Settling.{SameByKind};
@@ -14,7 +15,7 @@ impl<R: CountedRead + SteadyRead, W: AsyncWrite> SteadyFuture for CopyFuture<R, 
 
     ghost needs_none = { R.needs_none × AllProsper W.writes };
 
-    ghost same = { SameByKind };
+    ghost same = { Sameness.by SameByKind };
 
     ghost alike = { CopyAlike R.alike };
 

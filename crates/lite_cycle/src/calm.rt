@@ -4,7 +4,7 @@ ghost use Rattle.lite_cycle.specs.Cycle.{AllCopies};
 ghost use Rattle.lite_cycle.specs.Laws.Cycle.{cycle_calm};
 ghost use Rattle.lite_cycle.specs.Laws.Drain.{drain_calm};
 ghost use Rattle.lite_cycle.specs.Laws.StopAfterFuture.{stops_calming};
-ghost use Rattle.lite_cycle.specs.StopAfterFuture.{stop_parts};
+ghost use Rattle.lite_cycle.specs.Stopping.{stop_parts};
 ghost use Rattle.lite_stream.specs.Laws.Calming.{through_calm};
 
 use crate::{Cycle, Drain, StopAfterFuture};

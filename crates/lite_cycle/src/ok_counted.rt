@@ -5,7 +5,7 @@ ghost use Rattle.lite_base.specs.Ranks.{ranks_of};
 ghost use Rattle.lite_cycle.specs.Drain.{drain_parts};
 ghost use Rattle.lite_cycle.specs.Laws.Drain.{drained_turning};
 ghost use Rattle.lite_cycle.specs.Laws.StopAfterFuture.{stops_turning};
-ghost use Rattle.lite_cycle.specs.StopAfterFuture.{stop_parts};
+ghost use Rattle.lite_cycle.specs.Stopping.{stop_parts};
 ghost use Rattle.lite_stream.specs.Laws.Through.{through_counting};
 
 use crate::{Drain, StopAfterFuture};

@@ -1,7 +1,8 @@
 ghost use Rattle.std.specs.Prelude.{◌≡◌, ◌↔◌, IsSome, IsTrue, None, Some};
 ghost use Rattle.lite_base.specs.Ranks.{ranks_of};
 ghost use Rattle.lite_cycle.specs.Laws.StopAfterFuture.{stop_laws, stops_turning};
-ghost use Rattle.lite_cycle.specs.StopAfterFuture.{CanStop, StopHints, StopLeaves, Stops, future_of, stop_parts};
+ghost use Rattle.lite_cycle.specs.StopAfterFuture.{Stops};
+ghost use Rattle.lite_cycle.specs.Stopping.{CanStop, StopHints, StopLeaves, future_of, stop_parts};
 ghost use Rattle.lite_cycle.specs.declared.stop_after_future.Stopping.TheVariants.{Stopped};
 ghost use Rattle.lite_stream.specs.Laws.Through.{through_counting};
 
@@ -28,7 +29,7 @@ pub struct StopAfterFuture<S, Fut: Future> {
 }
 
 impl<S, Fut: Future> StopAfterFuture<S, Fut> {
-    ghost use Rattle.lite_cycle.specs.StopAfterFuture.{IsStopped, result_of, without_future, without_result};
+    ghost use Rattle.lite_cycle.specs.Stopping.{IsStopped, result_of, without_future, without_result};
 
     /// Takes the future out, if it is held. `Some` is the future, and from then on the stream is passed through. `None`
     /// changes nothing: the stream was stopped, or the future was taken out before. Ported from `src/stream.rs`,

@@ -2,6 +2,7 @@
 use Rattle.std.specs.Prelude.{◌≡◌, ⊤, List, [], ◌∷◌, ◌++◌, Option, Some, None, Result, Ok, Err}
 use Rattle.std.specs.List.{AllByRecursion}
 use denote.Ref.{Bor}
+use Rattle.lite_base.specs.Alike.{MadeOf, OptionBy, Sameness}
 use Rattle.lite_base.specs.Answers.{Answer, item}
 use Rattle.lite_flatten.specs.Lingering.{Lingering}
 use Rattle.lite_flatten.specs.declared.cloned.Cloned.{Cloned}
@@ -41,6 +42,15 @@ NoneRefused = AllByRecursion NotRefused
 -- all clones of a thing are equal
 abbrev pub EqualClones : {T : Type 0} → (T → T → Type 0) → Type 0
 EqualClones {T} is_clone = (x y z : T) → is_clone x y → is_clone x z → y ≡ z
+
+-- clones as they go out: those of what two references that are the same refer to
+abbrev pub ClonedFrom : {T E : Type 0} → Sameness (Bor T) → (T → T → Type 0) → Sameness (Result T E)
+ClonedFrom {T} like is_clone = MadeOf like (λ r v. (copy : T) × is_clone r.now copy × (v ≡ Ok copy))
+
+-- what is asked of two: they hold one reference, and clones are equal; where references are compared by a relation, they hold what is the same
+abbrev pub AlikeCloned : {S T : Type 0} → Sameness (Bor T) → (S → S → Type 0) → (T → T → Type 0) → Cloned S (Bor T) → Cloned S (Bor T) → Type 0
+AlikeCloned Sameness.equal alike is_clone x y = alike x.stream y.stream × (y.held ≡ x.held) × EqualClones is_clone
+AlikeCloned (Sameness.by same) alike is_clone x y = alike x.stream y.stream × OptionBy same x.held y.held
 
 abbrev pub cloned_parts : {S R : Type 0} → Parts (Cloned S R) S (Unit {0} × Option R)
 cloned_parts = record { source = λ m. m.stream; held = λ m. (tt, m.held); same = λ x y e d. λ i. record { stream = e i; held = (d i).1 } }

@@ -1,8 +1,8 @@
 //! The adapters whose answers do not depend on when their streams were pending.
 ghost use Rattle.std.specs.Prelude.{◌≡◌};
-ghost use Rattle.lite_base.specs.Alike.{AlikeBy, Exactly, OptionBy};
+ghost use Rattle.lite_base.specs.Alike.{AlikeBy, Either, OptionBy, SameItem};
 ghost use Rattle.lite_flatten.specs.Chain.{Chains};
-ghost use Rattle.lite_flatten.specs.Cloned.{ClonesUnrefused, EqualClones};
+ghost use Rattle.lite_flatten.specs.Cloned.{AlikeCloned, ClonedFrom, ClonesUnrefused};
 ghost use Rattle.lite_flatten.specs.FlatMap.{FlatMaps};
 ghost use Rattle.lite_flatten.specs.Flatten.{Flattens, flatten_parts};
 ghost use Rattle.lite_flatten.specs.Laws.Cloned.{cloned_steady};
@@ -11,8 +11,7 @@ ghost use Rattle.lite_flatten.specs.Laws.SteadyChain.{chain_steady};
 ghost use Rattle.lite_flatten.specs.Laws.SteadyFlatten.{flattening_steady};
 ghost use Rattle.lite_flatten.specs.Laws.Then.{then_steady};
 ghost use Rattle.lite_flatten.specs.Then.{Thens};
-ghost use Rattle.lite_base.specs.Steady.{exact_steady};
-ghost use Rattle.lite_base.specs.Calling.{AgreeBy, Calls};
+ghost use Rattle.lite_base.specs.Calling.{AgreeFrom, Calls};
 
 use crate::{Chain, Cloned, FlatMap, Flatten, Then};
 use lite_base::{Counted, SteadyFuture, SteadyStream};
@@ -22,9 +21,11 @@ impl<S: SteadyStream, U: SteadyStream<Item = S::Item>> SteadyStream for Chain<S,
 
     ghost needs_none = { S.needs_none × U.needs_none };
 
+    ghost same = { Either S.same U.same };
+
     ghost alike = { λ x y. S.alike x.first y.first × U.alike x.second y.second × (y.part ≡ x.part) };
 
-    ghost steady = { chain_steady S.steady U.steady };
+    ghost steady = { chain_steady S.same U.same S.steady U.steady };
 }
 
 impl<'a, T: Clone + 'a, S: SteadyStream<Item = &'a T>> SteadyStream for Cloned<S> {
@@ -32,9 +33,11 @@ impl<'a, T: Clone + 'a, S: SteadyStream<Item = &'a T>> SteadyStream for Cloned<S
 
     ghost needs_none = { S.needs_none × ((x : T) → T.is_infallible x) };
 
-    ghost alike = { λ x y. S.alike x.stream y.stream × (y.held ≡ x.held) × EqualClones T.is_clone };
+    ghost same = { ClonedFrom S.same T.is_clone };
 
-    ghost steady = { cloned_steady T.is_clone T.is_infallible S.steady };
+    ghost alike = { AlikeCloned S.same S.alike T.is_clone };
+
+    ghost steady = { cloned_steady T.is_clone T.is_infallible S.same S.steady };
 }
 
 impl<S: Counted + SteadyStream, U: SteadyStream + Drop, F: FnMut(S::Item) -> U> SteadyStream
@@ -43,10 +46,12 @@ impl<S: Counted + SteadyStream, U: SteadyStream + Drop, F: FnMut(S::Item) -> U> 
 
     ghost needs_none = { S.needs_none × U.needs_none };
 
-    ghost alike = { λ x y. S.alike x.stream.stream y.stream.stream × AgreeBy U.alike (Calls F.FnMut) x.stream.f y.stream.f
-        × OptionBy U.alike x.inner_stream y.inner_stream };
+    ghost same = { U.same };
 
-    ghost steady = { flat_map_steady F.FnMut S.steady U.steady };
+    ghost alike = { λ x y. S.alike x.stream.stream y.stream.stream
+        × AgreeFrom (SameItem S.same) U.alike (Calls F.FnMut) x.stream.f y.stream.f × OptionBy U.alike x.inner_stream y.inner_stream };
+
+    ghost steady = { flat_map_steady F.FnMut S.same U.same S.steady U.steady };
 }
 
 impl<B: SteadyStream + Drop, S: Counted<Item = B> + SteadyStream> SteadyStream for Flatten<S> {
@@ -54,9 +59,11 @@ impl<B: SteadyStream + Drop, S: Counted<Item = B> + SteadyStream> SteadyStream f
 
     ghost needs_none = { S.needs_none × B.needs_none };
 
+    ghost same = { B.same };
+
     ghost alike = { λ x y. AlikeBy (OptionBy B.alike) S.ample x.stream y.stream × OptionBy B.alike x.inner_stream y.inner_stream };
 
-    ghost steady = { flattening_steady flatten_parts (λ x y e. e) S.steady.laws S.steady.found B.steady };
+    ghost steady = { flattening_steady flatten_parts B.same (λ x y e. e) S.steady.laws S.steady.found B.steady };
 }
 
 impl<S: SteadyStream, F: FnMut(S::Item) -> Fut, Fut: SteadyFuture + Drop> SteadyStream
@@ -65,8 +72,10 @@ impl<S: SteadyStream, F: FnMut(S::Item) -> Fut, Fut: SteadyFuture + Drop> Steady
 
     ghost needs_none = { S.needs_none × Fut.needs_none };
 
-    ghost alike = { λ x y. S.alike x.stream y.stream × (AgreeBy (Exactly Fut.alike Fut.same) (Calls F.FnMut) x.f y.f
-        × OptionBy (Exactly Fut.alike Fut.same) x.future y.future) };
+    ghost same = { Fut.same };
 
-    ghost steady = { then_steady (exact_steady Fut.steady) (Calls F.FnMut) S.steady };
+    ghost alike = { λ x y. S.alike x.stream y.stream
+        × (AgreeFrom (SameItem S.same) Fut.alike (Calls F.FnMut) x.f y.f × OptionBy Fut.alike x.future y.future) };
+
+    ghost steady = { then_steady Fut.same Fut.steady S.same (Calls F.FnMut) S.steady };
 }

@@ -267,14 +267,21 @@ impl<R: AsyncRead> AsyncRead for BufReader<R> {
 }
 
 impl<R: AsyncRead> AsyncBufRead for BufReader<R> {
-    ghost use Rattle.lite_io.specs.BufReader.{ahead};
+    ghost use Rattle.lite_io.specs.BufReader.{AsksWhereEmpty, Through, ahead, capacity_of, inner_of};
     ghost use Rattle.lite_io.specs.Laws.BufReader.{through_shows};
+    ghost use Rattle.lite_io.specs.contracts.buf_reader.BufReader.{the_row};
+    ghost use Rattle.lite_io_base.specs.Runs.{Afterwards, Fills};
 
     ghost lent = { ahead };
 
     ghost shows = { through_shows };
 
-    fn poll_fill_buf(&mut self, cx: &mut Context<'_>) -> Poll<io::Result<&[u8]>> {
+    fn poll_fill_buf(&mut self, cx: &mut Context<'_>) -> Poll<io::Result<&[u8]>>
+        ensures* after_borrow { sem 𝓛 (Afterwards (the_row R.row) self.entry (λ new. Fills (Through R.reads) ahead self.old result new
+            × OnPending result ((fact : Lasting) → R.leaves (inner_of new) fact → Holds cx.new fact)
+            × AsksWhereEmpty R.reads (capacity_of self.old) self.old new)) }
+        ensures kept { Keeps cx.old cx.new }
+    {
         match ready!(self.fill(cx)) {
             Ok(()) => Poll::Ready(Ok(self.show())),
             Err(e) => Poll::Ready(Err(e)),

@@ -1,5 +1,5 @@
 -- Readers whose tale does not depend on when they were pending, where memory was found: the runs in which it was are the ample ones.
-use Rattle.std.specs.Prelude.{◌≡◌, List, [], ◌∷◌, ⊤}
+use Rattle.std.specs.Prelude.{List, [], ◌∷◌, ⊤}
 use denote.MutBor.{MutBor}
 use Rattle.lite_base.specs.Answers.{Comparable}
 use Rattle.lite_base.specs.Lent.{Lent}

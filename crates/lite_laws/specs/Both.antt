@@ -1,24 +1,25 @@
 -- Two runs of streams that are alike, and two of futures.
 use Rattle.std.specs.Prelude.{◌≡◌, ◌⊎◌, ◌<◌, ℕ, List, [], length}
 use Rattle.futures.specs.declared.task.Poll.{Poll}
-use Rattle.lite_base.specs.Answers.{Answer, Comparable, strip}
+use Rattle.lite_base.specs.Alike.{SameAnswer, SameItem, Sameness}
+use Rattle.lite_base.specs.Answers.{Answer, ComparableBy, strip}
 use Rattle.lite_base.specs.Future.Finishes.{Finishes}
 
--- the two ran so, and where memory was found in both, or no poll asks for it, one list of answers begins the other, Pendings aside
-pub record Agreed {S A : Type 0} (run ample : S → List (Answer A) → S → Type 0) (needs_none : Type 0) (x : S) (l : List (Answer A)) (x' y : S) (m : List (Answer A)) (y' : S) : Type 0 where
+-- the two ran so, and where memory was found in both, or no poll asks for it, one list of answers begins the other, Pendings aside, where answers that are the same count as one
+pub record Agreed {S A : Type 0} (same : Sameness A) (run ample : S → List (Answer A) → S → Type 0) (needs_none : Type 0) (x : S) (l : List (Answer A)) (x' y : S) (m : List (Answer A)) (y' : S) : Type 0 where
   pub first : run x l x'
   pub second : run y m y'
-  pub found : ample x l x' → ample y m y' → Comparable (strip l) (strip m)
-  pub always : needs_none → Comparable (strip l) (strip m)
+  pub found : ample x l x' → ample y m y' → ComparableBy (SameAnswer same) (strip l) (strip m)
+  pub always : needs_none → ComparableBy (SameAnswer same) (strip l) (strip m)
 
 -- the two finished with these values, and where memory was found in both, or no poll asks for it, they are the same
-pub record OneValue {F A : Type 0} (same : A → A → Type 0) (run ample : F → List (Poll A) → F → Type 0) (needs_none : Type 0) (x : F) (v : A) (y : F) (w : A) : Type 0 where
+pub record OneValue {F A : Type 0} (same : Sameness A) (run ample : F → List (Poll A) → F → Type 0) (needs_none : Type 0) (x : F) (v : A) (y : F) (w : A) : Type 0 where
   pub ins : List (Poll A)
   pub others : List (Poll A)
   pub first : Finishes run x ins v
   pub second : Finishes run y others w
-  pub found : Finishes ample x ins v → Finishes ample y others w → same v w
-  pub always : needs_none → same v w
+  pub found : Finishes ample x ins v → Finishes ample y others w → SameItem same v w
+  pub always : needs_none → SameItem same v w
 
 -- fewer answers than were asked for: the first list is short and the second empty, or the second alone is short
 abbrev pub Fewer : {A : Type 0} → List A → List A → ℕ → ℕ → Type 0

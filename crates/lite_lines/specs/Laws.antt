@@ -1,3 +1,4 @@
+pub mod Ample
 pub mod Counting
 pub mod Marks
 pub mod ReadUntil

@@ -1,4 +1,5 @@
 //! The streams and the future that do not depend on when their reader was pending, where memory was found.
+ghost use Rattle.lite_base.specs.Alike.{Sameness};
 ghost use Rattle.lite_lines.specs.Laws.Marks.{SameText, SameVec, UntilAlike, line_one, text_one, until_steady, vec_one};
 ghost use Rattle.lite_lines.specs.Laws.Settling.{FlowAlike, flow_steady, items_settle};
 ghost use Rattle.lite_lines.specs.Lines.{GivesLines, lines_over, lining};
@@ -8,28 +9,27 @@ ghost use Rattle.lite_read.specs.Settling.{SameByKind, SameOr};
 ghost use Rattle.std.specs.Prelude.{⊤};
 
 use crate::{Lines, ReadUntilFuture, Split};
-use lite_base::SteadyFuture;
+use lite_base::{SteadyFuture, SteadyStream};
 use lite_io_base::{AsyncBufRead, CountedRead, SteadyRead};
-use lite_read::SteadyStreamBy;
 
-impl<R: AsyncBufRead + CountedRead + SteadyRead> SteadyStreamBy for Lines<R> {
+impl<R: AsyncBufRead + CountedRead + SteadyRead> SteadyStream for Lines<R> {
     ghost ample = { GivesLines R.ample ⊥ };
 
     ghost needs_none = { ⊥ };
 
-    ghost same = { SameOr SameText };
+    ghost same = { Sameness.by (SameOr SameText) };
 
     ghost alike = { FlowAlike lines_over R.alike };
 
     ghost steady = { flow_steady lines_over (lining ⊤) (lining ⊥) (λ k. items_settle line_one text_one 10) R.steady };
 }
 
-impl<R: AsyncBufRead + CountedRead + SteadyRead> SteadyStreamBy for Split<R> {
+impl<R: AsyncBufRead + CountedRead + SteadyRead> SteadyStream for Split<R> {
     ghost ample = { Splits R.ample ⊥ };
 
     ghost needs_none = { ⊥ };
 
-    ghost same = { SameOr SameVec };
+    ghost same = { Sameness.by (SameOr SameVec) };
 
     ghost alike = { FlowAlike split_over R.alike };
 
@@ -41,7 +41,7 @@ impl<R: AsyncBufRead + CountedRead + SteadyRead> SteadyFuture for ReadUntilFutur
 
     ghost needs_none = { ⊥ };
 
-    ghost same = { SameByKind };
+    ghost same = { Sameness.by SameByKind };
 
     ghost alike = { UntilAlike R.alike };
 

@@ -19,8 +19,8 @@ use std::marker::Model;
 /// A reader that gives chunks, pendings, errors and ends, in the order in which it was told of them, and then ends for
 /// ever. A contract sees it as the list of the marks that are left.
 ///
-/// A read takes from the chunk at the front as much as it has room for, or takes one other mark. Without room it
-/// answers `Ok(0)` at a chunk or an end, and takes nothing. The original has no such type.
+/// A read takes from the chunk at the front as much as it has room for, or takes one other mark; a pending asks for another
+/// poll. Without room it answers `Ok(0)` at a chunk or an end, and takes nothing. The original has no such type.
 #[derive(Drop)]
 pub struct Marks {
     answers: Vec<Answer>,
@@ -140,7 +140,7 @@ impl Takings for Marks {
 }
 
 impl AsyncRead for Marks {
-    fn poll_read(&mut self, _cx: &mut Context<'_>, buf: &mut [u8]) -> Poll<io::Result<usize>> {
+    fn poll_read(&mut self, cx: &mut Context<'_>, buf: &mut [u8]) -> Poll<io::Result<usize>> {
         match self.answers.get(self.next) {
             None => Poll::Ready(Ok(0)),
             Some(Answer::Byte { .. }) => {
@@ -150,7 +150,7 @@ impl AsyncRead for Marks {
             }
             Some(Answer::Pending) => {
                 self.next += 1;
-                Poll::Pending
+                cx.yield_now()
             }
             Some(Answer::Fault(kind)) => {
                 let error = io::Error::from(*kind);

@@ -20,7 +20,7 @@ use std::marker::Model;
 pub enum Order {
     /// Take at most so many bytes.
     AtMost(usize),
-    /// Be pending.
+    /// Be pending, and ask for another poll.
     Wait,
     /// Answer an error of this kind.
     Fail(ErrorKind),
@@ -101,12 +101,12 @@ impl Tale for Takes {
 impl AsyncWrite for Takes {
     ghost use Rattle.lite_mock.specs.Takes.{AllObey, answer_of};
 
-    fn poll_write(&mut self, _cx: &mut Context<'_>, buf: &[u8]) -> Poll<io::Result<usize>>
+    fn poll_write(&mut self, cx: &mut Context<'_>, buf: &[u8]) -> Poll<io::Result<usize>>
         ensures bound { IfReady result (λ r. IfOk r (λ n. n ≤ length buf.now)) }
         ensures ran { AllObey self.old (write_marks result buf.now) self.new }
         ensures order { (by_kind result ≡ answer_of self.old.orders buf.now) ⊎ (by_kind result ≡ Poll.Ready (Err ErrorKind.OutOfMemory)) }
-        ensures left { OnPending result ((fact : Lasting) → ⊥ → Holds _cx.new fact) }
-        ensures kept { Keeps _cx.old _cx.new }
+        ensures left { OnPending result ((fact : Lasting) → ⊥ → Holds cx.new fact) }
+        ensures kept { Keeps cx.old cx.new }
     {
         let order = self.orders.get(self.next).copied();
         let most = match order {
@@ -114,7 +114,7 @@ impl AsyncWrite for Takes {
             Some(Order::AtMost(n)) => n.min(buf.len()),
             Some(Order::Wait) => {
                 self.next += 1;
-                return Poll::Pending;
+                return cx.yield_now();
             }
             Some(Order::Fail(kind)) => {
                 self.next += 1;

@@ -9,4 +9,3 @@ pub mod ReadToEnd
 pub mod ReadVectored
 pub mod Seek
 pub mod Settling
-pub mod SteadyBy

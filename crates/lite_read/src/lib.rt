@@ -11,7 +11,6 @@ mod read_to_end;
 mod read_vectored;
 mod seek;
 mod steady;
-mod steady_stream_by;
 
 pub use bytes::Bytes;
 pub use fill_buf::FillBuf;
@@ -20,4 +19,3 @@ pub use read_exact::ReadExactFuture;
 pub use read_to_end::ReadToEndFuture;
 pub use read_vectored::ReadVectoredFuture;
 pub use seek::SeekFuture;
-pub use steady_stream_by::SteadyStreamBy;

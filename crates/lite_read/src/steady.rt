@@ -1,4 +1,5 @@
 //! The futures and streams whose answers do not depend on when their reader was pending.
+ghost use Rattle.lite_base.specs.Alike.{Sameness};
 ghost use Rattle.lite_read.specs.Bytes.{Tells};
 ghost use Rattle.lite_read.specs.Laws.Bytes.{inner_steady};
 ghost use Rattle.lite_read.specs.Laws.SteadyBytes.{bytes_steady};
@@ -8,17 +9,17 @@ ghost use Rattle.lite_read.specs.ReadExact.{ReadsExactly};
 ghost use Rattle.lite_read.specs.ReadToEnd.{ReadsToEnd};
 ghost use Rattle.lite_read.specs.Settling.{SameByKind};
 
-use crate::{Bytes, ReadExactFuture, ReadToEndFuture, SteadyStreamBy};
-use lite_base::SteadyFuture;
+use crate::{Bytes, ReadExactFuture, ReadToEndFuture};
+use lite_base::{SteadyFuture, SteadyStream};
 use lite_io_base::{CountedRead, SteadyRead};
 use std::alloc::Allocator;
 
-impl<R: SteadyRead> SteadyStreamBy for Bytes<R> {
+impl<R: SteadyRead> SteadyStream for Bytes<R> {
     ghost ample = { Tells R.ample };
 
     ghost needs_none = { R.needs_none };
 
-    ghost same = { SameByKind };
+    ghost same = { Sameness.by SameByKind };
 
     ghost alike = { λ x y. R.alike x.inner y.inner };
 
@@ -41,7 +42,7 @@ impl<R: SteadyRead> SteadyFuture for ReadExactFuture<'_, R> {
 
     ghost needs_none = { R.needs_none };
 
-    ghost same = { SameByKind };
+    ghost same = { Sameness.by SameByKind };
 
     ghost alike = { ExactAlike R.alike };
 
@@ -54,7 +55,7 @@ impl<R: SteadyRead + CountedRead, A: Allocator> SteadyFuture for ReadToEndFuture
 
     ghost needs_none = { ⊥ };
 
-    ghost same = { SameByKind };
+    ghost same = { Sameness.by SameByKind };
 
     ghost alike = { ToEndAlike R.alike };
 

@@ -1,16 +1,15 @@
 //! Which values give the same answers, whenever they are pending.
 ghost use Rattle.std.specs.Prelude.{◌≡◌};
 ghost use Rattle.std.specs.Fn.{CalledAt};
-ghost use Rattle.lite_base.specs.Alike.{OptionBy};
-ghost use Rattle.lite_base.specs.Calling.{Accepts, Agree, Calls};
-ghost use Rattle.lite_base.specs.Laws.Calling.{accepts_agree, agree_matches};
-ghost use Rattle.lite_stream.specs.Laws.Agreeing.{through_steady};
+ghost use Rattle.lite_base.specs.Alike.{OptionBy, SameItem};
+ghost use Rattle.lite_base.specs.Calling.{Accepts, AgreeFrom, AgreeKeeping, Calls, Keeping};
+ghost use Rattle.lite_stream.specs.Laws.Agreeing.{through_steady_over};
 ghost use Rattle.lite_sift.specs.Filter.{Filters, filter_parts};
 ghost use Rattle.lite_sift.specs.FilterMap.{FilterMaps, filter_map_parts};
 ghost use Rattle.lite_sift.specs.Skip.{Skips, SkipsFirst, skip_parts};
 ghost use Rattle.lite_sift.specs.SkipWhile.{SkipsUntil, SkipsWhile, skip_while_parts};
 ghost use Rattle.lite_sift.specs.StepBy.{StepsBy, step_by_parts};
-ghost use Rattle.lite_sift.specs.Laws.Agreeing.{leaves_agreeing, skips_match, skips_until_match};
+ghost use Rattle.lite_sift.specs.Laws.Agreeing.{leaves_keeping, leaves_showing, leaves_testing, leaves_until, skips_match};
 ghost use Rattle.lite_sift.specs.Laws.Leaving.{leaves_turning};
 ghost use Rattle.lite_sift.specs.Laws.StepBy.{steps_agreeing, steps_turning};
 
@@ -23,10 +22,12 @@ impl<S: Counted<Item: Drop> + SteadyStream, P: FnMut(&S::Item) -> bool> SteadySt
 
     ghost needs_none = { S.needs_none };
 
-    ghost alike = { λ x y. S.alike x.stream y.stream × Agree (CalledAt P.FnMut) x.predicate y.predicate };
+    ghost same = { S.same };
 
-    ghost steady = { through_steady filter_parts S.steady (leaves_turning (Accepts (CalledAt P.FnMut))).following
-        (leaves_agreeing (Accepts (CalledAt P.FnMut)) (accepts_agree (CalledAt P.FnMut))) };
+    ghost alike = { λ x y. S.alike x.stream y.stream × AgreeFrom (SameItem S.same) (λ y z. y ≡ z) (CalledAt P.FnMut) x.predicate y.predicate };
+
+    ghost steady = { through_steady_over filter_parts S.same S.same S.steady (leaves_turning (Accepts (CalledAt P.FnMut))).following
+        (leaves_testing (CalledAt P.FnMut) S.same) };
 }
 
 impl<B, S: Counted + SteadyStream, F: FnMut(S::Item) -> Option<B>> SteadyStream
@@ -35,10 +36,12 @@ impl<B, S: Counted + SteadyStream, F: FnMut(S::Item) -> Option<B>> SteadyStream
 
     ghost needs_none = { S.needs_none };
 
-    ghost alike = { λ x y. S.alike x.stream y.stream × Agree (Calls F.FnMut) x.f y.f };
+    ghost same = { Keeping S.same (Calls F.FnMut) };
 
-    ghost steady = { through_steady filter_map_parts S.steady (leaves_turning (Calls F.FnMut)).following
-        (leaves_agreeing (Calls F.FnMut) (agree_matches (λ y z. y ≡ z) (Calls F.FnMut))) };
+    ghost alike = { λ x y. S.alike x.stream y.stream × AgreeKeeping S.same (Calls F.FnMut) x.f y.f };
+
+    ghost steady = { through_steady_over filter_map_parts S.same (Keeping S.same (Calls F.FnMut)) S.steady (leaves_turning (Calls F.FnMut)).following
+        (leaves_keeping (Calls F.FnMut) S.same) };
 }
 
 impl<S: SteadyStream<Item: Drop>> SteadyStream for Skip<S> {
@@ -46,9 +49,11 @@ impl<S: SteadyStream<Item: Drop>> SteadyStream for Skip<S> {
 
     ghost needs_none = { S.needs_none };
 
+    ghost same = { S.same };
+
     ghost alike = { λ x y. S.alike x.stream y.stream × (y.n ≡ x.n) };
 
-    ghost steady = { through_steady skip_parts S.steady (leaves_turning Skips).following (leaves_agreeing Skips skips_match) };
+    ghost steady = { through_steady_over skip_parts S.same S.same S.steady (leaves_turning Skips).following (leaves_showing Skips skips_match S.same) };
 }
 
 impl<S: Counted<Item: Drop> + SteadyStream, P: FnMut(&S::Item) -> bool + Drop> SteadyStream
@@ -57,10 +62,12 @@ impl<S: Counted<Item: Drop> + SteadyStream, P: FnMut(&S::Item) -> bool + Drop> S
 
     ghost needs_none = { S.needs_none };
 
-    ghost alike = { λ x y. S.alike x.stream y.stream × OptionBy (Agree (CalledAt P.FnMut)) x.predicate y.predicate };
+    ghost same = { S.same };
 
-    ghost steady = { through_steady skip_while_parts S.steady (leaves_turning (SkipsUntil (CalledAt P.FnMut))).following
-        (leaves_agreeing (SkipsUntil (CalledAt P.FnMut)) (skips_until_match (CalledAt P.FnMut))) };
+    ghost alike = { λ x y. S.alike x.stream y.stream × OptionBy (AgreeFrom (SameItem S.same) (λ y z. y ≡ z) (CalledAt P.FnMut)) x.predicate y.predicate };
+
+    ghost steady = { through_steady_over skip_while_parts S.same S.same S.steady (leaves_turning (SkipsUntil (CalledAt P.FnMut))).following
+        (leaves_until (CalledAt P.FnMut) S.same) };
 }
 
 impl<S: SteadyStream<Item: Drop>> SteadyStream for StepBy<S> {
@@ -68,7 +75,9 @@ impl<S: SteadyStream<Item: Drop>> SteadyStream for StepBy<S> {
 
     ghost needs_none = { S.needs_none };
 
+    ghost same = { S.same };
+
     ghost alike = { λ x y. S.alike x.stream y.stream × ((y.step ≡ x.step) × (y.i ≡ x.i)) };
 
-    ghost steady = { through_steady step_by_parts S.steady steps_turning.following steps_agreeing };
+    ghost steady = { through_steady_over step_by_parts S.same S.same S.steady steps_turning.following (steps_agreeing S.same) };
 }

@@ -2,6 +2,7 @@ pub mod Always
 pub mod Empty
 pub mod Folds
 pub mod Iter
+pub mod Iterators
 pub mod Once
 pub mod OnceFuture
 pub mod Pending

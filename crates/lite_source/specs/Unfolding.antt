@@ -5,7 +5,9 @@ use Rattle.std.specs.List.{FoldsTo}
 use Rattle.futures.specs.declared.task.Poll.{Poll}
 use Rattle.futures.specs.declared.task.Poll.TheVariants.{Ready, Pending}
 use Rattle.futures.specs.Task.{Lasting}
+use Rattle.lite_base.specs.Alike.{MadeOf, OptionBy, SameItem, Sameness}
 use Rattle.lite_base.specs.Answers.{Answer, Waiting}
+use Rattle.lite_base.specs.Calling.{AgreeBy, AgreeFrom}
 use Rattle.lite_base.specs.Future.Finishes.{Finishes}
 use Rattle.lite_source.specs.Empty.{Ends}
 use Rattle.lite_base.specs.Future.Handed.{handed}
@@ -28,12 +30,29 @@ IfAsked (Holding.Asked v) P = P v
 IfAsked (Holding.Seed s) P = ⊤
 IfAsked Holding.Over P = ⊤
 
--- equal seeds, or futures that are the same so, or nothing
-abbrev pub HoldingsBy : {S V : Type 0} → (V → V → Type 0) → Holding S V → Holding S V → Type 0
-HoldingsBy same (Holding.Seed s) (Holding.Seed t) = s ≡ t
-HoldingsBy same (Holding.Asked v) (Holding.Asked w) = same v w
-HoldingsBy same Holding.Over Holding.Over = ⊤
-HoldingsBy same x y = ⊥
+-- seeds that are the same, or futures that are alike, or nothing
+abbrev pub HoldingsBy : {S V : Type 0} → (S → S → Type 0) → (V → V → Type 0) → Holding S V → Holding S V → Type 0
+HoldingsBy same alike (Holding.Seed s) (Holding.Seed t) = same s t
+HoldingsBy same alike (Holding.Asked v) (Holding.Asked w) = alike v w
+HoldingsBy same alike Holding.Over Holding.Over = ⊤
+HoldingsBy same alike x y = ⊥
+
+-- when parts of values are the same, as a value's item or its seed: where they stand in values that are
+abbrev pub PartOf : {O B : Type 0} → Sameness O → (O → Option B) → Sameness B
+PartOf same part = MadeOf same (λ o b. part o ≡ Some b)
+
+-- of two values that are the same, both have that part, or neither
+abbrev pub BothHave : {O B : Type 0} → (O → O → Type 0) → (O → Option B) → Type 0
+BothHave {O} same part = (o p : O) → same o p → OptionBy (λ _ _. ⊤) (part o) (part p)
+
+-- what is asked of two that unfold: seeds that are the same make futures that are alike, and what is held is so; and, where values are compared by a relation,
+-- that both values have an item or neither, and so a next seed
+abbrev pub UnfoldAlike : {F S V O B : Type 0} → Sameness O → (V → V → Type 0) → (F → S → V → F → Type 0) → (O → Option S) → (O → Option B)
+    → F × Holding S V → F × Holding S V → Type 0
+UnfoldAlike Sameness.equal alike call after shown x y = AgreeBy alike call x.0 y.0 × HoldingsBy (λ s t. s ≡ t) alike x.1 y.1
+UnfoldAlike (Sameness.by same) alike call after shown x y =
+    AgreeFrom (SameItem (PartOf (Sameness.by same) after)) alike call x.0 y.0 × HoldingsBy (SameItem (PartOf (Sameness.by same) after)) alike x.1 y.1
+    × BothHave same shown × BothHave same after
 
 -- what a pending poll leaves is left by the future
 abbrev pub UnfoldLeaves : {S V : Type 0} → (V → Lasting → Type 0) → Holding S V → Lasting → Type 0

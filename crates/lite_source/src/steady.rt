@@ -1,9 +1,9 @@
 //! The sources whose answers do not depend on when they were pending.
-ghost use Rattle.lite_base.specs.Alike.{Alike, Exactly, OptionBy};
+ghost use Rattle.lite_base.specs.Alike.{Alike, OptionBy};
 ghost use Rattle.lite_base.specs.Answers.{strip};
-ghost use Rattle.lite_base.specs.Calling.{AgreeBy, Calls};
+ghost use Rattle.lite_base.specs.Calling.{Calls};
 ghost use Rattle.lite_base.specs.Future.Calls.{Answers};
-ghost use Rattle.lite_base.specs.Steady.{exact_steady, steady_always};
+ghost use Rattle.lite_base.specs.Steady.{steady_always};
 ghost use Rattle.lite_source.specs.Empty.{Ends};
 ghost use Rattle.lite_source.specs.Iter.{Iterates, Nexts};
 ghost use Rattle.lite_source.specs.Laws.Empty.{empty_laws, empty_steady};
@@ -24,7 +24,7 @@ ghost use Rattle.lite_source.specs.RepeatWith.{Call};
 ghost use Rattle.lite_source.specs.Script.{Gives};
 ghost use Rattle.lite_source.specs.TryUnfold.{TryUnfoldsBy, try_item_of, try_seed_of};
 ghost use Rattle.lite_source.specs.Unfold.{UnfoldsBy, item_of, seed_of};
-ghost use Rattle.lite_source.specs.Unfolding.{HoldingsBy};
+ghost use Rattle.lite_source.specs.Unfolding.{PartOf, UnfoldAlike};
 ghost use Rattle.std.specs.List.{FoldsTo};
 ghost use Rattle.std.proofs.Common.{ap};
 ghost use Rattle.std.specs.Prelude.{⊤, ◌≡◌};
@@ -63,9 +63,11 @@ impl<F: SteadyFuture + Drop> SteadyStream for OnceFuture<F> {
 
     ghost needs_none = { F.needs_none };
 
-    ghost alike = { λ x y. OptionBy (Exactly F.alike F.same) x.future y.future };
+    ghost same = { F.same };
 
-    ghost steady = { once_future_steady (exact_steady F.steady) };
+    ghost alike = { λ x y. OptionBy F.alike x.future y.future };
+
+    ghost steady = { once_future_steady F.same F.steady };
 }
 
 impl<T> SteadyStream for Pending<T> {
@@ -120,10 +122,11 @@ where
 
     ghost needs_none = { Fut.needs_none };
 
-    ghost alike = { λ x y. AgreeBy (Exactly Fut.alike Fut.same) (Calls F.FnMut) x.f y.f
-        × HoldingsBy (Exactly Fut.alike Fut.same) x.state y.state };
+    ghost same = { PartOf Fut.same try_item_of };
 
-    ghost steady = { unfolds_steady F.FnMut try_seed_of try_item_of (λ x. (x.f, x.state)) (try_unfold_laws F.FnMut Fut.ample) (exact_steady Fut.steady) };
+    ghost alike = { λ x y. UnfoldAlike Fut.same Fut.alike (Calls F.FnMut) try_seed_of try_item_of (x.f, x.state) (y.f, y.state) };
+
+    ghost steady = { unfolds_steady F.FnMut try_seed_of try_item_of Fut.same (λ x. (x.f, x.state)) (try_unfold_laws F.FnMut Fut.ample) Fut.steady };
 }
 
 impl<T, F, Fut, Item> SteadyStream for Unfold<T, F, Fut>
@@ -136,8 +139,9 @@ where
 
     ghost needs_none = { Fut.needs_none };
 
-    ghost alike = { λ x y. AgreeBy (Exactly Fut.alike Fut.same) (Calls F.FnMut) x.f y.f
-        × HoldingsBy (Exactly Fut.alike Fut.same) x.state y.state };
+    ghost same = { PartOf Fut.same item_of };
 
-    ghost steady = { unfolds_steady F.FnMut seed_of item_of (λ x. (x.f, x.state)) (unfold_laws F.FnMut Fut.ample) (exact_steady Fut.steady) };
+    ghost alike = { λ x y. UnfoldAlike Fut.same Fut.alike (Calls F.FnMut) seed_of item_of (x.f, x.state) (y.f, y.state) };
+
+    ghost steady = { unfolds_steady F.FnMut seed_of item_of Fut.same (λ x. (x.f, x.state)) (unfold_laws F.FnMut Fut.ample) Fut.steady };
 }

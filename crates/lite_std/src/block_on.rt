@@ -125,7 +125,9 @@ impl<R: Wait + RandomSource + AllocGlobal, T: AsyncBufRead> BufRead for BlockOn<
     fn fill_buf(&mut self) -> io::Result<&[u8]>
         ensures front { IfSome None (λ (xs : List ℕ). IfOk result (λ s. StartsWith xs s.now)) }
         ensures end { IfSome None (λ (xs : List ℕ). IfOk result (λ s. length s.now ≡ 0 → xs ≡ [])) }
-        ensures* after_borrow { sem 𝓛 (Rests (the_row R.row T.row) self.entry (λ new. FillKeeps None None None result)) }
+        ensures* after_borrow { sem 𝓛 (Rests (the_row R.row T.row) self.entry (λ new. FillKeeps None None None result
+            × Blocks T.reads Mark.pending (λ answer. fill_marks answer (T.lent (io_of new))) (io_of self.old) result (io_of new)
+            × IfOk result (λ s. s.now ≡ T.lent (io_of new)))) }
         ensures shown { (left : T) × Blocks T.reads Mark.pending (λ answer. fill_marks answer (T.lent left)) (io_of self.old) result left × IfOk result (λ s. s.now ≡ T.lent left) }
     {
         let mut filling = Filling { io: &mut self.io };

@@ -5,6 +5,7 @@ pub mod EachItem
 pub mod Fuse
 pub mod Lower
 pub mod Matching
+pub mod Numbering
 pub mod Pointwise
 pub mod Take
 pub mod Through

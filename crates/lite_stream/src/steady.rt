@@ -1,15 +1,16 @@
 //! The adapters whose answers do not depend on when their stream was pending.
-ghost use Rattle.lite_base.specs.Calling.{Accepts, Agree, Calls, CallsWith};
-ghost use Rattle.lite_stream.specs.Copied.{Copies, CopiesAll, copied_parts};
+ghost use Rattle.lite_base.specs.Alike.{Pairwise, SameItem, Sameness};
+ghost use Rattle.lite_base.specs.Calling.{Accepts, AgreeFrom, AgreeKeeping, AgreeOver, Answering, Calls, CallsWith, Keeping};
+ghost use Rattle.lite_stream.specs.Copied.{Copies, CopiesAll, Referred, copied_parts};
 ghost use Rattle.lite_stream.specs.Enumerate.{Enumerates, Numbers, enumerate_parts};
 ghost use Rattle.lite_stream.specs.Fuse.{Fuses, fuse_parts};
 ghost use Rattle.lite_stream.specs.Inspect.{Inspects, Shows, inspect_parts};
-ghost use Rattle.lite_base.specs.Laws.Calling.{accepts_agree, agree_matches};
-ghost use Rattle.lite_stream.specs.Laws.Agreeing.{through_steady};
+ghost use Rattle.lite_stream.specs.Laws.Agreeing.{through_steady_over};
 ghost use Rattle.lite_stream.specs.Laws.Cutting.{cuts_turning};
 ghost use Rattle.lite_stream.specs.Laws.Fuse.{fuses_agreeing, fuses_turning};
-ghost use Rattle.lite_stream.specs.Laws.Matching.{copies_match, numbers_match, shows_match};
-ghost use Rattle.lite_stream.specs.Laws.Pointwise.{exchanges_agreeing, exchanges_turning, replaces_agreeing, replaces_agreeing_where, replaces_turning};
+ghost use Rattle.lite_stream.specs.Laws.Matching.{copies_match, shows_match};
+ghost use Rattle.lite_stream.specs.Laws.Numbering.{numbers_agreeing};
+ghost use Rattle.lite_stream.specs.Laws.Pointwise.{exchanges_keeping, exchanges_testing, exchanges_turning, replaces_agreeing_over, replaces_answering, replaces_showing, replaces_turning};
 ghost use Rattle.lite_stream.specs.Laws.Take.{takes_agreeing};
 ghost use Rattle.lite_stream.specs.Map.{Maps, map_parts};
 ghost use Rattle.lite_stream.specs.MapWhile.{MapsWhile, map_while_parts};
@@ -27,9 +28,12 @@ impl<'a, T: Copy + 'a, S: SteadyStream<Item = &'a T>> SteadyStream for Copied<S>
 
     ghost needs_none = { S.needs_none };
 
+    ghost same = { Referred S.same };
+
     ghost alike = { λ x y. S.alike x.stream y.stream × ⊤ };
 
-    ghost steady = { through_steady copied_parts S.steady (replaces_turning Copies).following (replaces_agreeing_where Copies copies_match) };
+    ghost steady = { through_steady_over copied_parts S.same (Referred S.same) S.steady (replaces_turning Copies).following
+        (replaces_agreeing_over Copies S.same (Referred S.same) (copies_match S.same)) };
 }
 
 impl<S: SteadyStream> SteadyStream for Enumerate<S> {
@@ -37,9 +41,11 @@ impl<S: SteadyStream> SteadyStream for Enumerate<S> {
 
     ghost needs_none = { S.needs_none };
 
+    ghost same = { Pairwise Sameness.equal S.same };
+
     ghost alike = { λ x y. S.alike x.stream y.stream × (y.i ≡ x.i) };
 
-    ghost steady = { through_steady enumerate_parts S.steady (replaces_turning Numbers).following (replaces_agreeing_where Numbers numbers_match) };
+    ghost steady = { through_steady_over enumerate_parts S.same (Pairwise Sameness.equal S.same) S.steady (replaces_turning Numbers).following (numbers_agreeing S.same) };
 }
 
 impl<S: SteadyStream> SteadyStream for Fuse<S> {
@@ -47,9 +53,11 @@ impl<S: SteadyStream> SteadyStream for Fuse<S> {
 
     ghost needs_none = { S.needs_none };
 
+    ghost same = { S.same };
+
     ghost alike = { λ x y. S.alike x.stream y.stream × (y.done ≡ x.done) };
 
-    ghost steady = { through_steady fuse_parts S.steady fuses_turning.following fuses_agreeing };
+    ghost steady = { through_steady_over fuse_parts S.same S.same S.steady fuses_turning.following (fuses_agreeing S.same) };
 }
 
 impl<S: SteadyStream, F: FnMut(&S::Item)> SteadyStream for Inspect<S, F> {
@@ -57,10 +65,12 @@ impl<S: SteadyStream, F: FnMut(&S::Item)> SteadyStream for Inspect<S, F> {
 
     ghost needs_none = { S.needs_none };
 
+    ghost same = { S.same };
+
     ghost alike = { λ x y. S.alike x.stream y.stream × ⊤ };
 
-    ghost steady = { through_steady inspect_parts S.steady (replaces_turning (Shows (CalledAt F.FnMut))).following
-        (replaces_agreeing_where (Shows (CalledAt F.FnMut)) (shows_match (CalledAt F.FnMut))) };
+    ghost steady = { through_steady_over inspect_parts S.same S.same S.steady (replaces_turning (Shows (CalledAt F.FnMut))).following
+        (replaces_showing (Shows (CalledAt F.FnMut)) (shows_match (CalledAt F.FnMut)) S.same) };
 }
 
 impl<U, S: SteadyStream, F: FnMut(S::Item) -> U> SteadyStream for Map<S, F> {
@@ -68,9 +78,12 @@ impl<U, S: SteadyStream, F: FnMut(S::Item) -> U> SteadyStream for Map<S, F> {
 
     ghost needs_none = { S.needs_none };
 
-    ghost alike = { λ x y. S.alike x.stream y.stream × Agree (Calls F.FnMut) x.f y.f };
+    ghost same = { Answering S.same (Calls F.FnMut) };
 
-    ghost steady = { through_steady map_parts S.steady (replaces_turning (Calls F.FnMut)).following (replaces_agreeing (Calls F.FnMut)) };
+    ghost alike = { λ x y. S.alike x.stream y.stream × AgreeOver S.same (Calls F.FnMut) x.f y.f };
+
+    ghost steady = { through_steady_over map_parts S.same (Answering S.same (Calls F.FnMut)) S.steady (replaces_turning (Calls F.FnMut)).following
+        (replaces_answering (Calls F.FnMut) S.same) };
 }
 
 impl<B, S: SteadyStream, F: FnMut(S::Item) -> Option<B>> SteadyStream for MapWhile<S, F> {
@@ -78,10 +91,12 @@ impl<B, S: SteadyStream, F: FnMut(S::Item) -> Option<B>> SteadyStream for MapWhi
 
     ghost needs_none = { S.needs_none };
 
-    ghost alike = { λ x y. S.alike x.stream y.stream × Agree (Calls F.FnMut) x.f y.f };
+    ghost same = { Keeping S.same (Calls F.FnMut) };
 
-    ghost steady = { through_steady map_while_parts S.steady (exchanges_turning (Calls F.FnMut)).following
-        (exchanges_agreeing (Calls F.FnMut) (agree_matches (λ y z. y ≡ z) (Calls F.FnMut))) };
+    ghost alike = { λ x y. S.alike x.stream y.stream × AgreeKeeping S.same (Calls F.FnMut) x.f y.f };
+
+    ghost steady = { through_steady_over map_while_parts S.same (Keeping S.same (Calls F.FnMut)) S.steady (exchanges_turning (Calls F.FnMut)).following
+        (exchanges_keeping (Calls F.FnMut) S.same) };
 }
 
 impl<St, B, S: SteadyStream, F: FnMut(&mut St, S::Item) -> Option<B>> SteadyStream
@@ -90,10 +105,12 @@ impl<St, B, S: SteadyStream, F: FnMut(&mut St, S::Item) -> Option<B>> SteadyStre
 
     ghost needs_none = { S.needs_none };
 
-    ghost alike = { λ x y. S.alike x.stream y.stream × Agree (CallsWith F.FnMut) (x.f, x.state) (y.f, y.state) };
+    ghost same = { Keeping S.same (CallsWith F.FnMut) };
 
-    ghost steady = { through_steady scan_parts S.steady (exchanges_turning (CallsWith F.FnMut)).following
-        (exchanges_agreeing (CallsWith F.FnMut) (agree_matches (λ y z. y ≡ z) (CallsWith F.FnMut))) };
+    ghost alike = { λ x y. S.alike x.stream y.stream × AgreeKeeping S.same (CallsWith F.FnMut) (x.f, x.state) (y.f, y.state) };
+
+    ghost steady = { through_steady_over scan_parts S.same (Keeping S.same (CallsWith F.FnMut)) S.steady (exchanges_turning (CallsWith F.FnMut)).following
+        (exchanges_keeping (CallsWith F.FnMut) S.same) };
 }
 
 impl<S: SteadyStream> SteadyStream for Take<S> {
@@ -101,9 +118,11 @@ impl<S: SteadyStream> SteadyStream for Take<S> {
 
     ghost needs_none = { S.needs_none };
 
+    ghost same = { S.same };
+
     ghost alike = { λ x y. S.alike x.stream y.stream × (y.n ≡ x.n) };
 
-    ghost steady = { through_steady take_parts S.steady (cuts_turning is_none_left left_after).following takes_agreeing };
+    ghost steady = { through_steady_over take_parts S.same S.same S.steady (cuts_turning is_none_left left_after).following (takes_agreeing S.same) };
 }
 
 impl<S: SteadyStream<Item: Drop>, P: FnMut(&S::Item) -> bool> SteadyStream for TakeWhile<S, P> {
@@ -111,8 +130,10 @@ impl<S: SteadyStream<Item: Drop>, P: FnMut(&S::Item) -> bool> SteadyStream for T
 
     ghost needs_none = { S.needs_none };
 
-    ghost alike = { λ x y. S.alike x.stream y.stream × Agree (CalledAt P.FnMut) x.predicate y.predicate };
+    ghost same = { S.same };
 
-    ghost steady = { through_steady take_while_parts S.steady (exchanges_turning (Accepts (CalledAt P.FnMut))).following
-        (exchanges_agreeing (Accepts (CalledAt P.FnMut)) (accepts_agree (CalledAt P.FnMut))) };
+    ghost alike = { λ x y. S.alike x.stream y.stream × AgreeFrom (SameItem S.same) (λ y z. y ≡ z) (CalledAt P.FnMut) x.predicate y.predicate };
+
+    ghost steady = { through_steady_over take_while_parts S.same S.same S.steady (exchanges_turning (Accepts (CalledAt P.FnMut))).following
+        (exchanges_testing (CalledAt P.FnMut) S.same) };
 }

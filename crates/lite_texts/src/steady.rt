@@ -1,4 +1,5 @@
 //! The futures whose value does not depend on when their reader was pending, where memory was found.
+ghost use Rattle.lite_base.specs.Alike.{Sameness};
 ghost use Rattle.lite_lines.specs.Laws.Marks.{until_settles};
 ghost use Rattle.lite_read.specs.Laws.SteadyReadToEnd.{appends_settles};
 ghost use Rattle.lite_read.specs.Settling.{SameByKind};
@@ -17,7 +18,7 @@ impl<R: SteadyRead + AsyncBufRead + CountedRead, A: Allocator> SteadyFuture
 
     ghost needs_none = { ⊥ };
 
-    ghost same = { SameByKind };
+    ghost same = { Sameness.by SameByKind };
 
     ghost alike = { TextAlike line_over R.alike };
 
@@ -29,7 +30,7 @@ impl<R: SteadyRead + CountedRead, A: Allocator> SteadyFuture for ReadToStringFut
 
     ghost needs_none = { ⊥ };
 
-    ghost same = { SameByKind };
+    ghost same = { Sameness.by SameByKind };
 
     ghost alike = { TextAlike all_over R.alike };
 

@@ -1,8 +1,14 @@
 //! Futures that consume a stream, and collections: two that are alike where their streams are, and a calm one, of each type.
 ghost use Rattle.std.specs.Fn.{CalledAt};
-ghost use Rattle.std.specs.Prelude.{[], Some, None};
-ghost use Rattle.lite_base.specs.Calling.{Agree, Calls};
+ghost use Rattle.std.specs.Prelude.{◌≡◌, [], Some, None};
+ghost use Rattle.lite_base.specs.Alike.{SameItem};
+ghost use Rattle.lite_base.specs.Calling.{Agree, AgreeFrom, AgreeKeeping, Calls};
 ghost use Rattle.lite_consume.specs.Calls.{CallsBoth};
+ghost use Rattle.lite_consume.specs.Fold.{folds};
+ghost use Rattle.lite_consume.specs.Kin.{AgreeDeciding, AgreeOrKin, Beside};
+ghost use Rattle.lite_consume.specs.TryFold.{tries_fold};
+ghost use Rattle.lite_consume.specs.TryForEach.{tries_each};
+ghost use Rattle.lite_gather.specs.Agreeing.{Unmixed};
 
 use lite_base::{CalmFuture, CalmStream, Counted, OkCounted, SteadyFuture, SteadyStream};
 use lite_consume::{
@@ -33,12 +39,12 @@ where
     I: FnMut(S::Item),
     T: FnMut(S::Item) -> Result<(), U>,
     requires alike { S.alike x.now y.now }
-    requires tests { Agree (Calls P.FnMut) p.now p.now }
-    requires chooses { Agree (Calls O.FnMut) o.now o.now }
-    requires finds { Agree (CalledAt Q.FnMut) q.now q.now }
-    requires folds { Agree (CallsBoth F.FnMut) f.now f.now }
-    requires calls { Agree (Calls I.FnMut) i.now i.now }
-    requires tries { Agree (Calls T.FnMut) t.now t.now }
+    requires tests { AgreeFrom (SameItem S.same) (λ y z. y ≡ z) (Calls P.FnMut) p.now p.now }
+    requires chooses { AgreeKeeping S.same (Calls O.FnMut) o.now o.now }
+    requires finds { AgreeFrom (SameItem S.same) (λ y z. y ≡ z) (CalledAt Q.FnMut) q.now q.now }
+    requires folds { AgreeOrKin S.same (Beside (Agree (CallsBoth F.FnMut))) (folds (CallsBoth F.FnMut)) (f.now, Some v.now) (f.now, Some v.now) }
+    requires calls { AgreeFrom (SameItem S.same) (λ y z. y ≡ z) (Calls I.FnMut) i.now i.now }
+    requires tries { AgreeDeciding S.same (Agree (Calls T.FnMut)) (tries_each (Calls T.FnMut)) t.now t.now }
     ensures all { ⟦<Consume<S, All<P>> as SteadyFuture>⟧.alike
         (record { stream = x.now; folder = record { predicate = p.now } }) (record { stream = y.now; folder = record { predicate = p.now } }) }
     ensures any { ⟦<Consume<S, Any<P>> as SteadyFuture>⟧.alike
@@ -81,7 +87,7 @@ where
     S: SteadyStream + OkCounted,
     F: FnMut(V, S::Ok) -> Result<V, S::Err>,
     requires alike { S.alike x.now y.now }
-    requires tries { Agree (CallsBoth F.FnMut) f.now f.now }
+    requires tries { AgreeDeciding S.same (Beside (Agree (CallsBoth F.FnMut))) (tries_fold (CallsBoth F.FnMut)) (f.now, Some v.now) (f.now, Some v.now) }
     ensures try_fold { ⟦<Consume<S, TryFold<F, V>> as SteadyFuture>⟧.alike
         (record { stream = x.now; folder = record { f = f.now; acc = Some v.now } })
         (record { stream = y.now; folder = record { f = f.now; acc = Some v.now } }) }
@@ -113,7 +119,7 @@ where
     requires alike { S.alike x.now y.now }
     requires first { C.holds c.now [] }
     requires second { C.holds d.now [] }
-    requires tests { Agree (CalledAt P.FnMut) p.now p.now }
+    requires tests { AgreeFrom (SameItem S.same) (λ y z. y ≡ z) (CalledAt P.FnMut) p.now p.now }
     ensures collect { ⟦<CollectFuture<S, C> as SteadyFuture>⟧.alike
         (record { stream = x.now; folder = record { collection = Some c.now } }) (record { stream = y.now; folder = record { collection = Some d.now } }) }
     ensures partition { ⟦<PartitionFuture<S, P, C> as SteadyFuture>⟧.alike
@@ -129,7 +135,7 @@ where
     C: Gather<S::Ok>,
     D: Gather<A>,
     E: Gather<B>,
-    requires alike { S.alike x.now y.now }
+    requires alike { Unmixed S.same (S.alike x.now y.now) }
     requires pairs { U.alike v.now w.now }
     requires values { C.holds c.now [] }
     requires first { D.holds d.now [] }

@@ -1,6 +1,6 @@
 //! Futures: two that are alike, and a calm one, of each type.
 ghost use Rattle.std.specs.Prelude.{◌⊎◌, Some, false, true};
-ghost use Rattle.lite_base.specs.Alike.{Alike, Exact, Exactly};
+ghost use Rattle.lite_base.specs.Alike.{Alike};
 ghost use Rattle.lite_base.specs.Future.Calls.{NeverPends, Polled};
 ghost use Rattle.lite_base.specs.declared.future.half.Half.TheVariants.{Asked};
 
@@ -15,8 +15,8 @@ where
     E: SteadyFuture<Output: Drop> + Drop,
     V: SteadyFuture<Output: Drop> + Drop,
     P: FnMut(&mut Context<'_>) -> Poll<T>,
-    requires first { Exactly E.alike E.same x.now y.now }
-    requires second { Exactly V.alike V.same v.now w.now }
+    requires first { E.alike x.now y.now }
+    requires second { V.alike v.now w.now }
     requires polls { Alike (Polled P.FnMut) p.now p.now }
     ensures fuse { ⟦<Fuse<E> as SteadyFuture>⟧.alike (record { inner = Some x.now }) (record { inner = Some y.now }) }
     ensures pending { ⟦<Pending<T> as SteadyFuture>⟧.alike (record { marker = record {} }) (record { marker = record {} }) }

@@ -1,8 +1,8 @@
 //! Adapters that hold something between polls or have several streams: two that are alike, and a calm one, of each type.
 ghost use Rattle.std.specs.Fn.{AlwaysReturns};
 ghost use Rattle.std.specs.Prelude.{None, Some, false};
-ghost use Rattle.lite_base.specs.Alike.{Exactly};
-ghost use Rattle.lite_base.specs.Calling.{AgreeBy, Calls};
+ghost use Rattle.lite_base.specs.Alike.{SameItem};
+ghost use Rattle.lite_base.specs.Calling.{AgreeFrom, Calls};
 ghost use Rattle.lite_cycle.specs.declared.stop_after_future.Stopping.TheVariants.{Holding};
 ghost use Rattle.lite_flatten.specs.Cloned.{EqualClones};
 ghost use Rattle.lite_flatten.specs.Flatten.{EachInner};
@@ -24,8 +24,8 @@ where
     G: FnMut(S::Item) -> Fut,
     requires first { S.alike x.now y.now }
     requires second { U.alike v.now w.now }
-    requires streams { AgreeBy U.alike (Calls F.FnMut) f.now f.now }
-    requires futures { AgreeBy (Exactly Fut.alike Fut.same) (Calls G.FnMut) g.now g.now }
+    requires streams { AgreeFrom (SameItem S.same) U.alike (Calls F.FnMut) f.now f.now }
+    requires futures { AgreeFrom (SameItem S.same) Fut.alike (Calls G.FnMut) g.now g.now }
     ensures chain { ⟦<Chain<S, U> as SteadyStream>⟧.alike
         (record { first = x.now; second = v.now; part = First }) (record { first = y.now; second = w.now; part = First }) }
     ensures flat_map { ⟦<FlatMap<S, U, F> as SteadyStream>⟧.alike
@@ -37,13 +37,13 @@ where
         (record { item_slot = None; first = x.now; second = v.now }) (record { item_slot = None; first = y.now; second = w.now }) }
 {}
 
-/// Streams of streams are alike where the outer ones are, and each of the inner ones is alike to itself.
+/// Streams of streams are alike where the outer ones are, and each of the inner ones is alike to those that it is the same as.
 pub fn inner_streams_are_alike<S, B>(x: &S, y: &S)
 where
     B: SteadyStream + Drop,
     S: SteadyStream + Counted<Item = B>,
     requires outer { S.alike x.now y.now }
-    requires inner { EachInner S.ample (λ b. B.alike b b) x.now None }
+    requires inner { EachInner S.ample (λ b. (c : B) → SameItem S.same b c → B.alike b c) x.now None }
     ensures { ⟦<Flatten<S> as SteadyStream>⟧.alike (record { stream = x.now; inner_stream = None }) (record { stream = y.now; inner_stream = None }) }
 {}
 

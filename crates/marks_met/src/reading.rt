@@ -2,14 +2,11 @@
 ghost use Rattle.std.specs.Prelude.{◌≡◌, [], Some, false, true, length};
 ghost use Rattle.lite_copy.specs.Copy.{Begins, source_of};
 
-use lite_base::{CalmFuture, CalmStream, SteadyFuture};
+use lite_base::{CalmFuture, CalmStream, SteadyFuture, SteadyStream};
 use lite_copy::CopyFuture;
 use lite_io_base::{AsyncBufRead, AsyncWrite, CalmRead, CalmWrite, CountedRead, SteadyRead};
 use lite_lines::{Lines, ReadUntilFuture, Split};
-use lite_read::{
-    Bytes, FillBuf, ReadExactFuture, ReadFuture, ReadToEndFuture, ReadVectoredFuture,
-    SteadyStreamBy,
-};
+use lite_read::{Bytes, FillBuf, ReadExactFuture, ReadFuture, ReadToEndFuture, ReadVectoredFuture};
 use lite_texts::{ReadLineFuture, ReadToStringFuture};
 use std::io::IoSliceMut;
 
@@ -24,7 +21,7 @@ pub fn reads_are_alike<'a, R>(
 where
     R: SteadyRead + CountedRead + AsyncBufRead,
     requires { R.alike x.now.now y.now.now }
-    ensures bytes { ⟦<Bytes<R> as SteadyStreamBy>⟧.alike (record { inner = x.now.now }) (record { inner = y.now.now }) }
+    ensures bytes { ⟦<Bytes<R> as SteadyStream>⟧.alike (record { inner = x.now.now }) (record { inner = y.now.now }) }
     ensures read_exact { ⟦<ReadExactFuture<'a, R> as SteadyFuture>⟧.alike
         (record { reader = x.now; buf = buf.now; filled = 0 }) (record { reader = y.now; buf = buf.now; filled = 0 }) }
     ensures read_to_end { let start = length bytes.now.now.items in ⟦<ReadToEndFuture<'a, R> as SteadyFuture>⟧.alike
@@ -84,8 +81,8 @@ where
     requires byte { v.now.byte ≡ w.now.byte }
     requires calm_lines { R.is_calm x.now.reader }
     requires calm_pieces { R.is_calm v.now.reader }
-    ensures lines { ⟦<Lines<R> as SteadyStreamBy>⟧.alike x.now y.now }
-    ensures split { ⟦<Split<R> as SteadyStreamBy>⟧.alike v.now w.now }
+    ensures lines { ⟦<Lines<R> as SteadyStream>⟧.alike x.now y.now }
+    ensures split { ⟦<Split<R> as SteadyStream>⟧.alike v.now w.now }
     ensures lines_calm { ⟦<Lines<R> as CalmStream>⟧.is_calm x.now }
     ensures split_calm { ⟦<Split<R> as CalmStream>⟧.is_calm v.now }
 {}

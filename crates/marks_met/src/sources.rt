@@ -3,12 +3,14 @@ ghost use Rattle.futures.specs.declared.task.Poll.TheVariants.{Pending as Waits,
 ghost use Rattle.std.specs.Fn.{AlwaysReturns};
 ghost use Rattle.std.specs.List.{FoldsTo};
 ghost use Rattle.std.specs.Prelude.{◌∷◌, Some, None, []};
-ghost use Rattle.lite_base.specs.Alike.{Alike, Exactly};
-ghost use Rattle.lite_base.specs.Calling.{AgreeBy, Calls};
+ghost use Rattle.lite_base.specs.Alike.{Alike, SameItem};
+ghost use Rattle.lite_base.specs.Calling.{AgreeFrom, Calls};
 ghost use Rattle.lite_base.specs.Future.Calls.{Answers, NeverPends};
 ghost use Rattle.lite_source.specs.Iter.{Iterates};
 ghost use Rattle.lite_source.specs.RepeatWith.{Call};
-ghost use Rattle.lite_source.specs.Unfolding.{Holding};
+ghost use Rattle.lite_source.specs.TryUnfold.{try_item_of, try_seed_of};
+ghost use Rattle.lite_source.specs.Unfold.{item_of, seed_of};
+ghost use Rattle.lite_source.specs.Unfolding.{BothHave, Holding, PartOf};
 
 use lite_base::{CalmFuture, CalmStream, Context, Poll, SteadyFuture, SteadyStream};
 use lite_source::{
@@ -24,7 +26,8 @@ pub fn sources_are_alike<T>(t: &T, byte: u8, script: &Script<T>)
     ensures script { ⟦<Script<T> as SteadyStream>⟧.alike script.now (Waits ∷ script.now) }
 {}
 
-/// Sources that call what agrees with itself are alike, and one of an iterator that does.
+/// Sources that call what agrees with itself are alike, and one of an iterator that does; those that unfold, where values that
+/// are the same have an item both or neither, and so a seed.
 pub fn calls_are_alike<T, E, U, V, I, Fut, Fut2, P, R, F, G>(
     x: &Fut,
     y: &Fut,
@@ -44,12 +47,16 @@ where
     R: FnMut() -> V,
     F: FnMut(T) -> Fut,
     G: FnMut(T) -> Fut2,
-    requires future { Exactly Fut.alike Fut.same x.now y.now }
+    requires future { Fut.alike x.now y.now }
     requires iterates { Alike (Iterates I.can_next I.next_gives I.remaining) i.now i.now }
     requires polls { Alike (FoldsTo (Answers P.FnMut)) p.now p.now }
     requires repeats { Alike (FoldsTo (Call R.FnMut)) r.now r.now }
-    requires unfolds { AgreeBy (Exactly Fut.alike Fut.same) (Calls F.FnMut) f.now f.now }
-    requires tries { AgreeBy (Exactly Fut2.alike Fut2.same) (Calls G.FnMut) g.now g.now }
+    requires unfolds { AgreeFrom (SameItem (PartOf Fut.same seed_of)) Fut.alike (Calls F.FnMut) f.now f.now }
+    requires seed { SameItem (PartOf Fut.same seed_of) t.now t.now }
+    requires both { BothHave (SameItem Fut.same) item_of × BothHave (SameItem Fut.same) seed_of }
+    requires tries { AgreeFrom (SameItem (PartOf Fut2.same try_seed_of)) Fut2.alike (Calls G.FnMut) g.now g.now }
+    requires try_seed { SameItem (PartOf Fut2.same try_seed_of) t.now t.now }
+    requires try_both { BothHave (SameItem Fut2.same) try_item_of × BothHave (SameItem Fut2.same) try_seed_of }
     ensures iter { ⟦<Iter<I> as SteadyStream>⟧.alike (record { iter = i.now }) (record { iter = i.now }) }
     ensures once_future { ⟦<OnceFuture<Fut> as SteadyStream>⟧.alike (record { future = Some x.now }) (record { future = Some y.now }) }
     ensures poll_fn { ⟦<PollFn<P> as SteadyStream>⟧.alike (record { f = p.now }) (record { f = p.now }) }

@@ -1,7 +1,8 @@
 //! Adapters of streams: two that are alike where their streams are, and a calm one where its stream is, of each type.
 ghost use Rattle.std.specs.Fn.{CalledAt};
-ghost use Rattle.std.specs.Prelude.{Some, false};
-ghost use Rattle.lite_base.specs.Calling.{Agree, Calls, CallsWith};
+ghost use Rattle.std.specs.Prelude.{◌≡◌, Some, false};
+ghost use Rattle.lite_base.specs.Alike.{SameItem};
+ghost use Rattle.lite_base.specs.Calling.{AgreeFrom, AgreeKeeping, AgreeOver, Calls, CallsWith};
 
 use lite_base::{CalmStream, Counted, SteadyStream};
 use lite_sift::{Filter, FilterMap, Skip, SkipWhile, StepBy};
@@ -27,10 +28,10 @@ where
     I: FnMut(&S::Item),
     G: FnMut(&mut V, S::Item) -> Option<U>,
     requires alike { S.alike x.now y.now }
-    requires maps { Agree (Calls F.FnMut) f.now f.now }
-    requires chooses { Agree (Calls O.FnMut) o.now o.now }
-    requires tests { Agree (CalledAt P.FnMut) p.now p.now }
-    requires scans { Agree (CallsWith G.FnMut) (g.now, v.now) (g.now, v.now) }
+    requires maps { AgreeOver S.same (Calls F.FnMut) f.now f.now }
+    requires chooses { AgreeKeeping S.same (Calls O.FnMut) o.now o.now }
+    requires tests { AgreeFrom (SameItem S.same) (λ b c. b ≡ c) (CalledAt P.FnMut) p.now p.now }
+    requires scans { AgreeKeeping S.same (CallsWith G.FnMut) (g.now, v.now) (g.now, v.now) }
     ensures enumerate { ⟦<Enumerate<S> as SteadyStream>⟧.alike (record { stream = x.now; i = 0 }) (record { stream = y.now; i = 0 }) }
     ensures fuse { ⟦<Fuse<S> as SteadyStream>⟧.alike (record { stream = x.now; done = false }) (record { stream = y.now; done = false }) }
     ensures inspect { ⟦<Inspect<S, I> as SteadyStream>⟧.alike (record { stream = x.now; f = i.now }) (record { stream = y.now; f = i.now }) }

@@ -1,16 +1,18 @@
 //! Clones of what two sources of references give.
 ghost use Rattle.std.specs.Prelude.{◌≡◌, ◌++◌, List, length, IfOk, IfErr};
-ghost use Rattle.lite_base.specs.Answers.{Answer, Comparable, strip};
+ghost use Rattle.lite_base.specs.Alike.{SameAnswer};
+ghost use Rattle.lite_base.specs.Answers.{Answer, ComparableBy, strip};
 ghost use Rattle.lite_base.specs.Steady.{TakesNone};
 ghost use Rattle.lite_laws.specs.Both.{Fewer};
-ghost use Rattle.lite_flatten.specs.Cloned.{NoneRefused};
+ghost use Rattle.lite_flatten.specs.Cloned.{ClonedFrom, NoneRefused};
 
 use lite_base::{Context, Poll, SteadyStream, Stream};
 use lite_flatten::Cloned;
 use lite_laws::run_both;
 use std::alloc::AllocError;
 
-/// Clones of the items of two streams that are alike and take no memory. Where no clone was refused, they are the same.
+/// Clones of the items of two streams that are alike and take no memory. Where no clone was refused, they are the same: equal,
+/// or, where the streams compare references by a relation, clones of what two that are in it refer to.
 /// On `Ok` so many answers were appended; `Err` where memory for an answer is refused: then fewer were.
 pub fn clones_agree<'a, T: Clone + 'a, S: SteadyStream<Item = &'a T>>(
     x: &mut Cloned<S>,
@@ -26,7 +28,8 @@ pub fn clones_agree<'a, T: Clone + 'a, S: SteadyStream<Item = &'a T>>(
     requires alike { ⟦<Cloned<S> as SteadyStream>⟧.alike x.old y.old }
     requires found { TakesNone S.run S.ample }
     ensures { (l m : List (Answer _)) × (out.new.items ≡ out.old.items ++ l) × (out_more.new.items ≡ out_more.old.items ++ m)
-        × (NoneRefused l → NoneRefused m → Comparable (strip l) (strip m)) × IfOk result (λ _. (length l ≡ polls) × (length m ≡ more))
+        × (NoneRefused l → NoneRefused m → ComparableBy (SameAnswer (ClonedFrom S.same T.is_clone)) (strip l) (strip m))
+        × IfOk result (λ _. (length l ≡ polls) × (length m ≡ more))
         × IfErr result (λ _. Fewer l m polls more) }
 {
     run_both(x, y, cx, polls, more, out, out_more)

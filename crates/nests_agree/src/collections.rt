@@ -1,7 +1,9 @@
 //! Collections of what two sources give, over any two streams that are alike, whose polls ask for no memory. Where nothing
-//! was refused, equal items were collected. `Err` where there was no memory to sleep on.
-ghost use Rattle.std.specs.Prelude.{◌≡◌, IfOk, IsOk};
-ghost use Rattle.lite_gather.specs.Agreeing.{Gathered, TryGathered};
+//! was refused, items that are the same for the stream were collected: equal ones, if its type says nothing else. `Err` where
+//! there was no memory to sleep on.
+ghost use Rattle.std.specs.Prelude.{◌≡◌, ◌%◌, ℕ, IfOk, IsOk};
+ghost use Rattle.lite_base.specs.Alike.{SameErr, SameItem, SameList, SameOk};
+ghost use Rattle.lite_gather.specs.Agreeing.{Gathered, HoldsSameParts, TryGathered, Unmixed};
 ghost use Rattle.lite_gather.specs.TryCollect.{NotRefused};
 
 use lite_base::{Counted, OkCounted, SteadyStream};
@@ -34,7 +36,7 @@ where
     requires counts { S.ranks.counts one × S.ranks.counts other }
     requires alike { S.alike one other }
     requires found { S.needs_none }
-    ensures { IfOk result (λ values. IsOk values.0 → IsOk values.1 → Gathered (λ v w. v.items ≡ w.items) values.0 values.1) }
+    ensures { IfOk result (λ values. IsOk values.0 → IsOk values.1 → Gathered (λ v w. SameList S.same v.items w.items) values.0 values.1) }
 {
     block_on_both(rt, collect(one, rt.alloc()), collect(other, rt.alloc()))
 }
@@ -51,15 +53,16 @@ where
     requires first { S.can_poll one }
     requires second { S.can_poll other }
     requires counts { S.ok_ranks.counts one × S.ok_ranks.counts other }
-    requires alike { S.alike one other }
+    requires alike { Unmixed S.same (S.alike one other) }
     requires found { S.needs_none }
-    ensures { IfOk result (λ values. NotRefused values.0 → NotRefused values.1 → TryGathered (λ v w. v.items ≡ w.items) values.0 values.1) }
+    ensures { IfOk result (λ values. NotRefused values.0 → NotRefused values.1
+        → TryGathered (λ v w. SameList (SameOk S.same) v.items w.items) (SameItem (SameErr S.same)) values.0 values.1) }
 {
     let tried = try_collect(one, rt.alloc());
     block_on_both(rt, tried, try_collect(other, rt.alloc()))
 }
 
-/// Collects the even items of each, and the others.
+/// Collects the even items of each, and the others, where of two items that are the same both are even, or none is.
 pub fn partitions_agree<R, S>(rt: &R, one: S, other: S) -> Result<(Sorted, Sorted), AllocError>
 where
     R: Wait + RandomSource + AllocGlobal,
@@ -68,8 +71,10 @@ where
     requires second { S.can_poll other }
     requires counts { S.ranks.counts one × S.ranks.counts other }
     requires alike { S.alike one other }
+    requires parity { (x w : ℕ) → SameItem S.same x w → x % 2 ≡ w % 2 }
     requires found { S.needs_none }
-    ensures { IfOk result (λ values. IsOk values.0 → IsOk values.1 → Gathered (λ v w. (v.0.items ≡ w.0.items) × (v.1.items ≡ w.1.items)) values.0 values.1) }
+    ensures { IfOk result (λ values. IsOk values.0 → IsOk values.1
+        → Gathered (λ v w. SameList S.same v.0.items w.0.items × SameList S.same v.1.items w.1.items) values.0 values.1) }
 {
     let is_even = |x: &u8| *x % 2 == 0;
     let sorted = partition(one, rt.alloc(), is_even);
@@ -86,7 +91,8 @@ where
     requires counts { S.ranks.counts one × S.ranks.counts other }
     requires alike { S.alike one other }
     requires found { S.needs_none }
-    ensures { IfOk result (λ values. IsOk values.0 → IsOk values.1 → Gathered (λ v w. (v.0.items ≡ w.0.items) × (v.1.items ≡ w.1.items)) values.0 values.1) }
+    ensures { IfOk result (λ values. IsOk values.0 → IsOk values.1
+        → Gathered (HoldsSameParts S.same (λ v l. v.items ≡ l) (λ v l. v.items ≡ l)) values.0 values.1) }
 {
     block_on_both(rt, unzip(one, rt.alloc()), unzip(other, rt.alloc()))
 }

@@ -1,8 +1,9 @@
 //! A nest over any two steady sources that are alike.
 ghost use Rattle.std.specs.Prelude.{◌≡◌, ◌++◌, List, length, IfOk, IfErr};
 ghost use Rattle.std.specs.Fn.{CalledAt};
-ghost use Rattle.lite_base.specs.Answers.{Answer, Comparable, strip};
-ghost use Rattle.lite_base.specs.Calling.{Agree, Calls};
+ghost use Rattle.lite_base.specs.Alike.{SameAnswer, SameItem};
+ghost use Rattle.lite_base.specs.Answers.{Answer, ComparableBy, strip};
+ghost use Rattle.lite_base.specs.Calling.{AgreeFrom, AgreeOver, Answering, Calls};
 ghost use Rattle.lite_laws.specs.Both.{Fewer};
 ghost use Rattle.lite_laws.specs.Waits.{HoldsEach, IfWaits};
 
@@ -32,12 +33,12 @@ where
     requires first { ⟦<Take<Filter<Map<S, F>, P>> as Stream>⟧.can_poll x.old }
     requires second { ⟦<Take<Filter<Map<S, F>, P>> as Stream>⟧.can_poll y.old }
     requires alike { S.alike x.old.stream.stream.stream y.old.stream.stream.stream }
-    requires calls { Agree (Calls F.FnMut) x.old.stream.stream.f y.old.stream.stream.f }
-    requires tests { Agree (CalledAt P.FnMut) x.old.stream.predicate y.old.stream.predicate }
+    requires calls { AgreeOver S.same (Calls F.FnMut) x.old.stream.stream.f y.old.stream.stream.f }
+    requires tests { AgreeFrom (SameItem (Answering S.same (Calls F.FnMut))) (λ a b. a ≡ b) (CalledAt P.FnMut) x.old.stream.predicate y.old.stream.predicate }
     requires counts { y.old.n ≡ x.old.n }
     requires found { S.needs_none }
     ensures { (l m : List (Answer _)) × (out.new.items ≡ out.old.items ++ l) × (out_more.new.items ≡ out_more.old.items ++ m)
-        × Comparable (strip l) (strip m) × IfOk result (λ _. (length l ≡ polls) × (length m ≡ more))
+        × ComparableBy (SameAnswer (Answering S.same (Calls F.FnMut))) (strip l) (strip m) × IfOk result (λ _. (length l ≡ polls) × (length m ≡ more))
         × IfWaits l (HoldsEach (S.leaves x.new.stream.stream.stream) cx.new)
         × IfWaits m (HoldsEach (S.leaves y.new.stream.stream.stream) cx.new) × IfErr result (λ _. Fewer l m polls more) }
 {

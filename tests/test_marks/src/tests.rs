@@ -1,4 +1,6 @@
 mod agreeing;
+mod iterators;
+mod lines;
 mod marks;
 mod pieces;
 mod readers;

@@ -1,8 +1,9 @@
 -- Futures that are alike, by their values.
-use Rattle.std.proofs.Common.{◌≡◌, ◌≤◌, List, [], ◌∷◌, length, Option, Some, refl, subst, arith}
+use Rattle.std.proofs.Common.{◌≡◌, inl, inr, ◌≤◌, List, [], ◌∷◌, length, Option, Some, None, ap, refl, subst, sym, arith}
 use Rattle.futures.specs.declared.task.Poll.{Poll}
 use Rattle.futures.specs.declared.task.Poll.TheVariants.{Ready, Pending}
-use Rattle.lite_base.specs.Alike.{AlikeBy, OptionBy}
+use Rattle.std.specs.Prelude.{⊤}
+use Rattle.lite_base.specs.Alike.{AlikeBy, Either, MadeOf, OptionBy, Optional, Pairwise, SameAnswer, SameHeld, SameItem, Sameness}
 use Rattle.lite_base.specs.Answers.{ComparableBy, Gives, UpToValue, strip}
 use Rattle.lite_base.specs.Future.Finishes.{Finishes}
 
@@ -42,6 +43,114 @@ alike_agrees {same} run x y e l m v w h k =
     let c : ComparableBy same (v ∷ []) (strip m) = subst (λ i. ComparableBy same i (strip m)) (gives_strip l v h.gives) (e l m h.last k.last h.came k.came) in
     let d : ComparableBy same (v ∷ []) (w ∷ []) = subst (λ j. ComparableBy same (v ∷ []) j) (gives_strip m w k.gives) c in
     d.0
+
+-- lists that are the same in one way are in a weaker one
+pub comparable_as : {A : Type 0} (same want : A → A → Type 0) → ((x y : A) → same x y → want x y) → (l m : List A) → ComparableBy same l m → ComparableBy want l m
+comparable_as same want weaker [] m c = tt
+comparable_as same want weaker (x ∷ l) [] c = tt
+comparable_as same want weaker (x ∷ l) (y ∷ m) c = (weaker x y c.0, comparable_as same want weaker l m c.1)
+
+pub option_as : {A : Type 0} (same want : A → A → Type 0) → ((x y : A) → same x y → want x y) → (x y : Option A) → OptionBy same x y → OptionBy want x y
+option_as same want weaker None None c = tt
+option_as same want weaker None (Some y) c = absurd c
+option_as same want weaker (Some x) None c = absurd c
+option_as same want weaker (Some x) (Some y) c = weaker x y c
+
+pub options_equal : {A : Type 0} (x y : Option A) → OptionBy (λ v w. v ≡ w) x y → x ≡ y
+options_equal None None e = refl
+options_equal None (Some y) e = absurd e
+options_equal (Some x) None e = absurd e
+options_equal (Some x) (Some y) e = ap (λ v. Some v) e
+
+pub equal_options : {A : Type 0} (x y : Option A) → x ≡ y → OptionBy (λ v w. v ≡ w) x y
+equal_options None None e = tt
+equal_options None (Some y) e = absurd (cc e)
+equal_options (Some x) None e = absurd (cc e)
+equal_options (Some x) (Some y) e = cc e
+
+-- two ends are the same
+pub ends_same : {A : Type 0} (same : Sameness A) → SameAnswer same None None
+ends_same Sameness.equal = refl
+ends_same (Sameness.by same) = tt
+
+-- and an end and an item never are
+pub both_items : {A : Type 0} (same : Sameness A) (x y : Option A) → SameAnswer same x y → OptionBy (λ _ _. ⊤) x y
+both_items Sameness.equal None None e = tt
+both_items Sameness.equal None (Some y) e = absurd (cc e)
+both_items Sameness.equal (Some x) None e = absurd (cc e)
+both_items Sameness.equal (Some x) (Some y) e = tt
+both_items (Sameness.by same) None None e = tt
+both_items (Sameness.by same) None (Some y) e = absurd e
+both_items (Sameness.by same) (Some x) None e = absurd e
+both_items (Sameness.by same) (Some x) (Some y) e = tt
+
+pub item_same : {A : Type 0} (same : Sameness A) (x y : A) → SameAnswer same (Some x) (Some y) → SameItem same x y
+item_same Sameness.equal x y e = cc e
+item_same (Sameness.by same) x y e = e
+
+pub same_answer : {A : Type 0} (same : Sameness A) (x y : A) → SameItem same x y → SameAnswer same (Some x) (Some y)
+same_answer Sameness.equal x y e = ap (λ v. Some v) e
+same_answer (Sameness.by same) x y e = e
+
+pub optional_same : {A : Type 0} (same : Sameness A) (x y : Option A) → SameAnswer same x y → SameItem (Optional same) x y
+optional_same Sameness.equal x y e = e
+optional_same (Sameness.by same) x y e = e
+
+pub held_same : {A : Type 0} (same : Sameness A) (x y : Option A) → SameHeld same x y → SameAnswer same x y
+held_same Sameness.equal x y e = sym e
+held_same (Sameness.by same) x y e = e
+
+pub same_held : {A : Type 0} (same : Sameness A) (x y : Option A) → SameAnswer same x y → SameHeld same x y
+same_held Sameness.equal x y e = sym e
+same_held (Sameness.by same) x y e = e
+
+pub pairs_same : {A B : Type 0} (same : Sameness A) (other : Sameness B) (p q : A × B) → SameItem same p.0 q.0 → SameItem other p.1 q.1 → SameItem (Pairwise same other) p q
+pairs_same Sameness.equal Sameness.equal p q e d = λ i. (e i, d i)
+pairs_same Sameness.equal (Sameness.by other) p q e d = (e, d)
+pairs_same (Sameness.by same) Sameness.equal p q e d = (e, d)
+pairs_same (Sameness.by same) (Sameness.by other) p q e d = (e, d)
+
+-- what is made of items that are the same is the same, where of each one thing alone is made
+pub made_same : {A B : Type 0} (same : Sameness A) (makes : A → B → Type 0) → ((x : A) (y z : B) → makes x y → makes x z → y ≡ z)
+    → (x w : A) (y z : B) → SameItem same x w → makes x y → makes w z → SameItem (MadeOf same makes) y z
+made_same Sameness.equal makes one x w y z e c d = one x y z c (subst (λ v. makes v z) (sym e) d)
+made_same (Sameness.by same) makes one x w y z e c d = (x, w, e, c, d)
+
+either_left : {A : Type 0} (same other : Sameness A) (x y : Option A) → SameAnswer same x y → SameAnswer (Either same other) x y
+either_left Sameness.equal Sameness.equal x y e = e
+either_left Sameness.equal (Sameness.by other) None None e = tt
+either_left Sameness.equal (Sameness.by other) None (Some y) e = absurd (cc e)
+either_left Sameness.equal (Sameness.by other) (Some x) None e = absurd (cc e)
+either_left Sameness.equal (Sameness.by other) (Some x) (Some y) e = inl (cc e)
+either_left (Sameness.by same) Sameness.equal None None e = tt
+either_left (Sameness.by same) Sameness.equal None (Some y) e = e
+either_left (Sameness.by same) Sameness.equal (Some x) None e = e
+either_left (Sameness.by same) Sameness.equal (Some x) (Some y) e = inl e
+either_left (Sameness.by same) (Sameness.by other) None None e = tt
+either_left (Sameness.by same) (Sameness.by other) None (Some y) e = e
+either_left (Sameness.by same) (Sameness.by other) (Some x) None e = e
+either_left (Sameness.by same) (Sameness.by other) (Some x) (Some y) e = inl e
+
+either_right : {A : Type 0} (same other : Sameness A) (x y : Option A) → SameAnswer other x y → SameAnswer (Either same other) x y
+either_right Sameness.equal Sameness.equal x y e = e
+either_right (Sameness.by same) Sameness.equal None None e = tt
+either_right (Sameness.by same) Sameness.equal None (Some y) e = absurd (cc e)
+either_right (Sameness.by same) Sameness.equal (Some x) None e = absurd (cc e)
+either_right (Sameness.by same) Sameness.equal (Some x) (Some y) e = inr (cc e)
+either_right Sameness.equal (Sameness.by other) None None e = tt
+either_right Sameness.equal (Sameness.by other) None (Some y) e = e
+either_right Sameness.equal (Sameness.by other) (Some x) None e = e
+either_right Sameness.equal (Sameness.by other) (Some x) (Some y) e = inr e
+either_right (Sameness.by same) (Sameness.by other) None None e = tt
+either_right (Sameness.by same) (Sameness.by other) None (Some y) e = e
+either_right (Sameness.by same) (Sameness.by other) (Some x) None e = e
+either_right (Sameness.by same) (Sameness.by other) (Some x) (Some y) e = inr e
+
+pub either_first : {A : Type 0} (same other : Sameness A) (l m : List (Option A)) → ComparableBy (SameAnswer same) l m → ComparableBy (SameAnswer (Either same other)) l m
+either_first same other = comparable_as (SameAnswer same) (SameAnswer (Either same other)) (either_left same other)
+
+pub either_second : {A : Type 0} (same other : Sameness A) (l m : List (Option A)) → ComparableBy (SameAnswer other) l m → ComparableBy (SameAnswer (Either same other)) l m
+either_second same other = comparable_as (SameAnswer other) (SameAnswer (Either same other)) (either_right same other)
 
 pub option_by : {A : Type 0} (same : A → A → Type 0) (x y : Option A) (u v : A) → OptionBy same x y → x ≡ Some u → y ≡ Some v → same u v
 option_by same x y u v h e d = rw (e, d) at h

@@ -1,5 +1,5 @@
 ghost use Rattle.futures.specs.declared.task.Poll.{Poll};
-ghost use Rattle.lite_base.specs.Alike.{Alike, Exactly, OptionBy};
+ghost use Rattle.lite_base.specs.Alike.{Alike, OptionBy, Pairwise, Sameness};
 ghost use Rattle.lite_base.specs.Answers.{Waiting};
 ghost use Rattle.lite_base.specs.Future.Calls.{Polled};
 ghost use Rattle.lite_base.specs.Future.Fuse.{Fuses};
@@ -13,7 +13,7 @@ ghost use Rattle.lite_base.specs.Laws.Future.Pending.{waits_steady};
 ghost use Rattle.lite_base.specs.Laws.Future.Ready.{held_steady};
 ghost use Rattle.lite_base.specs.Laws.Future.YieldNow.{yields_steady};
 ghost use Rattle.lite_base.specs.Laws.Future.Zip.{zips_steady};
-ghost use Rattle.lite_base.specs.Steady.{FutureSteadyLawsBy, exact_steady};
+ghost use Rattle.lite_base.specs.Steady.{FutureSteadyLawsBy};
 ghost use Rattle.std.specs.Prelude.{List, ⊤, ◌≡◌};
 
 use super::{Fuse, Future, Pending, PollFn, Ready, YieldNow, Zip};
@@ -30,7 +30,7 @@ pub trait SteadyFuture: Future {
     ghost needs_none: { Type 0 } = { ⊤ };
 
     /// When two values that it gives are the same: where they are equal, if its type says nothing else.
-    ghost same: { Self.Output → Self.Output → Type 0 } = { λ v w. v ≡ w };
+    ghost same: { Sameness Self.Output } = { Sameness.equal };
 
     /// The futures whose values are the same.
     ghost alike: { Self → Self → Type 0 };
@@ -95,7 +95,9 @@ where
 
     ghost needs_none = { F1.needs_none × F2.needs_none };
 
-    ghost alike = { λ x y. HalvesBy (Exactly F1.alike F1.same) x.first y.first × HalvesBy (Exactly F2.alike F2.same) x.second y.second };
+    ghost same = { Pairwise F1.same F2.same };
 
-    ghost steady = { zips_steady (exact_steady F1.steady) (exact_steady F2.steady) };
+    ghost alike = { λ x y. HalvesBy F1.same F1.alike x.first y.first × HalvesBy F2.same F2.alike x.second y.second };
+
+    ghost steady = { zips_steady F1.same F2.same F1.steady F2.steady };
 }

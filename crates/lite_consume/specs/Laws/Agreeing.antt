@@ -4,10 +4,11 @@ use Rattle.std.specs.List.{FoldsTo}
 use Rattle.std.specs.Prelude.{⊤}
 use Rattle.futures.specs.declared.task.Poll.{Poll}
 use Rattle.futures.specs.declared.task.Poll.TheVariants.{Ready, Pending}
-use Rattle.lite_base.specs.Answers.{Answer, Comparable, ComparableBy, Gives, items, strip}
+use Rattle.lite_base.specs.Alike.{SameAnswer, SameItem, Sameness}
+use Rattle.lite_base.specs.Answers.{Answer, ComparableBy, Gives, items, strip}
 use Rattle.lite_base.specs.Future.Finishes.{Finishes}
-use Rattle.lite_base.specs.Laws.Alike.{comparable_nil, gives_strip}
-use Rattle.lite_base.specs.Steady.{FutureSteadyLawsBy, SteadyLaws, TakesNone}
+use Rattle.lite_base.specs.Laws.Alike.{both_items, comparable_nil, gives_strip, item_same}
+use Rattle.lite_base.specs.Steady.{FutureSteadyLawsBy, SteadyLawsBy, TakesNone}
 use Rattle.lite_consume.specs.Agreeing.{FoldSteadyLaws, Within, WithinWhere}
 use Rattle.lite_consume.specs.Consume.{Folds}
 use Rattle.lite_consume.specs.Consuming.{Consumes, Decides, Fold, TakesIn, fold_of}
@@ -37,23 +38,23 @@ module _ {M A R : Type 0} (fold : Fold M A R) where
       let last = h.0 in
       rw (last.cut, h.1) (after_taken p last.between last.taken (last.last ∷ []) (r ∷ []) last.folds (decided last.between q last.last r last.decides))
 
-module _ {M A R : Type 0} {fold ample : Fold M A R} {none : Type 0} {agree : M → M → Type 0} {same : R → R → Type 0} (f : FoldSteadyLaws fold ample none agree same) where
-  item_same : (p k : M) (x : A) (i j : List (Option A)) (o u : List R) → agree p k → ((q l : M) → agree q l → Made ample q i o → Made ample l j u → ComparableBy same o u)
-      → Made ample p (Some x ∷ i) o → Made ample k (Some x ∷ j) u → ComparableBy same o u
-  item_same p k x i j o u a rest (inl h) (inl g) = rest h.0 g.0 (f.asks p k h.0 g.0 x None None a h.1 g.1) h.2 g.2
-  item_same p k x i j o u a rest (inl h) (inr g) = absurd (f.asks p k h.0 g.1 x None (Some g.0) a h.1 g.2)
-  item_same p k x i j o u a rest (inr h) (inl g) = absurd (f.asks p k h.1 g.0 x (Some h.0) None a h.2 g.1)
-  item_same p k x i j o u a rest (inr h) (inr g) = rw (h.3, g.3) (f.asks p k h.1 g.1 x (Some h.0) (Some g.0) a h.2 g.2, tt)
+-- items that come in are compared by `like`
+module _ {M A R : Type 0} (like : Sameness A) {fold ample : Fold M A R} {none : Type 0} {agree : M → M → Type 0} {same : R → R → Type 0} (f : FoldSteadyLaws (SameItem like) fold ample none agree same) where
+  asked_same : (p k : M) (x w : A) (i j : List (Option A)) (o u : List R) → agree p k → SameItem like x w
+      → ((q l : M) → agree q l → Made ample q i o → Made ample l j u → ComparableBy same o u) → Made ample p (Some x ∷ i) o → Made ample k (Some w ∷ j) u → ComparableBy same o u
+  asked_same p k x w i j o u a e rest (inl h) (inl g) = rest h.0 g.0 (f.asks p k h.0 g.0 x w None None a e h.1 g.1) h.2 g.2
+  asked_same p k x w i j o u a e rest (inl h) (inr g) = absurd (f.asks p k h.0 g.1 x w None (Some g.0) a e h.1 g.2)
+  asked_same p k x w i j o u a e rest (inr h) (inl g) = absurd (f.asks p k h.1 g.0 x w (Some h.0) None a e h.2 g.1)
+  asked_same p k x w i j o u a e rest (inr h) (inr g) = rw (h.3, g.3) (f.asks p k h.1 g.1 x w (Some h.0) (Some g.0) a e h.2 g.2, tt)
 
-  made_same : (p k : M) (i j : List (Option A)) (o u : List R) → agree p k → Comparable i j → Made ample p i o → Made ample k j u → ComparableBy same o u
+  made_same : (p k : M) (i j : List (Option A)) (o u : List R) → agree p k → ComparableBy (SameAnswer like) i j → Made ample p i o → Made ample k j u → ComparableBy same o u
   made_same p k [] j o u a c h g = rw h tt
   made_same p k (x ∷ i) [] o u a c h g = rw g (comparable_nil same o)
   made_same p k (None ∷ i) (None ∷ j) o u a c h g = rw (h.3, g.3) (f.closes p k h.1 g.1 h.0 g.0 a h.2 g.2, tt)
-  made_same p k (None ∷ i) (Some y ∷ j) o u a c h g = absurd (let e = c.0 in cc)
-  made_same p k (Some x ∷ i) (None ∷ j) o u a c h g = absurd (let e = c.0 in cc)
+  made_same p k (None ∷ i) (Some y ∷ j) o u a c h g = absurd (both_items like None (Some y) c.0)
+  made_same p k (Some x ∷ i) (None ∷ j) o u a c h g = absurd (both_items like (Some x) None c.0)
   made_same p k (Some x ∷ i) (Some y ∷ j) o u a c h g =
-      let e : y ≡ x = (let e' = c.0 in cc) in
-      item_same p k x i j o u a (λ q l b h' g'. made_same q l i j o u b c.1 h' g') h (subst (λ z. Made ample k (Some z ∷ j) u) e g)
+      asked_same p k x y i j o u a (item_same like x y c.0) (λ q l b h' g'. made_same q l i j o u b c.1 h' g') h g
 
 -- one value is given
 gives_one : {A : Type 0} (l : List (Poll A)) (v w : A) → Gives l v → Gives l w → v ≡ w
@@ -82,14 +83,14 @@ module _ {S M A R : Type 0} {run found : S → List (Answer A) → S → Type 0}
       }
 
 -- over a steady stream, a fold whose values agree
-pub consumed_steady : {S M A R : Type 0} {run found : S → List (Answer A) → S → Type 0} {fold ample : Fold M A R} {none none' : Type 0} {alike : S → S → Type 0} {agree : M → M → Type 0} {same : R → R → Type 0}
-    → SteadyLaws run found none alike → FoldSteadyLaws fold ample none' agree same
+pub consumed_steady : {S M A R : Type 0} {run found : S → List (Answer A) → S → Type 0} {fold ample : Fold M A R} {none none' : Type 0} {alike : S → S → Type 0} {agree : M → M → Type 0} (like : Sameness A) (same : Sameness R)
+    → SteadyLawsBy like run found none alike → FoldSteadyLaws (SameItem like) fold ample none' agree (SameItem same)
     → FutureSteadyLawsBy same (Folds run fold) (Folds found ample) (none × none') (λ (x y : Consume S M). alike x.stream y.stream × agree x.folder y.folder)
-consumed_steady {ample = ample} s f =
+consumed_steady {ample = ample} like same s f =
     record {
       laws = consumed_laws ample s.laws;
       steady = λ x y e l m x' y' h k.
-          made_same f x.folder y.folder (strip h.ins) (strip k.ins) (strip l) (strip m) e.1 (s.steady x.stream y.stream e.0 h.ins k.ins x'.stream y'.stream h.came k.came)
+          made_same like f x.folder y.folder (strip h.ins) (strip k.ins) (strip l) (strip m) e.1 (s.steady x.stream y.stream e.0 h.ins k.ins x'.stream y'.stream h.came k.came)
           (stripped ample x.folder x'.folder h.ins l h.consumed) (stripped ample y.folder y'.folder k.ins m k.consumed);
       found = λ n x y l h. consumed_ample (s.found n.0) (f.found n.1) x y l (λ v g. tt) h;
     }
@@ -98,8 +99,8 @@ consumed_steady {ample = ample} s f =
 pub part_within : {N M A R : Type 0} (part : N → M) {may : R → Type 0} {fold ample : Fold M A R} → WithinWhere may fold ample → WithinWhere may (fold_of part fold) (fold_of part ample)
 part_within part w = record { asks = λ p q. w.asks (part p) (part q); closes = λ p q. w.closes (part p) (part q) }
 
-pub part_steady : {N M A R : Type 0} (part : N → M) {fold ample : Fold M A R} {none : Type 0} {agree : M → M → Type 0} {same : R → R → Type 0} → FoldSteadyLaws fold ample none agree same
-    → FoldSteadyLaws (fold_of part fold) (fold_of part ample) none (λ x y. agree (part x) (part y)) same
+pub part_steady : {N M A R : Type 0} (part : N → M) {fold ample : Fold M A R} {none : Type 0} {agree : M → M → Type 0} {like : A → A → Type 0} {same : R → R → Type 0} → FoldSteadyLaws like fold ample none agree same
+    → FoldSteadyLaws like (fold_of part fold) (fold_of part ample) none (λ x y. agree (part x) (part y)) same
 part_steady part f =
     record {
       asks = λ p k q l. f.asks (part p) (part k) (part q) (part l);

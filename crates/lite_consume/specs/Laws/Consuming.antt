@@ -1,11 +1,12 @@
 -- Laws of what is made of a stream's items.
 use Rattle.std.proofs.Common.{◌≡◌, ◌∙◌, ◌≤◌, Some, None, List, [], ◌∷◌, ◌++◌, length, refl, ap, subst, sym, arith, append_assoc}
-use Rattle.std.specs.List.{FoldsTo}
+use Rattle.std.specs.List.{AllByRecursion, FoldsTo}
 use Rattle.futures.specs.declared.task.Poll.{Poll}
 use Rattle.futures.specs.declared.task.Poll.TheVariants.{Ready, Pending}
-use Rattle.lite_base.specs.Answers.{Answer, Gives, Waiting, items, strip}
+use Rattle.lite_base.specs.Answers.{Answer, Gives, Waiting, item, items, strip}
 use Rattle.lite_base.specs.Calm.{CalmLaws, Prompt}
 use Rattle.lite_base.specs.FutureLaws.{FutureLaws}
+use Rattle.lite_base.specs.Laws.All.{all_append}
 use Rattle.lite_base.specs.Laws.Calm.{prompt_back}
 use Rattle.lite_base.specs.StreamLaws.{RunLaws}
 use Rattle.lite_consume.specs.Agreeing.{WithinWhere}
@@ -34,6 +35,28 @@ module _ {M A R : Type 0} (fold : Fold M A R) where
   prompt p q i [] h k = tt
   prompt p q i (Pending ∷ l) h k = absurd (prompt_back (items h.2.taken) (Pending ∷ h.0) (subst (λ v. Prompt v) h.2.cut k))
   prompt p q i (Ready r ∷ l) h k = rw h.1 tt
+
+-- What holds of each item that is taken in, and of the answer that decides, holds of each answer that came before a value of that kind:
+-- `kept` says of what is folded that it holds of all that was taken in.
+module _ {M A R : Type 0} (fold : Fold M A R) (P : Answer A → Type 0) (kept : M → Type 0) (may : R → Type 0) (waits : P Pending)
+    (taken : (p q : M) (x : A) → kept q → TakesIn fold p x q → kept p × P (item x))
+    (decided : (p q : M) (a : Answer A) (r : R) → may r → Decides fold p a r q → kept p × P a) where
+  each_taken : (p q : M) (l : List A) → kept q → FoldsTo (TakesIn fold) p l q → kept p × AllByRecursion P (items l)
+  each_taken p q [] k h = (subst kept (sym h) k, tt)
+  each_taken p q (x ∷ l) k h = let rest = each_taken h.0 q l k h.2 in let first = taken p h.0 x rest.0 h.1 in (first.0, (first.1, rest.1))
+
+  pub each_consumed : (p q : M) (i : List (Answer A)) (l : List (Poll R)) (v : R) → may v → Gives l v → Consumes fold p i l q → kept p × AllByRecursion P i
+  each_consumed p q i [] v m g h = absurd g
+  each_consumed p q i (Pending ∷ l) v m g h =
+      let first = h.2 in
+      let rest = each_consumed h.1 q h.0 l v m g h.3 in
+      let all = each_taken p h.1 first.taken rest.0 first.folds in
+      (all.0, subst (AllByRecursion P) (sym first.cut) (all_append P (items first.taken) (Pending ∷ h.0) all.1 (waits, rest.1)))
+  each_consumed p q i (Ready r ∷ l) v m g h =
+      let last = h.0 in
+      let end = decided last.between q last.last r (subst may (sym g.0) m) last.decides in
+      let all = each_taken p last.between last.taken end.0 last.folds in
+      (all.0, subst (AllByRecursion P) (sym last.cut) (all_append P (items last.taken) (last.last ∷ []) all.1 (end.1, tt)))
 
 -- where each step of the one fold is one of the other, by a part, if the value that it gives is such
 module _ {N M A R : Type 0} (part : N → M) (fold : Fold N A R) (other : Fold M A R) {may : R → Type 0} (within : WithinWhere may fold (fold_of part other)) where

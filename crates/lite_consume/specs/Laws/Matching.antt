@@ -1,7 +1,10 @@
--- Which values of each fold agree: by closures that do, and by equal numbers and items.
+-- Which values of each fold agree: by closures that do, and by numbers and items that are the same.
 use Rattle.std.specs.Prelude.{⊤, Result, Ok, Err, IsErr, IsSome, Bool, true, false}
-use Rattle.std.proofs.Common.{◌≡◌, ◌∙◌, Option, Some, None, refl, subst, sym, arith}
-use Rattle.lite_base.specs.Laws.Calling.{Matches}
+use Rattle.std.proofs.Common.{◌≡◌, ◌∙◌, Option, Some, None, inl, inr, refl, ap, subst, sym, arith}
+use Rattle.lite_base.specs.Alike.{OptionBy, Optional, SameAnswer, SameHeld, SameItem, Sameness}
+use Rattle.lite_base.specs.Calling.{Agree, AgreeFrom, AgreeKeeping, Keeping, Kin}
+use Rattle.lite_base.specs.Laws.Alike.{both_items, ends_same, held_same, option_by, optional_same, same_answer, same_held}
+use Rattle.lite_base.specs.Laws.Calling.{MatchesFrom, agree_from_matches, agree_matches, keeping_from, kin_agree, kin_answers, kin_matches, matches_from}
 use Rattle.lite_consume.specs.Agreeing.{Both, FoldSteadyLaws}
 use Rattle.lite_consume.specs.All.{alls}
 use Rattle.lite_consume.specs.Any.{anys}
@@ -11,6 +14,7 @@ use Rattle.lite_consume.specs.Find.{finds}
 use Rattle.lite_consume.specs.FindMap.{finds_map}
 use Rattle.lite_consume.specs.Fold.{folds}
 use Rattle.lite_consume.specs.ForEach.{calls_each}
+use Rattle.lite_consume.specs.Kin.{AgreeDeciding, AgreeOrKin, Beside, Giving, KinGive}
 use Rattle.lite_consume.specs.Last.{lasts}
 use Rattle.lite_consume.specs.Laws.Agreeing.{within_itself}
 use Rattle.lite_consume.specs.Next.{nexts}
@@ -18,174 +22,275 @@ use Rattle.lite_consume.specs.Nth.{nths}
 use Rattle.lite_consume.specs.Position.{positions}
 use Rattle.lite_consume.specs.TryFold.{tries_fold}
 use Rattle.lite_consume.specs.TryForEach.{tries_each}
-use Rattle.lite_consume.specs.TryNext.{tries_next}
+use Rattle.lite_consume.specs.TryNext.{SameNext, TryGiven, item_of, tries_next}
 
--- a fold that takes no memory, and gives equal values
-abbrev Steady : {M A R : Type 0} → Fold M A R → (M → M → Type 0) → Type 0
-Steady fold agree = FoldSteadyLaws fold fold ⊤ agree (λ r t. r ≡ t)
+-- a fold that takes no memory
+abbrev Steady : {M A R : Type 0} → (A → A → Type 0) → (R → R → Type 0) → Fold M A R → (M → M → Type 0) → Type 0
+Steady like same fold agree = FoldSteadyLaws like fold fold ⊤ agree same
 
-module _ {M A R : Type 0} (fold : Fold M A R) (agree : M → M → Type 0) where
+module _ {M A R : Type 0} (like : A → A → Type 0) (same : R → R → Type 0) (fold : Fold M A R) (agree : M → M → Type 0) where
   abbrev SameAsked : Type 0
-  SameAsked = (p k q l : M) (x : A) (o u : Option R) → agree p k → fold.asks p x o q → fold.asks k x u l → Both (λ r t. r ≡ t) (agree q l) o u
+  SameAsked = (p k q l : M) (x w : A) (o u : Option R) → agree p k → like x w → fold.asks p x o q → fold.asks k w u l → Both same (agree q l) o u
 
   abbrev SameClosed : Type 0
-  SameClosed = (p k q l : M) (r t : R) → agree p k → fold.closes p r q → fold.closes k t l → r ≡ t
+  SameClosed = (p k q l : M) (r t : R) → agree p k → fold.closes p r q → fold.closes k t l → same r t
 
-  steady : SameAsked → SameClosed → Steady fold agree
+  steady : SameAsked → SameClosed → Steady like same fold agree
   steady asks closes = record { asks = asks; closes = closes; found = within_itself fold }
 
--- closures that agree, and equal things beside them
-abbrev Beside : {F B : Type 0} → (F → F → Type 0) → F × B → F × B → Type 0
-Beside agree p k = agree p.0 k.0 × (k.1 ≡ p.1)
+abbrev Equal : {R : Type 0} → R → R → Type 0
+Equal r t = r ≡ t
 
 -- by tests that agree
-module _ {F A : Type 0} (test : F → A → Bool → F → Type 0) {agree : F → F → Type 0} (m : Matches (λ y z. y ≡ z) test agree) where
-  never_both : (f k g l : F) (x : A) → agree f k → test f x true g → test k x false l → ⊥
-  never_both f k g l x a c d = let e = (m f k g l x true false a c d).0 in cc
+module _ {F A : Type 0} (like : A → A → Type 0) (test : F → A → Bool → F → Type 0) where
+  abbrev Tests : F → F → Type 0
+  Tests = AgreeFrom like Equal test
 
-  never_both_ways : (f k g l : F) (x : A) → agree f k → test f x false g → test k x true l → ⊥
-  never_both_ways f k g l x a c d = let e = (m f k g l x false true a c d).0 in cc
+  tests_match : MatchesFrom like Equal test Tests
+  tests_match = agree_from_matches like Equal test
 
-  all_asked : SameAsked (alls test) agree
-  all_asked p k q l x None None a c d = (m p k q l x true true a c d).1
-  all_asked p k q l x None (Some t) a c d = never_both p k q l x a c d.1
-  all_asked p k q l x (Some r) None a c d = never_both_ways p k q l x a c.1 d
-  all_asked p k q l x (Some r) (Some t) a c d = c.0 ∙ sym d.0
+  never_both : (f k g l : F) (x w : A) → Tests f k → like x w → test f x true g → test k w false l → ⊥
+  never_both f k g l x w a e c d = let b = (tests_match f k g l x w true false a e c d).0 in cc
 
-  pub all_steady : Steady (alls test) agree
-  all_steady = steady (alls test) agree all_asked (λ p k q l r t a c d. c.0 ∙ sym d.0)
+  never_both_ways : (f k g l : F) (x w : A) → Tests f k → like x w → test f x false g → test k w true l → ⊥
+  never_both_ways f k g l x w a e c d = let b = (tests_match f k g l x w false true a e c d).0 in cc
 
-  any_asked : SameAsked (anys test) agree
-  any_asked p k q l x None None a c d = (m p k q l x false false a c d).1
-  any_asked p k q l x None (Some t) a c d = never_both_ways p k q l x a c d.1
-  any_asked p k q l x (Some r) None a c d = never_both p k q l x a c.1 d
-  any_asked p k q l x (Some r) (Some t) a c d = c.0 ∙ sym d.0
+  all_asked : SameAsked like Equal (alls test) Tests
+  all_asked p k q l x w None None a e c d = (tests_match p k q l x w true true a e c d).1
+  all_asked p k q l x w None (Some t) a e c d = never_both p k q l x w a e c d.1
+  all_asked p k q l x w (Some r) None a e c d = never_both_ways p k q l x w a e c.1 d
+  all_asked p k q l x w (Some r) (Some t) a e c d = c.0 ∙ sym d.0
 
-  pub any_steady : Steady (anys test) agree
-  any_steady = steady (anys test) agree any_asked (λ p k q l r t a c d. c.0 ∙ sym d.0)
+  pub all_steady : Steady like Equal (alls test) Tests
+  all_steady = steady like Equal (alls test) Tests all_asked (λ p k q l r t a c d. c.0 ∙ sym d.0)
 
-  find_asked : SameAsked (finds test) agree
-  find_asked p k q l x None None a c d = (m p k q l x false false a c d).1
-  find_asked p k q l x None (Some t) a c d = never_both_ways p k q l x a c d.1
-  find_asked p k q l x (Some r) None a c d = never_both p k q l x a c.1 d
-  find_asked p k q l x (Some r) (Some t) a c d = c.0 ∙ sym d.0
+  any_asked : SameAsked like Equal (anys test) Tests
+  any_asked p k q l x w None None a e c d = (tests_match p k q l x w false false a e c d).1
+  any_asked p k q l x w None (Some t) a e c d = never_both_ways p k q l x w a e c d.1
+  any_asked p k q l x w (Some r) None a e c d = never_both p k q l x w a e c.1 d
+  any_asked p k q l x w (Some r) (Some t) a e c d = c.0 ∙ sym d.0
 
-  pub find_steady : Steady (finds test) agree
-  find_steady = steady (finds test) agree find_asked (λ p k q l r t a c d. c.0 ∙ sym d.0)
+  pub any_steady : Steady like Equal (anys test) Tests
+  any_steady = steady like Equal (anys test) Tests any_asked (λ p k q l r t a c d. c.0 ∙ sym d.0)
 
-  position_asked : SameAsked (positions test) (Beside agree)
-  position_asked p k q l x None None a c d = ((m p.0 k.0 q.0 l.0 x false false a.0 c.0 d.0).1, rw (c.1, d.1, a.1) refl)
-  position_asked p k q l x None (Some t) a c d = never_both_ways p.0 k.0 q.0 l.0 x a.0 c.0 d.1
-  position_asked p k q l x (Some r) None a c d = never_both p.0 k.0 q.0 l.0 x a.0 c.1 d.0
-  position_asked p k q l x (Some r) (Some t) a c d = rw (c.0, d.0, a.1) refl
+  position_asked : SameAsked like Equal (positions test) (Beside Tests)
+  position_asked p k q l x w None None a e c d = ((tests_match p.0 k.0 q.0 l.0 x w false false a.0 e c.0 d.0).1, rw (c.1, d.1, a.1) refl)
+  position_asked p k q l x w None (Some t) a e c d = never_both_ways p.0 k.0 q.0 l.0 x w a.0 e c.0 d.1
+  position_asked p k q l x w (Some r) None a e c d = never_both p.0 k.0 q.0 l.0 x w a.0 e c.1 d.0
+  position_asked p k q l x w (Some r) (Some t) a e c d = rw (c.0, d.0, a.1) refl
 
-  pub position_steady : Steady (positions test) (Beside agree)
-  position_steady = steady (positions test) (Beside agree) position_asked (λ p k q l r t a c d. c.0 ∙ sym d.0)
+  pub position_steady : Steady like Equal (positions test) (Beside Tests)
+  position_steady = steady like Equal (positions test) (Beside Tests) position_asked (λ p k q l r t a c d. c.0 ∙ sym d.0)
+
+-- items that are the same, or none, as values
+module _ {A : Type 0} (like : Sameness A) where
+  no_items : SameItem (Optional like) None None
+  no_items = optional_same like None None (ends_same like)
+
+  both_none : (r t : Option A) → r ≡ None → t ≡ None → SameItem (Optional like) r t
+  both_none r t c d = rw (c, d) no_items
+
+  both_some : (x w : A) (r t : Option A) → SameItem like x w → r ≡ Some x → t ≡ Some w → SameItem (Optional like) r t
+  both_some x w r t e c d = rw (c, d) (optional_same like (Some x) (Some w) (same_answer like x w e))
+
+  find_asked : {F : Type 0} (test : F → A → Bool → F → Type 0) → SameAsked (SameItem like) (SameItem (Optional like)) (finds test) (AgreeFrom (SameItem like) Equal test)
+  find_asked test p k q l x w None None a e c d = (tests_match (SameItem like) test p k q l x w false false a e c d).1
+  find_asked test p k q l x w None (Some t) a e c d = never_both_ways (SameItem like) test p k q l x w a e c d.1
+  find_asked test p k q l x w (Some r) None a e c d = never_both (SameItem like) test p k q l x w a e c.1 d
+  find_asked test p k q l x w (Some r) (Some t) a e c d = both_some x w r t e c.0 d.0
+
+  pub find_steady : {F : Type 0} (test : F → A → Bool → F → Type 0) → Steady (SameItem like) (SameItem (Optional like)) (finds test) (AgreeFrom (SameItem like) Equal test)
+  find_steady test =
+      steady (SameItem like) (SameItem (Optional like)) (finds test) (AgreeFrom (SameItem like) Equal test) (find_asked test) (λ p k q l r t a c d. both_none r t c.0 d.0)
+
+  next_asked : {M : Type 0} → SameAsked (SameItem like) (SameItem (Optional like)) (nexts {M = M}) (λ p k. ⊤)
+  next_asked p k q l x w None u a e c d = absurd c
+  next_asked p k q l x w (Some r) None a e c d = absurd d
+  next_asked p k q l x w (Some r) (Some t) a e c d = both_some x w r t e c d
+
+  pub next_steady : {M : Type 0} → Steady (SameItem like) (SameItem (Optional like)) (nexts {M = M}) (λ p k. ⊤)
+  next_steady = steady (SameItem like) (SameItem (Optional like)) nexts (λ p k. ⊤) next_asked (λ p k q l r t a c d. both_none r t c d)
+
+  nth_asked : SameAsked (SameItem like) (SameItem (Optional like)) nths (λ n m. m ≡ n)
+  nth_asked p k q l x w None None a e c d = omega (arith, a, c, d)
+  nth_asked p k q l x w None (Some t) a e c d = omega (arith, a, c, d.0)
+  nth_asked p k q l x w (Some r) None a e c d = omega (arith, a, c.0, d)
+  nth_asked p k q l x w (Some r) (Some t) a e c d = both_some x w r t e c.1 d.1
+
+  pub nth_steady : Steady (SameItem like) (SameItem (Optional like)) nths (λ n m. m ≡ n)
+  nth_steady = steady (SameItem like) (SameItem (Optional like)) nths (λ n m. m ≡ n) nth_asked (λ p k q l r t a c d. both_none r t c.0 d.0)
+
+  last_asked : SameAsked (SameItem like) (SameItem (Optional like)) lasts (SameHeld like)
+  last_asked p k q l x w None None a e c d = rw (c.1, d.1) (same_held like (Some x) (Some w) (same_answer like x w e))
+  last_asked p k q l x w None (Some t) a e c d = absurd (let b = d.0 in cc)
+  last_asked p k q l x w (Some r) u a e c d = absurd (let b = c.0 in cc)
+
+  pub last_steady : Steady (SameItem like) (SameItem (Optional like)) lasts (SameHeld like)
+  last_steady =
+      steady (SameItem like) (SameItem (Optional like)) lasts (SameHeld like) last_asked (λ p k q l r t a c d. rw (c, d) (optional_same like p k (held_same like p k a)))
+
+  -- of equal counts
+  count_asked : SameAsked (SameItem like) Equal counts (λ n m. m ≡ n)
+  count_asked p k q l x w None None a e c d = rw (c.1, d.1, a) refl
+  count_asked p k q l x w None (Some t) a e c d = absurd (let b = d.0 in cc)
+  count_asked p k q l x w (Some r) u a e c d = absurd (let b = c.0 in cc)
+
+  pub count_steady : Steady (SameItem like) Equal counts (λ n m. m ≡ n)
+  count_steady = steady (SameItem like) Equal counts (λ n m. m ≡ n) count_asked (λ p k q l r t a c d. c.0 ∙ sym a ∙ sym d.0)
+
+module _ {T E : Type 0} where
+  given_items : (x : Result T E) (r : Result (Option T) E) → TryGiven x (Some r) → item_of r ≡ Some x
+  given_items (Ok x) r h = ap item_of h
+  given_items (Err e) r h = ap item_of h
+
+  same_items : (like : Sameness (Result T E)) (r t : Result (Option T) E) → SameAnswer like (item_of r) (item_of t) → SameItem (SameNext like) r t
+  same_items Sameness.equal (Ok None) (Ok None) e = refl
+  same_items Sameness.equal (Ok None) (Ok (Some y)) e = absurd (cc e)
+  same_items Sameness.equal (Ok None) (Err f) e = absurd (cc e)
+  same_items Sameness.equal (Ok (Some x)) (Ok None) e = absurd (cc e)
+  same_items Sameness.equal (Ok (Some x)) (Ok (Some y)) e = let d : x ≡ y = cc in ap (λ v. Ok (Some v)) d
+  same_items Sameness.equal (Ok (Some x)) (Err f) e = absurd (cc e)
+  same_items Sameness.equal (Err d) (Ok None) e = absurd (cc e)
+  same_items Sameness.equal (Err d) (Ok (Some y)) e = absurd (cc e)
+  same_items Sameness.equal (Err d) (Err f) e = let b : d ≡ f = cc in ap (λ v. Err v) b
+  same_items (Sameness.by like) r t e = e
+
+  module _ {M : Type 0} (like : Sameness (Result T E)) where
+    try_next_asked : SameAsked (SameItem like) (SameItem (SameNext like)) (tries_next {M = M}) (λ p k. ⊤)
+    try_next_asked p k q l x w None u a e c d = absurd c
+    try_next_asked p k q l x w (Some r) None a e c d = absurd d
+    try_next_asked p k q l x w (Some r) (Some t) a e c d = same_items like r t (rw (given_items x r c, given_items w t d) (same_answer like x w e))
+
+    pub try_next_steady : Steady (SameItem like) (SameItem (SameNext like)) (tries_next {M = M}) (λ p k. ⊤)
+    try_next_steady =
+        steady (SameItem like) (SameItem (SameNext like)) tries_next (λ p k. ⊤) try_next_asked (λ p k q l r t a c d. rw (c, d) (same_items like (Ok None) (Ok None) (ends_same like)))
 
 -- by functions that agree
-module _ {F A B : Type 0} (call : F → A → Option B → F → Type 0) {agree : F → F → Type 0} (m : Matches (λ y z. y ≡ z) call agree) where
-  find_map_asked : SameAsked (finds_map call) agree
-  find_map_asked p k q l x None None a c d = (m p k q l x None None a c d).1
-  find_map_asked p k q l x None (Some t) a c d = absurd (let e = subst IsSome (sym (m p k q l x None t a c d.1).0) d.0 in cc)
-  find_map_asked p k q l x (Some r) None a c d = absurd (let e = subst IsSome (m p k q l x r None a c.1 d).0 c.0 in cc)
-  find_map_asked p k q l x (Some r) (Some t) a c d = (m p k q l x r t a c.1 d.1).0
+module _ {F A B : Type 0} (like : Sameness A) (call : F → A → Option B → F → Type 0) where
+  keeping_matches : (code : Sameness A) → MatchesFrom (SameItem code) (SameAnswer (Keeping code call)) call (AgreeKeeping code call)
+  keeping_matches Sameness.equal = matches_from call (agree_matches Equal call)
+  keeping_matches (Sameness.by same) = keeping_from same call
 
-  pub find_map_steady : Steady (finds_map call) agree
-  find_map_steady = steady (finds_map call) agree find_map_asked (λ p k q l r t a c d. c.0 ∙ sym d.0)
+  -- what is there is not the same as None
+  not_none : (t : Option B) → OptionBy (λ (_ _ : B). ⊤) None t → IsSome t → ⊥
+  not_none None e h = cc h
+  not_none (Some y) e h = e
 
-module _ {F A : Type 0} (call : F → A → Unit {0} → F → Type 0) {agree : F → F → Type 0} (m : Matches (λ y z. y ≡ z) call agree) where
-  for_each_asked : SameAsked (calls_each call) agree
-  for_each_asked p k q l x None None a c d = (m p k q l x tt tt a c.1 d.1).1
-  for_each_asked p k q l x None (Some t) a c d = absurd (let e = d.0 in cc)
-  for_each_asked p k q l x (Some r) u a c d = absurd (let e = c.0 in cc)
+  not_some : (r : Option B) → OptionBy (λ (_ _ : B). ⊤) r None → IsSome r → ⊥
+  not_some None e h = cc h
+  not_some (Some y) e h = e
 
-  pub for_each_steady : Steady (calls_each call) agree
-  for_each_steady = steady (calls_each call) agree for_each_asked (λ p k q l r t a c d. refl)
+  find_map_asked : SameAsked (SameItem like) (SameItem (Optional (Keeping like call))) (finds_map call) (AgreeKeeping like call)
+  find_map_asked p k q l x w None None a e c d = (keeping_matches like p k q l x w None None a e c d).1
+  find_map_asked p k q l x w None (Some t) a e c d = not_none t (both_items (Keeping like call) None t (keeping_matches like p k q l x w None t a e c d.1).0) d.0
+  find_map_asked p k q l x w (Some r) None a e c d = not_some r (both_items (Keeping like call) r None (keeping_matches like p k q l x w r None a e c.1 d).0) c.0
+  find_map_asked p k q l x w (Some r) (Some t) a e c d = optional_same (Keeping like call) r t (keeping_matches like p k q l x w r t a e c.1 d.1).0
 
-module _ {F A E : Type 0} (call : F → A → Result (Unit {0}) E → F → Type 0) {agree : F → F → Type 0} (m : Matches (λ y z. y ≡ z) call agree) where
-  try_for_each_asked : SameAsked (tries_each call) agree
-  try_for_each_asked p k q l x None None a c d = (m p k q l x (Ok tt) (Ok tt) a c d).1
-  try_for_each_asked p k q l x None (Some t) a c d = absurd (let e = subst IsErr (sym (m p k q l x (Ok tt) t a c d.1).0) d.0 in cc)
-  try_for_each_asked p k q l x (Some r) None a c d = absurd (let e = subst IsErr (m p k q l x r (Ok tt) a c.1 d).0 c.0 in cc)
-  try_for_each_asked p k q l x (Some r) (Some t) a c d = (m p k q l x r t a c.1 d.1).0
+  pub find_map_steady : Steady (SameItem like) (SameItem (Optional (Keeping like call))) (finds_map call) (AgreeKeeping like call)
+  find_map_steady =
+      steady (SameItem like) (SameItem (Optional (Keeping like call))) (finds_map call) (AgreeKeeping like call) find_map_asked
+      (λ p k q l r t a c d. both_none (Keeping like call) r t c.0 d.0)
 
-  pub try_for_each_steady : Steady (tries_each call) agree
-  try_for_each_steady = steady (tries_each call) agree try_for_each_asked (λ p k q l r t a c d. c.0 ∙ sym d.0)
+module _ {F A : Type 0} (like : A → A → Type 0) (call : F → A → Unit {0} → F → Type 0) where
+  for_each_asked : SameAsked like Equal (calls_each call) (AgreeFrom like Equal call)
+  for_each_asked p k q l x w None None a e c d = (agree_from_matches like Equal call p k q l x w tt tt a e c.1 d.1).1
+  for_each_asked p k q l x w None (Some t) a e c d = absurd (let b = d.0 in cc)
+  for_each_asked p k q l x w (Some r) u a e c d = absurd (let b = c.0 in cc)
+
+  pub for_each_steady : Steady like Equal (calls_each call) (AgreeFrom like Equal call)
+  for_each_steady = steady like Equal (calls_each call) (AgreeFrom like Equal call) for_each_asked (λ p k q l r t a c d. refl)
+
+-- where items are the same by a relation: any fold, from kin of which both decide at an item, or none does
+module _ {M A R : Type 0} (like : A → A → Type 0) (fold : Fold M A R) where
+  abbrev Deciding : M → M → Type 0
+  Deciding p k = AgreeDeciding (Sameness.by like) Equal fold p k
+
+  deciding_asked : SameAsked like (KinGive like fold) fold Deciding
+  deciding_asked p k q l x w None None a e c d = (keeping_from like fold.asks p k q l x w None None a e c d).1
+  deciding_asked p k q l x w None (Some t) a e c d = (keeping_from like fold.asks p k q l x w None (Some t) a e c d).0
+  deciding_asked p k q l x w (Some r) None a e c d = (keeping_from like fold.asks p k q l x w (Some r) None a e c d).0
+  deciding_asked p k q l x w (Some r) (Some t) a e c d = inr (keeping_from like fold.asks p k q l x w (Some r) (Some t) a e c d).0
+
+  deciding_steady : Steady like (KinGive like fold) fold Deciding
+  deciding_steady = steady like (KinGive like fold) fold Deciding deciding_asked (λ p k q l r t a c d. inl (p, k, q, l, a.0, c, d))
+
+  -- what kin give is the same, where what agrees with itself gives the same
+  pub kin_give : (same : R → R → Type 0) (agree : M → M → Type 0) → ((p : M) → agree p p) → MatchesFrom like (OptionBy same) fold.asks agree
+      → ((p k q l : M) (r t : R) → agree p k → fold.closes p r q → fold.closes k t l → same r t) → (r t : R) → KinGive like fold r t → same r t
+  kin_give same agree itself m closes r t (inl h) = closes h.0 h.1 h.2 h.3 r t (kin_agree like (OptionBy same) fold.asks agree itself m h.0 h.1 h.4) h.5 h.6
+  kin_give same agree itself m closes r t (inr h) = kin_answers like (OptionBy same) fold.asks agree itself m (Some r) (Some t) h
+
+module _ {F A E : Type 0} (call : F → A → Result (Unit {0}) E → F → Type 0) where
+  try_for_each_asked : SameAsked Equal Equal (tries_each call) (Agree call)
+  try_for_each_asked p k q l x w None None a e c d = (agree_from_matches Equal Equal call p k q l x w (Ok tt) (Ok tt) a e c d).1
+  try_for_each_asked p k q l x w None (Some t) a e c d =
+      absurd (let b = subst IsErr (sym (agree_from_matches Equal Equal call p k q l x w (Ok tt) t a e c d.1).0) d.0 in cc)
+  try_for_each_asked p k q l x w (Some r) None a e c d =
+      absurd (let b = subst IsErr (agree_from_matches Equal Equal call p k q l x w r (Ok tt) a e c.1 d).0 c.0 in cc)
+  try_for_each_asked p k q l x w (Some r) (Some t) a e c d = (agree_from_matches Equal Equal call p k q l x w r t a e c.1 d.1).0
+
+  pub try_for_each_steady : (like : Sameness A) → Steady (SameItem like) (SameItem (Giving like (tries_each call))) (tries_each call) (AgreeDeciding like (Agree call) (tries_each call))
+  try_for_each_steady Sameness.equal = steady Equal Equal (tries_each call) (Agree call) try_for_each_asked (λ p k q l r t a c d. c.0 ∙ sym d.0)
+  try_for_each_steady (Sameness.by like) = deciding_steady like (tries_each call)
 
 -- where the same was folded so far
-module _ {F B T R : Type 0} (call : F → B × T → R → F → Type 0) {agree : F → F → Type 0} (m : Matches (λ y z. y ≡ z) call agree) where
-  folded_same : (p k q l : F × Option B) (x : T) (b c : B) (r t : R) → Beside agree p k → p.1 ≡ Some b → k.1 ≡ Some c → call p.0 (b, x) r q.0 → call k.0 (c, x) t l.0 → (r ≡ t) × agree q.0 l.0
-  folded_same p k q l x b c r t a e d h g =
+module _ {F B T R : Type 0} (call : F → B × T → R → F → Type 0) where
+  folded_same : (p k q l : F × Option B) (x w : T) (b c : B) (r t : R) → Beside (Agree call) p k → x ≡ w → p.1 ≡ Some b → k.1 ≡ Some c → call p.0 (b, x) r q.0 → call k.0 (c, w) t l.0
+      → (r ≡ t) × Agree call q.0 l.0
+  folded_same p k q l x w b c r t a i e d h g =
       let same : c ≡ b = (let f = a.1 in cc) in
-      m p.0 k.0 q.0 l.0 (b, x) r t a.0 h (subst (λ z. call k.0 (z, x) t l.0) same g)
+      agree_from_matches Equal Equal call p.0 k.0 q.0 l.0 (b, x) (c, w) r t a.0 (λ j. (sym same j, i j)) h g
 
-module _ {F T A : Type 0} (call : F → T × A → T → F → Type 0) {agree : F → F → Type 0} (m : Matches (λ y z. y ≡ z) call agree) where
-  fold_asked : SameAsked (folds call) (Beside agree)
-  fold_asked p k q l x None None a c d =
-      let s = folded_same call m p k q l x c.0 d.0 c.1 d.1 a c.2 d.2 c.3 d.3 in
+module _ {F T A : Type 0} (call : F → T × A → T → F → Type 0) where
+  fold_asked : SameAsked Equal Equal (folds call) (Beside (Agree call))
+  fold_asked p k q l x w None None a e c d =
+      let s = folded_same call p k q l x w c.0 d.0 c.1 d.1 a e c.2 d.2 c.3 d.3 in
       (s.1, rw (c.4, d.4, s.0) refl)
-  fold_asked p k q l x None (Some t) a c d = absurd d
-  fold_asked p k q l x (Some r) u a c d = absurd c
+  fold_asked p k q l x w None (Some t) a e c d = absurd d
+  fold_asked p k q l x w (Some r) u a e c d = absurd c
 
-  pub fold_steady : Steady (folds call) (Beside agree)
-  fold_steady = steady (folds call) (Beside agree) fold_asked (λ p k q l r t a c d. let e = a.1 in let h = c.0 in let g = d.0 in cc)
+  module _ (like : A → A → Type 0) where
+    kin_fold_asked : SameAsked like (KinGive like (folds call)) (folds call) (Kin like (folds call).asks)
+    kin_fold_asked p k q l x w None None a e c d = (kin_matches like (folds call).asks p k q l x w None None a e c d).1
+    kin_fold_asked p k q l x w None (Some t) a e c d = absurd d
+    kin_fold_asked p k q l x w (Some r) u a e c d = absurd c
 
-module _ {F B T E : Type 0} (call : F → B × T → Result B E → F → Type 0) {agree : F → F → Type 0} (m : Matches (λ y z. y ≡ z) call agree) where
-  try_fold_asked : SameAsked (tries_fold call) (Beside agree)
-  try_fold_asked p k q l (Ok x) None None a c d =
-      let s = folded_same call m p k q l x c.0 d.0 (Ok c.1) (Ok d.1) a c.2 d.2 c.3 d.3 in
-      (s.1, let e = s.0 in let h = c.4 in let g = d.4 in cc)
-  try_fold_asked p k q l (Ok x) None (Some t) a c d = let e = (folded_same call m p k q l x c.0 d.0 (Ok c.1) (Err d.1) a c.2 d.2 c.3 d.3).0 in cc
-  try_fold_asked p k q l (Ok x) (Some r) None a c d = let e = (folded_same call m p k q l x c.0 d.0 (Err c.1) (Ok d.1) a c.2 d.2 c.3 d.3).0 in cc
-  try_fold_asked p k q l (Ok x) (Some r) (Some t) a c d = c.4 ∙ (folded_same call m p k q l x c.0 d.0 (Err c.1) (Err d.1) a c.2 d.2 c.3 d.3).0 ∙ sym d.4
-  try_fold_asked p k q l (Err e) None u a c d = absurd c
-  try_fold_asked p k q l (Err e) (Some r) None a c d = absurd d
-  try_fold_asked p k q l (Err e) (Some r) (Some t) a c d = c.0 ∙ sym d.0
+  pub fold_steady : (like : Sameness A) → Steady (SameItem like) (SameItem (Giving like (folds call))) (folds call) (AgreeOrKin like (Beside (Agree call)) (folds call))
+  fold_steady Sameness.equal = steady Equal Equal (folds call) (Beside (Agree call)) fold_asked (λ p k q l r t a c d. let e = a.1 in let h = c.0 in let g = d.0 in cc)
+  fold_steady (Sameness.by like) =
+      steady like (KinGive like (folds call)) (folds call) (Kin like (folds call).asks) (kin_fold_asked like) (λ p k q l r t a c d. inl (p, k, q, l, a, c, d))
 
-  pub try_fold_steady : Steady (tries_fold call) (Beside agree)
-  try_fold_steady = steady (tries_fold call) (Beside agree) try_fold_asked (λ p k q l r t a c d. let e = a.1 in let h = c.1 in let g = d.1 in let v = c.2 in let w = d.2 in cc)
+  -- what kin folded is the same, by a fact P of each call
+  pub kin_fold : (like : A → A → Type 0) (same : T → T → Type 0) (P : T → A → T → Type 0) → ((a : T) → same a a) → ((f g : F) (a b : T) (x : A) → call f (a, x) b g → P a x b)
+      → ((a c b d : T) (x w : A) → same a c → like x w → P a x b → P c w d → same b d) → (r t : T) → KinGive like (folds call) r t → same r t
+  kin_fold like same P itself answers keeps = kin_give like (folds call) same (λ p k. OptionBy same p.1 k.1) (λ p. options p.1) asked (λ p k q l r t a c d. option_by same p.1 k.1 r t a c.0 d.0)
+    where
+      options : (o : Option T) → OptionBy same o o
+      options None = tt
+      options (Some a) = itself a
 
--- without a closure
-module _ {A : Type 0} where
-  next_asked : {M : Type 0} → SameAsked (nexts {M = M} {A = A}) (λ p k. ⊤)
-  next_asked p k q l x None u a c d = absurd c
-  next_asked p k q l x (Some r) None a c d = absurd d
-  next_asked p k q l x (Some r) (Some t) a c d = c ∙ sym d
+      asked : MatchesFrom like (OptionBy same) (folds call).asks (λ p k. OptionBy same p.1 k.1)
+      asked p k q l x w None None a e c d =
+          let s = keeps c.0 d.0 c.1 d.1 x w (option_by same p.1 k.1 c.0 d.0 a c.2 d.2) e (answers p.0 q.0 c.0 c.1 x c.3) (answers k.0 l.0 d.0 d.1 w d.3) in
+          (tt, rw (c.4, d.4) s)
+      asked p k q l x w None (Some t) a e c d = absurd d
+      asked p k q l x w (Some r) u a e c d = absurd c
 
-  pub next_steady : {M : Type 0} → Steady (nexts {M = M} {A = A}) (λ p k. ⊤)
-  next_steady = steady nexts (λ p k. ⊤) next_asked (λ p k q l r t a c d. c ∙ sym d)
+module _ {F B T E : Type 0} (call : F → B × T → Result B E → F → Type 0) where
+  try_fold_asked : SameAsked Equal Equal (tries_fold call) (Beside (Agree call))
+  try_fold_asked p k q l (Ok x) (Ok w) None None a e c d =
+      let s = folded_same call p k q l x w c.0 d.0 (Ok c.1) (Ok d.1) a (cc e) c.2 d.2 c.3 d.3 in
+      (s.1, let e' = s.0 in let h = c.4 in let g = d.4 in cc)
+  try_fold_asked p k q l (Ok x) (Ok w) None (Some t) a e c d = let s = (folded_same call p k q l x w c.0 d.0 (Ok c.1) (Err d.1) a (cc e) c.2 d.2 c.3 d.3).0 in cc
+  try_fold_asked p k q l (Ok x) (Ok w) (Some r) None a e c d = let s = (folded_same call p k q l x w c.0 d.0 (Err c.1) (Ok d.1) a (cc e) c.2 d.2 c.3 d.3).0 in cc
+  try_fold_asked p k q l (Ok x) (Ok w) (Some r) (Some t) a e c d = c.4 ∙ (folded_same call p k q l x w c.0 d.0 (Err c.1) (Err d.1) a (cc e) c.2 d.2 c.3 d.3).0 ∙ sym d.4
+  try_fold_asked p k q l (Ok x) (Err f) o u a e c d = absurd (cc e)
+  try_fold_asked p k q l (Err f) (Ok w) o u a e c d = absurd (cc e)
+  try_fold_asked p k q l (Err f) (Err g) None u a e c d = absurd c
+  try_fold_asked p k q l (Err f) (Err g) (Some r) None a e c d = absurd d
+  try_fold_asked p k q l (Err f) (Err g) (Some r) (Some t) a e c d = c.0 ∙ (let b : f ≡ g = cc in ap (λ v. Err v) b) ∙ sym d.0
 
-  nth_asked : SameAsked (nths {A = A}) (λ n m. m ≡ n)
-  nth_asked p k q l x None None a c d = omega (arith, a, c, d)
-  nth_asked p k q l x None (Some t) a c d = omega (arith, a, c, d.0)
-  nth_asked p k q l x (Some r) None a c d = omega (arith, a, c.0, d)
-  nth_asked p k q l x (Some r) (Some t) a c d = c.1 ∙ sym d.1
-
-  pub nth_steady : Steady (nths {A = A}) (λ n m. m ≡ n)
-  nth_steady = steady nths (λ n m. m ≡ n) nth_asked (λ p k q l r t a c d. c.0 ∙ sym d.0)
-
-  count_asked : SameAsked (counts {A = A}) (λ n m. m ≡ n)
-  count_asked p k q l x None None a c d = rw (c.1, d.1, a) refl
-  count_asked p k q l x None (Some t) a c d = absurd (let e = d.0 in cc)
-  count_asked p k q l x (Some r) u a c d = absurd (let e = c.0 in cc)
-
-  pub count_steady : Steady (counts {A = A}) (λ n m. m ≡ n)
-  count_steady = steady counts (λ n m. m ≡ n) count_asked (λ p k q l r t a c d. c.0 ∙ sym a ∙ sym d.0)
-
-  last_asked : SameAsked (lasts {A = A}) (λ p k. k ≡ p)
-  last_asked p k q l x None None a c d = d.1 ∙ sym c.1
-  last_asked p k q l x None (Some t) a c d = absurd (let e = d.0 in cc)
-  last_asked p k q l x (Some r) u a c d = absurd (let e = c.0 in cc)
-
-  pub last_steady : Steady (lasts {A = A}) (λ p k. k ≡ p)
-  last_steady = steady lasts (λ p k. k ≡ p) last_asked (λ p k q l r t a c d. c ∙ sym a ∙ sym d)
-
-module _ {M T E : Type 0} where
-  try_next_asked : SameAsked (tries_next {M = M} {T = T} {E = E}) (λ p k. ⊤)
-  try_next_asked p k q l x None u a c d = absurd c
-  try_next_asked p k q l x (Some r) None a c d = absurd d
-  try_next_asked p k q l (Ok x) (Some r) (Some t) a c d = c ∙ sym d
-  try_next_asked p k q l (Err e) (Some r) (Some t) a c d = c ∙ sym d
-
-  pub try_next_steady : Steady (tries_next {M = M} {T = T} {E = E}) (λ p k. ⊤)
-  try_next_steady = steady tries_next (λ p k. ⊤) try_next_asked (λ p k q l r t a c d. c ∙ sym d)
+  pub try_fold_steady : (like : Sameness (Result T E)) → Steady (SameItem like) (SameItem (Giving like (tries_fold call))) (tries_fold call) (AgreeDeciding like (Beside (Agree call)) (tries_fold call))
+  try_fold_steady Sameness.equal =
+      steady Equal Equal (tries_fold call) (Beside (Agree call)) try_fold_asked (λ p k q l r t a c d. let e = a.1 in let h = c.1 in let g = d.1 in let v = c.2 in let w = d.2 in cc)
+  try_fold_steady (Sameness.by like) = deciding_steady like (tries_fold call)

@@ -1,26 +1,29 @@
 -- `copy` gives one value wherever its reader and its writer were pending, where no write fails, and is pending only where one of them is.
-use Rattle.std.specs.Prelude.{⊤}
+use Rattle.std.specs.Prelude.{⊤, IsOk}
 use Rattle.std.proofs.Common.{◌≡◌, ◌≤◌, ◌∙◌, ◌+◌, ◌%◌, ◌^◌, ℕ, List, [], ◌∷◌, ◌++◌, Result, Ok, Err, inl, inr, length, refl, ap, sym, subst, arith, append-nil, length-append}
 use Rattle.std.specs.IoError.{error_kind}
 use Rattle.std.specs.declared.io.Error.{Error}
 use Rattle.std.specs.declared.io.ErrorKind.{ErrorKind}
 use Rattle.futures.specs.declared.task.Poll.{Poll}
 use Rattle.futures.specs.declared.task.Poll.TheVariants.{Ready, Pending}
-use Rattle.lite_base.specs.Answers.{Comparable, ComparableBy, strip}
+use Rattle.lite_base.specs.Answers.{Comparable, ComparableBy, Gives, strip}
 use Rattle.lite_base.specs.Calm.{CalmLaws}
+use Rattle.lite_base.specs.Future.Finishes.{Finishes}
 use Rattle.lite_base.specs.Laws.Alike.{comparable_nil}
 use Rattle.lite_base.specs.Laws.Calm.{none_prompt}
+use Rattle.lite_base.specs.Alike.{Sameness}
 use Rattle.lite_base.specs.Steady.{FutureSteadyLawsBy}
 use Rattle.lite_io_base.specs.Laws.Steady.{comparable_behind, unhurried-append, unhurried-bytes}
 use Rattle.lite_io_base.specs.Marks.{Mark, bytes}
 use Rattle.lite_io_base.specs.Runs.{RunLaws, Runs}
-use Rattle.lite_io_base.specs.Steady.{CalmReadLaws, NoWait, SteadyReadLaws, unhurried}
+use Rattle.lite_io_base.specs.Steady.{AllAmple, CalmReadLaws, NoWait, SteadyReadLaws, unhurried}
 use Rattle.lite_io_base.specs.SteadyWrite.{CalmWriteLaws, NeverWaits}
 use Rattle.lite_io_base.specs.Takings.{Taking, bytes_of}
 use Rattle.lite_read.specs.Settling.{SameByKind}
-use Rattle.lite_write.specs.Laws.SteadyWriteAll.{prospering_laws, prospers_last}
+use Rattle.lite_write.specs.Laws.SteadyWriteAll.{prospering_laws, prospers_both, prospers_last}
 use Rattle.lite_write.specs.SteadyWriteAll.{AllProsper, Prospering, Prospers}
-use Rattle.lite_copy.specs.Copy.{Answers, Copies, Fails, GoesOn, Moves, Values, bytes_told, held_of, met_in, met_of, source_of, waits_taken, waits_told}
+use Rattle.lite_copy.specs.Copy.{Answers, Copies, Fails, GoesOn, Moves, TakesSome, Values}
+use Rattle.lite_copy.specs.Copy.{bytes_told, held_of, met_in, met_of, source_of, waits_taken, waits_told}
 use Rattle.lite_copy.specs.Laws.Copy.{copies_laws, told_both}
 use Rattle.lite_copy.specs.declared.copy.CopyFuture.{CopyFuture}
 use Rattle.lite_copy.specs.declared.copy.Phase.{Phase}
@@ -172,7 +175,7 @@ all_same (v ∷ l) (w ∷ m) held i j h g c = rw h.1 (same_told v w held i j h.0
 
 module _ {R W : Type 0} {reads : Runs Mark R} {writes : Runs Taking W} where
   pub copy_steady : {ample : Runs Mark R} {needs_none : Type 0} {alike : R → R → Type 0} → SteadyReadLaws reads ample needs_none alike → RunLaws writes
-      → FutureSteadyLawsBy SameByKind (Copies reads writes) (Copies ample (Prospering writes)) (needs_none × AllProsper writes) (CopyAlike {W = W} alike)
+      → FutureSteadyLawsBy (Sameness.by SameByKind) (Copies reads writes) (Copies ample (Prospering writes)) (needs_none × AllProsper writes) (CopyAlike {W = W} alike)
   copy_steady s laws =
       record {
         laws = copies_laws s.laws (prospering_laws laws);
@@ -208,3 +211,34 @@ module _ {R W : Type 0} {reads : Runs Mark R} {writes : Runs Taking W} where
         calm_on = λ x y l k h.
             let i = h.moves in (c.calm_on (source_of x) (source_of y) i.told k.0 i.came, d.calm_on x.writer y.writer i.took k.1 i.went);
       }
+
+takes_prosper : (l : List Taking) → TakesSome l → Prospers l
+takes_prosper [] h = tt
+takes_prosper (Taking.wrote [] ∷ l) h = absurd (omega (arith, h.0))
+takes_prosper (Taking.wrote (x ∷ xs) ∷ l) h = takes_prosper l h.1
+takes_prosper (Taking.pending ∷ l) h = takes_prosper l h
+takes_prosper (Taking.fault kind ∷ l) h = absurd h
+takes_prosper (Taking.flushed ∷ l) h = absurd h
+takes_prosper (Taking.closed ∷ l) h = absurd h
+
+-- where the value is Ok, a flush came last
+ok_flushed : (out : List (Poll Value)) (v : Value) (fault met : List Mark) (last : List Taking) (after : List ℕ) (total : ℕ)
+    → Gives out v → IsOk v → Answers out fault last after met total → last ≡ Taking.flushed ∷ []
+ok_flushed [] v fault met last after total g ok h = absurd g
+ok_flushed (Pending ∷ out) v fault met last after total g ok h = ok_flushed out v fault met last after total g ok h
+ok_flushed (Ready (Ok n) ∷ out) v fault met last after total g ok h = h.0.1
+ok_flushed (Ready (Err e) ∷ out) v fault met last after total g ok h = absurd (let bad = subst (λ w. IsOk w) (sym g.0) ok in cc bad)
+
+module _ {R W : Type 0} {reads ample : Runs Mark R} {writes : Runs Taking W} (found : AllAmple reads ample) where
+  -- where the value is Ok no write failed
+  pub ok_prospers : (x : CopyFuture R W) (l : List (Poll Value)) (v : Value) → IsOk v → Finishes (Copies reads writes) x l v
+      → Finishes (Copies ample (Prospering writes)) x l v
+  ok_prospers x l v ok h =
+      let m = h.came.moves in
+      let k = m.copied in
+      let flushed = ok_flushed l v k.failed (met_of h.last) k.last (held_of h.last) h.last.amount h.gives ok k.answers in
+      let prospers = subst Prospers (sym k.writing) (prospers_both k.written k.last (takes_prosper k.written k.takes_some) (subst Prospers (sym flushed) tt)) in
+      let came = found (source_of x) (source_of h.last) m.told m.came in
+      let moves : Moves ample (Prospering writes) x l h.last =
+      record { told = m.told; took = m.took; came = came; went = (m.went, prospers); copied = k; counted = m.counted } in
+      record { gives = h.gives; last = h.last; came = record { moves = moves; idle = h.came.idle } }

@@ -13,7 +13,8 @@ use Rattle.lite_base.specs.Laws.Hint.{same_hint}
 use Rattle.lite_base.specs.StreamLaws.{StreamLaws}
 use Rattle.lite_base.specs.Laws.Endless.{endless_join}
 use Rattle.lite_cycle.specs.Laws.Ends.{ends_before, ends_bounded, ends_calm, ends_lower, no_end_among}
-use Rattle.lite_cycle.specs.StopAfterFuture.{Beside, HintsBy, StopHints, StoppedByEnd, StoppedByValue, Stops, StopsBy, stop_parts}
+use Rattle.lite_cycle.specs.StopAfterFuture.{Beside, StoppedByEnd, StoppedByValue, Stops, StopsBy}
+use Rattle.lite_cycle.specs.Stopping.{HintsBy, StopHints, stop_parts}
 use Rattle.lite_cycle.specs.declared.stop_after_future.StopAfterFuture.{StopAfterFuture}
 use Rattle.lite_cycle.specs.declared.stop_after_future.Stopping.TheVariants.{Holding, TakenOut, Stopped}
 use Rattle.lite_cycle.specs.declared.stop_after_future.Stopping.{Stopping}

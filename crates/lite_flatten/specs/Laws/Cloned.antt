@@ -4,22 +4,22 @@ use Rattle.std.specs.Prelude.{⊤, Result, Ok}
 use Rattle.std.proofs.Common.{◌≡◌, ◌∙◌, ◌⊎◌, ℕ, List, [], ◌∷◌, ◌++◌, Option, Some, None, inl, inr, refl, ap, sym, subst, append_assoc}
 use Rattle.futures.specs.declared.task.Poll.TheVariants.{Ready, Pending}
 use denote.Ref.{Bor}
-use Rattle.lite_base.specs.Alike.{OptionBy}
+use Rattle.lite_base.specs.Alike.{OptionBy, SameAnswer, Sameness}
 use Rattle.lite_base.specs.Answers.{Answer, Gives, Waiting, end, item}
 use Rattle.lite_base.specs.Calm.{Prompt}
 use Rattle.lite_base.specs.Laws.All.{all_append}
 use Rattle.lite_base.specs.Laws.Calm.{prompt_join}
 use Rattle.lite_base.specs.OkRanks.{OkCounting, all_ok, ok_counting_by}
 use Rattle.lite_base.specs.Ranks.{Counting, Ranks}
-use Rattle.lite_base.specs.Steady.{SteadyLaws, TakesNone}
+use Rattle.lite_base.specs.Steady.{SteadinessBy, SteadyLawsBy, TakesNone}
 use Rattle.lite_base.specs.StreamLaws.{StreamLaws}
-use Rattle.lite_flatten.specs.Cloned.{Clones, ClonesAll, ClonesUnrefused, EqualClones, IsRefusal, NoneRefused, NotRefused, Refers, Refuses, cloned_parts}
+use Rattle.lite_flatten.specs.Cloned.{AlikeCloned, ClonedFrom, Clones, ClonesAll, ClonesUnrefused, EqualClones, IsRefusal, NoneRefused, NotRefused, Refers, Refuses, cloned_parts}
 use Rattle.lite_flatten.specs.Laws.Calming.{lingering_calming}
 use Rattle.lite_flatten.specs.Laws.Lingering.{Giving, GivingOne, held_counting, held_ranks, lingering_following}
 use Rattle.lite_flatten.specs.Laws.SteadyLingering.{OneValue, all_any, all_split, lingering_agreeing, lingering_found_where}
 use Rattle.lite_flatten.specs.declared.cloned.Cloned.{Cloned}
 use Rattle.lite_flatten.specs.Lingering.{HeldOn, Lingering, Lingers, Replaced}
-use Rattle.lite_base.specs.Laws.Calling.{Matches}
+use Rattle.lite_flatten.specs.Laws.Replacing.{refers_match}
 use Rattle.lite_stream.specs.Laws.Agreeing.{through_alike}
 use Rattle.lite_stream.specs.Laws.Calming.{Calming}
 use Rattle.lite_stream.specs.Laws.Through.{laws_following, through_runs}
@@ -115,9 +115,6 @@ cloned_ok_counting {E = E} is_clone is_infallible laws c =
 pub gives_copy : {T E : Type 0} (is_clone : T → T → Type 0) (is_infallible : T → Type 0) (x : Bor T) (copy : T) → is_clone x.now copy → Clones {E = E} is_clone is_infallible x (item (Ok copy) ∷ []) None
 gives_copy is_clone is_infallible x copy h = ([], copy, tt, h, refl)
 
-refers_match : {R : Type 0} → Matches (λ (v w : R). v ≡ w) Refers (λ (p q : Unit {0}). ⊤)
-refers_match f k g l x y z a c d = (c ∙ sym d, tt)
-
 held_same : {R : Type 0} (v w : Option R) → w ≡ v → OptionBy (λ a b. a ≡ b) v w
 held_same None None e = tt
 held_same None (Some w) e = absurd (cc e)
@@ -137,9 +134,24 @@ module _ {T E : Type 0} (is_clone : T → T → Type 0) where
   clones_one : GivingOne (Clones {E = E} is_clone (λ _. ⊤))
   clones_one = record { waits = waits; hands = λ x l h. (Ok h.1, hands x l h.0 h.1 h.2 h.4) }
 
-  clones_alike : EqualClones is_clone → OneValue clones_one (λ x y. x ≡ y)
+  clones_alike : EqualClones is_clone → OneValue clones_one Sameness.equal (λ x y. x ≡ y)
   unfolding clones_one
   clones_alike equal x y l m e h k = ap Ok (equal x.now h.1 k.1 h.3 (subst (λ r. is_clone r.now k.1) (sym e) k.3))
+
+  clones_made : (same : Bor T → Bor T → Type 0) → OneValue clones_one (ClonedFrom (Sameness.by same) is_clone) same
+  unfolding clones_one
+  clones_made same x y l m e h k = (x, y, e, (h.1, h.3, refl), (k.1, k.3, refl))
+
+  -- by how the references that come in are compared
+  cloned_alike : {S : Type 0} {ample : S → List (Answer (Bor T)) → S → Type 0} {alike : S → S → Type 0} (like : Sameness (Bor T))
+      → SteadinessBy (SameAnswer like) ample alike
+      → SteadinessBy (SameAnswer (ClonedFrom like is_clone)) (ClonesUnrefused {E = E} is_clone ample) (AlikeCloned like alike is_clone)
+  cloned_alike Sameness.equal s x y e =
+      through_alike cloned_parts x y (s x.stream y.stream e.0) (tt, held_same x.held y.held e.1)
+      (lingering_agreeing clones_one Refers Sameness.equal Sameness.equal (refers_match (λ v w. v ≡ w)) (clones_alike e.2))
+  cloned_alike (Sameness.by same) s x y e =
+      through_alike cloned_parts x y (s x.stream y.stream e.0) (tt, e.1)
+      (lingering_agreeing clones_one Refers (Sameness.by same) (ClonedFrom (Sameness.by same) is_clone) (refers_match same) (clones_made same))
 
   -- among answers that are no refusals
   module _ (is_infallible : T → Type 0) (may : Answer (Result T E) → Type 0) (never : (x : Bor T) (a : Answer (Result T E)) → may a → IsRefusal is_clone is_infallible x a → ⊥) where
@@ -168,14 +180,13 @@ module _ {T E : Type 0} (is_clone : T → T → Type 0) (is_infallible : T → T
   cloned_ample = found_where NotRefused (λ r a ok refused. ok refused.1 refused.2)
 
   -- no poll asks for memory where no clone does
-  pub cloned_steady : {none : Type 0} {alike : S → S → Type 0} → SteadyLaws run ample none alike
-      → SteadyLaws (ClonesAll {E = E} is_clone is_infallible run) (ClonesUnrefused is_clone ample) (none × ((x : T) → is_infallible x)) (λ x y. alike x.stream y.stream × (y.held ≡ x.held) × EqualClones is_clone)
-  cloned_steady s =
+  pub cloned_steady : (like : Sameness (Bor T)) {none : Type 0} {alike : S → S → Type 0} → SteadyLawsBy like run ample none alike
+      → SteadyLawsBy (ClonedFrom like is_clone) (ClonesAll {E = E} is_clone is_infallible run) (ClonesUnrefused is_clone ample)
+      (none × ((x : T) → is_infallible x)) (AlikeCloned like alike is_clone)
+  cloned_steady like s =
       record {
         laws = through_runs cloned_parts s.laws (lingering_following Refers (Clones is_clone (λ _. ⊤)) (clones_giving is_clone (λ _. ⊤)));
-        steady = λ x y e.
-            through_alike cloned_parts x y (s.steady x.stream y.stream e.0) (tt, held_same x.held y.held e.1)
-            (lingering_agreeing (clones_one is_clone) Refers refers_match (clones_alike is_clone e.2));
+        steady = cloned_alike is_clone like s.steady;
         found = λ n x y l h. found_where (λ _. ⊤) (λ r a all refused. refused.0 (n.1 r.now)) (s.found n.0) x y l (all_any l) h;
       }
 

@@ -2,14 +2,14 @@
 use Rattle.std.specs.Fn.{Mut, AlwaysReturns}
 use Rattle.std.proofs.Common.{◌≡◌, ℕ, List, [], ◌∷◌, ◌++◌, Option, Some, None, sym, subst}
 use Rattle.futures.specs.declared.task.Poll.TheVariants.{Ready, Pending}
-use Rattle.lite_base.specs.Alike.{OptionBy}
+use Rattle.lite_base.specs.Alike.{OptionBy, SameItem, Sameness}
 use Rattle.lite_base.specs.Answers.{Answer, item}
 use Rattle.lite_base.specs.Calm.{CalmLaws}
 use Rattle.lite_base.specs.Ends.{Ends}
 use Rattle.lite_base.specs.Falling.{ItemRun}
 use Rattle.lite_base.specs.Laws.Promises.{call_promises}
 use Rattle.lite_base.specs.Ranks.{Counting, Ranks, counting_ends, ranks_of}
-use Rattle.lite_base.specs.Steady.{SteadyLaws}
+use Rattle.lite_base.specs.Steady.{SteadyLawsBy}
 use Rattle.lite_base.specs.StreamLaws.{StreamLaws, runs_of}
 use Rattle.lite_flatten.specs.FlatMap.{EachMade, FlatMaps, flat_map_parts, flat_map_ranks}
 use Rattle.lite_flatten.specs.Flatten.{EachInner}
@@ -17,10 +17,11 @@ use Rattle.lite_flatten.specs.Laws.Calming.{flattening_calm}
 use Rattle.lite_flatten.specs.Laws.Flatten.{each_inner_on, flattening, flattening_counting}
 use Rattle.lite_flatten.specs.Laws.SteadyFlatten.{flattening_steady}
 use Rattle.lite_flatten.specs.declared.flat_map.FlatMap.{FlatMap}
-use Rattle.lite_base.specs.Calling.{AgreeBy, Calls}
-use Rattle.lite_stream.specs.Laws.Agreeing.{through_alike, through_steady}
+use Rattle.lite_base.specs.Calling.{AgreeFrom, Answering, Calls}
+use Rattle.lite_base.specs.Laws.Calling.{agree_from_matches}
+use Rattle.lite_stream.specs.Laws.Agreeing.{through_alike, through_steady_over}
 use Rattle.lite_stream.specs.Laws.Calming.{through_calm}
-use Rattle.lite_stream.specs.Laws.Pointwise.{replaces_calming, replaces_agreeing, replaces_agreeing_by, replaces_turning}
+use Rattle.lite_stream.specs.Laws.Pointwise.{replaces_calming, replaces_agreeing_by, replaces_answering, replaces_turning}
 use Rattle.lite_stream.specs.Laws.Through.{laws_following, laws_hinted, through_counting}
 use Rattle.lite_stream.specs.Map.{Maps, map_parts}
 use Rattle.lite_stream.specs.Pointwise.{Replaces}
@@ -93,13 +94,15 @@ module _ {S F A V : Type 0} (g : Mut F (A × Unit {0}) V) {run : S → List (Ans
 
 module _ {S F A V B : Type 0} (g : Mut F (A × Unit {0}) V) {run ample : S → List (Answer A) → S → Type 0} {run' found : V → List (Answer B) → V → Type 0} {none none' : Type 0} {alike : S → S → Type 0} {alike' : V → V → Type 0} where
   -- by functions that make streams which are alike
-  pub flat_map_steady : SteadyLaws run ample none alike → SteadyLaws run' found none' alike'
-      → SteadyLaws (FlatMaps run g run') (FlatMaps ample g found) (none × none') (λ (x y : FlatMap S V F). alike x.stream.stream y.stream.stream × AgreeBy alike' (Calls g) x.stream.f y.stream.f × OptionBy alike' x.inner_stream y.inner_stream)
-  flat_map_steady s =
-      let outer = through_steady map_parts s (replaces_turning (Calls g)).following (replaces_agreeing (Calls g)) in
-      flattening_steady flat_map_parts
-      (λ x y e. (through_alike map_parts x.stream y.stream (s.steady x.stream.stream y.stream.stream e.0) e.1 (replaces_agreeing_by (Calls g) alike'), e.2))
-      outer.laws outer.found
+  pub flat_map_steady : (like : Sameness A) (same : Sameness B) → SteadyLawsBy like run ample none alike → SteadyLawsBy same run' found none' alike'
+      → SteadyLawsBy same (FlatMaps run g run') (FlatMaps ample g found) (none × none')
+      (λ (x y : FlatMap S V F).
+      alike x.stream.stream y.stream.stream × AgreeFrom (SameItem like) alike' (Calls g) x.stream.f y.stream.f × OptionBy alike' x.inner_stream y.inner_stream)
+  flat_map_steady like same s =
+      let outer = through_steady_over map_parts like (Answering like (Calls g)) s (replaces_turning (Calls g)).following (replaces_answering (Calls g) like) in
+      let made = replaces_agreeing_by (Calls g) like alike' (agree_from_matches (SameItem like) alike' (Calls g)) in
+      flattening_steady flat_map_parts same
+      (λ x y e. (through_alike map_parts x.stream y.stream (s.steady x.stream.stream y.stream.stream e.0) e.1 made, e.2)) outer.laws outer.found
 
 -- by a function that makes calm streams
 pub flat_map_calm : {S F A V B : Type 0} (g : Mut F (A × Unit {0}) V) {run : S → List (Answer A) → S → Type 0} {run' : V → List (Answer B) → V → Type 0} {hints : S → ℕ × Option ℕ → Type 0} {is_calm : S → Type 0} {calm : V → Type 0}

@@ -3,20 +3,21 @@ use Rattle.std.specs.List.{AllByRecursion}
 use Rattle.std.specs.Prelude.{⊤}
 use Rattle.std.proofs.Common.{◌≡◌, ◌∙◌, ◌⊎◌, List, [], ◌∷◌, ◌++◌, Option, Some, None, inl, inr, refl, ap, subst, sym}
 use Rattle.futures.specs.declared.task.Poll.TheVariants.{Ready, Pending}
-use Rattle.lite_base.specs.Alike.{OptionBy}
-use Rattle.lite_base.specs.Answers.{Answer, Comparable, strip}
+use Rattle.lite_base.specs.Alike.{OptionBy, SameAnswer, SameItem, Sameness}
+use Rattle.lite_base.specs.Answers.{Answer, ComparableBy, strip}
 use Rattle.lite_base.specs.Laws.Answers.{strip_join, waiting_strip}
-use Rattle.lite_base.specs.Laws.Alike.{gives_strip, comparable_nil}
+use Rattle.lite_base.specs.Laws.Alike.{comparable_as, comparable_nil, gives_strip, same_answer}
 use Rattle.lite_flatten.specs.Laws.Lingering.{GivingOne}
-use Rattle.lite_flatten.specs.Laws.Replacing.{Placed, PlacedFrom, items_same, placed_from_same}
+use Rattle.lite_flatten.specs.Laws.Replacing.{Placed, PlacedFrom, placed_from_same}
 use Rattle.lite_flatten.specs.Lingering.{HeldOn, Lingering, Lingers, Replaced}
-use Rattle.lite_base.specs.Laws.Calling.{Matches}
-use Rattle.lite_stream.specs.Laws.Agreeing.{Agreeing}
+use Rattle.lite_base.specs.Laws.Calling.{MatchesFrom, answer_items}
+use Rattle.lite_stream.specs.Laws.Agreeing.{AgreeingOver}
 
 module _ {V B : Type 0} {gives : V → List (Answer B) → Option V → Type 0} (one : GivingOne gives) where
-  -- alike things are done with equal items
-  abbrev pub OneValue : (V → V → Type 0) → Type 0
-  OneValue alike = (v w : V) (l m : List (Answer B)) → alike v w → (h : gives v l None) (k : gives w m None) → (one.hands v l h).0 ≡ (one.hands w m k).0
+  -- alike things are done with items that are the same
+  abbrev pub OneValue : Sameness B → (V → V → Type 0) → Type 0
+  OneValue same alike =
+      (v w : V) (l m : List (Answer B)) → alike v w → (h : gives v l None) (k : gives w m None) → SameItem same (one.hands v l h).0 (one.hands w m k).0
 
   -- v is not done, or its item stands before what follows
   abbrev OneInPlace : V → (List (Option B) → Type 0) → List (Option B) → Type 0
@@ -42,17 +43,21 @@ module _ {V B : Type 0} {gives : V → List (Answer B) → Option V → Type 0} 
     placed_from (p, None) (q, last) i o c = placed p q last i o c
     placed_from (p, Some v) (q, last) i o c = in_place p q v last i o (λ rest k. placed p q last i rest k) c
 
-    module _ {alike : V → V → Type 0} {agree : F → F → Type 0} (m : Matches alike call agree) (value : OneValue alike) where
-      places : (v w : V) (P Q : List (Option B) → Type 0) (o p : List (Option B)) → alike v w → OneInPlace v P o → OneInPlace w Q p → ((o' p' : List (Option B)) → P o' → Q p' → Comparable o' p') → Comparable o p
-      places v w P Q o p a (inl e) q rest = subst (λ k. Comparable k p) (sym e) tt
-      places v w P Q o p a (inr r) (inl e) rest = subst (λ k. Comparable o k) (sym e) (comparable_nil (λ x y. x ≡ y) o)
-      places v w P Q o p a (inr r) (inr q) rest = rw (r.3, q.3) (ap (λ y. Some y) (value v w r.0 q.0 a r.1 q.1), rest r.2 q.2 r.4 q.4)
+    module _ (like : Sameness A) (same : Sameness B) {alike : V → V → Type 0} {agree : F → F → Type 0} (m : MatchesFrom (SameItem like) alike call agree)
+        (value : OneValue same alike) where
+      places : (v w : V) (P Q : List (Option B) → Type 0) (o p : List (Option B)) → alike v w → OneInPlace v P o → OneInPlace w Q p
+          → ((o' p' : List (Option B)) → P o' → Q p' → ComparableBy (SameAnswer same) o' p') → ComparableBy (SameAnswer same) o p
+      places v w P Q o p a (inl e) q rest = subst (λ k. ComparableBy (SameAnswer same) k p) (sym e) tt
+      places v w P Q o p a (inr r) (inl e) rest = subst (λ k. ComparableBy (SameAnswer same) o k) (sym e) (comparable_nil (SameAnswer same) o)
+      places v w P Q o p a (inr r) (inr q) rest =
+          rw (r.3, q.3) (same_answer same (one.hands v r.0 r.1).0 (one.hands w q.0 q.1).0 (value v w r.0 q.0 a r.1 q.1), rest r.2 q.2 r.4 q.4)
 
-      -- by a call that makes alike things of equal items
-      pub lingering_agreeing : Agreeing (Lingering call gives) (λ s t. agree s.0 t.0 × OptionBy alike s.1 t.1)
+      -- by a call that makes alike things of items that are like one another
+      pub lingering_agreeing : AgreeingOver like same (Lingering call gives) (λ s t. agree s.0 t.0 × OptionBy alike s.1 t.1)
       lingering_agreeing s t s' t' i j o p a r q c =
-          placed_from_same call OneInPlace (λ f k g l x y v w e b d d'. m f k g l x v w b d (subst (λ z. call k z w l) (sym e) d')) places
-          s.0 t.0 s.1 t.1 (strip i) (strip j) (strip o) (strip p) a.0 a.1 (items_same (λ x y. x ≡ y) i (strip j) (λ before after x e. refl) c) (placed_from s s' i o r) (placed_from t t' j p q)
+          placed_from_same call OneInPlace same m places s.0 t.0 s.1 t.1 (strip i) (strip j) (strip o) (strip p) a.0 a.1
+          (comparable_as (SameAnswer like) (OptionBy (SameItem like)) (answer_items like) (strip i) (strip j) c)
+          (placed_from s s' i o r) (placed_from t t' j p q)
 
 module _ {A : Type 0} (may : A → Type 0) where
   -- each part of a list has what all of it has

@@ -4,7 +4,7 @@ use Rattle.std.specs.Fn.{Mut}
 use Rattle.std.proofs.Common.{◌≡◌, ℕ, ◌+◌, ◌-◌, ◌^◌, ◌≤◌, List, [], ◌∷◌, ◌++◌, Option, Some, None, Bool, true, false, map, refl, subst, arith}
 use Rattle.futures.specs.declared.task.Poll.{Poll}
 use Rattle.futures.specs.declared.task.Poll.TheVariants.{Ready, Pending}
-use Rattle.lite_base.specs.Alike.{OptionBy}
+use Rattle.lite_base.specs.Alike.{OptionBy, SameItem, Sameness}
 use Rattle.lite_base.specs.Answers.{Answer, Gives, Waiting, item}
 use Rattle.lite_base.specs.Calm.{CalmLaws, Prompt}
 use Rattle.lite_base.specs.Future.Handed.{handed}
@@ -14,7 +14,7 @@ use Rattle.lite_base.specs.Laws.Calm.{prompt_join}
 use Rattle.lite_base.specs.Laws.Future.Spent.{shown_gives, spends_follow, spends_found, spends_rest, spends_stay}
 use Rattle.lite_base.specs.Laws.Hint.{same_hint}
 use Rattle.lite_base.specs.Laws.Promises.{call_promises}
-use Rattle.lite_base.specs.Steady.{FutureSteadyLaws, SteadyLaws}
+use Rattle.lite_base.specs.Steady.{FutureSteadyLawsBy, SteadyLawsBy}
 use Rattle.lite_base.specs.StreamLaws.{StreamLaws}
 use Rattle.lite_flatten.specs.FlatMap.{EachMade}
 use Rattle.lite_flatten.specs.Laws.Calming.{lingering_calm, through_calm_by}
@@ -22,8 +22,8 @@ use Rattle.lite_flatten.specs.Laws.Lingering.{Giving, GivingOne, count_held, lin
 use Rattle.lite_flatten.specs.Laws.SteadyLingering.{OneValue, lingering_agreeing, lingering_found}
 use Rattle.lite_flatten.specs.Then.{HandsOut, Thens, one_more_at_most, then_hint, then_parts}
 use Rattle.lite_flatten.specs.declared.then.Then.{Then}
-use Rattle.lite_base.specs.Calling.{AgreeBy, Calls}
-use Rattle.lite_base.specs.Laws.Calling.{agree_matches}
+use Rattle.lite_base.specs.Calling.{AgreeFrom, Calls}
+use Rattle.lite_base.specs.Laws.Calling.{agree_from_matches}
 use Rattle.lite_stream.specs.Laws.Agreeing.{through_steady_by}
 use Rattle.lite_stream.specs.Laws.Through.{laws_bounded}
 
@@ -85,16 +85,20 @@ then_laws call {gives = gives} laws laws' =
     let fewer = lingering_bounded call (HandsOut gives) hands_one (x.f, x.future) (y.f, y.future) h.ins l h.turned in
     same_hint hint (then_hint x.future e.0) l e.2 (then_bounded x.future e.0 _ _ fewer (laws.bounded x.stream y.stream e.0 h.ins e.1 h.came)))
 
-module _ {V B : Type 0} {gives found : V → List (Poll B) → V → Type 0} {none : Type 0} {alike : V → V → Type 0} (s : FutureSteadyLaws gives found none alike) where
-  hands_alike : OneValue (hands_one {run = found}) alike
+module _ {V B : Type 0} (same : Sameness B) {gives found : V → List (Poll B) → V → Type 0} {none : Type 0} {alike : V → V → Type 0}
+    (s : FutureSteadyLawsBy same gives found none alike) where
+  hands_alike : OneValue (hands_one {run = found}) same alike
   unfolding hands_one
   hands_alike v w l m a h k = alike_agrees found v w (s.steady v w a) h.ins k.ins h.value k.value h.finishes k.finishes
 
   -- by functions that make futures which are alike
-  pub then_steady : {S F A : Type 0} (call : F → A → V → F → Type 0) {run ample : S → List (Answer A) → S → Type 0} {none' : Type 0} {alike' : S → S → Type 0} → SteadyLaws run ample none' alike'
-      → SteadyLaws (Thens run call gives) (Thens ample call found) (none' × none) (λ (x y : Then S F V). alike' x.stream y.stream × (AgreeBy alike call x.f y.f × OptionBy alike x.future y.future))
-  then_steady call outer =
-      through_steady_by then_parts outer (lingering_following call (HandsOut found) (hands_giving s.laws)) (lingering_agreeing hands_one call (agree_matches alike call) hands_alike)
+  pub then_steady : {S F A : Type 0} (like : Sameness A) (call : F → A → V → F → Type 0) {run ample : S → List (Answer A) → S → Type 0}
+      {none' : Type 0} {alike' : S → S → Type 0} → SteadyLawsBy like run ample none' alike'
+      → SteadyLawsBy same (Thens run call gives) (Thens ample call found) (none' × none)
+      (λ (x y : Then S F V). alike' x.stream y.stream × (AgreeFrom (SameItem like) alike call x.f y.f × OptionBy alike x.future y.future))
+  then_steady like call outer =
+      through_steady_by then_parts like same outer (lingering_following call (HandsOut found) (hands_giving s.laws))
+      (lingering_agreeing hands_one call like same (agree_from_matches (SameItem like) alike call) hands_alike)
       (λ n. (n.0, lingering_found call (λ v l next h. spends_found (handed Some) (λ after. after ≡ []) (s.found n.1) (Some v) next l h)))
 
 handed_prompt : {B : Type 0} (l : List (Poll B)) → Prompt l → Prompt (map (handed Some) l)

@@ -1,9 +1,8 @@
 -- Laws of tales without their pendings.
 use Rattle.std.specs.Prelude.{⊤}
-use Rattle.std.proofs.Common.{◌≡◌, ◌∙◌, ℕ, List, [], ◌∷◌, ◌++◌, ap, refl, subst, sym}
+use Rattle.std.proofs.Common.{◌≡◌, ℕ, List, [], ◌∷◌, ◌++◌, ap, refl, subst, sym}
 use Rattle.lite_base.specs.Answers.{Comparable}
 use Rattle.lite_io_base.specs.Marks.{Mark, bytes}
-use Rattle.lite_io_base.specs.Runs.{Runs}
 use Rattle.lite_io_base.specs.Steady.{CalmReadLaws, NoWait, SteadyReadLaws, steady_read_always, unhurried}
 use Rattle.lite_io_base.specs.Laws.Told.{told_laws}
 use Rattle.lite_io_base.specs.Told.{Told}

@@ -1,21 +1,18 @@
 -- `split`, `lines` and `read_until` do not depend on when their reader was pending, where memory was found.
-use Rattle.std.proofs.Common.{◌≡◌, ◌∙◌, ℕ, List, [], ◌∷◌, ◌++◌, Option, Result, Ok, Err, Global, length, refl, ap, sym, subst}
+use Rattle.std.proofs.Common.{◌≡◌, ◌∙◌, ℕ, [], ◌∷◌, ◌++◌, Ok, Err, Global, length, ap, sym, subst}
 use Rattle.std.proofs.lemmas.Str.{IsUtf8-string_bytes}
 use Rattle.std.specs.Prelude.{IsUtf8, string_bytes, ⊤}
-use Rattle.std.specs.IoError.{error_kind}
-use Rattle.std.specs.declared.io.Error.{Error}
 use Rattle.std.specs.declared.string.String.{String}
 use Rattle.std.specs.declared.vec.Vec.{Vec}
-use Rattle.futures.specs.declared.task.Poll.{Poll}
-use Rattle.lite_base.specs.Answers.{ComparableBy, strip}
 use Rattle.lite_base.specs.Calm.{CalmLaws}
+use Rattle.lite_base.specs.Alike.{Sameness}
 use Rattle.lite_base.specs.Steady.{FutureSteadyLawsBy}
 use Rattle.lite_io_base.specs.Marks.{Mark}
 use Rattle.lite_io_base.specs.Runs.{Runs}
 use Rattle.lite_io_base.specs.Steady.{CalmReadLaws, SteadyReadLaws}
 use Rattle.lite_read.specs.Gathering.{Gathered}
 use Rattle.lite_read.specs.Laws.Settling.{gathered_alike, gathers_prompt}
-use Rattle.lite_read.specs.Settling.{SameByKind, SameOr, Settles}
+use Rattle.lite_read.specs.Settling.{SameByKind, Settles}
 use Rattle.lite_lines.specs.Laws.ReadUntil.{until_laws}
 use Rattle.lite_lines.specs.Laws.Settling.{BecomesOne, MakesOne, pieces_settle}
 use Rattle.lite_lines.specs.Pieces.{Cut}
@@ -75,7 +72,7 @@ module _ {R : Type 0} where
 
   module _ {reads : Runs Mark R} where
     pub until_steady : {ample : Runs Mark R} {needs_none : Type 0} {alike : R → R → Type 0} → SteadyReadLaws reads ample needs_none alike
-        → FutureSteadyLawsBy SameByKind (ReadsUntil reads ⊤) (ReadsUntil ample ⊥) ⊥ (UntilAlike alike)
+        → FutureSteadyLawsBy (Sameness.by SameByKind) (ReadsUntil reads ⊤) (ReadsUntil ample ⊥) ⊥ (UntilAlike alike)
     until_steady {ample} s =
         record {
           laws = until_laws ⊥ s.laws;

@@ -1,22 +1,22 @@
 -- What is cut out of one tale is the same wherever its pendings stand.
 use Rattle.std.specs.Prelude.{⊤}
-use Rattle.std.proofs.Common.{◌≡◌, ◌≢◌, ◌<◌, ◌∙◌, ◌+◌, ℕ, List, [], ◌∷◌, ◌++◌, Option, Some, None, Result, Ok, Err, inl, inr, length, refl, ap, sym, subst, arith, append_assoc}
+use Rattle.std.proofs.Common.{◌≡◌, ◌≢◌, ◌<◌, ◌∙◌, ℕ, List, [], ◌∷◌, ◌++◌, Option, Some, None, Result, inl, inr, length, refl, ap, sym, subst, arith, append_assoc}
 use Rattle.std.specs.IoError.{error_kind}
 use Rattle.std.specs.declared.io.Error.{Error}
 use Rattle.futures.specs.declared.task.Poll.{Poll}
 use Rattle.futures.specs.declared.task.Poll.TheVariants.{Ready, Pending}
-use Rattle.lite_base.specs.Alike.{OptionBy}
-use Rattle.lite_base.specs.Answers.{Comparable, ComparableBy, strip}
+use Rattle.lite_base.specs.Alike.{OptionBy, Sameness}
+use Rattle.lite_base.specs.Answers.{Comparable, strip}
 use Rattle.lite_base.specs.Calm.{CalmLaws, Prompt}
+use Rattle.lite_base.specs.Steady.{SteadyLawsBy}
 use Rattle.lite_base.specs.StreamLaws.{runs_of}
 use Rattle.lite_io_base.specs.Laws.Steady.{no_wait_parts}
 use Rattle.lite_io_base.specs.Marks.{Mark, bytes}
-use Rattle.lite_io_base.specs.Runs.{RunLaws, Runs}
+use Rattle.lite_io_base.specs.Runs.{Runs}
 use Rattle.lite_io_base.specs.Steady.{CalmReadLaws, NoWait, SteadyReadLaws, unhurried}
 use Rattle.lite_read.specs.Gathering.{Gather}
 use Rattle.lite_read.specs.Laws.Settling.{past_pending, past_value, settled_alike, settled_behind}
 use Rattle.lite_read.specs.Settling.{SameOr, Settled, Settles}
-use Rattle.lite_read.specs.SteadyBy.{SteadyLawsBy}
 use Rattle.lite_lines.specs.Laws.Segments.{flow_laws}
 use Rattle.lite_lines.specs.Pieces.{Cut, Cuts, Itemised, pieces}
 use Rattle.lite_lines.specs.Segments.{Flows, Over, Segments}
@@ -176,7 +176,7 @@ module _ {X S M K : Type 0} (over : Over X S M K) where
 module _ {X S M K A : Type 0} (over : Over X S M K) where
   pub flow_steady : {same : A → A → Type 0} {reads ample : Runs Mark S} {needs_none : Type 0} {alike : S → S → Type 0} (refusing gather : K → Gather M (Option A))
       → ((k : K) → Settles (OptionBy same) (gather k)) → SteadyReadLaws reads ample needs_none alike
-      → SteadyLawsBy same (Flows over refusing reads) (Flows over gather ample) ⊥ (FlowAlike over alike)
+      → SteadyLawsBy (Sameness.by same) (Flows over refusing reads) (Flows over gather ample) ⊥ (FlowAlike over alike)
   flow_steady {same} {ample = ample} {alike = alike} refusing gather settles s =
       record {
         laws = runs_of (flow_laws over gather s.laws);

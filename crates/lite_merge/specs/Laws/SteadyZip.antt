@@ -2,9 +2,10 @@
 use Rattle.std.proofs.Common.{◌≡◌, ◌∙◌, ℕ, zero, suc, List, [], ◌∷◌, Option, Some, None, inl, inr, refl, ap, subst, sym}
 use Rattle.futures.specs.declared.task.Poll.{Poll}
 use Rattle.futures.specs.declared.task.Poll.TheVariants.{Ready, Pending}
-use Rattle.lite_base.specs.Answers.{Answer, Comparable, strip}
-use Rattle.lite_base.specs.Laws.Alike.{comparable_nil}
-use Rattle.lite_base.specs.Steady.{SteadyLaws}
+use Rattle.lite_base.specs.Alike.{Pairwise, SameAnswer, SameHeld, SameItem, Sameness}
+use Rattle.lite_base.specs.Answers.{Answer, ComparableBy, strip}
+use Rattle.lite_base.specs.Laws.Alike.{both_items, comparable_nil, ends_same, held_same, item_same, pairs_same, same_answer}
+use Rattle.lite_base.specs.Steady.{SteadyLawsBy}
 use Rattle.lite_merge.specs.Laws.Zip.{zip_runs}
 use Rattle.lite_merge.specs.Zip.{Held, Pairing, Pairs, Zips, pair_with, pendings}
 use Rattle.lite_merge.specs.declared.zip.Zip.{Zip}
@@ -60,38 +61,48 @@ module _ {A B : Type 0} where
   matching None g i j l c = matched g i j l c
   matching (Some x) g i j l c = met x i j l g (λ more rest e. matched g i more rest e) c
 
-  meets_same : (x y : A) (P Q : List (Option B) → List (Option (A × B)) → Type 0) (j k : List (Option B)) (o p : List (Option (A × B))) → x ≡ y
-      → ((more more' : List (Option B)) (rest rest' : List (Option (A × B))) → P more rest → Q more' rest' → Comparable more more' → Comparable rest rest')
-      → Meets x P j o → Meets y Q k p → Comparable j k → Comparable o p
-  meets_same x y P Q [] k o p e rest r q d = subst (λ l. Comparable l p) (sym r) tt
-  meets_same x y P Q (b ∷ j) [] o p e rest r q d = subst (λ l. Comparable o l) (sym q) (comparable_nil (λ x y. x ≡ y) o)
-  meets_same x y P Q (b ∷ j) (c ∷ k) o p e rest r q d =
-      let same : with_other x b ≡ with_other y c = (let d' = d.0 in cc) in
-      rw (r.1, q.1) (same, rest j k r.0 q.0 r.2 q.2 d.1)
+  module _ (same : Sameness A) (other : Sameness B) where
+    abbrev Out : List (Option (A × B)) → List (Option (A × B)) → Type 0
+    Out = ComparableBy (SameAnswer (Pairwise same other))
 
-  matched_same : (i k : List (Option A)) (j h : List (Option B)) (o p : List (Option (A × B))) → Matched i j o → Matched k h p → Comparable i k → Comparable j h → Comparable o p
-  matched_same [] k j h o p r q c d = subst (λ l. Comparable l p) (sym r) tt
-  matched_same (x ∷ i) [] j h o p r q c d = subst (λ l. Comparable o l) (sym q) (comparable_nil (λ x y. x ≡ y) o)
-  matched_same (None ∷ i) (None ∷ k) j h o p r q c d = rw (r.1, q.1) (refl, matched_same i k j h r.0 q.0 r.2 q.2 c.1 d)
-  matched_same (None ∷ i) (Some y ∷ k) j h o p r q c d = absurd (let e = c.0 in cc)
-  matched_same (Some x ∷ i) (None ∷ k) j h o p r q c d = absurd (let e = c.0 in cc)
-  matched_same (Some x ∷ i) (Some y ∷ k) j h o p r q c d =
-      meets_same x y (Matched i) (Matched k) j h o p (let e = c.0 in cc) (λ more more' rest rest' u v w. matched_same i k more more' rest rest' u v c.1 w) r q d
+    other_same : (x y : A) (b c : Option B) → SameItem same x y → SameAnswer other b c → SameAnswer (Pairwise same other) (with_other x b) (with_other y c)
+    other_same x y None None e d = ends_same (Pairwise same other)
+    other_same x y None (Some c) e d = absurd (both_items other None (Some c) d)
+    other_same x y (Some b) None e d = absurd (both_items other (Some b) None d)
+    other_same x y (Some b) (Some c) e d = same_answer (Pairwise same other) (x, b) (y, c) (pairs_same same other (x, b) (y, c) e (item_same other b c d))
 
-  matching_same : (f : Option A) (i k : List (Option A)) (j h : List (Option B)) (o p : List (Option (A × B))) → Matching f i j o → Matching f k h p → Comparable i k → Comparable j h → Comparable o p
-  matching_same None i k j h o p r q c d = matched_same i k j h o p r q c d
-  matching_same (Some x) i k j h o p r q c d = meets_same x x (Matched i) (Matched k) j h o p refl (λ more more' rest rest' u v w. matched_same i k more more' rest rest' u v c w) r q d
+    meets_same : (x y : A) (P Q : List (Option B) → List (Option (A × B)) → Type 0) (j k : List (Option B)) (o p : List (Option (A × B))) → SameItem same x y
+        → ((more more' : List (Option B)) (rest rest' : List (Option (A × B))) → P more rest → Q more' rest' → ComparableBy (SameAnswer other) more more' → Out rest rest')
+        → Meets x P j o → Meets y Q k p → ComparableBy (SameAnswer other) j k → Out o p
+    meets_same x y P Q [] k o p e rest r q d = subst (λ l. Out l p) (sym r) tt
+    meets_same x y P Q (b ∷ j) [] o p e rest r q d = subst (λ l. Out o l) (sym q) (comparable_nil (SameAnswer (Pairwise same other)) o)
+    meets_same x y P Q (b ∷ j) (c ∷ k) o p e rest r q d = rw (r.1, q.1) (other_same x y b c e d.0, rest j k r.0 q.0 r.2 q.2 d.1)
 
-module _ {S U A B : Type 0} {run ample : S → List (Answer A) → S → Type 0} {run' ample' : U → List (Answer B) → U → Type 0} {none none' : Type 0} {alike : S → S → Type 0} {alike' : U → U → Type 0} where
+    matched_same : (i k : List (Option A)) (j h : List (Option B)) (o p : List (Option (A × B))) → Matched i j o → Matched k h p → ComparableBy (SameAnswer same) i k → ComparableBy (SameAnswer other) j h → Out o p
+    matched_same [] k j h o p r q c d = subst (λ l. Out l p) (sym r) tt
+    matched_same (x ∷ i) [] j h o p r q c d = subst (λ l. Out o l) (sym q) (comparable_nil (SameAnswer (Pairwise same other)) o)
+    matched_same (None ∷ i) (None ∷ k) j h o p r q c d = rw (r.1, q.1) (ends_same (Pairwise same other), matched_same i k j h r.0 q.0 r.2 q.2 c.1 d)
+    matched_same (None ∷ i) (Some y ∷ k) j h o p r q c d = absurd (both_items same None (Some y) c.0)
+    matched_same (Some x ∷ i) (None ∷ k) j h o p r q c d = absurd (both_items same (Some x) None c.0)
+    matched_same (Some x ∷ i) (Some y ∷ k) j h o p r q c d =
+        meets_same x y (Matched i) (Matched k) j h o p (item_same same x y c.0) (λ more more' rest rest' u v w. matched_same i k more more' rest rest' u v c.1 w) r q d
+
+    matching_same : (f g : Option A) (i k : List (Option A)) (j h : List (Option B)) (o p : List (Option (A × B))) → SameAnswer same f g → Matching f i j o → Matching g k h p → ComparableBy (SameAnswer same) i k → ComparableBy (SameAnswer other) j h → Out o p
+    matching_same None None i k j h o p e r q c d = matched_same i k j h o p r q c d
+    matching_same None (Some y) i k j h o p e r q c d = absurd (both_items same None (Some y) e)
+    matching_same (Some x) None i k j h o p e r q c d = absurd (both_items same (Some x) None e)
+    matching_same (Some x) (Some y) i k j h o p e r q c d = meets_same x y (Matched i) (Matched k) j h o p (item_same same x y e) (λ more more' rest rest' u v w. matched_same i k more more' rest rest' u v c w) r q d
+
+module _ {S U A B : Type 0} {run ample : S → List (Answer A) → S → Type 0} {run' ample' : U → List (Answer B) → U → Type 0} {none none' : Type 0} {alike : S → S → Type 0} {alike' : U → U → Type 0} (same : Sameness A) (other : Sameness B) where
   -- where they hold the same
-  pub zip_steady : SteadyLaws run ample none alike → SteadyLaws run' ample' none' alike'
-      → SteadyLaws (Zips run run') (Zips ample ample') (none × none') (λ (x y : Zip S U A). alike x.first y.first × alike' x.second y.second × (y.item_slot ≡ x.item_slot))
+  pub zip_steady : SteadyLawsBy same run ample none alike → SteadyLawsBy other run' ample' none' alike'
+      → SteadyLawsBy (Pairwise same other) (Zips run run') (Zips ample ample') (none × none') (λ (x y : Zip S U A). alike x.first y.first × alike' x.second y.second × SameHeld same x.item_slot y.item_slot)
   zip_steady s u =
       record {
         laws = zip_runs s.laws u.laws;
         steady = λ x y e l m x' y' h k.
-            matching_same x.item_slot (strip h.firsts) (strip k.firsts) (strip h.seconds) (strip k.seconds) (strip l) (strip m) (matching x.item_slot x'.item_slot h.firsts h.seconds l h.paired)
-            (subst (λ o. Matching o (strip k.firsts) (strip k.seconds) (strip m)) e.2 (matching y.item_slot y'.item_slot k.firsts k.seconds m k.paired))
+            matching_same same other x.item_slot y.item_slot (strip h.firsts) (strip k.firsts) (strip h.seconds) (strip k.seconds) (strip l) (strip m) (held_same same x.item_slot y.item_slot e.2)
+            (matching x.item_slot x'.item_slot h.firsts h.seconds l h.paired) (matching y.item_slot y'.item_slot k.firsts k.seconds m k.paired)
             (s.steady x.first y.first e.0 h.firsts k.firsts x'.first y'.first h.came k.came) (u.steady x.second y.second e.1 h.seconds k.seconds x'.second y'.second h.then_came k.then_came);
         found = λ n x y l h.
             record { firsts = h.firsts; seconds = h.seconds; came = s.found n.0 x.first y.first h.firsts h.came; then_came = u.found n.1 x.second y.second h.seconds h.then_came; paired = h.paired };

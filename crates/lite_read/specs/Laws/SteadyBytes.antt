@@ -6,9 +6,10 @@ use Rattle.std.specs.declared.io.Error.{Error}
 use Rattle.std.specs.declared.io.ErrorKind.{ErrorKind}
 use Rattle.std.specs.declared.io.ErrorKind.TheVariants.{Interrupted}
 use Rattle.futures.specs.declared.task.Poll.TheVariants.{Ready, Pending}
-use Rattle.lite_base.specs.Alike.{OptionBy}
+use Rattle.lite_base.specs.Alike.{OptionBy, Sameness}
 use Rattle.lite_base.specs.Answers.{Answer, Comparable, ComparableBy, strip}
 use Rattle.lite_base.specs.Laws.Alike.{comparable_nil}
+use Rattle.lite_base.specs.Steady.{SteadyLawsBy}
 use Rattle.lite_base.specs.StreamLaws.{runs_of}
 use Rattle.lite_io_base.specs.Marks.{Mark}
 use Rattle.lite_io_base.specs.Runs.{Runs}
@@ -16,7 +17,6 @@ use Rattle.lite_io_base.specs.Steady.{SteadyReadLaws, unhurried}
 use Rattle.lite_read.specs.Bytes.{Tells, TellsEach}
 use Rattle.lite_read.specs.Laws.Bytes.{bytes_laws}
 use Rattle.lite_read.specs.Settling.{SameByKind}
-use Rattle.lite_read.specs.SteadyBy.{SteadyLawsBy}
 use Rattle.lite_read.specs.declared.bytes.Bytes.{Bytes}
 
 abbrev Item : Type 0
@@ -87,7 +87,7 @@ say_same (Mark.fault kind ∷ i) (n ∷ j) l m h k c =
 
 module _ {R : Type 0} {reads ample : Runs Mark R} {needs_none : Type 0} {alike : R → R → Type 0} where
   pub bytes_steady : SteadyReadLaws reads ample needs_none alike
-      → SteadyLawsBy SameByKind (Tells reads) (Tells ample) needs_none (λ (x y : Bytes R). alike x.inner y.inner)
+      → SteadyLawsBy (Sameness.by SameByKind) (Tells reads) (Tells ample) needs_none (λ (x y : Bytes R). alike x.inner y.inner)
   bytes_steady s =
       record {
         laws = runs_of (bytes_laws s.laws);

@@ -7,6 +7,7 @@ use Rattle.std.specs.declared.io.Error.{Error}
 use Rattle.futures.specs.declared.task.Poll.{Poll}
 use Rattle.lite_base.specs.Answers.{Comparable, ComparableBy, strip}
 use Rattle.lite_base.specs.Calm.{CalmLaws}
+use Rattle.lite_base.specs.Alike.{Sameness}
 use Rattle.lite_base.specs.Steady.{FutureSteadyLawsBy}
 use Rattle.lite_io_base.specs.Marks.{Mark}
 use Rattle.lite_io_base.specs.Runs.{Runs}
@@ -88,7 +89,7 @@ module _ {R : Type 0} {reads : Runs Mark R} where
         let came = s.found n x.reader.now y.reader.now g.marks g.came in
         record { gathered = record { marks = g.marks; came = came; gathered = g.gathered }; stays = h.stays; idle = h.idle }
 
-    pub exact_steady : FutureSteadyLawsBy SameByKind (ReadsExactly reads) (ReadsExactly ample) needs_none (ExactAlike alike)
+    pub exact_steady : FutureSteadyLawsBy (Sameness.by SameByKind) (ReadsExactly reads) (ReadsExactly ample) needs_none (ExactAlike alike)
     exact_steady = record { laws = exact_laws s.laws; steady = λ x y e l m x' y'. one_answer x y l m x' y' e; found = all_ample }
 
   pub exact_calm : {is_calm : R → Type 0} → CalmReadLaws reads is_calm → CalmLaws (ReadsExactly reads) (λ x. is_calm x.reader.now)

@@ -7,6 +7,7 @@ use Rattle.std.specs.declared.io.ErrorKind.{ErrorKind}
 use Rattle.futures.specs.declared.task.Poll.{Poll}
 use Rattle.lite_base.specs.Answers.{Comparable, ComparableBy, strip}
 use Rattle.lite_base.specs.Calm.{CalmLaws}
+use Rattle.lite_base.specs.Alike.{Sameness}
 use Rattle.lite_base.specs.Steady.{FutureSteadyLawsBy}
 use Rattle.lite_io_base.specs.Marks.{Mark}
 use Rattle.lite_io_base.specs.Runs.{Runs}
@@ -83,7 +84,7 @@ module _ {R A : Type 0} where
           gathered_alike (appends ⊥ x.start) (appends_settles x.start) s x.reader.now y.reader.now x'.reader.now y'.reader.now (bytes_of x) (bytes_of x')
           (bytes_of y') l m e.0 h.gathered other
 
-      pub to_end_steady : FutureSteadyLawsBy SameByKind (ReadsToEnd ⊤ reads) (ReadsToEnd ⊥ ample) ⊥ (ToEndAlike alike)
+      pub to_end_steady : FutureSteadyLawsBy (Sameness.by SameByKind) (ReadsToEnd ⊤ reads) (ReadsToEnd ⊥ ample) ⊥ (ToEndAlike alike)
       to_end_steady = record { laws = append_laws ⊥ s.laws; steady = λ x y e l m x' y'. one_answer x y l m x' y' e; found = λ n. absurd n }
 
     pub to_end_calm : {is_calm : R → Type 0} → CalmReadLaws reads is_calm → CalmLaws (ReadsToEnd ⊤ reads) (λ (x : ReadToEndFuture R A). is_calm x.reader.now)

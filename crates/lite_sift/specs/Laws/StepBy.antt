@@ -1,15 +1,16 @@
 -- Laws of `step_by`. What is counted down says which number comes next.
 use Rattle.std.proofs.Common.{◌≡◌, ◌∙◌, ℕ, ◌+◌, ◌%◌, ◌<◌, ◌≤◌, ◌-◌, List, [], ◌∷◌, ◌++◌, Option, Some, None, refl, ap, subst, sym, append-nil, arith}
 use Rattle.std.proofs.Math.Nat.{add-mod-mod, mod_self, mod-add-mod, mod-eq_of_lt}
+use Rattle.lite_base.specs.Alike.{OptionBy, SameAnswer, Sameness}
 use Rattle.lite_base.specs.Answers.{Answer, before_end, strip}
 use Rattle.lite_base.specs.Rank.{Lowers}
 use Rattle.lite_base.specs.Laws.Alike.{comparable_nil}
-use Rattle.lite_base.specs.Laws.Calling.{Matches}
-use Rattle.lite_stream.specs.Laws.Agreeing.{Agreeing}
+use Rattle.lite_base.specs.Laws.Calling.{MatchesFrom}
+use Rattle.lite_stream.specs.Laws.Agreeing.{AgreeingOver}
 use Rattle.lite_stream.specs.Laws.Calming.{Calming}
 use Rattle.lite_stream.specs.Laws.Through.{Turning}
 use Rattle.lite_stream.specs.Through.{Through}
-use Rattle.lite_sift.specs.Laws.Agreeing.{leaves_agreeing}
+use Rattle.lite_sift.specs.Laws.Agreeing.{leaves_showing}
 use Rattle.lite_sift.specs.Laws.Leaving.{leaves_as, leaves_calming, leaves_turning}
 use Rattle.lite_sift.specs.Leaving.{Leaves}
 use Rattle.lite_sift.specs.StepBy.{IsAt, Numbered, StepsOn}
@@ -140,19 +141,19 @@ next_remainder s n m e = sym (mod-add-mod n s 1) ∙ ap (λ k. (k + 1) % s) e �
 
 module _ {A : Type 0} where
   -- from numbers that differ by multiples of the step, the same items are kept
-  numbered_match : (s : ℕ) → Matches (λ y z. y ≡ z) (Numbered {A = A} s) (λ n m. n % s ≡ m % s)
-  numbered_match s n m p q x None None e a c = rw (a.0, c.0) (refl, next_remainder s n m e)
-  numbered_match s n m p q x None (Some z) e a c = absurd (a.1 (e ∙ c.1))
-  numbered_match s n m p q x (Some y) None e a c = absurd (c.1 (sym e ∙ a.1))
-  numbered_match s n m p q x (Some y) (Some z) e a c = rw (a.0, c.0) (ap (λ v. Some v) (a.2 ∙ sym c.2), next_remainder s n m e)
+  numbered_match : (s : ℕ) (like : A → A → Type 0) → MatchesFrom like (OptionBy like) (Numbered {A = A} s) (λ n m. n % s ≡ m % s)
+  numbered_match s like n m p q x w None None e h a c = rw (a.0, c.0) (tt, next_remainder s n m e)
+  numbered_match s like n m p q x w None (Some z) e h a c = absurd (a.1 (e ∙ c.1))
+  numbered_match s like n m p q x w (Some y) None e h a c = absurd (c.1 (sym e ∙ a.1))
+  numbered_match s like n m p q x w (Some y) (Some z) e h a c = rw (a.0, c.0, a.2, c.2) (h, next_remainder s n m e)
 
   -- from one step and one count on
-  pub steps_agreeing : Agreeing (StepsOn {A = A}) (λ p q. (q.0 ≡ p.0) × (q.1 ≡ p.1))
-  steps_agreeing p q r t i j [] l e h k c = tt
-  steps_agreeing p q r t i j (a ∷ o) [] e h k c = comparable_nil (λ x y. x ≡ y) (strip (a ∷ o))
-  steps_agreeing p q r t i j (a ∷ o) (b ∷ l) e h k c =
+  pub steps_agreeing : (like : Sameness A) → AgreeingOver like like (StepsOn {A = A}) (λ p q. (q.0 ≡ p.0) × (q.1 ≡ p.1))
+  steps_agreeing like p q r t i j [] l e h k c = tt
+  steps_agreeing like p q r t i j (a ∷ o) [] e h k c = comparable_nil (SameAnswer like) (strip (a ∷ o))
+  steps_agreeing like p q r t i j (a ∷ o) (b ∷ l) e h k c =
       let at : (k.1 + p.1) % p.0 ≡ 0 = subst (λ z. (k.1 + z) % p.0 ≡ 0) e.1 (subst (λ z. (k.1 + q.1) % z ≡ 0) e.0 k.3.1) in
-      leaves_agreeing (Numbered p.0) (numbered_match p.0) h.1 k.1 h.2 k.2 i j (a ∷ o) (b ∷ l) (same_remainder p.0 h.1 k.1 p.1 h.3.1 at) h.5
+      leaves_showing (Numbered p.0) (numbered_match p.0) like h.1 k.1 h.2 k.2 i j (a ∷ o) (b ∷ l) (same_remainder p.0 h.1 k.1 p.1 h.3.1 at) h.5
       (subst (λ z. Leaves (Numbered z) k.1 j (b ∷ l) k.2) e.0 k.5) c
 
   -- no Pending is made up

@@ -3,7 +3,7 @@ use Rattle.std.proofs.Common.{◌≡◌, ◌≤◌, ◌∙◌, ℕ, List, [], �
 use Rattle.std.specs.Prelude.{IfSome}
 use Rattle.std.specs.List.{AllByRecursion}
 use Rattle.futures.specs.declared.task.Poll.TheVariants.{Ready, Pending}
-use Rattle.lite_base.specs.Answers.{Answer, Comparable, before_end, item, strip}
+use Rattle.lite_base.specs.Answers.{Answer, ComparableBy, before_end, item, strip}
 use Rattle.lite_base.specs.Calm.{Prompt}
 use Rattle.lite_base.specs.Laws.All.{all_append}
 use Rattle.lite_base.specs.Laws.Hint.{same_hint}
@@ -51,11 +51,12 @@ module _ {S A : Type 0} (may : S → Answer A → Type 0) where
         }
 
 module _ {A : Type 0} (b : Option A) where
-  -- lists of one answer
-  pub answers_same : (l m : List (Answer A)) → AllByRecursion (λ a. a ≡ Ready b) l → AllByRecursion (λ a. a ≡ Ready b) m → Comparable (strip l) (strip m)
-  answers_same [] m h k = tt
-  answers_same (a ∷ l) [] h k = rw h.0 tt
-  answers_same (a ∷ l) (c ∷ m) h k = rw (h.0, k.0) (refl, answers_same l m h.1 k.1)
+  -- lists of one answer, which is the same as itself
+  pub answers_same : (same : Option A → Option A → Type 0) → same b b → (l m : List (Answer A)) → AllByRecursion (λ a. a ≡ Ready b) l
+      → AllByRecursion (λ a. a ≡ Ready b) m → ComparableBy same (strip l) (strip m)
+  answers_same same itself [] m h k = tt
+  answers_same same itself (a ∷ l) [] h k = rw h.0 tt
+  answers_same same itself (a ∷ l) (c ∷ m) h k = rw (h.0, k.0) (itself, answers_same same itself l m h.1 k.1)
 
   pub answers_prompt : (l : List (Answer A)) → AllByRecursion (λ a. a ≡ Ready b) l → Prompt l
   answers_prompt [] h = tt

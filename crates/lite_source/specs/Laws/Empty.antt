@@ -1,6 +1,6 @@
 -- Laws of `empty`.
 use Rattle.std.specs.Prelude.{⊤}
-use Rattle.std.proofs.Common.{◌≡◌, Some, None}
+use Rattle.std.proofs.Common.{◌≡◌, Some, None, refl}
 use Rattle.lite_base.specs.Answers.{end}
 use Rattle.lite_base.specs.Calm.{CalmLaws}
 use Rattle.lite_base.specs.Ranks.{Counting}
@@ -18,7 +18,7 @@ module _ {S A : Type 0} where
   empty_counting = itemless_counting (λ _ a. a ≡ end) (λ s x e. cc e)
 
   pub empty_steady : Steadiness (Ends {S = S} {A = A}) (λ x y. ⊤)
-  empty_steady x y e l m x' y' h k = answers_same None l m h.0 k.0
+  empty_steady x y e l m x' y' h k = answers_same None (λ a b. a ≡ b) refl l m h.0 k.0
 
   pub empty_calm : CalmLaws (Ends {S = S} {A = A}) (λ x. ⊤)
   empty_calm = record { prompt = λ x y l k h. answers_prompt None l h.0; calm_on = λ x y l k h. tt }

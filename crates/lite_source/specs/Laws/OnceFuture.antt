@@ -5,13 +5,13 @@ use Rattle.std.specs.List.{AllByRecursion}
 use Rattle.std.specs.Option.{option_len}
 use Rattle.futures.specs.declared.task.Poll.{Poll}
 use Rattle.futures.specs.declared.task.Poll.TheVariants.{Ready, Pending}
-use Rattle.lite_base.specs.Alike.{OptionBy}
-use Rattle.lite_base.specs.Answers.{Answer, Comparable, Waiting, end, strip}
+use Rattle.lite_base.specs.Alike.{OptionBy, SameAnswer, SameItem, Sameness}
+use Rattle.lite_base.specs.Answers.{Answer, ComparableBy, Waiting, end, strip}
 use Rattle.lite_base.specs.Calm.{CalmLaws, Prompt}
 use Rattle.lite_base.specs.Falling.{Lowers-below}
 use Rattle.lite_base.specs.Future.Spent.{Spends}
 use Rattle.lite_base.specs.FutureLaws.{FutureLaws}
-use Rattle.lite_base.specs.Laws.Alike.{alike_agrees, comparable_nil}
+use Rattle.lite_base.specs.Laws.Alike.{alike_agrees, comparable_nil, ends_same, same_answer}
 use Rattle.lite_base.specs.Laws.All.{all_append}
 use Rattle.lite_base.specs.Laws.Calm.{prompt_join}
 use Rattle.lite_base.specs.Laws.Future.Handed.{handed_gives, handed_prompt, handed_waits}
@@ -19,7 +19,7 @@ use Rattle.lite_base.specs.Laws.Future.Spent.{spends_found, spends_follow, spend
 use Rattle.lite_base.specs.Laws.Hint.{same_hint}
 use Rattle.lite_base.specs.Rank.{AtMost, Lowers}
 use Rattle.lite_base.specs.Ranks.{Counting, number_counting}
-use Rattle.lite_base.specs.Steady.{FutureSteadyLaws, Steadiness, SteadyLaws}
+use Rattle.lite_base.specs.Steady.{FutureSteadyLawsBy, SteadinessBy, SteadyLawsBy}
 use Rattle.lite_base.specs.StreamLaws.{StreamLaws, runs_of}
 use Rattle.lite_base.specs.Future.Handed.{handed}
 use Rattle.lite_source.specs.OnceFuture.{GivesFuture, once_future_ranks}
@@ -52,26 +52,29 @@ module _ {F A : Type 0} (run : F → List (Poll A) → F → Type 0) where
 abbrev Handing : {F A : Type 0} → (F → List (Poll A) → F → Type 0) → Option F → List (Answer A) → Option F → Type 0
 Handing run = Spends run (handed (λ v. Some v)) (AllByRecursion (λ a. a ≡ end))
 
-module _ {F A : Type 0} {run : F → List (Poll A) → F → Type 0} {alike : F → F → Type 0} (s : Steadiness run alike) where
-  handing_same : (f g f' g' : Option F) (l m : List (Answer A)) → OptionBy alike f g → Handing run f l f' → Handing run g m g' → Comparable (strip l) (strip m)
-  handing_same None None f' g' l m e h k = answers_same None l m h.0 k.0
+module _ {F A : Type 0} (same : Sameness A) {run : F → List (Poll A) → F → Type 0} {alike : F → F → Type 0} (s : SteadinessBy (SameItem same) run alike) where
+  handing_same : (f g f' g' : Option F) (l m : List (Answer A)) → OptionBy alike f g → Handing run f l f' → Handing run g m g'
+      → ComparableBy (SameAnswer same) (strip l) (strip m)
+  handing_same None None f' g' l m e h k = answers_same None (SameAnswer same) (ends_same same) l m h.0 k.0
   handing_same None (Some g) f' g' l m e h k = absurd e
   handing_same (Some f) None f' g' l m e h k = absurd e
   handing_same (Some f) (Some g) (Some f') g' l m e h k = let none = ap strip h.3 ∙ handed_waits (λ v. Some v) h.0 h.1 in rw none tt
   handing_same (Some f) (Some g) None (Some g') l m e h k =
       let none = ap strip k.3 ∙ handed_waits (λ v. Some v) k.0 k.1 in
-      rw none (comparable_nil (λ a b. a ≡ b) (strip l))
+      rw none (comparable_nil (SameAnswer same) (strip l))
   handing_same (Some f) (Some g) None None l m e h k =
       let one = ap strip h.joined ∙ handed_gives (λ v. Some v) h.ins h.after h.value h.finishes.gives in
       let two = ap strip k.joined ∙ handed_gives (λ v. Some v) k.ins k.after k.value k.finishes.gives in
-      rw (one, two) (ap (λ v. Some v) (alike_agrees run f g (s f g e) h.ins k.ins h.value k.value h.finishes k.finishes), answers_same None h.after k.after h.later k.later)
+      let values : SameItem same h.value k.value = alike_agrees run f g (s f g e) h.ins k.ins h.value k.value h.finishes k.finishes in
+      rw (one, two) (same_answer same h.value k.value values, answers_same None (SameAnswer same) (ends_same same) h.after k.after h.later k.later)
 
-pub once_future_steady : {F A : Type 0} {run ample : F → List (Poll A) → F → Type 0} {needs_none : Type 0} {alike : F → F → Type 0} → FutureSteadyLaws run ample needs_none alike
-    → SteadyLaws (GivesFuture run) (GivesFuture ample) needs_none (λ x y. OptionBy alike x.future y.future)
-once_future_steady s =
+pub once_future_steady : {F A : Type 0} (same : Sameness A) {run ample : F → List (Poll A) → F → Type 0} {needs_none : Type 0} {alike : F → F → Type 0}
+    → FutureSteadyLawsBy same run ample needs_none alike
+    → SteadyLawsBy same (GivesFuture run) (GivesFuture ample) needs_none (λ x y. OptionBy alike x.future y.future)
+once_future_steady same s =
     record {
       laws = runs_of (once_future_laws _ s.laws);
-      steady = λ x y e l m x' y'. handing_same s.steady x.future y.future x'.future y'.future l m e;
+      steady = λ x y e l m x' y'. handing_same same s.steady x.future y.future x'.future y'.future l m e;
       found = λ n x y l. spends_found (handed (λ v. Some v)) (AllByRecursion (λ a. a ≡ end)) (s.found n) x.future y.future l;
     }
 

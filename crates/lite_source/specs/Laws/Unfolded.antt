@@ -4,23 +4,24 @@ use Rattle.std.proofs.Common.{inl, inr, ◌≡◌, ◌∙◌, ◌⊎◌, ℕ, Li
 use Rattle.std.specs.Fn.{AlwaysReturns, Mut}
 use Rattle.std.specs.List.{AllByRecursion, FoldsTo}
 use Rattle.futures.specs.declared.task.Poll.{Poll}
-use Rattle.lite_base.specs.Answers.{Answer, Comparable, Waiting, end, strip}
+use Rattle.lite_base.specs.Alike.{OptionBy, SameAnswer, SameItem, Sameness}
+use Rattle.lite_base.specs.Answers.{Answer, ComparableBy, Waiting, end, strip}
 use Rattle.lite_base.specs.Calm.{CalmLaws, Prompt}
-use Rattle.lite_base.specs.Calling.{AgreeBy, Calls}
+use Rattle.lite_base.specs.Calling.{AgreeFrom, Calls}
 use Rattle.lite_base.specs.Future.Finishes.{Finishes}
 use Rattle.lite_base.specs.Future.Handed.{handed}
 use Rattle.lite_base.specs.FutureLaws.{FutureLaws}
-use Rattle.lite_base.specs.Laws.Alike.{alike_agrees}
+use Rattle.lite_base.specs.Laws.Alike.{alike_agrees, both_items, equal_options}
 use Rattle.lite_base.specs.Laws.Answers.{strip_join}
-use Rattle.lite_base.specs.Laws.Calling.{agree_matches}
+use Rattle.lite_base.specs.Laws.Calling.{agree_from_matches}
 use Rattle.lite_base.specs.Laws.Calm.{prompt_join}
 use Rattle.lite_base.specs.Laws.Future.Finishes.{finishes_found, finishes_later}
 use Rattle.lite_base.specs.Laws.Future.Handed.{handed_gives, handed_prompt, handed_waits}
 use Rattle.lite_base.specs.Laws.Promises.{call_promises}
-use Rattle.lite_base.specs.Steady.{FutureSteadyLaws, Steadiness, SteadyLaws, TakesNone}
+use Rattle.lite_base.specs.Steady.{FutureSteadyLawsBy, SteadinessBy, SteadyLawsBy, TakesNone}
 use Rattle.lite_base.specs.StreamLaws.{StreamLaws, runs_of}
 use Rattle.lite_source.specs.Laws.Always.{answers_prompt}
-use Rattle.lite_source.specs.Unfolding.{IfAsked, IsCurrent, Leads, Part, Holding, HoldingsBy, Unfolds, comes}
+use Rattle.lite_source.specs.Unfolding.{BothHave, IfAsked, IsCurrent, Leads, Part, PartOf, Holding, HoldingsBy, UnfoldAlike, Unfolds, comes}
 
 module _ {F S V O B : Type 0} (call : Mut F (S × Unit {0}) V) (gives : V → List (Poll O) → V → Type 0) (after : O → Option S) (shown : O → Option B) where
   -- the values of futures, one after the other, and after the last of them ends
@@ -63,10 +64,13 @@ module _ {F S V O B : Type 0} (call : Mut F (S × Unit {0}) V) (gives : V → Li
       let rest = flat_map (λ part. part.0 ∷ part.1) parts in
       subst (λ l. Values x.0 x.1 l) (sym (strip_join (part.0 ∷ part.1) rest)) (part_values laws x.0 h.0.0 x.1 h.0.1 (part.0 ∷ part.1) (strip rest) h.1 (unfolds_values laws h.0 y parts h.2))
 
--- by functions that make futures which are alike
-module _ {F S V O B : Type 0} (call : Mut F (S × Unit {0}) V) (ample : V → List (Poll O) → V → Type 0) {alike : V → V → Type 0} (s : Steadiness ample alike) (after : O → Option S) (shown : O → Option B) where
-  current_alike : (p k q l : F) (x y : Holding S V) (v w : V) → AgreeBy alike (Calls call) p k → HoldingsBy alike x y → IsCurrent call p x q v → IsCurrent call k y l w → alike v w × AgreeBy alike (Calls call) q l
-  current_alike p k q l (Holding.Seed r) (Holding.Seed t) v w a e c d = agree_matches alike (Calls call) p k q l r v w a c (subst (λ z. Calls call k z w l) (sym e) d)
+-- by functions that make futures which are alike: `same` of values, `like` of seeds, `shows` of what goes out
+module _ {F S V O B : Type 0} (call : Mut F (S × Unit {0}) V) (ample : V → List (Poll O) → V → Type 0) {alike : V → V → Type 0} {same : O → O → Type 0}
+    (like : S → S → Type 0) (shows : Option B → Option B → Type 0) (s : SteadinessBy same ample alike) (after : O → Option S) (shown : O → Option B) where
+  current_alike : (p k q l : F) (x y : Holding S V) (v w : V) → AgreeFrom like alike (Calls call) p k → HoldingsBy like alike x y → IsCurrent call p x q v
+      → IsCurrent call k y l w
+      → alike v w × AgreeFrom like alike (Calls call) q l
+  current_alike p k q l (Holding.Seed r) (Holding.Seed t) v w a e c d = agree_from_matches like alike (Calls call) p k q l r t v w a e c d
   current_alike p k q l (Holding.Seed r) (Holding.Asked t) v w a e c d = absurd e
   current_alike p k q l (Holding.Seed r) Holding.Over v w a e c d = absurd e
   current_alike p k q l (Holding.Asked r) (Holding.Seed t) v w a e c d = absurd e
@@ -75,31 +79,77 @@ module _ {F S V O B : Type 0} (call : Mut F (S × Unit {0}) V) (ample : V → Li
   current_alike p k q l Holding.Over y v w a e c d = absurd c
 
   -- one that is over has no future
-  not_over : (p q : F) (x : Holding S V) (v : V) → HoldingsBy alike x Holding.Over → IsCurrent call p x q v → ⊥
+  not_over : (p q : F) (x : Holding S V) (v : V) → HoldingsBy like alike x Holding.Over → IsCurrent call p x q v → ⊥
   not_over p q (Holding.Seed r) v e c = e
   not_over p q (Holding.Asked w) v e c = e
   not_over p q Holding.Over v e c = c
 
-  over_not : (p q : F) (x : Holding S V) (v : V) → HoldingsBy alike Holding.Over x → IsCurrent call p x q v → ⊥
+  over_not : (p q : F) (x : Holding S V) (v : V) → HoldingsBy like alike Holding.Over x → IsCurrent call p x q v → ⊥
   over_not p q (Holding.Seed r) v e c = e
   over_not p q (Holding.Asked w) v e c = e
   over_not p q Holding.Over v e c = c
 
-  comes_alike : (m : Option S) → HoldingsBy alike (comes m) (comes m)
-  comes_alike None = tt
-  comes_alike (Some r) = refl
+  comes_alike : (m n : Option S) → OptionBy like m n → HoldingsBy like alike (comes m) (comes n)
+  comes_alike None None e = tt
+  comes_alike None (Some t) e = absurd e
+  comes_alike (Some r) None e = absurd e
+  comes_alike (Some r) (Some t) e = e
 
-  values_same : (p k : F) (x y : Holding S V) (o o' : List (Option B)) → AgreeBy alike (Calls call) p k → HoldingsBy alike x y → Values call ample after shown p x o → Values call ample after shown k y o' → Comparable o o'
-  values_same p k x y [] o' a e h g = tt
-  values_same p k x y (b ∷ o) [] a e h g = tt
-  values_same p k x y (b ∷ o) (c ∷ o') a e (inl h) (inl g) =
-      let f = current_alike p k h.1 g.1 x y h.0 g.0 a e h.4 g.4 in
-      let same : h.3 ≡ g.3 = alike_agrees ample h.0 g.0 (s h.0 g.0 f.0) h.2 g.2 h.3 g.3 h.5 g.5 in
-      let next : HoldingsBy alike (comes (after h.3)) (comes (after g.3)) = subst (λ z. HoldingsBy alike (comes (after h.3)) (comes (after z))) same (comes_alike (after h.3)) in
-      (h.6 ∙ (ap shown same ∙ sym g.6), values_same h.1 g.1 (comes (after h.3)) (comes (after g.3)) o o' f.1 next h.7 g.7)
-  values_same p k x y (b ∷ o) (c ∷ o') a e (inl h) (inr g) = absurd (not_over p h.1 x h.0 (subst (λ z. HoldingsBy alike x z) g.0 e) h.4)
-  values_same p k x y (b ∷ o) (c ∷ o') a e (inr h) (inl g) = absurd (over_not k g.1 y g.0 (subst (λ z. HoldingsBy alike z y) h.0 e) g.4)
-  values_same p k x y (b ∷ o) (c ∷ o') a e (inr h) (inr g) = (h.1 ∙ sym g.1, values_same p k Holding.Over Holding.Over o o' a tt h.2 g.2)
+  module _ (goes : (o p : O) → same o p → OptionBy like (after o) (after p)) (gives : (o p : O) → same o p → shows (shown o) (shown p))
+      (ends : shows None None) where
+    values_same : (p k : F) (x y : Holding S V) (o o' : List (Option B)) → AgreeFrom like alike (Calls call) p k → HoldingsBy like alike x y
+        → Values call ample after shown p x o
+        → Values call ample after shown k y o' → ComparableBy shows o o'
+    values_same p k x y [] o' a e h g = tt
+    values_same p k x y (b ∷ o) [] a e h g = tt
+    values_same p k x y (b ∷ o) (c ∷ o') a e (inl h) (inl g) =
+        let f = current_alike p k h.1 g.1 x y h.0 g.0 a e h.4 g.4 in
+        let value : same h.3 g.3 = alike_agrees ample h.0 g.0 (s h.0 g.0 f.0) h.2 g.2 h.3 g.3 h.5 g.5 in
+        let next = comes_alike (after h.3) (after g.3) (goes h.3 g.3 value) in
+        rw (h.6, g.6) (gives h.3 g.3 value, values_same h.1 g.1 (comes (after h.3)) (comes (after g.3)) o o' f.1 next h.7 g.7)
+    values_same p k x y (b ∷ o) (c ∷ o') a e (inl h) (inr g) = absurd (not_over p h.1 x h.0 (subst (λ z. HoldingsBy like alike x z) g.0 e) h.4)
+    values_same p k x y (b ∷ o) (c ∷ o') a e (inr h) (inl g) = absurd (over_not k g.1 y g.0 (subst (λ z. HoldingsBy like alike z y) h.0 e) g.4)
+    values_same p k x y (b ∷ o) (c ∷ o') a e (inr h) (inr g) = rw (h.1, g.1) (ends, values_same p k Holding.Over Holding.Over o o' a tt h.2 g.2)
+
+-- parts of values that are the same are, where both values have the part or neither
+module _ {O B : Type 0} (same : O → O → Type 0) (part : O → Option B) where
+  standing : (o p : O) (x y : Option B) → same o p → part o ≡ x → part p ≡ y → OptionBy (λ _ _. ⊤) x y
+      → OptionBy (SameItem (PartOf (Sameness.by same) part)) x y
+  standing o p None None r e d both = tt
+  standing o p None (Some y) r e d both = absurd both
+  standing o p (Some x) None r e d both = absurd both
+  standing o p (Some x) (Some y) r e d both = (o, p, r, e, d)
+
+  parts_same : BothHave same part → (o p : O) → same o p → OptionBy (SameItem (PartOf (Sameness.by same) part)) (part o) (part p)
+  parts_same both o p r = standing o p (part o) (part p) r refl refl (both o p r)
+
+-- two that unfold are alike from seeds that are the same, by functions that agree from such seeds on, where values that are the same both have an
+-- item or neither, and so a seed
+pub unfold_alike : {F S V O B : Type 0} (same : Sameness O) (alike : V → V → Type 0) (call : F → S → V → F → Type 0) (after : O → Option S)
+    (shown : O → Option B) (x y : F × Holding S V)
+    → AgreeFrom (SameItem (PartOf same after)) alike call x.0 y.0 → HoldingsBy (SameItem (PartOf same after)) alike x.1 y.1
+    → BothHave (SameItem same) shown → BothHave (SameItem same) after
+    → UnfoldAlike same alike call after shown x y
+unfold_alike Sameness.equal alike call after shown x y a h p q = (a, h)
+unfold_alike (Sameness.by same) alike call after shown x y a h p q = (a, h, p, q)
+
+-- equal values do
+pub equal_have : {O B : Type 0} (part : O → Option B) → BothHave (λ v w. v ≡ w) part
+equal_have part o p e = both_items Sameness.equal (part o) (part p) (ap part e)
+
+module _ {F S V O B : Type 0} (call : Mut F (S × Unit {0}) V) (ample : V → List (Poll O) → V → Type 0) {alike : V → V → Type 0} (after : O → Option S)
+    (shown : O → Option B) where
+  -- by how the values of the futures are compared
+  unfolds_same : (same : Sameness O) → SteadinessBy (SameItem same) ample alike → (x y : F × Holding S V) (o p : List (Option B))
+      → UnfoldAlike same alike (Calls call) after shown x y
+      → Values call ample after shown x.0 x.1 o → Values call ample after shown y.0 y.1 p → ComparableBy (SameAnswer (PartOf same shown)) o p
+  unfolds_same Sameness.equal s x y o p e h k =
+      values_same call ample (λ r t. r ≡ t) (λ b c. b ≡ c) s after shown (λ v w d. equal_options (after v) (after w) (ap after d)) (λ v w d. ap shown d) refl
+      x.0 y.0 x.1 y.1 o p e.0 e.1 h k
+  unfolds_same (Sameness.by same) s x y o p e h k =
+      values_same call ample (SameItem (PartOf (Sameness.by same) after)) (SameAnswer (PartOf (Sameness.by same) shown)) s after shown
+      (parts_same same after e.3) (parts_same same shown e.2) tt
+      x.0 y.0 x.1 y.1 o p e.0 e.1 h k
 
 -- where no poll asks for memory
 module _ {F S V O B : Type 0} (call : Mut F (S × Unit {0}) V) {run ample : V → List (Poll O) → V → Type 0} (takes : TakesNone run ample) (after : O → Option S) (shown : O → Option B) where
@@ -118,14 +168,17 @@ module _ {F S V O B : Type 0} (call : Mut F (S × Unit {0}) V) {run ample : V �
 
 module _ {F S V O B : Type 0} (call : Mut F (S × Unit {0}) V) {run ample : V → List (Poll O) → V → Type 0} {none : Type 0} {alike : V → V → Type 0} (after : O → Option S) (shown : O → Option B) where
   -- a source that holds such a pair
-  pub unfolds_steady : {X : Type 0} (pair : X → F × Holding S V) {hints : X → ℕ × Option ℕ → Type 0} → StreamLaws (λ x l y. Unfolds call ample after shown (pair x) l (pair y)) hints → FutureSteadyLaws run ample none alike
-      → SteadyLaws (λ x l y. Unfolds call run after shown (pair x) l (pair y)) (λ x l y. Unfolds call ample after shown (pair x) l (pair y)) none (λ x y. AgreeBy alike (Calls call) (pair x).0 (pair y).0 × HoldingsBy alike (pair x).1 (pair y).1)
-  unfolds_steady pair laws s =
+  pub unfolds_steady : (same : Sameness O) {X : Type 0} (pair : X → F × Holding S V) {hints : X → ℕ × Option ℕ → Type 0}
+      → StreamLaws (λ x l y. Unfolds call ample after shown (pair x) l (pair y)) hints
+      → FutureSteadyLawsBy same run ample none alike
+      → SteadyLawsBy (PartOf same shown) (λ x l y. Unfolds call run after shown (pair x) l (pair y))
+      (λ x l y. Unfolds call ample after shown (pair x) l (pair y)) none (λ x y. UnfoldAlike same alike (Calls call) after shown (pair x) (pair y))
+  unfolds_steady same pair laws s =
       record {
         laws = runs_of laws;
         steady = λ x y e l m x' y' h k.
             rw (ap strip h.2, ap strip k.2)
-            (values_same call ample s.steady after shown (pair x).0 (pair y).0 (pair x).1 (pair y).1 _ _ e.0 e.1
+            (unfolds_same call ample after shown same s.steady (pair x) (pair y) _ _ e
             (unfolds_values call ample after shown s.laws (pair x) (pair x') h.0 h.1) (unfolds_values call ample after shown s.laws (pair y) (pair y') k.0 k.1));
         found = λ n x y l h. (h.0, parts_found call (s.found n) after shown (pair x) (pair y) h.0 h.1, h.2);
       }

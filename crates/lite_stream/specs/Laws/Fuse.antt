@@ -1,10 +1,11 @@
 -- Laws of `fuse`: it cuts the answers off once an end was met.
 use Rattle.std.proofs.Common.{◌≡◌, ◌∙◌, List, [], ◌∷◌, ◌++◌, Some, None, Bool, true, false, refl, inl, inr, ap, subst, sym}
 use Rattle.futures.specs.declared.task.Poll.TheVariants.{Ready, Pending}
+use Rattle.lite_base.specs.Alike.{Sameness}
 use Rattle.lite_base.specs.Answers.{Answer, end, item, until_end}
 use Rattle.lite_stream.specs.Cutting.{Cuts}
 use Rattle.lite_stream.specs.Fuse.{AllEnds, FusesOn}
-use Rattle.lite_stream.specs.Laws.Agreeing.{Agreeing}
+use Rattle.lite_stream.specs.Laws.Agreeing.{AgreeingOver}
 use Rattle.lite_stream.specs.Laws.Calming.{Calming}
 use Rattle.lite_stream.specs.Laws.Cutting.{cuts_agreeing, cuts_calming, cuts_turning}
 use Rattle.lite_stream.specs.Laws.Through.{Turning, turning_by}
@@ -80,8 +81,8 @@ module _ {A : Type 0} where
   pub fuses_turning : Turning (FusesOn {A = A})
   fuses_turning = turning_by to_cuts of_cuts (cuts_turning has_ended ended_after)
 
-  pub fuses_agreeing : Agreeing (FusesOn {A = A}) (λ f k. k ≡ f)
-  fuses_agreeing f k g l i j o p a r q = cuts_agreeing has_ended ended_after (pends A) f k g l i j o p a (to_cuts f g i o r) (to_cuts k l j p q)
+  pub fuses_agreeing : (like : Sameness A) → AgreeingOver like like (FusesOn {A = A}) (λ f k. k ≡ f)
+  fuses_agreeing like f k g l i j o p a r q = cuts_agreeing has_ended ended_after (pends A) (λ x y h. refl) like f k g l i j o p a (to_cuts f g i o r) (to_cuts k l j p q)
 
   pub fuses_calming : Calming (FusesOn {A = A})
   fuses_calming f g i o r = cuts_calming has_ended ended_after f g i o (to_cuts f g i o r)

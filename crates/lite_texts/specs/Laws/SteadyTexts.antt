@@ -5,6 +5,7 @@ use Rattle.std.specs.declared.io.Error.{Error}
 use Rattle.futures.specs.declared.task.Poll.{Poll}
 use Rattle.lite_base.specs.Answers.{ComparableBy, strip}
 use Rattle.lite_base.specs.Calm.{CalmLaws}
+use Rattle.lite_base.specs.Alike.{Sameness}
 use Rattle.lite_base.specs.Steady.{FutureSteadyLawsBy}
 use Rattle.lite_io_base.specs.Marks.{Mark}
 use Rattle.lite_io_base.specs.Runs.{Runs}
@@ -31,7 +32,7 @@ module _ {X R A : Type 0} (over : Over X R A) where
           gathered_alike (in_text (gather ⊥)) (text_settles (gather ⊥) settles) s (over.reader x).now (over.reader y).now (over.reader x').now (over.reader y').now (reading over x)
           (reading over x') (reading over y') l m e.0 h.gathered other
 
-      pub text_steady : FutureSteadyLawsBy SameByKind (ReadsText over (gather ⊤) reads) (ReadsText over (gather ⊥) ample) ⊥ (TextAlike alike)
+      pub text_steady : FutureSteadyLawsBy (Sameness.by SameByKind) (ReadsText over (gather ⊤) reads) (ReadsText over (gather ⊥) ample) ⊥ (TextAlike alike)
       text_steady = record { laws = text_laws over (gather ⊥) s.laws; steady = λ x y e l m x' y'. one_answer x y l m x' y' e; found = λ n. absurd n }
 
     pub text_calm : {is_calm : R → Type 0} → CalmReadLaws reads is_calm → CalmLaws (ReadsText over (gather ⊤) reads) (λ x. is_calm (over.reader x).now)

@@ -16,7 +16,7 @@ use Rattle.lite_write.specs.SteadyWriteAll.{AllProsper, Prospers, Prospering}
 use Rattle.lite_write.specs.WriteAll.{Ended, Hands, HandsOver, WritesAll}
 use Rattle.lite_write.specs.declared.write_all.WriteAllFuture.{WriteAllFuture}
 
-prospers_both : (l m : List Taking) → Prospers l → Prospers m → Prospers (l ++ m)
+pub prospers_both : (l m : List Taking) → Prospers l → Prospers m → Prospers (l ++ m)
 prospers_both [] m a b = b
 prospers_both (Taking.wrote [] ∷ l) m a b = absurd a
 prospers_both (Taking.wrote (x ∷ xs) ∷ l) m a b = prospers_both l m a b

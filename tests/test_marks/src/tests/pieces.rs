@@ -1,20 +1,19 @@
 //! Streams and a future that cut what a reader tells, and copies.
-use lite_base::{CalmFuture, CalmStream, SteadyFuture};
+use lite_base::{CalmFuture, CalmStream, SteadyFuture, SteadyStream};
 use lite_copy::make::copy;
 use lite_lines::make::{lines, read_until, split};
-use lite_read::SteadyStreamBy;
 use lite_read::make::bytes;
 use lite_write::make::sink;
 use marks_met::reading::{copies_have_marks, pieces_have_marks};
 use std::alloc::AllocError;
 use std::test::Fail;
 
-fn steady<S: SteadyStreamBy>(stream: &S) {
-    stream.is_steady_by();
+fn steady<S: SteadyStream>(stream: &S) {
+    stream.is_steady();
 }
 
 /// Asks for both marks of a stream.
-fn both<S: SteadyStreamBy + CalmStream>(stream: &S) {
+fn both<S: SteadyStream + CalmStream>(stream: &S) {
     steady(stream);
     stream.is_calm_stream();
 }

@@ -8,7 +8,9 @@ use lite_mock::Marks;
 use lite_read::make::{bytes as each_byte, fill_buf, read, read_exact, read_to_end, read_vectored};
 use lite_texts::make::{read_line, read_to_string};
 use marks_met::readers::{buffered_readers_have_marks, journals_have_marks};
+use nests_agree::reads::reads_agree;
 use std::alloc::AllocError;
+use std::io::ErrorKind;
 use std::test::Fail;
 
 /// Asks for both marks of a reader.
@@ -81,5 +83,43 @@ fn buffered_readers_and_journals_are_steady_and_calm(rt: HostRuntime) -> Result<
     };
     both(&one);
     journals_have_marks(&one, &other);
+    Ok(())
+}
+
+#[test]
+fn reads_after_pendings_agree(rt: HostRuntime) -> Result<(), Fail> {
+    let mut one = Marks::new(rt.alloc());
+    one.chunk(b"abcde")?;
+    let mut late = Marks::new(rt.alloc());
+    late.pending()?;
+    late.chunk(b"ab")?;
+    late.pending()?;
+    late.chunk(b"cde")?;
+    late.pending()?;
+    let (mut got, mut got_late) = (Vec::new(rt.alloc()), Vec::new(rt.alloc()));
+    got_late.push(b'>')?;
+    let (n, late_n) = reads_agree(&rt, one, late, b"xyz", 7, &mut got, &mut got_late)?;
+    assert_eq!(rt; (n?, late_n?), (7, 7));
+    assert_eq!(rt; got.as_slice(), b"abcdexy".as_slice());
+    assert_eq!(rt; got_late.as_slice(), b">abcdexy".as_slice());
+    Ok(())
+}
+
+#[test]
+fn bytes_before_an_error_agree(rt: HostRuntime) -> Result<(), Fail> {
+    let mut one = Marks::new(rt.alloc());
+    one.chunk(b"abcd")?;
+    one.fault(ErrorKind::Other)?;
+    let mut late = Marks::new(rt.alloc());
+    late.pending()?;
+    late.chunk(b"abcd")?;
+    late.pending()?;
+    late.fault(ErrorKind::Other)?;
+    let (mut got, mut got_late) = (Vec::new(rt.alloc()), Vec::new(rt.alloc()));
+    let (one, other) = reads_agree(&rt, one, late, b"xyz", 9, &mut got, &mut got_late)?;
+    assert!(rt; one.is_err_and(|e| e.kind() == ErrorKind::Other));
+    assert!(rt; other.is_err_and(|e| e.kind() == ErrorKind::Other));
+    assert_eq!(rt; got.as_slice(), b"abcd".as_slice());
+    assert_eq!(rt; got_late.as_slice(), b"abcd".as_slice());
     Ok(())
 }

@@ -1,13 +1,16 @@
 //! Writers, and the futures over them.
+ghost use Rattle.std.specs.Prelude.{◌≡◌, [], IfOk};
+
 use lite_base::{CalmFuture, SteadyFuture};
 use lite_bridge::Cursor;
 use lite_buf_writer::BufWriter;
 use lite_copy::make::copy;
 use lite_io::BufReader;
 use lite_io_base::{CalmWrite, IoSlice, SteadyWrite};
-use lite_mock::Takes;
+use lite_mock::{Marks, Order, Takes};
 use lite_write::make::{close, flush, sink, write, write_all, write_vectored};
 use marks_met::writers::adapters_have_marks;
+use nests_agree::writes::{copies_agree, writes_agree};
 use std::alloc::AllocError;
 use std::test::Fail;
 
@@ -75,5 +78,48 @@ fn buffered_writers_are_steady_and_calm(rt: HostRuntime) -> Result<(), Fail> {
     let (mut lent, mut other_lent) = (Takes::new(rt.alloc()), Takes::new(rt.alloc()));
     let (x, y) = (&mut lent, &mut other_lent);
     adapters_have_marks(&x, &y, &one, &other, &read, &other_read);
+    Ok(())
+}
+
+/// A writer that is pending before each of two writes, of two bytes and of one at most, and once more.
+fn late(rt: &HostRuntime) -> Result<Takes, AllocError>
+    ensures { IfOk result (λ t. t.taken ≡ []) }
+{
+    let mut writer = Takes::new(rt.alloc());
+    writer.order(Order::Wait)?;
+    writer.order(Order::AtMost(2))?;
+    writer.order(Order::Wait)?;
+    writer.order(Order::AtMost(1))?;
+    writer.order(Order::Wait)?;
+    Ok(writer)
+}
+
+#[test]
+fn writes_after_pendings_agree(rt: HostRuntime) -> Result<(), Fail> {
+    let Ok(mut one) = BufWriter::new(rt.alloc(), Takes::new(rt.alloc())) else {
+        return Err(AllocError.into());
+    };
+    let Ok(mut other) = BufWriter::with_capacity(rt.alloc(), 3, late(&rt)?) else {
+        return Err(AllocError.into());
+    };
+    let (wrote, wrote_late) = writes_agree(&rt, &mut one, &mut other, b"abcdefg")?;
+    wrote?;
+    wrote_late?;
+    assert_eq!(rt; one.get_ref().taken(), b"abcdefg".as_slice());
+    assert_eq!(rt; other.get_ref().taken(), b"abcdefg".as_slice());
+    Ok(())
+}
+
+#[test]
+fn copies_after_pendings_agree(rt: HostRuntime) -> Result<(), Fail> {
+    let mut one = Marks::new(rt.alloc());
+    one.chunk(b"abcde")?;
+    let mut other = Marks::new(rt.alloc());
+    other.pending()?;
+    other.chunk(b"abcde")?;
+    other.pending()?;
+    let writer = Takes::new(rt.alloc());
+    let (n, late_n) = copies_agree(&rt, one, other, b"xyz", writer, late(&rt)?)?;
+    assert_eq!(rt; (n?, late_n?), (8, 8));
     Ok(())
 }

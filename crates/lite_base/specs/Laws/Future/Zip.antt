@@ -1,6 +1,7 @@
 -- Laws of `zip`.
 use Rattle.std.proofs.Common.{List}
 use Rattle.futures.specs.declared.task.Poll.{Poll}
+use Rattle.lite_base.specs.Alike.{Pairwise, SameItem, Sameness}
 use Rattle.lite_base.specs.Answers.{strip}
 use Rattle.lite_base.specs.Calm.{CalmLaws}
 use Rattle.lite_base.specs.Future.Half.{HalvesBy, IfAsked}
@@ -10,7 +11,7 @@ use Rattle.lite_base.specs.Laws.Alike.{alike_agrees, by_value, up_to_gives}
 use Rattle.lite_base.specs.Laws.Future.Agree.{HalvesAgree, zips_agree}
 use Rattle.lite_base.specs.Laws.Future.Half.{stands_found}
 use Rattle.lite_base.specs.Laws.Future.Together.{leaves_up_to, together_calm, together_follow, together_once, together_rest, together_stay}
-use Rattle.lite_base.specs.Steady.{FutureSteadyLaws, Steadiness}
+use Rattle.lite_base.specs.Steady.{FutureSteadyLawsBy, SteadinessBy}
 use Rattle.lite_base.specs.declared.future.half.Half.{Half}
 use Rattle.lite_base.specs.declared.future.half.Half.TheVariants.{Asked, Gave, Taken}
 use Rattle.lite_base.specs.declared.future.zip.Zip.{Zip}
@@ -39,28 +40,30 @@ module _ {F G A B : Type 0} {run_first : F → List (Poll A) → F → Type 0} {
         calm_on = λ x y l k h. (together_calm (λ v. v) (λ w. w) (λ v w. (v, w)) c d x.first y.first x.second y.second l k h).1;
       }
 
-halves_agree : {F A : Type 0} (run : F → List (Poll A) → F → Type 0) (alike : F → F → Type 0) → Steadiness run alike → (x y : Half F A) → HalvesBy alike x y → HalvesAgree run x y
-halves_agree run alike s (Asked f) (Asked g) e = alike_agrees run f g (s f g e)
-halves_agree run alike s (Asked f) (Gave w) e = e
-halves_agree run alike s (Asked f) Taken e = e
-halves_agree run alike s (Gave v) (Gave w) e = e
-halves_agree run alike s (Gave v) (Asked g) e = e
-halves_agree run alike s (Gave v) Taken e = e
-halves_agree run alike s Taken y e = e
+module _ {F A : Type 0} (same : Sameness A) (run : F → List (Poll A) → F → Type 0) (alike : F → F → Type 0) (s : SteadinessBy (SameItem same) run alike) where
+  halves_agree : (x y : Half F A) → HalvesBy same alike x y → HalvesAgree same run x y
+  halves_agree (Asked f) (Asked g) e = alike_agrees run f g (s f g e)
+  halves_agree (Asked f) (Gave w) e = e
+  halves_agree (Asked f) Taken e = e
+  halves_agree (Gave v) (Gave w) e = e
+  halves_agree (Gave v) (Asked g) e = e
+  halves_agree (Gave v) Taken e = e
+  halves_agree Taken y e = e
 
 module _ {F G A B : Type 0} {run_first ample_first : F → List (Poll A) → F → Type 0} {run_second ample_second : G → List (Poll B) → G → Type 0}
     {none_first none_second : Type 0} {alike_first : F → F → Type 0} {alike_second : G → G → Type 0}
-    (s : FutureSteadyLaws run_first ample_first none_first alike_first) (t : FutureSteadyLaws run_second ample_second none_second alike_second) where
-  pub zips_steady : FutureSteadyLaws (Zipped run_first run_second) (Zipped ample_first ample_second) (none_first × none_second)
-      (λ (x y : Zip F G A B). HalvesBy alike_first x.first y.first × HalvesBy alike_second x.second y.second)
+    (same : Sameness A) (other : Sameness B) (s : FutureSteadyLawsBy same run_first ample_first none_first alike_first)
+    (t : FutureSteadyLawsBy other run_second ample_second none_second alike_second) where
+  pub zips_steady : FutureSteadyLawsBy (Pairwise same other) (Zipped run_first run_second) (Zipped ample_first ample_second) (none_first × none_second)
+      (λ (x y : Zip F G A B). HalvesBy same alike_first x.first y.first × HalvesBy other alike_second x.second y.second)
   zips_steady =
       record {
         laws = zips_laws s.laws t.laws;
         steady = λ x y e l m x' y' h k.
             by_value (strip l) (strip m) ((zips_laws s.laws t.laws).once x x' l h) ((zips_laws s.laws t.laws).once y y' m k)
             (λ v w f g.
-            zips_agree ample_first ample_second x.first y.first x'.first y'.first x.second y.second x'.second y'.second l m v w
-            (halves_agree ample_first alike_first s.steady x.first y.first e.0) (halves_agree ample_second alike_second t.steady x.second y.second e.1) h k
+            zips_agree ample_first ample_second same other x.first y.first x'.first y'.first x.second y.second x'.second y'.second l m v w
+            (halves_agree same ample_first alike_first s.steady x.first y.first e.0) (halves_agree other ample_second alike_second t.steady x.second y.second e.1) h k
             (up_to_gives l v (leaves_up_to l h.p x'.first h.leaves.0) f) (up_to_gives m w (leaves_up_to m k.p y'.first k.leaves.0) g));
         found = λ n x y l h.
             record {

@@ -15,7 +15,7 @@ pub merges_are_alike-requires-clause-streams : goal.merges_are_alike-requires-cl
 merges_are_alike-requires-clause-streams g c = answers_agree _ _ IsOnce (λ f k x y d. search rules) (λ x y z p q. rw (p, q) refl) _ _
 
 pub merges_are_alike-requires-clause-futures : goal.merges_are_alike-requires-clause-futures
-merges_are_alike-requires-clause-futures g c = answers_agree _ _ IsReady (λ f k x y d. search rules) (λ x y z p q. rw (p, q) (refl, λ v w e. e)) _ _
+merges_are_alike-requires-clause-futures g c = answers_agree _ _ IsReady (λ f k x y d. search rules) (λ x y z p q. rw (p, q) refl) _ _
 
 pub merges_are_calm-requires-clause-streams : goal.merges_are_calm-requires-clause-streams
 merges_are_calm-requires-clause-streams g c = answers_always _ _ _ (λ f a r k d. tt)

@@ -21,10 +21,10 @@ pub calls_are_alike-requires-clause-repeats : goal.calls_are_alike-requires-clau
 calls_are_alike-requires-clause-repeats c = calls_alike _ 1 (λ p q a d. search rules) _ _
 
 pub calls_are_alike-requires-clause-unfolds : goal.calls_are_alike-requires-clause-unfolds
-calls_are_alike-requires-clause-unfolds c = answers_agree _ _ Pairs (λ f k x y d. search rules) (λ x y z p q. rw (p, q) (refl, λ v w e. e)) _ _
+calls_are_alike-requires-clause-unfolds c = answers_agree _ _ Pairs (λ f k x y d. search rules) (λ x y z p q. rw (p, q) refl) _ _
 
 pub calls_are_alike-requires-clause-tries : goal.calls_are_alike-requires-clause-tries
-calls_are_alike-requires-clause-tries c = answers_agree _ _ TriesPairs (λ f k x y d. search rules) (λ x y z p q. rw (p, q) (refl, λ v w e. e)) _ _
+calls_are_alike-requires-clause-tries c = answers_agree _ _ TriesPairs (λ f k x y d. search rules) (λ x y z p q. rw (p, q) refl) _ _
 
 pub calls_are_calm-requires-clause-polls : goal.calls_are_calm-requires-clause-polls
 calls_are_calm-requires-clause-polls c = polls_prompt _ (Some 1) (λ p q cx left a d. search rules) _

@@ -1,15 +1,15 @@
-use Rattle.std.proofs.Common.{rules, bit_xor, nat_eq, nat_lt, ◌%◌}
-use Rattle.lite_base.specs.Laws.Calling.{function_agree}
+use Rattle.std.proofs.Common.{rules}
+use Rattle.lite_base.specs.Laws.Calling.{agrees_alone}
 use Rattle.nests_agree.proofs.agree.evens_agree.Goals as goal
 
 pub run_both-requires-clause-alike : goal.run_both-requires-clause-alike
 run_both-requires-clause-alike c = (
   (
     (
-      (search rules, function_agree _ (λ x. bit_xor x 1) (λ f g x y d. search rules) _ _),
-      function_agree _ (λ x. nat_eq (x % 2) 0) (λ f g x y d. search rules) _ _,
+      (search rules, agrees_alone _ (λ f g h x y z d e. search rules) _),
+      agrees_alone _ (λ f g h x y z d e. search rules) _,
     ),
-    function_agree _ (λ x. nat_lt x 100) (λ f g x y d. search rules) _ _,
+    agrees_alone _ (λ f g h x y z d e. search rules) _,
   ),
   search rules,
 )

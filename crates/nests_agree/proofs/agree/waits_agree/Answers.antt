@@ -11,7 +11,7 @@ Waits x v = (v.first ≡ Asked (record { yielded = false })) × (v.second ≡ As
 
 pub run_both-requires-clause-alike : goal.run_both-requires-clause-alike
 run_both-requires-clause-alike c =
-    (search rules, (answers_agree _ _ Waits (λ f g x y d. search rules) (λ x y z p q. rw (p.0, p.1, q.0, q.1) (((tt, λ v w e. e), (refl, λ v w e. e)), λ v w e. e)) _ _, search rules))
+    (search rules, (answers_agree _ _ Waits (λ f g x y d. search rules) (λ x y z p q. rw (p.0, p.1, q.0, q.1) (tt, refl)) _ _, search rules))
 
 pub returns : goal.returns
 returns c =

@@ -1,0 +1,2 @@
+pub mod BothReaders
+pub mod BothWriters

@@ -1,0 +1,28 @@
+-- The lengths of lines, and which are no length of an empty line.
+use Rattle.std.proofs.Common.{◌≡◌, ◌∙◌, ℕ, List, Result, Ok, Err, Global, Bool, true, nat_lt, length, ap, refl, sym}
+use Rattle.std.specs.Prelude.{string_bytes}
+use Rattle.std.specs.IoError.{error_kind}
+use Rattle.std.specs.declared.io.Error.{Error}
+use Rattle.std.specs.declared.string.String.{String}
+use Rattle.lite_base.specs.declared.future.ready.Ready.{Ready}
+use Rattle.nests_agree.specs.Lengths.{IsLength, IsTested, WillGiveLength}
+use Rattle.lite_lines.specs.Laws.Marks.{SameText}
+use Rattle.lite_read.specs.Settling.{SameByKind, SameOr}
+
+pub same_length : (x w : Result (String Global) Error) (y z : Result ℕ Error) → SameOr SameText x w → IsLength x y → IsLength w z → SameByKind y z
+same_length (Ok s) (Ok t) y z e h k = rw (h, k) (ap length e)
+same_length (Ok s) (Err f) y z e h k = absurd e
+same_length (Err d) (Ok t) y z e h k = absurd e
+same_length (Err d) (Err f) y z e h k = rw (h, k) e
+
+pub same_tested : (x w : Result ℕ Error) (a b : Bool) → SameByKind x w → IsTested x a → IsTested w b → a ≡ b
+same_tested (Ok n) (Ok m) a b e h k = h ∙ ap (nat_lt 0) e ∙ sym k
+same_tested (Ok n) (Err f) a b e h k = absurd e
+same_tested (Err d) (Ok m) a b e h k = absurd e
+same_tested (Err d) (Err f) a b e h k = h ∙ sym k
+
+pub same_future : (x w : Result (String Global) Error) (v u : Ready ℕ) → SameOr SameText x w → WillGiveLength x v → WillGiveLength w u → u.value ≡ v.value
+same_future (Ok s) (Ok t) v u e h k = rw (h, k, e) refl
+same_future (Ok s) (Err f) v u e h k = absurd e
+same_future (Err d) (Ok t) v u e h k = absurd e
+same_future (Err d) (Err f) v u e h k = k ∙ sym h

@@ -1,0 +1,46 @@
+use Rattle.std.proofs.Common.{rules, refl}
+use Rattle.lite_base.specs.Laws.Calling.{answers_agree_from}
+use Rattle.lite_lines.specs.Laws.Marks.{SameText}
+use Rattle.lite_read.specs.Settling.{SameOr}
+use Rattle.nests_agree.proofs.SameLengths.{same_future}
+use Rattle.nests_agree.specs.Lengths.{WillGiveLength}
+use Rattle.nests_agree.proofs.lines.futures_of_lines_agree.Goals as goal
+
+pub run_both-requires-clause-alike : goal.run_both-requires-clause-alike
+run_both-requires-clause-alike g c = (
+  (
+    (search rules, search rules, refl),
+    (answers_agree_from (SameOr SameText) _ _ WillGiveLength (λ f k x y d. search rules) same_future _ _, search rules),
+  ),
+  search rules,
+)
+
+pub returns : goal.returns
+returns g c =
+    let both = c.run_both.ensures.agree in
+    let ran = both.4 in
+    let one = ran.first.came in
+    let other = ran.second.came in (
+      both.0,
+      both.1,
+      both.2,
+      both.3,
+      record {
+        start = c.take-x.result.stream.stream;
+        start_more = c.take-y.result.stream.stream;
+        last = c.run_both.new.x.stream.stream;
+        last_more = c.run_both.new.y.stream.stream;
+        lines = one.ins;
+        lines_more = other.ins;
+        from_one = (search rules, search rules);
+        from_other = (search rules, search rules);
+        came = one.came;
+        came_more = other.came;
+        found = λ a b.
+            ran.found
+            (record { ins = ran.first.ins; came = record { ins = one.ins; came = a; turned = one.turned }; turned = ran.first.turned })
+            (record { ins = ran.second.ins; came = record { ins = other.ins; came = b; turned = other.turned }; turned = ran.second.turned });
+      },
+      both.5,
+      both.8,
+    )

@@ -1,0 +1,46 @@
+-- Two runs of the lines of readers.
+use Rattle.std.specs.Prelude.{◌≡◌, ◌≢◌, ⊤, [], List, Result, Ok, Err}
+use Rattle.std.specs.IoError.{error_kind}
+use Rattle.std.specs.List.{AllByRecursion}
+use Rattle.std.specs.declared.io.Error.{Error}
+use Rattle.std.specs.declared.io.ErrorKind.TheVariants.{OutOfMemory}
+use Rattle.std.specs.declared.string.String.{String}
+use Rattle.std.specs.declared.vec.Vec.{Vec}
+use Rattle.std.proofs.Common.{Global}
+use Rattle.lite_base.specs.Answers.{Answer}
+use Rattle.lite_gather.specs.declared.refused.TryCollectError.{TryCollectError}
+use Rattle.lite_gather.specs.declared.refused.TryCollectError.TheVariants.{Source, Memory}
+use Rattle.lite_io_base.specs.Marks.{Mark}
+use Rattle.lite_io_base.specs.Runs.{Runs}
+use Rattle.lite_lines.specs.Lines.{GivesLines}
+use Rattle.lite_lines.specs.declared.lines.Lines.{Lines}
+
+-- lines were read of each of the two readers, from the first line on, and that holds where memory was found for all of them
+pub record FromLines {R : Type 0} (reads ample : Runs Mark R) (one other : R) (holds : Type 0) : Type 0 where
+  pub start : Lines R
+  pub start_more : Lines R
+  pub last : Lines R
+  pub last_more : Lines R
+  pub lines : List (Answer (Result (String Global) Error))
+  pub lines_more : List (Answer (Result (String Global) Error))
+  pub from_one : (start.reader ≡ one) × (start.held.bytes.items ≡ [])
+  pub from_other : (start_more.reader ≡ other) × (start_more.held.bytes.items ≡ [])
+  pub came : GivesLines reads ⊤ start lines last
+  pub came_more : GivesLines reads ⊤ start_more lines_more last_more
+  pub found : GivesLines ample ⊥ start lines last → GivesLines ample ⊥ start_more lines_more last_more → holds
+
+-- the value of those who try is no refusal of memory
+abbrev pub WasFound : {C T : Type 0} → Result C (TryCollectError C T Error) → Type 0
+WasFound (Ok c) = ⊤
+WasFound (Err (Source e)) = error_kind e ≢ OutOfMemory
+WasFound (Err (Memory m)) = ⊥
+
+-- nor is a line
+abbrev pub IsFound : {A : Type 0} → Result A Error → Type 0
+IsFound (Ok x) = ⊤
+IsFound (Err e) = error_kind e ≢ OutOfMemory
+
+-- nor is any of those that were collected, nor the value
+abbrev pub EachFound : {A E : Type 0} → Result (Vec (Result A Error) Global) E → Type 0
+EachFound (Ok v) = AllByRecursion IsFound v.items
+EachFound (Err e) = ⊥

@@ -1,0 +1,75 @@
+//! The lines of two readers that are alike, collected. Wherever either reader was pending, and in whatever pieces its bytes came,
+//! the lines are the same: texts by their bytes, and errors by their kinds. `Err` where there was no memory to sleep on.
+ghost use Rattle.lite_gather.specs.Agreeing.{Gathered, TryGathered};
+ghost use Rattle.lite_lines.specs.Laws.Marks.{SameText};
+ghost use Rattle.lite_read.specs.Settling.{SameOr};
+ghost use Rattle.nests_agree.specs.Lines.{EachFound, WasFound};
+ghost use Rattle.std.specs.IoError.{error_kind};
+ghost use Rattle.std.specs.List.{AllZip};
+ghost use Rattle.std.specs.Prelude.{◌≡◌, IfOk};
+
+use lite_gather::make::{collect, try_collect};
+use lite_gather::{Refused, TryCollectError};
+use lite_io_base::{AsyncBufRead, CountedRead, SteadyRead};
+use lite_laws::block_on_both;
+use lite_lines::make::lines;
+use lite_stream::make::take;
+use std::alloc::{AllocError, AllocGlobal};
+use std::io;
+use std::random::RandomSource;
+use std::sync::Wait;
+
+/// The lines of a reader, or what came in place of one.
+pub type TriedLines = Result<Vec<String>, TryCollectError<Vec<String>, String, io::Error>>;
+
+/// The lines of a reader, and its errors in their places.
+pub type GatheredLines = Result<
+    Vec<io::Result<String>>,
+    Refused<Vec<io::Result<String>>, io::Result<String>>,
+>;
+
+/// Collects the lines of each reader up to a number of lines, or up to the first error. Where neither value is a refusal of memory,
+/// both are collections of the same lines, or errors of one kind.
+pub fn tried_lines_agree<R, T>(
+    rt: &R,
+    one: T,
+    other: T,
+    most: usize,
+) -> Result<(TriedLines, TriedLines), AllocError>
+where
+    R: Wait + RandomSource + AllocGlobal,
+    T: AsyncBufRead + CountedRead + SteadyRead + Drop,
+    requires first { T.ranks.counts one }
+    requires second { T.ranks.counts other }
+    requires alike { T.alike one other }
+    requires found { T.needs_none }
+    ensures { IfOk result (λ values. WasFound values.0 → WasFound values.1
+        → TryGathered (λ v w. AllZip SameText v.items w.items) (λ e f. error_kind e ≡ error_kind f) values.0 values.1) }
+{
+    let tried = try_collect(take(lines(one, rt.alloc()), most), rt.alloc());
+    let more = try_collect(take(lines(other, rt.alloc()), most), rt.alloc());
+    block_on_both(rt, tried, more)
+}
+
+/// Collects the lines of each reader up to a number of lines, with its errors in their places. Where no memory was refused, neither
+/// for a line nor for a collection, both hold the same.
+pub fn gathered_lines_agree<R, T>(
+    rt: &R,
+    one: T,
+    other: T,
+    most: usize,
+) -> Result<(GatheredLines, GatheredLines), AllocError>
+where
+    R: Wait + RandomSource + AllocGlobal,
+    T: AsyncBufRead + CountedRead + SteadyRead + Drop,
+    requires first { T.ranks.counts one }
+    requires second { T.ranks.counts other }
+    requires alike { T.alike one other }
+    requires found { T.needs_none }
+    ensures { IfOk result (λ values. EachFound values.0 → EachFound values.1
+        → Gathered (λ v w. AllZip (SameOr SameText) v.items w.items) values.0 values.1) }
+{
+    let gathered = collect(take(lines(one, rt.alloc()), most), rt.alloc());
+    let more = collect(take(lines(other, rt.alloc()), most), rt.alloc());
+    block_on_both(rt, gathered, more)
+}

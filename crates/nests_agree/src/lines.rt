@@ -1,0 +1,131 @@
+//! Nests over the lines of two readers that are alike. Lines are the same where their texts have the same bytes, or both are
+//! errors of one kind.
+ghost use Rattle.std.specs.Prelude.{◌≡◌, ◌++◌, [], List, length, IfOk, IfErr, ⊤};
+ghost use Rattle.lite_base.specs.Alike.{OptionBy};
+ghost use Rattle.lite_base.specs.Answers.{Answer, Comparable, ComparableBy, strip};
+ghost use Rattle.nests_agree.specs.Lengths.{IsLength, IsTested, WillGiveLength};
+ghost use Rattle.nests_agree.specs.Lines.{FromLines};
+ghost use Rattle.lite_laws.specs.Both.{Fewer};
+ghost use Rattle.lite_lines.specs.Laws.Marks.{SameText};
+ghost use Rattle.lite_lines.specs.Pieces.{NoneRefused};
+ghost use Rattle.lite_read.specs.Settling.{SameByKind, SameOr};
+
+use lite_base::future::Ready;
+use lite_base::future::make::ready;
+use lite_base::{Context, Poll};
+use lite_flatten::make::then;
+use lite_io_base::{AsyncBufRead, CountedRead, SteadyRead};
+use lite_laws::run_both;
+use lite_lines::make::lines;
+use lite_sift::make::filter;
+use lite_stream::make::{map, take};
+use std::alloc::{AllocError, Global};
+use std::io;
+
+/// Runs the lengths of the lines of each of two readers that are alike, up to a number of lines, without those that are empty.
+/// Where memory was found for each line, the answers are the same, pendings aside, as far as both go: errors by their kinds.
+/// On `Ok` so many answers were appended; `Err` where memory for an answer is refused: then fewer were.
+pub fn lengths_agree<R>(
+    one: R,
+    other: R,
+    alloc: Global,
+    most: usize,
+    cx: &mut Context<'_>,
+    polls: usize,
+    more: usize,
+    out: &mut Vec<Poll<Option<io::Result<usize>>>>,
+    out_more: &mut Vec<Poll<Option<io::Result<usize>>>>,
+) -> Result<(), AllocError>
+where
+    R: AsyncBufRead + CountedRead + SteadyRead + Drop,
+    requires first { R.ranks.counts one }
+    requires second { R.ranks.counts other }
+    requires alike { R.alike one other }
+    ensures { (l m : List (Answer _)) × (out.new.items ≡ out.old.items ++ l) × (out_more.new.items ≡ out_more.old.items ++ m)
+        × FromLines R.reads R.ample one other (ComparableBy (OptionBy SameByKind) (strip l) (strip m))
+        × IfOk result (λ _. (length l ≡ polls) × (length m ≡ more)) × IfErr result (λ _. Fewer l m polls more) }
+{
+    let length = |line: io::Result<String>| -> io::Result<usize>
+        ensures { IsLength line result }
+    {
+        match line {
+            Ok(text) => Ok(text.as_str().len()),
+            Err(e) => Err(e),
+        }
+    };
+    let is_some = |length: &io::Result<usize>| -> bool
+        ensures { IsTested length.now result }
+    {
+        match length {
+            Ok(n) => *n > 0,
+            Err(_) => true,
+        }
+    };
+    let mut x = filter(take(map(lines(one, alloc), length), most), is_some);
+    let mut y = filter(take(map(lines(other, alloc), length), most), is_some);
+    run_both(&mut x, &mut y, cx, polls, more, out, out_more)
+}
+
+/// Makes a future of each line of each of two readers that are alike, up to a number of lines, which gives the line's length,
+/// and 0 for an error. Where memory was found for each line, the lengths are equal, pendings aside, as far as both go.
+/// On `Ok` so many answers were appended; `Err` where memory for an answer is refused: then fewer were.
+pub fn futures_of_lines_agree<R>(
+    one: R,
+    other: R,
+    alloc: Global,
+    most: usize,
+    cx: &mut Context<'_>,
+    polls: usize,
+    more: usize,
+    out: &mut Vec<Poll<Option<usize>>>,
+    out_more: &mut Vec<Poll<Option<usize>>>,
+) -> Result<(), AllocError>
+where
+    R: AsyncBufRead + CountedRead + SteadyRead + Drop,
+    requires first { R.ranks.counts one }
+    requires second { R.ranks.counts other }
+    requires alike { R.alike one other }
+    ensures { (l m : List (Answer _)) × (out.new.items ≡ out.old.items ++ l) × (out_more.new.items ≡ out_more.old.items ++ m)
+        × FromLines R.reads R.ample one other (Comparable (strip l) (strip m))
+        × IfOk result (λ _. (length l ≡ polls) × (length m ≡ more)) × IfErr result (λ _. Fewer l m polls more) }
+{
+    let measure = |line: io::Result<String>| -> Ready<usize>
+        ensures { WillGiveLength line result }
+    {
+        match line {
+            Ok(text) => ready(text.as_str().len()),
+            Err(_) => ready(0),
+        }
+    };
+    let mut x = take(then(lines(one, alloc), measure), most);
+    let mut y = take(then(lines(other, alloc), measure), most);
+    run_both(&mut x, &mut y, cx, polls, more, out, out_more)
+}
+
+/// Runs the lines of each of two readers that are alike and ask for no memory. Where no answer is a refusal, an error of the
+/// kind `OutOfMemory`, the lines are the same, pendings aside, as far as both go.
+/// On `Ok` so many answers were appended; `Err` where memory for an answer is refused: then fewer were.
+pub fn lines_agree<R>(
+    one: R,
+    other: R,
+    alloc: Global,
+    cx: &mut Context<'_>,
+    polls: usize,
+    more: usize,
+    out: &mut Vec<Poll<Option<io::Result<String>>>>,
+    out_more: &mut Vec<Poll<Option<io::Result<String>>>>,
+) -> Result<(), AllocError>
+where
+    R: AsyncBufRead + CountedRead + SteadyRead + Drop,
+    requires first { R.ranks.counts one }
+    requires second { R.ranks.counts other }
+    requires alike { R.alike one other }
+    requires found { R.needs_none }
+    ensures { (l m : List (Answer _)) × (out.new.items ≡ out.old.items ++ l) × (out_more.new.items ≡ out_more.old.items ++ m)
+        × (NoneRefused l → NoneRefused m → ComparableBy (OptionBy (SameOr SameText)) (strip l) (strip m))
+        × IfOk result (λ _. (length l ≡ polls) × (length m ≡ more)) × IfErr result (λ _. Fewer l m polls more) }
+{
+    let mut x = lines(one, alloc);
+    let mut y = lines(other, alloc);
+    run_both(&mut x, &mut y, cx, polls, more, out, out_more)
+}

@@ -1,0 +1,200 @@
+//! Lines of two readers of which one is pending before each chunk.
+ghost use Rattle.std.specs.Prelude.{◌≡◌, [], IfOk};
+ghost use Rattle.lite_io.specs.BufReader.{ahead, capacity_of, inner_of};
+
+use super::scripts::ready_ones;
+use futures::task::{Doorbell, Solo};
+use lite_base::Poll;
+use lite_io::BufReader;
+use lite_io::make::take;
+use lite_mock::Marks;
+use nests_agree::collected::{gathered_lines_agree, tried_lines_agree};
+use nests_agree::lines::{futures_of_lines_agree, lengths_agree, lines_agree};
+use std::alloc::AllocError;
+use std::io;
+use std::test::Fail;
+
+/// A reader of these chunks with a buffer of three bytes; a late one is pending before each chunk.
+fn buffered(
+    rt: &HostRuntime,
+    chunks: &[&[u8]],
+    is_late: bool,
+) -> Result<BufReader<Marks>, AllocError>
+    ensures { IfOk result (λ r. (ahead r ≡ []) × (capacity_of r ≡ 3)) }
+{
+    let mut marks = Marks::new(rt.alloc());
+    for chunk in chunks {
+        if is_late {
+            marks.pending()?;
+        }
+        marks.chunk(chunk)?;
+    }
+    match BufReader::with_capacity(rt.alloc(), 3, marks) {
+        Ok(reader) => Ok(reader),
+        Err(_) => Err(AllocError),
+    }
+}
+
+/// The lengths that are ready, in order; `None` is an end, and an error is none of these.
+fn lengths(
+    rt: &HostRuntime,
+    answers: Vec<Poll<Option<io::Result<usize>>>>,
+) -> Result<Vec<Option<usize>>, Fail> {
+    let mut lengths = Vec::new(rt.alloc());
+    for answer in ready_ones(rt, answers)? {
+        lengths.push(answer.transpose()?)?;
+    }
+    Ok(lengths)
+}
+
+/// The lines that are ready, in order, with a semicolon behind each: of an error its kind, and of an end "end".
+fn spelled(
+    rt: &HostRuntime,
+    answers: Vec<Poll<Option<io::Result<String>>>>,
+) -> Result<String, Fail> {
+    let mut told = String::new(rt.alloc());
+    for answer in ready_ones(rt, answers)? {
+        let line = match answer {
+            Some(Ok(text)) => text,
+            Some(Err(e)) => format!(in rt.alloc(); "{:?}", e.kind())?,
+            None => String::from_str(rt.alloc(), "end")?,
+        };
+        told.push_str(line.as_str())?;
+        told.push(';')?;
+    }
+    Ok(told)
+}
+
+#[test]
+fn lines_after_a_pending_agree(rt: HostRuntime) -> Result<(), Fail> {
+    let chunks: [&[u8]; 3] = [b"ab\n\ncd", b"e\nf", b"gh\n"];
+    let one = buffered(&rt, &chunks, false)?;
+    let other = buffered(&rt, &chunks, true)?;
+    let (mut got, mut got_late) = (Vec::new(rt.alloc()), Vec::new(rt.alloc()));
+    let solo = Solo::new(&rt, Doorbell::spinning())?;
+    let mut cx = solo.begin();
+    let ran = lengths_agree(
+        one,
+        other,
+        rt.alloc(),
+        5,
+        &mut cx,
+        4,
+        9,
+        &mut got,
+        &mut got_late,
+    );
+    cx.cancel();
+    ran?;
+    let expected = [Some(2), Some(3), Some(3), None];
+    assert_eq!(rt; lengths(&rt, got)?.as_slice(), expected.as_slice());
+    let late = lengths(&rt, got_late)?;
+    assert_eq!(rt; &late[..4], expected.as_slice());
+    Ok(())
+}
+
+/// Appends the line with a bar behind it.
+fn append(all: &mut String, line: &str) -> Result<(), AllocError> {
+    all.push_str(line)?;
+    all.push_str("|")?;
+    Ok(())
+}
+
+#[test]
+fn lines_are_collected_alike(rt: HostRuntime) -> Result<(), Fail> {
+    let chunks: [&[u8]; 3] = [b"ab\n\ncd", b"e\nf", b"gh\n"];
+    let one = buffered(&rt, &chunks, false)?;
+    let other = buffered(&rt, &chunks, true)?;
+    let (got, late) = tried_lines_agree(&rt, take(one, 7), take(other, 7), 9)?;
+    for value in [got, late] {
+        let mut all = String::new(rt.alloc());
+        match value {
+            Ok(texts) => {
+                for text in &texts {
+                    append(&mut all, text.as_str())?;
+                }
+            }
+            Err(_) => return Err(Fail::from("no lines were collected")),
+        }
+        assert_eq!(rt; all.as_str(), "ab||cde|");
+    }
+    Ok(())
+}
+
+#[test]
+fn lines_are_collected_with_their_errors(rt: HostRuntime) -> Result<(), Fail> {
+    let chunks: [&[u8]; 3] = [b"ab\n\xff\ncd", b"e\nf", b"gh\n"];
+    let one = buffered(&rt, &chunks, false)?;
+    let other = buffered(&rt, &chunks, true)?;
+    let (got, late) = gathered_lines_agree(&rt, one, other, 9)?;
+    for value in [got, late] {
+        let mut all = String::new(rt.alloc());
+        match value {
+            Ok(items) => {
+                for item in &items {
+                    match item {
+                        Ok(text) => append(&mut all, text.as_str())?,
+                        Err(_) => append(&mut all, "!")?,
+                    }
+                }
+            }
+            Err(_) => return Err(Fail::from("no lines were collected")),
+        }
+        assert_eq!(rt; all.as_str(), "ab|!|cde|fgh|");
+    }
+    Ok(())
+}
+
+#[test]
+fn futures_of_lines_agree_after_a_pending(rt: HostRuntime) -> Result<(), Fail> {
+    let chunks: [&[u8]; 3] = [b"ab\n\ncd", b"e\nf", b"gh\n"];
+    let one = buffered(&rt, &chunks, false)?;
+    let other = buffered(&rt, &chunks, true)?;
+    let (mut got, mut got_late) = (Vec::new(rt.alloc()), Vec::new(rt.alloc()));
+    let solo = Solo::new(&rt, Doorbell::spinning())?;
+    let mut cx = solo.begin();
+    let ran = futures_of_lines_agree(
+        one,
+        other,
+        rt.alloc(),
+        3,
+        &mut cx,
+        4,
+        9,
+        &mut got,
+        &mut got_late,
+    );
+    cx.cancel();
+    ran?;
+    let expected = [Some(2), Some(0), Some(3), None];
+    assert_eq!(rt; ready_ones(&rt, got)?.as_slice(), expected.as_slice());
+    let late = ready_ones(&rt, got_late)?;
+    assert_eq!(rt; &late[..4], expected.as_slice());
+    Ok(())
+}
+
+#[test]
+fn lines_without_a_refusal_agree(rt: HostRuntime) -> Result<(), Fail> {
+    let chunks: [&[u8]; 2] = [b"ab\nc", b"d\r\n\xff\n"];
+    let one = buffered(&rt, &chunks, false)?;
+    let other = buffered(&rt, &chunks, true)?;
+    let (mut got, mut got_late) = (Vec::new(rt.alloc()), Vec::new(rt.alloc()));
+    let solo = Solo::new(&rt, Doorbell::spinning())?;
+    let mut cx = solo.begin();
+    let ran = lines_agree(
+        one,
+        other,
+        rt.alloc(),
+        &mut cx,
+        4,
+        6,
+        &mut got,
+        &mut got_late,
+    );
+    cx.cancel();
+    ran?;
+    let expected = "ab;cd;InvalidData;end;";
+    assert_eq!(rt; spelled(&rt, got)?.as_str(), expected);
+    assert_eq!(rt; spelled(&rt, got_late)?.as_str(), expected);
+    Ok(())
+}
