@@ -6,11 +6,14 @@ pub use Rattle.lite_io_base.specs.SeekKeeps.{SeekKeeps}
 pub use Rattle.lite_io_base.specs.Steady.{CalmReadLaws, NoWait, OneTale, SteadyReadLaws, unhurried}
 pub use Rattle.lite_io.specs.BufReader
 pub use Rattle.lite_io.specs.Chain
+pub use Rattle.lite_io.specs.Chaining
 pub use Rattle.lite_io.specs.Repeat
 pub use Rattle.lite_io.specs.Take
 pub use Rattle.lite_bridge.specs.Cursor
 pub use Rattle.lite_laws.specs.BothReaders.{BothRead, NotRefused, ReadsUp}
+pub use Rattle.lite_read.specs.Appending
 pub use Rattle.lite_read.specs.Bytes
+pub use Rattle.lite_read.specs.Filling
 pub use Rattle.lite_read.specs.ReadExact
 pub use Rattle.lite_read.specs.ReadToEnd
 pub use Rattle.lite_read.specs.Settling.{SameByKind, SameOr}

@@ -3,6 +3,7 @@ pub use Rattle.lite_io_base.specs.Grows.{Grows}
 pub use Rattle.lite_io_base.specs.SteadyWrite.{CalmWriteLaws, EndsFlushed, NeverWaits, NoError, SteadyWriteLaws}
 pub use Rattle.lite_buf_writer.specs.BufWriter
 pub use Rattle.lite_laws.specs.BothWriters.{BothWritten, FailsBy, FailsWith, FlushedUp, HandedUp, TakesFront, WrittenUp}
+pub use Rattle.lite_write.specs.Hands
 pub use Rattle.lite_write.specs.Sink
 pub use Rattle.lite_write.specs.SteadyWriteAll.{AllProsper, Prospering, Prospers}
 pub use Rattle.lite_write.specs.WriteAll

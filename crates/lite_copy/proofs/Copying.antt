@@ -1,5 +1,6 @@
 -- The steps of `copy`.
-use Rattle.std.proofs.Common.{◌≡◌, ◌∙◌, ◌<◌, ◌+◌, ◌%◌, ◌^◌, inl, inr, ℕ, zero, suc, List, [], ◌∷◌, ◌++◌, Option, Some, None, Result, Ok, Err, length, refl, ap, sym, subst, arith, append-nil}
+use Rattle.std.proofs.Common.{◌≡◌, ◌∙◌, ◌<◌, ◌+◌, ◌%◌, ◌^◌, ℕ, zero, suc, List, [], ◌∷◌, ◌++◌, Option, Some, None, Result, Ok, Err}
+use Rattle.std.proofs.Common.{length, refl, ap, sym, subst, arith, append-nil}
 use Rattle.std.specs.IoError.{error_kind}
 use Rattle.std.specs.declared.io.Error.{Error}
 use Rattle.std.specs.declared.io.ErrorKind.TheVariants.{WriteZero}
@@ -12,8 +13,14 @@ use Rattle.lite_io.specs.declared.buf_reader.BufReader.{BufReader}
 use Rattle.lite_io_base.specs.Marks.{Mark, bytes, filled}
 use Rattle.lite_io_base.specs.Runs.{RunLaws, Runs}
 use Rattle.lite_io_base.specs.Takings.{Taking, bytes_of}
+use Rattle.lite_base.specs.Answers.{UpToValue, strip}
 use Rattle.lite_base.specs.Calm.{waits}
-use Rattle.lite_copy.specs.Copy.{Answers, CopiesSome, CopyTurn, GoesOn, Moves, TakesSome, bytes_told, held_of, met_in, met_of, source_of, waits_taken, waits_told}
+use Rattle.lite_base.specs.Chain.{OneTurn}
+use Rattle.lite_base.specs.Laws.Answers.{up_to_one}
+use Rattle.lite_copy.specs.Copy.{Moves, Values}
+use Rattle.lite_copy.specs.Copying.{CopiesSome}
+use Rattle.lite_copy.specs.MarkLists.{GoesOn, TakesUpTo, TellsUpTo, bytes_told, waits_taken, waits_told}
+use Rattle.lite_copy.specs.Parts.{held_of, met_in, source_of}
 use Rattle.lite_copy.specs.Laws.Copy.{counted_none, moves_both}
 use Rattle.lite_copy.specs.declared.copy.CopyFuture.{CopyFuture}
 use Rattle.lite_copy.specs.declared.copy.Phase.{Phase}
@@ -55,8 +62,8 @@ one_mark : (p : List ℕ) (came : List Mark) (m : Mark) → ((b : ℕ) → Mark.
 one_mark [] came m other e = (refl, e)
 one_mark (b ∷ p) came m other e = absurd (other b (cc e))
 
-copying_on : (a b : Phase) (came : List Mark) → a ≡ Copying → b ≡ Copying → met_in a ++ came ≡ came ++ (met_in b ++ [])
-copying_on a b came e d = rw (e, d) (sym (append-nil came))
+copying_on : (a b : Phase) (came : List Mark) → a ≡ Copying → b ≡ Copying → GoesOn came → TellsUpTo (met_in a ++ came) (met_in b ++ [])
+copying_on a b came e d on = record { read = came; goes_on = on; cut = rw (e, d) (sym (append-nil came)) }
 
 -- a fill that lent something left no mark
 fills_some : {R : Type 0} (reads : Runs Mark R) (x y : BufReader R) (shown : List ℕ) → 0 < length shown → Through reads x (filled shown) y
@@ -74,49 +81,50 @@ module _ {R W : Type 0} (reads : Runs Mark R) (writes : Runs Taking W) (rl : Run
       same_amount took none = amount ∙ counted_none x.amount x.counted ∙ ap (λ l. (x.amount + length l) % 2 ^ 64) (sym none)
 
       -- one call of the writer, which took no byte
-      pub writer_answers : (m : Taking) (a : Poll (Result ℕ Error)) (written last : List Taking) → m ∷ [] ≡ written ++ last → TakesSome written
-          → bytes_of (m ∷ []) ≡ []
-          → waits (a ∷ []) ≡ waits_taken (m ∷ []) → Answers (a ∷ []) [] last (held_of y) (met_of y) y.amount → writes x.writer (m ∷ []) y.writer
-          → Moves reads writes x (a ∷ []) y
-      writer_answers m a written last cut some none waits answers went =
+      writer_answers : (m : Taking) (a : Poll (Result ℕ Error)) (last : List Taking) → TakesUpTo (m ∷ []) last → bytes_of (m ∷ []) ≡ []
+          → waits (a ∷ []) ≡ waits_taken (m ∷ []) → Values (strip (a ∷ [])) [] last (held_of y) (met_in y.phase) y.amount
+          → writes x.writer (m ∷ []) y.writer → Moves reads writes x (a ∷ []) y
+      writer_answers m a last writing none waits value went =
           record {
             told = [];
             took = m ∷ [];
             came = unread;
             went = went;
             copied = record {
-              read = [];
               failed = [];
-              written = written;
               last = last;
-              reading = ap (λ v. met_in v ++ []) (sym phase);
-              goes_on = tt;
-              writing = cut;
-              takes_some = some;
+              reading = record { read = []; goes_on = tt; cut = ap (λ v. met_in v ++ []) (sym phase) };
+              writing = writing;
               balanced = append-nil (held_of x) ∙ ap (λ (r : BufReader R). ahead r) (sym reader) ∙ ap (λ l. l ++ held_of y) (sym none);
               waited = omega (arith, waits);
-              answers = answers;
+              once = up_to_one a;
+              value = value;
             };
             counted = same_amount (m ∷ []) none;
           }
 
+      -- one call of the writer, which was the last
+      writer_stops : (m : Taking) (r : Result ℕ Error) → bytes_of (m ∷ []) ≡ [] → waits_taken (m ∷ []) ≡ 0
+          → Values (r ∷ []) [] (m ∷ []) (held_of y) (met_in y.phase) y.amount → writes x.writer (m ∷ []) y.writer → Moves reads writes x (Ready r ∷ []) y
+      writer_stops m r none prompt value went =
+          writer_answers m (Ready r) (m ∷ []) (record { written = []; takes_some = tt; cut = refl }) none (sym prompt) value went
+
       pub writer_waits : writes x.writer (Taking.pending ∷ []) y.writer → Moves reads writes x (Pending ∷ []) y
-      writer_waits went = writer_answers Taking.pending Pending (Taking.pending ∷ []) [] refl tt refl refl (refl, refl) went
+      writer_waits went =
+          writer_answers Taking.pending Pending [] (record { written = Taking.pending ∷ []; takes_some = tt; cut = refl }) refl refl tt went
 
       pub writer_fails : (e : Error) → writes x.writer (Taking.fault (error_kind e) ∷ []) y.writer → Moves reads writes x (Ready (Err e) ∷ []) y
-      writer_fails e went =
-          writer_answers (Taking.fault (error_kind e)) (Ready (Err e)) [] (Taking.fault (error_kind e) ∷ []) refl tt refl refl (inr (refl, inl refl), refl) went
+      writer_fails e went = writer_stops (Taking.fault (error_kind e)) (Err e) refl refl refl went
 
       pub writer_takes_none : (e : Error) → error_kind e ≡ WriteZero → 0 < length (held_of x) → writes x.writer (Taking.wrote [] ∷ []) y.writer
           → Moves reads writes x (Ready (Err e) ∷ []) y
       writer_takes_none e is some went =
           let held = subst (λ (r : BufReader R). 0 < length (ahead r)) (sym reader) some in
-          writer_answers (Taking.wrote []) (Ready (Err e)) [] (Taking.wrote [] ∷ []) refl tt refl refl (inr (refl, inr (refl, is, held)), refl) went
+          writer_stops (Taking.wrote []) (Err e) refl refl (is, held) went
 
       pub writer_is_flushed : y.phase ≡ Flushing → writes x.writer (Taking.flushed ∷ []) y.writer → Moves reads writes x (Ready (Ok y.amount) ∷ []) y
       writer_is_flushed flushing went =
-          writer_answers Taking.flushed (Ready (Ok y.amount)) [] (Taking.flushed ∷ []) refl tt refl refl
-          ((refl, refl, y.drained flushing, ap met_in flushing, refl), refl) went
+          writer_stops Taking.flushed (Ok y.amount) refl refl (y.drained flushing, ap met_in flushing, refl) went
 
     -- the writer took some bytes, which were taken from the buffer
     pub writes_more : (xs : List ℕ) → 0 < length xs → x.phase ≡ Copying → y.phase ≡ Copying → y.amount ≡ (x.amount + length xs) % 2 ^ 64
@@ -132,17 +140,14 @@ module _ {R W : Type 0} (reads : Runs Mark R) (writes : Runs Taking W) (rl : Run
             came = given.ran;
             went = went;
             copied = record {
-              read = given.came;
               failed = [];
-              written = Taking.wrote xs ∷ [];
               last = [];
-              reading = copying_on x.phase y.phase given.came copying still;
-              goes_on = rw came.1 (bytes_go_on came.0);
-              writing = refl;
-              takes_some = (some, tt);
+              reading = copying_on x.phase y.phase given.came copying still (rw came.1 (bytes_go_on came.0));
+              writing = record { written = Taking.wrote xs ∷ []; takes_some = (some, tt); cut = refl };
               balanced = ap (λ l. held_of x ++ l) (ap bytes_told came.1 ∙ told_bytes came.0) ∙ came.2 ∙ ap (λ l. l ++ held_of y) (sym all);
               waited = omega (arith, ap waits_told came.1, no_waits came.0);
-              answers = (refl, refl);
+              once = tt;
+              value = tt;
             };
             counted = amount ∙ ap (λ l. (x.amount + length l) % 2 ^ 64) (sym all);
           };
@@ -156,27 +161,24 @@ module _ {R W : Type 0} (reads : Runs Mark R) (writes : Runs Taking W) (rl : Run
       unwritten : writes x.writer [] y.writer
       unwritten = subst (λ w. writes x.writer [] w) (sym writer) (wl.rests x.writer)
 
-      reader_told : (told read failed : List Mark) (out : List (Poll (Result ℕ Error))) → told ≡ read ++ (met_of y ++ failed) → GoesOn read
-          → held_of x ++ bytes_told told ≡ held_of y → waits out ≡ waits_told told → Answers out failed [] (held_of y) (met_of y) y.amount
-          → reads (source_of x) told (source_of y) → Moves reads writes x out y
-      reader_told told read failed out cut on balanced waits answers came =
+      reader_told : (told failed : List Mark) (out : List (Poll (Result ℕ Error))) → TellsUpTo (met_in x.phase ++ told) (met_in y.phase ++ failed)
+          → held_of x ++ bytes_told told ≡ held_of y → waits out ≡ waits_told told → UpToValue out
+          → Values (strip out) failed [] (held_of y) (met_in y.phase) y.amount → reads (source_of x) told (source_of y) → Moves reads writes x out y
+      reader_told told failed out reading balanced waits once value came =
           record {
             told = told;
             took = [];
             came = came;
             went = unwritten;
             copied = record {
-              read = read;
               failed = failed;
-              written = [];
               last = [];
-              reading = ap (λ a. met_in a ++ told) copying ∙ cut;
-              goes_on = on;
-              writing = refl;
-              takes_some = tt;
+              reading = reading;
+              writing = record { written = []; takes_some = tt; cut = refl };
               balanced = balanced;
               waited = omega (arith, waits);
-              answers = answers;
+              once = once;
+              value = value;
             };
             counted = amount ∙ counted_none x.amount x.counted;
           }
@@ -186,9 +188,9 @@ module _ {R W : Type 0} (reads : Runs Mark R) (writes : Runs Taking W) (rl : Run
       reads_more still h =
           let equation = passes_some (capacity_of x.reader) (held_of x) h.came [] (held_of y) x.buffered h.passes in
           let came = all_bytes (held_of x) h.came (held_of y) equation in
-          let cut : h.came ≡ h.came ++ (met_of y ++ []) = ap (λ a. met_in a ++ h.came) (sym copying) ∙ copying_on x.phase y.phase h.came copying still in
-          reader_told h.came h.came [] [] cut (rw came.1 (bytes_go_on came.0)) (ap (λ l. held_of x ++ l) (ap bytes_told came.1 ∙ told_bytes came.0) ∙ came.2)
-          (sym (ap waits_told came.1 ∙ no_waits came.0)) (refl, refl) h.ran
+          let reading = copying_on x.phase y.phase h.came copying still (rw came.1 (bytes_go_on came.0)) in
+          reader_told h.came [] [] reading (ap (λ l. held_of x ++ l) (ap bytes_told came.1 ∙ told_bytes came.0) ∙ came.2)
+          (sym (ap waits_told came.1 ∙ no_waits came.0)) tt tt h.ran
 
       -- one mark that is no byte
       module _ (m : Mark) (other : (b : ℕ) → Mark.byte b ≡ m → ⊥) (empty : held_of y ≡ []) (h : Through reads x.reader (m ∷ []) y.reader) where
@@ -197,34 +199,38 @@ module _ {R W : Type 0} (reads : Runs Mark R) (writes : Runs Taking W) (rl : Run
             let equation = passes_some (capacity_of x.reader) (held_of x) h.came (m ∷ []) (held_of y) x.buffered h.passes in
             one_mark (held_of x) h.came m other (equation ∙ ap (λ l. m ∷ bytes l) empty)
 
-        reader_marks : (read failed : List Mark) (out : List (Poll (Result ℕ Error))) → m ∷ [] ≡ read ++ (met_of y ++ failed) → GoesOn read
-            → bytes_told (m ∷ []) ≡ []
-            → waits out ≡ waits_told (m ∷ []) → Answers out failed [] (held_of y) (met_of y) y.amount → Moves reads writes x out y
-        reader_marks read failed out cut on none waits answers =
+        reader_marks : (read failed : List Mark) (out : List (Poll (Result ℕ Error))) → m ∷ [] ≡ read ++ (met_in y.phase ++ failed) → GoesOn read
+            → bytes_told (m ∷ []) ≡ [] → waits out ≡ waits_told (m ∷ []) → UpToValue out
+            → Values (strip out) failed [] (held_of y) (met_in y.phase) y.amount → Moves reads writes x out y
+        reader_marks read failed out cut on none waits once value =
             let came = subst (λ l. reads (source_of x) l (source_of y)) marked.1 h.ran in
             let balanced = ap (λ l. held_of x ++ l) none ∙ append-nil (held_of x) ∙ marked.0 ∙ sym empty in
-            reader_told (m ∷ []) read failed out cut on balanced waits answers came
+            let reading : TellsUpTo (met_in x.phase ++ m ∷ []) (met_in y.phase ++ failed) =
+            record { read = read; goes_on = on; cut = ap (λ a. met_in a ++ m ∷ []) copying ∙ cut } in
+            reader_told (m ∷ []) failed out reading balanced waits once value came
 
       pub reader_waits : y.phase ≡ Copying → held_of y ≡ [] → Through reads x.reader (Mark.pending ∷ []) y.reader → Moves reads writes x (Pending ∷ []) y
       reader_waits still empty h =
           reader_marks Mark.pending (λ b e. cc (e)) empty h (Mark.pending ∷ []) [] (Pending ∷ [])
-          (ap (λ a. Mark.pending ∷ (met_in a ++ [])) (sym still)) tt refl refl (refl, refl)
+          (ap (λ a. Mark.pending ∷ (met_in a ++ [])) (sym still)) tt refl refl tt tt
 
       pub reader_fails : (e : Error) → y.phase ≡ Copying → held_of y ≡ [] → Through reads x.reader (Mark.fault (error_kind e) ∷ []) y.reader
           → Moves reads writes x (Ready (Err e) ∷ []) y
       reader_fails e still empty h =
           let failed = Mark.fault (error_kind e) ∷ [] in
           reader_marks (Mark.fault (error_kind e)) (λ b d. cc (d)) empty h [] failed (Ready (Err e) ∷ [])
-          (ap (λ a. met_in a ++ failed) (sym still)) tt refl refl (inl (refl, refl, ap met_in still), refl)
+          (ap (λ a. met_in a ++ failed) (sym still)) tt refl refl refl (refl, ap met_in still)
 
       pub reader_ends : y.phase ≡ Flushing → held_of y ≡ [] → Through reads x.reader (Mark.end ∷ []) y.reader → Moves reads writes x [] y
       reader_ends ended empty h =
-          reader_marks Mark.end (λ b e. cc (e)) empty h [] [] [] (ap (λ a. met_in a ++ []) (sym ended)) tt refl refl (refl, refl)
+          reader_marks Mark.end (λ b e. cc (e)) empty h [] [] [] (ap (λ a. met_in a ++ []) (sym ended)) tt refl refl tt tt
 
   -- a fill that lent something, and then the turn
   module _ (x m y : CopyFuture R W) (writer : m.writer ≡ x.writer) (amount : m.amount ≡ x.amount) (copying : x.phase ≡ Copying) (still : m.phase ≡ Copying)
       (fills : Through reads x.reader (filled (held_of m)) m.reader) where
-    pub then_turns : 0 < length (held_of m) → (r : Option (Poll (Result ℕ Error))) → CopyTurn reads writes m r y → CopyTurn reads writes x r y
+    pub then_turns : 0 < length (held_of m) → (r : Option (Poll (Result ℕ Error)))
+        → OneTurn (CopiesSome reads writes) (λ v a w. Moves reads writes v (a ∷ []) w) m r y
+        → OneTurn (CopiesSome reads writes) (λ v a w. Moves reads writes v (a ∷ []) w) x r y
     then_turns some None t =
         let h = fills_some reads x.reader m.reader (held_of m) some fills in
         record {

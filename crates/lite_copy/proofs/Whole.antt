@@ -1,30 +1,27 @@
 -- What comes of a copy, a chain and a buffered writer.
-use Rattle.std.proofs.Common.{◌≡◌, ◌∙◌, ◌+◌, ◌%◌, ◌^◌, ℕ, Bool, true, false, List, [], ◌∷◌, ◌++◌, Result, Ok, Err, IfOk, length, refl, ap, sym, subst, arith, append-nil, append_assoc}
+use Rattle.std.proofs.Common.{◌≡◌, ◌∙◌, ◌+◌, ◌%◌, ◌^◌, ℕ, false, List, [], ◌∷◌, ◌++◌, Result, Ok, Err, IfOk}
+use Rattle.std.proofs.Common.{length, refl, ap, sym, subst, arith, append-nil, append_assoc}
 use Rattle.std.specs.declared.io.Error.{Error}
 use Rattle.futures.specs.declared.task.Poll.{Poll}
-use Rattle.futures.specs.declared.task.Poll.TheVariants.{Ready, Pending}
 use Rattle.lite_base.specs.Answers.{Gives}
+use Rattle.lite_base.specs.Laws.Alike.{gives_strip}
 use Rattle.lite_base.specs.Lent.{Lent}
 use Rattle.lite_buf_writer.specs.BufWriter.{Buffers, Segments, held, inner_of}
 use Rattle.lite_buf_writer.specs.declared.buf_writer.BufWriter.{BufWriter}
-use Rattle.lite_io.specs.Chain.{Chains, first_of, has_ended, second_of}
+use Rattle.lite_io.specs.Chain.{Chains}
+use Rattle.lite_io.specs.Chaining.{first_of, has_ended, second_of}
 use Rattle.lite_io.specs.declared.chain.Chain.{Chain}
 use Rattle.lite_io_base.specs.Marks.{Mark}
 use Rattle.lite_io_base.specs.Runs.{RunLaws, Runs}
 use Rattle.lite_io_base.specs.Takings.{Taking, bytes_of}
 use Rattle.lite_copy.specs.Chained.{AtEachOk, CopiesBoth, CopiesWhole, TakesWhole, TellsRest, TellsWhole}
-use Rattle.lite_copy.specs.Copy.{Answers, Begins, Copies, Values, bytes_told, held_of, met_of, source_of}
+use Rattle.lite_copy.specs.Copy.{Copies, Values}
 use Rattle.lite_copy.specs.Laws.Chained.{tells_both}
-use Rattle.lite_copy.specs.Laws.Copy.{taken_both, told_both}
+use Rattle.lite_copy.specs.Laws.Copy.{ok_value, taken_both, told_both}
+use Rattle.lite_copy.specs.MarkLists.{bytes_told}
+use Rattle.lite_copy.specs.Parts.{Begins, held_of, met_in, source_of}
 use Rattle.lite_copy.specs.declared.copy.CopyFuture.{CopyFuture}
 use denote.MutBor.{MutBor}
-
--- the answers of a future that gave Ok
-gave_ok : (out : List (Poll (Result ℕ Error))) (failed : List Mark) (last : List Taking) (after : List ℕ) (met : List Mark) (total n : ℕ)
-    → Answers out failed last after met total → Gives out (Ok n) → Values (Ok n) failed last after met total
-gave_ok [] failed last after met total n h g = absurd g
-gave_ok (Pending ∷ out) failed last after met total n h g = gave_ok out failed last after met total n h g
-gave_ok (Ready r ∷ out) failed last after met total n h g = subst (λ v. Values v failed last after met total) g.0 h.0
 
 -- the inner writer's marks up to a flush, after which nothing is held
 flushes : (before : List ℕ) (taken out : List Taking) (after : List ℕ) → Segments before taken (out ++ Taking.flushed ∷ []) after
@@ -51,29 +48,31 @@ module _ {R W : Type 0} (reads : Runs Mark R) (writes : Runs Taking W) where
   abbrev pub Copying : Type 0
   Copying = CopyFuture R (MutBor (BufWriter W))
 
-  copied_whole : (f y : Copying) (out : List (Poll (Result ℕ Error))) (n : ℕ) → Begins f → Copies reads (Lent (Buffers writes)) f out y → Gives out (Ok n)
-      → CopiesWhole reads writes (source_of f) f.writer.now y n
+  copied_whole : (f y : Copying) (out : List (Poll (Result ℕ Error))) (n : ℕ) → Begins f → Copies reads (Lent (Buffers writes)) f out y
+      → Gives out (Ok n) → CopiesWhole reads writes (source_of f) f.writer.now y n
   copied_whole f y out n begins h g =
       let m = h.moves in
       let c = m.copied in
-      let value = gave_ok out c.failed c.last (held_of y) (met_of y) y.amount n c.answers g in
-      let ended : m.told ≡ c.read ++ Mark.end ∷ [] =
-      ap (λ l. l ++ m.told) (sym begins.met) ∙ c.reading ∙ ap (λ l. c.read ++ (met_of y ++ l)) value.0
-      ∙ ap (λ l. c.read ++ l) (append-nil (met_of y) ∙ value.3) in
-      let flushed : m.took ≡ c.written ++ Taking.flushed ∷ [] = c.writing ∙ ap (λ l. c.written ++ l) value.1 in
-      let took = buffered_whole writes f.writer.now y.writer.now c.written (subst (λ l. Buffers writes f.writer.now l y.writer.now) flushed m.went.0) in
-      let moved : bytes_told c.read ≡ bytes_of c.written =
-      sym (append-nil (bytes_told c.read)) ∙ sym (told_both c.read (Mark.end ∷ [])) ∙ ap bytes_told (sym ended)
+      let given = subst (λ v. Values v c.failed c.last (held_of y) (met_in y.phase) y.amount) (gives_strip out (Ok n) g) c.value in
+      let value = ok_value (held_of y) (met_in y.phase) y.amount n c.failed c.last given in
+      let read = c.reading.read in
+      let written = c.writing.written in
+      let ended : m.told ≡ read ++ Mark.end ∷ [] =
+      ap (λ l. l ++ m.told) (sym begins.met) ∙ c.reading.cut ∙ ap (λ l. read ++ (met_in y.phase ++ l)) value.0
+      ∙ ap (λ l. read ++ l) (append-nil (met_in y.phase) ∙ value.3) in
+      let flushed : m.took ≡ written ++ Taking.flushed ∷ [] = c.writing.cut ∙ ap (λ l. written ++ l) value.1 in
+      let took = buffered_whole writes f.writer.now y.writer.now written (subst (λ l. Buffers writes f.writer.now l y.writer.now) flushed m.went.0) in
+      let taken : bytes_of m.took ≡ bytes_of written = ap bytes_of flushed ∙ taken_both written (Taking.flushed ∷ []) ∙ append-nil (bytes_of written) in
+      let moved : bytes_told read ≡ bytes_of written =
+      sym (append-nil (bytes_told read)) ∙ sym (told_both read (Mark.end ∷ [])) ∙ ap bytes_told (sym ended)
       ∙ ap (λ l. l ++ bytes_told m.told) (sym begins.held)
-      ∙ c.balanced ∙ ap (λ l. bytes_of m.took ++ l) value.2 ∙ append-nil (bytes_of m.took) ∙ ap bytes_of flushed
-      ∙ taken_both c.written (Taking.flushed ∷ []) ∙ append-nil (bytes_of c.written) in
-      let bytes : bytes_of m.took ≡ bytes_told c.read = ap bytes_of flushed ∙ taken_both c.written (Taking.flushed ∷ [])
-      ∙ append-nil (bytes_of c.written) ∙ sym moved in
-      let count : f.amount + length (bytes_of m.took) ≡ length (bytes_told c.read) = omega (arith, begins.none, ap length bytes) in
+      ∙ c.balanced ∙ ap (λ l. bytes_of m.took ++ l) value.2 ∙ append-nil (bytes_of m.took) ∙ taken in
+      let bytes : bytes_of m.took ≡ bytes_told read = taken ∙ sym moved in
+      let count : f.amount + length (bytes_of m.took) ≡ length (bytes_told read) = omega (arith, begins.none, ap length bytes) in
       let came = subst (λ l. reads (source_of f) l (source_of y)) ended m.came in
       record {
-        all = bytes_told c.read;
-        told = record { told = c.read; goes_on = c.goes_on; all = refl; came = came };
+        all = bytes_told read;
+        told = record { told = read; goes_on = c.reading.goes_on; all = refl; came = came };
         took = subst (λ l. TakesWhole writes (inner_of f.writer.now) (held f.writer.now ++ l) (inner_of y.writer.now)) (sym moved) took.0;
         empty = took.1;
         count = value.4 ∙ m.counted ∙ ap (λ k. k % 2 ^ 64) count;

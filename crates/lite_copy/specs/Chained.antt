@@ -4,12 +4,13 @@ use Rattle.futures.specs.declared.task.Poll.{Poll}
 use Rattle.lite_base.specs.Answers.{Gives}
 use Rattle.lite_buf_writer.specs.BufWriter.{held, inner_of}
 use Rattle.lite_buf_writer.specs.declared.buf_writer.BufWriter.{BufWriter}
-use Rattle.lite_io.specs.Chain.{first_of, has_ended, second_of}
+use Rattle.lite_io.specs.Chaining.{first_of, has_ended, second_of}
 use Rattle.lite_io.specs.declared.chain.Chain.{Chain}
 use Rattle.lite_io_base.specs.Marks.{Mark}
 use Rattle.lite_io_base.specs.Runs.{Runs}
 use Rattle.lite_io_base.specs.Takings.{Taking, bytes_of}
-use Rattle.lite_copy.specs.Copy.{GoesOn, bytes_told, source_of}
+use Rattle.lite_copy.specs.MarkLists.{GoesOn, bytes_told}
+use Rattle.lite_copy.specs.Parts.{source_of}
 use Rattle.lite_copy.specs.declared.copy.CopyFuture.{CopyFuture}
 use denote.MutBor.{MutBor}
 

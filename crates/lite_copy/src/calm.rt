@@ -1,6 +1,6 @@
 //! The future that is never pending where its reader and its writer aren't.
-ghost use Rattle.lite_copy.specs.Copy.{source_of};
 ghost use Rattle.lite_copy.specs.Laws.SteadyCopy.{copy_calm};
+ghost use Rattle.lite_copy.specs.Parts.{source_of};
 
 use crate::CopyFuture;
 use lite_base::CalmFuture;

@@ -1,10 +1,12 @@
 //! What comes through a copy to a buffered writer, also of a chain, by the contracts of the traits alone.
-ghost use Rattle.std.specs.Prelude.{◌≡◌, IfErr, IfOk, false};
+ghost use Rattle.std.specs.Prelude.{◌≡◌, IfOk, false};
 ghost use Rattle.lite_base.specs.Lent.{Lent};
 ghost use Rattle.lite_buf_writer.specs.BufWriter.{Buffers};
 ghost use Rattle.lite_copy.specs.Chained.{AtEachOk, CopiesBoth, CopiesWhole};
-ghost use Rattle.lite_copy.specs.Copy.{Begins, Copies, source_of};
-ghost use Rattle.lite_io.specs.Chain.{Chains, first_of, has_ended, second_of};
+ghost use Rattle.lite_copy.specs.Copy.{Copies};
+ghost use Rattle.lite_copy.specs.Parts.{Begins, source_of};
+ghost use Rattle.lite_io.specs.Chain.{Chains};
+ghost use Rattle.lite_io.specs.Chaining.{first_of, has_ended, second_of};
 
 use crate::copy::CopyFuture;
 use crate::make::copy;

@@ -59,14 +59,17 @@ fn fill<R: AsyncBufRead>(reader: &mut R, cx: &mut Context<'_>) -> Poll<io::Resul
 }
 
 impl<R: AsyncRead, W: AsyncWrite> CopyFuture<R, W> {
-    ghost use Rattle.lite_copy.specs.Copy.{CopyLeaves, CopyTurn, Moves};
+    ghost use Rattle.lite_base.specs.Chain.{OneTurn};
+    ghost use Rattle.lite_copy.specs.Copy.{Moves};
+    ghost use Rattle.lite_copy.specs.Copying.{CopiesSome, CopyLeaves};
 
     // Offers what is buffered to the writer, and takes what was written from the buffer.
     fn write_some(&mut self, cx: &mut Context<'_>) -> Option<Poll<io::Result<u64>>>
         requires phase { self.old.phase ≡ Copying }
         requires some { 0 < length (ahead self.old.reader) }
-        ensures turned { CopyTurn R.reads W.writes self.old result self.new }
-        ensures left { IfSome result (λ answer. OnPending answer ((fact : Lasting) → CopyLeaves R.leaves W.write_leaves self.new fact → Holds cx.new fact)) }
+        ensures turned { OneTurn (CopiesSome R.reads W.writes) (λ x a y. Moves R.reads W.writes x (a ∷ []) y) self.old result self.new }
+        ensures left { IfSome result (λ answer. OnPending answer
+            ((fact : Lasting) → CopyLeaves R.leaves W.write_leaves self.new fact → Holds cx.new fact)) }
         ensures kept { Keeps cx.old cx.new }
     {
         match self.writer.poll_write(cx, self.reader.buffer()) {
@@ -97,14 +100,16 @@ impl<R: AsyncRead, W: AsyncWrite> CopyFuture<R, W> {
 }
 
 impl<R: CountedRead, W: AsyncWrite> Turns for CopyFuture<R, W> {
-    ghost use Rattle.lite_copy.specs.Copy.{CopyLeaves, CopyTurn};
+    ghost use Rattle.lite_base.specs.Chain.{OneTurn};
+    ghost use Rattle.lite_copy.specs.Copy.{Moves};
+    ghost use Rattle.lite_copy.specs.Copying.{CopiesSome, CopyLeaves};
     ghost use Rattle.lite_copy.specs.Laws.Copy.{some_given};
 
     type Output = io::Result<u64>;
 
     ghost can_turn = { λ x. R.ranks.counts (inner_of x.reader) };
 
-    ghost turn = { CopyTurn R.reads W.writes };
+    ghost turn = { OneTurn (CopiesSome R.reads W.writes) (λ x a y. Moves R.reads W.writes x (a ∷ []) y) };
 
     ghost turn_leaves = { CopyLeaves R.leaves W.write_leaves };
 
@@ -129,7 +134,8 @@ impl<R: CountedRead, W: AsyncWrite> Turns for CopyFuture<R, W> {
 }
 
 impl<R: CountedRead, W: AsyncWrite> Future for CopyFuture<R, W> {
-    ghost use Rattle.lite_copy.specs.Copy.{Copies, CopyLeaves};
+    ghost use Rattle.lite_copy.specs.Copy.{Copies};
+    ghost use Rattle.lite_copy.specs.Copying.{CopyLeaves};
     ghost use Rattle.lite_copy.specs.Laws.Copy.{copies_laws};
 
     type Output = io::Result<u64>;

@@ -1,6 +1,6 @@
 //! What makes the future.
-ghost use Rattle.std.specs.Prelude.{◌≡◌, [], IfErr, IfOk};
-ghost use Rattle.lite_copy.specs.Copy.{Begins, source_of};
+ghost use Rattle.std.specs.Prelude.{◌≡◌, IfErr, IfOk};
+ghost use Rattle.lite_copy.specs.Parts.{Begins, source_of};
 ghost use Rattle.lite_io.specs.BufReader.{capacity_of};
 
 use crate::copy::{CopyFuture, Phase};

@@ -29,7 +29,8 @@ module _ {T E : Type 0} (is_clone : T → T → Type 0) (is_infallible : T → T
   ClonesAll run x l y = Through run (Lingering Refers Clones) x.stream (tt, x.held) l y.stream (tt, y.held)
 
 -- as ClonesAll, where no clone is refused
-abbrev pub ClonesUnrefused : {T E S : Type 0} → (T → T → Type 0) → (S → List (Answer (Bor T)) → S → Type 0) → Cloned S (Bor T) → List (Answer (Result T E)) → Cloned S (Bor T) → Type 0
+abbrev pub ClonesUnrefused : {T E S : Type 0} → (T → T → Type 0) → (S → List (Answer (Bor T)) → S → Type 0)
+    → Cloned S (Bor T) → List (Answer (Result T E)) → Cloned S (Bor T) → Type 0
 ClonesUnrefused is_clone = ClonesAll is_clone (λ x. ⊤)
 
 -- no answer is a refusal

@@ -3,14 +3,16 @@ use Rattle.std.specs.Prelude.{◌+◌, ◌++◌, List, Option, IfSome}
 use Rattle.std.specs.Fn.{Mut, AlwaysReturns}
 use Rattle.lite_base.specs.Answers.{Answer}
 use Rattle.lite_base.specs.Ranks.{Ranks}
-use Rattle.lite_flatten.specs.Flatten.{CanTurn, FlatTurns, Flattening, inner_rank}
+use Rattle.lite_flatten.specs.Flatten.{Flattening}
+use Rattle.lite_flatten.specs.Inner.{CanTurn, FlatTurns, inner_rank}
 use Rattle.lite_flatten.specs.declared.flat_map.FlatMap.{FlatMap}
 use Rattle.lite_base.specs.Calling.{Calls}
 use Rattle.lite_stream.specs.Map.{Maps}
 use Rattle.lite_stream.specs.Through.{Parts, Through}
 use Rattle.lite_stream.specs.declared.map.Map.{Map}
 
-abbrev pub FlatMaps : {S F V A B : Type 0} → (S → List (Answer A) → S → Type 0) → Mut F (A × Unit {0}) V → (V → List (Answer B) → V → Type 0) → FlatMap S V F → List (Answer B) → FlatMap S V F → Type 0
+abbrev pub FlatMaps : {S F V A B : Type 0} → (S → List (Answer A) → S → Type 0) → Mut F (A × Unit {0}) V → (V → List (Answer B) → V → Type 0)
+    → FlatMap S V F → List (Answer B) → FlatMap S V F → Type 0
 FlatMaps run g run' x l y = Through (Maps run (Calls g)) (Flattening run') x.stream x.inner_stream l y.stream y.inner_stream
 
 -- what is held has the fact, and so does each thing that the function makes
@@ -25,10 +27,12 @@ abbrev pub CanFlatMap : {S V F X : Type 0} → Mut F X V → (Map S F → Type 0
 CanFlatMap g can_poll counts can_poll' x = can_poll x.stream × counts x.stream.stream × EachMade g can_poll' x.stream.f x.inner_stream
 
 -- so of a turn, of each stream that comes
-abbrev pub CanTurnMap : {S V F A : Type 0} → (S → List (Answer A) → S → Type 0) → Mut F (A × Unit {0}) V → (Map S F → Type 0) → (S → Type 0) → (V → Type 0) → FlatMap S V F → Type 0
+abbrev pub CanTurnMap : {S V F A : Type 0} → (S → List (Answer A) → S → Type 0) → Mut F (A × Unit {0}) V
+    → (Map S F → Type 0) → (S → Type 0) → (V → Type 0) → FlatMap S V F → Type 0
 CanTurnMap run g can_poll counts can_poll' = CanTurn flat_map_parts (Maps run (Calls g)) can_poll (λ m. counts m.stream) can_poll'
 
-abbrev pub FlatMapTurns : {S F V A B : Type 0} → (S → List (Answer A) → S → Type 0) → Mut F (A × Unit {0}) V → (V → List (Answer B) → V → Type 0) → (FlatMap S V F → Type 0) → FlatMap S V F → Option (Answer B) → FlatMap S V F → Type 0
+abbrev pub FlatMapTurns : {S F V A B : Type 0} → (S → List (Answer A) → S → Type 0) → Mut F (A × Unit {0}) V → (V → List (Answer B) → V → Type 0)
+    → (FlatMap S V F → Type 0) → FlatMap S V F → Option (Answer B) → FlatMap S V F → Type 0
 FlatMapTurns run g run' can_turn = FlatTurns run' (Maps run (Calls g)) flat_map_parts can_turn
 
 -- the stream's rank and then that of the stream that is held; each stream that is made has to count

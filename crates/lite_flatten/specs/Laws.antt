@@ -1,3 +1,4 @@
+pub mod Before
 pub mod Calming
 pub mod Chain
 pub mod Cloned

@@ -15,7 +15,8 @@ use Rattle.lite_stream.specs.Through.{Parts, Through}
 abbrev pub HandsOut : {V B : Type 0} → (V → List (Poll B) → V → Type 0) → V → List (Answer B) → Option V → Type 0
 HandsOut run v out left = Spends run (handed Some) (λ after. after ≡ []) (Some v) out left
 
-abbrev pub Thens : {S F V A B : Type 0} → (S → List (Answer A) → S → Type 0) → (F → A → V → F → Type 0) → (V → List (Poll B) → V → Type 0) → Then S F V → List (Answer B) → Then S F V → Type 0
+abbrev pub Thens : {S F V A B : Type 0} → (S → List (Answer A) → S → Type 0) → (F → A → V → F → Type 0) → (V → List (Poll B) → V → Type 0)
+    → Then S F V → List (Answer B) → Then S F V → Type 0
 Thens run call run' x l y = Through run (Lingering call (HandsOut run')) x.stream (x.f, x.future) l y.stream (y.f, y.future)
 
 abbrev pub then_parts : {S F V : Type 0} → Parts (Then S F V) S (F × Option V)

@@ -1,7 +1,7 @@
 //! The adapters that are never pending over streams that never are.
 ghost use Rattle.lite_flatten.specs.Cloned.{cloned_parts};
 ghost use Rattle.lite_flatten.specs.FlatMap.{EachMade};
-ghost use Rattle.lite_flatten.specs.Flatten.{EachInner, flatten_parts};
+ghost use Rattle.lite_flatten.specs.Inner.{EachInner, flatten_parts};
 ghost use Rattle.lite_flatten.specs.Laws.Calming.{chain_calm, flattening_calm};
 ghost use Rattle.lite_flatten.specs.Laws.Cloned.{clones_calming};
 ghost use Rattle.lite_flatten.specs.Laws.FlatMap.{flat_map_calm};

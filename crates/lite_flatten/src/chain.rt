@@ -1,7 +1,8 @@
 ghost use Rattle.std.specs.Prelude.{◌≡◌, None};
 ghost use Rattle.futures.specs.Poll.{OnPending};
 ghost use Rattle.futures.specs.Task.{Keeps, Lasting, Holds};
-ghost use Rattle.lite_flatten.specs.Chain.{ChainLeaves, Chains, SecondAnswers, chain_ranks};
+ghost use Rattle.lite_flatten.specs.Chain.{Chains};
+ghost use Rattle.lite_flatten.specs.Chaining.{ChainLeaves, SecondAnswers, chain_ranks};
 ghost use Rattle.lite_flatten.specs.declared.chain.Part.TheVariants.{Second};
 ghost use Rattle.lite_flatten.specs.Laws.Chain.{chain_counting, chain_laws};
 

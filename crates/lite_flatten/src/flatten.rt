@@ -1,6 +1,7 @@
 ghost use Rattle.std.specs.Prelude.{◌≡◌, None};
 ghost use Rattle.lite_base.specs.StreamLaws.{runs_of};
-ghost use Rattle.lite_flatten.specs.Flatten.{CanTurn, FlatTurns, Flattens, flatten_parts, flattening_ranks};
+ghost use Rattle.lite_flatten.specs.Flatten.{Flattens};
+ghost use Rattle.lite_flatten.specs.Inner.{CanTurn, FlatTurns, flatten_parts, flattening_ranks};
 ghost use Rattle.lite_flatten.specs.HeldLeaves.{HeldLeaves};
 ghost use Rattle.lite_flatten.specs.Laws.Flatten.{flat_ends, flattening, flattening_counting};
 ghost use Rattle.lite_stream.specs.Laws.Through.{laws_following};

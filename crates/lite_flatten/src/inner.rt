@@ -2,7 +2,7 @@
 ghost use Rattle.std.specs.Prelude.{◌≡◌, IfSome, None};
 ghost use Rattle.futures.specs.Poll.{OnPending};
 ghost use Rattle.futures.specs.Task.{Keeps, Lasting, Holds};
-ghost use Rattle.lite_flatten.specs.Flatten.{CanFlatten, FlatTurn, OuterTurn};
+ghost use Rattle.lite_flatten.specs.Inner.{CanFlatten, FlatTurn};
 ghost use Rattle.lite_flatten.specs.HeldLeaves.{HeldLeaves};
 
 use lite_base::{Context, Counted, Poll, Stream};
@@ -16,7 +16,7 @@ pub(crate) fn poll_part<B: Stream + Drop, S: Counted<Item = B>>(
     cx: &mut Context<'_>,
 ) -> Option<Poll<Option<B::Item>>>
     requires { CanFlatten S.run S.can_poll S.ranks.counts B.can_poll stream.old inner_stream.old }
-    ensures turned { FlatTurn B.run S.run stream.old inner_stream.old result stream.new inner_stream.new }
+    ensures turned { FlatTurn B.run S.run (stream.old, inner_stream.old) result (stream.new, inner_stream.new) }
     ensures again { CanFlatten S.run S.can_poll S.ranks.counts B.can_poll stream.new inner_stream.new }
     ensures left { IfSome result (λ answer. OnPending answer ((fact : Lasting)
         → HeldLeaves S.leaves B.leaves stream.new inner_stream.new fact → Holds cx.new fact)) }
@@ -44,7 +44,7 @@ fn poll_outer<B: Stream + Drop, S: Counted<Item = B>>(
 ) -> Option<Poll<Option<B::Item>>>
     requires can { CanFlatten S.run S.can_poll S.ranks.counts B.can_poll stream.old inner_stream.old }
     requires empty { inner_stream.old ≡ None }
-    ensures turned { OuterTurn S.run stream.old result stream.new inner_stream.new }
+    ensures turned { FlatTurn B.run S.run (stream.old, None) result (stream.new, inner_stream.new) }
     ensures again { CanFlatten S.run S.can_poll S.ranks.counts B.can_poll stream.new inner_stream.new }
     ensures left { IfSome result (λ answer. OnPending answer ((fact : Lasting)
         → HeldLeaves S.leaves B.leaves stream.new inner_stream.new fact → Holds cx.new fact)) }

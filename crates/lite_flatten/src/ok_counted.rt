@@ -1,8 +1,8 @@
 //! Ranks over `Ok` items, of the adapters whose rank falls with each item.
 ghost use Rattle.lite_base.specs.OkRanks.{ok_counting};
-ghost use Rattle.lite_flatten.specs.Chain.{chain_ranks};
+ghost use Rattle.lite_flatten.specs.Chaining.{chain_ranks};
 ghost use Rattle.lite_flatten.specs.FlatMap.{flat_map_ranks};
-ghost use Rattle.lite_flatten.specs.Flatten.{flatten_parts, flattening_ranks};
+ghost use Rattle.lite_flatten.specs.Inner.{flatten_parts, flattening_ranks};
 ghost use Rattle.lite_flatten.specs.Laws.Chain.{chain_counting};
 ghost use Rattle.lite_flatten.specs.Laws.FlatMap.{flat_map_counting};
 ghost use Rattle.lite_flatten.specs.Laws.Flatten.{flattening_counting};

@@ -25,7 +25,7 @@ pub struct Chain<R1, R2> {
 
 impl<R1, R2> Chain<R1, R2> {
     ghost use Rattle.lite_io.specs.contracts.chain.Chain.{the_row};
-    ghost use Rattle.lite_io.specs.Chain.{first_of, has_ended, second_of};
+    ghost use Rattle.lite_io.specs.Chaining.{first_of, has_ended, second_of};
 
     pub(crate) fn new(first: R1, second: R2) -> Chain<R1, R2>
         ensures first { first_of result ≡ first }
@@ -100,7 +100,8 @@ impl<R1, R2> Takings for Chain<R1, R2> {
 }
 
 impl<R1: AsyncRead, R2: AsyncRead> AsyncRead for Chain<R1, R2> {
-    ghost use Rattle.lite_io.specs.Chain.{Chains, Waits};
+    ghost use Rattle.lite_io.specs.Chain.{Chains};
+    ghost use Rattle.lite_io.specs.Chaining.{Waits};
 
     ghost leaves = { Waits R1.leaves R2.leaves };
 
@@ -170,7 +171,8 @@ impl<R1: AsyncRead, R2: AsyncRead> AsyncRead for Chain<R1, R2> {
 }
 
 impl<R1: AsyncBufRead, R2: AsyncBufRead> Chain<R1, R2> {
-    ghost use Rattle.lite_io.specs.Chain.{Chains, Waits, shown};
+    ghost use Rattle.lite_io.specs.Chain.{Chains};
+    ghost use Rattle.lite_io.specs.Chaining.{Waits, shown};
 
     // Fills the reader that is read, and goes on to the second where the first is at its end.
     #[tactic(auto, using(crate::proofs::Crossing::crossed))]
@@ -206,7 +208,7 @@ impl<R1: AsyncBufRead, R2: AsyncBufRead> Chain<R1, R2> {
 }
 
 impl<R1: AsyncBufRead, R2: AsyncBufRead> AsyncBufRead for Chain<R1, R2> {
-    ghost use Rattle.lite_io.specs.Chain.{shown};
+    ghost use Rattle.lite_io.specs.Chaining.{shown};
     ghost use Rattle.lite_io.specs.Laws.Chain.{chains_show};
 
     ghost lent = { shown R1.lent R2.lent };
@@ -235,7 +237,7 @@ impl<R1: AsyncBufRead, R2: AsyncBufRead> AsyncBufRead for Chain<R1, R2> {
 }
 
 impl<R1: CountedRead, R2: CountedRead> CountedRead for Chain<R1, R2> {
-    ghost use Rattle.lite_io.specs.Chain.{chain_ranks};
+    ghost use Rattle.lite_io.specs.Chaining.{chain_ranks};
     ghost use Rattle.lite_io.specs.Laws.Chain.{chains_counting};
 
     ghost ranks = { chain_ranks R1.ranks R2.ranks };

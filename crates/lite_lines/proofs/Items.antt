@@ -9,7 +9,8 @@ use Rattle.memchr.specs.Find.{IsFirstByte, is_byte}
 use Rattle.lite_io_base.specs.Marks.{Mark, bytes, filled}
 use Rattle.lite_io_base.specs.Runs.{RunLaws, Runs}
 use Rattle.lite_lines.specs.Pieces.{AtEnd, Cut, Itemised, pieces}
-use Rattle.lite_lines.specs.Segments.{Flows, Over, TakesIn}
+use Rattle.lite_lines.specs.Segments.{Flows, Over}
+use Rattle.lite_lines.specs.Turns.{TakesIn}
 use Rattle.lite_lines.proofs.Cutting.{concludes_at, concludes_piece, fill_then, flow_one, found_at, found_none, takes_all, waits_here}
 
 module _ {X S K A : Type 0} (over : Over X S (List ℕ) K) (byte : K → ℕ) (whole final : List ℕ → Result A Error → Type 0) (reads : Runs Mark S) (laws : RunLaws reads)

@@ -5,7 +5,6 @@ use Rattle.std.specs.IoError.{error_kind}
 use Rattle.std.specs.Prelude.{⊤}
 use Rattle.std.specs.declared.io.Error.{Error}
 use Rattle.std.specs.declared.io.ErrorKind.TheVariants.{OutOfMemory}
-use Rattle.futures.specs.Poll.{OnPending}
 use Rattle.futures.specs.declared.task.Poll.{Poll}
 use Rattle.futures.specs.declared.task.Poll.TheVariants.{Ready, Pending}
 use Rattle.memchr.specs.Find.{IsFirstByte, is_byte}
@@ -13,7 +12,9 @@ use Rattle.lite_io_base.specs.Marks.{Mark, bytes, filled}
 use Rattle.lite_io_base.specs.Runs.{RunLaws, Runs}
 use Rattle.lite_read.specs.Gathering.{Concludes, Gathers}
 use Rattle.lite_lines.specs.Pieces.{Cut}
-use Rattle.lite_lines.specs.ReadUntil.{AppendsMore, Counted, ReadsUntil, Stays, read_of, until}
+use Rattle.lite_lines.specs.Appending.{Stays, read_of}
+use Rattle.lite_lines.specs.ReadUntil.{Counted, ReadsUntil, until}
+use Rattle.lite_lines.specs.Turns.{AppendsMore}
 use Rattle.lite_lines.specs.declared.read_until.ReadUntilFuture.{ReadUntilFuture}
 use Rattle.lite_lines.proofs.Cutting.{concludes_at, concludes_piece, fill_then, found_at, found_none, takes_all, waits_here}
 
@@ -102,8 +103,3 @@ module _ {R : Type 0} (reads : Runs Mark R) (laws : RunLaws reads) (x y : ReadUn
           folds = rw (read_grown shown is) all;
           stays = stays_grown shown is;
         }
-
--- what holds anyhow holds after a pending
-pub goes_again : {A P : Type 0} (r : Poll A) → P → OnPending r P
-goes_again Pending p = p
-goes_again (Ready a) p = tt

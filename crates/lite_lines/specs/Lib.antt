@@ -1,8 +1,11 @@
+pub mod Appending
 pub mod Find
 pub mod Laws
 pub mod Lines
+pub mod NoneRefused
 pub mod Pieces
 pub mod ReadUntil
 pub mod Segments
 pub mod Split
 pub mod Texts
+pub mod Turns

@@ -8,7 +8,7 @@ use Rattle.lite_io_base.specs.Marks.{Mark}
 use Rattle.lite_io_base.specs.Runs.{Runs}
 use Rattle.lite_read.specs.Gathering.{Gather}
 use Rattle.lite_lines.specs.Pieces.{Itemised, pieces}
-use Rattle.lite_lines.specs.Segments.{FlowTurn, Flows, Over}
+use Rattle.lite_lines.specs.Segments.{Flows, Over}
 use Rattle.lite_lines.specs.Texts.{IsText, without_return}
 use Rattle.lite_lines.specs.declared.lines.Lines.{Lines}
 
@@ -22,6 +22,3 @@ lines_over = record { reader = λ x. x.reader; held = λ x. x.held.bytes.items; 
 module _ {R : Type 0} (reads : Runs Mark R) (may_refuse : Type 0) where
   abbrev pub GivesLines : Lines R → List (Answer (Result (String Global) Error)) → Lines R → Type 0
   GivesLines = Flows lines_over (lining may_refuse) reads
-
-  abbrev pub LinesTurn : Lines R → Option (Answer (Result (String Global) Error)) → Lines R → Type 0
-  LinesTurn = FlowTurn lines_over (lining may_refuse) reads

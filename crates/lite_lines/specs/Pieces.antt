@@ -1,10 +1,8 @@
 -- How the bytes of a reader are cut into pieces: at each delimiter, and at an end.
 use Rattle.std.specs.Prelude.{◌≡◌, ◌≢◌, ◌<◌, ◌⊎◌, ⊤, ℕ, List, [], ◌∷◌, ◌++◌, length, Option, Some, None, Result, Err}
 use Rattle.std.specs.IoError.{error_kind}
-use Rattle.std.specs.List.{AllByRecursion}
 use Rattle.std.specs.declared.io.Error.{Error}
 use Rattle.std.specs.declared.io.ErrorKind.TheVariants.{OutOfMemory}
-use Rattle.lite_base.specs.Answers.{Answer, item}
 use Rattle.lite_io_base.specs.Marks.{Mark}
 use Rattle.lite_read.specs.Gathering.{Gather}
 
@@ -41,13 +39,6 @@ Itemised whole final (Cut.last xs) held (Some r) after = final xs r × (after �
 Itemised whole final Cut.nothing held None after = after ≡ []
 Itemised whole final (Cut.failed e) held (Some r) after = (r ≡ Err e) × (after ≡ held)
 Itemised whole final cut held r after = ⊥
-
--- no answer is a refusal of memory: an error of the kind OutOfMemory
-abbrev pub NotRefused : {A : Type 0} → Answer (Result A Error) → Type 0
-NotRefused a = (e : Error) → a ≡ item (Err e) → error_kind e ≢ OutOfMemory
-
-abbrev pub NoneRefused : {A : Type 0} → List (Answer (Result A Error)) → Type 0
-NoneRefused = AllByRecursion NotRefused
 
 -- the answer at an end, of what is held
 abbrev pub AtEnd : {A : Type 0} → (List ℕ → Result A Error → Type 0) → List ℕ → Option (Result A Error) → Type 0

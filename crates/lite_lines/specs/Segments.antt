@@ -1,9 +1,8 @@
 -- What a stream makes of what a reader tells: the marks are cut into segments, one for each answer.
-use Rattle.std.specs.Prelude.{◌≡◌, ◌<◌, ℕ, List, [], ◌∷◌, ◌++◌, length, Option, Some, None}
-use Rattle.std.specs.List.{FoldsTo}
+use Rattle.std.specs.Prelude.{◌≡◌, List, [], ◌∷◌, ◌++◌}
 use Rattle.futures.specs.declared.task.Poll.{Poll}
 use Rattle.futures.specs.declared.task.Poll.TheVariants.{Ready, Pending}
-use Rattle.lite_io_base.specs.Marks.{Mark, bytes}
+use Rattle.lite_io_base.specs.Marks.{Mark}
 use Rattle.lite_io_base.specs.Runs.{Runs}
 use Rattle.lite_read.specs.Gathering.{Concludes, Gather, Waits}
 
@@ -37,16 +36,3 @@ module _ {X S M K R : Type 0} (over : Over X S M K) (gather : K → Gather M R) 
     pub segmented : Segmented (gather (over.kept x)) reads (over.reader x) (over.held x) out (over.reader y) (over.held y)
     pub stays : over.kept y ≡ over.kept x
     pub idle : out ≡ [] → y ≡ x
-
-  -- some bytes were taken in
-  pub record TakesIn (x y : X) : Type 0 where
-    pub taken : List ℕ
-    pub some : 0 < length taken
-    pub came : reads (over.reader x) (bytes taken) (over.reader y)
-    pub folds : FoldsTo (gather (over.kept x)).takes (over.held x) taken (over.held y)
-    pub stays : over.kept y ≡ over.kept x
-
-  -- one turn of a poll: it takes bytes in, and another may be made, or it answers
-  abbrev pub FlowTurn : X → Option (Poll R) → X → Type 0
-  FlowTurn x None y = TakesIn x y
-  FlowTurn x (Some a) y = Flows x (a ∷ []) y

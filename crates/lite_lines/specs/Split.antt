@@ -8,7 +8,7 @@ use Rattle.lite_io_base.specs.Marks.{Mark}
 use Rattle.lite_io_base.specs.Runs.{Runs}
 use Rattle.lite_read.specs.Gathering.{Gather}
 use Rattle.lite_lines.specs.Pieces.{Itemised, pieces}
-use Rattle.lite_lines.specs.Segments.{FlowTurn, Flows, Over}
+use Rattle.lite_lines.specs.Segments.{Flows, Over}
 use Rattle.lite_lines.specs.declared.split.Split.{Split}
 
 -- the item is a vector of these bytes
@@ -25,6 +25,3 @@ split_over = record { reader = λ x. x.reader; held = λ x. x.held.items; kept =
 module _ {R : Type 0} (reads : Runs Mark R) (may_refuse : Type 0) where
   abbrev pub Splits : Split R → List (Answer (Result (Vec ℕ Global) Error)) → Split R → Type 0
   Splits = Flows split_over (splitting may_refuse) reads
-
-  abbrev pub SplitTurn : Split R → Option (Answer (Result (Vec ℕ Global) Error)) → Split R → Type 0
-  SplitTurn = FlowTurn split_over (splitting may_refuse) reads

@@ -1,12 +1,15 @@
-ghost use Rattle.std.specs.Prelude.{⊤, ◌≡◌, ◌≤◌, ◌<◌, ◌++◌, ◌+◌, None, length, take, IfErr, IfOk};
+ghost use Rattle.std.specs.Prelude.{⊤, ◌≡◌, ◌≤◌, ◌<◌, ◌++◌, ◌+◌, [], ◌∷◌, None, length, take, IfErr, IfOk};
 ghost use Rattle.std.specs.Char.{is_ascii};
 ghost use Rattle.std.specs.IoError.{error_kind};
 ghost use Rattle.std.specs.List.{list_all};
 ghost use Rattle.std.specs.declared.io.ErrorKind.TheVariants.{OutOfMemory};
+ghost use Rattle.lite_base.specs.Chain.{OneTurn};
 ghost use Rattle.lite_base.specs.Ends.{Ends-map};
 ghost use Rattle.lite_io_base.specs.Marks.{bytes};
-ghost use Rattle.lite_lines.specs.Laws.Segments.{flow_laws, given_more};
-ghost use Rattle.lite_lines.specs.Lines.{GivesLines, LinesTurn, lines_over, lining};
+ghost use Rattle.lite_read.specs.Laws.Turns.{takes_given};
+ghost use Rattle.lite_lines.specs.Laws.Segments.{flow_laws};
+ghost use Rattle.lite_lines.specs.Lines.{GivesLines, lines_over, lining};
+ghost use Rattle.lite_lines.specs.Turns.{TakesIn};
 
 use crate::find::find_line;
 use crate::text::LineBytes;
@@ -69,13 +72,13 @@ impl<R: AsyncBufRead + CountedRead> Turns for Lines<R> {
 
     ghost can_turn = { λ x. R.ranks.counts x.reader };
 
-    ghost turn = { LinesTurn R.reads ⊤ };
+    ghost turn = { OneTurn (TakesIn lines_over (lining ⊤) R.reads) (λ x a y. GivesLines R.reads ⊤ x (a ∷ []) y) };
 
     ghost turn_leaves = { λ x. R.leaves x.reader };
 
     ghost goes_on = { λ x y c h. R.counting.counts_on x.reader y.reader (bytes h.taken) c h.came };
 
-    ghost finite = { λ x c. Ends-map (λ y. y.reader) (λ y z h. given_more R.reads y.reader z.reader h.taken h.some h.came) x (R.ends x.reader c) };
+    ghost finite = { λ x c. Ends-map (λ y. y.reader) takes_given x (R.ends x.reader c) };
 
     fn turn_once(&mut self, cx: &mut Context<'_>) -> Option<Poll<Option<io::Result<String>>>> {
         match find_line(&mut self.reader, cx) {

@@ -1,8 +1,11 @@
-ghost use Rattle.std.specs.Prelude.{⊤, ◌≡◌, ◌≤◌, length};
+ghost use Rattle.std.specs.Prelude.{⊤, ◌≡◌, ◌≤◌, [], ◌∷◌, length};
+ghost use Rattle.lite_base.specs.Chain.{OneTurn};
 ghost use Rattle.lite_base.specs.Ends.{Ends-map};
 ghost use Rattle.lite_io_base.specs.Marks.{bytes};
-ghost use Rattle.lite_lines.specs.Laws.ReadUntil.{more_given, stays_within, until_laws};
-ghost use Rattle.lite_lines.specs.ReadUntil.{ReadsUntil, UntilTurn};
+ghost use Rattle.lite_read.specs.Laws.Turns.{takes_given};
+ghost use Rattle.lite_lines.specs.Laws.ReadUntil.{stays_within, until_laws};
+ghost use Rattle.lite_lines.specs.ReadUntil.{ReadsUntil};
+ghost use Rattle.lite_lines.specs.Turns.{AppendsMore};
 
 use crate::append::append;
 use crate::find::find_byte;
@@ -30,13 +33,13 @@ impl<R: AsyncBufRead + CountedRead> Turns for ReadUntilFuture<'_, R> {
 
     ghost can_turn = { λ x. R.ranks.counts x.reader.now × (x.start ≤ length x.buf.now.items) };
 
-    ghost turn = { UntilTurn R.reads ⊤ };
+    ghost turn = { OneTurn (AppendsMore R.reads ⊤) (λ x a y. ReadsUntil R.reads ⊤ x (a ∷ []) y) };
 
     ghost turn_leaves = { λ x. R.leaves x.reader.now };
 
     ghost goes_on = { λ x y c h. (R.counting.counts_on x.reader.now y.reader.now (bytes h.taken) c.0 h.came, stays_within x y h.stays c.1) };
 
-    ghost finite = { λ x c. Ends-map (λ y. y.reader.now) more_given x (R.ends x.reader.now c.0) };
+    ghost finite = { λ x c. Ends-map (λ y. y.reader.now) takes_given x (R.ends x.reader.now c.0) };
 
     fn turn_once(&mut self, cx: &mut Context<'_>) -> Option<Poll<io::Result<usize>>> {
         match find_byte(self.reader, cx, self.byte) {

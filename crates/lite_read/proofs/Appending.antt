@@ -1,5 +1,5 @@
 -- Turns and polls of `read_to_end`.
-use Rattle.std.proofs.Common.{◌≡◌, ◌∙◌, ◌≤◌, ◌<◌, ◌+◌, ◌-◌, ℕ, List, [], ◌∷◌, ◌++◌, length, take, drop, Result, Err, refl, ap, sym, subst, arith, length-append, length-take-le}
+use Rattle.std.proofs.Common.{◌≡◌, ◌∙◌, ◌≤◌, ◌<◌, ◌+◌, ◌-◌, ℕ, List, [], ◌∷◌, ◌++◌, length, take, drop, Result, Err, refl, ap, sym, subst, arith, length-take-le}
 use Rattle.std.proofs.Math.Seq.{take-length}
 use Rattle.std.proofs.lemmas.List.{take_at}
 use Rattle.std.specs.IoError.{error_kind}
@@ -19,15 +19,11 @@ use Rattle.lite_io_base.specs.Marks.{Mark, bytes, moved}
 use Rattle.lite_io_base.specs.Runs.{RunLaws, Runs}
 use Rattle.lite_read.proofs.Filling.{front, moved_some}
 use Rattle.lite_read.specs.Gathering.{Concludes}
-use Rattle.lite_read.specs.ReadToEnd.{Answers, ReadsSome, ReadsToEnd, appends, front_of}
+use Rattle.lite_read.specs.Appending.{front_of}
+use Rattle.lite_read.specs.Laws.ReadToEnd.{appends_all, grown}
+use Rattle.lite_read.specs.ReadToEnd.{ReadsToEnd, appends}
+use Rattle.lite_read.specs.Turns.{Answers, ReadsSome}
 use Rattle.lite_read.specs.declared.read_to_end.ReadToEndFuture.{ReadToEndFuture}
-
-grown : (m : Type 0) (start : ℕ) (p q : List ℕ) (xs : List ℕ) → FoldsTo (appends m start).takes p xs q → length p ≤ length q
-grown m start p q [] h = omega (arith, ap length h)
-grown m start p q (x ∷ xs) h =
-    let here : length h.0 ≡ length p + 1 = ap length h.1 ∙ length-append p (x ∷ []) in
-    let rest = grown m start h.0 q xs h.2 in
-    omega (arith, here, rest)
 
 module _ {R A : Type 0} (m : Type 0) {reads : Runs Mark R} (laws : RunLaws reads) where
   -- there was no memory for a read
@@ -81,11 +77,11 @@ abbrev pub after_read : {R A : Type 0} → ReadToEndFuture R A → R → List �
 after_read w r items n room =
     record { reader = record w.reader { now = r }; buf = record w.buf { now = with_items w.buf.now items }; start = w.start; filled = w.filled + n; room = room }
 
-module _ {R A : Type 0} (reads : Runs Mark R) where
+module _ {R A : Type 0} (m : Type 0) (reads : Runs Mark R) where
   pub read_some : (x w : ReadToEndFuture R A) (r : R) (old new : List ℕ) (n room : ℕ)
       → w ≡ record x { buf = record x.buf { now = w.buf.now } } → front_of w ≡ front_of x → w.filled ≤ length w.buf.now.items → old ≡ w.buf.now.items
       → length new ≡ length old - w.filled → n ≤ length new → 0 < n → reads w.reader.now (moved new (take n new)) r
-      → ReadsSome reads x (after_read w r (put_mid w.filled (length old - w.filled) old new) n room)
+      → ReadsSome m reads x (after_read w r (put_mid w.filled (length old - w.filled) old new) n room)
   read_some x w r old new n room same front_is within is long most some came =
       let at = w.filled in
       let put = put_mid at (length old - at) old new in
@@ -99,15 +95,18 @@ module _ {R A : Type 0} (reads : Runs Mark R) where
       let all : v.items ≡ put = with_all w.buf.now put (kept ∙ ap length is) in
       let ahead : take (at + n) v.items ≡ take at old ++ take n new = ap (take (at + n)) all ∙ front at (length old - at) n old new inside most in
       let whole : length v.items ≡ length old = ap length all ∙ kept in
+      let more : take (at + n) v.items ≡ front_of x ++ take n new = ahead ∙ ap (λ l. l ++ take n new) (ap (take at) is ∙ front_is) in
       record {
         taken = take n new;
         some = any;
         came = subst (λ (b : MutBor R). reads b.now (bytes (take n new)) r) reader read;
-        more = ahead ∙ ap (λ l. l ++ take n new) (ap (take at) is ∙ front_is);
-        within = omega (arith, whole, long, most, inside);
-        stays = record {
-          reader = ap (λ (b : MutBor R). record b { now = r }) reader;
-          buf = ap (λ (u : ReadToEndFuture R A). record u.buf { now = v }) same;
-          start = ap (λ (u : ReadToEndFuture R A). u.start) same;
-        };
+        folds = subst (λ l. FoldsTo (appends m x.start).takes (front_of x) (take n new) l) (sym more) (appends_all m x.start (front_of x) (take n new));
+        stays = (
+          record {
+            reader = ap (λ (b : MutBor R). record b { now = r }) reader;
+            buf = ap (λ (u : ReadToEndFuture R A). record u.buf { now = v }) same;
+            start = ap (λ (u : ReadToEndFuture R A). u.start) same;
+          },
+          omega (arith, whole, long, most, inside),
+        );
       }

@@ -6,7 +6,8 @@ use Rattle.std.specs.List.{FoldsTo}
 use borrow.Rule.Slice.PartMut.{mid_len, post_of, put_mid, same_len_mid}
 use Rattle.lite_io_base.specs.Marks.{Mark, bytes, moved}
 use Rattle.lite_io_base.specs.Runs.{Runs}
-use Rattle.lite_read.specs.ReadExact.{ReadsMore, fills}
+use Rattle.lite_read.specs.ReadExact.{fills}
+use Rattle.lite_read.specs.Turns.{ReadsMore}
 use Rattle.lite_read.specs.declared.read_exact.ReadExactFuture.{ReadExactFuture}
 
 pub moved_some : (room xs : List ℕ) → 0 < length xs → moved room xs ≡ bytes xs

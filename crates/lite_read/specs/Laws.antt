@@ -8,3 +8,4 @@ pub mod Settling
 pub mod SteadyBytes
 pub mod SteadyReadExact
 pub mod SteadyReadToEnd
+pub mod Turns

@@ -1,5 +1,7 @@
+pub mod Appending
 pub mod Bytes
 pub mod FillBuf
+pub mod Filling
 pub mod Gathering
 pub mod Laws
 pub mod Polled
@@ -9,3 +11,4 @@ pub mod ReadToEnd
 pub mod ReadVectored
 pub mod Seek
 pub mod Settling
+pub mod Turns

@@ -1,5 +1,5 @@
 -- `read_vectored`: one read into buffers.
-use Rattle.std.specs.Prelude.{◌≡◌, ◌≤◌, ℕ, List, length, Option, Some, Result, IfOk}
+use Rattle.std.specs.Prelude.{◌≡◌, ◌≤◌, ℕ, List, length, Some, Result, IfOk}
 use Rattle.std.specs.Borrow.{MutBor}
 use Rattle.std.specs.declared.io.Error.{Error}
 use Rattle.std.specs.declared.io.slices.IoSliceMut.{IoSliceMut}

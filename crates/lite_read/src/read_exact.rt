@@ -1,7 +1,9 @@
-ghost use Rattle.std.specs.Prelude.{◌≤◌, ◌-◌, length};
+ghost use Rattle.std.specs.Prelude.{◌≤◌, ◌-◌, [], ◌∷◌, length};
+ghost use Rattle.lite_base.specs.Chain.{OneTurn};
 ghost use Rattle.lite_base.specs.Ends.{Ends-count};
 ghost use Rattle.lite_read.specs.Laws.ReadExact.{exact_laws, room_falls};
-ghost use Rattle.lite_read.specs.ReadExact.{ExactTurn, ReadsExactly};
+ghost use Rattle.lite_read.specs.ReadExact.{ReadsExactly};
+ghost use Rattle.lite_read.specs.Turns.{ReadsMore};
 
 use lite_base::{Context, Future, Poll, Turns, drive};
 use lite_io_base::AsyncRead;
@@ -25,7 +27,7 @@ impl<R: AsyncRead> Turns for ReadExactFuture<'_, R> {
 
     ghost can_turn = { λ x. x.filled ≤ length x.buf.now };
 
-    ghost turn = { ExactTurn R.reads };
+    ghost turn = { OneTurn (ReadsMore R.reads) (λ x a y. ReadsExactly R.reads x (a ∷ []) y) };
 
     ghost turn_leaves = { λ x. R.leaves x.reader.now };
 

@@ -1,6 +1,9 @@
 ghost use Rattle.std.specs.Prelude.{◌≡◌, ◌≤◌, ◌<◌, length, ⊤, OnOk};
+ghost use Rattle.lite_base.specs.Chain.{OneTurn};
+ghost use Rattle.lite_read.specs.Appending.{CanTurn, front_of};
 ghost use Rattle.lite_read.specs.Laws.ReadToEnd.{append_laws, some_falls, turns_on};
-ghost use Rattle.lite_read.specs.ReadToEnd.{AppendTurn, CanTurn, ReadsToEnd, front_of};
+ghost use Rattle.lite_read.specs.ReadToEnd.{ReadsToEnd};
+ghost use Rattle.lite_read.specs.Turns.{Answers, ReadsSome};
 
 use lite_base::{Context, Future, Poll, Turns, drive};
 use lite_io_base::CountedRead;
@@ -54,7 +57,7 @@ impl<R: CountedRead, A: Allocator> Turns for ReadToEndFuture<'_, R, A> {
 
     ghost can_turn = { CanTurn R.ranks.counts };
 
-    ghost turn = { AppendTurn ⊤ R.reads };
+    ghost turn = { OneTurn (ReadsSome ⊤ R.reads) (Answers ⊤ R.reads) };
 
     ghost turn_leaves = { λ x. R.leaves x.reader.now };
 

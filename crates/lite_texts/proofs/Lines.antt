@@ -15,8 +15,10 @@ use Rattle.lite_read.specs.Gathering.{Concludes}
 use Rattle.lite_lines.proofs.Cutting.{concludes_at, concludes_piece, fill_then, found_at, found_none, takes_all}
 use Rattle.lite_lines.specs.Pieces.{Cut}
 use Rattle.lite_lines.specs.ReadUntil.{Counted}
-use Rattle.lite_texts.specs.ReadLine.{Holds, LineTurn, line_over, lining}
-use Rattle.lite_texts.specs.Texts.{Gains, Stays, TakesIn, ValueOf}
+use Rattle.lite_texts.specs.Holding.{Stays}
+use Rattle.lite_texts.specs.ReadLine.{Holds, line_over, lining}
+use Rattle.lite_texts.specs.Texts.{Gains, ValueOf}
+use Rattle.lite_texts.specs.Turns.{Answers, TakesIn}
 use Rattle.lite_texts.specs.declared.read_line.ReadLineFuture.{ReadLineFuture}
 use Rattle.lite_texts.proofs.Turns.{text_finished}
 
@@ -50,7 +52,7 @@ module _ {R A : Type 0} {reads : Runs Mark R} (laws : RunLaws reads) (x : ReadLi
   pub filled_last : (y : ReadLineFuture R A) (marks : List Mark) (v r : Result ℕ Error) → y.reader ≡ record x.reader { now = mid }
       → y.text ≡ record x.text { now = y.text.now }
       → ValueOf x.bytes.items v r → Gains x.bytes.items (string_bytes x.text.now) (string_bytes y.text.now) → y.bytes.items ≡ [] → Holds y
-      → Concludes (lining ⊤) x.bytes.items marks v x.bytes.items → reads x.reader.now marks mid → LineTurn ⊤ reads x (Some (Ready r)) y
+      → Concludes (lining ⊤) x.bytes.items marks v x.bytes.items → reads x.reader.now marks mid → Answers line_over (lining ⊤) reads x (Ready r) y
   filled_last y marks v r reader after value gains empty holds h came =
       text_finished line_over (lining ⊤) reads x (after_fill x mid) y (record { reader = refl; text = refl }) refl marks v r reader after value gains empty holds h came
 
@@ -63,7 +65,7 @@ module _ {R A : Type 0} {reads : Runs Mark R} (laws : RunLaws reads) (x : ReadLi
         (value : ValueOf w.bytes.items v r) (gains : Gains w.bytes.items (string_bytes w.text.now) (string_bytes y.text.now)) (empty : y.bytes.items ≡ []) (holds : Holds y) where
       -- the newline was taken
       pub line_cut : (k : ℕ) → v ≡ Ok (length w.bytes.items) → IsFirstByte (is_byte 10) shown (Some k) → w.bytes.items ≡ x.bytes.items ++ take (k + 1) shown
-          → reads mid (bytes (take (k + 1) shown)) w.reader.now → LineTurn ⊤ reads x (Some (Ready r)) y
+          → reads mid (bytes (take (k + 1) shown)) w.reader.now → Answers line_over (lining ⊤) reads x (Ready r) y
       line_cut k is first more took =
           let came = fill_then reads laws x.reader.now mid w.reader.now shown (bytes (take (k + 1) shown)) (omega (arith, (found_at 10 shown k first).0)) fills took in
           let h = cut_off x.bytes.items shown w.bytes.items k (length w.bytes.items) first more refl in
@@ -72,7 +74,7 @@ module _ {R A : Type 0} {reads : Runs Mark R} (laws : RunLaws reads) (x : ReadLi
 
       -- there was no memory
       pub line_refused : (e : Error) → v ≡ Err e → error_kind e ≡ OutOfMemory → 0 < length shown → w.reader.now ≡ mid → w.bytes.items ≡ x.bytes.items
-          → LineTurn ⊤ reads x (Some (Ready r)) y
+          → Answers line_over (lining ⊤) reads x (Ready r) y
       line_refused e is kind some unread kept =
           let came = fill_then reads laws x.reader.now mid w.reader.now shown [] some fills (rw unread (laws.rests mid)) in
           let h = subst (λ u. Concludes (lining ⊤) x.bytes.items [] u x.bytes.items) (sym is) (refused x.bytes.items e kind) in
@@ -90,9 +92,7 @@ module _ {R A : Type 0} {reads : Runs Mark R} (laws : RunLaws reads) (x : ReadLi
           some = some;
           came = fill_then reads laws x.reader.now mid w.reader.now shown (bytes shown) some fills took;
           folds = subst (λ l. FoldsTo (lining ⊤).takes x.bytes.items shown l) (sym more) all;
-          stays = from;
-          same = text;
-          held = holds;
+          stays = (from, text, holds);
         }
 
 -- the newline is ASCII too

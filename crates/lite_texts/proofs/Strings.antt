@@ -1,5 +1,5 @@
 -- The turns of `read_to_string`.
-use Rattle.std.proofs.Common.{◌≡◌, ◌∙◌, ◌≤◌, ◌<◌, ◌+◌, ◌-◌, ℕ, List, [], ◌∷◌, ◌++◌, Some, length, take, drop, Result, Ok, Err, refl, ap, sym, subst, arith, length-take-le}
+use Rattle.std.proofs.Common.{◌≡◌, ◌∙◌, ◌≤◌, ◌<◌, ◌+◌, ◌-◌, ℕ, List, [], ◌∷◌, ◌++◌, length, take, drop, Result, Ok, Err, refl, ap, sym, subst, arith, length-take-le}
 use Rattle.std.proofs.lemmas.List.{take-append-le, take_all, take_at}
 use Rattle.std.specs.IoError.{error_kind}
 use Rattle.std.specs.List.{FoldsTo}
@@ -16,8 +16,10 @@ use Rattle.lite_io_base.specs.Runs.{Runs}
 use Rattle.lite_read.proofs.Filling.{front, moved_some}
 use Rattle.lite_read.specs.Gathering.{Concludes}
 use Rattle.lite_read.specs.Laws.ReadToEnd.{appends_all}
-use Rattle.lite_texts.specs.ReadToString.{Holds, StringTurn, all_over, front_of, taking}
-use Rattle.lite_texts.specs.Texts.{Gains, Stays, TakesIn, ValueOf}
+use Rattle.lite_texts.specs.Holding.{Stays}
+use Rattle.lite_texts.specs.ReadToString.{Holds, all_over, front_of, taking}
+use Rattle.lite_texts.specs.Texts.{Gains, ValueOf}
+use Rattle.lite_texts.specs.Turns.{Answers, TakesIn}
 use Rattle.lite_texts.proofs.Turns.{text_finished}
 use Rattle.lite_texts.specs.declared.read_to_string.ReadToStringFuture.{ReadToStringFuture}
 
@@ -63,9 +65,11 @@ module _ {R A : Type 0} (reads : Runs Mark R) where
         some = any;
         came = subst (λ (b : MutBor R). reads b.now (bytes (take n new)) r) reader read;
         folds = subst (λ l. FoldsTo (taking ⊤).takes (front_of x) (take n new) l) (sym more) (appends_all ⊤ 0 (front_of x) (take n new));
-        stays = record { reader = ap (λ (b : MutBor R). record b { now = r }) reader; text = stays.text };
-        same = text;
-        held = record { fits = holds.fits; within = omega (arith, whole, long, most, inside) };
+        stays = (
+          record { reader = ap (λ (b : MutBor R). record b { now = r }) reader; text = stays.text },
+          text,
+          record { fits = holds.fits; within = omega (arith, whole, long, most, inside) },
+        );
       }
 
 pub moved_none : (room : List ℕ) → 0 < length room → moved room [] ≡ Mark.end ∷ []
@@ -82,7 +86,7 @@ module _ {R A : Type 0} (reads : Runs Mark R) (x w y : ReadToStringFuture R A) (
   pub finished : (marks : List Mark) (v r : Result ℕ Error) → y.reader ≡ w.reader → y.text ≡ record w.text { now = y.text.now } → ValueOf (front_of w) v r
       → Gains (front_of w) (string_bytes w.text.now) (string_bytes y.text.now) → front_of y ≡ [] → Holds y
       → Concludes (taking ⊤) (front_of w) marks v (front_of w)
-      → reads x.reader.now marks w.reader.now → StringTurn ⊤ reads x (Some (Ready r)) y
+      → reads x.reader.now marks w.reader.now → Answers all_over (taking ⊤) reads x (Ready r) y
   finished marks v r reader after value gains empty holds h came =
       text_finished all_over (taking ⊤) reads x w y stays text marks v r reader after value gains empty holds (subst (λ l. Concludes (taking ⊤) l marks v (front_of w)) front_is h) came
 
@@ -111,7 +115,7 @@ module _ {R A : Type 0} (reads : Runs Mark R) (x w : ReadToStringFuture R A) (r 
       → y.reader ≡ wrote.reader → y.text ≡ record w.text { now = y.text.now } → ValueOf (front_of wrote) v res
       → Gains (front_of wrote) (string_bytes w.text.now) (string_bytes y.text.now) → front_of y ≡ [] → Holds y
       → Concludes (taking ⊤) (front_of wrote) marks v (front_of wrote)
-      → reads w.reader.now marks r → StringTurn ⊤ reads x (Some (Ready res)) y
+      → reads w.reader.now marks r → Answers all_over (taking ⊤) reads x (Ready res) y
   answered y marks v res text end after value gains empty held h came =
       finished reads x wrote y wrote_stays text wrote_front marks v res end after value gains empty held h (subst (λ (b : MutBor R). reads b.now marks r) reader came)
 

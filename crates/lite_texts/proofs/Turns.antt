@@ -1,16 +1,17 @@
 -- Answers of futures that read for a text.
-use Rattle.std.proofs.Common.{◌≡◌, ℕ, List, [], ◌∷◌, Some, Result, refl, subst, sym}
+use Rattle.std.proofs.Common.{◌≡◌, ℕ, List, [], ◌∷◌, Result, refl, subst, sym}
 use Rattle.std.specs.Prelude.{string_bytes}
 use Rattle.std.specs.declared.io.Error.{Error}
 use denote.MutBor.{MutBor}
-use Rattle.futures.specs.Poll.{OnPending}
 use Rattle.futures.specs.declared.task.Poll.{Poll}
 use Rattle.futures.specs.declared.task.Poll.TheVariants.{Ready, Pending}
 use Rattle.lite_io_base.specs.Marks.{Mark}
 use Rattle.lite_io_base.specs.Runs.{Runs}
 use Rattle.lite_read.specs.Gathering.{Concludes, Gather, Gathers, Waits}
+use Rattle.lite_texts.specs.Holding.{Over, Stays}
 use Rattle.lite_texts.specs.Laws.Texts.{folds_in, stays_join}
-use Rattle.lite_texts.specs.Texts.{Gains, Over, ReadsText, Stays, TextTurn, ValueOf, in_text, reading}
+use Rattle.lite_texts.specs.Texts.{Gains, ReadsText, ValueOf, in_text, reading}
+use Rattle.lite_texts.specs.Turns.{Answers}
 
 module _ {X R A : Type 0} (over : Over X R A) (gather : Gather (List ℕ) (Result ℕ Error)) (reads : Runs Mark R) (x y : X) (stays : Stays over x y) where
   one : (marks : List Mark) (a : Poll (Result ℕ Error)) → reads (over.reader x).now marks (over.reader y).now
@@ -52,15 +53,10 @@ module _ {X R A : Type 0} (over : Over X R A) (gather : Gather (List ℕ) (Resul
       → over.text y ≡ record (over.text w) { now = (over.text y).now }
       → ValueOf (over.read w) v r → Gains (over.read w) (string_bytes (over.text w).now) (string_bytes (over.text y).now) → over.read y ≡ [] → over.holds y
       → Concludes gather (over.read x) marks v (over.read w) → reads (over.reader x).now marks (over.reader w).now
-      → TextTurn over gather reads x (Some (Ready r)) y
+      → Answers over gather reads x (Ready r) y
   text_finished marks v r reader after value gains empty holds h came =
       let end : reads (over.reader x).now marks (over.reader y).now = subst (λ (b : MutBor R). reads (over.reader x).now marks b.now) (sym reader) came in
       let all = stays_join over x w y stays (record { reader = kept_ref (over.reader w) (over.reader y) reader; text = after }) in
       let into : Gains (over.read w) (string_bytes (over.text x).now) (string_bytes (over.text y).now) =
       subst (λ l. Gains (over.read w) l (string_bytes (over.text y).now)) text gains in
       (text_given over gather reads x y all marks v r (over.read w) h value into empty end, holds)
-
--- what holds anyhow holds after a pending
-pub again : {A P : Type 0} (r : Poll A) → P → OnPending r P
-again Pending p = p
-again (Ready a) p = tt

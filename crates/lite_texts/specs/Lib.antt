@@ -1,4 +1,6 @@
+pub mod Holding
 pub mod Laws
 pub mod ReadLine
 pub mod ReadToString
 pub mod Texts
+pub mod Turns

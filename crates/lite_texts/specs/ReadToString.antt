@@ -1,12 +1,13 @@
 -- `read_to_string`: what `read_to_end` reads goes to the end of a text.
-use Rattle.std.specs.Prelude.{◌≤◌, ℕ, List, length, take, Option, Result}
+use Rattle.std.specs.Prelude.{◌≤◌, ℕ, List, length, take, Result}
 use Rattle.std.specs.declared.io.Error.{Error}
 use Rattle.futures.specs.declared.task.Poll.{Poll}
 use Rattle.lite_io_base.specs.Marks.{Mark}
 use Rattle.lite_io_base.specs.Runs.{Runs}
 use Rattle.lite_read.specs.Gathering.{Gather}
 use Rattle.lite_read.specs.ReadToEnd.{appends}
-use Rattle.lite_texts.specs.Texts.{Fits, Over, ReadsText, TextTurn}
+use Rattle.lite_texts.specs.Holding.{Fits, Over}
+use Rattle.lite_texts.specs.Texts.{ReadsText}
 use Rattle.lite_texts.specs.declared.read_to_string.ReadToStringFuture.{ReadToStringFuture}
 
 abbrev pub taking : Type 0 → Gather (List ℕ) (Result ℕ Error)
@@ -27,6 +28,3 @@ all_over = record { reader = λ x. x.reader; text = λ x. x.text; read = front_o
 module _ {R A : Type 0} (may_refuse : Type 0) (reads : Runs Mark R) where
   abbrev pub ReadsToString : ReadToStringFuture R A → List (Poll (Result ℕ Error)) → ReadToStringFuture R A → Type 0
   ReadsToString = ReadsText all_over (taking may_refuse) reads
-
-  abbrev pub StringTurn : ReadToStringFuture R A → Option (Poll (Result ℕ Error)) → ReadToStringFuture R A → Type 0
-  StringTurn = TextTurn all_over (taking may_refuse) reads

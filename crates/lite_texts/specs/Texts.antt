@@ -1,16 +1,13 @@
 -- Bytes that are read for a text, and what the text gains.
-use Rattle.std.specs.Prelude.{◌≡◌, ◌⊎◌, ◌<◌, ◌≤◌, ◌+◌, ℕ, List, [], ◌∷◌, ◌++◌, length, Option, Some, None, Result, Ok, Err, IsUtf8, string_bytes, string_capacity, string_len, vec_len}
+use Rattle.std.specs.Prelude.{◌≡◌, ◌⊎◌, ℕ, List, [], ◌++◌, Result, Ok, Err, IsUtf8, string_bytes}
 use Rattle.std.specs.IoError.{error_kind}
-use Rattle.std.specs.List.{FoldsTo}
 use Rattle.std.specs.declared.io.Error.{Error}
 use Rattle.std.specs.declared.io.ErrorKind.TheVariants.{InvalidData}
-use Rattle.std.specs.declared.string.String.{String}
-use Rattle.std.specs.declared.vec.Vec.{Vec}
-use denote.MutBor.{MutBor}
 use Rattle.futures.specs.declared.task.Poll.{Poll}
-use Rattle.lite_io_base.specs.Marks.{Mark, bytes}
+use Rattle.lite_io_base.specs.Marks.{Mark}
 use Rattle.lite_io_base.specs.Runs.{Runs}
 use Rattle.lite_read.specs.Gathering.{Gather, Gathered}
+use Rattle.lite_texts.specs.Holding.{Over, Stays}
 
 -- the bytes are appended to the text where they are UTF-8, and else dropped
 abbrev pub Gains : List ℕ → List ℕ → List ℕ → Type 0
@@ -36,44 +33,12 @@ in_text gather =
       gives = λ p marks r q. (v : Result ℕ Error) × (all : List ℕ) × gather.gives p.read marks v all × ValueOf all v r × Gains all p.text q.text × (q.read ≡ []);
     }
 
--- the text has room for the bytes
-abbrev pub Fits : {A : Type 0} → String A → Vec ℕ A → Type 0
-Fits text bytes = string_len text + vec_len bytes ≤ string_capacity text
-
--- a future of the type X that reads for a text: its reader, its text, what it has read, and what is true of it before each poll
-pub record Over (X R A : Type 0) : Type 1 where
-  pub reader : X → MutBor R
-  pub text : X → MutBor (String A)
-  pub read : X → List ℕ
-  pub holds : X → Type 0
-
 module _ {X R A : Type 0} (over : Over X R A) where
   abbrev pub reading : X → Reading
   reading x = record { read = over.read x; text = string_bytes (over.text x).now }
 
-  -- both references stay
-  pub record Stays (x y : X) : Type 0 where
-    pub reader : over.reader y ≡ record (over.reader x) { now = (over.reader y).now }
-    pub text : over.text y ≡ record (over.text x) { now = (over.text y).now }
-
-  module _ (gather : Gather (List ℕ) (Result ℕ Error)) (reads : Runs Mark R) where
-    -- no answer leaves all as it is
-    pub record ReadsText (x : X) (out : List (Poll (Result ℕ Error))) (y : X) : Type 0 where
-      pub gathered : Gathered (in_text gather) reads (over.reader x).now (reading x) out (over.reader y).now (reading y)
-      pub stays : Stays x y
-      pub idle : out ≡ [] → y ≡ x
-
-    -- some bytes were read
-    pub record TakesIn (x y : X) : Type 0 where
-      pub taken : List ℕ
-      pub some : 0 < length taken
-      pub came : reads (over.reader x).now (bytes taken) (over.reader y).now
-      pub folds : FoldsTo gather.takes (over.read x) taken (over.read y)
-      pub stays : Stays x y
-      pub same : string_bytes (over.text y).now ≡ string_bytes (over.text x).now
-      pub held : over.holds y
-
-    -- one turn of a poll: bytes are read, and another may be made, or it answers
-    abbrev pub TextTurn : X → Option (Poll (Result ℕ Error)) → X → Type 0
-    TextTurn x None y = TakesIn x y
-    TextTurn x (Some a) y = ReadsText x (a ∷ []) y × over.holds y
+  -- no answer leaves all as it is
+  pub record ReadsText (gather : Gather (List ℕ) (Result ℕ Error)) (reads : Runs Mark R) (x : X) (out : List (Poll (Result ℕ Error))) (y : X) : Type 0 where
+    pub gathered : Gathered (in_text gather) reads (over.reader x).now (reading x) out (over.reader y).now (reading y)
+    pub stays : Stays over x y
+    pub idle : out ≡ [] → y ≡ x

@@ -3,7 +3,8 @@ ghost use Rattle.std.specs.Prelude.{◌≡◌, ◌≤◌, ◌++◌, [], ◌+◌,
 ghost use Rattle.std.specs.IoError.{error_kind};
 ghost use Rattle.std.specs.declared.io.ErrorKind.TheVariants.{OutOfMemory};
 ghost use Rattle.lite_io_base.specs.Marks.{bytes as read_bytes};
-ghost use Rattle.lite_texts.specs.Texts.{Fits, Gains, ValueOf};
+ghost use Rattle.lite_texts.specs.Holding.{Fits};
+ghost use Rattle.lite_texts.specs.Texts.{Gains, ValueOf};
 
 use lite_io_base::AsyncBufRead;
 use std::alloc::{AllocError, Allocator};

@@ -3,11 +3,15 @@ ghost use Rattle.std.specs.Char.{is_ascii};
 ghost use Rattle.std.specs.IoError.{error_kind};
 ghost use Rattle.std.specs.List.{list_all};
 ghost use Rattle.std.specs.declared.io.ErrorKind.TheVariants.{OutOfMemory};
+ghost use Rattle.lite_base.specs.Chain.{OneTurn};
 ghost use Rattle.lite_base.specs.Ends.{Ends-map};
 ghost use Rattle.lite_io_base.specs.Marks.{bytes};
-ghost use Rattle.lite_texts.specs.Laws.Texts.{more_given, text_laws};
-ghost use Rattle.lite_texts.specs.ReadLine.{Holds, LineTurn, ReadsLine, line_over, lining};
-ghost use Rattle.lite_texts.specs.Texts.{Gains, Stays, ValueOf};
+ghost use Rattle.lite_read.specs.Laws.Turns.{takes_given};
+ghost use Rattle.lite_texts.specs.Holding.{Stays};
+ghost use Rattle.lite_texts.specs.Laws.Texts.{text_laws};
+ghost use Rattle.lite_texts.specs.ReadLine.{Holds, ReadsLine, line_over, lining};
+ghost use Rattle.lite_texts.specs.Texts.{Gains, ValueOf};
+ghost use Rattle.lite_texts.specs.Turns.{Answers, TakesIn};
 
 use crate::held::{finish, take_in};
 use lite_base::{Context, Future, Poll, Turns, drive};
@@ -98,13 +102,13 @@ impl<R: AsyncBufRead + CountedRead, A: Allocator> Turns for ReadLineFuture<'_, R
 
     ghost can_turn = { λ x. R.ranks.counts x.reader.now × Holds x };
 
-    ghost turn = { LineTurn ⊤ R.reads };
+    ghost turn = { OneTurn (TakesIn line_over (lining ⊤) R.reads) (Answers line_over (lining ⊤) R.reads) };
 
     ghost turn_leaves = { λ x. R.leaves x.reader.now };
 
-    ghost goes_on = { λ x y c h. (R.counting.counts_on x.reader.now y.reader.now (bytes h.taken) c.0 h.came, h.held) };
+    ghost goes_on = { λ x y c h. (R.counting.counts_on x.reader.now y.reader.now (bytes h.taken) c.0 h.came, h.stays.2) };
 
-    ghost finite = { λ x c. Ends-map (λ y. y.reader.now) (more_given line_over (lining ⊤)) x (R.ends x.reader.now c.0) };
+    ghost finite = { λ x c. Ends-map (λ y. y.reader.now) takes_given x (R.ends x.reader.now c.0) };
 
     fn turn_once(&mut self, cx: &mut Context<'_>) -> Option<Poll<io::Result<usize>>> {
         match find_line(self.reader, cx) {

@@ -1,9 +1,13 @@
 ghost use Rattle.std.specs.Prelude.{⊤, ◌≡◌, ◌≤◌, ◌<◌, [], length, take, OnErr, OnOk, string_bytes};
+ghost use Rattle.lite_base.specs.Chain.{OneTurn};
 ghost use Rattle.lite_base.specs.Ends.{Ends-map};
 ghost use Rattle.lite_io_base.specs.Marks.{bytes};
-ghost use Rattle.lite_texts.specs.Laws.Texts.{more_given, text_laws};
-ghost use Rattle.lite_texts.specs.ReadToString.{Holds, ReadsToString, StringTurn, all_over, front_of, taking};
-ghost use Rattle.lite_texts.specs.Texts.{Gains, Stays, ValueOf};
+ghost use Rattle.lite_read.specs.Laws.Turns.{takes_given};
+ghost use Rattle.lite_texts.specs.Holding.{Stays};
+ghost use Rattle.lite_texts.specs.Laws.Texts.{text_laws};
+ghost use Rattle.lite_texts.specs.ReadToString.{Holds, ReadsToString, all_over, front_of, taking};
+ghost use Rattle.lite_texts.specs.Texts.{Gains, ValueOf};
+ghost use Rattle.lite_texts.specs.Turns.{Answers, TakesIn};
 
 use crate::held::{finish, make_room};
 use lite_base::{Context, Future, Poll, Turns, drive};
@@ -76,13 +80,13 @@ impl<R: CountedRead, A: Allocator> Turns for ReadToStringFuture<'_, R, A> {
 
     ghost can_turn = { λ x. R.ranks.counts x.reader.now × Holds x };
 
-    ghost turn = { StringTurn ⊤ R.reads };
+    ghost turn = { OneTurn (TakesIn all_over (taking ⊤) R.reads) (Answers all_over (taking ⊤) R.reads) };
 
     ghost turn_leaves = { λ x. R.leaves x.reader.now };
 
-    ghost goes_on = { λ x y c h. (R.counting.counts_on x.reader.now y.reader.now (bytes h.taken) c.0 h.came, h.held) };
+    ghost goes_on = { λ x y c h. (R.counting.counts_on x.reader.now y.reader.now (bytes h.taken) c.0 h.came, h.stays.2) };
 
-    ghost finite = { λ x c. Ends-map (λ y. y.reader.now) (more_given all_over (taking ⊤)) x (R.ends x.reader.now c.0) };
+    ghost finite = { λ x c. Ends-map (λ y. y.reader.now) takes_given x (R.ends x.reader.now c.0) };
 
     fn turn_once(&mut self, cx: &mut Context<'_>) -> Option<Poll<io::Result<usize>>> {
         if self.make_room().is_err() {

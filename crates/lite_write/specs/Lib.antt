@@ -1,8 +1,10 @@
 pub mod Close
 pub mod Flush
+pub mod Hands
 pub mod Laws
 pub mod Sink
 pub mod SteadyWriteAll
+pub mod Turns
 pub mod Write
 pub mod WriteAll
 pub mod WriteVectored

@@ -1,5 +1,5 @@
 -- `write_all`: some bytes are handed to a writer, from the front, until all are taken.
-use Rattle.std.specs.Prelude.{◌≡◌, ◌<◌, ℕ, List, [], ◌∷◌, ◌++◌, length, Option, Some, None, Result, Ok, Err}
+use Rattle.std.specs.Prelude.{◌≡◌, ◌<◌, ℕ, List, [], ◌∷◌, ◌++◌, length, Result, Ok, Err}
 use Rattle.std.specs.IoError.{error_kind}
 use Rattle.std.specs.declared.io.Error.{Error}
 use Rattle.std.specs.declared.io.ErrorKind.TheVariants.{WriteZero}
@@ -7,13 +7,8 @@ use Rattle.futures.specs.declared.task.Poll.{Poll}
 use Rattle.futures.specs.declared.task.Poll.TheVariants.{Ready, Pending}
 use Rattle.lite_io_base.specs.Runs.{Runs}
 use Rattle.lite_io_base.specs.Takings.{Taking}
+use Rattle.lite_write.specs.Hands.{Hands}
 use Rattle.lite_write.specs.declared.write_all.WriteAllFuture.{WriteAllFuture}
-
--- each mark takes some of the bytes from the front, and these are left
-abbrev pub Hands : List ℕ → List Taking → List ℕ → Type 0
-Hands offered [] left = left ≡ offered
-Hands offered (Taking.wrote xs ∷ l) left = (rest : List ℕ) × (0 < length xs) × (offered ≡ xs ++ rest) × Hands rest l left
-Hands offered (m ∷ l) left = ⊥
 
 -- all are taken; a write took none; an error
 abbrev pub Ended : List ℕ → List Taking → Result (Unit {0}) Error → Type 0
@@ -51,16 +46,3 @@ module _ {W : Type 0} (writes : Runs Taking W) where
     pub handed : HandsOver x.buf.now marks out y.buf.now
     pub stays : y.writer ≡ record x.writer { now = y.writer.now }
     pub idle : out ≡ [] → y ≡ x
-
-  -- one write took some bytes
-  pub record WritesSome (x y : WriteAllFuture W) : Type 0 where
-    pub taken : List ℕ
-    pub some : 0 < length taken
-    pub came : writes x.writer.now (Taking.wrote taken ∷ []) y.writer.now
-    pub front : x.buf.now ≡ taken ++ y.buf.now
-    pub stays : y.writer ≡ record x.writer { now = y.writer.now }
-
-  -- one turn of a poll: a write that takes bytes, or the answer; after the former another turn may be made
-  abbrev pub AllTurn : WriteAllFuture W → Option (Poll (Result (Unit {0}) Error)) → WriteAllFuture W → Type 0
-  AllTurn x None y = WritesSome x y
-  AllTurn x (Some a) y = WritesAll x (a ∷ []) y

@@ -1,7 +1,9 @@
-ghost use Rattle.std.specs.Prelude.{length, ⊤};
+ghost use Rattle.std.specs.Prelude.{[], ◌∷◌, length, ⊤};
+ghost use Rattle.lite_base.specs.Chain.{OneTurn};
 ghost use Rattle.lite_base.specs.Ends.{Ends-count};
 ghost use Rattle.lite_write.specs.Laws.WriteAll.{all_laws, left_falls};
-ghost use Rattle.lite_write.specs.WriteAll.{AllTurn, WritesAll};
+ghost use Rattle.lite_write.specs.Turns.{WritesSome};
+ghost use Rattle.lite_write.specs.WriteAll.{WritesAll};
 
 use lite_base::{Context, Future, Poll, Turns, drive};
 use lite_io_base::AsyncWrite;
@@ -25,7 +27,7 @@ impl<W: AsyncWrite> Turns for WriteAllFuture<'_, W> {
 
     ghost can_turn = { λ _. ⊤ };
 
-    ghost turn = { AllTurn W.writes };
+    ghost turn = { OneTurn (WritesSome W.writes) (λ x a y. WritesAll W.writes x (a ∷ []) y) };
 
     ghost turn_leaves = { λ x. W.write_leaves x.writer.now };
 

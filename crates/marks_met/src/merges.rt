@@ -5,7 +5,7 @@ ghost use Rattle.lite_base.specs.Alike.{SameItem};
 ghost use Rattle.lite_base.specs.Calling.{AgreeFrom, Calls};
 ghost use Rattle.lite_cycle.specs.declared.stop_after_future.Stopping.TheVariants.{Holding};
 ghost use Rattle.lite_flatten.specs.Cloned.{EqualClones};
-ghost use Rattle.lite_flatten.specs.Flatten.{EachInner};
+ghost use Rattle.lite_flatten.specs.Inner.{EachInner};
 ghost use Rattle.lite_flatten.specs.declared.chain.Part.TheVariants.{First};
 
 use lite_base::{CalmFuture, CalmStream, Counted, Future, SteadyFuture, SteadyStream};

@@ -1,6 +1,6 @@
 //! Futures of reads, and streams that cut what a reader tells: two that are alike, and a calm one, of each type.
 ghost use Rattle.std.specs.Prelude.{◌≡◌, [], Some, false, true, length};
-ghost use Rattle.lite_copy.specs.Copy.{Begins, source_of};
+ghost use Rattle.lite_copy.specs.Parts.{Begins, source_of};
 
 use lite_base::{CalmFuture, CalmStream, SteadyFuture, SteadyStream};
 use lite_copy::CopyFuture;

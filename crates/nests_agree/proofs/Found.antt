@@ -1,5 +1,6 @@
 -- Two values of futures that are alike, where neither is a refusal.
-use Rattle.std.proofs.Common.{◌≡◌, ◌∙◌, List, Result, Ok, Err, sym}
+use Rattle.std.proofs.Common.{◌≡◌, ◌∙◌, List, [], ◌∷◌, Result, Ok, Err, sym}
+use Rattle.std.specs.List.{AllZip}
 use Rattle.std.proofs.Common.{Global}
 use Rattle.std.specs.Prelude.{⊤, IfOk}
 use Rattle.std.specs.declared.io.Error.{Error}
@@ -8,9 +9,6 @@ use Rattle.futures.specs.declared.task.Poll.{Poll}
 use Rattle.lite_base.specs.Alike.{SameItem, SameList, Sameness}
 use Rattle.lite_base.specs.Answers.{Answer}
 use Rattle.lite_base.specs.Future.Finishes.{Finishes}
-use Rattle.lite_consume.specs.Consume.{Folds}
-use Rattle.lite_consume.specs.Consuming.{Consumes, Fold}
-use Rattle.lite_consume.specs.declared.consume.Consume.{Consume}
 use Rattle.lite_gather.specs.Agreeing.{Gathered, HoldsSame, HoldsSameBoth, TryGathered}
 use Rattle.lite_gather.specs.declared.refused.TryCollectError.{TryCollectError}
 use Rattle.lite_gather.specs.declared.refused.TryCollectError.TheVariants.{Source, Memory}
@@ -20,7 +18,7 @@ use Rattle.lite_io_base.specs.Steady.{AllAmple}
 use Rattle.lite_laws.specs.Both.{OneValue}
 use Rattle.lite_lines.specs.Laws.Ample.{lines_ample}
 use Rattle.lite_lines.specs.Lines.{GivesLines}
-use Rattle.lite_lines.specs.Pieces.{NoneRefused, NotRefused}
+use Rattle.lite_lines.specs.NoneRefused.{NoneRefused, NotRefused}
 use Rattle.lite_lines.specs.declared.lines.Lines.{Lines}
 use Rattle.lite_stream.specs.Laws.Cutting.{cuts_each}
 use Rattle.lite_stream.specs.Take.{Takes, is_none_left, left_after}
@@ -50,6 +48,13 @@ module _ {C : Type 0} {same want : C → C → Type 0} (wanted : (c d : C) → s
   try_gathered_as fails (Err (Memory e)) (Err (Source f)) h = h
   try_gathered_as fails (Err (Memory e)) (Err (Memory f)) h = h
 
+-- items that are the same one by one are the same in a wider sense
+pub all_zip_as : {T : Type 0} {same want : T → T → Type 0} → ((x y : T) → same x y → want x y) → (l m : List T) → AllZip same l m → AllZip want l m
+all_zip_as wider [] [] h = tt
+all_zip_as wider [] (y ∷ m) h = absurd h
+all_zip_as wider (x ∷ l) [] h = absurd h
+all_zip_as wider (x ∷ l) (y ∷ m) h = (wider x y h.0, all_zip_as wider l m h.1)
+
 -- collections that hold lists that are the same, where what they hold is their items
 pub same_items : {C T : Type 0} (same : Sameness T) (items : C → List T) (c d : C) → HoldsSame same (λ v l. items v ≡ l) c d → SameList same (items c) (items d)
 same_items Sameness.equal items c d h = h.1 ∙ sym h.2
@@ -58,17 +63,6 @@ same_items (Sameness.by same) items c d h = rw (h.2, h.3) h.4
 pub both_items : {C T : Type 0} (same : Sameness T) (items : C → List T) (c d : C × C) → HoldsSameBoth same same (λ v l. items v ≡ l) (λ v l. items v ≡ l) c d
     → SameList same (items c.0) (items d.0) × SameList same (items c.1) (items d.1)
 both_items same items c d h = (same_items same items c.0 d.0 h.0, same_items same items c.1 d.1 h.1)
-
--- a run of the stream in which memory was found, if that is known of the answers that came before the value
-pub stream_finished : {S M A R : Type 0} {run found : S → List (Answer A) → S → Type 0} (fold : Fold M A R) (P : List (Answer A) → Type 0) → ((s t : S) (i : List (Answer A)) → P i → run s i t → found s i t)
-    → (x : Consume S M) (l : List (Poll R)) (v : R) → ((q : M) (i : List (Answer A)) → Consumes fold x.folder i l q → P i) → Finishes (Folds run fold) x l v → Finishes (Folds found fold) x l v
-stream_finished fold P ample x l v each f =
-    let c = f.came in
-    record {
-      gives = f.gives;
-      last = f.last;
-      came = record { ins = c.ins; came = ample x.stream f.last.stream c.ins (each f.last.folder c.ins c.consumed) c.came; consumed = c.consumed };
-    }
 
 -- the lines of a reader that asks for no memory, up to a number of them
 module _ {R : Type 0} {reads ample : Runs Mark R} (all : AllAmple reads ample) where

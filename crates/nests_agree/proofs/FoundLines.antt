@@ -28,17 +28,17 @@ use Rattle.lite_io_base.specs.Marks.{Mark}
 use Rattle.lite_io_base.specs.Runs.{Runs}
 use Rattle.lite_io_base.specs.Steady.{AllAmple}
 use Rattle.lite_lines.specs.Lines.{GivesLines}
-use Rattle.lite_lines.specs.Pieces.{NoneRefused, NotRefused}
+use Rattle.lite_lines.specs.NoneRefused.{NoneRefused, NotRefused}
 use Rattle.lite_lines.specs.declared.lines.Lines.{Lines}
 use Rattle.lite_stream.specs.Take.{Takes}
 use Rattle.lite_stream.specs.declared.take.Take.{Take}
-use Rattle.nests_agree.proofs.Found.{stream_finished, taken_ample}
+use Rattle.nests_agree.proofs.Found.{taken_ample}
 use Rattle.nests_agree.specs.Lines.{EachFound, IsFound, WasFound}
 
 abbrev Line : Type 0
 Line = Result (String Global) Error
 
-ok_found : {A : Type 0} (x : A) → NotRefused {A = A} (item (Ok x))
+pub ok_found : {A : Type 0} (x : A) → NotRefused {A = A} (item (Ok x))
 ok_found x e h k = cc h
 
 found_item : {A : Type 0} (x : Result A Error) → IsFound x → NotRefused (item x)
@@ -49,10 +49,10 @@ each_item : {A : Type 0} (l : List (Result A Error)) → AllByRecursion IsFound 
 each_item [] f = tt
 each_item (x ∷ l) f = (found_item x f.0, each_item l f.1)
 
-waiting_found : {A : Type 0} → NotRefused {A = A} Pending
+pub waiting_found : {A : Type 0} → NotRefused {A = A} Pending
 waiting_found e h k = cc h
 
-end_found : {A : Type 0} → NotRefused {A = A} (Ready Option.None)
+pub end_found : {A : Type 0} → NotRefused {A = A} (Ready Option.None)
 end_found e h k = cc h
 
 module _ {R : Type 0} {reads ample : Runs Mark R} (all : AllAmple reads ample) where
@@ -71,28 +71,30 @@ module _ {R : Type 0} {reads ample : Runs Mark R} (all : AllAmple reads ample) w
     tried_found z l v m f =
         let fold = fold_of (λ (p : TryCollect C). p.items) (tries_collect {E = Error} ⊤ holds) in
         let fits = was_found v m in
-        let came = stream_finished fold NoneRefused (taken_ample all) z l v
+        finished_ample NoneRefused (taken_ample all) (part_within (λ p. p.items) (try_collect_within holds)) z l v fits.1
         (λ q i h.
         try_collect_each holds NotRefused waiting_found end_found ok_found z.folder.items q.items i l v fits.0 f.gives
-        (consumes_by (λ p. p.items) fold (tries_collect ⊤ holds) (within_itself fold tt) z.folder q i l (λ r g. tt) h)) f in
-        finished_ample (λ s t i h. h) (part_within (λ p. p.items) (try_collect_within holds)) z l v fits.1 came
+        (consumes_by (λ p. p.items) fold (tries_collect ⊤ holds) (within_itself fold tt) z.folder q i l (λ r g. tt) h)) f
 
+-- where each answer that came before was found
+module _ {S A : Type 0} {run found : S → List (Answer (Result A Error)) → S → Type 0}
+    (told : (s t : S) (i : List (Answer (Result A Error))) → NoneRefused i → run s i t → found s i t) where
   abbrev Gathered : Type 0
-  Gathered = Result (Vec Line Global) (Refused (Vec Line Global) Line)
+  Gathered = Result (Vec (Result A Error) Global) (Refused (Vec (Result A Error) Global) (Result A Error))
 
-  each_found : (v : Gathered) → EachFound v → FitsGathered (λ (c : Vec Line Global) i. c.items ≡ i) NotRefused v × IsOk v
-  each_found (Ok c) f = (λ i e. subst (AllByRecursion (λ (x : Line). NotRefused (item x))) e (each_item c.items f), refl)
+  each_found : (v : Gathered) → EachFound v → FitsGathered (λ (c : Vec (Result A Error) Global) i. c.items ≡ i) NotRefused v × IsOk v
+  each_found (Ok c) f = (λ i e. subst (AllByRecursion (λ (x : Result A Error). NotRefused (item x))) e (each_item c.items f), refl)
   each_found (Err r) f = absurd f
 
-  pub gathered_found : (z : Consume (Take (Lines R)) (Collect (Vec Line Global))) (l : List (Poll Gathered)) (v : Gathered) → EachFound v
-      → Finishes (Folds (Takes (GivesLines reads ⊤)) (fold_of (λ f. f.collection) (collects ⊤ (λ c i. c.items ≡ i)))) z l v
-      → Finishes (Folds (Takes (GivesLines ample ⊥)) (fold_of (λ f. f.collection) (collects ⊥ (λ c i. c.items ≡ i)))) z l v
+  pub gathered_found : (z : Consume S (Collect (Vec (Result A Error) Global))) (l : List (Poll Gathered)) (v : Gathered) → EachFound v
+      → Finishes (Folds run (fold_of (λ f. f.collection) (collects ⊤ (λ c i. c.items ≡ i)))) z l v
+      → Finishes (Folds found (fold_of (λ f. f.collection) (collects ⊥ (λ c i. c.items ≡ i)))) z l v
   gathered_found z l v m f =
-      let plain = collects {T = Line} ⊤ (λ (c : Vec Line Global) i. c.items ≡ i) in
-      let fold = fold_of (λ (p : Collect (Vec Line Global)). p.collection) plain in
+      let plain = collects {T = Result A Error} ⊤ (λ (c : Vec (Result A Error) Global) i. c.items ≡ i) in
+      let fold = fold_of (λ (p : Collect (Vec (Result A Error) Global)). p.collection) plain in
       let fits = each_found v m in
-      let came = stream_finished fold NoneRefused (taken_ample all) z l v
+      finished_ample NoneRefused told (part_within (λ p. p.collection) (collect_within (λ c i. c.items ≡ i))) z l v fits.1
       (λ q i h.
-      collect_each (λ (c : Vec Line Global) j. c.items ≡ j) NotRefused waiting_found end_found (λ c. (c.items, refl)) z.folder.collection q.collection i l v fits.0 f.gives
-      (consumes_by (λ p. p.collection) fold plain (within_itself fold tt) z.folder q i l (λ r g. tt) h)) f in
-      finished_ample (λ s t i h. h) (part_within (λ p. p.collection) (collect_within (λ c i. c.items ≡ i))) z l v fits.1 came
+      collect_each (λ (c : Vec (Result A Error) Global) j. c.items ≡ j) NotRefused waiting_found end_found (λ c. (c.items, refl))
+      z.folder.collection q.collection i l v fits.0 f.gives
+      (consumes_by (λ p. p.collection) fold plain (within_itself fold tt) z.folder q i l (λ r g. tt) h)) f

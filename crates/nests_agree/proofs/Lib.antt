@@ -1,3 +1,4 @@
 pub mod Found
+pub mod FoundLengths
 pub mod FoundLines
 pub mod SameLengths

@@ -1,7 +1,5 @@
 -- The lengths of lines, and which are no length of an empty line.
-use Rattle.std.proofs.Common.{◌≡◌, ◌∙◌, ℕ, List, Result, Ok, Err, Global, Bool, true, nat_lt, length, ap, refl, sym}
-use Rattle.std.specs.Prelude.{string_bytes}
-use Rattle.std.specs.IoError.{error_kind}
+use Rattle.std.proofs.Common.{◌≡◌, ◌∙◌, ℕ, Result, Ok, Err, Global, Bool, nat_lt, length, ap, refl, sym}
 use Rattle.std.specs.declared.io.Error.{Error}
 use Rattle.std.specs.declared.string.String.{String}
 use Rattle.lite_base.specs.declared.future.ready.Ready.{Ready}

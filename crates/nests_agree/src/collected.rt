@@ -2,7 +2,8 @@
 //! the lines are the same: texts by their bytes, and errors by their kinds. `Err` where there was no memory to sleep on.
 ghost use Rattle.lite_gather.specs.Agreeing.{Gathered, TryGathered};
 ghost use Rattle.lite_lines.specs.Laws.Marks.{SameText};
-ghost use Rattle.lite_read.specs.Settling.{SameOr};
+ghost use Rattle.lite_read.specs.Settling.{SameByKind, SameOr};
+ghost use Rattle.nests_agree.specs.Lengths.{IsLength, IsTested};
 ghost use Rattle.nests_agree.specs.Lines.{EachFound, WasFound};
 ghost use Rattle.std.specs.IoError.{error_kind};
 ghost use Rattle.std.specs.List.{AllZip};
@@ -13,7 +14,8 @@ use lite_gather::{Refused, TryCollectError};
 use lite_io_base::{AsyncBufRead, CountedRead, SteadyRead};
 use lite_laws::block_on_both;
 use lite_lines::make::lines;
-use lite_stream::make::take;
+use lite_sift::make::filter;
+use lite_stream::make::{map, take};
 use std::alloc::{AllocError, AllocGlobal};
 use std::io;
 use std::random::RandomSource;
@@ -26,6 +28,12 @@ pub type TriedLines = Result<Vec<String>, TryCollectError<Vec<String>, String, i
 pub type GatheredLines = Result<
     Vec<io::Result<String>>,
     Refused<Vec<io::Result<String>>, io::Result<String>>,
+>;
+
+/// The lengths of the lines of a reader, and its errors in their places.
+pub type GatheredLengths = Result<
+    Vec<io::Result<usize>>,
+    Refused<Vec<io::Result<usize>>, io::Result<usize>>,
 >;
 
 /// Collects the lines of each reader up to a number of lines, or up to the first error. Where neither value is a refusal of memory,
@@ -72,4 +80,43 @@ where
     let gathered = collect(take(lines(one, rt.alloc()), most), rt.alloc());
     let more = collect(take(lines(other, rt.alloc()), most), rt.alloc());
     block_on_both(rt, gathered, more)
+}
+
+/// Collects the lengths of the lines of each reader up to a number of lines, without those that are empty, with its errors in their places.
+/// Where no memory was refused, neither for a line nor for a collection, both hold the same: equal lengths, and errors of one kind.
+pub fn gathered_lengths_agree<R, T>(
+    rt: &R,
+    one: T,
+    other: T,
+    most: usize,
+) -> Result<(GatheredLengths, GatheredLengths), AllocError>
+where
+    R: Wait + RandomSource + AllocGlobal,
+    T: AsyncBufRead + CountedRead + SteadyRead + Drop,
+    requires first { T.ranks.counts one }
+    requires second { T.ranks.counts other }
+    requires alike { T.alike one other }
+    requires found { T.needs_none }
+    ensures { IfOk result (λ values. EachFound values.0 → EachFound values.1
+        → Gathered (λ v w. AllZip SameByKind v.items w.items) values.0 values.1) }
+{
+    let length = |line: io::Result<String>| -> io::Result<usize>
+        ensures { IsLength line result }
+    {
+        match line {
+            Ok(text) => Ok(text.as_str().len()),
+            Err(e) => Err(e),
+        }
+    };
+    let is_some = |length: &io::Result<usize>| -> bool
+        ensures { IsTested length.now result }
+    {
+        match length {
+            Ok(n) => *n > 0,
+            Err(_) => true,
+        }
+    };
+    let lengths = filter(take(map(lines(one, rt.alloc()), length), most), is_some);
+    let more = filter(take(map(lines(other, rt.alloc()), length), most), is_some);
+    block_on_both(rt, collect(lengths, rt.alloc()), collect(more, rt.alloc()))
 }

@@ -7,7 +7,7 @@ ghost use Rattle.nests_agree.specs.Lengths.{IsLength, IsTested, WillGiveLength};
 ghost use Rattle.nests_agree.specs.Lines.{FromLines};
 ghost use Rattle.lite_laws.specs.Both.{Fewer};
 ghost use Rattle.lite_lines.specs.Laws.Marks.{SameText};
-ghost use Rattle.lite_lines.specs.Pieces.{NoneRefused};
+ghost use Rattle.lite_lines.specs.NoneRefused.{NoneRefused};
 ghost use Rattle.lite_read.specs.Settling.{SameByKind, SameOr};
 
 use lite_base::future::Ready;

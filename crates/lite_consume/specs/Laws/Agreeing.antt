@@ -63,24 +63,33 @@ gives_one l v w g h =
     let d = gives_strip l w h in
     cc
 
--- if memory was found in each step but those that give another value, and no poll of the stream asks for any, then it was found in a run that gave no other
-module _ {S M A R : Type 0} {run found : S → List (Answer A) → S → Type 0} {fold ample : Fold M A R} {may : R → Type 0} (takes : TakesNone run found) (within : WithinWhere may fold ample) where
-  pub consumed_ample : (x y : Consume S M) (l : List (Poll R)) → ((r : R) → Gives l r → may r) → Folds run fold x l y → Folds found ample x l y
-  consumed_ample x y l m h =
+-- If memory was found in each step but those that give another value, and the stream found it wherever its answers were such as came
+-- before the value, then it was found in a run that gave no other.
+module _ {S M A R : Type 0} {run found : S → List (Answer A) → S → Type 0} {fold ample : Fold M A R} {may : R → Type 0} (Such : List (Answer A) → Type 0)
+    (told : (s t : S) (i : List (Answer A)) → Such i → run s i t → found s i t) (within : WithinWhere may fold ample) where
+  pub consumed_ample : (x y : Consume S M) (l : List (Poll R)) → ((r : R) → Gives l r → may r) → ((i : List (Answer A)) → Consumes fold x.folder i l y.folder → Such i)
+      → Folds run fold x l y → Folds found ample x l y
+  consumed_ample x y l m such h =
       record {
         ins = h.ins;
-        came = takes x.stream y.stream h.ins h.came;
+        came = told x.stream y.stream h.ins (such h.ins h.consumed) h.came;
         consumed = consumes_by (λ p. p) fold ample within x.folder y.folder h.ins l m h.consumed;
       }
 
   -- one that was polled until its value
-  pub finished_ample : (x : Consume S M) (l : List (Poll R)) (value : R) → may value → Finishes (Folds run fold) x l value → Finishes (Folds found ample) x l value
-  finished_ample x l value m f =
+  pub finished_ample : (x : Consume S M) (l : List (Poll R)) (value : R) → may value → ((q : M) (i : List (Answer A)) → Consumes fold x.folder i l q → Such i)
+      → Finishes (Folds run fold) x l value → Finishes (Folds found ample) x l value
+  finished_ample x l value m such f =
       record {
         gives = f.gives;
         last = f.last;
-        came = consumed_ample x f.last l (λ r g. subst may (gives_one l value r f.gives g) m) f.came;
+        came = consumed_ample x f.last l (λ r g. subst may (gives_one l value r f.gives g) m) (such f.last.folder) f.came;
       }
+
+-- where no poll of the stream asks for any
+pub finished_taking_none : {S M A R : Type 0} {run found : S → List (Answer A) → S → Type 0} {fold ample : Fold M A R} {may : R → Type 0} → TakesNone run found → WithinWhere may fold ample
+    → (x : Consume S M) (l : List (Poll R)) (value : R) → may value → Finishes (Folds run fold) x l value → Finishes (Folds found ample) x l value
+finished_taking_none takes within x l value m = finished_ample (λ i. ⊤) (λ s t i u. takes s t i) within x l value m (λ q i h. tt)
 
 -- over a steady stream, a fold whose values agree
 pub consumed_steady : {S M A R : Type 0} {run found : S → List (Answer A) → S → Type 0} {fold ample : Fold M A R} {none none' : Type 0} {alike : S → S → Type 0} {agree : M → M → Type 0} (like : Sameness A) (same : Sameness R)
@@ -92,7 +101,7 @@ consumed_steady {ample = ample} like same s f =
       steady = λ x y e l m x' y' h k.
           made_same like f x.folder y.folder (strip h.ins) (strip k.ins) (strip l) (strip m) e.1 (s.steady x.stream y.stream e.0 h.ins k.ins x'.stream y'.stream h.came k.came)
           (stripped ample x.folder x'.folder h.ins l h.consumed) (stripped ample y.folder y'.folder k.ins m k.consumed);
-      found = λ n x y l h. consumed_ample (s.found n.0) (f.found n.1) x y l (λ v g. tt) h;
+      found = λ n x y l h. consumed_ample (λ i. ⊤) (λ v w i u. s.found n.0 v w i) (f.found n.1) x y l (λ r g. tt) (λ i c. tt) h;
     }
 
 -- a fold of a part

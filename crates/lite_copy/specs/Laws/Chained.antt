@@ -1,11 +1,12 @@
 -- What a chain tells up to its end is what its two readers told up to theirs.
 use Rattle.std.proofs.Common.{◌≡◌, ◌∙◌, ℕ, Bool, true, false, List, [], ◌∷◌, ◌++◌, refl, ap, sym, subst}
-use Rattle.lite_io.specs.Chain.{Chains, Crosses, Joins, NoEnd, first_of, has_ended, second_of}
+use Rattle.lite_io.specs.Chain.{Chains, Crosses, Joins, NoEnd}
+use Rattle.lite_io.specs.Chaining.{first_of, has_ended, second_of}
 use Rattle.lite_io.specs.declared.chain.Chain.{Chain}
 use Rattle.lite_io_base.specs.Marks.{Mark}
 use Rattle.lite_io_base.specs.Runs.{RunLaws, Runs}
 use Rattle.lite_copy.specs.Chained.{TellsBoth, TellsRest, TellsWhole}
-use Rattle.lite_copy.specs.Copy.{GoesOn, bytes_told}
+use Rattle.lite_copy.specs.MarkLists.{GoesOn, bytes_told}
 use Rattle.lite_copy.specs.Laws.Copy.{told_both}
 
 goes_parts : (l m : List Mark) → GoesOn (l ++ m) → GoesOn l × GoesOn m

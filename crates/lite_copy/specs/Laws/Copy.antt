@@ -1,13 +1,16 @@
 -- Laws of `copy`.
-use Rattle.std.proofs.Common.{◌≡◌, ◌∙◌, ◌≤◌, ◌<◌, ◌+◌, ◌%◌, ◌^◌, ℕ, List, [], ◌∷◌, ◌++◌, length, Some, Result, refl, ap, sym, arith, append-nil, append_assoc, length-append}
+use Rattle.std.proofs.Common.{◌≡◌, ◌∙◌, ◌<◌, ◌+◌, ◌%◌, ◌^◌, ℕ, List, [], ◌∷◌, ◌++◌, length, Result, Ok, refl, ap, sym, subst, arith}
+use Rattle.std.proofs.Common.{append-nil, append_assoc, length-append}
 use Rattle.std.proofs.Math.Nat.{mod-add-mod, mod-eq_of_lt}
 use Rattle.std.proofs.lemmas.Grind.{flat_map-append}
+use Rattle.std.proofs.lemmas.List.Elements.{filter-append}
+use Rattle.std.specs.List.{filter}
 use Rattle.std.specs.declared.io.Error.{Error}
 use Rattle.futures.specs.declared.task.Poll.{Poll}
-use Rattle.futures.specs.declared.task.Poll.TheVariants.{Ready, Pending}
 use Rattle.lite_base.specs.Answers.{Waiting, strip}
-use Rattle.lite_base.specs.Chain.{Goes, Goes-back, Next}
+use Rattle.lite_base.specs.Chain.{Goes, Goes-back}
 use Rattle.lite_base.specs.FutureLaws.{FutureLaws}
+use Rattle.lite_base.specs.Laws.Answers.{strip_join, up_to_once, waiting_strip, waiting_up_to}
 use Rattle.lite_base.specs.Laws.Calm.{waits_join}
 use Rattle.lite_io.specs.BufReader.{Through}
 use Rattle.lite_io_base.specs.Laws.Falls.{GivenRun}
@@ -15,36 +18,26 @@ use Rattle.lite_io_base.specs.Laws.Marks.{bytes_given}
 use Rattle.lite_io_base.specs.Marks.{Mark, bytes}
 use Rattle.lite_io_base.specs.Runs.{RunLaws, Runs}
 use Rattle.lite_io_base.specs.Takings.{Taking, bytes_in, bytes_of}
-use Rattle.lite_copy.specs.Copy.{Answers, Copied, Copies, CopiesSome, CopyTurn, GoesOn, Moves, TakesSome, bytes_told, held_of, met_of, source_of, waits_taken, waits_told}
+use Rattle.lite_copy.specs.Copy.{Copied, Copies, Moves, Values}
+use Rattle.lite_copy.specs.Copying.{CopiesSome}
+use Rattle.lite_copy.specs.MarkLists.{GoesOn, TakesSome, TakesUpTo, TellsUpTo, byte_in, bytes_told, is_taken_wait, is_told_wait, waits_taken, waits_told}
+use Rattle.lite_copy.specs.Parts.{held_of, met_in, source_of}
 use Rattle.lite_copy.specs.declared.copy.CopyFuture.{CopyFuture}
 
 abbrev Value : Type 0
 Value = Result ℕ Error
 
 pub told_both : (l m : List Mark) → bytes_told (l ++ m) ≡ bytes_told l ++ bytes_told m
-told_both [] m = refl
-told_both (Mark.byte b ∷ l) m = ap (λ k. b ∷ k) (told_both l m)
-told_both (Mark.pending ∷ l) m = told_both l m
-told_both (Mark.fault kind ∷ l) m = told_both l m
-told_both (Mark.end ∷ l) m = told_both l m
+told_both l m = flat_map-append byte_in l m
 
 told_waits : (l m : List Mark) → waits_told (l ++ m) ≡ waits_told l + waits_told m
-told_waits [] m = omega arith
-told_waits (Mark.byte b ∷ l) m = told_waits l m
-told_waits (Mark.pending ∷ l) m = let e = told_waits l m in omega (arith, e)
-told_waits (Mark.fault kind ∷ l) m = told_waits l m
-told_waits (Mark.end ∷ l) m = told_waits l m
+told_waits l m = ap length (filter-append is_told_wait l m) ∙ length-append (filter is_told_wait l) (filter is_told_wait m)
 
 pub taken_both : (l m : List Taking) → bytes_of (l ++ m) ≡ bytes_of l ++ bytes_of m
 taken_both l m = flat_map-append bytes_in l m
 
 taken_waits : (l m : List Taking) → waits_taken (l ++ m) ≡ waits_taken l + waits_taken m
-taken_waits [] m = omega arith
-taken_waits (Taking.wrote xs ∷ l) m = taken_waits l m
-taken_waits (Taking.pending ∷ l) m = let e = taken_waits l m in omega (arith, e)
-taken_waits (Taking.fault kind ∷ l) m = taken_waits l m
-taken_waits (Taking.flushed ∷ l) m = taken_waits l m
-taken_waits (Taking.closed ∷ l) m = taken_waits l m
+taken_waits l m = ap length (filter-append is_taken_wait l m) ∙ length-append (filter is_taken_wait l) (filter is_taken_wait m)
 
 goes_both : (l m : List Mark) → GoesOn l → GoesOn m → GoesOn (l ++ m)
 goes_both [] m h k = k
@@ -61,41 +54,59 @@ some_both (Taking.fault kind ∷ l) m h k = absurd h
 some_both (Taking.flushed ∷ l) m h k = absurd h
 some_both (Taking.closed ∷ l) m h k = absurd h
 
-module _ (failed : List Mark) (last : List Taking) (after : List ℕ) (met : List Mark) (total : ℕ) where
-  answers_after : (l m : List (Poll Value)) → Waiting l → Answers m failed last after met total → Answers (l ++ m) failed last after met total
-  answers_after [] m w h = h
-  answers_after (Pending ∷ l) m w h = answers_after l m w h
-  answers_after (Ready r ∷ l) m w h = absurd w
+module _ (after : List ℕ) (met : List Mark) (total : ℕ) where
+  no_value : (failed : List Mark) (last : List Taking) → Values [] failed last after met total → (failed ≡ []) × (last ≡ [])
+  no_value [] [] h = (refl, refl)
+  no_value [] (t ∷ last) h = absurd h
+  no_value (m ∷ failed) last h = absurd h
 
-  answers_none : (l : List (Poll Value)) → Waiting l → Answers l failed last after met total → (failed ≡ []) × (last ≡ [])
-  answers_none [] w h = h
-  answers_none (Pending ∷ l) w h = answers_none l w h
-  answers_none (Ready r ∷ l) w h = absurd w
-
-  answers_once : (l : List (Poll Value)) → Answers l failed last after met total → length (strip l) ≤ 1
-  answers_once [] h = omega arith
-  answers_once (Pending ∷ l) h = answers_once l h
-  answers_once (Ready r ∷ l) h = rw h.1 (omega arith)
+  pub ok_value : (n : ℕ) (failed : List Mark) (last : List Taking) → Values (Ok n ∷ []) failed last after met total
+      → (failed ≡ []) × (last ≡ Taking.flushed ∷ []) × (after ≡ []) × (met ≡ Mark.end ∷ []) × (n ≡ total)
+  ok_value n [] [] h = absurd h
+  ok_value n [] (Taking.flushed ∷ []) h = (refl, refl, h.0, h.1, h.2)
+  ok_value n [] (Taking.flushed ∷ t ∷ last) h = absurd h
+  ok_value n [] (Taking.wrote xs ∷ last) h = absurd h
+  ok_value n [] (Taking.pending ∷ last) h = absurd h
+  ok_value n [] (Taking.fault kind ∷ last) h = absurd h
+  ok_value n [] (Taking.closed ∷ last) h = absurd h
+  ok_value n (m ∷ failed) last h = absurd h
 
 pub copied_none : (p : List ℕ) (a : List Mark) (n : ℕ) → Copied p a [] [] [] p a n
 copied_none p a n =
-    record { read = []; failed = []; written = []; last = []; reading = refl; goes_on = tt; writing = refl; takes_some = tt; balanced = append-nil p; waited = refl; answers = (refl, refl) }
+    record {
+      failed = [];
+      last = [];
+      reading = record { read = []; goes_on = tt; cut = refl };
+      writing = record { written = []; takes_some = tt; cut = refl };
+      balanced = append-nil p;
+      waited = refl;
+      once = tt;
+      value = tt;
+    }
 
 -- what comes after answers that were all Pending
 module _ (p q r : List ℕ) (a b c : List Mark) (i j : List Mark) (s t : List Taking) (l m : List (Poll Value)) (n k : ℕ) (w : Waiting l)
     (h : Copied p a i s l q b n) (g : Copied q b j t m r c k) where
   none : (h.failed ≡ []) × (h.last ≡ [])
-  none = answers_none h.failed h.last q b n l w h.answers
+  none = no_value q b n h.failed h.last (subst (λ v. Values v h.failed h.last q b n) (waiting_strip l w) h.value)
 
-  reading_both : a ++ (i ++ j) ≡ (h.read ++ g.read) ++ (c ++ g.failed)
+  reading_both : TellsUpTo (a ++ (i ++ j)) (c ++ g.failed)
   reading_both =
-      sym (append_assoc a i j) ∙ ap (λ v. v ++ j) (h.reading ∙ ap (λ v. h.read ++ (b ++ v)) none.0 ∙ ap (λ v. h.read ++ v) (append-nil b))
-      ∙ append_assoc h.read b j ∙ ap (λ v. h.read ++ v) g.reading ∙ sym (append_assoc h.read g.read (c ++ g.failed))
+      let f = h.reading in
+      let d = g.reading in
+      let whole =
+      sym (append_assoc a i j) ∙ ap (λ v. v ++ j) (f.cut ∙ ap (λ v. f.read ++ (b ++ v)) none.0 ∙ ap (λ v. f.read ++ v) (append-nil b))
+      ∙ append_assoc f.read b j ∙ ap (λ v. f.read ++ v) d.cut ∙ sym (append_assoc f.read d.read (c ++ g.failed)) in
+      record { read = f.read ++ d.read; goes_on = goes_both f.read d.read f.goes_on d.goes_on; cut = whole }
 
-  writing_both : s ++ t ≡ (h.written ++ g.written) ++ g.last
+  writing_both : TakesUpTo (s ++ t) g.last
   writing_both =
-      ap (λ v. v ++ t) (h.writing ∙ ap (λ v. h.written ++ v) none.1 ∙ append-nil h.written) ∙ ap (λ v. h.written ++ v) g.writing
-      ∙ sym (append_assoc h.written g.written g.last)
+      let f = h.writing in
+      let d = g.writing in
+      let whole =
+      ap (λ v. v ++ t) (f.cut ∙ ap (λ v. f.written ++ v) none.1 ∙ append-nil f.written) ∙ ap (λ v. f.written ++ v) d.cut
+      ∙ sym (append_assoc f.written d.written g.last) in
+      record { written = f.written ++ d.written; takes_some = some_both f.written d.written f.takes_some d.takes_some; cut = whole }
 
   balanced_both : p ++ bytes_told (i ++ j) ≡ bytes_of (s ++ t) ++ r
   balanced_both =
@@ -103,20 +114,20 @@ module _ (p q r : List ℕ) (a b c : List Mark) (i j : List Mark) (s t : List Ta
       ∙ append_assoc (bytes_of s) q (bytes_told j) ∙ ap (λ v. bytes_of s ++ v) g.balanced ∙ sym (append_assoc (bytes_of s) (bytes_of t) r)
       ∙ ap (λ v. v ++ r) (sym (taken_both s t))
 
+  same_value : strip m ≡ strip (l ++ m)
+  same_value = sym (strip_join l m ∙ ap (λ v. v ++ strip m) (waiting_strip l w))
+
   pub copied_both : Copied p a (i ++ j) (s ++ t) (l ++ m) r c k
   copied_both =
       record {
-        read = h.read ++ g.read;
         failed = g.failed;
-        written = h.written ++ g.written;
         last = g.last;
         reading = reading_both;
-        goes_on = goes_both h.read g.read h.goes_on g.goes_on;
         writing = writing_both;
-        takes_some = some_both h.written g.written h.takes_some g.takes_some;
         balanced = balanced_both;
         waited = omega (arith, waits_join l m, told_waits i j, taken_waits s t, h.waited, g.waited);
-        answers = answers_after g.failed g.last r c k l m w g.answers;
+        once = waiting_up_to l m w g.once;
+        value = subst (λ v. Values v g.failed g.last r c k) same_value g.value;
       }
 
 pub counted_none : (n : ℕ) → n < 2 ^ 64 → n ≡ (n + 0) % 2 ^ 64
@@ -138,7 +149,8 @@ module _ {R W : Type 0} where
     pub moves_none : (x : CopyFuture R W) → Moves reads writes x [] x
     moves_none x =
         let same = counted_none x.amount x.counted in
-        record { told = []; took = []; came = rl.rests (source_of x); went = wl.rests x.writer; copied = copied_none (held_of x) (met_of x) x.amount; counted = same }
+        let none = copied_none (held_of x) (met_in x.phase) x.amount in
+        record { told = []; took = []; came = rl.rests (source_of x); went = wl.rests x.writer; copied = none; counted = same }
 
     pub moves_both : (x y z : CopyFuture R W) (l m : List (Poll Value)) → Waiting l → Moves reads writes x l y → Moves reads writes y m z
         → Moves reads writes x (l ++ m) z
@@ -148,8 +160,8 @@ module _ {R W : Type 0} where
           took = h.took ++ k.took;
           came = rl.follows (source_of x) (source_of y) (source_of z) h.told k.told h.came k.came;
           went = wl.follows x.writer y.writer z.writer h.took k.took h.went k.went;
-          copied = copied_both (held_of x) (held_of y) (held_of z) (met_of x) (met_of y)
-              (met_of z) h.told k.told h.took k.took l m y.amount z.amount w h.copied k.copied;
+          copied = copied_both (held_of x) (held_of y) (held_of z) (met_in x.phase) (met_in y.phase)
+              (met_in z.phase) h.told k.told h.took k.took l m y.amount z.amount w h.copied k.copied;
           counted = counted_both x.amount y.amount z.amount h.took k.took h.counted k.counted;
         }
 
@@ -163,11 +175,11 @@ module _ {R W : Type 0} where
           rests = λ x. record { moves = moves_none x; idle = λ e. refl };
           stays = λ x y h. h.idle refl;
           follows = λ x y z l m w h k. record { moves = moves_both x y z l m w h.moves k.moves; idle = idle_join x y z l m h.idle k.idle };
-          once = λ x y l h. answers_once h.moves.copied.failed h.moves.copied.last (held_of y) (met_of y) y.amount l h.moves.copied.answers;
+          once = λ x y l h. up_to_once l h.moves.copied.once;
         }
 
     -- the turns of a poll
-    pub copy_answer : (x y z : CopyFuture R W) (a : Poll Value) → Goes (Next (CopyTurn reads writes)) x y → CopyTurn reads writes y (Some a) z
+    pub copy_answer : (x y z : CopyFuture R W) (a : Poll Value) → Goes (CopiesSome reads writes) x y → Moves reads writes y (a ∷ []) z
         → Copies reads writes x (a ∷ []) z
     copy_answer x y z a goes last =
         let all = Goes-back (λ v. Moves reads writes v (a ∷ []) z) (λ v w t h. moves_both v w z [] (a ∷ []) tt t.moves h) x y goes last in

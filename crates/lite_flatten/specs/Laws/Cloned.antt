@@ -14,6 +14,7 @@ use Rattle.lite_base.specs.Ranks.{Counting, Ranks}
 use Rattle.lite_base.specs.Steady.{SteadinessBy, SteadyLawsBy, TakesNone}
 use Rattle.lite_base.specs.StreamLaws.{StreamLaws}
 use Rattle.lite_flatten.specs.Cloned.{AlikeCloned, ClonedFrom, Clones, ClonesAll, ClonesUnrefused, EqualClones, IsRefusal, NoneRefused, NotRefused, Refers, Refuses, cloned_parts}
+use Rattle.lite_flatten.specs.Laws.Before.{not_empty}
 use Rattle.lite_flatten.specs.Laws.Calming.{lingering_calming}
 use Rattle.lite_flatten.specs.Laws.Lingering.{Giving, GivingOne, held_counting, held_ranks, lingering_following}
 use Rattle.lite_flatten.specs.Laws.SteadyLingering.{OneValue, all_any, all_split, lingering_agreeing, lingering_found_where}
@@ -25,20 +26,20 @@ use Rattle.lite_stream.specs.Laws.Calming.{Calming}
 use Rattle.lite_stream.specs.Laws.Through.{laws_following, through_runs}
 
 module _ {T E : Type 0} (is_clone : T → T → Type 0) (is_infallible : T → Type 0) where
-  nothing : (refused : List (Answer (Result T E))) (b : Answer (Result T E)) → [] ≡ refused ++ b ∷ [] → ⊥
-  nothing [] b e = cc e
-  nothing (a ∷ refused) b e = cc e
-
-  clones_join : (x y : Bor T) (next : Option (Bor T)) (l m : List (Answer (Result T E))) → Clones is_clone is_infallible x l (Some y) → Clones is_clone is_infallible y m next → Clones is_clone is_infallible x (l ++ m) next
-  clones_join x y (Some z) l m h k = let d = subst (λ v. Clones is_clone is_infallible v m (Some z)) h.1 k in (all_append (IsRefusal is_clone is_infallible x) l m h.0 d.0, d.1)
+  clones_join : (x y : Bor T) (next : Option (Bor T)) (l m : List (Answer (Result T E))) → Clones is_clone is_infallible x l (Some y)
+      → Clones is_clone is_infallible y m next → Clones is_clone is_infallible x (l ++ m) next
+  clones_join x y (Some z) l m h k =
+      let d = subst (λ v. Clones is_clone is_infallible v m (Some z)) h.1 k in
+      (all_append (IsRefusal is_clone is_infallible x) l m h.0 d.0, d.1)
   clones_join x y None l m h k =
       let d = subst (λ v. Clones is_clone is_infallible v m None) h.1 k in
       (l ++ d.0, d.1, all_append (IsRefusal is_clone is_infallible x) l d.0 h.0 d.2, d.3, ap (λ n. l ++ n) d.4 ∙ sym (append_assoc l d.0 (item (Ok d.1) ∷ [])))
 
   clones_giving : Giving (Clones {E = E} is_clone is_infallible)
-  clones_giving = record { rests = λ x. (tt, refl); stays = λ x y h. h.1; answers = λ x h. nothing h.0 (item (Ok h.1)) h.4; joins = clones_join }
+  clones_giving = record { rests = λ x. (tt, refl); stays = λ x y h. h.1; answers = λ x h. not_empty h.0 (item (Ok h.1)) [] h.4; joins = clones_join }
 
-  pub cloned_laws : {S : Type 0} {run : S → List (Answer (Bor T)) → S → Type 0} {hints : S → ℕ × Option ℕ → Type 0} → StreamLaws run hints → StreamLaws (ClonesAll {E = E} is_clone is_infallible run) (λ m hint. hint ≡ (0, None))
+  pub cloned_laws : {S : Type 0} {run : S → List (Answer (Bor T)) → S → Type 0} {hints : S → ℕ × Option ℕ → Type 0} → StreamLaws run hints
+      → StreamLaws (ClonesAll {E = E} is_clone is_infallible run) (λ m hint. hint ≡ (0, None))
   cloned_laws laws = laws_following cloned_parts laws (lingering_following Refers (Clones is_clone is_infallible) clones_giving)
 
 -- a clone that is not refused
@@ -51,19 +52,23 @@ copies_one = record { waits = λ x y l h. rw h.0 tt; hands = λ x l h. (h.0, rw 
 
 module _ {T : Type 0} (E : Type 0) (is_clone : T → T → Type 0) (is_infallible : T → Type 0) where
   -- among Ok items and answers that are no items
-  no_refusal : (x : Bor T) (l : List (Answer T)) (a : Answer (Result T E)) (refused rest : List (Answer (Result T E))) → all_ok l ≡ a ∷ rest → Refuses is_clone is_infallible x (a ∷ refused) → ⊥
+  no_refusal : (x : Bor T) (l : List (Answer T)) (a : Answer (Result T E)) (refused rest : List (Answer (Result T E))) → all_ok l ≡ a ∷ rest
+      → Refuses is_clone is_infallible x (a ∷ refused) → ⊥
   no_refusal x [] a refused rest e h = cc e
   no_refusal x (Pending ∷ l) a refused rest e h = let d = h.0.2 in cc
   no_refusal x (Ready None ∷ l) a refused rest e h = let d = h.0.2 in cc
   no_refusal x (Ready (Some y) ∷ l) a refused rest e h = let d = h.0.2 in cc
 
-  one_copy : (l : List (Answer T)) (copy : T) (rest : List (Answer (Result T E))) → all_ok l ≡ item (Ok copy) ∷ rest → (m : List (Answer T)) × (l ≡ item copy ∷ m) × (rest ≡ all_ok m)
+  one_copy : (l : List (Answer T)) (copy : T) (rest : List (Answer (Result T E))) → all_ok l ≡ item (Ok copy) ∷ rest
+      → (m : List (Answer T)) × (l ≡ item copy ∷ m) × (rest ≡ all_ok m)
   one_copy [] copy rest e = absurd (cc e)
   one_copy (Pending ∷ l) copy rest e = absurd (cc e)
   one_copy (Ready None ∷ l) copy rest e = absurd (cc e)
   one_copy (Ready (Some y) ∷ l) copy rest e = let same : y ≡ copy = cc e in (l, ap (λ z. item z ∷ l) same, cc e)
 
-  unrefused_copy : (x : Bor T) (l : List (Answer T)) (refused rest : List (Answer (Result T E))) (copy : T) → all_ok l ≡ (refused ++ item (Ok copy) ∷ []) ++ rest → Refuses is_clone is_infallible x refused → (m : List (Answer T)) × (l ≡ item copy ∷ m) × (rest ≡ all_ok m)
+  unrefused_copy : (x : Bor T) (l : List (Answer T)) (refused rest : List (Answer (Result T E))) (copy : T)
+      → all_ok l ≡ (refused ++ item (Ok copy) ∷ []) ++ rest → Refuses is_clone is_infallible x refused
+      → (m : List (Answer T)) × (l ≡ item copy ∷ m) × (rest ≡ all_ok m)
   unrefused_copy x l [] rest copy e h = one_copy l copy rest e
   unrefused_copy x l (a ∷ refused) rest copy e h = absurd (no_refusal x l a refused ((refused ++ item (Ok copy) ∷ []) ++ rest) e h)
 
@@ -73,8 +78,10 @@ module _ {T : Type 0} (E : Type 0) (is_clone : T → T → Type 0) (is_infallibl
   none_refused x (Ready None ∷ l) h = absurd (cc h.0.2)
   none_refused x (Ready (Some y) ∷ l) h = absurd (cc h.0.2)
 
-  module _ (p q : Unit {0}) (v : Bor T) (f : Option (Bor T)) (i : List (Answer (Bor T))) (l : List (Answer T)) (rest : (m : List (Answer T)) → Lingers Refers (Clones {E = E} is_clone is_infallible) p i (all_ok m) q f → Lingers Refers Copies p i m q f) where
-    held_unrefused : HeldOn Refers (Clones {E = E} is_clone is_infallible) p v i (all_ok l) q f ⊎ Replaced Refers (Clones is_clone is_infallible) v (Lingers Refers (Clones {E = E} is_clone is_infallible) p i) (all_ok l) q f
+  module _ (p q : Unit {0}) (v : Bor T) (f : Option (Bor T)) (i : List (Answer (Bor T))) (l : List (Answer T))
+      (rest : (m : List (Answer T)) → Lingers Refers (Clones {E = E} is_clone is_infallible) p i (all_ok m) q f → Lingers Refers Copies p i m q f) where
+    held_unrefused : HeldOn Refers (Clones {E = E} is_clone is_infallible) p v i (all_ok l) q f
+        ⊎ Replaced Refers (Clones is_clone is_infallible) v (Lingers Refers (Clones {E = E} is_clone is_infallible) p i) (all_ok l) q f
         → HeldOn Refers Copies p v i l q f ⊎ Replaced Refers Copies v (Lingers Refers Copies p i) l q f
     held_unrefused (inl c) = inl (c.0, c.1, c.2, (none_refused v l c.3.0, c.3.1), c.4)
     held_unrefused (inr c) =
@@ -82,7 +89,8 @@ module _ {T : Type 0} (E : Type 0) (is_clone : T → T → Type 0) (is_infallibl
         let d = unrefused_copy v l own.0 c.1 own.1 (c.2 ∙ ap (λ n. n ++ c.1) own.4) own.2 in
         inr (item own.1 ∷ [], d.0, d.1, (own.1, refl), rest d.0 (subst (λ n. Lingers Refers (Clones is_clone is_infallible) p i n q f) d.2 c.4))
 
-  unrefused : (p q : Unit {0}) (f : Option (Bor T)) (i : List (Answer (Bor T))) (l : List (Answer T)) → Lingers Refers (Clones {E = E} is_clone is_infallible) p i (all_ok l) q f → Lingers Refers Copies p i l q f
+  unrefused : (p q : Unit {0}) (f : Option (Bor T)) (i : List (Answer (Bor T))) (l : List (Answer T))
+      → Lingers Refers (Clones {E = E} is_clone is_infallible) p i (all_ok l) q f → Lingers Refers Copies p i l q f
   unrefused p q f [] [] c = c
   unrefused p q f [] (Pending ∷ l) c = absurd c
   unrefused p q f [] (Ready None ∷ l) c = absurd c
@@ -98,12 +106,14 @@ module _ {T : Type 0} (E : Type 0) (is_clone : T → T → Type 0) (is_infallibl
   unrefused p q f (Ready (Some x) ∷ i) (Ready None ∷ l) c = (c.0, c.1, c.2, held_unrefused c.1 q c.0 f i (end ∷ l) (λ m k. unrefused c.1 q f i m k) c.3)
   unrefused p q f (Ready (Some x) ∷ i) (Ready (Some y) ∷ l) c = (c.0, c.1, c.2, held_unrefused c.1 q c.0 f i (item y ∷ l) (λ m k. unrefused c.1 q f i m k) c.3)
 
-  lingering_unrefused : (f g : Option (Bor T)) (i : List (Answer (Bor T))) (l : List (Answer T)) → Lingering Refers (Clones {E = E} is_clone is_infallible) (tt, f) i (all_ok l) (tt, g) → Lingering Refers Copies (tt, f) i l (tt, g)
+  lingering_unrefused : (f g : Option (Bor T)) (i : List (Answer (Bor T))) (l : List (Answer T))
+      → Lingering Refers (Clones {E = E} is_clone is_infallible) (tt, f) i (all_ok l) (tt, g) → Lingering Refers Copies (tt, f) i l (tt, g)
   lingering_unrefused None g i l c = unrefused tt tt g i l c
   lingering_unrefused (Some v) g i l c = held_unrefused tt tt v g i l (λ m k. unrefused tt tt g i m k) c
 
 -- the rank falls with each clone; a refusal keeps it
-pub cloned_ok_counting : {T E : Type 0} (is_clone : T → T → Type 0) (is_infallible : T → Type 0) {S : Type 0} {run : S → List (Answer (Bor T)) → S → Type 0} {hints : S → ℕ × Option ℕ → Type 0} {r : Ranks S} → StreamLaws run hints → Counting run r
+pub cloned_ok_counting : {T E : Type 0} (is_clone : T → T → Type 0) (is_infallible : T → Type 0) {S : Type 0} {run : S → List (Answer (Bor T)) → S → Type 0}
+    {hints : S → ℕ × Option ℕ → Type 0} {r : Ranks S} → StreamLaws run hints → Counting run r
     → OkCounting (ClonesAll {E = E} is_clone is_infallible run) (held_ranks cloned_parts r)
 cloned_ok_counting {E = E} is_clone is_infallible laws c =
     ok_counting_by
@@ -112,7 +122,8 @@ cloned_ok_counting {E = E} is_clone is_infallible laws c =
     (λ x y l k h. c.counts_on x.stream y.stream h.ins k h.came) (λ x y l k h. c.firm_on x.stream y.stream h.ins k h.came)
 
 -- one poll in which a clone was made
-pub gives_copy : {T E : Type 0} (is_clone : T → T → Type 0) (is_infallible : T → Type 0) (x : Bor T) (copy : T) → is_clone x.now copy → Clones {E = E} is_clone is_infallible x (item (Ok copy) ∷ []) None
+pub gives_copy : {T E : Type 0} (is_clone : T → T → Type 0) (is_infallible : T → Type 0) (x : Bor T) (copy : T) → is_clone x.now copy
+    → Clones {E = E} is_clone is_infallible x (item (Ok copy) ∷ []) None
 gives_copy is_clone is_infallible x copy h = ([], copy, tt, h, refl)
 
 held_same : {R : Type 0} (v w : Option R) → w ≡ v → OptionBy (λ a b. a ≡ b) v w
@@ -127,7 +138,8 @@ module _ {T E : Type 0} (is_clone : T → T → Type 0) where
   waits x y [] h = tt
   waits x y (a ∷ l) h = absurd (h.0.0.0 tt)
 
-  hands : (x : Bor T) (l refused : List (Answer (Result T E))) (copy : T) → Refuses is_clone (λ _. ⊤) x refused → l ≡ refused ++ item (Ok copy) ∷ [] → Gives l (Some (Ok copy))
+  hands : (x : Bor T) (l refused : List (Answer (Result T E))) (copy : T) → Refuses is_clone (λ _. ⊤) x refused → l ≡ refused ++ item (Ok copy) ∷ []
+      → Gives l (Some (Ok copy))
   hands x l [] copy h e = rw e (refl, refl)
   hands x l (a ∷ refused) copy h e = absurd (h.0.0 tt)
 
@@ -154,20 +166,24 @@ module _ {T E : Type 0} (is_clone : T → T → Type 0) where
       (lingering_agreeing clones_one Refers (Sameness.by same) (ClonedFrom (Sameness.by same) is_clone) (refers_match same) (clones_made same))
 
   -- among answers that are no refusals
-  module _ (is_infallible : T → Type 0) (may : Answer (Result T E) → Type 0) (never : (x : Bor T) (a : Answer (Result T E)) → may a → IsRefusal is_clone is_infallible x a → ⊥) where
+  module _ (is_infallible : T → Type 0) (may : Answer (Result T E) → Type 0)
+      (never : (x : Bor T) (a : Answer (Result T E)) → may a → IsRefusal is_clone is_infallible x a → ⊥) where
     refuses_found : (x : Bor T) (l : List (Answer (Result T E))) → AllByRecursion may l → Refuses is_clone is_infallible x l → Refuses is_clone (λ _. ⊤) x l
     refuses_found x [] all h = tt
     refuses_found x (a ∷ l) all h = absurd (never x a all.0 h.0)
 
-    clones_found : (x : Bor T) (l : List (Answer (Result T E))) (next : Option (Bor T)) → AllByRecursion may l → Clones is_clone is_infallible x l next → Clones is_clone (λ _. ⊤) x l next
+    clones_found : (x : Bor T) (l : List (Answer (Result T E))) (next : Option (Bor T)) → AllByRecursion may l → Clones is_clone is_infallible x l next
+        → Clones is_clone (λ _. ⊤) x l next
     clones_found x l (Some y) all h = (refuses_found x l all h.0, h.1)
     clones_found x l None all h =
         let own = all_split may h.0 (item (Ok h.1) ∷ []) (subst (AllByRecursion may) h.4 all) in
         (h.0, h.1, refuses_found x h.0 own.0 h.2, h.3, h.4)
 
 module _ {T E : Type 0} (is_clone : T → T → Type 0) (is_infallible : T → Type 0) {S : Type 0} {run ample : S → List (Answer (Bor T)) → S → Type 0} where
-  found_where : (may : Answer (Result T E) → Type 0) → ((x : Bor T) (a : Answer (Result T E)) → may a → IsRefusal is_clone is_infallible x a → ⊥) → TakesNone run ample
-      → (x y : Cloned S (Bor T)) (l : List (Answer (Result T E))) → AllByRecursion may l → ClonesAll is_clone is_infallible run x l y → ClonesUnrefused is_clone ample x l y
+  found_where : (may : Answer (Result T E) → Type 0) → ((x : Bor T) (a : Answer (Result T E)) → may a → IsRefusal is_clone is_infallible x a → ⊥)
+      → TakesNone run ample
+      → (x y : Cloned S (Bor T)) (l : List (Answer (Result T E))) → AllByRecursion may l → ClonesAll is_clone is_infallible run x l y
+      → ClonesUnrefused is_clone ample x l y
   found_where may never takes x y l all h =
       record {
         ins = h.ins;
@@ -176,7 +192,8 @@ module _ {T E : Type 0} (is_clone : T → T → Type 0) (is_infallible : T → T
       }
 
   -- a run without a refusal is one in which memory was found, where no poll of the source asks for any
-  pub cloned_ample : TakesNone run ample → (x y : Cloned S (Bor T)) (l : List (Answer (Result T E))) → NoneRefused l → ClonesAll is_clone is_infallible run x l y → ClonesUnrefused is_clone ample x l y
+  pub cloned_ample : TakesNone run ample → (x y : Cloned S (Bor T)) (l : List (Answer (Result T E))) → NoneRefused l
+      → ClonesAll is_clone is_infallible run x l y → ClonesUnrefused is_clone ample x l y
   cloned_ample = found_where NotRefused (λ r a ok refused. ok refused.1 refused.2)
 
   -- no poll asks for memory where no clone does

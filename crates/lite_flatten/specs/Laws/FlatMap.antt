@@ -12,7 +12,7 @@ use Rattle.lite_base.specs.Ranks.{Counting, Ranks, counting_ends, ranks_of}
 use Rattle.lite_base.specs.Steady.{SteadyLawsBy}
 use Rattle.lite_base.specs.StreamLaws.{StreamLaws, runs_of}
 use Rattle.lite_flatten.specs.FlatMap.{EachMade, FlatMaps, flat_map_parts, flat_map_ranks}
-use Rattle.lite_flatten.specs.Flatten.{EachInner}
+use Rattle.lite_flatten.specs.Inner.{EachInner}
 use Rattle.lite_flatten.specs.Laws.Calming.{flattening_calm}
 use Rattle.lite_flatten.specs.Laws.Flatten.{each_inner_on, flattening, flattening_counting}
 use Rattle.lite_flatten.specs.Laws.SteadyFlatten.{flattening_steady}
@@ -29,7 +29,8 @@ use Rattle.lite_stream.specs.declared.map.Map.{Map}
 
 module _ {F A V : Type 0} (g : Mut F (A × Unit {0}) V) (Fact : V → Type 0) where
   -- what each call promises holds of each item that comes out
-  made_has : (f h : F) (i : List (Answer A)) (before after : List (Answer V)) (v : V) → AlwaysReturns g (λ x v. Fact v) f → Replaces (Calls g) f i (before ++ item v ∷ after) h → Fact v
+  made_has : (f h : F) (i : List (Answer A)) (before after : List (Answer V)) (v : V) → AlwaysReturns g (λ x v. Fact v) f
+      → Replaces (Calls g) f i (before ++ item v ∷ after) h → Fact v
   made_has f h [] [] after v always c = absurd c
   made_has f h [] (b ∷ before) after v always c = absurd c
   made_has f h (Pending ∷ i) [] after v always c = absurd (cc c.0)
@@ -44,26 +45,33 @@ module _ {F A V : Type 0} (g : Mut F (A × Unit {0}) V) (Fact : V → Type 0) wh
       made_has k h i before after v (call_promises g (λ x v. Fact v) f (x, tt) w k always called).1 c
 
   -- and the function goes on to promise it
-  still_promises : (f h : F) (i : List (Answer A)) (o : List (Answer V)) → AlwaysReturns g (λ x v. Fact v) f → Replaces (Calls g) f i o h → AlwaysReturns g (λ x v. Fact v) h
+  still_promises : (f h : F) (i : List (Answer A)) (o : List (Answer V)) → AlwaysReturns g (λ x v. Fact v) f → Replaces (Calls g) f i o h
+      → AlwaysReturns g (λ x v. Fact v) h
   still_promises f h [] [] always c = subst (AlwaysReturns g (λ x v. Fact v)) (sym c) always
   still_promises f h [] (b ∷ o) always c = absurd c
   still_promises f h (a ∷ i) [] always c = absurd c
   still_promises f h (Pending ∷ i) (b ∷ o) always c = still_promises f h i o always c.1
   still_promises f h (Ready None ∷ i) (b ∷ o) always c = still_promises f h i o always c.1
   still_promises f h (Ready (Some x) ∷ i) (b ∷ o) always (None, k, e, called, c) = absurd called
-  still_promises f h (Ready (Some x) ∷ i) (b ∷ o) always (Some w, k, e, called, c) = still_promises k h i o (call_promises g (λ x v. Fact v) f (x, tt) w k always called).1 c
+  still_promises f h (Ready (Some x) ∷ i) (b ∷ o) always (Some w, k, e, called, c) =
+      still_promises k h i o (call_promises g (λ x v. Fact v) f (x, tt) w k always called).1 c
 
   module _ {S B : Type 0} (run : S → List (Answer A) → S → Type 0) (run' : V → List (Answer B) → V → Type 0) where
     pub each_made : (x : Map S F) (held : Option V) → EachMade g Fact x.f held → EachInner (Maps run (Calls g)) Fact x held
     each_made x held each = (each.0, λ y before after v h. made_has x.f y.f h.ins before after v each.1 h.turned)
 
-    pub made_promises : (x y : FlatMap S V F) (l : List (Answer B)) → EachMade g Fact x.stream.f x.inner_stream → FlatMaps run g run' x l y → AlwaysReturns g (λ x v. Fact v) y.stream.f
+    pub made_promises : (x y : FlatMap S V F) (l : List (Answer B)) → EachMade g Fact x.stream.f x.inner_stream → FlatMaps run g run' x l y
+        → AlwaysReturns g (λ x v. Fact v) y.stream.f
     made_promises x y l each h = still_promises x.stream.f y.stream.f h.came.ins h.ins each.1 h.came.turned
 
-    each_made_on : ((b c : V) (l : List (Answer B)) → Fact b → run' b l c → Fact c) → ((x y z : Map S F) (l m : List (Answer V)) → Maps run (Calls g) x l y → Maps run (Calls g) y m z → Maps run (Calls g) x (l ++ m) z)
-        → (x y : FlatMap S V F) (l : List (Answer B)) → EachMade g Fact x.stream.f x.inner_stream → FlatMaps run g run' x l y → EachMade g Fact y.stream.f y.inner_stream
+    each_made_on : ((b c : V) (l : List (Answer B)) → Fact b → run' b l c → Fact c)
+        → ((x y z : Map S F) (l m : List (Answer V)) → Maps run (Calls g) x l y → Maps run (Calls g) y m z → Maps run (Calls g) x (l ++ m) z)
+        → (x y : FlatMap S V F) (l : List (Answer B)) → EachMade g Fact x.stream.f x.inner_stream → FlatMaps run g run' x l y
+        → EachMade g Fact y.stream.f y.inner_stream
     each_made_on kept follows x y l each h =
-        ((each_inner_on run' (Maps run (Calls g)) Fact kept follows x.stream y.stream x.inner_stream y.inner_stream l (each_made x.stream x.inner_stream each) h).0, made_promises x y l each h)
+        let made = each_made x.stream x.inner_stream each in
+        let inner = each_inner_on run' (Maps run (Calls g)) Fact kept follows x.stream y.stream x.inner_stream y.inner_stream l made h in
+        (inner.0, made_promises x y l each h)
 
 module _ {S F A V : Type 0} (g : Mut F (A × Unit {0}) V) {run : S → List (Answer A) → S → Type 0} where
   outer_laws : {hints : S → ℕ × Option ℕ → Type 0} → StreamLaws run hints → StreamLaws (Maps run (Calls g)) (λ (m : Map S F) hint. hints m.stream hint)
@@ -77,22 +85,29 @@ module _ {S F A V : Type 0} (g : Mut F (A × Unit {0}) V) {run : S → List (Ans
   made_end c = counting_ends (outer_counting c)
 
   module _ {B : Type 0} {run' : V → List (Answer B) → V → Type 0} {hints : S → ℕ × Option ℕ → Type 0} where
-    pub flat_map_laws : {hints' : V → ℕ × Option ℕ → Type 0} → StreamLaws run hints → StreamLaws run' hints' → StreamLaws (FlatMaps run g run') (λ m hint. hint ≡ (0, None))
+    pub flat_map_laws : {hints' : V → ℕ × Option ℕ → Type 0} → StreamLaws run hints → StreamLaws run' hints'
+        → StreamLaws (FlatMaps run g run') (λ m hint. hint ≡ (0, None))
     flat_map_laws laws laws' = laws_following flat_map_parts (outer_laws laws) (flattening (runs_of laws'))
 
-    pub flat_map_counting : {r : Ranks S} {r' : Ranks V} → StreamLaws run hints → Counting run r → Counting run' r' → Counting (FlatMaps run g run') (flat_map_ranks g r r')
+    pub flat_map_counting : {r : Ranks S} {r' : Ranks V} → StreamLaws run hints → Counting run r → Counting run' r'
+        → Counting (FlatMaps run g run') (flat_map_ranks g r r')
     flat_map_counting {r} {r'} laws c c' =
         let outer = outer_laws laws in
         let all = flattening_counting flat_map_parts outer (outer_counting c) c' in
         record {
           sized = all.sized;
-          counts_on = λ x y l k h. (c.counts_on x.stream.stream y.stream.stream h.came.ins k.0 h.came.came, each_made_on g r'.counts run run' c'.counts_on outer.follows x y l k.1 h);
-          firm_on = λ x y l k h. (c.firm_on x.stream.stream y.stream.stream h.came.ins k.0 h.came.came, each_made_on g r'.firm run run' c'.firm_on outer.follows x y l k.1 h);
+          counts_on = λ x y l k h.
+              let made = each_made_on g r'.counts run run' c'.counts_on outer.follows x y l k.1 h in
+              (c.counts_on x.stream.stream y.stream.stream h.came.ins k.0 h.came.came, made);
+          firm_on = λ x y l k h.
+              let made = each_made_on g r'.firm run run' c'.firm_on outer.follows x y l k.1 h in
+              (c.firm_on x.stream.stream y.stream.stream h.came.ins k.0 h.came.came, made);
           falls = λ x y a more k h. all.falls x y a more (k.0, each_made g r'.counts run run' x.stream x.inner_stream k.1) h;
           lowers = λ x y l k h. all.lowers x y l (k.0, each_made g r'.firm run run' x.stream x.inner_stream k.1) h;
         }
 
-module _ {S F A V B : Type 0} (g : Mut F (A × Unit {0}) V) {run ample : S → List (Answer A) → S → Type 0} {run' found : V → List (Answer B) → V → Type 0} {none none' : Type 0} {alike : S → S → Type 0} {alike' : V → V → Type 0} where
+module _ {S F A V B : Type 0} (g : Mut F (A × Unit {0}) V) {run ample : S → List (Answer A) → S → Type 0} {run' found : V → List (Answer B) → V → Type 0}
+    {none none' : Type 0} {alike : S → S → Type 0} {alike' : V → V → Type 0} where
   -- by functions that make streams which are alike
   pub flat_map_steady : (like : Sameness A) (same : Sameness B) → SteadyLawsBy like run ample none alike → SteadyLawsBy same run' found none' alike'
       → SteadyLawsBy same (FlatMaps run g run') (FlatMaps ample g found) (none × none')
@@ -105,12 +120,16 @@ module _ {S F A V B : Type 0} (g : Mut F (A × Unit {0}) V) {run ample : S → L
       (λ x y e. (through_alike map_parts x.stream y.stream (s.steady x.stream.stream y.stream.stream e.0) e.1 made, e.2)) outer.laws outer.found
 
 -- by a function that makes calm streams
-pub flat_map_calm : {S F A V B : Type 0} (g : Mut F (A × Unit {0}) V) {run : S → List (Answer A) → S → Type 0} {run' : V → List (Answer B) → V → Type 0} {hints : S → ℕ × Option ℕ → Type 0} {is_calm : S → Type 0} {calm : V → Type 0}
-    → StreamLaws run hints → CalmLaws run is_calm → CalmLaws run' calm → CalmLaws (FlatMaps run g run') (λ (m : FlatMap S V F). is_calm m.stream.stream × EachMade g calm m.stream.f m.inner_stream)
+pub flat_map_calm : {S F A V B : Type 0} (g : Mut F (A × Unit {0}) V) {run : S → List (Answer A) → S → Type 0} {run' : V → List (Answer B) → V → Type 0}
+    {hints : S → ℕ × Option ℕ → Type 0} {is_calm : S → Type 0} {calm : V → Type 0}
+    → StreamLaws run hints → CalmLaws run is_calm → CalmLaws run' calm
+    → CalmLaws (FlatMaps run g run') (λ (m : FlatMap S V F). is_calm m.stream.stream × EachMade g calm m.stream.f m.inner_stream)
 flat_map_calm g {run = run} {run' = run'} {calm = calm} laws c d =
     let outer = outer_laws g laws in
     let all = flattening_calm d flat_map_parts outer.follows (through_calm map_parts c (replaces_calming (Calls g))) in
     record {
       prompt = λ x y l k h. all.prompt x y l (k.0, each_made g calm run run' x.stream x.inner_stream k.1) h;
-      calm_on = λ x y l k h. (c.calm_on x.stream.stream y.stream.stream h.came.ins k.0 h.came.came, each_made_on g calm run run' d.calm_on outer.follows x y l k.1 h);
+      calm_on = λ x y l k h.
+          let made = each_made_on g calm run run' d.calm_on outer.follows x y l k.1 h in
+          (c.calm_on x.stream.stream y.stream.stream h.came.ins k.0 h.came.came, made);
     }

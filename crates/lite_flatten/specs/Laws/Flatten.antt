@@ -11,22 +11,19 @@ use Rattle.lite_base.specs.Laws.Endless.{endless_join}
 use Rattle.lite_base.specs.Rank.{Below, Lowers}
 use Rattle.lite_base.specs.Ranks.{Counting, Ranks}
 use Rattle.lite_base.specs.StreamLaws.{RunLaws, StreamLaws}
-use Rattle.lite_flatten.specs.Flatten.{EachInner, Flat, Flattening, FlatTurn, FlatTurns, HeldOn, OuterTurn, Replaced, flattening_ranks, inner_rank}
+use Rattle.lite_flatten.specs.Flatten.{Flat, Flattening, HeldOn, Replaced}
+use Rattle.lite_flatten.specs.Inner.{EachInner, FlatTurn, FlatTurns, GivesOne, TakesNext, flattening_ranks, inner_rank}
+use Rattle.lite_flatten.specs.Laws.Before.{items_after, not_empty, own_lowers}
 use Rattle.lite_flatten.specs.Laws.Zeros.{zeros_least}
 use Rattle.lite_stream.specs.Laws.Lower.{at_most_below, lowers_after, lowers_at_most}
 use Rattle.lite_stream.specs.Laws.Through.{Following}
 use Rattle.lite_stream.specs.Through.{Adapts, Parts, Through}
 
-module _ {A : Type 0} where
-  -- what follows among items are items
-  pub items_after : (before after : List (Answer A)) (l : List A) → items l ≡ before ++ after → (m : List A) × (after ≡ items m)
-  items_after [] after l e = (l, sym e)
-  items_after (a ∷ before) after [] e = absurd (cc e)
-  items_after (a ∷ before) after (x ∷ l) e = items_after before after l (cc e)
-
-module _ {B A : Type 0} (run : B → List (Answer A) → B → Type 0) (stays : (x y : B) → run x [] y → y ≡ x) (follows : (x y z : B) (l m : List (Answer A)) → run x l y → run y m z → run x (l ++ m) z) where
+module _ {B A : Type 0} (run : B → List (Answer A) → B → Type 0) (stays : (x y : B) → run x [] y → y ≡ x)
+    (follows : (x y z : B) (l m : List (Answer A)) → run x l y → run y m z → run x (l ++ m) z) where
   -- the list of a stream may be cut while it is held
-  begun : (b c : B) (i j : List (Answer B)) (l m : List (Answer A)) (h : Option B) → i ≡ [] → Endless l → run b l c → HeldOn run c j m h ⊎ Replaced run c (Flat run j) m h → HeldOn run b (i ++ j) (l ++ m) h ⊎ Replaced run b (Flat run (i ++ j)) (l ++ m) h
+  begun : (b c : B) (i j : List (Answer B)) (l m : List (Answer A)) (h : Option B) → i ≡ [] → Endless l → run b l c
+      → HeldOn run c j m h ⊎ Replaced run c (Flat run j) m h → HeldOn run b (i ++ j) (l ++ m) h ⊎ Replaced run b (Flat run (i ++ j)) (l ++ m) h
   begun b c i j l m h none endless ran (inl k) =
       inl (rw none k.0, endless_join l m endless k.1, k.2, follows b c k.2 l m ran k.3, k.4)
   begun b c i j l m h none endless ran (inr k) =
@@ -43,7 +40,8 @@ module _ {B A : Type 0} (run : B → List (Answer A) → B → Type 0) (stays : 
 
   goes_on : (b : B) (g h : Option B) (i j : List (Answer B)) (l m : List (Answer A))
       → ((a : Answer A) (rest : List (Answer A)) → Flat run i (a ∷ rest) g → Flat run (i ++ j) (a ∷ rest ++ m) h)
-      → HeldOn run b i l g ⊎ Replaced run b (Flat run i) l g → Flattening run g j m h → HeldOn run b (i ++ j) (l ++ m) h ⊎ Replaced run b (Flat run (i ++ j)) (l ++ m) h
+      → HeldOn run b i l g ⊎ Replaced run b (Flat run i) l g → Flattening run g j m h
+      → HeldOn run b (i ++ j) (l ++ m) h ⊎ Replaced run b (Flat run (i ++ j)) (l ++ m) h
   goes_on b g h i j l m rest (inl k) d = begun b k.2 i j l m h k.0 k.1 k.3 (subst (λ o. Flattening run o j m h) k.4 d)
   goes_on b g h i j l m rest (inr k) d =
       inr (k.0, k.1, k.2 ++ m, ap (λ n. n ++ m) k.3 ∙ append_assoc k.0 (k.1 ∷ k.2) m, k.4, k.5, k.6, rest k.1 k.2 k.7)
@@ -56,7 +54,8 @@ module _ {B A : Type 0} (run : B → List (Answer A) → B → Type 0) (stays : 
   flat_follow g h (Ready None ∷ i) j (a ∷ l) m c d = (c.0, flat_follow g h i j l m c.1 d)
   flat_follow g h (Ready (Some b) ∷ i) j (a ∷ l) m c d = goes_on b g h i j (a ∷ l) m (λ x rest k. flat_follow g h i j (x ∷ rest) m k d) c d
 
-  flattening_follow : (f g h : Option B) (i j : List (Answer B)) (l m : List (Answer A)) → Flattening run f i l g → Flattening run g j m h → Flattening run f (i ++ j) (l ++ m) h
+  flattening_follow : (f g h : Option B) (i j : List (Answer B)) (l m : List (Answer A)) → Flattening run f i l g → Flattening run g j m h
+      → Flattening run f (i ++ j) (l ++ m) h
   flattening_follow None g h i j l m c d = flat_follow g h i j l m c d
   flattening_follow (Some b) g h i j l m c d = goes_on b g h i j l m (λ x rest k. flat_follow g h i j (x ∷ rest) m k d) c d
 
@@ -64,11 +63,7 @@ module _ {B A : Type 0} (run : B → List (Answer A) → B → Type 0) (stays : 
   flattening_empty None g [] c = (refl, c)
   flattening_empty None g (a ∷ i) c = absurd c
   flattening_empty (Some b) g i (inl k) = (k.0, k.4 ∙ ap Some (stays b k.2 k.3))
-  flattening_empty (Some b) g i (inr k) = absurd (nothing k.0 k.1 k.2 k.3)
-    where
-      nothing : (own : List (Answer A)) (a : Answer A) (rest : List (Answer A)) → [] ≡ own ++ a ∷ rest → ⊥
-      nothing [] a rest e = cc e
-      nothing (o ∷ own) a rest e = cc e
+  flattening_empty (Some b) g i (inr k) = absurd (not_empty k.0 k.1 k.2 k.3)
 
   pub flattening_following : ((x : B) → run x [] x) → Following (Flattening run)
   flattening_following rests = record { starts = starts; empty = flattening_empty; joins = flattening_follow }
@@ -77,84 +72,82 @@ module _ {B A : Type 0} (run : B → List (Answer A) → B → Type 0) (stays : 
       starts None = refl
       starts (Some b) = inl (refl, refl, b, rests b, refl)
 
-  module _ {S : Type 0} (outer : S → List (Answer B) → S → Type 0) (rests : (x : B) → run x [] x) (outer_rests : (x : S) → outer x [] x) (outer_follows : (x y z : S) (l m : List (Answer B)) → outer x l y → outer y m z → outer x (l ++ m) z) where
-    -- an inner stream that ends, before what follows it
-    after_end : (s t : S) (b c : B) (last : Option B) (a : Answer A) → run b (end ∷ []) c
-        → Through outer (Flattening run) s None (a ∷ []) t last → Through outer (Flattening run) s (Some b) (a ∷ []) t last
-    after_end s t b c last a ended m = record { ins = m.ins; came = m.came; turned = inr ([], a, [], refl, refl, c, ended, m.turned) }
+module _ {S B A : Type 0} (run : B → List (Answer A) → B → Type 0) (outer : S → List (Answer B) → S → Type 0) where
+  -- an inner stream that has ended, before a turn where none is held
+  pub ended_turn : (s : S) (b c : B) (r : Option (Answer A)) (y : S × Option B) → run b (end ∷ []) c
+      → FlatTurn run outer (s, None) r y → FlatTurn run outer (s, Some b) r y
+  ended_turn s b c None y ended h = record { ended = (c, ended); next = h.next; gave = h.gave; held = h.held }
+  ended_turn s b c (Some a) y ended (inl h) = absurd h.1
+  ended_turn s b c (Some a) y ended (inr h) = inr (h.0, h.1, inr ([], a, [], refl, refl, c, ended, h.2), h.3)
 
-    outer_answers : (s t : S) (last : Option B) (a : Answer A) → OuterTurn outer s (Some a) t last → Through outer (Flattening run) s None (a ∷ []) t last
-    outer_answers s t last Pending h = record { ins = Pending ∷ []; came = h.0; turned = (refl, h.1) }
-    outer_answers s t last (Ready None) h = record { ins = end ∷ []; came = h.0; turned = (refl, h.1) }
-    outer_answers s t last (Ready (Some x)) h = absurd h
+  module _ (outer_rests : (x : S) → outer x [] x)
+      (outer_follows : (x y z : S) (l m : List (Answer B)) → outer x l y → outer y m z → outer x (l ++ m) z) where
+    turn_answers : (x y : S × Option B) (a : Answer A) → GivesOne run outer x a y → Through outer (Flattening run) x.0 x.1 (a ∷ []) y.0 y.1
+    turn_answers x y a (inl h) = record { ins = []; came = subst (λ t. outer x.0 [] t) (sym h.0) (outer_rests x.0); turned = h.1 }
+    turn_answers x y a (inr h) = record { ins = h.0 ∷ []; came = h.1; turned = h.2 }
 
-    -- the last turn of a poll
-    turn_answers : (s t : S) (held last : Option B) (a : Answer A) → FlatTurn run outer s held (Some a) t last → Through outer (Flattening run) s held (a ∷ []) t last
-    turn_answers s t None last a h = outer_answers s t last a h
-    turn_answers s t (Some b) last a (inl h) =
-        record { ins = []; came = subst (λ k. outer s [] k) (sym h.0) (outer_rests s); turned = inl (refl, h.1, h.2, h.3, h.4) }
-    turn_answers s t (Some b) last a (inr h) = after_end s t b h.0 last a h.1 (outer_answers s t last a h.2)
+    -- an inner stream that has ended, before the one that was taken next
+    before_taken : (held last : Option B) (b : B) (ins : List (Answer B)) (a : Answer A) → IfSome held (λ d. (c : B) × run d (end ∷ []) c)
+        → Flattening run (Some b) ins (a ∷ []) last → Flattening run held (item b ∷ ins) (a ∷ []) last
+    before_taken None last b ins a ended h = h
+    before_taken (Some d) last b ins a ended h = inr ([], a, [], refl, refl, ended.0, ended.1, h)
 
-    outer_before : (s t u : S) (next last : Option B) (a : Answer A) → OuterTurn {A = A} outer s None t next
-        → Through outer (Flattening run) t next (a ∷ []) u last → Through outer (Flattening run) s None (a ∷ []) u last
-    outer_before s t u next last a h m =
+    turn_before : (x y z : S × Option B) (a : Answer A) → TakesNext run outer x y
+        → Through outer (Flattening run) y.0 y.1 (a ∷ []) z.0 z.1 → Through outer (Flattening run) x.0 x.1 (a ∷ []) z.0 z.1
+    turn_before x y z a h m =
         record {
-          ins = item h.0 ∷ m.ins;
-          came = outer_follows s t u (item h.0 ∷ []) m.ins h.1 m.came;
-          turned = subst (λ o. Flattening run o m.ins (a ∷ []) last) h.2 m.turned;
+          ins = item h.next ∷ m.ins;
+          came = outer_follows x.0 y.0 z.0 (item h.next ∷ []) m.ins h.gave m.came;
+          turned = before_taken x.1 z.1 h.next m.ins a h.ended (subst (λ o. Flattening run o m.ins (a ∷ []) z.1) h.held m.turned);
         }
-
-    -- a turn before others
-    turn_before : (s t u : S) (held next last : Option B) (a : Answer A) → FlatTurn run outer s held None t next
-        → Through outer (Flattening run) t next (a ∷ []) u last → Through outer (Flattening run) s held (a ∷ []) u last
-    turn_before s t u None next last a h m = outer_before s t u next last a h m
-    turn_before s t u (Some b) next last a (inl h) m = absurd h
-    turn_before s t u (Some b) next last a (inr h) m = after_end s u b h.0 last a h.1 (outer_before s t u next last a h.2 m)
 
     -- the turns of a poll of an adapter, which has an outer stream and may hold an inner one
     pub flat_answer : {M : Type 0} (p : Parts M S (Option B)) (can_turn : M → Type 0) (x y z : M) (a : Answer A)
-        → Goes (Next (FlatTurns run outer p can_turn)) x y → FlatTurns run outer p can_turn y (Some a) z → Adapts p outer (Flattening run) x (a ∷ []) z
+        → Goes (Next (FlatTurns run outer p can_turn)) x y → FlatTurns run outer p can_turn y (Some a) z
+        → Adapts p outer (Flattening run) x (a ∷ []) z
     flat_answer p can_turn x y z a goes last =
         Goes-back (λ m. Adapts p outer (Flattening run) m (a ∷ []) z)
-        (λ v w t. turn_before (p.source v) (p.source w) (p.source z) (p.held v) (p.held w) (p.held z) a t.1)
-        x y goes (turn_answers (p.source y) (p.source z) (p.held y) (p.held z) a last.1)
+        (λ v w t. turn_before (p.source v, p.held v) (p.source w, p.held w) (p.source z, p.held z) a t.1)
+        x y goes (turn_answers (p.source y, p.held y) (p.source z, p.held z) a last.1)
 
 -- what holds of each inner stream that may come holds of each that may come later
-pub to_come : {S B : Type 0} {outer : S → List (Answer B) → S → Type 0} {Fact : B → Type 0} → ((x y z : S) (l m : List (Answer B)) → outer x l y → outer y m z → outer x (l ++ m) z)
-    → (s t : S) (held : Option B) (i : List (Answer B)) → EachInner outer Fact s held → outer s i t → (u : S) (before after : List (Answer B)) (b : B) → outer t (before ++ item b ∷ after) u → Fact b
+pub to_come : {S B : Type 0} {outer : S → List (Answer B) → S → Type 0} {Fact : B → Type 0}
+    → ((x y z : S) (l m : List (Answer B)) → outer x l y → outer y m z → outer x (l ++ m) z)
+    → (s t : S) (held : Option B) (i : List (Answer B)) → EachInner outer Fact s held → outer s i t → (u : S) (before after : List (Answer B)) (b : B)
+    → outer t (before ++ item b ∷ after) u → Fact b
 to_come {outer = outer} follows s t held i each came u before after b h =
     each.1 u (i ++ before) after b (subst (λ k. outer s k u) (sym (append_assoc i before (item b ∷ after))) (follows s t u i (before ++ item b ∷ after) came h))
 
 module _ {S B A : Type 0} (run : B → List (Answer A) → B → Type 0) (outer : S → List (Answer B) → S → Type 0) where
-  turn_step : (s t : S) (held last : Option B) → FlatTurn run outer s held None t last → ItemRun outer s t
-  turn_step s t None last h = (h.0, [], h.1)
-  turn_step s t (Some b) last (inl h) = absurd h
-  turn_step s t (Some b) last (inr h) = (h.2.0, [], h.2.1)
-
   -- no chain of turns that go on is endless, if no chain of items of the outer stream is
   pub flat_ends : {M : Type 0} (p : Parts M S (Option B)) {can_turn : M → Type 0} → ((x : M) → can_turn x → Ends (ItemRun outer) (p.source x))
       → (x : M) → can_turn x → Ends (Next (FlatTurns run outer p can_turn)) x
-  flat_ends p ends x c = Ends-map p.source (λ m n t. turn_step (p.source m) (p.source n) (p.held m) (p.held n) t.1) x (ends x c)
+  flat_ends p ends x c = Ends-map p.source (λ m n t. (t.1.next, [], t.1.gave)) x (ends x c)
 
   module _ (Fact : B → Type 0) (kept : (b c : B) (l : List (Answer A)) → Fact b → run b l c → Fact c) where
-    last_has : (last : Option B) (i : List (Answer B)) (l : List (Answer A)) → ((before after : List (Answer B)) (b : B) → i ≡ before ++ item b ∷ after → Fact b) → Flat run i l last → IfSome last Fact
+    last_has : (last : Option B) (i : List (Answer B)) (l : List (Answer A))
+        → ((before after : List (Answer B)) (b : B) → i ≡ before ++ item b ∷ after → Fact b) → Flat run i l last → IfSome last Fact
     last_has last [] [] come h = rw h tt
     last_has last [] (a ∷ l) come h = absurd h
     last_has last (a ∷ i) [] come h = absurd h
     last_has last (Pending ∷ i) (a ∷ l) come h = last_has last i l (λ before after b e. come (Pending ∷ before) after b (ap (λ k. Pending ∷ k) e)) h.1
     last_has last (Ready None ∷ i) (a ∷ l) come h = last_has last i l (λ before after b e. come (end ∷ before) after b (ap (λ k. end ∷ k) e)) h.1
     last_has last (Ready (Some b) ∷ i) (a ∷ l) come (inl h) = rw h.4 (kept b h.2 (a ∷ l) (come [] i b refl) h.3)
-    last_has last (Ready (Some b) ∷ i) (a ∷ l) come (inr h) = last_has last i (h.1 ∷ h.2) (λ before after c e. come (item b ∷ before) after c (ap (λ k. item b ∷ k) e)) h.7
+    last_has last (Ready (Some b) ∷ i) (a ∷ l) come (inr h) =
+        last_has last i (h.1 ∷ h.2) (λ before after c e. come (item b ∷ before) after c (ap (λ k. item b ∷ k) e)) h.7
 
-    held_has : (held last : Option B) (i : List (Answer B)) (l : List (Answer A)) → IfSome held Fact → ((before after : List (Answer B)) (b : B) → i ≡ before ++ item b ∷ after → Fact b) → Flattening run held i l last → IfSome last Fact
+    held_has : (held last : Option B) (i : List (Answer B)) (l : List (Answer A)) → IfSome held Fact
+        → ((before after : List (Answer B)) (b : B) → i ≡ before ++ item b ∷ after → Fact b) → Flattening run held i l last → IfSome last Fact
     held_has None last i l has come h = last_has last i l come h
     held_has (Some b) last i l has come (inl h) = rw h.4 (kept b h.2 l has h.3)
     held_has (Some b) last i l has come (inr h) = last_has last i (h.1 ∷ h.2) come h.7
 
     pub each_inner_on : ((x y z : S) (l m : List (Answer B)) → outer x l y → outer y m z → outer x (l ++ m) z)
-        → (s t : S) (held last : Option B) (l : List (Answer A)) → EachInner outer Fact s held → Through outer (Flattening run) s held l t last → EachInner outer Fact t last
+        → (s t : S) (held last : Option B) (l : List (Answer A)) → EachInner outer Fact s held → Through outer (Flattening run) s held l t last
+        → EachInner outer Fact t last
     each_inner_on follows s t held last l each h =
-        (held_has held last h.ins l each.0 (λ before after b e. each.1 t before after b (subst (λ i. outer s i t) e h.came)) h.turned, to_come follows s t held h.ins each h.came)
+        let come = to_come follows s t held h.ins each h.came in
+        (held_has held last h.ins l each.0 (λ before after b e. each.1 t before after b (subst (λ i. outer s i t) e h.came)) h.turned, come)
 
 -- ranks
 
@@ -183,7 +176,8 @@ module _ {B A : Type 0} (run : B → List (Answer A) → B → Type 0) (n : ℕ)
       (b ∷ e.0, ap (λ k. item b ∷ k) e.1)
 
   outer_falls : (f g : Option B) (i : List (Answer B)) (a : Answer A) (out : List (Answer A)) (l : List A) (xs us : List ℕ)
-      → ((b : B) (before : List B) → i ≡ items (b ∷ before) → Below xs us) → a ∷ out ≡ items l → Flat run i (a ∷ out) g → Below (xs ++ inner_rank n rank g) (us ++ inner_rank n rank f)
+      → ((b : B) (before : List B) → i ≡ items (b ∷ before) → Below xs us) → a ∷ out ≡ items l → Flat run i (a ∷ out) g
+      → Below (xs ++ inner_rank n rank g) (us ++ inner_rank n rank f)
   outer_falls f g i a out l xs us falls e h = at_start (came_items g i l (subst (λ k. Flat run i k g) e h))
     where
       at_start : (before : List B) × (i ≡ items before) → Below (xs ++ inner_rank n rank g) (us ++ inner_rank n rank f)
@@ -191,7 +185,8 @@ module _ {B A : Type 0} (run : B → List (Answer A) → B → Type 0) (n : ℕ)
       at_start (b ∷ before, d) = Below-first xs us (inner_rank n rank g) (inner_rank n rank f) (falls b before d) (same_size g f)
 
   flat_falls : (f g : Option B) (i : List (Answer B)) (y : A) (l : List A) (xs us : List ℕ)
-      → ((b : B) (before : List B) → i ≡ items (b ∷ before) → Below xs us) → (i ≡ [] → xs ≡ us) → IfSome f (λ b. (c : B) → run b (items (y ∷ l)) c → Below (rank c) (rank b))
+      → ((b : B) (before : List B) → i ≡ items (b ∷ before) → Below xs us) → (i ≡ [] → xs ≡ us)
+      → IfSome f (λ b. (c : B) → run b (items (y ∷ l)) c → Below (rank c) (rank b))
       → Flattening run f i (items (y ∷ l)) g → Below (xs ++ inner_rank n rank g) (us ++ inner_rank n rank f)
   flat_falls None g i y l xs us falls same inner h = outer_falls None g i (item y) (items l) (y ∷ l) xs us falls refl h
   flat_falls (Some b) g i y l xs us falls same inner (inl h) = rw h.4 (Below-after xs us (rank h.2) (rank b) (inl (same h.0)) (inner h.2 h.3))
@@ -199,7 +194,8 @@ module _ {B A : Type 0} (run : B → List (Answer A) → B → Type 0) (n : ℕ)
       let m = items_after h.0 (h.1 ∷ h.2) (y ∷ l) h.3 in outer_falls (Some b) g i h.1 h.2 m.0 xs us falls m.1 h.7
 
   -- with no inner stream held at first
-  outer_lowers : (g : Option B) (i : List (Answer B)) (l : List (Answer A)) (xs us : List ℕ) → Flat run i l g → Lowers i xs us → Lowers l (xs ++ inner_rank n rank g) (us ++ replicate n 0)
+  outer_lowers : (g : Option B) (i : List (Answer B)) (l : List (Answer A)) (xs us : List ℕ) → Flat run i l g → Lowers i xs us
+      → Lowers l (xs ++ inner_rank n rank g) (us ++ replicate n 0)
   outer_lowers g [] [] xs us h low = rw h (AtMost-both xs us (replicate n 0) (replicate n 0) low (inl refl))
   outer_lowers g [] (a ∷ l) xs us h low = absurd h
   outer_lowers g (a ∷ i) [] xs us h low = absurd h
@@ -209,21 +205,25 @@ module _ {B A : Type 0} (run : B → List (Answer A) → B → Type 0) (n : ℕ)
       Lowers-below (a ∷ l) (xs ++ inner_rank n rank g) (us ++ replicate n 0) (Below-first xs us (inner_rank n rank g) (replicate n 0) low (same_size g None))
 
   -- the answers of an inner stream that ends, and what follows them
-  own_lowers : (b c : B) (own rest : List (Answer A)) (xs us : List ℕ) → Lowers (own ++ end ∷ []) (rank c) (rank b) → Lowers rest xs (us ++ replicate n 0) → Lowers (own ++ rest) xs (us ++ rank b)
-  own_lowers b c [] rest xs us low h = lowers_at_most rest xs (us ++ replicate n 0) (us ++ rank b) h (AtMost-both us us (replicate n 0) (rank b) (inl refl) (zeros_least n (rank b) (sized b)))
-  own_lowers b c (Pending ∷ own) rest xs us low h = own_lowers b c own rest xs us low h
-  own_lowers b c (Ready None ∷ own) rest xs us low h = own_lowers b c own rest xs us low h
-  own_lowers b c (Ready (Some x) ∷ own) rest xs us low h =
-      let gone = at_most_below (replicate n 0) (rank c) (rank b) (zeros_least n (rank c) (sized c)) low in
-      at_most_below xs (us ++ replicate n 0) (us ++ rank b) (Lowers-at_most rest xs (us ++ replicate n 0) h) (Below-then us (replicate n 0) (rank b) gone)
+  ended_lowers : (b c : B) (own rest : List (Answer A)) (xs us : List ℕ) → Lowers (own ++ end ∷ []) (rank c) (rank b)
+      → Lowers rest xs (us ++ replicate n 0) → Lowers (own ++ rest) xs (us ++ rank b)
+  ended_lowers b c own rest xs us low h =
+      own_lowers own (end ∷ []) rest (rank c) (rank b) xs (us ++ rank b) low
+      (λ _.
+      let least = AtMost-both us us (replicate n 0) (rank b) (inl refl) (zeros_least n (rank b) (sized b)) in
+      lowers_at_most rest xs (us ++ replicate n 0) (us ++ rank b) h least)
+      (λ below.
+      let gone = at_most_below (replicate n 0) (rank c) (rank b) (zeros_least n (rank c) (sized c)) below in
+      at_most_below xs (us ++ replicate n 0) (us ++ rank b) (Lowers-at_most rest xs (us ++ replicate n 0) h) (Below-then us (replicate n 0) (rank b) gone))
 
-  flat_lowers : (f g : Option B) (i : List (Answer B)) (l : List (Answer A)) (xs us : List ℕ) → IfSome f (λ b. (c : B) (m : List (Answer A)) → run b m c → Lowers m (rank c) (rank b))
+  flat_lowers : (f g : Option B) (i : List (Answer B)) (l : List (Answer A)) (xs us : List ℕ)
+      → IfSome f (λ b. (c : B) (m : List (Answer A)) → run b m c → Lowers m (rank c) (rank b))
       → Flattening run f i l g → Lowers i xs us → Lowers l (xs ++ inner_rank n rank g) (us ++ inner_rank n rank f)
   flat_lowers None g i l xs us inner h low = outer_lowers g i l xs us h low
   flat_lowers (Some b) g i l xs us inner (inl h) low =
       rw h.4 (lowers_after l xs us (rank h.2) (rank b) (subst (λ k. Lowers k xs us) h.0 low) (inner h.2 l h.3))
   flat_lowers (Some b) g i l xs us inner (inr h) low =
-      rw h.3 (own_lowers b h.5 h.0 (h.1 ∷ h.2) (xs ++ inner_rank n rank g) us (inner h.5 (h.0 ++ end ∷ []) h.6) (outer_lowers g i (h.1 ∷ h.2) xs us h.7 low))
+      rw h.3 (ended_lowers b h.5 h.0 (h.1 ∷ h.2) (xs ++ inner_rank n rank g) us (inner h.5 (h.0 ++ end ∷ []) h.6) (outer_lowers g i (h.1 ∷ h.2) xs us h.7 low))
 
   module _ {S : Type 0} (outer : S → List (Answer B) → S → Type 0) (outer_rank : S → List ℕ) where
     some_has : {Fact More : B → Type 0} (held : Option B) → ((b : B) → Fact b → More b) → IfSome held Fact → IfSome held More
@@ -231,16 +231,20 @@ module _ {B A : Type 0} (run : B → List (Answer A) → B → Type 0) (n : ℕ)
     some_has (Some b) to h = to b h
 
     pub flattens_falls : (counts : B → Type 0) (s t : S) (f g : Option B) (y : A) (l : List A)
-        → ((b : B) (before : List B) → outer s (items (b ∷ before)) t → Below (outer_rank t) (outer_rank s)) → (outer s [] t → t ≡ s) → ((b c : B) → counts b → run b (items (y ∷ l)) c → Below (rank c) (rank b))
-        → EachInner outer counts s f → Through outer (Flattening run) s f (items (y ∷ l)) t g → Below (outer_rank t ++ inner_rank n rank g) (outer_rank s ++ inner_rank n rank f)
+        → ((b : B) (before : List B) → outer s (items (b ∷ before)) t → Below (outer_rank t) (outer_rank s)) → (outer s [] t → t ≡ s)
+        → ((b c : B) → counts b → run b (items (y ∷ l)) c → Below (rank c) (rank b))
+        → EachInner outer counts s f → Through outer (Flattening run) s f (items (y ∷ l)) t g
+        → Below (outer_rank t ++ inner_rank n rank g) (outer_rank s ++ inner_rank n rank f)
     flattens_falls counts s t f g y l falls stays inner each h =
         flat_falls f g h.ins y l (outer_rank t) (outer_rank s)
         (λ b before e. falls b before (subst (λ i. outer s i t) e h.came)) (λ e. ap outer_rank (stays (subst (λ i. outer s i t) e h.came)))
         (some_has f (λ b k c. inner b c k) each.0) h.turned
 
     pub flattens_lowers : (firm : B → Type 0) (s t : S) (f g : Option B) (l : List (Answer A))
-        → ((i : List (Answer B)) → outer s i t → Lowers i (outer_rank t) (outer_rank s)) → ((b c : B) (m : List (Answer A)) → firm b → run b m c → Lowers m (rank c) (rank b))
-        → EachInner outer firm s f → Through outer (Flattening run) s f l t g → Lowers l (outer_rank t ++ inner_rank n rank g) (outer_rank s ++ inner_rank n rank f)
+        → ((i : List (Answer B)) → outer s i t → Lowers i (outer_rank t) (outer_rank s))
+        → ((b c : B) (m : List (Answer A)) → firm b → run b m c → Lowers m (rank c) (rank b))
+        → EachInner outer firm s f → Through outer (Flattening run) s f l t g
+        → Lowers l (outer_rank t ++ inner_rank n rank g) (outer_rank s ++ inner_rank n rank f)
     flattens_lowers firm s t f g l lowers inner each h =
         flat_lowers f g h.ins l (outer_rank t) (outer_rank s) (some_has f (λ b k c m. inner b c m k) each.0) h.turned (lowers h.ins h.came)
 
@@ -248,15 +252,22 @@ module _ {B A : Type 0} {run : B → List (Answer A) → B → Type 0} where
   pub flattening : RunLaws run → Following (Flattening run)
   flattening inner = flattening_following run inner.stays inner.follows inner.rests
 
-  pub flattening_counting : {M S : Type 0} (p : Parts M S (Option B)) {outer : S → List (Answer B) → S → Type 0} {hints : S → ℕ × Option ℕ → Type 0} {r : Ranks S} {r' : Ranks B} → StreamLaws outer hints → Counting outer r → Counting run r'
+  pub flattening_counting : {M S : Type 0} (p : Parts M S (Option B)) {outer : S → List (Answer B) → S → Type 0} {hints : S → ℕ × Option ℕ → Type 0}
+      {r : Ranks S} {r' : Ranks B} → StreamLaws outer hints → Counting outer r → Counting run r'
       → Counting (Adapts p outer (Flattening run)) (flattening_ranks p outer r r')
   flattening_counting p {outer = outer} {r = r} {r' = r'} laws c c' =
       record {
         sized = λ x. flat_sized run r'.width r'.rank c'.sized (r.rank (p.source x)) (p.held x) (c.sized (p.source x));
-        counts_on = λ x y l k h. (c.counts_on (p.source x) (p.source y) h.ins k.0 h.came, each_inner_on run outer r'.counts c'.counts_on laws.follows (p.source x) (p.source y) (p.held x) (p.held y) l k.1 h);
-        firm_on = λ x y l k h. (c.firm_on (p.source x) (p.source y) h.ins k.0 h.came, each_inner_on run outer r'.firm c'.firm_on laws.follows (p.source x) (p.source y) (p.held x) (p.held y) l k.1 h);
+        counts_on = λ x y l k h.
+            let inner = each_inner_on run outer r'.counts c'.counts_on laws.follows in
+            (c.counts_on (p.source x) (p.source y) h.ins k.0 h.came, inner (p.source x) (p.source y) (p.held x) (p.held y) l k.1 h);
+        firm_on = λ x y l k h.
+            let inner = each_inner_on run outer r'.firm c'.firm_on laws.follows in
+            (c.firm_on (p.source x) (p.source y) h.ins k.0 h.came, inner (p.source x) (p.source y) (p.held x) (p.held y) l k.1 h);
         falls = λ x y a more k h.
             flattens_falls run r'.width r'.rank c'.sized outer r.rank r'.counts (p.source x) (p.source y) (p.held x) (p.held y) a more
             (λ b before e. c.falls (p.source x) (p.source y) b before k.0 e) (laws.stays (p.source x) (p.source y)) (λ b b' e. c'.falls b b' a more e) k.1 h;
-        lowers = λ x y l k h. flattens_lowers run r'.width r'.rank c'.sized outer r.rank r'.firm (p.source x) (p.source y) (p.held x) (p.held y) l (λ i. c.lowers (p.source x) (p.source y) i k.0) c'.lowers k.1 h;
+        lowers = λ x y l k h.
+            flattens_lowers run r'.width r'.rank c'.sized outer r.rank r'.firm (p.source x) (p.source y) (p.held x) (p.held y) l
+            (λ i. c.lowers (p.source x) (p.source y) i k.0) c'.lowers k.1 h;
       }

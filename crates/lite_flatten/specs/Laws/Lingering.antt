@@ -6,7 +6,7 @@ use Rattle.lite_base.specs.Falling.{AtMost-both, Below-after, Below-first, Lower
 use Rattle.lite_base.specs.Rank.{AtMost, Below, Lowers}
 use Rattle.lite_base.specs.Ranks.{Counting, Ranks}
 use Rattle.lite_base.specs.StreamLaws.{StreamLaws}
-use Rattle.lite_flatten.specs.Laws.Flatten.{items_after}
+use Rattle.lite_flatten.specs.Laws.Before.{items_after}
 use Rattle.lite_flatten.specs.Lingering.{HeldOn, Lingering, Lingers, Replaced}
 use Rattle.lite_stream.specs.Laws.Lower.{at_most_below}
 use Rattle.lite_stream.specs.Laws.Through.{Following}
@@ -28,7 +28,8 @@ pub record GivingOne {V B : Type 0} (gives : V → List (Answer B) → Option V 
 module _ {F A V B : Type 0} (call : F → A → V → F → Type 0) (gives : V → List (Answer B) → Option V → Type 0) (g : Giving gives) where
   -- the list of what is held may be cut
   begun : (p q : F) (v w : V) (j : List (Answer A)) (l m : List (Answer B)) (h : Option V) → gives v l (Some w)
-      → HeldOn call gives p w j m q h ⊎ Replaced call gives w (Lingers call gives p j) m q h → HeldOn call gives p v j (l ++ m) q h ⊎ Replaced call gives v (Lingers call gives p j) (l ++ m) q h
+      → HeldOn call gives p w j m q h ⊎ Replaced call gives w (Lingers call gives p j) m q h
+      → HeldOn call gives p v j (l ++ m) q h ⊎ Replaced call gives v (Lingers call gives p j) (l ++ m) q h
   begun p q v w j l m h ran (inl k) = inl (k.0, k.1, k.2, g.joins v w (Some k.2) l m ran k.3, k.4)
   begun p q v w j l m h ran (inr k) =
       inr (l ++ k.0, k.1, ap (λ n. l ++ n) k.2 ∙ sym (append_assoc l k.0 k.1), g.joins v w None l k.0 ran k.3, k.4)
@@ -38,10 +39,12 @@ module _ {F A V B : Type 0} (call : F → A → V → F → Type 0) (gives : V �
       → HeldOn call gives p v i l q f ⊎ Replaced call gives v (Lingers call gives p i) l q f → Lingering call gives (q, f) j m t
       → HeldOn call gives p v (i ++ j) (l ++ m) t.0 t.1 ⊎ Replaced call gives v (Lingers call gives p (i ++ j)) (l ++ m) t.0 t.1
   goes_on p q t v f i j l m rest (inl k) d =
-      rw k.0 (begun p t.0 v k.2 j l m t.1 k.3 (subst (λ r. Lingering call gives (r, Some k.2) j m t) k.1 (subst (λ o. Lingering call gives (q, o) j m t) k.4 d)))
+      let on = subst (λ r. Lingering call gives (r, Some k.2) j m t) k.1 (subst (λ o. Lingering call gives (q, o) j m t) k.4 d) in
+      rw k.0 (begun p t.0 v k.2 j l m t.1 k.3 on)
   goes_on p q t v f i j l m rest (inr k) d = inr (k.0, k.1 ++ m, ap (λ n. n ++ m) k.2 ∙ append_assoc k.0 k.1 m, k.3, rest k.1 k.4)
 
-  lingers_follow : (p q : F) (t : F × Option V) (f : Option V) (i j : List (Answer A)) (l m : List (Answer B)) → Lingers call gives p i l q f → Lingering call gives (q, f) j m t → Lingers call gives p (i ++ j) (l ++ m) t.0 t.1
+  lingers_follow : (p q : F) (t : F × Option V) (f : Option V) (i j : List (Answer A)) (l m : List (Answer B)) → Lingers call gives p i l q f
+      → Lingering call gives (q, f) j m t → Lingers call gives p (i ++ j) (l ++ m) t.0 t.1
   lingers_follow p q t f [] j [] m c d = subst (λ r. Lingering call gives (r, None) j m t) c.0 (subst (λ o. Lingering call gives (q, o) j m t) c.1 d)
   lingers_follow p q t f [] j (b ∷ l) m c d = absurd c
   lingers_follow p q t f (a ∷ i) j [] m c d = absurd c
@@ -50,7 +53,8 @@ module _ {F A V B : Type 0} (call : F → A → V → F → Type 0) (gives : V �
   lingers_follow p q t f (Ready (Some x) ∷ i) j (b ∷ l) m c d =
       (c.0, c.1, c.2, goes_on c.1 q t c.0 f i j (b ∷ l) m (λ rest k. lingers_follow c.1 q t f i j rest m k d) c.3 d)
 
-  joins : (s r t : F × Option V) (i j : List (Answer A)) (l m : List (Answer B)) → Lingering call gives s i l r → Lingering call gives r j m t → Lingering call gives s (i ++ j) (l ++ m) t
+  joins : (s r t : F × Option V) (i j : List (Answer A)) (l m : List (Answer B)) → Lingering call gives s i l r → Lingering call gives r j m t
+      → Lingering call gives s (i ++ j) (l ++ m) t
   joins (p, None) (q, f) t i j l m c d = lingers_follow p q t f i j l m c d
   joins (p, Some v) (q, f) t i j l m c d = goes_on p q t v f i j l m (λ rest k. lingers_follow p q t f i j rest m k d) c d
 
@@ -75,19 +79,22 @@ module _ {F A V B : Type 0} (call : F → A → V → F → Type 0) (gives : V �
 -- one poll
 module _ {S F A V B : Type 0} (run : S → List (Answer A) → S → Type 0) (call : F → A → V → F → Type 0) (gives : V → List (Answer B) → Option V → Type 0) where
   -- of what is held, where the source is not asked
-  pub held_answers : (s : S) (f : F) (v : V) (b : Answer B) (left : Option V) → run s [] s → gives v (b ∷ []) left → Through run (Lingering call gives) s (f, Some v) (b ∷ []) s (f, left)
+  pub held_answers : (s : S) (f : F) (v : V) (b : Answer B) (left : Option V) → run s [] s → gives v (b ∷ []) left
+      → Through run (Lingering call gives) s (f, Some v) (b ∷ []) s (f, left)
   held_answers s f v b None came given = record { ins = []; came = came; turned = inr (b ∷ [], [], refl, given, (refl, refl)) }
   held_answers s f v b (Some w) came given = record { ins = []; came = came; turned = inl (refl, refl, w, given, refl) }
 
   -- of what is made of an item
-  pub made_answers : (s t : S) (f g : F) (a : Answer A) (x : A) (v : V) (b : Answer B) (left : Option V) → a ≡ item x → run s (a ∷ []) t → call f x v g → gives v (b ∷ []) left → Through run (Lingering call gives) s (f, None) (b ∷ []) t (g, left)
+  pub made_answers : (s t : S) (f g : F) (a : Answer A) (x : A) (v : V) (b : Answer B) (left : Option V) → a ≡ item x → run s (a ∷ []) t → call f x v g
+      → gives v (b ∷ []) left → Through run (Lingering call gives) s (f, None) (b ∷ []) t (g, left)
   made_answers s t f g a x v b None is came called given =
       record { ins = item x ∷ []; came = subst (λ c. run s (c ∷ []) t) is came; turned = (v, g, called, inr (b ∷ [], [], refl, given, (refl, refl))) }
   made_answers s t f g a x v b (Some w) is came called given =
       record { ins = item x ∷ []; came = subst (λ c. run s (c ∷ []) t) is came; turned = (v, g, called, inl (refl, refl, w, given, refl)) }
 
   -- of the source, which is pending
-  pub none_answers : (s t : S) (f : F) (a : Answer A) → a ≡ Pending → run s (a ∷ []) t → Through run (Lingering call gives) s (f, None) (Pending ∷ []) t (f, None)
+  pub none_answers : (s t : S) (f : F) (a : Answer A) → a ≡ Pending → run s (a ∷ []) t
+      → Through run (Lingering call gives) s (f, None) (Pending ∷ []) t (f, None)
   none_answers s t f a is came = record { ins = Pending ∷ []; came = subst (λ c. run s (c ∷ []) t) is came; turned = (refl, (refl, refl)) }
 
 -- how many things are held
@@ -119,7 +126,8 @@ module _ {B : Type 0} where
   waiting_lowers (Ready b ∷ l) xs ys w h = absurd w
 
 module _ {F A V B : Type 0} (call : F → A → V → F → Type 0) (gives : V → List (Answer B) → Option V → Type 0) (g : GivingOne gives) where
-  held_bounded : (p q : F) (v : V) (f : Option V) (n : ℕ) (i : List (Answer A)) (o : List (Answer B)) → ((rest : List (Answer B)) → Lingers call gives p i rest q f → before_end rest ≤ n)
+  held_bounded : (p q : F) (v : V) (f : Option V) (n : ℕ) (i : List (Answer A)) (o : List (Answer B))
+      → ((rest : List (Answer B)) → Lingers call gives p i rest q f → before_end rest ≤ n)
       → HeldOn call gives p v i o q f ⊎ Replaced call gives v (Lingers call gives p i) o q f → before_end o ≤ n + 1
   held_bounded p q v f n i o rest (inl c) = let e = waiting_bounded o (g.waits v c.2 o c.3) in omega arith
   held_bounded p q v f n i o rest (inr c) =
@@ -133,29 +141,36 @@ module _ {F A V B : Type 0} (call : F → A → V → F → Type 0) (gives : V �
   lingers_bounded p q f (Ready None ∷ i) (b ∷ o) c = rw c.0 (omega arith)
   lingers_bounded p q f (Ready (Some x) ∷ i) (b ∷ o) c = held_bounded c.1 q c.0 f (before_end i) i (b ∷ o) (λ rest k. lingers_bounded c.1 q f i rest k) c.3
 
-  pub lingering_bounded : (s t : F × Option V) (i : List (Answer A)) (o : List (Answer B)) → Lingering call gives s i o t → before_end o ≤ before_end i + count_held s.1
+  pub lingering_bounded : (s t : F × Option V) (i : List (Answer A)) (o : List (Answer B)) → Lingering call gives s i o t
+      → before_end o ≤ before_end i + count_held s.1
   lingering_bounded (p, None) (q, f) i o c = let e = lingers_bounded p q f i o c in omega arith
   lingering_bounded (p, Some v) (q, f) i o c = held_bounded p q v f (before_end i) i o (λ rest k. lingers_bounded p q f i rest k) c
 
-  lingers_lowers : (p q : F) (f : Option V) (i : List (Answer A)) (o : List (Answer B)) (xs us : List ℕ) → Lingers call gives p i o q f → Lowers i xs us → Lowers o (held_rank xs f) (held_rank {V = V} us None)
+  lingers_lowers : (p q : F) (f : Option V) (i : List (Answer A)) (o : List (Answer B)) (xs us : List ℕ) → Lingers call gives p i o q f → Lowers i xs us
+      → Lowers o (held_rank xs f) (held_rank {V = V} us None)
   lingers_lowers p q f [] [] xs us c h = rw c.1 (AtMost-both xs us (0 ∷ []) (0 ∷ []) h (inl refl))
   lingers_lowers p q f [] (b ∷ o) xs us c h = absurd c
   lingers_lowers p q f (a ∷ i) [] xs us c h = absurd c
   lingers_lowers p q f (Pending ∷ i) (b ∷ o) xs us c h = rw c.0 (lingers_lowers p q f i o xs us c.1 h)
   lingers_lowers p q f (Ready None ∷ i) (b ∷ o) xs us c h = rw c.0 (lingers_lowers p q f i o xs us c.1 h)
-  lingers_lowers p q f (Ready (Some x) ∷ i) (b ∷ o) xs us c h = Lowers-below (b ∷ o) (held_rank xs f) (held_rank {V = V} us None) (Below-first xs us (count_held f ∷ []) (0 ∷ []) h refl)
+  lingers_lowers p q f (Ready (Some x) ∷ i) (b ∷ o) xs us c h =
+      Lowers-below (b ∷ o) (held_rank xs f) (held_rank {V = V} us None) (Below-first xs us (count_held f ∷ []) (0 ∷ []) h refl)
 
   -- what is held counts in the last place
   held_below : (xs us : List ℕ) (v : V) → AtMost xs us → Below (held_rank {V = V} xs None) (held_rank us (Some v))
   held_below xs us v h = Below-after xs us (0 ∷ []) (1 ∷ []) h (inl (omega arith, refl))
 
-  lingering_lowers : (s t : F × Option V) (i : List (Answer A)) (o : List (Answer B)) (xs us : List ℕ) → Lingering call gives s i o t → Lowers i xs us → Lowers o (held_rank xs t.1) (held_rank us s.1)
+  lingering_lowers : (s t : F × Option V) (i : List (Answer A)) (o : List (Answer B)) (xs us : List ℕ) → Lingering call gives s i o t → Lowers i xs us
+      → Lowers o (held_rank xs t.1) (held_rank us s.1)
   lingering_lowers (p, None) (q, f) i o xs us c h = lingers_lowers p q f i o xs us c h
   lingering_lowers (p, Some v) (q, f) i o xs us (inl c) h =
-      rw c.4 (waiting_lowers o (held_rank xs (Some c.2)) (held_rank us (Some v)) (g.waits v c.2 o c.3) (AtMost-both xs us (1 ∷ []) (1 ∷ []) (subst (λ k. Lowers k xs us) c.0 h) (inl refl)))
+      let level = AtMost-both xs us (1 ∷ []) (1 ∷ []) (subst (λ k. Lowers k xs us) c.0 h) (inl refl) in
+      rw c.4 (waiting_lowers o (held_rank xs (Some c.2)) (held_rank us (Some v)) (g.waits v c.2 o c.3) level)
   lingering_lowers (p, Some v) (q, f) i o xs us (inr c) h =
       let e = lingers_lowers p q f i c.1 xs us c.4 h in
-      Lowers-below o (held_rank xs f) (held_rank us (Some v)) (at_most_below (held_rank xs f) (held_rank {V = V} us None) (held_rank us (Some v)) (Lowers-at_most c.1 (held_rank xs f) (held_rank {V = V} us None) e) (held_below us us v (inl refl)))
+      let level = Lowers-at_most c.1 (held_rank xs f) (held_rank {V = V} us None) e in
+      let below = at_most_below (held_rank xs f) (held_rank {V = V} us None) (held_rank us (Some v)) level (held_below us us v (inl refl)) in
+      Lowers-below o (held_rank xs f) (held_rank us (Some v)) below
 
   -- where items came out, only items came in
   came_items : (p q : F) (f : Option V) (i : List (Answer A)) (l : List B) → Lingers call gives p i (items l) q f → (before : List A) × (i ≡ items before)
@@ -175,7 +190,8 @@ module _ {F A V B : Type 0} (call : F → A → V → F → Type 0) (gives : V �
   none_held p q f (b ∷ o) c = absurd c
 
   lingering_falls : (s t : F × Option V) (i : List (Answer A)) (y : B) (l : List B) (xs us : List ℕ)
-      → ((a : A) (before : List A) → i ≡ items (a ∷ before) → Below xs us) → (i ≡ [] → xs ≡ us) → Lingering call gives s i (items (y ∷ l)) t → Below (held_rank xs t.1) (held_rank us s.1)
+      → ((a : A) (before : List A) → i ≡ items (a ∷ before) → Below xs us) → (i ≡ [] → xs ≡ us) → Lingering call gives s i (items (y ∷ l)) t
+      → Below (held_rank xs t.1) (held_rank us s.1)
   lingering_falls (p, None) (q, f) i y l xs us falls same c = at_start (came_items p q f i (y ∷ l) c)
     where
       at_start : (before : List A) × (i ≡ items before) → Below (held_rank xs f) (held_rank {V = V} us None)
@@ -192,9 +208,15 @@ module _ {F A V B : Type 0} (call : F → A → V → F → Type 0) (gives : V �
 -- the source's rank, and then a place that counts what is held
 abbrev pub held_ranks : {M S F V : Type 0} → Parts M S (F × Option V) → Ranks S → Ranks M
 held_ranks p r =
-    record { width = r.width + 1; rank = λ m. held_rank (r.rank (p.source m)) (p.held m).1; counts = λ m. r.counts (p.source m); firm = λ m. r.firm (p.source m) }
+    record {
+      width = r.width + 1;
+      rank = λ m. held_rank (r.rank (p.source m)) (p.held m).1;
+      counts = λ m. r.counts (p.source m);
+      firm = λ m. r.firm (p.source m);
+    }
 
-module _ {M S F A V B : Type 0} (p : Parts M S (F × Option V)) {call : F → A → V → F → Type 0} {gives : V → List (Answer B) → Option V → Type 0} {run : S → List (Answer A) → S → Type 0} {hints : S → ℕ × Option ℕ → Type 0} {r : Ranks S} where
+module _ {M S F A V B : Type 0} (p : Parts M S (F × Option V)) {call : F → A → V → F → Type 0} {gives : V → List (Answer B) → Option V → Type 0}
+    {run : S → List (Answer A) → S → Type 0} {hints : S → ℕ × Option ℕ → Type 0} {r : Ranks S} where
   pub held_counting : StreamLaws run hints → Counting run r → GivingOne gives → Counting (Adapts p run (Lingering call gives)) (held_ranks p r)
   held_counting laws c g =
       record {
@@ -205,5 +227,7 @@ module _ {M S F A V B : Type 0} (p : Parts M S (F × Option V)) {call : F → A 
             lingering_falls call gives g (p.held x) (p.held y) h.ins a more (r.rank (p.source y)) (r.rank (p.source x))
             (λ b before e. c.falls (p.source x) (p.source y) b before k (subst (λ i. run (p.source x) i (p.source y)) e h.came))
             (λ e. ap r.rank (laws.stays (p.source x) (p.source y) (subst (λ i. run (p.source x) i (p.source y)) e h.came))) h.turned;
-        lowers = λ x y l k h. lingering_lowers call gives g (p.held x) (p.held y) h.ins l (r.rank (p.source y)) (r.rank (p.source x)) h.turned (c.lowers (p.source x) (p.source y) h.ins k h.came);
+        lowers = λ x y l k h.
+            lingering_lowers call gives g (p.held x) (p.held y) h.ins l (r.rank (p.source y)) (r.rank (p.source x)) h.turned
+            (c.lowers (p.source x) (p.source y) h.ins k h.came);
       }

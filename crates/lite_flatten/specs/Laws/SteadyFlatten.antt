@@ -6,7 +6,8 @@ use Rattle.lite_base.specs.Alike.{AlikeBy, OptionBy, SameAnswer, SameItem, Samen
 use Rattle.lite_base.specs.Answers.{Answer, ComparableBy, Endless, end, strip}
 use Rattle.lite_base.specs.Steady.{SteadinessBy, SteadyLawsBy, TakesNone}
 use Rattle.lite_flatten.specs.Cloned.{Refers}
-use Rattle.lite_flatten.specs.Flatten.{EachInner, Flat, Flattening, HeldOn, Replaced}
+use Rattle.lite_flatten.specs.Flatten.{Flat, Flattening, HeldOn, Replaced}
+use Rattle.lite_flatten.specs.Inner.{EachInner}
 use Rattle.lite_flatten.specs.Laws.Replacing.{Placed, PlacedFrom, items_same, placed_from_same, refers_match}
 use Rattle.lite_base.specs.Laws.Answers.{strip_join}
 use Rattle.lite_base.specs.Laws.Alike.{both_items, comparable_as, comparable_nil}
@@ -59,7 +60,8 @@ module _ {B A : Type 0} (run : B → List (Answer A) → B → Type 0) where
       ((l : List (Answer A)) × (c : B) × run b l c × Endless l × (out ≡ strip l))
       ⊎ ((own : List (Answer A)) × (c : B) × run b (own ++ end ∷ []) c × Endless own × (more : List (Option A)) × (out ≡ strip own ++ more) × follows more)
 
-  in_place : (b : B) (i : List (Answer B)) (l : List (Answer A)) (last : Option B) → ((m : List (Answer A)) → Flat run i m last → Placed Refers OwnInPlace tt (strip i) (strip m))
+  in_place : (b : B) (i : List (Answer B)) (l : List (Answer A)) (last : Option B)
+      → ((m : List (Answer A)) → Flat run i m last → Placed Refers OwnInPlace tt (strip i) (strip m))
       → HeldOn run b i l last ⊎ Replaced run b (Flat run i) l last → OwnInPlace b (Placed Refers OwnInPlace tt (strip i)) (strip l)
   in_place b i l last rest (inl h) = inl (l, h.2, h.3, h.1, refl)
   in_place b i l last rest (inr h) = inr (h.0, h.5, h.6, h.4, strip (h.1 ∷ h.2), ap strip h.3 ∙ strip_join h.0 (h.1 ∷ h.2), rest (h.1 ∷ h.2) h.7)
@@ -72,7 +74,8 @@ module _ {B A : Type 0} (run : B → List (Answer A) → B → Type 0) where
   placed last (Ready None ∷ i) (a ∷ l) h = rw h.0 (strip l, refl, placed last i l h.1)
   placed last (Ready (Some b) ∷ i) (a ∷ l) h = (b, tt, refl, in_place b i (a ∷ l) last (λ m. placed last i m) h)
 
-  placed_from : (held last : Option B) (i : List (Answer B)) (l : List (Answer A)) → Flattening run held i l last → PlacedFrom Refers OwnInPlace tt held (strip i) (strip l)
+  placed_from : (held last : Option B) (i : List (Answer B)) (l : List (Answer A)) → Flattening run held i l last
+      → PlacedFrom Refers OwnInPlace tt held (strip i) (strip l)
   placed_from None last i l h = placed last i l h
   placed_from (Some b) last i l h = in_place b i l last (λ m. placed last i m) h
 
@@ -106,7 +109,8 @@ module _ {B A : Type 0} (run : B → List (Answer A) → B → Type 0) where
 
 -- where no poll of an inner stream asks for memory
 module _ {B A : Type 0} {run ample : B → List (Answer A) → B → Type 0} (t : TakesNone run ample) where
-  place_found : (b : B) (i : List (Answer B)) (l : List (Answer A)) (last : Option B) → ((m : List (Answer A)) → Flat run i m last → Flat ample i m last) → HeldOn run b i l last ⊎ Replaced run b (Flat run i) l last → HeldOn ample b i l last ⊎ Replaced ample b (Flat ample i) l last
+  place_found : (b : B) (i : List (Answer B)) (l : List (Answer A)) (last : Option B) → ((m : List (Answer A)) → Flat run i m last → Flat ample i m last)
+      → HeldOn run b i l last ⊎ Replaced run b (Flat run i) l last → HeldOn ample b i l last ⊎ Replaced ample b (Flat ample i) l last
   place_found b i l last rest (inl h) = inl (h.0, h.1, h.2, t b h.2 l h.3, h.4)
   place_found b i l last rest (inr h) = inr (h.0, h.1, h.2, h.3, h.4, h.5, t b h.5 (h.0 ++ end ∷ []) h.6, rest (h.1 ∷ h.2) h.7)
 
@@ -122,7 +126,8 @@ module _ {B A : Type 0} {run ample : B → List (Answer A) → B → Type 0} (t 
   flattening_found None last i l h = flat_found last i l h
   flattening_found (Some b) last i l h = place_found b i l last (λ m. flat_found last i m) h
 
-module _ {M S B A : Type 0} (p : Parts M S (Option B)) {outer ample : S → List (Answer B) → S → Type 0} {run found : B → List (Answer A) → B → Type 0} {none none' : Type 0} {alike : M → M → Type 0} {alike' : B → B → Type 0} where
+module _ {M S B A : Type 0} (p : Parts M S (Option B)) {outer ample : S → List (Answer B) → S → Type 0} {run found : B → List (Answer A) → B → Type 0}
+    {none none' : Type 0} {alike : M → M → Type 0} {alike' : B → B → Type 0} where
   -- an adapter, where what is alike of it has outer streams whose items are alike
   pub flattening_steady : (same : Sameness A)
       → ((x y : M) → alike x y → AlikeBy (OptionBy alike') ample (p.source x) (p.source y) × OptionBy alike' (p.held x) (p.held y))
@@ -132,7 +137,12 @@ module _ {M S B A : Type 0} (p : Parts M S (Option B)) {outer ample : S → List
       record {
         laws = through_runs p laws (flattening s.laws);
         steady = λ x y e. flattening_alike found same s.steady p ample x y (items x y e).0 (items x y e).1;
-        found = λ n x y l h. record { ins = h.ins; came = takes n.0 (p.source x) (p.source y) h.ins h.came; turned = flattening_found (s.found n.1) (p.held x) (p.held y) h.ins l h.turned };
+        found = λ n x y l h.
+            record {
+              ins = h.ins;
+              came = takes n.0 (p.source x) (p.source y) h.ins h.came;
+              turned = flattening_found (s.found n.1) (p.held x) (p.held y) h.ins l h.turned;
+            };
       }
 
 -- outer streams that are alike, each item of which is alike to those that it is the same as, have items that are alike

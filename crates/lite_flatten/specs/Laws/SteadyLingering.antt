@@ -21,17 +21,21 @@ module _ {V B : Type 0} {gives : V → List (Answer B) → Option V → Type 0} 
 
   -- v is not done, or its item stands before what follows
   abbrev OneInPlace : V → (List (Option B) → Type 0) → List (Option B) → Type 0
-  OneInPlace v follows out = (out ≡ []) ⊎ ((l : List (Answer B)) × (h : gives v l None) × (more : List (Option B)) × (out ≡ Some (one.hands v l h).0 ∷ more) × follows more)
+  OneInPlace v follows out =
+      (out ≡ []) ⊎ ((l : List (Answer B)) × (h : gives v l None) × (more : List (Option B)) × (out ≡ Some (one.hands v l h).0 ∷ more) × follows more)
 
   module _ {F A : Type 0} (call : F → A → V → F → Type 0) where
-    in_place : (p q : F) (v : V) (last : Option V) (i : List (Answer A)) (o : List (Answer B)) → ((rest : List (Answer B)) → Lingers call gives p i rest q last → Placed call OneInPlace p (strip i) (strip rest))
-        → HeldOn call gives p v i o q last ⊎ Replaced call gives v (Lingers call gives p i) o q last → OneInPlace v (Placed call OneInPlace p (strip i)) (strip o)
+    in_place : (p q : F) (v : V) (last : Option V) (i : List (Answer A)) (o : List (Answer B))
+        → ((rest : List (Answer B)) → Lingers call gives p i rest q last → Placed call OneInPlace p (strip i) (strip rest))
+        → HeldOn call gives p v i o q last ⊎ Replaced call gives v (Lingers call gives p i) o q last
+        → OneInPlace v (Placed call OneInPlace p (strip i)) (strip o)
     in_place p q v last i o rest (inl c) = inl (waiting_strip o (one.waits v c.2 o c.3))
     in_place p q v last i o rest (inr c) =
         let h = one.hands v c.0 c.3 in
         inr (c.0, c.3, strip c.1, ap strip c.2 ∙ strip_join c.0 c.1 ∙ ap (λ k. k ++ strip c.1) (gives_strip c.0 (Some h.0) h.1), rest c.1 c.4)
 
-    placed : (p q : F) (last : Option V) (i : List (Answer A)) (o : List (Answer B)) → Lingers call gives p i o q last → Placed call OneInPlace p (strip i) (strip o)
+    placed : (p q : F) (last : Option V) (i : List (Answer A)) (o : List (Answer B)) → Lingers call gives p i o q last
+        → Placed call OneInPlace p (strip i) (strip o)
     placed p q last [] [] c = refl
     placed p q last [] (b ∷ o) c = absurd c
     placed p q last (a ∷ i) [] c = absurd c
@@ -39,7 +43,8 @@ module _ {V B : Type 0} {gives : V → List (Answer B) → Option V → Type 0} 
     placed p q last (Ready None ∷ i) (b ∷ o) c = rw c.0 (strip o, refl, placed p q last i o c.1)
     placed p q last (Ready (Some x) ∷ i) (b ∷ o) c = (c.0, c.1, c.2, in_place c.1 q c.0 last i (b ∷ o) (λ rest k. placed c.1 q last i rest k) c.3)
 
-    placed_from : (s t : F × Option V) (i : List (Answer A)) (o : List (Answer B)) → Lingering call gives s i o t → PlacedFrom call OneInPlace s.0 s.1 (strip i) (strip o)
+    placed_from : (s t : F × Option V) (i : List (Answer A)) (o : List (Answer B)) → Lingering call gives s i o t
+        → PlacedFrom call OneInPlace s.0 s.1 (strip i) (strip o)
     placed_from (p, None) (q, last) i o c = placed p q last i o c
     placed_from (p, Some v) (q, last) i o c = in_place p q v last i o (λ rest k. placed p q last i rest k) c
 
@@ -72,26 +77,32 @@ all_any (a ∷ l) = (tt, all_any l)
 
 module _ {F A V B : Type 0} (call : F → A → V → F → Type 0) {gives gives' : V → List (Answer B) → Option V → Type 0} where
   module _ (may : Answer B → Type 0) (found : (v : V) (l : List (Answer B)) (next : Option V) → AllByRecursion may l → gives v l next → gives' v l next) where
-    place_found : (p q : F) (v : V) (last : Option V) (i : List (Answer A)) (o : List (Answer B)) → AllByRecursion may o → ((rest : List (Answer B)) → AllByRecursion may rest → Lingers call gives p i rest q last → Lingers call gives' p i rest q last)
-        → HeldOn call gives p v i o q last ⊎ Replaced call gives v (Lingers call gives p i) o q last → HeldOn call gives' p v i o q last ⊎ Replaced call gives' v (Lingers call gives' p i) o q last
+    place_found : (p q : F) (v : V) (last : Option V) (i : List (Answer A)) (o : List (Answer B)) → AllByRecursion may o
+        → ((rest : List (Answer B)) → AllByRecursion may rest → Lingers call gives p i rest q last → Lingers call gives' p i rest q last)
+        → HeldOn call gives p v i o q last ⊎ Replaced call gives v (Lingers call gives p i) o q last
+        → HeldOn call gives' p v i o q last ⊎ Replaced call gives' v (Lingers call gives' p i) o q last
     place_found p q v last i o all rest (inl c) = inl (c.0, c.1, c.2, found v o (Some c.2) all c.3, c.4)
     place_found p q v last i o all rest (inr c) =
         let both = all_split may c.0 c.1 (subst (AllByRecursion may) c.2 all) in
         inr (c.0, c.1, c.2, found v c.0 None both.0 c.3, rest c.1 both.1 c.4)
 
-    lingers_found : (p q : F) (last : Option V) (i : List (Answer A)) (o : List (Answer B)) → AllByRecursion may o → Lingers call gives p i o q last → Lingers call gives' p i o q last
+    lingers_found : (p q : F) (last : Option V) (i : List (Answer A)) (o : List (Answer B)) → AllByRecursion may o → Lingers call gives p i o q last
+        → Lingers call gives' p i o q last
     lingers_found p q last [] [] all c = c
     lingers_found p q last [] (b ∷ o) all c = absurd c
     lingers_found p q last (a ∷ i) [] all c = absurd c
     lingers_found p q last (Pending ∷ i) (b ∷ o) all c = (c.0, lingers_found p q last i o all.1 c.1)
     lingers_found p q last (Ready None ∷ i) (b ∷ o) all c = (c.0, lingers_found p q last i o all.1 c.1)
-    lingers_found p q last (Ready (Some x) ∷ i) (b ∷ o) all c = (c.0, c.1, c.2, place_found c.1 q c.0 last i (b ∷ o) all (λ rest d k. lingers_found c.1 q last i rest d k) c.3)
+    lingers_found p q last (Ready (Some x) ∷ i) (b ∷ o) all c =
+        (c.0, c.1, c.2, place_found c.1 q c.0 last i (b ∷ o) all (λ rest d k. lingers_found c.1 q last i rest d k) c.3)
 
     -- where each list of what is made of an item is one of another relation too, if its answers are such, what goes out is too
-    pub lingering_found_where : (s t : F × Option V) (i : List (Answer A)) (o : List (Answer B)) → AllByRecursion may o → Lingering call gives s i o t → Lingering call gives' s i o t
+    pub lingering_found_where : (s t : F × Option V) (i : List (Answer A)) (o : List (Answer B)) → AllByRecursion may o → Lingering call gives s i o t
+        → Lingering call gives' s i o t
     lingering_found_where (p, None) (q, last) i o all c = lingers_found p q last i o all c
     lingering_found_where (p, Some v) (q, last) i o all c = place_found p q v last i o all (λ rest d k. lingers_found p q last i rest d k) c
 
   -- and where each list is, whatever its answers
-  pub lingering_found : ((v : V) (l : List (Answer B)) (next : Option V) → gives v l next → gives' v l next) → (s t : F × Option V) (i : List (Answer A)) (o : List (Answer B)) → Lingering call gives s i o t → Lingering call gives' s i o t
+  pub lingering_found : ((v : V) (l : List (Answer B)) (next : Option V) → gives v l next → gives' v l next)
+      → (s t : F × Option V) (i : List (Answer A)) (o : List (Answer B)) → Lingering call gives s i o t → Lingering call gives' s i o t
   lingering_found found s t i o c = lingering_found_where (λ _. ⊤) (λ v l next all h. found v l next h) s t i o (all_any o) c

@@ -50,7 +50,10 @@ module _ {V B : Type 0} {run : V → List (Poll B) → V → Type 0} where
 
   pub hands_one : GivingOne (HandsOut run)
   hands_one =
-      record { waits = λ v w l h. rw h.3 (handed_waiting h.0 h.1); hands = λ v l h. (h.value, rw (h.joined, h.later) (handed_gives h.ins h.value h.finishes.gives)) }
+      record {
+        waits = λ v w l h. rw h.3 (handed_waiting h.0 h.1);
+        hands = λ v l h. (h.value, rw (h.joined, h.later) (handed_gives h.ins h.value h.finishes.gives));
+      }
 
 -- one poll of a future
 module _ {V B : Type 0} (run : V → List (Poll B) → V → Type 0) where
@@ -59,7 +62,14 @@ module _ {V B : Type 0} (run : V → List (Poll B) → V → Type 0) where
 
   pub hands_value : (v w : V) (a : Poll B) (y : B) → a ≡ Ready y → run v (a ∷ []) w → HandsOut run v (item y ∷ []) None
   hands_value v w a y is came =
-      record { ins = Ready y ∷ []; value = y; finishes = record { gives = (refl, refl); last = w; came = subst (λ c. run v (c ∷ []) w) is came }; after = []; later = refl; joined = refl }
+      record {
+        ins = Ready y ∷ [];
+        value = y;
+        finishes = record { gives = (refl, refl); last = w; came = subst (λ c. run v (c ∷ []) w) is came };
+        after = [];
+        later = refl;
+        joined = refl;
+      }
 
 bounded_if : (b : Bool) (k n : ℕ) → k ≤ n + 1 → IfSome (cond b (Some (n + 1)) None) (λ most. k ≤ most)
 bounded_if true k n h = h
@@ -73,11 +83,13 @@ bounded_some : (most : Option ℕ) (k n : ℕ) → k ≤ n + 1 → IfSome most (
 bounded_some None k n h b = tt
 bounded_some (Some m) k n h b = bounded_if (nat_lt m (2 ^ 64 - 1)) k m (omega (arith, h, b))
 
-then_bounded : {V : Type 0} (held : Option V) (hint : ℕ × Option ℕ) (k n : ℕ) → k ≤ n + count_held held → IfSome hint.1 (λ most. n ≤ most) → IfSome (then_hint held hint).1 (λ most. k ≤ most)
+then_bounded : {V : Type 0} (held : Option V) (hint : ℕ × Option ℕ) (k n : ℕ) → k ≤ n + count_held held → IfSome hint.1 (λ most. n ≤ most)
+    → IfSome (then_hint held hint).1 (λ most. k ≤ most)
 then_bounded None hint k n h b = bounded_none hint.1 k n h b
 then_bounded (Some v) hint k n h b = bounded_some hint.1 k n h b
 
-pub then_laws : {S F V A B : Type 0} (call : F → A → V → F → Type 0) {gives : V → List (Poll B) → V → Type 0} {run : S → List (Answer A) → S → Type 0} {hints : S → ℕ × Option ℕ → Type 0} → StreamLaws run hints → FutureLaws gives
+pub then_laws : {S F V A B : Type 0} (call : F → A → V → F → Type 0) {gives : V → List (Poll B) → V → Type 0} {run : S → List (Answer A) → S → Type 0}
+    {hints : S → ℕ × Option ℕ → Type 0} → StreamLaws run hints → FutureLaws gives
     → StreamLaws (Thens run call gives) (λ (m : Then S F V) hint. (inner : ℕ × Option ℕ) × hints m.stream inner × (hint ≡ then_hint m.future inner))
 then_laws call {gives = gives} laws laws' =
     laws_bounded then_parts laws (lingering_following call (HandsOut gives) (hands_giving laws'))
@@ -117,4 +129,5 @@ module _ {V B : Type 0} {gives : V → List (Poll B) → V → Type 0} {calm : V
   pub then_calm : {S F A : Type 0} (g : Mut F (A × Unit {0}) V) {run : S → List (Answer A) → S → Type 0} {is_calm : S → Type 0} → CalmLaws run is_calm
       → CalmLaws (Thens run (Calls g) gives) (λ (m : Then S F V). is_calm m.stream × EachMade g calm m.f m.future)
   then_calm g d =
-      through_calm_by then_parts d (lingering_calm (Calls g) (HandsOut gives) (λ f x v h k called. call_promises g (λ x v. calm v) f (x, tt) v h k called) hands_calm)
+      through_calm_by then_parts d
+      (lingering_calm (Calls g) (HandsOut gives) (λ f x v h k called. call_promises g (λ x v. calm v) f (x, tt) v h k called) hands_calm)

@@ -13,11 +13,12 @@ use Rattle.lite_io_base.specs.Laws.Steady.{comparable_turned}
 use Rattle.lite_io_base.specs.Marks.{Mark, bytes}
 use Rattle.lite_io_base.specs.Runs.{Runs}
 use Rattle.lite_io_base.specs.Steady.{NoWait, SteadyReadLaws, unhurried}
+use Rattle.lite_read.specs.Appending.{Stays}
 use Rattle.lite_read.specs.Gathering.{Concludes, Gather, Gathers}
 use Rattle.lite_read.specs.Laws.Gathering.{folds_join}
 use Rattle.lite_read.specs.Laws.Settling.{past_pending, past_value}
 use Rattle.lite_read.specs.Laws.SteadyReadToEnd.{appends_settles}
-use Rattle.lite_read.specs.ReadToEnd.{Appended, ReadsToEnd, Stays, appends}
+use Rattle.lite_read.specs.ReadToEnd.{Appended, ReadsToEnd, appends}
 use Rattle.lite_read.specs.Settling.{SameByKind}
 use Rattle.lite_read.specs.declared.read_to_end.ReadToEndFuture.{ReadToEndFuture}
 use Rattle.lite_laws.specs.BothReaders.{BothRead, NotRefused, ReadsUp}

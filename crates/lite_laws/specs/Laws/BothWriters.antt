@@ -15,7 +15,8 @@ use Rattle.lite_read.specs.Polled.{Polled}
 use Rattle.lite_write.specs.Flush.{Flushes}
 use Rattle.lite_write.specs.Laws.SteadyWriteAll.{prospers_both}
 use Rattle.lite_write.specs.SteadyWriteAll.{Prospers}
-use Rattle.lite_write.specs.WriteAll.{Ended, Hands, HandsOver, WritesAll}
+use Rattle.lite_write.specs.Hands.{Hands}
+use Rattle.lite_write.specs.WriteAll.{Ended, HandsOver, WritesAll}
 use Rattle.lite_write.specs.declared.flush.FlushFuture.{FlushFuture}
 use Rattle.lite_write.specs.declared.write_all.WriteAllFuture.{WriteAllFuture}
 use Rattle.lite_laws.specs.BothWriters.{BothWritten, FailsBy, FailsWith, FlushedUp, HandedUp, TakesFront, WrittenUp}

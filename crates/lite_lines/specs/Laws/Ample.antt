@@ -10,7 +10,8 @@ use Rattle.lite_io_base.specs.Marks.{Mark}
 use Rattle.lite_io_base.specs.Runs.{Runs}
 use Rattle.lite_io_base.specs.Steady.{AllAmple}
 use Rattle.lite_lines.specs.Lines.{GivesLines, lines_over}
-use Rattle.lite_lines.specs.Pieces.{Cut, Cuts, Itemised, NoneRefused, NotRefused, pieces}
+use Rattle.lite_lines.specs.NoneRefused.{NoneRefused, NotRefused}
+use Rattle.lite_lines.specs.Pieces.{Cut, Cuts, Itemised, pieces}
 use Rattle.lite_lines.specs.Segments.{Flows, Over, Segments}
 use Rattle.lite_lines.specs.Split.{IsVec, Splits, split_over}
 use Rattle.lite_lines.specs.Texts.{IsText, without_return}

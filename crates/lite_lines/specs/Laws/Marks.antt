@@ -16,7 +16,8 @@ use Rattle.lite_read.specs.Settling.{SameByKind, Settles}
 use Rattle.lite_lines.specs.Laws.ReadUntil.{until_laws}
 use Rattle.lite_lines.specs.Laws.Settling.{BecomesOne, MakesOne, pieces_settle}
 use Rattle.lite_lines.specs.Pieces.{Cut}
-use Rattle.lite_lines.specs.ReadUntil.{Counted, ReadsUntil, read_of, until}
+use Rattle.lite_lines.specs.Appending.{read_of}
+use Rattle.lite_lines.specs.ReadUntil.{Counted, ReadsUntil, until}
 use Rattle.lite_lines.specs.Split.{IsVec}
 use Rattle.lite_lines.specs.Texts.{IsText, without_return}
 use Rattle.lite_lines.specs.declared.read_until.ReadUntilFuture.{ReadUntilFuture}

@@ -1,23 +1,19 @@
 -- Laws of `read_until`.
 use Rattle.std.specs.Prelude.{⊤}
-use Rattle.std.proofs.Common.{◌≡◌, ◌∙◌, ◌≤◌, List, [], ◌∷◌, ◌++◌, length, take, Some, Result, ℕ, refl, ap, subst, arith}
+use Rattle.std.proofs.Common.{◌≡◌, ◌∙◌, ◌≤◌, List, [], ◌∷◌, ◌++◌, length, take, Result, ℕ, refl, subst, arith}
 use Rattle.std.specs.declared.io.Error.{Error}
-use denote.MutBor.{MutBor}
 use Rattle.futures.specs.declared.task.Poll.{Poll}
 use Rattle.lite_base.specs.Answers.{Waiting}
-use Rattle.lite_base.specs.Chain.{Goes, Goes-back, Next}
 use Rattle.lite_base.specs.FutureLaws.{FutureLaws}
-use Rattle.lite_io_base.specs.Laws.Falls.{GivenRun}
 use Rattle.lite_io_base.specs.Marks.{Mark}
 use Rattle.lite_io_base.specs.Runs.{RunLaws, Runs}
 use Rattle.lite_read.specs.Gathering.{Gathered}
 use Rattle.lite_read.specs.Laws.Gathering.{gathered_before, gathered_follow, gathered_none, gathers_once}
-use Rattle.lite_lines.specs.Laws.Segments.{given_more}
-use Rattle.lite_lines.specs.ReadUntil.{AppendsMore, ReadsUntil, Stays, UntilTurn, read_of, until}
+use Rattle.lite_read.specs.Laws.Turns.{idle_join, lent_still}
+use Rattle.lite_lines.specs.Appending.{Stays, read_of}
+use Rattle.lite_lines.specs.ReadUntil.{ReadsUntil, until}
+use Rattle.lite_lines.specs.Turns.{AppendsMore}
 use Rattle.lite_lines.specs.declared.read_until.ReadUntilFuture.{ReadUntilFuture}
-
-still : {S : Type 0} (x y z : MutBor S) → y ≡ record x { now = y.now } → z ≡ record y { now = z.now } → z ≡ record x { now = z.now }
-still {S} x y z e d = d ∙ ap (λ (r : MutBor S). record r { now = z.now }) e
 
 module _ {R : Type 0} where
   stays_none : (x : ReadUntilFuture R) → Stays x x
@@ -30,8 +26,8 @@ module _ {R : Type 0} where
   stays_join : (x y z : ReadUntilFuture R) → Stays x y → Stays y z → Stays x z
   stays_join x y z h k =
       record {
-        reader = still x.reader y.reader z.reader h.reader k.reader;
-        buf = still x.buf y.buf z.buf h.buf k.buf;
+        reader = lent_still x.reader y.reader z.reader h.reader k.reader;
+        buf = lent_still x.buf y.buf z.buf h.buf k.buf;
         byte = k.byte ∙ h.byte;
         start = k.start ∙ h.start;
         before = subst (λ n. take n z.buf.now.items ≡ take n y.buf.now.items) h.start k.before ∙ h.before;
@@ -39,10 +35,6 @@ module _ {R : Type 0} where
       }
 
   module _ {reads : Runs Mark R} (laws : RunLaws reads) where
-    idle_join : (x y z : ReadUntilFuture R) (l m : List (Poll (Result ℕ Error))) → (l ≡ [] → y ≡ x) → (m ≡ [] → z ≡ y) → l ++ m ≡ [] → z ≡ x
-    idle_join x y z [] m h k e = k e ∙ h refl
-    idle_join x y z (a ∷ l) m h k e = absurd (cc e)
-
     follows : (may_refuse : Type 0) (x y z : ReadUntilFuture R) (l m : List (Poll (Result ℕ Error))) → Waiting l → ReadsUntil reads may_refuse x l y
         → ReadsUntil reads may_refuse y m z → ReadsUntil reads may_refuse x (l ++ m) z
     follows may_refuse x y z l m w h k =
@@ -63,7 +55,8 @@ module _ {R : Type 0} where
         }
 
     -- a turn before others
-    turn_before : (x y z : ReadUntilFuture R) (a : Poll (Result ℕ Error)) → AppendsMore reads ⊤ x y → ReadsUntil reads ⊤ y (a ∷ []) z → ReadsUntil reads ⊤ x (a ∷ []) z
+    pub turn_before : (x y z : ReadUntilFuture R) (a : Poll (Result ℕ Error)) → AppendsMore reads ⊤ x y
+        → ReadsUntil reads ⊤ y (a ∷ []) z → ReadsUntil reads ⊤ x (a ∷ []) z
     turn_before x y z a t h =
         let next = subst (λ b. Gathered (until b ⊤) reads y.reader.now (read_of y) (a ∷ []) z.reader.now (read_of z)) t.stays.byte h.gathered in
         record {
@@ -71,15 +64,6 @@ module _ {R : Type 0} where
           stays = stays_join x y z t.stays h.stays;
           idle = λ e. absurd (cc e);
         }
-
-    -- the turns of a poll
-    pub until_answer : (x y z : ReadUntilFuture R) (a : Poll (Result ℕ Error)) → Goes (Next (UntilTurn reads ⊤)) x y
-        → UntilTurn reads ⊤ y (Some a) z → ReadsUntil reads ⊤ x (a ∷ []) z
-    until_answer x y z a goes last = Goes-back (λ v. ReadsUntil reads ⊤ v (a ∷ []) z) (λ v w t h. turn_before v w z a t h) x y goes last
-
-  -- a turn that goes on is a run of bytes
-  pub more_given : {reads : Runs Mark R} (x y : ReadUntilFuture R) → AppendsMore reads ⊤ x y → GivenRun reads x.reader.now y.reader.now
-  more_given {reads} x y h = given_more reads x.reader.now y.reader.now h.taken h.some h.came
 
 -- whether memory may be refused or not
 pub until_laws : {R : Type 0} {reads : Runs Mark R} (may_refuse : Type 0) → RunLaws reads → FutureLaws (ReadsUntil {R = R} reads may_refuse)

@@ -1,28 +1,22 @@
 -- Laws of streams over what a reader tells.
-use Rattle.std.proofs.Common.{◌≡◌, ◌∙◌, ◌<◌, ◌≤◌, ℕ, List, [], ◌∷◌, ◌++◌, length, Option, Some, None, refl, ap, sym, subst, arith, append_assoc}
+use Rattle.std.proofs.Common.{◌≡◌, ◌∙◌, ◌≤◌, ℕ, List, [], ◌∷◌, ◌++◌, Option, None, refl, ap, sym, subst, append_assoc}
 use Rattle.std.proofs.lemmas.List.{map-append}
 use Rattle.std.specs.Prelude.{IfSome}
 use Rattle.std.specs.List.{FoldsTo}
 use Rattle.futures.specs.declared.task.Poll.{Poll}
 use Rattle.futures.specs.declared.task.Poll.TheVariants.{Ready, Pending}
 use Rattle.lite_base.specs.Answers.{before_end}
-use Rattle.lite_base.specs.Chain.{Goes, Goes-back, Next}
 use Rattle.lite_base.specs.StreamLaws.{StreamLaws}
-use Rattle.lite_io_base.specs.Laws.Falls.{GivenRun}
-use Rattle.lite_io_base.specs.Laws.Marks.{bytes_given}
 use Rattle.lite_io_base.specs.Marks.{Mark, bytes}
 use Rattle.lite_io_base.specs.Runs.{RunLaws, Runs}
 use Rattle.lite_read.specs.Gathering.{Gather}
 use Rattle.lite_read.specs.Laws.Gathering.{folds_join}
-use Rattle.lite_lines.specs.Segments.{Answers, FlowTurn, Flows, Over, Segmented, Segments, TakesIn}
+use Rattle.lite_read.specs.Laws.Turns.{idle_join}
+use Rattle.lite_lines.specs.Segments.{Answers, Flows, Over, Segmented, Segments}
+use Rattle.lite_lines.specs.Turns.{TakesIn}
 
 unbounded : (hint : ℕ × Option ℕ) (n : ℕ) → hint ≡ (0, None) → IfSome hint.1 (λ most. n ≤ most)
 unbounded hint n e = subst (λ (v : ℕ × Option ℕ). IfSome v.1 (λ most. n ≤ most)) (sym e) tt
-
--- a run of some bytes
-pub given_more : {S : Type 0} (reads : Runs Mark S) (x y : S) (taken : List ℕ) → 0 < length taken → reads x (bytes taken) y → GivenRun reads x y
-given_more reads x y [] some came = absurd (omega (arith, some))
-given_more reads x y (b ∷ taken) some came = (Mark.byte b, bytes taken, bytes_given (b ∷ taken), came)
 
 module _ {M R : Type 0} (gather : Gather M R) where
   segments_join : (p q r : M) (i j : List Mark) (l m : List (Poll R)) → Segments gather p i l q → Segments gather q j m r
@@ -77,10 +71,6 @@ module _ {M R : Type 0} (gather : Gather M R) where
         }
 
 module _ {X S M K R : Type 0} (over : Over X S M K) (gather : K → Gather M R) {reads : Runs Mark S} (laws : RunLaws reads) where
-  idle_join : (x y z : X) (l m : List (Poll R)) → (l ≡ [] → y ≡ x) → (m ≡ [] → z ≡ y) → l ++ m ≡ [] → z ≡ x
-  idle_join x y z [] m h k e = k e ∙ h refl
-  idle_join x y z (a ∷ l) m h k e = absurd (cc e)
-
   flows_follow : (x y z : X) (l m : List (Poll R)) → Flows over gather reads x l y → Flows over gather reads y m z
       → Flows over gather reads x (l ++ m) z
   flows_follow x y z l m h k =
@@ -92,7 +82,7 @@ module _ {X S M K R : Type 0} (over : Over X S M K) (gather : K → Gather M R) 
       }
 
   -- a turn before others
-  turn_before : (x y z : X) (a : Poll R) → TakesIn over gather reads x y → Flows over gather reads y (a ∷ []) z → Flows over gather reads x (a ∷ []) z
+  pub turn_before : (x y z : X) (a : Poll R) → TakesIn over gather reads x y → Flows over gather reads y (a ∷ []) z → Flows over gather reads x (a ∷ []) z
   turn_before x y z a t h =
       let next = subst (λ v. Segmented (gather v) reads (over.reader y) (over.held y) (a ∷ []) (over.reader z) (over.held z)) t.stays h.segmented in
       record {
@@ -100,11 +90,6 @@ module _ {X S M K R : Type 0} (over : Over X S M K) (gather : K → Gather M R) 
         stays = h.stays ∙ t.stays;
         idle = λ e. absurd (cc e);
       }
-
-  -- the turns of a poll
-  pub flow_answer : (x y z : X) (a : Poll R) → Goes (Next (FlowTurn over gather reads)) x y → FlowTurn over gather reads y (Some a) z
-      → Flows over gather reads x (a ∷ []) z
-  flow_answer x y z a goes last = Goes-back (λ v. Flows over gather reads v (a ∷ []) z) (λ v w t h. turn_before v w z a t h) x y goes last
 
 module _ {X S M K A : Type 0} (over : Over X S M K) (gather : K → Gather M (Option A)) {reads : Runs Mark S} (laws : RunLaws reads) where
   -- a stream whose hint is no bound

@@ -121,13 +121,11 @@ each_fused P false true i o e h =
 
 -- chain
 pub each_joined : {A : Type 0} (P : A → Type 0) (p q : Part) (i j o : List (Answer A)) → EachItem P i → EachItem P j → Joins p i j o q → EachItem P o
-each_joined P First q [] j [] e d h = tt
-each_joined P First q [] j (b ∷ o) e d h = absurd (cc (h.1))
-each_joined P First q (a ∷ i) j [] e d h = tt
-each_joined P First q (Pending ∷ i) j (b ∷ o) e d h = subst (λ (c : Answer _). EachItem P (c ∷ o)) (sym h.0) (each_joined P First q i j o e d h.1)
-each_joined P First q (Ready None ∷ i) j (b ∷ o) e d h = each_cut is_done second_after P Second q j (b ∷ o) d h.1
-each_joined P First q (Ready (Some x) ∷ i) j (b ∷ o) e d h =
-    subst (λ (c : Answer _). EachItem P (c ∷ o)) (sym h.0) (e.0, each_joined P First q i j o e.1 d h.1)
+each_joined P First q i j o e d (inl h) = subst (EachItem P) (sym h.2) e
+each_joined P First q i j o e d (inr h) =
+    let own = each_front P h.own (end ∷ []) (subst (EachItem P) h.through_end e) in
+    let after = each_cut is_done second_after P Second q j (h.next ∷ h.later) d h.followed in
+    subst (EachItem P) (sym h.joined) (each_join P h.own (h.next ∷ h.later) own after)
 each_joined P Second q i j o e d h = each_cut is_done second_after P Second q j o d h.1
 each_joined P Done q i j o e d h = each_cut is_done second_after P Done q j o d h.1
 

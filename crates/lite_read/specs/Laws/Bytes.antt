@@ -1,5 +1,5 @@
 -- Laws of `bytes`.
-use Rattle.std.proofs.Common.{◌≡◌, ◌∙◌, ℕ, suc, ◌+◌, List, [], ◌∷◌, ◌++◌, length, Some, None, Result, refl, ap, subst, add-one}
+use Rattle.std.proofs.Common.{◌≡◌, ℕ, suc, ◌+◌, List, [], ◌∷◌, ◌++◌, length, Some, None, Result, refl, ap, subst, add-one}
 use Rattle.std.specs.declared.io.Error.{Error}
 use Rattle.futures.specs.declared.task.Poll.TheVariants.{Ready, Pending}
 use Rattle.lite_base.specs.Answers.{Answer, items}
@@ -14,6 +14,7 @@ use Rattle.lite_io_base.specs.Marks.{AllGiven, Mark, given}
 use Rattle.lite_io_base.specs.Runs.{RunLaws, Runs}
 use Rattle.lite_io_base.specs.Steady.{CalmReadLaws, SteadyReadLaws}
 use Rattle.lite_read.specs.Bytes.{Tells, TellsEach}
+use Rattle.lite_read.specs.Laws.Turns.{idle_join}
 use Rattle.lite_read.specs.declared.bytes.Bytes.{Bytes}
 
 tells_join : (i j : List Mark) (l m : List (Answer (Result ℕ Error))) → TellsEach i l → TellsEach j m → TellsEach (i ++ j) (l ++ m)
@@ -53,10 +54,6 @@ tells_items (Mark.byte b ∷ i) (r ∷ l) h = let e = tells_items i l h.1 in ((t
 tells_items (Mark.fault k ∷ i) (r ∷ l) h = let e = tells_items i l h.1 in ((tt, e.0), ap suc e.1)
 tells_items (Mark.pending ∷ i) (r ∷ l) h = absurd h.0
 tells_items (Mark.end ∷ i) (r ∷ l) h = absurd h.0
-
-idle_join : {R : Type 0} (x y z : Bytes R) (l m : List (Answer (Result ℕ Error))) → (l ≡ [] → y ≡ x) → (m ≡ [] → z ≡ y) → l ++ m ≡ [] → z ≡ x
-idle_join x y z [] m h k e = k e ∙ h refl
-idle_join x y z (a ∷ l) m h k e = absurd (cc e)
 
 module _ {R : Type 0} {reads : Runs Mark R} where
   tells_follow : RunLaws reads → (x y z : Bytes R) (l m : List (Answer (Result ℕ Error))) → Tells reads x l y → Tells reads y m z → Tells reads x (l ++ m) z

@@ -1,21 +1,19 @@
 -- Laws of `read_exact`.
-use Rattle.std.proofs.Common.{◌≡◌, ◌∙◌, ◌<◌, ◌-◌, ◌+◌, ℕ, List, [], ◌∷◌, ◌++◌, length, Some, Result, refl, ap, sym, arith, length-append}
+use Rattle.std.proofs.Common.{◌≡◌, ◌∙◌, ◌<◌, ◌-◌, ◌+◌, ℕ, List, [], ◌∷◌, ◌++◌, length, Result, refl, ap, sym, arith, length-append}
 use Rattle.std.proofs.lemmas.List.{length-take}
 use Rattle.std.specs.List.{FoldsTo}
 use Rattle.std.specs.declared.io.Error.{Error}
-use denote.MutBor.{MutBor}
 use Rattle.futures.specs.declared.task.Poll.{Poll}
 use Rattle.lite_base.specs.Answers.{Waiting}
-use Rattle.lite_base.specs.Chain.{Goes, Goes-back, Next}
 use Rattle.lite_base.specs.FutureLaws.{FutureLaws}
 use Rattle.lite_io_base.specs.Marks.{Mark}
 use Rattle.lite_io_base.specs.Runs.{RunLaws, Runs}
 use Rattle.lite_read.specs.Laws.Gathering.{gathered_before, gathered_follow, gathered_none, gathers_once}
-use Rattle.lite_read.specs.ReadExact.{ExactTurn, ReadsExactly, ReadsMore, Stays, fills, filling_of}
+use Rattle.lite_read.specs.Filling.{Stays, filling_of}
+use Rattle.lite_read.specs.Laws.Turns.{idle_join, lent_still}
+use Rattle.lite_read.specs.ReadExact.{ReadsExactly, fills}
+use Rattle.lite_read.specs.Turns.{ReadsMore}
 use Rattle.lite_read.specs.declared.read_exact.ReadExactFuture.{ReadExactFuture}
-
-still : {S : Type 0} (x y z : MutBor S) → y ≡ record x { now = y.now } → z ≡ record y { now = z.now } → z ≡ record x { now = z.now }
-still {S} x y z e d = d ∙ ap (λ (r : MutBor S). record r { now = z.now }) e
 
 -- bytes that were taken in were filled in
 filled_more : (g h : List ℕ × ℕ) (xs : List ℕ) → FoldsTo fills.takes g xs h → (length h.0 ≡ length g.0 + length xs) × (h.1 ≡ g.1)
@@ -37,13 +35,9 @@ module _ {R : Type 0} where
 
   stays_join : (x y z : ReadExactFuture R) → Stays x y → Stays y z → Stays x z
   stays_join x y z h k =
-      record { reader = still x.reader y.reader z.reader h.reader k.reader; buf = still x.buf y.buf z.buf h.buf k.buf; within = λ w. k.within (h.within w) }
+      record { reader = lent_still x.reader y.reader z.reader h.reader k.reader; buf = lent_still x.buf y.buf z.buf h.buf k.buf; within = λ w. k.within (h.within w) }
 
   module _ {reads : Runs Mark R} (laws : RunLaws reads) where
-    idle_join : (x y z : ReadExactFuture R) (l m : List (Poll (Result (Unit {0}) Error))) → (l ≡ [] → y ≡ x) → (m ≡ [] → z ≡ y) → l ++ m ≡ [] → z ≡ x
-    idle_join x y z [] m h k e = k e ∙ h refl
-    idle_join x y z (a ∷ l) m h k e = absurd (cc e)
-
     follows : (x y z : ReadExactFuture R) (l m : List (Poll (Result (Unit {0}) Error))) → Waiting l → ReadsExactly reads x l y
         → ReadsExactly reads y m z → ReadsExactly reads x (l ++ m) z
     follows x y z l m w h k =
@@ -63,7 +57,7 @@ module _ {R : Type 0} where
         }
 
     -- a turn before others
-    turn_before : (x y z : ReadExactFuture R) (a : Poll (Result (Unit {0}) Error)) → ReadsMore reads x y → ReadsExactly reads y (a ∷ []) z
+    pub turn_before : (x y z : ReadExactFuture R) (a : Poll (Result (Unit {0}) Error)) → ReadsMore reads x y → ReadsExactly reads y (a ∷ []) z
         → ReadsExactly reads x (a ∷ []) z
     turn_before x y z a t h =
         record {
@@ -71,11 +65,6 @@ module _ {R : Type 0} where
           stays = stays_join x y z t.stays h.stays;
           idle = λ e. absurd (cc e);
         }
-
-    -- the turns of a poll
-    pub exact_answer : (x y z : ReadExactFuture R) (a : Poll (Result (Unit {0}) Error)) → Goes (Next (ExactTurn reads)) x y
-        → ExactTurn reads y (Some a) z → ReadsExactly reads x (a ∷ []) z
-    exact_answer x y z a goes last = Goes-back (λ v. ReadsExactly reads v (a ∷ []) z) (λ v w t h. turn_before v w z a t h) x y goes last
 
   -- the room that is left falls
   pub room_falls : {reads : Runs Mark R} (x y : ReadExactFuture R) → ReadsMore reads x y → length y.buf.now - y.filled < length x.buf.now - x.filled

@@ -15,7 +15,8 @@ use Rattle.lite_io_base.specs.Steady.{CalmReadLaws, NoWait, SteadyReadLaws}
 use Rattle.lite_read.specs.Gathering.{Gathered}
 use Rattle.lite_read.specs.Laws.ReadExact.{exact_laws}
 use Rattle.lite_read.specs.Laws.Settling.{gathered_alike, gathers_prompt}
-use Rattle.lite_read.specs.ReadExact.{Filling, Fulfils, HasRoom, ReadsExactly, fills, filling_of}
+use Rattle.lite_read.specs.Filling.{Filling, filling_of}
+use Rattle.lite_read.specs.ReadExact.{Fulfils, HasRoom, ReadsExactly, fills}
 use Rattle.lite_read.specs.Settling.{SameByKind, Settles}
 use Rattle.lite_read.specs.declared.read_exact.ReadExactFuture.{ReadExactFuture}
 

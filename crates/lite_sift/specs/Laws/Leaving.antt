@@ -1,6 +1,6 @@
 -- Laws of answers of which some are left out.
 use Rattle.std.proofs.Common.{◌≡◌, ◌∙◌, ℕ, ◌≤◌, List, [], ◌∷◌, ◌++◌, Option, Some, None, ◌⊎◌, inl, inr, refl, ap, subst, sym, arith, append_assoc}
-use Rattle.std.specs.List.{FoldsTo}
+use Rattle.std.specs.List.{AllByRecursion, FoldsTo}
 use Rattle.std.proofs.lemmas.List.{map-append}
 use Rattle.futures.specs.declared.task.Poll.TheVariants.{Ready, Pending}
 use Rattle.lite_base.specs.Answers.{Answer, before_end, end, item, items}
@@ -29,6 +29,21 @@ module _ {A : Type 0} where
   -- a list that is cut, with the answer at the cut named
   pub cut_at : {i : List (Answer A)} (r : List A) (a b : Answer A) (l : List (Answer A)) → i ≡ items r ++ a ∷ l → a ≡ b → i ≡ items r ++ b ∷ l
   cut_at r a b l cut e = cut ∙ ap (λ k. items r ++ k ∷ l) e
+
+-- what holds of each answer that goes out, and of each item that is rejected, holds of each answer that came in
+module _ {F A B : Type 0} (call : F → A → Option B → F → Type 0) (P : Answer A → Type 0) (Q : Answer B → Type 0)
+    (passed : (p q : F) (a : Answer A) (b : Answer B) → Passes call p a b q → Q b → P a) (rejected : (p q : F) (x : A) → call p x None q → P (item x)) where
+  rejects_each : (p q : F) (xs : List A) (l : List (Answer A)) → FoldsTo (λ f x g. call f x None g) p xs q → AllByRecursion P l → AllByRecursion P (items xs ++ l)
+  rejects_each p q [] l h e = e
+  rejects_each p q (x ∷ xs) l h e = (rejected p h.0 x h.1, rejects_each h.0 q xs l h.2 e)
+
+  pub leaves_each : (f g : F) (i : List (Answer A)) (o : List (Answer B)) → Leaves call f i o g → AllByRecursion Q o → AllByRecursion P i
+  leaves_each f g i [] h e = subst (AllByRecursion P) (sym h.0) tt
+  leaves_each f g i (b ∷ o) h e =
+      let s = h.2 in
+      let kept = passed s.between h.1 s.last b s.passes e.0 in
+      let all = rejects_each f s.between s.rejected (s.last ∷ h.0) s.rejects (kept, leaves_each h.1 g h.0 o h.3 e.1) in
+      subst (AllByRecursion P) (sym s.cut) all
 
 module _ {F A B : Type 0} (call : F → A → Option B → F → Type 0) where
   leaves_follow : (f g h : F) (i j : List (Answer A)) (o p : List (Answer B)) → Leaves call f i o g → Leaves call g j p h → Leaves call f (i ++ j) (o ++ p) h

@@ -13,9 +13,10 @@ use Rattle.lite_io_base.specs.Steady.{CalmReadLaws, SteadyReadLaws}
 use Rattle.lite_read.specs.Gathering.{Gather, Gathered}
 use Rattle.lite_read.specs.Laws.Settling.{gathered_alike, gathers_prompt}
 use Rattle.lite_read.specs.Settling.{SameByKind, Settles}
+use Rattle.lite_texts.specs.Holding.{Over}
 use Rattle.lite_texts.specs.Laws.Settling.{text_settles}
 use Rattle.lite_texts.specs.Laws.Texts.{text_laws}
-use Rattle.lite_texts.specs.Texts.{Over, ReadsText, in_text, reading}
+use Rattle.lite_texts.specs.Texts.{ReadsText, in_text, reading}
 
 module _ {X R A : Type 0} (over : Over X R A) where
   -- two that have read equal bytes, for equal texts, over readers that are alike

@@ -1,23 +1,19 @@
 -- Laws of futures that read for a text.
-use Rattle.std.proofs.Common.{◌≡◌, ◌∙◌, ℕ, List, [], ◌∷◌, ◌++◌, Some, Result, refl, ap, sym, subst}
+use Rattle.std.proofs.Common.{◌≡◌, ℕ, List, [], ◌∷◌, ◌++◌, Result, refl, ap, sym, subst}
 use Rattle.std.specs.List.{FoldsTo}
 use Rattle.std.specs.Prelude.{string_bytes}
 use Rattle.std.specs.declared.io.Error.{Error}
-use denote.MutBor.{MutBor}
 use Rattle.futures.specs.declared.task.Poll.{Poll}
 use Rattle.lite_base.specs.Answers.{Waiting}
-use Rattle.lite_base.specs.Chain.{Goes, Goes-back, Next}
 use Rattle.lite_base.specs.FutureLaws.{FutureLaws}
-use Rattle.lite_io_base.specs.Laws.Falls.{GivenRun}
 use Rattle.lite_io_base.specs.Marks.{Mark}
 use Rattle.lite_io_base.specs.Runs.{RunLaws, Runs}
-use Rattle.lite_lines.specs.Laws.Segments.{given_more}
 use Rattle.lite_read.specs.Gathering.{Gather}
 use Rattle.lite_read.specs.Laws.Gathering.{gathered_before, gathered_follow, gathered_none, gathers_once}
-use Rattle.lite_texts.specs.Texts.{Over, Reading, ReadsText, Stays, TakesIn, TextTurn, in_text, reading}
-
-still : {S : Type 0} (x y z : MutBor S) → y ≡ record x { now = y.now } → z ≡ record y { now = z.now } → z ≡ record x { now = z.now }
-still {S} x y z e d = d ∙ ap (λ (r : MutBor S). record r { now = z.now }) e
+use Rattle.lite_read.specs.Laws.Turns.{idle_join, lent_still}
+use Rattle.lite_texts.specs.Holding.{Over, Stays}
+use Rattle.lite_texts.specs.Texts.{Reading, ReadsText, in_text, reading}
+use Rattle.lite_texts.specs.Turns.{Answers, TakesIn}
 
 -- bytes that are taken in leave the text
 pub folds_in : (gather : Gather (List ℕ) (Result ℕ Error)) (text p q xs : List ℕ) → FoldsTo gather.takes p xs q
@@ -32,54 +28,42 @@ module _ {X R A : Type 0} (over : Over X R A) where
   pub stays_join : (x y z : X) → Stays over x y → Stays over y z → Stays over x z
   stays_join x y z h k =
       record {
-        reader = still (over.reader x) (over.reader y) (over.reader z) h.reader k.reader;
-        text = still (over.text x) (over.text y) (over.text z) h.text k.text;
+        reader = lent_still (over.reader x) (over.reader y) (over.reader z) h.reader k.reader;
+        text = lent_still (over.text x) (over.text y) (over.text z) h.text k.text;
       }
 
-  module _ (gather : Gather (List ℕ) (Result ℕ Error)) {reads : Runs Mark R} where
-    -- a turn that goes on is a run of bytes
-    pub more_given : (x y : X) → TakesIn over gather reads x y → GivenRun reads (over.reader x).now (over.reader y).now
-    more_given x y h = given_more reads (over.reader x).now (over.reader y).now h.taken h.some h.came
+  module _ (gather : Gather (List ℕ) (Result ℕ Error)) {reads : Runs Mark R} (laws : RunLaws reads) where
+    follows : (x y z : X) (l m : List (Poll (Result ℕ Error))) → Waiting l → ReadsText over gather reads x l y
+        → ReadsText over gather reads y m z → ReadsText over gather reads x (l ++ m) z
+    follows x y z l m w h k =
+        record {
+          gathered = gathered_follow (in_text gather) laws (over.reader x).now (over.reader y).now (over.reader z).now (reading over x) (reading over y) (reading over z) l m w h.gathered k.gathered;
+          stays = stays_join x y z h.stays k.stays;
+          idle = idle_join x y z l m h.idle k.idle;
+        }
 
-    module _ (laws : RunLaws reads) where
-      idle_join : (x y z : X) (l m : List (Poll (Result ℕ Error))) → (l ≡ [] → y ≡ x) → (m ≡ [] → z ≡ y) → l ++ m ≡ [] → z ≡ x
-      idle_join x y z [] m h k e = k e ∙ h refl
-      idle_join x y z (a ∷ l) m h k e = absurd (cc e)
+    pub text_laws : FutureLaws (ReadsText over gather reads)
+    text_laws =
+        record {
+          rests = λ x. record { gathered = gathered_none (in_text gather) laws (over.reader x).now (reading over x); stays = stays_none x; idle = λ e. refl };
+          stays = λ x y h. h.idle refl;
+          follows = follows;
+          once = λ x y l h. gathers_once (in_text gather) (reading over x) (reading over y) h.gathered.marks l h.gathered.gathered;
+        }
 
-      follows : (x y z : X) (l m : List (Poll (Result ℕ Error))) → Waiting l → ReadsText over gather reads x l y
-          → ReadsText over gather reads y m z → ReadsText over gather reads x (l ++ m) z
-      follows x y z l m w h k =
-          record {
-            gathered = gathered_follow (in_text gather) laws (over.reader x).now (over.reader y).now (over.reader z).now (reading over x) (reading over y) (reading over z) l m w h.gathered k.gathered;
-            stays = stays_join x y z h.stays k.stays;
-            idle = idle_join x y z l m h.idle k.idle;
-          }
-
-      pub text_laws : FutureLaws (ReadsText over gather reads)
-      text_laws =
-          record {
-            rests = λ x. record { gathered = gathered_none (in_text gather) laws (over.reader x).now (reading over x); stays = stays_none x; idle = λ e. refl };
-            stays = λ x y h. h.idle refl;
-            follows = follows;
-            once = λ x y l h. gathers_once (in_text gather) (reading over x) (reading over y) h.gathered.marks l h.gathered.gathered;
-          }
-
-      -- a turn before others
-      turn_before : (x y z : X) (a : Poll (Result ℕ Error)) → TakesIn over gather reads x y → ReadsText over gather reads y (a ∷ []) z
-          → ReadsText over gather reads x (a ∷ []) z
-      turn_before x y z a t h =
-          let same : reading over y ≡ record { read = over.read y; text = string_bytes (over.text x).now } =
-          ap (λ v. record { read = over.read y; text = v }) t.same in
-          let folds : FoldsTo (in_text gather).takes (reading over x) t.taken (reading over y) =
-          subst (λ (q : Reading). FoldsTo (in_text gather).takes (reading over x) t.taken q) (sym same)
-          (folds_in gather (string_bytes (over.text x).now) (over.read x) (over.read y) t.taken t.folds) in
-          record {
-            gathered = gathered_before (in_text gather) laws (over.reader x).now (over.reader y).now (over.reader z).now (reading over x) (reading over y) (reading over z) t.taken a t.came folds h.gathered;
-            stays = stays_join x y z t.stays h.stays;
-            idle = λ e. absurd (cc e);
-          }
-
-      -- the turns of a poll
-      pub text_answer : (x y z : X) (a : Poll (Result ℕ Error)) → Goes (Next (TextTurn over gather reads)) x y → TextTurn over gather reads y (Some a) z
-          → ReadsText over gather reads x (a ∷ []) z
-      text_answer x y z a goes last = Goes-back (λ v. ReadsText over gather reads v (a ∷ []) z) (λ v w t h. turn_before v w z a t h) x y goes last.0
+    -- a turn before others
+    pub turn_before : (x y z : X) (a : Poll (Result ℕ Error)) → TakesIn over gather reads x y → Answers over gather reads y a z
+        → Answers over gather reads x a z
+    turn_before x y z a t h =
+        let same : reading over y ≡ record { read = over.read y; text = string_bytes (over.text x).now } =
+        ap (λ v. record { read = over.read y; text = v }) t.stays.1 in
+        let folds : FoldsTo (in_text gather).takes (reading over x) t.taken (reading over y) =
+        subst (λ (q : Reading). FoldsTo (in_text gather).takes (reading over x) t.taken q) (sym same)
+        (folds_in gather (string_bytes (over.text x).now) (over.read x) (over.read y) t.taken t.folds) in
+        let ran : ReadsText over gather reads x (a ∷ []) z =
+        record {
+          gathered = gathered_before (in_text gather) laws (over.reader x).now (over.reader y).now (over.reader z).now (reading over x) (reading over y) (reading over z) t.taken a t.came folds h.0.gathered;
+          stays = stays_join x y z t.stays.0 h.0.stays;
+          idle = λ e. absurd (cc e);
+        } in
+        (ran, h.1)

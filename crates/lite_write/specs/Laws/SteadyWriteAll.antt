@@ -1,19 +1,17 @@
 -- `write_all` gives Ok in the end, where no write fails, and is pending only where its writer is.
-use Rattle.std.proofs.Common.{◌≡◌, ℕ, List, [], ◌∷◌, ◌++◌, Result, Ok, Err, refl, subst}
+use Rattle.std.proofs.Common.{◌≡◌, ℕ, List, [], ◌∷◌, ◌++◌, Ok, refl, subst}
 use Rattle.std.specs.Prelude.{⊤}
-use Rattle.std.specs.declared.io.Error.{Error}
 use Rattle.futures.specs.declared.task.Poll.{Poll}
 use Rattle.futures.specs.declared.task.Poll.TheVariants.{Ready, Pending}
 use Rattle.lite_base.specs.Answers.{ComparableBy, strip}
 use Rattle.lite_base.specs.Calm.{CalmLaws, Prompt}
-use Rattle.lite_base.specs.Laws.Alike.{comparable_nil}
 use Rattle.lite_base.specs.Steady.{FutureSteadyLaws}
 use Rattle.lite_io_base.specs.Runs.{RunLaws, Runs}
 use Rattle.lite_io_base.specs.SteadyWrite.{CalmWriteLaws, NeverWaits}
 use Rattle.lite_io_base.specs.Takings.{Taking}
 use Rattle.lite_write.specs.Laws.WriteAll.{Value, all_laws}
 use Rattle.lite_write.specs.SteadyWriteAll.{AllProsper, Prospers, Prospering}
-use Rattle.lite_write.specs.WriteAll.{Ended, Hands, HandsOver, WritesAll}
+use Rattle.lite_write.specs.WriteAll.{Ended, HandsOver, WritesAll}
 use Rattle.lite_write.specs.declared.write_all.WriteAllFuture.{WriteAllFuture}
 
 pub prospers_both : (l m : List Taking) → Prospers l → Prospers m → Prospers (l ++ m)

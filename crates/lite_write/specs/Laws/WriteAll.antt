@@ -1,22 +1,19 @@
 -- Laws of `write_all`.
-use Rattle.std.proofs.Common.{◌≡◌, ◌∙◌, ◌≤◌, ◌<◌, ◌+◌, ℕ, List, [], ◌∷◌, ◌++◌, length, Option, Some, None, Result, refl, ap, sym, subst, arith, append_assoc, length-append}
+use Rattle.std.proofs.Common.{◌≡◌, ◌∙◌, ◌≤◌, ◌<◌, ◌+◌, ℕ, List, [], ◌∷◌, ◌++◌, length, Result, refl, ap, sym, arith, append_assoc, length-append}
 use Rattle.std.specs.declared.io.Error.{Error}
-use denote.MutBor.{MutBor}
 use Rattle.futures.specs.declared.task.Poll.{Poll}
 use Rattle.futures.specs.declared.task.Poll.TheVariants.{Ready, Pending}
 use Rattle.lite_base.specs.Answers.{Waiting, strip}
-use Rattle.lite_base.specs.Chain.{Goes, Goes-back, Next}
 use Rattle.lite_base.specs.FutureLaws.{FutureLaws}
 use Rattle.lite_io_base.specs.Runs.{RunLaws, Runs}
 use Rattle.lite_io_base.specs.Takings.{Taking}
-use Rattle.lite_write.specs.WriteAll.{AllTurn, Finishes, Halts, Hands, HandsOver, WritesAll, WritesSome}
+use Rattle.lite_read.specs.Laws.Turns.{idle_join, lent_still}
+use Rattle.lite_write.specs.Turns.{WritesSome}
+use Rattle.lite_write.specs.WriteAll.{Finishes, Halts, HandsOver, WritesAll}
 use Rattle.lite_write.specs.declared.write_all.WriteAllFuture.{WriteAllFuture}
 
 abbrev pub Value : Type 0
 Value = Result (Unit {0}) Error
-
-still : {S : Type 0} (x y z : MutBor S) → y ≡ record x { now = y.now } → z ≡ record y { now = z.now } → z ≡ record x { now = z.now }
-still {S} x y z e d = d ∙ ap (λ (r : MutBor S). record r { now = z.now }) e
 
 -- what comes after answers that were all Pending
 joins : (p q r : List ℕ) (i j : List Taking) (l m : List (Poll Value)) → Waiting l → HandsOver p i l q → HandsOver q j m r → HandsOver p (i ++ j) (l ++ m) r
@@ -51,17 +48,13 @@ before p m q xs i (Ready r) some front h =
 
 module _ {W : Type 0} where
   module _ {writes : Runs Taking W} (laws : RunLaws writes) where
-    idle_join : (x y z : WriteAllFuture W) (l m : List (Poll Value)) → (l ≡ [] → y ≡ x) → (m ≡ [] → z ≡ y) → l ++ m ≡ [] → z ≡ x
-    idle_join x y z [] m h k e = k e ∙ h refl
-    idle_join x y z (a ∷ l) m h k e = absurd (cc e)
-
     follows : (x y z : WriteAllFuture W) (l m : List (Poll Value)) → Waiting l → WritesAll writes x l y → WritesAll writes y m z → WritesAll writes x (l ++ m) z
     follows x y z l m w h k =
         record {
           marks = h.marks ++ k.marks;
           came = laws.follows x.writer.now y.writer.now z.writer.now h.marks k.marks h.came k.came;
           handed = joins x.buf.now y.buf.now z.buf.now h.marks k.marks l m w h.handed k.handed;
-          stays = still x.writer y.writer z.writer h.stays k.stays;
+          stays = lent_still x.writer y.writer z.writer h.stays k.stays;
           idle = idle_join x y z l m h.idle k.idle;
         }
 
@@ -75,19 +68,15 @@ module _ {W : Type 0} where
         }
 
     -- a turn before others
-    turn_before : (x y z : WriteAllFuture W) (a : Poll Value) → WritesSome writes x y → WritesAll writes y (a ∷ []) z → WritesAll writes x (a ∷ []) z
+    pub turn_before : (x y z : WriteAllFuture W) (a : Poll Value) → WritesSome writes x y → WritesAll writes y (a ∷ []) z → WritesAll writes x (a ∷ []) z
     turn_before x y z a t h =
         record {
           marks = Taking.wrote t.taken ∷ h.marks;
           came = laws.follows x.writer.now y.writer.now z.writer.now (Taking.wrote t.taken ∷ []) h.marks t.came h.came;
           handed = before x.buf.now y.buf.now z.buf.now t.taken h.marks a t.some t.front h.handed;
-          stays = still x.writer y.writer z.writer t.stays h.stays;
+          stays = lent_still x.writer y.writer z.writer t.stays h.stays;
           idle = λ e. absurd (cc e);
         }
-
-    -- the turns of a poll
-    pub all_answer : (x y z : WriteAllFuture W) (a : Poll Value) → Goes (Next (AllTurn writes)) x y → AllTurn writes y (Some a) z → WritesAll writes x (a ∷ []) z
-    all_answer x y z a goes last = Goes-back (λ v. WritesAll writes v (a ∷ []) z) (λ v w t h. turn_before v w z a t h) x y goes last
 
   -- what is left falls
   pub left_falls : {writes : Runs Taking W} (x y : WriteAllFuture W) → WritesSome writes x y → length y.buf.now < length x.buf.now

@@ -8,7 +8,7 @@ use lite_base::Poll;
 use lite_io::BufReader;
 use lite_io::make::take;
 use lite_mock::Marks;
-use nests_agree::collected::{gathered_lines_agree, tried_lines_agree};
+use nests_agree::collected::{gathered_lengths_agree, gathered_lines_agree, tried_lines_agree};
 use nests_agree::lines::{futures_of_lines_agree, lengths_agree, lines_agree};
 use std::alloc::AllocError;
 use std::io;
@@ -141,6 +141,31 @@ fn lines_are_collected_with_their_errors(rt: HostRuntime) -> Result<(), Fail> {
             Err(_) => return Err(Fail::from("no lines were collected")),
         }
         assert_eq!(rt; all.as_str(), "ab|!|cde|fgh|");
+    }
+    Ok(())
+}
+
+#[test]
+fn lengths_are_collected_alike(rt: HostRuntime) -> Result<(), Fail> {
+    let chunks: [&[u8]; 3] = [b"ab\n\xff\n\ncd", b"e\nf", b"gh\ni\n"];
+    let one = buffered(&rt, &chunks, false)?;
+    let other = buffered(&rt, &chunks, true)?;
+    let (got, late) = gathered_lengths_agree(&rt, one, other, 5)?;
+    for value in [got, late] {
+        let Ok(items) = value else {
+            return Err(Fail::from("no lengths were collected"));
+        };
+        let mut all = Vec::new(rt.alloc());
+        for item in &items {
+            all.push(match item {
+                Ok(n) => Some(*n),
+                Err(_) => None,
+            })?;
+        }
+        assert_eq!(rt;
+            all.as_slice(),
+            [Some(2), None, Some(3), Some(3)].as_slice()
+        );
     }
     Ok(())
 }

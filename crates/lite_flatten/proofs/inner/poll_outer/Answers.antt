@@ -6,7 +6,8 @@ pub returns-in-Ready-Some-clause-again : goal.returns-in-Ready-Some-clause-again
 returns-in-Ready-Some-clause-again g c =
     let ran = rw c.in-Ready-Some.field-0-is at c.in-Ready-Some.ensures.ran in
     let more = to_come g.met.S.Stream.laws.follows _ _ _ _ c.requires.can.2 c.poll_next.ensures.ran in
-    (c.poll_next.ensures.again, g.met.S.Counted.counting.counts_on _ _ _ c.requires.can.1 c.poll_next.ensures.ran, (c.requires.can.2.1 _ [] [] c.in-Ready-Some.inner ran, more))
+    let counts = g.met.S.Counted.counting.counts_on _ _ _ c.requires.can.1 c.poll_next.ensures.ran in
+    (c.poll_next.ensures.again, counts, (c.requires.can.2.1 _ [] [] c.in-Ready-Some.inner ran, more))
 
 pub returns-in-Ready-None-clause-again : goal.returns-in-Ready-None-clause-again
 returns-in-Ready-None-clause-again g c =

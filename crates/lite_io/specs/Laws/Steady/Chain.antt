@@ -67,7 +67,8 @@ module _ {R S : Type 0} {first : Runs Mark R} {second : Runs Mark S} where
         let ended = subst (λ p. Comparable (unhurried h.before ++ Mark.end ∷ []) p) (unhurried-append k.before (Mark.end ∷ [])) one in
         let same = same_end (unhurried h.before) (unhurried k.before) (unhurried_no_end h.before h.no_end) (unhurried_no_end k.before k.no_end) ended in
         let after = t.steady x.second y.second x'.second y'.second h.after k.after d h.second_ran k.second_ran in
-        rw (apart l h.before h.after h.cut, apart m k.before k.after k.cut, same) (comparable_behind (unhurried k.before) (unhurried h.after) (unhurried k.after) after)
+        rw (apart l h.before h.after h.cut, apart m k.before k.after k.cut, same)
+        (comparable_behind (unhurried k.before) (unhurried h.after) (unhurried k.after) after)
 
     one_tale : (a b c : Bool) (x y x' y' : Chain R S) (l m : List Mark) → alike1 x.first y.first → alike2 x.second y.second → Joins ample1 ample2 a b x l x'
         → Joins ample1 ample2 a c y m y' → Comparable (unhurried l) (unhurried m)
@@ -108,14 +109,16 @@ module _ {R S : Type 0} {first : Runs Mark R} {second : Runs Mark S} where
     prompt_at : (a b : Bool) (x y : Chain R S) (l : List Mark) → calm1 x.first → calm2 x.second → Joins first second a b x l y → NoWait l
     prompt_at false false x y l k j h = c.prompt x.first y.first l k h.0
     prompt_at false true x y l k j h =
-        subst NoWait (sym h.cut) (no_wait_both h.before h.after (c.prompt x.first h.between h.before k h.first_ran) (d.prompt x.second y.second h.after j h.second_ran))
+        let before = c.prompt x.first h.between h.before k h.first_ran in
+        subst NoWait (sym h.cut) (no_wait_both h.before h.after before (d.prompt x.second y.second h.after j h.second_ran))
     prompt_at true true x y l k j h = d.prompt x.second y.second l j h.0
     prompt_at true false x y l k j h = absurd h
 
     calm_at : (a b : Bool) (x y : Chain R S) (l : List Mark) → calm1 x.first → calm2 x.second → Joins first second a b x l y → calm1 y.first × calm2 y.second
     calm_at false false x y l k j h = (c.calm_on x.first y.first l k h.0, subst calm2 (sym h.2) j)
     calm_at false true x y l k j h =
-        (c.calm_on h.between y.first (Mark.end ∷ []) (c.calm_on x.first h.between h.before k h.first_ran) h.first_ended, d.calm_on x.second y.second h.after j h.second_ran)
+        let between = c.calm_on x.first h.between h.before k h.first_ran in
+        (c.calm_on h.between y.first (Mark.end ∷ []) between h.first_ended, d.calm_on x.second y.second h.after j h.second_ran)
     calm_at true true x y l k j h = (subst calm1 (sym h.1) k, d.calm_on x.second y.second l j h.0)
     calm_at true false x y l k j h = absurd h
 

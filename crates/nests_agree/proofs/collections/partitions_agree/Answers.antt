@@ -1,7 +1,7 @@
 use Rattle.std.proofs.Common.{rules, ◌≡◌, ◌∙◌, ap, sym, nat_eq, ◌%◌}
 use Rattle.lite_base.specs.Alike.{SameItem}
 use Rattle.lite_base.specs.Laws.Calling.{answers_agree_from}
-use Rattle.lite_consume.specs.Laws.Agreeing.{finished_ample, part_within}
+use Rattle.lite_consume.specs.Laws.Agreeing.{finished_taking_none, part_within}
 use Rattle.lite_gather.specs.Laws.Agreeing.{both_there, none_held}
 use Rattle.lite_gather.specs.Laws.Ample.{partition_within}
 use Rattle.nests_agree.proofs.Found.{both_found, both_items, gathered_as}
@@ -20,5 +20,5 @@ block_on_both-requires-clause-alike g c = (
 
 pub returns : goal.returns
 returns g c =
-    let found = finished_ample (g.met.S.SteadyStream.steady.found c.requires.found) (part_within (λ f. (f.predicate, f.res)) (partition_within (λ v l. v.items ≡ l) _)) in
+    let found = finished_taking_none (g.met.S.SteadyStream.steady.found c.requires.found) (part_within (λ f. (f.predicate, f.res)) (partition_within (λ v l. v.items ≡ l) _)) in
     both_found _ _ c.partition-sorted.result c.partition.result found (gathered_as (both_items g.S.SteadyStream.same (λ v. v.items))) c.block_on_both.result c.block_on_both.ensures

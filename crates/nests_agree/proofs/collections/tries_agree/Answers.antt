@@ -1,6 +1,6 @@
 use Rattle.std.proofs.Common.{◌≡◌}
 use Rattle.lite_base.specs.Alike.{SameOk}
-use Rattle.lite_consume.specs.Laws.Agreeing.{finished_ample, part_within}
+use Rattle.lite_consume.specs.Laws.Agreeing.{finished_taking_none, part_within}
 use Rattle.lite_gather.specs.Laws.Agreeing.{both_there, none_held, unmixed_holds, unmixed_on}
 use Rattle.lite_gather.specs.Laws.Ample.{try_collect_within}
 use Rattle.nests_agree.proofs.Found.{both_found, same_items, try_gathered_as}
@@ -16,5 +16,5 @@ block_on_both-requires-clause-alike g c =
 
 pub returns : goal.returns
 returns g c =
-    let found = finished_ample (g.met.S.SteadyStream.steady.found c.requires.found) (part_within (λ f. f.items) (try_collect_within (λ v l. v.items ≡ l))) in
+    let found = finished_taking_none (g.met.S.SteadyStream.steady.found c.requires.found) (part_within (λ f. f.items) (try_collect_within (λ v l. v.items ≡ l))) in
     both_found _ _ c.try_collect-tried.result c.try_collect.result found (try_gathered_as (same_items (SameOk g.S.SteadyStream.same) (λ v. v.items)) _) c.block_on_both.result c.block_on_both.ensures

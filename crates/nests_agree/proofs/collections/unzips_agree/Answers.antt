@@ -1,5 +1,5 @@
 use Rattle.std.proofs.Common.{rules, ◌≡◌}
-use Rattle.lite_consume.specs.Laws.Agreeing.{finished_ample, part_within}
+use Rattle.lite_consume.specs.Laws.Agreeing.{finished_taking_none, part_within}
 use Rattle.lite_gather.specs.Laws.Agreeing.{both_there, no_parts}
 use Rattle.lite_gather.specs.Laws.Ample.{unzip_within}
 use Rattle.nests_agree.proofs.Found.{both_found}
@@ -13,5 +13,5 @@ block_on_both-requires-clause-alike g c =
 
 pub returns : goal.returns
 returns g c =
-    let found = finished_ample (g.met.S.SteadyStream.steady.found c.requires.found) (part_within (λ f. f.res) (unzip_within (λ v l. v.items ≡ l) (λ v l. v.items ≡ l))) in
+    let found = finished_taking_none (g.met.S.SteadyStream.steady.found c.requires.found) (part_within (λ f. f.res) (unzip_within (λ v l. v.items ≡ l) (λ v l. v.items ≡ l))) in
     both_found _ _ c.unzip.result c.unzip-2.result found (λ v w h. h) c.block_on_both.result c.block_on_both.ensures

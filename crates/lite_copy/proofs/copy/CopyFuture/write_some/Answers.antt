@@ -7,8 +7,8 @@ use Rattle.lite_copy.proofs.copy.CopyFuture.write_some.Goals as goal
 pub returns-in-Ready-Ok-eq0-clause-turned : goal.returns-in-Ready-Ok-eq0-clause-turned
 returns-in-Ready-Ok-eq0-clause-turned g c =
     let is : c.poll_write.result ≡ Ready (Ok 0) = search rules in
-    writer_takes_none g.R.Tale.reads g.W.Takings.writes g.R.Tale.read_laws g.W.Takings.write_laws c.args.self.now _ refl refl refl c.into.result c.into.ensures c.requires.some
-    (rw is at c.poll_write.ensures.ran)
+    writer_takes_none g.R.Tale.reads g.W.Takings.writes g.R.Tale.read_laws g.W.Takings.write_laws c.args.self.now _ refl refl refl
+    c.into.result c.into.ensures c.requires.some (rw is at c.poll_write.ensures.ran)
 
 pub returns-in-Ready-Ok-clause-turned : goal.returns-in-Ready-Ok-clause-turned
 returns-in-Ready-Ok-clause-turned g c =

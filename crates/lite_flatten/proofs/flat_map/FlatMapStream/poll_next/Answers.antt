@@ -14,9 +14,8 @@ drive-requires g c =
 pub returns-clause-ran : goal.returns-clause-ran
 returns-clause-ran g c =
     let turns = c.drive.ensures.turned in
-    let inner = g.met.U.Stream.laws in
     let outer = laws_hinted map_parts g.met.S.Stream.laws (replaces_turning (Calls g.F.FnMut)) in
-    flat_answer g.U.Stream.run inner.stays inner.follows (Maps g.S.Stream.run (Calls g.F.FnMut)) inner.rests outer.rests outer.follows flat_map_parts _ _ turns.0 _ _ turns.1 turns.2
+    flat_answer g.U.Stream.run (Maps g.S.Stream.run (Calls g.F.FnMut)) outer.rests outer.follows flat_map_parts _ _ turns.0 _ _ turns.1 turns.2
 
 pub returns-clause-again : goal.returns-clause-again
 returns-clause-again g c =

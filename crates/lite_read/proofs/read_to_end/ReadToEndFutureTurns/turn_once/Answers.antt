@@ -15,4 +15,14 @@ returns-else-self-len-clause-turned g c =
     let long = c.poll_read.auto.buf ∙ mid_len w.filled (length old) old (omega arith) in
     let most = rw c.in-Ready-Ok.field-0-is at (rw c.in-Ready-Ok.is at e.bound) in
     let ran = rw c.in-Ready-Ok.field-0-is at (rw c.in-Ready-Ok.is at e.ran) in
-    read_some g.R.Tale.reads c.args.self.now w c.poll_read.new.self old c.poll_read.new.buf c.in-Ready-Ok.n w.room c.make_room.ensures.same c.make_room.ensures.front c.make_room.ensures.within c.deref_mut.ensures.value long most (omega (arith, c.in-Ready-Ok.n-test)) ran
+    read_some _ g.R.Tale.reads c.args.self.now w c.poll_read.new.self old c.poll_read.new.buf c.in-Ready-Ok.n _ c.make_room.ensures.same c.make_room.ensures.front c.make_room.ensures.within c.deref_mut.ensures.value long most (omega (arith, c.in-Ready-Ok.n-test)) ran
+
+pub returns-then-self-len-clause-turned : goal.returns-then-self-len-clause-turned
+returns-then-self-len-clause-turned g c =
+    let w = c.make_room.new.self in
+    let old = c.deref_mut.result.now in
+    let e = c.poll_read.ensures in
+    let long = c.poll_read.auto.buf ∙ mid_len w.filled (length old) old (omega arith) in
+    let most = rw c.in-Ready-Ok.field-0-is at (rw c.in-Ready-Ok.is at e.bound) in
+    let ran = rw c.in-Ready-Ok.field-0-is at (rw c.in-Ready-Ok.is at e.ran) in
+    read_some _ g.R.Tale.reads c.args.self.now w c.poll_read.new.self old c.poll_read.new.buf c.in-Ready-Ok.n _ c.make_room.ensures.same c.make_room.ensures.front c.make_room.ensures.within c.deref_mut.ensures.value long most (omega (arith, c.in-Ready-Ok.n-test)) ran

@@ -1,0 +1,14 @@
+-- Answers among which there is no refusal of memory.
+use Rattle.std.specs.Prelude.{◌≡◌, ◌≢◌, List, Result, Err}
+use Rattle.std.specs.IoError.{error_kind}
+use Rattle.std.specs.List.{AllByRecursion}
+use Rattle.std.specs.declared.io.Error.{Error}
+use Rattle.std.specs.declared.io.ErrorKind.TheVariants.{OutOfMemory}
+use Rattle.lite_base.specs.Answers.{Answer, item}
+
+-- a refusal is an error of the kind OutOfMemory
+abbrev pub NotRefused : {A : Type 0} → Answer (Result A Error) → Type 0
+NotRefused a = (e : Error) → a ≡ item (Err e) → error_kind e ≢ OutOfMemory
+
+abbrev pub NoneRefused : {A : Type 0} → List (Answer (Result A Error)) → Type 0
+NoneRefused = AllByRecursion NotRefused

@@ -1,0 +1,39 @@
+-- The turns of a poll that reads: what one takes in that goes on, and how one of `read_to_end` answers.
+use Rattle.std.specs.Prelude.{◌<◌, ◌≤◌, ℕ, List, [], ◌∷◌, length, Result}
+use Rattle.std.specs.List.{FoldsTo}
+use Rattle.std.specs.declared.io.Error.{Error}
+use Rattle.futures.specs.declared.task.Poll.{Poll}
+use Rattle.lite_io_base.specs.Marks.{Mark, bytes}
+use Rattle.lite_io_base.specs.Runs.{Runs}
+use Rattle.lite_read.specs.Appending as appending
+use Rattle.lite_read.specs.Appending.{front_of}
+use Rattle.lite_read.specs.Filling as filling
+use Rattle.lite_read.specs.Filling.{filling_of}
+use Rattle.lite_read.specs.Gathering.{Gather, Gathered}
+use Rattle.lite_read.specs.ReadExact.{fills}
+use Rattle.lite_read.specs.ReadToEnd.{appends}
+use Rattle.lite_read.specs.declared.read_exact.ReadExactFuture.{ReadExactFuture}
+use Rattle.lite_read.specs.declared.read_to_end.ReadToEndFuture.{ReadToEndFuture}
+
+module _ {X S M R : Type 0} (reader : X → S) (held : X → M) (gather : X → Gather M R) (Keeps : X → X → Type 0) (reads : Runs Mark S) where
+  -- the reader gave some bytes, and they were taken in one after the other
+  pub record TakesBytes (x y : X) : Type 0 where
+    pub taken : List ℕ
+    pub some : 0 < length taken
+    pub came : reads (reader x) (bytes taken) (reader y)
+    pub folds : FoldsTo (gather x).takes (held x) taken (held y)
+    pub stays : Keeps x y
+
+abbrev pub ReadsMore : {R : Type 0} → Runs Mark R → ReadExactFuture R → ReadExactFuture R → Type 0
+ReadsMore = TakesBytes (λ x. x.reader.now) filling_of (λ x. fills) filling.Stays
+
+module _ {R A : Type 0} (may_refuse : Type 0) (reads : Runs Mark R) where
+  abbrev pub ReadsSome : ReadToEndFuture R A → ReadToEndFuture R A → Type 0
+  ReadsSome =
+      TakesBytes (λ x. x.reader.now) front_of (λ x. appends may_refuse x.start)
+      (λ x y. appending.Stays x y × (y.filled ≤ length y.buf.now.items)) reads
+
+  -- the answer, before the room behind what was read is cut off
+  pub record Answers (x : ReadToEndFuture R A) (a : Poll (Result ℕ Error)) (y : ReadToEndFuture R A) : Type 0 where
+    pub gathered : Gathered (appends may_refuse x.start) reads x.reader.now (front_of x) (a ∷ []) y.reader.now (front_of y)
+    pub stays : appending.Stays x y

@@ -1,0 +1,12 @@
+-- The turns of `write_all`: one that goes on is a write that took some bytes.
+use Rattle.std.specs.Prelude.{◌≡◌, ◌<◌, ℕ, List, [], ◌∷◌, ◌++◌, length}
+use Rattle.lite_io_base.specs.Runs.{Runs}
+use Rattle.lite_io_base.specs.Takings.{Taking}
+use Rattle.lite_write.specs.declared.write_all.WriteAllFuture.{WriteAllFuture}
+
+pub record WritesSome {W : Type 0} (writes : Runs Taking W) (x y : WriteAllFuture W) : Type 0 where
+  pub taken : List ℕ
+  pub some : 0 < length taken
+  pub came : writes x.writer.now (Taking.wrote taken ∷ []) y.writer.now
+  pub front : x.buf.now ≡ taken ++ y.buf.now
+  pub stays : y.writer ≡ record x.writer { now = y.writer.now }
