@@ -1,8 +1,11 @@
 //! Futures: what makes them, and what every future can be combined by.
-ghost use Rattle.std.specs.Prelude.{◌≡◌};
+ghost use Rattle.std.specs.Prelude.{◌≡◌, IfOk, List};
+ghost use Rattle.futures.specs.declared.task.Poll.{Poll};
+ghost use Rattle.lite_base.specs.Future.Finishes.{Finishes};
+ghost use Rattle.lite_views.specs.Views.{Seen, Waited};
 
 pub use lite_base::Future;
-pub use lite_base::future::block_on::{BlockOn, block_on};
+pub use lite_base::future::block_on::BlockOn;
 pub use lite_base::future::make::{
     fuse, or, pending, poll_fn, poll_once, race, race_with_seed, ready, try_zip, yield_now, zip,
 };
@@ -10,6 +13,21 @@ pub use lite_base::future::{
     Fuse, Or, Pending, PollFn, PollOnce, Race, Ready, TryZip, YieldNow, Zip,
 };
 use rand_core::Rng;
+use std::alloc::{AllocError, AllocGlobal};
+use std::random::RandomSource;
+use std::sync::Wait;
+
+/// Waits on this thread for a future, and answers its value. It may wait for ever.
+pub fn block_on<R, F>(rt: &R, future: F) -> Result<F::Output, AllocError>
+where
+    R: Wait + RandomSource + AllocGlobal,
+    F: Future + Drop,
+    requires { F.can_poll future }
+    ensures gave { IfOk result (λ value. (ins : List (Poll F.Output)) × Finishes F.run future ins value) }
+    ensures waited { Seen future result × Waited F.run future result }
+{
+    lite_base::future::block_on::block_on(rt, future)
+}
 
 /// What every future can be combined by. Ported from `src/future.rs`, `FutureExt`.
 pub trait FutureExt: Future {

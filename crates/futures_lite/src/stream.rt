@@ -1,5 +1,22 @@
 //! Streams: sources, and what every stream can be adapted by.
-ghost use Rattle.std.specs.Prelude.{◌≡◌, ◌<◌, [], IfSome, IsSome, MatchResult, None, Some, false};
+ghost use Rattle.std.specs.Prelude.{◌≡◌, ◌<◌, ◌≤◌, ◌^◌, ◌++◌, [], List, Bool, IfOk, IfSome, IsSome, MatchResult, None, Option, Some, false, length, map, take, drop};
+ghost use Rattle.std.specs.List.{AllByRecursion, enumerate_from, filter, filter_map, find, fold, list_all, list_any, prefix_len, slice_get, zip};
+ghost use Rattle.std.specs.Iterator.{ActsAs, ActsAsAt, ActsAsOnTwo};
+ghost use Rattle.std.specs.Iterator.Runs.{CallKeepsClosure};
+ghost use Rattle.std.specs.Fn.{CalledAt};
+ghost use Rattle.std.specs.declared.alloc.AllocError.{AllocError};
+ghost use denote.Ref.{Bor};
+ghost use Rattle.lite_base.specs.Calling.{Calls};
+ghost use Rattle.lite_stream.specs.EachItem.{MayCallEach};
+ghost use Rattle.lite_sift.specs.Filter.{Filters};
+ghost use Rattle.lite_sift.specs.Skip.{SkipsFirst};
+ghost use Rattle.lite_sift.specs.SkipWhile.{SkipsWhile};
+ghost use Rattle.lite_sift.specs.StepBy.{StepsBy};
+ghost use Rattle.lite_stream.specs.TakeWhile.{TakesWhile};
+ghost use Rattle.lite_merge.specs.Zip.{Zips};
+ghost use Rattle.lite_views.specs.Lists.{map_while, step_from};
+ghost use Rattle.lite_views.specs.Views.{Fronts, Lists, ListsAs, Seen, ValueHolds};
+ghost use Rattle.lite_views.specs.Futures.{CountRuns, FoldRuns};
 ghost use Rattle.lite_cycle.specs.Cycle.{CycleOf};
 ghost use Rattle.lite_flatten.specs.declared.chain.Part.TheVariants.{First};
 
@@ -32,6 +49,16 @@ pub use lite_source::{
 use lite_stream::make;
 pub use lite_stream::{Copied, Enumerate, Fuse, Inspect, Map, MapWhile, Scan, Take, TakeWhile};
 use rand_core::Rng;
+use std::vec::IntoIter;
+
+/// The stream of the items of a vector: `iter`, with its items by a list.
+pub fn iter_vec<T: Drop>(items: Vec<T>) -> Iter<IntoIter<T>>
+    ensures fronts { Fronts ⟦<Iter<IntoIter<T>> as Stream>⟧.run result items.items }
+    ensures small { length items.items < 2 ^ 64 }
+    ensures lists { ListsAs ⟦<Iter<IntoIter<T>> as Stream>⟧.run result items.items }
+{
+    iter(items)
+}
 
 /// What every stream can be adapted and consumed by. Ported from `src/stream.rs`, `StreamExt`.
 ///
@@ -43,7 +70,10 @@ pub trait StreamExt: Stream {
     where
         Self: Sized,
         F: FnMut(Self::Item) -> U,
-        ensures { result ≡ record { stream = self; f = f } }
+        ensures parts { result ≡ record { stream = self; f = f } }
+        ensures may { (xs : List Self.Item) → Fronts Self.run self xs → AllByRecursion (λ x. F.FnMut.pre f (x, tt)) xs → CallKeepsClosure F.FnMut f
+            → Seen self xs × MayCallEach Self.run F.FnMut result.stream result.f }
+        ensures lists { (h : Self.Item → U) (xs : List Self.Item) → Lists Self.run self xs → ActsAs F.FnMut f h → ListsAs ⟦<Map<Self, F> as Stream>⟧.run result (map h xs) }
     {
         make::map(self, f)
     }
@@ -54,7 +84,8 @@ pub trait StreamExt: Stream {
     where
         Self: Counted + Sized,
         P: FnMut(&Self::Item) -> bool,
-        ensures { result ≡ record { stream = self; predicate = predicate } }
+        ensures parts { result ≡ record { stream = self; predicate = predicate } }
+        ensures lists { (test : Self.Item → Bool) (xs : List Self.Item) → Lists Self.run self xs → ActsAsAt P.FnMut predicate test → ListsAs (Filters Self.run (CalledAt P.FnMut)) result (filter test xs) × (length (filter test xs) ≤ length xs) }
     {
         lite_sift::make::filter(self, predicate)
     }
@@ -100,7 +131,9 @@ pub trait StreamExt: Stream {
     where
         Self: Counted + Sized,
         F: FnMut(Self::Item) -> Option<T>,
-        ensures { result ≡ record { stream = self; f = f } }
+        ensures parts { result ≡ record { stream = self; f = f } }
+        ensures lists { (h : Self.Item → Option T) (xs : List Self.Item) → Lists Self.run self xs → ActsAs F.FnMut f h
+            → ListsAs ⟦<FilterMap<Self, F> as Stream>⟧.run result (filter_map h xs) }
     {
         lite_sift::make::filter_map(self, f)
     }
@@ -109,7 +142,8 @@ pub trait StreamExt: Stream {
     final fn take(self, n: usize) -> Take<Self>
     where
         Self: Sized,
-        ensures { result ≡ record { stream = self; n = n } }
+        ensures parts { result ≡ record { stream = self; n = n } }
+        ensures lists { (xs : List Self.Item) → Lists Self.run self xs → ListsAs ⟦<Take<Self> as Stream>⟧.run result (take n xs) }
     {
         make::take(self, n)
     }
@@ -120,7 +154,9 @@ pub trait StreamExt: Stream {
     where
         Self: Sized,
         P: FnMut(&Self::Item) -> bool,
-        ensures { result ≡ record { stream = self; predicate = predicate } }
+        ensures parts { result ≡ record { stream = self; predicate = predicate } }
+        ensures lists { (test : Self.Item → Bool) (xs : List Self.Item) → Lists Self.run self xs → ActsAsAt P.FnMut predicate test
+            → ListsAs (TakesWhile Self.run (CalledAt P.FnMut)) result (take (prefix_len test xs) xs) }
     {
         make::take_while(self, predicate)
     }
@@ -131,7 +167,9 @@ pub trait StreamExt: Stream {
     where
         Self: Sized,
         F: FnMut(Self::Item) -> Option<B>,
-        ensures { result ≡ record { stream = self; f = f } }
+        ensures parts { result ≡ record { stream = self; f = f } }
+        ensures lists { (h : Self.Item → Option B) (xs : List Self.Item) → Lists Self.run self xs → ActsAs F.FnMut f h
+            → ListsAs ⟦<MapWhile<Self, F> as Stream>⟧.run result (map_while h xs) }
     {
         make::map_while(self, f)
     }
@@ -140,7 +178,8 @@ pub trait StreamExt: Stream {
     final fn skip(self, n: usize) -> Skip<Self>
     where
         Self: Sized,
-        ensures { result ≡ record { stream = self; n = n } }
+        ensures parts { result ≡ record { stream = self; n = n } }
+        ensures lists { (xs : List Self.Item) → Lists Self.run self xs → ListsAs (SkipsFirst Self.run) result (drop n xs) }
     {
         lite_sift::make::skip(self, n)
     }
@@ -151,7 +190,9 @@ pub trait StreamExt: Stream {
     where
         Self: Counted + Sized,
         P: FnMut(&Self::Item) -> bool,
-        ensures { result ≡ record { stream = self; predicate = Some predicate } }
+        ensures parts { result ≡ record { stream = self; predicate = Some predicate } }
+        ensures lists { (test : Self.Item → Bool) (xs : List Self.Item) → Lists Self.run self xs → ActsAsAt P.FnMut predicate test
+            → ListsAs (SkipsWhile Self.run (CalledAt P.FnMut)) result (drop (prefix_len test xs) xs) }
     {
         lite_sift::make::skip_while(self, predicate)
     }
@@ -161,7 +202,8 @@ pub trait StreamExt: Stream {
     where
         Self: Sized,
         requires { 0 < step }
-        ensures { result ≡ record { stream = self; step = step; i = 0 } }
+        ensures parts { result ≡ record { stream = self; step = step; i = 0 } }
+        ensures lists { (xs : List Self.Item) → Lists Self.run self xs → ListsAs (StepsBy Self.run) result (step_from step 0 xs) }
     {
         lite_sift::make::step_by(self, step)
     }
@@ -171,7 +213,8 @@ pub trait StreamExt: Stream {
     where
         Self: Sized,
         U: Stream<Item = Self::Item>,
-        ensures { result ≡ record { first = self; second = other; part = First } }
+        ensures parts { result ≡ record { first = self; second = other; part = First } }
+        ensures lists { (xs ys : List Self.Item) → Lists Self.run self xs → Lists U.run other ys → ListsAs ⟦<Chain<Self, U> as Stream>⟧.run result (xs ++ ys) }
     {
         lite_flatten::make::chain(self, other)
     }
@@ -182,7 +225,8 @@ pub trait StreamExt: Stream {
     where
         Self: Sized,
         U: Stream,
-        ensures { result ≡ record { item_slot = None; first = self; second = other } }
+        ensures parts { result ≡ record { item_slot = None; first = self; second = other } }
+        ensures lists { (xs : List Self.Item) (ys : List U.Item) → Lists Self.run self xs → Lists U.run other ys → ListsAs (Zips Self.run U.run) result (zip xs ys) }
     {
         lite_merge::make::zip(self, other)
     }
@@ -250,7 +294,8 @@ pub trait StreamExt: Stream {
     where
         Self: Stream<Item = &'a T> + Sized,
         T: Copy,
-        ensures { result ≡ record { stream = self } }
+        ensures parts { result ≡ record { stream = self } }
+        ensures lists { (xs : List (Bor T)) → Lists Self.run self xs → ListsAs ⟦<Copied<Self> as Stream>⟧.run result (map (λ x. x.now) xs) }
     {
         make::copied(self)
     }
@@ -270,7 +315,8 @@ pub trait StreamExt: Stream {
     final fn fuse(self) -> Fuse<Self>
     where
         Self: Sized,
-        ensures { result ≡ record { stream = self; done = false } }
+        ensures parts { result ≡ record { stream = self; done = false } }
+        ensures lists { (xs : List Self.Item) → Lists Self.run self xs → ListsAs ⟦<Fuse<Self> as Stream>⟧.run result xs }
     {
         make::fuse(self)
     }
@@ -279,7 +325,9 @@ pub trait StreamExt: Stream {
     final fn enumerate(self) -> Enumerate<Self>
     where
         Self: Sized,
-        ensures { result ≡ record { stream = self; i = 0 } }
+        ensures parts { result ≡ record { stream = self; i = 0 } }
+        ensures lists { (xs : List Self.Item) → Lists Self.run self xs → length xs < 2 ^ 64
+            → ListsAs ⟦<Enumerate<Self> as Stream>⟧.run result (enumerate_from 0 xs) }
     {
         make::enumerate(self)
     }
@@ -289,16 +337,18 @@ pub trait StreamExt: Stream {
     where
         Self: Sized,
         F: FnMut(&Self::Item),
-        ensures { result ≡ record { stream = self; f = f } }
+        ensures parts { result ≡ record { stream = self; f = f } }
+        ensures lists { (xs : List Self.Item) → Lists Self.run self xs → ListsAs ⟦<Inspect<Self, F> as Stream>⟧.run result xs }
     {
         make::inspect(self, f)
     }
 
     /// The future of the next item, and `None` where the stream ends. It takes any stream, and polls it once a poll.
-    final fn next(&mut self) -> NextFuture<'_, Self>
+    final fn next<'a>(&'a mut self) -> NextFuture<'a, Self>
     where
         Self: Sized,
-        ensures { result ≡ record { stream = self.entry; folder = record {} } }
+        ensures parts { result ≡ record { stream = self.entry; folder = record {} } }
+        ensures value { (xs : List Self.Item) → Lists Self.run self.old xs → (slice_get xs 0 ≡ slice_get xs 0) × ValueHolds AllocError ⟦<NextFuture<'a, Self> as Future>⟧.run result (λ v. v ≡ slice_get xs 0) }
     {
         lite_consume::make::next(self)
     }
@@ -317,7 +367,8 @@ pub trait StreamExt: Stream {
     final fn count(self) -> CountFuture<Self>
     where
         Self: Counted + Sized,
-        ensures { result ≡ record { stream = self; folder = record { count = 0 } } }
+        ensures parts { result ≡ record { stream = self; folder = record { count = 0 } } }
+        ensures value { (xs : List Self.Item) → Lists Self.run self xs → length xs < 2 ^ 64 → (length xs ≡ length xs) × ValueHolds AllocError (CountRuns Self.run) result (λ v. v ≡ length xs) }
     {
         lite_consume::make::count(self)
     }
@@ -327,7 +378,8 @@ pub trait StreamExt: Stream {
     where
         Self: Counted + Sized,
         F: FnMut(T, Self::Item) -> T,
-        ensures { result ≡ record { stream = self; folder = record { f = f; acc = Some init } } }
+        ensures parts { result ≡ record { stream = self; folder = record { f = f; acc = Some init } } }
+        ensures value { (h : T → Self.Item → T) (xs : List Self.Item) → Lists Self.run self xs → ActsAsOnTwo F.FnMut f h → (fold h init xs ≡ fold h init xs) × ValueHolds AllocError (FoldRuns Self.run F.FnMut) result (λ v. v ≡ fold h init xs) }
     {
         lite_consume::make::fold(self, init, f)
     }
@@ -394,11 +446,12 @@ pub trait StreamExt: Stream {
     }
 
     /// The future of whether `predicate` accepts each item; the first one that it rejects decides.
-    final fn all<P>(&mut self, predicate: P) -> AllFuture<'_, Self, P>
+    final fn all<'a, P>(&'a mut self, predicate: P) -> AllFuture<'a, Self, P>
     where
         Self: Counted + Sized,
         P: FnMut(Self::Item) -> bool,
-        ensures { result ≡ record { stream = self.entry; folder = record { predicate = predicate } } }
+        ensures parts { result ≡ record { stream = self.entry; folder = record { predicate = predicate } } }
+        ensures value { (test : Self.Item → Bool) (xs : List Self.Item) → Lists Self.run self.old xs → ActsAs P.FnMut predicate test → (list_all test xs ≡ list_all test xs) × ValueHolds AllocError ⟦<AllFuture<'a, Self, P> as Future>⟧.run result (λ v. v ≡ list_all test xs) }
     {
         lite_consume::make::all(self, predicate)
     }
@@ -442,6 +495,7 @@ pub trait StreamExt: Stream {
         ensures stream { result.stream ≡ self }
         ensures open { IsSome result.folder.collection }
         ensures empty { IfSome result.folder.collection (λ c. C.holds c []) }
+        ensures value { (xs : List Self.Item) → Lists Self.run self xs → Seen self xs × ValueHolds AllocError ⟦<CollectFuture<Self, C> as Future>⟧.run result (λ v. IfOk v (λ c. C.holds c xs)) }
     {
         lite_gather::make::collect(self, alloc)
     }

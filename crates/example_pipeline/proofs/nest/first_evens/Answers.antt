@@ -21,8 +21,8 @@ returns c =
     (λ p q x called. ne_eqb (x % 2) 0 (λ even. search (rules, even))) _ _ _ left.ins taken.ins triples left.turned in
     let firsts = cut_front _ _ _ taken.ins ran.0 evens taken.turned in
     -- the nest began with the numbers and with the count
-    let mapping = ap (λ m. into_iter_items m.stream.iter) c.map-tripled.ensures ∙ c.iter.ensures.0 in
-    let filtering = ap (λ m. into_iter_items m.stream.stream.iter) c.filter.ensures ∙ mapping in
-    let numbers = ap (λ m. into_iter_items m.stream.stream.stream.iter) c.take-evens.ensures ∙ filtering in
-    let count = ap (λ m. m.n) c.take-evens.ensures in
+    let mapping = ap (λ m. into_iter_items m.stream.iter) c.map-tripled.ensures.parts ∙ c.iter.ensures.0 in
+    let filtering = ap (λ m. into_iter_items m.stream.stream.iter) c.filter.ensures.parts ∙ mapping in
+    let numbers = ap (λ m. into_iter_items m.stream.stream.stream.iter) c.take-evens.ensures.parts ∙ filtering in
+    let count = ap (λ m. m.n) c.take-evens.ensures.parts in
     (ran.0, ran.1, ran.3, rw (numbers, count) at firsts)

@@ -9,8 +9,8 @@ pub returns : goal.returns
 returns c =
     let ran = c.run.ensures.ran in
     let mapped = ran.2 in
-    let start = ap (λ m. into_iter_items m.stream.iter) c.map-tripled.ensures ∙ c.iter.ensures.0 in
-    let count = ap (λ m. into_iter_len m.stream.iter) c.map-tripled.ensures ∙ c.iter.ensures.1 in
+    let start = ap (λ m. into_iter_items m.stream.iter) c.map-tripled.ensures.parts ∙ c.iter.ensures.0 in
+    let count = ap (λ m. into_iter_len m.stream.iter) c.map-tripled.ensures.parts ∙ c.iter.ensures.1 in
     on_ok c.run.result
     (λ polled.
     let same = replaced_length _ _ _ mapped.ins ran.0 mapped.turned in

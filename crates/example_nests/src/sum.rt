@@ -1,0 +1,34 @@
+ghost use Rattle.std.specs.Prelude.{◌≡◌, ◌==◌, ◌%◌, ◌*◌, ◌+◌, ◌^◌, IfOk, map};
+ghost use Rattle.std.specs.List.{filter, fold};
+
+use futures_lite::StreamExt;
+use futures_lite::future::block_on;
+use futures_lite::stream::iter_vec as iter;
+use std::alloc::{AllocError, AllocGlobal};
+use std::random::RandomSource;
+use std::sync::Wait;
+
+/// The sum of the doubled items.
+pub fn doubled_sum<R>(rt: &R, items: Vec<u32>) -> Result<u64, AllocError>
+where
+    R: Wait + RandomSource + AllocGlobal,
+    ensures { IfOk result (λ v. v ≡ fold (λ a x. (a + x) % 2 ^ 64) 0 (map (λ x. x * 2) items.items)) }
+{
+    let doubled = iter(items).map(|x: u32| x as u64 * 2);
+    block_on(rt, doubled.fold(0u64, |a: u64, x: u64| a.wrapping_add(x)))
+}
+
+/// The sum of the doubled even items, in one expression.
+pub fn total<R>(rt: &R, items: Vec<u32>) -> Result<u64, AllocError>
+where
+    R: Wait + RandomSource + AllocGlobal,
+    ensures { IfOk result (λ v. v ≡ fold (λ a x. (a + x) % 2 ^ 64) 0 (map (λ x. x * 2) (filter (λ x. x % 2 == 0) items.items))) }
+{
+    block_on(
+        rt,
+        iter(items)
+            .filter(|x| *x % 2 == 0)
+            .map(|x: u32| x as u64 * 2)
+            .fold(0u64, |a: u64, x: u64| a.wrapping_add(x)),
+    )
+}

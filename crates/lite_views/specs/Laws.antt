@@ -1,0 +1,4 @@
+pub mod Adapting
+pub mod Asking
+pub mod Consuming
+pub mod Sources

@@ -1,0 +1,5 @@
+pub mod Futures
+pub mod Laws
+pub mod Lists
+pub mod Trying
+pub mod Views
