@@ -1,6 +1,8 @@
 //! Streams: sources, and what every stream can be adapted by.
-ghost use Rattle.std.specs.Prelude.{◌≡◌, ◌<◌, ◌≤◌, ◌^◌, ◌++◌, [], List, Bool, IfOk, IfSome, IsSome, MatchResult, None, Option, Some, false, length, map, take, drop};
-ghost use Rattle.std.specs.List.{AllByRecursion, enumerate_from, filter, filter_map, find, fold, list_all, list_any, prefix_len, slice_get, zip};
+ghost use Rattle.std.specs.Prelude.{◌≡◌, ◌<◌, ◌≤◌, ◌^◌, ◌++◌, [], List, Bool, IfOk, IfSome, IsSome, MatchResult, None, Option, Result};
+ghost use Rattle.std.specs.Prelude.{Some, false, length, map, not, take, drop};
+ghost use Rattle.std.specs.List.{AllByRecursion, enumerate_from, filter, filter_map, find, fold, last_or, list_all, list_any, position, prefix_len};
+ghost use Rattle.std.specs.List.{slice_get, zip};
 ghost use Rattle.std.specs.Iterator.{ActsAs, ActsAsAt, ActsAsOnTwo};
 ghost use Rattle.std.specs.Iterator.Runs.{CallKeepsClosure};
 ghost use Rattle.std.specs.Fn.{CalledAt};
@@ -15,8 +17,10 @@ ghost use Rattle.lite_sift.specs.StepBy.{StepsBy};
 ghost use Rattle.lite_stream.specs.TakeWhile.{TakesWhile};
 ghost use Rattle.lite_merge.specs.Zip.{Zips};
 ghost use Rattle.lite_views.specs.Lists.{map_while, step_from};
-ghost use Rattle.lite_views.specs.Views.{Fronts, Lists, ListsAs, Seen, ValueHolds};
-ghost use Rattle.lite_views.specs.Futures.{CountRuns, FoldRuns};
+ghost use Rattle.lite_views.specs.Views.{Fronts, Lists, ListsAs, Seen, ValueHolds, ValueIs};
+ghost use Rattle.lite_views.specs.Futures.{CountRuns, FindRuns, FoldRuns, LastRuns, NthRuns, TryFoldRuns};
+ghost use Rattle.lite_views.specs.Trying.{TriesCollect, first_error, try_fold};
+ghost use Rattle.std.specs.Option.{option_transpose};
 ghost use Rattle.lite_cycle.specs.Cycle.{CycleOf};
 ghost use Rattle.lite_flatten.specs.declared.chain.Part.TheVariants.{First};
 
@@ -73,7 +77,8 @@ pub trait StreamExt: Stream {
         ensures parts { result ≡ record { stream = self; f = f } }
         ensures may { (xs : List Self.Item) → Fronts Self.run self xs → AllByRecursion (λ x. F.FnMut.pre f (x, tt)) xs → CallKeepsClosure F.FnMut f
             → Seen self xs × MayCallEach Self.run F.FnMut result.stream result.f }
-        ensures lists { (h : Self.Item → U) (xs : List Self.Item) → Lists Self.run self xs → ActsAs F.FnMut f h → ListsAs ⟦<Map<Self, F> as Stream>⟧.run result (map h xs) }
+        ensures lists { (h : Self.Item → U) (xs : List Self.Item) → Lists Self.run self xs → ActsAs F.FnMut f h
+            → ListsAs ⟦<Map<Self, F> as Stream>⟧.run result (map h xs) }
     {
         make::map(self, f)
     }
@@ -85,7 +90,8 @@ pub trait StreamExt: Stream {
         Self: Counted + Sized,
         P: FnMut(&Self::Item) -> bool,
         ensures parts { result ≡ record { stream = self; predicate = predicate } }
-        ensures lists { (test : Self.Item → Bool) (xs : List Self.Item) → Lists Self.run self xs → ActsAsAt P.FnMut predicate test → ListsAs (Filters Self.run (CalledAt P.FnMut)) result (filter test xs) × (length (filter test xs) ≤ length xs) }
+        ensures lists { (test : Self.Item → Bool) (xs : List Self.Item) → Lists Self.run self xs → ActsAsAt P.FnMut predicate test
+            → ListsAs (Filters Self.run (CalledAt P.FnMut)) result (filter test xs) × (length (filter test xs) ≤ length xs) }
     {
         lite_sift::make::filter(self, predicate)
     }
@@ -214,7 +220,8 @@ pub trait StreamExt: Stream {
         Self: Sized,
         U: Stream<Item = Self::Item>,
         ensures parts { result ≡ record { first = self; second = other; part = First } }
-        ensures lists { (xs ys : List Self.Item) → Lists Self.run self xs → Lists U.run other ys → ListsAs ⟦<Chain<Self, U> as Stream>⟧.run result (xs ++ ys) }
+        ensures lists { (xs ys : List Self.Item) → Lists Self.run self xs → Lists U.run other ys
+            → ListsAs ⟦<Chain<Self, U> as Stream>⟧.run result (xs ++ ys) }
     {
         lite_flatten::make::chain(self, other)
     }
@@ -226,7 +233,8 @@ pub trait StreamExt: Stream {
         Self: Sized,
         U: Stream,
         ensures parts { result ≡ record { item_slot = None; first = self; second = other } }
-        ensures lists { (xs : List Self.Item) (ys : List U.Item) → Lists Self.run self xs → Lists U.run other ys → ListsAs (Zips Self.run U.run) result (zip xs ys) }
+        ensures lists { (xs : List Self.Item) (ys : List U.Item) → Lists Self.run self xs → Lists U.run other ys
+            → ListsAs (Zips Self.run U.run) result (zip xs ys) }
     {
         lite_merge::make::zip(self, other)
     }
@@ -348,17 +356,19 @@ pub trait StreamExt: Stream {
     where
         Self: Sized,
         ensures parts { result ≡ record { stream = self.entry; folder = record {} } }
-        ensures value { (xs : List Self.Item) → Lists Self.run self.old xs → (slice_get xs 0 ≡ slice_get xs 0) × ValueHolds AllocError ⟦<NextFuture<'a, Self> as Future>⟧.run result (λ v. v ≡ slice_get xs 0) }
+        ensures value { (xs : List Self.Item) → Lists Self.run self.old xs → ValueIs ⟦<NextFuture<'a, Self> as Future>⟧.run result (slice_get xs 0) }
     {
         lite_consume::make::next(self)
     }
 
     /// The future of what the next item holds, or its error, and `Ok(None)` where the stream ends. It takes any stream of
     /// Results, and polls it once a poll.
-    final fn try_next<T, E>(&mut self) -> TryNextFuture<'_, Self>
+    final fn try_next<'a, T, E>(&'a mut self) -> TryNextFuture<'a, Self>
     where
         Self: Stream<Item = Result<T, E>> + Sized,
-        ensures { result ≡ record { stream = self.entry; folder = record {} } }
+        ensures parts { result ≡ record { stream = self.entry; folder = record {} } }
+        ensures value { (xs : List (Result T E)) → Lists Self.run self.old xs
+            → ValueIs ⟦<TryNextFuture<'a, Self> as Future>⟧.run result (option_transpose (slice_get xs 0)) }
     {
         lite_consume::make::try_next(self)
     }
@@ -368,7 +378,7 @@ pub trait StreamExt: Stream {
     where
         Self: Counted + Sized,
         ensures parts { result ≡ record { stream = self; folder = record { count = 0 } } }
-        ensures value { (xs : List Self.Item) → Lists Self.run self xs → length xs < 2 ^ 64 → (length xs ≡ length xs) × ValueHolds AllocError (CountRuns Self.run) result (λ v. v ≡ length xs) }
+        ensures value { (xs : List Self.Item) → Lists Self.run self xs → length xs < 2 ^ 64 → ValueIs (CountRuns Self.run) result (length xs) }
     {
         lite_consume::make::count(self)
     }
@@ -379,7 +389,8 @@ pub trait StreamExt: Stream {
         Self: Counted + Sized,
         F: FnMut(T, Self::Item) -> T,
         ensures parts { result ≡ record { stream = self; folder = record { f = f; acc = Some init } } }
-        ensures value { (h : T → Self.Item → T) (xs : List Self.Item) → Lists Self.run self xs → ActsAsOnTwo F.FnMut f h → (fold h init xs ≡ fold h init xs) × ValueHolds AllocError (FoldRuns Self.run F.FnMut) result (λ v. v ≡ fold h init xs) }
+        ensures value { (h : T → Self.Item → T) (xs : List Self.Item) → Lists Self.run self xs → ActsAsOnTwo F.FnMut f h
+            → ValueIs (FoldRuns Self.run F.FnMut) result (fold h init xs) }
     {
         lite_consume::make::fold(self, init, f)
     }
@@ -390,7 +401,9 @@ pub trait StreamExt: Stream {
     where
         Self: OkCounted<Ok = T, Err = E> + Sized,
         F: FnMut(B, T) -> Result<B, E>,
-        ensures { result ≡ record { stream = self.entry; folder = record { f = f; acc = Some init } } }
+        ensures parts { result ≡ record { stream = self.entry; folder = record { f = f; acc = Some init } } }
+        ensures value { (h : B → T → Result B E) (xs : List (Result T E)) → Lists Self.run self.old xs → ActsAsOnTwo F.FnMut f h
+            → ValueIs (TryFoldRuns Self.run F.FnMut) result (try_fold h init xs) }
     {
         lite_consume::make::try_fold(self, init, f)
     }
@@ -400,7 +413,8 @@ pub trait StreamExt: Stream {
     final fn nth(&mut self, n: usize) -> NthFuture<'_, Self>
     where
         Self: Sized,
-        ensures { result ≡ record { stream = self.entry; folder = record { n = n } } }
+        ensures parts { result ≡ record { stream = self.entry; folder = record { n = n } } }
+        ensures value { (xs : List Self.Item) → Lists Self.run self.old xs → ValueIs (NthRuns Self.run) result (slice_get xs n) }
     {
         lite_consume::make::nth(self, n)
     }
@@ -409,7 +423,8 @@ pub trait StreamExt: Stream {
     final fn last(self) -> LastFuture<Self>
     where
         Self: Counted + Sized,
-        ensures { result ≡ record { stream = self; folder = record { last = None } } }
+        ensures parts { result ≡ record { stream = self; folder = record { last = None } } }
+        ensures value { (xs : List Self.Item) → Lists Self.run self xs → ValueIs (LastRuns Self.run) result (last_or None xs) }
     {
         lite_consume::make::last(self)
     }
@@ -419,28 +434,34 @@ pub trait StreamExt: Stream {
     where
         Self: Counted + Sized,
         P: FnMut(&Self::Item) -> bool,
-        ensures { result ≡ record { stream = self.entry; folder = record { predicate = predicate } } }
+        ensures parts { result ≡ record { stream = self.entry; folder = record { predicate = predicate } } }
+        ensures value { (test : Self.Item → Bool) (xs : List Self.Item) → Lists Self.run self.old xs → ActsAsAt P.FnMut predicate test
+            → ValueIs (FindRuns Self.run (CalledAt P.FnMut)) result (find test xs) }
     {
         lite_consume::make::find(self, predicate)
     }
 
     /// The future of the first answer of `f` to the items that is not `None`, and `None` where the stream ends before it.
-    final fn find_map<F, B>(&mut self, f: F) -> FindMapFuture<'_, Self, F>
+    final fn find_map<'a, F, B>(&'a mut self, f: F) -> FindMapFuture<'a, Self, F>
     where
         Self: Counted + Sized,
         F: FnMut(Self::Item) -> Option<B>,
-        ensures { result ≡ record { stream = self.entry; folder = record { f = f } } }
+        ensures parts { result ≡ record { stream = self.entry; folder = record { f = f } } }
+        ensures value { (h : Self.Item → Option B) (xs : List Self.Item) → Lists Self.run self.old xs → ActsAs F.FnMut f h
+            → ValueIs ⟦<FindMapFuture<'a, Self, F> as Future>⟧.run result (slice_get (filter_map h xs) 0) }
     {
         lite_consume::make::find_map(self, f)
     }
 
     /// The future of the number of the first item that `predicate` accepts, counted from 0, and `None` where the stream
     /// ends before it. After `usize::MAX` comes 0.
-    final fn position<P>(&mut self, predicate: P) -> PositionFuture<'_, Self, P>
+    final fn position<'a, P>(&'a mut self, predicate: P) -> PositionFuture<'a, Self, P>
     where
         Self: Counted + Sized,
         P: FnMut(Self::Item) -> bool,
-        ensures { result ≡ record { stream = self.entry; folder = record { predicate = predicate; index = 0 } } }
+        ensures parts { result ≡ record { stream = self.entry; folder = record { predicate = predicate; index = 0 } } }
+        ensures value { (test : Self.Item → Bool) (xs : List Self.Item) → Lists Self.run self.old xs → ActsAs P.FnMut predicate test
+            → length xs < 2 ^ 64 → ValueIs ⟦<PositionFuture<'a, Self, P> as Future>⟧.run result (position test xs) }
     {
         lite_consume::make::position(self, predicate)
     }
@@ -451,17 +472,20 @@ pub trait StreamExt: Stream {
         Self: Counted + Sized,
         P: FnMut(Self::Item) -> bool,
         ensures parts { result ≡ record { stream = self.entry; folder = record { predicate = predicate } } }
-        ensures value { (test : Self.Item → Bool) (xs : List Self.Item) → Lists Self.run self.old xs → ActsAs P.FnMut predicate test → (list_all test xs ≡ list_all test xs) × ValueHolds AllocError ⟦<AllFuture<'a, Self, P> as Future>⟧.run result (λ v. v ≡ list_all test xs) }
+        ensures value { (test : Self.Item → Bool) (xs : List Self.Item) → Lists Self.run self.old xs → ActsAs P.FnMut predicate test
+            → ValueIs ⟦<AllFuture<'a, Self, P> as Future>⟧.run result (list_all test xs) }
     {
         lite_consume::make::all(self, predicate)
     }
 
     /// The future of whether `predicate` accepts an item; the first one that it accepts decides.
-    final fn any<P>(&mut self, predicate: P) -> AnyFuture<'_, Self, P>
+    final fn any<'a, P>(&'a mut self, predicate: P) -> AnyFuture<'a, Self, P>
     where
         Self: Counted + Sized,
         P: FnMut(Self::Item) -> bool,
-        ensures { result ≡ record { stream = self.entry; folder = record { predicate = predicate } } }
+        ensures parts { result ≡ record { stream = self.entry; folder = record { predicate = predicate } } }
+        ensures value { (test : Self.Item → Bool) (xs : List Self.Item) → Lists Self.run self.old xs → ActsAs P.FnMut predicate test
+            → ValueIs ⟦<AnyFuture<'a, Self, P> as Future>⟧.run result (list_any test xs) }
     {
         lite_consume::make::any(self, predicate)
     }
@@ -477,11 +501,13 @@ pub trait StreamExt: Stream {
     }
 
     /// The future that calls `f` with each item, up to the end or the first error that `f` answers, which is the value.
-    final fn try_for_each<F, E>(&mut self, f: F) -> TryForEachFuture<'_, Self, F>
+    final fn try_for_each<'a, F, E>(&'a mut self, f: F) -> TryForEachFuture<'a, Self, F>
     where
         Self: Counted + Sized,
         F: FnMut(Self::Item) -> Result<(), E>,
-        ensures { result ≡ record { stream = self.entry; folder = record { f = f } } }
+        ensures parts { result ≡ record { stream = self.entry; folder = record { f = f } } }
+        ensures value { (h : Self.Item → Result (Unit {0}) E) (xs : List Self.Item) → Lists Self.run self.old xs → ActsAs F.FnMut f h
+            → ValueIs ⟦<TryForEachFuture<'a, Self, F> as Future>⟧.run result (first_error (map h xs)) }
     {
         lite_consume::make::try_for_each(self, f)
     }
@@ -495,7 +521,8 @@ pub trait StreamExt: Stream {
         ensures stream { result.stream ≡ self }
         ensures open { IsSome result.folder.collection }
         ensures empty { IfSome result.folder.collection (λ c. C.holds c []) }
-        ensures value { (xs : List Self.Item) → Lists Self.run self xs → Seen self xs × ValueHolds AllocError ⟦<CollectFuture<Self, C> as Future>⟧.run result (λ v. IfOk v (λ c. C.holds c xs)) }
+        ensures value { (xs : List Self.Item) → Lists Self.run self xs
+            → Seen self xs × ValueHolds AllocError ⟦<CollectFuture<Self, C> as Future>⟧.run result (λ v. IfOk v (λ c. C.holds c xs)) }
     {
         lite_gather::make::collect(self, alloc)
     }
@@ -509,6 +536,8 @@ pub trait StreamExt: Stream {
         ensures stream { result.stream ≡ self }
         ensures open { IsSome result.folder.items }
         ensures empty { IfSome result.folder.items (λ c. C.holds c []) }
+        ensures value { (xs : List (Result T E)) → Lists Self.run self xs
+            → Seen self xs × ValueHolds AllocError ⟦<TryCollectFuture<Self, C> as Future>⟧.run result (λ v. TriesCollect C.holds xs v) }
     {
         lite_gather::make::try_collect(self, alloc)
     }
@@ -524,6 +553,9 @@ pub trait StreamExt: Stream {
         ensures predicate { result.folder.predicate ≡ predicate }
         ensures open { IsSome result.folder.res }
         ensures empty { IfSome result.folder.res (λ c. B.holds c.0 [] × B.holds c.1 []) }
+        ensures value { (test : Self.Item → Bool) (xs : List Self.Item) → Lists Self.run self xs → ActsAsAt P.FnMut predicate test
+            → Seen self xs × ValueHolds AllocError ⟦<PartitionFuture<Self, P, B> as Future>⟧.run result
+            (λ v. IfOk v (λ c. B.holds c.0 (filter test xs) × B.holds c.1 (filter (λ x. not (test x)) xs))) }
     {
         lite_gather::make::partition(self, alloc, predicate)
     }
@@ -538,6 +570,9 @@ pub trait StreamExt: Stream {
         ensures stream { result.stream ≡ self }
         ensures open { IsSome result.folder.res }
         ensures empty { IfSome result.folder.res (λ c. FromA.holds c.0 [] × FromB.holds c.1 []) }
+        ensures value { (xs : List (A × B)) → Lists Self.run self xs
+            → Seen self xs × ValueHolds AllocError ⟦<UnzipFuture<Self, FromA, FromB> as Future>⟧.run result
+            (λ v. IfOk v (λ c. FromA.holds c.0 (map (λ x. x.0) xs) × FromB.holds c.1 (map (λ x. x.1) xs))) }
     {
         lite_gather::make::unzip(self, alloc)
     }

@@ -25,7 +25,8 @@ use Rattle.lite_consume.specs.declared.try_fold.TryFold.{TryFold}
 abbrev pub CountRuns : {S A : Type 0} → (S → List (Answer A) → S → Type 0) → Consume S Count → List (Poll ℕ) → Consume S Count → Type 0
 CountRuns run = Folds run (fold_of (λ m. m.count) counts)
 
-abbrev pub FoldRuns : {S F T A : Type 0} → (S → List (Answer A) → S → Type 0) → Mut F (T × (A × Unit {0})) T → Consume S (Fold F T) → List (Poll T) → Consume S (Fold F T) → Type 0
+abbrev pub FoldRuns : {S F T A : Type 0} → (S → List (Answer A) → S → Type 0) → Mut F (T × (A × Unit {0})) T → Consume S (Fold F T) → List (Poll T)
+    → Consume S (Fold F T) → Type 0
 FoldRuns run g = Folds run (fold_of (λ m. (m.f, m.acc)) (folds (CallsBoth g)))
 
 abbrev pub LastRuns : {S A : Type 0} → (S → List (Answer A) → S → Type 0) → Consume S (Last A) → List (Poll (Option A)) → Consume S (Last A) → Type 0

@@ -44,12 +44,14 @@ ValueIs run f v = (v ≡ v) × ValueHolds AllocError run f (λ w. w ≡ v)
 abbrev pub ListsAs : {S A : Type 0} → (S → List (Answer A) → S → Type 0) → S → List A → Type 0
 ListsAs {S} {A} run s xs = (xs ≡ xs) × Seen s xs × Lists run s xs
 
-pub value_holds : {F A E : Type 0} (run : F → List (Poll A) → F → Type 0) (f : F) (P : A → Type 0) → ((ins : List (Poll A)) (v : A) → Finishes run f ins v → P v) → ValueHolds E run f P
+pub value_holds : {F A E : Type 0} (run : F → List (Poll A) → F → Type 0) (f : F) (P : A → Type 0)
+    → ((ins : List (Poll A)) (v : A) → Finishes run f ins v → P v) → ValueHolds E run f P
 unfolding Waited
 value_holds run f P to (Ok v) w = (seen f (Ok v), to w.0 v w.1)
 value_holds run f P to (Err e) w = (seen f (Err e), tt)
 
-pub value_is : {F A : Type 0} (run : F → List (Poll A) → F → Type 0) (f : F) (v : A) → ((ins : List (Poll A)) (w : A) → Finishes run f ins w → w ≡ v) → ValueIs run f v
+pub value_is : {F A : Type 0} (run : F → List (Poll A) → F → Type 0) (f : F) (v : A) → ((ins : List (Poll A)) (w : A) → Finishes run f ins w → w ≡ v)
+    → ValueIs run f v
 value_is run f v to = (refl, value_holds run f (λ w. w ≡ v) to)
 
 -- the items that s may ever give, after an end too, are xs from the front on

@@ -1,5 +1,6 @@
 -- The items of an adapter, by those of its source.
-use Rattle.std.proofs.Common.{◌≡◌, ◌≤◌, ◌<◌, ◌==◌, ◌∙◌, ℕ, zero, suc, ◌-◌, ◌+◌, ◌%◌, ◌^◌, Bor, List, [], ◌∷◌, ◌++◌, length, map, take, drop, inl, inr, refl, ap, sym, subst, arith, eqb-true}
+use Rattle.std.proofs.Common.{◌≡◌, ◌≤◌, ◌<◌, ◌==◌, ◌∙◌, ℕ, zero, suc, ◌-◌, ◌+◌, ◌%◌, ◌^◌, Bor, List, [], ◌∷◌, ◌++◌, length, map, take, drop, inl, inr, refl}
+use Rattle.std.proofs.Common.{ap, sym, subst, arith, eqb-true}
 use Rattle.std.proofs.Math.Nat.{mod-add-mod, mod-eq_of_lt, zero-mod}
 use Rattle.std.specs.Prelude.{⊤, Bool, true, false, cond, Option, Some, None}
 use Rattle.std.specs.List.{FoldsTo, cons_option, enumerate_from, filter, filter_map, prefix_len, take_while, zip}
@@ -102,12 +103,15 @@ mapped_fits {F} {A} {B} call h f q acts i o xs e t =
     (λ p r x y l g c. let a = acts x y r (subst (λ z. call z x y r) g c) in (ap (λ z. z ∷ map h l) (sym a.1), a.0)) f q i o xs refl e t
 
 -- `filter`
-pub filtered_fits : {F A : Type 0} (asked : F → A → Bool → F → Type 0) (test : A → Bool) (f q : F) → ((x : A) (b : Bool) (g : F) → asked f x b g → (g ≡ f) × (b ≡ test x))
+pub filtered_fits : {F A : Type 0} (asked : F → A → Bool → F → Type 0) (test : A → Bool) (f q : F)
+    → ((x : A) (b : Bool) (g : F) → asked f x b g → (g ≡ f) × (b ≡ test x))
     → (i o : List (Answer A)) (xs : List A) → Fits i xs → Leaves (Accepts asked) f i o q → Fits o (filter test xs)
 filtered_fits {F} {A} asked test f q acts i o xs e t =
     left_fits (Accepts asked) (λ p. p ≡ f) (λ p. filter test) (λ p g. refl)
     (λ p r x l g c. let a = acts x false r (subst (λ z. asked z x false r) g c) in (ap (λ b. cond b (x ∷ filter test l) (filter test l)) (sym a.1), a.0))
-    (λ p r x y l g c. let a = acts x true r (subst (λ z. asked z x true r) g c.1) in (ap (λ b. cond b (x ∷ filter test l) (filter test l)) (sym a.1) ∙ ap (λ z. z ∷ filter test l) (sym c.0), a.0))
+    (λ p r x y l g c.
+        let a = acts x true r (subst (λ z. asked z x true r) g c.1) in
+        (ap (λ b. cond b (x ∷ filter test l) (filter test l)) (sym a.1) ∙ ap (λ z. z ∷ filter test l) (sym c.0), a.0))
     f q i o xs refl e t
 
 -- `take`
@@ -215,7 +219,8 @@ skipped_fits {A} n m i o xs e t =
     kept p r x y l a b c = rw (a, b, c) refl
 
 -- `skip_while`
-pub skipped_while_fits : {F A : Type 0} (asked : F → A → Bool → F → Type 0) (test : A → Bool) (f : F) (q : Option F) → ((x : A) (b : Bool) (g : F) → asked f x b g → (g ≡ f) × (b ≡ test x))
+pub skipped_while_fits : {F A : Type 0} (asked : F → A → Bool → F → Type 0) (test : A → Bool) (f : F) (q : Option F)
+    → ((x : A) (b : Bool) (g : F) → asked f x b g → (g ≡ f) × (b ≡ test x))
     → (i o : List (Answer A)) (xs : List A) → Fits i xs → Leaves (SkipsUntil asked) (Some f) i o q → Fits o (drop (prefix_len test xs) xs)
 skipped_while_fits {F} {A} asked test f q acts i o xs e t =
     left_fits (SkipsUntil asked) Good made nothing drops gives (Some f) q i o xs refl e t
@@ -252,7 +257,8 @@ skipped_while_fits {F} {A} asked test f q acts i o xs e t =
         subst (λ z. (made (Some p) (x ∷ l) ≡ y ∷ made z l) × Good z) (sym c.1) (first false x l a.1 ∙ ap (λ z. z ∷ l) (sym c.2), tt)
 
 -- `filter_map`
-pub filter_mapped_fits : {F A B : Type 0} (call : F → A → Option B → F → Type 0) (h : A → Option B) (f q : F) → ((x : A) (o : Option B) (g : F) → call f x o g → (g ≡ f) × (o ≡ h x))
+pub filter_mapped_fits : {F A B : Type 0} (call : F → A → Option B → F → Type 0) (h : A → Option B) (f q : F)
+    → ((x : A) (o : Option B) (g : F) → call f x o g → (g ≡ f) × (o ≡ h x))
     → (i : List (Answer A)) (o : List (Answer B)) (xs : List A) → Fits i xs → Leaves call f i o q → Fits o (filter_map h xs)
 filter_mapped_fits {F} {A} {B} call h f q acts i o xs e t =
     left_fits call (λ p. p ≡ f) (λ p. filter_map h) (λ p g. refl)
@@ -261,7 +267,8 @@ filter_mapped_fits {F} {A} {B} call h f q acts i o xs e t =
     f q i o xs refl e t
 
 -- `take_while`
-pub taken_while_fits : {F A : Type 0} (asked : F → A → Bool → F → Type 0) (test : A → Bool) (f q : F) → ((x : A) (b : Bool) (g : F) → asked f x b g → (g ≡ f) × (b ≡ test x))
+pub taken_while_fits : {F A : Type 0} (asked : F → A → Bool → F → Type 0) (test : A → Bool) (f q : F)
+    → ((x : A) (b : Bool) (g : F) → asked f x b g → (g ≡ f) × (b ≡ test x))
     → (i o : List (Answer A)) (xs : List A) → Fits i xs → Exchanges (Accepts asked) f i o q → Fits o (take_while test xs)
 taken_while_fits {F} {A} asked test f q acts i o xs e t =
     exchanged_fits (Accepts asked) (λ p. p ≡ f) (λ p. take_while test) (λ p g. refl)
@@ -276,7 +283,8 @@ taken_while_fits {F} {A} asked test f q acts i o xs e t =
     accepted x l h = let n : 1 + prefix_len test l ≡ suc (prefix_len test l) = omega arith in rw (h, n) refl
 
 -- `map_while`
-pub mapped_while_fits : {F A B : Type 0} (call : F → A → Option B → F → Type 0) (h : A → Option B) (f q : F) → ((x : A) (o : Option B) (g : F) → call f x o g → (g ≡ f) × (o ≡ h x))
+pub mapped_while_fits : {F A B : Type 0} (call : F → A → Option B → F → Type 0) (h : A → Option B) (f q : F)
+    → ((x : A) (o : Option B) (g : F) → call f x o g → (g ≡ f) × (o ≡ h x))
     → (i : List (Answer A)) (o : List (Answer B)) (xs : List A) → Fits i xs → Exchanges call f i o q → Fits o (map_while h xs)
 mapped_while_fits {F} {A} {B} call h f q acts i o xs e t =
     exchanged_fits call (λ p. p ≡ f) (λ p. map_while h) (λ p g. refl)
@@ -308,12 +316,15 @@ enumerated_fits {A} m i o xs small e t =
     numbered p r x y l a b = rw (a, b) refl
 
 -- `inspect`
-pub shown_fits : {F A : Type 0} (look : F → A → Unit {0} → F → Type 0) (f q : F) (i o : List (Answer A)) (xs : List A) → Fits i xs → Exchanges (Always (Shows look)) f i o q → Fits o xs
+pub shown_fits : {F A : Type 0} (look : F → A → Unit {0} → F → Type 0) (f q : F) (i o : List (Answer A)) (xs : List A) → Fits i xs
+    → Exchanges (Always (Shows look)) f i o q → Fits o xs
 shown_fits look f q i o xs e t =
-    exchanged_fits (Always (Shows look)) (λ p. ⊤) (λ p l. l) (λ p g. refl) (λ p r x l g c. absurd c) (λ p r x y l g c. (ap (λ z. z ∷ l) (sym c.0), tt)) f q i o xs tt e t
+    exchanged_fits (Always (Shows look)) (λ p. ⊤) (λ p l. l) (λ p g. refl) (λ p r x l g c. absurd c)
+    (λ p r x y l g c. (ap (λ z. z ∷ l) (sym c.0), tt)) f q i o xs tt e t
 
 -- `copied`
-pub copied_fits : {A : Type 0} (i : List (Answer (Bor A))) (o : List (Answer A)) (xs : List (Bor A)) → Fits i xs → Exchanges (Always Copies) tt i o tt → Fits o (map (λ x. x.now) xs)
+pub copied_fits : {A : Type 0} (i : List (Answer (Bor A))) (o : List (Answer A)) (xs : List (Bor A)) → Fits i xs → Exchanges (Always Copies) tt i o tt
+    → Fits o (map (λ x. x.now) xs)
 copied_fits {A} i o xs e t =
     exchanged_fits (Always (Copies {A = A})) (λ p. ⊤) (λ p. map (λ x. x.now)) (λ p g. refl) (λ p r x l g c. absurd c)
     (λ p r x y l g c. (ap (λ z. z ∷ map (λ x. x.now) l) (sym c), tt)) tt tt i o xs tt e t

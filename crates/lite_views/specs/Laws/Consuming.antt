@@ -1,5 +1,6 @@
 -- The value of a future that consumes a stream, by the items of the stream.
-use Rattle.std.proofs.Common.{◌≡◌, ◌∙◌, ◌⊎◌, ◌<◌, ◌^◌, ℕ, suc, ◌+◌, List, [], ◌∷◌, ◌++◌, length, map, inl, inr, refl, ap, sym, subst, arith, append_assoc, append-nil}
+use Rattle.std.proofs.Common.{◌≡◌, ◌∙◌, ◌⊎◌, ◌<◌, ◌^◌, ℕ, suc, ◌+◌, List, [], ◌∷◌, ◌++◌, length, map, inl, inr, refl, ap, sym, subst, arith, append_assoc}
+use Rattle.std.proofs.Common.{append-nil}
 use Rattle.std.proofs.Math.Dec.{leb, leb-suc-suc, leb-zero}
 use Rattle.std.specs.Prelude.{⊤, Bool, true, false, cond, not, nat_lt, Option, Some, None, Result, Ok, Err, IfOk, IfErr, IsSome, IfSome, option_map}
 use Rattle.std.specs.Option.{option_transpose}
@@ -64,7 +65,8 @@ module _ {M A R : Type 0} (fold : Fold M A R) where
 
   pub finished_settles : {S : Type 0} (run : S → List (Answer A) → S → Type 0) (x : Consume S M) (ins : List (Poll R)) (v : R) (xs : List A)
       → ((l : List (Answer A)) (t : S) → run x.stream l t → Fits l xs) → Finishes (Folds run fold) x ins v → Settles x.folder xs v
-  finished_settles run x ins v xs lists f = settles x.folder f.last.folder f.came.ins ins xs v (lists f.came.ins f.last.stream f.came.came) f.gives f.came.consumed
+  finished_settles run x ins v xs lists f =
+      settles x.folder f.last.folder f.came.ins ins xs v (lists f.came.ins f.last.stream f.came.came) f.gives f.came.consumed
 
 -- `fold`
 pub fold_settled : {N F T A : Type 0} (f_of : N → F) (acc_of : N → Option T) (call : F → T × A → T → F → Type 0) (h : T → A → T) (f : F)
@@ -79,7 +81,8 @@ fold_settled {T = T} f_of acc_of call h f acts p a (x ∷ xs) v e d (inl (q, s, 
     fold_settled f_of acc_of call h f acts q (h a x) xs v step.0 (s.4 ∙ ap (λ z. Some z) next) more
 
 -- `count`
-pub count_settled : {N A : Type 0} (count_of : N → ℕ) (p : N) (xs : List A) (v : ℕ) → count_of p + length xs < 2 ^ 64 → Settles (fold_of count_of (counts {A = A})) p xs v → v ≡ count_of p + length xs
+pub count_settled : {N A : Type 0} (count_of : N → ℕ) (p : N) (xs : List A) (v : ℕ) → count_of p + length xs < 2 ^ 64
+    → Settles (fold_of count_of (counts {A = A})) p xs v → v ≡ count_of p + length xs
 count_settled count_of p [] v b (q, s) = s.0 ∙ (omega arith)
 count_settled count_of p (x ∷ xs) v b (inr (q, s)) = let k = s.0 in absurd (cc)
 count_settled count_of p (x ∷ xs) v b (inl (q, s, more)) =
@@ -89,7 +92,8 @@ count_settled count_of p (x ∷ xs) v b (inl (q, s, more)) =
     let rest : v ≡ count_of q + length xs = count_settled count_of q xs v fits more in
     omega arith
 
-pub counted_settled : {N A : Type 0} (count_of : N → ℕ) (p : N) (xs : List A) (v : ℕ) → count_of p ≡ 0 → length xs < 2 ^ 64 → Settles (fold_of count_of (counts {A = A})) p xs v → v ≡ length xs
+pub counted_settled : {N A : Type 0} (count_of : N → ℕ) (p : N) (xs : List A) (v : ℕ) → count_of p ≡ 0 → length xs < 2 ^ 64
+    → Settles (fold_of count_of (counts {A = A})) p xs v → v ≡ length xs
 counted_settled count_of p xs v none small s =
     let fits : count_of p + length xs < 2 ^ 64 = omega arith in
     let e = count_settled count_of p xs v fits s in
@@ -165,7 +169,8 @@ module _ {N F A : Type 0} (f_of : N → F) (asked : F → A → Bool → F → T
       from_zero (Some k) = let e : number_of p + k ≡ k = omega (arith, none) in ap (λ n. Some n) e
 
 -- `last`
-pub last_settled : {N A : Type 0} (last_of : N → Option A) (p : N) (xs : List A) (v : Option A) → Settles (fold_of last_of lasts) p xs v → v ≡ last_or (last_of p) xs
+pub last_settled : {N A : Type 0} (last_of : N → Option A) (p : N) (xs : List A) (v : Option A) → Settles (fold_of last_of lasts) p xs v
+    → v ≡ last_or (last_of p) xs
 last_settled last_of p [] v (q, s) = s
 last_settled last_of p (x ∷ xs) v (inl (q, s, more)) = last_settled last_of q xs v more ∙ ap (λ o. last_or o xs) s.1
 last_settled last_of p (x ∷ xs) v (inr (q, s)) = let k = s.0 in absurd (cc)
@@ -189,9 +194,11 @@ module _ {N F A B : Type 0} (f_of : N → F) (call : F → A → Option B → F 
 
 module _ {N F A E : Type 0} (f_of : N → F) (call : F → A → Result (Unit {0}) E → F → Type 0) (h : A → Result (Unit {0}) E) (f : F)
     (acts : (x : A) (o : Result (Unit {0}) E) (g : F) → call f x o g → (g ≡ f) × (o ≡ h x)) where
-  pub try_for_each_settled : (p : N) (xs : List A) (v : Result (Unit {0}) E) → f_of p ≡ f → Settles (fold_of f_of (tries_each call)) p xs v → v ≡ first_error (map h xs)
+  pub try_for_each_settled : (p : N) (xs : List A) (v : Result (Unit {0}) E) → f_of p ≡ f → Settles (fold_of f_of (tries_each call)) p xs v
+      → v ≡ first_error (map h xs)
   try_for_each_settled p [] v e (q, s) = s.0
-  try_for_each_settled p (x ∷ xs) v e (inl (q, s, more)) = let a = answered call h f acts (f_of p) x (Ok tt) (f_of q) e s in rw a.1 (try_for_each_settled q xs v a.0 more)
+  try_for_each_settled p (x ∷ xs) v e (inl (q, s, more)) =
+      let a = answered call h f acts (f_of p) x (Ok tt) (f_of q) e s in rw a.1 (try_for_each_settled q xs v a.0 more)
   try_for_each_settled p (x ∷ xs) (Ok u) e (inr (q, s)) = absurd (cc s.0)
   try_for_each_settled p (x ∷ xs) (Err w) e (inr (q, s)) = let a = answered call h f acts (f_of p) x (Err w) (f_of q) e s.1 in rw a.1 refl
 
@@ -215,7 +222,8 @@ try_fold_settled f_of acc_of call h f acts p a (Err w ∷ xs) v e d (inl (q, s, 
 try_fold_settled f_of acc_of call h f acts p a (Err w ∷ xs) v e d (inr (q, s)) = s.0
 
 -- `try_next`
-pub try_next_settled : {M T E : Type 0} (p : M) (xs : List (Result T E)) (v : Result (Option T) E) → Settles (tries_next {M = M}) p xs v → v ≡ option_transpose (slice_get xs 0)
+pub try_next_settled : {M T E : Type 0} (p : M) (xs : List (Result T E)) (v : Result (Option T) E) → Settles (tries_next {M = M}) p xs v
+    → v ≡ option_transpose (slice_get xs 0)
 try_next_settled p [] v (q, s) = s
 try_next_settled p (x ∷ xs) v (inl (q, s, more)) = absurd s
 try_next_settled p (Ok x ∷ xs) v (inr (q, s)) = s
@@ -236,6 +244,11 @@ collect_settled part holds p c l (x ∷ xs) v e h (inl (q, s, more)) =
 pub filled : {C T : Type 0} (holds : C → List T → Type 0) (o : Option C) → IsSome o → IfSome o (λ c. holds c []) → (c : C) × (o ≡ Some c) × holds c []
 filled holds None h e = absurd (cc h)
 filled holds (Some c) h e = (c, refl, e)
+
+pub both_filled : {C D A B : Type 0} (first : C → List A → Type 0) (second : D → List B → Type 0) (o : Option (C × D)) → IsSome o
+    → IfSome o (λ c. first c.0 [] × second c.1 []) → (c : C × D) × (o ≡ Some c) × (first c.0 [] × second c.1 [])
+both_filled first second None h e = absurd (cc h)
+both_filled first second (Some c) h e = (c, refl, e)
 
 -- `try_collect`
 pub try_collect_settled : {N C T E : Type 0} (part : N → Option C) (holds : C → List T → Type 0) (p : N) (c : C) (l : List T) (xs : List (Result T E))
@@ -259,7 +272,8 @@ try_collect_settled part holds p c l (Err w ∷ xs) v e h (inl (q, s, more)) = a
 try_collect_settled part holds p c l (Err w ∷ xs) v e h (inr (q, s)) = rw s.0 (tt, refl)
 
 -- `partition`
-module _ {N B F T : Type 0} (f_of : N → F) (part : N → Option (B × B)) (holds : B → List T → Type 0) (asked : F → T → Bool → F → Type 0) (test : T → Bool) (f : F)
+module _ {N B F T : Type 0} (f_of : N → F) (part : N → Option (B × B)) (holds : B → List T → Type 0) (asked : F → T → Bool → F → Type 0) (test : T → Bool)
+    (f : F)
     (acts : (x : T) (b : Bool) (g : F) → asked f x b g → (g ≡ f) × (b ≡ test x)) where
   -- x at the end, where b is true
   at_end : (b : Bool) (x : T) (l ys : List T) → (l ++ cond b (x ∷ []) []) ++ ys ≡ l ++ cond b (x ∷ ys) ys
@@ -274,7 +288,8 @@ module _ {N B F T : Type 0} (f_of : N → F) (part : N → Option (B × B)) (hol
   sorted true c d x l m s h k = (s.0 l h, as_before c.1 d.1 m s.1 k)
   sorted false c d x l m s h k = (as_before c.0 d.0 l s.1 h, s.0 m k)
 
-  pub partition_settled : (p : N) (c : B × B) (l m xs : List T) (v : Result (B × B) (Refused (B × B) T)) → f_of p ≡ f → part p ≡ Some c → holds c.0 l → holds c.1 m
+  pub partition_settled : (p : N) (c : B × B) (l m xs : List T) (v : Result (B × B) (Refused (B × B) T)) → f_of p ≡ f → part p ≡ Some c → holds c.0 l
+      → holds c.1 m
       → Settles (fold_of (λ n. (f_of n, part n)) (partitions holds asked ⊤)) p xs v
       → IfOk v (λ d. holds d.0 (l ++ filter test xs) × holds d.1 (m ++ filter (λ x. not (test x)) xs))
   partition_settled p c l m [] v e o h k (q, s) =

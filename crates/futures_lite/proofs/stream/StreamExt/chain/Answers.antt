@@ -5,5 +5,10 @@ use Rattle.futures_lite.proofs.stream.StreamExt.chain.Goals as goal
 
 pub returns-clause-lists : goal.returns-clause-lists
 unfolding Lists
-returns-clause-lists g c xs ys lists others =
-    (refl, seen _ _, λ l t ran. let r = rw c.chain.ensures at ran in joined_fits t.part r.firsts r.seconds l xs ys (lists r.firsts _ r.came) (others r.seconds _ r.then_came) r.joined)
+returns-clause-lists g c xs ys lists others = (
+  refl,
+  seen _ _,
+  λ l t ran.
+      let r = rw c.chain.ensures at ran in
+      joined_fits t.part r.firsts r.seconds l xs ys (lists r.firsts _ r.came) (others r.seconds _ r.then_came) r.joined,
+)

@@ -1,13 +1,11 @@
 use Rattle.std.proofs.Common.{refl}
 use Rattle.lite_views.specs.Laws.Consuming.{finished_settles, counted_settled}
-use Rattle.lite_views.specs.Views.{Lists, value_holds}
+use Rattle.lite_views.specs.Views.{Lists, value_is}
 use Rattle.futures_lite.proofs.stream.StreamExt.count.Goals as goal
 
 pub returns-clause-value : goal.returns-clause-value
 unfolding Lists
-returns-clause-value g c xs lists small = (
-  refl,
-  value_holds _ _ _ (λ ins v f.
-      let e = rw c.count.ensures at f in
-      counted_settled (λ m. m.count) _ xs v refl small (finished_settles _ _ _ ins v xs lists e)),
-)
+returns-clause-value g c xs lists small =
+    value_is _ _ _ (λ ins v f.
+    let e = rw c.count.ensures at f in
+    counted_settled (λ m. m.count) _ xs v refl small (finished_settles _ _ _ ins v xs lists e))

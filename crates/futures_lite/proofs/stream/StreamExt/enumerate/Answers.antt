@@ -5,5 +5,10 @@ use Rattle.futures_lite.proofs.stream.StreamExt.enumerate.Goals as goal
 
 pub returns-clause-lists : goal.returns-clause-lists
 unfolding Lists
-returns-clause-lists g c xs lists few =
-    (refl, seen _ _, λ l t ran. let r = rw c.enumerate.ensures at ran in enumerated_fits t.i r.ins l xs few (lists r.ins _ r.came) r.turned)
+returns-clause-lists g c xs lists few = (
+  refl,
+  seen _ _,
+  λ l t ran.
+      let r = rw c.enumerate.ensures at ran in
+      enumerated_fits t.i r.ins l xs few (lists r.ins _ r.came) r.turned,
+)

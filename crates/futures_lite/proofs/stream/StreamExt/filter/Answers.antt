@@ -6,5 +6,13 @@ use Rattle.futures_lite.proofs.stream.StreamExt.filter.Goals as goal
 
 pub returns-clause-lists : goal.returns-clause-lists
 unfolding Lists
-returns-clause-lists g c test xs lists acts =
-    ((refl, seen _ _, λ l t ran. let r = rw c.filter.ensures at ran in filtered_fits (CalledAt g.P.FnMut) test _ t.predicate acts r.ins l xs (lists r.ins _ r.came) r.turned), filter_fewer test xs)
+returns-clause-lists g c test xs lists acts = (
+  (
+    refl,
+    seen _ _,
+    λ l t ran.
+        let r = rw c.filter.ensures at ran in
+        filtered_fits (CalledAt g.P.FnMut) test _ t.predicate acts r.ins l xs (lists r.ins _ r.came) r.turned,
+  ),
+  filter_fewer test xs,
+)

@@ -6,5 +6,10 @@ use Rattle.futures_lite.proofs.stream.StreamExt.inspect.Goals as goal
 
 pub returns-clause-lists : goal.returns-clause-lists
 unfolding Lists
-returns-clause-lists g c xs lists =
-    (refl, seen _ _, λ l t ran. let r = rw c.inspect.ensures at ran in shown_fits (CalledAt g.F.FnMut) _ t.f r.ins l xs (lists r.ins _ r.came) r.turned)
+returns-clause-lists g c xs lists = (
+  refl,
+  seen _ _,
+  λ l t ran.
+      let r = rw c.inspect.ensures at ran in
+      shown_fits (CalledAt g.F.FnMut) _ t.f r.ins l xs (lists r.ins _ r.came) r.turned,
+)

@@ -5,5 +5,10 @@ use Rattle.futures_lite.proofs.stream.StreamExt.skip.Goals as goal
 
 pub returns-clause-lists : goal.returns-clause-lists
 unfolding Lists
-returns-clause-lists g c xs lists =
-    (refl, seen _ _, λ l t ran. let r = rw c.skip.ensures at ran in skipped_fits _ t.n r.ins l xs (lists r.ins _ r.came) r.turned)
+returns-clause-lists g c xs lists = (
+  refl,
+  seen _ _,
+  λ l t ran.
+      let r = rw c.skip.ensures at ran in
+      skipped_fits _ t.n r.ins l xs (lists r.ins _ r.came) r.turned,
+)

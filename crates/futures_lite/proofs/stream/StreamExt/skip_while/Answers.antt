@@ -6,5 +6,10 @@ use Rattle.futures_lite.proofs.stream.StreamExt.skip_while.Goals as goal
 
 pub returns-clause-lists : goal.returns-clause-lists
 unfolding Lists
-returns-clause-lists g c test xs lists acts =
-    (refl, seen _ _, λ l t ran. let r = rw c.skip_while.ensures at ran in skipped_while_fits (CalledAt g.P.FnMut) test _ t.predicate acts r.ins l xs (lists r.ins _ r.came) r.turned)
+returns-clause-lists g c test xs lists acts = (
+  refl,
+  seen _ _,
+  λ l t ran.
+      let r = rw c.skip_while.ensures at ran in
+      skipped_while_fits (CalledAt g.P.FnMut) test _ t.predicate acts r.ins l xs (lists r.ins _ r.came) r.turned,
+)

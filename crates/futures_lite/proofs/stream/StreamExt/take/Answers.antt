@@ -5,5 +5,10 @@ use Rattle.futures_lite.proofs.stream.StreamExt.take.Goals as goal
 
 pub returns-clause-lists : goal.returns-clause-lists
 unfolding Lists
-returns-clause-lists g c xs lists =
-    (refl, seen _ _, λ l t ran. let r = rw c.take.ensures at ran in taken_fits _ t.n r.ins l xs (lists r.ins _ r.came) r.turned)
+returns-clause-lists g c xs lists = (
+  refl,
+  seen _ _,
+  λ l t ran.
+      let r = rw c.take.ensures at ran in
+      taken_fits _ t.n r.ins l xs (lists r.ins _ r.came) r.turned,
+)

@@ -5,5 +5,10 @@ use Rattle.futures_lite.proofs.stream.StreamExt.zip.Goals as goal
 
 pub returns-clause-lists : goal.returns-clause-lists
 unfolding Lists
-returns-clause-lists g c xs ys lists others =
-    (refl, seen _ _, λ l t ran. let r = rw c.zip.ensures at ran in paired_fits r.firsts r.seconds l t.item_slot xs ys (lists r.firsts _ r.came) (others r.seconds _ r.then_came) r.paired)
+returns-clause-lists g c xs ys lists others = (
+  refl,
+  seen _ _,
+  λ l t ran.
+      let r = rw c.zip.ensures at ran in
+      paired_fits r.firsts r.seconds l t.item_slot xs ys (lists r.firsts _ r.came) (others r.seconds _ r.then_came) r.paired,
+)
