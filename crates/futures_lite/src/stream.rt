@@ -553,9 +553,12 @@ pub trait StreamExt: Stream {
         ensures predicate { result.folder.predicate ≡ predicate }
         ensures open { IsSome result.folder.res }
         ensures empty { IfSome result.folder.res (λ c. B.holds c.0 [] × B.holds c.1 []) }
-        ensures value { (test : Self.Item → Bool) (xs : List Self.Item) → Lists Self.run self xs → ActsAsAt P.FnMut predicate test
-            → Seen self xs × ValueHolds AllocError ⟦<PartitionFuture<Self, P, B> as Future>⟧.run result
-            (λ v. IfOk v (λ c. B.holds c.0 (filter test xs) × B.holds c.1 (filter (λ x. not (test x)) xs))) }
+        ensures accepted { (test : Self.Item → Bool) (xs : List Self.Item) → Lists Self.run self xs → ActsAsAt P.FnMut predicate test
+            → (filter test xs ≡ filter test xs) × ValueHolds AllocError ⟦<PartitionFuture<Self, P, B> as Future>⟧.run result
+            (λ v. IfOk v (λ c. B.holds c.0 (filter test xs))) }
+        ensures others { (rest : Self.Item → Bool) (xs : List Self.Item) → Lists Self.run self xs → ActsAsAt P.FnMut predicate (λ x. not (rest x))
+            → (filter rest xs ≡ filter rest xs) × ValueHolds AllocError ⟦<PartitionFuture<Self, P, B> as Future>⟧.run result
+            (λ v. IfOk v (λ c. B.holds c.1 (filter rest xs))) }
     {
         lite_gather::make::partition(self, alloc, predicate)
     }

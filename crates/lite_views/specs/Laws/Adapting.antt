@@ -110,8 +110,8 @@ filtered_fits {F} {A} asked test f q acts i o xs e t =
     left_fits (Accepts asked) (λ p. p ≡ f) (λ p. filter test) (λ p g. refl)
     (λ p r x l g c. let a = acts x false r (subst (λ z. asked z x false r) g c) in (ap (λ b. cond b (x ∷ filter test l) (filter test l)) (sym a.1), a.0))
     (λ p r x y l g c.
-        let a = acts x true r (subst (λ z. asked z x true r) g c.1) in
-        (ap (λ b. cond b (x ∷ filter test l) (filter test l)) (sym a.1) ∙ ap (λ z. z ∷ filter test l) (sym c.0), a.0))
+    let a = acts x true r (subst (λ z. asked z x true r) g c.1) in
+    (ap (λ b. cond b (x ∷ filter test l) (filter test l)) (sym a.1) ∙ ap (λ z. z ∷ filter test l) (sym c.0), a.0))
     f q i o xs refl e t
 
 -- `take`

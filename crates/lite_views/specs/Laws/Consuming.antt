@@ -1,6 +1,7 @@
 -- The value of a future that consumes a stream, by the items of the stream.
 use Rattle.std.proofs.Common.{◌≡◌, ◌∙◌, ◌⊎◌, ◌<◌, ◌^◌, ℕ, suc, ◌+◌, List, [], ◌∷◌, ◌++◌, length, map, inl, inr, refl, ap, sym, subst, arith, append_assoc}
 use Rattle.std.proofs.Common.{append-nil}
+use Rattle.std.proofs.Math.Bool.{not-not}
 use Rattle.std.proofs.Math.Dec.{leb, leb-suc-suc, leb-zero}
 use Rattle.std.specs.Prelude.{⊤, Bool, true, false, cond, not, nat_lt, Option, Some, None, Result, Ok, Err, IfOk, IfErr, IsSome, IfSome, option_map}
 use Rattle.std.specs.Option.{option_transpose}
@@ -288,7 +289,7 @@ module _ {N B F T : Type 0} (f_of : N → F) (part : N → Option (B × B)) (hol
   sorted true c d x l m s h k = (s.0 l h, as_before c.1 d.1 m s.1 k)
   sorted false c d x l m s h k = (as_before c.0 d.0 l s.1 h, s.0 m k)
 
-  pub partition_settled : (p : N) (c : B × B) (l m xs : List T) (v : Result (B × B) (Refused (B × B) T)) → f_of p ≡ f → part p ≡ Some c → holds c.0 l
+  partition_settled : (p : N) (c : B × B) (l m xs : List T) (v : Result (B × B) (Refused (B × B) T)) → f_of p ≡ f → part p ≡ Some c → holds c.0 l
       → holds c.1 m
       → Settles (fold_of (λ n. (f_of n, part n)) (partitions holds asked ⊤)) p xs v
       → IfOk v (λ d. holds d.0 (l ++ filter test xs) × holds d.1 (m ++ filter (λ x. not (test x)) xs))
@@ -308,6 +309,31 @@ module _ {N B F T : Type 0} (f_of : N → F) (part : N → Option (B × B)) (hol
       at_end (not s.0) x m others ∙ ap (λ b. m ++ cond (not b) (x ∷ others) others) (sym a.1) in
       subst (λ z. IfOk v (λ d. holds d.0 (l ++ filter test (x ∷ xs)) × holds d.1 z)) rejected
       (subst (λ z. IfOk v (λ d. holds d.0 z × holds d.1 ((m ++ cond (not s.0) (x ∷ []) []) ++ others))) accepted rest)
+
+filter_twice : {T : Type 0} (test : T → Bool) (xs : List T) → filter (λ x. not (not (test x))) xs ≡ filter test xs
+filter_twice test [] = refl
+filter_twice test (x ∷ xs) =
+    let rest : List _ = filter (λ y. not (not (test y))) xs in
+    ap (λ b. cond b (x ∷ rest) rest) (not-not (test x)) ∙ ap (λ l. cond (test x) (x ∷ l) l) (filter_twice test xs)
+
+ok_both : {C E : Type 0} (P Q : C → Type 0) (v : Result C E) → IfOk v (λ d. P d × Q d) → IfOk v P × IfOk v Q
+ok_both P Q (Ok d) h = h
+ok_both P Q (Err e) h = (tt, tt)
+
+module _ {N B F T : Type 0} (f_of : N → F) (part : N → Option (B × B)) (holds : B → List T → Type 0) (asked : F → T → Bool → F → Type 0)
+    (p : N) (f : F) (same : f_of p ≡ f) (is_open : IsSome (part p)) (empty : IfSome (part p) (λ c. holds c.0 [] × holds c.1 []))
+    (xs : List T) (v : Result (B × B) (Refused (B × B) T)) (settles : Settles (fold_of (λ n. (f_of n, part n)) (partitions holds asked ⊤)) p xs v) where
+  pub accepted_settled : (test : T → Bool) → ((x : T) (b : Bool) (g : F) → asked f x b g → (g ≡ f) × (b ≡ test x)) → IfOk v (λ d. holds d.0 (filter test xs))
+  accepted_settled test acts =
+      let start = both_filled holds holds (part p) is_open empty in
+      (ok_both _ _ v (partition_settled f_of part holds asked test f acts p start.0 [] [] xs v same start.1 start.2.0 start.2.1 settles)).0
+
+  pub others_settled : (rest : T → Bool) → ((x : T) (b : Bool) (g : F) → asked f x b g → (g ≡ f) × (b ≡ not (rest x)))
+      → IfOk v (λ d. holds d.1 (filter rest xs))
+  others_settled rest acts =
+      let start = both_filled holds holds (part p) is_open empty in
+      let both = partition_settled f_of part holds asked (λ x. not (rest x)) f acts p start.0 [] [] xs v same start.1 start.2.0 start.2.1 settles in
+      subst (λ l. IfOk v (λ d. holds d.1 l)) (filter_twice rest xs) (ok_both _ _ v both).1
 
 -- `unzip`
 pub unzip_settled : {N C D A B : Type 0} (part : N → Option (C × D)) (first : C → List A → Type 0) (second : D → List B → Type 0) (p : N) (c : C × D)
