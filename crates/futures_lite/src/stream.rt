@@ -322,7 +322,7 @@ pub trait StreamExt: Stream {
         F: FnMut(&mut St, Self::Item) -> Option<B>,
         ensures parts { result ≡ record { stream = self; state = initial_state; f = f } }
         ensures lists { (h : St → Self.Item → St × Option B) (xs : List Self.Item) → Lists Self.run self xs → ActsAsOnState F.FnMut f h
-            → ListsAs ⟦<Scan<Self, St, F> as Stream>⟧.run result (scan h initial_state xs) }
+            → ListsAs ⟦<Scan<Self, St, F> as Stream>⟧.run result (scan h initial_state xs) × (length (scan h initial_state xs) ≤ length xs) }
     {
         make::scan(self, initial_state, f)
     }

@@ -296,6 +296,14 @@ scanned_fits {F} {V} {A} {B} call h f v q acts i o xs e t =
     (ap (λ w. cons_while w (scan h (h p.1 x).0 l)) (sym a.2) ∙ ap (λ s. y ∷ scan h s l) (sym a.1), a.0))
     (f, v) q i o xs refl e t
 
+pub scan_fewer : {V A B : Type 0} (h : V → A → V × Option B) (s : V) (xs : List A) → length (scan h s xs) ≤ length xs
+scan_fewer h s [] = omega arith
+scan_fewer {B = B} h s (x ∷ xs) = let rest = scan_fewer h (h s x).0 xs in step (h s x).1 (scan h (h s x).0 xs) rest
+  where
+    step : (o : Option B) (ys : List B) → length ys ≤ length xs → length (cons_while o ys) ≤ length (x ∷ xs)
+    step None ys k = omega arith
+    step (Some y) ys k = omega (arith, k)
+
 -- `enumerate`
 abbrev wrapped_from : {A : Type 0} → ℕ → List A → List (ℕ × A)
 wrapped_from n [] = []
