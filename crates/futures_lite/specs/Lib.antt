@@ -7,6 +7,7 @@ pub mod Families
 pub mod Futures
 pub mod Laws
 pub mod Lines
+pub mod Lists
 pub mod Marks
 pub mod Own
 pub mod Ranks

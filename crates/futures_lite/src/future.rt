@@ -1,13 +1,13 @@
 //! Futures: what makes them, and what every future can be combined by.
-ghost use Rattle.std.specs.Prelude.{◌≡◌, IfOk, List};
+ghost use Rattle.std.specs.Prelude.{◌≡◌, IfOk, List, Some};
 ghost use Rattle.futures.specs.declared.task.Poll.{Poll};
 ghost use Rattle.lite_base.specs.Future.Finishes.{Finishes};
-ghost use Rattle.lite_views.specs.Views.{Seen, Waited};
+ghost use Rattle.lite_views.specs.Views.{HasValue, Seen, Waited};
 
 pub use lite_base::Future;
 pub use lite_base::future::block_on::BlockOn;
 pub use lite_base::future::make::{
-    fuse, or, pending, poll_fn, poll_once, race, race_with_seed, ready, try_zip, yield_now, zip,
+    fuse, or, pending, poll_fn, poll_once, race, race_with_seed, try_zip, yield_now, zip,
 };
 pub use lite_base::future::{
     Fuse, Or, Pending, PollFn, PollOnce, Race, Ready, TryZip, YieldNow, Zip,
@@ -16,6 +16,14 @@ use rand_core::Rng;
 use std::alloc::{AllocError, AllocGlobal};
 use std::random::RandomSource;
 use std::sync::Wait;
+
+/// A future that is ready with `value` at the first poll. Ported from `core::future::ready`.
+pub fn ready<T>(value: T) -> Ready<T>
+    ensures parts { result ≡ record { value = Some value } }
+    ensures value { HasValue ⟦<Ready<T> as Future>⟧.run result value }
+{
+    lite_base::future::make::ready(value)
+}
 
 /// Waits on this thread for a future, and answers its value. It may wait for ever.
 pub fn block_on<R, F>(rt: &R, future: F) -> Result<F::Output, AllocError>

@@ -1,11 +1,11 @@
 //! Streams: sources, and what every stream can be adapted by.
 ghost use Rattle.std.specs.Prelude.{◌≡◌, ◌<◌, ◌≤◌, ◌^◌, ◌++◌, [], List, Bool, IfOk, IfSome, IsSome, MatchResult, None, Option, Result};
-ghost use Rattle.std.specs.Prelude.{Some, false, length, map, not, take, drop};
+ghost use Rattle.std.specs.Prelude.{Some, drop, false, flat_map, length, map, not, take};
 ghost use Rattle.std.specs.List.{AllByRecursion, enumerate_from, filter, filter_map, find, fold, last_or, list_all, list_any, position, prefix_len};
 ghost use Rattle.std.specs.List.{slice_get, zip};
 ghost use Rattle.std.specs.Iterator.{ActsAs, ActsAsAt, ActsAsOnTwo};
 ghost use Rattle.std.specs.Iterator.Runs.{CallKeepsClosure};
-ghost use Rattle.std.specs.Fn.{CalledAt};
+ghost use Rattle.std.specs.Fn.{Called, CalledAt};
 ghost use Rattle.std.specs.declared.alloc.AllocError.{AllocError};
 ghost use denote.Ref.{Bor};
 ghost use Rattle.lite_base.specs.Calling.{Calls};
@@ -16,12 +16,16 @@ ghost use Rattle.lite_sift.specs.SkipWhile.{SkipsWhile};
 ghost use Rattle.lite_sift.specs.StepBy.{StepsBy};
 ghost use Rattle.lite_stream.specs.TakeWhile.{TakesWhile};
 ghost use Rattle.lite_merge.specs.Zip.{Zips};
-ghost use Rattle.lite_views.specs.Lists.{map_while, step_from};
-ghost use Rattle.lite_views.specs.Views.{Fronts, Lists, ListsAs, Seen, ValueHolds, ValueIs};
+ghost use Rattle.lite_views.specs.Acting.{ActsAsOnState};
+ghost use Rattle.lite_views.specs.Lists.{map_while, scan, step_from};
+ghost use Rattle.lite_views.specs.Views.{Fronts, HasValue, Lists, ListsAs, Seen, ValueHolds, ValueIs};
 ghost use Rattle.lite_views.specs.Futures.{CountRuns, FindRuns, FoldRuns, LastRuns, NthRuns, TryFoldRuns};
 ghost use Rattle.lite_views.specs.Trying.{TriesCollect, first_error, try_fold};
 ghost use Rattle.std.specs.Option.{option_transpose};
 ghost use Rattle.lite_cycle.specs.Cycle.{CycleOf};
+ghost use Rattle.lite_flatten.specs.FlatMap.{FlatMaps};
+ghost use Rattle.lite_flatten.specs.Flatten.{Flattens};
+ghost use Rattle.lite_flatten.specs.Then.{Thens};
 ghost use Rattle.lite_flatten.specs.declared.chain.Part.TheVariants.{First};
 
 use lite_base::Future;
@@ -103,7 +107,10 @@ pub trait StreamExt: Stream {
         Self: Counted + Sized,
         U: Stream,
         F: FnMut(Self::Item) -> U,
-        ensures { result ≡ record { stream = record { stream = self; f = f }; inner_stream = None } }
+        ensures parts { result ≡ record { stream = record { stream = self; f = f }; inner_stream = None } }
+        ensures lists { (h : Self.Item → List U.Item) (xs : List Self.Item) → Lists Self.run self xs
+            → ((x : Self.Item) (inner : U) (g : F) → Called F.FnMut f (x, tt) inner g → (g ≡ f) × Lists U.run inner (h x))
+            → ListsAs (FlatMaps Self.run F.FnMut U.run) result (flat_map h xs) }
     {
         lite_flatten::make::flat_map(self, f)
     }
@@ -114,7 +121,9 @@ pub trait StreamExt: Stream {
     where
         Self: Counted + Sized,
         Self::Item: Stream,
-        ensures { result ≡ record { stream = self; inner_stream = None } }
+        ensures parts { result ≡ record { stream = self; inner_stream = None } }
+        ensures lists { (h : Self.Item → List Self.Item.Item) (xs : List Self.Item) → Lists Self.run self xs
+            → ((inner : Self.Item) → Lists Self.Item.run inner (h inner)) → ListsAs (Flattens Self.Item.run Self.run) result (flat_map h xs) }
     {
         lite_flatten::make::flatten(self)
     }
@@ -126,7 +135,10 @@ pub trait StreamExt: Stream {
         Self: Sized,
         F: FnMut(Self::Item) -> Fut,
         Fut: Future,
-        ensures { result ≡ record { stream = self; future = None; f = f } }
+        ensures parts { result ≡ record { stream = self; future = None; f = f } }
+        ensures lists { (h : Self.Item → Fut.Output) (xs : List Self.Item) → Lists Self.run self xs
+            → ((x : Self.Item) (future : Fut) (g : F) → Called F.FnMut f (x, tt) future g → (g ≡ f) × HasValue Fut.run future (h x))
+            → ListsAs (Thens Self.run (Calls F.FnMut) Fut.run) result (map h xs) }
     {
         lite_flatten::make::then(self, f)
     }
@@ -292,7 +304,9 @@ pub trait StreamExt: Stream {
     where
         Self: Stream<Item = &'a T> + Sized,
         T: Clone,
-        ensures { result ≡ record { stream = self; held = None } }
+        ensures parts { result ≡ record { stream = self; held = None } }
+        ensures lists { (xs : List (Bor T)) → Lists Self.run self xs → ((x : T) → T.is_infallible x) → ((x y : T) → T.is_clone x y → y ≡ x)
+            → ListsAs ⟦<Cloned<Self> as Stream>⟧.run result (map (λ x. Ok x.now) xs) }
     {
         lite_flatten::make::cloned(self)
     }
@@ -314,7 +328,9 @@ pub trait StreamExt: Stream {
     where
         Self: Sized,
         F: FnMut(&mut St, Self::Item) -> Option<B>,
-        ensures { result ≡ record { stream = self; state = initial_state; f = f } }
+        ensures parts { result ≡ record { stream = self; state = initial_state; f = f } }
+        ensures lists { (h : St → Self.Item → St × Option B) (xs : List Self.Item) → Lists Self.run self xs → ActsAsOnState F.FnMut f h
+            → ListsAs ⟦<Scan<Self, St, F> as Stream>⟧.run result (scan h initial_state xs) × (length (scan h initial_state xs) ≤ length xs) }
     {
         make::scan(self, initial_state, f)
     }

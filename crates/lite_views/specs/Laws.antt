@@ -1,4 +1,5 @@
 pub mod Adapting
 pub mod Asking
 pub mod Consuming
+pub mod Holding
 pub mod Sources

@@ -1,3 +1,4 @@
+pub mod Acting
 pub mod Futures
 pub mod Laws
 pub mod Lists

@@ -24,6 +24,10 @@ Lists {S} {A} run s xs = (l : List (Answer A)) (t : S) → run s l t → Fits l 
 unfoldable pub Waited : {F A E : Type 0} → (F → List (Poll A) → F → Type 0) → F → Result A E → Type 0
 Waited {F} {A} run f r = IfOk r (λ v. (ins : List (Poll A)) × Finishes run f ins v)
 
+-- where the future f is polled until its value, that is v
+unfoldable pub HasValue : {F A : Type 0} → (F → List (Poll A) → F → Type 0) → F → A → Type 0
+HasValue {F} {A} run f v = (ins : List (Poll A)) (w : A) → Finishes run f ins w → w ≡ v
+
 -- True. `grind` takes a fact that is said of x and y where it meets this, which is shorter than the fact
 unfoldable pub Seen : {X Y : Type 0} → X → Y → Type 0
 Seen x y = ⊤

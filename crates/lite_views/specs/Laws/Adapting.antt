@@ -22,7 +22,7 @@ use Rattle.lite_flatten.specs.Chain.{Joins, is_done, second_after}
 use Rattle.lite_flatten.specs.declared.chain.Part.{Part}
 use Rattle.lite_flatten.specs.declared.chain.Part.TheVariants.{First, Second}
 use Rattle.lite_merge.specs.Zip.{Pairs, pendings}
-use Rattle.lite_views.specs.Lists.{cons_while, map_while, step_from}
+use Rattle.lite_views.specs.Lists.{cons_while, map_while, scan, step_from}
 use Rattle.lite_views.specs.Views.{Fits}
 
 -- items, and then what fits the rest of the list
@@ -146,7 +146,7 @@ second_fits p q j (Ready (Some x) ∷ o) (y ∷ ys) s e (inr h) =
     (here.0, second_fits p q h.1 o ys s here.1 h.3)
 
 -- answers without an end fit a longer list too
-endless_fits : {A : Type 0} (l : List (Answer A)) (xs ys : List A) → Endless l → Fits l xs → Fits l (xs ++ ys)
+pub endless_fits : {A : Type 0} (l : List (Answer A)) (xs ys : List A) → Endless l → Fits l xs → Fits l (xs ++ ys)
 endless_fits [] xs ys n e = tt
 endless_fits (Pending ∷ l) xs ys n e = endless_fits l xs ys (cc n) e
 endless_fits (Ready None ∷ l) xs ys n e = absurd (cc n)
@@ -154,7 +154,7 @@ endless_fits (Ready (Some x) ∷ l) [] ys n e = absurd e
 endless_fits (Ready (Some x) ∷ l) (y ∷ xs) ys n e = (e.0, endless_fits l xs ys (cc n) e.1)
 
 -- what stands in the place of the end fits the list behind
-replaced_fits : {A : Type 0} (own m : List (Answer A)) (xs ys : List A) → Endless own → Fits (own ++ end ∷ []) xs → Fits m ys → Fits (own ++ m) (xs ++ ys)
+pub replaced_fits : {A : Type 0} (own m : List (Answer A)) (xs ys : List A) → Endless own → Fits (own ++ end ∷ []) xs → Fits m ys → Fits (own ++ m) (xs ++ ys)
 replaced_fits [] m xs ys n e d = subst (λ k. Fits m (k ++ ys)) (sym e) d
 replaced_fits (Pending ∷ own) m xs ys n e d = replaced_fits own m xs ys (cc n) e d
 replaced_fits (Ready None ∷ own) m xs ys n e d = absurd (cc n)
@@ -291,6 +291,26 @@ mapped_while_fits {F} {A} {B} call h f q acts i o xs e t =
     (λ p r x l g c. let a = acts x None r (subst (λ z. call z x None r) g c) in ap (λ v. cons_while v (map_while h l)) (sym a.1))
     (λ p r x y l g c. let a = acts x (Some y) r (subst (λ z. call z x (Some y) r) g c) in (ap (λ v. cons_while v (map_while h l)) (sym a.1), a.0))
     f q i o xs refl e t
+
+-- `scan`
+pub scanned_fits : {F V A B : Type 0} (call : F × V → A → Option B → F × V → Type 0) (h : V → A → V × Option B) (f : F) (v : V) (q : F × V)
+    → ((s : V) (x : A) (o : Option B) (g : F) (t : V) → call (f, s) x o (g, t) → (g ≡ f) × (t ≡ (h s x).0) × (o ≡ (h s x).1))
+    → (i : List (Answer A)) (o : List (Answer B)) (xs : List A) → Fits i xs → Exchanges call (f, v) i o q → Fits o (scan h v xs)
+scanned_fits {F} {V} {A} {B} call h f v q acts i o xs e t =
+    exchanged_fits call (λ p. p.0 ≡ f) (λ p. scan h p.1) (λ p g. refl)
+    (λ p r x l g c. let a = acts p.1 x None r.0 r.1 (subst (λ z. call (z, p.1) x None r) g c) in ap (λ w. cons_while w (scan h (h p.1 x).0 l)) (sym a.2))
+    (λ p r x y l g c.
+    let a = acts p.1 x (Some y) r.0 r.1 (subst (λ z. call (z, p.1) x (Some y) r) g c) in
+    (ap (λ w. cons_while w (scan h (h p.1 x).0 l)) (sym a.2) ∙ ap (λ s. y ∷ scan h s l) (sym a.1), a.0))
+    (f, v) q i o xs refl e t
+
+pub scan_fewer : {V A B : Type 0} (h : V → A → V × Option B) (s : V) (xs : List A) → length (scan h s xs) ≤ length xs
+scan_fewer h s [] = omega arith
+scan_fewer {B = B} h s (x ∷ xs) = let rest = scan_fewer h (h s x).0 xs in step (h s x).1 (scan h (h s x).0 xs) rest
+  where
+    step : (o : Option B) (ys : List B) → length ys ≤ length xs → length (cons_while o ys) ≤ length (x ∷ xs)
+    step None ys k = omega arith
+    step (Some y) ys k = omega (arith, k)
 
 -- `enumerate`
 abbrev wrapped_from : {A : Type 0} → ℕ → List A → List (ℕ × A)

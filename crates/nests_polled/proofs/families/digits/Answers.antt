@@ -23,7 +23,7 @@ gives v l y small f = held v.value l f.last.value y small f.gives f.came
 pub returns : goal.returns
 returns c =
     let ran = c.run.ensures.ran in
-    let turned = rw c.then-digits.ensures at ran.2.turned in
+    let turned = rw c.then-digits.ensures.parts at ran.2.turned in
     let digits =
     each_lingering _ _ _ (λ d. d < 10)
     (λ p q x v l left any called given. let small : IsDigit v = search rules in each_handed _ IsDigit (λ d. d < 10) gives v l left small given)
