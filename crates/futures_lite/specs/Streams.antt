@@ -30,7 +30,7 @@ pub use Rattle.lite_sift.specs.declared.skip_while.SkipWhile.{SkipWhile}
 pub use Rattle.lite_sift.specs.declared.step_by.StepBy.{StepBy}
 pub use Rattle.lite_flatten.specs.Chain.{Chains}
 pub use Rattle.lite_flatten.specs.Cloned.{AlikeCloned, ClonedFrom, ClonesAll, ClonesUnrefused, EqualClones}
-pub use Rattle.lite_flatten.specs.FlatMap.{FlatMaps}
+pub use Rattle.lite_flatten.specs.FlatMap.{FlatMaps, MakesAlways}
 pub use Rattle.lite_flatten.specs.Flatten.{Flattens}
 pub use Rattle.lite_flatten.specs.Then.{Thens}
 pub use Rattle.lite_flatten.specs.declared.chain.Chain.{Chain}

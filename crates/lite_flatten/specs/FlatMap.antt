@@ -1,6 +1,7 @@
 -- `flat_map`: `flatten` of what the function makes of each item.
 use Rattle.std.specs.Prelude.{◌+◌, ◌++◌, List, Option, IfSome}
-use Rattle.std.specs.Fn.{Mut, AlwaysReturns}
+use Rattle.std.specs.Fn.{Called, Mut}
+use Rattle.std.specs.List.{FoldsTo}
 use Rattle.lite_base.specs.Answers.{Answer}
 use Rattle.lite_base.specs.Ranks.{Ranks}
 use Rattle.lite_flatten.specs.Flatten.{Flattening}
@@ -15,9 +16,13 @@ abbrev pub FlatMaps : {S F V A B : Type 0} → (S → List (Answer A) → S → 
     → FlatMap S V F → List (Answer B) → FlatMap S V F → Type 0
 FlatMaps run g run' x l y = Through (Maps run (Calls g)) (Flattening run') x.stream x.inner_stream l y.stream y.inner_stream
 
+-- each call of the function, from f on, makes a thing that has the fact
+pub record MakesAlways {F X V : Type 0} (g : Mut F X V) (Fact : V → Type 0) (f : F) : Type 0 where
+  pub at : (xs : List X) (p q : F) (x : X) (v : V) → FoldsTo (λ r y s. (w : V) × Called g r y w s) f xs p → Called g p x v q → Fact v
+
 -- what is held has the fact, and so does each thing that the function makes
 abbrev pub EachMade : {F X V : Type 0} → Mut F X V → (V → Type 0) → F → Option V → Type 0
-EachMade g Fact f held = IfSome held Fact × AlwaysReturns g (λ x v. Fact v) f
+EachMade g Fact f held = IfSome held Fact × MakesAlways g Fact f
 
 abbrev pub flat_map_parts : {S V F : Type 0} → Parts (FlatMap S V F) (Map S F) (Option V)
 flat_map_parts = record { source = λ m. m.stream; held = λ m. m.inner_stream; same = λ x y e d. λ i. record { stream = e i; inner_stream = d i } }

@@ -1,10 +1,10 @@
 //! Adapters that hold something between polls or have several streams: two that are alike, and a calm one, of each type.
-ghost use Rattle.std.specs.Fn.{AlwaysReturns};
 ghost use Rattle.std.specs.Prelude.{None, Some, false};
 ghost use Rattle.lite_base.specs.Alike.{SameItem};
 ghost use Rattle.lite_base.specs.Calling.{AgreeFrom, Calls};
 ghost use Rattle.lite_cycle.specs.declared.stop_after_future.Stopping.TheVariants.{Holding};
 ghost use Rattle.lite_flatten.specs.Cloned.{EqualClones};
+ghost use Rattle.lite_flatten.specs.FlatMap.{MakesAlways};
 ghost use Rattle.lite_flatten.specs.Inner.{EachInner};
 ghost use Rattle.lite_flatten.specs.declared.chain.Part.TheVariants.{First};
 
@@ -71,8 +71,8 @@ where
     R: Rng,
     requires first { S.is_calm x.now }
     requires second { U.is_calm v.now }
-    requires streams { AlwaysReturns F.FnMut (λ x v. U.is_calm v) f.now }
-    requires futures { AlwaysReturns G.FnMut (λ x v. Fut.is_calm v) g.now }
+    requires streams { MakesAlways F.FnMut U.is_calm f.now }
+    requires futures { MakesAlways G.FnMut Fut.is_calm g.now }
     requires copies { (copy : S) → S.is_clone x.now copy → S.is_calm copy }
     ensures chain { ⟦<Chain<S, U> as CalmStream>⟧.is_calm (record { first = x.now; second = v.now; part = First }) }
     ensures flat_map { ⟦<FlatMap<S, U, F> as CalmStream>⟧.is_calm

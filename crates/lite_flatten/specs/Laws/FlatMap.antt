@@ -1,17 +1,16 @@
 -- Laws of streams that a function makes.
-use Rattle.std.specs.Fn.{Mut, AlwaysReturns}
-use Rattle.std.proofs.Common.{◌≡◌, ℕ, List, [], ◌∷◌, ◌++◌, Option, Some, None, sym, subst}
+use Rattle.std.specs.Fn.{Called, Mut}
+use Rattle.std.proofs.Common.{◌≡◌, ℕ, List, [], ◌∷◌, ◌++◌, Option, Some, None, refl, sym, subst}
 use Rattle.futures.specs.declared.task.Poll.TheVariants.{Ready, Pending}
 use Rattle.lite_base.specs.Alike.{OptionBy, SameItem, Sameness}
 use Rattle.lite_base.specs.Answers.{Answer, item}
 use Rattle.lite_base.specs.Calm.{CalmLaws}
 use Rattle.lite_base.specs.Ends.{Ends}
 use Rattle.lite_base.specs.Falling.{ItemRun}
-use Rattle.lite_base.specs.Laws.Promises.{call_promises}
 use Rattle.lite_base.specs.Ranks.{Counting, Ranks, counting_ends, ranks_of}
 use Rattle.lite_base.specs.Steady.{SteadyLawsBy}
 use Rattle.lite_base.specs.StreamLaws.{StreamLaws, runs_of}
-use Rattle.lite_flatten.specs.FlatMap.{EachMade, FlatMaps, flat_map_parts, flat_map_ranks}
+use Rattle.lite_flatten.specs.FlatMap.{EachMade, FlatMaps, MakesAlways, flat_map_parts, flat_map_ranks}
 use Rattle.lite_flatten.specs.Inner.{EachInner}
 use Rattle.lite_flatten.specs.Laws.Calming.{flattening_calm}
 use Rattle.lite_flatten.specs.Laws.Flatten.{each_inner_on, flattening, flattening_counting}
@@ -27,9 +26,14 @@ use Rattle.lite_stream.specs.Map.{Maps, map_parts}
 use Rattle.lite_stream.specs.Pointwise.{Replaces}
 use Rattle.lite_stream.specs.declared.map.Map.{Map}
 
+-- what is made has the fact, and the function goes on to make such things
+pub makes_on : {F X V : Type 0} (g : Mut F X V) (Fact : V → Type 0) (f : F) (x : X) (v : V) (h : F) → MakesAlways g Fact f → Called g f x v h → Fact v × MakesAlways g Fact h
+makes_on g Fact f x v h always called =
+    (always.at [] f h x v refl called, record { at = λ xs p q y w folds then_called. always.at (x ∷ xs) p q y w (h, (v, called), folds) then_called })
+
 module _ {F A V : Type 0} (g : Mut F (A × Unit {0}) V) (Fact : V → Type 0) where
   -- what each call promises holds of each item that comes out
-  made_has : (f h : F) (i : List (Answer A)) (before after : List (Answer V)) (v : V) → AlwaysReturns g (λ x v. Fact v) f
+  made_has : (f h : F) (i : List (Answer A)) (before after : List (Answer V)) (v : V) → MakesAlways g Fact f
       → Replaces (Calls g) f i (before ++ item v ∷ after) h → Fact v
   made_has f h [] [] after v always c = absurd c
   made_has f h [] (b ∷ before) after v always c = absurd c
@@ -39,29 +43,29 @@ module _ {F A V : Type 0} (g : Mut F (A × Unit {0}) V) (Fact : V → Type 0) wh
   made_has f h (Ready None ∷ i) (b ∷ before) after v always c = made_has f h i before after v always c.1
   made_has f h (Ready (Some x) ∷ i) [] after v always (None, k, e, called, c) = absurd called
   made_has f h (Ready (Some x) ∷ i) [] after v always (Some w, k, e, called, c) =
-      let same : w ≡ v = cc e in subst Fact same (call_promises g (λ x v. Fact v) f (x, tt) w k always called).0
+      let same : w ≡ v = cc e in subst Fact same (makes_on g Fact f (x, tt) w k always called).0
   made_has f h (Ready (Some x) ∷ i) (b ∷ before) after v always (None, k, e, called, c) = absurd called
   made_has f h (Ready (Some x) ∷ i) (b ∷ before) after v always (Some w, k, e, called, c) =
-      made_has k h i before after v (call_promises g (λ x v. Fact v) f (x, tt) w k always called).1 c
+      made_has k h i before after v (makes_on g Fact f (x, tt) w k always called).1 c
 
   -- and the function goes on to promise it
-  still_promises : (f h : F) (i : List (Answer A)) (o : List (Answer V)) → AlwaysReturns g (λ x v. Fact v) f → Replaces (Calls g) f i o h
-      → AlwaysReturns g (λ x v. Fact v) h
-  still_promises f h [] [] always c = subst (AlwaysReturns g (λ x v. Fact v)) (sym c) always
+  still_promises : (f h : F) (i : List (Answer A)) (o : List (Answer V)) → MakesAlways g Fact f → Replaces (Calls g) f i o h
+      → MakesAlways g Fact h
+  still_promises f h [] [] always c = subst (MakesAlways g Fact) (sym c) always
   still_promises f h [] (b ∷ o) always c = absurd c
   still_promises f h (a ∷ i) [] always c = absurd c
   still_promises f h (Pending ∷ i) (b ∷ o) always c = still_promises f h i o always c.1
   still_promises f h (Ready None ∷ i) (b ∷ o) always c = still_promises f h i o always c.1
   still_promises f h (Ready (Some x) ∷ i) (b ∷ o) always (None, k, e, called, c) = absurd called
   still_promises f h (Ready (Some x) ∷ i) (b ∷ o) always (Some w, k, e, called, c) =
-      still_promises k h i o (call_promises g (λ x v. Fact v) f (x, tt) w k always called).1 c
+      still_promises k h i o (makes_on g Fact f (x, tt) w k always called).1 c
 
   module _ {S B : Type 0} (run : S → List (Answer A) → S → Type 0) (run' : V → List (Answer B) → V → Type 0) where
     pub each_made : (x : Map S F) (held : Option V) → EachMade g Fact x.f held → EachInner (Maps run (Calls g)) Fact x held
     each_made x held each = (each.0, λ y before after v h. made_has x.f y.f h.ins before after v each.1 h.turned)
 
     pub made_promises : (x y : FlatMap S V F) (l : List (Answer B)) → EachMade g Fact x.stream.f x.inner_stream → FlatMaps run g run' x l y
-        → AlwaysReturns g (λ x v. Fact v) y.stream.f
+        → MakesAlways g Fact y.stream.f
     made_promises x y l each h = still_promises x.stream.f y.stream.f h.came.ins h.ins each.1 h.came.turned
 
     each_made_on : ((b c : V) (l : List (Answer B)) → Fact b → run' b l c → Fact c)

@@ -13,10 +13,10 @@ use Rattle.lite_base.specs.Laws.Alike.{alike_agrees}
 use Rattle.lite_base.specs.Laws.Calm.{prompt_join}
 use Rattle.lite_base.specs.Laws.Future.Spent.{shown_gives, spends_follow, spends_found, spends_rest, spends_stay}
 use Rattle.lite_base.specs.Laws.Hint.{same_hint}
-use Rattle.lite_base.specs.Laws.Promises.{call_promises}
 use Rattle.lite_base.specs.Steady.{FutureSteadyLawsBy, SteadyLawsBy}
 use Rattle.lite_base.specs.StreamLaws.{StreamLaws}
 use Rattle.lite_flatten.specs.FlatMap.{EachMade}
+use Rattle.lite_flatten.specs.Laws.FlatMap.{makes_on}
 use Rattle.lite_flatten.specs.Laws.Calming.{lingering_calm, through_calm_by}
 use Rattle.lite_flatten.specs.Laws.Lingering.{Giving, GivingOne, count_held, lingering_bounded, lingering_following}
 use Rattle.lite_flatten.specs.Laws.SteadyLingering.{OneValue, lingering_agreeing, lingering_found}
@@ -130,4 +130,4 @@ module _ {V B : Type 0} {gives : V → List (Poll B) → V → Type 0} {calm : V
       → CalmLaws (Thens run (Calls g) gives) (λ (m : Then S F V). is_calm m.stream × EachMade g calm m.f m.future)
   then_calm g d =
       through_calm_by then_parts d
-      (lingering_calm (Calls g) (HandsOut gives) (λ f x v h k called. call_promises g (λ x v. calm v) f (x, tt) v h k called) hands_calm)
+      (lingering_calm (Calls g) (HandsOut gives) (λ f x v h k called. makes_on g calm f (x, tt) v h k called) hands_calm)

@@ -1,5 +1,4 @@
 use Rattle.std.proofs.Common.{rules, ◌≡◌, refl, ℕ, Some}
-use Rattle.std.proofs.lemmas.List.Sorted.{answers_always}
 use Rattle.lite_base.specs.Laws.Calling.{answers_agree}
 use Rattle.lite_base.specs.declared.future.ready.Ready.{Ready}
 use Rattle.lite_source.specs.declared.once.Once.{Once}
@@ -18,7 +17,7 @@ pub merges_are_alike-requires-clause-futures : goal.merges_are_alike-requires-cl
 merges_are_alike-requires-clause-futures g c = answers_agree _ _ IsReady (λ f k x y d. search rules) (λ x y z p q. rw (p, q) refl) _ _
 
 pub merges_are_calm-requires-clause-streams : goal.merges_are_calm-requires-clause-streams
-merges_are_calm-requires-clause-streams g c = answers_always _ _ _ (λ f a r k d. tt)
+merges_are_calm-requires-clause-streams g c = record { at = λ xs p q x v folds d. tt }
 
 pub merges_are_calm-requires-clause-futures : goal.merges_are_calm-requires-clause-futures
-merges_are_calm-requires-clause-futures g c = answers_always _ _ _ (λ f a r k d. tt)
+merges_are_calm-requires-clause-futures g c = record { at = λ xs p q x v folds d. tt }

@@ -1,5 +1,4 @@
 use Rattle.std.proofs.Common.{rules, of_calls, ◌≡◌, refl, Some, ℕ, bit_xor}
-use Rattle.std.proofs.lemmas.List.Sorted.{answers_always}
 use Rattle.lite_base.specs.Laws.Calling.{answers_agree}
 use Rattle.lite_flatten.specs.declared.chain.Chain.{Chain}
 use Rattle.lite_flatten.specs.declared.chain.Part.TheVariants.{First}
@@ -10,10 +9,10 @@ abbrev IsBoth : ℕ → Chain (Once ℕ) (Once ℕ) → Type 0
 IsBoth x v = v ≡ record { first = record { value = Some x }; second = record { value = Some (bit_xor x 1) }; part = First }
 
 pub run_both-requires-clause-first : goal.run_both-requires-clause-first
-run_both-requires-clause-first c = ((tt, search of_calls), search rules, (search rules, answers_always _ _ _ (λ f a r f' d. (tt, tt))))
+run_both-requires-clause-first c = ((tt, search of_calls), search rules, (search rules, record { at = λ xs p q x v folds d. (tt, tt) }))
 
 pub run_both-requires-clause-second : goal.run_both-requires-clause-second
-run_both-requires-clause-second c = ((tt, search of_calls), search rules, (search rules, answers_always _ _ _ (λ f a r f' d. (tt, tt))))
+run_both-requires-clause-second c = ((tt, search of_calls), search rules, (search rules, record { at = λ xs p q x v folds d. (tt, tt) }))
 
 pub run_both-requires-clause-alike : goal.run_both-requires-clause-alike
 run_both-requires-clause-alike c =

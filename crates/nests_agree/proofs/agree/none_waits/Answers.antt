@@ -1,9 +1,8 @@
 use Rattle.std.proofs.Common.{rules}
-use Rattle.std.proofs.lemmas.List.Sorted.{answers_always}
 use Rattle.nests_agree.proofs.agree.none_waits.Goals as goal
 
 pub run_calm-requires-clause-calm : goal.run_calm-requires-clause-calm
-run_calm-requires-clause-calm c = (search rules, (search rules, answers_always _ _ _ (λ f a r f' d. tt)))
+run_calm-requires-clause-calm c = (search rules, (search rules, record { at = λ xs p q x v folds d. tt }))
 
 pub returns : goal.returns
 returns c =
