@@ -1,4 +1,5 @@
 pub mod Futures
+pub mod Iterators
 pub mod Laws
 pub mod Lists
 pub mod Trying
