@@ -188,7 +188,7 @@ pub trait StreamExt: Stream {
         F: FnMut(Self::Item) -> Option<T>,
         ensures parts { result ≡ record { stream = self; f = f } }
         ensures lists { (h : Self.Item → Option T) (xs : List Self.Item) → Lists Self.run self xs → ActsAs F.FnMut f h
-            → ListsAs ⟦<FilterMap<Self, F> as Stream>⟧.run result (filter_map h xs) }
+            → ListsAs ⟦<FilterMap<Self, F> as Stream>⟧.run result (filter_map h xs) × (length (filter_map h xs) ≤ length xs) }
     {
         lite_sift::make::filter_map(self, f)
     }
@@ -224,7 +224,7 @@ pub trait StreamExt: Stream {
         F: FnMut(Self::Item) -> Option<B>,
         ensures parts { result ≡ record { stream = self; f = f } }
         ensures lists { (h : Self.Item → Option B) (xs : List Self.Item) → Lists Self.run self xs → ActsAs F.FnMut f h
-            → ListsAs ⟦<MapWhile<Self, F> as Stream>⟧.run result (map_while h xs) }
+            → ListsAs ⟦<MapWhile<Self, F> as Stream>⟧.run result (map_while h xs) × (length (map_while h xs) ≤ length xs) }
     {
         make::map_while(self, f)
     }
@@ -258,7 +258,7 @@ pub trait StreamExt: Stream {
         Self: Sized,
         requires { 0 < step }
         ensures parts { result ≡ record { stream = self; step = step; i = 0 } }
-        ensures lists { (xs : List Self.Item) → Lists Self.run self xs → ListsAs (StepsBy Self.run) result (step_from step 0 xs) }
+        ensures lists { (xs : List Self.Item) → Lists Self.run self xs → ListsAs (StepsBy Self.run) result (step_from step 0 xs) × (length (step_from step 0 xs) ≤ length xs) }
     {
         lite_sift::make::step_by(self, step)
     }
