@@ -1,15 +1,16 @@
 //! Streams: sources, and what every stream can be adapted by.
-ghost use Rattle.std.specs.Prelude.{◌≡◌, ◌<◌, ◌≤◌, ◌^◌, ◌++◌, [], List, Bool, IfOk, IfSome, IsSome, MatchResult, None, Option, Result};
+ghost use Rattle.std.specs.Prelude.{◌≡◌, ℕ, ◌-◌, ◌<◌, ◌≤◌, ◌^◌, ◌++◌, ◌∷◌, [], List, Bool, IfOk, IfSome, IsSome, MatchResult, None, Ok, Option, Result};
 ghost use Rattle.std.specs.Prelude.{Some, drop, false, flat_map, length, map, not, take};
 ghost use Rattle.std.specs.List.{AllByRecursion, enumerate_from, filter, filter_map, find, fold, last_or, list_all, list_any, position, prefix_len};
-ghost use Rattle.std.specs.List.{slice_get, zip};
+ghost use Rattle.std.specs.List.{range_with_len, slice_get, zip};
 ghost use Rattle.std.specs.Iterator.{ActsAs, ActsAsAt, ActsAsOnTwo};
 ghost use Rattle.std.specs.Iterator.Runs.{CallKeepsClosure};
 ghost use Rattle.std.specs.Fn.{Called, CalledAt};
 ghost use Rattle.std.specs.declared.alloc.AllocError.{AllocError};
 ghost use denote.Ref.{Bor};
+ghost use Rattle.lite_base.specs.Answers.{until_end};
 ghost use Rattle.lite_base.specs.Calling.{Calls};
-ghost use Rattle.lite_stream.specs.EachItem.{MayCallEach};
+ghost use Rattle.lite_stream.specs.EachItem.{MayCallEach, items_in};
 ghost use Rattle.lite_sift.specs.Filter.{Filters};
 ghost use Rattle.lite_sift.specs.Skip.{SkipsFirst};
 ghost use Rattle.lite_sift.specs.SkipWhile.{SkipsWhile};
@@ -28,7 +29,7 @@ ghost use Rattle.lite_flatten.specs.Flatten.{Flattens};
 ghost use Rattle.lite_flatten.specs.Then.{Thens};
 ghost use Rattle.lite_flatten.specs.declared.chain.Part.TheVariants.{First};
 
-use lite_base::Future;
+use lite_base::{Future, Poll};
 pub use lite_base::{Counted, OkCounted, Stream};
 pub use lite_block::BlockOn;
 pub use lite_block::make::block_on;
@@ -48,8 +49,7 @@ pub use lite_merge::make::{or, race, race_with_seed};
 pub use lite_merge::{Or, Race, Zip};
 pub use lite_sift::{Filter, FilterMap, Skip, SkipWhile, StepBy};
 pub use lite_source::make::{
-    empty, iter, once, once_future, pending, poll_fn, repeat, repeat_with, script, try_unfold,
-    unfold,
+    iter, once_future, pending, poll_fn, repeat, repeat_with, try_unfold, unfold,
 };
 pub use lite_source::{
     Empty, Iter, Once, OnceFuture, Pending, PollFn, Repeat, RepeatWith, Script, TryUnfold, Unfold,
@@ -57,15 +57,70 @@ pub use lite_source::{
 use lite_stream::make;
 pub use lite_stream::{Copied, Enumerate, Fuse, Inspect, Map, MapWhile, Scan, Take, TakeWhile};
 use rand_core::Rng;
-use std::vec::IntoIter;
+use std::ops::Range;
+use std::{array, iter as iterators, slice, vec};
+
+/// A stream that ends at each poll. Ported from `src/stream.rs`, `empty`.
+pub fn empty<T>() -> Empty<T>
+    ensures made { result ≡ record { item = record {} } }
+    ensures lists { ListsAs {A = T} ⟦<Empty<T> as Stream>⟧.run result [] }
+{
+    lite_source::make::empty()
+}
 
 /// The stream of the items of a vector: `iter`, with its items by a list.
-pub fn iter_vec<T: Drop>(items: Vec<T>) -> Iter<IntoIter<T>>
-    ensures fronts { Fronts ⟦<Iter<IntoIter<T>> as Stream>⟧.run result items.items }
+pub fn iter_vec<T: Drop>(items: Vec<T>) -> Iter<vec::IntoIter<T>>
+    ensures fronts { Fronts ⟦<Iter<vec::IntoIter<T>> as Stream>⟧.run result items.items }
     ensures small { length items.items < 2 ^ 64 }
-    ensures lists { ListsAs ⟦<Iter<IntoIter<T>> as Stream>⟧.run result items.items }
+    ensures lists { ListsAs ⟦<Iter<vec::IntoIter<T>> as Stream>⟧.run result items.items }
 {
     iter(items)
+}
+
+/// The stream of copies of the items of a slice, by `iter`, with its items by a list.
+pub fn iter_slice<'a, T: Copy>(items: &'a [T]) -> Iter<iterators::Copied<slice::Iter<'a, T>>>
+    ensures fronts { Fronts ⟦<Iter<iterators::Copied<slice::Iter<'a, T>>> as Stream>⟧.run result items.now }
+    ensures small { length items.now < 2 ^ 64 }
+    ensures lists { ListsAs ⟦<Iter<iterators::Copied<slice::Iter<'a, T>>> as Stream>⟧.run result items.now }
+{
+    iter(items.iter().copied())
+}
+
+/// The stream of the items of an array: `iter`, with its items by a list.
+pub fn iter_array<T: Drop, const N: usize>(items: [T; N]) -> Iter<array::IntoIter<T, N>>
+    ensures fronts { Fronts ⟦<Iter<array::IntoIter<T, N>> as Stream>⟧.run result items }
+    ensures lists { ListsAs ⟦<Iter<array::IntoIter<T, N>> as Stream>⟧.run result items }
+{
+    iter(items)
+}
+
+/// The stream of the numbers of a range: `iter`, with its items by a list.
+pub fn iter_range(items: Range<usize>) -> Iter<Range<usize>>
+    ensures fronts { (n : ℕ) → items.end - items.start ≡ n → (range_with_len items.start n ≡ range_with_len items.start n)
+        × Fronts ⟦<Iter<Range<usize>> as Stream>⟧.run result (range_with_len items.start n) }
+    ensures lists { (n : ℕ) → items.end - items.start ≡ n → ListsAs ⟦<Iter<Range<usize>> as Stream>⟧.run result (range_with_len items.start n) }
+{
+    iter(items)
+}
+
+/// A stream that gives `t`, and then ends for ever. Ported from `src/stream.rs`, `once`.
+pub fn once<T>(t: T) -> Once<T>
+    ensures made { result ≡ record { value = Some t } }
+    ensures lists { ListsAs ⟦<Once<T> as Stream>⟧.run result (t ∷ []) }
+    ensures fronts { Fronts ⟦<Once<T> as Stream>⟧.run result (t ∷ []) }
+{
+    lite_source::make::once(t)
+}
+
+/// A stream that gives these answers, one a poll and in order, and then ends for ever. A poll takes no memory.
+///
+/// The original has no such call.
+pub fn script<T>(answers: Vec<Poll<Option<T>>>) -> Script<T>
+    ensures made { result ≡ answers.items }
+    ensures lists { ListsAs ⟦<Script<T> as Stream>⟧.run result (items_in (until_end answers.items)) }
+    ensures fronts { Fronts ⟦<Script<T> as Stream>⟧.run result (items_in answers.items) }
+{
+    lite_source::make::script(answers)
 }
 
 /// What every stream can be adapted and consumed by. Ported from `src/stream.rs`, `StreamExt`.
@@ -151,7 +206,7 @@ pub trait StreamExt: Stream {
         F: FnMut(Self::Item) -> Option<T>,
         ensures parts { result ≡ record { stream = self; f = f } }
         ensures lists { (h : Self.Item → Option T) (xs : List Self.Item) → Lists Self.run self xs → ActsAs F.FnMut f h
-            → ListsAs ⟦<FilterMap<Self, F> as Stream>⟧.run result (filter_map h xs) }
+            → ListsAs ⟦<FilterMap<Self, F> as Stream>⟧.run result (filter_map h xs) × (length (filter_map h xs) ≤ length xs) }
     {
         lite_sift::make::filter_map(self, f)
     }
@@ -187,7 +242,7 @@ pub trait StreamExt: Stream {
         F: FnMut(Self::Item) -> Option<B>,
         ensures parts { result ≡ record { stream = self; f = f } }
         ensures lists { (h : Self.Item → Option B) (xs : List Self.Item) → Lists Self.run self xs → ActsAs F.FnMut f h
-            → ListsAs ⟦<MapWhile<Self, F> as Stream>⟧.run result (map_while h xs) }
+            → ListsAs ⟦<MapWhile<Self, F> as Stream>⟧.run result (map_while h xs) × (length (map_while h xs) ≤ length xs) }
     {
         make::map_while(self, f)
     }
@@ -221,7 +276,8 @@ pub trait StreamExt: Stream {
         Self: Sized,
         requires { 0 < step }
         ensures parts { result ≡ record { stream = self; step = step; i = 0 } }
-        ensures lists { (xs : List Self.Item) → Lists Self.run self xs → ListsAs (StepsBy Self.run) result (step_from step 0 xs) }
+        ensures lists { (xs : List Self.Item) → Lists Self.run self xs
+            → ListsAs (StepsBy Self.run) result (step_from step 0 xs) × (length (step_from step 0 xs) ≤ length xs) }
     {
         lite_sift::make::step_by(self, step)
     }

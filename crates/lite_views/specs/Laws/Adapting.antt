@@ -1,6 +1,8 @@
 -- The items of an adapter, by those of its source.
 use Rattle.std.proofs.Common.{◌≡◌, ◌≤◌, ◌<◌, ◌==◌, ◌∙◌, ℕ, zero, suc, ◌-◌, ◌+◌, ◌%◌, ◌^◌, Bor, List, [], ◌∷◌, ◌++◌, length, map, take, drop, inl, inr, refl}
 use Rattle.std.proofs.Common.{ap, sym, subst, arith, eqb-true}
+use Rattle.std.proofs.lemmas.List.{length-map}
+use Rattle.std.proofs.lemmas.List.FromFn.{length-enumerate_from}
 use Rattle.std.proofs.Math.Nat.{mod-add-mod, mod-eq_of_lt, zero-mod}
 use Rattle.std.specs.Prelude.{⊤, Bool, true, false, cond, Option, Some, None}
 use Rattle.std.specs.List.{FoldsTo, cons_option, enumerate_from, filter, filter_map, prefix_len, take_while, zip}
@@ -410,3 +412,28 @@ filter_fewer test (x ∷ xs) = let rest = filter_fewer test xs in choice (test x
     choice : {A : Type 0} (b : Bool) (x : A) (ys xs : List A) → length ys ≤ length xs → length (cond b (x ∷ ys) ys) ≤ length (x ∷ xs)
     choice true x ys xs h = omega (arith, h)
     choice false x ys xs h = omega (arith, h)
+
+pub filter_map_fewer : {A B : Type 0} (h : A → Option B) (xs : List A) → length (filter_map h xs) ≤ length xs
+filter_map_fewer h [] = omega arith
+filter_map_fewer h (x ∷ xs) = let rest = filter_map_fewer h xs in choice (h x) (filter_map h xs) xs rest
+  where
+    choice : {A B : Type 0} (o : Option B) (ys : List B) (xs : List A) → length ys ≤ length xs → length (cons_option o ys) ≤ suc (length xs)
+    choice None ys xs e = omega (arith, e)
+    choice (Some y) ys xs e = omega (arith, e)
+
+pub map_while_fewer : {A B : Type 0} (h : A → Option B) (xs : List A) → length (map_while h xs) ≤ length xs
+map_while_fewer h [] = omega arith
+map_while_fewer h (x ∷ xs) = let rest = map_while_fewer h xs in choice (h x) (map_while h xs) xs rest
+  where
+    choice : {A B : Type 0} (o : Option B) (ys : List B) (xs : List A) → length ys ≤ length xs → length (cons_while o ys) ≤ suc (length xs)
+    choice None ys xs e = omega arith
+    choice (Some y) ys xs e = omega (arith, e)
+
+pub step_fewer : {A : Type 0} (step n : ℕ) (xs : List A) → length (step_from step n xs) ≤ length xs
+step_fewer step n xs =
+    omega (
+      arith,
+      length-map (filter (λ p. p.0 % step == 0) (enumerate_from n xs)) (λ p. p.1),
+      filter_fewer (λ p. p.0 % step == 0) (enumerate_from n xs),
+      length-enumerate_from n xs,
+    )

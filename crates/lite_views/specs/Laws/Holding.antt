@@ -33,8 +33,10 @@ given_fits (Ready (Some z) ∷ own) l y ys g e = (let k = g.0 in cc, subst (λ k
 -- where what is made of the item x gives Pendings while it is held, and before it is done the item h x
 module _ {F A V B : Type 0} (call : F → A → V → F → Type 0) (gives : V → List (Answer B) → Option V → Type 0) (h : A → B) (f : F)
     (makes : (x : A) (v : V) (g : F) → call f x v g
-    → (g ≡ f) × ((out : List (Answer B)) (w : V) → gives v out (Some w) → Waiting out) × ((out : List (Answer B)) → gives v out None → Gives out (Some (h x)))) where
-  pub lingers_fits : (p q : F) (i : List (Answer A)) (o : List (Answer B)) (last : Option V) (xs : List A) → p ≡ f → Fits i xs → Lingers call gives p i o q last → Fits o (map h xs)
+    → (g ≡ f) × ((out : List (Answer B)) (w : V) → gives v out (Some w) → Waiting out)
+    × ((out : List (Answer B)) → gives v out None → Gives out (Some (h x)))) where
+  pub lingers_fits : (p q : F) (i : List (Answer A)) (o : List (Answer B)) (last : Option V) (xs : List A) → p ≡ f → Fits i xs
+      → Lingers call gives p i o q last → Fits o (map h xs)
   lingers_fits p q [] [] last xs g e t = tt
   lingers_fits p q [] (b ∷ o) last xs g e t = absurd t
   lingers_fits p q (a ∷ i) [] last xs g e t = tt
@@ -72,7 +74,8 @@ awaited_fits {F} {A} {V} {B} call run h f q acts i o last xs e t =
     waits : (v : V) (out : List (Answer B)) (w : V) → HandsOut run v out (Some w) → Waiting out
     waits v out w s = subst Waiting (sym s.3) (waiting_handed s.0 s.1)
 
-    done : (y : B) (v : V) → ((ins : List (Poll B)) (w : B) → Finishes run v ins w → w ≡ y) → (out : List (Answer B)) → HandsOut run v out None → Gives out (Some y)
+    done : (y : B) (v : V) → ((ins : List (Poll B)) (w : B) → Finishes run v ins w → w ≡ y) → (out : List (Answer B)) → HandsOut run v out None
+        → Gives out (Some y)
     done y v is out s =
         let gave : Gives s.ins y = subst (Gives s.ins) (is s.ins s.value s.finishes) s.finishes.gives in
         let joined : out ≡ map (handed Some) s.ins ++ [] = s.joined ∙ ap (λ l. map (handed Some) s.ins ++ l) s.later in
@@ -85,7 +88,8 @@ ready_value x w (Pending ∷ ins) left g h = absurd (cc h.0)
 ready_value x w (Ready y ∷ ins) left g h = let a = g.0 in let b = h.0 in cc
 
 -- `cloned`, where a clone is not refused and is equal
-module _ {T E : Type 0} (is_clone : T → T → Type 0) (is_infallible : T → Type 0) (infallible : (x : T) → is_infallible x) (equal : (x y : T) → is_clone x y → y ≡ x) where
+module _ {T E : Type 0} (is_clone : T → T → Type 0) (is_infallible : T → Type 0) (infallible : (x : T) → is_infallible x)
+    (equal : (x y : T) → is_clone x y → y ≡ x) where
   abbrev shown : Bor T → Result T E
   shown x = Ok x.now
 
@@ -100,7 +104,8 @@ module _ {T E : Type 0} (is_clone : T → T → Type 0) (is_infallible : T → T
       waits v [] w s = tt
       waits v (a ∷ out) w s = absurd (s.0.0.0 (infallible v.now))
 
-      unrefused : (v : Bor T) (refused l : List (Answer (Result T E))) (y : Result T E) → AllByRecursion (IsRefusal is_clone is_infallible v) refused → Gives l (Some y) → Gives (refused ++ l) (Some y)
+      unrefused : (v : Bor T) (refused l : List (Answer (Result T E))) (y : Result T E) → AllByRecursion (IsRefusal is_clone is_infallible v) refused
+          → Gives l (Some y) → Gives (refused ++ l) (Some y)
       unrefused v [] l y s g = g
       unrefused v (a ∷ refused) l y s g = absurd (s.0.0 (infallible v.now))
 
@@ -137,7 +142,8 @@ module _ {A V B : Type 0} (run : V → List (Answer B) → V → Type 0) (h : A 
   called_makes call f p q acts [] [] xs g e t = tt
   called_makes call f p q acts [] (b ∷ m) xs g e t = absurd t
   called_makes call f p q acts (a ∷ i) [] xs g e t = tt
-  called_makes call f p q acts (Pending ∷ i) (b ∷ m) xs g e t = subst (λ (c : Answer V). Makes (c ∷ m) xs) (sym t.0) (called_makes call f p q acts i m xs g e t.1)
+  called_makes call f p q acts (Pending ∷ i) (b ∷ m) xs g e t =
+      subst (λ (c : Answer V). Makes (c ∷ m) xs) (sym t.0) (called_makes call f p q acts i m xs g e t.1)
   called_makes call f p q acts (Ready None ∷ i) (b ∷ m) xs g e t = subst (λ (c : Answer V). Makes (c ∷ m) xs) (sym t.0) e
   called_makes call f p q acts (Ready (Some x) ∷ i) (b ∷ m) [] g e t = absurd e
   called_makes call f p q acts (Ready (Some x) ∷ i) (b ∷ m) (y ∷ xs) g e (None, r, same, called, more) = absurd called
@@ -147,7 +153,8 @@ module _ {A V B : Type 0} (run : V → List (Answer B) → V → Type 0) (h : A 
       subst (λ (c : Answer V). Makes (c ∷ m) (y ∷ xs)) (sym same) (here, called_makes call f r q acts i m xs a.0 e.1 more)
 
 -- the streams themselves are the items
-pub itself_makes : {V B : Type 0} (run : V → List (Answer B) → V → Type 0) (h : V → List B) → ((v : V) → Lists run v (h v)) → (m : List (Answer V)) (xs : List V) → Fits m xs → Makes run h m xs
+pub itself_makes : {V B : Type 0} (run : V → List (Answer B) → V → Type 0) (h : V → List B) → ((v : V) → Lists run v (h v))
+    → (m : List (Answer V)) (xs : List V) → Fits m xs → Makes run h m xs
 itself_makes run h lists [] xs e = tt
 itself_makes run h lists (Pending ∷ m) xs e = itself_makes run h lists m xs e
 itself_makes run h lists (Ready None ∷ m) xs e = e

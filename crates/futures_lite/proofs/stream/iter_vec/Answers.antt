@@ -1,14 +1,17 @@
-use Rattle.std.proofs.Common.{◌∙◌, refl}
-use Rattle.lite_nests.specs.Laws.Sources.{vec_front}
-use Rattle.lite_views.specs.Laws.Sources.{vec_fits}
-use Rattle.lite_views.specs.Views.{Fronts, Lists, seen}
+use Rattle.std.proofs.Common.{◌∙◌, ap, length, subst, sym}
+use Rattle.std.specs.Vec.Iter.{into_iter_steps, into_iter_len}
+use Rattle.std.specs.Iterator.{at_most}
+use Rattle.lite_views.specs.Iterators.{GivesAll}
+use Rattle.lite_views.specs.Laws.Sources.{vec_gives}
 use Rattle.futures_lite.proofs.stream.iter_vec.Goals as goal
 
 pub returns : goal.returns
-unfolding Lists Fronts
 returns g c =
+    let e = c.iter.ensures in
+    let counted = e.1 ∙ c.args.items.ok.0 ∙ ap length (sym e.0) in
+    let all = subst (GivesAll into_iter_steps (λ i. at_most (into_iter_len i)) c.iter.result) e.0 (vec_gives _ c.iter.result counted) in
     record {
-      fronts = λ l t h. rw (← c.iter.ensures.0) (vec_front _ _ _ _ l h);
-      small = rw (← c.args.items.ok.0, ← c.iter.ensures.1) c.iter.ensures.2;
-      lists = (refl, seen _ _, λ l t h. vec_fits _ _ _ _ l _ c.iter.ensures.0 (c.iter.ensures.1 ∙ c.args.items.ok.0) h);
+      fronts = all.1;
+      small = rw (← c.args.items.ok.0, ← e.1) e.2;
+      lists = all.0;
     }
