@@ -258,7 +258,8 @@ pub trait StreamExt: Stream {
         Self: Sized,
         requires { 0 < step }
         ensures parts { result ≡ record { stream = self; step = step; i = 0 } }
-        ensures lists { (xs : List Self.Item) → Lists Self.run self xs → ListsAs (StepsBy Self.run) result (step_from step 0 xs) × (length (step_from step 0 xs) ≤ length xs) }
+        ensures lists { (xs : List Self.Item) → Lists Self.run self xs
+            → ListsAs (StepsBy Self.run) result (step_from step 0 xs) × (length (step_from step 0 xs) ≤ length xs) }
     {
         lite_sift::make::step_by(self, step)
     }
