@@ -1,5 +1,6 @@
-ghost use Rattle.std.specs.Prelude.{◌≡◌, ◌==◌, ◌%◌, ◌*◌, IfOk, nat_lt, drop};
-ghost use Rattle.std.specs.List.{list_all, prefix_len, slice_get};
+//! Nests that are asked something.
+ghost use Rattle.std.specs.Prelude.{◌≡◌, ◌==◌, ◌%◌, IfOk, None, drop, nat_lt, take};
+ghost use Rattle.std.specs.List.{last_or, list_all, position, prefix_len, slice_get};
 
 use futures_lite::StreamExt;
 use futures_lite::future::block_on;
@@ -18,6 +19,15 @@ where
     block_on(rt, large.next())
 }
 
+/// The last item before the first that is not below 10.
+pub fn last_small<R>(rt: &R, items: Vec<u32>) -> Result<Option<u32>, AllocError>
+where
+    R: Wait + RandomSource + AllocGlobal,
+    ensures { IfOk result (λ v. v ≡ last_or None (take (prefix_len (λ x. nat_lt x 10) items.items) items.items)) }
+{
+    block_on(rt, iter(items).take_while(|x| *x < 10).last())
+}
+
 /// Whether each is even.
 pub fn all_even<R>(rt: &R, items: Vec<u32>) -> Result<bool, AllocError>
 where
@@ -26,4 +36,14 @@ where
 {
     let mut numbers = iter(items);
     block_on(rt, numbers.all(|x: u32| x % 2 == 0))
+}
+
+/// The place of the first even item.
+pub fn place_of_even<R>(rt: &R, items: Vec<u32>) -> Result<Option<usize>, AllocError>
+where
+    R: Wait + RandomSource + AllocGlobal,
+    ensures { IfOk result (λ v. v ≡ position (λ x. x % 2 == 0) items.items) }
+{
+    let mut numbers = iter(items);
+    block_on(rt, numbers.position(|x: u32| x % 2 == 0))
 }

@@ -1,73 +1,15 @@
-ghost use Rattle.std.specs.Prelude.{◌≡◌, ◌==◌, ◌%◌, ◌*◌, ◌++◌, IfOk, map, take, length};
-ghost use Rattle.std.specs.List.{filter, zip};
+//! Nests whose items are collected. Where memory is refused the error says so.
+ghost use Rattle.std.specs.Prelude.{◌≡◌, ◌==◌, ◌%◌, ◌*◌, ◌+◌, ◌++◌, ◌∷◌, [], Err, IfOk, Ok, flat_map, if◌then◌else◌, map, nat_lt, not};
+ghost use Rattle.std.specs.List.{enumerate_from, filter, zip};
 
 use futures_lite::StreamExt;
 use futures_lite::future::block_on;
-use futures_lite::stream::{Refused, iter_vec as iter};
+use futures_lite::stream::{TryCollectError, iter_vec as iter, once};
 use std::alloc::{AllocError, AllocGlobal};
 use std::random::RandomSource;
 use std::sync::Wait;
 
 /// The doubled even items.
-pub fn doubled_evens<R>(
-    rt: &R,
-    items: Vec<u32>,
-) -> Result<Result<Vec<u64>, Refused<Vec<u64>, u64>>, AllocError>
-where
-    R: Wait + RandomSource + AllocGlobal,
-    ensures { IfOk result (λ r. IfOk r (λ v. v.items ≡ map (λ x. x * 2) (filter (λ x. x % 2 == 0) items.items))) }
-{
-    let evens = iter(items).filter(|x| *x % 2 == 0);
-    let doubled = evens.map(|x: u32| x as u64 * 2);
-    block_on(rt, doubled.collect::<Vec<u64>>(rt.alloc()))
-}
-
-/// How many of the first `n` there are.
-pub fn counted<R>(rt: &R, items: Vec<u32>, n: usize) -> Result<usize, AllocError>
-where
-    R: Wait + RandomSource + AllocGlobal,
-    ensures { IfOk result (λ v. v ≡ length (take n items.items)) }
-{
-    block_on(rt, iter(items).take(n).count())
-}
-
-/// Pairs of two vectors' items.
-pub fn pairs<R>(
-    rt: &R,
-    first: Vec<u8>,
-    second: Vec<u32>,
-) -> Result<Result<Vec<(u8, u32)>, Refused<Vec<(u8, u32)>, (u8, u32)>>, AllocError>
-where
-    R: Wait + RandomSource + AllocGlobal,
-    ensures { IfOk result (λ r. IfOk r (λ v. v.items ≡ zip first.items second.items)) }
-{
-    block_on(
-        rt,
-        iter(first)
-            .zip(iter(second))
-            .collect::<Vec<(u8, u32)>>(rt.alloc()),
-    )
-}
-
-/// One vector's items after the other's.
-pub fn joined<R>(
-    rt: &R,
-    first: Vec<u8>,
-    second: Vec<u8>,
-) -> Result<Result<Vec<u8>, Refused<Vec<u8>, u8>>, AllocError>
-where
-    R: Wait + RandomSource + AllocGlobal,
-    ensures { IfOk result (λ r. IfOk r (λ v. v.items ≡ first.items ++ second.items)) }
-{
-    block_on(
-        rt,
-        iter(first)
-            .chain(iter(second))
-            .collect::<Vec<u8>>(rt.alloc()),
-    )
-}
-
-/// The doubled even items, with one error.
 pub fn evens_doubled<R>(rt: &R, items: Vec<u32>) -> Result<Vec<u64>, AllocError>
 where
     R: Wait + RandomSource + AllocGlobal,
@@ -75,8 +17,78 @@ where
 {
     let evens = iter(items).filter(|x| *x % 2 == 0);
     let doubled = evens.map(|x: u32| x as u64 * 2);
-    match block_on(rt, doubled.collect::<Vec<u64>>(rt.alloc()))? {
-        Ok(v) => Ok(v),
-        Err(_) => Err(AllocError),
+    block_on(rt, doubled.collect::<Vec<u64>>(rt.alloc()))?.map_err(|_| AllocError)
+}
+
+/// One vector's items after the other's.
+pub fn joined<R>(rt: &R, first: Vec<u8>, second: Vec<u8>) -> Result<Vec<u8>, AllocError>
+where
+    R: Wait + RandomSource + AllocGlobal,
+    ensures { IfOk result (λ v. v.items ≡ first.items ++ second.items) }
+{
+    let both = iter(first).chain(iter(second));
+    block_on(rt, both.collect::<Vec<u8>>(rt.alloc()))?.map_err(|_| AllocError)
+}
+
+/// Pairs of two vectors' items.
+pub fn pairs<R>(rt: &R, first: Vec<u8>, second: Vec<u32>) -> Result<Vec<(u8, u32)>, AllocError>
+where
+    R: Wait + RandomSource + AllocGlobal,
+    ensures { IfOk result (λ v. v.items ≡ zip first.items second.items) }
+{
+    let both = iter(first).zip(iter(second));
+    block_on(rt, both.collect::<Vec<(u8, u32)>>(rt.alloc()))?.map_err(|_| AllocError)
+}
+
+/// Each item beside its number.
+pub fn numbered<R>(rt: &R, items: Vec<u32>) -> Result<Vec<(usize, u32)>, AllocError>
+where
+    R: Wait + RandomSource + AllocGlobal,
+    ensures { IfOk result (λ v. v.items ≡ enumerate_from 0 items.items) }
+{
+    let counted = iter(items).enumerate();
+    block_on(rt, counted.collect::<Vec<(usize, u32)>>(rt.alloc()))?.map_err(|_| AllocError)
+}
+
+/// The even items, and the others.
+pub fn parted<R>(rt: &R, items: Vec<u32>) -> Result<(Vec<u32>, Vec<u32>), AllocError>
+where
+    R: Wait + RandomSource + AllocGlobal,
+    ensures evens { IfOk result (λ v. v.0.items ≡ filter (λ x. x % 2 == 0) items.items) }
+    ensures others { IfOk result (λ v. v.1.items ≡ filter (λ x. not (x % 2 == 0)) items.items) }
+{
+    let both = iter(items).partition::<Vec<u32>, _>(rt.alloc(), |x| *x % 2 == 0);
+    block_on(rt, both)?.map_err(|_| AllocError)
+}
+
+/// What stands in the place of digits that are all right.
+pub enum NotDigits {
+    /// This item is none.
+    Item(u32),
+    /// Memory was refused.
+    Memory,
+}
+
+/// The items, if each is a digit, and else the first that is none.
+pub fn digits<R>(rt: &R, items: Vec<u32>) -> Result<Vec<u32>, NotDigits>
+where
+    R: Wait + RandomSource + AllocGlobal,
+    ensures { IfOk result (λ v. map Ok v.items ≡ map (λ x. if nat_lt x 10 then Ok x else Err x) items.items) }
+{
+    let checked = iter(items).map(|x: u32| if x < 10 { Ok(x) } else { Err(x) });
+    match block_on(rt, checked.try_collect::<u32, u32, Vec<u32>>(rt.alloc())) {
+        Ok(Ok(v)) => Ok(v),
+        Ok(Err(TryCollectError::Source(x))) => Err(NotDigits::Item(x)),
+        Ok(Err(TryCollectError::Memory(_))) | Err(_) => Err(NotDigits::Memory),
     }
+}
+
+/// Each item, and the number after it.
+pub fn flattened<R>(rt: &R, items: Vec<u32>) -> Result<Vec<u64>, AllocError>
+where
+    R: Wait + RandomSource + AllocGlobal,
+    ensures { IfOk result (λ v. v.items ≡ flat_map (λ x. x ∷ (x + 1) ∷ []) items.items) }
+{
+    let each = iter(items).flat_map(|x: u32| once(x as u64).chain(once(x as u64 + 1)));
+    block_on(rt, each.collect::<Vec<u64>>(rt.alloc()))?.map_err(|_| AllocError)
 }

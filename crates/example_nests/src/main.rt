@@ -5,31 +5,30 @@ mod ask;
 mod gather;
 mod sum;
 
-use ask::{all_even, first_large};
-use gather::{counted, doubled_evens, evens_doubled, joined, pairs};
+use ask::{all_even, first_large, last_small, place_of_even};
+use gather::{NotDigits, digits, evens_doubled, flattened, joined, numbered, pairs, parted};
 use std::io;
-use sum::{doubled_sum, total};
+use sum::{counted, total};
 
 fn main(rt: HostRuntime) -> io::Result<()> {
     let numbers = vec![in rt.alloc(); 3u32, 4, 10, 11]?;
-    println!(rt; "{:?}", first_large(&rt, numbers.clone()?)?)?;
-    println!(rt; "{}", all_even(&rt, numbers.clone()?)?)?;
-    println!(rt; "{}", counted(&rt, numbers.clone()?, 3)?)?;
-    println!(rt;
-        "{} {}",
-        doubled_sum(&rt, numbers.clone()?)?,
-        total(&rt, numbers.clone()?)?
-    )?;
+    let bytes = vec![in rt.alloc(); 1u8, 2]?;
     println!(rt; "{:?}", evens_doubled(&rt, numbers.clone()?)?)?;
-    if let Ok(doubled) = doubled_evens(&rt, numbers.clone()?)? {
-        println!(rt; "{doubled:?}")?;
-    }
-    let letters = vec![in rt.alloc(); 1u8, 2]?;
-    if let Ok(all) = joined(&rt, letters.clone()?, letters.clone()?)? {
-        println!(rt; "{all:?}")?;
-    }
-    if let Ok(all) = pairs(&rt, letters, numbers)? {
-        println!(rt; "{all:?}")?;
+    println!(rt; "{}", counted(&rt, numbers.clone()?, 3)?)?;
+    println!(rt; "{}", total(&rt, numbers.clone()?)?)?;
+    println!(rt; "{:?}", first_large(&rt, numbers.clone()?)?)?;
+    println!(rt; "{:?}", pairs(&rt, bytes.clone()?, numbers.clone()?)?)?;
+    println!(rt; "{:?}", joined(&rt, bytes.clone()?, bytes)?)?;
+    println!(rt; "{}", all_even(&rt, numbers.clone()?)?)?;
+    println!(rt; "{:?}", last_small(&rt, numbers.clone()?)?)?;
+    println!(rt; "{:?}", place_of_even(&rt, numbers.clone()?)?)?;
+    println!(rt; "{:?}", numbered(&rt, numbers.clone()?)?)?;
+    println!(rt; "{:?}", parted(&rt, numbers.clone()?)?)?;
+    println!(rt; "{:?}", flattened(&rt, numbers.clone()?)?)?;
+    match digits(&rt, numbers) {
+        Ok(all) => println!(rt; "{all:?}")?,
+        Err(NotDigits::Item(x)) => println!(rt; "{x} is no digit")?,
+        Err(NotDigits::Memory) => println!(rt; "out of memory")?,
     }
     Ok(())
 }
