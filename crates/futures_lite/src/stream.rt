@@ -1,5 +1,5 @@
 //! Streams: sources, and what every stream can be adapted by.
-ghost use Rattle.std.specs.Prelude.{◌≡◌, ◌<◌, ◌≤◌, ◌^◌, ◌++◌, [], List, Bool, IfOk, IfSome, IsSome, MatchResult, None, Option, Some, false, length, map, take, drop};
+ghost use Rattle.std.specs.Prelude.{◌≡◌, ◌<◌, ◌≤◌, ◌^◌, ◌++◌, ℕ, [], List, Bool, IfOk, IfSome, IsSome, MatchResult, None, Option, Some, false, length, map, take, drop};
 ghost use Rattle.std.specs.List.{AllByRecursion, enumerate_from, filter, filter_map, find, fold, list_all, list_any, prefix_len, slice_get, zip};
 ghost use Rattle.std.specs.Iterator.{ActsAs, ActsAsAt, ActsAsOnTwo};
 ghost use Rattle.std.specs.Iterator.Runs.{CallKeepsClosure};
@@ -16,6 +16,7 @@ ghost use Rattle.lite_stream.specs.TakeWhile.{TakesWhile};
 ghost use Rattle.lite_merge.specs.Zip.{Zips};
 ghost use Rattle.lite_views.specs.Lists.{map_while, step_from};
 ghost use Rattle.lite_views.specs.Views.{Fronts, Lists, ListsAs, Seen, ValueHolds};
+ghost use Rattle.lite_byte_views.specs.OkLists.{AllTaken, OkLists, OkSeen};
 ghost use Rattle.lite_views.specs.Futures.{CountRuns, FoldRuns};
 ghost use Rattle.lite_cycle.specs.Cycle.{CycleOf};
 ghost use Rattle.lite_flatten.specs.declared.chain.Part.TheVariants.{First};
@@ -509,6 +510,8 @@ pub trait StreamExt: Stream {
         ensures stream { result.stream ≡ self }
         ensures open { IsSome result.folder.items }
         ensures empty { IfSome result.folder.items (λ c. C.holds c []) }
+        ensures read { (f : T → List ℕ) (xs : List (List ℕ)) → OkLists Self.run self f xs
+            → OkSeen self f xs × ValueHolds AllocError ⟦<TryCollectFuture<Self, C> as Future>⟧.run result (AllTaken C.holds f xs) }
     {
         lite_gather::make::try_collect(self, alloc)
     }

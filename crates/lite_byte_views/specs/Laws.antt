@@ -1,2 +1,3 @@
 pub mod Collecting
+pub mod Futures
 pub mod Streams

@@ -1,0 +1,15 @@
+use Rattle.lite_byte_views.specs.Laws.Collecting.{try_collected}
+use Rattle.lite_byte_views.specs.OkLists.{OkLists, ok_seen}
+use Rattle.lite_views.specs.Laws.Consuming.{filled}
+use Rattle.lite_views.specs.Views.{value_holds}
+use Rattle.futures_lite.proofs.stream.StreamExt.try_collect.Goals as goal
+
+pub returns-clause-read : goal.returns-clause-read
+unfolding OkLists
+returns-clause-read g c f xs lists = (
+  ok_seen _ _ _,
+  value_holds _ _ _ (λ ins v fin.
+      let start = filled g.C.Gather.holds c.try_collect.result.folder.items c.try_collect.ensures.open c.try_collect.ensures.empty in
+      let from : OkLists g.Self.Stream.run c.try_collect.result.stream f xs = rw c.try_collect.ensures.stream lists in
+      try_collected (λ m. m.items) g.C.Gather.holds f _ _ ins v xs start.0 start.1 start.2 from fin),
+)
