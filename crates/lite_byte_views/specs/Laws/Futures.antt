@@ -1,5 +1,5 @@
 -- The futures that read from a reader of which it is known what bytes are to come.
-use Rattle.std.proofs.Common.{◌≡◌, ◌∙◌, ◌+◌, ℕ, List, [], ◌∷◌, ◌++◌, length, refl, ap, sym, subst, arith, append_assoc, append-nil, length-append}
+use Rattle.std.proofs.Common.{◌≡◌, ◌∙◌, ◌+◌, ℕ, List, [], ◌∷◌, ◌++◌, length, ap, sym, subst, arith, append_assoc, append-nil, length-append}
 use Rattle.std.specs.Prelude.{⊤, Result, Ok, Err, IfOk}
 use Rattle.std.specs.List.{FoldsTo}
 use Rattle.std.specs.declared.io.Error.{Error}
@@ -53,3 +53,11 @@ all_appended start n (Ready r ∷ out) p q bs ys marks (w, none) s v =
 
 pub counted_all : (n : ℕ) (p bs q : List ℕ) → q ≡ p ++ bs → length q ≡ length p + n → n ≡ length bs
 counted_all n p bs q e h = let k = ap length e in omega (arith, k, h, length-append p bs)
+
+-- `read_to_end`
+pub all_read : (start : ℕ) (v : Result ℕ Error) (out : List (Poll (Result ℕ Error))) (p q bs ys : List ℕ) (marks : List Mark)
+    → Gathers (appends ⊤ start) p marks out q → Spends bs marks ys → Gives out v → start ≡ length p → IfOk v (λ n. (q ≡ p ++ bs) × (n ≡ length bs))
+all_read start (Ok n) out p q bs ys marks g s v is =
+    let all = all_appended start n out p q bs ys marks g s v in
+    (all.0, counted_all n p bs q all.0 (all.1 ∙ ap (λ k. k + n) is))
+all_read start (Err e) out p q bs ys marks g s v is = tt
