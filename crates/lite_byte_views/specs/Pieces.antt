@@ -19,3 +19,13 @@ byte_lines bs = pieces_from 10 without_return [] bs
 -- A piece ends at each byte `at`, which is not part of it; the last one needs none, if it is something.
 abbrev pub byte_pieces : ℕ → List ℕ → List (List ℕ)
 byte_pieces at bs = pieces_from at (λ xs. xs) [] bs
+
+-- the bytes up to and with the first that is `at`, or all
+abbrev pub up_to : ℕ → List ℕ → List ℕ
+up_to at [] = []
+up_to at (b ∷ bs) = b ∷ (if b == at then [] else up_to at bs)
+
+-- and those behind them
+abbrev pub behind : ℕ → List ℕ → List ℕ
+behind at [] = []
+behind at (b ∷ bs) = if b == at then bs else behind at bs

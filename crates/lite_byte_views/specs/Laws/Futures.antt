@@ -24,7 +24,7 @@ taken_all : (start : ℕ) (xs p q : List ℕ) → FoldsTo (appends ⊤ start).ta
 taken_all start [] p q h = sym h ∙ sym (append-nil p)
 taken_all start (x ∷ xs) p q h = taken_all start xs h.0 q h.2 ∙ ap (λ v. v ++ xs) h.1 ∙ append_assoc p (x ∷ []) xs
 
-at_end : (start n : ℕ) (g bs ys : List ℕ) (last : List Mark) → Appended ⊤ start g last (Ok n) → Spends bs last ys → (bs ≡ []) × (length g ≡ start + n)
+pub at_end : (start n : ℕ) (g bs ys : List ℕ) (last : List Mark) → Appended ⊤ start g last (Ok n) → Spends bs last ys → (bs ≡ []) × (length g ≡ start + n)
 at_end start n g bs ys [] a s = absurd a
 at_end start n g bs ys (Mark.byte b ∷ l) a s = absurd a
 at_end start n g bs ys (Mark.pending ∷ l) a s = absurd a

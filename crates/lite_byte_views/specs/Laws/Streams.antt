@@ -36,10 +36,10 @@ bytes_fit (Mark.end ∷ marks) (Ready (Some (Err e)) ∷ out) bs ys t h = absurd
 bytes_fit (Mark.end ∷ marks) (Ready None ∷ out) bs ys t h = ap (map Ok) h.0
 bytes_fit (Mark.end ∷ marks) (Pending ∷ out) bs ys t h = absurd t.0
 
-not_equal : (b at : ℕ) → b ≢ at → (b == at) ≡ false
+pub not_equal : (b at : ℕ) → b ≢ at → (b == at) ≡ false
 not_equal b at n = elim (eqb_tells b at) as (λ _. (b == at) ≡ false) [ inl h ↦ absurd (n h.1) | inr h ↦ h.0 ]
 
-equal : (b : ℕ) → (b == b) ≡ true
+pub equal : (b : ℕ) → (b == b) ≡ true
 equal b = elim (eqb_tells b b) as (λ _. (b == b) ≡ true) [ inl h ↦ h.0 | inr h ↦ absurd (h.1 refl) ]
 
 -- The pieces of a reader: `at` ends one, and h is made of it; f is what an item holds.
