@@ -4,11 +4,13 @@
 mod ask;
 mod gather;
 mod sum;
+mod text;
 
 use ask::{all_even, first_large};
 use gather::{counted, doubled_evens, evens_doubled, joined, pairs};
 use std::io;
 use sum::{doubled_sum, total};
+use text::{all, front_lines, lines};
 
 fn main(rt: HostRuntime) -> io::Result<()> {
     let numbers = vec![in rt.alloc(); 3u32, 4, 10, 11]?;
@@ -23,6 +25,13 @@ fn main(rt: HostRuntime) -> io::Result<()> {
     println!(rt; "{:?}", evens_doubled(&rt, numbers.clone()?)?)?;
     if let Ok(doubled) = doubled_evens(&rt, numbers.clone()?)? {
         println!(rt; "{doubled:?}")?;
+    }
+    println!(rt; "{:?}", lines(&rt, b"one\ntwo\r\nthree")?)?;
+    let second = b"wo\nthree".to_vec(rt.alloc())?;
+    println!(rt; "{:?}", front_lines(&rt, b"one\nt", second, 7)?)?;
+    let mut bytes = Vec::new(rt.alloc());
+    if let Ok(n) = all(&rt, b"abc", &mut bytes)? {
+        println!(rt; "{n} {bytes:?}")?;
     }
     let letters = vec![in rt.alloc(); 1u8, 2]?;
     if let Ok(all) = joined(&rt, letters.clone()?, letters.clone()?)? {
