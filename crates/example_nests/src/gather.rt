@@ -1,10 +1,11 @@
 //! Nests whose items are collected. Where memory is refused the error says so.
-ghost use Rattle.std.specs.Prelude.{◌≡◌, ◌==◌, ◌%◌, ◌*◌, ◌+◌, ◌++◌, ◌∷◌, [], Err, IfOk, Ok, flat_map, if◌then◌else◌, map, nat_lt, not};
+ghost use Rattle.std.specs.Prelude.{◌≡◌, ◌==◌, ◌%◌, ◌*◌, ◌^◌, ◌+◌, ◌++◌, ◌∷◌, [], Err, IfOk, Ok, Some, flat_map, if◌then◌else◌, map, nat_lt, not};
 ghost use Rattle.std.specs.List.{enumerate_from, filter, zip};
+ghost use Rattle.futures_lite.specs.Lists.{scan};
 
 use futures_lite::StreamExt;
 use futures_lite::future::block_on;
-use futures_lite::stream::{TryCollectError, iter_vec as iter, once};
+use futures_lite::stream::{TryCollectError, iter_array, iter_vec as iter};
 use std::alloc::{AllocError, AllocGlobal};
 use std::random::RandomSource;
 use std::sync::Wait;
@@ -83,12 +84,25 @@ where
     }
 }
 
+/// The sums of the first items, which wrap at 64 bits.
+pub fn sums<R>(rt: &R, items: Vec<u32>) -> Result<Vec<u64>, AllocError>
+where
+    R: Wait + RandomSource + AllocGlobal,
+    ensures { IfOk result (λ v. v.items ≡ scan (λ s x. ((s + x) % 2 ^ 64, Some ((s + x) % 2 ^ 64))) 0 items.items) }
+{
+    let sums = iter(items).scan(0u64, |s: &mut u64, x: u32| {
+        *s = s.wrapping_add(x as u64);
+        Some(*s)
+    });
+    block_on(rt, sums.collect::<Vec<u64>>(rt.alloc()))?.map_err(|_| AllocError)
+}
+
 /// Each item, and the number after it.
 pub fn flattened<R>(rt: &R, items: Vec<u32>) -> Result<Vec<u64>, AllocError>
 where
     R: Wait + RandomSource + AllocGlobal,
     ensures { IfOk result (λ v. v.items ≡ flat_map (λ x. x ∷ (x + 1) ∷ []) items.items) }
 {
-    let each = iter(items).flat_map(|x: u32| once(x as u64).chain(once(x as u64 + 1)));
+    let each = iter(items).flat_map(|x: u32| iter_array([x as u64, x as u64 + 1]));
     block_on(rt, each.collect::<Vec<u64>>(rt.alloc()))?.map_err(|_| AllocError)
 }

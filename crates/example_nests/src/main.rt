@@ -1,14 +1,17 @@
-//! Nests of streams whose contracts say what they give by functions of lists, with no proof file; each is called, and its value printed.
+//! Nests of streams and readers whose contracts say what they give by functions of lists, with no proof file; each is called, and its
+//! value printed.
 #![tactic(auto)]
 
 mod ask;
 mod gather;
 mod sum;
+mod text;
 
 use ask::{all_even, first_large, last_small, place_of_even};
-use gather::{NotDigits, digits, evens_doubled, flattened, joined, numbered, pairs, parted};
+use gather::{NotDigits, digits, evens_doubled, flattened, joined, numbered, pairs, parted, sums};
 use std::io;
 use sum::{counted, total};
+use text::{all, front_lines, lines};
 
 fn main(rt: HostRuntime) -> io::Result<()> {
     let numbers = vec![in rt.alloc(); 3u32, 4, 10, 11]?;
@@ -24,11 +27,19 @@ fn main(rt: HostRuntime) -> io::Result<()> {
     println!(rt; "{:?}", place_of_even(&rt, numbers.clone()?)?)?;
     println!(rt; "{:?}", numbered(&rt, numbers.clone()?)?)?;
     println!(rt; "{:?}", parted(&rt, numbers.clone()?)?)?;
+    println!(rt; "{:?}", sums(&rt, numbers.clone()?)?)?;
     println!(rt; "{:?}", flattened(&rt, numbers.clone()?)?)?;
     match digits(&rt, numbers) {
         Ok(all) => println!(rt; "{all:?}")?,
         Err(NotDigits::Item(x)) => println!(rt; "{x} is no digit")?,
         Err(NotDigits::Memory) => println!(rt; "out of memory")?,
+    }
+    println!(rt; "{:?}", lines(&rt, b"one\ntwo\r\nthree")?)?;
+    let second = b"wo\nthree".to_vec(rt.alloc())?;
+    println!(rt; "{:?}", front_lines(&rt, b"one\nt", second, 7)?)?;
+    let mut read = Vec::new(rt.alloc());
+    if let Ok(n) = all(&rt, b"abc", &mut read)? {
+        println!(rt; "{n} {read:?}")?;
     }
     Ok(())
 }

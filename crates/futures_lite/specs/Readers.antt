@@ -1,6 +1,7 @@
 -- Readers: what runs of calls may do, what is lent, and what each reader of the library does, by its own file.
 pub use Rattle.lite_io_base.specs.Runs.{Afterwards, Fills, Idle, LendsFront, OnlyOkLends, ReadsInto, Runs, Shows, StandsFirst, room_in}
 pub use Rattle.lite_io_base.specs.Told.{Told}
+pub use Rattle.lite_io_base.specs.Known.{Known, Knows, Spends, unknown}
 pub use Rattle.lite_io_base.specs.Steps.{Steps}
 pub use Rattle.lite_io_base.specs.SeekKeeps.{SeekKeeps}
 pub use Rattle.lite_io_base.specs.Steady.{CalmReadLaws, NoWait, OneTale, SteadyReadLaws, unhurried}

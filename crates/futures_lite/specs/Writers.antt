@@ -1,5 +1,6 @@
 -- Writers: what their runs meet, and what each writer of the library does, by its own file.
 pub use Rattle.lite_io_base.specs.Grows.{Grows}
+pub use Rattle.lite_io_base.specs.Stored.{Stored, Stores, unstored}
 pub use Rattle.lite_io_base.specs.SteadyWrite.{CalmWriteLaws, EndsFlushed, NeverWaits, NoError, SteadyWriteLaws}
 pub use Rattle.lite_buf_writer.specs.BufWriter
 pub use Rattle.lite_laws.specs.BothWriters.{BothWritten, FailsBy, FailsWith, FlushedUp, HandedUp, TakesFront, WrittenUp}

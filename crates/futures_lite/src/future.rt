@@ -1,7 +1,9 @@
 //! Futures: what makes them, and what every future can be combined by.
-ghost use Rattle.std.specs.Prelude.{◌≡◌, IfOk, List, Some};
+ghost use Rattle.std.specs.Prelude.{◌≡◌, IfOk, List, OnErr, Some};
 ghost use Rattle.futures.specs.declared.task.Poll.{Poll};
+ghost use Rattle.lite_base.specs.Answers.{Gives};
 ghost use Rattle.lite_base.specs.Future.Finishes.{Finishes};
+ghost use Rattle.lite_byte_views.specs.Waiting.{Left, LeftSeen};
 ghost use Rattle.lite_views.specs.Views.{HasValue, Seen, Waited};
 
 pub use lite_base::Future;
@@ -35,6 +37,23 @@ where
     ensures waited { Seen future result × Waited F.run future result }
 {
     lite_base::future::block_on::block_on(rt, future)
+}
+
+/// Waits on this thread for a future that stays with the caller, and answers its value. It may wait for ever.
+///
+/// It is [`BlockOn::wait_for`] over a `BlockOn` of its own: `Err` says that there was no memory for that, and the future was not
+/// polled. What the future has behind a `&mut` is then known, where `block_on` lets the future go: wait so for `read_to_end` and
+/// the like. The original has no such call, and polls a `&mut` of a future.
+pub fn wait_for<R, F>(rt: &R, future: &mut F) -> Result<F::Output, AllocError>
+where
+    R: Wait + RandomSource + AllocGlobal,
+    F: Future,
+    requires { F.can_poll future.old }
+    ensures gave { IfOk result (λ value. (ins : List (Poll F.Output)) × Gives ins value × F.run future.old ins future.new) }
+    ensures kept { OnErr result (future.new ≡ future.old) }
+    ensures left { LeftSeen future.old result future.new × Left F.run future.old result future.new }
+{
+    BlockOn::new(rt)?.wait_for(rt, future)
 }
 
 /// What every future can be combined by. Ported from `src/future.rs`, `FutureExt`.

@@ -23,6 +23,7 @@ ghost use Rattle.lite_views.specs.Views.{Fronts, HasValue, Lists, ListsAs, Seen,
 ghost use Rattle.lite_views.specs.Futures.{CountRuns, FindRuns, FoldRuns, LastRuns, NthRuns, TryFoldRuns};
 ghost use Rattle.lite_views.specs.Trying.{TriesCollect, first_error, try_fold};
 ghost use Rattle.std.specs.Option.{option_transpose};
+ghost use Rattle.lite_byte_views.specs.OkLists.{AllTaken, OkLists, OkSeen};
 ghost use Rattle.lite_cycle.specs.Cycle.{CycleOf};
 ghost use Rattle.lite_flatten.specs.FlatMap.{FlatMaps};
 ghost use Rattle.lite_flatten.specs.Flatten.{Flattens};
@@ -610,6 +611,8 @@ pub trait StreamExt: Stream {
         ensures empty { IfSome result.folder.items (λ c. C.holds c []) }
         ensures value { (xs : List (Result T E)) → Lists Self.run self xs
             → Seen self xs × ValueHolds AllocError ⟦<TryCollectFuture<Self, C> as Future>⟧.run result (λ v. TriesCollect C.holds xs v) }
+        ensures read { (f : T → List ℕ) (xs : List (List ℕ)) → OkLists Self.run self f xs
+            → OkSeen self f xs × ValueHolds AllocError ⟦<TryCollectFuture<Self, C> as Future>⟧.run result (AllTaken C.holds f xs) }
     {
         lite_gather::make::try_collect(self, alloc)
     }

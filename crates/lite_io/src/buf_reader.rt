@@ -120,10 +120,13 @@ impl<R> BufReader<R> {
 impl<R: Tale> Tale for BufReader<R> {
     ghost use Rattle.lite_io.specs.BufReader.{Through};
     ghost use Rattle.lite_io.specs.Laws.BufReader.{through_laws};
+    ghost use Rattle.lite_io.specs.Laws.Known.{through_known};
 
     ghost reads = { Through R.reads };
 
     ghost read_laws = { through_laws R.read_laws };
+
+    ghost known = { through_known R.known };
 }
 
 impl<R: Takings> Takings for BufReader<R> {

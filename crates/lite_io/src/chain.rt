@@ -86,10 +86,13 @@ impl<R1, R2> Chain<R1, R2> {
 impl<R1: Tale, R2: Tale> Tale for Chain<R1, R2> {
     ghost use Rattle.lite_io.specs.Chain.{Chains};
     ghost use Rattle.lite_io.specs.Laws.Chain.{chains_laws};
+    ghost use Rattle.lite_io.specs.Laws.Known.{chains_known};
 
     ghost reads = { Chains R1.reads R2.reads };
 
     ghost read_laws = { chains_laws R1.reads R2.reads R1.read_laws R2.read_laws };
+
+    ghost known = { chains_known R1.known R2.known };
 }
 
 // It is not written to.

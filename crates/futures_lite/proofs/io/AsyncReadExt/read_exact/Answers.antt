@@ -1,0 +1,14 @@
+use Rattle.std.proofs.Common.{ap, refl}
+use Rattle.lite_io_base.specs.Known.{knows_spends}
+use Rattle.lite_byte_views.specs.Laws.Exact.{exactly_read}
+use Rattle.lite_byte_views.specs.Laws.Futures.{when_left}
+use Rattle.futures_lite.proofs.io.AsyncReadExt.read_exact.Goals as goal
+
+pub returns-clause-first : goal.returns-clause-first
+returns-clause-first g c knows =
+    rw c.read_exact.ensures (
+    when_left _ _ _ _ (refl, refl) (λ ins f ran. (ap (λ r. r.ghost_name) ran.stays.buf, ap (λ r. r.ghost_name) ran.stays.reader))
+    (λ ins f v gives ran.
+    exactly_read v ins f.filled _ _ _ _ ran.gathered.marks ran.gathered.gathered
+    (knows_spends g.Self.Tale.reads g.Self.Tale.known _ _ ran.gathered.marks knows ran.gathered.came) gives)
+    )

@@ -1,0 +1,4 @@
+pub mod Laws
+pub mod OkLists
+pub mod Pieces
+pub mod Waiting

@@ -1,0 +1,70 @@
+-- Laws of the bytes that are to come.
+use Rattle.std.proofs.Common.{◌≡◌, ◌∙◌, ℕ, List, [], ◌∷◌, ◌++◌, ap, refl, sym, subst}
+use Rattle.std.specs.Prelude.{⊤}
+use denote.MutBor.{MutBor}
+use Rattle.lite_base.specs.Lent.{Lent}
+use Rattle.lite_io_base.specs.Known.{Known, Spends}
+use Rattle.lite_io_base.specs.Marks.{Mark, bytes}
+use Rattle.lite_io_base.specs.Told.{Told}
+
+pub spends_both : (xs ys zs : List ℕ) (l m : List Mark) → Spends xs l ys → Spends ys m zs → Spends xs (l ++ m) zs
+spends_both xs ys zs [] m h k = subst (λ v. Spends v m zs) h k
+spends_both xs ys zs (Mark.byte b ∷ l) m h k = (h.0, h.1, spends_both h.0 ys zs l m h.2 k)
+spends_both xs ys zs (Mark.pending ∷ l) m h k = spends_both xs ys zs l m h k
+spends_both xs ys zs (Mark.fault kind ∷ l) m h k = absurd h
+spends_both xs ys zs (Mark.end ∷ l) m h k = (h.0, spends_both xs ys zs l m h.1 k)
+
+pub spends_split : (xs zs : List ℕ) (l m : List Mark) → Spends xs (l ++ m) zs → (ys : List ℕ) × Spends xs l ys × Spends ys m zs
+spends_split xs zs [] m h = (xs, refl, h)
+spends_split xs zs (Mark.byte b ∷ l) m h = let r = spends_split h.0 zs l m h.2 in (r.0, (h.0, h.1, r.1), r.2)
+spends_split xs zs (Mark.pending ∷ l) m h = spends_split xs zs l m h
+spends_split xs zs (Mark.fault kind ∷ l) m h = absurd h
+spends_split xs zs (Mark.end ∷ l) m h = let r = spends_split xs zs l m h.1 in (r.0, (h.0, r.1), r.2)
+
+-- bytes from the front
+pub spends_front : (xs ys : List ℕ) → Spends (xs ++ ys) (bytes xs) ys
+spends_front [] ys = refl
+spends_front (x ∷ xs) ys = (xs ++ ys, refl, spends_front xs ys)
+
+-- and nothing else are bytes
+pub spends_bytes : (bs xs ys : List ℕ) → Spends xs (bytes bs) ys → xs ≡ bs ++ ys
+spends_bytes [] xs ys h = sym h
+spends_bytes (b ∷ bs) xs ys h = h.1 ∙ ap (λ v. b ∷ v) (spends_bytes bs h.0 ys h.2)
+
+same_bytes : (xs ys : List ℕ) → bytes ys ≡ bytes xs → ys ≡ xs
+same_bytes [] [] e = refl
+same_bytes [] (y ∷ ys) e = absurd (cc e)
+same_bytes (x ∷ xs) [] e = absurd (cc e)
+same_bytes (x ∷ xs) (y ∷ ys) e =
+    let first : y ≡ x = cc e in
+    let others : bytes ys ≡ bytes xs = cc e in
+    let rest = same_bytes xs ys others in
+    cc
+
+pub told_spends : (xs ys : List ℕ) (l : List Mark) → Told (bytes xs) l (bytes ys) → Spends xs l ys
+told_spends xs ys [] h = same_bytes xs ys h
+told_spends [] ys (Mark.byte b ∷ l) h = absurd (let e = h.0 in cc)
+told_spends [] ys (Mark.pending ∷ l) h = absurd (let e = h.0 in cc)
+told_spends [] ys (Mark.fault kind ∷ l) h = absurd (let e = h.0 in cc)
+told_spends [] ys (Mark.end ∷ l) h = (refl, told_spends [] ys l h.1)
+told_spends (x ∷ xs) ys (Mark.byte b ∷ l) h = let e = h.0 in let same : x ∷ xs ≡ b ∷ xs = cc in (xs, same, told_spends xs ys l h.1)
+told_spends (x ∷ xs) ys (Mark.pending ∷ l) h = absurd (let e = h.0 in cc)
+told_spends (x ∷ xs) ys (Mark.fault kind ∷ l) h = absurd (let e = h.0 in cc)
+told_spends (x ∷ xs) ys (Mark.end ∷ l) h = absurd (let e = h.0 in cc)
+
+-- a value that tells its bytes, and then ends for ever
+abbrev pub told_known : {S : Type 0} (held : S → List ℕ) → Known S
+told_known held = record {
+  told = λ x l y. Told (bytes (held x)) l (bytes (held y));
+  knows = λ x. ⊤;
+  left = held;
+  tells = λ x y l k h. (tt, told_spends (held x) (held y) l h);
+}
+
+abbrev pub lent_known : {S : Type 0} → Known S → Known (MutBor S)
+lent_known {S} k = record {
+  told = Lent k.told;
+  knows = λ (x : MutBor S). k.knows x.now;
+  left = λ (x : MutBor S). k.left x.now;
+  tells = λ x y l know h. k.tells x.now y.now l know h.0;
+}
