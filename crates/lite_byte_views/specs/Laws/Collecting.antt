@@ -59,8 +59,9 @@ module _ {N C T E Y : Type 0} (part : N → Option C) (holds : C → List T → 
       (us ++ h.0, subst (holds c) (append_assoc ts us h.0) h.1, map-append f us h.0 ∙ ap (λ z. map f us ++ z) h.2 ∙ sym e)
   onward (Err r) ts us xs ys e h = tt
 
-  collected : (l : List (Poll (Result C (TryCollectError C T E)))) (p q : N) (i : List (Answer (Result T E))) (ts : List T) (xs : List Y) (v : Result C (TryCollectError C T E))
-      → Held part holds p ts → OkFits f i xs → Gives l v → Consumes the_fold p i l q → IfOk v (λ c. (more : List T) × holds c (ts ++ more) × (map f more ≡ xs))
+  collected : (l : List (Poll (Result C (TryCollectError C T E)))) (p q : N) (i : List (Answer (Result T E))) (ts : List T) (xs : List Y)
+      (v : Result C (TryCollectError C T E)) → Held part holds p ts → OkFits f i xs → Gives l v → Consumes the_fold p i l q
+      → IfOk v (λ c. (more : List T) × holds c (ts ++ more) × (map f more ≡ xs))
   collected [] p q i ts xs v h k g w = absurd g
   collected (Pending ∷ l) p q i ts xs v h k g (rest, m, w, more) =
       let t = taken_held w.taken p m (Pending ∷ rest) ts xs w.folds h (subst (λ z. OkFits f z xs) w.cut k) in

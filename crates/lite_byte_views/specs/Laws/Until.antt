@@ -83,7 +83,8 @@ pub read_piece : (at : ℕ) (v : Result ℕ Error) (out : List (Poll (Result ℕ
 read_piece at (Ok n) out old new bs ys marks g before s v =
     let r = until_read at n out (drop (length old) old) (drop (length old) new) bs ys marks g s v in
     let piece : drop (length old) new ≡ up_to at bs = r.0 ∙ ap (λ z. z ++ up_to at bs) (none_behind old) in
-    (sym (take-append-drop (length old) new) ∙ ap (λ z. z ++ drop (length old) new) (before ∙ front_of old) ∙ ap (λ z. old ++ z) piece, r.2 ∙ ap length piece, r.1)
+    let kept : take (length old) new ≡ old = before ∙ front_of old in
+    (sym (take-append-drop (length old) new) ∙ ap (λ z. z ++ drop (length old) new) kept ∙ ap (λ z. old ++ z) piece, r.2 ∙ ap length piece, r.1)
 read_piece at (Err e) out old new bs ys marks g before s v = tt
 
 module _ (gather : Gather (List ℕ) (Result ℕ Error)) where

@@ -87,8 +87,9 @@ told_all (Mark.fault kind ∷ l) bs ys o h = absurd o
 told_all (Mark.end ∷ l) bs ys o h = absurd o
 
 -- all that is to come was taken
-pub all_copied : (n total : ℕ) (before : List ℕ) (met told : List Mark) (took : List Taking) (out : List (Poll (Result ℕ Error))) (after : List ℕ) (met' : List Mark)
-    (bs ys : List ℕ) → before ≡ [] → met ≡ [] → Copied before met told took out after met' total → Spends bs told ys → Gives out (Ok n)
+pub all_copied : (n total : ℕ) (before : List ℕ) (met told : List Mark) (took : List Taking) (out : List (Poll (Result ℕ Error)))
+    (after : List ℕ) (met' : List Mark) (bs ys : List ℕ) → before ≡ [] → met ≡ [] → Copied before met told took out after met' total
+    → Spends bs told ys → Gives out (Ok n)
     → (bytes_of took ≡ bs) × (n ≡ total)
 all_copied n total before met told took out after met' bs ys none fresh c s g =
     let v = values_ok n total c.failed c.last after met' (subst (λ l. Values l c.failed c.last after met' total) (one_value out (Ok n) g) c.value) in
@@ -96,12 +97,14 @@ all_copied n total before met told took out after met' bs ys none fresh c s g =
     let cut : told ≡ r.read ++ Mark.end ∷ [] =
     sym (ap (λ z. z ++ told) fresh) ∙ r.cut ∙ ap (λ z. r.read ++ (z ++ c.failed)) v.2 ∙ ap (λ z. r.read ++ (Mark.end ∷ z)) v.0 in
     let whole = told_all r.read bs ys r.goes_on (subst (λ l. Spends bs l ys) cut s) in
-    let balance : bytes_told told ≡ bytes_of took = sym (ap (λ z. z ++ bytes_told told) none) ∙ c.balanced ∙ ap (λ z. bytes_of took ++ z) v.1 ∙ append-nil (bytes_of took) in
+    let balance : bytes_told told ≡ bytes_of took =
+    sym (ap (λ z. z ++ bytes_told told) none) ∙ c.balanced ∙ ap (λ z. bytes_of took ++ z) v.1 ∙ append-nil (bytes_of took) in
     (sym balance ∙ ap bytes_told cut ∙ whole, v.3)
 
 -- `copy`
-pub all_moved : (v : Result ℕ Error) (start total : ℕ) (before : List ℕ) (met told : List Mark) (took : List Taking) (out : List (Poll (Result ℕ Error))) (after : List ℕ)
-    (met' : List Mark) (bs ys held holds : List ℕ) → before ≡ [] → met ≡ [] → start ≡ 0 → Copied before met told took out after met' total → Spends bs told ys
+pub all_moved : (v : Result ℕ Error) (start total : ℕ) (before : List ℕ) (met told : List Mark) (took : List Taking) (out : List (Poll (Result ℕ Error)))
+    (after : List ℕ) (met' : List Mark) (bs ys held holds : List ℕ) → before ≡ [] → met ≡ [] → start ≡ 0
+    → Copied before met told took out after met' total → Spends bs told ys
     → Gives out v → total ≡ (start + length (bytes_of took)) % 2 ^ 64 → holds ≡ held ++ bytes_of took
     → IfOk v (λ n. (holds ≡ held ++ bs) × (n ≡ length bs % 2 ^ 64))
 all_moved (Ok n) start total before met told took out after met' bs ys held holds none fresh zero_start c s g count k =

@@ -6,5 +6,10 @@ use Rattle.futures_lite.proofs.io.AsyncReadExt.bytes.Goals as goal
 
 pub returns-clause-lists : goal.returns-clause-lists
 unfolding Lists
-returns-clause-lists g c knows =
-    (refl, seen _ _, λ l t ran. let r = rw c.bytes.ensures at ran in bytes_fit r.marks l _ _ r.told (knows_spends g.Self.Tale.reads g.Self.Tale.known _ _ r.marks knows r.came))
+returns-clause-lists g c knows = (
+  refl,
+  seen _ _,
+  λ l t ran.
+      let r = rw c.bytes.ensures at ran in
+      bytes_fit r.marks l _ _ r.told (knows_spends g.Self.Tale.reads g.Self.Tale.known _ _ r.marks knows r.came),
+)

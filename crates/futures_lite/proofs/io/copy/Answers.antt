@@ -1,7 +1,8 @@
 use Rattle.lite_byte_views.specs.Laws.Writing.{copy_left, on_each}
-use Rattle.futures_lite.proofs.io.copy_all.Goals as goal
+use Rattle.futures_lite.proofs.io.copy.Goals as goal
 
 pub returns-clause-all : goal.returns-clause-all
 returns-clause-all g c =
     on_each c.copy.result c.copy.ensures.reader c.copy.ensures.writer c.copy.ensures.begins
-    (λ f reader writer begins knows stores. copy_left g.R.Tale.reads g.W.Takings.writes g.R.Tale.known g.W.Takings.stored _ _ f reader writer begins knows stores)
+    (λ f reader writer begins knows stores.
+    copy_left g.R.Tale.reads g.W.Takings.writes g.R.Tale.known g.W.Takings.stored _ _ f reader writer begins knows stores)
