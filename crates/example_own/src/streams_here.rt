@@ -3,14 +3,14 @@ use crate::counter::Counter;
 use crate::evens::even_numbers;
 use crate::ticks::Ticks;
 use futures_lite::future::{block_on, poll_fn};
-use futures_lite::{Doorbell, Solo, Stream, StreamExt};
+use futures_lite::{Doorbell, Solo, Stream, StreamExt, stream};
 use std::alloc::AllocGlobal;
 use std::io;
 use std::io::ErrorKind;
 use std::random::RandomSource;
 use std::sync::Wait;
 
-/// Polls the one, filters and collects the other, and prints what came.
+/// Polls the one, waits for each item of the other, filters and collects it, and prints what came.
 pub fn show<R>(rt: &R) -> io::Result<()>
 where
     R: Wait + RandomSource + AllocGlobal + Print,
@@ -21,6 +21,10 @@ where
             Some(x) => println!(rt; "{x}")?,
             None => println!(rt; "end")?,
         }
+    }
+    let mut waited = stream::block_on(rt, Counter { next: 1, end: 3 });
+    for _ in 0..3 {
+        println!(rt; "{:?}", waited.next()?)?;
     }
     let solo = Solo::new(rt, Doorbell::spinning())?;
     let mut answers = Vec::new(rt.alloc());
