@@ -27,7 +27,8 @@ use Rattle.lite_stream.specs.Pointwise.{Replaces}
 use Rattle.lite_stream.specs.declared.map.Map.{Map}
 
 -- what is made has the fact, and the function goes on to make such things
-pub makes_on : {F X V : Type 0} (g : Mut F X V) (Fact : V → Type 0) (f : F) (x : X) (v : V) (h : F) → MakesAlways g Fact f → Called g f x v h → Fact v × MakesAlways g Fact h
+pub makes_on : {F X V : Type 0} (g : Mut F X V) (Fact : V → Type 0) (f : F) (x : X) (v : V) (h : F) → MakesAlways g Fact f → Called g f x v h
+    → Fact v × MakesAlways g Fact h
 makes_on g Fact f x v h always called =
     (always.at [] f h x v refl called, record { at = λ xs p q y w folds then_called. always.at (x ∷ xs) p q y w (h, (v, called), folds) then_called })
 

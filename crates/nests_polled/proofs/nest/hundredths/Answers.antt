@@ -5,7 +5,16 @@ use Rattle.nests_polled.proofs.nest.hundredths.Goals as goal
 
 pub run-requires : goal.run-requires
 run-requires c =
-    rw c.filter-quotients.ensures.parts (rw c.map.ensures.parts ((tt, record { at = λ ins x t p came asked. let above : 0 < x = each_given (λ y. 0 < y) c.args.script t ins x c.requires came in search rules }), tt, search rules))
+    let filters = c.filter-quotients.ensures.parts in
+    let maps = c.map.ensures.parts in
+    rw filters (rw maps (
+      (
+        tt,
+        record { at = λ ins x t p came asked. let above : 0 < x = each_given (λ y. 0 < y) c.args.script t ins x c.requires came in search rules },
+      ),
+      tt,
+      search rules,
+    ))
 
 pub returns : goal.returns
 returns c =
