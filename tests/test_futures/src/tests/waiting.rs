@@ -3,7 +3,7 @@ use super::counting::Counting;
 use super::refusing::Refusing;
 use futures::task::{Doorbell, Solo, Source};
 use futures_lite::future::{self, BlockOn, Future, FutureExt};
-use futures_lite::{Context, Poll};
+use futures_lite::{AsyncReadExt, Context, Poll};
 use std::alloc::{AllocError, AllocGlobal, Global};
 use std::random::RandomSource;
 use std::sync::Wait;
@@ -71,6 +71,20 @@ fn each_of_two_sources_wakes_the_task(rt: HostRuntime) -> Result<(), Fail> {
 fn block_on_ends_at_a_wake_of_its_own_poll(rt: HostRuntime) -> Result<(), Fail> {
     future::block_on(&rt, future::yield_now())?;
     assert_eq!(rt; future::block_on(&rt, future::ready(7u8))?, 7);
+    Ok(())
+}
+
+#[test]
+fn wait_for_leaves_the_future_with_its_caller(rt: HostRuntime) -> Result<(), Fail> {
+    let mut read = Vec::new(rt.alloc());
+    let mut text = b"ab".as_slice();
+    let mut reading = text.read_to_end(&mut read);
+    assert_eq!(rt; future::wait_for(&rt, &mut reading)?.ok(), Some(2));
+    assert_eq!(rt; read.as_slice(), b"ab".as_slice());
+    let mut yielding = future::yield_now();
+    future::wait_for(&rt, &mut yielding)?;
+    let refused = future::wait_for(&Refusing { rt: &rt }, &mut future::ready(7u8));
+    assert!(rt; refused.is_err());
     Ok(())
 }
 

@@ -59,3 +59,17 @@ fn clones_of_sources_go_on_from_where_they_are(rt: HostRuntime) -> Result<(), Fa
     assert_eq!(rt; got.as_slice(), [item(Some(5))].as_slice());
     Ok(())
 }
+
+#[test]
+fn sources_of_known_items_give_them(rt: HostRuntime) -> Result<(), Fail> {
+    let expected = [item(2u8), item(3), Poll::Ready(None)];
+    let got = answers(&rt, &mut stream::iter_vec(vec![in rt.alloc(); 2u8, 3]?), 3)?;
+    assert_eq!(rt; got.as_slice(), expected.as_slice());
+    let got = answers(&rt, &mut stream::iter_array([2u8, 3]), 3)?;
+    assert_eq!(rt; got.as_slice(), expected.as_slice());
+    let got = answers(&rt, &mut stream::iter_slice(&[2u8, 3]), 3)?;
+    assert_eq!(rt; got.as_slice(), expected.as_slice());
+    let got = answers(&rt, &mut stream::iter_range(2..4).map(|x| x as u8), 3)?;
+    assert_eq!(rt; got.as_slice(), expected.as_slice());
+    Ok(())
+}
