@@ -11,7 +11,7 @@ use ask::{all_even, first_large, last_small, place_of_even};
 use gather::{NotDigits, digits, evens_doubled, flattened, joined, numbered, pairs, parted, sums};
 use std::io;
 use sum::{counted, total};
-use text::{all, front_lines, lines};
+use text::{all, front_lines, lines, packed};
 
 fn main(rt: HostRuntime) -> io::Result<()> {
     let numbers = vec![in rt.alloc(); 3u32, 4, 10, 11]?;
@@ -40,6 +40,9 @@ fn main(rt: HostRuntime) -> io::Result<()> {
     let mut read = Vec::new(rt.alloc());
     if let Ok(n) = all(&rt, b"abc", &mut read)? {
         println!(rt; "{n} {read:?}")?;
+    }
+    if let Ok(bytes) = packed(&rt, b"ab")? {
+        println!(rt; "{bytes:?}")?;
     }
     Ok(())
 }

@@ -4,7 +4,7 @@ ghost use Rattle.futures_lite.specs.Lines.{byte_lines};
 
 use futures_lite::future::{block_on, wait_for};
 use futures_lite::io::{BufReader, Cursor};
-use futures_lite::{AsyncBufReadExt, AsyncReadExt, StreamExt};
+use futures_lite::{AsyncBufReadExt, AsyncReadExt, AsyncWriteExt, StreamExt};
 use std::alloc::{AllocError, AllocGlobal};
 use std::io;
 use std::random::RandomSource;
@@ -48,4 +48,17 @@ where
 {
     let mut reader = text;
     wait_for(rt, &mut reader.read_to_end(out))
+}
+
+/// A text, written to a cursor.
+pub fn packed<R>(rt: &R, text: &[u8]) -> Result<io::Result<Vec<u8>>, AllocError>
+where
+    R: Wait + RandomSource + AllocGlobal,
+    ensures { IfOk result (λ r. IfOk r (λ v. v.items ≡ text.now)) }
+{
+    let mut out = Cursor::new(Vec::new(rt.alloc()));
+    match wait_for(rt, &mut out.write_all(text))? {
+        Ok(()) => Ok(Ok(out.into_inner())),
+        Err(e) => Ok(Err(e)),
+    }
 }

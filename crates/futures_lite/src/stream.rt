@@ -1,6 +1,6 @@
 //! Streams: sources, and what every stream can be adapted by.
 ghost use Rattle.std.specs.Prelude.{◌≡◌, ℕ, ◌-◌, ◌<◌, ◌≤◌, ◌^◌, ◌++◌, ◌∷◌, [], List, Bool, IfOk, IfSome, IsSome, MatchResult, None, Ok, Option, Result};
-ghost use Rattle.std.specs.Prelude.{Some, drop, false, flat_map, length, map, not, take};
+ghost use Rattle.std.specs.Prelude.{Some, drop, false, flat_map, length, map, not, replicate, take};
 ghost use Rattle.std.specs.List.{AllByRecursion, enumerate_from, filter, filter_map, find, fold, last_or, list_all, list_any, position, prefix_len};
 ghost use Rattle.std.specs.List.{range_with_len, slice_get, zip};
 ghost use Rattle.std.specs.Iterator.{ActsAs, ActsAsAt, ActsAsOnTwo};
@@ -19,7 +19,7 @@ ghost use Rattle.lite_stream.specs.TakeWhile.{TakesWhile};
 ghost use Rattle.lite_merge.specs.Zip.{Zips};
 ghost use Rattle.lite_views.specs.Acting.{ActsAsOnState};
 ghost use Rattle.lite_views.specs.Lists.{map_while, scan, step_from};
-ghost use Rattle.lite_views.specs.Views.{Fronts, HasValue, Lists, ListsAs, Seen, ValueHolds, ValueIs};
+ghost use Rattle.lite_views.specs.Views.{Fronts, GoesOn, HasValue, Lists, ListsAs, Seen, ValueHolds, ValueIs};
 ghost use Rattle.lite_views.specs.Futures.{CountRuns, FindRuns, FoldRuns, LastRuns, NthRuns, TryFoldRuns};
 ghost use Rattle.lite_views.specs.Trying.{TriesCollect, first_error, try_fold};
 ghost use Rattle.std.specs.Option.{option_transpose};
@@ -49,9 +49,7 @@ pub use lite_gather::{
 pub use lite_merge::make::{or, race, race_with_seed};
 pub use lite_merge::{Or, Race, Zip};
 pub use lite_sift::{Filter, FilterMap, Skip, SkipWhile, StepBy};
-pub use lite_source::make::{
-    iter, once_future, pending, poll_fn, repeat, repeat_with, try_unfold, unfold,
-};
+pub use lite_source::make::{iter, once_future, pending, poll_fn, repeat_with, try_unfold, unfold};
 pub use lite_source::{
     Empty, Iter, Once, OnceFuture, Pending, PollFn, Repeat, RepeatWith, Script, TryUnfold, Unfold,
 };
@@ -111,6 +109,16 @@ pub fn once<T>(t: T) -> Once<T>
     ensures fronts { Fronts ⟦<Once<T> as Stream>⟧.run result (t ∷ []) }
 {
     lite_source::make::once(t)
+}
+
+/// A stream that gives clones of `item`, one a poll, for ever. A clone that is refused for want of memory is the item
+/// `Err(AllocError)`. Ported from `src/stream.rs`, `repeat`.
+pub fn repeat<T: Clone>(item: T) -> Repeat<T>
+    ensures made { result ≡ record { item = item } }
+    ensures on { T.is_infallible item → ((y : T) → T.is_clone item y → y ≡ item)
+        → Seen {Y = Result T AllocError} result (Ok item) × GoesOn ⟦<Repeat<T> as Stream>⟧.run result (Ok item) }
+{
+    lite_source::make::repeat(item)
 }
 
 /// A stream that gives these answers, one a poll and in order, and then ends for ever. A poll takes no memory.
@@ -218,6 +226,7 @@ pub trait StreamExt: Stream {
         Self: Sized,
         ensures parts { result ≡ record { stream = self; n = n } }
         ensures lists { (xs : List Self.Item) → Lists Self.run self xs → ListsAs ⟦<Take<Self> as Stream>⟧.run result (take n xs) }
+        ensures repeats { (x : Self.Item) → GoesOn Self.run self x → ListsAs ⟦<Take<Self> as Stream>⟧.run result (replicate n x) }
     {
         make::take(self, n)
     }

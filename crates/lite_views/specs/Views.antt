@@ -20,6 +20,17 @@ Fits (Ready (Some x) ∷ l) (y ∷ xs) = (x ≡ y) × Fits l xs
 unfoldable pub Lists : {S A : Type 0} → (S → List (Answer A) → S → Type 0) → S → List A → Type 0
 Lists {S} {A} run s xs = (l : List (Answer A)) (t : S) → run s l t → Fits l xs
 
+-- each answer is a pending or the item x; so the stream never ends
+abbrev pub EachIs : {A : Type 0} → A → List (Answer A) → Type 0
+EachIs x [] = ⊤
+EachIs x (Pending ∷ l) = EachIs x l
+EachIs x (Ready None ∷ l) = ⊥
+EachIs x (Ready (Some y) ∷ l) = (y ≡ x) × EachIs x l
+
+-- the items of s are x, over and over: so each run from s has it
+unfoldable pub GoesOn : {S A : Type 0} → (S → List (Answer A) → S → Type 0) → S → A → Type 0
+GoesOn {S} {A} run s x = (l : List (Answer A)) (t : S) → run s l t → EachIs x l
+
 -- the future f was waited for: where r is Ok, f was polled until that value
 unfoldable pub Waited : {F A E : Type 0} → (F → List (Poll A) → F → Type 0) → F → Result A E → Type 0
 Waited {F} {A} run f r = IfOk r (λ v. (ins : List (Poll A)) × Finishes run f ins v)

@@ -1,9 +1,13 @@
--- The bytes that are to come from a cursor: those from its position on.
-use Rattle.std.proofs.Common.{◌≡◌, ℕ, List, [], ◌∷◌, ap, subst}
+-- The bytes that are to come from a cursor: those from its position on. And those that one keeps that stands at their end.
+use Rattle.std.proofs.Common.{◌≡◌, ◌≤◌, ◌∙◌, ℕ, zero, suc, ◌+◌, ◌-◌, List, [], ◌∷◌, ◌++◌, length, take, drop, replicate, refl, ap, sym, subst, arith}
+use Rattle.std.proofs.Common.{append_assoc, append-nil, length-append}
 use Rattle.std.specs.Prelude.{⊤}
 use Rattle.lite_io_base.specs.Known.{Known, Spends}
 use Rattle.lite_io_base.specs.Marks.{Mark}
-use Rattle.lite_bridge.specs.Cursor.{Moves, left}
+use Rattle.lite_io_base.specs.Stored.{Stored}
+use Rattle.lite_io_base.specs.Takings.{Taking, bytes_of}
+use Rattle.lite_bridge.specs.Cursor.{Moves, Overwrites, left}
+use Rattle.lite_bridge.specs.Put.{Puts}
 use Rattle.lite_bridge.specs.declared.cursor.Cursor.{Cursor}
 
 module _ {T : Type 0} (bytes : T → List ℕ) where
@@ -16,3 +20,64 @@ module _ {T : Type 0} (bytes : T → List ℕ) where
 
   abbrev pub cursor_known : Known (Cursor T)
   cursor_known = record { told = Moves bytes; knows = λ x. ⊤; left = left bytes; tells = λ x y l k h. (tt, moves_spends x y l h) }
+
+-- what stands at the end of a list, put there
+put_behind : (xs new ys : List ℕ) (at : ℕ) → at ≡ length xs → Puts xs at new ys → ys ≡ xs ++ new
+put_behind xs [] ys at e h = h ∙ sym (append-nil xs)
+put_behind xs (b ∷ new) ys at e h =
+    let past : length xs ≤ at + length (b ∷ new) = omega (arith, e) in
+    let over : length xs ≤ at = omega (arith, e) in
+    let front : take at xs ≡ xs = take-all xs at over in
+    let none : at - length xs ≡ 0 = omega (arith, e) in
+    let zeros : replicate {A = ℕ} (at - length xs) 0 ≡ [] = ap (λ n. replicate {A = ℕ} n 0) none in
+    let behind : drop (at + length (b ∷ new)) xs ≡ [] = drop-all xs (at + length (b ∷ new)) past in
+    h ∙ rw (front, zeros, behind) (simp append-nil refl)
+  where
+    take-all : (l : List ℕ) (n : ℕ) → length l ≤ n → take n l ≡ l
+    take-all [] zero h = refl
+    take-all [] (suc n) h = refl
+    take-all (x ∷ l) zero h = absurd (omega (arith, h))
+    take-all (x ∷ l) (suc n) h = let less : length l ≤ n = omega (arith, h) in ap (λ z. x ∷ z) (take-all l n less)
+
+    drop-all : (l : List ℕ) (n : ℕ) → length l ≤ n → drop n l ≡ []
+    drop-all [] zero h = refl
+    drop-all [] (suc n) h = refl
+    drop-all (x ∷ l) zero h = absurd (omega (arith, h))
+    drop-all (x ∷ l) (suc n) h = let less : length l ≤ n = omega (arith, h) in drop-all l n less
+
+module _ {T : Type 0} (bytes : T → List ℕ) (puts : T → ℕ → List ℕ → T → Type 0) (refuses : T → T → Type 0) where
+  -- a write puts the bytes at its place, and one that was refused changes none
+  abbrev pub PutsBytes : Type 0
+  PutsBytes = ((x y : T) (at : ℕ) (new : List ℕ) → puts x at new y → Puts (bytes x) at new (bytes y)) × ((x y : T) → refuses x y → bytes y ≡ bytes x)
+
+  abbrev pub AtEnd : Cursor T → Type 0
+  AtEnd x = x.position ≡ length (bytes x.inner)
+
+  pub overwrites_kept : (x y : Cursor T) (l : List Taking) → PutsBytes → AtEnd x → Overwrites puts refuses x l y
+      → AtEnd y × (bytes y.inner ≡ bytes x.inner ++ bytes_of l)
+  overwrites_kept x y [] law at h = subst (λ (z : Cursor T). AtEnd z × (bytes z.inner ≡ bytes x.inner ++ [])) (sym h) (at, sym (append-nil (bytes x.inner)))
+  overwrites_kept x y (Taking.wrote new ∷ l) law at (m, step, more) =
+      let put = put_behind (bytes x.inner) new (bytes m.inner) x.position at (law.0 x.inner m.inner x.position new step.0) in
+      let moved : AtEnd m = step.1 ∙ ap (λ n. n + length new) at ∙ sym (ap length put ∙ length-append (bytes x.inner) new) in
+      let rest = overwrites_kept m y l law moved more in
+      (rest.0, rest.1 ∙ ap (λ z. z ++ bytes_of l) put ∙ append_assoc (bytes x.inner) new (bytes_of l))
+  overwrites_kept x y (Taking.fault kind ∷ l) law at (m, step, more) =
+      let same = law.1 x.inner m.inner step.1 in
+      let rest = overwrites_kept m y l law (step.2 ∙ at ∙ ap length (sym same)) more in
+      (rest.0, rest.1 ∙ ap (λ z. z ++ bytes_of l) same)
+  overwrites_kept x y (Taking.flushed ∷ l) law at (m, step, more) =
+      let rest = overwrites_kept m y l law (subst AtEnd (sym step) at) more in
+      (rest.0, rest.1 ∙ ap (λ (z : Cursor T). bytes z.inner ++ bytes_of l) step)
+  overwrites_kept x y (Taking.closed ∷ l) law at (m, step, more) =
+      let rest = overwrites_kept m y l law (subst AtEnd (sym step) at) more in
+      (rest.0, rest.1 ∙ ap (λ (z : Cursor T). bytes z.inner ++ bytes_of l) step)
+  overwrites_kept x y (Taking.pending ∷ l) law at (m, step, more) = absurd step
+
+  -- a cursor that stands at the end of its bytes
+  abbrev pub cursor_stored : Stored (Cursor T)
+  cursor_stored = record {
+    told = Overwrites puts refuses;
+    stores = λ x. PutsBytes × AtEnd x;
+    kept = λ x. bytes x.inner;
+    tells = λ x y l know h. let k = overwrites_kept x y l know.0 know.1 h in ((know.0, k.0), k.1);
+  }

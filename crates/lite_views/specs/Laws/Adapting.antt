@@ -1,6 +1,6 @@
 -- The items of an adapter, by those of its source.
 use Rattle.std.proofs.Common.{◌≡◌, ◌≤◌, ◌<◌, ◌==◌, ◌∙◌, ℕ, zero, suc, ◌-◌, ◌+◌, ◌%◌, ◌^◌, Bor, List, [], ◌∷◌, ◌++◌, length, map, take, drop, inl, inr, refl}
-use Rattle.std.proofs.Common.{ap, sym, subst, arith, eqb-true}
+use Rattle.std.proofs.Common.{ap, replicate, sym, subst, arith, eqb-true}
 use Rattle.std.proofs.lemmas.List.{length-map}
 use Rattle.std.proofs.lemmas.List.FromFn.{length-enumerate_from}
 use Rattle.std.proofs.Math.Nat.{mod-add-mod, mod-eq_of_lt, zero-mod}
@@ -25,7 +25,7 @@ use Rattle.lite_flatten.specs.declared.chain.Part.{Part}
 use Rattle.lite_flatten.specs.declared.chain.Part.TheVariants.{First, Second}
 use Rattle.lite_merge.specs.Zip.{Pairs, pendings}
 use Rattle.lite_views.specs.Lists.{cons_while, map_while, scan, step_from}
-use Rattle.lite_views.specs.Views.{Fits}
+use Rattle.lite_views.specs.Views.{EachIs, Fits}
 
 -- items, and then what fits the rest of the list
 pub fits_items : {A : Type 0} (zs : List A) (l : List (Answer A)) (xs : List A) → Fits (items zs ++ l) xs → (ys : List A) × (xs ≡ zs ++ ys) × Fits l ys
@@ -135,6 +135,18 @@ taken_fits (suc n) m i (Ready (Some x) ∷ o) (y ∷ xs) e (inr h) =
     let here : Fits (item x ∷ h.1) (y ∷ xs) = subst (λ l. Fits l (y ∷ xs)) h.2 e in
     let one : suc n - 1 ≡ n = omega arith in
     (here.0, taken_fits n m h.1 o xs here.1 (subst (λ k. Cuts is_none_left left_after k h.1 o m) one h.3))
+
+-- `take` of a stream that goes on for ever
+pub repeated_fits : {A : Type 0} (n m : ℕ) (i o : List (Answer A)) (x : A) → EachIs x i → Cuts is_none_left left_after n i o m → Fits o (replicate n x)
+repeated_fits n m i [] x e h = tt
+repeated_fits n m i (b ∷ o) x e (inl h) = rw (h.0, h.1) refl
+repeated_fits n m i (Pending ∷ o) x e (inr h) = repeated_fits n m h.1 o x (subst (EachIs x) h.2 e) h.3
+repeated_fits n m i (Ready None ∷ o) x e (inr h) = absurd (subst (EachIs x) h.2 e)
+repeated_fits zero m i (Ready (Some y) ∷ o) x e (inr h) = absurd (h.0 refl)
+repeated_fits (suc n) m i (Ready (Some y) ∷ o) x e (inr h) =
+    let here : EachIs x (item y ∷ h.1) = subst (EachIs x) h.2 e in
+    let one : suc n - 1 ≡ n = omega arith in
+    (here.0, repeated_fits n m h.1 o x here.1 (subst (λ k. Cuts is_none_left left_after k h.1 o m) one h.3))
 
 -- `chain`
 second_fits : {A : Type 0} (p q : Part) (j o : List (Answer A)) (ys : List A) → p ≡ Second → Fits j ys → Cuts is_done second_after p j o q → Fits o ys

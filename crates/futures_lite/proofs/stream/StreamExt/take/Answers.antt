@@ -1,6 +1,6 @@
 use Rattle.std.proofs.Common.{refl}
-use Rattle.lite_views.specs.Laws.Adapting.{taken_fits}
-use Rattle.lite_views.specs.Views.{Lists, seen}
+use Rattle.lite_views.specs.Laws.Adapting.{repeated_fits, taken_fits}
+use Rattle.lite_views.specs.Views.{GoesOn, Lists, seen}
 use Rattle.futures_lite.proofs.stream.StreamExt.take.Goals as goal
 
 pub returns-clause-lists : goal.returns-clause-lists
@@ -11,4 +11,14 @@ returns-clause-lists g c xs lists = (
   λ l t ran.
       let r = rw c.take.ensures at ran in
       taken_fits _ t.n r.ins l xs (lists r.ins _ r.came) r.turned,
+)
+
+pub returns-clause-repeats : goal.returns-clause-repeats
+unfolding GoesOn Lists
+returns-clause-repeats g c x goes_on = (
+  refl,
+  seen _ _,
+  λ l t ran.
+      let r = rw c.take.ensures at ran in
+      repeated_fits _ t.n r.ins l x (goes_on r.ins _ r.came) r.turned,
 )
