@@ -1,5 +1,6 @@
 //! Nests whose items are collected. Where memory is refused the error says so.
-ghost use Rattle.std.specs.Prelude.{◌≡◌, ◌==◌, ◌%◌, ◌*◌, ◌^◌, ◌+◌, ◌++◌, ◌∷◌, [], Err, IfOk, Ok, Some, flat_map, if◌then◌else◌, map, nat_lt, not};
+ghost use Rattle.std.specs.Prelude.{◌≡◌, ◌==◌, ◌%◌, ◌*◌, ◌^◌, ◌+◌, ◌++◌, ◌∷◌, [], Err, IfOk, Ok, Some, flat_map};
+ghost use Rattle.std.specs.Prelude.{if◌then◌else◌, map, nat_lt, not};
 ghost use Rattle.std.specs.List.{enumerate_from, filter, zip};
 ghost use Rattle.futures_lite.specs.Lists.{scan};
 

@@ -22,7 +22,8 @@ where
 pub fn total<R>(rt: &R, items: Vec<u32>) -> Result<u64, AllocError>
 where
     R: Wait + RandomSource + AllocGlobal,
-    ensures { IfOk result (λ v. v ≡ fold (λ a x. (a + x) % 2 ^ 64) 0 (map (λ x. x * 2) (filter (λ x. x % 2 == 0) items.items))) }
+    ensures { IfOk result
+        (λ v. v ≡ fold (λ a x. (a + x) % 2 ^ 64) 0 (map (λ x. x * 2) (filter (λ x. x % 2 == 0) items.items))) }
 {
     let evens = iter(items).filter(|x| *x % 2 == 0);
     let doubled = evens.map(|x: u32| x as u64 * 2);

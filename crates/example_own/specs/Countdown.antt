@@ -4,6 +4,6 @@ use Rattle.futures_lite.specs.Answers.{Pending, Poll, Ready}
 use Rattle.example_own.specs.declared.countdown.Countdown.{Countdown}
 
 -- one poll of x, which gave this answer and left y
-abbrev pub Step : Countdown → Poll ℕ → Countdown → Type 0
-Step x Pending y = (0 < x.left) × (y ≡ record x { left = x.left - 1 })
-Step x (Ready v) y = (x.left ≡ 0) × (v ≡ x.value) × (y ≡ x)
+abbrev pub CountdownStep : Countdown → Poll ℕ → Countdown → Type 0
+CountdownStep x Pending y = (0 < x.left) × (y ≡ record x { left = x.left - 1 })
+CountdownStep x (Ready v) y = (x.left ≡ 0) × (v ≡ x.value) × (y ≡ x)

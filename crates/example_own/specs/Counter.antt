@@ -6,16 +6,16 @@ use Rattle.futures_lite.specs.Own.{ItemsLower}
 use Rattle.example_own.specs.declared.counter.Counter.{Counter}
 
 -- one poll of x, which gave this answer and left y
-abbrev pub Step : Counter → Answer ℕ → Counter → Type 0
-Step x Pending y = ⊥
-Step x (Ready (Some n)) y = (x.next < x.end) × (n ≡ x.next) × (y ≡ record x { next = x.next + 1 })
-Step x (Ready None) y = (x.end ≤ x.next) × (y ≡ x)
+abbrev pub CounterStep : Counter → Answer ℕ → Counter → Type 0
+CounterStep x Pending y = ⊥
+CounterStep x (Ready (Some n)) y = (x.next < x.end) × (n ≡ x.next) × (y ≡ record x { next = x.next + 1 })
+CounterStep x (Ready None) y = (x.end ≤ x.next) × (y ≡ x)
 
 -- how many items are to come
-abbrev pub left : Counter → ℕ
-left x = x.end - x.next
+abbrev pub items_left : Counter → ℕ
+items_left x = x.end - x.next
 
-pub counter_lowers : ItemsLower Step left
+pub counter_lowers : ItemsLower CounterStep items_left
 counter_lowers =
     record {
       by_item = λ x y n h. rw h.2 (omega (arith, h.0));

@@ -1,5 +1,6 @@
 -- What a reader in upper case reads from.
 use Rattle.example_own.specs.declared.upper.Upper.{Upper}
 
-abbrev pub inner_of : {R : Type 0} → Upper R → R
-inner_of x = x.inner
+-- the reader that it reads from
+abbrev pub upper_inner : {R : Type 0} → Upper R → R
+upper_inner x = x.inner

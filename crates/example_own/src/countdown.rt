@@ -1,6 +1,6 @@
 //! A future that says what each of its polls answers.
 ghost use Rattle.futures_lite.specs.Own.{StepsToValue, future_by_steps};
-ghost use Rattle.example_own.specs.Countdown.{Step};
+ghost use Rattle.example_own.specs.Countdown.{CountdownStep};
 
 use futures_lite::{Context, Future, Poll};
 
@@ -14,9 +14,9 @@ pub struct Countdown {
 impl Future for Countdown {
     type Output = u32;
 
-    ghost run = { StepsToValue Step };
+    ghost run = { StepsToValue CountdownStep };
 
-    ghost laws = { future_by_steps Step };
+    ghost laws = { future_by_steps CountdownStep };
 
     fn poll(&mut self, cx: &mut Context<'_>) -> Poll<u32> {
         if self.left == 0 {

@@ -2,7 +2,7 @@
 ghost use Rattle.std.specs.List.{FoldsTo};
 ghost use Rattle.futures_lite.specs.Ranks.{number_ranks};
 ghost use Rattle.futures_lite.specs.Own.{HintsAt, stream_counting, stream_hinting};
-ghost use Rattle.example_own.specs.Counter.{Step, counter_lowers, left};
+ghost use Rattle.example_own.specs.Counter.{CounterStep, counter_lowers, items_left};
 
 use futures_lite::stream::Counted;
 use futures_lite::{Context, Poll, Stream};
@@ -17,9 +17,9 @@ pub struct Counter {
 impl Stream for Counter {
     type Item = u32;
 
-    ghost run = { FoldsTo Step };
+    ghost run = { FoldsTo CounterStep };
 
-    ghost hints = { HintsAt left };
+    ghost hints = { HintsAt items_left };
 
     ghost laws = { stream_hinting counter_lowers };
 
@@ -39,7 +39,7 @@ impl Stream for Counter {
 
 // How far it is from its end falls with each item, so a poll may go on over items until there is an answer.
 impl Counted for Counter {
-    ghost ranks = { number_ranks left };
+    ghost ranks = { number_ranks items_left };
 
     ghost counting = { stream_counting counter_lowers };
 }

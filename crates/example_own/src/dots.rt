@@ -1,7 +1,7 @@
 //! A reader that stores one byte a call, says what each mark of its reads is, and is ranked.
 ghost use Rattle.futures_lite.specs.Ranks.{number_ranks};
 ghost use Rattle.futures_lite.specs.Own.{Steps, reader_by_steps, reader_counting};
-ghost use Rattle.example_own.specs.Dots.{Step, dots_lower, left};
+ghost use Rattle.example_own.specs.Dots.{DotsStep, dots_left, dots_lower};
 
 use futures_lite::io::{AsyncRead, CountedRead, Tale};
 use futures_lite::{Context, Poll};
@@ -14,9 +14,9 @@ pub struct Dots {
 }
 
 impl Tale for Dots {
-    ghost reads = { Steps Step };
+    ghost reads = { Steps DotsStep };
 
-    ghost read_laws = { reader_by_steps Step };
+    ghost read_laws = { reader_by_steps DotsStep };
 }
 
 impl AsyncRead for Dots {
@@ -32,7 +32,7 @@ impl AsyncRead for Dots {
 
 // As many dots as are left fall with each byte, so a read to the end returns.
 impl CountedRead for Dots {
-    ghost ranks = { number_ranks left };
+    ghost ranks = { number_ranks dots_left };
 
     ghost counting = { reader_counting dots_lower };
 }

@@ -1,7 +1,7 @@
 //! A reader that says what each mark of its reads is, and is ranked.
 ghost use Rattle.futures_lite.specs.Ranks.{number_ranks};
 ghost use Rattle.futures_lite.specs.Own.{Steps, reader_by_steps, reader_counting};
-ghost use Rattle.example_own.specs.Table.{Step, size, table_lowers};
+ghost use Rattle.example_own.specs.Table.{TableStep, size, table_lowers};
 
 use futures_lite::io::{AsyncRead, CountedRead, Tale};
 use futures_lite::{Context, Poll};
@@ -15,9 +15,9 @@ pub struct Table {
 }
 
 impl Tale for Table {
-    ghost reads = { Steps Step };
+    ghost reads = { Steps TableStep };
 
-    ghost read_laws = { reader_by_steps Step };
+    ghost read_laws = { reader_by_steps TableStep };
 }
 
 impl AsyncRead for Table {

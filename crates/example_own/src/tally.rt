@@ -1,6 +1,6 @@
 //! A writer that says what each of its marks does.
 ghost use Rattle.futures_lite.specs.Own.{Steps, writer_by_steps};
-ghost use Rattle.example_own.specs.Tally.{Step};
+ghost use Rattle.example_own.specs.Tally.{TallyStep};
 
 use futures_lite::io::{AsyncWrite, Takings};
 use futures_lite::{Context, Poll};
@@ -13,9 +13,9 @@ pub struct Tally {
 }
 
 impl Takings for Tally {
-    ghost writes = { Steps Step };
+    ghost writes = { Steps TallyStep };
 
-    ghost write_laws = { writer_by_steps Step };
+    ghost write_laws = { writer_by_steps TallyStep };
 }
 
 impl AsyncWrite for Tally {

@@ -3,7 +3,7 @@ ghost use Rattle.std.specs.Prelude.{◌≡◌, map};
 ghost use Rattle.std.specs.Char.{to_ascii_uppercase};
 ghost use Rattle.futures_lite.specs.Own.{HandsOn, handing_counting, reader_handing};
 ghost use Rattle.futures_lite.specs.Ranks.{ranks_of};
-ghost use Rattle.example_own.specs.Upper.{inner_of};
+ghost use Rattle.example_own.specs.Upper.{upper_inner};
 
 use futures_lite::io::{AsyncRead, CountedRead, Tale};
 use futures_lite::{Context, Poll};
@@ -16,13 +16,13 @@ pub struct Upper<R> {
 }
 
 impl<R: Tale> Tale for Upper<R> {
-    ghost reads = { HandsOn inner_of to_ascii_uppercase R.reads };
+    ghost reads = { HandsOn upper_inner to_ascii_uppercase R.reads };
 
     ghost read_laws = { reader_handing R.read_laws };
 }
 
 impl<R: AsyncRead> AsyncRead for Upper<R> {
-    ghost leaves = { λ x. R.leaves x.inner };
+    ghost registers = { λ x. R.registers x.inner };
 
     fn poll_read(&mut self, cx: &mut Context<'_>, buf: &mut [u8]) -> Poll<io::Result<usize>> {
         match self.inner.poll_read(cx, buf) {
@@ -38,7 +38,7 @@ impl<R: AsyncRead> AsyncRead for Upper<R> {
 
 // Its rank is the inner reader's, since as many bytes and errors go out as came in.
 impl<R: CountedRead> CountedRead for Upper<R> {
-    ghost ranks = { ranks_of inner_of R.ranks };
+    ghost ranks = { ranks_of upper_inner R.ranks };
 
     ghost counting = { handing_counting R.counting };
 }

@@ -19,7 +19,8 @@ pub fn triples_agree(
     out_more: &mut Vec<Poll<Option<u64>>>,
 ) -> Result<(), AllocError>
     requires { strip one ≡ strip other }
-    ensures { (l m : List (Answer _)) × (out.new.items ≡ out.old.items ++ l) × (out_more.new.items ≡ out_more.old.items ++ m)
+    ensures { (l m : List (Answer _)) × (out.new.items ≡ out.old.items ++ l)
+        × (out_more.new.items ≡ out_more.old.items ++ m)
         × Comparable (strip l) (strip m) × IfOk result (λ _. (length l ≡ polls) × (length m ≡ polls)) }
 {
     let triple = |x: u32| x as u64 * 3;

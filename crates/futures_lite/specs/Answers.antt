@@ -1,9 +1,9 @@
 -- Lists of answers: what polls answer, and what is said of whole lists of it.
 pub use Rattle.futures.specs.declared.task.Poll.{Poll}
 pub use Rattle.futures.specs.declared.task.Poll.TheVariants.{Ready, Pending}
-pub use Rattle.lite_base.specs.Answers.{Answer, item, end, items, strip, Comparable, ComparableBy}
-pub use Rattle.lite_base.specs.Answers.{until_end, Endless, before_end, Waiting, Gives, UpToValue}
-pub use Rattle.lite_base.specs.Calm.{Prompt, waits}
+pub use Rattle.lite_base.specs.Answers.{Answer, item, end, items, strip, Comparable, ComparableBy, until_end, Endless}
+pub use Rattle.lite_base.specs.Answers.{before_end, Waiting, Gives, UpToValue}
+pub use Rattle.lite_base.specs.Calm.{NoPending, waits}
 pub use Rattle.lite_base.specs.OkRanks.{all_ok}
 pub use Rattle.lite_stream.specs.EachItem.{items_in}
 pub use Rattle.lite_nests.specs.Each.{EachItem}

@@ -1,4 +1,4 @@
--- Contexts: what a poll keeps in one, and what a pending poll leaves.
+-- Contexts: what a poll keeps in one, and what a pending poll registers.
 pub use Rattle.futures.specs.Poll.{IfReady, OnPending}
 pub use Rattle.futures.specs.Task.{Holds, Keeps, Lasting}
 pub use Rattle.futures.specs.declared.task.context.Context.{Context}

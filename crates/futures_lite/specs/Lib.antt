@@ -1,4 +1,5 @@
--- What clauses and proofs name, from one place: a crate that lists futures_lite alone writes `Rattle.futures_lite.specs.Answers.{item}`.
+-- What clauses and proofs name, from one place: a crate that lists futures_lite alone writes
+-- `Rattle.futures_lite.specs.Answers.{item}`.
 pub mod Answers
 pub mod Calls
 pub mod Contexts

@@ -1,20 +1,22 @@
 -- Readers: what runs of calls may do, what is lent, and what each reader of the library does, by its own file.
-pub use Rattle.lite_io_base.specs.Runs.{Afterwards, Fills, Idle, LendsFront, OnlyOkLends, ReadsInto, Runs, Shows, StandsFirst, room_in}
-pub use Rattle.lite_io_base.specs.Told.{Told}
-pub use Rattle.lite_io_base.specs.Known.{Known, Knows, Spends, unknown}
+pub use Rattle.lite_io_base.specs.Runs.{Afterwards, Fills, Idle, LendsFront, OnlyOkLends, ReadsInto, Shows, StandsFirst}
+pub use Rattle.lite_io_base.specs.Runs.{room_in}
+pub use Rattle.lite_io_base.specs.Told.{TellsScript}
+pub use Rattle.lite_io_base.specs.Known.{Known, Knows, TellsKnown, unknown}
 pub use Rattle.lite_io_base.specs.Steps.{Steps}
 pub use Rattle.lite_io_base.specs.SeekKeeps.{SeekKeeps}
-pub use Rattle.lite_io_base.specs.Steady.{CalmReadLaws, NoWait, OneTale, SteadyReadLaws, unhurried}
+pub use Rattle.lite_io_base.specs.Steady.{CalmReadLaws, NoPendingRead, OneTale, SteadyReadLaws, strip_marks}
 pub use Rattle.lite_io.specs.BufReader
 pub use Rattle.lite_io.specs.Chain
 pub use Rattle.lite_io.specs.Chaining
 pub use Rattle.lite_io.specs.Repeat
 pub use Rattle.lite_io.specs.Take
 pub use Rattle.lite_bridge.specs.Cursor
-pub use Rattle.lite_laws.specs.BothReaders.{BothRead, NotRefused, ReadsUp}
+pub use Rattle.lite_laws.specs.BothReaders.{BothRead, HasReadMemory, ReadsUp}
 pub use Rattle.lite_read.specs.Appending
 pub use Rattle.lite_read.specs.Bytes
 pub use Rattle.lite_read.specs.Filling
 pub use Rattle.lite_read.specs.ReadExact
 pub use Rattle.lite_read.specs.ReadToEnd
-pub use Rattle.lite_read.specs.Settling.{SameByKind, SameOr}
+pub use Rattle.lite_read.specs.Deterministic.{SameByKind, SameOr}
+pub use Rattle.lite_base.specs.Runs.{Runs}

@@ -1,6 +1,6 @@
 -- Streams: the type of each adapter of the library, as specs see it, and what its runs are.
 pub use Rattle.lite_source.specs.Iter.{AlwaysNext, Iterates, NeverRaised, Nexts}
-pub use Rattle.lite_source.specs.Script.{Gives as GivesScript}
+pub use Rattle.lite_source.specs.Script.{GivesScript}
 pub use Rattle.lite_source.specs.Unfolding.{BothHave, HoldingsBy, PartOf, UnfoldAlike}
 pub use Rattle.lite_source.specs.declared.iter.Iter.{Iter}
 pub use Rattle.lite_stream.specs.Copied.{Referred}

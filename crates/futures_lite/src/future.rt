@@ -3,7 +3,7 @@ ghost use Rattle.std.specs.Prelude.{◌≡◌, IfOk, List, OnErr, Some};
 ghost use Rattle.futures.specs.declared.task.Poll.{Poll};
 ghost use Rattle.lite_base.specs.Answers.{Gives};
 ghost use Rattle.lite_base.specs.Future.Finishes.{Finishes};
-ghost use Rattle.lite_byte_views.specs.Waiting.{Left, LeftSeen};
+ghost use Rattle.lite_byte_views.specs.Waiting.{LeftAs, LeftSeen};
 ghost use Rattle.lite_views.specs.Views.{HasValue, Seen, Waited};
 
 pub use lite_base::Future;
@@ -51,7 +51,7 @@ where
     requires { F.can_poll future.old }
     ensures gave { IfOk result (λ value. (ins : List (Poll F.Output)) × Gives ins value × F.run future.old ins future.new) }
     ensures kept { OnErr result (future.new ≡ future.old) }
-    ensures left { LeftSeen future.old result future.new × Left F.run future.old result future.new }
+    ensures left { LeftSeen future.old result future.new × LeftAs F.run future.old result future.new }
 {
     BlockOn::new(rt)?.wait_for(rt, future)
 }

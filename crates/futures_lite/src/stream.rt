@@ -1,8 +1,9 @@
 //! Streams: sources, and what every stream can be adapted by.
-ghost use Rattle.std.specs.Prelude.{◌≡◌, ℕ, ◌-◌, ◌<◌, ◌≤◌, ◌^◌, ◌++◌, ◌∷◌, [], List, Bool, IfOk, IfSome, IsSome, MatchResult, None, Ok, Option, Result};
-ghost use Rattle.std.specs.Prelude.{Some, drop, false, flat_map, length, map, not, replicate, take};
-ghost use Rattle.std.specs.List.{AllByRecursion, enumerate_from, filter, filter_map, find, fold, last_or, list_all, list_any, position, prefix_len};
-ghost use Rattle.std.specs.List.{range_with_len, slice_get, zip};
+ghost use Rattle.std.specs.Prelude.{◌≡◌, ℕ, ◌-◌, ◌<◌, ◌≤◌, ◌^◌, ◌++◌, ◌∷◌, [], List, Bool, IfOk, IfSome, IsSome};
+ghost use Rattle.std.specs.Prelude.{MatchResult, None, Ok, Option, Result, Some, drop, false, flat_map, length, map};
+ghost use Rattle.std.specs.Prelude.{not, replicate, take};
+ghost use Rattle.std.specs.List.{AllByRecursion, enumerate_from, filter, filter_map, find, fold, last_or, list_all};
+ghost use Rattle.std.specs.List.{list_any, position, prefix_len, range_with_len, slice_get, zip};
 ghost use Rattle.std.specs.Iterator.{ActsAs, ActsAsAt, ActsAsOnTwo};
 ghost use Rattle.std.specs.Iterator.Runs.{CallKeepsClosure};
 ghost use Rattle.std.specs.Fn.{Called, CalledAt};
@@ -97,7 +98,8 @@ pub fn iter_array<T: Drop, const N: usize>(items: [T; N]) -> Iter<array::IntoIte
 pub fn iter_range(items: Range<usize>) -> Iter<Range<usize>>
     ensures fronts { (n : ℕ) → items.end - items.start ≡ n → (range_with_len items.start n ≡ range_with_len items.start n)
         × Fronts ⟦<Iter<Range<usize>> as Stream>⟧.run result (range_with_len items.start n) }
-    ensures lists { (n : ℕ) → items.end - items.start ≡ n → ListsAs ⟦<Iter<Range<usize>> as Stream>⟧.run result (range_with_len items.start n) }
+    ensures lists { (n : ℕ) → items.end - items.start ≡ n
+        → ListsAs ⟦<Iter<Range<usize>> as Stream>⟧.run result (range_with_len items.start n) }
 {
     iter(items)
 }
@@ -143,7 +145,8 @@ pub trait StreamExt: Stream {
         Self: Sized,
         F: FnMut(Self::Item) -> U,
         ensures parts { result ≡ record { stream = self; f = f } }
-        ensures may { (xs : List Self.Item) → Fronts Self.run self xs → AllByRecursion (λ x. F.FnMut.pre f (x, tt)) xs → CallKeepsClosure F.FnMut f
+        ensures may { (xs : List Self.Item) → Fronts Self.run self xs → AllByRecursion (λ x. F.FnMut.pre f (x, tt)) xs
+            → CallKeepsClosure F.FnMut f
             → Seen self xs × MayCallEach Self.run F.FnMut result.stream result.f }
         ensures lists { (h : Self.Item → U) (xs : List Self.Item) → Lists Self.run self xs → ActsAs F.FnMut f h
             → ListsAs ⟦<Map<Self, F> as Stream>⟧.run result (map h xs) }
@@ -159,7 +162,8 @@ pub trait StreamExt: Stream {
         P: FnMut(&Self::Item) -> bool,
         ensures parts { result ≡ record { stream = self; predicate = predicate } }
         ensures lists { (test : Self.Item → Bool) (xs : List Self.Item) → Lists Self.run self xs → ActsAsAt P.FnMut predicate test
-            → ListsAs (Filters Self.run (CalledAt P.FnMut)) result (filter test xs) × (length (filter test xs) ≤ length xs) }
+            → ListsAs (Filters Self.run (CalledAt P.FnMut)) result (filter test xs)
+            × (length (filter test xs) ≤ length xs) }
     {
         lite_sift::make::filter(self, predicate)
     }
@@ -173,7 +177,8 @@ pub trait StreamExt: Stream {
         F: FnMut(Self::Item) -> U,
         ensures parts { result ≡ record { stream = record { stream = self; f = f }; inner_stream = None } }
         ensures lists { (h : Self.Item → List U.Item) (xs : List Self.Item) → Lists Self.run self xs
-            → ((x : Self.Item) (inner : U) (g : F) → Called F.FnMut f (x, tt) inner g → (g ≡ f) × Lists U.run inner (h x))
+            → ((x : Self.Item) (inner : U) (g : F) → Called F.FnMut f (x, tt) inner g → (g ≡ f)
+            × Lists U.run inner (h x))
             → ListsAs (FlatMaps Self.run F.FnMut U.run) result (flat_map h xs) }
     {
         lite_flatten::make::flat_map(self, f)
@@ -187,7 +192,8 @@ pub trait StreamExt: Stream {
         Self::Item: Stream,
         ensures parts { result ≡ record { stream = self; inner_stream = None } }
         ensures lists { (h : Self.Item → List Self.Item.Item) (xs : List Self.Item) → Lists Self.run self xs
-            → ((inner : Self.Item) → Lists Self.Item.run inner (h inner)) → ListsAs (Flattens Self.Item.run Self.run) result (flat_map h xs) }
+            → ((inner : Self.Item) → Lists Self.Item.run inner (h inner))
+            → ListsAs (Flattens Self.Item.run Self.run) result (flat_map h xs) }
     {
         lite_flatten::make::flatten(self)
     }
@@ -201,7 +207,8 @@ pub trait StreamExt: Stream {
         Fut: Future,
         ensures parts { result ≡ record { stream = self; future = None; f = f } }
         ensures lists { (h : Self.Item → Fut.Output) (xs : List Self.Item) → Lists Self.run self xs
-            → ((x : Self.Item) (future : Fut) (g : F) → Called F.FnMut f (x, tt) future g → (g ≡ f) × HasValue Fut.run future (h x))
+            → ((x : Self.Item) (future : Fut) (g : F) → Called F.FnMut f (x, tt) future g → (g ≡ f)
+            × HasValue Fut.run future (h x))
             → ListsAs (Thens Self.run (Calls F.FnMut) Fut.run) result (map h xs) }
     {
         lite_flatten::make::then(self, f)
@@ -215,7 +222,8 @@ pub trait StreamExt: Stream {
         F: FnMut(Self::Item) -> Option<T>,
         ensures parts { result ≡ record { stream = self; f = f } }
         ensures lists { (h : Self.Item → Option T) (xs : List Self.Item) → Lists Self.run self xs → ActsAs F.FnMut f h
-            → ListsAs ⟦<FilterMap<Self, F> as Stream>⟧.run result (filter_map h xs) × (length (filter_map h xs) ≤ length xs) }
+            → ListsAs ⟦<FilterMap<Self, F> as Stream>⟧.run result (filter_map h xs)
+            × (length (filter_map h xs) ≤ length xs) }
     {
         lite_sift::make::filter_map(self, f)
     }
@@ -252,7 +260,8 @@ pub trait StreamExt: Stream {
         F: FnMut(Self::Item) -> Option<B>,
         ensures parts { result ≡ record { stream = self; f = f } }
         ensures lists { (h : Self.Item → Option B) (xs : List Self.Item) → Lists Self.run self xs → ActsAs F.FnMut f h
-            → ListsAs ⟦<MapWhile<Self, F> as Stream>⟧.run result (map_while h xs) × (length (map_while h xs) ≤ length xs) }
+            → ListsAs ⟦<MapWhile<Self, F> as Stream>⟧.run result (map_while h xs)
+            × (length (map_while h xs) ≤ length xs) }
     {
         make::map_while(self, f)
     }
@@ -351,7 +360,8 @@ pub trait StreamExt: Stream {
     final fn cycle(self) -> Result<Cycle<Self>, Self>
     where
         Self: Clone + Sized,
-        ensures { MatchResult result (CycleOf Self.is_clone self) (λ back. (back ≡ self) × ¬ (Self.is_infallible self)) }
+        ensures { MatchResult result (CycleOf Self.is_clone self)
+            (λ back. (back ≡ self) × ¬ (Self.is_infallible self)) }
     {
         lite_cycle::make::cycle(self)
     }
@@ -371,7 +381,8 @@ pub trait StreamExt: Stream {
         Self: Stream<Item = &'a T> + Sized,
         T: Clone,
         ensures parts { result ≡ record { stream = self; held = None } }
-        ensures lists { (xs : List (Bor T)) → Lists Self.run self xs → ((x : T) → T.is_infallible x) → ((x y : T) → T.is_clone x y → y ≡ x)
+        ensures lists { (xs : List (Bor T)) → Lists Self.run self xs → ((x : T) → T.is_infallible x)
+            → ((x y : T) → T.is_clone x y → y ≡ x)
             → ListsAs ⟦<Cloned<Self> as Stream>⟧.run result (map (λ x. Ok x.now) xs) }
     {
         lite_flatten::make::cloned(self)
@@ -383,7 +394,8 @@ pub trait StreamExt: Stream {
         Self: Stream<Item = &'a T> + Sized,
         T: Copy,
         ensures parts { result ≡ record { stream = self } }
-        ensures lists { (xs : List (Bor T)) → Lists Self.run self xs → ListsAs ⟦<Copied<Self> as Stream>⟧.run result (map (λ x. x.now) xs) }
+        ensures lists { (xs : List (Bor T)) → Lists Self.run self xs
+            → ListsAs ⟦<Copied<Self> as Stream>⟧.run result (map (λ x. x.now) xs) }
     {
         make::copied(self)
     }
@@ -395,8 +407,10 @@ pub trait StreamExt: Stream {
         Self: Sized,
         F: FnMut(&mut St, Self::Item) -> Option<B>,
         ensures parts { result ≡ record { stream = self; state = initial_state; f = f } }
-        ensures lists { (h : St → Self.Item → St × Option B) (xs : List Self.Item) → Lists Self.run self xs → ActsAsOnState F.FnMut f h
-            → ListsAs ⟦<Scan<Self, St, F> as Stream>⟧.run result (scan h initial_state xs) × (length (scan h initial_state xs) ≤ length xs) }
+        ensures lists { (h : St → Self.Item → St × Option B) (xs : List Self.Item) → Lists Self.run self xs
+            → ActsAsOnState F.FnMut f h
+            → ListsAs ⟦<Scan<Self, St, F> as Stream>⟧.run result (scan h initial_state xs)
+            × (length (scan h initial_state xs) ≤ length xs) }
     {
         make::scan(self, initial_state, f)
     }
@@ -438,7 +452,8 @@ pub trait StreamExt: Stream {
     where
         Self: Sized,
         ensures parts { result ≡ record { stream = self.entry; folder = record {} } }
-        ensures value { (xs : List Self.Item) → Lists Self.run self.old xs → ValueIs ⟦<NextFuture<'a, Self> as Future>⟧.run result (slice_get xs 0) }
+        ensures value { (xs : List Self.Item) → Lists Self.run self.old xs
+            → ValueIs ⟦<NextFuture<'a, Self> as Future>⟧.run result (slice_get xs 0) }
     {
         lite_consume::make::next(self)
     }
@@ -460,7 +475,8 @@ pub trait StreamExt: Stream {
     where
         Self: Counted + Sized,
         ensures parts { result ≡ record { stream = self; folder = record { count = 0 } } }
-        ensures value { (xs : List Self.Item) → Lists Self.run self xs → length xs < 2 ^ 64 → ValueIs (CountRuns Self.run) result (length xs) }
+        ensures value { (xs : List Self.Item) → Lists Self.run self xs → length xs < 2 ^ 64
+            → ValueIs (CountRuns Self.run) result (length xs) }
     {
         lite_consume::make::count(self)
     }
@@ -517,7 +533,8 @@ pub trait StreamExt: Stream {
         Self: Counted + Sized,
         P: FnMut(&Self::Item) -> bool,
         ensures parts { result ≡ record { stream = self.entry; folder = record { predicate = predicate } } }
-        ensures value { (test : Self.Item → Bool) (xs : List Self.Item) → Lists Self.run self.old xs → ActsAsAt P.FnMut predicate test
+        ensures value { (test : Self.Item → Bool) (xs : List Self.Item) → Lists Self.run self.old xs
+            → ActsAsAt P.FnMut predicate test
             → ValueIs (FindRuns Self.run (CalledAt P.FnMut)) result (find test xs) }
     {
         lite_consume::make::find(self, predicate)
@@ -542,7 +559,8 @@ pub trait StreamExt: Stream {
         Self: Counted + Sized,
         P: FnMut(Self::Item) -> bool,
         ensures parts { result ≡ record { stream = self.entry; folder = record { predicate = predicate; index = 0 } } }
-        ensures value { (test : Self.Item → Bool) (xs : List Self.Item) → Lists Self.run self.old xs → ActsAs P.FnMut predicate test
+        ensures value { (test : Self.Item → Bool) (xs : List Self.Item) → Lists Self.run self.old xs
+            → ActsAs P.FnMut predicate test
             → length xs < 2 ^ 64 → ValueIs ⟦<PositionFuture<'a, Self, P> as Future>⟧.run result (position test xs) }
     {
         lite_consume::make::position(self, predicate)
@@ -554,7 +572,8 @@ pub trait StreamExt: Stream {
         Self: Counted + Sized,
         P: FnMut(Self::Item) -> bool,
         ensures parts { result ≡ record { stream = self.entry; folder = record { predicate = predicate } } }
-        ensures value { (test : Self.Item → Bool) (xs : List Self.Item) → Lists Self.run self.old xs → ActsAs P.FnMut predicate test
+        ensures value { (test : Self.Item → Bool) (xs : List Self.Item) → Lists Self.run self.old xs
+            → ActsAs P.FnMut predicate test
             → ValueIs ⟦<AllFuture<'a, Self, P> as Future>⟧.run result (list_all test xs) }
     {
         lite_consume::make::all(self, predicate)
@@ -566,7 +585,8 @@ pub trait StreamExt: Stream {
         Self: Counted + Sized,
         P: FnMut(Self::Item) -> bool,
         ensures parts { result ≡ record { stream = self.entry; folder = record { predicate = predicate } } }
-        ensures value { (test : Self.Item → Bool) (xs : List Self.Item) → Lists Self.run self.old xs → ActsAs P.FnMut predicate test
+        ensures value { (test : Self.Item → Bool) (xs : List Self.Item) → Lists Self.run self.old xs
+            → ActsAs P.FnMut predicate test
             → ValueIs ⟦<AnyFuture<'a, Self, P> as Future>⟧.run result (list_any test xs) }
     {
         lite_consume::make::any(self, predicate)
@@ -588,7 +608,8 @@ pub trait StreamExt: Stream {
         Self: Counted + Sized,
         F: FnMut(Self::Item) -> Result<(), E>,
         ensures parts { result ≡ record { stream = self.entry; folder = record { f = f } } }
-        ensures value { (h : Self.Item → Result (Unit {0}) E) (xs : List Self.Item) → Lists Self.run self.old xs → ActsAs F.FnMut f h
+        ensures value { (h : Self.Item → Result (Unit {0}) E) (xs : List Self.Item) → Lists Self.run self.old xs
+            → ActsAs F.FnMut f h
             → ValueIs ⟦<TryForEachFuture<'a, Self, F> as Future>⟧.run result (first_error (map h xs)) }
     {
         lite_consume::make::try_for_each(self, f)
@@ -604,7 +625,8 @@ pub trait StreamExt: Stream {
         ensures open { IsSome result.folder.collection }
         ensures empty { IfSome result.folder.collection (λ c. C.holds c []) }
         ensures value { (xs : List Self.Item) → Lists Self.run self xs
-            → Seen self xs × ValueHolds AllocError ⟦<CollectFuture<Self, C> as Future>⟧.run result (λ v. IfOk v (λ c. C.holds c xs)) }
+            → Seen self xs
+            × ValueHolds AllocError ⟦<CollectFuture<Self, C> as Future>⟧.run result (λ v. IfOk v (λ c. C.holds c xs)) }
     {
         lite_gather::make::collect(self, alloc)
     }
@@ -619,9 +641,12 @@ pub trait StreamExt: Stream {
         ensures open { IsSome result.folder.items }
         ensures empty { IfSome result.folder.items (λ c. C.holds c []) }
         ensures value { (xs : List (Result T E)) → Lists Self.run self xs
-            → Seen self xs × ValueHolds AllocError ⟦<TryCollectFuture<Self, C> as Future>⟧.run result (λ v. TriesCollect C.holds xs v) }
+            → Seen self xs
+            × ValueHolds AllocError ⟦<TryCollectFuture<Self, C> as Future>⟧.run result
+            (λ v. TriesCollect C.holds xs v) }
         ensures read { (f : T → List ℕ) (xs : List (List ℕ)) → OkLists Self.run self f xs
-            → OkSeen self f xs × ValueHolds AllocError ⟦<TryCollectFuture<Self, C> as Future>⟧.run result (AllTaken C.holds f xs) }
+            → OkSeen self f xs
+            × ValueHolds AllocError ⟦<TryCollectFuture<Self, C> as Future>⟧.run result (AllTaken C.holds f xs) }
     {
         lite_gather::make::try_collect(self, alloc)
     }
@@ -638,10 +663,13 @@ pub trait StreamExt: Stream {
         ensures open { IsSome result.folder.res }
         ensures empty { IfSome result.folder.res (λ c. B.holds c.0 [] × B.holds c.1 []) }
         ensures accepted { (test : Self.Item → Bool) (xs : List Self.Item) → Lists Self.run self xs → ActsAsAt P.FnMut predicate test
-            → (filter test xs ≡ filter test xs) × ValueHolds AllocError ⟦<PartitionFuture<Self, P, B> as Future>⟧.run result
+            → (filter test xs ≡ filter test xs)
+            × ValueHolds AllocError ⟦<PartitionFuture<Self, P, B> as Future>⟧.run result
             (λ v. IfOk v (λ c. B.holds c.0 (filter test xs))) }
-        ensures others { (rest : Self.Item → Bool) (xs : List Self.Item) → Lists Self.run self xs → ActsAsAt P.FnMut predicate (λ x. not (rest x))
-            → (filter rest xs ≡ filter rest xs) × ValueHolds AllocError ⟦<PartitionFuture<Self, P, B> as Future>⟧.run result
+        ensures others { (rest : Self.Item → Bool) (xs : List Self.Item) → Lists Self.run self xs
+            → ActsAsAt P.FnMut predicate (λ x. not (rest x))
+            → (filter rest xs ≡ filter rest xs)
+            × ValueHolds AllocError ⟦<PartitionFuture<Self, P, B> as Future>⟧.run result
             (λ v. IfOk v (λ c. B.holds c.1 (filter rest xs))) }
     {
         lite_gather::make::partition(self, alloc, predicate)

@@ -1,3 +1,4 @@
+pub mod AtEachOk
 pub mod Calls
 pub mod Finishes
 pub mod Fuse

@@ -2,8 +2,10 @@
 use Rattle.std.specs.Prelude.{◌≡◌, ◌≤◌, List, [], ◌++◌, length}
 use Rattle.futures.specs.declared.task.Poll.{Poll}
 use Rattle.lite_base.specs.Answers.{Waiting, strip}
+use Rattle.lite_base.specs.Runs.{Runs}
 
-pub record FutureLaws {F A : Type 0} (run : F → List (Poll A) → F → Type 0) : Type 0 where
+-- what each future's runs meet
+pub record FutureLaws {F A : Type 0} (run : Runs (Poll A) F) : Type 0 where
   -- no poll keeps the value
   pub rests : (x : F) → run x [] x
   pub stays : (x y : F) → run x [] y → y ≡ x

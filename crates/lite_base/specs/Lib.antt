@@ -12,5 +12,7 @@ pub mod Lent
 pub mod OkRanks
 pub mod Rank
 pub mod Ranks
+pub mod Registered
+pub mod Runs
 pub mod Steady
 pub mod StreamLaws

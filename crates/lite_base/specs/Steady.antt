@@ -1,5 +1,6 @@
--- Streams and futures whose answers do not depend on when they were pending, where memory was found: the runs in which it was are the ample ones.
-use Rattle.std.specs.Prelude.{◌≡◌, ℕ, ⊤, List, Option}
+-- Streams and futures whose answers do not depend on when they were pending, where memory was found: the runs in which
+-- it was are the ample ones.
+use Rattle.std.specs.Prelude.{◌≡◌, ⊤, List}
 use denote.MutBor.{MutBor}
 use Rattle.futures.specs.declared.task.Poll.{Poll}
 use Rattle.lite_base.specs.Alike.{AlikeBy, SameAnswer, SameItem, Sameness}
@@ -7,56 +8,75 @@ use Rattle.lite_base.specs.Answers.{Answer}
 use Rattle.lite_base.specs.FutureLaws.{FutureLaws}
 use Rattle.lite_base.specs.Lent.{Lent, lent_future_laws, lent_runs}
 use Rattle.lite_base.specs.StreamLaws.{RunLaws, StreamLaws, runs_of}
+use Rattle.lite_base.specs.Runs.{Hints, Runs}
 
 module _ {S A : Type 0} where
   -- values that are alike have runs that are
-  abbrev pub SteadinessBy : (A → A → Type 0) → (S → List (Poll A) → S → Type 0) → (S → S → Type 0) → Type 0
+  abbrev pub SteadinessBy : (A → A → Type 0) → Runs (Poll A) S → (S → S → Type 0) → Type 0
   SteadinessBy same ample alike = (x y : S) → alike x y → AlikeBy same ample x y
 
-  abbrev pub Steadiness : (S → List (Poll A) → S → Type 0) → (S → S → Type 0) → Type 0
+  -- values that are alike give the same answers, where those are the same that are equal
+  abbrev pub Steadiness : Runs (Poll A) S → (S → S → Type 0) → Type 0
   Steadiness = SteadinessBy (λ x y. x ≡ y)
 
   -- no poll asks for memory: each run is ample
-  abbrev pub TakesNone : (S → List (Poll A) → S → Type 0) → (S → List (Poll A) → S → Type 0) → Type 0
+  abbrev pub TakesNone : Runs (Poll A) S → Runs (Poll A) S → Type 0
   TakesNone run ample = (x y : S) (l : List (Poll A)) → run x l y → ample x l y
 
 -- what a steady stream's runs meet: the ample ones follow one another too, and give answers that are the same
-pub record SteadyLawsBy {S A : Type 0} (same : Sameness A) (run ample : S → List (Answer A) → S → Type 0) (needs_none : Type 0) (alike : S → S → Type 0) : Type 0 where
+pub record SteadyLawsBy {S A : Type 0} (same : Sameness A) (run ample : Runs (Answer A) S) (needs_none : Type 0)
+    (alike : S → S → Type 0) : Type 0 where
   pub laws : RunLaws ample
   pub steady : SteadinessBy (SameAnswer same) ample alike
   pub found : needs_none → TakesNone run ample
 
--- and equal ones
-abbrev pub SteadyLaws : {S A : Type 0} → (S → List (Answer A) → S → Type 0) → (S → List (Answer A) → S → Type 0) → Type 0 → (S → S → Type 0) → Type 0
+-- as SteadyLawsBy, where answers are the same that are equal
+abbrev pub SteadyLaws : {S A : Type 0} → Runs (Answer A) S → Runs (Answer A) S → Type 0 → (S → S → Type 0) → Type 0
 SteadyLaws = SteadyLawsBy Sameness.equal
 
 -- what a steady future's runs meet: the ample ones have the laws of all too, and give values that are the same
-pub record FutureSteadyLawsBy {F A : Type 0} (same : Sameness A) (run ample : F → List (Poll A) → F → Type 0) (needs_none : Type 0) (alike : F → F → Type 0) : Type 0 where
+pub record FutureSteadyLawsBy {F A : Type 0} (same : Sameness A) (run ample : Runs (Poll A) F) (needs_none : Type 0)
+    (alike : F → F → Type 0) : Type 0 where
   pub laws : FutureLaws ample
   pub steady : SteadinessBy (SameItem same) ample alike
   pub found : needs_none → TakesNone run ample
 
--- and equal ones
-abbrev pub FutureSteadyLaws : {F A : Type 0} → (F → List (Poll A) → F → Type 0) → (F → List (Poll A) → F → Type 0) → Type 0 → (F → F → Type 0) → Type 0
+-- as FutureSteadyLawsBy, where values are the same that are equal
+abbrev pub FutureSteadyLaws : {F A : Type 0} → Runs (Poll A) F → Runs (Poll A) F → Type 0 → (F → F → Type 0) → Type 0
 FutureSteadyLaws = FutureSteadyLawsBy Sameness.equal
 
-lent_steadiness : {S A : Type 0} {same : A → A → Type 0} {ample : S → List (Poll A) → S → Type 0} {alike : S → S → Type 0} → SteadinessBy same ample alike → SteadinessBy same (Lent ample) (λ (x y : MutBor S). alike x.now y.now)
+lent_steadiness : {S A : Type 0} {same : A → A → Type 0} {ample : Runs (Poll A) S} {alike : S → S → Type 0}
+    → SteadinessBy same ample alike → SteadinessBy same (Lent ample) (λ (x y : MutBor S). alike x.now y.now)
 lent_steadiness s x y e l m x' y' h k = s x.now y.now e l m x'.now y'.now h.0 k.0
 
-lent_takes_none : {S A : Type 0} {run ample : S → List (Poll A) → S → Type 0} → TakesNone run ample → TakesNone (Lent run) (Lent ample)
+lent_takes_none : {S A : Type 0} {run ample : Runs (Poll A) S} → TakesNone run ample → TakesNone (Lent run) (Lent ample)
 lent_takes_none t x y l h = (t x.now y.now l h.0, h.1)
 
-pub lent_steady : {S A : Type 0} {same : Sameness A} {run ample : S → List (Answer A) → S → Type 0} {needs_none : Type 0} {alike : S → S → Type 0} → SteadyLawsBy same run ample needs_none alike
+pub lent_steady : {S A : Type 0} {same : Sameness A} {run ample : Runs (Answer A) S} {needs_none : Type 0}
+    {alike : S → S → Type 0} → SteadyLawsBy same run ample needs_none alike
     → SteadyLawsBy same (Lent run) (Lent ample) needs_none (λ (x y : MutBor S). alike x.now y.now)
-lent_steady s = record { laws = lent_runs s.laws; steady = lent_steadiness s.steady; found = λ n. lent_takes_none (s.found n) }
+lent_steady s =
+    record {
+      laws = lent_runs s.laws;
+      steady = lent_steadiness s.steady;
+      found = λ n. lent_takes_none (s.found n);
+    }
 
-pub lent_future_steady : {F A : Type 0} {same : Sameness A} {run ample : F → List (Poll A) → F → Type 0} {needs_none : Type 0} {alike : F → F → Type 0} → FutureSteadyLawsBy same run ample needs_none alike
+pub lent_future_steady : {F A : Type 0} {same : Sameness A} {run ample : Runs (Poll A) F} {needs_none : Type 0}
+    {alike : F → F → Type 0} → FutureSteadyLawsBy same run ample needs_none alike
     → FutureSteadyLawsBy same (Lent run) (Lent ample) needs_none (λ (x y : MutBor F). alike x.now y.now)
-lent_future_steady s = record { laws = lent_future_laws s.laws; steady = lent_steadiness s.steady; found = λ n. lent_takes_none (s.found n) }
+lent_future_steady s =
+    record {
+      laws = lent_future_laws s.laws;
+      steady = lent_steadiness s.steady;
+      found = λ n. lent_takes_none (s.found n);
+    }
 
 -- where no poll asks for memory
-pub steady_always : {S A : Type 0} {run : S → List (Answer A) → S → Type 0} {hints : S → ℕ × Option ℕ → Type 0} {alike : S → S → Type 0} → StreamLaws run hints → Steadiness run alike → SteadyLaws run run ⊤ alike
+pub steady_always : {S A : Type 0} {run : Runs (Answer A) S} {hints : Hints S} {alike : S → S → Type 0}
+    → StreamLaws run hints → Steadiness run alike → SteadyLaws run run ⊤ alike
 steady_always laws s = record { laws = runs_of laws; steady = s; found = λ n x y l h. h }
 
-pub future_steady_always : {F A : Type 0} {run : F → List (Poll A) → F → Type 0} {alike : F → F → Type 0} → FutureLaws run → Steadiness run alike → FutureSteadyLaws run run ⊤ alike
+pub future_steady_always : {F A : Type 0} {run : Runs (Poll A) F} {alike : F → F → Type 0} → FutureLaws run
+    → Steadiness run alike → FutureSteadyLaws run run ⊤ alike
 future_steady_always laws s = record { laws = laws; steady = s; found = λ n x y l h. h }

@@ -1,9 +1,11 @@
 //! Futures: the trait, what makes futures, and how two of them are combined.
-ghost use Rattle.std.specs.Prelude.{List, [], ◌∷◌, ⊤};
+ghost use Rattle.std.specs.Prelude.{[], ◌∷◌, ⊤};
 ghost use Rattle.futures.specs.Poll.{OnPending};
-ghost use Rattle.futures.specs.Task.{Keeps, Lasting, Holds};
+ghost use Rattle.futures.specs.Task.{Keeps, Lasting};
 ghost use Rattle.futures.specs.declared.task.Poll.{Poll};
 ghost use Rattle.lite_base.specs.FutureLaws.{FutureLaws};
+ghost use Rattle.lite_base.specs.Runs.{Runs};
+ghost use Rattle.lite_base.specs.Registered.{Registered};
 
 use futures::task::{Context, Poll};
 
@@ -48,10 +50,10 @@ pub trait Future {
     ghost can_poll: { Self → Type 0 } = { λ _. ⊤ };
 
     /// From the first value, polls gave these answers in order, and left the second value.
-    ghost run: { Self → List (Poll Self.Output) → Self → Type 0 };
+    ghost run: { Runs (Poll Self.Output) Self };
 
-    /// What a poll that left this value, and was pending, has seen to in its context.
-    ghost leaves: { Self → Lasting → Type 0 } = { λ _ _. ⊥ };
+    /// What a poll that left this value, and was pending, has registered in its context.
+    ghost registers: { Self → Lasting → Type 0 } = { λ _ _. ⊥ };
 
     /// Asks for the value. `Poll::Pending` says that it is not there yet, and the future may be polled again;
     /// `Poll::Ready` hands the value out, after which the future may not be polled, unless its type says more.
@@ -59,7 +61,7 @@ pub trait Future {
         requires { can_poll self.old }
         ensures ran { run self.old (result ∷ []) self.new }
         ensures again { OnPending result (can_poll self.new) }
-        ensures left { OnPending result ((fact : Lasting) → leaves self.new fact → Holds cx.new fact) }
+        ensures left { Registered result (registers self.new) cx.new }
         ensures kept { Keeps cx.old cx.new };
 
     ghost laws: { FutureLaws run };

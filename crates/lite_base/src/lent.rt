@@ -19,7 +19,7 @@ impl<F: Future> Future for &mut F {
 
     ghost run = { Lent F.run };
 
-    ghost leaves = { λ f. F.leaves f.now };
+    ghost registers = { λ f. F.registers f.now };
 
     ghost laws = { lent_future_laws F.laws };
 
@@ -35,7 +35,7 @@ impl<S: Stream> Stream for &mut S {
 
     ghost run = { Lent S.run };
 
-    ghost leaves = { λ s. S.leaves s.now };
+    ghost registers = { λ s. S.registers s.now };
 
     ghost hints = { λ s hint. S.hints s.now hint };
 

@@ -7,9 +7,9 @@ mod counted;
 pub mod future;
 mod lent;
 mod ok_counted;
+mod poll_steps;
 mod steady;
 mod stream;
-mod turns;
 
 pub use calm::CalmStream;
 pub use counted::Counted;
@@ -17,6 +17,6 @@ pub use future::{CalmFuture, Future, SteadyFuture};
 pub use futures::ready;
 pub use futures::task::{Context, Poll};
 pub use ok_counted::OkCounted;
+pub use poll_steps::{PollSteps, drive};
 pub use steady::SteadyStream;
 pub use stream::Stream;
-pub use turns::{Turns, drive};

@@ -1,4 +1,4 @@
-ghost use Rattle.lite_base.specs.Ends.{Ends};
+ghost use Rattle.lite_base.specs.Ends.{Terminates};
 ghost use Rattle.lite_base.specs.OkRanks.{OkCounting, OkRun, ok_counting_ends};
 ghost use Rattle.lite_base.specs.Ranks.{Ranks};
 
@@ -25,5 +25,5 @@ pub trait OkCounted: Stream<Item = Result<Self::Ok, Self::Err>> {
 
     ghost ok_counting: { OkCounting Self.run ok_ranks };
 
-    ghost ok_ends: { (x : Self) → ok_ranks.counts x → Ends (OkRun Self.run) x } = { ok_counting_ends ok_counting };
+    ghost ok_ends: { (x : Self) → ok_ranks.counts x → Terminates (OkRun Self.run) x } = { ok_counting_ends ok_counting };
 }

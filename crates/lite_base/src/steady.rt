@@ -1,7 +1,8 @@
-ghost use Rattle.std.specs.Prelude.{List, ⊤};
+ghost use Rattle.std.specs.Prelude.{⊤};
 ghost use Rattle.lite_base.specs.Alike.{Sameness};
 ghost use Rattle.lite_base.specs.Answers.{Answer};
 ghost use Rattle.lite_base.specs.Steady.{SteadyLawsBy};
+ghost use Rattle.lite_base.specs.Runs.{Runs};
 
 use crate::stream::Stream;
 
@@ -10,7 +11,7 @@ use crate::stream::Stream;
 /// The original has no such trait: it is a law, which its documentation leaves unsaid.
 pub trait SteadyStream: Stream {
     /// The runs in which no memory was refused.
-    ghost ample: { Self → List (Answer Self.Item) → Self → Type 0 };
+    ghost ample: { Runs (Answer Self.Item) Self };
 
     /// That no poll asks for memory; then each run is ample.
     ghost needs_none: { Type 0 } = { ⊤ };

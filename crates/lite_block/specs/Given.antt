@@ -3,11 +3,13 @@ use Rattle.std.specs.Prelude.{◌≡◌, List, Option, Some}
 use Rattle.std.specs.Fn.{Mut}
 use Rattle.futures.specs.declared.task.Poll.{Poll}
 use Rattle.lite_base.specs.Answers.{Answer, Gives}
+use Rattle.lite_base.specs.Runs.{Runs}
 use Rattle.lite_consume.specs.Consuming.{Consumed, Fold}
 
 -- from s, with p folded so far, there were some Pendings and then the value, which left t
-abbrev pub Given : {S M A R : Type 0} → Fold M A R → (S → List (Answer A) → S → Type 0) → S → M → R → S → Type 0
-Given {M = M} {R = R} fold run s p value t = (out : List (Poll R)) × (q : M) × Gives out value × Consumed fold run s p out t q
+abbrev pub BlockGives : {S M A R : Type 0} → Fold M A R → Runs (Answer A) S → S → M → R → S → Type 0
+BlockGives {M = M} {R = R} fold run s p value t =
+    (out : List (Poll R)) × (q : M) × Gives out value × Consumed fold run s p out t q
 
 -- where nothing is folded
 abbrev pub nothing : Unit {0}
@@ -17,6 +19,6 @@ nothing = tt
 abbrev pub MayCall : {F A B : Type 0} → Mut F (A × Unit {0}) B → F → A → Type 0
 MayCall g p x = g.pre p (x, tt)
 
--- and with what was folded so far and an item
+-- a function may be called with what was folded so far and an item
 abbrev pub MayFold : {F T A B : Type 0} → Mut F (T × (A × Unit {0})) B → F × Option T → A → Type 0
 MayFold {T = T} g p x = (a : T) → p.1 ≡ Some a → g.pre p.0 (a, (x, tt))

@@ -1,7 +1,7 @@
 ghost use Rattle.std.specs.Prelude.{◌≡◌, IfOk, None, OnErr, Some};
 ghost use Rattle.std.specs.Fn.{CalledAt, TakesAt};
 ghost use Rattle.lite_base.specs.Calling.{Calls};
-ghost use Rattle.lite_block.specs.Given.{Given, MayCall, MayFold, nothing};
+ghost use Rattle.lite_block.specs.Given.{BlockGives, MayCall, MayFold, nothing};
 ghost use Rattle.lite_consume.specs.All.{alls};
 ghost use Rattle.lite_consume.specs.Any.{anys};
 ghost use Rattle.lite_consume.specs.Calls.{CallsBoth};
@@ -14,7 +14,7 @@ ghost use Rattle.lite_consume.specs.Last.{lasts};
 ghost use Rattle.lite_consume.specs.Next.{nexts};
 ghost use Rattle.lite_consume.specs.Nth.{nths};
 ghost use Rattle.lite_consume.specs.Position.{positions};
-ghost use Rattle.lite_consume.specs.Turns.{MayTakeEach};
+ghost use Rattle.lite_consume.specs.PollSteps.{MayTakeEach};
 
 use lite_base::future::block_on::BlockOn as Waiter;
 use lite_base::{Counted, Stream};
@@ -60,7 +60,7 @@ impl<R: Wait + RandomSource + AllocGlobal, S: Stream> BlockOn<R, S> {
         requires counts { F.counts self.old.stream }
         requires open { F.is_open folder }
         requires asks { MayTakeEach S.run F.fold F.can_take self.old.stream folder }
-        ensures gave { IfOk result (λ value. Given F.fold S.run self.old.stream folder value self.new.stream) }
+        ensures gave { IfOk result (λ value. BlockGives F.fold S.run self.old.stream folder value self.new.stream) }
         ensures kept { OnErr result (self.new.stream ≡ self.old.stream) }
     {
         let waiter = kept(&self.rt, &mut self.waiter)?;
@@ -70,7 +70,7 @@ impl<R: Wait + RandomSource + AllocGlobal, S: Stream> BlockOn<R, S> {
     /// The next item, and `None` where the stream ends. It may wait for ever.
     pub fn next(&mut self) -> Result<Option<S::Item>, AllocError>
         requires polls { S.can_poll self.old.stream }
-        ensures gave { IfOk result (λ value. Given nexts S.run self.old.stream nothing value self.new.stream) }
+        ensures gave { IfOk result (λ value. BlockGives nexts S.run self.old.stream nothing value self.new.stream) }
         ensures kept { OnErr result (self.new.stream ≡ self.old.stream) }
     {
         self.ask(Next)
@@ -81,7 +81,7 @@ impl<R: Wait + RandomSource + AllocGlobal, S: Stream> BlockOn<R, S> {
     where
         S: Stream<Item: Drop>,
         requires polls { S.can_poll self.old.stream }
-        ensures gave { IfOk result (λ value. Given nths S.run self.old.stream n value self.new.stream) }
+        ensures gave { IfOk result (λ value. BlockGives nths S.run self.old.stream n value self.new.stream) }
         ensures kept { OnErr result (self.new.stream ≡ self.old.stream) }
     {
         self.ask(Nth { n })
@@ -94,7 +94,7 @@ impl<R: Wait + RandomSource + AllocGlobal, S: Stream> BlockOn<R, S> {
         S: Counted<Item: Drop> + Drop,
         requires polls { S.can_poll self.stream }
         requires counts { S.ranks.counts self.stream }
-        ensures { IfOk result (λ value. (left : S) × Given counts S.run self.stream 0 value left) }
+        ensures { IfOk result (λ value. (left : S) × BlockGives counts S.run self.stream 0 value left) }
     {
         self.ask(Count { count: 0 })
     }
@@ -106,7 +106,7 @@ impl<R: Wait + RandomSource + AllocGlobal, S: Stream> BlockOn<R, S> {
         S: Counted<Item: Drop> + Drop,
         requires polls { S.can_poll self.stream }
         requires counts { S.ranks.counts self.stream }
-        ensures { IfOk result (λ value. (left : S) × Given lasts S.run self.stream None value left) }
+        ensures { IfOk result (λ value. (left : S) × BlockGives lasts S.run self.stream None value left) }
     {
         self.ask(Last { last: None })
     }
@@ -121,7 +121,8 @@ impl<R: Wait + RandomSource + AllocGlobal, S: Stream> BlockOn<R, S> {
         requires polls { S.can_poll self.stream }
         requires counts { S.ranks.counts self.stream }
         requires asks { MayTakeEach S.run (folds (CallsBoth F.FnMut)) (MayFold F.FnMut) self.stream (f, Some init) }
-        ensures { IfOk result (λ value. (left : S) × Given (folds (CallsBoth F.FnMut)) S.run self.stream (f, Some init) value left) }
+        ensures { IfOk result
+            (λ value. (left : S) × BlockGives (folds (CallsBoth F.FnMut)) S.run self.stream (f, Some init) value left) }
     {
         self.ask(Fold { f, acc: Some(init) })
     }
@@ -135,7 +136,8 @@ impl<R: Wait + RandomSource + AllocGlobal, S: Stream> BlockOn<R, S> {
         requires polls { S.can_poll self.stream }
         requires counts { S.ranks.counts self.stream }
         requires asks { MayTakeEach S.run (calls_each (Calls F.FnMut)) (MayCall F.FnMut) self.stream f }
-        ensures { IfOk result (λ value. (left : S) × Given (calls_each (Calls F.FnMut)) S.run self.stream f value left) }
+        ensures { IfOk result
+            (λ value. (left : S) × BlockGives (calls_each (Calls F.FnMut)) S.run self.stream f value left) }
     {
         self.ask(ForEach { f })
     }
@@ -148,7 +150,8 @@ impl<R: Wait + RandomSource + AllocGlobal, S: Stream> BlockOn<R, S> {
         requires polls { S.can_poll self.old.stream }
         requires counts { S.ranks.counts self.old.stream }
         requires asks { MayTakeEach S.run (alls (Calls P.FnMut)) (MayCall P.FnMut) self.old.stream predicate }
-        ensures gave { IfOk result (λ value. Given (alls (Calls P.FnMut)) S.run self.old.stream predicate value self.new.stream) }
+        ensures gave { IfOk result
+            (λ value. BlockGives (alls (Calls P.FnMut)) S.run self.old.stream predicate value self.new.stream) }
         ensures kept { OnErr result (self.new.stream ≡ self.old.stream) }
     {
         self.ask(All { predicate })
@@ -162,7 +165,8 @@ impl<R: Wait + RandomSource + AllocGlobal, S: Stream> BlockOn<R, S> {
         requires polls { S.can_poll self.old.stream }
         requires counts { S.ranks.counts self.old.stream }
         requires asks { MayTakeEach S.run (anys (Calls P.FnMut)) (MayCall P.FnMut) self.old.stream predicate }
-        ensures gave { IfOk result (λ value. Given (anys (Calls P.FnMut)) S.run self.old.stream predicate value self.new.stream) }
+        ensures gave { IfOk result
+            (λ value. BlockGives (anys (Calls P.FnMut)) S.run self.old.stream predicate value self.new.stream) }
         ensures kept { OnErr result (self.new.stream ≡ self.old.stream) }
     {
         self.ask(Any { predicate })
@@ -176,7 +180,8 @@ impl<R: Wait + RandomSource + AllocGlobal, S: Stream> BlockOn<R, S> {
         requires polls { S.can_poll self.old.stream }
         requires counts { S.ranks.counts self.old.stream }
         requires asks { MayTakeEach S.run (finds (CalledAt P.FnMut)) (TakesAt P.FnMut) self.old.stream predicate }
-        ensures gave { IfOk result (λ value. Given (finds (CalledAt P.FnMut)) S.run self.old.stream predicate value self.new.stream) }
+        ensures gave { IfOk result
+            (λ value. BlockGives (finds (CalledAt P.FnMut)) S.run self.old.stream predicate value self.new.stream) }
         ensures kept { OnErr result (self.new.stream ≡ self.old.stream) }
     {
         self.ask(Find { predicate })
@@ -190,7 +195,8 @@ impl<R: Wait + RandomSource + AllocGlobal, S: Stream> BlockOn<R, S> {
         requires polls { S.can_poll self.old.stream }
         requires counts { S.ranks.counts self.old.stream }
         requires asks { MayTakeEach S.run (finds_map (Calls F.FnMut)) (MayCall F.FnMut) self.old.stream f }
-        ensures gave { IfOk result (λ value. Given (finds_map (Calls F.FnMut)) S.run self.old.stream f value self.new.stream) }
+        ensures gave { IfOk result
+            (λ value. BlockGives (finds_map (Calls F.FnMut)) S.run self.old.stream f value self.new.stream) }
         ensures kept { OnErr result (self.new.stream ≡ self.old.stream) }
     {
         self.ask(FindMap { f })
@@ -204,7 +210,9 @@ impl<R: Wait + RandomSource + AllocGlobal, S: Stream> BlockOn<R, S> {
         requires polls { S.can_poll self.old.stream }
         requires counts { S.ranks.counts self.old.stream }
         requires asks { MayTakeEach S.run (positions (Calls P.FnMut)) (λ p. MayCall P.FnMut p.0) self.old.stream (predicate, 0) }
-        ensures gave { IfOk result (λ value. Given (positions (Calls P.FnMut)) S.run self.old.stream (predicate, 0) value self.new.stream) }
+        ensures gave { IfOk result
+            (λ value. BlockGives (positions (Calls P.FnMut)) S.run self.old.stream
+            (predicate, 0) value self.new.stream) }
         ensures kept { OnErr result (self.new.stream ≡ self.old.stream) }
     {
         self.ask(Position {

@@ -1,13 +1,14 @@
 //! The cursors that leave the same bytes where the same are taken, and are never pending.
 ghost use Rattle.std.specs.Prelude.{⊤};
-ghost use Rattle.lite_bridge.specs.Laws.SteadyWrite.{lent_vec_calm_write, lent_vec_steady_write, slice_calm_write, slice_steady_write};
-ghost use Rattle.lite_bridge.specs.Laws.SteadyWrite.{SameLentVec, SameSlice, SameVec, vec_calm_write, vec_steady_write};
+ghost use Rattle.lite_bridge.specs.Laws.SteadyWrite.{lent_vec_calm_write, lent_vec_steady_write, slice_calm_write};
+ghost use Rattle.lite_bridge.specs.Laws.SteadyWrite.{slice_steady_write, SameLentVec, SameSlice, SameVecBytes};
+ghost use Rattle.lite_bridge.specs.Laws.SteadyWrite.{vec_calm_write, vec_steady_write};
 
 use crate::cursor::Cursor;
 use lite_io_base::{CalmWrite, SteadyWrite};
 
 impl SteadyWrite for Cursor<Vec<u8>> {
-    ghost alike = { SameVec };
+    ghost alike = { SameVecBytes };
 
     ghost below = { λ x. x.inner.items };
 

@@ -1,13 +1,14 @@
 ghost use Rattle.std.specs.Prelude.{◌≡◌, ◌+◌, ◌<◌, ◌≤◌, [], Ok, ◌++◌, length, IfOk, IfErr};
 ghost use Rattle.std.specs.Borrow.{Lends, sem};
 ghost use Rattle.std.specs.Box.{boxed_slice_items};
-ghost use Rattle.futures.specs.Poll.{IfReady, OnPending};
-ghost use Rattle.futures.specs.Task.{Keeps, Lasting, Holds};
+ghost use Rattle.futures.specs.Poll.{IfReady};
+ghost use Rattle.futures.specs.Task.{Keeps};
 ghost use Rattle.lite_io_base.specs.Kinds.{by_kind};
 ghost use Rattle.lite_io_base.specs.Laws.Runs.{idle_laws};
 ghost use Rattle.lite_io_base.specs.Runs.{Idle};
 ghost use Rattle.lite_io_base.specs.Takings.{done_marks, write_marks};
-ghost use Rattle.lite_io_base.specs.Takings.Taking.{closed, flushed};
+ghost use Rattle.lite_io_base.specs.Takings.WriteMark.{closed, flushed};
+ghost use Rattle.lite_base.specs.Registered.{Registered};
 
 use lite_base::{Context, Poll, ready};
 use lite_io_base::{AsyncSeek, AsyncWrite, Takings, Tale};
@@ -43,13 +44,13 @@ pub struct BufWriter<W> {
 
 impl<W: Drop> BufWriter<W> {
     ghost use Rattle.lite_buf_writer.specs.contracts.buf_writer.BufWriter.{the_row};
-    ghost use Rattle.lite_buf_writer.specs.BufWriter.{buffered, capacity_of, held, inner_of};
+    ghost use Rattle.lite_buf_writer.specs.BufWriter.{buffered, unwritten, writer_capacity, writer_inner};
 
     /// A writer with a buffer of 8192 bytes. `Err` hands `inner` back, where there was no memory for the buffer.
     pub fn new(alloc: Global, inner: W) -> Result<BufWriter<W>, W>
-        ensures inner { IfOk result (λ w. inner_of w ≡ inner) }
+        ensures inner { IfOk result (λ w. writer_inner w ≡ inner) }
         ensures empty { IfOk result (λ w. buffered w ≡ []) }
-        ensures capacity { IfOk result (λ w. capacity_of w ≡ 8192) }
+        ensures capacity { IfOk result (λ w. writer_capacity w ≡ 8192) }
         ensures handed_back { IfErr result (λ w. w ≡ inner) }
     {
         BufWriter::with_capacity(alloc, DEFAULT_CAPACITY, inner)
@@ -58,9 +59,9 @@ impl<W: Drop> BufWriter<W> {
     /// A writer with a buffer of `capacity` bytes, with none of them used. `Err` hands `inner` back, where there was no
     /// memory for the buffer. With a capacity of 0 each write goes to `inner`, and nothing is held.
     pub fn with_capacity(alloc: Global, capacity: usize, inner: W) -> Result<BufWriter<W>, W>
-        ensures inner { IfOk result (λ w. inner_of w ≡ inner) }
+        ensures inner { IfOk result (λ w. writer_inner w ≡ inner) }
         ensures empty { IfOk result (λ w. buffered w ≡ []) }
-        ensures capacity { IfOk result (λ w. capacity_of w ≡ capacity) }
+        ensures capacity { IfOk result (λ w. writer_capacity w ≡ capacity) }
         ensures handed_back { IfErr result (λ w. w ≡ inner) }
     {
         match vec![in alloc; 0; capacity] {
@@ -76,14 +77,14 @@ impl<W: Drop> BufWriter<W> {
 
     /// The inner writer.
     pub fn get_ref(&self) -> &W
-        ensures { result.now ≡ inner_of self.now }
+        ensures { result.now ≡ writer_inner self.now }
     {
         &self.inner
     }
 
     /// The inner writer, to be changed. What is written to it passes what is held.
     pub fn get_mut(&mut self) -> &mut W
-        ensures value { result.now ≡ inner_of self.old }
+        ensures value { result.now ≡ writer_inner self.old }
         ensures* writes_back { sem 𝓛 (Lends (the_row W.row) W.row self.entry result
             (λ w. record self.old { inner = w })) }
     {
@@ -92,14 +93,14 @@ impl<W: Drop> BufWriter<W> {
 
     /// The inner writer. Nothing is written: what is held is lost.
     pub fn into_inner(self) -> W
-        ensures { result ≡ inner_of self }
+        ensures { result ≡ writer_inner self }
     {
         self.inner
     }
 }
 
 impl<W> BufWriter<W> {
-    ghost use Rattle.lite_buf_writer.specs.BufWriter.{buffered, capacity_of, held, inner_of};
+    ghost use Rattle.lite_buf_writer.specs.BufWriter.{buffered, unwritten, writer_capacity, writer_inner};
 
     /// The bytes in the buffer. While a flush is pending, those that the inner writer took already stand first.
     pub fn buffer(&self) -> &[u8]
@@ -110,10 +111,10 @@ impl<W> BufWriter<W> {
 
     // Puts `bytes` behind what is buffered.
     fn hold(&mut self, bytes: &[u8])
-        requires { length (buffered self.old) + length bytes.now ≤ capacity_of self.old }
-        ensures inner { inner_of self.new ≡ inner_of self.old }
-        ensures capacity { capacity_of self.new ≡ capacity_of self.old }
-        ensures held { held self.new ≡ held self.old ++ bytes.now }
+        requires { length (buffered self.old) + length bytes.now ≤ writer_capacity self.old }
+        ensures inner { writer_inner self.new ≡ writer_inner self.old }
+        ensures capacity { writer_capacity self.new ≡ writer_capacity self.old }
+        ensures held { unwritten self.new ≡ unwritten self.old ++ bytes.now }
         ensures buffered { buffered self.new ≡ buffered self.old ++ bytes.now }
     {
         let end = self.len + bytes.len();
@@ -123,10 +124,10 @@ impl<W> BufWriter<W> {
 
     // Drops the bytes that the inner writer took, and moves the others to the front.
     fn shift(&mut self)
-        ensures inner { inner_of self.new ≡ inner_of self.old }
-        ensures capacity { capacity_of self.new ≡ capacity_of self.old }
-        ensures held { held self.new ≡ held self.old }
-        ensures buffered { buffered self.new ≡ held self.old }
+        ensures inner { writer_inner self.new ≡ writer_inner self.old }
+        ensures capacity { writer_capacity self.new ≡ writer_capacity self.old }
+        ensures held { unwritten self.new ≡ unwritten self.old }
+        ensures buffered { buffered self.new ≡ unwritten self.old }
     {
         self.buf.copy_within(self.written..self.len, 0);
         self.len -= self.written;
@@ -151,13 +152,14 @@ impl<W> Tale for BufWriter<W> {
 }
 
 impl<W: AsyncWrite> BufWriter<W> {
-    ghost use Rattle.lite_buf_writer.specs.BufWriter.{FlushesBuffer, MakesRoom, ShownAfter, buffered, capacity_of, held, inner_of};
+    ghost use Rattle.lite_buf_writer.specs.BufWriter.{FlushesBuffer, MakesRoom, ShownAfter, buffered, unwritten};
+    ghost use Rattle.lite_buf_writer.specs.BufWriter.{writer_capacity, writer_inner};
 
     // Writes what is held to the inner writer. A pending moves no byte; an error drops what was taken.
     fn flush_buf(&mut self, cx: &mut Context<'_>) -> Poll<io::Result<()>>
         ensures ran { FlushesBuffer W.writes self.old (by_kind result) self.new }
         ensures shown { ShownAfter result self.old self.new }
-        ensures left { OnPending result ((fact : Lasting) → W.write_leaves (inner_of self.new) fact → Holds cx.new fact) }
+        ensures left { Registered result (W.write_registers (writer_inner self.new)) cx.new }
         ensures kept { Keeps cx.old cx.new }
     {
         let mut interruptions = 0;
@@ -189,12 +191,12 @@ impl<W: AsyncWrite> BufWriter<W> {
 
     // Offers what is held to the inner writer, once.
     fn offer(&mut self, cx: &mut Context<'_>) -> Poll<io::Result<usize>>
-        ensures ran { W.writes self.old.inner (write_marks result (held self.old)) self.new.inner }
-        ensures bound { IfReady result (λ r. IfOk r (λ n. n ≤ length (held self.old))) }
+        ensures ran { W.writes self.old.inner (write_marks result (unwritten self.old)) self.new.inner }
+        ensures bound { IfReady result (λ r. IfOk r (λ n. n ≤ length (unwritten self.old))) }
         ensures buf { self.new.buf ≡ self.old.buf }
         ensures written { self.new.written ≡ self.old.written }
         ensures len { self.new.len ≡ self.old.len }
-        ensures left { OnPending result ((fact : Lasting) → W.write_leaves self.new.inner fact → Holds cx.new fact) }
+        ensures left { Registered result (W.write_registers self.new.inner) cx.new }
         ensures kept { Keeps cx.old cx.new }
     {
         self.inner.poll_write(cx, &self.buf[self.written..self.len])
@@ -203,11 +205,16 @@ impl<W: AsyncWrite> BufWriter<W> {
     // Flushes the buffer if it has no room for `count` more bytes.
     fn make_room(&mut self, cx: &mut Context<'_>, count: usize) -> Poll<io::Result<()>>
         ensures ran { MakesRoom W.writes self.old count (by_kind result) self.new }
-        ensures room { IfReady result (λ r. IfOk r (λ _. count < capacity_of self.new → length (buffered self.new) + count ≤ capacity_of self.new)) }
-        ensures free { IfReady result (λ r. IfOk r (λ _. capacity_of self.new ≤ count → buffered self.new ≡ [])) }
-        ensures shown { (length (buffered self.old) + count ≤ capacity_of self.old → ⊥) → ShownAfter result self.old self.new }
-        ensures idle { length (buffered self.old) + count ≤ capacity_of self.old → (self.new ≡ self.old) × (result ≡ Poll.Ready (Ok tt)) }
-        ensures left { OnPending result ((fact : Lasting) → W.write_leaves (inner_of self.new) fact → Holds cx.new fact) }
+        ensures room { IfReady result
+            (λ r. IfOk r
+            (λ _. count < writer_capacity self.new
+            → length (buffered self.new) + count ≤ writer_capacity self.new)) }
+        ensures free { IfReady result (λ r. IfOk r (λ _. writer_capacity self.new ≤ count → buffered self.new ≡ [])) }
+        ensures shown { (length (buffered self.old) + count ≤ writer_capacity self.old → ⊥)
+            → ShownAfter result self.old self.new }
+        ensures idle { length (buffered self.old) + count ≤ writer_capacity self.old → (self.new ≡ self.old)
+            × (result ≡ Poll.Ready (Ok tt)) }
+        ensures left { Registered result (W.write_registers (writer_inner self.new)) cx.new }
         ensures kept { Keeps cx.old cx.new }
     {
         if count <= self.buf.len() - self.len {
@@ -218,9 +225,10 @@ impl<W: AsyncWrite> BufWriter<W> {
 }
 
 impl<W: AsyncWrite> AsyncWrite for BufWriter<W> {
-    ghost use Rattle.lite_buf_writer.specs.BufWriter.{Buffers, HasRoom, HoldsAll, ShownAfter, capacity_of, inner_of};
+    ghost use Rattle.lite_buf_writer.specs.BufWriter.{Buffers, BuffersAll, FitsBuffer, ShownAfter, writer_capacity};
+    ghost use Rattle.lite_buf_writer.specs.BufWriter.{writer_inner};
 
-    ghost write_leaves = { λ w. W.write_leaves (inner_of w) };
+    ghost write_registers = { λ w. W.write_registers (writer_inner w) };
 
     /// Holds the bytes of `buf`, or offers them to the inner writer where there are as many as the capacity. Where the
     /// buffer has no room for them behind what is there, it is flushed first; while that is pending, and where it fails,
@@ -228,15 +236,15 @@ impl<W: AsyncWrite> AsyncWrite for BufWriter<W> {
     fn poll_write(&mut self, cx: &mut Context<'_>, buf: &[u8]) -> Poll<io::Result<usize>>
         ensures bound { IfReady result (λ r. IfOk r (λ n. n ≤ length buf.now)) }
         ensures ran { Buffers W.writes self.old (write_marks result buf.now) self.new }
-        ensures left { OnPending result ((fact : Lasting) → W.write_leaves (inner_of self.new) fact → Holds cx.new fact) }
+        ensures left { Registered result (W.write_registers (writer_inner self.new)) cx.new }
         ensures kept { Keeps cx.old cx.new }
 
         // What is shorter than the capacity is taken whole.
-        ensures whole { length buf.now < capacity_of self.old → IfReady result (λ r. IfOk r (λ n. n ≡ length buf.now)) }
+        ensures whole { length buf.now < writer_capacity self.old → IfReady result (λ r. IfOk r (λ n. n ≡ length buf.now)) }
 
         // What there is room for is held, and the inner writer is left alone.
-        ensures holds { HasRoom self.old buf.now → HoldsAll self.old buf.now result self.new }
-        ensures shown { (HasRoom self.old buf.now → ⊥) → ShownAfter result self.old self.new }
+        ensures holds { FitsBuffer self.old buf.now → BuffersAll self.old buf.now result self.new }
+        ensures shown { (FitsBuffer self.old buf.now → ⊥) → ShownAfter result self.old self.new }
     {
         match ready!(self.make_room(cx, buf.len())) {
             Ok(()) => {}
@@ -254,7 +262,7 @@ impl<W: AsyncWrite> AsyncWrite for BufWriter<W> {
     fn poll_flush(&mut self, cx: &mut Context<'_>) -> Poll<io::Result<()>>
         ensures ran { Buffers W.writes self.old (done_marks flushed result) self.new }
         ensures shown { ShownAfter result self.old self.new }
-        ensures left { OnPending result ((fact : Lasting) → W.write_leaves (inner_of self.new) fact → Holds cx.new fact) }
+        ensures left { Registered result (W.write_registers (writer_inner self.new)) cx.new }
         ensures kept { Keeps cx.old cx.new }
     {
         match ready!(self.flush_buf(cx)) {
@@ -268,7 +276,7 @@ impl<W: AsyncWrite> AsyncWrite for BufWriter<W> {
     fn poll_close(&mut self, cx: &mut Context<'_>) -> Poll<io::Result<()>>
         ensures ran { Buffers W.writes self.old (done_marks closed result) self.new }
         ensures shown { ShownAfter result self.old self.new }
-        ensures left { OnPending result ((fact : Lasting) → W.write_leaves (inner_of self.new) fact → Holds cx.new fact) }
+        ensures left { Registered result (W.write_registers (writer_inner self.new)) cx.new }
         ensures kept { Keeps cx.old cx.new }
     {
         match ready!(self.flush_buf(cx)) {
@@ -279,18 +287,18 @@ impl<W: AsyncWrite> AsyncWrite for BufWriter<W> {
 }
 
 impl<W: AsyncWrite + AsyncSeek> AsyncSeek for BufWriter<W> {
-    ghost use Rattle.lite_buf_writer.specs.BufWriter.{SeekLeaves, SeeksAfter, ShownAfter};
+    ghost use Rattle.lite_buf_writer.specs.BufWriter.{SeekRegisters, SeeksAfter, ShownAfter};
 
     ghost seeks = { SeeksAfter W.writes W.seeks };
 
-    ghost seek_leaves = { SeekLeaves W.write_leaves W.seek_leaves };
+    ghost seek_registers = { SeekRegisters W.write_registers W.seek_registers };
 
     /// Writes what is held to the inner writer, and then seeks that. While the former is pending, and where it fails,
     /// there is no seek.
     fn poll_seek(&mut self, cx: &mut Context<'_>, pos: SeekFrom) -> Poll<io::Result<u64>>
         ensures sought { SeeksAfter W.writes W.seeks self.old pos (by_kind result) self.new }
         ensures shown { ShownAfter result self.old self.new }
-        ensures left { OnPending result ((fact : Lasting) → SeekLeaves W.write_leaves W.seek_leaves self.new fact → Holds cx.new fact) }
+        ensures left { Registered result (SeekRegisters W.write_registers W.seek_registers self.new) cx.new }
         ensures kept { Keeps cx.old cx.new }
     {
         if let Err(e) = ready!(self.flush_buf(cx)) {

@@ -2,6 +2,7 @@
 use Rattle.std.specs.Prelude.{◌≡◌, ⊤, List, [], ◌∷◌, Some, None, Result, Ok, Err, IfOk, map}
 use Rattle.futures.specs.declared.task.Poll.TheVariants.{Ready, Pending}
 use Rattle.lite_base.specs.Answers.{Answer}
+use Rattle.lite_base.specs.Runs.{Runs}
 
 -- Up to the first error, f of what the items hold are xs in order, from the front on; an end comes behind the last.
 abbrev pub OkFits : {T E Y : Type 0} → (T → Y) → List (Answer (Result T E)) → List Y → Type 0
@@ -13,7 +14,7 @@ OkFits f (Ready (Some (Ok x)) ∷ l) [] = ⊥
 OkFits f (Ready (Some (Ok x)) ∷ l) (y ∷ xs) = (f x ≡ y) × OkFits f l xs
 
 -- f of what the items of s hold, up to an error, are xs: each run from s fits them
-unfoldable pub OkLists : {S T E Y : Type 0} → (S → List (Answer (Result T E)) → S → Type 0) → S → (T → Y) → List Y → Type 0
+unfoldable pub OkLists : {S T E Y : Type 0} → Runs (Answer (Result T E)) S → S → (T → Y) → List Y → Type 0
 OkLists {S} {T} {E} run s f xs = (l : List (Answer (Result T E))) (t : S) → run s l t → OkFits f l xs
 
 -- True. `grind` takes a fact that is said of s, f and xs where it meets this, which is shorter than the fact
@@ -24,8 +25,8 @@ pub ok_seen : {S T Y : Type 0} (s : S) (f : T → Y) (xs : List Y) → OkSeen s 
 unfolding OkSeen
 ok_seen s f xs = tt
 
--- both
-abbrev pub OkListsAs : {S T E Y : Type 0} → (S → List (Answer (Result T E)) → S → Type 0) → S → (T → Y) → List Y → Type 0
+-- f of what the items hold are xs, which stands twice, for `grind`: it takes the fact where it meets xs
+abbrev pub OkListsAs : {S T E Y : Type 0} → Runs (Answer (Result T E)) S → S → (T → Y) → List Y → Type 0
 OkListsAs run s f xs = OkSeen s f xs × OkLists run s f xs
 
 -- where all were collected, f of what the collection holds are xs

@@ -1,11 +1,14 @@
 -- `find_map`: the first answer of the function that is there.
 use Rattle.std.specs.Prelude.{◌≡◌, Option, Some, None, IsSome}
 use Rattle.lite_consume.specs.Consuming.{Fold}
+use Rattle.lite_base.specs.Runs.{Question}
 
-module _ {F A B : Type 0} (call : F → A → Option B → F → Type 0) where
-  abbrev pub Answered : F → A → Option (Option B) → F → Type 0
-  Answered p x None q = call p x None q
-  Answered p x (Some r) q = IsSome r × call p x r q
+module _ {F A B : Type 0} (call : Question F A (Option B)) where
+  -- an item of which the function makes nothing is taken in, and else what it makes is the value
+  abbrev pub FindMapStep : Question F A (Option (Option B))
+  FindMapStep p x None q = call p x None q
+  FindMapStep p x (Some r) q = IsSome r × call p x r q
 
+  -- the value is None where the function made nothing of each item
   abbrev pub finds_map : Fold F A (Option B)
-  finds_map = record { asks = Answered; closes = λ p r q. (r ≡ None) × (q ≡ p) }
+  finds_map = record { asks = FindMapStep; closes = λ p r q. (r ≡ None) × (q ≡ p) }

@@ -2,4 +2,4 @@ pub mod Agreeing
 pub mod Consuming
 pub mod Matching
 pub mod Returning
-pub mod Turns
+pub mod PollSteps

@@ -18,4 +18,4 @@ pub mod Position
 pub mod TryFold
 pub mod TryForEach
 pub mod TryNext
-pub mod Turns
+pub mod PollSteps

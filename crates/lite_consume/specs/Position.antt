@@ -1,12 +1,14 @@
 -- `position`: the number of the first item that the predicate accepts, counted from 0 in 64 bits.
 use Rattle.std.specs.Prelude.{◌≡◌, ℕ, ◌+◌, ◌%◌, ◌^◌, Option, Some, None, Bool, true, false}
 use Rattle.lite_consume.specs.Consuming.{Fold}
+use Rattle.lite_base.specs.Runs.{Question}
 
-module _ {F A : Type 0} (test : F → A → Bool → F → Type 0) where
+module _ {F A : Type 0} (test : Question F A Bool) where
   -- beside the predicate stands the number of the next item
-  abbrev pub Numbered : F × ℕ → A → Option (Option ℕ) → F × ℕ → Type 0
-  Numbered p x None q = test p.0 x false q.0 × (q.1 ≡ (p.1 + 1) % 2 ^ 64)
-  Numbered p x (Some r) q = (r ≡ Some p.1) × test p.0 x true q.0 × (q.1 ≡ p.1)
+  abbrev pub PositionStep : F × ℕ → A → Option (Option ℕ) → F × ℕ → Type 0
+  PositionStep p x None q = test p.0 x false q.0 × (q.1 ≡ (p.1 + 1) % 2 ^ 64)
+  PositionStep p x (Some r) q = (r ≡ Some p.1) × test p.0 x true q.0 × (q.1 ≡ p.1)
 
+  -- the value is the number of the item that was accepted, and None where none was
   abbrev pub positions : Fold (F × ℕ) A (Option ℕ)
-  positions = record { asks = Numbered; closes = λ p r q. (r ≡ None) × (q ≡ p) }
+  positions = record { asks = PositionStep; closes = λ p r q. (r ≡ None) × (q ≡ p) }

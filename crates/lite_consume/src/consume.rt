@@ -1,10 +1,10 @@
-ghost use Rattle.lite_base.specs.Ends.{Ends-map};
+ghost use Rattle.lite_base.specs.Ends.{Terminates-map};
 ghost use Rattle.lite_base.specs.StreamLaws.{runs_of};
-ghost use Rattle.lite_consume.specs.Consume.{CanFold, FoldTurn, Folds};
+ghost use Rattle.lite_consume.specs.Consume.{CanFold, ConsumePollStep, Folds};
 ghost use Rattle.lite_consume.specs.Laws.Consuming.{consumed_laws};
 
 use crate::folder::Folder;
-use lite_base::{Context, Future, Poll, Stream, Turns, drive};
+use lite_base::{Context, Future, Poll, PollSteps, Stream, drive};
 
 /// The value that is made of the items of a stream.
 ///
@@ -17,20 +17,20 @@ pub struct Consume<S, F> {
     pub(crate) folder: F,
 }
 
-impl<S: Stream, F: Folder<S>> Turns for Consume<S, F> {
+impl<S: Stream, F: Folder<S>> PollSteps for Consume<S, F> {
     type Output = F::Output;
 
-    ghost can_turn = { CanFold S.run F.fold S.can_poll F.counts F.is_open F.can_take };
+    ghost can_step = { CanFold S.run F.fold S.can_poll F.counts F.is_open F.can_take };
 
-    ghost turn = { FoldTurn S.run F.fold (CanFold S.run F.fold S.can_poll F.counts F.is_open F.can_take) };
+    ghost step = { ConsumePollStep S.run F.fold (CanFold S.run F.fold S.can_poll F.counts F.is_open F.can_take) };
 
-    ghost turn_leaves = { λ m. S.leaves m.stream };
+    ghost step_registers = { λ m. S.registers m.stream };
 
     ghost goes_on = { λ x y c h. h.0 };
 
-    ghost finite = { λ x c. Ends-map (λ m. (m.stream, m.folder)) (λ m n h. h.1) x (F.returns.ends x.stream x.folder c.1) };
+    ghost finite = { λ x c. Terminates-map (λ m. (m.stream, m.folder)) (λ m n h. h.1) x (F.returns.ends x.stream x.folder c.1) };
 
-    fn turn_once(&mut self, cx: &mut Context<'_>) -> Option<Poll<F::Output>> {
+    fn poll_step(&mut self, cx: &mut Context<'_>) -> Option<Poll<F::Output>> {
         match self.stream.poll_next(cx) {
             Poll::Ready(Some(item)) => match self.folder.take_in(item) {
                 Some(value) => Some(Poll::Ready(value)),
@@ -49,7 +49,7 @@ impl<S: Stream, F: Folder<S>> Future for Consume<S, F> {
 
     ghost run = { Folds S.run F.fold };
 
-    ghost leaves = { λ m. S.leaves m.stream };
+    ghost registers = { λ m. S.registers m.stream };
 
     ghost laws = { consumed_laws F.fold (runs_of S.laws) };
 

@@ -1,8 +1,8 @@
-ghost use Rattle.std.specs.Prelude.{⊤, ◌≡◌, None, Some, MatchOption};
+ghost use Rattle.std.specs.Prelude.{⊤, Some, MatchOption};
 ghost use Rattle.lite_base.specs.Alike.{SameItem, Sameness};
 ghost use Rattle.lite_consume.specs.Agreeing.{FoldSteadyLaws};
 ghost use Rattle.lite_consume.specs.Consuming.{Fold};
-ghost use Rattle.lite_consume.specs.Turns.{Returns};
+ghost use Rattle.lite_consume.specs.PollSteps.{Returns};
 
 use lite_base::{SteadyStream, Stream};
 

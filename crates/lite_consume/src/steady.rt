@@ -13,7 +13,7 @@ ghost use Rattle.lite_consume.specs.Find.{finds};
 ghost use Rattle.lite_consume.specs.FindMap.{finds_map};
 ghost use Rattle.lite_consume.specs.Fold.{folds};
 ghost use Rattle.lite_consume.specs.ForEach.{calls_each};
-ghost use Rattle.lite_consume.specs.Kin.{AgreeDeciding, AgreeOrKin, Beside, Giving};
+ghost use Rattle.lite_consume.specs.Kin.{AgreeBeside, AgreeDeciding, AgreeOrKin, Giving};
 ghost use Rattle.lite_consume.specs.Last.{lasts};
 ghost use Rattle.lite_consume.specs.Next.{nexts};
 ghost use Rattle.lite_consume.specs.Nth.{nths};
@@ -22,9 +22,10 @@ ghost use Rattle.lite_consume.specs.TryFold.{tries_fold};
 ghost use Rattle.lite_consume.specs.TryForEach.{tries_each};
 ghost use Rattle.lite_consume.specs.TryNext.{SameNext, tries_next};
 ghost use Rattle.lite_consume.specs.Laws.Agreeing.{consumed_steady, part_steady};
-ghost use Rattle.lite_consume.specs.Laws.Matching.{all_steady, any_steady, count_steady, find_map_steady, find_steady, fold_steady};
-ghost use Rattle.lite_consume.specs.Laws.Matching.{for_each_steady, last_steady, next_steady, nth_steady, position_steady};
-ghost use Rattle.lite_consume.specs.Laws.Matching.{try_fold_steady, try_for_each_steady, try_next_steady};
+ghost use Rattle.lite_consume.specs.Laws.Matching.{all_steady, any_steady, count_steady, find_map_steady, find_steady};
+ghost use Rattle.lite_consume.specs.Laws.Matching.{fold_steady, for_each_steady, last_steady, next_steady, nth_steady};
+ghost use Rattle.lite_consume.specs.Laws.Matching.{position_steady, try_fold_steady, try_for_each_steady};
+ghost use Rattle.lite_consume.specs.Laws.Matching.{try_next_steady};
 
 use crate::all::All;
 use crate::any::Any;
@@ -118,7 +119,8 @@ impl<T: Drop, S: Counted + SteadyStream, F: FnMut(T, S::Item) -> T> SteadyFolder
 
     ghost same = { Giving S.same (folds (CallsBoth F.FnMut)) };
 
-    ghost agree = { λ m n. AgreeOrKin S.same (Beside (Agree (CallsBoth F.FnMut))) (folds (CallsBoth F.FnMut)) (m.f, m.acc) (n.f, n.acc) };
+    ghost agree = { λ m n. AgreeOrKin S.same (AgreeBeside (Agree (CallsBoth F.FnMut))) (folds (CallsBoth F.FnMut)) (m.f, m.acc)
+        (n.f, n.acc) };
 
     ghost steady_fold = { part_steady (λ m. (m.f, m.acc)) (fold_steady (CallsBoth F.FnMut) S.same) };
 }
@@ -164,7 +166,8 @@ impl<S: SteadyStream<Item: Drop>> SteadyFolder<S> for Nth {
 impl<S: Counted + SteadyStream, P: FnMut(S::Item) -> bool> SteadyFolder<S> for Position<P> {
     ghost ample = { fold_of (λ f. (f.predicate, f.index)) (positions (Calls P.FnMut)) };
 
-    ghost agree = { λ f g. AgreeFrom (SameItem S.same) (λ y z. y ≡ z) (Calls P.FnMut) f.predicate g.predicate × (g.index ≡ f.index) };
+    ghost agree = { λ f g. AgreeFrom (SameItem S.same) (λ y z. y ≡ z) (Calls P.FnMut) f.predicate g.predicate
+        × (g.index ≡ f.index) };
 
     ghost steady_fold = { part_steady (λ f. (f.predicate, f.index)) (position_steady (SameItem S.same) (Calls P.FnMut)) };
 }
@@ -175,7 +178,8 @@ impl<B: Drop, S: OkCounted + SteadyStream, F: FnMut(B, S::Ok) -> Result<B, S::Er
 
     ghost same = { Giving S.same (tries_fold (CallsBoth F.FnMut)) };
 
-    ghost agree = { λ m n. AgreeDeciding S.same (Beside (Agree (CallsBoth F.FnMut))) (tries_fold (CallsBoth F.FnMut)) (m.f, m.acc) (n.f, n.acc) };
+    ghost agree = { λ m n. AgreeDeciding S.same (AgreeBeside (Agree (CallsBoth F.FnMut))) (tries_fold (CallsBoth F.FnMut))
+        (m.f, m.acc) (n.f, n.acc) };
 
     ghost steady_fold = { part_steady (λ m. (m.f, m.acc)) (try_fold_steady (CallsBoth F.FnMut) S.same) };
 }

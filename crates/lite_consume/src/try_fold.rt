@@ -58,5 +58,6 @@ impl<B: Drop, S: OkCounted, F: FnMut(B, S::Ok) -> Result<B, S::Err>> Folder<S> f
         }
     }
 
-    ghost returns = { returns_ok S.ok_counting (λ p q e h. h) (λ p q x o h. tries_fold_open (CallsBoth F.FnMut) (p.f, p.acc) (q.f, q.acc) x h) };
+    ghost returns = { returns_ok S.ok_counting (λ p q e h. h)
+        (λ p q x o h. tries_fold_open (CallsBoth F.FnMut) (p.f, p.acc) (q.f, q.acc) x h) };
 }

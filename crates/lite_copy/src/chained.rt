@@ -1,11 +1,12 @@
 //! What comes through a copy to a buffered writer, also of a chain, by the contracts of the traits alone.
+ghost use Rattle.lite_base.specs.Future.AtEachOk.{AtEachOk};
 ghost use Rattle.std.specs.Prelude.{◌≡◌, IfOk, false};
 ghost use Rattle.lite_base.specs.Lent.{Lent};
 ghost use Rattle.lite_buf_writer.specs.BufWriter.{Buffers};
-ghost use Rattle.lite_copy.specs.Chained.{AtEachOk, CopiesBoth, CopiesWhole};
-ghost use Rattle.lite_copy.specs.Copy.{Copies};
-ghost use Rattle.lite_copy.specs.Parts.{Begins, source_of};
-ghost use Rattle.lite_io.specs.Chain.{Chains};
+ghost use Rattle.lite_copy.specs.Chained.{CopiesBoth, CopiesWhole};
+ghost use Rattle.lite_copy.specs.Copy.{CopyRuns};
+ghost use Rattle.lite_copy.specs.Parts.{NothingCopied, source_of};
+ghost use Rattle.lite_io.specs.Chain.{ChainsReaders};
 ghost use Rattle.lite_io.specs.Chaining.{first_of, has_ended, second_of};
 
 use crate::copy::CopyFuture;
@@ -33,8 +34,10 @@ where
     W: AsyncWrite,
     ensures reader { IfOk result (λ f. source_of f ≡ reader) }
     ensures writer { IfOk result (λ f. f.writer ≡ writer.entry) }
-    ensures begins { IfOk result (λ f. Begins f) }
-    ensures whole { IfOk result (λ f. AtEachOk (Copies R.reads (Lent (Buffers W.writes))) f (CopiesWhole R.reads W.writes reader writer.old)) }
+    ensures begins { IfOk result (λ f. NothingCopied f) }
+    ensures whole { IfOk result
+        (λ f. AtEachOk (CopyRuns R.reads (Lent (Buffers W.writes))) f
+        (CopiesWhole R.reads W.writes reader writer.old)) }
 {
     copy(alloc, reader, writer)
 }
@@ -60,8 +63,8 @@ where
     ensures second { IfOk result (λ f. second_of (source_of f) ≡ second) }
     ensures fresh { IfOk result (λ f. has_ended (source_of f) ≡ false) }
     ensures writer { IfOk result (λ f. f.writer ≡ writer.entry) }
-    ensures begins { IfOk result (λ f. Begins f) }
-    ensures whole { IfOk result (λ f. AtEachOk (Copies (Chains R1.reads R2.reads) (Lent (Buffers W.writes))) f
+    ensures begins { IfOk result (λ f. NothingCopied f) }
+    ensures whole { IfOk result (λ f. AtEachOk (CopyRuns (ChainsReaders R1.reads R2.reads) (Lent (Buffers W.writes))) f
         (CopiesBoth R1.reads R2.reads W.writes first second writer.old)) }
 {
     copy_buffered(alloc, chain(first, second), writer)

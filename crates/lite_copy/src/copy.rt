@@ -1,15 +1,16 @@
 ghost use Rattle.std.specs.Prelude.{◌≡◌, ◌<◌, ◌↔◌, ◌^◌, [], ◌∷◌, length, IfOk, IfSome, IsTrue};
-ghost use Rattle.futures.specs.Poll.{IfReady, OnPending};
-ghost use Rattle.futures.specs.Task.{Holds, Keeps, Lasting};
-ghost use Rattle.lite_base.specs.Ends.{Ends-map};
+ghost use Rattle.futures.specs.Poll.{IfReady};
+ghost use Rattle.futures.specs.Task.{Keeps};
+ghost use Rattle.lite_base.specs.Ends.{Terminates-map};
 ghost use Rattle.lite_copy.specs.declared.copy.Phase.TheVariants.{Copying, Flushing};
-ghost use Rattle.lite_io.specs.BufReader.{ahead, capacity_of, inner_of};
+ghost use Rattle.lite_io.specs.BufReader.{ahead, reader_capacity, reader_inner};
 ghost use Rattle.lite_io.specs.Laws.BufReader.{through_counting};
 ghost use Rattle.lite_io_base.specs.Counting.{counting_ends};
 ghost use Rattle.lite_io_base.specs.Marks.{fill_marks};
 ghost use Rattle.lite_io_base.specs.Runs.{OnlyOkLends};
+ghost use Rattle.lite_base.specs.Registered.{Registered};
 
-use lite_base::{Context, Future, Poll, Turns, drive};
+use lite_base::{Context, Future, Poll, PollSteps, drive};
 use lite_io::BufReader;
 use lite_io_base::{AsyncBufRead, AsyncRead, AsyncWrite, CountedRead};
 use std::io;
@@ -38,7 +39,7 @@ pub struct CopyFuture<R, W> {
     // How many bytes the writer took, in 64 bits.
     pub(crate) amount: u64,
     pub(crate) phase: Phase,
-    ghost buffered: { 0 < capacity_of reader },
+    ghost buffered: { 0 < reader_capacity reader },
     ghost counted: { amount < 2 ^ 64 },
     ghost drained: { phase ≡ Flushing → ahead reader ≡ [] },
 }
@@ -48,7 +49,7 @@ fn fill<R: AsyncBufRead>(reader: &mut R, cx: &mut Context<'_>) -> Poll<io::Resul
     ensures ran { R.reads reader.old (fill_marks result (R.lent reader.new)) reader.new }
     ensures empty { IfReady result (λ r. IfOk r (λ empty. IsTrue empty ↔ R.lent reader.new ≡ [])) }
     ensures lends { OnlyOkLends result (R.lent reader.new) }
-    ensures left { OnPending result ((fact : Lasting) → R.leaves reader.new fact → Holds cx.new fact) }
+    ensures left { Registered result (R.registers reader.new) cx.new }
     ensures kept { Keeps cx.old cx.new }
 {
     match reader.poll_fill_buf(cx) {
@@ -59,17 +60,18 @@ fn fill<R: AsyncBufRead>(reader: &mut R, cx: &mut Context<'_>) -> Poll<io::Resul
 }
 
 impl<R: AsyncRead, W: AsyncWrite> CopyFuture<R, W> {
-    ghost use Rattle.lite_base.specs.Chain.{OneTurn};
+    ghost use Rattle.lite_base.specs.Chain.{OneStep};
     ghost use Rattle.lite_copy.specs.Copy.{Moves};
-    ghost use Rattle.lite_copy.specs.Copying.{CopiesSome, CopyLeaves};
+    ghost use Rattle.lite_copy.specs.Copying.{CopiesSome, CopyRegisters};
 
     // Offers what is buffered to the writer, and takes what was written from the buffer.
     fn write_some(&mut self, cx: &mut Context<'_>) -> Option<Poll<io::Result<u64>>>
         requires phase { self.old.phase ≡ Copying }
         requires some { 0 < length (ahead self.old.reader) }
-        ensures turned { OneTurn (CopiesSome R.reads W.writes) (λ x a y. Moves R.reads W.writes x (a ∷ []) y) self.old result self.new }
-        ensures left { IfSome result (λ answer. OnPending answer
-            ((fact : Lasting) → CopyLeaves R.leaves W.write_leaves self.new fact → Holds cx.new fact)) }
+        ensures stepped { OneStep (CopiesSome R.reads W.writes)
+            (λ x a y. Moves R.reads W.writes x (a ∷ []) y) self.old result self.new }
+        ensures left { IfSome result
+            (λ answer. Registered answer (CopyRegisters R.registers W.write_registers self.new) cx.new) }
         ensures kept { Keeps cx.old cx.new }
     {
         match self.writer.poll_write(cx, self.reader.buffer()) {
@@ -88,7 +90,7 @@ impl<R: AsyncRead, W: AsyncWrite> CopyFuture<R, W> {
     fn flush(&mut self, cx: &mut Context<'_>) -> Poll<io::Result<u64>>
         requires phase { self.old.phase ≡ Flushing }
         ensures ran { Moves R.reads W.writes self.old (result ∷ []) self.new }
-        ensures left { OnPending result ((fact : Lasting) → CopyLeaves R.leaves W.write_leaves self.new fact → Holds cx.new fact) }
+        ensures left { Registered result (CopyRegisters R.registers W.write_registers self.new) cx.new }
         ensures kept { Keeps cx.old cx.new }
     {
         match self.writer.poll_flush(cx) {
@@ -99,25 +101,25 @@ impl<R: AsyncRead, W: AsyncWrite> CopyFuture<R, W> {
     }
 }
 
-impl<R: CountedRead, W: AsyncWrite> Turns for CopyFuture<R, W> {
-    ghost use Rattle.lite_base.specs.Chain.{OneTurn};
+impl<R: CountedRead, W: AsyncWrite> PollSteps for CopyFuture<R, W> {
+    ghost use Rattle.lite_base.specs.Chain.{OneStep};
     ghost use Rattle.lite_copy.specs.Copy.{Moves};
-    ghost use Rattle.lite_copy.specs.Copying.{CopiesSome, CopyLeaves};
+    ghost use Rattle.lite_copy.specs.Copying.{CopiesSome, CopyRegisters};
     ghost use Rattle.lite_copy.specs.Laws.Copy.{some_given};
 
     type Output = io::Result<u64>;
 
-    ghost can_turn = { λ x. R.ranks.counts (inner_of x.reader) };
+    ghost can_step = { λ x. R.ranks.counts (reader_inner x.reader) };
 
-    ghost turn = { OneTurn (CopiesSome R.reads W.writes) (λ x a y. Moves R.reads W.writes x (a ∷ []) y) };
+    ghost step = { OneStep (CopiesSome R.reads W.writes) (λ x a y. Moves R.reads W.writes x (a ∷ []) y) };
 
-    ghost turn_leaves = { CopyLeaves R.leaves W.write_leaves };
+    ghost step_registers = { CopyRegisters R.registers W.write_registers };
 
-    ghost goes_on = { λ x y c h. R.counting.counts_on (inner_of x.reader) (inner_of y.reader) h.moves.told c h.moves.came };
+    ghost goes_on = { λ x y c h. R.counting.counts_on (reader_inner x.reader) (reader_inner y.reader) h.moves.told c h.moves.came };
 
-    ghost finite = { λ x c. Ends-map (λ y. y.reader) some_given x (counting_ends (through_counting R.counting) x.reader c) };
+    ghost finite = { λ x c. Terminates-map (λ y. y.reader) some_given x (counting_ends (through_counting R.counting) x.reader c) };
 
-    fn turn_once(&mut self, cx: &mut Context<'_>) -> Option<Poll<io::Result<u64>>> {
+    fn poll_step(&mut self, cx: &mut Context<'_>) -> Option<Poll<io::Result<u64>>> {
         if let Phase::Flushing = self.phase {
             return Some(self.flush(cx));
         }
@@ -134,17 +136,17 @@ impl<R: CountedRead, W: AsyncWrite> Turns for CopyFuture<R, W> {
 }
 
 impl<R: CountedRead, W: AsyncWrite> Future for CopyFuture<R, W> {
-    ghost use Rattle.lite_copy.specs.Copy.{Copies};
-    ghost use Rattle.lite_copy.specs.Copying.{CopyLeaves};
+    ghost use Rattle.lite_copy.specs.Copy.{CopyRuns};
+    ghost use Rattle.lite_copy.specs.Copying.{CopyRegisters};
     ghost use Rattle.lite_copy.specs.Laws.Copy.{copies_laws};
 
     type Output = io::Result<u64>;
 
-    ghost can_poll = { λ x. R.ranks.counts (inner_of x.reader) };
+    ghost can_poll = { λ x. R.ranks.counts (reader_inner x.reader) };
 
-    ghost run = { Copies R.reads W.writes };
+    ghost run = { CopyRuns R.reads W.writes };
 
-    ghost leaves = { CopyLeaves R.leaves W.write_leaves };
+    ghost registers = { CopyRegisters R.registers W.write_registers };
 
     ghost laws = { copies_laws R.read_laws W.write_laws };
 

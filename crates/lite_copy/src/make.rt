@@ -1,7 +1,7 @@
 //! What makes the future.
 ghost use Rattle.std.specs.Prelude.{◌≡◌, IfErr, IfOk};
-ghost use Rattle.lite_copy.specs.Parts.{Begins, source_of};
-ghost use Rattle.lite_io.specs.BufReader.{capacity_of};
+ghost use Rattle.lite_copy.specs.Parts.{NothingCopied, source_of};
+ghost use Rattle.lite_io.specs.BufReader.{reader_capacity};
 
 use crate::copy::{CopyFuture, Phase};
 use lite_io::BufReader;
@@ -16,8 +16,8 @@ pub fn copy<R: Drop, W: Drop>(
 ) -> Result<CopyFuture<R, W>, (R, W)>
     ensures reader { IfOk result (λ f. source_of f ≡ reader) }
     ensures writer { IfOk result (λ f. f.writer ≡ writer) }
-    ensures begins { IfOk result (λ f. Begins f) }
-    ensures capacity { IfOk result (λ f. capacity_of f.reader ≡ 8192) }
+    ensures begins { IfOk result (λ f. NothingCopied f) }
+    ensures capacity { IfOk result (λ f. reader_capacity f.reader ≡ 8192) }
     ensures handed_back { IfErr result (λ both. both ≡ (reader, writer)) }
 {
     match BufReader::new(alloc, reader) {

@@ -1,9 +1,10 @@
 ghost use Rattle.std.specs.Prelude.{◌≡◌, [], ◌∷◌, IfSome, None, Result, Some};
 ghost use Rattle.std.specs.declared.alloc.AllocError.{AllocError};
-ghost use Rattle.futures.specs.Poll.{OnPending};
-ghost use Rattle.futures.specs.Task.{Holds, Keeps, Lasting};
+ghost use Rattle.futures.specs.Task.{Keeps};
 ghost use Rattle.lite_cycle.specs.Cycle.{AllCopies, Cycles, Renews};
 ghost use Rattle.lite_cycle.specs.Laws.Cycle.{cycle_laws};
+ghost use Rattle.lite_base.specs.Registered.{Registered};
+ghost use Rattle.lite_base.specs.Runs.{NoHint};
 
 use lite_base::{Context, Poll, Stream, ready};
 use std::alloc::AllocError;
@@ -27,10 +28,11 @@ impl<S: Stream + Clone> Cycle<S> {
     // Asks for a copy, and goes on with it: its first answer goes out, or its refusal.
     fn renew(&mut self, cx: &mut Context<'_>) -> Poll<Option<Result<S::Item, AllocError>>>
         requires { (copy : S) → S.is_clone self.old.original copy → S.can_poll copy }
-        ensures ran { (asked : Result S AllocError) × Renews S.run S.is_clone S.is_infallible self.old.original asked (result ∷ []) self.new.stream }
+        ensures ran { (asked : Result S AllocError)
+            × Renews S.run S.is_clone S.is_infallible self.old.original asked (result ∷ []) self.new.stream }
         ensures original { self.new.original ≡ self.old.original }
         ensures again { IfSome self.new.stream S.can_poll }
-        ensures left { OnPending result ((fact : Lasting) → ((s : S) × (self.new.stream ≡ Some s) × S.leaves s fact) → Holds cx.new fact) }
+        ensures left { Registered result (λ fact. (s : S) × (self.new.stream ≡ Some s) × S.registers s fact) cx.new }
         ensures kept { Keeps cx.old cx.new }
     {
         let mut copy = match self.original.clone() {
@@ -56,9 +58,9 @@ impl<S: Stream + Clone> Stream for Cycle<S> {
 
     ghost run = { Cycles S.run S.is_clone S.is_infallible };
 
-    ghost leaves = { λ m fact. (s : S) × (m.stream ≡ Some s) × S.leaves s fact };
+    ghost registers = { λ m fact. (s : S) × (m.stream ≡ Some s) × S.registers s fact };
 
-    ghost hints = { λ m hint. hint ≡ (0, None) };
+    ghost hints = { NoHint };
 
     ghost laws = { cycle_laws S.is_clone S.is_infallible S.laws };
 

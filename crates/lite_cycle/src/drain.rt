@@ -3,7 +3,7 @@ ghost use Rattle.std.specs.Borrow.{Lends, sem};
 ghost use Rattle.lite_base.specs.Lent.{lent_counting, lent_laws};
 ghost use Rattle.lite_base.specs.Ranks.{ranks_of};
 ghost use Rattle.lite_cycle.specs.Drain.{Drains, drain_parts};
-ghost use Rattle.lite_cycle.specs.Laws.Drain.{drained_turning};
+ghost use Rattle.lite_cycle.specs.Laws.Drain.{drained_relating};
 ghost use Rattle.lite_stream.specs.Laws.Through.{laws_capped, through_counting};
 
 use lite_base::{Context, Counted, Poll, Stream};
@@ -55,7 +55,7 @@ impl<'a, S: Stream> Stream for Drain<'a, S> {
 
     ghost hints = { λ m hint. (inner : ℕ × Option ℕ) × S.hints m.stream.now inner × (hint ≡ (0, inner.1)) };
 
-    ghost laws = { laws_capped drain_parts (lent_laws S.laws) drained_turning };
+    ghost laws = { laws_capped drain_parts (lent_laws S.laws) drained_relating };
 
     fn poll_next(&mut self, cx: &mut Context<'_>) -> Poll<Option<S::Item>> {
         match self.stream.poll_next(cx) {
@@ -73,5 +73,5 @@ impl<'a, S: Stream> Stream for Drain<'a, S> {
 impl<'a, S: Counted> Counted for Drain<'a, S> {
     ghost ranks = { ranks_of (λ m. m.stream.now) S.ranks };
 
-    ghost counting = { through_counting drain_parts (lent_counting S.counting) drained_turning };
+    ghost counting = { through_counting drain_parts (lent_counting S.counting) drained_relating };
 }

@@ -3,8 +3,8 @@ ghost use Rattle.lite_base.specs.Lent.{lent_counting};
 ghost use Rattle.lite_base.specs.OkRanks.{ok_counting};
 ghost use Rattle.lite_base.specs.Ranks.{ranks_of};
 ghost use Rattle.lite_cycle.specs.Drain.{drain_parts};
-ghost use Rattle.lite_cycle.specs.Laws.Drain.{drained_turning};
-ghost use Rattle.lite_cycle.specs.Laws.StopAfterFuture.{stops_turning};
+ghost use Rattle.lite_cycle.specs.Laws.Drain.{drained_relating};
+ghost use Rattle.lite_cycle.specs.Laws.StopAfterFuture.{stops_relating};
 ghost use Rattle.lite_cycle.specs.Stopping.{stop_parts};
 ghost use Rattle.lite_stream.specs.Laws.Through.{through_counting};
 
@@ -18,7 +18,7 @@ impl<'a, T, E, S: Counted<Item = Result<T, E>>> OkCounted for Drain<'a, S> {
 
     ghost ok_ranks = { ranks_of (λ m. m.stream.now) S.ranks };
 
-    ghost ok_counting = { ok_counting (through_counting drain_parts (lent_counting S.counting) drained_turning) };
+    ghost ok_counting = { ok_counting (through_counting drain_parts (lent_counting S.counting) drained_relating) };
 }
 
 impl<T, E, S: Counted<Item = Result<T, E>>, Fut: Future + Drop> OkCounted
@@ -29,5 +29,5 @@ impl<T, E, S: Counted<Item = Result<T, E>>, Fut: Future + Drop> OkCounted
 
     ghost ok_ranks = { ranks_of (λ m. m.stream) S.ranks };
 
-    ghost ok_counting = { ok_counting (through_counting stop_parts S.counting (stops_turning Fut.laws)) };
+    ghost ok_counting = { ok_counting (through_counting stop_parts S.counting (stops_relating Fut.laws)) };
 }

@@ -1,8 +1,8 @@
 ghost use Rattle.std.specs.Prelude.{◌≡◌, ◌↔◌, IsSome, IsTrue, None, Some};
 ghost use Rattle.lite_base.specs.Ranks.{ranks_of};
-ghost use Rattle.lite_cycle.specs.Laws.StopAfterFuture.{stop_laws, stops_turning};
+ghost use Rattle.lite_cycle.specs.Laws.StopAfterFuture.{stop_laws, stops_relating};
 ghost use Rattle.lite_cycle.specs.StopAfterFuture.{Stops};
-ghost use Rattle.lite_cycle.specs.Stopping.{CanStop, StopHints, StopLeaves, future_of, stop_parts};
+ghost use Rattle.lite_cycle.specs.Stopping.{CanStop, StopHints, StopRegisters, future_of, stop_parts};
 ghost use Rattle.lite_cycle.specs.declared.stop_after_future.Stopping.TheVariants.{Stopped};
 ghost use Rattle.lite_stream.specs.Laws.Through.{through_counting};
 
@@ -89,7 +89,7 @@ impl<S: Stream, Fut: Future + Drop> Stream for StopAfterFuture<S, Fut> {
 
     ghost run = { Stops S.run Fut.run };
 
-    ghost leaves = { StopLeaves S.leaves Fut.leaves };
+    ghost registers = { StopRegisters S.registers Fut.registers };
 
     ghost hints = { StopHints S.hints };
 
@@ -127,5 +127,5 @@ impl<S: Stream, Fut: Future + Drop> Stream for StopAfterFuture<S, Fut> {
 impl<S: Counted, Fut: Future + Drop> Counted for StopAfterFuture<S, Fut> {
     ghost ranks = { ranks_of (λ m. m.stream) S.ranks };
 
-    ghost counting = { through_counting stop_parts S.counting (stops_turning Fut.laws) };
+    ghost counting = { through_counting stop_parts S.counting (stops_relating Fut.laws) };
 }

@@ -1,17 +1,24 @@
--- What else is said of an outer stream and the inner one that is held: a turn of a poll, where a poll may be made, and the ranks.
+-- What else is said of an outer stream and the inner one that is held: a step of a poll, where a poll may be made, and
+-- the ranks.
 use Rattle.std.specs.Prelude.{◌≡◌, ◌⊎◌, ℕ, ◌+◌, List, [], ◌∷◌, ◌++◌, Option, Some, None, IfSome, replicate}
 use Rattle.lite_base.specs.Answers.{Answer, end, item}
-use Rattle.lite_base.specs.Chain.{OneTurn}
+use Rattle.lite_base.specs.Chain.{OneStep}
 use Rattle.lite_base.specs.Ranks.{Ranks}
+use Rattle.lite_base.specs.Runs.{Runs}
 use Rattle.lite_flatten.specs.Flatten.{Flattening}
 use Rattle.lite_flatten.specs.declared.flatten.Flatten.{Flatten}
-use Rattle.lite_stream.specs.Through.{Parts}
+use Rattle.lite_stream.specs.Through.{AdapterParts}
 
-abbrev pub flatten_parts : {S B : Type 0} → Parts (Flatten S B) S (Option B)
+-- a `flatten` is its outer stream, and the inner one that it holds
+abbrev pub flatten_parts : {S B : Type 0} → AdapterParts (Flatten S B) S (Option B)
 flatten_parts =
-    record { source = λ m. m.stream; held = λ m. m.inner_stream; same = λ x y e d. λ i. record { stream = e i; inner_stream = d i } }
+    record {
+      source = λ m. m.stream;
+      held = λ m. m.inner_stream;
+      same = λ x y e d. λ i. record { stream = e i; inner_stream = d i };
+    }
 
-module _ {S B A : Type 0} (run : B → List (Answer A) → B → Type 0) (outer : S → List (Answer B) → S → Type 0) where
+module _ {S B A : Type 0} (run : Runs (Answer A) B) (outer : Runs (Answer B) S) where
   -- the inner stream that was held, if there was one, came to its end, and the outer one gave the next
   pub record TakesNext (x y : S × Option B) : Type 0 where
     pub ended : IfSome x.1 (λ b. (c : B) × run b (end ∷ []) c)
@@ -25,27 +32,29 @@ module _ {S B A : Type 0} (run : B → List (Answer A) → B → Type 0) (outer 
       ((y.0 ≡ x.0) × Flattening run x.1 [] (a ∷ []) y.1)
       ⊎ ((i : Answer B) × outer x.0 (i ∷ []) y.0 × Flattening run x.1 (i ∷ []) (a ∷ []) y.1 × (y.1 ≡ None))
 
-  -- one turn of a poll, of the outer stream and the inner one that is held
-  abbrev pub FlatTurn : S × Option B → Option (Answer A) → S × Option B → Type 0
-  FlatTurn = OneTurn TakesNext GivesOne
+  -- one step of a poll, of the outer stream and the inner one that is held
+  abbrev pub FlatStep : S × Option B → Option (Answer A) → S × Option B → Type 0
+  FlatStep = OneStep TakesNext GivesOne
 
-  -- so of an adapter; after it another turn may be made
-  abbrev pub FlatTurns : {M : Type 0} → Parts M S (Option B) → (M → Type 0) → M → Option (Answer A) → M → Type 0
-  FlatTurns p can_turn x r y = can_turn y × FlatTurn (p.source x, p.held x) r (p.source y, p.held y)
+  -- one step of a poll of an adapter, after which another may be made
+  abbrev pub FlatSteps : {M : Type 0} → AdapterParts M S (Option B) → (M → Type 0) → M → Option (Answer A) → M → Type 0
+  FlatSteps p can_step x r y = can_step y × FlatStep (p.source x, p.held x) r (p.source y, p.held y)
 
-module _ {S B : Type 0} (outer : S → List (Answer B) → S → Type 0) where
+module _ {S B : Type 0} (outer : Runs (Answer B) S) where
   -- the inner stream that is held has the fact, and so does each one that may come
   abbrev pub EachInner : (B → Type 0) → S → Option B → Type 0
-  EachInner Fact s held = IfSome held Fact × ((t : S) (before after : List (Answer B)) (b : B) → outer s (before ++ item b ∷ after) t → Fact b)
+  EachInner Fact s held = IfSome held Fact
+      × ((t : S) (before after : List (Answer B)) (b : B) → outer s (before ++ item b ∷ after) t → Fact b)
 
   -- a poll may be made: the outer stream may be polled and its rank counts, and each inner stream may be polled
   abbrev pub CanFlatten : (S → Type 0) → (S → Type 0) → (B → Type 0) → S → Option B → Type 0
   CanFlatten can_poll counts can_poll' s held = can_poll s × counts s × EachInner can_poll' s held
 
--- so of an adapter
-abbrev pub CanTurn : {M S B : Type 0} → Parts M S (Option B) → (S → List (Answer B) → S → Type 0)
+-- a step of an adapter may be made: the outer stream may be polled and its rank counts, and each inner stream may be
+-- polled
+abbrev pub CanStepFlat : {M S B : Type 0} → AdapterParts M S (Option B) → Runs (Answer B) S
     → (S → Type 0) → (S → Type 0) → (B → Type 0) → M → Type 0
-CanTurn p outer can_poll counts can_poll' x = CanFlatten outer can_poll counts can_poll' (p.source x) (p.held x)
+CanStepFlat p outer can_poll counts can_poll' x = CanFlatten outer can_poll counts can_poll' (p.source x) (p.held x)
 
 -- the rank of the inner stream; one that is gone counts 0
 abbrev pub inner_rank : {B : Type 0} → ℕ → (B → List ℕ) → Option B → List ℕ
@@ -53,7 +62,8 @@ inner_rank width rank None = replicate width 0
 inner_rank width rank (Some b) = rank b
 
 -- the outer stream's rank and then the inner one's; each inner stream has to count where it comes
-abbrev pub flattening_ranks : {M S B : Type 0} → Parts M S (Option B) → (S → List (Answer B) → S → Type 0) → Ranks S → Ranks B → Ranks M
+abbrev pub flattening_ranks : {M S B : Type 0} → AdapterParts M S (Option B) → Runs (Answer B) S → Ranks S → Ranks B
+    → Ranks M
 flattening_ranks p outer r r' =
     record {
       width = r.width + r'.width;

@@ -4,10 +4,10 @@ pub mod Chain
 pub mod Cloned
 pub mod FlatMap
 pub mod Flatten
-pub mod Lingering
+pub mod Expanding
 pub mod Replacing
 pub mod SteadyChain
 pub mod SteadyFlatten
-pub mod SteadyLingering
+pub mod SteadyExpanding
 pub mod Then
 pub mod Zeros

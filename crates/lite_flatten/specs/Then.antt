@@ -5,26 +5,36 @@ use Rattle.futures.specs.declared.task.Poll.{Poll}
 use Rattle.lite_base.specs.Answers.{Answer}
 use Rattle.lite_base.specs.Future.Handed.{handed}
 use Rattle.lite_base.specs.Future.Spent.{Spends}
-use Rattle.lite_flatten.specs.Lingering.{Lingering}
+use Rattle.lite_flatten.specs.Expanding.{Expanding}
 use Rattle.lite_flatten.specs.declared.then.Then.{Then}
 use Rattle.lite_base.specs.Calling.{Calls}
+use Rattle.lite_base.specs.Runs.{Question, Runs}
 use Rattle.lite_stream.specs.EachItem.{AtEachItem}
-use Rattle.lite_stream.specs.Through.{Parts, Through}
+use Rattle.lite_stream.specs.Through.{AdapterParts, Through}
 
 -- the future's list, its value as an item, and nothing after that
-abbrev pub HandsOut : {V B : Type 0} → (V → List (Poll B) → V → Type 0) → V → List (Answer B) → Option V → Type 0
+abbrev pub HandsOut : {V B : Type 0} → Runs (Poll B) V → V → List (Answer B) → Option V → Type 0
 HandsOut run v out left = Spends run (handed Some) (λ after. after ≡ []) (Some v) out left
 
-abbrev pub Thens : {S F V A B : Type 0} → (S → List (Answer A) → S → Type 0) → (F → A → V → F → Type 0) → (V → List (Poll B) → V → Type 0)
-    → Then S F V → List (Answer B) → Then S F V → Type 0
-Thens run call run' x l y = Through run (Lingering call (HandsOut run')) x.stream (x.f, x.future) l y.stream (y.f, y.future)
+-- each item is replaced by the list of the future that is made of it
+abbrev pub Thens : {S F V A B : Type 0} → Runs (Answer A) S → Question F A V → Runs (Poll B) V
+    → Runs (Answer B) (Then S F V)
+Thens run call run' x l y =
+    Through run (Expanding call (HandsOut run')) x.stream (x.f, x.future) l y.stream (y.f, y.future)
 
-abbrev pub then_parts : {S F V : Type 0} → Parts (Then S F V) S (F × Option V)
-then_parts = record { source = λ m. m.stream; held = λ m. (m.f, m.future); same = λ x y e d. λ i. record { stream = e i; future = (d i).1; f = (d i).0 } }
+-- a `then` is its stream, and its function with the future that it holds
+abbrev pub then_parts : {S F V : Type 0} → AdapterParts (Then S F V) S (F × Option V)
+then_parts =
+    record {
+      source = λ m. m.stream;
+      held = λ m. (m.f, m.future);
+      same = λ x y e d. λ i. record { stream = e i; future = (d i).1; f = (d i).0 };
+    }
 
 -- the function may be called with each item that the stream may still give, and what it makes of it has the fact
-abbrev pub MakesEach : {S F V A : Type 0} → (S → List (Answer A) → S → Type 0) → Mut F (A × Unit {0}) V → (V → Type 0) → S → F → Type 0
-MakesEach {F = F} {V = V} run g Fact = AtEachItem run (Calls g) (λ p x. g.pre p (x, tt) × ((v : V) (q : F) → Called g p (x, tt) v q → Fact v))
+abbrev pub MakesEach : {S F V A : Type 0} → Runs (Answer A) S → Mut F (A × Unit {0}) V → (V → Type 0) → S → F → Type 0
+MakesEach {F = F} {V = V} run g Fact =
+    AtEachItem run (Calls g) (λ p x. g.pre p (x, tt) × ((v : V) (q : F) → Called g p (x, tt) v q → Fact v))
 
 -- a poll may be made: the stream may be polled, and each future that the function makes, or that is held
 abbrev pub CanThen : {S F V : Type 0} → (S → Type 0) → (S → F → Type 0) → (V → Type 0) → Then S F V → Type 0
@@ -34,6 +44,7 @@ CanThen can_poll makes can_poll' x = can_poll x.stream × makes x.stream x.f × 
 abbrev pub one_more : ℕ → Option ℕ
 one_more n = cond (nat_lt n (2 ^ 64 - 1)) (Some (n + 1)) None
 
+-- one more than a bound, where there is one and it fits
 abbrev pub one_more_at_most : Option ℕ → Option ℕ
 one_more_at_most None = None
 one_more_at_most (Some n) = one_more n

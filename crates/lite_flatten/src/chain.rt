@@ -1,10 +1,11 @@
 ghost use Rattle.std.specs.Prelude.{◌≡◌, None};
-ghost use Rattle.futures.specs.Poll.{OnPending};
-ghost use Rattle.futures.specs.Task.{Keeps, Lasting, Holds};
+ghost use Rattle.futures.specs.Task.{Keeps};
 ghost use Rattle.lite_flatten.specs.Chain.{Chains};
-ghost use Rattle.lite_flatten.specs.Chaining.{ChainLeaves, SecondAnswers, chain_ranks};
+ghost use Rattle.lite_flatten.specs.Chaining.{ChainRegisters, SecondAnswers, chain_ranks};
 ghost use Rattle.lite_flatten.specs.declared.chain.Part.TheVariants.{Second};
 ghost use Rattle.lite_flatten.specs.Laws.Chain.{chain_counting, chain_laws};
+ghost use Rattle.lite_base.specs.Registered.{Registered};
+ghost use Rattle.lite_base.specs.Runs.{NoHint};
 
 use lite_base::{Context, Counted, Poll, Stream, ready};
 
@@ -35,7 +36,7 @@ impl<S: Stream, U: Stream<Item = S::Item>> Chain<S, U> {
         ensures asked { SecondAnswers U.run self.old result self.new }
         ensures first { self.new.first ≡ self.old.first }
         ensures again { U.can_poll self.new.second }
-        ensures left { OnPending result ((fact : Lasting) → ChainLeaves S.leaves U.leaves self.new fact → Holds cx.new fact) }
+        ensures left { Registered result (ChainRegisters S.registers U.registers self.new) cx.new }
         ensures kept { Keeps cx.old cx.new }
     {
         match ready!(self.second.poll_next(cx)) {
@@ -55,9 +56,9 @@ impl<S: Stream, U: Stream<Item = S::Item>> Stream for Chain<S, U> {
 
     ghost run = { Chains S.run U.run };
 
-    ghost leaves = { ChainLeaves S.leaves U.leaves };
+    ghost registers = { ChainRegisters S.registers U.registers };
 
-    ghost hints = { λ m hint. hint ≡ (0, None) };
+    ghost hints = { NoHint };
 
     ghost laws = { chain_laws S.laws U.laws };
 

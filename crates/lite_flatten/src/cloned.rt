@@ -1,7 +1,8 @@
-ghost use Rattle.std.specs.Prelude.{◌≡◌, [], ◌∷◌, None};
+ghost use Rattle.std.specs.Prelude.{[], ◌∷◌, None};
 ghost use Rattle.lite_flatten.specs.Cloned.{Clones, ClonesAll, cloned_parts};
 ghost use Rattle.lite_flatten.specs.Laws.Cloned.{cloned_laws, cloned_ok_counting};
-ghost use Rattle.lite_flatten.specs.Laws.Lingering.{held_ranks};
+ghost use Rattle.lite_flatten.specs.Laws.Expanding.{held_ranks};
+ghost use Rattle.lite_base.specs.Runs.{NoHint};
 
 use lite_base::{Context, Counted, OkCounted, Poll, Stream, ready};
 use std::alloc::AllocError;
@@ -44,13 +45,13 @@ impl<'a, T: Clone + 'a, S: Stream<Item = &'a T>> Stream for Cloned<S> {
 
     ghost run = { ClonesAll T.is_clone T.is_infallible S.run };
 
-    ghost leaves = { λ m. S.leaves m.stream };
+    ghost registers = { λ m. S.registers m.stream };
 
-    ghost hints = { λ m hint. hint ≡ (0, None) };
+    ghost hints = { NoHint };
 
     ghost laws = { cloned_laws T.is_clone T.is_infallible S.laws };
 
-    #[tactic(auto, using(crate::specs::Laws::Lingering::held_answers))]
+    #[tactic(auto, using(crate::specs::Laws::Expanding::held_answers))]
     fn poll_next(&mut self, cx: &mut Context<'_>) -> Poll<Option<Result<T, AllocError>>> {
         match self.held {
             Some(item) => try_clone(item, &mut self.held),

@@ -1,13 +1,15 @@
-ghost use Rattle.std.specs.Prelude.{◌≡◌, None};
-ghost use Rattle.lite_flatten.specs.FlatMap.{CanFlatMap, CanTurnMap, FlatMapTurns, FlatMaps, flat_map_parts, flat_map_ranks};
-ghost use Rattle.lite_flatten.specs.HeldLeaves.{HeldLeaves};
+ghost use Rattle.std.specs.Prelude.{None};
+ghost use Rattle.lite_flatten.specs.FlatMap.{CanFlatMap, CanStepMap, FlatMapSteps, FlatMaps, flat_map_parts};
+ghost use Rattle.lite_flatten.specs.FlatMap.{flat_map_ranks};
+ghost use Rattle.lite_flatten.specs.HeldRegisters.{HeldRegisters};
 ghost use Rattle.lite_flatten.specs.Laws.FlatMap.{flat_map_counting, flat_map_laws, made_end};
 ghost use Rattle.lite_flatten.specs.Laws.Flatten.{flat_ends};
 ghost use Rattle.lite_base.specs.Calling.{Calls};
+ghost use Rattle.lite_base.specs.Runs.{NoHint};
 ghost use Rattle.lite_stream.specs.Map.{Maps};
 
 use crate::inner::poll_part;
-use lite_base::{Context, Counted, Poll, Stream, Turns, drive};
+use lite_base::{Context, Counted, Poll, PollSteps, Stream, drive};
 use lite_stream::Map;
 
 /// The items of the streams that a function makes of the items of a stream, one after the other.
@@ -20,20 +22,22 @@ pub struct FlatMap<S, U, F> {
     pub(crate) inner_stream: Option<U>,
 }
 
-impl<S: Counted, U: Stream + Drop, F: FnMut(S::Item) -> U> Turns for FlatMap<S, U, F> {
+impl<S: Counted, U: Stream + Drop, F: FnMut(S::Item) -> U> PollSteps for FlatMap<S, U, F> {
     type Output = Option<U::Item>;
 
-    ghost can_turn = { CanTurnMap S.run F.FnMut ⟦<Map<S, F> as Stream>⟧.can_poll S.ranks.counts U.can_poll };
+    ghost can_step = { CanStepMap S.run F.FnMut ⟦<Map<S, F> as Stream>⟧.can_poll S.ranks.counts U.can_poll };
 
-    ghost turn = { FlatMapTurns S.run F.FnMut U.run (CanTurnMap S.run F.FnMut ⟦<Map<S, F> as Stream>⟧.can_poll S.ranks.counts U.can_poll) };
+    ghost step = { FlatMapSteps S.run F.FnMut U.run
+        (CanStepMap S.run F.FnMut ⟦<Map<S, F> as Stream>⟧.can_poll S.ranks.counts U.can_poll) };
 
-    ghost turn_leaves = { λ m. HeldLeaves ⟦<Map<S, F> as Stream>⟧.leaves U.leaves m.stream m.inner_stream };
+    ghost step_registers = { λ m. HeldRegisters ⟦<Map<S, F> as Stream>⟧.registers U.registers m.stream m.inner_stream };
 
     ghost goes_on = { λ x y c h. h.0 };
 
-    ghost finite = { flat_ends U.run (Maps S.run (Calls F.FnMut)) flat_map_parts (λ x c. made_end F.FnMut S.counting x.stream c.1) };
+    ghost finite = { flat_ends U.run (Maps S.run (Calls F.FnMut)) flat_map_parts
+        (λ x c. made_end F.FnMut S.counting x.stream c.1) };
 
-    fn turn_once(&mut self, cx: &mut Context<'_>) -> Option<Poll<Option<U::Item>>> {
+    fn poll_step(&mut self, cx: &mut Context<'_>) -> Option<Poll<Option<U::Item>>> {
         poll_part(&mut self.stream, &mut self.inner_stream, cx)
     }
 }
@@ -45,9 +49,9 @@ impl<S: Counted, U: Stream + Drop, F: FnMut(S::Item) -> U> Stream for FlatMap<S,
 
     ghost run = { FlatMaps S.run F.FnMut U.run };
 
-    ghost leaves = { λ m. HeldLeaves ⟦<Map<S, F> as Stream>⟧.leaves U.leaves m.stream m.inner_stream };
+    ghost registers = { λ m. HeldRegisters ⟦<Map<S, F> as Stream>⟧.registers U.registers m.stream m.inner_stream };
 
-    ghost hints = { λ m hint. hint ≡ (0, None) };
+    ghost hints = { NoHint };
 
     ghost laws = { flat_map_laws F.FnMut S.laws U.laws };
 

@@ -1,13 +1,14 @@
-ghost use Rattle.std.specs.Prelude.{◌≡◌, None};
+ghost use Rattle.std.specs.Prelude.{None};
 ghost use Rattle.lite_base.specs.StreamLaws.{runs_of};
+ghost use Rattle.lite_base.specs.Runs.{NoHint};
 ghost use Rattle.lite_flatten.specs.Flatten.{Flattens};
-ghost use Rattle.lite_flatten.specs.Inner.{CanTurn, FlatTurns, flatten_parts, flattening_ranks};
-ghost use Rattle.lite_flatten.specs.HeldLeaves.{HeldLeaves};
+ghost use Rattle.lite_flatten.specs.Inner.{CanStepFlat, FlatSteps, flatten_parts, flattening_ranks};
+ghost use Rattle.lite_flatten.specs.HeldRegisters.{HeldRegisters};
 ghost use Rattle.lite_flatten.specs.Laws.Flatten.{flat_ends, flattening, flattening_counting};
 ghost use Rattle.lite_stream.specs.Laws.Through.{laws_following};
 
 use crate::inner::poll_part;
-use lite_base::{Context, Counted, Poll, Stream, Turns, drive};
+use lite_base::{Context, Counted, Poll, PollSteps, Stream, drive};
 
 /// The items of the streams that a stream gives, one after the other.
 ///
@@ -20,20 +21,20 @@ pub struct Flatten<S: Stream> {
     pub(crate) inner_stream: Option<S::Item>,
 }
 
-impl<B: Stream + Drop, S: Counted<Item = B>> Turns for Flatten<S> {
+impl<B: Stream + Drop, S: Counted<Item = B>> PollSteps for Flatten<S> {
     type Output = Option<B::Item>;
 
-    ghost can_turn = { CanTurn flatten_parts S.run S.can_poll S.ranks.counts B.can_poll };
+    ghost can_step = { CanStepFlat flatten_parts S.run S.can_poll S.ranks.counts B.can_poll };
 
-    ghost turn = { FlatTurns B.run S.run flatten_parts (CanTurn flatten_parts S.run S.can_poll S.ranks.counts B.can_poll) };
+    ghost step = { FlatSteps B.run S.run flatten_parts (CanStepFlat flatten_parts S.run S.can_poll S.ranks.counts B.can_poll) };
 
-    ghost turn_leaves = { λ m. HeldLeaves S.leaves B.leaves m.stream m.inner_stream };
+    ghost step_registers = { λ m. HeldRegisters S.registers B.registers m.stream m.inner_stream };
 
     ghost goes_on = { λ x y c h. h.0 };
 
     ghost finite = { flat_ends B.run S.run flatten_parts (λ x c. S.ends x.stream c.1) };
 
-    fn turn_once(&mut self, cx: &mut Context<'_>) -> Option<Poll<Option<B::Item>>> {
+    fn poll_step(&mut self, cx: &mut Context<'_>) -> Option<Poll<Option<B::Item>>> {
         poll_part(&mut self.stream, &mut self.inner_stream, cx)
     }
 }
@@ -41,13 +42,13 @@ impl<B: Stream + Drop, S: Counted<Item = B>> Turns for Flatten<S> {
 impl<B: Stream + Drop, S: Counted<Item = B>> Stream for Flatten<S> {
     type Item = B::Item;
 
-    ghost can_poll = { CanTurn flatten_parts S.run S.can_poll S.ranks.counts B.can_poll };
+    ghost can_poll = { CanStepFlat flatten_parts S.run S.can_poll S.ranks.counts B.can_poll };
 
     ghost run = { Flattens B.run S.run };
 
-    ghost leaves = { λ m. HeldLeaves S.leaves B.leaves m.stream m.inner_stream };
+    ghost registers = { λ m. HeldRegisters S.registers B.registers m.stream m.inner_stream };
 
-    ghost hints = { λ m hint. hint ≡ (0, None) };
+    ghost hints = { NoHint };
 
     ghost laws = { laws_following flatten_parts S.laws (flattening (runs_of B.laws)) };
 

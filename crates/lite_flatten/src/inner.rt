@@ -1,9 +1,9 @@
-//! What `flatten` and `flat_map` share: a turn over an outer stream and the inner stream that is held.
+//! What `flatten` and `flat_map` share: a step over an outer stream and the inner stream that is held.
 ghost use Rattle.std.specs.Prelude.{◌≡◌, IfSome, None};
-ghost use Rattle.futures.specs.Poll.{OnPending};
-ghost use Rattle.futures.specs.Task.{Keeps, Lasting, Holds};
-ghost use Rattle.lite_flatten.specs.Inner.{CanFlatten, FlatTurn};
-ghost use Rattle.lite_flatten.specs.HeldLeaves.{HeldLeaves};
+ghost use Rattle.futures.specs.Task.{Keeps};
+ghost use Rattle.lite_flatten.specs.Inner.{CanFlatten, FlatStep};
+ghost use Rattle.lite_flatten.specs.HeldRegisters.{HeldRegisters};
+ghost use Rattle.lite_base.specs.Registered.{Registered};
 
 use lite_base::{Context, Counted, Poll, Stream};
 
@@ -16,10 +16,10 @@ pub(crate) fn poll_part<B: Stream + Drop, S: Counted<Item = B>>(
     cx: &mut Context<'_>,
 ) -> Option<Poll<Option<B::Item>>>
     requires { CanFlatten S.run S.can_poll S.ranks.counts B.can_poll stream.old inner_stream.old }
-    ensures turned { FlatTurn B.run S.run (stream.old, inner_stream.old) result (stream.new, inner_stream.new) }
+    ensures stepped { FlatStep B.run S.run (stream.old, inner_stream.old) result (stream.new, inner_stream.new) }
     ensures again { CanFlatten S.run S.can_poll S.ranks.counts B.can_poll stream.new inner_stream.new }
-    ensures left { IfSome result (λ answer. OnPending answer ((fact : Lasting)
-        → HeldLeaves S.leaves B.leaves stream.new inner_stream.new fact → Holds cx.new fact)) }
+    ensures left { IfSome result
+        (λ answer. Registered answer (HeldRegisters S.registers B.registers stream.new inner_stream.new) cx.new) }
     ensures kept { Keeps cx.old cx.new }
 {
     match inner_stream {
@@ -44,10 +44,10 @@ fn poll_outer<B: Stream + Drop, S: Counted<Item = B>>(
 ) -> Option<Poll<Option<B::Item>>>
     requires can { CanFlatten S.run S.can_poll S.ranks.counts B.can_poll stream.old inner_stream.old }
     requires empty { inner_stream.old ≡ None }
-    ensures turned { FlatTurn B.run S.run (stream.old, None) result (stream.new, inner_stream.new) }
+    ensures stepped { FlatStep B.run S.run (stream.old, None) result (stream.new, inner_stream.new) }
     ensures again { CanFlatten S.run S.can_poll S.ranks.counts B.can_poll stream.new inner_stream.new }
-    ensures left { IfSome result (λ answer. OnPending answer ((fact : Lasting)
-        → HeldLeaves S.leaves B.leaves stream.new inner_stream.new fact → Holds cx.new fact)) }
+    ensures left { IfSome result
+        (λ answer. Registered answer (HeldRegisters S.registers B.registers stream.new inner_stream.new) cx.new) }
     ensures kept { Keeps cx.old cx.new }
 {
     match stream.poll_next(cx) {

@@ -6,7 +6,7 @@ ghost use Rattle.lite_flatten.specs.Inner.{flatten_parts, flattening_ranks};
 ghost use Rattle.lite_flatten.specs.Laws.Chain.{chain_counting};
 ghost use Rattle.lite_flatten.specs.Laws.FlatMap.{flat_map_counting};
 ghost use Rattle.lite_flatten.specs.Laws.Flatten.{flattening_counting};
-ghost use Rattle.lite_flatten.specs.Laws.Lingering.{held_counting, held_ranks};
+ghost use Rattle.lite_flatten.specs.Laws.Expanding.{held_counting, held_ranks};
 ghost use Rattle.lite_flatten.specs.Laws.Then.{hands_one};
 ghost use Rattle.lite_flatten.specs.Then.{then_parts};
 

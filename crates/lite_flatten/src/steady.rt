@@ -50,7 +50,8 @@ impl<S: Counted + SteadyStream, U: SteadyStream + Drop, F: FnMut(S::Item) -> U> 
     ghost same = { U.same };
 
     ghost alike = { λ x y. S.alike x.stream.stream y.stream.stream
-        × AgreeFrom (SameItem S.same) U.alike (Calls F.FnMut) x.stream.f y.stream.f × OptionBy U.alike x.inner_stream y.inner_stream };
+        × AgreeFrom (SameItem S.same) U.alike (Calls F.FnMut) x.stream.f y.stream.f
+        × OptionBy U.alike x.inner_stream y.inner_stream };
 
     ghost steady = { flat_map_steady F.FnMut S.same U.same S.steady U.steady };
 }
@@ -62,7 +63,8 @@ impl<B: SteadyStream + Drop, S: Counted<Item = B> + SteadyStream> SteadyStream f
 
     ghost same = { B.same };
 
-    ghost alike = { λ x y. AlikeBy (OptionBy B.alike) S.ample x.stream y.stream × OptionBy B.alike x.inner_stream y.inner_stream };
+    ghost alike = { λ x y. AlikeBy (OptionBy B.alike) S.ample x.stream y.stream
+        × OptionBy B.alike x.inner_stream y.inner_stream };
 
     ghost steady = { flattening_steady flatten_parts B.same (λ x y e. e) S.steady.laws S.steady.found B.steady };
 }

@@ -1,6 +1,6 @@
 ghost use Rattle.std.specs.Prelude.{Option, ℕ, ◌≡◌};
-ghost use Rattle.lite_flatten.specs.HeldLeaves.{HeldLeaves};
-ghost use Rattle.lite_flatten.specs.Laws.Lingering.{held_counting, held_ranks};
+ghost use Rattle.lite_flatten.specs.HeldRegisters.{HeldRegisters};
+ghost use Rattle.lite_flatten.specs.Laws.Expanding.{held_counting, held_ranks};
 ghost use Rattle.lite_flatten.specs.Laws.Then.{hands_one, then_laws};
 ghost use Rattle.lite_flatten.specs.Then.{CanThen, MakesEach, Thens, then_hint, then_parts};
 ghost use Rattle.lite_base.specs.Calling.{Calls};
@@ -25,7 +25,7 @@ impl<S: Stream, F: FnMut(S::Item) -> Fut, Fut: Future + Drop> Stream for Then<S,
 
     ghost run = { Thens S.run (Calls F.FnMut) Fut.run };
 
-    ghost leaves = { λ m. HeldLeaves S.leaves Fut.leaves m.stream m.future };
+    ghost registers = { λ m. HeldRegisters S.registers Fut.registers m.stream m.future };
 
     ghost hints = { λ m hint. (inner : ℕ × Option ℕ) × S.hints m.stream inner × (hint ≡ then_hint m.future inner) };
 

@@ -6,10 +6,13 @@ use Rattle.lite_gather.specs.declared.refused.Refused.{Refused}
 
 -- `may_refuse`: whether memory may be refused. None says that the collection was handed out
 module _ {C T : Type 0} (may_refuse : Type 0) (holds : C → List T → Type 0) where
+  -- an item is taken in, or refused, where memory may be, and then it decides
   abbrev pub Collected : Option C → T → Option (Result C (Refused C T)) → Option C → Type 0
   Collected p x None q = (c d : C) × (p ≡ Some c) × Took holds c x d × (q ≡ Some d)
-  Collected p x (Some r) q = may_refuse × (c d : C) × (p ≡ Some c) × Kept holds c d × (r ≡ Err (record { collected = d; item = x })) × (q ≡ None)
+  Collected p x (Some r) q = may_refuse × (c d : C) × (p ≡ Some c) × Kept holds c d
+      × (r ≡ Err (record { collected = d; item = x })) × (q ≡ None)
 
+  -- the value is the collection, or the refusal with what it held
   abbrev pub collects : Fold (Option C) T (Result C (Refused C T))
   collects = record { asks = Collected; closes = λ p r q. (c : C) × (p ≡ Some c) × (r ≡ Ok c) × (q ≡ None) }
 

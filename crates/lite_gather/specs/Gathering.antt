@@ -1,4 +1,5 @@
--- Collections, which contracts see as what they took in: `holds c l` says that c is what comes of taking in the items l in order.
+-- Collections, which contracts see as what they took in: `holds c l` says that c is what comes of taking in the items l
+-- in order.
 use Rattle.std.specs.Prelude.{List, [], ◌∷◌, ◌++◌}
 
 module _ {C T : Type 0} (holds : C → List T → Type 0) where
@@ -6,6 +7,6 @@ module _ {C T : Type 0} (holds : C → List T → Type 0) where
   abbrev pub Took : C → T → C → Type 0
   Took c x d = (l : List T) → holds c l → holds d (l ++ x ∷ [])
 
-  -- d is as c
+  -- the collection d is as c
   abbrev pub Kept : C → C → Type 0
   Kept c d = (l : List T) → holds c l → holds d l

@@ -3,6 +3,7 @@ use Rattle.std.specs.Prelude.{◌≡◌, List, Option, Some, None, Result, Ok, E
 use Rattle.lite_consume.specs.Consuming.{Fold}
 use Rattle.lite_gather.specs.Gathering.{Kept, Took}
 use Rattle.lite_gather.specs.declared.refused.Refused.{Refused}
+use Rattle.lite_base.specs.Runs.{Question}
 
 module _ {B T : Type 0} (holds : B → List T → Type 0) where
   -- an item that was accepted goes to the first, another to the second
@@ -15,14 +16,22 @@ module _ {B T : Type 0} (holds : B → List T → Type 0) where
   Unsorted c d = Kept holds c.0 d.0 × Kept holds c.1 d.1
 
   -- `may_refuse`: whether memory may be refused. Beside the predicate None says that the collections were handed out
-  module _ {P : Type 0} (test : P → T → Bool → P → Type 0) (may_refuse : Type 0) where
-    abbrev pub Partitioned : P × Option (B × B) → T → Option (Result (B × B) (Refused (B × B) T)) → P × Option (B × B) → Type 0
-    Partitioned p x None q = (is_accepted : Bool) × (c d : B × B) × test p.0 x is_accepted q.0 × (p.1 ≡ Some c) × Sorted is_accepted c x d × (q.1 ≡ Some d)
+  module _ {P : Type 0} (test : Question P T Bool) (may_refuse : Type 0) where
+    -- an item goes where the predicate says, or is refused there, and then it decides
+    abbrev pub Partitioned : P × Option (B × B) → T → Option (Result (B × B) (Refused (B × B) T)) → P × Option (B × B)
+        → Type 0
+    Partitioned p x None q = (is_accepted : Bool) × (c d : B × B) × test p.0 x is_accepted q.0 × (p.1 ≡ Some c)
+        × Sorted is_accepted c x d × (q.1 ≡ Some d)
     Partitioned p x (Some r) q =
-        may_refuse × (is_accepted : Bool) × (c d : B × B) × test p.0 x is_accepted q.0 × (p.1 ≡ Some c) × Unsorted c d × (r ≡ Err (record { collected = d; item = x })) × (q.1 ≡ None)
+        may_refuse × (is_accepted : Bool) × (c d : B × B) × test p.0 x is_accepted q.0 × (p.1 ≡ Some c) × Unsorted c d
+        × (r ≡ Err (record { collected = d; item = x })) × (q.1 ≡ None)
 
+    -- the value is the two collections, or the refusal with what they held
     abbrev pub partitions : Fold (P × Option (B × B)) T (Result (B × B) (Refused (B × B) T))
-    partitions = record { asks = Partitioned; closes = λ p r q. (c : B × B) × (p.1 ≡ Some c) × (r ≡ Ok c) × (q ≡ (p.0, None)) }
+    partitions = record {
+      asks = Partitioned;
+      closes = λ p r q. (c : B × B) × (p.1 ≡ Some c) × (r ≡ Ok c) × (q ≡ (p.0, None));
+    }
 
     -- after an item there are collections
     pub partitions_open : (p q : P × Option (B × B)) (x : T) → Partitioned p x None q → IsSome q.1

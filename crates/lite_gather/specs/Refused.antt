@@ -4,6 +4,7 @@ use Rattle.lite_gather.specs.declared.refused.UnzipRefused.TheVariants.{Left, Ri
 use Rattle.lite_gather.specs.declared.unzip.Part.{Part}
 use Rattle.lite_gather.specs.declared.unzip.Part.TheVariants.{Both, Second}
 
+-- what is handed back of a pair, by which part of it was refused
 abbrev pub refused_of : {C D A B : Type 0} → Part A B → C × D → UnzipRefused C D A B
 refused_of (Both a b) c = Left c (a, b)
 refused_of (Second b) c = Right c b

@@ -5,20 +5,23 @@ use Rattle.lite_gather.specs.Gathering.{Kept, Took}
 use Rattle.lite_gather.specs.declared.refused.TryCollectError.{TryCollectError}
 use Rattle.lite_gather.specs.declared.refused.TryCollectError.TheVariants.{Source, Memory}
 
--- the value is no refusal of memory
-abbrev pub NotRefused : {C T E : Type 0} → Result C (TryCollectError C T E) → Type 0
-NotRefused (Ok c) = ⊤
-NotRefused (Err (Source e)) = ⊤
-NotRefused (Err (Memory m)) = ⊥
+-- the value is no refusal of memory, of a future that collects
+abbrev pub HasMemory : {C T E : Type 0} → Result C (TryCollectError C T E) → Type 0
+HasMemory (Ok c) = ⊤
+HasMemory (Err (Source e)) = ⊤
+HasMemory (Err (Memory m)) = ⊥
 
 -- `may_refuse`: whether memory may be refused. None says that the collection was handed out
 module _ {C T E : Type 0} (may_refuse : Type 0) (holds : C → List T → Type 0) where
+  -- as Collected of what an Ok item holds; an item that is an error decides
   abbrev pub TryCollected : Option C → Result T E → Option (Result C (TryCollectError C T E)) → Option C → Type 0
   TryCollected p (Ok x) None q = (c d : C) × (p ≡ Some c) × Took holds c x d × (q ≡ Some d)
-  TryCollected p (Ok x) (Some r) q = may_refuse × (c d : C) × (p ≡ Some c) × Kept holds c d × (r ≡ Err (Memory (record { collected = d; item = x }))) × (q ≡ None)
+  TryCollected p (Ok x) (Some r) q = may_refuse × (c d : C) × (p ≡ Some c) × Kept holds c d
+      × (r ≡ Err (Memory (record { collected = d; item = x }))) × (q ≡ None)
   TryCollected p (Err e) None q = ⊥
   TryCollected p (Err e) (Some r) q = (r ≡ Err (Source e)) × (q ≡ p)
 
+  -- the value is the collection, the error, or the refusal with what it held
   abbrev pub tries_collect : Fold (Option C) (Result T E) (Result C (TryCollectError C T E))
   tries_collect = record { asks = TryCollected; closes = λ p r q. (c : C) × (p ≡ Some c) × (r ≡ Ok c) × (q ≡ None) }
 

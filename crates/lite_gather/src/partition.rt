@@ -23,7 +23,8 @@ fn take_one<T, B: Gather<T>>(
     item: T,
 ) -> Result<(), T>
     ensures took { OnOk result (Sorted B.holds is_accepted (accepted.old, rejected.old) item (accepted.new, rejected.new)) }
-    ensures kept { IfErr result (λ back. (back ≡ item) × Unsorted B.holds (accepted.old, rejected.old) (accepted.new, rejected.new)) }
+    ensures kept { IfErr result
+        (λ back. (back ≡ item) × Unsorted B.holds (accepted.old, rejected.old) (accepted.new, rejected.new)) }
 {
     if is_accepted {
         accepted.take_in(item)
@@ -73,5 +74,6 @@ impl<S: Counted, P: FnMut(&S::Item) -> bool, B: Gather<S::Item>> Folder<S> for P
         }
     }
 
-    ghost returns = { returns_counted S.counting (λ p q x o h. partitions_open B.holds (CalledAt P.FnMut) ⊤ (p.predicate, p.res) (q.predicate, q.res) x h) };
+    ghost returns = { returns_counted S.counting
+        (λ p q x o h. partitions_open B.holds (CalledAt P.FnMut) ⊤ (p.predicate, p.res) (q.predicate, q.res) x h) };
 }

@@ -5,7 +5,8 @@ ghost use Rattle.lite_base.specs.Alike.{OptionBy, SameErr, SameItem, SameOk, Sam
 ghost use Rattle.lite_base.specs.Calling.{AgreeFrom};
 ghost use Rattle.lite_consume.specs.Consuming.{fold_of};
 ghost use Rattle.lite_consume.specs.Laws.Agreeing.{part_steady};
-ghost use Rattle.lite_gather.specs.Agreeing.{Gathered, HoldsSame, HoldsSameBoth, HoldsSameParts, TryGathered, Unmixed};
+ghost use Rattle.lite_gather.specs.Agreeing.{HoldsSame, HoldsSameBoth, HoldsSameParts, SameCollected, TrySameCollected};
+ghost use Rattle.lite_gather.specs.Agreeing.{Unmixed};
 ghost use Rattle.lite_gather.specs.Collect.{collects};
 ghost use Rattle.lite_gather.specs.Laws.Agreeing.{collect_steady, partition_steady, try_collect_steady, unzip_steady};
 ghost use Rattle.lite_gather.specs.Partition.{partitions};
@@ -25,7 +26,7 @@ impl<S: Counted + SteadyStream, C: Gather<S::Item>> SteadyFolder<S> for Collect<
 
     ghost needs_none = { ⊥ };
 
-    ghost same = { Sameness.by (Gathered (HoldsSame S.same C.holds)) };
+    ghost same = { Sameness.by (SameCollected (HoldsSame S.same C.holds)) };
 
     ghost agree = { λ f g. OptionBy (HoldsSame S.same C.holds) f.collection g.collection };
 
@@ -38,7 +39,7 @@ impl<S: Counted + SteadyStream, P: FnMut(&S::Item) -> bool, B: Gather<S::Item>> 
 
     ghost needs_none = { ⊥ };
 
-    ghost same = { Sameness.by (Gathered (HoldsSameBoth S.same S.same B.holds B.holds)) };
+    ghost same = { Sameness.by (SameCollected (HoldsSameBoth S.same S.same B.holds B.holds)) };
 
     ghost agree = { λ f g. AgreeFrom (SameItem S.same) (λ y z. y ≡ z) (CalledAt P.FnMut) f.predicate g.predicate
         × OptionBy (HoldsSameBoth S.same S.same B.holds B.holds) f.res g.res };
@@ -51,7 +52,7 @@ impl<S: OkCounted + SteadyStream, C: Gather<S::Ok>> SteadyFolder<S> for TryColle
 
     ghost needs_none = { ⊥ };
 
-    ghost same = { Sameness.by (TryGathered (HoldsSame (SameOk S.same) C.holds) (SameItem (SameErr S.same))) };
+    ghost same = { Sameness.by (TrySameCollected (HoldsSame (SameOk S.same) C.holds) (SameItem (SameErr S.same))) };
 
     ghost agree = { λ f g. Unmixed S.same (OptionBy (HoldsSame (SameOk S.same) C.holds) f.items g.items) };
 
@@ -69,7 +70,7 @@ impl<
 
     ghost needs_none = { ⊥ };
 
-    ghost same = { Sameness.by (Gathered (HoldsSameParts S.same FromA.holds FromB.holds)) };
+    ghost same = { Sameness.by (SameCollected (HoldsSameParts S.same FromA.holds FromB.holds)) };
 
     ghost agree = { λ f g. OptionBy (HoldsSameParts S.same FromA.holds FromB.holds) f.res g.res };
 

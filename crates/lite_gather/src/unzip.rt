@@ -43,7 +43,9 @@ fn take_both<A, B, FromA: Gather<A>, FromB: Gather<B>>(
     b: B,
 ) -> Result<(), Part<A, B>>
     ensures took { OnOk result (Took FromA.holds left.old a left.new × Took FromB.holds right.old b right.new) }
-    ensures refused { IfErr result (λ part. RefusedOne FromA.holds FromB.holds (left.old, right.old) (a, b) (refused_of part (left.new, right.new))) }
+    ensures refused { IfErr result
+        (λ part. RefusedOne FromA.holds FromB.holds (left.old, right.old) (a, b)
+        (refused_of part (left.new, right.new))) }
 {
     if let Err(a) = left.take_in(a) {
         return Err(Part::Both(a, b));

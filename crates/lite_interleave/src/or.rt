@@ -1,5 +1,6 @@
+ghost use Rattle.lite_base.specs.Future.AtEachOk.{AtEachOk};
 ghost use Rattle.std.specs.Prelude.{◌≡◌, [], IfSome, IsSome, false};
-ghost use Rattle.lite_interleave.specs.Interleaving.{AtEachOk, OrHolds};
+ghost use Rattle.lite_interleave.specs.Interleaving.{OrHolds};
 
 use lite_base::{Counted, Future};
 use lite_gather::make::collect;

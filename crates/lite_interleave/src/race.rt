@@ -1,5 +1,6 @@
+ghost use Rattle.lite_base.specs.Future.AtEachOk.{AtEachOk};
 ghost use Rattle.std.specs.Prelude.{◌≡◌, [], IfSome, IsSome, false};
-ghost use Rattle.lite_interleave.specs.Interleaving.{AtEachOk, RaceHolds};
+ghost use Rattle.lite_interleave.specs.Interleaving.{RaceHolds};
 
 use lite_base::{Counted, Future};
 use lite_gather::make::collect;
@@ -33,7 +34,8 @@ where
     } }
     ensures open { IsSome result.folder.collection }
     ensures empty { IfSome result.folder.collection (λ c. C.holds c []) }
-    ensures whole { AtEachOk ⟦<CollectFuture<Race<S1, S2, R>, C> as Future>⟧.run result (RaceHolds C.holds S1.run S2.run [] result) }
+    ensures whole { AtEachOk ⟦<CollectFuture<Race<S1, S2, R>, C> as Future>⟧.run result
+        (RaceHolds C.holds S1.run S2.run [] result) }
 {
     collect(race(first, second, rng), alloc)
 }

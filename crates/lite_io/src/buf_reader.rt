@@ -1,9 +1,10 @@
 ghost use Rattle.std.specs.Prelude.{◌≡◌, ◌+◌, ◌<◌, ◌≤◌, [], Ok, length, max, IfOk, IfErr};
 ghost use Rattle.std.specs.Borrow.{Lends, sem};
-ghost use Rattle.futures.specs.Poll.{IfReady, OnPending};
-ghost use Rattle.futures.specs.Task.{Keeps, Lasting, Holds};
+ghost use Rattle.futures.specs.Poll.{IfReady};
+ghost use Rattle.futures.specs.Task.{Keeps};
 ghost use Rattle.lite_io_base.specs.Marks.{count_of, fill_marks, read_marks};
 ghost use Rattle.lite_io_base.specs.Runs.{OnlyOkLends, ReadsInto, room_in};
+ghost use Rattle.lite_base.specs.Registered.{Registered};
 
 use lite_base::{Context, Poll, ready};
 use lite_io_base::{
@@ -34,13 +35,13 @@ pub struct BufReader<R> {
 
 impl<R: Drop> BufReader<R> {
     ghost use Rattle.lite_io.specs.contracts.buf_reader.BufReader.{the_row};
-    ghost use Rattle.lite_io.specs.BufReader.{ahead, capacity_of, inner_of};
+    ghost use Rattle.lite_io.specs.BufReader.{ahead, reader_capacity, reader_inner};
 
     /// A reader with a buffer of 8192 bytes. `Err` hands `inner` back, where there was no memory for the buffer.
     pub fn new(alloc: Global, inner: R) -> Result<BufReader<R>, R>
-        ensures inner { IfOk result (λ r. inner_of r ≡ inner) }
+        ensures inner { IfOk result (λ r. reader_inner r ≡ inner) }
         ensures empty { IfOk result (λ r. ahead r ≡ []) }
-        ensures capacity { IfOk result (λ r. capacity_of r ≡ 8192) }
+        ensures capacity { IfOk result (λ r. reader_capacity r ≡ 8192) }
         ensures handed_back { IfErr result (λ r. r ≡ inner) }
     {
         BufReader::with_capacity(alloc, DEFAULT_CAPACITY, inner)
@@ -49,9 +50,9 @@ impl<R: Drop> BufReader<R> {
     /// A reader with a buffer of `capacity` bytes, with none of them used. `Err` hands `inner` back, where there was no
     /// memory for the buffer. With a capacity of 0 each read goes to `inner`, and nothing is lent.
     pub fn with_capacity(alloc: Global, capacity: usize, inner: R) -> Result<BufReader<R>, R>
-        ensures inner { IfOk result (λ r. inner_of r ≡ inner) }
+        ensures inner { IfOk result (λ r. reader_inner r ≡ inner) }
         ensures empty { IfOk result (λ r. ahead r ≡ []) }
-        ensures capacity { IfOk result (λ r. capacity_of r ≡ capacity) }
+        ensures capacity { IfOk result (λ r. reader_capacity r ≡ capacity) }
         ensures handed_back { IfErr result (λ r. r ≡ inner) }
     {
         match vec![in alloc; 0; capacity] {
@@ -67,14 +68,14 @@ impl<R: Drop> BufReader<R> {
 
     /// The inner reader.
     pub fn get_ref(&self) -> &R
-        ensures { result.now ≡ inner_of self.now }
+        ensures { result.now ≡ reader_inner self.now }
     {
         &self.inner
     }
 
     /// The inner reader, to be changed. What it reads meanwhile is not buffered.
     pub fn get_mut(&mut self) -> &mut R
-        ensures value { result.now ≡ inner_of self.old }
+        ensures value { result.now ≡ reader_inner self.old }
         ensures* writes_back { sem 𝓛 (Lends (the_row R.row) R.row self.entry result
             (λ w. record self.old { inner = w })) }
     {
@@ -83,7 +84,7 @@ impl<R: Drop> BufReader<R> {
 
     /// The inner reader. The bytes that were read ahead are lost.
     pub fn into_inner(self) -> R
-        ensures { result ≡ inner_of self }
+        ensures { result ≡ reader_inner self }
     {
         self.inner
     }
@@ -118,11 +119,11 @@ impl<R> BufReader<R> {
 }
 
 impl<R: Tale> Tale for BufReader<R> {
-    ghost use Rattle.lite_io.specs.BufReader.{Through};
+    ghost use Rattle.lite_io.specs.BufReader.{ThroughBuffer};
     ghost use Rattle.lite_io.specs.Laws.BufReader.{through_laws};
     ghost use Rattle.lite_io.specs.Laws.Known.{through_known};
 
-    ghost reads = { Through R.reads };
+    ghost reads = { ThroughBuffer R.reads };
 
     ghost read_laws = { through_laws R.read_laws };
 
@@ -139,16 +140,17 @@ impl<R: Takings> Takings for BufReader<R> {
 }
 
 impl<R: AsyncRead> BufReader<R> {
-    ghost use Rattle.lite_io.specs.BufReader.{AsksWhereEmpty, PollsOnce, Through, ahead, capacity_of, inner_of};
+    ghost use Rattle.lite_io.specs.BufReader.{AsksWhereEmpty, PollsOnce, ThroughBuffer, ahead, reader_capacity};
+    ghost use Rattle.lite_io.specs.BufReader.{reader_inner};
 
     // Reads ahead if nothing is there.
     #[tactic(auto, using(crate::proofs::Reading::fill_rules, crate::proofs::Polling::polls_rules, crate::proofs::Asking::asks_rules))]
     fn fill(&mut self, cx: &mut Context<'_>) -> Poll<io::Result<()>>
-        ensures ran { Through R.reads self.old (fill_marks result (ahead self.new)) self.new }
+        ensures ran { ThroughBuffer R.reads self.old (fill_marks result (ahead self.new)) self.new }
         ensures lends { OnlyOkLends result (ahead self.new) }
-        ensures once { PollsOnce R.reads (capacity_of self.old) self.old.inner self.new.inner }
-        ensures asks { AsksWhereEmpty R.reads (capacity_of self.old) self.old self.new }
-        ensures left { OnPending result ((fact : Lasting) → R.leaves (inner_of self.new) fact → Holds cx.new fact) }
+        ensures once { PollsOnce R.reads (reader_capacity self.old) self.old.inner self.new.inner }
+        ensures asks { AsksWhereEmpty R.reads (reader_capacity self.old) self.old self.new }
+        ensures left { Registered result (R.registers (reader_inner self.new)) cx.new }
         ensures kept { Keeps cx.old cx.new }
     {
         if self.pos < self.end {
@@ -167,7 +169,7 @@ impl<R: AsyncRead> BufReader<R> {
         ensures ahead { self.new.pos ≡ 0 }
         ensures count { self.new.end ≡ count_of result }
         ensures capacity { length self.new.buf.items ≡ length self.old.buf.items }
-        ensures left { OnPending result ((fact : Lasting) → R.leaves self.new.inner fact → Holds cx.new fact) }
+        ensures left { Registered result (R.registers self.new.inner) cx.new }
         ensures kept { Keeps cx.old cx.new }
     {
         self.pos = 0;
@@ -181,34 +183,38 @@ impl<R: AsyncRead> BufReader<R> {
 }
 
 impl<R: AsyncRead> AsyncRead for BufReader<R> {
-    ghost use Rattle.lite_io.specs.BufReader.{AsksWhereEmpty, PollsOnce, ReadsPast, Through, ahead, capacity_of, inner_of};
+    ghost use Rattle.lite_io.specs.BufReader.{AsksWhereEmpty, PollsOnce, ReadsPast, ThroughBuffer, ahead};
+    ghost use Rattle.lite_io.specs.BufReader.{reader_capacity, reader_inner};
 
-    ghost leaves = { λ r. R.leaves (inner_of r) };
+    ghost registers = { λ r. R.registers (reader_inner r) };
 
     // A call would hand its answer, which is large, through memory.
     #[inline(always)]
     #[tactic(auto, using(crate::proofs::Polling::polls_rules, crate::proofs::Asking::asks_rules))]
     fn poll_read(&mut self, cx: &mut Context<'_>, buf: &mut [u8]) -> Poll<io::Result<usize>>
         ensures bound { IfReady result (λ r. IfOk r (λ n. n ≤ length buf.new)) }
-        ensures ran { Through R.reads self.old (read_marks result buf.new) self.new }
-        ensures left { OnPending result ((fact : Lasting) → R.leaves (inner_of self.new) fact → Holds cx.new fact) }
+        ensures ran { ThroughBuffer R.reads self.old (read_marks result buf.new) self.new }
+        ensures left { Registered result (R.registers (reader_inner self.new)) cx.new }
         ensures kept { Keeps cx.old cx.new }
 
         // The inner reader is polled at most once.
-        ensures once { PollsOnce R.reads (max (capacity_of self.old) (length buf.old)) (inner_of self.old) (inner_of self.new) }
+        ensures once { PollsOnce R.reads (max (reader_capacity self.old) (length buf.old)) (reader_inner self.old)
+            (reader_inner self.new) }
 
         // With bytes ahead it is not; with none it is asked for as much as the buffer or `buf` has room for.
-        ensures asks { 0 < length buf.old → AsksWhereEmpty R.reads (max (capacity_of self.old) (length buf.old)) self.old self.new }
+        ensures asks { 0 < length buf.old
+            → AsksWhereEmpty R.reads (max (reader_capacity self.old) (length buf.old)) self.old self.new }
 
         // With none ahead, and no less room than the capacity, it reads into `buf` itself.
-        ensures past { 0 < length buf.old → ahead self.old ≡ [] → capacity_of self.old ≤ length buf.old
+        ensures past { 0 < length buf.old → ahead self.old ≡ [] → reader_capacity self.old ≤ length buf.old
             → ReadsPast R.reads self.old (read_marks result buf.new) self.new }
 
         // Without room nothing is polled.
         ensures idle { length buf.old ≡ 0 → (result ≡ Poll.Ready (Ok 0)) × (self.new ≡ self.old) }
 
         // Without a buffer the inner reader is read.
-        ensures unbuffered { capacity_of self.old ≡ 0 → R.reads (inner_of self.old) (read_marks result buf.new) (inner_of self.new) }
+        ensures unbuffered { reader_capacity self.old ≡ 0
+            → R.reads (reader_inner self.old) (read_marks result buf.new) (reader_inner self.new) }
     {
         if buf.is_empty() {
             return Poll::Ready(Ok(0));
@@ -232,25 +238,29 @@ impl<R: AsyncRead> AsyncRead for BufReader<R> {
         bufs: &mut [IoSliceMut<'_>],
     ) -> Poll<io::Result<usize>>
         ensures bound { IfReady result (λ r. IfOk r (λ n. n ≤ room_in bufs.old)) }
-        ensures ran { ReadsInto (Through R.reads) self.old result bufs.old self.new }
-        ensures left { OnPending result ((fact : Lasting) → R.leaves (inner_of self.new) fact → Holds cx.new fact) }
+        ensures ran { ReadsInto (ThroughBuffer R.reads) self.old result bufs.old self.new }
+        ensures left { Registered result (R.registers (reader_inner self.new)) cx.new }
         ensures kept { Keeps cx.old cx.new }
 
         // The inner reader is polled at most once.
-        ensures once { PollsOnce R.reads (max (capacity_of self.old) (room_in bufs.old)) (inner_of self.old) (inner_of self.new) }
+        ensures once { PollsOnce R.reads (max (reader_capacity self.old) (room_in bufs.old)) (reader_inner self.old)
+            (reader_inner self.new) }
 
         // With bytes ahead it is not; with none it is asked for as much as the buffer or `bufs` have room for.
-        ensures asks { 0 < room_in bufs.old → AsksWhereEmpty R.reads (max (capacity_of self.old) (room_in bufs.old)) self.old self.new }
+        ensures asks { 0 < room_in bufs.old
+            → AsksWhereEmpty R.reads (max (reader_capacity self.old) (room_in bufs.old)) self.old self.new }
 
         // With none ahead, and no less room than the capacity, it reads into `bufs` themselves.
-        ensures past { 0 < room_in bufs.old → ahead self.old ≡ [] → capacity_of self.old ≤ room_in bufs.old
-            → ReadsInto R.reads (inner_of self.old) result bufs.old (inner_of self.new) × (ahead self.new ≡ []) }
+        ensures past { 0 < room_in bufs.old → ahead self.old ≡ [] → reader_capacity self.old ≤ room_in bufs.old
+            → ReadsInto R.reads (reader_inner self.old) result bufs.old (reader_inner self.new)
+            × (ahead self.new ≡ []) }
 
         // Without room nothing is polled.
         ensures idle { room_in bufs.old ≡ 0 → (result ≡ Poll.Ready (Ok 0)) × (self.new ≡ self.old) }
 
         // Without a buffer the inner reader is read.
-        ensures unbuffered { capacity_of self.old ≡ 0 → ReadsInto R.reads (inner_of self.old) result bufs.old (inner_of self.new) }
+        ensures unbuffered { reader_capacity self.old ≡ 0
+            → ReadsInto R.reads (reader_inner self.old) result bufs.old (reader_inner self.new) }
     {
         let total = total_room(bufs);
         if total == 0 {
@@ -270,7 +280,7 @@ impl<R: AsyncRead> AsyncRead for BufReader<R> {
 }
 
 impl<R: AsyncRead> AsyncBufRead for BufReader<R> {
-    ghost use Rattle.lite_io.specs.BufReader.{AsksWhereEmpty, Through, ahead, capacity_of, inner_of};
+    ghost use Rattle.lite_io.specs.BufReader.{AsksWhereEmpty, ThroughBuffer, ahead, reader_capacity, reader_inner};
     ghost use Rattle.lite_io.specs.Laws.BufReader.{through_shows};
     ghost use Rattle.lite_io.specs.contracts.buf_reader.BufReader.{the_row};
     ghost use Rattle.lite_io_base.specs.Runs.{Afterwards, Fills};
@@ -280,9 +290,10 @@ impl<R: AsyncRead> AsyncBufRead for BufReader<R> {
     ghost shows = { through_shows };
 
     fn poll_fill_buf(&mut self, cx: &mut Context<'_>) -> Poll<io::Result<&[u8]>>
-        ensures* after_borrow { sem 𝓛 (Afterwards (the_row R.row) self.entry (λ new. Fills (Through R.reads) ahead self.old result new
-            × OnPending result ((fact : Lasting) → R.leaves (inner_of new) fact → Holds cx.new fact)
-            × AsksWhereEmpty R.reads (capacity_of self.old) self.old new)) }
+        ensures* after_borrow { sem 𝓛 (Afterwards (the_row R.row) self.entry
+            (λ new. Fills (ThroughBuffer R.reads) ahead self.old result new
+            × Registered result (R.registers (reader_inner new)) cx.new
+            × AsksWhereEmpty R.reads (reader_capacity self.old) self.old new)) }
         ensures kept { Keeps cx.old cx.new }
     {
         match ready!(self.fill(cx)) {
@@ -302,9 +313,9 @@ impl<R: AsyncRead> AsyncBufRead for BufReader<R> {
 }
 
 impl<R: AsyncWrite> AsyncWrite for BufReader<R> {
-    ghost use Rattle.lite_io.specs.BufReader.{inner_of};
+    ghost use Rattle.lite_io.specs.BufReader.{reader_inner};
 
-    ghost write_leaves = { λ r. R.write_leaves (inner_of r) };
+    ghost write_registers = { λ r. R.write_registers (reader_inner r) };
 
     /// Writes to the inner writer, past what is ahead.
     fn poll_write(&mut self, cx: &mut Context<'_>, buf: &[u8]) -> Poll<io::Result<usize>> {
@@ -323,12 +334,12 @@ impl<R: AsyncWrite> AsyncWrite for BufReader<R> {
 }
 
 impl<R: AsyncSeek> AsyncSeek for BufReader<R> {
-    ghost use Rattle.lite_io.specs.BufReader.{inner_of};
+    ghost use Rattle.lite_io.specs.BufReader.{reader_inner};
     ghost use Rattle.lite_io.specs.SeeksThrough.{SeeksThrough};
 
     ghost seeks = { SeeksThrough R.seeks };
 
-    ghost seek_leaves = { λ r. R.seek_leaves (inner_of r) };
+    ghost seek_registers = { λ r. R.seek_registers (reader_inner r) };
 
     /// Seeks the inner reader. The position is that of the bytes that come next, so a seek from where it is counts from
     /// there: by `offset` less the bytes that are ahead. Where that is no `i64`, it seeks back by those bytes, drops
@@ -351,13 +362,13 @@ impl<R: AsyncSeek> AsyncSeek for BufReader<R> {
 
 impl<R: AsyncSeek> BufReader<R> {
     ghost use Rattle.lite_io_base.specs.Kinds.{by_kind};
-    ghost use Rattle.lite_io.specs.BufReader.{inner_of};
+    ghost use Rattle.lite_io.specs.BufReader.{reader_inner};
     ghost use Rattle.lite_io.specs.SeeksThrough.{SeeksOnce};
 
     // Seeks the inner reader, and drops what is ahead if that succeeds.
     fn seek_once(&mut self, cx: &mut Context<'_>, pos: SeekFrom) -> Poll<io::Result<u64>>
         ensures sought { SeeksOnce R.seeks self.old pos (by_kind result) self.new }
-        ensures left { OnPending result ((fact : Lasting) → R.seek_leaves (inner_of self.new) fact → Holds cx.new fact) }
+        ensures left { Registered result (R.seek_registers (reader_inner self.new)) cx.new }
         ensures kept { Keeps cx.old cx.new }
     {
         match ready!(self.inner.poll_seek(cx, pos)) {
@@ -372,10 +383,10 @@ impl<R: AsyncSeek> BufReader<R> {
 }
 
 impl<R: CountedRead> CountedRead for BufReader<R> {
-    ghost use Rattle.lite_io.specs.BufReader.{held_ranks};
+    ghost use Rattle.lite_io.specs.BufReader.{ahead_ranks};
     ghost use Rattle.lite_io.specs.Laws.BufReader.{through_counting};
 
-    ghost ranks = { held_ranks R.ranks };
+    ghost ranks = { ahead_ranks R.ranks };
 
     ghost counting = { through_counting R.counting };
 }

@@ -1,10 +1,11 @@
 ghost use Rattle.std.specs.Prelude.{◌≡◌, ◌≤◌, Ok, length, IfOk, false};
 ghost use Rattle.std.specs.Borrow.{Lends, sem};
-ghost use Rattle.futures.specs.Poll.{IfReady, OnPending};
-ghost use Rattle.futures.specs.Task.{Keeps, Lasting, Holds};
+ghost use Rattle.futures.specs.Poll.{IfReady};
+ghost use Rattle.futures.specs.Task.{Keeps};
 ghost use Rattle.lite_io_base.specs.Marks.{fill_marks, read_marks};
 ghost use Rattle.lite_io_base.specs.Runs.{Idle, OnlyOkLends, ReadsInto, room_in};
 ghost use Rattle.lite_io_base.specs.Laws.Runs.{idle_laws};
+ghost use Rattle.lite_base.specs.Registered.{Registered};
 
 use crate::fill::fill;
 use lite_base::{Context, Poll, ready};
@@ -84,11 +85,11 @@ impl<R1, R2> Chain<R1, R2> {
 }
 
 impl<R1: Tale, R2: Tale> Tale for Chain<R1, R2> {
-    ghost use Rattle.lite_io.specs.Chain.{Chains};
+    ghost use Rattle.lite_io.specs.Chain.{ChainsReaders};
     ghost use Rattle.lite_io.specs.Laws.Chain.{chains_laws};
     ghost use Rattle.lite_io.specs.Laws.Known.{chains_known};
 
-    ghost reads = { Chains R1.reads R2.reads };
+    ghost reads = { ChainsReaders R1.reads R2.reads };
 
     ghost read_laws = { chains_laws R1.reads R2.reads R1.read_laws R2.read_laws };
 
@@ -103,16 +104,16 @@ impl<R1, R2> Takings for Chain<R1, R2> {
 }
 
 impl<R1: AsyncRead, R2: AsyncRead> AsyncRead for Chain<R1, R2> {
-    ghost use Rattle.lite_io.specs.Chain.{Chains};
-    ghost use Rattle.lite_io.specs.Chaining.{Waits};
+    ghost use Rattle.lite_io.specs.Chain.{ChainsReaders};
+    ghost use Rattle.lite_io.specs.Chaining.{ChainReadRegisters};
 
-    ghost leaves = { Waits R1.leaves R2.leaves };
+    ghost registers = { ChainReadRegisters R1.registers R2.registers };
 
     #[tactic(auto, using(crate::proofs::Crossing::crossed, crate::proofs::Ends::no_end_moved))]
     fn poll_read(&mut self, cx: &mut Context<'_>, buf: &mut [u8]) -> Poll<io::Result<usize>>
         ensures bound { IfReady result (λ r. IfOk r (λ n. n ≤ length buf.new)) }
-        ensures ran { Chains R1.reads R2.reads self.old (read_marks result buf.new) self.new }
-        ensures left { OnPending result ((fact : Lasting) → Waits R1.leaves R2.leaves self.new fact → Holds cx.new fact) }
+        ensures ran { ChainsReaders R1.reads R2.reads self.old (read_marks result buf.new) self.new }
+        ensures left { Registered result (ChainReadRegisters R1.registers R2.registers self.new) cx.new }
         ensures kept { Keeps cx.old cx.new }
 
         // Without room nothing is polled.
@@ -138,8 +139,8 @@ impl<R1: AsyncRead, R2: AsyncRead> AsyncRead for Chain<R1, R2> {
         bufs: &mut [IoSliceMut<'_>],
     ) -> Poll<io::Result<usize>>
         ensures bound { IfReady result (λ r. IfOk r (λ n. n ≤ room_in bufs.old)) }
-        ensures ran { ReadsInto (Chains R1.reads R2.reads) self.old result bufs.old self.new }
-        ensures left { OnPending result ((fact : Lasting) → Waits R1.leaves R2.leaves self.new fact → Holds cx.new fact) }
+        ensures ran { ReadsInto (ChainsReaders R1.reads R2.reads) self.old result bufs.old self.new }
+        ensures left { Registered result (ChainReadRegisters R1.registers R2.registers self.new) cx.new }
         ensures kept { Keeps cx.old cx.new }
 
         // Without room nothing is polled.
@@ -174,15 +175,16 @@ impl<R1: AsyncRead, R2: AsyncRead> AsyncRead for Chain<R1, R2> {
 }
 
 impl<R1: AsyncBufRead, R2: AsyncBufRead> Chain<R1, R2> {
-    ghost use Rattle.lite_io.specs.Chain.{Chains};
-    ghost use Rattle.lite_io.specs.Chaining.{Waits, shown};
+    ghost use Rattle.lite_io.specs.Chain.{ChainsReaders};
+    ghost use Rattle.lite_io.specs.Chaining.{ChainReadRegisters, chain_shown};
 
     // Fills the reader that is read, and goes on to the second where the first is at its end.
     #[tactic(auto, using(crate::proofs::Crossing::crossed))]
     fn fill(&mut self, cx: &mut Context<'_>) -> Poll<io::Result<()>>
-        ensures ran { Chains R1.reads R2.reads self.old (fill_marks result (shown R1.lent R2.lent self.new)) self.new }
-        ensures lends { OnlyOkLends result (shown R1.lent R2.lent self.new) }
-        ensures left { OnPending result ((fact : Lasting) → Waits R1.leaves R2.leaves self.new fact → Holds cx.new fact) }
+        ensures ran { ChainsReaders R1.reads R2.reads self.old
+            (fill_marks result (chain_shown R1.lent R2.lent self.new)) self.new }
+        ensures lends { OnlyOkLends result (chain_shown R1.lent R2.lent self.new) }
+        ensures left { Registered result (ChainReadRegisters R1.registers R2.registers self.new) cx.new }
         ensures kept { Keeps cx.old cx.new }
     {
         if !self.has_ended {
@@ -200,7 +202,7 @@ impl<R1: AsyncBufRead, R2: AsyncBufRead> Chain<R1, R2> {
     }
 
     fn show(&self) -> &[u8]
-        ensures { result.now ≡ shown R1.lent R2.lent self.now }
+        ensures { result.now ≡ chain_shown R1.lent R2.lent self.now }
     {
         if self.has_ended {
             self.second.buffer()
@@ -211,10 +213,10 @@ impl<R1: AsyncBufRead, R2: AsyncBufRead> Chain<R1, R2> {
 }
 
 impl<R1: AsyncBufRead, R2: AsyncBufRead> AsyncBufRead for Chain<R1, R2> {
-    ghost use Rattle.lite_io.specs.Chaining.{shown};
+    ghost use Rattle.lite_io.specs.Chaining.{chain_shown};
     ghost use Rattle.lite_io.specs.Laws.Chain.{chains_show};
 
-    ghost lent = { shown R1.lent R2.lent };
+    ghost lent = { chain_shown R1.lent R2.lent };
 
     ghost shows = { chains_show R1.reads R2.reads R1.lent R2.lent R1.read_laws R1.shows R2.shows };
 
@@ -240,10 +242,10 @@ impl<R1: AsyncBufRead, R2: AsyncBufRead> AsyncBufRead for Chain<R1, R2> {
 }
 
 impl<R1: CountedRead, R2: CountedRead> CountedRead for Chain<R1, R2> {
-    ghost use Rattle.lite_io.specs.Chaining.{chain_ranks};
+    ghost use Rattle.lite_io.specs.Chaining.{chain_read_ranks};
     ghost use Rattle.lite_io.specs.Laws.Chain.{chains_counting};
 
-    ghost ranks = { chain_ranks R1.ranks R2.ranks };
+    ghost ranks = { chain_read_ranks R1.ranks R2.ranks };
 
     ghost counting = { chains_counting R1.reads R2.reads R1.counting R2.counting };
 }

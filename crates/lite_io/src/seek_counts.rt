@@ -1,5 +1,5 @@
 ghost use Rattle.lite_io_base.specs.SeekKeeps.{SeekKeeps};
-ghost use Rattle.lite_io.specs.BufReader.{held_ranks};
+ghost use Rattle.lite_io.specs.BufReader.{ahead_ranks};
 ghost use Rattle.lite_io.specs.SeeksThrough.{SeeksThrough};
 
 use crate::buf_reader::BufReader;
@@ -13,6 +13,6 @@ use lite_io_base::{AsyncSeek, CountedRead};
 pub fn counts_after_seek<R: CountedRead + AsyncSeek>(_reader: &BufReader<R>)
     requires counts { SeekKeeps R.seeks R.ranks.counts }
     requires firm { SeekKeeps R.seeks R.ranks.firm }
-    ensures counts { SeekKeeps (SeeksThrough R.seeks) (held_ranks R.ranks).counts }
-    ensures firm { SeekKeeps (SeeksThrough R.seeks) (held_ranks R.ranks).firm }
+    ensures counts { SeekKeeps (SeeksThrough R.seeks) (ahead_ranks R.ranks).counts }
+    ensures firm { SeekKeeps (SeeksThrough R.seeks) (ahead_ranks R.ranks).firm }
 {}

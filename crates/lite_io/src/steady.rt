@@ -1,16 +1,16 @@
 //! The readers whose tale does not depend on when they were pending, and the writer that leaves the same bytes.
-ghost use Rattle.lite_io.specs.BufReader.{Through};
-ghost use Rattle.lite_io.specs.Chain.{Chains};
+ghost use Rattle.lite_io.specs.BufReader.{ThroughBuffer};
+ghost use Rattle.lite_io.specs.Chain.{ChainsReaders};
 ghost use Rattle.lite_io.specs.Laws.Steady.BufReader.{AheadAlike, buf_reader_steady};
 ghost use Rattle.lite_io.specs.Laws.Steady.Chain.{PlaceAlike, chain_steady};
 ghost use Rattle.lite_io.specs.Laws.Steady.Past.{past_steady};
 ghost use Rattle.lite_io.specs.Laws.Steady.Repeat.{repeat_steady};
 ghost use Rattle.lite_io.specs.Laws.Steady.Take.{LimitAlike, take_steady};
-ghost use Rattle.lite_io.specs.Repeat.{Repeats};
-ghost use Rattle.lite_io.specs.Take.{Takes};
+ghost use Rattle.lite_io.specs.Repeat.{RepeatsByte};
+ghost use Rattle.lite_io.specs.Take.{TakesMarks};
 ghost use Rattle.lite_io_base.specs.Laws.Steady.{told_steady};
-ghost use Rattle.lite_io_base.specs.Steady.{unhurried};
-ghost use Rattle.lite_io_base.specs.Told.{Told};
+ghost use Rattle.lite_io_base.specs.Steady.{strip_marks};
+ghost use Rattle.lite_io_base.specs.Told.{TellsScript};
 ghost use Rattle.std.specs.Prelude.{◌≡◌, []};
 
 use crate::{BufReader, Chain, Empty, Repeat, Take};
@@ -18,7 +18,7 @@ use lite_io_base::{SteadyRead, SteadyWrite};
 
 // Where it has some capacity: without one a fill looks like an end.
 impl<R: SteadyRead> SteadyRead for BufReader<R> {
-    ghost ample = { Through R.ample };
+    ghost ample = { ThroughBuffer R.ample };
 
     ghost needs_none = { R.needs_none };
 
@@ -37,7 +37,7 @@ impl<R: SteadyWrite> SteadyWrite for BufReader<R> {
 }
 
 impl<R1: SteadyRead, R2: SteadyRead> SteadyRead for Chain<R1, R2> {
-    ghost ample = { Chains R1.ample R2.ample };
+    ghost ample = { ChainsReaders R1.ample R2.ample };
 
     ghost needs_none = { R1.needs_none × R2.needs_none };
 
@@ -47,15 +47,15 @@ impl<R1: SteadyRead, R2: SteadyRead> SteadyRead for Chain<R1, R2> {
 }
 
 impl SteadyRead for Empty {
-    ghost ample = { λ x l y. Told [] l [] };
+    ghost ample = { λ x l y. TellsScript [] l [] };
 
-    ghost alike = { λ x y. unhurried [] ≡ unhurried [] };
+    ghost alike = { λ x y. strip_marks [] ≡ strip_marks [] };
 
     ghost steady = { told_steady (λ x. []) };
 }
 
 impl SteadyRead for Repeat {
-    ghost ample = { Repeats };
+    ghost ample = { RepeatsByte };
 
     ghost alike = { λ x y. x.byte ≡ y.byte };
 
@@ -63,7 +63,7 @@ impl SteadyRead for Repeat {
 }
 
 impl<R: SteadyRead> SteadyRead for Take<R> {
-    ghost ample = { Takes R.ample };
+    ghost ample = { TakesMarks R.ample };
 
     ghost needs_none = { R.needs_none };
 

@@ -1,7 +1,7 @@
 ghost use Rattle.std.specs.Prelude.{⊤};
-ghost use Rattle.lite_io_base.specs.Marks.{Mark};
-ghost use Rattle.lite_io_base.specs.Runs.{Runs};
+ghost use Rattle.lite_io_base.specs.Marks.{ReadMark};
 ghost use Rattle.lite_io_base.specs.Steady.{SteadyReadLaws};
+ghost use Rattle.lite_base.specs.Runs.{Runs};
 
 use crate::async_read::AsyncRead;
 
@@ -10,7 +10,7 @@ use crate::async_read::AsyncRead;
 /// The original has no such trait: it is a law, which its documentation leaves unsaid.
 pub trait SteadyRead: AsyncRead {
     /// The runs in which no memory was refused.
-    ghost ample: { Runs Mark Self };
+    ghost ample: { Runs ReadMark Self };
 
     /// That no call asks for memory; then each run is ample.
     ghost needs_none: { Type 0 } = { ⊤ };

@@ -4,16 +4,20 @@ use Rattle.futures.specs.declared.task.Poll.{Poll}
 use Rattle.lite_base.specs.Alike.{SameAnswer, SameItem, Sameness}
 use Rattle.lite_base.specs.Answers.{Answer, ComparableBy, strip}
 use Rattle.lite_base.specs.Future.Finishes.{Finishes}
+use Rattle.lite_base.specs.Runs.{Runs}
 
--- the two ran so, and where memory was found in both, or no poll asks for it, one list of answers begins the other, Pendings aside, where answers that are the same count as one
-pub record Agreed {S A : Type 0} (same : Sameness A) (run ample : S → List (Answer A) → S → Type 0) (needs_none : Type 0) (x : S) (l : List (Answer A)) (x' y : S) (m : List (Answer A)) (y' : S) : Type 0 where
+-- the two ran so, and where memory was found in both, or no poll asks for it, one list of answers begins the other,
+-- Pendings aside, where answers that are the same count as one
+pub record Agreed {S A : Type 0} (same : Sameness A) (run ample : Runs (Answer A) S) (needs_none : Type 0) (x : S)
+    (l : List (Answer A)) (x' y : S) (m : List (Answer A)) (y' : S) : Type 0 where
   pub first : run x l x'
   pub second : run y m y'
   pub found : ample x l x' → ample y m y' → ComparableBy (SameAnswer same) (strip l) (strip m)
   pub always : needs_none → ComparableBy (SameAnswer same) (strip l) (strip m)
 
 -- the two finished with these values, and where memory was found in both, or no poll asks for it, they are the same
-pub record OneValue {F A : Type 0} (same : Sameness A) (run ample : F → List (Poll A) → F → Type 0) (needs_none : Type 0) (x : F) (v : A) (y : F) (w : A) : Type 0 where
+pub record OneValue {F A : Type 0} (same : Sameness A) (run ample : Runs (Poll A) F) (needs_none : Type 0) (x : F)
+    (v : A) (y : F) (w : A) : Type 0 where
   pub ins : List (Poll A)
   pub others : List (Poll A)
   pub first : Finishes run x ins v

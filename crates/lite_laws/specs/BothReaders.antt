@@ -3,29 +3,33 @@ use Rattle.std.specs.Prelude.{◌≡◌, ◌++◌, ℕ, List, Result, Ok, Err, �
 use Rattle.std.specs.IoError.{error_kind}
 use Rattle.std.specs.declared.io.Error.{Error}
 use Rattle.std.specs.declared.io.ErrorKind.TheVariants.{OutOfMemory}
-use Rattle.lite_io_base.specs.Marks.{Mark, bytes}
-use Rattle.lite_io_base.specs.Runs.{Runs}
-use Rattle.lite_io_base.specs.Steady.{unhurried}
+use Rattle.lite_io_base.specs.Marks.{ReadMark, bytes}
+use Rattle.lite_io_base.specs.Steady.{strip_marks}
 use Rattle.lite_read.specs.ReadToEnd.{Appended}
-use Rattle.lite_read.specs.Settling.{SameByKind}
+use Rattle.lite_read.specs.Deterministic.{SameByKind}
+use Rattle.lite_base.specs.Runs.{Runs}
 
--- pendings aside, the reader told these bytes, and then the end or the error of which the value comes; or the value is a refusal of memory, where one may come
-pub record ReadsUp {R : Type 0} (may_refuse : Type 0) (reads : Runs Mark R) (x : R) (xs : List ℕ) (v : Result ℕ Error) (x' : R) : Type 0 where
-  pub told : List Mark
-  pub last : List Mark
+-- pendings aside, the reader told these bytes, and then the end or the error of which the value comes; or the value is
+-- a refusal of memory, where one may come
+pub record ReadsUp {R : Type 0} (may_refuse : Type 0) (reads : Runs ReadMark R) (x : R) (xs : List ℕ)
+    (v : Result ℕ Error) (x' : R) : Type 0 where
+  pub told : List ReadMark
+  pub last : List ReadMark
   pub came : reads x told x'
-  pub cut : unhurried told ≡ bytes xs ++ last
+  pub cut : strip_marks told ≡ bytes xs ++ last
   pub value : Appended may_refuse 0 xs last v
 
--- no refusal of memory
-abbrev pub NotRefused : Result ℕ Error → Type 0
-NotRefused (Ok n) = ⊤
-NotRefused (Err e) = error_kind e ≡ OutOfMemory → ⊥
+-- the value is no refusal of memory, of a future that reads
+abbrev pub HasReadMemory : Result ℕ Error → Type 0
+HasReadMemory (Ok n) = ⊤
+HasReadMemory (Err e) = error_kind e ≡ OutOfMemory → ⊥
 
--- the two were read so; where memory was found in both, or the readers ask for none and neither value is a refusal, they gave one value and the same bytes
-pub record BothRead {R : Type 0} (reads ample : Runs Mark R) (needs_none : Type 0) (x : R) (xs : List ℕ) (v : Result ℕ Error) (x' : R)
+-- the two were read so; where memory was found in both, or the readers ask for none and neither value is a refusal,
+-- they gave one value and the same bytes
+pub record BothRead {R : Type 0} (reads ample : Runs ReadMark R) (needs_none : Type 0) (x : R) (xs : List ℕ)
+    (v : Result ℕ Error) (x' : R)
     (y : R) (ys : List ℕ) (w : Result ℕ Error) (y' : R) : Type 0 where
   pub first : ReadsUp ⊤ reads x xs v x'
   pub second : ReadsUp ⊤ reads y ys w y'
   pub found : ReadsUp ⊥ ample x xs v x' → ReadsUp ⊥ ample y ys w y' → SameByKind v w × (xs ≡ ys)
-  pub always : needs_none → NotRefused v → NotRefused w → SameByKind v w × (xs ≡ ys)
+  pub always : needs_none → HasReadMemory v → HasReadMemory w → SameByKind v w × (xs ≡ ys)

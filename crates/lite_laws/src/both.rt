@@ -28,11 +28,15 @@ pub fn run_both<S: SteadyStream>(
     requires first { S.can_poll x.old }
     requires second { S.can_poll y.old }
     requires alike { S.alike x.old y.old }
-    ensures agree { (l m : List (Answer S.Item)) × (out.new.items ≡ out.old.items ++ l) × (out_more.new.items ≡ out_more.old.items ++ m)
-        × Agreed S.same S.run S.ample S.needs_none x.old l x.new y.old m y.new × IfOk result (λ _. (length l ≡ polls) × (length m ≡ more))
-        × IfWaits l (HoldsEach (S.leaves x.new) cx.new) × IfWaits m (HoldsEach (S.leaves y.new) cx.new)
+    ensures agree { (l m : List (Answer S.Item)) × (out.new.items ≡ out.old.items ++ l)
+        × (out_more.new.items ≡ out_more.old.items ++ m)
+        × Agreed S.same S.run S.ample S.needs_none x.old l x.new y.old m y.new
+        × IfOk result (λ _. (length l ≡ polls) × (length m ≡ more))
+        × IfWaits l (HoldsEach (S.registers x.new) cx.new) × IfWaits m (HoldsEach (S.registers y.new) cx.new)
         × IfErr result (λ _. Fewer l m polls more) }
-    ensures full { IfErr result (λ _. (vec_capacity out.old < vec_len out.old + polls) ⊎ (vec_capacity out_more.old < vec_len out_more.old + more)) }
+    ensures full { IfErr result
+        (λ _. (vec_capacity out.old < vec_len out.old + polls)
+        ⊎ (vec_capacity out_more.old < vec_len out_more.old + more)) }
     ensures again { S.can_poll x.new × S.can_poll y.new }
     ensures kept { Keeps cx.old cx.new }
 {

@@ -49,7 +49,8 @@ fn read_up<R: Wait, T: CountedRead>(
     out: &mut Vec<u8>,
 ) -> Result<io::Result<usize>, AllocError>
     requires { T.ranks.counts reader.old }
-    ensures read { (xs : List ℕ) × (out.new.items ≡ out.old.items ++ xs) × IfOk result (λ v. ReadsUp ⊤ T.reads reader.old xs v reader.new)
+    ensures read { (xs : List ℕ) × (out.new.items ≡ out.old.items ++ xs)
+        × IfOk result (λ v. ReadsUp ⊤ T.reads reader.old xs v reader.new)
         × IfErr result (λ _. (xs ≡ []) × (reader.new ≡ reader.old)) }
     ensures again { T.ranks.counts reader.new }
 {

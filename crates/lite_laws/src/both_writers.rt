@@ -1,5 +1,5 @@
-ghost use Rattle.std.specs.Prelude.{◌≡◌, [], ℕ, List, IfOk};
-ghost use Rattle.lite_io_base.specs.Takings.{Taking, bytes_of};
+ghost use Rattle.std.specs.Prelude.{◌≡◌, [], List, IfOk};
+ghost use Rattle.lite_io_base.specs.Takings.{WriteMark, bytes_taken};
 ghost use Rattle.lite_laws.specs.BothWriters.{BothWritten, FlushedUp, HandedUp, TakesFront, WrittenUp};
 
 use lite_base::future::block_on::BlockOn;
@@ -27,7 +27,8 @@ where
     R: Wait + RandomSource + AllocGlobal,
     T: SteadyWrite,
     requires alike { T.alike x.old y.old }
-    ensures { (took more : List Taking) × TakesFront T.writes x.old bytes.now took x.new × TakesFront T.writes y.old bytes.now more y.new
+    ensures { (took more : List WriteMark) × TakesFront T.writes x.old bytes.now took x.new
+        × TakesFront T.writes y.old bytes.now more y.new
         × IfOk result (λ values. BothWritten T.alike T.below bytes.now took values.0 x.new more values.1 y.new) }
 {
     let mut on = BlockOn::new(rt)?;
@@ -43,7 +44,8 @@ fn write_up<R: Wait, T: AsyncWrite>(
     writer: &mut T,
     bytes: &[u8],
 ) -> Result<io::Result<()>, AllocError>
-    ensures { (took : List Taking) × TakesFront T.writes writer.old bytes.now took writer.new × IfOk result (λ v. WrittenUp bytes.now took v) }
+    ensures { (took : List WriteMark) × TakesFront T.writes writer.old bytes.now took writer.new
+        × IfOk result (λ v. WrittenUp bytes.now took v) }
 {
     match hand_up(on, rt, writer, bytes)? {
         Ok(()) => flush_up(on, rt, writer),
@@ -58,7 +60,8 @@ fn hand_up<R: Wait, T: AsyncWrite>(
     writer: &mut T,
     bytes: &[u8],
 ) -> Result<io::Result<()>, AllocError>
-    ensures { (took : List Taking) × TakesFront T.writes writer.old bytes.now took writer.new × IfOk result (λ v. HandedUp bytes.now took v) }
+    ensures { (took : List WriteMark) × TakesFront T.writes writer.old bytes.now took writer.new
+        × IfOk result (λ v. HandedUp bytes.now took v) }
 {
     on.wait_for(rt, &mut write_all(writer, bytes))
 }
@@ -69,7 +72,8 @@ fn flush_up<R: Wait, T: AsyncWrite>(
     rt: &R,
     writer: &mut T,
 ) -> Result<io::Result<()>, AllocError>
-    ensures { (took : List Taking) × T.writes writer.old took writer.new × (bytes_of took ≡ []) × IfOk result (λ v. FlushedUp took v) }
+    ensures { (took : List WriteMark) × T.writes writer.old took writer.new × (bytes_taken took ≡ [])
+        × IfOk result (λ v. FlushedUp took v) }
 {
     on.wait_for(rt, &mut flush(writer))
 }

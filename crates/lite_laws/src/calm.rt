@@ -1,7 +1,7 @@
 ghost use Rattle.std.specs.Prelude.{◌≡◌, ◌+◌, ◌<◌, ◌++◌, List, length, vec_capacity, vec_len, IfOk, IfErr};
 ghost use Rattle.futures.specs.Task.{Keeps};
 ghost use Rattle.lite_base.specs.Answers.{Answer};
-ghost use Rattle.lite_base.specs.Calm.{Prompt};
+ghost use Rattle.lite_base.specs.Calm.{NoPending};
 
 use crate::polls::run;
 use lite_base::{CalmStream, Context, Poll};
@@ -18,7 +18,7 @@ pub fn run_calm<S: CalmStream>(
 ) -> Result<(), AllocError>
     requires can { S.can_poll s.old }
     requires calm { S.is_calm s.old }
-    ensures prompt { (l : List (Answer S.Item)) × (out.new.items ≡ out.old.items ++ l) × S.run s.old l s.new × Prompt l
+    ensures no_pending { (l : List (Answer S.Item)) × (out.new.items ≡ out.old.items ++ l) × S.run s.old l s.new × NoPending l
         × IfOk result (λ _. length l ≡ polls) × IfErr result (λ _. length l < polls) }
     ensures full { IfErr result (λ _. vec_capacity out.old < vec_len out.old + polls) }
     ensures again { S.can_poll s.new × S.is_calm s.new }

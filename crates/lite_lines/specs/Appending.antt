@@ -6,8 +6,8 @@ use Rattle.lite_lines.specs.declared.read_until.ReadUntilFuture.{ReadUntilFuture
 abbrev pub read_of : {R : Type 0} → ReadUntilFuture R → List ℕ
 read_of x = drop x.start x.buf.now.items
 
--- both references stay, and so do the delimiter and what stood in the vector before
-pub record Stays {R : Type 0} (x y : ReadUntilFuture R) : Type 0 where
+-- both references of `read_until` stay, and so do the delimiter and what stood in the vector before
+pub record UntilStays {R : Type 0} (x y : ReadUntilFuture R) : Type 0 where
   pub reader : y.reader ≡ record x.reader { now = y.reader.now }
   pub buf : y.buf ≡ record x.buf { now = y.buf.now }
   pub byte : y.byte ≡ x.byte

@@ -3,4 +3,4 @@ pub mod Counting
 pub mod Marks
 pub mod ReadUntil
 pub mod Segments
-pub mod Settling
+pub mod Deterministic

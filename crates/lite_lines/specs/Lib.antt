@@ -8,4 +8,4 @@ pub mod ReadUntil
 pub mod Segments
 pub mod Split
 pub mod Texts
-pub mod Turns
+pub mod PollSteps

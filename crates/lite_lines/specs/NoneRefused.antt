@@ -10,5 +10,6 @@ use Rattle.lite_base.specs.Answers.{Answer, item}
 abbrev pub NotRefused : {A : Type 0} → Answer (Result A Error) → Type 0
 NotRefused a = (e : Error) → a ≡ item (Err e) → error_kind e ≢ OutOfMemory
 
+-- no answer of the list is a refusal
 abbrev pub NoneRefused : {A : Type 0} → List (Answer (Result A Error)) → Type 0
 NoneRefused = AllByRecursion NotRefused

@@ -4,11 +4,11 @@ use Rattle.std.proofs.Common.{Global}
 use Rattle.std.specs.declared.io.Error.{Error}
 use Rattle.std.specs.declared.vec.Vec.{Vec}
 use Rattle.lite_base.specs.Answers.{Answer}
-use Rattle.lite_io_base.specs.Marks.{Mark}
-use Rattle.lite_io_base.specs.Runs.{Runs}
-use Rattle.lite_read.specs.Gathering.{Gather}
+use Rattle.lite_base.specs.Runs.{Runs}
+use Rattle.lite_io_base.specs.Marks.{ReadMark}
+use Rattle.lite_read.specs.ReadFold.{ReadFold}
 use Rattle.lite_lines.specs.Pieces.{Itemised, pieces}
-use Rattle.lite_lines.specs.Segments.{Flows, Over}
+use Rattle.lite_lines.specs.Segments.{Flows, StreamOver}
 use Rattle.lite_lines.specs.declared.split.Split.{Split}
 
 -- the item is a vector of these bytes
@@ -16,12 +16,15 @@ abbrev pub IsVec : List ℕ → Result (Vec ℕ Global) Error → Type 0
 IsVec xs (Ok v) = v.items ≡ xs
 IsVec xs (Err e) = ⊥
 
-abbrev pub splitting : Type 0 → ℕ → Gather (List ℕ) (Option (Result (Vec ℕ Global) Error))
+-- bytes are taken in up to the delimiter, and become a vector without it
+abbrev pub splitting : Type 0 → ℕ → ReadFold (List ℕ) (Option (Result (Vec ℕ Global) Error))
 splitting may_refuse byte = pieces byte may_refuse (Itemised IsVec IsVec)
 
-abbrev pub split_over : {R : Type 0} → Over (Split R) R (List ℕ) ℕ
+-- a `split` holds bytes, and keeps its delimiter
+abbrev pub split_over : {R : Type 0} → StreamOver (Split R) R (List ℕ) ℕ
 split_over = record { reader = λ x. x.reader; held = λ x. x.held.items; kept = λ x. x.byte }
 
-module _ {R : Type 0} (reads : Runs Mark R) (may_refuse : Type 0) where
-  abbrev pub Splits : Split R → List (Answer (Result (Vec ℕ Global) Error)) → Split R → Type 0
+module _ {R : Type 0} (reads : Runs ReadMark R) (may_refuse : Type 0) where
+  -- the reader's marks, cut into pieces
+  abbrev pub Splits : Runs (Answer (Result (Vec ℕ Global) Error)) (Split R)
   Splits = Flows split_over (splitting may_refuse) reads

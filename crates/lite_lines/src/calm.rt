@@ -1,6 +1,6 @@
 //! The streams and the future that are never pending where their reader isn't.
 ghost use Rattle.lite_lines.specs.Laws.Marks.{until_calm};
-ghost use Rattle.lite_lines.specs.Laws.Settling.{flow_calm};
+ghost use Rattle.lite_lines.specs.Laws.Deterministic.{flow_calm};
 ghost use Rattle.lite_lines.specs.Lines.{lines_over, lining};
 ghost use Rattle.lite_lines.specs.Split.{split_over, splitting};
 ghost use Rattle.std.specs.Prelude.{⊤};

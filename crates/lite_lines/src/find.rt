@@ -2,11 +2,12 @@
 ghost use Rattle.std.specs.Prelude.{◌≡◌, ◌+◌, ◌<◌, ◌^◌, IfOk, IfSome};
 ghost use Rattle.std.specs.Char.{is_ascii};
 ghost use Rattle.std.specs.List.{list_all};
-ghost use Rattle.futures.specs.Poll.{IfReady, OnPending};
-ghost use Rattle.futures.specs.Task.{Keeps, Lasting, Holds};
+ghost use Rattle.futures.specs.Poll.{IfReady};
+ghost use Rattle.futures.specs.Task.{Keeps};
 ghost use Rattle.lite_io_base.specs.Marks.{fill_marks};
 ghost use Rattle.lite_lines.specs.Find.{up_to};
 ghost use Rattle.memchr.specs.Find.{IsFirstByte, is_byte};
+ghost use Rattle.lite_base.specs.Registered.{Registered};
 
 use lite_base::{Context, Poll};
 use lite_io_base::AsyncBufRead;
@@ -25,7 +26,7 @@ pub(crate) fn find_byte<R: AsyncBufRead>(
     ensures ran { R.reads reader.old (fill_marks result (R.lent reader.new)) reader.new }
     ensures found { IfReady result (λ r. IfOk r (λ at. IsFirstByte (is_byte byte) (R.lent reader.new) at)) }
     ensures fits { IfReady result (λ r. IfOk r (λ at. IfSome at (λ k. k + 1 < 2 ^ 64))) }
-    ensures left { OnPending result ((fact : Lasting) → R.leaves reader.new fact → Holds cx.new fact) }
+    ensures left { Registered result (R.registers reader.new) cx.new }
     ensures kept { Keeps cx.old cx.new }
 {
     match reader.poll_fill_buf(cx) {
@@ -46,7 +47,7 @@ pub fn find_line<R: AsyncBufRead>(
     ensures found { IfReady result (λ r. IfOk r (λ line. IsFirstByte (is_byte 10) (R.lent reader.new) line.0)) }
     ensures fits { IfReady result (λ r. IfOk r (λ line. IfSome line.0 (λ k. k + 1 < 2 ^ 64))) }
     ensures ascii { IfReady result (λ r. IfOk r (λ line. line.1 ≡ list_all is_ascii (up_to line.0 (R.lent reader.new)))) }
-    ensures left { OnPending result ((fact : Lasting) → R.leaves reader.new fact → Holds cx.new fact) }
+    ensures left { Registered result (R.registers reader.new) cx.new }
     ensures kept { Keeps cx.old cx.new }
 {
     match reader.poll_fill_buf(cx) {

@@ -3,17 +3,18 @@ ghost use Rattle.std.specs.Char.{is_ascii};
 ghost use Rattle.std.specs.IoError.{error_kind};
 ghost use Rattle.std.specs.List.{list_all};
 ghost use Rattle.std.specs.declared.io.ErrorKind.TheVariants.{OutOfMemory};
-ghost use Rattle.lite_base.specs.Chain.{OneTurn};
-ghost use Rattle.lite_base.specs.Ends.{Ends-map};
+ghost use Rattle.lite_base.specs.Chain.{OneStep};
+ghost use Rattle.lite_base.specs.Ends.{Terminates-map};
+ghost use Rattle.lite_base.specs.Runs.{NoHint};
 ghost use Rattle.lite_io_base.specs.Marks.{bytes};
-ghost use Rattle.lite_read.specs.Laws.Turns.{takes_given};
+ghost use Rattle.lite_read.specs.Laws.PollSteps.{takes_given};
 ghost use Rattle.lite_lines.specs.Laws.Segments.{flow_laws};
 ghost use Rattle.lite_lines.specs.Lines.{GivesLines, lines_over, lining};
-ghost use Rattle.lite_lines.specs.Turns.{TakesIn};
+ghost use Rattle.lite_lines.specs.PollSteps.{TakesPieceIn};
 
 use crate::find::find_line;
 use crate::text::LineBytes;
-use lite_base::{Context, Poll, Stream, Turns, drive};
+use lite_base::{Context, Poll, PollSteps, Stream, drive};
 use lite_io_base::{AsyncBufRead, CountedRead};
 use std::alloc::Global;
 use std::io;
@@ -38,8 +39,10 @@ impl<R: AsyncBufRead> Lines<R> {
     fn take_line(&mut self, at: usize, ascii: bool) -> io::Result<()>
         requires within { at < length (R.lent self.old.reader) }
         requires ascii { ascii ≡ list_all is_ascii (take at (R.lent self.old.reader)) }
-        ensures ok { IfOk result (λ u. self.new.held.bytes.items ≡ self.old.held.bytes.items ++ take at (R.lent self.old.reader)) }
-        ensures taken { IfOk result (λ u. R.reads self.old.reader (bytes (take (at + 1) (R.lent self.old.reader))) self.new.reader) }
+        ensures ok { IfOk result
+            (λ u. self.new.held.bytes.items ≡ self.old.held.bytes.items ++ take at (R.lent self.old.reader)) }
+        ensures taken { IfOk result
+            (λ u. R.reads self.old.reader (bytes (take (at + 1) (R.lent self.old.reader))) self.new.reader) }
         ensures refused { IfErr result (λ e. error_kind e ≡ OutOfMemory) }
         ensures unread { IfErr result (λ e. self.new.reader ≡ self.old.reader) }
         ensures held { IfErr result (λ e. self.new.held.bytes.items ≡ self.old.held.bytes.items) }
@@ -53,7 +56,8 @@ impl<R: AsyncBufRead> Lines<R> {
     // Takes in all bytes that are there.
     fn take_in(&mut self, ascii: bool) -> io::Result<()>
         requires { ascii ≡ list_all is_ascii (R.lent self.old.reader) }
-        ensures ok { IfOk result (λ u. self.new.held.bytes.items ≡ self.old.held.bytes.items ++ R.lent self.old.reader) }
+        ensures ok { IfOk result
+            (λ u. self.new.held.bytes.items ≡ self.old.held.bytes.items ++ R.lent self.old.reader) }
         ensures taken { IfOk result (λ u. R.reads self.old.reader (bytes (R.lent self.old.reader)) self.new.reader) }
         ensures refused { IfErr result (λ e. error_kind e ≡ OutOfMemory) }
         ensures unread { IfErr result (λ e. self.new.reader ≡ self.old.reader) }
@@ -67,20 +71,20 @@ impl<R: AsyncBufRead> Lines<R> {
     }
 }
 
-impl<R: AsyncBufRead + CountedRead> Turns for Lines<R> {
+impl<R: AsyncBufRead + CountedRead> PollSteps for Lines<R> {
     type Output = Option<io::Result<String>>;
 
-    ghost can_turn = { λ x. R.ranks.counts x.reader };
+    ghost can_step = { λ x. R.ranks.counts x.reader };
 
-    ghost turn = { OneTurn (TakesIn lines_over (lining ⊤) R.reads) (λ x a y. GivesLines R.reads ⊤ x (a ∷ []) y) };
+    ghost step = { OneStep (TakesPieceIn lines_over (lining ⊤) R.reads) (λ x a y. GivesLines R.reads ⊤ x (a ∷ []) y) };
 
-    ghost turn_leaves = { λ x. R.leaves x.reader };
+    ghost step_registers = { λ x. R.registers x.reader };
 
     ghost goes_on = { λ x y c h. R.counting.counts_on x.reader y.reader (bytes h.taken) c h.came };
 
-    ghost finite = { λ x c. Ends-map (λ y. y.reader) takes_given x (R.ends x.reader c) };
+    ghost finite = { λ x c. Terminates-map (λ y. y.reader) takes_given x (R.ends x.reader c) };
 
-    fn turn_once(&mut self, cx: &mut Context<'_>) -> Option<Poll<Option<io::Result<String>>>> {
+    fn poll_step(&mut self, cx: &mut Context<'_>) -> Option<Poll<Option<io::Result<String>>>> {
         match find_line(&mut self.reader, cx) {
             Poll::Ready(Ok((Some(at), ascii))) => match self.take_line(at, ascii) {
                 Ok(()) => Some(Poll::Ready(Some(self.held.whole(self.alloc)))),
@@ -108,9 +112,9 @@ impl<R: AsyncBufRead + CountedRead> Stream for Lines<R> {
 
     ghost run = { GivesLines R.reads ⊤ };
 
-    ghost leaves = { λ x. R.leaves x.reader };
+    ghost registers = { λ x. R.registers x.reader };
 
-    ghost hints = { λ x hint. hint ≡ (0, None) };
+    ghost hints = { NoHint };
 
     ghost laws = { flow_laws lines_over (lining ⊤) R.read_laws };
 

@@ -1,15 +1,15 @@
-ghost use Rattle.std.specs.Prelude.{⊤, ◌≡◌, ◌≤◌, [], ◌∷◌, length};
-ghost use Rattle.lite_base.specs.Chain.{OneTurn};
-ghost use Rattle.lite_base.specs.Ends.{Ends-map};
+ghost use Rattle.std.specs.Prelude.{⊤, ◌≤◌, [], ◌∷◌, length};
+ghost use Rattle.lite_base.specs.Chain.{OneStep};
+ghost use Rattle.lite_base.specs.Ends.{Terminates-map};
 ghost use Rattle.lite_io_base.specs.Marks.{bytes};
-ghost use Rattle.lite_read.specs.Laws.Turns.{takes_given};
+ghost use Rattle.lite_read.specs.Laws.PollSteps.{takes_given};
 ghost use Rattle.lite_lines.specs.Laws.ReadUntil.{stays_within, until_laws};
 ghost use Rattle.lite_lines.specs.ReadUntil.{ReadsUntil};
-ghost use Rattle.lite_lines.specs.Turns.{AppendsMore};
+ghost use Rattle.lite_lines.specs.PollSteps.{AppendsMore};
 
 use crate::append::append;
 use crate::find::find_byte;
-use lite_base::{Context, Future, Poll, Turns, drive};
+use lite_base::{Context, Future, Poll, PollSteps, drive};
 use lite_io_base::{AsyncBufRead, CountedRead};
 use std::io;
 
@@ -28,20 +28,21 @@ pub struct ReadUntilFuture<'a, R> {
     pub(crate) start: usize,
 }
 
-impl<R: AsyncBufRead + CountedRead> Turns for ReadUntilFuture<'_, R> {
+impl<R: AsyncBufRead + CountedRead> PollSteps for ReadUntilFuture<'_, R> {
     type Output = io::Result<usize>;
 
-    ghost can_turn = { λ x. R.ranks.counts x.reader.now × (x.start ≤ length x.buf.now.items) };
+    ghost can_step = { λ x. R.ranks.counts x.reader.now × (x.start ≤ length x.buf.now.items) };
 
-    ghost turn = { OneTurn (AppendsMore R.reads ⊤) (λ x a y. ReadsUntil R.reads ⊤ x (a ∷ []) y) };
+    ghost step = { OneStep (AppendsMore R.reads ⊤) (λ x a y. ReadsUntil R.reads ⊤ x (a ∷ []) y) };
 
-    ghost turn_leaves = { λ x. R.leaves x.reader.now };
+    ghost step_registers = { λ x. R.registers x.reader.now };
 
-    ghost goes_on = { λ x y c h. (R.counting.counts_on x.reader.now y.reader.now (bytes h.taken) c.0 h.came, stays_within x y h.stays c.1) };
+    ghost goes_on = { λ x y c h.
+        (R.counting.counts_on x.reader.now y.reader.now (bytes h.taken) c.0 h.came, stays_within x y h.stays c.1) };
 
-    ghost finite = { λ x c. Ends-map (λ y. y.reader.now) takes_given x (R.ends x.reader.now c.0) };
+    ghost finite = { λ x c. Terminates-map (λ y. y.reader.now) takes_given x (R.ends x.reader.now c.0) };
 
-    fn turn_once(&mut self, cx: &mut Context<'_>) -> Option<Poll<io::Result<usize>>> {
+    fn poll_step(&mut self, cx: &mut Context<'_>) -> Option<Poll<io::Result<usize>>> {
         match find_byte(self.reader, cx, self.byte) {
             Poll::Ready(Ok(Some(at))) => match append(self.reader, at + 1, self.buf) {
                 Ok(()) => Some(Poll::Ready(Ok(self.buf.len() - self.start))),
@@ -70,7 +71,7 @@ impl<R: AsyncBufRead + CountedRead> Future for ReadUntilFuture<'_, R> {
 
     ghost run = { ReadsUntil R.reads ⊤ };
 
-    ghost leaves = { λ x. R.leaves x.reader.now };
+    ghost registers = { λ x. R.registers x.reader.now };
 
     ghost laws = { until_laws ⊤ R.read_laws };
 

@@ -1,17 +1,18 @@
-ghost use Rattle.std.specs.Prelude.{⊤, ◌≡◌, ◌≤◌, ◌<◌, ◌++◌, ◌+◌, ℕ, Option, None, [], ◌∷◌, length, take, IfErr, IfOk};
+ghost use Rattle.std.specs.Prelude.{⊤, ◌≡◌, ◌≤◌, ◌<◌, ◌++◌, ◌+◌, Option, None, [], ◌∷◌, length, take, IfErr, IfOk};
 ghost use Rattle.std.specs.IoError.{error_kind};
 ghost use Rattle.std.specs.declared.io.ErrorKind.TheVariants.{OutOfMemory};
-ghost use Rattle.lite_base.specs.Chain.{OneTurn};
-ghost use Rattle.lite_base.specs.Ends.{Ends-map};
+ghost use Rattle.lite_base.specs.Chain.{OneStep};
+ghost use Rattle.lite_base.specs.Ends.{Terminates-map};
+ghost use Rattle.lite_base.specs.Runs.{NoHint};
 ghost use Rattle.lite_io_base.specs.Marks.{bytes};
-ghost use Rattle.lite_read.specs.Laws.Turns.{takes_given};
+ghost use Rattle.lite_read.specs.Laws.PollSteps.{takes_given};
 ghost use Rattle.lite_lines.specs.Laws.Segments.{flow_laws};
 ghost use Rattle.lite_lines.specs.Pieces.{AtEnd};
 ghost use Rattle.lite_lines.specs.Split.{IsVec, Splits, split_over, splitting};
-ghost use Rattle.lite_lines.specs.Turns.{TakesIn};
+ghost use Rattle.lite_lines.specs.PollSteps.{TakesPieceIn};
 
 use crate::find::find_byte;
-use lite_base::{Context, Poll, Stream, Turns, drive};
+use lite_base::{Context, Poll, PollSteps, Stream, drive};
 use lite_io_base::{AsyncBufRead, CountedRead};
 use std::alloc::Global;
 use std::{io, mem};
@@ -35,8 +36,11 @@ impl<R: AsyncBufRead> Split<R> {
     fn cut(&mut self, at: usize) -> io::Result<Vec<u8>>
         requires { at < length (R.lent self.old.reader) }
         ensures ok { IfOk result (λ v. IsVec (self.old.held.items ++ take at (R.lent self.old.reader)) result
-            × R.reads self.old.reader (bytes (take (at + 1) (R.lent self.old.reader))) self.new.reader × (self.new.held.items ≡ [])) }
-        ensures err { IfErr result (λ e. (error_kind e ≡ OutOfMemory) × (self.new.reader ≡ self.old.reader) × (self.new.held.items ≡ self.old.held.items)) }
+            × R.reads self.old.reader (bytes (take (at + 1) (R.lent self.old.reader))) self.new.reader
+            × (self.new.held.items ≡ [])) }
+        ensures err { IfErr result
+            (λ e. (error_kind e ≡ OutOfMemory) × (self.new.reader ≡ self.old.reader)
+            × (self.new.held.items ≡ self.old.held.items)) }
         ensures byte { self.new.byte ≡ self.old.byte }
     {
         self.held.reserve_exact(at)?;
@@ -76,20 +80,20 @@ impl<R: AsyncBufRead> Split<R> {
     }
 }
 
-impl<R: AsyncBufRead + CountedRead> Turns for Split<R> {
+impl<R: AsyncBufRead + CountedRead> PollSteps for Split<R> {
     type Output = Option<io::Result<Vec<u8>>>;
 
-    ghost can_turn = { λ x. R.ranks.counts x.reader };
+    ghost can_step = { λ x. R.ranks.counts x.reader };
 
-    ghost turn = { OneTurn (TakesIn split_over (splitting ⊤) R.reads) (λ x a y. Splits R.reads ⊤ x (a ∷ []) y) };
+    ghost step = { OneStep (TakesPieceIn split_over (splitting ⊤) R.reads) (λ x a y. Splits R.reads ⊤ x (a ∷ []) y) };
 
-    ghost turn_leaves = { λ x. R.leaves x.reader };
+    ghost step_registers = { λ x. R.registers x.reader };
 
     ghost goes_on = { λ x y c h. R.counting.counts_on x.reader y.reader (bytes h.taken) c h.came };
 
-    ghost finite = { λ x c. Ends-map (λ y. y.reader) takes_given x (R.ends x.reader c) };
+    ghost finite = { λ x c. Terminates-map (λ y. y.reader) takes_given x (R.ends x.reader c) };
 
-    fn turn_once(&mut self, cx: &mut Context<'_>) -> Option<Poll<Option<io::Result<Vec<u8>>>>> {
+    fn poll_step(&mut self, cx: &mut Context<'_>) -> Option<Poll<Option<io::Result<Vec<u8>>>>> {
         match find_byte(&mut self.reader, cx, self.byte) {
             Poll::Ready(Ok(Some(at))) => Some(Poll::Ready(Some(self.cut(at)))),
             Poll::Ready(Ok(None)) => {
@@ -114,9 +118,9 @@ impl<R: AsyncBufRead + CountedRead> Stream for Split<R> {
 
     ghost run = { Splits R.reads ⊤ };
 
-    ghost leaves = { λ x. R.leaves x.reader };
+    ghost registers = { λ x. R.registers x.reader };
 
-    ghost hints = { λ x hint. hint ≡ (0, None) };
+    ghost hints = { NoHint };
 
     ghost laws = { flow_laws split_over (splitting ⊤) R.read_laws };
 

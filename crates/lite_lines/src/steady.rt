@@ -1,11 +1,11 @@
 //! The streams and the future that do not depend on when their reader was pending, where memory was found.
 ghost use Rattle.lite_base.specs.Alike.{Sameness};
 ghost use Rattle.lite_lines.specs.Laws.Marks.{SameText, SameVec, UntilAlike, line_one, text_one, until_steady, vec_one};
-ghost use Rattle.lite_lines.specs.Laws.Settling.{FlowAlike, flow_steady, items_settle};
+ghost use Rattle.lite_lines.specs.Laws.Deterministic.{FlowAlike, flow_steady, items_deterministic};
 ghost use Rattle.lite_lines.specs.Lines.{GivesLines, lines_over, lining};
 ghost use Rattle.lite_lines.specs.ReadUntil.{ReadsUntil};
 ghost use Rattle.lite_lines.specs.Split.{Splits, split_over, splitting};
-ghost use Rattle.lite_read.specs.Settling.{SameByKind, SameOr};
+ghost use Rattle.lite_read.specs.Deterministic.{SameByKind, SameOr};
 ghost use Rattle.std.specs.Prelude.{⊤};
 
 use crate::{Lines, ReadUntilFuture, Split};
@@ -21,7 +21,7 @@ impl<R: AsyncBufRead + CountedRead + SteadyRead> SteadyStream for Lines<R> {
 
     ghost alike = { FlowAlike lines_over R.alike };
 
-    ghost steady = { flow_steady lines_over (lining ⊤) (lining ⊥) (λ k. items_settle line_one text_one 10) R.steady };
+    ghost steady = { flow_steady lines_over (lining ⊤) (lining ⊥) (λ k. items_deterministic line_one text_one 10) R.steady };
 }
 
 impl<R: AsyncBufRead + CountedRead + SteadyRead> SteadyStream for Split<R> {
@@ -33,7 +33,7 @@ impl<R: AsyncBufRead + CountedRead + SteadyRead> SteadyStream for Split<R> {
 
     ghost alike = { FlowAlike split_over R.alike };
 
-    ghost steady = { flow_steady split_over (splitting ⊤) (splitting ⊥) (items_settle vec_one vec_one) R.steady };
+    ghost steady = { flow_steady split_over (splitting ⊤) (splitting ⊥) (items_deterministic vec_one vec_one) R.steady };
 }
 
 impl<R: AsyncBufRead + CountedRead + SteadyRead> SteadyFuture for ReadUntilFuture<'_, R> {

@@ -4,6 +4,7 @@ use Rattle.futures.specs.declared.task.Poll.TheVariants.{Ready, Pending}
 use Rattle.futures.specs.Task.{Lasting}
 use Rattle.lite_base.specs.Answers.{Answer, item}
 use Rattle.lite_base.specs.Ranks.{Ranks}
+use Rattle.lite_base.specs.Runs.{Runs}
 use Rattle.lite_stream.specs.Fuse.{Fuses}
 use Rattle.lite_stream.specs.declared.fuse.Fuse.{Fuse}
 
@@ -13,40 +14,47 @@ beside_pending Pending = Pending
 beside_pending (Ready None) = Pending
 beside_pending (Ready (Some y)) = item y
 
--- one row: where the first has an item it goes out alone, and else the second is asked; an end goes out where both have ended; i' and j' are left
-abbrev pub Row : {A : Type 0} (i j : List (Answer A)) (c : Answer A) (i' j' : List (Answer A)) → Type 0
-Row [] j c i' j' = ⊥
-Row (Ready (Some x) ∷ i) j c i' j' = (c ≡ item x) × (i' ≡ i) × (j' ≡ j)
-Row (Ready None ∷ i) [] c i' j' = ⊥
-Row (Ready None ∷ i) (b ∷ j) c i' j' = (c ≡ b) × (i' ≡ i) × (j' ≡ j)
-Row (Pending ∷ i) [] c i' j' = ⊥
-Row (Pending ∷ i) (b ∷ j) c i' j' = (c ≡ beside_pending b) × (i' ≡ i) × (j' ≡ j)
+-- one row: where the first has an item it goes out alone, and else the second is asked; an end goes out where both have
+-- ended; i' and j' are left
+abbrev pub MergeRow : {A : Type 0} (i j : List (Answer A)) (c : Answer A) (i' j' : List (Answer A)) → Type 0
+MergeRow [] j c i' j' = ⊥
+MergeRow (Ready (Some x) ∷ i) j c i' j' = (c ≡ item x) × (i' ≡ i) × (j' ≡ j)
+MergeRow (Ready None ∷ i) [] c i' j' = ⊥
+MergeRow (Ready None ∷ i) (b ∷ j) c i' j' = (c ≡ b) × (i' ≡ i) × (j' ≡ j)
+MergeRow (Pending ∷ i) [] c i' j' = ⊥
+MergeRow (Pending ∷ i) (b ∷ j) c i' j' = (c ≡ beside_pending b) × (i' ≡ i) × (j' ≡ j)
 
 -- the two lists are read row by row, in the order that each row names: true, where the first stands first
-abbrev pub Rows : {A : Type 0} (order : List Bool) (i j out : List (Answer A)) → Type 0
-Rows [] i j out = (i ≡ []) × (j ≡ []) × (out ≡ [])
-Rows (first ∷ order) i j [] = ⊥
-Rows {A} (true ∷ order) i j (c ∷ out) = (i' j' : List (Answer A)) × Row i j c i' j' × Rows order i' j' out
-Rows {A} (false ∷ order) i j (c ∷ out) = (i' j' : List (Answer A)) × Row j i c j' i' × Rows order i' j' out
+abbrev pub MergeRows : {A : Type 0} (order : List Bool) (i j out : List (Answer A)) → Type 0
+MergeRows [] i j out = (i ≡ []) × (j ≡ []) × (out ≡ [])
+MergeRows (first ∷ order) i j [] = ⊥
+MergeRows {A} (true ∷ order) i j (c ∷ out) =
+    (i' j' : List (Answer A)) × MergeRow i j c i' j' × MergeRows order i' j' out
+MergeRows {A} (false ∷ order) i j (c ∷ out) =
+    (i' j' : List (Answer A)) × MergeRow j i c j' i' × MergeRows order i' j' out
 
--- each of the two answers through its first end, is asked no more after it, and counts as an end from there on; what goes out of their rows is out
-pub record Merges {S U A : Type 0} (run : S → List (Answer A) → S → Type 0) (run' : U → List (Answer A) → U → Type 0)
+-- each of the two answers through its first end, is asked no more after it, and counts as an end from there on; what
+-- goes out of their rows is out
+pub record Merges {S U A : Type 0} (run : Runs (Answer A) S) (run' : Runs (Answer A) U)
     (order : List Bool) (s : Fuse S) (u : Fuse U) (out : List (Answer A)) (t : Fuse S) (v : Fuse U) : Type 0 where
   pub firsts : List (Answer A)
   pub seconds : List (Answer A)
   pub came : Fuses run s firsts t
   pub then_came : Fuses run' u seconds v
-  pub rows : Rows order firsts seconds out
+  pub rows : MergeRows order firsts seconds out
 
--- what a pending poll leaves is left by each of the two that has not ended
-abbrev pub OpenLeaves : {S : Type 0} → (S → Lasting → Type 0) → Fuse S → Lasting → Type 0
-OpenLeaves leaves s fact = (s.done ≡ false) × leaves s.stream fact
+-- what a pending registered: what the stream did, if it has not ended
+abbrev pub OpenRegisters : {S : Type 0} → (S → Lasting → Type 0) → Fuse S → Lasting → Type 0
+OpenRegisters registers s fact = (s.done ≡ false) × registers s.stream fact
 
-abbrev pub MergeLeaves : {S U : Type 0} → (S → Lasting → Type 0) → (U → Lasting → Type 0) → Fuse S → Fuse U → Lasting → Type 0
-MergeLeaves leaves leaves' s u fact = OpenLeaves leaves s fact ⊎ OpenLeaves leaves' u fact
+-- what a pending registered: what each of the two did that has not ended
+abbrev pub MergeRegisters : {S U : Type 0} → (S → Lasting → Type 0) → (U → Lasting → Type 0) → Fuse S → Fuse U → Lasting
+    → Type 0
+MergeRegisters registers registers' s u fact = OpenRegisters registers s fact ⊎ OpenRegisters registers' u fact
 
 -- the second's rank and then the first's, at values of the two that have the facts
-abbrev pub merge_ranks : {M S U : Type 0} → (M → Fuse S) → (M → Fuse U) → (r : Ranks S) → (r' : Ranks U) → (S → Type 0) → (U → Type 0) → Ranks M
+abbrev pub merge_ranks : {M S U : Type 0} → (M → Fuse S) → (M → Fuse U) → (r : Ranks S) → (r' : Ranks U) → (S → Type 0)
+    → (U → Type 0) → Ranks M
 merge_ranks first second r r' counts counts' =
     record {
       width = r'.width + r.width;

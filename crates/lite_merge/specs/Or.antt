@@ -1,12 +1,15 @@
 -- `or`: in each row the first stands first.
-use Rattle.std.specs.Prelude.{List, map, true}
+use Rattle.std.specs.Prelude.{map, true}
 use Rattle.lite_base.specs.Answers.{Answer}
 use Rattle.lite_base.specs.Ranks.{Ranks}
+use Rattle.lite_base.specs.Runs.{Runs}
 use Rattle.lite_merge.specs.Merge.{Merges, merge_ranks}
 use Rattle.lite_merge.specs.declared.or.Or.{Or}
 
-abbrev pub Ors : {S U A : Type 0} → (S → List (Answer A) → S → Type 0) → (U → List (Answer A) → U → Type 0) → Or S U → List (Answer A) → Or S U → Type 0
+-- the two streams merged, the first first in each row
+abbrev pub Ors : {S U A : Type 0} → Runs (Answer A) S → Runs (Answer A) U → Runs (Answer A) (Or S U)
 Ors run run' x out y = Merges run run' (map (λ _. true) out) x.stream1 x.stream2 out y.stream1 y.stream2
 
+-- the rank of an `or` of two ranked streams
 abbrev pub or_ranks : {S U : Type 0} → Ranks S → Ranks U → Ranks (Or S U)
 or_ranks r r' = merge_ranks (λ m. m.stream1) (λ m. m.stream2) r r' r.counts r'.counts

@@ -4,17 +4,20 @@ use Rattle.rand_core.specs.Stream.{Stream}
 use Rattle.lite_base.specs.Answers.{Answer}
 use Rattle.lite_base.specs.Future.Race.{Words, is_first}
 use Rattle.lite_base.specs.Ranks.{Ranks}
+use Rattle.lite_base.specs.Runs.{Runs}
 use Rattle.lite_merge.specs.Merge.{Merges, merge_ranks}
 use Rattle.lite_merge.specs.declared.race.Race.{Race}
 
-pub record Races {S U R A : Type 0} (run : S → List (Answer A) → S → Type 0) (run' : U → List (Answer A) → U → Type 0) (stream : R → Stream)
+-- the generator gave a word for each row, and by them the two streams were merged
+pub record Races {S U R A : Type 0} (run : Runs (Answer A) S) (run' : Runs (Answer A) U) (stream : R → Stream)
     (x : Race S U R) (out : List (Answer A)) (y : Race S U R) : Type 0 where
   pub words : List ℕ
   pub drawn : Words (stream x.rng) words (stream y.rng)
   pub merges : Merges run run' (map is_first words) x.stream1 x.stream2 out y.stream1 y.stream2
 
 -- no answer leaves all as it is, the generator too
-abbrev pub RacesOn : {S U R A : Type 0} → (S → List (Answer A) → S → Type 0) → (U → List (Answer A) → U → Type 0) → (R → Stream) → Race S U R → List (Answer A) → Race S U R → Type 0
+abbrev pub RacesOn : {S U R A : Type 0} → Runs (Answer A) S → Runs (Answer A) U → (R → Stream)
+    → Runs (Answer A) (Race S U R)
 RacesOn run run' stream x [] y = y ≡ x
 RacesOn run run' stream x (c ∷ out) y = Races run run' stream x (c ∷ out) y
 

@@ -4,7 +4,8 @@ use Rattle.futures.specs.declared.task.Poll.{Poll}
 use Rattle.futures.specs.declared.task.Poll.TheVariants.{Ready, Pending}
 use Rattle.futures.specs.Task.{Lasting}
 use Rattle.lite_base.specs.Answers.{Answer, end, item}
-use Rattle.lite_base.specs.Ranks.{Ranks}
+use Rattle.lite_base.specs.Ranks.{Ranks, held_rank}
+use Rattle.lite_base.specs.Runs.{Runs}
 use Rattle.lite_merge.specs.declared.zip.Zip.{Zip}
 
 -- n Pendings, and then l
@@ -19,32 +20,36 @@ module _ {A B : Type 0} where
   pair_with x (Some y) = item (x, y)
 
   -- the second was pending to the last, and x is left
-  abbrev pub HeldOn : A → List (Answer A) → List (Answer B) → List (Answer (A × B)) → Option A → Type 0
-  HeldOn x is js out last = (n : ℕ) × (is ≡ []) × (js ≡ pendings n []) × (out ≡ pendings n []) × (last ≡ Some x)
+  abbrev pub SecondPending : A → List (Answer A) → List (Answer B) → List (Answer (A × B)) → Option A → Type 0
+  SecondPending x is js out last = (n : ℕ) × (is ≡ []) × (js ≡ pendings n []) × (out ≡ pendings n []) × (last ≡ Some x)
 
   -- the second's Pendings, then its item or end, and then what follows
-  abbrev pub Paired : A → (List (Answer B) → List (Answer (A × B)) → Option A → Type 0) → List (Answer B) → List (Answer (A × B)) → Option A → Type 0
+  abbrev pub Paired : A → (List (Answer B) → List (Answer (A × B)) → Option A → Type 0) → List (Answer B)
+      → List (Answer (A × B)) → Option A → Type 0
   Paired x follows js out last =
-      (n : ℕ) × (b : Option B) × (more : List (Answer B)) × (rest : List (Answer (A × B))) × (js ≡ pendings n (Ready b ∷ more)) × (out ≡ pendings n (pair_with x b ∷ rest)) × follows more rest last
+      (n : ℕ) × (b : Option B) × (more : List (Answer B)) × (rest : List (Answer (A × B)))
+      × (js ≡ pendings n (Ready b ∷ more)) × (out ≡ pendings n (pair_with x b ∷ rest)) × follows more rest last
 
-  -- in the place of x
-  abbrev pub Held : A → List (Answer A) → (List (Answer B) → List (Answer (A × B)) → Option A → Type 0) → List (Answer B) → List (Answer (A × B)) → Option A → Type 0
-  Held x is follows js out last = HeldOn x is js out last ⊎ Paired x follows js out last
+  -- what goes out while x is held: Pendings, or the pair and what follows
+  abbrev pub WithHeld : A → List (Answer A) → (List (Answer B) → List (Answer (A × B)) → Option A → Type 0)
+      → List (Answer B) → List (Answer (A × B)) → Option A → Type 0
+  WithHeld x is follows js out last = SecondPending x is js out last ⊎ Paired x follows js out last
 
-  -- of the first's list and the second's; no item is taken before there is an answer after it
+  -- what goes out of the first's list and the second's; no item is taken before there is an answer after it
   abbrev pub Pairs : List (Answer A) → List (Answer B) → List (Answer (A × B)) → Option A → Type 0
   Pairs [] js out last = (js ≡ []) × (out ≡ []) × (last ≡ None)
   Pairs (a ∷ is) js [] last = ⊥
   Pairs (Pending ∷ is) js (c ∷ out) last = (c ≡ Pending) × Pairs is js out last
   Pairs (Ready None ∷ is) js (c ∷ out) last = (c ≡ end) × Pairs is js out last
-  Pairs (Ready (Some x) ∷ is) js (c ∷ out) last = Held x is (Pairs is) js (c ∷ out) last
+  Pairs (Ready (Some x) ∷ is) js (c ∷ out) last = WithHeld x is (Pairs is) js (c ∷ out) last
 
   -- an item that is held stands before the first's list
   abbrev pub Pairing : Option A → List (Answer A) → List (Answer B) → List (Answer (A × B)) → Option A → Type 0
   Pairing None is js out last = Pairs is js out last
-  Pairing (Some x) is js out last = Held x is (Pairs is) js out last
+  Pairing (Some x) is js out last = WithHeld x is (Pairs is) js out last
 
-pub record Zips {S U A B : Type 0} (run : S → List (Answer A) → S → Type 0) (run' : U → List (Answer B) → U → Type 0)
+-- the first gave one list and the second another, and pairs of their items went out
+pub record Zips {S U A B : Type 0} (run : Runs (Answer A) S) (run' : Runs (Answer B) U)
     (x : Zip S U A) (out : List (Answer (A × B))) (y : Zip S U A) : Type 0 where
   pub firsts : List (Answer A)
   pub seconds : List (Answer B)
@@ -52,20 +57,18 @@ pub record Zips {S U A B : Type 0} (run : S → List (Answer A) → S → Type 0
   pub then_came : run' x.second seconds y.second
   pub paired : Pairing x.item_slot firsts seconds out y.item_slot
 
--- what a pending poll leaves is left by the second while an item is held, and else by the first
-abbrev pub ZipLeaves : {S U A : Type 0} → (S → Lasting → Type 0) → (U → Lasting → Type 0) → Option A → S → U → Lasting → Type 0
-ZipLeaves leaves leaves' None s u fact = leaves s fact
-ZipLeaves leaves leaves' (Some x) s u fact = leaves' u fact
+-- what a pending registered: what the second did while an item is held, and else the first
+abbrev pub ZipRegisters : {S U A : Type 0} → (S → Lasting → Type 0) → (U → Lasting → Type 0) → Option A → S → U
+    → Lasting → Type 0
+ZipRegisters registers registers' None s u fact = registers s fact
+ZipRegisters registers registers' (Some x) s u fact = registers' u fact
 
--- how many items are held
-abbrev pub held_count : {A : Type 0} → Option A → ℕ
-held_count None = 0
-held_count (Some x) = 1
-
--- the first's rank, and then a place that counts the item that is held
-abbrev pub held_rank : {A : Type 0} → List ℕ → Option A → List ℕ
-held_rank xs held = xs ++ held_count held ∷ []
-
+-- the first's rank, and then a place for the item that is held
 abbrev pub zip_ranks : {S U A : Type 0} → Ranks S → Ranks (Zip S U A)
 zip_ranks r =
-    record { width = r.width + 1; rank = λ m. held_rank (r.rank m.first) m.item_slot; counts = λ m. r.counts m.first; firm = λ m. r.firm m.first }
+    record {
+      width = r.width + 1;
+      rank = λ m. held_rank (r.rank m.first) m.item_slot;
+      counts = λ m. r.counts m.first;
+      firm = λ m. r.firm m.first;
+    }

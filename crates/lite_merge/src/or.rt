@@ -1,7 +1,8 @@
-ghost use Rattle.std.specs.Prelude.{◌≡◌, None};
+ghost use Rattle.std.specs.Prelude.{None};
 ghost use Rattle.lite_merge.specs.Laws.Or.{or_counting, or_laws};
-ghost use Rattle.lite_merge.specs.Merge.{MergeLeaves};
+ghost use Rattle.lite_merge.specs.Merge.{MergeRegisters};
 ghost use Rattle.lite_merge.specs.Or.{Ors, or_ranks};
+ghost use Rattle.lite_base.specs.Runs.{NoHint};
 
 use crate::picks::poll_in_order;
 use lite_base::{Context, Counted, Poll, Stream};
@@ -25,9 +26,9 @@ impl<S1: Stream, S2: Stream<Item = S1::Item>> Stream for Or<S1, S2> {
 
     ghost run = { Ors S1.run S2.run };
 
-    ghost leaves = { λ m. MergeLeaves S1.leaves S2.leaves m.stream1 m.stream2 };
+    ghost registers = { λ m. MergeRegisters S1.registers S2.registers m.stream1 m.stream2 };
 
-    ghost hints = { λ m hint. hint ≡ (0, None) };
+    ghost hints = { NoHint };
 
     ghost laws = { or_laws S1.laws S2.laws };
 

@@ -1,10 +1,10 @@
 //! What `or` and `race` share: a poll of two streams in an order.
-ghost use Rattle.std.specs.Prelude.{◌≡◌, List, []};
-ghost use Rattle.futures.specs.Poll.{OnPending};
-ghost use Rattle.futures.specs.Task.{Holds, Keeps, Lasting};
+ghost use Rattle.std.specs.Prelude.{List, []};
+ghost use Rattle.futures.specs.Task.{Keeps};
 ghost use Rattle.lite_base.specs.Answers.{Answer};
-ghost use Rattle.lite_merge.specs.Merge.{MergeLeaves, Row};
+ghost use Rattle.lite_merge.specs.Merge.{MergeRegisters, MergeRow};
 ghost use Rattle.lite_stream.specs.Fuse.{Fuses};
+ghost use Rattle.lite_base.specs.Registered.{Registered};
 
 use lite_base::{Context, Poll, Stream};
 use lite_stream::Fuse;
@@ -20,10 +20,11 @@ where
     U: Stream<Item = S::Item>,
     requires first { S.can_poll first.old.stream }
     requires second { U.can_poll second.old.stream }
-    ensures row { (i j : List (Answer S.Item)) × Fuses S.run first.old i first.new × Fuses U.run second.old j second.new × Row i j result [] [] }
+    ensures row { (i j : List (Answer S.Item)) × Fuses S.run first.old i first.new × Fuses U.run second.old j second.new
+        × MergeRow i j result [] [] }
     ensures first_again { S.can_poll first.new.stream }
     ensures second_again { U.can_poll second.new.stream }
-    ensures left { OnPending result ((fact : Lasting) → MergeLeaves S.leaves U.leaves first.new second.new fact → Holds cx.new fact) }
+    ensures left { Registered result (MergeRegisters S.registers U.registers first.new second.new) cx.new }
     ensures kept { Keeps cx.old cx.new }
 {
     match first.poll_next(cx) {

@@ -1,7 +1,8 @@
-ghost use Rattle.std.specs.Prelude.{◌≡◌, None};
+ghost use Rattle.std.specs.Prelude.{None};
 ghost use Rattle.lite_merge.specs.Laws.Race.{race_counting, race_laws};
-ghost use Rattle.lite_merge.specs.Merge.{MergeLeaves};
+ghost use Rattle.lite_merge.specs.Merge.{MergeRegisters};
 ghost use Rattle.lite_merge.specs.Race.{RacesOn, race_ranks};
+ghost use Rattle.lite_base.specs.Runs.{NoHint};
 
 use crate::picks::poll_in_order;
 use lite_base::{Context, Counted, Poll, Stream};
@@ -29,9 +30,9 @@ impl<S1: Stream, S2: Stream<Item = S1::Item>, R: Rng> Stream for Race<S1, S2, R>
 
     ghost run = { RacesOn S1.run S2.run R.stream };
 
-    ghost leaves = { λ m. MergeLeaves S1.leaves S2.leaves m.stream1 m.stream2 };
+    ghost registers = { λ m. MergeRegisters S1.registers S2.registers m.stream1 m.stream2 };
 
-    ghost hints = { λ m hint. hint ≡ (0, None) };
+    ghost hints = { NoHint };
 
     ghost laws = { race_laws R.stream S1.laws S2.laws };
 

@@ -1,9 +1,10 @@
 ghost use Rattle.std.specs.Prelude.{◌≡◌, List, [], ◌∷◌, None};
-ghost use Rattle.futures.specs.Poll.{OnPending};
-ghost use Rattle.futures.specs.Task.{Keeps, Lasting, Holds};
+ghost use Rattle.futures.specs.Task.{Keeps};
 ghost use Rattle.lite_base.specs.Answers.{Answer};
 ghost use Rattle.lite_merge.specs.Laws.Zip.{zip_counting, zip_laws};
-ghost use Rattle.lite_merge.specs.Zip.{Held, Pairs, ZipLeaves, Zips, zip_ranks};
+ghost use Rattle.lite_merge.specs.Zip.{Pairs, WithHeld, ZipRegisters, Zips, zip_ranks};
+ghost use Rattle.lite_base.specs.Registered.{Registered};
+ghost use Rattle.lite_base.specs.Runs.{NoHint};
 
 use lite_base::{Context, Counted, Poll, Stream, ready};
 
@@ -26,11 +27,11 @@ impl<A: Stream<Item: Drop>, B: Stream> Zip<A, B> {
         requires empty { self.old.item_slot ≡ None }
         requires can_poll { B.can_poll self.old.second }
         ensures met { (seconds : List (Answer B.Item)) × B.run self.old.second seconds self.new.second
-            × Held item [] (Pairs []) seconds (result ∷ []) self.new.item_slot }
+            × WithHeld item [] (Pairs []) seconds (result ∷ []) self.new.item_slot }
         ensures first { self.new.first ≡ self.old.first }
         ensures again { B.can_poll self.new.second }
-        ensures left { OnPending result ((fact : Lasting)
-            → ZipLeaves A.leaves B.leaves self.new.item_slot self.new.first self.new.second fact → Holds cx.new fact) }
+        ensures left { Registered result
+            (ZipRegisters A.registers B.registers self.new.item_slot self.new.first self.new.second) cx.new }
         ensures kept { Keeps cx.old cx.new }
     {
         match self.second.poll_next(cx) {
@@ -51,9 +52,9 @@ impl<A: Stream<Item: Drop>, B: Stream> Stream for Zip<A, B> {
 
     ghost run = { Zips A.run B.run };
 
-    ghost leaves = { λ m. ZipLeaves A.leaves B.leaves m.item_slot m.first m.second };
+    ghost registers = { λ m. ZipRegisters A.registers B.registers m.item_slot m.first m.second };
 
-    ghost hints = { λ m hint. hint ≡ (0, None) };
+    ghost hints = { NoHint };
 
     ghost laws = { zip_laws A.laws B.laws };
 

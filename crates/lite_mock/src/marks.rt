@@ -1,7 +1,8 @@
-ghost use Rattle.std.specs.Prelude.{◌≡◌, ◌≤◌, ◌+◌, ◌<◌, ◌++◌, ◌∷◌, [], List, length, take, drop, map, OnOk, OnErr, MatchResult};
-ghost use Rattle.lite_io_base.specs.Marks.{Mark, bytes};
-ghost use Rattle.lite_io_base.specs.Steady.{NoWait, unhurried};
-ghost use Rattle.lite_io_base.specs.Told.{Told};
+ghost use Rattle.std.specs.Prelude.{◌≡◌, ◌≤◌, ◌+◌, ◌<◌, ◌++◌, ◌∷◌, [], List, length, take, drop, map, OnOk, OnErr};
+ghost use Rattle.std.specs.Prelude.{MatchResult};
+ghost use Rattle.lite_io_base.specs.Marks.{ReadMark, bytes};
+ghost use Rattle.lite_io_base.specs.Steady.{NoPendingRead, strip_marks};
+ghost use Rattle.lite_io_base.specs.Told.{TellsScript};
 ghost use Rattle.lite_io_base.specs.Laws.Steady.{told_calm, told_steady};
 ghost use Rattle.lite_io_base.specs.Laws.Told.{told_falls, told_laws};
 ghost use Rattle.lite_base.specs.Ranks.{number_ranks};
@@ -38,9 +39,9 @@ enum Answer {
 
 impl Model for Marks {
     ghost use Rattle.std.specs.Prelude.{List, ◌≤◌, length};
-    ghost use Rattle.lite_io_base.specs.Marks.{Mark};
+    ghost use Rattle.lite_io_base.specs.Marks.{ReadMark};
 
-    ghost Value = { List Mark };
+    ghost Value = { List ReadMark };
 
     ghost use Rattle.lite_mock.specs.Marks.{marks_left};
 
@@ -76,7 +77,7 @@ impl Marks {
 
     /// Adds a pending, as `chunk` adds a chunk.
     pub fn pending(&mut self) -> Result<(), AllocError>
-        ensures { MatchResult result (λ _. self.new ≡ self.old ++ Mark.pending ∷ []) (λ _. self.new ≡ self.old) }
+        ensures { MatchResult result (λ _. self.new ≡ self.old ++ ReadMark.pending ∷ []) (λ _. self.new ≡ self.old) }
     {
         self.answers.push(Answer::Pending)?;
         Ok(())
@@ -84,7 +85,7 @@ impl Marks {
 
     /// Adds an error, as `chunk` adds a chunk.
     pub fn fault(&mut self, kind: ErrorKind) -> Result<(), AllocError>
-        ensures { MatchResult result (λ _. self.new ≡ self.old ++ Mark.fault kind ∷ []) (λ _. self.new ≡ self.old) }
+        ensures { MatchResult result (λ _. self.new ≡ self.old ++ ReadMark.fault kind ∷ []) (λ _. self.new ≡ self.old) }
     {
         self.answers.push(Answer::Fault(kind))?;
         Ok(())
@@ -92,7 +93,7 @@ impl Marks {
 
     /// Adds an end, as `chunk` adds a chunk.
     pub fn end(&mut self) -> Result<(), AllocError>
-        ensures { MatchResult result (λ _. self.new ≡ self.old ++ Mark.end ∷ []) (λ _. self.new ≡ self.old) }
+        ensures { MatchResult result (λ _. self.new ≡ self.old ++ ReadMark.end ∷ []) (λ _. self.new ≡ self.old) }
     {
         self.answers.push(Answer::End)?;
         Ok(())
@@ -112,22 +113,22 @@ impl Clone for Marks {
 }
 
 impl Tale for Marks {
-    ghost reads = { Told };
+    ghost reads = { TellsScript };
 
     ghost read_laws = { told_laws (λ x. x) };
 }
 
 // Two that say the same, pendings aside.
 impl SteadyRead for Marks {
-    ghost ample = { Told };
+    ghost ample = { TellsScript };
 
-    ghost alike = { λ x y. unhurried x ≡ unhurried y };
+    ghost alike = { λ x y. strip_marks x ≡ strip_marks y };
 
     ghost steady = { told_steady (λ x. x) };
 }
 
 impl CalmRead for Marks {
-    ghost is_calm = { NoWait };
+    ghost is_calm = { NoPendingRead };
 
     ghost calm = { told_calm (λ x. x) };
 }

@@ -1,12 +1,13 @@
 ghost use Rattle.std.specs.Prelude.{◌≡◌, ◌≤◌, ◌⊎◌, ◌++◌, ◌∷◌, [], Ok, Err, length, IfOk, MatchResult};
-ghost use Rattle.futures.specs.Poll.{IfReady, OnPending};
-ghost use Rattle.futures.specs.Task.{Holds, Keeps, Lasting};
+ghost use Rattle.futures.specs.Poll.{IfReady};
+ghost use Rattle.futures.specs.Task.{Keeps};
 ghost use Rattle.lite_io_base.specs.Kinds.{by_kind};
 ghost use Rattle.lite_io_base.specs.Takings.{done_marks, write_marks};
-ghost use Rattle.lite_io_base.specs.Takings.Taking.{closed, flushed};
+ghost use Rattle.lite_io_base.specs.Takings.WriteMark.{closed, flushed};
 ghost use Rattle.lite_io_base.specs.Runs.{Idle};
 ghost use Rattle.lite_io_base.specs.Laws.Runs.{idle_laws};
-ghost use Rattle.lite_mock.specs.SteadyTakes.{NoneWaits, takes_calm, takes_steady};
+ghost use Rattle.lite_mock.specs.SteadyTakes.{NoPendingOrder, takes_calm, takes_steady};
+ghost use Rattle.lite_base.specs.Registered.{Registered};
 
 use lite_base::{Context, Poll};
 use lite_io_base::{AsyncWrite, CalmWrite, SteadyWrite, Takings, Tale};
@@ -68,7 +69,8 @@ impl Takes {
     /// Adds an order after those that are there already. `AllocError` says that there was no memory; nothing changes
     /// then.
     pub fn order(&mut self, order: Order) -> Result<(), AllocError>
-        ensures { MatchResult result (λ _. self.new ≡ record self.old { orders = self.old.orders ++ order ∷ [] }) (λ _. self.new ≡ self.old) }
+        ensures { MatchResult result (λ _. self.new ≡ record self.old { orders = self.old.orders ++ order ∷ [] })
+            (λ _. self.new ≡ self.old) }
     {
         self.orders.push(order)?;
         Ok(())
@@ -83,12 +85,12 @@ impl Takes {
 }
 
 impl Takings for Takes {
-    ghost use Rattle.lite_mock.specs.Takes.{AllObey, Obeys};
+    ghost use Rattle.lite_mock.specs.Takes.{AllObey, ObeysOrder};
     ghost use Rattle.lite_io_base.specs.Laws.Steps.{steps_laws};
 
     ghost writes = { AllObey };
 
-    ghost write_laws = { steps_laws Obeys };
+    ghost write_laws = { steps_laws ObeysOrder };
 }
 
 // It is not read from.
@@ -104,8 +106,9 @@ impl AsyncWrite for Takes {
     fn poll_write(&mut self, cx: &mut Context<'_>, buf: &[u8]) -> Poll<io::Result<usize>>
         ensures bound { IfReady result (λ r. IfOk r (λ n. n ≤ length buf.now)) }
         ensures ran { AllObey self.old (write_marks result buf.now) self.new }
-        ensures order { (by_kind result ≡ answer_of self.old.orders buf.now) ⊎ (by_kind result ≡ Poll.Ready (Err ErrorKind.OutOfMemory)) }
-        ensures left { OnPending result ((fact : Lasting) → ⊥ → Holds cx.new fact) }
+        ensures order { (by_kind result ≡ answer_of self.old.orders buf.now)
+            ⊎ (by_kind result ≡ Poll.Ready (Err ErrorKind.OutOfMemory)) }
+        ensures left { Registered result (λ _. ⊥) cx.new }
         ensures kept { Keeps cx.old cx.new }
     {
         let order = self.orders.get(self.next).copied();
@@ -133,7 +136,7 @@ impl AsyncWrite for Takes {
     fn poll_flush(&mut self, _cx: &mut Context<'_>) -> Poll<io::Result<()>>
         ensures ran { AllObey self.old (done_marks flushed result) self.new }
         ensures done { result ≡ Poll.Ready (Ok tt) }
-        ensures left { OnPending result ((fact : Lasting) → ⊥ → Holds _cx.new fact) }
+        ensures left { Registered result (λ _. ⊥) _cx.new }
         ensures kept { Keeps _cx.old _cx.new }
     {
         // What was taken is in place already.
@@ -143,7 +146,7 @@ impl AsyncWrite for Takes {
     fn poll_close(&mut self, _cx: &mut Context<'_>) -> Poll<io::Result<()>>
         ensures ran { AllObey self.old (done_marks closed result) self.new }
         ensures done { result ≡ Poll.Ready (Ok tt) }
-        ensures left { OnPending result ((fact : Lasting) → ⊥ → Holds _cx.new fact) }
+        ensures left { Registered result (λ _. ⊥) _cx.new }
         ensures kept { Keeps _cx.old _cx.new }
     {
         // It can be written to as before.
@@ -161,7 +164,7 @@ impl SteadyWrite for Takes {
 }
 
 impl CalmWrite for Takes {
-    ghost is_calm = { λ x. NoneWaits x.orders };
+    ghost is_calm = { λ x. NoPendingOrder x.orders };
 
     ghost calm = { takes_calm };
 }

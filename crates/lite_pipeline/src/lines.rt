@@ -1,5 +1,5 @@
 ghost use Rattle.std.specs.Prelude.{◌≡◌, ◌<◌, [], IfErr, IfOk};
-ghost use Rattle.lite_io.specs.BufReader.{ahead, capacity_of, inner_of};
+ghost use Rattle.lite_io.specs.BufReader.{ahead, reader_capacity, reader_inner};
 ghost use Rattle.lite_pipeline.specs.Lines.{AtEachValue, CollectsLines};
 
 use lite_base::Future;
@@ -33,8 +33,11 @@ pub fn collect_lines<R, C>(
 where
     R: CountedRead + Drop,
     C: Gather<String, Alloc: Drop>,
-    ensures lines { IfOk result (λ f. AtEachValue ⟦<CollectLinesFuture<R, C> as Future>⟧.run f (CollectsLines R.reads C.holds [] reader limit)) }
-    ensures pollable { IfOk result (λ f. R.ranks.counts reader → R.ranks.firm reader → ⟦<CollectLinesFuture<R, C> as Future>⟧.can_poll f) }
+    ensures lines { IfOk result
+        (λ f. AtEachValue ⟦<CollectLinesFuture<R, C> as Future>⟧.run f
+        (CollectsLines R.reads C.holds [] reader limit)) }
+    ensures pollable { IfOk result
+        (λ f. R.ranks.counts reader → R.ranks.firm reader → ⟦<CollectLinesFuture<R, C> as Future>⟧.can_poll f) }
     ensures handed_back { IfErr result (λ r. r ≡ reader) }
 {
     let buffered = BufReader::new(alloc, reader)?;
@@ -56,9 +59,11 @@ pub fn collect_buffered_lines<R, C>(
 where
     R: CountedRead + Drop,
     C: Gather<String, Alloc: Drop>,
-    ensures lines { 0 < capacity_of reader
-        → AtEachValue ⟦<CollectLinesFuture<R, C> as Future>⟧.run result (CollectsLines R.reads C.holds (ahead reader) (inner_of reader) limit) }
-    ensures pollable { R.ranks.counts (inner_of reader) → R.ranks.firm (inner_of reader) → ⟦<CollectLinesFuture<R, C> as Future>⟧.can_poll result }
+    ensures lines { 0 < reader_capacity reader
+        → AtEachValue ⟦<CollectLinesFuture<R, C> as Future>⟧.run result
+        (CollectsLines R.reads C.holds (ahead reader) (reader_inner reader) limit) }
+    ensures pollable { R.ranks.counts (reader_inner reader) → R.ranks.firm (reader_inner reader)
+        → ⟦<CollectLinesFuture<R, C> as Future>⟧.can_poll result }
 {
     try_collect(lines(take(reader, limit), alloc), memory)
 }

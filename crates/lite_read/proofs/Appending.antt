@@ -1,5 +1,6 @@
--- Turns and polls of `read_to_end`.
-use Rattle.std.proofs.Common.{◌≡◌, ◌∙◌, ◌≤◌, ◌<◌, ◌+◌, ◌-◌, ℕ, List, [], ◌∷◌, ◌++◌, length, take, drop, Result, Err, refl, ap, sym, subst, arith, length-take-le}
+-- Steps and polls of `read_to_end`.
+use Rattle.std.proofs.Common.{◌≡◌, ◌∙◌, ◌≤◌, ◌<◌, ◌+◌, ◌-◌, ℕ, List, [], ◌∷◌, ◌++◌, length, take, drop, Result, Err}
+use Rattle.std.proofs.Common.{refl, ap, sym, subst, arith, length-take-le}
 use Rattle.std.proofs.Math.Seq.{take-length}
 use Rattle.std.proofs.lemmas.List.{take_at}
 use Rattle.std.specs.IoError.{error_kind}
@@ -14,27 +15,36 @@ use Rattle.futures.specs.Poll.{OnPending}
 use Rattle.futures.specs.declared.task.Poll.{Poll}
 use Rattle.futures.specs.declared.task.Poll.TheVariants.{Ready, Pending}
 use Rattle.lite_base.specs.Ranks.{Ranks}
+use Rattle.lite_base.specs.Runs.{Runs}
 use Rattle.lite_io_base.specs.Counting.{ReadCounting}
-use Rattle.lite_io_base.specs.Marks.{Mark, bytes, moved}
-use Rattle.lite_io_base.specs.Runs.{RunLaws, Runs}
+use Rattle.lite_io_base.specs.Marks.{ReadMark, bytes, moved}
+use Rattle.lite_io_base.specs.Runs.{MarkLaws}
 use Rattle.lite_read.proofs.Filling.{front, moved_some}
-use Rattle.lite_read.specs.Gathering.{Concludes}
-use Rattle.lite_read.specs.Appending.{front_of}
+use Rattle.lite_read.specs.ReadFold.{ReadConcludes}
+use Rattle.lite_read.specs.Appending.{read_front}
 use Rattle.lite_read.specs.Laws.ReadToEnd.{appends_all, grown}
 use Rattle.lite_read.specs.ReadToEnd.{ReadsToEnd, appends}
-use Rattle.lite_read.specs.Turns.{Answers, ReadsSome}
+use Rattle.lite_read.specs.PollSteps.{AnswersUntrimmed, ReadsSome}
 use Rattle.lite_read.specs.declared.read_to_end.ReadToEndFuture.{ReadToEndFuture}
 
-module _ {R A : Type 0} (m : Type 0) {reads : Runs Mark R} (laws : RunLaws reads) where
+module _ {R A : Type 0} (m : Type 0) {reads : Runs ReadMark R} (laws : MarkLaws reads) where
   -- there was no memory for a read
-  pub refused : (x w : ReadToEndFuture R A) (e : Error) → m → w ≡ record x { buf = record x.buf { now = w.buf.now } } → front_of w ≡ front_of x
-      → error_kind e ≡ OutOfMemory → Answers m reads x (Ready (Err e)) w
+  pub refused : (x w : ReadToEndFuture R A) (e : Error) → m → w ≡ record x { buf = record x.buf { now = w.buf.now } }
+      → read_front w ≡ read_front x
+      → error_kind e ≡ OutOfMemory → AnswersUntrimmed m reads x (Ready (Err e)) w
   refused x w e may same front kind =
       let reader : w.reader ≡ x.reader = ap (λ (v : ReadToEndFuture R A). v.reader) same in
-      let none : Concludes (appends m x.start) (front_of x) [] (Err e) (front_of w) =
-      record { taken = []; last = []; cut = refl; between = front_of x; folds = refl; gives = ((may, kind), front) } in
+      let none : ReadConcludes (appends m x.start) (read_front x) [] (Err e) (read_front w) =
       record {
-        gathered = record { marks = []; came = rw reader (laws.rests x.reader.now); gathered = (none, refl) };
+        taken = [];
+        last = [];
+        cut = refl;
+        between = read_front x;
+        folds = refl;
+        gives = ((may, kind), front);
+      } in
+      record {
+        folded = record { marks = []; came = rw reader (laws.rests x.reader.now); folded = (none, refl) };
         stays = record {
           reader = rw reader refl;
           buf = ap (λ (v : ReadToEndFuture R A). v.buf) same;
@@ -43,30 +53,39 @@ module _ {R A : Type 0} (m : Type 0) {reads : Runs Mark R} (laws : RunLaws reads
       }
 
   -- a poll, behind which the room is cut off
-  pub cut_off : (x z : ReadToEndFuture R A) (n : ℕ) (v : Vec ℕ A) (a : Poll (Result ℕ Error)) → n ≡ length x.buf.now.items
-      → v.items ≡ front_of z → Answers m reads (record x { filled = n }) a z
+  pub cut_off : (x z : ReadToEndFuture R A) (n : ℕ) (v : Vec ℕ A) (a : Poll (Result ℕ Error))
+      → n ≡ length x.buf.now.items
+      → v.items ≡ read_front z → AnswersUntrimmed m reads (record x { filled = n }) a z
       → ReadsToEnd m reads x (a ∷ []) (record z { buf = record z.buf { now = v } })
   cut_off x z n v a all cut h =
       let old = x.buf.now.items in
       let whole : take n old ≡ old = rw all (take-length old) in
       record {
-        gathered = rw cut (rw whole at h.gathered);
-        stays = record { reader = h.stays.reader; buf = ap (λ (b : MutBor (Vec ℕ A)). record b { now = v }) h.stays.buf; start = h.stays.start };
+        folded = rw cut (rw whole at h.folded);
+        stays = record {
+          reader = h.stays.reader;
+          buf = ap (λ (b : MutBor (Vec ℕ A)). record b { now = v }) h.stays.buf;
+          start = h.stays.start;
+        };
         idle = λ e. absurd (cc e);
       }
 
   -- after a pending another poll may be made
-  pub polls_on : {r : Ranks R} → ReadCounting reads r → (x z : ReadToEndFuture R A) (a : Poll (Result ℕ Error)) (n : ℕ) → n ≡ length x.buf.now.items
-      → x.start ≤ length x.buf.now.items → r.counts x.reader.now → Answers m reads (record x { filled = n }) a z
-      → OnPending a ((z.start ≤ length (front_of z)) × r.counts z.reader.now)
+  pub polls_on : {r : Ranks R} → ReadCounting reads r → (x z : ReadToEndFuture R A) (a : Poll (Result ℕ Error)) (n : ℕ)
+      → n ≡ length x.buf.now.items
+      → x.start ≤ length x.buf.now.items → r.counts x.reader.now
+      → AnswersUntrimmed m reads (record x { filled = n }) a z
+      → OnPending a ((z.start ≤ length (read_front z)) × r.counts z.reader.now)
   polls_on c x z (Ready r) n all started counts h = tt
   polls_on c x z Pending n all started counts h =
-      let k = h.gathered.gathered in
+      let k = h.folded.folded in
       let more = grown m x.start (take n x.buf.now.items) k.1 k.2.taken k.2.folds in
       let whole : length (take n x.buf.now.items) ≡ n = length-take-le n x.buf.now.items (omega (arith, all)) in
-      let same : length (front_of z) ≡ length k.1 = ap length k.3.1 in
-      let start = h.stays.start in
-      (omega (arith, started, all, whole, more, same, start), c.counts_on x.reader.now z.reader.now h.gathered.marks counts h.gathered.came)
+      let same : length (read_front z) ≡ length k.1 = ap length k.3.1 in
+      let start = h.stays.start in (
+        omega (arith, started, all, whole, more, same, start),
+        c.counts_on x.reader.now z.reader.now h.folded.marks counts h.folded.came,
+      )
 
 -- a vector after a write over all of it
 with_all : {A : Type 0} (v : Vec ℕ A) (ws : List ℕ) → length ws ≡ length v.items → (with_items v ws).items ≡ ws
@@ -75,11 +94,18 @@ with_all v ws same = take_at ws (drop (length ws) v.items) v.len (same ∙ sym v
 -- the future that read n bytes into the room, by which it holds these bytes
 abbrev pub after_read : {R A : Type 0} → ReadToEndFuture R A → R → List ℕ → ℕ → ℕ → ReadToEndFuture R A
 after_read w r items n room =
-    record { reader = record w.reader { now = r }; buf = record w.buf { now = with_items w.buf.now items }; start = w.start; filled = w.filled + n; room = room }
+    record {
+      reader = record w.reader { now = r };
+      buf = record w.buf { now = with_items w.buf.now items };
+      start = w.start;
+      filled = w.filled + n;
+      room = room;
+    }
 
-module _ {R A : Type 0} (m : Type 0) (reads : Runs Mark R) where
+module _ {R A : Type 0} (m : Type 0) (reads : Runs ReadMark R) where
   pub read_some : (x w : ReadToEndFuture R A) (r : R) (old new : List ℕ) (n room : ℕ)
-      → w ≡ record x { buf = record x.buf { now = w.buf.now } } → front_of w ≡ front_of x → w.filled ≤ length w.buf.now.items → old ≡ w.buf.now.items
+      → w ≡ record x { buf = record x.buf { now = w.buf.now } } → read_front w ≡ read_front x
+      → w.filled ≤ length w.buf.now.items → old ≡ w.buf.now.items
       → length new ≡ length old - w.filled → n ≤ length new → 0 < n → reads w.reader.now (moved new (take n new)) r
       → ReadsSome m reads x (after_read w r (put_mid w.filled (length old - w.filled) old new) n room)
   read_some x w r old new n room same front_is within is long most some came =
@@ -90,17 +116,22 @@ module _ {R A : Type 0} (m : Type 0) (reads : Runs Mark R) where
       let inside : at ≤ length old = omega (arith, within, ap length is) in
       let got : length (take n new) ≡ n = length-take-le n new most in
       let any : 0 < length (take n new) = omega (arith, got, some) in
-      let read : reads w.reader.now (bytes (take n new)) r = subst (λ l. reads w.reader.now l r) (moved_some new (take n new) any) came in
-      let kept : length put ≡ length old = same_len_mid at (length old - at) old new (long ∙ sym (mid_len at (length old) old (omega arith))) in
+      let read : reads w.reader.now (bytes (take n new)) r =
+      subst (λ l. reads w.reader.now l r) (moved_some new (take n new) any) came in
+      let kept : length put ≡ length old =
+      same_len_mid at (length old - at) old new (long ∙ sym (mid_len at (length old) old (omega arith))) in
       let all : v.items ≡ put = with_all w.buf.now put (kept ∙ ap length is) in
-      let ahead : take (at + n) v.items ≡ take at old ++ take n new = ap (take (at + n)) all ∙ front at (length old - at) n old new inside most in
+      let ahead : take (at + n) v.items ≡ take at old ++ take n new = ap (take (at + n)) all
+      ∙ front at (length old - at) n old new inside most in
       let whole : length v.items ≡ length old = ap length all ∙ kept in
-      let more : take (at + n) v.items ≡ front_of x ++ take n new = ahead ∙ ap (λ l. l ++ take n new) (ap (take at) is ∙ front_is) in
+      let more : take (at + n) v.items ≡ read_front x ++ take n new = ahead
+      ∙ ap (λ l. l ++ take n new) (ap (take at) is ∙ front_is) in
       record {
         taken = take n new;
         some = any;
         came = subst (λ (b : MutBor R). reads b.now (bytes (take n new)) r) reader read;
-        folds = subst (λ l. FoldsTo (appends m x.start).takes (front_of x) (take n new) l) (sym more) (appends_all m x.start (front_of x) (take n new));
+        folds = subst (λ l. FoldsTo (appends m x.start).takes (read_front x) (take n new) l) (sym more)
+            (appends_all m x.start (read_front x) (take n new));
         stays = (
           record {
             reader = ap (λ (b : MutBor R). record b { now = r }) reader;

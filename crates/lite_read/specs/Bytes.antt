@@ -6,28 +6,30 @@ use Rattle.std.specs.declared.io.ErrorKind.TheVariants.{Interrupted}
 use Rattle.futures.specs.Task.{Lasting}
 use Rattle.futures.specs.declared.task.Poll.TheVariants.{Ready, Pending}
 use Rattle.lite_base.specs.Answers.{Answer}
-use Rattle.lite_io_base.specs.Marks.{Mark}
-use Rattle.lite_io_base.specs.Runs.{Runs}
+use Rattle.lite_base.specs.Runs.{Runs}
+use Rattle.lite_io_base.specs.Marks.{ReadMark}
 use Rattle.lite_read.specs.declared.bytes.Bytes.{Bytes}
 
--- A byte is an item, an end an end, and a pending `Pending`. An error is an item too, but an `Interrupted` one is `Pending`.
-abbrev pub TellsMark : Mark → Answer (Result ℕ Error) → Type 0
-TellsMark (Mark.byte b) (Ready (Some (Ok x))) = x ≡ b
-TellsMark (Mark.fault kind) (Ready (Some (Err e))) = (error_kind e ≡ kind) × (kind ≡ Interrupted → ⊥)
-TellsMark (Mark.fault kind) Pending = kind ≡ Interrupted
-TellsMark Mark.pending Pending = ⊤
-TellsMark Mark.end (Ready None) = ⊤
+-- A byte is an item, an end an end, and a pending `Pending`. An error is an item too, but an `Interrupted` one is
+-- `Pending`.
+abbrev pub TellsMark : ReadMark → Answer (Result ℕ Error) → Type 0
+TellsMark (ReadMark.byte b) (Ready (Some (Ok x))) = x ≡ b
+TellsMark (ReadMark.fault kind) (Ready (Some (Err e))) = (error_kind e ≡ kind) × (kind ≡ Interrupted → ⊥)
+TellsMark (ReadMark.fault kind) Pending = kind ≡ Interrupted
+TellsMark ReadMark.pending Pending = ⊤
+TellsMark ReadMark.end (Ready None) = ⊤
 TellsMark m a = ⊥
 
 -- each answer tells one mark
-abbrev pub TellsEach : List Mark → List (Answer (Result ℕ Error)) → Type 0
+abbrev pub TellsEach : List ReadMark → List (Answer (Result ℕ Error)) → Type 0
 TellsEach [] [] = ⊤
 TellsEach (m ∷ ms) (a ∷ l) = TellsMark m a × TellsEach ms l
 TellsEach ms l = ⊥
 
 -- the reader left some marks, and each answer tells one; no answer leaves all as it is
-pub record Tells {R : Type 0} (reads : Runs Mark R) (x : Bytes R) (out : List (Answer (Result ℕ Error))) (y : Bytes R) : Type 0 where
-  pub marks : List Mark
+pub record TellsBytes {R : Type 0} (reads : Runs ReadMark R) (x : Bytes R) (out : List (Answer (Result ℕ Error)))
+    (y : Bytes R) : Type 0 where
+  pub marks : List ReadMark
   pub came : reads x.inner marks y.inner
   pub told : TellsEach marks out
   pub idle : out ≡ [] → y ≡ x

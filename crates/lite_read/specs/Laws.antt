@@ -1,11 +1,11 @@
 pub mod Bytes
 pub mod CalmRead
-pub mod Gathering
+pub mod ReadFold
 pub mod Polled
 pub mod ReadExact
 pub mod ReadToEnd
-pub mod Settling
+pub mod Deterministic
 pub mod SteadyBytes
 pub mod SteadyReadExact
 pub mod SteadyReadToEnd
-pub mod Turns
+pub mod PollSteps

@@ -2,7 +2,7 @@ pub mod Appending
 pub mod Bytes
 pub mod FillBuf
 pub mod Filling
-pub mod Gathering
+pub mod ReadFold
 pub mod Laws
 pub mod Polled
 pub mod Read
@@ -10,5 +10,5 @@ pub mod ReadExact
 pub mod ReadToEnd
 pub mod ReadVectored
 pub mod Seek
-pub mod Settling
-pub mod Turns
+pub mod Deterministic
+pub mod PollSteps

@@ -3,12 +3,13 @@ use Rattle.std.specs.Prelude.{◌≡◌, ◌≤◌, ℕ, length, Result, IfOk}
 use Rattle.std.specs.declared.io.Error.{Error}
 use Rattle.futures.specs.Poll.{IfReady}
 use Rattle.futures.specs.declared.task.Poll.{Poll}
-use Rattle.lite_io_base.specs.Marks.{Mark, read_marks}
-use Rattle.lite_io_base.specs.Runs.{Runs}
+use Rattle.lite_io_base.specs.Marks.{ReadMark, read_marks}
 use Rattle.lite_read.specs.declared.read.ReadFuture.{ReadFuture}
+use Rattle.lite_base.specs.Runs.{Runs}
 
 -- the reader ran by the marks of the answer; both references stay, and the buffer has its length
-pub record Reads {R : Type 0} (reads : Runs Mark R) (x : ReadFuture R) (c : Poll (Result ℕ Error)) (y : ReadFuture R) : Type 0 where
+pub record Reads {R : Type 0} (reads : Runs ReadMark R) (x : ReadFuture R) (c : Poll (Result ℕ Error))
+    (y : ReadFuture R) : Type 0 where
   pub came : reads x.reader.now (read_marks c y.buf.now) y.reader.now
   pub bound : IfReady c (λ r. IfOk r (λ n. n ≤ length y.buf.now))
   pub room : length y.buf.now ≡ length x.buf.now

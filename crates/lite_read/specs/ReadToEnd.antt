@@ -4,21 +4,22 @@ use Rattle.std.specs.IoError.{error_kind}
 use Rattle.std.specs.declared.io.Error.{Error}
 use Rattle.std.specs.declared.io.ErrorKind.TheVariants.{OutOfMemory}
 use Rattle.futures.specs.declared.task.Poll.{Poll}
-use Rattle.lite_io_base.specs.Marks.{Mark}
-use Rattle.lite_io_base.specs.Runs.{Runs}
-use Rattle.lite_read.specs.Appending.{Stays}
-use Rattle.lite_read.specs.Gathering.{Gather, Gathered}
+use Rattle.lite_io_base.specs.Marks.{ReadMark}
+use Rattle.lite_read.specs.Appending.{ToEndStays}
+use Rattle.lite_read.specs.ReadFold.{ReadFold, ReadFolded}
 use Rattle.lite_read.specs.declared.read_to_end.ReadToEndFuture.{ReadToEndFuture}
+use Rattle.lite_base.specs.Runs.{Runs}
 
--- how many bytes were appended to the first `start`, at an end; an error's kind; or a refusal of memory, where one may come
-abbrev pub Appended : Type 0 → ℕ → List ℕ → List Mark → Result ℕ Error → Type 0
-Appended may_refuse start g (Mark.end ∷ []) (Ok n) = length g ≡ start + n
-Appended may_refuse start g (Mark.fault kind ∷ []) (Err e) = error_kind e ≡ kind
+-- how many bytes were appended to the first `start`, at an end; an error's kind; or a refusal of memory, where one may
+-- come
+abbrev pub Appended : Type 0 → ℕ → List ℕ → List ReadMark → Result ℕ Error → Type 0
+Appended may_refuse start g (ReadMark.end ∷ []) (Ok n) = length g ≡ start + n
+Appended may_refuse start g (ReadMark.fault kind ∷ []) (Err e) = error_kind e ≡ kind
 Appended may_refuse start g [] (Err e) = may_refuse × (error_kind e ≡ OutOfMemory)
 Appended may_refuse start g marks r = ⊥
 
--- each byte is appended
-abbrev pub appends : Type 0 → ℕ → Gather (List ℕ) (Result ℕ Error)
+-- each byte is appended, up to an end
+abbrev pub appends : Type 0 → ℕ → ReadFold (List ℕ) (Result ℕ Error)
 appends may_refuse start =
     record {
       takes = λ g b h. h ≡ g ++ b ∷ [];
@@ -26,9 +27,11 @@ appends may_refuse start =
       gives = λ g marks r h. Appended may_refuse start g marks r × (h ≡ g);
     }
 
-module _ {R A : Type 0} (may_refuse : Type 0) (reads : Runs Mark R) where
+module _ {R A : Type 0} (may_refuse : Type 0) (reads : Runs ReadMark R) where
   -- no answer leaves all as it is
-  pub record ReadsToEnd (x : ReadToEndFuture R A) (out : List (Poll (Result ℕ Error))) (y : ReadToEndFuture R A) : Type 0 where
-    pub gathered : Gathered (appends may_refuse x.start) reads x.reader.now x.buf.now.items out y.reader.now y.buf.now.items
-    pub stays : Stays x y
+  pub record ReadsToEnd (x : ReadToEndFuture R A) (out : List (Poll (Result ℕ Error)))
+      (y : ReadToEndFuture R A) : Type 0 where
+    pub folded : ReadFolded
+        (appends may_refuse x.start) reads x.reader.now x.buf.now.items out y.reader.now y.buf.now.items
+    pub stays : ToEndStays x y
     pub idle : out ≡ [] → y ≡ x

@@ -5,12 +5,15 @@ use Rattle.std.specs.declared.io.Error.{Error}
 use Rattle.std.specs.declared.io.slices.IoSliceMut.{IoSliceMut}
 use Rattle.futures.specs.Poll.{IfReady}
 use Rattle.futures.specs.declared.task.Poll.{Poll}
-use Rattle.lite_io_base.specs.Marks.{Mark}
-use Rattle.lite_io_base.specs.Runs.{ReadsInto, Runs, room_in}
+use Rattle.lite_io_base.specs.Marks.{ReadMark}
+use Rattle.lite_io_base.specs.Runs.{ReadsInto, room_in}
 use Rattle.lite_read.specs.declared.read_vectored.ReadVectoredFuture.{ReadVectoredFuture}
+use Rattle.lite_base.specs.Runs.{Runs}
 
--- The reader read as into one buffer that has the room of them all. Both references stay, and so does the number of buffers.
-pub record ReadsVectored {R : Type 0} (reads : Runs Mark R) (x : ReadVectoredFuture R) (c : Poll (Result ℕ Error)) (y : ReadVectoredFuture R) : Type 0 where
+-- The reader read as into one buffer that has the room of them all. Both references stay, and so does the number of
+-- buffers.
+pub record ReadsVectored {R : Type 0} (reads : Runs ReadMark R) (x : ReadVectoredFuture R) (c : Poll (Result ℕ Error))
+    (y : ReadVectoredFuture R) : Type 0 where
   pub bufs : MutBor (List IoSliceMut)
   pub after : List IoSliceMut
   pub held : x.bufs ≡ Some bufs

@@ -8,6 +8,7 @@ use Rattle.lite_io_base.specs.Kinds.{by_kind}
 use Rattle.lite_read.specs.declared.seek.SeekFuture.{SeekFuture}
 
 -- the seeker answered the seek; the reference and the place stay
-pub record Seeks {S : Type 0} (seeks : S → SeekFrom → Poll (Result ℕ ErrorKind) → S → Type 0) (x : SeekFuture S) (c : Poll (Result ℕ Error)) (y : SeekFuture S) : Type 0 where
+pub record Seeks {S : Type 0} (seeks : S → SeekFrom → Poll (Result ℕ ErrorKind) → S → Type 0) (x : SeekFuture S)
+    (c : Poll (Result ℕ Error)) (y : SeekFuture S) : Type 0 where
   pub sought : seeks x.seeker.now x.pos (by_kind c) y.seeker.now
   pub stays : y ≡ record x { seeker = record x.seeker { now = y.seeker.now } }

@@ -1,8 +1,9 @@
-ghost use Rattle.std.specs.Prelude.{◌≡◌, None};
+ghost use Rattle.std.specs.Prelude.{None};
 ghost use Rattle.lite_base.specs.Ranks.{ranks_of};
+ghost use Rattle.lite_base.specs.Runs.{NoHint};
 ghost use Rattle.lite_io_base.specs.Laws.Runs.{idle_laws};
 ghost use Rattle.lite_io_base.specs.Runs.{Idle};
-ghost use Rattle.lite_read.specs.Bytes.{HoldsWoken, Tells};
+ghost use Rattle.lite_read.specs.Bytes.{HoldsWoken, TellsBytes};
 ghost use Rattle.lite_read.specs.Laws.Bytes.{bytes_counting, bytes_laws, inner_counting, inner_laws};
 
 use lite_base::{Context, Counted, OkCounted, Poll, Stream};
@@ -23,11 +24,11 @@ pub struct Bytes<R> {
 impl<R: AsyncRead> Stream for Bytes<R> {
     type Item = io::Result<u8>;
 
-    ghost run = { Tells R.reads };
+    ghost run = { TellsBytes R.reads };
 
-    ghost leaves = { λ x fact. R.leaves x.inner fact × HoldsWoken fact };
+    ghost registers = { λ x fact. R.registers x.inner fact × HoldsWoken fact };
 
-    ghost hints = { λ x hint. hint ≡ (0, None) };
+    ghost hints = { NoHint };
 
     ghost laws = { bytes_laws R.read_laws };
 
@@ -81,7 +82,7 @@ impl<R> Takings for Bytes<R> {
 }
 
 impl<R: AsyncRead> AsyncRead for Bytes<R> {
-    ghost leaves = { λ x. R.leaves x.inner };
+    ghost registers = { λ x. R.registers x.inner };
 
     fn poll_read(&mut self, cx: &mut Context<'_>, buf: &mut [u8]) -> Poll<io::Result<usize>> {
         self.inner.poll_read(cx, buf)

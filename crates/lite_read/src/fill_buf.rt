@@ -1,11 +1,11 @@
 ghost use Rattle.std.specs.Prelude.{◌≡◌, IsSome, IfSome};
-ghost use Rattle.futures.specs.Poll.{OnPending};
-ghost use Rattle.futures.specs.Task.{Holds, Keeps, Lasting};
+ghost use Rattle.futures.specs.Task.{Keeps};
 ghost use Rattle.lite_io_base.specs.Marks.{fill_marks};
 ghost use Rattle.lite_io_base.specs.Runs.{OnlyOkLends};
 ghost use Rattle.lite_read.specs.FillBuf.{FillsOnce};
 ghost use Rattle.lite_read.specs.Laws.Polled.{polled_laws};
-ghost use Rattle.lite_read.specs.Polled.{Polled};
+ghost use Rattle.lite_read.specs.Polled.{PolledByCalls};
+ghost use Rattle.lite_base.specs.Registered.{Registered};
 
 use lite_base::{Context, Future, Poll};
 use lite_io_base::AsyncBufRead;
@@ -27,9 +27,9 @@ impl<'a, R: AsyncBufRead> Future for FillBuf<'a, R> {
 
     ghost can_poll = { λ x. IsSome x.reader };
 
-    ghost run = { Polled (FillsOnce R.reads R.lent) };
+    ghost run = { PolledByCalls (FillsOnce R.reads R.lent) };
 
-    ghost leaves = { λ x fact. IfSome x.reader (λ r. R.leaves r.now fact) };
+    ghost registers = { λ x fact. IfSome x.reader (λ r. R.registers r.now fact) };
 
     ghost laws = { polled_laws (FillsOnce R.reads R.lent) };
 
@@ -55,7 +55,7 @@ impl<'a, R: AsyncBufRead> Future for FillBuf<'a, R> {
 fn fill<R: AsyncBufRead>(reader: &mut R, cx: &mut Context<'_>) -> Poll<io::Result<()>>
     ensures ran { R.reads reader.old (fill_marks result (R.lent reader.new)) reader.new }
     ensures lends { OnlyOkLends result (R.lent reader.new) }
-    ensures left { OnPending result ((fact : Lasting) → R.leaves reader.new fact → Holds cx.new fact) }
+    ensures left { Registered result (R.registers reader.new) cx.new }
     ensures kept { Keeps cx.old cx.new }
 {
     match reader.poll_fill_buf(cx) {

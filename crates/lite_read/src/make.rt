@@ -51,7 +51,8 @@ pub fn read_to_end<'a, R, A: Allocator>(
     reader: &'a mut R,
     buf: &'a mut Vec<u8, A>,
 ) -> ReadToEndFuture<'a, R, A>
-    ensures { let start = length buf.old.items in result ≡ record { reader = reader.entry; buf = buf.entry; start = start; filled = start; room = 0 } }
+    ensures { let start = length buf.old.items in
+        result ≡ record { reader = reader.entry; buf = buf.entry; start = start; filled = start; room = 0 } }
 {
     let start = buf.len();
     ReadToEndFuture {

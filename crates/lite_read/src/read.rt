@@ -1,5 +1,5 @@
 ghost use Rattle.lite_read.specs.Laws.Polled.{polled_laws};
-ghost use Rattle.lite_read.specs.Polled.{Polled};
+ghost use Rattle.lite_read.specs.Polled.{PolledByCalls};
 ghost use Rattle.lite_read.specs.Read.{Reads};
 
 use lite_base::{Context, Future, Poll};
@@ -20,9 +20,9 @@ pub struct ReadFuture<'a, R> {
 impl<R: AsyncRead> Future for ReadFuture<'_, R> {
     type Output = io::Result<usize>;
 
-    ghost run = { Polled (Reads R.reads) };
+    ghost run = { PolledByCalls (Reads R.reads) };
 
-    ghost leaves = { λ x. R.leaves x.reader.now };
+    ghost registers = { λ x. R.registers x.reader.now };
 
     ghost laws = { polled_laws (Reads R.reads) };
 

@@ -1,11 +1,11 @@
 ghost use Rattle.std.specs.Prelude.{◌≤◌, ◌-◌, [], ◌∷◌, length};
-ghost use Rattle.lite_base.specs.Chain.{OneTurn};
-ghost use Rattle.lite_base.specs.Ends.{Ends-count};
+ghost use Rattle.lite_base.specs.Chain.{OneStep};
+ghost use Rattle.lite_base.specs.Ends.{Terminates-count};
 ghost use Rattle.lite_read.specs.Laws.ReadExact.{exact_laws, room_falls};
 ghost use Rattle.lite_read.specs.ReadExact.{ReadsExactly};
-ghost use Rattle.lite_read.specs.Turns.{ReadsMore};
+ghost use Rattle.lite_read.specs.PollSteps.{ReadsMore};
 
-use lite_base::{Context, Future, Poll, Turns, drive};
+use lite_base::{Context, Future, Poll, PollSteps, drive};
 use lite_io_base::AsyncRead;
 use std::io;
 use std::io::ErrorKind;
@@ -22,20 +22,20 @@ pub struct ReadExactFuture<'a, R> {
     pub(crate) filled: usize,
 }
 
-impl<R: AsyncRead> Turns for ReadExactFuture<'_, R> {
+impl<R: AsyncRead> PollSteps for ReadExactFuture<'_, R> {
     type Output = io::Result<()>;
 
-    ghost can_turn = { λ x. x.filled ≤ length x.buf.now };
+    ghost can_step = { λ x. x.filled ≤ length x.buf.now };
 
-    ghost turn = { OneTurn (ReadsMore R.reads) (λ x a y. ReadsExactly R.reads x (a ∷ []) y) };
+    ghost step = { OneStep (ReadsMore R.reads) (λ x a y. ReadsExactly R.reads x (a ∷ []) y) };
 
-    ghost turn_leaves = { λ x. R.leaves x.reader.now };
+    ghost step_registers = { λ x. R.registers x.reader.now };
 
     ghost goes_on = { λ x y c h. h.stays.within c };
 
-    ghost finite = { λ x c. Ends-count (λ y. length y.buf.now - y.filled) room_falls x };
+    ghost finite = { λ x c. Terminates-count (λ y. length y.buf.now - y.filled) room_falls x };
 
-    fn turn_once(&mut self, cx: &mut Context<'_>) -> Option<Poll<io::Result<()>>> {
+    fn poll_step(&mut self, cx: &mut Context<'_>) -> Option<Poll<io::Result<()>>> {
         if self.filled == self.buf.len() {
             return Some(Poll::Ready(Ok(())));
         }
@@ -58,7 +58,7 @@ impl<R: AsyncRead> Future for ReadExactFuture<'_, R> {
 
     ghost run = { ReadsExactly R.reads };
 
-    ghost leaves = { λ x. R.leaves x.reader.now };
+    ghost registers = { λ x. R.registers x.reader.now };
 
     ghost laws = { exact_laws R.read_laws };
 

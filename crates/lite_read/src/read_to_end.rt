@@ -1,11 +1,11 @@
 ghost use Rattle.std.specs.Prelude.{◌≡◌, ◌≤◌, ◌<◌, length, ⊤, OnOk};
-ghost use Rattle.lite_base.specs.Chain.{OneTurn};
-ghost use Rattle.lite_read.specs.Appending.{CanTurn, front_of};
-ghost use Rattle.lite_read.specs.Laws.ReadToEnd.{append_laws, some_falls, turns_on};
+ghost use Rattle.lite_base.specs.Chain.{OneStep};
+ghost use Rattle.lite_read.specs.Appending.{CanAppend, read_front};
+ghost use Rattle.lite_read.specs.Laws.ReadToEnd.{append_laws, some_falls, steps_on};
 ghost use Rattle.lite_read.specs.ReadToEnd.{ReadsToEnd};
-ghost use Rattle.lite_read.specs.Turns.{Answers, ReadsSome};
+ghost use Rattle.lite_read.specs.PollSteps.{AnswersUntrimmed, ReadsSome};
 
-use lite_base::{Context, Future, Poll, Turns, drive};
+use lite_base::{Context, Future, Poll, PollSteps, drive};
 use lite_io_base::CountedRead;
 use std::alloc::{AllocError, Allocator, Global};
 use std::io;
@@ -38,7 +38,7 @@ impl<R, A: Allocator> ReadToEndFuture<'_, R, A> {
     fn make_room(&mut self) -> Result<(), AllocError>
         requires { self.old.filled ≤ length self.old.buf.now.items }
         ensures same { self.new ≡ record self.old { buf = record self.old.buf { now = self.new.buf.now } } }
-        ensures front { front_of self.new ≡ front_of self.old }
+        ensures front { read_front self.new ≡ read_front self.old }
         ensures room { OnOk result (self.new.filled < length self.new.buf.now.items) }
         ensures within { self.new.filled ≤ length self.new.buf.now.items }
     {
@@ -52,20 +52,20 @@ impl<R, A: Allocator> ReadToEndFuture<'_, R, A> {
     }
 }
 
-impl<R: CountedRead, A: Allocator> Turns for ReadToEndFuture<'_, R, A> {
+impl<R: CountedRead, A: Allocator> PollSteps for ReadToEndFuture<'_, R, A> {
     type Output = io::Result<usize>;
 
-    ghost can_turn = { CanTurn R.ranks.counts };
+    ghost can_step = { CanAppend R.ranks.counts };
 
-    ghost turn = { OneTurn (ReadsSome ⊤ R.reads) (Answers ⊤ R.reads) };
+    ghost step = { OneStep (ReadsSome ⊤ R.reads) (AnswersUntrimmed ⊤ R.reads) };
 
-    ghost turn_leaves = { λ x. R.leaves x.reader.now };
+    ghost step_registers = { λ x. R.registers x.reader.now };
 
-    ghost goes_on = { turns_on R.counting };
+    ghost goes_on = { steps_on R.counting };
 
     ghost finite = { some_falls R.ranks.counts R.ends };
 
-    fn turn_once(&mut self, cx: &mut Context<'_>) -> Option<Poll<io::Result<usize>>> {
+    fn poll_step(&mut self, cx: &mut Context<'_>) -> Option<Poll<io::Result<usize>>> {
         if self.make_room().is_err() {
             return Some(Poll::Ready(Err(ErrorKind::OutOfMemory.into())));
         }
@@ -91,7 +91,7 @@ impl<R: CountedRead, A: Allocator> Future for ReadToEndFuture<'_, R, A> {
 
     ghost run = { ReadsToEnd ⊤ R.reads };
 
-    ghost leaves = { λ x. R.leaves x.reader.now };
+    ghost registers = { λ x. R.registers x.reader.now };
 
     ghost laws = { append_laws ⊤ R.read_laws };
 

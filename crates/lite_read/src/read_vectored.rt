@@ -1,6 +1,6 @@
 ghost use Rattle.std.specs.Prelude.{IsSome};
 ghost use Rattle.lite_read.specs.Laws.Polled.{polled_laws};
-ghost use Rattle.lite_read.specs.Polled.{Polled};
+ghost use Rattle.lite_read.specs.Polled.{PolledByCalls};
 ghost use Rattle.lite_read.specs.ReadVectored.{ReadsVectored};
 
 use lite_base::{Context, Future, Poll};
@@ -25,9 +25,9 @@ impl<R: AsyncRead> Future for ReadVectoredFuture<'_, '_, R> {
 
     ghost can_poll = { λ x. IsSome x.bufs };
 
-    ghost run = { Polled (ReadsVectored R.reads) };
+    ghost run = { PolledByCalls (ReadsVectored R.reads) };
 
-    ghost leaves = { λ x. R.leaves x.reader.now };
+    ghost registers = { λ x. R.registers x.reader.now };
 
     ghost laws = { polled_laws (ReadsVectored R.reads) };
 

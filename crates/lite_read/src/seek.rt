@@ -1,5 +1,5 @@
 ghost use Rattle.lite_read.specs.Laws.Polled.{polled_laws};
-ghost use Rattle.lite_read.specs.Polled.{Polled};
+ghost use Rattle.lite_read.specs.Polled.{PolledByCalls};
 ghost use Rattle.lite_read.specs.Seek.{Seeks};
 
 use lite_base::{Context, Future, Poll};
@@ -20,9 +20,9 @@ pub struct SeekFuture<'a, S> {
 impl<S: AsyncSeek> Future for SeekFuture<'_, S> {
     type Output = io::Result<u64>;
 
-    ghost run = { Polled (Seeks S.seeks) };
+    ghost run = { PolledByCalls (Seeks S.seeks) };
 
-    ghost leaves = { λ x. S.seek_leaves x.seeker.now };
+    ghost registers = { λ x. S.seek_registers x.seeker.now };
 
     ghost laws = { polled_laws (Seeks S.seeks) };
 

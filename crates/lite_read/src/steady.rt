@@ -1,13 +1,13 @@
 //! The futures and streams whose answers do not depend on when their reader was pending.
 ghost use Rattle.lite_base.specs.Alike.{Sameness};
-ghost use Rattle.lite_read.specs.Bytes.{Tells};
+ghost use Rattle.lite_read.specs.Bytes.{TellsBytes};
 ghost use Rattle.lite_read.specs.Laws.Bytes.{inner_steady};
 ghost use Rattle.lite_read.specs.Laws.SteadyBytes.{bytes_steady};
 ghost use Rattle.lite_read.specs.Laws.SteadyReadExact.{ExactAlike, exact_steady};
 ghost use Rattle.lite_read.specs.Laws.SteadyReadToEnd.{ToEndAlike, to_end_steady};
 ghost use Rattle.lite_read.specs.ReadExact.{ReadsExactly};
 ghost use Rattle.lite_read.specs.ReadToEnd.{ReadsToEnd};
-ghost use Rattle.lite_read.specs.Settling.{SameByKind};
+ghost use Rattle.lite_read.specs.Deterministic.{SameByKind};
 
 use crate::{Bytes, ReadExactFuture, ReadToEndFuture};
 use lite_base::{SteadyFuture, SteadyStream};
@@ -15,7 +15,7 @@ use lite_io_base::{CountedRead, SteadyRead};
 use std::alloc::Allocator;
 
 impl<R: SteadyRead> SteadyStream for Bytes<R> {
-    ghost ample = { Tells R.ample };
+    ghost ample = { TellsBytes R.ample };
 
     ghost needs_none = { R.needs_none };
 

@@ -1,7 +1,9 @@
--- The first line of some bytes: `position is_newline bytes` is where it ends, `before_first is_newline bytes` is the line.
+-- The first line of some bytes: `position is_newline bytes` is where it ends, `before_first is_newline bytes` is the
+-- line.
 use Rattle.std.specs.Prelude.{ℕ, Bool, ◌==◌, if◌then◌else◌}
 use Rattle.std.specs.Int.{w64, trailing_zeros}
 
+-- the byte is a newline, 0x0A
 abbrev pub is_newline : ℕ → Bool
 is_newline b = b == 10
 

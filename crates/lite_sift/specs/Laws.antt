@@ -2,4 +2,4 @@ pub mod Agreeing
 pub mod Counting
 pub mod Leaving
 pub mod StepBy
-pub mod Turns
+pub mod PollSteps

@@ -1,15 +1,15 @@
 ghost use Rattle.lite_base.specs.Ranks.{ranks_of};
 ghost use Rattle.std.specs.Prelude.{Option, ℕ, ◌≡◌, []};
 ghost use Rattle.std.specs.Fn.{CalledAt};
-ghost use Rattle.lite_base.specs.Ends.{Ends-map};
+ghost use Rattle.lite_base.specs.Ends.{Terminates-map};
 ghost use Rattle.lite_stream.specs.EachItem.{MayShowEach};
 ghost use Rattle.lite_base.specs.Calling.{Accepts};
 ghost use Rattle.lite_sift.specs.Filter.{CanFilter, Filters, filter_parts};
 ghost use Rattle.lite_sift.specs.Leaving.{Sifts};
-ghost use Rattle.lite_sift.specs.Laws.Leaving.{leaves_turning};
+ghost use Rattle.lite_sift.specs.Laws.Leaving.{leaves_relating};
 ghost use Rattle.lite_stream.specs.Laws.Through.{laws_capped, through_counting};
 
-use lite_base::{Context, Counted, Poll, Stream, Turns, drive};
+use lite_base::{Context, Counted, Poll, PollSteps, Stream, drive};
 
 /// The items of a stream that a predicate accepts.
 ///
@@ -21,21 +21,22 @@ pub struct Filter<S, P> {
     pub(crate) predicate: P,
 }
 
-impl<S: Counted<Item: Drop>, P: FnMut(&S::Item) -> bool> Turns for Filter<S, P> {
+impl<S: Counted<Item: Drop>, P: FnMut(&S::Item) -> bool> PollSteps for Filter<S, P> {
     type Output = Option<S::Item>;
 
-    ghost can_turn = { CanFilter S.can_poll S.ranks (MayShowEach S.run P.FnMut) };
+    ghost can_step = { CanFilter S.can_poll S.ranks (MayShowEach S.run P.FnMut) };
 
-    ghost turn = { Sifts (Accepts (CalledAt P.FnMut)) S.run (CanFilter S.can_poll S.ranks (MayShowEach S.run P.FnMut)) (λ m. m.stream) (λ m. m.predicate) };
+    ghost step = { Sifts (Accepts (CalledAt P.FnMut)) S.run (CanFilter S.can_poll S.ranks (MayShowEach S.run P.FnMut))
+        (λ m. m.stream) (λ m. m.predicate) };
 
-    ghost turn_leaves = { λ m. S.leaves m.stream };
+    ghost step_registers = { λ m. S.registers m.stream };
 
     ghost goes_on = { λ x y c h. h.0 };
 
-    ghost finite = { λ x c. Ends-map (λ m. m.stream) (λ m n h. (h.1.0, [], h.1.1)) x (S.ends x.stream c.1) };
+    ghost finite = { λ x c. Terminates-map (λ m. m.stream) (λ m n h. (h.1.0, [], h.1.1)) x (S.ends x.stream c.1) };
 
     #[tactic(auto, using(lite_stream::specs::Laws::EachItem::each_rules))]
-    fn turn_once(&mut self, cx: &mut Context<'_>) -> Option<Poll<Option<S::Item>>> {
+    fn poll_step(&mut self, cx: &mut Context<'_>) -> Option<Poll<Option<S::Item>>> {
         match self.stream.poll_next(cx) {
             Poll::Ready(Some(item)) => {
                 if (self.predicate)(&item) {
@@ -57,11 +58,11 @@ impl<S: Counted<Item: Drop>, P: FnMut(&S::Item) -> bool> Stream for Filter<S, P>
 
     ghost run = { Filters S.run (CalledAt P.FnMut) };
 
-    ghost leaves = { λ m. S.leaves m.stream };
+    ghost registers = { λ m. S.registers m.stream };
 
     ghost hints = { λ m hint. (inner : ℕ × Option ℕ) × S.hints m.stream inner × (hint ≡ (0, inner.1)) };
 
-    ghost laws = { laws_capped filter_parts S.laws (leaves_turning (Accepts (CalledAt P.FnMut))) };
+    ghost laws = { laws_capped filter_parts S.laws (leaves_relating (Accepts (CalledAt P.FnMut))) };
 
     fn poll_next(&mut self, cx: &mut Context<'_>) -> Poll<Option<S::Item>> {
         drive(self, cx)
@@ -75,5 +76,5 @@ impl<S: Counted<Item: Drop>, P: FnMut(&S::Item) -> bool> Stream for Filter<S, P>
 impl<S: Counted<Item: Drop>, P: FnMut(&S::Item) -> bool> Counted for Filter<S, P> {
     ghost ranks = { ranks_of (λ m. m.stream) S.ranks };
 
-    ghost counting = { through_counting filter_parts S.counting (leaves_turning (Accepts (CalledAt P.FnMut))) };
+    ghost counting = { through_counting filter_parts S.counting (leaves_relating (Accepts (CalledAt P.FnMut))) };
 }

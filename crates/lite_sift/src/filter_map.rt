@@ -1,14 +1,15 @@
 ghost use Rattle.lite_base.specs.Ranks.{ranks_of};
-ghost use Rattle.std.specs.Prelude.{◌≡◌, [], None};
-ghost use Rattle.lite_base.specs.Ends.{Ends-map};
+ghost use Rattle.std.specs.Prelude.{[], None};
+ghost use Rattle.lite_base.specs.Ends.{Terminates-map};
 ghost use Rattle.lite_stream.specs.EachItem.{MayCallEach};
 ghost use Rattle.lite_base.specs.Calling.{Calls};
+ghost use Rattle.lite_base.specs.Runs.{NoHint};
 ghost use Rattle.lite_sift.specs.FilterMap.{CanFilterMap, FilterMaps, filter_map_parts};
 ghost use Rattle.lite_sift.specs.Leaving.{Sifts};
-ghost use Rattle.lite_sift.specs.Laws.Leaving.{leaves_turning};
+ghost use Rattle.lite_sift.specs.Laws.Leaving.{leaves_relating};
 ghost use Rattle.lite_stream.specs.Laws.Through.{laws_unhinted, through_counting};
 
-use lite_base::{Context, Counted, Poll, Stream, Turns, drive};
+use lite_base::{Context, Counted, Poll, PollSteps, Stream, drive};
 
 /// What a function answers to the items of a stream, without those to which it answers `None`.
 ///
@@ -20,21 +21,22 @@ pub struct FilterMap<S, F> {
     pub(crate) f: F,
 }
 
-impl<B, S: Counted, F: FnMut(S::Item) -> Option<B>> Turns for FilterMap<S, F> {
+impl<B, S: Counted, F: FnMut(S::Item) -> Option<B>> PollSteps for FilterMap<S, F> {
     type Output = Option<B>;
 
-    ghost can_turn = { CanFilterMap S.can_poll S.ranks (MayCallEach S.run F.FnMut) };
+    ghost can_step = { CanFilterMap S.can_poll S.ranks (MayCallEach S.run F.FnMut) };
 
-    ghost turn = { Sifts (Calls F.FnMut) S.run (CanFilterMap S.can_poll S.ranks (MayCallEach S.run F.FnMut)) (λ m. m.stream) (λ m. m.f) };
+    ghost step = { Sifts (Calls F.FnMut) S.run (CanFilterMap S.can_poll S.ranks (MayCallEach S.run F.FnMut)) (λ m. m.stream)
+        (λ m. m.f) };
 
-    ghost turn_leaves = { λ m. S.leaves m.stream };
+    ghost step_registers = { λ m. S.registers m.stream };
 
     ghost goes_on = { λ x y c h. h.0 };
 
-    ghost finite = { λ x c. Ends-map (λ m. m.stream) (λ m n h. (h.1.0, [], h.1.1)) x (S.ends x.stream c.1) };
+    ghost finite = { λ x c. Terminates-map (λ m. m.stream) (λ m n h. (h.1.0, [], h.1.1)) x (S.ends x.stream c.1) };
 
     #[tactic(auto, using(lite_stream::specs::Laws::EachItem::each_rules))]
-    fn turn_once(&mut self, cx: &mut Context<'_>) -> Option<Poll<Option<B>>> {
+    fn poll_step(&mut self, cx: &mut Context<'_>) -> Option<Poll<Option<B>>> {
         match self.stream.poll_next(cx) {
             Poll::Ready(Some(item)) => {
                 let value = (self.f)(item)?;
@@ -53,11 +55,11 @@ impl<B, S: Counted, F: FnMut(S::Item) -> Option<B>> Stream for FilterMap<S, F> {
 
     ghost run = { FilterMaps S.run (Calls F.FnMut) };
 
-    ghost leaves = { λ m. S.leaves m.stream };
+    ghost registers = { λ m. S.registers m.stream };
 
-    ghost hints = { λ m hint. hint ≡ (0, None) };
+    ghost hints = { NoHint };
 
-    ghost laws = { laws_unhinted filter_map_parts S.laws (leaves_turning (Calls F.FnMut)) };
+    ghost laws = { laws_unhinted filter_map_parts S.laws (leaves_relating (Calls F.FnMut)) };
 
     fn poll_next(&mut self, cx: &mut Context<'_>) -> Poll<Option<B>> {
         drive(self, cx)
@@ -71,5 +73,5 @@ impl<B, S: Counted, F: FnMut(S::Item) -> Option<B>> Stream for FilterMap<S, F> {
 impl<B, S: Counted, F: FnMut(S::Item) -> Option<B>> Counted for FilterMap<S, F> {
     ghost ranks = { ranks_of (λ m. m.stream) S.ranks };
 
-    ghost counting = { through_counting filter_map_parts S.counting (leaves_turning (Calls F.FnMut)) };
+    ghost counting = { through_counting filter_map_parts S.counting (leaves_relating (Calls F.FnMut)) };
 }

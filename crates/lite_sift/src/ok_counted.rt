@@ -9,8 +9,8 @@ ghost use Rattle.lite_sift.specs.FilterMap.{filter_map_parts};
 ghost use Rattle.lite_sift.specs.Skip.{Skips, skip_parts};
 ghost use Rattle.lite_sift.specs.SkipWhile.{SkipsUntil, skip_while_parts};
 ghost use Rattle.lite_sift.specs.StepBy.{step_by_parts};
-ghost use Rattle.lite_sift.specs.Laws.Leaving.{leaves_turning};
-ghost use Rattle.lite_sift.specs.Laws.StepBy.{steps_turning};
+ghost use Rattle.lite_sift.specs.Laws.Leaving.{leaves_relating};
+ghost use Rattle.lite_sift.specs.Laws.StepBy.{steps_relating};
 
 use crate::{Filter, FilterMap, Skip, SkipWhile, StepBy};
 use lite_base::{Counted, OkCounted};
@@ -23,7 +23,7 @@ impl<T: Drop, E: Drop, S: Counted<Item = Result<T, E>>, P: FnMut(&Result<T, E>) 
 
     ghost ok_ranks = { ranks_of (λ m. m.stream) S.ranks };
 
-    ghost ok_counting = { ok_counting (through_counting filter_parts S.counting (leaves_turning (Accepts (CalledAt P.FnMut)))) };
+    ghost ok_counting = { ok_counting (through_counting filter_parts S.counting (leaves_relating (Accepts (CalledAt P.FnMut)))) };
 }
 
 impl<T, E, S: Counted, F: FnMut(S::Item) -> Option<Result<T, E>>> OkCounted for FilterMap<S, F> {
@@ -33,7 +33,7 @@ impl<T, E, S: Counted, F: FnMut(S::Item) -> Option<Result<T, E>>> OkCounted for 
 
     ghost ok_ranks = { ranks_of (λ m. m.stream) S.ranks };
 
-    ghost ok_counting = { ok_counting (through_counting filter_map_parts S.counting (leaves_turning (Calls F.FnMut))) };
+    ghost ok_counting = { ok_counting (through_counting filter_map_parts S.counting (leaves_relating (Calls F.FnMut))) };
 }
 
 impl<T: Drop, E: Drop, S: Counted<Item = Result<T, E>>> OkCounted for Skip<S> {
@@ -43,7 +43,7 @@ impl<T: Drop, E: Drop, S: Counted<Item = Result<T, E>>> OkCounted for Skip<S> {
 
     ghost ok_ranks = { ranks_of (λ m. m.stream) S.ranks };
 
-    ghost ok_counting = { ok_counting (through_counting skip_parts S.counting (leaves_turning Skips)) };
+    ghost ok_counting = { ok_counting (through_counting skip_parts S.counting (leaves_relating Skips)) };
 }
 
 impl<
@@ -58,7 +58,8 @@ impl<
 
     ghost ok_ranks = { ranks_of (λ m. m.stream) S.ranks };
 
-    ghost ok_counting = { ok_counting (through_counting skip_while_parts S.counting (leaves_turning (SkipsUntil (CalledAt P.FnMut)))) };
+    ghost ok_counting = { ok_counting
+        (through_counting skip_while_parts S.counting (leaves_relating (SkipsUntil (CalledAt P.FnMut)))) };
 }
 
 impl<T: Drop, E: Drop, S: Counted<Item = Result<T, E>>> OkCounted for StepBy<S> {
@@ -68,5 +69,5 @@ impl<T: Drop, E: Drop, S: Counted<Item = Result<T, E>>> OkCounted for StepBy<S> 
 
     ghost ok_ranks = { ranks_of (λ m. m.stream) S.ranks };
 
-    ghost ok_counting = { ok_counting (through_counting step_by_parts S.counting steps_turning) };
+    ghost ok_counting = { ok_counting (through_counting step_by_parts S.counting steps_relating) };
 }

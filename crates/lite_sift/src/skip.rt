@@ -1,13 +1,14 @@
 ghost use Rattle.lite_base.specs.Ranks.{ranks_of};
-ghost use Rattle.std.specs.Prelude.{◌≡◌, None};
-ghost use Rattle.lite_base.specs.Ends.{Ends-count};
+ghost use Rattle.std.specs.Prelude.{None};
+ghost use Rattle.lite_base.specs.Ends.{Terminates-count};
+ghost use Rattle.lite_base.specs.Runs.{NoHint};
 ghost use Rattle.lite_sift.specs.Skip.{Skips, SkipsFirst, skip_parts};
 ghost use Rattle.lite_sift.specs.Laws.Counting.{one_less};
 ghost use Rattle.lite_sift.specs.Leaving.{Sifts};
-ghost use Rattle.lite_sift.specs.Laws.Leaving.{leaves_turning};
+ghost use Rattle.lite_sift.specs.Laws.Leaving.{leaves_relating};
 ghost use Rattle.lite_stream.specs.Laws.Through.{laws_unhinted, through_counting};
 
-use lite_base::{Context, Counted, Poll, Stream, Turns, drive};
+use lite_base::{Context, Counted, Poll, PollSteps, Stream, drive};
 
 /// The items of a stream without the first ones.
 ///
@@ -20,20 +21,20 @@ pub struct Skip<S> {
     pub(crate) n: usize,
 }
 
-impl<S: Stream<Item: Drop>> Turns for Skip<S> {
+impl<S: Stream<Item: Drop>> PollSteps for Skip<S> {
     type Output = Option<S::Item>;
 
-    ghost can_turn = { λ m. S.can_poll m.stream };
+    ghost can_step = { λ m. S.can_poll m.stream };
 
-    ghost turn = { Sifts Skips S.run (λ m. S.can_poll m.stream) (λ m. m.stream) (λ m. m.n) };
+    ghost step = { Sifts Skips S.run (λ m. S.can_poll m.stream) (λ m. m.stream) (λ m. m.n) };
 
-    ghost turn_leaves = { λ m. S.leaves m.stream };
+    ghost step_registers = { λ m. S.registers m.stream };
 
     ghost goes_on = { λ x y c h. h.0 };
 
-    ghost finite = { λ x c. Ends-count (λ m. m.n) (λ m n h. one_less h.1.2) x };
+    ghost finite = { λ x c. Terminates-count (λ m. m.n) (λ m n h. one_less h.1.2) x };
 
-    fn turn_once(&mut self, cx: &mut Context<'_>) -> Option<Poll<Option<S::Item>>> {
+    fn poll_step(&mut self, cx: &mut Context<'_>) -> Option<Poll<Option<S::Item>>> {
         match self.stream.poll_next(cx) {
             Poll::Ready(Some(item)) => {
                 if self.n == 0 {
@@ -56,11 +57,11 @@ impl<S: Stream<Item: Drop>> Stream for Skip<S> {
 
     ghost run = { SkipsFirst S.run };
 
-    ghost leaves = { λ m. S.leaves m.stream };
+    ghost registers = { λ m. S.registers m.stream };
 
-    ghost hints = { λ m hint. hint ≡ (0, None) };
+    ghost hints = { NoHint };
 
-    ghost laws = { laws_unhinted skip_parts S.laws (leaves_turning Skips) };
+    ghost laws = { laws_unhinted skip_parts S.laws (leaves_relating Skips) };
 
     fn poll_next(&mut self, cx: &mut Context<'_>) -> Poll<Option<S::Item>> {
         drive(self, cx)
@@ -74,5 +75,5 @@ impl<S: Stream<Item: Drop>> Stream for Skip<S> {
 impl<S: Counted<Item: Drop>> Counted for Skip<S> {
     ghost ranks = { ranks_of (λ m. m.stream) S.ranks };
 
-    ghost counting = { through_counting skip_parts S.counting (leaves_turning Skips) };
+    ghost counting = { through_counting skip_parts S.counting (leaves_relating Skips) };
 }

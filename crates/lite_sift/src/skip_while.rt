@@ -1,13 +1,14 @@
 ghost use Rattle.lite_base.specs.Ranks.{ranks_of};
-ghost use Rattle.std.specs.Prelude.{◌≡◌, [], None};
+ghost use Rattle.std.specs.Prelude.{[], None};
 ghost use Rattle.std.specs.Fn.{CalledAt};
-ghost use Rattle.lite_base.specs.Ends.{Ends-map};
+ghost use Rattle.lite_base.specs.Ends.{Terminates-map};
+ghost use Rattle.lite_base.specs.Runs.{NoHint};
 ghost use Rattle.lite_sift.specs.SkipWhile.{CanSkip, MayAskUntil, SkipsUntil, SkipsWhile, skip_while_parts};
 ghost use Rattle.lite_sift.specs.Leaving.{Sifts};
-ghost use Rattle.lite_sift.specs.Laws.Leaving.{leaves_turning};
+ghost use Rattle.lite_sift.specs.Laws.Leaving.{leaves_relating};
 ghost use Rattle.lite_stream.specs.Laws.Through.{laws_unhinted, through_counting};
 
-use lite_base::{Context, Counted, Poll, Stream, Turns, drive};
+use lite_base::{Context, Counted, Poll, PollSteps, Stream, drive};
 
 /// The items of a stream from the first one that a predicate rejects.
 ///
@@ -20,21 +21,22 @@ pub struct SkipWhile<S, P> {
     pub(crate) predicate: Option<P>,
 }
 
-impl<S: Counted<Item: Drop>, P: FnMut(&S::Item) -> bool + Drop> Turns for SkipWhile<S, P> {
+impl<S: Counted<Item: Drop>, P: FnMut(&S::Item) -> bool + Drop> PollSteps for SkipWhile<S, P> {
     type Output = Option<S::Item>;
 
-    ghost can_turn = { CanSkip S.can_poll S.ranks (MayAskUntil S.run P.FnMut) };
+    ghost can_step = { CanSkip S.can_poll S.ranks (MayAskUntil S.run P.FnMut) };
 
-    ghost turn = { Sifts (SkipsUntil (CalledAt P.FnMut)) S.run (CanSkip S.can_poll S.ranks (MayAskUntil S.run P.FnMut)) (λ m. m.stream) (λ m. m.predicate) };
+    ghost step = { Sifts (SkipsUntil (CalledAt P.FnMut)) S.run (CanSkip S.can_poll S.ranks (MayAskUntil S.run P.FnMut))
+        (λ m. m.stream) (λ m. m.predicate) };
 
-    ghost turn_leaves = { λ m. S.leaves m.stream };
+    ghost step_registers = { λ m. S.registers m.stream };
 
     ghost goes_on = { λ x y c h. h.0 };
 
-    ghost finite = { λ x c. Ends-map (λ m. m.stream) (λ m n h. (h.1.0, [], h.1.1)) x (S.ends x.stream c.1) };
+    ghost finite = { λ x c. Terminates-map (λ m. m.stream) (λ m n h. (h.1.0, [], h.1.1)) x (S.ends x.stream c.1) };
 
     #[tactic(auto, using(lite_stream::specs::Laws::EachItem::each_rules))]
-    fn turn_once(&mut self, cx: &mut Context<'_>) -> Option<Poll<Option<S::Item>>> {
+    fn poll_step(&mut self, cx: &mut Context<'_>) -> Option<Poll<Option<S::Item>>> {
         match self.stream.poll_next(cx) {
             Poll::Ready(Some(item)) => match &mut self.predicate {
                 Some(predicate) => {
@@ -60,11 +62,11 @@ impl<S: Counted<Item: Drop>, P: FnMut(&S::Item) -> bool + Drop> Stream for SkipW
 
     ghost run = { SkipsWhile S.run (CalledAt P.FnMut) };
 
-    ghost leaves = { λ m. S.leaves m.stream };
+    ghost registers = { λ m. S.registers m.stream };
 
-    ghost hints = { λ m hint. hint ≡ (0, None) };
+    ghost hints = { NoHint };
 
-    ghost laws = { laws_unhinted skip_while_parts S.laws (leaves_turning (SkipsUntil (CalledAt P.FnMut))) };
+    ghost laws = { laws_unhinted skip_while_parts S.laws (leaves_relating (SkipsUntil (CalledAt P.FnMut))) };
 
     fn poll_next(&mut self, cx: &mut Context<'_>) -> Poll<Option<S::Item>> {
         drive(self, cx)
@@ -78,5 +80,5 @@ impl<S: Counted<Item: Drop>, P: FnMut(&S::Item) -> bool + Drop> Stream for SkipW
 impl<S: Counted<Item: Drop>, P: FnMut(&S::Item) -> bool + Drop> Counted for SkipWhile<S, P> {
     ghost ranks = { ranks_of (λ m. m.stream) S.ranks };
 
-    ghost counting = { through_counting skip_while_parts S.counting (leaves_turning (SkipsUntil (CalledAt P.FnMut))) };
+    ghost counting = { through_counting skip_while_parts S.counting (leaves_relating (SkipsUntil (CalledAt P.FnMut))) };
 }

@@ -9,9 +9,10 @@ ghost use Rattle.lite_sift.specs.FilterMap.{FilterMaps, filter_map_parts};
 ghost use Rattle.lite_sift.specs.Skip.{Skips, SkipsFirst, skip_parts};
 ghost use Rattle.lite_sift.specs.SkipWhile.{SkipsUntil, SkipsWhile, skip_while_parts};
 ghost use Rattle.lite_sift.specs.StepBy.{StepsBy, step_by_parts};
-ghost use Rattle.lite_sift.specs.Laws.Agreeing.{leaves_keeping, leaves_showing, leaves_testing, leaves_until, skips_match};
-ghost use Rattle.lite_sift.specs.Laws.Leaving.{leaves_turning};
-ghost use Rattle.lite_sift.specs.Laws.StepBy.{steps_agreeing, steps_turning};
+ghost use Rattle.lite_sift.specs.Laws.Agreeing.{leaves_keeping, leaves_showing, leaves_testing, leaves_until};
+ghost use Rattle.lite_sift.specs.Laws.Agreeing.{skips_match};
+ghost use Rattle.lite_sift.specs.Laws.Leaving.{leaves_relating};
+ghost use Rattle.lite_sift.specs.Laws.StepBy.{steps_agreeing, steps_relating};
 
 use crate::{Filter, FilterMap, Skip, SkipWhile, StepBy};
 use lite_base::{Counted, SteadyStream};
@@ -24,9 +25,11 @@ impl<S: Counted<Item: Drop> + SteadyStream, P: FnMut(&S::Item) -> bool> SteadySt
 
     ghost same = { S.same };
 
-    ghost alike = { λ x y. S.alike x.stream y.stream × AgreeFrom (SameItem S.same) (λ y z. y ≡ z) (CalledAt P.FnMut) x.predicate y.predicate };
+    ghost alike = { λ x y. S.alike x.stream y.stream
+        × AgreeFrom (SameItem S.same) (λ y z. y ≡ z) (CalledAt P.FnMut) x.predicate y.predicate };
 
-    ghost steady = { through_steady_over filter_parts S.same S.same S.steady (leaves_turning (Accepts (CalledAt P.FnMut))).following
+    ghost steady = { through_steady_over filter_parts S.same S.same S.steady
+        (leaves_relating (Accepts (CalledAt P.FnMut))).following
         (leaves_testing (CalledAt P.FnMut) S.same) };
 }
 
@@ -40,7 +43,8 @@ impl<B, S: Counted + SteadyStream, F: FnMut(S::Item) -> Option<B>> SteadyStream
 
     ghost alike = { λ x y. S.alike x.stream y.stream × AgreeKeeping S.same (Calls F.FnMut) x.f y.f };
 
-    ghost steady = { through_steady_over filter_map_parts S.same (Keeping S.same (Calls F.FnMut)) S.steady (leaves_turning (Calls F.FnMut)).following
+    ghost steady = { through_steady_over filter_map_parts S.same (Keeping S.same (Calls F.FnMut)) S.steady
+        (leaves_relating (Calls F.FnMut)).following
         (leaves_keeping (Calls F.FnMut) S.same) };
 }
 
@@ -53,7 +57,8 @@ impl<S: SteadyStream<Item: Drop>> SteadyStream for Skip<S> {
 
     ghost alike = { λ x y. S.alike x.stream y.stream × (y.n ≡ x.n) };
 
-    ghost steady = { through_steady_over skip_parts S.same S.same S.steady (leaves_turning Skips).following (leaves_showing Skips skips_match S.same) };
+    ghost steady = { through_steady_over skip_parts S.same S.same S.steady (leaves_relating Skips).following
+        (leaves_showing Skips skips_match S.same) };
 }
 
 impl<S: Counted<Item: Drop> + SteadyStream, P: FnMut(&S::Item) -> bool + Drop> SteadyStream
@@ -64,9 +69,11 @@ impl<S: Counted<Item: Drop> + SteadyStream, P: FnMut(&S::Item) -> bool + Drop> S
 
     ghost same = { S.same };
 
-    ghost alike = { λ x y. S.alike x.stream y.stream × OptionBy (AgreeFrom (SameItem S.same) (λ y z. y ≡ z) (CalledAt P.FnMut)) x.predicate y.predicate };
+    ghost alike = { λ x y. S.alike x.stream y.stream
+        × OptionBy (AgreeFrom (SameItem S.same) (λ y z. y ≡ z) (CalledAt P.FnMut)) x.predicate y.predicate };
 
-    ghost steady = { through_steady_over skip_while_parts S.same S.same S.steady (leaves_turning (SkipsUntil (CalledAt P.FnMut))).following
+    ghost steady = { through_steady_over skip_while_parts S.same S.same S.steady
+        (leaves_relating (SkipsUntil (CalledAt P.FnMut))).following
         (leaves_until (CalledAt P.FnMut) S.same) };
 }
 
@@ -79,5 +86,5 @@ impl<S: SteadyStream<Item: Drop>> SteadyStream for StepBy<S> {
 
     ghost alike = { λ x y. S.alike x.stream y.stream × ((y.step ≡ x.step) × (y.i ≡ x.i)) };
 
-    ghost steady = { through_steady_over step_by_parts S.same S.same S.steady steps_turning.following (steps_agreeing S.same) };
+    ghost steady = { through_steady_over step_by_parts S.same S.same S.steady steps_relating.following (steps_agreeing S.same) };
 }

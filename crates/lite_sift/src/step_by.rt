@@ -1,13 +1,14 @@
 ghost use Rattle.lite_base.specs.Ranks.{ranks_of};
-ghost use Rattle.std.specs.Prelude.{◌≡◌, None};
-ghost use Rattle.lite_base.specs.Ends.{Ends-count};
+ghost use Rattle.std.specs.Prelude.{None};
+ghost use Rattle.lite_base.specs.Ends.{Terminates-count};
+ghost use Rattle.lite_base.specs.Runs.{NoHint};
 ghost use Rattle.lite_sift.specs.StepBy.{CanStep, StepsBy, step_by_parts};
 ghost use Rattle.lite_sift.specs.Laws.Counting.{one_less};
 ghost use Rattle.lite_sift.specs.Leaving.{Sifts};
-ghost use Rattle.lite_sift.specs.Laws.StepBy.{Countdown, steps_turning};
+ghost use Rattle.lite_sift.specs.Laws.StepBy.{Countdown, steps_relating};
 ghost use Rattle.lite_stream.specs.Laws.Through.{laws_unhinted, through_counting};
 
-use lite_base::{Context, Counted, Poll, Stream, Turns, drive};
+use lite_base::{Context, Counted, Poll, PollSteps, Stream, drive};
 
 /// The items of a stream whose numbers, counted from 0, are multiples of a step.
 ///
@@ -20,20 +21,20 @@ pub struct StepBy<S> {
     pub(crate) i: usize,
 }
 
-impl<S: Stream<Item: Drop>> Turns for StepBy<S> {
+impl<S: Stream<Item: Drop>> PollSteps for StepBy<S> {
     type Output = Option<S::Item>;
 
-    ghost can_turn = { CanStep S.can_poll };
+    ghost can_step = { CanStep S.can_poll };
 
-    ghost turn = { Sifts Countdown S.run (CanStep S.can_poll) (λ m. m.stream) (λ m. (m.step, m.i)) };
+    ghost step = { Sifts Countdown S.run (CanStep S.can_poll) (λ m. m.stream) (λ m. (m.step, m.i)) };
 
-    ghost turn_leaves = { λ m. S.leaves m.stream };
+    ghost step_registers = { λ m. S.registers m.stream };
 
     ghost goes_on = { λ x y c h. h.0 };
 
-    ghost finite = { λ x c. Ends-count (λ m. m.i) (λ m n h. one_less h.1.2.1) x };
+    ghost finite = { λ x c. Terminates-count (λ m. m.i) (λ m n h. one_less h.1.2.1) x };
 
-    fn turn_once(&mut self, cx: &mut Context<'_>) -> Option<Poll<Option<S::Item>>> {
+    fn poll_step(&mut self, cx: &mut Context<'_>) -> Option<Poll<Option<S::Item>>> {
         match self.stream.poll_next(cx) {
             Poll::Ready(Some(item)) => {
                 if self.i == 0 {
@@ -57,11 +58,11 @@ impl<S: Stream<Item: Drop>> Stream for StepBy<S> {
 
     ghost run = { StepsBy S.run };
 
-    ghost leaves = { λ m. S.leaves m.stream };
+    ghost registers = { λ m. S.registers m.stream };
 
-    ghost hints = { λ m hint. hint ≡ (0, None) };
+    ghost hints = { NoHint };
 
-    ghost laws = { laws_unhinted step_by_parts S.laws steps_turning };
+    ghost laws = { laws_unhinted step_by_parts S.laws steps_relating };
 
     fn poll_next(&mut self, cx: &mut Context<'_>) -> Poll<Option<S::Item>> {
         drive(self, cx)
@@ -75,5 +76,5 @@ impl<S: Stream<Item: Drop>> Stream for StepBy<S> {
 impl<S: Counted<Item: Drop>> Counted for StepBy<S> {
     ghost ranks = { ranks_of (λ m. m.stream) S.ranks };
 
-    ghost counting = { through_counting step_by_parts S.counting steps_turning };
+    ghost counting = { through_counting step_by_parts S.counting steps_relating };
 }

@@ -1,7 +1,9 @@
 -- `empty`: each answer is an end.
-use Rattle.std.specs.Prelude.{◌≡◌, List}
+use Rattle.std.specs.Prelude.{◌≡◌}
 use Rattle.lite_base.specs.Answers.{Answer, end}
-use Rattle.lite_source.specs.Always.{Always}
+use Rattle.lite_base.specs.Runs.{Runs}
+use Rattle.lite_source.specs.Always.{Unchanging}
 
-abbrev pub Ends : {S A : Type 0} → S → List (Answer A) → S → Type 0
-Ends = Always (λ _ a. a ≡ end)
+-- each answer is an end
+abbrev pub GivesEnds : {S A : Type 0} → Runs (Answer A) S
+GivesEnds = Unchanging (λ _ a. a ≡ end)

@@ -1,5 +1,5 @@
 -- `once_future`: the future's list, its value as an item, and then an end for ever.
-use Rattle.std.specs.Prelude.{◌≡◌, List, Some}
+use Rattle.std.specs.Prelude.{◌≡◌, Some}
 use Rattle.std.specs.List.{AllByRecursion}
 use Rattle.std.specs.Option.{option_len}
 use Rattle.futures.specs.declared.task.Poll.{Poll}
@@ -7,9 +7,11 @@ use Rattle.lite_base.specs.Answers.{Answer, end}
 use Rattle.lite_base.specs.Future.Spent.{Spends}
 use Rattle.lite_base.specs.Ranks.{Ranks, number_ranks}
 use Rattle.lite_base.specs.Future.Handed.{handed}
+use Rattle.lite_base.specs.Runs.{Runs}
 use Rattle.lite_source.specs.declared.once_future.OnceFuture.{OnceFuture}
 
-abbrev pub GivesFuture : {F A : Type 0} → (F → List (Poll A) → F → Type 0) → OnceFuture F → List (Answer A) → OnceFuture F → Type 0
+-- the future's list, its value as an item, and then an end for ever
+abbrev pub GivesFuture : {F A : Type 0} → Runs (Poll A) F → Runs (Answer A) (OnceFuture F)
 GivesFuture run x out y = Spends run (handed (λ v. Some v)) (AllByRecursion (λ a. a ≡ end)) x.future out y.future
 
 -- how many futures are held

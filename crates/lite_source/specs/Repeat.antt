@@ -1,8 +1,9 @@
 -- `repeat`: each answer is an item, a clone of its own item or a refusal of one that may be refused.
-use Rattle.std.specs.Prelude.{◌≡◌, List, Some, None, Result, MatchResult}
+use Rattle.std.specs.Prelude.{◌≡◌, Some, None, Result, MatchResult}
 use Rattle.futures.specs.declared.task.Poll.TheVariants.{Ready, Pending}
 use Rattle.lite_base.specs.Answers.{Answer}
-use Rattle.lite_source.specs.Always.{Always}
+use Rattle.lite_base.specs.Runs.{Runs}
+use Rattle.lite_source.specs.Always.{Unchanging}
 use Rattle.lite_source.specs.declared.repeat.Repeat.{Repeat}
 
 -- each clone that the one may give is each that the other may
@@ -16,5 +17,6 @@ module _ {A E : Type 0} (is_clone : A → A → Type 0) (is_infallible : A → T
   IsCloned own (Ready None) = ⊥
   IsCloned own Pending = ⊥
 
-  abbrev pub Repeats : Repeat A → List (Answer (Result A E)) → Repeat A → Type 0
-  Repeats = Always (λ x. IsCloned x.item)
+  -- each answer is a clone of the item, or a refusal of one
+  abbrev pub Repeats : Runs (Answer (Result A E)) (Repeat A)
+  Repeats = Unchanging (λ x. IsCloned x.item)

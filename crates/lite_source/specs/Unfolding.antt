@@ -1,4 +1,5 @@
--- What `unfold` and `try_unfold` share: a function makes a future of each seed, and the future's value says what goes out, and which seed comes next.
+-- What `unfold` and `try_unfold` share: a function makes a future of each seed, and the future's value says what goes
+-- out, and which seed comes next.
 use Rattle.std.specs.Prelude.{◌≡◌, ◌⊎◌, ⊤, List, [], ◌∷◌, map, flat_map, Option, Some, None}
 use Rattle.std.specs.Fn.{Mut, Called}
 use Rattle.std.specs.List.{FoldsTo}
@@ -9,8 +10,9 @@ use Rattle.lite_base.specs.Alike.{MadeOf, OptionBy, SameItem, Sameness}
 use Rattle.lite_base.specs.Answers.{Answer, Waiting}
 use Rattle.lite_base.specs.Calling.{AgreeBy, AgreeFrom}
 use Rattle.lite_base.specs.Future.Finishes.{Finishes}
-use Rattle.lite_source.specs.Empty.{Ends}
+use Rattle.lite_source.specs.Empty.{GivesEnds}
 use Rattle.lite_base.specs.Future.Handed.{handed}
+use Rattle.lite_base.specs.Runs.{Question, Runs}
 
 -- what the next future is made of, or the future that is held, or nothing: it is over
 pub data Holding (S V : Type 0) : Type 0 where
@@ -18,17 +20,17 @@ pub data Holding (S V : Type 0) : Type 0 where
   Asked : V → Holding S V
   Over : Holding S V
 
--- by what is held
+-- what is held, by the two options that hold it
 abbrev pub holding : {S V : Type 0} → Option S → Option V → Holding S V
 holding (Some s) future = Holding.Seed s
 holding None (Some v) = Holding.Asked v
 holding None None = Holding.Over
 
 -- the future that is held, if any, is such
-abbrev pub IfAsked : {S V : Type 0} → Holding S V → (V → Type 0) → Type 0
-IfAsked (Holding.Asked v) P = P v
-IfAsked (Holding.Seed s) P = ⊤
-IfAsked Holding.Over P = ⊤
+abbrev pub IfHeldFuture : {S V : Type 0} → Holding S V → (V → Type 0) → Type 0
+IfHeldFuture (Holding.Asked v) P = P v
+IfHeldFuture (Holding.Seed s) P = ⊤
+IfHeldFuture Holding.Over P = ⊤
 
 -- seeds that are the same, or futures that are alike, or nothing
 abbrev pub HoldingsBy : {S V : Type 0} → (S → S → Type 0) → (V → V → Type 0) → Holding S V → Holding S V → Type 0
@@ -41,24 +43,28 @@ HoldingsBy same alike x y = ⊥
 abbrev pub PartOf : {O B : Type 0} → Sameness O → (O → Option B) → Sameness B
 PartOf same part = MadeOf same (λ o b. part o ≡ Some b)
 
--- of two values that are the same, both have that part, or neither
+-- of two values that are the same, both have this part, or neither
 abbrev pub BothHave : {O B : Type 0} → (O → O → Type 0) → (O → Option B) → Type 0
 BothHave {O} same part = (o p : O) → same o p → OptionBy (λ _ _. ⊤) (part o) (part p)
 
--- what is asked of two that unfold: seeds that are the same make futures that are alike, and what is held is so; and, where values are compared by a relation,
+-- what is asked of two that unfold: seeds that are the same make futures that are alike, and what is held is so; and,
+-- where values are compared by a relation,
 -- that both values have an item or neither, and so a next seed
-abbrev pub UnfoldAlike : {F S V O B : Type 0} → Sameness O → (V → V → Type 0) → (F → S → V → F → Type 0) → (O → Option S) → (O → Option B)
+abbrev pub UnfoldAlike : {F S V O B : Type 0} → Sameness O → (V → V → Type 0) → Question F S V → (O → Option S)
+    → (O → Option B)
     → F × Holding S V → F × Holding S V → Type 0
-UnfoldAlike Sameness.equal alike call after shown x y = AgreeBy alike call x.0 y.0 × HoldingsBy (λ s t. s ≡ t) alike x.1 y.1
+UnfoldAlike Sameness.equal alike call after shown x y =
+    AgreeBy alike call x.0 y.0 × HoldingsBy (λ s t. s ≡ t) alike x.1 y.1
 UnfoldAlike (Sameness.by same) alike call after shown x y =
-    AgreeFrom (SameItem (PartOf (Sameness.by same) after)) alike call x.0 y.0 × HoldingsBy (SameItem (PartOf (Sameness.by same) after)) alike x.1 y.1
+    AgreeFrom (SameItem (PartOf (Sameness.by same) after)) alike call x.0 y.0
+    × HoldingsBy (SameItem (PartOf (Sameness.by same) after)) alike x.1 y.1
     × BothHave same shown × BothHave same after
 
--- what a pending poll leaves is left by the future
-abbrev pub UnfoldLeaves : {S V : Type 0} → (V → Lasting → Type 0) → Holding S V → Lasting → Type 0
-UnfoldLeaves leaves (Holding.Asked v) fact = leaves v fact
-UnfoldLeaves leaves (Holding.Seed s) fact = ⊥
-UnfoldLeaves leaves Holding.Over fact = ⊥
+-- what a pending registered: what the future did
+abbrev pub UnfoldRegisters : {S V : Type 0} → (V → Lasting → Type 0) → Holding S V → Lasting → Type 0
+UnfoldRegisters registers (Holding.Asked v) fact = registers v fact
+UnfoldRegisters registers (Holding.Seed s) fact = ⊥
+UnfoldRegisters registers Holding.Over fact = ⊥
 
 module _ {F S V : Type 0} (call : Mut F (S × Unit {0}) V) where
   -- v is the future that is held, or that the function makes of the seed
@@ -72,25 +78,30 @@ abbrev pub comes : {S V : Type 0} → Option S → Holding S V
 comes None = Holding.Over
 comes (Some s) = Holding.Seed s
 
-module _ {F S V O : Type 0} (call : Mut F (S × Unit {0}) V) (gives : V → List (Poll O) → V → Type 0) where
+module _ {F S V O : Type 0} (call : Mut F (S × Unit {0}) V) (gives : Runs (Poll O) V) where
   -- one poll of the future; a value leaves nothing, and None comes where there is no future
-  abbrev pub Asks : F → Holding S V → Poll (Option O) → F → Holding S V → Type 0
-  Asks p x Pending q next = (v w : V) × IsCurrent call p x q v × gives v (Pending ∷ []) w × (next ≡ Holding.Asked w)
-  Asks p x (Ready (Some o)) q next = (v : V) × IsCurrent call p x q v × Finishes gives v (Ready o ∷ []) o × (next ≡ Holding.Over)
-  Asks p x (Ready None) q next = (x ≡ Holding.Over) × (q ≡ p) × (next ≡ Holding.Over)
+  abbrev pub UnfoldStep : F → Holding S V → Poll (Option O) → F → Holding S V → Type 0
+  UnfoldStep p x Pending q next =
+      (v w : V) × IsCurrent call p x q v × gives v (Pending ∷ []) w × (next ≡ Holding.Asked w)
+  UnfoldStep p x (Ready (Some o)) q next =
+      (v : V) × IsCurrent call p x q v × Finishes gives v (Ready o ∷ []) o × (next ≡ Holding.Over)
+  UnfoldStep p x (Ready None) q next = (x ≡ Holding.Over) × (q ≡ p) × (next ≡ Holding.Over)
 
   -- of the value o of a future, `shown o` goes out, and `after o` is the next seed; None ends it for ever
   module _ {B : Type 0} (after : O → Option S) (shown : O → Option B) where
     -- the future v gave ins: it is still pending, or its value says what comes next
     abbrev pub Leads : V → List (Poll O) → Holding S V → Type 0
-    Leads v ins next = ((w : V) × Waiting ins × gives v ins w × (next ≡ Holding.Asked w)) ⊎ ((o : O) × Finishes gives v ins o × (next ≡ comes (after o)))
+    Leads v ins next = ((w : V) × Waiting ins × gives v ins w × (next ≡ Holding.Asked w))
+        ⊎ ((o : O) × Finishes gives v ins o × (next ≡ comes (after o)))
 
     -- the answers of one future; and where it is over, ends
-    abbrev pub Part : F → Holding S V → List (Answer B) → F → Holding S V → Type 0
-    Part p x out q next = ((v : V) × (ins : List (Poll O)) × IsCurrent call p x q v × Leads v ins next × (out ≡ map (handed shown) ins))
-        ⊎ ((x ≡ Holding.Over) × (q ≡ p) × Ends Holding.Over out next)
+    abbrev pub UnfoldPart : F → Holding S V → List (Answer B) → F → Holding S V → Type 0
+    UnfoldPart p x out q next =
+        ((v : V) × (ins : List (Poll O)) × IsCurrent call p x q v × Leads v ins next × (out ≡ map (handed shown) ins))
+        ⊎ ((x ≡ Holding.Over) × (q ≡ p) × GivesEnds Holding.Over out next)
 
     -- the parts one after the other, each of at least one answer
     abbrev pub Unfolds : F × Holding S V → List (Answer B) → F × Holding S V → Type 0
-    Unfolds x out y = (parts : List (Answer B × List (Answer B))) × FoldsTo (λ s part t. Part s.0 s.1 (part.0 ∷ part.1) t.0 t.1) x parts y
+    Unfolds x out y = (parts : List (Answer B × List (Answer B)))
+        × FoldsTo (λ s part t. UnfoldPart s.0 s.1 (part.0 ∷ part.1) t.0 t.1) x parts y
         × (out ≡ flat_map (λ part. part.0 ∷ part.1) parts)

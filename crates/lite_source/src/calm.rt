@@ -1,5 +1,5 @@
 //! The sources of which some values, or all, are never pending.
-ghost use Rattle.lite_base.specs.Calm.{Prompt};
+ghost use Rattle.lite_base.specs.Calm.{NoPending};
 ghost use Rattle.lite_base.specs.Future.Calls.{NeverPends};
 ghost use Rattle.lite_source.specs.Iter.{Nexts};
 ghost use Rattle.lite_source.specs.Laws.Empty.{empty_calm};
@@ -13,7 +13,7 @@ ghost use Rattle.lite_source.specs.Laws.Unfolded.{unfolds_calm};
 ghost use Rattle.lite_source.specs.RepeatWith.{Call};
 ghost use Rattle.lite_source.specs.TryUnfold.{try_item_of, try_seed_of};
 ghost use Rattle.lite_source.specs.Unfold.{item_of, seed_of};
-ghost use Rattle.lite_source.specs.Unfolding.{IfAsked};
+ghost use Rattle.lite_source.specs.Unfolding.{IfHeldFuture};
 ghost use Rattle.std.specs.Fn.{AlwaysReturns};
 ghost use Rattle.std.specs.Prelude.{IfSome, ⊤};
 
@@ -63,7 +63,7 @@ impl<T, F: FnMut() -> T> CalmStream for RepeatWith<F> {
 }
 
 impl<T> CalmStream for Script<T> {
-    ghost is_calm = { Prompt };
+    ghost is_calm = { NoPending };
 
     ghost calm = { gives_calm };
 }
@@ -74,7 +74,7 @@ where
     F: FnMut(T) -> Fut,
     Fut: CalmFuture<Output = Result<Option<(Item, T)>, E>> + Drop,
 {
-    ghost is_calm = { λ x. AlwaysReturns F.FnMut (λ s v. Fut.is_calm v) x.f × IfAsked x.state Fut.is_calm };
+    ghost is_calm = { λ x. AlwaysReturns F.FnMut (λ s v. Fut.is_calm v) x.f × IfHeldFuture x.state Fut.is_calm };
 
     ghost calm = { unfolds_calm F.FnMut Fut.calm try_seed_of try_item_of (λ x. (x.f, x.state)) };
 }
@@ -85,7 +85,7 @@ where
     F: FnMut(T) -> Fut,
     Fut: CalmFuture<Output = Option<(Item, T)>> + Drop,
 {
-    ghost is_calm = { λ x. AlwaysReturns F.FnMut (λ s v. Fut.is_calm v) x.f × IfAsked x.state Fut.is_calm };
+    ghost is_calm = { λ x. AlwaysReturns F.FnMut (λ s v. Fut.is_calm v) x.f × IfHeldFuture x.state Fut.is_calm };
 
     ghost calm = { unfolds_calm F.FnMut Fut.calm seed_of item_of (λ x. (x.f, x.state)) };
 }

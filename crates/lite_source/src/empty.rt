@@ -1,7 +1,7 @@
 ghost use Rattle.std.specs.Prelude.{◌≡◌, Some};
 ghost use Rattle.lite_base.specs.OkRanks.{ok_counting};
 ghost use Rattle.lite_source.specs.Always.{no_ranks};
-ghost use Rattle.lite_source.specs.Empty.{Ends};
+ghost use Rattle.lite_source.specs.Empty.{GivesEnds};
 ghost use Rattle.lite_source.specs.Laws.Empty.{empty_counting, empty_laws};
 
 use lite_base::{Context, Counted, OkCounted, Poll, Stream};
@@ -18,7 +18,7 @@ pub struct Empty<T> {
 impl<T> Stream for Empty<T> {
     type Item = T;
 
-    ghost run = { Ends };
+    ghost run = { GivesEnds };
 
     ghost hints = { λ x hint. hint ≡ (0, Some 0) };
 

@@ -1,7 +1,7 @@
 ghost use Rattle.std.specs.Prelude.{◌≡◌, Some, length};
 ghost use Rattle.lite_base.specs.OkRanks.{ok_counting};
 ghost use Rattle.lite_source.specs.Laws.Once.{once_counting, once_laws};
-ghost use Rattle.lite_source.specs.Once.{GivesOnce, held, once_ranks};
+ghost use Rattle.lite_source.specs.Once.{GivesOnce, once_left, once_ranks};
 
 use lite_base::{Context, Counted, OkCounted, Poll, Stream};
 
@@ -18,7 +18,7 @@ impl<T> Stream for Once<T> {
 
     ghost run = { GivesOnce };
 
-    ghost hints = { λ x hint. hint ≡ (length (held x.value), Some (length (held x.value))) };
+    ghost hints = { λ x hint. hint ≡ (length (once_left x.value), Some (length (once_left x.value))) };
 
     ghost laws = { once_laws };
 

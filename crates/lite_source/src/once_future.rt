@@ -1,5 +1,6 @@
 ghost use Rattle.std.specs.Prelude.{◌≡◌, IfSome, None, Some};
 ghost use Rattle.lite_base.specs.OkRanks.{ok_counting};
+ghost use Rattle.lite_base.specs.Runs.{NoHint};
 ghost use Rattle.lite_source.specs.Laws.OnceFuture.{once_future_counting, once_future_laws};
 ghost use Rattle.lite_source.specs.OnceFuture.{GivesFuture, once_future_ranks};
 
@@ -21,9 +22,9 @@ impl<F: Future + Drop> Stream for OnceFuture<F> {
 
     ghost run = { GivesFuture F.run };
 
-    ghost leaves = { λ x fact. (f : F) × (x.future ≡ Some f) × F.leaves f fact };
+    ghost registers = { λ x fact. (f : F) × (x.future ≡ Some f) × F.registers f fact };
 
-    ghost hints = { λ x hint. hint ≡ (0, None) };
+    ghost hints = { NoHint };
 
     ghost laws = { once_future_laws F.run F.laws };
 

@@ -2,7 +2,7 @@ ghost use Rattle.std.specs.Prelude.{◌≡◌, Some};
 ghost use Rattle.lite_base.specs.OkRanks.{ok_counting};
 ghost use Rattle.lite_source.specs.Always.{no_ranks};
 ghost use Rattle.lite_source.specs.Laws.Pending.{pending_counting, pending_laws};
-ghost use Rattle.lite_source.specs.Pending.{Waits};
+ghost use Rattle.lite_source.specs.Pending.{GivesPendings};
 
 use lite_base::{Context, Counted, OkCounted, Poll, Stream};
 use std::marker::PhantomData;
@@ -18,7 +18,7 @@ pub struct Pending<T> {
 impl<T> Stream for Pending<T> {
     type Item = T;
 
-    ghost run = { Waits };
+    ghost run = { GivesPendings };
 
     ghost hints = { λ x hint. hint ≡ (0, Some 0) };
 

@@ -1,7 +1,8 @@
-ghost use Rattle.std.specs.Prelude.{◌≡◌, ⊤, None};
+ghost use Rattle.std.specs.Prelude.{⊤, None};
 ghost use Rattle.std.specs.List.{FoldsTo};
 ghost use Rattle.std.proofs.Common.{ap};
-ghost use Rattle.lite_base.specs.Future.Calls.{AlwaysObeys, Answers, Leaves};
+ghost use Rattle.lite_base.specs.Future.Calls.{AlwaysObeys, CallAnswers, CallRegisters};
+ghost use Rattle.lite_base.specs.Runs.{NoHint};
 ghost use Rattle.lite_source.specs.Laws.Folds.{folds_laws};
 
 use lite_base::{Context, Poll, Stream};
@@ -19,13 +20,13 @@ impl<T, F: FnMut(&mut Context<'_>) -> Poll<Option<T>>> Stream for PollFn<F> {
 
     ghost can_poll = { λ x. AlwaysObeys F.FnMut (λ _. ⊤) x.f };
 
-    ghost run = { λ x l y. FoldsTo (Answers F.FnMut) x.f l y.f };
+    ghost run = { λ x l y. FoldsTo (CallAnswers F.FnMut) x.f l y.f };
 
-    ghost leaves = { λ x. Leaves F.FnMut x.f };
+    ghost registers = { λ x. CallRegisters F.FnMut x.f };
 
-    ghost hints = { λ x hint. hint ≡ (0, None) };
+    ghost hints = { NoHint };
 
-    ghost laws = { folds_laws (λ x. x.f) (Answers F.FnMut) (λ x y. ap (λ v. record x { f = v })) 0 };
+    ghost laws = { folds_laws (λ x. x.f) (CallAnswers F.FnMut) (λ x y. ap (λ v. record x { f = v })) 0 };
 
     fn poll_next(&mut self, cx: &mut Context<'_>) -> Poll<Option<T>> {
         (self.f)(cx)

@@ -1,7 +1,7 @@
 ghost use Rattle.std.specs.Prelude.{◌≡◌, ◌-◌, ◌^◌, None};
 ghost use Rattle.std.proofs.Common.{ap};
 ghost use Rattle.lite_source.specs.Laws.Folds.{folds_laws};
-ghost use Rattle.lite_source.specs.RepeatWith.{Call, Repeats};
+ghost use Rattle.lite_source.specs.RepeatWith.{Call, RepeatsWith};
 
 use lite_base::{Context, Poll, Stream};
 
@@ -18,7 +18,7 @@ impl<T, F: FnMut() -> T> Stream for RepeatWith<F> {
 
     ghost can_poll = { λ x. F.IsAlwaysCallable x.f };
 
-    ghost run = { λ x l y. Repeats F.FnMut x.f l y.f };
+    ghost run = { λ x l y. RepeatsWith F.FnMut x.f l y.f };
 
     ghost hints = { λ x hint. hint ≡ (2 ^ 64 - 1, None) };
 

@@ -2,8 +2,9 @@ ghost use Rattle.std.specs.Prelude.{◌≡◌, IfOk, List, None, length};
 ghost use Rattle.std.specs.List.{AllZip};
 ghost use Rattle.lite_base.specs.OkRanks.{ok_counting};
 ghost use Rattle.lite_base.specs.Ranks.{number_counting, number_ranks};
+ghost use Rattle.lite_base.specs.Runs.{NoHint};
 ghost use Rattle.lite_source.specs.Laws.Script.{gives_lowers, script_laws};
-ghost use Rattle.lite_source.specs.Script.{Gives, IsCloneBy};
+ghost use Rattle.lite_source.specs.Script.{GivesScript, IsCloneBy};
 
 use lite_base::{Context, Counted, OkCounted, Poll, Stream};
 use std::alloc::AllocError;
@@ -61,9 +62,9 @@ impl<T: Clone> Clone for Script<T> {
 impl<T> Stream for Script<T> {
     type Item = T;
 
-    ghost run = { Gives };
+    ghost run = { GivesScript };
 
-    ghost hints = { λ x hint. hint ≡ (0, None) };
+    ghost hints = { NoHint };
 
     ghost laws = { script_laws };
 

@@ -2,9 +2,9 @@
 ghost use Rattle.lite_base.specs.Alike.{Alike, OptionBy};
 ghost use Rattle.lite_base.specs.Answers.{strip};
 ghost use Rattle.lite_base.specs.Calling.{Calls};
-ghost use Rattle.lite_base.specs.Future.Calls.{Answers};
+ghost use Rattle.lite_base.specs.Future.Calls.{CallAnswers};
 ghost use Rattle.lite_base.specs.Steady.{steady_always};
-ghost use Rattle.lite_source.specs.Empty.{Ends};
+ghost use Rattle.lite_source.specs.Empty.{GivesEnds};
 ghost use Rattle.lite_source.specs.Iter.{Iterates, Nexts};
 ghost use Rattle.lite_source.specs.Laws.Empty.{empty_laws, empty_steady};
 ghost use Rattle.lite_source.specs.Laws.Folds.{folds_steady};
@@ -18,10 +18,10 @@ ghost use Rattle.lite_source.specs.Laws.Unfold.{unfold_laws};
 ghost use Rattle.lite_source.specs.Laws.Unfolded.{unfolds_steady};
 ghost use Rattle.lite_source.specs.Once.{GivesOnce};
 ghost use Rattle.lite_source.specs.OnceFuture.{GivesFuture};
-ghost use Rattle.lite_source.specs.Pending.{Waits};
+ghost use Rattle.lite_source.specs.Pending.{GivesPendings};
 ghost use Rattle.lite_source.specs.Repeat.{Repeats, SameClones};
 ghost use Rattle.lite_source.specs.RepeatWith.{Call};
-ghost use Rattle.lite_source.specs.Script.{Gives};
+ghost use Rattle.lite_source.specs.Script.{GivesScript};
 ghost use Rattle.lite_source.specs.TryUnfold.{TryUnfoldsBy, try_item_of, try_seed_of};
 ghost use Rattle.lite_source.specs.Unfold.{UnfoldsBy, item_of, seed_of};
 ghost use Rattle.lite_source.specs.Unfolding.{PartOf, UnfoldAlike};
@@ -35,7 +35,7 @@ use crate::{
 use lite_base::{Context, Poll, SteadyFuture, SteadyStream};
 
 impl<T> SteadyStream for Empty<T> {
-    ghost ample = { Ends };
+    ghost ample = { GivesEnds };
 
     ghost alike = { λ _ _. ⊤ };
 
@@ -47,7 +47,8 @@ impl<I: Iterator> SteadyStream for Iter<I> {
 
     ghost alike = { λ x y. Alike (Iterates I.can_next I.next_gives I.remaining) x.iter y.iter };
 
-    ghost steady = { folds_steady (λ x. x.iter) (Nexts I.can_next I.next_gives I.remaining) (λ x y. ap (λ v. record x { iter = v })) };
+    ghost steady = { folds_steady (λ x. x.iter) (Nexts I.can_next I.next_gives I.remaining)
+        (λ x y. ap (λ v. record x { iter = v })) };
 }
 
 impl<T> SteadyStream for Once<T> {
@@ -71,7 +72,7 @@ impl<F: SteadyFuture + Drop> SteadyStream for OnceFuture<F> {
 }
 
 impl<T> SteadyStream for Pending<T> {
-    ghost ample = { Waits };
+    ghost ample = { GivesPendings };
 
     ghost alike = { λ _ _. ⊤ };
 
@@ -79,11 +80,11 @@ impl<T> SteadyStream for Pending<T> {
 }
 
 impl<T, F: FnMut(&mut Context<'_>) -> Poll<Option<T>>> SteadyStream for PollFn<F> {
-    ghost ample = { λ x l y. FoldsTo (Answers F.FnMut) x.f l y.f };
+    ghost ample = { λ x l y. FoldsTo (CallAnswers F.FnMut) x.f l y.f };
 
-    ghost alike = { λ x y. Alike (FoldsTo (Answers F.FnMut)) x.f y.f };
+    ghost alike = { λ x y. Alike (FoldsTo (CallAnswers F.FnMut)) x.f y.f };
 
-    ghost steady = { folds_steady (λ x. x.f) (Answers F.FnMut) (λ x y. ap (λ v. record x { f = v })) };
+    ghost steady = { folds_steady (λ x. x.f) (CallAnswers F.FnMut) (λ x y. ap (λ v. record x { f = v })) };
 }
 
 impl<T: Clone> SteadyStream for Repeat<T> {
@@ -105,7 +106,7 @@ impl<T, F: FnMut() -> T> SteadyStream for RepeatWith<F> {
 }
 
 impl<T> SteadyStream for Script<T> {
-    ghost ample = { Gives };
+    ghost ample = { GivesScript };
 
     ghost alike = { λ x y. strip x ≡ strip y };
 
@@ -126,7 +127,8 @@ where
 
     ghost alike = { λ x y. UnfoldAlike Fut.same Fut.alike (Calls F.FnMut) try_seed_of try_item_of (x.f, x.state) (y.f, y.state) };
 
-    ghost steady = { unfolds_steady F.FnMut try_seed_of try_item_of Fut.same (λ x. (x.f, x.state)) (try_unfold_laws F.FnMut Fut.ample) Fut.steady };
+    ghost steady = { unfolds_steady F.FnMut try_seed_of try_item_of Fut.same (λ x. (x.f, x.state))
+        (try_unfold_laws F.FnMut Fut.ample) Fut.steady };
 }
 
 impl<T, F, Fut, Item> SteadyStream for Unfold<T, F, Fut>
@@ -143,5 +145,6 @@ where
 
     ghost alike = { λ x y. UnfoldAlike Fut.same Fut.alike (Calls F.FnMut) seed_of item_of (x.f, x.state) (y.f, y.state) };
 
-    ghost steady = { unfolds_steady F.FnMut seed_of item_of Fut.same (λ x. (x.f, x.state)) (unfold_laws F.FnMut Fut.ample) Fut.steady };
+    ghost steady = { unfolds_steady F.FnMut seed_of item_of Fut.same (λ x. (x.f, x.state))
+        (unfold_laws F.FnMut Fut.ample) Fut.steady };
 }

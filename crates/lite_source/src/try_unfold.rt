@@ -1,8 +1,9 @@
-ghost use Rattle.std.specs.Prelude.{◌≡◌, None};
+ghost use Rattle.std.specs.Prelude.{None};
 ghost use Rattle.std.specs.Fn.{AlwaysReturns};
 ghost use Rattle.lite_source.specs.TryUnfold.{TryUnfoldsBy};
-ghost use Rattle.lite_source.specs.Unfolding.{IfAsked, UnfoldLeaves};
+ghost use Rattle.lite_source.specs.Unfolding.{IfHeldFuture, UnfoldRegisters};
 ghost use Rattle.lite_source.specs.Laws.TryUnfold.{try_unfold_laws};
+ghost use Rattle.lite_base.specs.Runs.{NoHint};
 
 use crate::unfolding::Unfolding;
 use lite_base::{Context, Future, Poll, Stream, ready};
@@ -26,13 +27,14 @@ where
 {
     type Item = Result<Item, E>;
 
-    ghost can_poll = { λ x. F.IsAlwaysCallable x.f × AlwaysReturns F.FnMut (λ s v. Fut.can_poll v) x.f × IfAsked x.state Fut.can_poll };
+    ghost can_poll = { λ x. F.IsAlwaysCallable x.f × AlwaysReturns F.FnMut (λ s v. Fut.can_poll v) x.f
+        × IfHeldFuture x.state Fut.can_poll };
 
     ghost run = { TryUnfoldsBy F.FnMut Fut.run };
 
-    ghost leaves = { λ x. UnfoldLeaves Fut.leaves x.state };
+    ghost registers = { λ x. UnfoldRegisters Fut.registers x.state };
 
-    ghost hints = { λ x hint. hint ≡ (0, None) };
+    ghost hints = { NoHint };
 
     ghost laws = { try_unfold_laws F.FnMut Fut.run };
 

@@ -1,8 +1,8 @@
 ghost use Rattle.std.specs.Prelude.{◌≡◌};
 ghost use Rattle.std.specs.Fn.{AlwaysReturns};
-ghost use Rattle.futures.specs.Poll.{OnPending};
-ghost use Rattle.futures.specs.Task.{Holds, Keeps, Lasting};
-ghost use Rattle.lite_source.specs.Unfolding.{Asks, IfAsked, Holding, UnfoldLeaves};
+ghost use Rattle.futures.specs.Task.{Keeps};
+ghost use Rattle.lite_source.specs.Unfolding.{Holding, IfHeldFuture, UnfoldRegisters, UnfoldStep};
+ghost use Rattle.lite_base.specs.Registered.{Registered};
 
 use lite_base::{Context, Future, Poll, ready};
 use std::marker::Model;
@@ -46,12 +46,12 @@ impl<T: Drop, Fut: Future + Drop> Unfolding<T, Fut> {
     ) -> Poll<Option<Fut::Output>>
         requires callable { F.IsAlwaysCallable f.old }
         requires makes { AlwaysReturns F.FnMut (λ s v. Fut.can_poll v) f.old }
-        requires asked { IfAsked self.old Fut.can_poll }
-        ensures ran { Asks F.FnMut Fut.run f.old self.old result f.new self.new }
+        requires asked { IfHeldFuture self.old Fut.can_poll }
+        ensures ran { UnfoldStep F.FnMut Fut.run f.old self.old result f.new self.new }
         ensures callable { F.IsAlwaysCallable f.new }
         ensures makes { AlwaysReturns F.FnMut (λ s v. Fut.can_poll v) f.new }
-        ensures asked { IfAsked self.new Fut.can_poll }
-        ensures left { OnPending result ((fact : Lasting) → UnfoldLeaves Fut.leaves self.new fact → Holds cx.new fact) }
+        ensures asked { IfHeldFuture self.new Fut.can_poll }
+        ensures left { Registered result (UnfoldRegisters Fut.registers self.new) cx.new }
         ensures kept { Keeps cx.old cx.new }
     {
         if let Some(seed) = self.seed.take() {

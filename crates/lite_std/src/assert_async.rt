@@ -3,7 +3,8 @@ ghost use Rattle.std.specs.Borrow.{Lends, sem};
 ghost use Rattle.lite_io_base.specs.Laws.Runs.{idle_laws};
 ghost use Rattle.lite_io_base.specs.Runs.{Idle};
 ghost use Rattle.lite_std.specs.Known.{GainsKnown, MovesKnown, SameKnown, SpendsKnown, SpendsWell, known_bytes};
-ghost use Rattle.lite_std.specs.Laws.Known.{gains_calm, gains_laws, gains_steady, spends_calm, spends_laws, spends_steady};
+ghost use Rattle.lite_std.specs.Laws.Known.{gains_calm, gains_laws, gains_steady, spends_calm, spends_laws};
+ghost use Rattle.lite_std.specs.Laws.Known.{spends_steady};
 
 use crate::interrupted::{MOST_INTERRUPTIONS, insist};
 use lite_base::{Context, Poll};
@@ -150,7 +151,8 @@ impl<T: Write> CalmWrite for AssertAsync<T> {
 impl<T: Seek> AsyncSeek for AssertAsync<T> {
     ghost use Rattle.lite_std.specs.AssertAsync.{handle_of};
 
-    ghost seeks = { λ x pos r y. MovesKnown (T.stream_position (handle_of x)) (T.stream_position (handle_of y)) (T.stream_bytes (handle_of x)) (T.stream_bytes (handle_of y)) pos r };
+    ghost seeks = { λ x pos r y. MovesKnown (T.stream_position (handle_of x)) (T.stream_position (handle_of y))
+        (T.stream_bytes (handle_of x)) (T.stream_bytes (handle_of y)) pos r };
 
     fn poll_seek(&mut self, _cx: &mut Context<'_>, pos: SeekFrom) -> Poll<io::Result<u64>> {
         insist!(self.inner.seek(pos))

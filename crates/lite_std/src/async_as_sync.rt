@@ -9,8 +9,8 @@ ghost use Rattle.lite_io_base.specs.Kinds.{by_kind};
 ghost use Rattle.lite_io_base.specs.Marks.{read_marks};
 ghost use Rattle.lite_io_base.specs.Runs.{ReadsInto, room_in};
 ghost use Rattle.lite_io_base.specs.Takings.{done_marks, write_marks};
-ghost use Rattle.lite_io_base.specs.Takings.Taking.{closed, flushed};
-ghost use Rattle.lite_std.specs.AsyncAsSync.{InTime, PollsWith, Seen, Synced};
+ghost use Rattle.lite_io_base.specs.Takings.WriteMark.{closed, flushed};
+ghost use Rattle.lite_std.specs.AsyncAsSync.{InTime, PollsWith, SameContext, Synced};
 
 use lite_base::{Context, Poll};
 use lite_io_base::{AsyncRead, AsyncSeek, AsyncWrite};
@@ -54,8 +54,9 @@ impl<'r, 'ctx, T> AsyncAsSync<'r, 'ctx, T> {
     pub fn close(&mut self) -> io::Result<()>
     where
         T: AsyncWrite,
-        ensures ran { Synced (λ answer. T.writes self.old.inner (done_marks closed answer) self.new.inner) (T.write_leaves self.new.inner) self.new.context.now result }
-        ensures seen { Seen self.old.context self.new.context }
+        ensures ran { Synced (λ answer. T.writes self.old.inner (done_marks closed answer) self.new.inner)
+            (T.write_registers self.new.inner) self.new.context.now result }
+        ensures seen { SameContext self.old.context self.new.context }
     {
         in_time(self.inner.poll_close(self.context))
     }
@@ -77,8 +78,9 @@ impl<'r, 'ctx, T> AsyncAsSync<'r, 'ctx, T> {
     where
         T: AsyncRead,
         ensures bound { IfOk result (λ n. n ≤ room_in bufs.old) }
-        ensures ran { Synced (λ answer. ReadsInto T.reads self.old.inner answer bufs.old self.new.inner) (T.leaves self.new.inner) self.new.context.now result }
-        ensures seen { Seen self.old.context self.new.context }
+        ensures ran { Synced (λ answer. ReadsInto T.reads self.old.inner answer bufs.old self.new.inner)
+            (T.registers self.new.inner) self.new.context.now result }
+        ensures seen { SameContext self.old.context self.new.context }
     {
         in_time(self.inner.poll_read_vectored(self.context, bufs))
     }
@@ -89,8 +91,10 @@ impl<'r, 'ctx, T> AsyncAsSync<'r, 'ctx, T> {
     where
         T: AsyncWrite,
         ensures bound { IfOk result (λ n. n ≤ length (io_slices_bytes bufs.now)) }
-        ensures ran { Synced (λ answer. T.writes self.old.inner (write_marks answer (io_slices_bytes bufs.now)) self.new.inner) (T.write_leaves self.new.inner) self.new.context.now result }
-        ensures seen { Seen self.old.context self.new.context }
+        ensures ran { Synced
+            (λ answer. T.writes self.old.inner (write_marks answer (io_slices_bytes bufs.now)) self.new.inner)
+            (T.write_registers self.new.inner) self.new.context.now result }
+        ensures seen { SameContext self.old.context self.new.context }
     {
         in_time(self.inner.poll_write_vectored(self.context, bufs))
     }
@@ -105,7 +109,9 @@ impl<'r, 'ctx, T> AsyncAsSync<'r, 'ctx, T> {
     /// What is polled, to be changed. Ported from `src/io.rs`, `BorrowMut::borrow_mut` of `AsyncAsSync`.
     pub fn borrow_mut(&mut self) -> &mut T
         ensures value { result.now ≡ self.old.inner }
-        ensures* writes_back { sem 𝓛 (Lends (the_row (record { mir = named 1; lft = [] }) (record { mir = named 2; lft = [] }) T.row) T.row self.entry result
+        ensures* writes_back { sem 𝓛 (Lends
+            (the_row (record { mir = named 1; lft = [] })
+            (record { mir = named 2; lft = [] }) T.row) T.row self.entry result
             (λ t. record self.old { inner = t })) }
     {
         &mut self.inner
@@ -116,8 +122,9 @@ impl<T: AsyncRead> Read for AsyncAsSync<'_, '_, T> {
     fn read(&mut self, buf: &mut [u8]) -> io::Result<usize>
         ensures bound { ReadsAtMost result buf.new }
         ensures bytes { ReadConsumes None None result buf.new }
-        ensures ran { Synced (λ answer. T.reads self.old.inner (read_marks answer buf.new) self.new.inner) (T.leaves self.new.inner) self.new.context.now result }
-        ensures seen { Seen self.old.context self.new.context }
+        ensures ran { Synced (λ answer. T.reads self.old.inner (read_marks answer buf.new) self.new.inner)
+            (T.registers self.new.inner) self.new.context.now result }
+        ensures seen { SameContext self.old.context self.new.context }
     {
         in_time(self.inner.poll_read(self.context, buf))
     }
@@ -127,16 +134,18 @@ impl<T: AsyncWrite> Write for AsyncAsSync<'_, '_, T> {
     fn write(&mut self, buf: &[u8]) -> io::Result<usize>
         ensures bound { WritesAtMost result buf.now }
         ensures bytes { WriteAppends None None result buf.now }
-        ensures ran { Synced (λ answer. T.writes self.old.inner (write_marks answer buf.now) self.new.inner) (T.write_leaves self.new.inner) self.new.context.now result }
-        ensures seen { Seen self.old.context self.new.context }
+        ensures ran { Synced (λ answer. T.writes self.old.inner (write_marks answer buf.now) self.new.inner)
+            (T.write_registers self.new.inner) self.new.context.now result }
+        ensures seen { SameContext self.old.context self.new.context }
     {
         in_time(self.inner.poll_write(self.context, buf))
     }
 
     fn flush(&mut self) -> io::Result<()>
         ensures bytes { KeepsKnown None None }
-        ensures ran { Synced (λ answer. T.writes self.old.inner (done_marks flushed answer) self.new.inner) (T.write_leaves self.new.inner) self.new.context.now result }
-        ensures seen { Seen self.old.context self.new.context }
+        ensures ran { Synced (λ answer. T.writes self.old.inner (done_marks flushed answer) self.new.inner)
+            (T.write_registers self.new.inner) self.new.context.now result }
+        ensures seen { SameContext self.old.context self.new.context }
     {
         in_time(self.inner.poll_flush(self.context))
     }
@@ -146,8 +155,9 @@ impl<T: AsyncSeek> Seek for AsyncAsSync<'_, '_, T> {
     fn seek(&mut self, to: SeekFrom) -> io::Result<u64>
         ensures moves { SeekMoves None None None to result }
         ensures bytes { KeepsKnown None None }
-        ensures ran { Synced (λ answer. T.seeks self.old.inner to (by_kind answer) self.new.inner) (T.seek_leaves self.new.inner) self.new.context.now result }
-        ensures seen { Seen self.old.context self.new.context }
+        ensures ran { Synced (λ answer. T.seeks self.old.inner to (by_kind answer) self.new.inner)
+            (T.seek_registers self.new.inner) self.new.context.now result }
+        ensures seen { SameContext self.old.context self.new.context }
     {
         in_time(self.inner.poll_seek(self.context, to))
     }
@@ -166,7 +176,9 @@ impl<T> AsMut<T> for AsyncAsSync<'_, '_, T> {
 
     fn as_mut(&mut self) -> &mut T
         ensures value { result.now ≡ self.old.inner }
-        ensures* writes_back { sem 𝓛 (Lends (the_row (record { mir = named 1; lft = [] }) (record { mir = named 2; lft = [] }) T.row) T.row self.entry result
+        ensures* writes_back { sem 𝓛 (Lends
+            (the_row (record { mir = named 1; lft = [] })
+            (record { mir = named 2; lft = [] }) T.row) T.row self.entry result
             (λ t. record self.old { inner = t })) }
     {
         &mut self.inner

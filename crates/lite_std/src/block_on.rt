@@ -4,9 +4,9 @@ ghost use Rattle.std.specs.Io.{ReadsAtMost, StartsWith, WritesAtMost};
 ghost use Rattle.std.specs.Io.BufRead.{DropsConsumable, FillKeeps, Rests};
 ghost use Rattle.std.specs.Io.KnownBytes.{Keeps, ReadConsumes, WriteAppends};
 ghost use Rattle.std.specs.Io.Seek.{SeekMoves};
-ghost use Rattle.lite_io_base.specs.Marks.{Mark, bytes, fill_marks, read_marks};
-ghost use Rattle.lite_io_base.specs.Takings.{Taking, done_marks, write_marks};
-ghost use Rattle.lite_std.specs.Waits.{Blocks, Gave, SeekBlocks};
+ghost use Rattle.lite_io_base.specs.Marks.{ReadMark, bytes, fill_marks, read_marks};
+ghost use Rattle.lite_io_base.specs.Takings.{WriteMark, done_marks, write_marks};
+ghost use Rattle.lite_std.specs.Waits.{Blocks, GaveOrRefused, SeekBlocks};
 
 use crate::filling::Filling;
 use lite_base::Future;
@@ -53,7 +53,7 @@ where
     R: Wait + RandomSource + AllocGlobal,
     F: Future<Output = io::Result<A>>,
     requires { F.can_poll future.old }
-    ensures { Gave F.run future.old result future.new }
+    ensures { GaveOrRefused F.run future.old result future.new }
 {
     match kept(rt, waiter) {
         Ok(waiter) => match waiter.wait_for(rt, future) {
@@ -111,7 +111,8 @@ impl<R: Wait + RandomSource + AllocGlobal, T: AsyncRead> Read for BlockOn<R, T> 
     fn read(&mut self, buf: &mut [u8]) -> io::Result<usize>
         ensures bound { ReadsAtMost result buf.new }
         ensures bytes { ReadConsumes None None result buf.new }
-        ensures ran { Blocks T.reads Mark.pending (λ answer. read_marks answer buf.new) (io_of self.old) result (io_of self.new) }
+        ensures ran { Blocks T.reads ReadMark.pending (λ answer. read_marks answer buf.new) (io_of self.old) result
+            (io_of self.new) }
     {
         wait_for(&self.rt, &mut self.waiter, &mut read(&mut self.io, buf))
     }
@@ -126,9 +127,12 @@ impl<R: Wait + RandomSource + AllocGlobal, T: AsyncBufRead> BufRead for BlockOn<
         ensures front { IfSome None (λ (xs : List ℕ). IfOk result (λ s. StartsWith xs s.now)) }
         ensures end { IfSome None (λ (xs : List ℕ). IfOk result (λ s. length s.now ≡ 0 → xs ≡ [])) }
         ensures* after_borrow { sem 𝓛 (Rests (the_row R.row T.row) self.entry (λ new. FillKeeps None None None result
-            × Blocks T.reads Mark.pending (λ answer. fill_marks answer (T.lent (io_of new))) (io_of self.old) result (io_of new)
+            × Blocks T.reads ReadMark.pending (λ answer. fill_marks answer (T.lent (io_of new))) (io_of self.old) result
+            (io_of new)
             × IfOk result (λ s. s.now ≡ T.lent (io_of new)))) }
-        ensures shown { (left : T) × Blocks T.reads Mark.pending (λ answer. fill_marks answer (T.lent left)) (io_of self.old) result left × IfOk result (λ s. s.now ≡ T.lent left) }
+        ensures shown { (left : T)
+            × Blocks T.reads ReadMark.pending (λ answer. fill_marks answer (T.lent left))
+            (io_of self.old) result left × IfOk result (λ s. s.now ≡ T.lent left) }
     {
         let mut filling = Filling { io: &mut self.io };
         match wait_for(&self.rt, &mut self.waiter, &mut filling) {
@@ -154,14 +158,16 @@ impl<R: Wait + RandomSource + AllocGlobal, T: AsyncWrite> Write for BlockOn<R, T
     fn write(&mut self, buf: &[u8]) -> io::Result<usize>
         ensures bound { WritesAtMost result buf.now }
         ensures bytes { WriteAppends None None result buf.now }
-        ensures ran { Blocks T.writes Taking.pending (λ answer. write_marks answer buf.now) (io_of self.old) result (io_of self.new) }
+        ensures ran { Blocks T.writes WriteMark.pending (λ answer. write_marks answer buf.now) (io_of self.old) result
+            (io_of self.new) }
     {
         wait_for(&self.rt, &mut self.waiter, &mut write(&mut self.io, buf))
     }
 
     fn flush(&mut self) -> io::Result<()>
         ensures bytes { Keeps None None }
-        ensures ran { Blocks T.writes Taking.pending (λ answer. done_marks Taking.flushed answer) (io_of self.old) result (io_of self.new) }
+        ensures ran { Blocks T.writes WriteMark.pending (λ answer. done_marks WriteMark.flushed answer)
+            (io_of self.old) result (io_of self.new) }
     {
         wait_for(&self.rt, &mut self.waiter, &mut flush(&mut self.io))
     }

@@ -1,9 +1,9 @@
-ghost use Rattle.futures.specs.Poll.{OnPending};
-ghost use Rattle.futures.specs.Task.{Holds, Keeps, Lasting};
+ghost use Rattle.futures.specs.Task.{Keeps};
 ghost use Rattle.lite_io_base.specs.Marks.{fill_marks};
 ghost use Rattle.lite_read.specs.Laws.Polled.{polled_laws};
-ghost use Rattle.lite_read.specs.Polled.{Polled};
-ghost use Rattle.lite_std.specs.Filling.{Fills};
+ghost use Rattle.lite_read.specs.Polled.{PolledByCalls};
+ghost use Rattle.lite_std.specs.Filling.{FillsLent};
+ghost use Rattle.lite_base.specs.Registered.{Registered};
 
 use lite_base::{Context, Future, Poll};
 use lite_io_base::AsyncBufRead;
@@ -18,11 +18,11 @@ pub(crate) struct Filling<'a, T> {
 impl<T: AsyncBufRead> Future for Filling<'_, T> {
     type Output = io::Result<()>;
 
-    ghost run = { Polled (Fills T.reads T.lent) };
+    ghost run = { PolledByCalls (FillsLent T.reads T.lent) };
 
-    ghost leaves = { λ x. T.leaves x.io.now };
+    ghost registers = { λ x. T.registers x.io.now };
 
-    ghost laws = { polled_laws (Fills T.reads T.lent) };
+    ghost laws = { polled_laws (FillsLent T.reads T.lent) };
 
     fn poll(&mut self, cx: &mut Context<'_>) -> Poll<io::Result<()>> {
         fill(self.io, cx)
@@ -32,7 +32,7 @@ impl<T: AsyncBufRead> Future for Filling<'_, T> {
 // Fills the reader without keeping what it lends.
 fn fill<T: AsyncBufRead>(io: &mut T, cx: &mut Context<'_>) -> Poll<io::Result<()>>
     ensures ran { T.reads io.old (fill_marks result (T.lent io.new)) io.new }
-    ensures left { OnPending result ((fact : Lasting) → T.leaves io.new fact → Holds cx.new fact) }
+    ensures left { Registered result (T.registers io.new) cx.new }
     ensures kept { Keeps cx.old cx.new }
 {
     match io.poll_fill_buf(cx) {

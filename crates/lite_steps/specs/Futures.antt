@@ -1,16 +1,17 @@
 -- A future by steps.
 use Rattle.std.specs.List.{FoldsTo}
-use Rattle.std.proofs.Common.{List, refl, sym}
+use Rattle.std.proofs.Common.{refl, sym}
 use Rattle.futures.specs.declared.task.Poll.{Poll}
 use Rattle.lite_base.specs.Answers.{UpToValue}
 use Rattle.lite_base.specs.FutureLaws.{FutureLaws}
 use Rattle.lite_base.specs.Laws.Answers.{up_to_once, waiting_up_to}
 use Rattle.lite_base.specs.Laws.Calls.{folds_follow}
+use Rattle.lite_base.specs.Runs.{Runs}
 
 -- `step` is what one poll may answer and leave
 module _ {F A : Type 0} (step : F → Poll A → F → Type 0) where
   -- each poll is a step, and none comes after a value
-  abbrev pub StepsToValue : F → List (Poll A) → F → Type 0
+  abbrev pub StepsToValue : Runs (Poll A) F
   StepsToValue x l y = UpToValue l × FoldsTo step x l y
 
   pub future_by_steps : FutureLaws StepsToValue

@@ -9,21 +9,21 @@ use Rattle.lite_io_base.specs.Counting.{ReadCounting, number_counting}
 use Rattle.lite_io_base.specs.Falls.{Falls}
 use Rattle.lite_io_base.specs.Laws.Falls.{falls_at_most, falls_of_below}
 use Rattle.lite_io_base.specs.Laws.Steps.{steps_laws}
-use Rattle.lite_io_base.specs.Marks.{Mark, given}
-use Rattle.lite_io_base.specs.Runs.{RunLaws}
+use Rattle.lite_io_base.specs.Marks.{ReadMark, given}
+use Rattle.lite_io_base.specs.Runs.{MarkLaws}
 use Rattle.lite_io_base.specs.Steps.{Steps}
 
 -- `step` is what one mark may leave
-module _ {S : Type 0} (step : S → Mark → S → Type 0) where
-  pub reader_by_steps : RunLaws (Steps step)
+module _ {S : Type 0} (step : S → ReadMark → S → Type 0) where
+  pub reader_by_steps : MarkLaws (Steps step)
   reader_by_steps = steps_laws step
 
   -- each byte and each error lowers the number, and no pending and no end raises it
   pub record MarksLower (number : S → ℕ) : Type 0 where
-    pub by_byte : (x y : S) (b : ℕ) → step x (Mark.byte b) y → number y < number x
-    pub by_fault : (x y : S) (kind : ErrorKind) → step x (Mark.fault kind) y → number y < number x
-    pub by_pending : (x y : S) → step x Mark.pending y → number y ≤ number x
-    pub by_end : (x y : S) → step x Mark.end y → number y ≤ number x
+    pub by_byte : (x y : S) (b : ℕ) → step x (ReadMark.byte b) y → number y < number x
+    pub by_fault : (x y : S) (kind : ErrorKind) → step x (ReadMark.fault kind) y → number y < number x
+    pub by_pending : (x y : S) → step x ReadMark.pending y → number y ≤ number x
+    pub by_end : (x y : S) → step x ReadMark.end y → number y ≤ number x
 
 at_most_one : (m n : ℕ) → m ≤ n → AtMost (m ∷ []) (n ∷ [])
 at_most_one m n h = elim (eq-or-lt_of_le h) [ inl e ↦ inl (ap (λ k. k ∷ []) e) | inr p ↦ inr (inl (p, refl)) ]
@@ -31,16 +31,21 @@ at_most_one m n h = elim (eq-or-lt_of_le h) [ inl e ↦ inl (ap (λ k. k ∷ [])
 falls_more : (g m n k : ℕ) → Falls g (m ∷ []) (n ∷ []) → n < k → Falls (g + 1) (m ∷ []) (k ∷ [])
 falls_more g m n k h less = falls_of_below (g + 1) _ _ (Below-one (falls_at_most g _ _ h) less)
 
-module _ {S : Type 0} {step : S → Mark → S → Type 0} {number : S → ℕ} where
-  falls_from : MarksLower step number → (x y : S) (n : ℕ) (l : List Mark) → number x ≤ n → Steps step x l y → Falls (given l) (number y ∷ []) (n ∷ [])
+module _ {S : Type 0} {step : S → ReadMark → S → Type 0} {number : S → ℕ} where
+  falls_from : MarksLower step number → (x y : S) (n : ℕ) (l : List ReadMark) → number x ≤ n → Steps step x l y
+      → Falls (given l) (number y ∷ []) (n ∷ [])
   falls_from low x y n [] least h = at_most_one (number y) n (rw h least)
-  falls_from low x y n (Mark.pending ∷ l) least h = falls_from low h.0 y n l (omega (arith, low.by_pending x h.0 h.1, least)) h.2
-  falls_from low x y n (Mark.end ∷ l) least h = falls_from low h.0 y n l (omega (arith, low.by_end x h.0 h.1, least)) h.2
-  falls_from low x y n (Mark.byte b ∷ l) least h =
-      falls_more (given l) (number y) (number h.0) n (falls_from low h.0 y (number h.0) l (omega arith) h.2) (omega (arith, low.by_byte x h.0 b h.1, least))
-  falls_from low x y n (Mark.fault kind ∷ l) least h =
+  falls_from low x y n (ReadMark.pending ∷ l) least h =
+      falls_from low h.0 y n l (omega (arith, low.by_pending x h.0 h.1, least)) h.2
+  falls_from low x y n (ReadMark.end ∷ l) least h =
+      falls_from low h.0 y n l (omega (arith, low.by_end x h.0 h.1, least)) h.2
+  falls_from low x y n (ReadMark.byte b ∷ l) least h =
+      falls_more (given l) (number y) (number h.0) n (falls_from low h.0 y (number h.0) l (omega arith) h.2)
+      (omega (arith, low.by_byte x h.0 b h.1, least))
+  falls_from low x y n (ReadMark.fault kind ∷ l) least h =
       let less = low.by_fault x h.0 kind h.1 in
-      falls_more (given l) (number y) (number h.0) n (falls_from low h.0 y (number h.0) l (omega arith) h.2) (omega (arith, less, least))
+      falls_more (given l) (number y) (number h.0) n (falls_from low h.0 y (number h.0) l (omega arith) h.2)
+      (omega (arith, less, least))
 
   -- the rank is the number
   pub reader_counting : MarksLower step number → ReadCounting (Steps step) (number_ranks number)

@@ -1,6 +1,6 @@
 -- A stream by steps: each poll is a step, in the run `FoldsTo step`.
 use Rattle.std.specs.List.{FoldsTo}
-use Rattle.std.proofs.Common.{◌≡◌, ◌<◌, ◌≤◌, ℕ, inl, inr, List, [], ◌∷◌, Option, Some, None, ap, arith, refl, subst, sym}
+use Rattle.std.proofs.Common.{◌≡◌, ◌<◌, ◌≤◌, ℕ, inl, inr, List, [], ◌∷◌, Some, None, ap, arith, refl, subst, sym}
 use Rattle.std.proofs.Math.Nat.{eq-or-lt_of_le}
 use Rattle.futures.specs.declared.task.Poll.TheVariants.{Ready, Pending}
 use Rattle.lite_base.specs.Answers.{Answer, before_end, end, item}
@@ -10,13 +10,10 @@ use Rattle.lite_base.specs.Laws.Hint.{same_hint}
 use Rattle.lite_base.specs.Rank.{AtMost, Lowers}
 use Rattle.lite_base.specs.Ranks.{Counting, number_ranks, number_counting}
 use Rattle.lite_base.specs.StreamLaws.{RunLaws, StreamLaws, laws_of}
-
--- the hint says nothing
-abbrev pub NoHint : {S : Type 0} → S → ℕ × Option ℕ → Type 0
-NoHint x hint = hint ≡ (0, None)
+use Rattle.lite_base.specs.Runs.{Hints, NoHint}
 
 -- the hint is this number, as the least and as the most
-abbrev pub HintsAt : {S : Type 0} → (S → ℕ) → S → ℕ × Option ℕ → Type 0
+abbrev pub HintsAt : {S : Type 0} → (S → ℕ) → Hints S
 HintsAt number x hint = hint ≡ (number x, Some (number x))
 
 -- `step` is what one poll may answer and leave
@@ -37,12 +34,16 @@ at_most_one : (m n : ℕ) → m ≤ n → AtMost (m ∷ []) (n ∷ [])
 at_most_one m n h = elim (eq-or-lt_of_le h) [ inl e ↦ inl (ap (λ k. k ∷ []) e) | inr p ↦ inr (inl (p, refl)) ]
 
 module _ {S A : Type 0} {step : S → Answer A → S → Type 0} {number : S → ℕ} where
-  lowers_from : ItemsLower step number → (x y : S) (n : ℕ) (l : List (Answer A)) → number x ≤ n → FoldsTo step x l y → Lowers l (number y ∷ []) (n ∷ [])
+  lowers_from : ItemsLower step number → (x y : S) (n : ℕ) (l : List (Answer A)) → number x ≤ n → FoldsTo step x l y
+      → Lowers l (number y ∷ []) (n ∷ [])
   lowers_from low x y n [] least h = at_most_one (number y) n (subst (λ k. number k ≤ n) h least)
-  lowers_from low x y n (Pending ∷ l) least h = lowers_from low h.0 y n l (omega (arith, low.by_pending x h.0 h.1, least)) h.2
-  lowers_from low x y n (Ready None ∷ l) least h = lowers_from low h.0 y n l (omega (arith, low.by_end x h.0 h.1, least)) h.2
+  lowers_from low x y n (Pending ∷ l) least h =
+      lowers_from low h.0 y n l (omega (arith, low.by_pending x h.0 h.1, least)) h.2
+  lowers_from low x y n (Ready None ∷ l) least h =
+      lowers_from low h.0 y n l (omega (arith, low.by_end x h.0 h.1, least)) h.2
   lowers_from low x y n (Ready (Some a) ∷ l) least h =
-      Below-one (Lowers-at_most l _ _ (lowers_from low h.0 y (number h.0) l (omega arith) h.2)) (omega (arith, low.by_item x h.0 a h.1, least))
+      Below-one (Lowers-at_most l _ _ (lowers_from low h.0 y (number h.0) l (omega arith) h.2))
+      (omega (arith, low.by_item x h.0 a h.1, least))
 
   -- the rank is the number
   pub stream_counting : ItemsLower step number → Counting (FoldsTo step) (number_ranks number)
@@ -56,4 +57,6 @@ module _ {S A : Type 0} {step : S → Answer A → S → Type 0} {number : S →
 
   -- the number as the hint
   pub stream_hinting : ItemsLower step number → StreamLaws (FoldsTo step) (HintsAt number)
-  stream_hinting low = laws_of (folds_runs step) (λ x y hint l e h. same_hint hint (number x, Some (number x)) l e (fewer_left low x y l h))
+  stream_hinting low =
+      laws_of (folds_runs step)
+      (λ x y hint l e h. same_hint hint (number x, Some (number x)) l e (fewer_left low x y l h))

@@ -1,10 +1,10 @@
 -- A writer by steps: each mark is a step, in the run `Steps step`.
 use Rattle.lite_io_base.specs.Laws.Steps.{steps_laws}
-use Rattle.lite_io_base.specs.Runs.{RunLaws}
+use Rattle.lite_io_base.specs.Runs.{MarkLaws}
 use Rattle.lite_io_base.specs.Steps.{Steps}
-use Rattle.lite_io_base.specs.Takings.{Taking}
+use Rattle.lite_io_base.specs.Takings.{WriteMark}
 
 -- `step` is what one mark may leave
-module _ {S : Type 0} (step : S → Taking → S → Type 0) where
-  pub writer_by_steps : RunLaws (Steps step)
+module _ {S : Type 0} (step : S → WriteMark → S → Type 0) where
+  pub writer_by_steps : MarkLaws (Steps step)
   writer_by_steps = steps_laws step

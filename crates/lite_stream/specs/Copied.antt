@@ -1,22 +1,25 @@
 -- `copied`: each reference is replaced by what it refers to.
-use Rattle.std.specs.Prelude.{◌≡◌, List}
+use Rattle.std.specs.Prelude.{◌≡◌}
 use denote.Ref.{Bor}
 use Rattle.lite_base.specs.Alike.{MadeOf, Sameness}
 use Rattle.lite_base.specs.Answers.{Answer}
+use Rattle.lite_base.specs.Runs.{Runs}
 use Rattle.lite_stream.specs.Pointwise.{Replaces}
-use Rattle.lite_stream.specs.Through.{Parts, Through}
+use Rattle.lite_stream.specs.Through.{AdapterParts, Through}
 use Rattle.lite_stream.specs.declared.copied.Copied.{Copied}
 
 -- nothing is asked, so nothing is gone through
-abbrev pub Copies : {A : Type 0} → Unit {0} → Bor A → A → Unit {0} → Type 0
-Copies p x y q = y ≡ x.now
+abbrev pub CopiesItem : {A : Type 0} → Unit {0} → Bor A → A → Unit {0} → Type 0
+CopiesItem p x y q = y ≡ x.now
 
 -- what references that are the same refer to
 abbrev pub Referred : {A : Type 0} → Sameness (Bor A) → Sameness A
 Referred like = MadeOf like (λ r v. v ≡ r.now)
 
-abbrev pub CopiesAll : {S A : Type 0} → (S → List (Answer (Bor A)) → S → Type 0) → Copied S → List (Answer A) → Copied S → Type 0
-CopiesAll run x l y = Through run (Replaces Copies) x.stream tt l y.stream tt
+-- the source's list, each reference replaced by what it refers to
+abbrev pub CopiesAll : {S A : Type 0} → Runs (Answer (Bor A)) S → Runs (Answer A) (Copied S)
+CopiesAll run x l y = Through run (Replaces CopiesItem) x.stream tt l y.stream tt
 
-abbrev pub copied_parts : {S : Type 0} → Parts (Copied S) S (Unit {0})
+-- a `copied` is its stream
+abbrev pub copied_parts : {S : Type 0} → AdapterParts (Copied S) S (Unit {0})
 copied_parts = record { source = λ m. m.stream; held = λ m. tt; same = λ x y e d. λ i. record { stream = e i } }

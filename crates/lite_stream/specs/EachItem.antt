@@ -6,6 +6,7 @@ use denote.Ref.{Bor, MutBor}
 use Rattle.futures.specs.declared.task.Poll.TheVariants.{Ready, Pending}
 use Rattle.lite_base.specs.Answers.{Answer, item}
 use Rattle.lite_base.specs.Calling.{Calls, CallsWith}
+use Rattle.lite_base.specs.Runs.{Question, Runs}
 
 -- the items among the answers
 abbrev pub items_in : {A : Type 0} → List (Answer A) → List A
@@ -14,18 +15,22 @@ items_in (Pending ∷ l) = items_in l
 items_in (Ready None ∷ l) = items_in l
 items_in (Ready (Some x) ∷ l) = x ∷ items_in l
 
--- P holds of each item that a run from s may give, and of what f has become by then: it was asked about the items before
-pub record AtEachItem {S F A O : Type 0} (run : S → List (Answer A) → S → Type 0) (call : F → A → O → F → Type 0) (P : F → A → Type 0) (s : S) (f : F) : Type 0 where
-  pub at : (ins : List (Answer A)) (x : A) (t : S) (p : F) → run s (ins ++ item x ∷ []) t → FoldsTo (λ q y r. (o : O) × call q y o r) f (items_in ins) p → P p x
+-- P holds of each item that a run from s may give, and of what f has become by then: it was asked about the items
+-- before
+pub record AtEachItem {S F A O : Type 0} (run : Runs (Answer A) S) (call : Question F A O) (P : F → A → Type 0) (s : S)
+    (f : F) : Type 0 where
+  pub at : (ins : List (Answer A)) (x : A) (t : S) (p : F) → run s (ins ++ item x ∷ []) t
+      → FoldsTo (λ q y r. (o : O) × call q y o r) f (items_in ins) p → P p x
 
 -- a function may be called with each item
-abbrev pub MayCallEach : {S F A B : Type 0} → (S → List (Answer A) → S → Type 0) → Mut F (A × Unit {0}) B → S → F → Type 0
+abbrev pub MayCallEach : {S F A B : Type 0} → Runs (Answer A) S → Mut F (A × Unit {0}) B → S → F → Type 0
 MayCallEach run g = AtEachItem run (Calls g) (λ p x. g.pre p (x, tt))
 
--- and with a reference to each item
-abbrev pub MayShowEach : {S F A B : Type 0} → (S → List (Answer A) → S → Type 0) → Mut F (Bor A × Unit {0}) B → S → F → Type 0
+-- a function may be called with a reference to each item
+abbrev pub MayShowEach : {S F A B : Type 0} → Runs (Answer A) S → Mut F (Bor A × Unit {0}) B → S → F → Type 0
 MayShowEach run g = AtEachItem run (CalledAt g) (TakesAt g)
 
--- and with each item and a state, which goes on from call to call
-abbrev pub MayCallEachWith : {S F V A B : Type 0} → (S → List (Answer A) → S → Type 0) → Mut F (MutBor V × (A × Unit {0})) (B × (MutBor V × Unit {0})) → S → F × V → Type 0
+-- a function may be called with each item and a state, which goes on from call to call
+abbrev pub MayCallEachWith : {S F V A B : Type 0} → Runs (Answer A) S
+    → Mut F (MutBor V × (A × Unit {0})) (B × (MutBor V × Unit {0})) → S → F × V → Type 0
 MayCallEachWith run g = AtEachItem run (CallsWith g) (λ p x. TakesWithState g p.0 p.1 x)

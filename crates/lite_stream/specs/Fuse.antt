@@ -2,7 +2,8 @@
 use Rattle.std.specs.Prelude.{◌≡◌, List, [], ◌∷◌, ◌++◌, Bool, true, false}
 use Rattle.std.specs.List.{AllByRecursion}
 use Rattle.lite_base.specs.Answers.{Answer, end, until_end}
-use Rattle.lite_stream.specs.Through.{Parts, Through}
+use Rattle.lite_base.specs.Runs.{Runs}
+use Rattle.lite_stream.specs.Through.{AdapterParts, Through}
 use Rattle.lite_stream.specs.declared.fuse.Fuse.{Fuse}
 
 -- each answer is an end
@@ -14,10 +15,18 @@ abbrev pub FusesOn : {A : Type 0} → Bool → List (Answer A) → List (Answer 
 FusesOn true ins out after = (ins ≡ []) × AllEnds out × (after ≡ true)
 FusesOn false ins out false = (out ≡ ins) × (until_end ins ≡ ins)
 FusesOn {A} false ins out true =
-    (own : List (Answer A)) × (later : List (Answer A)) × (ins ≡ own ++ end ∷ []) × (until_end own ≡ own) × (out ≡ own ++ end ∷ later) × AllEnds later
+    (own : List (Answer A)) × (later : List (Answer A)) × (ins ≡ own ++ end ∷ []) × (until_end own ≡ own)
+    × (out ≡ own ++ end ∷ later) × AllEnds later
 
-abbrev pub Fuses : {S A : Type 0} → (S → List (Answer A) → S → Type 0) → Fuse S → List (Answer A) → Fuse S → Type 0
+-- the source's list through its first end, and then an end for ever
+abbrev pub Fuses : {S A : Type 0} → Runs (Answer A) S → Runs (Answer A) (Fuse S)
 Fuses run x l y = Through run FusesOn x.stream x.done l y.stream y.done
 
-abbrev pub fuse_parts : {S : Type 0} → Parts (Fuse S) S Bool
-fuse_parts = record { source = λ m. m.stream; held = λ m. m.done; same = λ x y e d. λ i. record { stream = e i; done = d i } }
+-- a `fuse` is its stream, and whether an end was met
+abbrev pub fuse_parts : {S : Type 0} → AdapterParts (Fuse S) S Bool
+fuse_parts =
+    record {
+      source = λ m. m.stream;
+      held = λ m. m.done;
+      same = λ x y e d. λ i. record { stream = e i; done = d i };
+    }

@@ -1,15 +1,24 @@
 -- `inspect`: each item is shown to the function, and goes out as it is.
-use Rattle.std.specs.Prelude.{◌≡◌, List}
+use Rattle.std.specs.Prelude.{◌≡◌}
 use Rattle.lite_base.specs.Answers.{Answer}
+use Rattle.lite_base.specs.Runs.{Question, Runs}
 use Rattle.lite_stream.specs.Pointwise.{Replaces}
-use Rattle.lite_stream.specs.Through.{Parts, Through}
+use Rattle.lite_stream.specs.Through.{AdapterParts, Through}
 use Rattle.lite_stream.specs.declared.inspect.Inspect.{Inspect}
 
-abbrev pub Shows : {F A : Type 0} → (F → A → Unit {0} → F → Type 0) → F → A → A → F → Type 0
-Shows look p x y q = (y ≡ x) × look p x tt q
+-- the function is shown the item, which goes out as it is
+abbrev pub ShowsItem : {F A : Type 0} → Question F A (Unit {0}) → F → A → A → F → Type 0
+ShowsItem look p x y q = (y ≡ x) × look p x tt q
 
-abbrev pub Inspects : {S F A : Type 0} → (S → List (Answer A) → S → Type 0) → (F → A → Unit {0} → F → Type 0) → Inspect S F → List (Answer A) → Inspect S F → Type 0
-Inspects run look x l y = Through run (Replaces (Shows look)) x.stream x.f l y.stream y.f
+-- the source's list, each item shown to the function
+abbrev pub Inspects : {S F A : Type 0} → Runs (Answer A) S → Question F A (Unit {0}) → Runs (Answer A) (Inspect S F)
+Inspects run look x l y = Through run (Replaces (ShowsItem look)) x.stream x.f l y.stream y.f
 
-abbrev pub inspect_parts : {S F : Type 0} → Parts (Inspect S F) S F
-inspect_parts = record { source = λ m. m.stream; held = λ m. m.f; same = λ x y e d. λ i. record { stream = e i; f = d i } }
+-- an `inspect` is its stream, and its function
+abbrev pub inspect_parts : {S F : Type 0} → AdapterParts (Inspect S F) S F
+inspect_parts =
+    record {
+      source = λ m. m.stream;
+      held = λ m. m.f;
+      same = λ x y e d. λ i. record { stream = e i; f = d i };
+    }

@@ -1,12 +1,20 @@
 -- `map_while`: each item is replaced by what the function answers to it, and by an end where that is None.
-use Rattle.std.specs.Prelude.{List, Option}
+use Rattle.std.specs.Prelude.{Option}
 use Rattle.lite_base.specs.Answers.{Answer}
+use Rattle.lite_base.specs.Runs.{Question, Runs}
 use Rattle.lite_stream.specs.Pointwise.{Exchanges}
-use Rattle.lite_stream.specs.Through.{Parts, Through}
+use Rattle.lite_stream.specs.Through.{AdapterParts, Through}
 use Rattle.lite_stream.specs.declared.map_while.MapWhile.{MapWhile}
 
-abbrev pub MapsWhile : {S F A B : Type 0} → (S → List (Answer A) → S → Type 0) → (F → A → Option B → F → Type 0) → MapWhile S F → List (Answer B) → MapWhile S F → Type 0
+-- the source's list, each item replaced by what the function makes of it, or by an end
+abbrev pub MapsWhile : {S F A B : Type 0} → Runs (Answer A) S → Question F A (Option B) → Runs (Answer B) (MapWhile S F)
 MapsWhile run call x l y = Through run (Exchanges call) x.stream x.f l y.stream y.f
 
-abbrev pub map_while_parts : {S F : Type 0} → Parts (MapWhile S F) S F
-map_while_parts = record { source = λ m. m.stream; held = λ m. m.f; same = λ x y e d. λ i. record { stream = e i; f = d i } }
+-- a `map_while` is its stream, and its function
+abbrev pub map_while_parts : {S F : Type 0} → AdapterParts (MapWhile S F) S F
+map_while_parts =
+    record {
+      source = λ m. m.stream;
+      held = λ m. m.f;
+      same = λ x y e d. λ i. record { stream = e i; f = d i };
+    }

@@ -1,12 +1,21 @@
 -- `scan`: as `map_while`, with a state that the function is lent at each call.
-use Rattle.std.specs.Prelude.{List, Option}
+use Rattle.std.specs.Prelude.{Option}
 use Rattle.lite_base.specs.Answers.{Answer}
+use Rattle.lite_base.specs.Runs.{Runs}
 use Rattle.lite_stream.specs.Pointwise.{Exchanges}
-use Rattle.lite_stream.specs.Through.{Parts, Through}
+use Rattle.lite_stream.specs.Through.{AdapterParts, Through}
 use Rattle.lite_stream.specs.declared.scan.Scan.{Scan}
 
-abbrev pub Scans : {S V F A B : Type 0} → (S → List (Answer A) → S → Type 0) → (F × V → A → Option B → F × V → Type 0) → Scan S V F → List (Answer B) → Scan S V F → Type 0
+-- as MapsWhile, the function with a state
+abbrev pub Scans : {S V F A B : Type 0} → Runs (Answer A) S → (F × V → A → Option B → F × V → Type 0)
+    → Runs (Answer B) (Scan S V F)
 Scans run call x l y = Through run (Exchanges call) x.stream (x.f, x.state) l y.stream (y.f, y.state)
 
-abbrev pub scan_parts : {S V F : Type 0} → Parts (Scan S V F) S (F × V)
-scan_parts = record { source = λ m. m.stream; held = λ m. (m.f, m.state); same = λ x y e d. λ i. record { stream = e i; f = (d i).0; state = (d i).1 } }
+-- a `scan` is its stream, and its function with the state
+abbrev pub scan_parts : {S V F : Type 0} → AdapterParts (Scan S V F) S (F × V)
+scan_parts =
+    record {
+      source = λ m. m.stream;
+      held = λ m. (m.f, m.state);
+      same = λ x y e d. λ i. record { stream = e i; f = (d i).0; state = (d i).1 };
+    }

@@ -1,9 +1,9 @@
 //! The adapters that are never pending over a stream that never is.
 ghost use Rattle.lite_base.specs.Calling.{Accepts, Calls, CallsWith};
-ghost use Rattle.lite_stream.specs.Copied.{Copies, copied_parts};
+ghost use Rattle.lite_stream.specs.Copied.{CopiesItem, copied_parts};
 ghost use Rattle.lite_stream.specs.Enumerate.{Numbers, enumerate_parts};
 ghost use Rattle.lite_stream.specs.Fuse.{fuse_parts};
-ghost use Rattle.lite_stream.specs.Inspect.{Shows, inspect_parts};
+ghost use Rattle.lite_stream.specs.Inspect.{ShowsItem, inspect_parts};
 ghost use Rattle.lite_stream.specs.Laws.Calming.{through_calm};
 ghost use Rattle.lite_stream.specs.Laws.Cutting.{cuts_calming};
 ghost use Rattle.lite_stream.specs.Laws.Fuse.{fuses_calming};
@@ -21,7 +21,7 @@ use lite_base::CalmStream;
 impl<'a, T: Copy + 'a, S: CalmStream<Item = &'a T>> CalmStream for Copied<S> {
     ghost is_calm = { λ m. S.is_calm m.stream };
 
-    ghost calm = { through_calm copied_parts S.calm (replaces_calming Copies) };
+    ghost calm = { through_calm copied_parts S.calm (replaces_calming CopiesItem) };
 }
 
 impl<S: CalmStream> CalmStream for Enumerate<S> {
@@ -39,7 +39,7 @@ impl<S: CalmStream> CalmStream for Fuse<S> {
 impl<S: CalmStream, F: FnMut(&S::Item)> CalmStream for Inspect<S, F> {
     ghost is_calm = { λ m. S.is_calm m.stream };
 
-    ghost calm = { through_calm inspect_parts S.calm (replaces_calming (Shows (CalledAt F.FnMut))) };
+    ghost calm = { through_calm inspect_parts S.calm (replaces_calming (ShowsItem (CalledAt F.FnMut))) };
 }
 
 impl<U, S: CalmStream, F: FnMut(S::Item) -> U> CalmStream for Map<S, F> {

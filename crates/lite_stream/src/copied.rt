@@ -1,7 +1,8 @@
 ghost use Rattle.lite_base.specs.Ranks.{ranks_of};
-ghost use Rattle.std.specs.Prelude.{◌≡◌, None};
-ghost use Rattle.lite_stream.specs.Copied.{Copies, CopiesAll, copied_parts};
-ghost use Rattle.lite_stream.specs.Laws.Pointwise.{replaces_turning};
+ghost use Rattle.lite_base.specs.Runs.{NoHint};
+ghost use Rattle.std.specs.Prelude.{None};
+ghost use Rattle.lite_stream.specs.Copied.{CopiesAll, CopiesItem, copied_parts};
+ghost use Rattle.lite_stream.specs.Laws.Pointwise.{replaces_relating};
 ghost use Rattle.lite_stream.specs.Laws.Through.{laws_unhinted, through_counting};
 
 use lite_base::{Context, Counted, Poll, Stream, ready};
@@ -21,11 +22,11 @@ impl<'a, T: Copy + 'a, S: Stream<Item = &'a T>> Stream for Copied<S> {
 
     ghost run = { CopiesAll S.run };
 
-    ghost leaves = { λ m. S.leaves m.stream };
+    ghost registers = { λ m. S.registers m.stream };
 
-    ghost hints = { λ m hint. hint ≡ (0, None) };
+    ghost hints = { NoHint };
 
-    ghost laws = { laws_unhinted copied_parts S.laws (replaces_turning Copies) };
+    ghost laws = { laws_unhinted copied_parts S.laws (replaces_relating CopiesItem) };
 
     fn poll_next(&mut self, cx: &mut Context<'_>) -> Poll<Option<T>> {
         match ready!(self.stream.poll_next(cx)) {
@@ -42,5 +43,5 @@ impl<'a, T: Copy + 'a, S: Stream<Item = &'a T>> Stream for Copied<S> {
 impl<'a, T: Copy + 'a, S: Counted<Item = &'a T>> Counted for Copied<S> {
     ghost ranks = { ranks_of (λ m. m.stream) S.ranks };
 
-    ghost counting = { through_counting copied_parts S.counting (replaces_turning Copies) };
+    ghost counting = { through_counting copied_parts S.counting (replaces_relating CopiesItem) };
 }

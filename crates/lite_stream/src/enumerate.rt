@@ -1,7 +1,8 @@
 ghost use Rattle.lite_base.specs.Ranks.{ranks_of};
-ghost use Rattle.std.specs.Prelude.{◌≡◌, None};
+ghost use Rattle.lite_base.specs.Runs.{NoHint};
+ghost use Rattle.std.specs.Prelude.{None};
 ghost use Rattle.lite_stream.specs.Enumerate.{Enumerates, Numbers, enumerate_parts};
-ghost use Rattle.lite_stream.specs.Laws.Pointwise.{replaces_turning};
+ghost use Rattle.lite_stream.specs.Laws.Pointwise.{replaces_relating};
 ghost use Rattle.lite_stream.specs.Laws.Through.{laws_unhinted, through_counting};
 
 use lite_base::{Context, Counted, Poll, Stream, ready};
@@ -24,11 +25,11 @@ impl<S: Stream> Stream for Enumerate<S> {
 
     ghost run = { Enumerates S.run };
 
-    ghost leaves = { λ m. S.leaves m.stream };
+    ghost registers = { λ m. S.registers m.stream };
 
-    ghost hints = { λ m hint. hint ≡ (0, None) };
+    ghost hints = { NoHint };
 
-    ghost laws = { laws_unhinted enumerate_parts S.laws (replaces_turning Numbers) };
+    ghost laws = { laws_unhinted enumerate_parts S.laws (replaces_relating Numbers) };
 
     fn poll_next(&mut self, cx: &mut Context<'_>) -> Poll<Option<(usize, S::Item)>> {
         match ready!(self.stream.poll_next(cx)) {
@@ -49,5 +50,5 @@ impl<S: Stream> Stream for Enumerate<S> {
 impl<S: Counted> Counted for Enumerate<S> {
     ghost ranks = { ranks_of (λ m. m.stream) S.ranks };
 
-    ghost counting = { through_counting enumerate_parts S.counting (replaces_turning Numbers) };
+    ghost counting = { through_counting enumerate_parts S.counting (replaces_relating Numbers) };
 }

@@ -1,7 +1,8 @@
 ghost use Rattle.lite_base.specs.Ranks.{ranks_of};
-ghost use Rattle.std.specs.Prelude.{◌≡◌, None};
+ghost use Rattle.lite_base.specs.Runs.{NoHint};
+ghost use Rattle.std.specs.Prelude.{None};
 ghost use Rattle.lite_stream.specs.Fuse.{Fuses, fuse_parts};
-ghost use Rattle.lite_stream.specs.Laws.Fuse.{fuses_turning};
+ghost use Rattle.lite_stream.specs.Laws.Fuse.{fuses_relating};
 ghost use Rattle.lite_stream.specs.Laws.Through.{laws_unhinted, through_counting};
 
 use lite_base::{Context, Counted, Poll, Stream, ready};
@@ -23,11 +24,11 @@ impl<S: Stream> Stream for Fuse<S> {
 
     ghost run = { Fuses S.run };
 
-    ghost leaves = { λ m. S.leaves m.stream };
+    ghost registers = { λ m. S.registers m.stream };
 
-    ghost hints = { λ m hint. hint ≡ (0, None) };
+    ghost hints = { NoHint };
 
-    ghost laws = { laws_unhinted fuse_parts S.laws fuses_turning };
+    ghost laws = { laws_unhinted fuse_parts S.laws fuses_relating };
 
     fn poll_next(&mut self, cx: &mut Context<'_>) -> Poll<Option<S::Item>> {
         if self.done {
@@ -50,5 +51,5 @@ impl<S: Stream> Stream for Fuse<S> {
 impl<S: Counted> Counted for Fuse<S> {
     ghost ranks = { ranks_of (λ m. m.stream) S.ranks };
 
-    ghost counting = { through_counting fuse_parts S.counting fuses_turning };
+    ghost counting = { through_counting fuse_parts S.counting fuses_relating };
 }

@@ -1,9 +1,10 @@
 ghost use Rattle.lite_base.specs.Ranks.{ranks_of};
-ghost use Rattle.std.specs.Prelude.{◌≡◌, None};
+ghost use Rattle.lite_base.specs.Runs.{NoHint};
+ghost use Rattle.std.specs.Prelude.{None};
 ghost use Rattle.std.specs.Fn.{CalledAt};
 ghost use Rattle.lite_stream.specs.EachItem.{MayShowEach};
-ghost use Rattle.lite_stream.specs.Inspect.{Inspects, Shows, inspect_parts};
-ghost use Rattle.lite_stream.specs.Laws.Pointwise.{replaces_turning};
+ghost use Rattle.lite_stream.specs.Inspect.{Inspects, ShowsItem, inspect_parts};
+ghost use Rattle.lite_stream.specs.Laws.Pointwise.{replaces_relating};
 ghost use Rattle.lite_stream.specs.Laws.Through.{laws_unhinted, through_counting};
 
 use lite_base::{Context, Counted, Poll, Stream, ready};
@@ -24,11 +25,11 @@ impl<S: Stream, F: FnMut(&S::Item)> Stream for Inspect<S, F> {
 
     ghost run = { Inspects S.run (CalledAt F.FnMut) };
 
-    ghost leaves = { λ m. S.leaves m.stream };
+    ghost registers = { λ m. S.registers m.stream };
 
-    ghost hints = { λ m hint. hint ≡ (0, None) };
+    ghost hints = { NoHint };
 
-    ghost laws = { laws_unhinted inspect_parts S.laws (replaces_turning (Shows (CalledAt F.FnMut))) };
+    ghost laws = { laws_unhinted inspect_parts S.laws (replaces_relating (ShowsItem (CalledAt F.FnMut))) };
 
     #[tactic(auto, using(crate::specs::Laws::EachItem::each_rules))]
     fn poll_next(&mut self, cx: &mut Context<'_>) -> Poll<Option<S::Item>> {
@@ -49,5 +50,5 @@ impl<S: Stream, F: FnMut(&S::Item)> Stream for Inspect<S, F> {
 impl<S: Counted, F: FnMut(&S::Item)> Counted for Inspect<S, F> {
     ghost ranks = { ranks_of (λ m. m.stream) S.ranks };
 
-    ghost counting = { through_counting inspect_parts S.counting (replaces_turning (Shows (CalledAt F.FnMut))) };
+    ghost counting = { through_counting inspect_parts S.counting (replaces_relating (ShowsItem (CalledAt F.FnMut))) };
 }

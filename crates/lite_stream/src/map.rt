@@ -2,7 +2,7 @@ ghost use Rattle.lite_base.specs.Ranks.{ranks_of};
 ghost use Rattle.lite_stream.specs.EachItem.{MayCallEach};
 ghost use Rattle.lite_base.specs.Calling.{Calls};
 ghost use Rattle.lite_stream.specs.Map.{Maps, map_parts};
-ghost use Rattle.lite_stream.specs.Laws.Pointwise.{replaces_turning};
+ghost use Rattle.lite_stream.specs.Laws.Pointwise.{replaces_relating};
 ghost use Rattle.lite_stream.specs.Laws.Through.{laws_hinted, through_counting};
 
 use lite_base::{Context, Counted, Poll, Stream, ready};
@@ -24,11 +24,11 @@ impl<U, S: Stream, F: FnMut(S::Item) -> U> Stream for Map<S, F> {
 
     ghost run = { Maps S.run (Calls F.FnMut) };
 
-    ghost leaves = { λ m. S.leaves m.stream };
+    ghost registers = { λ m. S.registers m.stream };
 
     ghost hints = { λ m hint. S.hints m.stream hint };
 
-    ghost laws = { laws_hinted map_parts S.laws (replaces_turning (Calls F.FnMut)) };
+    ghost laws = { laws_hinted map_parts S.laws (replaces_relating (Calls F.FnMut)) };
 
     #[tactic(auto, using(crate::specs::Laws::EachItem::each_rules))]
     fn poll_next(&mut self, cx: &mut Context<'_>) -> Poll<Option<U>> {
@@ -46,5 +46,5 @@ impl<U, S: Stream, F: FnMut(S::Item) -> U> Stream for Map<S, F> {
 impl<U, S: Counted, F: FnMut(S::Item) -> U> Counted for Map<S, F> {
     ghost ranks = { ranks_of (λ m. m.stream) S.ranks };
 
-    ghost counting = { through_counting map_parts S.counting (replaces_turning (Calls F.FnMut)) };
+    ghost counting = { through_counting map_parts S.counting (replaces_relating (Calls F.FnMut)) };
 }

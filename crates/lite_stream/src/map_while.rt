@@ -1,9 +1,10 @@
 ghost use Rattle.lite_base.specs.Ranks.{ranks_of};
-ghost use Rattle.std.specs.Prelude.{◌≡◌, None};
+ghost use Rattle.std.specs.Prelude.{None};
 ghost use Rattle.lite_stream.specs.EachItem.{MayCallEach};
 ghost use Rattle.lite_base.specs.Calling.{Calls};
+ghost use Rattle.lite_base.specs.Runs.{NoHint};
 ghost use Rattle.lite_stream.specs.MapWhile.{MapsWhile, map_while_parts};
-ghost use Rattle.lite_stream.specs.Laws.Pointwise.{exchanges_turning};
+ghost use Rattle.lite_stream.specs.Laws.Pointwise.{exchanges_relating};
 ghost use Rattle.lite_stream.specs.Laws.Through.{laws_unhinted, through_counting};
 
 use lite_base::{Context, Counted, Poll, Stream, ready};
@@ -25,11 +26,11 @@ impl<B, S: Stream, F: FnMut(S::Item) -> Option<B>> Stream for MapWhile<S, F> {
 
     ghost run = { MapsWhile S.run (Calls F.FnMut) };
 
-    ghost leaves = { λ m. S.leaves m.stream };
+    ghost registers = { λ m. S.registers m.stream };
 
-    ghost hints = { λ m hint. hint ≡ (0, None) };
+    ghost hints = { NoHint };
 
-    ghost laws = { laws_unhinted map_while_parts S.laws (exchanges_turning (Calls F.FnMut)) };
+    ghost laws = { laws_unhinted map_while_parts S.laws (exchanges_relating (Calls F.FnMut)) };
 
     #[tactic(auto, using(crate::specs::Laws::EachItem::each_rules))]
     fn poll_next(&mut self, cx: &mut Context<'_>) -> Poll<Option<B>> {
@@ -47,5 +48,5 @@ impl<B, S: Stream, F: FnMut(S::Item) -> Option<B>> Stream for MapWhile<S, F> {
 impl<B, S: Counted, F: FnMut(S::Item) -> Option<B>> Counted for MapWhile<S, F> {
     ghost ranks = { ranks_of (λ m. m.stream) S.ranks };
 
-    ghost counting = { through_counting map_while_parts S.counting (exchanges_turning (Calls F.FnMut)) };
+    ghost counting = { through_counting map_while_parts S.counting (exchanges_relating (Calls F.FnMut)) };
 }

@@ -3,15 +3,15 @@ ghost use Rattle.std.specs.Fn.{CalledAt};
 ghost use Rattle.lite_base.specs.OkRanks.{ok_counting};
 ghost use Rattle.lite_base.specs.Ranks.{number_counting, number_ranks, ranks_of};
 ghost use Rattle.lite_base.specs.Calling.{Accepts, Calls, CallsWith};
-ghost use Rattle.lite_stream.specs.Copied.{Copies, copied_parts};
+ghost use Rattle.lite_stream.specs.Copied.{CopiesItem, copied_parts};
 ghost use Rattle.lite_stream.specs.Fuse.{fuse_parts};
-ghost use Rattle.lite_stream.specs.Inspect.{Shows, inspect_parts};
+ghost use Rattle.lite_stream.specs.Inspect.{ShowsItem, inspect_parts};
 ghost use Rattle.lite_stream.specs.Map.{map_parts};
 ghost use Rattle.lite_stream.specs.MapWhile.{map_while_parts};
 ghost use Rattle.lite_stream.specs.Scan.{scan_parts};
 ghost use Rattle.lite_stream.specs.TakeWhile.{take_while_parts};
-ghost use Rattle.lite_stream.specs.Laws.Fuse.{fuses_turning};
-ghost use Rattle.lite_stream.specs.Laws.Pointwise.{exchanges_turning, replaces_turning};
+ghost use Rattle.lite_stream.specs.Laws.Fuse.{fuses_relating};
+ghost use Rattle.lite_stream.specs.Laws.Pointwise.{exchanges_relating, replaces_relating};
 ghost use Rattle.lite_stream.specs.Laws.Take.{takes_lowers};
 ghost use Rattle.lite_stream.specs.Laws.Through.{through_counting};
 
@@ -25,7 +25,7 @@ impl<T, E, S: Counted, F: FnMut(S::Item) -> Result<T, E>> OkCounted for Map<S, F
 
     ghost ok_ranks = { ranks_of (λ m. m.stream) S.ranks };
 
-    ghost ok_counting = { ok_counting (through_counting map_parts S.counting (replaces_turning (Calls F.FnMut))) };
+    ghost ok_counting = { ok_counting (through_counting map_parts S.counting (replaces_relating (Calls F.FnMut))) };
 }
 
 impl<T, E, S: Counted<Item = Result<T, E>>, F: FnMut(&Result<T, E>)> OkCounted for Inspect<S, F> {
@@ -35,7 +35,7 @@ impl<T, E, S: Counted<Item = Result<T, E>>, F: FnMut(&Result<T, E>)> OkCounted f
 
     ghost ok_ranks = { ranks_of (λ m. m.stream) S.ranks };
 
-    ghost ok_counting = { ok_counting (through_counting inspect_parts S.counting (replaces_turning (Shows (CalledAt F.FnMut)))) };
+    ghost ok_counting = { ok_counting (through_counting inspect_parts S.counting (replaces_relating (ShowsItem (CalledAt F.FnMut)))) };
 }
 
 impl<'a, T: Copy + 'a, E: Copy + 'a, S: Counted<Item = &'a Result<T, E>>> OkCounted for Copied<S> {
@@ -45,7 +45,7 @@ impl<'a, T: Copy + 'a, E: Copy + 'a, S: Counted<Item = &'a Result<T, E>>> OkCoun
 
     ghost ok_ranks = { ranks_of (λ m. m.stream) S.ranks };
 
-    ghost ok_counting = { ok_counting (through_counting copied_parts S.counting (replaces_turning Copies)) };
+    ghost ok_counting = { ok_counting (through_counting copied_parts S.counting (replaces_relating CopiesItem)) };
 }
 
 impl<T: Drop, E: Drop, S: Counted<Item = Result<T, E>>, P: FnMut(&Result<T, E>) -> bool> OkCounted
@@ -56,7 +56,8 @@ impl<T: Drop, E: Drop, S: Counted<Item = Result<T, E>>, P: FnMut(&Result<T, E>) 
 
     ghost ok_ranks = { ranks_of (λ m. m.stream) S.ranks };
 
-    ghost ok_counting = { ok_counting (through_counting take_while_parts S.counting (exchanges_turning (Accepts (CalledAt P.FnMut)))) };
+    ghost ok_counting = { ok_counting
+        (through_counting take_while_parts S.counting (exchanges_relating (Accepts (CalledAt P.FnMut)))) };
 }
 
 impl<T, E, S: Counted, F: FnMut(S::Item) -> Option<Result<T, E>>> OkCounted for MapWhile<S, F> {
@@ -66,7 +67,7 @@ impl<T, E, S: Counted, F: FnMut(S::Item) -> Option<Result<T, E>>> OkCounted for 
 
     ghost ok_ranks = { ranks_of (λ m. m.stream) S.ranks };
 
-    ghost ok_counting = { ok_counting (through_counting map_while_parts S.counting (exchanges_turning (Calls F.FnMut))) };
+    ghost ok_counting = { ok_counting (through_counting map_while_parts S.counting (exchanges_relating (Calls F.FnMut))) };
 }
 
 impl<T, E, St, S: Counted, F: FnMut(&mut St, S::Item) -> Option<Result<T, E>>> OkCounted
@@ -77,7 +78,7 @@ impl<T, E, St, S: Counted, F: FnMut(&mut St, S::Item) -> Option<Result<T, E>>> O
 
     ghost ok_ranks = { ranks_of (λ m. m.stream) S.ranks };
 
-    ghost ok_counting = { ok_counting (through_counting scan_parts S.counting (exchanges_turning (CallsWith F.FnMut))) };
+    ghost ok_counting = { ok_counting (through_counting scan_parts S.counting (exchanges_relating (CallsWith F.FnMut))) };
 }
 
 impl<T, E, S: Stream<Item = Result<T, E>>> OkCounted for Take<S> {
@@ -87,7 +88,7 @@ impl<T, E, S: Stream<Item = Result<T, E>>> OkCounted for Take<S> {
 
     ghost ok_ranks = { number_ranks (λ m. m.n) };
 
-    ghost ok_counting = { ok_counting (number_counting (λ x y l h. takes_lowers x.n y.n h.ins l h.turned)) };
+    ghost ok_counting = { ok_counting (number_counting (λ x y l h. takes_lowers x.n y.n h.ins l h.related)) };
 }
 
 impl<T, E, S: Counted<Item = Result<T, E>>> OkCounted for Fuse<S> {
@@ -97,5 +98,5 @@ impl<T, E, S: Counted<Item = Result<T, E>>> OkCounted for Fuse<S> {
 
     ghost ok_ranks = { ranks_of (λ m. m.stream) S.ranks };
 
-    ghost ok_counting = { ok_counting (through_counting fuse_parts S.counting fuses_turning) };
+    ghost ok_counting = { ok_counting (through_counting fuse_parts S.counting fuses_relating) };
 }

@@ -1,9 +1,10 @@
 ghost use Rattle.lite_base.specs.Ranks.{ranks_of};
-ghost use Rattle.std.specs.Prelude.{◌≡◌, None};
+ghost use Rattle.std.specs.Prelude.{None};
 ghost use Rattle.lite_base.specs.Calling.{CallsWith};
+ghost use Rattle.lite_base.specs.Runs.{NoHint};
 ghost use Rattle.lite_stream.specs.EachItem.{MayCallEachWith};
 ghost use Rattle.lite_stream.specs.Scan.{Scans, scan_parts};
-ghost use Rattle.lite_stream.specs.Laws.Pointwise.{exchanges_turning};
+ghost use Rattle.lite_stream.specs.Laws.Pointwise.{exchanges_relating};
 ghost use Rattle.lite_stream.specs.Laws.Through.{laws_unhinted, through_counting};
 
 use lite_base::{Context, Counted, Poll, Stream, ready};
@@ -26,11 +27,11 @@ impl<St, B, S: Stream, F: FnMut(&mut St, S::Item) -> Option<B>> Stream for Scan<
 
     ghost run = { Scans S.run (CallsWith F.FnMut) };
 
-    ghost leaves = { λ m. S.leaves m.stream };
+    ghost registers = { λ m. S.registers m.stream };
 
-    ghost hints = { λ m hint. hint ≡ (0, None) };
+    ghost hints = { NoHint };
 
-    ghost laws = { laws_unhinted scan_parts S.laws (exchanges_turning (CallsWith F.FnMut)) };
+    ghost laws = { laws_unhinted scan_parts S.laws (exchanges_relating (CallsWith F.FnMut)) };
 
     #[tactic(auto, using(crate::specs::Laws::EachItem::each_rules))]
     fn poll_next(&mut self, cx: &mut Context<'_>) -> Poll<Option<B>> {
@@ -48,5 +49,5 @@ impl<St, B, S: Stream, F: FnMut(&mut St, S::Item) -> Option<B>> Stream for Scan<
 impl<St, B, S: Counted, F: FnMut(&mut St, S::Item) -> Option<B>> Counted for Scan<S, St, F> {
     ghost ranks = { ranks_of (λ m. m.stream) S.ranks };
 
-    ghost counting = { through_counting scan_parts S.counting (exchanges_turning (CallsWith F.FnMut)) };
+    ghost counting = { through_counting scan_parts S.counting (exchanges_relating (CallsWith F.FnMut)) };
 }

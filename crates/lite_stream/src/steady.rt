@@ -1,16 +1,19 @@
 //! The adapters whose answers do not depend on when their stream was pending.
 ghost use Rattle.lite_base.specs.Alike.{Pairwise, SameItem, Sameness};
-ghost use Rattle.lite_base.specs.Calling.{Accepts, AgreeFrom, AgreeKeeping, AgreeOver, Answering, Calls, CallsWith, Keeping};
-ghost use Rattle.lite_stream.specs.Copied.{Copies, CopiesAll, Referred, copied_parts};
+ghost use Rattle.lite_base.specs.Calling.{Accepts, AgreeFrom, AgreeKeeping, AgreeOver, Answering, Calls, CallsWith};
+ghost use Rattle.lite_base.specs.Calling.{Keeping};
+ghost use Rattle.lite_stream.specs.Copied.{CopiesAll, CopiesItem, Referred, copied_parts};
 ghost use Rattle.lite_stream.specs.Enumerate.{Enumerates, Numbers, enumerate_parts};
 ghost use Rattle.lite_stream.specs.Fuse.{Fuses, fuse_parts};
-ghost use Rattle.lite_stream.specs.Inspect.{Inspects, Shows, inspect_parts};
+ghost use Rattle.lite_stream.specs.Inspect.{Inspects, ShowsItem, inspect_parts};
 ghost use Rattle.lite_stream.specs.Laws.Agreeing.{through_steady_over};
-ghost use Rattle.lite_stream.specs.Laws.Cutting.{cuts_turning};
-ghost use Rattle.lite_stream.specs.Laws.Fuse.{fuses_agreeing, fuses_turning};
+ghost use Rattle.lite_stream.specs.Laws.Cutting.{cuts_relating};
+ghost use Rattle.lite_stream.specs.Laws.Fuse.{fuses_agreeing, fuses_relating};
 ghost use Rattle.lite_stream.specs.Laws.Matching.{copies_match, shows_match};
 ghost use Rattle.lite_stream.specs.Laws.Numbering.{numbers_agreeing};
-ghost use Rattle.lite_stream.specs.Laws.Pointwise.{exchanges_keeping, exchanges_testing, exchanges_turning, replaces_agreeing_over, replaces_answering, replaces_showing, replaces_turning};
+ghost use Rattle.lite_stream.specs.Laws.Pointwise.{exchanges_keeping, exchanges_testing, exchanges_relating};
+ghost use Rattle.lite_stream.specs.Laws.Pointwise.{replaces_agreeing_over, replaces_answering, replaces_showing};
+ghost use Rattle.lite_stream.specs.Laws.Pointwise.{replaces_relating};
 ghost use Rattle.lite_stream.specs.Laws.Take.{takes_agreeing};
 ghost use Rattle.lite_stream.specs.Map.{Maps, map_parts};
 ghost use Rattle.lite_stream.specs.MapWhile.{MapsWhile, map_while_parts};
@@ -32,8 +35,8 @@ impl<'a, T: Copy + 'a, S: SteadyStream<Item = &'a T>> SteadyStream for Copied<S>
 
     ghost alike = { λ x y. S.alike x.stream y.stream × ⊤ };
 
-    ghost steady = { through_steady_over copied_parts S.same (Referred S.same) S.steady (replaces_turning Copies).following
-        (replaces_agreeing_over Copies S.same (Referred S.same) (copies_match S.same)) };
+    ghost steady = { through_steady_over copied_parts S.same (Referred S.same) S.steady (replaces_relating CopiesItem).following
+        (replaces_agreeing_over CopiesItem S.same (Referred S.same) (copies_match S.same)) };
 }
 
 impl<S: SteadyStream> SteadyStream for Enumerate<S> {
@@ -45,7 +48,8 @@ impl<S: SteadyStream> SteadyStream for Enumerate<S> {
 
     ghost alike = { λ x y. S.alike x.stream y.stream × (y.i ≡ x.i) };
 
-    ghost steady = { through_steady_over enumerate_parts S.same (Pairwise Sameness.equal S.same) S.steady (replaces_turning Numbers).following (numbers_agreeing S.same) };
+    ghost steady = { through_steady_over enumerate_parts S.same (Pairwise Sameness.equal S.same) S.steady
+        (replaces_relating Numbers).following (numbers_agreeing S.same) };
 }
 
 impl<S: SteadyStream> SteadyStream for Fuse<S> {
@@ -57,7 +61,7 @@ impl<S: SteadyStream> SteadyStream for Fuse<S> {
 
     ghost alike = { λ x y. S.alike x.stream y.stream × (y.done ≡ x.done) };
 
-    ghost steady = { through_steady_over fuse_parts S.same S.same S.steady fuses_turning.following (fuses_agreeing S.same) };
+    ghost steady = { through_steady_over fuse_parts S.same S.same S.steady fuses_relating.following (fuses_agreeing S.same) };
 }
 
 impl<S: SteadyStream, F: FnMut(&S::Item)> SteadyStream for Inspect<S, F> {
@@ -69,8 +73,9 @@ impl<S: SteadyStream, F: FnMut(&S::Item)> SteadyStream for Inspect<S, F> {
 
     ghost alike = { λ x y. S.alike x.stream y.stream × ⊤ };
 
-    ghost steady = { through_steady_over inspect_parts S.same S.same S.steady (replaces_turning (Shows (CalledAt F.FnMut))).following
-        (replaces_showing (Shows (CalledAt F.FnMut)) (shows_match (CalledAt F.FnMut)) S.same) };
+    ghost steady = { through_steady_over inspect_parts S.same S.same S.steady
+        (replaces_relating (ShowsItem (CalledAt F.FnMut))).following
+        (replaces_showing (ShowsItem (CalledAt F.FnMut)) (shows_match (CalledAt F.FnMut)) S.same) };
 }
 
 impl<U, S: SteadyStream, F: FnMut(S::Item) -> U> SteadyStream for Map<S, F> {
@@ -82,7 +87,8 @@ impl<U, S: SteadyStream, F: FnMut(S::Item) -> U> SteadyStream for Map<S, F> {
 
     ghost alike = { λ x y. S.alike x.stream y.stream × AgreeOver S.same (Calls F.FnMut) x.f y.f };
 
-    ghost steady = { through_steady_over map_parts S.same (Answering S.same (Calls F.FnMut)) S.steady (replaces_turning (Calls F.FnMut)).following
+    ghost steady = { through_steady_over map_parts S.same (Answering S.same (Calls F.FnMut)) S.steady
+        (replaces_relating (Calls F.FnMut)).following
         (replaces_answering (Calls F.FnMut) S.same) };
 }
 
@@ -95,7 +101,8 @@ impl<B, S: SteadyStream, F: FnMut(S::Item) -> Option<B>> SteadyStream for MapWhi
 
     ghost alike = { λ x y. S.alike x.stream y.stream × AgreeKeeping S.same (Calls F.FnMut) x.f y.f };
 
-    ghost steady = { through_steady_over map_while_parts S.same (Keeping S.same (Calls F.FnMut)) S.steady (exchanges_turning (Calls F.FnMut)).following
+    ghost steady = { through_steady_over map_while_parts S.same (Keeping S.same (Calls F.FnMut)) S.steady
+        (exchanges_relating (Calls F.FnMut)).following
         (exchanges_keeping (Calls F.FnMut) S.same) };
 }
 
@@ -109,7 +116,8 @@ impl<St, B, S: SteadyStream, F: FnMut(&mut St, S::Item) -> Option<B>> SteadyStre
 
     ghost alike = { λ x y. S.alike x.stream y.stream × AgreeKeeping S.same (CallsWith F.FnMut) (x.f, x.state) (y.f, y.state) };
 
-    ghost steady = { through_steady_over scan_parts S.same (Keeping S.same (CallsWith F.FnMut)) S.steady (exchanges_turning (CallsWith F.FnMut)).following
+    ghost steady = { through_steady_over scan_parts S.same (Keeping S.same (CallsWith F.FnMut)) S.steady
+        (exchanges_relating (CallsWith F.FnMut)).following
         (exchanges_keeping (CallsWith F.FnMut) S.same) };
 }
 
@@ -122,7 +130,8 @@ impl<S: SteadyStream> SteadyStream for Take<S> {
 
     ghost alike = { λ x y. S.alike x.stream y.stream × (y.n ≡ x.n) };
 
-    ghost steady = { through_steady_over take_parts S.same S.same S.steady (cuts_turning is_none_left left_after).following (takes_agreeing S.same) };
+    ghost steady = { through_steady_over take_parts S.same S.same S.steady (cuts_relating is_none_left left_after).following
+        (takes_agreeing S.same) };
 }
 
 impl<S: SteadyStream<Item: Drop>, P: FnMut(&S::Item) -> bool> SteadyStream for TakeWhile<S, P> {
@@ -132,8 +141,10 @@ impl<S: SteadyStream<Item: Drop>, P: FnMut(&S::Item) -> bool> SteadyStream for T
 
     ghost same = { S.same };
 
-    ghost alike = { λ x y. S.alike x.stream y.stream × AgreeFrom (SameItem S.same) (λ y z. y ≡ z) (CalledAt P.FnMut) x.predicate y.predicate };
+    ghost alike = { λ x y. S.alike x.stream y.stream
+        × AgreeFrom (SameItem S.same) (λ y z. y ≡ z) (CalledAt P.FnMut) x.predicate y.predicate };
 
-    ghost steady = { through_steady_over take_while_parts S.same S.same S.steady (exchanges_turning (Accepts (CalledAt P.FnMut))).following
+    ghost steady = { through_steady_over take_while_parts S.same S.same S.steady
+        (exchanges_relating (Accepts (CalledAt P.FnMut))).following
         (exchanges_testing (CalledAt P.FnMut) S.same) };
 }

@@ -1,7 +1,8 @@
 ghost use Rattle.lite_base.specs.Ranks.{number_counting, number_ranks};
-ghost use Rattle.std.specs.Prelude.{◌≡◌, None};
+ghost use Rattle.lite_base.specs.Runs.{NoHint};
+ghost use Rattle.std.specs.Prelude.{None};
 ghost use Rattle.lite_stream.specs.Take.{Takes, is_none_left, left_after, take_parts};
-ghost use Rattle.lite_stream.specs.Laws.Cutting.{cuts_turning};
+ghost use Rattle.lite_stream.specs.Laws.Cutting.{cuts_relating};
 ghost use Rattle.lite_stream.specs.Laws.Take.{takes_lowers};
 ghost use Rattle.lite_stream.specs.Laws.Through.{laws_unhinted};
 
@@ -24,11 +25,11 @@ impl<S: Stream> Stream for Take<S> {
 
     ghost run = { Takes S.run };
 
-    ghost leaves = { λ m. S.leaves m.stream };
+    ghost registers = { λ m. S.registers m.stream };
 
-    ghost hints = { λ m hint. hint ≡ (0, None) };
+    ghost hints = { NoHint };
 
-    ghost laws = { laws_unhinted take_parts S.laws (cuts_turning is_none_left left_after) };
+    ghost laws = { laws_unhinted take_parts S.laws (cuts_relating is_none_left left_after) };
 
     fn poll_next(&mut self, cx: &mut Context<'_>) -> Poll<Option<S::Item>> {
         if self.n == 0 {
@@ -50,5 +51,5 @@ impl<S: Stream> Stream for Take<S> {
 impl<S: Stream> Counted for Take<S> {
     ghost ranks = { number_ranks (λ m. m.n) };
 
-    ghost counting = { number_counting (λ x y l h. takes_lowers x.n y.n h.ins l h.turned) };
+    ghost counting = { number_counting (λ x y l h. takes_lowers x.n y.n h.ins l h.related) };
 }

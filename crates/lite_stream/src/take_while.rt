@@ -1,10 +1,11 @@
 ghost use Rattle.lite_base.specs.Ranks.{ranks_of};
-ghost use Rattle.std.specs.Prelude.{◌≡◌, None};
+ghost use Rattle.std.specs.Prelude.{None};
 ghost use Rattle.std.specs.Fn.{CalledAt};
 ghost use Rattle.lite_stream.specs.EachItem.{MayShowEach};
 ghost use Rattle.lite_base.specs.Calling.{Accepts};
+ghost use Rattle.lite_base.specs.Runs.{NoHint};
 ghost use Rattle.lite_stream.specs.TakeWhile.{TakesWhile, take_while_parts};
-ghost use Rattle.lite_stream.specs.Laws.Pointwise.{exchanges_turning};
+ghost use Rattle.lite_stream.specs.Laws.Pointwise.{exchanges_relating};
 ghost use Rattle.lite_stream.specs.Laws.Through.{laws_unhinted, through_counting};
 
 use lite_base::{Context, Counted, Poll, Stream, ready};
@@ -26,11 +27,11 @@ impl<S: Stream<Item: Drop>, P: FnMut(&S::Item) -> bool> Stream for TakeWhile<S, 
 
     ghost run = { TakesWhile S.run (CalledAt P.FnMut) };
 
-    ghost leaves = { λ m. S.leaves m.stream };
+    ghost registers = { λ m. S.registers m.stream };
 
-    ghost hints = { λ m hint. hint ≡ (0, None) };
+    ghost hints = { NoHint };
 
-    ghost laws = { laws_unhinted take_while_parts S.laws (exchanges_turning (Accepts (CalledAt P.FnMut))) };
+    ghost laws = { laws_unhinted take_while_parts S.laws (exchanges_relating (Accepts (CalledAt P.FnMut))) };
 
     #[tactic(auto, using(crate::specs::Laws::EachItem::each_rules))]
     fn poll_next(&mut self, cx: &mut Context<'_>) -> Poll<Option<S::Item>> {
@@ -49,5 +50,5 @@ impl<S: Stream<Item: Drop>, P: FnMut(&S::Item) -> bool> Stream for TakeWhile<S, 
 impl<S: Counted<Item: Drop>, P: FnMut(&S::Item) -> bool> Counted for TakeWhile<S, P> {
     ghost ranks = { ranks_of (λ m. m.stream) S.ranks };
 
-    ghost counting = { through_counting take_while_parts S.counting (exchanges_turning (Accepts (CalledAt P.FnMut))) };
+    ghost counting = { through_counting take_while_parts S.counting (exchanges_relating (Accepts (CalledAt P.FnMut))) };
 }

@@ -1,3 +1,3 @@
 mod Lines
 mod Strings
-mod Turns
+mod PollSteps

@@ -5,17 +5,18 @@ use Rattle.std.specs.declared.vec.Vec.{Vec}
 use denote.MutBor.{MutBor}
 
 -- the text has room for the bytes
-abbrev pub Fits : {A : Type 0} → String A → Vec ℕ A → Type 0
-Fits text bytes = string_len text + vec_len bytes ≤ string_capacity text
+abbrev pub HasRoomFor : {A : Type 0} → String A → Vec ℕ A → Type 0
+HasRoomFor text bytes = string_len text + vec_len bytes ≤ string_capacity text
 
--- a future of the type X that reads for a text: its reader, its text, what it has read, and what is true of it before each poll
-pub record Over (X R A : Type 0) : Type 1 where
+-- a future of the type X that reads for a text: its reader, its text, what it has read, and what is true of it before
+-- each poll
+pub record TextOver (X R A : Type 0) : Type 1 where
   pub reader : X → MutBor R
   pub text : X → MutBor (String A)
   pub read : X → List ℕ
   pub holds : X → Type 0
 
--- both references stay
-pub record Stays {X R A : Type 0} (over : Over X R A) (x y : X) : Type 0 where
+-- both references of a future that reads for a text stay
+pub record TextStays {X R A : Type 0} (over : TextOver X R A) (x y : X) : Type 0 where
   pub reader : over.reader y ≡ record (over.reader x) { now = (over.reader y).now }
   pub text : over.text y ≡ record (over.text x) { now = (over.text y).now }

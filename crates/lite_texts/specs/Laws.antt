@@ -1,3 +1,3 @@
-pub mod Settling
+pub mod Deterministic
 pub mod SteadyTexts
 pub mod Texts

@@ -3,4 +3,4 @@ pub mod Laws
 pub mod ReadLine
 pub mod ReadToString
 pub mod Texts
-pub mod Turns
+pub mod PollSteps

@@ -1,10 +1,11 @@
 //! Bytes that are read for a text, which has room for them all, so that they can be appended without memory.
-ghost use Rattle.std.specs.Prelude.{◌≡◌, ◌≤◌, ◌++◌, [], ◌+◌, true, length, take, IfErr, IfOk, IsUtf8, MatchBool, OnErr, OnOk, string_bytes, string_capacity, string_len};
+ghost use Rattle.std.specs.Prelude.{◌≡◌, ◌≤◌, ◌++◌, [], ◌+◌, true, length, take, IfErr, IfOk, IsUtf8, MatchBool, OnErr};
+ghost use Rattle.std.specs.Prelude.{OnOk, string_bytes, string_capacity, string_len};
 ghost use Rattle.std.specs.IoError.{error_kind};
 ghost use Rattle.std.specs.declared.io.ErrorKind.TheVariants.{OutOfMemory};
 ghost use Rattle.lite_io_base.specs.Marks.{bytes as read_bytes};
-ghost use Rattle.lite_texts.specs.Holding.{Fits};
-ghost use Rattle.lite_texts.specs.Texts.{Gains, ValueOf};
+ghost use Rattle.lite_texts.specs.Holding.{HasRoomFor};
+ghost use Rattle.lite_texts.specs.Texts.{AppendsText, ValueOf};
 
 use lite_io_base::AsyncBufRead;
 use std::alloc::{AllocError, Allocator};
@@ -19,9 +20,9 @@ pub(crate) fn take_in<R: AsyncBufRead, A: Allocator>(
     text: &mut String<A>,
     bytes: &mut Vec<u8, A>,
 ) -> io::Result<()>
-    requires fits { Fits text.old bytes.old }
+    requires fits { HasRoomFor text.old bytes.old }
     requires within { amount ≤ length (R.lent reader.old) }
-    ensures fits { Fits text.new bytes.new }
+    ensures fits { HasRoomFor text.new bytes.new }
     ensures text { string_bytes text.new ≡ string_bytes text.old }
     ensures ok { IfOk result (λ u. bytes.new.items ≡ bytes.old.items ++ take amount (R.lent reader.old)) }
     ensures taken { IfOk result (λ u. R.reads reader.old (read_bytes (take amount (R.lent reader.old))) reader.new) }
@@ -40,8 +41,8 @@ fn hold<A: Allocator>(
     bytes: &mut Vec<u8, A>,
     piece: &[u8],
 ) -> Result<(), AllocError>
-    requires { Fits text.old bytes.old }
-    ensures fits { Fits text.new bytes.new }
+    requires { HasRoomFor text.old bytes.old }
+    ensures fits { HasRoomFor text.new bytes.new }
     ensures text { string_bytes text.new ≡ string_bytes text.old }
     ensures ok { OnOk result (bytes.new.items ≡ bytes.old.items ++ piece.now) }
     ensures err { OnErr result (bytes.new.items ≡ bytes.old.items) }
@@ -56,9 +57,9 @@ pub(crate) fn make_room<A: Allocator>(
     bytes: &mut Vec<u8, A>,
     len: usize,
 ) -> Result<(), AllocError>
-    requires fits { Fits text.old bytes.old }
+    requires fits { HasRoomFor text.old bytes.old }
     requires more { length bytes.old.items ≤ len }
-    ensures fits { Fits text.new bytes.new }
+    ensures fits { HasRoomFor text.new bytes.new }
     ensures text { string_bytes text.new ≡ string_bytes text.old }
     ensures front { take (length bytes.old.items) bytes.new.items ≡ bytes.old.items }
     ensures ok { OnOk result (length bytes.new.items ≡ len) }
@@ -76,11 +77,11 @@ pub(crate) fn finish<A: Allocator>(
     read: io::Result<usize>,
     known: bool,
 ) -> io::Result<usize>
-    requires fits { Fits text.old bytes.old }
+    requires fits { HasRoomFor text.old bytes.old }
     requires known { known ≡ true → IsUtf8 bytes.old.items }
-    ensures fits { Fits text.new bytes.new }
+    ensures fits { HasRoomFor text.new bytes.new }
     ensures value { ValueOf bytes.old.items read result }
-    ensures gains { Gains bytes.old.items (string_bytes text.old) (string_bytes text.new) }
+    ensures gains { AppendsText bytes.old.items (string_bytes text.old) (string_bytes text.new) }
     ensures empty { bytes.new.items ≡ [] }
 {
     let added = add_text(text, bytes, known);
@@ -98,7 +99,7 @@ pub(crate) fn finish<A: Allocator>(
 fn add_text<A: Allocator>(text: &mut String<A>, bytes: &[u8], known: bool) -> bool
     requires fits { string_len text.old + length bytes.now ≤ string_capacity text.old }
     requires known { known ≡ true → IsUtf8 bytes.now }
-    ensures gains { Gains bytes.now (string_bytes text.old) (string_bytes text.new) }
+    ensures gains { AppendsText bytes.now (string_bytes text.old) (string_bytes text.new) }
     ensures value { MatchBool result (IsUtf8 bytes.now) (¬ IsUtf8 bytes.now) }
 {
     if known {

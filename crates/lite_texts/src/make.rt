@@ -1,7 +1,7 @@
 //! What makes the futures.
 ghost use Rattle.std.specs.Prelude.{◌≡◌, []};
-ghost use Rattle.lite_texts.specs.ReadLine.{Holds};
-ghost use Rattle.lite_texts.specs.ReadToString.{Holds as AllHolds, front_of};
+ghost use Rattle.lite_texts.specs.ReadLine.{LineHolds};
+ghost use Rattle.lite_texts.specs.ReadToString.{StringHolds as AllHolds, text_front};
 
 use crate::read_line::ReadLineFuture;
 use crate::read_to_string::ReadToStringFuture;
@@ -16,7 +16,7 @@ pub fn read_line<'a, R, A: Allocator + Copy>(
     ensures reader { result.reader ≡ reader.entry }
     ensures text { result.text ≡ text.entry }
     ensures empty { result.bytes.items ≡ [] }
-    ensures held { Holds result }
+    ensures held { LineHolds result }
 {
     let bytes = Vec::new(*text.allocator());
     ReadLineFuture {
@@ -35,7 +35,7 @@ pub fn read_to_string<'a, R, A: Allocator + Copy>(
 ) -> ReadToStringFuture<'a, R, A>
     ensures reader { result.reader ≡ reader.entry }
     ensures text { result.text ≡ text.entry }
-    ensures empty { front_of result ≡ [] }
+    ensures empty { text_front result ≡ [] }
     ensures held { AllHolds result }
 {
     let bytes = Vec::new(*text.allocator());

@@ -3,18 +3,18 @@ ghost use Rattle.std.specs.Char.{is_ascii};
 ghost use Rattle.std.specs.IoError.{error_kind};
 ghost use Rattle.std.specs.List.{list_all};
 ghost use Rattle.std.specs.declared.io.ErrorKind.TheVariants.{OutOfMemory};
-ghost use Rattle.lite_base.specs.Chain.{OneTurn};
-ghost use Rattle.lite_base.specs.Ends.{Ends-map};
+ghost use Rattle.lite_base.specs.Chain.{OneStep};
+ghost use Rattle.lite_base.specs.Ends.{Terminates-map};
 ghost use Rattle.lite_io_base.specs.Marks.{bytes};
-ghost use Rattle.lite_read.specs.Laws.Turns.{takes_given};
-ghost use Rattle.lite_texts.specs.Holding.{Stays};
+ghost use Rattle.lite_read.specs.Laws.PollSteps.{takes_given};
+ghost use Rattle.lite_texts.specs.Holding.{TextStays};
 ghost use Rattle.lite_texts.specs.Laws.Texts.{text_laws};
-ghost use Rattle.lite_texts.specs.ReadLine.{Holds, ReadsLine, line_over, lining};
-ghost use Rattle.lite_texts.specs.Texts.{Gains, ValueOf};
-ghost use Rattle.lite_texts.specs.Turns.{Answers, TakesIn};
+ghost use Rattle.lite_texts.specs.ReadLine.{LineHolds, ReadsLine, line_over, read_line_fold};
+ghost use Rattle.lite_texts.specs.Texts.{AppendsText, ValueOf};
+ghost use Rattle.lite_texts.specs.PollSteps.{AnswersText, TakesTextIn};
 
 use crate::held::{finish, take_in};
-use lite_base::{Context, Future, Poll, Turns, drive};
+use lite_base::{Context, Future, Poll, PollSteps, drive};
 use lite_io_base::{AsyncBufRead, CountedRead};
 use lite_lines::find::find_line;
 use std::alloc::{Allocator, Global};
@@ -42,14 +42,17 @@ impl<R: AsyncBufRead, A: Allocator> ReadLineFuture<'_, R, A> {
     // Takes in the first `amount` bytes that are there, and it is known whether they are ASCII.
     #[tactic(auto, using(lite_lines::proofs::Texts::ascii_more))]
     fn take_in(&mut self, amount: usize, ascii: bool) -> io::Result<()>
-        requires held { Holds self.old }
+        requires held { LineHolds self.old }
         requires within { amount ≤ length (R.lent self.old.reader.now) }
         requires ascii { ascii ≡ list_all is_ascii (take amount (R.lent self.old.reader.now)) }
-        ensures held { Holds self.new }
-        ensures stays { Stays line_over self.old self.new }
+        ensures held { LineHolds self.new }
+        ensures stays { TextStays line_over self.old self.new }
         ensures text { string_bytes self.new.text.now ≡ string_bytes self.old.text.now }
-        ensures ok { IfOk result (λ u. self.new.bytes.items ≡ self.old.bytes.items ++ take amount (R.lent self.old.reader.now)) }
-        ensures taken { IfOk result (λ u. R.reads self.old.reader.now (bytes (take amount (R.lent self.old.reader.now))) self.new.reader.now) }
+        ensures ok { IfOk result
+            (λ u. self.new.bytes.items ≡ self.old.bytes.items ++ take amount (R.lent self.old.reader.now)) }
+        ensures taken { IfOk result
+            (λ u. R.reads self.old.reader.now
+            (bytes (take amount (R.lent self.old.reader.now))) self.new.reader.now) }
         ensures refused { IfErr result (λ e. error_kind e ≡ OutOfMemory) }
         ensures unread { IfErr result (λ e. self.new.reader.now ≡ self.old.reader.now) }
         ensures kept { IfErr result (λ e. self.new.bytes.items ≡ self.old.bytes.items) }
@@ -61,12 +64,12 @@ impl<R: AsyncBufRead, A: Allocator> ReadLineFuture<'_, R, A> {
 
     // The value of a line that was read whole.
     fn whole(&mut self) -> io::Result<usize>
-        requires { Holds self.old }
-        ensures held { Holds self.new }
+        requires { LineHolds self.old }
+        ensures held { LineHolds self.new }
         ensures reader { self.new.reader ≡ self.old.reader }
         ensures text { self.new.text ≡ record self.old.text { now = self.new.text.now } }
         ensures value { ValueOf self.old.bytes.items (Ok (length self.old.bytes.items)) result }
-        ensures gains { Gains self.old.bytes.items (string_bytes self.old.text.now) (string_bytes self.new.text.now) }
+        ensures gains { AppendsText self.old.bytes.items (string_bytes self.old.text.now) (string_bytes self.new.text.now) }
         ensures empty { self.new.bytes.items ≡ [] }
     {
         let amount = self.bytes.len();
@@ -76,12 +79,12 @@ impl<R: AsyncBufRead, A: Allocator> ReadLineFuture<'_, R, A> {
     // The value of a line whose bytes are held, where reading them gave `read`.
     #[tactic(auto, using(lite_lines::proofs::Texts::all_utf8))]
     fn finish(&mut self, read: io::Result<usize>) -> io::Result<usize>
-        requires { Holds self.old }
-        ensures held { Holds self.new }
+        requires { LineHolds self.old }
+        ensures held { LineHolds self.new }
         ensures reader { self.new.reader ≡ self.old.reader }
         ensures text { self.new.text ≡ record self.old.text { now = self.new.text.now } }
         ensures value { ValueOf self.old.bytes.items read result }
-        ensures gains { Gains self.old.bytes.items (string_bytes self.old.text.now) (string_bytes self.new.text.now) }
+        ensures gains { AppendsText self.old.bytes.items (string_bytes self.old.text.now) (string_bytes self.new.text.now) }
         ensures empty { self.new.bytes.items ≡ [] }
     {
         let value = finish(self.text, &mut self.bytes, read, self.ascii);
@@ -97,20 +100,21 @@ fn lent_by<R: AsyncBufRead>(reader: &R) -> usize
     reader.buffer().len()
 }
 
-impl<R: AsyncBufRead + CountedRead, A: Allocator> Turns for ReadLineFuture<'_, R, A> {
+impl<R: AsyncBufRead + CountedRead, A: Allocator> PollSteps for ReadLineFuture<'_, R, A> {
     type Output = io::Result<usize>;
 
-    ghost can_turn = { λ x. R.ranks.counts x.reader.now × Holds x };
+    ghost can_step = { λ x. R.ranks.counts x.reader.now × LineHolds x };
 
-    ghost turn = { OneTurn (TakesIn line_over (lining ⊤) R.reads) (Answers line_over (lining ⊤) R.reads) };
+    ghost step = { OneStep (TakesTextIn line_over (read_line_fold ⊤) R.reads)
+        (AnswersText line_over (read_line_fold ⊤) R.reads) };
 
-    ghost turn_leaves = { λ x. R.leaves x.reader.now };
+    ghost step_registers = { λ x. R.registers x.reader.now };
 
     ghost goes_on = { λ x y c h. (R.counting.counts_on x.reader.now y.reader.now (bytes h.taken) c.0 h.came, h.stays.2) };
 
-    ghost finite = { λ x c. Ends-map (λ y. y.reader.now) takes_given x (R.ends x.reader.now c.0) };
+    ghost finite = { λ x c. Terminates-map (λ y. y.reader.now) takes_given x (R.ends x.reader.now c.0) };
 
-    fn turn_once(&mut self, cx: &mut Context<'_>) -> Option<Poll<io::Result<usize>>> {
+    fn poll_step(&mut self, cx: &mut Context<'_>) -> Option<Poll<io::Result<usize>>> {
         match find_line(self.reader, cx) {
             Poll::Ready(Ok((Some(at), ascii))) => match self.take_in(at + 1, ascii) {
                 Ok(()) => Some(Poll::Ready(self.whole())),
@@ -135,13 +139,13 @@ impl<R: AsyncBufRead + CountedRead, A: Allocator> Turns for ReadLineFuture<'_, R
 impl<R: AsyncBufRead + CountedRead, A: Allocator> Future for ReadLineFuture<'_, R, A> {
     type Output = io::Result<usize>;
 
-    ghost can_poll = { λ x. R.ranks.counts x.reader.now × Holds x };
+    ghost can_poll = { λ x. R.ranks.counts x.reader.now × LineHolds x };
 
     ghost run = { ReadsLine ⊤ R.reads };
 
-    ghost leaves = { λ x. R.leaves x.reader.now };
+    ghost registers = { λ x. R.registers x.reader.now };
 
-    ghost laws = { text_laws line_over (lining ⊤) R.read_laws };
+    ghost laws = { text_laws line_over (read_line_fold ⊤) R.read_laws };
 
     fn poll(&mut self, cx: &mut Context<'_>) -> Poll<io::Result<usize>> {
         drive(self, cx)

@@ -1,16 +1,16 @@
 ghost use Rattle.std.specs.Prelude.{⊤, ◌≡◌, ◌≤◌, ◌<◌, [], length, take, OnErr, OnOk, string_bytes};
-ghost use Rattle.lite_base.specs.Chain.{OneTurn};
-ghost use Rattle.lite_base.specs.Ends.{Ends-map};
+ghost use Rattle.lite_base.specs.Chain.{OneStep};
+ghost use Rattle.lite_base.specs.Ends.{Terminates-map};
 ghost use Rattle.lite_io_base.specs.Marks.{bytes};
-ghost use Rattle.lite_read.specs.Laws.Turns.{takes_given};
-ghost use Rattle.lite_texts.specs.Holding.{Stays};
+ghost use Rattle.lite_read.specs.Laws.PollSteps.{takes_given};
+ghost use Rattle.lite_texts.specs.Holding.{TextStays};
 ghost use Rattle.lite_texts.specs.Laws.Texts.{text_laws};
-ghost use Rattle.lite_texts.specs.ReadToString.{Holds, ReadsToString, all_over, front_of, taking};
-ghost use Rattle.lite_texts.specs.Texts.{Gains, ValueOf};
-ghost use Rattle.lite_texts.specs.Turns.{Answers, TakesIn};
+ghost use Rattle.lite_texts.specs.ReadToString.{ReadsToString, StringHolds, all_over, read_to_string_fold, text_front};
+ghost use Rattle.lite_texts.specs.Texts.{AppendsText, ValueOf};
+ghost use Rattle.lite_texts.specs.PollSteps.{AnswersText, TakesTextIn};
 
 use crate::held::{finish, make_room};
-use lite_base::{Context, Future, Poll, Turns, drive};
+use lite_base::{Context, Future, Poll, PollSteps, drive};
 use lite_io_base::CountedRead;
 use std::alloc::{AllocError, Allocator, Global};
 use std::io;
@@ -42,12 +42,12 @@ pub struct ReadToStringFuture<'a, R, A: Allocator = Global> {
 impl<R, A: Allocator> ReadToStringFuture<'_, R, A> {
     // Makes room for a read, if there is none.
     fn make_room(&mut self) -> Result<(), AllocError>
-        requires { Holds self.old }
-        ensures held { Holds self.new }
-        ensures stays { Stays all_over self.old self.new }
+        requires { StringHolds self.old }
+        ensures held { StringHolds self.new }
+        ensures stays { TextStays all_over self.old self.new }
         ensures reader { self.new.reader ≡ self.old.reader }
         ensures text { string_bytes self.new.text.now ≡ string_bytes self.old.text.now }
-        ensures front { front_of self.new ≡ front_of self.old }
+        ensures front { text_front self.new ≡ text_front self.old }
         ensures room { OnOk result (self.new.filled < length self.new.bytes.items) }
     {
         if self.filled < self.bytes.len() {
@@ -61,13 +61,13 @@ impl<R, A: Allocator> ReadToStringFuture<'_, R, A> {
 
     // The value, where reading gave `read`.
     fn finish(&mut self, read: io::Result<usize>) -> io::Result<usize>
-        requires { Holds self.old }
-        ensures held { Holds self.new }
+        requires { StringHolds self.old }
+        ensures held { StringHolds self.new }
         ensures reader { self.new.reader ≡ self.old.reader }
         ensures text { self.new.text ≡ record self.old.text { now = self.new.text.now } }
-        ensures value { ValueOf (front_of self.old) read result }
-        ensures gains { Gains (front_of self.old) (string_bytes self.old.text.now) (string_bytes self.new.text.now) }
-        ensures empty { front_of self.new ≡ [] }
+        ensures value { ValueOf (text_front self.old) read result }
+        ensures gains { AppendsText (text_front self.old) (string_bytes self.old.text.now) (string_bytes self.new.text.now) }
+        ensures empty { text_front self.new ≡ [] }
     {
         self.bytes.truncate(self.filled);
         self.filled = 0;
@@ -75,20 +75,21 @@ impl<R, A: Allocator> ReadToStringFuture<'_, R, A> {
     }
 }
 
-impl<R: CountedRead, A: Allocator> Turns for ReadToStringFuture<'_, R, A> {
+impl<R: CountedRead, A: Allocator> PollSteps for ReadToStringFuture<'_, R, A> {
     type Output = io::Result<usize>;
 
-    ghost can_turn = { λ x. R.ranks.counts x.reader.now × Holds x };
+    ghost can_step = { λ x. R.ranks.counts x.reader.now × StringHolds x };
 
-    ghost turn = { OneTurn (TakesIn all_over (taking ⊤) R.reads) (Answers all_over (taking ⊤) R.reads) };
+    ghost step = { OneStep (TakesTextIn all_over (read_to_string_fold ⊤) R.reads)
+        (AnswersText all_over (read_to_string_fold ⊤) R.reads) };
 
-    ghost turn_leaves = { λ x. R.leaves x.reader.now };
+    ghost step_registers = { λ x. R.registers x.reader.now };
 
     ghost goes_on = { λ x y c h. (R.counting.counts_on x.reader.now y.reader.now (bytes h.taken) c.0 h.came, h.stays.2) };
 
-    ghost finite = { λ x c. Ends-map (λ y. y.reader.now) takes_given x (R.ends x.reader.now c.0) };
+    ghost finite = { λ x c. Terminates-map (λ y. y.reader.now) takes_given x (R.ends x.reader.now c.0) };
 
-    fn turn_once(&mut self, cx: &mut Context<'_>) -> Option<Poll<io::Result<usize>>> {
+    fn poll_step(&mut self, cx: &mut Context<'_>) -> Option<Poll<io::Result<usize>>> {
         if self.make_room().is_err() {
             return Some(Poll::Ready(self.finish(Err(ErrorKind::OutOfMemory.into()))));
         }
@@ -110,13 +111,13 @@ impl<R: CountedRead, A: Allocator> Turns for ReadToStringFuture<'_, R, A> {
 impl<R: CountedRead, A: Allocator> Future for ReadToStringFuture<'_, R, A> {
     type Output = io::Result<usize>;
 
-    ghost can_poll = { λ x. R.ranks.counts x.reader.now × Holds x };
+    ghost can_poll = { λ x. R.ranks.counts x.reader.now × StringHolds x };
 
     ghost run = { ReadsToString ⊤ R.reads };
 
-    ghost leaves = { λ x. R.leaves x.reader.now };
+    ghost registers = { λ x. R.registers x.reader.now };
 
-    ghost laws = { text_laws all_over (taking ⊤) R.read_laws };
+    ghost laws = { text_laws all_over (read_to_string_fold ⊤) R.read_laws };
 
     fn poll(&mut self, cx: &mut Context<'_>) -> Poll<io::Result<usize>> {
         drive(self, cx)

@@ -1,11 +1,11 @@
 //! The futures whose value does not depend on when their reader was pending, where memory was found.
 ghost use Rattle.lite_base.specs.Alike.{Sameness};
-ghost use Rattle.lite_lines.specs.Laws.Marks.{until_settles};
-ghost use Rattle.lite_read.specs.Laws.SteadyReadToEnd.{appends_settles};
-ghost use Rattle.lite_read.specs.Settling.{SameByKind};
+ghost use Rattle.lite_lines.specs.Laws.Marks.{until_deterministic};
+ghost use Rattle.lite_read.specs.Laws.SteadyReadToEnd.{appends_deterministic};
+ghost use Rattle.lite_read.specs.Deterministic.{SameByKind};
 ghost use Rattle.lite_texts.specs.Laws.SteadyTexts.{TextAlike, text_steady};
-ghost use Rattle.lite_texts.specs.ReadLine.{ReadsLine, line_over, lining};
-ghost use Rattle.lite_texts.specs.ReadToString.{ReadsToString, all_over, taking};
+ghost use Rattle.lite_texts.specs.ReadLine.{ReadsLine, line_over, read_line_fold};
+ghost use Rattle.lite_texts.specs.ReadToString.{ReadsToString, all_over, read_to_string_fold};
 
 use crate::{ReadLineFuture, ReadToStringFuture};
 use lite_base::SteadyFuture;
@@ -22,7 +22,7 @@ impl<R: SteadyRead + AsyncBufRead + CountedRead, A: Allocator> SteadyFuture
 
     ghost alike = { TextAlike line_over R.alike };
 
-    ghost steady = { text_steady line_over lining (until_settles 10) R.steady };
+    ghost steady = { text_steady line_over read_line_fold (until_deterministic 10) R.steady };
 }
 
 impl<R: SteadyRead + CountedRead, A: Allocator> SteadyFuture for ReadToStringFuture<'_, R, A> {
@@ -34,5 +34,5 @@ impl<R: SteadyRead + CountedRead, A: Allocator> SteadyFuture for ReadToStringFut
 
     ghost alike = { TextAlike all_over R.alike };
 
-    ghost steady = { text_steady all_over taking (appends_settles 0) R.steady };
+    ghost steady = { text_steady all_over read_to_string_fold (appends_deterministic 0) R.steady };
 }

@@ -1,10 +1,12 @@
--- The runs of the futures that the facade names, in the words of their folders, so that a clause asks no bound for them.
+-- The runs of the futures that the facade names, in the words of their folders, so that a clause asks no bound for
+-- them.
 use Rattle.std.specs.Prelude.{ℕ, Bool, List, Option, Result}
 use Rattle.std.specs.Fn.{Mut}
 use denote.MutBor.{MutBor}
 use Rattle.futures.specs.declared.task.Poll.{Poll}
 use Rattle.lite_base.specs.Answers.{Answer}
 use Rattle.lite_base.specs.Lent.{Lent}
+use Rattle.lite_base.specs.Runs.{Question, Runs}
 use Rattle.lite_consume.specs.Calls.{CallsBoth}
 use Rattle.lite_consume.specs.Consume.{Folds}
 use Rattle.lite_consume.specs.Consuming.{fold_of}
@@ -22,24 +24,31 @@ use Rattle.lite_consume.specs.declared.last.Last.{Last}
 use Rattle.lite_consume.specs.declared.nth.Nth.{Nth}
 use Rattle.lite_consume.specs.declared.try_fold.TryFold.{TryFold}
 
-abbrev pub CountRuns : {S A : Type 0} → (S → List (Answer A) → S → Type 0) → Consume S Count → List (Poll ℕ) → Consume S Count → Type 0
+-- the run of the future of `count`
+abbrev pub CountRuns : {S A : Type 0} → Runs (Answer A) S → Runs (Poll ℕ) (Consume S Count)
 CountRuns run = Folds run (fold_of (λ m. m.count) counts)
 
-abbrev pub FoldRuns : {S F T A : Type 0} → (S → List (Answer A) → S → Type 0) → Mut F (T × (A × Unit {0})) T → Consume S (Fold F T) → List (Poll T)
+-- the run of the future of `fold`
+abbrev pub FoldRuns : {S F T A : Type 0} → Runs (Answer A) S → Mut F (T × (A × Unit {0})) T → Consume S (Fold F T)
+    → List (Poll T)
     → Consume S (Fold F T) → Type 0
 FoldRuns run g = Folds run (fold_of (λ m. (m.f, m.acc)) (folds (CallsBoth g)))
 
-abbrev pub LastRuns : {S A : Type 0} → (S → List (Answer A) → S → Type 0) → Consume S (Last A) → List (Poll (Option A)) → Consume S (Last A) → Type 0
+-- the run of the future of `last`
+abbrev pub LastRuns : {S A : Type 0} → Runs (Answer A) S → Runs (Poll (Option A)) (Consume S (Last A))
 LastRuns run = Folds run (fold_of (λ m. m.last) lasts)
 
 -- of a stream that is lent
-module _ {S A : Type 0} (run : S → List (Answer A) → S → Type 0) where
-  abbrev pub NthRuns : Consume (MutBor S) Nth → List (Poll (Option A)) → Consume (MutBor S) Nth → Type 0
+module _ {S A : Type 0} (run : Runs (Answer A) S) where
+  -- the run of the future of `nth`
+  abbrev pub NthRuns : Runs (Poll (Option A)) (Consume (MutBor S) Nth)
   NthRuns = Folds (Lent run) (fold_of (λ m. m.n) nths)
 
-  abbrev pub FindRuns : {P : Type 0} → (P → A → Bool → P → Type 0) → Consume (MutBor S) (Find P) → List (Poll (Option A)) → Consume (MutBor S) (Find P) → Type 0
+  -- the run of the future of `find`
+  abbrev pub FindRuns : {P : Type 0} → Question P A Bool → Runs (Poll (Option A)) (Consume (MutBor S) (Find P))
   FindRuns test = Folds (Lent run) (fold_of (λ m. m.predicate) (finds test))
 
-abbrev pub TryFoldRuns : {S F B T E : Type 0} → (S → List (Answer (Result T E)) → S → Type 0) → Mut F (B × (T × Unit {0})) (Result B E)
-    → Consume (MutBor S) (TryFold F B) → List (Poll (Result B E)) → Consume (MutBor S) (TryFold F B) → Type 0
+-- the run of the future of `try_fold`
+abbrev pub TryFoldRuns : {S F B T E : Type 0} → Runs (Answer (Result T E)) S → Mut F (B × (T × Unit {0})) (Result B E)
+    → Runs (Poll (Result B E)) (Consume (MutBor S) (TryFold F B))
 TryFoldRuns run g = Folds (Lent run) (fold_of (λ m. (m.f, m.acc)) (tries_fold (CallsBoth g)))

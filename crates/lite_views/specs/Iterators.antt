@@ -2,13 +2,14 @@
 use Rattle.std.specs.Prelude.{⊤, List, Option}
 use Rattle.std.specs.Iterator.{Count}
 use Rattle.lite_base.specs.Answers.{Answer}
+use Rattle.lite_base.specs.Runs.{Runs}
 use Rattle.lite_source.specs.Iter.{Iterates}
 use Rattle.lite_source.specs.declared.iter.Iter.{Iter}
 use Rattle.lite_views.specs.Views.{Fronts, ListsAs}
 
 module _ {I A : Type 0} (steps : I → Option A → I → Type 0) (remaining : I → Count) where
   -- the run of `iter`, where `next` may always be called
-  abbrev pub IterRuns : Iter I → List (Answer A) → Iter I → Type 0
+  abbrev pub IterRuns : Runs (Answer A) (Iter I)
   IterRuns x l y = Iterates (λ _. ⊤) steps remaining x.iter l y.iter
 
   -- the items of x are xs, also those that may come after an end

@@ -16,7 +16,8 @@ map_while h (x ∷ xs) = cons_while (h x) (map_while h xs)
 abbrev pub step_from : {X : Type 0} → ℕ → ℕ → List X → List X
 step_from step n xs = map (λ p. p.1) (filter (λ p. p.0 % step == 0) (enumerate_from n xs))
 
--- what h gives of a state and each item, with the state that it leaves for the next, up to the first of which it gives nothing
+-- what h gives of a state and each item, with the state that it leaves for the next, up to the first of which it gives
+-- nothing
 abbrev pub scan : {V X Y : Type 0} → (V → X → V × Option Y) → V → List X → List Y
 scan h s [] = []
 scan h s (x ∷ xs) = cons_while (h s x).1 (scan h (h s x).0 xs)

@@ -24,6 +24,9 @@ abbrev pub first_error : {T E : Type 0} → List (Result T E) → Result (Unit {
 first_error [] = Ok tt
 first_error (x ∷ xs) = and_then x (λ _. first_error xs)
 
--- what a collection of the values of xs comes to: all of them, or the first error among them, or a refusal of memory, of which nothing is said
-abbrev pub TriesCollect : {C T E : Type 0} → (C → List T → Type 0) → List (Result T E) → Result C (TryCollectError C T E) → Type 0
-TriesCollect holds xs v = IfOk v (λ c. holds c (ok_prefix xs) × (map Ok (ok_prefix xs) ≡ xs)) × IfErr v (λ r. IfSource r (λ e. first_error xs ≡ Err e))
+-- what a collection of the values of xs comes to: all of them, or the first error among them, or a refusal of memory,
+-- of which nothing is said
+abbrev pub TriesCollect : {C T E : Type 0} → (C → List T → Type 0) → List (Result T E)
+    → Result C (TryCollectError C T E) → Type 0
+TriesCollect holds xs v = IfOk v (λ c. holds c (ok_prefix xs) × (map Ok (ok_prefix xs) ≡ xs))
+    × IfErr v (λ r. IfSource r (λ e. first_error xs ≡ Err e))

@@ -5,10 +5,12 @@ use Rattle.futures.specs.declared.task.Poll.{Poll}
 use Rattle.futures.specs.declared.task.Poll.TheVariants.{Ready, Pending}
 use Rattle.lite_base.specs.Answers.{Answer}
 use Rattle.lite_base.specs.Future.Finishes.{Finishes}
+use Rattle.lite_base.specs.Runs.{Runs}
 use Rattle.lite_nests.specs.Fronts.{Front}
 use Rattle.lite_stream.specs.EachItem.{items_in}
 
--- the answers, up to their first end, give the items in order from the front on; the end comes behind the last. Pendings count for nothing
+-- the answers, up to their first end, give the items in order from the front on; the end comes behind the last.
+-- Pendings count for nothing
 abbrev pub Fits : {A : Type 0} → List (Answer A) → List A → Type 0
 Fits [] xs = ⊤
 Fits (Pending ∷ l) xs = Fits l xs
@@ -17,7 +19,7 @@ Fits (Ready (Some x) ∷ l) [] = ⊥
 Fits (Ready (Some x) ∷ l) (y ∷ xs) = (x ≡ y) × Fits l xs
 
 -- the items of s are xs: each run from s fits them
-unfoldable pub Lists : {S A : Type 0} → (S → List (Answer A) → S → Type 0) → S → List A → Type 0
+unfoldable pub Lists : {S A : Type 0} → Runs (Answer A) S → S → List A → Type 0
 Lists {S} {A} run s xs = (l : List (Answer A)) (t : S) → run s l t → Fits l xs
 
 -- each answer is a pending or the item x; so the stream never ends
@@ -28,15 +30,15 @@ EachIs x (Ready None ∷ l) = ⊥
 EachIs x (Ready (Some y) ∷ l) = (y ≡ x) × EachIs x l
 
 -- the items of s are x, over and over: so each run from s has it
-unfoldable pub GoesOn : {S A : Type 0} → (S → List (Answer A) → S → Type 0) → S → A → Type 0
+unfoldable pub GoesOn : {S A : Type 0} → Runs (Answer A) S → S → A → Type 0
 GoesOn {S} {A} run s x = (l : List (Answer A)) (t : S) → run s l t → EachIs x l
 
 -- the future f was waited for: where r is Ok, f was polled until that value
-unfoldable pub Waited : {F A E : Type 0} → (F → List (Poll A) → F → Type 0) → F → Result A E → Type 0
+unfoldable pub Waited : {F A E : Type 0} → Runs (Poll A) F → F → Result A E → Type 0
 Waited {F} {A} run f r = IfOk r (λ v. (ins : List (Poll A)) × Finishes run f ins v)
 
 -- where the future f is polled until its value, that is v
-unfoldable pub HasValue : {F A : Type 0} → (F → List (Poll A) → F → Type 0) → F → A → Type 0
+unfoldable pub HasValue : {F A : Type 0} → Runs (Poll A) F → F → A → Type 0
 HasValue {F} {A} run f v = (ins : List (Poll A)) (w : A) → Finishes run f ins w → w ≡ v
 
 -- True. `grind` takes a fact that is said of x and y where it meets this, which is shorter than the fact
@@ -48,35 +50,36 @@ unfolding Seen
 seen x y = tt
 
 -- P holds of the value of the future, if it gives one
-abbrev pub ValueHolds : {F A : Type 0} (E : Type 0) → (F → List (Poll A) → F → Type 0) → F → (A → Type 0) → Type 0
+abbrev pub ValueHolds : {F A : Type 0} (E : Type 0) → Runs (Poll A) F → F → (A → Type 0) → Type 0
 ValueHolds {F} {A} E run f P = (r : Result A E) → Waited run f r → Seen f r × IfOk r P
 
 -- the value of the future, if it gives one, is v, which stands twice, for `grind`: it takes the fact where it meets v
-abbrev pub ValueIs : {F A : Type 0} → (F → List (Poll A) → F → Type 0) → F → A → Type 0
+abbrev pub ValueIs : {F A : Type 0} → Runs (Poll A) F → F → A → Type 0
 ValueIs run f v = (v ≡ v) × ValueHolds AllocError run f (λ w. w ≡ v)
 
 -- the list stands twice, for `grind`, which takes the fact where it meets the list
-abbrev pub ListsAs : {S A : Type 0} → (S → List (Answer A) → S → Type 0) → S → List A → Type 0
+abbrev pub ListsAs : {S A : Type 0} → Runs (Answer A) S → S → List A → Type 0
 ListsAs {S} {A} run s xs = (xs ≡ xs) × Seen s xs × Lists run s xs
 
-pub value_holds : {F A E : Type 0} (run : F → List (Poll A) → F → Type 0) (f : F) (P : A → Type 0)
+pub value_holds : {F A E : Type 0} (run : Runs (Poll A) F) (f : F) (P : A → Type 0)
     → ((ins : List (Poll A)) (v : A) → Finishes run f ins v → P v) → ValueHolds E run f P
 unfolding Waited
 value_holds run f P to (Ok v) w = (seen f (Ok v), to w.0 v w.1)
 value_holds run f P to (Err e) w = (seen f (Err e), tt)
 
-pub value_is : {F A : Type 0} (run : F → List (Poll A) → F → Type 0) (f : F) (v : A) → ((ins : List (Poll A)) (w : A) → Finishes run f ins w → w ≡ v)
+pub value_is : {F A : Type 0} (run : Runs (Poll A) F) (f : F) (v : A)
+    → ((ins : List (Poll A)) (w : A) → Finishes run f ins w → w ≡ v)
     → ValueIs run f v
 value_is run f v to = (refl, value_holds run f (λ w. w ≡ v) to)
 
 -- the items that s may ever give, after an end too, are xs from the front on
-unfoldable pub Fronts : {S A : Type 0} → (S → List (Answer A) → S → Type 0) → S → List A → Type 0
+unfoldable pub Fronts : {S A : Type 0} → Runs (Answer A) S → S → List A → Type 0
 Fronts {S} {A} run s xs = (l : List (Answer A)) (t : S) → run s l t → Front (items_in l) xs
 
 -- v is the value of f, by one poll: as if it were waited for, and no memory were refused
-abbrev pub Now : {F A : Type 0} → (F → List (Poll A) → F → Type 0) → F → A → Type 0
+abbrev pub Now : {F A : Type 0} → Runs (Poll A) F → F → A → Type 0
 Now {F} {A} run f v = Seen {Y = Result A AllocError} f (Ok v) × Waited {E = AllocError} run f (Ok v)
 
-pub now_given : {F A : Type 0} (run : F → List (Poll A) → F → Type 0) (f g : F) (v : A) → run f (Ready v ∷ []) g → Now run f v
+pub now_given : {F A : Type 0} (run : Runs (Poll A) F) (f g : F) (v : A) → run f (Ready v ∷ []) g → Now run f v
 unfolding Waited
 now_given run f g v ran = (seen f (Ok v), (Ready v ∷ [], record { gives = (refl, refl); last = g; came = ran }))

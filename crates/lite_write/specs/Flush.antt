@@ -2,11 +2,12 @@
 use Rattle.std.specs.Prelude.{◌≡◌, Result}
 use Rattle.std.specs.declared.io.Error.{Error}
 use Rattle.futures.specs.declared.task.Poll.{Poll}
-use Rattle.lite_io_base.specs.Runs.{Runs}
-use Rattle.lite_io_base.specs.Takings.{Taking, done_marks}
+use Rattle.lite_io_base.specs.Takings.{WriteMark, done_marks}
 use Rattle.lite_write.specs.declared.flush.FlushFuture.{FlushFuture}
+use Rattle.lite_base.specs.Runs.{Runs}
 
 -- the writer ran by the mark of the answer; the reference stays
-pub record Flushes {W : Type 0} (writes : Runs Taking W) (x : FlushFuture W) (c : Poll (Result (Unit {0}) Error)) (y : FlushFuture W) : Type 0 where
-  pub came : writes x.writer.now (done_marks Taking.flushed c) y.writer.now
+pub record Flushes {W : Type 0} (writes : Runs WriteMark W) (x : FlushFuture W) (c : Poll (Result (Unit {0}) Error))
+    (y : FlushFuture W) : Type 0 where
+  pub came : writes x.writer.now (done_marks WriteMark.flushed c) y.writer.now
   pub stays : y ≡ record x { writer = record x.writer { now = y.writer.now } }

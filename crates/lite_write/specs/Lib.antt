@@ -4,7 +4,7 @@ pub mod Hands
 pub mod Laws
 pub mod Sink
 pub mod SteadyWriteAll
-pub mod Turns
+pub mod PollSteps
 pub mod Write
 pub mod WriteAll
 pub mod WriteVectored

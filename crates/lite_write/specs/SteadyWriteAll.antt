@@ -1,21 +1,22 @@
 -- The runs of a writer in which each write takes something.
 use Rattle.std.specs.Prelude.{List, [], ◌∷◌, ⊤}
-use Rattle.lite_io_base.specs.Runs.{Runs}
-use Rattle.lite_io_base.specs.Takings.{Taking}
+use Rattle.lite_io_base.specs.Takings.{WriteMark}
+use Rattle.lite_base.specs.Runs.{Runs}
 
 -- no error, and no write took nothing
-abbrev pub Prospers : List Taking → Type 0
-Prospers [] = ⊤
-Prospers (Taking.wrote [] ∷ l) = ⊥
-Prospers (Taking.wrote (x ∷ xs) ∷ l) = Prospers l
-Prospers (Taking.pending ∷ l) = Prospers l
-Prospers (Taking.fault kind ∷ l) = ⊥
-Prospers (Taking.flushed ∷ l) = Prospers l
-Prospers (Taking.closed ∷ l) = Prospers l
+abbrev pub NoFailure : List WriteMark → Type 0
+NoFailure [] = ⊤
+NoFailure (WriteMark.wrote [] ∷ l) = ⊥
+NoFailure (WriteMark.wrote (x ∷ xs) ∷ l) = NoFailure l
+NoFailure (WriteMark.pending ∷ l) = NoFailure l
+NoFailure (WriteMark.fault kind ∷ l) = ⊥
+NoFailure (WriteMark.flushed ∷ l) = NoFailure l
+NoFailure (WriteMark.closed ∷ l) = NoFailure l
 
-abbrev pub Prospering : {W : Type 0} → Runs Taking W → Runs Taking W
-Prospering writes x l y = writes x l y × Prospers l
+-- the writer's runs in which no write fails or takes nothing
+abbrev pub WithoutFailure : {W : Type 0} → Runs WriteMark W → Runs WriteMark W
+WithoutFailure writes x l y = writes x l y × NoFailure l
 
 -- no write fails, and each takes something
-abbrev pub AllProsper : {W : Type 0} → Runs Taking W → Type 0
-AllProsper {W} writes = (x y : W) (l : List Taking) → writes x l y → Prospers l
+abbrev pub NoneFails : {W : Type 0} → Runs WriteMark W → Type 0
+NoneFails {W} writes = (x y : W) (l : List WriteMark) → writes x l y → NoFailure l

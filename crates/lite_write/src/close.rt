@@ -1,5 +1,5 @@
 ghost use Rattle.lite_read.specs.Laws.Polled.{polled_laws};
-ghost use Rattle.lite_read.specs.Polled.{Polled};
+ghost use Rattle.lite_read.specs.Polled.{PolledByCalls};
 ghost use Rattle.lite_write.specs.Close.{Closes};
 
 use lite_base::{Context, Future, Poll};
@@ -18,9 +18,9 @@ pub struct CloseFuture<'a, W> {
 impl<W: AsyncWrite> Future for CloseFuture<'_, W> {
     type Output = io::Result<()>;
 
-    ghost run = { Polled (Closes W.writes) };
+    ghost run = { PolledByCalls (Closes W.writes) };
 
-    ghost leaves = { λ x. W.write_leaves x.writer.now };
+    ghost registers = { λ x. W.write_registers x.writer.now };
 
     ghost laws = { polled_laws (Closes W.writes) };
 

@@ -1,12 +1,13 @@
 ghost use Rattle.std.specs.Prelude.{◌≡◌, ◌<◌, ◌≤◌, [], Ok, length, IfOk, ⊤};
 ghost use Rattle.std.specs.Io.Slices.{io_slices_bytes};
-ghost use Rattle.futures.specs.Poll.{IfReady, OnPending};
-ghost use Rattle.futures.specs.Task.{Holds, Keeps, Lasting};
+ghost use Rattle.futures.specs.Poll.{IfReady};
+ghost use Rattle.futures.specs.Task.{Keeps};
 ghost use Rattle.lite_io_base.specs.Laws.Runs.{idle_laws};
 ghost use Rattle.lite_io_base.specs.Runs.{Idle};
 ghost use Rattle.lite_io_base.specs.Takings.{write_marks};
 ghost use Rattle.lite_write.specs.Laws.Sink.{sinks_calm, sinks_laws, sinks_steady};
 ghost use Rattle.lite_write.specs.Sink.{Sinks};
+ghost use Rattle.lite_base.specs.Registered.{Registered};
 
 use lite_base::{Context, Poll};
 use lite_io_base::{AsyncWrite, CalmWrite, SteadyWrite, Takings, Tale, first_nonempty};
@@ -38,7 +39,7 @@ impl AsyncWrite for Sink {
         ensures bound { IfReady result (λ r. IfOk r (λ n. n ≤ length buf.now)) }
         ensures ran { Sinks self.old (write_marks result buf.now) self.new }
         ensures all { result ≡ Poll.Ready (Ok (length buf.now)) }
-        ensures left { OnPending result ((fact : Lasting) → ⊥ → Holds _cx.new fact) }
+        ensures left { Registered result (λ _. ⊥) _cx.new }
         ensures kept { Keeps _cx.old _cx.new }
     {
         Poll::Ready(Ok(buf.len()))
@@ -53,7 +54,7 @@ impl AsyncWrite for Sink {
         ensures bound { IfReady result (λ r. IfOk r (λ n. n ≤ length (io_slices_bytes bufs.now))) }
         ensures ran { Sinks self.old (write_marks result (io_slices_bytes bufs.now)) self.new }
         ensures some { 0 < length (io_slices_bytes bufs.now) → IfReady result (λ r. IfOk r (λ n. 0 < n)) }
-        ensures left { OnPending result ((fact : Lasting) → ⊥ → Holds cx.new fact) }
+        ensures left { Registered result (λ _. ⊥) cx.new }
         ensures kept { Keeps cx.old cx.new }
     {
         self.poll_write(cx, first_nonempty(bufs))

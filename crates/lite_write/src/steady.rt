@@ -1,11 +1,11 @@
 //! The futures whose value does not depend on when their writer was pending: where each write took something, and none failed.
 ghost use Rattle.std.specs.Prelude.{⊤};
-ghost use Rattle.lite_read.specs.Polled.{Polled};
+ghost use Rattle.lite_read.specs.Polled.{PolledByCalls};
 ghost use Rattle.lite_write.specs.Close.{Closes};
 ghost use Rattle.lite_write.specs.Flush.{Flushes};
 ghost use Rattle.lite_write.specs.Laws.SteadyDone.{close_steady, flush_steady};
 ghost use Rattle.lite_write.specs.Laws.SteadyWriteAll.{all_steady};
-ghost use Rattle.lite_write.specs.SteadyWriteAll.{AllProsper, Prospering};
+ghost use Rattle.lite_write.specs.SteadyWriteAll.{NoneFails, WithoutFailure};
 ghost use Rattle.lite_write.specs.WriteAll.{WritesAll};
 
 use crate::{CloseFuture, FlushFuture, WriteAllFuture};
@@ -13,9 +13,9 @@ use lite_base::SteadyFuture;
 use lite_io_base::AsyncWrite;
 
 impl<W: AsyncWrite> SteadyFuture for CloseFuture<'_, W> {
-    ghost ample = { Polled (Closes (Prospering W.writes)) };
+    ghost ample = { PolledByCalls (Closes (WithoutFailure W.writes)) };
 
-    ghost needs_none = { AllProsper W.writes };
+    ghost needs_none = { NoneFails W.writes };
 
     ghost alike = { λ _ _. ⊤ };
 
@@ -23,9 +23,9 @@ impl<W: AsyncWrite> SteadyFuture for CloseFuture<'_, W> {
 }
 
 impl<W: AsyncWrite> SteadyFuture for FlushFuture<'_, W> {
-    ghost ample = { Polled (Flushes (Prospering W.writes)) };
+    ghost ample = { PolledByCalls (Flushes (WithoutFailure W.writes)) };
 
-    ghost needs_none = { AllProsper W.writes };
+    ghost needs_none = { NoneFails W.writes };
 
     ghost alike = { λ _ _. ⊤ };
 
@@ -33,9 +33,9 @@ impl<W: AsyncWrite> SteadyFuture for FlushFuture<'_, W> {
 }
 
 impl<W: AsyncWrite> SteadyFuture for WriteAllFuture<'_, W> {
-    ghost ample = { WritesAll (Prospering W.writes) };
+    ghost ample = { WritesAll (WithoutFailure W.writes) };
 
-    ghost needs_none = { AllProsper W.writes };
+    ghost needs_none = { NoneFails W.writes };
 
     ghost alike = { λ _ _. ⊤ };
 

@@ -1,5 +1,5 @@
 ghost use Rattle.lite_read.specs.Laws.Polled.{polled_laws};
-ghost use Rattle.lite_read.specs.Polled.{Polled};
+ghost use Rattle.lite_read.specs.Polled.{PolledByCalls};
 ghost use Rattle.lite_write.specs.Write.{Writes};
 
 use lite_base::{Context, Future, Poll};
@@ -19,9 +19,9 @@ pub struct WriteFuture<'a, W> {
 impl<W: AsyncWrite> Future for WriteFuture<'_, W> {
     type Output = io::Result<usize>;
 
-    ghost run = { Polled (Writes W.writes) };
+    ghost run = { PolledByCalls (Writes W.writes) };
 
-    ghost leaves = { λ x. W.write_leaves x.writer.now };
+    ghost registers = { λ x. W.write_registers x.writer.now };
 
     ghost laws = { polled_laws (Writes W.writes) };
 

@@ -1,11 +1,11 @@
 ghost use Rattle.std.specs.Prelude.{[], ◌∷◌, length, ⊤};
-ghost use Rattle.lite_base.specs.Chain.{OneTurn};
-ghost use Rattle.lite_base.specs.Ends.{Ends-count};
+ghost use Rattle.lite_base.specs.Chain.{OneStep};
+ghost use Rattle.lite_base.specs.Ends.{Terminates-count};
 ghost use Rattle.lite_write.specs.Laws.WriteAll.{all_laws, left_falls};
-ghost use Rattle.lite_write.specs.Turns.{WritesSome};
+ghost use Rattle.lite_write.specs.PollSteps.{WritesSome};
 ghost use Rattle.lite_write.specs.WriteAll.{WritesAll};
 
-use lite_base::{Context, Future, Poll, Turns, drive};
+use lite_base::{Context, Future, Poll, PollSteps, drive};
 use lite_io_base::AsyncWrite;
 use std::io;
 use std::io::ErrorKind;
@@ -22,20 +22,20 @@ pub struct WriteAllFuture<'a, W> {
     pub(crate) buf: &'a [u8],
 }
 
-impl<W: AsyncWrite> Turns for WriteAllFuture<'_, W> {
+impl<W: AsyncWrite> PollSteps for WriteAllFuture<'_, W> {
     type Output = io::Result<()>;
 
-    ghost can_turn = { λ _. ⊤ };
+    ghost can_step = { λ _. ⊤ };
 
-    ghost turn = { OneTurn (WritesSome W.writes) (λ x a y. WritesAll W.writes x (a ∷ []) y) };
+    ghost step = { OneStep (WritesSome W.writes) (λ x a y. WritesAll W.writes x (a ∷ []) y) };
 
-    ghost turn_leaves = { λ x. W.write_leaves x.writer.now };
+    ghost step_registers = { λ x. W.write_registers x.writer.now };
 
     ghost goes_on = { λ x y c h. tt };
 
-    ghost finite = { λ x c. Ends-count (λ y. length y.buf.now) left_falls x };
+    ghost finite = { λ x c. Terminates-count (λ y. length y.buf.now) left_falls x };
 
-    fn turn_once(&mut self, cx: &mut Context<'_>) -> Option<Poll<io::Result<()>>> {
+    fn poll_step(&mut self, cx: &mut Context<'_>) -> Option<Poll<io::Result<()>>> {
         if self.buf.is_empty() {
             return Some(Poll::Ready(Ok(())));
         }
@@ -56,7 +56,7 @@ impl<W: AsyncWrite> Future for WriteAllFuture<'_, W> {
 
     ghost run = { WritesAll W.writes };
 
-    ghost leaves = { λ x. W.write_leaves x.writer.now };
+    ghost registers = { λ x. W.write_registers x.writer.now };
 
     ghost laws = { all_laws W.write_laws };
 

@@ -1,5 +1,5 @@
 ghost use Rattle.lite_read.specs.Laws.Polled.{polled_laws};
-ghost use Rattle.lite_read.specs.Polled.{Polled};
+ghost use Rattle.lite_read.specs.Polled.{PolledByCalls};
 ghost use Rattle.lite_write.specs.WriteVectored.{WritesVectored};
 
 use lite_base::{Context, Future, Poll};
@@ -21,9 +21,9 @@ pub struct WriteVectoredFuture<'a, W> {
 impl<W: AsyncWrite> Future for WriteVectoredFuture<'_, W> {
     type Output = io::Result<usize>;
 
-    ghost run = { Polled (WritesVectored W.writes) };
+    ghost run = { PolledByCalls (WritesVectored W.writes) };
 
-    ghost leaves = { λ x. W.write_leaves x.writer.now };
+    ghost registers = { λ x. W.write_registers x.writer.now };
 
     ghost laws = { polled_laws (WritesVectored W.writes) };
 

@@ -9,30 +9,34 @@ use Rattle.futures.specs.declared.task.Poll.{Poll}
 use Rattle.futures.specs.declared.task.Poll.TheVariants.{Ready, Pending}
 use Rattle.futures.specs.declared.task.context.Context.{Context}
 use Rattle.lite_base.specs.Alike.{Alike}
-use Rattle.lite_base.specs.Calm.{Prompt}
-use Rattle.lite_base.specs.Future.Calls.{Answers, NeverPends, Poller}
+use Rattle.lite_base.specs.Calm.{NoPending}
+use Rattle.lite_base.specs.Future.Calls.{CallAnswers, NeverPends, Poller}
 use Rattle.lite_source.specs.Iter.{Iterates, Nexts}
 use Rattle.lite_source.specs.Laws.Folds.{folds_alike}
 use Rattle.lite_source.specs.RepeatWith.{Call}
 
 -- a closure that is polled answers v
-module _ {F A : Type 0} (g : Poller F (Option A)) (v : Option A) (answers : (p q : F) (cx left : MutBor Context) (a : Poll (Option A)) → Called g p (cx, tt) (a, (left, tt)) q → a ≡ Ready v) where
-  one_answer : (p q r s : F) (a b : Option A) → Answers g p (Ready a) r → Answers g q (Ready b) s → a ≡ b
+module _ {F A : Type 0} (g : Poller F (Option A)) (v : Option A)
+    (answers : (p q : F) (cx left : MutBor Context) (a : Poll (Option A)) → Called g p (cx, tt) (a, (left, tt)) q
+    → a ≡ Ready v) where
+  one_answer : (p q r s : F) (a b : Option A) → CallAnswers g p (Ready a) r → CallAnswers g q (Ready b) s → a ≡ b
   one_answer p q r s a b h k =
       let first = answers p r h.0 h.1 (Ready a) h.2 in
       let second = answers q s k.0 k.1 (Ready b) k.2 in
       cc
 
-  pub polls_alike : (p q : F) → Alike (FoldsTo (Answers g)) p q
-  polls_alike p q = folds_alike (Answers g) (λ _ _. ⊤) (λ p q r a h. tt) (λ p q r a h. tt) (λ p q r s a b e h k. (one_answer p q r s a b h k, tt)) p q tt
+  pub polls_alike : (p q : F) → Alike (FoldsTo (CallAnswers g)) p q
+  polls_alike p q =
+      folds_alike (CallAnswers g) (λ _ _. ⊤) (λ p q r a h. tt) (λ p q r a h. tt)
+      (λ p q r s a b e h k. (one_answer p q r s a b h k, tt)) p q tt
 
-  prompt : (l : List (Poll (Option A))) (p q : F) → FoldsTo (Answers g) p l q → Prompt l
-  prompt [] p q h = tt
-  prompt (Pending ∷ l) p q h = absurd (let e = answers p h.0 h.1.0 h.1.1 Pending h.1.2 in cc)
-  prompt (Ready a ∷ l) p q h = prompt l h.0 q h.2
+  no_pending : (l : List (Poll (Option A))) (p q : F) → FoldsTo (CallAnswers g) p l q → NoPending l
+  no_pending [] p q h = tt
+  no_pending (Pending ∷ l) p q h = absurd (let e = answers p h.0 h.1.0 h.1.1 Pending h.1.2 in cc)
+  no_pending (Ready a ∷ l) p q h = no_pending l h.0 q h.2
 
-  pub polls_prompt : (p : F) → NeverPends g p
-  polls_prompt p = record { at = λ l q h. prompt l p q h }
+  pub polls_no_pending : (p : F) → NeverPends g p
+  polls_no_pending p = record { at = λ l q h. no_pending l p q h }
 
 -- a closure that is called without arguments answers v
 module _ {F A : Type 0} (g : Mut F (Unit {0}) A) (v : A) (answers : (p q : F) (a : A) → Called g p tt a q → a ≡ v) where
@@ -45,7 +49,9 @@ module _ {F A : Type 0} (g : Mut F (Unit {0}) A) (v : A) (answers : (p q : F) (a
       cc
 
   pub calls_alike : (p q : F) → Alike (FoldsTo (Call g)) p q
-  calls_alike p q = folds_alike (Call g) (λ _ _. ⊤) (λ p q r a h. tt) (λ p q r a h. tt) (λ p q r s a b e h k. (one_item p q r s a b h k, tt)) p q tt
+  calls_alike p q =
+      folds_alike (Call g) (λ _ _. ⊤) (λ p q r a h. tt) (λ p q r a h. tt)
+      (λ p q r s a b e h k. (one_item p q r s a b h k, tt)) p q tt
 
 -- an iterator over a list, which is known as long as items are left
 module _ {I A : Type 0} (items : I → List A) (len : I → ℕ) (can : I → Type 0) (remaining : I → Count) where

@@ -5,7 +5,7 @@ ghost use Rattle.lite_base.specs.Alike.{SameItem};
 ghost use Rattle.lite_base.specs.Calling.{Agree, AgreeFrom, AgreeKeeping, Calls};
 ghost use Rattle.lite_consume.specs.Calls.{CallsBoth};
 ghost use Rattle.lite_consume.specs.Fold.{folds};
-ghost use Rattle.lite_consume.specs.Kin.{AgreeDeciding, AgreeOrKin, Beside};
+ghost use Rattle.lite_consume.specs.Kin.{AgreeBeside, AgreeDeciding, AgreeOrKin};
 ghost use Rattle.lite_consume.specs.TryFold.{tries_fold};
 ghost use Rattle.lite_consume.specs.TryForEach.{tries_each};
 ghost use Rattle.lite_gather.specs.Agreeing.{Unmixed};
@@ -42,27 +42,34 @@ where
     requires tests { AgreeFrom (SameItem S.same) (λ y z. y ≡ z) (Calls P.FnMut) p.now p.now }
     requires chooses { AgreeKeeping S.same (Calls O.FnMut) o.now o.now }
     requires finds { AgreeFrom (SameItem S.same) (λ y z. y ≡ z) (CalledAt Q.FnMut) q.now q.now }
-    requires folds { AgreeOrKin S.same (Beside (Agree (CallsBoth F.FnMut))) (folds (CallsBoth F.FnMut)) (f.now, Some v.now) (f.now, Some v.now) }
+    requires folds { AgreeOrKin S.same (AgreeBeside (Agree (CallsBoth F.FnMut))) (folds (CallsBoth F.FnMut)) (f.now, Some v.now)
+        (f.now, Some v.now) }
     requires calls { AgreeFrom (SameItem S.same) (λ y z. y ≡ z) (Calls I.FnMut) i.now i.now }
     requires tries { AgreeDeciding S.same (Agree (Calls T.FnMut)) (tries_each (Calls T.FnMut)) t.now t.now }
     ensures all { ⟦<Consume<S, All<P>> as SteadyFuture>⟧.alike
-        (record { stream = x.now; folder = record { predicate = p.now } }) (record { stream = y.now; folder = record { predicate = p.now } }) }
+        (record { stream = x.now; folder = record { predicate = p.now } })
+        (record { stream = y.now; folder = record { predicate = p.now } }) }
     ensures any { ⟦<Consume<S, Any<P>> as SteadyFuture>⟧.alike
-        (record { stream = x.now; folder = record { predicate = p.now } }) (record { stream = y.now; folder = record { predicate = p.now } }) }
+        (record { stream = x.now; folder = record { predicate = p.now } })
+        (record { stream = y.now; folder = record { predicate = p.now } }) }
     ensures find { ⟦<Consume<S, Find<Q>> as SteadyFuture>⟧.alike
-        (record { stream = x.now; folder = record { predicate = q.now } }) (record { stream = y.now; folder = record { predicate = q.now } }) }
+        (record { stream = x.now; folder = record { predicate = q.now } })
+        (record { stream = y.now; folder = record { predicate = q.now } }) }
     ensures find_map { ⟦<Consume<S, FindMap<O>> as SteadyFuture>⟧.alike
-        (record { stream = x.now; folder = record { f = o.now } }) (record { stream = y.now; folder = record { f = o.now } }) }
+        (record { stream = x.now; folder = record { f = o.now } })
+        (record { stream = y.now; folder = record { f = o.now } }) }
     ensures fold { ⟦<Consume<S, Fold<F, V>> as SteadyFuture>⟧.alike
         (record { stream = x.now; folder = record { f = f.now; acc = Some v.now } })
         (record { stream = y.now; folder = record { f = f.now; acc = Some v.now } }) }
     ensures for_each { ⟦<Consume<S, ForEach<I>> as SteadyFuture>⟧.alike
-        (record { stream = x.now; folder = record { f = i.now } }) (record { stream = y.now; folder = record { f = i.now } }) }
+        (record { stream = x.now; folder = record { f = i.now } })
+        (record { stream = y.now; folder = record { f = i.now } }) }
     ensures position { ⟦<Consume<S, Position<P>> as SteadyFuture>⟧.alike
         (record { stream = x.now; folder = record { predicate = p.now; index = 0 } })
         (record { stream = y.now; folder = record { predicate = p.now; index = 0 } }) }
     ensures try_for_each { ⟦<Consume<S, TryForEach<T>> as SteadyFuture>⟧.alike
-        (record { stream = x.now; folder = record { f = t.now } }) (record { stream = y.now; folder = record { f = t.now } }) }
+        (record { stream = x.now; folder = record { f = t.now } })
+        (record { stream = y.now; folder = record { f = t.now } }) }
 {}
 
 /// Futures that count or choose the items of alike streams are alike.
@@ -71,9 +78,11 @@ where
     S: SteadyStream + Counted<Item: Drop>,
     requires { S.alike x.now y.now }
     ensures count { ⟦<Consume<S, Count> as SteadyFuture>⟧.alike
-        (record { stream = x.now; folder = record { count = 0 } }) (record { stream = y.now; folder = record { count = 0 } }) }
+        (record { stream = x.now; folder = record { count = 0 } })
+        (record { stream = y.now; folder = record { count = 0 } }) }
     ensures last { ⟦<Consume<S, Last<S::Item>> as SteadyFuture>⟧.alike
-        (record { stream = x.now; folder = record { last = None } }) (record { stream = y.now; folder = record { last = None } }) }
+        (record { stream = x.now; folder = record { last = None } })
+        (record { stream = y.now; folder = record { last = None } }) }
     ensures next { ⟦<Consume<S, Next> as SteadyFuture>⟧.alike
         (record { stream = x.now; folder = record {} }) (record { stream = y.now; folder = record {} }) }
     ensures nth { ⟦<Consume<S, Nth> as SteadyFuture>⟧.alike
@@ -87,7 +96,8 @@ where
     S: SteadyStream + OkCounted,
     F: FnMut(V, S::Ok) -> Result<V, S::Err>,
     requires alike { S.alike x.now y.now }
-    requires tries { AgreeDeciding S.same (Beside (Agree (CallsBoth F.FnMut))) (tries_fold (CallsBoth F.FnMut)) (f.now, Some v.now) (f.now, Some v.now) }
+    requires tries { AgreeDeciding S.same (AgreeBeside (Agree (CallsBoth F.FnMut))) (tries_fold (CallsBoth F.FnMut))
+        (f.now, Some v.now) (f.now, Some v.now) }
     ensures try_fold { ⟦<Consume<S, TryFold<F, V>> as SteadyFuture>⟧.alike
         (record { stream = x.now; folder = record { f = f.now; acc = Some v.now } })
         (record { stream = y.now; folder = record { f = f.now; acc = Some v.now } }) }
@@ -121,7 +131,8 @@ where
     requires second { C.holds d.now [] }
     requires tests { AgreeFrom (SameItem S.same) (λ y z. y ≡ z) (CalledAt P.FnMut) p.now p.now }
     ensures collect { ⟦<CollectFuture<S, C> as SteadyFuture>⟧.alike
-        (record { stream = x.now; folder = record { collection = Some c.now } }) (record { stream = y.now; folder = record { collection = Some d.now } }) }
+        (record { stream = x.now; folder = record { collection = Some c.now } })
+        (record { stream = y.now; folder = record { collection = Some d.now } }) }
     ensures partition { ⟦<PartitionFuture<S, P, C> as SteadyFuture>⟧.alike
         (record { stream = x.now; folder = record { predicate = p.now; res = Some (c.now, d.now) } })
         (record { stream = y.now; folder = record { predicate = p.now; res = Some (d.now, c.now) } }) }
@@ -141,7 +152,8 @@ where
     requires first { D.holds d.now [] }
     requires second { E.holds e.now [] }
     ensures try_collect { ⟦<TryCollectFuture<S, C> as SteadyFuture>⟧.alike
-        (record { stream = x.now; folder = record { items = Some c.now } }) (record { stream = y.now; folder = record { items = Some c.now } }) }
+        (record { stream = x.now; folder = record { items = Some c.now } })
+        (record { stream = y.now; folder = record { items = Some c.now } }) }
     ensures unzip { ⟦<UnzipFuture<U, D, E> as SteadyFuture>⟧.alike
         (record { stream = v.now; folder = record { res = Some (d.now, e.now) } })
         (record { stream = w.now; folder = record { res = Some (d.now, e.now) } }) }

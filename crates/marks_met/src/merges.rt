@@ -27,14 +27,16 @@ where
     requires streams { AgreeFrom (SameItem S.same) U.alike (Calls F.FnMut) f.now f.now }
     requires futures { AgreeFrom (SameItem S.same) Fut.alike (Calls G.FnMut) g.now g.now }
     ensures chain { ⟦<Chain<S, U> as SteadyStream>⟧.alike
-        (record { first = x.now; second = v.now; part = First }) (record { first = y.now; second = w.now; part = First }) }
+        (record { first = x.now; second = v.now; part = First })
+        (record { first = y.now; second = w.now; part = First }) }
     ensures flat_map { ⟦<FlatMap<S, U, F> as SteadyStream>⟧.alike
         (record { stream = record { stream = x.now; f = f.now }; inner_stream = None })
         (record { stream = record { stream = y.now; f = f.now }; inner_stream = None }) }
     ensures then { ⟦<Then<S, G, Fut> as SteadyStream>⟧.alike
         (record { stream = x.now; future = None; f = g.now }) (record { stream = y.now; future = None; f = g.now }) }
     ensures zip { ⟦<Zip<S, U> as SteadyStream>⟧.alike
-        (record { item_slot = None; first = x.now; second = v.now }) (record { item_slot = None; first = y.now; second = w.now }) }
+        (record { item_slot = None; first = x.now; second = v.now })
+        (record { item_slot = None; first = y.now; second = w.now }) }
 {}
 
 /// Streams of streams are alike where the outer ones are, and each of the inner ones is alike to those that it is the same as.
@@ -44,7 +46,8 @@ where
     S: SteadyStream + Counted<Item = B>,
     requires outer { S.alike x.now y.now }
     requires inner { EachInner S.ample (λ b. (c : B) → SameItem S.same b c → B.alike b c) x.now None }
-    ensures { ⟦<Flatten<S> as SteadyStream>⟧.alike (record { stream = x.now; inner_stream = None }) (record { stream = y.now; inner_stream = None }) }
+    ensures { ⟦<Flatten<S> as SteadyStream>⟧.alike (record { stream = x.now; inner_stream = None })
+        (record { stream = y.now; inner_stream = None }) }
 {}
 
 /// Clones of what alike streams refer to are alike where clones are equal, as those of bytes are; of a calm stream they
@@ -56,7 +59,8 @@ where
     requires alike { S.alike x.now y.now }
     requires equal { EqualClones T.is_clone }
     requires is_calm { S.is_calm x.now }
-    ensures alike { ⟦<Cloned<S> as SteadyStream>⟧.alike (record { stream = x.now; held = None }) (record { stream = y.now; held = None }) }
+    ensures alike { ⟦<Cloned<S> as SteadyStream>⟧.alike (record { stream = x.now; held = None })
+        (record { stream = y.now; held = None }) }
     ensures is_calm { ⟦<Cloned<S> as CalmStream>⟧.is_calm (record { stream = x.now; held = None }) }
 {}
 
@@ -80,9 +84,17 @@ where
     ensures then { ⟦<Then<S, G, Fut> as CalmStream>⟧.is_calm (record { stream = x.now; future = None; f = g.now }) }
     ensures zip { ⟦<Zip<S, U> as CalmStream>⟧.is_calm (record { item_slot = None; first = x.now; second = v.now }) }
     ensures or { ⟦<Or<S, U> as CalmStream>⟧.is_calm
-        (record { stream1 = record { stream = x.now; done = false }; stream2 = record { stream = v.now; done = false } }) }
+        (record {
+          stream1 = record { stream = x.now; done = false };
+          stream2 =
+              record { stream = v.now; done = false };
+        }) }
     ensures race { ⟦<Race<S, U, R> as CalmStream>⟧.is_calm
-        (record { stream1 = record { stream = x.now; done = false }; stream2 = record { stream = v.now; done = false }; rng = r.now }) }
+        (record {
+          stream1 = record { stream = x.now; done = false };
+          stream2 = record { stream = v.now; done = false };
+          rng = r.now;
+        }) }
     ensures cycle { ⟦<Cycle<S> as CalmStream>⟧.is_calm (record { original = x.now; stream = Some x.now }) }
     ensures stopped { ⟦<StopAfterFuture<S, Fut> as CalmStream>⟧.is_calm (record { stream = x.now; future = Holding done.now }) }
 {}

@@ -1,7 +1,7 @@
 //! Readers: two that are alike, and a calm one, of each type.
 ghost use Rattle.std.specs.Prelude.{◌≡◌, ◌∷◌, [], false};
-ghost use Rattle.lite_io.specs.BufReader.{ahead, capacity_of, inner_of};
-ghost use Rattle.lite_io_base.specs.Marks.{Mark};
+ghost use Rattle.lite_io.specs.BufReader.{ahead, reader_capacity, reader_inner};
+ghost use Rattle.lite_io_base.specs.Marks.{ReadMark};
 
 use lite_bridge::{BytesLike, Cursor};
 use lite_io::{BufReader, Chain, Empty, Repeat, Take};
@@ -20,11 +20,13 @@ pub fn readers_are_alike<'a, T: BytesLike>(
     marks: &Marks,
 )
     ensures slice { ⟦<&'a [u8] as SteadyRead>⟧.alike bytes.entry bytes.entry }
-    ensures cursor { ⟦<Cursor<T> as SteadyRead>⟧.alike (record { inner = t.now; position = place }) (record { inner = t.now; position = place }) }
+    ensures cursor { ⟦<Cursor<T> as SteadyRead>⟧.alike (record { inner = t.now; position = place })
+        (record { inner = t.now; position = place }) }
     ensures empty { ⟦<Empty as SteadyRead>⟧.alike (record {}) (record {}) }
     ensures repeat { ⟦<Repeat as SteadyRead>⟧.alike (record { byte = byte }) (record { byte = byte }) }
-    ensures marks { ⟦<Marks as SteadyRead>⟧.alike marks.now (Mark.pending ∷ marks.now) }
-    ensures asserted { ⟦<AssertAsync<&'a [u8]> as SteadyRead>⟧.alike (record { inner = bytes.entry }) (record { inner = bytes.entry }) }
+    ensures marks { ⟦<Marks as SteadyRead>⟧.alike marks.now (ReadMark.pending ∷ marks.now) }
+    ensures asserted { ⟦<AssertAsync<&'a [u8]> as SteadyRead>⟧.alike (record { inner = bytes.entry })
+        (record { inner = bytes.entry }) }
 {}
 
 /// Readers of bytes are calm, and so are marks without a pending.
@@ -33,7 +35,7 @@ pub fn readers_are_calm<'a, T: BytesLike>(bytes: &'a [u8], t: &T, place: u64, by
     ensures cursor { ⟦<Cursor<T> as CalmRead>⟧.is_calm (record { inner = t.now; position = place }) }
     ensures empty { ⟦<Empty as CalmRead>⟧.is_calm (record {}) }
     ensures repeat { ⟦<Repeat as CalmRead>⟧.is_calm (record { byte = byte }) }
-    ensures marks { ⟦<Marks as CalmRead>⟧.is_calm (Mark.byte byte ∷ Mark.end ∷ []) }
+    ensures marks { ⟦<Marks as CalmRead>⟧.is_calm (ReadMark.byte byte ∷ ReadMark.end ∷ []) }
     ensures asserted { ⟦<AssertAsync<&'a [u8]> as CalmRead>⟧.is_calm (record { inner = bytes.entry }) }
 {}
 
@@ -47,10 +49,12 @@ where
     requires first_calm { R.is_calm x.now.now }
     requires second_calm { S.is_calm v.now }
     ensures lent { ⟦<&'a mut R as SteadyRead>⟧.alike x.now y.now }
-    ensures take { ⟦<Take<S> as SteadyRead>⟧.alike (record { inner = v.now; limit = limit }) (record { inner = w.now; limit = limit }) }
+    ensures take { ⟦<Take<S> as SteadyRead>⟧.alike (record { inner = v.now; limit = limit })
+        (record { inner = w.now; limit = limit }) }
     ensures bytes { ⟦<Bytes<S> as SteadyRead>⟧.alike (record { inner = v.now }) (record { inner = w.now }) }
     ensures chain { ⟦<Chain<&'a mut R, S> as SteadyRead>⟧.alike
-        (record { first = x.now; second = v.now; has_ended = false }) (record { first = y.now; second = w.now; has_ended = false }) }
+        (record { first = x.now; second = v.now; has_ended = false })
+        (record { first = y.now; second = w.now; has_ended = false }) }
     ensures lent_calm { ⟦<&'a mut R as CalmRead>⟧.is_calm x.now }
     ensures take_calm { ⟦<Take<S> as CalmRead>⟧.is_calm (record { inner = v.now; limit = limit }) }
     ensures bytes_calm { ⟦<Bytes<S> as CalmRead>⟧.is_calm (record { inner = v.now }) }
@@ -59,10 +63,10 @@ where
 
 /// Two buffered readers as [`BufReader::new`] makes them are alike over readers that are, and calm over calm ones.
 pub fn buffered_readers_have_marks<R: SteadyRead + CalmRead>(x: &BufReader<R>, y: &BufReader<R>)
-    requires alike { R.alike (inner_of x.now) (inner_of y.now) }
-    requires is_calm { R.is_calm (inner_of x.now) }
+    requires alike { R.alike (reader_inner x.now) (reader_inner y.now) }
+    requires is_calm { R.is_calm (reader_inner x.now) }
     requires empty { (ahead x.now ≡ []) × (ahead y.now ≡ []) }
-    requires capacity { (capacity_of x.now ≡ 8192) × (capacity_of y.now ≡ 8192) }
+    requires capacity { (reader_capacity x.now ≡ 8192) × (reader_capacity y.now ≡ 8192) }
     ensures alike { ⟦<BufReader<R> as SteadyRead>⟧.alike x.now y.now }
     ensures is_calm { ⟦<BufReader<R> as CalmRead>⟧.is_calm x.now }
 {}

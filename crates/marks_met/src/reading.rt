@@ -1,6 +1,6 @@
 //! Futures of reads, and streams that cut what a reader tells: two that are alike, and a calm one, of each type.
 ghost use Rattle.std.specs.Prelude.{◌≡◌, [], Some, false, true, length};
-ghost use Rattle.lite_copy.specs.Parts.{Begins, source_of};
+ghost use Rattle.lite_copy.specs.Parts.{NothingCopied, source_of};
 
 use lite_base::{CalmFuture, CalmStream, SteadyFuture, SteadyStream};
 use lite_copy::CopyFuture;
@@ -63,7 +63,8 @@ where
     ensures read_vectored { ⟦<ReadVectoredFuture<'a, 'b, R> as CalmFuture>⟧.is_calm (record { reader = x.now; bufs = Some bufs.now }) }
     ensures read_to_end { ⟦<ReadToEndFuture<'a, R> as CalmFuture>⟧.is_calm
         (record { reader = x.now; buf = bytes.now; start = 0; filled = 0; room = 0 }) }
-    ensures read_until { ⟦<ReadUntilFuture<'a, R> as CalmFuture>⟧.is_calm (record { reader = x.now; byte = 10; buf = bytes.now; start = 0 }) }
+    ensures read_until { ⟦<ReadUntilFuture<'a, R> as CalmFuture>⟧.is_calm
+        (record { reader = x.now; byte = 10; buf = bytes.now; start = 0 }) }
     ensures read_line { ⟦<ReadLineFuture<'a, R> as CalmFuture>⟧.is_calm
         (record { reader = x.now; text = text.now; bytes = read.now; ascii = true }) }
     ensures read_to_string { ⟦<ReadToStringFuture<'a, R> as CalmFuture>⟧.is_calm
@@ -94,7 +95,7 @@ where
     R: SteadyRead + CalmRead + CountedRead,
     W: AsyncWrite + CalmWrite,
     requires alike { R.alike (source_of x.now) (source_of y.now) }
-    requires begins { Begins x.now × Begins y.now }
+    requires begins { NothingCopied x.now × NothingCopied y.now }
     requires calm_reader { R.is_calm (source_of x.now) }
     requires calm_writer { W.is_calm x.now.writer }
     ensures alike { ⟦<CopyFuture<R, W> as SteadyFuture>⟧.alike x.now y.now }

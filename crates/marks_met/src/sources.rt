@@ -5,7 +5,7 @@ ghost use Rattle.std.specs.List.{FoldsTo};
 ghost use Rattle.std.specs.Prelude.{◌∷◌, Some, None, []};
 ghost use Rattle.lite_base.specs.Alike.{Alike, SameItem};
 ghost use Rattle.lite_base.specs.Calling.{AgreeFrom, Calls};
-ghost use Rattle.lite_base.specs.Future.Calls.{Answers, NeverPends};
+ghost use Rattle.lite_base.specs.Future.Calls.{CallAnswers, NeverPends};
 ghost use Rattle.lite_source.specs.Iter.{Iterates};
 ghost use Rattle.lite_source.specs.RepeatWith.{Call};
 ghost use Rattle.lite_source.specs.TryUnfold.{try_item_of, try_seed_of};
@@ -49,7 +49,7 @@ where
     G: FnMut(T) -> Fut2,
     requires future { Fut.alike x.now y.now }
     requires iterates { Alike (Iterates I.can_next I.next_gives I.remaining) i.now i.now }
-    requires polls { Alike (FoldsTo (Answers P.FnMut)) p.now p.now }
+    requires polls { Alike (FoldsTo (CallAnswers P.FnMut)) p.now p.now }
     requires repeats { Alike (FoldsTo (Call R.FnMut)) r.now r.now }
     requires unfolds { AgreeFrom (SameItem (PartOf Fut.same seed_of)) Fut.alike (Calls F.FnMut) f.now f.now }
     requires seed { SameItem (PartOf Fut.same seed_of) t.now t.now }

@@ -33,21 +33,28 @@ where
     requires tests { AgreeFrom (SameItem S.same) (λ b c. b ≡ c) (CalledAt P.FnMut) p.now p.now }
     requires scans { AgreeKeeping S.same (CallsWith G.FnMut) (g.now, v.now) (g.now, v.now) }
     ensures enumerate { ⟦<Enumerate<S> as SteadyStream>⟧.alike (record { stream = x.now; i = 0 }) (record { stream = y.now; i = 0 }) }
-    ensures fuse { ⟦<Fuse<S> as SteadyStream>⟧.alike (record { stream = x.now; done = false }) (record { stream = y.now; done = false }) }
-    ensures inspect { ⟦<Inspect<S, I> as SteadyStream>⟧.alike (record { stream = x.now; f = i.now }) (record { stream = y.now; f = i.now }) }
-    ensures map { ⟦<Map<S, F> as SteadyStream>⟧.alike (record { stream = x.now; f = f.now }) (record { stream = y.now; f = f.now }) }
-    ensures map_while { ⟦<MapWhile<S, O> as SteadyStream>⟧.alike (record { stream = x.now; f = o.now }) (record { stream = y.now; f = o.now }) }
+    ensures fuse { ⟦<Fuse<S> as SteadyStream>⟧.alike (record { stream = x.now; done = false })
+        (record { stream = y.now; done = false }) }
+    ensures inspect { ⟦<Inspect<S, I> as SteadyStream>⟧.alike (record { stream = x.now; f = i.now })
+        (record { stream = y.now; f = i.now }) }
+    ensures map { ⟦<Map<S, F> as SteadyStream>⟧.alike (record { stream = x.now; f = f.now })
+        (record { stream = y.now; f = f.now }) }
+    ensures map_while { ⟦<MapWhile<S, O> as SteadyStream>⟧.alike (record { stream = x.now; f = o.now })
+        (record { stream = y.now; f = o.now }) }
     ensures scan { ⟦<Scan<S, V, G> as SteadyStream>⟧.alike
         (record { stream = x.now; state = v.now; f = g.now }) (record { stream = y.now; state = v.now; f = g.now }) }
     ensures take { ⟦<Take<S> as SteadyStream>⟧.alike (record { stream = x.now; n = n }) (record { stream = y.now; n = n }) }
     ensures take_while { ⟦<TakeWhile<S, P> as SteadyStream>⟧.alike
         (record { stream = x.now; predicate = p.now }) (record { stream = y.now; predicate = p.now }) }
-    ensures filter { ⟦<Filter<S, P> as SteadyStream>⟧.alike (record { stream = x.now; predicate = p.now }) (record { stream = y.now; predicate = p.now }) }
-    ensures filter_map { ⟦<FilterMap<S, O> as SteadyStream>⟧.alike (record { stream = x.now; f = o.now }) (record { stream = y.now; f = o.now }) }
+    ensures filter { ⟦<Filter<S, P> as SteadyStream>⟧.alike (record { stream = x.now; predicate = p.now })
+        (record { stream = y.now; predicate = p.now }) }
+    ensures filter_map { ⟦<FilterMap<S, O> as SteadyStream>⟧.alike (record { stream = x.now; f = o.now })
+        (record { stream = y.now; f = o.now }) }
     ensures skip { ⟦<Skip<S> as SteadyStream>⟧.alike (record { stream = x.now; n = n }) (record { stream = y.now; n = n }) }
     ensures skip_while { ⟦<SkipWhile<S, P> as SteadyStream>⟧.alike
         (record { stream = x.now; predicate = Some p.now }) (record { stream = y.now; predicate = Some p.now }) }
-    ensures step_by { ⟦<StepBy<S> as SteadyStream>⟧.alike (record { stream = x.now; step = n; i = 0 }) (record { stream = y.now; step = n; i = 0 }) }
+    ensures step_by { ⟦<StepBy<S> as SteadyStream>⟧.alike (record { stream = x.now; step = n; i = 0 })
+        (record { stream = y.now; step = n; i = 0 }) }
 {}
 
 /// They are calm over a calm stream.

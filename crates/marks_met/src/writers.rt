@@ -1,7 +1,7 @@
 //! Writers, and futures of writes: two that are alike, and a calm one, of each type.
 ghost use Rattle.std.specs.Prelude.{◌≡◌, []};
-ghost use Rattle.lite_buf_writer.specs.BufWriter.{buffered, inner_of};
-ghost use Rattle.lite_io.specs.BufReader.{inner_of as read_from};
+ghost use Rattle.lite_buf_writer.specs.BufWriter.{buffered, writer_inner};
+ghost use Rattle.lite_io.specs.BufReader.{reader_inner as read_from};
 
 use lite_base::{CalmFuture, SteadyFuture};
 use lite_bridge::Cursor;
@@ -63,11 +63,11 @@ pub fn adapters_have_marks<'a, W>(
 where
     W: SteadyWrite + CalmWrite,
     requires lent { W.alike x.now.now y.now.now }
-    requires written { W.alike (inner_of v.now) (inner_of w.now) }
+    requires written { W.alike (writer_inner v.now) (writer_inner w.now) }
     requires empty { (buffered v.now ≡ []) × (buffered w.now ≡ []) }
     requires read { W.alike (read_from r.now) (read_from s.now) }
     requires calm_lent { W.is_calm x.now.now }
-    requires calm_written { W.is_calm (inner_of v.now) }
+    requires calm_written { W.is_calm (writer_inner v.now) }
     requires calm_read { W.is_calm (read_from r.now) }
     ensures lent { ⟦<&'a mut W as SteadyWrite>⟧.alike x.now y.now }
     ensures buf_writer { ⟦<BufWriter<W> as SteadyWrite>⟧.alike v.now w.now }

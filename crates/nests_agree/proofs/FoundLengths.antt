@@ -1,5 +1,6 @@
 -- The lengths of lines among which no error is a refusal of memory are lengths of lines for which memory was found.
-use Rattle.std.proofs.Common.{◌≡◌, ◌∙◌, ℕ, List, Option, Some, None, Result, Ok, Err, Bool, false, Global, ap, subst, sym}
+use Rattle.std.proofs.Common.{◌≡◌, ◌∙◌, ℕ, List, Option, Some, None, Result, Ok, Err, Bool, false, Global, ap, subst}
+use Rattle.std.proofs.Common.{sym}
 use Rattle.std.specs.Prelude.{⊤}
 use Rattle.std.specs.IoError.{error_kind}
 use Rattle.std.specs.declared.io.Error.{Error}
@@ -7,8 +8,8 @@ use Rattle.std.specs.declared.string.String.{String}
 use Rattle.futures.specs.declared.task.Poll.TheVariants.{Ready, Pending}
 use Rattle.lite_base.specs.Answers.{Answer, item}
 use Rattle.lite_base.specs.Calling.{Accepts, Always}
-use Rattle.lite_io_base.specs.Marks.{Mark}
-use Rattle.lite_io_base.specs.Runs.{Runs}
+use Rattle.lite_base.specs.Runs.{Question, Runs}
+use Rattle.lite_io_base.specs.Marks.{ReadMark}
 use Rattle.lite_io_base.specs.Steady.{AllAmple}
 use Rattle.lite_lines.specs.Laws.Ample.{lines_ample}
 use Rattle.lite_lines.specs.Lines.{GivesLines}
@@ -27,7 +28,8 @@ use Rattle.lite_stream.specs.declared.take.Take.{Take}
 use Rattle.nests_agree.proofs.FoundLines.{end_found, ok_found, waiting_found}
 use Rattle.nests_agree.specs.Lengths.{IsLength, IsTested}
 
-measured_found : (x : Result (String Global) Error) (y : Result ℕ Error) → IsLength x y → NotRefused (item y) → NotRefused (item x)
+measured_found : (x : Result (String Global) Error) (y : Result ℕ Error) → IsLength x y → NotRefused (item y)
+    → NotRefused (item x)
 measured_found (Ok s) y h n = ok_found s
 measured_found (Err e) y h n = λ d same k. let is : e ≡ d = cc same in n e (ap item h) (ap error_kind is ∙ k)
 
@@ -35,13 +37,16 @@ rejected_found : (x : Result ℕ Error) → IsTested x false → NotRefused (ite
 rejected_found (Ok n) h = ok_found n
 rejected_found (Err e) h = absurd (cc h)
 
-module _ {R F P : Type 0} {reads ample : Runs Mark R} (all : AllAmple reads ample) (call : F → Result (String Global) Error → Result ℕ Error → F → Type 0)
-    (test : P → Result ℕ Error → Bool → P → Type 0) (answers : (f g : F) (x : Result (String Global) Error) (y : Result ℕ Error) → call f x y g → IsLength x y)
+module _ {R F P : Type 0} {reads ample : Runs ReadMark R} (all : AllAmple reads ample)
+    (call : Question F (Result (String Global) Error) (Result ℕ Error))
+    (test : Question P (Result ℕ Error) Bool)
+    (answers : (f g : F) (x : Result (String Global) Error) (y : Result ℕ Error) → call f x y g → IsLength x y)
     (tests : (p q : P) (x : Result ℕ Error) (b : Bool) → test p x b q → IsTested x b) where
   abbrev Lengths : Type 0
   Lengths = Filter (Take (Map (Lines R) F)) P
 
-  called : (f g : F) (x : Result (String Global) Error) (o : Option (Result ℕ Error)) → Always call f x o g → NotRefused (Ready o) → NotRefused (item x)
+  called : (f g : F) (x : Result (String Global) Error) (o : Option (Result ℕ Error)) → Always call f x o g
+      → NotRefused (Ready o) → NotRefused (item x)
   called f g x None h n = absurd h
   called f g x (Some y) h n = measured_found x y (answers f g x y h) n
 
@@ -50,16 +55,26 @@ module _ {R F P : Type 0} {reads ample : Runs Mark R} (all : AllAmple reads ampl
   passed p q a (Ready None) h n = subst NotRefused (sym h.0) n
   passed p q a (Ready (Some y)) h n = subst NotRefused (sym (h.1 ∙ ap item (sym h.2.0))) n
 
-  pub lengths_ample : (x y : Lengths) (i : List (Answer (Result ℕ Error))) → NoneRefused i → Filters (Takes (Maps (GivesLines reads ⊤) call)) test x i y
+  pub lengths_ample : (x y : Lengths) (i : List (Answer (Result ℕ Error))) → NoneRefused i
+      → Filters (Takes (Maps (GivesLines reads ⊤) call)) test x i y
       → Filters (Takes (Maps (GivesLines ample ⊥) call)) test x i y
   lengths_ample x y i none h =
       let few = h.came in
       let lengths = few.came in
-      let kept = leaves_each (Accepts test) NotRefused NotRefused passed (λ p q z k. rejected_found z (tests p q z false k))
-      x.predicate y.predicate h.ins i h.turned none in
-      let each = cuts_each is_none_left left_after NotRefused x.stream.n y.stream.n few.ins h.ins few.turned kept in
+      let kept = leaves_each (Accepts test) NotRefused NotRefused passed
+      (λ p q z k. rejected_found z (tests p q z false k))
+      x.predicate y.predicate h.ins i h.related none in
+      let each = cuts_each is_none_left left_after NotRefused x.stream.n y.stream.n few.ins h.ins few.related kept in
       let lines = exchanges_each (Always call) NotRefused NotRefused waiting_found end_found called
-      x.stream.stream.f y.stream.stream.f lengths.ins few.ins lengths.turned each in
+      x.stream.stream.f y.stream.stream.f lengths.ins few.ins lengths.related each in
       let came = lines_ample all x.stream.stream.stream y.stream.stream.stream lengths.ins lines lengths.came in
-      let measured : Maps (GivesLines ample ⊥) call x.stream.stream few.ins y.stream.stream = record { ins = lengths.ins; came = came; turned = lengths.turned } in
-      record { ins = h.ins; came = record { ins = few.ins; came = measured; turned = few.turned }; turned = h.turned }
+      let measured : Maps (GivesLines ample ⊥) call x.stream.stream few.ins y.stream.stream = record {
+        ins = lengths.ins;
+        came = came;
+        related = lengths.related;
+      } in
+      record {
+        ins = h.ins;
+        came = record { ins = few.ins; came = measured; related = few.related };
+        related = h.related;
+      }

@@ -5,9 +5,10 @@ use Rattle.std.specs.declared.string.String.{String}
 use Rattle.lite_base.specs.declared.future.ready.Ready.{Ready}
 use Rattle.nests_agree.specs.Lengths.{IsLength, IsTested, WillGiveLength}
 use Rattle.lite_lines.specs.Laws.Marks.{SameText}
-use Rattle.lite_read.specs.Settling.{SameByKind, SameOr}
+use Rattle.lite_read.specs.Deterministic.{SameByKind, SameOr}
 
-pub same_length : (x w : Result (String Global) Error) (y z : Result ℕ Error) → SameOr SameText x w → IsLength x y → IsLength w z → SameByKind y z
+pub same_length : (x w : Result (String Global) Error) (y z : Result ℕ Error) → SameOr SameText x w → IsLength x y
+    → IsLength w z → SameByKind y z
 same_length (Ok s) (Ok t) y z e h k = rw (h, k) (ap length e)
 same_length (Ok s) (Err f) y z e h k = absurd e
 same_length (Err d) (Ok t) y z e h k = absurd e
@@ -19,7 +20,8 @@ same_tested (Ok n) (Err f) a b e h k = absurd e
 same_tested (Err d) (Ok m) a b e h k = absurd e
 same_tested (Err d) (Err f) a b e h k = h ∙ sym k
 
-pub same_future : (x w : Result (String Global) Error) (v u : Ready ℕ) → SameOr SameText x w → WillGiveLength x v → WillGiveLength w u → u.value ≡ v.value
+pub same_future : (x w : Result (String Global) Error) (v u : Ready ℕ) → SameOr SameText x w → WillGiveLength x v
+    → WillGiveLength w u → u.value ≡ v.value
 same_future (Ok s) (Ok t) v u e h k = rw (h, k, e) refl
 same_future (Ok s) (Err f) v u e h k = absurd e
 same_future (Err d) (Ok t) v u e h k = absurd e

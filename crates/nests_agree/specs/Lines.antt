@@ -8,15 +8,16 @@ use Rattle.std.specs.declared.string.String.{String}
 use Rattle.std.specs.declared.vec.Vec.{Vec}
 use Rattle.std.proofs.Common.{Global}
 use Rattle.lite_base.specs.Answers.{Answer}
+use Rattle.lite_base.specs.Runs.{Runs}
 use Rattle.lite_gather.specs.declared.refused.TryCollectError.{TryCollectError}
 use Rattle.lite_gather.specs.declared.refused.TryCollectError.TheVariants.{Source, Memory}
-use Rattle.lite_io_base.specs.Marks.{Mark}
-use Rattle.lite_io_base.specs.Runs.{Runs}
+use Rattle.lite_io_base.specs.Marks.{ReadMark}
 use Rattle.lite_lines.specs.Lines.{GivesLines}
 use Rattle.lite_lines.specs.declared.lines.Lines.{Lines}
 
--- lines were read of each of the two readers, from the first line on, and that holds where memory was found for all of them
-pub record FromLines {R : Type 0} (reads ample : Runs Mark R) (one other : R) (holds : Type 0) : Type 0 where
+-- lines were read of each of the two readers, from the first line on, and that holds where memory was found for all of
+-- them
+pub record FromLines {R : Type 0} (reads ample : Runs ReadMark R) (one other : R) (holds : Type 0) : Type 0 where
   pub start : Lines R
   pub start_more : Lines R
   pub last : Lines R

@@ -9,16 +9,18 @@ use Rattle.lite_source.specs.Laws.Folds.{folds_alike}
 use Rattle.nests_agree.specs.declared.paced.Paced.{Paced}
 
 -- while it waits a poll is pending, and then it waits no more; else a poll gives the item, and it waits again
-abbrev pub Step : Paced → Answer ℕ → Paced → Type 0
-Step p Pending q = (p.waits ≡ true) × (q ≡ record p { waits = false })
-Step p (Ready None) q = ⊥
-Step p (Ready (Some n)) q = (p.waits ≡ false) × (n ≡ p.item) × (q ≡ record p { waits = true })
+abbrev pub PacedStep : Paced → Answer ℕ → Paced → Type 0
+PacedStep p Pending q = (p.waits ≡ true) × (q ≡ record p { waits = false })
+PacedStep p (Ready None) q = ⊥
+PacedStep p (Ready (Some n)) q = (p.waits ≡ false) × (n ≡ p.item) × (q ≡ record p { waits = true })
 
-same_step : (p q r s : Paced) (a b : Option ℕ) → q.item ≡ p.item → Step p (Ready a) r → Step q (Ready b) s → (a ≡ b) × (s.item ≡ r.item)
+same_step : (p q r s : Paced) (a b : Option ℕ) → q.item ≡ p.item → PacedStep p (Ready a) r → PacedStep q (Ready b) s
+    → (a ≡ b) × (s.item ≡ r.item)
 same_step p q r s None b e h k = absurd h
 same_step p q r s (Some n) None e h k = absurd k
 same_step p q r s (Some n) (Some m) e h k = (ap (λ v. Some v) (h.1 ∙ (sym e ∙ sym k.1)), rw (h.2, k.2) e)
 
 -- two of one item are alike, whether they wait or not
-pub paced_alike : Steadiness (FoldsTo Step) (λ x y. y.item ≡ x.item)
-paced_alike x y e = folds_alike Step (λ p q. q.item ≡ p.item) (λ p q r a h. rw h.1 a) (λ p q r a h. rw h.1 a) same_step x y e
+pub paced_alike : Steadiness (FoldsTo PacedStep) (λ x y. y.item ≡ x.item)
+paced_alike x y e =
+    folds_alike PacedStep (λ p q. q.item ≡ p.item) (λ p q r a h. rw h.1 a) (λ p q r a h. rw h.1 a) same_step x y e

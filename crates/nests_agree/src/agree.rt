@@ -2,7 +2,7 @@
 //! aside, as far as both go. `Err` where memory for an answer is refused: then fewer were appended.
 ghost use Rattle.std.specs.Prelude.{◌≡◌, ◌<◌, ◌++◌, List, length, IfOk, IfErr};
 ghost use Rattle.lite_base.specs.Answers.{Answer, Comparable, strip};
-ghost use Rattle.lite_base.specs.Calm.{Prompt};
+ghost use Rattle.lite_base.specs.Calm.{NoPending};
 ghost use Rattle.lite_laws.specs.Both.{Fewer};
 
 use lite_base::future::make::{ready, yield_now, zip};
@@ -26,7 +26,8 @@ pub fn evens_agree(
     out_more: &mut Vec<Poll<Option<u8>>>,
 ) -> Result<(), AllocError>
     requires { strip one ≡ strip other }
-    ensures { (l m : List (Answer _)) × (out.new.items ≡ out.old.items ++ l) × (out_more.new.items ≡ out_more.old.items ++ m)
+    ensures { (l m : List (Answer _)) × (out.new.items ≡ out.old.items ++ l)
+        × (out_more.new.items ≡ out_more.old.items ++ m)
         × Comparable (strip l) (strip m) × IfOk result (λ _. (length l ≡ polls) × (length m ≡ more))
         × IfErr result (λ _. Fewer l m polls more) }
 {
@@ -49,7 +50,8 @@ pub fn waits_agree(
     out_more: &mut Vec<Poll<Option<((), u8)>>>,
 ) -> Result<(), AllocError>
     requires { strip one ≡ strip other }
-    ensures { (l m : List (Answer _)) × (out.new.items ≡ out.old.items ++ l) × (out_more.new.items ≡ out_more.old.items ++ m)
+    ensures { (l m : List (Answer _)) × (out.new.items ≡ out.old.items ++ l)
+        × (out_more.new.items ≡ out_more.old.items ++ m)
         × Comparable (strip l) (strip m) × IfOk result (λ _. (length l ≡ polls) × (length m ≡ more))
         × IfErr result (λ _. Fewer l m polls more) }
 {
@@ -70,7 +72,8 @@ pub fn lists_agree(
     out_more: &mut Vec<Poll<Option<u8>>>,
 ) -> Result<(), AllocError>
     requires { strip one ≡ strip other }
-    ensures { (l m : List (Answer _)) × (out.new.items ≡ out.old.items ++ l) × (out_more.new.items ≡ out_more.old.items ++ m)
+    ensures { (l m : List (Answer _)) × (out.new.items ≡ out.old.items ++ l)
+        × (out_more.new.items ≡ out_more.old.items ++ m)
         × Comparable (strip l) (strip m) × IfOk result (λ _. (length l ≡ polls) × (length m ≡ more))
         × IfErr result (λ _. Fewer l m polls more) }
 {
@@ -87,8 +90,8 @@ pub fn none_waits(
     polls: usize,
     out: &mut Vec<Poll<Option<u8>>>,
 ) -> Result<(), AllocError>
-    requires { Prompt script }
-    ensures { (l : List (Answer _)) × (out.new.items ≡ out.old.items ++ l) × Prompt l
+    requires { NoPending script }
+    ensures { (l : List (Answer _)) × (out.new.items ≡ out.old.items ++ l) × NoPending l
         × IfOk result (λ _. length l ≡ polls) × IfErr result (λ _. length l < polls) }
 {
     let mixed = map(script, |x: u8| x ^ 1);

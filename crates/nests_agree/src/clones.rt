@@ -4,7 +4,7 @@ ghost use Rattle.lite_base.specs.Alike.{SameAnswer};
 ghost use Rattle.lite_base.specs.Answers.{Answer, ComparableBy, strip};
 ghost use Rattle.lite_base.specs.Steady.{TakesNone};
 ghost use Rattle.lite_laws.specs.Both.{Fewer};
-ghost use Rattle.lite_flatten.specs.Cloned.{ClonedFrom, NoneRefused};
+ghost use Rattle.lite_flatten.specs.Cloned.{ClonedFrom, NoCloneRefused};
 
 use lite_base::{Context, Poll, SteadyStream, Stream};
 use lite_flatten::Cloned;
@@ -27,8 +27,10 @@ pub fn clones_agree<'a, T: Clone + 'a, S: SteadyStream<Item = &'a T>>(
     requires second { ⟦<Cloned<S> as Stream>⟧.can_poll y.old }
     requires alike { ⟦<Cloned<S> as SteadyStream>⟧.alike x.old y.old }
     requires found { TakesNone S.run S.ample }
-    ensures { (l m : List (Answer _)) × (out.new.items ≡ out.old.items ++ l) × (out_more.new.items ≡ out_more.old.items ++ m)
-        × (NoneRefused l → NoneRefused m → ComparableBy (SameAnswer (ClonedFrom S.same T.is_clone)) (strip l) (strip m))
+    ensures { (l m : List (Answer _)) × (out.new.items ≡ out.old.items ++ l)
+        × (out_more.new.items ≡ out_more.old.items ++ m)
+        × (NoCloneRefused l → NoCloneRefused m
+        → ComparableBy (SameAnswer (ClonedFrom S.same T.is_clone)) (strip l) (strip m))
         × IfOk result (λ _. (length l ≡ polls) × (length m ≡ more))
         × IfErr result (λ _. Fewer l m polls more) }
 {

@@ -1,8 +1,8 @@
 //! The lines of two readers that are alike, collected. Wherever either reader was pending, and in whatever pieces its bytes came,
 //! the lines are the same: texts by their bytes, and errors by their kinds. `Err` where there was no memory to sleep on.
-ghost use Rattle.lite_gather.specs.Agreeing.{Gathered, TryGathered};
+ghost use Rattle.lite_gather.specs.Agreeing.{SameCollected, TrySameCollected};
 ghost use Rattle.lite_lines.specs.Laws.Marks.{SameText};
-ghost use Rattle.lite_read.specs.Settling.{SameByKind, SameOr};
+ghost use Rattle.lite_read.specs.Deterministic.{SameByKind, SameOr};
 ghost use Rattle.nests_agree.specs.Lengths.{IsLength, IsTested};
 ghost use Rattle.nests_agree.specs.Lines.{EachFound, WasFound};
 ghost use Rattle.std.specs.IoError.{error_kind};
@@ -52,7 +52,8 @@ where
     requires alike { T.alike one other }
     requires found { T.needs_none }
     ensures { IfOk result (λ values. WasFound values.0 → WasFound values.1
-        → TryGathered (λ v w. AllZip SameText v.items w.items) (λ e f. error_kind e ≡ error_kind f) values.0 values.1) }
+        → TrySameCollected (λ v w. AllZip SameText v.items w.items)
+        (λ e f. error_kind e ≡ error_kind f) values.0 values.1) }
 {
     let tried = try_collect(take(lines(one, rt.alloc()), most), rt.alloc());
     let more = try_collect(take(lines(other, rt.alloc()), most), rt.alloc());
@@ -75,7 +76,7 @@ where
     requires alike { T.alike one other }
     requires found { T.needs_none }
     ensures { IfOk result (λ values. EachFound values.0 → EachFound values.1
-        → Gathered (λ v w. AllZip (SameOr SameText) v.items w.items) values.0 values.1) }
+        → SameCollected (λ v w. AllZip (SameOr SameText) v.items w.items) values.0 values.1) }
 {
     let gathered = collect(take(lines(one, rt.alloc()), most), rt.alloc());
     let more = collect(take(lines(other, rt.alloc()), most), rt.alloc());
@@ -98,7 +99,7 @@ where
     requires alike { T.alike one other }
     requires found { T.needs_none }
     ensures { IfOk result (λ values. EachFound values.0 → EachFound values.1
-        → Gathered (λ v w. AllZip SameByKind v.items w.items) values.0 values.1) }
+        → SameCollected (λ v w. AllZip SameByKind v.items w.items) values.0 values.1) }
 {
     let length = |line: io::Result<String>| -> io::Result<usize>
         ensures { IsLength line result }

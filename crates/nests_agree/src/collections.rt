@@ -3,8 +3,8 @@
 //! there was no memory to sleep on.
 ghost use Rattle.std.specs.Prelude.{◌≡◌, ◌%◌, ℕ, IfOk, IsOk};
 ghost use Rattle.lite_base.specs.Alike.{SameErr, SameItem, SameList, SameOk};
-ghost use Rattle.lite_gather.specs.Agreeing.{Gathered, HoldsSameParts, TryGathered, Unmixed};
-ghost use Rattle.lite_gather.specs.TryCollect.{NotRefused};
+ghost use Rattle.lite_gather.specs.Agreeing.{HoldsSameParts, SameCollected, TrySameCollected, Unmixed};
+ghost use Rattle.lite_gather.specs.TryCollect.{HasMemory};
 
 use lite_base::{Counted, OkCounted, SteadyStream};
 use lite_gather::make::{collect, partition, try_collect, unzip};
@@ -36,7 +36,9 @@ where
     requires counts { S.ranks.counts one × S.ranks.counts other }
     requires alike { S.alike one other }
     requires found { S.needs_none }
-    ensures { IfOk result (λ values. IsOk values.0 → IsOk values.1 → Gathered (λ v w. SameList S.same v.items w.items) values.0 values.1) }
+    ensures { IfOk result
+        (λ values. IsOk values.0 → IsOk values.1
+        → SameCollected (λ v w. SameList S.same v.items w.items) values.0 values.1) }
 {
     block_on_both(rt, collect(one, rt.alloc()), collect(other, rt.alloc()))
 }
@@ -55,8 +57,9 @@ where
     requires counts { S.ok_ranks.counts one × S.ok_ranks.counts other }
     requires alike { Unmixed S.same (S.alike one other) }
     requires found { S.needs_none }
-    ensures { IfOk result (λ values. NotRefused values.0 → NotRefused values.1
-        → TryGathered (λ v w. SameList (SameOk S.same) v.items w.items) (SameItem (SameErr S.same)) values.0 values.1) }
+    ensures { IfOk result (λ values. HasMemory values.0 → HasMemory values.1
+        → TrySameCollected (λ v w. SameList (SameOk S.same) v.items w.items)
+        (SameItem (SameErr S.same)) values.0 values.1) }
 {
     let tried = try_collect(one, rt.alloc());
     block_on_both(rt, tried, try_collect(other, rt.alloc()))
@@ -74,7 +77,8 @@ where
     requires parity { (x w : ℕ) → SameItem S.same x w → x % 2 ≡ w % 2 }
     requires found { S.needs_none }
     ensures { IfOk result (λ values. IsOk values.0 → IsOk values.1
-        → Gathered (λ v w. SameList S.same v.0.items w.0.items × SameList S.same v.1.items w.1.items) values.0 values.1) }
+        → SameCollected
+        (λ v w. SameList S.same v.0.items w.0.items × SameList S.same v.1.items w.1.items) values.0 values.1) }
 {
     let is_even = |x: &u8| *x % 2 == 0;
     let sorted = partition(one, rt.alloc(), is_even);
@@ -92,7 +96,7 @@ where
     requires alike { S.alike one other }
     requires found { S.needs_none }
     ensures { IfOk result (λ values. IsOk values.0 → IsOk values.1
-        → Gathered (HoldsSameParts S.same (λ v l. v.items ≡ l) (λ v l. v.items ≡ l)) values.0 values.1) }
+        → SameCollected (HoldsSameParts S.same (λ v l. v.items ≡ l) (λ v l. v.items ≡ l)) values.0 values.1) }
 {
     block_on_both(rt, unzip(one, rt.alloc()), unzip(other, rt.alloc()))
 }

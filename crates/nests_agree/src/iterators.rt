@@ -21,7 +21,8 @@ pub fn vectors_agree(
     out_more: &mut Vec<Poll<Option<u8>>>,
 ) -> Result<(), AllocError>
     requires { one.items ≡ other.items }
-    ensures { (l m : List (Answer _)) × (out.new.items ≡ out.old.items ++ l) × (out_more.new.items ≡ out_more.old.items ++ m)
+    ensures { (l m : List (Answer _)) × (out.new.items ≡ out.old.items ++ l)
+        × (out_more.new.items ≡ out_more.old.items ++ m)
         × Comparable (strip l) (strip m) × IfOk result (λ _. (length l ≡ polls) × (length m ≡ more))
         × IfErr result (λ _. Fewer l m polls more) }
 {
@@ -41,7 +42,8 @@ pub fn arrays_agree(
     out_more: &mut Vec<Poll<Option<u8>>>,
 ) -> Result<(), AllocError>
     requires { one ≡ other }
-    ensures { (l m : List (Answer _)) × (out.new.items ≡ out.old.items ++ l) × (out_more.new.items ≡ out_more.old.items ++ m)
+    ensures { (l m : List (Answer _)) × (out.new.items ≡ out.old.items ++ l)
+        × (out_more.new.items ≡ out_more.old.items ++ m)
         × Comparable (strip l) (strip m) × IfOk result (λ _. (length l ≡ polls) × (length m ≡ more))
         × IfErr result (λ _. Fewer l m polls more) }
 {
@@ -61,7 +63,8 @@ pub fn slices_agree(
     out_more: &mut Vec<Poll<Option<u8>>>,
 ) -> Result<(), AllocError>
     requires { one.now ≡ other.now }
-    ensures { (l m : List (Answer _)) × (out.new.items ≡ out.old.items ++ l) × (out_more.new.items ≡ out_more.old.items ++ m)
+    ensures { (l m : List (Answer _)) × (out.new.items ≡ out.old.items ++ l)
+        × (out_more.new.items ≡ out_more.old.items ++ m)
         × Comparable (strip l) (strip m) × IfOk result (λ _. (length l ≡ polls) × (length m ≡ more))
         × IfErr result (λ _. Fewer l m polls more) }
 {
@@ -81,7 +84,8 @@ pub fn ranges_agree(
     out: &mut Vec<Poll<Option<u8>>>,
     out_more: &mut Vec<Poll<Option<u8>>>,
 ) -> Result<(), AllocError>
-    ensures { (l m : List (Answer _)) × (out.new.items ≡ out.old.items ++ l) × (out_more.new.items ≡ out_more.old.items ++ m)
+    ensures { (l m : List (Answer _)) × (out.new.items ≡ out.old.items ++ l)
+        × (out_more.new.items ≡ out_more.old.items ++ m)
         × Comparable (strip l) (strip m) × IfOk result (λ _. (length l ≡ polls) × (length m ≡ more))
         × IfErr result (λ _. Fewer l m polls more) }
 {

@@ -8,7 +8,7 @@ ghost use Rattle.nests_agree.specs.Lines.{FromLines};
 ghost use Rattle.lite_laws.specs.Both.{Fewer};
 ghost use Rattle.lite_lines.specs.Laws.Marks.{SameText};
 ghost use Rattle.lite_lines.specs.NoneRefused.{NoneRefused};
-ghost use Rattle.lite_read.specs.Settling.{SameByKind, SameOr};
+ghost use Rattle.lite_read.specs.Deterministic.{SameByKind, SameOr};
 
 use lite_base::future::Ready;
 use lite_base::future::make::ready;
@@ -41,7 +41,8 @@ where
     requires first { R.ranks.counts one }
     requires second { R.ranks.counts other }
     requires alike { R.alike one other }
-    ensures { (l m : List (Answer _)) × (out.new.items ≡ out.old.items ++ l) × (out_more.new.items ≡ out_more.old.items ++ m)
+    ensures { (l m : List (Answer _)) × (out.new.items ≡ out.old.items ++ l)
+        × (out_more.new.items ≡ out_more.old.items ++ m)
         × FromLines R.reads R.ample one other (ComparableBy (OptionBy SameByKind) (strip l) (strip m))
         × IfOk result (λ _. (length l ≡ polls) × (length m ≡ more)) × IfErr result (λ _. Fewer l m polls more) }
 {
@@ -85,7 +86,8 @@ where
     requires first { R.ranks.counts one }
     requires second { R.ranks.counts other }
     requires alike { R.alike one other }
-    ensures { (l m : List (Answer _)) × (out.new.items ≡ out.old.items ++ l) × (out_more.new.items ≡ out_more.old.items ++ m)
+    ensures { (l m : List (Answer _)) × (out.new.items ≡ out.old.items ++ l)
+        × (out_more.new.items ≡ out_more.old.items ++ m)
         × FromLines R.reads R.ample one other (Comparable (strip l) (strip m))
         × IfOk result (λ _. (length l ≡ polls) × (length m ≡ more)) × IfErr result (λ _. Fewer l m polls more) }
 {
@@ -121,7 +123,8 @@ where
     requires second { R.ranks.counts other }
     requires alike { R.alike one other }
     requires found { R.needs_none }
-    ensures { (l m : List (Answer _)) × (out.new.items ≡ out.old.items ++ l) × (out_more.new.items ≡ out_more.old.items ++ m)
+    ensures { (l m : List (Answer _)) × (out.new.items ≡ out.old.items ++ l)
+        × (out_more.new.items ≡ out_more.old.items ++ m)
         × (NoneRefused l → NoneRefused m → ComparableBy (OptionBy (SameOr SameText)) (strip l) (strip m))
         × IfOk result (λ _. (length l ≡ polls) × (length m ≡ more)) × IfErr result (λ _. Fewer l m polls more) }
 {

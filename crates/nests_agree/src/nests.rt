@@ -34,13 +34,17 @@ where
     requires second { ⟦<Take<Filter<Map<S, F>, P>> as Stream>⟧.can_poll y.old }
     requires alike { S.alike x.old.stream.stream.stream y.old.stream.stream.stream }
     requires calls { AgreeOver S.same (Calls F.FnMut) x.old.stream.stream.f y.old.stream.stream.f }
-    requires tests { AgreeFrom (SameItem (Answering S.same (Calls F.FnMut))) (λ a b. a ≡ b) (CalledAt P.FnMut) x.old.stream.predicate y.old.stream.predicate }
+    requires tests { AgreeFrom (SameItem (Answering S.same (Calls F.FnMut))) (λ a b. a ≡ b)
+        (CalledAt P.FnMut) x.old.stream.predicate y.old.stream.predicate }
     requires counts { y.old.n ≡ x.old.n }
     requires found { S.needs_none }
-    ensures { (l m : List (Answer _)) × (out.new.items ≡ out.old.items ++ l) × (out_more.new.items ≡ out_more.old.items ++ m)
-        × ComparableBy (SameAnswer (Answering S.same (Calls F.FnMut))) (strip l) (strip m) × IfOk result (λ _. (length l ≡ polls) × (length m ≡ more))
-        × IfWaits l (HoldsEach (S.leaves x.new.stream.stream.stream) cx.new)
-        × IfWaits m (HoldsEach (S.leaves y.new.stream.stream.stream) cx.new) × IfErr result (λ _. Fewer l m polls more) }
+    ensures { (l m : List (Answer _)) × (out.new.items ≡ out.old.items ++ l)
+        × (out_more.new.items ≡ out_more.old.items ++ m)
+        × ComparableBy (SameAnswer (Answering S.same (Calls F.FnMut))) (strip l) (strip m)
+        × IfOk result (λ _. (length l ≡ polls) × (length m ≡ more))
+        × IfWaits l (HoldsEach (S.registers x.new.stream.stream.stream) cx.new)
+        × IfWaits m (HoldsEach (S.registers y.new.stream.stream.stream) cx.new)
+        × IfErr result (λ _. Fewer l m polls more) }
 {
     run_both(x, y, cx, polls, more, out, out_more)
 }

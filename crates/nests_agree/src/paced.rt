@@ -3,7 +3,8 @@ ghost use Rattle.std.specs.Prelude.{◌≡◌, ◌++◌, List, length, None, IfO
 ghost use Rattle.std.specs.List.{FoldsTo};
 ghost use Rattle.lite_base.specs.Answers.{Answer, Comparable, strip};
 ghost use Rattle.lite_base.specs.Steady.{steady_always};
-ghost use Rattle.nests_agree.specs.Paced.{Step, paced_alike};
+ghost use Rattle.lite_base.specs.Runs.{NoHint};
+ghost use Rattle.nests_agree.specs.Paced.{PacedStep, paced_alike};
 ghost use Rattle.lite_laws.specs.Both.{Fewer};
 ghost use Rattle.lite_source.specs.Laws.Folds.{folds_laws};
 
@@ -22,11 +23,11 @@ pub struct Paced {
 impl Stream for Paced {
     type Item = u8;
 
-    ghost run = { FoldsTo Step };
+    ghost run = { FoldsTo PacedStep };
 
-    ghost hints = { λ m hint. hint ≡ (0, None) };
+    ghost hints = { NoHint };
 
-    ghost laws = { folds_laws (λ x. x) Step (λ x y e. e) 0 };
+    ghost laws = { folds_laws (λ x. x) PacedStep (λ x y e. e) 0 };
 
     fn poll_next(&mut self, _cx: &mut Context<'_>) -> Poll<Option<u8>> {
         if self.waits {
@@ -43,11 +44,11 @@ impl Stream for Paced {
 }
 
 impl SteadyStream for Paced {
-    ghost ample = { FoldsTo Step };
+    ghost ample = { FoldsTo PacedStep };
 
     ghost alike = { λ x y. y.item ≡ x.item };
 
-    ghost steady = { steady_always (folds_laws (λ x. x) Step (λ x y e. e) 0) paced_alike };
+    ghost steady = { steady_always (folds_laws (λ x. x) PacedStep (λ x y e. e) 0) paced_alike };
 }
 
 /// Runs two such streams of one item, whether the next poll of each is pending or not. The answers of the two runs are
@@ -62,7 +63,8 @@ pub fn paces_agree(
     out_more: &mut Vec<Poll<Option<u8>>>,
 ) -> Result<(), AllocError>
     requires { y.old.item ≡ x.old.item }
-    ensures { (l m : List (Answer _)) × (out.new.items ≡ out.old.items ++ l) × (out_more.new.items ≡ out_more.old.items ++ m)
+    ensures { (l m : List (Answer _)) × (out.new.items ≡ out.old.items ++ l)
+        × (out_more.new.items ≡ out_more.old.items ++ m)
         × Comparable (strip l) (strip m) × IfOk result (λ _. (length l ≡ polls) × (length m ≡ more))
         × IfErr result (λ _. Fewer l m polls more) }
 {

@@ -1,7 +1,7 @@
 //! What two readers that are alike give, through a buffer, before some bytes, up to a number of bytes.
 ghost use Rattle.std.specs.Prelude.{◌≡◌, ◌++◌, ℕ, List, IfOk};
-ghost use Rattle.lite_laws.specs.BothReaders.{NotRefused};
-ghost use Rattle.lite_read.specs.Settling.{SameByKind};
+ghost use Rattle.lite_laws.specs.BothReaders.{HasReadMemory};
+ghost use Rattle.lite_read.specs.Deterministic.{SameByKind};
 
 use lite_io::BufReader;
 use lite_io::make::{chain, take};
@@ -31,7 +31,8 @@ where
     requires alike { T.alike one other }
     requires found { T.needs_none }
     ensures { (xs ys : List ℕ) × (out.new.items ≡ out.old.items ++ xs) × (out_more.new.items ≡ out_more.old.items ++ ys)
-        × IfOk result (λ values. NotRefused values.0 → NotRefused values.1 → SameByKind values.0 values.1 × (xs ≡ ys)) }
+        × IfOk result
+        (λ values. HasReadMemory values.0 → HasReadMemory values.1 → SameByKind values.0 values.1 × (xs ≡ ys)) }
 {
     let Ok(x) = BufReader::with_capacity(rt.alloc(), 3, one) else {
         return Err(AllocError);

@@ -1,7 +1,7 @@
 //! What two writers that are alike leave below, through a buffer; and copies to them.
 ghost use Rattle.std.specs.Prelude.{◌≡◌, IfOk, IsOk};
-ghost use Rattle.lite_buf_writer.specs.BufWriter.{held, inner_of};
-ghost use Rattle.lite_read.specs.Settling.{SameByKind};
+ghost use Rattle.lite_buf_writer.specs.BufWriter.{unwritten, writer_inner};
+ghost use Rattle.lite_read.specs.Deterministic.{SameByKind};
 
 use lite_buf_writer::BufWriter;
 use lite_copy::make::copy;
@@ -24,9 +24,10 @@ pub fn writes_agree<R, T>(
 where
     R: Wait + RandomSource + AllocGlobal,
     T: SteadyWrite,
-    requires held { held x.old ≡ held y.old }
-    requires alike { T.alike (inner_of x.old) (inner_of y.old) }
-    ensures { IfOk result (λ values. IsOk values.0 → IsOk values.1 → T.below (inner_of x.new) ≡ T.below (inner_of y.new)) }
+    requires held { unwritten x.old ≡ unwritten y.old }
+    requires alike { T.alike (writer_inner x.old) (writer_inner y.old) }
+    ensures { IfOk result
+        (λ values. IsOk values.0 → IsOk values.1 → T.below (writer_inner x.new) ≡ T.below (writer_inner y.new)) }
 {
     write_both(rt, x, y, bytes)
 }

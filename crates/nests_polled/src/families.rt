@@ -17,7 +17,8 @@ pub fn joined(
     out: &mut Vec<Poll<Option<u8>>>,
 ) -> Result<(), AllocError>
     requires { EachItem (λ x. x < 10) first × EachItem (λ x. x < 10) second }
-    ensures { (l : List (Answer _)) × (out.new.items ≡ out.old.items ++ l) × IfOk result (λ _. length l ≡ polls) × EachItem (λ x. x < 10) l }
+    ensures { (l : List (Answer _)) × (out.new.items ≡ out.old.items ++ l) × IfOk result (λ _. length l ≡ polls)
+        × EachItem (λ x. x < 10) l }
 {
     let chained = first.chain(second);
     let mut joined = chained.fuse();
@@ -33,7 +34,8 @@ pub fn flattened(
     out: &mut Vec<Poll<Option<u8>>>,
 ) -> Result<(), AllocError>
     requires { EachItem (EachItem (λ x. x < 10)) scripts }
-    ensures { (l : List (Answer _)) × (out.new.items ≡ out.old.items ++ l) × IfOk result (λ _. length l ≡ polls) × EachItem (λ x. x < 10) l }
+    ensures { (l : List (Answer _)) × (out.new.items ≡ out.old.items ++ l) × IfOk result (λ _. length l ≡ polls)
+        × EachItem (λ x. x < 10) l }
 {
     let mut flat = scripts.flatten();
     laws::run(&mut flat, cx, polls, out)
@@ -47,7 +49,8 @@ pub fn digits(
     polls: usize,
     out: &mut Vec<Poll<Option<u8>>>,
 ) -> Result<(), AllocError>
-    ensures { (l : List (Answer _)) × (out.new.items ≡ out.old.items ++ l) × IfOk result (λ _. length l ≡ polls) × EachItem (λ x. x < 10) l }
+    ensures { (l : List (Answer _)) × (out.new.items ≡ out.old.items ++ l) × IfOk result (λ _. length l ≡ polls)
+        × EachItem (λ x. x < 10) l }
 {
     let mut digits = script.then(|x: u8| ready(x % 10));
     laws::run(&mut digits, cx, polls, out)
@@ -63,7 +66,8 @@ pub fn paired(
     out: &mut Vec<Poll<Option<(u8, u8)>>>,
 ) -> Result<(), AllocError>
     requires { EachItem (λ x. x < 10) first × EachItem (λ y. 90 < y) second }
-    ensures { (l : List (Answer _)) × (out.new.items ≡ out.old.items ++ l) × IfOk result (λ _. length l ≡ polls) × EachItem (λ z. (z.0 < 10) × (90 < z.1)) l }
+    ensures { (l : List (Answer _)) × (out.new.items ≡ out.old.items ++ l) × IfOk result (λ _. length l ≡ polls)
+        × EachItem (λ z. (z.0 < 10) × (90 < z.1)) l }
 {
     let mut pairs = first.zip(second);
     laws::run(&mut pairs, cx, polls, out)
@@ -79,7 +83,8 @@ pub fn merged(
     out: &mut Vec<Poll<Option<u8>>>,
 ) -> Result<(), AllocError>
     requires { EachItem (λ x. x < 10) first × EachItem (λ x. x < 10) second }
-    ensures { (l : List (Answer _)) × (out.new.items ≡ out.old.items ++ l) × IfOk result (λ _. length l ≡ polls) × EachItem (λ x. x < 10) l }
+    ensures { (l : List (Answer _)) × (out.new.items ≡ out.old.items ++ l) × IfOk result (λ _. length l ≡ polls)
+        × EachItem (λ x. x < 10) l }
 {
     let mut merged = first.or(second);
     laws::run(&mut merged, cx, polls, out)

@@ -1,8 +1,8 @@
 //! Nests compose: what is known of a nest of adapters is known by the contracts of the traits alone.
 ghost use Rattle.std.specs.Prelude.{◌≡◌, ◌%◌, ◌<◌, ◌≤◌, ◌++◌, ◌∷◌, [], List, length, IfOk};
-ghost use Rattle.futures.specs.Poll.{OnPending};
-ghost use Rattle.futures.specs.Task.{Holds, Keeps, Lasting};
+ghost use Rattle.futures.specs.Task.{Keeps};
 ghost use Rattle.futures_lite.specs.Answers.{Answer, EachItem};
+ghost use Rattle.lite_base.specs.Registered.{Registered};
 
 use futures_lite::stream::{Counted, Filter, Map, Script};
 use futures_lite::{Context, Poll, Stream, StreamExt, laws};
@@ -22,7 +22,7 @@ where
     requires { ⟦<Filter<Map<S, F>, P> as Stream>⟧.can_poll nest.old }
     ensures ran { ⟦<Filter<Map<S, F>, P> as Stream>⟧.run nest.old (result ∷ []) nest.new }
     ensures again { ⟦<Filter<Map<S, F>, P> as Stream>⟧.can_poll nest.new }
-    ensures left { OnPending result ((fact : Lasting) → ⟦<Filter<Map<S, F>, P> as Stream>⟧.leaves nest.new fact → Holds cx.new fact) }
+    ensures left { Registered result (⟦<Filter<Map<S, F>, P> as Stream>⟧.registers nest.new) cx.new }
     ensures kept { Keeps cx.old cx.new }
 {
     nest.poll_next(cx)
@@ -36,7 +36,8 @@ pub fn evens(
     polls: usize,
     out: &mut Vec<Poll<Option<u64>>>,
 ) -> Result<(), AllocError>
-    ensures even { (l : List (Answer _)) × (out.new.items ≡ out.old.items ++ l) × IfOk result (λ _. length l ≡ polls) × EachItem (λ x. x % 2 ≡ 0) l }
+    ensures even { (l : List (Answer _)) × (out.new.items ≡ out.old.items ++ l) × IfOk result (λ _. length l ≡ polls)
+        × EachItem (λ x. x % 2 ≡ 0) l }
 {
     let mut place = 0u64;
     let mixed = script.map(move |x: u8| {
@@ -56,7 +57,8 @@ pub fn hundredths(
     out: &mut Vec<Poll<Option<u8>>>,
 ) -> Result<(), AllocError>
     requires { EachItem (λ x. 0 < x) script }
-    ensures { (l : List (Answer _)) × (out.new.items ≡ out.old.items ++ l) × IfOk result (λ _. length l ≡ polls) × EachItem (λ y. 2 ≤ y) l }
+    ensures { (l : List (Answer _)) × (out.new.items ≡ out.old.items ++ l) × IfOk result (λ _. length l ≡ polls)
+        × EachItem (λ y. 2 ≤ y) l }
 {
     let mut quotients = script
         .map(

@@ -1,10 +1,10 @@
 //! A loop over `Ok` items, as a caller's own poll makes it.
 ghost use Rattle.std.specs.Prelude.{◌≡◌, []};
 ghost use Rattle.futures.specs.Task.{Keeps};
-ghost use Rattle.lite_base.specs.Ends.{Ends-map};
-ghost use Rattle.nests_polled.specs.TryCount.{Counted, TryTurns};
+ghost use Rattle.lite_base.specs.Ends.{Terminates-map};
+ghost use Rattle.nests_polled.specs.TryCount.{CountsUntil, TrySteps};
 
-use lite_base::{Context, OkCounted, Poll, Stream, Turns, drive};
+use lite_base::{Context, OkCounted, Poll, PollSteps, Stream, drive};
 
 /// Counts the `Ok` items of a stream until there is an error or an end.
 #[derive(Drop)]
@@ -22,20 +22,20 @@ impl<S> TryCount<S> {
     }
 }
 
-impl<S: OkCounted<Ok: Drop>> Turns for TryCount<S> {
+impl<S: OkCounted<Ok: Drop>> PollSteps for TryCount<S> {
     type Output = Result<u64, S::Err>;
 
-    ghost can_turn = { λ m. S.can_poll m.stream × S.ok_ranks.counts m.stream };
+    ghost can_step = { λ m. S.can_poll m.stream × S.ok_ranks.counts m.stream };
 
-    ghost turn = { TryTurns S.run (λ s. S.can_poll s × S.ok_ranks.counts s) };
+    ghost step = { TrySteps S.run (λ s. S.can_poll s × S.ok_ranks.counts s) };
 
-    ghost turn_leaves = { λ m. S.leaves m.stream };
+    ghost step_registers = { λ m. S.registers m.stream };
 
     ghost goes_on = { λ x y c h. h.0 };
 
-    ghost finite = { λ x c. Ends-map (λ m. m.stream) (λ m n h. (h.1.0, [], h.1.1)) x (S.ok_ends x.stream c.1) };
+    ghost finite = { λ x c. Terminates-map (λ m. m.stream) (λ m n h. (h.1.0, [], h.1.1)) x (S.ok_ends x.stream c.1) };
 
-    fn turn_once(&mut self, cx: &mut Context<'_>) -> Option<Poll<Result<u64, S::Err>>> {
+    fn poll_step(&mut self, cx: &mut Context<'_>) -> Option<Poll<Result<u64, S::Err>>> {
         match self.stream.poll_next(cx) {
             Poll::Ready(Some(Ok(_))) => {
                 self.n = self.n.wrapping_add(1);
@@ -56,7 +56,7 @@ pub fn poll_count<S: OkCounted<Ok: Drop>>(
 ) -> Poll<Result<u64, S::Err>>
     requires can_poll { S.can_poll count.old.stream }
     requires counts { S.ok_ranks.counts count.old.stream }
-    ensures counted { Counted S.run count.old result count.new }
+    ensures counted { CountsUntil S.run count.old result count.new }
     ensures again { S.can_poll count.new.stream × S.ok_ranks.counts count.new.stream }
     ensures kept { Keeps cx.old cx.new }
 {

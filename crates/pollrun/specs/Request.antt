@@ -1,5 +1,6 @@
 -- Which words are a request, and what they ask for.
-use Rattle.std.specs.Prelude.{◌≡◌, ◌≤◌, ⊤, ℕ, ℤ, pos, negsuc, ◌≤ℤ◌, List, ◌∷◌, length, map, All, codes, decimal, Some, None}
+use Rattle.std.specs.Prelude.{◌≡◌, ◌≤◌, ⊤, ℕ, ℤ, pos, negsuc, ◌≤ℤ◌, List, ◌∷◌, length, map, All, codes, decimal, Some}
+use Rattle.std.specs.Prelude.{None}
 use Rattle.std.specs.Fmt.{signed_decimal}
 use Rattle.futures.specs.declared.task.Poll.TheVariants.{Ready, Pending}
 use Rattle.lite_base.specs.Answers.{Answer}
@@ -25,6 +26,7 @@ pub record IsScript (answers : List (Answer ℤ)) : Type 0 where
   pub few : length answers ≤ 1000
   pub each : All IsWritten answers
 
+-- the word that names a pipe
 abbrev pub name_of : Pipe → List ℕ
 name_of (One Plain) = codes "plain"
 name_of (One Double) = codes "double"
@@ -41,7 +43,7 @@ scripts_of (One pipe) = 1
 scripts_of (Two pipe) = 2
 
 -- the words are a pipe's name, a number of polls up to 1000, and as many scripts as it takes, each in its one spelling
-pub record Asks (words : List (List ℕ)) (pipe : Pipe) (polls : ℕ) (scripts : List (List (Answer ℤ))) : Type 0 where
+pub record IsRequest (words : List (List ℕ)) (pipe : Pipe) (polls : ℕ) (scripts : List (List (Answer ℤ))) : Type 0 where
   pub written : words ≡ name_of pipe ∷ decimal polls ∷ map (spelled_list signed_decimal) scripts
   pub few_polls : polls ≤ 1000
   pub as_many : length scripts ≡ scripts_of pipe

@@ -1,16 +1,17 @@
 -- What a request is answered.
-use Rattle.std.specs.Prelude.{◌≡◌, ◌%◌, ◌==◌, ◌++◌, ℕ, ℤ, ◌+ℤ◌, Bool, true, List, [], ◌∷◌, length, map, Option, Some, None, unsigned_abs}
+use Rattle.std.specs.Prelude.{◌≡◌, ◌%◌, ◌==◌, ◌++◌, ℕ, ℤ, ◌+ℤ◌, Bool, true, List, [], ◌∷◌, length, map, Option, Some}
+use Rattle.std.specs.Prelude.{None, unsigned_abs}
 use Rattle.std.specs.Fmt.{signed_decimal}
 use Rattle.std.specs.Io.KnownBytes.{Appends}
 use Rattle.futures.specs.declared.task.Poll.TheVariants.{Ready, Pending}
 use Rattle.lite_base.specs.Answers.{Answer, item, end, until_end}
-use Rattle.lite_source.specs.Script.{Gives}
+use Rattle.lite_source.specs.Script.{GivesScript}
 use Rattle.lite_base.specs.Calling.{Accepts}
-use Rattle.lite_sift.specs.Leaving.{Leaves}
-use Rattle.pollrun.specs.Request.{Asks}
+use Rattle.lite_sift.specs.Leaving.{LeavesOut}
+use Rattle.pollrun.specs.Request.{IsRequest}
 use Rattle.pollrun.specs.Spelling.{pair_text, spelled_list}
 use Rattle.lite_flatten.specs.Chain.{Joins}
-use Rattle.lite_merge.specs.Merge.{Rows}
+use Rattle.lite_merge.specs.Merge.{MergeRows}
 use Rattle.lite_merge.specs.Zip.{Pairs}
 use Rattle.lite_stream.specs.Cutting.{Cuts}
 use Rattle.lite_sift.specs.StepBy.{StepsOn}
@@ -30,6 +31,7 @@ doubled Pending = Pending
 doubled (Ready None) = end
 doubled (Ready (Some z)) = item (z +ℤ z)
 
+-- the number is even
 abbrev pub is_even : ℤ → Bool
 is_even z = unsigned_abs z % 2 == 0
 
@@ -37,19 +39,20 @@ is_even z = unsigned_abs z % 2 == 0
 abbrev pub Pipes : Single → List (Answer ℤ) → List (Answer ℤ) → Type 0
 Pipes Plain ins out = out ≡ ins
 Pipes Double ins out = out ≡ map doubled ins
-Pipes Evens ins out = Leaves (Accepts (λ (p : Unit {0}) (z : ℤ) (b : Bool) (q : Unit {0}). b ≡ is_even z)) tt ins out tt
+Pipes Evens ins out =
+    LeavesOut (Accepts (λ (p : Unit {0}) (z : ℤ) (b : Bool) (q : Unit {0}). b ≡ is_even z)) tt ins out tt
 Pipes Take2 ins out = (left : ℕ) × Cuts is_none_left left_after 2 ins out left
 Pipes Step2 ins out = (left : ℕ × ℕ) × StepsOn (2, 0) ins out left
 
 -- what a pipe's items are: numbers, or pairs of them
-abbrev pub Item : Pipe → Type 0
-Item (One pipe) = ℤ
-Item (Two Chain) = ℤ
-Item (Two Or) = ℤ
-Item (Two Zip) = ℤ × ℤ
+abbrev pub PipeItem : Pipe → Type 0
+PipeItem (One pipe) = ℤ
+PipeItem (Two Chain) = ℤ
+PipeItem (Two Or) = ℤ
+PipeItem (Two Zip) = ℤ × ℤ
 
 -- how an item is printed
-abbrev pub text_of : (pipe : Pipe) → Item pipe → List ℕ
+abbrev pub text_of : (pipe : Pipe) → PipeItem pipe → List ℕ
 text_of (One pipe) z = signed_decimal z
 text_of (Two Chain) z = signed_decimal z
 text_of (Two Or) z = signed_decimal z
@@ -62,23 +65,25 @@ read_by Or script = until_end script
 read_by Zip script = script
 
 -- what a pipe answers where what it reads of its two scripts gives the answers `firsts` and `seconds`
-abbrev pub Joined : (pipe : Paired) → List (Answer ℤ) → List (Answer ℤ) → List (Answer (Item (Two pipe))) → Type 0
-Joined Chain firsts seconds out = (part : Part) × Joins First firsts seconds out part
-Joined Or firsts seconds out = Rows (map (λ _. true) out) firsts seconds out
-Joined Zip firsts seconds out = (held : Option ℤ) × Pairs firsts seconds out held
+abbrev pub PipesTwo : (pipe : Paired) → List (Answer ℤ) → List (Answer ℤ) → List (Answer (PipeItem (Two pipe))) → Type 0
+PipesTwo Chain firsts seconds out = (part : Part) × Joins First firsts seconds out part
+PipesTwo Or firsts seconds out = MergeRows (map (λ _. true) out) firsts seconds out
+PipesTwo Zip firsts seconds out = (held : Option ℤ) × Pairs firsts seconds out held
 
 -- the pipe over the scripts answers this list
-abbrev pub Answers : (pipe : Pipe) → List (List (Answer ℤ)) → List (Answer (Item pipe)) → Type 0
-Answers (One pipe) (script ∷ []) out = (ins rest : List (Answer ℤ)) × Gives script ins rest × Pipes pipe ins out
-Answers (Two pipe) (first ∷ second ∷ []) out =
-    (firsts seconds rest rest' : List (Answer ℤ)) × Gives (read_by pipe first) firsts rest × Gives (read_by pipe second) seconds rest'
-    × Joined pipe firsts seconds out
-Answers pipe scripts out = ⊥
+abbrev pub PipeAnswers : (pipe : Pipe) → List (List (Answer ℤ)) → List (Answer (PipeItem pipe)) → Type 0
+PipeAnswers (One pipe) (script ∷ []) out =
+    (ins rest : List (Answer ℤ)) × GivesScript script ins rest × Pipes pipe ins out
+PipeAnswers (Two pipe) (first ∷ second ∷ []) out =
+    (firsts seconds rest rest' : List (Answer ℤ)) × GivesScript (read_by pipe first) firsts rest
+    × GivesScript (read_by pipe second) seconds rest'
+    × PipesTwo pipe firsts seconds out
+PipeAnswers pipe scripts out = ⊥
 
 -- a line of as many answers of the pipe as there are polls
 pub record Prints (pipe : Pipe) (scripts : List (List (Answer ℤ))) (polls : ℕ) (line : List ℕ) : Type 0 where
-  pub out : List (Answer (Item pipe))
-  pub answers : Answers pipe scripts out
+  pub out : List (Answer (PipeItem pipe))
+  pub answers : PipeAnswers pipe scripts out
   pub all_polls : length out ≡ polls
   pub spells : line ≡ spelled_list (text_of pipe) out ++ 10 ∷ []
 
@@ -87,7 +92,7 @@ pub record Served (words : List (List ℕ)) (old new : Option (List ℕ)) : Type
   pub pipe : Pipe
   pub polls : ℕ
   pub scripts : List (List (Answer ℤ))
-  pub asks : Asks words pipe polls scripts
+  pub asks : IsRequest words pipe polls scripts
   pub line : List ℕ
   pub prints : Prints pipe scripts polls line
   pub written : Appends old new line

@@ -1,11 +1,11 @@
 //! The words of the program, read.
-ghost use Rattle.std.specs.Prelude.{◌≡◌, ◌≢◌, ◌==◌, ◌≤◌, ◌<◌, ◌++◌, ◌∷◌, [], All, List, length, ℕ, ℤ, map, take};
-ghost use Rattle.std.specs.Prelude.{decimal, string_bytes, IfOk, IfErr, IsOkUnless, MatchOption, MatchResult};
+ghost use Rattle.std.specs.Prelude.{◌≡◌, ◌≢◌, ◌==◌, ◌≤◌, ◌<◌, ◌++◌, ◌∷◌, [], All, length, ℕ, ℤ, map, take, decimal};
+ghost use Rattle.std.specs.Prelude.{string_bytes, IfOk, IfErr, IsOkUnless, MatchOption, MatchResult};
 ghost use Rattle.std.specs.Fmt.{signed_decimal};
 ghost use Rattle.std.specs.List.{slice_split};
 ghost use Rattle.lite_base.specs.Answers.{Answer};
-ghost use Rattle.pollrun.specs.Request.{Asks, IsScript, IsShort, IsWritten, name_of, scripts_of};
-ghost use Rattle.pollrun.specs.Job.{Takes, pipe_in, scripts_in};
+ghost use Rattle.pollrun.specs.Request.{IsRequest, IsScript, IsShort, IsWritten, name_of, scripts_of};
+ghost use Rattle.pollrun.specs.Job.{IsJob, pipe_in, scripts_in};
 ghost use Rattle.pollrun.specs.Spelling.{spelled, spelled_list};
 ghost use Rattle.pollrun.specs.declared.fault.Fault.TheVariants.{Arguments, Output};
 
@@ -74,8 +74,9 @@ impl Request {
     /// Reads the words from left to right. `Fault::Arguments` says that they are no request, `Fault::Memory` that
     /// there was none for a script.
     pub fn read(alloc: Global, words: &[String]) -> Result<Request, Fault>
-        ensures read { IfOk result (λ r. Asks (map string_bytes words.now) (pipe_in r.job) r.polls (scripts_in r.job)) }
-        ensures refused { result ≡ Err Arguments → (pipe : _) (polls : _) (scripts : _) → Asks (map string_bytes words.now) pipe polls scripts → ⊥ }
+        ensures read { IfOk result (λ r. IsRequest (map string_bytes words.now) (pipe_in r.job) r.polls (scripts_in r.job)) }
+        ensures refused { result ≡ Err Arguments → (pipe : _) (polls : _) (scripts : _)
+            → IsRequest (map string_bytes words.now) pipe polls scripts → ⊥ }
         ensures failed { IfErr result (λ fault. fault ≢ Output) }
     {
         let [pipe, polls, scripts @ ..] = words else {
@@ -93,7 +94,7 @@ impl Request {
 }
 
 fn job_of(alloc: Global, pipe: Pipe, scripts: &[String]) -> Result<Job, Fault>
-    ensures read { IfOk result (λ job. Takes pipe (map string_bytes scripts.now) job) }
+    ensures read { IfOk result (λ job. IsJob pipe (map string_bytes scripts.now) job) }
     ensures refused { result ≡ Err Arguments → (l : _) → length l ≡ scripts_of pipe → All IsScript l
         → map string_bytes scripts.now ≢ map (spelled_list signed_decimal) l }
     ensures failed { IfErr result (λ fault. fault ≢ Output) }
@@ -126,7 +127,8 @@ fn pipe_of(word: &str) -> Option<Pipe>
 }
 
 fn polls_of(word: &str) -> Option<usize>
-    ensures { MatchOption result ((n : ℕ) → n ≤ 1000 → word.now ≢ decimal n) (λ n. (n ≤ 1000) × (word.now ≡ decimal n)) }
+    ensures { MatchOption result ((n : ℕ) → n ≤ 1000 → word.now ≢ decimal n)
+        (λ n. (n ≤ 1000) × (word.now ≡ decimal n)) }
 {
     match word.parse::<usize>() {
         Ok(n) if n <= MOST && Buffer::new().format(n) == word => Some(n),
@@ -135,7 +137,8 @@ fn polls_of(word: &str) -> Option<usize>
 }
 
 fn number_of(word: &str) -> Option<i32>
-    ensures { MatchOption result ((z : ℤ) → IsShort z → word.now ≢ signed_decimal z) (λ z. IsShort z × (word.now ≡ signed_decimal z)) }
+    ensures { MatchOption result ((z : ℤ) → IsShort z → word.now ≢ signed_decimal z)
+        (λ z. IsShort z × (word.now ≡ signed_decimal z)) }
 {
     match word.parse::<i32>() {
         Ok(z) if -LARGEST <= z && z <= LARGEST && Buffer::new().format(z) == word => Some(z),

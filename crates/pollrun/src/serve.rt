@@ -5,7 +5,7 @@ ghost use Rattle.std.specs.Io.KnownBytes.{Appends, Keeps};
 ghost use Rattle.lite_base.specs.Answers.{Answer};
 ghost use Rattle.pollrun.specs.Fault.{line_of as line_of_fault};
 ghost use Rattle.pollrun.specs.Job.{pipe_in, scripts_in};
-ghost use Rattle.pollrun.specs.Request.{Asks};
+ghost use Rattle.pollrun.specs.Request.{IsRequest};
 ghost use Rattle.pollrun.specs.Served.{Prints, Served, is_even as evenness};
 ghost use Rattle.pollrun.specs.declared.fault.Fault.TheVariants.{Arguments, Output};
 ghost use Rattle.pollrun.specs.Spelling.{spelled_list};
@@ -38,7 +38,8 @@ pub fn serve<A: Write, B: Write>(
     err: &mut B,
 ) -> u8
     ensures printed { result ≡ 0 → Served (map string_bytes words.now) (A.contents out.old) (A.contents out.new) }
-    ensures refused { result ≡ 2 → (pipe : _) (polls : _) (scripts : _) → Asks (map string_bytes words.now) pipe polls scripts → ⊥ }
+    ensures refused { result ≡ 2 → (pipe : _) (polls : _) (scripts : _) → IsRequest (map string_bytes words.now) pipe polls scripts
+        → ⊥ }
     ensures silent { result ≡ 2 → Keeps (A.contents out.old) (A.contents out.new) }
     ensures status { result ≤ 2 }
 {
@@ -66,7 +67,8 @@ fn answer<A: Write>(
     out: &mut A,
 ) -> Result<(), Fault>
     ensures printed { IfOk result (λ _. Served (map string_bytes words.now) (A.contents out.old) (A.contents out.new)) }
-    ensures refused { result ≡ Err Arguments → (pipe : _) (polls : _) (scripts : _) → Asks (map string_bytes words.now) pipe polls scripts → ⊥ }
+    ensures refused { result ≡ Err Arguments → (pipe : _) (polls : _) (scripts : _)
+        → IsRequest (map string_bytes words.now) pipe polls scripts → ⊥ }
     ensures silent { result ≡ Err Arguments → Keeps (A.contents out.old) (A.contents out.new) }
 {
     let request = Request::read(alloc, words)?;
@@ -89,7 +91,8 @@ fn print<A: Write>(line: &str, out: &mut A) -> Result<(), Fault>
 }
 
 fn line_for(alloc: Global, cx: &mut Context<'_>, request: Request) -> Result<String, AllocError>
-    ensures { IfOk result (λ line. Prints (pipe_in request.job) (scripts_in request.job) request.polls (string_bytes line)) }
+    ensures { IfOk result
+        (λ line. Prints (pipe_in request.job) (scripts_in request.job) request.polls (string_bytes line)) }
 {
     let Request { polls, job } = request;
     match job {
@@ -157,7 +160,8 @@ where
     S: Stream + Drop,
     S::Item: HasText,
     requires { S.can_poll stream }
-    ensures { IfOk result (λ line. (out : List (Answer S.Item)) × (last : S) × S.run stream out last × (length out ≡ polls)
+    ensures { IfOk result
+        (λ line. (out : List (Answer S.Item)) × (last : S) × S.run stream out last × (length out ≡ polls)
         × (string_bytes line ≡ spelled_list S.Item.text out ++ 10 ∷ [])) }
 {
     let mut answers = Vec::new(alloc);

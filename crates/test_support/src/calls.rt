@@ -5,10 +5,11 @@ ghost use Rattle.std.specs.List.{Contains};
 ghost use Rattle.std.specs.declared.io.ErrorKind.TheVariants.{OutOfMemory};
 ghost use Rattle.futures.specs.declared.task.Poll.TheVariants.{Ready};
 ghost use Rattle.lite_io_base.specs.Kinds.{by_kind as kind_of};
-ghost use Rattle.lite_io_base.specs.Marks.{Mark};
-ghost use Rattle.lite_io_base.specs.Takings.{Taking};
-ghost use Rattle.lite_io_base.specs.Takings.Taking.{closed, flushed};
-ghost use Rattle.test_support.specs.Calls.{IsRefusal, Reads, ReadsRoom, Refused, Tells, Writes, finish_marks};
+ghost use Rattle.lite_io_base.specs.Marks.{ReadMark};
+ghost use Rattle.lite_io_base.specs.Takings.{WriteMark};
+ghost use Rattle.lite_io_base.specs.Takings.WriteMark.{closed, flushed};
+ghost use Rattle.test_support.specs.Calls.{LeavesMarks, ReadTold, ReadsRoom, Refused, SaysRefused, WriteTold};
+ghost use Rattle.test_support.specs.Calls.{finish_marks};
 
 use futures::task::{Doorbell, Solo};
 use lite_base::Poll;
@@ -34,8 +35,8 @@ pub fn by_kind<T>(polled: Poll<io::Result<T>>) -> Poll<Result<T, ErrorKind>>
 
 /// The answer, or an error where it says that memory was refused.
 pub fn told<T: Drop>(answer: Poll<Result<T, ErrorKind>>) -> io::Result<Poll<Result<T, ErrorKind>>>
-    ensures ok { IfOk result (λ same. (same ≡ answer) × (IsRefusal answer → ⊥)) }
-    ensures err { IfErr result (λ _. IsRefusal answer) }
+    ensures ok { IfOk result (λ same. (same ≡ answer) × (SaysRefused answer → ⊥)) }
+    ensures err { IfErr result (λ _. SaysRefused answer) }
 {
     match answer {
         Poll::Ready(Err(ErrorKind::OutOfMemory)) => Err(io::Error::from(ErrorKind::OutOfMemory)),
@@ -49,7 +50,7 @@ pub fn try_read<R, S>(rt: &R, reader: &mut S, buf: &mut [u8]) -> io::Result<Answ
 where
     R: RandomSource + AllocGlobal,
     S: AsyncRead,
-    ensures ran { IfOk result (λ answer. Reads S.reads reader.old answer buf.new reader.new) }
+    ensures ran { IfOk result (λ answer. ReadTold S.reads reader.old answer buf.new reader.new) }
     ensures err { IfErr result (λ _. reader.new ≡ reader.old) }
 {
     let solo = Solo::new(rt, Doorbell::spinning())?;
@@ -70,7 +71,8 @@ pub fn try_read_both<R, S>(
 where
     R: RandomSource + AllocGlobal,
     S: AsyncRead,
-    ensures ran { IfOk result (λ answer. ReadsRoom S.reads reader.old (length first.old + length second.old) answer reader.new) }
+    ensures ran { IfOk result
+        (λ answer. ReadsRoom S.reads reader.old (length first.old + length second.old) answer reader.new) }
     ensures err { IfErr result (λ _. reader.new ≡ reader.old) }
 {
     let solo = Solo::new(rt, Doorbell::spinning())?;
@@ -86,9 +88,9 @@ pub fn read<R, S>(rt: &R, reader: &mut S, buf: &mut [u8]) -> io::Result<Answered
 where
     R: RandomSource + AllocGlobal,
     S: AsyncRead,
-    ensures ran { IfOk result (λ answer. Reads S.reads reader.old answer buf.new reader.new) }
-    ensures found { IfOk result (λ answer. IsRefusal answer → ⊥) }
-    ensures err { IfErr result (λ _. Refused S.reads Mark.fault reader.old reader.new) }
+    ensures ran { IfOk result (λ answer. ReadTold S.reads reader.old answer buf.new reader.new) }
+    ensures found { IfOk result (λ answer. SaysRefused answer → ⊥) }
+    ensures err { IfErr result (λ _. Refused S.reads ReadMark.fault reader.old reader.new) }
 {
     told(try_read(rt, reader, buf)?)
 }
@@ -98,8 +100,8 @@ pub fn reads_byte<R, S>(rt: &R, reader: &mut S, byte: u8) -> io::Result<bool>
 where
     R: RandomSource + AllocGlobal,
     S: AsyncRead,
-    ensures ran { IfOk result (λ is. Tells S.reads reader.old is (Mark.byte byte ∷ []) reader.new) }
-    ensures err { IfErr result (λ _. Refused S.reads Mark.fault reader.old reader.new) }
+    ensures ran { IfOk result (λ is. LeavesMarks S.reads reader.old is (ReadMark.byte byte ∷ []) reader.new) }
+    ensures err { IfErr result (λ _. Refused S.reads ReadMark.fault reader.old reader.new) }
 {
     let mut buf = [0u8];
     let answer = read(rt, reader, &mut buf)?;
@@ -112,7 +114,7 @@ pub fn try_write<R, S>(rt: &R, writer: &mut S, bytes: &[u8]) -> io::Result<Answe
 where
     R: RandomSource + AllocGlobal,
     S: AsyncWrite,
-    ensures ran { IfOk result (λ answer. Writes S.writes writer.old answer bytes.now writer.new) }
+    ensures ran { IfOk result (λ answer. WriteTold S.writes writer.old answer bytes.now writer.new) }
     ensures err { IfErr result (λ _. writer.new ≡ writer.old) }
 {
     let solo = Solo::new(rt, Doorbell::spinning())?;
@@ -132,7 +134,7 @@ pub fn try_write_both<R, S>(
 where
     R: RandomSource + AllocGlobal,
     S: AsyncWrite,
-    ensures ran { IfOk result (λ answer. Writes S.writes writer.old answer (first.now ++ second.now) writer.new) }
+    ensures ran { IfOk result (λ answer. WriteTold S.writes writer.old answer (first.now ++ second.now) writer.new) }
     ensures err { IfErr result (λ _. writer.new ≡ writer.old) }
 {
     let solo = Solo::new(rt, Doorbell::spinning())?;
@@ -164,17 +166,17 @@ pub fn write<R, S>(rt: &R, writer: &mut S, bytes: &[u8]) -> io::Result<Answered>
 where
     R: RandomSource + AllocGlobal,
     S: AsyncWrite,
-    ensures ran { IfOk result (λ answer. Writes S.writes writer.old answer bytes.now writer.new) }
-    ensures found { IfOk result (λ answer. IsRefusal answer → ⊥) }
-    ensures err { IfErr result (λ _. Refused S.writes Taking.fault writer.old writer.new) }
+    ensures ran { IfOk result (λ answer. WriteTold S.writes writer.old answer bytes.now writer.new) }
+    ensures found { IfOk result (λ answer. SaysRefused answer → ⊥) }
+    ensures err { IfErr result (λ _. Refused S.writes WriteMark.fault writer.old writer.new) }
 {
     told(try_write(rt, writer, bytes)?)
 }
 
 /// Whether a flush or a close is done. An error: memory was refused.
 pub fn is_done(polled: Poll<io::Result<()>>) -> io::Result<bool>
-    ensures ok { IfOk result (λ is. Decides is (polled ≡ Ready (Ok tt)) × (IsRefusal (kind_of polled) → ⊥)) }
-    ensures err { IfErr result (λ _. IsRefusal (kind_of polled)) }
+    ensures ok { IfOk result (λ is. Decides is (polled ≡ Ready (Ok tt)) × (SaysRefused (kind_of polled) → ⊥)) }
+    ensures err { IfErr result (λ _. SaysRefused (kind_of polled)) }
 {
     Ok(matches!(told(by_kind(polled))?, Poll::Ready(Ok(()))))
 }
@@ -185,8 +187,8 @@ pub fn finishes<R, S>(rt: &R, writer: &mut S) -> io::Result<bool>
 where
     R: RandomSource + AllocGlobal,
     S: AsyncWrite,
-    ensures ran { IfOk result (λ is. Tells S.writes writer.old is (flushed ∷ closed ∷ []) writer.new) }
-    ensures err { IfErr result (λ _. Refused S.writes Taking.fault writer.old writer.new) }
+    ensures ran { IfOk result (λ is. LeavesMarks S.writes writer.old is (flushed ∷ closed ∷ []) writer.new) }
+    ensures err { IfErr result (λ _. Refused S.writes WriteMark.fault writer.old writer.new) }
 {
     let solo = Solo::new(rt, Doorbell::spinning())?;
     let mut cx = solo.begin();
@@ -199,7 +201,7 @@ where
 #[tactic(auto, using(crate::proofs::Finish::second_refused))]
 fn are_done(was_flushed: Poll<io::Result<()>>, was_closed: Poll<io::Result<()>>) -> io::Result<bool>
     ensures ok { IfOk result (λ are. Decides are (finish_marks was_flushed was_closed ≡ flushed ∷ closed ∷ [])) }
-    ensures err { IfErr result (λ _. Contains (finish_marks was_flushed was_closed) (Taking.fault OutOfMemory)) }
+    ensures err { IfErr result (λ _. Contains (finish_marks was_flushed was_closed) (WriteMark.fault OutOfMemory)) }
 {
     Ok(is_done(was_flushed)? && is_done(was_closed)?)
 }

@@ -1,7 +1,7 @@
 //! Reads into room of their own, and what was read or lent beside what was wanted.
 ghost use Rattle.std.specs.Prelude.{◌≡◌, IfErr, IfOk};
 ghost use Rattle.std.specs.Bool.{Decides};
-ghost use Rattle.test_support.specs.Calls.{Gives, HasGiven, LendsOf, ReadsRoom};
+ghost use Rattle.test_support.specs.Calls.{GivesRead, HasGiven, LendsOf, ReadsRoom};
 
 use crate::calls::{Answered, try_read};
 use futures::task::{Doorbell, Solo};
@@ -29,7 +29,7 @@ pub fn gives<R, S>(rt: &R, reader: &mut S, room: usize, bytes: &[u8]) -> io::Res
 where
     R: RandomSource + AllocGlobal,
     S: AsyncRead,
-    ensures ran { IfOk result (λ is. Gives S.reads reader.old room is bytes.now reader.new) }
+    ensures ran { IfOk result (λ is. GivesRead S.reads reader.old room is bytes.now reader.new) }
     ensures err { IfErr result (λ _. reader.new ≡ reader.old) }
 {
     let mut buf = vec![in rt.alloc(); 0u8; room]?;

@@ -1,7 +1,7 @@
 //! Journals and cursors to begin with, and entries.
 ghost use Rattle.std.specs.Prelude.{◌≡◌, [], IfOk};
 ghost use Rattle.std.specs.Bool.{Decides};
-ghost use Rattle.lite_bridge.specs.Cursor.{inner_of, position_of};
+ghost use Rattle.lite_bridge.specs.Cursor.{cursor_inner, position_of};
 ghost use Rattle.lite_journal.specs.Entry.{Told, asked_of, told_of};
 ghost use Rattle.test_support.specs.Entries.{AreAnswers, AreCalls};
 
@@ -18,7 +18,7 @@ pub fn got(alloc: Global, bytes: &[u8]) -> Result<Answer, AllocError>
 
 /// A cursor at the front of a vector of these bytes.
 pub fn cursor_on(alloc: Global, bytes: &[u8]) -> Result<Cursor<Vec<u8>>, AllocError>
-    ensures { IfOk result (λ cursor. ((inner_of cursor).items ≡ bytes.now) × (position_of cursor ≡ 0)) }
+    ensures { IfOk result (λ cursor. ((cursor_inner cursor).items ≡ bytes.now) × (position_of cursor ≡ 0)) }
 {
     Ok(Cursor::new(Vec::from_slice(alloc, bytes)?))
 }
@@ -26,7 +26,8 @@ pub fn cursor_on(alloc: Global, bytes: &[u8]) -> Result<Cursor<Vec<u8>>, AllocEr
 /// A journal of such a cursor, without entries.
 pub fn journal_on(alloc: Global, bytes: &[u8]) -> Result<Journal<Cursor<Vec<u8>>>, AllocError>
     ensures entries { IfOk result (λ journal. journal.notes ≡ []) }
-    ensures stream { IfOk result (λ journal. ((inner_of journal.stream).items ≡ bytes.now) × (position_of journal.stream ≡ 0)) }
+    ensures stream { IfOk result
+        (λ journal. ((cursor_inner journal.stream).items ≡ bytes.now) × (position_of journal.stream ≡ 0)) }
 {
     match Journal::new(alloc, cursor_on(alloc, bytes)?) {
         Ok(journal) => Ok(journal),

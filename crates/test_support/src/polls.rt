@@ -1,6 +1,6 @@
 //! What polls of a stream or a future answer, in a task of their own.
 ghost use Rattle.std.specs.Prelude.{◌≡◌, IfOk, length, Some};
-ghost use Rattle.test_support.specs.Polled.{Polled};
+ghost use Rattle.test_support.specs.Polled.{PolledUpTo};
 ghost use Rattle.futures.specs.declared.task.Poll.TheVariants.{Ready};
 
 use futures::task::{Doorbell, Solo};
@@ -36,7 +36,7 @@ where
     R: RandomSource + AllocGlobal,
     F: Future<Output: Drop>,
     requires { F.can_poll future.old }
-    ensures { IfOk result (λ out. F.run future.old out.items future.new × Polled polls out.items) }
+    ensures { IfOk result (λ out. F.run future.old out.items future.new × PolledUpTo polls out.items) }
 {
     let solo = Solo::new(rt, Doorbell::spinning())?;
     let mut out = Vec::new(rt.alloc());

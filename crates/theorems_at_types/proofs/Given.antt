@@ -4,16 +4,18 @@ use Rattle.futures.specs.declared.task.Poll.{Poll}
 use Rattle.futures.specs.declared.task.Poll.TheVariants.{Ready, Pending}
 use Rattle.lite_base.specs.Answers.{Answer, Gives, UpToValue, end, strip}
 use Rattle.lite_interleave.specs.Interleaving.{GivesWhole, Interleaves, items_given}
-use Rattle.lite_source.specs.Script.{Gives as Scripts}
+use Rattle.lite_source.specs.Script.{GivesScript as Scripts}
 
-none_left : {A : Type 0} (own t : List (Answer A)) (l : List A) → Scripts [] (own ++ end ∷ []) t → strip own ≡ map Some l → l ≡ []
+none_left : {A : Type 0} (own t : List (Answer A)) (l : List A) → Scripts [] (own ++ end ∷ []) t
+    → strip own ≡ map Some l → l ≡ []
 none_left own t [] h e = refl
 none_left [] t (x ∷ l) h e = absurd (cc e)
 none_left (Pending ∷ own) t (x ∷ l) h e = absurd (cc h.0)
 none_left (Ready None ∷ own) t (x ∷ l) h e = absurd (cc e)
 none_left (Ready (Some y) ∷ own) t (x ∷ l) h e = absurd (cc h.0)
 
-script_given : {A : Type 0} (s own t : List (Answer A)) (l : List A) → Scripts s (own ++ end ∷ []) t → strip own ≡ map Some l → l ≡ items_given s
+script_given : {A : Type 0} (s own t : List (Answer A)) (l : List A) → Scripts s (own ++ end ∷ []) t
+    → strip own ≡ map Some l → l ≡ items_given s
 script_given [] own t l h e = none_left own t l h e
 script_given (Pending ∷ s) [] t l h e = absurd (cc h.0)
 script_given (Ready None ∷ s) [] t [] h e = refl
@@ -42,13 +44,16 @@ given_last (Ready y ∷ []) x u = absurd (cc u)
 given_last (Ready y ∷ b ∷ l) x u = absurd (cc u)
 
 -- what two scripts gave whole are the items of each before its first end
-pub scripts_given : {A : Type 0} (s t u v : List (Answer A)) (firsts seconds all : List A) → GivesWhole Scripts s firsts t → GivesWhole Scripts u seconds v
+pub scripts_given : {A : Type 0} (s t u v : List (Answer A)) (firsts seconds all : List A)
+    → GivesWhole Scripts s firsts t → GivesWhole Scripts u seconds v
     → Interleaves firsts seconds all → Interleaves (items_given s) (items_given u) all
 scripts_given s t u v firsts seconds all h k merged =
-    subst (λ l. Interleaves (items_given s) l all) (script_whole u v seconds k) (subst (λ l. Interleaves l seconds all) (script_whole s t firsts h) merged)
+    subst (λ l. Interleaves (items_given s) l all) (script_whole u v seconds k)
+    (subst (λ l. Interleaves l seconds all) (script_whole s t firsts h) merged)
 
 -- a value that was popped off all answers is the one that was given
-pub given_popped : {A : Type 0} (all l : List (Poll A)) (a : Poll A) (x : A) → all ≡ l ++ a ∷ [] → a ≡ Ready x → UpToValue all → Gives all x
+pub given_popped : {A : Type 0} (all l : List (Poll A)) (a : Poll A) (x : A) → all ≡ l ++ a ∷ [] → a ≡ Ready x
+    → UpToValue all → Gives all x
 given_popped all l a x e is u =
     let last : all ≡ l ++ Ready x ∷ [] = e ∙ ap (λ b. l ++ b ∷ []) is in
     subst (λ k. Gives k x) (sym last) (given_last l x (subst (λ k. UpToValue k) last u))

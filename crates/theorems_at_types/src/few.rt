@@ -1,4 +1,4 @@
-ghost use Rattle.theorems_at_types.specs.Few.{HoldsAll, HoldsItems};
+ghost use Rattle.theorems_at_types.specs.Few.{HoldsItems, TallHolds};
 
 use futures_lite::stream::Gather;
 use std::alloc::Global;
@@ -49,7 +49,7 @@ pub struct Tall<T> {
 impl<T> Gather<T> for Tall<T> {
     type Alloc = Room;
 
-    ghost holds = { HoldsAll };
+    ghost holds = { TallHolds };
 
     fn empty(alloc: Room) -> Tall<T> {
         Tall {

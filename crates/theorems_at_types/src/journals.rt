@@ -1,9 +1,9 @@
 //! Journals of streams whose clones equal their originals: each is a run from its start.
 ghost use Rattle.std.specs.Prelude.{◌≡◌, List, ℕ};
-ghost use Rattle.lite_bridge.specs.Cursor.{Moves, Overwrites};
-ghost use Rattle.lite_io_base.specs.Parts.{Parts};
+ghost use Rattle.lite_bridge.specs.Cursor.{CursorReads, CursorWrites};
+ghost use Rattle.lite_io_base.specs.Parts.{PartsInOrder};
 ghost use Rattle.lite_io_base.specs.Runs.{Idle};
-ghost use Rattle.lite_io_base.specs.Told.{Told};
+ghost use Rattle.lite_io_base.specs.Told.{TellsScript};
 ghost use Rattle.lite_journal.specs.Entry.{parts_in};
 
 use futures_lite::io::{BytesLike, Cursor, Journal};
@@ -44,14 +44,15 @@ impl BytesLike for Plain {
 
 /// How many entries there are. By its contract they lead a reader that is told from the start to what it is now.
 pub fn entries_of_marks(journal: &Journal<Marks>) -> usize
-    ensures { Parts Told Idle journal.now.start (parts_in journal.now.notes) journal.now.stream }
+    ensures { PartsInOrder TellsScript Idle journal.now.start (parts_in journal.now.notes) journal.now.stream }
 {
     journal.entries().len()
 }
 
 /// How many entries there are. By its contract they lead a cursor on such bytes from the start to what it is now.
 pub fn entries_of_cursor(journal: &Journal<Cursor<Plain>>) -> usize
-    ensures { Parts (Moves (λ p. p)) (Overwrites (λ _ _ _ _. ⊥) (λ _ _. ⊥)) journal.now.start (parts_in journal.now.notes) journal.now.stream }
+    ensures { PartsInOrder (CursorReads (λ p. p)) (CursorWrites (λ _ _ _ _. ⊥) (λ _ _. ⊥)) journal.now.start
+        (parts_in journal.now.notes) journal.now.stream }
 {
     journal.entries().len()
 }

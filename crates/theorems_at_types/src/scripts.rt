@@ -24,7 +24,8 @@ pub fn or_collected<R>(
 ) -> io::Result<Option<Vec<u8>>>
 where
     R: RandomSource + AllocGlobal,
-    ensures { IfOk result (λ given. IfSome given (λ v. Interleaves (items_given first.items) (items_given second.items) v.items)) }
+    ensures { IfOk result
+        (λ given. IfSome given (λ v. Interleaves (items_given first.items) (items_given second.items) v.items)) }
 {
     let mut future = collect_or(script(first), script(second), rt.alloc());
     let mut answers = polled(rt, &mut future, polls)?;
@@ -45,7 +46,8 @@ pub fn race_collected<R, G>(
 where
     R: RandomSource + AllocGlobal,
     G: Rng + Drop,
-    ensures { IfOk result (λ given. IfSome given (λ v. Interleaves (items_given first.items) (items_given second.items) v.items)) }
+    ensures { IfOk result
+        (λ given. IfSome given (λ v. Interleaves (items_given first.items) (items_given second.items) v.items)) }
 {
     let mut future = collect_race(script(first), script(second), rng, rt.alloc());
     let mut answers = polled(rt, &mut future, polls)?;

@@ -3,9 +3,10 @@ use Rattle.std.specs.Prelude.{◌≡◌, List, ◌++◌, map, Option, Some, None
 use Rattle.futures.specs.declared.task.Poll.{Poll}
 use Rattle.lite_base.specs.Answers.{Waiting}
 use Rattle.lite_base.specs.Future.Finishes.{Finishes}
+use Rattle.lite_base.specs.Runs.{Runs}
 
 -- each answer of the future goes out as what is `shown` of it, and `Later` are the answers after its value
-module _ {F A B : Type 0} (run : F → List (Poll A) → F → Type 0) (shown : Poll A → Poll B) (Later : List (Poll B) → Type 0) where
+module _ {F A B : Type 0} (run : Runs (Poll A) F) (shown : Poll A → Poll B) (Later : List (Poll B) → Type 0) where
   -- the future gave its list up to its value, and then there were later answers
   pub record Spent (f : F) (out : List (Poll B)) : Type 0 where
     pub ins : List (Poll A)
@@ -16,7 +17,7 @@ module _ {F A B : Type 0} (run : F → List (Poll A) → F → Type 0) (shown : 
     pub joined : out ≡ map shown ins ++ after
 
   -- by whether there is still a future, before and after
-  abbrev pub Spends : Option F → List (Poll B) → Option F → Type 0
+  abbrev pub Spends : Runs (Poll B) (Option F)
   Spends None out y = Later out × (y ≡ None)
   Spends (Some f) out (Some g) = (ins : List (Poll A)) × Waiting ins × run f ins g × (out ≡ map shown ins)
   Spends (Some f) out None = Spent f out

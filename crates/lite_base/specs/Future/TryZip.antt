@@ -6,6 +6,7 @@ use Rattle.lite_base.specs.Future.Half.{Stands}
 use Rattle.lite_base.specs.Future.Together.{Together}
 use Rattle.lite_base.specs.declared.future.half.Half.{Half}
 use Rattle.lite_base.specs.declared.future.half.Half.TheVariants.{Asked}
+use Rattle.lite_base.specs.Runs.{Runs}
 
 -- the pair of two values, and else the first of the errors
 abbrev pub try_pair : {A B E : Type 0} → Result A E → Result B E → Result (A × B) E
@@ -15,7 +16,8 @@ try_pair (Err e) b = Err e
 
 -- One failed, in the last row, and its error goes out. The other stands in each row, or in each but the last
 -- `unasked` rows, and is left as it stands.
-pub record Fails {F G A B C E : Type 0} (run : F → List (Poll (Result A E)) → F → Type 0) (run_other : G → List (Poll (Result B E)) → G → Type 0) (unasked : ℕ)
+pub record Fails {F G A B C E : Type 0} (run : Runs (Poll (Result A E)) F) (run_other : Runs (Poll (Result B E)) G)
+    (unasked : ℕ)
     (x : Half F A) (u : Half G B) (out : List (Poll (Result C E))) (y : Half F A) (v : Half G B) : Type 0 where
   pub before : F
   pub was_asked : x ≡ Asked before
@@ -31,7 +33,7 @@ pub record Fails {F G A B C E : Type 0} (run : F → List (Poll (Result A E)) �
   pub gives : Gives out (Err error)
 
 -- no error, or one of the first, beside which the second is not asked, or one of the second
-abbrev pub TryZips : {F G A B E : Type 0} → (F → List (Poll (Result A E)) → F → Type 0) → (G → List (Poll (Result B E)) → G → Type 0)
+abbrev pub TryZips : {F G A B E : Type 0} → Runs (Poll (Result A E)) F → Runs (Poll (Result B E)) G
     → Half F A → Half G B → List (Poll (Result (A × B) E)) → Half F A → Half G B → Type 0
 TryZips run_first run_second x u out y v =
     Together (λ a. Ok a) (λ b. Ok b) try_pair run_first run_second x u out y v

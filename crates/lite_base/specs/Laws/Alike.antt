@@ -1,11 +1,14 @@
 -- Futures that are alike, by their values.
-use Rattle.std.proofs.Common.{◌≡◌, inl, inr, ◌≤◌, List, [], ◌∷◌, length, Option, Some, None, ap, refl, subst, sym, arith}
+use Rattle.std.proofs.Common.{◌≡◌, inl, inr, ◌≤◌, List, [], ◌∷◌, length, Option, Some, None, ap, refl, subst, sym}
+use Rattle.std.proofs.Common.{arith}
 use Rattle.futures.specs.declared.task.Poll.{Poll}
 use Rattle.futures.specs.declared.task.Poll.TheVariants.{Ready, Pending}
 use Rattle.std.specs.Prelude.{⊤}
-use Rattle.lite_base.specs.Alike.{AlikeBy, Either, MadeOf, OptionBy, Optional, Pairwise, SameAnswer, SameHeld, SameItem, Sameness}
+use Rattle.lite_base.specs.Alike.{AlikeBy, Either, MadeOf, OptionBy, Optional, Pairwise, SameAnswer, SameHeld, SameItem}
+use Rattle.lite_base.specs.Alike.{Sameness}
 use Rattle.lite_base.specs.Answers.{ComparableBy, Gives, UpToValue, strip}
 use Rattle.lite_base.specs.Future.Finishes.{Finishes}
+use Rattle.lite_base.specs.Runs.{Runs}
 
 module _ {A : Type 0} where
   pub comparable_nil : (same : A → A → Type 0) (l : List A) → ComparableBy same l []
@@ -13,7 +16,8 @@ module _ {A : Type 0} where
   comparable_nil same (a ∷ l) = tt
 
   -- lists of at most one value, by that value
-  pub by_value : {same : A → A → Type 0} (i j : List A) → length i ≤ 1 → length j ≤ 1 → ((v w : A) → i ≡ v ∷ [] → j ≡ w ∷ [] → same v w) → ComparableBy same i j
+  pub by_value : {same : A → A → Type 0} (i j : List A) → length i ≤ 1 → length j ≤ 1
+      → ((v w : A) → i ≡ v ∷ [] → j ≡ w ∷ [] → same v w) → ComparableBy same i j
   by_value [] j few fewer value = tt
   by_value (v ∷ []) [] few fewer value = tt
   by_value (v ∷ []) (w ∷ []) few fewer value = (value v w refl refl, tt)
@@ -31,26 +35,31 @@ module _ {A : Type 0} where
   up_to_gives (Ready y ∷ l) v u e = ((cc), u)
 
 -- finished runs of the two give values that are the same
-abbrev pub AgreesBy : {F A : Type 0} → (A → A → Type 0) → (F → List (Poll A) → F → Type 0) → F → F → Type 0
+abbrev pub AgreesBy : {F A : Type 0} → (A → A → Type 0) → Runs (Poll A) F → F → F → Type 0
 AgreesBy {F} {A} same run x y = (l m : List (Poll A)) (v w : A) → Finishes run x l v → Finishes run y m w → same v w
 
 -- one value
-abbrev pub Agrees : {F A : Type 0} → (F → List (Poll A) → F → Type 0) → F → F → Type 0
+abbrev pub Agrees : {F A : Type 0} → Runs (Poll A) F → F → F → Type 0
 Agrees = AgreesBy (λ v w. v ≡ w)
 
-pub alike_agrees : {F A : Type 0} {same : A → A → Type 0} (run : F → List (Poll A) → F → Type 0) (x y : F) → AlikeBy same run x y → AgreesBy same run x y
+pub alike_agrees : {F A : Type 0} {same : A → A → Type 0} (run : Runs (Poll A) F) (x y : F) → AlikeBy same run x y
+    → AgreesBy same run x y
 alike_agrees {same} run x y e l m v w h k =
-    let c : ComparableBy same (v ∷ []) (strip m) = subst (λ i. ComparableBy same i (strip m)) (gives_strip l v h.gives) (e l m h.last k.last h.came k.came) in
-    let d : ComparableBy same (v ∷ []) (w ∷ []) = subst (λ j. ComparableBy same (v ∷ []) j) (gives_strip m w k.gives) c in
+    let c : ComparableBy same (v ∷ []) (strip m) =
+    subst (λ i. ComparableBy same i (strip m)) (gives_strip l v h.gives) (e l m h.last k.last h.came k.came) in
+    let d : ComparableBy same (v ∷ []) (w ∷ []) =
+    subst (λ j. ComparableBy same (v ∷ []) j) (gives_strip m w k.gives) c in
     d.0
 
 -- lists that are the same in one way are in a weaker one
-pub comparable_as : {A : Type 0} (same want : A → A → Type 0) → ((x y : A) → same x y → want x y) → (l m : List A) → ComparableBy same l m → ComparableBy want l m
+pub comparable_as : {A : Type 0} (same want : A → A → Type 0) → ((x y : A) → same x y → want x y) → (l m : List A)
+    → ComparableBy same l m → ComparableBy want l m
 comparable_as same want weaker [] m c = tt
 comparable_as same want weaker (x ∷ l) [] c = tt
 comparable_as same want weaker (x ∷ l) (y ∷ m) c = (weaker x y c.0, comparable_as same want weaker l m c.1)
 
-pub option_as : {A : Type 0} (same want : A → A → Type 0) → ((x y : A) → same x y → want x y) → (x y : Option A) → OptionBy same x y → OptionBy want x y
+pub option_as : {A : Type 0} (same want : A → A → Type 0) → ((x y : A) → same x y → want x y) → (x y : Option A)
+    → OptionBy same x y → OptionBy want x y
 option_as same want weaker None None c = tt
 option_as same want weaker None (Some y) c = absurd c
 option_as same want weaker (Some x) None c = absurd c
@@ -92,7 +101,8 @@ pub same_answer : {A : Type 0} (same : Sameness A) (x y : A) → SameItem same x
 same_answer Sameness.equal x y e = ap (λ v. Some v) e
 same_answer (Sameness.by same) x y e = e
 
-pub optional_same : {A : Type 0} (same : Sameness A) (x y : Option A) → SameAnswer same x y → SameItem (Optional same) x y
+pub optional_same : {A : Type 0} (same : Sameness A) (x y : Option A) → SameAnswer same x y
+    → SameItem (Optional same) x y
 optional_same Sameness.equal x y e = e
 optional_same (Sameness.by same) x y e = e
 
@@ -104,19 +114,22 @@ pub same_held : {A : Type 0} (same : Sameness A) (x y : Option A) → SameAnswer
 same_held Sameness.equal x y e = sym e
 same_held (Sameness.by same) x y e = e
 
-pub pairs_same : {A B : Type 0} (same : Sameness A) (other : Sameness B) (p q : A × B) → SameItem same p.0 q.0 → SameItem other p.1 q.1 → SameItem (Pairwise same other) p q
+pub pairs_same : {A B : Type 0} (same : Sameness A) (other : Sameness B) (p q : A × B) → SameItem same p.0 q.0
+    → SameItem other p.1 q.1 → SameItem (Pairwise same other) p q
 pairs_same Sameness.equal Sameness.equal p q e d = λ i. (e i, d i)
 pairs_same Sameness.equal (Sameness.by other) p q e d = (e, d)
 pairs_same (Sameness.by same) Sameness.equal p q e d = (e, d)
 pairs_same (Sameness.by same) (Sameness.by other) p q e d = (e, d)
 
 -- what is made of items that are the same is the same, where of each one thing alone is made
-pub made_same : {A B : Type 0} (same : Sameness A) (makes : A → B → Type 0) → ((x : A) (y z : B) → makes x y → makes x z → y ≡ z)
+pub made_same : {A B : Type 0} (same : Sameness A) (makes : A → B → Type 0)
+    → ((x : A) (y z : B) → makes x y → makes x z → y ≡ z)
     → (x w : A) (y z : B) → SameItem same x w → makes x y → makes w z → SameItem (MadeOf same makes) y z
 made_same Sameness.equal makes one x w y z e c d = one x y z c (subst (λ v. makes v z) (sym e) d)
 made_same (Sameness.by same) makes one x w y z e c d = (x, w, e, c, d)
 
-either_left : {A : Type 0} (same other : Sameness A) (x y : Option A) → SameAnswer same x y → SameAnswer (Either same other) x y
+either_left : {A : Type 0} (same other : Sameness A) (x y : Option A) → SameAnswer same x y
+    → SameAnswer (Either same other) x y
 either_left Sameness.equal Sameness.equal x y e = e
 either_left Sameness.equal (Sameness.by other) None None e = tt
 either_left Sameness.equal (Sameness.by other) None (Some y) e = absurd (cc e)
@@ -131,7 +144,8 @@ either_left (Sameness.by same) (Sameness.by other) None (Some y) e = e
 either_left (Sameness.by same) (Sameness.by other) (Some x) None e = e
 either_left (Sameness.by same) (Sameness.by other) (Some x) (Some y) e = inl e
 
-either_right : {A : Type 0} (same other : Sameness A) (x y : Option A) → SameAnswer other x y → SameAnswer (Either same other) x y
+either_right : {A : Type 0} (same other : Sameness A) (x y : Option A) → SameAnswer other x y
+    → SameAnswer (Either same other) x y
 either_right Sameness.equal Sameness.equal x y e = e
 either_right (Sameness.by same) Sameness.equal None None e = tt
 either_right (Sameness.by same) Sameness.equal None (Some y) e = absurd (cc e)
@@ -146,11 +160,14 @@ either_right (Sameness.by same) (Sameness.by other) None (Some y) e = e
 either_right (Sameness.by same) (Sameness.by other) (Some x) None e = e
 either_right (Sameness.by same) (Sameness.by other) (Some x) (Some y) e = inr e
 
-pub either_first : {A : Type 0} (same other : Sameness A) (l m : List (Option A)) → ComparableBy (SameAnswer same) l m → ComparableBy (SameAnswer (Either same other)) l m
+pub either_first : {A : Type 0} (same other : Sameness A) (l m : List (Option A)) → ComparableBy (SameAnswer same) l m
+    → ComparableBy (SameAnswer (Either same other)) l m
 either_first same other = comparable_as (SameAnswer same) (SameAnswer (Either same other)) (either_left same other)
 
-pub either_second : {A : Type 0} (same other : Sameness A) (l m : List (Option A)) → ComparableBy (SameAnswer other) l m → ComparableBy (SameAnswer (Either same other)) l m
+pub either_second : {A : Type 0} (same other : Sameness A) (l m : List (Option A)) → ComparableBy (SameAnswer other) l m
+    → ComparableBy (SameAnswer (Either same other)) l m
 either_second same other = comparable_as (SameAnswer other) (SameAnswer (Either same other)) (either_right same other)
 
-pub option_by : {A : Type 0} (same : A → A → Type 0) (x y : Option A) (u v : A) → OptionBy same x y → x ≡ Some u → y ≡ Some v → same u v
+pub option_by : {A : Type 0} (same : A → A → Type 0) (x y : Option A) (u v : A) → OptionBy same x y → x ≡ Some u
+    → y ≡ Some v → same u v
 option_by same x y u v h e d = rw (e, d) at h

@@ -1,8 +1,8 @@
 ghost use Rattle.std.specs.Prelude.{◌≡◌, ◌∷◌, [], IfSome, Some};
-ghost use Rattle.futures.specs.Poll.{OnPending};
-ghost use Rattle.futures.specs.Task.{Holds, Keeps, Lasting};
-ghost use Rattle.lite_base.specs.Future.Fuse.{Fuses};
+ghost use Rattle.futures.specs.Task.{Keeps};
+ghost use Rattle.lite_base.specs.Future.Fuse.{FutureFuses};
 ghost use Rattle.lite_base.specs.Laws.Future.Fuse.{fuses_laws};
+ghost use Rattle.lite_base.specs.Registered.{Registered};
 
 use super::Future;
 use crate::{Context, Poll};
@@ -20,17 +20,17 @@ impl<F: Future + Drop> Future for Fuse<F> {
 
     ghost can_poll = { λ x. IfSome x.inner F.can_poll };
 
-    ghost run = { Fuses F.run };
+    ghost run = { FutureFuses F.run };
 
-    ghost leaves = { λ x fact. (f : F) × (x.inner ≡ Some f) × F.leaves f fact };
+    ghost registers = { λ x fact. (f : F) × (x.inner ≡ Some f) × F.registers f fact };
 
     ghost laws = { fuses_laws F.run F.laws };
 
     fn poll(&mut self, cx: &mut Context<'_>) -> Poll<F::Output>
         requires { IfSome self.old.inner F.can_poll }
-        ensures ran { Fuses F.run self.old (result ∷ []) self.new }
+        ensures ran { FutureFuses F.run self.old (result ∷ []) self.new }
         ensures again { IfSome self.new.inner F.can_poll }
-        ensures left { OnPending result ((fact : Lasting) → ((f : F) × (self.new.inner ≡ Some f) × F.leaves f fact) → Holds cx.new fact) }
+        ensures left { Registered result (λ fact. (f : F) × (self.new.inner ≡ Some f) × F.registers f fact) cx.new }
         ensures kept { Keeps cx.old cx.new }
     {
         let Some(future) = &mut self.inner else {

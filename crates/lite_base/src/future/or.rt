@@ -1,5 +1,5 @@
 ghost use Rattle.std.specs.Prelude.{◌⊎◌};
-ghost use Rattle.lite_base.specs.Future.Or.{Ors};
+ghost use Rattle.lite_base.specs.Future.Or.{FutureOrs};
 ghost use Rattle.lite_base.specs.Laws.Future.Or.{ors_laws};
 
 use super::Future;
@@ -21,9 +21,9 @@ impl<F1: Future, F2: Future<Output = F1::Output>> Future for Or<F1, F2> {
 
     ghost can_poll = { λ x. F1.can_poll x.future1 × F2.can_poll x.future2 };
 
-    ghost run = { Ors F1.run F2.run };
+    ghost run = { FutureOrs F1.run F2.run };
 
-    ghost leaves = { λ x fact. F1.leaves x.future1 fact ⊎ F2.leaves x.future2 fact };
+    ghost registers = { λ x fact. F1.registers x.future1 fact ⊎ F2.registers x.future2 fact };
 
     ghost laws = { ors_laws F1.laws F2.laws };
 

@@ -1,8 +1,9 @@
-ghost use Rattle.std.specs.Prelude.{◌≡◌, ◌⊎◌, List, []};
+ghost use Rattle.std.specs.Prelude.{◌⊎◌, List, []};
 ghost use Rattle.futures.specs.Poll.{OnPending};
-ghost use Rattle.futures.specs.Task.{Holds, Keeps, Lasting};
+ghost use Rattle.futures.specs.Task.{Keeps};
 ghost use Rattle.futures.specs.declared.task.Poll.{Poll};
-ghost use Rattle.lite_base.specs.Future.Picks.{Row};
+ghost use Rattle.lite_base.specs.Future.Picks.{PickRow};
+ghost use Rattle.lite_base.specs.Registered.{Registered};
 
 use super::Future;
 use crate::{Context, Poll};
@@ -18,9 +19,10 @@ where
     G: Future<Output = F::Output>,
     requires first { F.can_poll first.old }
     requires second { G.can_poll second.old }
-    ensures row { (i j : List (Poll F.Output)) × F.run first.old i first.new × G.run second.old j second.new × Row i j result [] [] }
+    ensures row { (i j : List (Poll F.Output)) × F.run first.old i first.new × G.run second.old j second.new
+        × PickRow i j result [] [] }
     ensures again { OnPending result (F.can_poll first.new × G.can_poll second.new) }
-    ensures left { OnPending result ((fact : Lasting) → (F.leaves first.new fact ⊎ G.leaves second.new fact) → Holds cx.new fact) }
+    ensures left { Registered result (λ fact. F.registers first.new fact ⊎ G.registers second.new fact) cx.new }
     ensures kept { Keeps cx.old cx.new }
 {
     match first.poll(cx) {

@@ -1,5 +1,5 @@
 ghost use Rattle.lite_base.specs.Answers.{Waiting};
-ghost use Rattle.lite_base.specs.Future.Calls.{AlwaysObeys, Leaves, Polled};
+ghost use Rattle.lite_base.specs.Future.Calls.{AlwaysObeys, CallRegisters, Polled};
 ghost use Rattle.lite_base.specs.Laws.Future.Calls.{polled_laws};
 
 use super::Future;
@@ -20,7 +20,7 @@ impl<T, F: FnMut(&mut Context<'_>) -> Poll<T>> Future for PollFn<F> {
 
     ghost run = { λ x l y. Polled F.FnMut x.f l y.f };
 
-    ghost leaves = { λ x. Leaves F.FnMut x.f };
+    ghost registers = { λ x. CallRegisters F.FnMut x.f };
 
     ghost laws = { polled_laws F.FnMut };
 

@@ -1,5 +1,5 @@
 ghost use Rattle.std.specs.Prelude.{◌⊎◌};
-ghost use Rattle.lite_base.specs.Future.Race.{RacesOn};
+ghost use Rattle.lite_base.specs.Future.Race.{FutureRacesOn};
 ghost use Rattle.lite_base.specs.Laws.Future.Race.{races_laws};
 
 use super::Future;
@@ -29,9 +29,9 @@ where
 
     ghost can_poll = { λ x. F1.can_poll x.future1 × F2.can_poll x.future2 };
 
-    ghost run = { RacesOn F1.run F2.run G.stream };
+    ghost run = { FutureRacesOn F1.run F2.run G.stream };
 
-    ghost leaves = { λ x fact. F1.leaves x.future1 fact ⊎ F2.leaves x.future2 fact };
+    ghost registers = { λ x fact. F1.registers x.future1 fact ⊎ F2.registers x.future2 fact };
 
     ghost laws = { races_laws F1.run F2.run G.stream F1.laws F2.laws };
 

@@ -2,11 +2,11 @@ ghost use Rattle.futures.specs.declared.task.Poll.{Poll};
 ghost use Rattle.lite_base.specs.Alike.{Alike, OptionBy, Pairwise, Sameness};
 ghost use Rattle.lite_base.specs.Answers.{Waiting};
 ghost use Rattle.lite_base.specs.Future.Calls.{Polled};
-ghost use Rattle.lite_base.specs.Future.Fuse.{Fuses};
+ghost use Rattle.lite_base.specs.Future.Fuse.{FutureFuses};
 ghost use Rattle.lite_base.specs.Future.Half.{HalvesBy};
 ghost use Rattle.lite_base.specs.Future.Ready.{GivesHeld};
 ghost use Rattle.lite_base.specs.Future.YieldNow.{YieldsOnce};
-ghost use Rattle.lite_base.specs.Future.Zip.{Zips};
+ghost use Rattle.lite_base.specs.Future.Zip.{FutureZips};
 ghost use Rattle.lite_base.specs.Laws.Future.Calls.{polled_steady};
 ghost use Rattle.lite_base.specs.Laws.Future.Fuse.{fuses_steady};
 ghost use Rattle.lite_base.specs.Laws.Future.Pending.{waits_steady};
@@ -14,7 +14,8 @@ ghost use Rattle.lite_base.specs.Laws.Future.Ready.{held_steady};
 ghost use Rattle.lite_base.specs.Laws.Future.YieldNow.{yields_steady};
 ghost use Rattle.lite_base.specs.Laws.Future.Zip.{zips_steady};
 ghost use Rattle.lite_base.specs.Steady.{FutureSteadyLawsBy};
-ghost use Rattle.std.specs.Prelude.{List, ⊤, ◌≡◌};
+ghost use Rattle.lite_base.specs.Runs.{Runs};
+ghost use Rattle.std.specs.Prelude.{⊤, ◌≡◌};
 
 use super::{Fuse, Future, Pending, PollFn, Ready, YieldNow, Zip};
 use crate::{Context, Poll};
@@ -24,7 +25,7 @@ use crate::{Context, Poll};
 /// The original has no such trait: it is a law, which its documentation leaves unsaid.
 pub trait SteadyFuture: Future {
     /// The runs in which no memory was refused.
-    ghost ample: { Self → List (Poll Self.Output) → Self → Type 0 };
+    ghost ample: { Runs (Poll Self.Output) Self };
 
     /// That no poll asks for memory; then each run is ample.
     ghost needs_none: { Type 0 } = { ⊤ };
@@ -42,7 +43,7 @@ pub trait SteadyFuture: Future {
 }
 
 impl<F: SteadyFuture + Drop> SteadyFuture for Fuse<F> {
-    ghost ample = { Fuses F.ample };
+    ghost ample = { FutureFuses F.ample };
 
     ghost needs_none = { F.needs_none };
 
@@ -91,7 +92,7 @@ where
     F1: SteadyFuture<Output: Drop> + Drop,
     F2: SteadyFuture<Output: Drop> + Drop,
 {
-    ghost ample = { λ x l y. Zips F1.ample F2.ample x.first x.second l y.first y.second };
+    ghost ample = { λ x l y. FutureZips F1.ample F2.ample x.first x.second l y.first y.second };
 
     ghost needs_none = { F1.needs_none × F2.needs_none };
 

@@ -31,7 +31,7 @@ where
 
     ghost run = { λ x l y. TryZips F1.run F2.run x.first x.second l y.first y.second };
 
-    ghost leaves = { λ x fact. IsAskedAnd x.first (λ f. F1.leaves f fact) ⊎ IsAskedAnd x.second (λ f. F2.leaves f fact) };
+    ghost registers = { λ x fact. IsAskedAnd x.first (λ f. F1.registers f fact) ⊎ IsAskedAnd x.second (λ f. F2.registers f fact) };
 
     ghost laws = { try_zips_laws F1.run F2.run F1.laws F2.laws };
 

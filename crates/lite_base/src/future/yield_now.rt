@@ -19,7 +19,7 @@ impl Future for YieldNow {
 
     ghost run = { λ x l y. YieldsOnce x.yielded l y.yielded };
 
-    ghost leaves = { λ x fact. (fact ≡ Lasting.armed) ⊎ ((source : ℕ) × (fact ≡ Lasting.hears source)) };
+    ghost registers = { λ x fact. (fact ≡ Lasting.armed) ⊎ ((source : ℕ) × (fact ≡ Lasting.hears source)) };
 
     ghost laws = { yields_laws };
 

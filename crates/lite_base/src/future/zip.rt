@@ -1,6 +1,6 @@
 ghost use Rattle.std.specs.Prelude.{◌⊎◌};
 ghost use Rattle.lite_base.specs.Future.Half.{CanAsk, IsAskedAnd};
-ghost use Rattle.lite_base.specs.Future.Zip.{Zips};
+ghost use Rattle.lite_base.specs.Future.Zip.{FutureZips};
 ghost use Rattle.lite_base.specs.Laws.Future.Zip.{zips_laws};
 
 use super::Future;
@@ -26,9 +26,9 @@ where
 
     ghost can_poll = { λ x. CanAsk F1.can_poll x.first × CanAsk F2.can_poll x.second };
 
-    ghost run = { λ x l y. Zips F1.run F2.run x.first x.second l y.first y.second };
+    ghost run = { λ x l y. FutureZips F1.run F2.run x.first x.second l y.first y.second };
 
-    ghost leaves = { λ x fact. IsAskedAnd x.first (λ f. F1.leaves f fact) ⊎ IsAskedAnd x.second (λ f. F2.leaves f fact) };
+    ghost registers = { λ x fact. IsAskedAnd x.first (λ f. F1.registers f fact) ⊎ IsAskedAnd x.second (λ f. F2.registers f fact) };
 
     ghost laws = { zips_laws F1.laws F2.laws };
 

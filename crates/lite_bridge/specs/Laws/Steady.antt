@@ -4,34 +4,41 @@ use Rattle.std.specs.Prelude.{⊤}
 use Rattle.lite_base.specs.Answers.{Comparable}
 use Rattle.lite_io_base.specs.Laws.Steady.{no_wait_bytes, told_no_wait, told_one_tale}
 use Rattle.lite_io_base.specs.Laws.Steps.{steps_laws}
-use Rattle.lite_io_base.specs.Marks.{Mark, bytes as marks_of}
-use Rattle.lite_io_base.specs.Steady.{CalmReadLaws, SteadyReadLaws, steady_read_always, unhurried}
-use Rattle.lite_io_base.specs.Told.{Told}
+use Rattle.lite_io_base.specs.Marks.{ReadMark, bytes as marks_of}
+use Rattle.lite_io_base.specs.Steady.{CalmReadLaws, SteadyReadLaws, steady_read_always, strip_marks}
+use Rattle.lite_io_base.specs.Told.{TellsScript}
 use Rattle.lite_bridge.specs.declared.cursor.Cursor.{Cursor}
-use Rattle.lite_bridge.specs.Cursor.{Moves, ReadStep, left}
+use Rattle.lite_bridge.specs.Cursor.{CursorReads, ReadStep, bytes_left}
 
 module _ {T : Type 0} (bytes : T → List ℕ) where
   -- what is left is what is told
-  moves_told : (x y : Cursor T) (l : List Mark) → Moves bytes x l y → Told (marks_of (left bytes x)) l (marks_of (left bytes y))
-  moves_told x y [] h = ap (λ c. marks_of (left bytes c)) h
-  moves_told x y (Mark.byte b ∷ l) h = rw h.1.0 (refl, moves_told h.0 y l h.2)
-  moves_told x y (Mark.end ∷ l) h =
-      let rest = subst (λ c. Told (marks_of (left bytes c)) l (marks_of (left bytes y))) h.1.1 (moves_told h.0 y l h.2) in
+  moves_told : (x y : Cursor T) (l : List ReadMark) → CursorReads bytes x l y
+      → TellsScript (marks_of (bytes_left bytes x)) l (marks_of (bytes_left bytes y))
+  moves_told x y [] h = ap (λ c. marks_of (bytes_left bytes c)) h
+  moves_told x y (ReadMark.byte b ∷ l) h = rw h.1.0 (refl, moves_told h.0 y l h.2)
+  moves_told x y (ReadMark.end ∷ l) h =
+      let rest = subst (λ c. TellsScript (marks_of (bytes_left bytes c)) l (marks_of (bytes_left bytes y))) h.1.1
+      (moves_told h.0 y l h.2) in
       rw h.1.0 (refl, rw h.1.0 at rest)
-  moves_told x y (Mark.pending ∷ l) h = absurd h.1
-  moves_told x y (Mark.fault kind ∷ l) h = absurd h.1
+  moves_told x y (ReadMark.pending ∷ l) h = absurd h.1
+  moves_told x y (ReadMark.fault kind ∷ l) h = absurd h.1
 
-  same_left : (x y x' y' : Cursor T) (l m : List Mark) → left bytes x ≡ left bytes y → Moves bytes x l x' → Moves bytes y m y' → Comparable (unhurried l) (unhurried m)
+  same_left : (x y x' y' : Cursor T) (l m : List ReadMark) → bytes_left bytes x ≡ bytes_left bytes y
+      → CursorReads bytes x l x' → CursorReads bytes y m y' → Comparable (strip_marks l) (strip_marks m)
   same_left x y x' y' l m e h k =
-      let same = ap (λ xs. unhurried (marks_of xs)) e in
-      told_one_tale (marks_of (left bytes x)) (marks_of (left bytes y)) (marks_of (left bytes x')) (marks_of (left bytes y')) l m same (moves_told x x' l h) (moves_told y y' m k)
+      let same = ap (λ xs. strip_marks (marks_of xs)) e in
+      told_one_tale (marks_of (bytes_left bytes x)) (marks_of (bytes_left bytes y)) (marks_of (bytes_left bytes x'))
+      (marks_of (bytes_left bytes y')) l m same (moves_told x x' l h) (moves_told y y' m k)
 
-  pub cursor_steady : SteadyReadLaws (Moves bytes) (Moves bytes) ⊤ (λ x y. left bytes x ≡ left bytes y)
+  pub cursor_steady : SteadyReadLaws (CursorReads bytes) (CursorReads bytes) ⊤
+      (λ x y. bytes_left bytes x ≡ bytes_left bytes y)
   cursor_steady = steady_read_always (steps_laws (ReadStep bytes)) same_left
 
-  pub cursor_calm : CalmReadLaws (Moves bytes) (λ x. ⊤)
+  pub cursor_calm : CalmReadLaws (CursorReads bytes) (λ x. ⊤)
   cursor_calm =
       record {
-        prompt = λ x y l n h. (told_no_wait (marks_of (left bytes x)) (marks_of (left bytes y)) l (no_wait_bytes (left bytes x)) (moves_told x y l h)).0;
+        no_pending = λ x y l n h.
+            (told_no_wait (marks_of (bytes_left bytes x)) (marks_of (bytes_left bytes y)) l
+            (no_wait_bytes (bytes_left bytes x)) (moves_told x y l h)).0;
         calm_on = λ x y l n h. tt;
       }

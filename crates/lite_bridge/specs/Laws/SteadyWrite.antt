@@ -1,13 +1,14 @@
 -- Cursors over equal bytes, at one place, leave equal bytes, and none is ever pending.
-use Rattle.std.proofs.Common.{◌≡◌, ◌∙◌, ◌+◌, ℕ, List, [], ◌∷◌, ◌++◌, length, ap, refl, subst, sym, arith, add-zero, append-nil, length-append}
+use Rattle.std.proofs.Common.{◌≡◌, ◌∙◌, ◌+◌, ℕ, List, [], ◌∷◌, ◌++◌, length, ap, refl, subst, sym, arith, add-zero}
+use Rattle.std.proofs.Common.{append-nil, length-append}
 use Rattle.std.specs.Prelude.{⊤}
-use Rattle.lite_io_base.specs.SteadyWrite.{CalmWriteLaws, NeverWaits, SteadyWriteLaws}
-use Rattle.lite_io_base.specs.Takings.{Taking, bytes_of}
+use Rattle.lite_io_base.specs.SteadyWrite.{CalmWriteLaws, NoPendingWrite, SteadyWriteLaws}
+use Rattle.lite_io_base.specs.Takings.{WriteMark, bytes_taken}
 use Rattle.lite_bridge.specs.declared.cursor.Cursor.{Cursor}
-use Rattle.lite_bridge.specs.Cursor.{Overwrites}
+use Rattle.lite_bridge.specs.Cursor.{CursorWrites}
 use Rattle.lite_bridge.specs.Laws.Put.{puts_more}
-use Rattle.lite_bridge.specs.Overwrites.{OverwritesLent}
-use Rattle.lite_bridge.specs.Put.{Puts, PutsVec, PutsVecLent, Stays, StaysLent}
+use Rattle.lite_bridge.specs.Overwrites.{CursorWritesLent}
+use Rattle.lite_bridge.specs.Put.{Puts, PutsVec, PutsVecLent, VecStays, VecStaysLent}
 use Rattle.std.proofs.Common.{Global}
 use Rattle.std.specs.declared.vec.Vec.{Vec}
 use denote.MutBor.{MutBor}
@@ -18,86 +19,103 @@ puts_one a b c at [] h k = h ∙ sym k
 puts_one a b c at (x ∷ xs) h k = h ∙ sym k
 
 module _ {T : Type 0} (bytes : T → List ℕ) {puts : T → ℕ → List ℕ → T → Type 0} {refuses : T → T → Type 0}
-    (put : (x : T) (at : ℕ) (xs : List ℕ) (y : T) → puts x at xs y → Puts (bytes x) at xs (bytes y)) (stays : (x y : T) → refuses x y → bytes y ≡ bytes x) where
+    (put : (x : T) (at : ℕ) (xs : List ℕ) (y : T) → puts x at xs y → Puts (bytes x) at xs (bytes y))
+    (stays : (x y : T) → refuses x y → bytes y ≡ bytes x) where
   -- all that was taken is put where the cursor stood
-  pub record PutsAll (x : Cursor T) (l : List Taking) (y : Cursor T) : Type 0 where
-    pub all : Puts (bytes x.inner) x.position (bytes_of l) (bytes y.inner)
-    pub place : y.position ≡ x.position + length (bytes_of l)
+  pub record PutsAll (x : Cursor T) (l : List WriteMark) (y : Cursor T) : Type 0 where
+    pub all : Puts (bytes x.inner) x.position (bytes_taken l) (bytes y.inner)
+    pub place : y.position ≡ x.position + length (bytes_taken l)
 
-  puts_all : (x y : Cursor T) (l : List Taking) → Overwrites puts refuses x l y → PutsAll x l y
-  puts_all x y [] h = record { all = ap (λ c. bytes c.inner) h; place = ap (λ c. c.position) h ∙ sym (add-zero x.position) }
-  puts_all x y (Taking.wrote xs ∷ l) h =
+  puts_all : (x y : Cursor T) (l : List WriteMark) → CursorWrites puts refuses x l y → PutsAll x l y
+  puts_all x y [] h =
+      record {
+        all = ap (λ c. bytes c.inner) h;
+        place = ap (λ c. c.position) h ∙ sym (add-zero x.position);
+      }
+  puts_all x y (WriteMark.wrote xs ∷ l) h =
       let rest = puts_all h.0 y l h.2 in
       let first = put x.inner x.position xs h.0.inner h.1.0 in
       let at : h.0.position ≡ x.position + length xs = h.1.1 in
       record {
-        all = puts_more (bytes x.inner) (bytes h.0.inner) (bytes y.inner) x.position xs (bytes_of l) first (subst (λ (n : ℕ). Puts (bytes h.0.inner) n (bytes_of l) (bytes y.inner)) at rest.all);
-        place = omega (arith, rest.place, at, length-append xs (bytes_of l));
+        all = puts_more (bytes x.inner) (bytes h.0.inner) (bytes y.inner) x.position xs (bytes_taken l) first
+            (subst (λ (n : ℕ). Puts (bytes h.0.inner) n (bytes_taken l) (bytes y.inner)) at rest.all);
+        place = omega (arith, rest.place, at, length-append xs (bytes_taken l));
       }
-  puts_all x y (Taking.fault kind ∷ l) h =
+  puts_all x y (WriteMark.fault kind ∷ l) h =
       let rest = puts_all h.0 y l h.2 in
       let same = stays x.inner h.0.inner h.1.1 in
       let at : h.0.position ≡ x.position = h.1.2 in
       record {
-        all = subst (λ (n : ℕ). Puts (bytes x.inner) n (bytes_of l) (bytes y.inner)) at (subst (λ a. Puts a h.0.position (bytes_of l) (bytes y.inner)) same rest.all);
+        all = subst (λ (n : ℕ). Puts (bytes x.inner) n (bytes_taken l) (bytes y.inner)) at
+            (subst (λ a. Puts a h.0.position (bytes_taken l) (bytes y.inner)) same rest.all);
         place = omega (arith, rest.place, at);
       }
-  puts_all x y (Taking.flushed ∷ l) h = let r = subst (λ c. PutsAll c l y) h.1 (puts_all h.0 y l h.2) in record { all = r.all; place = r.place }
-  puts_all x y (Taking.closed ∷ l) h = let r = subst (λ c. PutsAll c l y) h.1 (puts_all h.0 y l h.2) in record { all = r.all; place = r.place }
-  puts_all x y (Taking.pending ∷ l) h = absurd h.1
+  puts_all x y (WriteMark.flushed ∷ l) h = let r = subst (λ c. PutsAll c l y) h.1 (puts_all h.0 y l h.2) in record {
+    all = r.all;
+    place = r.place;
+  }
+  puts_all x y (WriteMark.closed ∷ l) h = let r = subst (λ c. PutsAll c l y) h.1 (puts_all h.0 y l h.2) in record {
+    all = r.all;
+    place = r.place;
+  }
+  puts_all x y (WriteMark.pending ∷ l) h = absurd h.1
 
-  prompt : (x y : Cursor T) (l : List Taking) → Overwrites puts refuses x l y → NeverWaits l
-  prompt x y [] h = tt
-  prompt x y (Taking.wrote xs ∷ l) h = prompt h.0 y l h.2
-  prompt x y (Taking.fault kind ∷ l) h = prompt h.0 y l h.2
-  prompt x y (Taking.flushed ∷ l) h = prompt h.0 y l h.2
-  prompt x y (Taking.closed ∷ l) h = prompt h.0 y l h.2
-  prompt x y (Taking.pending ∷ l) h = absurd h.1
+  no_pending : (x y : Cursor T) (l : List WriteMark) → CursorWrites puts refuses x l y → NoPendingWrite l
+  no_pending x y [] h = tt
+  no_pending x y (WriteMark.wrote xs ∷ l) h = no_pending h.0 y l h.2
+  no_pending x y (WriteMark.fault kind ∷ l) h = no_pending h.0 y l h.2
+  no_pending x y (WriteMark.flushed ∷ l) h = no_pending h.0 y l h.2
+  no_pending x y (WriteMark.closed ∷ l) h = no_pending h.0 y l h.2
+  no_pending x y (WriteMark.pending ∷ l) h = absurd h.1
 
   abbrev pub SamePlace : Cursor T → Cursor T → Type 0
   SamePlace x y = (bytes x.inner ≡ bytes y.inner) × (x.position ≡ y.position)
 
-  pub cursor_steady_write : SteadyWriteLaws (Overwrites puts refuses) SamePlace (λ x. bytes x.inner)
+  pub cursor_steady_write : SteadyWriteLaws (CursorWrites puts refuses) SamePlace (λ x. bytes x.inner)
   cursor_steady_write =
       record {
         steady = λ x y x' y' l m e h k a b f g same.
             let p = puts_all x x' l h in
             let q = puts_all y y' m k in
-            let moved = subst (λ ys. Puts (bytes y.inner) y.position ys (bytes x'.inner)) same (subst (λ (n : ℕ). Puts (bytes y.inner) n (bytes_of l) (bytes x'.inner)) e.1 (subst (λ a. Puts a x.position (bytes_of l) (bytes x'.inner)) e.0 p.all)) in
-            let one = puts_one (bytes y.inner) (bytes x'.inner) (bytes y'.inner) y.position (bytes_of m) moved q.all in
+            let moved = subst (λ ys. Puts (bytes y.inner) y.position ys (bytes x'.inner)) same
+            (subst (λ (n : ℕ). Puts (bytes y.inner) n (bytes_taken l) (bytes x'.inner)) e.1
+            (subst (λ a. Puts a x.position (bytes_taken l) (bytes x'.inner)) e.0 p.all)) in
+            let one = puts_one (bytes y.inner) (bytes x'.inner) (bytes y'.inner) y.position
+            (bytes_taken m) moved q.all in
             let place : x'.position ≡ y'.position = omega (arith, p.place, q.place, e.1, ap length same) in
             (one, (one, place));
       }
 
-  pub cursor_calm_write : CalmWriteLaws (Overwrites puts refuses) (λ x. ⊤)
-  cursor_calm_write = record { prompt = λ x y l c h. prompt x y l h; calm_on = λ x y l c h. tt }
+  pub cursor_calm_write : CalmWriteLaws (CursorWrites puts refuses) (λ x. ⊤)
+  cursor_calm_write = record { no_pending = λ x y l c h. no_pending x y l h; calm_on = λ x y l c h. tt }
 
 -- over a slice behind a reference
 abbrev pub SameSlice : Cursor (MutBor (List ℕ)) → Cursor (MutBor (List ℕ)) → Type 0
 SameSlice x y = (x.inner.now ≡ y.inner.now) × (x.position ≡ y.position)
 
-pub slice_steady_write : SteadyWriteLaws OverwritesLent SameSlice (λ x. x.inner.now)
+pub slice_steady_write : SteadyWriteLaws CursorWritesLent SameSlice (λ x. x.inner.now)
 slice_steady_write = cursor_steady_write (λ (s : MutBor (List ℕ)). s.now) (λ x at xs y h. h.0) (λ x y h. absurd h)
 
-pub slice_calm_write : CalmWriteLaws OverwritesLent (λ x. ⊤)
+pub slice_calm_write : CalmWriteLaws CursorWritesLent (λ x. ⊤)
 slice_calm_write = cursor_calm_write (λ (s : MutBor (List ℕ)). s.now) (λ x at xs y h. h.0) (λ x y h. absurd h)
 
 -- over a vector
-abbrev pub SameVec : Cursor (Vec ℕ Global) → Cursor (Vec ℕ Global) → Type 0
-SameVec x y = (x.inner.items ≡ y.inner.items) × (x.position ≡ y.position)
+abbrev pub SameVecBytes : Cursor (Vec ℕ Global) → Cursor (Vec ℕ Global) → Type 0
+SameVecBytes x y = (x.inner.items ≡ y.inner.items) × (x.position ≡ y.position)
 
-pub vec_steady_write : SteadyWriteLaws (Overwrites PutsVec Stays) SameVec (λ x. x.inner.items)
+pub vec_steady_write : SteadyWriteLaws (CursorWrites PutsVec VecStays) SameVecBytes (λ x. x.inner.items)
 vec_steady_write = cursor_steady_write (λ (v : Vec ℕ Global). v.items) (λ x at xs y h. h) (λ x y h. h)
 
-pub vec_calm_write : CalmWriteLaws (Overwrites PutsVec Stays) (λ x. ⊤)
+pub vec_calm_write : CalmWriteLaws (CursorWrites PutsVec VecStays) (λ x. ⊤)
 vec_calm_write = cursor_calm_write (λ (v : Vec ℕ Global). v.items) (λ x at xs y h. h) (λ x y h. h)
 
 -- over a vector behind a reference
 abbrev pub SameLentVec : Cursor (MutBor (Vec ℕ Global)) → Cursor (MutBor (Vec ℕ Global)) → Type 0
 SameLentVec x y = (x.inner.now.items ≡ y.inner.now.items) × (x.position ≡ y.position)
 
-pub lent_vec_steady_write : SteadyWriteLaws (Overwrites PutsVecLent StaysLent) SameLentVec (λ x. x.inner.now.items)
-lent_vec_steady_write = cursor_steady_write (λ (v : MutBor (Vec ℕ Global)). v.now.items) (λ x at xs y h. h.0) (λ x y h. h.0)
+pub lent_vec_steady_write : SteadyWriteLaws (CursorWrites PutsVecLent VecStaysLent) SameLentVec (λ x. x.inner.now.items)
+lent_vec_steady_write =
+    cursor_steady_write (λ (v : MutBor (Vec ℕ Global)). v.now.items) (λ x at xs y h. h.0) (λ x y h. h.0)
 
-pub lent_vec_calm_write : CalmWriteLaws (Overwrites PutsVecLent StaysLent) (λ x. ⊤)
+pub lent_vec_calm_write : CalmWriteLaws (CursorWrites PutsVecLent VecStaysLent) (λ x. ⊤)
 lent_vec_calm_write = cursor_calm_write (λ (v : MutBor (Vec ℕ Global)). v.now.items) (λ x at xs y h. h.0) (λ x y h. h.0)

@@ -1,38 +1,45 @@
 -- `read_exact` of a reader of which it is known what bytes are to come.
-use Rattle.std.proofs.Common.{◌≡◌, ◌∙◌, ℕ, zero, suc, List, [], ◌∷◌, ◌++◌, length, take, drop, refl, ap, sym, subst, arith, append_assoc, append-nil}
+use Rattle.std.proofs.Common.{◌≡◌, ◌∙◌, ℕ, zero, suc, List, [], ◌∷◌, ◌++◌, length, take, drop, refl, ap, sym, subst}
+use Rattle.std.proofs.Common.{arith, append_assoc, append-nil}
 use Rattle.std.specs.Prelude.{Result, Ok, Err, IfOk}
 use Rattle.std.specs.List.{FoldsTo}
 use Rattle.std.specs.declared.io.Error.{Error}
 use Rattle.futures.specs.declared.task.Poll.{Poll}
 use Rattle.futures.specs.declared.task.Poll.TheVariants.{Ready, Pending}
 use Rattle.lite_base.specs.Answers.{Gives}
-use Rattle.lite_io_base.specs.Known.{Spends}
+use Rattle.lite_io_base.specs.Known.{TellsKnown}
 use Rattle.lite_io_base.specs.Laws.Known.{spends_bytes, spends_split}
-use Rattle.lite_io_base.specs.Marks.{Mark, bytes}
+use Rattle.lite_io_base.specs.Marks.{ReadMark, bytes}
 use Rattle.lite_read.specs.Filling.{Filling}
-use Rattle.lite_read.specs.Gathering.{Gathers}
+use Rattle.lite_read.specs.ReadFold.{ReadFolds}
 use Rattle.lite_read.specs.ReadExact.{Fulfils, fills}
 
 taken_fill : (xs : List ℕ) (p q : Filling) → FoldsTo fills.takes p xs q → (q.0 ≡ p.0 ++ xs) × (q.1 ≡ p.1)
 taken_fill [] p q h = (ap (λ (z : Filling). z.0) (sym h) ∙ sym (append-nil p.0), ap (λ (z : Filling). z.1) (sym h))
 taken_fill (x ∷ xs) p q h =
     let rest = taken_fill xs h.0 q h.2 in
-    let step = h.1.1 in
-    (rest.0 ∙ ap (λ (z : Filling). z.0 ++ xs) step ∙ append_assoc p.0 (x ∷ []) xs, rest.1 ∙ ap (λ (z : Filling). z.1) step)
+    let step = h.1.1 in (
+      rest.0 ∙ ap (λ (z : Filling). z.0 ++ xs) step ∙ append_assoc p.0 (x ∷ []) xs,
+      rest.1
+          ∙ ap (λ (z : Filling). z.1) step,
+    )
 
-full : (p : Filling) (bs ys : List ℕ) (last : List Mark) (u : Unit {0}) → Fulfils p last (Ok u) → Spends bs last ys → (length p.0 ≡ p.1) × (ys ≡ bs)
+full : (p : Filling) (bs ys : List ℕ) (last : List ReadMark) (u : Unit {0}) → Fulfils p last (Ok u)
+    → TellsKnown bs last ys → (length p.0 ≡ p.1) × (ys ≡ bs)
 full p bs ys [] u f s = (f.0, s)
-full p bs ys (Mark.end ∷ []) u f s = absurd f
-full p bs ys (Mark.end ∷ (m ∷ l)) u f s = absurd f
-full p bs ys (Mark.fault kind ∷ l) u f s = absurd s
-full p bs ys (Mark.byte b ∷ l) u f s = absurd f
-full p bs ys (Mark.pending ∷ l) u f s = absurd f
+full p bs ys (ReadMark.end ∷ []) u f s = absurd f
+full p bs ys (ReadMark.end ∷ (m ∷ l)) u f s = absurd f
+full p bs ys (ReadMark.fault kind ∷ l) u f s = absurd s
+full p bs ys (ReadMark.byte b ∷ l) u f s = absurd f
+full p bs ys (ReadMark.pending ∷ l) u f s = absurd f
 
-filled_by : (u : Unit {0}) (out : List (Poll (Result (Unit {0}) Error))) (p q : Filling) (bs ys : List ℕ) (marks : List Mark) → Gathers fills p marks out q
-    → Spends bs marks ys → Gives out (Ok u) → (zs : List ℕ) × (bs ≡ zs ++ ys) × (q.0 ≡ p.0 ++ zs) × (q.1 ≡ p.1) × (length q.0 ≡ q.1)
+filled_by : (u : Unit {0}) (out : List (Poll (Result (Unit {0}) Error))) (p q : Filling) (bs ys : List ℕ)
+    (marks : List ReadMark) → ReadFolds fills p marks out q
+    → TellsKnown bs marks ys → Gives out (Ok u) → (zs : List ℕ) × (bs ≡ zs ++ ys) × (q.0 ≡ p.0 ++ zs) × (q.1 ≡ p.1)
+    × (length q.0 ≡ q.1)
 filled_by u [] p q bs ys marks g s v = absurd v
 filled_by u (Pending ∷ out) p q bs ys marks (rest, m, w, more) s v =
-    let cut = spends_split bs ys (bytes w.taken) (Mark.pending ∷ rest) (subst (λ l. Spends bs l ys) w.cut s) in
+    let cut = spends_split bs ys (bytes w.taken) (ReadMark.pending ∷ rest) (subst (λ l. TellsKnown bs l ys) w.cut s) in
     let is = spends_bytes w.taken bs cut.0 cut.1 in
     let next = filled_by u out m q cut.0 ys rest more cut.2 v in
     let taken = taken_fill w.taken p m w.folds in (
@@ -43,7 +50,7 @@ filled_by u (Pending ∷ out) p q bs ys marks (rest, m, w, more) s v =
       next.4,
     )
 filled_by u (Ready r ∷ out) p q bs ys marks (w, none) s v =
-    let cut = spends_split bs ys (bytes w.taken) w.last (subst (λ l. Spends bs l ys) w.cut s) in
+    let cut = spends_split bs ys (bytes w.taken) w.last (subst (λ l. TellsKnown bs l ys) w.cut s) in
     let is = spends_bytes w.taken bs cut.0 cut.1 in
     let taken = taken_fill w.taken p w.between w.folds in
     let ok : Fulfils w.between w.last (Ok u) = subst (Fulfils w.between w.last) v.0 w.gives.0 in
@@ -60,7 +67,8 @@ whole_take : (k : ℕ) (xs : List ℕ) → length (take k xs) ≡ length xs → 
 whole_take zero [] e = refl
 whole_take zero (x ∷ xs) e = absurd (omega (arith, e))
 whole_take (suc k) [] e = refl
-whole_take (suc k) (x ∷ xs) e = let less : length (take k xs) ≡ length xs = omega (arith, e) in ap (λ z. x ∷ z) (whole_take k xs less)
+whole_take (suc k) (x ∷ xs) e =
+    let less : length (take k xs) ≡ length xs = omega (arith, e) in ap (λ z. x ∷ z) (whole_take k xs less)
 
 front_is : (xs ys : List ℕ) → take (length xs) (xs ++ ys) ≡ xs
 front_is [] ys = refl
@@ -71,8 +79,9 @@ rest_is [] ys = refl
 rest_is (x ∷ xs) ys = rest_is xs ys
 
 -- `read_exact`: the buffer has the bytes that came first, and the others are left
-pub exactly_read : (v : Result (Unit {0}) Error) (out : List (Poll (Result (Unit {0}) Error))) (k : ℕ) (old new bs ys : List ℕ) (marks : List Mark)
-    → Gathers fills ([], length old) marks out (take k new, length new) → Spends bs marks ys → Gives out v
+pub exactly_read : (v : Result (Unit {0}) Error) (out : List (Poll (Result (Unit {0}) Error))) (k : ℕ)
+    (old new bs ys : List ℕ) (marks : List ReadMark)
+    → ReadFolds fills ([], length old) marks out (take k new, length new) → TellsKnown bs marks ys → Gives out v
     → IfOk v (λ u. (new ≡ take (length old) bs) × (ys ≡ drop (length old) bs))
 exactly_read (Ok u) out k old new bs ys marks g s v =
     let f = filled_by u out ([], length old) (take k new, length new) bs ys marks g s v in

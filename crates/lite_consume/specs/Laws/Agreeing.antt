@@ -9,6 +9,7 @@ use Rattle.lite_base.specs.Answers.{Answer, ComparableBy, Gives, items, strip}
 use Rattle.lite_base.specs.Future.Finishes.{Finishes}
 use Rattle.lite_base.specs.Laws.Alike.{both_items, comparable_nil, gives_strip, item_same}
 use Rattle.lite_base.specs.Steady.{FutureSteadyLawsBy, SteadyLawsBy, TakesNone}
+use Rattle.lite_base.specs.Runs.{Runs}
 use Rattle.lite_consume.specs.Agreeing.{FoldSteadyLaws, Within, WithinWhere}
 use Rattle.lite_consume.specs.Consume.{Folds}
 use Rattle.lite_consume.specs.Consuming.{Consumes, Decides, Fold, TakesIn, fold_of}
@@ -17,37 +18,48 @@ use Rattle.lite_consume.specs.declared.consume.Consume.{Consume}
 
 module _ {M A R : Type 0} (fold : Fold M A R) where
   -- as Consumes, where nothing is pending
-  abbrev Made : M → List (Option A) → List R → Type 0
-  Made p [] out = out ≡ []
-  Made p (None ∷ ins) out = (r : R) × (q : M) × fold.closes p r q × (out ≡ r ∷ [])
-  Made p (Some x ∷ ins) out = ((q : M) × fold.asks p x None q × Made q ins out) ⊎ ((r : R) × (q : M) × fold.asks p x (Some r) q × (out ≡ r ∷ []))
+  abbrev ConsumesStripped : M → List (Option A) → List R → Type 0
+  ConsumesStripped p [] out = out ≡ []
+  ConsumesStripped p (None ∷ ins) out = (r : R) × (q : M) × fold.closes p r q × (out ≡ r ∷ [])
+  ConsumesStripped p (Some x ∷ ins) out = ((q : M) × fold.asks p x None q × ConsumesStripped q ins out)
+      ⊎ ((r : R) × (q : M) × fold.asks p x (Some r) q × (out ≡ r ∷ []))
 
-  after_taken : (p q : M) (taken : List A) (l : List (Answer A)) (out : List R) → FoldsTo (TakesIn fold) p taken q → Made q (strip l) out → Made p (strip (items taken ++ l)) out
-  after_taken p q [] l out e h = subst (λ v. Made v (strip l) out) (sym e) h
+  after_taken : (p q : M) (taken : List A) (l : List (Answer A)) (out : List R) → FoldsTo (TakesIn fold) p taken q
+      → ConsumesStripped q (strip l) out → ConsumesStripped p (strip (items taken ++ l)) out
+  after_taken p q [] l out e h = subst (λ v. ConsumesStripped v (strip l) out) (sym e) h
   after_taken p q (x ∷ taken) l out e h = inl (e.0, e.1, after_taken e.0 q taken l out e.2 h)
 
-  decided : (p q : M) (a : Answer A) (r : R) → Decides fold p a r q → Made p (strip (a ∷ [])) (r ∷ [])
+  decided : (p q : M) (a : Answer A) (r : R) → Decides fold p a r q → ConsumesStripped p (strip (a ∷ [])) (r ∷ [])
   decided p q Pending r h = absurd h
   decided p q (Ready None) r h = (r, q, h, refl)
   decided p q (Ready (Some x)) r h = inr (r, q, h, refl)
 
-  stripped : (p q : M) (i : List (Answer A)) (o : List (Poll R)) → Consumes fold p i o q → Made p (strip i) (strip o)
+  stripped : (p q : M) (i : List (Answer A)) (o : List (Poll R)) → Consumes fold p i o q
+      → ConsumesStripped p (strip i) (strip o)
   stripped p q i [] h = rw h.0 refl
-  stripped p q i (Pending ∷ o) h = rw h.2.cut (after_taken p h.1 h.2.taken (Pending ∷ h.0) (strip o) h.2.folds (stripped h.1 q h.0 o h.3))
+  stripped p q i (Pending ∷ o) h =
+      rw h.2.cut (after_taken p h.1 h.2.taken (Pending ∷ h.0) (strip o) h.2.folds (stripped h.1 q h.0 o h.3))
   stripped p q i (Ready r ∷ o) h =
       let last = h.0 in
-      rw (last.cut, h.1) (after_taken p last.between last.taken (last.last ∷ []) (r ∷ []) last.folds (decided last.between q last.last r last.decides))
+      rw (last.cut, h.1)
+      (after_taken p last.between last.taken (last.last ∷ []) (r ∷ []) last.folds
+      (decided last.between q last.last r last.decides))
 
 -- items that come in are compared by `like`
-module _ {M A R : Type 0} (like : Sameness A) {fold ample : Fold M A R} {none : Type 0} {agree : M → M → Type 0} {same : R → R → Type 0} (f : FoldSteadyLaws (SameItem like) fold ample none agree same) where
+module _ {M A R : Type 0} (like : Sameness A) {fold ample : Fold M A R} {none : Type 0} {agree : M → M → Type 0}
+    {same : R → R → Type 0} (f : FoldSteadyLaws (SameItem like) fold ample none agree same) where
   asked_same : (p k : M) (x w : A) (i j : List (Option A)) (o u : List R) → agree p k → SameItem like x w
-      → ((q l : M) → agree q l → Made ample q i o → Made ample l j u → ComparableBy same o u) → Made ample p (Some x ∷ i) o → Made ample k (Some w ∷ j) u → ComparableBy same o u
-  asked_same p k x w i j o u a e rest (inl h) (inl g) = rest h.0 g.0 (f.asks p k h.0 g.0 x w None None a e h.1 g.1) h.2 g.2
+      → ((q l : M) → agree q l → ConsumesStripped ample q i o → ConsumesStripped ample l j u → ComparableBy same o u)
+      → ConsumesStripped ample p (Some x ∷ i) o → ConsumesStripped ample k (Some w ∷ j) u → ComparableBy same o u
+  asked_same p k x w i j o u a e rest (inl h) (inl g) =
+      rest h.0 g.0 (f.asks p k h.0 g.0 x w None None a e h.1 g.1) h.2 g.2
   asked_same p k x w i j o u a e rest (inl h) (inr g) = absurd (f.asks p k h.0 g.1 x w None (Some g.0) a e h.1 g.2)
   asked_same p k x w i j o u a e rest (inr h) (inl g) = absurd (f.asks p k h.1 g.0 x w (Some h.0) None a e h.2 g.1)
-  asked_same p k x w i j o u a e rest (inr h) (inr g) = rw (h.3, g.3) (f.asks p k h.1 g.1 x w (Some h.0) (Some g.0) a e h.2 g.2, tt)
+  asked_same p k x w i j o u a e rest (inr h) (inr g) =
+      rw (h.3, g.3) (f.asks p k h.1 g.1 x w (Some h.0) (Some g.0) a e h.2 g.2, tt)
 
-  made_same : (p k : M) (i j : List (Option A)) (o u : List R) → agree p k → ComparableBy (SameAnswer like) i j → Made ample p i o → Made ample k j u → ComparableBy same o u
+  made_same : (p k : M) (i j : List (Option A)) (o u : List R) → agree p k → ComparableBy (SameAnswer like) i j
+      → ConsumesStripped ample p i o → ConsumesStripped ample k j u → ComparableBy same o u
   made_same p k [] j o u a c h g = rw h tt
   made_same p k (x ∷ i) [] o u a c h g = rw g (comparable_nil same o)
   made_same p k (None ∷ i) (None ∷ j) o u a c h g = rw (h.3, g.3) (f.closes p k h.1 g.1 h.0 g.0 a h.2 g.2, tt)
@@ -63,11 +75,15 @@ gives_one l v w g h =
     let d = gives_strip l w h in
     cc
 
--- If memory was found in each step but those that give another value, and the stream found it wherever its answers were such as came
+-- If memory was found in each step but those that give another value, and the stream found it wherever its answers were
+-- such as came
 -- before the value, then it was found in a run that gave no other.
-module _ {S M A R : Type 0} {run found : S → List (Answer A) → S → Type 0} {fold ample : Fold M A R} {may : R → Type 0} (Such : List (Answer A) → Type 0)
-    (told : (s t : S) (i : List (Answer A)) → Such i → run s i t → found s i t) (within : WithinWhere may fold ample) where
-  pub consumed_ample : (x y : Consume S M) (l : List (Poll R)) → ((r : R) → Gives l r → may r) → ((i : List (Answer A)) → Consumes fold x.folder i l y.folder → Such i)
+module _ {S M A R : Type 0} {run found : Runs (Answer A) S} {fold ample : Fold M A R} {may : R → Type 0}
+    (Such : List (Answer A) → Type 0)
+    (told : (s t : S) (i : List (Answer A)) → Such i → run s i t → found s i t)
+    (within : WithinWhere may fold ample) where
+  pub consumed_ample : (x y : Consume S M) (l : List (Poll R)) → ((r : R) → Gives l r → may r)
+      → ((i : List (Answer A)) → Consumes fold x.folder i l y.folder → Such i)
       → Folds run fold x l y → Folds found ample x l y
   consumed_ample x y l m such h =
       record {
@@ -77,38 +93,49 @@ module _ {S M A R : Type 0} {run found : S → List (Answer A) → S → Type 0}
       }
 
   -- one that was polled until its value
-  pub finished_ample : (x : Consume S M) (l : List (Poll R)) (value : R) → may value → ((q : M) (i : List (Answer A)) → Consumes fold x.folder i l q → Such i)
+  pub finished_ample : (x : Consume S M) (l : List (Poll R)) (value : R) → may value
+      → ((q : M) (i : List (Answer A)) → Consumes fold x.folder i l q → Such i)
       → Finishes (Folds run fold) x l value → Finishes (Folds found ample) x l value
   finished_ample x l value m such f =
       record {
         gives = f.gives;
         last = f.last;
-        came = consumed_ample x f.last l (λ r g. subst may (gives_one l value r f.gives g) m) (such f.last.folder) f.came;
+        came = consumed_ample x f.last l (λ r g. subst may (gives_one l value r f.gives g) m)
+            (such f.last.folder) f.came;
       }
 
 -- where no poll of the stream asks for any
-pub finished_taking_none : {S M A R : Type 0} {run found : S → List (Answer A) → S → Type 0} {fold ample : Fold M A R} {may : R → Type 0} → TakesNone run found → WithinWhere may fold ample
-    → (x : Consume S M) (l : List (Poll R)) (value : R) → may value → Finishes (Folds run fold) x l value → Finishes (Folds found ample) x l value
-finished_taking_none takes within x l value m = finished_ample (λ i. ⊤) (λ s t i u. takes s t i) within x l value m (λ q i h. tt)
+pub finished_taking_none : {S M A R : Type 0} {run found : Runs (Answer A) S} {fold ample : Fold M A R}
+    {may : R → Type 0} → TakesNone run found → WithinWhere may fold ample
+    → (x : Consume S M) (l : List (Poll R)) (value : R) → may value → Finishes (Folds run fold) x l value
+    → Finishes (Folds found ample) x l value
+finished_taking_none takes within x l value m =
+    finished_ample (λ i. ⊤) (λ s t i u. takes s t i) within x l value m (λ q i h. tt)
 
 -- over a steady stream, a fold whose values agree
-pub consumed_steady : {S M A R : Type 0} {run found : S → List (Answer A) → S → Type 0} {fold ample : Fold M A R} {none none' : Type 0} {alike : S → S → Type 0} {agree : M → M → Type 0} (like : Sameness A) (same : Sameness R)
+pub consumed_steady : {S M A R : Type 0} {run found : Runs (Answer A) S} {fold ample : Fold M A R} {none none' : Type 0}
+    {alike : S → S → Type 0} {agree : M → M → Type 0} (like : Sameness A) (same : Sameness R)
     → SteadyLawsBy like run found none alike → FoldSteadyLaws (SameItem like) fold ample none' agree (SameItem same)
-    → FutureSteadyLawsBy same (Folds run fold) (Folds found ample) (none × none') (λ (x y : Consume S M). alike x.stream y.stream × agree x.folder y.folder)
+    → FutureSteadyLawsBy same (Folds run fold) (Folds found ample) (none × none')
+    (λ (x y : Consume S M). alike x.stream y.stream × agree x.folder y.folder)
 consumed_steady {ample = ample} like same s f =
     record {
       laws = consumed_laws ample s.laws;
       steady = λ x y e l m x' y' h k.
-          made_same like f x.folder y.folder (strip h.ins) (strip k.ins) (strip l) (strip m) e.1 (s.steady x.stream y.stream e.0 h.ins k.ins x'.stream y'.stream h.came k.came)
+          made_same like f x.folder y.folder (strip h.ins) (strip k.ins) (strip l) (strip m) e.1
+          (s.steady x.stream y.stream e.0 h.ins k.ins x'.stream y'.stream h.came k.came)
           (stripped ample x.folder x'.folder h.ins l h.consumed) (stripped ample y.folder y'.folder k.ins m k.consumed);
-      found = λ n x y l h. consumed_ample (λ i. ⊤) (λ v w i u. s.found n.0 v w i) (f.found n.1) x y l (λ r g. tt) (λ i c. tt) h;
+      found = λ n x y l h. consumed_ample (λ i. ⊤) (λ v w i u. s.found n.0 v w i) (f.found n.1) x y l (λ r g. tt)
+          (λ i c. tt) h;
     }
 
 -- a fold of a part
-pub part_within : {N M A R : Type 0} (part : N → M) {may : R → Type 0} {fold ample : Fold M A R} → WithinWhere may fold ample → WithinWhere may (fold_of part fold) (fold_of part ample)
+pub part_within : {N M A R : Type 0} (part : N → M) {may : R → Type 0} {fold ample : Fold M A R}
+    → WithinWhere may fold ample → WithinWhere may (fold_of part fold) (fold_of part ample)
 part_within part w = record { asks = λ p q. w.asks (part p) (part q); closes = λ p q. w.closes (part p) (part q) }
 
-pub part_steady : {N M A R : Type 0} (part : N → M) {fold ample : Fold M A R} {none : Type 0} {agree : M → M → Type 0} {like : A → A → Type 0} {same : R → R → Type 0} → FoldSteadyLaws like fold ample none agree same
+pub part_steady : {N M A R : Type 0} (part : N → M) {fold ample : Fold M A R} {none : Type 0} {agree : M → M → Type 0}
+    {like : A → A → Type 0} {same : R → R → Type 0} → FoldSteadyLaws like fold ample none agree same
     → FoldSteadyLaws like (fold_of part fold) (fold_of part ample) none (λ x y. agree (part x) (part y)) same
 part_steady part f =
     record {

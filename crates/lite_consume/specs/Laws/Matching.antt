@@ -3,9 +3,12 @@ use Rattle.std.specs.Prelude.{⊤, Result, Ok, Err, IsErr, IsSome, Bool, true, f
 use Rattle.std.proofs.Common.{◌≡◌, ◌∙◌, Option, Some, None, inl, inr, refl, ap, subst, sym, arith}
 use Rattle.lite_base.specs.Alike.{OptionBy, Optional, SameAnswer, SameHeld, SameItem, Sameness}
 use Rattle.lite_base.specs.Calling.{Agree, AgreeFrom, AgreeKeeping, Keeping, Kin}
-use Rattle.lite_base.specs.Laws.Alike.{both_items, ends_same, held_same, option_by, optional_same, same_answer, same_held}
-use Rattle.lite_base.specs.Laws.Calling.{MatchesFrom, agree_from_matches, agree_matches, keeping_from, kin_agree, kin_answers, kin_matches, matches_from}
-use Rattle.lite_consume.specs.Agreeing.{Both, FoldSteadyLaws}
+use Rattle.lite_base.specs.Laws.Alike.{both_items, ends_same, held_same, option_by, optional_same, same_answer}
+use Rattle.lite_base.specs.Laws.Alike.{same_held}
+use Rattle.lite_base.specs.Laws.Calling.{MatchesFrom, agree_from_matches, agree_matches, keeping_from, kin_agree}
+use Rattle.lite_base.specs.Laws.Calling.{kin_answers, kin_matches, matches_from}
+use Rattle.lite_base.specs.Runs.{Question}
+use Rattle.lite_consume.specs.Agreeing.{FoldSteadyLaws, SameDecision}
 use Rattle.lite_consume.specs.All.{alls}
 use Rattle.lite_consume.specs.Any.{anys}
 use Rattle.lite_consume.specs.Consuming.{Fold}
@@ -14,7 +17,7 @@ use Rattle.lite_consume.specs.Find.{finds}
 use Rattle.lite_consume.specs.FindMap.{finds_map}
 use Rattle.lite_consume.specs.Fold.{folds}
 use Rattle.lite_consume.specs.ForEach.{calls_each}
-use Rattle.lite_consume.specs.Kin.{AgreeDeciding, AgreeOrKin, Beside, Giving, KinGive}
+use Rattle.lite_consume.specs.Kin.{AgreeBeside, AgreeDeciding, AgreeOrKin, Giving, KinGive}
 use Rattle.lite_consume.specs.Last.{lasts}
 use Rattle.lite_consume.specs.Laws.Agreeing.{within_itself}
 use Rattle.lite_consume.specs.Next.{nexts}
@@ -22,15 +25,17 @@ use Rattle.lite_consume.specs.Nth.{nths}
 use Rattle.lite_consume.specs.Position.{positions}
 use Rattle.lite_consume.specs.TryFold.{tries_fold}
 use Rattle.lite_consume.specs.TryForEach.{tries_each}
-use Rattle.lite_consume.specs.TryNext.{SameNext, TryGiven, item_of, tries_next}
+use Rattle.lite_consume.specs.TryNext.{SameNext, TryNextItem, next_item_of, tries_next}
 
 -- a fold that takes no memory
 abbrev Steady : {M A R : Type 0} → (A → A → Type 0) → (R → R → Type 0) → Fold M A R → (M → M → Type 0) → Type 0
 Steady like same fold agree = FoldSteadyLaws like fold fold ⊤ agree same
 
-module _ {M A R : Type 0} (like : A → A → Type 0) (same : R → R → Type 0) (fold : Fold M A R) (agree : M → M → Type 0) where
+module _ {M A R : Type 0} (like : A → A → Type 0) (same : R → R → Type 0) (fold : Fold M A R)
+    (agree : M → M → Type 0) where
   abbrev SameAsked : Type 0
-  SameAsked = (p k q l : M) (x w : A) (o u : Option R) → agree p k → like x w → fold.asks p x o q → fold.asks k w u l → Both same (agree q l) o u
+  SameAsked = (p k q l : M) (x w : A) (o u : Option R) → agree p k → like x w → fold.asks p x o q → fold.asks k w u l
+      → SameDecision same (agree q l) o u
 
   abbrev SameClosed : Type 0
   SameClosed = (p k q l : M) (r t : R) → agree p k → fold.closes p r q → fold.closes k t l → same r t
@@ -42,7 +47,7 @@ abbrev Equal : {R : Type 0} → R → R → Type 0
 Equal r t = r ≡ t
 
 -- by tests that agree
-module _ {F A : Type 0} (like : A → A → Type 0) (test : F → A → Bool → F → Type 0) where
+module _ {F A : Type 0} (like : A → A → Type 0) (test : Question F A Bool) where
   abbrev Tests : F → F → Type 0
   Tests = AgreeFrom like Equal test
 
@@ -73,14 +78,16 @@ module _ {F A : Type 0} (like : A → A → Type 0) (test : F → A → Bool →
   pub any_steady : Steady like Equal (anys test) Tests
   any_steady = steady like Equal (anys test) Tests any_asked (λ p k q l r t a c d. c.0 ∙ sym d.0)
 
-  position_asked : SameAsked like Equal (positions test) (Beside Tests)
-  position_asked p k q l x w None None a e c d = ((tests_match p.0 k.0 q.0 l.0 x w false false a.0 e c.0 d.0).1, rw (c.1, d.1, a.1) refl)
+  position_asked : SameAsked like Equal (positions test) (AgreeBeside Tests)
+  position_asked p k q l x w None None a e c d =
+      ((tests_match p.0 k.0 q.0 l.0 x w false false a.0 e c.0 d.0).1, rw (c.1, d.1, a.1) refl)
   position_asked p k q l x w None (Some t) a e c d = never_both_ways p.0 k.0 q.0 l.0 x w a.0 e c.0 d.1
   position_asked p k q l x w (Some r) None a e c d = never_both p.0 k.0 q.0 l.0 x w a.0 e c.1 d.0
   position_asked p k q l x w (Some r) (Some t) a e c d = rw (c.0, d.0, a.1) refl
 
-  pub position_steady : Steady like Equal (positions test) (Beside Tests)
-  position_steady = steady like Equal (positions test) (Beside Tests) position_asked (λ p k q l r t a c d. c.0 ∙ sym d.0)
+  pub position_steady : Steady like Equal (positions test) (AgreeBeside Tests)
+  position_steady =
+      steady like Equal (positions test) (AgreeBeside Tests) position_asked (λ p k q l r t a c d. c.0 ∙ sym d.0)
 
 -- items that are the same, or none, as values
 module _ {A : Type 0} (like : Sameness A) where
@@ -93,15 +100,18 @@ module _ {A : Type 0} (like : Sameness A) where
   both_some : (x w : A) (r t : Option A) → SameItem like x w → r ≡ Some x → t ≡ Some w → SameItem (Optional like) r t
   both_some x w r t e c d = rw (c, d) (optional_same like (Some x) (Some w) (same_answer like x w e))
 
-  find_asked : {F : Type 0} (test : F → A → Bool → F → Type 0) → SameAsked (SameItem like) (SameItem (Optional like)) (finds test) (AgreeFrom (SameItem like) Equal test)
+  find_asked : {F : Type 0} (test : Question F A Bool)
+      → SameAsked (SameItem like) (SameItem (Optional like)) (finds test) (AgreeFrom (SameItem like) Equal test)
   find_asked test p k q l x w None None a e c d = (tests_match (SameItem like) test p k q l x w false false a e c d).1
   find_asked test p k q l x w None (Some t) a e c d = never_both_ways (SameItem like) test p k q l x w a e c d.1
   find_asked test p k q l x w (Some r) None a e c d = never_both (SameItem like) test p k q l x w a e c.1 d
   find_asked test p k q l x w (Some r) (Some t) a e c d = both_some x w r t e c.0 d.0
 
-  pub find_steady : {F : Type 0} (test : F → A → Bool → F → Type 0) → Steady (SameItem like) (SameItem (Optional like)) (finds test) (AgreeFrom (SameItem like) Equal test)
+  pub find_steady : {F : Type 0} (test : Question F A Bool)
+      → Steady (SameItem like) (SameItem (Optional like)) (finds test) (AgreeFrom (SameItem like) Equal test)
   find_steady test =
-      steady (SameItem like) (SameItem (Optional like)) (finds test) (AgreeFrom (SameItem like) Equal test) (find_asked test) (λ p k q l r t a c d. both_none r t c.0 d.0)
+      steady (SameItem like) (SameItem (Optional like)) (finds test) (AgreeFrom (SameItem like) Equal test)
+      (find_asked test) (λ p k q l r t a c d. both_none r t c.0 d.0)
 
   next_asked : {M : Type 0} → SameAsked (SameItem like) (SameItem (Optional like)) (nexts {M = M}) (λ p k. ⊤)
   next_asked p k q l x w None u a e c d = absurd c
@@ -109,7 +119,8 @@ module _ {A : Type 0} (like : Sameness A) where
   next_asked p k q l x w (Some r) (Some t) a e c d = both_some x w r t e c d
 
   pub next_steady : {M : Type 0} → Steady (SameItem like) (SameItem (Optional like)) (nexts {M = M}) (λ p k. ⊤)
-  next_steady = steady (SameItem like) (SameItem (Optional like)) nexts (λ p k. ⊤) next_asked (λ p k q l r t a c d. both_none r t c d)
+  next_steady = steady (SameItem like) (SameItem (Optional like)) nexts (λ p k. ⊤) next_asked
+      (λ p k q l r t a c d. both_none r t c d)
 
   nth_asked : SameAsked (SameItem like) (SameItem (Optional like)) nths (λ n m. m ≡ n)
   nth_asked p k q l x w None None a e c d = omega (arith, a, c, d)
@@ -118,7 +129,8 @@ module _ {A : Type 0} (like : Sameness A) where
   nth_asked p k q l x w (Some r) (Some t) a e c d = both_some x w r t e c.1 d.1
 
   pub nth_steady : Steady (SameItem like) (SameItem (Optional like)) nths (λ n m. m ≡ n)
-  nth_steady = steady (SameItem like) (SameItem (Optional like)) nths (λ n m. m ≡ n) nth_asked (λ p k q l r t a c d. both_none r t c.0 d.0)
+  nth_steady = steady (SameItem like) (SameItem (Optional like)) nths (λ n m. m ≡ n) nth_asked
+      (λ p k q l r t a c d. both_none r t c.0 d.0)
 
   last_asked : SameAsked (SameItem like) (SameItem (Optional like)) lasts (SameHeld like)
   last_asked p k q l x w None None a e c d = rw (c.1, d.1) (same_held like (Some x) (Some w) (same_answer like x w e))
@@ -127,7 +139,8 @@ module _ {A : Type 0} (like : Sameness A) where
 
   pub last_steady : Steady (SameItem like) (SameItem (Optional like)) lasts (SameHeld like)
   last_steady =
-      steady (SameItem like) (SameItem (Optional like)) lasts (SameHeld like) last_asked (λ p k q l r t a c d. rw (c, d) (optional_same like p k (held_same like p k a)))
+      steady (SameItem like) (SameItem (Optional like)) lasts (SameHeld like) last_asked
+      (λ p k q l r t a c d. rw (c, d) (optional_same like p k (held_same like p k a)))
 
   -- of equal counts
   count_asked : SameAsked (SameItem like) Equal counts (λ n m. m ≡ n)
@@ -136,14 +149,16 @@ module _ {A : Type 0} (like : Sameness A) where
   count_asked p k q l x w (Some r) u a e c d = absurd (let b = c.0 in cc)
 
   pub count_steady : Steady (SameItem like) Equal counts (λ n m. m ≡ n)
-  count_steady = steady (SameItem like) Equal counts (λ n m. m ≡ n) count_asked (λ p k q l r t a c d. c.0 ∙ sym a ∙ sym d.0)
+  count_steady =
+      steady (SameItem like) Equal counts (λ n m. m ≡ n) count_asked (λ p k q l r t a c d. c.0 ∙ sym a ∙ sym d.0)
 
 module _ {T E : Type 0} where
-  given_items : (x : Result T E) (r : Result (Option T) E) → TryGiven x (Some r) → item_of r ≡ Some x
-  given_items (Ok x) r h = ap item_of h
-  given_items (Err e) r h = ap item_of h
+  given_items : (x : Result T E) (r : Result (Option T) E) → TryNextItem x (Some r) → next_item_of r ≡ Some x
+  given_items (Ok x) r h = ap next_item_of h
+  given_items (Err e) r h = ap next_item_of h
 
-  same_items : (like : Sameness (Result T E)) (r t : Result (Option T) E) → SameAnswer like (item_of r) (item_of t) → SameItem (SameNext like) r t
+  same_items : (like : Sameness (Result T E)) (r t : Result (Option T) E)
+      → SameAnswer like (next_item_of r) (next_item_of t) → SameItem (SameNext like) r t
   same_items Sameness.equal (Ok None) (Ok None) e = refl
   same_items Sameness.equal (Ok None) (Ok (Some y)) e = absurd (cc e)
   same_items Sameness.equal (Ok None) (Err f) e = absurd (cc e)
@@ -159,15 +174,18 @@ module _ {T E : Type 0} where
     try_next_asked : SameAsked (SameItem like) (SameItem (SameNext like)) (tries_next {M = M}) (λ p k. ⊤)
     try_next_asked p k q l x w None u a e c d = absurd c
     try_next_asked p k q l x w (Some r) None a e c d = absurd d
-    try_next_asked p k q l x w (Some r) (Some t) a e c d = same_items like r t (rw (given_items x r c, given_items w t d) (same_answer like x w e))
+    try_next_asked p k q l x w (Some r) (Some t) a e c d =
+        same_items like r t (rw (given_items x r c, given_items w t d) (same_answer like x w e))
 
     pub try_next_steady : Steady (SameItem like) (SameItem (SameNext like)) (tries_next {M = M}) (λ p k. ⊤)
     try_next_steady =
-        steady (SameItem like) (SameItem (SameNext like)) tries_next (λ p k. ⊤) try_next_asked (λ p k q l r t a c d. rw (c, d) (same_items like (Ok None) (Ok None) (ends_same like)))
+        steady (SameItem like) (SameItem (SameNext like)) tries_next (λ p k. ⊤) try_next_asked
+        (λ p k q l r t a c d. rw (c, d) (same_items like (Ok None) (Ok None) (ends_same like)))
 
 -- by functions that agree
-module _ {F A B : Type 0} (like : Sameness A) (call : F → A → Option B → F → Type 0) where
-  keeping_matches : (code : Sameness A) → MatchesFrom (SameItem code) (SameAnswer (Keeping code call)) call (AgreeKeeping code call)
+module _ {F A B : Type 0} (like : Sameness A) (call : Question F A (Option B)) where
+  keeping_matches : (code : Sameness A)
+      → MatchesFrom (SameItem code) (SameAnswer (Keeping code call)) call (AgreeKeeping code call)
   keeping_matches Sameness.equal = matches_from call (agree_matches Equal call)
   keeping_matches (Sameness.by same) = keeping_from same call
 
@@ -180,25 +198,32 @@ module _ {F A B : Type 0} (like : Sameness A) (call : F → A → Option B → F
   not_some None e h = cc h
   not_some (Some y) e h = e
 
-  find_map_asked : SameAsked (SameItem like) (SameItem (Optional (Keeping like call))) (finds_map call) (AgreeKeeping like call)
+  find_map_asked : SameAsked (SameItem like) (SameItem (Optional (Keeping like call))) (finds_map call)
+      (AgreeKeeping like call)
   find_map_asked p k q l x w None None a e c d = (keeping_matches like p k q l x w None None a e c d).1
-  find_map_asked p k q l x w None (Some t) a e c d = not_none t (both_items (Keeping like call) None t (keeping_matches like p k q l x w None t a e c d.1).0) d.0
-  find_map_asked p k q l x w (Some r) None a e c d = not_some r (both_items (Keeping like call) r None (keeping_matches like p k q l x w r None a e c.1 d).0) c.0
-  find_map_asked p k q l x w (Some r) (Some t) a e c d = optional_same (Keeping like call) r t (keeping_matches like p k q l x w r t a e c.1 d.1).0
+  find_map_asked p k q l x w None (Some t) a e c d =
+      not_none t (both_items (Keeping like call) None t (keeping_matches like p k q l x w None t a e c d.1).0) d.0
+  find_map_asked p k q l x w (Some r) None a e c d =
+      not_some r (both_items (Keeping like call) r None (keeping_matches like p k q l x w r None a e c.1 d).0) c.0
+  find_map_asked p k q l x w (Some r) (Some t) a e c d =
+      optional_same (Keeping like call) r t (keeping_matches like p k q l x w r t a e c.1 d.1).0
 
-  pub find_map_steady : Steady (SameItem like) (SameItem (Optional (Keeping like call))) (finds_map call) (AgreeKeeping like call)
+  pub find_map_steady : Steady (SameItem like) (SameItem (Optional (Keeping like call))) (finds_map call)
+      (AgreeKeeping like call)
   find_map_steady =
-      steady (SameItem like) (SameItem (Optional (Keeping like call))) (finds_map call) (AgreeKeeping like call) find_map_asked
+      steady (SameItem like) (SameItem (Optional (Keeping like call))) (finds_map call)
+      (AgreeKeeping like call) find_map_asked
       (λ p k q l r t a c d. both_none (Keeping like call) r t c.0 d.0)
 
-module _ {F A : Type 0} (like : A → A → Type 0) (call : F → A → Unit {0} → F → Type 0) where
+module _ {F A : Type 0} (like : A → A → Type 0) (call : Question F A (Unit {0})) where
   for_each_asked : SameAsked like Equal (calls_each call) (AgreeFrom like Equal call)
   for_each_asked p k q l x w None None a e c d = (agree_from_matches like Equal call p k q l x w tt tt a e c.1 d.1).1
   for_each_asked p k q l x w None (Some t) a e c d = absurd (let b = d.0 in cc)
   for_each_asked p k q l x w (Some r) u a e c d = absurd (let b = c.0 in cc)
 
   pub for_each_steady : Steady like Equal (calls_each call) (AgreeFrom like Equal call)
-  for_each_steady = steady like Equal (calls_each call) (AgreeFrom like Equal call) for_each_asked (λ p k q l r t a c d. refl)
+  for_each_steady =
+      steady like Equal (calls_each call) (AgreeFrom like Equal call) for_each_asked (λ p k q l r t a c d. refl)
 
 -- where items are the same by a relation: any fold, from kin of which both decide at an item, or none does
 module _ {M A R : Type 0} (like : A → A → Type 0) (fold : Fold M A R) where
@@ -209,40 +234,53 @@ module _ {M A R : Type 0} (like : A → A → Type 0) (fold : Fold M A R) where
   deciding_asked p k q l x w None None a e c d = (keeping_from like fold.asks p k q l x w None None a e c d).1
   deciding_asked p k q l x w None (Some t) a e c d = (keeping_from like fold.asks p k q l x w None (Some t) a e c d).0
   deciding_asked p k q l x w (Some r) None a e c d = (keeping_from like fold.asks p k q l x w (Some r) None a e c d).0
-  deciding_asked p k q l x w (Some r) (Some t) a e c d = inr (keeping_from like fold.asks p k q l x w (Some r) (Some t) a e c d).0
+  deciding_asked p k q l x w (Some r) (Some t) a e c d =
+      inr (keeping_from like fold.asks p k q l x w (Some r) (Some t) a e c d).0
 
   deciding_steady : Steady like (KinGive like fold) fold Deciding
-  deciding_steady = steady like (KinGive like fold) fold Deciding deciding_asked (λ p k q l r t a c d. inl (p, k, q, l, a.0, c, d))
+  deciding_steady =
+      steady like (KinGive like fold) fold Deciding deciding_asked (λ p k q l r t a c d. inl (p, k, q, l, a.0, c, d))
 
   -- what kin give is the same, where what agrees with itself gives the same
-  pub kin_give : (same : R → R → Type 0) (agree : M → M → Type 0) → ((p : M) → agree p p) → MatchesFrom like (OptionBy same) fold.asks agree
-      → ((p k q l : M) (r t : R) → agree p k → fold.closes p r q → fold.closes k t l → same r t) → (r t : R) → KinGive like fold r t → same r t
-  kin_give same agree itself m closes r t (inl h) = closes h.0 h.1 h.2 h.3 r t (kin_agree like (OptionBy same) fold.asks agree itself m h.0 h.1 h.4) h.5 h.6
-  kin_give same agree itself m closes r t (inr h) = kin_answers like (OptionBy same) fold.asks agree itself m (Some r) (Some t) h
+  pub kin_give : (same : R → R → Type 0) (agree : M → M → Type 0) → ((p : M) → agree p p)
+      → MatchesFrom like (OptionBy same) fold.asks agree
+      → ((p k q l : M) (r t : R) → agree p k → fold.closes p r q → fold.closes k t l → same r t) → (r t : R)
+      → KinGive like fold r t → same r t
+  kin_give same agree itself m closes r t (inl h) =
+      closes h.0 h.1 h.2 h.3 r t (kin_agree like (OptionBy same) fold.asks agree itself m h.0 h.1 h.4) h.5 h.6
+  kin_give same agree itself m closes r t (inr h) =
+      kin_answers like (OptionBy same) fold.asks agree itself m (Some r) (Some t) h
 
-module _ {F A E : Type 0} (call : F → A → Result (Unit {0}) E → F → Type 0) where
+module _ {F A E : Type 0} (call : Question F A (Result (Unit {0}) E)) where
   try_for_each_asked : SameAsked Equal Equal (tries_each call) (Agree call)
-  try_for_each_asked p k q l x w None None a e c d = (agree_from_matches Equal Equal call p k q l x w (Ok tt) (Ok tt) a e c d).1
+  try_for_each_asked p k q l x w None None a e c d =
+      (agree_from_matches Equal Equal call p k q l x w (Ok tt) (Ok tt) a e c d).1
   try_for_each_asked p k q l x w None (Some t) a e c d =
-      absurd (let b = subst IsErr (sym (agree_from_matches Equal Equal call p k q l x w (Ok tt) t a e c d.1).0) d.0 in cc)
+      absurd (let b = subst IsErr (sym (agree_from_matches Equal Equal call p k q l x w (Ok tt) t a e c d.1).0) d.0 in
+      cc)
   try_for_each_asked p k q l x w (Some r) None a e c d =
       absurd (let b = subst IsErr (agree_from_matches Equal Equal call p k q l x w r (Ok tt) a e c.1 d).0 c.0 in cc)
-  try_for_each_asked p k q l x w (Some r) (Some t) a e c d = (agree_from_matches Equal Equal call p k q l x w r t a e c.1 d.1).0
+  try_for_each_asked p k q l x w (Some r) (Some t) a e c d =
+      (agree_from_matches Equal Equal call p k q l x w r t a e c.1 d.1).0
 
-  pub try_for_each_steady : (like : Sameness A) → Steady (SameItem like) (SameItem (Giving like (tries_each call))) (tries_each call) (AgreeDeciding like (Agree call) (tries_each call))
-  try_for_each_steady Sameness.equal = steady Equal Equal (tries_each call) (Agree call) try_for_each_asked (λ p k q l r t a c d. c.0 ∙ sym d.0)
+  pub try_for_each_steady : (like : Sameness A)
+      → Steady (SameItem like) (SameItem (Giving like (tries_each call))) (tries_each call)
+      (AgreeDeciding like (Agree call) (tries_each call))
+  try_for_each_steady Sameness.equal =
+      steady Equal Equal (tries_each call) (Agree call) try_for_each_asked (λ p k q l r t a c d. c.0 ∙ sym d.0)
   try_for_each_steady (Sameness.by like) = deciding_steady like (tries_each call)
 
 -- where the same was folded so far
 module _ {F B T R : Type 0} (call : F → B × T → R → F → Type 0) where
-  folded_same : (p k q l : F × Option B) (x w : T) (b c : B) (r t : R) → Beside (Agree call) p k → x ≡ w → p.1 ≡ Some b → k.1 ≡ Some c → call p.0 (b, x) r q.0 → call k.0 (c, w) t l.0
+  folded_same : (p k q l : F × Option B) (x w : T) (b c : B) (r t : R) → AgreeBeside (Agree call) p k → x ≡ w
+      → p.1 ≡ Some b → k.1 ≡ Some c → call p.0 (b, x) r q.0 → call k.0 (c, w) t l.0
       → (r ≡ t) × Agree call q.0 l.0
   folded_same p k q l x w b c r t a i e d h g =
       let same : c ≡ b = (let f = a.1 in cc) in
       agree_from_matches Equal Equal call p.0 k.0 q.0 l.0 (b, x) (c, w) r t a.0 (λ j. (sym same j, i j)) h g
 
 module _ {F T A : Type 0} (call : F → T × A → T → F → Type 0) where
-  fold_asked : SameAsked Equal Equal (folds call) (Beside (Agree call))
+  fold_asked : SameAsked Equal Equal (folds call) (AgreeBeside (Agree call))
   fold_asked p k q l x w None None a e c d =
       let s = folded_same call p k q l x w c.0 d.0 c.1 d.1 a e c.2 d.2 c.3 d.3 in
       (s.1, rw (c.4, d.4, s.0) refl)
@@ -255,15 +293,24 @@ module _ {F T A : Type 0} (call : F → T × A → T → F → Type 0) where
     kin_fold_asked p k q l x w None (Some t) a e c d = absurd d
     kin_fold_asked p k q l x w (Some r) u a e c d = absurd c
 
-  pub fold_steady : (like : Sameness A) → Steady (SameItem like) (SameItem (Giving like (folds call))) (folds call) (AgreeOrKin like (Beside (Agree call)) (folds call))
-  fold_steady Sameness.equal = steady Equal Equal (folds call) (Beside (Agree call)) fold_asked (λ p k q l r t a c d. let e = a.1 in let h = c.0 in let g = d.0 in cc)
+  pub fold_steady : (like : Sameness A)
+      → Steady (SameItem like) (SameItem (Giving like (folds call))) (folds call)
+      (AgreeOrKin like (AgreeBeside (Agree call)) (folds call))
+  fold_steady Sameness.equal =
+      steady Equal Equal (folds call) (AgreeBeside (Agree call)) fold_asked
+      (λ p k q l r t a c d. let e = a.1 in let h = c.0 in let g = d.0 in cc)
   fold_steady (Sameness.by like) =
-      steady like (KinGive like (folds call)) (folds call) (Kin like (folds call).asks) (kin_fold_asked like) (λ p k q l r t a c d. inl (p, k, q, l, a, c, d))
+      steady like (KinGive like (folds call)) (folds call) (Kin like (folds call).asks) (kin_fold_asked like)
+      (λ p k q l r t a c d. inl (p, k, q, l, a, c, d))
 
   -- what kin folded is the same, by a fact P of each call
-  pub kin_fold : (like : A → A → Type 0) (same : T → T → Type 0) (P : T → A → T → Type 0) → ((a : T) → same a a) → ((f g : F) (a b : T) (x : A) → call f (a, x) b g → P a x b)
-      → ((a c b d : T) (x w : A) → same a c → like x w → P a x b → P c w d → same b d) → (r t : T) → KinGive like (folds call) r t → same r t
-  kin_fold like same P itself answers keeps = kin_give like (folds call) same (λ p k. OptionBy same p.1 k.1) (λ p. options p.1) asked (λ p k q l r t a c d. option_by same p.1 k.1 r t a c.0 d.0)
+  pub kin_fold : (like : A → A → Type 0) (same : T → T → Type 0) (P : T → A → T → Type 0) → ((a : T) → same a a)
+      → ((f g : F) (a b : T) (x : A) → call f (a, x) b g → P a x b)
+      → ((a c b d : T) (x w : A) → same a c → like x w → P a x b → P c w d → same b d) → (r t : T)
+      → KinGive like (folds call) r t → same r t
+  kin_fold like same P itself answers keeps =
+      kin_give like (folds call) same (λ p k. OptionBy same p.1 k.1) (λ p. options p.1) asked
+      (λ p k q l r t a c d. option_by same p.1 k.1 r t a c.0 d.0)
     where
       options : (o : Option T) → OptionBy same o o
       options None = tt
@@ -271,26 +318,34 @@ module _ {F T A : Type 0} (call : F → T × A → T → F → Type 0) where
 
       asked : MatchesFrom like (OptionBy same) (folds call).asks (λ p k. OptionBy same p.1 k.1)
       asked p k q l x w None None a e c d =
-          let s = keeps c.0 d.0 c.1 d.1 x w (option_by same p.1 k.1 c.0 d.0 a c.2 d.2) e (answers p.0 q.0 c.0 c.1 x c.3) (answers k.0 l.0 d.0 d.1 w d.3) in
+          let s = keeps c.0 d.0 c.1 d.1 x w (option_by same p.1 k.1 c.0 d.0 a c.2 d.2) e (answers p.0 q.0 c.0 c.1 x c.3)
+          (answers k.0 l.0 d.0 d.1 w d.3) in
           (tt, rw (c.4, d.4) s)
       asked p k q l x w None (Some t) a e c d = absurd d
       asked p k q l x w (Some r) u a e c d = absurd c
 
 module _ {F B T E : Type 0} (call : F → B × T → Result B E → F → Type 0) where
-  try_fold_asked : SameAsked Equal Equal (tries_fold call) (Beside (Agree call))
+  try_fold_asked : SameAsked Equal Equal (tries_fold call) (AgreeBeside (Agree call))
   try_fold_asked p k q l (Ok x) (Ok w) None None a e c d =
       let s = folded_same call p k q l x w c.0 d.0 (Ok c.1) (Ok d.1) a (cc e) c.2 d.2 c.3 d.3 in
       (s.1, let e' = s.0 in let h = c.4 in let g = d.4 in cc)
-  try_fold_asked p k q l (Ok x) (Ok w) None (Some t) a e c d = let s = (folded_same call p k q l x w c.0 d.0 (Ok c.1) (Err d.1) a (cc e) c.2 d.2 c.3 d.3).0 in cc
-  try_fold_asked p k q l (Ok x) (Ok w) (Some r) None a e c d = let s = (folded_same call p k q l x w c.0 d.0 (Err c.1) (Ok d.1) a (cc e) c.2 d.2 c.3 d.3).0 in cc
-  try_fold_asked p k q l (Ok x) (Ok w) (Some r) (Some t) a e c d = c.4 ∙ (folded_same call p k q l x w c.0 d.0 (Err c.1) (Err d.1) a (cc e) c.2 d.2 c.3 d.3).0 ∙ sym d.4
+  try_fold_asked p k q l (Ok x) (Ok w) None (Some t) a e c d =
+      let s = (folded_same call p k q l x w c.0 d.0 (Ok c.1) (Err d.1) a (cc e) c.2 d.2 c.3 d.3).0 in cc
+  try_fold_asked p k q l (Ok x) (Ok w) (Some r) None a e c d =
+      let s = (folded_same call p k q l x w c.0 d.0 (Err c.1) (Ok d.1) a (cc e) c.2 d.2 c.3 d.3).0 in cc
+  try_fold_asked p k q l (Ok x) (Ok w) (Some r) (Some t) a e c d =
+      c.4 ∙ (folded_same call p k q l x w c.0 d.0 (Err c.1) (Err d.1) a (cc e) c.2 d.2 c.3 d.3).0 ∙ sym d.4
   try_fold_asked p k q l (Ok x) (Err f) o u a e c d = absurd (cc e)
   try_fold_asked p k q l (Err f) (Ok w) o u a e c d = absurd (cc e)
   try_fold_asked p k q l (Err f) (Err g) None u a e c d = absurd c
   try_fold_asked p k q l (Err f) (Err g) (Some r) None a e c d = absurd d
-  try_fold_asked p k q l (Err f) (Err g) (Some r) (Some t) a e c d = c.0 ∙ (let b : f ≡ g = cc in ap (λ v. Err v) b) ∙ sym d.0
+  try_fold_asked p k q l (Err f) (Err g) (Some r) (Some t) a e c d =
+      c.0 ∙ (let b : f ≡ g = cc in ap (λ v. Err v) b) ∙ sym d.0
 
-  pub try_fold_steady : (like : Sameness (Result T E)) → Steady (SameItem like) (SameItem (Giving like (tries_fold call))) (tries_fold call) (AgreeDeciding like (Beside (Agree call)) (tries_fold call))
+  pub try_fold_steady : (like : Sameness (Result T E))
+      → Steady (SameItem like) (SameItem (Giving like (tries_fold call))) (tries_fold call)
+      (AgreeDeciding like (AgreeBeside (Agree call)) (tries_fold call))
   try_fold_steady Sameness.equal =
-      steady Equal Equal (tries_fold call) (Beside (Agree call)) try_fold_asked (λ p k q l r t a c d. let e = a.1 in let h = c.1 in let g = d.1 in let v = c.2 in let w = d.2 in cc)
+      steady Equal Equal (tries_fold call) (AgreeBeside (Agree call)) try_fold_asked
+      (λ p k q l r t a c d. let e = a.1 in let h = c.1 in let g = d.1 in let v = c.2 in let w = d.2 in cc)
   try_fold_steady (Sameness.by like) = deciding_steady like (tries_fold call)

@@ -1,35 +1,38 @@
 -- That a poll which takes in items returns.
-use Rattle.std.proofs.Common.{◌≡◌, ℕ, ◌+◌, ◌<◌, List, [], arith}
+use Rattle.std.proofs.Common.{◌≡◌, ℕ, ◌+◌, ◌<◌, [], arith}
 use Rattle.std.specs.Prelude.{⊤, Result, Ok, Err}
 use denote.MutBor.{MutBor}
 use Rattle.lite_base.specs.Answers.{Answer}
-use Rattle.lite_base.specs.Ends.{Ends-count, Ends-map}
+use Rattle.lite_base.specs.Ends.{Terminates-count, Terminates-map}
 use Rattle.lite_base.specs.Lent.{Lent}
 use Rattle.lite_base.specs.OkRanks.{OkCounting, OkRun, ok_counting_ends}
 use Rattle.lite_base.specs.Ranks.{Counting, Ranks, counting_ends}
+use Rattle.lite_base.specs.Runs.{Runs}
 use Rattle.lite_consume.specs.Consuming.{Fold, TakesIn, fold_of}
-use Rattle.lite_consume.specs.Turns.{Returns, Step}
+use Rattle.lite_consume.specs.PollSteps.{Returns, TakesItem}
 
 -- a count that goes down
 pub one_less : {n m : ℕ} → n ≡ m + 1 → m < n
 one_less e = omega (arith, e)
 
-module _ {S M A R : Type 0} {run : S → List (Answer A) → S → Type 0} {fold : Fold M A R} {is_open : M → Type 0} where
+module _ {S M A R : Type 0} {run : Runs (Answer A) S} {fold : Fold M A R} {is_open : M → Type 0} where
   -- since items lower the stream's rank
-  pub returns_counted : {r : Ranks S} → Counting run r → ((p q : M) (x : A) → is_open p → TakesIn fold p x q → is_open q) → Returns run fold r.counts is_open
+  pub returns_counted : {r : Ranks S} → Counting run r
+      → ((p q : M) (x : A) → is_open p → TakesIn fold p x q → is_open q) → Returns run fold r.counts is_open
   returns_counted {r} c opens =
       record {
         counts_on = c.counts_on;
-        ends = λ s p k. Ends-map (λ v. v.0) (λ v w h. (h.0, [], h.1)) (s, p) (counting_ends c s k);
+        ends = λ s p k. Terminates-map (λ v. v.0) (λ v w h. (h.0, [], h.1)) (s, p) (counting_ends c s k);
         opens = opens;
       }
 
   -- since each item that is taken in lowers a count of its own
-  pub returns_fewer : (left : M → ℕ) → ((p q : M) (x : A) → TakesIn fold p x q → left q < left p) → ((p q : M) (x : A) → is_open p → TakesIn fold p x q → is_open q) → Returns run fold (λ _. ⊤) is_open
+  pub returns_fewer : (left : M → ℕ) → ((p q : M) (x : A) → TakesIn fold p x q → left q < left p)
+      → ((p q : M) (x : A) → is_open p → TakesIn fold p x q → is_open q) → Returns run fold (λ _. ⊤) is_open
   returns_fewer left fewer opens =
       record {
         counts_on = λ s t l k h. tt;
-        ends = λ s p k. Ends-count (λ v. left v.1) (λ v w h. fewer v.1 w.1 h.0 h.2) (s, p);
+        ends = λ s p k. Terminates-count (λ v. left v.1) (λ v w h. fewer v.1 w.1 h.0 h.2) (s, p);
         opens = opens;
       }
 
@@ -37,26 +40,31 @@ module _ {S M A R : Type 0} {run : S → List (Answer A) → S → Type 0} {fold
   pub returns_none : ((p q : M) (x : A) → TakesIn fold p x q → ⊥) → Returns run fold (λ _. ⊤) is_open
   returns_none none = returns_fewer (λ p. 0) (λ p q x h. absurd (none p q x h)) (λ p q x o h. absurd (none p q x h))
 
-module _ {S M T E R : Type 0} {run : S → List (Answer (Result T E)) → S → Type 0} {fold : Fold M (Result T E) R} {is_open : M → Type 0} where
+module _ {S M T E R : Type 0} {run : Runs (Answer (Result T E)) S} {fold : Fold M (Result T E) R}
+    {is_open : M → Type 0} where
   -- since Ok items lower the stream's rank, and no other item is taken in
-  pub returns_ok : {r : Ranks S} → OkCounting run r → ((p q : M) (e : E) → TakesIn fold p (Err e) q → ⊥) → ((p q : M) (x : Result T E) → is_open p → TakesIn fold p x q → is_open q) → Returns run fold r.counts is_open
+  pub returns_ok : {r : Ranks S} → OkCounting run r → ((p q : M) (e : E) → TakesIn fold p (Err e) q → ⊥)
+      → ((p q : M) (x : Result T E) → is_open p → TakesIn fold p x q → is_open q) → Returns run fold r.counts is_open
   returns_ok {r} c errors opens =
       record {
         counts_on = c.counts_on;
-        ends = λ s p k. Ends-map (λ v. v.0) (λ v w h. ok_step errors v w h) (s, p) (ok_counting_ends c s k);
+        ends = λ s p k. Terminates-map (λ v. v.0) (λ v w h. ok_step errors v w h) (s, p) (ok_counting_ends c s k);
         opens = opens;
       }
     where
-      ok_step : ((p q : M) (e : E) → TakesIn fold p (Err e) q → ⊥) → (v w : S × M) → Step run fold v w → OkRun run v.0 w.0
+      ok_step : ((p q : M) (e : E) → TakesIn fold p (Err e) q → ⊥) → (v w : S × M) → TakesItem run fold v w
+          → OkRun run v.0 w.0
       ok_step none v w (Ok x, came, takes) = (x, [], came)
       ok_step none v w (Err e, came, takes) = absurd (none v.1 w.1 e takes)
 
 -- a fold that is lent, over a stream that is
-pub lent_returns : {S M A R : Type 0} (run : S → List (Answer A) → S → Type 0) (fold : Fold M A R) {counts : S → Type 0} {is_open : M → Type 0} → Returns run fold counts is_open
+pub lent_returns : {S M A R : Type 0} (run : Runs (Answer A) S) (fold : Fold M A R) {counts : S → Type 0}
+    {is_open : M → Type 0} → Returns run fold counts is_open
     → Returns (Lent run) (fold_of (λ (p : MutBor M). p.now) fold) (λ s. counts s.now) (λ p. is_open p.now)
 lent_returns run fold r =
     record {
       counts_on = λ s t l k h. r.counts_on s.now t.now l k h.0;
-      ends = λ s p k. Ends-map (λ v. (v.0.now, v.1.now)) (λ v w h. (h.0, h.1.0, h.2)) (s, p) (r.ends s.now p.now k);
+      ends = λ s p k. Terminates-map (λ v. (v.0.now, v.1.now)) (λ v w h. (h.0, h.1.0, h.2)) (s, p)
+          (r.ends s.now p.now k);
       opens = λ p q x k h. r.opens p.now q.now x k h;
     }

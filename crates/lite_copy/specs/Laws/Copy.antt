@@ -1,6 +1,6 @@
 -- Laws of `copy`.
-use Rattle.std.proofs.Common.{◌≡◌, ◌∙◌, ◌<◌, ◌+◌, ◌%◌, ◌^◌, ℕ, List, [], ◌∷◌, ◌++◌, length, Result, Ok, refl, ap, sym, subst, arith}
-use Rattle.std.proofs.Common.{append-nil, append_assoc, length-append}
+use Rattle.std.proofs.Common.{◌≡◌, ◌∙◌, ◌<◌, ◌+◌, ◌%◌, ◌^◌, ℕ, List, [], ◌∷◌, ◌++◌, length, Result, Ok, refl, ap, sym}
+use Rattle.std.proofs.Common.{subst, arith, append-nil, append_assoc, length-append}
 use Rattle.std.proofs.Math.Nat.{mod-add-mod, mod-eq_of_lt}
 use Rattle.std.proofs.lemmas.Grind.{flat_map-append}
 use Rattle.std.proofs.lemmas.List.Elements.{filter-append}
@@ -8,70 +8,76 @@ use Rattle.std.specs.List.{filter}
 use Rattle.std.specs.declared.io.Error.{Error}
 use Rattle.futures.specs.declared.task.Poll.{Poll}
 use Rattle.lite_base.specs.Answers.{Waiting, strip}
-use Rattle.lite_base.specs.Chain.{Goes, Goes-back}
+use Rattle.lite_base.specs.Chain.{Reaches, Reaches-back}
 use Rattle.lite_base.specs.FutureLaws.{FutureLaws}
 use Rattle.lite_base.specs.Laws.Answers.{strip_join, up_to_once, waiting_strip, waiting_up_to}
 use Rattle.lite_base.specs.Laws.Calm.{waits_join}
-use Rattle.lite_io.specs.BufReader.{Through}
+use Rattle.lite_base.specs.Runs.{Runs}
+use Rattle.lite_io.specs.BufReader.{ThroughBuffer}
 use Rattle.lite_io_base.specs.Laws.Falls.{GivenRun}
 use Rattle.lite_io_base.specs.Laws.Marks.{bytes_given}
-use Rattle.lite_io_base.specs.Marks.{Mark, bytes}
-use Rattle.lite_io_base.specs.Runs.{RunLaws, Runs}
-use Rattle.lite_io_base.specs.Takings.{Taking, bytes_in, bytes_of}
-use Rattle.lite_copy.specs.Copy.{Copied, Copies, Moves, Values}
+use Rattle.lite_io_base.specs.Marks.{ReadMark, bytes}
+use Rattle.lite_io_base.specs.Runs.{MarkLaws}
+use Rattle.lite_io_base.specs.Takings.{WriteMark, bytes_in, bytes_taken}
+use Rattle.lite_copy.specs.Copy.{Copied, CopyRuns, CopyValue, Moves}
 use Rattle.lite_copy.specs.Copying.{CopiesSome}
-use Rattle.lite_copy.specs.MarkLists.{GoesOn, TakesSome, TakesUpTo, TellsUpTo, byte_in, bytes_told, is_taken_wait, is_told_wait, waits_taken, waits_told}
+use Rattle.lite_copy.specs.MarkLists.{BytesAlone, TakesSome, TakesUpTo, TellsUpTo, byte_in, bytes_told, is_taken_wait}
+use Rattle.lite_copy.specs.MarkLists.{is_told_wait, waits_taken, waits_told}
 use Rattle.lite_copy.specs.Parts.{held_of, met_in, source_of}
 use Rattle.lite_copy.specs.declared.copy.CopyFuture.{CopyFuture}
 
-abbrev Value : Type 0
-Value = Result ℕ Error
+abbrev CopyResult : Type 0
+CopyResult = Result ℕ Error
 
-pub told_both : (l m : List Mark) → bytes_told (l ++ m) ≡ bytes_told l ++ bytes_told m
+pub told_both : (l m : List ReadMark) → bytes_told (l ++ m) ≡ bytes_told l ++ bytes_told m
 told_both l m = flat_map-append byte_in l m
 
-told_waits : (l m : List Mark) → waits_told (l ++ m) ≡ waits_told l + waits_told m
-told_waits l m = ap length (filter-append is_told_wait l m) ∙ length-append (filter is_told_wait l) (filter is_told_wait m)
+told_waits : (l m : List ReadMark) → waits_told (l ++ m) ≡ waits_told l + waits_told m
+told_waits l m =
+    ap length (filter-append is_told_wait l m) ∙ length-append (filter is_told_wait l) (filter is_told_wait m)
 
-pub taken_both : (l m : List Taking) → bytes_of (l ++ m) ≡ bytes_of l ++ bytes_of m
+pub taken_both : (l m : List WriteMark) → bytes_taken (l ++ m) ≡ bytes_taken l ++ bytes_taken m
 taken_both l m = flat_map-append bytes_in l m
 
-taken_waits : (l m : List Taking) → waits_taken (l ++ m) ≡ waits_taken l + waits_taken m
-taken_waits l m = ap length (filter-append is_taken_wait l m) ∙ length-append (filter is_taken_wait l) (filter is_taken_wait m)
+taken_waits : (l m : List WriteMark) → waits_taken (l ++ m) ≡ waits_taken l + waits_taken m
+taken_waits l m =
+    ap length (filter-append is_taken_wait l m) ∙ length-append (filter is_taken_wait l) (filter is_taken_wait m)
 
-goes_both : (l m : List Mark) → GoesOn l → GoesOn m → GoesOn (l ++ m)
+goes_both : (l m : List ReadMark) → BytesAlone l → BytesAlone m → BytesAlone (l ++ m)
 goes_both [] m h k = k
-goes_both (Mark.byte b ∷ l) m h k = goes_both l m h k
-goes_both (Mark.pending ∷ l) m h k = goes_both l m h k
-goes_both (Mark.fault kind ∷ l) m h k = absurd h
-goes_both (Mark.end ∷ l) m h k = absurd h
+goes_both (ReadMark.byte b ∷ l) m h k = goes_both l m h k
+goes_both (ReadMark.pending ∷ l) m h k = goes_both l m h k
+goes_both (ReadMark.fault kind ∷ l) m h k = absurd h
+goes_both (ReadMark.end ∷ l) m h k = absurd h
 
-some_both : (l m : List Taking) → TakesSome l → TakesSome m → TakesSome (l ++ m)
+some_both : (l m : List WriteMark) → TakesSome l → TakesSome m → TakesSome (l ++ m)
 some_both [] m h k = k
-some_both (Taking.wrote xs ∷ l) m h k = (h.0, some_both l m h.1 k)
-some_both (Taking.pending ∷ l) m h k = some_both l m h k
-some_both (Taking.fault kind ∷ l) m h k = absurd h
-some_both (Taking.flushed ∷ l) m h k = absurd h
-some_both (Taking.closed ∷ l) m h k = absurd h
+some_both (WriteMark.wrote xs ∷ l) m h k = (h.0, some_both l m h.1 k)
+some_both (WriteMark.pending ∷ l) m h k = some_both l m h k
+some_both (WriteMark.fault kind ∷ l) m h k = absurd h
+some_both (WriteMark.flushed ∷ l) m h k = absurd h
+some_both (WriteMark.closed ∷ l) m h k = absurd h
 
-module _ (after : List ℕ) (met : List Mark) (total : ℕ) where
-  no_value : (failed : List Mark) (last : List Taking) → Values [] failed last after met total → (failed ≡ []) × (last ≡ [])
+module _ (after : List ℕ) (met : List ReadMark) (total : ℕ) where
+  no_value : (failed : List ReadMark) (last : List WriteMark) → CopyValue [] failed last after met total → (failed ≡ [])
+      × (last ≡ [])
   no_value [] [] h = (refl, refl)
   no_value [] (t ∷ last) h = absurd h
   no_value (m ∷ failed) last h = absurd h
 
-  pub ok_value : (n : ℕ) (failed : List Mark) (last : List Taking) → Values (Ok n ∷ []) failed last after met total
-      → (failed ≡ []) × (last ≡ Taking.flushed ∷ []) × (after ≡ []) × (met ≡ Mark.end ∷ []) × (n ≡ total)
+  pub ok_value : (n : ℕ) (failed : List ReadMark) (last : List WriteMark)
+      → CopyValue (Ok n ∷ []) failed last after met total
+      → (failed ≡ []) × (last ≡ WriteMark.flushed ∷ []) × (after ≡ []) × (met ≡ ReadMark.end ∷ []) × (n ≡ total)
   ok_value n [] [] h = absurd h
-  ok_value n [] (Taking.flushed ∷ []) h = (refl, refl, h.0, h.1, h.2)
-  ok_value n [] (Taking.flushed ∷ t ∷ last) h = absurd h
-  ok_value n [] (Taking.wrote xs ∷ last) h = absurd h
-  ok_value n [] (Taking.pending ∷ last) h = absurd h
-  ok_value n [] (Taking.fault kind ∷ last) h = absurd h
-  ok_value n [] (Taking.closed ∷ last) h = absurd h
+  ok_value n [] (WriteMark.flushed ∷ []) h = (refl, refl, h.0, h.1, h.2)
+  ok_value n [] (WriteMark.flushed ∷ t ∷ last) h = absurd h
+  ok_value n [] (WriteMark.wrote xs ∷ last) h = absurd h
+  ok_value n [] (WriteMark.pending ∷ last) h = absurd h
+  ok_value n [] (WriteMark.fault kind ∷ last) h = absurd h
+  ok_value n [] (WriteMark.closed ∷ last) h = absurd h
   ok_value n (m ∷ failed) last h = absurd h
 
-pub copied_none : (p : List ℕ) (a : List Mark) (n : ℕ) → Copied p a [] [] [] p a n
+pub copied_none : (p : List ℕ) (a : List ReadMark) (n : ℕ) → Copied p a [] [] [] p a n
 copied_none p a n =
     record {
       failed = [];
@@ -85,17 +91,19 @@ copied_none p a n =
     }
 
 -- what comes after answers that were all Pending
-module _ (p q r : List ℕ) (a b c : List Mark) (i j : List Mark) (s t : List Taking) (l m : List (Poll Value)) (n k : ℕ) (w : Waiting l)
+module _ (p q r : List ℕ) (a b c : List ReadMark) (i j : List ReadMark) (s t : List WriteMark)
+    (l m : List (Poll CopyResult)) (n k : ℕ) (w : Waiting l)
     (h : Copied p a i s l q b n) (g : Copied q b j t m r c k) where
   none : (h.failed ≡ []) × (h.last ≡ [])
-  none = no_value q b n h.failed h.last (subst (λ v. Values v h.failed h.last q b n) (waiting_strip l w) h.value)
+  none = no_value q b n h.failed h.last (subst (λ v. CopyValue v h.failed h.last q b n) (waiting_strip l w) h.value)
 
   reading_both : TellsUpTo (a ++ (i ++ j)) (c ++ g.failed)
   reading_both =
       let f = h.reading in
       let d = g.reading in
       let whole =
-      sym (append_assoc a i j) ∙ ap (λ v. v ++ j) (f.cut ∙ ap (λ v. f.read ++ (b ++ v)) none.0 ∙ ap (λ v. f.read ++ v) (append-nil b))
+      sym (append_assoc a i j)
+      ∙ ap (λ v. v ++ j) (f.cut ∙ ap (λ v. f.read ++ (b ++ v)) none.0 ∙ ap (λ v. f.read ++ v) (append-nil b))
       ∙ append_assoc f.read b j ∙ ap (λ v. f.read ++ v) d.cut ∙ sym (append_assoc f.read d.read (c ++ g.failed)) in
       record { read = f.read ++ d.read; goes_on = goes_both f.read d.read f.goes_on d.goes_on; cut = whole }
 
@@ -106,12 +114,18 @@ module _ (p q r : List ℕ) (a b c : List Mark) (i j : List Mark) (s t : List Ta
       let whole =
       ap (λ v. v ++ t) (f.cut ∙ ap (λ v. f.written ++ v) none.1 ∙ append-nil f.written) ∙ ap (λ v. f.written ++ v) d.cut
       ∙ sym (append_assoc f.written d.written g.last) in
-      record { written = f.written ++ d.written; takes_some = some_both f.written d.written f.takes_some d.takes_some; cut = whole }
+      record {
+        written = f.written ++ d.written;
+        takes_some = some_both f.written d.written f.takes_some d.takes_some;
+        cut = whole;
+      }
 
-  balanced_both : p ++ bytes_told (i ++ j) ≡ bytes_of (s ++ t) ++ r
+  balanced_both : p ++ bytes_told (i ++ j) ≡ bytes_taken (s ++ t) ++ r
   balanced_both =
-      ap (λ v. p ++ v) (told_both i j) ∙ sym (append_assoc p (bytes_told i) (bytes_told j)) ∙ ap (λ v. v ++ bytes_told j) h.balanced
-      ∙ append_assoc (bytes_of s) q (bytes_told j) ∙ ap (λ v. bytes_of s ++ v) g.balanced ∙ sym (append_assoc (bytes_of s) (bytes_of t) r)
+      ap (λ v. p ++ v) (told_both i j) ∙ sym (append_assoc p (bytes_told i) (bytes_told j))
+      ∙ ap (λ v. v ++ bytes_told j) h.balanced
+      ∙ append_assoc (bytes_taken s) q (bytes_told j) ∙ ap (λ v. bytes_taken s ++ v) g.balanced
+      ∙ sym (append_assoc (bytes_taken s) (bytes_taken t) r)
       ∙ ap (λ v. v ++ r) (sym (taken_both s t))
 
   same_value : strip m ≡ strip (l ++ m)
@@ -127,32 +141,43 @@ module _ (p q r : List ℕ) (a b c : List Mark) (i j : List Mark) (s t : List Ta
         balanced = balanced_both;
         waited = omega (arith, waits_join l m, told_waits i j, taken_waits s t, h.waited, g.waited);
         once = waiting_up_to l m w g.once;
-        value = subst (λ v. Values v g.failed g.last r c k) same_value g.value;
+        value = subst (λ v. CopyValue v g.failed g.last r c k) same_value g.value;
       }
 
 pub counted_none : (n : ℕ) → n < 2 ^ 64 → n ≡ (n + 0) % 2 ^ 64
 counted_none n fits = let whole : n ≡ n + 0 = omega arith in sym (mod-eq_of_lt fits) ∙ ap (λ v. v % 2 ^ 64) whole
 
-counted_both : (x y z : ℕ) (s t : List Taking) → y ≡ (x + length (bytes_of s)) % 2 ^ 64 → z ≡ (y + length (bytes_of t)) % 2 ^ 64
-    → z ≡ (x + length (bytes_of (s ++ t))) % 2 ^ 64
+counted_both : (x y z : ℕ) (s t : List WriteMark) → y ≡ (x + length (bytes_taken s)) % 2 ^ 64
+    → z ≡ (y + length (bytes_taken t)) % 2 ^ 64
+    → z ≡ (x + length (bytes_taken (s ++ t))) % 2 ^ 64
 counted_both x y z s t h k =
-    let all : x + length (bytes_of s) + length (bytes_of t) ≡ x + length (bytes_of (s ++ t)) =
-    omega (arith, ap length (taken_both s t), length-append (bytes_of s) (bytes_of t)) in
-    k ∙ ap (λ v. (v + length (bytes_of t)) % 2 ^ 64) h ∙ mod-add-mod (x + length (bytes_of s)) (2 ^ 64) (length (bytes_of t)) ∙ ap (λ v. v % 2 ^ 64) all
+    let all : x + length (bytes_taken s) + length (bytes_taken t) ≡ x + length (bytes_taken (s ++ t)) =
+    omega (arith, ap length (taken_both s t), length-append (bytes_taken s) (bytes_taken t)) in
+    k ∙ ap (λ v. (v + length (bytes_taken t)) % 2 ^ 64) h
+    ∙ mod-add-mod (x + length (bytes_taken s)) (2 ^ 64) (length (bytes_taken t)) ∙ ap (λ v. v % 2 ^ 64) all
 
-given_of : {S : Type 0} (reads : Runs Mark S) (s t : S) (xs : List ℕ) → 0 < length xs → reads s (bytes xs) t → GivenRun reads s t
+given_of : {S : Type 0} (reads : Runs ReadMark S) (s t : S) (xs : List ℕ) → 0 < length xs → reads s (bytes xs) t
+    → GivenRun reads s t
 given_of reads s t [] some h = absurd (omega (arith, some))
-given_of reads s t (x ∷ xs) some h = (Mark.byte x, bytes xs, bytes_given (x ∷ xs), h)
+given_of reads s t (x ∷ xs) some h = (ReadMark.byte x, bytes xs, bytes_given (x ∷ xs), h)
 
 module _ {R W : Type 0} where
-  module _ {reads : Runs Mark R} {writes : Runs Taking W} (rl : RunLaws reads) (wl : RunLaws writes) where
+  module _ {reads : Runs ReadMark R} {writes : Runs WriteMark W} (rl : MarkLaws reads) (wl : MarkLaws writes) where
     pub moves_none : (x : CopyFuture R W) → Moves reads writes x [] x
     moves_none x =
         let same = counted_none x.amount x.counted in
         let none = copied_none (held_of x) (met_in x.phase) x.amount in
-        record { told = []; took = []; came = rl.rests (source_of x); went = wl.rests x.writer; copied = none; counted = same }
+        record {
+          told = [];
+          took = [];
+          came = rl.rests (source_of x);
+          went = wl.rests x.writer;
+          copied = none;
+          counted = same;
+        }
 
-    pub moves_both : (x y z : CopyFuture R W) (l m : List (Poll Value)) → Waiting l → Moves reads writes x l y → Moves reads writes y m z
+    pub moves_both : (x y z : CopyFuture R W) (l m : List (Poll CopyResult)) → Waiting l → Moves reads writes x l y
+        → Moves reads writes y m z
         → Moves reads writes x (l ++ m) z
     moves_both x y z l m w h k =
         record {
@@ -165,27 +190,34 @@ module _ {R W : Type 0} where
           counted = counted_both x.amount y.amount z.amount h.took k.took h.counted k.counted;
         }
 
-    idle_join : (x y z : CopyFuture R W) (l m : List (Poll Value)) → (l ≡ [] → y ≡ x) → (m ≡ [] → z ≡ y) → l ++ m ≡ [] → z ≡ x
+    idle_join : (x y z : CopyFuture R W) (l m : List (Poll CopyResult)) → (l ≡ [] → y ≡ x) → (m ≡ [] → z ≡ y)
+        → l ++ m ≡ [] → z ≡ x
     idle_join x y z [] m h k e = k e ∙ h refl
     idle_join x y z (a ∷ l) m h k e = absurd (cc e)
 
-    pub copies_laws : FutureLaws (Copies reads writes)
+    pub copies_laws : FutureLaws (CopyRuns reads writes)
     copies_laws =
         record {
           rests = λ x. record { moves = moves_none x; idle = λ e. refl };
           stays = λ x y h. h.idle refl;
-          follows = λ x y z l m w h k. record { moves = moves_both x y z l m w h.moves k.moves; idle = idle_join x y z l m h.idle k.idle };
+          follows = λ x y z l m w h k. record {
+            moves = moves_both x y z l m w h.moves k.moves;
+            idle = idle_join x y z l m h.idle k.idle;
+          };
           once = λ x y l h. up_to_once l h.moves.copied.once;
         }
 
-    -- the turns of a poll
-    pub copy_answer : (x y z : CopyFuture R W) (a : Poll Value) → Goes (CopiesSome reads writes) x y → Moves reads writes y (a ∷ []) z
-        → Copies reads writes x (a ∷ []) z
+    -- the steps of a poll
+    pub copy_answer : (x y z : CopyFuture R W) (a : Poll CopyResult) → Reaches (CopiesSome reads writes) x y
+        → Moves reads writes y (a ∷ []) z
+        → CopyRuns reads writes x (a ∷ []) z
     copy_answer x y z a goes last =
-        let all = Goes-back (λ v. Moves reads writes v (a ∷ []) z) (λ v w t h. moves_both v w z [] (a ∷ []) tt t.moves h) x y goes last in
+        let all = Reaches-back (λ v. Moves reads writes v (a ∷ []) z)
+        (λ v w t h. moves_both v w z [] (a ∷ []) tt t.moves h) x y goes last in
         record { moves = all; idle = λ e. absurd (cc e) }
 
-  -- a turn that goes on took bytes from the buffer
-  pub some_given : {reads : Runs Mark R} {writes : Runs Taking W} (x y : CopyFuture R W) → CopiesSome reads writes x y
-      → GivenRun (Through reads) x.reader y.reader
-  some_given {reads} x y h = given_of (Through reads) x.reader y.reader h.taken h.some h.given
+  -- a step that goes on took bytes from the buffer
+  pub some_given : {reads : Runs ReadMark R} {writes : Runs WriteMark W} (x y : CopyFuture R W)
+      → CopiesSome reads writes x y
+      → GivenRun (ThroughBuffer reads) x.reader y.reader
+  some_given {reads} x y h = given_of (ThroughBuffer reads) x.reader y.reader h.taken h.some h.given

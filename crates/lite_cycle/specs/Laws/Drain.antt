@@ -2,10 +2,11 @@
 use Rattle.std.proofs.Common.{◌≡◌, ℕ, ◌≤◌, List, [], ◌∷◌, ◌++◌, Some, None, refl, ap, arith}
 use Rattle.futures.specs.declared.task.Poll.TheVariants.{Ready, Pending}
 use Rattle.lite_base.specs.Answers.{Answer, before_end, items}
-use Rattle.lite_base.specs.Calm.{CalmLaws, Prompt}
+use Rattle.lite_base.specs.Calm.{CalmLaws, NoPending}
 use Rattle.lite_base.specs.Rank.{Lowers}
+use Rattle.lite_base.specs.Runs.{Runs}
 use Rattle.lite_cycle.specs.Drain.{Drained, Drains, with_ends}
-use Rattle.lite_stream.specs.Laws.Through.{Turning}
+use Rattle.lite_stream.specs.Laws.Through.{Relating}
 
 module _ {A : Type 0} where
   drained_join : (i j : List (Answer A)) → with_ends (i ++ j) ≡ with_ends i ++ with_ends j
@@ -45,8 +46,8 @@ module _ {A : Type 0} where
       let same : x ≡ y = cc e in
       rw (same, drained_items i l (cc e)) refl
 
-  pub drained_turning : Turning (Drained {A = A})
-  drained_turning =
+  pub drained_relating : Relating (Drained {A = A})
+  drained_relating =
       record {
         following =
             record {
@@ -59,11 +60,11 @@ module _ {A : Type 0} where
         from_items = λ f g i y l h. (y, l, drained_items i (y ∷ l) h);
       }
 
-  drained_prompt : (i : List (Answer A)) → Prompt (with_ends i)
-  drained_prompt [] = tt
-  drained_prompt (Pending ∷ i) = drained_prompt i
-  drained_prompt (Ready o ∷ i) = drained_prompt i
+  drained_no_pending : (i : List (Answer A)) → NoPending (with_ends i)
+  drained_no_pending [] = tt
+  drained_no_pending (Pending ∷ i) = drained_no_pending i
+  drained_no_pending (Ready o ∷ i) = drained_no_pending i
 
 -- it is never pending, whatever its stream is
-pub drain_calm : {S A : Type 0} (run : S → List (Answer A) → S → Type 0) → CalmLaws (Drains run) (λ m. Unit {0})
-drain_calm run = record { prompt = λ x y l k h. rw h.turned (drained_prompt h.ins); calm_on = λ x y l k h. tt }
+pub drain_calm : {S A : Type 0} (run : Runs (Answer A) S) → CalmLaws (Drains run) (λ m. Unit {0})
+drain_calm run = record { no_pending = λ x y l k h. rw h.related (drained_no_pending h.ins); calm_on = λ x y l k h. tt }

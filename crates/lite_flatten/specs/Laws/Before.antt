@@ -6,7 +6,8 @@ use Rattle.lite_base.specs.Rank.{Below, Lowers}
 
 module _ {A : Type 0} where
   -- what follows among items are items
-  pub items_after : (before after : List (Answer A)) (l : List A) → items l ≡ before ++ after → (m : List A) × (after ≡ items m)
+  pub items_after : (before after : List (Answer A)) (l : List A) → items l ≡ before ++ after → (m : List A)
+      × (after ≡ items m)
   items_after [] after l e = (l, sym e)
   items_after (a ∷ before) after [] e = absurd (cc e)
   items_after (a ∷ before) after (x ∷ l) e = items_after before after l (cc e)

@@ -8,8 +8,10 @@ use Rattle.lite_base.specs.Alike.{OptionBy, SameErr, SameItem, SameOk, Sameness}
 use Rattle.lite_base.specs.Calling.{AgreeFrom}
 use Rattle.lite_base.specs.Laws.Alike.{option_by}
 use Rattle.lite_base.specs.Laws.Calling.{agree_from_matches}
-use Rattle.lite_consume.specs.Agreeing.{Both, FoldSteadyLaws}
-use Rattle.lite_gather.specs.Agreeing.{Gathered, HoldsParts, HoldsSame, HoldsSameBoth, HoldsSameParts, TryGathered, Unmixed}
+use Rattle.lite_base.specs.Runs.{Question}
+use Rattle.lite_consume.specs.Agreeing.{FoldSteadyLaws, SameDecision}
+use Rattle.lite_gather.specs.Agreeing.{HoldsParts, HoldsSame, HoldsSameBoth, HoldsSameParts, SameCollected}
+use Rattle.lite_gather.specs.Agreeing.{TrySameCollected, Unmixed}
 use Rattle.lite_gather.specs.Collect.{collects}
 use Rattle.lite_gather.specs.Gathering.{Took}
 use Rattle.lite_gather.specs.Partition.{Sorted, partitions}
@@ -20,42 +22,53 @@ use Rattle.lite_gather.specs.declared.refused.TryCollectError.{TryCollectError}
 use Rattle.lite_gather.specs.declared.refused.UnzipRefused.{UnzipRefused}
 
 -- two that are there are the same so
-some_by : {C : Type 0} (same : C → C → Type 0) (q l : Option C) (c d : C) → q ≡ Some c → l ≡ Some d → same c d → OptionBy same q l
+some_by : {C : Type 0} (same : C → C → Type 0) (q l : Option C) (c d : C) → q ≡ Some c → l ≡ Some d → same c d
+    → OptionBy same q l
 some_by same q l c d e f h = rw (e, f) h
 
-ok_by : {C E : Type 0} (same : C → C → Type 0) (r t : Result C E) (c d : C) → r ≡ Ok c → t ≡ Ok d → same c d → Gathered same r t
+ok_by : {C E : Type 0} (same : C → C → Type 0) (r t : Result C E) (c d : C) → r ≡ Ok c → t ≡ Ok d → same c d
+    → SameCollected same r t
 ok_by same r t c d e f h = rw (e, f) h
 
-took_same : {C T : Type 0} (like : Sameness T) (holds : C → List T → Type 0) (c d c' d' : C) (x w : T) → HoldsSame like holds c d → SameItem like x w → Took holds c x c' → Took holds d w d' → HoldsSame like holds c' d'
-took_same Sameness.equal holds c d c' d' x w h e k g = (h.0 ++ x ∷ [], k h.0 h.1, subst (λ v. holds d' (h.0 ++ v ∷ [])) (sym e) (g h.0 h.2))
-took_same (Sameness.by same) holds c d c' d' x w h e k g = (h.0 ++ x ∷ [], h.1 ++ w ∷ [], k h.0 h.2, g h.1 h.3, AllZip-push same h.0 h.1 x w h.4 e)
+took_same : {C T : Type 0} (like : Sameness T) (holds : C → List T → Type 0) (c d c' d' : C) (x w : T)
+    → HoldsSame like holds c d → SameItem like x w → Took holds c x c' → Took holds d w d' → HoldsSame like holds c' d'
+took_same Sameness.equal holds c d c' d' x w h e k g =
+    (h.0 ++ x ∷ [], k h.0 h.1, subst (λ v. holds d' (h.0 ++ v ∷ [])) (sym e) (g h.0 h.2))
+took_same (Sameness.by same) holds c d c' d' x w h e k g =
+    (h.0 ++ x ∷ [], h.1 ++ w ∷ [], k h.0 h.2, g h.1 h.3, AllZip-push same h.0 h.1 x w h.4 e)
 
 -- collections that hold nothing are the same
-pub none_held : {C T : Type 0} (like : Sameness T) (holds : C → List T → Type 0) (c d : C) → holds c [] → holds d [] → HoldsSame like holds c d
+pub none_held : {C T : Type 0} (like : Sameness T) (holds : C → List T → Type 0) (c d : C) → holds c [] → holds d []
+    → HoldsSame like holds c d
 none_held Sameness.equal holds c d h k = ([], h, k)
 none_held (Sameness.by same) holds c d h k = ([], [], h, k, tt)
 
 -- and so are two that are there
-pub both_there : {C : Type 0} {same : C → C → Type 0} {empty : C → Type 0} → ((c d : C) → empty c → empty d → same c d) → (p k : Option C) → IsSome p → IsSome k → IfSome p empty → IfSome k empty
+pub both_there : {C : Type 0} {same : C → C → Type 0} {empty : C → Type 0} → ((c d : C) → empty c → empty d → same c d)
+    → (p k : Option C) → IsSome p → IsSome k → IfSome p empty → IfSome k empty
     → OptionBy same p k
 both_there none None k h g e d = absurd (cc h)
 both_there none (Some c) None h g e d = absurd (cc g)
 both_there none (Some c) (Some b) h g e d = none c b e d
 
 module _ {C T : Type 0} (like : Sameness T) (holds : C → List T → Type 0) where
-  collect_asked : (p k q l : Option C) (x w : T) (o u : Option (Result C (Refused C T))) → OptionBy (HoldsSame like holds) p k → SameItem like x w → (collects ⊥ holds).asks p x o q → (collects ⊥ holds).asks k w u l
-      → Both (Gathered (HoldsSame like holds)) (OptionBy (HoldsSame like holds) q l) o u
+  collect_asked : (p k q l : Option C) (x w : T) (o u : Option (Result C (Refused C T)))
+      → OptionBy (HoldsSame like holds) p k → SameItem like x w → (collects ⊥ holds).asks p x o q
+      → (collects ⊥ holds).asks k w u l
+      → SameDecision (SameCollected (HoldsSame like holds)) (OptionBy (HoldsSame like holds) q l) o u
   collect_asked p k q l x w None None a e h g =
       let same = option_by (HoldsSame like holds) p k h.0 g.0 a h.2 g.2 in
       some_by (HoldsSame like holds) q l h.1 g.1 h.4 g.4 (took_same like holds h.0 g.0 h.1 g.1 x w same e h.3 g.3)
   collect_asked p k q l x w None (Some t) a e h g = g.0
   collect_asked p k q l x w (Some r) u a e h g = absurd h.0
 
-  pub collect_steady : FoldSteadyLaws (SameItem like) (collects ⊤ holds) (collects ⊥ holds) ⊥ (OptionBy (HoldsSame like holds)) (Gathered (HoldsSame like holds))
+  pub collect_steady : FoldSteadyLaws (SameItem like) (collects ⊤ holds) (collects ⊥ holds) ⊥
+      (OptionBy (HoldsSame like holds)) (SameCollected (HoldsSame like holds))
   collect_steady =
       record {
         asks = collect_asked;
-        closes = λ p k q l r t a h g. ok_by (HoldsSame like holds) r t h.0 g.0 h.2 g.2 (option_by (HoldsSame like holds) p k h.0 g.0 a h.1 g.1);
+        closes = λ p k q l r t a h g. ok_by (HoldsSame like holds) r t h.0 g.0 h.2 g.2
+            (option_by (HoldsSame like holds) p k h.0 g.0 a h.1 g.1);
         found = λ n. absurd n;
       }
 
@@ -77,57 +90,67 @@ module _ {A E : Type 0} where
   unmixed_on Sameness.equal P Q u h = h
   unmixed_on (Sameness.by same) P Q u h = (h, u.1)
 
-  not_err : (like : Sameness (Result A E)) (P : Type 0) (x : A) (e : E) → Unmixed like P → SameItem like (Ok x) (Err e) → ⊥
+  not_err : (like : Sameness (Result A E)) (P : Type 0) (x : A) (e : E) → Unmixed like P → SameItem like (Ok x) (Err e)
+      → ⊥
   not_err Sameness.equal P x e u h = cc h
   not_err (Sameness.by same) P x e u h = (u.1 x e).0 h
 
-  not_ok : (like : Sameness (Result A E)) (P : Type 0) (x : A) (e : E) → Unmixed like P → SameItem like (Err e) (Ok x) → ⊥
+  not_ok : (like : Sameness (Result A E)) (P : Type 0) (x : A) (e : E) → Unmixed like P → SameItem like (Err e) (Ok x)
+      → ⊥
   not_ok Sameness.equal P x e u h = cc h
   not_ok (Sameness.by same) P x e u h = (u.1 x e).1 h
 
 module _ {C T E : Type 0} (like : Sameness (Result T E)) (holds : C → List T → Type 0) where
-  abbrev Holds : C → C → Type 0
-  Holds = HoldsSame (SameOk like) holds
+  abbrev HoldsAlike : C → C → Type 0
+  HoldsAlike = HoldsSame (SameOk like) holds
 
   abbrev Tries : Option C → Option C → Type 0
-  Tries p k = Unmixed like (OptionBy Holds p k)
+  Tries p k = Unmixed like (OptionBy HoldsAlike p k)
 
-  try_collect_asked : (p k q l : Option C) (x w : Result T E) (o u : Option (Result C (TryCollectError C T E))) → Tries p k → SameItem like x w → (tries_collect ⊥ holds).asks p x o q → (tries_collect ⊥ holds).asks k w u l
-      → Both (TryGathered Holds (SameItem (SameErr like))) (Tries q l) o u
+  try_collect_asked : (p k q l : Option C) (x w : Result T E) (o u : Option (Result C (TryCollectError C T E)))
+      → Tries p k → SameItem like x w → (tries_collect ⊥ holds).asks p x o q → (tries_collect ⊥ holds).asks k w u l
+      → SameDecision (TrySameCollected HoldsAlike (SameItem (SameErr like))) (Tries q l) o u
   try_collect_asked p k q l (Ok x) (Ok w) None None a e h g =
-      let same = option_by Holds p k h.0 g.0 (unmixed_holds like (OptionBy Holds p k) a) h.2 g.2 in
+      let same = option_by HoldsAlike p k h.0 g.0 (unmixed_holds like (OptionBy HoldsAlike p k) a) h.2 g.2 in
       let took = took_same (SameOk like) holds h.0 g.0 h.1 g.1 x w same (oks_same like x w e) h.3 g.3 in
-      unmixed_on like (OptionBy Holds p k) (OptionBy Holds q l) a (some_by Holds q l h.1 g.1 h.4 g.4 took)
+      unmixed_on like (OptionBy HoldsAlike p k) (OptionBy HoldsAlike q l) a
+      (some_by HoldsAlike q l h.1 g.1 h.4 g.4 took)
   try_collect_asked p k q l (Ok x) (Ok w) None (Some t) a e h g = g.0
   try_collect_asked p k q l (Ok x) (Ok w) (Some r) u a e h g = absurd h.0
-  try_collect_asked p k q l (Ok x) (Err f) o u a e h g = absurd (not_err like (OptionBy Holds p k) x f a e)
-  try_collect_asked p k q l (Err f) (Ok w) o u a e h g = absurd (not_ok like (OptionBy Holds p k) w f a e)
+  try_collect_asked p k q l (Ok x) (Err f) o u a e h g = absurd (not_err like (OptionBy HoldsAlike p k) x f a e)
+  try_collect_asked p k q l (Err f) (Ok w) o u a e h g = absurd (not_ok like (OptionBy HoldsAlike p k) w f a e)
   try_collect_asked p k q l (Err f) (Err d) None u a e h g = absurd h
   try_collect_asked p k q l (Err f) (Err d) (Some r) None a e h g = g
   try_collect_asked p k q l (Err f) (Err d) (Some r) (Some t) a e h g = rw (h.0, g.0) (errs_same like f d e)
 
-  pub try_collect_steady : FoldSteadyLaws (SameItem like) (tries_collect ⊤ holds) (tries_collect ⊥ holds) ⊥ Tries (TryGathered Holds (SameItem (SameErr like)))
+  pub try_collect_steady : FoldSteadyLaws (SameItem like) (tries_collect ⊤ holds) (tries_collect ⊥ holds) ⊥ Tries
+      (TrySameCollected HoldsAlike (SameItem (SameErr like)))
   try_collect_steady =
       record {
         asks = try_collect_asked;
-        closes = λ p k q l r t a h g. rw (h.2, g.2) (option_by Holds p k h.0 g.0 (unmixed_holds like (OptionBy Holds p k) a) h.1 g.1);
+        closes = λ p k q l r t a h g. rw (h.2, g.2)
+            (option_by HoldsAlike p k h.0 g.0 (unmixed_holds like (OptionBy HoldsAlike p k) a) h.1 g.1);
         found = λ n. absurd n;
       }
 
 -- by tests that agree
-module _ {B T P : Type 0} (like : Sameness T) (holds : B → List T → Type 0) (test : P → T → Bool → P → Type 0) where
+module _ {B T P : Type 0} (like : Sameness T) (holds : B → List T → Type 0) (test : Question P T Bool) where
   abbrev HoldBoth : B × B → B × B → Type 0
   HoldBoth = HoldsSameBoth like like holds holds
 
   abbrev Sorts : P × Option (B × B) → P × Option (B × B) → Type 0
   Sorts p k = AgreeFrom (SameItem like) (λ y z. y ≡ z) test p.0 k.0 × OptionBy HoldBoth p.1 k.1
 
-  sorted_same : (b : Bool) (c d c' d' : B × B) (x w : T) → HoldBoth c d → SameItem like x w → Sorted holds b c x c' → Sorted holds b d w d' → HoldBoth c' d'
+  sorted_same : (b : Bool) (c d c' d' : B × B) (x w : T) → HoldBoth c d → SameItem like x w → Sorted holds b c x c'
+      → Sorted holds b d w d' → HoldBoth c' d'
   sorted_same true c d c' d' x w s e h g = (took_same like holds c.0 d.0 c'.0 d'.0 x w s.0 e h.0 g.0, rw (h.1, g.1) s.1)
-  sorted_same false c d c' d' x w s e h g = (rw (h.1, g.1) s.0, took_same like holds c.1 d.1 c'.1 d'.1 x w s.1 e h.0 g.0)
+  sorted_same false c d c' d' x w s e h g =
+      (rw (h.1, g.1) s.0, took_same like holds c.1 d.1 c'.1 d'.1 x w s.1 e h.0 g.0)
 
-  partition_asked : (p k q l : P × Option (B × B)) (x w : T) (o u : Option (Result (B × B) (Refused (B × B) T))) → Sorts p k → SameItem like x w
-      → (partitions holds test ⊥).asks p x o q → (partitions holds test ⊥).asks k w u l → Both (Gathered HoldBoth) (Sorts q l) o u
+  partition_asked : (p k q l : P × Option (B × B)) (x w : T) (o u : Option (Result (B × B) (Refused (B × B) T)))
+      → Sorts p k → SameItem like x w
+      → (partitions holds test ⊥).asks p x o q → (partitions holds test ⊥).asks k w u l
+      → SameDecision (SameCollected HoldBoth) (Sorts q l) o u
   partition_asked p k q l x w None None a e h g =
       let same = option_by HoldBoth p.1 k.1 h.1 g.1 a.1 h.4 g.4 in
       let t = agree_from_matches (SameItem like) (λ y z. y ≡ z) test p.0 k.0 q.0 l.0 x w h.0 g.0 a.0 e h.3 g.3 in
@@ -136,51 +159,61 @@ module _ {B T P : Type 0} (like : Sameness T) (holds : B → List T → Type 0) 
   partition_asked p k q l x w None (Some t) a e h g = g.0
   partition_asked p k q l x w (Some r) u a e h g = absurd h.0
 
-  pub partition_steady : FoldSteadyLaws (SameItem like) (partitions holds test ⊤) (partitions holds test ⊥) ⊥ Sorts (Gathered HoldBoth)
+  pub partition_steady : FoldSteadyLaws (SameItem like) (partitions holds test ⊤) (partitions holds test ⊥) ⊥ Sorts
+      (SameCollected HoldBoth)
   partition_steady =
       record {
         asks = partition_asked;
-        closes = λ p k q l r t a h g. ok_by HoldBoth r t h.0 g.0 h.2 g.2 (option_by HoldBoth p.1 k.1 h.0 g.0 a.1 h.1 g.1);
+        closes = λ p k q l r t a h g. ok_by HoldBoth r t h.0 g.0 h.2 g.2
+            (option_by HoldBoth p.1 k.1 h.0 g.0 a.1 h.1 g.1);
         found = λ n. absurd n;
       }
 
 -- the parts of pairs
 module _ {C D A B : Type 0} (holds_first : C → List A → Type 0) (holds_second : D → List B → Type 0) where
-  took_parts : (c c' : C × D) (x : A × B) → Took holds_first c.0 x.0 c'.0 → Took holds_second c.1 x.1 c'.1 → Took (HoldsParts holds_first holds_second) c x c'
+  took_parts : (c c' : C × D) (x : A × B) → Took holds_first c.0 x.0 c'.0 → Took holds_second c.1 x.1 c'.1
+      → Took (HoldsParts holds_first holds_second) c x c'
   took_parts c c' x h k l held = (
     subst (holds_first c'.0) (sym (map-append (λ p. p.0) l (x ∷ []))) (h (map (λ p. p.0) l) held.0),
     subst (holds_second c'.1) (sym (map-append (λ p. p.1) l (x ∷ []))) (k (map (λ p. p.1) l) held.1),
   )
 
-  parts_same : (like : Sameness (A × B)) (c d c' d' : C × D) (x w : A × B) → HoldsSameParts like holds_first holds_second c d → SameItem like x w
-      → Took holds_first c.0 x.0 c'.0 → Took holds_second c.1 x.1 c'.1 → Took holds_first d.0 w.0 d'.0 → Took holds_second d.1 w.1 d'.1 → HoldsSameParts like holds_first holds_second c' d'
+  parts_same : (like : Sameness (A × B)) (c d c' d' : C × D) (x w : A × B)
+      → HoldsSameParts like holds_first holds_second c d → SameItem like x w
+      → Took holds_first c.0 x.0 c'.0 → Took holds_second c.1 x.1 c'.1 → Took holds_first d.0 w.0 d'.0
+      → Took holds_second d.1 w.1 d'.1 → HoldsSameParts like holds_first holds_second c' d'
   parts_same Sameness.equal c d c' d' x w s e h k g j = (
     took_same Sameness.equal holds_first c.0 d.0 c'.0 d'.0 x.0 w.0 s.0 (λ i. (e i).0) h g,
     took_same Sameness.equal holds_second c.1 d.1 c'.1 d'.1 x.1 w.1 s.1 (λ i. (e i).1) k j,
   )
   parts_same (Sameness.by same) c d c' d' x w s e h k g j =
-      took_same (Sameness.by same) (HoldsParts holds_first holds_second) c d c' d' x w s e (took_parts c c' x h k) (took_parts d d' w g j)
+      took_same (Sameness.by same) (HoldsParts holds_first holds_second) c d c' d' x w s e (took_parts c c' x h k)
+      (took_parts d d' w g j)
 
-  pub no_parts : (like : Sameness (A × B)) (c d : C × D) → holds_first c.0 [] → holds_second c.1 [] → holds_first d.0 [] → holds_second d.1 [] → HoldsSameParts like holds_first holds_second c d
+  pub no_parts : (like : Sameness (A × B)) (c d : C × D) → holds_first c.0 [] → holds_second c.1 [] → holds_first d.0 []
+      → holds_second d.1 [] → HoldsSameParts like holds_first holds_second c d
   no_parts Sameness.equal c d h k g j = (([], h, g), ([], k, j))
   no_parts (Sameness.by same) c d h k g j = ([], [], (h, k), (g, j), tt)
 
   module _ (like : Sameness (A × B)) where
-    abbrev Same : C × D → C × D → Type 0
-    Same = HoldsSameParts like holds_first holds_second
+    abbrev SamePairs : C × D → C × D → Type 0
+    SamePairs = HoldsSameParts like holds_first holds_second
 
-    unzip_asked : (p k q l : Option (C × D)) (x w : A × B) (o u : Option (Result (C × D) (UnzipRefused C D A B))) → OptionBy Same p k → SameItem like x w
-        → (unzips holds_first holds_second ⊥).asks p x o q → (unzips holds_first holds_second ⊥).asks k w u l → Both (Gathered Same) (OptionBy Same q l) o u
+    unzip_asked : (p k q l : Option (C × D)) (x w : A × B) (o u : Option (Result (C × D) (UnzipRefused C D A B)))
+        → OptionBy SamePairs p k → SameItem like x w
+        → (unzips holds_first holds_second ⊥).asks p x o q → (unzips holds_first holds_second ⊥).asks k w u l
+        → SameDecision (SameCollected SamePairs) (OptionBy SamePairs q l) o u
     unzip_asked p k q l x w None None a e h g =
-        let same = option_by Same p k h.0 g.0 a h.2 g.2 in
-        some_by Same q l h.1 g.1 h.5 g.5 (parts_same like h.0 g.0 h.1 g.1 x w same e h.3 h.4 g.3 g.4)
+        let same = option_by SamePairs p k h.0 g.0 a h.2 g.2 in
+        some_by SamePairs q l h.1 g.1 h.5 g.5 (parts_same like h.0 g.0 h.1 g.1 x w same e h.3 h.4 g.3 g.4)
     unzip_asked p k q l x w None (Some t) a e h g = g.0
     unzip_asked p k q l x w (Some r) u a e h g = absurd h.0
 
-    pub unzip_steady : FoldSteadyLaws (SameItem like) (unzips holds_first holds_second ⊤) (unzips holds_first holds_second ⊥) ⊥ (OptionBy Same) (Gathered Same)
+    pub unzip_steady : FoldSteadyLaws (SameItem like) (unzips holds_first holds_second ⊤)
+        (unzips holds_first holds_second ⊥) ⊥ (OptionBy SamePairs) (SameCollected SamePairs)
     unzip_steady =
         record {
           asks = unzip_asked;
-          closes = λ p k q l r t a h g. ok_by Same r t h.0 g.0 h.2 g.2 (option_by Same p k h.0 g.0 a h.1 g.1);
+          closes = λ p k q l r t a h g. ok_by SamePairs r t h.0 g.0 h.2 g.2 (option_by SamePairs p k h.0 g.0 a h.1 g.1);
           found = λ n. absurd n;
         }

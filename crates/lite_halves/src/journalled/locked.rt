@@ -2,7 +2,8 @@
 ghost use Rattle.std.specs.Prelude.{◌≡◌, ◌≤◌, length, IfNone, IfOk, IfSome};
 ghost use Rattle.futures.specs.Poll.{IfReady};
 ghost use Rattle.futures.specs.Task.{Keeps};
-ghost use Rattle.lite_halves.specs.Counts.{AddsInside, CountsOn, booked_in, counted_in, got_in, nothing_counted, reads_in, taken_in, writes_in};
+ghost use Rattle.lite_halves.specs.Counts.{AddsInside, CountsOn, booked_in, counted_in, got_in, nothing_counted};
+ghost use Rattle.lite_halves.specs.Counts.{reads_in, taken_in, writes_in};
 ghost use Rattle.lite_halves.specs.declared.journalled.tally.Side.TheVariants.{Reading, Writing};
 ghost use Rattle.lite_io_base.specs.Marks.{count_of};
 ghost use Rattle.lite_journal.specs.Entry.{close_note, flush_note, read_note, write_note};
@@ -59,7 +60,8 @@ impl<T: Tale + AsyncWrite + Clone, B: Books> Locked<T, B> {
         cx: &mut Context<'_>,
         buf: &[u8],
     ) -> Option<Poll<io::Result<usize>>>
-        ensures added { IfSome result (λ r. AddsInside T.reads T.writes self.old.journal (write_note r buf.now) self.new.journal) }
+        ensures added { IfSome result
+            (λ r. AddsInside T.reads T.writes self.old.journal (write_note r buf.now) self.new.journal) }
         ensures some { IfSome result (λ r. CountsOn 1 (count_of r) tally.old tally.new) }
         ensures none { IfNone result (tally.new ≡ tally.old) }
         ensures bound { IfSome result (λ r. IfReady r (λ a. IfOk a (λ n. n ≤ length buf.now))) }

@@ -1,12 +1,13 @@
 //! The journalled half that reads.
 ghost use Rattle.std.specs.Prelude.{◌≡◌, ◌≤◌, ◌+◌, ◌%◌, ◌^◌, ◌⊎◌, ◌∷◌, [], length, map, IfNone, IfOk, IfSome};
-ghost use Rattle.futures.specs.Poll.{IfReady, OnPending};
-ghost use Rattle.futures.specs.Task.{Holds, Keeps, Lasting};
+ghost use Rattle.futures.specs.Poll.{IfReady};
+ghost use Rattle.futures.specs.Task.{Keeps};
 ghost use Rattle.lite_io_base.specs.Marks.{count_of, read_marks};
 ghost use Rattle.lite_io_base.specs.Runs.{ReadsInto, room_in};
 ghost use Rattle.lite_halves.specs.Counts.{CountsOn, HalfDrives, IsOutOfMemory, ReadCounts, moved_by, read_bytes_of};
-ghost use Rattle.lite_journal.specs.Entry.{Asked, Fits, told_in, told_of};
+ghost use Rattle.lite_journal.specs.Entry.{FitsCall, Request, told_in, told_of};
 ghost use Rattle.lite_halves.specs.Laws.Counts.{counts_laws};
+ghost use Rattle.lite_base.specs.Registered.{Registered};
 
 use super::books::{Books, Got, Reads};
 use super::locked::Locked;
@@ -33,9 +34,9 @@ pub struct JournalReadHalf<R, T: Tale + Takings + Clone, B: Books> {
 }
 
 impl<R, T: Tale + Takings + Clone, B: Books> Model for JournalReadHalf<R, T, B> {
-    ghost use Rattle.lite_halves.specs.Counts.{Counted};
+    ghost use Rattle.lite_halves.specs.Counts.{HalfCounts};
 
-    ghost Value = { Counted };
+    ghost Value = { HalfCounts };
 
     ghost view = { λ h. h.tally };
 }
@@ -85,7 +86,7 @@ impl<R: Wait, T: AsyncRead + Takings + Clone, B: Books> AsyncRead for JournalRea
         ensures ran { ReadCounts self.old (read_marks result buf.new) self.new }
         ensures calls { (self.new.calls ≡ self.old.calls + 1) ⊎ (IsOutOfMemory result × (self.new ≡ self.old)) }
         ensures bytes { self.new.bytes ≡ self.old.bytes + count_of result }
-        ensures left { OnPending result ((fact : Lasting) → ⊥ → Holds cx.new fact) }
+        ensures left { Registered result (λ _. ⊥) cx.new }
         ensures kept { Keeps cx.old cx.new }
     {
         match self.step(cx, buf) {
@@ -105,7 +106,7 @@ impl<R: Wait, T: AsyncRead + Takings + Clone, B: Books> AsyncRead for JournalRea
         ensures ran { ReadsInto ReadCounts self.old result bufs.old self.new }
         ensures calls { (self.new.calls ≡ self.old.calls + 1) ⊎ (IsOutOfMemory result × (self.new ≡ self.old)) }
         ensures bytes { self.new.bytes ≡ self.old.bytes + count_of result }
-        ensures left { OnPending result ((fact : Lasting) → ⊥ → Holds cx.new fact) }
+        ensures left { Registered result (λ _. ⊥) cx.new }
         ensures kept { Keeps cx.old cx.new }
     {
         match first_with_room(bufs) {
@@ -124,7 +125,7 @@ where
     // One read with its entry. `None`: there was no memory for the entry or the answer, and nothing was called.
     fn make(&mut self, cx: &mut Context<'_>, room: usize) -> Option<Answer>
         ensures some { IfSome result (λ a. CountsOn 1 (moved_by (told_of a)) self.old self.new) }
-        ensures fits { IfSome result (λ a. Fits (Asked.room room) (told_of a)) }
+        ensures fits { IfSome result (λ a. FitsCall (Request.room room) (told_of a)) }
         ensures none { IfNone result (self.new ≡ self.old) }
         ensures kept { Keeps cx.old cx.new }
     {
@@ -145,7 +146,8 @@ where
         rooms: &[usize],
         out: &mut Vec<Answer>,
     ) -> Result<(), AllocError>
-        ensures drives { HalfDrives (map Asked.room rooms.now) (told_in out.old.items) result self.old self.new (told_in out.new.items) }
+        ensures drives { HalfDrives (map Request.room rooms.now) (told_in out.old.items) result self.old self.new
+            (told_in out.new.items) }
         ensures kept { Keeps cx.old cx.new }
     {
         for room in rooms {

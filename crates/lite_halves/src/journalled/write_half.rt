@@ -1,14 +1,16 @@
 //! The journalled half that writes.
 ghost use Rattle.std.specs.Prelude.{◌≡◌, ◌≤◌, ◌+◌, ◌%◌, ◌^◌, ◌⊎◌, ◌∷◌, [], length, IfNone, IfOk, IfSome};
 ghost use Rattle.std.specs.Io.Slices.{io_slices_bytes};
-ghost use Rattle.futures.specs.Poll.{IfReady, OnPending};
-ghost use Rattle.futures.specs.Task.{Holds, Keeps, Lasting};
+ghost use Rattle.futures.specs.Poll.{IfReady};
+ghost use Rattle.futures.specs.Task.{Keeps};
 ghost use Rattle.lite_io_base.specs.Marks.{count_of};
 ghost use Rattle.lite_io_base.specs.Takings.{done_marks, write_marks};
-ghost use Rattle.lite_io_base.specs.Takings.Taking.{closed, flushed};
-ghost use Rattle.lite_halves.specs.Counts.{AllWrites, CountsOn, HalfDrives, IsOutOfMemory, IsWrite, WriteCounts, moved_by, taken_bytes_of};
-ghost use Rattle.lite_journal.specs.Entry.{Fits, asked_in, asked_of, told_in, told_of};
+ghost use Rattle.lite_io_base.specs.Takings.WriteMark.{closed, flushed};
+ghost use Rattle.lite_halves.specs.Counts.{AllWrites, CountsOn, HalfDrives, IsOutOfMemory, IsWrite, WriteCounts};
+ghost use Rattle.lite_halves.specs.Counts.{moved_by, taken_bytes_of};
+ghost use Rattle.lite_journal.specs.Entry.{FitsCall, asked_in, asked_of, told_in, told_of};
 ghost use Rattle.lite_halves.specs.Laws.Counts.{counts_laws};
+ghost use Rattle.lite_base.specs.Registered.{Registered};
 
 use super::books::{Books, Taken, Writes};
 use super::locked::Locked;
@@ -35,9 +37,9 @@ pub struct JournalWriteHalf<R, T: Tale + Takings + Clone, B: Books> {
 }
 
 impl<R, T: Tale + Takings + Clone, B: Books> Model for JournalWriteHalf<R, T, B> {
-    ghost use Rattle.lite_halves.specs.Counts.{Counted};
+    ghost use Rattle.lite_halves.specs.Counts.{HalfCounts};
 
-    ghost Value = { Counted };
+    ghost Value = { HalfCounts };
 
     ghost view = { λ h. h.tally };
 }
@@ -91,7 +93,7 @@ impl<R: Wait, T: Tale + AsyncWrite + Clone, B: Books> JournalWriteHalf<R, T, B> 
     fn make(&mut self, cx: &mut Context<'_>, call: &Call) -> Option<Answer>
         requires { IsWrite call.now }
         ensures some { IfSome result (λ a. CountsOn 1 (moved_by (told_of a)) self.old self.new) }
-        ensures fits { IfSome result (λ a. Fits (asked_of call.now) (told_of a)) }
+        ensures fits { IfSome result (λ a. FitsCall (asked_of call.now) (told_of a)) }
         ensures none { IfNone result (self.new ≡ self.old) }
         ensures kept { Keeps cx.old cx.new }
     {
@@ -146,7 +148,7 @@ impl<R: Wait, T: Tale + AsyncWrite + Clone, B: Books> AsyncWrite for JournalWrit
         ensures ran { WriteCounts self.old (write_marks result buf.now) self.new }
         ensures calls { (self.new.calls ≡ self.old.calls + 1) ⊎ (IsOutOfMemory result × (self.new ≡ self.old)) }
         ensures bytes { self.new.bytes ≡ self.old.bytes + count_of result }
-        ensures left { OnPending result ((fact : Lasting) → ⊥ → Holds cx.new fact) }
+        ensures left { Registered result (λ _. ⊥) cx.new }
         ensures kept { Keeps cx.old cx.new }
     {
         match self.step_write(cx, buf) {
@@ -167,7 +169,7 @@ impl<R: Wait, T: Tale + AsyncWrite + Clone, B: Books> AsyncWrite for JournalWrit
         ensures ran { WriteCounts self.old (write_marks result (io_slices_bytes bufs.now)) self.new }
         ensures calls { (self.new.calls ≡ self.old.calls + 1) ⊎ (IsOutOfMemory result × (self.new ≡ self.old)) }
         ensures bytes { self.new.bytes ≡ self.old.bytes + count_of result }
-        ensures left { OnPending result ((fact : Lasting) → ⊥ → Holds cx.new fact) }
+        ensures left { Registered result (λ _. ⊥) cx.new }
         ensures kept { Keeps cx.old cx.new }
     {
         self.poll_write(cx, first_nonempty(bufs))
@@ -177,7 +179,7 @@ impl<R: Wait, T: Tale + AsyncWrite + Clone, B: Books> AsyncWrite for JournalWrit
         ensures ran { WriteCounts self.old (done_marks flushed result) self.new }
         ensures calls { (self.new.calls ≡ self.old.calls + 1) ⊎ (IsOutOfMemory result × (self.new ≡ self.old)) }
         ensures bytes { self.new.bytes ≡ self.old.bytes }
-        ensures left { OnPending result ((fact : Lasting) → ⊥ → Holds cx.new fact) }
+        ensures left { Registered result (λ _. ⊥) cx.new }
         ensures kept { Keeps cx.old cx.new }
     {
         match self.step_flush(cx) {
@@ -190,7 +192,7 @@ impl<R: Wait, T: Tale + AsyncWrite + Clone, B: Books> AsyncWrite for JournalWrit
         ensures ran { WriteCounts self.old (done_marks closed result) self.new }
         ensures calls { (self.new.calls ≡ self.old.calls + 1) ⊎ (IsOutOfMemory result × (self.new ≡ self.old)) }
         ensures bytes { self.new.bytes ≡ self.old.bytes }
-        ensures left { OnPending result ((fact : Lasting) → ⊥ → Holds cx.new fact) }
+        ensures left { Registered result (λ _. ⊥) cx.new }
         ensures kept { Keeps cx.old cx.new }
     {
         match self.step_close(cx) {

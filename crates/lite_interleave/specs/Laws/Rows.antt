@@ -3,8 +3,9 @@ use Rattle.std.specs.Prelude.{◌⊎◌, ⊤, true, false, Some, None}
 use Rattle.std.proofs.Common.{◌≡◌, ◌∙◌, Bool, List, [], ◌∷◌, ◌++◌, map, inl, inr, refl, ap, sym, subst}
 use Rattle.futures.specs.declared.task.Poll.TheVariants.{Ready, Pending}
 use Rattle.lite_base.specs.Answers.{Answer, end, strip, until_end}
+use Rattle.lite_base.specs.Runs.{Runs}
 use Rattle.lite_interleave.specs.Interleaving.{EndsWith, GivesRest, Interleaves, items_given}
-use Rattle.lite_merge.specs.Merge.{Merges, Row, Rows, beside_pending}
+use Rattle.lite_merge.specs.Merge.{MergeRow, MergeRows, Merges, beside_pending}
 use Rattle.lite_stream.specs.Fuse.{AllEnds, FusesOn}
 use Rattle.lite_stream.specs.declared.fuse.Fuse.{Fuse}
 
@@ -17,11 +18,11 @@ module _ {A : Type 0} where
   HasEnd (Ready (Some x) ∷ l) = HasEnd l
 
   -- no answer is an end
-  abbrev pub NoEnd : List (Answer A) → Type 0
-  NoEnd [] = ⊤
-  NoEnd (Pending ∷ l) = NoEnd l
-  NoEnd (Ready None ∷ l) = ⊥
-  NoEnd (Ready (Some x) ∷ l) = NoEnd l
+  abbrev pub WithoutEnd : List (Answer A) → Type 0
+  WithoutEnd [] = ⊤
+  WithoutEnd (Pending ∷ l) = WithoutEnd l
+  WithoutEnd (Ready None ∷ l) = ⊥
+  WithoutEnd (Ready (Some x) ∷ l) = WithoutEnd l
 
   -- after an end there are ends alone
   abbrev EndsForEver : List (Answer A) → Type 0
@@ -57,7 +58,13 @@ module _ {A : Type 0} where
       record { first_on = e.0; second_on = k; taken = (sym e.1, refl); first_end = λ h. tt; second_end = λ h. h }
   row_second i j (Ready None) a k =
       let e = ends_for_ever i a in
-      record { first_on = e.0; second_on = (ends_for_ever j k).0; taken = (refl, refl); first_end = λ h. tt; second_end = λ h. tt }
+      record {
+        first_on = e.0;
+        second_on = (ends_for_ever j k).0;
+        taken = (refl, refl);
+        first_end = λ h. tt;
+        second_end = λ h. tt;
+      }
   row_second i j (Ready (Some y)) a k =
       let e = ends_for_ever i a in
       record { first_on = e.0; second_on = k; taken = inr (sym e.1, refl); first_end = λ h. tt; second_end = λ h. h }
@@ -65,23 +72,44 @@ module _ {A : Type 0} where
   -- the first is pending
   row_beside : (i j : List (Answer A)) (b : Answer A) → EndsForEver i → EndsForEver (b ∷ j)
       → ReadOn (beside_pending b) (Pending ∷ i) (b ∷ j) i j
-  row_beside i j Pending p q = record { first_on = p; second_on = q; taken = (refl, refl); first_end = λ h. h; second_end = λ h. h }
+  row_beside i j Pending p q =
+      record {
+        first_on = p;
+        second_on = q;
+        taken = (refl, refl);
+        first_end = λ h. h;
+        second_end = λ h. h;
+      }
   row_beside i j (Ready None) p q =
       let e = ends_for_ever j q in
       record { first_on = p; second_on = e.0; taken = (refl, sym e.1); first_end = λ h. h; second_end = λ h. tt }
-  row_beside i j (Ready (Some y)) p q = record { first_on = p; second_on = q; taken = inr (refl, refl); first_end = λ h. h; second_end = λ h. h }
+  row_beside i j (Ready (Some y)) p q =
+      record {
+        first_on = p;
+        second_on = q;
+        taken = inr (refl, refl);
+        first_end = λ h. h;
+        second_end = λ h. h;
+      }
 
-  row_on : (i j : List (Answer A)) (c : Answer A) (i' j' : List (Answer A)) → Row i j c i' j' → EndsForEver i → EndsForEver j → ReadOn c i j i' j'
+  row_on : (i j : List (Answer A)) (c : Answer A) (i' j' : List (Answer A)) → MergeRow i j c i' j' → EndsForEver i
+      → EndsForEver j → ReadOn c i j i' j'
   row_on [] j c i' j' r p q = absurd r
   row_on (Ready (Some x) ∷ i) j c i' j' r p q =
-      rw (r.0, r.1, r.2) (record { first_on = p; second_on = q; taken = inl (refl, refl); first_end = λ h. h; second_end = λ h. h })
+      rw (r.0, r.1, r.2) (record {
+        first_on = p;
+        second_on = q;
+        taken = inl (refl, refl);
+        first_end = λ h. h;
+        second_end = λ h. h;
+      })
   row_on (Ready None ∷ i) [] c i' j' r p q = absurd r
   row_on (Ready None ∷ i) (b ∷ j) c i' j' r p q = rw (r.0, r.1, r.2) (row_second i j b p q)
   row_on (Pending ∷ i) [] c i' j' r p q = absurd r
   row_on (Pending ∷ i) (b ∷ j) c i' j' r p q = rw (r.0, r.1, r.2) (row_beside i j b p q)
 
   -- an end goes out where both gave one
-  row_end : (i j i' j' : List (Answer A)) → Row i j end i' j' → HasEnd i × HasEnd j
+  row_end : (i j i' j' : List (Answer A)) → MergeRow i j end i' j' → HasEnd i × HasEnd j
   row_end [] j i' j' r = absurd r
   row_end (Ready (Some x) ∷ i) j i' j' r = absurd (cc r.0)
   row_end (Ready None ∷ i) [] i' j' r = absurd r
@@ -93,24 +121,26 @@ module _ {A : Type 0} where
   row_end (Pending ∷ i) (Ready None ∷ j) i' j' r = absurd (cc r.0)
   row_end (Pending ∷ i) (Ready (Some y) ∷ j) i' j' r = absurd (cc r.0)
 
-  taken_turned : (c : Answer A) (l m l' m' : List A) → Taken c m l m' l' → Taken c l m l' m'
-  taken_turned Pending l m l' m' t = (t.1, t.0)
-  taken_turned (Ready None) l m l' m' t = (t.1, t.0)
-  taken_turned (Ready (Some x)) l m l' m' (inl (e, f)) = inr (f, e)
-  taken_turned (Ready (Some x)) l m l' m' (inr (e, f)) = inl (f, e)
+  taken_swapped : (c : Answer A) (l m l' m' : List A) → Taken c m l m' l' → Taken c l m l' m'
+  taken_swapped Pending l m l' m' t = (t.1, t.0)
+  taken_swapped (Ready None) l m l' m' t = (t.1, t.0)
+  taken_swapped (Ready (Some x)) l m l' m' (inl (e, f)) = inr (f, e)
+  taken_swapped (Ready (Some x)) l m l' m' (inr (e, f)) = inl (f, e)
 
   -- what went out stands before an interleaving of what is left
-  interleaves_on : (c : Answer A) (l m l' m' : List A) (body : List (Answer A)) → NoEnd (c ∷ body) → Taken c l m l' m'
+  interleaves_on : (c : Answer A) (l m l' m' : List A) (body : List (Answer A)) → WithoutEnd (c ∷ body)
+      → Taken c l m l' m'
       → Interleaves l' m' (items_given body) → Interleaves l m (items_given (c ∷ body))
   interleaves_on Pending l m l' m' body n t h =
-      subst (λ k. Interleaves k m (items_given body)) (sym t.0) (subst (λ k. Interleaves l' k (items_given body)) (sym t.1) h)
+      subst (λ k. Interleaves k m (items_given body)) (sym t.0)
+      (subst (λ k. Interleaves l' k (items_given body)) (sym t.1) h)
   interleaves_on (Ready None) l m l' m' body n t h = absurd n
   interleaves_on (Ready (Some x)) l m l' m' body n (inl (e, f)) h =
       inl (l', e, subst (λ k. Interleaves l' k (items_given body)) (sym f) h)
   interleaves_on (Ready (Some x)) l m l' m' body n (inr (e, f)) h =
       inr (m', f, subst (λ k. Interleaves k m' (items_given body)) (sym e) h)
 
-  no_end_on : (c : Answer A) (body : List (Answer A)) → NoEnd (c ∷ body) → NoEnd body
+  no_end_on : (c : Answer A) (body : List (Answer A)) → WithoutEnd (c ∷ body) → WithoutEnd body
   no_end_on Pending body n = n
   no_end_on (Ready None) body n = absurd n
   no_end_on (Ready (Some x)) body n = n
@@ -121,7 +151,8 @@ module _ {A : Type 0} where
     pub second_end : HasEnd j
     pub interleaved : Interleaves (items_given i) (items_given j) (items_given body)
 
-  rows_merged : (o : List Bool) (i j body : List (Answer A)) → Rows o i j (body ++ end ∷ []) → NoEnd body → EndsForEver i → EndsForEver j → Merged i j body
+  rows_merged : (o : List Bool) (i j body : List (Answer A)) → MergeRows o i j (body ++ end ∷ []) → WithoutEnd body
+      → EndsForEver i → EndsForEver j → Merged i j body
   rows_merged [] i j [] r n p q = absurd (cc r.2)
   rows_merged [] i j (b ∷ body) r n p q = absurd (cc r.2)
   rows_merged (true ∷ o) i j [] r n p q =
@@ -130,7 +161,7 @@ module _ {A : Type 0} where
   rows_merged (false ∷ o) i j [] r n p q =
       let ends = row_end j i r.1 r.0 r.2 in
       let read = row_on j i end r.1 r.0 r.2 q p in
-      let taken = taken_turned end (items_given i) (items_given j) (items_given r.0) (items_given r.1) read.taken in
+      let taken = taken_swapped end (items_given i) (items_given j) (items_given r.0) (items_given r.1) read.taken in
       record { first_end = ends.1; second_end = ends.0; interleaved = taken }
   rows_merged (true ∷ o) i j (b ∷ body) r n p q =
       let read = row_on i j b r.0 r.1 r.2 p q in
@@ -143,7 +174,7 @@ module _ {A : Type 0} where
   rows_merged (false ∷ o) i j (b ∷ body) r n p q =
       let read = row_on j i b r.1 r.0 r.2 q p in
       let rest = rows_merged o r.0 r.1 body r.3 (no_end_on b body n) read.second_on read.first_on in
-      let taken = taken_turned b (items_given i) (items_given j) (items_given r.0) (items_given r.1) read.taken in
+      let taken = taken_swapped b (items_given i) (items_given j) (items_given r.0) (items_given r.1) read.taken in
       record {
         first_end = read.second_end rest.first_end;
         second_end = read.first_end rest.second_end;
@@ -166,11 +197,12 @@ module _ {A : Type 0} where
   ended_list (Ready (Some x) ∷ own) later u a = let e = ended_list own later (cc u) a in (e.0, ap (λ k. Some x ∷ k) e.1)
 
   -- the items, and then an end
-  abbrev Gave : List (Answer A) → List A → Type 0
-  Gave i l = (own : List (Answer A)) × (i ≡ own ++ end ∷ []) × (strip own ≡ map Some l)
+  abbrev GaveWhole : List (Answer A) → List A → Type 0
+  GaveWhole i l = (own : List (Answer A)) × (i ≡ own ++ end ∷ []) × (strip own ≡ map Some l)
 
   -- a fused list ends for ever, and where it ends, what came in are its items and then an end
-  fused_list : (i l : List (Answer A)) (g : Bool) → FusesOn false i l g → EndsForEver l × (HasEnd l → Gave i (items_given l))
+  fused_list : (i l : List (Answer A)) (g : Bool) → FusesOn false i l g → EndsForEver l
+      × (HasEnd l → GaveWhole i (items_given l))
   fused_list i l false h =
       let u = open_list i h.1 in
       (subst (λ k. EndsForEver k) (sym h.0) u.0, λ e. absurd (u.1 (subst (λ k. HasEnd k) h.0 e)))
@@ -179,7 +211,8 @@ module _ {A : Type 0} where
       (subst (λ k. EndsForEver k) (sym h.4) e.0, λ d. (h.0, h.2, e.1 ∙ ap (λ k. map Some (items_given k)) (sym h.4)))
 
 -- a list of a fused stream ends for ever, and where it ends, its items are all that the stream had
-fused_rest : {S A : Type 0} (run : S → List (Answer A) → S → Type 0) → ((x y : S) → run x [] y → y ≡ x) → (g : Bool) (s t : S) (i l : List (Answer A))
+fused_rest : {S A : Type 0} (run : Runs (Answer A) S) → ((x y : S) → run x [] y → y ≡ x)
+    → (g : Bool) (s t : S) (i l : List (Answer A))
     → (d : Bool) → run s i t → FusesOn g i l d → EndsForEver l × (HasEnd l → EndsWith run g s (items_given l) t)
 fused_rest run stays true s t i l d came h =
     let e = ends_for_ever l h.1 in
@@ -188,14 +221,17 @@ fused_rest run stays false s t i l d came h =
     let f = fused_list i l d h in
     (f.0, λ e. let g = f.1 e in (g.0, subst (λ j. run s j t) g.1 came, g.2))
 
-module _ {S U A : Type 0} (run : S → List (Answer A) → S → Type 0) (run' : U → List (Answer A) → U → Type 0)
+module _ {S U A : Type 0} (run : Runs (Answer A) S) (run' : Runs (Answer A) U)
     (stays : (x y : S) → run x [] y → y ≡ x) (stays' : (x y : U) → run' x [] y → y ≡ x) where
   -- of answers that end once: both streams gave all that they had, and what went out is an interleaving
-  pub merged_whole : (o : List Bool) (s : Fuse S) (u : Fuse U) (body : List (Answer A)) (t : Fuse S) (v : Fuse U) → NoEnd body
+  pub merged_whole : (o : List Bool) (s : Fuse S) (u : Fuse U) (body : List (Answer A)) (t : Fuse S) (v : Fuse U)
+      → WithoutEnd body
       → Merges run run' o s u (body ++ end ∷ []) t v
-      → (firsts seconds : List A) × GivesRest run s firsts t × GivesRest run' u seconds v × Interleaves firsts seconds (items_given body)
+      → (firsts seconds : List A) × GivesRest run s firsts t × GivesRest run' u seconds v
+      × Interleaves firsts seconds (items_given body)
   merged_whole o s u body t v n h =
-      let first = fused_rest run stays s.done s.stream t.stream h.came.ins h.firsts t.done h.came.came h.came.turned in
-      let second = fused_rest run' stays' u.done u.stream v.stream h.then_came.ins h.seconds v.done h.then_came.came h.then_came.turned in
+      let first = fused_rest run stays s.done s.stream t.stream h.came.ins h.firsts t.done h.came.came h.came.related in
+      let second = fused_rest run' stays' u.done u.stream v.stream h.then_came.ins h.seconds v.done h.then_came.came
+      h.then_came.related in
       let m = rows_merged o h.firsts h.seconds body h.rows n first.0 second.0 in
       (items_given h.firsts, items_given h.seconds, first.1 m.first_end, second.1 m.second_end, m.interleaved)

@@ -1,41 +1,46 @@
 use Rattle.std.proofs.Common.{List, [], ◌∷◌, refl, sym, subst, append-nil}
-use Rattle.lite_io_base.specs.Marks.{Mark, bytes}
-use Rattle.lite_io_base.specs.Parts.{Part, Parts, reading_of}
-use Rattle.lite_io_base.specs.Runs.{Runs}
-use Rattle.lite_io_base.specs.Takings.{Taking}
+use Rattle.lite_io_base.specs.Marks.{ReadMark, bytes}
+use Rattle.lite_io_base.specs.Parts.{Part, PartsInOrder, reading_of}
+use Rattle.lite_io_base.specs.Takings.{WriteMark}
 use Rattle.lite_io.specs.declared.buf_reader.BufReader.{BufReader}
-use Rattle.lite_io.specs.BufReader.{Passes, Past, Through, ahead, capacity_of}
+use Rattle.lite_io.specs.BufReader.{PassesBuffer, Past, ThroughBuffer, ahead, reader_capacity}
 use Rattle.lite_io.specs.InOrder.{KeepsOrder, SameWrites}
 use Rattle.lite_io.specs.Laws.BufReader.{ahead_none, passes_both, passes_of}
+use Rattle.lite_base.specs.Runs.{Runs}
 
-module _ {R : Type 0} (reads : Runs Mark R) (writes : Runs Taking R) where
+module _ {R : Type 0} (reads : Runs ReadMark R) (writes : Runs WriteMark R) where
   record Inside (x : BufReader R) (ps : List Part) (y : BufReader R) : Type 0 where
     inner : List Part
-    ran : Parts reads writes x.inner inner y.inner
+    ran : PartsInOrder reads writes x.inner inner y.inner
     same : SameWrites ps inner
-    passes : Passes (capacity_of x) (ahead x) (reading_of inner) (reading_of ps) (ahead y)
+    passes : PassesBuffer (reader_capacity x) (ahead x) (reading_of inner) (reading_of ps) (ahead y)
 
-  inside : (x : BufReader R) (ps : List Part) (y : BufReader R) → Parts (Through reads) (Past writes) x ps y → Inside x ps y
+  inside : (x : BufReader R) (ps : List Part) (y : BufReader R)
+      → PartsInOrder (ThroughBuffer reads) (Past writes) x ps y → Inside x ps y
   inside x [] y h =
-      let still = passes_of (capacity_of x) (ahead x) [] [] (ahead x) (append-nil (bytes (ahead x))) (λ none. (ahead_none x none, ahead_none x none)) in
+      let still = passes_of (reader_capacity x) (ahead x) [] [] (ahead x) (append-nil (bytes (ahead x)))
+      (λ none. (ahead_none x none, ahead_none x none)) in
       subst (λ z. Inside x [] z) (sym h) (record { inner = []; ran = refl; same = tt; passes = still })
   inside x (Part.reading l ∷ ps) y (z, a, h) =
       let r = inside z ps y h in
-      let next = subst (λ n. Passes n (ahead z) (reading_of r.inner) (reading_of ps) (ahead y)) a.capacity r.passes in
+      let next = subst
+      (λ n. PassesBuffer n (ahead z) (reading_of r.inner) (reading_of ps) (ahead y)) a.capacity r.passes in
       record {
         inner = Part.reading a.came ∷ r.inner;
         ran = (z.inner, a.ran, r.ran);
         same = r.same;
-        passes = passes_both (capacity_of x) (ahead x) (ahead z) (ahead y) a.came l (reading_of r.inner) (reading_of ps) a.passes next;
+        passes = passes_both (reader_capacity x) (ahead x) (ahead z) (ahead y) a.came l (reading_of r.inner)
+            (reading_of ps) a.passes next;
       }
   inside x (Part.writing l ∷ ps) y (z, a, h) =
       let r = inside z ps y h in
-      let next = subst (λ n. Passes n (ahead z) (reading_of r.inner) (reading_of ps) (ahead y)) a.1 r.passes in
+      let next = subst (λ n. PassesBuffer n (ahead z) (reading_of r.inner) (reading_of ps) (ahead y)) a.1 r.passes in
       record {
         inner = Part.writing l ∷ r.inner;
         ran = (z.inner, a.0, r.ran);
         same = (refl, r.same);
-        passes = subst (λ p. Passes (capacity_of x) p (reading_of r.inner) (reading_of ps) (ahead y)) a.2 next;
+        passes = subst
+            (λ p. PassesBuffer (reader_capacity x) p (reading_of r.inner) (reading_of ps) (ahead y)) a.2 next;
       }
 
   pub in_order : (x : BufReader R) → KeepsOrder reads writes x

@@ -3,31 +3,33 @@ use Rattle.std.proofs.Common.{◌≡◌, ◌∙◌, ℕ, List, [], ◌∷◌, �
 use Rattle.std.specs.Prelude.{⊤}
 use denote.MutBor.{MutBor}
 use Rattle.lite_base.specs.Lent.{Lent}
-use Rattle.lite_io_base.specs.Known.{Known, Spends}
-use Rattle.lite_io_base.specs.Marks.{Mark, bytes}
-use Rattle.lite_io_base.specs.Told.{Told}
+use Rattle.lite_io_base.specs.Known.{Known, TellsKnown}
+use Rattle.lite_io_base.specs.Marks.{ReadMark, bytes}
+use Rattle.lite_io_base.specs.Told.{TellsScript}
 
-pub spends_both : (xs ys zs : List ℕ) (l m : List Mark) → Spends xs l ys → Spends ys m zs → Spends xs (l ++ m) zs
-spends_both xs ys zs [] m h k = subst (λ v. Spends v m zs) h k
-spends_both xs ys zs (Mark.byte b ∷ l) m h k = (h.0, h.1, spends_both h.0 ys zs l m h.2 k)
-spends_both xs ys zs (Mark.pending ∷ l) m h k = spends_both xs ys zs l m h k
-spends_both xs ys zs (Mark.fault kind ∷ l) m h k = absurd h
-spends_both xs ys zs (Mark.end ∷ l) m h k = (h.0, spends_both xs ys zs l m h.1 k)
+pub spends_both : (xs ys zs : List ℕ) (l m : List ReadMark) → TellsKnown xs l ys → TellsKnown ys m zs
+    → TellsKnown xs (l ++ m) zs
+spends_both xs ys zs [] m h k = subst (λ v. TellsKnown v m zs) h k
+spends_both xs ys zs (ReadMark.byte b ∷ l) m h k = (h.0, h.1, spends_both h.0 ys zs l m h.2 k)
+spends_both xs ys zs (ReadMark.pending ∷ l) m h k = spends_both xs ys zs l m h k
+spends_both xs ys zs (ReadMark.fault kind ∷ l) m h k = absurd h
+spends_both xs ys zs (ReadMark.end ∷ l) m h k = (h.0, spends_both xs ys zs l m h.1 k)
 
-pub spends_split : (xs zs : List ℕ) (l m : List Mark) → Spends xs (l ++ m) zs → (ys : List ℕ) × Spends xs l ys × Spends ys m zs
+pub spends_split : (xs zs : List ℕ) (l m : List ReadMark) → TellsKnown xs (l ++ m) zs → (ys : List ℕ)
+    × TellsKnown xs l ys × TellsKnown ys m zs
 spends_split xs zs [] m h = (xs, refl, h)
-spends_split xs zs (Mark.byte b ∷ l) m h = let r = spends_split h.0 zs l m h.2 in (r.0, (h.0, h.1, r.1), r.2)
-spends_split xs zs (Mark.pending ∷ l) m h = spends_split xs zs l m h
-spends_split xs zs (Mark.fault kind ∷ l) m h = absurd h
-spends_split xs zs (Mark.end ∷ l) m h = let r = spends_split xs zs l m h.1 in (r.0, (h.0, r.1), r.2)
+spends_split xs zs (ReadMark.byte b ∷ l) m h = let r = spends_split h.0 zs l m h.2 in (r.0, (h.0, h.1, r.1), r.2)
+spends_split xs zs (ReadMark.pending ∷ l) m h = spends_split xs zs l m h
+spends_split xs zs (ReadMark.fault kind ∷ l) m h = absurd h
+spends_split xs zs (ReadMark.end ∷ l) m h = let r = spends_split xs zs l m h.1 in (r.0, (h.0, r.1), r.2)
 
 -- bytes from the front
-pub spends_front : (xs ys : List ℕ) → Spends (xs ++ ys) (bytes xs) ys
+pub spends_front : (xs ys : List ℕ) → TellsKnown (xs ++ ys) (bytes xs) ys
 spends_front [] ys = refl
 spends_front (x ∷ xs) ys = (xs ++ ys, refl, spends_front xs ys)
 
 -- and nothing else are bytes
-pub spends_bytes : (bs xs ys : List ℕ) → Spends xs (bytes bs) ys → xs ≡ bs ++ ys
+pub spends_bytes : (bs xs ys : List ℕ) → TellsKnown xs (bytes bs) ys → xs ≡ bs ++ ys
 spends_bytes [] xs ys h = sym h
 spends_bytes (b ∷ bs) xs ys h = h.1 ∙ ap (λ v. b ∷ v) (spends_bytes bs h.0 ys h.2)
 
@@ -41,21 +43,22 @@ same_bytes (x ∷ xs) (y ∷ ys) e =
     let rest = same_bytes xs ys others in
     cc
 
-pub told_spends : (xs ys : List ℕ) (l : List Mark) → Told (bytes xs) l (bytes ys) → Spends xs l ys
+pub told_spends : (xs ys : List ℕ) (l : List ReadMark) → TellsScript (bytes xs) l (bytes ys) → TellsKnown xs l ys
 told_spends xs ys [] h = same_bytes xs ys h
-told_spends [] ys (Mark.byte b ∷ l) h = absurd (let e = h.0 in cc)
-told_spends [] ys (Mark.pending ∷ l) h = absurd (let e = h.0 in cc)
-told_spends [] ys (Mark.fault kind ∷ l) h = absurd (let e = h.0 in cc)
-told_spends [] ys (Mark.end ∷ l) h = (refl, told_spends [] ys l h.1)
-told_spends (x ∷ xs) ys (Mark.byte b ∷ l) h = let e = h.0 in let same : x ∷ xs ≡ b ∷ xs = cc in (xs, same, told_spends xs ys l h.1)
-told_spends (x ∷ xs) ys (Mark.pending ∷ l) h = absurd (let e = h.0 in cc)
-told_spends (x ∷ xs) ys (Mark.fault kind ∷ l) h = absurd (let e = h.0 in cc)
-told_spends (x ∷ xs) ys (Mark.end ∷ l) h = absurd (let e = h.0 in cc)
+told_spends [] ys (ReadMark.byte b ∷ l) h = absurd (let e = h.0 in cc)
+told_spends [] ys (ReadMark.pending ∷ l) h = absurd (let e = h.0 in cc)
+told_spends [] ys (ReadMark.fault kind ∷ l) h = absurd (let e = h.0 in cc)
+told_spends [] ys (ReadMark.end ∷ l) h = (refl, told_spends [] ys l h.1)
+told_spends (x ∷ xs) ys (ReadMark.byte b ∷ l) h =
+    let e = h.0 in let same : x ∷ xs ≡ b ∷ xs = cc in (xs, same, told_spends xs ys l h.1)
+told_spends (x ∷ xs) ys (ReadMark.pending ∷ l) h = absurd (let e = h.0 in cc)
+told_spends (x ∷ xs) ys (ReadMark.fault kind ∷ l) h = absurd (let e = h.0 in cc)
+told_spends (x ∷ xs) ys (ReadMark.end ∷ l) h = absurd (let e = h.0 in cc)
 
 -- a value that tells its bytes, and then ends for ever
 abbrev pub told_known : {S : Type 0} (held : S → List ℕ) → Known S
 told_known held = record {
-  told = λ x l y. Told (bytes (held x)) l (bytes (held y));
+  told = λ x l y. TellsScript (bytes (held x)) l (bytes (held y));
   knows = λ x. ⊤;
   left = held;
   tells = λ x y l k h. (tt, told_spends (held x) (held y) l h);

@@ -2,21 +2,24 @@
 use Rattle.std.proofs.Common.{◌≡◌, ◌∙◌, ap, refl}
 use Rattle.lite_base.specs.Lent.{Lent}
 use Rattle.lite_base.specs.Ranks.{Ranks, ranks_of}
+use Rattle.lite_base.specs.Runs.{Runs}
 use Rattle.lite_io_base.specs.Counting.{ReadCounting}
-use Rattle.lite_io_base.specs.Marks.{Mark}
-use Rattle.lite_io_base.specs.Runs.{RunLaws, Runs}
+use Rattle.lite_io_base.specs.Marks.{ReadMark}
+use Rattle.lite_io_base.specs.Runs.{MarkLaws}
 use denote.MutBor.{MutBor}
 
-lent_still : {S : Type 0} (x y z : MutBor S) → y ≡ record x { now = y.now } → z ≡ record y { now = z.now } → z ≡ record x { now = z.now }
+lent_still : {S : Type 0} (x y z : MutBor S) → y ≡ record x { now = y.now } → z ≡ record y { now = z.now }
+    → z ≡ record x { now = z.now }
 lent_still {S} x y z e d = d ∙ ap (λ (r : MutBor S). record r { now = z.now }) e
 
-pub lent_laws : {A S : Type 0} {run : Runs A S} → RunLaws run → RunLaws (Lent run)
+pub lent_laws : {A S : Type 0} {run : Runs A S} → MarkLaws run → MarkLaws (Lent run)
 lent_laws laws = record {
   rests = λ x. (laws.rests x.now, refl);
   follows = λ x y z l m h k. (laws.follows x.now y.now z.now l m h.0 k.0, lent_still x y z h.1 k.1);
 }
 
-pub lent_counting : {S : Type 0} {reads : Runs Mark S} {r : Ranks S} → ReadCounting reads r → ReadCounting (Lent reads) (ranks_of (λ (m : MutBor S). m.now) r)
+pub lent_counting : {S : Type 0} {reads : Runs ReadMark S} {r : Ranks S} → ReadCounting reads r
+    → ReadCounting (Lent reads) (ranks_of (λ (m : MutBor S). m.now) r)
 lent_counting c = record {
   sized = λ x. c.sized x.now;
   counts_on = λ x y l k h. c.counts_on x.now y.now l k h.0;

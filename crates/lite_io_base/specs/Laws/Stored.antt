@@ -5,15 +5,15 @@ use denote.MutBor.{MutBor}
 use Rattle.lite_base.specs.Lent.{Lent}
 use Rattle.lite_io_base.specs.Grows.{Grows}
 use Rattle.lite_io_base.specs.Stored.{Stored}
-use Rattle.lite_io_base.specs.Takings.{Taking, bytes_of}
+use Rattle.lite_io_base.specs.Takings.{WriteMark, bytes_taken}
 
-pub grows_kept : (xs ys : List ℕ) (l : List Taking) → Grows xs l ys → ys ≡ xs ++ bytes_of l
+pub grows_kept : (xs ys : List ℕ) (l : List WriteMark) → Grows xs l ys → ys ≡ xs ++ bytes_taken l
 grows_kept xs ys [] h = h ∙ sym (append-nil xs)
-grows_kept xs ys (Taking.wrote zs ∷ l) h = grows_kept (xs ++ zs) ys l h ∙ append_assoc xs zs (bytes_of l)
-grows_kept xs ys (Taking.fault kind ∷ l) h = grows_kept xs ys l h.1
-grows_kept xs ys (Taking.flushed ∷ l) h = grows_kept xs ys l h
-grows_kept xs ys (Taking.closed ∷ l) h = grows_kept xs ys l h
-grows_kept xs ys (Taking.pending ∷ l) h = absurd h
+grows_kept xs ys (WriteMark.wrote zs ∷ l) h = grows_kept (xs ++ zs) ys l h ∙ append_assoc xs zs (bytes_taken l)
+grows_kept xs ys (WriteMark.fault kind ∷ l) h = grows_kept xs ys l h.1
+grows_kept xs ys (WriteMark.flushed ∷ l) h = grows_kept xs ys l h
+grows_kept xs ys (WriteMark.closed ∷ l) h = grows_kept xs ys l h
+grows_kept xs ys (WriteMark.pending ∷ l) h = absurd h
 
 -- a value that keeps what it takes behind what it holds
 abbrev pub grows_stored : {S : Type 0} (held : S → List ℕ) → Stored S

@@ -6,13 +6,13 @@ use Rattle.std.specs.declared.string.String.{String}
 use Rattle.std.specs.declared.vec.Vec.{Vec}
 use Rattle.futures.specs.declared.task.Poll.TheVariants.{Ready, Pending}
 use Rattle.lite_base.specs.Answers.{Answer, item}
-use Rattle.lite_io_base.specs.Marks.{Mark}
-use Rattle.lite_io_base.specs.Runs.{Runs}
+use Rattle.lite_base.specs.Runs.{Runs}
+use Rattle.lite_io_base.specs.Marks.{ReadMark}
 use Rattle.lite_io_base.specs.Steady.{AllAmple}
 use Rattle.lite_lines.specs.Lines.{GivesLines, lines_over}
 use Rattle.lite_lines.specs.NoneRefused.{NoneRefused, NotRefused}
-use Rattle.lite_lines.specs.Pieces.{Cut, Cuts, Itemised, pieces}
-use Rattle.lite_lines.specs.Segments.{Flows, Over, Segments}
+use Rattle.lite_lines.specs.Pieces.{Cut, CutsPiece, Itemised, pieces}
+use Rattle.lite_lines.specs.Segments.{Flows, PieceSegments, StreamOver}
 use Rattle.lite_lines.specs.Split.{IsVec, Splits, split_over}
 use Rattle.lite_lines.specs.Texts.{IsText, without_return}
 use Rattle.lite_lines.specs.declared.lines.Lines.{Lines}
@@ -20,22 +20,32 @@ use Rattle.lite_lines.specs.declared.split.Split.{Split}
 
 module _ {A : Type 0} (whole final : List ℕ → Result A Error → Type 0) where
   -- an item that is no refusal comes of a mark
-  cuts_found : (byte : ℕ) (held after : List ℕ) (marks : List Mark) (cut : Cut) (v : Option (Result A Error)) → NotRefused (Ready v)
-      → Cuts byte ⊤ held marks cut
-      → Itemised whole final cut held v after → Cuts byte ⊥ held marks cut
+  cuts_found : (byte : ℕ) (held after : List ℕ) (marks : List ReadMark) (cut : Cut) (v : Option (Result A Error))
+      → NotRefused (Ready v)
+      → CutsPiece byte ⊤ held marks cut
+      → Itemised whole final cut held v after → CutsPiece byte ⊥ held marks cut
   cuts_found byte held after marks (Cut.piece xs) v none c made = c
   cuts_found byte held after marks (Cut.last xs) v none c made = c
   cuts_found byte held after marks Cut.nothing v none c made = c
   cuts_found byte held after marks (Cut.failed e) v none (inl c) made = inl c
   cuts_found byte held after marks (Cut.failed e) None none (inr c) made = absurd made
-  cuts_found byte held after marks (Cut.failed e) (Some r) none (inr c) made = absurd (none e (ap (λ s. item s) made.0) c.2)
+  cuts_found byte held after marks (Cut.failed e) (Some r) none (inr c) made =
+      absurd (none e (ap (λ s. item s) made.0) c.2)
 
-  segments_found : (byte : ℕ) (p q : List ℕ) (marks : List Mark) (out : List (Answer (Result A Error))) → NoneRefused out
-      → Segments (pieces byte ⊤ (Itemised whole final)) p marks out q → Segments (pieces byte ⊥ (Itemised whole final)) p marks out q
+  segments_found : (byte : ℕ) (p q : List ℕ) (marks : List ReadMark) (out : List (Answer (Result A Error)))
+      → NoneRefused out
+      → PieceSegments (pieces byte ⊤ (Itemised whole final)) p marks out q
+      → PieceSegments (pieces byte ⊥ (Itemised whole final)) p marks out q
   segments_found byte p q marks [] none h = h
   segments_found byte p q marks (Pending ∷ out) none h =
-      let w = h.4 in
-      (h.0, h.1, h.2, h.3, record { taken = w.taken; cut = w.cut; folds = w.folds; asks = w.asks }, segments_found byte h.2 q h.1 out none.1 h.5)
+      let w = h.4 in (
+        h.0,
+        h.1,
+        h.2,
+        h.3,
+        record { taken = w.taken; cut = w.cut; folds = w.folds; asks = w.asks },
+        segments_found byte h.2 q h.1 out none.1 h.5,
+      )
   segments_found byte p q marks (Ready v ∷ out) none h =
       let c = h.4 in
       let cuts = cuts_found byte c.between h.2 c.last c.gives.0 v none.0 c.gives.1 c.gives.2 in (
@@ -43,11 +53,18 @@ module _ {A : Type 0} (whole final : List ℕ → Result A Error → Type 0) whe
         h.1,
         h.2,
         h.3,
-        record { taken = c.taken; last = c.last; cut = c.cut; between = c.between; folds = c.folds; gives = (c.gives.0, cuts, c.gives.2) },
+        record {
+          taken = c.taken;
+          last = c.last;
+          cut = c.cut;
+          between = c.between;
+          folds = c.folds;
+          gives = (c.gives.0, cuts, c.gives.2);
+        },
         segments_found byte h.2 q h.1 out none.1 h.5,
       )
 
-  module _ {X S K : Type 0} (over : Over X S (List ℕ) K) (byte : K → ℕ) {reads ample : Runs Mark S} where
+  module _ {X S K : Type 0} (over : StreamOver X S (List ℕ) K) (byte : K → ℕ) {reads ample : Runs ReadMark S} where
     flow_found : AllAmple reads ample → (x y : X) (out : List (Answer (Result A Error))) → NoneRefused out
         → Flows over (λ k. pieces (byte k) ⊤ (Itemised whole final)) reads x out y
         → Flows over (λ k. pieces (byte k) ⊥ (Itemised whole final)) ample x out y
@@ -57,11 +74,13 @@ module _ {A : Type 0} (whole final : List ℕ → Result A Error → Type 0) whe
         let cut = segments_found (byte (over.kept x)) (over.held x) (over.held y) s.marks out none s.cut in
         record { segmented = record { marks = s.marks; came = came; cut = cut }; stays = h.stays; idle = h.idle }
 
-module _ {R : Type 0} {reads ample : Runs Mark R} where
-  pub lines_ample : AllAmple reads ample → (x y : Lines R) (out : List (Answer (Result (String Global) Error))) → NoneRefused out
+module _ {R : Type 0} {reads ample : Runs ReadMark R} where
+  pub lines_ample : AllAmple reads ample → (x y : Lines R) (out : List (Answer (Result (String Global) Error)))
+      → NoneRefused out
       → GivesLines reads ⊤ x out y → GivesLines ample ⊥ x out y
   lines_ample = flow_found (λ xs. IsText (without_return xs)) IsText lines_over (λ u. 10)
 
-  pub split_ample : AllAmple reads ample → (x y : Split R) (out : List (Answer (Result (Vec ℕ Global) Error))) → NoneRefused out → Splits reads ⊤ x out y
+  pub split_ample : AllAmple reads ample → (x y : Split R) (out : List (Answer (Result (Vec ℕ Global) Error)))
+      → NoneRefused out → Splits reads ⊤ x out y
       → Splits ample ⊥ x out y
   split_ample = flow_found IsVec IsVec split_over (λ byte. byte)

@@ -7,17 +7,17 @@ use Rattle.std.specs.declared.vec.Vec.{Vec}
 use Rattle.lite_base.specs.Calm.{CalmLaws}
 use Rattle.lite_base.specs.Alike.{Sameness}
 use Rattle.lite_base.specs.Steady.{FutureSteadyLawsBy}
-use Rattle.lite_io_base.specs.Marks.{Mark}
-use Rattle.lite_io_base.specs.Runs.{Runs}
+use Rattle.lite_base.specs.Runs.{Runs}
+use Rattle.lite_io_base.specs.Marks.{ReadMark}
 use Rattle.lite_io_base.specs.Steady.{CalmReadLaws, SteadyReadLaws}
-use Rattle.lite_read.specs.Gathering.{Gathered}
-use Rattle.lite_read.specs.Laws.Settling.{gathered_alike, gathers_prompt}
-use Rattle.lite_read.specs.Settling.{SameByKind, Settles}
+use Rattle.lite_read.specs.ReadFold.{ReadFolded}
+use Rattle.lite_read.specs.Laws.Deterministic.{read_folded_alike, read_folds_no_pending}
+use Rattle.lite_read.specs.Deterministic.{IsDeterministic, SameByKind}
 use Rattle.lite_lines.specs.Laws.ReadUntil.{until_laws}
-use Rattle.lite_lines.specs.Laws.Settling.{BecomesOne, MakesOne, pieces_settle}
+use Rattle.lite_lines.specs.Laws.Deterministic.{BecomesOne, MakesOne, pieces_deterministic}
 use Rattle.lite_lines.specs.Pieces.{Cut}
 use Rattle.lite_lines.specs.Appending.{read_of}
-use Rattle.lite_lines.specs.ReadUntil.{Counted, ReadsUntil, until}
+use Rattle.lite_lines.specs.ReadUntil.{CountsPiece, ReadsUntil, until}
 use Rattle.lite_lines.specs.Split.{IsVec}
 use Rattle.lite_lines.specs.Texts.{IsText, without_return}
 use Rattle.lite_lines.specs.declared.read_until.ReadUntilFuture.{ReadUntilFuture}
@@ -43,12 +43,14 @@ text_one xs (Err e) (Err f) h k = h.0 ∙ sym k.0
 pub line_one : MakesOne SameText (λ xs. IsText (without_return xs))
 line_one xs r s h k = text_one (without_return xs) r s h k
 
-counted_one : (byte : ℕ) → BecomesOne SameByKind (Counted byte)
+counted_one : (byte : ℕ) → BecomesOne SameByKind (CountsPiece byte)
 counted_one byte (Cut.piece xs) (Cut.piece ys) held v w p q e h k =
     let same = h.0 ∙ ap (λ zs. zs ++ byte ∷ []) e ∙ sym k.0 in
     rw (h.1, k.1) (ap length same, same)
-counted_one byte (Cut.last xs) (Cut.last ys) held v w p q e h k = let same = h.0 ∙ e ∙ sym k.0 in rw (h.1, k.1) (ap length same, same)
-counted_one byte Cut.nothing Cut.nothing held v w p q e h k = let same = h.0 ∙ sym k.0 in rw (h.1, k.1) (ap length same, same)
+counted_one byte (Cut.last xs) (Cut.last ys) held v w p q e h k =
+    let same = h.0 ∙ e ∙ sym k.0 in rw (h.1, k.1) (ap length same, same)
+counted_one byte Cut.nothing Cut.nothing held v w p q e h k =
+    let same = h.0 ∙ sym k.0 in rw (h.1, k.1) (ap length same, same)
 counted_one byte (Cut.failed a) (Cut.failed b) held v w p q e h k = rw (h.1, k.1) (e, h.0 ∙ sym k.0)
 counted_one byte (Cut.piece xs) (Cut.last ys) held v w p q e h k = absurd e
 counted_one byte (Cut.piece xs) Cut.nothing held v w p q e h k = absurd e
@@ -63,33 +65,38 @@ counted_one byte (Cut.failed a) (Cut.piece ys) held v w p q e h k = absurd e
 counted_one byte (Cut.failed a) (Cut.last ys) held v w p q e h k = absurd e
 counted_one byte (Cut.failed a) Cut.nothing held v w p q e h k = absurd e
 
-pub until_settles : (byte : ℕ) → Settles SameByKind (until byte ⊥)
-until_settles byte = pieces_settle byte (Counted byte) (counted_one byte)
+pub until_deterministic : (byte : ℕ) → IsDeterministic SameByKind (until byte ⊥)
+until_deterministic byte = pieces_deterministic byte (CountsPiece byte) (counted_one byte)
 
 module _ {R : Type 0} where
   -- they read to the same byte, and have read the same, over readers that are alike
   abbrev pub UntilAlike : (R → R → Type 0) → ReadUntilFuture R → ReadUntilFuture R → Type 0
   UntilAlike alike x y = alike x.reader.now y.reader.now × (read_of x ≡ read_of y) × (x.byte ≡ y.byte)
 
-  module _ {reads : Runs Mark R} where
-    pub until_steady : {ample : Runs Mark R} {needs_none : Type 0} {alike : R → R → Type 0} → SteadyReadLaws reads ample needs_none alike
+  module _ {reads : Runs ReadMark R} where
+    pub until_steady : {ample : Runs ReadMark R} {needs_none : Type 0} {alike : R → R → Type 0}
+        → SteadyReadLaws reads ample needs_none alike
         → FutureSteadyLawsBy (Sameness.by SameByKind) (ReadsUntil reads ⊤) (ReadsUntil ample ⊥) ⊥ (UntilAlike alike)
     until_steady {ample} s =
         record {
           laws = until_laws ⊥ s.laws;
           steady = λ x y e l m x' y' h k.
-              let byte = subst (λ b. Gathered (until b ⊥) ample y.reader.now (read_of y) m y'.reader.now (read_of y')) (sym e.2) k.gathered in
-              let other = subst (λ p. Gathered (until x.byte ⊥) ample y.reader.now p m y'.reader.now (read_of y')) (sym e.1) byte in
-              gathered_alike (until x.byte ⊥) (until_settles x.byte) s x.reader.now y.reader.now x'.reader.now y'.reader.now
-              (read_of x) (read_of x') (read_of y') l m e.0 h.gathered other;
+              let byte = subst (λ b. ReadFolded (until b ⊥) ample y.reader.now (read_of y) m y'.reader.now (read_of y'))
+              (sym e.2) k.folded in
+              let other = subst (λ p. ReadFolded (until x.byte ⊥) ample y.reader.now p m y'.reader.now (read_of y'))
+              (sym e.1) byte in
+              read_folded_alike (until x.byte ⊥)
+              (until_deterministic x.byte) s x.reader.now y.reader.now x'.reader.now y'.reader.now
+              (read_of x) (read_of x') (read_of y') l m e.0 h.folded other;
           found = λ n. absurd n;
         }
 
-    pub until_calm : {is_calm : R → Type 0} → CalmReadLaws reads is_calm → CalmLaws (ReadsUntil reads ⊤) (λ (x : ReadUntilFuture R). is_calm x.reader.now)
+    pub until_calm : {is_calm : R → Type 0} → CalmReadLaws reads is_calm
+        → CalmLaws (ReadsUntil reads ⊤) (λ (x : ReadUntilFuture R). is_calm x.reader.now)
     until_calm c =
         record {
-          prompt = λ x y l k h.
-              gathers_prompt (until x.byte ⊤) (read_of x) (read_of y) h.gathered.marks l
-              (c.prompt x.reader.now y.reader.now h.gathered.marks k h.gathered.came) h.gathered.gathered;
-          calm_on = λ x y l k h. c.calm_on x.reader.now y.reader.now h.gathered.marks k h.gathered.came;
+          no_pending = λ x y l k h.
+              read_folds_no_pending (until x.byte ⊤) (read_of x) (read_of y) h.folded.marks l
+              (c.no_pending x.reader.now y.reader.now h.folded.marks k h.folded.came) h.folded.folded;
+          calm_on = λ x y l k h. c.calm_on x.reader.now y.reader.now h.folded.marks k h.folded.came;
         }

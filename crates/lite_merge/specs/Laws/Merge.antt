@@ -1,17 +1,19 @@
 -- Laws of two streams of which each row asks one first.
-use Rattle.std.proofs.Common.{◌≡◌, ◌∙◌, ℕ, ◌+◌, List, [], ◌∷◌, ◌++◌, length, map, Bool, true, false, Option, Some, None, inl, refl, ap, sym, subst, arith, length-append}
+use Rattle.std.proofs.Common.{◌≡◌, ◌∙◌, ℕ, ◌+◌, List, [], ◌∷◌, ◌++◌, length, map, Bool, true, false, Some, None, inl}
+use Rattle.std.proofs.Common.{refl, ap, sym, subst, arith, length-append}
 use Rattle.futures.specs.declared.task.Poll.TheVariants.{Ready, Pending}
 use Rattle.lite_base.specs.Answers.{Answer, item, items}
-use Rattle.lite_base.specs.Calm.{CalmLaws, Prompt}
+use Rattle.lite_base.specs.Calm.{CalmLaws, NoPending}
 use Rattle.lite_base.specs.Falling.{AtMost-both, AtMost-length, Below-after, Below-first, Lowers-at_most}
-use Rattle.lite_base.specs.Laws.Calm.{prompt_join}
+use Rattle.lite_base.specs.Laws.Calm.{no_pending_join}
 use Rattle.lite_base.specs.Rank.{AtMost, Below, Lowers}
 use Rattle.lite_base.specs.Ranks.{Counting, Ranks}
 use Rattle.lite_base.specs.StreamLaws.{StreamLaws}
-use Rattle.lite_merge.specs.Merge.{Merges, Row, Rows}
+use Rattle.lite_base.specs.Runs.{Hints, NoHint, Runs}
+use Rattle.lite_merge.specs.Merge.{MergeRow, MergeRows, Merges}
 use Rattle.lite_stream.specs.Fuse.{Fuses, fuse_parts}
 use Rattle.lite_stream.specs.Laws.Calming.{through_calm}
-use Rattle.lite_stream.specs.Laws.Fuse.{fuses_calming, fuses_turning}
+use Rattle.lite_stream.specs.Laws.Fuse.{fuses_calming, fuses_relating}
 use Rattle.lite_stream.specs.Laws.Through.{laws_unhinted, through_counting}
 use Rattle.lite_stream.specs.declared.fuse.Fuse.{Fuse}
 
@@ -24,7 +26,8 @@ module _ (xs us ys vs : List ℕ) where
   second_below h k = Below-first ys vs xs us k (AtMost-length xs us h)
 
 module _ {A : Type 0} where
-  row_more : (i j : List (Answer A)) (c : Answer A) (i' j' k h : List (Answer A)) → Row i j c i' j' → Row (i ++ k) (j ++ h) c (i' ++ k) (j' ++ h)
+  row_more : (i j : List (Answer A)) (c : Answer A) (i' j' k h : List (Answer A)) → MergeRow i j c i' j'
+      → MergeRow (i ++ k) (j ++ h) c (i' ++ k) (j' ++ h)
   row_more [] j c i' j' k h r = absurd r
   row_more (Ready (Some x) ∷ i) j c i' j' k h r = (r.0, ap (λ l. l ++ k) r.1, ap (λ l. l ++ h) r.2)
   row_more (Ready None ∷ i) [] c i' j' k h r = absurd r
@@ -32,18 +35,22 @@ module _ {A : Type 0} where
   row_more (Pending ∷ i) [] c i' j' k h r = absurd r
   row_more (Pending ∷ i) (b ∷ j) c i' j' k h r = (r.0, ap (λ l. l ++ k) r.1, ap (λ l. l ++ h) r.2)
 
-  rows_follow : (o p : List Bool) (i j k h l m : List (Answer A)) → Rows o i j l → Rows p k h m → Rows (o ++ p) (i ++ k) (j ++ h) (l ++ m)
+  rows_follow : (o p : List Bool) (i j k h l m : List (Answer A)) → MergeRows o i j l → MergeRows p k h m
+      → MergeRows (o ++ p) (i ++ k) (j ++ h) (l ++ m)
   rows_follow [] p i j k h l m r q = rw (r.0, r.1, r.2) q
   rows_follow (b ∷ o) p i j k h [] m r q = absurd r
-  rows_follow (true ∷ o) p i j k h (c ∷ l) m r q = (r.0 ++ k, r.1 ++ h, row_more i j c r.0 r.1 k h r.2, rows_follow o p r.0 r.1 k h l m r.3 q)
-  rows_follow (false ∷ o) p i j k h (c ∷ l) m r q = (r.0 ++ k, r.1 ++ h, row_more j i c r.1 r.0 h k r.2, rows_follow o p r.0 r.1 k h l m r.3 q)
+  rows_follow (true ∷ o) p i j k h (c ∷ l) m r q =
+      (r.0 ++ k, r.1 ++ h, row_more i j c r.0 r.1 k h r.2, rows_follow o p r.0 r.1 k h l m r.3 q)
+  rows_follow (false ∷ o) p i j k h (c ∷ l) m r q =
+      (r.0 ++ k, r.1 ++ h, row_more j i c r.1 r.0 h k r.2, rows_follow o p r.0 r.1 k h l m r.3 q)
 
-  rows_empty : (o : List Bool) (i j : List (Answer A)) → Rows o i j [] → (i ≡ []) × (j ≡ [])
+  rows_empty : (o : List Bool) (i j : List (Answer A)) → MergeRows o i j [] → (i ≡ []) × (j ≡ [])
   rows_empty [] i j r = (r.0, r.1)
   rows_empty (b ∷ o) i j r = absurd r
 
   -- where neither list has a Pending, no row has
-  row_calm : (i j : List (Answer A)) (c : Answer A) (i' j' : List (Answer A)) → Row i j c i' j' → Prompt i → Prompt j → Prompt (c ∷ []) × Prompt i' × Prompt j'
+  row_calm : (i j : List (Answer A)) (c : Answer A) (i' j' : List (Answer A)) → MergeRow i j c i' j' → NoPending i
+      → NoPending j → NoPending (c ∷ []) × NoPending i' × NoPending j'
   row_calm [] j c i' j' r p q = absurd r
   row_calm (Ready (Some x) ∷ i) j c i' j' r p q = (rw r.0 tt, rw r.1 p, rw r.2 q)
   row_calm (Ready None ∷ i) [] c i' j' r p q = absurd r
@@ -51,59 +58,81 @@ module _ {A : Type 0} where
   row_calm (Ready None ∷ i) (Ready y ∷ j) c i' j' r p q = (rw r.0 tt, rw r.1 p, rw r.2 q)
   row_calm (Pending ∷ i) j c i' j' r p q = absurd p
 
-  rows_calm : (o : List Bool) (i j out : List (Answer A)) → Rows o i j out → Prompt i → Prompt j → Prompt out
+  rows_calm : (o : List Bool) (i j out : List (Answer A)) → MergeRows o i j out → NoPending i → NoPending j
+      → NoPending out
   rows_calm [] i j out r p q = rw r.2 tt
   rows_calm (b ∷ o) i j [] r p q = tt
   rows_calm (true ∷ o) i j (c ∷ out) r p q =
       let d = row_calm i j c r.0 r.1 r.2 p q in
-      prompt_join (c ∷ []) out d.0 (rows_calm o r.0 r.1 out r.3 d.1 d.2)
+      no_pending_join (c ∷ []) out d.0 (rows_calm o r.0 r.1 out r.3 d.1 d.2)
   rows_calm (false ∷ o) i j (c ∷ out) r p q =
       let d = row_calm j i c r.1 r.0 r.2 q p in
-      prompt_join (c ∷ []) out d.0 (rows_calm o r.0 r.1 out r.3 d.2 d.1)
+      no_pending_join (c ∷ []) out d.0 (rows_calm o r.0 r.1 out r.3 d.2 d.1)
 
   -- ranks that the items of either lower
-  row_lowers : (zs ws xs us ys vs : List ℕ) (i j : List (Answer A)) (c : Answer A) (i' j' out : List (Answer A)) → (Below xs us → AtMost ys vs → Below zs ws) → (AtMost xs us → Below ys vs → Below zs ws)
-      → Row i j c i' j' → (Lowers i' xs us → Lowers j' ys vs → Lowers out zs ws) → Lowers i xs us → Lowers j ys vs → Lowers (c ∷ out) zs ws
+  row_lowers : (zs ws xs us ys vs : List ℕ) (i j : List (Answer A)) (c : Answer A) (i' j' out : List (Answer A))
+      → (Below xs us → AtMost ys vs → Below zs ws) → (AtMost xs us → Below ys vs → Below zs ws)
+      → MergeRow i j c i' j' → (Lowers i' xs us → Lowers j' ys vs → Lowers out zs ws) → Lowers i xs us → Lowers j ys vs
+      → Lowers (c ∷ out) zs ws
   row_lowers zs ws xs us ys vs [] j c i' j' out one other r rest h k = absurd r
-  row_lowers zs ws xs us ys vs (Ready (Some x) ∷ i) j c i' j' out one other r rest h k = rw r.0 (one h (Lowers-at_most j ys vs k))
+  row_lowers zs ws xs us ys vs (Ready (Some x) ∷ i) j c i' j' out one other r rest h k =
+      rw r.0 (one h (Lowers-at_most j ys vs k))
   row_lowers zs ws xs us ys vs (Ready None ∷ i) [] c i' j' out one other r rest h k = absurd r
-  row_lowers zs ws xs us ys vs (Ready None ∷ i) (Pending ∷ j) c i' j' out one other r rest h k = rw r.0 (rest (rw r.1 h) (rw r.2 k))
-  row_lowers zs ws xs us ys vs (Ready None ∷ i) (Ready None ∷ j) c i' j' out one other r rest h k = rw r.0 (rest (rw r.1 h) (rw r.2 k))
-  row_lowers zs ws xs us ys vs (Ready None ∷ i) (Ready (Some y) ∷ j) c i' j' out one other r rest h k = rw r.0 (other (Lowers-at_most i xs us h) k)
+  row_lowers zs ws xs us ys vs (Ready None ∷ i) (Pending ∷ j) c i' j' out one other r rest h k =
+      rw r.0 (rest (rw r.1 h) (rw r.2 k))
+  row_lowers zs ws xs us ys vs (Ready None ∷ i) (Ready None ∷ j) c i' j' out one other r rest h k =
+      rw r.0 (rest (rw r.1 h) (rw r.2 k))
+  row_lowers zs ws xs us ys vs (Ready None ∷ i) (Ready (Some y) ∷ j) c i' j' out one other r rest h k =
+      rw r.0 (other (Lowers-at_most i xs us h) k)
   row_lowers zs ws xs us ys vs (Pending ∷ i) [] c i' j' out one other r rest h k = absurd r
-  row_lowers zs ws xs us ys vs (Pending ∷ i) (Pending ∷ j) c i' j' out one other r rest h k = rw r.0 (rest (rw r.1 h) (rw r.2 k))
-  row_lowers zs ws xs us ys vs (Pending ∷ i) (Ready None ∷ j) c i' j' out one other r rest h k = rw r.0 (rest (rw r.1 h) (rw r.2 k))
-  row_lowers zs ws xs us ys vs (Pending ∷ i) (Ready (Some y) ∷ j) c i' j' out one other r rest h k = rw r.0 (other (Lowers-at_most i xs us h) k)
+  row_lowers zs ws xs us ys vs (Pending ∷ i) (Pending ∷ j) c i' j' out one other r rest h k =
+      rw r.0 (rest (rw r.1 h) (rw r.2 k))
+  row_lowers zs ws xs us ys vs (Pending ∷ i) (Ready None ∷ j) c i' j' out one other r rest h k =
+      rw r.0 (rest (rw r.1 h) (rw r.2 k))
+  row_lowers zs ws xs us ys vs (Pending ∷ i) (Ready (Some y) ∷ j) c i' j' out one other r rest h k =
+      rw r.0 (other (Lowers-at_most i xs us h) k)
 
   module _ (xs us ys vs : List ℕ) where
-    rows_lower : (o : List Bool) (i j out : List (Answer A)) → Rows o i j out → Lowers i xs us → Lowers j ys vs → Lowers out (ys ++ xs) (vs ++ us)
+    rows_lower : (o : List Bool) (i j out : List (Answer A)) → MergeRows o i j out → Lowers i xs us → Lowers j ys vs
+        → Lowers out (ys ++ xs) (vs ++ us)
     rows_lower [] i j out r h k = rw r.2 (AtMost-both ys vs xs us (Lowers-at_most j ys vs k) (Lowers-at_most i xs us h))
     rows_lower (b ∷ o) i j [] r h k = absurd r
     rows_lower (true ∷ o) i j (c ∷ out) r h k =
-        row_lowers (ys ++ xs) (vs ++ us) xs us ys vs i j c r.0 r.1 out (first_below xs us ys vs) (second_below xs us ys vs) r.2 (λ h' k'. rows_lower o r.0 r.1 out r.3 h' k') h k
+        row_lowers (ys ++ xs) (vs ++ us) xs us ys vs i j c r.0 r.1 out (first_below xs us ys vs)
+        (second_below xs us ys vs) r.2 (λ h' k'. rows_lower o r.0 r.1 out r.3 h' k') h k
     rows_lower (false ∷ o) i j (c ∷ out) r h k =
-        row_lowers (ys ++ xs) (vs ++ us) ys vs xs us j i c r.1 r.0 out (λ b a. second_below xs us ys vs a b) (λ a b. first_below xs us ys vs b a) r.2 (λ k' h'. rows_lower o r.0 r.1 out r.3 h' k') k h
+        row_lowers (ys ++ xs) (vs ++ us) ys vs xs us j i c r.1 r.0 out (λ b a. second_below xs us ys vs a b)
+        (λ a b. first_below xs us ys vs b a) r.2 (λ k' h'. rows_lower o r.0 r.1 out r.3 h' k') k h
 
   -- in a row of an item where the first stands first, the second gave an item or nothing
-  row_item : (i j : List (Answer A)) (y : A) (i' j' : List (Answer A)) (l s : List A) → Row i j (item y) i' j' → j' ≡ items s → (s ≡ [] → i' ≡ items l) → (t : List A) × (j ≡ items t) × (t ≡ [] → i ≡ items (y ∷ l))
+  row_item : (i j : List (Answer A)) (y : A) (i' j' : List (Answer A)) (l s : List A) → MergeRow i j (item y) i' j'
+      → j' ≡ items s → (s ≡ [] → i' ≡ items l) → (t : List A) × (j ≡ items t) × (t ≡ [] → i ≡ items (y ∷ l))
   row_item [] j y i' j' l s r e rest = absurd r
-  row_item (Ready (Some x) ∷ i) j y i' j' l s r e rest = (s, sym r.2 ∙ e, λ none. let d = rest none in let a = r.0 in let b = r.1 in cc)
+  row_item (Ready (Some x) ∷ i) j y i' j' l s r e rest =
+      (s, sym r.2 ∙ e, λ none. let d = rest none in let a = r.0 in let b = r.1 in cc)
   row_item (Ready None ∷ i) [] y i' j' l s r e rest = absurd r
-  row_item (Ready None ∷ i) (b ∷ j) y i' j' l s r e rest = (y ∷ s, (let a = r.0 in let d = r.2 in cc), λ none. absurd (cc none))
+  row_item (Ready None ∷ i) (b ∷ j) y i' j' l s r e rest =
+      (y ∷ s, (let a = r.0 in let d = r.2 in cc), λ none. absurd (cc none))
   row_item (Pending ∷ i) [] y i' j' l s r e rest = absurd r
   row_item (Pending ∷ i) (Pending ∷ j) y i' j' l s r e rest = absurd (cc r.0)
   row_item (Pending ∷ i) (Ready None ∷ j) y i' j' l s r e rest = absurd (cc r.0)
-  row_item (Pending ∷ i) (Ready (Some z) ∷ j) y i' j' l s r e rest = (z ∷ s, (let d = r.2 in cc), λ none. absurd (cc none))
+  row_item (Pending ∷ i) (Ready (Some z) ∷ j) y i' j' l s r e rest =
+      (z ∷ s, (let d = r.2 in cc), λ none. absurd (cc none))
 
-  -- in rows of items where the first stands first, the second gave items alone, and where it gave none all are the first's
-  first_items : (i j : List (Answer A)) (l : List A) → Rows (map (λ _. true) (items l)) i j (items l) → (s : List A) × (j ≡ items s) × (s ≡ [] → i ≡ items l)
+  -- in rows of items where the first stands first, the second gave items alone, and where it gave none all are the
+  -- first's
+  first_items : (i j : List (Answer A)) (l : List A) → MergeRows (map (λ _. true) (items l)) i j (items l)
+      → (s : List A) × (j ≡ items s) × (s ≡ [] → i ≡ items l)
   first_items i j [] r = ([], r.1, λ none. r.0)
   first_items i j (y ∷ l) r =
       let e = first_items r.0 r.1 l r.3 in
       row_item i j y r.0 r.1 l e.0 r.2 e.1 e.2
 
-  pub first_falls : (i j : List (Answer A)) (y : A) (l : List A) (xs us ys vs : List ℕ) → ((a : A) (before : List A) → i ≡ items (a ∷ before) → Below xs us) → ((a : A) (before : List A) → j ≡ items (a ∷ before) → Below ys vs)
-      → length xs ≡ length us → (j ≡ [] → ys ≡ vs) → Rows (map (λ _. true) (items (y ∷ l))) i j (items (y ∷ l)) → Below (ys ++ xs) (vs ++ us)
+  pub first_falls : (i j : List (Answer A)) (y : A) (l : List A) (xs us ys vs : List ℕ)
+      → ((a : A) (before : List A) → i ≡ items (a ∷ before) → Below xs us)
+      → ((a : A) (before : List A) → j ≡ items (a ∷ before) → Below ys vs)
+      → length xs ≡ length us → (j ≡ [] → ys ≡ vs) → MergeRows (map (λ _. true) (items (y ∷ l))) i j (items (y ∷ l))
+      → Below (ys ++ xs) (vs ++ us)
   first_falls i j y l xs us ys vs falls falls' same none r = at_items (first_items i j (y ∷ l) r)
     where
       at_items : (s : List A) × (j ≡ items s) × (s ≡ [] → i ≡ items (y ∷ l)) → Below (ys ++ xs) (vs ++ us)
@@ -111,19 +140,31 @@ module _ {A : Type 0} where
       at_items (z ∷ s, e, all) = Below-first ys vs xs us (falls' z s e) same
 
 -- the laws of a stream that is asked through its first end
-pub fused_laws : {S A : Type 0} {run : S → List (Answer A) → S → Type 0} {hints : S → ℕ × Option ℕ → Type 0} → StreamLaws run hints → StreamLaws (Fuses run) (λ m hint. hint ≡ (0, None))
-fused_laws s = laws_unhinted fuse_parts s fuses_turning
+pub fused_laws : {S A : Type 0} {run : Runs (Answer A) S} {hints : Hints S} → StreamLaws run hints
+    → StreamLaws (Fuses run) NoHint
+fused_laws s = laws_unhinted fuse_parts s fuses_relating
 
-module _ {S U A : Type 0} {run : S → List (Answer A) → S → Type 0} {run' : U → List (Answer A) → U → Type 0} {hints : S → ℕ × Option ℕ → Type 0} {hints' : U → ℕ × Option ℕ → Type 0} (s : StreamLaws run hints) (u : StreamLaws run' hints') where
+module _ {S U A : Type 0} {run : Runs (Answer A) S} {run' : Runs (Answer A) U} {hints : Hints S} {hints' : Hints U}
+    (s : StreamLaws run hints) (u : StreamLaws run' hints') where
   pub merges_rest : (x : Fuse S) (y : Fuse U) → Merges run run' [] x y [] x y
-  merges_rest x y = record { firsts = []; seconds = []; came = (fused_laws s).rests x; then_came = (fused_laws u).rests y; rows = (refl, refl, refl) }
+  merges_rest x y =
+      record {
+        firsts = [];
+        seconds = [];
+        came = (fused_laws s).rests x;
+        then_came = (fused_laws u).rests y;
+        rows = (refl, refl, refl);
+      }
 
   pub merges_stay : (o : List Bool) (x t : Fuse S) (y v : Fuse U) → Merges run run' o x y [] t v → (t ≡ x) × (v ≡ y)
   merges_stay o x t y v h =
-      let e = rows_empty o h.firsts h.seconds h.rows in
-      ((fused_laws s).stays x t (subst (λ l. Fuses run x l t) e.0 h.came), (fused_laws u).stays y v (subst (λ l. Fuses run' y l v) e.1 h.then_came))
+      let e = rows_empty o h.firsts h.seconds h.rows in (
+        (fused_laws s).stays x t (subst (λ l. Fuses run x l t) e.0 h.came),
+        (fused_laws u).stays y v (subst (λ l. Fuses run' y l v) e.1 h.then_came),
+      )
 
-  pub merges_follow : (o p : List Bool) (x t t' : Fuse S) (y v v' : Fuse U) (l m : List (Answer A)) → Merges run run' o x y l t v → Merges run run' p t v m t' v' → Merges run run' (o ++ p) x y (l ++ m) t' v'
+  pub merges_follow : (o p : List Bool) (x t t' : Fuse S) (y v v' : Fuse U) (l m : List (Answer A))
+      → Merges run run' o x y l t v → Merges run run' p t v m t' v' → Merges run run' (o ++ p) x y (l ++ m) t' v'
   merges_follow o p x t t' y v v' l m h k =
       record {
         firsts = h.firsts ++ k.firsts;
@@ -134,25 +175,36 @@ module _ {S U A : Type 0} {run : S → List (Answer A) → S → Type 0} {run' :
       }
 
 -- where both are calm
-pub merges_calm : {S U A : Type 0} {run : S → List (Answer A) → S → Type 0} {run' : U → List (Answer A) → U → Type 0} {is_calm : S → Type 0} {is_calm' : U → Type 0} → CalmLaws run is_calm → CalmLaws run' is_calm'
-    → (o : List Bool) (x t : Fuse S) (y v : Fuse U) (out : List (Answer A)) → is_calm x.stream × is_calm' y.stream → Merges run run' o x y out t v → Prompt out × (is_calm t.stream × is_calm' v.stream)
+pub merges_calm : {S U A : Type 0} {run : Runs (Answer A) S} {run' : Runs (Answer A) U} {is_calm : S → Type 0}
+    {is_calm' : U → Type 0} → CalmLaws run is_calm → CalmLaws run' is_calm'
+    → (o : List Bool) (x t : Fuse S) (y v : Fuse U) (out : List (Answer A)) → is_calm x.stream × is_calm' y.stream
+    → Merges run run' o x y out t v → NoPending out × (is_calm t.stream × is_calm' v.stream)
 merges_calm c d o x t y v out k h =
     let first = through_calm fuse_parts c fuses_calming in
     let second = through_calm fuse_parts d fuses_calming in (
-      rows_calm o h.firsts h.seconds out h.rows (first.prompt x t h.firsts k.0 h.came) (second.prompt y v h.seconds k.1 h.then_came),
+      rows_calm o h.firsts h.seconds out h.rows (first.no_pending x t h.firsts k.0 h.came)
+          (second.no_pending y v h.seconds k.1 h.then_came),
       (first.calm_on x t h.firsts k.0 h.came, second.calm_on y v h.seconds k.1 h.then_came),
     )
 
-module _ {S U A : Type 0} {run : S → List (Answer A) → S → Type 0} {run' : U → List (Answer A) → U → Type 0} {r : Ranks S} {r' : Ranks U} (c : Counting run r) (d : Counting run' r') where
+module _ {S U A : Type 0} {run : Runs (Answer A) S} {run' : Runs (Answer A) U} {r : Ranks S} {r' : Ranks U}
+    (c : Counting run r) (d : Counting run' r') where
   pub merges_sized : (x : S) (y : U) → length (r'.rank y ++ r.rank x) ≡ r'.width + r.width
   merges_sized x y = length-append (r'.rank y) (r.rank x) ∙ omega (arith, c.sized x, d.sized y)
 
-  pub merges_lower : (o : List Bool) (x t : Fuse S) (y v : Fuse U) (l : List (Answer A)) → r.firm x.stream × r'.firm y.stream → Merges run run' o x y l t v → Lowers l (r'.rank v.stream ++ r.rank t.stream) (r'.rank y.stream ++ r.rank x.stream)
+  pub merges_lower : (o : List Bool) (x t : Fuse S) (y v : Fuse U) (l : List (Answer A)) → r.firm x.stream
+      × r'.firm y.stream → Merges run run' o x y l t v
+      → Lowers l (r'.rank v.stream ++ r.rank t.stream) (r'.rank y.stream ++ r.rank x.stream)
   merges_lower o x t y v l k h =
-      rows_lower (r.rank t.stream) (r.rank x.stream) (r'.rank v.stream) (r'.rank y.stream) o h.firsts h.seconds l h.rows ((through_counting fuse_parts c fuses_turning).lowers x t h.firsts k.0 h.came)
-      ((through_counting fuse_parts d fuses_turning).lowers y v h.seconds k.1 h.then_came)
+      rows_lower (r.rank t.stream) (r.rank x.stream) (r'.rank v.stream) (r'.rank y.stream) o h.firsts h.seconds l h.rows
+      ((through_counting fuse_parts c fuses_relating).lowers x t h.firsts k.0 h.came)
+      ((through_counting fuse_parts d fuses_relating).lowers y v h.seconds k.1 h.then_came)
 
-  pub merges_keep : (P : S → Type 0) (Q : U → Type 0) → ((x y : S) (l : List (Answer A)) → P x → run x l y → P y) → ((x y : U) (l : List (Answer A)) → Q x → run' x l y → Q y)
-      → (o : List Bool) (x t : Fuse S) (y v : Fuse U) (l : List (Answer A)) → P x.stream × Q y.stream → Merges run run' o x y l t v → P t.stream × Q v.stream
-  merges_keep P Q keeps keeps' o x t y v l k h =
-      (keeps x.stream t.stream h.came.ins k.0 h.came.came, keeps' y.stream v.stream h.then_came.ins k.1 h.then_came.came)
+  pub merges_keep : (P : S → Type 0) (Q : U → Type 0) → ((x y : S) (l : List (Answer A)) → P x → run x l y → P y)
+      → ((x y : U) (l : List (Answer A)) → Q x → run' x l y → Q y)
+      → (o : List Bool) (x t : Fuse S) (y v : Fuse U) (l : List (Answer A)) → P x.stream × Q y.stream
+      → Merges run run' o x y l t v → P t.stream × Q v.stream
+  merges_keep P Q keeps keeps' o x t y v l k h = (
+    keeps x.stream t.stream h.came.ins k.0 h.came.came,
+    keeps' y.stream v.stream h.then_came.ins k.1 h.then_came.came,
+  )

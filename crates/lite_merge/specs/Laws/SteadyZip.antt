@@ -4,10 +4,12 @@ use Rattle.futures.specs.declared.task.Poll.{Poll}
 use Rattle.futures.specs.declared.task.Poll.TheVariants.{Ready, Pending}
 use Rattle.lite_base.specs.Alike.{Pairwise, SameAnswer, SameHeld, SameItem, Sameness}
 use Rattle.lite_base.specs.Answers.{Answer, ComparableBy, strip}
-use Rattle.lite_base.specs.Laws.Alike.{both_items, comparable_nil, ends_same, held_same, item_same, pairs_same, same_answer}
+use Rattle.lite_base.specs.Laws.Alike.{both_items, comparable_nil, ends_same, held_same, item_same, pairs_same}
+use Rattle.lite_base.specs.Laws.Alike.{same_answer}
 use Rattle.lite_base.specs.Steady.{SteadyLawsBy}
+use Rattle.lite_base.specs.Runs.{Runs}
 use Rattle.lite_merge.specs.Laws.Zip.{zip_runs}
-use Rattle.lite_merge.specs.Zip.{Held, Pairing, Pairs, Zips, pair_with, pendings}
+use Rattle.lite_merge.specs.Zip.{Pairing, Pairs, WithHeld, Zips, pair_with, pendings}
 use Rattle.lite_merge.specs.declared.zip.Zip.{Zip}
 
 strip_pendings : {C : Type 0} (n : ℕ) (l : List (Poll C)) → strip (pendings n l) ≡ strip l
@@ -25,7 +27,8 @@ module _ {A B : Type 0} where
   strip_pair x (Some y) l = refl
 
   -- as Held, where nothing is pending
-  abbrev Meets : A → (List (Option B) → List (Option (A × B)) → Type 0) → List (Option B) → List (Option (A × B)) → Type 0
+  abbrev Meets : A → (List (Option B) → List (Option (A × B)) → Type 0) → List (Option B) → List (Option (A × B))
+      → Type 0
   Meets x follows [] out = out ≡ []
   Meets x follows (b ∷ js) out = (more : List (Option (A × B))) × (out ≡ with_other x b ∷ more) × follows js more
 
@@ -40,24 +43,29 @@ module _ {A B : Type 0} where
   Matching (Some x) is js out = Meets x (Matched is) js out
 
   met : (x : A) (i : List (Answer A)) (j : List (Answer B)) (l : List (Answer (A × B))) (g : Option A)
-      → ((more : List (Answer B)) (rest : List (Answer (A × B))) → Pairs i more rest g → Matched (strip i) (strip more) (strip rest)) → Held x i (Pairs i) j l g → Meets x (Matched (strip i)) (strip j) (strip l)
+      → ((more : List (Answer B)) (rest : List (Answer (A × B))) → Pairs i more rest g
+      → Matched (strip i) (strip more) (strip rest)) → WithHeld x i (Pairs i) j l g
+      → Meets x (Matched (strip i)) (strip j) (strip l)
   met x i j l g rest (inl c) =
       let e : strip j ≡ [] = ap strip c.2 ∙ strip_pendings c.0 [] in
       let d : strip l ≡ [] = ap strip c.3 ∙ strip_pendings c.0 [] in
       rw (e, d) refl
   met x i j l g rest (inr c) =
       let e : strip j ≡ c.1 ∷ strip c.2 = ap strip c.4 ∙ strip_pendings c.0 (Ready c.1 ∷ c.2) in
-      let d : strip l ≡ with_other x c.1 ∷ strip c.3 = ap strip c.5 ∙ strip_pendings c.0 (pair_with x c.1 ∷ c.3) ∙ strip_pair x c.1 c.3 in
+      let d : strip l ≡ with_other x c.1 ∷ strip c.3 = ap strip c.5 ∙ strip_pendings c.0 (pair_with x c.1 ∷ c.3)
+      ∙ strip_pair x c.1 c.3 in
       rw (e, d) (strip c.3, refl, rest c.2 c.3 c.6)
 
-  matched : (g : Option A) (i : List (Answer A)) (j : List (Answer B)) (l : List (Answer (A × B))) → Pairs i j l g → Matched (strip i) (strip j) (strip l)
+  matched : (g : Option A) (i : List (Answer A)) (j : List (Answer B)) (l : List (Answer (A × B))) → Pairs i j l g
+      → Matched (strip i) (strip j) (strip l)
   matched g [] j l c = ap strip c.1
   matched g (a ∷ i) j [] c = absurd c
   matched g (Pending ∷ i) j (b ∷ l) c = rw c.0 (matched g i j l c.1)
   matched g (Ready None ∷ i) j (b ∷ l) c = rw c.0 (strip l, refl, matched g i j l c.1)
   matched g (Ready (Some x) ∷ i) j (b ∷ l) c = met x i j (b ∷ l) g (λ more rest e. matched g i more rest e) c
 
-  matching : (f g : Option A) (i : List (Answer A)) (j : List (Answer B)) (l : List (Answer (A × B))) → Pairing f i j l g → Matching f (strip i) (strip j) (strip l)
+  matching : (f g : Option A) (i : List (Answer A)) (j : List (Answer B)) (l : List (Answer (A × B)))
+      → Pairing f i j l g → Matching f (strip i) (strip j) (strip l)
   matching None g i j l c = matched g i j l c
   matching (Some x) g i j l c = met x i j l g (λ more rest e. matched g i more rest e) c
 
@@ -65,45 +73,71 @@ module _ {A B : Type 0} where
     abbrev Out : List (Option (A × B)) → List (Option (A × B)) → Type 0
     Out = ComparableBy (SameAnswer (Pairwise same other))
 
-    other_same : (x y : A) (b c : Option B) → SameItem same x y → SameAnswer other b c → SameAnswer (Pairwise same other) (with_other x b) (with_other y c)
+    other_same : (x y : A) (b c : Option B) → SameItem same x y → SameAnswer other b c
+        → SameAnswer (Pairwise same other) (with_other x b) (with_other y c)
     other_same x y None None e d = ends_same (Pairwise same other)
     other_same x y None (Some c) e d = absurd (both_items other None (Some c) d)
     other_same x y (Some b) None e d = absurd (both_items other (Some b) None d)
-    other_same x y (Some b) (Some c) e d = same_answer (Pairwise same other) (x, b) (y, c) (pairs_same same other (x, b) (y, c) e (item_same other b c d))
+    other_same x y (Some b) (Some c) e d =
+        same_answer (Pairwise same other) (x, b) (y, c) (pairs_same same other (x, b) (y, c) e (item_same other b c d))
 
-    meets_same : (x y : A) (P Q : List (Option B) → List (Option (A × B)) → Type 0) (j k : List (Option B)) (o p : List (Option (A × B))) → SameItem same x y
-        → ((more more' : List (Option B)) (rest rest' : List (Option (A × B))) → P more rest → Q more' rest' → ComparableBy (SameAnswer other) more more' → Out rest rest')
+    meets_same : (x y : A) (P Q : List (Option B) → List (Option (A × B)) → Type 0) (j k : List (Option B))
+        (o p : List (Option (A × B))) → SameItem same x y
+        → ((more more' : List (Option B)) (rest rest' : List (Option (A × B))) → P more rest → Q more' rest'
+        → ComparableBy (SameAnswer other) more more' → Out rest rest')
         → Meets x P j o → Meets y Q k p → ComparableBy (SameAnswer other) j k → Out o p
     meets_same x y P Q [] k o p e rest r q d = subst (λ l. Out l p) (sym r) tt
-    meets_same x y P Q (b ∷ j) [] o p e rest r q d = subst (λ l. Out o l) (sym q) (comparable_nil (SameAnswer (Pairwise same other)) o)
-    meets_same x y P Q (b ∷ j) (c ∷ k) o p e rest r q d = rw (r.1, q.1) (other_same x y b c e d.0, rest j k r.0 q.0 r.2 q.2 d.1)
+    meets_same x y P Q (b ∷ j) [] o p e rest r q d =
+        subst (λ l. Out o l) (sym q) (comparable_nil (SameAnswer (Pairwise same other)) o)
+    meets_same x y P Q (b ∷ j) (c ∷ k) o p e rest r q d =
+        rw (r.1, q.1) (other_same x y b c e d.0, rest j k r.0 q.0 r.2 q.2 d.1)
 
-    matched_same : (i k : List (Option A)) (j h : List (Option B)) (o p : List (Option (A × B))) → Matched i j o → Matched k h p → ComparableBy (SameAnswer same) i k → ComparableBy (SameAnswer other) j h → Out o p
+    matched_same : (i k : List (Option A)) (j h : List (Option B)) (o p : List (Option (A × B))) → Matched i j o
+        → Matched k h p → ComparableBy (SameAnswer same) i k → ComparableBy (SameAnswer other) j h → Out o p
     matched_same [] k j h o p r q c d = subst (λ l. Out l p) (sym r) tt
-    matched_same (x ∷ i) [] j h o p r q c d = subst (λ l. Out o l) (sym q) (comparable_nil (SameAnswer (Pairwise same other)) o)
-    matched_same (None ∷ i) (None ∷ k) j h o p r q c d = rw (r.1, q.1) (ends_same (Pairwise same other), matched_same i k j h r.0 q.0 r.2 q.2 c.1 d)
+    matched_same (x ∷ i) [] j h o p r q c d =
+        subst (λ l. Out o l) (sym q) (comparable_nil (SameAnswer (Pairwise same other)) o)
+    matched_same (None ∷ i) (None ∷ k) j h o p r q c d =
+        rw (r.1, q.1) (ends_same (Pairwise same other), matched_same i k j h r.0 q.0 r.2 q.2 c.1 d)
     matched_same (None ∷ i) (Some y ∷ k) j h o p r q c d = absurd (both_items same None (Some y) c.0)
     matched_same (Some x ∷ i) (None ∷ k) j h o p r q c d = absurd (both_items same (Some x) None c.0)
     matched_same (Some x ∷ i) (Some y ∷ k) j h o p r q c d =
-        meets_same x y (Matched i) (Matched k) j h o p (item_same same x y c.0) (λ more more' rest rest' u v w. matched_same i k more more' rest rest' u v c.1 w) r q d
+        meets_same x y (Matched i) (Matched k) j h o p (item_same same x y c.0)
+        (λ more more' rest rest' u v w. matched_same i k more more' rest rest' u v c.1 w) r q d
 
-    matching_same : (f g : Option A) (i k : List (Option A)) (j h : List (Option B)) (o p : List (Option (A × B))) → SameAnswer same f g → Matching f i j o → Matching g k h p → ComparableBy (SameAnswer same) i k → ComparableBy (SameAnswer other) j h → Out o p
+    matching_same : (f g : Option A) (i k : List (Option A)) (j h : List (Option B)) (o p : List (Option (A × B)))
+        → SameAnswer same f g → Matching f i j o → Matching g k h p → ComparableBy (SameAnswer same) i k
+        → ComparableBy (SameAnswer other) j h → Out o p
     matching_same None None i k j h o p e r q c d = matched_same i k j h o p r q c d
     matching_same None (Some y) i k j h o p e r q c d = absurd (both_items same None (Some y) e)
     matching_same (Some x) None i k j h o p e r q c d = absurd (both_items same (Some x) None e)
-    matching_same (Some x) (Some y) i k j h o p e r q c d = meets_same x y (Matched i) (Matched k) j h o p (item_same same x y e) (λ more more' rest rest' u v w. matched_same i k more more' rest rest' u v c w) r q d
+    matching_same (Some x) (Some y) i k j h o p e r q c d =
+        meets_same x y (Matched i) (Matched k) j h o p (item_same same x y e)
+        (λ more more' rest rest' u v w. matched_same i k more more' rest rest' u v c w) r q d
 
-module _ {S U A B : Type 0} {run ample : S → List (Answer A) → S → Type 0} {run' ample' : U → List (Answer B) → U → Type 0} {none none' : Type 0} {alike : S → S → Type 0} {alike' : U → U → Type 0} (same : Sameness A) (other : Sameness B) where
+module _ {S U A B : Type 0} {run ample : Runs (Answer A) S} {run' ample' : Runs (Answer B) U} {none none' : Type 0}
+    {alike : S → S → Type 0} {alike' : U → U → Type 0} (same : Sameness A) (other : Sameness B) where
   -- where they hold the same
   pub zip_steady : SteadyLawsBy same run ample none alike → SteadyLawsBy other run' ample' none' alike'
-      → SteadyLawsBy (Pairwise same other) (Zips run run') (Zips ample ample') (none × none') (λ (x y : Zip S U A). alike x.first y.first × alike' x.second y.second × SameHeld same x.item_slot y.item_slot)
+      → SteadyLawsBy (Pairwise same other) (Zips run run') (Zips ample ample') (none × none')
+      (λ (x y : Zip S U A). alike x.first y.first × alike' x.second y.second
+      × SameHeld same x.item_slot y.item_slot)
   zip_steady s u =
       record {
         laws = zip_runs s.laws u.laws;
         steady = λ x y e l m x' y' h k.
-            matching_same same other x.item_slot y.item_slot (strip h.firsts) (strip k.firsts) (strip h.seconds) (strip k.seconds) (strip l) (strip m) (held_same same x.item_slot y.item_slot e.2)
-            (matching x.item_slot x'.item_slot h.firsts h.seconds l h.paired) (matching y.item_slot y'.item_slot k.firsts k.seconds m k.paired)
-            (s.steady x.first y.first e.0 h.firsts k.firsts x'.first y'.first h.came k.came) (u.steady x.second y.second e.1 h.seconds k.seconds x'.second y'.second h.then_came k.then_came);
+            matching_same same other x.item_slot y.item_slot (strip h.firsts) (strip k.firsts) (strip h.seconds)
+            (strip k.seconds) (strip l) (strip m) (held_same same x.item_slot y.item_slot e.2)
+            (matching x.item_slot x'.item_slot h.firsts h.seconds l h.paired)
+            (matching y.item_slot y'.item_slot k.firsts k.seconds m k.paired)
+            (s.steady x.first y.first e.0 h.firsts k.firsts x'.first y'.first h.came k.came)
+            (u.steady x.second y.second e.1 h.seconds k.seconds x'.second y'.second h.then_came k.then_came);
         found = λ n x y l h.
-            record { firsts = h.firsts; seconds = h.seconds; came = s.found n.0 x.first y.first h.firsts h.came; then_came = u.found n.1 x.second y.second h.seconds h.then_came; paired = h.paired };
+            record {
+              firsts = h.firsts;
+              seconds = h.seconds;
+              came = s.found n.0 x.first y.first h.firsts h.came;
+              then_came = u.found n.1 x.second y.second h.seconds h.then_came;
+              paired = h.paired;
+            };
       }

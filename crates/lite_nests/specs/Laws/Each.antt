@@ -8,17 +8,18 @@ use Rattle.lite_base.specs.Answers.{Answer, Gives, Waiting, end, item, items}
 use Rattle.lite_base.specs.Calling.{Always}
 use Rattle.lite_base.specs.Future.Finishes.{Finishes}
 use Rattle.lite_base.specs.Future.Handed.{handed}
+use Rattle.lite_base.specs.Runs.{Question, Runs}
 use Rattle.lite_stream.specs.Cutting.{Cuts}
 use Rattle.lite_stream.specs.Fuse.{AllEnds, FusesOn}
 use Rattle.lite_stream.specs.Pointwise.{Exchanges, Replaces}
-use Rattle.lite_sift.specs.Leaving.{Leaves}
+use Rattle.lite_sift.specs.Leaving.{LeavesOut}
 use Rattle.lite_flatten.specs.Chain.{Joins, is_done, second_after}
 use Rattle.lite_flatten.specs.Flatten.{Flat}
-use Rattle.lite_flatten.specs.Lingering.{Lingers}
+use Rattle.lite_flatten.specs.Expanding.{Expands}
 use Rattle.lite_flatten.specs.Then.{HandsOut}
 use Rattle.lite_flatten.specs.declared.chain.Part.{Part}
 use Rattle.lite_flatten.specs.declared.chain.Part.TheVariants.{First, Second, Done}
-use Rattle.lite_merge.specs.Merge.{Row, Rows}
+use Rattle.lite_merge.specs.Merge.{MergeRow, MergeRows}
 use Rattle.lite_merge.specs.Zip.{Pairs, pendings}
 use Rattle.lite_nests.specs.Each.{EachItem}
 
@@ -59,46 +60,60 @@ each_any (Ready None ∷ l) = each_any l
 each_any (Ready (Some x) ∷ l) = (tt, each_any l)
 
 -- of each item a weaker fact
-pub each_weaker : {A : Type 0} (P Q : A → Type 0) → ((x : A) → P x → Q x) → (l : List (Answer A)) → EachItem P l → EachItem Q l
+pub each_weaker : {A : Type 0} (P Q : A → Type 0) → ((x : A) → P x → Q x) → (l : List (Answer A)) → EachItem P l
+    → EachItem Q l
 each_weaker P Q weaker [] h = tt
 each_weaker P Q weaker (Pending ∷ l) h = each_weaker P Q weaker l h
 each_weaker P Q weaker (Ready None ∷ l) h = each_weaker P Q weaker l h
 each_weaker P Q weaker (Ready (Some x) ∷ l) h = (weaker x h.0, each_weaker P Q weaker l h.1)
 
-module _ {F A B : Type 0} (call : F → A → Option B → F → Type 0) (P : A → Type 0) (Q : B → Type 0)
+module _ {F A B : Type 0} (call : Question F A (Option B)) (P : A → Type 0) (Q : B → Type 0)
     (answers : (p q : F) (x : A) (y : B) → P x → call p x (Some y) q → Q y) where
   -- take_while, map_while, scan
-  pub each_exchanged : (f g : F) (i : List (Answer A)) (o : List (Answer B)) → EachItem P i → Exchanges call f i o g → EachItem Q o
+  pub each_exchanged : (f g : F) (i : List (Answer A)) (o : List (Answer B)) → EachItem P i → Exchanges call f i o g
+      → EachItem Q o
   each_exchanged f g [] [] e h = tt
   each_exchanged f g [] (b ∷ o) e h = absurd h
   each_exchanged f g (a ∷ i) [] e h = tt
-  each_exchanged f g (Pending ∷ i) (b ∷ o) e h = subst (λ (c : Answer B). EachItem Q (c ∷ o)) (sym h.0) (each_exchanged f g i o e h.1)
-  each_exchanged f g (Ready None ∷ i) (b ∷ o) e h = subst (λ (c : Answer B). EachItem Q (c ∷ o)) (sym h.0) (each_exchanged f g i o e h.1)
+  each_exchanged f g (Pending ∷ i) (b ∷ o) e h =
+      subst (λ (c : Answer B). EachItem Q (c ∷ o)) (sym h.0) (each_exchanged f g i o e h.1)
+  each_exchanged f g (Ready None ∷ i) (b ∷ o) e h =
+      subst (λ (c : Answer B). EachItem Q (c ∷ o)) (sym h.0) (each_exchanged f g i o e h.1)
   each_exchanged f g (Ready (Some x) ∷ i) (b ∷ o) e (None, r, same, called, more) =
       subst (λ (c : Answer B). EachItem Q (c ∷ o)) (sym same) (each_exchanged r g i o e.1 more)
   each_exchanged f g (Ready (Some x) ∷ i) (b ∷ o) e (Some y, r, same, called, more) =
-      subst (λ (c : Answer B). EachItem Q (c ∷ o)) (sym same) (answers f r x y e.0 called, each_exchanged r g i o e.1 more)
+      subst (λ (c : Answer B). EachItem Q (c ∷ o)) (sym same)
+      (answers f r x y e.0 called, each_exchanged r g i o e.1 more)
 
   -- filter, filter_map, skip, skip_while
-  pub each_left : (f g : F) (i : List (Answer A)) (o : List (Answer B)) → EachItem P i → Leaves call f i o g → EachItem Q o
+  pub each_left : (f g : F) (i : List (Answer A)) (o : List (Answer B)) → EachItem P i → LeavesOut call f i o g
+      → EachItem Q o
   each_left f g i [] e h = tt
   each_left f g i (Pending ∷ o) e h =
-      each_left h.1 g h.0 o (each_tail P h.2.last h.0 (each_back P (items h.2.rejected) (h.2.last ∷ h.0) (subst (EachItem P) h.2.cut e))) h.3
+      each_left h.1 g h.0 o
+      (each_tail P h.2.last h.0
+      (each_back P (items h.2.rejected) (h.2.last ∷ h.0) (subst (EachItem P) h.2.cut e))) h.3
   each_left f g i (Ready None ∷ o) e h =
-      each_left h.1 g h.0 o (each_tail P h.2.last h.0 (each_back P (items h.2.rejected) (h.2.last ∷ h.0) (subst (EachItem P) h.2.cut e))) h.3
+      each_left h.1 g h.0 o
+      (each_tail P h.2.last h.0
+      (each_back P (items h.2.rejected) (h.2.last ∷ h.0) (subst (EachItem P) h.2.cut e))) h.3
   each_left f g i (Ready (Some y) ∷ o) e h =
       let passes = h.2.passes in
-      let kept : EachItem P (h.2.last ∷ h.0) = each_back P (items h.2.rejected) (h.2.last ∷ h.0) (subst (EachItem P) h.2.cut e) in
+      let kept : EachItem P (h.2.last ∷ h.0) =
+      each_back P (items h.2.rejected) (h.2.last ∷ h.0) (subst (EachItem P) h.2.cut e) in
       let here : EachItem P (item passes.0 ∷ h.0) = subst (λ (a : Answer A). EachItem P (a ∷ h.0)) passes.1 kept in
       (answers h.2.between h.1 passes.0 y here.0 passes.2, each_left h.1 g h.0 o here.1 h.3)
 
 -- the same, where the calls alone say it
-pub each_kept : {F A B : Type 0} (call : F → A → Option B → F → Type 0) (Q : B → Type 0) → ((p q : F) (x : A) (y : B) → call p x (Some y) q → Q y)
-    → (f g : F) (i : List (Answer A)) (o : List (Answer B)) → Leaves call f i o g → EachItem Q o
-each_kept call Q answers f g i o h = each_left call (λ x. ⊤) Q (λ p q x y any called. answers p q x y called) f g i o (each_any i) h
+pub each_kept : {F A B : Type 0} (call : Question F A (Option B)) (Q : B → Type 0)
+    → ((p q : F) (x : A) (y : B) → call p x (Some y) q → Q y)
+    → (f g : F) (i : List (Answer A)) (o : List (Answer B)) → LeavesOut call f i o g → EachItem Q o
+each_kept call Q answers f g i o h =
+    each_left call (λ x. ⊤) Q (λ p q x y any called. answers p q x y called) f g i o (each_any i) h
 
 -- map, enumerate, inspect, copied
-pub each_replaced : {F A B : Type 0} (call : F → A → B → F → Type 0) (P : A → Type 0) (Q : B → Type 0) → ((p q : F) (x : A) (y : B) → P x → call p x y q → Q y)
+pub each_replaced : {F A B : Type 0} (call : Question F A B) (P : A → Type 0) (Q : B → Type 0)
+    → ((p q : F) (x : A) (y : B) → P x → call p x y q → Q y)
     → (f g : F) (i : List (Answer A)) (o : List (Answer B)) → EachItem P i → Replaces call f i o g → EachItem Q o
 each_replaced call P Q answers = each_exchanged (Always call) P Q answers
 
@@ -106,13 +121,15 @@ each_replaced call P Q answers = each_exchanged (Always call) P Q answers
 pub each_cut : {F A : Type 0} (is_over : F → Type 0) (after : Answer A → F → F) (P : A → Type 0)
     (f g : F) (i o : List (Answer A)) → EachItem P i → Cuts is_over after f i o g → EachItem P o
 each_cut is_over after P f g i [] e h = tt
-each_cut is_over after P f g i (b ∷ o) e (inl h) = subst (λ (c : Answer _). EachItem P (c ∷ o)) (sym h.1) (each_cut is_over after P f g i o e h.2)
+each_cut is_over after P f g i (b ∷ o) e (inl h) =
+    subst (λ (c : Answer _). EachItem P (c ∷ o)) (sym h.1) (each_cut is_over after P f g i o e h.2)
 each_cut is_over after P f g i (b ∷ o) e (inr h) =
     let here = subst (EachItem P) h.2 e in
     each_cons P b h.1 o here (each_cut is_over after P (after b f) g h.1 o (each_tail P b h.1 here) h.3)
 
 -- fuse
-pub each_fused : {A : Type 0} (P : A → Type 0) (p q : Bool) (i o : List (Answer A)) → EachItem P i → FusesOn p i o q → EachItem P o
+pub each_fused : {A : Type 0} (P : A → Type 0) (p q : Bool) (i o : List (Answer A)) → EachItem P i → FusesOn p i o q
+    → EachItem P o
 each_fused P true q i o e h = each_end P o h.1
 each_fused P false false i o e h = subst (EachItem P) (sym h.0) e
 each_fused P false true i o e h =
@@ -120,7 +137,8 @@ each_fused P false true i o e h =
     subst (EachItem P) (sym h.4) (each_join P h.0 (end ∷ h.1) own (each_end P h.1 h.5))
 
 -- chain
-pub each_joined : {A : Type 0} (P : A → Type 0) (p q : Part) (i j o : List (Answer A)) → EachItem P i → EachItem P j → Joins p i j o q → EachItem P o
+pub each_joined : {A : Type 0} (P : A → Type 0) (p q : Part) (i j o : List (Answer A)) → EachItem P i → EachItem P j
+    → Joins p i j o q → EachItem P o
 each_joined P First q i j o e d (inl h) = subst (EachItem P) (sym h.2) e
 each_joined P First q i j o e d (inr h) =
     let own = each_front P h.own (end ∷ []) (subst (EachItem P) h.through_end e) in
@@ -130,34 +148,44 @@ each_joined P Second q i j o e d h = each_cut is_done second_after P Second q j 
 each_joined P Done q i j o e d h = each_cut is_done second_after P Done q j o d h.1
 
 -- flatten, flat_map: R holds of each stream that comes in, and a stream of which it holds gives items with the fact
-module _ {B A : Type 0} (run : B → List (Answer A) → B → Type 0) (R : B → Type 0) (P : A → Type 0)
+module _ {B A : Type 0} (run : Runs (Answer A) B) (R : B → Type 0) (P : A → Type 0)
     (gives : (b c : B) (l : List (Answer A)) → R b → run b l c → EachItem P l) where
-  pub each_flat : (i : List (Answer B)) (o : List (Answer A)) (last : Option B) → EachItem R i → Flat run i o last → EachItem P o
+  pub each_flat : (i : List (Answer B)) (o : List (Answer A)) (last : Option B) → EachItem R i → Flat run i o last
+      → EachItem P o
   each_flat [] [] last e h = tt
   each_flat [] (a ∷ o) last e h = absurd h
   each_flat (b ∷ i) [] last e h = tt
-  each_flat (Pending ∷ i) (a ∷ o) last e h = subst (λ (c : Answer A). EachItem P (c ∷ o)) (sym h.0) (each_flat i o last e h.1)
-  each_flat (Ready None ∷ i) (a ∷ o) last e h = subst (λ (c : Answer A). EachItem P (c ∷ o)) (sym h.0) (each_flat i o last e h.1)
+  each_flat (Pending ∷ i) (a ∷ o) last e h =
+      subst (λ (c : Answer A). EachItem P (c ∷ o)) (sym h.0) (each_flat i o last e h.1)
+  each_flat (Ready None ∷ i) (a ∷ o) last e h =
+      subst (λ (c : Answer A). EachItem P (c ∷ o)) (sym h.0) (each_flat i o last e h.1)
   each_flat (Ready (Some b) ∷ i) (a ∷ o) last e (inl h) = gives b h.2 (a ∷ o) e.0 h.3
   each_flat (Ready (Some b) ∷ i) (a ∷ o) last e (inr h) =
       let own = each_front P h.0 (end ∷ []) (gives b h.5 (h.0 ++ end ∷ []) e.0 h.6) in
       subst (EachItem P) (sym h.3) (each_join P h.0 (h.1 ∷ h.2) own (each_flat i (h.1 ∷ h.2) last e.1 h.7))
 
 -- then, cloned: what is made of an item with the one fact gives items with the other
-module _ {F A V B : Type 0} (call : F → A → V → F → Type 0) (gives : V → List (Answer B) → Option V → Type 0) (P : A → Type 0) (Q : B → Type 0)
-    (made : (p q : F) (x : A) (v : V) (l : List (Answer B)) (left : Option V) → P x → call p x v q → gives v l left → EachItem Q l) where
-  pub each_lingering : (f g : F) (i : List (Answer A)) (o : List (Answer B)) (last : Option V) → EachItem P i → Lingers call gives f i o g last → EachItem Q o
-  each_lingering f g [] [] last e h = tt
-  each_lingering f g [] (b ∷ o) last e h = absurd h
-  each_lingering f g (a ∷ i) [] last e h = tt
-  each_lingering f g (Pending ∷ i) (b ∷ o) last e h = subst (λ (c : Answer B). EachItem Q (c ∷ o)) (sym h.0) (each_lingering f g i o last e h.1)
-  each_lingering f g (Ready None ∷ i) (b ∷ o) last e h = subst (λ (c : Answer B). EachItem Q (c ∷ o)) (sym h.0) (each_lingering f g i o last e h.1)
-  each_lingering f g (Ready (Some x) ∷ i) (b ∷ o) last e (v, r, called, inl h) = made f r x v (b ∷ o) (Some h.2) e.0 called h.3
-  each_lingering f g (Ready (Some x) ∷ i) (b ∷ o) last e (v, r, called, inr h) =
-      subst (EachItem Q) (sym h.2) (each_join Q h.0 h.1 (made f r x v h.0 None e.0 called h.3) (each_lingering r g i h.1 last e.1 h.4))
+module _ {F A V B : Type 0} (call : Question F A V) (gives : V → List (Answer B) → Option V → Type 0) (P : A → Type 0)
+    (Q : B → Type 0)
+    (made : (p q : F) (x : A) (v : V) (l : List (Answer B)) (left : Option V) → P x → call p x v q → gives v l left
+    → EachItem Q l) where
+  pub each_expanding : (f g : F) (i : List (Answer A)) (o : List (Answer B)) (last : Option V) → EachItem P i
+      → Expands call gives f i o g last → EachItem Q o
+  each_expanding f g [] [] last e h = tt
+  each_expanding f g [] (b ∷ o) last e h = absurd h
+  each_expanding f g (a ∷ i) [] last e h = tt
+  each_expanding f g (Pending ∷ i) (b ∷ o) last e h =
+      subst (λ (c : Answer B). EachItem Q (c ∷ o)) (sym h.0) (each_expanding f g i o last e h.1)
+  each_expanding f g (Ready None ∷ i) (b ∷ o) last e h =
+      subst (λ (c : Answer B). EachItem Q (c ∷ o)) (sym h.0) (each_expanding f g i o last e h.1)
+  each_expanding f g (Ready (Some x) ∷ i) (b ∷ o) last e (v, r, called, inl h) =
+      made f r x v (b ∷ o) (Some h.2) e.0 called h.3
+  each_expanding f g (Ready (Some x) ∷ i) (b ∷ o) last e (v, r, called, inr h) =
+      subst (EachItem Q) (sym h.2)
+      (each_join Q h.0 h.1 (made f r x v h.0 None e.0 called h.3) (each_expanding r g i h.1 last e.1 h.4))
 
 -- a future that is held hands out pendings and then its value, which has the fact
-module _ {V B : Type 0} (run : V → List (Poll B) → V → Type 0) (R : V → Type 0) (Q : B → Type 0)
+module _ {V B : Type 0} (run : Runs (Poll B) V) (R : V → Type 0) (Q : B → Type 0)
     (finishes : (v : V) (ins : List (Poll B)) (y : B) → R v → Finishes run v ins y → Q y) where
   each_waiting : (ins : List (Poll B)) → Waiting ins → EachItem Q (map (handed Some) ins)
   each_waiting [] h = tt
@@ -183,19 +211,23 @@ each_same P i j e h = subst (EachItem P) (sym e) h
 
 -- or, race
 pub each_row : {A : Type 0} (P : A → Type 0) (i j : List (Answer A)) (c : Answer A) (i' j' : List (Answer A))
-    → EachItem P i → EachItem P j → Row i j c i' j' → EachItem P (c ∷ []) × EachItem P i' × EachItem P j'
+    → EachItem P i → EachItem P j → MergeRow i j c i' j' → EachItem P (c ∷ []) × EachItem P i' × EachItem P j'
 each_row P [] j c i' j' e d h = absurd h
-each_row P (Ready (Some x) ∷ i) j c i' j' e d h = (each_one P _ _ h.0 (e.0, tt), each_same P _ _ h.1 e.1, each_same P _ _ h.2 d)
+each_row P (Ready (Some x) ∷ i) j c i' j' e d h =
+    (each_one P _ _ h.0 (e.0, tt), each_same P _ _ h.1 e.1, each_same P _ _ h.2 d)
 each_row P (Ready None ∷ i) [] c i' j' e d h = absurd h
 each_row P (Ready None ∷ i) (b ∷ j) c i' j' e d h =
     (each_one P _ _ h.0 (each_front P (b ∷ []) j d), each_same P _ _ h.1 e, each_same P _ _ h.2 (each_tail P b j d))
 each_row P (Pending ∷ i) [] c i' j' e d h = absurd h
-each_row P (Pending ∷ i) (Pending ∷ j) c i' j' e d h = (each_one P _ _ h.0 tt, each_same P _ _ h.1 e, each_same P _ _ h.2 d)
-each_row P (Pending ∷ i) (Ready None ∷ j) c i' j' e d h = (each_one P _ _ h.0 tt, each_same P _ _ h.1 e, each_same P _ _ h.2 d)
+each_row P (Pending ∷ i) (Pending ∷ j) c i' j' e d h =
+    (each_one P _ _ h.0 tt, each_same P _ _ h.1 e, each_same P _ _ h.2 d)
+each_row P (Pending ∷ i) (Ready None ∷ j) c i' j' e d h =
+    (each_one P _ _ h.0 tt, each_same P _ _ h.1 e, each_same P _ _ h.2 d)
 each_row P (Pending ∷ i) (Ready (Some y) ∷ j) c i' j' e d h =
     (each_one P _ _ h.0 (d.0, tt), each_same P _ _ h.1 e, each_same P _ _ h.2 d.1)
 
-pub each_merged : {A : Type 0} (P : A → Type 0) (order : List Bool) (i j o : List (Answer A)) → EachItem P i → EachItem P j → Rows order i j o → EachItem P o
+pub each_merged : {A : Type 0} (P : A → Type 0) (order : List Bool) (i j o : List (Answer A)) → EachItem P i
+    → EachItem P j → MergeRows order i j o → EachItem P o
 each_merged P [] i j o e d h = rw h.2 tt
 each_merged P (first ∷ order) i j [] e d h = tt
 each_merged P (true ∷ order) i j (c ∷ o) e d h =
@@ -211,7 +243,8 @@ module _ {A B : Type 0} (P : A → Type 0) (Q : B → Type 0) where
   each_after zero l h = h
   each_after (suc n) l h = each_after n l h
 
-  each_pending : (n : ℕ) (l : List (Answer (A × B))) → EachItem (λ z. P z.0 × Q z.1) l → EachItem (λ z. P z.0 × Q z.1) (pendings n l)
+  each_pending : (n : ℕ) (l : List (Answer (A × B))) → EachItem (λ z. P z.0 × Q z.1) l
+      → EachItem (λ z. P z.0 × Q z.1) (pendings n l)
   each_pending zero l h = h
   each_pending (suc n) l h = each_pending n l h
 
@@ -223,10 +256,13 @@ module _ {A B : Type 0} (P : A → Type 0) (Q : B → Type 0) where
       subst (λ (c : Answer (A × B)). EachItem (λ z. P z.0 × Q z.1) (c ∷ o)) (sym h.0) (each_paired i j o last e d h.1)
   each_paired (Ready None ∷ i) j (c ∷ o) last e d h =
       subst (λ (c : Answer (A × B)). EachItem (λ z. P z.0 × Q z.1) (c ∷ o)) (sym h.0) (each_paired i j o last e d h.1)
-  each_paired (Ready (Some x) ∷ i) j (c ∷ o) last e d (inl h) = subst (EachItem (λ z. P z.0 × Q z.1)) (sym h.3) (each_pending h.0 [] tt)
+  each_paired (Ready (Some x) ∷ i) j (c ∷ o) last e d (inl h) =
+      subst (EachItem (λ z. P z.0 × Q z.1)) (sym h.3) (each_pending h.0 [] tt)
   each_paired (Ready (Some x) ∷ i) j (c ∷ o) last e d (inr (n, None, more, rest, came, went, follows)) =
       let after : EachItem Q (end ∷ more) = each_after n (end ∷ more) (subst (EachItem Q) came d) in
-      subst (EachItem (λ z. P z.0 × Q z.1)) (sym went) (each_pending n (end ∷ rest) (each_paired i more rest last e.1 after follows))
+      subst (EachItem (λ z. P z.0 × Q z.1)) (sym went)
+      (each_pending n (end ∷ rest) (each_paired i more rest last e.1 after follows))
   each_paired (Ready (Some x) ∷ i) j (c ∷ o) last e d (inr (n, Some y, more, rest, came, went, follows)) =
       let after : EachItem Q (item y ∷ more) = each_after n (item y ∷ more) (subst (EachItem Q) came d) in
-      subst (EachItem (λ z. P z.0 × Q z.1)) (sym went) (each_pending n (item (x, y) ∷ rest) ((e.0, after.0), each_paired i more rest last e.1 after.1 follows))
+      subst (EachItem (λ z. P z.0 × Q z.1)) (sym went)
+      (each_pending n (item (x, y) ∷ rest) ((e.0, after.0), each_paired i more rest last e.1 after.1 follows))

@@ -12,7 +12,8 @@ map_join f (x ∷ xs) ys = ap (λ l. f x ∷ l) (map_join f xs ys)
 pub front_map : {A B : Type 0} (f : A → B) (xs ys : List A) → Front xs ys → Front (map f xs) (map f ys)
 front_map f xs ys h = (map f h.0, ap (map f) h.1 ∙ map_join f xs h.0)
 
-pub front_filter : {A : Type 0} (test : A → Bool) (xs ys : List A) → Front xs ys → Front (filter test xs) (filter test ys)
+pub front_filter : {A : Type 0} (test : A → Bool) (xs ys : List A) → Front xs ys
+    → Front (filter test xs) (filter test ys)
 front_filter test xs ys h = (filter test h.0, ap (filter test) h.1 ∙ filter-append test xs h.0)
 
 -- what is no longer than n stands first in the first n

@@ -1,15 +1,17 @@
 -- Which items come out: each adapter of a function of its own has a plain function of lists.
-use Rattle.std.proofs.Common.{◌≡◌, ◌≤◌, ◌⊎◌, ℕ, zero, suc, ◌+◌, ◌-◌, List, [], ◌∷◌, ◌++◌, ◌∙◌, length, map, take, refl, ap, sym, inl, inr, subst, arith}
+use Rattle.std.proofs.Common.{◌≡◌, ◌≤◌, ◌⊎◌, ℕ, zero, suc, ◌+◌, ◌-◌, List, [], ◌∷◌, ◌++◌, ◌∙◌, length, map, take, refl}
+use Rattle.std.proofs.Common.{ap, sym, inl, inr, subst, arith}
 use Rattle.std.specs.List.{FoldsTo, filter}
 use Rattle.std.specs.Prelude.{Bool, true, false, Option, Some, None, Result, Ok, Err, IfOk}
 use Rattle.std.proofs.lemmas.List.Elements.{filter-append}
 use Rattle.futures.specs.declared.task.Poll.TheVariants.{Ready, Pending}
 use Rattle.lite_base.specs.Answers.{Answer, end, item, items}
+use Rattle.lite_base.specs.Runs.{Question}
 use Rattle.lite_stream.specs.Cutting.{Cuts}
 use Rattle.lite_stream.specs.EachItem.{items_in}
 use Rattle.lite_stream.specs.Pointwise.{Replaces}
 use Rattle.lite_stream.specs.Take.{is_none_left, left_after}
-use Rattle.lite_sift.specs.Leaving.{Leaves}
+use Rattle.lite_sift.specs.Leaving.{LeavesOut}
 use Rattle.lite_nests.specs.Fronts.{Front}
 use Rattle.lite_nests.specs.Laws.Fronts.{front_filter, front_map, front_take}
 
@@ -24,8 +26,9 @@ items_of [] = refl
 items_of (x ∷ xs) = ap (λ k. x ∷ k) (items_of xs)
 
 -- map: as many answers, the items by the function
-module _ {F A B : Type 0} (call : F → A → B → F → Type 0) where
-  pub replaced_length : (p q : F) (i : List (Answer A)) (o : List (Answer B)) → Replaces call p i o q → length i ≡ length o
+module _ {F A B : Type 0} (call : Question F A B) where
+  pub replaced_length : (p q : F) (i : List (Answer A)) (o : List (Answer B)) → Replaces call p i o q
+      → length i ≡ length o
   replaced_length p q [] [] h = refl
   replaced_length p q [] (b ∷ o) h = absurd h
   replaced_length p q (a ∷ i) [] h = absurd h
@@ -34,7 +37,8 @@ module _ {F A B : Type 0} (call : F → A → B → F → Type 0) where
   replaced_length p q (Ready (Some x) ∷ i) (b ∷ o) h = ap suc (replaced_length h.1 q i o h.4)
 
   module _ (f : A → B) (answers : (p q : F) (x : A) (y : B) → call p x y q → y ≡ f x) where
-    pub replaced_in : (p q : F) (i : List (Answer A)) (o : List (Answer B)) → Replaces call p i o q → items_in o ≡ map f (items_in i)
+    pub replaced_in : (p q : F) (i : List (Answer A)) (o : List (Answer B)) → Replaces call p i o q
+        → items_in o ≡ map f (items_in i)
     replaced_in p q [] [] h = refl
     replaced_in p q [] (b ∷ o) h = absurd h
     replaced_in p q (a ∷ i) [] h = absurd h
@@ -48,10 +52,12 @@ module _ {F A B : Type 0} (call : F → A → B → F → Type 0) where
 
     pub replaced_front : (p q : F) (xs : List A) (i : List (Answer A)) (o : List (Answer B))
         → Front (items_in i) xs → Replaces call p i o q → Front (items_in o) (map f xs)
-    replaced_front p q xs i o came h = subst (λ l. Front l (map f xs)) (sym (replaced_in p q i o h)) (front_map f (items_in i) xs came)
+    replaced_front p q xs i o came h =
+        subst (λ l. Front l (map f xs)) (sym (replaced_in p q i o h)) (front_map f (items_in i) xs came)
 
     -- where all answers were items
-    pub replaced_items : (p q : F) (xs : List A) (o : List (Answer B)) → Replaces call p (items xs) o q → o ≡ items (map f xs)
+    pub replaced_items : (p q : F) (xs : List A) (o : List (Answer B)) → Replaces call p (items xs) o q
+        → o ≡ items (map f xs)
     replaced_items p q [] [] h = refl
     replaced_items p q [] (b ∷ o) h = absurd h
     replaced_items p q (x ∷ xs) [] h = absurd h
@@ -62,7 +68,8 @@ module _ {F A B : Type 0} (call : F → A → B → F → Type 0) where
         cc
 
 -- filter: the items that the test accepts
-module _ {F A : Type 0} (call : F → A → Option A → F → Type 0) (test : A → Bool) (keeps : (p q : F) (x y : A) → call p x (Some y) q → (y ≡ x) × (test x ≡ true))
+module _ {F A : Type 0} (call : Question F A (Option A)) (test : A → Bool)
+    (keeps : (p q : F) (x y : A) → call p x (Some y) q → (y ≡ x) × (test x ≡ true))
     (rejects : (p q : F) (x : A) → call p x None q → test x ≡ false) where
   rejected_none : (p q : F) (xs : List A) → FoldsTo (λ f x g. call f x None g) p xs q → filter test xs ≡ []
   rejected_none p q [] h = refl
@@ -78,7 +85,8 @@ module _ {F A : Type 0} (call : F → A → Option A → F → Type 0) (test : A
       let kept = filter-append test xs (items_in (a ∷ rest)) ∙ ap (λ l. l ++ filter test (items_in (a ∷ rest))) off in
       ap (λ l. filter test (items_in l)) cut ∙ (ap (filter test) came ∙ kept)
 
-  pub left_in : (p q : F) (i : List (Answer A)) (o : List (Answer A)) → Leaves call p i o q → items_in o ≡ filter test (items_in i)
+  pub left_in : (p q : F) (i : List (Answer A)) (o : List (Answer A)) → LeavesOut call p i o q
+      → items_in o ≡ filter test (items_in i)
   left_in p q i [] h = sym (ap (λ l. filter test (items_in l)) h.0)
   left_in p q i (Pending ∷ o) h =
       let s = h.2 in
@@ -96,21 +104,29 @@ module _ {F A : Type 0} (call : F → A → Option A → F → Type 0) (test : A
       let on : test passes.0 ≡ true = passed.1 in
       let kept : filter test (passes.0 ∷ items_in h.0) ≡ passes.0 ∷ filter test (items_in h.0) = rw on refl in
       let rest = left_in h.1 q h.0 o h.3 in
-      ap (λ k. y ∷ k) rest ∙ (ap (λ z. z ∷ filter test (items_in h.0)) passed.0 ∙ sym (came ∙ (ap (λ a. filter test (items_in (a ∷ h.0))) passes.1 ∙ kept)))
+      ap (λ k. y ∷ k) rest
+      ∙ (ap (λ z. z ∷ filter test (items_in h.0)) passed.0
+      ∙ sym (came ∙ (ap (λ a. filter test (items_in (a ∷ h.0))) passes.1 ∙ kept)))
 
-  pub left_front : (p q : F) (xs : List A) (i o : List (Answer A)) → Front (items_in i) xs → Leaves call p i o q → Front (items_in o) (filter test xs)
-  left_front p q xs i o came h = subst (λ l. Front l (filter test xs)) (sym (left_in p q i o h)) (front_filter test (items_in i) xs came)
+  pub left_front : (p q : F) (xs : List A) (i o : List (Answer A)) → Front (items_in i) xs → LeavesOut call p i o q
+      → Front (items_in o) (filter test xs)
+  left_front p q xs i o came h =
+      subst (λ l. Front l (filter test xs)) (sym (left_in p q i o h)) (front_filter test (items_in i) xs came)
 
 -- take: the items that came in, which are as many as were left to be taken at most
 pub cut_in : {F A : Type 0} (is_over : F → Type 0) (after : Answer A → F → F) (f g : F) (i o : List (Answer A))
     → Cuts is_over after f i o g → items_in o ≡ items_in i
 cut_in is_over after f g i [] h = sym (ap items_in h.0)
 cut_in is_over after f g i (b ∷ o) (inl h) = ap (λ a. items_in (a ∷ o)) h.1 ∙ cut_in is_over after f g i o h.2
-cut_in is_over after f g i (Pending ∷ o) (inr h) = cut_in is_over after (after Pending f) g h.1 o h.3 ∙ sym (ap items_in h.2)
-cut_in is_over after f g i (Ready None ∷ o) (inr h) = cut_in is_over after (after end f) g h.1 o h.3 ∙ sym (ap items_in h.2)
-cut_in is_over after f g i (Ready (Some x) ∷ o) (inr h) = ap (λ k. x ∷ k) (cut_in is_over after (after (item x) f) g h.1 o h.3) ∙ sym (ap items_in h.2)
+cut_in is_over after f g i (Pending ∷ o) (inr h) =
+    cut_in is_over after (after Pending f) g h.1 o h.3 ∙ sym (ap items_in h.2)
+cut_in is_over after f g i (Ready None ∷ o) (inr h) =
+    cut_in is_over after (after end f) g h.1 o h.3 ∙ sym (ap items_in h.2)
+cut_in is_over after f g i (Ready (Some x) ∷ o) (inr h) =
+    ap (λ k. x ∷ k) (cut_in is_over after (after (item x) f) g h.1 o h.3) ∙ sym (ap items_in h.2)
 
-pub taken_length : {A : Type 0} (n m : ℕ) (i o : List (Answer A)) → Cuts is_none_left left_after n i o m → length (items_in o) ≤ n
+pub taken_length : {A : Type 0} (n m : ℕ) (i o : List (Answer A)) → Cuts is_none_left left_after n i o m
+    → length (items_in o) ≤ n
 taken_length n m i [] h = omega arith
 taken_length n m i (b ∷ o) (inl h) = rw h.1 (taken_length n m i o h.2)
 taken_length n m i (Pending ∷ o) (inr h) = taken_length n m h.1 o h.3

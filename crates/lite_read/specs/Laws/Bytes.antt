@@ -1,5 +1,6 @@
 -- Laws of `bytes`.
-use Rattle.std.proofs.Common.{◌≡◌, ℕ, suc, ◌+◌, List, [], ◌∷◌, ◌++◌, length, Some, None, Result, refl, ap, subst, add-one}
+use Rattle.std.proofs.Common.{◌≡◌, ℕ, suc, ◌+◌, List, [], ◌∷◌, ◌++◌, length, Some, None, Result, refl, ap, subst}
+use Rattle.std.proofs.Common.{add-one}
 use Rattle.std.specs.declared.io.Error.{Error}
 use Rattle.futures.specs.declared.task.Poll.TheVariants.{Ready, Pending}
 use Rattle.lite_base.specs.Answers.{Answer, items}
@@ -8,16 +9,18 @@ use Rattle.lite_base.specs.Laws.Hint.{same_hint}
 use Rattle.lite_base.specs.Rank.{Below, Lowers}
 use Rattle.lite_base.specs.Ranks.{Counting, Ranks, ranks_of}
 use Rattle.lite_base.specs.StreamLaws.{RunLaws as StreamRunLaws, StreamLaws, laws_of}
+use Rattle.lite_base.specs.Runs.{NoHint, Runs}
 use Rattle.lite_io_base.specs.Counting.{ReadCounting}
 use Rattle.lite_io_base.specs.Falls.{Falls}
-use Rattle.lite_io_base.specs.Marks.{AllGiven, Mark, given}
-use Rattle.lite_io_base.specs.Runs.{RunLaws, Runs}
+use Rattle.lite_io_base.specs.Marks.{AllGiven, ReadMark, given}
+use Rattle.lite_io_base.specs.Runs.{MarkLaws}
 use Rattle.lite_io_base.specs.Steady.{CalmReadLaws, SteadyReadLaws}
-use Rattle.lite_read.specs.Bytes.{Tells, TellsEach}
-use Rattle.lite_read.specs.Laws.Turns.{idle_join}
+use Rattle.lite_read.specs.Bytes.{TellsBytes, TellsEach}
+use Rattle.lite_read.specs.Laws.PollSteps.{idle_join}
 use Rattle.lite_read.specs.declared.bytes.Bytes.{Bytes}
 
-tells_join : (i j : List Mark) (l m : List (Answer (Result ℕ Error))) → TellsEach i l → TellsEach j m → TellsEach (i ++ j) (l ++ m)
+tells_join : (i j : List ReadMark) (l m : List (Answer (Result ℕ Error))) → TellsEach i l → TellsEach j m
+    → TellsEach (i ++ j) (l ++ m)
 tells_join [] j [] m h k = k
 tells_join [] j (a ∷ l) m h k = absurd h
 tells_join (x ∷ i) j [] m h k = absurd h
@@ -28,35 +31,38 @@ one_below : (n : ℕ) (xs ys : List ℕ) → Falls (n + 1) xs ys → Below xs ys
 one_below n xs ys h = subst (λ k. Falls k xs ys) (add-one n) h
 
 -- what the marks do to a rank, the answers do
-tells_lower : (i : List Mark) (l : List (Answer (Result ℕ Error))) (xs ys : List ℕ) → TellsEach i l → Falls (given i) xs ys → Lowers l xs ys
+tells_lower : (i : List ReadMark) (l : List (Answer (Result ℕ Error))) (xs ys : List ℕ) → TellsEach i l
+    → Falls (given i) xs ys → Lowers l xs ys
 tells_lower [] [] xs ys h f = f
 tells_lower [] (a ∷ l) xs ys h f = absurd h
 tells_lower (x ∷ i) [] xs ys h f = absurd h
-tells_lower (Mark.byte b ∷ i) (Pending ∷ l) xs ys h f = absurd h.0
-tells_lower (Mark.byte b ∷ i) (Ready None ∷ l) xs ys h f = absurd h.0
-tells_lower (Mark.byte b ∷ i) (Ready (Some r) ∷ l) xs ys h f = one_below (given i) xs ys f
-tells_lower (Mark.fault k ∷ i) (Pending ∷ l) xs ys h f = Lowers-below l xs ys (one_below (given i) xs ys f)
-tells_lower (Mark.fault k ∷ i) (Ready None ∷ l) xs ys h f = absurd h.0
-tells_lower (Mark.fault k ∷ i) (Ready (Some r) ∷ l) xs ys h f = one_below (given i) xs ys f
-tells_lower (Mark.pending ∷ i) (Pending ∷ l) xs ys h f = tells_lower i l xs ys h.1 f
-tells_lower (Mark.pending ∷ i) (Ready None ∷ l) xs ys h f = absurd h.0
-tells_lower (Mark.pending ∷ i) (Ready (Some r) ∷ l) xs ys h f = absurd h.0
-tells_lower (Mark.end ∷ i) (Pending ∷ l) xs ys h f = absurd h.0
-tells_lower (Mark.end ∷ i) (Ready None ∷ l) xs ys h f = tells_lower i l xs ys h.1 f
-tells_lower (Mark.end ∷ i) (Ready (Some r) ∷ l) xs ys h f = absurd h.0
+tells_lower (ReadMark.byte b ∷ i) (Pending ∷ l) xs ys h f = absurd h.0
+tells_lower (ReadMark.byte b ∷ i) (Ready None ∷ l) xs ys h f = absurd h.0
+tells_lower (ReadMark.byte b ∷ i) (Ready (Some r) ∷ l) xs ys h f = one_below (given i) xs ys f
+tells_lower (ReadMark.fault k ∷ i) (Pending ∷ l) xs ys h f = Lowers-below l xs ys (one_below (given i) xs ys f)
+tells_lower (ReadMark.fault k ∷ i) (Ready None ∷ l) xs ys h f = absurd h.0
+tells_lower (ReadMark.fault k ∷ i) (Ready (Some r) ∷ l) xs ys h f = one_below (given i) xs ys f
+tells_lower (ReadMark.pending ∷ i) (Pending ∷ l) xs ys h f = tells_lower i l xs ys h.1 f
+tells_lower (ReadMark.pending ∷ i) (Ready None ∷ l) xs ys h f = absurd h.0
+tells_lower (ReadMark.pending ∷ i) (Ready (Some r) ∷ l) xs ys h f = absurd h.0
+tells_lower (ReadMark.end ∷ i) (Pending ∷ l) xs ys h f = absurd h.0
+tells_lower (ReadMark.end ∷ i) (Ready None ∷ l) xs ys h f = tells_lower i l xs ys h.1 f
+tells_lower (ReadMark.end ∷ i) (Ready (Some r) ∷ l) xs ys h f = absurd h.0
 
 -- items are bytes and errors
-tells_items : (i : List Mark) (l : List (Result ℕ Error)) → TellsEach i (items l) → AllGiven i × (length i ≡ length l)
+tells_items : (i : List ReadMark) (l : List (Result ℕ Error)) → TellsEach i (items l) → AllGiven i
+    × (length i ≡ length l)
 tells_items [] [] h = (tt, refl)
 tells_items [] (r ∷ l) h = absurd h
 tells_items (x ∷ i) [] h = absurd h
-tells_items (Mark.byte b ∷ i) (r ∷ l) h = let e = tells_items i l h.1 in ((tt, e.0), ap suc e.1)
-tells_items (Mark.fault k ∷ i) (r ∷ l) h = let e = tells_items i l h.1 in ((tt, e.0), ap suc e.1)
-tells_items (Mark.pending ∷ i) (r ∷ l) h = absurd h.0
-tells_items (Mark.end ∷ i) (r ∷ l) h = absurd h.0
+tells_items (ReadMark.byte b ∷ i) (r ∷ l) h = let e = tells_items i l h.1 in ((tt, e.0), ap suc e.1)
+tells_items (ReadMark.fault k ∷ i) (r ∷ l) h = let e = tells_items i l h.1 in ((tt, e.0), ap suc e.1)
+tells_items (ReadMark.pending ∷ i) (r ∷ l) h = absurd h.0
+tells_items (ReadMark.end ∷ i) (r ∷ l) h = absurd h.0
 
-module _ {R : Type 0} {reads : Runs Mark R} where
-  tells_follow : RunLaws reads → (x y z : Bytes R) (l m : List (Answer (Result ℕ Error))) → Tells reads x l y → Tells reads y m z → Tells reads x (l ++ m) z
+module _ {R : Type 0} {reads : Runs ReadMark R} where
+  tells_follow : MarkLaws reads → (x y z : Bytes R) (l m : List (Answer (Result ℕ Error))) → TellsBytes reads x l y
+      → TellsBytes reads y m z → TellsBytes reads x (l ++ m) z
   tells_follow laws x y z l m h k =
       record {
         marks = h.marks ++ k.marks;
@@ -65,7 +71,7 @@ module _ {R : Type 0} {reads : Runs Mark R} where
         idle = idle_join x y z l m h.idle k.idle;
       }
 
-  tells_runs : RunLaws reads → StreamRunLaws (Tells reads)
+  tells_runs : MarkLaws reads → StreamRunLaws (TellsBytes reads)
   tells_runs laws =
       record {
         rests = λ x. record { marks = []; came = laws.rests x.inner; told = tt; idle = λ e. refl };
@@ -73,10 +79,11 @@ module _ {R : Type 0} {reads : Runs Mark R} where
         follows = tells_follow laws;
       }
 
-  pub bytes_laws : RunLaws reads → StreamLaws (Tells reads) (λ x hint. hint ≡ (0, None))
+  pub bytes_laws : MarkLaws reads → StreamLaws (TellsBytes reads) NoHint
   bytes_laws laws = laws_of (tells_runs laws) (λ x y hint l e h. same_hint hint (0, None) l e tt)
 
-  pub bytes_counting : {r : Ranks R} → ReadCounting reads r → Counting (Tells reads) (ranks_of (λ (b : Bytes R). b.inner) r)
+  pub bytes_counting : {r : Ranks R} → ReadCounting reads r
+      → Counting (TellsBytes reads) (ranks_of (λ (b : Bytes R). b.inner) r)
   bytes_counting {r} c =
       record {
         sized = λ x. c.sized x.inner;
@@ -85,15 +92,18 @@ module _ {R : Type 0} {reads : Runs Mark R} where
         falls = λ x y a more k h.
             let e = tells_items h.marks (a ∷ more) h.told in
             subst (λ n. Falls n (r.rank y.inner) (r.rank x.inner)) e.1 (c.falls x.inner y.inner h.marks k e.0 h.came);
-        lowers = λ x y l k h. tells_lower h.marks l (r.rank y.inner) (r.rank x.inner) h.told (c.lowers x.inner y.inner h.marks k h.came);
+        lowers = λ x y l k h. tells_lower h.marks l (r.rank y.inner) (r.rank x.inner) h.told
+            (c.lowers x.inner y.inner h.marks k h.came);
       }
 
   -- it is read as its reader is
-  pub inner_laws : RunLaws reads → RunLaws (λ (x : Bytes R) l (y : Bytes R). reads x.inner l y.inner)
+  pub inner_laws : MarkLaws reads → MarkLaws (λ (x : Bytes R) l (y : Bytes R). reads x.inner l y.inner)
   inner_laws laws = record { rests = λ x. laws.rests x.inner; follows = λ x y z. laws.follows x.inner y.inner z.inner }
 
-  pub inner_steady : {ample : Runs Mark R} {needs_none : Type 0} {alike : R → R → Type 0} → SteadyReadLaws reads ample needs_none alike
-      → SteadyReadLaws (λ (x : Bytes R) l (y : Bytes R). reads x.inner l y.inner) (λ x l y. ample x.inner l y.inner) needs_none (λ x y. alike x.inner y.inner)
+  pub inner_steady : {ample : Runs ReadMark R} {needs_none : Type 0} {alike : R → R → Type 0}
+      → SteadyReadLaws reads ample needs_none alike
+      → SteadyReadLaws (λ (x : Bytes R) l (y : Bytes R). reads x.inner l y.inner)
+      (λ x l y. ample x.inner l y.inner) needs_none (λ x y. alike x.inner y.inner)
   inner_steady s =
       record {
         laws = record { rests = λ x. s.laws.rests x.inner; follows = λ x y z. s.laws.follows x.inner y.inner z.inner };
@@ -101,10 +111,12 @@ module _ {R : Type 0} {reads : Runs Mark R} where
         found = λ n x y. s.found n x.inner y.inner;
       }
 
-  pub inner_calm : {is_calm : R → Type 0} → CalmReadLaws reads is_calm → CalmReadLaws (λ (x : Bytes R) l (y : Bytes R). reads x.inner l y.inner) (λ x. is_calm x.inner)
-  inner_calm c = record { prompt = λ x y. c.prompt x.inner y.inner; calm_on = λ x y. c.calm_on x.inner y.inner }
+  pub inner_calm : {is_calm : R → Type 0} → CalmReadLaws reads is_calm
+      → CalmReadLaws (λ (x : Bytes R) l (y : Bytes R). reads x.inner l y.inner) (λ x. is_calm x.inner)
+  inner_calm c = record { no_pending = λ x y. c.no_pending x.inner y.inner; calm_on = λ x y. c.calm_on x.inner y.inner }
 
-  pub inner_counting : {r : Ranks R} → ReadCounting reads r → ReadCounting (λ (x : Bytes R) l (y : Bytes R). reads x.inner l y.inner) (ranks_of (λ (b : Bytes R). b.inner) r)
+  pub inner_counting : {r : Ranks R} → ReadCounting reads r
+      → ReadCounting (λ (x : Bytes R) l (y : Bytes R). reads x.inner l y.inner) (ranks_of (λ (b : Bytes R). b.inner) r)
   inner_counting c =
       record {
         sized = λ x. c.sized x.inner;

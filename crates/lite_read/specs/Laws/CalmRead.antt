@@ -5,12 +5,12 @@ use Rattle.std.specs.Borrow.{Bor, MutBor}
 use Rattle.std.specs.declared.io.Error.{Error}
 use Rattle.futures.specs.declared.task.Poll.TheVariants.{Ready, Pending}
 use Rattle.lite_base.specs.Calm.{CalmLaws}
-use Rattle.lite_io_base.specs.Marks.{Mark, fill_marks, read_marks}
-use Rattle.lite_io_base.specs.Runs.{Runs}
+use Rattle.lite_base.specs.Runs.{Runs}
+use Rattle.lite_io_base.specs.Marks.{ReadMark, fill_marks, read_marks}
 use Rattle.lite_io_base.specs.Steady.{CalmReadLaws}
 use Rattle.lite_read.specs.FillBuf.{FillsOnce, held_after}
 use Rattle.lite_read.specs.Laws.Polled.{polled_calm}
-use Rattle.lite_read.specs.Polled.{Polled}
+use Rattle.lite_read.specs.Polled.{PolledByCalls}
 use Rattle.lite_read.specs.Read.{Reads}
 use Rattle.lite_read.specs.ReadVectored.{ReadsVectored}
 use Rattle.lite_read.specs.declared.fill_buf.FillBuf.{FillBuf}
@@ -21,25 +21,33 @@ use Rattle.lite_read.specs.declared.read_vectored.ReadVectoredFuture.{ReadVector
 abbrev HeldCalm : {R : Type 0} → (R → Type 0) → Option (MutBor R) → Type 0
 HeldCalm is_calm held = IfSome held (λ r. is_calm r.now)
 
-held_calm : {R : Type 0} (is_calm : R → Type 0) (r : Result (Bor (List ℕ)) Error) (m : MutBor R) → is_calm m.now → HeldCalm is_calm (held_after (Ready r) m)
+held_calm : {R : Type 0} (is_calm : R → Type 0) (r : Result (Bor (List ℕ)) Error) (m : MutBor R) → is_calm m.now
+    → HeldCalm is_calm (held_after (Ready r) m)
 held_calm is_calm (Ok s) m k = tt
 held_calm is_calm (Err e) m k = k
 
-module _ {R : Type 0} {reads : Runs Mark R} {is_calm : R → Type 0} where
-  pub read_calm : CalmReadLaws reads is_calm → CalmLaws (Polled (Reads reads)) (λ (x : ReadFuture R). is_calm x.reader.now)
+module _ {R : Type 0} {reads : Runs ReadMark R} {is_calm : R → Type 0} where
+  pub read_calm : CalmReadLaws reads is_calm
+      → CalmLaws (PolledByCalls (Reads reads)) (λ (x : ReadFuture R). is_calm x.reader.now)
   read_calm c =
-      polled_calm (Reads reads) (λ x y k h. c.prompt x.reader.now y.reader.now (read_marks Pending y.buf.now) k h.came)
+      polled_calm (Reads reads)
+      (λ x y k h. c.no_pending x.reader.now y.reader.now (read_marks Pending y.buf.now) k h.came)
       (λ x y r k h. c.calm_on x.reader.now y.reader.now (read_marks (Ready r) y.buf.now) k h.came)
 
-  pub vectored_calm : CalmReadLaws reads is_calm → CalmLaws (Polled (ReadsVectored reads)) (λ (x : ReadVectoredFuture R). is_calm x.reader.now)
+  pub vectored_calm : CalmReadLaws reads is_calm
+      → CalmLaws (PolledByCalls (ReadsVectored reads)) (λ (x : ReadVectoredFuture R). is_calm x.reader.now)
   vectored_calm c =
-      polled_calm (ReadsVectored reads) (λ x y k h. c.prompt x.reader.now y.reader.now (read_marks Pending h.came.0) k h.came.2)
+      polled_calm (ReadsVectored reads)
+      (λ x y k h. c.no_pending x.reader.now y.reader.now (read_marks Pending h.came.0) k h.came.2)
       (λ x y r k h. c.calm_on x.reader.now y.reader.now (read_marks (Ready r) h.came.0) k h.came.2)
 
-  pub fill_calm : {lent : R → List ℕ} → CalmReadLaws reads is_calm → CalmLaws (Polled (FillsOnce reads lent)) (λ (x : FillBuf R). HeldCalm is_calm x.reader)
+  pub fill_calm : {lent : R → List ℕ} → CalmReadLaws reads is_calm
+      → CalmLaws (PolledByCalls (FillsOnce reads lent)) (λ (x : FillBuf R). HeldCalm is_calm x.reader)
   fill_calm {lent} c =
       polled_calm (FillsOnce reads lent)
-      (λ x y k h. c.prompt h.reader.now h.filled (fill_marks {A = Bor (List ℕ)} Pending (lent h.filled)) (subst (HeldCalm is_calm) h.held k) h.came)
+      (λ x y k h. c.no_pending h.reader.now h.filled (fill_marks {A = Bor (List ℕ)} Pending (lent h.filled))
+      (subst (HeldCalm is_calm) h.held k) h.came)
       (λ x y r k h.
-      let calm = c.calm_on h.reader.now h.filled (fill_marks (Ready r) (lent h.filled)) (subst (HeldCalm is_calm) h.held k) h.came in
+      let calm = c.calm_on h.reader.now h.filled (fill_marks (Ready r) (lent h.filled))
+      (subst (HeldCalm is_calm) h.held k) h.came in
       subst (HeldCalm is_calm) (sym h.after) (held_calm is_calm r (record h.reader { now = h.filled }) calm))

@@ -3,40 +3,42 @@ use Rattle.std.proofs.Common.{◌≤◌, List, [], ◌∷◌, ◌++◌, length, 
 use Rattle.futures.specs.declared.task.Poll.{Poll}
 use Rattle.futures.specs.declared.task.Poll.TheVariants.{Ready, Pending}
 use Rattle.lite_base.specs.Answers.{Waiting, strip}
-use Rattle.lite_base.specs.Calm.{CalmLaws, Prompt}
+use Rattle.lite_base.specs.Calm.{CalmLaws, NoPending}
 use Rattle.lite_base.specs.FutureLaws.{FutureLaws}
-use Rattle.lite_read.specs.Polled.{Polled}
+use Rattle.lite_read.specs.Polled.{PolledByCalls}
 
 module _ {F A : Type 0} (call : F → Poll A → F → Type 0) where
-  polled_follows : (x y z : F) (l m : List (Poll A)) → Waiting l → Polled call x l y → Polled call y m z → Polled call x (l ++ m) z
-  polled_follows x y z [] m w h k = subst (λ t. Polled call t m z) h k
+  polled_follows : (x y z : F) (l m : List (Poll A)) → Waiting l → PolledByCalls call x l y → PolledByCalls call y m z
+      → PolledByCalls call x (l ++ m) z
+  polled_follows x y z [] m w h k = subst (λ t. PolledByCalls call t m z) h k
   polled_follows x y z (Pending ∷ l) m w h k = (h.0, h.1, polled_follows h.0 y z l m w h.2 k)
   polled_follows x y z (Ready r ∷ l) m w h k = absurd w
 
-  polled_once : (x y : F) (l : List (Poll A)) → Polled call x l y → length (strip l) ≤ 1
+  polled_once : (x y : F) (l : List (Poll A)) → PolledByCalls call x l y → length (strip l) ≤ 1
   polled_once x y [] h = omega arith
   polled_once x y (Pending ∷ l) h = polled_once h.0 y l h.2
   polled_once x y (Ready r ∷ l) h = rw h.1 (omega arith)
 
-  pub polled_laws : FutureLaws (Polled call)
+  pub polled_laws : FutureLaws (PolledByCalls call)
   polled_laws = record { rests = λ x. refl; stays = λ x y h. h; follows = polled_follows; once = polled_once }
 
   -- one poll
-  pub polled_one : (x y : F) (c : Poll A) → call x c y → Polled call x (c ∷ []) y
+  pub polled_one : (x y : F) (c : Poll A) → call x c y → PolledByCalls call x (c ∷ []) y
   polled_one x y Pending h = (y, h, refl)
   polled_one x y (Ready r) h = (h, refl)
 
   -- where no call of a calm value is pending, and each leaves a calm one
-  module _ {is_calm : F → Type 0} (never : (x y : F) → is_calm x → call x Pending y → ⊥) (calm_on : (x y : F) (r : A) → is_calm x → call x (Ready r) y → is_calm y) where
-    prompt : (x y : F) (l : List (Poll A)) → is_calm x → Polled call x l y → Prompt l
-    prompt x y [] k h = tt
-    prompt x y (Pending ∷ l) k h = absurd (never x h.0 k h.1)
-    prompt x y (Ready r ∷ l) k h = rw h.1 tt
+  module _ {is_calm : F → Type 0} (never : (x y : F) → is_calm x → call x Pending y → ⊥)
+      (calm_on : (x y : F) (r : A) → is_calm x → call x (Ready r) y → is_calm y) where
+    no_pending : (x y : F) (l : List (Poll A)) → is_calm x → PolledByCalls call x l y → NoPending l
+    no_pending x y [] k h = tt
+    no_pending x y (Pending ∷ l) k h = absurd (never x h.0 k h.1)
+    no_pending x y (Ready r ∷ l) k h = rw h.1 tt
 
-    still_calm : (x y : F) (l : List (Poll A)) → is_calm x → Polled call x l y → is_calm y
+    still_calm : (x y : F) (l : List (Poll A)) → is_calm x → PolledByCalls call x l y → is_calm y
     still_calm x y [] k h = subst is_calm (sym h) k
     still_calm x y (Pending ∷ l) k h = absurd (never x h.0 k h.1)
     still_calm x y (Ready r ∷ l) k h = calm_on x y r k h.0
 
-    pub polled_calm : CalmLaws (Polled call) is_calm
-    polled_calm = record { prompt = prompt; calm_on = still_calm }
+    pub polled_calm : CalmLaws (PolledByCalls call) is_calm
+    polled_calm = record { no_pending = no_pending; calm_on = still_calm }

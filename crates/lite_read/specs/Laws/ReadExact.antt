@@ -1,22 +1,25 @@
 -- Laws of `read_exact`.
-use Rattle.std.proofs.Common.{◌≡◌, ◌∙◌, ◌<◌, ◌-◌, ◌+◌, ℕ, List, [], ◌∷◌, ◌++◌, length, Result, refl, ap, sym, arith, length-append}
+use Rattle.std.proofs.Common.{◌≡◌, ◌∙◌, ◌<◌, ◌-◌, ◌+◌, ℕ, List, [], ◌∷◌, ◌++◌, length, Result, refl, ap, sym, arith}
+use Rattle.std.proofs.Common.{length-append}
 use Rattle.std.proofs.lemmas.List.{length-take}
 use Rattle.std.specs.List.{FoldsTo}
 use Rattle.std.specs.declared.io.Error.{Error}
 use Rattle.futures.specs.declared.task.Poll.{Poll}
 use Rattle.lite_base.specs.Answers.{Waiting}
 use Rattle.lite_base.specs.FutureLaws.{FutureLaws}
-use Rattle.lite_io_base.specs.Marks.{Mark}
-use Rattle.lite_io_base.specs.Runs.{RunLaws, Runs}
-use Rattle.lite_read.specs.Laws.Gathering.{gathered_before, gathered_follow, gathered_none, gathers_once}
-use Rattle.lite_read.specs.Filling.{Stays, filling_of}
-use Rattle.lite_read.specs.Laws.Turns.{idle_join, lent_still}
+use Rattle.lite_base.specs.Runs.{Runs}
+use Rattle.lite_io_base.specs.Marks.{ReadMark}
+use Rattle.lite_io_base.specs.Runs.{MarkLaws}
+use Rattle.lite_read.specs.Laws.ReadFold.{read_folded_before, read_folded_follow, read_folded_none, read_folds_once}
+use Rattle.lite_read.specs.Filling.{ExactStays, filling_of}
+use Rattle.lite_read.specs.Laws.PollSteps.{idle_join, lent_still}
 use Rattle.lite_read.specs.ReadExact.{ReadsExactly, fills}
-use Rattle.lite_read.specs.Turns.{ReadsMore}
+use Rattle.lite_read.specs.PollSteps.{ReadsMore}
 use Rattle.lite_read.specs.declared.read_exact.ReadExactFuture.{ReadExactFuture}
 
 -- bytes that were taken in were filled in
-filled_more : (g h : List ℕ × ℕ) (xs : List ℕ) → FoldsTo fills.takes g xs h → (length h.0 ≡ length g.0 + length xs) × (h.1 ≡ g.1)
+filled_more : (g h : List ℕ × ℕ) (xs : List ℕ) → FoldsTo fills.takes g xs h → (length h.0 ≡ length g.0 + length xs)
+    × (h.1 ≡ g.1)
 filled_more g h [] e =
     let same : length h.0 ≡ length g.0 = ap (λ k. length k.0) (sym e) in
     (omega (arith, same), ap (λ k. k.1) (sym e))
@@ -30,19 +33,25 @@ had_room g h [] some e = absurd (omega (arith, some))
 had_room g h (x ∷ xs) some e = e.1.0
 
 module _ {R : Type 0} where
-  stays_none : (x : ReadExactFuture R) → Stays x x
+  stays_none : (x : ReadExactFuture R) → ExactStays x x
   stays_none x = record { reader = refl; buf = refl; within = λ h. h }
 
-  stays_join : (x y z : ReadExactFuture R) → Stays x y → Stays y z → Stays x z
+  stays_join : (x y z : ReadExactFuture R) → ExactStays x y → ExactStays y z → ExactStays x z
   stays_join x y z h k =
-      record { reader = lent_still x.reader y.reader z.reader h.reader k.reader; buf = lent_still x.buf y.buf z.buf h.buf k.buf; within = λ w. k.within (h.within w) }
+      record {
+        reader = lent_still x.reader y.reader z.reader h.reader k.reader;
+        buf = lent_still x.buf y.buf z.buf h.buf k.buf;
+        within = λ w. k.within (h.within w);
+      }
 
-  module _ {reads : Runs Mark R} (laws : RunLaws reads) where
-    follows : (x y z : ReadExactFuture R) (l m : List (Poll (Result (Unit {0}) Error))) → Waiting l → ReadsExactly reads x l y
+  module _ {reads : Runs ReadMark R} (laws : MarkLaws reads) where
+    follows : (x y z : ReadExactFuture R) (l m : List (Poll (Result (Unit {0}) Error))) → Waiting l
+        → ReadsExactly reads x l y
         → ReadsExactly reads y m z → ReadsExactly reads x (l ++ m) z
     follows x y z l m w h k =
         record {
-          gathered = gathered_follow fills laws x.reader.now y.reader.now z.reader.now (filling_of x) (filling_of y) (filling_of z) l m w h.gathered k.gathered;
+          folded = read_folded_follow fills laws x.reader.now y.reader.now z.reader.now (filling_of x) (filling_of y)
+              (filling_of z) l m w h.folded k.folded;
           stays = stays_join x y z h.stays k.stays;
           idle = idle_join x y z l m h.idle k.idle;
         }
@@ -50,24 +59,31 @@ module _ {R : Type 0} where
     pub exact_laws : FutureLaws (ReadsExactly reads)
     exact_laws =
         record {
-          rests = λ x. record { gathered = gathered_none fills laws x.reader.now (filling_of x); stays = stays_none x; idle = λ e. refl };
+          rests = λ x. record {
+            folded = read_folded_none fills laws x.reader.now (filling_of x);
+            stays = stays_none x;
+            idle = λ e. refl;
+          };
           stays = λ x y h. h.idle refl;
           follows = follows;
-          once = λ x y l h. gathers_once fills (filling_of x) (filling_of y) h.gathered.marks l h.gathered.gathered;
+          once = λ x y l h. read_folds_once fills (filling_of x) (filling_of y) h.folded.marks l h.folded.folded;
         }
 
-    -- a turn before others
-    pub turn_before : (x y z : ReadExactFuture R) (a : Poll (Result (Unit {0}) Error)) → ReadsMore reads x y → ReadsExactly reads y (a ∷ []) z
+    -- a step before others
+    pub step_before : (x y z : ReadExactFuture R) (a : Poll (Result (Unit {0}) Error)) → ReadsMore reads x y
+        → ReadsExactly reads y (a ∷ []) z
         → ReadsExactly reads x (a ∷ []) z
-    turn_before x y z a t h =
+    step_before x y z a t h =
         record {
-          gathered = gathered_before fills laws x.reader.now y.reader.now z.reader.now (filling_of x) (filling_of y) (filling_of z) t.taken a t.came t.folds h.gathered;
+          folded = read_folded_before fills laws x.reader.now y.reader.now z.reader.now (filling_of x) (filling_of y)
+              (filling_of z) t.taken a t.came t.folds h.folded;
           stays = stays_join x y z t.stays h.stays;
           idle = λ e. absurd (cc e);
         }
 
   -- the room that is left falls
-  pub room_falls : {reads : Runs Mark R} (x y : ReadExactFuture R) → ReadsMore reads x y → length y.buf.now - y.filled < length x.buf.now - x.filled
+  pub room_falls : {reads : Runs ReadMark R} (x y : ReadExactFuture R) → ReadsMore reads x y
+      → length y.buf.now - y.filled < length x.buf.now - x.filled
   room_falls x y t =
       let more = filled_more (filling_of x) (filling_of y) t.taken t.folds in
       let room = had_room (filling_of x) (filling_of y) t.taken t.some t.folds in

@@ -1,28 +1,34 @@
 -- Laws of `read_to_end`.
-use Rattle.std.proofs.Common.{◌≡◌, ◌∙◌, ◌≤◌, ◌+◌, ℕ, List, [], ◌∷◌, ◌++◌, length, Result, refl, ap, sym, subst, arith, length-append, append-nil, append_assoc, length-take-le}
+use Rattle.std.proofs.Common.{◌≡◌, ◌∙◌, ◌≤◌, ◌+◌, ℕ, List, [], ◌∷◌, ◌++◌, length, Result, refl, ap, sym, subst, arith}
+use Rattle.std.proofs.Common.{length-append, append-nil, append_assoc, length-take-le}
 use Rattle.std.specs.List.{FoldsTo}
 use Rattle.std.specs.declared.io.Error.{Error}
 use Rattle.futures.specs.declared.task.Poll.{Poll}
 use Rattle.lite_base.specs.Answers.{Waiting}
-use Rattle.lite_base.specs.Ends.{Ends, Ends-map}
+use Rattle.lite_base.specs.Ends.{Terminates, Terminates-map}
 use Rattle.lite_base.specs.FutureLaws.{FutureLaws}
 use Rattle.lite_base.specs.Ranks.{Ranks}
+use Rattle.lite_base.specs.Runs.{Runs}
 use Rattle.lite_io_base.specs.Counting.{ReadCounting}
 use Rattle.lite_io_base.specs.Laws.Falls.{GivenRun}
-use Rattle.lite_io_base.specs.Marks.{Mark, bytes}
-use Rattle.lite_io_base.specs.Runs.{RunLaws, Runs}
-use Rattle.lite_read.specs.Laws.Gathering.{gathered_before, gathered_follow, gathered_none, gathers_once}
-use Rattle.lite_read.specs.Appending.{CanTurn, Stays, front_of}
-use Rattle.lite_read.specs.Laws.Turns.{idle_join, lent_still, takes_given}
+use Rattle.lite_io_base.specs.Marks.{ReadMark, bytes}
+use Rattle.lite_io_base.specs.Runs.{MarkLaws}
+use Rattle.lite_read.specs.Laws.ReadFold.{read_folded_before, read_folded_follow, read_folded_none, read_folds_once}
+use Rattle.lite_read.specs.Appending.{CanAppend, ToEndStays, read_front}
+use Rattle.lite_read.specs.Laws.PollSteps.{idle_join, lent_still, takes_given}
 use Rattle.lite_read.specs.ReadToEnd.{ReadsToEnd, appends}
-use Rattle.lite_read.specs.Turns.{Answers, ReadsSome}
+use Rattle.lite_read.specs.PollSteps.{AnswersUntrimmed, ReadsSome}
 use Rattle.lite_read.specs.declared.read_to_end.ReadToEndFuture.{ReadToEndFuture}
 
 -- all bytes are appended
 pub appends_all : (m : Type 0) (start : ℕ) (g xs : List ℕ) → FoldsTo (appends m start).takes g xs (g ++ xs)
 appends_all m start g [] = sym (append-nil g)
-appends_all m start g (x ∷ xs) =
-    (g ++ x ∷ [], refl, subst (λ l. FoldsTo (appends m start).takes (g ++ x ∷ []) xs l) (append_assoc g (x ∷ []) xs) (appends_all m start (g ++ x ∷ []) xs))
+appends_all m start g (x ∷ xs) = (
+  g ++ x ∷ [],
+  refl,
+  subst (λ l. FoldsTo (appends m start).takes (g ++ x ∷ []) xs l) (append_assoc g (x ∷ []) xs)
+      (appends_all m start (g ++ x ∷ []) xs),
+)
 
 pub grown : (m : Type 0) (start : ℕ) (p q xs : List ℕ) → FoldsTo (appends m start).takes p xs q → length p ≤ length q
 grown m start p q [] h = omega (arith, ap length h)
@@ -32,37 +38,46 @@ grown m start p q (x ∷ xs) h =
     omega (arith, here, rest)
 
 module _ {R A : Type 0} where
-  stays_none : (x : ReadToEndFuture R A) → Stays x x
+  stays_none : (x : ReadToEndFuture R A) → ToEndStays x x
   stays_none x = record { reader = refl; buf = refl; start = refl }
 
-  stays_join : (x y z : ReadToEndFuture R A) → Stays x y → Stays y z → Stays x z
+  stays_join : (x y z : ReadToEndFuture R A) → ToEndStays x y → ToEndStays y z → ToEndStays x z
   stays_join x y z h k =
-      record { reader = lent_still x.reader y.reader z.reader h.reader k.reader; buf = lent_still x.buf y.buf z.buf h.buf k.buf; start = k.start ∙ h.start }
+      record {
+        reader = lent_still x.reader y.reader z.reader h.reader k.reader;
+        buf = lent_still x.buf y.buf z.buf h.buf k.buf;
+        start = k.start ∙ h.start;
+      }
 
-  -- each turn that goes on lowers the reader's rank
-  pub some_falls : {m : Type 0} {reads : Runs Mark R} (counts : R → Type 0) → ((s : R) → counts s → Ends (GivenRun reads) s) → (x : ReadToEndFuture R A)
-      → CanTurn counts x → Ends (ReadsSome m reads) x
-  some_falls counts ends x can = Ends-map (λ (v : ReadToEndFuture R A). v.reader.now) takes_given x (ends x.reader.now can.counts)
+  -- each step that goes on lowers the reader's rank
+  pub some_falls : {m : Type 0} {reads : Runs ReadMark R} (counts : R → Type 0)
+      → ((s : R) → counts s → Terminates (GivenRun reads) s) → (x : ReadToEndFuture R A)
+      → CanAppend counts x → Terminates (ReadsSome m reads) x
+  some_falls counts ends x can =
+      Terminates-map (λ (v : ReadToEndFuture R A). v.reader.now) takes_given x (ends x.reader.now can.counts)
 
-  module _ {m : Type 0} {reads : Runs Mark R} {r : Ranks R} where
-    pub turns_on : ReadCounting reads r → (x y : ReadToEndFuture R A) → CanTurn r.counts x → ReadsSome m reads x y → CanTurn r.counts y
-    turns_on c x y can t =
-        let before : length (front_of x) ≡ x.filled = length-take-le x.filled x.buf.now.items can.within in
-        let after : length (front_of y) ≡ y.filled = length-take-le y.filled y.buf.now.items t.stays.1 in
-        let more = grown m x.start (front_of x) (front_of y) t.taken t.folds in
+  module _ {m : Type 0} {reads : Runs ReadMark R} {r : Ranks R} where
+    pub steps_on : ReadCounting reads r → (x y : ReadToEndFuture R A) → CanAppend r.counts x → ReadsSome m reads x y
+        → CanAppend r.counts y
+    steps_on c x y can t =
+        let before : length (read_front x) ≡ x.filled = length-take-le x.filled x.buf.now.items can.within in
+        let after : length (read_front y) ≡ y.filled = length-take-le y.filled y.buf.now.items t.stays.1 in
+        let more = grown m x.start (read_front x) (read_front y) t.taken t.folds in
         record {
           started = omega (arith, t.stays.0.start, can.started, before, after, more);
           within = t.stays.1;
           counts = c.counts_on x.reader.now y.reader.now (bytes t.taken) can.counts t.came;
         }
 
-  module _ (m : Type 0) {reads : Runs Mark R} (laws : RunLaws reads) where
+  module _ (m : Type 0) {reads : Runs ReadMark R} (laws : MarkLaws reads) where
     follows : (x y z : ReadToEndFuture R A) (l k : List (Poll (Result ℕ Error))) → Waiting l → ReadsToEnd m reads x l y
         → ReadsToEnd m reads y k z → ReadsToEnd m reads x (l ++ k) z
     follows x y z l k w h j =
-        let later = rw h.stays.start at j.gathered in
+        let later = rw h.stays.start at j.folded in
         record {
-          gathered = gathered_follow (appends m x.start) laws x.reader.now y.reader.now z.reader.now x.buf.now.items y.buf.now.items z.buf.now.items l k w h.gathered later;
+          folded = read_folded_follow
+              (appends m x.start) laws x.reader.now y.reader.now z.reader.now x.buf.now.items y.buf.now.items
+              z.buf.now.items l k w h.folded later;
           stays = stays_join x y z h.stays j.stays;
           idle = idle_join x y z l k h.idle j.idle;
         }
@@ -70,17 +85,24 @@ module _ {R A : Type 0} where
     pub append_laws : FutureLaws (ReadsToEnd {A = A} m reads)
     append_laws =
         record {
-          rests = λ x. record { gathered = gathered_none (appends m x.start) laws x.reader.now x.buf.now.items; stays = stays_none x; idle = λ e. refl };
+          rests = λ x. record {
+            folded = read_folded_none (appends m x.start) laws x.reader.now x.buf.now.items;
+            stays = stays_none x;
+            idle = λ e. refl;
+          };
           stays = λ x y h. h.idle refl;
           follows = follows;
-          once = λ x y l h. gathers_once (appends m x.start) x.buf.now.items y.buf.now.items h.gathered.marks l h.gathered.gathered;
+          once = λ x y l h. read_folds_once
+              (appends m x.start) x.buf.now.items y.buf.now.items h.folded.marks l h.folded.folded;
         }
 
-    -- a turn before others
-    pub turn_before : (x y z : ReadToEndFuture R A) (a : Poll (Result ℕ Error)) → ReadsSome m reads x y → Answers m reads y a z → Answers m reads x a z
-    turn_before x y z a t h =
-        let later = rw t.stays.0.start at h.gathered in
+    -- a step before others
+    pub step_before : (x y z : ReadToEndFuture R A) (a : Poll (Result ℕ Error)) → ReadsSome m reads x y
+        → AnswersUntrimmed m reads y a z → AnswersUntrimmed m reads x a z
+    step_before x y z a t h =
+        let later = rw t.stays.0.start at h.folded in
         record {
-          gathered = gathered_before (appends m x.start) laws x.reader.now y.reader.now z.reader.now (front_of x) (front_of y) (front_of z) t.taken a t.came t.folds later;
+          folded = read_folded_before (appends m x.start) laws x.reader.now y.reader.now z.reader.now (read_front x)
+              (read_front y) (read_front z) t.taken a t.came t.folds later;
           stays = stays_join x y z t.stays.0 h.stays;
         }

@@ -1,5 +1,6 @@
 -- `bytes` is steady over a steady reader.
-use Rattle.std.proofs.Common.{◌≡◌, ◌∙◌, ◌⊎◌, ℕ, List, [], ◌∷◌, Option, Some, None, Result, Ok, Err, inl, inr, refl, sym, subst}
+use Rattle.std.proofs.Common.{◌≡◌, ◌∙◌, ◌⊎◌, ℕ, List, [], ◌∷◌, Option, Some, None, Result, Ok, Err, inl, inr, refl, sym}
+use Rattle.std.proofs.Common.{subst}
 use Rattle.std.specs.IoError.{error_kind}
 use Rattle.std.specs.declared.io.Error.{Error}
 use Rattle.std.specs.declared.io.ErrorKind.{ErrorKind}
@@ -10,88 +11,96 @@ use Rattle.lite_base.specs.Answers.{Answer, Comparable, ComparableBy, strip}
 use Rattle.lite_base.specs.Laws.Alike.{comparable_nil}
 use Rattle.lite_base.specs.Steady.{SteadyLawsBy}
 use Rattle.lite_base.specs.StreamLaws.{runs_of}
-use Rattle.lite_io_base.specs.Marks.{Mark}
-use Rattle.lite_io_base.specs.Runs.{Runs}
-use Rattle.lite_io_base.specs.Steady.{SteadyReadLaws, unhurried}
-use Rattle.lite_read.specs.Bytes.{Tells, TellsEach}
+use Rattle.lite_base.specs.Runs.{Runs}
+use Rattle.lite_io_base.specs.Marks.{ReadMark}
+use Rattle.lite_io_base.specs.Steady.{SteadyReadLaws, strip_marks}
+use Rattle.lite_read.specs.Bytes.{TellsBytes, TellsEach}
 use Rattle.lite_read.specs.Laws.Bytes.{bytes_laws}
-use Rattle.lite_read.specs.Settling.{SameByKind}
+use Rattle.lite_read.specs.Deterministic.{SameByKind}
 use Rattle.lite_read.specs.declared.bytes.Bytes.{Bytes}
 
-abbrev Item : Type 0
-Item = Option (Result ℕ Error)
+abbrev ByteItem : Type 0
+ByteItem = Option (Result ℕ Error)
 
 -- an error of this kind is an item, and others stand behind it
-record Fails (kind : ErrorKind) (rest : List Item → Type 0) (l : List Item) : Type 0 where
+record FailsHere (kind : ErrorKind) (rest : List ByteItem → Type 0) (l : List ByteItem) : Type 0 where
   pub error : Error
   pub is : error_kind error ≡ kind
   pub heard : kind ≡ Interrupted → ⊥
-  pub after : List Item
+  pub after : List ByteItem
   pub cut : l ≡ Some (Err error) ∷ after
   pub more : rest after
 
 -- the answers of a tale without pendings: each mark is one, but an interruption is none
-abbrev Says : List Mark → List Item → Type 0
-Says [] l = l ≡ []
-Says (Mark.byte b ∷ ms) l = (after : List Item) × (l ≡ Some (Ok b) ∷ after) × Says ms after
-Says (Mark.pending ∷ ms) l = ⊥
-Says (Mark.fault kind ∷ ms) l = ((kind ≡ Interrupted) × Says ms l) ⊎ Fails kind (Says ms) l
-Says (Mark.end ∷ ms) l = (after : List Item) × (l ≡ None ∷ after) × Says ms after
+abbrev TaleAnswers : List ReadMark → List ByteItem → Type 0
+TaleAnswers [] l = l ≡ []
+TaleAnswers (ReadMark.byte b ∷ ms) l = (after : List ByteItem) × (l ≡ Some (Ok b) ∷ after) × TaleAnswers ms after
+TaleAnswers (ReadMark.pending ∷ ms) l = ⊥
+TaleAnswers (ReadMark.fault kind ∷ ms) l = ((kind ≡ Interrupted) × TaleAnswers ms l) ⊎ FailsHere kind (TaleAnswers ms) l
+TaleAnswers (ReadMark.end ∷ ms) l = (after : List ByteItem) × (l ≡ None ∷ after) × TaleAnswers ms after
 
-said : (i : List Mark) (l : List (Answer (Result ℕ Error))) → TellsEach i l → Says (unhurried i) (strip l)
+said : (i : List ReadMark) (l : List (Answer (Result ℕ Error))) → TellsEach i l → TaleAnswers (strip_marks i) (strip l)
 said [] [] h = refl
 said [] (a ∷ l) h = absurd h
 said (m ∷ i) [] h = absurd h
-said (Mark.byte b ∷ i) (Pending ∷ l) h = absurd h.0
-said (Mark.byte b ∷ i) (Ready None ∷ l) h = absurd h.0
-said (Mark.byte b ∷ i) (Ready (Some (Ok x)) ∷ l) h = rw h.0 (strip l, refl, said i l h.1)
-said (Mark.byte b ∷ i) (Ready (Some (Err e)) ∷ l) h = absurd h.0
-said (Mark.pending ∷ i) (Pending ∷ l) h = said i l h.1
-said (Mark.pending ∷ i) (Ready None ∷ l) h = absurd h.0
-said (Mark.pending ∷ i) (Ready (Some r) ∷ l) h = absurd h.0
-said (Mark.fault kind ∷ i) (Pending ∷ l) h = inl (h.0, said i l h.1)
-said (Mark.fault kind ∷ i) (Ready None ∷ l) h = absurd h.0
-said (Mark.fault kind ∷ i) (Ready (Some (Ok x)) ∷ l) h = absurd h.0
-said (Mark.fault kind ∷ i) (Ready (Some (Err e)) ∷ l) h =
+said (ReadMark.byte b ∷ i) (Pending ∷ l) h = absurd h.0
+said (ReadMark.byte b ∷ i) (Ready None ∷ l) h = absurd h.0
+said (ReadMark.byte b ∷ i) (Ready (Some (Ok x)) ∷ l) h = rw h.0 (strip l, refl, said i l h.1)
+said (ReadMark.byte b ∷ i) (Ready (Some (Err e)) ∷ l) h = absurd h.0
+said (ReadMark.pending ∷ i) (Pending ∷ l) h = said i l h.1
+said (ReadMark.pending ∷ i) (Ready None ∷ l) h = absurd h.0
+said (ReadMark.pending ∷ i) (Ready (Some r) ∷ l) h = absurd h.0
+said (ReadMark.fault kind ∷ i) (Pending ∷ l) h = inl (h.0, said i l h.1)
+said (ReadMark.fault kind ∷ i) (Ready None ∷ l) h = absurd h.0
+said (ReadMark.fault kind ∷ i) (Ready (Some (Ok x)) ∷ l) h = absurd h.0
+said (ReadMark.fault kind ∷ i) (Ready (Some (Err e)) ∷ l) h =
     let each = said i l h.1 in
     inr (record { error = e; is = h.0.0; heard = h.0.1; after = strip l; cut = refl; more = each })
-said (Mark.end ∷ i) (Pending ∷ l) h = absurd h.0
-said (Mark.end ∷ i) (Ready None ∷ l) h = (strip l, refl, said i l h.1)
-said (Mark.end ∷ i) (Ready (Some r) ∷ l) h = absurd h.0
+said (ReadMark.end ∷ i) (Pending ∷ l) h = absurd h.0
+said (ReadMark.end ∷ i) (Ready None ∷ l) h = (strip l, refl, said i l h.1)
+said (ReadMark.end ∷ i) (Ready (Some r) ∷ l) h = absurd h.0
 
-abbrev Same : List Item → List Item → Type 0
-Same = ComparableBy (OptionBy SameByKind)
+abbrev SameBytes : List ByteItem → List ByteItem → Type 0
+SameBytes = ComparableBy (OptionBy SameByKind)
 
 -- an error comes first in both tales, where the rest of both says the same
-both_fail : (kind : ErrorKind) (i j : List Mark) (l m : List Item) → Says (Mark.fault kind ∷ i) l → Says (Mark.fault kind ∷ j) m
-    → ((l m : List Item) → Says i l → Says j m → Same l m) → Same l m
+both_fail : (kind : ErrorKind) (i j : List ReadMark) (l m : List ByteItem) → TaleAnswers (ReadMark.fault kind ∷ i) l
+    → TaleAnswers (ReadMark.fault kind ∷ j) m
+    → ((l m : List ByteItem) → TaleAnswers i l → TaleAnswers j m → SameBytes l m) → SameBytes l m
 both_fail kind i j l m (inl h) (inl k) rest = rest l m h.1 k.1
 both_fail kind i j l m (inl h) (inr k) rest = absurd (k.heard h.0)
 both_fail kind i j l m (inr h) (inl k) rest = absurd (h.heard k.0)
 both_fail kind i j l m (inr h) (inr k) rest = rw (h.cut, k.cut) (h.is ∙ sym k.is, rest h.after k.after h.more k.more)
 
 -- two tales that begin one another say the same
-say_same : (i j : List Mark) (l m : List Item) → Says i l → Says j m → Comparable i j → Same l m
+say_same : (i j : List ReadMark) (l m : List ByteItem) → TaleAnswers i l → TaleAnswers j m → Comparable i j → SameBytes l m
 say_same [] j l m h k c = rw h tt
 say_same (a ∷ i) [] l m h k c = rw k (comparable_nil (OptionBy SameByKind) l)
-say_same (Mark.byte b ∷ i) (n ∷ j) l m h k c =
-    let other = subst (λ z. Says (z ∷ j) m) (sym c.0) k in
+say_same (ReadMark.byte b ∷ i) (n ∷ j) l m h k c =
+    let other = subst (λ z. TaleAnswers (z ∷ j) m) (sym c.0) k in
     rw (h.1, other.1) (refl, say_same i j h.0 other.0 h.2 other.2 c.1)
-say_same (Mark.pending ∷ i) (n ∷ j) l m h k c = absurd h
-say_same (Mark.end ∷ i) (n ∷ j) l m h k c =
-    let other = subst (λ z. Says (z ∷ j) m) (sym c.0) k in
+say_same (ReadMark.pending ∷ i) (n ∷ j) l m h k c = absurd h
+say_same (ReadMark.end ∷ i) (n ∷ j) l m h k c =
+    let other = subst (λ z. TaleAnswers (z ∷ j) m) (sym c.0) k in
     rw (h.1, other.1) (tt, say_same i j h.0 other.0 h.2 other.2 c.1)
-say_same (Mark.fault kind ∷ i) (n ∷ j) l m h k c =
-    both_fail kind i j l m h (subst (λ z. Says (z ∷ j) m) (sym c.0) k) (λ l m h k. say_same i j l m h k c.1)
+say_same (ReadMark.fault kind ∷ i) (n ∷ j) l m h k c =
+    both_fail kind i j l m h (subst (λ z. TaleAnswers (z ∷ j) m) (sym c.0) k) (λ l m h k. say_same i j l m h k c.1)
 
-module _ {R : Type 0} {reads ample : Runs Mark R} {needs_none : Type 0} {alike : R → R → Type 0} where
+module _ {R : Type 0} {reads ample : Runs ReadMark R} {needs_none : Type 0} {alike : R → R → Type 0} where
   pub bytes_steady : SteadyReadLaws reads ample needs_none alike
-      → SteadyLawsBy (Sameness.by SameByKind) (Tells reads) (Tells ample) needs_none (λ (x y : Bytes R). alike x.inner y.inner)
+      → SteadyLawsBy (Sameness.by SameByKind) (TellsBytes reads) (TellsBytes ample) needs_none
+      (λ (x y : Bytes R). alike x.inner y.inner)
   bytes_steady s =
       record {
         laws = runs_of (bytes_laws s.laws);
         steady = λ x y e l m x' y' h k.
-            say_same (unhurried h.marks) (unhurried k.marks) (strip l) (strip m) (said h.marks l h.told) (said k.marks m k.told)
+            say_same (strip_marks h.marks) (strip_marks k.marks) (strip l) (strip m) (said h.marks l h.told)
+            (said k.marks m k.told)
             (s.steady x.inner y.inner x'.inner y'.inner h.marks k.marks e h.came k.came);
-        found = λ n x y l h. record { marks = h.marks; came = s.found n x.inner y.inner h.marks h.came; told = h.told; idle = h.idle };
+        found = λ n x y l h. record {
+          marks = h.marks;
+          came = s.found n x.inner y.inner h.marks h.came;
+          told = h.told;
+          idle = h.idle;
+        };
       }

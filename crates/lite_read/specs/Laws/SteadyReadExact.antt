@@ -9,95 +9,110 @@ use Rattle.lite_base.specs.Answers.{Comparable, ComparableBy, strip}
 use Rattle.lite_base.specs.Calm.{CalmLaws}
 use Rattle.lite_base.specs.Alike.{Sameness}
 use Rattle.lite_base.specs.Steady.{FutureSteadyLawsBy}
-use Rattle.lite_io_base.specs.Marks.{Mark}
-use Rattle.lite_io_base.specs.Runs.{Runs}
-use Rattle.lite_io_base.specs.Steady.{CalmReadLaws, NoWait, SteadyReadLaws}
-use Rattle.lite_read.specs.Gathering.{Gathered}
+use Rattle.lite_base.specs.Runs.{Runs}
+use Rattle.lite_io_base.specs.Marks.{ReadMark}
+use Rattle.lite_io_base.specs.Steady.{CalmReadLaws, NoPendingRead, SteadyReadLaws}
+use Rattle.lite_read.specs.ReadFold.{ReadFolded}
 use Rattle.lite_read.specs.Laws.ReadExact.{exact_laws}
-use Rattle.lite_read.specs.Laws.Settling.{gathered_alike, gathers_prompt}
+use Rattle.lite_read.specs.Laws.Deterministic.{read_folded_alike, read_folds_no_pending}
 use Rattle.lite_read.specs.Filling.{Filling, filling_of}
 use Rattle.lite_read.specs.ReadExact.{Fulfils, HasRoom, ReadsExactly, fills}
-use Rattle.lite_read.specs.Settling.{SameByKind, Settles}
+use Rattle.lite_read.specs.Deterministic.{IsDeterministic, SameByKind}
 use Rattle.lite_read.specs.declared.read_exact.ReadExactFuture.{ReadExactFuture}
 
 -- the three ways in which a value is given
-data Answered (g : Filling) : List Mark → Result (Unit {0}) Error → Type 0 where
-  full : length g.0 ≡ g.1 → Answered g [] (Ok tt)
-  ended : (e : Error) → HasRoom g → error_kind e ≡ UnexpectedEof → Answered g (Mark.end ∷ []) (Err e)
-  failed : (e : Error) (kind : ErrorKind) → HasRoom g → error_kind e ≡ kind → Answered g (Mark.fault kind ∷ []) (Err e)
+data ExactValue (g : Filling) : List ReadMark → Result (Unit {0}) Error → Type 0 where
+  full : length g.0 ≡ g.1 → ExactValue g [] (Ok tt)
+  ended : (e : Error) → HasRoom g → error_kind e ≡ UnexpectedEof → ExactValue g (ReadMark.end ∷ []) (Err e)
+  failed : (e : Error) (kind : ErrorKind) → HasRoom g → error_kind e ≡ kind
+      → ExactValue g (ReadMark.fault kind ∷ []) (Err e)
 
-answered : (g : Filling) (l : List Mark) (v : Result (Unit {0}) Error) → Fulfils g l v → Answered g l v
-answered g [] v h = subst (Answered g []) (sym h.1) (Answered.full h.0)
-answered g (Mark.byte b ∷ l) v h = absurd h
-answered g (Mark.pending ∷ l) v h = absurd h
-answered g (Mark.end ∷ m ∷ l) v h = absurd h
-answered g (Mark.fault kind ∷ m ∷ l) v h = absurd h
-answered g (Mark.end ∷ []) (Ok u) h = absurd h
-answered g (Mark.end ∷ []) (Err e) h = Answered.ended e h.0 h.1
-answered g (Mark.fault kind ∷ []) (Ok u) h = absurd h
-answered g (Mark.fault kind ∷ []) (Err e) h = Answered.failed e kind h.0 h.1
+answered : (g : Filling) (l : List ReadMark) (v : Result (Unit {0}) Error) → Fulfils g l v → ExactValue g l v
+answered g [] v h = subst (ExactValue g []) (sym h.1) (ExactValue.full h.0)
+answered g (ReadMark.byte b ∷ l) v h = absurd h
+answered g (ReadMark.pending ∷ l) v h = absurd h
+answered g (ReadMark.end ∷ m ∷ l) v h = absurd h
+answered g (ReadMark.fault kind ∷ m ∷ l) v h = absurd h
+answered g (ReadMark.end ∷ []) (Ok u) h = absurd h
+answered g (ReadMark.end ∷ []) (Err e) h = ExactValue.ended e h.0 h.1
+answered g (ReadMark.fault kind ∷ []) (Ok u) h = absurd h
+answered g (ReadMark.fault kind ∷ []) (Err e) h = ExactValue.failed e kind h.0 h.1
 
-at_once : (g : Filling) (l : List Mark) (v : Result (Unit {0}) Error) → Answered g l v → NoWait l
-at_once g _ _ (Answered.full h) = tt
-at_once g _ _ (Answered.ended e room h) = tt
-at_once g _ _ (Answered.failed e kind room h) = tt
+at_once : (g : Filling) (l : List ReadMark) (v : Result (Unit {0}) Error) → ExactValue g l v → NoPendingRead l
+at_once g _ _ (ExactValue.full h) = tt
+at_once g _ _ (ExactValue.ended e room h) = tt
+at_once g _ _ (ExactValue.failed e kind room h) = tt
 
-given_or_taken : (g : Filling) (l m : List Mark) (v : Result (Unit {0}) Error) (b : ℕ) → Answered g l v → HasRoom g → Comparable l (Mark.byte b ∷ m) → ⊥
-given_or_taken g _ m _ b (Answered.full h) room c = omega (arith, h, room)
-given_or_taken g _ m _ b (Answered.ended e k h) room c = cc c.0
-given_or_taken g _ m _ b (Answered.failed e kind k h) room c = cc c.0
+given_or_taken : (g : Filling) (l m : List ReadMark) (v : Result (Unit {0}) Error) (b : ℕ) → ExactValue g l v
+    → HasRoom g → Comparable l (ReadMark.byte b ∷ m) → ⊥
+given_or_taken g _ m _ b (ExactValue.full h) room c = omega (arith, h, room)
+given_or_taken g _ m _ b (ExactValue.ended e k h) room c = cc c.0
+given_or_taken g _ m _ b (ExactValue.failed e kind k h) room c = cc c.0
 
-abbrev OneValue : Result (Unit {0}) Error → Result (Unit {0}) Error → List Mark → List Mark → Type 0
-OneValue v w l m = SameByKind v w × (l ≡ m)
+abbrev OneExactValue : Result (Unit {0}) Error → Result (Unit {0}) Error → List ReadMark → List ReadMark → Type 0
+OneExactValue v w l m = SameByKind v w × (l ≡ m)
 
-one_value : (g : Filling) (l m : List Mark) (v w : Result (Unit {0}) Error) → Answered g l v → Answered g m w → Comparable l m → OneValue v w l m
-one_value g _ _ _ _ (Answered.full h) (Answered.full k) c = (refl, refl)
-one_value g _ _ _ _ (Answered.full h) (Answered.ended e room k) c = absurd (omega (arith, h, room))
-one_value g _ _ _ _ (Answered.full h) (Answered.failed e kind room k) c = absurd (omega (arith, h, room))
-one_value g _ _ _ _ (Answered.ended e room h) (Answered.full k) c = absurd (omega (arith, k, room))
-one_value g _ _ _ _ (Answered.failed e kind room h) (Answered.full k) c = absurd (omega (arith, k, room))
-one_value g _ _ _ _ (Answered.ended e room h) (Answered.ended f more k) c = (h ∙ sym k, refl)
-one_value g _ _ _ _ (Answered.failed e kind room h) (Answered.failed f other more k) c =
+one_value : (g : Filling) (l m : List ReadMark) (v w : Result (Unit {0}) Error) → ExactValue g l v → ExactValue g m w
+    → Comparable l m → OneExactValue v w l m
+one_value g _ _ _ _ (ExactValue.full h) (ExactValue.full k) c = (refl, refl)
+one_value g _ _ _ _ (ExactValue.full h) (ExactValue.ended e room k) c = absurd (omega (arith, h, room))
+one_value g _ _ _ _ (ExactValue.full h) (ExactValue.failed e kind room k) c = absurd (omega (arith, h, room))
+one_value g _ _ _ _ (ExactValue.ended e room h) (ExactValue.full k) c = absurd (omega (arith, k, room))
+one_value g _ _ _ _ (ExactValue.failed e kind room h) (ExactValue.full k) c = absurd (omega (arith, k, room))
+one_value g _ _ _ _ (ExactValue.ended e room h) (ExactValue.ended f more k) c = (h ∙ sym k, refl)
+one_value g _ _ _ _ (ExactValue.failed e kind room h) (ExactValue.failed f other more k) c =
     let same : kind ≡ other = cc c.0 in
-    (h ∙ same ∙ sym k, ap (λ n. Mark.fault n ∷ []) same)
-one_value g _ _ _ _ (Answered.ended e room h) (Answered.failed f kind more k) c = absurd (cc c.0)
-one_value g _ _ _ _ (Answered.failed e kind room h) (Answered.ended f more k) c = absurd (cc c.0)
+    (h ∙ same ∙ sym k, ap (λ n. ReadMark.fault n ∷ []) same)
+one_value g _ _ _ _ (ExactValue.ended e room h) (ExactValue.failed f kind more k) c = absurd (cc c.0)
+one_value g _ _ _ _ (ExactValue.failed e kind room h) (ExactValue.ended f more k) c = absurd (cc c.0)
 
-fills_settles : Settles SameByKind fills
-fills_settles =
+fills_deterministic : IsDeterministic SameByKind fills
+fills_deterministic =
     record {
       one_way = λ p q r b h k. h.1 ∙ sym k.1;
       at_once = λ p q l v h. at_once p l v (answered p l v h.0);
       given_or_taken = λ p q r l m v b h k c. given_or_taken p l m v b (answered p l v h.0) k.0 c;
-      one_value = λ p q r l m v w h k c. let both = one_value p l m v w (answered p l v h.0) (answered p m w k.0) c in (both.0, h.1 ∙ sym k.1, both.1);
+      one_value = λ p q r l m v w h k c. let both =
+          one_value p l m v w (answered p l v h.0) (answered p m w k.0) c in (both.0, h.1 ∙ sym k.1, both.1);
     }
 
 -- two that have gathered the same, over readers that are alike
 abbrev pub ExactAlike : {R : Type 0} → (R → R → Type 0) → ReadExactFuture R → ReadExactFuture R → Type 0
 ExactAlike alike x y = alike x.reader.now y.reader.now × (filling_of x ≡ filling_of y)
 
-module _ {R : Type 0} {reads : Runs Mark R} where
-  module _ {ample : Runs Mark R} {needs_none : Type 0} {alike : R → R → Type 0} (s : SteadyReadLaws reads ample needs_none alike) where
-    one_answer : (x y : ReadExactFuture R) (l m : List (Poll (Result (Unit {0}) Error))) (x' y' : ReadExactFuture R) → ExactAlike alike x y → ReadsExactly ample x l x'
+module _ {R : Type 0} {reads : Runs ReadMark R} where
+  module _ {ample : Runs ReadMark R} {needs_none : Type 0} {alike : R → R → Type 0}
+      (s : SteadyReadLaws reads ample needs_none alike) where
+    one_answer : (x y : ReadExactFuture R) (l m : List (Poll (Result (Unit {0}) Error))) (x' y' : ReadExactFuture R)
+        → ExactAlike alike x y → ReadsExactly ample x l x'
         → ReadsExactly ample y m y' → ComparableBy SameByKind (strip l) (strip m)
     one_answer x y l m x' y' e h k =
-        gathered_alike fills fills_settles s x.reader.now y.reader.now x'.reader.now y'.reader.now (filling_of x) (filling_of x') (filling_of y') l m e.0 h.gathered
-        (subst (λ p. Gathered fills ample y.reader.now p m y'.reader.now (filling_of y')) (sym e.1) k.gathered)
+        read_folded_alike fills fills_deterministic s x.reader.now y.reader.now x'.reader.now y'.reader.now
+        (filling_of x) (filling_of x') (filling_of y') l m e.0 h.folded
+        (subst (λ p. ReadFolded fills ample y.reader.now p m y'.reader.now (filling_of y')) (sym e.1) k.folded)
 
-    all_ample : needs_none → (x y : ReadExactFuture R) (l : List (Poll (Result (Unit {0}) Error))) → ReadsExactly reads x l y → ReadsExactly ample x l y
+    all_ample : needs_none → (x y : ReadExactFuture R) (l : List (Poll (Result (Unit {0}) Error)))
+        → ReadsExactly reads x l y → ReadsExactly ample x l y
     all_ample n x y l h =
-        let g = h.gathered in
+        let g = h.folded in
         let came = s.found n x.reader.now y.reader.now g.marks g.came in
-        record { gathered = record { marks = g.marks; came = came; gathered = g.gathered }; stays = h.stays; idle = h.idle }
+        record { folded = record { marks = g.marks; came = came; folded = g.folded }; stays = h.stays; idle = h.idle }
 
-    pub exact_steady : FutureSteadyLawsBy (Sameness.by SameByKind) (ReadsExactly reads) (ReadsExactly ample) needs_none (ExactAlike alike)
-    exact_steady = record { laws = exact_laws s.laws; steady = λ x y e l m x' y'. one_answer x y l m x' y' e; found = all_ample }
+    pub exact_steady : FutureSteadyLawsBy (Sameness.by SameByKind) (ReadsExactly reads) (ReadsExactly ample) needs_none
+        (ExactAlike alike)
+    exact_steady = record {
+      laws = exact_laws s.laws;
+      steady = λ x y e l m x' y'. one_answer x y l m x' y' e;
+      found = all_ample;
+    }
 
-  pub exact_calm : {is_calm : R → Type 0} → CalmReadLaws reads is_calm → CalmLaws (ReadsExactly reads) (λ x. is_calm x.reader.now)
+  pub exact_calm : {is_calm : R → Type 0} → CalmReadLaws reads is_calm
+      → CalmLaws (ReadsExactly reads) (λ x. is_calm x.reader.now)
   exact_calm c =
       record {
-        prompt = λ x y l k h.
-            gathers_prompt fills (filling_of x) (filling_of y) h.gathered.marks l (c.prompt x.reader.now y.reader.now h.gathered.marks k h.gathered.came)
-            h.gathered.gathered;
-        calm_on = λ x y l k h. c.calm_on x.reader.now y.reader.now h.gathered.marks k h.gathered.came;
+        no_pending = λ x y l k h.
+            read_folds_no_pending fills (filling_of x) (filling_of y) h.folded.marks l
+            (c.no_pending x.reader.now y.reader.now h.folded.marks k h.folded.came)
+            h.folded.folded;
+        calm_on = λ x y l k h. c.calm_on x.reader.now y.reader.now h.folded.marks k h.folded.came;
       }

@@ -9,54 +9,58 @@ use Rattle.lite_base.specs.Answers.{Comparable, ComparableBy, strip}
 use Rattle.lite_base.specs.Calm.{CalmLaws}
 use Rattle.lite_base.specs.Alike.{Sameness}
 use Rattle.lite_base.specs.Steady.{FutureSteadyLawsBy}
-use Rattle.lite_io_base.specs.Marks.{Mark}
-use Rattle.lite_io_base.specs.Runs.{Runs}
-use Rattle.lite_io_base.specs.Steady.{CalmReadLaws, NoWait, SteadyReadLaws}
-use Rattle.lite_read.specs.Gathering.{Gathered}
+use Rattle.lite_base.specs.Runs.{Runs}
+use Rattle.lite_io_base.specs.Marks.{ReadMark}
+use Rattle.lite_io_base.specs.Steady.{CalmReadLaws, NoPendingRead, SteadyReadLaws}
+use Rattle.lite_read.specs.ReadFold.{ReadFolded}
 use Rattle.lite_read.specs.Laws.ReadToEnd.{append_laws}
-use Rattle.lite_read.specs.Laws.Settling.{gathered_alike, gathers_prompt}
+use Rattle.lite_read.specs.Laws.Deterministic.{read_folded_alike, read_folds_no_pending}
 use Rattle.lite_read.specs.ReadToEnd.{Appended, ReadsToEnd, appends}
-use Rattle.lite_read.specs.Settling.{SameByKind, Settles}
+use Rattle.lite_read.specs.Deterministic.{IsDeterministic, SameByKind}
 use Rattle.lite_read.specs.declared.read_to_end.ReadToEndFuture.{ReadToEndFuture}
 
 -- the two ways in which a value is given where memory was found
-data Answered (start : ℕ) (g : List ℕ) : List Mark → Result ℕ Error → Type 0 where
-  ended : (n : ℕ) → length g ≡ start + n → Answered start g (Mark.end ∷ []) (Ok n)
-  failed : (e : Error) (kind : ErrorKind) → error_kind e ≡ kind → Answered start g (Mark.fault kind ∷ []) (Err e)
+data ToEndValue (start : ℕ) (g : List ℕ) : List ReadMark → Result ℕ Error → Type 0 where
+  ended : (n : ℕ) → length g ≡ start + n → ToEndValue start g (ReadMark.end ∷ []) (Ok n)
+  failed : (e : Error) (kind : ErrorKind) → error_kind e ≡ kind → ToEndValue start g (ReadMark.fault kind ∷ []) (Err e)
 
-answered : (start : ℕ) (g : List ℕ) (l : List Mark) (v : Result ℕ Error) → Appended ⊥ start g l v → Answered start g l v
+answered : (start : ℕ) (g : List ℕ) (l : List ReadMark) (v : Result ℕ Error) → Appended ⊥ start g l v
+    → ToEndValue start g l v
 answered start g [] (Ok n) h = absurd h
 answered start g [] (Err e) h = absurd h.0
-answered start g (Mark.byte b ∷ l) v h = absurd h
-answered start g (Mark.pending ∷ l) v h = absurd h
-answered start g (Mark.end ∷ m ∷ l) v h = absurd h
-answered start g (Mark.fault kind ∷ m ∷ l) v h = absurd h
-answered start g (Mark.end ∷ []) (Ok n) h = Answered.ended n h
-answered start g (Mark.end ∷ []) (Err e) h = absurd h
-answered start g (Mark.fault kind ∷ []) (Ok n) h = absurd h
-answered start g (Mark.fault kind ∷ []) (Err e) h = Answered.failed e kind h
+answered start g (ReadMark.byte b ∷ l) v h = absurd h
+answered start g (ReadMark.pending ∷ l) v h = absurd h
+answered start g (ReadMark.end ∷ m ∷ l) v h = absurd h
+answered start g (ReadMark.fault kind ∷ m ∷ l) v h = absurd h
+answered start g (ReadMark.end ∷ []) (Ok n) h = ToEndValue.ended n h
+answered start g (ReadMark.end ∷ []) (Err e) h = absurd h
+answered start g (ReadMark.fault kind ∷ []) (Ok n) h = absurd h
+answered start g (ReadMark.fault kind ∷ []) (Err e) h = ToEndValue.failed e kind h
 
-at_once : (start : ℕ) (g : List ℕ) (l : List Mark) (v : Result ℕ Error) → Answered start g l v → NoWait l
-at_once start g _ _ (Answered.ended n h) = tt
-at_once start g _ _ (Answered.failed e kind h) = tt
+at_once : (start : ℕ) (g : List ℕ) (l : List ReadMark) (v : Result ℕ Error) → ToEndValue start g l v → NoPendingRead l
+at_once start g _ _ (ToEndValue.ended n h) = tt
+at_once start g _ _ (ToEndValue.failed e kind h) = tt
 
-given_or_taken : (start : ℕ) (g : List ℕ) (l m : List Mark) (v : Result ℕ Error) (b : ℕ) → Answered start g l v → Comparable l (Mark.byte b ∷ m) → ⊥
-given_or_taken start g _ m _ b (Answered.ended n h) c = cc c.0
-given_or_taken start g _ m _ b (Answered.failed e kind h) c = cc c.0
+given_or_taken : (start : ℕ) (g : List ℕ) (l m : List ReadMark) (v : Result ℕ Error) (b : ℕ) → ToEndValue start g l v
+    → Comparable l (ReadMark.byte b ∷ m) → ⊥
+given_or_taken start g _ m _ b (ToEndValue.ended n h) c = cc c.0
+given_or_taken start g _ m _ b (ToEndValue.failed e kind h) c = cc c.0
 
-abbrev OneValue : Result ℕ Error → Result ℕ Error → List Mark → List Mark → Type 0
-OneValue v w l m = SameByKind v w × (l ≡ m)
+abbrev OneToEndValue : Result ℕ Error → Result ℕ Error → List ReadMark → List ReadMark → Type 0
+OneToEndValue v w l m = SameByKind v w × (l ≡ m)
 
-one_value : (start : ℕ) (g : List ℕ) (l m : List Mark) (v w : Result ℕ Error) → Answered start g l v → Answered start g m w → Comparable l m → OneValue v w l m
-one_value start g _ _ _ _ (Answered.ended n h) (Answered.ended k j) c = let same : n ≡ k = omega (arith, h, j) in (same, refl)
-one_value start g _ _ _ _ (Answered.failed e kind h) (Answered.failed f other k) c =
+one_value : (start : ℕ) (g : List ℕ) (l m : List ReadMark) (v w : Result ℕ Error) → ToEndValue start g l v
+    → ToEndValue start g m w → Comparable l m → OneToEndValue v w l m
+one_value start g _ _ _ _ (ToEndValue.ended n h) (ToEndValue.ended k j) c =
+    let same : n ≡ k = omega (arith, h, j) in (same, refl)
+one_value start g _ _ _ _ (ToEndValue.failed e kind h) (ToEndValue.failed f other k) c =
     let same : kind ≡ other = cc c.0 in
-    (h ∙ same ∙ sym k, ap (λ n. Mark.fault n ∷ []) same)
-one_value start g _ _ _ _ (Answered.ended n h) (Answered.failed f kind k) c = absurd (cc c.0)
-one_value start g _ _ _ _ (Answered.failed e kind h) (Answered.ended n k) c = absurd (cc c.0)
+    (h ∙ same ∙ sym k, ap (λ n. ReadMark.fault n ∷ []) same)
+one_value start g _ _ _ _ (ToEndValue.ended n h) (ToEndValue.failed f kind k) c = absurd (cc c.0)
+one_value start g _ _ _ _ (ToEndValue.failed e kind h) (ToEndValue.ended n k) c = absurd (cc c.0)
 
-pub appends_settles : (start : ℕ) → Settles SameByKind (appends ⊥ start)
-appends_settles start =
+pub appends_deterministic : (start : ℕ) → IsDeterministic SameByKind (appends ⊥ start)
+appends_deterministic start =
     record {
       one_way = λ p q r b h k. h ∙ sym k;
       at_once = λ p q l v h. at_once start p l v (answered start p l v h.0);
@@ -67,31 +71,44 @@ appends_settles start =
     }
 
 module _ {R A : Type 0} where
-  abbrev bytes_of : ReadToEndFuture R A → List ℕ
-  bytes_of x = x.buf.now.items
+  abbrev bytes_held : ReadToEndFuture R A → List ℕ
+  bytes_held x = x.buf.now.items
 
   -- two over equal bytes that began at one place, over readers that are alike
   abbrev pub ToEndAlike : (R → R → Type 0) → ReadToEndFuture R A → ReadToEndFuture R A → Type 0
-  ToEndAlike alike x y = alike x.reader.now y.reader.now × (bytes_of x ≡ bytes_of y) × (x.start ≡ y.start)
+  ToEndAlike alike x y = alike x.reader.now y.reader.now × (bytes_held x ≡ bytes_held y) × (x.start ≡ y.start)
 
-  module _ {reads : Runs Mark R} where
-    module _ {ample : Runs Mark R} {needs_none : Type 0} {alike : R → R → Type 0} (s : SteadyReadLaws reads ample needs_none alike) where
-      one_answer : (x y : ReadToEndFuture R A) (l m : List (Poll (Result ℕ Error))) (x' y' : ReadToEndFuture R A) → ToEndAlike alike x y
+  module _ {reads : Runs ReadMark R} where
+    module _ {ample : Runs ReadMark R} {needs_none : Type 0} {alike : R → R → Type 0}
+        (s : SteadyReadLaws reads ample needs_none alike) where
+      one_answer : (x y : ReadToEndFuture R A) (l m : List (Poll (Result ℕ Error))) (x' y' : ReadToEndFuture R A)
+          → ToEndAlike alike x y
           → ReadsToEnd ⊥ ample x l x' → ReadsToEnd ⊥ ample y m y' → ComparableBy SameByKind (strip l) (strip m)
       one_answer x y l m x' y' e h k =
-          let begun = subst (λ n. Gathered (appends ⊥ n) ample y.reader.now (bytes_of y) m y'.reader.now (bytes_of y')) (sym e.2) k.gathered in
-          let other = subst (λ p. Gathered (appends ⊥ x.start) ample y.reader.now p m y'.reader.now (bytes_of y')) (sym e.1) begun in
-          gathered_alike (appends ⊥ x.start) (appends_settles x.start) s x.reader.now y.reader.now x'.reader.now y'.reader.now (bytes_of x) (bytes_of x')
-          (bytes_of y') l m e.0 h.gathered other
+          let begun = subst
+          (λ n. ReadFolded (appends ⊥ n) ample y.reader.now (bytes_held y) m y'.reader.now (bytes_held y'))
+          (sym e.2) k.folded in
+          let other = subst (λ p. ReadFolded (appends ⊥ x.start) ample y.reader.now p m y'.reader.now (bytes_held y'))
+          (sym e.1) begun in
+          read_folded_alike (appends ⊥ x.start)
+          (appends_deterministic x.start) s x.reader.now y.reader.now x'.reader.now y'.reader.now (bytes_held x)
+          (bytes_held x')
+          (bytes_held y') l m e.0 h.folded other
 
-      pub to_end_steady : FutureSteadyLawsBy (Sameness.by SameByKind) (ReadsToEnd ⊤ reads) (ReadsToEnd ⊥ ample) ⊥ (ToEndAlike alike)
-      to_end_steady = record { laws = append_laws ⊥ s.laws; steady = λ x y e l m x' y'. one_answer x y l m x' y' e; found = λ n. absurd n }
+      pub to_end_steady : FutureSteadyLawsBy (Sameness.by SameByKind) (ReadsToEnd ⊤ reads) (ReadsToEnd ⊥ ample) ⊥
+          (ToEndAlike alike)
+      to_end_steady = record {
+        laws = append_laws ⊥ s.laws;
+        steady = λ x y e l m x' y'. one_answer x y l m x' y' e;
+        found = λ n. absurd n;
+      }
 
-    pub to_end_calm : {is_calm : R → Type 0} → CalmReadLaws reads is_calm → CalmLaws (ReadsToEnd ⊤ reads) (λ (x : ReadToEndFuture R A). is_calm x.reader.now)
+    pub to_end_calm : {is_calm : R → Type 0} → CalmReadLaws reads is_calm
+        → CalmLaws (ReadsToEnd ⊤ reads) (λ (x : ReadToEndFuture R A). is_calm x.reader.now)
     to_end_calm c =
         record {
-          prompt = λ x y l k h.
-              gathers_prompt (appends ⊤ x.start) (bytes_of x) (bytes_of y) h.gathered.marks l
-              (c.prompt x.reader.now y.reader.now h.gathered.marks k h.gathered.came) h.gathered.gathered;
-          calm_on = λ x y l k h. c.calm_on x.reader.now y.reader.now h.gathered.marks k h.gathered.came;
+          no_pending = λ x y l k h.
+              read_folds_no_pending (appends ⊤ x.start) (bytes_held x) (bytes_held y) h.folded.marks l
+              (c.no_pending x.reader.now y.reader.now h.folded.marks k h.folded.came) h.folded.folded;
+          calm_on = λ x y l k h. c.calm_on x.reader.now y.reader.now h.folded.marks k h.folded.came;
         }

@@ -7,4 +7,6 @@ use Rattle.lite_scan.proofs.line_run.Goals as goal
 pub returns : goal.returns
 returns c =
     let long = length-chunk c.args.at 32 c.args.bytes.now c.requires in
-    c.first_set.ensures ∙ run_of (λ b. b == 10) c.args.bytes.now c.args.at _ c.requires (zip2_splat _ (chunk c.args.at 32 c.args.bytes.now) 32 10 long)
+    c.first_set.ensures
+    ∙ run_of (λ b. b == 10) c.args.bytes.now c.args.at _ c.requires
+    (zip2_splat _ (chunk c.args.at 32 c.args.bytes.now) 32 10 long)

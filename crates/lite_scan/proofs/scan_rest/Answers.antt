@@ -5,9 +5,12 @@ use Rattle.lite_scan.proofs.scan_rest.Goals as goal
 pub returns-then-bytes-i-eq-NEWLINE-clause-newline : goal.returns-then-bytes-i-eq-NEWLINE-clause-newline
 returns-then-bytes-i-eq-NEWLINE-clause-newline c =
     let d = c.args.bytes.now in
-    newline_at d c.loop-i.i c.loop-i-test.true (found_next d c.loop-i.i c.loop-i.invariant.1 c.loop-i-test.true c.if-bytes-i-eq-NEWLINE.true)
+    newline_at d c.loop-i.i c.loop-i-test.true
+    (found_next d c.loop-i.i c.loop-i.invariant.1 c.loop-i-test.true c.if-bytes-i-eq-NEWLINE.true)
 
 pub returns-then-bytes-i-eq-NEWLINE-clause-ascii : goal.returns-then-bytes-i-eq-NEWLINE-clause-ascii
 returns-then-bytes-i-eq-NEWLINE-clause-ascii c =
     let d = c.args.bytes.now in
-    c.loop-i.invariant.2 ∙ line_is d c.loop-i.i (found_next d c.loop-i.i c.loop-i.invariant.1 c.loop-i-test.true c.if-bytes-i-eq-NEWLINE.true)
+    c.loop-i.invariant.2
+    ∙ line_is d c.loop-i.i
+    (found_next d c.loop-i.i c.loop-i.invariant.1 c.loop-i-test.true c.if-bytes-i-eq-NEWLINE.true)

@@ -6,4 +6,5 @@ use Rattle.lite_scan.proofs.scan_rest.Given as goal
 
 abbrev pub invariant-loop-i : goal.invariant-loop-i
 invariant-loop-i l =
-    (l.i ≤ length l.bytes) × (position_or_len is_newline (take l.i l.bytes) ≡ l.i) × (l.ascii ≡ list_all is_ascii (take l.i l.bytes))
+    (l.i ≤ length l.bytes) × (position_or_len is_newline (take l.i l.bytes) ≡ l.i)
+    × (l.ascii ≡ list_all is_ascii (take l.i l.bytes))

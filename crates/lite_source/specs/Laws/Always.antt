@@ -4,13 +4,13 @@ use Rattle.std.specs.Prelude.{IfSome}
 use Rattle.std.specs.List.{AllByRecursion}
 use Rattle.futures.specs.declared.task.Poll.TheVariants.{Ready, Pending}
 use Rattle.lite_base.specs.Answers.{Answer, ComparableBy, before_end, item, strip}
-use Rattle.lite_base.specs.Calm.{Prompt}
+use Rattle.lite_base.specs.Calm.{NoPending}
 use Rattle.lite_base.specs.Laws.All.{all_append}
 use Rattle.lite_base.specs.Laws.Hint.{same_hint}
 use Rattle.lite_base.specs.Rank.{AtMost, Lowers}
 use Rattle.lite_base.specs.Ranks.{Counting}
 use Rattle.lite_base.specs.StreamLaws.{StreamLaws}
-use Rattle.lite_source.specs.Always.{Always, no_ranks}
+use Rattle.lite_source.specs.Always.{Unchanging, no_ranks}
 
 module _ {A : Type 0} (may : Answer A → Type 0) where
   -- where no item may come
@@ -28,19 +28,28 @@ module _ {A : Type 0} (may : Answer A → Type 0) where
     no_items_lower (Ready (Some x) ∷ l) xs ys h e = absurd (none x h.0)
 
 module _ {S A : Type 0} (may : S → Answer A → Type 0) where
-  always_follow : (x y z : S) (l m : List (Answer A)) → Always may x l y → Always may y m z → Always may x (l ++ m) z
+  always_follow : (x y z : S) (l m : List (Answer A)) → Unchanging may x l y → Unchanging may y m z
+      → Unchanging may x (l ++ m) z
   always_follow x y z l m h k = (all_append (may x) l m h.0 (subst (λ s. AllByRecursion (may s) m) h.1 k.0), k.1 ∙ h.1)
 
   -- its hint is `known`, which bounds the items that may come
-  pub always_laws : (known : ℕ × Option ℕ) → ((x : S) (l : List (Answer A)) → AllByRecursion (may x) l → IfSome known.1 (λ most. before_end l ≤ most)) → StreamLaws (Always may) (λ x hint. hint ≡ known)
-  always_laws known bound = record { rests = λ x. (tt, refl); stays = λ x y h. h.1; follows = always_follow; bounded = λ x y hint l e h. same_hint hint known l e (bound x l h.0) }
+  pub always_laws : (known : ℕ × Option ℕ)
+      → ((x : S) (l : List (Answer A)) → AllByRecursion (may x) l → IfSome known.1 (λ most. before_end l ≤ most))
+      → StreamLaws (Unchanging may) (λ x hint. hint ≡ known)
+  always_laws known bound =
+      record {
+        rests = λ x. (tt, refl);
+        stays = λ x y h. h.1;
+        follows = always_follow;
+        bounded = λ x y hint l e h. same_hint hint known l e (bound x l h.0);
+      }
 
   -- where no item may come, the hint is that none does, and there is nothing to count
   module _ (none : (s : S) (x : A) → may s (item x) → ⊥) where
-    pub itemless_laws : StreamLaws (Always may) (λ x hint. hint ≡ (0, Some 0))
+    pub itemless_laws : StreamLaws (Unchanging may) (λ x hint. hint ≡ (0, Some 0))
     itemless_laws = always_laws (0, Some 0) (λ x. no_items (may x) (none x))
 
-    pub itemless_counting : Counting (Always may) no_ranks
+    pub itemless_counting : Counting (Unchanging may) no_ranks
     itemless_counting =
         record {
           sized = λ x. refl;
@@ -52,15 +61,16 @@ module _ {S A : Type 0} (may : S → Answer A → Type 0) where
 
 module _ {A : Type 0} (b : Option A) where
   -- lists of one answer, which is the same as itself
-  pub answers_same : (same : Option A → Option A → Type 0) → same b b → (l m : List (Answer A)) → AllByRecursion (λ a. a ≡ Ready b) l
+  pub answers_same : (same : Option A → Option A → Type 0) → same b b → (l m : List (Answer A))
+      → AllByRecursion (λ a. a ≡ Ready b) l
       → AllByRecursion (λ a. a ≡ Ready b) m → ComparableBy same (strip l) (strip m)
   answers_same same itself [] m h k = tt
   answers_same same itself (a ∷ l) [] h k = rw h.0 tt
   answers_same same itself (a ∷ l) (c ∷ m) h k = rw (h.0, k.0) (itself, answers_same same itself l m h.1 k.1)
 
-  pub answers_prompt : (l : List (Answer A)) → AllByRecursion (λ a. a ≡ Ready b) l → Prompt l
-  answers_prompt [] h = tt
-  answers_prompt (a ∷ l) h = rw h.0 (answers_prompt l h.1)
+  pub answers_no_pending : (l : List (Answer A)) → AllByRecursion (λ a. a ≡ Ready b) l → NoPending l
+  answers_no_pending [] h = tt
+  answers_no_pending (a ∷ l) h = rw h.0 (answers_no_pending l h.1)
 
 pub pendings_strip : {A : Type 0} (l : List (Answer A)) → AllByRecursion (λ a. a ≡ Pending) l → strip l ≡ []
 pendings_strip [] h = refl

@@ -5,14 +5,15 @@ use Rattle.std.specs.List.{FoldsTo}
 use Rattle.futures.specs.declared.task.Poll.TheVariants.{Ready, Pending}
 use Rattle.lite_base.specs.Alike.{Alike}
 use Rattle.lite_base.specs.Answers.{Answer, Comparable, strip}
-use Rattle.lite_base.specs.Calm.{CalmLaws, Prompt}
+use Rattle.lite_base.specs.Calm.{CalmLaws, NoPending}
 use Rattle.lite_base.specs.Laws.Calls.{folds_follow}
 use Rattle.lite_base.specs.Laws.Hint.{same_hint}
 use Rattle.lite_base.specs.Steady.{SteadyLaws, steady_always}
 use Rattle.lite_base.specs.StreamLaws.{StreamLaws}
 
 -- `part` of the source is what changes, by `next` at each poll, and all that it holds
-module _ {S P A : Type 0} (part : S → P) (next : P → Answer A → P → Type 0) (same : (x y : S) → part y ≡ part x → y ≡ x) where
+module _ {S P A : Type 0} (part : S → P) (next : P → Answer A → P → Type 0)
+    (same : (x y : S) → part y ≡ part x → y ≡ x) where
   -- its hint bounds nothing
   pub folds_laws : (least : ℕ) → StreamLaws (λ x l y. FoldsTo next (part x) l (part y)) (λ x hint. hint ≡ (least, None))
   folds_laws least =
@@ -24,33 +25,45 @@ module _ {S P A : Type 0} (part : S → P) (next : P → Answer A → P → Type
       }
 
   -- it is its own source: those whose answers are the same are alike
-  pub folds_steady : SteadyLaws (λ x l y. FoldsTo next (part x) l (part y)) (λ x l y. FoldsTo next (part x) l (part y)) ⊤ (λ x y. Alike (FoldsTo next) (part x) (part y))
+  pub folds_steady : SteadyLaws (λ x l y. FoldsTo next (part x) l (part y))
+      (λ x l y. FoldsTo next (part x) l (part y)) ⊤ (λ x y. Alike (FoldsTo next) (part x) (part y))
   folds_steady = steady_always (folds_laws 0) (λ x y e l m x' y' h k. e l m (part x') (part y') h k)
 
 module _ {S P A : Type 0} (part : S → P) (next : P → Answer A → P → Type 0) where
-  folds_prompt : ((p q : P) → next p Pending q → ⊥) → (p q : P) (l : List (Answer A)) → FoldsTo next p l q → Prompt l
-  folds_prompt never p q [] h = tt
-  folds_prompt never p q (Pending ∷ l) h = absurd (never p h.0 h.1)
-  folds_prompt never p q (Ready r ∷ l) h = folds_prompt never h.0 q l h.2
+  folds_no_pending : ((p q : P) → next p Pending q → ⊥) → (p q : P) (l : List (Answer A)) → FoldsTo next p l q
+      → NoPending l
+  folds_no_pending never p q [] h = tt
+  folds_no_pending never p q (Pending ∷ l) h = absurd (never p h.0 h.1)
+  folds_no_pending never p q (Ready r ∷ l) h = folds_no_pending never h.0 q l h.2
 
   -- no call is answered Pending
   pub folds_calm : ((p q : P) → next p Pending q → ⊥) → CalmLaws (λ x l y. FoldsTo next (part x) l (part y)) (λ x. ⊤)
-  folds_calm never = record { prompt = λ x y l k h. folds_prompt never (part x) (part y) l h; calm_on = λ x y l k h. tt }
+  folds_calm never =
+      record {
+        no_pending = λ x y l k h. folds_no_pending never (part x) (part y) l h;
+        calm_on = λ x y l k h. tt;
+      }
 
--- by steps: those are alike whose ready answers are the same where they agree, if they agree again after each of these, and a Pending of either keeps what they agree in
+-- by steps: those are alike whose ready answers are the same where they agree, if they agree again after each of these,
+-- and a Pending of either keeps what they agree in
 pub folds_alike : {P A : Type 0} (next : P → Answer A → P → Type 0) (agree : P → P → Type 0)
-    → ((p q r : P) → agree p q → next p Pending r → agree r q) → ((p q r : P) → agree p q → next q Pending r → agree p r)
+    → ((p q r : P) → agree p q → next p Pending r → agree r q)
+    → ((p q r : P) → agree p q → next q Pending r → agree p r)
     → ((p q r s : P) (a b : Option A) → agree p q → next p (Ready a) r → next q (Ready b) s → (a ≡ b) × agree r s)
     → (p q : P) → agree p q → Alike (FoldsTo next) p q
 folds_alike {P} {A} next agree left right same p q e l m p' q' h k = answers l m p q e h k
   where
-    after : (a : Option A) (l : List (Answer A)) → ((m : List (Answer A)) (p q : P) → agree p q → FoldsTo next p l p' → FoldsTo next q m q' → Comparable (strip l) (strip m))
-        → (m : List (Answer A)) (p q : P) → agree p q → FoldsTo next p (Ready a ∷ l) p' → FoldsTo next q m q' → Comparable (a ∷ strip l) (strip m)
+    after : (a : Option A) (l : List (Answer A))
+        → ((m : List (Answer A)) (p q : P) → agree p q → FoldsTo next p l p' → FoldsTo next q m q'
+        → Comparable (strip l) (strip m))
+        → (m : List (Answer A)) (p q : P) → agree p q → FoldsTo next p (Ready a ∷ l) p' → FoldsTo next q m q'
+        → Comparable (a ∷ strip l) (strip m)
     after a l rest [] p q e h k = tt
     after a l rest (Pending ∷ m) p q e h k = after a l rest m p k.0 (right p q k.0 e k.1) h k.2
     after a l rest (Ready b ∷ m) p q e h k = let s = same p q h.0 k.0 a b e h.1 k.1 in (s.0, rest m h.0 k.0 s.1 h.2 k.2)
 
-    answers : (l m : List (Answer A)) (p q : P) → agree p q → FoldsTo next p l p' → FoldsTo next q m q' → Comparable (strip l) (strip m)
+    answers : (l m : List (Answer A)) (p q : P) → agree p q → FoldsTo next p l p' → FoldsTo next q m q'
+        → Comparable (strip l) (strip m)
     answers [] m p q e h k = tt
     answers (Pending ∷ l) m p q e h k = answers l m h.0 q (left p q h.0 e h.1) h.2 k
     answers (Ready a ∷ l) m p q e h k = after a l (λ m' p q e h k. answers l m' p q e h k) m p q e h k

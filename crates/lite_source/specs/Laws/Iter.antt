@@ -1,6 +1,7 @@
 -- Laws of `iter`.
 use Rattle.std.specs.Prelude.{IfSome}
-use Rattle.std.proofs.Common.{◌≤◌, ◌<◌, sym, ℕ, List, [], ◌∷◌, ◌++◌, Option, Some, None, refl, ap, subst, arith, inl, inr}
+use Rattle.std.proofs.Common.{◌≤◌, ◌<◌, sym, ℕ, List, [], ◌∷◌, ◌++◌, Option, Some, None, refl, ap, subst, arith, inl}
+use Rattle.std.proofs.Common.{inr}
 use Rattle.std.proofs.Math.Nat.{eq-or-lt_of_le}
 use Rattle.std.specs.Iterator.{Count, IsFinite, MakesProgress, UpTo, size}
 use Rattle.futures.specs.declared.task.Poll.TheVariants.{Ready, Pending}
@@ -13,7 +14,8 @@ use Rattle.lite_base.specs.StreamLaws.{StreamLaws}
 use Rattle.lite_source.specs.Iter.{AlwaysNext, IterHints, Iterates, NeverRaised, Nexts, iter_ranks}
 use Rattle.lite_source.specs.declared.iter.Iter.{Iter}
 
-up_to : (most : Option ℕ) (count : Count) (n : ℕ) → (IsFinite count → n ≤ size count) → IfSome most (UpTo count) → IfSome most (λ m. n ≤ m)
+up_to : (most : Option ℕ) (count : Count) (n : ℕ) → (IsFinite count → n ≤ size count) → IfSome most (UpTo count)
+    → IfSome most (λ m. n ≤ m)
 up_to None count n h b = tt
 up_to (Some m) count n h b = let e = h b.0 in let k : size count ≤ m = b.1 in omega arith
 
@@ -22,22 +24,29 @@ at_most_one m n h = elim (eq-or-lt_of_le h) [ inl e ↦ inl (ap (λ k. k ∷ [])
 
 module _ {I A : Type 0} (can : I → Type 0) (gives : I → Option A → I → Type 0) (remaining : I → Count) where
   -- after a call it may still be called
-  pub always_on : (i j : I) (a : Answer A) → AlwaysNext can gives remaining i → Nexts can gives remaining i a j → AlwaysNext can gives remaining j
+  pub always_on : (i j : I) (a : Answer A) → AlwaysNext can gives remaining i → Nexts can gives remaining i a j
+      → AlwaysNext can gives remaining j
   always_on i j a h c = record { at = λ l k d. h.at (a ∷ l) k (j, c, d) }
 
-  never_on : (i j : I) (l : List (Answer A)) → NeverRaised can gives remaining i → Iterates can gives remaining i l j → NeverRaised can gives remaining j
-  never_on i j l h c = record { at = λ m k n d e. h.at (l ++ m) k n (folds_follow (Nexts can gives remaining) i j k l m c d) e }
+  never_on : (i j : I) (l : List (Answer A)) → NeverRaised can gives remaining i → Iterates can gives remaining i l j
+      → NeverRaised can gives remaining j
+  never_on i j l h c = record {
+    at = λ m k n d e. h.at (l ++ m) k n (folds_follow (Nexts can gives remaining) i j k l m c d) e;
+  }
 
-  finite_next : (i j : I) (r : Option A) → MakesProgress can remaining i r j → IsFinite (remaining i) → IsFinite (remaining j)
+  finite_next : (i j : I) (r : Option A) → MakesProgress can remaining i r j → IsFinite (remaining i)
+      → IsFinite (remaining j)
   finite_next i j None m f = m.rests f
   finite_next i j (Some x) m f = (m.on f).1
 
-  finite_on : (i j : I) (l : List (Answer A)) → IsFinite (remaining i) → Iterates can gives remaining i l j → IsFinite (remaining j)
+  finite_on : (i j : I) (l : List (Answer A)) → IsFinite (remaining i) → Iterates can gives remaining i l j
+      → IsFinite (remaining j)
   finite_on i j [] f h = subst (λ k. IsFinite (remaining k)) h f
   finite_on i j (Pending ∷ l) f h = absurd h.1
   finite_on i j (Ready r ∷ l) f h = finite_on h.0 j l (finite_next i h.0 r h.1.1 f) h.2
 
-  no_more : (i j : I) (l : List (Answer A)) → Iterates can gives remaining i l j → IsFinite (remaining i) → before_end l ≤ size (remaining i)
+  no_more : (i j : I) (l : List (Answer A)) → Iterates can gives remaining i l j → IsFinite (remaining i)
+      → before_end l ≤ size (remaining i)
   no_more i j [] h f = omega arith
   no_more i j (Pending ∷ l) h f = absurd h.1
   no_more i j (Ready None ∷ l) h f = omega arith
@@ -47,10 +56,12 @@ module _ {I A : Type 0} (can : I → Type 0) (gives : I → Option A → I → T
       let e = no_more h.0 j l h.2 on.1 in
       omega arith
 
-  iter_bounded : (i j : I) (most : Option ℕ) (l : List (Answer A)) → IfSome most (UpTo (remaining i)) → Iterates can gives remaining i l j → IfSome most (λ m. before_end l ≤ m)
+  iter_bounded : (i j : I) (most : Option ℕ) (l : List (Answer A)) → IfSome most (UpTo (remaining i))
+      → Iterates can gives remaining i l j → IfSome most (λ m. before_end l ≤ m)
   iter_bounded i j most l b h = up_to most (remaining i) (before_end l) (no_more i j l h) b
 
-  items_lower : (i j : I) (l : List A) → IsFinite (remaining i) → Iterates can gives remaining i (items l) j → size (remaining j) ≤ size (remaining i)
+  items_lower : (i j : I) (l : List A) → IsFinite (remaining i) → Iterates can gives remaining i (items l) j
+      → size (remaining j) ≤ size (remaining i)
   items_lower i j [] f h = subst (λ k. size (remaining k) ≤ size (remaining i)) h (omega arith)
   items_lower i j (x ∷ l) f h =
       let on = h.1.1.on f in
@@ -58,29 +69,37 @@ module _ {I A : Type 0} (can : I → Type 0) (gives : I → Option A → I → T
       let e = items_lower h.0 j l on.1 h.2 in
       omega arith
 
-  iter_falls : (i j : I) (a : A) (more : List A) → IsFinite (remaining i) → Iterates can gives remaining i (items (a ∷ more)) j → Below (size (remaining j) ∷ []) (size (remaining i) ∷ [])
+  iter_falls : (i j : I) (a : A) (more : List A) → IsFinite (remaining i)
+      → Iterates can gives remaining i (items (a ∷ more)) j → Below (size (remaining j) ∷ []) (size (remaining i) ∷ [])
   iter_falls i j a more f h =
       let on = h.1.1.on f in
       let less : size (remaining h.0) < size (remaining i) = on.2 in
       let e = items_lower h.0 j more on.1 h.2 in
       inl (omega arith, refl)
 
-  lowers_from : (i j : I) (n : ℕ) (l : List (Answer A)) → size (remaining i) ≤ n → IsFinite (remaining i) → NeverRaised can gives remaining i → Iterates can gives remaining i l j → Lowers l (size (remaining j) ∷ []) (n ∷ [])
+  lowers_from : (i j : I) (n : ℕ) (l : List (Answer A)) → size (remaining i) ≤ n → IsFinite (remaining i)
+      → NeverRaised can gives remaining i → Iterates can gives remaining i l j
+      → Lowers l (size (remaining j) ∷ []) (n ∷ [])
   lowers_from i j n [] least f r h = at_most_one (size (remaining j)) n (subst (λ k. size (remaining k) ≤ n) h least)
   lowers_from i j n (Pending ∷ l) least f r h = absurd h.1
   lowers_from i j n (Ready None ∷ l) least f r h =
       let kept = r.at [] i h.0 refl h.1 in
-      lowers_from h.0 j n l (omega (arith, kept, least)) (finite_next i h.0 None h.1.1 f) (never_on i h.0 (Ready None ∷ []) r (h.0, h.1, refl)) h.2
+      lowers_from h.0 j n l (omega (arith, kept, least)) (finite_next i h.0 None h.1.1 f)
+      (never_on i h.0 (Ready None ∷ []) r (h.0, h.1, refl)) h.2
   lowers_from i j n (Ready (Some x) ∷ l) least f r h =
       let on = h.1.1.on f in
       let less : size (remaining h.0) < size (remaining i) = on.2 in
-      let e = lowers_from h.0 j (size (remaining h.0)) l (omega arith) on.1 (never_on i h.0 (Ready (Some x) ∷ []) r (h.0, h.1, refl)) h.2 in
+      let e = lowers_from h.0 j (size (remaining h.0)) l (omega arith) on.1
+      (never_on i h.0 (Ready (Some x) ∷ []) r (h.0, h.1, refl)) h.2 in
       Below-one (Lowers-at_most l _ _ e) (omega (arith, less, least))
 
-  iter_lowers : (i j : I) (l : List (Answer A)) → IsFinite (remaining i) → NeverRaised can gives remaining i → Iterates can gives remaining i l j → Lowers l (size (remaining j) ∷ []) (size (remaining i) ∷ [])
+  iter_lowers : (i j : I) (l : List (Answer A)) → IsFinite (remaining i) → NeverRaised can gives remaining i
+      → Iterates can gives remaining i l j → Lowers l (size (remaining j) ∷ []) (size (remaining i) ∷ [])
   iter_lowers i j l = lowers_from i j (size (remaining i)) l (omega arith)
 
-  pub iter_laws : StreamLaws (λ (x : Iter I) (l : List (Answer A)) (y : Iter I). Iterates can gives remaining x.iter l y.iter) (λ x. IterHints (remaining x.iter))
+  pub iter_laws : StreamLaws
+      (λ (x : Iter I) (l : List (Answer A)) (y : Iter I). Iterates can gives remaining x.iter l y.iter)
+      (λ x. IterHints (remaining x.iter))
   iter_laws =
       record {
         rests = λ x. refl;
@@ -89,7 +108,9 @@ module _ {I A : Type 0} (can : I → Type 0) (gives : I → Option A → I → T
         bounded = λ x y hint l e. iter_bounded x.iter y.iter hint.1 l e.1;
       }
 
-  pub iter_counting : Counting (λ (x : Iter I) (l : List (Answer A)) (y : Iter I). Iterates can gives remaining x.iter l y.iter) (iter_ranks can gives remaining)
+  pub iter_counting : Counting
+      (λ (x : Iter I) (l : List (Answer A)) (y : Iter I). Iterates can gives remaining x.iter l y.iter)
+      (iter_ranks can gives remaining)
   iter_counting =
       record {
         sized = λ x. refl;

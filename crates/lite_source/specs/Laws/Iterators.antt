@@ -1,4 +1,5 @@
--- Laws of `iter` where nothing is said of its answers: iterators that go on in one way from values that agree give streams that are alike.
+-- Laws of `iter` where nothing is said of its answers: iterators that go on in one way from values that agree give
+-- streams that are alike.
 use Rattle.std.proofs.Common.{◌≡◌, ◌<◌, ℕ, List, ◌∷◌, Option, Some, None, length, ◌∙◌, refl, ap, subst, sym, arith}
 use denote.Bor.{Bor}
 use Rattle.std.specs.Prelude.{MatchOption}
@@ -18,10 +19,13 @@ use Rattle.lite_base.specs.Alike.{Alike}
 use Rattle.lite_source.specs.Iter.{Iterates, Nexts}
 use Rattle.lite_source.specs.Laws.Folds.{folds_alike}
 
-pub iter_alike : {I A : Type 0} (can : I → Type 0) (gives : I → Option A → I → Type 0) (remaining : I → Count) (agree : I → I → Type 0)
-    → ((i j p q : I) (r s : Option A) → agree i j → gives i r p → gives j s q → (r ≡ s) × agree p q) → (i j : I) → agree i j → Alike (Iterates can gives remaining) i j
+pub iter_alike : {I A : Type 0} (can : I → Type 0) (gives : I → Option A → I → Type 0) (remaining : I → Count)
+    (agree : I → I → Type 0)
+    → ((i j p q : I) (r s : Option A) → agree i j → gives i r p → gives j s q → (r ≡ s) × agree p q) → (i j : I)
+    → agree i j → Alike (Iterates can gives remaining) i j
 iter_alike can gives remaining agree step i j a =
-    folds_alike (Nexts can gives remaining) agree (λ p q r b h. absurd h) (λ p q r b h. absurd h) (λ p q r s x y b h k. step p q r s x y b h.0 k.0) i j a
+    folds_alike (Nexts can gives remaining) agree (λ p q r b h. absurd h) (λ p q r b h. absurd h)
+    (λ p q r s x y b h k. step p q r s x y b h.0 k.0) i j a
 
 heads : {A : Type 0} (x y : A) (l m : List A) → x ∷ l ≡ y ∷ m → (x ≡ y) × (l ≡ m)
 heads x y l m e = (cc e, cc e)
@@ -34,53 +38,68 @@ module _ {I A : Type 0} (left : I → List A) where
   nothing_comes : (i : I) (x : A) (l : List A) → length (left i) ≡ 0 → left i ≡ x ∷ l → ⊥
   nothing_comes i x l none e = let more : length (x ∷ l) ≡ 0 = subst (λ k. length k ≡ 0) e none in omega (arith, more)
 
-  front_step : (i j p q : I) (r s : Option A) → left i ≡ left j → FromFront i r p → FromFront j s q → (r ≡ s) × (left p ≡ left q)
+  front_step : (i j p q : I) (r s : Option A) → left i ≡ left j → FromFront i r p → FromFront j s q → (r ≡ s)
+      × (left p ≡ left q)
   front_step i j p q None None e h k = (refl, rw (h.1, k.1) e)
   front_step i j p q None (Some y) e h k = absurd (nothing_comes i y (left q) h.0 (e ∙ k))
   front_step i j p q (Some x) None e h k = absurd (nothing_comes j x (left p) k.0 (sym e ∙ h))
-  front_step i j p q (Some x) (Some y) e h k = let both = heads x y (left p) (left q) (sym h ∙ e ∙ k) in (ap (λ v. Some v) both.0, both.1)
+  front_step i j p q (Some x) (Some y) e h k =
+      let both = heads x y (left p) (left q) (sym h ∙ e ∙ k) in (ap (λ v. Some v) both.0, both.1)
 
 module _ {A : Type 0} where
-  pub array_alike : {n : ℕ} (can : ArrayIter A n → Type 0) (remaining : ArrayIter A n → Count) (i j : ArrayIter A n) → array_into_iter_items i ≡ array_into_iter_items j
+  pub array_alike : {n : ℕ} (can : ArrayIter A n → Type 0) (remaining : ArrayIter A n → Count) (i j : ArrayIter A n)
+      → array_into_iter_items i ≡ array_into_iter_items j
       → Alike (Iterates can array_steps remaining) i j
-  array_alike can remaining i j e = iter_alike can array_steps remaining (λ p q. array_into_iter_items p ≡ array_into_iter_items q) (front_step array_into_iter_items) i j e
+  array_alike can remaining i j e =
+      iter_alike can array_steps remaining (λ p q. array_into_iter_items p ≡ array_into_iter_items q)
+      (front_step array_into_iter_items) i j e
 
   -- what the references of a slice show
-  abbrev shown : Copied (SliceIter A) → List A
-  shown i = iter_rest (copied_source i)
+  abbrev pub slice_items : Copied (SliceIter A) → List A
+  slice_items i = iter_rest (copied_source i)
 
-  shown_step : (i j p q : Copied (SliceIter A)) (r s : Option A) → shown i ≡ shown j → copied_steps iter_steps i r p → copied_steps iter_steps j s q → (r ≡ s) × (shown p ≡ shown q)
+  shown_step : (i j p q : Copied (SliceIter A)) (r s : Option A) → slice_items i ≡ slice_items j
+      → copied_steps iter_steps i r p → copied_steps iter_steps j s q → (r ≡ s) × (slice_items p ≡ slice_items q)
   shown_step i j p q r s e h k = from_front h.0 k.0 h.1 k.1 h.2 k.2
     where
-      from_front : (o u : Option (Bor A)) → iter_steps (copied_source i) o (copied_source p) → iter_steps (copied_source j) u (copied_source q) → r ≡ option_copied o → s ≡ option_copied u
-          → (r ≡ s) × (shown p ≡ shown q)
+      from_front : (o u : Option (Bor A)) → iter_steps (copied_source i) o (copied_source p)
+          → iter_steps (copied_source j) u (copied_source q) → r ≡ option_copied o → s ≡ option_copied u
+          → (r ≡ s) × (slice_items p ≡ slice_items q)
       from_front None None a b c d = (c ∙ sym d, ap iter_rest a.1 ∙ e ∙ sym (ap iter_rest b.1))
-      from_front None (Some y) a b c d = absurd (nothing_comes shown i y.now (shown q) a.0 (e ∙ b))
-      from_front (Some x) None a b c d = absurd (nothing_comes shown j x.now (shown p) b.0 (sym e ∙ a))
+      from_front None (Some y) a b c d = absurd (nothing_comes slice_items i y.now (slice_items q) a.0 (e ∙ b))
+      from_front (Some x) None a b c d = absurd (nothing_comes slice_items j x.now (slice_items p) b.0 (sym e ∙ a))
       from_front (Some x) (Some y) a b c d =
-          let both = heads x.now y.now (shown p) (shown q) (sym a ∙ e ∙ b) in
+          let both = heads x.now y.now (slice_items p) (slice_items q) (sym a ∙ e ∙ b) in
           (c ∙ ap (λ v. Some v) both.0 ∙ sym d, both.1)
 
   -- the items of slices, by value: of a reference nothing says where it points
-  pub slice_alike : (can : Copied (SliceIter A) → Type 0) (remaining : Copied (SliceIter A) → Count) (i j : Copied (SliceIter A)) → shown i ≡ shown j
+  pub slice_alike : (can : Copied (SliceIter A) → Type 0) (remaining : Copied (SliceIter A) → Count)
+      (i j : Copied (SliceIter A)) → slice_items i ≡ slice_items j
       → Alike (Iterates can (copied_steps iter_steps) remaining) i j
-  slice_alike can remaining i j e = iter_alike can (copied_steps iter_steps) remaining (λ p q. shown p ≡ shown q) shown_step i j e
+  slice_alike can remaining i j e =
+      iter_alike can (copied_steps iter_steps) remaining (λ p q. slice_items p ≡ slice_items q) shown_step i j e
 
 -- one value has one that follows it
-module _ {A : Type 0} (gap : A → A → ℕ) (follows : A → A → Type 0) (one : (x y z : A) → follows x y → follows x z → y ≡ z) where
+module _ {A : Type 0} (gap : A → A → ℕ) (follows : A → A → Type 0)
+    (one : (x y z : A) → follows x y → follows x z → y ≡ z) where
   abbrev SameEnds : Range A → Range A → Type 0
   SameEnds i j = (i.start ≡ j.start) × (i.end ≡ j.end)
 
-  range_step : (i j p q : Range A) (r s : Option A) → SameEnds i j → range_steps gap follows i r p → range_steps gap follows j s q → (r ≡ s) × SameEnds p q
+  range_step : (i j p q : Range A) (r s : Option A) → SameEnds i j → range_steps gap follows i r p
+      → range_steps gap follows j s q → (r ≡ s) × SameEnds p q
   range_step i j p q None None e h k = (refl, (h.1.1 ∙ e.0 ∙ sym k.1.1, h.0 ∙ e.1 ∙ sym k.0))
-  range_step i j p q None (Some y) e h k = absurd (let more = k.1.0 in let none : gap j.start j.end ≡ 0 = subst (λ v. gap v j.end ≡ 0) e.0 (subst (λ v. gap i.start v ≡ 0) e.1 h.1.0) in omega (arith, more, none))
-  range_step i j p q (Some x) None e h k = absurd (let more = h.1.0 in let none : gap i.start i.end ≡ 0 = rw (e.0, e.1) k.1.0 in omega (arith, more, none))
+  range_step i j p q None (Some y) e h k =
+      absurd (let more = k.1.0 in let none : gap j.start j.end ≡ 0 =
+      subst (λ v. gap v j.end ≡ 0) e.0 (subst (λ v. gap i.start v ≡ 0) e.1 h.1.0) in omega (arith, more, none))
+  range_step i j p q (Some x) None e h k =
+      absurd (let more = h.1.0 in let none : gap i.start i.end ≡ 0 = rw (e.0, e.1) k.1.0 in omega (arith, more, none))
   range_step i j p q (Some x) (Some y) e h k =
       let first : x ≡ y = h.1.1 ∙ e.0 ∙ sym k.1.1 in
       let next : p.start ≡ q.start = one j.start p.start q.start (subst (λ v. follows v p.start) e.0 h.1.2) k.1.2 in
       (ap (λ v. Some v) first, (next, h.0 ∙ e.1 ∙ sym k.0))
 
-  pub range_alike : (can : Range A → Type 0) (remaining : Range A → Count) (i j : Range A) → i.start ≡ j.start → i.end ≡ j.end → Alike (Iterates can (range_steps gap follows) remaining) i j
+  pub range_alike : (can : Range A → Type 0) (remaining : Range A → Count) (i j : Range A) → i.start ≡ j.start
+      → i.end ≡ j.end → Alike (Iterates can (range_steps gap follows) remaining) i j
   range_alike can remaining i j e d = iter_alike can (range_steps gap follows) remaining SameEnds range_step i j (e, d)
 
 module _ {A Z : Type 0} where
@@ -88,7 +107,8 @@ module _ {A Z : Type 0} where
   abbrev pub SameLeft : IntoIter A Z → IntoIter A Z → Type 0
   SameLeft i j = (into_iter_len i ≡ into_iter_len j) × (0 < into_iter_len i → into_iter_items i ≡ into_iter_items j)
 
-  left_step : (i j p q : IntoIter A Z) (r s : Option A) → SameLeft i j → into_iter_steps i r p → into_iter_steps j s q → (r ≡ s) × SameLeft p q
+  left_step : (i j p q : IntoIter A Z) (r s : Option A) → SameLeft i j → into_iter_steps i r p → into_iter_steps j s q
+      → (r ≡ s) × SameLeft p q
   left_step i j p q None None e h k = (refl, (h.1 ∙ sym k.1, λ more. absurd (omega (arith, more, h.1))))
   left_step i j p q None (Some y) e h k = absurd (omega (arith, e.0, h.0, k.1))
   left_step i j p q (Some x) None e h k = absurd (omega (arith, e.0, h.1, k.0))
@@ -97,5 +117,7 @@ module _ {A Z : Type 0} where
       let both = heads x y (into_iter_items p) (into_iter_items q) (sym h.0 ∙ same ∙ k.0) in
       (ap (λ v. Some v) both.0, (omega (arith, e.0, h.1, k.1), λ more. both.1))
 
-  pub vec_alike : (can : IntoIter A Z → Type 0) (remaining : IntoIter A Z → Count) (i j : IntoIter A Z) → into_iter_len i ≡ into_iter_len j → into_iter_items i ≡ into_iter_items j → Alike (Iterates can into_iter_steps remaining) i j
+  pub vec_alike : (can : IntoIter A Z → Type 0) (remaining : IntoIter A Z → Count) (i j : IntoIter A Z)
+      → into_iter_len i ≡ into_iter_len j → into_iter_items i ≡ into_iter_items j
+      → Alike (Iterates can into_iter_steps remaining) i j
   vec_alike can remaining i j e d = iter_alike can into_iter_steps remaining SameLeft left_step i j (e, λ more. d)

@@ -7,14 +7,14 @@ use Rattle.futures.specs.declared.task.Poll.{Poll}
 use Rattle.futures.specs.declared.task.Poll.TheVariants.{Ready, Pending}
 use Rattle.lite_base.specs.Alike.{OptionBy, SameAnswer, SameItem, Sameness}
 use Rattle.lite_base.specs.Answers.{Answer, ComparableBy, Waiting, end, strip}
-use Rattle.lite_base.specs.Calm.{CalmLaws, Prompt}
+use Rattle.lite_base.specs.Calm.{CalmLaws, NoPending}
 use Rattle.lite_base.specs.Falling.{Lowers-below}
 use Rattle.lite_base.specs.Future.Spent.{Spends}
 use Rattle.lite_base.specs.FutureLaws.{FutureLaws}
 use Rattle.lite_base.specs.Laws.Alike.{alike_agrees, comparable_nil, ends_same, same_answer}
 use Rattle.lite_base.specs.Laws.All.{all_append}
-use Rattle.lite_base.specs.Laws.Calm.{prompt_join}
-use Rattle.lite_base.specs.Laws.Future.Handed.{handed_gives, handed_prompt, handed_waits}
+use Rattle.lite_base.specs.Laws.Calm.{no_pending_join}
+use Rattle.lite_base.specs.Laws.Future.Handed.{handed_gives, handed_no_pending, handed_waits}
 use Rattle.lite_base.specs.Laws.Future.Spent.{spends_found, spends_follow, spends_rest, spends_stay}
 use Rattle.lite_base.specs.Laws.Hint.{same_hint}
 use Rattle.lite_base.specs.Rank.{AtMost, Lowers}
@@ -22,11 +22,12 @@ use Rattle.lite_base.specs.Ranks.{Counting, number_counting}
 use Rattle.lite_base.specs.Steady.{FutureSteadyLawsBy, SteadinessBy, SteadyLawsBy}
 use Rattle.lite_base.specs.StreamLaws.{StreamLaws, runs_of}
 use Rattle.lite_base.specs.Future.Handed.{handed}
+use Rattle.lite_base.specs.Runs.{NoHint, Runs}
 use Rattle.lite_source.specs.OnceFuture.{GivesFuture, once_future_ranks}
-use Rattle.lite_source.specs.Laws.Always.{answers_prompt, answers_same, no_items_lower}
+use Rattle.lite_source.specs.Laws.Always.{answers_no_pending, answers_same, no_items_lower}
 
-module _ {F A : Type 0} (run : F → List (Poll A) → F → Type 0) where
-  pub once_future_laws : FutureLaws run → StreamLaws (GivesFuture run) (λ x hint. hint ≡ (0, None))
+module _ {F A : Type 0} (run : Runs (Poll A) F) where
+  pub once_future_laws : FutureLaws run → StreamLaws (GivesFuture run) NoHint
   once_future_laws laws =
       record {
         rests = λ x. spends_rest _ _ laws tt x.future;
@@ -35,13 +36,17 @@ module _ {F A : Type 0} (run : F → List (Poll A) → F → Type 0) where
         bounded = λ x y hint l e h. same_hint hint (0, None) l e tt;
       }
 
-  waiting_lowers : (l : List (Poll A)) (xs ys : List ℕ) → Waiting l → AtMost xs ys → Lowers (map (handed (λ x. Some x)) l) xs ys
+  waiting_lowers : (l : List (Poll A)) (xs ys : List ℕ) → Waiting l → AtMost xs ys
+      → Lowers (map (handed (λ x. Some x)) l) xs ys
   waiting_lowers [] xs ys w h = h
   waiting_lowers (Pending ∷ l) xs ys w h = waiting_lowers l xs ys w h
   waiting_lowers (Ready x ∷ l) xs ys w h = absurd w
 
-  spends_lower : (x y : Option F) (l : List (Answer A)) → Spends run (handed (λ v. Some v)) (AllByRecursion (λ a. a ≡ end)) x l y → Lowers l (option_len y ∷ []) (option_len x ∷ [])
-  spends_lower None y l h = no_items_lower _ (λ x e. cc e) l (option_len y ∷ []) (0 ∷ []) h.0 (inl (ap (λ f. option_len f ∷ []) h.1))
+  spends_lower : (x y : Option F) (l : List (Answer A))
+      → Spends run (handed (λ v. Some v)) (AllByRecursion (λ a. a ≡ end)) x l y
+      → Lowers l (option_len y ∷ []) (option_len x ∷ [])
+  spends_lower None y l h =
+      no_items_lower _ (λ x e. cc e) l (option_len y ∷ []) (0 ∷ []) h.0 (inl (ap (λ f. option_len f ∷ []) h.1))
   spends_lower (Some f) (Some g) l h = rw h.3 (waiting_lowers h.0 (1 ∷ []) (1 ∷ []) h.1 (inl refl))
   spends_lower (Some f) None l h = Lowers-below l (0 ∷ []) (1 ∷ []) (inl (omega arith, refl))
 
@@ -49,42 +54,61 @@ module _ {F A : Type 0} (run : F → List (Poll A) → F → Type 0) where
   once_future_counting = number_counting (λ x y. spends_lower x.future y.future)
 
 -- what a held future answers, and then ends
-abbrev Handing : {F A : Type 0} → (F → List (Poll A) → F → Type 0) → Option F → List (Answer A) → Option F → Type 0
+abbrev Handing : {F A : Type 0} → Runs (Poll A) F → Runs (Answer A) (Option F)
 Handing run = Spends run (handed (λ v. Some v)) (AllByRecursion (λ a. a ≡ end))
 
-module _ {F A : Type 0} (same : Sameness A) {run : F → List (Poll A) → F → Type 0} {alike : F → F → Type 0} (s : SteadinessBy (SameItem same) run alike) where
-  handing_same : (f g f' g' : Option F) (l m : List (Answer A)) → OptionBy alike f g → Handing run f l f' → Handing run g m g'
+module _ {F A : Type 0} (same : Sameness A) {run : Runs (Poll A) F} {alike : F → F → Type 0}
+    (s : SteadinessBy (SameItem same) run alike) where
+  handing_same : (f g f' g' : Option F) (l m : List (Answer A)) → OptionBy alike f g → Handing run f l f'
+      → Handing run g m g'
       → ComparableBy (SameAnswer same) (strip l) (strip m)
   handing_same None None f' g' l m e h k = answers_same None (SameAnswer same) (ends_same same) l m h.0 k.0
   handing_same None (Some g) f' g' l m e h k = absurd e
   handing_same (Some f) None f' g' l m e h k = absurd e
-  handing_same (Some f) (Some g) (Some f') g' l m e h k = let none = ap strip h.3 ∙ handed_waits (λ v. Some v) h.0 h.1 in rw none tt
+  handing_same (Some f) (Some g) (Some f') g' l m e h k =
+      let none = ap strip h.3 ∙ handed_waits (λ v. Some v) h.0 h.1 in rw none tt
   handing_same (Some f) (Some g) None (Some g') l m e h k =
       let none = ap strip k.3 ∙ handed_waits (λ v. Some v) k.0 k.1 in
       rw none (comparable_nil (SameAnswer same) (strip l))
   handing_same (Some f) (Some g) None None l m e h k =
       let one = ap strip h.joined ∙ handed_gives (λ v. Some v) h.ins h.after h.value h.finishes.gives in
       let two = ap strip k.joined ∙ handed_gives (λ v. Some v) k.ins k.after k.value k.finishes.gives in
-      let values : SameItem same h.value k.value = alike_agrees run f g (s f g e) h.ins k.ins h.value k.value h.finishes k.finishes in
-      rw (one, two) (same_answer same h.value k.value values, answers_same None (SameAnswer same) (ends_same same) h.after k.after h.later k.later)
+      let values : SameItem same h.value k.value =
+      alike_agrees run f g (s f g e) h.ins k.ins h.value k.value h.finishes k.finishes in
+      rw (one, two) (
+        same_answer same h.value k.value values,
+        answers_same None (SameAnswer same) (ends_same same) h.after k.after h.later k.later,
+      )
 
-pub once_future_steady : {F A : Type 0} (same : Sameness A) {run ample : F → List (Poll A) → F → Type 0} {needs_none : Type 0} {alike : F → F → Type 0}
+pub once_future_steady : {F A : Type 0} (same : Sameness A) {run ample : Runs (Poll A) F} {needs_none : Type 0}
+    {alike : F → F → Type 0}
     → FutureSteadyLawsBy same run ample needs_none alike
     → SteadyLawsBy same (GivesFuture run) (GivesFuture ample) needs_none (λ x y. OptionBy alike x.future y.future)
 once_future_steady same s =
     record {
       laws = runs_of (once_future_laws _ s.laws);
       steady = λ x y e l m x' y'. handing_same same s.steady x.future y.future x'.future y'.future l m e;
-      found = λ n x y l. spends_found (handed (λ v. Some v)) (AllByRecursion (λ a. a ≡ end)) (s.found n) x.future y.future l;
+      found = λ n x y l. spends_found (handed (λ v. Some v)) (AllByRecursion (λ a. a ≡ end))
+          (s.found n) x.future y.future l;
     }
 
-module _ {F A : Type 0} {run : F → List (Poll A) → F → Type 0} {is_calm : F → Type 0} (c : CalmLaws run is_calm) where
-  handing_calm : (x y : Option F) (l : List (Answer A)) → IfSome x is_calm → Handing run x l y → Prompt l × IfSome y is_calm
-  handing_calm None y l k h = rw h.1 (answers_prompt None l h.0, tt)
-  handing_calm (Some f) (Some g) l k h = rw h.3 (handed_prompt (λ v. Some v) h.0 (c.prompt f g h.0 k h.2), c.calm_on f g h.0 k h.2)
+module _ {F A : Type 0} {run : Runs (Poll A) F} {is_calm : F → Type 0} (c : CalmLaws run is_calm) where
+  handing_calm : (x y : Option F) (l : List (Answer A)) → IfSome x is_calm → Handing run x l y → NoPending l
+      × IfSome y is_calm
+  handing_calm None y l k h = rw h.1 (answers_no_pending None l h.0, tt)
+  handing_calm (Some f) (Some g) l k h =
+      rw h.3 (handed_no_pending (λ v. Some v) h.0 (c.no_pending f g h.0 k h.2), c.calm_on f g h.0 k h.2)
   handing_calm (Some f) None l k h =
-      let before = handed_prompt (λ v. Some v) h.ins (c.prompt f h.finishes.last h.ins k h.finishes.came) in
-      rw h.joined (prompt_join (map (handed (λ v. Some v)) h.ins) h.after before (answers_prompt None h.after h.later), tt)
+      let before = handed_no_pending (λ v. Some v) h.ins (c.no_pending f h.finishes.last h.ins k h.finishes.came) in
+      rw h.joined (
+        no_pending_join (map (handed (λ v. Some v)) h.ins) h.after before
+            (answers_no_pending None h.after h.later),
+        tt,
+      )
 
   pub once_future_calm : CalmLaws (GivesFuture run) (λ x. IfSome x.future is_calm)
-  once_future_calm = record { prompt = λ x y l k h. (handing_calm x.future y.future l k h).0; calm_on = λ x y l k h. (handing_calm x.future y.future l k h).1 }
+  once_future_calm =
+      record {
+        no_pending = λ x y l k h. (handing_calm x.future y.future l k h).0;
+        calm_on = λ x y l k h. (handing_calm x.future y.future l k h).1;
+      }

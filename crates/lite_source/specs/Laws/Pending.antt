@@ -6,15 +6,15 @@ use Rattle.lite_base.specs.Ranks.{Counting}
 use Rattle.lite_base.specs.Steady.{Steadiness}
 use Rattle.lite_base.specs.StreamLaws.{StreamLaws}
 use Rattle.lite_source.specs.Always.{no_ranks}
-use Rattle.lite_source.specs.Pending.{Waits}
+use Rattle.lite_source.specs.Pending.{GivesPendings}
 use Rattle.lite_source.specs.Laws.Always.{itemless_counting, itemless_laws, pendings_strip}
 
 module _ {S A : Type 0} where
-  pub pending_laws : StreamLaws (Waits {S = S} {A = A}) (λ x hint. hint ≡ (0, Some 0))
+  pub pending_laws : StreamLaws (GivesPendings {S = S} {A = A}) (λ x hint. hint ≡ (0, Some 0))
   pending_laws = itemless_laws (λ _ a. a ≡ Pending) (λ s x e. cc e)
 
-  pub pending_counting : Counting (Waits {S = S} {A = A}) no_ranks
+  pub pending_counting : Counting (GivesPendings {S = S} {A = A}) no_ranks
   pending_counting = itemless_counting (λ _ a. a ≡ Pending) (λ s x e. cc e)
 
-  pub pending_steady : Steadiness (Waits {S = S} {A = A}) (λ x y. ⊤)
+  pub pending_steady : Steadiness (GivesPendings {S = S} {A = A}) (λ x y. ⊤)
   pending_steady x y e l m x' y' h k = rw (pendings_strip l h.0) tt

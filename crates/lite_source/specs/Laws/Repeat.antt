@@ -4,7 +4,7 @@ use Rattle.std.proofs.Common.{◌≡◌, ℕ, List, [], ◌∷◌, Some, None, a
 use Rattle.std.specs.List.{AllByRecursion}
 use Rattle.futures.specs.declared.task.Poll.TheVariants.{Ready, Pending}
 use Rattle.lite_base.specs.Answers.{Answer, Comparable, item, strip}
-use Rattle.lite_base.specs.Calm.{CalmLaws, Prompt}
+use Rattle.lite_base.specs.Calm.{CalmLaws, NoPending}
 use Rattle.lite_base.specs.Steady.{SteadyLaws}
 use Rattle.lite_base.specs.StreamLaws.{StreamLaws, runs_of}
 use Rattle.lite_source.specs.Repeat.{IsCloned, Repeats, SameClones}
@@ -16,7 +16,8 @@ module _ {A E : Type 0} (is_clone : A → A → Type 0) (is_infallible : A → T
   pub repeat_laws : (least : ℕ) → StreamLaws (Repeats {E = E} is_clone is_infallible) (λ x hint. hint ≡ (least, None))
   repeat_laws least = always_laws _ (least, None) (λ x l h. tt)
 
-  clones_found : ((x : A) → is_infallible x) → (own : A) (l : List (Answer (Result A E))) → AllByRecursion (IsCloned is_clone is_infallible own) l → AllByRecursion (IsCloned is_clone (λ _. ⊤) own) l
+  clones_found : ((x : A) → is_infallible x) → (own : A) (l : List (Answer (Result A E)))
+      → AllByRecursion (IsCloned is_clone is_infallible own) l → AllByRecursion (IsCloned is_clone (λ _. ⊤) own) l
   clones_found n own [] h = tt
   clones_found n own (Pending ∷ l) h = absurd h.0
   clones_found n own (Ready None ∷ l) h = absurd h.0
@@ -24,7 +25,8 @@ module _ {A E : Type 0} (is_clone : A → A → Type 0) (is_infallible : A → T
   clones_found n own (Ready (Some (Err e)) ∷ l) h = absurd (h.0 (n own))
 
   -- a run without a refused item is one in which memory was found
-  unrefused : (own : A) (l : List (Answer (Result A E))) → AllByRecursion (λ a. (e : E) → a ≡ item (Err e) → ⊥) l → AllByRecursion (IsCloned is_clone is_infallible own) l
+  unrefused : (own : A) (l : List (Answer (Result A E))) → AllByRecursion (λ a. (e : E) → a ≡ item (Err e) → ⊥) l
+      → AllByRecursion (IsCloned is_clone is_infallible own) l
       → AllByRecursion (IsCloned is_clone (λ _. ⊤) own) l
   unrefused own [] none h = tt
   unrefused own (Pending ∷ l) none h = absurd h.0
@@ -32,10 +34,13 @@ module _ {A E : Type 0} (is_clone : A → A → Type 0) (is_infallible : A → T
   unrefused own (Ready (Some (Ok v)) ∷ l) none h = (h.0, unrefused own l none.1 h.1)
   unrefused own (Ready (Some (Err e)) ∷ l) none h = absurd (none.0 e refl)
 
-  pub repeat_ample : (x y : Repeat A) (l : List (Answer (Result A E))) → AllByRecursion (λ a. (e : E) → a ≡ item (Err e) → ⊥) l → Repeats is_clone is_infallible x l y → Repeats is_clone (λ _. ⊤) x l y
+  pub repeat_ample : (x y : Repeat A) (l : List (Answer (Result A E)))
+      → AllByRecursion (λ a. (e : E) → a ≡ item (Err e) → ⊥) l → Repeats is_clone is_infallible x l y
+      → Repeats is_clone (λ _. ⊤) x l y
   repeat_ample x y l none h = (unrefused x.item l none h.0, h.1)
 
-  clones_same : (own other : A) → SameClones is_clone own other → (l m : List (Answer (Result A E))) → AllByRecursion (IsCloned is_clone (λ _. ⊤) own) l → AllByRecursion (IsCloned is_clone (λ _. ⊤) other) m
+  clones_same : (own other : A) → SameClones is_clone own other → (l m : List (Answer (Result A E)))
+      → AllByRecursion (IsCloned is_clone (λ _. ⊤) own) l → AllByRecursion (IsCloned is_clone (λ _. ⊤) other) m
       → Comparable (strip l) (strip m)
   clones_same own other e [] m h k = tt
   clones_same own other e (Pending ∷ l) m h k = absurd h.0
@@ -45,10 +50,12 @@ module _ {A E : Type 0} (is_clone : A → A → Type 0) (is_infallible : A → T
   clones_same own other e (Ready (Some (Ok v)) ∷ l) (Pending ∷ m) h k = absurd k.0
   clones_same own other e (Ready (Some (Ok v)) ∷ l) (Ready None ∷ m) h k = absurd k.0
   clones_same own other e (Ready (Some (Ok v)) ∷ l) (Ready (Some (Err x)) ∷ m) h k = absurd (k.0 tt)
-  clones_same own other e (Ready (Some (Ok v)) ∷ l) (Ready (Some (Ok w)) ∷ m) h k = (ap (λ z. Some (Ok z)) (e v w h.0 k.0), clones_same own other e l m h.1 k.1)
+  clones_same own other e (Ready (Some (Ok v)) ∷ l) (Ready (Some (Ok w)) ∷ m) h k =
+      (ap (λ z. Some (Ok z)) (e v w h.0 k.0), clones_same own other e l m h.1 k.1)
 
   -- where no clone is refused, those of the same clones
-  pub repeat_steady : SteadyLaws (Repeats {E = E} is_clone is_infallible) (Repeats is_clone (λ _. ⊤)) ((x : A) → is_infallible x) (λ x y. SameClones is_clone x.item y.item)
+  pub repeat_steady : SteadyLaws (Repeats {E = E} is_clone is_infallible) (Repeats is_clone (λ _. ⊤))
+      ((x : A) → is_infallible x) (λ x y. SameClones is_clone x.item y.item)
   repeat_steady =
       record {
         laws = runs_of (always_laws (λ x. IsCloned is_clone (λ _. ⊤) x.item) (0, None) (λ x l h. tt));
@@ -56,10 +63,11 @@ module _ {A E : Type 0} (is_clone : A → A → Type 0) (is_infallible : A → T
         found = λ n x y l h. (clones_found n x.item l h.0, h.1);
       }
 
-  clones_prompt : (own : A) (l : List (Answer (Result A E))) → AllByRecursion (IsCloned is_clone is_infallible own) l → Prompt l
-  clones_prompt own [] h = tt
-  clones_prompt own (Pending ∷ l) h = absurd h.0
-  clones_prompt own (Ready r ∷ l) h = clones_prompt own l h.1
+  clones_no_pending : (own : A) (l : List (Answer (Result A E)))
+      → AllByRecursion (IsCloned is_clone is_infallible own) l → NoPending l
+  clones_no_pending own [] h = tt
+  clones_no_pending own (Pending ∷ l) h = absurd h.0
+  clones_no_pending own (Ready r ∷ l) h = clones_no_pending own l h.1
 
   pub repeat_calm : CalmLaws (Repeats {E = E} is_clone is_infallible) (λ x. ⊤)
-  repeat_calm = record { prompt = λ x y l k h. clones_prompt x.item l h.0; calm_on = λ x y l k h. tt }
+  repeat_calm = record { no_pending = λ x y l k h. clones_no_pending x.item l h.0; calm_on = λ x y l k h. tt }

@@ -1,38 +1,47 @@
 -- Laws of `script`, and of other sources whose answers to come are a list.
 use Rattle.std.specs.Prelude.{⊤}
-use Rattle.std.proofs.Common.{◌≡◌, ◌∙◌, ◌≤◌, List, [], ◌∷◌, ◌++◌, length, Option, Some, None, refl, ap, subst, sym, inl, arith}
+use Rattle.std.proofs.Common.{◌≡◌, ◌∙◌, ◌≤◌, List, [], ◌∷◌, ◌++◌, length, Option, Some, None, refl, ap, subst, sym, inl}
+use Rattle.std.proofs.Common.{arith}
 use Rattle.futures.specs.declared.task.Poll.TheVariants.{Ready, Pending}
 use Rattle.lite_base.specs.Answers.{Answer, Comparable, before_end, strip}
-use Rattle.lite_base.specs.Calm.{CalmLaws, Prompt}
+use Rattle.lite_base.specs.Calm.{CalmLaws, NoPending}
 use Rattle.lite_base.specs.Falling.{Below-one, Lowers-at_most, Lowers-below}
 use Rattle.lite_base.specs.Rank.{Lowers}
 use Rattle.lite_base.specs.Laws.Hint.{same_hint}
 use Rattle.lite_base.specs.Steady.{Steadiness}
 use Rattle.lite_base.specs.StreamLaws.{StreamLaws}
-use Rattle.lite_source.specs.Script.{Gives}
+use Rattle.lite_base.specs.Runs.{NoHint}
+use Rattle.lite_source.specs.Script.{GivesScript}
 
 module _ {A : Type 0} where
-  pub gives_follow : (x y z l m : List (Answer A)) → Gives x l y → Gives y m z → Gives x (l ++ m) z
-  gives_follow x y z [] m h k = subst (λ t. Gives t m z) h k
+  pub gives_follow : (x y z l m : List (Answer A)) → GivesScript x l y → GivesScript y m z → GivesScript x (l ++ m) z
+  gives_follow x y z [] m h k = subst (λ t. GivesScript t m z) h k
   gives_follow [] y z (a ∷ l) m h k = (h.0, gives_follow [] y z l m h.1 k)
   gives_follow (b ∷ x) y z (a ∷ l) m h k = (h.0, gives_follow x y z l m h.1 k)
 
-  pub gives_bounded : (x y l : List (Answer A)) → Gives x l y → before_end l ≤ length x
+  pub gives_bounded : (x y l : List (Answer A)) → GivesScript x l y → before_end l ≤ length x
   gives_bounded x y [] h = omega arith
   gives_bounded [] y (a ∷ l) h = rw h.0 (omega arith)
   gives_bounded (b ∷ x) y (Pending ∷ l) h = let e = gives_bounded x y l h.1 in omega arith
   gives_bounded (b ∷ x) y (Ready None ∷ l) h = omega arith
   gives_bounded (b ∷ x) y (Ready (Some v) ∷ l) h = let e = gives_bounded x y l h.1 in omega arith
 
-  pub gives_lowers : (x y l : List (Answer A)) → Gives x l y → Lowers l (length y ∷ []) (length x ∷ [])
+  pub gives_lowers : (x y l : List (Answer A)) → GivesScript x l y → Lowers l (length y ∷ []) (length x ∷ [])
   gives_lowers x y [] h = inl (ap (λ t. length t ∷ []) h)
   gives_lowers [] y (Pending ∷ l) h = absurd (cc h.0)
   gives_lowers [] y (Ready None ∷ l) h = gives_lowers [] y l h.1
   gives_lowers [] y (Ready (Some v) ∷ l) h = absurd (cc h.0)
-  gives_lowers (b ∷ x) y (a ∷ l) h = Lowers-below (a ∷ l) _ _ (Below-one (Lowers-at_most l _ _ (gives_lowers x y l h.1)) (omega arith))
+  gives_lowers (b ∷ x) y (a ∷ l) h =
+      Lowers-below (a ∷ l) _ _ (Below-one (Lowers-at_most l _ _ (gives_lowers x y l h.1)) (omega arith))
 
-  pub script_laws : StreamLaws (Gives {A = A}) (λ x hint. hint ≡ (0, None))
-  script_laws = record { rests = λ x. refl; stays = λ x y h. h; follows = gives_follow; bounded = λ x y hint l e h. same_hint hint (0, None) l e tt }
+  pub script_laws : StreamLaws (GivesScript {A = A}) NoHint
+  script_laws =
+      record {
+        rests = λ x. refl;
+        stays = λ x y h. h;
+        follows = gives_follow;
+        bounded = λ x y hint l e h. same_hint hint (0, None) l e tt;
+      }
 
   -- these, in order, and then ends
   abbrev Emits : List (Option A) → List (Option A) → Type 0
@@ -40,7 +49,7 @@ module _ {A : Type 0} where
   Emits [] (a ∷ l) = (a ≡ None) × Emits [] l
   Emits (b ∷ s) (a ∷ l) = (a ≡ b) × Emits s l
 
-  gives_emits : (x y l : List (Answer A)) → Gives x l y → Emits (strip x) (strip l)
+  gives_emits : (x y l : List (Answer A)) → GivesScript x l y → Emits (strip x) (strip l)
   gives_emits x y [] h = tt
   gives_emits [] y (a ∷ l) h = rw h.0 (refl, gives_emits [] y l h.1)
   gives_emits (Pending ∷ x) y (a ∷ l) h = rw h.0 (gives_emits x y l h.1)
@@ -53,15 +62,20 @@ module _ {A : Type 0} where
   emits_same (c ∷ s) (a ∷ l) (b ∷ m) h k = (h.0 ∙ sym k.0, emits_same s l m h.1 k.1)
 
   -- lists that differ in their Pendings alone
-  pub gives_steady : Steadiness (Gives {A = A}) (λ x y. strip x ≡ strip y)
-  gives_steady x y e l m x' y' h k = emits_same (strip x) (strip l) (strip m) (gives_emits x x' l h) (rw e (gives_emits y y' m k))
+  pub gives_steady : Steadiness (GivesScript {A = A}) (λ x y. strip x ≡ strip y)
+  gives_steady x y e l m x' y' h k =
+      emits_same (strip x) (strip l) (strip m) (gives_emits x x' l h) (rw e (gives_emits y y' m k))
 
-  gives_prompt : (x y l : List (Answer A)) → Prompt x → Gives x l y → Prompt l × Prompt y
-  gives_prompt x y [] k h = rw h (tt, k)
-  gives_prompt [] y (a ∷ l) k h = rw h.0 (gives_prompt [] y l k h.1)
-  gives_prompt (Pending ∷ x) y (a ∷ l) k h = absurd k
-  gives_prompt (Ready b ∷ x) y (a ∷ l) k h = rw h.0 (gives_prompt x y l k h.1)
+  gives_no_pending : (x y l : List (Answer A)) → NoPending x → GivesScript x l y → NoPending l × NoPending y
+  gives_no_pending x y [] k h = rw h (tt, k)
+  gives_no_pending [] y (a ∷ l) k h = rw h.0 (gives_no_pending [] y l k h.1)
+  gives_no_pending (Pending ∷ x) y (a ∷ l) k h = absurd k
+  gives_no_pending (Ready b ∷ x) y (a ∷ l) k h = rw h.0 (gives_no_pending x y l k h.1)
 
   -- a list without a Pending
-  pub gives_calm : CalmLaws (Gives {A = A}) Prompt
-  gives_calm = record { prompt = λ x y l k h. (gives_prompt x y l k h).0; calm_on = λ x y l k h. (gives_prompt x y l k h).1 }
+  pub gives_calm : CalmLaws (GivesScript {A = A}) NoPending
+  gives_calm =
+      record {
+        no_pending = λ x y l k h. (gives_no_pending x y l k h).0;
+        calm_on = λ x y l k h. (gives_no_pending x y l k h).1;
+      }

@@ -1,12 +1,17 @@
 -- Laws of `try_unfold`.
-use Rattle.std.proofs.Common.{◌≡◌, List, Option, None, Result}
+use Rattle.std.proofs.Common.{Option, Result}
 use Rattle.std.specs.Fn.{Mut}
 use Rattle.futures.specs.declared.task.Poll.{Poll}
 use Rattle.lite_base.specs.StreamLaws.{StreamLaws}
+use Rattle.lite_base.specs.Runs.{NoHint, Runs}
 use Rattle.lite_source.specs.TryUnfold.{TryUnfoldsBy, try_item_of, try_seed_of}
 use Rattle.lite_source.specs.Laws.Unfolding.{unfolds_laws}
 use Rattle.lite_source.specs.declared.try_unfold.TryUnfold.{TryUnfold}
 
-module _ {F S V A E : Type 0} (call : Mut F (S × Unit {0}) V) (gives : V → List (Poll (Result (Option (A × S)) E)) → V → Type 0) where
-  pub try_unfold_laws : StreamLaws (TryUnfoldsBy call gives) (λ x hint. hint ≡ (0, None))
-  try_unfold_laws = unfolds_laws call gives try_seed_of try_item_of (λ (x : TryUnfold S F V). (x.f, x.state)) (λ x y e i. record { f = (e i).0; state = (e i).1 })
+module _ {F S V A E : Type 0} (call : Mut F (S × Unit {0}) V) (gives : Runs (Poll (Result (Option (A × S)) E)) V) where
+  pub try_unfold_laws : StreamLaws (TryUnfoldsBy call gives) NoHint
+  try_unfold_laws =
+      unfolds_laws call gives try_seed_of try_item_of (λ (x : TryUnfold S F V). (x.f, x.state)) (λ x y e i. record {
+        f = (e i).0;
+        state = (e i).1;
+      })

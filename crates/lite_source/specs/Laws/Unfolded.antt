@@ -1,12 +1,13 @@
 -- What `unfold` and `try_unfold` answer, Pendings aside: the same from futures that are alike.
 use Rattle.std.specs.Prelude.{⊤}
-use Rattle.std.proofs.Common.{inl, inr, ◌≡◌, ◌∙◌, ◌⊎◌, ℕ, List, [], ◌∷◌, ◌++◌, map, flat_map, Option, Some, None, refl, ap, subst, sym, append-nil}
+use Rattle.std.proofs.Common.{inl, inr, ◌≡◌, ◌∙◌, ◌⊎◌, List, [], ◌∷◌, ◌++◌, map, flat_map, Option, Some, None, refl, ap}
+use Rattle.std.proofs.Common.{subst, sym, append-nil}
 use Rattle.std.specs.Fn.{AlwaysReturns, Mut}
 use Rattle.std.specs.List.{AllByRecursion, FoldsTo}
 use Rattle.futures.specs.declared.task.Poll.{Poll}
 use Rattle.lite_base.specs.Alike.{OptionBy, SameAnswer, SameItem, Sameness}
 use Rattle.lite_base.specs.Answers.{Answer, ComparableBy, Waiting, end, strip}
-use Rattle.lite_base.specs.Calm.{CalmLaws, Prompt}
+use Rattle.lite_base.specs.Calm.{CalmLaws, NoPending}
 use Rattle.lite_base.specs.Calling.{AgreeFrom, Calls}
 use Rattle.lite_base.specs.Future.Finishes.{Finishes}
 use Rattle.lite_base.specs.Future.Handed.{handed}
@@ -14,63 +15,92 @@ use Rattle.lite_base.specs.FutureLaws.{FutureLaws}
 use Rattle.lite_base.specs.Laws.Alike.{alike_agrees, both_items, equal_options}
 use Rattle.lite_base.specs.Laws.Answers.{strip_join}
 use Rattle.lite_base.specs.Laws.Calling.{agree_from_matches}
-use Rattle.lite_base.specs.Laws.Calm.{prompt_join}
+use Rattle.lite_base.specs.Laws.Calm.{no_pending_join}
 use Rattle.lite_base.specs.Laws.Future.Finishes.{finishes_found, finishes_later}
-use Rattle.lite_base.specs.Laws.Future.Handed.{handed_gives, handed_prompt, handed_waits}
+use Rattle.lite_base.specs.Laws.Future.Handed.{handed_gives, handed_no_pending, handed_waits}
 use Rattle.lite_base.specs.Laws.Promises.{call_promises}
 use Rattle.lite_base.specs.Steady.{FutureSteadyLawsBy, SteadinessBy, SteadyLawsBy, TakesNone}
 use Rattle.lite_base.specs.StreamLaws.{StreamLaws, runs_of}
-use Rattle.lite_source.specs.Laws.Always.{answers_prompt}
-use Rattle.lite_source.specs.Unfolding.{BothHave, IfAsked, IsCurrent, Leads, Part, PartOf, Holding, HoldingsBy, UnfoldAlike, Unfolds, comes}
+use Rattle.lite_base.specs.Runs.{Hints, Question, Runs}
+use Rattle.lite_source.specs.Laws.Always.{answers_no_pending}
+use Rattle.lite_source.specs.Unfolding.{BothHave, Holding, HoldingsBy, IfHeldFuture, IsCurrent, Leads, PartOf}
+use Rattle.lite_source.specs.Unfolding.{UnfoldAlike, UnfoldPart, Unfolds, comes}
 
-module _ {F S V O B : Type 0} (call : Mut F (S × Unit {0}) V) (gives : V → List (Poll O) → V → Type 0) (after : O → Option S) (shown : O → Option B) where
+module _ {F S V O B : Type 0} (call : Mut F (S × Unit {0}) V) (gives : Runs (Poll O) V) (after : O → Option S)
+    (shown : O → Option B) where
   -- the values of futures, one after the other, and after the last of them ends
-  abbrev Values : F → Holding S V → List (Option B) → Type 0
-  Values p x [] = ⊤
-  Values p x (b ∷ out) = ((v : V) × (q : F) × (ins : List (Poll O)) × (o : O) × IsCurrent call p x q v × Finishes gives v ins o × (b ≡ shown o) × Values q (comes (after o)) out)
-      ⊎ ((x ≡ Holding.Over) × (b ≡ None) × Values p Holding.Over out)
+  abbrev FutureValues : F → Holding S V → List (Option B) → Type 0
+  FutureValues p x [] = ⊤
+  FutureValues p x (b ∷ out) =
+      ((v : V) × (q : F) × (ins : List (Poll O)) × (o : O) × IsCurrent call p x q v × Finishes gives v ins o
+      × (b ≡ shown o) × FutureValues q (comes (after o)) out)
+      ⊎ ((x ≡ Holding.Over) × (b ≡ None) × FutureValues p Holding.Over out)
 
   -- some Pendings of a future change nothing of it
-  waited : FutureLaws gives → (p q : F) (x : Holding S V) (v w : V) (ins : List (Poll O)) (out : List (Option B)) → IsCurrent call p x q v → Waiting ins → gives v ins w → Values q (Holding.Asked w) out → Values p x out
+  waited : FutureLaws gives → (p q : F) (x : Holding S V) (v w : V) (ins : List (Poll O)) (out : List (Option B))
+      → IsCurrent call p x q v → Waiting ins → gives v ins w → FutureValues q (Holding.Asked w) out
+      → FutureValues p x out
   waited laws p q x v w ins [] c i g h = tt
   waited laws p q x v w ins (b ∷ out) c i g (inr h) = absurd (let e = h.0 in cc)
   waited laws p q x v w ins (b ∷ out) c i g (inl h) =
       let same : h.0 ≡ w = h.4.0 in
-      let rest : Values q (comes (after h.3)) out = subst (λ k. Values k (comes (after h.3)) out) h.4.1 h.7 in
-      inl (v, q, ins ++ h.2, h.3, c, finishes_later laws v w ins h.2 h.3 i g (subst (λ u. Finishes gives u h.2 h.3) same h.5), h.6, rest)
+      let rest : FutureValues q (comes (after h.3)) out =
+      subst (λ k. FutureValues k (comes (after h.3)) out) h.4.1 h.7 in
+      inl (
+        v,
+        q,
+        ins ++ h.2,
+        h.3,
+        c,
+        finishes_later laws v w ins h.2 h.3 i g (subst (λ u. Finishes gives u h.2 h.3) same h.5),
+        h.6,
+        rest,
+      )
 
-  over : (p : F) (l : List (Answer B)) (out : List (Option B)) → AllByRecursion (λ a. a ≡ end) l → Values p Holding.Over out → Values p Holding.Over (strip l ++ out)
+  over : (p : F) (l : List (Answer B)) (out : List (Option B)) → AllByRecursion (λ a. a ≡ end) l
+      → FutureValues p Holding.Over out → FutureValues p Holding.Over (strip l ++ out)
   over p [] out h k = k
   over p (a ∷ l) out h k = rw h.0 (inr (refl, refl, over p l out h.1 k))
 
-  part_values : FutureLaws gives → (p q : F) (x y : Holding S V) (l : List (Answer B)) (out : List (Option B)) → Part call gives after shown p x l q y → Values q y out → Values p x (strip l ++ out)
+  part_values : FutureLaws gives → (p q : F) (x y : Holding S V) (l : List (Answer B)) (out : List (Option B))
+      → UnfoldPart call gives after shown p x l q y → FutureValues q y out → FutureValues p x (strip l ++ out)
   part_values laws p q x y l out (inr h) k =
-      let k' = subst (λ s. Values q s out) h.2.1 k in
-      subst (λ s. Values p s (strip l ++ out)) (sym h.0) (over p l out h.2.0 (subst (λ r. Values r Holding.Over out) h.1 k'))
+      let k' = subst (λ s. FutureValues q s out) h.2.1 k in
+      subst (λ s. FutureValues p s (strip l ++ out)) (sym h.0)
+      (over p l out h.2.0 (subst (λ r. FutureValues r Holding.Over out) h.1 k'))
   part_values laws p q x y l out (inl h) k = leading h.0 h.1 h.2 h.3 h.4
     where
-      leading : (v : V) (ins : List (Poll O)) → IsCurrent call p x q v → Leads call gives after shown v ins y → l ≡ map (handed shown) ins → Values p x (strip l ++ out)
+      leading : (v : V) (ins : List (Poll O)) → IsCurrent call p x q v → Leads call gives after shown v ins y
+          → l ≡ map (handed shown) ins → FutureValues p x (strip l ++ out)
       leading v ins c (inl d) e =
           let none : strip l ≡ [] = ap strip e ∙ handed_waits shown ins d.1 in
-          rw none (waited laws p q x v d.0 ins out c d.1 d.2 (subst (λ s. Values q s out) d.3 k))
+          rw none (waited laws p q x v d.0 ins out c d.1 d.2 (subst (λ s. FutureValues q s out) d.3 k))
       leading v ins c (inr d) e =
-          let one : strip l ≡ shown d.0 ∷ [] = ap strip (e ∙ sym (append-nil (map (handed shown) ins))) ∙ handed_gives shown ins [] d.0 d.1.gives in
-          rw one (inl (v, q, ins, d.0, c, d.1, refl, subst (λ s. Values q s out) d.2 k))
+          let one : strip l ≡ shown d.0 ∷ [] = ap strip (e ∙ sym (append-nil (map (handed shown) ins)))
+          ∙ handed_gives shown ins [] d.0 d.1.gives in
+          rw one (inl (v, q, ins, d.0, c, d.1, refl, subst (λ s. FutureValues q s out) d.2 k))
 
   unfolds_values : FutureLaws gives → (x y : F × Holding S V) (parts : List (Answer B × List (Answer B)))
-      → FoldsTo (λ s part t. Part call gives after shown s.0 s.1 (part.0 ∷ part.1) t.0 t.1) x parts y → Values x.0 x.1 (strip (flat_map (λ part. part.0 ∷ part.1) parts))
+      → FoldsTo (λ s part t. UnfoldPart call gives after shown s.0 s.1 (part.0 ∷ part.1) t.0 t.1) x parts y
+      → FutureValues x.0 x.1 (strip (flat_map (λ part. part.0 ∷ part.1) parts))
   unfolds_values laws x y [] h = tt
   unfolds_values laws x y (part ∷ parts) h =
       let rest = flat_map (λ part. part.0 ∷ part.1) parts in
-      subst (λ l. Values x.0 x.1 l) (sym (strip_join (part.0 ∷ part.1) rest)) (part_values laws x.0 h.0.0 x.1 h.0.1 (part.0 ∷ part.1) (strip rest) h.1 (unfolds_values laws h.0 y parts h.2))
+      subst (λ l. FutureValues x.0 x.1 l) (sym (strip_join (part.0 ∷ part.1) rest))
+      (part_values laws x.0 h.0.0 x.1 h.0.1 (part.0 ∷ part.1) (strip rest) h.1
+      (unfolds_values laws h.0 y parts h.2))
 
 -- by functions that make futures which are alike: `same` of values, `like` of seeds, `shows` of what goes out
-module _ {F S V O B : Type 0} (call : Mut F (S × Unit {0}) V) (ample : V → List (Poll O) → V → Type 0) {alike : V → V → Type 0} {same : O → O → Type 0}
-    (like : S → S → Type 0) (shows : Option B → Option B → Type 0) (s : SteadinessBy same ample alike) (after : O → Option S) (shown : O → Option B) where
-  current_alike : (p k q l : F) (x y : Holding S V) (v w : V) → AgreeFrom like alike (Calls call) p k → HoldingsBy like alike x y → IsCurrent call p x q v
+module _ {F S V O B : Type 0} (call : Mut F (S × Unit {0}) V) (ample : Runs (Poll O) V) {alike : V → V → Type 0}
+    {same : O → O → Type 0}
+    (like : S → S → Type 0) (shows : Option B → Option B → Type 0) (s : SteadinessBy same ample alike)
+    (after : O → Option S) (shown : O → Option B) where
+  current_alike : (p k q l : F) (x y : Holding S V) (v w : V) → AgreeFrom like alike (Calls call) p k
+      → HoldingsBy like alike x y → IsCurrent call p x q v
       → IsCurrent call k y l w
       → alike v w × AgreeFrom like alike (Calls call) q l
-  current_alike p k q l (Holding.Seed r) (Holding.Seed t) v w a e c d = agree_from_matches like alike (Calls call) p k q l r t v w a e c d
+  current_alike p k q l (Holding.Seed r) (Holding.Seed t) v w a e c d =
+      agree_from_matches like alike (Calls call) p k q l r t v w a e c d
   current_alike p k q l (Holding.Seed r) (Holding.Asked t) v w a e c d = absurd e
   current_alike p k q l (Holding.Seed r) Holding.Over v w a e c d = absurd e
   current_alike p k q l (Holding.Asked r) (Holding.Seed t) v w a e c d = absurd e
@@ -95,21 +125,27 @@ module _ {F S V O B : Type 0} (call : Mut F (S × Unit {0}) V) (ample : V → Li
   comes_alike (Some r) None e = absurd e
   comes_alike (Some r) (Some t) e = e
 
-  module _ (goes : (o p : O) → same o p → OptionBy like (after o) (after p)) (gives : (o p : O) → same o p → shows (shown o) (shown p))
+  module _ (goes : (o p : O) → same o p → OptionBy like (after o) (after p))
+      (gives : (o p : O) → same o p → shows (shown o) (shown p))
       (ends : shows None None) where
-    values_same : (p k : F) (x y : Holding S V) (o o' : List (Option B)) → AgreeFrom like alike (Calls call) p k → HoldingsBy like alike x y
-        → Values call ample after shown p x o
-        → Values call ample after shown k y o' → ComparableBy shows o o'
+    values_same : (p k : F) (x y : Holding S V) (o o' : List (Option B)) → AgreeFrom like alike (Calls call) p k
+        → HoldingsBy like alike x y
+        → FutureValues call ample after shown p x o
+        → FutureValues call ample after shown k y o' → ComparableBy shows o o'
     values_same p k x y [] o' a e h g = tt
     values_same p k x y (b ∷ o) [] a e h g = tt
     values_same p k x y (b ∷ o) (c ∷ o') a e (inl h) (inl g) =
         let f = current_alike p k h.1 g.1 x y h.0 g.0 a e h.4 g.4 in
         let value : same h.3 g.3 = alike_agrees ample h.0 g.0 (s h.0 g.0 f.0) h.2 g.2 h.3 g.3 h.5 g.5 in
         let next = comes_alike (after h.3) (after g.3) (goes h.3 g.3 value) in
-        rw (h.6, g.6) (gives h.3 g.3 value, values_same h.1 g.1 (comes (after h.3)) (comes (after g.3)) o o' f.1 next h.7 g.7)
-    values_same p k x y (b ∷ o) (c ∷ o') a e (inl h) (inr g) = absurd (not_over p h.1 x h.0 (subst (λ z. HoldingsBy like alike x z) g.0 e) h.4)
-    values_same p k x y (b ∷ o) (c ∷ o') a e (inr h) (inl g) = absurd (over_not k g.1 y g.0 (subst (λ z. HoldingsBy like alike z y) h.0 e) g.4)
-    values_same p k x y (b ∷ o) (c ∷ o') a e (inr h) (inr g) = rw (h.1, g.1) (ends, values_same p k Holding.Over Holding.Over o o' a tt h.2 g.2)
+        rw (h.6, g.6)
+        (gives h.3 g.3 value, values_same h.1 g.1 (comes (after h.3)) (comes (after g.3)) o o' f.1 next h.7 g.7)
+    values_same p k x y (b ∷ o) (c ∷ o') a e (inl h) (inr g) =
+        absurd (not_over p h.1 x h.0 (subst (λ z. HoldingsBy like alike x z) g.0 e) h.4)
+    values_same p k x y (b ∷ o) (c ∷ o') a e (inr h) (inl g) =
+        absurd (over_not k g.1 y g.0 (subst (λ z. HoldingsBy like alike z y) h.0 e) g.4)
+    values_same p k x y (b ∷ o) (c ∷ o') a e (inr h) (inr g) =
+        rw (h.1, g.1) (ends, values_same p k Holding.Over Holding.Over o o' a tt h.2 g.2)
 
 -- parts of values that are the same are, where both values have the part or neither
 module _ {O B : Type 0} (same : O → O → Type 0) (part : O → Option B) where
@@ -120,14 +156,18 @@ module _ {O B : Type 0} (same : O → O → Type 0) (part : O → Option B) wher
   standing o p (Some x) None r e d both = absurd both
   standing o p (Some x) (Some y) r e d both = (o, p, r, e, d)
 
-  parts_same : BothHave same part → (o p : O) → same o p → OptionBy (SameItem (PartOf (Sameness.by same) part)) (part o) (part p)
+  parts_same : BothHave same part → (o p : O) → same o p
+      → OptionBy (SameItem (PartOf (Sameness.by same) part)) (part o) (part p)
   parts_same both o p r = standing o p (part o) (part p) r refl refl (both o p r)
 
--- two that unfold are alike from seeds that are the same, by functions that agree from such seeds on, where values that are the same both have an
+-- two that unfold are alike from seeds that are the same, by functions that agree from such seeds on, where values that
+-- are the same both have an
 -- item or neither, and so a seed
-pub unfold_alike : {F S V O B : Type 0} (same : Sameness O) (alike : V → V → Type 0) (call : F → S → V → F → Type 0) (after : O → Option S)
+pub unfold_alike : {F S V O B : Type 0} (same : Sameness O) (alike : V → V → Type 0) (call : Question F S V)
+    (after : O → Option S)
     (shown : O → Option B) (x y : F × Holding S V)
-    → AgreeFrom (SameItem (PartOf same after)) alike call x.0 y.0 → HoldingsBy (SameItem (PartOf same after)) alike x.1 y.1
+    → AgreeFrom (SameItem (PartOf same after)) alike call x.0 y.0
+    → HoldingsBy (SameItem (PartOf same after)) alike x.1 y.1
     → BothHave (SameItem same) shown → BothHave (SameItem same) after
     → UnfoldAlike same alike call after shown x y
 unfold_alike Sameness.equal alike call after shown x y a h p q = (a, h)
@@ -137,89 +177,109 @@ unfold_alike (Sameness.by same) alike call after shown x y a h p q = (a, h, p, q
 pub equal_have : {O B : Type 0} (part : O → Option B) → BothHave (λ v w. v ≡ w) part
 equal_have part o p e = both_items Sameness.equal (part o) (part p) (ap part e)
 
-module _ {F S V O B : Type 0} (call : Mut F (S × Unit {0}) V) (ample : V → List (Poll O) → V → Type 0) {alike : V → V → Type 0} (after : O → Option S)
+module _ {F S V O B : Type 0} (call : Mut F (S × Unit {0}) V) (ample : Runs (Poll O) V) {alike : V → V → Type 0}
+    (after : O → Option S)
     (shown : O → Option B) where
   -- by how the values of the futures are compared
-  unfolds_same : (same : Sameness O) → SteadinessBy (SameItem same) ample alike → (x y : F × Holding S V) (o p : List (Option B))
+  unfolds_same : (same : Sameness O) → SteadinessBy (SameItem same) ample alike
+      → (x y : F × Holding S V) (o p : List (Option B))
       → UnfoldAlike same alike (Calls call) after shown x y
-      → Values call ample after shown x.0 x.1 o → Values call ample after shown y.0 y.1 p → ComparableBy (SameAnswer (PartOf same shown)) o p
+      → FutureValues call ample after shown x.0 x.1 o → FutureValues call ample after shown y.0 y.1 p
+      → ComparableBy (SameAnswer (PartOf same shown)) o p
   unfolds_same Sameness.equal s x y o p e h k =
-      values_same call ample (λ r t. r ≡ t) (λ b c. b ≡ c) s after shown (λ v w d. equal_options (after v) (after w) (ap after d)) (λ v w d. ap shown d) refl
+      values_same call ample (λ r t. r ≡ t) (λ b c. b ≡ c) s after shown
+      (λ v w d. equal_options (after v) (after w) (ap after d)) (λ v w d. ap shown d) refl
       x.0 y.0 x.1 y.1 o p e.0 e.1 h k
   unfolds_same (Sameness.by same) s x y o p e h k =
-      values_same call ample (SameItem (PartOf (Sameness.by same) after)) (SameAnswer (PartOf (Sameness.by same) shown)) s after shown
+      values_same call ample (SameItem (PartOf (Sameness.by same) after))
+      (SameAnswer (PartOf (Sameness.by same) shown)) s after shown
       (parts_same same after e.3) (parts_same same shown e.2) tt
       x.0 y.0 x.1 y.1 o p e.0 e.1 h k
 
 -- where no poll asks for memory
-module _ {F S V O B : Type 0} (call : Mut F (S × Unit {0}) V) {run ample : V → List (Poll O) → V → Type 0} (takes : TakesNone run ample) (after : O → Option S) (shown : O → Option B) where
-  leads_found : (v : V) (ins : List (Poll O)) (next : Holding S V) → Leads call run after shown v ins next → Leads call ample after shown v ins next
+module _ {F S V O B : Type 0} (call : Mut F (S × Unit {0}) V) {run ample : Runs (Poll O) V}
+    (takes : TakesNone run ample) (after : O → Option S) (shown : O → Option B) where
+  leads_found : (v : V) (ins : List (Poll O)) (next : Holding S V) → Leads call run after shown v ins next
+      → Leads call ample after shown v ins next
   leads_found v ins next (inl h) = inl (h.0, h.1, takes v h.0 ins h.2, h.3)
   leads_found v ins next (inr h) = inr (h.0, finishes_found takes v ins h.0 h.1, h.2)
 
-  part_found : (p q : F) (x y : Holding S V) (l : List (Answer B)) → Part call run after shown p x l q y → Part call ample after shown p x l q y
+  part_found : (p q : F) (x y : Holding S V) (l : List (Answer B)) → UnfoldPart call run after shown p x l q y
+      → UnfoldPart call ample after shown p x l q y
   part_found p q x y l (inl h) = inl (h.0, h.1, h.2, leads_found h.0 h.1 y h.3, h.4)
   part_found p q x y l (inr h) = inr h
 
-  parts_found : (x y : F × Holding S V) (parts : List (Answer B × List (Answer B))) → FoldsTo (λ s part t. Part call run after shown s.0 s.1 (part.0 ∷ part.1) t.0 t.1) x parts y
-      → FoldsTo (λ s part t. Part call ample after shown s.0 s.1 (part.0 ∷ part.1) t.0 t.1) x parts y
+  parts_found : (x y : F × Holding S V) (parts : List (Answer B × List (Answer B)))
+      → FoldsTo (λ s part t. UnfoldPart call run after shown s.0 s.1 (part.0 ∷ part.1) t.0 t.1) x parts y
+      → FoldsTo (λ s part t. UnfoldPart call ample after shown s.0 s.1 (part.0 ∷ part.1) t.0 t.1) x parts y
   parts_found x y [] h = h
-  parts_found x y (part ∷ parts) h = (h.0, part_found x.0 h.0.0 x.1 h.0.1 (part.0 ∷ part.1) h.1, parts_found h.0 y parts h.2)
+  parts_found x y (part ∷ parts) h =
+      (h.0, part_found x.0 h.0.0 x.1 h.0.1 (part.0 ∷ part.1) h.1, parts_found h.0 y parts h.2)
 
-module _ {F S V O B : Type 0} (call : Mut F (S × Unit {0}) V) {run ample : V → List (Poll O) → V → Type 0} {none : Type 0} {alike : V → V → Type 0} (after : O → Option S) (shown : O → Option B) where
+module _ {F S V O B : Type 0} (call : Mut F (S × Unit {0}) V) {run ample : Runs (Poll O) V} {none : Type 0}
+    {alike : V → V → Type 0} (after : O → Option S) (shown : O → Option B) where
   -- a source that holds such a pair
-  pub unfolds_steady : (same : Sameness O) {X : Type 0} (pair : X → F × Holding S V) {hints : X → ℕ × Option ℕ → Type 0}
+  pub unfolds_steady : (same : Sameness O) {X : Type 0} (pair : X → F × Holding S V) {hints : Hints X}
       → StreamLaws (λ x l y. Unfolds call ample after shown (pair x) l (pair y)) hints
       → FutureSteadyLawsBy same run ample none alike
       → SteadyLawsBy (PartOf same shown) (λ x l y. Unfolds call run after shown (pair x) l (pair y))
-      (λ x l y. Unfolds call ample after shown (pair x) l (pair y)) none (λ x y. UnfoldAlike same alike (Calls call) after shown (pair x) (pair y))
+      (λ x l y. Unfolds call ample after shown (pair x) l (pair y)) none
+      (λ x y. UnfoldAlike same alike (Calls call) after shown (pair x) (pair y))
   unfolds_steady same pair laws s =
       record {
         laws = runs_of laws;
         steady = λ x y e l m x' y' h k.
             rw (ap strip h.2, ap strip k.2)
             (unfolds_same call ample after shown same s.steady (pair x) (pair y) _ _ e
-            (unfolds_values call ample after shown s.laws (pair x) (pair x') h.0 h.1) (unfolds_values call ample after shown s.laws (pair y) (pair y') k.0 k.1));
+            (unfolds_values call ample after shown s.laws (pair x) (pair x') h.0 h.1)
+            (unfolds_values call ample after shown s.laws (pair y) (pair y') k.0 k.1));
         found = λ n x y l h. (h.0, parts_found call (s.found n) after shown (pair x) (pair y) h.0 h.1, h.2);
       }
 
 -- by a function that makes calm futures
-module _ {F S V O B : Type 0} (call : Mut F (S × Unit {0}) V) {run : V → List (Poll O) → V → Type 0} {calm : V → Type 0} (c : CalmLaws run calm) (after : O → Option S) (shown : O → Option B) where
+module _ {F S V O B : Type 0} (call : Mut F (S × Unit {0}) V) {run : Runs (Poll O) V} {calm : V → Type 0}
+    (c : CalmLaws run calm) (after : O → Option S) (shown : O → Option B) where
   -- the function makes calm futures, and one that is held is calm
   abbrev Calmly : F → Holding S V → Type 0
-  Calmly p x = AlwaysReturns call (λ s v. calm v) p × IfAsked x calm
+  Calmly p x = AlwaysReturns call (λ s v. calm v) p × IfHeldFuture x calm
 
-  current_calm : (p q : F) (x : Holding S V) (v : V) → Calmly p x → IsCurrent call p x q v → calm v × AlwaysReturns call (λ s v. calm v) q
+  current_calm : (p q : F) (x : Holding S V) (v : V) → Calmly p x → IsCurrent call p x q v → calm v
+      × AlwaysReturns call (λ s v. calm v) q
   current_calm p q (Holding.Seed s) v k h = call_promises call (λ s v. calm v) p (s, tt) v q k.0 h
   current_calm p q (Holding.Asked w) v k h = rw (h.0, h.1) (k.1, k.0)
   current_calm p q Holding.Over v k h = absurd h
 
-  comes_calm : (m : Option S) → IfAsked (comes m) calm
+  comes_calm : (m : Option S) → IfHeldFuture (comes m) calm
   comes_calm None = tt
   comes_calm (Some s) = tt
 
-  leads_calm : (v : V) (ins : List (Poll O)) (next : Holding S V) → calm v → Leads call run after shown v ins next → Prompt ins × IfAsked next calm
-  leads_calm v ins next k (inl h) = (c.prompt v h.0 ins k h.2, rw h.3 (c.calm_on v h.0 ins k h.2))
-  leads_calm v ins next k (inr h) = (c.prompt v h.1.last ins k h.1.came, rw h.2 (comes_calm (after h.0)))
+  leads_calm : (v : V) (ins : List (Poll O)) (next : Holding S V) → calm v → Leads call run after shown v ins next
+      → NoPending ins × IfHeldFuture next calm
+  leads_calm v ins next k (inl h) = (c.no_pending v h.0 ins k h.2, rw h.3 (c.calm_on v h.0 ins k h.2))
+  leads_calm v ins next k (inr h) = (c.no_pending v h.1.last ins k h.1.came, rw h.2 (comes_calm (after h.0)))
 
-  part_calm : (p q : F) (x y : Holding S V) (l : List (Answer B)) → Calmly p x → Part call run after shown p x l q y → Prompt l × Calmly q y
+  part_calm : (p q : F) (x y : Holding S V) (l : List (Answer B)) → Calmly p x
+      → UnfoldPart call run after shown p x l q y → NoPending l × Calmly q y
   part_calm p q x y l k (inl h) =
       let made = current_calm p q x h.0 k h.2 in
       let led = leads_calm h.0 h.1 y made.0 h.3 in
-      (rw h.4 (handed_prompt shown h.1 led.0), (made.1, led.1))
-  part_calm p q x y l k (inr h) = (answers_prompt None l h.2.0, (rw h.1 k.0, rw h.2.1 tt))
+      (rw h.4 (handed_no_pending shown h.1 led.0), (made.1, led.1))
+  part_calm p q x y l k (inr h) = (answers_no_pending None l h.2.0, (rw h.1 k.0, rw h.2.1 tt))
 
-  parts_calm : (x y : F × Holding S V) (parts : List (Answer B × List (Answer B))) → Calmly x.0 x.1 → FoldsTo (λ s part t. Part call run after shown s.0 s.1 (part.0 ∷ part.1) t.0 t.1) x parts y
-      → Prompt (flat_map (λ part. part.0 ∷ part.1) parts) × Calmly y.0 y.1
+  parts_calm : (x y : F × Holding S V) (parts : List (Answer B × List (Answer B))) → Calmly x.0 x.1
+      → FoldsTo (λ s part t. UnfoldPart call run after shown s.0 s.1 (part.0 ∷ part.1) t.0 t.1) x parts y
+      → NoPending (flat_map (λ part. part.0 ∷ part.1) parts) × Calmly y.0 y.1
   parts_calm x y [] k h = (tt, subst (λ s. Calmly s.0 s.1) h k)
   parts_calm x y (part ∷ parts) k h =
       let one = part_calm x.0 h.0.0 x.1 h.0.1 (part.0 ∷ part.1) k h.1 in
       let more = parts_calm h.0 y parts one.1 h.2 in
-      (prompt_join (part.0 ∷ part.1) (flat_map (λ part. part.0 ∷ part.1) parts) one.0 more.0, more.1)
+      (no_pending_join (part.0 ∷ part.1) (flat_map (λ part. part.0 ∷ part.1) parts) one.0 more.0, more.1)
 
-  pub unfolds_calm : {X : Type 0} (pair : X → F × Holding S V) → CalmLaws (λ x l y. Unfolds call run after shown (pair x) l (pair y)) (λ x. AlwaysReturns call (λ s v. calm v) (pair x).0 × IfAsked (pair x).1 calm)
+  pub unfolds_calm : {X : Type 0} (pair : X → F × Holding S V)
+      → CalmLaws (λ x l y. Unfolds call run after shown (pair x) l (pair y))
+      (λ x. AlwaysReturns call (λ s v. calm v) (pair x).0 × IfHeldFuture (pair x).1 calm)
   unfolds_calm pair =
       record {
-        prompt = λ x y l k h. rw h.2 (parts_calm (pair x) (pair y) h.0 k h.1).0;
+        no_pending = λ x y l k h. rw h.2 (parts_calm (pair x) (pair y) h.0 k h.1).0;
         calm_on = λ x y l k h. (parts_calm (pair x) (pair y) h.0 k h.1).1;
       }

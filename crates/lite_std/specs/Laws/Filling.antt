@@ -3,15 +3,20 @@ use Rattle.std.proofs.Common.{◌≡◌, ℕ, List}
 use Rattle.std.specs.Prelude.{Result}
 use Rattle.std.specs.declared.io.Error.{Error}
 use Rattle.futures.specs.declared.task.Poll.{Poll}
-use Rattle.lite_io_base.specs.Marks.{Mark, fill_marks}
-use Rattle.lite_io_base.specs.Runs.{Runs}
+use Rattle.lite_io_base.specs.Marks.{ReadMark, fill_marks}
 use Rattle.lite_read.specs.Laws.Polled.{polled_one}
-use Rattle.lite_read.specs.Polled.{Polled}
-use Rattle.lite_std.specs.Filling.{Fills}
+use Rattle.lite_read.specs.Polled.{PolledByCalls}
+use Rattle.lite_std.specs.Filling.{FillsLent}
 use Rattle.lite_std.specs.declared.filling.Filling.{Filling}
 use Rattle.std.proofs.Common.{[], ◌∷◌}
+use Rattle.lite_base.specs.Runs.{Runs}
 
 -- one poll of it
-pub filled_once : {T : Type 0} (reads : Runs Mark T) (lent : T → List ℕ) (x y : Filling T) (c : Poll (Result (Unit {0}) Error))
-    → reads x.io.now (fill_marks c (lent y.io.now)) y.io.now → y ≡ record x { io = record x.io { now = y.io.now } } → Polled (Fills reads lent) x (c ∷ []) y
-filled_once reads lent x y c came stays = polled_one (Fills reads lent) x y c (record { came = came; stays = stays })
+pub filled_once : {T : Type 0} (reads : Runs ReadMark T) (lent : T → List ℕ) (x y : Filling T)
+    (c : Poll (Result (Unit {0}) Error))
+    → reads x.io.now (fill_marks c (lent y.io.now)) y.io.now → y ≡ record x { io = record x.io { now = y.io.now } }
+    → PolledByCalls (FillsLent reads lent) x (c ∷ []) y
+filled_once reads lent x y c came stays = polled_one (FillsLent reads lent) x y c (record {
+  came = came;
+  stays = stays;
+})

@@ -3,44 +3,62 @@ use Rattle.std.proofs.Common.{◌≡◌, List, Option}
 use Rattle.lite_base.specs.Alike.{AlikeBy, SameAnswer, Sameness}
 use Rattle.lite_base.specs.Answers.{Answer, ComparableBy, strip}
 use Rattle.lite_base.specs.Steady.{SteadyLawsBy}
+use Rattle.lite_base.specs.Runs.{Runs}
 use Rattle.lite_stream.specs.Laws.Through.{Following, through_runs}
-use Rattle.lite_stream.specs.Through.{Adapts, Parts}
+use Rattle.lite_stream.specs.Through.{AdapterParts, Adapts}
 
 -- from what agrees, answers that are the same come of answers in that are, Pendings aside
-abbrev pub AgreeingFrom : {F A B : Type 0} → (Option A → Option A → Type 0) → (Option B → Option B → Type 0) → (F → List (Answer A) → List (Answer B) → F → Type 0) → (F → F → Type 0) → Type 0
-AgreeingFrom {F} {A} {B} like same turns agree =
-    (f k g l : F) (i j : List (Answer A)) (o p : List (Answer B)) → agree f k → turns f i o g → turns k j p l → ComparableBy like (strip i) (strip j) → ComparableBy same (strip o) (strip p)
+abbrev pub AgreeingFrom : {F A B : Type 0} → (Option A → Option A → Type 0) → (Option B → Option B → Type 0)
+    → (F → List (Answer A) → List (Answer B) → F → Type 0) → (F → F → Type 0) → Type 0
+AgreeingFrom {F} {A} {B} like same relates agree =
+    (f k g l : F) (i j : List (Answer A)) (o p : List (Answer B)) → agree f k → relates f i o g → relates k j p l
+    → ComparableBy like (strip i) (strip j) → ComparableBy same (strip o) (strip p)
 
-abbrev pub AgreeingOver : {F A B : Type 0} → Sameness A → Sameness B → (F → List (Answer A) → List (Answer B) → F → Type 0) → (F → F → Type 0) → Type 0
+abbrev pub AgreeingOver : {F A B : Type 0} → Sameness A → Sameness B
+    → (F → List (Answer A) → List (Answer B) → F → Type 0) → (F → F → Type 0) → Type 0
 AgreeingOver like same = AgreeingFrom (SameAnswer like) (SameAnswer same)
 
 -- equal ones come of equal ones
-abbrev pub Agreeing : {F A B : Type 0} → (F → List (Answer A) → List (Answer B) → F → Type 0) → (F → F → Type 0) → Type 0
+abbrev pub Agreeing : {F A B : Type 0} → (F → List (Answer A) → List (Answer B) → F → Type 0) → (F → F → Type 0)
+    → Type 0
 Agreeing = AgreeingFrom (λ x y. x ≡ y) (λ o p. o ≡ p)
 
-pub through_alike : {M S F A B : Type 0} (p : Parts M S F) {ample : S → List (Answer A) → S → Type 0}
-    {turns : F → List (Answer A) → List (Answer B) → F → Type 0}
+pub through_alike : {M S F A B : Type 0} (p : AdapterParts M S F) {ample : Runs (Answer A) S}
+    {relates : F → List (Answer A) → List (Answer B) → F → Type 0}
     {agree : F → F → Type 0} {like : Option A → Option A → Type 0} {same : Option B → Option B → Type 0} (x y : M)
-    → AlikeBy like ample (p.source x) (p.source y) → agree (p.held x) (p.held y) → AgreeingFrom like same turns agree → AlikeBy same (Adapts p ample turns) x y
+    → AlikeBy like ample (p.source x) (p.source y) → agree (p.held x) (p.held y) → AgreeingFrom like same relates agree
+    → AlikeBy same (Adapts p ample relates) x y
 through_alike p x y e a agrees l m x' y' h k =
-    agrees (p.held x) (p.held y) (p.held x') (p.held y') h.ins k.ins l m a h.turned k.turned (e h.ins k.ins (p.source x') (p.source y') h.came k.came)
+    agrees (p.held x) (p.held y) (p.held x') (p.held y') h.ins k.ins l m a h.related k.related
+    (e h.ins k.ins (p.source x') (p.source y') h.came k.came)
 
-module _ {M S F A B : Type 0} (p : Parts M S F) {run ample : S → List (Answer A) → S → Type 0} {needs_none : Type 0} {turns : F → List (Answer A) → List (Answer B) → F → Type 0} {alike : S → S → Type 0} {agree : F → F → Type 0} where
+module _ {M S F A B : Type 0} (p : AdapterParts M S F) {run ample : Runs (Answer A) S} {needs_none : Type 0}
+    {relates : F → List (Answer A) → List (Answer B) → F → Type 0} {alike : S → S → Type 0}
+    {agree : F → F → Type 0} where
   -- an adapter whose answers are others where memory was found
-  pub through_steady_by : (like : Sameness A) (same : Sameness B) {turns' : F → List (Answer A) → List (Answer B) → F → Type 0} {needs_none' : Type 0}
+  pub through_steady_by : (like : Sameness A) (same : Sameness B)
+      {relates' : F → List (Answer A) → List (Answer B) → F → Type 0} {needs_none' : Type 0}
       → SteadyLawsBy like run ample needs_none alike
-      → Following turns → AgreeingOver like same turns agree
-      → (needs_none' → needs_none × ((f g : F) (i : List (Answer A)) (o : List (Answer B)) → turns' f i o g → turns f i o g))
-      → SteadyLawsBy same (Adapts p run turns') (Adapts p ample turns) needs_none' (λ x y. alike (p.source x) (p.source y) × agree (p.held x) (p.held y))
+      → Following relates → AgreeingOver like same relates agree
+      → (needs_none' → needs_none
+      × ((f g : F) (i : List (Answer A)) (o : List (Answer B)) → relates' f i o g → relates f i o g))
+      → SteadyLawsBy same (Adapts p run relates') (Adapts p ample relates) needs_none'
+      (λ x y. alike (p.source x) (p.source y) × agree (p.held x) (p.held y))
   through_steady_by like same s t agrees found =
       record {
         laws = through_runs p s.laws t;
         steady = λ x y e. through_alike p x y (s.steady (p.source x) (p.source y) e.0) e.1 agrees;
-        found = λ n x y l h. record { ins = h.ins; came = s.found (found n).0 (p.source x) (p.source y) h.ins h.came; turned = (found n).1 (p.held x) (p.held y) h.ins l h.turned };
+        found = λ n x y l h. record {
+          ins = h.ins;
+          came = s.found (found n).0 (p.source x) (p.source y) h.ins h.came;
+          related = (found n).1 (p.held x) (p.held y) h.ins l h.related;
+        };
       }
 
   -- one that takes no memory itself
-  pub through_steady_over : (like : Sameness A) (same : Sameness B) → SteadyLawsBy like run ample needs_none alike → Following turns
-      → AgreeingOver like same turns agree
-      → SteadyLawsBy same (Adapts p run turns) (Adapts p ample turns) needs_none (λ x y. alike (p.source x) (p.source y) × agree (p.held x) (p.held y))
+  pub through_steady_over : (like : Sameness A) (same : Sameness B) → SteadyLawsBy like run ample needs_none alike
+      → Following relates
+      → AgreeingOver like same relates agree
+      → SteadyLawsBy same (Adapts p run relates) (Adapts p ample relates) needs_none
+      (λ x y. alike (p.source x) (p.source y) × agree (p.held x) (p.held y))
   through_steady_over like same s t agrees = through_steady_by like same s t agrees (λ n. (n, λ f g i o h. h))

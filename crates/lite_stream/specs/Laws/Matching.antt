@@ -4,10 +4,11 @@ use Rattle.std.proofs.Common.{◌≡◌, ◌∙◌, refl, sym}
 use denote.Ref.{Bor}
 use Rattle.lite_base.specs.Alike.{SameItem, Sameness}
 use Rattle.lite_base.specs.Laws.Alike.{made_same}
-use Rattle.lite_stream.specs.Copied.{Copies, Referred}
+use Rattle.lite_stream.specs.Copied.{CopiesItem, Referred}
 use Rattle.lite_stream.specs.Enumerate.{Numbers}
-use Rattle.lite_stream.specs.Inspect.{Shows}
+use Rattle.lite_stream.specs.Inspect.{ShowsItem}
 use Rattle.lite_base.specs.Laws.Calling.{Matches, MatchesFrom}
+use Rattle.lite_base.specs.Runs.{Question}
 
 module _ {A : Type 0} where
   -- from one number on
@@ -15,9 +16,12 @@ module _ {A : Type 0} where
   numbers_match f k g l x y z a c d = (rw (c.0, d.0, a) refl, rw (c.1, d.1, a) refl)
 
   -- copies of what references that are the same refer to
-  pub copies_match : (like : Sameness (Bor A)) → MatchesFrom (SameItem like) (SameItem (Referred like)) Copies (λ p q. ⊤)
-  copies_match like f k g l x w y z a e c d = (made_same like (λ r v. v ≡ r.now) (λ r v u p q. p ∙ sym q) x w y z e c d, tt)
+  pub copies_match : (like : Sameness (Bor A))
+      → MatchesFrom (SameItem like) (SameItem (Referred like)) CopiesItem (λ p q. ⊤)
+  copies_match like f k g l x w y z a e c d =
+      (made_same like (λ r v. v ≡ r.now) (λ r v u p q. p ∙ sym q) x w y z e c d, tt)
 
   -- whatever it is shown to
-  pub shows_match : {F : Type 0} (look : F → A → Unit {0} → F → Type 0) (like : A → A → Type 0) → MatchesFrom like like (Shows look) (λ p q. ⊤)
+  pub shows_match : {F : Type 0} (look : Question F A (Unit {0})) (like : A → A → Type 0)
+      → MatchesFrom like like (ShowsItem look) (λ p q. ⊤)
   shows_match look like f k g l x w y z a e c d = (rw (c.0, d.0) e, tt)

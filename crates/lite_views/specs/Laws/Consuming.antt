@@ -1,16 +1,19 @@
 -- The value of a future that consumes a stream, by the items of the stream.
-use Rattle.std.proofs.Common.{◌≡◌, ◌∙◌, ◌⊎◌, ◌<◌, ◌^◌, ℕ, suc, ◌+◌, List, [], ◌∷◌, ◌++◌, length, map, inl, inr, refl, ap, sym, subst, arith, append_assoc}
-use Rattle.std.proofs.Common.{append-nil}
+use Rattle.std.proofs.Common.{◌≡◌, ◌∙◌, ◌⊎◌, ◌<◌, ◌^◌, ℕ, suc, ◌+◌, List, [], ◌∷◌, ◌++◌, length, map, inl, inr, refl}
+use Rattle.std.proofs.Common.{ap, sym, subst, arith, append_assoc, append-nil}
 use Rattle.std.proofs.Math.Bool.{not-not}
 use Rattle.std.proofs.Math.Dec.{leb, leb-suc-suc, leb-zero}
-use Rattle.std.specs.Prelude.{⊤, Bool, true, false, cond, not, nat_lt, Option, Some, None, Result, Ok, Err, IfOk, IfErr, IsSome, IfSome, option_map}
+use Rattle.std.specs.Prelude.{⊤, Bool, true, false, cond, not, nat_lt, Option, Some, None, Result, Ok, Err, IfOk, IfErr}
+use Rattle.std.specs.Prelude.{IsSome, IfSome, option_map}
 use Rattle.std.specs.Option.{option_transpose}
 use Rattle.std.specs.Result.{ok_prefix}
-use Rattle.std.specs.List.{FoldsTo, filter, filter_map, fold, last_or, list_all, list_any, find, position, position_or_len, slice_get}
+use Rattle.std.specs.List.{FoldsTo, filter, filter_map, fold, last_or, list_all, list_any, find, position}
+use Rattle.std.specs.List.{position_or_len, slice_get}
 use Rattle.futures.specs.declared.task.Poll.{Poll}
 use Rattle.futures.specs.declared.task.Poll.TheVariants.{Ready, Pending}
 use Rattle.lite_base.specs.Answers.{Answer, Gives}
 use Rattle.lite_base.specs.Future.Finishes.{Finishes}
+use Rattle.lite_base.specs.Runs.{Question, Runs}
 use Rattle.lite_consume.specs.All.{alls}
 use Rattle.lite_consume.specs.Any.{anys}
 use Rattle.lite_consume.specs.Consume.{Folds}
@@ -40,95 +43,114 @@ use Rattle.lite_views.specs.Views.{Fits}
 
 module _ {M A R : Type 0} (fold : Fold M A R) where
   -- of these items, and then an end, or of those up to one that decides, the value r is made
-  abbrev pub Settles : M → List A → R → Type 0
-  Settles p [] r = (q : M) × fold.closes p r q
-  Settles p (x ∷ xs) r = ((q : M) × fold.asks p x None q × Settles q xs r) ⊎ ((q : M) × fold.asks p x (Some r) q)
+  abbrev pub MakesOf : M → List A → R → Type 0
+  MakesOf p [] r = (q : M) × fold.closes p r q
+  MakesOf p (x ∷ xs) r = ((q : M) × fold.asks p x None q × MakesOf q xs r) ⊎ ((q : M) × fold.asks p x (Some r) q)
 
-  taken_settles : (zs : List A) (p q : M) (xs : List A) (r : R) → FoldsTo (TakesIn fold) p zs q → Settles q xs r → Settles p (zs ++ xs) r
-  taken_settles [] p q xs r h s = subst (λ z. Settles z xs r) (sym h) s
-  taken_settles (z ∷ zs) p q xs r h s = inl (h.0, h.1, taken_settles zs h.0 q xs r h.2 s)
+  taken_makes : (zs : List A) (p q : M) (xs : List A) (r : R) → FoldsTo (TakesIn fold) p zs q → MakesOf q xs r
+      → MakesOf p (zs ++ xs) r
+  taken_makes [] p q xs r h s = subst (λ z. MakesOf z xs r) (sym h) s
+  taken_makes (z ∷ zs) p q xs r h s = inl (h.0, h.1, taken_makes zs h.0 q xs r h.2 s)
 
-  decided_settles : (p q : M) (a : Answer A) (xs : List A) (r : R) → Fits (a ∷ []) xs → Decides fold p a r q → Settles p xs r
-  decided_settles p q Pending xs r e h = absurd h
-  decided_settles p q (Ready None) xs r e h = subst (λ l. Settles p l r) (sym e) (q, h)
-  decided_settles p q (Ready (Some x)) [] r e h = absurd e
-  decided_settles p q (Ready (Some x)) (y ∷ xs) r e h = inr (q, subst (λ z. fold.asks p z (Some r) q) e.0 h)
+  decided_makes : (p q : M) (a : Answer A) (xs : List A) (r : R) → Fits (a ∷ []) xs → Decides fold p a r q
+      → MakesOf p xs r
+  decided_makes p q Pending xs r e h = absurd h
+  decided_makes p q (Ready None) xs r e h = subst (λ l. MakesOf p l r) (sym e) (q, h)
+  decided_makes p q (Ready (Some x)) [] r e h = absurd e
+  decided_makes p q (Ready (Some x)) (y ∷ xs) r e h = inr (q, subst (λ z. fold.asks p z (Some r) q) e.0 h)
 
-  pub settles : (p q : M) (i : List (Answer A)) (l : List (Poll R)) (xs : List A) (r : R) → Fits i xs → Gives l r → Consumes fold p i l q → Settles p xs r
+  pub settles : (p q : M) (i : List (Answer A)) (l : List (Poll R)) (xs : List A) (r : R) → Fits i xs → Gives l r
+      → Consumes fold p i l q → MakesOf p xs r
   settles p q i [] xs r e g h = absurd g
   settles p q i (Pending ∷ l) xs r e g (rest, m, w, more) =
       let cut = fits_items w.taken (Pending ∷ rest) xs (subst (λ k. Fits k xs) w.cut e) in
-      subst (λ k. Settles p k r) (sym cut.1) (taken_settles w.taken p m cut.0 r w.folds (settles m q rest l cut.0 r cut.2 g more))
+      subst (λ k. MakesOf p k r) (sym cut.1)
+      (taken_makes w.taken p m cut.0 r w.folds (settles m q rest l cut.0 r cut.2 g more))
   settles p q i (Ready v ∷ l) xs r e g (w, none) =
       let cut = fits_items w.taken (w.last ∷ []) xs (subst (λ k. Fits k xs) w.cut e) in
       let value : Decides fold w.between w.last r q = subst (λ z. Decides fold w.between w.last z q) g.0 w.decides in
-      subst (λ k. Settles p k r) (sym cut.1) (taken_settles w.taken p w.between cut.0 r w.folds (decided_settles w.between q w.last cut.0 r cut.2 value))
+      subst (λ k. MakesOf p k r) (sym cut.1)
+      (taken_makes w.taken p w.between cut.0 r w.folds (decided_makes w.between q w.last cut.0 r cut.2 value))
 
-  pub finished_settles : {S : Type 0} (run : S → List (Answer A) → S → Type 0) (x : Consume S M) (ins : List (Poll R)) (v : R) (xs : List A)
-      → ((l : List (Answer A)) (t : S) → run x.stream l t → Fits l xs) → Finishes (Folds run fold) x ins v → Settles x.folder xs v
-  finished_settles run x ins v xs lists f =
-      settles x.folder f.last.folder f.came.ins ins xs v (lists f.came.ins f.last.stream f.came.came) f.gives f.came.consumed
+  pub finished_makes : {S : Type 0} (run : Runs (Answer A) S) (x : Consume S M) (ins : List (Poll R)) (v : R)
+      (xs : List A)
+      → ((l : List (Answer A)) (t : S) → run x.stream l t → Fits l xs) → Finishes (Folds run fold) x ins v
+      → MakesOf x.folder xs v
+  finished_makes run x ins v xs lists f =
+      settles x.folder f.last.folder f.came.ins ins xs v
+      (lists f.came.ins f.last.stream f.came.came) f.gives f.came.consumed
 
 -- `fold`
-pub fold_settled : {N F T A : Type 0} (f_of : N → F) (acc_of : N → Option T) (call : F → T × A → T → F → Type 0) (h : T → A → T) (f : F)
+pub fold_made : {N F T A : Type 0} (f_of : N → F) (acc_of : N → Option T) (call : F → T × A → T → F → Type 0)
+    (h : T → A → T) (f : F)
     → ((a : T) (x : A) (b : T) (g : F) → call f (a, x) b g → (g ≡ f) × (b ≡ h a x))
-    → (p : N) (a : T) (xs : List A) (v : T) → f_of p ≡ f → acc_of p ≡ Some a → Settles (fold_of (λ m. (f_of m, acc_of m)) (folds call)) p xs v → v ≡ fold h a xs
-fold_settled f_of acc_of call h f acts p a [] v e d (q, s) = let k = s.0 in cc
-fold_settled f_of acc_of call h f acts p a (x ∷ xs) v e d (inr (q, s)) = absurd s
-fold_settled {T = T} f_of acc_of call h f acts p a (x ∷ xs) v e d (inl (q, s, more)) =
+    → (p : N) (a : T) (xs : List A) (v : T) → f_of p ≡ f → acc_of p ≡ Some a
+    → MakesOf (fold_of (λ m. (f_of m, acc_of m)) (folds call)) p xs v → v ≡ fold h a xs
+fold_made f_of acc_of call h f acts p a [] v e d (q, s) = let k = s.0 in cc
+fold_made f_of acc_of call h f acts p a (x ∷ xs) v e d (inr (q, s)) = absurd s
+fold_made {T = T} f_of acc_of call h f acts p a (x ∷ xs) v e d (inl (q, s, more)) =
     let same : s.0 ≡ a = (let k = s.2 in cc) in
     let step = acts s.0 x s.1 (f_of q) (subst (λ z. call z (s.0, x) s.1 (f_of q)) e s.3) in
     let next : s.1 ≡ h a x = step.1 ∙ ap (λ z. h z x) same in
-    fold_settled f_of acc_of call h f acts q (h a x) xs v step.0 (s.4 ∙ ap (λ z. Some z) next) more
+    fold_made f_of acc_of call h f acts q (h a x) xs v step.0 (s.4 ∙ ap (λ z. Some z) next) more
 
 -- `count`
-pub count_settled : {N A : Type 0} (count_of : N → ℕ) (p : N) (xs : List A) (v : ℕ) → count_of p + length xs < 2 ^ 64
-    → Settles (fold_of count_of (counts {A = A})) p xs v → v ≡ count_of p + length xs
-count_settled count_of p [] v b (q, s) = s.0 ∙ (omega arith)
-count_settled count_of p (x ∷ xs) v b (inr (q, s)) = let k = s.0 in absurd (cc)
-count_settled count_of p (x ∷ xs) v b (inl (q, s, more)) =
+pub count_made : {N A : Type 0} (count_of : N → ℕ) (p : N) (xs : List A) (v : ℕ) → count_of p + length xs < 2 ^ 64
+    → MakesOf (fold_of count_of (counts {A = A})) p xs v → v ≡ count_of p + length xs
+count_made count_of p [] v b (q, s) = s.0 ∙ (omega arith)
+count_made count_of p (x ∷ xs) v b (inr (q, s)) = let k = s.0 in absurd (cc)
+count_made count_of p (x ∷ xs) v b (inl (q, s, more)) =
     let small : count_of p + 1 < 2 ^ 64 = omega arith in
     let next : count_of q ≡ count_of p + 1 = (let k = s.1 in omega arith) in
     let fits : count_of q + length xs < 2 ^ 64 = omega arith in
-    let rest : v ≡ count_of q + length xs = count_settled count_of q xs v fits more in
+    let rest : v ≡ count_of q + length xs = count_made count_of q xs v fits more in
     omega arith
 
-pub counted_settled : {N A : Type 0} (count_of : N → ℕ) (p : N) (xs : List A) (v : ℕ) → count_of p ≡ 0 → length xs < 2 ^ 64
-    → Settles (fold_of count_of (counts {A = A})) p xs v → v ≡ length xs
-counted_settled count_of p xs v none small s =
+pub counted_made : {N A : Type 0} (count_of : N → ℕ) (p : N) (xs : List A) (v : ℕ) → count_of p ≡ 0 → length xs < 2 ^ 64
+    → MakesOf (fold_of count_of (counts {A = A})) p xs v → v ≡ length xs
+counted_made count_of p xs v none small s =
     let fits : count_of p + length xs < 2 ^ 64 = omega arith in
-    let e = count_settled count_of p xs v fits s in
+    let e = count_made count_of p xs v fits s in
     omega arith
 
 -- `next`
-pub next_settled : {M A : Type 0} (p : M) (xs : List A) (v : Option A) → Settles (nexts {M = M} {A = A}) p xs v → v ≡ slice_get xs 0
-next_settled p [] v (q, s) = s
-next_settled p (x ∷ xs) v (inl (q, s, more)) = absurd s
-next_settled p (x ∷ xs) v (inr (q, s)) = s
+pub next_made : {M A : Type 0} (p : M) (xs : List A) (v : Option A) → MakesOf (nexts {M = M} {A = A}) p xs v
+    → v ≡ slice_get xs 0
+next_made p [] v (q, s) = s
+next_made p (x ∷ xs) v (inl (q, s, more)) = absurd s
+next_made p (x ∷ xs) v (inr (q, s)) = s
 
 -- a closure that acts as `test`
-module _ {F A O : Type 0} (asked : F → A → O → F → Type 0) (test : A → O) (f : F)
+module _ {F A O : Type 0} (asked : Question F A O) (test : A → O) (f : F)
     (acts : (x : A) (o : O) (g : F) → asked f x o g → (g ≡ f) × (o ≡ test x)) where
   answered : (p : F) (x : A) (o : O) (q : F) → p ≡ f → asked p x o q → (q ≡ f) × (test x ≡ o)
   answered p x o q e h = let a = acts x o q (subst (λ z. asked z x o q) e h) in (a.0, sym a.1)
 
 -- `all`, `any`, `find`, `position`
-module _ {N F A : Type 0} (f_of : N → F) (asked : F → A → Bool → F → Type 0) (test : A → Bool) (f : F)
+module _ {N F A : Type 0} (f_of : N → F) (asked : Question F A Bool) (test : A → Bool) (f : F)
     (acts : (x : A) (b : Bool) (g : F) → asked f x b g → (g ≡ f) × (b ≡ test x)) where
-  pub all_settled : (p : N) (xs : List A) (v : Bool) → f_of p ≡ f → Settles (fold_of f_of (alls asked)) p xs v → v ≡ list_all test xs
-  all_settled p [] v e (q, s) = s.0
-  all_settled p (x ∷ xs) v e (inl (q, s, more)) = let a = answered asked test f acts (f_of p) x true (f_of q) e s in rw a.1 (all_settled q xs v a.0 more)
-  all_settled p (x ∷ xs) v e (inr (q, s)) = let a = answered asked test f acts (f_of p) x false (f_of q) e s.1 in rw a.1 s.0
+  pub all_made : (p : N) (xs : List A) (v : Bool) → f_of p ≡ f → MakesOf (fold_of f_of (alls asked)) p xs v
+      → v ≡ list_all test xs
+  all_made p [] v e (q, s) = s.0
+  all_made p (x ∷ xs) v e (inl (q, s, more)) =
+      let a = answered asked test f acts (f_of p) x true (f_of q) e s in rw a.1 (all_made q xs v a.0 more)
+  all_made p (x ∷ xs) v e (inr (q, s)) =
+      let a = answered asked test f acts (f_of p) x false (f_of q) e s.1 in rw a.1 s.0
 
-  pub any_settled : (p : N) (xs : List A) (v : Bool) → f_of p ≡ f → Settles (fold_of f_of (anys asked)) p xs v → v ≡ list_any test xs
-  any_settled p [] v e (q, s) = s.0
-  any_settled p (x ∷ xs) v e (inl (q, s, more)) = let a = answered asked test f acts (f_of p) x false (f_of q) e s in rw a.1 (any_settled q xs v a.0 more)
-  any_settled p (x ∷ xs) v e (inr (q, s)) = let a = answered asked test f acts (f_of p) x true (f_of q) e s.1 in rw a.1 s.0
+  pub any_made : (p : N) (xs : List A) (v : Bool) → f_of p ≡ f → MakesOf (fold_of f_of (anys asked)) p xs v
+      → v ≡ list_any test xs
+  any_made p [] v e (q, s) = s.0
+  any_made p (x ∷ xs) v e (inl (q, s, more)) =
+      let a = answered asked test f acts (f_of p) x false (f_of q) e s in rw a.1 (any_made q xs v a.0 more)
+  any_made p (x ∷ xs) v e (inr (q, s)) = let a = answered asked test f acts (f_of p) x true (f_of q) e s.1 in rw a.1 s.0
 
-  pub find_settled : (p : N) (xs : List A) (v : Option A) → f_of p ≡ f → Settles (fold_of f_of (finds asked)) p xs v → v ≡ find test xs
-  find_settled p [] v e (q, s) = s.0
-  find_settled p (x ∷ xs) v e (inl (q, s, more)) = let a = answered asked test f acts (f_of p) x false (f_of q) e s in rw a.1 (find_settled q xs v a.0 more)
-  find_settled p (x ∷ xs) v e (inr (q, s)) = let a = answered asked test f acts (f_of p) x true (f_of q) e s.1 in rw a.1 s.0
+  pub find_made : (p : N) (xs : List A) (v : Option A) → f_of p ≡ f → MakesOf (fold_of f_of (finds asked)) p xs v
+      → v ≡ find test xs
+  find_made p [] v e (q, s) = s.0
+  find_made p (x ∷ xs) v e (inl (q, s, more)) =
+      let a = answered asked test f acts (f_of p) x false (f_of q) e s in rw a.1 (find_made q xs v a.0 more)
+  find_made p (x ∷ xs) v e (inr (q, s)) =
+      let a = answered asked test f acts (f_of p) x true (f_of q) e s.1 in rw a.1 s.0
 
   position_later : (x : A) (xs : List A) → test x ≡ false → position test (x ∷ xs) ≡ option_map suc (position test xs)
   position_later x xs h =
@@ -140,140 +162,165 @@ module _ {N F A : Type 0} (f_of : N → F) (asked : F → A → Bool → F → T
       one_more true n = refl
       one_more false n = refl
 
-  pub positioned_settled : (number_of : N → ℕ) (p : N) (xs : List A) (v : Option ℕ) → f_of p ≡ f → number_of p + length xs < 2 ^ 64
-      → Settles (fold_of (λ m. (f_of m, number_of m)) (positions asked)) p xs v → v ≡ option_map (λ k. number_of p + k) (position test xs)
-  positioned_settled number_of p [] v e b (q, s) = s.0
-  positioned_settled number_of p (x ∷ xs) v e b (inr (q, s)) =
+  pub positioned_made : (number_of : N → ℕ) (p : N) (xs : List A) (v : Option ℕ) → f_of p ≡ f
+      → number_of p + length xs < 2 ^ 64
+      → MakesOf (fold_of (λ m. (f_of m, number_of m)) (positions asked)) p xs v
+      → v ≡ option_map (λ k. number_of p + k) (position test xs)
+  positioned_made number_of p [] v e b (q, s) = s.0
+  positioned_made number_of p (x ∷ xs) v e b (inr (q, s)) =
       let a = answered asked test f acts (f_of p) x true (f_of q) e s.1 in
       let here : number_of p ≡ number_of p + 0 = omega arith in
       let below : leb 1 (suc (length xs)) ≡ true = leb-suc-suc 0 (length xs) ∙ leb-zero (length xs) in
       s.0 ∙ rw (a.1, below) (ap (λ k. Some k) here)
-  positioned_settled number_of p (x ∷ xs) v e b (inl (q, s, more)) =
+  positioned_made number_of p (x ∷ xs) v e b (inl (q, s, more)) =
       let a = answered asked test f acts (f_of p) x false (f_of q) e s.0 in
       let next : number_of q ≡ number_of p + 1 = (let k = s.1 in omega arith) in
       let fits : number_of q + length xs < 2 ^ 64 = omega arith in
-      positioned_settled number_of q xs v a.0 fits more ∙ from_next (number_of p) (number_of q) (position test xs) next
+      positioned_made number_of q xs v a.0 fits more ∙ from_next (number_of p) (number_of q) (position test xs) next
       ∙ ap (option_map (λ k. number_of p + k)) (sym (position_later x xs a.1))
     where
-      from_next : (i j : ℕ) (o : Option ℕ) → j ≡ i + 1 → option_map (λ k. j + k) o ≡ option_map (λ k. i + k) (option_map suc o)
+      from_next : (i j : ℕ) (o : Option ℕ) → j ≡ i + 1
+          → option_map (λ k. j + k) o ≡ option_map (λ k. i + k) (option_map suc o)
       from_next i j None h = refl
       from_next i j (Some k) h = let e : j + k ≡ i + suc k = omega (arith, h) in ap (λ n. Some n) e
 
-  pub position_settled : (number_of : N → ℕ) (p : N) (xs : List A) (v : Option ℕ) → f_of p ≡ f → number_of p ≡ 0 → length xs < 2 ^ 64
-      → Settles (fold_of (λ m. (f_of m, number_of m)) (positions asked)) p xs v → v ≡ position test xs
-  position_settled number_of p xs v e none small s =
+  pub position_made : (number_of : N → ℕ) (p : N) (xs : List A) (v : Option ℕ) → f_of p ≡ f → number_of p ≡ 0
+      → length xs < 2 ^ 64
+      → MakesOf (fold_of (λ m. (f_of m, number_of m)) (positions asked)) p xs v → v ≡ position test xs
+  position_made number_of p xs v e none small s =
       let fits : number_of p + length xs < 2 ^ 64 = omega arith in
-      positioned_settled number_of p xs v e fits s ∙ from_zero (position test xs)
+      positioned_made number_of p xs v e fits s ∙ from_zero (position test xs)
     where
       from_zero : (o : Option ℕ) → option_map (λ k. number_of p + k) o ≡ o
       from_zero None = refl
       from_zero (Some k) = let e : number_of p + k ≡ k = omega (arith, none) in ap (λ n. Some n) e
 
 -- `last`
-pub last_settled : {N A : Type 0} (last_of : N → Option A) (p : N) (xs : List A) (v : Option A) → Settles (fold_of last_of lasts) p xs v
+pub last_made : {N A : Type 0} (last_of : N → Option A) (p : N) (xs : List A) (v : Option A)
+    → MakesOf (fold_of last_of lasts) p xs v
     → v ≡ last_or (last_of p) xs
-last_settled last_of p [] v (q, s) = s
-last_settled last_of p (x ∷ xs) v (inl (q, s, more)) = last_settled last_of q xs v more ∙ ap (λ o. last_or o xs) s.1
-last_settled last_of p (x ∷ xs) v (inr (q, s)) = let k = s.0 in absurd (cc)
+last_made last_of p [] v (q, s) = s
+last_made last_of p (x ∷ xs) v (inl (q, s, more)) = last_made last_of q xs v more ∙ ap (λ o. last_or o xs) s.1
+last_made last_of p (x ∷ xs) v (inr (q, s)) = let k = s.0 in absurd (cc)
 
 -- `nth`
-pub nth_settled : {N A : Type 0} (n_of : N → ℕ) (p : N) (xs : List A) (v : Option A) → Settles (fold_of n_of nths) p xs v → v ≡ slice_get xs (n_of p)
-nth_settled n_of p [] v (q, s) = s.0
-nth_settled n_of p (x ∷ xs) v (inl (q, s, more)) =
+pub nth_made : {N A : Type 0} (n_of : N → ℕ) (p : N) (xs : List A) (v : Option A) → MakesOf (fold_of n_of nths) p xs v
+    → v ≡ slice_get xs (n_of p)
+nth_made n_of p [] v (q, s) = s.0
+nth_made n_of p (x ∷ xs) v (inl (q, s, more)) =
     let e : n_of p ≡ suc (n_of q) = omega arith in
-    nth_settled n_of q xs v more ∙ ap (λ n. slice_get (x ∷ xs) n) (sym e)
-nth_settled n_of p (x ∷ xs) v (inr (q, s)) = s.1 ∙ ap (λ n. slice_get (x ∷ xs) n) (sym s.0)
+    nth_made n_of q xs v more ∙ ap (λ n. slice_get (x ∷ xs) n) (sym e)
+nth_made n_of p (x ∷ xs) v (inr (q, s)) = s.1 ∙ ap (λ n. slice_get (x ∷ xs) n) (sym s.0)
 
 -- `find_map`, `try_for_each`
-module _ {N F A B : Type 0} (f_of : N → F) (call : F → A → Option B → F → Type 0) (h : A → Option B) (f : F)
+module _ {N F A B : Type 0} (f_of : N → F) (call : Question F A (Option B)) (h : A → Option B) (f : F)
     (acts : (x : A) (o : Option B) (g : F) → call f x o g → (g ≡ f) × (o ≡ h x)) where
-  pub find_map_settled : (p : N) (xs : List A) (v : Option B) → f_of p ≡ f → Settles (fold_of f_of (finds_map call)) p xs v → v ≡ slice_get (filter_map h xs) 0
-  find_map_settled p [] v e (q, s) = s.0
-  find_map_settled p (x ∷ xs) v e (inl (q, s, more)) = let a = answered call h f acts (f_of p) x None (f_of q) e s in rw a.1 (find_map_settled q xs v a.0 more)
-  find_map_settled p (x ∷ xs) None e (inr (q, s)) = absurd (cc s.0)
-  find_map_settled p (x ∷ xs) (Some y) e (inr (q, s)) = let a = answered call h f acts (f_of p) x (Some y) (f_of q) e s.1 in rw a.1 refl
+  pub find_map_made : (p : N) (xs : List A) (v : Option B) → f_of p ≡ f → MakesOf (fold_of f_of (finds_map call)) p xs v
+      → v ≡ slice_get (filter_map h xs) 0
+  find_map_made p [] v e (q, s) = s.0
+  find_map_made p (x ∷ xs) v e (inl (q, s, more)) =
+      let a = answered call h f acts (f_of p) x None (f_of q) e s in rw a.1 (find_map_made q xs v a.0 more)
+  find_map_made p (x ∷ xs) None e (inr (q, s)) = absurd (cc s.0)
+  find_map_made p (x ∷ xs) (Some y) e (inr (q, s)) =
+      let a = answered call h f acts (f_of p) x (Some y) (f_of q) e s.1 in rw a.1 refl
 
-module _ {N F A E : Type 0} (f_of : N → F) (call : F → A → Result (Unit {0}) E → F → Type 0) (h : A → Result (Unit {0}) E) (f : F)
+module _ {N F A E : Type 0} (f_of : N → F) (call : Question F A (Result (Unit {0}) E)) (h : A → Result (Unit {0}) E)
+    (f : F)
     (acts : (x : A) (o : Result (Unit {0}) E) (g : F) → call f x o g → (g ≡ f) × (o ≡ h x)) where
-  pub try_for_each_settled : (p : N) (xs : List A) (v : Result (Unit {0}) E) → f_of p ≡ f → Settles (fold_of f_of (tries_each call)) p xs v
+  pub try_for_each_made : (p : N) (xs : List A) (v : Result (Unit {0}) E) → f_of p ≡ f
+      → MakesOf (fold_of f_of (tries_each call)) p xs v
       → v ≡ first_error (map h xs)
-  try_for_each_settled p [] v e (q, s) = s.0
-  try_for_each_settled p (x ∷ xs) v e (inl (q, s, more)) =
-      let a = answered call h f acts (f_of p) x (Ok tt) (f_of q) e s in rw a.1 (try_for_each_settled q xs v a.0 more)
-  try_for_each_settled p (x ∷ xs) (Ok u) e (inr (q, s)) = absurd (cc s.0)
-  try_for_each_settled p (x ∷ xs) (Err w) e (inr (q, s)) = let a = answered call h f acts (f_of p) x (Err w) (f_of q) e s.1 in rw a.1 refl
+  try_for_each_made p [] v e (q, s) = s.0
+  try_for_each_made p (x ∷ xs) v e (inl (q, s, more)) =
+      let a = answered call h f acts (f_of p) x (Ok tt) (f_of q) e s in rw a.1 (try_for_each_made q xs v a.0 more)
+  try_for_each_made p (x ∷ xs) (Ok u) e (inr (q, s)) = absurd (cc s.0)
+  try_for_each_made p (x ∷ xs) (Err w) e (inr (q, s)) =
+      let a = answered call h f acts (f_of p) x (Err w) (f_of q) e s.1 in rw a.1 refl
 
 -- `try_fold`
-pub try_fold_settled : {N F T B E : Type 0} (f_of : N → F) (acc_of : N → Option B) (call : F → B × T → Result B E → F → Type 0) (h : B → T → Result B E) (f : F)
+pub try_fold_made : {N F T B E : Type 0} (f_of : N → F) (acc_of : N → Option B)
+    (call : F → B × T → Result B E → F → Type 0) (h : B → T → Result B E) (f : F)
     → ((a : B) (x : T) (r : Result B E) (g : F) → call f (a, x) r g → (g ≡ f) × (r ≡ h a x))
     → (p : N) (a : B) (xs : List (Result T E)) (v : Result B E) → f_of p ≡ f → acc_of p ≡ Some a
-    → Settles (fold_of (λ m. (f_of m, acc_of m)) (tries_fold call)) p xs v → v ≡ try_fold h a xs
-try_fold_settled f_of acc_of call h f acts p a [] v e d (q, s) = let k = s.1 in let l = s.2 in cc
-try_fold_settled {T = T} f_of acc_of call h f acts p a (Ok x ∷ xs) v e d (inl (q, s, more)) =
+    → MakesOf (fold_of (λ m. (f_of m, acc_of m)) (tries_fold call)) p xs v → v ≡ try_fold h a xs
+try_fold_made f_of acc_of call h f acts p a [] v e d (q, s) = let k = s.1 in let l = s.2 in cc
+try_fold_made {T = T} f_of acc_of call h f acts p a (Ok x ∷ xs) v e d (inl (q, s, more)) =
     let same : s.0 ≡ a = (let k = s.2 in cc) in
     let step = acts s.0 x (Ok s.1) (f_of q) (subst (λ z. call z (s.0, x) (Ok s.1) (f_of q)) e s.3) in
     let is : h a x ≡ Ok s.1 = ap (λ z. h z x) (sym same) ∙ sym step.1 in
-    rw is (try_fold_settled f_of acc_of call h f acts q s.1 xs v step.0 s.4 more)
-try_fold_settled {T = T} f_of acc_of call h f acts p a (Ok x ∷ xs) v e d (inr (q, s)) =
+    rw is (try_fold_made f_of acc_of call h f acts q s.1 xs v step.0 s.4 more)
+try_fold_made {T = T} f_of acc_of call h f acts p a (Ok x ∷ xs) v e d (inr (q, s)) =
     let same : s.0 ≡ a = (let k = s.2 in cc) in
     let step = acts s.0 x (Err s.1) (f_of q) (subst (λ z. call z (s.0, x) (Err s.1) (f_of q)) e s.3) in
     let is : h a x ≡ Err s.1 = ap (λ z. h z x) (sym same) ∙ sym step.1 in
     rw is s.4
-try_fold_settled f_of acc_of call h f acts p a (Err w ∷ xs) v e d (inl (q, s, more)) = absurd s
-try_fold_settled f_of acc_of call h f acts p a (Err w ∷ xs) v e d (inr (q, s)) = s.0
+try_fold_made f_of acc_of call h f acts p a (Err w ∷ xs) v e d (inl (q, s, more)) = absurd s
+try_fold_made f_of acc_of call h f acts p a (Err w ∷ xs) v e d (inr (q, s)) = s.0
 
 -- `try_next`
-pub try_next_settled : {M T E : Type 0} (p : M) (xs : List (Result T E)) (v : Result (Option T) E) → Settles (tries_next {M = M}) p xs v
+pub try_next_made : {M T E : Type 0} (p : M) (xs : List (Result T E)) (v : Result (Option T) E)
+    → MakesOf (tries_next {M = M}) p xs v
     → v ≡ option_transpose (slice_get xs 0)
-try_next_settled p [] v (q, s) = s
-try_next_settled p (x ∷ xs) v (inl (q, s, more)) = absurd s
-try_next_settled p (Ok x ∷ xs) v (inr (q, s)) = s
-try_next_settled p (Err e ∷ xs) v (inr (q, s)) = s
+try_next_made p [] v (q, s) = s
+try_next_made p (x ∷ xs) v (inl (q, s, more)) = absurd s
+try_next_made p (Ok x ∷ xs) v (inr (q, s)) = s
+try_next_made p (Err e ∷ xs) v (inr (q, s)) = s
 
 -- `collect`
-pub collect_settled : {N C T : Type 0} (part : N → Option C) (holds : C → List T → Type 0) (p : N) (c : C) (l xs : List T) (v : Result C (Refused C T))
-    → part p ≡ Some c → holds c l → Settles (fold_of part (collects ⊤ holds)) p xs v → IfOk v (λ d. holds d (l ++ xs))
-collect_settled part holds p c l [] v e h (q, s) =
+pub collect_made : {N C T : Type 0} (part : N → Option C) (holds : C → List T → Type 0) (p : N) (c : C) (l xs : List T)
+    (v : Result C (Refused C T))
+    → part p ≡ Some c → holds c l → MakesOf (fold_of part (collects ⊤ holds)) p xs v → IfOk v (λ d. holds d (l ++ xs))
+collect_made part holds p c l [] v e h (q, s) =
     let same : s.0 ≡ c = (let k = s.1 in cc) in
     rw s.2 (subst (λ k. holds s.0 k) (sym (append-nil l)) (subst (λ d. holds d l) (sym same) h))
-collect_settled part holds p c l (x ∷ xs) v e h (inr (q, s)) = rw s.5 tt
-collect_settled part holds p c l (x ∷ xs) v e h (inl (q, s, more)) =
+collect_made part holds p c l (x ∷ xs) v e h (inr (q, s)) = rw s.5 tt
+collect_made part holds p c l (x ∷ xs) v e h (inl (q, s, more)) =
     let same : s.0 ≡ c = (let k = s.2 in cc) in
     let took : holds s.1 (l ++ x ∷ []) = s.3 l (subst (λ d. holds d l) (sym same) h) in
-    subst (λ k. IfOk v (λ d. holds d k)) (append_assoc l (x ∷ []) xs) (collect_settled part holds q s.1 (l ++ x ∷ []) xs v s.4 took more)
+    subst (λ k. IfOk v (λ d. holds d k)) (append_assoc l (x ∷ []) xs)
+    (collect_made part holds q s.1 (l ++ x ∷ []) xs v s.4 took more)
 
-pub filled : {C T : Type 0} (holds : C → List T → Type 0) (o : Option C) → IsSome o → IfSome o (λ c. holds c []) → (c : C) × (o ≡ Some c) × holds c []
+pub filled : {C T : Type 0} (holds : C → List T → Type 0) (o : Option C) → IsSome o → IfSome o (λ c. holds c [])
+    → (c : C) × (o ≡ Some c) × holds c []
 filled holds None h e = absurd (cc h)
 filled holds (Some c) h e = (c, refl, e)
 
-pub both_filled : {C D A B : Type 0} (first : C → List A → Type 0) (second : D → List B → Type 0) (o : Option (C × D)) → IsSome o
+pub both_filled : {C D A B : Type 0} (first : C → List A → Type 0) (second : D → List B → Type 0) (o : Option (C × D))
+    → IsSome o
     → IfSome o (λ c. first c.0 [] × second c.1 []) → (c : C × D) × (o ≡ Some c) × (first c.0 [] × second c.1 [])
 both_filled first second None h e = absurd (cc h)
 both_filled first second (Some c) h e = (c, refl, e)
 
 -- `try_collect`
-pub try_collect_settled : {N C T E : Type 0} (part : N → Option C) (holds : C → List T → Type 0) (p : N) (c : C) (l : List T) (xs : List (Result T E))
-    (v : Result C (TryCollectError C T E)) → part p ≡ Some c → holds c l → Settles (fold_of part (tries_collect ⊤ holds)) p xs v
-    → IfOk v (λ d. holds d (l ++ ok_prefix xs) × (map Ok (ok_prefix xs) ≡ xs)) × IfErr v (λ r. IfSource r (λ e. first_error xs ≡ Err e))
-try_collect_settled part holds p c l [] v e h (q, s) =
+pub try_collect_made : {N C T E : Type 0} (part : N → Option C) (holds : C → List T → Type 0) (p : N) (c : C)
+    (l : List T) (xs : List (Result T E))
+    (v : Result C (TryCollectError C T E)) → part p ≡ Some c → holds c l
+    → MakesOf (fold_of part (tries_collect ⊤ holds)) p xs v
+    → IfOk v (λ d. holds d (l ++ ok_prefix xs) × (map Ok (ok_prefix xs) ≡ xs))
+    × IfErr v (λ r. IfSource r (λ e. first_error xs ≡ Err e))
+try_collect_made part holds p c l [] v e h (q, s) =
     let same : s.0 ≡ c = (let k = s.1 in cc) in
     rw s.2 ((subst (λ k. holds s.0 k) (sym (append-nil l)) (subst (λ d. holds d l) (sym same) h), refl), tt)
-try_collect_settled part holds p c l (Ok x ∷ xs) v e h (inr (q, s)) = rw s.5 (tt, tt)
-try_collect_settled {C = C} {T} {E} part holds p c l (Ok x ∷ xs) v e h (inl (q, s, more)) =
+try_collect_made part holds p c l (Ok x ∷ xs) v e h (inr (q, s)) = rw s.5 (tt, tt)
+try_collect_made {C = C} {T} {E} part holds p c l (Ok x ∷ xs) v e h (inl (q, s, more)) =
     let same : s.0 ≡ c = (let k = s.2 in cc) in
     let took : holds s.1 (l ++ x ∷ []) = s.3 l (subst (λ d. holds d l) (sym same) h) in
-    behind v (try_collect_settled part holds q s.1 (l ++ x ∷ []) xs v s.4 took more)
+    behind v (try_collect_made part holds q s.1 (l ++ x ∷ []) xs v s.4 took more)
   where
     behind : (r : Result C (TryCollectError C T E))
-        → IfOk r (λ d. holds d ((l ++ x ∷ []) ++ ok_prefix xs) × (map Ok (ok_prefix xs) ≡ xs)) × IfErr r (λ r. IfSource r (λ e. first_error xs ≡ Err e))
-        → IfOk r (λ d. holds d (l ++ x ∷ ok_prefix xs) × (Ok x ∷ map Ok (ok_prefix xs) ≡ Ok x ∷ xs)) × IfErr r (λ r. IfSource r (λ e. first_error xs ≡ Err e))
-    behind (Ok d) k = ((subst (λ z. holds d z) (append_assoc l (x ∷ []) (ok_prefix xs)) k.0.0, ap (λ z. Ok x ∷ z) k.0.1), tt)
+        → IfOk r (λ d. holds d ((l ++ x ∷ []) ++ ok_prefix xs) × (map Ok (ok_prefix xs) ≡ xs))
+        × IfErr r (λ r. IfSource r (λ e. first_error xs ≡ Err e))
+        → IfOk r (λ d. holds d (l ++ x ∷ ok_prefix xs) × (Ok x ∷ map Ok (ok_prefix xs) ≡ Ok x ∷ xs))
+        × IfErr r (λ r. IfSource r (λ e. first_error xs ≡ Err e))
+    behind (Ok d) k =
+        ((subst (λ z. holds d z) (append_assoc l (x ∷ []) (ok_prefix xs)) k.0.0, ap (λ z. Ok x ∷ z) k.0.1), tt)
     behind (Err r) k = (tt, k.1)
-try_collect_settled part holds p c l (Err w ∷ xs) v e h (inl (q, s, more)) = absurd s
-try_collect_settled part holds p c l (Err w ∷ xs) v e h (inr (q, s)) = rw s.0 (tt, refl)
+try_collect_made part holds p c l (Err w ∷ xs) v e h (inl (q, s, more)) = absurd s
+try_collect_made part holds p c l (Err w ∷ xs) v e h (inr (q, s)) = rw s.0 (tt, refl)
 
 -- `partition`
-module _ {N B F T : Type 0} (f_of : N → F) (part : N → Option (B × B)) (holds : B → List T → Type 0) (asked : F → T → Bool → F → Type 0) (test : T → Bool)
+module _ {N B F T : Type 0} (f_of : N → F) (part : N → Option (B × B)) (holds : B → List T → Type 0)
+    (asked : Question F T Bool) (test : T → Bool)
     (f : F)
     (acts : (x : T) (b : Bool) (g : F) → asked f x b g → (g ≡ f) × (b ≡ test x)) where
   -- x at the end, where b is true
@@ -289,19 +336,21 @@ module _ {N B F T : Type 0} (f_of : N → F) (part : N → Option (B × B)) (hol
   sorted true c d x l m s h k = (s.0 l h, as_before c.1 d.1 m s.1 k)
   sorted false c d x l m s h k = (as_before c.0 d.0 l s.1 h, s.0 m k)
 
-  partition_settled : (p : N) (c : B × B) (l m xs : List T) (v : Result (B × B) (Refused (B × B) T)) → f_of p ≡ f → part p ≡ Some c → holds c.0 l
+  partition_made : (p : N) (c : B × B) (l m xs : List T) (v : Result (B × B) (Refused (B × B) T)) → f_of p ≡ f
+      → part p ≡ Some c → holds c.0 l
       → holds c.1 m
-      → Settles (fold_of (λ n. (f_of n, part n)) (partitions holds asked ⊤)) p xs v
+      → MakesOf (fold_of (λ n. (f_of n, part n)) (partitions holds asked ⊤)) p xs v
       → IfOk v (λ d. holds d.0 (l ++ filter test xs) × holds d.1 (m ++ filter (λ x. not (test x)) xs))
-  partition_settled p c l m [] v e o h k (q, s) =
+  partition_made p c l m [] v e o h k (q, s) =
       let same : s.0 ≡ c = (let z = s.1 in cc) in
       rw s.2 (as_before c.0 s.0.0 l (ap (λ z. z.0) same) h, as_before c.1 s.0.1 m (ap (λ z. z.1) same) k)
-  partition_settled p c l m (x ∷ xs) v e o h k (inr (q, s)) = let z = s.0 in rw s.7 tt
-  partition_settled p c l m (x ∷ xs) v e o h k (inl (q, s, more)) =
+  partition_made p c l m (x ∷ xs) v e o h k (inr (q, s)) = let z = s.0 in rw s.7 tt
+  partition_made p c l m (x ∷ xs) v e o h k (inl (q, s, more)) =
       let same : s.1 ≡ c = (let z = s.4 in cc) in
       let a = answered asked test f acts (f_of p) x s.0 (f_of q) e s.3 in
       let now = sorted s.0 c s.2 x l m (subst (λ z. Sorted holds s.0 z x s.2) same s.5) h k in
-      let rest = partition_settled q s.2 (l ++ cond s.0 (x ∷ []) []) (m ++ cond (not s.0) (x ∷ []) []) xs v a.0 s.6 now.0 now.1 more in
+      let rest = partition_made q s.2 (l ++ cond s.0 (x ∷ []) [])
+      (m ++ cond (not s.0) (x ∷ []) []) xs v a.0 s.6 now.0 now.1 more in
       let accepted : (l ++ cond s.0 (x ∷ []) []) ++ filter test xs ≡ l ++ filter test (x ∷ xs) =
       at_end s.0 x l (filter test xs) ∙ ap (λ b. l ++ cond b (x ∷ filter test xs) (filter test xs)) (sym a.1) in
       let others : List T = filter (λ y. not (test y)) xs in
@@ -320,35 +369,49 @@ ok_both : {C E : Type 0} (P Q : C → Type 0) (v : Result C E) → IfOk v (λ d.
 ok_both P Q (Ok d) h = h
 ok_both P Q (Err e) h = (tt, tt)
 
-module _ {N B F T : Type 0} (f_of : N → F) (part : N → Option (B × B)) (holds : B → List T → Type 0) (asked : F → T → Bool → F → Type 0)
-    (p : N) (f : F) (same : f_of p ≡ f) (is_open : IsSome (part p)) (empty : IfSome (part p) (λ c. holds c.0 [] × holds c.1 []))
-    (xs : List T) (v : Result (B × B) (Refused (B × B) T)) (settles : Settles (fold_of (λ n. (f_of n, part n)) (partitions holds asked ⊤)) p xs v) where
-  pub accepted_settled : (test : T → Bool) → ((x : T) (b : Bool) (g : F) → asked f x b g → (g ≡ f) × (b ≡ test x)) → IfOk v (λ d. holds d.0 (filter test xs))
-  accepted_settled test acts =
+module _ {N B F T : Type 0} (f_of : N → F) (part : N → Option (B × B)) (holds : B → List T → Type 0)
+    (asked : Question F T Bool)
+    (p : N) (f : F) (same : f_of p ≡ f) (is_open : IsSome (part p))
+    (empty : IfSome (part p) (λ c. holds c.0 [] × holds c.1 []))
+    (xs : List T) (v : Result (B × B) (Refused (B × B) T))
+    (settles : MakesOf (fold_of (λ n. (f_of n, part n)) (partitions holds asked ⊤)) p xs v) where
+  pub accepted_made : (test : T → Bool) → ((x : T) (b : Bool) (g : F) → asked f x b g → (g ≡ f) × (b ≡ test x))
+      → IfOk v (λ d. holds d.0 (filter test xs))
+  accepted_made test acts =
       let start = both_filled holds holds (part p) is_open empty in
-      (ok_both _ _ v (partition_settled f_of part holds asked test f acts p start.0 [] [] xs v same start.1 start.2.0 start.2.1 settles)).0
+      (ok_both _ _ v
+      (partition_made f_of part holds asked test f acts p start.0 [] [] xs v same start.1 start.2.0 start.2.1
+      settles)).0
 
-  pub others_settled : (rest : T → Bool) → ((x : T) (b : Bool) (g : F) → asked f x b g → (g ≡ f) × (b ≡ not (rest x)))
+  pub others_made : (rest : T → Bool) → ((x : T) (b : Bool) (g : F) → asked f x b g → (g ≡ f) × (b ≡ not (rest x)))
       → IfOk v (λ d. holds d.1 (filter rest xs))
-  others_settled rest acts =
+  others_made rest acts =
       let start = both_filled holds holds (part p) is_open empty in
-      let both = partition_settled f_of part holds asked (λ x. not (rest x)) f acts p start.0 [] [] xs v same start.1 start.2.0 start.2.1 settles in
+      let both = partition_made f_of part holds asked
+      (λ x. not (rest x)) f acts p start.0 [] [] xs v same start.1 start.2.0 start.2.1 settles in
       subst (λ l. IfOk v (λ d. holds d.1 l)) (filter_twice rest xs) (ok_both _ _ v both).1
 
 -- `unzip`
-pub unzip_settled : {N C D A B : Type 0} (part : N → Option (C × D)) (first : C → List A → Type 0) (second : D → List B → Type 0) (p : N) (c : C × D)
-    (l : List A) (m : List B) (xs : List (A × B)) (v : Result (C × D) (UnzipRefused C D A B)) → part p ≡ Some c → first c.0 l → second c.1 m
-    → Settles (fold_of part (unzips first second ⊤)) p xs v → IfOk v (λ d. first d.0 (l ++ map (λ x. x.0) xs) × second d.1 (m ++ map (λ x. x.1) xs))
-unzip_settled part first second p c l m [] v o h k (q, s) =
+pub unzip_made : {N C D A B : Type 0} (part : N → Option (C × D)) (first : C → List A → Type 0)
+    (second : D → List B → Type 0) (p : N) (c : C × D)
+    (l : List A) (m : List B) (xs : List (A × B)) (v : Result (C × D) (UnzipRefused C D A B)) → part p ≡ Some c
+    → first c.0 l → second c.1 m
+    → MakesOf (fold_of part (unzips first second ⊤)) p xs v
+    → IfOk v (λ d. first d.0 (l ++ map (λ x. x.0) xs) × second d.1 (m ++ map (λ x. x.1) xs))
+unzip_made part first second p c l m [] v o h k (q, s) =
     let same : s.0 ≡ c = (let z = s.1 in cc) in
-    let one : first s.0.0 (l ++ []) = subst (λ z. first s.0.0 z) (sym (append-nil l)) (subst (λ z. first z.0 l) (sym same) h) in
-    let other : second s.0.1 (m ++ []) = subst (λ z. second s.0.1 z) (sym (append-nil m)) (subst (λ z. second z.1 m) (sym same) k) in
+    let one : first s.0.0 (l ++ []) =
+    subst (λ z. first s.0.0 z) (sym (append-nil l)) (subst (λ z. first z.0 l) (sym same) h) in
+    let other : second s.0.1 (m ++ []) =
+    subst (λ z. second s.0.1 z) (sym (append-nil m)) (subst (λ z. second z.1 m) (sym same) k) in
     rw s.2 (one, other)
-unzip_settled part first second p c l m (x ∷ xs) v o h k (inr (q, s)) = rw s.5 tt
-unzip_settled part first second p c l m (x ∷ xs) v o h k (inl (q, s, more)) =
+unzip_made part first second p c l m (x ∷ xs) v o h k (inr (q, s)) = rw s.5 tt
+unzip_made part first second p c l m (x ∷ xs) v o h k (inl (q, s, more)) =
     let same : s.0 ≡ c = (let z = s.2 in cc) in
     let one = s.3 l (subst (λ z. first z.0 l) (sym same) h) in
     let other = s.4 m (subst (λ z. second z.1 m) (sym same) k) in
-    let rest = unzip_settled part first second q s.1 (l ++ x.0 ∷ []) (m ++ x.1 ∷ []) xs v s.5 one other more in
-    subst (λ z. IfOk v (λ d. first d.0 (l ++ map (λ y. y.0) (x ∷ xs)) × second d.1 z)) (append_assoc m (x.1 ∷ []) (map (λ y. y.1) xs))
-    (subst (λ z. IfOk v (λ d. first d.0 z × second d.1 ((m ++ x.1 ∷ []) ++ map (λ y. y.1) xs))) (append_assoc l (x.0 ∷ []) (map (λ y. y.0) xs)) rest)
+    let rest = unzip_made part first second q s.1 (l ++ x.0 ∷ []) (m ++ x.1 ∷ []) xs v s.5 one other more in
+    subst (λ z. IfOk v (λ d. first d.0 (l ++ map (λ y. y.0) (x ∷ xs)) × second d.1 z))
+    (append_assoc m (x.1 ∷ []) (map (λ y. y.1) xs))
+    (subst (λ z. IfOk v (λ d. first d.0 z × second d.1 ((m ++ x.1 ∷ []) ++ map (λ y. y.1) xs)))
+    (append_assoc l (x.0 ∷ []) (map (λ y. y.0) xs)) rest)

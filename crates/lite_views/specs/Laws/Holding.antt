@@ -10,9 +10,10 @@ use Rattle.lite_base.specs.Calling.{Always}
 use Rattle.lite_base.specs.Future.Finishes.{Finishes}
 use Rattle.lite_base.specs.Future.Handed.{handed}
 use Rattle.lite_base.specs.Future.Ready.{GivesHeld}
-use Rattle.lite_flatten.specs.Cloned.{Clones, IsRefusal, Refers}
+use Rattle.lite_base.specs.Runs.{Question, Runs}
+use Rattle.lite_flatten.specs.Cloned.{Clones, IsCloneRefusal, Refers}
 use Rattle.lite_flatten.specs.Flatten.{Flat}
-use Rattle.lite_flatten.specs.Lingering.{Lingers}
+use Rattle.lite_flatten.specs.Expanding.{Expands}
 use Rattle.lite_flatten.specs.Then.{HandsOut}
 use Rattle.lite_stream.specs.Pointwise.{Exchanges}
 use Rattle.lite_views.specs.Laws.Adapting.{endless_fits, replaced_fits}
@@ -24,31 +25,36 @@ waiting_fits (Pending ∷ l) xs w = waiting_fits l xs w
 waiting_fits (Ready a ∷ l) xs w = absurd w
 
 -- one item, after any Pendings, and then what fits the rest of the list
-given_fits : {A : Type 0} (own l : List (Answer A)) (y : A) (ys : List A) → Gives own (Some y) → Fits l ys → Fits (own ++ l) (y ∷ ys)
+given_fits : {A : Type 0} (own l : List (Answer A)) (y : A) (ys : List A) → Gives own (Some y) → Fits l ys
+    → Fits (own ++ l) (y ∷ ys)
 given_fits [] l y ys g e = absurd g
 given_fits (Pending ∷ own) l y ys g e = given_fits own l y ys g e
 given_fits (Ready None ∷ own) l y ys g e = absurd (cc g.0)
 given_fits (Ready (Some z) ∷ own) l y ys g e = (let k = g.0 in cc, subst (λ k. Fits (k ++ l) ys) (sym g.1) e)
 
 -- where what is made of the item x gives Pendings while it is held, and before it is done the item h x
-module _ {F A V B : Type 0} (call : F → A → V → F → Type 0) (gives : V → List (Answer B) → Option V → Type 0) (h : A → B) (f : F)
+module _ {F A V B : Type 0} (call : Question F A V) (gives : V → List (Answer B) → Option V → Type 0) (h : A → B)
+    (f : F)
     (makes : (x : A) (v : V) (g : F) → call f x v g
     → (g ≡ f) × ((out : List (Answer B)) (w : V) → gives v out (Some w) → Waiting out)
     × ((out : List (Answer B)) → gives v out None → Gives out (Some (h x)))) where
-  pub lingers_fits : (p q : F) (i : List (Answer A)) (o : List (Answer B)) (last : Option V) (xs : List A) → p ≡ f → Fits i xs
-      → Lingers call gives p i o q last → Fits o (map h xs)
-  lingers_fits p q [] [] last xs g e t = tt
-  lingers_fits p q [] (b ∷ o) last xs g e t = absurd t
-  lingers_fits p q (a ∷ i) [] last xs g e t = tt
-  lingers_fits p q (Pending ∷ i) (b ∷ o) last xs g e t = subst (λ (c : Answer B). Fits (c ∷ o) (map h xs)) (sym t.0) (lingers_fits p q i o last xs g e t.1)
-  lingers_fits p q (Ready None ∷ i) (b ∷ o) last xs g e t = subst (λ (c : Answer B). Fits (c ∷ o) (map h xs)) (sym t.0) (ap (map h) e)
-  lingers_fits p q (Ready (Some x) ∷ i) (b ∷ o) last [] g e t = absurd e
-  lingers_fits p q (Ready (Some x) ∷ i) (b ∷ o) last (y ∷ xs) g e (v, r, called, inl held) =
+  pub expands_fits : (p q : F) (i : List (Answer A)) (o : List (Answer B)) (last : Option V) (xs : List A) → p ≡ f
+      → Fits i xs
+      → Expands call gives p i o q last → Fits o (map h xs)
+  expands_fits p q [] [] last xs g e t = tt
+  expands_fits p q [] (b ∷ o) last xs g e t = absurd t
+  expands_fits p q (a ∷ i) [] last xs g e t = tt
+  expands_fits p q (Pending ∷ i) (b ∷ o) last xs g e t =
+      subst (λ (c : Answer B). Fits (c ∷ o) (map h xs)) (sym t.0) (expands_fits p q i o last xs g e t.1)
+  expands_fits p q (Ready None ∷ i) (b ∷ o) last xs g e t =
+      subst (λ (c : Answer B). Fits (c ∷ o) (map h xs)) (sym t.0) (ap (map h) e)
+  expands_fits p q (Ready (Some x) ∷ i) (b ∷ o) last [] g e t = absurd e
+  expands_fits p q (Ready (Some x) ∷ i) (b ∷ o) last (y ∷ xs) g e (v, r, called, inl held) =
       let m = makes x v r (subst (λ z. call z x v r) g called) in
       waiting_fits (b ∷ o) (map h (y ∷ xs)) (m.1 (b ∷ o) held.2 held.3)
-  lingers_fits p q (Ready (Some x) ∷ i) (b ∷ o) last (y ∷ xs) g e (v, r, called, inr done) =
+  expands_fits p q (Ready (Some x) ∷ i) (b ∷ o) last (y ∷ xs) g e (v, r, called, inr done) =
       let m = makes x v r (subst (λ z. call z x v r) g called) in
-      let rest = lingers_fits r q i done.1 last xs m.0 e.1 done.4 in
+      let rest = expands_fits r q i done.1 last xs m.0 e.1 done.4 in
       let own : Gives done.0 (Some (h y)) = subst (λ z. Gives done.0 (Some (h z))) e.0 (m.2 done.0 done.3) in
       subst (λ l. Fits l (map h (y ∷ xs))) (sym done.2) (given_fits done.0 done.1 (h y) (map h xs) own rest)
 
@@ -63,18 +69,21 @@ gives_handed [] v g = absurd g
 gives_handed (Pending ∷ ins) v g = gives_handed ins v g
 gives_handed (Ready x ∷ ins) v g = (ap Some g.0, ap (λ l. map (handed Some) l ++ []) g.1)
 
-pub awaited_fits : {F A V B : Type 0} (call : F → A → V → F → Type 0) (run : V → List (Poll B) → V → Type 0) (h : A → B) (f q : F)
-    → ((x : A) (v : V) (g : F) → call f x v g → (g ≡ f) × ((ins : List (Poll B)) (w : B) → Finishes run v ins w → w ≡ h x))
-    → (i : List (Answer A)) (o : List (Answer B)) (last : Option V) (xs : List A) → Fits i xs → Lingers call (HandsOut run) f i o q last → Fits o (map h xs)
+pub awaited_fits : {F A V B : Type 0} (call : Question F A V) (run : Runs (Poll B) V) (h : A → B) (f q : F)
+    → ((x : A) (v : V) (g : F) → call f x v g → (g ≡ f)
+    × ((ins : List (Poll B)) (w : B) → Finishes run v ins w → w ≡ h x))
+    → (i : List (Answer A)) (o : List (Answer B)) (last : Option V) (xs : List A) → Fits i xs
+    → Expands call (HandsOut run) f i o q last → Fits o (map h xs)
 awaited_fits {F} {A} {V} {B} call run h f q acts i o last xs e t =
-    lingers_fits call (HandsOut run) h f
+    expands_fits call (HandsOut run) h f
     (λ x v g c. let a = acts x v g c in (a.0, waits v, λ out s. done (h x) v a.1 out s))
     f q i o last xs refl e t
   where
     waits : (v : V) (out : List (Answer B)) (w : V) → HandsOut run v out (Some w) → Waiting out
     waits v out w s = subst Waiting (sym s.3) (waiting_handed s.0 s.1)
 
-    done : (y : B) (v : V) → ((ins : List (Poll B)) (w : B) → Finishes run v ins w → w ≡ y) → (out : List (Answer B)) → HandsOut run v out None
+    done : (y : B) (v : V) → ((ins : List (Poll B)) (w : B) → Finishes run v ins w → w ≡ y) → (out : List (Answer B))
+        → HandsOut run v out None
         → Gives out (Some y)
     done y v is out s =
         let gave : Gives s.ins y = subst (Gives s.ins) (is s.ins s.value s.finishes) s.finishes.gives in
@@ -82,40 +91,48 @@ awaited_fits {F} {A} {V} {B} call run h f q acts i o last xs e t =
         subst (λ l. Gives l (Some y)) (sym joined) (gives_handed s.ins y gave)
 
 -- `ready`
-pub ready_value : {A : Type 0} (x w : A) (ins : List (Poll A)) (left : Option A) → Gives ins w → GivesHeld (Some x) ins left → w ≡ x
+pub ready_value : {A : Type 0} (x w : A) (ins : List (Poll A)) (left : Option A) → Gives ins w
+    → GivesHeld (Some x) ins left → w ≡ x
 ready_value x w [] left g h = absurd g
 ready_value x w (Pending ∷ ins) left g h = absurd (cc h.0)
 ready_value x w (Ready y ∷ ins) left g h = let a = g.0 in let b = h.0 in cc
 
 -- `cloned`, where a clone is not refused and is equal
-module _ {T E : Type 0} (is_clone : T → T → Type 0) (is_infallible : T → Type 0) (infallible : (x : T) → is_infallible x)
+module _ {T E : Type 0} (is_clone : T → T → Type 0) (is_infallible : T → Type 0)
+    (infallible : (x : T) → is_infallible x)
     (equal : (x y : T) → is_clone x y → y ≡ x) where
-  abbrev shown : Bor T → Result T E
-  shown x = Ok x.now
+  abbrev clone_shown : Bor T → Result T E
+  clone_shown x = Ok x.now
 
-  pub cloned_fits : (i : List (Answer (Bor T))) (o : List (Answer (Result T E))) (q : Unit {0}) (last : Option (Bor T)) (xs : List (Bor T)) → Fits i xs
-      → Lingers Refers (Clones is_clone is_infallible) tt i o q last → Fits o (map (λ x. Ok x.now) xs)
+  pub cloned_fits : (i : List (Answer (Bor T))) (o : List (Answer (Result T E))) (q : Unit {0}) (last : Option (Bor T))
+      (xs : List (Bor T)) → Fits i xs
+      → Expands Refers (Clones is_clone is_infallible) tt i o q last → Fits o (map (λ x. Ok x.now) xs)
   cloned_fits i o q last xs e t =
-      lingers_fits Refers (Clones is_clone is_infallible) shown tt
-      (λ x v g c. (refl, waits v, λ out s. subst (λ r. Gives out (Some (shown r))) c (done v out s)))
+      expands_fits Refers (Clones is_clone is_infallible) clone_shown tt
+      (λ x v g c. (refl, waits v, λ out s. subst (λ r. Gives out (Some (clone_shown r))) c (done v out s)))
       tt q i o last xs refl e t
     where
-      waits : (v : Bor T) (out : List (Answer (Result T E))) (w : Bor T) → Clones is_clone is_infallible v out (Some w) → Waiting out
+      waits : (v : Bor T) (out : List (Answer (Result T E))) (w : Bor T) → Clones is_clone is_infallible v out (Some w)
+          → Waiting out
       waits v [] w s = tt
       waits v (a ∷ out) w s = absurd (s.0.0.0 (infallible v.now))
 
-      unrefused : (v : Bor T) (refused l : List (Answer (Result T E))) (y : Result T E) → AllByRecursion (IsRefusal is_clone is_infallible v) refused
+      unrefused : (v : Bor T) (refused l : List (Answer (Result T E))) (y : Result T E)
+          → AllByRecursion (IsCloneRefusal is_clone is_infallible v) refused
           → Gives l (Some y) → Gives (refused ++ l) (Some y)
       unrefused v [] l y s g = g
       unrefused v (a ∷ refused) l y s g = absurd (s.0.0 (infallible v.now))
 
-      done : (v : Bor T) (out : List (Answer (Result T E))) → Clones is_clone is_infallible v out None → Gives out (Some (Ok v.now))
+      done : (v : Bor T) (out : List (Answer (Result T E))) → Clones is_clone is_infallible v out None
+          → Gives out (Some (Ok v.now))
       done v out s =
           subst (λ l. Gives l (Some (Ok v.now))) (sym s.4)
-          (unrefused v s.0 (Ready (Some (Ok s.1)) ∷ []) (Ok v.now) s.2 (ap (λ z. Some (Ok z)) (equal v.now s.1 s.3), refl))
+          (unrefused v s.0 (Ready (Some (Ok s.1)) ∷ []) (Ok v.now) s.2
+          (ap (λ z. Some (Ok z)) (equal v.now s.1 s.3), refl))
 
--- `flatten` and `flat_map`: the answers, up to their first end, are streams, each with the list that h makes of the item in its place
-module _ {A V B : Type 0} (run : V → List (Answer B) → V → Type 0) (h : A → List B) where
+-- `flatten` and `flat_map`: the answers, up to their first end, are streams, each with the list that h makes of the
+-- item in its place
+module _ {A V B : Type 0} (run : Runs (Answer B) V) (h : A → List B) where
   abbrev pub Makes : List (Answer V) → List A → Type 0
   Makes [] xs = ⊤
   Makes (Pending ∷ l) xs = Makes l xs
@@ -123,40 +140,50 @@ module _ {A V B : Type 0} (run : V → List (Answer B) → V → Type 0) (h : A 
   Makes (Ready (Some v) ∷ l) [] = ⊥
   Makes (Ready (Some v) ∷ l) (x ∷ xs) = Lists run v (h x) × Makes l xs
 
-  pub flat_fits : (m : List (Answer V)) (o : List (Answer B)) (last : Option V) (xs : List A) → Makes m xs → Flat run m o last → Fits o (flat_map h xs)
+  pub flat_fits : (m : List (Answer V)) (o : List (Answer B)) (last : Option V) (xs : List A) → Makes m xs
+      → Flat run m o last → Fits o (flat_map h xs)
   unfolding Lists
   flat_fits [] [] last xs e t = tt
   flat_fits [] (b ∷ o) last xs e t = absurd t
   flat_fits (a ∷ m) [] last xs e t = tt
-  flat_fits (Pending ∷ m) (b ∷ o) last xs e t = subst (λ (c : Answer B). Fits (c ∷ o) (flat_map h xs)) (sym t.0) (flat_fits m o last xs e t.1)
-  flat_fits (Ready None ∷ m) (b ∷ o) last xs e t = subst (λ (c : Answer B). Fits (c ∷ o) (flat_map h xs)) (sym t.0) (ap (flat_map h) e)
+  flat_fits (Pending ∷ m) (b ∷ o) last xs e t =
+      subst (λ (c : Answer B). Fits (c ∷ o) (flat_map h xs)) (sym t.0) (flat_fits m o last xs e t.1)
+  flat_fits (Ready None ∷ m) (b ∷ o) last xs e t =
+      subst (λ (c : Answer B). Fits (c ∷ o) (flat_map h xs)) (sym t.0) (ap (flat_map h) e)
   flat_fits (Ready (Some v) ∷ m) (b ∷ o) last [] e t = absurd e
-  flat_fits (Ready (Some v) ∷ m) (b ∷ o) last (x ∷ xs) e (inl t) = endless_fits (b ∷ o) (h x) (flat_map h xs) t.1 (e.0 (b ∷ o) t.2 t.3)
+  flat_fits (Ready (Some v) ∷ m) (b ∷ o) last (x ∷ xs) e (inl t) =
+      endless_fits (b ∷ o) (h x) (flat_map h xs) t.1 (e.0 (b ∷ o) t.2 t.3)
   flat_fits (Ready (Some v) ∷ m) (b ∷ o) last (x ∷ xs) e (inr (own, a, rest, out, endless, c, ran, more)) =
       let behind = flat_fits m (a ∷ rest) last xs e.1 more in
-      subst (λ l. Fits l (flat_map h (x ∷ xs))) (sym out) (replaced_fits own (a ∷ rest) (h x) (flat_map h xs) endless (e.0 (own ++ end ∷ []) c ran) behind)
+      subst (λ l. Fits l (flat_map h (x ∷ xs))) (sym out)
+      (replaced_fits own (a ∷ rest) (h x) (flat_map h xs) endless (e.0 (own ++ end ∷ []) c ran) behind)
 
   -- by a function
-  pub called_makes : {F : Type 0} (call : F → A → V → F → Type 0) (f p q : F) → ((x : A) (v : V) (g : F) → call f x v g → (g ≡ f) × Lists run v (h x))
-      → (i : List (Answer A)) (m : List (Answer V)) (xs : List A) → p ≡ f → Fits i xs → Exchanges (Always call) p i m q → Makes m xs
+  pub called_makes : {F : Type 0} (call : Question F A V) (f p q : F)
+      → ((x : A) (v : V) (g : F) → call f x v g → (g ≡ f) × Lists run v (h x))
+      → (i : List (Answer A)) (m : List (Answer V)) (xs : List A) → p ≡ f → Fits i xs → Exchanges (Always call) p i m q
+      → Makes m xs
   called_makes call f p q acts [] [] xs g e t = tt
   called_makes call f p q acts [] (b ∷ m) xs g e t = absurd t
   called_makes call f p q acts (a ∷ i) [] xs g e t = tt
   called_makes call f p q acts (Pending ∷ i) (b ∷ m) xs g e t =
       subst (λ (c : Answer V). Makes (c ∷ m) xs) (sym t.0) (called_makes call f p q acts i m xs g e t.1)
-  called_makes call f p q acts (Ready None ∷ i) (b ∷ m) xs g e t = subst (λ (c : Answer V). Makes (c ∷ m) xs) (sym t.0) e
+  called_makes call f p q acts (Ready None ∷ i) (b ∷ m) xs g e t =
+      subst (λ (c : Answer V). Makes (c ∷ m) xs) (sym t.0) e
   called_makes call f p q acts (Ready (Some x) ∷ i) (b ∷ m) [] g e t = absurd e
   called_makes call f p q acts (Ready (Some x) ∷ i) (b ∷ m) (y ∷ xs) g e (None, r, same, called, more) = absurd called
   called_makes call f p q acts (Ready (Some x) ∷ i) (b ∷ m) (y ∷ xs) g e (Some v, r, same, called, more) =
       let a = acts x v r (subst (λ z. call z x v r) g called) in
       let here : Lists run v (h y) = subst (λ z. Lists run v (h z)) e.0 a.1 in
-      subst (λ (c : Answer V). Makes (c ∷ m) (y ∷ xs)) (sym same) (here, called_makes call f r q acts i m xs a.0 e.1 more)
+      subst (λ (c : Answer V). Makes (c ∷ m) (y ∷ xs)) (sym same)
+      (here, called_makes call f r q acts i m xs a.0 e.1 more)
 
 -- the streams themselves are the items
-pub itself_makes : {V B : Type 0} (run : V → List (Answer B) → V → Type 0) (h : V → List B) → ((v : V) → Lists run v (h v))
+pub itself_makes : {V B : Type 0} (run : Runs (Answer B) V) (h : V → List B) → ((v : V) → Lists run v (h v))
     → (m : List (Answer V)) (xs : List V) → Fits m xs → Makes run h m xs
 itself_makes run h lists [] xs e = tt
 itself_makes run h lists (Pending ∷ m) xs e = itself_makes run h lists m xs e
 itself_makes run h lists (Ready None ∷ m) xs e = e
 itself_makes run h lists (Ready (Some v) ∷ m) [] e = absurd e
-itself_makes run h lists (Ready (Some v) ∷ m) (x ∷ xs) e = (subst (λ z. Lists run v (h z)) e.0 (lists v), itself_makes run h lists m xs e.1)
+itself_makes run h lists (Ready (Some v) ∷ m) (x ∷ xs) e =
+    (subst (λ z. Lists run v (h z)) e.0 (lists v), itself_makes run h lists m xs e.1)

@@ -2,11 +2,11 @@
 use Rattle.futures.specs.declared.task.Poll.TheVariants.{Ready, Pending}
 use Rattle.std.specs.Io.Slices.{io_slices_bytes}
 use Rattle.lite_base.specs.Calm.{CalmLaws}
-use Rattle.lite_io_base.specs.Runs.{Runs}
+use Rattle.lite_base.specs.Runs.{Runs}
 use Rattle.lite_io_base.specs.SteadyWrite.{CalmWriteLaws}
-use Rattle.lite_io_base.specs.Takings.{Taking, done_marks, write_marks}
+use Rattle.lite_io_base.specs.Takings.{WriteMark, done_marks, write_marks}
 use Rattle.lite_read.specs.Laws.Polled.{polled_calm}
-use Rattle.lite_read.specs.Polled.{Polled}
+use Rattle.lite_read.specs.Polled.{PolledByCalls}
 use Rattle.lite_write.specs.Close.{Closes}
 use Rattle.lite_write.specs.Flush.{Flushes}
 use Rattle.lite_write.specs.Write.{Writes}
@@ -16,23 +16,32 @@ use Rattle.lite_write.specs.declared.flush.FlushFuture.{FlushFuture}
 use Rattle.lite_write.specs.declared.write.WriteFuture.{WriteFuture}
 use Rattle.lite_write.specs.declared.write_vectored.WriteVectoredFuture.{WriteVectoredFuture}
 
-module _ {W : Type 0} {writes : Runs Taking W} {is_calm : W → Type 0} where
-  pub write_calm : CalmWriteLaws writes is_calm → CalmLaws (Polled (Writes writes)) (λ (x : WriteFuture W). is_calm x.writer.now)
+module _ {W : Type 0} {writes : Runs WriteMark W} {is_calm : W → Type 0} where
+  pub write_calm : CalmWriteLaws writes is_calm
+      → CalmLaws (PolledByCalls (Writes writes)) (λ (x : WriteFuture W). is_calm x.writer.now)
   write_calm c =
-      polled_calm (Writes writes) (λ x y k h. c.prompt x.writer.now y.writer.now (write_marks Pending x.buf.now) k h.came)
+      polled_calm (Writes writes)
+      (λ x y k h. c.no_pending x.writer.now y.writer.now (write_marks Pending x.buf.now) k h.came)
       (λ x y r k h. c.calm_on x.writer.now y.writer.now (write_marks (Ready r) x.buf.now) k h.came)
 
-  pub vectored_calm : CalmWriteLaws writes is_calm → CalmLaws (Polled (WritesVectored writes)) (λ (x : WriteVectoredFuture W). is_calm x.writer.now)
+  pub vectored_calm : CalmWriteLaws writes is_calm
+      → CalmLaws (PolledByCalls (WritesVectored writes)) (λ (x : WriteVectoredFuture W). is_calm x.writer.now)
   vectored_calm c =
-      polled_calm (WritesVectored writes) (λ x y k h. c.prompt x.writer.now y.writer.now (write_marks Pending (io_slices_bytes x.bufs.now)) k h.came)
+      polled_calm (WritesVectored writes)
+      (λ x y k h. c.no_pending x.writer.now y.writer.now
+      (write_marks Pending (io_slices_bytes x.bufs.now)) k h.came)
       (λ x y r k h. c.calm_on x.writer.now y.writer.now (write_marks (Ready r) (io_slices_bytes x.bufs.now)) k h.came)
 
-  pub flush_calm : CalmWriteLaws writes is_calm → CalmLaws (Polled (Flushes writes)) (λ (x : FlushFuture W). is_calm x.writer.now)
+  pub flush_calm : CalmWriteLaws writes is_calm
+      → CalmLaws (PolledByCalls (Flushes writes)) (λ (x : FlushFuture W). is_calm x.writer.now)
   flush_calm c =
-      polled_calm (Flushes writes) (λ x y k h. c.prompt x.writer.now y.writer.now (done_marks Taking.flushed Pending) k h.came)
-      (λ x y r k h. c.calm_on x.writer.now y.writer.now (done_marks Taking.flushed (Ready r)) k h.came)
+      polled_calm (Flushes writes)
+      (λ x y k h. c.no_pending x.writer.now y.writer.now (done_marks WriteMark.flushed Pending) k h.came)
+      (λ x y r k h. c.calm_on x.writer.now y.writer.now (done_marks WriteMark.flushed (Ready r)) k h.came)
 
-  pub close_calm : CalmWriteLaws writes is_calm → CalmLaws (Polled (Closes writes)) (λ (x : CloseFuture W). is_calm x.writer.now)
+  pub close_calm : CalmWriteLaws writes is_calm
+      → CalmLaws (PolledByCalls (Closes writes)) (λ (x : CloseFuture W). is_calm x.writer.now)
   close_calm c =
-      polled_calm (Closes writes) (λ x y k h. c.prompt x.writer.now y.writer.now (done_marks Taking.closed Pending) k h.came)
-      (λ x y r k h. c.calm_on x.writer.now y.writer.now (done_marks Taking.closed (Ready r)) k h.came)
+      polled_calm (Closes writes)
+      (λ x y k h. c.no_pending x.writer.now y.writer.now (done_marks WriteMark.closed Pending) k h.came)
+      (λ x y r k h. c.calm_on x.writer.now y.writer.now (done_marks WriteMark.closed (Ready r)) k h.came)

@@ -71,7 +71,7 @@ impl Future for Bell {
 
     ghost run = { Rings };
 
-    ghost leaves = { λ _ fact. fact ≡ Lasting.armed };
+    ghost registers = { λ _ fact. fact ≡ Lasting.armed };
 
     ghost laws = { rings_laws };
 

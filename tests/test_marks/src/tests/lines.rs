@@ -1,6 +1,6 @@
 //! Lines of two readers of which one is pending before each chunk.
 ghost use Rattle.std.specs.Prelude.{◌≡◌, [], IfOk};
-ghost use Rattle.lite_io.specs.BufReader.{ahead, capacity_of, inner_of};
+ghost use Rattle.lite_io.specs.BufReader.{ahead, reader_capacity, reader_inner};
 
 use super::scripts::ready_ones;
 use futures::task::{Doorbell, Solo};
@@ -20,7 +20,7 @@ fn buffered(
     chunks: &[&[u8]],
     is_late: bool,
 ) -> Result<BufReader<Marks>, AllocError>
-    ensures { IfOk result (λ r. (ahead r ≡ []) × (capacity_of r ≡ 3)) }
+    ensures { IfOk result (λ r. (ahead r ≡ []) × (reader_capacity r ≡ 3)) }
 {
     let mut marks = Marks::new(rt.alloc());
     for chunk in chunks {

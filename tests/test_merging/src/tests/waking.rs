@@ -1,7 +1,7 @@
 //! A wake through either of two streams that are both pending.
 ghost use Rattle.std.specs.Prelude.{◌≡◌, Some};
 ghost use Rattle.lite_source.specs.Laws.Pending.{pending_laws};
-ghost use Rattle.lite_source.specs.Pending.{Waits};
+ghost use Rattle.lite_source.specs.Pending.{GivesPendings};
 
 use super::always::Always;
 use futures::task::{Doorbell, Solo, Source, Waker};
@@ -21,7 +21,7 @@ struct Waiting<'a> {
 impl<'a> Stream for Waiting<'a> {
     type Item = u8;
 
-    ghost run = { Waits };
+    ghost run = { GivesPendings };
 
     ghost hints = { λ x hint. hint ≡ (0, Some 0) };
 

@@ -28,7 +28,7 @@ impl<R> Tale for Budget<R> {
 
 #[tactic(auto, using(crate::specs::Budget::moved_within))]
 impl<R: AsyncRead> AsyncRead for Budget<R> {
-    ghost leaves = { λ x. R.leaves x.inner };
+    ghost registers = { λ x. R.registers x.inner };
 
     fn poll_read(&mut self, cx: &mut Context<'_>, buf: &mut [u8]) -> Poll<io::Result<usize>> {
         if self.left == 0 {

@@ -8,5 +8,6 @@ returns c =
     let ran = c.run.ensures.ran in
     let came = each_below _ _ ran.2.ins (rw c.filter-evens.ensures.parts c.requires) ran.2.came in
     let even =
-    each_left _ (λ n. n < 100) (λ n. (n % 2 ≡ 0) × (n < 100)) (λ p q x y has called. search rules) _ _ ran.2.ins ran.0 came ran.2.turned in
+    each_left _ (λ n. n < 100) (λ n. (n % 2 ≡ 0) × (n < 100))
+    (λ p q x y has called. search rules) _ _ ran.2.ins ran.0 came ran.2.related in
     (ran.0, ran.1, ran.3, even)

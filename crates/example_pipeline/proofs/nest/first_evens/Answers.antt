@@ -15,11 +15,12 @@ returns c =
     let mapped = left.came in
     -- and what stands first in it, from the inside out
     let given = vec_front _ _ _ _ mapped.ins mapped.came in
-    let triples = replaced_front _ (λ x. x * 3) (λ p q x y called. search rules) _ _ _ mapped.ins left.ins given mapped.turned in
+    let triples = replaced_front _ (λ x. x * 3)
+    (λ p q x y called. search rules) _ _ _ mapped.ins left.ins given mapped.related in
     let evens =
     left_front _ (λ x. nat_eq (x % 2) 0) (λ p q x y called. (called.0, eq-eqb (x % 2) 0 (search rules)))
-    (λ p q x called. ne_eqb (x % 2) 0 (λ even. search (rules, even))) _ _ _ left.ins taken.ins triples left.turned in
-    let firsts = cut_front _ _ _ taken.ins ran.0 evens taken.turned in
+    (λ p q x called. ne_eqb (x % 2) 0 (λ even. search (rules, even))) _ _ _ left.ins taken.ins triples left.related in
+    let firsts = cut_front _ _ _ taken.ins ran.0 evens taken.related in
     -- the nest began with the numbers and with the count
     let mapping = ap (λ m. into_iter_items m.stream.iter) c.map-tripled.ensures.parts ∙ c.iter.ensures.0 in
     let filtering = ap (λ m. into_iter_items m.stream.stream.iter) c.filter.ensures.parts ∙ mapping in

@@ -1,12 +1,12 @@
 use Rattle.std.proofs.Common.{arith, rules}
 use Rattle.std.proofs.lemmas.Grind.{common_steps}
-use Rattle.lite_byte_views.specs.Waiting.{Left, left_seen}
+use Rattle.lite_byte_views.specs.Waiting.{LeftAs, left_seen}
 use Rattle.futures_lite.proofs.future.wait_for.Goals as goal
 
 pub returns-clause-left : goal.returns-clause-left
-unfolding Left
+unfolding LeftAs
 returns-clause-left g c = (left_seen _ _ _, (c.wait_for.ensures.gave, c.wait_for.ensures.kept))
 
 pub returns-in_err-new-clause-left : goal.returns-in_err-new-clause-left
-unfolding Left
+unfolding LeftAs
 returns-in_err-new-clause-left g c = (left_seen _ _ _, first_of (search rules, grind (arith, common_steps)))

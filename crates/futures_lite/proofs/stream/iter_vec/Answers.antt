@@ -9,7 +9,8 @@ pub returns : goal.returns
 returns g c =
     let e = c.iter.ensures in
     let counted = e.1 ∙ c.args.items.ok.0 ∙ ap length (sym e.0) in
-    let all = subst (GivesAll into_iter_steps (λ i. at_most (into_iter_len i)) c.iter.result) e.0 (vec_gives _ c.iter.result counted) in
+    let all = subst (GivesAll into_iter_steps (λ i. at_most (into_iter_len i)) c.iter.result) e.0
+    (vec_gives _ c.iter.result counted) in
     record {
       fronts = all.1;
       small = rw (← c.args.items.ok.0, ← e.1) e.2;

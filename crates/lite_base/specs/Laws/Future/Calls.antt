@@ -8,11 +8,11 @@ use Rattle.futures.specs.declared.task.Poll.TheVariants.{Ready, Pending}
 use Rattle.lite_base.specs.Alike.{Alike}
 use Rattle.lite_base.specs.Answers.{Waiting}
 use Rattle.lite_base.specs.Calm.{CalmLaws}
-use Rattle.lite_base.specs.Future.Calls.{AlwaysObeys, Answers, NeverPends, Polled, Poller}
+use Rattle.lite_base.specs.Future.Calls.{AlwaysObeys, CallAnswers, NeverPends, Polled, Poller}
 use Rattle.lite_base.specs.FutureLaws.{FutureLaws}
 use Rattle.lite_base.specs.Laws.Answers.{up_to_once, waiting_up_to}
 use Rattle.lite_base.specs.Laws.Calls.{folds_follow}
-use Rattle.lite_base.specs.Laws.Calm.{prompt_back}
+use Rattle.lite_base.specs.Laws.Calm.{no_pending_back}
 use Rattle.lite_base.specs.Steady.{FutureSteadyLaws, future_steady_always}
 use Rattle.lite_base.specs.declared.future.poll_fn.PollFn.{PollFn}
 
@@ -22,30 +22,36 @@ module _ {F A : Type 0} (g : Poller F A) where
       record {
         rests = λ x. (tt, refl);
         stays = λ x y h. ap (λ v. record x { f = v }) (sym h.1);
-        follows = λ x y z l m w h k. (waiting_up_to l m w k.0, folds_follow (Answers g) x.f y.f z.f l m h.1 k.1);
+        follows = λ x y z l m w h k. (waiting_up_to l m w k.0, folds_follow (CallAnswers g) x.f y.f z.f l m h.1 k.1);
         once = λ x y l h. up_to_once l h.0;
       }
 
   -- by what its answers are, a function is its own source
-  pub polled_steady : FutureSteadyLaws (λ (x : PollFn F) (l : List (Poll A)) (y : PollFn F). Polled g x.f l y.f) (λ x l y. Polled g x.f l y.f) ⊤ (Alike (λ x l y. Polled g x.f l y.f))
+  pub polled_steady : FutureSteadyLaws (λ (x : PollFn F) (l : List (Poll A)) (y : PollFn F). Polled g x.f l y.f)
+      (λ x l y. Polled g x.f l y.f) ⊤ (Alike (λ x l y. Polled g x.f l y.f))
   polled_steady = future_steady_always polled_laws (λ x y e. e)
 
   -- it is so on
-  pub never_pends_on : (f q : F) (l : List (Poll A)) → NeverPends g f → FoldsTo (Answers g) f l q → NeverPends g q
-  never_pends_on f q l k h = record { at = λ m p d. prompt_back l m (k.at (l ++ m) p (folds_follow (Answers g) f q p l m h d)) }
+  pub never_pends_on : (f q : F) (l : List (Poll A)) → NeverPends g f → FoldsTo (CallAnswers g) f l q → NeverPends g q
+  never_pends_on f q l k h = record {
+    at = λ m p d. no_pending_back l m (k.at (l ++ m) p (folds_follow (CallAnswers g) f q p l m h d));
+  }
 
-  pub polled_calm : CalmLaws (λ (x : PollFn F) (l : List (Poll A)) (y : PollFn F). Polled g x.f l y.f) (λ x. NeverPends g x.f)
+  pub polled_calm : CalmLaws (λ (x : PollFn F) (l : List (Poll A)) (y : PollFn F). Polled g x.f l y.f)
+      (λ x. NeverPends g x.f)
   polled_calm =
       record {
-        prompt = λ x y l k h. k.at l y.f h.1;
+        no_pending = λ x y l k h. k.at l y.f h.1;
         calm_on = λ x y l k h. never_pends_on x.f y.f l k h.1;
       }
 
   -- after a call whose answer goes on, it still obeys
-  pub obeys_on : (On : List (Poll A) → Type 0) (f q : F) (a : Poll A) → ((l : List (Poll A)) → On l → On (a ∷ l)) → AlwaysObeys g On f → Answers g f a q → AlwaysObeys g On q
+  pub obeys_on : (On : List (Poll A) → Type 0) (f q : F) (a : Poll A) → ((l : List (Poll A)) → On l → On (a ∷ l))
+      → AlwaysObeys g On f → CallAnswers g f a q → AlwaysObeys g On q
   obeys_on On f q a more h c = record { at = λ l p w d. h.at (a ∷ l) p (more l w) (q, c, d) }
 
   -- until its value
-  pub obeys_until : (f q : F) (a : Poll A) → AlwaysObeys g Waiting f → Answers g f a q → OnPending a (AlwaysObeys g Waiting q)
+  pub obeys_until : (f q : F) (a : Poll A) → AlwaysObeys g Waiting f → CallAnswers g f a q
+      → OnPending a (AlwaysObeys g Waiting q)
   obeys_until f q Pending h c = obeys_on Waiting f q Pending (λ l w. w) h c
   obeys_until f q (Ready x) h c = tt

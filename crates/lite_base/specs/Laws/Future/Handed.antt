@@ -3,7 +3,7 @@ use Rattle.std.proofs.Common.{◌≡◌, List, [], ◌∷◌, ◌++◌, map, Opt
 use Rattle.futures.specs.declared.task.Poll.{Poll}
 use Rattle.futures.specs.declared.task.Poll.TheVariants.{Ready, Pending}
 use Rattle.lite_base.specs.Answers.{Answer, Gives, Waiting, strip}
-use Rattle.lite_base.specs.Calm.{Prompt}
+use Rattle.lite_base.specs.Calm.{NoPending}
 use Rattle.lite_base.specs.Future.Handed.{handed}
 
 module _ {A B : Type 0} (shown : A → Option B) where
@@ -14,12 +14,13 @@ module _ {A B : Type 0} (shown : A → Option B) where
   handed_waits (Ready x ∷ l) w = absurd w
 
   -- and then what is shown of the value, before what comes later
-  pub handed_gives : (l : List (Poll A)) (later : List (Answer B)) (x : A) → Gives l x → strip (map (handed shown) l ++ later) ≡ shown x ∷ strip later
+  pub handed_gives : (l : List (Poll A)) (later : List (Answer B)) (x : A) → Gives l x
+      → strip (map (handed shown) l ++ later) ≡ shown x ∷ strip later
   handed_gives [] later x g = absurd g
   handed_gives (Pending ∷ l) later x g = handed_gives l later x g
   handed_gives (Ready y ∷ l) later x g = rw (g.0, g.1) refl
 
-  pub handed_prompt : (l : List (Poll A)) → Prompt l → Prompt (map (handed shown) l)
-  handed_prompt [] h = tt
-  handed_prompt (Pending ∷ l) h = absurd h
-  handed_prompt (Ready x ∷ l) h = handed_prompt l h
+  pub handed_no_pending : (l : List (Poll A)) → NoPending l → NoPending (map (handed shown) l)
+  handed_no_pending [] h = tt
+  handed_no_pending (Pending ∷ l) h = absurd h
+  handed_no_pending (Ready x ∷ l) h = handed_no_pending l h

@@ -16,5 +16,7 @@ waits_laws =
       once = λ x y l h. waiting_once l h.0;
     }
 
-pub waits_steady : {F A : Type 0} → FutureSteadyLaws (λ (x : F) (l : List (Poll A)) (y : F). Waiting l × (y ≡ x)) (λ x l y. Waiting l × (y ≡ x)) ⊤ (λ x y. ⊤)
+pub waits_steady : {F A : Type 0}
+    → FutureSteadyLaws (λ (x : F) (l : List (Poll A)) (y : F). Waiting l × (y ≡ x)) (λ x l y. Waiting l × (y ≡ x)) ⊤
+    (λ x y. ⊤)
 waits_steady = future_steady_always waits_laws (λ x y e l m x' y' h k. rw (waiting_strip l h.0) tt)

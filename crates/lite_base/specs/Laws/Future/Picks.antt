@@ -4,32 +4,35 @@ use Rattle.std.proofs.Common.{◌≡◌, List, [], ◌∷◌, ◌++◌, Bool, tr
 use Rattle.futures.specs.declared.task.Poll.{Poll}
 use Rattle.futures.specs.declared.task.Poll.TheVariants.{Ready, Pending}
 use Rattle.lite_base.specs.Answers.{Waiting}
-use Rattle.lite_base.specs.Calm.{CalmLaws, Prompt}
-use Rattle.lite_base.specs.Future.Picks.{Picks, Row, Rows}
+use Rattle.lite_base.specs.Calm.{CalmLaws, NoPending}
+use Rattle.lite_base.specs.Future.Picks.{PickRow, PickRows, Picks}
 use Rattle.lite_base.specs.FutureLaws.{FutureLaws}
 use Rattle.lite_base.specs.Laws.Answers.{waiting_up_to}
-use Rattle.lite_base.specs.Laws.Calm.{prompt_join}
+use Rattle.lite_base.specs.Laws.Calm.{no_pending_join}
+use Rattle.lite_base.specs.Runs.{Runs}
 
 other_way : {P Q : Type 0} → P ⊎ Q → Q ⊎ P
 other_way (inl p) = inr p
 other_way (inr q) = inl q
 
 module _ {A : Type 0} where
-  row_more : (i j : List (Poll A)) (c : Poll A) (i' j' k h : List (Poll A)) → Row i j c i' j' → Row (i ++ k) (j ++ h) c (i' ++ k) (j' ++ h)
+  row_more : (i j : List (Poll A)) (c : Poll A) (i' j' k h : List (Poll A)) → PickRow i j c i' j'
+      → PickRow (i ++ k) (j ++ h) c (i' ++ k) (j' ++ h)
   row_more [] j c i' j' k h r = absurd r
   row_more (Ready x ∷ i) j c i' j' k h r = (r.0, ap (λ l. l ++ k) r.1, ap (λ l. l ++ h) r.2)
   row_more (Pending ∷ i) [] c i' j' k h r = absurd r
   row_more (Pending ∷ i) (b ∷ j) c i' j' k h r = (r.0, ap (λ l. l ++ k) r.1, ap (λ l. l ++ h) r.2)
 
   -- a row that was pending, before rows that wait
-  row_waits : (i j i' j' : List (Poll A)) → Row i j Pending i' j' → Waiting i' → Waiting j' → Waiting i × Waiting j
+  row_waits : (i j i' j' : List (Poll A)) → PickRow i j Pending i' j' → Waiting i' → Waiting j' → Waiting i × Waiting j
   row_waits [] j i' j' r w v = absurd r
   row_waits (Ready x ∷ i) j i' j' r w v = absurd (let e = r.0 in cc)
   row_waits (Pending ∷ i) [] i' j' r w v = absurd r
   row_waits (Pending ∷ i) (Ready x ∷ j) i' j' r w v = absurd (let e = r.0 in cc)
   row_waits (Pending ∷ i) (Pending ∷ j) i' j' r w v = (rw (← r.1) w, rw (← r.2) v)
 
-  pub rows_wait : (order : List Bool) (i j out : List (Poll A)) → Rows order i j out → Waiting out → Waiting i × Waiting j
+  pub rows_wait : (order : List Bool) (i j out : List (Poll A)) → PickRows order i j out → Waiting out → Waiting i
+      × Waiting j
   rows_wait [] i j out r w = (rw r.0 tt, rw r.1 tt)
   rows_wait (b ∷ order) i j [] r w = absurd r
   rows_wait (b ∷ order) i j (Ready x ∷ out) r w = absurd w
@@ -41,14 +44,18 @@ module _ {A : Type 0} where
       let d = row_waits j i r.1 r.0 r.2 e.1 e.0 in
       (d.1, d.0)
 
-  pub rows_follow : (o p : List Bool) (i j k h l m : List (Poll A)) → Rows o i j l → Rows p k h m → Rows (o ++ p) (i ++ k) (j ++ h) (l ++ m)
+  pub rows_follow : (o p : List Bool) (i j k h l m : List (Poll A)) → PickRows o i j l → PickRows p k h m
+      → PickRows (o ++ p) (i ++ k) (j ++ h) (l ++ m)
   rows_follow [] p i j k h l m r q = rw (r.0, r.1, r.2) q
   rows_follow (b ∷ o) p i j k h [] m r q = absurd r
-  rows_follow (true ∷ o) p i j k h (c ∷ l) m r q = (r.0 ++ k, r.1 ++ h, row_more i j c r.0 r.1 k h r.2, rows_follow o p r.0 r.1 k h l m r.3 q)
-  rows_follow (false ∷ o) p i j k h (c ∷ l) m r q = (r.0 ++ k, r.1 ++ h, row_more j i c r.1 r.0 h k r.2, rows_follow o p r.0 r.1 k h l m r.3 q)
+  rows_follow (true ∷ o) p i j k h (c ∷ l) m r q =
+      (r.0 ++ k, r.1 ++ h, row_more i j c r.0 r.1 k h r.2, rows_follow o p r.0 r.1 k h l m r.3 q)
+  rows_follow (false ∷ o) p i j k h (c ∷ l) m r q =
+      (r.0 ++ k, r.1 ++ h, row_more j i c r.1 r.0 h k r.2, rows_follow o p r.0 r.1 k h l m r.3 q)
 
   -- where one of the two lists has no Pending, no row has
-  row_calm : (i j : List (Poll A)) (c : Poll A) (i' j' : List (Poll A)) → Row i j c i' j' → Prompt i ⊎ Prompt j → Prompt (c ∷ []) × (Prompt i' ⊎ Prompt j')
+  row_calm : (i j : List (Poll A)) (c : Poll A) (i' j' : List (Poll A)) → PickRow i j c i' j' → NoPending i
+      ⊎ NoPending j → NoPending (c ∷ []) × (NoPending i' ⊎ NoPending j')
   row_calm [] j c i' j' r p = absurd r
   row_calm (Ready x ∷ i) j c i' j' r (inl p) = (rw r.0 tt, inl (rw r.1 p))
   row_calm (Ready x ∷ i) j c i' j' r (inr p) = (rw r.0 tt, inr (rw r.2 p))
@@ -57,28 +64,41 @@ module _ {A : Type 0} where
   row_calm (Pending ∷ i) (Pending ∷ j) c i' j' r (inr p) = absurd p
   row_calm (Pending ∷ i) (Ready x ∷ j) c i' j' r (inr p) = (rw r.0 tt, inr (rw r.2 p))
 
-  rows_calm : (order : List Bool) (i j out : List (Poll A)) → Rows order i j out → Prompt i ⊎ Prompt j → Prompt out
+  rows_calm : (order : List Bool) (i j out : List (Poll A)) → PickRows order i j out → NoPending i ⊎ NoPending j
+      → NoPending out
   rows_calm [] i j out r p = rw r.2 tt
   rows_calm (b ∷ order) i j [] r p = absurd r
   rows_calm (true ∷ order) i j (c ∷ out) r p =
       let d = row_calm i j c r.0 r.1 r.2 p in
-      prompt_join (c ∷ []) out d.0 (rows_calm order r.0 r.1 out r.3 d.1)
+      no_pending_join (c ∷ []) out d.0 (rows_calm order r.0 r.1 out r.3 d.1)
   rows_calm (false ∷ order) i j (c ∷ out) r p =
       let d = row_calm j i c r.1 r.0 r.2 (other_way p) in
-      prompt_join (c ∷ []) out d.0 (rows_calm order r.0 r.1 out r.3 (other_way d.1))
+      no_pending_join (c ∷ []) out d.0 (rows_calm order r.0 r.1 out r.3 (other_way d.1))
 
-module _ {F G A : Type 0} (run_first : F → List (Poll A) → F → Type 0) (run_second : G → List (Poll A) → G → Type 0) where
-  pub picks_rest : FutureLaws run_first → FutureLaws run_second → (f : F) (g : G) → Picks run_first run_second [] f g [] f g
-  picks_rest laws_first laws_second f g = record { i = []; j = []; first = laws_first.rests f; second = laws_second.rests g; rows = (refl, refl, refl); ends = tt }
+module _ {F G A : Type 0} (run_first : Runs (Poll A) F) (run_second : Runs (Poll A) G) where
+  pub picks_rest : FutureLaws run_first → FutureLaws run_second → (f : F) (g : G)
+      → Picks run_first run_second [] f g [] f g
+  picks_rest laws_first laws_second f g =
+      record {
+        i = [];
+        j = [];
+        first = laws_first.rests f;
+        second = laws_second.rests g;
+        rows = (refl, refl, refl);
+        ends = tt;
+      }
 
   pub picks_stay : FutureLaws run_first → FutureLaws run_second
       → (f f' : F) (g g' : G) → Picks run_first run_second [] f g [] f' g' → (f' ≡ f) × (g' ≡ g)
-  picks_stay laws_first laws_second f f' g g' h =
-      (laws_first.stays f f' (subst (λ l. run_first f l f') h.rows.0 h.first), laws_second.stays g g' (subst (λ l. run_second g l g') h.rows.1 h.second))
+  picks_stay laws_first laws_second f f' g g' h = (
+    laws_first.stays f f' (subst (λ l. run_first f l f') h.rows.0 h.first),
+    laws_second.stays g g' (subst (λ l. run_second g l g') h.rows.1 h.second),
+  )
 
   pub picks_follow : FutureLaws run_first → FutureLaws run_second
       → (o p : List Bool) (f f' f2 : F) (g g' g2 : G) (l m : List (Poll A)) → Waiting l
-      → Picks run_first run_second o f g l f' g' → Picks run_first run_second p f' g' m f2 g2 → Picks run_first run_second (o ++ p) f g (l ++ m) f2 g2
+      → Picks run_first run_second o f g l f' g' → Picks run_first run_second p f' g' m f2 g2
+      → Picks run_first run_second (o ++ p) f g (l ++ m) f2 g2
   picks_follow laws_first laws_second o p f f' f2 g g' g2 l m w h k =
       let waits = rows_wait o h.i h.j l h.rows w in
       record {
@@ -90,10 +110,14 @@ module _ {F G A : Type 0} (run_first : F → List (Poll A) → F → Type 0) (ru
         ends = waiting_up_to l m w k.ends;
       }
 
-module _ {F G A : Type 0} {run_first : F → List (Poll A) → F → Type 0} {run_second : G → List (Poll A) → G → Type 0} {calm_first : F → Type 0} {calm_second : G → Type 0}
+module _ {F G A : Type 0} {run_first : Runs (Poll A) F} {run_second : Runs (Poll A) G} {calm_first : F → Type 0}
+    {calm_second : G → Type 0}
     (c : CalmLaws run_first calm_first) (d : CalmLaws run_second calm_second) where
   -- where one of the two is never pending, they are not
-  pub picks_calm : (order : List Bool) (f f' : F) (g g' : G) (out : List (Poll A)) → calm_first f ⊎ calm_second g → Picks run_first run_second order f g out f' g'
-      → Prompt out × (calm_first f' ⊎ calm_second g')
-  picks_calm order f f' g g' out (inl k) h = (rows_calm order h.i h.j out h.rows (inl (c.prompt f f' h.i k h.first)), inl (c.calm_on f f' h.i k h.first))
-  picks_calm order f f' g g' out (inr k) h = (rows_calm order h.i h.j out h.rows (inr (d.prompt g g' h.j k h.second)), inr (d.calm_on g g' h.j k h.second))
+  pub picks_calm : (order : List Bool) (f f' : F) (g g' : G) (out : List (Poll A)) → calm_first f ⊎ calm_second g
+      → Picks run_first run_second order f g out f' g'
+      → NoPending out × (calm_first f' ⊎ calm_second g')
+  picks_calm order f f' g g' out (inl k) h =
+      (rows_calm order h.i h.j out h.rows (inl (c.no_pending f f' h.i k h.first)), inl (c.calm_on f f' h.i k h.first))
+  picks_calm order f f' g g' out (inr k) h =
+      (rows_calm order h.i h.j out h.rows (inr (d.no_pending g g' h.j k h.second)), inr (d.calm_on g g' h.j k h.second))

@@ -4,13 +4,15 @@ use Rattle.std.proofs.Common.{◌≤◌, List, [], ◌∷◌, ◌++◌, length, 
 use Rattle.futures.specs.declared.task.Poll.{Poll}
 use Rattle.futures.specs.declared.task.Poll.TheVariants.{Ready, Pending}
 use Rattle.lite_base.specs.Answers.{Waiting, strip}
-use Rattle.lite_base.specs.Calm.{CalmLaws, Prompt}
+use Rattle.lite_base.specs.Calm.{CalmLaws, NoPending}
 use Rattle.lite_base.specs.Future.PollOnce.{TellsFirst}
 use Rattle.lite_base.specs.FutureLaws.{FutureLaws}
 use Rattle.lite_base.specs.declared.future.poll_once.PollOnce.{PollOnce}
+use Rattle.lite_base.specs.Runs.{Runs}
 
-module _ {F A : Type 0} (run : F → List (Poll A) → F → Type 0) where
-  tells_follow : (x y z : PollOnce F) (l m : List (Poll (Option A))) → Waiting l → TellsFirst run x l y → TellsFirst run y m z → TellsFirst run x (l ++ m) z
+module _ {F A : Type 0} (run : Runs (Poll A) F) where
+  tells_follow : (x y z : PollOnce F) (l m : List (Poll (Option A))) → Waiting l → TellsFirst run x l y
+      → TellsFirst run y m z → TellsFirst run x (l ++ m) z
   tells_follow x y z [] m w h k = subst (λ t. TellsFirst run t m z) h k
   tells_follow x y z (Pending ∷ l) m w h k = absurd (let e = h.2 in cc)
   tells_follow x y z (Ready b ∷ l) m w h k = absurd w
@@ -20,13 +22,13 @@ module _ {F A : Type 0} (run : F → List (Poll A) → F → Type 0) where
   tells_once x y (Pending ∷ l) h = absurd (let e = h.2 in cc)
   tells_once x y (Ready b ∷ l) h = rw h.3 (omega arith)
 
-  tells_prompt : (x y : PollOnce F) (l : List (Poll (Option A))) → TellsFirst run x l y → Prompt l
-  tells_prompt x y [] h = tt
-  tells_prompt x y (Pending ∷ l) h = absurd (let e = h.2 in cc)
-  tells_prompt x y (Ready b ∷ l) h = rw h.3 tt
+  tells_no_pending : (x y : PollOnce F) (l : List (Poll (Option A))) → TellsFirst run x l y → NoPending l
+  tells_no_pending x y [] h = tt
+  tells_no_pending x y (Pending ∷ l) h = absurd (let e = h.2 in cc)
+  tells_no_pending x y (Ready b ∷ l) h = rw h.3 tt
 
   pub tells_calm : CalmLaws (TellsFirst run) (λ x. ⊤)
-  tells_calm = record { prompt = λ x y l k h. tells_prompt x y l h; calm_on = λ x y l k h. tt }
+  tells_calm = record { no_pending = λ x y l k h. tells_no_pending x y l h; calm_on = λ x y l k h. tt }
 
   pub tells_laws : FutureLaws (TellsFirst run)
   tells_laws = record { rests = λ x. refl; stays = λ x y h. h; follows = tells_follow; once = tells_once }

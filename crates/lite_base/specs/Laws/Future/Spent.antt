@@ -8,17 +8,20 @@ use Rattle.lite_base.specs.FutureLaws.{FutureLaws}
 use Rattle.lite_base.specs.Laws.Answers.{waiting_waiting}
 use Rattle.lite_base.specs.Laws.Future.Finishes.{finishes_found, finishes_later}
 use Rattle.lite_base.specs.Steady.{TakesNone}
+use Rattle.lite_base.specs.Runs.{Runs}
 
 module _ {A B : Type 0} (shown : Poll A → Poll B) where
   pub shown_none : (ins : List (Poll A)) → [] ≡ map shown ins → ins ≡ []
   shown_none [] e = refl
   shown_none (a ∷ ins) e = absurd (cc e)
 
-  pub shown_gives : (ins : List (Poll A)) (after : List (Poll B)) (x : A) → [] ≡ map shown ins ++ after → Gives ins x → ⊥
+  pub shown_gives : (ins : List (Poll A)) (after : List (Poll B)) (x : A) → [] ≡ map shown ins ++ after → Gives ins x
+      → ⊥
   shown_gives [] after x e g = g
   shown_gives (a ∷ ins) after x e g = cc e
 
-module _ {F A B : Type 0} {run : F → List (Poll A) → F → Type 0} (shown : Poll A → Poll B) (Later : List (Poll B) → Type 0) (laws : FutureLaws run) where
+module _ {F A B : Type 0} {run : Runs (Poll A) F} (shown : Poll A → Poll B) (Later : List (Poll B) → Type 0)
+    (laws : FutureLaws run) where
   pub spends_rest : Later [] → (x : Option F) → Spends run shown Later x [] x
   spends_rest none None = (none, refl)
   spends_rest none (Some f) = ([], tt, laws.rests f, refl)
@@ -30,7 +33,8 @@ module _ {F A B : Type 0} {run : F → List (Poll A) → F → Type 0} (shown : 
 
   -- of any two runs, the first with its value or without
   pub spends_follow : ((l m : List (Poll B)) → Later l → Later m → Later (l ++ m))
-      → (x y z : Option F) (l m : List (Poll B)) → Spends run shown Later x l y → Spends run shown Later y m z → Spends run shown Later x (l ++ m) z
+      → (x y z : Option F) (l m : List (Poll B)) → Spends run shown Later x l y → Spends run shown Later y m z
+      → Spends run shown Later x (l ++ m) z
   spends_follow more None None z l m h k = (more l m h.0 k.0, k.1)
   spends_follow more None (Some g) z l m h k = absurd (let e = h.1 in cc)
   spends_follow more (Some f) None None l m h k =
@@ -52,12 +56,17 @@ module _ {F A B : Type 0} {run : F → List (Poll A) → F → Type 0} (shown : 
         later = k.later;
         joined = rw (h.3, k.joined, map-append, append_assoc) refl;
       }
-  spends_follow more (Some f) (Some g) (Some j) l m h k =
-      (h.0 ++ k.0, waiting_waiting h.0 k.0 h.1 k.1, laws.follows f g j h.0 k.0 h.1 h.2 k.2, rw (h.3, k.3, map-append) refl)
+  spends_follow more (Some f) (Some g) (Some j) l m h k = (
+    h.0 ++ k.0,
+    waiting_waiting h.0 k.0 h.1 k.1,
+    laws.follows f g j h.0 k.0 h.1 h.2 k.2,
+    rw (h.3, k.3, map-append) refl,
+  )
 
-module _ {F A B : Type 0} {run ample : F → List (Poll A) → F → Type 0} (shown : Poll A → Poll B) (Later : List (Poll B) → Type 0) where
+module _ {F A B : Type 0} {run ample : Runs (Poll A) F} (shown : Poll A → Poll B) (Later : List (Poll B) → Type 0) where
   -- where no poll asks for memory
-  pub spends_found : TakesNone run ample → (x y : Option F) (l : List (Poll B)) → Spends run shown Later x l y → Spends ample shown Later x l y
+  pub spends_found : TakesNone run ample → (x y : Option F) (l : List (Poll B)) → Spends run shown Later x l y
+      → Spends ample shown Later x l y
   spends_found takes None y l h = h
   spends_found takes (Some f) (Some g) l h = (h.0, h.1, takes f g h.0 h.2, h.3)
   spends_found takes (Some f) None l h =

@@ -1,46 +1,56 @@
 -- Laws of `zip`.
-use Rattle.std.proofs.Common.{List}
 use Rattle.futures.specs.declared.task.Poll.{Poll}
 use Rattle.lite_base.specs.Alike.{Pairwise, SameItem, Sameness}
 use Rattle.lite_base.specs.Answers.{strip}
 use Rattle.lite_base.specs.Calm.{CalmLaws}
 use Rattle.lite_base.specs.Future.Half.{HalvesBy, IfAsked}
-use Rattle.lite_base.specs.Future.Zip.{Zips}
+use Rattle.lite_base.specs.Future.Zip.{FutureZips}
 use Rattle.lite_base.specs.FutureLaws.{FutureLaws}
 use Rattle.lite_base.specs.Laws.Alike.{alike_agrees, by_value, up_to_gives}
 use Rattle.lite_base.specs.Laws.Future.Agree.{HalvesAgree, zips_agree}
 use Rattle.lite_base.specs.Laws.Future.Half.{stands_found}
-use Rattle.lite_base.specs.Laws.Future.Together.{leaves_up_to, together_calm, together_follow, together_once, together_rest, together_stay}
+use Rattle.lite_base.specs.Laws.Future.Together.{taken_up_to, together_calm, together_follow, together_once}
+use Rattle.lite_base.specs.Laws.Future.Together.{together_rest, together_stay}
 use Rattle.lite_base.specs.Steady.{FutureSteadyLawsBy, SteadinessBy}
 use Rattle.lite_base.specs.declared.future.half.Half.{Half}
 use Rattle.lite_base.specs.declared.future.half.Half.TheVariants.{Asked, Gave, Taken}
 use Rattle.lite_base.specs.declared.future.zip.Zip.{Zip}
+use Rattle.lite_base.specs.Runs.{Runs}
 
 -- `zip` of futures that run so
-abbrev Zipped : {F G A B : Type 0} → (F → List (Poll A) → F → Type 0) → (G → List (Poll B) → G → Type 0) → Zip F G A B → List (Poll (A × B)) → Zip F G A B → Type 0
-Zipped run_first run_second x l y = Zips run_first run_second x.first x.second l y.first y.second
+abbrev Zipped : {F G A B : Type 0} → Runs (Poll A) F → Runs (Poll B) G → Runs (Poll (A × B)) (Zip F G A B)
+Zipped run_first run_second x l y = FutureZips run_first run_second x.first x.second l y.first y.second
 
-module _ {F G A B : Type 0} {run_first : F → List (Poll A) → F → Type 0} {run_second : G → List (Poll B) → G → Type 0} where
+module _ {F G A B : Type 0} {run_first : Runs (Poll A) F} {run_second : Runs (Poll B) G} where
   pub zips_laws : FutureLaws run_first → FutureLaws run_second → FutureLaws (Zipped run_first run_second)
   zips_laws laws_first laws_second =
       record {
-        rests = λ x. together_rest (λ v. v) (λ w. w) (λ v w. (v, w)) run_first run_second laws_first laws_second x.first x.second;
+        rests = λ x. together_rest (λ v. v) (λ w. w)
+            (λ v w. (v, w)) run_first run_second laws_first laws_second x.first x.second;
         stays = λ x y h.
-            let e = together_stay (λ v. v) (λ w. w) (λ v w. (v, w)) run_first run_second laws_first laws_second x.first y.first x.second y.second h in
+            let e = together_stay (λ v. v) (λ w. w)
+            (λ v w. (v, w)) run_first run_second laws_first laws_second x.first y.first x.second y.second h in
             λ i. record { first = e.0 i; second = e.1 i };
-        follows = λ x y z. together_follow (λ v. v) (λ w. w) (λ v w. (v, w)) run_first run_second laws_first laws_second x.first y.first z.first x.second y.second z.second;
-        once = λ x y. together_once (λ v. v) (λ w. w) (λ v w. (v, w)) run_first run_second x.first y.first x.second y.second;
+        follows = λ x y z. together_follow (λ v. v) (λ w. w)
+            (λ v w. (v, w)) run_first run_second laws_first laws_second x.first y.first z.first x.second y.second
+            z.second;
+        once = λ x y. together_once (λ v. v) (λ w. w)
+            (λ v w. (v, w)) run_first run_second x.first y.first x.second y.second;
       }
 
-  pub zips_calm : {calm_first : F → Type 0} {calm_second : G → Type 0} → CalmLaws run_first calm_first → CalmLaws run_second calm_second
+  pub zips_calm : {calm_first : F → Type 0} {calm_second : G → Type 0} → CalmLaws run_first calm_first
+      → CalmLaws run_second calm_second
       → CalmLaws (Zipped run_first run_second) (λ x. IfAsked x.first calm_first × IfAsked x.second calm_second)
   zips_calm c d =
       record {
-        prompt = λ x y l k h. (together_calm (λ v. v) (λ w. w) (λ v w. (v, w)) c d x.first y.first x.second y.second l k h).0;
-        calm_on = λ x y l k h. (together_calm (λ v. v) (λ w. w) (λ v w. (v, w)) c d x.first y.first x.second y.second l k h).1;
+        no_pending = λ x y l k h.
+            (together_calm (λ v. v) (λ w. w) (λ v w. (v, w)) c d x.first y.first x.second y.second l k h).0;
+        calm_on = λ x y l k h.
+            (together_calm (λ v. v) (λ w. w) (λ v w. (v, w)) c d x.first y.first x.second y.second l k h).1;
       }
 
-module _ {F A : Type 0} (same : Sameness A) (run : F → List (Poll A) → F → Type 0) (alike : F → F → Type 0) (s : SteadinessBy (SameItem same) run alike) where
+module _ {F A : Type 0} (same : Sameness A) (run : Runs (Poll A) F) (alike : F → F → Type 0)
+    (s : SteadinessBy (SameItem same) run alike) where
   halves_agree : (x y : Half F A) → HalvesBy same alike x y → HalvesAgree same run x y
   halves_agree (Asked f) (Asked g) e = alike_agrees run f g (s f g e)
   halves_agree (Asked f) (Gave w) e = e
@@ -50,21 +60,26 @@ module _ {F A : Type 0} (same : Sameness A) (run : F → List (Poll A) → F →
   halves_agree (Gave v) Taken e = e
   halves_agree Taken y e = e
 
-module _ {F G A B : Type 0} {run_first ample_first : F → List (Poll A) → F → Type 0} {run_second ample_second : G → List (Poll B) → G → Type 0}
+module _ {F G A B : Type 0} {run_first ample_first : Runs (Poll A) F} {run_second ample_second : Runs (Poll B) G}
     {none_first none_second : Type 0} {alike_first : F → F → Type 0} {alike_second : G → G → Type 0}
     (same : Sameness A) (other : Sameness B) (s : FutureSteadyLawsBy same run_first ample_first none_first alike_first)
     (t : FutureSteadyLawsBy other run_second ample_second none_second alike_second) where
-  pub zips_steady : FutureSteadyLawsBy (Pairwise same other) (Zipped run_first run_second) (Zipped ample_first ample_second) (none_first × none_second)
+  pub zips_steady : FutureSteadyLawsBy (Pairwise same other) (Zipped run_first run_second)
+      (Zipped ample_first ample_second) (none_first × none_second)
       (λ (x y : Zip F G A B). HalvesBy same alike_first x.first y.first × HalvesBy other alike_second x.second y.second)
   zips_steady =
       record {
         laws = zips_laws s.laws t.laws;
         steady = λ x y e l m x' y' h k.
-            by_value (strip l) (strip m) ((zips_laws s.laws t.laws).once x x' l h) ((zips_laws s.laws t.laws).once y y' m k)
+            by_value (strip l) (strip m) ((zips_laws s.laws t.laws).once x x' l h)
+            ((zips_laws s.laws t.laws).once y y' m k)
             (λ v w f g.
-            zips_agree ample_first ample_second same other x.first y.first x'.first y'.first x.second y.second x'.second y'.second l m v w
-            (halves_agree same ample_first alike_first s.steady x.first y.first e.0) (halves_agree other ample_second alike_second t.steady x.second y.second e.1) h k
-            (up_to_gives l v (leaves_up_to l h.p x'.first h.leaves.0) f) (up_to_gives m w (leaves_up_to m k.p y'.first k.leaves.0) g));
+            zips_agree ample_first ample_second same other x.first y.first x'.first y'.first x.second y.second x'.second
+            y'.second l m v w
+            (halves_agree same ample_first alike_first s.steady x.first y.first e.0)
+            (halves_agree other ample_second alike_second t.steady x.second y.second e.1) h k
+            (up_to_gives l v (taken_up_to l h.p x'.first h.taken.0) f)
+            (up_to_gives m w (taken_up_to m k.p y'.first k.taken.0) g));
         found = λ n x y l h.
             record {
               i = h.i;
@@ -74,6 +89,6 @@ module _ {F G A B : Type 0} {run_first ample_first : F → List (Poll A) → F �
               first = stands_found (λ v. v) (s.found n.0) x.first h.p h.i h.first;
               second = stands_found (λ w. w) (t.found n.1) x.second h.q h.j h.second;
               rows = h.rows;
-              leaves = h.leaves;
+              taken = h.taken;
             };
       }

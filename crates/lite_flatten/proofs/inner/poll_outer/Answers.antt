@@ -11,10 +11,16 @@ returns-in-Ready-Some-clause-again g c =
 
 pub returns-in-Ready-None-clause-again : goal.returns-in-Ready-None-clause-again
 returns-in-Ready-None-clause-again g c =
-    let more = to_come g.met.S.Stream.laws.follows _ _ _ _ c.requires.can.2 c.poll_next.ensures.ran in
-    (c.poll_next.ensures.again, g.met.S.Counted.counting.counts_on _ _ _ c.requires.can.1 c.poll_next.ensures.ran, (c.requires.can.2.0, more))
+    let more = to_come g.met.S.Stream.laws.follows _ _ _ _ c.requires.can.2 c.poll_next.ensures.ran in (
+      c.poll_next.ensures.again,
+      g.met.S.Counted.counting.counts_on _ _ _ c.requires.can.1 c.poll_next.ensures.ran,
+      (c.requires.can.2.0, more),
+    )
 
 pub returns-in-Pending-clause-again : goal.returns-in-Pending-clause-again
 returns-in-Pending-clause-again g c =
-    let more = to_come g.met.S.Stream.laws.follows _ _ _ _ c.requires.can.2 c.poll_next.ensures.ran in
-    (c.poll_next.ensures.again, g.met.S.Counted.counting.counts_on _ _ _ c.requires.can.1 c.poll_next.ensures.ran, (c.requires.can.2.0, more))
+    let more = to_come g.met.S.Stream.laws.follows _ _ _ _ c.requires.can.2 c.poll_next.ensures.ran in (
+      c.poll_next.ensures.again,
+      g.met.S.Counted.counting.counts_on _ _ _ c.requires.can.1 c.poll_next.ensures.ran,
+      (c.requires.can.2.0, more),
+    )

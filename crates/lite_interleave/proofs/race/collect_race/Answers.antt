@@ -8,4 +8,5 @@ returns-clause-whole g c =
     let made = c.collect.ensures in
     let is = has g.C.Gather.holds _ [] made.«open» made.empty in
     let stays = g.met.S1.Stream.laws.stays in
-    race_collected g.S1.Stream.run g.S2.Stream.run g.R.Rng.stream stays g.met.S2.Stream.laws.stays g.C.Gather.holds c.collect.result [] is
+    race_collected g.S1.Stream.run g.S2.Stream.run g.R.Rng.stream stays g.met.S2.Stream.laws.stays g.C.Gather.holds
+    c.collect.result [] is

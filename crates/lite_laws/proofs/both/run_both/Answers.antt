@@ -21,7 +21,12 @@ returns-in_err-run-clause-agree g c =
       [],
       ran.1,
       search rules,
-      record { first = ran.2; second = rests; found = same; always = λ n. same (steady.found n _ _ _ ran.2) (steady.found n _ _ _ rests) },
+      record {
+        first = ran.2;
+        second = rests;
+        found = same;
+        always = λ n. same (steady.found n _ _ _ ran.2) (steady.found n _ _ _ rests);
+      },
       search rules,
       ran.5,
       tt,
@@ -38,7 +43,12 @@ returns-clause-agree g c =
       two.0,
       one.1,
       two.1,
-      record { first = one.2; second = two.2; found = same; always = λ n. same (steady.found n _ _ _ one.2) (steady.found n _ _ _ two.2) },
+      record {
+        first = one.2;
+        second = two.2;
+        found = same;
+        always = λ n. same (steady.found n _ _ _ one.2) (steady.found n _ _ _ two.2);
+      },
       both_ok _ c.run-2.result (search rules) two.3,
       waits_on _ one.0 (λ left fact h. c.run-2.ensures.kept fact (left fact h)) one.5,
       two.5,

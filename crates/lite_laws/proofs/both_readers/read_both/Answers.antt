@@ -8,5 +8,11 @@ returns-in_err-on-clause-agree g c = ([], [], sym (append-nil _), sym (append-ni
 pub returns-clause-agree : goal.returns-clause-agree
 returns-clause-agree g c =
     let one = c.in_ok-first.ensures.read in
-    let two = c.in_ok-second.ensures.read in
-    (one.0, two.0, one.1, two.1, both_read g.met.T.SteadyRead.steady _ _ _ _ one.0 two.0 _ _ c.requires.alike one.2 two.2, tt)
+    let two = c.in_ok-second.ensures.read in (
+      one.0,
+      two.0,
+      one.1,
+      two.1,
+      both_read g.met.T.SteadyRead.steady _ _ _ _ one.0 two.0 _ _ c.requires.alike one.2 two.2,
+      tt,
+    )

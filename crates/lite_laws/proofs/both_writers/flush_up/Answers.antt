@@ -6,4 +6,5 @@ pub returns : goal.returns
 returns g c =
     let waited = c.wait_for.ensures in
     let lent = flush_lent g.T.Takings.writes _ _ _ _ c.flush.ensures (waited.gave, waited.kept) in
-    flush_up g.T.Takings.writes _ _ _ _ c.flush.ensures (waited.gave, waited.kept) g.T.Takings.write_laws _ (search rules)
+    flush_up g.T.Takings.writes _ _ _ _ c.flush.ensures (waited.gave, waited.kept) g.T.Takings.write_laws _
+    (search rules)

@@ -6,4 +6,5 @@ pub returns : goal.returns
 returns g c =
     let waited = c.wait_for.ensures in
     let lent = writer_lent g.T.Takings.writes _ _ _ _ _ c.write_all.ensures (waited.gave, waited.kept) in
-    hand_up g.T.Takings.writes _ _ _ _ _ c.write_all.ensures (waited.gave, waited.kept) g.T.Takings.write_laws _ (search rules)
+    hand_up g.T.Takings.writes _ _ _ _ _ c.write_all.ensures (waited.gave, waited.kept) g.T.Takings.write_laws _
+    (search rules)

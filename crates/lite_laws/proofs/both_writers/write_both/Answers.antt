@@ -22,5 +22,10 @@ returns-in_err-second g c =
 pub returns : goal.returns
 returns g c =
     let one = c.in_ok-first.ensures in
-    let two = c.in_ok-second.ensures in
-    (one.0, two.0, one.1, two.1, both_written g.met.T.SteadyWrite.steady _ _ _ _ _ one.0 two.0 _ _ c.requires.alike one.1 two.1 one.2 two.2)
+    let two = c.in_ok-second.ensures in (
+      one.0,
+      two.0,
+      one.1,
+      two.1,
+      both_written g.met.T.SteadyWrite.steady _ _ _ _ _ one.0 two.0 _ _ c.requires.alike one.1 two.1 one.2 two.2,
+    )

@@ -5,14 +5,13 @@ use Rattle.lite_consume.specs.Consuming.{fold_of}
 use Rattle.lite_consume.specs.declared.consume.Consume.{Consume}
 use Rattle.lite_gather.specs.TryCollect.{tries_collect}
 use Rattle.lite_gather.specs.declared.try_collect.TryCollect.{TryCollect}
-use Rattle.lite_io.specs.BufReader.{Passes, Through, ahead, capacity_of, inner_of as buffered_of}
-use Rattle.lite_io.specs.Take.{Fits, Takes, inner_of, limit_of}
+use Rattle.lite_io.specs.BufReader.{PassesBuffer, ThroughBuffer, ahead, reader_capacity, reader_inner as buffered_of}
+use Rattle.lite_io.specs.Take.{TakesMarks, WithinLimit, limit_of, take_inner}
 use Rattle.lite_io.specs.declared.buf_reader.BufReader.{BufReader}
 use Rattle.lite_io.specs.declared.take.Take.{Take}
-use Rattle.lite_io_base.specs.Marks.{Mark, bytes}
-use Rattle.lite_io_base.specs.Runs.{Runs}
+use Rattle.lite_io_base.specs.Marks.{ReadMark, bytes}
 use Rattle.lite_lines.specs.Lines.{GivesLines, lining}
-use Rattle.lite_lines.specs.Segments.{Segments}
+use Rattle.lite_lines.specs.Segments.{PieceSegments}
 use Rattle.lite_lines.specs.declared.lines.Lines.{Lines}
 use Rattle.lite_pipeline.specs.Lines.{AtEachValue, CollectsLines, limited, lines_told}
 use Rattle.lite_pipeline.proofs.Collecting.{Has, collects_so, has_none, says}
@@ -20,31 +19,38 @@ use Rattle.lite_pipeline.proofs.Limits.{passed, told_through}
 use Rattle.lite_pipeline.proofs.Telling.{Given, given}
 use Rattle.lite_pipeline.proofs.lines.collect_buffered_lines.Goals as goal
 use Rattle.std.proofs.Common.{String, Global}
+use Rattle.lite_base.specs.Runs.{Runs}
 
-module _ {R C : Type 0} (reads : Runs Mark R) (holds : C → List (String Global) → Type 0) where
+module _ {R C : Type 0} (reads : Runs ReadMark R) (holds : C → List (String Global) → Type 0) where
   abbrev Collecting : Type 0
   Collecting = Consume (Lines (Take (BufReader R))) (TryCollect C)
 
-  lines_collected : (reader : BufReader R) (limit : ℕ) (x : Collecting) → inner_of x.stream.reader ≡ reader → 0 < capacity_of reader
-      → limit_of x.stream.reader ≡ limit → x.stream.held.bytes.items ≡ [] → Has holds (λ (f : TryCollect C). f.items) x.folder []
-      → AtEachValue (Folds (GivesLines (Takes (Through reads)) ⊤) (fold_of (λ (f : TryCollect C). f.items) (tries_collect ⊤ holds))) x
+  lines_collected : (reader : BufReader R) (limit : ℕ) (x : Collecting) → take_inner x.stream.reader ≡ reader
+      → 0 < reader_capacity reader
+      → limit_of x.stream.reader ≡ limit → x.stream.held.bytes.items ≡ []
+      → Has holds (λ (f : TryCollect C). f.items) x.folder []
+      → AtEachValue
+      (Folds (GivesLines (TakesMarks (ThroughBuffer reads)) ⊤)
+      (fold_of (λ (f : TryCollect C). f.items) (tries_collect ⊤ holds))) x
       (CollectsLines reads holds (ahead reader) (buffered_of reader) limit)
   lines_collected reader limit x inner some bound held has out y v h g =
       let s = h.came.segmented in
       let t = s.came in
       let b = t.ran in
-      let left = inner_of y.stream.reader in
+      let left = take_inner y.stream.reader in
       let front = bytes (ahead reader) in
-      let full : Passes (capacity_of reader) (ahead reader) b.came t.front (ahead left) =
-      subst (λ r. Passes (capacity_of r) (ahead r) b.came t.front (ahead left)) inner b.passes
+      let full : PassesBuffer (reader_capacity reader) (ahead reader) b.came t.front (ahead left) =
+      subst (λ r. PassesBuffer (reader_capacity r) (ahead r) b.came t.front (ahead left)) inner b.passes
       in
-      let told = passed (capacity_of reader) (ahead reader) b.came t.front (ahead left) some full in
-      let fits : Fits limit t.front (limit_of y.stream.reader) = subst (λ (n : ℕ). Fits n t.front (limit_of y.stream.reader)) bound t.fits in
-      let cut : Segments (lining ⊤ tt) [] s.marks h.ins y.stream.held.bytes.items =
-      subst (λ k. Segments (lining ⊤ tt) k s.marks h.ins y.stream.held.bytes.items) held s.cut in
-      let each : (more : List Mark) → Given h.ins (lines_told [] (limited limit (front ++ b.came) ++ more)) =
+      let told = passed (reader_capacity reader) (ahead reader) b.came t.front (ahead left) some full in
+      let fits : WithinLimit limit t.front (limit_of y.stream.reader) =
+      subst (λ (n : ℕ). WithinLimit n t.front (limit_of y.stream.reader)) bound t.fits in
+      let cut : PieceSegments (lining ⊤ tt) [] s.marks h.ins y.stream.held.bytes.items =
+      subst (λ k. PieceSegments (lining ⊤ tt) k s.marks h.ins y.stream.held.bytes.items) held s.cut in
+      let each : (more : List ReadMark) → Given h.ins (lines_told [] (limited limit (front ++ b.came) ++ more)) =
       λ more.
-      let l = told_through limit (limit_of y.stream.reader) s.marks t.front t.ends (bytes (ahead left)) t.cut fits t.used_up more in
+      let l = told_through limit (limit_of y.stream.reader) s.marks t.front t.ends
+      (bytes (ahead left)) t.cut fits t.used_up more in
       let same = ap (λ k. lines_told [] (limited limit k ++ more)) told ∙ l.1 in
       subst (Given h.ins) (sym same) (given [] y.stream.held.bytes.items s.marks h.ins cut l.0)
       in
@@ -61,6 +67,8 @@ returns-clause-lines g c =
     λ some.
     let made = c.try_collect.ensures in
     let at = ap (λ s. s.reader) made.stream ∙ c.lines.ensures.reader in
-    let has = has_none g.C.Gather.holds (λ (f : TryCollect _). f.items) c.try_collect.result.folder made.«open» made.empty in
-    lines_collected g.R.Tale.reads g.C.Gather.holds c.args.reader c.args.limit c.try_collect.result (ap inner_of at ∙ c.take.ensures.inner) some
+    let has = has_none g.C.Gather.holds
+    (λ (f : TryCollect _). f.items) c.try_collect.result.folder made.«open» made.empty in
+    lines_collected g.R.Tale.reads g.C.Gather.holds c.args.reader c.args.limit c.try_collect.result
+    (ap take_inner at ∙ c.take.ensures.inner) some
     (ap limit_of at ∙ c.take.ensures.limit) (ap (λ s. s.held.bytes.items) made.stream ∙ c.lines.ensures.empty) has

@@ -12,7 +12,8 @@ pub consumers_are_alike-requires-clause-finds : goal.consumers_are_alike-require
 consumers_are_alike-requires-clause-finds c = function_agree _ (λ x. nat_lt x 100) (λ f g x y d. search rules) _ _
 
 pub consumers_are_alike-requires-clause-folds : goal.consumers_are_alike-requires-clause-folds
-consumers_are_alike-requires-clause-folds c = (function_agree _ (λ p. bit_xor p.0 p.1) (λ f g x y d. search rules) _ _, refl)
+consumers_are_alike-requires-clause-folds c =
+    (function_agree _ (λ p. bit_xor p.0 p.1) (λ f g x y d. search rules) _ _, refl)
 
 pub consumers_are_alike-requires-clause-calls : goal.consumers_are_alike-requires-clause-calls
 consumers_are_alike-requires-clause-calls c = function_agree _ (λ x. tt) (λ f g x y d. search rules) _ _

@@ -2,7 +2,7 @@ use Rattle.std.proofs.Common.{rules, ◌≡◌, refl, ℕ, Ok, Option, Result, S
 use Rattle.std.proofs.lemmas.List.Sorted.{answers_always}
 use Rattle.lite_base.specs.Laws.Calling.{answers_agree}
 use Rattle.lite_base.specs.declared.future.ready.Ready.{Ready}
-use Rattle.marks_met.proofs.Polled.{calls_alike, iterates_alike, polls_alike, polls_prompt}
+use Rattle.marks_met.proofs.Polled.{calls_alike, iterates_alike, polls_alike, polls_no_pending}
 use Rattle.marks_met.proofs.conditions.polled_closures_agree.Goals as goal
 
 abbrev Pairs : ℕ → Ready (Option (ℕ × ℕ)) → Type 0
@@ -21,13 +21,15 @@ pub calls_are_alike-requires-clause-repeats : goal.calls_are_alike-requires-clau
 calls_are_alike-requires-clause-repeats c = calls_alike _ 1 (λ p q a d. search rules) _ _
 
 pub calls_are_alike-requires-clause-unfolds : goal.calls_are_alike-requires-clause-unfolds
-calls_are_alike-requires-clause-unfolds c = answers_agree _ _ Pairs (λ f k x y d. search rules) (λ x y z p q. rw (p, q) refl) _ _
+calls_are_alike-requires-clause-unfolds c =
+    answers_agree _ _ Pairs (λ f k x y d. search rules) (λ x y z p q. rw (p, q) refl) _ _
 
 pub calls_are_alike-requires-clause-tries : goal.calls_are_alike-requires-clause-tries
-calls_are_alike-requires-clause-tries c = answers_agree _ _ TriesPairs (λ f k x y d. search rules) (λ x y z p q. rw (p, q) refl) _ _
+calls_are_alike-requires-clause-tries c =
+    answers_agree _ _ TriesPairs (λ f k x y d. search rules) (λ x y z p q. rw (p, q) refl) _ _
 
 pub calls_are_calm-requires-clause-polls : goal.calls_are_calm-requires-clause-polls
-calls_are_calm-requires-clause-polls c = polls_prompt _ (Some 1) (λ p q cx left a d. search rules) _
+calls_are_calm-requires-clause-polls c = polls_no_pending _ (Some 1) (λ p q cx left a d. search rules) _
 
 pub calls_are_calm-requires-clause-unfolds : goal.calls_are_calm-requires-clause-unfolds
 calls_are_calm-requires-clause-unfolds c = answers_always _ _ _ (λ f a r k d. tt)

@@ -4,8 +4,10 @@ use Rattle.marks_met.proofs.consuming.parts_are_alike.Goals as goal
 
 pub returns-clause-try_collect : goal.returns-clause-try_collect
 returns-clause-try_collect g c =
-    let same = g.S.SteadyStream.same in
-    (unmixed_holds same _ c.requires.alike, unmixed_on same _ _ c.requires.alike (none_held (SameOk same) _ _ _ c.requires.values c.requires.values))
+    let same = g.S.SteadyStream.same in (
+      unmixed_holds same _ c.requires.alike,
+      unmixed_on same _ _ c.requires.alike (none_held (SameOk same) _ _ _ c.requires.values c.requires.values),
+    )
 
 pub returns-clause-unzip : goal.returns-clause-unzip
 returns-clause-unzip g c =

@@ -4,5 +4,7 @@ use Rattle.marks_met.proofs.merges.inner_streams_are_alike.Goals as goal
 
 pub returns : goal.returns
 returns g c =
-    let outer = g.met.S.SteadyStream.steady.steady _ _ c.requires.outer in
-    (inner_alike g.S.SteadyStream.same g.S.SteadyStream.ample g.B.SteadyStream.alike _ _ None outer c.requires.inner, tt)
+    let outer = g.met.S.SteadyStream.steady.steady _ _ c.requires.outer in (
+      inner_alike g.S.SteadyStream.same g.S.SteadyStream.ample g.B.SteadyStream.alike _ _ None outer c.requires.inner,
+      tt,
+    )

@@ -5,9 +5,11 @@ use Rattle.marks_met.proofs.sources.calls_are_alike.Goals as goal
 
 pub returns-clause-unfold : goal.returns-clause-unfold
 returns-clause-unfold g c =
-    unfold_alike g.Fut.SteadyFuture.same g.Fut.SteadyFuture.alike _ seed_of item_of _ _ c.requires.unfolds c.requires.seed c.requires.both.0 c.requires.both.1
+    unfold_alike g.Fut.SteadyFuture.same g.Fut.SteadyFuture.alike _ seed_of item_of _ _ c.requires.unfolds
+    c.requires.seed c.requires.both.0 c.requires.both.1
 
 pub returns-clause-try_unfold : goal.returns-clause-try_unfold
 returns-clause-try_unfold g c =
     let both = c.requires.try_both in
-    unfold_alike g.Fut2.SteadyFuture.same g.Fut2.SteadyFuture.alike _ try_seed_of try_item_of _ _ c.requires.tries c.requires.try_seed both.0 both.1
+    unfold_alike g.Fut2.SteadyFuture.same g.Fut2.SteadyFuture.alike _ try_seed_of try_item_of _ _ c.requires.tries
+    c.requires.try_seed both.0 both.1

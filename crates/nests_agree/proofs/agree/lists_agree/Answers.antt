@@ -6,17 +6,42 @@ use Rattle.lite_source.specs.declared.once.Once.{Once}
 use Rattle.nests_agree.proofs.agree.lists_agree.Goals as goal
 
 abbrev IsBoth : ℕ → Chain (Once ℕ) (Once ℕ) → Type 0
-IsBoth x v = v ≡ record { first = record { value = Some x }; second = record { value = Some (bit_xor x 1) }; part = First }
+IsBoth x v = v ≡ record {
+  first = record { value = Some x };
+  second = record { value = Some (bit_xor x 1) };
+  part = First;
+}
 
 pub run_both-requires-clause-first : goal.run_both-requires-clause-first
-run_both-requires-clause-first c = ((tt, search of_calls), search rules, (search rules, record { at = λ xs p q x v folds d. (tt, tt) }))
+run_both-requires-clause-first c = (
+  (tt, search of_calls),
+  search rules,
+  (
+    search rules,
+    record {
+      at = λ xs p q x v folds d. (tt, tt);
+    },
+  ),
+)
 
 pub run_both-requires-clause-second : goal.run_both-requires-clause-second
-run_both-requires-clause-second c = ((tt, search of_calls), search rules, (search rules, record { at = λ xs p q x v folds d. (tt, tt) }))
+run_both-requires-clause-second c = (
+  (tt, search of_calls),
+  search rules,
+  (
+    search rules,
+    record {
+      at = λ xs p q x v folds d. (tt, tt);
+    },
+  ),
+)
 
 pub run_both-requires-clause-alike : goal.run_both-requires-clause-alike
-run_both-requires-clause-alike c =
-    (search rules, answers_agree _ _ IsBoth (λ f g x y d. search rules) (λ x y z p q. rw (p, q) (refl, refl, refl)) _ _, search rules)
+run_both-requires-clause-alike c = (
+  search rules,
+  answers_agree _ _ IsBoth (λ f g x y d. search rules) (λ x y z p q. rw (p, q) (refl, refl, refl)) _ _,
+  search rules,
+)
 
 pub returns : goal.returns
 returns c =

@@ -6,5 +6,5 @@ run_calm-requires-clause-calm c = (search rules, (search rules, record { at = λ
 
 pub returns : goal.returns
 returns c =
-    let ran = c.run_calm.ensures.prompt in
+    let ran = c.run_calm.ensures.no_pending in
     (ran.0, ran.1, ran.3, ran.4, ran.5)

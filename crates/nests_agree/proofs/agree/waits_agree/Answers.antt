@@ -10,8 +10,13 @@ abbrev Waits : ℕ → Zip YieldNow (Ready ℕ) (Unit {0}) ℕ → Type 0
 Waits x v = (v.first ≡ Asked (record { yielded = false })) × (v.second ≡ Asked (record { value = Some x }))
 
 pub run_both-requires-clause-alike : goal.run_both-requires-clause-alike
-run_both-requires-clause-alike c =
-    (search rules, (answers_agree _ _ Waits (λ f g x y d. search rules) (λ x y z p q. rw (p.0, p.1, q.0, q.1) (tt, refl)) _ _, search rules))
+run_both-requires-clause-alike c = (
+  search rules,
+  (
+    answers_agree _ _ Waits (λ f g x y d. search rules) (λ x y z p q. rw (p.0, p.1, q.0, q.1) (tt, refl)) _ _,
+    search rules,
+  ),
+)
 
 pub returns : goal.returns
 returns c =

@@ -4,7 +4,7 @@ use Rattle.lite_base.specs.Alike.{Sameness}
 use Rattle.lite_base.specs.Calling.{Kin, KinAnswers}
 use Rattle.lite_base.specs.Laws.Calling.{agree_narrower, answers_agree_from, kin_answers_by}
 use Rattle.lite_lines.specs.Laws.Marks.{SameText}
-use Rattle.lite_read.specs.Settling.{SameByKind, SameOr}
+use Rattle.lite_read.specs.Deterministic.{SameByKind, SameOr}
 use Rattle.nests_agree.proofs.Found.{all_zip_as, both_found, gathered_as, same_items}
 use Rattle.nests_agree.proofs.FoundLengths.{lengths_ample}
 use Rattle.nests_agree.proofs.FoundLines.{gathered_found}
@@ -29,6 +29,7 @@ returns g c =
     (gathered_found (lengths_ample all _ (CalledAt _) (λ f g x y d. search rules) (λ p q x b d. search rules)))
     (gathered_as
     (λ v w h.
-    all_zip_as (kin_answers_by (SameOr SameText) SameByKind _ IsLength (λ f g x y d. search rules) same_length) v.items w.items
+    all_zip_as (kin_answers_by (SameOr SameText) SameByKind _ IsLength
+    (λ f g x y d. search rules) same_length) v.items w.items
     (same_items (Sameness.by (KinAnswers (SameOr SameText) _)) (λ v. v.items) v w h)))
     c.block_on_both.result c.block_on_both.ensures

@@ -8,10 +8,13 @@ use Rattle.nests_agree.proofs.collections.collects_agree.Goals as goal
 pub block_on_both-requires-clause-alike : goal.block_on_both-requires-clause-alike
 block_on_both-requires-clause-alike g c = (
   search rules,
-  both_there (none_held g.S.SteadyStream.same _) _ _ c.collect.ensures.open c.collect-2.ensures.open c.collect.ensures.empty c.collect-2.ensures.empty,
+  both_there (none_held g.S.SteadyStream.same _) _ _ c.collect.ensures.open c.collect-2.ensures.open
+      c.collect.ensures.empty c.collect-2.ensures.empty,
 )
 
 pub returns : goal.returns
 returns g c =
-    let found = finished_taking_none (g.met.S.SteadyStream.steady.found c.requires.found) (part_within (λ f. f.collection) (collect_within (λ v l. v.items ≡ l))) in
-    both_found _ _ c.collect.result c.collect-2.result found (gathered_as (same_items g.S.SteadyStream.same (λ v. v.items))) c.block_on_both.result c.block_on_both.ensures
+    let found = finished_taking_none (g.met.S.SteadyStream.steady.found c.requires.found)
+    (part_within (λ f. f.collection) (collect_within (λ v l. v.items ≡ l))) in
+    both_found _ _ c.collect.result c.collect-2.result found
+    (gathered_as (same_items g.S.SteadyStream.same (λ v. v.items))) c.block_on_both.result c.block_on_both.ensures

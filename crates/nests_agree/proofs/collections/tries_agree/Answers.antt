@@ -11,10 +11,14 @@ block_on_both-requires-clause-alike g c =
     let one = c.try_collect-tried.ensures in
     let other = c.try_collect.ensures in (
       rw (one.stream, other.stream) (unmixed_holds g.S.SteadyStream.same _ c.requires.alike),
-      unmixed_on g.S.SteadyStream.same _ _ c.requires.alike (both_there (none_held (SameOk g.S.SteadyStream.same) _) _ _ one.open other.open one.empty other.empty),
+      unmixed_on g.S.SteadyStream.same _ _ c.requires.alike
+          (both_there (none_held (SameOk g.S.SteadyStream.same) _) _ _ one.open other.open one.empty other.empty),
     )
 
 pub returns : goal.returns
 returns g c =
-    let found = finished_taking_none (g.met.S.SteadyStream.steady.found c.requires.found) (part_within (λ f. f.items) (try_collect_within (λ v l. v.items ≡ l))) in
-    both_found _ _ c.try_collect-tried.result c.try_collect.result found (try_gathered_as (same_items (SameOk g.S.SteadyStream.same) (λ v. v.items)) _) c.block_on_both.result c.block_on_both.ensures
+    let found = finished_taking_none (g.met.S.SteadyStream.steady.found c.requires.found)
+    (part_within (λ f. f.items) (try_collect_within (λ v l. v.items ≡ l))) in
+    both_found _ _ c.try_collect-tried.result c.try_collect.result found
+    (try_gathered_as
+    (same_items (SameOk g.S.SteadyStream.same) (λ v. v.items)) _) c.block_on_both.result c.block_on_both.ensures

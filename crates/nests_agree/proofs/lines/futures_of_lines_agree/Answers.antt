@@ -1,7 +1,7 @@
 use Rattle.std.proofs.Common.{rules, refl}
 use Rattle.lite_base.specs.Laws.Calling.{answers_agree_from}
 use Rattle.lite_lines.specs.Laws.Marks.{SameText}
-use Rattle.lite_read.specs.Settling.{SameOr}
+use Rattle.lite_read.specs.Deterministic.{SameOr}
 use Rattle.nests_agree.proofs.SameLengths.{same_future}
 use Rattle.nests_agree.specs.Lengths.{WillGiveLength}
 use Rattle.nests_agree.proofs.lines.futures_of_lines_agree.Goals as goal
@@ -38,8 +38,16 @@ returns g c =
         came_more = other.came;
         found = λ a b.
             ran.found
-            (record { ins = ran.first.ins; came = record { ins = one.ins; came = a; turned = one.turned }; turned = ran.first.turned })
-            (record { ins = ran.second.ins; came = record { ins = other.ins; came = b; turned = other.turned }; turned = ran.second.turned });
+            (record {
+              ins = ran.first.ins;
+              came = record { ins = one.ins; came = a; related = one.related };
+              related = ran.first.related;
+            })
+            (record {
+              ins = ran.second.ins;
+              came = record { ins = other.ins; came = b; related = other.related };
+              related = ran.second.related;
+            });
       },
       both.5,
       both.8,

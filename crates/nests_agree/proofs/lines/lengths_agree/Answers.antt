@@ -5,7 +5,7 @@ use Rattle.lite_base.specs.Calling.{Kin}
 use Rattle.lite_base.specs.Laws.Alike.{comparable_as, option_as}
 use Rattle.lite_base.specs.Laws.Calling.{agree_narrower, answers_agree_from, kin_answers_by}
 use Rattle.lite_lines.specs.Laws.Marks.{SameText}
-use Rattle.lite_read.specs.Settling.{SameByKind, SameOr}
+use Rattle.lite_read.specs.Deterministic.{SameByKind, SameOr}
 use Rattle.nests_agree.proofs.SameLengths.{same_length, same_tested}
 use Rattle.nests_agree.specs.Lengths.{IsLength, IsTested}
 use Rattle.nests_agree.proofs.lines.lengths_agree.Goals as goal
@@ -42,11 +42,28 @@ returns g c =
         came_more = other.came;
         found = λ a b.
             comparable_as _ (OptionBy SameByKind)
-            (option_as _ SameByKind (kin_answers_by (SameOr SameText) SameByKind _ IsLength (λ f g x y d. search rules) same_length))
+            (option_as _ SameByKind
+            (kin_answers_by (SameOr SameText) SameByKind _ IsLength (λ f g x y d. search rules) same_length))
             (strip both.0) (strip both.1)
             (ran.found
-            (record { ins = ran.first.ins; came = record { ins = taken.ins; came = record { ins = one.ins; came = a; turned = one.turned }; turned = taken.turned }; turned = ran.first.turned })
-            (record { ins = ran.second.ins; came = record { ins = taken_more.ins; came = record { ins = other.ins; came = b; turned = other.turned }; turned = taken_more.turned }; turned = ran.second.turned }));
+            (record {
+              ins = ran.first.ins;
+              came = record {
+                ins = taken.ins;
+                came = record { ins = one.ins; came = a; related = one.related };
+                related = taken.related;
+              };
+              related = ran.first.related;
+            })
+            (record {
+              ins = ran.second.ins;
+              came = record {
+                ins = taken_more.ins;
+                came = record { ins = other.ins; came = b; related = other.related };
+                related = taken_more.related;
+              };
+              related = ran.second.related;
+            }));
       },
       both.5,
       both.8,

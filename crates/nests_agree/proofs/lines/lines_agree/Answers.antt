@@ -9,5 +9,12 @@ pub returns : goal.returns
 returns g c =
     let both = c.run_both.ensures.agree in
     let ran = both.4 in
-    let found = lines_ample (g.met.R.SteadyRead.steady.found c.requires.found) in
-    (both.0, both.1, both.2, both.3, λ none none'. ran.found (found _ _ both.0 none ran.first) (found _ _ both.1 none' ran.second), both.5, both.8)
+    let found = lines_ample (g.met.R.SteadyRead.steady.found c.requires.found) in (
+      both.0,
+      both.1,
+      both.2,
+      both.3,
+      λ none none'. ran.found (found _ _ both.0 none ran.first) (found _ _ both.1 none' ran.second),
+      both.5,
+      both.8,
+    )

@@ -10,7 +10,10 @@ run-requires c =
     rw filters (rw maps (
       (
         tt,
-        record { at = λ ins x t p came asked. let above : 0 < x = each_given (λ y. 0 < y) c.args.script t ins x c.requires came in search rules },
+        record {
+          at = λ ins x t p came asked. let above : 0 < x =
+              each_given (λ y. 0 < y) c.args.script t ins x c.requires came in search rules;
+        },
       ),
       tt,
       search rules,
@@ -19,4 +22,4 @@ run-requires c =
 pub returns : goal.returns
 returns c =
     let ran = c.run.ensures.ran in
-    (ran.0, ran.1, ran.3, each_kept _ _ (λ p q x y called. search rules) _ _ ran.2.ins ran.0 ran.2.turned)
+    (ran.0, ran.1, ran.3, each_kept _ _ (λ p q x y called. search rules) _ _ ran.2.ins ran.0 ran.2.related)

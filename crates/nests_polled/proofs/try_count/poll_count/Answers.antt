@@ -1,19 +1,28 @@
-use Rattle.std.proofs.Common.{◌∙◌, ℕ, List, [], ◌∷◌, Option, Some, None, Result, Ok, ap, sym, subst}
+use Rattle.std.proofs.Common.{◌∙◌, ℕ, [], ◌∷◌, Some, None, Result, Ok, ap, sym, subst}
 use Rattle.futures.specs.declared.task.Poll.{Poll}
 use Rattle.lite_base.specs.Answers.{Answer, item, items}
-use Rattle.lite_base.specs.Chain.{Goes, Next, Goes-back}
+use Rattle.lite_base.specs.Chain.{NextStep, Reaches, Reaches-back}
 use Rattle.lite_base.specs.OkRanks.{all_ok}
 use Rattle.lite_base.specs.StreamLaws.{StreamLaws}
-use Rattle.nests_polled.specs.TryCount.{Counted, Decides, TryTurns, counted}
+use Rattle.lite_base.specs.Runs.{Hints, Runs}
+use Rattle.nests_polled.specs.TryCount.{CountsUntil, DecidesCount, TrySteps, counted}
 use Rattle.nests_polled.specs.declared.try_count.TryCount.{TryCount}
 use Rattle.nests_polled.proofs.try_count.poll_count.Goals as goal
 
-module _ {S T E : Type 0} (run : S → List (Answer (Result T E)) → S → Type 0) (hints : S → ℕ × Option ℕ → Type 0) (laws : StreamLaws run hints) (Can : S → Type 0) where
-  decided_last : (x y : TryCount S) (b : Poll (Result ℕ E)) → TryTurns run Can x (Some b) y → Counted run x b y
+module _ {S T E : Type 0} (run : Runs (Answer (Result T E)) S) (hints : Hints S) (laws : StreamLaws run hints)
+    (Can : S → Type 0) where
+  decided_last : (x y : TryCount S) (b : Poll (Result ℕ E)) → TrySteps run Can x (Some b) y → CountsUntil run x b y
   decided_last x y b h =
-      record { oks = []; between = x.stream; came = laws.rests x.stream; number = h.1.1; decided = subst (λ n. Decides run x.stream n b y.stream) (sym h.1.1) h.1.0 }
+      record {
+        oks = [];
+        between = x.stream;
+        came = laws.rests x.stream;
+        number = h.1.1;
+        decided = subst (λ n. DecidesCount run x.stream n b y.stream) (sym h.1.1) h.1.0;
+      }
 
-  counted_before : (x y z : TryCount S) (b : Poll (Result ℕ E)) → TryTurns run Can x None y → Counted run y b z → Counted run x b z
+  counted_before : (x y z : TryCount S) (b : Poll (Result ℕ E)) → TrySteps run Can x None y → CountsUntil run y b z
+      → CountsUntil run x b z
   counted_before x y z b h m =
       record {
         oks = h.1.0 ∷ m.oks;
@@ -23,8 +32,11 @@ module _ {S T E : Type 0} (run : S → List (Answer (Result T E)) → S → Type
         decided = m.decided;
       }
 
-  counts : (x y z : TryCount S) (b : Poll (Result ℕ E)) → Goes (Next (TryTurns run Can)) x y → TryTurns run Can y (Some b) z → Counted run x b z
-  counts x y z b goes last = Goes-back (λ m. Counted run m b z) (λ v w t. counted_before v w z b t) x y goes (decided_last y z b last)
+  counts : (x y z : TryCount S) (b : Poll (Result ℕ E)) → Reaches (NextStep (TrySteps run Can)) x y
+      → TrySteps run Can y (Some b) z → CountsUntil run x b z
+  counts x y z b goes last =
+      Reaches-back (λ m. CountsUntil run m b z) (λ v w t. counted_before v w z b t) x y goes (decided_last y z b last)
 
 pub returns-clause-counted : goal.returns-clause-counted
-returns-clause-counted g c = let turns = c.drive.ensures.turned in counts g.S.Stream.run g.S.Stream.hints g.met.S.Stream.laws _ _ turns.0 _ _ turns.1 turns.2
+returns-clause-counted g c = let steps = c.drive.ensures.stepped in
+    counts g.S.Stream.run g.S.Stream.hints g.met.S.Stream.laws _ _ steps.0 _ _ steps.1 steps.2

@@ -1,4 +1,5 @@
-use Rattle.std.proofs.Common.{◌≡◌, ℕ, ◌<◌, List, [], ◌∷◌, ◌++◌, length, take, string_bytes, ap, ◌∙◌, arith, append_assoc}
+use Rattle.std.proofs.Common.{◌≡◌, ℕ, ◌<◌, List, [], ◌∷◌, ◌++◌, length, take, string_bytes, ap, ◌∙◌, arith}
+use Rattle.std.proofs.Common.{append_assoc}
 use Rattle.std.proofs.lemmas.List.{length-take, take_more}
 use Rattle.pollrun.specs.Spelling.{spelled, spelled_list}
 use Rattle.pollrun.proofs.Joined.{spelled_list-first, spelled_list-more}
@@ -16,13 +17,17 @@ loop-place-preserved g c =
     rw (more, ← c.index-answers-place.is) (
     elim c.if-place-gt0.branch [
       | then-place-gt0+in_ok-push_str w ↦
-          let several : 0 < length (take place answers) = omega (arith, longer, w.if-place-gt0.true, c.loop-place-test.true) in
+          let several : 0 < length (take place answers) =
+          omega (arith, longer, w.if-place-gt0.true, c.loop-place-test.true) in
           rw (spelled_list-more text (take place answers) a several)
           (c.in_ok-push_answer.ensures
-          ∙ ap (λ (b : List ℕ). b ++ spelled text a) (ap string_bytes w.line-is ∙ w.in_ok-push_str.ensures.bytes ∙ ap (λ (b : List ℕ). b ++ 44 ∷ []) c.loop-place.invariant)
+          ∙ ap (λ (b : List ℕ). b ++ spelled text a)
+          (ap string_bytes w.line-is ∙ w.in_ok-push_str.ensures.bytes
+          ∙ ap (λ (b : List ℕ). b ++ 44 ∷ []) c.loop-place.invariant)
           ∙ append_assoc (spelled_list text (take place answers)) (44 ∷ []) (spelled text a))
       | else-place-gt0 w ↦
           let none : length (take place answers) ≡ 0 = omega (arith, longer, w.if-place-gt0.false) in
           rw (spelled_list-first text (take place answers) a none)
-          (c.in_ok-push_answer.ensures ∙ ap (λ (b : List ℕ). b ++ spelled text a) (ap string_bytes w.line-is ∙ c.loop-place.invariant))
+          (c.in_ok-push_answer.ensures
+          ∙ ap (λ (b : List ℕ). b ++ spelled text a) (ap string_bytes w.line-is ∙ c.loop-place.invariant))
     ])

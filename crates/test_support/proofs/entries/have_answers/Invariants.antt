@@ -8,4 +8,5 @@ abbrev pub invariant-loop-entry : goal.invariant-loop-entry
 invariant-loop-entry l =
     let es = iter_rest (zip_first l.entry-iterator) in
     let xs = iter_rest (zip_second l.entry-iterator) in
-    (length es ≡ length xs) × (AreAnswers es xs → AreAnswers l.entries l.answers) × (AreAnswers l.entries l.answers → AreAnswers es xs)
+    (length es ≡ length xs) × (AreAnswers es xs → AreAnswers l.entries l.answers)
+    × (AreAnswers l.entries l.answers → AreAnswers es xs)

@@ -14,9 +14,13 @@ loop-preserved g c =
 pub returns-in-Ready : goal.returns-in-Ready
 returns-in-Ready g c =
     let was = c.loop.invariant in
-    let items = c.push_reserved-in-Ready.ensures.items ∙ ap (λ l. l ++ Ready c.in-Ready.value ∷ []) c.reserve.ensures.items in
+    let items = c.push_reserved-in-Ready.ensures.items
+    ∙ ap (λ l. l ++ Ready c.in-Ready.value ∷ []) c.reserve.ensures.items in
     let ran = g.met.F.Future.laws.follows _ _ _ _ _ was.waits was.ran c.in-Ready.ensures.ran in
-    rw items (ran, ends_polled c.loop.out.items c.in-Ready.value c.loop.counter c.args.polls was.waits was.many c.loop-test.true)
+    rw items (
+      ran,
+      ends_polled c.loop.out.items c.in-Ready.value c.loop.counter c.args.polls was.waits was.many c.loop-test.true,
+    )
 
 pub returns : goal.returns
 returns g c =

@@ -16,4 +16,8 @@ returns-in-Ready-Ok-clause-ran g c =
     let is : out ≡ map to_ascii_uppercase (take n buf) = c.make_upper.ensures in
     let taken : take n other ≡ map to_ascii_uppercase (take n buf) = grind (arith, common_steps) in
     let room : length other ≡ length buf = grind (arith, common_steps) in
-    record { ins = moved buf (take n buf); came = ran; out = rw taken (handed_moved to_ascii_uppercase (take n buf) buf other room) }
+    record {
+      ins = moved buf (take n buf);
+      came = ran;
+      out = rw taken (handed_moved to_ascii_uppercase (take n buf) buf other room);
+    }

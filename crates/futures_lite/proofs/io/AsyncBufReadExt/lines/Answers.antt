@@ -12,6 +12,7 @@ returns-clause-read g c knows = (
   λ l t ran.
       let reads = g.Self.Tale.reads in
       let s = rw (c.lines.ensures.reader, c.lines.ensures.empty) at ran.segmented in
-      pieces_fit 10 (λ xs. IsText (without_return xs)) IsText without_return string_bytes (λ xs x h. h) (λ xs x h. h) l _ _ _ _ s.marks s.cut
+      pieces_fit 10 (λ xs. IsText (without_return xs)) IsText without_return string_bytes (λ xs x h. h)
+      (λ xs x h. h) l _ _ _ _ s.marks s.cut
       (knows_spends reads g.Self.Tale.known _ _ s.marks knows s.came),
 )

@@ -10,8 +10,10 @@ returns-clause-line g c knows =
     let e = c.read_line.ensures in
     let text = ap (λ r. r.ghost_name) e.text in
     let reader = ap (λ r. r.ghost_name) e.reader in
-    when_left _ _ _ _ (text, reader) (λ ins f ran. (ap (λ r. r.ghost_name) ran.stays.text ∙ text, ap (λ r. r.ghost_name) ran.stays.reader ∙ reader))
+    when_left _ _ _ _ (text, reader)
+    (λ ins f ran. (ap (λ r. r.ghost_name) ran.stays.text ∙ text, ap (λ r. r.ghost_name) ran.stays.reader ∙ reader))
     (λ ins f v gives ran.
-    let came = rw e.reader at ran.gathered.came in
-    read_text_line v ins _ _ _ _ _ ran.gathered.marks ran.gathered.gathered
-    (knows_spends g.Self.Tale.reads g.Self.Tale.known _ _ ran.gathered.marks knows came) gives e.empty (ap (λ r. string_bytes r.now) e.text))
+    let came = rw e.reader at ran.folded.came in
+    read_text_line v ins _ _ _ _ _ ran.folded.marks ran.folded.folded
+    (knows_spends g.Self.Tale.reads g.Self.Tale.known _ _ ran.folded.marks knows came) gives e.empty
+    (ap (λ r. string_bytes r.now) e.text))

@@ -7,9 +7,11 @@ use Rattle.futures_lite.proofs.io.AsyncBufReadExt.read_until.Goals as goal
 pub returns-clause-piece : goal.returns-clause-piece
 returns-clause-piece g c knows =
     rw c.read_until.ensures (
-    when_left _ _ _ _ (refl, refl) (λ ins f ran. (ap (λ r. r.ghost_name) ran.stays.buf, ap (λ r. r.ghost_name) ran.stays.reader))
+    when_left _ _ _ _ (refl, refl)
+    (λ ins f ran. (ap (λ r. r.ghost_name) ran.stays.buf, ap (λ r. r.ghost_name) ran.stays.reader))
     (λ ins f v gives ran.
-    let gathered = rw ran.stays.start at ran.gathered in
-    read_piece c.args.byte v ins c.args.buf.now.items f.buf.now.items _ _ gathered.marks gathered.gathered ran.stays.before
-    (knows_spends g.Self.Tale.reads g.Self.Tale.known _ _ gathered.marks knows gathered.came) gives)
+    let folded = rw ran.stays.start at ran.folded in
+    read_piece c.args.byte v ins c.args.buf.now.items f.buf.now.items _ _ folded.marks folded.folded
+    ran.stays.before
+    (knows_spends g.Self.Tale.reads g.Self.Tale.known _ _ folded.marks knows folded.came) gives)
     )

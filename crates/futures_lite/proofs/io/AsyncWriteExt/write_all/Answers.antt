@@ -9,5 +9,6 @@ returns-clause-all g c stores =
     rw c.write_all.ensures (
     when_left _ _ _ _ refl (λ ins f ran. ap (λ r. r.ghost_name) ran.stays)
     (λ ins f v gives ran.
-    all_written v ins _ _ _ _ ran.marks ran.handed gives (stores_kept g.Self.Takings.writes g.Self.Takings.stored _ _ ran.marks stores ran.came))
+    all_written v ins _ _ _ _ ran.marks ran.handed gives
+    (stores_kept g.Self.Takings.writes g.Self.Takings.stored _ _ ran.marks stores ran.came))
     )

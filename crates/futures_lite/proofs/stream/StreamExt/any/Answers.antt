@@ -1,5 +1,5 @@
 use Rattle.lite_base.specs.Calling.{Calls}
-use Rattle.lite_views.specs.Laws.Consuming.{finished_settles, any_settled}
+use Rattle.lite_views.specs.Laws.Consuming.{finished_makes, any_made}
 use Rattle.lite_views.specs.Views.{Lists, value_is}
 use Rattle.std.proofs.Common.{refl}
 use Rattle.futures_lite.proofs.stream.StreamExt.any.Goals as goal
@@ -9,4 +9,5 @@ unfolding Lists
 returns-clause-value g c test xs lists acts =
     value_is _ _ _ (λ ins v f.
     let e = rw c.any.ensures at f in
-    any_settled (λ m. m.predicate) (Calls g.P.FnMut) test _ acts _ xs v refl (finished_settles _ _ _ ins v xs (λ l t ran. lists l t.now ran.0) e))
+    any_made (λ m. m.predicate) (Calls g.P.FnMut) test _ acts _ xs v refl
+    (finished_makes _ _ _ ins v xs (λ l t ran. lists l t.now ran.0) e))

@@ -10,5 +10,6 @@ returns-clause-lists g c xs lists infallible equal = (
   seen _ _,
   λ l t ran.
       let r = rw c.cloned.ensures at ran in
-      cloned_fits g.T.Clone.is_clone g.T.Clone.is_infallible infallible equal r.ins l tt t.held xs (lists r.ins _ r.came) r.turned,
+      cloned_fits g.T.Clone.is_clone g.T.Clone.is_infallible infallible equal r.ins l tt t.held xs
+      (lists r.ins _ r.came) r.related,
 )

@@ -10,5 +10,5 @@ returns-clause-lists g c xs lists = (
   seen _ _,
   λ l t ran.
       let r = rw c.copied.ensures at ran in
-      copied_fits r.ins l xs (lists r.ins _ r.came) r.turned,
+      copied_fits r.ins l xs (lists r.ins _ r.came) r.related,
 )

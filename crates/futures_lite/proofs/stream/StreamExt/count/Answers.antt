@@ -1,5 +1,5 @@
 use Rattle.std.proofs.Common.{refl}
-use Rattle.lite_views.specs.Laws.Consuming.{finished_settles, counted_settled}
+use Rattle.lite_views.specs.Laws.Consuming.{finished_makes, counted_made}
 use Rattle.lite_views.specs.Views.{Lists, value_is}
 use Rattle.futures_lite.proofs.stream.StreamExt.count.Goals as goal
 
@@ -8,4 +8,4 @@ unfolding Lists
 returns-clause-value g c xs lists small =
     value_is _ _ _ (λ ins v f.
     let e = rw c.count.ensures at f in
-    counted_settled (λ m. m.count) _ xs v refl small (finished_settles _ _ _ ins v xs lists e))
+    counted_made (λ m. m.count) _ xs v refl small (finished_makes _ _ _ ins v xs lists e))

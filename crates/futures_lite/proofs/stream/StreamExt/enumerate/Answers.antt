@@ -10,5 +10,5 @@ returns-clause-lists g c xs lists few = (
   seen _ _,
   λ l t ran.
       let r = rw c.enumerate.ensures at ran in
-      enumerated_fits t.i r.ins l xs few (lists r.ins _ r.came) r.turned,
+      enumerated_fits t.i r.ins l xs few (lists r.ins _ r.came) r.related,
 )

@@ -12,7 +12,7 @@ returns-clause-lists g c test xs lists acts = (
     seen _ _,
     λ l t ran.
         let r = rw c.filter.ensures at ran in
-        filtered_fits (CalledAt g.P.FnMut) test _ t.predicate acts r.ins l xs (lists r.ins _ r.came) r.turned,
+        filtered_fits (CalledAt g.P.FnMut) test _ t.predicate acts r.ins l xs (lists r.ins _ r.came) r.related,
   ),
   filter_fewer test xs,
 )

@@ -12,7 +12,7 @@ returns-clause-lists g c h xs lists acts = (
     seen _ _,
     λ l t ran.
         let r = rw c.filter_map.ensures at ran in
-        filter_mapped_fits (Calls g.F.FnMut) h _ t.f acts r.ins l xs (lists r.ins _ r.came) r.turned,
+        filter_mapped_fits (Calls g.F.FnMut) h _ t.f acts r.ins l xs (lists r.ins _ r.came) r.related,
   ),
   filter_map_fewer h xs,
 )

@@ -1,4 +1,4 @@
-use Rattle.lite_views.specs.Laws.Consuming.{finished_settles, find_settled}
+use Rattle.lite_views.specs.Laws.Consuming.{finished_makes, find_made}
 use Rattle.lite_views.specs.Views.{Lists, value_is}
 use Rattle.std.proofs.Common.{refl}
 use Rattle.std.specs.Fn.{CalledAt}
@@ -9,4 +9,5 @@ unfolding Lists
 returns-clause-value g c test xs lists acts =
     value_is _ _ _ (λ ins v f.
     let e = rw c.find.ensures at f in
-    find_settled (λ m. m.predicate) (CalledAt g.P.FnMut) test _ acts _ xs v refl (finished_settles _ _ _ ins v xs (λ l t ran. lists l t.now ran.0) e))
+    find_made (λ m. m.predicate) (CalledAt g.P.FnMut) test _ acts _ xs v refl
+    (finished_makes _ _ _ ins v xs (λ l t ran. lists l t.now ran.0) e))

@@ -12,6 +12,7 @@ returns-clause-lists g c h xs lists makes = (
   λ l t ran.
       let r = rw c.flat_map.ensures at ran in
       let m = r.came in
-      let made = called_makes g.U.Stream.run h (Calls g.F.FnMut) _ _ t.stream.f makes m.ins r.ins xs refl (lists m.ins _ m.came) m.turned in
-      flat_fits g.U.Stream.run h r.ins l t.inner_stream xs made r.turned,
+      let made = called_makes g.U.Stream.run h (Calls g.F.FnMut) _ _ t.stream.f makes m.ins r.ins xs refl
+      (lists m.ins _ m.came) m.related in
+      flat_fits g.U.Stream.run h r.ins l t.inner_stream xs made r.related,
 )

@@ -10,5 +10,5 @@ returns-clause-lists g c h xs lists inner = (
   seen _ _,
   λ l t ran.
       let r = rw c.flatten.ensures at ran in
-      flat_fits _ h r.ins l t.inner_stream xs (itself_makes _ h inner r.ins xs (lists r.ins _ r.came)) r.turned,
+      flat_fits _ h r.ins l t.inner_stream xs (itself_makes _ h inner r.ins xs (lists r.ins _ r.came)) r.related,
 )

@@ -10,5 +10,5 @@ returns-clause-lists g c xs lists = (
   seen _ _,
   λ l t ran.
       let r = rw c.fuse.ensures at ran in
-      fused_fits t.done r.ins l xs (lists r.ins _ r.came) r.turned,
+      fused_fits t.done r.ins l xs (lists r.ins _ r.came) r.related,
 )

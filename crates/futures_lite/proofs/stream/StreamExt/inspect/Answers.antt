@@ -11,5 +11,5 @@ returns-clause-lists g c xs lists = (
   seen _ _,
   λ l t ran.
       let r = rw c.inspect.ensures at ran in
-      shown_fits (CalledAt g.F.FnMut) _ t.f r.ins l xs (lists r.ins _ r.came) r.turned,
+      shown_fits (CalledAt g.F.FnMut) _ t.f r.ins l xs (lists r.ins _ r.came) r.related,
 )

@@ -1,4 +1,4 @@
-use Rattle.lite_views.specs.Laws.Consuming.{finished_settles, last_settled}
+use Rattle.lite_views.specs.Laws.Consuming.{finished_makes, last_made}
 use Rattle.lite_views.specs.Views.{Lists, value_is}
 use Rattle.futures_lite.proofs.stream.StreamExt.last.Goals as goal
 
@@ -7,4 +7,4 @@ unfolding Lists
 returns-clause-value g c xs lists =
     value_is _ _ _ (λ ins v f.
     let e = rw c.last.ensures at f in
-    last_settled (λ m. m.last) _ xs v (finished_settles _ _ _ ins v xs lists e))
+    last_made (λ m. m.last) _ xs v (finished_makes _ _ _ ins v xs lists e))

@@ -12,12 +12,13 @@ returns-clause-lists g c h xs lists acts = (
   seen _ _,
   λ l t ran.
       let r = rw c.map.ensures at ran in
-      mapped_fits _ h _ _ acts r.ins l xs (lists r.ins _ r.came) r.turned,
+      mapped_fits _ h _ _ acts r.ins l xs (lists r.ins _ r.came) r.related,
 )
 
 pub returns-clause-may : goal.returns-clause-may
 unfolding Fronts
 returns-clause-may g c xs fronts all keeps =
     let may =
-    may_ask (Calls g.F.FnMut) c.args.f (λ x o q k. keeps (x, tt) o q k) g.Self.Stream.run c.args.self xs (λ p x. g.F.FnMut.pre p (x, tt)) fronts all in
+    may_ask (Calls g.F.FnMut) c.args.f (λ x o q k. keeps (x, tt) o q k) g.Self.Stream.run c.args.self xs
+    (λ p x. g.F.FnMut.pre p (x, tt)) fronts all in
     (seen _ _, rw c.map.ensures may)

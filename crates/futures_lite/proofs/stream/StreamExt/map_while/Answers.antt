@@ -12,7 +12,7 @@ returns-clause-lists g c h xs lists acts = (
     seen _ _,
     λ l t ran.
         let r = rw c.map_while.ensures at ran in
-        mapped_while_fits (Calls g.F.FnMut) h _ t.f acts r.ins l xs (lists r.ins _ r.came) r.turned,
+        mapped_while_fits (Calls g.F.FnMut) h _ t.f acts r.ins l xs (lists r.ins _ r.came) r.related,
   ),
   map_while_fewer h xs,
 )

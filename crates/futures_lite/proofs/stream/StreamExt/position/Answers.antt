@@ -1,5 +1,5 @@
 use Rattle.lite_base.specs.Calling.{Calls}
-use Rattle.lite_views.specs.Laws.Consuming.{finished_settles, position_settled}
+use Rattle.lite_views.specs.Laws.Consuming.{finished_makes, position_made}
 use Rattle.lite_views.specs.Views.{Lists, value_is}
 use Rattle.std.proofs.Common.{refl}
 use Rattle.futures_lite.proofs.stream.StreamExt.position.Goals as goal
@@ -9,5 +9,5 @@ unfolding Lists
 returns-clause-value g c test xs lists acts small =
     value_is _ _ _ (λ ins v f.
     let e = rw c.position.ensures at f in
-    let done = finished_settles _ _ _ ins v xs (λ l t ran. lists l t.now ran.0) e in
-    position_settled (λ m. m.predicate) (Calls g.P.FnMut) test _ acts (λ m. m.index) _ xs v refl refl small done)
+    let done = finished_makes _ _ _ ins v xs (λ l t ran. lists l t.now ran.0) e in
+    position_made (λ m. m.predicate) (Calls g.P.FnMut) test _ acts (λ m. m.index) _ xs v refl refl small done)

@@ -12,7 +12,7 @@ returns-clause-lists g c h xs lists acts = (
     seen _ _,
     λ l t ran.
         let r = rw c.scan.ensures at ran in
-        scanned_fits (CallsWith g.F.FnMut) h _ _ (t.f, t.state) acts r.ins l xs (lists r.ins _ r.came) r.turned,
+        scanned_fits (CallsWith g.F.FnMut) h _ _ (t.f, t.state) acts r.ins l xs (lists r.ins _ r.came) r.related,
   ),
   scan_fewer h _ xs,
 )

@@ -10,5 +10,5 @@ returns-clause-lists g c xs lists = (
   seen _ _,
   λ l t ran.
       let r = rw c.skip.ensures at ran in
-      skipped_fits _ t.n r.ins l xs (lists r.ins _ r.came) r.turned,
+      skipped_fits _ t.n r.ins l xs (lists r.ins _ r.came) r.related,
 )

@@ -11,5 +11,5 @@ returns-clause-lists g c test xs lists acts = (
   seen _ _,
   λ l t ran.
       let r = rw c.skip_while.ensures at ran in
-      skipped_while_fits (CalledAt g.P.FnMut) test _ t.predicate acts r.ins l xs (lists r.ins _ r.came) r.turned,
+      skipped_while_fits (CalledAt g.P.FnMut) test _ t.predicate acts r.ins l xs (lists r.ins _ r.came) r.related,
 )

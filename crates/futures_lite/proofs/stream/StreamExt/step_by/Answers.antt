@@ -11,7 +11,7 @@ returns-clause-lists g c xs lists = (
     seen _ _,
     λ l t ran.
         let r = rw c.step_by.ensures at ran in
-        stepped_fits _ (t.step, t.i) r.ins l xs (lists r.ins _ r.came) r.turned,
+        stepped_fits _ (t.step, t.i) r.ins l xs (lists r.ins _ r.came) r.related,
   ),
   step_fewer c.args.step 0 xs,
 )

@@ -10,7 +10,7 @@ returns-clause-lists g c xs lists = (
   seen _ _,
   λ l t ran.
       let r = rw c.take.ensures at ran in
-      taken_fits _ t.n r.ins l xs (lists r.ins _ r.came) r.turned,
+      taken_fits _ t.n r.ins l xs (lists r.ins _ r.came) r.related,
 )
 
 pub returns-clause-repeats : goal.returns-clause-repeats
@@ -20,5 +20,5 @@ returns-clause-repeats g c x goes_on = (
   seen _ _,
   λ l t ran.
       let r = rw c.take.ensures at ran in
-      repeated_fits _ t.n r.ins l x (goes_on r.ins _ r.came) r.turned,
+      repeated_fits _ t.n r.ins l x (goes_on r.ins _ r.came) r.related,
 )

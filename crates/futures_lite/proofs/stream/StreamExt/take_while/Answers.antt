@@ -11,5 +11,5 @@ returns-clause-lists g c test xs lists acts = (
   seen _ _,
   λ l t ran.
       let r = rw c.take_while.ensures at ran in
-      taken_while_fits (CalledAt g.P.FnMut) test _ t.predicate acts r.ins l xs (lists r.ins _ r.came) r.turned,
+      taken_while_fits (CalledAt g.P.FnMut) test _ t.predicate acts r.ins l xs (lists r.ins _ r.came) r.related,
 )

@@ -11,5 +11,6 @@ returns-clause-lists g c h xs lists makes = (
   seen _ _,
   λ l t ran.
       let r = rw c.then.ensures at ran in
-      awaited_fits (Calls g.F.FnMut) g.Fut.Future.run h _ t.f makes r.ins l t.future xs (lists r.ins _ r.came) r.turned,
+      awaited_fits (Calls g.F.FnMut) g.Fut.Future.run h _ t.f makes r.ins l t.future xs
+      (lists r.ins _ r.came) r.related,
 )

@@ -1,5 +1,5 @@
 use Rattle.lite_base.specs.Calling.{Calls}
-use Rattle.lite_views.specs.Laws.Consuming.{finished_settles, try_for_each_settled}
+use Rattle.lite_views.specs.Laws.Consuming.{finished_makes, try_for_each_made}
 use Rattle.lite_views.specs.Views.{Lists, value_is}
 use Rattle.std.proofs.Common.{refl}
 use Rattle.futures_lite.proofs.stream.StreamExt.try_for_each.Goals as goal
@@ -9,4 +9,5 @@ unfolding Lists
 returns-clause-value g c h xs lists acts =
     value_is _ _ _ (λ ins v f.
     let e = rw c.try_for_each.ensures at f in
-    try_for_each_settled (λ m. m.f) (Calls g.F.FnMut) h _ acts _ xs v refl (finished_settles _ _ _ ins v xs (λ l t ran. lists l t.now ran.0) e))
+    try_for_each_made (λ m. m.f) (Calls g.F.FnMut) h _ acts _ xs v refl
+    (finished_makes _ _ _ ins v xs (λ l t ran. lists l t.now ran.0) e))

@@ -10,5 +10,6 @@ returns-clause-lists g c xs ys lists others = (
   seen _ _,
   λ l t ran.
       let r = rw c.zip.ensures at ran in
-      paired_fits r.firsts r.seconds l t.item_slot xs ys (lists r.firsts _ r.came) (others r.seconds _ r.then_came) r.paired,
+      paired_fits r.firsts r.seconds l t.item_slot xs ys (lists r.firsts _ r.came)
+      (others r.seconds _ r.then_came) r.paired,
 )

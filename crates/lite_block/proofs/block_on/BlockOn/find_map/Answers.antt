@@ -5,7 +5,8 @@ use Rattle.lite_consume.specs.FindMap.{finds_map}
 use Rattle.lite_block.proofs.block_on.BlockOn.find_map.Goals as goal
 
 pub ask-requires-clause-asks : goal.ask-requires-clause-asks
-ask-requires-clause-asks g c = each_of (λ m. m.f) (finds_map (Calls g.F.FnMut)) g.S.Stream.run (MayCall g.F.FnMut) _ _ c.requires.asks
+ask-requires-clause-asks g c =
+    each_of (λ m. m.f) (finds_map (Calls g.F.FnMut)) g.S.Stream.run (MayCall g.F.FnMut) _ _ c.requires.asks
 
 pub returns-clause-gave : goal.returns-clause-gave
 returns-clause-gave g c = given (λ m. m.f) (finds_map (Calls g.F.FnMut)) g.S.Stream.run _ _ _ _ c.ask.ensures.gave

@@ -5,7 +5,10 @@ use Rattle.lite_consume.specs.Position.{positions}
 use Rattle.lite_block.proofs.block_on.BlockOn.position.Goals as goal
 
 pub ask-requires-clause-asks : goal.ask-requires-clause-asks
-ask-requires-clause-asks g c = each_of (λ f. (f.predicate, f.index)) (positions (Calls g.P.FnMut)) g.S.Stream.run (λ p. MayCall g.P.FnMut p.0) _ _ c.requires.asks
+ask-requires-clause-asks g c =
+    each_of (λ f. (f.predicate, f.index)) (positions (Calls g.P.FnMut)) g.S.Stream.run
+    (λ p. MayCall g.P.FnMut p.0) _ _ c.requires.asks
 
 pub returns-clause-gave : goal.returns-clause-gave
-returns-clause-gave g c = given (λ f. (f.predicate, f.index)) (positions (Calls g.P.FnMut)) g.S.Stream.run _ _ _ _ c.ask.ensures.gave
+returns-clause-gave g c =
+    given (λ f. (f.predicate, f.index)) (positions (Calls g.P.FnMut)) g.S.Stream.run _ _ _ _ c.ask.ensures.gave

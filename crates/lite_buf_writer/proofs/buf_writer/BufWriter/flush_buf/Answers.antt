@@ -3,8 +3,10 @@ use Rattle.std.specs.Box.{boxed_slice_items}
 use Rattle.std.specs.IoError.{error_kind}
 use Rattle.std.specs.declared.io.ErrorKind.TheVariants.{Interrupted}
 use Rattle.futures.specs.declared.task.Poll.TheVariants.{Ready}
-use Rattle.lite_buf_writer.proofs.Draining.{drain_fails, drain_interrupted, drain_none, drain_some, drain_waits, held_same, length-held}
-use Rattle.lite_buf_writer.proofs.buf_writer.BufWriter.flush_buf.Goals.{then-eq+else-interruptions-lt-MOST_INTERRUPTIONS, else-eq}
+use Rattle.lite_buf_writer.proofs.Draining.{drain_fails, drain_interrupted, drain_none, drain_some, drain_waits}
+use Rattle.lite_buf_writer.proofs.Draining.{held_same, length-held}
+use Rattle.lite_buf_writer.proofs.buf_writer.BufWriter.flush_buf.Goals.{then-eq+else-interruptions-lt-MOST_INTERRUPTIONS}
+use Rattle.lite_buf_writer.proofs.buf_writer.BufWriter.flush_buf.Goals.{else-eq}
 use Rattle.lite_buf_writer.proofs.buf_writer.BufWriter.flush_buf.Goals as goal
 
 pub writes-init : goal.writes-init
@@ -15,11 +17,13 @@ returns-in-Ready-Ok-eq0-clause-ran g c =
     let y = c.writes.self in
     let e = c.offer.ensures in
     let s = c.shift.ensures in
-    let ran = rw c.in-Ready-Ok-eq0.field-0-0-test at (rw c.in-Ready-Ok-eq0.field-0-is at (rw c.in-Ready-Ok-eq0.is at e.ran)) in
+    let ran = rw c.in-Ready-Ok-eq0.field-0-0-test at
+    (rw c.in-Ready-Ok-eq0.field-0-is at (rw c.in-Ready-Ok-eq0.is at e.ran)) in
     let same = held_same y c.offer.new.self e.buf e.written e.len in
     drain_fails g.W.Takings.writes g.W.Takings.write_laws c.args.self.now
     y c.shift.new.self c.writes.interruptions _ (error_kind c.into.result) c.offer.new.self.inner
-    c.writes.invariant.0 ran s.inner c.writes-test.true (inr (refl, c.into.ensures, omega (arith, length-held y, c.writes-test.true)))
+    c.writes.invariant.0 ran s.inner c.writes-test.true
+    (inr (refl, c.into.ensures, omega (arith, length-held y, c.writes-test.true)))
     (s.capacity ∙ ap (λ b. length (boxed_slice_items b)) e.buf) (s.held ∙ same)
 
 pub writes-preserved-in-Ready-Ok : goal.writes-preserved-in-Ready-Ok
@@ -62,7 +66,8 @@ returns-in-Ready-Err-2-clause-ran g c =
     (inl (
       refl,
       λ is. elim c.if-eq.branch [
-        | then-eq+else-interruptions-lt-MOST_INTERRUPTIONS w ↦ inr (omega (arith, c.writes.invariant.0.few, w.if-interruptions-lt-MOST_INTERRUPTIONS.false))
+        | then-eq+else-interruptions-lt-MOST_INTERRUPTIONS w ↦ inr
+            (omega (arith, c.writes.invariant.0.few, w.if-interruptions-lt-MOST_INTERRUPTIONS.false))
         | else-eq w ↦ absurd (search rules)
       ],
     ))

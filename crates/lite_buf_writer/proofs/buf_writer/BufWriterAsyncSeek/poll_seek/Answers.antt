@@ -8,7 +8,8 @@ use Rattle.lite_buf_writer.proofs.buf_writer.BufWriterAsyncSeek.poll_seek.Goals 
 pub returns-clause-sought : goal.returns-clause-sought
 returns-clause-sought g c =
     let got : c.flush_buf.result ≡ Pending = search rules in
-    seek_waits g.W.Takings.writes g.W.AsyncSeek.seeks c.args.self.now c.flush_buf.new.self c.args.pos (rw got at c.flush_buf.ensures.ran)
+    seek_waits g.W.Takings.writes g.W.AsyncSeek.seeks c.args.self.now c.flush_buf.new.self c.args.pos
+    (rw got at c.flush_buf.ensures.ran)
 
 pub returns-2-clause-sought : goal.returns-2-clause-sought
 returns-2-clause-sought g c =

@@ -13,9 +13,11 @@ pub returns-in-Ok-clause-ran : goal.returns-in-Ok-clause-ran
 returns-in-Ok-clause-ran g c =
     let got : c.flush_buf.result ≡ Ready (Ok c.in-Ok.field-0) = search rules in
     let ran = rw got at c.flush_buf.ensures.ran in
-    then_flush g.W.Takings.writes g.W.Takings.write_laws c.args.self.now c.flush_buf.new.self _ c.poll_flush.result ran c.poll_flush.ensures.ran refl refl
+    then_flush g.W.Takings.writes g.W.Takings.write_laws c.args.self.now c.flush_buf.new.self _ c.poll_flush.result ran
+    c.poll_flush.ensures.ran refl refl
 
 pub returns-in-Err-clause-ran : goal.returns-in-Err-clause-ran
 returns-in-Err-clause-ran g c =
     let got : c.flush_buf.result ≡ Ready (Err c.in-Err.e) = search rules in
-    stopped_fails g.W.Takings.writes c.args.self.now c.flush_buf.new.self (error_kind c.in-Err.e) (rw got at c.flush_buf.ensures.ran)
+    stopped_fails g.W.Takings.writes c.args.self.now c.flush_buf.new.self (error_kind c.in-Err.e)
+    (rw got at c.flush_buf.ensures.ran)

@@ -1,17 +1,19 @@
-use Rattle.std.proofs.Common.{◌≡◌, ◌<◌, ◌≤◌, ◌+◌, ◌%◌, ◌^◌, Ok, Err, length, take, length-take-le, refl, ap, sym, arith, rules}
+use Rattle.std.proofs.Common.{◌≡◌, ◌<◌, ◌≤◌, ◌+◌, ◌%◌, ◌^◌, Ok, Err, length, take, length-take-le, refl, ap, sym, arith}
+use Rattle.std.proofs.Common.{rules}
 use Rattle.futures.specs.declared.task.Poll.TheVariants.{Ready, Pending}
 use Rattle.lite_io.specs.BufReader.{ahead}
 use Rattle.lite_copy.proofs.Copying.{writer_fails, writer_takes_none, writer_waits, writes_more}
 use Rattle.lite_copy.proofs.copy.CopyFuture.write_some.Goals as goal
 
-pub returns-in-Ready-Ok-eq0-clause-turned : goal.returns-in-Ready-Ok-eq0-clause-turned
-returns-in-Ready-Ok-eq0-clause-turned g c =
+pub returns-in-Ready-Ok-eq0-clause-stepped : goal.returns-in-Ready-Ok-eq0-clause-stepped
+returns-in-Ready-Ok-eq0-clause-stepped g c =
     let is : c.poll_write.result ≡ Ready (Ok 0) = search rules in
-    writer_takes_none g.R.Tale.reads g.W.Takings.writes g.R.Tale.read_laws g.W.Takings.write_laws c.args.self.now _ refl refl refl
+    writer_takes_none g.R.Tale.reads g.W.Takings.writes g.R.Tale.read_laws g.W.Takings.write_laws c.args.self.now _ refl
+    refl refl
     c.into.result c.into.ensures c.requires.some (rw is at c.poll_write.ensures.ran)
 
-pub returns-in-Ready-Ok-clause-turned : goal.returns-in-Ready-Ok-clause-turned
-returns-in-Ready-Ok-clause-turned g c =
+pub returns-in-Ready-Ok-clause-stepped : goal.returns-in-Ready-Ok-clause-stepped
+returns-in-Ready-Ok-clause-stepped g c =
     let n = c.in-Ready-Ok.n in
     let shown = ahead c.args.self.now.reader in
     let is : c.poll_write.result ≡ Ready (Ok n) = search rules in
@@ -24,15 +26,17 @@ returns-in-Ready-Ok-clause-turned g c =
     (take n shown) some c.requires.phase c.requires.phase amount
     c.consume.ensures.ran went
 
-pub returns-in-Ready-Err-clause-turned : goal.returns-in-Ready-Err-clause-turned
-returns-in-Ready-Err-clause-turned g c =
+pub returns-in-Ready-Err-clause-stepped : goal.returns-in-Ready-Err-clause-stepped
+returns-in-Ready-Err-clause-stepped g c =
     let e = c.in-Ready-Err.e in
     let is : c.poll_write.result ≡ Ready (Err e) = search rules in
-    writer_fails g.R.Tale.reads g.W.Takings.writes g.R.Tale.read_laws g.W.Takings.write_laws c.args.self.now _ refl refl refl e
+    writer_fails g.R.Tale.reads g.W.Takings.writes g.R.Tale.read_laws g.W.Takings.write_laws c.args.self.now _ refl refl
+    refl e
     (rw is at c.poll_write.ensures.ran)
 
-pub returns-in-Pending-clause-turned : goal.returns-in-Pending-clause-turned
-returns-in-Pending-clause-turned g c =
+pub returns-in-Pending-clause-stepped : goal.returns-in-Pending-clause-stepped
+returns-in-Pending-clause-stepped g c =
     let is : c.poll_write.result ≡ Pending = search rules in
-    writer_waits g.R.Tale.reads g.W.Takings.writes g.R.Tale.read_laws g.W.Takings.write_laws c.args.self.now _ refl refl refl
+    writer_waits g.R.Tale.reads g.W.Takings.writes g.R.Tale.read_laws g.W.Takings.write_laws c.args.self.now _ refl refl
+    refl
     (rw is at c.poll_write.ensures.ran)

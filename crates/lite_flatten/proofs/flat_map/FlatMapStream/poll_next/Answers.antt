@@ -2,7 +2,7 @@ use Rattle.lite_flatten.specs.FlatMap.{flat_map_parts}
 use Rattle.lite_flatten.specs.Laws.FlatMap.{each_made, made_promises}
 use Rattle.lite_flatten.specs.Laws.Flatten.{flat_answer}
 use Rattle.lite_base.specs.Calling.{Calls}
-use Rattle.lite_stream.specs.Laws.Pointwise.{replaces_turning}
+use Rattle.lite_stream.specs.Laws.Pointwise.{replaces_relating}
 use Rattle.lite_stream.specs.Laws.Through.{laws_hinted}
 use Rattle.lite_stream.specs.Map.{Maps, map_parts}
 use Rattle.lite_flatten.proofs.flat_map.FlatMapStream.poll_next.Goals as goal
@@ -13,11 +13,19 @@ drive-requires g c =
 
 pub returns-clause-ran : goal.returns-clause-ran
 returns-clause-ran g c =
-    let turns = c.drive.ensures.turned in
-    let outer = laws_hinted map_parts g.met.S.Stream.laws (replaces_turning (Calls g.F.FnMut)) in
-    flat_answer g.U.Stream.run (Maps g.S.Stream.run (Calls g.F.FnMut)) outer.rests outer.follows flat_map_parts _ _ turns.0 _ _ turns.1 turns.2
+    let steps = c.drive.ensures.stepped in
+    let outer = laws_hinted map_parts g.met.S.Stream.laws (replaces_relating (Calls g.F.FnMut)) in
+    flat_answer g.U.Stream.run
+    (Maps g.S.Stream.run (Calls g.F.FnMut)) outer.rests outer.follows flat_map_parts _ _ steps.0 _ _ steps.1 steps.2
 
 pub returns-clause-again : goal.returns-clause-again
 returns-clause-again g c =
-    let last = c.drive.ensures.turned.2.0 in
-    (last.0, last.1, (last.2.0, made_promises g.F.FnMut g.U.Stream.can_poll g.S.Stream.run g.U.Stream.run _ _ _ c.requires.2 (returns-clause-ran g c)))
+    let last = c.drive.ensures.stepped.2.0 in (
+      last.0,
+      last.1,
+      (
+        last.2.0,
+        made_promises g.F.FnMut g.U.Stream.can_poll g.S.Stream.run g.U.Stream.run _ _ _ c.requires.2
+            (returns-clause-ran g c),
+      ),
+    )

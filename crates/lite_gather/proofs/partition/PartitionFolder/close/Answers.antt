@@ -2,4 +2,9 @@ use Rattle.std.proofs.Common.{ap, refl, sym}
 use Rattle.lite_gather.proofs.partition.PartitionFolder.close.Goals as goal
 
 pub returns : goal.returns
-returns g c = (c.in-Some.both, sym c.in-Some.ensures.value, refl, ap (λ left. (c.args.self.now.predicate, left)) c.take.ensures.after)
+returns g c = (
+  c.in-Some.both,
+  sym c.in-Some.ensures.value,
+  refl,
+  ap (λ left. (c.args.self.now.predicate, left)) c.take.ensures.after,
+)

@@ -2,7 +2,7 @@ use Rattle.std.proofs.Common.{◌≡◌, ◌≤◌, ◌<◌, [], Ok, length, tak
 use Rattle.std.proofs.lemmas.Grind.{common_steps}
 use Rattle.futures.specs.declared.task.Poll.TheVariants.{Ready}
 use Rattle.lite_io_base.specs.Marks.{bytes, filled, read_marks}
-use Rattle.lite_io.specs.BufReader.{Through, ahead}
+use Rattle.lite_io.specs.BufReader.{ThroughBuffer, ahead}
 use Rattle.lite_io.specs.Laws.BufReader.{through_laws}
 use Rattle.lite_io.proofs.Polling.{polls_filled}
 use Rattle.lite_io.proofs.Ranges.{length-slice_range, slice_range_none}
@@ -33,14 +33,16 @@ returns-2-clause-ran g c =
     let n = c.fill_slice-n.result in
     let room = c.fill_slice-n.new.buf in
     let ready : c.fill.result ≡ Ready (Ok c.in-Ok.field-0) = search rules in
-    let fills : Through reads x (filled (ahead s)) s = rw ready at c.fill.ensures.ran in
+    let fills : ThroughBuffer reads x (filled (ahead s)) s = rw ready at c.fill.ensures.ran in
     let len = length-slice_range s.buf.items s.pos s.end s.in_range.0 s.in_range.1 in
     let some : 0 < length room = grind (arith, common_steps) in
     let got : take n room ≡ take n (ahead s) = grind (arith, common_steps, take-take, s.in_range.0, s.in_range.1) in
     let is : n ≡ min (length (ahead s)) (length room) = grind (arith, common_steps, len, s.in_range.0, s.in_range.1) in
     let fits : n ≤ length (ahead s) = omega (arith, len) in
     rw (got, fill_then_read (ahead s) room n is some)
-    ((through_laws g.R.Tale.read_laws).follows x s y (filled (ahead s)) (bytes (take n (ahead s))) fills (through_advance reads s y g.R.Tale.read_laws n e.inner e.buf e.pos e.end fits))
+    ((through_laws g.R.Tale.read_laws).follows x s y (filled (ahead s)) (bytes (take n (ahead s))) fills
+    (through_advance reads s y g.R.Tale.read_laws n e.inner e.buf e.pos e.end fits))
 
 pub returns-2-clause-once : goal.returns-2-clause-once
-returns-2-clause-once g c = rw c.advance.ensures.inner (polls_filled g.R.Tale.reads _ (length c.args.buf.now) _ _ c.fill.ensures.once)
+returns-2-clause-once g c =
+    rw c.advance.ensures.inner (polls_filled g.R.Tale.reads _ (length c.args.buf.now) _ _ c.fill.ensures.once)

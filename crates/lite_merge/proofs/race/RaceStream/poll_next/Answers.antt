@@ -10,7 +10,13 @@ returns-then-next_u32-eq1-clause-ran g c =
     record {
       words = c.next_u32.result ∷ [];
       drawn = (_, c.next_u32.ensures, refl);
-      merges = record { firsts = r.0; seconds = r.1; came = r.2; then_came = r.3; rows = rw e ([], [], r.4, (refl, refl, refl)) };
+      merges = record {
+        firsts = r.0;
+        seconds = r.1;
+        came = r.2;
+        then_came = r.3;
+        rows = rw e ([], [], r.4, (refl, refl, refl));
+      };
     }
 
 pub returns-else-next_u32-eq1-clause-ran : goal.returns-else-next_u32-eq1-clause-ran
@@ -20,5 +26,11 @@ returns-else-next_u32-eq1-clause-ran g c =
     record {
       words = c.next_u32.result ∷ [];
       drawn = (_, c.next_u32.ensures, refl);
-      merges = record { firsts = r.1; seconds = r.0; came = r.3; then_came = r.2; rows = rw e ([], [], r.4, (refl, refl, refl)) };
+      merges = record {
+        firsts = r.1;
+        seconds = r.0;
+        came = r.3;
+        then_came = r.2;
+        rows = rw e ([], [], r.4, (refl, refl, refl));
+      };
     }

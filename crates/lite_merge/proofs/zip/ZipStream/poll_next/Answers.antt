@@ -6,7 +6,13 @@ pub returns-in-None-clause-ran : goal.returns-in-None-clause-ran
 returns-in-None-clause-ran g c =
     let is : c.poll_next.result ≡ Pending = cc in
     let none : c.args.self.now.item_slot ≡ None = cc in
-    record { firsts = Pending ∷ []; seconds = []; came = rw is at c.poll_next.ensures.ran; then_came = g.met.B.Stream.laws.rests _; paired = rw (none, c.take.ensures.after) (refl, (refl, refl, refl)) }
+    record {
+      firsts = Pending ∷ [];
+      seconds = [];
+      came = rw is at c.poll_next.ensures.ran;
+      then_came = g.met.B.Stream.laws.rests _;
+      paired = rw (none, c.take.ensures.after) (refl, (refl, refl, refl));
+    }
 
 pub returns-in-Some-clause-ran : goal.returns-in-Some-clause-ran
 returns-in-Some-clause-ran g c =

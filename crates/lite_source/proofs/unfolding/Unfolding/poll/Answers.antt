@@ -5,21 +5,29 @@ use Rattle.lite_source.proofs.unfolding.Unfolding.poll.Goals.{in-Some+in-Some-1,
 
 pub poll-requires : goal.poll-requires
 poll-requires g c = elim c.match-take.branch [
-  | in-Some+in-Some-1 w ↦ let made = (call_promises g.F.FnMut (λ s v. g.Fut.Future.can_poll v) _ _ w.f.result _ c.requires.makes w.f.ensures).0 in search rules
-  | in-Some+in-None-1 w ↦ let made = (call_promises g.F.FnMut (λ s v. g.Fut.Future.can_poll v) _ _ w.f.result _ c.requires.makes w.f.ensures).0 in search rules
+  | in-Some+in-Some-1 w ↦ let made =
+      (call_promises g.F.FnMut (λ s v. g.Fut.Future.can_poll v) _ _ w.f.result _ c.requires.makes w.f.ensures).0 in
+      search rules
+  | in-Some+in-None-1 w ↦ let made =
+      (call_promises g.F.FnMut (λ s v. g.Fut.Future.can_poll v) _ _ w.f.result _ c.requires.makes w.f.ensures).0 in
+      search rules
   | in_default w ↦ search rules
 ]
 
 pub returns-clause-makes : goal.returns-clause-makes
 returns-clause-makes g c = elim c.match-take.branch [
-  | in-Some+in-Some-1 w ↦ rw w.f-is (call_promises g.F.FnMut (λ s v. g.Fut.Future.can_poll v) _ _ w.f.result _ c.requires.makes w.f.ensures).1
-  | in-Some+in-None-1 w ↦ rw w.f-is (call_promises g.F.FnMut (λ s v. g.Fut.Future.can_poll v) _ _ w.f.result _ c.requires.makes w.f.ensures).1
+  | in-Some+in-Some-1 w ↦ rw w.f-is
+      (call_promises g.F.FnMut (λ s v. g.Fut.Future.can_poll v) _ _ w.f.result _ c.requires.makes w.f.ensures).1
+  | in-Some+in-None-1 w ↦ rw w.f-is
+      (call_promises g.F.FnMut (λ s v. g.Fut.Future.can_poll v) _ _ w.f.result _ c.requires.makes w.f.ensures).1
   | in_default w ↦ rw w.f-is c.requires.makes
 ]
 
 pub returns-2-clause-makes : goal.returns-2-clause-makes
 returns-2-clause-makes g c = elim c.match-take.branch [
-  | in-Some+in-Some-1 w ↦ rw w.f-is (call_promises g.F.FnMut (λ s v. g.Fut.Future.can_poll v) _ _ w.f.result _ c.requires.makes w.f.ensures).1
-  | in-Some+in-None-1 w ↦ rw w.f-is (call_promises g.F.FnMut (λ s v. g.Fut.Future.can_poll v) _ _ w.f.result _ c.requires.makes w.f.ensures).1
+  | in-Some+in-Some-1 w ↦ rw w.f-is
+      (call_promises g.F.FnMut (λ s v. g.Fut.Future.can_poll v) _ _ w.f.result _ c.requires.makes w.f.ensures).1
+  | in-Some+in-None-1 w ↦ rw w.f-is
+      (call_promises g.F.FnMut (λ s v. g.Fut.Future.can_poll v) _ _ w.f.result _ c.requires.makes w.f.ensures).1
   | in_default w ↦ rw w.f-is c.requires.makes
 ]

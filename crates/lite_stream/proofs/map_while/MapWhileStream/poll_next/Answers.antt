@@ -13,5 +13,9 @@ f-requires g c =
 pub returns-in-Some-clause-again : goal.returns-in-Some-clause-again
 returns-in-Some-clause-again g c =
     let e : c.poll_next.result ≡ item c.in-Some.item = search rules in
-    let came = rw e at c.poll_next.ensures.ran in
-    (c.poll_next.ensures.again, each_asked g.S.Stream.run (Calls g.F.FnMut) (λ p x. g.F.FnMut.pre p (x, tt)) g.met.S.Stream.laws.follows _ _ _ _ _ c.f.result c.requires.1 came c.f.ensures)
+    let came = rw e at c.poll_next.ensures.ran in (
+      c.poll_next.ensures.again,
+      each_asked g.S.Stream.run (Calls g.F.FnMut)
+          (λ p x. g.F.FnMut.pre p
+          (x, tt)) g.met.S.Stream.laws.follows _ _ _ _ _ c.f.result c.requires.1 came c.f.ensures,
+    )

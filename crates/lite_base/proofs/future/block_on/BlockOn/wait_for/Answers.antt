@@ -8,7 +8,14 @@ returns-in-Ready g c =
     let waited = c.polls.invariant.waited in
     let e : c.poll.result ≡ Ready c.in-Ready.value = search rules in
     let last = rw e at c.poll.ensures.ran in
-    record { gave = (_, waiting_gives waited.0 _ _ waited.1 (refl, refl), g.met.F.Future.laws.follows _ _ _ _ _ waited.1 waited.2 last); kept = tt }
+    record {
+      gave = (
+        _,
+        waiting_gives waited.0 _ _ waited.1 (refl, refl),
+        g.met.F.Future.laws.follows _ _ _ _ _ waited.1 waited.2 last,
+      );
+      kept = tt;
+    }
 
 pub polls-preserved : goal.polls-preserved
 polls-preserved g c =
@@ -18,5 +25,9 @@ polls-preserved g c =
     record {
       goes_on = search rules;
       ready = rw e at c.poll.ensures.again;
-      waited = (waited.0 ++ Pending ∷ [], waiting_waiting waited.0 _ waited.1 tt, g.met.F.Future.laws.follows _ _ _ _ _ waited.1 waited.2 next);
+      waited = (
+        waited.0 ++ Pending ∷ [],
+        waiting_waiting waited.0 _ waited.1 tt,
+        g.met.F.Future.laws.follows _ _ _ _ _ waited.1 waited.2 next,
+      );
     }

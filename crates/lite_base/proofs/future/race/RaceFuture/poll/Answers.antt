@@ -11,7 +11,14 @@ returns-then-next_u32-eq1-clause-ran g c =
     record {
       words = c.next_u32.result ∷ [];
       drawn = (_, c.next_u32.ensures, refl);
-      picks = record { i = r.0; j = r.1; first = r.2; second = r.3; rows = rw e ([], [], r.4, (refl, refl, refl)); ends = up_to_one c.poll_in_order.result };
+      picks = record {
+        i = r.0;
+        j = r.1;
+        first = r.2;
+        second = r.3;
+        rows = rw e ([], [], r.4, (refl, refl, refl));
+        ends = up_to_one c.poll_in_order.result;
+      };
     }
 
 pub returns-else-next_u32-eq1-clause-ran : goal.returns-else-next_u32-eq1-clause-ran
@@ -21,5 +28,12 @@ returns-else-next_u32-eq1-clause-ran g c =
     record {
       words = c.next_u32.result ∷ [];
       drawn = (_, c.next_u32.ensures, refl);
-      picks = record { i = r.1; j = r.0; first = r.3; second = r.2; rows = rw e ([], [], r.4, (refl, refl, refl)); ends = up_to_one c.poll_in_order-else-next_u32-eq1.result };
+      picks = record {
+        i = r.1;
+        j = r.0;
+        first = r.3;
+        second = r.2;
+        rows = rw e ([], [], r.4, (refl, refl, refl));
+        ends = up_to_one c.poll_in_order-else-next_u32-eq1.result;
+      };
     }

@@ -46,4 +46,5 @@ pub returns-in-Ready-clause-ran : goal.returns-in-Ready-clause-ran
 returns-in-Ready-clause-ran g c =
     let first = c.in_default.ensures.row in
     let second = c.in_default-try_ask.ensures.row in
-    inl (together_row (λ a. Ok a) (λ b. Ok b) try_pair g.F1.Future.run g.F2.Future.run (λ v w. Ok (v, w)) (λ v w. refl) _ _ _ _ _ _ first.0 second.0 (Ready c.in-Ready.both) first.1 second.1 c.in-Ready.ensures)
+    inl (together_row (λ a. Ok a) (λ b. Ok b) try_pair g.F1.Future.run g.F2.Future.run (λ v w. Ok (v, w))
+    (λ v w. refl) _ _ _ _ _ _ first.0 second.0 (Ready c.in-Ready.both) first.1 second.1 c.in-Ready.ensures)

@@ -10,5 +10,6 @@ returns-in-Some-clause-bound g c =
 
 pub returns-in-Some-clause-ran : goal.returns-in-Some-clause-ran
 returns-in-Some-clause-ran g c =
-    reads_at ReadCounts c.args.self.now c.poll_read.new.self c.poll_read.result c.poll_read.new.buf c.args.bufs.now c.in-Some.i _ c.in-Some.ensures.some
+    reads_at ReadCounts c.args.self.now c.poll_read.new.self c.poll_read.result c.poll_read.new.buf c.args.bufs.now
+    c.in-Some.i _ c.in-Some.ensures.some
     (c.poll_read.auto.buf ∙ ap length c.deref_mut.ensures) c.poll_read.ensures.bound c.poll_read.ensures.ran

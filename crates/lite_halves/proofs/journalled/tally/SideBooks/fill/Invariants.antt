@@ -4,4 +4,5 @@ use Rattle.lite_journal.specs.Entry.{notes_in}
 use Rattle.lite_halves.proofs.journalled.tally.SideBooks.fill.Given as goal
 
 abbrev pub invariant-loop-entry : goal.invariant-loop-entry
-invariant-loop-entry g l = (l.tally ≡ counted_in l.side (notes_in (take l.entry-index l.entries))) × (l.tally.calls ≤ l.entry-index)
+invariant-loop-entry g l =
+    (l.tally ≡ counted_in l.side (notes_in (take l.entry-index l.entries))) × (l.tally.calls ≤ l.entry-index)

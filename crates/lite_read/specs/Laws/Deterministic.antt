@@ -1,0 +1,124 @@
+-- What is gathered of one tale is the same wherever its pendings stand.
+use Rattle.std.proofs.Common.{◌≡◌, ◌∙◌, ℕ, List, [], ◌∷◌, ◌++◌, refl, sym, ap, subst, append_assoc, append-nil}
+use Rattle.std.proofs.lemmas.List.{map-append}
+use Rattle.std.specs.List.{FoldsTo}
+use Rattle.futures.specs.declared.task.Poll.{Poll}
+use Rattle.futures.specs.declared.task.Poll.TheVariants.{Ready, Pending}
+use Rattle.lite_base.specs.Answers.{Comparable, ComparableBy, strip}
+use Rattle.lite_base.specs.Calm.{NoPending}
+use Rattle.lite_base.specs.Runs.{Runs}
+use Rattle.lite_io_base.specs.Laws.Steady.{comparable_fronts, comparable_rest, comparable_swapped, no_wait_parts}
+use Rattle.lite_io_base.specs.Laws.Steady.{strip_marks-append, strip_marks-bytes, stripped_no_pending}
+use Rattle.lite_io_base.specs.Marks.{ReadMark, bytes}
+use Rattle.lite_io_base.specs.Steady.{NoPendingRead, SteadyReadLaws, strip_marks}
+use Rattle.lite_read.specs.ReadFold.{ReadFold, ReadFolded, ReadFolds}
+use Rattle.lite_read.specs.Laws.ReadFold.{folds_join}
+use Rattle.lite_read.specs.Deterministic.{IsDeterministic, TaleValues}
+
+-- some bytes, and then a pending
+pub past_pending : (marks rest : List ReadMark) (xs : List ℕ) → marks ≡ bytes xs ++ ReadMark.pending ∷ rest
+    → strip_marks marks ≡ bytes xs ++ strip_marks rest
+past_pending marks rest xs cut =
+    ap strip_marks cut ∙ strip_marks-append (bytes xs) (ReadMark.pending ∷ rest)
+    ∙ ap (λ k. k ++ strip_marks rest) (strip_marks-bytes xs)
+
+-- some bytes, and then marks that are no pending
+pub past_value : (marks last rest : List ReadMark) (xs : List ℕ) → NoPendingRead last
+    → marks ≡ bytes xs ++ (last ++ rest)
+    → strip_marks marks ≡ bytes xs ++ (last ++ strip_marks rest)
+past_value marks last rest xs now cut =
+    let inner = strip_marks-append last rest ∙ ap (λ k. k ++ strip_marks rest) (stripped_no_pending last now) in
+    ap strip_marks cut ∙ strip_marks-append (bytes xs) (last ++ rest)
+    ∙ ap (λ k. k ++ strip_marks (last ++ rest)) (strip_marks-bytes xs)
+    ∙ ap (λ k. bytes xs ++ k) inner
+
+module _ {M R : Type 0} (fold : ReadFold M R) where
+  -- bytes that are taken in before
+  pub tale_values_behind : (p m : M) (xs : List ℕ) (t : List ReadMark) (vs : List R) → FoldsTo fold.takes p xs m
+      → TaleValues fold m t vs
+      → TaleValues fold p (bytes xs ++ t) vs
+  tale_values_behind p m xs _ _ f (TaleValues.held _ q ys g) =
+      subst (λ k. TaleValues fold p k []) (map-append ReadMark.byte xs ys)
+      (TaleValues.held p q (xs ++ ys) (folds_join fold.takes p m q xs ys f g))
+  tale_values_behind p m xs _ _ f (TaleValues.next _ n q ys last rest v vs g h s) =
+      let joined = folds_join fold.takes p m n xs ys f g in
+      let same = ap (λ k. k ++ (last ++ rest)) (map-append ReadMark.byte xs ys)
+      ∙ append_assoc (bytes xs) (bytes ys) (last ++ rest) in
+      subst (λ k. TaleValues fold p k (v ∷ vs)) same (TaleValues.next p n q (xs ++ ys) last rest v vs joined h s)
+
+  module _ {same : R → R → Type 0} (s : IsDeterministic same fold) where
+    -- a future's segments
+    pub read_folds_values : (p q : M) (i : List ReadMark) (l : List (Poll R)) → ReadFolds fold p i l q
+        → TaleValues fold p (strip_marks i) (strip l)
+    read_folds_values p q i [] h = rw h.0 (TaleValues.held p p [] refl)
+    read_folds_values p q i (Pending ∷ l) h =
+        let w = h.2 in
+        subst (λ k. TaleValues fold p k (strip l)) (sym (past_pending i h.0 w.taken w.cut))
+        (tale_values_behind p h.1 w.taken (strip_marks h.0) (strip l) w.folds (read_folds_values h.1 q h.0 l h.3))
+    read_folds_values p q i (Ready r ∷ l) h =
+        let c = h.0 in
+        let now = s.at_once c.between q c.last r c.gives in
+        let whole = past_value i c.last [] c.taken now
+        (c.cut ∙ ap (λ k. bytes c.taken ++ k) (sym (append-nil c.last))) in
+        let one = TaleValues.next p c.between q c.taken c.last [] r [] c.folds c.gives (TaleValues.held q q [] refl) in
+        rw h.1 (subst (λ k. TaleValues fold p k (r ∷ [])) (sym whole) one)
+
+    -- the first values of tales that begin one another
+    aligned : (p x y q r : M) (xs ys : List ℕ) (l m k n : List ReadMark) (v w : R) → FoldsTo fold.takes p xs x
+        → FoldsTo fold.takes p ys y
+        → fold.gives x l v q → fold.gives y m w r → Comparable (bytes xs ++ (l ++ k)) (bytes ys ++ (m ++ n)) → same v w
+        × (q ≡ r) × Comparable k n
+    aligned p x y q r [] [] l m k n v w f g h j c =
+        let one = subst (λ (z : M). fold.gives z l v q) (sym f) h in
+        let other = subst (λ (z : M). fold.gives z m w r) (sym g) j in
+        let both = s.one_value p q r l m v w one other (comparable_fronts l k m n c) in
+        (both.0, both.1, comparable_rest m k n (subst (λ z. Comparable (z ++ k) (m ++ n)) both.2 c))
+    aligned p x y q r [] (b ∷ ys) l m k n v w f g h j c =
+        let one = subst (λ (z : M). fold.gives z l v q) (sym f) h in
+        let front = subst (λ z. Comparable (l ++ k) z)
+        (sym (append-nil (ReadMark.byte b ∷ (bytes ys ++ (m ++ n))))) c in
+        absurd (s.given_or_taken p q g.0 l (bytes ys ++ (m ++ n)) v b one g.1
+        (comparable_fronts l k (ReadMark.byte b ∷ (bytes ys ++ (m ++ n))) [] front))
+    aligned p x y q r (b ∷ xs) [] l m k n v w f g h j c =
+        let other = subst (λ (z : M). fold.gives z m w r) (sym g) j in
+        let related = comparable_swapped (ReadMark.byte b ∷ (bytes xs ++ (l ++ k))) (m ++ n) c in
+        let front = subst (λ z. Comparable (m ++ n) z)
+        (sym (append-nil (ReadMark.byte b ∷ (bytes xs ++ (l ++ k))))) related in
+        absurd (s.given_or_taken p r f.0 m (bytes xs ++ (l ++ k)) w b other f.1
+        (comparable_fronts m n (ReadMark.byte b ∷ (bytes xs ++ (l ++ k))) [] front))
+    aligned p x y q r (b ∷ xs) (d ∷ ys) l m k n v w f g h j c =
+        let byte : b ≡ d = cc c.0 in
+        let way = s.one_way p g.0 f.0 b (subst (λ z. fold.takes p z g.0) (sym byte) g.1) f.1 in
+        aligned f.0 x y q r xs ys l m k n v w f.2 (subst (λ z. FoldsTo fold.takes z ys y) way g.2) h j c.1
+
+    -- tales that begin one another give the same values
+    pub tale_values_alike : (p : M) (t u : List ReadMark) (vs ws : List R) → TaleValues fold p t vs
+        → TaleValues fold p u ws → Comparable t u → ComparableBy same vs ws
+    tale_values_alike p _ _ _ _ (TaleValues.held _ q xs f) b c = tt
+    tale_values_alike p _ _ _ _ (TaleValues.next _ m q xs last rest v vs f h a) (TaleValues.held _ r ys g) c = tt
+    tale_values_alike p _ _ _ _ (TaleValues.next _ m q xs last rest v vs f h a)
+        (TaleValues.next _ n r ys end more w ws g j b) c =
+        let first = aligned p m n q r xs ys last end rest more v w f g h j c in (
+          first.0,
+          tale_values_alike q rest more vs ws a
+              (subst (λ z. TaleValues fold z more ws) (sym first.1) b) first.2,
+        )
+
+    -- what a future makes of readers that are alike
+    pub read_folded_alike : {S : Type 0} {reads ample : Runs ReadMark S} {needs_none : Type 0} {alike : S → S → Type 0}
+        → SteadyReadLaws reads ample needs_none alike
+        → (x y x' y' : S) (p q r : M) (l m : List (Poll R)) → alike x y → ReadFolded fold ample x p l x' q
+        → ReadFolded fold ample y p m y' r
+        → ComparableBy same (strip l) (strip m)
+    read_folded_alike laws x y x' y' p q r l m e h k =
+        tale_values_alike p (strip_marks h.marks) (strip_marks k.marks) (strip l) (strip m)
+        (read_folds_values p q h.marks l h.folded)
+        (read_folds_values p r k.marks m k.folded) (laws.steady x y x' y' h.marks k.marks e h.came k.came)
+
+  -- where no pending is told none is answered
+  pub read_folds_no_pending : (p q : M) (i : List ReadMark) (l : List (Poll R)) → NoPendingRead i
+      → ReadFolds fold p i l q → NoPending l
+  read_folds_no_pending p q i [] n h = tt
+  read_folds_no_pending p q i (Pending ∷ l) n h =
+      absurd (no_wait_parts (bytes h.2.taken) (ReadMark.pending ∷ h.0) (subst NoPendingRead h.2.cut n)).1
+  read_folds_no_pending p q i (Ready v ∷ l) n h = rw h.1 tt

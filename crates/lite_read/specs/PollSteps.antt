@@ -1,0 +1,44 @@
+-- The steps of a poll that reads: what one takes in that goes on, and how one of `read_to_end` answers.
+use Rattle.std.specs.Prelude.{◌<◌, ◌≤◌, ℕ, List, [], ◌∷◌, length, Result}
+use Rattle.std.specs.List.{FoldsTo}
+use Rattle.std.specs.declared.io.Error.{Error}
+use Rattle.futures.specs.declared.task.Poll.{Poll}
+use Rattle.lite_io_base.specs.Marks.{ReadMark, bytes}
+use Rattle.lite_read.specs.Appending as appending
+use Rattle.lite_read.specs.Appending.{read_front}
+use Rattle.lite_read.specs.Filling as filling
+use Rattle.lite_read.specs.Filling.{filling_of}
+use Rattle.lite_read.specs.ReadFold.{ReadFold, ReadFolded}
+use Rattle.lite_read.specs.ReadExact.{fills}
+use Rattle.lite_read.specs.ReadToEnd.{appends}
+use Rattle.lite_read.specs.declared.read_exact.ReadExactFuture.{ReadExactFuture}
+use Rattle.lite_read.specs.declared.read_to_end.ReadToEndFuture.{ReadToEndFuture}
+use Rattle.lite_base.specs.Runs.{Runs}
+
+module _ {X S M R : Type 0} (reader : X → S) (held : X → M) (fold : X → ReadFold M R) (Keeps : X → X → Type 0)
+    (reads : Runs ReadMark S) where
+  -- the reader gave some bytes, and they were taken in one after the other
+  pub record TakesBytes (x y : X) : Type 0 where
+    pub taken : List ℕ
+    pub some : 0 < length taken
+    pub came : reads (reader x) (bytes taken) (reader y)
+    pub folds : FoldsTo (fold x).takes (held x) taken (held y)
+    pub stays : Keeps x y
+
+-- one step of a poll of `read_exact` that goes on: bytes were taken in
+abbrev pub ReadsMore : {R : Type 0} → Runs ReadMark R → ReadExactFuture R → ReadExactFuture R → Type 0
+ReadsMore = TakesBytes (λ x. x.reader.now) filling_of (λ x. fills) filling.ExactStays
+
+module _ {R A : Type 0} (may_refuse : Type 0) (reads : Runs ReadMark R) where
+  -- one step of a poll of `read_to_end` that goes on: bytes were taken in
+  abbrev pub ReadsSome : ReadToEndFuture R A → ReadToEndFuture R A → Type 0
+  ReadsSome =
+      TakesBytes (λ x. x.reader.now) read_front (λ x. appends may_refuse x.start)
+      (λ x y. appending.ToEndStays x y × (y.filled ≤ length y.buf.now.items)) reads
+
+  -- the answer, before the room behind what was read is cut off
+  pub record AnswersUntrimmed (x : ReadToEndFuture R A) (a : Poll (Result ℕ Error))
+      (y : ReadToEndFuture R A) : Type 0 where
+    pub folded : ReadFolded (appends may_refuse x.start) reads x.reader.now (read_front x) (a ∷ []) y.reader.now
+        (read_front y)
+    pub stays : appending.ToEndStays x y

@@ -1,0 +1,178 @@
+"""The words of the ghost language: the definitions in specs/, each with the comment over it, and the calls whose runs they are."""
+import os
+import re
+
+from repository import FACADE, TOP, crates_in, files_of, read_text, with_below
+
+# (a definition is told from a lemma by its first word)
+DEFINED = re.compile(r"^ *(?:pub )?(abbrev|unfoldable|record|data) (?:pub )?(?:record |data )?(?P<word>[^\s:({]+)")
+MEMBER = re.compile(r"^    ghost (?P<word>\w+): \{(?P<type>.*)\}", re.M)
+TRAIT = re.compile(r"^pub trait (?P<name>\w+).*?^}", re.M | re.S)
+# What says the runs of a type, by the trait whose calls they are of.
+RUN_OF = {"Stream": "run", "Future": "run", "Folder": "fold", "Tale": "reads", "Takings": "writes", "AsyncSeek": "seeks"}
+LAWS_OF = {"Stream": "laws", "Future": "laws", "Folder": "returns", "Tale": "read_laws", "Takings": "write_laws", "AsyncSeek": None}
+IMPL = re.compile(
+    rf"^impl\b[^{{;]*?\s(?P<trait>{'|'.join(RUN_OF)})(?:<[^{{;]*?>)? for (?P<type>\w+)[^{{]*\{{\n(?P<body>.*?)^}}", re.M | re.S
+)
+# Modules whose words are said with those of the call at hand, which tell more.
+SHARED = ("Consuming", "Polled", "Runs")
+# The laws of each future that consumes a stream.
+CONSUMING = "lite_consume", "Laws.Consuming"
+MADE = re.compile(r"^pub fn (?P<name>\w+)[^{;]*?-> (?P<type>[^{]*?)\n?(?:    (?:where|requires|ensures)|\{|$)", re.M | re.S)
+USED = re.compile(r"use Rattle\.(?P<crate>\w+)\.specs\.(?P<module>[\w.]+)\.\{(?P<names>[^}]*)\}")
+
+
+class Word:
+    """A definition: its name, the crate and the module that it stands in, and what the comment over it says."""
+
+    def __init__(self, name, crate, module, says):
+        self.name, self.crate, self.module, self.says = name, crate, module, says
+
+    @property
+    def path(self):
+        return f"crates/{self.crate}/specs/{self.module.replace('.', '/')}.antt"
+
+
+def comment_over(lines, at):
+    """Returns the comment that ends just above a line, as one line."""
+    start = at
+    while start and lines[start - 1].lstrip().startswith("--"):
+        start -= 1
+    return " ".join(line.lstrip(" -") for line in lines[start:at])
+
+
+def definitions(crate):
+    """Yields the definitions of a crate, those of its laws too."""
+    for file in files_of(f"{TOP}/crates/{crate}/specs"):
+        lines = read_text(f"{TOP}/crates/{crate}/specs/{file}").splitlines()
+        for at, line in enumerate(lines):
+            found = DEFINED.match(line)
+            if found:
+                yield Word(found["word"], crate, os.path.splitext(file)[0].replace("/", "."), comment_over(lines, at))
+
+
+def is_law(word):
+    return word.module.split(".")[0] == "Laws"
+
+
+def libraries():
+    return with_below(crates_in(TOP), [FACADE])
+
+
+def members():
+    """Yields the ghost members of the library's traits: the trait, the member and its comment."""
+    for crate in libraries():
+        for file in files_of(f"{TOP}/crates/{crate}/src"):
+            text = read_text(f"{TOP}/crates/{crate}/src/{file}")
+            for trait in TRAIT.finditer(text):
+                for found in MEMBER.finditer(trait[0]):
+                    above = trait[0][: found.start()].rstrip("\n").split("\n\n")[-1].splitlines()
+                    yield trait["name"], found["word"], " ".join(line.strip(" /") for line in above if line.strip().startswith("///"))
+
+
+def imported(text):
+    """Returns where each ghost name that a source imports is from: the crate and the module."""
+    return {name.strip(): (it["crate"], it["module"]) for it in USED.finditer(text) for name in it["names"].split(",")}
+
+
+def makers(crate):
+    """Returns the functions of a crate that make a value of a type, by the type."""
+    made = {}
+    for file in files_of(f"{TOP}/crates/{crate}/src"):
+        for found in MADE.finditer(read_text(f"{TOP}/crates/{crate}/src/{file}")):
+            kind = re.match(r"(?:Result<|Option<)?(\w+)", found["type"].strip())
+            if kind:
+                made.setdefault(kind[1], []).append(found["name"])
+    return made
+
+
+def ghost_in(body, member, where):
+    """Returns the modules of the ghost names, in their order, that a member of an impl says."""
+    said = member and re.search(rf"ghost {member} = \{{(.*?)\}};", body, re.S)
+    return [where[it] for it in re.findall(r"[\w'-]+", said[1]) if it in where] if said else []
+
+
+def module_path(crate, module):
+    return f"crates/{crate}/specs/{module.replace('.', '/')}.antt"
+
+
+def calls():
+    """Yields a row for each type that is polled, read, written or sought: its crate, the calls that make one, its source, and the modules
+    of its definition and of its laws."""
+    below = set(libraries())
+    for crate in libraries():
+        made = makers(crate)
+        for file in files_of(f"{TOP}/crates/{crate}/src"):
+            text = read_text(f"{TOP}/crates/{crate}/src/{file}")
+            where = imported(text)
+            for impl in IMPL.finditer(text):
+                run, laws = (ghost_in(impl["body"], member[impl["trait"]], where) for member in (RUN_OF, LAWS_OF))
+                lawful = list(dict.fromkeys(it for it in laws if it[1].startswith("Laws.")))
+                if impl["trait"] == "Folder":
+                    lawful.append(CONSUMING)
+                known = [it for it in run if it[0] in below]
+                own = [it for it in known if it[1] not in SHARED] or [it for it in known if it[1] != "Runs"]
+                if own:
+                    beside = own[0][0], f"Laws.{own[0][1]}"
+                    if not lawful and os.path.exists(f"{TOP}/{module_path(*beside)}"):
+                        lawful = [beside]
+                    yield crate, made.get(impl["type"], []), impl["type"], impl["trait"], file, own[0], lawful
+
+
+KIND = {"Stream": "stream", "Future": "future", "Folder": "consuming", "Tale": "reading", "Takings": "writing", "AsyncSeek": "seeking"}
+HEAD_ENDS = "## Calls\n"
+
+
+def link(path, text):
+    return f"[{text}](../{path})"
+
+
+def snake(name):
+    return re.sub(r"(?<!^)(?=[A-Z])", "_", name).lower()
+
+
+def rows_of_calls():
+    for crate, made, name, trait, file, defined, laws in calls():
+        # (a method that consumes a stream is called as its folder is)
+        named = made or [snake(name) if trait == "Folder" else name]
+        yield [
+            ", ".join(f"`{it}`" for it in sorted(named, key=len)),
+            KIND[trait],
+            link(f"crates/{crate}/src/{file}", f"{crate} {os.path.splitext(file)[0]}"),
+            link(module_path(*defined), defined[1].replace(".", "/")),
+            ", ".join(link(module_path(*it), it[1].removeprefix("Laws.").replace(".", "/")) for it in laws) or "-",
+        ]
+
+
+def rows_of_words():
+    words = sorted((it for crate in libraries() for it in definitions(crate)), key=lambda it: (it.name.lower(), it.name))
+    for word in words:
+        yield [f"`{word.name}`", word.says.replace("|", "\\|"), link(word.path, f"{word.crate} {word.module.replace('.', '/')}")]
+
+
+def table(head, rows):
+    lines = [head, ["---"] * len(head), *rows]
+    return "".join(f"| {' | '.join(row)} |\n" for row in lines).replace("| --- |", "|---|").replace(" --- |", "---|")
+
+
+def glossary():
+    """Returns what docs/GLOSSARY.md has to be: its head as it stands, and the tables."""
+    head = read_text(f"{TOP}/docs/GLOSSARY.md").partition(HEAD_ENDS)[0]
+    calls_told = table(["Call", "Kind", "Code", "Definition", "Laws"], sorted(rows_of_calls()))
+    words_told = table(["Word", "Says", "Stands in"], rows_of_words())
+    return f"{head}{HEAD_ENDS}\n{calls_told}\n## Words\n\n{words_told}"
+
+
+def faults():
+    """Yields what is wrong with the words: a stale table, a definition without a comment, and a name that two have."""
+    if glossary() != read_text(f"{TOP}/docs/GLOSSARY.md"):
+        yield "docs/GLOSSARY.md", "it is not what tools/glossary writes"
+    there = {}
+    for crate in crates_in(TOP):
+        for word in definitions(crate):
+            there.setdefault(word.name, []).append(word)
+            if not word.says and not is_law(word):
+                yield word.path, f"{word.name} has no comment"
+    for name, words in sorted(there.items()):
+        if len(words) > 1:
+            yield words[0].path, f"{name} stands in {', '.join(it.path for it in words[1:])} too"
