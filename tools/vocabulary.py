@@ -16,9 +16,14 @@ IMPL = re.compile(
 )
 # Modules whose words are said with those of the call at hand, which tell more.
 SHARED = ("Consuming", "Polled", "Runs")
+# Modules of words that say nothing of one call.
+PLAIN = ("Answers", "Lent", "Runs")
 # The laws of each future that consumes a stream.
 CONSUMING = "lite_consume", "Laws.Consuming"
 MADE = re.compile(r"^pub fn (?P<name>\w+)[^{;]*?-> (?P<type>[^{]*?)\n?(?:    (?:where|requires|ensures)|\{|$)", re.M | re.S)
+NEW = re.compile(r"^impl\b[^{;]*?\s(?P<type>\w+)(?:<[^{;]*)?\{\n(?:(?!^\}).*\n)*?    pub fn new\(", re.M)
+FUNCTION = re.compile(r"^pub fn (?P<name>\w+)(?P<said>.*?)^\{", re.M | re.S)
+PASSED_ON = re.compile(r"^pub use (?P<path>[\w:]+?)(?:::\{(?P<names>[^}]*)\})?;", re.M | re.S)
 USED = re.compile(r"use Rattle\.(?P<crate>\w+)\.specs\.(?P<module>[\w.]+)\.\{(?P<names>[^}]*)\}")
 
 
@@ -76,14 +81,25 @@ def imported(text):
 
 
 def makers(crate):
-    """Returns the functions of a crate that make a value of a type, by the type."""
+    """Returns the functions of a crate that make a value of a type, by the type; the type itself where it has a `new`."""
     made = {}
     for file in files_of(f"{TOP}/crates/{crate}/src"):
         for found in MADE.finditer(read_text(f"{TOP}/crates/{crate}/src/{file}")):
             kind = re.match(r"(?:Result<|Option<)?(\w+)", found["type"].strip())
             if kind:
                 made.setdefault(kind[1], []).append(found["name"])
+    for file in files_of(f"{TOP}/crates/{crate}/src"):
+        for found in NEW.finditer(read_text(f"{TOP}/crates/{crate}/src/{file}")):
+            if found["type"] in made:
+                made[found["type"]] = [found["type"]]
     return made
+
+
+def passed_on():
+    """Returns the names that the facade passes on."""
+    texts = [read_text(f"{TOP}/crates/{FACADE}/src/{file}") for file in files_of(f"{TOP}/crates/{FACADE}/src")]
+    found = [it for text in texts for it in PASSED_ON.finditer(text)]
+    return {name.strip() for it in found for name in (it["names"] or it["path"].rpartition("::")[2]).split(",")}
 
 
 def ghost_in(body, member, where):
@@ -119,6 +135,22 @@ def calls():
                     yield crate, made.get(impl["type"], []), impl["type"], impl["trait"], file, own[0], lawful
 
 
+def functions():
+    """Yields a row for each function that the facade passes on and that makes no such type: its crate, its source, and the modules of what its
+    contract says."""
+    public, made = passed_on(), {name for _, names, *_ in calls() for name in names}
+    for crate in libraries():
+        for file in files_of(f"{TOP}/crates/{crate}/src"):
+            text = read_text(f"{TOP}/crates/{crate}/src/{file}")
+            where = imported(text)
+            for found in FUNCTION.finditer(text):
+                said = found["said"].partition("\n    ensures")[2]
+                cited = [where[it] for it in re.findall(r"[\w'-]+", said) if it in where and where[it][0] in libraries()]
+                own = [it for it in dict.fromkeys(cited) if it[1] not in PLAIN]
+                if found["name"] in public - made and crate != FACADE and own:
+                    yield crate, found["name"], file, own
+
+
 KIND = {"Stream": "stream", "Future": "future", "Folder": "consuming", "Tale": "reading", "Takings": "writing", "AsyncSeek": "seeking"}
 HEAD_ENDS = "## Calls\n"
 
@@ -140,6 +172,15 @@ def rows_of_calls():
             KIND[trait],
             link(f"crates/{crate}/src/{file}", f"{crate} {os.path.splitext(file)[0]}"),
             link(module_path(*defined), defined[1].replace(".", "/")),
+            ", ".join(link(module_path(*it), it[1].removeprefix("Laws.").replace(".", "/")) for it in laws) or "-",
+        ]
+    for crate, name, file, defined in functions():
+        laws = [(it[0], f"Laws.{it[1]}") for it in defined if os.path.exists(f"{TOP}/{module_path(it[0], f'Laws.{it[1]}')}")]
+        yield [
+            f"`{name}`",
+            "function",
+            link(f"crates/{crate}/src/{file}", f"{crate} {os.path.splitext(file)[0]}"),
+            ", ".join(link(module_path(*it), it[1].replace(".", "/")) for it in defined),
             ", ".join(link(module_path(*it), it[1].removeprefix("Laws.").replace(".", "/")) for it in laws) or "-",
         ]
 

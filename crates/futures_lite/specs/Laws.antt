@@ -9,15 +9,15 @@ pub use Rattle.lite_stream.specs.Laws.Cutting
 pub use Rattle.lite_stream.specs.Laws.EachItem
 pub use Rattle.lite_stream.specs.Laws.Pointwise
 pub use Rattle.lite_stream.specs.Laws.Through
-pub use Rattle.lite_sift.specs.Laws.Leaving
+pub use Rattle.lite_reshape.specs.Laws.Leaving
 pub use Rattle.lite_source.specs.Laws.Iterators
 pub use Rattle.lite_source.specs.Laws.Script
-pub use Rattle.lite_nests.specs.Laws.Each
-pub use Rattle.lite_nests.specs.Laws.Fronts
-pub use Rattle.lite_nests.specs.Laws.Items
-pub use Rattle.lite_nests.specs.Laws.Sources
+pub use Rattle.lite_views.specs.Laws.Each
+pub use Rattle.lite_views.specs.Laws.Fronts
+pub use Rattle.lite_views.specs.Laws.Items
+pub use Rattle.lite_views.specs.Laws.Sources
 -- that a collection of a merge has all items: `or_collected`, `race_collected`
-pub use Rattle.lite_interleave.specs.Laws.Collected
-pub use Rattle.lite_interleave.specs.Laws.Or
-pub use Rattle.lite_interleave.specs.Laws.Race
-pub use Rattle.lite_interleave.specs.Laws.Rows
+pub use Rattle.lite_theorems.specs.Laws.Collected
+pub use Rattle.lite_theorems.specs.Laws.Or
+pub use Rattle.lite_theorems.specs.Laws.Race
+pub use Rattle.lite_theorems.specs.Laws.Rows

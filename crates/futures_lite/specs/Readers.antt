@@ -6,13 +6,13 @@ pub use Rattle.lite_io_base.specs.Known.{Known, Knows, TellsKnown, unknown}
 pub use Rattle.lite_io_base.specs.Steps.{Steps}
 pub use Rattle.lite_io_base.specs.SeekKeeps.{SeekKeeps}
 pub use Rattle.lite_io_base.specs.Steady.{CalmReadLaws, NoPendingRead, OneTale, SteadyReadLaws, strip_marks}
-pub use Rattle.lite_io.specs.BufReader
-pub use Rattle.lite_io.specs.Chain
-pub use Rattle.lite_io.specs.Chaining
-pub use Rattle.lite_io.specs.Repeat
-pub use Rattle.lite_io.specs.Take
+pub use Rattle.lite_buffered.specs.BufReader
+pub use Rattle.lite_buffered.specs.Chain
+pub use Rattle.lite_buffered.specs.Chaining
+pub use Rattle.lite_buffered.specs.Repeat
+pub use Rattle.lite_buffered.specs.Take
 pub use Rattle.lite_bridge.specs.Cursor
-pub use Rattle.lite_laws.specs.BothReaders.{BothRead, HasReadMemory, ReadsUp}
+pub use Rattle.lite_theorems.specs.BothReaders.{BothRead, HasReadMemory, ReadsUp}
 pub use Rattle.lite_read.specs.Appending
 pub use Rattle.lite_read.specs.Bytes
 pub use Rattle.lite_read.specs.Filling

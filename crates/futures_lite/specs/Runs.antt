@@ -1,10 +1,12 @@
 -- Runs: what those of each stream and each reader meet, and when two runs agree.
-pub use Rattle.lite_base.specs.StreamLaws.{RunLaws, StreamLaws, laws_of, runs_of}
+pub use Rattle.lite_base.specs.StreamLaws.{RunLaws, StreamLaws}
+pub use Rattle.lite_base.specs.Laws.StreamLaws.{laws_of, runs_of}
 pub use Rattle.lite_base.specs.Alike.{Alike, AlikeBy, Either, MadeOf, OptionBy, Optional, Pairwise, SameAnswer, SameErr}
 pub use Rattle.lite_base.specs.Alike.{SameHeld, SameItem, SameList, SameOk, Sameness}
 pub use Rattle.lite_base.specs.Calm.{CalmLaws}
 pub use Rattle.lite_base.specs.Steady.{Steadiness, SteadinessBy, SteadyLaws, SteadyLawsBy, TakesNone}
-pub use Rattle.lite_base.specs.Lent.{Lent, lent_counting, lent_laws}
+pub use Rattle.lite_base.specs.Lent.{Lent}
+pub use Rattle.lite_base.specs.Laws.Lent.{lent_counting, lent_laws}
 pub use Rattle.lite_laws.specs.Both.{Agreed, Fewer}
 -- of folders and of collections
 pub use Rattle.lite_consume.specs.Agreeing.{FoldSteadyLaws, SameDecision, Within, WithinWhere}

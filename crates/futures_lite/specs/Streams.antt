@@ -18,26 +18,26 @@ pub use Rattle.lite_stream.specs.declared.map_while.MapWhile.{MapWhile}
 pub use Rattle.lite_stream.specs.declared.scan.Scan.{Scan}
 pub use Rattle.lite_stream.specs.declared.take.Take.{Take}
 pub use Rattle.lite_stream.specs.declared.take_while.TakeWhile.{TakeWhile}
-pub use Rattle.lite_sift.specs.Filter.{Filters}
-pub use Rattle.lite_sift.specs.FilterMap.{FilterMaps}
-pub use Rattle.lite_sift.specs.Skip.{Skips, SkipsFirst}
-pub use Rattle.lite_sift.specs.SkipWhile.{SkipsUntil, SkipsWhile}
-pub use Rattle.lite_sift.specs.StepBy.{StepsBy, StepsOn}
-pub use Rattle.lite_sift.specs.declared.filter.Filter.{Filter}
-pub use Rattle.lite_sift.specs.declared.filter_map.FilterMap.{FilterMap}
-pub use Rattle.lite_sift.specs.declared.skip.Skip.{Skip}
-pub use Rattle.lite_sift.specs.declared.skip_while.SkipWhile.{SkipWhile}
-pub use Rattle.lite_sift.specs.declared.step_by.StepBy.{StepBy}
-pub use Rattle.lite_flatten.specs.Chain.{Chains}
-pub use Rattle.lite_flatten.specs.Cloned.{AlikeCloned, ClonedFrom, ClonesAll, ClonesUnrefused, EqualClones}
-pub use Rattle.lite_flatten.specs.FlatMap.{FlatMaps, MakesAlways}
-pub use Rattle.lite_flatten.specs.Flatten.{Flattens}
-pub use Rattle.lite_flatten.specs.Then.{Thens}
-pub use Rattle.lite_flatten.specs.declared.chain.Chain.{Chain}
-pub use Rattle.lite_flatten.specs.declared.cloned.Cloned.{Cloned}
-pub use Rattle.lite_flatten.specs.declared.flat_map.FlatMap.{FlatMap}
-pub use Rattle.lite_flatten.specs.declared.flatten.Flatten.{Flatten}
-pub use Rattle.lite_flatten.specs.declared.then.Then.{Then}
+pub use Rattle.lite_reshape.specs.Filter.{Filters}
+pub use Rattle.lite_reshape.specs.FilterMap.{FilterMaps}
+pub use Rattle.lite_reshape.specs.Skip.{Skips, SkipsFirst}
+pub use Rattle.lite_reshape.specs.SkipWhile.{SkipsUntil, SkipsWhile}
+pub use Rattle.lite_reshape.specs.StepBy.{StepsBy, StepsOn}
+pub use Rattle.lite_reshape.specs.declared.filter.Filter.{Filter}
+pub use Rattle.lite_reshape.specs.declared.filter_map.FilterMap.{FilterMap}
+pub use Rattle.lite_reshape.specs.declared.skip.Skip.{Skip}
+pub use Rattle.lite_reshape.specs.declared.skip_while.SkipWhile.{SkipWhile}
+pub use Rattle.lite_reshape.specs.declared.step_by.StepBy.{StepBy}
+pub use Rattle.lite_reshape.specs.Chain.{Chains}
+pub use Rattle.lite_reshape.specs.Cloned.{AlikeCloned, ClonedFrom, ClonesAll, ClonesUnrefused, EqualClones}
+pub use Rattle.lite_reshape.specs.FlatMap.{FlatMaps, MakesAlways}
+pub use Rattle.lite_reshape.specs.Flatten.{Flattens}
+pub use Rattle.lite_reshape.specs.Then.{Thens}
+pub use Rattle.lite_reshape.specs.declared.chain.Chain.{Chain}
+pub use Rattle.lite_reshape.specs.declared.cloned.Cloned.{Cloned}
+pub use Rattle.lite_reshape.specs.declared.flat_map.FlatMap.{FlatMap}
+pub use Rattle.lite_reshape.specs.declared.flatten.Flatten.{Flatten}
+pub use Rattle.lite_reshape.specs.declared.then.Then.{Then}
 pub use Rattle.lite_merge.specs.Or.{Ors}
 pub use Rattle.lite_merge.specs.Race.{Races}
 pub use Rattle.lite_merge.specs.Zip.{Zips}

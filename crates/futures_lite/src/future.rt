@@ -3,7 +3,7 @@ ghost use Rattle.std.specs.Prelude.{◌≡◌, IfOk, List, OnErr, Some};
 ghost use Rattle.futures.specs.declared.task.Poll.{Poll};
 ghost use Rattle.lite_base.specs.Answers.{Gives};
 ghost use Rattle.lite_base.specs.Future.Finishes.{Finishes};
-ghost use Rattle.lite_byte_views.specs.Waiting.{LeftAs, LeftSeen};
+ghost use Rattle.lite_views.specs.Waiting.{LeftAs, LeftSeen};
 ghost use Rattle.lite_views.specs.Views.{HasValue, Seen, Waited};
 
 pub use lite_base::Future;
@@ -27,7 +27,9 @@ pub fn ready<T>(value: T) -> Ready<T>
     lite_base::future::make::ready(value)
 }
 
-/// Waits on this thread for a future, and answers its value. It may wait for ever.
+/// Waits on this thread for a future, and answers its value. It may wait for ever, and a sleep costs the processor
+/// nothing. `AllocError`: the queue that it sleeps on was refused for memory, and the future was not polled. Who
+/// waits often holds a [`BlockOn`], which makes the queue once.
 pub fn block_on<R, F>(rt: &R, future: F) -> Result<F::Output, AllocError>
 where
     R: Wait + RandomSource + AllocGlobal,
@@ -58,7 +60,8 @@ where
 
 /// What every future can be combined by. Ported from `src/future.rs`, `FutureExt`.
 pub trait FutureExt: Future {
-    /// A future of the value that is there first, and of this one's where both are.
+    /// A future of the value that is there first, and of this one's where both are: `other` is polled only where this
+    /// one was pending.
     final fn or<F>(self, other: F) -> Or<Self, F>
     where
         Self: Sized,
@@ -68,8 +71,9 @@ pub trait FutureExt: Future {
         or(self, other)
     }
 
-    /// A future of the value that is there first; where both are, the generator chooses. The original takes a
-    /// generator of the thread.
+    /// A future of the value that is there first; where both are, the generator chooses: its next word, one a poll,
+    /// says by the lowest bit which is polled first, 1 this one; the other is polled only if that was pending. The
+    /// original takes a generator of the thread.
     final fn race<F, G>(self, other: F, rng: G) -> Race<Self, F, G>
     where
         Self: Sized,

@@ -12,10 +12,10 @@ ghost use denote.Ref.{Bor};
 ghost use Rattle.lite_base.specs.Answers.{until_end};
 ghost use Rattle.lite_base.specs.Calling.{Calls};
 ghost use Rattle.lite_stream.specs.EachItem.{MayCallEach, items_in};
-ghost use Rattle.lite_sift.specs.Filter.{Filters};
-ghost use Rattle.lite_sift.specs.Skip.{SkipsFirst};
-ghost use Rattle.lite_sift.specs.SkipWhile.{SkipsWhile};
-ghost use Rattle.lite_sift.specs.StepBy.{StepsBy};
+ghost use Rattle.lite_reshape.specs.Filter.{Filters};
+ghost use Rattle.lite_reshape.specs.Skip.{SkipsFirst};
+ghost use Rattle.lite_reshape.specs.SkipWhile.{SkipsWhile};
+ghost use Rattle.lite_reshape.specs.StepBy.{StepsBy};
 ghost use Rattle.lite_stream.specs.TakeWhile.{TakesWhile};
 ghost use Rattle.lite_merge.specs.Zip.{Zips};
 ghost use Rattle.lite_views.specs.Acting.{ActsAsOnState};
@@ -24,32 +24,30 @@ ghost use Rattle.lite_views.specs.Views.{Fronts, GoesOn, HasValue, Lists, ListsA
 ghost use Rattle.lite_views.specs.Futures.{CountRuns, FindRuns, FoldRuns, LastRuns, NthRuns, TryFoldRuns};
 ghost use Rattle.lite_views.specs.Trying.{TriesCollect, first_error, try_fold};
 ghost use Rattle.std.specs.Option.{option_transpose};
-ghost use Rattle.lite_byte_views.specs.OkLists.{AllTaken, OkLists, OkSeen};
-ghost use Rattle.lite_cycle.specs.Cycle.{CycleOf};
-ghost use Rattle.lite_flatten.specs.FlatMap.{FlatMaps};
-ghost use Rattle.lite_flatten.specs.Flatten.{Flattens};
-ghost use Rattle.lite_flatten.specs.Then.{Thens};
-ghost use Rattle.lite_flatten.specs.declared.chain.Part.TheVariants.{First};
+ghost use Rattle.lite_views.specs.OkLists.{AllTaken, OkLists, OkSeen};
+ghost use Rattle.lite_merge.specs.Cycle.{CycleOf};
+ghost use Rattle.lite_reshape.specs.FlatMap.{FlatMaps};
+ghost use Rattle.lite_reshape.specs.Flatten.{Flattens};
+ghost use Rattle.lite_reshape.specs.Then.{Thens};
+ghost use Rattle.lite_reshape.specs.declared.chain.Part.TheVariants.{First};
 
 use lite_base::{Future, Poll};
 pub use lite_base::{Counted, OkCounted, Stream};
-pub use lite_block::BlockOn;
-pub use lite_block::make::block_on;
+pub use lite_consume::make::block_on;
 pub use lite_consume::{
-    AllFuture, AnyFuture, Consume, CountFuture, FindFuture, FindMapFuture, FoldFuture, Folder,
-    ForEachFuture, LastFuture, NextFuture, NthFuture, PositionFuture, SteadyFolder, TryFoldFuture,
-    TryForEachFuture, TryNextFuture,
+    AllFuture, AnyFuture, BlockOn, Consume, CountFuture, FindFuture, FindMapFuture, FoldFuture,
+    Folder, ForEachFuture, LastFuture, NextFuture, NthFuture, PositionFuture, SteadyFolder,
+    TryFoldFuture, TryForEachFuture, TryNextFuture,
 };
-pub use lite_cycle::make::stop_after_future;
-pub use lite_cycle::{Cycle, Drain, StopAfterFuture};
-pub use lite_flatten::{Chain, Cloned, FlatMap, Flatten, Then};
 pub use lite_gather::{
     CollectFuture, Gather, PartitionFuture, Refused, TryCollectError, TryCollectFuture,
     UnzipFuture, UnzipRefused,
 };
-pub use lite_merge::make::{or, race, race_with_seed};
-pub use lite_merge::{Or, Race, Zip};
-pub use lite_sift::{Filter, FilterMap, Skip, SkipWhile, StepBy};
+pub use lite_merge::make::{or, race, race_with_seed, stop_after_future};
+pub use lite_merge::{Cycle, Drain, Or, Race, StopAfterFuture, Zip};
+pub use lite_reshape::{
+    Chain, Cloned, Filter, FilterMap, FlatMap, Flatten, Skip, SkipWhile, StepBy, Then,
+};
 pub use lite_source::make::{iter, once_future, pending, poll_fn, repeat_with, try_unfold, unfold};
 pub use lite_source::{
     Empty, Iter, Once, OnceFuture, Pending, PollFn, Repeat, RepeatWith, Script, TryUnfold, Unfold,
@@ -60,7 +58,7 @@ use rand_core::Rng;
 use std::ops::Range;
 use std::{array, iter as iterators, slice, vec};
 
-/// A stream that ends at each poll. Ported from `src/stream.rs`, `empty`.
+/// A stream that ends at each poll; its hint is (0, Some(0)). Ported from `src/stream.rs`, `empty`.
 pub fn empty<T>() -> Empty<T>
     ensures made { result ≡ record { item = record {} } }
     ensures lists { ListsAs {A = T} ⟦<Empty<T> as Stream>⟧.run result [] }
@@ -104,7 +102,8 @@ pub fn iter_range(items: Range<usize>) -> Iter<Range<usize>>
     iter(items)
 }
 
-/// A stream that gives `t`, and then ends for ever. Ported from `src/stream.rs`, `once`.
+/// A stream that gives `t`, and then ends for ever. Its hint is (1, Some(1)), and then (0, Some(0)). Ported from
+/// `src/stream.rs`, `once`.
 pub fn once<T>(t: T) -> Once<T>
     ensures made { result ≡ record { value = Some t } }
     ensures lists { ListsAs ⟦<Once<T> as Stream>⟧.run result (t ∷ []) }
@@ -113,8 +112,9 @@ pub fn once<T>(t: T) -> Once<T>
     lite_source::make::once(t)
 }
 
-/// A stream that gives clones of `item`, one a poll, for ever. A clone that is refused for want of memory is the item
-/// `Err(AllocError)`. Ported from `src/stream.rs`, `repeat`.
+/// A stream that gives clones of `item` as `Ok` items, one a poll, for ever. A clone that is refused for want of
+/// memory is the item `Err(AllocError)`, and the next poll tries again. Its hint is (usize::MAX, None). Ported from
+/// `src/stream.rs`, `repeat`.
 pub fn repeat<T: Clone>(item: T) -> Repeat<T>
     ensures made { result ≡ record { item = item } }
     ensures on { T.is_infallible item → ((y : T) → T.is_clone item y → y ≡ item)
@@ -123,7 +123,8 @@ pub fn repeat<T: Clone>(item: T) -> Repeat<T>
     lite_source::make::repeat(item)
 }
 
-/// A stream that gives these answers, one a poll and in order, and then ends for ever. A poll takes no memory.
+/// A stream that gives these answers, one a poll and in order, and then ends for ever. A poll takes no memory. Its
+/// hint is (0, None).
 ///
 /// The original has no such call.
 pub fn script<T>(answers: Vec<Poll<Option<T>>>) -> Script<T>
@@ -136,10 +137,13 @@ pub fn script<T>(answers: Vec<Poll<Option<T>>>) -> Script<T>
 
 /// What every stream can be adapted and consumed by. Ported from `src/stream.rs`, `StreamExt`.
 ///
-/// A future that consumes a stream takes in items within one poll, so the stream's rank has to count, but where the method
-/// says that it takes any stream. Those that are lent the stream leave it behind the last answer that they asked for.
+/// A closure is called only with items of the stream, once for each and in order. A future that consumes a stream
+/// takes in items within one poll, until one decides, the stream is pending, or it ends; so the stream's rank has to
+/// count, but where the method says that it takes any stream. What was taken in is kept across pendings. Those that
+/// are lent the stream leave it behind the last answer that they asked for.
 pub trait StreamExt: Stream {
-    /// The stream of what `f` answers to each item. A pending and an end stay.
+    /// The stream of what `f` answers to each item; a pending and an end stay. `f` is called once for each item, in
+    /// order. The hint is this stream's.
     final fn map<U, F>(self, f: F) -> Map<Self, F>
     where
         Self: Sized,
@@ -154,8 +158,9 @@ pub trait StreamExt: Stream {
         make::map(self, f)
     }
 
-    /// The stream of the items that `predicate` accepts. A poll goes on over rejected items, so the stream's rank
-    /// has to count.
+    /// The stream of the items that `predicate` accepts, which is called once for each item, in order. A poll goes on
+    /// over rejected items until there is an accepted one, a pending or an end, so the stream's rank has to count.
+    /// The hint is 0, and this stream's upper bound.
     final fn filter<P>(self, predicate: P) -> Filter<Self, P>
     where
         Self: Counted + Sized,
@@ -165,11 +170,12 @@ pub trait StreamExt: Stream {
             → ListsAs (Filters Self.run (CalledAt P.FnMut)) result (filter test xs)
             × (length (filter test xs) ≤ length xs) }
     {
-        lite_sift::make::filter(self, predicate)
+        lite_reshape::make::filter(self, predicate)
     }
 
     /// The stream of the items of the streams that `f` makes of the items, one after the other. A poll goes on over
-    /// inner streams that end, so the stream's rank has to count.
+    /// inner streams that end, and this stream is polled only while no inner stream is held; so its rank has to
+    /// count, and where that of the inner streams does too, so does the whole. The hint says nothing.
     final fn flat_map<U, F>(self, f: F) -> FlatMap<Self, U, F>
     where
         Self: Counted + Sized,
@@ -181,11 +187,12 @@ pub trait StreamExt: Stream {
             × Lists U.run inner (h x))
             → ListsAs (FlatMaps Self.run F.FnMut U.run) result (flat_map h xs) }
     {
-        lite_flatten::make::flat_map(self, f)
+        lite_reshape::make::flat_map(self, f)
     }
 
     /// The stream of the items of the streams that are the items, one after the other. A poll goes on over inner
-    /// streams that end, so the stream's rank has to count.
+    /// streams that end, and this stream is polled only while no inner stream is held; so its rank has to count, and
+    /// where that of the inner streams does too, so does the whole. The hint says nothing.
     final fn flatten(self) -> Flatten<Self>
     where
         Self: Counted + Sized,
@@ -195,11 +202,12 @@ pub trait StreamExt: Stream {
             → ((inner : Self.Item) → Lists Self.Item.run inner (h inner))
             → ListsAs (Flattens Self.Item.run Self.run) result (flat_map h xs) }
     {
-        lite_flatten::make::flatten(self)
+        lite_reshape::make::flatten(self)
     }
 
     /// The stream of the values of the futures that `f` makes of the items. A future is polled in the poll that made
-    /// it, and while it is pending it is held.
+    /// it; while it is pending it is held, and this stream is not polled. The hint is this stream's, and one more in
+    /// both places while a future is held.
     final fn then<F, Fut>(self, f: F) -> Then<Self, F, Fut>
     where
         Self: Sized,
@@ -211,11 +219,11 @@ pub trait StreamExt: Stream {
             × HasValue Fut.run future (h x))
             → ListsAs (Thens Self.run (Calls F.FnMut) Fut.run) result (map h xs) }
     {
-        lite_flatten::make::then(self, f)
+        lite_reshape::make::then(self, f)
     }
 
-    /// The stream of what `f` answers to the items, without each `None`. A poll goes on over rejected items, so the
-    /// stream's rank has to count.
+    /// The stream of what `f` answers to the items, without each `None`; it is called once for each item, in order. A
+    /// poll goes on over rejected items, so the stream's rank has to count. The hint says nothing.
     final fn filter_map<T, F>(self, f: F) -> FilterMap<Self, F>
     where
         Self: Counted + Sized,
@@ -225,10 +233,11 @@ pub trait StreamExt: Stream {
             → ListsAs ⟦<FilterMap<Self, F> as Stream>⟧.run result (filter_map h xs)
             × (length (filter_map h xs) ≤ length xs) }
     {
-        lite_sift::make::filter_map(self, f)
+        lite_reshape::make::filter_map(self, f)
     }
 
-    /// The stream of the first `n` items, which then ends for ever. An end of this stream leaves none to take.
+    /// The stream of the first `n` items, which ends for ever after the last of them, or after the first end, and
+    /// then never polls this stream; with 0 it never does. The hint says nothing.
     final fn take(self, n: usize) -> Take<Self>
     where
         Self: Sized,
@@ -239,8 +248,8 @@ pub trait StreamExt: Stream {
         make::take(self, n)
     }
 
-    /// The stream of the items, with an end in the place of each one that `predicate` rejects. Polled again after
-    /// that end it goes on.
+    /// The stream of the items, with an end in the place of each one that `predicate` rejects, which is lost. Polled
+    /// again after that end it goes on. The hint says nothing.
     final fn take_while<P>(self, predicate: P) -> TakeWhile<Self, P>
     where
         Self: Sized,
@@ -253,7 +262,7 @@ pub trait StreamExt: Stream {
     }
 
     /// The stream of what `f` answers to each item, with an end in the place of each `None`. Polled again after that
-    /// end it goes on.
+    /// end it goes on. The hint says nothing.
     final fn map_while<B, F>(self, f: F) -> MapWhile<Self, F>
     where
         Self: Sized,
@@ -266,18 +275,18 @@ pub trait StreamExt: Stream {
         make::map_while(self, f)
     }
 
-    /// The stream of the items without the first `n`.
+    /// The stream of the items without the first `n`. A poll goes on over those. The hint says nothing.
     final fn skip(self, n: usize) -> Skip<Self>
     where
         Self: Sized,
         ensures parts { result ≡ record { stream = self; n = n } }
         ensures lists { (xs : List Self.Item) → Lists Self.run self xs → ListsAs (SkipsFirst Self.run) result (drop n xs) }
     {
-        lite_sift::make::skip(self, n)
+        lite_reshape::make::skip(self, n)
     }
 
-    /// The stream of the items from the first one that `predicate` rejects. A poll goes on over the items before it,
-    /// so the stream's rank has to count.
+    /// The stream of the items from the first one that `predicate` rejects, which is asked no more after it. A poll
+    /// goes on over the items before it, so the stream's rank has to count. The hint says nothing.
     final fn skip_while<P>(self, predicate: P) -> SkipWhile<Self, P>
     where
         Self: Counted + Sized,
@@ -286,10 +295,11 @@ pub trait StreamExt: Stream {
         ensures lists { (test : Self.Item → Bool) (xs : List Self.Item) → Lists Self.run self xs → ActsAsAt P.FnMut predicate test
             → ListsAs (SkipsWhile Self.run (CalledAt P.FnMut)) result (drop (prefix_len test xs) xs) }
     {
-        lite_sift::make::skip_while(self, predicate)
+        lite_reshape::make::skip_while(self, predicate)
     }
 
-    /// The stream of the items whose numbers, counted from 0, are multiples of `step`, which is above 0.
+    /// The stream of the items whose numbers, counted from 0, are multiples of `step`, which is above 0. A poll goes
+    /// on over the items between. The hint says nothing.
     final fn step_by(self, step: usize) -> StepBy<Self>
     where
         Self: Sized,
@@ -298,10 +308,11 @@ pub trait StreamExt: Stream {
         ensures lists { (xs : List Self.Item) → Lists Self.run self xs
             → ListsAs (StepsBy Self.run) result (step_from step 0 xs) × (length (step_from step 0 xs) ≤ length xs) }
     {
-        lite_sift::make::step_by(self, step)
+        lite_reshape::make::step_by(self, step)
     }
 
-    /// The stream of the items, and after its end those of `other`, which is asked in the same poll.
+    /// The stream of the items, and after its end those of `other`, which is asked in the poll that met this end.
+    /// Neither is polled after its end. The hint says nothing.
     final fn chain<U>(self, other: U) -> Chain<Self, U>
     where
         Self: Sized,
@@ -310,11 +321,12 @@ pub trait StreamExt: Stream {
         ensures lists { (xs ys : List Self.Item) → Lists Self.run self xs → Lists U.run other ys
             → ListsAs ⟦<Chain<Self, U> as Stream>⟧.run result (xs ++ ys) }
     {
-        lite_flatten::make::chain(self, other)
+        lite_reshape::make::chain(self, other)
     }
 
-    /// The stream of the pairs of the items and those of `other`. An item is held while `other` is pending, and is let go
-    /// where `other` ends.
+    /// The stream of the pairs of the items and those of `other`. An item is held while `other` is pending, and this
+    /// stream is not polled meanwhile; where `other` ends it is let go, and an end goes out. A pending and an end of
+    /// this stream go out too. It is not fused: polled after an end it goes on. The hint says nothing.
     final fn zip<U>(self, other: U) -> Zip<Self, U>
     where
         Self: Sized,
@@ -326,7 +338,9 @@ pub trait StreamExt: Stream {
         lite_merge::make::zip(self, other)
     }
 
-    /// The stream of the items and those of `other` as they come, these first where both have one. It ends once both have.
+    /// The stream of the items and those of `other` as they come: in each poll this stream is polled first, and
+    /// `other` only where it has no item. Each is polled up to its first end, and never again; it ends where both
+    /// have ended, and is pending where they have no item and have not. The hint says nothing.
     final fn or<S>(self, other: S) -> Or<Self, S>
     where
         Self: Sized,
@@ -339,8 +353,10 @@ pub trait StreamExt: Stream {
         lite_merge::make::or(self, other)
     }
 
-    /// The stream of the items and those of `other` as they come; where both have one, the generator chooses. It ends once
-    /// both have.
+    /// The stream of the items and those of `other` as they come: in each poll the generator's next word says by its
+    /// lowest bit which is polled first, 1 this stream; the other is polled only where that has no item. Each is
+    /// polled up to its first end, and never again; it ends where both have ended, and is pending where they have no
+    /// item and have not. The rank counts over two firm ranks. The hint says nothing.
     final fn race<S, R>(self, other: S, rng: R) -> Race<Self, S, R>
     where
         Self: Sized,
@@ -355,27 +371,32 @@ pub trait StreamExt: Stream {
         lite_merge::make::race(self, other, rng)
     }
 
-    /// The stream of the items over and over, by copies of this stream as it is now, or this stream itself where memory for
-    /// the first copy was refused. The items are `Ok`; a copy that is refused later is an `Err` item in its place.
+    /// The stream of the items over and over, by copies of this stream as it is now, or this stream itself, unpolled,
+    /// where memory for the first copy was refused. The items are `Ok`. At an end a fresh copy is made and polled
+    /// once in the same poll, and its answer goes out whatever it is: an empty stream's cycle ends. A copy that is
+    /// refused is the item `Err(AllocError)`, and the next poll tries it again without polling the stream. The hint
+    /// says nothing.
     final fn cycle(self) -> Result<Cycle<Self>, Self>
     where
         Self: Clone + Sized,
         ensures { MatchResult result (CycleOf Self.is_clone self)
             (λ back. (back ≡ self) × ¬ (Self.is_infallible self)) }
     {
-        lite_cycle::make::cycle(self)
+        lite_merge::make::cycle(self)
     }
 
-    /// The stream that ends wherever this one is pending, and goes on when it is polled again.
+    /// The stream that ends wherever this one is pending, and goes on when it is polled again. The hint is 0, and
+    /// this stream's upper bound.
     final fn drain(&mut self) -> Drain<'_, Self>
     where
         Self: Sized,
         ensures { result ≡ record { stream = self.entry } }
     {
-        lite_cycle::make::drain(self)
+        lite_merge::make::drain(self)
     }
 
-    /// The stream of clones of what the items refer to, in which a refused clone is an `Err` item.
+    /// The stream of clones of what the items refer to, as `Ok` items. A clone that is refused is the item
+    /// `Err(AllocError)`, and the next poll tries it again without polling this stream. The hint says nothing.
     final fn cloned<'a, T: 'a>(self) -> Cloned<Self>
     where
         Self: Stream<Item = &'a T> + Sized,
@@ -385,10 +406,10 @@ pub trait StreamExt: Stream {
             → ((x y : T) → T.is_clone x y → y ≡ x)
             → ListsAs ⟦<Cloned<Self> as Stream>⟧.run result (map (λ x. Ok x.now) xs) }
     {
-        lite_flatten::make::cloned(self)
+        lite_reshape::make::cloned(self)
     }
 
-    /// The stream of copies of what the items refer to.
+    /// The stream of copies of what the items refer to. The hint says nothing.
     final fn copied<'a, T: 'a>(self) -> Copied<Self>
     where
         Self: Stream<Item = &'a T> + Sized,
@@ -401,7 +422,8 @@ pub trait StreamExt: Stream {
     }
 
     /// The stream of what `f` answers to a state, which is `initial_state` at first and goes from call to call, and
-    /// each item, with an end in the place of each `None`. Polled again after that end it goes on.
+    /// each item, with an end in the place of each `None`. Polled again after that end it goes on. The hint says
+    /// nothing.
     final fn scan<St, B, F>(self, initial_state: St, f: F) -> Scan<Self, St, F>
     where
         Self: Sized,
@@ -415,7 +437,7 @@ pub trait StreamExt: Stream {
         make::scan(self, initial_state, f)
     }
 
-    /// The stream until its first end, and then an end for ever.
+    /// The stream until its first end, and then an end for ever; it is not polled again then. The hint says nothing.
     final fn fuse(self) -> Fuse<Self>
     where
         Self: Sized,
@@ -425,7 +447,8 @@ pub trait StreamExt: Stream {
         make::fuse(self)
     }
 
-    /// The stream of the items, each paired with its number, from 0 on. After `usize::MAX` comes 0.
+    /// The stream of the items, each paired with its number, from 0 on, across pendings and ends. After `usize::MAX`
+    /// comes 0. The hint says nothing.
     final fn enumerate(self) -> Enumerate<Self>
     where
         Self: Sized,
@@ -436,7 +459,7 @@ pub trait StreamExt: Stream {
         make::enumerate(self)
     }
 
-    /// The stream of the items, each of which is shown to `f` before it goes out.
+    /// The stream of the items, each of which is shown to `f` once before it goes out. The hint says nothing.
     final fn inspect<F>(self, f: F) -> Inspect<Self, F>
     where
         Self: Sized,
@@ -481,7 +504,8 @@ pub trait StreamExt: Stream {
         lite_consume::make::count(self)
     }
 
-    /// The future of what `f` makes of `init` and of the items before the end, one after the other.
+    /// The future of what `f` makes of `init` and of the items before the end, one after the other. It is not polled
+    /// again after its value.
     final fn fold<T, F>(self, init: T, f: F) -> FoldFuture<Self, F, T>
     where
         Self: Counted + Sized,
@@ -493,8 +517,8 @@ pub trait StreamExt: Stream {
         lite_consume::make::fold(self, init, f)
     }
 
-    /// The future of what `f` makes of `init` and of what the items hold, one after the other, up to the end or the first
-    /// error, an item's or one that `f` answers.
+    /// The future of what `f` makes of `init` and of what the items hold, one after the other, up to the end or the
+    /// first error, an item's or one that `f` answers. It is not polled again after its value.
     final fn try_fold<T, E, F, B>(&mut self, init: B, f: F) -> TryFoldFuture<'_, Self, F, B>
     where
         Self: OkCounted<Ok = T, Err = E> + Sized,
@@ -552,8 +576,8 @@ pub trait StreamExt: Stream {
         lite_consume::make::find_map(self, f)
     }
 
-    /// The future of the number of the first item that `predicate` accepts, counted from 0, and `None` where the stream
-    /// ends before it. After `usize::MAX` comes 0.
+    /// The future of the number of the first item that `predicate` accepts, counted from 0 at the first item that
+    /// this future asks for, and `None` where the stream ends before it. After `usize::MAX` comes 0.
     final fn position<'a, P>(&'a mut self, predicate: P) -> PositionFuture<'a, Self, P>
     where
         Self: Counted + Sized,
@@ -566,7 +590,8 @@ pub trait StreamExt: Stream {
         lite_consume::make::position(self, predicate)
     }
 
-    /// The future of whether `predicate` accepts each item; the first one that it rejects decides.
+    /// The future of whether `predicate` accepts each item; the first one that it rejects decides, and of no item it
+    /// is true.
     final fn all<'a, P>(&'a mut self, predicate: P) -> AllFuture<'a, Self, P>
     where
         Self: Counted + Sized,
@@ -579,7 +604,8 @@ pub trait StreamExt: Stream {
         lite_consume::make::all(self, predicate)
     }
 
-    /// The future of whether `predicate` accepts an item; the first one that it accepts decides.
+    /// The future of whether `predicate` accepts an item; the first one that it accepts decides, and of no item it is
+    /// false.
     final fn any<'a, P>(&'a mut self, predicate: P) -> AnyFuture<'a, Self, P>
     where
         Self: Counted + Sized,
@@ -615,8 +641,11 @@ pub trait StreamExt: Stream {
         lite_consume::make::try_for_each(self, f)
     }
 
-    /// The future of a collection of the items before the end, which takes its memory from `alloc`. Where it refuses an item,
-    /// the value is what was collected, with that item.
+    /// The future of a collection of the items before the end, which takes its memory from `alloc`. Where it has no
+    /// room for an item the value is `Refused`: what was collected, and that item. A vector and a deque take items in
+    /// at the back, a `String` characters at its end, a `BTreeMap` pairs, whose keys stay and whose values are
+    /// replaced where the key is there, and a `BTreeSet` keeps an item that is there. It is not polled again after
+    /// its value.
     final fn collect<C>(self, alloc: C::Alloc) -> CollectFuture<Self, C>
     where
         Self: Counted + Sized,
@@ -631,8 +660,10 @@ pub trait StreamExt: Stream {
         lite_gather::make::collect(self, alloc)
     }
 
-    /// The future of a collection of what the items hold, up to the end or the first error among them, which is the value. It
-    /// takes its memory from `alloc`; where it refuses what an item holds, the value is what was collected, with that.
+    /// The future of a collection of what the items hold, up to the end or the first error among them, which is the
+    /// value, as `TryCollectError::Source`. It takes its memory from `alloc`; where it has no room for what an item
+    /// holds the value is `TryCollectError::Memory`: what was collected, and that. It is not polled again after its
+    /// value.
     final fn try_collect<T, E, C>(self, alloc: C::Alloc) -> TryCollectFuture<Self, C>
     where
         Self: OkCounted<Ok = T, Err = E> + Sized,
@@ -651,8 +682,9 @@ pub trait StreamExt: Stream {
         lite_gather::make::try_collect(self, alloc)
     }
 
-    /// The future of two collections: of the items that `predicate` accepts, and of the others. Both take their memory from
-    /// `alloc`; where one refuses an item, the value is what was collected, with that item.
+    /// The future of two collections: of the items that `predicate` accepts, and of the others. Both take their
+    /// memory from `alloc`; where one refuses an item, the value is what was collected, with that item. It is not
+    /// polled again after its value.
     final fn partition<B, P>(self, alloc: B::Alloc, predicate: P) -> PartitionFuture<Self, P, B>
     where
         Self: Counted + Sized,
@@ -675,8 +707,10 @@ pub trait StreamExt: Stream {
         lite_gather::make::partition(self, alloc, predicate)
     }
 
-    /// The future of two collections: of the first and of the second parts of the items. Both take their memory from `alloc`;
-    /// where one refuses its part, the value is what was collected, with what was refused.
+    /// The future of two collections: of the first and of the second parts of the items. Both take their memory from
+    /// `alloc`. Where the first refuses its part the value is `UnzipRefused::Left`: both collections and both parts;
+    /// where the second does, `UnzipRefused::Right`: both, the first with its part, and the second part. It is not
+    /// polled again after its value.
     final fn unzip<A, B, FromA, FromB>(self, alloc: FromA::Alloc) -> UnzipFuture<Self, FromA, FromB>
     where
         Self: Counted<Item = (A, B)> + Sized,

@@ -1,8 +1,8 @@
 //! `linecount` prints how many lines standard input has.
 #![tactic(auto)]
 
-use lite_io::BufReader;
-use lite_std::{AssertAsync, BlockOn};
+use lite_bridge::{AssertAsync, BlockOn};
+use lite_buffered::BufReader;
 use std::alloc::AllocGlobal;
 use std::io;
 use std::io::{BufRead, ErrorKind};

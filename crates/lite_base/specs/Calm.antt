@@ -1,9 +1,7 @@
 -- Streams and futures that are never pending.
 use Rattle.std.specs.Prelude.{⊤, ℕ, ◌+◌, List, [], ◌∷◌}
-use denote.MutBor.{MutBor}
 use Rattle.futures.specs.declared.task.Poll.{Poll}
 use Rattle.futures.specs.declared.task.Poll.TheVariants.{Ready, Pending}
-use Rattle.lite_base.specs.Lent.{Lent}
 use Rattle.lite_base.specs.Runs.{Runs}
 
 -- no answer is Pending
@@ -22,11 +20,3 @@ waits (Ready x ∷ l) = waits l
 pub record CalmLaws {S A : Type 0} (run : Runs (Poll A) S) (is_calm : S → Type 0) : Type 0 where
   pub no_pending : (x y : S) (l : List (Poll A)) → is_calm x → run x l y → NoPending l
   pub calm_on : (x y : S) (l : List (Poll A)) → is_calm x → run x l y → is_calm y
-
-pub lent_calm : {S A : Type 0} {run : Runs (Poll A) S} {is_calm : S → Type 0} → CalmLaws run is_calm
-    → CalmLaws (Lent run) (λ (x : MutBor S). is_calm x.now)
-lent_calm c =
-    record {
-      no_pending = λ x y l k h. c.no_pending x.now y.now l k h.0;
-      calm_on = λ x y l k h. c.calm_on x.now y.now l k h.0;
-    }

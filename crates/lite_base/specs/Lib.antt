@@ -16,3 +16,4 @@ pub mod Registered
 pub mod Runs
 pub mod Steady
 pub mod StreamLaws
+pub mod Segments

@@ -1,14 +1,12 @@
 -- Streams and futures whose answers do not depend on when they were pending, where memory was found: the runs in which
 -- it was are the ample ones.
-use Rattle.std.specs.Prelude.{◌≡◌, ⊤, List}
-use denote.MutBor.{MutBor}
+use Rattle.std.specs.Prelude.{◌≡◌, List}
 use Rattle.futures.specs.declared.task.Poll.{Poll}
 use Rattle.lite_base.specs.Alike.{AlikeBy, SameAnswer, SameItem, Sameness}
 use Rattle.lite_base.specs.Answers.{Answer}
 use Rattle.lite_base.specs.FutureLaws.{FutureLaws}
-use Rattle.lite_base.specs.Lent.{Lent, lent_future_laws, lent_runs}
-use Rattle.lite_base.specs.StreamLaws.{RunLaws, StreamLaws, runs_of}
-use Rattle.lite_base.specs.Runs.{Hints, Runs}
+use Rattle.lite_base.specs.StreamLaws.{RunLaws}
+use Rattle.lite_base.specs.Runs.{Runs}
 
 module _ {S A : Type 0} where
   -- values that are alike have runs that are
@@ -44,39 +42,3 @@ pub record FutureSteadyLawsBy {F A : Type 0} (same : Sameness A) (run ample : Ru
 -- as FutureSteadyLawsBy, where values are the same that are equal
 abbrev pub FutureSteadyLaws : {F A : Type 0} → Runs (Poll A) F → Runs (Poll A) F → Type 0 → (F → F → Type 0) → Type 0
 FutureSteadyLaws = FutureSteadyLawsBy Sameness.equal
-
-lent_steadiness : {S A : Type 0} {same : A → A → Type 0} {ample : Runs (Poll A) S} {alike : S → S → Type 0}
-    → SteadinessBy same ample alike → SteadinessBy same (Lent ample) (λ (x y : MutBor S). alike x.now y.now)
-lent_steadiness s x y e l m x' y' h k = s x.now y.now e l m x'.now y'.now h.0 k.0
-
-lent_takes_none : {S A : Type 0} {run ample : Runs (Poll A) S} → TakesNone run ample → TakesNone (Lent run) (Lent ample)
-lent_takes_none t x y l h = (t x.now y.now l h.0, h.1)
-
-pub lent_steady : {S A : Type 0} {same : Sameness A} {run ample : Runs (Answer A) S} {needs_none : Type 0}
-    {alike : S → S → Type 0} → SteadyLawsBy same run ample needs_none alike
-    → SteadyLawsBy same (Lent run) (Lent ample) needs_none (λ (x y : MutBor S). alike x.now y.now)
-lent_steady s =
-    record {
-      laws = lent_runs s.laws;
-      steady = lent_steadiness s.steady;
-      found = λ n. lent_takes_none (s.found n);
-    }
-
-pub lent_future_steady : {F A : Type 0} {same : Sameness A} {run ample : Runs (Poll A) F} {needs_none : Type 0}
-    {alike : F → F → Type 0} → FutureSteadyLawsBy same run ample needs_none alike
-    → FutureSteadyLawsBy same (Lent run) (Lent ample) needs_none (λ (x y : MutBor F). alike x.now y.now)
-lent_future_steady s =
-    record {
-      laws = lent_future_laws s.laws;
-      steady = lent_steadiness s.steady;
-      found = λ n. lent_takes_none (s.found n);
-    }
-
--- where no poll asks for memory
-pub steady_always : {S A : Type 0} {run : Runs (Answer A) S} {hints : Hints S} {alike : S → S → Type 0}
-    → StreamLaws run hints → Steadiness run alike → SteadyLaws run run ⊤ alike
-steady_always laws s = record { laws = runs_of laws; steady = s; found = λ n x y l h. h }
-
-pub future_steady_always : {F A : Type 0} {run : Runs (Poll A) F} {alike : F → F → Type 0} → FutureLaws run
-    → Steadiness run alike → FutureSteadyLaws run run ⊤ alike
-future_steady_always laws s = record { laws = laws; steady = s; found = λ n x y l h. h }

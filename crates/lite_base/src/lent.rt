@@ -1,8 +1,9 @@
-ghost use Rattle.lite_base.specs.Calm.{lent_calm};
-ghost use Rattle.lite_base.specs.Lent.{Lent, lent_counting, lent_future_laws, lent_laws};
-ghost use Rattle.lite_base.specs.OkRanks.{lent_ok_counting};
+ghost use Rattle.lite_base.specs.Laws.Calm.{lent_calm};
+ghost use Rattle.lite_base.specs.Lent.{Lent};
+ghost use Rattle.lite_base.specs.Laws.Lent.{lent_counting, lent_future_laws, lent_laws};
+ghost use Rattle.lite_base.specs.Laws.OkRanks.{lent_ok_counting};
 ghost use Rattle.lite_base.specs.Ranks.{ranks_of};
-ghost use Rattle.lite_base.specs.Steady.{lent_future_steady, lent_steady};
+ghost use Rattle.lite_base.specs.Laws.Steady.{lent_future_steady, lent_steady};
 
 use crate::calm::CalmStream;
 use crate::counted::Counted;

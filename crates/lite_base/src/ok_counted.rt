@@ -1,5 +1,6 @@
 ghost use Rattle.lite_base.specs.Ends.{Terminates};
-ghost use Rattle.lite_base.specs.OkRanks.{OkCounting, OkRun, ok_counting_ends};
+ghost use Rattle.lite_base.specs.OkRanks.{OkCounting, OkRun};
+ghost use Rattle.lite_base.specs.Laws.OkRanks.{ok_counting_ends};
 ghost use Rattle.lite_base.specs.Ranks.{Ranks};
 
 use crate::stream::Stream;

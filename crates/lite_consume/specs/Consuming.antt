@@ -1,11 +1,11 @@
 -- What a future makes of the items of a stream: they are taken in one after the other, until an end, or until an item
 -- that decides.
-use Rattle.std.specs.Prelude.{◌≡◌, List, [], ◌∷◌, ◌++◌, Option, Some, None}
-use Rattle.std.specs.List.{FoldsTo}
+use Rattle.std.specs.Prelude.{◌≡◌, List, Option, Some, None}
 use Rattle.futures.specs.declared.task.Poll.{Poll}
 use Rattle.futures.specs.declared.task.Poll.TheVariants.{Ready, Pending}
-use Rattle.lite_base.specs.Answers.{Answer, items}
+use Rattle.lite_base.specs.Answers.{Answer, item}
 use Rattle.lite_base.specs.Runs.{Question, Runs}
+use Rattle.lite_base.specs.Segments.{OneAnswer, Segment, SegmentsToValue}
 
 -- what is made of items: which are taken in, which decide, and what the value is at an end
 pub record Fold (M A R : Type 0) : Type 1 where
@@ -27,32 +27,18 @@ module _ {M A R : Type 0} (fold : Fold M A R) where
   abbrev pub TakesIn : M → A → M → Type 0
   TakesIn p x q = fold.asks p x None q
 
-  -- the answer gives the value: an end does, or an item that decides
-  abbrev pub Decides : Question M (Answer A) R
-  Decides p Pending r q = ⊥
-  Decides p (Ready None) r q = fold.closes p r q
-  Decides p (Ready (Some x)) r q = fold.asks p x (Some r) q
+  -- what goes out at an answer: a Pending at a Pending, and the value at an end, or at an item that decides it
+  abbrev pub Decides : Question M (Answer A) (Poll R)
+  Decides p Pending Pending q = q ≡ p
+  Decides p Pending (Ready r) q = ⊥
+  Decides p (Ready o) Pending q = ⊥
+  Decides p (Ready None) (Ready r) q = fold.closes p r q
+  Decides p (Ready (Some x)) (Ready r) q = fold.asks p x (Some r) q
 
-  -- some items are taken in, and the next answer is Pending
-  pub record Waits (p : M) (ins rest : List (Answer A)) (q : M) : Type 0 where
-    pub taken : List A
-    pub cut : ins ≡ items taken ++ Pending ∷ rest
-    pub folds : FoldsTo TakesIn p taken q
-
-  -- some items are taken in, and the next answer is the last and gives the value
-  pub record Concludes (p : M) (ins : List (Answer A)) (r : R) (q : M) : Type 0 where
-    pub taken : List A
-    pub last : Answer A
-    pub cut : ins ≡ items taken ++ last ∷ []
-    pub between : M
-    pub folds : FoldsTo TakesIn p taken between
-    pub decides : Decides between last r q
-
-  -- the answers in are cut into segments, one for each answer out
+  -- the answers in are cut into segments: in each some items are taken in, and at the answer that ends it one goes out;
+  -- the value is the last that does
   abbrev pub Consumes : M → List (Answer A) → List (Poll R) → M → Type 0
-  Consumes p ins [] q = (ins ≡ []) × (q ≡ p)
-  Consumes p ins (Pending ∷ out) q = (rest : List (Answer A)) × (m : M) × Waits p ins rest m × Consumes m rest out q
-  Consumes p ins (Ready r ∷ out) q = Concludes p ins r q × (out ≡ [])
+  Consumes p ins out q = SegmentsToValue (Segment item TakesIn (OneAnswer Decides)) p ins out q
 
   -- a future that consumes a stream: the stream gave some answers, and they were consumed
   pub record Consumed {S : Type 0} (run : Runs (Answer A) S) (s : S) (p : M) (out : List (Poll R)) (t : S)

@@ -1,5 +1,7 @@
 pub mod Agreeing
 pub mod Consuming
+pub mod Given
 pub mod Matching
-pub mod Returning
 pub mod PollSteps
+pub mod Returning
+pub mod TryNext

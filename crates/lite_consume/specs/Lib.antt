@@ -9,13 +9,14 @@ pub mod Find
 pub mod FindMap
 pub mod Fold
 pub mod ForEach
+pub mod Given
 pub mod Kin
 pub mod Last
 pub mod Laws
 pub mod Next
 pub mod Nth
+pub mod PollSteps
 pub mod Position
 pub mod TryFold
 pub mod TryForEach
 pub mod TryNext
-pub mod PollSteps

@@ -1,7 +1,6 @@
 -- The steps of a poll that consumes a stream: in each the stream is polled once.
-use Rattle.std.specs.Prelude.{◌≡◌, List, [], ◌∷◌, Option, Some, None}
+use Rattle.std.specs.Prelude.{List, [], ◌∷◌, Option, Some, None}
 use Rattle.futures.specs.declared.task.Poll.{Poll}
-use Rattle.futures.specs.declared.task.Poll.TheVariants.{Ready, Pending}
 use Rattle.lite_base.specs.Answers.{Answer, item}
 use Rattle.lite_base.specs.Ends.{Terminates}
 use Rattle.lite_base.specs.Runs.{Runs}
@@ -9,11 +8,10 @@ use Rattle.lite_stream.specs.EachItem.{AtEachItem}
 use Rattle.lite_consume.specs.Consuming.{Decides, Fold, TakesIn}
 
 module _ {S M A R : Type 0} (run : Runs (Answer A) S) (fold : Fold M A R) where
-  -- one step: an item is taken in, a Pending goes out, and an item that decides or an end gives the value
+  -- one step: an item is taken in, or an answer goes out
   abbrev pub ConsumeStep : S → M → Option (Poll R) → S → M → Type 0
   ConsumeStep s p None t q = (x : A) × run s (item x ∷ []) t × TakesIn fold p x q
-  ConsumeStep s p (Some Pending) t q = run s (Pending ∷ []) t × (q ≡ p)
-  ConsumeStep s p (Some (Ready r)) t q = (a : Answer A) × run s (a ∷ []) t × Decides fold p a r q
+  ConsumeStep s p (Some b) t q = (a : Answer A) × run s (a ∷ []) t × Decides fold p a b q
 
   -- an item of the stream is taken in
   abbrev pub TakesItem : S × M → S × M → Type 0

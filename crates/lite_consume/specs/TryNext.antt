@@ -13,10 +13,6 @@ TryNextItem (Err e) (Some r) = r ≡ Err e
 abbrev pub tries_next : {M T E : Type 0} → Fold M (Result T E) (Result (Option T) E)
 tries_next = record { asks = λ p x o q. TryNextItem x o; closes = λ p r q. r ≡ Ok None }
 
--- no item is taken in
-pub none_given : {M T E : Type 0} (p q : M) (x : Result T E) → TryNextItem x None → ⊥
-none_given p q x h = h
-
 -- the item whose value it is; none where it is that of an end
 abbrev pub next_item_of : {T E : Type 0} → Result (Option T) E → Option (Result T E)
 next_item_of (Ok None) = None

@@ -1,5 +1,5 @@
-ghost use Rattle.lite_base.specs.Ends.{Terminates-map};
-ghost use Rattle.lite_base.specs.StreamLaws.{runs_of};
+ghost use Rattle.lite_base.specs.Laws.Ends.{Terminates-map};
+ghost use Rattle.lite_base.specs.Laws.StreamLaws.{runs_of};
 ghost use Rattle.lite_consume.specs.Consume.{CanFold, ConsumePollStep, Folds};
 ghost use Rattle.lite_consume.specs.Laws.Consuming.{consumed_laws};
 

@@ -1,8 +1,10 @@
-//! Futures that consume a stream: what they make of its items, and the one future that asks it.
+//! Futures that consume a stream: what they make of its items, and the one future that asks it; a stream that is waited for on this
+//! thread.
 #![tactic(auto)]
 
 mod all;
 mod any;
+mod block_on;
 mod calm;
 mod consume;
 mod count;
@@ -24,6 +26,7 @@ mod try_next;
 
 pub use all::{All, AllFuture};
 pub use any::{Any, AnyFuture};
+pub use block_on::BlockOn;
 pub use consume::Consume;
 pub use count::{Count, CountFuture};
 pub use find::{Find, FindFuture};

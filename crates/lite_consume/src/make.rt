@@ -3,6 +3,7 @@ ghost use Rattle.std.specs.Prelude.{◌≡◌, None, Some};
 
 use crate::all::{All, AllFuture};
 use crate::any::{Any, AnyFuture};
+use crate::block_on::BlockOn;
 use crate::consume::Consume;
 use crate::count::{Count, CountFuture};
 use crate::find::{Find, FindFuture};
@@ -165,5 +166,16 @@ pub fn try_next<S>(stream: &mut S) -> TryNextFuture<'_, S>
     Consume {
         stream,
         folder: TryNext,
+    }
+}
+
+/// Waits on this thread, by `rt`, for the items of `stream`. Ported from `src/stream.rs`, `block_on`.
+pub fn block_on<R, S>(rt: R, stream: S) -> BlockOn<R, S>
+    ensures { result ≡ record { rt = rt; stream = stream; waiter = None } }
+{
+    BlockOn {
+        rt,
+        stream,
+        waiter: None,
     }
 }

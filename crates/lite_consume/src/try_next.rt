@@ -1,5 +1,6 @@
 ghost use Rattle.lite_consume.specs.Laws.Returning.{returns_none};
-ghost use Rattle.lite_consume.specs.TryNext.{none_given, tries_next};
+ghost use Rattle.lite_consume.specs.TryNext.{tries_next};
+ghost use Rattle.lite_consume.specs.Laws.TryNext.{none_given};
 
 use crate::consume::Consume;
 use crate::folder::Folder;

@@ -1,7 +1,7 @@
 //! A journal in two halves, and what it has written down.
 ghost use Rattle.std.specs.Prelude.{◌≡◌, IfErr, IfOk};
 ghost use Rattle.lite_halves.specs.Counts.{got_in, reads_in, taken_in, writes_in};
-ghost use Rattle.lite_journal.specs.Journal.{IsSound, Replays};
+ghost use Rattle.lite_halves.specs.Journal.{IsSound, Replays};
 
 mod books;
 mod locked;
@@ -9,9 +9,9 @@ mod read_half;
 mod tally;
 mod write_half;
 
+use crate::Journal;
 pub use books::{Blanks, Books};
 use lite_io_base::{Takings, Tale};
-use lite_journal::Journal;
 use locked::Locked;
 pub use read_half::JournalReadHalf;
 use std::alloc::{AllocError, AllocGlobal};

@@ -4,8 +4,7 @@ use Rattle.lite_io_base.specs.Marks.{ReadMark}
 use Rattle.lite_base.specs.Runs.{Runs}
 
 -- Where the bytes xs are to come, these marks come, and ys are left: bytes from the front on, pendings anywhere, an end
--- only
--- where none is left, and no error.
+-- only where none is left, and no error.
 abbrev pub TellsKnown : Runs ReadMark (List ℕ)
 TellsKnown xs [] ys = ys ≡ xs
 TellsKnown xs (ReadMark.byte b ∷ l) ys = (rest : List ℕ) × (xs ≡ b ∷ rest) × TellsKnown rest l ys
@@ -29,9 +28,3 @@ unknown = record { told = λ x l y. ⊥; knows = λ x. ⊥; left = λ x. []; tel
 -- What is known of x is known of what it tells.
 abbrev pub Knows : {S : Type 0} → Runs ReadMark S → Known S → S → Type 0
 Knows {S} reads known x = known.knows x × ((l : List ReadMark) (y : S) → reads x l y → known.told x l y)
-
--- from what is known of x, what it tells spends
-pub knows_spends : {S : Type 0} (reads : Runs ReadMark S) (known : Known S) (x y : S) (l : List ReadMark)
-    → Knows reads known x → reads x l y
-    → TellsKnown (known.left x) l (known.left y)
-knows_spends reads known x y l k h = (known.tells x y l k.0 (k.1 l y h)).1

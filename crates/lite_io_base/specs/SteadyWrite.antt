@@ -1,8 +1,6 @@
 -- Writers that leave the same bytes however often they were pending, and writers that are never pending.
 use Rattle.std.specs.Prelude.{◌≡◌, ℕ, List, [], ◌∷◌, ◌++◌, ⊤}
 use Rattle.std.specs.declared.io.ErrorKind.TheVariants.{Interrupted}
-use denote.MutBor.{MutBor}
-use Rattle.lite_base.specs.Lent.{Lent}
 use Rattle.lite_base.specs.Runs.{Runs}
 use Rattle.lite_io_base.specs.Takings.{WriteMark, bytes_taken}
 
@@ -29,8 +27,7 @@ NoPendingWrite (WriteMark.flushed ∷ l) = NoPendingWrite l
 NoPendingWrite (WriteMark.closed ∷ l) = NoPendingWrite l
 
 -- what a steady writer's runs meet: two from values that are alike, without an error, which take the same bytes and end
--- in a
--- flush, leave the same bytes, and values that are alike
+-- in a flush, leave the same bytes, and values that are alike
 pub record SteadyWriteLaws {S : Type 0} (writes : Runs WriteMark S) (alike : S → S → Type 0)
     (below : S → List ℕ) : Type 0 where
   pub steady : (x y x' y' : S) (l m : List WriteMark) → alike x y → writes x l x' → writes y m y' → NoError l
@@ -41,20 +38,3 @@ pub record SteadyWriteLaws {S : Type 0} (writes : Runs WriteMark S) (alike : S �
 pub record CalmWriteLaws {S : Type 0} (writes : Runs WriteMark S) (is_calm : S → Type 0) : Type 0 where
   pub no_pending : (x y : S) (l : List WriteMark) → is_calm x → writes x l y → NoPendingWrite l
   pub calm_on : (x y : S) (l : List WriteMark) → is_calm x → writes x l y → is_calm y
-
--- behind a reference
-module _ {S : Type 0} {writes : Runs WriteMark S} where
-  pub lent_steady_write : {alike : S → S → Type 0} {below : S → List ℕ} → SteadyWriteLaws writes alike below
-      → SteadyWriteLaws (Lent writes) (λ (x y : MutBor S). alike x.now y.now) (λ x. below x.now)
-  lent_steady_write s =
-      record {
-        steady = λ x y x' y' l m e h k a b f g same. s.steady x.now y.now x'.now y'.now l m e h.0 k.0 a b f g same;
-      }
-
-  pub lent_calm_write : {is_calm : S → Type 0} → CalmWriteLaws writes is_calm
-      → CalmWriteLaws (Lent writes) (λ (x : MutBor S). is_calm x.now)
-  lent_calm_write c =
-      record {
-        no_pending = λ x y l k h. c.no_pending x.now y.now l k h.0;
-        calm_on = λ x y l k h. c.calm_on x.now y.now l k h.0;
-      }

@@ -19,8 +19,3 @@ unstored = record { told = λ x l y. ⊥; stores = λ x. ⊥; kept = λ x. []; t
 -- What is known of x is known of what it takes.
 abbrev pub Stores : {S : Type 0} → Runs WriteMark S → Stored S → S → Type 0
 Stores {S} writes stored x = stored.stores x × ((l : List WriteMark) (y : S) → writes x l y → stored.told x l y)
-
-pub stores_kept : {S : Type 0} (writes : Runs WriteMark S) (stored : Stored S) (x y : S) (l : List WriteMark)
-    → Stores writes stored x → writes x l y
-    → stored.kept y ≡ stored.kept x ++ bytes_taken l
-stores_kept writes stored x y l k h = (stored.tells x y l k.0 (k.1 l y h)).1

@@ -1,2 +1,1 @@
-pub mod BothReaders
-pub mod BothWriters
+pub mod Waits

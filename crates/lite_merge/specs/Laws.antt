@@ -1,5 +1,9 @@
+pub mod Cycle
+pub mod Drain
+pub mod Ends
 pub mod Merge
 pub mod Or
 pub mod Race
 pub mod SteadyZip
+pub mod StopAfterFuture
 pub mod Zip

@@ -1,5 +1,9 @@
+pub mod Cycle
+pub mod Drain
 pub mod Laws
 pub mod Merge
 pub mod Or
 pub mod Race
+pub mod StopAfterFuture
+pub mod Stopping
 pub mod Zip

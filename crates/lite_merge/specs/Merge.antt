@@ -17,12 +17,10 @@ beside_pending (Ready (Some y)) = item y
 -- one row: where the first has an item it goes out alone, and else the second is asked; an end goes out where both have
 -- ended; i' and j' are left
 abbrev pub MergeRow : {A : Type 0} (i j : List (Answer A)) (c : Answer A) (i' j' : List (Answer A)) → Type 0
-MergeRow [] j c i' j' = ⊥
 MergeRow (Ready (Some x) ∷ i) j c i' j' = (c ≡ item x) × (i' ≡ i) × (j' ≡ j)
-MergeRow (Ready None ∷ i) [] c i' j' = ⊥
 MergeRow (Ready None ∷ i) (b ∷ j) c i' j' = (c ≡ b) × (i' ≡ i) × (j' ≡ j)
-MergeRow (Pending ∷ i) [] c i' j' = ⊥
 MergeRow (Pending ∷ i) (b ∷ j) c i' j' = (c ≡ beside_pending b) × (i' ≡ i) × (j' ≡ j)
+MergeRow i j c i' j' = ⊥
 
 -- the two lists are read row by row, in the order that each row names: true, where the first stands first
 abbrev pub MergeRows : {A : Type 0} (order : List Bool) (i j out : List (Answer A)) → Type 0

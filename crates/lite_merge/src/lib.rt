@@ -1,15 +1,21 @@
-//! Adapters that merge two streams.
+//! Adapters that merge two streams, or a stream and a future, start one anew, or end where it is pending.
 #![tactic(auto)]
 
 mod calm;
+mod cycle;
+mod drain;
 pub mod make;
 mod ok_counted;
 mod or;
 mod picks;
 mod race;
 mod steady;
+mod stop_after_future;
 mod zip;
 
+pub use cycle::Cycle;
+pub use drain::Drain;
 pub use or::Or;
 pub use race::Race;
+pub use stop_after_future::StopAfterFuture;
 pub use zip::Zip;

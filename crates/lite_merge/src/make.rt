@@ -1,16 +1,22 @@
 //! What makes the adapters.
-ghost use Rattle.std.specs.Prelude.{◌≡◌, None, false};
+ghost use Rattle.std.specs.Prelude.{◌≡◌, None, false, MatchResult};
+ghost use Rattle.lite_merge.specs.Cycle.{CycleOf};
+ghost use Rattle.lite_merge.specs.declared.stop_after_future.Stopping.TheVariants.{Holding};
 
+use crate::cycle::Cycle;
+use crate::drain::Drain;
 use crate::or::Or;
 use crate::race::Race;
+use crate::stop_after_future::{StopAfterFuture, Stopping};
 use crate::zip::Zip;
-use lite_base::Stream;
+use lite_base::{Future, Stream};
 use lite_stream::make::fuse;
 use rand_core::{Rng, SeedableRng};
 use rand_pcg::Pcg32;
 
-/// The stream of the pairs of the items of `stream1` and `stream2`.
-/// Ported from `src/stream.rs`, `StreamExt::zip`.
+/// The stream of the pairs of the items of `stream1` and `stream2`. An item of the first is held while the second is
+/// pending, and the first is not polled meanwhile; where the second ends it is let go, and an end goes out. Ported
+/// from `src/stream.rs`, `StreamExt::zip`.
 pub fn zip<A: Stream, B>(stream1: A, stream2: B) -> Zip<A, B>
     ensures { result ≡ record { item_slot = None; first = stream1; second = stream2 } }
 {
@@ -21,7 +27,8 @@ pub fn zip<A: Stream, B>(stream1: A, stream2: B) -> Zip<A, B>
     }
 }
 
-/// The stream of the items of `stream1` and `stream2` as they come, those of `stream1` first where both have one.
+/// The stream of the items of `stream1` and `stream2` as they come: in each poll the first is polled, and the second
+/// only where it has no item. Each is polled up to its first end, and never again; it ends where both have ended.
 /// Ported from `src/stream.rs`, `or`.
 pub fn or<T, S1, S2>(stream1: S1, stream2: S2) -> Or<S1, S2>
 where
@@ -38,8 +45,10 @@ where
     }
 }
 
-/// The stream of the items of `stream1` and `stream2` as they come; where both have one, the generator chooses. Ported
-/// from `src/stream.rs`, `race`, which has a generator of the thread.
+/// The stream of the items of `stream1` and `stream2` as they come: in each poll the generator's next word says by
+/// its lowest bit which is polled first, 1 the first; the other is polled only where that has no item. Each is polled
+/// up to its first end, and never again; it ends where both have ended. Ported from `src/stream.rs`, `race`, which
+/// has a generator of the thread.
 pub fn race<T, S1, S2, R>(stream1: S1, stream2: S2, rng: R) -> Race<S1, S2, R>
 where
     S1: Stream<Item = T>,
@@ -71,4 +80,37 @@ where
     } }
 {
     race(stream1, stream2, Pcg32::seed_from_u64(seed))
+}
+
+/// The stream of the items of `stream` over and over, or `stream` itself where memory for a copy of it was refused.
+/// Ported from `src/stream.rs`, `StreamExt::cycle`, which can't be refused.
+pub fn cycle<S: Clone>(stream: S) -> Result<Cycle<S>, S>
+    ensures { MatchResult result (CycleOf S.is_clone stream) (λ back. (back ≡ stream) × ¬ (S.is_infallible stream)) }
+{
+    match stream.clone() {
+        Ok(original) => Ok(Cycle {
+            original,
+            stream: Some(stream),
+        }),
+        Err(_refused) => Err(stream),
+    }
+}
+
+/// The stream that ends wherever `stream` is pending. Ported from `src/stream.rs`, `StreamExt::drain`.
+pub fn drain<S>(stream: &mut S) -> Drain<'_, S>
+    ensures { result ≡ record { stream = stream.entry } }
+{
+    Drain { stream }
+}
+
+/// The stream of the items of `stream` until `future` has its value, which is polled first in each poll; then it ends
+/// for ever. At the end of `stream` the future is dropped. The hint is 0 and the upper bound of `stream`, and (0,
+/// Some(0)) once it is stopped. Ported from `src/stream.rs`, `stop_after_future`.
+pub fn stop_after_future<S, Fut: Future>(stream: S, future: Fut) -> StopAfterFuture<S, Fut>
+    ensures { result ≡ record { stream = stream; future = Holding future } }
+{
+    StopAfterFuture {
+        stream,
+        future: Stopping::Holding(future),
+    }
 }

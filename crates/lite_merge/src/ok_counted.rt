@@ -1,12 +1,19 @@
 //! Ranks over `Ok` items, of the adapters whose rank falls with each item.
-ghost use Rattle.lite_base.specs.OkRanks.{ok_counting};
+ghost use Rattle.lite_base.specs.Laws.OkRanks.{ok_counting};
 ghost use Rattle.lite_merge.specs.Laws.Or.{or_counting};
 ghost use Rattle.lite_merge.specs.Laws.Race.{race_counting};
 ghost use Rattle.lite_merge.specs.Or.{or_ranks};
 ghost use Rattle.lite_merge.specs.Race.{race_ranks};
+ghost use Rattle.lite_base.specs.Laws.Lent.{lent_counting};
+ghost use Rattle.lite_base.specs.Ranks.{ranks_of};
+ghost use Rattle.lite_merge.specs.Drain.{drain_parts};
+ghost use Rattle.lite_merge.specs.Laws.Drain.{drained_relating};
+ghost use Rattle.lite_merge.specs.Laws.StopAfterFuture.{stops_relating};
+ghost use Rattle.lite_merge.specs.Stopping.{stop_parts};
+ghost use Rattle.lite_stream.specs.Laws.Through.{through_counting};
 
-use crate::{Or, Race};
-use lite_base::{Counted, OkCounted};
+use crate::{Drain, Or, Race, StopAfterFuture};
+use lite_base::{Counted, Future, OkCounted};
 use rand_core::Rng;
 
 impl<T, E, S1: Counted<Item = Result<T, E>>, S2: Counted<Item = Result<T, E>>> OkCounted
@@ -29,4 +36,25 @@ impl<T, E, S1: Counted<Item = Result<T, E>>, S2: Counted<Item = Result<T, E>>, R
     ghost ok_ranks = { race_ranks S1.ranks S2.ranks };
 
     ghost ok_counting = { ok_counting (race_counting R.stream S1.counting S2.counting) };
+}
+
+impl<'a, T, E, S: Counted<Item = Result<T, E>>> OkCounted for Drain<'a, S> {
+    type Ok = T;
+
+    type Err = E;
+
+    ghost ok_ranks = { ranks_of (λ m. m.stream.now) S.ranks };
+
+    ghost ok_counting = { ok_counting (through_counting drain_parts (lent_counting S.counting) drained_relating) };
+}
+
+impl<T, E, S: Counted<Item = Result<T, E>>, Fut: Future + Drop> OkCounted
+    for StopAfterFuture<S, Fut> {
+    type Ok = T;
+
+    type Err = E;
+
+    ghost ok_ranks = { ranks_of (λ m. m.stream) S.ranks };
+
+    ghost ok_counting = { ok_counting (through_counting stop_parts S.counting (stops_relating Fut.laws)) };
 }

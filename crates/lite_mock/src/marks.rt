@@ -6,7 +6,7 @@ ghost use Rattle.lite_io_base.specs.Told.{TellsScript};
 ghost use Rattle.lite_io_base.specs.Laws.Steady.{told_calm, told_steady};
 ghost use Rattle.lite_io_base.specs.Laws.Told.{told_falls, told_laws};
 ghost use Rattle.lite_base.specs.Ranks.{number_ranks};
-ghost use Rattle.lite_io_base.specs.Counting.{number_counting};
+ghost use Rattle.lite_io_base.specs.Laws.Counting.{number_counting};
 ghost use Rattle.lite_io_base.specs.Runs.{Idle};
 ghost use Rattle.lite_io_base.specs.Laws.Runs.{idle_laws};
 

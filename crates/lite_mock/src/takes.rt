@@ -6,7 +6,8 @@ ghost use Rattle.lite_io_base.specs.Takings.{done_marks, write_marks};
 ghost use Rattle.lite_io_base.specs.Takings.WriteMark.{closed, flushed};
 ghost use Rattle.lite_io_base.specs.Runs.{Idle};
 ghost use Rattle.lite_io_base.specs.Laws.Runs.{idle_laws};
-ghost use Rattle.lite_mock.specs.SteadyTakes.{NoPendingOrder, takes_calm, takes_steady};
+ghost use Rattle.lite_mock.specs.SteadyTakes.{NoPendingOrder};
+ghost use Rattle.lite_mock.specs.Laws.SteadyTakes.{takes_calm, takes_steady};
 ghost use Rattle.lite_base.specs.Registered.{Registered};
 
 use lite_base::{Context, Poll};

@@ -15,12 +15,13 @@ use Rattle.futures.specs.Poll.{OnPending}
 use Rattle.futures.specs.declared.task.Poll.{Poll}
 use Rattle.futures.specs.declared.task.Poll.TheVariants.{Ready, Pending}
 use Rattle.lite_base.specs.Ranks.{Ranks}
+use Rattle.lite_base.specs.Laws.Segments.{segment_alone, to_value_one}
 use Rattle.lite_base.specs.Runs.{Runs}
 use Rattle.lite_io_base.specs.Counting.{ReadCounting}
 use Rattle.lite_io_base.specs.Marks.{ReadMark, bytes, moved}
 use Rattle.lite_io_base.specs.Runs.{MarkLaws}
-use Rattle.lite_read.proofs.Filling.{front, moved_some}
-use Rattle.lite_read.specs.ReadFold.{ReadConcludes}
+use Rattle.lite_read.proofs.Filling.{front, front_kept, moved_some}
+use Rattle.lite_read.specs.ReadFold.{AnswerMarks, LastMarks}
 use Rattle.lite_read.specs.Appending.{read_front}
 use Rattle.lite_read.specs.Laws.ReadToEnd.{appends_all, grown}
 use Rattle.lite_read.specs.ReadToEnd.{ReadsToEnd, appends}
@@ -34,22 +35,20 @@ module _ {R A : Type 0} (m : Type 0) {reads : Runs ReadMark R} (laws : MarkLaws 
       → error_kind e ≡ OutOfMemory → AnswersUntrimmed m reads x (Ready (Err e)) w
   refused x w e may same front kind =
       let reader : w.reader ≡ x.reader = ap (λ (v : ReadToEndFuture R A). v.reader) same in
-      let none : ReadConcludes (appends m x.start) (read_front x) [] (Err e) (read_front w) =
+      let none : AnswerMarks (appends m x.start) (read_front x) [] (Ready (Err e)) (read_front w) =
+      segment_alone (read_front x) (read_front w) [] (Ready (Err e)) ((may, kind), front) in
       record {
-        taken = [];
-        last = [];
-        cut = refl;
-        between = read_front x;
-        folds = refl;
-        gives = ((may, kind), front);
-      } in
-      record {
-        folded = record { marks = []; came = rw reader (laws.rests x.reader.now); folded = (none, refl) };
+        folded = record {
+          marks = [];
+          came = rw reader (laws.rests x.reader.now);
+          folded = to_value_one (AnswerMarks (appends m x.start)) (read_front x) (read_front w) [] (Ready (Err e)) none;
+        };
         stays = record {
           reader = rw reader refl;
           buf = ap (λ (v : ReadToEndFuture R A). v.buf) same;
           start = ap (λ (v : ReadToEndFuture R A). v.start) same;
         };
+        idle = λ e. absurd (cc e);
       }
 
   -- a poll, behind which the room is cut off
@@ -78,10 +77,10 @@ module _ {R A : Type 0} (m : Type 0) {reads : Runs ReadMark R} (laws : MarkLaws 
       → OnPending a ((z.start ≤ length (read_front z)) × r.counts z.reader.now)
   polls_on c x z (Ready r) n all started counts h = tt
   polls_on c x z Pending n all started counts h =
-      let k = h.folded.folded in
-      let more = grown m x.start (take n x.buf.now.items) k.1 k.2.taken k.2.folds in
+      let k = h.folded.folded.0 in
+      let more = grown m x.start (take n x.buf.now.items) k.4.between k.4.taken k.4.folds in
       let whole : length (take n x.buf.now.items) ≡ n = length-take-le n x.buf.now.items (omega (arith, all)) in
-      let same : length (read_front z) ≡ length k.1 = ap length k.3.1 in
+      let same : length (read_front z) ≡ length k.4.between = ap length (k.5.1 ∙ k.4.given.2) in
       let start = h.stays.start in (
         omega (arith, started, all, whole, more, same, start),
         c.counts_on x.reader.now z.reader.now h.folded.marks counts h.folded.came,
@@ -91,14 +90,14 @@ module _ {R A : Type 0} (m : Type 0) {reads : Runs ReadMark R} (laws : MarkLaws 
 with_all : {A : Type 0} (v : Vec ℕ A) (ws : List ℕ) → length ws ≡ length v.items → (with_items v ws).items ≡ ws
 with_all v ws same = take_at ws (drop (length ws) v.items) v.len (same ∙ sym v.ok.0)
 
--- the future that read n bytes into the room, by which it holds these bytes
+-- the future that read into the room, by which it holds these bytes
 abbrev pub after_read : {R A : Type 0} → ReadToEndFuture R A → R → List ℕ → ℕ → ℕ → ReadToEndFuture R A
-after_read w r items n room =
+after_read w r items filled room =
     record {
       reader = record w.reader { now = r };
       buf = record w.buf { now = with_items w.buf.now items };
       start = w.start;
-      filled = w.filled + n;
+      filled = filled;
       room = room;
     }
 
@@ -107,7 +106,7 @@ module _ {R A : Type 0} (m : Type 0) (reads : Runs ReadMark R) where
       → w ≡ record x { buf = record x.buf { now = w.buf.now } } → read_front w ≡ read_front x
       → w.filled ≤ length w.buf.now.items → old ≡ w.buf.now.items
       → length new ≡ length old - w.filled → n ≤ length new → 0 < n → reads w.reader.now (moved new (take n new)) r
-      → ReadsSome m reads x (after_read w r (put_mid w.filled (length old - w.filled) old new) n room)
+      → ReadsSome m reads x (after_read w r (put_mid w.filled (length old - w.filled) old new) (w.filled + n) room)
   read_some x w r old new n room same front_is within is long most some came =
       let at = w.filled in
       let put = put_mid at (length old - at) old new in
@@ -140,4 +139,38 @@ module _ {R A : Type 0} (m : Type 0) (reads : Runs ReadMark R) where
           },
           omega (arith, whole, long, most, inside),
         );
+      }
+
+  -- a read that moved nothing into the room
+  pub read_none : (x w : ReadToEndFuture R A) (r : R) (old new : List ℕ) (marks : List ReadMark)
+      (a : Poll (Result ℕ Error))
+      → w ≡ record x { buf = record x.buf { now = w.buf.now } } → read_front w ≡ read_front x
+      → w.filled ≤ length w.buf.now.items → old ≡ w.buf.now.items → length new ≡ length old - w.filled
+      → LastMarks (appends m x.start) (read_front x) marks a (read_front x) → reads w.reader.now marks r
+      → AnswersUntrimmed m reads x a
+      (after_read w r (put_mid w.filled (length old - w.filled) old new) w.filled w.room)
+  read_none x w r old new marks a same front_is within is long last came =
+      let at = w.filled in
+      let put = put_mid at (length old - at) old new in
+      let reader : w.reader ≡ x.reader = ap (λ (u : ReadToEndFuture R A). u.reader) same in
+      let inside : at ≤ length old = omega (arith, within, ap length is) in
+      let kept : length put ≡ length old =
+      same_len_mid at (length old - at) old new (long ∙ sym (mid_len at (length old) old (omega arith))) in
+      let v = with_items w.buf.now put in
+      let after : take at v.items ≡ read_front x = ap (take at) (with_all w.buf.now put (kept ∙ ap length is))
+      ∙ front_kept at (length old - at) old new inside ∙ ap (take at) is ∙ front_is in
+      let here = segment_alone (read_front x) (take at v.items) marks a
+      (subst (LastMarks (appends m x.start) (read_front x) marks a) (sym after) last) in
+      record {
+        folded = record {
+          marks = marks;
+          came = subst (λ (b : MutBor R). reads b.now marks r) reader came;
+          folded = to_value_one (AnswerMarks (appends m x.start)) (read_front x) (take at v.items) marks a here;
+        };
+        stays = record {
+          reader = ap (λ (b : MutBor R). record b { now = r }) reader;
+          buf = ap (λ (u : ReadToEndFuture R A). record u.buf { now = v }) same;
+          start = ap (λ (u : ReadToEndFuture R A). u.start) same;
+        };
+        idle = λ e. absurd (cc e);
       }

@@ -1,14 +1,20 @@
 -- A read into what is left of a buffer.
-use Rattle.std.proofs.Common.{◌≡◌, ◌∙◌, ◌≤◌, ◌<◌, ◌+◌, ◌-◌, ℕ, List, [], ◌∷◌, ◌++◌, length, take, refl, ap, sym, subst}
-use Rattle.std.proofs.Common.{arith, append-nil, append_assoc, length-append}
-use Rattle.std.proofs.lemmas.List.{length-take-le, take-append-le}
+use Rattle.std.proofs.Common.{◌≡◌, ◌∙◌, ◌≤◌, ◌<◌, ◌+◌, ◌-◌, ℕ, List, [], ◌∷◌, ◌++◌, Result, Ok, length, take, refl, ap}
+use Rattle.std.proofs.Common.{sym, subst, arith, append-nil, append_assoc, length-append}
+use Rattle.std.proofs.lemmas.List.{length-take-le, take-append-le, take_all}
 use Rattle.std.proofs.Math.Seq.{take-append-add}
 use Rattle.std.specs.List.{FoldsTo}
+use Rattle.std.specs.declared.io.Error.{Error}
+use Rattle.futures.specs.declared.task.Poll.{Poll}
+use Rattle.futures.specs.declared.task.Poll.TheVariants.{Ready}
 use borrow.Rule.Slice.PartMut.{mid_len, post_of, put_mid, same_len_mid}
 use Rattle.lite_io_base.specs.Marks.{ReadMark, bytes, moved}
-use Rattle.lite_read.specs.ReadExact.{fills}
+use Rattle.lite_read.specs.Filling.{ExactStays, filling_of}
+use Rattle.lite_read.specs.ReadExact.{ReadsExactly, fills}
+use Rattle.lite_read.specs.ReadFold.{AnswerMarks, LastMarks}
 use Rattle.lite_read.specs.PollSteps.{ReadsMore}
 use Rattle.lite_read.specs.declared.read_exact.ReadExactFuture.{ReadExactFuture}
+use Rattle.lite_base.specs.Laws.Segments.{segment_alone, to_value_one}
 use Rattle.lite_base.specs.Runs.{Runs}
 
 pub moved_some : (room xs : List ℕ) → 0 < length xs → moved room xs ≡ bytes xs
@@ -34,6 +40,17 @@ front at k n old new room most =
     ap (λ m. take (m + n) (put_mid at k old new)) (sym (length-take-le at old room))
     ∙ take-append-add (take at old) (new ++ post_of at k old) n
     ∙ ap (λ l. take at old ++ l) (take-append-le n new (post_of at k old) most)
+
+-- it is as it was
+pub front_kept : (at k : ℕ) (old new : List ℕ) → at ≤ length old → take at (put_mid at k old new) ≡ take at old
+front_kept at k old new room =
+    let all = length-take-le at old room in
+    take-append-le at (take at old) (new ++ post_of at k old) (omega (arith, all))
+    ∙ take_all at (take at old) (omega (arith, all))
+
+pub moved_none : (room : List ℕ) → 0 < length room → moved room [] ≡ ReadMark.end ∷ []
+moved_none [] some = absurd (omega (arith, some))
+moved_none (b ∷ room) some = refl
 
 -- a read of n bytes into what is left
 pub read_more : {R : Type 0} (reads : Runs ReadMark R) (x : ReadExactFuture R) (r : R) (new : List ℕ) (n : ℕ)
@@ -62,3 +79,49 @@ read_more reads x r new n within long most some came =
       folds = subst (λ g. FoldsTo fills.takes (take at old, length old) (take n new) g) after whole;
       stays = record { reader = refl; buf = refl; within = λ w. omega (arith, same, long, most, within) };
     }
+
+-- an answer, before which nothing is taken in
+exact_one : {R : Type 0} (reads : Runs ReadMark R) (x y : ReadExactFuture R) (marks : List ReadMark)
+    (a : Poll (Result (Unit {0}) Error))
+    → LastMarks fills (filling_of x) marks a (filling_of y)
+    → reads x.reader.now marks y.reader.now → ExactStays x y → ReadsExactly reads x (a ∷ []) y
+exact_one reads x y marks a last came stays =
+    record {
+      folded = record {
+        marks = marks;
+        came = came;
+        folded = to_value_one (AnswerMarks fills) (filling_of x) (filling_of y) marks a
+            (segment_alone (filling_of x) (filling_of y) marks a last);
+      };
+      stays = stays;
+      idle = λ e. absurd (cc e);
+    }
+
+-- nothing is left to fill
+pub exact_full : {R : Type 0} (reads : Runs ReadMark R) (x : ReadExactFuture R) → reads x.reader.now [] x.reader.now
+    → x.filled ≡ length x.buf.now → ReadsExactly reads x (Ready (Ok tt) ∷ []) x
+exact_full reads x came full =
+    let all = length-take-le x.filled x.buf.now (omega (arith, full)) in
+    exact_one reads x x [] (Ready (Ok tt)) ((omega (arith, all, full), refl), refl) came
+    (record { reader = refl; buf = refl; within = λ h. h })
+
+-- a read that moved nothing into what is left
+pub read_none : {R : Type 0} (reads : Runs ReadMark R) (x : ReadExactFuture R) (r : R) (new : List ℕ)
+    (marks : List ReadMark) (a : Poll (Result (Unit {0}) Error))
+    → x.filled ≤ length x.buf.now → length new ≡ length x.buf.now - x.filled
+    → LastMarks fills (filling_of x) marks a (filling_of x) → reads x.reader.now marks r
+    → ReadsExactly reads x (a ∷ []) (record {
+      reader = record x.reader { now = r };
+      buf = record x.buf { now = put_mid x.filled (length x.buf.now - x.filled) x.buf.now new };
+      filled = x.filled;
+    })
+read_none reads x r new marks a within long last came =
+    let old = x.buf.now in
+    let at = x.filled in
+    let put = put_mid at (length old - at) old new in
+    let same : length put ≡ length old =
+    same_len_mid at (length old - at) old new (long ∙ sym (mid_len at (length old) old (omega arith))) in
+    let after : (take at put, length put) ≡ (take at old, length old) = ap (λ l. (l, length put)) (front_kept at (length old - at) old new within)
+    ∙ ap (λ k. (take at old, k)) same in
+    exact_one reads x _ marks a (subst (LastMarks fills (filling_of x) marks a) (sym after) last) came
+    (record { reader = refl; buf = refl; within = λ h. omega (arith, same, h) })

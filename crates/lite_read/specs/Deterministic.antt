@@ -33,8 +33,7 @@ pub record IsDeterministic {M R : Type 0} (same : R → R → Type 0) (fold : Re
       → same v w × (q ≡ r) × (l ≡ m)
 
 -- A tale without pendings, and the values that it gives one after the other: bytes are taken in, and then some marks
--- give a
--- value; behind the last value bytes may be taken in.
+-- give a value; behind the last value bytes may be taken in.
 pub data TaleValues {M R : Type 0} (fold : ReadFold M R) : M → List ReadMark → List R → Type 0 where
   held : (p q : M) (xs : List ℕ) → FoldsTo fold.takes p xs q → TaleValues fold p (bytes xs) []
   next : (p m q : M) (xs : List ℕ) (last rest : List ReadMark) (v : R) (vs : List R) → FoldsTo fold.takes p xs m

@@ -8,7 +8,7 @@ use Rattle.lite_read.specs.Appending as appending
 use Rattle.lite_read.specs.Appending.{read_front}
 use Rattle.lite_read.specs.Filling as filling
 use Rattle.lite_read.specs.Filling.{filling_of}
-use Rattle.lite_read.specs.ReadFold.{ReadFold, ReadFolded}
+use Rattle.lite_read.specs.ReadFold.{Gathers, ReadFold}
 use Rattle.lite_read.specs.ReadExact.{fills}
 use Rattle.lite_read.specs.ReadToEnd.{appends}
 use Rattle.lite_read.specs.declared.read_exact.ReadExactFuture.{ReadExactFuture}
@@ -37,8 +37,6 @@ module _ {R A : Type 0} (may_refuse : Type 0) (reads : Runs ReadMark R) where
       (λ x y. appending.ToEndStays x y × (y.filled ≤ length y.buf.now.items)) reads
 
   -- the answer, before the room behind what was read is cut off
-  pub record AnswersUntrimmed (x : ReadToEndFuture R A) (a : Poll (Result ℕ Error))
-      (y : ReadToEndFuture R A) : Type 0 where
-    pub folded : ReadFolded (appends may_refuse x.start) reads x.reader.now (read_front x) (a ∷ []) y.reader.now
-        (read_front y)
-    pub stays : appending.ToEndStays x y
+  abbrev pub AnswersUntrimmed : ReadToEndFuture R A → Poll (Result ℕ Error) → ReadToEndFuture R A → Type 0
+  AnswersUntrimmed x a =
+      Gathers (λ x. x.reader.now) read_front (λ x. appends may_refuse x.start) appending.ToEndStays reads x (a ∷ [])

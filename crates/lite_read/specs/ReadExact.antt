@@ -6,7 +6,7 @@ use Rattle.std.specs.declared.io.ErrorKind.TheVariants.{UnexpectedEof}
 use Rattle.futures.specs.declared.task.Poll.{Poll}
 use Rattle.lite_io_base.specs.Marks.{ReadMark}
 use Rattle.lite_read.specs.Filling.{ExactStays, Filling, filling_of}
-use Rattle.lite_read.specs.ReadFold.{ReadFold, ReadFolded}
+use Rattle.lite_read.specs.ReadFold.{Gathers, ReadFold}
 use Rattle.lite_read.specs.declared.read_exact.ReadExactFuture.{ReadExactFuture}
 use Rattle.lite_base.specs.Runs.{Runs}
 
@@ -30,10 +30,6 @@ fills =
       gives = λ g marks r h. Fulfils g marks r × (h ≡ g);
     }
 
-module _ {R : Type 0} (reads : Runs ReadMark R) where
-  -- no answer leaves all as it is
-  pub record ReadsExactly (x : ReadExactFuture R) (out : List (Poll (Result (Unit {0}) Error)))
-      (y : ReadExactFuture R) : Type 0 where
-    pub folded : ReadFolded fills reads x.reader.now (filling_of x) out y.reader.now (filling_of y)
-    pub stays : ExactStays x y
-    pub idle : out ≡ [] → y ≡ x
+-- a future that fills its buffer so
+abbrev pub ReadsExactly : {R : Type 0} → Runs ReadMark R → Runs (Poll (Result (Unit {0}) Error)) (ReadExactFuture R)
+ReadsExactly = Gathers (λ x. x.reader.now) filling_of (λ x. fills) ExactStays

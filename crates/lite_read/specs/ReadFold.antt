@@ -1,10 +1,10 @@
 -- What a future makes of what a reader tells: its bytes are taken in one after the other, until there is a value.
-use Rattle.std.specs.Prelude.{◌≡◌, ℕ, List, [], ◌∷◌, ◌++◌}
-use Rattle.std.specs.List.{FoldsTo}
+use Rattle.std.specs.Prelude.{◌≡◌, ℕ, List, [], ◌∷◌}
 use Rattle.futures.specs.declared.task.Poll.{Poll}
 use Rattle.futures.specs.declared.task.Poll.TheVariants.{Ready, Pending}
-use Rattle.lite_io_base.specs.Marks.{ReadMark, bytes}
+use Rattle.lite_io_base.specs.Marks.{ReadMark}
 use Rattle.lite_base.specs.Runs.{Question, Runs}
+use Rattle.lite_base.specs.Segments.{Segment, SegmentsToValue}
 
 -- what is made of marks: which bytes are taken in, when more may be asked for, and what the value is
 pub record ReadFold (M R : Type 0) : Type 1 where
@@ -16,28 +16,18 @@ pub record ReadFold (M R : Type 0) : Type 1 where
   pub gives : Question M (List ReadMark) R
 
 module _ {M R : Type 0} (fold : ReadFold M R) where
-  -- some bytes are taken in, and the next mark is a pending
-  pub record ReadWaits (p : M) (marks rest : List ReadMark) (q : M) : Type 0 where
-    pub taken : List ℕ
-    pub cut : marks ≡ bytes taken ++ ReadMark.pending ∷ rest
-    pub folds : FoldsTo fold.takes p taken q
-    pub asks : fold.asks q
+  -- the last marks of an answer: a pending, where more may be asked for, or what gives the value
+  abbrev pub LastMarks : Question M (List ReadMark) (Poll R)
+  LastMarks p marks Pending q = (marks ≡ ReadMark.pending ∷ []) × fold.asks p × (q ≡ p)
+  LastMarks p marks (Ready r) q = fold.gives p marks r q
 
-  -- some bytes are taken in, and the marks that are left give the value
-  pub record ReadConcludes (p : M) (marks : List ReadMark) (r : R) (q : M) : Type 0 where
-    pub taken : List ℕ
-    pub last : List ReadMark
-    pub cut : marks ≡ bytes taken ++ last
-    pub between : M
-    pub folds : FoldsTo fold.takes p taken between
-    pub gives : fold.gives between last r q
+  -- the marks of one answer: some bytes are taken in, and then come the last
+  abbrev pub AnswerMarks : Question M (List ReadMark) (Poll R)
+  AnswerMarks = Segment ReadMark.byte fold.takes LastMarks
 
-  -- the marks are cut into segments, one for each answer
+  -- those of each answer, up to a value
   abbrev pub ReadFolds : M → List ReadMark → List (Poll R) → M → Type 0
-  ReadFolds p marks [] q = (marks ≡ []) × (q ≡ p)
-  ReadFolds p marks (Pending ∷ out) q =
-      (rest : List ReadMark) × (m : M) × ReadWaits p marks rest m × ReadFolds m rest out q
-  ReadFolds p marks (Ready r ∷ out) q = ReadConcludes p marks r q × (out ≡ [])
+  ReadFolds = SegmentsToValue AnswerMarks
 
   -- the reader left some marks, and they were gathered
   pub record ReadFolded {S : Type 0} (reads : Runs ReadMark S) (s : S) (p : M) (out : List (Poll R)) (t : S)
@@ -45,3 +35,11 @@ module _ {M R : Type 0} (fold : ReadFold M R) where
     pub marks : List ReadMark
     pub came : reads s marks t
     pub folded : ReadFolds p marks out q
+
+module _ {X S M R : Type 0} (reader : X → S) (held : X → M) (fold : X → ReadFold M R) (Keeps : X → X → Type 0)
+    (reads : Runs ReadMark S) where
+  -- a future over a reader: the reader left some marks, and they were gathered; no answer leaves all as it is
+  pub record Gathers (x : X) (out : List (Poll R)) (y : X) : Type 0 where
+    pub folded : ReadFolded (fold x) reads (reader x) (held x) out (reader y) (held y)
+    pub stays : Keeps x y
+    pub idle : out ≡ [] → y ≡ x

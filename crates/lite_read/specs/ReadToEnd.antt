@@ -6,7 +6,7 @@ use Rattle.std.specs.declared.io.ErrorKind.TheVariants.{OutOfMemory}
 use Rattle.futures.specs.declared.task.Poll.{Poll}
 use Rattle.lite_io_base.specs.Marks.{ReadMark}
 use Rattle.lite_read.specs.Appending.{ToEndStays}
-use Rattle.lite_read.specs.ReadFold.{ReadFold, ReadFolded}
+use Rattle.lite_read.specs.ReadFold.{Gathers, ReadFold}
 use Rattle.lite_read.specs.declared.read_to_end.ReadToEndFuture.{ReadToEndFuture}
 use Rattle.lite_base.specs.Runs.{Runs}
 
@@ -28,10 +28,7 @@ appends may_refuse start =
     }
 
 module _ {R A : Type 0} (may_refuse : Type 0) (reads : Runs ReadMark R) where
-  -- no answer leaves all as it is
-  pub record ReadsToEnd (x : ReadToEndFuture R A) (out : List (Poll (Result ℕ Error)))
-      (y : ReadToEndFuture R A) : Type 0 where
-    pub folded : ReadFolded
-        (appends may_refuse x.start) reads x.reader.now x.buf.now.items out y.reader.now y.buf.now.items
-    pub stays : ToEndStays x y
-    pub idle : out ≡ [] → y ≡ x
+  -- a future that appends so to its vector
+  abbrev pub ReadsToEnd : Runs (Poll (Result ℕ Error)) (ReadToEndFuture R A)
+  ReadsToEnd =
+      Gathers (λ x. x.reader.now) (λ x. x.buf.now.items) (λ x. appends may_refuse x.start) ToEndStays reads

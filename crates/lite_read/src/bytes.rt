@@ -57,7 +57,7 @@ impl<R: CountedRead> Counted for Bytes<R> {
 }
 
 impl<R: CountedRead> OkCounted for Bytes<R> {
-    ghost use Rattle.lite_base.specs.OkRanks.{ok_counting};
+    ghost use Rattle.lite_base.specs.Laws.OkRanks.{ok_counting};
 
     type Ok = u8;
 

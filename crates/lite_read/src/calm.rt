@@ -1,12 +1,22 @@
 //! The futures that are never pending where their reader isn't.
-ghost use Rattle.std.specs.Prelude.{IfSome};
+ghost use Rattle.std.specs.Prelude.{IfSome, ⊤};
 ghost use Rattle.lite_read.specs.Laws.Bytes.{inner_calm};
 ghost use Rattle.lite_read.specs.Laws.CalmRead.{fill_calm, read_calm, vectored_calm};
 ghost use Rattle.lite_read.specs.Laws.SteadyReadExact.{exact_calm};
 ghost use Rattle.lite_read.specs.Laws.SteadyReadToEnd.{to_end_calm};
+ghost use Rattle.lite_read.specs.Laws.Marks.{until_calm};
+ghost use Rattle.lite_read.specs.Laws.DeterministicPieces.{flow_calm};
+ghost use Rattle.lite_read.specs.Lines.{lines_over, lining};
+ghost use Rattle.lite_read.specs.Split.{split_over, splitting};
+ghost use Rattle.lite_read.specs.Laws.SteadyTexts.{text_calm};
+ghost use Rattle.lite_read.specs.ReadLine.{line_over, read_line_fold};
+ghost use Rattle.lite_read.specs.ReadToString.{all_over, read_to_string_fold};
 
-use crate::{Bytes, FillBuf, ReadExactFuture, ReadFuture, ReadToEndFuture, ReadVectoredFuture};
-use lite_base::CalmFuture;
+use crate::{
+    Bytes, FillBuf, Lines, ReadExactFuture, ReadFuture, ReadLineFuture, ReadToEndFuture,
+    ReadToStringFuture, ReadUntilFuture, ReadVectoredFuture, Split,
+};
+use lite_base::{CalmFuture, CalmStream};
 use lite_io_base::{AsyncBufRead, CalmRead, CountedRead};
 use std::alloc::Allocator;
 
@@ -45,4 +55,35 @@ impl<R: CalmRead> CalmFuture for ReadVectoredFuture<'_, '_, R> {
     ghost is_calm = { λ x. R.is_calm x.reader.now };
 
     ghost calm = { vectored_calm R.calm };
+}
+
+impl<R: AsyncBufRead + CountedRead + CalmRead> CalmStream for Lines<R> {
+    ghost is_calm = { λ x. R.is_calm x.reader };
+
+    ghost calm = { flow_calm lines_over (lining ⊤) R.calm };
+}
+
+impl<R: AsyncBufRead + CountedRead + CalmRead> CalmStream for Split<R> {
+    ghost is_calm = { λ x. R.is_calm x.reader };
+
+    ghost calm = { flow_calm split_over (splitting ⊤) R.calm };
+}
+
+impl<R: AsyncBufRead + CountedRead + CalmRead> CalmFuture for ReadUntilFuture<'_, R> {
+    ghost is_calm = { λ x. R.is_calm x.reader.now };
+
+    ghost calm = { until_calm R.calm };
+}
+
+impl<R: CalmRead + AsyncBufRead + CountedRead, A: Allocator> CalmFuture
+    for ReadLineFuture<'_, R, A> {
+    ghost is_calm = { λ x. R.is_calm x.reader.now };
+
+    ghost calm = { text_calm line_over read_line_fold R.calm };
+}
+
+impl<R: CalmRead + CountedRead, A: Allocator> CalmFuture for ReadToStringFuture<'_, R, A> {
+    ghost is_calm = { λ x. R.is_calm x.reader.now };
+
+    ghost calm = { text_calm all_over read_to_string_fold R.calm };
 }

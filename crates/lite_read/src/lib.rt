@@ -1,21 +1,38 @@
-//! Futures of reading and seeking.
+//! Futures of reading and seeking; what cuts the bytes of a reader into pieces and lines, and what is read as text.
 #![tactic(auto)]
 
+mod append;
 mod bytes;
 mod calm;
 mod fill_buf;
+pub mod find;
+mod held;
+mod lines;
 pub mod make;
+mod ok_counted;
 mod read;
 mod read_exact;
+mod read_line;
 mod read_to_end;
+mod read_to_string;
+mod read_until;
 mod read_vectored;
+mod scan;
 mod seek;
+mod split;
 mod steady;
+mod text;
 
 pub use bytes::Bytes;
 pub use fill_buf::FillBuf;
+pub use lines::Lines;
 pub use read::ReadFuture;
 pub use read_exact::ReadExactFuture;
+pub use read_line::ReadLineFuture;
 pub use read_to_end::ReadToEndFuture;
+pub use read_to_string::ReadToStringFuture;
+pub use read_until::ReadUntilFuture;
 pub use read_vectored::ReadVectoredFuture;
+pub use scan::{LineScan, scan_line};
 pub use seek::SeekFuture;
+pub use split::Split;

@@ -1,14 +1,22 @@
 //! What makes the futures.
-ghost use Rattle.std.specs.Prelude.{◌≡◌, length, Some};
+ghost use Rattle.std.specs.Prelude.{◌≡◌, length, Some, []};
+ghost use Rattle.lite_read.specs.ReadLine.{LineHolds};
+ghost use Rattle.lite_read.specs.ReadToString.{StringHolds as AllHolds, text_front};
 
 use crate::bytes::Bytes;
 use crate::fill_buf::FillBuf;
+use crate::lines::Lines;
 use crate::read::ReadFuture;
 use crate::read_exact::ReadExactFuture;
+use crate::read_line::ReadLineFuture;
 use crate::read_to_end::ReadToEndFuture;
+use crate::read_to_string::ReadToStringFuture;
+use crate::read_until::ReadUntilFuture;
 use crate::read_vectored::ReadVectoredFuture;
 use crate::seek::SeekFuture;
-use std::alloc::Allocator;
+use crate::split::Split;
+use crate::text::LineBytes;
+use std::alloc::{Allocator, Global};
 use std::io::{IoSliceMut, SeekFrom};
 
 /// The bytes of a reader, one by one. Ported from `src/io.rs`, `AsyncReadExt::bytes`.
@@ -82,4 +90,91 @@ pub fn seek<S>(seeker: &mut S, pos: SeekFrom) -> SeekFuture<'_, S>
     ensures { result ≡ record { seeker = seeker.entry; pos = pos } }
 {
     SeekFuture { seeker, pos }
+}
+
+/// The stream of the pieces of `reader` between bytes that are `byte`. Its pieces take their memory from `alloc`.
+/// Ported from `src/io.rs`, `AsyncBufReadExt::split`.
+pub fn split<R>(reader: R, alloc: Global, byte: u8) -> Split<R>
+    ensures reader { result.reader ≡ reader }
+    ensures byte { result.byte ≡ byte }
+    ensures empty { result.held.items ≡ [] }
+{
+    Split {
+        reader,
+        byte,
+        held: Vec::new(alloc),
+        alloc,
+    }
+}
+
+/// The stream of the lines of `reader`. They take their memory from `alloc`. Ported from `src/io.rs`,
+/// `AsyncBufReadExt::lines`.
+pub fn lines<R>(reader: R, alloc: Global) -> Lines<R>
+    ensures reader { result.reader ≡ reader }
+    ensures empty { result.held.bytes.items ≡ [] }
+{
+    Lines {
+        reader,
+        held: LineBytes::new(alloc),
+        alloc,
+    }
+}
+
+/// The future of reads of `reader` that are appended to `buf`, up to a byte that is `byte`. Ported from `src/io.rs`,
+/// `AsyncBufReadExt::read_until`.
+pub fn read_until<'a, R>(
+    reader: &'a mut R,
+    byte: u8,
+    buf: &'a mut Vec<u8>,
+) -> ReadUntilFuture<'a, R>
+    ensures { result ≡ record { reader = reader.entry; byte = byte; buf = buf.entry; start = length buf.old.items } }
+{
+    let start = buf.len();
+    ReadUntilFuture {
+        reader,
+        byte,
+        buf,
+        start,
+    }
+}
+
+/// The future of one line of `reader`, which is appended to `text`. Its memory comes from the text's allocator. Ported from
+/// `src/io.rs`, `AsyncBufReadExt::read_line`.
+pub fn read_line<'a, R, A: Allocator + Copy>(
+    reader: &'a mut R,
+    text: &'a mut String<A>,
+) -> ReadLineFuture<'a, R, A>
+    ensures reader { result.reader ≡ reader.entry }
+    ensures text { result.text ≡ text.entry }
+    ensures empty { result.bytes.items ≡ [] }
+    ensures held { LineHolds result }
+{
+    let bytes = Vec::new(*text.allocator());
+    ReadLineFuture {
+        reader,
+        text,
+        bytes,
+        ascii: true,
+    }
+}
+
+/// The future of reads of `reader` up to an end, which are appended to `text`. Its memory comes from the text's allocator.
+/// Ported from `src/io.rs`, `AsyncReadExt::read_to_string`.
+pub fn read_to_string<'a, R, A: Allocator + Copy>(
+    reader: &'a mut R,
+    text: &'a mut String<A>,
+) -> ReadToStringFuture<'a, R, A>
+    ensures reader { result.reader ≡ reader.entry }
+    ensures text { result.text ≡ text.entry }
+    ensures empty { text_front result ≡ [] }
+    ensures held { AllHolds result }
+{
+    let bytes = Vec::new(*text.allocator());
+    ReadToStringFuture {
+        reader,
+        text,
+        bytes,
+        filled: 0,
+        room: 0,
+    }
 }

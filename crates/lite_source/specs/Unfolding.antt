@@ -48,8 +48,7 @@ abbrev pub BothHave : {O B : Type 0} → (O → O → Type 0) → (O → Option 
 BothHave {O} same part = (o p : O) → same o p → OptionBy (λ _ _. ⊤) (part o) (part p)
 
 -- what is asked of two that unfold: seeds that are the same make futures that are alike, and what is held is so; and,
--- where values are compared by a relation,
--- that both values have an item or neither, and so a next seed
+-- where values are compared by a relation, that both values have an item or neither, and so a next seed
 abbrev pub UnfoldAlike : {F S V O B : Type 0} → Sameness O → (V → V → Type 0) → Question F S V → (O → Option S)
     → (O → Option B)
     → F × Holding S V → F × Holding S V → Type 0

@@ -24,8 +24,9 @@ pub fn empty<T>() -> Empty<T>
     Empty { item: PhantomData }
 }
 
-/// A stream that gives what the iterator of `iter` answers, one call of `next` a poll. A poll asks that `next` may be
-/// called, now and after any calls. Ported from `src/stream.rs`, `iter`.
+/// A stream that gives what the iterator of `iter` answers, one call of `next` a poll, also after an end; it is never
+/// pending, and its hint is the iterator's. A poll asks that `next` may be called, now and after any calls. Ported
+/// from `src/stream.rs`, `iter`.
 pub fn iter<I: IntoIterator>(iter: I) -> Iter<I::IntoIter>
     ensures { I.into_iter_gives iter result.iter }
 {
@@ -41,8 +42,8 @@ pub fn once<T>(t: T) -> Once<T>
     Once { value: Some(t) }
 }
 
-/// A stream that gives the value of `future`, and then ends for ever. A poll asks that the future may be polled. Ported
-/// from `src/stream.rs`, `once_future`.
+/// A stream that polls `future` until it has its value, gives it, and then ends for ever. A poll asks that the future
+/// may be polled. The hint is (0, None). Ported from `src/stream.rs`, `once_future`.
 pub fn once_future<F: Future>(future: F) -> OnceFuture<F>
     ensures { result ≡ record { future = Some future } }
 {
@@ -51,7 +52,7 @@ pub fn once_future<F: Future>(future: F) -> OnceFuture<F>
     }
 }
 
-/// A stream that is pending for ever. Ported from `src/stream.rs`, `pending`.
+/// A stream that is pending for ever; its hint is (0, Some(0)). Ported from `src/stream.rs`, `pending`.
 pub fn pending<T>() -> Pending<T>
     ensures { result ≡ record { item = record {} } }
 {
@@ -77,7 +78,7 @@ pub fn repeat<T: Clone>(item: T) -> Repeat<T>
 }
 
 /// A stream that gives what `repeater` answers, one call a poll, for ever. A poll asks that `repeater` may always be
-/// called. Ported from `src/stream.rs`, `repeat_with`.
+/// called. The hint is (usize::MAX, None). Ported from `src/stream.rs`, `repeat_with`.
 pub fn repeat_with<T, F>(repeater: F) -> RepeatWith<F>
 where
     F: FnMut() -> T,
@@ -96,8 +97,9 @@ pub fn script<T>(answers: Vec<Poll<Option<T>>>) -> Script<T>
 }
 
 /// A stream that gives the items of the futures that `f` makes, the first of `init` and each later one of what the
-/// value before it left, up to `Ok(None)` or an error, which is its last item. A poll asks that `f` may always be called
-/// and makes futures that may be polled. Ported from `src/stream.rs`, `try_unfold`.
+/// value before it left, up to `Ok(None)` or an error, which is its last item; then it ends for ever. A poll asks
+/// that `f` may always be called and makes futures that may be polled. The hint is (0, None). Ported from
+/// `src/stream.rs`, `try_unfold`.
 pub fn try_unfold<T, E, F, Fut, Item>(init: T, f: F) -> TryUnfold<T, F, Fut>
 where
     F: FnMut(T) -> Fut,
@@ -111,8 +113,8 @@ where
 }
 
 /// A stream that gives the items of the futures that `f` makes, the first of `seed` and each later one of what the
-/// value before it left, up to `None`. A poll asks that `f` may always be called and makes futures that may be polled.
-/// Ported from `src/stream.rs`, `unfold`.
+/// value before it left, up to `None`; then it ends for ever. A poll asks that `f` may always be called and makes
+/// futures that may be polled. The hint is (0, None). Ported from `src/stream.rs`, `unfold`.
 pub fn unfold<T, F, Fut, Item>(seed: T, f: F) -> Unfold<T, F, Fut>
 where
     F: FnMut(T) -> Fut,

@@ -1,7 +1,8 @@
 ghost use Rattle.std.specs.Prelude.{◌≡◌, IfOk, List, None, length};
 ghost use Rattle.std.specs.List.{AllZip};
-ghost use Rattle.lite_base.specs.OkRanks.{ok_counting};
-ghost use Rattle.lite_base.specs.Ranks.{number_counting, number_ranks};
+ghost use Rattle.lite_base.specs.Laws.OkRanks.{ok_counting};
+ghost use Rattle.lite_base.specs.Ranks.{number_ranks};
+ghost use Rattle.lite_base.specs.Laws.Ranks.{number_counting};
 ghost use Rattle.lite_base.specs.Runs.{NoHint};
 ghost use Rattle.lite_source.specs.Laws.Script.{gives_lowers, script_laws};
 ghost use Rattle.lite_source.specs.Script.{GivesScript, IsCloneBy};

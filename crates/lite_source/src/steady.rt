@@ -3,7 +3,7 @@ ghost use Rattle.lite_base.specs.Alike.{Alike, OptionBy};
 ghost use Rattle.lite_base.specs.Answers.{strip};
 ghost use Rattle.lite_base.specs.Calling.{Calls};
 ghost use Rattle.lite_base.specs.Future.Calls.{CallAnswers};
-ghost use Rattle.lite_base.specs.Steady.{steady_always};
+ghost use Rattle.lite_base.specs.Laws.Steady.{steady_always};
 ghost use Rattle.lite_source.specs.Empty.{GivesEnds};
 ghost use Rattle.lite_source.specs.Iter.{Iterates, Nexts};
 ghost use Rattle.lite_source.specs.Laws.Empty.{empty_laws, empty_steady};

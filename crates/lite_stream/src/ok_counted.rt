@@ -1,7 +1,8 @@
 //! Ranks over `Ok` items, of the adapters whose rank falls with each item.
 ghost use Rattle.std.specs.Fn.{CalledAt};
-ghost use Rattle.lite_base.specs.OkRanks.{ok_counting};
-ghost use Rattle.lite_base.specs.Ranks.{number_counting, number_ranks, ranks_of};
+ghost use Rattle.lite_base.specs.Laws.OkRanks.{ok_counting};
+ghost use Rattle.lite_base.specs.Ranks.{number_ranks, ranks_of};
+ghost use Rattle.lite_base.specs.Laws.Ranks.{number_counting};
 ghost use Rattle.lite_base.specs.Calling.{Accepts, Calls, CallsWith};
 ghost use Rattle.lite_stream.specs.Copied.{CopiesItem, copied_parts};
 ghost use Rattle.lite_stream.specs.Fuse.{fuse_parts};

@@ -1,4 +1,5 @@
-ghost use Rattle.lite_base.specs.Ranks.{number_counting, number_ranks};
+ghost use Rattle.lite_base.specs.Ranks.{number_ranks};
+ghost use Rattle.lite_base.specs.Laws.Ranks.{number_counting};
 ghost use Rattle.lite_base.specs.Runs.{NoHint};
 ghost use Rattle.std.specs.Prelude.{None};
 ghost use Rattle.lite_stream.specs.Take.{Takes, is_none_left, left_after, take_parts};

@@ -1,7 +1,12 @@
 pub mod Acting
+pub mod Each
+pub mod Fronts
 pub mod Futures
 pub mod Iterators
 pub mod Laws
 pub mod Lists
+pub mod OkLists
+pub mod Pieces
 pub mod Trying
 pub mod Views
+pub mod Waiting

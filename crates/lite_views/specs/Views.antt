@@ -1,12 +1,12 @@
 -- The list of the items of a stream, and the value of a future.
-use Rattle.std.specs.Prelude.{◌≡◌, ⊤, List, [], ◌∷◌, Some, None, Result, Ok, Err, IfOk, refl}
+use Rattle.std.specs.Prelude.{◌≡◌, ⊤, List, [], ◌∷◌, Some, None, Result, IfOk}
 use Rattle.std.specs.declared.alloc.AllocError.{AllocError}
 use Rattle.futures.specs.declared.task.Poll.{Poll}
 use Rattle.futures.specs.declared.task.Poll.TheVariants.{Ready, Pending}
 use Rattle.lite_base.specs.Answers.{Answer}
 use Rattle.lite_base.specs.Future.Finishes.{Finishes}
 use Rattle.lite_base.specs.Runs.{Runs}
-use Rattle.lite_nests.specs.Fronts.{Front}
+use Rattle.lite_views.specs.Fronts.{Front}
 use Rattle.lite_stream.specs.EachItem.{items_in}
 
 -- the answers, up to their first end, give the items in order from the front on; the end comes behind the last.
@@ -45,10 +45,6 @@ HasValue {F} {A} run f v = (ins : List (Poll A)) (w : A) → Finishes run f ins 
 unfoldable pub Seen : {X Y : Type 0} → X → Y → Type 0
 Seen x y = ⊤
 
-pub seen : {X Y : Type 0} (x : X) (y : Y) → Seen x y
-unfolding Seen
-seen x y = tt
-
 -- P holds of the value of the future, if it gives one
 abbrev pub ValueHolds : {F A : Type 0} (E : Type 0) → Runs (Poll A) F → F → (A → Type 0) → Type 0
 ValueHolds {F} {A} E run f P = (r : Result A E) → Waited run f r → Seen f r × IfOk r P
@@ -61,25 +57,6 @@ ValueIs run f v = (v ≡ v) × ValueHolds AllocError run f (λ w. w ≡ v)
 abbrev pub ListsAs : {S A : Type 0} → Runs (Answer A) S → S → List A → Type 0
 ListsAs {S} {A} run s xs = (xs ≡ xs) × Seen s xs × Lists run s xs
 
-pub value_holds : {F A E : Type 0} (run : Runs (Poll A) F) (f : F) (P : A → Type 0)
-    → ((ins : List (Poll A)) (v : A) → Finishes run f ins v → P v) → ValueHolds E run f P
-unfolding Waited
-value_holds run f P to (Ok v) w = (seen f (Ok v), to w.0 v w.1)
-value_holds run f P to (Err e) w = (seen f (Err e), tt)
-
-pub value_is : {F A : Type 0} (run : Runs (Poll A) F) (f : F) (v : A)
-    → ((ins : List (Poll A)) (w : A) → Finishes run f ins w → w ≡ v)
-    → ValueIs run f v
-value_is run f v to = (refl, value_holds run f (λ w. w ≡ v) to)
-
 -- the items that s may ever give, after an end too, are xs from the front on
 unfoldable pub Fronts : {S A : Type 0} → Runs (Answer A) S → S → List A → Type 0
 Fronts {S} {A} run s xs = (l : List (Answer A)) (t : S) → run s l t → Front (items_in l) xs
-
--- v is the value of f, by one poll: as if it were waited for, and no memory were refused
-abbrev pub Now : {F A : Type 0} → Runs (Poll A) F → F → A → Type 0
-Now {F} {A} run f v = Seen {Y = Result A AllocError} f (Ok v) × Waited {E = AllocError} run f (Ok v)
-
-pub now_given : {F A : Type 0} (run : Runs (Poll A) F) (f g : F) (v : A) → run f (Ready v ∷ []) g → Now run f v
-unfolding Waited
-now_given run f g v ran = (seen f (Ok v), (Ready v ∷ [], record { gives = (refl, refl); last = g; came = ran }))

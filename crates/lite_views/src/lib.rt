@@ -1,2 +1,2 @@
-//! The items of a stream by a plain list, and the value of a future: words and lemmas, and no code.
+//! What comes out of nests, by plain lists: of items, of values and of bytes. Words and lemmas, in `specs/`, and no code.
 #![tactic(auto)]

@@ -1,5 +1,5 @@
 -- `write_all`: some bytes are handed to a writer, from the front, until all are taken.
-use Rattle.std.specs.Prelude.{◌≡◌, ◌<◌, ℕ, List, [], ◌∷◌, ◌++◌, length, Result, Ok, Err}
+use Rattle.std.specs.Prelude.{◌≡◌, ◌<◌, ℕ, List, [], ◌∷◌, length, Result, Ok, Err}
 use Rattle.std.specs.IoError.{error_kind}
 use Rattle.std.specs.declared.io.Error.{Error}
 use Rattle.std.specs.declared.io.ErrorKind.TheVariants.{WriteZero}
@@ -8,7 +8,8 @@ use Rattle.futures.specs.declared.task.Poll.TheVariants.{Ready, Pending}
 use Rattle.lite_io_base.specs.Takings.{WriteMark}
 use Rattle.lite_write.specs.Hands.{Hands}
 use Rattle.lite_write.specs.declared.write_all.WriteAllFuture.{WriteAllFuture}
-use Rattle.lite_base.specs.Runs.{Runs}
+use Rattle.lite_base.specs.Runs.{Question, Runs}
+use Rattle.lite_base.specs.Segments.{Segment, SegmentsToValue}
 
 -- all are taken; a write took none; an error
 abbrev pub Ended : List ℕ → List WriteMark → Result (Unit {0}) Error → Type 0
@@ -17,28 +18,18 @@ Ended left (WriteMark.wrote [] ∷ []) (Err e) = (0 < length left) × (error_kin
 Ended left (WriteMark.fault kind ∷ []) (Err e) = (0 < length left) × (error_kind e ≡ kind)
 Ended left marks r = ⊥
 
--- some bytes are taken, and the next mark is a pending
-pub record WriteWaits (offered : List ℕ) (marks rest : List WriteMark) (left : List ℕ) : Type 0 where
-  pub before : List WriteMark
-  pub cut : marks ≡ before ++ WriteMark.pending ∷ rest
-  pub handed : Hands offered before left
-  pub some : 0 < length left
+-- the last marks of an answer: a pending, where some are left, or what gives the value
+abbrev pub LastTaken : Question (List ℕ) (List WriteMark) (Poll (Result (Unit {0}) Error))
+LastTaken left marks Pending after = (marks ≡ WriteMark.pending ∷ []) × (0 < length left) × (after ≡ left)
+LastTaken left marks (Ready r) after = Ended left marks r × (after ≡ left)
 
--- some bytes are taken, and the marks that are left give the value
-pub record WriteFinishes (offered : List ℕ) (marks : List WriteMark) (r : Result (Unit {0}) Error)
-    (left : List ℕ) : Type 0 where
-  pub before : List WriteMark
-  pub last : List WriteMark
-  pub cut : marks ≡ before ++ last
-  pub handed : Hands offered before left
-  pub ended : Ended left last r
+-- the marks of one answer: some bytes are taken, and then come the last
+abbrev pub HandsMarks : Question (List ℕ) (List WriteMark) (Poll (Result (Unit {0}) Error))
+HandsMarks = Segment WriteMark.wrote Hands LastTaken
 
--- the marks are cut into segments, one for each answer
+-- those of each answer, up to a value
 abbrev pub HandsOver : List ℕ → List WriteMark → List (Poll (Result (Unit {0}) Error)) → List ℕ → Type 0
-HandsOver offered marks [] left = (marks ≡ []) × (left ≡ offered)
-HandsOver offered marks (Pending ∷ out) left =
-    (rest : List WriteMark) × (m : List ℕ) × WriteWaits offered marks rest m × HandsOver m rest out left
-HandsOver offered marks (Ready r ∷ out) left = WriteFinishes offered marks r left × (out ≡ [])
+HandsOver = SegmentsToValue HandsMarks
 
 module _ {W : Type 0} (writes : Runs WriteMark W) where
   -- no answer leaves all as it is

@@ -1,10 +1,14 @@
 //! The futures that are never pending where their writer isn't.
 ghost use Rattle.lite_write.specs.Laws.CalmWrite.{close_calm, flush_calm, vectored_calm, write_calm};
 ghost use Rattle.lite_write.specs.Laws.SteadyWriteAll.{all_calm};
+ghost use Rattle.lite_write.specs.Laws.SteadyCopy.{copy_calm};
+ghost use Rattle.lite_write.specs.Parts.{source_of};
 
-use crate::{CloseFuture, FlushFuture, WriteAllFuture, WriteFuture, WriteVectoredFuture};
+use crate::{
+    CloseFuture, CopyFuture, FlushFuture, WriteAllFuture, WriteFuture, WriteVectoredFuture,
+};
 use lite_base::CalmFuture;
-use lite_io_base::CalmWrite;
+use lite_io_base::{CalmRead, CalmWrite, CountedRead};
 
 impl<W: CalmWrite> CalmFuture for CloseFuture<'_, W> {
     ghost is_calm = { λ x. W.is_calm x.writer.now };
@@ -34,4 +38,10 @@ impl<W: CalmWrite> CalmFuture for WriteVectoredFuture<'_, W> {
     ghost is_calm = { λ x. W.is_calm x.writer.now };
 
     ghost calm = { vectored_calm W.calm };
+}
+
+impl<R: CountedRead + CalmRead, W: CalmWrite> CalmFuture for CopyFuture<R, W> {
+    ghost is_calm = { λ x. R.is_calm (source_of x) × W.is_calm x.writer };
+
+    ghost calm = { copy_calm R.calm W.calm };
 }

@@ -1,8 +1,9 @@
-//! Futures of writing, and the writer that takes all.
+//! Futures of writing, the writer that takes all, and what a reader gives, written to a writer.
 #![tactic(auto)]
 
 mod calm;
 mod close;
+mod copy;
 mod flush;
 pub mod make;
 mod sink;
@@ -12,6 +13,7 @@ mod write_all;
 mod write_vectored;
 
 pub use close::CloseFuture;
+pub use copy::CopyFuture;
 pub use flush::FlushFuture;
 pub use sink::Sink;
 pub use write::WriteFuture;

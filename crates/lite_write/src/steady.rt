@@ -7,10 +7,14 @@ ghost use Rattle.lite_write.specs.Laws.SteadyDone.{close_steady, flush_steady};
 ghost use Rattle.lite_write.specs.Laws.SteadyWriteAll.{all_steady};
 ghost use Rattle.lite_write.specs.SteadyWriteAll.{NoneFails, WithoutFailure};
 ghost use Rattle.lite_write.specs.WriteAll.{WritesAll};
+ghost use Rattle.lite_base.specs.Alike.{Sameness};
+ghost use Rattle.lite_write.specs.Copy.{CopyRuns};
+ghost use Rattle.lite_write.specs.Laws.SteadyCopy.{CopyAlike, copy_steady};
+ghost use Rattle.lite_read.specs.Deterministic.{SameByKind};
 
-use crate::{CloseFuture, FlushFuture, WriteAllFuture};
+use crate::{CloseFuture, CopyFuture, FlushFuture, WriteAllFuture};
 use lite_base::SteadyFuture;
-use lite_io_base::AsyncWrite;
+use lite_io_base::{AsyncWrite, CountedRead, SteadyRead};
 
 impl<W: AsyncWrite> SteadyFuture for CloseFuture<'_, W> {
     ghost ample = { PolledByCalls (Closes (WithoutFailure W.writes)) };
@@ -40,4 +44,17 @@ impl<W: AsyncWrite> SteadyFuture for WriteAllFuture<'_, W> {
     ghost alike = { λ _ _. ⊤ };
 
     ghost steady = { all_steady W.write_laws };
+}
+
+// Where each write took something, and none failed.
+impl<R: CountedRead + SteadyRead, W: AsyncWrite> SteadyFuture for CopyFuture<R, W> {
+    ghost ample = { CopyRuns R.ample (WithoutFailure W.writes) };
+
+    ghost needs_none = { R.needs_none × NoneFails W.writes };
+
+    ghost same = { Sameness.by SameByKind };
+
+    ghost alike = { CopyAlike R.alike };
+
+    ghost steady = { copy_steady R.steady W.write_laws };
 }

@@ -9,7 +9,7 @@ use crate::sources::{calls_are_alike, calls_are_calm};
 use crate::streams::adapters_are_alike;
 use lite_base::future::make::ready;
 use lite_base::{Context, Poll};
-use lite_cycle::Drain;
+use lite_merge::Drain;
 use lite_source::make::once;
 use lite_source::{Once, Script};
 use rand_core::Rng;

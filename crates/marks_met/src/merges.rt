@@ -2,16 +2,15 @@
 ghost use Rattle.std.specs.Prelude.{None, Some, false};
 ghost use Rattle.lite_base.specs.Alike.{SameItem};
 ghost use Rattle.lite_base.specs.Calling.{AgreeFrom, Calls};
-ghost use Rattle.lite_cycle.specs.declared.stop_after_future.Stopping.TheVariants.{Holding};
-ghost use Rattle.lite_flatten.specs.Cloned.{EqualClones};
-ghost use Rattle.lite_flatten.specs.FlatMap.{MakesAlways};
-ghost use Rattle.lite_flatten.specs.Inner.{EachInner};
-ghost use Rattle.lite_flatten.specs.declared.chain.Part.TheVariants.{First};
+ghost use Rattle.lite_merge.specs.declared.stop_after_future.Stopping.TheVariants.{Holding};
+ghost use Rattle.lite_reshape.specs.Cloned.{EqualClones};
+ghost use Rattle.lite_reshape.specs.FlatMap.{MakesAlways};
+ghost use Rattle.lite_reshape.specs.Inner.{EachInner};
+ghost use Rattle.lite_reshape.specs.declared.chain.Part.TheVariants.{First};
 
 use lite_base::{CalmFuture, CalmStream, Counted, Future, SteadyFuture, SteadyStream};
-use lite_cycle::{Cycle, Drain, StopAfterFuture};
-use lite_flatten::{Chain, Cloned, FlatMap, Flatten, Then};
-use lite_merge::{Or, Race, Zip};
+use lite_merge::{Cycle, Drain, Or, Race, StopAfterFuture, Zip};
+use lite_reshape::{Chain, Cloned, FlatMap, Flatten, Then};
 use rand_core::Rng;
 
 /// Adapters of two streams, and of streams and futures that are made of items, are alike over streams that are alike.

@@ -1,15 +1,14 @@
 //! Readers: two that are alike, and a calm one, of each type.
 ghost use Rattle.std.specs.Prelude.{◌≡◌, ◌∷◌, [], false};
-ghost use Rattle.lite_io.specs.BufReader.{ahead, reader_capacity, reader_inner};
+ghost use Rattle.lite_buffered.specs.BufReader.{ahead, reader_capacity, reader_inner};
 ghost use Rattle.lite_io_base.specs.Marks.{ReadMark};
 
-use lite_bridge::{BytesLike, Cursor};
-use lite_io::{BufReader, Chain, Empty, Repeat, Take};
+use lite_bridge::{AssertAsync, BytesLike, Cursor};
+use lite_buffered::{BufReader, Chain, Empty, Repeat, Take};
+use lite_halves::Journal;
 use lite_io_base::{CalmRead, SteadyRead, Takings};
-use lite_journal::Journal;
 use lite_mock::Marks;
 use lite_read::Bytes;
-use lite_std::AssertAsync;
 
 /// Readers of bytes are alike to themselves, and marks to the same with a pending before them.
 pub fn readers_are_alike<'a, T: BytesLike>(

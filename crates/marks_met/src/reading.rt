@@ -1,13 +1,14 @@
 //! Futures of reads, and streams that cut what a reader tells: two that are alike, and a calm one, of each type.
 ghost use Rattle.std.specs.Prelude.{◌≡◌, [], Some, false, true, length};
-ghost use Rattle.lite_copy.specs.Parts.{NothingCopied, source_of};
+ghost use Rattle.lite_write.specs.Parts.{NothingCopied, source_of};
 
 use lite_base::{CalmFuture, CalmStream, SteadyFuture, SteadyStream};
-use lite_copy::CopyFuture;
 use lite_io_base::{AsyncBufRead, AsyncWrite, CalmRead, CalmWrite, CountedRead, SteadyRead};
-use lite_lines::{Lines, ReadUntilFuture, Split};
-use lite_read::{Bytes, FillBuf, ReadExactFuture, ReadFuture, ReadToEndFuture, ReadVectoredFuture};
-use lite_texts::{ReadLineFuture, ReadToStringFuture};
+use lite_read::{
+    Bytes, FillBuf, Lines, ReadExactFuture, ReadFuture, ReadLineFuture, ReadToEndFuture,
+    ReadToStringFuture, ReadUntilFuture, ReadVectoredFuture, Split,
+};
+use lite_write::CopyFuture;
 use std::io::IoSliceMut;
 
 /// Futures of reads are alike over readers that are alike, where they append to the same.

@@ -5,7 +5,7 @@ ghost use Rattle.lite_base.specs.Alike.{SameItem};
 ghost use Rattle.lite_base.specs.Calling.{AgreeFrom, AgreeKeeping, AgreeOver, Calls, CallsWith};
 
 use lite_base::{CalmStream, Counted, SteadyStream};
-use lite_sift::{Filter, FilterMap, Skip, SkipWhile, StepBy};
+use lite_reshape::{Filter, FilterMap, Skip, SkipWhile, StepBy};
 use lite_stream::{Copied, Enumerate, Fuse, Inspect, Map, MapWhile, Scan, Take, TakeWhile};
 
 /// Adapters of one stream are alike over streams that are alike, by closures that agree with themselves.

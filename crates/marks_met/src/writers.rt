@@ -1,15 +1,13 @@
 //! Writers, and futures of writes: two that are alike, and a calm one, of each type.
 ghost use Rattle.std.specs.Prelude.{◌≡◌, []};
-ghost use Rattle.lite_buf_writer.specs.BufWriter.{buffered, writer_inner};
-ghost use Rattle.lite_io.specs.BufReader.{reader_inner as read_from};
+ghost use Rattle.lite_buffered.specs.BufWriter.{buffered, writer_inner};
+ghost use Rattle.lite_buffered.specs.BufReader.{reader_inner as read_from};
 
 use lite_base::{CalmFuture, SteadyFuture};
-use lite_bridge::Cursor;
-use lite_buf_writer::BufWriter;
-use lite_io::BufReader;
+use lite_bridge::{AssertAsync, Cursor};
+use lite_buffered::{BufReader, BufWriter};
 use lite_io_base::{AsyncWrite, CalmWrite, IoSlice, SteadyWrite};
 use lite_mock::Takes;
-use lite_std::AssertAsync;
 use lite_write::{
     CloseFuture, FlushFuture, Sink, WriteAllFuture, WriteFuture, WriteVectoredFuture,
 };

@@ -16,10 +16,10 @@ use Rattle.lite_gather.specs.declared.refused.TryCollectError.TheVariants.{Sourc
 use Rattle.lite_io_base.specs.Marks.{ReadMark}
 use Rattle.lite_io_base.specs.Steady.{AllAmple}
 use Rattle.lite_laws.specs.Both.{OneValue}
-use Rattle.lite_lines.specs.Laws.Ample.{lines_ample}
-use Rattle.lite_lines.specs.Lines.{GivesLines}
-use Rattle.lite_lines.specs.NoneRefused.{NoneRefused, NotRefused}
-use Rattle.lite_lines.specs.declared.lines.Lines.{Lines}
+use Rattle.lite_read.specs.Laws.Ample.{lines_ample}
+use Rattle.lite_read.specs.Lines.{GivesLines}
+use Rattle.lite_read.specs.NoneRefused.{NoneRefused, NotRefused}
+use Rattle.lite_read.specs.declared.lines.Lines.{Lines}
 use Rattle.lite_stream.specs.Laws.Cutting.{cuts_each}
 use Rattle.lite_stream.specs.Take.{Takes, is_none_left, left_after}
 use Rattle.lite_stream.specs.declared.take.Take.{Take}

@@ -11,14 +11,14 @@ use Rattle.lite_base.specs.Calling.{Accepts, Always}
 use Rattle.lite_base.specs.Runs.{Question, Runs}
 use Rattle.lite_io_base.specs.Marks.{ReadMark}
 use Rattle.lite_io_base.specs.Steady.{AllAmple}
-use Rattle.lite_lines.specs.Laws.Ample.{lines_ample}
-use Rattle.lite_lines.specs.Lines.{GivesLines}
-use Rattle.lite_lines.specs.NoneRefused.{NoneRefused, NotRefused}
-use Rattle.lite_lines.specs.declared.lines.Lines.{Lines}
-use Rattle.lite_sift.specs.Filter.{Filters}
-use Rattle.lite_sift.specs.Laws.Leaving.{leaves_each}
-use Rattle.lite_sift.specs.Leaving.{Passes}
-use Rattle.lite_sift.specs.declared.filter.Filter.{Filter}
+use Rattle.lite_read.specs.Laws.Ample.{lines_ample}
+use Rattle.lite_read.specs.Lines.{GivesLines}
+use Rattle.lite_read.specs.NoneRefused.{NoneRefused, NotRefused}
+use Rattle.lite_read.specs.declared.lines.Lines.{Lines}
+use Rattle.lite_reshape.specs.Filter.{Filters}
+use Rattle.lite_reshape.specs.Laws.Leaving.{leaves_each}
+use Rattle.lite_reshape.specs.Leaving.{Passes}
+use Rattle.lite_reshape.specs.declared.filter.Filter.{Filter}
 use Rattle.lite_stream.specs.Laws.Cutting.{cuts_each}
 use Rattle.lite_stream.specs.Laws.Pointwise.{exchanges_each}
 use Rattle.lite_stream.specs.Map.{Maps}

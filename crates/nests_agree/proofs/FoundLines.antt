@@ -28,9 +28,9 @@ use Rattle.lite_gather.specs.declared.refused.TryCollectError.TheVariants.{Sourc
 use Rattle.lite_gather.specs.declared.try_collect.TryCollect.{TryCollect}
 use Rattle.lite_io_base.specs.Marks.{ReadMark}
 use Rattle.lite_io_base.specs.Steady.{AllAmple}
-use Rattle.lite_lines.specs.Lines.{GivesLines}
-use Rattle.lite_lines.specs.NoneRefused.{NoneRefused, NotRefused}
-use Rattle.lite_lines.specs.declared.lines.Lines.{Lines}
+use Rattle.lite_read.specs.Lines.{GivesLines}
+use Rattle.lite_read.specs.NoneRefused.{NoneRefused, NotRefused}
+use Rattle.lite_read.specs.declared.lines.Lines.{Lines}
 use Rattle.lite_stream.specs.Take.{Takes}
 use Rattle.lite_stream.specs.declared.take.Take.{Take}
 use Rattle.nests_agree.proofs.Found.{taken_ample}

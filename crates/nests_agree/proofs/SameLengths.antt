@@ -4,7 +4,7 @@ use Rattle.std.specs.declared.io.Error.{Error}
 use Rattle.std.specs.declared.string.String.{String}
 use Rattle.lite_base.specs.declared.future.ready.Ready.{Ready}
 use Rattle.nests_agree.specs.Lengths.{IsLength, IsTested, WillGiveLength}
-use Rattle.lite_lines.specs.Laws.Marks.{SameText}
+use Rattle.lite_read.specs.Laws.Marks.{SameText}
 use Rattle.lite_read.specs.Deterministic.{SameByKind, SameOr}
 
 pub same_length : (x w : Result (String Global) Error) (y z : Result ℕ Error) → SameOr SameText x w → IsLength x y

@@ -12,8 +12,8 @@ use Rattle.lite_base.specs.Runs.{Runs}
 use Rattle.lite_gather.specs.declared.refused.TryCollectError.{TryCollectError}
 use Rattle.lite_gather.specs.declared.refused.TryCollectError.TheVariants.{Source, Memory}
 use Rattle.lite_io_base.specs.Marks.{ReadMark}
-use Rattle.lite_lines.specs.Lines.{GivesLines}
-use Rattle.lite_lines.specs.declared.lines.Lines.{Lines}
+use Rattle.lite_read.specs.Lines.{GivesLines}
+use Rattle.lite_read.specs.declared.lines.Lines.{Lines}
 
 -- lines were read of each of the two readers, from the first line on, and that holds where memory was found for all of
 -- them

@@ -7,9 +7,8 @@ ghost use Rattle.lite_laws.specs.Both.{Fewer};
 
 use lite_base::future::make::{ready, yield_now, zip};
 use lite_base::{Context, Poll};
-use lite_flatten::make::{chain, flat_map, then};
 use lite_laws::{run_both, run_calm};
-use lite_sift::make::filter;
+use lite_reshape::make::{chain, filter, flat_map, then};
 use lite_source::Script;
 use lite_source::make::once;
 use lite_stream::make::{map, take, take_while};

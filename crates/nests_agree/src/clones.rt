@@ -4,11 +4,11 @@ ghost use Rattle.lite_base.specs.Alike.{SameAnswer};
 ghost use Rattle.lite_base.specs.Answers.{Answer, ComparableBy, strip};
 ghost use Rattle.lite_base.specs.Steady.{TakesNone};
 ghost use Rattle.lite_laws.specs.Both.{Fewer};
-ghost use Rattle.lite_flatten.specs.Cloned.{ClonedFrom, NoCloneRefused};
+ghost use Rattle.lite_reshape.specs.Cloned.{ClonedFrom, NoCloneRefused};
 
 use lite_base::{Context, Poll, SteadyStream, Stream};
-use lite_flatten::Cloned;
 use lite_laws::run_both;
+use lite_reshape::Cloned;
 use std::alloc::AllocError;
 
 /// Clones of the items of two streams that are alike and take no memory. Where no clone was refused, they are the same: equal,

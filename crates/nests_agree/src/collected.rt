@@ -1,7 +1,7 @@
 //! The lines of two readers that are alike, collected. Wherever either reader was pending, and in whatever pieces its bytes came,
 //! the lines are the same: texts by their bytes, and errors by their kinds. `Err` where there was no memory to sleep on.
 ghost use Rattle.lite_gather.specs.Agreeing.{SameCollected, TrySameCollected};
-ghost use Rattle.lite_lines.specs.Laws.Marks.{SameText};
+ghost use Rattle.lite_read.specs.Laws.Marks.{SameText};
 ghost use Rattle.lite_read.specs.Deterministic.{SameByKind, SameOr};
 ghost use Rattle.nests_agree.specs.Lengths.{IsLength, IsTested};
 ghost use Rattle.nests_agree.specs.Lines.{EachFound, WasFound};
@@ -13,8 +13,8 @@ use lite_gather::make::{collect, try_collect};
 use lite_gather::{Refused, TryCollectError};
 use lite_io_base::{AsyncBufRead, CountedRead, SteadyRead};
 use lite_laws::block_on_both;
-use lite_lines::make::lines;
-use lite_sift::make::filter;
+use lite_read::make::lines;
+use lite_reshape::make::filter;
 use lite_stream::make::{map, take};
 use std::alloc::{AllocError, AllocGlobal};
 use std::io;

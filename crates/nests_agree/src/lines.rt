@@ -6,18 +6,17 @@ ghost use Rattle.lite_base.specs.Answers.{Answer, Comparable, ComparableBy, stri
 ghost use Rattle.nests_agree.specs.Lengths.{IsLength, IsTested, WillGiveLength};
 ghost use Rattle.nests_agree.specs.Lines.{FromLines};
 ghost use Rattle.lite_laws.specs.Both.{Fewer};
-ghost use Rattle.lite_lines.specs.Laws.Marks.{SameText};
-ghost use Rattle.lite_lines.specs.NoneRefused.{NoneRefused};
+ghost use Rattle.lite_read.specs.Laws.Marks.{SameText};
+ghost use Rattle.lite_read.specs.NoneRefused.{NoneRefused};
 ghost use Rattle.lite_read.specs.Deterministic.{SameByKind, SameOr};
 
 use lite_base::future::Ready;
 use lite_base::future::make::ready;
 use lite_base::{Context, Poll};
-use lite_flatten::make::then;
 use lite_io_base::{AsyncBufRead, CountedRead, SteadyRead};
 use lite_laws::run_both;
-use lite_lines::make::lines;
-use lite_sift::make::filter;
+use lite_read::make::lines;
+use lite_reshape::make::{filter, then};
 use lite_stream::make::{map, take};
 use std::alloc::{AllocError, Global};
 use std::io;

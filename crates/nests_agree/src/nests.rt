@@ -9,7 +9,7 @@ ghost use Rattle.lite_laws.specs.Waits.{HoldsEach, IfWaits};
 
 use lite_base::{Context, Counted, Poll, SteadyStream, Stream};
 use lite_laws::run_both;
-use lite_sift::Filter;
+use lite_reshape::Filter;
 use lite_stream::{Map, Take};
 use std::alloc::AllocError;
 

@@ -2,7 +2,7 @@
 ghost use Rattle.std.specs.Prelude.{◌≡◌, ◌++◌, List, length, None, IfOk, IfErr};
 ghost use Rattle.std.specs.List.{FoldsTo};
 ghost use Rattle.lite_base.specs.Answers.{Answer, Comparable, strip};
-ghost use Rattle.lite_base.specs.Steady.{steady_always};
+ghost use Rattle.lite_base.specs.Laws.Steady.{steady_always};
 ghost use Rattle.lite_base.specs.Runs.{NoHint};
 ghost use Rattle.nests_agree.specs.Paced.{PacedStep, paced_alike};
 ghost use Rattle.lite_laws.specs.Both.{Fewer};

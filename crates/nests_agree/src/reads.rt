@@ -1,12 +1,12 @@
 //! What two readers that are alike give, through a buffer, before some bytes, up to a number of bytes.
 ghost use Rattle.std.specs.Prelude.{◌≡◌, ◌++◌, ℕ, List, IfOk};
-ghost use Rattle.lite_laws.specs.BothReaders.{HasReadMemory};
+ghost use Rattle.lite_theorems.specs.BothReaders.{HasReadMemory};
 ghost use Rattle.lite_read.specs.Deterministic.{SameByKind};
 
-use lite_io::BufReader;
-use lite_io::make::{chain, take};
+use lite_buffered::BufReader;
+use lite_buffered::make::{chain, take};
 use lite_io_base::{CountedRead, SteadyRead};
-use lite_laws::read_both;
+use lite_theorems::read_both;
 use std::alloc::{AllocError, AllocGlobal};
 use std::io;
 use std::random::RandomSource;

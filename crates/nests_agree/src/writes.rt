@@ -1,13 +1,14 @@
 //! What two writers that are alike leave below, through a buffer; and copies to them.
 ghost use Rattle.std.specs.Prelude.{◌≡◌, IfOk, IsOk};
-ghost use Rattle.lite_buf_writer.specs.BufWriter.{unwritten, writer_inner};
+ghost use Rattle.lite_buffered.specs.BufWriter.{unwritten, writer_inner};
 ghost use Rattle.lite_read.specs.Deterministic.{SameByKind};
 
-use lite_buf_writer::BufWriter;
-use lite_copy::make::copy;
-use lite_io::make::chain;
+use lite_buffered::BufWriter;
+use lite_buffered::make::chain;
 use lite_io_base::{AsyncWrite, CountedRead, SteadyRead, SteadyWrite};
-use lite_laws::{block_on_both, write_both};
+use lite_laws::block_on_both;
+use lite_theorems::write_both;
+use lite_write::make::copy;
 use std::alloc::{AllocError, AllocGlobal};
 use std::io;
 use std::random::RandomSource;

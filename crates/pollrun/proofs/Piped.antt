@@ -1,12 +1,12 @@
 -- What the closures of the pipes compute, over whole lists.
 use Rattle.std.proofs.Common.{◌≡◌, ℤ, ◌+ℤ◌, Bool, true, false, List, [], ◌∷◌, map, refl, ap, Option, Some, None, Result}
-use Rattle.std.proofs.Common.{Ok, Err, IfOk}
-use Rattle.std.specs.List.{FoldsTo}
+use Rattle.std.proofs.Common.{Ok, Err, IfOk, subst}
 use Rattle.futures.specs.declared.task.Poll.TheVariants.{Ready, Pending}
 use Rattle.lite_base.specs.Answers.{Answer}
 use Rattle.lite_base.specs.Calling.{Accepts, Always}
 use Rattle.lite_base.specs.Runs.{Question}
-use Rattle.lite_sift.specs.Leaving.{LeavesOut, Passes, Segment}
+use Rattle.lite_reshape.specs.Laws.Leaving.{leaves_as}
+use Rattle.lite_reshape.specs.Leaving.{LeavesOut}
 use Rattle.lite_stream.specs.Pointwise.{Replaces}
 use Rattle.pollrun.specs.Served.{doubled, is_even}
 
@@ -42,27 +42,13 @@ module _ {F : Type 0} (call : Question F ℤ (Option ℤ))
   abbrev plain : Unit {0} → ℤ → Bool → Unit {0} → Type 0
   plain p z b q = b ≡ is_even z
 
-  rejected_plainly : (p q : F) (l : List ℤ) → FoldsTo (λ p x q. call p x None q) p l q
-      → FoldsTo (λ p x q. Accepts plain p x None q) tt l tt
-  rejected_plainly p q [] h = refl
-  rejected_plainly p q (x ∷ l) h = (tt, rejects p h.0 x h.1, rejected_plainly h.0 q l h.2)
-
-  passed_plainly : (p q : F) (a b : Answer ℤ) → Passes call p a b q → Passes (Accepts plain) tt a b tt
-  passed_plainly p q a Pending h = (h.0, refl)
-  passed_plainly p q a (Ready None) h = (h.0, refl)
-  passed_plainly p q a (Ready (Some y)) h = (h.0, h.1, keeps p q h.0 y h.2)
-
   pub Leaves-plainly : (f g : F) (ins out : List (Answer ℤ)) → LeavesOut call f ins out g
       → LeavesOut (Accepts plain) tt ins out tt
-  Leaves-plainly f g ins [] h = (h.0, refl)
-  Leaves-plainly f g ins (b ∷ out) h =
-      let s = h.2 in
-      let segment : Segment (Accepts plain) tt ins b h.0 tt = record {
-        rejected = s.rejected;
-        last = s.last;
-        cut = s.cut;
-        between = tt;
-        rejects = rejected_plainly f s.between s.rejected s.rejects;
-        passes = passed_plainly s.between h.1 s.last b s.passes;
-      } in
-      (h.0, tt, segment, Leaves-plainly h.1 g h.0 out h.3)
+  Leaves-plainly f g ins out h =
+      let plainly = leaves_as call (Accepts plain) (λ p n. n ≡ tt) asked f g tt ins out refl h in
+      subst (λ n. LeavesOut (Accepts plain) tt ins out n) plainly.1 plainly.2
+    where
+      asked : (p q : F) (n : Unit {0}) (x : ℤ) (o : Option ℤ) → n ≡ tt → call p x o q → (m : Unit {0}) × (m ≡ tt)
+          × Accepts plain n x o m
+      asked p q n x None e t = (tt, refl, rejects p q x t)
+      asked p q n x (Some y) e t = (tt, refl, keeps p q x y t)

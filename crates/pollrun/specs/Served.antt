@@ -7,17 +7,17 @@ use Rattle.futures.specs.declared.task.Poll.TheVariants.{Ready, Pending}
 use Rattle.lite_base.specs.Answers.{Answer, item, end, until_end}
 use Rattle.lite_source.specs.Script.{GivesScript}
 use Rattle.lite_base.specs.Calling.{Accepts}
-use Rattle.lite_sift.specs.Leaving.{LeavesOut}
+use Rattle.lite_reshape.specs.Leaving.{LeavesOut}
 use Rattle.pollrun.specs.Request.{IsRequest}
 use Rattle.pollrun.specs.Spelling.{pair_text, spelled_list}
-use Rattle.lite_flatten.specs.Chain.{Joins}
+use Rattle.lite_reshape.specs.Chain.{Joins}
 use Rattle.lite_merge.specs.Merge.{MergeRows}
 use Rattle.lite_merge.specs.Zip.{Pairs}
 use Rattle.lite_stream.specs.Cutting.{Cuts}
-use Rattle.lite_sift.specs.StepBy.{StepsOn}
+use Rattle.lite_reshape.specs.StepBy.{StepsOn}
 use Rattle.lite_stream.specs.Take.{is_none_left, left_after}
-use Rattle.lite_flatten.specs.declared.chain.Part.{Part}
-use Rattle.lite_flatten.specs.declared.chain.Part.TheVariants.{First}
+use Rattle.lite_reshape.specs.declared.chain.Part.{Part}
+use Rattle.lite_reshape.specs.declared.chain.Part.TheVariants.{First}
 use Rattle.pollrun.specs.declared.request.Single.{Single}
 use Rattle.pollrun.specs.declared.request.Single.TheVariants.{Plain, Double, Evens, Take2, Step2}
 use Rattle.pollrun.specs.declared.request.Paired.{Paired}

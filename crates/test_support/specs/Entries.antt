@@ -1,9 +1,9 @@
 -- What entries of journals are.
 use Rattle.std.specs.Prelude.{◌≡◌, List, map}
-use Rattle.lite_journal.specs.declared.entry.Answer.{Answer}
-use Rattle.lite_journal.specs.declared.entry.Call.{Call}
-use Rattle.lite_journal.specs.declared.entry.Entry.{Entry}
-use Rattle.lite_journal.specs.Entry.{asked_in, asked_of, told_in, told_of}
+use Rattle.lite_halves.specs.declared.entry.Answer.{Answer}
+use Rattle.lite_halves.specs.declared.entry.Call.{Call}
+use Rattle.lite_halves.specs.declared.entry.Entry.{Entry}
+use Rattle.lite_halves.specs.Entry.{asked_in, asked_of, told_in, told_of}
 
 -- the entries' calls ask what these calls do, in order
 abbrev pub AreCalls : List Entry → List Call → Type 0

@@ -2,11 +2,11 @@
 ghost use Rattle.std.specs.Prelude.{◌≡◌, [], IfOk};
 ghost use Rattle.std.specs.Bool.{Decides};
 ghost use Rattle.lite_bridge.specs.Cursor.{cursor_inner, position_of};
-ghost use Rattle.lite_journal.specs.Entry.{Told, asked_of, told_of};
+ghost use Rattle.lite_halves.specs.Entry.{Told, asked_of, told_of};
 ghost use Rattle.test_support.specs.Entries.{AreAnswers, AreCalls};
 
 use lite_bridge::Cursor;
-use lite_journal::{Answer, Call, Entry, Journal};
+use lite_halves::{Answer, Call, Entry, Journal};
 use std::alloc::{AllocError, Global};
 
 /// The answer of a read that got these bytes.

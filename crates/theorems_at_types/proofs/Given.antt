@@ -3,7 +3,7 @@ use Rattle.std.proofs.Common.{◌≡◌, ◌∙◌, List, [], ◌∷◌, ◌++�
 use Rattle.futures.specs.declared.task.Poll.{Poll}
 use Rattle.futures.specs.declared.task.Poll.TheVariants.{Ready, Pending}
 use Rattle.lite_base.specs.Answers.{Answer, Gives, UpToValue, end, strip}
-use Rattle.lite_interleave.specs.Interleaving.{GivesWhole, Interleaves, items_given}
+use Rattle.lite_theorems.specs.Interleaving.{GivesWhole, Interleaves, items_given}
 use Rattle.lite_source.specs.Script.{GivesScript as Scripts}
 
 none_left : {A : Type 0} (own t : List (Answer A)) (l : List A) → Scripts [] (own ++ end ∷ []) t

@@ -4,7 +4,7 @@ ghost use Rattle.lite_bridge.specs.Cursor.{CursorReads, CursorWrites};
 ghost use Rattle.lite_io_base.specs.Parts.{PartsInOrder};
 ghost use Rattle.lite_io_base.specs.Runs.{Idle};
 ghost use Rattle.lite_io_base.specs.Told.{TellsScript};
-ghost use Rattle.lite_journal.specs.Entry.{parts_in};
+ghost use Rattle.lite_halves.specs.Entry.{parts_in};
 
 use futures_lite::io::{BytesLike, Cursor, Journal};
 use lite_mock::Marks;

@@ -1,6 +1,6 @@
 //! What is collected of two scripts that are merged.
 ghost use Rattle.std.specs.Prelude.{IfOk, IfSome};
-ghost use Rattle.lite_interleave.specs.Interleaving.{Interleaves, items_given};
+ghost use Rattle.lite_theorems.specs.Interleaving.{Interleaves, items_given};
 
 use futures_lite::Poll;
 use futures_lite::laws::{collect_or, collect_race};

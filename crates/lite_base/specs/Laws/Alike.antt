@@ -3,7 +3,7 @@ use Rattle.std.proofs.Common.{◌≡◌, inl, inr, ◌≤◌, List, [], ◌∷�
 use Rattle.std.proofs.Common.{arith}
 use Rattle.futures.specs.declared.task.Poll.{Poll}
 use Rattle.futures.specs.declared.task.Poll.TheVariants.{Ready, Pending}
-use Rattle.std.specs.Prelude.{⊤}
+use Rattle.std.specs.Prelude.{⊤, ◌⊎◌}
 use Rattle.lite_base.specs.Alike.{AlikeBy, Either, MadeOf, OptionBy, Optional, Pairwise, SameAnswer, SameHeld, SameItem}
 use Rattle.lite_base.specs.Alike.{Sameness}
 use Rattle.lite_base.specs.Answers.{ComparableBy, Gives, UpToValue, strip}
@@ -18,11 +18,10 @@ module _ {A : Type 0} where
   -- lists of at most one value, by that value
   pub by_value : {same : A → A → Type 0} (i j : List A) → length i ≤ 1 → length j ≤ 1
       → ((v w : A) → i ≡ v ∷ [] → j ≡ w ∷ [] → same v w) → ComparableBy same i j
-  by_value [] j few fewer value = tt
-  by_value (v ∷ []) [] few fewer value = tt
   by_value (v ∷ []) (w ∷ []) few fewer value = (value v w refl refl, tt)
   by_value (v ∷ []) (w ∷ x ∷ j) few fewer value = absurd (omega (arith, fewer))
   by_value (v ∷ x ∷ i) j few fewer value = absurd (omega (arith, few))
+  by_value i j few fewer value = tt
 
   pub gives_strip : (l : List (Poll A)) (v : A) → Gives l v → strip l ≡ v ∷ []
   gives_strip [] v g = absurd g
@@ -45,37 +44,35 @@ Agrees = AgreesBy (λ v w. v ≡ w)
 pub alike_agrees : {F A : Type 0} {same : A → A → Type 0} (run : Runs (Poll A) F) (x y : F) → AlikeBy same run x y
     → AgreesBy same run x y
 alike_agrees {same} run x y e l m v w h k =
-    let c : ComparableBy same (v ∷ []) (strip m) =
-    subst (λ i. ComparableBy same i (strip m)) (gives_strip l v h.gives) (e l m h.last k.last h.came k.came) in
-    let d : ComparableBy same (v ∷ []) (w ∷ []) =
-    subst (λ j. ComparableBy same (v ∷ []) j) (gives_strip m w k.gives) c in
-    d.0
+    (rw (gives_strip l v h.gives, gives_strip m w k.gives) at (e l m h.last k.last h.came k.came)).0
 
 -- lists that are the same in one way are in a weaker one
 pub comparable_as : {A : Type 0} (same want : A → A → Type 0) → ((x y : A) → same x y → want x y) → (l m : List A)
     → ComparableBy same l m → ComparableBy want l m
-comparable_as same want weaker [] m c = tt
-comparable_as same want weaker (x ∷ l) [] c = tt
 comparable_as same want weaker (x ∷ l) (y ∷ m) c = (weaker x y c.0, comparable_as same want weaker l m c.1)
+comparable_as same want weaker l m c = tt
 
 pub option_as : {A : Type 0} (same want : A → A → Type 0) → ((x y : A) → same x y → want x y) → (x y : Option A)
     → OptionBy same x y → OptionBy want x y
 option_as same want weaker None None c = tt
-option_as same want weaker None (Some y) c = absurd c
-option_as same want weaker (Some x) None c = absurd c
 option_as same want weaker (Some x) (Some y) c = weaker x y c
+option_as same want weaker x y c = absurd c
 
 pub options_equal : {A : Type 0} (x y : Option A) → OptionBy (λ v w. v ≡ w) x y → x ≡ y
 options_equal None None e = refl
-options_equal None (Some y) e = absurd e
-options_equal (Some x) None e = absurd e
 options_equal (Some x) (Some y) e = ap (λ v. Some v) e
+options_equal x y e = absurd e
 
 pub equal_options : {A : Type 0} (x y : Option A) → x ≡ y → OptionBy (λ v w. v ≡ w) x y
 equal_options None None e = tt
-equal_options None (Some y) e = absurd (cc e)
-equal_options (Some x) None e = absurd (cc e)
 equal_options (Some x) (Some y) e = cc e
+equal_options x y e = absurd (cc e)
+
+-- answers that are the same, by their items
+pub answer_items : {A : Type 0} (same : Sameness A) (x y : Option A) → SameAnswer same x y
+    → OptionBy (SameItem same) x y
+answer_items Sameness.equal x y e = equal_options x y e
+answer_items (Sameness.by same) x y e = e
 
 -- two ends are the same
 pub ends_same : {A : Type 0} (same : Sameness A) → SameAnswer same None None
@@ -84,14 +81,7 @@ ends_same (Sameness.by same) = tt
 
 -- and an end and an item never are
 pub both_items : {A : Type 0} (same : Sameness A) (x y : Option A) → SameAnswer same x y → OptionBy (λ _ _. ⊤) x y
-both_items Sameness.equal None None e = tt
-both_items Sameness.equal None (Some y) e = absurd (cc e)
-both_items Sameness.equal (Some x) None e = absurd (cc e)
-both_items Sameness.equal (Some x) (Some y) e = tt
-both_items (Sameness.by same) None None e = tt
-both_items (Sameness.by same) None (Some y) e = absurd e
-both_items (Sameness.by same) (Some x) None e = absurd e
-both_items (Sameness.by same) (Some x) (Some y) e = tt
+both_items same x y e = option_as (SameItem same) (λ _ _. ⊤) (λ v w d. tt) x y (answer_items same x y e)
 
 pub item_same : {A : Type 0} (same : Sameness A) (x y : A) → SameAnswer same (Some x) (Some y) → SameItem same x y
 item_same Sameness.equal x y e = cc e
@@ -117,9 +107,7 @@ same_held (Sameness.by same) x y e = e
 pub pairs_same : {A B : Type 0} (same : Sameness A) (other : Sameness B) (p q : A × B) → SameItem same p.0 q.0
     → SameItem other p.1 q.1 → SameItem (Pairwise same other) p q
 pairs_same Sameness.equal Sameness.equal p q e d = λ i. (e i, d i)
-pairs_same Sameness.equal (Sameness.by other) p q e d = (e, d)
-pairs_same (Sameness.by same) Sameness.equal p q e d = (e, d)
-pairs_same (Sameness.by same) (Sameness.by other) p q e d = (e, d)
+pairs_same same other p q e d = (e, d)
 
 -- what is made of items that are the same is the same, where of each one thing alone is made
 pub made_same : {A B : Type 0} (same : Sameness A) (makes : A → B → Type 0)
@@ -131,34 +119,16 @@ made_same (Sameness.by same) makes one x w y z e c d = (x, w, e, c, d)
 either_left : {A : Type 0} (same other : Sameness A) (x y : Option A) → SameAnswer same x y
     → SameAnswer (Either same other) x y
 either_left Sameness.equal Sameness.equal x y e = e
-either_left Sameness.equal (Sameness.by other) None None e = tt
-either_left Sameness.equal (Sameness.by other) None (Some y) e = absurd (cc e)
-either_left Sameness.equal (Sameness.by other) (Some x) None e = absurd (cc e)
-either_left Sameness.equal (Sameness.by other) (Some x) (Some y) e = inl (cc e)
-either_left (Sameness.by same) Sameness.equal None None e = tt
-either_left (Sameness.by same) Sameness.equal None (Some y) e = e
-either_left (Sameness.by same) Sameness.equal (Some x) None e = e
-either_left (Sameness.by same) Sameness.equal (Some x) (Some y) e = inl e
-either_left (Sameness.by same) (Sameness.by other) None None e = tt
-either_left (Sameness.by same) (Sameness.by other) None (Some y) e = e
-either_left (Sameness.by same) (Sameness.by other) (Some x) None e = e
-either_left (Sameness.by same) (Sameness.by other) (Some x) (Some y) e = inl e
+either_left same other x y e =
+    option_as (SameItem same) (λ v w. SameItem same v w ⊎ SameItem other v w) (λ v w d. inl d) x y
+    (answer_items same x y e)
 
 either_right : {A : Type 0} (same other : Sameness A) (x y : Option A) → SameAnswer other x y
     → SameAnswer (Either same other) x y
 either_right Sameness.equal Sameness.equal x y e = e
-either_right (Sameness.by same) Sameness.equal None None e = tt
-either_right (Sameness.by same) Sameness.equal None (Some y) e = absurd (cc e)
-either_right (Sameness.by same) Sameness.equal (Some x) None e = absurd (cc e)
-either_right (Sameness.by same) Sameness.equal (Some x) (Some y) e = inr (cc e)
-either_right Sameness.equal (Sameness.by other) None None e = tt
-either_right Sameness.equal (Sameness.by other) None (Some y) e = e
-either_right Sameness.equal (Sameness.by other) (Some x) None e = e
-either_right Sameness.equal (Sameness.by other) (Some x) (Some y) e = inr e
-either_right (Sameness.by same) (Sameness.by other) None None e = tt
-either_right (Sameness.by same) (Sameness.by other) None (Some y) e = e
-either_right (Sameness.by same) (Sameness.by other) (Some x) None e = e
-either_right (Sameness.by same) (Sameness.by other) (Some x) (Some y) e = inr e
+either_right same other x y e =
+    option_as (SameItem other) (λ v w. SameItem same v w ⊎ SameItem other v w) (λ v w d. inr d) x y
+    (answer_items other x y e)
 
 pub either_first : {A : Type 0} (same other : Sameness A) (l m : List (Option A)) → ComparableBy (SameAnswer same) l m
     → ComparableBy (SameAnswer (Either same other)) l m

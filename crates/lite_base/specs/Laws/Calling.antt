@@ -3,7 +3,8 @@ use Rattle.std.specs.Prelude.{⊤, Bool, true, false}
 use Rattle.std.proofs.Common.{◌≡◌, ◌∙◌, List, [], ◌∷◌, Option, Some, None, refl, ap, subst, sym}
 use Rattle.lite_base.specs.Alike.{OptionBy, SameAnswer, SameItem, Sameness}
 use Rattle.lite_base.specs.Answers.{ComparableBy}
-use Rattle.lite_base.specs.Laws.Alike.{comparable_as, equal_options, options_equal}
+pub use Rattle.lite_base.specs.Laws.Alike.{answer_items}
+use Rattle.lite_base.specs.Laws.Alike.{comparable_as, options_equal}
 use Rattle.lite_base.specs.Calling.{Accepts, Agree, AgreeBy, AgreeFrom, Always, Answered, Kin, KinAnswers}
 use Rattle.lite_base.specs.Runs.{Question}
 
@@ -46,12 +47,11 @@ matches_agree_from {F} {A} {B} like same call agree m f k a = record {
   where
     answers : (xs ws : List A) (ys zs : List B) (f k g l : F) → agree f k → ComparableBy like xs ws
         → Answered call f xs ys g → Answered call k ws zs l → ComparableBy same ys zs
-    answers xs ws [] zs f k g l a e u v = tt
-    answers xs ws (y ∷ ys) [] f k g l a e u v = tt
     answers [] ws (y ∷ ys) (z ∷ zs) f k g l a e u v = absurd u
     answers (x ∷ xs) [] (y ∷ ys) (z ∷ zs) f k g l a e u v = absurd v
     answers (x ∷ xs) (w ∷ ws) (y ∷ ys) (z ∷ zs) f k g l a e u v =
         let s = m f k u.0 v.0 x w y z a e.0 u.1 v.1 in (s.0, answers xs ws ys zs u.0 v.0 g l s.1 e.1 u.2 v.2)
+    answers xs ws ys zs f k g l a e u v = tt
 
 pub matches_agree : {F A B : Type 0} (same : B → B → Type 0) (call : Question F A B) (agree : F → F → Type 0)
     → Matches same call agree → (f k : F) → agree f k → AgreeBy same call f k
@@ -115,12 +115,7 @@ pub kin_answers_by : {F A B : Type 0} (like : A → A → Type 0) (same : B → 
 kin_answers_by like same call P answers alike y z h =
     alike h.4 h.5 y z h.7 (answers h.0 h.2 h.4 y h.8) (answers h.1 h.3 h.5 z h.9)
 
--- answers that are the same, by their items
-pub answer_items : {A : Type 0} (same : Sameness A) (x y : Option A) → SameAnswer same x y
-    → OptionBy (SameItem same) x y
-answer_items Sameness.equal x y e = equal_options x y e
-answer_items (Sameness.by same) x y e = e
-
+-- what is the same item by item, as answers
 pub item_answers : {A : Type 0} (same : Sameness A) (x y : Option A) → OptionBy (SameItem same) x y
     → SameAnswer same x y
 item_answers Sameness.equal x y e = options_equal x y e

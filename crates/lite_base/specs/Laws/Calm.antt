@@ -2,7 +2,19 @@
 use Rattle.std.proofs.Common.{◌≡◌, ◌≤◌, ◌+◌, List, [], ◌∷◌, ◌++◌, refl, arith}
 use Rattle.futures.specs.declared.task.Poll.{Poll}
 use Rattle.futures.specs.declared.task.Poll.TheVariants.{Ready, Pending}
-use Rattle.lite_base.specs.Calm.{NoPending, waits}
+use Rattle.lite_base.specs.Calm.{CalmLaws, NoPending, waits}
+use Rattle.lite_base.specs.Runs.{Runs}
+use Rattle.std.specs.Prelude.{◌+◌, List, [], ◌∷◌}
+use denote.MutBor.{MutBor}
+use Rattle.lite_base.specs.Lent.{Lent}
+
+pub lent_calm : {S A : Type 0} {run : Runs (Poll A) S} {is_calm : S → Type 0} → CalmLaws run is_calm
+    → CalmLaws (Lent run) (λ (x : MutBor S). is_calm x.now)
+lent_calm c =
+    record {
+      no_pending = λ x y l k h. c.no_pending x.now y.now l k h.0;
+      calm_on = λ x y l k h. c.calm_on x.now y.now l k h.0;
+    }
 
 module _ {A : Type 0} where
   pub no_pending_join : (l m : List (Poll A)) → NoPending l → NoPending m → NoPending (l ++ m)
@@ -35,3 +47,8 @@ module _ {A : Type 0} where
   waits_join [] m = omega arith
   waits_join (Pending ∷ l) m = let e = waits_join l m in omega (arith, e)
   waits_join (Ready x ∷ l) m = waits_join l m
+
+-- what is calm, by one lemma that says both
+pub calm_both : {S A : Type 0} {run : Runs (Poll A) S} {is_calm : S → Type 0}
+    → ((x y : S) (l : List (Poll A)) → is_calm x → run x l y → NoPending l × is_calm y) → CalmLaws run is_calm
+calm_both both = record { no_pending = λ x y l k h. (both x y l k h).0; calm_on = λ x y l k h. (both x y l k h).1 }

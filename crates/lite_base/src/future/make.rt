@@ -16,7 +16,7 @@ pub fn ready<T>(value: T) -> Ready<T>
     Ready { value: Some(value) }
 }
 
-/// A future that is never ready. Ported from `core::future::pending`.
+/// A future that is never ready, and may be polled for ever. Ported from `core::future::pending`.
 pub fn pending<T>() -> Pending<T>
     ensures { result ≡ record { marker = record {} } }
 {
@@ -35,21 +35,24 @@ where
     PollFn { f }
 }
 
-/// A future that wakes its context and is pending once. Ported from `src/future.rs`, `yield_now`.
+/// A future that wakes its context and is pending once, and then ready; it may be polled after that too. Ported from
+/// `src/future.rs`, `yield_now`.
 pub fn yield_now() -> YieldNow
     ensures { result ≡ record { yielded = false } }
 {
     YieldNow { yielded: false }
 }
 
-/// A future that polls `f` once, and is ready with what it answered. Ported from `src/future.rs`, `poll_once`.
+/// A future that polls `f` once, and is ready with what it answered: `Some` of the value, or `None` where it was
+/// pending. It may be polled again only where `f` may, as after its `None`. Ported from `src/future.rs`, `poll_once`.
 pub fn poll_once<F: Future>(f: F) -> PollOnce<F>
     ensures { result ≡ record { f = f } }
 {
     PollOnce { f }
 }
 
-/// A future of both values, once both are there. Ported from `src/future.rs`, `zip`.
+/// A future of both values, once both are there. Each poll polls each unfinished future once, the first before the
+/// second. Ported from `src/future.rs`, `zip`.
 pub fn zip<F1, F2>(future1: F1, future2: F2) -> Zip<F1, F2>
 where
     F1: Future<Output: Drop>,
@@ -63,7 +66,9 @@ where
     }
 }
 
-/// A future of both values, once both are there, or of the first error. Ported from `src/future.rs`, `try_zip`.
+/// A future of both values, once both are there, or of the first error that is met. Each poll polls each unfinished
+/// future once, the first before the second, which is not polled beside an error of the first. Ported from
+/// `src/future.rs`, `try_zip`.
 pub fn try_zip<T1, T2, E, F1, F2>(future1: F1, future2: F2) -> TryZip<F1, T1, F2, T2>
 where
     F1: Future<Output = Result<T1, E>>,
@@ -77,8 +82,8 @@ where
     }
 }
 
-/// A future of the value that is there first, and of the first future's where both are. Ported from
-/// `src/future.rs`, `or`.
+/// A future of the value that is there first, and of the first future's where both are: the second is polled only
+/// where the first was pending. Ported from `src/future.rs`, `or`.
 pub fn or<T, F1, F2>(future1: F1, future2: F2) -> Or<F1, F2>
 where
     F1: Future<Output = T>,
@@ -88,8 +93,9 @@ where
     Or { future1, future2 }
 }
 
-/// A future of the value that is there first; where both are, the generator chooses. Ported from `src/future.rs`,
-/// `race`, which has a generator of the thread.
+/// A future of the value that is there first; where both are, the generator chooses: its next word, one a poll, says
+/// by the lowest bit which is polled first, 1 the first; the other is polled only if that was pending. Ported from
+/// `src/future.rs`, `race`, which has a generator of the thread.
 pub fn race<T, F1, F2, G>(future1: F1, future2: F2, rng: G) -> Race<F1, F2, G>
 where
     F1: Future<Output = T>,
@@ -119,7 +125,7 @@ where
     race(future1, future2, Pcg32::seed_from_u64(seed))
 }
 
-/// A future that lets `future` go once it is ready, and is pending for ever after that. Ported from
+/// A future that lets `future` go in the poll that gives its value, and is pending for ever after that. Ported from
 /// `src/future.rs`, `fuse`.
 pub fn fuse<F: Future>(future: F) -> Fuse<F>
     ensures { result ≡ record { inner = Some future } }

@@ -33,7 +33,7 @@ where
 
     ghost registers = { λ x fact. F1.registers x.future1 fact ⊎ F2.registers x.future2 fact };
 
-    ghost laws = { races_laws F1.run F2.run G.stream F1.laws F2.laws };
+    ghost laws = { races_laws G.stream F1.laws F2.laws };
 
     fn poll(&mut self, cx: &mut Context<'_>) -> Poll<F1::Output> {
         if self.rng.next_u32() % 2 == 1 {

@@ -33,7 +33,7 @@ where
 
     ghost registers = { λ x fact. IsAskedAnd x.first (λ f. F1.registers f fact) ⊎ IsAskedAnd x.second (λ f. F2.registers f fact) };
 
-    ghost laws = { try_zips_laws F1.run F2.run F1.laws F2.laws };
+    ghost laws = { try_zips_laws F1.laws F2.laws };
 
     fn poll(&mut self, cx: &mut Context<'_>) -> Poll<Result<(T1, T2), E>> {
         if let Err(e) = try_ask(&mut self.first, cx) {

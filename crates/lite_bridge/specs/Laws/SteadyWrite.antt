@@ -1,6 +1,6 @@
 -- Cursors over equal bytes, at one place, leave equal bytes, and none is ever pending.
-use Rattle.std.proofs.Common.{◌≡◌, ◌∙◌, ◌+◌, ℕ, List, [], ◌∷◌, ◌++◌, length, ap, refl, subst, sym, arith, add-zero}
-use Rattle.std.proofs.Common.{append-nil, length-append}
+use Rattle.std.proofs.Common.{◌≡◌, ◌∙◌, ◌+◌, ℕ, List, [], ◌∷◌, length, ap, subst, sym, arith, add-zero, length-append}
+use Rattle.std.proofs.Common.{Global}
 use Rattle.std.specs.Prelude.{⊤}
 use Rattle.lite_io_base.specs.SteadyWrite.{CalmWriteLaws, NoPendingWrite, SteadyWriteLaws}
 use Rattle.lite_io_base.specs.Takings.{WriteMark, bytes_taken}
@@ -9,7 +9,6 @@ use Rattle.lite_bridge.specs.Cursor.{CursorWrites}
 use Rattle.lite_bridge.specs.Laws.Put.{puts_more}
 use Rattle.lite_bridge.specs.Overwrites.{CursorWritesLent}
 use Rattle.lite_bridge.specs.Put.{Puts, PutsVec, PutsVecLent, VecStays, VecStaysLent}
-use Rattle.std.proofs.Common.{Global}
 use Rattle.std.specs.declared.vec.Vec.{Vec}
 use denote.MutBor.{MutBor}
 

@@ -1,19 +1,18 @@
 -- Laws of what is made of a stream's items: it does not depend on when the stream was pending.
-use Rattle.std.proofs.Common.{◌≡◌, ◌⊎◌, List, [], ◌∷◌, ◌++◌, Option, Some, None, inl, inr, refl, subst, sym}
-use Rattle.std.specs.List.{FoldsTo}
+use Rattle.std.proofs.Common.{◌≡◌, ◌⊎◌, List, [], ◌∷◌, Option, Some, None, inl, inr, refl, subst}
 use Rattle.std.specs.Prelude.{⊤}
 use Rattle.futures.specs.declared.task.Poll.{Poll}
-use Rattle.futures.specs.declared.task.Poll.TheVariants.{Ready, Pending}
+use Rattle.futures.specs.declared.task.Poll.TheVariants.{Ready}
 use Rattle.lite_base.specs.Alike.{SameAnswer, SameItem, Sameness}
-use Rattle.lite_base.specs.Answers.{Answer, ComparableBy, Gives, items, strip}
+use Rattle.lite_base.specs.Answers.{Answer, ComparableBy, Gives, strip}
 use Rattle.lite_base.specs.Future.Finishes.{Finishes}
 use Rattle.lite_base.specs.Laws.Alike.{both_items, comparable_nil, gives_strip, item_same}
 use Rattle.lite_base.specs.Steady.{FutureSteadyLawsBy, SteadyLawsBy, TakesNone}
 use Rattle.lite_base.specs.Runs.{Runs}
 use Rattle.lite_consume.specs.Agreeing.{FoldSteadyLaws, Within, WithinWhere}
 use Rattle.lite_consume.specs.Consume.{Folds}
-use Rattle.lite_consume.specs.Consuming.{Consumes, Decides, Fold, TakesIn, fold_of}
-use Rattle.lite_consume.specs.Laws.Consuming.{consumed_laws, consumes_by}
+use Rattle.lite_consume.specs.Consuming.{Consumes, Decides, Fold, fold_of}
+use Rattle.lite_consume.specs.Laws.Consuming.{consumed_laws, consumes_by, consumes_steps}
 use Rattle.lite_consume.specs.declared.consume.Consume.{Consume}
 
 module _ {M A R : Type 0} (fold : Fold M A R) where
@@ -24,26 +23,16 @@ module _ {M A R : Type 0} (fold : Fold M A R) where
   ConsumesStripped p (Some x ∷ ins) out = ((q : M) × fold.asks p x None q × ConsumesStripped q ins out)
       ⊎ ((r : R) × (q : M) × fold.asks p x (Some r) q × (out ≡ r ∷ []))
 
-  after_taken : (p q : M) (taken : List A) (l : List (Answer A)) (out : List R) → FoldsTo (TakesIn fold) p taken q
-      → ConsumesStripped q (strip l) out → ConsumesStripped p (strip (items taken ++ l)) out
-  after_taken p q [] l out e h = subst (λ v. ConsumesStripped v (strip l) out) (sym e) h
-  after_taken p q (x ∷ taken) l out e h = inl (e.0, e.1, after_taken e.0 q taken l out e.2 h)
+  decided : (p q : M) (o : Option A) (r : R) → Decides fold p (Ready o) (Ready r) q
+      → ConsumesStripped p (o ∷ []) (r ∷ [])
+  decided p q None r h = (r, q, h, refl)
+  decided p q (Some x) r h = inr (r, q, h, refl)
 
-  decided : (p q : M) (a : Answer A) (r : R) → Decides fold p a r q → ConsumesStripped p (strip (a ∷ [])) (r ∷ [])
-  decided p q Pending r h = absurd h
-  decided p q (Ready None) r h = (r, q, h, refl)
-  decided p q (Ready (Some x)) r h = inr (r, q, h, refl)
-
-  stripped : (p q : M) (i : List (Answer A)) (o : List (Poll R)) → Consumes fold p i o q
-      → ConsumesStripped p (strip i) (strip o)
-  stripped p q i [] h = rw h.0 refl
-  stripped p q i (Pending ∷ o) h =
-      rw h.2.cut (after_taken p h.1 h.2.taken (Pending ∷ h.0) (strip o) h.2.folds (stripped h.1 q h.0 o h.3))
-  stripped p q i (Ready r ∷ o) h =
-      let last = h.0 in
-      rw (last.cut, h.1)
-      (after_taken p last.between last.taken (last.last ∷ []) (r ∷ []) last.folds
-      (decided last.between q last.last r last.decides))
+  stripped : (p q : M) (i : List (Answer A)) (l : List (Poll R)) → Consumes fold p i l q
+      → ConsumesStripped p (strip i) (strip l)
+  stripped p q i l =
+      consumes_steps fold (λ p i l. ConsumesStripped p (strip i) (strip l)) (λ p m x i b l t h. inl (m, t, h))
+      (λ p i l h. h) q (λ p o r d. decided p q o r d) p i l refl
 
 -- items that come in are compared by `like`
 module _ {M A R : Type 0} (like : Sameness A) {fold ample : Fold M A R} {none : Type 0} {agree : M → M → Type 0}
@@ -76,8 +65,7 @@ gives_one l v w g h =
     cc
 
 -- If memory was found in each step but those that give another value, and the stream found it wherever its answers were
--- such as came
--- before the value, then it was found in a run that gave no other.
+-- such as came before the value, then it was found in a run that gave no other.
 module _ {S M A R : Type 0} {run found : Runs (Answer A) S} {fold ample : Fold M A R} {may : R → Type 0}
     (Such : List (Answer A) → Type 0)
     (told : (s t : S) (i : List (Answer A)) → Such i → run s i t → found s i t)

@@ -1,135 +1,119 @@
 -- Laws of what is made of a stream's items.
-use Rattle.std.proofs.Common.{◌≡◌, ◌∙◌, ◌≤◌, Some, None, List, [], ◌∷◌, ◌++◌, length, refl, ap, subst, sym, arith}
-use Rattle.std.proofs.Common.{append_assoc}
-use Rattle.std.specs.List.{AllByRecursion, FoldsTo}
+use Rattle.std.proofs.Common.{◌≡◌, Option, Some, None, List, [], ◌∷◌, ◌++◌, refl, subst, sym}
+use Rattle.std.specs.List.{AllByRecursion}
 use Rattle.futures.specs.declared.task.Poll.{Poll}
 use Rattle.futures.specs.declared.task.Poll.TheVariants.{Ready, Pending}
-use Rattle.lite_base.specs.Answers.{Answer, Gives, Waiting, item, items, strip}
+use Rattle.lite_base.specs.Answers.{Answer, Gives, UpToValue, item}
 use Rattle.lite_base.specs.Calm.{CalmLaws, NoPending}
 use Rattle.lite_base.specs.FutureLaws.{FutureLaws}
-use Rattle.lite_base.specs.Laws.All.{all_append}
-use Rattle.lite_base.specs.Laws.Calm.{no_pending_back}
+use Rattle.lite_base.specs.Laws.Answers.{up_to_once}
+use Rattle.lite_base.specs.Laws.Segments.{answers_by, answers_given, answers_taken, to_value_join}
 use Rattle.lite_base.specs.StreamLaws.{RunLaws}
 use Rattle.lite_base.specs.Runs.{Runs}
+use Rattle.lite_base.specs.Segments.{OneAnswer, Segment}
 use Rattle.lite_consume.specs.Agreeing.{WithinWhere}
 use Rattle.lite_consume.specs.Consume.{Folds}
-use Rattle.lite_consume.specs.Consuming.{Concludes, Consumes, Decides, Fold, TakesIn, Waits, fold_of}
+use Rattle.lite_consume.specs.Consuming.{Consumes, Decides, Fold, TakesIn, fold_of}
 use Rattle.lite_consume.specs.declared.consume.Consume.{Consume}
 
-module _ {M A R : Type 0} (fold : Fold M A R) where
-  -- what comes after answers that were all Pending
-  joins : (p q r : M) (i j : List (Answer A)) (l m : List (Poll R)) → Waiting l → Consumes fold p i l q
-      → Consumes fold q j m r → Consumes fold p (i ++ j) (l ++ m) r
-  joins p q r i j [] m w h k = rw (h.0, sym h.1) k
-  joins p q r i j (Pending ∷ l) m w h k =
-      let first = h.2 in
-      let cut = ap (λ v. v ++ j) first.cut ∙ append_assoc (items first.taken) (Pending ∷ h.0) j in
-      let longer : Waits fold p (i ++ j) (h.0 ++ j) h.1 = record {
-        taken = first.taken;
-        cut = cut;
-        folds = first.folds;
-      } in
-      (h.0 ++ j, h.1, longer, joins h.1 q r h.0 j l m w h.3 k)
-  joins p q r i j (Ready x ∷ l) m w h k = absurd w
+-- by induction on the answers in: items are taken in, Pendings go out, and at last the value does
+module _ {M A R : Type 0} (fold : Fold M A R) (P : M → List (Answer A) → List (Poll R) → Type 0)
+    (taken : (p m : M) (x : A) (i : List (Answer A)) (b : Poll R) (l : List (Poll R)) → TakesIn fold p x m
+    → P m i (b ∷ l) → P p (item x ∷ i) (b ∷ l))
+    (waits : (p : M) (i : List (Answer A)) (l : List (Poll R)) → P p i l → P p (Pending ∷ i) (Pending ∷ l)) (q : M)
+    (settled : (p : M) (o : Option A) (r : R) → Decides fold p (Ready o) (Ready r) q
+    → P p (Ready o ∷ []) (Ready r ∷ [])) where
+  -- up to the value; and where nothing goes out, nothing came in
+  abbrev Holds : M → List (Answer A) → List (Poll R) → Type 0
+  Holds p i l = (l ≡ [] → (i ≡ []) × (p ≡ q)) × (UpToValue l → P p i l)
 
-  once : (p q : M) (i : List (Answer A)) (l : List (Poll R)) → Consumes fold p i l q → length (strip l) ≤ 1
-  once p q i [] h = omega arith
-  once p q i (Pending ∷ l) h = once h.1 q h.0 l h.3
-  once p q i (Ready r ∷ l) h = rw h.1 (omega arith)
+  one_given : (p m : M) (a : Answer A) (i : List (Answer A)) (b : Poll R) (l : List (Poll R)) → Decides fold p a b m
+      → Holds m i l → Holds p (a ∷ i) (b ∷ l)
+  one_given p m Pending i Pending l d h =
+      (λ e. absurd (cc e), λ u. waits p i l (subst (λ z. P z i l) d (h.1 u)))
+  one_given p m Pending i (Ready r) l d h = absurd d
+  one_given p m (Ready o) i Pending l d h = absurd d
+  one_given p m (Ready o) i (Ready r) l d h = (
+    λ e. absurd (cc e),
+    λ u. let none = h.0 u in
+        rw (none.0, u) (settled p o r (subst (λ z. Decides fold p (Ready o) (Ready r) z) none.1 d)),
+  )
 
-  -- no Pending is made up
-  no_pending : (p q : M) (i : List (Answer A)) (l : List (Poll R)) → Consumes fold p i l q → NoPending i → NoPending l
-  no_pending p q i [] h k = tt
-  no_pending p q i (Pending ∷ l) h k =
-      absurd (no_pending_back (items h.2.taken) (Pending ∷ h.0) (subst (λ v. NoPending v) h.2.cut k))
-  no_pending p q i (Ready r ∷ l) h k = rw h.1 tt
+  pub consumes_steps : (p : M) (i : List (Answer A)) (l : List (Poll R)) → P q [] [] → Consumes fold p i l q → P p i l
+  consumes_steps p i l none h =
+      (answers_by item (TakesIn fold) (Decides fold) Holds
+      (λ p m x i b l t k. (λ e. absurd (cc e), λ u. taken p m x i b l t (k.1 u))) one_given p q i l
+      (λ e. (refl, refl), λ u. none) h.0).1 h.1
 
 -- What holds of each item that is taken in, and of the answer that decides, holds of each answer that came before a
--- value of that kind:
--- `kept` says of what is folded that it holds of all that was taken in.
-module _ {M A R : Type 0} (fold : Fold M A R) (P : Answer A → Type 0) (kept : M → Type 0) (may : R → Type 0)
-    (waits : P Pending)
-    (taken : (p q : M) (x : A) → kept q → TakesIn fold p x q → kept p × P (item x))
-    (decided : (p q : M) (a : Answer A) (r : R) → may r → Decides fold p a r q → kept p × P a) where
-  each_taken : (p q : M) (l : List A) → kept q → FoldsTo (TakesIn fold) p l q → kept p × AllByRecursion P (items l)
-  each_taken p q [] k h = (subst kept (sym h) k, tt)
-  each_taken p q (x ∷ l) k h =
-      let rest = each_taken h.0 q l k h.2 in let first = taken p h.0 x rest.0 h.1 in (first.0, (first.1, rest.1))
-
-  pub each_consumed : (p q : M) (i : List (Answer A)) (l : List (Poll R)) (v : R) → may v → Gives l v
-      → Consumes fold p i l q → kept p × AllByRecursion P i
-  each_consumed p q i [] v m g h = absurd g
-  each_consumed p q i (Pending ∷ l) v m g h =
-      let first = h.2 in
-      let rest = each_consumed h.1 q h.0 l v m g h.3 in
-      let all = each_taken p h.1 first.taken rest.0 first.folds in (
-        all.0,
-        subst (AllByRecursion P) (sym first.cut)
-            (all_append P (items first.taken) (Pending ∷ h.0) all.1 (waits, rest.1)),
-      )
-  each_consumed p q i (Ready r ∷ l) v m g h =
-      let last = h.0 in
-      let end = decided last.between q last.last r (subst may (sym g.0) m) last.decides in
-      let all = each_taken p last.between last.taken end.0 last.folds in (
-        all.0,
-        subst (AllByRecursion P) (sym last.cut)
-            (all_append P (items last.taken) (last.last ∷ []) all.1 (end.1, tt)),
-      )
+-- value of that kind: `kept` says of what is folded that it holds of all that was taken in.
+pub each_consumed : {M A R : Type 0} (fold : Fold M A R) (P : Answer A → Type 0) (kept : M → Type 0) (may : R → Type 0)
+    → P Pending → ((p q : M) (x : A) → kept q → TakesIn fold p x q → kept p × P (item x))
+    → ((p q : M) (o : Option A) (r : R) → may r → Decides fold p (Ready o) (Ready r) q → kept p × P (Ready o))
+    → (p q : M) (i : List (Answer A)) (l : List (Poll R)) (v : R) → may v → Gives l v → Consumes fold p i l q
+    → kept p × AllByRecursion P i
+each_consumed fold P kept may waits taken decided p q i l v m g h =
+    consumes_steps fold (λ p i l. Gives l v → kept p × AllByRecursion P i)
+    (λ p n x i b l t k g. let rest = k g in let first = taken p n x rest.0 t in (first.0, (first.1, rest.1)))
+    (λ p i l k g. let rest = k g in (rest.0, (waits, rest.1))) q
+    (λ p o r d g. let last = decided p q o r (subst may (sym g.0) m) d in (last.0, (last.1, tt)))
+    p i l (λ g. absurd g) h g
 
 -- where each step of the one fold is one of the other, by a part, if the value that it gives is such
 module _ {N M A R : Type 0} (part : N → M) (fold : Fold N A R) (other : Fold M A R) {may : R → Type 0}
     (within : WithinWhere may fold (fold_of part other)) where
-  folds_by : (p q : N) (l : List A) → FoldsTo (TakesIn fold) p l q → FoldsTo (TakesIn other) (part p) l (part q)
-  folds_by p q [] e = λ i. part (e i)
-  folds_by p q (x ∷ l) h = (part h.0, within.asks p h.0 x None tt h.1, folds_by h.0 q l h.2)
-
-  decides_by : (p q : N) (a : Answer A) (r : R) → may r → Decides fold p a r q → Decides other (part p) a r (part q)
-  decides_by p q Pending r m h = h
-  decides_by p q (Ready None) r m h = within.closes p q r m h
-  decides_by p q (Ready (Some x)) r m h = within.asks p q x (Some r) m h
+  decides_by : (p q : N) (o : Option A) (r : R) → may r → Decides fold p (Ready o) (Ready r) q
+      → Decides other (part p) (Ready o) (Ready r) (part q)
+  decides_by p q None r m h = within.closes p q r m h
+  decides_by p q (Some x) r m h = within.asks p q x (Some r) m h
 
   pub consumes_by : (p q : N) (i : List (Answer A)) (l : List (Poll R)) → ((r : R) → Gives l r → may r)
       → Consumes fold p i l q → Consumes other (part p) i l (part q)
-  consumes_by p q i [] m h = (h.0, λ j. part (h.1 j))
-  consumes_by p q i (Pending ∷ l) m h =
-      let first = h.2 in
-      let whole : Waits other (part p) i h.0 (part h.1) = record {
-        taken = first.taken;
-        cut = first.cut;
-        folds = folds_by p h.1 first.taken first.folds;
-      } in
-      (h.0, part h.1, whole, consumes_by h.1 q h.0 l m h.3)
-  consumes_by p q i (Ready r ∷ l) m h =
-      let last = h.0 in
-      let whole : Concludes other (part p) i r (part q) =
-      record {
-        taken = last.taken;
-        last = last.last;
-        cut = last.cut;
-        between = part last.between;
-        folds = folds_by p last.between last.taken last.folds;
-        decides = decides_by last.between q last.last r (m r (refl, h.1)) last.decides;
-      } in
-      (whole, h.1)
+  consumes_by p q i l m h =
+      consumes_steps fold (λ p i l. ((r : R) → Gives l r → may r) → Consumes other (part p) i l (part q))
+      (λ p n x i b l t k m. let rest = k m in (
+        answers_taken item (TakesIn other) (Decides other) (part p) (part n) (part q) x i b l
+            (within.asks p n x None tt t) rest.0,
+        rest.1,
+      ))
+      (λ p i l k m. let rest = k m in (
+        answers_given item (TakesIn other) (Decides other) (part p) (part p) (part q) Pending i Pending l refl rest.0,
+        rest.1,
+      ))
+      q
+      (λ p o r d m. (
+        answers_given item (TakesIn other) (Decides other) (part p) (part q) (part q) (Ready o) [] (Ready r) []
+            (decides_by p q o r (m r (refl, refl)) d) (refl, refl),
+        refl,
+      ))
+      p i l (λ m. ((refl, refl), tt)) h m
+
+-- no Pending is made up
+no_pending : {M A R : Type 0} (fold : Fold M A R) (p q : M) (i : List (Answer A)) (l : List (Poll R))
+    → Consumes fold p i l q → NoPending i → NoPending l
+no_pending fold p q i l =
+    consumes_steps fold (λ p i l. NoPending i → NoPending l) (λ p m x i b l t k. k) (λ p i l k e. absurd e) q
+    (λ p o r d e. tt) p i l (λ e. e)
 
 module _ {S M A R : Type 0} {run : Runs (Answer A) S} (fold : Fold M A R) where
   stays : ((s t : S) → run s [] t → t ≡ s) → (x y : Consume S M) → Folds run fold x [] y → y ≡ x
   stays source x y h =
-      let e = source x.stream y.stream (subst (λ i. run x.stream i y.stream) h.consumed.0 h.came) in
-      λ i. record { stream = e i; folder = h.consumed.1 i }
+      let e = source x.stream y.stream (subst (λ i. run x.stream i y.stream) h.consumed.0.0 h.came) in
+      λ i. record { stream = e i; folder = h.consumed.0.1 i }
 
   pub consumed_laws : RunLaws run → FutureLaws (Folds run fold)
   consumed_laws laws =
       record {
-        rests = λ x. record { ins = []; came = laws.rests x.stream; consumed = (refl, refl) };
+        rests = λ x. record { ins = []; came = laws.rests x.stream; consumed = ((refl, refl), tt) };
         stays = stays laws.stays;
         follows = λ x y z l m w h k.
             record {
               ins = h.ins ++ k.ins;
               came = laws.follows x.stream y.stream z.stream h.ins k.ins h.came k.came;
-              consumed = joins fold x.folder y.folder z.folder h.ins k.ins l m w h.consumed k.consumed;
+              consumed = to_value_join (Segment item (TakesIn fold) (OneAnswer (Decides fold))) x.folder y.folder
+                  z.folder h.ins k.ins l m w h.consumed k.consumed;
             };
-        once = λ x y l h. once fold x.folder y.folder h.ins l h.consumed;
+        once = λ x y l h. up_to_once l h.consumed.1;
       }
 
   -- over a stream that is never pending it is not either

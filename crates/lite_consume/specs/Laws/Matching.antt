@@ -3,10 +3,9 @@ use Rattle.std.specs.Prelude.{⊤, Result, Ok, Err, IsErr, IsSome, Bool, true, f
 use Rattle.std.proofs.Common.{◌≡◌, ◌∙◌, Option, Some, None, inl, inr, refl, ap, subst, sym, arith}
 use Rattle.lite_base.specs.Alike.{OptionBy, Optional, SameAnswer, SameHeld, SameItem, Sameness}
 use Rattle.lite_base.specs.Calling.{Agree, AgreeFrom, AgreeKeeping, Keeping, Kin}
-use Rattle.lite_base.specs.Laws.Alike.{both_items, ends_same, held_same, option_by, optional_same, same_answer}
-use Rattle.lite_base.specs.Laws.Alike.{same_held}
-use Rattle.lite_base.specs.Laws.Calling.{MatchesFrom, agree_from_matches, agree_matches, keeping_from, kin_agree}
-use Rattle.lite_base.specs.Laws.Calling.{kin_answers, kin_matches, matches_from}
+use Rattle.lite_base.specs.Laws.Alike.{both_items, ends_same, held_same, optional_same, same_answer, same_held}
+use Rattle.lite_base.specs.Laws.Calling.{MatchesFrom, agree_from_matches, agree_matches, keeping_from, kin_matches}
+use Rattle.lite_base.specs.Laws.Calling.{matches_from}
 use Rattle.lite_base.specs.Runs.{Question}
 use Rattle.lite_consume.specs.Agreeing.{FoldSteadyLaws, SameDecision}
 use Rattle.lite_consume.specs.All.{alls}
@@ -241,16 +240,6 @@ module _ {M A R : Type 0} (like : A → A → Type 0) (fold : Fold M A R) where
   deciding_steady =
       steady like (KinGive like fold) fold Deciding deciding_asked (λ p k q l r t a c d. inl (p, k, q, l, a.0, c, d))
 
-  -- what kin give is the same, where what agrees with itself gives the same
-  pub kin_give : (same : R → R → Type 0) (agree : M → M → Type 0) → ((p : M) → agree p p)
-      → MatchesFrom like (OptionBy same) fold.asks agree
-      → ((p k q l : M) (r t : R) → agree p k → fold.closes p r q → fold.closes k t l → same r t) → (r t : R)
-      → KinGive like fold r t → same r t
-  kin_give same agree itself m closes r t (inl h) =
-      closes h.0 h.1 h.2 h.3 r t (kin_agree like (OptionBy same) fold.asks agree itself m h.0 h.1 h.4) h.5 h.6
-  kin_give same agree itself m closes r t (inr h) =
-      kin_answers like (OptionBy same) fold.asks agree itself m (Some r) (Some t) h
-
 module _ {F A E : Type 0} (call : Question F A (Result (Unit {0}) E)) where
   try_for_each_asked : SameAsked Equal Equal (tries_each call) (Agree call)
   try_for_each_asked p k q l x w None None a e c d =
@@ -302,27 +291,6 @@ module _ {F T A : Type 0} (call : F → T × A → T → F → Type 0) where
   fold_steady (Sameness.by like) =
       steady like (KinGive like (folds call)) (folds call) (Kin like (folds call).asks) (kin_fold_asked like)
       (λ p k q l r t a c d. inl (p, k, q, l, a, c, d))
-
-  -- what kin folded is the same, by a fact P of each call
-  pub kin_fold : (like : A → A → Type 0) (same : T → T → Type 0) (P : T → A → T → Type 0) → ((a : T) → same a a)
-      → ((f g : F) (a b : T) (x : A) → call f (a, x) b g → P a x b)
-      → ((a c b d : T) (x w : A) → same a c → like x w → P a x b → P c w d → same b d) → (r t : T)
-      → KinGive like (folds call) r t → same r t
-  kin_fold like same P itself answers keeps =
-      kin_give like (folds call) same (λ p k. OptionBy same p.1 k.1) (λ p. options p.1) asked
-      (λ p k q l r t a c d. option_by same p.1 k.1 r t a c.0 d.0)
-    where
-      options : (o : Option T) → OptionBy same o o
-      options None = tt
-      options (Some a) = itself a
-
-      asked : MatchesFrom like (OptionBy same) (folds call).asks (λ p k. OptionBy same p.1 k.1)
-      asked p k q l x w None None a e c d =
-          let s = keeps c.0 d.0 c.1 d.1 x w (option_by same p.1 k.1 c.0 d.0 a c.2 d.2) e (answers p.0 q.0 c.0 c.1 x c.3)
-          (answers k.0 l.0 d.0 d.1 w d.3) in
-          (tt, rw (c.4, d.4) s)
-      asked p k q l x w None (Some t) a e c d = absurd d
-      asked p k q l x w (Some r) u a e c d = absurd c
 
 module _ {F B T E : Type 0} (call : F → B × T → Result B E → F → Type 0) where
   try_fold_asked : SameAsked Equal Equal (tries_fold call) (AgreeBeside (Agree call))

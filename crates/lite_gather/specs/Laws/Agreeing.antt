@@ -1,9 +1,8 @@
 -- Collections gather the same of items that are the same, where memory was found.
-use Rattle.std.specs.Prelude.{Result, Ok, Err, Bool, true, false, map, IfSome, IsSome}
+use Rattle.std.specs.Prelude.{Result, Ok, Err, Bool, true, false, map, IfSome, IsSome, ⊤}
 use Rattle.std.proofs.Common.{◌≡◌, List, [], ◌∷◌, ◌++◌, Option, Some, None, subst, sym}
 use Rattle.std.proofs.lemmas.List.{map-append}
 use Rattle.std.proofs.lemmas.List.Elements.{AllZip-push}
-use Rattle.std.specs.Prelude.{⊤}
 use Rattle.lite_base.specs.Alike.{OptionBy, SameErr, SameItem, SameOk, Sameness}
 use Rattle.lite_base.specs.Calling.{AgreeFrom}
 use Rattle.lite_base.specs.Laws.Alike.{option_by}

@@ -79,12 +79,11 @@ module _ {C T : Type 0} (holds : C → List T → Type 0) where
     tried_taken oks p q (Ok x) k h = (tt, oks x)
     tried_taken oks p q (Err e) k h = absurd h
 
-    tried_decided : P end → (p q : Option C) (a : Answer (Result T E)) (r : Result C (TryCollectError C T E))
-        → FitsTried r → Decides (tries_collect ⊤ holds) p a r q → ⊤ × P a
-    tried_decided ends p q Pending r m h = absurd h
-    tried_decided ends p q (Ready None) r m h = (tt, ends)
-    tried_decided ends p q (Ready (Some (Ok x))) r m h = absurd (subst FitsTried h.5 m)
-    tried_decided ends p q (Ready (Some (Err e))) r m h = (tt, subst FitsTried h.0 m)
+    tried_decided : P end → (p q : Option C) (o : Option (Result T E)) (r : Result C (TryCollectError C T E))
+        → FitsTried r → Decides (tries_collect ⊤ holds) p (Ready o) (Ready r) q → ⊤ × P (Ready o)
+    tried_decided ends p q None r m h = (tt, ends)
+    tried_decided ends p q (Some (Ok x)) r m h = absurd (subst FitsTried h.5 m)
+    tried_decided ends p q (Some (Err e)) r m h = (tt, subst FitsTried h.0 m)
 
     pub try_collect_each : P Pending → P end → ((x : T) → P (item (Ok x)))
         → (p q : Option C) (i : List (Answer (Result T E))) (l : List (Poll (Result C (TryCollectError C T E))))
@@ -119,12 +118,11 @@ module _ {C T : Type 0} (holds : C → List T → Type 0) where
         let held = some h.0 in
         (λ c e l held'. (all l (subst (λ d. holds d l) (let f = h.2 in cc) held')).0, (all held.0 held.1).1)
 
-    collected_decided : P end → (p q : Option C) (a : Answer T) (r : Result C (Refused C T)) → FitsGathered r
-        → Decides (collects ⊤ holds) p a r q → Keeps p × P a
-    collected_decided ends p q Pending r m h = absurd h
-    collected_decided ends p q (Ready None) r m h =
+    collected_decided : P end → (p q : Option C) (o : Option T) (r : Result C (Refused C T)) → FitsGathered r
+        → Decides (collects ⊤ holds) p (Ready o) (Ready r) q → Keeps p × P (Ready o)
+    collected_decided ends p q None r m h =
         (λ c e. subst FitsAll (let f = h.1 in cc) (subst FitsGathered h.2 m), ends)
-    collected_decided ends p q (Ready (Some x)) r m h = absurd (subst FitsGathered h.5 m)
+    collected_decided ends p q (Some x) r m h = absurd (subst FitsGathered h.5 m)
 
     pub collect_each : P Pending → P end → ((c : C) → (l : List T) × holds c l)
         → (p q : Option C) (i : List (Answer T)) (l : List (Poll (Result C (Refused C T)))) (v : Result C (Refused C T))

@@ -6,14 +6,14 @@ ghost use Rattle.lite_halves.specs.Counts.{AddsInside, CountsOn, booked_in, coun
 ghost use Rattle.lite_halves.specs.Counts.{reads_in, taken_in, writes_in};
 ghost use Rattle.lite_halves.specs.declared.journalled.tally.Side.TheVariants.{Reading, Writing};
 ghost use Rattle.lite_io_base.specs.Marks.{count_of};
-ghost use Rattle.lite_journal.specs.Entry.{close_note, flush_note, read_note, write_note};
-ghost use Rattle.lite_journal.specs.Journal.{IsSound, Replays};
+ghost use Rattle.lite_halves.specs.Entry.{close_note, flush_note, read_note, write_note};
+ghost use Rattle.lite_halves.specs.Journal.{IsSound, Replays};
 
 use super::books::{Blanks, Books, Got, Reads, Taken, Writes};
 use super::tally::{Shares, Side, SideBooks, Tally};
+use crate::Journal;
 use lite_base::{Context, Poll};
 use lite_io_base::{AsyncRead, AsyncWrite, Takings, Tale};
-use lite_journal::Journal;
 use std::alloc::AllocError;
 use std::io;
 

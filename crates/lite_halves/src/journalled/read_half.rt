@@ -5,16 +5,16 @@ ghost use Rattle.futures.specs.Task.{Keeps};
 ghost use Rattle.lite_io_base.specs.Marks.{count_of, read_marks};
 ghost use Rattle.lite_io_base.specs.Runs.{ReadsInto, room_in};
 ghost use Rattle.lite_halves.specs.Counts.{CountsOn, HalfDrives, IsOutOfMemory, ReadCounts, moved_by, read_bytes_of};
-ghost use Rattle.lite_journal.specs.Entry.{FitsCall, Request, told_in, told_of};
+ghost use Rattle.lite_halves.specs.Entry.{FitsCall, Request, told_in, told_of};
 ghost use Rattle.lite_halves.specs.Laws.Counts.{counts_laws};
 ghost use Rattle.lite_base.specs.Registered.{Registered};
 
 use super::books::{Books, Got, Reads};
 use super::locked::Locked;
 use super::tally::Tally;
+use crate::{Answer, buffer_answer};
 use lite_base::{Context, Poll};
 use lite_io_base::{AsyncRead, Takings, Tale, first_with_room};
-use lite_journal::{Answer, buffer_answer};
 use std::alloc::{AllocError, AllocGlobal};
 use std::io;
 use std::io::{ErrorKind, IoSliceMut};

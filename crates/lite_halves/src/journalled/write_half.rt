@@ -8,16 +8,16 @@ ghost use Rattle.lite_io_base.specs.Takings.{done_marks, write_marks};
 ghost use Rattle.lite_io_base.specs.Takings.WriteMark.{closed, flushed};
 ghost use Rattle.lite_halves.specs.Counts.{AllWrites, CountsOn, HalfDrives, IsOutOfMemory, IsWrite, WriteCounts};
 ghost use Rattle.lite_halves.specs.Counts.{moved_by, taken_bytes_of};
-ghost use Rattle.lite_journal.specs.Entry.{FitsCall, asked_in, asked_of, told_in, told_of};
+ghost use Rattle.lite_halves.specs.Entry.{FitsCall, asked_in, asked_of, told_in, told_of};
 ghost use Rattle.lite_halves.specs.Laws.Counts.{counts_laws};
 ghost use Rattle.lite_base.specs.Registered.{Registered};
 
 use super::books::{Books, Taken, Writes};
 use super::locked::Locked;
 use super::tally::Tally;
+use crate::{Answer, Call, done_answer, write_answer};
 use lite_base::{Context, Poll};
 use lite_io_base::{AsyncWrite, Takings, Tale, first_nonempty};
-use lite_journal::{Answer, Call, done_answer, write_answer};
 use std::alloc::AllocError;
 use std::io;
 use std::io::{ErrorKind, IoSlice};

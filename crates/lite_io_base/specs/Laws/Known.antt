@@ -1,11 +1,18 @@
 -- Laws of the bytes that are to come.
 use Rattle.std.proofs.Common.{◌≡◌, ◌∙◌, ℕ, List, [], ◌∷◌, ◌++◌, ap, refl, sym, subst}
-use Rattle.std.specs.Prelude.{⊤}
+use Rattle.std.specs.Prelude.{⊤, ◌≡◌, ℕ, List, [], ◌∷◌}
 use denote.MutBor.{MutBor}
 use Rattle.lite_base.specs.Lent.{Lent}
-use Rattle.lite_io_base.specs.Known.{Known, TellsKnown}
+use Rattle.lite_io_base.specs.Known.{Known, TellsKnown, Knows}
 use Rattle.lite_io_base.specs.Marks.{ReadMark, bytes}
 use Rattle.lite_io_base.specs.Told.{TellsScript}
+use Rattle.lite_base.specs.Runs.{Runs}
+
+-- from what is known of x, what it tells spends
+pub knows_spends : {S : Type 0} (reads : Runs ReadMark S) (known : Known S) (x y : S) (l : List ReadMark)
+    → Knows reads known x → reads x l y
+    → TellsKnown (known.left x) l (known.left y)
+knows_spends reads known x y l k h = (known.tells x y l k.0 (k.1 l y h)).1
 
 pub spends_both : (xs ys zs : List ℕ) (l m : List ReadMark) → TellsKnown xs l ys → TellsKnown ys m zs
     → TellsKnown xs (l ++ m) zs

@@ -1,11 +1,17 @@
 -- What a vector keeps, and what is behind a reference.
 use Rattle.std.proofs.Common.{◌≡◌, ◌∙◌, ℕ, List, [], ◌∷◌, ◌++◌, sym, append_assoc, append-nil}
-use Rattle.std.specs.Prelude.{⊤}
+use Rattle.std.specs.Prelude.{⊤, ◌≡◌, ℕ, List, [], ◌++◌}
 use denote.MutBor.{MutBor}
 use Rattle.lite_base.specs.Lent.{Lent}
 use Rattle.lite_io_base.specs.Grows.{Grows}
-use Rattle.lite_io_base.specs.Stored.{Stored}
+use Rattle.lite_io_base.specs.Stored.{Stored, Stores}
 use Rattle.lite_io_base.specs.Takings.{WriteMark, bytes_taken}
+use Rattle.lite_base.specs.Runs.{Runs}
+
+pub stores_kept : {S : Type 0} (writes : Runs WriteMark S) (stored : Stored S) (x y : S) (l : List WriteMark)
+    → Stores writes stored x → writes x l y
+    → stored.kept y ≡ stored.kept x ++ bytes_taken l
+stores_kept writes stored x y l k h = (stored.tells x y l k.0 (k.1 l y h)).1
 
 pub grows_kept : (xs ys : List ℕ) (l : List WriteMark) → Grows xs l ys → ys ≡ xs ++ bytes_taken l
 grows_kept xs ys [] h = h ∙ sym (append-nil xs)

@@ -4,7 +4,7 @@ use Rattle.std.proofs.Common.{refl, ap, sym, subst, arith, length-append}
 use Rattle.futures.specs.declared.task.Poll.TheVariants.{Ready, Pending}
 use Rattle.lite_base.specs.Answers.{Answer, item, items}
 use Rattle.lite_base.specs.Calm.{CalmLaws, NoPending}
-use Rattle.lite_base.specs.Falling.{AtMost-both, AtMost-length, Below-after, Below-first, Lowers-at_most}
+use Rattle.lite_base.specs.Laws.Falling.{AtMost-both, AtMost-length, Below-after, Below-first, Lowers-at_most}
 use Rattle.lite_base.specs.Laws.Calm.{no_pending_join}
 use Rattle.lite_base.specs.Rank.{AtMost, Below, Lowers}
 use Rattle.lite_base.specs.Ranks.{Counting, Ranks}
@@ -28,12 +28,10 @@ module _ (xs us ys vs : List ℕ) where
 module _ {A : Type 0} where
   row_more : (i j : List (Answer A)) (c : Answer A) (i' j' k h : List (Answer A)) → MergeRow i j c i' j'
       → MergeRow (i ++ k) (j ++ h) c (i' ++ k) (j' ++ h)
-  row_more [] j c i' j' k h r = absurd r
   row_more (Ready (Some x) ∷ i) j c i' j' k h r = (r.0, ap (λ l. l ++ k) r.1, ap (λ l. l ++ h) r.2)
-  row_more (Ready None ∷ i) [] c i' j' k h r = absurd r
   row_more (Ready None ∷ i) (b ∷ j) c i' j' k h r = (r.0, ap (λ l. l ++ k) r.1, ap (λ l. l ++ h) r.2)
-  row_more (Pending ∷ i) [] c i' j' k h r = absurd r
   row_more (Pending ∷ i) (b ∷ j) c i' j' k h r = (r.0, ap (λ l. l ++ k) r.1, ap (λ l. l ++ h) r.2)
+  row_more i j c i' j' k h r = absurd r
 
   rows_follow : (o p : List Bool) (i j k h l m : List (Answer A)) → MergeRows o i j l → MergeRows p k h m
       → MergeRows (o ++ p) (i ++ k) (j ++ h) (l ++ m)
@@ -51,12 +49,11 @@ module _ {A : Type 0} where
   -- where neither list has a Pending, no row has
   row_calm : (i j : List (Answer A)) (c : Answer A) (i' j' : List (Answer A)) → MergeRow i j c i' j' → NoPending i
       → NoPending j → NoPending (c ∷ []) × NoPending i' × NoPending j'
-  row_calm [] j c i' j' r p q = absurd r
   row_calm (Ready (Some x) ∷ i) j c i' j' r p q = (rw r.0 tt, rw r.1 p, rw r.2 q)
-  row_calm (Ready None ∷ i) [] c i' j' r p q = absurd r
   row_calm (Ready None ∷ i) (Pending ∷ j) c i' j' r p q = absurd q
   row_calm (Ready None ∷ i) (Ready y ∷ j) c i' j' r p q = (rw r.0 tt, rw r.1 p, rw r.2 q)
   row_calm (Pending ∷ i) j c i' j' r p q = absurd p
+  row_calm i j c i' j' r p q = absurd r
 
   rows_calm : (o : List Bool) (i j out : List (Answer A)) → MergeRows o i j out → NoPending i → NoPending j
       → NoPending out
@@ -74,23 +71,21 @@ module _ {A : Type 0} where
       → (Below xs us → AtMost ys vs → Below zs ws) → (AtMost xs us → Below ys vs → Below zs ws)
       → MergeRow i j c i' j' → (Lowers i' xs us → Lowers j' ys vs → Lowers out zs ws) → Lowers i xs us → Lowers j ys vs
       → Lowers (c ∷ out) zs ws
-  row_lowers zs ws xs us ys vs [] j c i' j' out one other r rest h k = absurd r
   row_lowers zs ws xs us ys vs (Ready (Some x) ∷ i) j c i' j' out one other r rest h k =
       rw r.0 (one h (Lowers-at_most j ys vs k))
-  row_lowers zs ws xs us ys vs (Ready None ∷ i) [] c i' j' out one other r rest h k = absurd r
   row_lowers zs ws xs us ys vs (Ready None ∷ i) (Pending ∷ j) c i' j' out one other r rest h k =
       rw r.0 (rest (rw r.1 h) (rw r.2 k))
   row_lowers zs ws xs us ys vs (Ready None ∷ i) (Ready None ∷ j) c i' j' out one other r rest h k =
       rw r.0 (rest (rw r.1 h) (rw r.2 k))
   row_lowers zs ws xs us ys vs (Ready None ∷ i) (Ready (Some y) ∷ j) c i' j' out one other r rest h k =
       rw r.0 (other (Lowers-at_most i xs us h) k)
-  row_lowers zs ws xs us ys vs (Pending ∷ i) [] c i' j' out one other r rest h k = absurd r
   row_lowers zs ws xs us ys vs (Pending ∷ i) (Pending ∷ j) c i' j' out one other r rest h k =
       rw r.0 (rest (rw r.1 h) (rw r.2 k))
   row_lowers zs ws xs us ys vs (Pending ∷ i) (Ready None ∷ j) c i' j' out one other r rest h k =
       rw r.0 (rest (rw r.1 h) (rw r.2 k))
   row_lowers zs ws xs us ys vs (Pending ∷ i) (Ready (Some y) ∷ j) c i' j' out one other r rest h k =
       rw r.0 (other (Lowers-at_most i xs us h) k)
+  row_lowers zs ws xs us ys vs i j c i' j' out one other r rest h k = absurd r
 
   module _ (xs us ys vs : List ℕ) where
     rows_lower : (o : List Bool) (i j out : List (Answer A)) → MergeRows o i j out → Lowers i xs us → Lowers j ys vs
@@ -107,17 +102,15 @@ module _ {A : Type 0} where
   -- in a row of an item where the first stands first, the second gave an item or nothing
   row_item : (i j : List (Answer A)) (y : A) (i' j' : List (Answer A)) (l s : List A) → MergeRow i j (item y) i' j'
       → j' ≡ items s → (s ≡ [] → i' ≡ items l) → (t : List A) × (j ≡ items t) × (t ≡ [] → i ≡ items (y ∷ l))
-  row_item [] j y i' j' l s r e rest = absurd r
   row_item (Ready (Some x) ∷ i) j y i' j' l s r e rest =
       (s, sym r.2 ∙ e, λ none. let d = rest none in let a = r.0 in let b = r.1 in cc)
-  row_item (Ready None ∷ i) [] y i' j' l s r e rest = absurd r
   row_item (Ready None ∷ i) (b ∷ j) y i' j' l s r e rest =
       (y ∷ s, (let a = r.0 in let d = r.2 in cc), λ none. absurd (cc none))
-  row_item (Pending ∷ i) [] y i' j' l s r e rest = absurd r
   row_item (Pending ∷ i) (Pending ∷ j) y i' j' l s r e rest = absurd (cc r.0)
   row_item (Pending ∷ i) (Ready None ∷ j) y i' j' l s r e rest = absurd (cc r.0)
   row_item (Pending ∷ i) (Ready (Some z) ∷ j) y i' j' l s r e rest =
       (z ∷ s, (let d = r.2 in cc), λ none. absurd (cc none))
+  row_item i j y i' j' l s r e rest = absurd r
 
   -- in rows of items where the first stands first, the second gave items alone, and where it gave none all are the
   -- first's
@@ -156,16 +149,16 @@ module _ {S U A : Type 0} {run : Runs (Answer A) S} {run' : Runs (Answer A) U} {
         rows = (refl, refl, refl);
       }
 
-  pub merges_stay : (o : List Bool) (x t : Fuse S) (y v : Fuse U) → Merges run run' o x y [] t v → (t ≡ x) × (v ≡ y)
-  merges_stay o x t y v h =
+  pub merges_stay : {o : List Bool} {x t : Fuse S} {y v : Fuse U} → Merges run run' o x y [] t v → (t ≡ x) × (v ≡ y)
+  merges_stay {o} {x} {t} {y} {v} h =
       let e = rows_empty o h.firsts h.seconds h.rows in (
         (fused_laws s).stays x t (subst (λ l. Fuses run x l t) e.0 h.came),
         (fused_laws u).stays y v (subst (λ l. Fuses run' y l v) e.1 h.then_came),
       )
 
-  pub merges_follow : (o p : List Bool) (x t t' : Fuse S) (y v v' : Fuse U) (l m : List (Answer A))
+  pub merges_follow : {o p : List Bool} {x t t' : Fuse S} {y v v' : Fuse U} {l m : List (Answer A)}
       → Merges run run' o x y l t v → Merges run run' p t v m t' v' → Merges run run' (o ++ p) x y (l ++ m) t' v'
-  merges_follow o p x t t' y v v' l m h k =
+  merges_follow {o} {p} {x} {t} {t'} {y} {v} {v'} {l} {m} h k =
       record {
         firsts = h.firsts ++ k.firsts;
         seconds = h.seconds ++ k.seconds;
@@ -177,9 +170,9 @@ module _ {S U A : Type 0} {run : Runs (Answer A) S} {run' : Runs (Answer A) U} {
 -- where both are calm
 pub merges_calm : {S U A : Type 0} {run : Runs (Answer A) S} {run' : Runs (Answer A) U} {is_calm : S → Type 0}
     {is_calm' : U → Type 0} → CalmLaws run is_calm → CalmLaws run' is_calm'
-    → (o : List Bool) (x t : Fuse S) (y v : Fuse U) (out : List (Answer A)) → is_calm x.stream × is_calm' y.stream
+    → {o : List Bool} {x t : Fuse S} {y v : Fuse U} {out : List (Answer A)} → is_calm x.stream × is_calm' y.stream
     → Merges run run' o x y out t v → NoPending out × (is_calm t.stream × is_calm' v.stream)
-merges_calm c d o x t y v out k h =
+merges_calm c d {o} {x} {t} {y} {v} {out} k h =
     let first = through_calm fuse_parts c fuses_calming in
     let second = through_calm fuse_parts d fuses_calming in (
       rows_calm o h.firsts h.seconds out h.rows (first.no_pending x t h.firsts k.0 h.came)
@@ -192,19 +185,21 @@ module _ {S U A : Type 0} {run : Runs (Answer A) S} {run' : Runs (Answer A) U} {
   pub merges_sized : (x : S) (y : U) → length (r'.rank y ++ r.rank x) ≡ r'.width + r.width
   merges_sized x y = length-append (r'.rank y) (r.rank x) ∙ omega (arith, c.sized x, d.sized y)
 
-  pub merges_lower : (o : List Bool) (x t : Fuse S) (y v : Fuse U) (l : List (Answer A)) → r.firm x.stream
+  pub merges_lower : {o : List Bool} {x t : Fuse S} {y v : Fuse U} {l : List (Answer A)} → r.firm x.stream
       × r'.firm y.stream → Merges run run' o x y l t v
       → Lowers l (r'.rank v.stream ++ r.rank t.stream) (r'.rank y.stream ++ r.rank x.stream)
-  merges_lower o x t y v l k h =
+  merges_lower {o} {x} {t} {y} {v} {l} k h =
       rows_lower (r.rank t.stream) (r.rank x.stream) (r'.rank v.stream) (r'.rank y.stream) o h.firsts h.seconds l h.rows
       ((through_counting fuse_parts c fuses_relating).lowers x t h.firsts k.0 h.came)
       ((through_counting fuse_parts d fuses_relating).lowers y v h.seconds k.1 h.then_came)
 
-  pub merges_keep : (P : S → Type 0) (Q : U → Type 0) → ((x y : S) (l : List (Answer A)) → P x → run x l y → P y)
-      → ((x y : U) (l : List (Answer A)) → Q x → run' x l y → Q y)
-      → (o : List Bool) (x t : Fuse S) (y v : Fuse U) (l : List (Answer A)) → P x.stream × Q y.stream
-      → Merges run run' o x y l t v → P t.stream × Q v.stream
-  merges_keep P Q keeps keeps' o x t y v l k h = (
-    keeps x.stream t.stream h.came.ins k.0 h.came.came,
-    keeps' y.stream v.stream h.then_came.ins k.1 h.then_came.came,
-  )
+-- what each run keeps
+pub merges_keep : {S U A : Type 0} {run : Runs (Answer A) S} {run' : Runs (Answer A) U} {P : S → Type 0}
+    {Q : U → Type 0} → ((x y : S) (l : List (Answer A)) → P x → run x l y → P y)
+    → ((x y : U) (l : List (Answer A)) → Q x → run' x l y → Q y)
+    → {o : List Bool} {x t : Fuse S} {y v : Fuse U} {l : List (Answer A)} → P x.stream × Q y.stream
+    → Merges run run' o x y l t v → P t.stream × Q v.stream
+merges_keep keeps keeps' {x} {t} {y} {v} k h = (
+  keeps x.stream t.stream h.came.ins k.0 h.came.came,
+  keeps' y.stream v.stream h.then_came.ins k.1 h.then_came.came,
+)

@@ -1,8 +1,9 @@
 -- Laws of `or`.
-use Rattle.std.proofs.Common.{◌∙◌, map, true, None, ap, subst, sym}
+use Rattle.std.proofs.Common.{◌∙◌, true, None, ap, subst, sym}
 use Rattle.std.proofs.lemmas.List.{map-append}
 use Rattle.lite_base.specs.Answers.{Answer}
 use Rattle.lite_base.specs.Calm.{CalmLaws}
+use Rattle.lite_base.specs.Laws.Calm.{calm_both}
 use Rattle.lite_base.specs.Laws.Hint.{same_hint}
 use Rattle.lite_base.specs.Ranks.{Counting, Ranks}
 use Rattle.lite_base.specs.StreamLaws.{StreamLaws}
@@ -21,25 +22,15 @@ module _ {S U A : Type 0} {run : Runs (Answer A) S} {run' : Runs (Answer A) U} w
   or_laws s u =
       record {
         rests = λ x. merges_rest s u x.stream1 x.stream2;
-        stays = λ x y h. let e = merges_stay s u _ x.stream1 y.stream1 x.stream2 y.stream2 h in λ i. record {
-          stream1 = e.0 i;
-          stream2 = e.1 i;
-        };
-        follows = λ x y z l m h k.
-            rw (map-append (λ (_ : Answer A). true) l m)
-            (merges_follow s u (map (λ _. true) l)
-            (map (λ _. true) m) x.stream1 y.stream1 z.stream1 x.stream2 y.stream2 z.stream2 l m h k);
+        stays = λ x y h. let e = merges_stay s u h in λ i. record { stream1 = e.0 i; stream2 = e.1 i };
+        follows = λ x y z l m h k. rw (map-append (λ (_ : Answer A). true) l m) (merges_follow s u h k);
         bounded = λ x y hint l e h. same_hint hint (0, None) l e tt;
       }
 
   -- where both are calm
   pub or_calm : {is_calm : S → Type 0} {is_calm' : U → Type 0} → CalmLaws run is_calm → CalmLaws run' is_calm'
       → CalmLaws (Ors run run') (λ (x : Or S U). is_calm x.stream1.stream × is_calm' x.stream2.stream)
-  or_calm c d =
-      record {
-        no_pending = λ x y l k h. (merges_calm c d (map (λ _. true) l) x.stream1 y.stream1 x.stream2 y.stream2 l k h).0;
-        calm_on = λ x y l k h. (merges_calm c d (map (λ _. true) l) x.stream1 y.stream1 x.stream2 y.stream2 l k h).1;
-      }
+  or_calm c d = calm_both (λ x y l. merges_calm c d)
 
   pub or_counting : {hints' : Hints U} {r : Ranks S} {r' : Ranks U} → StreamLaws run' hints' → Counting run r
       → Counting run' r' → Counting (Ors run run') (or_ranks r r')
@@ -48,10 +39,8 @@ module _ {S U A : Type 0} {run : Runs (Answer A) S} {run' : Runs (Answer A) U} w
       let second = through_counting fuse_parts d fuses_relating in
       record {
         sized = λ x. merges_sized c d x.stream1.stream x.stream2.stream;
-        counts_on = λ x y l k h. merges_keep c d r.counts r'.counts c.counts_on d.counts_on
-            (map (λ _. true) l) x.stream1 y.stream1 x.stream2 y.stream2 l k h;
-        firm_on = λ x y l k h. merges_keep c d r.firm r'.firm c.firm_on d.firm_on
-            (map (λ _. true) l) x.stream1 y.stream1 x.stream2 y.stream2 l k h;
+        counts_on = λ x y l. merges_keep c.counts_on d.counts_on;
+        firm_on = λ x y l. merges_keep c.firm_on d.firm_on;
         falls = λ x y a more k h.
             first_falls h.firsts h.seconds a more (r.rank y.stream1.stream) (r.rank x.stream1.stream)
             (r'.rank y.stream2.stream) (r'.rank x.stream2.stream)
@@ -63,5 +52,5 @@ module _ {S U A : Type 0} {run : Runs (Answer A) S} {run' : Runs (Answer A) U} w
             (λ e. ap (λ m. r'.rank m.stream)
             ((fused_laws u).stays x.stream2 y.stream2
             (subst (λ i. Fuses run' x.stream2 i y.stream2) e h.then_came))) h.rows;
-        lowers = λ x y l k h. merges_lower c d (map (λ _. true) l) x.stream1 y.stream1 x.stream2 y.stream2 l k h;
+        lowers = λ x y l. merges_lower c d;
       }

@@ -1,41 +1,35 @@
 -- Laws of `race`.
-use Rattle.std.proofs.Common.{◌≡◌, List, [], ◌∷◌, ◌++◌, map, None, refl, subst, sym, inl, append-nil}
+use Rattle.std.proofs.Common.{◌≡◌, List, [], ◌∷◌, ◌++◌, None, refl, subst, sym, inl, append-nil}
 use Rattle.std.proofs.lemmas.List.{map-append}
 use Rattle.rand_core.specs.Stream.{Stream, next_u32}
 use Rattle.lite_base.specs.Answers.{Answer, items}
 use Rattle.lite_base.specs.Calm.{CalmLaws, NoPending}
 use Rattle.lite_base.specs.Future.Race.{is_first}
 use Rattle.lite_base.specs.Laws.Calls.{folds_follow}
+use Rattle.lite_base.specs.Laws.Calm.{calm_both}
 use Rattle.lite_base.specs.Laws.Hint.{same_hint}
 use Rattle.lite_base.specs.Rank.{Lowers}
 use Rattle.lite_base.specs.Ranks.{Counting, Ranks}
 use Rattle.lite_base.specs.StreamLaws.{StreamLaws}
 use Rattle.lite_base.specs.Runs.{Hints, NoHint, Runs}
 use Rattle.lite_merge.specs.Laws.Merge.{merges_calm, merges_follow, merges_keep, merges_lower, merges_sized}
-use Rattle.lite_merge.specs.Race.{Races, RacesOn, race_ranks}
+use Rattle.lite_merge.specs.Race.{RacesOn, race_ranks}
 use Rattle.lite_merge.specs.declared.race.Race.{Race}
 
 module _ {S U R A : Type 0} {run : Runs (Answer A) S} {run' : Runs (Answer A) U} (stream : R → Stream) where
   module _ {hints : Hints S} {hints' : Hints U} (s : StreamLaws run hints) (u : StreamLaws run' hints') where
-    joined : (x y z : Race S U R) (l m : List (Answer A)) → Races run run' stream x l y → Races run run' stream y m z
-        → Races run run' stream x (l ++ m) z
-    joined x y z l m h k =
-        record {
-          words = h.words ++ k.words;
-          drawn = folds_follow (λ s word left. (word, left) ≡ next_u32 s) (stream x.rng) (stream y.rng)
-              (stream z.rng) h.words k.words h.drawn k.drawn;
-          merges = rw (map-append is_first h.words k.words)
-              (merges_follow s u (map is_first h.words)
-              (map is_first k.words) x.stream1 y.stream1 z.stream1 x.stream2 y.stream2 z.stream2 l m h.merges k.merges);
-        }
-
     races_follow : (x y z : Race S U R) (l m : List (Answer A)) → RacesOn run run' stream x l y
         → RacesOn run run' stream y m z → RacesOn run run' stream x (l ++ m) z
     races_follow x y z [] m h k = subst (λ t. RacesOn run run' stream t m z) h k
     races_follow x y z (c ∷ l) [] h k =
-        subst (λ t. RacesOn run run' stream x t z) (sym (append-nil (c ∷ l)))
-        (subst (λ t. RacesOn run run' stream x (c ∷ l) t) (sym k) h)
-    races_follow x y z (c ∷ l) (d ∷ m) h k = joined x y z (c ∷ l) (d ∷ m) h k
+        rw (append-nil (c ∷ l)) (subst (λ t. RacesOn run run' stream x (c ∷ l) t) (sym k) h)
+    races_follow x y z (c ∷ l) (d ∷ m) h k =
+        record {
+          words = h.words ++ k.words;
+          drawn = folds_follow (λ s word left. (word, left) ≡ next_u32 s) (stream x.rng) (stream y.rng)
+              (stream z.rng) h.words k.words h.drawn k.drawn;
+          merges = rw (map-append is_first h.words k.words) (merges_follow s u h.merges k.merges);
+        }
 
     pub race_laws : StreamLaws (RacesOn run run' stream) NoHint
     race_laws = record {
@@ -49,30 +43,23 @@ module _ {S U R A : Type 0} {run : Runs (Answer A) S} {run' : Runs (Answer A) U}
     calm_run : (x y : Race S U R) (l : List (Answer A)) → is_calm x.stream1.stream × is_calm' x.stream2.stream
         → RacesOn run run' stream x l y → NoPending l × (is_calm y.stream1.stream × is_calm' y.stream2.stream)
     calm_run x y [] k h = rw h (tt, k)
-    calm_run x y (a ∷ l) k h =
-        merges_calm c d (map is_first h.words) x.stream1 y.stream1 x.stream2 y.stream2 (a ∷ l) k h.merges
+    calm_run x y (a ∷ l) k h = merges_calm c d k h.merges
 
     -- where both are calm
     pub race_calm : CalmLaws (RacesOn run run' stream)
         (λ (x : Race S U R). is_calm x.stream1.stream × is_calm' x.stream2.stream)
-    race_calm = record {
-      no_pending = λ x y l k h. (calm_run x y l k h).0;
-      calm_on = λ x y l k h. (calm_run x y l k h).1;
-    }
+    race_calm = calm_both calm_run
 
   module _ {r : Ranks S} {r' : Ranks U} (c : Counting run r) (d : Counting run' r') where
     firm_run : (x y : Race S U R) (l : List (Answer A)) → r.firm x.stream1.stream × r'.firm x.stream2.stream
         → RacesOn run run' stream x l y → r.firm y.stream1.stream × r'.firm y.stream2.stream
     firm_run x y [] k h = rw h k
-    firm_run x y (a ∷ l) k h =
-        merges_keep c d r.firm r'.firm c.firm_on d.firm_on
-        (map is_first h.words) x.stream1 y.stream1 x.stream2 y.stream2 (a ∷ l) k h.merges
+    firm_run x y (a ∷ l) k h = merges_keep c.firm_on d.firm_on k h.merges
 
     lower_run : (x y : Race S U R) (l : List (Answer A)) → r.firm x.stream1.stream × r'.firm x.stream2.stream
         → RacesOn run run' stream x l y → Lowers l ((race_ranks r r').rank y) ((race_ranks r r').rank x)
     lower_run x y [] k h = rw h (inl refl)
-    lower_run x y (a ∷ l) k h =
-        merges_lower c d (map is_first h.words) x.stream1 y.stream1 x.stream2 y.stream2 (a ∷ l) k h.merges
+    lower_run x y (a ∷ l) k h = merges_lower c d k h.merges
 
     pub race_counting : Counting (RacesOn run run' stream) (race_ranks r r')
     race_counting =

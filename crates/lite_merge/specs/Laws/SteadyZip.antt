@@ -1,5 +1,5 @@
 -- Two streams whose items are paired, by what each of them answers.
-use Rattle.std.proofs.Common.{◌≡◌, ◌∙◌, ℕ, zero, suc, List, [], ◌∷◌, Option, Some, None, inl, inr, refl, ap, subst, sym}
+use Rattle.std.proofs.Common.{◌≡◌, ℕ, zero, suc, List, [], ◌∷◌, Option, Some, None, inl, inr, refl, ap}
 use Rattle.futures.specs.declared.task.Poll.{Poll}
 use Rattle.futures.specs.declared.task.Poll.TheVariants.{Ready, Pending}
 use Rattle.lite_base.specs.Alike.{Pairwise, SameAnswer, SameHeld, SameItem, Sameness}
@@ -47,14 +47,9 @@ module _ {A B : Type 0} where
       → Matched (strip i) (strip more) (strip rest)) → WithHeld x i (Pairs i) j l g
       → Meets x (Matched (strip i)) (strip j) (strip l)
   met x i j l g rest (inl c) =
-      let e : strip j ≡ [] = ap strip c.2 ∙ strip_pendings c.0 [] in
-      let d : strip l ≡ [] = ap strip c.3 ∙ strip_pendings c.0 [] in
-      rw (e, d) refl
+      rw (c.2, c.3, strip_pendings c.0 [], strip_pendings c.0 []) refl
   met x i j l g rest (inr c) =
-      let e : strip j ≡ c.1 ∷ strip c.2 = ap strip c.4 ∙ strip_pendings c.0 (Ready c.1 ∷ c.2) in
-      let d : strip l ≡ with_other x c.1 ∷ strip c.3 = ap strip c.5 ∙ strip_pendings c.0 (pair_with x c.1 ∷ c.3)
-      ∙ strip_pair x c.1 c.3 in
-      rw (e, d) (strip c.3, refl, rest c.2 c.3 c.6)
+      rw (c.4, strip_pendings, c.5, strip_pendings, strip_pair x c.1 c.3) (strip c.3, refl, rest c.2 c.3 c.6)
 
   matched : (g : Option A) (i : List (Answer A)) (j : List (Answer B)) (l : List (Answer (A × B))) → Pairs i j l g
       → Matched (strip i) (strip j) (strip l)
@@ -86,17 +81,15 @@ module _ {A B : Type 0} where
         → ((more more' : List (Option B)) (rest rest' : List (Option (A × B))) → P more rest → Q more' rest'
         → ComparableBy (SameAnswer other) more more' → Out rest rest')
         → Meets x P j o → Meets y Q k p → ComparableBy (SameAnswer other) j k → Out o p
-    meets_same x y P Q [] k o p e rest r q d = subst (λ l. Out l p) (sym r) tt
-    meets_same x y P Q (b ∷ j) [] o p e rest r q d =
-        subst (λ l. Out o l) (sym q) (comparable_nil (SameAnswer (Pairwise same other)) o)
+    meets_same x y P Q [] k o p e rest r q d = rw r tt
+    meets_same x y P Q (b ∷ j) [] o p e rest r q d = rw q (comparable_nil (SameAnswer (Pairwise same other)) o)
     meets_same x y P Q (b ∷ j) (c ∷ k) o p e rest r q d =
         rw (r.1, q.1) (other_same x y b c e d.0, rest j k r.0 q.0 r.2 q.2 d.1)
 
     matched_same : (i k : List (Option A)) (j h : List (Option B)) (o p : List (Option (A × B))) → Matched i j o
         → Matched k h p → ComparableBy (SameAnswer same) i k → ComparableBy (SameAnswer other) j h → Out o p
-    matched_same [] k j h o p r q c d = subst (λ l. Out l p) (sym r) tt
-    matched_same (x ∷ i) [] j h o p r q c d =
-        subst (λ l. Out o l) (sym q) (comparable_nil (SameAnswer (Pairwise same other)) o)
+    matched_same [] k j h o p r q c d = rw r tt
+    matched_same (x ∷ i) [] j h o p r q c d = rw q (comparable_nil (SameAnswer (Pairwise same other)) o)
     matched_same (None ∷ i) (None ∷ k) j h o p r q c d =
         rw (r.1, q.1) (ends_same (Pairwise same other), matched_same i k j h r.0 q.0 r.2 q.2 c.1 d)
     matched_same (None ∷ i) (Some y ∷ k) j h o p r q c d = absurd (both_items same None (Some y) c.0)

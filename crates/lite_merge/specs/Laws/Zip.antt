@@ -5,12 +5,13 @@ use Rattle.futures.specs.declared.task.Poll.{Poll}
 use Rattle.futures.specs.declared.task.Poll.TheVariants.{Ready, Pending}
 use Rattle.lite_base.specs.Answers.{Answer, item, items}
 use Rattle.lite_base.specs.Calm.{CalmLaws, waits}
-use Rattle.lite_base.specs.Falling.{AtMost-both, Below-after, Below-first, Lowers-at_most, Lowers-below}
+use Rattle.lite_base.specs.Laws.Falling.{AtMost-both, Below-after, Below-first, Lowers-at_most, Lowers-below}
 use Rattle.lite_base.specs.Laws.Calm.{none_no_pending, no_pending_none}
 use Rattle.lite_base.specs.Laws.Hint.{same_hint}
 use Rattle.lite_base.specs.Rank.{AtMost, Below, Lowers}
 use Rattle.lite_base.specs.Ranks.{Counting, Ranks, count_held, held_rank}
-use Rattle.lite_base.specs.StreamLaws.{RunLaws, StreamLaws, laws_of, runs_of}
+use Rattle.lite_base.specs.StreamLaws.{RunLaws, StreamLaws}
+use Rattle.lite_base.specs.Laws.StreamLaws.{laws_of, runs_of}
 use Rattle.lite_base.specs.Runs.{Hints, NoHint, Runs}
 use Rattle.lite_merge.specs.Zip.{Pairing, Pairs, WithHeld, Zips, pair_with, pendings, zip_ranks}
 use Rattle.lite_merge.specs.declared.zip.Zip.{Zip}
@@ -72,8 +73,8 @@ module _ {A B : Type 0} where
       inl (
         n + c.0,
         c.1,
-        ap (λ z. z ++ s) d ∙ pendings_join n [] s ∙ ap (pendings n) c.2 ∙ pendings_more n c.0 [],
-        ap (λ z. z ++ m) e ∙ pendings_join n [] m ∙ ap (pendings n) c.3 ∙ pendings_more n c.0 [],
+        rw (d, c.2, pendings_join, pendings_more) refl,
+        rw (e, c.3, pendings_join, pendings_more) refl,
         c.4,
       )
   begun x k n j s l m h d e (inr c) =
@@ -82,8 +83,8 @@ module _ {A B : Type 0} where
         c.1,
         c.2,
         c.3,
-        ap (λ z. z ++ s) d ∙ pendings_join n [] s ∙ ap (pendings n) c.4 ∙ pendings_more n c.0 (Ready c.1 ∷ c.2),
-        ap (λ z. z ++ m) e ∙ pendings_join n [] m ∙ ap (pendings n) c.5 ∙ pendings_more n c.0 (pair_with x c.1 ∷ c.3),
+        rw (d, c.4, pendings_join, pendings_more) refl,
+        rw (e, c.5, pendings_join, pendings_more) refl,
         c.6,
       )
 
@@ -99,8 +100,8 @@ module _ {A B : Type 0} where
         c.1,
         c.2 ++ s,
         c.3 ++ m,
-        ap (λ z. z ++ s) c.4 ∙ pendings_join c.0 (Ready c.1 ∷ c.2) s,
-        ap (λ z. z ++ m) c.5 ∙ pendings_join c.0 (pair_with x c.1 ∷ c.3) m,
+        rw (c.4, pendings_join) refl,
+        rw (c.5, pendings_join) refl,
         rest c.2 c.3 c.6,
       )
 
@@ -108,10 +109,9 @@ module _ {A B : Type 0} where
       → Pairs i j l g → Pairing g k s m h → Pairs (i ++ k) (j ++ s) (l ++ m) h
   pairs_follow g h [] k j s l m c d = rw (c.0, c.1) (subst (λ o. Pairing o k s m h) c.2 d)
   pairs_follow g h (a ∷ i) k j s [] m c d = absurd c
-  pairs_follow g h (Pending ∷ i) k j s (b ∷ l) m c d = (c.0, pairs_follow g h i k j s l m c.1 d)
-  pairs_follow g h (Ready None ∷ i) k j s (b ∷ l) m c d = (c.0, pairs_follow g h i k j s l m c.1 d)
   pairs_follow g h (Ready (Some x) ∷ i) k j s (b ∷ l) m c d =
       goes_on x i k j s (b ∷ l) m g h (λ more rest e. pairs_follow g h i k more s rest m e d) c d
+  pairs_follow g h (a ∷ i) k j s (b ∷ l) m c d = (c.0, pairs_follow g h i k j s l m c.1 d)
 
   pairing_follow : (f g h : Option A) (i k : List (Answer A)) (j s : List (Answer B)) (l m : List (Answer (A × B)))
       → Pairing f i j l g → Pairing g k s m h → Pairing f (i ++ k) (j ++ s) (l ++ m) h
@@ -126,10 +126,6 @@ module _ {A B : Type 0} where
   pairing_empty (Some x) g i j (inl c) = (c.1, c.2 ∙ none_pending c.0 c.3, c.4)
   pairing_empty (Some x) g i j (inr c) = absurd (not_none c.0 (pair_with x c.1) c.3 c.5)
 
-  -- one answer of the second, while x is held
-  pub pending_pairs : (x : A) → WithHeld {B = B} x [] (Pairs []) (Pending ∷ []) (Pending ∷ []) (Some x)
-  pending_pairs x = inl (1, refl, refl, refl, refl)
-
   pub ready_pairs : (x : A) (b : Option B) → WithHeld x [] (Pairs []) (Ready b ∷ []) (pair_with x b ∷ []) None
   ready_pairs x b = inr (0, b, [], [], refl, refl, (refl, refl, refl))
 
@@ -139,11 +135,10 @@ module _ {A B : Type 0} where
       → Pairs i j l g → Lowers i xs us → Lowers l (held_rank xs g) (held_rank {V = A} us None)
   pairs_lowers g [] j l xs us c h = rw (c.1, c.2) (AtMost-both xs us (0 ∷ []) (0 ∷ []) h (inl refl))
   pairs_lowers g (a ∷ i) j [] xs us c h = absurd c
-  pairs_lowers g (Pending ∷ i) j (b ∷ l) xs us c h = rw c.0 (pairs_lowers g i j l xs us c.1 h)
-  pairs_lowers g (Ready None ∷ i) j (b ∷ l) xs us c h = rw c.0 (pairs_lowers g i j l xs us c.1 h)
   pairs_lowers g (Ready (Some x) ∷ i) j (b ∷ l) xs us c h =
       Lowers-below (b ∷ l) (held_rank xs g) (held_rank {V = A} us None)
       (Below-first xs us (count_held g ∷ []) (0 ∷ []) h refl)
+  pairs_lowers g (a ∷ i) j (b ∷ l) xs us c h = rw c.0 (pairs_lowers g i j l xs us c.1 h)
 
   pairing_lowers : (f g : Option A) (i : List (Answer A)) (j : List (Answer B)) (l : List (Answer (A × B)))
       (xs us : List ℕ) → Pairing f i j l g → Lowers i xs us → Lowers l (held_rank xs g) (held_rank us f)
@@ -164,12 +159,11 @@ module _ {A B : Type 0} where
       → (before : List A) × (i ≡ items before)
   came_items g [] j l c = ([], refl)
   came_items g (a ∷ i) j [] c = absurd c
-  came_items g (Pending ∷ i) j (y ∷ l) c = absurd (cc c.0)
-  came_items g (Ready None ∷ i) j (y ∷ l) c = absurd (cc c.0)
   came_items g (Ready (Some x) ∷ i) j (y ∷ l) (inl c) = (x ∷ [], ap (λ k. item x ∷ k) c.1)
   came_items g (Ready (Some x) ∷ i) j (y ∷ l) (inr c) =
       let e = came_items g i c.2 l (subst (λ k. Pairs i c.2 k g) (items_rest c.0 y l (pair_with x c.1) c.3 c.5) c.6) in
       (x ∷ e.0, ap (λ k. item x ∷ k) e.1)
+  came_items g (a ∷ i) j (y ∷ l) c = absurd (cc c.0)
 
   pairing_falls : (f g : Option A) (i : List (Answer A)) (j : List (Answer B)) (y : A × B) (l : List (A × B))
       (xs us : List ℕ)

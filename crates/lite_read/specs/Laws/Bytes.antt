@@ -4,11 +4,12 @@ use Rattle.std.proofs.Common.{add-one}
 use Rattle.std.specs.declared.io.Error.{Error}
 use Rattle.futures.specs.declared.task.Poll.TheVariants.{Ready, Pending}
 use Rattle.lite_base.specs.Answers.{Answer, items}
-use Rattle.lite_base.specs.Falling.{Lowers-below}
+use Rattle.lite_base.specs.Laws.Falling.{Lowers-below}
 use Rattle.lite_base.specs.Laws.Hint.{same_hint}
 use Rattle.lite_base.specs.Rank.{Below, Lowers}
 use Rattle.lite_base.specs.Ranks.{Counting, Ranks, ranks_of}
-use Rattle.lite_base.specs.StreamLaws.{RunLaws as StreamRunLaws, StreamLaws, laws_of}
+use Rattle.lite_base.specs.StreamLaws.{RunLaws as StreamRunLaws, StreamLaws}
+use Rattle.lite_base.specs.Laws.StreamLaws.{laws_of}
 use Rattle.lite_base.specs.Runs.{NoHint, Runs}
 use Rattle.lite_io_base.specs.Counting.{ReadCounting}
 use Rattle.lite_io_base.specs.Falls.{Falls}

@@ -7,12 +7,14 @@ use Rattle.futures.specs.declared.task.Poll.TheVariants.{Ready, Pending}
 use Rattle.lite_base.specs.Answers.{Comparable, ComparableBy, strip}
 use Rattle.lite_base.specs.Calm.{NoPending}
 use Rattle.lite_base.specs.Runs.{Runs}
+use Rattle.lite_base.specs.Segments.{Segments}
 use Rattle.lite_io_base.specs.Laws.Steady.{comparable_fronts, comparable_rest, comparable_swapped, no_wait_parts}
 use Rattle.lite_io_base.specs.Laws.Steady.{strip_marks-append, strip_marks-bytes, stripped_no_pending}
 use Rattle.lite_io_base.specs.Marks.{ReadMark, bytes}
 use Rattle.lite_io_base.specs.Steady.{NoPendingRead, SteadyReadLaws, strip_marks}
-use Rattle.lite_read.specs.ReadFold.{ReadFold, ReadFolded, ReadFolds}
-use Rattle.lite_read.specs.Laws.ReadFold.{folds_join}
+use Rattle.lite_read.specs.ReadFold.{AnswerMarks, ReadFold, ReadFolded}
+use Rattle.lite_base.specs.Laws.Calls.{folds_follow}
+use Rattle.lite_base.specs.Laws.Segments.{segment_front}
 use Rattle.lite_read.specs.Deterministic.{IsDeterministic, TaleValues}
 
 -- some bytes, and then a pending
@@ -34,34 +36,37 @@ past_value marks last rest xs now cut =
 
 module _ {M R : Type 0} (fold : ReadFold M R) where
   -- bytes that are taken in before
-  pub tale_values_behind : (p m : M) (xs : List ℕ) (t : List ReadMark) (vs : List R) → FoldsTo fold.takes p xs m
+  tale_values_behind : (p m : M) (xs : List ℕ) (t : List ReadMark) (vs : List R) → FoldsTo fold.takes p xs m
       → TaleValues fold m t vs
       → TaleValues fold p (bytes xs ++ t) vs
   tale_values_behind p m xs _ _ f (TaleValues.held _ q ys g) =
       subst (λ k. TaleValues fold p k []) (map-append ReadMark.byte xs ys)
-      (TaleValues.held p q (xs ++ ys) (folds_join fold.takes p m q xs ys f g))
+      (TaleValues.held p q (xs ++ ys) (folds_follow fold.takes p m q xs ys f g))
   tale_values_behind p m xs _ _ f (TaleValues.next _ n q ys last rest v vs g h s) =
-      let joined = folds_join fold.takes p m n xs ys f g in
+      let joined = folds_follow fold.takes p m n xs ys f g in
       let same = ap (λ k. k ++ (last ++ rest)) (map-append ReadMark.byte xs ys)
       ∙ append_assoc (bytes xs) (bytes ys) (last ++ rest) in
       subst (λ k. TaleValues fold p k (v ∷ vs)) same (TaleValues.next p n q (xs ++ ys) last rest v vs joined h s)
 
   module _ {same : R → R → Type 0} (s : IsDeterministic same fold) where
-    -- a future's segments
-    pub read_folds_values : (p q : M) (i : List ReadMark) (l : List (Poll R)) → ReadFolds fold p i l q
+    -- the values of segments
+    segments_values : (p q : M) (i : List ReadMark) (l : List (Poll R)) → Segments (AnswerMarks fold) p i l q
         → TaleValues fold p (strip_marks i) (strip l)
-    read_folds_values p q i [] h = rw h.0 (TaleValues.held p p [] refl)
-    read_folds_values p q i (Pending ∷ l) h =
-        let w = h.2 in
-        subst (λ k. TaleValues fold p k (strip l)) (sym (past_pending i h.0 w.taken w.cut))
-        (tale_values_behind p h.1 w.taken (strip_marks h.0) (strip l) w.folds (read_folds_values h.1 q h.0 l h.3))
-    read_folds_values p q i (Ready r ∷ l) h =
-        let c = h.0 in
-        let now = s.at_once c.between q c.last r c.gives in
-        let whole = past_value i c.last [] c.taken now
-        (c.cut ∙ ap (λ k. bytes c.taken ++ k) (sym (append-nil c.last))) in
-        let one = TaleValues.next p c.between q c.taken c.last [] r [] c.folds c.gives (TaleValues.held q q [] refl) in
-        rw h.1 (subst (λ k. TaleValues fold p k (r ∷ [])) (sym whole) one)
+    segments_values p q i [] h = rw h.0 (TaleValues.held p p [] refl)
+    segments_values p q i (Pending ∷ l) h =
+        let w = h.4 in
+        let cut = segment_front p h.2 i h.0 h.1 Pending w h.3 ∙ ap (λ k. bytes w.taken ++ (k ++ h.1)) w.given.0 in
+        let rest = subst (λ v. TaleValues fold v (strip_marks h.1) (strip l)) w.given.2
+        (segments_values h.2 q h.1 l h.5) in
+        subst (λ k. TaleValues fold p k (strip l)) (sym (past_pending i h.1 w.taken cut))
+        (tale_values_behind p w.between w.taken (strip_marks h.1) (strip l) w.folds rest)
+    segments_values p q i (Ready r ∷ l) h =
+        let c = h.4 in
+        let now = s.at_once c.between h.2 c.last r c.given in
+        let cut = segment_front p h.2 i h.0 h.1 (Ready r) c h.3 in
+        let rest = segments_values h.2 q h.1 l h.5 in
+        subst (λ k. TaleValues fold p k (r ∷ strip l)) (sym (past_value i c.last h.1 c.taken now cut))
+        (TaleValues.next p c.between h.2 c.taken c.last (strip_marks h.1) r (strip l) c.folds c.given rest)
 
     -- the first values of tales that begin one another
     aligned : (p x y q r : M) (xs ys : List ℕ) (l m k n : List ReadMark) (v w : R) → FoldsTo fold.takes p xs x
@@ -92,7 +97,7 @@ module _ {M R : Type 0} (fold : ReadFold M R) where
         aligned f.0 x y q r xs ys l m k n v w f.2 (subst (λ z. FoldsTo fold.takes z ys y) way g.2) h j c.1
 
     -- tales that begin one another give the same values
-    pub tale_values_alike : (p : M) (t u : List ReadMark) (vs ws : List R) → TaleValues fold p t vs
+    tale_values_alike : (p : M) (t u : List ReadMark) (vs ws : List R) → TaleValues fold p t vs
         → TaleValues fold p u ws → Comparable t u → ComparableBy same vs ws
     tale_values_alike p _ _ _ _ (TaleValues.held _ q xs f) b c = tt
     tale_values_alike p _ _ _ _ (TaleValues.next _ m q xs last rest v vs f h a) (TaleValues.held _ r ys g) c = tt
@@ -104,21 +109,29 @@ module _ {M R : Type 0} (fold : ReadFold M R) where
               (subst (λ z. TaleValues fold z more ws) (sym first.1) b) first.2,
         )
 
-    -- what a future makes of readers that are alike
-    pub read_folded_alike : {S : Type 0} {reads ample : Runs ReadMark S} {needs_none : Type 0} {alike : S → S → Type 0}
-        → SteadyReadLaws reads ample needs_none alike
-        → (x y x' y' : S) (p q r : M) (l m : List (Poll R)) → alike x y → ReadFolded fold ample x p l x' q
-        → ReadFolded fold ample y p m y' r
-        → ComparableBy same (strip l) (strip m)
-    read_folded_alike laws x y x' y' p q r l m e h k =
-        tale_values_alike p (strip_marks h.marks) (strip_marks k.marks) (strip l) (strip m)
-        (read_folds_values p q h.marks l h.folded)
-        (read_folds_values p r k.marks m k.folded) (laws.steady x y x' y' h.marks k.marks e h.came k.came)
+    -- what is made of readers that are alike
+    module _ {S : Type 0} {reads ample : Runs ReadMark S} {needs_none : Type 0} {alike : S → S → Type 0}
+        (laws : SteadyReadLaws reads ample needs_none alike) where
+      pub segments_alike : (x y x' y' : S) (p q r : M) (i j : List ReadMark) (l m : List (Poll R)) → alike x y
+          → ample x i x' → ample y j y' → Segments (AnswerMarks fold) p i l q → Segments (AnswerMarks fold) p j m r
+          → ComparableBy same (strip l) (strip m)
+      segments_alike x y x' y' p q r i j l m e a b h k =
+          tale_values_alike p (strip_marks i) (strip_marks j) (strip l) (strip m) (segments_values p q i l h)
+          (segments_values p r j m k) (laws.steady x y x' y' i j e a b)
+
+      pub read_folded_alike : (x y x' y' : S) (p q r : M) (l m : List (Poll R)) → alike x y
+          → ReadFolded fold ample x p l x' q → ReadFolded fold ample y p m y' r → ComparableBy same (strip l) (strip m)
+      read_folded_alike x y x' y' p q r l m e h k =
+          segments_alike x y x' y' p q r h.marks k.marks l m e h.came k.came h.folded.0 k.folded.0
 
   -- where no pending is told none is answered
-  pub read_folds_no_pending : (p q : M) (i : List ReadMark) (l : List (Poll R)) → NoPendingRead i
-      → ReadFolds fold p i l q → NoPending l
-  read_folds_no_pending p q i [] n h = tt
-  read_folds_no_pending p q i (Pending ∷ l) n h =
-      absurd (no_wait_parts (bytes h.2.taken) (ReadMark.pending ∷ h.0) (subst NoPendingRead h.2.cut n)).1
-  read_folds_no_pending p q i (Ready v ∷ l) n h = rw h.1 tt
+  pub segments_no_pending : (p q : M) (i : List ReadMark) (l : List (Poll R)) → NoPendingRead i
+      → Segments (AnswerMarks fold) p i l q → NoPending l
+  segments_no_pending p q i [] n h = tt
+  segments_no_pending p q i (Pending ∷ l) n h =
+      let parts = no_wait_parts h.0 h.1 (subst NoPendingRead h.3 n) in
+      let last = no_wait_parts (bytes h.4.taken) h.4.last (subst NoPendingRead h.4.cut parts.0) in
+      absurd (subst NoPendingRead h.4.given.0 last.1)
+  segments_no_pending p q i (Ready v ∷ l) n h =
+      let parts = no_wait_parts h.0 h.1 (subst NoPendingRead h.3 n) in
+      segments_no_pending h.2 q h.1 l parts.1 h.5

@@ -1,18 +1,17 @@
 -- Laws of `read_exact`.
-use Rattle.std.proofs.Common.{◌≡◌, ◌∙◌, ◌<◌, ◌-◌, ◌+◌, ℕ, List, [], ◌∷◌, ◌++◌, length, Result, refl, ap, sym, arith}
+use Rattle.std.proofs.Common.{◌≡◌, ◌∙◌, ◌<◌, ◌-◌, ◌+◌, ℕ, List, [], ◌∷◌, length, Result, refl, ap, sym, arith}
 use Rattle.std.proofs.Common.{length-append}
 use Rattle.std.proofs.lemmas.List.{length-take}
 use Rattle.std.specs.List.{FoldsTo}
 use Rattle.std.specs.declared.io.Error.{Error}
 use Rattle.futures.specs.declared.task.Poll.{Poll}
-use Rattle.lite_base.specs.Answers.{Waiting}
 use Rattle.lite_base.specs.FutureLaws.{FutureLaws}
 use Rattle.lite_base.specs.Runs.{Runs}
 use Rattle.lite_io_base.specs.Marks.{ReadMark}
 use Rattle.lite_io_base.specs.Runs.{MarkLaws}
-use Rattle.lite_read.specs.Laws.ReadFold.{read_folded_before, read_folded_follow, read_folded_none, read_folds_once}
+use Rattle.lite_read.specs.Laws.Gathers.{KeepLaws, gathers_before, gathers_laws}
 use Rattle.lite_read.specs.Filling.{ExactStays, filling_of}
-use Rattle.lite_read.specs.Laws.PollSteps.{idle_join, lent_still}
+use Rattle.lite_read.specs.Laws.PollSteps.{lent_still}
 use Rattle.lite_read.specs.ReadExact.{ReadsExactly, fills}
 use Rattle.lite_read.specs.PollSteps.{ReadsMore}
 use Rattle.lite_read.specs.declared.read_exact.ReadExactFuture.{ReadExactFuture}
@@ -44,42 +43,18 @@ module _ {R : Type 0} where
         within = λ w. k.within (h.within w);
       }
 
-  module _ {reads : Runs ReadMark R} (laws : MarkLaws reads) where
-    follows : (x y z : ReadExactFuture R) (l m : List (Poll (Result (Unit {0}) Error))) → Waiting l
-        → ReadsExactly reads x l y
-        → ReadsExactly reads y m z → ReadsExactly reads x (l ++ m) z
-    follows x y z l m w h k =
-        record {
-          folded = read_folded_follow fills laws x.reader.now y.reader.now z.reader.now (filling_of x) (filling_of y)
-              (filling_of z) l m w h.folded k.folded;
-          stays = stays_join x y z h.stays k.stays;
-          idle = idle_join x y z l m h.idle k.idle;
-        }
+  keeps : KeepLaws (λ (x : ReadExactFuture R). fills) ExactStays
+  keeps = record { none = stays_none; join = stays_join; same = λ x y k. refl }
 
+  module _ {reads : Runs ReadMark R} (laws : MarkLaws reads) where
     pub exact_laws : FutureLaws (ReadsExactly reads)
-    exact_laws =
-        record {
-          rests = λ x. record {
-            folded = read_folded_none fills laws x.reader.now (filling_of x);
-            stays = stays_none x;
-            idle = λ e. refl;
-          };
-          stays = λ x y h. h.idle refl;
-          follows = follows;
-          once = λ x y l h. read_folds_once fills (filling_of x) (filling_of y) h.folded.marks l h.folded.folded;
-        }
+    exact_laws = gathers_laws keeps laws
 
     -- a step before others
     pub step_before : (x y z : ReadExactFuture R) (a : Poll (Result (Unit {0}) Error)) → ReadsMore reads x y
         → ReadsExactly reads y (a ∷ []) z
         → ReadsExactly reads x (a ∷ []) z
-    step_before x y z a t h =
-        record {
-          folded = read_folded_before fills laws x.reader.now y.reader.now z.reader.now (filling_of x) (filling_of y)
-              (filling_of z) t.taken a t.came t.folds h.folded;
-          stays = stays_join x y z t.stays h.stays;
-          idle = λ e. absurd (cc e);
-        }
+    step_before = gathers_before keeps laws (λ x y k. k)
 
   -- the room that is left falls
   pub room_falls : {reads : Runs ReadMark R} (x y : ReadExactFuture R) → ReadsMore reads x y

@@ -4,8 +4,8 @@ use Rattle.std.proofs.Common.{length-append, append-nil, append_assoc, length-ta
 use Rattle.std.specs.List.{FoldsTo}
 use Rattle.std.specs.declared.io.Error.{Error}
 use Rattle.futures.specs.declared.task.Poll.{Poll}
-use Rattle.lite_base.specs.Answers.{Waiting}
-use Rattle.lite_base.specs.Ends.{Terminates, Terminates-map}
+use Rattle.lite_base.specs.Ends.{Terminates}
+use Rattle.lite_base.specs.Laws.Ends.{Terminates-map}
 use Rattle.lite_base.specs.FutureLaws.{FutureLaws}
 use Rattle.lite_base.specs.Ranks.{Ranks}
 use Rattle.lite_base.specs.Runs.{Runs}
@@ -13,9 +13,9 @@ use Rattle.lite_io_base.specs.Counting.{ReadCounting}
 use Rattle.lite_io_base.specs.Laws.Falls.{GivenRun}
 use Rattle.lite_io_base.specs.Marks.{ReadMark, bytes}
 use Rattle.lite_io_base.specs.Runs.{MarkLaws}
-use Rattle.lite_read.specs.Laws.ReadFold.{read_folded_before, read_folded_follow, read_folded_none, read_folds_once}
+use Rattle.lite_read.specs.Laws.Gathers.{KeepLaws, gathers_before, gathers_laws}
 use Rattle.lite_read.specs.Appending.{CanAppend, ToEndStays, read_front}
-use Rattle.lite_read.specs.Laws.PollSteps.{idle_join, lent_still, takes_given}
+use Rattle.lite_read.specs.Laws.PollSteps.{lent_still, takes_given}
 use Rattle.lite_read.specs.ReadToEnd.{ReadsToEnd, appends}
 use Rattle.lite_read.specs.PollSteps.{AnswersUntrimmed, ReadsSome}
 use Rattle.lite_read.specs.declared.read_to_end.ReadToEndFuture.{ReadToEndFuture}
@@ -69,40 +69,16 @@ module _ {R A : Type 0} where
           counts = c.counts_on x.reader.now y.reader.now (bytes t.taken) can.counts t.came;
         }
 
-  module _ (m : Type 0) {reads : Runs ReadMark R} (laws : MarkLaws reads) where
-    follows : (x y z : ReadToEndFuture R A) (l k : List (Poll (Result ℕ Error))) → Waiting l → ReadsToEnd m reads x l y
-        → ReadsToEnd m reads y k z → ReadsToEnd m reads x (l ++ k) z
-    follows x y z l k w h j =
-        let later = rw h.stays.start at j.folded in
-        record {
-          folded = read_folded_follow
-              (appends m x.start) laws x.reader.now y.reader.now z.reader.now x.buf.now.items y.buf.now.items
-              z.buf.now.items l k w h.folded later;
-          stays = stays_join x y z h.stays j.stays;
-          idle = idle_join x y z l k h.idle j.idle;
-        }
+  keeps : (m : Type 0) → KeepLaws (λ (x : ReadToEndFuture R A). appends m x.start) ToEndStays
+  keeps m = record { none = stays_none; join = stays_join; same = λ x y k. ap (appends m) k.start }
 
+  module _ (m : Type 0) {reads : Runs ReadMark R} (laws : MarkLaws reads) where
     pub append_laws : FutureLaws (ReadsToEnd {A = A} m reads)
-    append_laws =
-        record {
-          rests = λ x. record {
-            folded = read_folded_none (appends m x.start) laws x.reader.now x.buf.now.items;
-            stays = stays_none x;
-            idle = λ e. refl;
-          };
-          stays = λ x y h. h.idle refl;
-          follows = follows;
-          once = λ x y l h. read_folds_once
-              (appends m x.start) x.buf.now.items y.buf.now.items h.folded.marks l h.folded.folded;
-        }
+    append_laws = gathers_laws (keeps m) laws
 
     -- a step before others
     pub step_before : (x y z : ReadToEndFuture R A) (a : Poll (Result ℕ Error)) → ReadsSome m reads x y
         → AnswersUntrimmed m reads y a z → AnswersUntrimmed m reads x a z
-    step_before x y z a t h =
-        let later = rw t.stays.0.start at h.folded in
-        record {
-          folded = read_folded_before (appends m x.start) laws x.reader.now y.reader.now z.reader.now (read_front x)
-              (read_front y) (read_front z) t.taken a t.came t.folds later;
-          stays = stays_join x y z t.stays.0 h.stays;
-        }
+    step_before =
+        gathers_before {Steps = λ x y. ToEndStays x y × (y.filled ≤ length y.buf.now.items)} (keeps m) laws
+        (λ x y k. k.0)

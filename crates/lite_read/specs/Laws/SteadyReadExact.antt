@@ -5,16 +5,15 @@ use Rattle.std.specs.declared.io.ErrorKind.{ErrorKind}
 use Rattle.std.specs.declared.io.ErrorKind.TheVariants.{UnexpectedEof}
 use Rattle.std.specs.declared.io.Error.{Error}
 use Rattle.futures.specs.declared.task.Poll.{Poll}
-use Rattle.lite_base.specs.Answers.{Comparable, ComparableBy, strip}
+use Rattle.lite_base.specs.Answers.{Comparable}
 use Rattle.lite_base.specs.Calm.{CalmLaws}
 use Rattle.lite_base.specs.Alike.{Sameness}
 use Rattle.lite_base.specs.Steady.{FutureSteadyLawsBy}
 use Rattle.lite_base.specs.Runs.{Runs}
 use Rattle.lite_io_base.specs.Marks.{ReadMark}
 use Rattle.lite_io_base.specs.Steady.{CalmReadLaws, NoPendingRead, SteadyReadLaws}
-use Rattle.lite_read.specs.ReadFold.{ReadFolded}
 use Rattle.lite_read.specs.Laws.ReadExact.{exact_laws}
-use Rattle.lite_read.specs.Laws.Deterministic.{read_folded_alike, read_folds_no_pending}
+use Rattle.lite_read.specs.Laws.Gathers.{gathers_alike, gathers_calm}
 use Rattle.lite_read.specs.Filling.{Filling, filling_of}
 use Rattle.lite_read.specs.ReadExact.{Fulfils, HasRoom, ReadsExactly, fills}
 use Rattle.lite_read.specs.Deterministic.{IsDeterministic, SameByKind}
@@ -83,14 +82,6 @@ ExactAlike alike x y = alike x.reader.now y.reader.now × (filling_of x ≡ fill
 module _ {R : Type 0} {reads : Runs ReadMark R} where
   module _ {ample : Runs ReadMark R} {needs_none : Type 0} {alike : R → R → Type 0}
       (s : SteadyReadLaws reads ample needs_none alike) where
-    one_answer : (x y : ReadExactFuture R) (l m : List (Poll (Result (Unit {0}) Error))) (x' y' : ReadExactFuture R)
-        → ExactAlike alike x y → ReadsExactly ample x l x'
-        → ReadsExactly ample y m y' → ComparableBy SameByKind (strip l) (strip m)
-    one_answer x y l m x' y' e h k =
-        read_folded_alike fills fills_deterministic s x.reader.now y.reader.now x'.reader.now y'.reader.now
-        (filling_of x) (filling_of x') (filling_of y') l m e.0 h.folded
-        (subst (λ p. ReadFolded fills ample y.reader.now p m y'.reader.now (filling_of y')) (sym e.1) k.folded)
-
     all_ample : needs_none → (x y : ReadExactFuture R) (l : List (Poll (Result (Unit {0}) Error)))
         → ReadsExactly reads x l y → ReadsExactly ample x l y
     all_ample n x y l h =
@@ -102,17 +93,10 @@ module _ {R : Type 0} {reads : Runs ReadMark R} where
         (ExactAlike alike)
     exact_steady = record {
       laws = exact_laws s.laws;
-      steady = λ x y e l m x' y'. one_answer x y l m x' y' e;
+      steady = λ x y e. gathers_alike (λ x. fills_deterministic) s x y e.0 e.1 refl;
       found = all_ample;
     }
 
   pub exact_calm : {is_calm : R → Type 0} → CalmReadLaws reads is_calm
       → CalmLaws (ReadsExactly reads) (λ x. is_calm x.reader.now)
-  exact_calm c =
-      record {
-        no_pending = λ x y l k h.
-            read_folds_no_pending fills (filling_of x) (filling_of y) h.folded.marks l
-            (c.no_pending x.reader.now y.reader.now h.folded.marks k h.folded.came)
-            h.folded.folded;
-        calm_on = λ x y l k h. c.calm_on x.reader.now y.reader.now h.folded.marks k h.folded.came;
-      }
+  exact_calm = gathers_calm

@@ -1,20 +1,18 @@
 -- `read_to_end` is steady over a steady reader, where memory was found, and calm over a calm one.
 use Rattle.std.specs.Prelude.{⊤}
-use Rattle.std.proofs.Common.{◌≡◌, ◌∙◌, ◌+◌, ℕ, List, [], ◌∷◌, length, Result, Ok, Err, refl, sym, ap, subst, arith}
+use Rattle.std.proofs.Common.{◌≡◌, ◌∙◌, ◌+◌, ℕ, List, [], ◌∷◌, length, Result, Ok, Err, refl, sym, ap, arith}
 use Rattle.std.specs.IoError.{error_kind}
 use Rattle.std.specs.declared.io.Error.{Error}
 use Rattle.std.specs.declared.io.ErrorKind.{ErrorKind}
-use Rattle.futures.specs.declared.task.Poll.{Poll}
-use Rattle.lite_base.specs.Answers.{Comparable, ComparableBy, strip}
+use Rattle.lite_base.specs.Answers.{Comparable}
 use Rattle.lite_base.specs.Calm.{CalmLaws}
 use Rattle.lite_base.specs.Alike.{Sameness}
 use Rattle.lite_base.specs.Steady.{FutureSteadyLawsBy}
 use Rattle.lite_base.specs.Runs.{Runs}
 use Rattle.lite_io_base.specs.Marks.{ReadMark}
 use Rattle.lite_io_base.specs.Steady.{CalmReadLaws, NoPendingRead, SteadyReadLaws}
-use Rattle.lite_read.specs.ReadFold.{ReadFolded}
 use Rattle.lite_read.specs.Laws.ReadToEnd.{append_laws}
-use Rattle.lite_read.specs.Laws.Deterministic.{read_folded_alike, read_folds_no_pending}
+use Rattle.lite_read.specs.Laws.Gathers.{gathers_alike, gathers_calm}
 use Rattle.lite_read.specs.ReadToEnd.{Appended, ReadsToEnd, appends}
 use Rattle.lite_read.specs.Deterministic.{IsDeterministic, SameByKind}
 use Rattle.lite_read.specs.declared.read_to_end.ReadToEndFuture.{ReadToEndFuture}
@@ -81,34 +79,14 @@ module _ {R A : Type 0} where
   module _ {reads : Runs ReadMark R} where
     module _ {ample : Runs ReadMark R} {needs_none : Type 0} {alike : R → R → Type 0}
         (s : SteadyReadLaws reads ample needs_none alike) where
-      one_answer : (x y : ReadToEndFuture R A) (l m : List (Poll (Result ℕ Error))) (x' y' : ReadToEndFuture R A)
-          → ToEndAlike alike x y
-          → ReadsToEnd ⊥ ample x l x' → ReadsToEnd ⊥ ample y m y' → ComparableBy SameByKind (strip l) (strip m)
-      one_answer x y l m x' y' e h k =
-          let begun = subst
-          (λ n. ReadFolded (appends ⊥ n) ample y.reader.now (bytes_held y) m y'.reader.now (bytes_held y'))
-          (sym e.2) k.folded in
-          let other = subst (λ p. ReadFolded (appends ⊥ x.start) ample y.reader.now p m y'.reader.now (bytes_held y'))
-          (sym e.1) begun in
-          read_folded_alike (appends ⊥ x.start)
-          (appends_deterministic x.start) s x.reader.now y.reader.now x'.reader.now y'.reader.now (bytes_held x)
-          (bytes_held x')
-          (bytes_held y') l m e.0 h.folded other
-
       pub to_end_steady : FutureSteadyLawsBy (Sameness.by SameByKind) (ReadsToEnd ⊤ reads) (ReadsToEnd ⊥ ample) ⊥
           (ToEndAlike alike)
       to_end_steady = record {
         laws = append_laws ⊥ s.laws;
-        steady = λ x y e l m x' y'. one_answer x y l m x' y' e;
+        steady = λ x y e. gathers_alike (λ x. appends_deterministic x.start) s x y e.0 e.1 (ap (appends ⊥) (sym e.2));
         found = λ n. absurd n;
       }
 
     pub to_end_calm : {is_calm : R → Type 0} → CalmReadLaws reads is_calm
         → CalmLaws (ReadsToEnd ⊤ reads) (λ (x : ReadToEndFuture R A). is_calm x.reader.now)
-    to_end_calm c =
-        record {
-          no_pending = λ x y l k h.
-              read_folds_no_pending (appends ⊤ x.start) (bytes_held x) (bytes_held y) h.folded.marks l
-              (c.no_pending x.reader.now y.reader.now h.folded.marks k h.folded.came) h.folded.folded;
-          calm_on = λ x y l k h. c.calm_on x.reader.now y.reader.now h.folded.marks k h.folded.came;
-        }
+    to_end_calm = gathers_calm

@@ -1,5 +1,5 @@
 -- Laws of sources that never change.
-use Rattle.std.proofs.Common.{◌≡◌, ◌≤◌, ◌∙◌, ℕ, List, [], ◌∷◌, ◌++◌, Option, Some, None, refl, inl, subst, arith}
+use Rattle.std.proofs.Common.{◌≡◌, ◌≤◌, ◌∙◌, ℕ, List, [], ◌∷◌, ◌++◌, Option, Some, refl, inl, subst, arith}
 use Rattle.std.specs.Prelude.{IfSome}
 use Rattle.std.specs.List.{AllByRecursion}
 use Rattle.futures.specs.declared.task.Poll.TheVariants.{Ready, Pending}
@@ -16,16 +16,14 @@ module _ {A : Type 0} (may : Answer A → Type 0) where
   -- where no item may come
   module _ (none : (x : A) → may (item x) → ⊥) where
     no_items : (l : List (Answer A)) → AllByRecursion may l → before_end l ≤ 0
-    no_items [] h = omega arith
     no_items (Pending ∷ l) h = no_items l h.1
-    no_items (Ready None ∷ l) h = omega arith
     no_items (Ready (Some x) ∷ l) h = absurd (none x h.0)
+    no_items l h = omega arith
 
     pub no_items_lower : (l : List (Answer A)) (xs ys : List ℕ) → AllByRecursion may l → AtMost xs ys → Lowers l xs ys
     no_items_lower [] xs ys h e = e
-    no_items_lower (Pending ∷ l) xs ys h e = no_items_lower l xs ys h.1 e
-    no_items_lower (Ready None ∷ l) xs ys h e = no_items_lower l xs ys h.1 e
     no_items_lower (Ready (Some x) ∷ l) xs ys h e = absurd (none x h.0)
+    no_items_lower (a ∷ l) xs ys h e = no_items_lower l xs ys h.1 e
 
 module _ {S A : Type 0} (may : S → Answer A → Type 0) where
   always_follow : (x y z : S) (l m : List (Answer A)) → Unchanging may x l y → Unchanging may y m z

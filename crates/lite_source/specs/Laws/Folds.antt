@@ -8,7 +8,8 @@ use Rattle.lite_base.specs.Answers.{Answer, Comparable, strip}
 use Rattle.lite_base.specs.Calm.{CalmLaws, NoPending}
 use Rattle.lite_base.specs.Laws.Calls.{folds_follow}
 use Rattle.lite_base.specs.Laws.Hint.{same_hint}
-use Rattle.lite_base.specs.Steady.{SteadyLaws, steady_always}
+use Rattle.lite_base.specs.Steady.{SteadyLaws}
+use Rattle.lite_base.specs.Laws.Steady.{steady_always}
 use Rattle.lite_base.specs.StreamLaws.{StreamLaws}
 
 -- `part` of the source is what changes, by `next` at each poll, and all that it holds

@@ -1,12 +1,11 @@
 -- Laws of `iter`.
 use Rattle.std.specs.Prelude.{IfSome}
-use Rattle.std.proofs.Common.{◌≤◌, ◌<◌, sym, ℕ, List, [], ◌∷◌, ◌++◌, Option, Some, None, refl, ap, subst, arith, inl}
-use Rattle.std.proofs.Common.{inr}
+use Rattle.std.proofs.Common.{◌≤◌, sym, ℕ, List, [], ◌∷◌, ◌++◌, Option, Some, None, refl, ap, subst, arith, inl, inr}
 use Rattle.std.proofs.Math.Nat.{eq-or-lt_of_le}
 use Rattle.std.specs.Iterator.{Count, IsFinite, MakesProgress, UpTo, size}
 use Rattle.futures.specs.declared.task.Poll.TheVariants.{Ready, Pending}
 use Rattle.lite_base.specs.Answers.{Answer, before_end, items}
-use Rattle.lite_base.specs.Falling.{Below-one, Lowers-at_most}
+use Rattle.lite_base.specs.Laws.Falling.{Below-one, Lowers-at_most}
 use Rattle.lite_base.specs.Laws.Calls.{folds_follow}
 use Rattle.lite_base.specs.Rank.{AtMost, Below, Lowers}
 use Rattle.lite_base.specs.Ranks.{Counting}
@@ -17,7 +16,7 @@ use Rattle.lite_source.specs.declared.iter.Iter.{Iter}
 up_to : (most : Option ℕ) (count : Count) (n : ℕ) → (IsFinite count → n ≤ size count) → IfSome most (UpTo count)
     → IfSome most (λ m. n ≤ m)
 up_to None count n h b = tt
-up_to (Some m) count n h b = let e = h b.0 in let k : size count ≤ m = b.1 in omega arith
+up_to (Some m) count n h b = omega (arith, h b.0, b.1)
 
 at_most_one : (m n : ℕ) → m ≤ n → AtMost (m ∷ []) (n ∷ [])
 at_most_one m n h = elim (eq-or-lt_of_le h) [ inl e ↦ inl (ap (λ k. k ∷ []) e) | inr p ↦ inr (inl (p, refl)) ]
@@ -47,14 +46,10 @@ module _ {I A : Type 0} (can : I → Type 0) (gives : I → Option A → I → T
 
   no_more : (i j : I) (l : List (Answer A)) → Iterates can gives remaining i l j → IsFinite (remaining i)
       → before_end l ≤ size (remaining i)
-  no_more i j [] h f = omega arith
   no_more i j (Pending ∷ l) h f = absurd h.1
-  no_more i j (Ready None ∷ l) h f = omega arith
   no_more i j (Ready (Some x) ∷ l) h f =
-      let on = h.1.1.on f in
-      let less : size (remaining h.0) < size (remaining i) = on.2 in
-      let e = no_more h.0 j l h.2 on.1 in
-      omega arith
+      let on = h.1.1.on f in omega (arith, on.2, no_more h.0 j l h.2 on.1)
+  no_more i j l h f = omega arith
 
   iter_bounded : (i j : I) (most : Option ℕ) (l : List (Answer A)) → IfSome most (UpTo (remaining i))
       → Iterates can gives remaining i l j → IfSome most (λ m. before_end l ≤ m)
@@ -64,18 +59,12 @@ module _ {I A : Type 0} (can : I → Type 0) (gives : I → Option A → I → T
       → size (remaining j) ≤ size (remaining i)
   items_lower i j [] f h = subst (λ k. size (remaining k) ≤ size (remaining i)) h (omega arith)
   items_lower i j (x ∷ l) f h =
-      let on = h.1.1.on f in
-      let less : size (remaining h.0) < size (remaining i) = on.2 in
-      let e = items_lower h.0 j l on.1 h.2 in
-      omega arith
+      let on = h.1.1.on f in omega (arith, on.2, items_lower h.0 j l on.1 h.2)
 
   iter_falls : (i j : I) (a : A) (more : List A) → IsFinite (remaining i)
       → Iterates can gives remaining i (items (a ∷ more)) j → Below (size (remaining j) ∷ []) (size (remaining i) ∷ [])
   iter_falls i j a more f h =
-      let on = h.1.1.on f in
-      let less : size (remaining h.0) < size (remaining i) = on.2 in
-      let e = items_lower h.0 j more on.1 h.2 in
-      inl (omega arith, refl)
+      let on = h.1.1.on f in inl (omega (arith, on.2, items_lower h.0 j more on.1 h.2), refl)
 
   lowers_from : (i j : I) (n : ℕ) (l : List (Answer A)) → size (remaining i) ≤ n → IsFinite (remaining i)
       → NeverRaised can gives remaining i → Iterates can gives remaining i l j
@@ -88,10 +77,9 @@ module _ {I A : Type 0} (can : I → Type 0) (gives : I → Option A → I → T
       (never_on i h.0 (Ready None ∷ []) r (h.0, h.1, refl)) h.2
   lowers_from i j n (Ready (Some x) ∷ l) least f r h =
       let on = h.1.1.on f in
-      let less : size (remaining h.0) < size (remaining i) = on.2 in
       let e = lowers_from h.0 j (size (remaining h.0)) l (omega arith) on.1
       (never_on i h.0 (Ready (Some x) ∷ []) r (h.0, h.1, refl)) h.2 in
-      Below-one (Lowers-at_most l _ _ e) (omega (arith, less, least))
+      Below-one (Lowers-at_most l _ _ e) (omega (arith, on.2, least))
 
   iter_lowers : (i j : I) (l : List (Answer A)) → IsFinite (remaining i) → NeverRaised can gives remaining i
       → Iterates can gives remaining i l j → Lowers l (size (remaining j) ∷ []) (size (remaining i) ∷ [])

@@ -27,9 +27,6 @@ iter_alike can gives remaining agree step i j a =
     folds_alike (Nexts can gives remaining) agree (λ p q r b h. absurd h) (λ p q r b h. absurd h)
     (λ p q r s x y b h k. step p q r s x y b h.0 k.0) i j a
 
-heads : {A : Type 0} (x y : A) (l m : List A) → x ∷ l ≡ y ∷ m → (x ≡ y) × (l ≡ m)
-heads x y l m e = (cc e, cc e)
-
 -- what is left comes off its front, until nothing is
 module _ {I A : Type 0} (left : I → List A) where
   abbrev FromFront : I → Option A → I → Type 0
@@ -43,8 +40,7 @@ module _ {I A : Type 0} (left : I → List A) where
   front_step i j p q None None e h k = (refl, rw (h.1, k.1) e)
   front_step i j p q None (Some y) e h k = absurd (nothing_comes i y (left q) h.0 (e ∙ k))
   front_step i j p q (Some x) None e h k = absurd (nothing_comes j x (left p) k.0 (sym e ∙ h))
-  front_step i j p q (Some x) (Some y) e h k =
-      let both = heads x y (left p) (left q) (sym h ∙ e ∙ k) in (ap (λ v. Some v) both.0, both.1)
+  front_step i j p q (Some x) (Some y) e h k = (cc (h, e, k), cc (h, e, k))
 
 module _ {A : Type 0} where
   pub array_alike : {n : ℕ} (can : ArrayIter A n → Type 0) (remaining : ArrayIter A n → Count) (i j : ArrayIter A n)
@@ -68,9 +64,7 @@ module _ {A : Type 0} where
       from_front None None a b c d = (c ∙ sym d, ap iter_rest a.1 ∙ e ∙ sym (ap iter_rest b.1))
       from_front None (Some y) a b c d = absurd (nothing_comes slice_items i y.now (slice_items q) a.0 (e ∙ b))
       from_front (Some x) None a b c d = absurd (nothing_comes slice_items j x.now (slice_items p) b.0 (sym e ∙ a))
-      from_front (Some x) (Some y) a b c d =
-          let both = heads x.now y.now (slice_items p) (slice_items q) (sym a ∙ e ∙ b) in
-          (c ∙ ap (λ v. Some v) both.0 ∙ sym d, both.1)
+      from_front (Some x) (Some y) a b c d = (cc (a, b, c, d, e), cc (a, b, e))
 
   -- the items of slices, by value: of a reference nothing says where it points
   pub slice_alike : (can : Copied (SliceIter A) → Type 0) (remaining : Copied (SliceIter A) → Count)
@@ -89,10 +83,9 @@ module _ {A : Type 0} (gap : A → A → ℕ) (follows : A → A → Type 0)
       → range_steps gap follows j s q → (r ≡ s) × SameEnds p q
   range_step i j p q None None e h k = (refl, (h.1.1 ∙ e.0 ∙ sym k.1.1, h.0 ∙ e.1 ∙ sym k.0))
   range_step i j p q None (Some y) e h k =
-      absurd (let more = k.1.0 in let none : gap j.start j.end ≡ 0 =
-      subst (λ v. gap v j.end ≡ 0) e.0 (subst (λ v. gap i.start v ≡ 0) e.1 h.1.0) in omega (arith, more, none))
+      absurd (let none = rw (e.0, e.1) at h.1.0 in omega (arith, k.1.0, none))
   range_step i j p q (Some x) None e h k =
-      absurd (let more = h.1.0 in let none : gap i.start i.end ≡ 0 = rw (e.0, e.1) k.1.0 in omega (arith, more, none))
+      absurd (let none : gap i.start i.end ≡ 0 = rw (e.0, e.1) k.1.0 in omega (arith, h.1.0, none))
   range_step i j p q (Some x) (Some y) e h k =
       let first : x ≡ y = h.1.1 ∙ e.0 ∙ sym k.1.1 in
       let next : p.start ≡ q.start = one j.start p.start q.start (subst (λ v. follows v p.start) e.0 h.1.2) k.1.2 in
@@ -114,8 +107,7 @@ module _ {A Z : Type 0} where
   left_step i j p q (Some x) None e h k = absurd (omega (arith, e.0, h.1, k.0))
   left_step i j p q (Some x) (Some y) e h k =
       let same : into_iter_items i ≡ into_iter_items j = e.1 (omega (arith, h.1)) in
-      let both = heads x y (into_iter_items p) (into_iter_items q) (sym h.0 ∙ same ∙ k.0) in
-      (ap (λ v. Some v) both.0, (omega (arith, e.0, h.1, k.1), λ more. both.1))
+      (cc (h.0, same, k.0), (omega (arith, e.0, h.1, k.1), λ more. cc (h.0, same, k.0)))
 
   pub vec_alike : (can : IntoIter A Z → Type 0) (remaining : IntoIter A Z → Count) (i j : IntoIter A Z)
       → into_iter_len i ≡ into_iter_len j → into_iter_items i ≡ into_iter_items j

@@ -3,7 +3,8 @@ use Rattle.std.specs.Prelude.{⊤}
 use Rattle.std.proofs.Common.{◌≡◌, length, Option, Some, None, refl}
 use Rattle.lite_base.specs.Calm.{CalmLaws, NoPending}
 use Rattle.lite_base.specs.Laws.Hint.{same_hint}
-use Rattle.lite_base.specs.Ranks.{Counting, number_counting}
+use Rattle.lite_base.specs.Ranks.{Counting}
+use Rattle.lite_base.specs.Laws.Ranks.{number_counting}
 use Rattle.lite_base.specs.Steady.{Steadiness}
 use Rattle.lite_base.specs.StreamLaws.{StreamLaws}
 use Rattle.lite_source.specs.Once.{GivesOnce, once_left, once_ranks}
@@ -12,9 +13,8 @@ use Rattle.lite_source.specs.Laws.Script.{gives_bounded, gives_calm, gives_follo
 module _ {A : Type 0} where
   held_same : (a b : Option A) → once_left b ≡ once_left a → b ≡ a
   held_same None None e = refl
-  held_same None (Some y) e = absurd (cc e)
-  held_same (Some x) None e = absurd (cc e)
   held_same (Some x) (Some y) e = cc e
+  held_same a b e = absurd (cc e)
 
   pub once_laws : StreamLaws (GivesOnce {A = A})
       (λ x hint. hint ≡ (length (once_left x.value), Some (length (once_left x.value))))

@@ -8,19 +8,21 @@ use Rattle.futures.specs.declared.task.Poll.TheVariants.{Ready, Pending}
 use Rattle.lite_base.specs.Alike.{OptionBy, SameAnswer, SameItem, Sameness}
 use Rattle.lite_base.specs.Answers.{Answer, ComparableBy, Waiting, end, strip}
 use Rattle.lite_base.specs.Calm.{CalmLaws, NoPending}
-use Rattle.lite_base.specs.Falling.{Lowers-below}
+use Rattle.lite_base.specs.Laws.Falling.{Lowers-below}
 use Rattle.lite_base.specs.Future.Spent.{Spends}
 use Rattle.lite_base.specs.FutureLaws.{FutureLaws}
 use Rattle.lite_base.specs.Laws.Alike.{alike_agrees, comparable_nil, ends_same, same_answer}
 use Rattle.lite_base.specs.Laws.All.{all_append}
-use Rattle.lite_base.specs.Laws.Calm.{no_pending_join}
+use Rattle.lite_base.specs.Laws.Calm.{calm_both, no_pending_join}
 use Rattle.lite_base.specs.Laws.Future.Handed.{handed_gives, handed_no_pending, handed_waits}
 use Rattle.lite_base.specs.Laws.Future.Spent.{spends_found, spends_follow, spends_rest, spends_stay}
 use Rattle.lite_base.specs.Laws.Hint.{same_hint}
 use Rattle.lite_base.specs.Rank.{AtMost, Lowers}
-use Rattle.lite_base.specs.Ranks.{Counting, number_counting}
+use Rattle.lite_base.specs.Ranks.{Counting}
+use Rattle.lite_base.specs.Laws.Ranks.{number_counting}
 use Rattle.lite_base.specs.Steady.{FutureSteadyLawsBy, SteadinessBy, SteadyLawsBy}
-use Rattle.lite_base.specs.StreamLaws.{StreamLaws, runs_of}
+use Rattle.lite_base.specs.StreamLaws.{StreamLaws}
+use Rattle.lite_base.specs.Laws.StreamLaws.{runs_of}
 use Rattle.lite_base.specs.Future.Handed.{handed}
 use Rattle.lite_base.specs.Runs.{NoHint, Runs}
 use Rattle.lite_source.specs.OnceFuture.{GivesFuture, once_future_ranks}
@@ -63,8 +65,6 @@ module _ {F A : Type 0} (same : Sameness A) {run : Runs (Poll A) F} {alike : F �
       → Handing run g m g'
       → ComparableBy (SameAnswer same) (strip l) (strip m)
   handing_same None None f' g' l m e h k = answers_same None (SameAnswer same) (ends_same same) l m h.0 k.0
-  handing_same None (Some g) f' g' l m e h k = absurd e
-  handing_same (Some f) None f' g' l m e h k = absurd e
   handing_same (Some f) (Some g) (Some f') g' l m e h k =
       let none = ap strip h.3 ∙ handed_waits (λ v. Some v) h.0 h.1 in rw none tt
   handing_same (Some f) (Some g) None (Some g') l m e h k =
@@ -79,6 +79,7 @@ module _ {F A : Type 0} (same : Sameness A) {run : Runs (Poll A) F} {alike : F �
         same_answer same h.value k.value values,
         answers_same None (SameAnswer same) (ends_same same) h.after k.after h.later k.later,
       )
+  handing_same f g f' g' l m e h k = absurd e
 
 pub once_future_steady : {F A : Type 0} (same : Sameness A) {run ample : Runs (Poll A) F} {needs_none : Type 0}
     {alike : F → F → Type 0}
@@ -107,8 +108,4 @@ module _ {F A : Type 0} {run : Runs (Poll A) F} {is_calm : F → Type 0} (c : Ca
       )
 
   pub once_future_calm : CalmLaws (GivesFuture run) (λ x. IfSome x.future is_calm)
-  once_future_calm =
-      record {
-        no_pending = λ x y l k h. (handing_calm x.future y.future l k h).0;
-        calm_on = λ x y l k h. (handing_calm x.future y.future l k h).1;
-      }
+  once_future_calm = calm_both (λ x y. handing_calm x.future y.future)

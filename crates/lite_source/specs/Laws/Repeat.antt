@@ -1,15 +1,15 @@
 -- Laws of `repeat`.
 use Rattle.std.specs.Prelude.{⊤, Result, Ok, Err}
-use Rattle.std.proofs.Common.{◌≡◌, ℕ, List, [], ◌∷◌, Some, None, ap, refl}
+use Rattle.std.proofs.Common.{◌≡◌, ℕ, List, [], ◌∷◌, Some, None, ap}
 use Rattle.std.specs.List.{AllByRecursion}
 use Rattle.futures.specs.declared.task.Poll.TheVariants.{Ready, Pending}
-use Rattle.lite_base.specs.Answers.{Answer, Comparable, item, strip}
+use Rattle.lite_base.specs.Answers.{Answer, Comparable, strip}
 use Rattle.lite_base.specs.Calm.{CalmLaws, NoPending}
 use Rattle.lite_base.specs.Steady.{SteadyLaws}
-use Rattle.lite_base.specs.StreamLaws.{StreamLaws, runs_of}
+use Rattle.lite_base.specs.StreamLaws.{StreamLaws}
+use Rattle.lite_base.specs.Laws.StreamLaws.{runs_of}
 use Rattle.lite_source.specs.Repeat.{IsCloned, Repeats, SameClones}
 use Rattle.lite_source.specs.Laws.Always.{always_laws}
-use Rattle.lite_source.specs.declared.repeat.Repeat.{Repeat}
 
 module _ {A E : Type 0} (is_clone : A → A → Type 0) (is_infallible : A → Type 0) where
   -- its hint bounds nothing
@@ -19,39 +19,22 @@ module _ {A E : Type 0} (is_clone : A → A → Type 0) (is_infallible : A → T
   clones_found : ((x : A) → is_infallible x) → (own : A) (l : List (Answer (Result A E)))
       → AllByRecursion (IsCloned is_clone is_infallible own) l → AllByRecursion (IsCloned is_clone (λ _. ⊤) own) l
   clones_found n own [] h = tt
-  clones_found n own (Pending ∷ l) h = absurd h.0
-  clones_found n own (Ready None ∷ l) h = absurd h.0
   clones_found n own (Ready (Some (Ok v)) ∷ l) h = (h.0, clones_found n own l h.1)
   clones_found n own (Ready (Some (Err e)) ∷ l) h = absurd (h.0 (n own))
-
-  -- a run without a refused item is one in which memory was found
-  unrefused : (own : A) (l : List (Answer (Result A E))) → AllByRecursion (λ a. (e : E) → a ≡ item (Err e) → ⊥) l
-      → AllByRecursion (IsCloned is_clone is_infallible own) l
-      → AllByRecursion (IsCloned is_clone (λ _. ⊤) own) l
-  unrefused own [] none h = tt
-  unrefused own (Pending ∷ l) none h = absurd h.0
-  unrefused own (Ready None ∷ l) none h = absurd h.0
-  unrefused own (Ready (Some (Ok v)) ∷ l) none h = (h.0, unrefused own l none.1 h.1)
-  unrefused own (Ready (Some (Err e)) ∷ l) none h = absurd (none.0 e refl)
-
-  pub repeat_ample : (x y : Repeat A) (l : List (Answer (Result A E)))
-      → AllByRecursion (λ a. (e : E) → a ≡ item (Err e) → ⊥) l → Repeats is_clone is_infallible x l y
-      → Repeats is_clone (λ _. ⊤) x l y
-  repeat_ample x y l none h = (unrefused x.item l none h.0, h.1)
+  clones_found n own (a ∷ l) h = absurd h.0
 
   clones_same : (own other : A) → SameClones is_clone own other → (l m : List (Answer (Result A E)))
       → AllByRecursion (IsCloned is_clone (λ _. ⊤) own) l → AllByRecursion (IsCloned is_clone (λ _. ⊤) other) m
       → Comparable (strip l) (strip m)
-  clones_same own other e [] m h k = tt
   clones_same own other e (Pending ∷ l) m h k = absurd h.0
   clones_same own other e (Ready None ∷ l) m h k = absurd h.0
   clones_same own other e (Ready (Some (Err x)) ∷ l) m h k = absurd (h.0 tt)
-  clones_same own other e (Ready (Some (Ok v)) ∷ l) [] h k = tt
   clones_same own other e (Ready (Some (Ok v)) ∷ l) (Pending ∷ m) h k = absurd k.0
   clones_same own other e (Ready (Some (Ok v)) ∷ l) (Ready None ∷ m) h k = absurd k.0
   clones_same own other e (Ready (Some (Ok v)) ∷ l) (Ready (Some (Err x)) ∷ m) h k = absurd (k.0 tt)
   clones_same own other e (Ready (Some (Ok v)) ∷ l) (Ready (Some (Ok w)) ∷ m) h k =
       (ap (λ z. Some (Ok z)) (e v w h.0 k.0), clones_same own other e l m h.1 k.1)
+  clones_same own other e l m h k = tt
 
   -- where no clone is refused, those of the same clones
   pub repeat_steady : SteadyLaws (Repeats {E = E} is_clone is_infallible) (Repeats is_clone (λ _. ⊤))

@@ -5,8 +5,9 @@ use Rattle.std.proofs.Common.{arith}
 use Rattle.futures.specs.declared.task.Poll.TheVariants.{Ready, Pending}
 use Rattle.lite_base.specs.Answers.{Answer, Comparable, before_end, strip}
 use Rattle.lite_base.specs.Calm.{CalmLaws, NoPending}
-use Rattle.lite_base.specs.Falling.{Below-one, Lowers-at_most, Lowers-below}
+use Rattle.lite_base.specs.Laws.Falling.{Below-one, Lowers-at_most, Lowers-below}
 use Rattle.lite_base.specs.Rank.{Lowers}
+use Rattle.lite_base.specs.Laws.Calm.{calm_both}
 use Rattle.lite_base.specs.Laws.Hint.{same_hint}
 use Rattle.lite_base.specs.Steady.{Steadiness}
 use Rattle.lite_base.specs.StreamLaws.{StreamLaws}
@@ -20,17 +21,15 @@ module _ {A : Type 0} where
   gives_follow (b ∷ x) y z (a ∷ l) m h k = (h.0, gives_follow x y z l m h.1 k)
 
   pub gives_bounded : (x y l : List (Answer A)) → GivesScript x l y → before_end l ≤ length x
-  gives_bounded x y [] h = omega arith
   gives_bounded [] y (a ∷ l) h = rw h.0 (omega arith)
   gives_bounded (b ∷ x) y (Pending ∷ l) h = let e = gives_bounded x y l h.1 in omega arith
-  gives_bounded (b ∷ x) y (Ready None ∷ l) h = omega arith
   gives_bounded (b ∷ x) y (Ready (Some v) ∷ l) h = let e = gives_bounded x y l h.1 in omega arith
+  gives_bounded x y l h = omega arith
 
   pub gives_lowers : (x y l : List (Answer A)) → GivesScript x l y → Lowers l (length y ∷ []) (length x ∷ [])
   gives_lowers x y [] h = inl (ap (λ t. length t ∷ []) h)
-  gives_lowers [] y (Pending ∷ l) h = absurd (cc h.0)
   gives_lowers [] y (Ready None ∷ l) h = gives_lowers [] y l h.1
-  gives_lowers [] y (Ready (Some v) ∷ l) h = absurd (cc h.0)
+  gives_lowers [] y (a ∷ l) h = absurd (cc h.0)
   gives_lowers (b ∷ x) y (a ∷ l) h =
       Lowers-below (a ∷ l) _ _ (Below-one (Lowers-at_most l _ _ (gives_lowers x y l h.1)) (omega arith))
 
@@ -56,10 +55,9 @@ module _ {A : Type 0} where
   gives_emits (Ready b ∷ x) y (a ∷ l) h = rw h.0 (refl, gives_emits x y l h.1)
 
   emits_same : (s l m : List (Option A)) → Emits s l → Emits s m → Comparable l m
-  emits_same s [] m h k = tt
-  emits_same s (a ∷ l) [] h k = tt
   emits_same [] (a ∷ l) (b ∷ m) h k = (h.0 ∙ sym k.0, emits_same [] l m h.1 k.1)
   emits_same (c ∷ s) (a ∷ l) (b ∷ m) h k = (h.0 ∙ sym k.0, emits_same s l m h.1 k.1)
+  emits_same s l m h k = tt
 
   -- lists that differ in their Pendings alone
   pub gives_steady : Steadiness (GivesScript {A = A}) (λ x y. strip x ≡ strip y)
@@ -74,8 +72,4 @@ module _ {A : Type 0} where
 
   -- a list without a Pending
   pub gives_calm : CalmLaws (GivesScript {A = A}) NoPending
-  gives_calm =
-      record {
-        no_pending = λ x y l k h. (gives_no_pending x y l k h).0;
-        calm_on = λ x y l k h. (gives_no_pending x y l k h).1;
-      }
+  gives_calm = calm_both gives_no_pending

@@ -12,15 +12,16 @@ use Rattle.lite_base.specs.Calling.{AgreeFrom, Calls}
 use Rattle.lite_base.specs.Future.Finishes.{Finishes}
 use Rattle.lite_base.specs.Future.Handed.{handed}
 use Rattle.lite_base.specs.FutureLaws.{FutureLaws}
-use Rattle.lite_base.specs.Laws.Alike.{alike_agrees, both_items, equal_options}
+use Rattle.lite_base.specs.Laws.Alike.{alike_agrees, equal_options}
 use Rattle.lite_base.specs.Laws.Answers.{strip_join}
 use Rattle.lite_base.specs.Laws.Calling.{agree_from_matches}
-use Rattle.lite_base.specs.Laws.Calm.{no_pending_join}
+use Rattle.lite_base.specs.Laws.Calm.{calm_both, no_pending_join}
 use Rattle.lite_base.specs.Laws.Future.Finishes.{finishes_found, finishes_later}
 use Rattle.lite_base.specs.Laws.Future.Handed.{handed_gives, handed_no_pending, handed_waits}
 use Rattle.lite_base.specs.Laws.Promises.{call_promises}
 use Rattle.lite_base.specs.Steady.{FutureSteadyLawsBy, SteadinessBy, SteadyLawsBy, TakesNone}
-use Rattle.lite_base.specs.StreamLaws.{StreamLaws, runs_of}
+use Rattle.lite_base.specs.StreamLaws.{StreamLaws}
+use Rattle.lite_base.specs.Laws.StreamLaws.{runs_of}
 use Rattle.lite_base.specs.Runs.{Hints, Question, Runs}
 use Rattle.lite_source.specs.Laws.Always.{answers_no_pending}
 use Rattle.lite_source.specs.Unfolding.{BothHave, Holding, HoldingsBy, IfHeldFuture, IsCurrent, Leads, PartOf}
@@ -43,18 +44,15 @@ module _ {F S V O B : Type 0} (call : Mut F (S × Unit {0}) V) (gives : Runs (Po
   waited laws p q x v w ins [] c i g h = tt
   waited laws p q x v w ins (b ∷ out) c i g (inr h) = absurd (let e = h.0 in cc)
   waited laws p q x v w ins (b ∷ out) c i g (inl h) =
-      let same : h.0 ≡ w = h.4.0 in
-      let rest : FutureValues q (comes (after h.3)) out =
-      subst (λ k. FutureValues k (comes (after h.3)) out) h.4.1 h.7 in
       inl (
         v,
         q,
         ins ++ h.2,
         h.3,
         c,
-        finishes_later laws v w ins h.2 h.3 i g (subst (λ u. Finishes gives u h.2 h.3) same h.5),
+        finishes_later laws v w ins h.2 h.3 i g (subst (λ u. Finishes gives u h.2 h.3) h.4.0 h.5),
         h.6,
-        rest,
+        subst (λ k. FutureValues k (comes (after h.3)) out) h.4.1 h.7,
       )
 
   over : (p : F) (l : List (Answer B)) (out : List (Option B)) → AllByRecursion (λ a. a ≡ end) l
@@ -66,15 +64,14 @@ module _ {F S V O B : Type 0} (call : Mut F (S × Unit {0}) V) (gives : Runs (Po
       → UnfoldPart call gives after shown p x l q y → FutureValues q y out → FutureValues p x (strip l ++ out)
   part_values laws p q x y l out (inr h) k =
       let k' = subst (λ s. FutureValues q s out) h.2.1 k in
-      subst (λ s. FutureValues p s (strip l ++ out)) (sym h.0)
-      (over p l out h.2.0 (subst (λ r. FutureValues r Holding.Over out) h.1 k'))
+      rw h.0 (over p l out h.2.0 (subst (λ r. FutureValues r Holding.Over out) h.1 k'))
   part_values laws p q x y l out (inl h) k = leading h.0 h.1 h.2 h.3 h.4
     where
       leading : (v : V) (ins : List (Poll O)) → IsCurrent call p x q v → Leads call gives after shown v ins y
           → l ≡ map (handed shown) ins → FutureValues p x (strip l ++ out)
       leading v ins c (inl d) e =
-          let none : strip l ≡ [] = ap strip e ∙ handed_waits shown ins d.1 in
-          rw none (waited laws p q x v d.0 ins out c d.1 d.2 (subst (λ s. FutureValues q s out) d.3 k))
+          rw (e, handed_waits shown ins d.1)
+          (waited laws p q x v d.0 ins out c d.1 d.2 (subst (λ s. FutureValues q s out) d.3 k))
       leading v ins c (inr d) e =
           let one : strip l ≡ shown d.0 ∷ [] = ap strip (e ∙ sym (append-nil (map (handed shown) ins)))
           ∙ handed_gives shown ins [] d.0 d.1.gives in
@@ -86,7 +83,7 @@ module _ {F S V O B : Type 0} (call : Mut F (S × Unit {0}) V) (gives : Runs (Po
   unfolds_values laws x y [] h = tt
   unfolds_values laws x y (part ∷ parts) h =
       let rest = flat_map (λ part. part.0 ∷ part.1) parts in
-      subst (λ l. FutureValues x.0 x.1 l) (sym (strip_join (part.0 ∷ part.1) rest))
+      rw (strip_join (part.0 ∷ part.1) rest)
       (part_values laws x.0 h.0.0 x.1 h.0.1 (part.0 ∷ part.1) (strip rest) h.1
       (unfolds_values laws h.0 y parts h.2))
 
@@ -101,29 +98,23 @@ module _ {F S V O B : Type 0} (call : Mut F (S × Unit {0}) V) (ample : Runs (Po
       → alike v w × AgreeFrom like alike (Calls call) q l
   current_alike p k q l (Holding.Seed r) (Holding.Seed t) v w a e c d =
       agree_from_matches like alike (Calls call) p k q l r t v w a e c d
-  current_alike p k q l (Holding.Seed r) (Holding.Asked t) v w a e c d = absurd e
-  current_alike p k q l (Holding.Seed r) Holding.Over v w a e c d = absurd e
-  current_alike p k q l (Holding.Asked r) (Holding.Seed t) v w a e c d = absurd e
   current_alike p k q l (Holding.Asked r) (Holding.Asked t) v w a e c d = rw (c.0, d.0, c.1, d.1) (e, a)
-  current_alike p k q l (Holding.Asked r) Holding.Over v w a e c d = absurd e
   current_alike p k q l Holding.Over y v w a e c d = absurd c
+  current_alike p k q l x y v w a e c d = absurd e
 
   -- one that is over has no future
   not_over : (p q : F) (x : Holding S V) (v : V) → HoldingsBy like alike x Holding.Over → IsCurrent call p x q v → ⊥
-  not_over p q (Holding.Seed r) v e c = e
-  not_over p q (Holding.Asked w) v e c = e
   not_over p q Holding.Over v e c = c
+  not_over p q x v e c = e
 
   over_not : (p q : F) (x : Holding S V) (v : V) → HoldingsBy like alike Holding.Over x → IsCurrent call p x q v → ⊥
-  over_not p q (Holding.Seed r) v e c = e
-  over_not p q (Holding.Asked w) v e c = e
   over_not p q Holding.Over v e c = c
+  over_not p q x v e c = e
 
   comes_alike : (m n : Option S) → OptionBy like m n → HoldingsBy like alike (comes m) (comes n)
   comes_alike None None e = tt
-  comes_alike None (Some t) e = absurd e
-  comes_alike (Some r) None e = absurd e
   comes_alike (Some r) (Some t) e = e
+  comes_alike m n e = absurd e
 
   module _ (goes : (o p : O) → same o p → OptionBy like (after o) (after p))
       (gives : (o p : O) → same o p → shows (shown o) (shown p))
@@ -132,8 +123,6 @@ module _ {F S V O B : Type 0} (call : Mut F (S × Unit {0}) V) (ample : Runs (Po
         → HoldingsBy like alike x y
         → FutureValues call ample after shown p x o
         → FutureValues call ample after shown k y o' → ComparableBy shows o o'
-    values_same p k x y [] o' a e h g = tt
-    values_same p k x y (b ∷ o) [] a e h g = tt
     values_same p k x y (b ∷ o) (c ∷ o') a e (inl h) (inl g) =
         let f = current_alike p k h.1 g.1 x y h.0 g.0 a e h.4 g.4 in
         let value : same h.3 g.3 = alike_agrees ample h.0 g.0 (s h.0 g.0 f.0) h.2 g.2 h.3 g.3 h.5 g.5 in
@@ -146,23 +135,22 @@ module _ {F S V O B : Type 0} (call : Mut F (S × Unit {0}) V) (ample : Runs (Po
         absurd (over_not k g.1 y g.0 (subst (λ z. HoldingsBy like alike z y) h.0 e) g.4)
     values_same p k x y (b ∷ o) (c ∷ o') a e (inr h) (inr g) =
         rw (h.1, g.1) (ends, values_same p k Holding.Over Holding.Over o o' a tt h.2 g.2)
+    values_same p k x y o o' a e h g = tt
 
 -- parts of values that are the same are, where both values have the part or neither
 module _ {O B : Type 0} (same : O → O → Type 0) (part : O → Option B) where
   standing : (o p : O) (x y : Option B) → same o p → part o ≡ x → part p ≡ y → OptionBy (λ _ _. ⊤) x y
       → OptionBy (SameItem (PartOf (Sameness.by same) part)) x y
   standing o p None None r e d both = tt
-  standing o p None (Some y) r e d both = absurd both
-  standing o p (Some x) None r e d both = absurd both
   standing o p (Some x) (Some y) r e d both = (o, p, r, e, d)
+  standing o p x y r e d both = absurd both
 
   parts_same : BothHave same part → (o p : O) → same o p
       → OptionBy (SameItem (PartOf (Sameness.by same) part)) (part o) (part p)
   parts_same both o p r = standing o p (part o) (part p) r refl refl (both o p r)
 
 -- two that unfold are alike from seeds that are the same, by functions that agree from such seeds on, where values that
--- are the same both have an
--- item or neither, and so a seed
+-- are the same both have an item or neither, and so a seed
 pub unfold_alike : {F S V O B : Type 0} (same : Sameness O) (alike : V → V → Type 0) (call : Question F S V)
     (after : O → Option S)
     (shown : O → Option B) (x y : F × Holding S V)
@@ -172,10 +160,6 @@ pub unfold_alike : {F S V O B : Type 0} (same : Sameness O) (alike : V → V →
     → UnfoldAlike same alike call after shown x y
 unfold_alike Sameness.equal alike call after shown x y a h p q = (a, h)
 unfold_alike (Sameness.by same) alike call after shown x y a h p q = (a, h, p, q)
-
--- equal values do
-pub equal_have : {O B : Type 0} (part : O → Option B) → BothHave (λ v w. v ≡ w) part
-equal_have part o p e = both_items Sameness.equal (part o) (part p) (ap part e)
 
 module _ {F S V O B : Type 0} (call : Mut F (S × Unit {0}) V) (ample : Runs (Poll O) V) {alike : V → V → Type 0}
     (after : O → Option S)
@@ -278,8 +262,4 @@ module _ {F S V O B : Type 0} (call : Mut F (S × Unit {0}) V) {run : Runs (Poll
   pub unfolds_calm : {X : Type 0} (pair : X → F × Holding S V)
       → CalmLaws (λ x l y. Unfolds call run after shown (pair x) l (pair y))
       (λ x. AlwaysReturns call (λ s v. calm v) (pair x).0 × IfHeldFuture (pair x).1 calm)
-  unfolds_calm pair =
-      record {
-        no_pending = λ x y l k h. rw h.2 (parts_calm (pair x) (pair y) h.0 k h.1).0;
-        calm_on = λ x y l k h. (parts_calm (pair x) (pair y) h.0 k h.1).1;
-      }
+  unfolds_calm pair = calm_both (λ x y l k h. rw h.2 (parts_calm (pair x) (pair y) h.0 k h.1))

@@ -54,13 +54,11 @@ module _ {A : Type 0} where
       subst (λ l. FusesOn false l [] g) (sym c.0) (subst (λ h. FusesOn {A = A} false [] [] h) (sym c.1) (refl, refl))
   of_cut i (b ∷ o) g (inl c) = absurd (not_ended c.0)
   of_cut i (Pending ∷ o) g (inr c) =
-      subst (λ l. FusesOn false l (Pending ∷ o) g) (sym c.2)
-      (fuses_more Pending c.1 o g (λ l. refl) (of_cut c.1 o g c.3))
+      rw c.2 (fuses_more Pending c.1 o g (λ l. refl) (of_cut c.1 o g c.3))
   of_cut i (Ready None ∷ o) g (inr c) =
       subst (λ l. FusesOn false l (end ∷ o) g) (sym c.2) (met_end c.1 o g (after_end c.1 o true g refl c.3))
   of_cut i (Ready (Some x) ∷ o) g (inr c) =
-      subst (λ l. FusesOn false l (item x ∷ o) g) (sym c.2)
-      (fuses_more (item x) c.1 o g (λ l. refl) (of_cut c.1 o g c.3))
+      rw c.2 (fuses_more (item x) c.1 o g (λ l. refl) (of_cut c.1 o g c.3))
 
   of_cuts : (f g : Bool) (i o : List (Answer A)) → Cuts is_over_after ended_after f i o g → FusesOn f i o g
   of_cuts true g i o c = after_end i o true g refl c
@@ -75,18 +73,15 @@ module _ {A : Type 0} where
   own_cut : (i own later : List (Answer A)) → i ≡ own ++ end ∷ [] → until_end own ≡ own → AllEnds later
       → Cuts is_over_after ended_after false i (own ++ end ∷ later) true
   own_cut i [] later e u a = inr (not_ended, [], e, ends_cut [] later true refl a refl)
-  own_cut i (Pending ∷ own) later e u a =
-      inr (not_ended, own ++ end ∷ [], e, own_cut (own ++ end ∷ []) own later refl (cc u) a)
   own_cut i (Ready None ∷ own) later e u a = absurd (cc u)
-  own_cut i (Ready (Some x) ∷ own) later e u a =
+  own_cut i (b ∷ own) later e u a =
       inr (not_ended, own ++ end ∷ [], e, own_cut (own ++ end ∷ []) own later refl (cc u) a)
 
   -- answers without an end
   all_cut : (i : List (Answer A)) → until_end i ≡ i → Cuts is_over_after ended_after false i i false
   all_cut [] u = (refl, refl)
-  all_cut (Pending ∷ i) u = inr (not_ended, i, refl, all_cut i (cc u))
   all_cut (Ready None ∷ i) u = absurd (cc u)
-  all_cut (Ready (Some x) ∷ i) u = inr (not_ended, i, refl, all_cut i (cc u))
+  all_cut (a ∷ i) u = inr (not_ended, i, refl, all_cut i (cc u))
 
   to_cuts : (f g : Bool) (i o : List (Answer A)) → FusesOn f i o g → Cuts is_over_after ended_after f i o g
   to_cuts true g i o h = ends_cut i o g h.0 h.1 h.2

@@ -5,9 +5,9 @@ use Rattle.std.proofs.lemmas.List.{length-map}
 use Rattle.std.proofs.lemmas.List.FromFn.{length-enumerate_from}
 use Rattle.std.proofs.Math.Nat.{mod-add-mod, mod-eq_of_lt, zero-mod}
 use Rattle.std.specs.Prelude.{⊤, Bool, true, false, cond, Option, Some, None}
-use Rattle.std.specs.List.{FoldsTo, cons_option, enumerate_from, filter, filter_map, prefix_len, take_while, zip}
+use Rattle.std.specs.List.{cons_option, enumerate_from, filter, filter_map, prefix_len, take_while, zip}
 use Rattle.futures.specs.declared.task.Poll.TheVariants.{Ready, Pending}
-use Rattle.lite_base.specs.Answers.{Answer, Endless, end, item, items}
+use Rattle.lite_base.specs.Answers.{Answer, Endless, end, item}
 use Rattle.lite_base.specs.Calling.{Accepts, Always}
 use Rattle.lite_base.specs.Runs.{Question}
 use Rattle.lite_stream.specs.Copied.{CopiesItem}
@@ -17,26 +17,17 @@ use Rattle.lite_stream.specs.Fuse.{FusesOn}
 use Rattle.lite_stream.specs.Inspect.{ShowsItem}
 use Rattle.lite_stream.specs.Pointwise.{Exchanges}
 use Rattle.lite_stream.specs.Take.{is_none_left, left_after}
-use Rattle.lite_sift.specs.Leaving.{LeavesOut}
-use Rattle.lite_sift.specs.Skip.{Skips}
-use Rattle.lite_sift.specs.SkipWhile.{SkipsUntil}
-use Rattle.lite_sift.specs.StepBy.{Numbered, StepsOn}
-use Rattle.lite_flatten.specs.Chain.{Joins, is_done, second_after}
-use Rattle.lite_flatten.specs.declared.chain.Part.{Part}
-use Rattle.lite_flatten.specs.declared.chain.Part.TheVariants.{First, Second}
+use Rattle.lite_reshape.specs.Laws.Leaving.{leaves_steps}
+use Rattle.lite_reshape.specs.Leaving.{LeavesOut}
+use Rattle.lite_reshape.specs.Skip.{Skips}
+use Rattle.lite_reshape.specs.SkipWhile.{SkipsUntil}
+use Rattle.lite_reshape.specs.StepBy.{Numbered, StepsOn}
+use Rattle.lite_reshape.specs.Chain.{Joins, is_done, second_after}
+use Rattle.lite_reshape.specs.declared.chain.Part.{Part}
+use Rattle.lite_reshape.specs.declared.chain.Part.TheVariants.{First, Second}
 use Rattle.lite_merge.specs.Zip.{Pairs, pendings}
 use Rattle.lite_views.specs.Lists.{cons_while, map_while, scan, step_from}
 use Rattle.lite_views.specs.Views.{EachIs, Fits}
-
--- items, and then what fits the rest of the list
-pub fits_items : {A : Type 0} (zs : List A) (l : List (Answer A)) (xs : List A) → Fits (items zs ++ l) xs
-    → (ys : List A) × (xs ≡ zs ++ ys) × Fits l ys
-fits_items [] l xs h = (xs, refl, h)
-fits_items (z ∷ zs) l [] h = absurd h
-fits_items (z ∷ zs) l (x ∷ xs) h =
-    let rest = fits_items zs l xs h.1 in
-    let e : x ∷ xs ≡ z ∷ (zs ++ rest.0) = (let e₀ = rest.1 in let e₁ = h.0 in cc) in
-    (rest.0, e, rest.2)
 
 -- where one answer comes out for each that came in. `made p xs` are the items that come out of xs from the state p on
 module _ {F A B : Type 0} (call : Question F A (Option B)) (Good : F → Type 0) (made : F → List A → List B)
@@ -70,45 +61,28 @@ module _ {F A B : Type 0} (call : Question F A (Option B)) (Good : F → Type 0)
     (drops : (p q : F) (x : A) (xs : List A) → Good p → call p x None q → (made p (x ∷ xs) ≡ made q xs) × Good q)
     (gives : (p q : F) (x : A) (y : B) (xs : List A) → Good p → call p x (Some y) q → (made p (x ∷ xs) ≡ y ∷ made q xs)
     × Good q) where
-  rejected_made : (zs : List A) (p q : F) (xs : List A) → Good p → FoldsTo (λ f x g. call f x None g) p zs q
-      → (made p (zs ++ xs) ≡ made q xs) × Good q
-  rejected_made [] p q xs g h = (ap (λ r. made r xs) h, subst Good h g)
-  rejected_made (z ∷ zs) p q xs g h =
-      let first = drops p h.0 z (zs ++ xs) g h.1 in
-      let rest = rejected_made zs h.0 q xs first.1 h.2 in
-      (first.0 ∙ rest.0, rest.1)
+  one_rejected : (p m : F) (x : A) (i : List (Answer A)) (b : Answer B) (o : List (Answer B)) → call p x None m
+      → ((xs : List A) → Good m → Fits i xs → Fits (b ∷ o) (made m xs))
+      → (xs : List A) → Good p → Fits (item x ∷ i) xs → Fits (b ∷ o) (made p xs)
+  one_rejected p m x i b o t k [] g e = absurd e
+  one_rejected p m x i b o t k (z ∷ xs) g e =
+      let step = drops p m x xs g t in
+      subst (Fits (b ∷ o)) (sym (ap (λ w. made p (w ∷ xs)) (sym e.0) ∙ step.0)) (k xs step.1 e.1)
+
+  one_kept : (p m : F) (x : A) (i : List (Answer A)) (y : B) (o : List (Answer B)) → call p x (Some y) m
+      → ((xs : List A) → Good m → Fits i xs → Fits o (made m xs))
+      → (xs : List A) → Good p → Fits (item x ∷ i) xs → Fits (item y ∷ o) (made p xs)
+  one_kept p m x i y o t k [] g e = absurd e
+  one_kept p m x i y o t k (z ∷ xs) g e =
+      let step = gives p m x y xs g t in
+      let here : Fits (item y ∷ o) (y ∷ made m xs) = (refl, k xs step.1 e.1) in
+      subst (Fits (item y ∷ o)) (sym (ap (λ w. made p (w ∷ xs)) (sym e.0) ∙ step.0)) here
 
   pub left_fits : (p q : F) (i : List (Answer A)) (o : List (Answer B)) (xs : List A) → Good p → Fits i xs
       → LeavesOut call p i o q → Fits o (made p xs)
-  left_fits p q i [] xs g e h = tt
-  left_fits p q i (Pending ∷ o) xs g e (rest, m, s, more) =
-      let cut = fits_items s.rejected (s.last ∷ rest) xs (subst (λ l. Fits l xs) s.cut e) in
-      let off = rejected_made s.rejected p s.between cut.0 g s.rejects in
-      let on : Fits rest cut.0 = subst (λ (c : Answer A). Fits (c ∷ rest) cut.0) s.passes.0 cut.2 in
-      let to : Fits o (made m cut.0) = left_fits m q rest o cut.0 (subst Good (sym s.passes.1) off.1) on more in
-      subst (λ l. Fits o l) (sym (ap (made p) cut.1 ∙ off.0 ∙ ap (λ r. made r cut.0) (sym s.passes.1))) to
-  left_fits p q i (Ready None ∷ o) xs g e (rest, m, s, more) =
-      let cut = fits_items s.rejected (s.last ∷ rest) xs (subst (λ l. Fits l xs) s.cut e) in
-      let off = rejected_made s.rejected p s.between cut.0 g s.rejects in
-      let on : cut.0 ≡ [] = subst (λ (c : Answer A). Fits (c ∷ rest) cut.0) s.passes.0 cut.2 in
-      ap (made p) cut.1 ∙ off.0 ∙ ap (made s.between) on ∙ nothing s.between off.1
-  left_fits p q i (Ready (Some y) ∷ o) xs g e (rest, m, s, more) =
-      let cut = fits_items s.rejected (s.last ∷ rest) xs (subst (λ l. Fits l xs) s.cut e) in
-      let off = rejected_made s.rejected p s.between cut.0 g s.rejects in
-      let on : Fits (item s.passes.0 ∷ rest) cut.0 = subst (λ (c : Answer A). Fits (c ∷ rest) cut.0) s.passes.1 cut.2 in
-      let whole : made p xs ≡ made s.between cut.0 = ap (made p) cut.1 ∙ off.0 in
-      subst (λ l. Fits (item y ∷ o) l) (sym whole)
-      (kept s.between m s.passes.0 y rest cut.0 off.1 on s.passes.2 (λ ys f k. left_fits m q rest o ys k f more))
-    where
-      kept : (b m : F) (x : A) (y : B) (rest : List (Answer A)) (ys : List A) → Good b → Fits (item x ∷ rest) ys
-          → call b x (Some y) m
-          → ((zs : List A) → Fits rest zs → Good m → Fits o (made m zs)) → Fits (item y ∷ o) (made b ys)
-      kept b m x y rest [] g e c on = absurd e
-      kept b m x y rest (z ∷ ys) g e c on =
-          let step = gives b m x y ys g c in
-          let is : made b (z ∷ ys) ≡ y ∷ made m ys = ap (λ w. made b (w ∷ ys)) (sym e.0) ∙ step.0 in
-          let here : Fits (item y ∷ o) (y ∷ made m ys) = (refl, on ys e.1 step.1) in
-          subst (λ l. Fits (item y ∷ o) l) (sym is) here
+  left_fits p q i o xs g e h =
+      leaves_steps call (λ p i o. (xs : List A) → Good p → Fits i xs → Fits o (made p xs)) one_rejected
+      (λ p i o k. k) (λ p i o k xs g e. ap (made p) e ∙ nothing p g) one_kept p q i o (λ xs g e. tt) h xs g e
 
 -- `map`
 pub mapped_fits : {F A B : Type 0} (call : Question F A B) (h : A → B) (f q : F)

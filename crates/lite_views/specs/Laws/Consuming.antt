@@ -7,11 +7,11 @@ use Rattle.std.specs.Prelude.{⊤, Bool, true, false, cond, not, nat_lt, Option,
 use Rattle.std.specs.Prelude.{IsSome, IfSome, option_map}
 use Rattle.std.specs.Option.{option_transpose}
 use Rattle.std.specs.Result.{ok_prefix}
-use Rattle.std.specs.List.{FoldsTo, filter, filter_map, fold, last_or, list_all, list_any, find, position}
-use Rattle.std.specs.List.{position_or_len, slice_get}
+use Rattle.std.specs.List.{filter, filter_map, fold, last_or, list_all, list_any, find, position, position_or_len}
+use Rattle.std.specs.List.{slice_get}
 use Rattle.futures.specs.declared.task.Poll.{Poll}
-use Rattle.futures.specs.declared.task.Poll.TheVariants.{Ready, Pending}
-use Rattle.lite_base.specs.Answers.{Answer, Gives}
+use Rattle.futures.specs.declared.task.Poll.TheVariants.{Ready}
+use Rattle.lite_base.specs.Answers.{Answer, Gives, item}
 use Rattle.lite_base.specs.Future.Finishes.{Finishes}
 use Rattle.lite_base.specs.Runs.{Question, Runs}
 use Rattle.lite_consume.specs.All.{alls}
@@ -23,6 +23,7 @@ use Rattle.lite_consume.specs.Find.{finds}
 use Rattle.lite_consume.specs.FindMap.{finds_map}
 use Rattle.lite_consume.specs.Fold.{folds}
 use Rattle.lite_consume.specs.Last.{lasts}
+use Rattle.lite_consume.specs.Laws.Consuming.{consumes_steps}
 use Rattle.lite_consume.specs.Next.{nexts}
 use Rattle.lite_consume.specs.Nth.{nths}
 use Rattle.lite_consume.specs.Position.{positions}
@@ -37,7 +38,6 @@ use Rattle.lite_gather.specs.Unzip.{unzips}
 use Rattle.lite_gather.specs.declared.refused.Refused.{Refused}
 use Rattle.lite_gather.specs.declared.refused.TryCollectError.{TryCollectError}
 use Rattle.lite_gather.specs.declared.refused.UnzipRefused.{UnzipRefused}
-use Rattle.lite_views.specs.Laws.Adapting.{fits_items}
 use Rattle.lite_views.specs.Trying.{IfSource, first_error, try_fold}
 use Rattle.lite_views.specs.Views.{Fits}
 
@@ -47,30 +47,23 @@ module _ {M A R : Type 0} (fold : Fold M A R) where
   MakesOf p [] r = (q : M) × fold.closes p r q
   MakesOf p (x ∷ xs) r = ((q : M) × fold.asks p x None q × MakesOf q xs r) ⊎ ((q : M) × fold.asks p x (Some r) q)
 
-  taken_makes : (zs : List A) (p q : M) (xs : List A) (r : R) → FoldsTo (TakesIn fold) p zs q → MakesOf q xs r
-      → MakesOf p (zs ++ xs) r
-  taken_makes [] p q xs r h s = subst (λ z. MakesOf z xs r) (sym h) s
-  taken_makes (z ∷ zs) p q xs r h s = inl (h.0, h.1, taken_makes zs h.0 q xs r h.2 s)
+  taken_makes : (p m : M) (x : A) (i : List (Answer A)) (r : R) → TakesIn fold p x m
+      → ((xs : List A) → Fits i xs → MakesOf m xs r) → (xs : List A) → Fits (item x ∷ i) xs → MakesOf p xs r
+  taken_makes p m x i r h k [] e = absurd e
+  taken_makes p m x i r h k (y ∷ xs) e = inl (m, subst (λ z. fold.asks p z None m) e.0 h, k xs e.1)
 
-  decided_makes : (p q : M) (a : Answer A) (xs : List A) (r : R) → Fits (a ∷ []) xs → Decides fold p a r q
-      → MakesOf p xs r
-  decided_makes p q Pending xs r e h = absurd h
-  decided_makes p q (Ready None) xs r e h = subst (λ l. MakesOf p l r) (sym e) (q, h)
-  decided_makes p q (Ready (Some x)) [] r e h = absurd e
-  decided_makes p q (Ready (Some x)) (y ∷ xs) r e h = inr (q, subst (λ z. fold.asks p z (Some r) q) e.0 h)
+  decided_makes : (p q : M) (o : Option A) (xs : List A) (r : R) → Fits (Ready o ∷ []) xs
+      → Decides fold p (Ready o) (Ready r) q → MakesOf p xs r
+  decided_makes p q None xs r e h = subst (λ l. MakesOf p l r) (sym e) (q, h)
+  decided_makes p q (Some x) [] r e h = absurd e
+  decided_makes p q (Some x) (y ∷ xs) r e h = inr (q, subst (λ z. fold.asks p z (Some r) q) e.0 h)
 
   pub settles : (p q : M) (i : List (Answer A)) (l : List (Poll R)) (xs : List A) (r : R) → Fits i xs → Gives l r
       → Consumes fold p i l q → MakesOf p xs r
-  settles p q i [] xs r e g h = absurd g
-  settles p q i (Pending ∷ l) xs r e g (rest, m, w, more) =
-      let cut = fits_items w.taken (Pending ∷ rest) xs (subst (λ k. Fits k xs) w.cut e) in
-      subst (λ k. MakesOf p k r) (sym cut.1)
-      (taken_makes w.taken p m cut.0 r w.folds (settles m q rest l cut.0 r cut.2 g more))
-  settles p q i (Ready v ∷ l) xs r e g (w, none) =
-      let cut = fits_items w.taken (w.last ∷ []) xs (subst (λ k. Fits k xs) w.cut e) in
-      let value : Decides fold w.between w.last r q = subst (λ z. Decides fold w.between w.last z q) g.0 w.decides in
-      subst (λ k. MakesOf p k r) (sym cut.1)
-      (taken_makes w.taken p w.between cut.0 r w.folds (decided_makes w.between q w.last cut.0 r cut.2 value))
+  settles p q i l xs r e g h =
+      consumes_steps fold (λ p i l. Gives l r → (xs : List A) → Fits i xs → MakesOf p xs r)
+      (λ p m x i b l t k g. taken_makes p m x i r t (k g)) (λ p i l k. k) q
+      (λ p o v d g xs e. subst (MakesOf p xs) g.0 (decided_makes p q o xs v e d)) p i l (λ g. absurd g) h g xs e
 
   pub finished_makes : {S : Type 0} (run : Runs (Answer A) S) (x : Consume S M) (ins : List (Poll R)) (v : R)
       (xs : List A)

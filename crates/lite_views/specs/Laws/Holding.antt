@@ -11,10 +11,10 @@ use Rattle.lite_base.specs.Future.Finishes.{Finishes}
 use Rattle.lite_base.specs.Future.Handed.{handed}
 use Rattle.lite_base.specs.Future.Ready.{GivesHeld}
 use Rattle.lite_base.specs.Runs.{Question, Runs}
-use Rattle.lite_flatten.specs.Cloned.{Clones, IsCloneRefusal, Refers}
-use Rattle.lite_flatten.specs.Flatten.{Flat}
-use Rattle.lite_flatten.specs.Expanding.{Expands}
-use Rattle.lite_flatten.specs.Then.{HandsOut}
+use Rattle.lite_reshape.specs.Cloned.{Clones, IsCloneRefusal, Refers}
+use Rattle.lite_reshape.specs.Flatten.{Flat}
+use Rattle.lite_reshape.specs.Expanding.{Expands}
+use Rattle.lite_reshape.specs.Then.{HandsOut}
 use Rattle.lite_stream.specs.Pointwise.{Exchanges}
 use Rattle.lite_views.specs.Laws.Adapting.{endless_fits, replaced_fits}
 use Rattle.lite_views.specs.Views.{Fits, Lists}

@@ -1,10 +1,11 @@
 -- `write_all` gives Ok in the end, where no write fails, and is pending only where its writer is.
-use Rattle.std.proofs.Common.{◌≡◌, ℕ, List, [], ◌∷◌, ◌++◌, Ok, refl, subst}
+use Rattle.std.proofs.Common.{◌≡◌, ℕ, List, [], ◌∷◌, ◌++◌, Ok, map, refl, subst}
 use Rattle.std.specs.Prelude.{⊤}
 use Rattle.futures.specs.declared.task.Poll.{Poll}
 use Rattle.futures.specs.declared.task.Poll.TheVariants.{Ready, Pending}
 use Rattle.lite_base.specs.Answers.{ComparableBy, strip}
 use Rattle.lite_base.specs.Calm.{CalmLaws, NoPending}
+use Rattle.lite_base.specs.Laws.Segments.{to_value_last}
 use Rattle.lite_base.specs.Steady.{FutureSteadyLaws}
 use Rattle.lite_base.specs.Runs.{Runs}
 use Rattle.lite_io_base.specs.Runs.{MarkLaws}
@@ -12,7 +13,7 @@ use Rattle.lite_io_base.specs.SteadyWrite.{CalmWriteLaws, NoPendingWrite}
 use Rattle.lite_io_base.specs.Takings.{WriteMark}
 use Rattle.lite_write.specs.Laws.WriteAll.{WriteAllResult, all_laws}
 use Rattle.lite_write.specs.SteadyWriteAll.{NoFailure, NoneFails, WithoutFailure}
-use Rattle.lite_write.specs.WriteAll.{Ended, HandsOver, WritesAll}
+use Rattle.lite_write.specs.WriteAll.{Ended, HandsMarks, HandsOver, WritesAll}
 use Rattle.lite_write.specs.declared.write_all.WriteAllFuture.{WriteAllFuture}
 
 pub no_failure_both : (l m : List WriteMark) → NoFailure l → NoFailure m → NoFailure (l ++ m)
@@ -59,30 +60,34 @@ hands_ok : (p q : List ℕ) (i : List WriteMark) (l : List (Poll WriteAllResult)
     → AllOk (strip l)
 hands_ok p q i [] a h = tt
 hands_ok p q i (Pending ∷ l) a h =
-    let rest = no_failure_last h.2.before (WriteMark.pending ∷ h.0) (subst NoFailure h.2.cut a) in
-    hands_ok h.1 q h.0 l rest h.3
+    let rest = no_failure_last h.0.0 h.0.1 (subst NoFailure h.0.3 a) in
+    hands_ok h.0.2 q h.0.1 l rest (h.0.5, h.1)
 hands_ok p q i (Ready r ∷ l) a h =
-    let last = h.0 in
-    let some = no_failure_last last.before last.last (subst NoFailure last.cut a) in
-    rw h.1 (ended_ok q last.last r some last.ended, tt)
+    let c = to_value_last HandsMarks p q i r l h in
+    let last = no_failure_last (map WriteMark.wrote c.taken) c.last (subst NoFailure c.cut a) in
+    rw h.1 (ended_ok c.between c.last r last c.given.0, tt)
 
 pub all_ok_same : (l m : List WriteAllResult) → AllOk l → AllOk m → ComparableBy (λ v w. v ≡ w) l m
 all_ok_same [] m a b = tt
 all_ok_same (v ∷ l) [] a b = tt
 all_ok_same (v ∷ l) (w ∷ m) a b = rw (a.0, b.0) (refl, all_ok_same l m a.1 b.1)
 
-waits_last : (l m : List WriteMark) → NoPendingWrite (l ++ WriteMark.pending ∷ m) → ⊥
-waits_last [] m a = a
-waits_last (WriteMark.wrote xs ∷ l) m a = waits_last l m a
-waits_last (WriteMark.pending ∷ l) m a = a
-waits_last (WriteMark.fault kind ∷ l) m a = waits_last l m a
-waits_last (WriteMark.flushed ∷ l) m a = waits_last l m a
-waits_last (WriteMark.closed ∷ l) m a = waits_last l m a
+no_pending_parts : (l m : List WriteMark) → NoPendingWrite (l ++ m) → NoPendingWrite l × NoPendingWrite m
+no_pending_parts [] m a = (tt, a)
+no_pending_parts (WriteMark.wrote xs ∷ l) m a = no_pending_parts l m a
+no_pending_parts (WriteMark.pending ∷ l) m a = absurd a
+no_pending_parts (WriteMark.fault kind ∷ l) m a = no_pending_parts l m a
+no_pending_parts (WriteMark.flushed ∷ l) m a = no_pending_parts l m a
+no_pending_parts (WriteMark.closed ∷ l) m a = no_pending_parts l m a
 
 hands_no_pending : (p q : List ℕ) (i : List WriteMark) (l : List (Poll WriteAllResult)) → NoPendingWrite i
     → HandsOver p i l q → NoPending l
 hands_no_pending p q i [] a h = tt
-hands_no_pending p q i (Pending ∷ l) a h = absurd (waits_last h.2.before h.0 (subst NoPendingWrite h.2.cut a))
+hands_no_pending p q i (Pending ∷ l) a h =
+    let w = h.0.4 in
+    let one = (no_pending_parts h.0.0 h.0.1 (subst NoPendingWrite h.0.3 a)).0 in
+    let last = no_pending_parts (map WriteMark.wrote w.taken) w.last (subst NoPendingWrite w.cut one) in
+    absurd (subst NoPendingWrite w.given.0 last.1)
 hands_no_pending p q i (Ready r ∷ l) a h = rw h.1 tt
 
 module _ {W : Type 0} {writes : Runs WriteMark W} where

@@ -2,7 +2,7 @@ use super::journal::journal_of_chunk;
 use futures::task::{Doorbell, Solo};
 use futures_lite::Poll;
 use futures_lite::io::{self, Answer, ErrorKind, Journal};
-use lite_journal::{buffer_answer, done_answer, write_answer};
+use lite_halves::{buffer_answer, done_answer, write_answer};
 use lite_mock::{Order, Takes};
 use std::alloc::{AllocError, AllocGlobal};
 use std::process::Abort;

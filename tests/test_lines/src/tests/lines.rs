@@ -1,6 +1,6 @@
 use super::told::{ok_ranked, take_error, told};
 use lite_bridge::Cursor;
-use lite_lines::make::{lines, split};
+use lite_read::make::{lines, split};
 use std::io::ErrorKind;
 use std::test::Fail;
 

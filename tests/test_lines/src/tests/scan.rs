@@ -1,4 +1,4 @@
-use lite_scan::{LineScan, scan_line};
+use lite_read::{LineScan, scan_line};
 use std::test::Fail;
 
 /// Lengths about one load and about two.

@@ -1,9 +1,9 @@
 //! Texts for which memory is refused.
 use bumpalo::Bump;
 use lite_base::{Future, Poll};
-use lite_io::BufReader;
+use lite_buffered::BufReader;
 use lite_mock::Marks;
-use lite_texts::make::{read_line, read_to_string};
+use lite_read::make::{read_line, read_to_string};
 use std::alloc::Global;
 use std::io;
 use std::io::ErrorKind;

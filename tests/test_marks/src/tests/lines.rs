@@ -1,12 +1,12 @@
 //! Lines of two readers of which one is pending before each chunk.
 ghost use Rattle.std.specs.Prelude.{◌≡◌, [], IfOk};
-ghost use Rattle.lite_io.specs.BufReader.{ahead, reader_capacity, reader_inner};
+ghost use Rattle.lite_buffered.specs.BufReader.{ahead, reader_capacity, reader_inner};
 
 use super::scripts::ready_ones;
 use futures::task::{Doorbell, Solo};
 use lite_base::Poll;
-use lite_io::BufReader;
-use lite_io::make::take;
+use lite_buffered::BufReader;
+use lite_buffered::make::take;
 use lite_mock::Marks;
 use nests_agree::collected::{gathered_lengths_agree, gathered_lines_agree, tried_lines_agree};
 use nests_agree::lines::{futures_of_lines_agree, lengths_agree, lines_agree};

@@ -4,11 +4,9 @@ use lite_base::{
     CalmFuture, CalmStream, Context, Counted, OkCounted, Poll, SteadyFuture, SteadyStream,
 };
 use lite_consume::make as consume;
-use lite_cycle::make as cycle;
-use lite_flatten::make as flatten;
 use lite_gather::{CollectFuture, PartitionFuture, TryCollectFuture, UnzipFuture, make as gather};
-use lite_merge::make as merge;
-use lite_sift::make as sift;
+use lite_merge::{make as cycle, make as merge};
+use lite_reshape::{make as flatten, make as sift};
 use lite_source::make as source;
 use lite_stream::make as stream;
 use std::test::Fail;

@@ -1,9 +1,7 @@
 //! Streams and a future that cut what a reader tells, and copies.
 use lite_base::{CalmFuture, CalmStream, SteadyFuture, SteadyStream};
-use lite_copy::make::copy;
-use lite_lines::make::{lines, read_until, split};
-use lite_read::make::bytes;
-use lite_write::make::sink;
+use lite_read::make::{bytes, lines, read_until, split};
+use lite_write::make::{copy, sink};
 use marks_met::reading::{copies_have_marks, pieces_have_marks};
 use std::alloc::AllocError;
 use std::test::Fail;

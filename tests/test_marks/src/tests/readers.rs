@@ -1,12 +1,14 @@
 //! Readers, and the futures over them.
 use lite_base::{CalmFuture, SteadyFuture};
 use lite_bridge::Cursor;
-use lite_io::{BufReader, make as io};
+use lite_buffered::{BufReader, make as io};
+use lite_halves::Journal;
 use lite_io_base::{CalmRead, IoSliceMut, SteadyRead};
-use lite_journal::Journal;
 use lite_mock::Marks;
-use lite_read::make::{bytes as each_byte, fill_buf, read, read_exact, read_to_end, read_vectored};
-use lite_texts::make::{read_line, read_to_string};
+use lite_read::make::{
+    bytes as each_byte, fill_buf, read, read_exact, read_line, read_to_end, read_to_string,
+    read_vectored,
+};
 use marks_met::readers::{buffered_readers_have_marks, journals_have_marks};
 use nests_agree::reads::reads_agree;
 use std::alloc::AllocError;

@@ -3,12 +3,10 @@ ghost use Rattle.std.specs.Prelude.{◌≡◌, [], IfOk};
 
 use lite_base::{CalmFuture, SteadyFuture};
 use lite_bridge::Cursor;
-use lite_buf_writer::BufWriter;
-use lite_copy::make::copy;
-use lite_io::BufReader;
+use lite_buffered::{BufReader, BufWriter};
 use lite_io_base::{CalmWrite, IoSlice, SteadyWrite};
 use lite_mock::{Marks, Order, Takes};
-use lite_write::make::{close, flush, sink, write, write_all, write_vectored};
+use lite_write::make::{close, copy, flush, sink, write, write_all, write_vectored};
 use marks_met::writers::adapters_have_marks;
 use nests_agree::writes::{copies_agree, writes_agree};
 use std::alloc::AllocError;

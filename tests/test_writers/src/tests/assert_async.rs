@@ -1,7 +1,7 @@
 use futures::task::{Doorbell, Solo};
 use lite_base::Poll;
+use lite_bridge::AssertAsync;
 use lite_io_base::{AsyncWrite, IoSlice};
-use lite_std::AssertAsync;
 use std::io::SeekFrom;
 use std::test::Fail;
 use std::{env, fs, process};

@@ -1,8 +1,7 @@
 use futures::task::{Doorbell, Solo};
 use lite_base::{Context, Poll};
-use lite_bridge::Cursor;
+use lite_bridge::{AsyncAsSync, Cursor};
 use lite_io_base::AsyncRead;
-use lite_std::AsyncAsSync;
 use std::io;
 use std::io::{ErrorKind, Read, Seek, SeekFrom, Write};
 use std::test::Fail;

@@ -1,7 +1,6 @@
-use lite_bridge::Cursor;
-use lite_io::BufReader;
+use lite_bridge::{BlockOn, Cursor};
+use lite_buffered::BufReader;
 use lite_mock::Marks;
-use lite_std::BlockOn;
 use std::io::{BufRead, ErrorKind, Read, Seek, SeekFrom, Write};
 use std::test::Fail;
 

@@ -2,11 +2,10 @@ ghost use Rattle.lite_base.specs.Ranks.{number_ranks};
 ghost use Rattle.test_writers.specs.Budget.{Within, within_counting, within_laws};
 
 use lite_base::{Context, Poll};
-use lite_copy::make::copy;
+use lite_bridge::AssertAsync;
 use lite_io_base::{AsyncRead, CountedRead, Tale};
 use lite_read::make::read_to_end;
-use lite_std::AssertAsync;
-use lite_write::make::write_all;
+use lite_write::make::{copy, write_all};
 use std::alloc::AllocError;
 use std::path::PathBuf;
 use std::test::Fail;

@@ -1,5 +1,5 @@
 use lite_base::Poll;
-use lite_buf_writer::BufWriter;
+use lite_buffered::BufWriter;
 use lite_mock::Takes;
 use std::alloc::AllocError;
 use std::test::Fail;

@@ -1,11 +1,11 @@
 use super::buf_writer::buffered;
 use lite_base::{Future, Poll};
-use lite_buf_writer::BufWriter;
-use lite_copy::make::copy;
-use lite_copy::{CopyFuture, copy_chain};
-use lite_io::Chain;
+use lite_buffered::{BufWriter, Chain};
 use lite_io_base::{AsyncWrite, CountedRead};
 use lite_mock::{Order, Takes};
+use lite_theorems::copy_chain;
+use lite_write::CopyFuture;
+use lite_write::make::copy;
 use std::alloc::AllocError;
 use std::io;
 use std::io::ErrorKind;

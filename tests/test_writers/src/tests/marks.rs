@@ -1,5 +1,5 @@
+use lite_bridge::AssertAsync;
 use lite_io_base::{CalmRead, CalmWrite, SteadyRead, SteadyWrite};
-use lite_std::AssertAsync;
 use std::io::Cursor;
 use std::test::Fail;
 

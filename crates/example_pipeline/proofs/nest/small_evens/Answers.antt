@@ -1,4 +1,4 @@
-use Rattle.std.proofs.Common.{◌<◌, ◌%◌, rules}
+use Rattle.std.proofs.Common.{rules}
 use Rattle.futures_lite.specs.Laws.Each.{each_kept}
 use Rattle.example_pipeline.proofs.nest.small_evens.Goals as goal
 

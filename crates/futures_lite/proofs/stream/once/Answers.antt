@@ -1,7 +1,8 @@
 use Rattle.std.proofs.Common.{refl}
 use Rattle.lite_source.specs.Once.{once_left}
-use Rattle.lite_views.specs.Laws.Sources.{scripted_fits, scripted_fronts}
-use Rattle.lite_views.specs.Views.{Fronts, Lists, seen}
+use Rattle.lite_views.specs.Laws.SourceLists.{scripted_fits, scripted_fronts}
+use Rattle.lite_views.specs.Views.{Fronts, Lists}
+use Rattle.lite_views.specs.Laws.Views.{seen}
 use Rattle.futures_lite.proofs.stream.once.Goals as goal
 
 pub returns-clause-lists : goal.returns-clause-lists

@@ -1,5 +1,6 @@
-use Rattle.lite_views.specs.Laws.Sources.{cloned_goes_on}
-use Rattle.lite_views.specs.Views.{GoesOn, seen}
+use Rattle.lite_views.specs.Laws.SourceLists.{cloned_goes_on}
+use Rattle.lite_views.specs.Views.{GoesOn}
+use Rattle.lite_views.specs.Laws.Views.{seen}
 use Rattle.futures_lite.proofs.stream.repeat.Goals as goal
 
 pub returns-clause-on : goal.returns-clause-on

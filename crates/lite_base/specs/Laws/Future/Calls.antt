@@ -13,7 +13,8 @@ use Rattle.lite_base.specs.FutureLaws.{FutureLaws}
 use Rattle.lite_base.specs.Laws.Answers.{up_to_once, waiting_up_to}
 use Rattle.lite_base.specs.Laws.Calls.{folds_follow}
 use Rattle.lite_base.specs.Laws.Calm.{no_pending_back}
-use Rattle.lite_base.specs.Steady.{FutureSteadyLaws, future_steady_always}
+use Rattle.lite_base.specs.Steady.{FutureSteadyLaws}
+use Rattle.lite_base.specs.Laws.Steady.{future_steady_always}
 use Rattle.lite_base.specs.declared.future.poll_fn.PollFn.{PollFn}
 
 module _ {F A : Type 0} (g : Poller F A) where

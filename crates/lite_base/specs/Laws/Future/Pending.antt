@@ -5,7 +5,8 @@ use Rattle.futures.specs.declared.task.Poll.{Poll}
 use Rattle.lite_base.specs.Answers.{Waiting}
 use Rattle.lite_base.specs.FutureLaws.{FutureLaws}
 use Rattle.lite_base.specs.Laws.Answers.{waiting_once, waiting_strip, waiting_waiting}
-use Rattle.lite_base.specs.Steady.{FutureSteadyLaws, future_steady_always}
+use Rattle.lite_base.specs.Steady.{FutureSteadyLaws}
+use Rattle.lite_base.specs.Laws.Steady.{future_steady_always}
 
 pub waits_laws : {F A : Type 0} → FutureLaws (λ (x : F) (l : List (Poll A)) (y : F). Waiting l × (y ≡ x))
 waits_laws =

@@ -18,18 +18,16 @@ other_way (inr q) = inl q
 module _ {A : Type 0} where
   row_more : (i j : List (Poll A)) (c : Poll A) (i' j' k h : List (Poll A)) → PickRow i j c i' j'
       → PickRow (i ++ k) (j ++ h) c (i' ++ k) (j' ++ h)
-  row_more [] j c i' j' k h r = absurd r
   row_more (Ready x ∷ i) j c i' j' k h r = (r.0, ap (λ l. l ++ k) r.1, ap (λ l. l ++ h) r.2)
-  row_more (Pending ∷ i) [] c i' j' k h r = absurd r
   row_more (Pending ∷ i) (b ∷ j) c i' j' k h r = (r.0, ap (λ l. l ++ k) r.1, ap (λ l. l ++ h) r.2)
+  row_more i j c i' j' k h r = absurd r
 
   -- a row that was pending, before rows that wait
   row_waits : (i j i' j' : List (Poll A)) → PickRow i j Pending i' j' → Waiting i' → Waiting j' → Waiting i × Waiting j
-  row_waits [] j i' j' r w v = absurd r
   row_waits (Ready x ∷ i) j i' j' r w v = absurd (let e = r.0 in cc)
-  row_waits (Pending ∷ i) [] i' j' r w v = absurd r
   row_waits (Pending ∷ i) (Ready x ∷ j) i' j' r w v = absurd (let e = r.0 in cc)
   row_waits (Pending ∷ i) (Pending ∷ j) i' j' r w v = (rw (← r.1) w, rw (← r.2) v)
+  row_waits i j i' j' r w v = absurd r
 
   pub rows_wait : (order : List Bool) (i j out : List (Poll A)) → PickRows order i j out → Waiting out → Waiting i
       × Waiting j
@@ -56,13 +54,12 @@ module _ {A : Type 0} where
   -- where one of the two lists has no Pending, no row has
   row_calm : (i j : List (Poll A)) (c : Poll A) (i' j' : List (Poll A)) → PickRow i j c i' j' → NoPending i
       ⊎ NoPending j → NoPending (c ∷ []) × (NoPending i' ⊎ NoPending j')
-  row_calm [] j c i' j' r p = absurd r
   row_calm (Ready x ∷ i) j c i' j' r (inl p) = (rw r.0 tt, inl (rw r.1 p))
   row_calm (Ready x ∷ i) j c i' j' r (inr p) = (rw r.0 tt, inr (rw r.2 p))
-  row_calm (Pending ∷ i) [] c i' j' r p = absurd r
   row_calm (Pending ∷ i) (b ∷ j) c i' j' r (inl p) = absurd p
   row_calm (Pending ∷ i) (Pending ∷ j) c i' j' r (inr p) = absurd p
   row_calm (Pending ∷ i) (Ready x ∷ j) c i' j' r (inr p) = (rw r.0 tt, inr (rw r.2 p))
+  row_calm i j c i' j' r p = absurd r
 
   rows_calm : (order : List Bool) (i j out : List (Poll A)) → PickRows order i j out → NoPending i ⊎ NoPending j
       → NoPending out
@@ -75,7 +72,7 @@ module _ {A : Type 0} where
       let d = row_calm j i c r.1 r.0 r.2 (other_way p) in
       no_pending_join (c ∷ []) out d.0 (rows_calm order r.0 r.1 out r.3 (other_way d.1))
 
-module _ {F G A : Type 0} (run_first : Runs (Poll A) F) (run_second : Runs (Poll A) G) where
+module _ {F G A : Type 0} {run_first : Runs (Poll A) F} {run_second : Runs (Poll A) G} where
   pub picks_rest : FutureLaws run_first → FutureLaws run_second → (f : F) (g : G)
       → Picks run_first run_second [] f g [] f g
   picks_rest laws_first laws_second f g =
@@ -88,18 +85,18 @@ module _ {F G A : Type 0} (run_first : Runs (Poll A) F) (run_second : Runs (Poll
         ends = tt;
       }
 
-  pub picks_stay : FutureLaws run_first → FutureLaws run_second
-      → (f f' : F) (g g' : G) → Picks run_first run_second [] f g [] f' g' → (f' ≡ f) × (g' ≡ g)
-  picks_stay laws_first laws_second f f' g g' h = (
+  pub picks_stay : FutureLaws run_first → FutureLaws run_second → {f f' : F} {g g' : G}
+      → Picks run_first run_second [] f g [] f' g' → (f' ≡ f) × (g' ≡ g)
+  picks_stay laws_first laws_second {f} {f'} {g} {g'} h = (
     laws_first.stays f f' (subst (λ l. run_first f l f') h.rows.0 h.first),
     laws_second.stays g g' (subst (λ l. run_second g l g') h.rows.1 h.second),
   )
 
   pub picks_follow : FutureLaws run_first → FutureLaws run_second
-      → (o p : List Bool) (f f' f2 : F) (g g' g2 : G) (l m : List (Poll A)) → Waiting l
+      → {o p : List Bool} {f f' f2 : F} {g g' g2 : G} {l m : List (Poll A)} → Waiting l
       → Picks run_first run_second o f g l f' g' → Picks run_first run_second p f' g' m f2 g2
       → Picks run_first run_second (o ++ p) f g (l ++ m) f2 g2
-  picks_follow laws_first laws_second o p f f' f2 g g' g2 l m w h k =
+  picks_follow laws_first laws_second {o} {p} {f} {f'} {f2} {g} {g'} {g2} {l} {m} w h k =
       let waits = rows_wait o h.i h.j l h.rows w in
       record {
         i = h.i ++ k.i;
@@ -110,14 +107,13 @@ module _ {F G A : Type 0} (run_first : Runs (Poll A) F) (run_second : Runs (Poll
         ends = waiting_up_to l m w k.ends;
       }
 
-module _ {F G A : Type 0} {run_first : Runs (Poll A) F} {run_second : Runs (Poll A) G} {calm_first : F → Type 0}
-    {calm_second : G → Type 0}
-    (c : CalmLaws run_first calm_first) (d : CalmLaws run_second calm_second) where
   -- where one of the two is never pending, they are not
-  pub picks_calm : (order : List Bool) (f f' : F) (g g' : G) (out : List (Poll A)) → calm_first f ⊎ calm_second g
+  pub picks_calm : {calm_first : F → Type 0} {calm_second : G → Type 0} → CalmLaws run_first calm_first
+      → CalmLaws run_second calm_second
+      → {order : List Bool} {f f' : F} {g g' : G} {out : List (Poll A)} → calm_first f ⊎ calm_second g
       → Picks run_first run_second order f g out f' g'
       → NoPending out × (calm_first f' ⊎ calm_second g')
-  picks_calm order f f' g g' out (inl k) h =
+  picks_calm c d {order} {f} {f'} {out} (inl k) h =
       (rows_calm order h.i h.j out h.rows (inl (c.no_pending f f' h.i k h.first)), inl (c.calm_on f f' h.i k h.first))
-  picks_calm order f f' g g' out (inr k) h =
+  picks_calm c d {order} {g} {g'} {out} (inr k) h =
       (rows_calm order h.i h.j out h.rows (inr (d.no_pending g g' h.j k h.second)), inr (d.calm_on g g' h.j k h.second))

@@ -1,72 +1,53 @@
 -- Laws of `race`.
 use Rattle.std.specs.Prelude.{◌⊎◌}
-use Rattle.std.proofs.Common.{◌≡◌, ◌≤◌, List, [], ◌∷◌, ◌++◌, length, map, refl, subst, sym, append-nil, arith}
+use Rattle.std.proofs.Common.{◌≡◌, ◌≤◌, List, [], ◌∷◌, ◌++◌, length, refl, subst, sym, append-nil, arith}
 use Rattle.std.proofs.lemmas.List.{map-append}
 use Rattle.rand_core.specs.Stream.{Stream, next_u32}
 use Rattle.futures.specs.declared.task.Poll.{Poll}
 use Rattle.lite_base.specs.Answers.{Waiting, strip}
 use Rattle.lite_base.specs.Calm.{CalmLaws, NoPending}
-use Rattle.lite_base.specs.Future.Race.{FutureRaces, FutureRacesOn, is_first}
+use Rattle.lite_base.specs.Future.Race.{FutureRacesOn, is_first}
 use Rattle.lite_base.specs.FutureLaws.{FutureLaws}
 use Rattle.lite_base.specs.Laws.Answers.{up_to_once}
 use Rattle.lite_base.specs.Laws.Calls.{folds_follow}
+use Rattle.lite_base.specs.Laws.Calm.{calm_both}
 use Rattle.lite_base.specs.Laws.Future.Picks.{picks_calm, picks_follow}
 use Rattle.lite_base.specs.declared.future.race.Race.{Race}
 use Rattle.lite_base.specs.Runs.{Runs}
 
-module _ {F G R A : Type 0} (run_first : Runs (Poll A) F) (run_second : Runs (Poll A) G) (stream : R → Stream) where
-  races_once : (x y : Race F G R) (l : List (Poll A)) → FutureRacesOn run_first run_second stream x l y
-      → length (strip l) ≤ 1
-  races_once x y [] h = omega arith
-  races_once x y (c ∷ l) h = up_to_once (c ∷ l) h.picks.ends
+module _ {F G R A : Type 0} {run_first : Runs (Poll A) F} {run_second : Runs (Poll A) G} (stream : R → Stream) where
+  module _ (laws_first : FutureLaws run_first) (laws_second : FutureLaws run_second) where
+    races_once : (x y : Race F G R) (l : List (Poll A)) → FutureRacesOn run_first run_second stream x l y
+        → length (strip l) ≤ 1
+    races_once x y [] h = omega arith
+    races_once x y (c ∷ l) h = up_to_once (c ∷ l) h.picks.ends
 
-  joined : FutureLaws run_first → FutureLaws run_second
-      → (x y z : Race F G R) (l m : List (Poll A)) → Waiting l → FutureRaces run_first run_second stream x l y
-      → FutureRaces run_first run_second stream y m z → FutureRaces run_first run_second stream x (l ++ m) z
-  joined laws_first laws_second x y z l m w h k =
-      record {
-        words = h.words ++ k.words;
-        drawn = folds_follow (λ s word left. (word, left) ≡ next_u32 s) (stream x.rng) (stream y.rng)
-            (stream z.rng) h.words k.words h.drawn k.drawn;
-        picks = rw (map-append is_first h.words k.words)
-            (picks_follow run_first run_second laws_first laws_second (map is_first h.words)
-            (map is_first k.words) x.future1 y.future1 z.future1 x.future2 y.future2 z.future2 l m w h.picks k.picks);
-      }
+    races_follow : (x y z : Race F G R) (l m : List (Poll A)) → Waiting l
+        → FutureRacesOn run_first run_second stream x l y → FutureRacesOn run_first run_second stream y m z
+        → FutureRacesOn run_first run_second stream x (l ++ m) z
+    races_follow x y z [] m w h k = subst (λ t. FutureRacesOn run_first run_second stream t m z) h k
+    races_follow x y z (c ∷ l) [] w h k =
+        rw (append-nil (c ∷ l)) (subst (λ t. FutureRacesOn run_first run_second stream x (c ∷ l) t) (sym k) h)
+    races_follow x y z (c ∷ l) (d ∷ m) w h k =
+        record {
+          words = h.words ++ k.words;
+          drawn = folds_follow (λ s word left. (word, left) ≡ next_u32 s) (stream x.rng) (stream y.rng)
+              (stream z.rng) h.words k.words h.drawn k.drawn;
+          picks = rw (map-append is_first h.words k.words)
+              (picks_follow laws_first laws_second w h.picks k.picks);
+        }
 
-  races_follow : FutureLaws run_first → FutureLaws run_second
-      → (x y z : Race F G R) (l m : List (Poll A)) → Waiting l → FutureRacesOn run_first run_second stream x l y
-      → FutureRacesOn run_first run_second stream y m z → FutureRacesOn run_first run_second stream x (l ++ m) z
-  races_follow laws_first laws_second x y z [] m w h k =
-      subst (λ t. FutureRacesOn run_first run_second stream t m z) h k
-  races_follow laws_first laws_second x y z (c ∷ l) [] w h k =
-      subst (λ t. FutureRacesOn run_first run_second stream x t z) (sym (append-nil (c ∷ l)))
-      (subst (λ t. FutureRacesOn run_first run_second stream x (c ∷ l) t) (sym k) h)
-  races_follow laws_first laws_second x y z (c ∷ l) (d ∷ m) w h k =
-      joined laws_first laws_second x y z (c ∷ l) (d ∷ m) w h k
+    pub races_laws : FutureLaws (FutureRacesOn run_first run_second stream)
+    races_laws = record { rests = λ x. refl; stays = λ x y h. h; follows = races_follow; once = races_once }
 
-  pub races_laws : FutureLaws run_first → FutureLaws run_second → FutureLaws (FutureRacesOn run_first run_second stream)
-  races_laws laws_first laws_second =
-      record {
-        rests = λ x. refl;
-        stays = λ x y h. h;
-        follows = races_follow laws_first laws_second;
-        once = races_once;
-      }
+  module _ {calm_first : F → Type 0} {calm_second : G → Type 0} (c : CalmLaws run_first calm_first)
+      (d : CalmLaws run_second calm_second) where
+    calm_run : (x y : Race F G R) (l : List (Poll A)) → calm_first x.future1 ⊎ calm_second x.future2
+        → FutureRacesOn run_first run_second stream x l y → NoPending l × (calm_first y.future1 ⊎ calm_second y.future2)
+    calm_run x y [] k h = rw h (tt, k)
+    calm_run x y (a ∷ l) k h = picks_calm c d k h.picks
 
-module _ {F G R A : Type 0} {run_first : Runs (Poll A) F} {run_second : Runs (Poll A) G} (stream : R → Stream)
-    {calm_first : F → Type 0} {calm_second : G → Type 0}
-    (c : CalmLaws run_first calm_first) (d : CalmLaws run_second calm_second) where
-  calm_run : (x y : Race F G R) (l : List (Poll A)) → calm_first x.future1 ⊎ calm_second x.future2
-      → FutureRacesOn run_first run_second stream x l y → NoPending l × (calm_first y.future1 ⊎ calm_second y.future2)
-  calm_run x y [] k h = rw h (tt, k)
-  calm_run x y (a ∷ l) k h =
-      picks_calm c d (map is_first h.words) x.future1 y.future1 x.future2 y.future2 (a ∷ l) k h.picks
-
-  -- where one of the two is never pending
-  pub races_calm : CalmLaws (FutureRacesOn run_first run_second stream)
-      (λ x. calm_first x.future1 ⊎ calm_second x.future2)
-  races_calm =
-      record {
-        no_pending = λ x y l k h. (calm_run x y l k h).0;
-        calm_on = λ x y l k h. (calm_run x y l k h).1;
-      }
+    -- where one of the two is never pending
+    pub races_calm : CalmLaws (FutureRacesOn run_first run_second stream)
+        (λ x. calm_first x.future1 ⊎ calm_second x.future2)
+    races_calm = calm_both calm_run

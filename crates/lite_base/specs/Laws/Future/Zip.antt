@@ -7,13 +7,14 @@ use Rattle.lite_base.specs.Future.Half.{HalvesBy, IfAsked}
 use Rattle.lite_base.specs.Future.Zip.{FutureZips}
 use Rattle.lite_base.specs.FutureLaws.{FutureLaws}
 use Rattle.lite_base.specs.Laws.Alike.{alike_agrees, by_value, up_to_gives}
+use Rattle.lite_base.specs.Laws.Calm.{calm_both}
 use Rattle.lite_base.specs.Laws.Future.Agree.{HalvesAgree, zips_agree}
 use Rattle.lite_base.specs.Laws.Future.Half.{stands_found}
 use Rattle.lite_base.specs.Laws.Future.Together.{taken_up_to, together_calm, together_follow, together_once}
 use Rattle.lite_base.specs.Laws.Future.Together.{together_rest, together_stay}
 use Rattle.lite_base.specs.Steady.{FutureSteadyLawsBy, SteadinessBy}
 use Rattle.lite_base.specs.declared.future.half.Half.{Half}
-use Rattle.lite_base.specs.declared.future.half.Half.TheVariants.{Asked, Gave, Taken}
+use Rattle.lite_base.specs.declared.future.half.Half.TheVariants.{Asked}
 use Rattle.lite_base.specs.declared.future.zip.Zip.{Zip}
 use Rattle.lite_base.specs.Runs.{Runs}
 
@@ -25,40 +26,23 @@ module _ {F G A B : Type 0} {run_first : Runs (Poll A) F} {run_second : Runs (Po
   pub zips_laws : FutureLaws run_first → FutureLaws run_second → FutureLaws (Zipped run_first run_second)
   zips_laws laws_first laws_second =
       record {
-        rests = λ x. together_rest (λ v. v) (λ w. w)
-            (λ v w. (v, w)) run_first run_second laws_first laws_second x.first x.second;
-        stays = λ x y h.
-            let e = together_stay (λ v. v) (λ w. w)
-            (λ v w. (v, w)) run_first run_second laws_first laws_second x.first y.first x.second y.second h in
+        rests = λ x. together_rest laws_first laws_second x.first x.second;
+        stays = λ x y h. let e = together_stay laws_first laws_second h in
             λ i. record { first = e.0 i; second = e.1 i };
-        follows = λ x y z. together_follow (λ v. v) (λ w. w)
-            (λ v w. (v, w)) run_first run_second laws_first laws_second x.first y.first z.first x.second y.second
-            z.second;
-        once = λ x y. together_once (λ v. v) (λ w. w)
-            (λ v w. (v, w)) run_first run_second x.first y.first x.second y.second;
+        follows = λ x y z l m. together_follow laws_first laws_second;
+        once = λ x y l. together_once;
       }
 
   pub zips_calm : {calm_first : F → Type 0} {calm_second : G → Type 0} → CalmLaws run_first calm_first
       → CalmLaws run_second calm_second
       → CalmLaws (Zipped run_first run_second) (λ x. IfAsked x.first calm_first × IfAsked x.second calm_second)
-  zips_calm c d =
-      record {
-        no_pending = λ x y l k h.
-            (together_calm (λ v. v) (λ w. w) (λ v w. (v, w)) c d x.first y.first x.second y.second l k h).0;
-        calm_on = λ x y l k h.
-            (together_calm (λ v. v) (λ w. w) (λ v w. (v, w)) c d x.first y.first x.second y.second l k h).1;
-      }
+  zips_calm c d = calm_both (λ x y l. together_calm c d)
 
 module _ {F A : Type 0} (same : Sameness A) (run : Runs (Poll A) F) (alike : F → F → Type 0)
     (s : SteadinessBy (SameItem same) run alike) where
   halves_agree : (x y : Half F A) → HalvesBy same alike x y → HalvesAgree same run x y
   halves_agree (Asked f) (Asked g) e = alike_agrees run f g (s f g e)
-  halves_agree (Asked f) (Gave w) e = e
-  halves_agree (Asked f) Taken e = e
-  halves_agree (Gave v) (Gave w) e = e
-  halves_agree (Gave v) (Asked g) e = e
-  halves_agree (Gave v) Taken e = e
-  halves_agree Taken y e = e
+  halves_agree x y e = e
 
 module _ {F G A B : Type 0} {run_first ample_first : Runs (Poll A) F} {run_second ample_second : Runs (Poll B) G}
     {none_first none_second : Type 0} {alike_first : F → F → Type 0} {alike_second : G → G → Type 0}

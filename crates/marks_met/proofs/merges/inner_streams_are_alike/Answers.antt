@@ -1,5 +1,5 @@
 use Rattle.std.proofs.Common.{None}
-use Rattle.lite_flatten.specs.Laws.SteadyFlatten.{inner_alike}
+use Rattle.lite_reshape.specs.Laws.SteadyFlatten.{inner_alike}
 use Rattle.marks_met.proofs.merges.inner_streams_are_alike.Goals as goal
 
 pub returns : goal.returns

@@ -1,4 +1,4 @@
-use Rattle.lite_flatten.specs.Laws.Cloned.{cloned_ample}
+use Rattle.lite_reshape.specs.Laws.Cloned.{cloned_ample}
 use Rattle.nests_agree.proofs.clones.clones_agree.Goals as goal
 
 pub returns : goal.returns

@@ -3,7 +3,7 @@ use Rattle.std.specs.Fn.{CalledAt}
 use Rattle.lite_base.specs.Alike.{Sameness}
 use Rattle.lite_base.specs.Calling.{Kin, KinAnswers}
 use Rattle.lite_base.specs.Laws.Calling.{agree_narrower, answers_agree_from, kin_answers_by}
-use Rattle.lite_lines.specs.Laws.Marks.{SameText}
+use Rattle.lite_read.specs.Laws.Marks.{SameText}
 use Rattle.lite_read.specs.Deterministic.{SameByKind, SameOr}
 use Rattle.nests_agree.proofs.Found.{all_zip_as, both_found, gathered_as, same_items}
 use Rattle.nests_agree.proofs.FoundLengths.{lengths_ample}

@@ -1,7 +1,7 @@
 use Rattle.std.proofs.Common.{◌≡◌}
 use Rattle.nests_agree.proofs.FoundLines.{tried_found}
 use Rattle.lite_base.specs.Alike.{Sameness}
-use Rattle.lite_lines.specs.Laws.Marks.{SameText}
+use Rattle.lite_read.specs.Laws.Marks.{SameText}
 use Rattle.nests_agree.proofs.Found.{both_found, same_items, try_gathered_as}
 use Rattle.nests_agree.proofs.collected.tried_lines_agree.Goals as goal
 

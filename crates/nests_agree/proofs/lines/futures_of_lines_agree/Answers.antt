@@ -1,6 +1,6 @@
 use Rattle.std.proofs.Common.{rules, refl}
 use Rattle.lite_base.specs.Laws.Calling.{answers_agree_from}
-use Rattle.lite_lines.specs.Laws.Marks.{SameText}
+use Rattle.lite_read.specs.Laws.Marks.{SameText}
 use Rattle.lite_read.specs.Deterministic.{SameOr}
 use Rattle.nests_agree.proofs.SameLengths.{same_future}
 use Rattle.nests_agree.specs.Lengths.{WillGiveLength}

@@ -4,7 +4,7 @@ use Rattle.lite_base.specs.Answers.{strip}
 use Rattle.lite_base.specs.Calling.{Kin}
 use Rattle.lite_base.specs.Laws.Alike.{comparable_as, option_as}
 use Rattle.lite_base.specs.Laws.Calling.{agree_narrower, answers_agree_from, kin_answers_by}
-use Rattle.lite_lines.specs.Laws.Marks.{SameText}
+use Rattle.lite_read.specs.Laws.Marks.{SameText}
 use Rattle.lite_read.specs.Deterministic.{SameByKind, SameOr}
 use Rattle.nests_agree.proofs.SameLengths.{same_length, same_tested}
 use Rattle.nests_agree.specs.Lengths.{IsLength, IsTested}

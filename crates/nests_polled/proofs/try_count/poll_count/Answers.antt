@@ -1,7 +1,8 @@
 use Rattle.std.proofs.Common.{◌∙◌, ℕ, [], ◌∷◌, Some, None, Result, Ok, ap, sym, subst}
 use Rattle.futures.specs.declared.task.Poll.{Poll}
 use Rattle.lite_base.specs.Answers.{Answer, item, items}
-use Rattle.lite_base.specs.Chain.{NextStep, Reaches, Reaches-back}
+use Rattle.lite_base.specs.Chain.{NextStep, Reaches}
+use Rattle.lite_base.specs.Laws.Chain.{Reaches-back}
 use Rattle.lite_base.specs.OkRanks.{all_ok}
 use Rattle.lite_base.specs.StreamLaws.{StreamLaws}
 use Rattle.lite_base.specs.Runs.{Hints, Runs}

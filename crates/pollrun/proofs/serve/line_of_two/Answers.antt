@@ -3,8 +3,8 @@ use Rattle.lite_base.specs.Answers.{Answer}
 use Rattle.lite_source.specs.Script.{GivesScript}
 use Rattle.lite_stream.specs.Fuse.{FusesOn}
 use Rattle.lite_stream.specs.Through.{Through}
-use Rattle.lite_flatten.specs.Chain.{Joins}
-use Rattle.lite_flatten.specs.declared.chain.Part.TheVariants.{First}
+use Rattle.lite_reshape.specs.Chain.{Joins}
+use Rattle.lite_reshape.specs.declared.chain.Part.TheVariants.{First}
 use Rattle.lite_merge.specs.Zip.{Pairs}
 use Rattle.pollrun.proofs.Ended.{given_fused}
 use Rattle.pollrun.proofs.Piped.{on_ok}

@@ -1,8 +1,9 @@
 use Rattle.std.specs.Prelude.{string_bytes}
-use Rattle.lite_io_base.specs.Known.{knows_spends}
-use Rattle.lite_lines.specs.Texts.{IsText, without_return}
-use Rattle.lite_byte_views.specs.Laws.Streams.{pieces_fit}
-use Rattle.lite_byte_views.specs.OkLists.{OkLists, ok_seen}
+use Rattle.lite_io_base.specs.Laws.Known.{knows_spends}
+use Rattle.lite_read.specs.LineText.{IsText, without_return}
+use Rattle.lite_views.specs.Laws.Streams.{pieces_fit}
+use Rattle.lite_views.specs.OkLists.{OkLists}
+use Rattle.lite_views.specs.Laws.OkLists.{ok_seen}
 use Rattle.futures_lite.proofs.io.AsyncBufReadExt.lines.Goals as goal
 
 pub returns-clause-read : goal.returns-clause-read

@@ -1,8 +1,8 @@
 use Rattle.std.proofs.Common.{◌∙◌, ap}
 use Rattle.std.specs.Prelude.{string_bytes}
-use Rattle.lite_io_base.specs.Known.{knows_spends}
-use Rattle.lite_byte_views.specs.Laws.Futures.{when_left}
-use Rattle.lite_byte_views.specs.Laws.Until.{read_text_line}
+use Rattle.lite_io_base.specs.Laws.Known.{knows_spends}
+use Rattle.lite_views.specs.Laws.Futures.{when_left}
+use Rattle.lite_views.specs.Laws.Until.{read_text_line}
 use Rattle.futures_lite.proofs.io.AsyncBufReadExt.read_line.Goals as goal
 
 pub returns-clause-line : goal.returns-clause-line

@@ -1,7 +1,7 @@
 use Rattle.std.proofs.Common.{ap, refl}
-use Rattle.lite_io_base.specs.Known.{knows_spends}
-use Rattle.lite_byte_views.specs.Laws.Futures.{when_left}
-use Rattle.lite_byte_views.specs.Laws.Until.{read_piece}
+use Rattle.lite_io_base.specs.Laws.Known.{knows_spends}
+use Rattle.lite_views.specs.Laws.Futures.{when_left}
+use Rattle.lite_views.specs.Laws.Until.{read_piece}
 use Rattle.futures_lite.proofs.io.AsyncBufReadExt.read_until.Goals as goal
 
 pub returns-clause-piece : goal.returns-clause-piece

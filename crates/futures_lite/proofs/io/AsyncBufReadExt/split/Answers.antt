@@ -1,7 +1,8 @@
-use Rattle.lite_io_base.specs.Known.{knows_spends}
-use Rattle.lite_lines.specs.Split.{IsVec}
-use Rattle.lite_byte_views.specs.Laws.Streams.{pieces_fit}
-use Rattle.lite_byte_views.specs.OkLists.{OkLists, ok_seen}
+use Rattle.lite_io_base.specs.Laws.Known.{knows_spends}
+use Rattle.lite_read.specs.Split.{IsVec}
+use Rattle.lite_views.specs.Laws.Streams.{pieces_fit}
+use Rattle.lite_views.specs.OkLists.{OkLists}
+use Rattle.lite_views.specs.Laws.OkLists.{ok_seen}
 use Rattle.futures_lite.proofs.io.AsyncBufReadExt.split.Goals as goal
 
 pub returns-clause-read : goal.returns-clause-read

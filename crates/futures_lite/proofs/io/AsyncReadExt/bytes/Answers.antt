@@ -1,7 +1,8 @@
 use Rattle.std.proofs.Common.{refl}
-use Rattle.lite_io_base.specs.Known.{knows_spends}
-use Rattle.lite_views.specs.Views.{Lists, seen}
-use Rattle.lite_byte_views.specs.Laws.Streams.{bytes_fit}
+use Rattle.lite_io_base.specs.Laws.Known.{knows_spends}
+use Rattle.lite_views.specs.Views.{Lists}
+use Rattle.lite_views.specs.Laws.Views.{seen}
+use Rattle.lite_views.specs.Laws.Streams.{bytes_fit}
 use Rattle.futures_lite.proofs.io.AsyncReadExt.bytes.Goals as goal
 
 pub returns-clause-lists : goal.returns-clause-lists

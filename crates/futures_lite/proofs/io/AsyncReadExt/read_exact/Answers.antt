@@ -1,7 +1,7 @@
 use Rattle.std.proofs.Common.{ap, refl}
-use Rattle.lite_io_base.specs.Known.{knows_spends}
-use Rattle.lite_byte_views.specs.Laws.Exact.{exactly_read}
-use Rattle.lite_byte_views.specs.Laws.Futures.{when_left}
+use Rattle.lite_io_base.specs.Laws.Known.{knows_spends}
+use Rattle.lite_views.specs.Laws.Exact.{exactly_read}
+use Rattle.lite_views.specs.Laws.Futures.{when_left}
 use Rattle.futures_lite.proofs.io.AsyncReadExt.read_exact.Goals as goal
 
 pub returns-clause-first : goal.returns-clause-first

@@ -1,6 +1,6 @@
 use Rattle.std.proofs.Common.{refl, ap}
-use Rattle.lite_io_base.specs.Known.{knows_spends}
-use Rattle.lite_byte_views.specs.Laws.Futures.{all_read, when_left}
+use Rattle.lite_io_base.specs.Laws.Known.{knows_spends}
+use Rattle.lite_views.specs.Laws.Futures.{all_read, when_left}
 use Rattle.futures_lite.proofs.io.AsyncReadExt.read_to_end.Goals as goal
 
 pub returns-clause-all : goal.returns-clause-all

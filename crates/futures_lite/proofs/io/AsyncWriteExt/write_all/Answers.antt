@@ -1,7 +1,7 @@
 use Rattle.std.proofs.Common.{refl, ap}
-use Rattle.lite_io_base.specs.Stored.{stores_kept}
-use Rattle.lite_byte_views.specs.Laws.Futures.{when_left}
-use Rattle.lite_byte_views.specs.Laws.Writing.{all_written}
+use Rattle.lite_io_base.specs.Laws.Stored.{stores_kept}
+use Rattle.lite_views.specs.Laws.Futures.{when_left}
+use Rattle.lite_views.specs.Laws.Writing.{all_written}
 use Rattle.futures_lite.proofs.io.AsyncWriteExt.write_all.Goals as goal
 
 pub returns-clause-all : goal.returns-clause-all

@@ -1,7 +1,8 @@
 use Rattle.std.proofs.Common.{refl}
 use Rattle.lite_base.specs.Calling.{Calls}
 use Rattle.lite_views.specs.Laws.Consuming.{finished_makes, all_made}
-use Rattle.lite_views.specs.Views.{Lists, value_is}
+use Rattle.lite_views.specs.Views.{Lists}
+use Rattle.lite_views.specs.Laws.Views.{value_is}
 use Rattle.futures_lite.proofs.stream.StreamExt.all.Goals as goal
 
 pub returns-clause-value : goal.returns-clause-value

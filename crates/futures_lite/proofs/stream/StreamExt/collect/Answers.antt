@@ -1,6 +1,7 @@
 use Rattle.std.proofs.Common.{[]}
 use Rattle.lite_views.specs.Laws.Consuming.{finished_makes, collect_made, filled}
-use Rattle.lite_views.specs.Views.{Lists, seen, value_holds}
+use Rattle.lite_views.specs.Views.{Lists}
+use Rattle.lite_views.specs.Laws.Views.{seen, value_holds}
 use Rattle.futures_lite.proofs.stream.StreamExt.collect.Goals as goal
 
 pub returns-clause-value : goal.returns-clause-value

@@ -1,6 +1,7 @@
 use Rattle.std.proofs.Common.{refl}
 use Rattle.lite_views.specs.Laws.Consuming.{finished_makes, counted_made}
-use Rattle.lite_views.specs.Views.{Lists, value_is}
+use Rattle.lite_views.specs.Views.{Lists}
+use Rattle.lite_views.specs.Laws.Views.{value_is}
 use Rattle.futures_lite.proofs.stream.StreamExt.count.Goals as goal
 
 pub returns-clause-value : goal.returns-clause-value

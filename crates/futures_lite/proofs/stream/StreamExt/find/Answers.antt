@@ -1,5 +1,6 @@
 use Rattle.lite_views.specs.Laws.Consuming.{finished_makes, find_made}
-use Rattle.lite_views.specs.Views.{Lists, value_is}
+use Rattle.lite_views.specs.Views.{Lists}
+use Rattle.lite_views.specs.Laws.Views.{value_is}
 use Rattle.std.proofs.Common.{refl}
 use Rattle.std.specs.Fn.{CalledAt}
 use Rattle.futures_lite.proofs.stream.StreamExt.find.Goals as goal

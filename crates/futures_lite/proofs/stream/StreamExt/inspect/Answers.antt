@@ -1,7 +1,8 @@
 use Rattle.std.proofs.Common.{refl}
 use Rattle.std.specs.Fn.{CalledAt}
 use Rattle.lite_views.specs.Laws.Adapting.{shown_fits}
-use Rattle.lite_views.specs.Views.{Lists, seen}
+use Rattle.lite_views.specs.Views.{Lists}
+use Rattle.lite_views.specs.Laws.Views.{seen}
 use Rattle.futures_lite.proofs.stream.StreamExt.inspect.Goals as goal
 
 pub returns-clause-lists : goal.returns-clause-lists

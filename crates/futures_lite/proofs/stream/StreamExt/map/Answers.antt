@@ -2,7 +2,8 @@ use Rattle.std.proofs.Common.{refl}
 use Rattle.lite_base.specs.Calling.{Calls}
 use Rattle.lite_views.specs.Laws.Asking.{may_ask}
 use Rattle.lite_views.specs.Laws.Adapting.{mapped_fits}
-use Rattle.lite_views.specs.Views.{Fronts, Lists, seen}
+use Rattle.lite_views.specs.Views.{Fronts, Lists}
+use Rattle.lite_views.specs.Laws.Views.{seen}
 use Rattle.futures_lite.proofs.stream.StreamExt.map.Goals as goal
 
 pub returns-clause-lists : goal.returns-clause-lists

@@ -1,7 +1,8 @@
 use Rattle.std.proofs.Common.{refl}
 use Rattle.lite_base.specs.Calling.{Calls}
 use Rattle.lite_views.specs.Laws.Adapting.{mapped_while_fits, map_while_fewer}
-use Rattle.lite_views.specs.Views.{Lists, seen}
+use Rattle.lite_views.specs.Views.{Lists}
+use Rattle.lite_views.specs.Laws.Views.{seen}
 use Rattle.futures_lite.proofs.stream.StreamExt.map_while.Goals as goal
 
 pub returns-clause-lists : goal.returns-clause-lists

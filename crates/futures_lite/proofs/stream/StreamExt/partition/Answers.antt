@@ -1,7 +1,8 @@
 use Rattle.std.proofs.Common.{refl}
 use Rattle.std.specs.Fn.{CalledAt}
 use Rattle.lite_views.specs.Laws.Consuming.{accepted_made, finished_makes, others_made}
-use Rattle.lite_views.specs.Views.{Lists, value_holds}
+use Rattle.lite_views.specs.Views.{Lists}
+use Rattle.lite_views.specs.Laws.Views.{value_holds}
 use Rattle.futures_lite.proofs.stream.StreamExt.partition.Goals as goal
 
 pub returns-clause-accepted : goal.returns-clause-accepted

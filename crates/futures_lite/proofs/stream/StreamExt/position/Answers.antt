@@ -1,6 +1,7 @@
 use Rattle.lite_base.specs.Calling.{Calls}
 use Rattle.lite_views.specs.Laws.Consuming.{finished_makes, position_made}
-use Rattle.lite_views.specs.Views.{Lists, value_is}
+use Rattle.lite_views.specs.Views.{Lists}
+use Rattle.lite_views.specs.Laws.Views.{value_is}
 use Rattle.std.proofs.Common.{refl}
 use Rattle.futures_lite.proofs.stream.StreamExt.position.Goals as goal
 

@@ -1,7 +1,8 @@
 use Rattle.std.proofs.Common.{refl}
 use Rattle.lite_base.specs.Calling.{CallsWith}
 use Rattle.lite_views.specs.Laws.Adapting.{scan_fewer, scanned_fits}
-use Rattle.lite_views.specs.Views.{Lists, seen}
+use Rattle.lite_views.specs.Views.{Lists}
+use Rattle.lite_views.specs.Laws.Views.{seen}
 use Rattle.futures_lite.proofs.stream.StreamExt.scan.Goals as goal
 
 pub returns-clause-lists : goal.returns-clause-lists

@@ -1,6 +1,7 @@
 use Rattle.std.proofs.Common.{refl}
 use Rattle.lite_views.specs.Laws.Adapting.{skipped_fits}
-use Rattle.lite_views.specs.Views.{Lists, seen}
+use Rattle.lite_views.specs.Views.{Lists}
+use Rattle.lite_views.specs.Laws.Views.{seen}
 use Rattle.futures_lite.proofs.stream.StreamExt.skip.Goals as goal
 
 pub returns-clause-lists : goal.returns-clause-lists

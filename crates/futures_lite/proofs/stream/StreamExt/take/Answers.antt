@@ -1,6 +1,7 @@
 use Rattle.std.proofs.Common.{refl}
 use Rattle.lite_views.specs.Laws.Adapting.{repeated_fits, taken_fits}
-use Rattle.lite_views.specs.Views.{GoesOn, Lists, seen}
+use Rattle.lite_views.specs.Views.{GoesOn, Lists}
+use Rattle.lite_views.specs.Laws.Views.{seen}
 use Rattle.futures_lite.proofs.stream.StreamExt.take.Goals as goal
 
 pub returns-clause-lists : goal.returns-clause-lists

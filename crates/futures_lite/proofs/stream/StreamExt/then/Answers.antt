@@ -1,7 +1,8 @@
 use Rattle.std.proofs.Common.{refl}
 use Rattle.lite_base.specs.Calling.{Calls}
 use Rattle.lite_views.specs.Laws.Holding.{awaited_fits}
-use Rattle.lite_views.specs.Views.{HasValue, Lists, seen}
+use Rattle.lite_views.specs.Views.{HasValue, Lists}
+use Rattle.lite_views.specs.Laws.Views.{seen}
 use Rattle.futures_lite.proofs.stream.StreamExt.then.Goals as goal
 
 pub returns-clause-lists : goal.returns-clause-lists

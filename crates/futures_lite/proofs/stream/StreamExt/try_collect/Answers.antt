@@ -1,8 +1,10 @@
 use Rattle.std.proofs.Common.{[]}
-use Rattle.lite_byte_views.specs.Laws.Collecting.{try_collected}
-use Rattle.lite_byte_views.specs.OkLists.{OkLists, ok_seen}
+use Rattle.lite_views.specs.Laws.Collecting.{try_collected}
+use Rattle.lite_views.specs.OkLists.{OkLists}
+use Rattle.lite_views.specs.Laws.OkLists.{ok_seen}
 use Rattle.lite_views.specs.Laws.Consuming.{finished_makes, try_collect_made, filled}
-use Rattle.lite_views.specs.Views.{Lists, seen, value_holds}
+use Rattle.lite_views.specs.Views.{Lists}
+use Rattle.lite_views.specs.Laws.Views.{seen, value_holds}
 use Rattle.futures_lite.proofs.stream.StreamExt.try_collect.Goals as goal
 
 pub returns-clause-value : goal.returns-clause-value

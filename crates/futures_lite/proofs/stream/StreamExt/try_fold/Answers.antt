@@ -1,6 +1,7 @@
 use Rattle.lite_consume.specs.Calls.{CallsBoth}
 use Rattle.lite_views.specs.Laws.Consuming.{finished_makes, try_fold_made}
-use Rattle.lite_views.specs.Views.{Lists, value_is}
+use Rattle.lite_views.specs.Views.{Lists}
+use Rattle.lite_views.specs.Laws.Views.{value_is}
 use Rattle.std.proofs.Common.{refl}
 use Rattle.futures_lite.proofs.stream.StreamExt.try_fold.Goals as goal
 

@@ -1,5 +1,6 @@
 use Rattle.lite_views.specs.Laws.Consuming.{finished_makes, try_next_made}
-use Rattle.lite_views.specs.Views.{Lists, value_is}
+use Rattle.lite_views.specs.Views.{Lists}
+use Rattle.lite_views.specs.Laws.Views.{value_is}
 use Rattle.futures_lite.proofs.stream.StreamExt.try_next.Goals as goal
 
 pub returns-clause-value : goal.returns-clause-value

@@ -1,5 +1,6 @@
 use Rattle.lite_views.specs.Laws.Consuming.{finished_makes, unzip_made, both_filled}
-use Rattle.lite_views.specs.Views.{Lists, seen, value_holds}
+use Rattle.lite_views.specs.Views.{Lists}
+use Rattle.lite_views.specs.Laws.Views.{seen, value_holds}
 use Rattle.std.proofs.Common.{[]}
 use Rattle.futures_lite.proofs.stream.StreamExt.unzip.Goals as goal
 

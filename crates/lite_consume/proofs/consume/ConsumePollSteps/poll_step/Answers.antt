@@ -33,5 +33,5 @@ returns-in-Pending-clause-stepped g c =
     (λ p x o q. TakesIn g.F.Folder.fold p x q) g.F.Folder.can_take
     g.met.S.Stream.laws.follows _ _ _ c.requires.3 ran in (
       (c.poll_next.ensures.again, g.met.F.Folder.returns.counts_on _ _ _ c.requires.1 ran, c.requires.2, more),
-      (ran, refl),
+      (_, ran, refl),
     )

@@ -1,6 +1,8 @@
-use Rattle.std.proofs.Common.{◌∙◌, length, arith}
+use Rattle.std.proofs.Common.{◌≡◌, ◌∙◌, ◌<◌, [], ◌∷◌, Ok, Err, length, take, refl, rules, arith, length-take-le}
 use borrow.Rule.Slice.PartMut.{mid_len}
-use Rattle.lite_read.proofs.Filling.{read_more}
+use Rattle.futures.specs.declared.task.Poll.TheVariants.{Ready, Pending}
+use Rattle.lite_io_base.specs.Marks.{ReadMark}
+use Rattle.lite_read.proofs.Filling.{exact_full, moved_none, read_more, read_none}
 use Rattle.lite_read.proofs.read_exact.ReadExactFuturePollSteps.poll_step.Goals as goal
 
 pub returns-in-Ready-Ok-clause-stepped : goal.returns-in-Ready-Ok-clause-stepped
@@ -12,3 +14,37 @@ returns-in-Ready-Ok-clause-stepped g c =
     let ran = rw c.in-Ready-Ok.field-0-is at (rw c.in-Ready-Ok.is at e.ran) in
     read_more g.R.Tale.reads x c.poll_read.new.self c.poll_read.new.buf c.in-Ready-Ok.n c.requires long most
     (omega (arith, c.in-Ready-Ok.n-test)) ran
+
+pub returns-then-self-clause-stepped : goal.returns-then-self-clause-stepped
+returns-then-self-clause-stepped g c =
+    let x = c.args.self.now in exact_full g.R.Tale.reads x (g.R.Tale.read_laws.rests x.reader.now) c.if-self.true
+
+pub returns-in-Ready-Ok-eq0-clause-stepped : goal.returns-in-Ready-Ok-eq0-clause-stepped
+returns-in-Ready-Ok-eq0-clause-stepped g c =
+    let x = c.args.self.now in
+    let long = c.poll_read.auto.buf ∙ mid_len x.filled (length x.buf.now) x.buf.now (omega arith) in
+    let is : c.poll_read.result ≡ Ready (Ok 0) = search rules in
+    let front = length-take-le x.filled x.buf.now c.requires in
+    let room : length (take x.filled x.buf.now) < length x.buf.now = omega (arith, front, c.if-self.false, c.requires) in
+    let some : 0 < length c.poll_read.new.buf = omega (arith, long, front, room) in
+    read_none g.R.Tale.reads x c.poll_read.new.self c.poll_read.new.buf (ReadMark.end ∷ []) (Ready (Err c.into.result))
+    c.requires long ((room, c.into.ensures), refl) (rw (is, moved_none c.poll_read.new.buf some) at c.poll_read.ensures.ran)
+
+pub returns-in-Ready-Err-clause-stepped : goal.returns-in-Ready-Err-clause-stepped
+returns-in-Ready-Err-clause-stepped g c =
+    let x = c.args.self.now in
+    let long = c.poll_read.auto.buf ∙ mid_len x.filled (length x.buf.now) x.buf.now (omega arith) in
+    let is : c.poll_read.result ≡ Ready (Err c.in-Ready-Err.e) = search rules in
+    let front = length-take-le x.filled x.buf.now c.requires in
+    let room : length (take x.filled x.buf.now) < length x.buf.now = omega (arith, front, c.if-self.false, c.requires) in
+    read_none g.R.Tale.reads x c.poll_read.new.self c.poll_read.new.buf _ (Ready (Err c.in-Ready-Err.e)) c.requires long
+    ((room, refl), refl) (rw is at c.poll_read.ensures.ran)
+
+pub returns-in-Pending-clause-stepped : goal.returns-in-Pending-clause-stepped
+returns-in-Pending-clause-stepped g c =
+    let x = c.args.self.now in
+    let long = c.poll_read.auto.buf ∙ mid_len x.filled (length x.buf.now) x.buf.now (omega arith) in
+    let front = length-take-le x.filled x.buf.now c.requires in
+    let room : length (take x.filled x.buf.now) < length x.buf.now = omega (arith, front, c.if-self.false, c.requires) in
+    read_none g.R.Tale.reads x c.poll_read.new.self c.poll_read.new.buf (ReadMark.pending ∷ []) Pending c.requires long
+    (refl, room, refl) (rw c.in-Pending.is at c.poll_read.ensures.ran)

@@ -1,10 +1,9 @@
 use Rattle.std.proofs.Common.{Some, refl, rules, ◌≡◌}
-use Rattle.std.specs.Fn.{CalledAt}
+use Rattle.std.specs.Fn.{CalledAt, TakesAt}
 use Rattle.lite_base.specs.Calling.{Always}
 use Rattle.lite_stream.specs.Inspect.{ShowsItem}
 use Rattle.lite_stream.specs.Laws.Pointwise.{exchanged}
 use Rattle.lite_base.specs.Answers.{item}
-use Rattle.std.specs.Fn.{CalledAt, TakesAt}
 use Rattle.lite_stream.specs.Laws.EachItem.{each_asked, each_here}
 use Rattle.lite_stream.proofs.inspect.InspectStream.poll_next.Goals as goal
 

@@ -1,6 +1,6 @@
 use Rattle.std.proofs.Common.{◌≡◌, ◌≤◌, take}
 use Rattle.lite_halves.specs.Counts.{counted_in}
-use Rattle.lite_journal.specs.Entry.{notes_in}
+use Rattle.lite_halves.specs.Entry.{notes_in}
 use Rattle.lite_halves.proofs.journalled.tally.SideBooks.fill.Given as goal
 
 abbrev pub invariant-loop-entry : goal.invariant-loop-entry

@@ -1,6 +1,0 @@
-use Rattle.lite_block.specs.Laws.Given.{given_last}
-use Rattle.lite_consume.specs.Count.{counts}
-use Rattle.lite_block.proofs.block_on.BlockOn.count.Goals as goal
-
-pub returns : goal.returns
-returns g c = given_last (λ f. f.count) counts g.S.Stream.run _ _ _ _ c.ask.ensures.gave

@@ -1,6 +1,0 @@
-use Rattle.lite_block.specs.Laws.Given.{given_last}
-use Rattle.lite_consume.specs.Last.{lasts}
-use Rattle.lite_block.proofs.block_on.BlockOn.last.Goals as goal
-
-pub returns : goal.returns
-returns g c = given_last (λ f. f.last) lasts g.S.Stream.run _ _ _ _ c.ask.ensures.gave

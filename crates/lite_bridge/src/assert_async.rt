@@ -1,0 +1,161 @@
+ghost use Rattle.std.specs.Prelude.{◌≡◌, ⊤};
+ghost use Rattle.std.specs.Borrow.{Lends, sem};
+ghost use Rattle.lite_io_base.specs.Laws.Runs.{idle_laws};
+ghost use Rattle.lite_io_base.specs.Runs.{Idle};
+ghost use Rattle.lite_bridge.specs.Known.{GainsKnown, MovesKnown, SameKnown, SpendsKnown, SpendsWell, known_bytes};
+ghost use Rattle.lite_bridge.specs.Laws.StdKnown.{gains_calm, gains_laws, gains_steady, spends_calm, spends_laws};
+ghost use Rattle.lite_bridge.specs.Laws.StdKnown.{spends_steady};
+
+use crate::interrupted::{MOST_INTERRUPTIONS, insist};
+use lite_base::{Context, Poll};
+use lite_io_base::{
+    AsyncRead, AsyncSeek, AsyncWrite, CalmRead, CalmWrite, SteadyRead, SteadyWrite, Takings, Tale,
+};
+use std::io;
+use std::io::{ErrorKind, IoSlice, Read, Seek, SeekFrom, Write};
+
+/// Asserts that what reads, writes and seeks by the traits of std does so without blocking, and polls it.
+///
+/// A call is one of std's, and again after an interruption, 16 times in a row at most; the 17th is the answer. No
+/// poll is pending. Ported from `src/io.rs`, `AssertAsync`.
+#[derive(Clone, Copy, PartialEq, Eq, PartialOrd, Ord, Hash, Debug, Drop)]
+pub struct AssertAsync<T> {
+    inner: T,
+}
+
+impl<T> AssertAsync<T> {
+    ghost use Rattle.lite_bridge.specs.contracts.assert_async.AssertAsync.{the_row};
+    ghost use Rattle.lite_bridge.specs.AssertAsync.{handle_of};
+
+    /// Polls `io`.
+    pub fn new(io: T) -> AssertAsync<T>
+        ensures { handle_of result ≡ io }
+    {
+        AssertAsync { inner: io }
+    }
+
+    /// The inner handle.
+    pub fn get_ref(&self) -> &T
+        ensures { result.now ≡ handle_of self.now }
+    {
+        &self.inner
+    }
+
+    /// The inner handle, to be changed.
+    pub fn get_mut(&mut self) -> &mut T
+        ensures value { result.now ≡ handle_of self.old }
+        ensures* writes_back { sem 𝓛 (Lends (the_row T.row) T.row self.entry result
+            (λ t. record self.old { inner = t })) }
+    {
+        &mut self.inner
+    }
+
+    /// The inner handle.
+    pub fn into_inner(self) -> T
+        ensures { result ≡ handle_of self }
+    {
+        self.inner
+    }
+}
+
+impl<T: Read> Tale for AssertAsync<T> {
+    ghost use Rattle.lite_bridge.specs.AssertAsync.{handle_of};
+
+    ghost reads = { λ x l y. SpendsKnown (T.remaining (handle_of x)) l (T.remaining (handle_of y)) };
+
+    ghost read_laws = { spends_laws (λ x. T.remaining (handle_of x)) };
+}
+
+#[tactic(auto, using(crate::specs::Laws::StdKnown::read_spends))]
+impl<T: Read> AsyncRead for AssertAsync<T> {
+    /// Reads once, and again after an interruption, up to 16 times in a row.
+    fn poll_read(&mut self, _cx: &mut Context<'_>, buf: &mut [u8]) -> Poll<io::Result<usize>> {
+        insist!(self.inner.read(buf))
+    }
+}
+
+// It is never pending.
+impl<T: Read> CalmRead for AssertAsync<T> {
+    ghost use Rattle.lite_bridge.specs.AssertAsync.{handle_of};
+
+    ghost is_calm = { λ _. ⊤ };
+
+    ghost calm = { spends_calm (λ x. T.remaining (handle_of x)) };
+}
+
+// Two of which the same bytes are known, where no read fails: std doesn't say when an error comes.
+impl<T: Read> SteadyRead for AssertAsync<T> {
+    ghost use Rattle.lite_bridge.specs.AssertAsync.{handle_of};
+
+    ghost ample = { λ x l y. SpendsWell (T.remaining (handle_of x)) l (T.remaining (handle_of y)) };
+
+    ghost needs_none = { ⊥ };
+
+    ghost alike = { λ x y. SameKnown (T.remaining (handle_of x)) (T.remaining (handle_of y)) };
+
+    ghost steady = { spends_steady (λ x. T.remaining (handle_of x)) };
+}
+
+impl<T: Write> Takings for AssertAsync<T> {
+    ghost use Rattle.lite_bridge.specs.AssertAsync.{handle_of};
+
+    ghost writes = { λ x l y. GainsKnown (T.contents (handle_of x)) l (T.contents (handle_of y)) };
+
+    ghost write_laws = { gains_laws (λ x. T.contents (handle_of x)) };
+}
+
+#[tactic(auto, using(crate::specs::Laws::StdKnown::write_gains, crate::specs::Laws::StdKnown::flush_gains, crate::specs::Laws::StdKnown::close_gains))]
+impl<T: Write> AsyncWrite for AssertAsync<T> {
+    fn poll_write(&mut self, _cx: &mut Context<'_>, buf: &[u8]) -> Poll<io::Result<usize>> {
+        insist!(self.inner.write(buf))
+    }
+
+    fn poll_write_vectored(
+        &mut self,
+        _cx: &mut Context<'_>,
+        bufs: &[IoSlice<'_>],
+    ) -> Poll<io::Result<usize>> {
+        insist!(self.inner.write_vectored(bufs))
+    }
+
+    fn poll_flush(&mut self, _cx: &mut Context<'_>) -> Poll<io::Result<()>> {
+        insist!(self.inner.flush())
+    }
+
+    /// Flushes: std's writers have no close.
+    fn poll_close(&mut self, cx: &mut Context<'_>) -> Poll<io::Result<()>> {
+        self.poll_flush(cx)
+    }
+}
+
+// Two of which the same bytes are known to be there.
+impl<T: Write> SteadyWrite for AssertAsync<T> {
+    ghost use Rattle.lite_bridge.specs.AssertAsync.{handle_of};
+
+    ghost alike = { λ x y. SameKnown (T.contents (handle_of x)) (T.contents (handle_of y)) };
+
+    ghost below = { λ x. known_bytes (T.contents (handle_of x)) };
+
+    ghost steady = { gains_steady (λ x. T.contents (handle_of x)) };
+}
+
+// It is never pending.
+impl<T: Write> CalmWrite for AssertAsync<T> {
+    ghost use Rattle.lite_bridge.specs.AssertAsync.{handle_of};
+
+    ghost is_calm = { λ _. ⊤ };
+
+    ghost calm = { gains_calm (λ x. T.contents (handle_of x)) };
+}
+
+#[tactic(auto, using(crate::specs::Laws::StdKnown::seek_moves))]
+impl<T: Seek> AsyncSeek for AssertAsync<T> {
+    ghost use Rattle.lite_bridge.specs.AssertAsync.{handle_of};
+
+    ghost seeks = { λ x pos r y. MovesKnown (T.stream_position (handle_of x)) (T.stream_position (handle_of y))
+        (T.stream_bytes (handle_of x)) (T.stream_bytes (handle_of y)) pos r };
+
+    fn poll_seek(&mut self, _cx: &mut Context<'_>, pos: SeekFrom) -> Poll<io::Result<u64>> {
+        insist!(self.inner.seek(pos))
+    }
+}

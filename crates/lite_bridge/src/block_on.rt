@@ -1,0 +1,186 @@
+ghost use Rattle.std.specs.Prelude.{◌≡◌, ℕ, List, [], length, None, IfSome, IfOk, drop, take};
+ghost use Rattle.std.specs.Borrow.{Lends, sem};
+ghost use Rattle.std.specs.Io.{ReadsAtMost, StartsWith, WritesAtMost};
+ghost use Rattle.std.specs.Io.BufRead.{DropsConsumable, FillKeeps, Rests};
+ghost use Rattle.std.specs.Io.KnownBytes.{Keeps, ReadConsumes, WriteAppends};
+ghost use Rattle.std.specs.Io.Seek.{SeekMoves};
+ghost use Rattle.lite_io_base.specs.Marks.{ReadMark, bytes, fill_marks, read_marks};
+ghost use Rattle.lite_io_base.specs.Takings.{WriteMark, done_marks, write_marks};
+ghost use Rattle.lite_bridge.specs.Waits.{Blocks, GaveOrRefused, SeekBlocks};
+
+use crate::filling::Filling;
+use lite_base::Future;
+use lite_base::future::block_on::BlockOn as Waiter;
+use lite_io_base::{AsyncBufRead, AsyncRead, AsyncSeek, AsyncWrite};
+use lite_read::make::{read, seek};
+use lite_write::make::{flush, write};
+use std::alloc::{AllocError, AllocGlobal};
+use std::io;
+use std::io::{BufRead, Read, Seek, SeekFrom, Write};
+use std::random::RandomSource;
+use std::sync::Wait;
+
+/// Waits on this thread for what is polled, and so reads, writes and seeks by the traits of std.
+///
+/// Each call waits, by `rt`, until its poll is ready, and may wait for ever. An error of the kind `OutOfMemory` may also say that
+/// there was no memory to wait with: then nothing was polled. Whoever writes flushes before the end, since a drop flushes
+/// nothing. Ported from `src/io.rs`, `BlockOn`.
+#[derive(Drop)]
+pub struct BlockOn<R, T> {
+    rt: R,
+    io: T,
+    // Made at the first call, and kept for the others.
+    waiter: Option<Waiter>,
+}
+
+// What is waited with, which is made where there is none yet.
+fn kept<'a, R>(rt: &R, waiter: &'a mut Option<Waiter>) -> Result<&'a mut Waiter, AllocError>
+where
+    R: Wait + RandomSource + AllocGlobal,
+{
+    if waiter.is_none() {
+        *waiter = Some(Waiter::new(rt)?);
+    }
+    match waiter {
+        Some(waiter) => Ok(waiter),
+        None => unreachable!(),
+    }
+}
+
+// Waits for the value of the future.
+fn wait_for<R, F, A>(rt: &R, waiter: &mut Option<Waiter>, future: &mut F) -> io::Result<A>
+where
+    R: Wait + RandomSource + AllocGlobal,
+    F: Future<Output = io::Result<A>>,
+    requires { F.can_poll future.old }
+    ensures { GaveOrRefused F.run future.old result future.new }
+{
+    match kept(rt, waiter) {
+        Ok(waiter) => match waiter.wait_for(rt, future) {
+            Ok(value) => value,
+            Err(e) => Err(e.into()),
+        },
+        Err(e) => Err(e.into()),
+    }
+}
+
+impl<R, T> BlockOn<R, T> {
+    ghost use Rattle.lite_bridge.specs.contracts.block_on.BlockOn.{the_row};
+    ghost use Rattle.lite_bridge.specs.BlockOn.{io_of};
+
+    /// Waits by `rt` for `io`. Nothing is allocated before the first call that waits.
+    pub fn new(rt: R, io: T) -> BlockOn<R, T>
+        ensures { io_of result ≡ io }
+    {
+        BlockOn {
+            rt,
+            io,
+            waiter: None,
+        }
+    }
+
+    /// What is waited for.
+    pub fn get_ref(&self) -> &T
+        ensures { result.now ≡ io_of self.now }
+    {
+        &self.io
+    }
+
+    /// What is waited for, to be changed.
+    pub fn get_mut(&mut self) -> &mut T
+        ensures value { result.now ≡ io_of self.old }
+        ensures* writes_back { sem 𝓛 (Lends (the_row R.row T.row) T.row self.entry result
+            (λ t. record self.old { io = t })) }
+    {
+        &mut self.io
+    }
+
+    /// What is waited for.
+    pub fn into_inner(self) -> T
+    where
+        R: Drop,
+        ensures { result ≡ io_of self }
+    {
+        self.io
+    }
+}
+
+impl<R: Wait + RandomSource + AllocGlobal, T: AsyncRead> Read for BlockOn<R, T> {
+    ghost use Rattle.lite_bridge.specs.BlockOn.{io_of};
+
+    fn read(&mut self, buf: &mut [u8]) -> io::Result<usize>
+        ensures bound { ReadsAtMost result buf.new }
+        ensures bytes { ReadConsumes None None result buf.new }
+        ensures ran { Blocks T.reads ReadMark.pending (λ answer. read_marks answer buf.new) (io_of self.old) result
+            (io_of self.new) }
+    {
+        wait_for(&self.rt, &mut self.waiter, &mut read(&mut self.io, buf))
+    }
+}
+
+impl<R: Wait + RandomSource + AllocGlobal, T: AsyncBufRead> BufRead for BlockOn<R, T> {
+    ghost use Rattle.lite_bridge.specs.contracts.block_on.BlockOn.{the_row};
+    ghost use Rattle.lite_bridge.specs.BlockOn.{io_of};
+
+    /// Waits until there are bytes to be lent, or an end, and lends them.
+    fn fill_buf(&mut self) -> io::Result<&[u8]>
+        ensures front { IfSome None (λ (xs : List ℕ). IfOk result (λ s. StartsWith xs s.now)) }
+        ensures end { IfSome None (λ (xs : List ℕ). IfOk result (λ s. length s.now ≡ 0 → xs ≡ [])) }
+        ensures* after_borrow { sem 𝓛 (Rests (the_row R.row T.row) self.entry (λ new. FillKeeps None None None result
+            × Blocks T.reads ReadMark.pending (λ answer. fill_marks answer (T.lent (io_of new))) (io_of self.old) result
+            (io_of new)
+            × IfOk result (λ s. s.now ≡ T.lent (io_of new)))) }
+        ensures shown { (left : T)
+            × Blocks T.reads ReadMark.pending (λ answer. fill_marks answer (T.lent left))
+            (io_of self.old) result left × IfOk result (λ s. s.now ≡ T.lent left) }
+    {
+        let mut filling = Filling { io: &mut self.io };
+        match wait_for(&self.rt, &mut self.waiter, &mut filling) {
+            Ok(()) => Ok(self.io.buffer()),
+            Err(e) => Err(e),
+        }
+    }
+
+    /// Waits for nothing. Of more bytes than are there to be lent, those are taken.
+    fn consume(&mut self, amount: usize)
+        ensures bytes { DropsConsumable None None None amount }
+        ensures ran { T.reads (io_of self.old) (bytes (take amount (T.lent (io_of self.old)))) (io_of self.new) }
+        ensures rest { T.lent (io_of self.new) ≡ drop amount (T.lent (io_of self.old)) }
+    {
+        let most = self.io.buffer().len();
+        self.io.consume(amount.min(most));
+    }
+}
+
+impl<R: Wait + RandomSource + AllocGlobal, T: AsyncWrite> Write for BlockOn<R, T> {
+    ghost use Rattle.lite_bridge.specs.BlockOn.{io_of};
+
+    fn write(&mut self, buf: &[u8]) -> io::Result<usize>
+        ensures bound { WritesAtMost result buf.now }
+        ensures bytes { WriteAppends None None result buf.now }
+        ensures ran { Blocks T.writes WriteMark.pending (λ answer. write_marks answer buf.now) (io_of self.old) result
+            (io_of self.new) }
+    {
+        wait_for(&self.rt, &mut self.waiter, &mut write(&mut self.io, buf))
+    }
+
+    fn flush(&mut self) -> io::Result<()>
+        ensures bytes { Keeps None None }
+        ensures ran { Blocks T.writes WriteMark.pending (λ answer. done_marks WriteMark.flushed answer)
+            (io_of self.old) result (io_of self.new) }
+    {
+        wait_for(&self.rt, &mut self.waiter, &mut flush(&mut self.io))
+    }
+}
+
+impl<R: Wait + RandomSource + AllocGlobal, T: AsyncSeek> Seek for BlockOn<R, T> {
+    ghost use Rattle.lite_bridge.specs.BlockOn.{io_of};
+
+    fn seek(&mut self, to: SeekFrom) -> io::Result<u64>
+        ensures moves { SeekMoves None None None to result }
+        ensures bytes { Keeps None None }
+        ensures ran { SeekBlocks T.seeks (io_of self.old) to result (io_of self.new) }
+    {
+        wait_for(&self.rt, &mut self.waiter, &mut seek(&mut self.io, to))
+    }
+}

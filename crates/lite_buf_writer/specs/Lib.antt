@@ -1,2 +1,0 @@
-pub mod BufWriter
-pub mod Laws

@@ -1,0 +1,31 @@
+-- When a `BufReader` asks its inner reader.
+use Rattle.std.proofs.Common.{◌≡◌, ◌∙◌, ◌<◌, ℕ, List, [], Result, length, sym, subst, arith}
+use Rattle.std.specs.declared.io.Error.{Error}
+use Rattle.futures.specs.declared.task.Poll.{Poll}
+use Rattle.lite_io_base.specs.Marks.{ReadMark, read_marks}
+use Rattle.lite_buffered.specs.declared.buf_reader.BufReader.{BufReader}
+use Rattle.lite_buffered.specs.BufReader.{AsksWhereEmpty, ReadsOnce, ahead}
+use Rattle.lite_base.specs.Runs.{Runs}
+
+some_ahead : (l : List ℕ) → l ≡ [] → 0 < length l → {A : Type 0} → A
+some_ahead l e some = absurd (omega (arith, subst (λ k. 0 < length k) e some))
+
+module _ {R : Type 0} (reads : Runs ReadMark R) (room : ℕ) (x y : BufReader R) where
+  pub asks_none : 0 < length (ahead x) → y.inner ≡ x.inner → AsksWhereEmpty reads room x y
+  asks_none some same = ((λ e. some_ahead (ahead x) e some), (λ _. same))
+
+  pub asks_one : (r : Poll (Result ℕ Error)) (buf : List ℕ) → length buf ≡ room → ahead x ≡ []
+      → reads x.inner (read_marks r buf) y.inner → AsksWhereEmpty reads room x y
+  asks_one r buf whole none ran =
+      ((λ _. record { answer = r; buf = buf; whole = whole; ran = ran }), (λ some. some_ahead (ahead x) none some))
+
+  -- bytes are taken of what a fill left
+  pub asks_filled : (z : BufReader R) (space : ℕ) → AsksWhereEmpty reads space x z → space ≡ room → y.inner ≡ z.inner
+      → AsksWhereEmpty reads room x y
+  asks_filled z space h is same = (
+    (λ e. subst (λ v. ReadsOnce reads room x.inner v) (sym same)
+        (subst (λ n. ReadsOnce reads n x.inner z.inner) is (h.0 e))),
+    (λ some. same ∙ h.1 some),
+  )
+
+  pub ruleset asks_rules = (asks_none, asks_one, asks_filled)

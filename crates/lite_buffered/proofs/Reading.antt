@@ -1,0 +1,89 @@
+-- What single polls of a `BufReader` do.
+use Rattle.std.proofs.Common.{◌≡◌, ◌∙◌, ℕ, zero, suc, ◌+◌, ◌≤◌, ◌<◌, min, List, [], ◌∷◌, ◌++◌, length, take}
+use Rattle.std.proofs.Common.{slice_range, refl, sym, ap, subst, arith, append-nil, length-take-le, Global}
+use Rattle.std.proofs.Math.Nat.{sub-zero}
+use Rattle.std.proofs.lemmas.List.{map-append}
+use Rattle.lite_io_base.specs.Marks.{ReadMark, bytes, filled, moved}
+use Rattle.lite_io_base.specs.Runs.{MarkLaws}
+use Rattle.std.specs.declared.vec.Vec.{Vec}
+use Rattle.lite_buffered.specs.declared.buf_reader.BufReader.{BufReader}
+use Rattle.lite_buffered.specs.BufReader.{Padded, PassesBuffer, ThroughBuffer, ahead, reader_capacity}
+use Rattle.lite_buffered.specs.Laws.BufReader.{ahead_none, passes_of}
+use Rattle.lite_buffered.proofs.Ranges.{length-slice_range, slice_range_none, slice_range_split}
+use Rattle.lite_base.specs.Runs.{Runs}
+
+-- nothing is moved into no room
+pub moved_none : (buf xs : List ℕ) → length buf ≡ 0 → length xs ≡ 0 → moved buf xs ≡ []
+moved_none [] [] p q = refl
+moved_none [] (x ∷ xs) p q = absurd (omega (arith, q))
+moved_none (b ∷ buf) xs p q = absurd (omega (arith, p))
+
+-- a fill, and then a read of what it lent, is a read
+pub fill_then_read : (shown room : List ℕ) (n : ℕ) → n ≡ min (length shown) (length room) → 0 < length room
+    → moved room (take n shown) ≡ filled shown ++ bytes (take n shown)
+fill_then_read shown [] n is some = absurd (omega (arith, some))
+fill_then_read [] (r ∷ room) n is some = let none : n ≡ 0 = omega arith in rw none refl
+fill_then_read (x ∷ shown) (r ∷ room) zero is some = absurd (omega arith)
+fill_then_read (x ∷ shown) (r ∷ room) (suc n) is some = refl
+
+-- what a fill read is ahead
+pub fill_passes : (buf xs : List ℕ) → length xs ≤ length buf
+    → PassesBuffer (length buf) [] (moved buf xs) (filled xs) xs
+fill_passes [] [] fits = (refl, refl, Padded.more [] [] Padded.none)
+fill_passes [] (x ∷ xs) fits = absurd (omega (arith, fits))
+fill_passes (b ∷ buf) [] fits = refl
+fill_passes (b ∷ buf) (x ∷ xs) fits = refl
+
+module _ {R : Type 0} (reads : Runs ReadMark R) (x y : BufReader R) where
+  -- what was ahead and came in is what went out and is ahead
+  pub through_read : (came out : List ReadMark) → reads x.inner came y.inner → reader_capacity y ≡ reader_capacity x
+      → bytes (ahead x) ++ came ≡ out ++ bytes (ahead y) → ThroughBuffer reads x out y
+  through_read came out ran same e =
+      record {
+        came = came;
+        ran = ran;
+        capacity = same;
+        passes = passes_of (reader_capacity x) (ahead x) came out (ahead y) e
+            (λ none. (ahead_none x none, ahead_none y (same ∙ none)));
+      }
+
+  -- the inner reader was read past the buffer, in which nothing is ahead
+  pub through_past : (l : List ReadMark) → reads x.inner l y.inner → reader_capacity y ≡ reader_capacity x
+      → ahead x ≡ [] → ahead y ≡ [] → ThroughBuffer reads x l y
+  through_past l ran same p q = through_read l l ran same (rw (p, q) (sym (append-nil l)))
+
+  -- bytes were taken from what is ahead
+  pub through_taken : MarkLaws reads → (xs : List ℕ) → y.inner ≡ x.inner → reader_capacity y ≡ reader_capacity x
+      → ahead x ≡ xs ++ ahead y → ThroughBuffer reads x (bytes xs) y
+  through_taken laws xs stays same e =
+      through_read [] (bytes xs) (subst (λ v. reads x.inner [] v) (sym stays) (laws.rests x.inner)) same
+      (append-nil (bytes (ahead x)) ∙ ap bytes e ∙ map-append ReadMark.byte xs (ahead y))
+
+  -- the inner reader was read into the whole buffer
+  pub through_fill : (n : ℕ) → ahead x ≡ [] → y.pos ≡ 0 → y.end ≡ n → n ≤ length y.buf.items
+      → reader_capacity y ≡ reader_capacity x → reads x.inner (moved y.buf.items (take n y.buf.items)) y.inner
+      → ThroughBuffer reads x (filled (ahead y)) y
+  through_fill n none pos end fits same ran =
+      let buf = y.buf.items in
+      let shown : ahead y ≡ take n buf = rw (pos, end) (ap (λ k. take k buf) (sub-zero n)) in
+      let passes = subst (λ k. PassesBuffer k [] (moved buf (take n buf)) (filled (take n buf)) (take n buf)) same
+      (fill_passes buf (take n buf) (omega (arith, length-take-le n buf fits))) in
+      rw shown (record { came = moved buf (take n buf); ran = ran; capacity = same; passes = rw (none, shown) passes })
+
+  advanced : (n : ℕ) → y.buf ≡ x.buf → y.pos ≡ x.pos + n → y.end ≡ x.end → n ≤ length (ahead x)
+      → ahead x ≡ take n (ahead x) ++ ahead y
+  advanced n buf pos end fits =
+      let within : x.pos + n ≤ x.end =
+      omega (arith, length-slice_range x.buf.items x.pos x.end x.in_range.0 x.in_range.1) in
+      let next : ahead y ≡ slice_range x.buf.items (x.pos + n) x.end = rw (buf, pos, end) refl in
+      slice_range_split x.buf.items x.pos x.end n within ∙ ap (λ l. take n (ahead x) ++ l) (sym next)
+
+  -- bytes were taken from what is ahead, and nothing else changed
+  pub through_advance : MarkLaws reads → (n : ℕ) → y.inner ≡ x.inner → y.buf ≡ x.buf → y.pos ≡ x.pos + n → y.end ≡ x.end
+      → n ≤ length (ahead x) → ThroughBuffer reads x (bytes (take n (ahead x))) y
+  through_advance laws n inner buf pos end fits =
+      through_taken laws (take n (ahead x)) inner (ap (λ (v : Vec ℕ Global). length v.items) buf)
+      (advanced n buf pos end fits)
+
+-- what a fill is shown by
+pub ruleset fill_rules = (through_fill, through_past, slice_range_none)

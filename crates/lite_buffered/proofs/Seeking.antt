@@ -1,0 +1,53 @@
+-- What a seek leaves.
+use Rattle.std.proofs.Common.{◌≡◌, ◌∙◌, ℕ, [], ◌++◌, inl, inr, refl, sym, ap, append-nil}
+use Rattle.std.specs.Prelude.{Result, Ok, Err}
+use Rattle.std.specs.declared.io.ErrorKind.{ErrorKind}
+use Rattle.std.specs.declared.io.traits.SeekFrom.{SeekFrom}
+use Rattle.futures.specs.declared.task.Poll.{Poll}
+use Rattle.futures.specs.declared.task.Poll.TheVariants.{Ready, Pending}
+use Rattle.lite_io_base.specs.Takings.{WriteMark, bytes_taken}
+use Rattle.lite_buffered.specs.declared.buf_writer.BufWriter.{BufWriter}
+use Rattle.lite_buffered.specs.BufWriter.{FlushesBuffer, SeeksAfter, unwritten, writer_capacity}
+use Rattle.lite_buffered.specs.Laws.BufWriter.{drains_balance, segment_balance}
+use Rattle.lite_base.specs.Runs.{Runs}
+
+module _ {W : Type 0} (writes : Runs WriteMark W) (seeks : W → SeekFrom → Poll (Result ℕ ErrorKind) → W → Type 0) where
+  pub seek_waits : (x y : BufWriter W) (to : SeekFrom) → FlushesBuffer writes x Pending y
+      → SeeksAfter writes seeks x to Pending y
+  seek_waits x y to f =
+      record {
+        taken = f.taken;
+        between = y.inner;
+        ran = f.ran;
+        capacity = f.capacity;
+        sought = inr (f.empties, refl);
+        balanced = segment_balance (unwritten x) (unwritten y) f.taken WriteMark.pending f.empties.0;
+      }
+
+  pub seek_fails : (x y : BufWriter W) (to : SeekFrom) (kind : ErrorKind) → FlushesBuffer writes x (Ready (Err kind)) y
+      → SeeksAfter writes seeks x to (Ready (Err kind)) y
+  seek_fails x y to kind f =
+      record {
+        taken = f.taken;
+        between = y.inner;
+        ran = f.ran;
+        capacity = f.capacity;
+        sought = inr (f.empties, refl);
+        balanced = segment_balance (unwritten x) (unwritten y) f.taken (WriteMark.fault kind) f.empties.0;
+      }
+
+  pub seek_follows : (x m y : BufWriter W) (to : SeekFrom) (r : Poll (Result ℕ ErrorKind))
+      → FlushesBuffer writes x (Ready (Ok tt)) m
+      → seeks m.inner to r y.inner → writer_capacity y ≡ writer_capacity m → unwritten y ≡ unwritten m
+      → SeeksAfter writes seeks x to r y
+  seek_follows x m y to r f sought capacity same =
+      let none : unwritten y ≡ [] = same ∙ f.empties.2 in
+      record {
+        taken = f.taken;
+        between = m.inner;
+        ran = f.ran;
+        capacity = capacity ∙ f.capacity;
+        sought = inl ((f.empties.0, f.empties.1, none), sought);
+        balanced = append-nil (unwritten x) ∙ drains_balance (unwritten x) [] f.taken f.empties.0 f.empties.1
+            ∙ ap (λ l. bytes_taken f.taken ++ l) (sym none);
+      }

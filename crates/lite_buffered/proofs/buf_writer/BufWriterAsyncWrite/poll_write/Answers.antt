@@ -1,0 +1,71 @@
+use Rattle.std.proofs.Common.{◌≡◌, ◌∙◌, ◌++◌, ◌<◌, ◌≤◌, length, Ok, Err, rules, refl, sym, ap, arith}
+use Rattle.std.specs.IoError.{error_kind}
+use Rattle.futures.specs.declared.task.Poll.TheVariants.{Ready, Pending}
+use Rattle.lite_buffered.specs.BufWriter.{writer_capacity}
+use Rattle.lite_buffered.proofs.Answering.{room_capacity, room_fails, room_then_hold, room_then_past, room_waits}
+use Rattle.lite_buffered.proofs.Answering.{shown_none}
+use Rattle.lite_buffered.proofs.buf_writer.BufWriterAsyncWrite.poll_write.Goals as goal
+
+pub returns-clause-ran : goal.returns-clause-ran
+returns-clause-ran g c =
+    let got : c.make_room.result ≡ Pending = search rules in
+    room_waits g.W.Takings.writes c.args.self.now c.make_room.new.self _ (rw got at c.make_room.ensures.ran)
+
+pub returns-in-Err-clause-ran : goal.returns-in-Err-clause-ran
+returns-in-Err-clause-ran g c =
+    let got : c.make_room.result ≡ Ready (Err c.in-Err.e) = search rules in
+    room_fails g.W.Takings.writes c.args.self.now c.make_room.new.self _ (error_kind c.in-Err.e)
+    (rw got at c.make_room.ensures.ran)
+
+pub returns-then-buf-len-clause-ran : goal.returns-then-buf-len-clause-ran
+returns-then-buf-len-clause-ran g c =
+    let got : c.make_room.result ≡ Ready (Ok c.in-Ok.field-0) = search rules in
+    let ran = rw got at c.make_room.ensures.ran in
+    room_then_past g.W.Takings.writes g.W.Takings.write_laws c.args.self.now c.make_room.new.self _
+    c.args.buf.now c.poll_write.result ran (search rules) c.poll_write.ensures.ran refl refl
+
+pub returns-2-clause-ran : goal.returns-2-clause-ran
+returns-2-clause-ran g c =
+    let got : c.make_room.result ≡ Ready (Ok c.in-Ok.field-0) = search rules in
+    let ran = rw got at c.make_room.ensures.ran in
+    let e = c.hold.ensures in
+    room_then_hold g.W.Takings.writes g.W.Takings.write_laws c.args.self.now c.make_room.new.self c.hold.new.self
+    c.args.buf.now ran e.inner e.capacity e.held
+
+pub returns-clause-shown : goal.returns-clause-shown
+returns-clause-shown g c none =
+    let e = c.make_room.ensures in
+    let got : c.make_room.result ≡ Pending = search rules in
+    rw got at (e.shown (λ fits. absurd (cc (sym got ∙ (e.idle fits).1))))
+
+pub returns-in-Err-clause-shown : goal.returns-in-Err-clause-shown
+returns-in-Err-clause-shown g c none =
+    let e = c.make_room.ensures in
+    let got : c.make_room.result ≡ Ready (Err c.in-Err.e) = search rules in
+    rw got at (e.shown (λ fits. absurd (cc (sym got ∙ (e.idle fits).1))))
+
+pub returns-then-buf-len-clause-shown : goal.returns-then-buf-len-clause-shown
+returns-then-buf-len-clause-shown g c none =
+    let m = c.make_room.new.self in
+    let got : c.make_room.result ≡ Ready (Ok c.in-Ok.field-0) = search rules in
+    let free = rw got at c.make_room.ensures.free in
+    let large : writer_capacity m ≤ length c.args.buf.now = search rules in
+    shown_none c.args.self.now m _ c.poll_write.result (free large) refl refl refl
+
+pub returns-2-clause-shown : goal.returns-2-clause-shown
+returns-2-clause-shown g c none =
+    let e = c.make_room.ensures in
+    let got : c.make_room.result ≡ Ready (Ok c.in-Ok.field-0) = search rules in
+    let small : length c.args.buf.now < writer_capacity c.make_room.new.self = search rules in
+    let kept : writer_capacity c.make_room.new.self ≡ writer_capacity c.args.self.now =
+    room_capacity g.W.Takings.writes c.args.self.now c.make_room.new.self _ _ e.ran in
+    let shown = rw got at (e.shown (λ fits. none (fits, rw kept at small))) in
+    c.hold.ensures.buffered ∙ ap (λ l. l ++ c.args.buf.now) shown ∙ sym c.hold.ensures.held
+
+pub returns-then-buf-len-clause-whole : goal.returns-then-buf-len-clause-whole
+returns-then-buf-len-clause-whole g c small =
+    let m = c.make_room.new.self in
+    let kept : writer_capacity m ≡ writer_capacity c.args.self.now =
+    room_capacity g.W.Takings.writes c.args.self.now m _ _ c.make_room.ensures.ran in
+    let large : writer_capacity m ≤ length c.args.buf.now = search rules in
+    absurd (omega (arith, kept, large, small))

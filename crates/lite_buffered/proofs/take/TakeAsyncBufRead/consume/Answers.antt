@@ -1,0 +1,37 @@
+use Rattle.std.proofs.Common.{◌≡◌, ◌≤◌, ◌+◌, ◌-◌, ◌∙◌, [], length, take, drop, sym, ap, subst, arith, append-nil}
+use Rattle.std.proofs.Common.{length-take, length-take-le, take-take}
+use Rattle.std.proofs.lemmas.List.{drop-take}
+use Rattle.lite_io_base.specs.Marks.{bytes}
+use Rattle.lite_buffered.specs.Take.{WithinLimit}
+use Rattle.lite_buffered.proofs.Limits.{fits_bytes}
+use Rattle.lite_buffered.proofs.take.TakeAsyncBufRead.consume.Goals as goal
+
+pub returns-clause-ran : goal.returns-clause-ran
+returns-clause-ran g c =
+    let n = c.args.amount in
+    let limit = c.args.self.now.limit in
+    let lent = g.R.AsyncBufRead.lent c.args.self.now.inner in
+    let fits : n ≤ limit = omega (arith, c.requires, length-take limit lent) in
+    let within : n ≤ length lent = omega (arith, c.requires, length-take limit lent) in
+    let same : take n (take limit lent) ≡ take n lent = grind (arith, take-take) in
+    let len : length (take n lent) ≡ n = length-take-le n lent within in
+    rw same
+    (record {
+      front = bytes (take n lent);
+      ends = [];
+      cut = sym (append-nil (bytes (take n lent)));
+      ran = c.consume.ensures.ran;
+      fits = subst (λ k. WithinLimit limit (bytes (take n lent)) (limit - k)) len
+          (fits_bytes limit (take n lent) (omega (arith, len)));
+      used_up = tt;
+      still = λ none. absurd (omega (arith, none, fits, c.if-amount-eq0.false));
+    })
+
+pub returns-clause-rest : goal.returns-clause-rest
+returns-clause-rest g c =
+    let n = c.args.amount in
+    let limit = c.args.self.now.limit in
+    let lent = g.R.AsyncBufRead.lent c.args.self.now.inner in
+    let whole : n + (limit - n) ≡ limit = omega (arith, c.requires, length-take limit lent) in
+    ap (take (limit - n)) c.consume.ensures.rest ∙ sym (drop-take n (limit - n) lent)
+    ∙ ap (λ k. drop n (take k lent)) whole

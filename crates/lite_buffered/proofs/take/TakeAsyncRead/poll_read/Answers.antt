@@ -1,0 +1,33 @@
+use Rattle.std.proofs.Common.{◌≡◌, ◌≤◌, ◌<◌, ◌-◌, [], Ok, length, take, drop, rules, arith, sym, ◌∙◌, append-nil}
+use Rattle.std.proofs.Common.{length-take-le, subst}
+use Rattle.std.proofs.lemmas.Grind.{common_steps}
+use Rattle.futures.specs.declared.task.Poll.TheVariants.{Ready}
+use Rattle.lite_io_base.specs.Laws.Runs.{read_marks_room}
+use Rattle.lite_io_base.specs.Marks.{moved}
+use Rattle.lite_buffered.specs.Take.{WithinLimit}
+use Rattle.lite_buffered.proofs.Limits.{fits_moved}
+use Rattle.lite_buffered.proofs.take.TakeAsyncRead.poll_read.Goals as goal
+
+pub returns-in-Ok-clause-ran : goal.returns-in-Ok-clause-ran
+returns-in-Ok-clause-ran g c =
+    let n = c.in-Ok.n in
+    let buf = c.poll_read.new.buf in
+    let more = drop c.min-most.result c.args.buf.now in
+    let limit = c.args.self.now.limit in
+    let got : c.poll_read.result ≡ Ready (Ok n) = search rules in
+    let ran = rw got at c.poll_read.ensures.ran in
+    let fits : n ≤ length buf = rw got at c.poll_read.ensures.bound in
+    let some : 0 < length buf = grind (arith, common_steps) in
+    let within : n ≤ limit = grind (arith, common_steps) in
+    let len : length (take n buf) ≡ n = length-take-le n buf fits in
+    let above : 0 < limit = grind (arith, common_steps) in
+    record {
+      front = moved buf (take n buf);
+      ends = [];
+      cut = read_marks_room (Ready (Ok n)) buf more some fits ∙ sym (append-nil (moved buf (take n buf)));
+      ran = ran;
+      fits = subst (λ k. WithinLimit limit (moved buf (take n buf)) (limit - k)) len
+          (fits_moved limit buf (take n buf) (omega (arith, len)) (omega arith) some);
+      used_up = tt;
+      still = λ none. absurd (omega (arith, none, above));
+    }

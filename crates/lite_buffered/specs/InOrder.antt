@@ -1,0 +1,23 @@
+-- Reads and writes of a `BufReader`, in one order.
+use Rattle.std.specs.Prelude.{◌≡◌, List, [], ◌∷◌, ⊤}
+use Rattle.lite_io_base.specs.Marks.{ReadMark}
+use Rattle.lite_io_base.specs.Parts.{Part, PartsInOrder, reading_of}
+use Rattle.lite_io_base.specs.Takings.{WriteMark}
+use Rattle.lite_buffered.specs.declared.buf_reader.BufReader.{BufReader}
+use Rattle.lite_buffered.specs.BufReader.{PassesBuffer, Past, ThroughBuffer, ahead, reader_capacity}
+use Rattle.lite_base.specs.Runs.{Runs}
+
+-- two lists of parts with the same writes, and reads at the same places
+abbrev pub SameWrites : List Part → List Part → Type 0
+SameWrites [] [] = ⊤
+SameWrites (Part.reading l ∷ ps) (Part.reading k ∷ qs) = SameWrites ps qs
+SameWrites (Part.writing l ∷ ps) (Part.writing k ∷ qs) = (k ≡ l) × SameWrites ps qs
+SameWrites ps qs = ⊥
+
+-- However reads and writes follow one another on x, the inner value is read and written in the same order: what is
+-- written is the same, and what was ahead and then came in is what went out and then is ahead.
+abbrev pub KeepsOrder : {R : Type 0} → Runs ReadMark R → Runs WriteMark R → BufReader R → Type 0
+KeepsOrder {R} reads writes x =
+    (ps : List Part) (y : BufReader R) → PartsInOrder (ThroughBuffer reads) (Past writes) x ps y
+    → (qs : List Part) × PartsInOrder reads writes x.inner qs y.inner × SameWrites ps qs
+    × PassesBuffer (reader_capacity x) (ahead x) (reading_of qs) (reading_of ps) (ahead y)

@@ -1,0 +1,140 @@
+use Rattle.std.proofs.Common.{◌≡◌, ◌∙◌, ℕ, zero, suc, ◌+◌, ◌-◌, List, [], ◌∷◌, ◌++◌, length, refl, sym, ap, subst}
+use Rattle.std.proofs.Common.{arith, append_assoc, append-nil, length-append}
+use Rattle.lite_base.specs.Answers.{Comparable}
+use Rattle.lite_base.specs.Ranks.{Ranks}
+use Rattle.lite_base.specs.Runs.{Runs}
+use Rattle.lite_io_base.specs.Counting.{ReadCounting}
+use Rattle.lite_io_base.specs.Takings.{WriteMark}
+use Rattle.lite_io_base.specs.Falls.{Falls}
+use Rattle.lite_io_base.specs.Laws.Falls.{falls_held}
+use Rattle.lite_io_base.specs.Laws.Marks.{bytes_given, given-append, given-bytes, given_all, given_both, given_parts}
+use Rattle.lite_io_base.specs.Marks.{AllGiven, ReadMark, bytes, given}
+use Rattle.lite_io_base.specs.Runs.{MarkLaws, Shows}
+use Rattle.lite_buffered.specs.declared.buf_reader.BufReader.{BufReader}
+use Rattle.lite_buffered.specs.BufReader.{Padded, PassesBuffer, Past, ThroughBuffer, ahead, ahead_ranks}
+use Rattle.lite_buffered.specs.BufReader.{reader_capacity}
+
+pub padded_same : (l : List ReadMark) → Padded l l
+padded_same [] = Padded.none
+padded_same (m ∷ l) = Padded.same m l l (padded_same l)
+
+padded_both : (l k m n : List ReadMark) → Padded l k → Padded m n → Padded (l ++ m) (k ++ n)
+padded_both _ _ m n Padded.none q = q
+padded_both _ _ m n (Padded.same a l k p) q = Padded.same a (l ++ m) (k ++ n) (padded_both l k m n p q)
+padded_both _ _ m n (Padded.more l k p) q = Padded.more (l ++ m) (k ++ n) (padded_both l k m n p q)
+
+given_one : (a : ReadMark) (l k : List ReadMark) → given l ≡ given k → given (a ∷ l) ≡ given (a ∷ k)
+given_one a l k e = given-append (a ∷ []) l ∙ ap (λ n. given (a ∷ []) + n) e ∙ sym (given-append (a ∷ []) k)
+
+padded_given : (l k : List ReadMark) → Padded l k → given l ≡ given k
+padded_given _ _ Padded.none = refl
+padded_given _ _ (Padded.same a l k p) = given_one a l k (padded_given l k p)
+padded_given _ _ (Padded.more l k p) = padded_given l k p
+
+padded_all_given : (l k : List ReadMark) → Padded l k → AllGiven k → AllGiven l
+padded_all_given _ _ Padded.none g = tt
+padded_all_given _ _ (Padded.same a l k p) g = (g.0, padded_all_given l k p g.1)
+padded_all_given _ _ (Padded.more l k p) g = absurd g.0
+
+-- the equation, and nothing ahead where there is no capacity
+pub passes_of : (n : ℕ) (p : List ℕ) (came out : List ReadMark) (q : List ℕ) → bytes p ++ came ≡ out ++ bytes q
+    → (n ≡ 0 → (p ≡ []) × (q ≡ [])) → PassesBuffer n p came out q
+passes_of zero p came out q e none =
+    let both = none refl in
+    (both.0, both.1, subst (λ l. Padded came l) (rw (both.0, both.1, append-nil) at e) (padded_same came))
+passes_of (suc n) p came out q e none = e
+
+pub passes_both : (n : ℕ) (p q r : List ℕ) (came out more next : List ReadMark) → PassesBuffer n p came out q
+    → PassesBuffer n q more next r → PassesBuffer n p (came ++ more) (out ++ next) r
+passes_both zero p q r came out more next a b = (a.0, b.1, padded_both came out more next a.2 b.2)
+passes_both (suc n) p q r came out more next a b =
+    rw (← append_assoc, a, append_assoc, b, append_assoc)
+
+-- as many bytes and errors come out as were ahead and came in, less those ahead now
+passes_given : (n : ℕ) (p q : List ℕ) (came out : List ReadMark) → PassesBuffer n p came out q
+    → given came + length p ≡ given out + length q
+passes_given zero p q came out h = let e = padded_given came out h.2 in rw (h.0, h.1) (ap (λ k. k + 0) e)
+passes_given (suc n) p q came out h =
+    let e = ap given h in
+    omega (arith, e, given-append (bytes p) came, given-append out (bytes q), given-bytes p, given-bytes q)
+
+passes_all_given : (n : ℕ) (p q : List ℕ) (came out : List ReadMark) → PassesBuffer n p came out q → AllGiven out
+    → AllGiven came
+passes_all_given zero p q came out h g = padded_all_given came out h.2 g
+passes_all_given (suc n) p q came out h g =
+    (given_parts (bytes p) came (subst AllGiven (sym h) (given_both out (bytes q) g (bytes_given q)))).1
+
+front : (l m k n : List ReadMark) → l ++ m ≡ k ++ n → Comparable l k
+front (a ∷ l) m (b ∷ k) n e = (cc e, front l m k n (cc e))
+front l m k n e = tt
+
+passes_front : (n : ℕ) (p q : List ℕ) (came out : List ReadMark) → PassesBuffer n p came out q
+    → Comparable (bytes p) out
+passes_front zero p q came out h = rw h.0 tt
+passes_front (suc n) p q came out h = front (bytes p) came out (bytes q) h
+
+-- without a buffer nothing is ahead
+pub ahead_none : {R : Type 0} (x : BufReader R) → reader_capacity x ≡ 0 → ahead x ≡ []
+ahead_none x none = let nothing : x.end - x.pos ≡ 0 = omega arith in rw nothing refl
+
+held_sized : (xs : List ℕ) (k n : ℕ) → length xs ≡ n → length (xs ++ k ∷ []) ≡ n + 1
+held_sized xs k n e = omega (arith, length-append xs (k ∷ []), e)
+
+module _ {R : Type 0} {reads : Runs ReadMark R} where
+  through_follows : MarkLaws reads → (x y z : BufReader R) (l m : List ReadMark) → ThroughBuffer reads x l y
+      → ThroughBuffer reads y m z → ThroughBuffer reads x (l ++ m) z
+  through_follows laws x y z l m a b =
+      let next = subst (λ n. PassesBuffer n (ahead y) b.came m (ahead z)) a.capacity b.passes in
+      record {
+        came = a.came ++ b.came;
+        ran = laws.follows x.inner y.inner z.inner a.came b.came a.ran b.ran;
+        capacity = b.capacity ∙ a.capacity;
+        passes = passes_both (reader_capacity x) (ahead x) (ahead y) (ahead z) a.came l b.came m a.passes next;
+      }
+
+  pub through_laws : MarkLaws reads → MarkLaws (ThroughBuffer reads)
+  through_laws laws = record {
+    rests = λ x. record {
+      came = [];
+      ran = laws.rests x.inner;
+      capacity = refl;
+      passes = passes_of (reader_capacity x) (ahead x) [] [] (ahead x) (append-nil (bytes (ahead x)))
+          (λ none. (ahead_none x none, ahead_none x none));
+    };
+    follows = through_follows laws;
+  }
+
+  pub through_shows : Shows (ThroughBuffer reads) ahead
+  through_shows x y l h = passes_front (reader_capacity x) (ahead x) (ahead y) h.came l h.passes
+
+  module _ {r : Ranks R} (c : ReadCounting reads r) where
+    through_lowers : (x y : BufReader R) (l : List ReadMark) → r.firm x.inner → ThroughBuffer reads x l y
+        → Falls (given l) ((ahead_ranks r).rank y) ((ahead_ranks r).rank x)
+    through_lowers x y l firm h =
+        falls_held (given h.came) (given l) (length (ahead x)) (length (ahead y)) (r.rank y.inner) (r.rank x.inner)
+        (c.lowers x.inner y.inner h.came firm h.ran)
+        (passes_given (reader_capacity x) (ahead x) (ahead y) h.came l h.passes)
+
+    through_falls : (x y : BufReader R) (l : List ReadMark) → r.counts x.inner → AllGiven l → ThroughBuffer reads x l y
+        → Falls (length l) ((ahead_ranks r).rank y) ((ahead_ranks r).rank x)
+    through_falls x y l counts g h =
+        let came = passes_all_given (reader_capacity x) (ahead x) (ahead y) h.came l h.passes g in
+        let less = rw (← given_all h.came came) at (c.falls x.inner y.inner h.came counts came h.ran) in
+        subst (λ n. Falls n ((ahead_ranks r).rank y) ((ahead_ranks r).rank x)) (given_all l g)
+        (falls_held (given h.came) (given l) (length (ahead x)) (length (ahead y)) (r.rank y.inner)
+        (r.rank x.inner) less (passes_given (reader_capacity x) (ahead x) (ahead y) h.came l h.passes))
+
+    pub through_counting : ReadCounting (ThroughBuffer reads) (ahead_ranks r)
+    through_counting = record {
+      sized = λ x. held_sized (r.rank x.inner) (length (ahead x)) r.width (c.sized x.inner);
+      counts_on = λ x y l k h. c.counts_on x.inner y.inner h.came k h.ran;
+      firm_on = λ x y l k h. c.firm_on x.inner y.inner h.came k h.ran;
+      falls = through_falls;
+      lowers = through_lowers;
+    }
+
+pub past_laws : {R : Type 0} {writes : Runs WriteMark R} → MarkLaws writes → MarkLaws (Past writes)
+past_laws laws = record {
+  rests = λ x. (laws.rests x.inner, refl, refl);
+  follows = λ x y z l m h k. (laws.follows x.inner y.inner z.inner l m h.0 k.0, k.1 ∙ h.1, k.2 ∙ h.2);
+}

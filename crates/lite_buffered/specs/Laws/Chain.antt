@@ -1,0 +1,158 @@
+use Rattle.std.proofs.Common.{◌≡◌, ◌∙◌, ℕ, Bool, true, false, cond, replicate, ◌+◌, List, [], ◌∷◌, ◌++◌, length, refl}
+use Rattle.std.proofs.Common.{sym, ap, subst, append_assoc, add-zero, zero-add, inl, length-append}
+use Rattle.std.specs.Prelude.{⊤}
+use Rattle.std.proofs.lemmas.List.{length-replicate}
+use Rattle.lite_io_base.specs.Falls.{Falls}
+use Rattle.lite_io_base.specs.Laws.Falls.{falls_both, falls_to_zeros}
+use Rattle.lite_base.specs.Answers.{Comparable}
+use Rattle.lite_io_base.specs.Marks.{AllGiven, ReadMark, bytes, given}
+use Rattle.lite_io_base.specs.Laws.Marks.{given-append, given_parts}
+use Rattle.lite_io_base.specs.Counting.{ReadCounting}
+use Rattle.lite_base.specs.Ranks.{Ranks}
+use Rattle.lite_base.specs.Runs.{Runs}
+use Rattle.lite_io_base.specs.Runs.{MarkLaws, Shows}
+use Rattle.lite_buffered.specs.declared.chain.Chain.{Chain}
+use Rattle.lite_buffered.specs.Chain.{ChainsReaders, EndlessMarks, JoinsReaders}
+use Rattle.lite_buffered.specs.Chaining.{chain_read_ranks}
+
+no_end_both : (l m : List ReadMark) → EndlessMarks l → EndlessMarks m → EndlessMarks (l ++ m)
+no_end_both [] m h k = k
+no_end_both (a ∷ l) m h k = (h.0, no_end_both l m h.1 k)
+
+first_sized : (w : ℕ) (xs : List ℕ) → length xs ≡ w → (b : Bool) → length (cond b (replicate w 0) xs) ≡ w
+first_sized w xs e true = length-replicate {A = ℕ} w 0
+first_sized w xs e false = e
+
+module _ {R S : Type 0} (first : Runs ReadMark R) (second : Runs ReadMark S) where
+  rests_at : MarkLaws first → MarkLaws second → (ended : Bool) (x : Chain R S)
+      → JoinsReaders first second ended ended x [] x
+  rests_at p q false x = (p.rests x.first, tt, refl)
+  rests_at p q true x = (q.rests x.second, refl)
+
+  follows_at : MarkLaws first → MarkLaws second → (a b c : Bool) (x y z : Chain R S) (l m : List ReadMark)
+      → JoinsReaders first second a b x l y
+      → JoinsReaders first second b c y m z → JoinsReaders first second a c x (l ++ m) z
+  follows_at p q false false false x y z l m h k =
+      (p.follows x.first y.first z.first l m h.0 k.0, no_end_both l m h.1 k.1, k.2 ∙ h.2)
+  follows_at p q false false true x y z l m h k =
+      record {
+        before = l ++ k.before;
+        after = k.after;
+        cut = rw (k.cut, append_assoc);
+        no_end = no_end_both l k.before h.1 k.no_end;
+        between = k.between;
+        first_ran = p.follows x.first y.first k.between l k.before h.0 k.first_ran;
+        first_ended = k.first_ended;
+        second_ran = subst (λ t. second t k.after z.second) h.2 k.second_ran;
+      }
+  follows_at p q false true true x y z l m h k =
+      record {
+        before = h.before;
+        after = h.after ++ m;
+        cut = rw (h.cut, append_assoc);
+        no_end = h.no_end;
+        between = h.between;
+        first_ran = h.first_ran;
+        first_ended = subst (λ t. first h.between (ReadMark.end ∷ []) t) (sym k.1) h.first_ended;
+        second_ran = q.follows x.second y.second z.second h.after m h.second_ran k.0;
+      }
+  follows_at p q true true true x y z l m h k = (q.follows x.second y.second z.second l m h.0 k.0, k.1 ∙ h.1)
+  follows_at p q true false c x y z l m h k = absurd h
+  follows_at p q a true false x y z l m h k = absurd k
+
+  pub chains_laws : MarkLaws first → MarkLaws second → MarkLaws (ChainsReaders first second)
+  chains_laws p q = record {
+    rests = λ x. rests_at p q x.has_ended x;
+    follows = λ x y z. follows_at p q x.has_ended y.has_ended z.has_ended x y z;
+  }
+
+  -- what is lent stands before an end
+  before_end : (xs : List ℕ) (before after : List ReadMark) → EndlessMarks before
+      → Comparable (bytes xs) (before ++ ReadMark.end ∷ [])
+      → Comparable (bytes xs) (before ++ after)
+  before_end [] before after n h = tt
+  before_end (x ∷ xs) [] after n h = absurd (cc h.0)
+  before_end (x ∷ xs) (m ∷ before) after n h = (h.0, before_end xs before after n.1 h.1)
+
+  module _ (lent1 : R → List ℕ) (lent2 : S → List ℕ) where
+    show_at : MarkLaws first → Shows first lent1 → Shows second lent2
+        → (a b : Bool) (x y : Chain R S) (l : List ReadMark) → JoinsReaders first second a b x l y
+        → Comparable (bytes (cond a (lent2 x.second) (lent1 x.first))) l
+    show_at f p q false false x y l h = p x.first y.first l h.0
+    show_at f p q false true x y l h =
+        let whole = f.follows x.first h.between y.first h.before (ReadMark.end ∷ []) h.first_ran h.first_ended in
+        let shown = before_end (lent1 x.first) h.before h.after h.no_end
+        (p x.first y.first (h.before ++ ReadMark.end ∷ []) whole) in
+        rw h.cut shown
+    show_at f p q true true x y l h = q x.second y.second l h.0
+    show_at f p q true false x y l h = absurd h
+
+    pub chains_show : MarkLaws first → Shows first lent1 → Shows second lent2
+        → Shows (ChainsReaders first second) (λ x. cond x.has_ended (lent2 x.second) (lent1 x.first))
+    chains_show f p q x y l = show_at f p q x.has_ended y.has_ended x y l
+
+  -- what each reader keeps, both keep
+  module _ (P : R → Type 0) (Q : S → Type 0) (kept1 : (x y : R) (l : List ReadMark) → P x → first x l y → P y)
+      (kept2 : (x y : S) (l : List ReadMark) → Q x → second x l y → Q y) where
+    keep_at : (a b : Bool) (x y : Chain R S) (l : List ReadMark) → P x.first × Q x.second
+        → JoinsReaders first second a b x l y → P y.first × Q y.second
+    keep_at false false x y l c h = (kept1 x.first y.first l c.0 h.0, subst Q (sym h.2) c.1)
+    keep_at false true x y l c h =
+        let between = kept1 x.first h.between h.before c.0 h.first_ran in (
+          kept1 h.between y.first (ReadMark.end ∷ []) between h.first_ended,
+          kept2 x.second y.second h.after c.1 h.second_ran,
+        )
+    keep_at true true x y l c h = (subst P (sym h.1) c.0, kept2 x.second y.second l c.1 h.0)
+    keep_at true false x y l c h = absurd h
+
+    pub chains_keep : (x y : Chain R S) (l : List ReadMark) → P x.first × Q x.second → ChainsReaders first second x l y
+        → P y.first × Q y.second
+    chains_keep x y l = keep_at x.has_ended y.has_ended x y l
+
+  -- `size` counts marks of the kind `All`; it adds up over parts, and the ranks of both readers fall by it
+  module _ (width : ℕ) (rank1 : R → List ℕ) (rank2 : S → List ℕ) (sized : (x : R) → length (rank1 x) ≡ width)
+      (All : List ReadMark → Type 0) (size : List ReadMark → ℕ)
+      (parts : (l m : List ReadMark) → All (l ++ m) → All l × All m)
+      (adds : (l m : List ReadMark) → size (l ++ m) ≡ size l + size m)
+      (x y : Chain R S)
+      (falls1 : (v : R) (l : List ReadMark) → All l → first x.first l v → Falls (size l) (rank1 v) (rank1 x.first))
+      (falls2 : (l : List ReadMark) → All l → second x.second l y.second
+      → Falls (size l) (rank2 y.second) (rank2 x.second)) where
+    fall_at : (a b : Bool) (l : List ReadMark) → All l → JoinsReaders first second a b x l y
+        → Falls (size l) (cond b (replicate width 0) (rank1 y.first) ++ rank2 y.second)
+        (cond a (replicate width 0) (rank1 x.first) ++ rank2 x.second)
+    fall_at false false l g h =
+        rw add-zero at (falls_both (size l) 0 (rank1 y.first) (rank1 x.first) (rank2 y.second) (rank2 x.second)
+        (falls1 y.first l g h.0) (inl (ap rank2 h.2)))
+    fall_at false true l g h =
+        let p = parts h.before h.after (subst All h.cut g) in
+        let less = falls_to_zeros (size h.before) (rank1 h.between) (rank1 x.first)
+        (falls1 h.between h.before p.0 h.first_ran) in
+        rw (h.cut, adds)
+        (falls_both (size h.before) (size h.after) (replicate width 0) (rank1 x.first) (rank2 y.second)
+        (rank2 x.second) (rw (sized h.between) at less)
+        (falls2 h.after p.1 h.second_ran))
+    fall_at true true l g h =
+        rw zero-add at (falls_both 0 (size l) (replicate width 0) (replicate width 0) (rank2 y.second)
+        (rank2 x.second) (inl refl) (falls2 l g h.0))
+    fall_at true false l g h = absurd h
+
+    chains_fall : (l : List ReadMark) → All l → ChainsReaders first second x l y
+        → Falls (size l) (cond y.has_ended (replicate width 0) (rank1 y.first) ++ rank2 y.second)
+        (cond x.has_ended (replicate width 0) (rank1 x.first) ++ rank2 x.second)
+    chains_fall = fall_at x.has_ended y.has_ended
+
+  module _ {r : Ranks R} {s : Ranks S} (c : ReadCounting first r) (d : ReadCounting second s) where
+    pub chains_counting : ReadCounting (ChainsReaders first second) (chain_read_ranks r s)
+    chains_counting = record {
+      sized = λ x.
+          rw (length-append, first_sized r.width (r.rank x.first) (c.sized x.first) x.has_ended, d.sized x.second);
+      counts_on = chains_keep r.counts s.counts c.counts_on d.counts_on;
+      firm_on = chains_keep r.firm s.firm c.firm_on d.firm_on;
+      falls = λ x y l k.
+          chains_fall r.width r.rank s.rank c.sized AllGiven length given_parts length-append x y
+          (λ v m. c.falls x.first v m k.0) (λ m. d.falls x.second y.second m k.1) l;
+      lowers = λ x y l k h.
+          chains_fall r.width r.rank s.rank c.sized (λ _. ⊤) given (λ m n _. (tt, tt)) given-append x y
+          (λ v m _. c.lowers x.first v m k.0) (λ m _. d.lowers x.second y.second m k.1) l tt h;
+    }

@@ -1,0 +1,128 @@
+-- The bytes that are to come from what is read through a buffer, up to a limit, and one after the other.
+use Rattle.std.proofs.Common.{◌≡◌, ◌∙◌, ◌<◌, ℕ, zero, suc, Bool, true, false, List, [], ◌∷◌, ◌++◌, take, ap, refl, sym}
+use Rattle.std.proofs.Common.{subst, arith}
+use Rattle.lite_io_base.specs.Known.{Known, TellsKnown}
+use Rattle.lite_io_base.specs.Laws.Known.{spends_both, spends_bytes, spends_front, spends_split}
+use Rattle.lite_io_base.specs.Marks.{ReadMark, bytes}
+use Rattle.lite_buffered.specs.BufReader.{PassesBuffer, ThroughBuffer, ahead, reader_capacity, reader_inner}
+use Rattle.lite_buffered.specs.Chain.{ChainsReaders, EndlessMarks, JoinsReaders}
+use Rattle.lite_buffered.specs.Take.{LimitEnds, TakesMarks, WithinLimit}
+use Rattle.lite_buffered.specs.declared.buf_reader.BufReader.{BufReader}
+use Rattle.lite_buffered.specs.declared.chain.Chain.{Chain}
+use Rattle.lite_buffered.specs.declared.take.Take.{Take}
+
+pub passes_spends : (n : ℕ) (before after : List ℕ) (came out : List ReadMark) (xs ys : List ℕ) → 0 < n
+    → PassesBuffer n before came out after → TellsKnown xs came ys
+    → TellsKnown (before ++ xs) out (after ++ ys)
+passes_spends zero before after came out xs ys n h s = absurd (omega arith)
+passes_spends (suc n) before after came out xs ys _ h s =
+    let all = spends_both (before ++ xs) xs ys (bytes before) came (spends_front before xs) s in
+    let cut = spends_split (before ++ xs) ys out (bytes after) (subst (λ l. TellsKnown (before ++ xs) l ys) h all) in
+    subst (λ v. TellsKnown (before ++ xs) out v) (spends_bytes after cut.0 ys cut.2) cut.1
+
+pub through_spends : {R : Type 0} (k : Known R) (x y : BufReader R) (l : List ReadMark) → (0 < reader_capacity x)
+    × k.knows x.inner → ThroughBuffer k.told x l y
+    → ((0 < reader_capacity y) × k.knows y.inner) × TellsKnown (ahead x ++ k.left x.inner) l (ahead y ++ k.left y.inner)
+through_spends k x y l know h =
+    let on = k.tells x.inner y.inner h.came know.1 h.ran in
+    let room = know.0 in
+    let same = h.capacity in (
+      (omega (arith, room, same), on.0),
+      passes_spends (reader_capacity x) (ahead x) (ahead y) h.came l (k.left x.inner)
+          (k.left y.inner) know.0 h.passes on.1,
+    )
+
+-- what was read ahead, and then what the inner reader is to give
+abbrev pub through_known : {R : Type 0} → Known R → Known (BufReader R)
+through_known k = record {
+  told = ThroughBuffer k.told;
+  knows = λ x. (0 < reader_capacity x) × k.knows (reader_inner x);
+  left = λ x. ahead x ++ k.left (reader_inner x);
+  tells = through_spends k;
+}
+
+fits_spends : (limit rest : ℕ) (l : List ReadMark) (xs ys : List ℕ) → WithinLimit limit l rest → TellsKnown xs l ys
+    → TellsKnown (take limit xs) l (take rest ys)
+fits_spends limit rest [] xs ys f h = rw (f, h) refl
+fits_spends zero rest (m ∷ l) xs ys f h = absurd f
+fits_spends (suc n) rest (ReadMark.byte b ∷ l) xs ys f h =
+    (take n h.0, ap (take (suc n)) h.1, fits_spends n rest l h.0 ys f h.2)
+fits_spends (suc n) rest (ReadMark.pending ∷ l) xs ys f h = fits_spends (suc n) rest l xs ys f h
+fits_spends (suc n) rest (ReadMark.fault kind ∷ l) xs ys f h = absurd h
+fits_spends (suc n) rest (ReadMark.end ∷ l) xs ys f h = (ap (take (suc n)) h.0, fits_spends (suc n) rest l xs ys f h.1)
+
+ends_spends : (rest : ℕ) (l : List ReadMark) (ys : List ℕ) → LimitEnds rest l
+    → TellsKnown (take rest ys) l (take rest ys)
+ends_spends rest [] ys e = refl
+ends_spends rest (m ∷ l) ys e =
+    let none : take rest ys ≡ [] = ap (λ n. take n ys) e.0 in
+    rw e.1 (none, ends_spends rest l ys e.2)
+
+pub takes_spends : {R : Type 0} (k : Known R) (x y : Take R) (l : List ReadMark) → k.knows x.inner
+    → TakesMarks k.told x l y
+    → k.knows y.inner × TellsKnown (take x.limit (k.left x.inner)) l (take y.limit (k.left y.inner))
+takes_spends k x y l know h =
+    let on = k.tells x.inner y.inner h.front know h.ran in
+    let front = fits_spends x.limit y.limit h.front (k.left x.inner) (k.left y.inner) h.fits on.1 in
+    let whole = spends_both _ _ _ h.front h.ends front (ends_spends y.limit h.ends (k.left y.inner) h.used_up) in
+    (on.0, rw h.cut whole)
+
+-- the first bytes
+abbrev pub takes_known : {R : Type 0} → Known R → Known (Take R)
+takes_known k = record {
+  told = TakesMarks k.told;
+  knows = λ x. k.knows x.inner;
+  left = λ x. take x.limit (k.left x.inner);
+  tells = takes_spends k;
+}
+
+before_end : (l : List ReadMark) (xs ys zs : List ℕ) → EndlessMarks l → TellsKnown xs l ys
+    → TellsKnown (xs ++ zs) l (ys ++ zs)
+before_end [] xs ys zs n h = ap (λ v. v ++ zs) h
+before_end (ReadMark.byte b ∷ l) xs ys zs n h = (h.0 ++ zs, ap (λ v. v ++ zs) h.1, before_end l h.0 ys zs n.1 h.2)
+before_end (ReadMark.pending ∷ l) xs ys zs n h = before_end l xs ys zs n.1 h
+before_end (ReadMark.fault kind ∷ l) xs ys zs n h = absurd h
+before_end (ReadMark.end ∷ l) xs ys zs n h = absurd (n.0 refl)
+
+module _ {R S : Type 0} (k : Known R) (j : Known S) where
+  -- nothing is left of the first, once it has ended
+  abbrev pub ChainKnows : Chain R S → Type 0
+  ChainKnows x = k.knows x.first × j.knows x.second × (x.has_ended ≡ true → k.left x.first ≡ [])
+
+  abbrev pub chain_left : Chain R S → List ℕ
+  chain_left x = k.left x.first ++ j.left x.second
+
+  joins_spends : (a b : Bool) (x y : Chain R S) (l : List ReadMark) → x.has_ended ≡ a → y.has_ended ≡ b → ChainKnows x
+      → JoinsReaders k.told j.told a b x l y
+      → ChainKnows y × TellsKnown (chain_left x) l (chain_left y)
+  joins_spends false false x y l at to know h =
+      let on = k.tells x.first y.first l know.0 h.0 in (
+        (on.0, subst j.knows (sym h.2) know.1, λ e. absurd (cc (e, to))),
+        rw (ap j.left h.2) (before_end l _ _ (j.left x.second) h.1 on.1),
+      )
+  joins_spends false true x y l at to know h =
+      let one = k.tells x.first h.between h.before know.0 h.first_ran in
+      let ended = k.tells h.between y.first (ReadMark.end ∷ []) one.0 h.first_ended in
+      let two = j.tells x.second y.second h.after know.1 h.second_ran in
+      let gone : k.left y.first ≡ [] = ended.1.1 ∙ ended.1.0 in
+      let front = rw ended.1.0 at (before_end h.before _ _ (j.left x.second) h.no_end one.1) in
+      ((ended.0, two.0, λ e. gone), rw (gone, h.cut) (spends_both _ _ _ h.before h.after front two.1))
+  joins_spends true true x y l at to know h =
+      let two = j.tells x.second y.second l know.1 h.0 in
+      let gone : k.left y.first ≡ [] = ap k.left h.1 ∙ know.2 at in
+      ((subst k.knows (sym h.1) know.0, two.0, λ e. gone), rw (gone, know.2 at) two.1)
+  joins_spends true false x y l at to know h = absurd h
+
+  pub chains_spends : (x y : Chain R S) (l : List ReadMark) → ChainKnows x → ChainsReaders k.told j.told x l y
+      → ChainKnows y × TellsKnown (chain_left x) l (chain_left y)
+  chains_spends x y l know h = joins_spends x.has_ended y.has_ended x y l refl refl know h
+
+  -- one's bytes, and then the other's
+  abbrev pub chains_known : Known (Chain R S)
+  chains_known =
+      record {
+        told = ChainsReaders k.told j.told;
+        knows = ChainKnows;
+        left = chain_left;
+        tells = chains_spends;
+      }

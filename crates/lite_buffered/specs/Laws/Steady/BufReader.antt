@@ -1,0 +1,71 @@
+-- A `BufReader` with some capacity tells one tale where its reader does; it is never pending where its reader isn't.
+use Rattle.std.proofs.Common.{◌≡◌, ◌∙◌, ◌<◌, ℕ, zero, suc, List, ◌++◌, sym, ap, subst, arith}
+use Rattle.lite_base.specs.Answers.{Comparable}
+use Rattle.lite_base.specs.Runs.{Runs}
+use Rattle.lite_io_base.specs.Laws.Steady.{comparable_behind, comparable_fronts, no_wait_both, no_wait_bytes}
+use Rattle.lite_io_base.specs.Laws.Steady.{no_wait_parts, strip_marks-append}
+use Rattle.lite_io_base.specs.Marks.{ReadMark, bytes}
+use Rattle.lite_io_base.specs.Steady.{CalmReadLaws, NoPendingRead, SteadyReadLaws, strip_marks}
+use Rattle.lite_buffered.specs.declared.buf_reader.BufReader.{BufReader}
+use Rattle.lite_buffered.specs.BufReader.{Padded, PassesBuffer, ThroughBuffer, ahead, reader_capacity}
+use Rattle.lite_buffered.specs.Laws.BufReader.{through_laws}
+
+-- with some capacity, pendings aside, what was ahead and what came in are what went out and what is ahead
+passes_apart : (n : ℕ) (p q : List ℕ) (came out : List ReadMark) → 0 < n → PassesBuffer n p came out q
+    → strip_marks (bytes p) ++ strip_marks came ≡ strip_marks out ++ strip_marks (bytes q)
+passes_apart zero p q came out some h = absurd (omega (arith, some))
+passes_apart (suc n) p q came out some h =
+    sym (strip_marks-append (bytes p) came) ∙ ap strip_marks h ∙ strip_marks-append out (bytes q)
+
+padded_no_wait : (l k : List ReadMark) → Padded l k → NoPendingRead l → NoPendingRead k
+padded_no_wait _ _ Padded.none h = tt
+padded_no_wait _ _ (Padded.same (ReadMark.byte b) l k p) h = padded_no_wait l k p h
+padded_no_wait _ _ (Padded.same ReadMark.pending l k p) h = absurd h
+padded_no_wait _ _ (Padded.same (ReadMark.fault kind) l k p) h = padded_no_wait l k p h
+padded_no_wait _ _ (Padded.same ReadMark.end l k p) h = padded_no_wait l k p h
+padded_no_wait _ _ (Padded.more l k p) h = padded_no_wait l k p h
+
+passes_no_wait : (n : ℕ) (p q : List ℕ) (came out : List ReadMark) → PassesBuffer n p came out q → NoPendingRead came
+    → NoPendingRead out
+passes_no_wait zero p q came out h w = padded_no_wait came out h.2 w
+passes_no_wait (suc n) p q came out h w =
+    (no_wait_parts out (bytes q) (subst NoPendingRead h (no_wait_both (bytes p) came (no_wait_bytes p) w))).0
+
+-- two with some capacity and the same bytes ahead, over readers that are alike
+abbrev pub AheadAlike : {R : Type 0} → (R → R → Type 0) → BufReader R → BufReader R → Type 0
+AheadAlike alike x y = (0 < reader_capacity x) × (0 < reader_capacity y) × (ahead x ≡ ahead y) × alike x.inner y.inner
+
+module _ {R : Type 0} {reads : Runs ReadMark R} where
+  module _ {ample : Runs ReadMark R} {needs_none : Type 0} {alike : R → R → Type 0}
+      (s : SteadyReadLaws reads ample needs_none alike) where
+    one_tale : (x y x' y' : BufReader R) (l m : List ReadMark) → AheadAlike alike x y → ThroughBuffer ample x l x'
+        → ThroughBuffer ample y m y'
+        → Comparable (strip_marks l) (strip_marks m)
+    one_tale x y x' y' l m e h k =
+        let came = s.steady x.inner y.inner x'.inner y'.inner h.came k.came e.3 h.ran k.ran in
+        let first = passes_apart (reader_capacity x) (ahead x) (ahead x') h.came l e.0 h.passes in
+        let second = passes_apart (reader_capacity y) (ahead y) (ahead y') k.came m e.1 k.passes in
+        let both = comparable_behind (strip_marks (bytes (ahead y))) (strip_marks h.came) (strip_marks k.came) came in
+        comparable_fronts (strip_marks l) (strip_marks (bytes (ahead x'))) (strip_marks m)
+        (strip_marks (bytes (ahead y'))) (rw (← first, ← second, e.2) both)
+
+    all_ample : needs_none → (x y : BufReader R) (l : List ReadMark) → ThroughBuffer reads x l y
+        → ThroughBuffer ample x l y
+    all_ample n x y l h = record {
+      came = h.came;
+      ran = s.found n x.inner y.inner h.came h.ran;
+      capacity = h.capacity;
+      passes = h.passes;
+    }
+
+    pub buf_reader_steady : SteadyReadLaws (ThroughBuffer reads) (ThroughBuffer ample) needs_none (AheadAlike alike)
+    buf_reader_steady = record { laws = through_laws s.laws; steady = one_tale; found = all_ample }
+
+  pub buf_reader_calm : {is_calm : R → Type 0} → CalmReadLaws reads is_calm
+      → CalmReadLaws (ThroughBuffer reads) (λ (x : BufReader R). is_calm x.inner)
+  buf_reader_calm c =
+      record {
+        no_pending = λ x y l k h. passes_no_wait (reader_capacity x) (ahead x) (ahead y) h.came l h.passes
+            (c.no_pending x.inner y.inner h.came k h.ran);
+        calm_on = λ x y l k h. c.calm_on x.inner y.inner h.came k h.ran;
+      }

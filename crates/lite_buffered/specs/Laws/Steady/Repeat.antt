@@ -1,0 +1,27 @@
+-- `repeat` tells one tale, and is never pending.
+use Rattle.std.proofs.Common.{◌≡◌, ◌∙◌, List, [], ◌∷◌, ap, sym}
+use Rattle.std.specs.Prelude.{⊤}
+use Rattle.lite_base.specs.Answers.{Comparable}
+use Rattle.lite_io_base.specs.Laws.Steady.{comparable_stripped, steady_read_always}
+use Rattle.lite_io_base.specs.Marks.{ReadMark}
+use Rattle.lite_io_base.specs.Steady.{CalmReadLaws, NoPendingRead, SteadyReadLaws}
+use Rattle.lite_buffered.specs.declared.repeat.Repeat.{Repeat}
+use Rattle.lite_buffered.specs.Laws.Repeat.{repeats_laws}
+use Rattle.lite_buffered.specs.Repeat.{RepeatsByte}
+
+same_repeats : (x y x' y' : Repeat) (l m : List ReadMark) → x.byte ≡ y.byte → RepeatsByte x l x' → RepeatsByte y m y'
+    → Comparable l m
+same_repeats x y x' y' (a ∷ l) (b ∷ m) e h k =
+    (h.0 ∙ ap ReadMark.byte e ∙ sym k.0, same_repeats x y x' y' l m e h.1 k.1)
+same_repeats x y x' y' l m e h k = tt
+
+pub repeat_steady : SteadyReadLaws RepeatsByte RepeatsByte ⊤ (λ x y. x.byte ≡ y.byte)
+repeat_steady =
+    steady_read_always repeats_laws (λ x y x' y' l m e h k. comparable_stripped l m (same_repeats x y x' y' l m e h k))
+
+no_wait : (x y : Repeat) (l : List ReadMark) → RepeatsByte x l y → NoPendingRead l
+no_wait x y [] h = tt
+no_wait x y (a ∷ l) h = rw h.0 (no_wait x y l h.1)
+
+pub repeat_calm : CalmReadLaws RepeatsByte (λ x. ⊤)
+repeat_calm = record { no_pending = λ x y l n h. no_wait x y l h; calm_on = λ x y l n h. tt }

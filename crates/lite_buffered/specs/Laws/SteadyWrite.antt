@@ -1,0 +1,131 @@
+-- A buffered writer leaves what its inner writer leaves.
+use Rattle.std.proofs.Common.{◌≡◌, ◌∙◌, ℕ, List, [], ◌∷◌, ◌++◌, inl, inr, refl, sym, ap, subst, append_assoc}
+use Rattle.std.proofs.Common.{append-nil}
+use Rattle.lite_io_base.specs.SteadyWrite.{CalmWriteLaws, EndsFlushed, NoError, NoPendingWrite, SteadyWriteLaws}
+use Rattle.lite_io_base.specs.Takings.{WriteMark, bytes_taken}
+use Rattle.lite_buffered.specs.declared.buf_writer.BufWriter.{BufWriter}
+use Rattle.lite_buffered.specs.BufWriter.{Buffers, TakesHeld, WriterAnswers, WriterSegment, WriterSegments, unwritten}
+use Rattle.lite_base.specs.Runs.{Runs}
+
+no_error_both : (l m : List WriteMark) → NoError l → NoError m → NoError (l ++ m)
+no_error_both [] m a b = b
+no_error_both (WriteMark.fault kind ∷ l) m a b = (a.0, no_error_both l m a.1 b)
+no_error_both (c ∷ l) m a b = no_error_both l m a b
+
+-- while held bytes are written an error is an interruption
+drains_no_error : (before rest : List ℕ) (taken : List WriteMark) (n : ℕ) → TakesHeld before taken rest n
+    → NoError taken
+drains_no_error before _ _ _ TakesHeld.none = tt
+drains_no_error before _ _ _ (TakesHeld.some ms xs rest n d more) =
+    no_error_both ms _ (drains_no_error before (xs ++ rest) ms n d) tt
+drains_no_error before _ _ _ (TakesHeld.interrupted ms rest n d more few) =
+    no_error_both ms _ (drains_no_error before rest ms n d) (refl, tt)
+
+answers_no_error : (n : ℕ) (left after : List ℕ) (last : List WriteMark) (told : WriteMark) → NoError (told ∷ [])
+    → WriterAnswers n left last told after → NoError last
+answers_no_error n left after last (WriteMark.wrote xs) none (inl h) = rw h.0 tt
+answers_no_error n left after last (WriteMark.wrote xs) none (inr h) = rw h.0 tt
+answers_no_error n left after last (WriteMark.fault kind) none (inl f, h) = rw f.0 none
+answers_no_error n left after last (WriteMark.fault kind) none (inr f, h) = rw f.0 tt
+answers_no_error n left after last told none h = rw h.0 tt
+
+segment_no_error : (before after : List ℕ) (taken : List WriteMark) (told : WriteMark) → NoError (told ∷ [])
+    → WriterSegment before taken told after → NoError taken
+segment_no_error before after taken told none s =
+    subst NoError (sym s.cut)
+    (no_error_both s.drained s.last (drains_no_error before s.left s.drained s.interruptions s.drains)
+    (answers_no_error s.interruptions s.left after s.last told none s.answers))
+
+no_error_head : (told : WriteMark) (l : List WriteMark) → NoError (told ∷ l) → NoError (told ∷ []) × NoError l
+no_error_head (WriteMark.fault kind) l a = ((a.0, tt), a.1)
+no_error_head told l a = (tt, a)
+
+segments_no_error : (before after : List ℕ) (taken out : List WriteMark) → NoError out
+    → WriterSegments before taken out after → NoError taken
+segments_no_error before after taken [] none h = rw h.0 tt
+segments_no_error before after taken (told ∷ out) none h =
+    let each = no_error_head told out none in
+    subst NoError (sym h.3)
+    (no_error_both h.0 h.1 (segment_no_error before h.2 h.0 told each.0 h.4)
+    (segments_no_error h.2 after h.1 out each.1 h.5))
+
+-- where a flush comes last, the inner writer's comes last, and nothing is held then
+segments_flushed : (before after : List ℕ) (taken out : List WriteMark)
+    → WriterSegments before taken (out ++ WriteMark.flushed ∷ []) after → EndsFlushed taken × (after ≡ [])
+segments_flushed before after taken [] h =
+    let s = h.4 in
+    ((s.drained, rw (h.3, h.5.0, append-nil, s.cut, s.answers.0)), h.5.1 ∙ s.answers.2)
+segments_flushed before after taken (told ∷ out) h =
+    let rest = segments_flushed h.2 after h.1 out h.5 in
+    let whole = h.3 ∙ ap (λ l. h.0 ++ l) rest.0.1 ∙ sym (append_assoc h.0 rest.0.0 (WriteMark.flushed ∷ [])) in
+    ((h.0 ++ rest.0.0, whole), rest.1)
+
+never_waits_parts : (l m : List WriteMark) → NoPendingWrite (l ++ m) → NoPendingWrite l × NoPendingWrite m
+never_waits_parts [] m a = (tt, a)
+never_waits_parts (WriteMark.pending ∷ l) m a = absurd a
+never_waits_parts (b ∷ l) m a = never_waits_parts l m a
+
+told_no_pending : (n : ℕ) (left after : List ℕ) (last out : List WriteMark) (told : WriteMark) → NoPendingWrite last
+    → NoPendingWrite out → WriterAnswers n left last told after → NoPendingWrite (told ∷ out)
+told_no_pending n left after last out WriteMark.pending a b h = absurd (subst NoPendingWrite h.0 a)
+told_no_pending n left after last out told a b h = b
+
+segments_no_pending : (before after : List ℕ) (taken out : List WriteMark) → NoPendingWrite taken
+    → WriterSegments before taken out after → NoPendingWrite out
+segments_no_pending before after taken [] a h = tt
+segments_no_pending before after taken (told ∷ out) a h =
+    let parts = never_waits_parts h.0 h.1 (subst NoPendingWrite h.3 a) in
+    let s = h.4 in
+    let last = (never_waits_parts s.drained s.last (subst NoPendingWrite s.cut parts.0)).1 in
+    told_no_pending s.interruptions s.left h.2 s.last out told last
+    (segments_no_pending h.2 after h.1 out parts.1 h.5) s.answers
+
+module _ {W : Type 0} (writes : Runs WriteMark W) where
+  -- what the inner writer took, where a flush came last
+  record Flushed (x : BufWriter W) (l : List WriteMark) (y : BufWriter W) : Type 0 where
+    pub taken : List WriteMark
+    pub ran : writes x.inner taken y.inner
+    pub none : NoError taken
+    pub last : EndsFlushed taken
+    pub bytes : bytes_taken taken ≡ unwritten x ++ bytes_taken l
+    pub empty : unwritten y ≡ []
+
+  flushed : (x y : BufWriter W) (l : List WriteMark) → NoError l → EndsFlushed l → Buffers writes x l y → Flushed x l y
+  flushed x y l none ends b =
+      let last = segments_flushed (unwritten x) (unwritten y) b.taken ends.0
+      (subst (λ o. WriterSegments (unwritten x) b.taken o (unwritten y)) ends.1 b.segments) in
+      record {
+        taken = b.taken;
+        ran = b.ran;
+        none = segments_no_error (unwritten x) (unwritten y) b.taken l none b.segments;
+        last = last.0;
+        bytes = rw (b.balanced, last.1, append-nil);
+        empty = last.1;
+      }
+
+-- they hold the same, over writers that are alike
+abbrev pub HeldAlike : {W : Type 0} → (W → W → Type 0) → BufWriter W → BufWriter W → Type 0
+HeldAlike alike x y = (unwritten x ≡ unwritten y) × alike x.inner y.inner
+
+module _ {W : Type 0} {writes : Runs WriteMark W} where
+  pub buf_writer_steady : {alike : W → W → Type 0} {below : W → List ℕ} → SteadyWriteLaws writes alike below
+      → SteadyWriteLaws (Buffers writes) (HeldAlike alike) (λ (x : BufWriter W). below x.inner)
+  buf_writer_steady s =
+      record {
+        steady = λ x y x' y' l m e h k a b f g same.
+            let p = flushed writes x x' l a f h in
+            let q = flushed writes y y' m b g k in
+            let bytes : bytes_taken p.taken ≡ bytes_taken q.taken = rw (p.bytes, q.bytes, e.0, same) refl in
+            let inner = s.steady x.inner y.inner x'.inner y'.inner p.taken q.taken e.1 p.ran q.ran p.none q.none p.last
+            q.last bytes in
+            (inner.0, (p.empty ∙ sym q.empty, inner.1));
+      }
+
+  pub buf_writer_calm : {is_calm : W → Type 0} → CalmWriteLaws writes is_calm
+      → CalmWriteLaws (Buffers writes) (λ (x : BufWriter W). is_calm x.inner)
+  buf_writer_calm c =
+      record {
+        no_pending = λ x y l k h. segments_no_pending (unwritten x) (unwritten y) h.taken l
+            (c.no_pending x.inner y.inner h.taken k h.ran) h.segments;
+        calm_on = λ x y l k h. c.calm_on x.inner y.inner h.taken k h.ran;
+      }

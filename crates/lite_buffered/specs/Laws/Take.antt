@@ -1,0 +1,119 @@
+use Rattle.std.proofs.Common.{◌≡◌, ◌∙◌, ℕ, zero, suc, List, [], ◌∷◌, ◌++◌, length, take, refl, sym, ap, subst, arith}
+use Rattle.std.proofs.Common.{append_assoc, append-nil}
+use Rattle.lite_base.specs.Answers.{Comparable}
+use Rattle.lite_base.specs.Ranks.{Ranks, ranks_of}
+use Rattle.lite_base.specs.Runs.{Runs}
+use Rattle.lite_io_base.specs.Counting.{ReadCounting}
+use Rattle.lite_io_base.specs.Falls.{Falls}
+use Rattle.lite_io_base.specs.Laws.Marks.{given-append, given_parts}
+use Rattle.lite_io_base.specs.Laws.Steady.{comparable_none}
+use Rattle.lite_io_base.specs.Marks.{AllGiven, ReadMark, bytes, given}
+use Rattle.lite_io_base.specs.Runs.{MarkLaws, Shows}
+use Rattle.lite_buffered.specs.declared.take.Take.{Take}
+use Rattle.lite_buffered.specs.Take.{LimitEnds, TakesMarks, WithinLimit}
+
+fits_follow : (a b c : ℕ) (l m : List ReadMark) → WithinLimit a l b → WithinLimit b m c → WithinLimit a (l ++ m) c
+fits_follow a b c [] m h k = subst (λ n. WithinLimit n m c) h k
+fits_follow zero b c (e ∷ l) m h k = absurd h
+fits_follow (suc a) b c (ReadMark.byte x ∷ l) m h k = fits_follow a b c l m h k
+fits_follow (suc a) b c (e ∷ l) m h k = fits_follow (suc a) b c l m h k
+
+fits_none : (b c : ℕ) (m : List ReadMark) → b ≡ 0 → WithinLimit b m c → (m ≡ []) × (c ≡ 0)
+fits_none b c [] z h = (refl, h ∙ z)
+fits_none zero c (e ∷ m) z h = absurd h
+fits_none (suc b) c (e ∷ m) z h = absurd (omega (arith, z))
+
+ends_both : (c : ℕ) (l m : List ReadMark) → LimitEnds c l → LimitEnds c m → LimitEnds c (l ++ m)
+ends_both c [] m h k = k
+ends_both c (e ∷ l) m h k = (h.0, h.1, ends_both c l m h.2 k)
+
+ends_given : (c : ℕ) (l : List ReadMark) → LimitEnds c l → given l ≡ 0
+ends_given c [] h = refl
+ends_given c (e ∷ l) h = rw h.1 (ends_given c l h.2)
+
+-- where bytes and errors alone stand, no end does
+ends_gone : (c : ℕ) (l : List ReadMark) → LimitEnds c l → AllGiven l → l ≡ []
+ends_gone c [] h g = refl
+ends_gone c (e ∷ l) h g = absurd (subst (λ m. AllGiven (m ∷ [])) h.1 (g.0, tt)).0
+
+-- what is lent of a front, with the ends behind it
+fits_show : (limit rest : ℕ) (lent : List ℕ) (front ends : List ReadMark) → WithinLimit limit front rest
+    → LimitEnds rest ends → Comparable (bytes lent) front → Comparable (bytes (take limit lent)) (front ++ ends)
+fits_show limit rest lent [] [] f e h = comparable_none (bytes (take limit lent))
+fits_show limit rest lent [] (m ∷ ends) f e h = let none : limit ≡ 0 = omega (arith, f, e.0) in rw none tt
+fits_show zero rest lent (m ∷ front) ends f e h = absurd f
+fits_show (suc n) rest [] (m ∷ front) ends f e h = tt
+fits_show (suc n) rest (b ∷ lent) (ReadMark.byte c ∷ front) ends f e h = (h.0, fits_show n rest lent front ends f e h.1)
+fits_show (suc n) rest (b ∷ lent) (m ∷ front) ends f e h = absurd (cc h.0)
+
+module _ {R : Type 0} {reads : Runs ReadMark R} where
+  still : (x y z : Take R) (l m : List ReadMark) → TakesMarks reads x l y → TakesMarks reads y m z → x.limit ≡ 0 → z ≡ x
+  still x y z l m a b none = b.still (ap (λ (t : Take R). t.limit) (a.still none) ∙ none) ∙ a.still none
+
+  -- ends come where the limit is used up, so that none of the reader's marks follows them
+  joined : (x y z : Take R) (l m : List ReadMark) (a : TakesMarks reads x l y) (b : TakesMarks reads y m z)
+      (e : List ReadMark) → a.ends ≡ e
+      → (l ++ m ≡ (a.front ++ b.front) ++ (a.ends ++ b.ends)) × LimitEnds z.limit (a.ends ++ b.ends)
+  joined x y z l m a b [] is = rw is (rw (a.cut, is, append-nil, b.cut, append_assoc) refl, b.used_up)
+  joined x y z l m a b (e ∷ es) is =
+      let after = subst (LimitEnds y.limit) is a.used_up in
+      let none = fits_none y.limit z.limit b.front after.0 b.fits in
+      let same : y.limit ≡ z.limit = after.0 ∙ sym none.1 in (
+        rw (a.cut, b.cut, none.0, append-nil, append_assoc) refl,
+        ends_both z.limit a.ends b.ends (subst (λ n. LimitEnds n a.ends) same a.used_up) b.used_up,
+      )
+
+  pub takes_laws : MarkLaws reads → MarkLaws (TakesMarks reads)
+  takes_laws laws = record {
+    rests = λ x. record {
+      front = [];
+      ends = [];
+      cut = refl;
+      ran = laws.rests x.inner;
+      fits = refl;
+      used_up = tt;
+      still = λ none. refl;
+    };
+    follows = λ x y z l m a b.
+        let both = joined x y z l m a b a.ends refl in
+        record {
+          front = a.front ++ b.front;
+          ends = a.ends ++ b.ends;
+          cut = both.0;
+          ran = laws.follows x.inner y.inner z.inner a.front b.front a.ran b.ran;
+          fits = fits_follow x.limit y.limit z.limit a.front b.front a.fits b.fits;
+          used_up = both.1;
+          still = still x y z l m a b;
+        };
+  }
+
+  pub takes_show : (lent : R → List ℕ) → Shows reads lent → Shows (TakesMarks reads) (λ x. take x.limit (lent x.inner))
+  takes_show lent shows x y l h =
+      rw h.cut
+      (fits_show x.limit y.limit (lent x.inner) h.front h.ends h.fits h.used_up (shows x.inner y.inner h.front h.ran))
+
+  module _ {r : Ranks R} (c : ReadCounting reads r) where
+    takes_lowers : (x y : Take R) (l : List ReadMark) → r.firm x.inner → TakesMarks reads x l y
+        → Falls (given l) (r.rank y.inner) (r.rank x.inner)
+    takes_lowers x y l firm h =
+        let same : given h.front ≡ given l =
+        omega (arith, ap given h.cut, given-append h.front h.ends, ends_given y.limit h.ends h.used_up) in
+        subst (λ n. Falls n (r.rank y.inner) (r.rank x.inner)) same (c.lowers x.inner y.inner h.front firm h.ran)
+
+    takes_falls : (x y : Take R) (l : List ReadMark) → r.counts x.inner → AllGiven l → TakesMarks reads x l y
+        → Falls (length l) (r.rank y.inner) (r.rank x.inner)
+    takes_falls x y l counts g h =
+        let parts = given_parts h.front h.ends (subst AllGiven h.cut g) in
+        let same : h.front ≡ l =
+        sym (h.cut ∙ ap (λ k. h.front ++ k) (ends_gone y.limit h.ends h.used_up parts.1) ∙ append-nil h.front) in
+        subst (λ k. Falls (length k) (r.rank y.inner) (r.rank x.inner)) same
+        (c.falls x.inner y.inner h.front counts parts.0 h.ran)
+
+    pub takes_counting : ReadCounting (TakesMarks reads) (ranks_of (λ (x : Take R). x.inner) r)
+    takes_counting = record {
+      sized = λ x. c.sized x.inner;
+      counts_on = λ x y l k h. c.counts_on x.inner y.inner h.front k h.ran;
+      firm_on = λ x y l k h. c.firm_on x.inner y.inner h.front k h.ran;
+      falls = takes_falls;
+      lowers = takes_lowers;
+    }

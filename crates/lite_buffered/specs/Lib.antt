@@ -1,0 +1,9 @@
+pub mod BufReader
+pub mod BufWriter
+pub mod Chain
+pub mod Chaining
+pub mod InOrder
+pub mod Laws
+pub mod Repeat
+pub mod SeeksThrough
+pub mod Take

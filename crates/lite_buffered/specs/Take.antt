@@ -1,0 +1,39 @@
+-- `take`: the front of a reader, and then an end for ever.
+use Rattle.std.specs.Prelude.{◌≡◌, ℕ, zero, suc, List, [], ◌∷◌, ◌++◌, ⊤}
+use Rattle.lite_io_base.specs.Marks.{ReadMark}
+use Rattle.lite_buffered.specs.declared.take.Take.{Take}
+use Rattle.lite_base.specs.Runs.{Runs}
+
+-- the reader that is read
+abbrev pub take_inner : {R : Type 0} → Take R → R
+take_inner x = x.inner
+
+-- how many bytes may still be read
+abbrev pub limit_of : {R : Type 0} → Take R → ℕ
+limit_of x = x.limit
+
+-- each of these marks comes while the limit isn't used up, of which each byte uses one; this is what is left
+abbrev pub WithinLimit : Runs ReadMark ℕ
+WithinLimit limit [] rest = rest ≡ limit
+WithinLimit zero (m ∷ ms) rest = ⊥
+WithinLimit (suc n) (ReadMark.byte b ∷ ms) rest = WithinLimit n ms rest
+WithinLimit (suc n) (ReadMark.pending ∷ ms) rest = WithinLimit (suc n) ms rest
+WithinLimit (suc n) (ReadMark.fault kind ∷ ms) rest = WithinLimit (suc n) ms rest
+WithinLimit (suc n) (ReadMark.end ∷ ms) rest = WithinLimit (suc n) ms rest
+
+-- ends alone, and only if the limit is used up
+abbrev pub LimitEnds : ℕ → List ReadMark → Type 0
+LimitEnds rest [] = ⊤
+LimitEnds rest (m ∷ ms) = (rest ≡ 0) × (m ≡ ReadMark.end) × LimitEnds rest ms
+
+-- The inner reader's marks through the limit's last byte, and then ends. Where the limit is used up the inner reader is
+-- asked no more.
+pub record TakesMarks {R : Type 0} (reads : Runs ReadMark R) (x : Take R) (ms : List ReadMark)
+    (y : Take R) : Type 0 where
+  pub front : List ReadMark
+  pub ends : List ReadMark
+  pub cut : ms ≡ front ++ ends
+  pub ran : reads x.inner front y.inner
+  pub fits : WithinLimit x.limit front y.limit
+  pub used_up : LimitEnds y.limit ends
+  pub still : x.limit ≡ 0 → y ≡ x

@@ -1,0 +1,394 @@
+ghost use Rattle.std.specs.Prelude.{◌≡◌, ◌+◌, ◌<◌, ◌≤◌, [], Ok, length, max, IfOk, IfErr};
+ghost use Rattle.std.specs.Borrow.{Lends, sem};
+ghost use Rattle.futures.specs.Poll.{IfReady};
+ghost use Rattle.futures.specs.Task.{Keeps};
+ghost use Rattle.lite_io_base.specs.Marks.{count_of, fill_marks, read_marks};
+ghost use Rattle.lite_io_base.specs.Runs.{OnlyOkLends, ReadsInto, room_in};
+ghost use Rattle.lite_base.specs.Registered.{Registered};
+
+use lite_base::{Context, Poll, ready};
+use lite_io_base::{
+    AsyncBufRead, AsyncRead, AsyncSeek, AsyncWrite, CountedRead, Takings, Tale, fill_slice,
+    fill_slices, total_room,
+};
+use std::alloc::Global;
+use std::io;
+use std::io::{IoSliceMut, SeekFrom};
+
+/// The capacity of a buffer, in bytes, where none is named.
+const DEFAULT_CAPACITY: usize = 8192;
+
+/// Reads ahead into a buffer, so that small reads do not each reach the inner reader.
+///
+/// The buffer is made once, and no call of the reader takes memory after that. A read into at least as much room as
+/// the capacity, with nothing buffered, passes through; else the buffer is filled where it is empty, and copied from.
+/// With a capacity of 0 a read, a vectored one too, goes to the inner reader, and a fill asks it for 0 bytes. Writes
+/// and seeks reach the inner value past what is buffered. What is buffered is lost by `into_inner` and by a drop.
+/// Ported from `src/io.rs`, `BufReader`.
+#[derive(Drop)]
+pub struct BufReader<R> {
+    inner: R,
+    // As long as the capacity. What was read and not yet taken is at pos..end.
+    buf: Vec<u8>,
+    pos: usize,
+    end: usize,
+    ghost in_range: { (pos ≤ end) × (end ≤ length buf.items) },
+}
+
+impl<R: Drop> BufReader<R> {
+    ghost use Rattle.lite_buffered.specs.contracts.buf_reader.BufReader.{the_row};
+    ghost use Rattle.lite_buffered.specs.BufReader.{ahead, reader_capacity, reader_inner};
+
+    /// A reader with a buffer of 8192 bytes. `Err` hands `inner` back, where there was no memory for the buffer.
+    pub fn new(alloc: Global, inner: R) -> Result<BufReader<R>, R>
+        ensures inner { IfOk result (λ r. reader_inner r ≡ inner) }
+        ensures empty { IfOk result (λ r. ahead r ≡ []) }
+        ensures capacity { IfOk result (λ r. reader_capacity r ≡ 8192) }
+        ensures handed_back { IfErr result (λ r. r ≡ inner) }
+    {
+        BufReader::with_capacity(alloc, DEFAULT_CAPACITY, inner)
+    }
+
+    /// A reader with a buffer of `capacity` bytes, with none of them used. `Err` hands `inner` back, where there was no
+    /// memory for the buffer. With a capacity of 0 each read goes to `inner`, and nothing is lent.
+    pub fn with_capacity(alloc: Global, capacity: usize, inner: R) -> Result<BufReader<R>, R>
+        ensures inner { IfOk result (λ r. reader_inner r ≡ inner) }
+        ensures empty { IfOk result (λ r. ahead r ≡ []) }
+        ensures capacity { IfOk result (λ r. reader_capacity r ≡ capacity) }
+        ensures handed_back { IfErr result (λ r. r ≡ inner) }
+    {
+        match vec![in alloc; 0; capacity] {
+            Ok(buf) => Ok(BufReader {
+                inner,
+                buf,
+                pos: 0,
+                end: 0,
+            }),
+            Err(_) => Err(inner),
+        }
+    }
+
+    /// The inner reader.
+    pub fn get_ref(&self) -> &R
+        ensures { result.now ≡ reader_inner self.now }
+    {
+        &self.inner
+    }
+
+    /// The inner reader, to be changed. What it reads meanwhile is not buffered.
+    pub fn get_mut(&mut self) -> &mut R
+        ensures value { result.now ≡ reader_inner self.old }
+        ensures* writes_back { sem 𝓛 (Lends (the_row R.row) R.row self.entry result
+            (λ w. record self.old { inner = w })) }
+    {
+        &mut self.inner
+    }
+
+    /// The inner reader. The bytes that were read ahead are lost.
+    pub fn into_inner(self) -> R
+        ensures { result ≡ reader_inner self }
+    {
+        self.inner
+    }
+}
+
+impl<R> BufReader<R> {
+    ghost use Rattle.lite_buffered.specs.BufReader.{ahead};
+
+    /// The bytes that were read ahead and are not yet taken.
+    pub fn buffer(&self) -> &[u8]
+        ensures { result.now ≡ ahead self.now }
+    {
+        self.show()
+    }
+
+    fn show(&self) -> &[u8]
+        ensures { result.now ≡ ahead self.now }
+    {
+        &self.buf[self.pos..self.end]
+    }
+
+    // Takes the first `amount` bytes of those that are ahead.
+    fn advance(&mut self, amount: usize)
+        requires { amount ≤ length (ahead self.old) }
+        ensures inner { self.new.inner ≡ self.old.inner }
+        ensures buf { self.new.buf ≡ self.old.buf }
+        ensures pos { self.new.pos ≡ self.old.pos + amount }
+        ensures end { self.new.end ≡ self.old.end }
+    {
+        self.pos += amount;
+    }
+}
+
+impl<R: Tale> Tale for BufReader<R> {
+    ghost use Rattle.lite_buffered.specs.BufReader.{ThroughBuffer};
+    ghost use Rattle.lite_buffered.specs.Laws.BufReader.{through_laws};
+    ghost use Rattle.lite_buffered.specs.Laws.Known.{through_known};
+
+    ghost reads = { ThroughBuffer R.reads };
+
+    ghost read_laws = { through_laws R.read_laws };
+
+    ghost known = { through_known R.known };
+}
+
+impl<R: Takings> Takings for BufReader<R> {
+    ghost use Rattle.lite_buffered.specs.BufReader.{Past};
+    ghost use Rattle.lite_buffered.specs.Laws.BufReader.{past_laws};
+
+    ghost writes = { Past R.writes };
+
+    ghost write_laws = { past_laws R.write_laws };
+}
+
+impl<R: AsyncRead> BufReader<R> {
+    ghost use Rattle.lite_buffered.specs.BufReader.{AsksWhereEmpty, PollsOnce, ThroughBuffer, ahead, reader_capacity};
+    ghost use Rattle.lite_buffered.specs.BufReader.{reader_inner};
+
+    // Reads ahead if nothing is there.
+    #[tactic(auto, using(crate::proofs::Reading::fill_rules, crate::proofs::Polling::polls_rules, crate::proofs::Asking::asks_rules))]
+    fn fill(&mut self, cx: &mut Context<'_>) -> Poll<io::Result<()>>
+        ensures ran { ThroughBuffer R.reads self.old (fill_marks result (ahead self.new)) self.new }
+        ensures lends { OnlyOkLends result (ahead self.new) }
+        ensures once { PollsOnce R.reads (reader_capacity self.old) self.old.inner self.new.inner }
+        ensures asks { AsksWhereEmpty R.reads (reader_capacity self.old) self.old self.new }
+        ensures left { Registered result (R.registers (reader_inner self.new)) cx.new }
+        ensures kept { Keeps cx.old cx.new }
+    {
+        if self.pos < self.end {
+            return Poll::Ready(Ok(()));
+        }
+        match ready!(self.refill(cx)) {
+            Ok(_) => Poll::Ready(Ok(())),
+            Err(e) => Poll::Ready(Err(e)),
+        }
+    }
+
+    // Reads as much as there is room for into the whole buffer. What was ahead is lost.
+    fn refill(&mut self, cx: &mut Context<'_>) -> Poll<io::Result<usize>>
+        ensures ran { R.reads self.old.inner (read_marks result self.new.buf.items) self.new.inner }
+        ensures bound { IfReady result (λ r. IfOk r (λ n. n ≤ length self.new.buf.items)) }
+        ensures ahead { self.new.pos ≡ 0 }
+        ensures count { self.new.end ≡ count_of result }
+        ensures capacity { length self.new.buf.items ≡ length self.old.buf.items }
+        ensures left { Registered result (R.registers self.new.inner) cx.new }
+        ensures kept { Keeps cx.old cx.new }
+    {
+        self.pos = 0;
+        self.end = 0;
+        let polled = self.inner.poll_read(cx, self.buf.as_mut_slice());
+        if let Poll::Ready(Ok(n)) = &polled {
+            self.end = *n;
+        }
+        polled
+    }
+}
+
+impl<R: AsyncRead> AsyncRead for BufReader<R> {
+    ghost use Rattle.lite_buffered.specs.BufReader.{AsksWhereEmpty, PollsOnce, ReadsPast, ThroughBuffer, ahead};
+    ghost use Rattle.lite_buffered.specs.BufReader.{reader_capacity, reader_inner};
+
+    ghost registers = { λ r. R.registers (reader_inner r) };
+
+    // A call would hand its answer, which is large, through memory.
+    #[inline(always)]
+    #[tactic(auto, using(crate::proofs::Polling::polls_rules, crate::proofs::Asking::asks_rules))]
+    fn poll_read(&mut self, cx: &mut Context<'_>, buf: &mut [u8]) -> Poll<io::Result<usize>>
+        ensures bound { IfReady result (λ r. IfOk r (λ n. n ≤ length buf.new)) }
+        ensures ran { ThroughBuffer R.reads self.old (read_marks result buf.new) self.new }
+        ensures left { Registered result (R.registers (reader_inner self.new)) cx.new }
+        ensures kept { Keeps cx.old cx.new }
+
+        // The inner reader is polled at most once.
+        ensures once { PollsOnce R.reads (max (reader_capacity self.old) (length buf.old)) (reader_inner self.old)
+            (reader_inner self.new) }
+
+        // With bytes ahead it is not; with none it is asked for as much as the buffer or `buf` has room for.
+        ensures asks { 0 < length buf.old
+            → AsksWhereEmpty R.reads (max (reader_capacity self.old) (length buf.old)) self.old self.new }
+
+        // With none ahead, and no less room than the capacity, it reads into `buf` itself.
+        ensures past { 0 < length buf.old → ahead self.old ≡ [] → reader_capacity self.old ≤ length buf.old
+            → ReadsPast R.reads self.old (read_marks result buf.new) self.new }
+
+        // Without room nothing is polled.
+        ensures idle { length buf.old ≡ 0 → (result ≡ Poll.Ready (Ok 0)) × (self.new ≡ self.old) }
+
+        // Without a buffer the inner reader is read.
+        ensures unbuffered { reader_capacity self.old ≡ 0
+            → R.reads (reader_inner self.old) (read_marks result buf.new) (reader_inner self.new) }
+    {
+        if buf.is_empty() {
+            return Poll::Ready(Ok(0));
+        }
+        if self.pos == self.end && buf.len() >= self.buf.len() {
+            return self.inner.poll_read(cx, buf);
+        }
+        match ready!(self.fill(cx)) {
+            Ok(()) => {}
+            Err(e) => return Poll::Ready(Err(e)),
+        }
+        let n = fill_slice(self.show(), buf);
+        self.advance(n);
+        Poll::Ready(Ok(n))
+    }
+
+    #[tactic(auto, using(crate::proofs::Polling::polls_rules, crate::proofs::Asking::asks_rules))]
+    fn poll_read_vectored(
+        &mut self,
+        cx: &mut Context<'_>,
+        bufs: &mut [IoSliceMut<'_>],
+    ) -> Poll<io::Result<usize>>
+        ensures bound { IfReady result (λ r. IfOk r (λ n. n ≤ room_in bufs.old)) }
+        ensures ran { ReadsInto (ThroughBuffer R.reads) self.old result bufs.old self.new }
+        ensures left { Registered result (R.registers (reader_inner self.new)) cx.new }
+        ensures kept { Keeps cx.old cx.new }
+
+        // The inner reader is polled at most once.
+        ensures once { PollsOnce R.reads (max (reader_capacity self.old) (room_in bufs.old)) (reader_inner self.old)
+            (reader_inner self.new) }
+
+        // With bytes ahead it is not; with none it is asked for as much as the buffer or `bufs` have room for.
+        ensures asks { 0 < room_in bufs.old
+            → AsksWhereEmpty R.reads (max (reader_capacity self.old) (room_in bufs.old)) self.old self.new }
+
+        // With none ahead, and no less room than the capacity, it reads into `bufs` themselves.
+        ensures past { 0 < room_in bufs.old → ahead self.old ≡ [] → reader_capacity self.old ≤ room_in bufs.old
+            → ReadsInto R.reads (reader_inner self.old) result bufs.old (reader_inner self.new)
+            × (ahead self.new ≡ []) }
+
+        // Without room nothing is polled.
+        ensures idle { room_in bufs.old ≡ 0 → (result ≡ Poll.Ready (Ok 0)) × (self.new ≡ self.old) }
+
+        // Without a buffer the inner reader is read.
+        ensures unbuffered { reader_capacity self.old ≡ 0
+            → ReadsInto R.reads (reader_inner self.old) result bufs.old (reader_inner self.new) }
+    {
+        let total = total_room(bufs);
+        if total == 0 {
+            return Poll::Ready(Ok(0));
+        }
+        if self.pos == self.end && total >= self.buf.len() {
+            return self.inner.poll_read_vectored(cx, bufs);
+        }
+        match ready!(self.fill(cx)) {
+            Ok(()) => {}
+            Err(e) => return Poll::Ready(Err(e)),
+        }
+        let n = fill_slices(self.show(), bufs);
+        self.advance(n);
+        Poll::Ready(Ok(n))
+    }
+}
+
+impl<R: AsyncRead> AsyncBufRead for BufReader<R> {
+    ghost use Rattle.lite_buffered.specs.BufReader.{AsksWhereEmpty, ThroughBuffer, ahead, reader_capacity, reader_inner};
+    ghost use Rattle.lite_buffered.specs.Laws.BufReader.{through_shows};
+    ghost use Rattle.lite_buffered.specs.contracts.buf_reader.BufReader.{the_row};
+    ghost use Rattle.lite_io_base.specs.Runs.{Afterwards, Fills};
+
+    ghost lent = { ahead };
+
+    ghost shows = { through_shows };
+
+    fn poll_fill_buf(&mut self, cx: &mut Context<'_>) -> Poll<io::Result<&[u8]>>
+        ensures* after_borrow { sem 𝓛 (Afterwards (the_row R.row) self.entry
+            (λ new. Fills (ThroughBuffer R.reads) ahead self.old result new
+            × Registered result (R.registers (reader_inner new)) cx.new
+            × AsksWhereEmpty R.reads (reader_capacity self.old) self.old new)) }
+        ensures kept { Keeps cx.old cx.new }
+    {
+        match ready!(self.fill(cx)) {
+            Ok(()) => Poll::Ready(Ok(self.show())),
+            Err(e) => Poll::Ready(Err(e)),
+        }
+    }
+
+    fn buffer(&self) -> &[u8] {
+        self.show()
+    }
+
+    #[tactic(auto, using(crate::proofs::Ranges::slice_range_advance, crate::proofs::Reading::through_advance))]
+    fn consume(&mut self, amount: usize) {
+        self.advance(amount);
+    }
+}
+
+impl<R: AsyncWrite> AsyncWrite for BufReader<R> {
+    ghost use Rattle.lite_buffered.specs.BufReader.{reader_inner};
+
+    ghost write_registers = { λ r. R.write_registers (reader_inner r) };
+
+    /// Writes to the inner writer, past what is ahead.
+    fn poll_write(&mut self, cx: &mut Context<'_>, buf: &[u8]) -> Poll<io::Result<usize>> {
+        self.inner.poll_write(cx, buf)
+    }
+
+    /// Flushes the inner writer. What is ahead stays.
+    fn poll_flush(&mut self, cx: &mut Context<'_>) -> Poll<io::Result<()>> {
+        self.inner.poll_flush(cx)
+    }
+
+    /// Closes the inner writer. What is ahead can still be read.
+    fn poll_close(&mut self, cx: &mut Context<'_>) -> Poll<io::Result<()>> {
+        self.inner.poll_close(cx)
+    }
+}
+
+impl<R: AsyncSeek> AsyncSeek for BufReader<R> {
+    ghost use Rattle.lite_buffered.specs.BufReader.{reader_inner};
+    ghost use Rattle.lite_buffered.specs.SeeksThrough.{SeeksThrough};
+
+    ghost seeks = { SeeksThrough R.seeks };
+
+    ghost seek_registers = { λ r. R.seek_registers (reader_inner r) };
+
+    /// Seeks the inner reader. The position is that of the bytes that come next, so a seek from where it is counts from
+    /// there: by `offset` less the bytes that are ahead. Where that is no `i64`, it seeks back by those bytes, drops
+    /// them, and then seeks by `offset`. A success drops the bytes that are ahead; a pending and an error keep them,
+    /// but for the second of two seeks.
+    fn poll_seek(&mut self, cx: &mut Context<'_>, pos: SeekFrom) -> Poll<io::Result<u64>> {
+        let SeekFrom::Current(offset) = pos else {
+            return self.seek_once(cx, pos);
+        };
+        let ahead = (self.end - self.pos) as i64;
+        if let Some(less) = offset.checked_sub(ahead) {
+            return self.seek_once(cx, SeekFrom::Current(less));
+        }
+        match ready!(self.seek_once(cx, SeekFrom::Current(-ahead))) {
+            Ok(_) => self.seek_once(cx, pos),
+            Err(e) => Poll::Ready(Err(e)),
+        }
+    }
+}
+
+impl<R: AsyncSeek> BufReader<R> {
+    ghost use Rattle.lite_io_base.specs.Kinds.{by_kind};
+    ghost use Rattle.lite_buffered.specs.BufReader.{reader_inner};
+    ghost use Rattle.lite_buffered.specs.SeeksThrough.{SeeksOnce};
+
+    // Seeks the inner reader, and drops what is ahead if that succeeds.
+    fn seek_once(&mut self, cx: &mut Context<'_>, pos: SeekFrom) -> Poll<io::Result<u64>>
+        ensures sought { SeeksOnce R.seeks self.old pos (by_kind result) self.new }
+        ensures left { Registered result (R.seek_registers (reader_inner self.new)) cx.new }
+        ensures kept { Keeps cx.old cx.new }
+    {
+        match ready!(self.inner.poll_seek(cx, pos)) {
+            Ok(n) => {
+                self.pos = 0;
+                self.end = 0;
+                Poll::Ready(Ok(n))
+            }
+            Err(e) => Poll::Ready(Err(e)),
+        }
+    }
+}
+
+impl<R: CountedRead> CountedRead for BufReader<R> {
+    ghost use Rattle.lite_buffered.specs.BufReader.{ahead_ranks};
+    ghost use Rattle.lite_buffered.specs.Laws.BufReader.{through_counting};
+
+    ghost ranks = { ahead_ranks R.ranks };
+
+    ghost counting = { through_counting R.counting };
+}

@@ -1,0 +1,251 @@
+ghost use Rattle.std.specs.Prelude.{◌≡◌, ◌≤◌, Ok, length, IfOk, false};
+ghost use Rattle.std.specs.Borrow.{Lends, sem};
+ghost use Rattle.futures.specs.Poll.{IfReady};
+ghost use Rattle.futures.specs.Task.{Keeps};
+ghost use Rattle.lite_io_base.specs.Marks.{fill_marks, read_marks};
+ghost use Rattle.lite_io_base.specs.Runs.{Idle, OnlyOkLends, ReadsInto, room_in};
+ghost use Rattle.lite_io_base.specs.Laws.Runs.{idle_laws};
+ghost use Rattle.lite_base.specs.Registered.{Registered};
+
+use crate::fill::fill;
+use lite_base::{Context, Poll, ready};
+use lite_io_base::{AsyncBufRead, AsyncRead, CountedRead, Takings, Tale, fill_slices, total_room};
+use std::io;
+use std::io::IoSliceMut;
+
+/// What one reader gives up to its end, and then what another gives.
+///
+/// A read goes on to the second reader in the poll that met the end of the first, which is asked no more after that.
+/// Made by [`chain`](crate::make::chain). Ported from `src/io.rs`, `Chain`.
+#[derive(Drop)]
+pub struct Chain<R1, R2> {
+    first: R1,
+    second: R2,
+    has_ended: bool,
+}
+
+impl<R1, R2> Chain<R1, R2> {
+    ghost use Rattle.lite_buffered.specs.contracts.chain.Chain.{the_row};
+    ghost use Rattle.lite_buffered.specs.Chaining.{first_of, has_ended, second_of};
+
+    pub(crate) fn new(first: R1, second: R2) -> Chain<R1, R2>
+        ensures first { first_of result ≡ first }
+        ensures second { second_of result ≡ second }
+        ensures fresh { has_ended result ≡ false }
+    {
+        Chain {
+            first,
+            second,
+            has_ended: false,
+        }
+    }
+
+    /// Both readers.
+    pub fn get_ref(&self) -> (&R1, &R2)
+        ensures first { result.0.now ≡ first_of self.now }
+        ensures second { result.1.now ≡ second_of self.now }
+    {
+        (&self.first, &self.second)
+    }
+
+    /// Both readers, to be changed. What they read meanwhile doesn't count. No contract says what the chain then has:
+    /// `first_mut` and `second_mut` tell it of one.
+    pub fn get_mut(&mut self) -> (&mut R1, &mut R2)
+        ensures first { result.0.now ≡ first_of self.old }
+        ensures second { result.1.now ≡ second_of self.old }
+    {
+        (&mut self.first, &mut self.second)
+    }
+
+    /// The first reader, to be changed. What it reads meanwhile doesn't count. The original has no such call.
+    pub fn first_mut(&mut self) -> &mut R1
+        ensures value { result.now ≡ first_of self.old }
+        ensures* writes_back { sem 𝓛 (Lends (the_row R1.row R2.row) R1.row self.entry result
+            (λ w. record self.old { first = w })) }
+    {
+        &mut self.first
+    }
+
+    /// The second reader, to be changed, as `first_mut` gives the first. The original has no such call.
+    pub fn second_mut(&mut self) -> &mut R2
+        ensures value { result.now ≡ second_of self.old }
+        ensures* writes_back { sem 𝓛 (Lends (the_row R1.row R2.row) R2.row self.entry result
+            (λ w. record self.old { second = w })) }
+    {
+        &mut self.second
+    }
+
+    /// Both readers.
+    pub fn into_inner(self) -> (R1, R2)
+        ensures first { result.0 ≡ first_of self }
+        ensures second { result.1 ≡ second_of self }
+    {
+        (self.first, self.second)
+    }
+}
+
+impl<R1: Tale, R2: Tale> Tale for Chain<R1, R2> {
+    ghost use Rattle.lite_buffered.specs.Chain.{ChainsReaders};
+    ghost use Rattle.lite_buffered.specs.Laws.Chain.{chains_laws};
+    ghost use Rattle.lite_buffered.specs.Laws.Known.{chains_known};
+
+    ghost reads = { ChainsReaders R1.reads R2.reads };
+
+    ghost read_laws = { chains_laws R1.reads R2.reads R1.read_laws R2.read_laws };
+
+    ghost known = { chains_known R1.known R2.known };
+}
+
+// It is not written to.
+impl<R1, R2> Takings for Chain<R1, R2> {
+    ghost writes = { Idle };
+
+    ghost write_laws = { idle_laws };
+}
+
+impl<R1: AsyncRead, R2: AsyncRead> AsyncRead for Chain<R1, R2> {
+    ghost use Rattle.lite_buffered.specs.Chain.{ChainsReaders};
+    ghost use Rattle.lite_buffered.specs.Chaining.{ChainReadRegisters};
+
+    ghost registers = { ChainReadRegisters R1.registers R2.registers };
+
+    #[tactic(auto, using(crate::proofs::Crossing::crossed, crate::proofs::Ends::no_end_moved))]
+    fn poll_read(&mut self, cx: &mut Context<'_>, buf: &mut [u8]) -> Poll<io::Result<usize>>
+        ensures bound { IfReady result (λ r. IfOk r (λ n. n ≤ length buf.new)) }
+        ensures ran { ChainsReaders R1.reads R2.reads self.old (read_marks result buf.new) self.new }
+        ensures left { Registered result (ChainReadRegisters R1.registers R2.registers self.new) cx.new }
+        ensures kept { Keeps cx.old cx.new }
+
+        // Without room nothing is polled.
+        ensures idle { length buf.old ≡ 0 → (result ≡ Poll.Ready (Ok 0)) × (self.new ≡ self.old) }
+    {
+        if buf.is_empty() {
+            return Poll::Ready(Ok(0));
+        }
+        if !self.has_ended {
+            match ready!(self.first.poll_read(cx, buf)) {
+                Ok(0) => self.has_ended = true,
+                Ok(n) => return Poll::Ready(Ok(n)),
+                Err(e) => return Poll::Ready(Err(e)),
+            }
+        }
+        self.second.poll_read(cx, buf)
+    }
+
+    #[tactic(auto, using(crate::proofs::Crossing::crossed, crate::proofs::Ends::no_end_moved))]
+    fn poll_read_vectored(
+        &mut self,
+        cx: &mut Context<'_>,
+        bufs: &mut [IoSliceMut<'_>],
+    ) -> Poll<io::Result<usize>>
+        ensures bound { IfReady result (λ r. IfOk r (λ n. n ≤ room_in bufs.old)) }
+        ensures ran { ReadsInto (ChainsReaders R1.reads R2.reads) self.old result bufs.old self.new }
+        ensures left { Registered result (ChainReadRegisters R1.registers R2.registers self.new) cx.new }
+        ensures kept { Keeps cx.old cx.new }
+
+        // Without room nothing is polled.
+        ensures idle { room_in bufs.old ≡ 0 → (result ≡ Poll.Ready (Ok 0)) × (self.new ≡ self.old) }
+    {
+        let total = total_room(bufs);
+        if total == 0 {
+            return Poll::Ready(Ok(0));
+        }
+        if self.has_ended {
+            return self.second.poll_read_vectored(cx, bufs);
+        }
+        match ready!(self.first.poll_read_vectored(cx, bufs)) {
+            Ok(0) => {}
+            Ok(count) => return Poll::Ready(Ok(count)),
+            Err(e) => return Poll::Ready(Err(e)),
+        }
+        self.has_ended = true;
+        // No contract says that the first left the buffers' room as it was.
+        if total_room(bufs) == total {
+            return self.second.poll_read_vectored(cx, bufs);
+        }
+        let mut one = [0];
+        match ready!(self.second.poll_read(cx, &mut one)) {
+            Ok(n) => {
+                fill_slices(&one[..n], bufs);
+                Poll::Ready(Ok(n))
+            }
+            Err(e) => Poll::Ready(Err(e)),
+        }
+    }
+}
+
+impl<R1: AsyncBufRead, R2: AsyncBufRead> Chain<R1, R2> {
+    ghost use Rattle.lite_buffered.specs.Chain.{ChainsReaders};
+    ghost use Rattle.lite_buffered.specs.Chaining.{ChainReadRegisters, chain_shown};
+
+    // Fills the reader that is read, and goes on to the second where the first is at its end.
+    #[tactic(auto, using(crate::proofs::Crossing::crossed))]
+    fn fill(&mut self, cx: &mut Context<'_>) -> Poll<io::Result<()>>
+        ensures ran { ChainsReaders R1.reads R2.reads self.old
+            (fill_marks result (chain_shown R1.lent R2.lent self.new)) self.new }
+        ensures lends { OnlyOkLends result (chain_shown R1.lent R2.lent self.new) }
+        ensures left { Registered result (ChainReadRegisters R1.registers R2.registers self.new) cx.new }
+        ensures kept { Keeps cx.old cx.new }
+    {
+        if !self.has_ended {
+            match ready!(fill(&mut self.first, cx)) {
+                Ok(()) => {
+                    if !self.first.buffer().is_empty() {
+                        return Poll::Ready(Ok(()));
+                    }
+                }
+                Err(e) => return Poll::Ready(Err(e)),
+            }
+            self.has_ended = true;
+        }
+        fill(&mut self.second, cx)
+    }
+
+    fn show(&self) -> &[u8]
+        ensures { result.now ≡ chain_shown R1.lent R2.lent self.now }
+    {
+        if self.has_ended {
+            self.second.buffer()
+        } else {
+            self.first.buffer()
+        }
+    }
+}
+
+impl<R1: AsyncBufRead, R2: AsyncBufRead> AsyncBufRead for Chain<R1, R2> {
+    ghost use Rattle.lite_buffered.specs.Chaining.{chain_shown};
+    ghost use Rattle.lite_buffered.specs.Laws.Chain.{chains_show};
+
+    ghost lent = { chain_shown R1.lent R2.lent };
+
+    ghost shows = { chains_show R1.reads R2.reads R1.lent R2.lent R1.read_laws R1.shows R2.shows };
+
+    fn poll_fill_buf(&mut self, cx: &mut Context<'_>) -> Poll<io::Result<&[u8]>> {
+        match ready!(self.fill(cx)) {
+            Ok(()) => Poll::Ready(Ok(self.show())),
+            Err(e) => Poll::Ready(Err(e)),
+        }
+    }
+
+    fn buffer(&self) -> &[u8] {
+        self.show()
+    }
+
+    #[tactic(auto, using(crate::proofs::Ends::no_end_bytes))]
+    fn consume(&mut self, amount: usize) {
+        if self.has_ended {
+            self.second.consume(amount);
+        } else {
+            self.first.consume(amount);
+        }
+    }
+}
+
+impl<R1: CountedRead, R2: CountedRead> CountedRead for Chain<R1, R2> {
+    ghost use Rattle.lite_buffered.specs.Chaining.{chain_read_ranks};
+    ghost use Rattle.lite_buffered.specs.Laws.Chain.{chains_counting};
+
+    ghost ranks = { chain_read_ranks R1.ranks R2.ranks };
+
+    ghost counting = { chains_counting R1.reads R2.reads R1.counting R2.counting };
+}

@@ -1,0 +1,67 @@
+ghost use Rattle.std.specs.Prelude.{[]};
+ghost use Rattle.lite_io_base.specs.Told.{TellsScript};
+ghost use Rattle.lite_io_base.specs.Laws.Known.{told_known};
+ghost use Rattle.lite_io_base.specs.Laws.Told.{told_falls, told_laws};
+ghost use Rattle.lite_base.specs.Ranks.{number_ranks};
+ghost use Rattle.lite_io_base.specs.Laws.Counting.{number_counting};
+ghost use Rattle.lite_io_base.specs.Runs.{Idle};
+ghost use Rattle.lite_io_base.specs.Laws.Runs.{idle_laws};
+
+use lite_base::{Context, Poll};
+use lite_io_base::{AsyncBufRead, AsyncRead, CountedRead, Takings, Tale};
+use std::io;
+
+/// A reader that is at its end, for ever.
+///
+/// Made by [`empty`](crate::make::empty). Ported from `src/io.rs`, `Empty`.
+#[derive(Clone, Copy)]
+pub struct Empty {}
+
+impl Empty {
+    pub(crate) fn new() -> Empty {
+        Empty {}
+    }
+}
+
+impl Tale for Empty {
+    ghost reads = { λ x l y. TellsScript [] l [] };
+
+    ghost read_laws = { told_laws (λ x. []) };
+
+    ghost known = { told_known (λ x. []) };
+}
+
+// It is not written to.
+impl Takings for Empty {
+    ghost writes = { Idle };
+
+    ghost write_laws = { idle_laws };
+}
+
+impl AsyncRead for Empty {
+    fn poll_read(&mut self, _cx: &mut Context<'_>, _buf: &mut [u8]) -> Poll<io::Result<usize>> {
+        Poll::Ready(Ok(0))
+    }
+}
+
+impl AsyncBufRead for Empty {
+    ghost lent = { λ x. [] };
+
+    ghost shows = { λ x y l h. tt };
+
+    fn poll_fill_buf(&mut self, _cx: &mut Context<'_>) -> Poll<io::Result<&[u8]>> {
+        Poll::Ready(Ok(&[]))
+    }
+
+    fn buffer(&self) -> &[u8] {
+        &[]
+    }
+
+    fn consume(&mut self, _amount: usize) {}
+}
+
+impl CountedRead for Empty {
+    ghost ranks = { number_ranks (λ x. 0) };
+
+    ghost counting = { number_counting (λ x y. told_falls [] []) };
+}

@@ -1,0 +1,55 @@
+ghost use Rattle.std.specs.Prelude.{◌≡◌, ◌≤◌, Ok, length, IfOk};
+ghost use Rattle.futures.specs.Poll.{IfReady};
+ghost use Rattle.futures.specs.Task.{Keeps};
+ghost use Rattle.lite_io_base.specs.Marks.{read_marks};
+ghost use Rattle.lite_buffered.specs.Repeat.{RepeatsByte, byte_of};
+ghost use Rattle.lite_buffered.specs.Laws.Repeat.{repeats_laws};
+ghost use Rattle.lite_io_base.specs.Runs.{Idle};
+ghost use Rattle.lite_io_base.specs.Laws.Runs.{idle_laws};
+ghost use Rattle.lite_base.specs.Registered.{Registered};
+
+use lite_base::{Context, Poll};
+use lite_io_base::{AsyncRead, Takings, Tale};
+use std::io;
+
+/// A reader that gives one byte for ever, as much of it as there is room for.
+///
+/// Made by [`repeat`](crate::make::repeat). Ported from `src/io.rs`, `Repeat`.
+#[derive(Clone, Copy)]
+pub struct Repeat {
+    byte: u8,
+}
+
+impl Repeat {
+    pub(crate) fn new(byte: u8) -> Repeat
+        ensures { byte_of result ≡ byte }
+    {
+        Repeat { byte }
+    }
+}
+
+impl Tale for Repeat {
+    ghost reads = { RepeatsByte };
+
+    ghost read_laws = { repeats_laws };
+}
+
+// It is not written to.
+impl Takings for Repeat {
+    ghost writes = { Idle };
+
+    ghost write_laws = { idle_laws };
+}
+
+impl AsyncRead for Repeat {
+    fn poll_read(&mut self, _cx: &mut Context<'_>, buf: &mut [u8]) -> Poll<io::Result<usize>>
+        ensures bound { IfReady result (λ r. IfOk r (λ n. n ≤ length buf.new)) }
+        ensures ran { RepeatsByte self.old (read_marks result buf.new) self.new }
+        ensures full { result ≡ Poll.Ready (Ok (length buf.old)) }
+        ensures left { Registered result (λ _. ⊥) _cx.new }
+        ensures kept { Keeps _cx.old _cx.new }
+    {
+        buf.fill(self.byte);
+        Poll::Ready(Ok(buf.len()))
+    }
+}

@@ -1,0 +1,73 @@
+//! The readers whose tale does not depend on when they were pending, and the writer that leaves the same bytes.
+ghost use Rattle.lite_buffered.specs.BufReader.{ThroughBuffer};
+ghost use Rattle.lite_buffered.specs.Chain.{ChainsReaders};
+ghost use Rattle.lite_buffered.specs.Laws.Steady.BufReader.{AheadAlike, buf_reader_steady};
+ghost use Rattle.lite_buffered.specs.Laws.Steady.Chain.{PlaceAlike, chain_steady};
+ghost use Rattle.lite_buffered.specs.Laws.Steady.Past.{past_steady};
+ghost use Rattle.lite_buffered.specs.Laws.Steady.Repeat.{repeat_steady};
+ghost use Rattle.lite_buffered.specs.Laws.Steady.Take.{LimitAlike, take_steady};
+ghost use Rattle.lite_buffered.specs.Repeat.{RepeatsByte};
+ghost use Rattle.lite_buffered.specs.Take.{TakesMarks};
+ghost use Rattle.lite_io_base.specs.Laws.Steady.{told_steady};
+ghost use Rattle.lite_io_base.specs.Steady.{strip_marks};
+ghost use Rattle.lite_io_base.specs.Told.{TellsScript};
+ghost use Rattle.std.specs.Prelude.{◌≡◌, []};
+
+use crate::{BufReader, Chain, Empty, Repeat, Take};
+use lite_io_base::{SteadyRead, SteadyWrite};
+
+// Where it has some capacity: without one a fill looks like an end.
+impl<R: SteadyRead> SteadyRead for BufReader<R> {
+    ghost ample = { ThroughBuffer R.ample };
+
+    ghost needs_none = { R.needs_none };
+
+    ghost alike = { AheadAlike R.alike };
+
+    ghost steady = { buf_reader_steady R.steady };
+}
+
+// Past what is ahead.
+impl<R: SteadyWrite> SteadyWrite for BufReader<R> {
+    ghost alike = { λ x y. R.alike x.inner y.inner };
+
+    ghost below = { λ x. R.below x.inner };
+
+    ghost steady = { past_steady R.steady };
+}
+
+impl<R1: SteadyRead, R2: SteadyRead> SteadyRead for Chain<R1, R2> {
+    ghost ample = { ChainsReaders R1.ample R2.ample };
+
+    ghost needs_none = { R1.needs_none × R2.needs_none };
+
+    ghost alike = { PlaceAlike R1.alike R2.alike };
+
+    ghost steady = { chain_steady R1.steady R2.steady };
+}
+
+impl SteadyRead for Empty {
+    ghost ample = { λ x l y. TellsScript [] l [] };
+
+    ghost alike = { λ x y. strip_marks [] ≡ strip_marks [] };
+
+    ghost steady = { told_steady (λ x. []) };
+}
+
+impl SteadyRead for Repeat {
+    ghost ample = { RepeatsByte };
+
+    ghost alike = { λ x y. x.byte ≡ y.byte };
+
+    ghost steady = { repeat_steady };
+}
+
+impl<R: SteadyRead> SteadyRead for Take<R> {
+    ghost ample = { TakesMarks R.ample };
+
+    ghost needs_none = { R.needs_none };
+
+    ghost alike = { LimitAlike R.alike };
+
+    ghost steady = { take_steady R.steady };
+}

@@ -1,0 +1,193 @@
+ghost use Rattle.std.specs.Prelude.{◌≡◌, ◌≤◌, ◌⊎◌, Ok, length, take, IfOk};
+ghost use Rattle.std.specs.Borrow.{Lends, sem};
+ghost use Rattle.futures.specs.Poll.{IfReady};
+ghost use Rattle.futures.specs.Task.{Keeps};
+ghost use Rattle.lite_io_base.specs.Marks.{read_marks};
+ghost use Rattle.lite_io_base.specs.Runs.{Idle, ReadsInto, room_in};
+ghost use Rattle.lite_io_base.specs.Laws.Runs.{idle_laws};
+ghost use Rattle.lite_base.specs.Registered.{Registered};
+
+use crate::fill::fill;
+use lite_base::{Context, Poll, ready};
+use lite_io_base::{AsyncBufRead, AsyncRead, CountedRead, Takings, Tale, first_with_room};
+use std::io;
+use std::io::IoSliceMut;
+
+/// The first bytes of a reader, as many as a limit allows, and then an end for ever.
+///
+/// Where the limit is used up the inner reader is asked no more. Made by [`take`](crate::make::take). Ported from
+/// `src/io.rs`, `Take`.
+#[derive(Drop)]
+pub struct Take<R> {
+    inner: R,
+    limit: u64,
+}
+
+impl<R> Take<R> {
+    ghost use Rattle.lite_buffered.specs.contracts.take.Take.{the_row};
+    ghost use Rattle.lite_buffered.specs.Take.{limit_of, take_inner};
+
+    pub(crate) fn new(inner: R, limit: u64) -> Take<R>
+        ensures inner { take_inner result ≡ inner }
+        ensures limit { limit_of result ≡ limit }
+    {
+        Take { inner, limit }
+    }
+
+    /// How many bytes may still be read.
+    pub fn limit(&self) -> u64
+        ensures { result ≡ limit_of self.now }
+    {
+        self.limit
+    }
+
+    /// Sets how many bytes may still be read.
+    pub fn set_limit(&mut self, limit: u64)
+        ensures { self.new ≡ record self.old { limit = limit } }
+    {
+        self.limit = limit;
+    }
+
+    /// The inner reader.
+    pub fn get_ref(&self) -> &R
+        ensures { result.now ≡ take_inner self.now }
+    {
+        &self.inner
+    }
+
+    /// The inner reader, to be changed. What it reads meanwhile doesn't count.
+    pub fn get_mut(&mut self) -> &mut R
+        ensures value { result.now ≡ take_inner self.old }
+        ensures* writes_back { sem 𝓛 (Lends (the_row R.row) R.row self.entry result
+            (λ w. record self.old { inner = w })) }
+    {
+        &mut self.inner
+    }
+
+    /// The inner reader.
+    pub fn into_inner(self) -> R
+        ensures { result ≡ take_inner self }
+    {
+        self.inner
+    }
+}
+
+impl<R: Tale> Tale for Take<R> {
+    ghost use Rattle.lite_buffered.specs.Take.{TakesMarks};
+    ghost use Rattle.lite_buffered.specs.Laws.Known.{takes_known};
+    ghost use Rattle.lite_buffered.specs.Laws.Take.{takes_laws};
+
+    ghost reads = { TakesMarks R.reads };
+
+    ghost read_laws = { takes_laws R.read_laws };
+
+    ghost known = { takes_known R.known };
+}
+
+// It is not written to.
+impl<R> Takings for Take<R> {
+    ghost writes = { Idle };
+
+    ghost write_laws = { idle_laws };
+}
+
+impl<R: AsyncRead> AsyncRead for Take<R> {
+    ghost use Rattle.lite_buffered.specs.Take.{TakesMarks, limit_of, take_inner};
+
+    ghost registers = { λ r. R.registers (take_inner r) };
+
+    fn poll_read(&mut self, cx: &mut Context<'_>, buf: &mut [u8]) -> Poll<io::Result<usize>>
+        ensures bound { IfReady result (λ r. IfOk r (λ n. n ≤ length buf.new)) }
+        ensures ran { TakesMarks R.reads self.old (read_marks result buf.new) self.new }
+        ensures left { Registered result (R.registers (take_inner self.new)) cx.new }
+        ensures kept { Keeps cx.old cx.new }
+
+        // Without room, and where the limit is used up, nothing is polled.
+        ensures idle { (length buf.old ≡ 0) ⊎ (limit_of self.old ≡ 0) → (result ≡ Poll.Ready (Ok 0)) × (self.new ≡ self.old) }
+    {
+        let most = self.limit.min(buf.len() as u64) as usize;
+        if most == 0 {
+            return Poll::Ready(Ok(0));
+        }
+        match ready!(self.inner.poll_read(cx, &mut buf[..most])) {
+            Ok(n) => {
+                self.limit -= n as u64;
+                Poll::Ready(Ok(n))
+            }
+            Err(e) => Poll::Ready(Err(e)),
+        }
+    }
+
+    fn poll_read_vectored(
+        &mut self,
+        cx: &mut Context<'_>,
+        bufs: &mut [IoSliceMut<'_>],
+    ) -> Poll<io::Result<usize>>
+        ensures bound { IfReady result (λ r. IfOk r (λ n. n ≤ room_in bufs.old)) }
+        ensures ran { ReadsInto (TakesMarks R.reads) self.old result bufs.old self.new }
+        ensures left { Registered result (R.registers (take_inner self.new)) cx.new }
+        ensures kept { Keeps cx.old cx.new }
+
+        // Without room, and where the limit is used up, nothing is polled.
+        ensures idle { (room_in bufs.old ≡ 0) ⊎ (limit_of self.old ≡ 0) → (result ≡ Poll.Ready (Ok 0)) × (self.new ≡ self.old) }
+    {
+        match first_with_room(bufs) {
+            Some(i) => self.poll_read(cx, &mut bufs[i]),
+            None => self.poll_read(cx, &mut []),
+        }
+    }
+}
+
+impl<R: AsyncBufRead> Take<R> {
+    ghost use Rattle.lite_buffered.specs.Take.{limit_of, take_inner};
+
+    fn show(&self) -> &[u8]
+        ensures { result.now ≡ take (limit_of self.now) (R.lent (take_inner self.now)) }
+    {
+        let all = self.inner.buffer();
+        let most = self.limit.min(all.len() as u64) as usize;
+        &all[..most]
+    }
+}
+
+impl<R: AsyncBufRead> AsyncBufRead for Take<R> {
+    ghost use Rattle.lite_buffered.specs.Take.{limit_of, take_inner};
+    ghost use Rattle.lite_buffered.specs.Laws.Take.{takes_show};
+
+    ghost lent = { λ r. take (limit_of r) (R.lent (take_inner r)) };
+
+    ghost shows = { takes_show R.lent R.shows };
+
+    fn poll_fill_buf(&mut self, cx: &mut Context<'_>) -> Poll<io::Result<&[u8]>> {
+        if self.limit == 0 {
+            return Poll::Ready(Ok(&[]));
+        }
+        match ready!(fill(&mut self.inner, cx)) {
+            Ok(()) => Poll::Ready(Ok(self.show())),
+            Err(e) => Poll::Ready(Err(e)),
+        }
+    }
+
+    fn buffer(&self) -> &[u8] {
+        self.show()
+    }
+
+    fn consume(&mut self, amount: usize) {
+        // At the limit the inner reader is asked nothing.
+        if amount == 0 {
+            return;
+        }
+        self.inner.consume(amount);
+        self.limit -= amount as u64;
+    }
+}
+
+impl<R: CountedRead> CountedRead for Take<R> {
+    ghost use Rattle.lite_base.specs.Ranks.{ranks_of};
+    ghost use Rattle.lite_buffered.specs.Take.{take_inner};
+    ghost use Rattle.lite_buffered.specs.Laws.Take.{takes_counting};
+
+    ghost ranks = { ranks_of take_inner R.ranks };
+
+    ghost counting = { takes_counting R.counting };
+}

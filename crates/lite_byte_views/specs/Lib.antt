@@ -1,4 +1,0 @@
-pub mod Laws
-pub mod OkLists
-pub mod Pieces
-pub mod Waiting

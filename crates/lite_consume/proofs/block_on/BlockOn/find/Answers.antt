@@ -1,0 +1,12 @@
+use Rattle.std.specs.Fn.{CalledAt, TakesAt}
+use Rattle.lite_consume.specs.Laws.Given.{each_of, given}
+use Rattle.lite_consume.specs.Find.{finds}
+use Rattle.lite_consume.proofs.block_on.BlockOn.find.Goals as goal
+
+pub ask-requires-clause-asks : goal.ask-requires-clause-asks
+ask-requires-clause-asks g c =
+    each_of (λ f. f.predicate) (finds (CalledAt g.P.FnMut)) g.S.Stream.run (TakesAt g.P.FnMut) _ _ c.requires.asks
+
+pub returns-clause-gave : goal.returns-clause-gave
+returns-clause-gave g c =
+    given (λ f. f.predicate) (finds (CalledAt g.P.FnMut)) g.S.Stream.run _ _ _ _ c.ask.ensures.gave

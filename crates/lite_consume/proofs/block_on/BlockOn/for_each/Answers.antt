@@ -1,0 +1,12 @@
+use Rattle.lite_base.specs.Calling.{Calls}
+use Rattle.lite_consume.specs.Given.{MayCall}
+use Rattle.lite_consume.specs.Laws.Given.{each_of, given_last}
+use Rattle.lite_consume.specs.ForEach.{calls_each}
+use Rattle.lite_consume.proofs.block_on.BlockOn.for_each.Goals as goal
+
+pub ask-requires-clause-asks : goal.ask-requires-clause-asks
+ask-requires-clause-asks g c =
+    each_of (λ m. m.f) (calls_each (Calls g.F.FnMut)) g.S.Stream.run (MayCall g.F.FnMut) _ _ c.requires.asks
+
+pub returns : goal.returns
+returns g c = given_last (λ m. m.f) (calls_each (Calls g.F.FnMut)) g.S.Stream.run _ _ _ _ c.ask.ensures.gave

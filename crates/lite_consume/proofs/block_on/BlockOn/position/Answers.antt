@@ -1,0 +1,14 @@
+use Rattle.lite_base.specs.Calling.{Calls}
+use Rattle.lite_consume.specs.Given.{MayCall}
+use Rattle.lite_consume.specs.Laws.Given.{each_of, given}
+use Rattle.lite_consume.specs.Position.{positions}
+use Rattle.lite_consume.proofs.block_on.BlockOn.position.Goals as goal
+
+pub ask-requires-clause-asks : goal.ask-requires-clause-asks
+ask-requires-clause-asks g c =
+    each_of (λ f. (f.predicate, f.index)) (positions (Calls g.P.FnMut)) g.S.Stream.run
+    (λ p. MayCall g.P.FnMut p.0) _ _ c.requires.asks
+
+pub returns-clause-gave : goal.returns-clause-gave
+returns-clause-gave g c =
+    given (λ f. (f.predicate, f.index)) (positions (Calls g.P.FnMut)) g.S.Stream.run _ _ _ _ c.ask.ensures.gave

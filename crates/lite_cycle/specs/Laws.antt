@@ -1,4 +1,0 @@
-pub mod Cycle
-pub mod Drain
-pub mod Ends
-pub mod StopAfterFuture

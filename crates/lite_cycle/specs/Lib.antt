@@ -1,5 +1,0 @@
-pub mod Cycle
-pub mod Drain
-pub mod Laws
-pub mod StopAfterFuture
-pub mod Stopping

@@ -1,0 +1,37 @@
+-- A journal with one entry more.
+use Rattle.std.proofs.Common.{◌≡◌, ◌∙◌, List, [], ◌∷◌, ◌++◌, ap, sym, refl, subst}
+use Rattle.std.proofs.lemmas.List.{map-append}
+use Rattle.lite_io_base.specs.Parts.{Part, PartRuns}
+use Rattle.lite_io_base.specs.Marks.{ReadMark}
+use Rattle.lite_io_base.specs.Takings.{WriteMark}
+use Rattle.lite_halves.specs.declared.entry.Entry.{Entry}
+use Rattle.lite_halves.specs.Entry.{FitsCall, Note, asked_of, note_of, notes_in, part_of, told_of}
+use Rattle.lite_halves.specs.Journal.{Adds, Chronicle, IsSound}
+use Rattle.lite_halves.specs.Laws.Journal.{adds_one, sound_more}
+use Rattle.lite_base.specs.Runs.{Runs}
+
+notes_in-push : (es fs gs : List Entry) (e : Entry) (n : Note) → fs ≡ es → gs ≡ fs ++ e ∷ [] → asked_of e.call ≡ n.asked
+    → told_of e.answer ≡ n.told
+    → notes_in gs ≡ notes_in es ++ n ∷ []
+notes_in-push es fs gs e n same pushed asked told =
+    let is : note_of e ≡ n = λ i. record { asked = asked i; told = told i } in
+    ap notes_in pushed ∙ map-append note_of fs (e ∷ []) ∙ ap (λ (l : List Entry). notes_in l ++ note_of e ∷ []) same
+    ∙ ap (λ (m : Note). notes_in es ++ m ∷ []) is
+
+module _ {T : Type 0} (reads : Runs ReadMark T) (writes : Runs WriteMark T) (copies : T → T → Type 0) where
+  -- a call that ran by the marks of its entry, which was pushed
+  pub sound_push : (start stream next : T) (es fs gs : List Entry) (e : Entry) (n : Note) (p : Part)
+      → IsSound reads writes copies (record { start = start; notes = notes_in es; stream = stream })
+      → fs ≡ es → gs ≡ fs ++ e ∷ [] → asked_of e.call ≡ n.asked → told_of e.answer ≡ n.told → FitsCall n.asked n.told
+      → part_of n.asked n.told ≡ p → PartRuns reads writes stream p next
+      → IsSound reads writes copies (record { start = start; notes = notes_in gs; stream = next })
+  sound_push start stream next es fs gs e n p sound same pushed asked told fits is ran =
+      let a : Chronicle T = record { start = start; notes = notes_in es; stream = stream } in
+      let b : Chronicle T = record { start = start; notes = notes_in gs; stream = next } in
+      let adds : Adds reads writes a n b = record {
+        fits = fits;
+        start = refl;
+        notes = notes_in-push es fs gs e n same pushed asked told;
+        ran = subst (λ w. PartRuns reads writes stream w next) (sym is) ran;
+      } in
+      sound_more reads writes copies a b (n ∷ []) sound (adds_one reads writes a b n adds)

@@ -1,0 +1,27 @@
+-- Calls that are made one after the other until memory is refused.
+use Rattle.std.specs.Prelude.{◌≡◌, ◌<◌, List, [], ◌∷◌, ◌++◌, length, Result, Ok, Err}
+use Rattle.std.specs.declared.alloc.AllocError.{AllocError}
+use Rattle.lite_io_base.specs.Marks.{ReadMark}
+use Rattle.lite_io_base.specs.Takings.{WriteMark}
+use Rattle.lite_halves.specs.Entry.{Note, Request, Told}
+use Rattle.lite_halves.specs.Journal.{AddsAll, Chronicle}
+use Rattle.lite_base.specs.Runs.{Runs}
+
+-- each call with its answer, as far as there are both
+abbrev pub pairs : List Request → List Told → List Note
+pairs [] ts = []
+pairs (a ∷ rest) [] = []
+pairs (a ∷ rest) (t ∷ ts) = record { asked = a; told = t } ∷ pairs rest ts
+
+-- on Ok all the calls were answered, and on a refusal the first ones
+abbrev pub CallsAnswered : Result (Unit {0}) AllocError → List Request → List Told → Type 0
+CallsAnswered (Ok u) asked told = length told ≡ length asked
+CallsAnswered (Err e) asked told = length told < length asked
+
+-- The answers to the calls, in order, were appended to those in `before`, and the calls with their answers, in order,
+-- are the entries that were added.
+abbrev pub Drives : {T : Type 0} → Runs ReadMark T → Runs WriteMark T → Chronicle T → List Request → List Told
+    → Result (Unit {0}) AllocError → Chronicle T → List Told → Type 0
+Drives reads writes a asked before r b after =
+    (told : List Told) × (after ≡ before ++ told) × CallsAnswered r asked told
+    × AddsAll reads writes a (pairs asked told) b

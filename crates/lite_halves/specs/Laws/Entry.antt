@@ -1,0 +1,60 @@
+-- Laws of entries and their marks.
+use Rattle.std.proofs.Common.{◌≡◌, ℕ, List, [], ◌∷◌, ◌++◌, length, take, refl, arith, length-take-le, ap}
+use Rattle.std.specs.Prelude.{Result, Ok, Err}
+use Rattle.std.proofs.lemmas.List.{map-append}
+use Rattle.std.specs.declared.io.Error.{Error}
+use Rattle.futures.specs.declared.task.Poll.{Poll}
+use Rattle.futures.specs.declared.task.Poll.TheVariants.{Ready, Pending}
+use Rattle.lite_io_base.specs.Parts.{Part}
+use Rattle.lite_io_base.specs.Marks.{moved, read_marks}
+use Rattle.lite_io_base.specs.Takings.{WriteMark, done_marks, write_marks}
+use Rattle.lite_io_base.specs.Laws.Runs.{CountsWithin}
+use Rattle.lite_halves.specs.Entry.{AllFit, FitsCall, FitsDone, Note, done_marks_of, met, part_of, parts_in, read_note}
+use Rattle.lite_halves.specs.Entry.{told_of_done, write_note}
+
+pub parts_in-both : (es fs : List Note) → parts_in (es ++ fs) ≡ parts_in es ++ parts_in fs
+parts_in-both = map-append (λ (e : Note). part_of e.asked e.told)
+
+pub fit_both : (es fs : List Note) → AllFit es → AllFit fs → AllFit (es ++ fs)
+fit_both [] fs h k = k
+fit_both (e ∷ es) fs h k = (h.0, fit_both es fs h.1 k)
+
+met_moved : (buf xs : List ℕ) → met (length buf) xs ≡ moved buf xs
+met_moved buf (x ∷ xs) = refl
+met_moved (b ∷ buf) [] = refl
+met_moved [] [] = refl
+
+-- the marks of an entry are those of its call's answer
+pub read_note_part : (r : Poll (Result ℕ Error)) (buf : List ℕ)
+    → part_of (read_note r buf).asked (read_note r buf).told ≡ Part.reading (read_marks r buf)
+read_note_part (Ready (Ok n)) buf = ap Part.reading (met_moved buf (take n buf))
+read_note_part r buf = refl
+
+pub write_note_part : (r : Poll (Result ℕ Error)) (xs : List ℕ)
+    → part_of (write_note r xs).asked (write_note r xs).told ≡ Part.writing (write_marks r xs)
+write_note_part Pending xs = refl
+write_note_part (Ready (Err e)) xs = refl
+write_note_part (Ready (Ok n)) xs = refl
+
+-- those of a flush or of a close
+pub done_note_part : (mark : WriteMark) (r : Poll (Result (Unit {0}) Error))
+    → Part.writing (done_marks_of mark (told_of_done r)) ≡ Part.writing (done_marks mark r)
+done_note_part mark Pending = refl
+done_note_part mark (Ready (Err e)) = refl
+done_note_part mark (Ready (Ok u)) = refl
+
+-- the answer fits its call
+pub read_note_fits : (r : Poll (Result ℕ Error)) (buf : List ℕ) → CountsWithin r (length buf)
+    → FitsCall (read_note r buf).asked (read_note r buf).told
+read_note_fits (Ready (Ok n)) buf within = omega (arith, within, length-take-le n buf within)
+read_note_fits r buf within = tt
+
+pub write_note_fits : (r : Poll (Result ℕ Error)) (xs : List ℕ) → CountsWithin r (length xs)
+    → FitsCall (write_note r xs).asked (write_note r xs).told
+write_note_fits (Ready (Ok n)) xs within = within
+write_note_fits r xs within = tt
+
+pub done_fits : (r : Poll (Result (Unit {0}) Error)) → FitsDone (told_of_done r)
+done_fits Pending = tt
+done_fits (Ready (Err e)) = tt
+done_fits (Ready (Ok u)) = tt

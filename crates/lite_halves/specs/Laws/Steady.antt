@@ -1,0 +1,65 @@
+-- A journal is as steady and as calm a reader as its stream.
+use Rattle.std.proofs.Common.{List, [], ◌∷◌, map, inl, inr, sym, subst}
+use Rattle.std.specs.declared.io.ErrorKind.{ErrorKind}
+use Rattle.std.specs.declared.io.ErrorKind.TheVariants.{OutOfMemory}
+use Rattle.lite_io_base.specs.Laws.Steady.{no_wait_both, no_wait_parts}
+use Rattle.lite_io_base.specs.Marks.{ReadMark}
+use Rattle.lite_io_base.specs.Parts.{Part, PartsInOrder}
+use Rattle.lite_io_base.specs.Runs.{MarkLaws}
+use Rattle.lite_io_base.specs.Steady.{CalmReadLaws, NoPendingRead, SteadyReadLaws}
+use Rattle.lite_io_base.specs.Takings.{WriteMark}
+use Rattle.lite_halves.specs.Journal.{Chronicle, JournalReads, Thins, all_in_order}
+use Rattle.lite_halves.specs.Laws.Journal.{journals_laws}
+use Rattle.lite_halves.specs.Steady.{ReadsAmply}
+use Rattle.lite_base.specs.Runs.{Runs}
+
+-- a refusal is no pending
+thins_no_wait : (kind : ErrorKind) (ms ks : List ReadMark) → Thins (ReadMark.fault kind) ms ks → NoPendingRead ks
+    → NoPendingRead ms
+thins_no_wait kind [] ks h n = tt
+thins_no_wait kind (m ∷ ms) ks h n = elim h [
+  | inl w ↦
+      let parts = no_wait_parts (m ∷ []) w.0 (subst NoPendingRead w.1 n) in
+      no_wait_both (m ∷ []) ms parts.0 (thins_no_wait kind ms w.0 w.2 parts.1)
+  | inr w ↦ rw w.0 (thins_no_wait kind ms ks w.1 n)
+]
+
+module _ {T : Type 0} (reads : Runs ReadMark T) (writes : Runs WriteMark T) (laws : MarkLaws reads) where
+  parts_read : (marks : List (List ReadMark)) (x y : T) → PartsInOrder reads writes x (map Part.reading marks) y
+      → reads x (all_in_order marks) y
+  parts_read [] x y h = subst (λ t. reads x [] t) (sym h) (laws.rests x)
+  parts_read (l ∷ ls) x y h = laws.follows x h.0 y l (all_in_order ls) h.1 (parts_read ls h.0 y h.2)
+
+  -- what the stream was read by
+  stream_read : (a b : Chronicle T) (ms : List ReadMark) (h : JournalReads reads writes a ms b)
+      → reads a.stream (all_in_order h.marks) b.stream
+  stream_read a b ms h =
+      parts_read h.marks a.stream b.stream
+      (subst (λ ps. PartsInOrder reads writes a.stream ps b.stream) h.kind h.added.ran)
+
+module _ {T : Type 0} {reads : Runs ReadMark T} {writes : Runs WriteMark T} where
+  pub journal_calm : {is_calm : T → Type 0} → MarkLaws reads → CalmReadLaws reads is_calm
+      → CalmReadLaws (JournalReads reads writes) (λ (j : Chronicle T). is_calm j.stream)
+  journal_calm laws c =
+      let ran = stream_read reads writes laws in
+      record {
+        no_pending = λ a b ms k h. thins_no_wait OutOfMemory ms (all_in_order h.marks) h.thinned
+            (c.no_pending a.stream b.stream (all_in_order h.marks) k (ran a b ms h));
+        calm_on = λ a b ms k h. c.calm_on a.stream b.stream (all_in_order h.marks) k (ran a b ms h);
+      }
+
+  pub journal_steady : {ample : Runs ReadMark T} {needs_none : Type 0} {alike : T → T → Type 0}
+      → SteadyReadLaws reads ample needs_none alike
+      → SteadyReadLaws (JournalReads reads writes) (ReadsAmply reads writes ample) ⊥
+      (λ (a b : Chronicle T). alike a.stream b.stream)
+  journal_steady s =
+      let journals = journals_laws reads writes Part.reading (ReadMark.fault OutOfMemory) in
+      record {
+        laws = record {
+          rests = λ a. (journals.rests a, s.laws.rests a.stream);
+          follows = λ a b c l m h k.
+              (journals.follows a b c l m h.0 k.0, s.laws.follows a.stream b.stream c.stream l m h.1 k.1);
+        };
+        steady = λ a b a' b' l m e h k. s.steady a.stream b.stream a'.stream b'.stream l m e h.1 k.1;
+        found = λ n. absurd n;
+      }

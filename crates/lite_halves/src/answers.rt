@@ -1,0 +1,70 @@
+//! Answers of polls, as they are written down.
+ghost use Rattle.std.specs.Prelude.{◌≡◌, ◌≤◌, [], length, vec_capacity, IfOk};
+ghost use Rattle.futures.specs.Poll.{IfReady};
+ghost use Rattle.lite_halves.specs.Entry.{told_of, told_of_done, told_of_read, told_of_write};
+
+use crate::entry::Answer;
+use lite_base::Poll;
+use std::io;
+
+/// What a read into the whole of `buf` was told: `buf` cut to what was read.
+pub fn buffer_answer(polled: &Poll<io::Result<usize>>, mut buf: Vec<u8>) -> Answer
+    requires { IfReady polled.now (λ r. IfOk r (λ n. n ≤ length buf.items)) }
+    ensures { told_of result ≡ told_of_read polled.now buf.items }
+{
+    match polled {
+        Poll::Pending => Answer::Pending,
+        Poll::Ready(Ok(n)) => {
+            buf.truncate(*n);
+            buf.shrink_to_fit();
+            Answer::Read(buf)
+        }
+        Poll::Ready(Err(e)) => Answer::Fault(e.kind()),
+    }
+}
+
+/// The answer of a read, its bytes in room that was made before; the room that is left over is given back.
+pub(crate) fn read_answer(
+    polled: &Poll<io::Result<usize>>,
+    mut bytes: Vec<u8>,
+    buf: &[u8],
+) -> Answer
+    requires empty { bytes.items ≡ [] }
+    requires room { length buf.now ≤ vec_capacity bytes }
+    requires bound { IfReady polled.now (λ r. IfOk r (λ n. n ≤ length buf.now)) }
+    ensures { told_of result ≡ told_of_read polled.now buf.now }
+{
+    match polled {
+        Poll::Pending => Answer::Pending,
+        Poll::Ready(Ok(n)) => {
+            let Ok(()) = bytes.extend_from_slice(&buf[..*n]) else {
+                unreachable!()
+            };
+            bytes.shrink_to_fit();
+            Answer::Read(bytes)
+        }
+        Poll::Ready(Err(e)) => Answer::Fault(e.kind()),
+    }
+}
+
+/// What a write was told.
+pub fn write_answer(polled: &Poll<io::Result<usize>>) -> Answer
+    ensures { told_of result ≡ told_of_write polled.now }
+{
+    match polled {
+        Poll::Pending => Answer::Pending,
+        Poll::Ready(Ok(n)) => Answer::Wrote(*n),
+        Poll::Ready(Err(e)) => Answer::Fault(e.kind()),
+    }
+}
+
+/// What a flush or a close was told.
+pub fn done_answer(polled: &Poll<io::Result<()>>) -> Answer
+    ensures { told_of result ≡ told_of_done polled.now }
+{
+    match polled {
+        Poll::Pending => Answer::Pending,
+        Poll::Ready(Ok(())) => Answer::Done,
+        Poll::Ready(Err(e)) => Answer::Fault(e.kind()),
+    }
+}

@@ -1,0 +1,11 @@
+//! A journal is never pending where its stream isn't.
+ghost use Rattle.lite_halves.specs.Laws.Steady.{journal_calm};
+
+use crate::Journal;
+use lite_io_base::{CalmRead, Takings};
+
+impl<T: CalmRead + Takings + Clone> CalmRead for Journal<T> {
+    ghost is_calm = { λ j. T.is_calm j.stream };
+
+    ghost calm = { journal_calm T.read_laws T.calm };
+}

@@ -1,0 +1,60 @@
+//! A list of calls, made one after the other.
+ghost use Rattle.std.specs.Prelude.{◌≡◌, IfNone, IfSome};
+ghost use Rattle.futures.specs.Task.{Keeps};
+ghost use Rattle.lite_halves.specs.Drive.{Drives};
+ghost use Rattle.lite_halves.specs.Entry.{asked_in, asked_of, told_in, told_of};
+ghost use Rattle.lite_halves.specs.Journal.{Adds};
+
+use super::Journal;
+use crate::answers::{buffer_answer, done_answer, write_answer};
+use crate::entry::{Answer, Call};
+use lite_base::Context;
+use lite_io_base::{AsyncRead, AsyncWrite};
+use std::alloc::AllocError;
+
+impl<T: AsyncRead + AsyncWrite + Clone> Journal<T> {
+    /// Makes the calls one after the other, each with its entry, and appends what each was told to `out`.
+    ///
+    /// `Err`: there was no memory for the next call's entry or answer. The calls before it stand in the journal and
+    /// their answers in `out`; the refused one reached neither the stream nor the journal. An error of the stream
+    /// itself, `OutOfMemory` too, is an answer, after which the calls go on.
+    pub fn drive(
+        &mut self,
+        cx: &mut Context<'_>,
+        calls: &[Call],
+        out: &mut Vec<Answer>,
+    ) -> Result<(), AllocError>
+        ensures drives { Drives T.reads T.writes self.old (asked_in calls.now) (told_in out.old.items) result self.new
+            (told_in out.new.items) }
+        ensures kept { Keeps cx.old cx.new }
+    {
+        for call in calls {
+            out.reserve(1)?;
+            let Some(answer) = self.make(cx, call) else {
+                return Err(AllocError);
+            };
+            out.push_reserved(answer);
+        }
+        Ok(())
+    }
+
+    /// Makes one call, with its entry. `None`: there was no memory, and nothing was called.
+    fn make(&mut self, cx: &mut Context<'_>, call: &Call) -> Option<Answer>
+        ensures added { IfSome result
+            (λ a. Adds T.reads T.writes self.old
+            (record { asked = asked_of call.now; told = told_of a }) self.new) }
+        ensures none { IfNone result (self.new ≡ self.old) }
+        ensures kept { Keeps cx.old cx.new }
+    {
+        match call {
+            Call::Read { room } => {
+                let mut buf = vec![in self.alloc; 0; *room].ok()?;
+                let polled = self.step_read(cx, &mut buf)?;
+                Some(buffer_answer(&polled, buf))
+            }
+            Call::Write(bytes) => Some(write_answer(&self.step_write(cx, bytes)?)),
+            Call::Flush => Some(done_answer(&self.step_flush(cx)?)),
+            Call::Close => Some(done_answer(&self.step_close(cx)?)),
+        }
+    }
+}

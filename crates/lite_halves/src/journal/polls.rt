@@ -1,0 +1,225 @@
+//! The journal as a reader and a writer.
+ghost use Rattle.std.specs.Prelude.{◌≡◌, ◌≤◌, ◌<◌, ◌+◌, ◌^◌, ◌++◌, ◌∷◌, [], length, IfNone, IfOk, IfSome};
+ghost use Rattle.std.specs.Io.Slices.{io_slices_bytes};
+ghost use Rattle.std.specs.declared.io.ErrorKind.TheVariants.{OutOfMemory};
+ghost use Rattle.futures.specs.Poll.{IfReady};
+ghost use Rattle.futures.specs.Task.{Keeps};
+ghost use Rattle.lite_io_base.specs.Marks.{ReadMark, read_marks};
+ghost use Rattle.lite_io_base.specs.Parts.{Part};
+ghost use Rattle.lite_io_base.specs.Runs.{ReadsInto, room_in};
+ghost use Rattle.lite_io_base.specs.Takings.{WriteMark, done_marks, write_marks};
+ghost use Rattle.lite_io_base.specs.Takings.WriteMark.{closed, flushed};
+ghost use Rattle.lite_halves.specs.Entry.{close_note, flush_note, read_note, write_note};
+ghost use Rattle.lite_halves.specs.Journal.{Adds, AddsOrStays, AddsRead, AddsWrite, JournalReads, JournalWrites};
+ghost use Rattle.lite_halves.specs.Laws.Journal.{journals_laws};
+ghost use Rattle.lite_base.specs.Registered.{Registered};
+
+use super::Journal;
+use crate::answers::{done_answer, read_answer, write_answer};
+use crate::entry::{Call, Entry};
+use lite_base::{Context, Poll};
+use lite_io_base::{AsyncRead, AsyncWrite, Takings, Tale, first_nonempty, first_with_room};
+use std::io;
+use std::io::{ErrorKind, IoSlice, IoSliceMut};
+
+impl<T: Tale + Takings + Clone> Tale for Journal<T> {
+    ghost reads = { JournalReads T.reads T.writes };
+
+    ghost read_laws = { journals_laws T.reads T.writes Part.reading (ReadMark.fault OutOfMemory) };
+}
+
+impl<T: Tale + Takings + Clone> Takings for Journal<T> {
+    ghost writes = { JournalWrites T.reads T.writes };
+
+    ghost write_laws = { journals_laws T.reads T.writes Part.writing (WriteMark.fault OutOfMemory) };
+}
+
+impl<T: AsyncRead + Takings + Clone> Journal<T> {
+    /// One read with its entry. `None`: there was no memory for the entry, and nothing was called.
+    ///
+    /// So a refusal is told from an `OutOfMemory` of the stream itself, which `poll_read` answers alike.
+    pub fn step_read(
+        &mut self,
+        cx: &mut Context<'_>,
+        buf: &mut [u8],
+    ) -> Option<Poll<io::Result<usize>>>
+        ensures added { IfSome result (λ r. Adds T.reads T.writes self.old (read_note r buf.new) self.new) }
+        ensures bound { IfSome result (λ r. IfReady r (λ a. IfOk a (λ n. n ≤ length buf.new))) }
+        ensures left { IfSome result (λ r. Registered r (T.registers self.new.stream) cx.new) }
+        ensures kept { Keeps cx.old cx.new }
+        ensures fits { length self.new.notes < 2 ^ 64 }
+        ensures none { IfNone result ((self.new ≡ self.old) × (buf.new ≡ buf.old)) }
+    {
+        let room = buf.len();
+        let bytes = Vec::with_capacity(self.alloc, room).ok()?;
+        self.entries.reserve(1).ok()?;
+        let polled = self.stream.poll_read(cx, buf);
+        let answer = read_answer(&polled, bytes, buf);
+        let call = Call::Read { room };
+        self.entries.push_reserved(Entry { call, answer });
+        Some(polled)
+    }
+}
+
+impl<T: Tale + AsyncWrite + Clone> Journal<T> {
+    /// One write with its entry. `None`: there was no memory for the entry, and nothing was called.
+    ///
+    /// So a refusal is told from an `OutOfMemory` of the stream itself, as in a flush and a close.
+    pub fn step_write(
+        &mut self,
+        cx: &mut Context<'_>,
+        buf: &[u8],
+    ) -> Option<Poll<io::Result<usize>>>
+        ensures added { IfSome result (λ r. Adds T.reads T.writes self.old (write_note r buf.now) self.new) }
+        ensures bound { IfSome result (λ r. IfReady r (λ a. IfOk a (λ n. n ≤ length buf.now))) }
+        ensures left { IfSome result (λ r. Registered r (T.write_registers self.new.stream) cx.new) }
+        ensures kept { Keeps cx.old cx.new }
+        ensures fits { length self.new.notes < 2 ^ 64 }
+        ensures none { IfNone result (self.new ≡ self.old) }
+    {
+        let Ok(offered) = Vec::from_slice(self.alloc, buf) else {
+            return None;
+        };
+        self.entries.reserve(1).ok()?;
+        let polled = self.stream.poll_write(cx, buf);
+        let answer = write_answer(&polled);
+        let call = Call::Write(offered);
+        self.entries.push_reserved(Entry { call, answer });
+        Some(polled)
+    }
+
+    /// One flush with its entry. `None`: there was no memory for the entry, and nothing was called.
+    pub fn step_flush(&mut self, cx: &mut Context<'_>) -> Option<Poll<io::Result<()>>>
+        ensures added { IfSome result (λ r. Adds T.reads T.writes self.old (flush_note r) self.new) }
+        ensures left { IfSome result (λ r. Registered r (T.write_registers self.new.stream) cx.new) }
+        ensures kept { Keeps cx.old cx.new }
+        ensures fits { length self.new.notes < 2 ^ 64 }
+        ensures none { IfNone result (self.new ≡ self.old) }
+    {
+        self.entries.reserve(1).ok()?;
+        let polled = self.stream.poll_flush(cx);
+        let answer = done_answer(&polled);
+        let call = Call::Flush;
+        self.entries.push_reserved(Entry { call, answer });
+        Some(polled)
+    }
+
+    /// One close with its entry. `None`: there was no memory for the entry, and nothing was called.
+    pub fn step_close(&mut self, cx: &mut Context<'_>) -> Option<Poll<io::Result<()>>>
+        ensures added { IfSome result (λ r. Adds T.reads T.writes self.old (close_note r) self.new) }
+        ensures left { IfSome result (λ r. Registered r (T.write_registers self.new.stream) cx.new) }
+        ensures kept { Keeps cx.old cx.new }
+        ensures fits { length self.new.notes < 2 ^ 64 }
+        ensures none { IfNone result (self.new ≡ self.old) }
+    {
+        self.entries.reserve(1).ok()?;
+        let polled = self.stream.poll_close(cx);
+        let answer = done_answer(&polled);
+        let call = Call::Close;
+        self.entries.push_reserved(Entry { call, answer });
+        Some(polled)
+    }
+}
+
+#[tactic(auto, using(crate::specs::Laws::Journal::reads_rules))]
+impl<T: AsyncRead + Takings + Clone> AsyncRead for Journal<T> {
+    ghost registers = { λ j. T.registers j.stream };
+
+    /// Reads from the stream, and writes the call down with its answer.
+    ///
+    /// Room for the entry and for as many bytes as `buf` has is made first. Where that is refused the answer is
+    /// `OutOfMemory`: the stream is not called, there is no entry, and nothing changes.
+    fn poll_read(&mut self, cx: &mut Context<'_>, buf: &mut [u8]) -> Poll<io::Result<usize>>
+        ensures bound { IfReady result (λ r. IfOk r (λ n. n ≤ length buf.new)) }
+        ensures ran { JournalReads T.reads T.writes self.old (read_marks result buf.new) self.new }
+        ensures entry { AddsOrStays T.reads T.writes self.old (read_note result buf.new) self.new }
+        ensures left { Registered result (T.registers self.new.stream) cx.new }
+        ensures kept { Keeps cx.old cx.new }
+    {
+        match self.step_read(cx, buf) {
+            Some(polled) => polled,
+            None => Poll::Ready(Err(io::Error::from(ErrorKind::OutOfMemory))),
+        }
+    }
+
+    /// Reads as `poll_read` does into the first buffer that has room, or into an empty one if none has: one call with
+    /// one entry.
+    fn poll_read_vectored(
+        &mut self,
+        cx: &mut Context<'_>,
+        bufs: &mut [IoSliceMut<'_>],
+    ) -> Poll<io::Result<usize>>
+        ensures bound { IfReady result (λ r. IfOk r (λ n. n ≤ room_in bufs.old)) }
+        ensures ran { ReadsInto (JournalReads T.reads T.writes) self.old result bufs.old self.new }
+        ensures entry { AddsRead T.reads T.writes self.old result bufs.old self.new }
+        ensures left { Registered result (T.registers self.new.stream) cx.new }
+        ensures kept { Keeps cx.old cx.new }
+    {
+        match first_with_room(bufs) {
+            Some(i) => self.poll_read(cx, &mut bufs[i]),
+            None => self.poll_read(cx, &mut []),
+        }
+    }
+}
+
+#[tactic(auto, using(crate::specs::Laws::Journal::writes_rules))]
+impl<T: Tale + AsyncWrite + Clone> AsyncWrite for Journal<T> {
+    ghost write_registers = { λ j. T.write_registers j.stream };
+
+    /// Writes to the stream, and writes the call down with its answer.
+    ///
+    /// Room for the entry and a copy of `buf` is made first. Where that is refused the answer is `OutOfMemory`: the
+    /// stream is not called, there is no entry, and nothing changes. So it is with a flush and a close.
+    fn poll_write(&mut self, cx: &mut Context<'_>, buf: &[u8]) -> Poll<io::Result<usize>>
+        ensures bound { IfReady result (λ r. IfOk r (λ n. n ≤ length buf.now)) }
+        ensures ran { JournalWrites T.reads T.writes self.old (write_marks result buf.now) self.new }
+        ensures entry { AddsOrStays T.reads T.writes self.old (write_note result buf.now) self.new }
+        ensures left { Registered result (T.write_registers self.new.stream) cx.new }
+        ensures kept { Keeps cx.old cx.new }
+    {
+        match self.step_write(cx, buf) {
+            Some(polled) => polled,
+            None => Poll::Ready(Err(io::Error::from(ErrorKind::OutOfMemory))),
+        }
+    }
+
+    /// Writes as `poll_write` does the first buffer that has a byte, or an empty one if none has: one call with one
+    /// entry.
+    fn poll_write_vectored(
+        &mut self,
+        cx: &mut Context<'_>,
+        bufs: &[IoSlice<'_>],
+    ) -> Poll<io::Result<usize>>
+        ensures bound { IfReady result (λ r. IfOk r (λ n. n ≤ length (io_slices_bytes bufs.now))) }
+        ensures ran { JournalWrites T.reads T.writes self.old (write_marks result (io_slices_bytes bufs.now)) self.new }
+        ensures entry { AddsWrite T.reads T.writes self.old result (io_slices_bytes bufs.now) self.new }
+        ensures left { Registered result (T.write_registers self.new.stream) cx.new }
+        ensures kept { Keeps cx.old cx.new }
+    {
+        self.poll_write(cx, first_nonempty(bufs))
+    }
+
+    fn poll_flush(&mut self, cx: &mut Context<'_>) -> Poll<io::Result<()>>
+        ensures ran { JournalWrites T.reads T.writes self.old (done_marks flushed result) self.new }
+        ensures entry { AddsOrStays T.reads T.writes self.old (flush_note result) self.new }
+        ensures left { Registered result (T.write_registers self.new.stream) cx.new }
+        ensures kept { Keeps cx.old cx.new }
+    {
+        match self.step_flush(cx) {
+            Some(polled) => polled,
+            None => Poll::Ready(Err(io::Error::from(ErrorKind::OutOfMemory))),
+        }
+    }
+
+    fn poll_close(&mut self, cx: &mut Context<'_>) -> Poll<io::Result<()>>
+        ensures ran { JournalWrites T.reads T.writes self.old (done_marks closed result) self.new }
+        ensures entry { AddsOrStays T.reads T.writes self.old (close_note result) self.new }
+        ensures left { Registered result (T.write_registers self.new.stream) cx.new }
+        ensures kept { Keeps cx.old cx.new }
+    {
+        match self.step_close(cx) {
+            Some(polled) => polled,
+            None => Poll::Ready(Err(io::Error::from(ErrorKind::OutOfMemory))),
+        }
+    }
+}

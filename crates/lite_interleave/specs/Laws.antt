@@ -1,4 +1,0 @@
-pub mod Collected
-pub mod Or
-pub mod Race
-pub mod Rows

@@ -1,2 +1,0 @@
-pub mod Interleaving
-pub mod Laws

@@ -1,0 +1,28 @@
+-- What the rank of a counted reader meets.
+use Rattle.std.specs.Prelude.{ℕ, List, [], ◌∷◌, refl}
+use Rattle.lite_base.specs.Ends.{Terminates}
+use Rattle.lite_base.specs.Ranks.{Ranks, number_ranks}
+use Rattle.lite_base.specs.Runs.{Runs}
+use Rattle.lite_io_base.specs.Falls.{Falls}
+use Rattle.lite_io_base.specs.Laws.Falls.{GivenRun, counted_ends}
+use Rattle.lite_io_base.specs.Laws.Marks.{given_all}
+use Rattle.lite_io_base.specs.Marks.{ReadMark, given}
+use Rattle.std.proofs.Common.{subst}
+use Rattle.lite_io_base.specs.Counting.{ReadCounting}
+
+module _ {S : Type 0} {reads : Runs ReadMark S} where
+  -- from a value that counts, no chain of runs of bytes and errors is endless
+  pub counting_ends : {r : Ranks S} → ReadCounting reads r → (x : S) → r.counts x → Terminates (GivenRun reads) x
+  counting_ends {r} c = counted_ends reads r.counts r.rank c.counts_on c.falls
+
+  -- each byte and each error lowers the number, and nothing raises it
+  pub number_counting : {number : S → ℕ}
+      → ((x y : S) (l : List ReadMark) → reads x l y → Falls (given l) (number y ∷ []) (number x ∷ []))
+      → ReadCounting reads (number_ranks number)
+  number_counting {number} lowers = record {
+    sized = λ x. refl;
+    counts_on = λ x y l c h. tt;
+    firm_on = λ x y l c h. tt;
+    falls = λ x y l c g h. subst (λ n. Falls n (number y ∷ []) (number x ∷ [])) (given_all l g) (lowers x y l h);
+    lowers = λ x y l c h. lowers x y l h;
+  }

@@ -1,4 +1,0 @@
-pub mod Cutting
-mod Items
-pub mod Texts
-mod Until

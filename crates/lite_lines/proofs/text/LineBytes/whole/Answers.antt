@@ -1,7 +1,0 @@
-use Rattle.std.proofs.Common.{IsUtf8, sym, subst}
-use Rattle.lite_lines.proofs.Texts.{line_utf8}
-use Rattle.lite_lines.proofs.text.LineBytes.whole.Goals as goal
-
-pub text_of-requires : goal.text_of-requires
-text_of-requires c = λ t. let held = c.replace-bytes.result in
-    subst IsUtf8 (sym c.drop_return.ensures) (line_utf8 held.bytes.items held.ascii held.known t)

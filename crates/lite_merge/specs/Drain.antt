@@ -1,0 +1,27 @@
+-- `drain`: an end in the place of each Pending.
+use Rattle.std.specs.Prelude.{◌≡◌, List, [], ◌∷◌}
+use denote.MutBor.{MutBor}
+use Rattle.futures.specs.declared.task.Poll.TheVariants.{Ready, Pending}
+use Rattle.lite_base.specs.Answers.{Answer, end}
+use Rattle.lite_base.specs.Lent.{Lent}
+use Rattle.lite_base.specs.Runs.{Runs}
+use Rattle.lite_merge.specs.declared.drain.Drain.{Drain}
+use Rattle.lite_stream.specs.Through.{AdapterParts, Through}
+
+-- an end for each Pending; an item and an end stay
+abbrev pub with_ends : {A : Type 0} → List (Answer A) → List (Answer A)
+with_ends [] = []
+with_ends (Pending ∷ l) = end ∷ with_ends l
+with_ends (Ready o ∷ l) = Ready o ∷ with_ends l
+
+-- what goes out is what came in, with an end for each Pending
+abbrev pub Drained : {A : Type 0} → Unit {0} → List (Answer A) → List (Answer A) → Unit {0} → Type 0
+Drained f ins out g = out ≡ with_ends ins
+
+-- the lent stream's list, with an end for each Pending
+abbrev pub Drains : {S A : Type 0} → Runs (Answer A) S → Runs (Answer A) (Drain S)
+Drains run x l y = Through (Lent run) Drained x.stream tt l y.stream tt
+
+-- a `drain` is the reference to its stream
+abbrev pub drain_parts : {S : Type 0} → AdapterParts (Drain S) (MutBor S) (Unit {0})
+drain_parts = record { source = λ m. m.stream; held = λ m. tt; same = λ x y e d. λ i. record { stream = e i } }

@@ -1,0 +1,190 @@
+-- Laws of `cycle`.
+use Rattle.std.specs.Prelude.{IfSome, Result, Ok, Err}
+use Rattle.std.proofs.Common.{◌≡◌, ◌∙◌, List, [], ◌∷◌, ◌++◌, Option, Some, None, refl, ap, subst, append_assoc}
+use Rattle.futures.specs.declared.task.Poll.TheVariants.{Ready, Pending}
+use Rattle.lite_base.specs.Answers.{Answer, Endless, end, item}
+use Rattle.lite_base.specs.Calm.{CalmLaws, NoPending}
+use Rattle.lite_base.specs.Laws.Calm.{no_pending_front, no_pending_join}
+use Rattle.lite_base.specs.Laws.Hint.{same_hint}
+use Rattle.lite_base.specs.OkRanks.{all_ok}
+use Rattle.lite_base.specs.StreamLaws.{StreamLaws}
+use Rattle.lite_merge.specs.Cycle.{AllCopies, Cycles, Lap, LapOver, Laps, Renews}
+use Rattle.lite_base.specs.Laws.Endless.{endless_join}
+use Rattle.lite_base.specs.Runs.{Hints, NoHint, Runs}
+
+module _ {A : Type 0} (E : Type 0) where
+  all_ok_join : (i j : List (Answer A)) → all_ok {E = E} (i ++ j) ≡ all_ok i ++ all_ok j
+  all_ok_join [] j = refl
+  all_ok_join (Pending ∷ i) j = ap (λ l. Pending ∷ l) (all_ok_join i j)
+  all_ok_join (Ready None ∷ i) j = ap (λ l. end ∷ l) (all_ok_join i j)
+  all_ok_join (Ready (Some x) ∷ i) j = ap (λ l. item (Ok x) ∷ l) (all_ok_join i j)
+
+  all_ok_none : (i : List (Answer A)) → [] ≡ all_ok {E = E} i → i ≡ []
+  all_ok_none [] e = refl
+  all_ok_none (Pending ∷ i) e = absurd (cc e)
+  all_ok_none (Ready None ∷ i) e = absurd (cc e)
+  all_ok_none (Ready (Some x) ∷ i) e = absurd (cc e)
+
+  all_ok_no_pending : (i : List (Answer A)) → NoPending i → NoPending (all_ok {E = E} i)
+  all_ok_no_pending [] h = tt
+  all_ok_no_pending (Pending ∷ i) h = absurd h
+  all_ok_no_pending (Ready None ∷ i) h = all_ok_no_pending i h
+  all_ok_no_pending (Ready (Some x) ∷ i) h = all_ok_no_pending i h
+
+none_after : {A : Type 0} (i j l : List A) → ([] ≡ j → ⊥) → [] ≡ i ++ (j ++ l) → ⊥
+none_after [] [] l some e = some refl
+none_after i j l some e = cc e
+
+module _ {S A : Type 0} {run : Runs (Answer A) S} {hints : Hints S} (laws : StreamLaws run hints) where
+  lap_rest : (x : Option S) → Lap run x [] x
+  lap_rest None = refl
+  lap_rest (Some s) = (laws.rests s, refl)
+
+  lap_stay : (x y : Option S) → Lap run x [] y → y ≡ x
+  lap_stay None None h = refl
+  lap_stay (Some s) (Some t) h = ap (λ v. Some v) (laws.stays s t h.0)
+  lap_stay x y h = absurd h
+
+  lap_join : (x y z : Option S) (i j : List (Answer A)) → Lap run x i y → Lap run y j z → Lap run x (i ++ j) z
+  lap_join None None None i j h k = rw (h, k) refl
+  lap_join None (Some t) z i j h k = absurd h
+  lap_join (Some s) None z i j h k = absurd h
+  lap_join (Some s) (Some t) (Some u) i j h k = (laws.follows s t u i j h.0 k.0, endless_join i j h.1 k.1)
+  lap_join x y z i j h k = absurd k
+
+  lap_over : (x y : Option S) (i j : List (Answer A)) → Lap run x i y → LapOver run y j → LapOver run x (i ++ j)
+  lap_over None None i j h k = rw (h, k) refl
+  lap_over (Some s) (Some t) i j h k = (
+    k.0,
+    rw append_assoc (laws.follows s t k.0 i (j ++ end ∷ []) h.0 k.1),
+    endless_join i j h.1 k.2,
+  )
+  lap_over x y i j h k = absurd h
+
+module _ {S A E : Type 0} (is_clone : S → S → Type 0) (is_infallible : S → Type 0) {run : Runs (Answer A) S}
+    {hints : Hints S} (laws : StreamLaws run hints) where
+  module _ (original : S) where
+    -- one poll, of a stream that gave an item or was pending
+    pub lap_one : (s t : S) (a : Answer A) → run s (a ∷ []) t → Endless (a ∷ [])
+        → Laps run is_clone is_infallible original [] (Some s) (all_ok {E = E} (a ∷ [])) (Some t)
+    lap_one s t a came endless = (a ∷ [], (came, endless), refl)
+
+    -- and one that met an end, or a copy that is still to be made
+    pub renewed : (x : Option S) (asked : Result S E) (b : Answer (Result A E)) (y : Option S) → LapOver run x []
+        → Renews run is_clone is_infallible original asked (b ∷ []) y
+        → Laps run is_clone is_infallible original (asked ∷ []) x (b ∷ []) y
+    renewed x asked b y over renews = record {
+      own = [];
+      over = over;
+      anew = b ∷ [];
+      next = y;
+      renews = renews;
+      rest = [];
+      goes_on = ([], lap_rest laws y, refl);
+      joined = refl;
+    }
+
+    renews_some : (asked : Result S E) (out : List (Answer (Result A E))) (s : Option S)
+        → Renews run is_clone is_infallible original asked out s → [] ≡ out → ⊥
+    renews_some (Err e) out s h none = cc (none ∙ h.1)
+    renews_some (Ok copy) out None h none = h.1
+    renews_some (Ok copy) out (Some s) h none = cc (all_ok_none E (h.1.0 ∷ []) (none ∙ h.1.2))
+
+    laps_stay : (asked : List (Result S E)) (x y : Option S) → Laps run is_clone is_infallible original asked x [] y
+        → y ≡ x
+    laps_stay [] x y h = lap_stay laws x y (subst (λ i. Lap run x i y) (all_ok_none E h.0 h.2) h.1)
+    laps_stay (r ∷ asked) x y h =
+        absurd (none_after (all_ok h.own) h.anew h.rest (renews_some r h.anew h.next h.renews) h.joined)
+
+    -- after a part of the first lap
+    laps_after : (asked : List (Result S E)) (x y z : Option S) (own : List (Answer A))
+        (out : List (Answer (Result A E))) → Lap run x own y → Laps run is_clone is_infallible original asked y out z
+        → Laps run is_clone is_infallible original asked x (all_ok own ++ out) z
+    laps_after [] x y z own out h k =
+        (own ++ k.0, lap_join laws x y z own k.0 h k.1, rw (k.2, all_ok_join E own k.0) refl)
+    laps_after (r ∷ asked) x y z own out h k =
+        record {
+          own = own ++ k.own;
+          over = lap_over laws x y own k.own h k.over;
+          anew = k.anew;
+          next = k.next;
+          renews = k.renews;
+          rest = k.rest;
+          goes_on = k.goes_on;
+          joined = rw (k.joined, all_ok_join E own k.own, append_assoc);
+        }
+
+    laps_join : (asked more : List (Result S E)) (x y z : Option S) (l m : List (Answer (Result A E)))
+        → Laps run is_clone is_infallible original asked x l y → Laps run is_clone is_infallible original more y m z
+        → Laps run is_clone is_infallible original (asked ++ more) x (l ++ m) z
+    laps_join [] more x y z l m h k = rw h.2 (laps_after more x y z h.0 m h.1 k)
+    laps_join (r ∷ asked) more x y z l m h k =
+        record {
+          own = h.own;
+          over = h.over;
+          anew = h.anew;
+          next = h.next;
+          renews = h.renews;
+          rest = h.rest ++ m;
+          goes_on = laps_join asked more h.next y z h.rest m h.goes_on k;
+          joined = rw (h.joined, append_assoc, append_assoc);
+        }
+
+  pub cycle_laws : StreamLaws (Cycles {E = E} run is_clone is_infallible) NoHint
+  cycle_laws =
+      record {
+        rests = λ x. ([], ([], lap_rest laws x.stream, refl), refl);
+        stays = λ x y h. let s = laps_stay x.original h.0 x.stream y.stream h.1 in λ i. record {
+          original = h.2 i;
+          stream = s i;
+        };
+        follows = λ x y z l m h k.
+            let next = subst (λ o. Laps run is_clone is_infallible o k.0 y.stream m z.stream) h.2 k.1 in
+            (h.0 ++ k.0, laps_join x.original h.0 k.0 x.stream y.stream z.stream l m h.1 next, k.2 ∙ h.2);
+        bounded = λ x y hint l e h. same_hint hint (0, None) l e tt;
+      }
+
+module _ {S A : Type 0} {run : Runs (Answer A) S} {is_calm : S → Type 0} (c : CalmLaws run is_calm) where
+  lap_calm : (x y : Option S) (own : List (Answer A)) → IfSome x is_calm → Lap run x own y → NoPending own
+      × IfSome y is_calm
+  lap_calm None None own k h = (rw h tt, tt)
+  lap_calm (Some s) (Some t) own k h = (c.no_pending s t own k h.0, c.calm_on s t own k h.0)
+  lap_calm x y own k h = absurd h
+
+  over_calm : (x : Option S) (own : List (Answer A)) → IfSome x is_calm → LapOver run x own → NoPending own
+  over_calm None own k h = rw h tt
+  over_calm (Some s) own k h = no_pending_front own (end ∷ []) (c.no_pending s h.0 (own ++ end ∷ []) k h.1)
+
+module _ {S A E : Type 0} (is_clone : S → S → Type 0) (is_infallible : S → Type 0) {run : Runs (Answer A) S}
+    {is_calm : S → Type 0} (c : CalmLaws run is_calm) where
+  module _ (original : S) (copies : (copy : S) → is_clone original copy → is_calm copy) where
+    renews_calm : (asked : Result S E) (out : List (Answer (Result A E))) (s : Option S)
+        → Renews run is_clone is_infallible original asked out s → NoPending out × IfSome s is_calm
+    renews_calm (Err e) out s h = rw (h.1, h.2) (tt, tt)
+    renews_calm (Ok copy) out None h = absurd h.1
+    renews_calm (Ok copy) out (Some s) h =
+        let first = c.no_pending copy s (h.1.0 ∷ []) (copies copy h.0) h.1.1 in
+        (rw h.1.2 (all_ok_no_pending E (h.1.0 ∷ []) first), c.calm_on copy s (h.1.0 ∷ []) (copies copy h.0) h.1.1)
+
+    laps_calm : (asked : List (Result S E)) (x y : Option S) (out : List (Answer (Result A E))) → IfSome x is_calm
+        → Laps run is_clone is_infallible original asked x out y → NoPending out × IfSome y is_calm
+    laps_calm [] x y out k h = let e = lap_calm c x y h.0 k h.1 in (rw h.2 (all_ok_no_pending E h.0 e.0), e.1)
+    laps_calm (r ∷ asked) x y out k h =
+        let before = all_ok_no_pending E h.own (over_calm c x h.own k h.over) in
+        let anew = renews_calm r h.anew h.next h.renews in
+        let after = laps_calm asked h.next y h.rest anew.1 h.goes_on in (
+          rw h.joined
+              (no_pending_join (all_ok h.own) (h.anew ++ h.rest) before (no_pending_join h.anew h.rest anew.0 after.0)),
+          after.1,
+        )
+
+  -- where the stream and each copy are calm
+  pub cycle_calm : CalmLaws (Cycles {E = E} run is_clone is_infallible) (AllCopies is_calm is_clone)
+  cycle_calm =
+      record {
+        no_pending = λ x y l k h. (laps_calm x.original k.1 h.0 x.stream y.stream l k.0 h.1).0;
+        calm_on = λ x y l k h. (
+          (laps_calm x.original k.1 h.0 x.stream y.stream l k.0 h.1).1,
+          λ copy made. k.1 copy (subst (λ o. is_clone o copy) h.2 made),
+        );
+      }

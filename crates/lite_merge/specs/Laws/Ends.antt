@@ -1,0 +1,44 @@
+-- Laws of answers that are all ends.
+use Rattle.std.proofs.Common.{◌≡◌, ◌≤◌, ℕ, List, [], ◌∷◌, ◌++◌, Some, None, arith}
+use Rattle.futures.specs.declared.task.Poll.TheVariants.{Ready, Pending}
+use Rattle.lite_base.specs.Answers.{Answer, before_end, end, items}
+use Rattle.lite_base.specs.Calm.{waits}
+use Rattle.lite_base.specs.Rank.{AtMost, Lowers}
+use Rattle.lite_stream.specs.Fuse.{AllEnds}
+
+module _ {A : Type 0} where
+  pub ends_before : (l : List (Answer A)) → AllEnds l → before_end l ≤ 0
+  ends_before [] h = omega arith
+  ends_before (a ∷ l) h = rw h.0 (omega arith)
+
+  -- ends that follow make no items
+  pub ends_bounded : (i l : List (Answer A)) → AllEnds l → before_end (i ++ l) ≤ before_end i
+  ends_bounded [] l h = ends_before l h
+  ends_bounded (Pending ∷ i) l h = ends_bounded i l h
+  ends_bounded (Ready None ∷ i) l h = omega arith
+  ends_bounded (Ready (Some x) ∷ i) l h = let e = ends_bounded i l h in omega (arith, e)
+
+  ends_keep : (l : List (Answer A)) (xs ys : List ℕ) → AllEnds l → AtMost xs ys → Lowers l xs ys
+  ends_keep [] xs ys h k = k
+  ends_keep (a ∷ l) xs ys h k = rw h.0 (ends_keep l xs ys h.1 k)
+
+  pub ends_lower : (i l : List (Answer A)) (xs ys : List ℕ) → AllEnds l → Lowers i xs ys → Lowers (i ++ l) xs ys
+  ends_lower [] l xs ys h k = ends_keep l xs ys h k
+  ends_lower (Ready (Some x) ∷ i) l xs ys h k = k
+  ends_lower (a ∷ i) l xs ys h k = ends_lower i l xs ys h k
+
+  ends_waits : (l : List (Answer A)) → AllEnds l → waits l ≤ 0
+  ends_waits [] h = omega arith
+  ends_waits (a ∷ l) h = rw h.0 (ends_waits l h.1)
+
+  -- nor Pendings
+  pub ends_calm : (i l : List (Answer A)) → AllEnds l → waits (i ++ l) ≤ waits i
+  ends_calm [] l h = ends_waits l h
+  ends_calm (Pending ∷ i) l h = let e = ends_calm i l h in omega (arith, e)
+  ends_calm (Ready x ∷ i) l h = ends_calm i l h
+
+  -- items have no end among them
+  pub no_end_among : (i j : List (Answer A)) (l : List A) → items l ≡ i ++ end ∷ j → ⊥
+  no_end_among [] j [] e = cc e
+  no_end_among (a ∷ i) j (x ∷ l) e = no_end_among i j l (cc e)
+  no_end_among i j l e = cc e

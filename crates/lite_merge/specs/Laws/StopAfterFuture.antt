@@ -1,0 +1,179 @@
+-- Laws of `stop_after_future`.
+use Rattle.std.specs.Prelude.{IfSome}
+use Rattle.std.proofs.Common.{◌≡◌, ◌∙◌, ℕ, ◌≤◌, List, [], ◌∷◌, ◌++◌, length, length-append, Option, Some, None, refl}
+use Rattle.std.proofs.Common.{ap, subst, sym, arith, append_assoc}
+use Rattle.std.proofs.lemmas.List.{append-nil}
+use Rattle.futures.specs.declared.task.Poll.{Poll}
+use Rattle.futures.specs.declared.task.Poll.TheVariants.{Pending}
+use Rattle.lite_base.specs.Answers.{Answer, before_end, end, items}
+use Rattle.lite_base.specs.FutureLaws.{FutureLaws}
+use Rattle.lite_base.specs.Laws.All.{all_append}
+use Rattle.lite_base.specs.Laws.Answers.{waiting_waiting}
+use Rattle.lite_base.specs.Laws.Future.Finishes.{finishes_later}
+use Rattle.lite_base.specs.Laws.Hint.{same_hint}
+use Rattle.lite_base.specs.StreamLaws.{StreamLaws}
+use Rattle.lite_base.specs.Laws.Endless.{endless_join}
+use Rattle.lite_base.specs.Runs.{Hints, Runs}
+use Rattle.lite_merge.specs.Laws.Ends.{ends_before, ends_bounded, ends_calm, ends_lower, no_end_among}
+use Rattle.lite_merge.specs.StopAfterFuture.{PendingBeside, StoppedByEnd, StoppedByValue, Stops, StopsBy}
+use Rattle.lite_merge.specs.Stopping.{HintsBy, StopHints, stop_parts}
+use Rattle.lite_merge.specs.declared.stop_after_future.StopAfterFuture.{StopAfterFuture}
+use Rattle.lite_merge.specs.declared.stop_after_future.Stopping.TheVariants.{Holding, TakenOut, Stopped}
+use Rattle.lite_merge.specs.declared.stop_after_future.Stopping.{Stopping}
+use Rattle.lite_stream.specs.Fuse.{AllEnds}
+use Rattle.lite_stream.specs.Laws.Calming.{Calming}
+use Rattle.lite_stream.specs.Laws.Through.{Relating, laws_capped}
+
+-- one poll, in which the future was pending
+pub beside_one : {F A R : Type 0} (run : Runs (Poll R) F) (f g : F) (a : Answer A) → run f (Pending ∷ []) g
+    → PendingBeside run f (a ∷ []) g
+beside_one run f g a came = record { told = Pending ∷ []; waiting = tt; came = came; rows = refl }
+
+none_told : {R : Type 0} (told : List R) → length told ≡ 0 → told ≡ []
+none_told [] e = refl
+none_told (a ∷ told) e = absurd (omega (arith, e))
+
+stops_rest : {F R : Type 0} (A : Type 0) {run : Runs (Poll R) F} → FutureLaws run → (f : Stopping F R)
+    → StopsBy {A = A} run f [] [] f
+stops_rest A laws (Holding f) = (record { told = []; waiting = tt; came = laws.rests f; rows = refl }, refl, refl)
+stops_rest A laws TakenOut = (refl, refl)
+stops_rest A laws (Stopped r) = (refl, tt, refl)
+
+module _ {F A R : Type 0} {run : Runs (Poll R) F} (laws : FutureLaws run) where
+  beside_stay : (f g : F) → PendingBeside {A = A} run f [] g → g ≡ f
+  beside_stay f g h = laws.stays f g (subst (λ l. run f l g) (none_told h.told h.rows) h.came)
+
+  beside_join : (f g k : F) (i j : List (Answer A)) → PendingBeside run f i g → PendingBeside run g j k
+      → PendingBeside run f (i ++ j) k
+  beside_join f g k i j h d =
+      record {
+        told = h.told ++ d.told;
+        waiting = waiting_waiting h.told d.told h.waiting d.waiting;
+        came = laws.follows f g k h.told d.told h.waiting h.came d.came;
+        rows = omega (arith, h.rows, d.rows, length-append h.told d.told, length-append i j);
+      }
+
+  none_out : (i l : List (Answer A)) → [] ≡ i ++ end ∷ l → ⊥
+  none_out [] l e = cc e
+  none_out (a ∷ i) l e = cc e
+
+  stops_stay : (f g : Stopping F R) (i : List (Answer A)) → StopsBy run f i [] g → (i ≡ []) × (g ≡ f)
+  stops_stay TakenOut g i h = (sym h.0, h.1)
+  stops_stay (Stopped r) g i h = (h.0, h.2)
+  stops_stay (Holding f) (Holding g) i h =
+      (sym h.2, ap (λ v. Holding v) (beside_stay f g (subst (λ l. PendingBeside run f l g) (sym h.2) h.0)))
+  stops_stay (Holding f) (Stopped (Some value)) i h = absurd (none_out i h.later h.joined)
+  stops_stay (Holding f) (Stopped None) i h =
+      absurd (none_out h.own h.later (rw (h.through_end, append_assoc) at h.joined))
+  stops_stay (Holding f) TakenOut i h = absurd h
+
+  -- after it was stopped
+  after_value : (f : F) (value : R) (k : Stopping F R) (i j l m : List (Answer A)) → StoppedByValue run f i l value
+      → StopsBy run (Stopped (Some value)) j m k → StopsBy run (Holding f) (i ++ j) (l ++ m) k
+  after_value f value k i j l m h d =
+      rw (d.2, d.0, append-nil i) record {
+        told = h.told;
+        finishes = h.finishes;
+        rows = h.rows;
+        endless = h.endless;
+        later = h.later ++ m;
+        ends = all_append (λ a. a ≡ end) h.later m h.ends d.1;
+        joined = rw (h.joined, append_assoc) refl;
+      }
+
+  after_end : (f : F) (k : Stopping F R) (i j l m : List (Answer A)) → StoppedByEnd run f i l
+      → StopsBy run (Stopped None) j m k → StopsBy run (Holding f) (i ++ j) (l ++ m) k
+  after_end f k i j l m h d =
+      rw (d.2, d.0, append-nil i) record {
+        last = h.last;
+        beside = h.beside;
+        own = h.own;
+        endless = h.endless;
+        through_end = h.through_end;
+        later = h.later ++ m;
+        ends = all_append (λ a. a ≡ end) h.later m h.ends d.1;
+        joined = rw (h.joined, append_assoc) refl;
+      }
+
+  -- before it was stopped
+  while_held : (f g : F) (k : Stopping F R) (i j l m : List (Answer A)) → StopsBy run (Holding f) i l (Holding g)
+      → StopsBy run (Holding g) j m k → StopsBy run (Holding f) (i ++ j) (l ++ m) k
+  while_held f g (Holding k) i j l m h d = (beside_join f g k i j h.0 d.0, endless_join i j h.1 d.1, rw (h.2, d.2) refl)
+  while_held f g (Stopped (Some value)) i j l m h d =
+      record {
+        told = h.0.told ++ d.told;
+        finishes = finishes_later laws f g h.0.told d.told value h.0.waiting h.0.came d.finishes;
+        rows = omega (arith, h.0.rows, d.rows, length-append h.0.told d.told, length-append i j);
+        endless = endless_join i j h.1 d.endless;
+        later = d.later;
+        ends = d.ends;
+        joined = rw (h.2, d.joined, append_assoc) refl;
+      }
+  while_held f g (Stopped None) i j l m h d =
+      record {
+        last = d.last;
+        beside = beside_join f g d.last i j h.0 d.beside;
+        own = i ++ d.own;
+        endless = endless_join i d.own h.1 d.endless;
+        through_end = rw (d.through_end, append_assoc) refl;
+        later = d.later;
+        ends = d.ends;
+        joined = rw (h.2, d.joined, append_assoc) refl;
+      }
+  while_held f g TakenOut i j l m h d = absurd d
+
+  stops_join : (f g k : Stopping F R) (i j l m : List (Answer A)) → StopsBy run f i l g → StopsBy run g j m k
+      → StopsBy run f (i ++ j) (l ++ m) k
+  stops_join TakenOut g k i j l m h d = let e = subst (λ v. StopsBy run v j m k) h.1 d in (rw (h.0, e.0) refl, e.1)
+  stops_join (Stopped r) g k i j l m h d =
+      let e = subst (λ v. StopsBy run v j m k) h.2 d in
+      (rw (h.0, e.0) refl, all_append (λ a. a ≡ end) l m h.1 e.1, e.2)
+  stops_join (Holding f) (Holding g) k i j l m h d = while_held f g k i j l m h d
+  stops_join (Holding f) (Stopped (Some value)) k i j l m h d = after_value f value k i j l m h d
+  stops_join (Holding f) (Stopped None) k i j l m h d = after_end f k i j l m h d
+  stops_join (Holding f) TakenOut k i j l m h d = absurd h
+
+  -- what goes out is what came in, and then ends; where it was stopped by a value the first of them came in its row
+  with_ends : (f g : Stopping F R) (i o : List (Answer A)) → StopsBy run f i o g → (later : List (Answer A))
+      × AllEnds later × (o ≡ i ++ later)
+  with_ends TakenOut g i o h = ([], tt, h.0 ∙ sym (append-nil i))
+  with_ends (Stopped r) g i o h = (o, h.1, ap (λ l. l ++ o) (sym h.0))
+  with_ends (Holding f) (Holding g) i o h = ([], tt, h.2 ∙ sym (append-nil i))
+  with_ends (Holding f) (Stopped (Some value)) i o h = (end ∷ h.later, (refl, h.ends), h.joined)
+  with_ends (Holding f) (Stopped None) i o h = (h.later, h.ends, h.joined)
+  with_ends (Holding f) TakenOut i o h = absurd h
+
+  came_of : (i later : List (Answer A)) (l : List A) → AllEnds later → items l ≡ i ++ later → i ≡ items l
+  came_of i [] l h e = sym (e ∙ append-nil i)
+  came_of i (a ∷ later) l h e = absurd (no_end_among i later l (e ∙ ap (λ b. i ++ b ∷ later) h.0))
+
+  pub stops_relating : Relating (StopsBy {A = A} run)
+  stops_relating =
+      record {
+        following = record { starts = stops_rest A laws; empty = stops_stay; joins = stops_join };
+        bounds = λ f g i o h. let e = with_ends f g i o h in rw e.2 (ends_bounded i e.0 e.1);
+        lowers = λ f g i o xs ys h k. let e = with_ends f g i o h in rw e.2 (ends_lower i e.0 xs ys e.1 k);
+        from_items = λ f g i y l h. let e = with_ends f g i (items (y ∷ l)) h in (y, l, came_of i e.0 (y ∷ l) e.1 e.2);
+      }
+
+  pub stops_calming : Calming (StopsBy {A = A} run)
+  stops_calming f g i o h = let e = with_ends f g i o h in rw e.2 (ends_calm i e.0 e.1)
+
+module _ {S F A R : Type 0} {run : Runs (Answer A) S} {hints : Hints S} {run' : Runs (Poll R) F}
+    (laws : StreamLaws run hints) (laws' : FutureLaws run') where
+  stop_bounded : (x y : StopAfterFuture S F R) (hint : ℕ × Option ℕ) (l : List (Answer A)) (f : Stopping F R)
+      → x.future ≡ f → HintsBy (hints x.stream) f hint → Stops run run' x l y
+      → IfSome hint.1 (λ most. before_end l ≤ most)
+  stop_bounded x y hint l (Stopped r) is h k =
+      same_hint hint (0, Some 0) l h (ends_before l (subst (λ v. StopsBy run' v k.ins l y.future) is k.related).1)
+  stop_bounded x y hint l f is h k = (laws_capped stop_parts laws (stops_relating laws')).bounded x y hint l h k
+
+  pub stop_laws : StreamLaws (Stops run run') (StopHints {F = F} {R = R} hints)
+  stop_laws =
+      let inner = laws_capped stop_parts laws (stops_relating laws') in
+      record {
+        rests = inner.rests;
+        stays = inner.stays;
+        follows = inner.follows;
+        bounded = λ x y hint l h k. stop_bounded x y hint l x.future refl h k;
+      }

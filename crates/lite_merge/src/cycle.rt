@@ -1,0 +1,80 @@
+ghost use Rattle.std.specs.Prelude.{◌≡◌, [], ◌∷◌, IfSome, None, Result, Some};
+ghost use Rattle.std.specs.declared.alloc.AllocError.{AllocError};
+ghost use Rattle.futures.specs.Task.{Keeps};
+ghost use Rattle.lite_merge.specs.Cycle.{AllCopies, Cycles, Renews};
+ghost use Rattle.lite_merge.specs.Laws.Cycle.{cycle_laws};
+ghost use Rattle.lite_base.specs.Registered.{Registered};
+ghost use Rattle.lite_base.specs.Runs.{NoHint};
+
+use lite_base::{Context, Poll, Stream, ready};
+use std::alloc::AllocError;
+
+/// The items of a stream over and over.
+///
+/// Made by [`cycle`](crate::make::cycle). `Ok` is an item. At an end a copy of the stream as it was handed in is made, and
+/// polled once in the same poll; what it answers goes out whatever it is, so the cycle of a stream without items ends.
+/// `Err(AllocError)` is a copy that was refused for want of memory; the next poll asks for it again, without polling the
+/// stream that has ended. A copy is what the stream's own `Clone` may give. Ported from `src/stream.rs`, `Cycle`, whose
+/// copies are not refused.
+#[derive(Clone, Debug, Drop)]
+pub struct Cycle<S> {
+    pub(crate) original: S,
+
+    // None where the stream has ended, and its copy was refused.
+    pub(crate) stream: Option<S>,
+}
+
+impl<S: Stream + Clone> Cycle<S> {
+    // Asks for a copy, and goes on with it: its first answer goes out, or its refusal.
+    fn renew(&mut self, cx: &mut Context<'_>) -> Poll<Option<Result<S::Item, AllocError>>>
+        requires { (copy : S) → S.is_clone self.old.original copy → S.can_poll copy }
+        ensures ran { (asked : Result S AllocError)
+            × Renews S.run S.is_clone S.is_infallible self.old.original asked (result ∷ []) self.new.stream }
+        ensures original { self.new.original ≡ self.old.original }
+        ensures again { IfSome self.new.stream S.can_poll }
+        ensures left { Registered result (λ fact. (s : S) × (self.new.stream ≡ Some s) × S.registers s fact) cx.new }
+        ensures kept { Keeps cx.old cx.new }
+    {
+        let mut copy = match self.original.clone() {
+            Ok(copy) => copy,
+            Err(refused) => {
+                self.stream = None;
+                return Poll::Ready(Some(Err(refused)));
+            }
+        };
+        let answer = copy.poll_next(cx);
+        self.stream = Some(copy);
+        match ready!(answer) {
+            Some(item) => Poll::Ready(Some(Ok(item))),
+            None => Poll::Ready(None),
+        }
+    }
+}
+
+impl<S: Stream + Clone> Stream for Cycle<S> {
+    type Item = Result<S::Item, AllocError>;
+
+    ghost can_poll = { AllCopies S.can_poll S.is_clone };
+
+    ghost run = { Cycles S.run S.is_clone S.is_infallible };
+
+    ghost registers = { λ m fact. (s : S) × (m.stream ≡ Some s) × S.registers s fact };
+
+    ghost hints = { NoHint };
+
+    ghost laws = { cycle_laws S.is_clone S.is_infallible S.laws };
+
+    fn poll_next(&mut self, cx: &mut Context<'_>) -> Poll<Option<Result<S::Item, AllocError>>> {
+        match &mut self.stream {
+            Some(stream) => match ready!(stream.poll_next(cx)) {
+                Some(item) => Poll::Ready(Some(Ok(item))),
+                None => self.renew(cx),
+            },
+            None => self.renew(cx),
+        }
+    }
+
+    fn size_hint(&self) -> (usize, Option<usize>) {
+        (0, None)
+    }
+}

@@ -1,0 +1,131 @@
+ghost use Rattle.std.specs.Prelude.{◌≡◌, ◌↔◌, IsSome, IsTrue, None, Some};
+ghost use Rattle.lite_base.specs.Ranks.{ranks_of};
+ghost use Rattle.lite_merge.specs.Laws.StopAfterFuture.{stop_laws, stops_relating};
+ghost use Rattle.lite_merge.specs.StopAfterFuture.{Stops};
+ghost use Rattle.lite_merge.specs.Stopping.{CanStop, StopHints, StopRegisters, future_of, stop_parts};
+ghost use Rattle.lite_merge.specs.declared.stop_after_future.Stopping.TheVariants.{Stopped};
+ghost use Rattle.lite_stream.specs.Laws.Through.{through_counting};
+
+use lite_base::{Context, Counted, Future, Poll, Stream, ready};
+use std::mem;
+
+/// What has become of the future.
+#[derive(Debug, Drop)]
+pub(crate) enum Stopping<Fut, T> {
+    Holding(Fut),
+    TakenOut,
+    Stopped(Option<T>),
+}
+
+/// The items of a stream until a future has its value or the stream ends, and then an end for ever.
+///
+/// Made by [`stop_after_future`](crate::make::stop_after_future). Each poll polls the future first, while it is held; where
+/// it has its value the stream is not polled, and an end goes out. At the stream's end the future is dropped. Once the
+/// future was taken out, the stream is passed through for ever. Ported from `src/stream.rs`, `StopAfterFuture`.
+#[derive(Debug, Drop)]
+pub struct StopAfterFuture<S, Fut: Future> {
+    pub(crate) stream: S,
+    pub(crate) future: Stopping<Fut, Fut::Output>,
+}
+
+impl<S, Fut: Future> StopAfterFuture<S, Fut> {
+    ghost use Rattle.lite_merge.specs.Stopping.{IsStopped, result_of, without_future, without_result};
+
+    /// Takes the future out, if it is held. `Some` is the future, and from then on the stream is passed through. `None`
+    /// changes nothing: the stream was stopped, or the future was taken out before. Ported from `src/stream.rs`,
+    /// `StopAfterFuture::take_future`.
+    pub fn take_future(&mut self) -> Option<Fut>
+        ensures taken { result ≡ future_of self.old.future }
+        ensures left { self.new ≡ record self.old { future = without_future self.old.future } }
+    {
+        if !matches!(self.future, Stopping::Holding(_)) {
+            return None;
+        }
+        match mem::replace(&mut self.future, Stopping::TakenOut) {
+            Stopping::Holding(future) => Some(future),
+            _ => unreachable!(),
+        }
+    }
+
+    /// Takes the future's value out, if the future stopped the stream. `None` changes nothing: the stream is not
+    /// stopped, was stopped by its own end, or the value was taken out before. Ported from `src/stream.rs`,
+    /// `StopAfterFuture::take_result`.
+    pub fn take_result(&mut self) -> Option<Fut::Output>
+        ensures taken { result ≡ result_of self.old.future }
+        ensures left { self.new ≡ record self.old { future = without_result self.old.future } }
+    {
+        match &mut self.future {
+            Stopping::Stopped(result) => result.take(),
+            _ => None,
+        }
+    }
+
+    /// Whether the stream was stopped, by the future's value or by its own end. Ported from `src/stream.rs`,
+    /// `StopAfterFuture::is_stopped`.
+    pub fn is_stopped(&self) -> bool
+        ensures { IsTrue result ↔ IsStopped self.now.future }
+    {
+        matches!(self.future, Stopping::Stopped(_))
+    }
+}
+
+impl<S, Fut: Future + Drop> StopAfterFuture<S, Fut> {
+    // Lets the future go that is held, and keeps what it gave.
+    fn stop(&mut self, value: Option<Fut::Output>)
+        requires { IsSome (future_of self.old.future) }
+        ensures { self.new ≡ record self.old { future = Stopped value } }
+    {
+        match mem::replace(&mut self.future, Stopping::Stopped(value)) {
+            Stopping::Holding(_future) => {}
+            _ => unreachable!(),
+        }
+    }
+}
+
+impl<S: Stream, Fut: Future + Drop> Stream for StopAfterFuture<S, Fut> {
+    type Item = S::Item;
+
+    ghost can_poll = { CanStop S.can_poll Fut.can_poll };
+
+    ghost run = { Stops S.run Fut.run };
+
+    ghost registers = { StopRegisters S.registers Fut.registers };
+
+    ghost hints = { StopHints S.hints };
+
+    ghost laws = { stop_laws S.laws Fut.laws };
+
+    fn poll_next(&mut self, cx: &mut Context<'_>) -> Poll<Option<S::Item>> {
+        match &mut self.future {
+            Stopping::Holding(future) => match future.poll(cx) {
+                Poll::Ready(value) => {
+                    self.stop(Some(value));
+                    Poll::Ready(None)
+                }
+                Poll::Pending => match ready!(self.stream.poll_next(cx)) {
+                    Some(item) => Poll::Ready(Some(item)),
+                    None => {
+                        self.stop(None);
+                        Poll::Ready(None)
+                    }
+                },
+            },
+            Stopping::TakenOut => self.stream.poll_next(cx),
+            Stopping::Stopped(_) => Poll::Ready(None),
+        }
+    }
+
+    fn size_hint(&self) -> (usize, Option<usize>) {
+        if self.is_stopped() {
+            return (0, Some(0));
+        }
+        let (_, upper) = self.stream.size_hint();
+        (0, upper)
+    }
+}
+
+impl<S: Counted, Fut: Future + Drop> Counted for StopAfterFuture<S, Fut> {
+    ghost ranks = { ranks_of (λ m. m.stream) S.ranks };
+
+    ghost counting = { through_counting stop_parts S.counting (stops_relating Fut.laws) };
+}

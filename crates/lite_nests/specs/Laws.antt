@@ -1,4 +1,0 @@
-pub mod Each
-pub mod Fronts
-pub mod Items
-pub mod Sources

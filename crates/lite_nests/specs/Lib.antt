@@ -1,3 +1,0 @@
-pub mod Each
-pub mod Fronts
-pub mod Laws

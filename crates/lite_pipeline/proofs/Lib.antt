@@ -1,3 +1,0 @@
-pub mod Collecting
-pub mod Limits
-pub mod Telling

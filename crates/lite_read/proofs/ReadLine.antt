@@ -1,0 +1,118 @@
+-- The steps of `read_line`.
+use Rattle.std.proofs.Common.{inl, inr, ◌≡◌, ◌∙◌, ◌<◌, ◌+◌, ℕ, List, [], ◌∷◌, ◌++◌, Some, None, Result, Ok, Err, length}
+use Rattle.std.proofs.Common.{take, refl, ap, sym, subst, arith, append_assoc}
+use Rattle.std.specs.IoError.{error_kind}
+use Rattle.std.specs.List.{FoldsTo}
+use Rattle.std.specs.Prelude.{⊤, string_bytes}
+use Rattle.std.specs.declared.io.Error.{Error}
+use Rattle.std.specs.declared.io.ErrorKind.TheVariants.{OutOfMemory}
+use Rattle.memchr.specs.Find.{IsFirstByte, is_byte}
+use Rattle.futures.specs.declared.task.Poll.TheVariants.{Ready}
+use Rattle.lite_io_base.specs.Marks.{ReadMark, bytes, filled}
+use Rattle.lite_io_base.specs.Runs.{MarkLaws}
+use Rattle.lite_read.specs.ReadFold.{AnswerMarks}
+use Rattle.lite_read.proofs.Cutting.{concludes_at, concludes_piece, fill_then, found_at, found_none, takes_all}
+use Rattle.lite_read.specs.Pieces.{Cut}
+use Rattle.lite_read.specs.ReadUntil.{CountsPiece}
+use Rattle.lite_read.specs.Holding.{TextStays}
+use Rattle.lite_read.specs.ReadLine.{LineHolds, line_over, read_line_fold}
+use Rattle.lite_read.specs.Texts.{AppendsText, ValueOf}
+use Rattle.lite_read.specs.TextSteps.{AnswersText, TakesTextIn}
+use Rattle.lite_read.specs.declared.read_line.ReadLineFuture.{ReadLineFuture}
+use Rattle.lite_read.proofs.TextSteps.{text_finished}
+use Rattle.lite_base.specs.Runs.{Runs}
+
+-- what reading a line gives, at each of its ends
+pub failed : (held : List ℕ) (e : Error)
+    → AnswerMarks (read_line_fold ⊤) held (ReadMark.fault (error_kind e) ∷ []) (Ready (Err e)) held
+failed held e = concludes_at 10 ⊤ (CountsPiece 10) held _ (Cut.failed e) (Err e) held (inl refl) (refl, refl)
+
+pub refused : (held : List ℕ) (e : Error) → error_kind e ≡ OutOfMemory
+    → AnswerMarks (read_line_fold ⊤) held [] (Ready (Err e)) held
+refused held e is =
+    concludes_at 10 ⊤ (CountsPiece 10) held [] (Cut.failed e) (Err e) held (inr (refl, tt, is)) (refl, refl)
+
+pub ended : (held : List ℕ) (n : ℕ) → n ≡ length held
+    → AnswerMarks (read_line_fold ⊤) held (ReadMark.end ∷ []) (Ready (Ok n)) held
+ended [] n is = concludes_at 10 ⊤ (CountsPiece 10) [] _ Cut.nothing (Ok n) [] (refl, refl) (refl, ap Ok is)
+ended (b ∷ held) n is =
+    let some : 0 < length (b ∷ held) = omega arith in
+    concludes_at 10 ⊤ (CountsPiece 10) (b ∷ held) _ (Cut.last (b ∷ held)) (Ok n) (b ∷ held) (refl, some, refl)
+    (refl, ap Ok is)
+
+cut_off : (held shown all : List ℕ) (k n : ℕ) → IsFirstByte (is_byte 10) shown (Some k)
+    → all ≡ held ++ take (k + 1) shown → n ≡ length all
+    → AnswerMarks (read_line_fold ⊤) held (bytes (take (k + 1) shown)) (Ready (Ok n)) all
+cut_off held shown all k n first is count =
+    let at = found_at 10 shown k first in
+    let whole : all ≡ (held ++ take k shown) ++ 10 ∷ [] = is ∙ ap (λ l. held ++ l) at.2
+    ∙ sym (append_assoc held (take k shown) (10 ∷ [])) in
+    let piece = concludes_piece 10 ⊤ (CountsPiece 10) held (take k shown) (Ok n) all at.1 (whole, ap Ok count) in
+    subst (λ l. AnswerMarks (read_line_fold ⊤) held (bytes l) (Ready (Ok n)) all) (sym at.2) piece
+
+-- the future whose reader was filled
+abbrev pub after_fill : {R A : Type 0} → ReadLineFuture R A → R → ReadLineFuture R A
+after_fill x r = record { reader = record x.reader { now = r }; text = x.text; bytes = x.bytes; ascii = x.ascii }
+
+module _ {R A : Type 0} {reads : Runs ReadMark R} (laws : MarkLaws reads) (x : ReadLineFuture R A) (mid : R) where
+  -- the fill tells how reading ended
+  pub filled_last : (y : ReadLineFuture R A) (marks : List ReadMark) (v r : Result ℕ Error)
+      → y.reader ≡ record x.reader { now = mid }
+      → y.text ≡ record x.text { now = y.text.now }
+      → ValueOf x.bytes.items v r → AppendsText x.bytes.items (string_bytes x.text.now) (string_bytes y.text.now)
+      → y.bytes.items ≡ [] → LineHolds y
+      → AnswerMarks (read_line_fold ⊤) x.bytes.items marks (Ready v) x.bytes.items → reads x.reader.now marks mid
+      → AnswersText line_over (read_line_fold ⊤) reads x (Ready r) y
+  filled_last y marks v r reader after value gains empty holds h came =
+      text_finished line_over (read_line_fold ⊤) reads x (after_fill x mid) y
+      (record { reader = refl; text = refl }) refl marks v r reader after value gains empty holds h came
+
+  module _ (w : ReadLineFuture R A) (shown : List ℕ) (stays : TextStays line_over (after_fill x mid) w)
+      (text : string_bytes w.text.now ≡ string_bytes x.text.now)
+      (fills : reads x.reader.now (filled shown) mid) where
+    from : TextStays line_over x w
+    from = record { reader = stays.reader; text = stays.text }
+
+    module _ (y : ReadLineFuture R A) (v r : Result ℕ Error) (reader : y.reader ≡ w.reader)
+        (after : y.text ≡ record w.text { now = y.text.now })
+        (value : ValueOf w.bytes.items v r)
+        (gains : AppendsText w.bytes.items (string_bytes w.text.now) (string_bytes y.text.now))
+        (empty : y.bytes.items ≡ []) (holds : LineHolds y) where
+      -- the newline was taken
+      pub line_cut : (k : ℕ) → v ≡ Ok (length w.bytes.items) → IsFirstByte (is_byte 10) shown (Some k)
+          → w.bytes.items ≡ x.bytes.items ++ take (k + 1) shown
+          → reads mid (bytes (take (k + 1) shown)) w.reader.now
+          → AnswersText line_over (read_line_fold ⊤) reads x (Ready r) y
+      line_cut k is first more took =
+          let came = fill_then reads laws x.reader.now mid w.reader.now shown (bytes (take (k + 1) shown))
+          (omega (arith, (found_at 10 shown k first).0)) fills took in
+          let h = cut_off x.bytes.items shown w.bytes.items k (length w.bytes.items) first more refl in
+          text_finished line_over (read_line_fold ⊤) reads x w y from text _ v r reader after value gains empty holds
+          (subst (λ u. AnswerMarks (read_line_fold ⊤) x.bytes.items (bytes (take (k + 1) shown)) (Ready u) w.bytes.items)
+          (sym is) h) came
+
+      -- there was no memory
+      pub line_refused : (e : Error) → v ≡ Err e → error_kind e ≡ OutOfMemory → 0 < length shown → w.reader.now ≡ mid
+          → w.bytes.items ≡ x.bytes.items
+          → AnswersText line_over (read_line_fold ⊤) reads x (Ready r) y
+      line_refused e is kind some unread kept =
+          let came = fill_then reads laws x.reader.now mid w.reader.now shown [] some fills
+          (rw unread (laws.rests mid)) in
+          let h = subst (λ u. AnswerMarks (read_line_fold ⊤) x.bytes.items [] (Ready u) x.bytes.items) (sym is)
+          (refused x.bytes.items e kind) in
+          text_finished line_over (read_line_fold ⊤) reads x w y from text [] v r reader after value gains empty holds
+          (subst (λ l. AnswerMarks (read_line_fold ⊤) x.bytes.items [] (Ready v) l) (sym kept) h) came
+
+    -- all was taken in
+    pub line_more : IsFirstByte (is_byte 10) shown None → 0 < length shown → w.bytes.items ≡ x.bytes.items ++ shown
+        → reads mid (bytes shown) w.reader.now → LineHolds w
+        → TakesTextIn line_over (read_line_fold ⊤) reads x w
+    line_more first some more took holds =
+        let all = takes_all 10 ⊤ (CountsPiece 10) x.bytes.items shown (found_none 10 shown first) in
+        record {
+          taken = shown;
+          some = some;
+          came = fill_then reads laws x.reader.now mid w.reader.now shown (bytes shown) some fills took;
+          folds = subst (λ l. FoldsTo (read_line_fold ⊤).takes x.bytes.items shown l) (sym more) all;
+          stays = (from, text, holds);
+        }

@@ -1,0 +1,170 @@
+-- The steps of `read_to_string`.
+use Rattle.std.proofs.Common.{◌≡◌, ◌∙◌, ◌≤◌, ◌<◌, ◌+◌, ◌-◌, ℕ, List, [], ◌∷◌, ◌++◌, length, take, drop, Result, Ok, Err}
+use Rattle.std.proofs.Common.{refl, ap, sym, subst, arith, length-take-le}
+use Rattle.std.proofs.lemmas.List.{take_at}
+use Rattle.std.specs.IoError.{error_kind}
+use Rattle.std.specs.List.{FoldsTo}
+use Rattle.std.specs.Prelude.{⊤, string_bytes}
+use Rattle.std.specs.Vec.{with_items}
+use Rattle.std.specs.declared.io.Error.{Error}
+use Rattle.std.specs.declared.io.ErrorKind.TheVariants.{OutOfMemory}
+use Rattle.std.specs.declared.vec.Vec.{Vec}
+use denote.MutBor.{MutBor}
+use borrow.Rule.Slice.PartMut.{mid_len, put_mid, same_len_mid}
+use Rattle.futures.specs.declared.task.Poll.TheVariants.{Ready, Pending}
+use Rattle.lite_io_base.specs.Marks.{ReadMark, bytes, moved}
+use Rattle.lite_read.proofs.Filling.{front, front_kept, moved_some}
+use Rattle.lite_read.specs.ReadFold.{AnswerMarks}
+use Rattle.lite_read.specs.Laws.ReadToEnd.{appends_all}
+use Rattle.lite_read.specs.Holding.{TextStays}
+use Rattle.lite_read.specs.ReadToString.{StringHolds, all_over, read_to_string_fold, text_front}
+use Rattle.lite_read.specs.Texts.{AppendsText, ValueOf}
+use Rattle.lite_read.specs.TextSteps.{AnswersText, TakesTextIn}
+use Rattle.lite_read.proofs.TextSteps.{text_finished, text_waits}
+use Rattle.lite_read.specs.declared.read_to_string.ReadToStringFuture.{ReadToStringFuture}
+use Rattle.lite_base.specs.Laws.Segments.{segment_alone}
+use Rattle.lite_base.specs.Runs.{Runs}
+
+-- what reading up to an end gives
+pub failed : (g : List ℕ) (e : Error)
+    → AnswerMarks (read_to_string_fold ⊤) g (ReadMark.fault (error_kind e) ∷ []) (Ready (Err e)) g
+failed g e = segment_alone g g (ReadMark.fault (error_kind e) ∷ []) (Ready (Err e)) (refl, refl)
+
+pub refused : (g : List ℕ) (e : Error) → error_kind e ≡ OutOfMemory
+    → AnswerMarks (read_to_string_fold ⊤) g [] (Ready (Err e)) g
+refused g e is = segment_alone g g [] (Ready (Err e)) ((tt, is), refl)
+
+pub ended : (g : List ℕ) (n : ℕ) → length g ≡ n → AnswerMarks (read_to_string_fold ⊤) g (ReadMark.end ∷ []) (Ready (Ok n)) g
+ended g n is = segment_alone g g (ReadMark.end ∷ []) (Ready (Ok n)) (omega (arith, is), refl)
+
+-- a vector after a write over all of it
+with_all : {A : Type 0} (v : Vec ℕ A) (ws : List ℕ) → length ws ≡ length v.items → (with_items v ws).items ≡ ws
+with_all v ws same = take_at ws (drop (length ws) v.items) v.len (same ∙ sym v.ok.0)
+
+-- the future that read n bytes into the room
+abbrev pub after_read : {R A : Type 0} → ReadToStringFuture R A → R → List ℕ → ℕ → ℕ → ReadToStringFuture R A
+after_read w r items n room =
+    record {
+      reader = record w.reader { now = r };
+      text = w.text;
+      bytes = with_items w.bytes items;
+      filled = w.filled + n;
+      room = room;
+    }
+
+module _ {R A : Type 0} (reads : Runs ReadMark R) where
+  pub read_some : (x w : ReadToStringFuture R A) (r : R) (old new : List ℕ) (n room : ℕ) → w.reader ≡ x.reader
+      → TextStays all_over x w
+      → string_bytes w.text.now ≡ string_bytes x.text.now → text_front w ≡ text_front x → StringHolds w
+      → old ≡ w.bytes.items
+      → length new ≡ length old - w.filled → n ≤ length new → 0 < n → reads w.reader.now (moved new (take n new)) r
+      → TakesTextIn all_over (read_to_string_fold ⊤) reads x
+      (after_read w r (put_mid w.filled (length old - w.filled) old new) n room)
+  read_some x w r old new n room reader stays text front_is holds is long most some came =
+      let at = w.filled in
+      let put = put_mid at (length old - at) old new in
+      let v = with_items w.bytes put in
+      let inside : at ≤ length old = omega (arith, holds.within, ap length is) in
+      let got : length (take n new) ≡ n = length-take-le n new most in
+      let any : 0 < length (take n new) = omega (arith, got, some) in
+      let read : reads w.reader.now (bytes (take n new)) r =
+      subst (λ l. reads w.reader.now l r) (moved_some new (take n new) any) came in
+      let kept : length put ≡ length old =
+      same_len_mid at (length old - at) old new (long ∙ sym (mid_len at (length old) old (omega arith))) in
+      let all : v.items ≡ put = with_all w.bytes put (kept ∙ ap length is) in
+      let ahead : take (at + n) v.items ≡ take at old ++ take n new = ap (take (at + n)) all
+      ∙ front at (length old - at) n old new inside most in
+      let whole : length v.items ≡ length old = ap length all ∙ kept in
+      let more : take (at + n) v.items ≡ text_front x ++ take n new = ahead
+      ∙ ap (λ l. l ++ take n new) (ap (take at) is ∙ front_is) in
+      record {
+        taken = take n new;
+        some = any;
+        came = subst (λ (b : MutBor R). reads b.now (bytes (take n new)) r) reader read;
+        folds = subst (λ l. FoldsTo (read_to_string_fold ⊤).takes (text_front x) (take n new) l) (sym more)
+            (appends_all ⊤ 0 (text_front x) (take n new));
+        stays = (
+          record { reader = ap (λ (b : MutBor R). record b { now = r }) reader; text = stays.text },
+          text,
+          record { fits = holds.fits; within = omega (arith, whole, long, most, inside) },
+        );
+      }
+
+-- the future whose reader wrote into the room
+abbrev pub after_write : {R A : Type 0} → ReadToStringFuture R A → R → List ℕ → ReadToStringFuture R A
+after_write w r items =
+    record {
+      reader = record w.reader { now = r };
+      text = w.text;
+      bytes = with_items w.bytes items;
+      filled = w.filled;
+      room = w.room;
+    }
+
+module _ {R A : Type 0} (reads : Runs ReadMark R) (x w y : ReadToStringFuture R A) (stays : TextStays all_over x w)
+    (text : string_bytes w.text.now ≡ string_bytes x.text.now)
+    (front_is : text_front w ≡ text_front x) where
+  -- what was read goes into the text
+  pub finished : (marks : List ReadMark) (v r : Result ℕ Error) → y.reader ≡ w.reader
+      → y.text ≡ record w.text { now = y.text.now } → ValueOf (text_front w) v r
+      → AppendsText (text_front w) (string_bytes w.text.now) (string_bytes y.text.now) → text_front y ≡ []
+      → StringHolds y
+      → AnswerMarks (read_to_string_fold ⊤) (text_front w) marks (Ready v) (text_front w)
+      → reads x.reader.now marks w.reader.now → AnswersText all_over (read_to_string_fold ⊤) reads x (Ready r) y
+  finished marks v r reader after value gains empty holds h came =
+      text_finished all_over
+      (read_to_string_fold ⊤) reads x w y stays text marks v r reader after value gains empty holds
+      (subst (λ l. AnswerMarks (read_to_string_fold ⊤) l marks (Ready v) (text_front w)) front_is h) came
+
+module _ {R A : Type 0} (reads : Runs ReadMark R) (x w : ReadToStringFuture R A) (r : R) (old new : List ℕ)
+    (reader : w.reader ≡ x.reader) (stays : TextStays all_over x w)
+    (front_is : text_front w ≡ text_front x) (holds : StringHolds w) (is : old ≡ w.bytes.items)
+    (long : length new ≡ length old - w.filled) where
+  abbrev wrote : ReadToStringFuture R A
+  wrote = after_write w r (put_mid w.filled (length old - w.filled) old new)
+
+  wrote_stays : TextStays all_over x wrote
+  wrote_stays = record { reader = ap (λ (b : MutBor R). record b { now = r }) reader; text = stays.text }
+
+  inside : w.filled ≤ length old
+  inside = omega (arith, holds.within, ap length is)
+
+  put_long : length (put_mid w.filled (length old - w.filled) old new) ≡ length old
+  put_long =
+      same_len_mid w.filled (length old - w.filled) old new
+      (long ∙ sym (mid_len w.filled (length old) old (omega (arith, inside))))
+
+  wrote_items : wrote.bytes.items ≡ put_mid w.filled (length old - w.filled) old new
+  wrote_items =
+      with_all w.bytes (put_mid w.filled (length old - w.filled) old new) (put_long ∙ ap length is)
+
+  -- what stands before the room is as it was
+  wrote_front : text_front wrote ≡ text_front x
+  wrote_front =
+      ap (take w.filled) wrote_items ∙ front_kept w.filled (length old - w.filled) old new inside
+      ∙ ap (take w.filled) is ∙ front_is
+
+  -- the reader was pending
+  pub waited : string_bytes w.text.now ≡ string_bytes x.text.now → reads w.reader.now (ReadMark.pending ∷ []) r
+      → AnswersText all_over (read_to_string_fold ⊤) reads x Pending wrote
+  waited text came = (
+    text_waits all_over (read_to_string_fold ⊤) reads x wrote wrote_stays wrote_front text tt
+        (subst (λ (b : MutBor R). reads b.now (ReadMark.pending ∷ []) r) reader came),
+    record { fits = holds.fits; within = omega (arith, inside, ap length wrote_items, put_long) },
+  )
+
+  -- the reader answered, and what was read goes into the text
+  pub answered : (y : ReadToStringFuture R A) (marks : List ReadMark) (v res : Result ℕ Error)
+      → string_bytes w.text.now ≡ string_bytes x.text.now
+      → y.reader ≡ wrote.reader → y.text ≡ record w.text { now = y.text.now } → ValueOf (text_front wrote) v res
+      → AppendsText (text_front wrote) (string_bytes w.text.now) (string_bytes y.text.now) → text_front y ≡ []
+      → StringHolds y
+      → AnswerMarks (read_to_string_fold ⊤) (text_front wrote) marks (Ready v) (text_front wrote)
+      → reads w.reader.now marks r → AnswersText all_over (read_to_string_fold ⊤) reads x (Ready res) y
+  answered y marks v res text end after value gains empty held h came =
+      finished reads x wrote y wrote_stays text wrote_front marks v res end after value gains empty held h
+      (subst (λ (b : MutBor R). reads b.now marks r) reader came)
+
+  pub wrote_long : length (text_front wrote) ≡ w.filled
+  wrote_long =
+      ap length (wrote_front ∙ sym front_is) ∙ length-take-le w.filled w.bytes.items holds.within

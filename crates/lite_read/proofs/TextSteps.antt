@@ -1,0 +1,82 @@
+-- Answers of futures that read for a text.
+use Rattle.std.proofs.Common.{◌≡◌, ℕ, List, [], ◌∷◌, Result, refl, subst, sym}
+use Rattle.std.specs.Prelude.{string_bytes}
+use Rattle.std.specs.declared.io.Error.{Error}
+use denote.MutBor.{MutBor}
+use Rattle.futures.specs.declared.task.Poll.{Poll}
+use Rattle.futures.specs.declared.task.Poll.TheVariants.{Ready, Pending}
+use Rattle.lite_io_base.specs.Marks.{ReadMark}
+use Rattle.lite_read.specs.ReadFold.{AnswerMarks, ReadFold}
+use Rattle.lite_read.specs.Holding.{TextOver, TextStays}
+use Rattle.lite_read.specs.Laws.Texts.{folds_in, stays_join}
+use Rattle.lite_read.specs.Texts.{AppendsText, ReadsText, ValueOf, in_text, reading}
+use Rattle.lite_read.specs.TextSteps.{AnswersText}
+use Rattle.lite_base.specs.Laws.Segments.{segment_alone, to_value_one}
+use Rattle.lite_base.specs.Runs.{Runs}
+
+module _ {X R A : Type 0} (over : TextOver X R A) (fold : ReadFold (List ℕ) (Result ℕ Error)) (reads : Runs ReadMark R)
+    (x y : X) (stays : TextStays over x y) where
+  one : (marks : List ReadMark) (a : Poll (Result ℕ Error)) → reads (over.reader x).now marks (over.reader y).now
+      → AnswerMarks (in_text fold) (reading over x) marks a (reading over y)
+      → ReadsText over fold reads x (a ∷ []) y
+  one marks a came answer =
+      record {
+        folded = record {
+          marks = marks;
+          came = came;
+          folded = to_value_one (AnswerMarks (in_text fold)) (reading over x) (reading over y) marks a answer;
+        };
+        stays = stays;
+        idle = λ e. absurd (cc e);
+      }
+
+  pub text_waits : over.read y ≡ over.read x → string_bytes (over.text y).now ≡ string_bytes (over.text x).now
+      → fold.asks (over.read x)
+      → reads (over.reader x).now (ReadMark.pending ∷ []) (over.reader y).now
+      → ReadsText over fold reads x (Pending ∷ []) y
+  text_waits read text asks came =
+      let same : reading over y ≡ reading over x = cc (read, text) in
+      one (ReadMark.pending ∷ []) Pending came
+      (segment_alone (reading over x) (reading over y) (ReadMark.pending ∷ []) Pending (refl, asks, same))
+
+  -- reading the bytes gives a value, and they go into the text
+  pub text_given : (marks : List ReadMark) (v r : Result ℕ Error) (all : List ℕ)
+      → AnswerMarks fold (over.read x) marks (Ready v) all → ValueOf all v r
+      → AppendsText all (string_bytes (over.text x).now) (string_bytes (over.text y).now) → over.read y ≡ []
+      → reads (over.reader x).now marks (over.reader y).now
+      → ReadsText over fold reads x (Ready r ∷ []) y
+  text_given marks v r all h value gains empty came =
+      let text = string_bytes (over.text x).now in
+      one marks (Ready r) came (record {
+        taken = h.taken;
+        last = h.last;
+        cut = h.cut;
+        between = record { read = h.between; text = text };
+        folds = folds_in fold text (over.read x) h.between h.taken h.folds;
+        given = (v, all, h.given, value, gains, empty);
+      })
+
+kept_ref : {S : Type 0} (a b : MutBor S) → b ≡ a → b ≡ record a { now = b.now }
+kept_ref a b e = rw e refl
+
+module _ {X R A : Type 0} (over : TextOver X R A) (fold : ReadFold (List ℕ) (Result ℕ Error)) (reads : Runs ReadMark R)
+    (x w y : X) (stays : TextStays over x w)
+    (text : string_bytes (over.text w).now ≡ string_bytes (over.text x).now) where
+  -- more was read, and then it goes into the text
+  pub text_finished : (marks : List ReadMark) (v r : Result ℕ Error) → over.reader y ≡ over.reader w
+      → over.text y ≡ record (over.text w) { now = (over.text y).now }
+      → ValueOf (over.read w) v r
+      → AppendsText (over.read w) (string_bytes (over.text w).now) (string_bytes (over.text y).now) → over.read y ≡ []
+      → over.holds y
+      → AnswerMarks fold (over.read x) marks (Ready v) (over.read w) → reads (over.reader x).now marks (over.reader w).now
+      → AnswersText over fold reads x (Ready r) y
+  text_finished marks v r reader after value gains empty holds h came =
+      let end : reads (over.reader x).now marks (over.reader y).now =
+      subst (λ (b : MutBor R). reads (over.reader x).now marks b.now) (sym reader) came in
+      let all = stays_join over x w y stays (record {
+        reader = kept_ref (over.reader w) (over.reader y) reader;
+        text = after;
+      }) in
+      let into : AppendsText (over.read w) (string_bytes (over.text x).now) (string_bytes (over.text y).now) =
+      subst (λ l. AppendsText (over.read w) l (string_bytes (over.text y).now)) text gains in
+      (text_given over fold reads x y all marks v r (over.read w) h value into empty end, holds)

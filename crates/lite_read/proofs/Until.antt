@@ -1,0 +1,149 @@
+-- The steps of `read_until`.
+use Rattle.std.proofs.Common.{◌≡◌, ◌∙◌, ◌<◌, ◌≤◌, ◌+◌, ◌-◌, inl, inr, ℕ, List, [], ◌∷◌, ◌++◌, Some, None, Result, Ok}
+use Rattle.std.proofs.Common.{Err, length, take, drop, refl, ap, sym, subst, arith, append-nil, append_assoc}
+use Rattle.std.proofs.Common.{length-append}
+use Rattle.std.proofs.lemmas.List.{drop-append-le, length-drop, take-append-le}
+use Rattle.std.specs.IoError.{error_kind}
+use Rattle.std.specs.Prelude.{⊤}
+use Rattle.std.specs.declared.io.Error.{Error}
+use Rattle.std.specs.declared.io.ErrorKind.TheVariants.{OutOfMemory}
+use Rattle.futures.specs.declared.task.Poll.{Poll}
+use Rattle.futures.specs.declared.task.Poll.TheVariants.{Ready, Pending}
+use Rattle.memchr.specs.Find.{IsFirstByte, is_byte}
+use Rattle.lite_io_base.specs.Marks.{ReadMark, bytes, filled}
+use Rattle.lite_io_base.specs.Runs.{MarkLaws}
+use Rattle.lite_read.specs.ReadFold.{AnswerMarks}
+use Rattle.lite_read.specs.Pieces.{Cut}
+use Rattle.lite_read.specs.UntilVector.{UntilStays, read_of}
+use Rattle.lite_read.specs.ReadUntil.{CountsPiece, ReadsUntil, until}
+use Rattle.lite_read.specs.PieceSteps.{AppendsMore}
+use Rattle.lite_read.specs.declared.read_until.ReadUntilFuture.{ReadUntilFuture}
+use Rattle.lite_read.proofs.Cutting.{concludes_at, concludes_piece, fill_then, found_at, found_none, takes_all}
+use Rattle.lite_read.proofs.Cutting.{waits_here}
+use Rattle.lite_base.specs.Laws.Segments.{to_value_one}
+use Rattle.lite_base.specs.Runs.{Runs}
+
+module _ {R : Type 0} (reads : Runs ReadMark R) (laws : MarkLaws reads) (x y : ReadUntilFuture R)
+    (reader : y.reader ≡ record x.reader { now = y.reader.now })
+    (buf : y.buf ≡ record x.buf { now = y.buf.now }) (byte : y.byte ≡ x.byte) (start : y.start ≡ x.start)
+    (within : x.start ≤ length x.buf.now.items) where
+  -- some bytes were appended
+  stays_grown : (xs : List ℕ) → y.buf.now.items ≡ x.buf.now.items ++ xs → UntilStays x y
+  stays_grown xs e =
+      record {
+        reader = reader;
+        buf = buf;
+        byte = byte;
+        start = start;
+        before = ap (take x.start) e ∙ take-append-le x.start x.buf.now.items xs within;
+        grows = omega (arith, ap length e, length-append x.buf.now.items xs);
+      }
+
+  read_grown : (xs : List ℕ) → y.buf.now.items ≡ x.buf.now.items ++ xs → read_of y ≡ read_of x ++ xs
+  read_grown xs e =
+      ap (λ n. drop n y.buf.now.items) start ∙ ap (drop x.start) e ∙ drop-append-le x.start x.buf.now.items xs within
+
+  one : (xs : List ℕ) (marks : List ReadMark) (a : Poll (Result ℕ Error)) → y.buf.now.items ≡ x.buf.now.items ++ xs
+      → reads x.reader.now marks y.reader.now
+      → AnswerMarks (until x.byte ⊤) (read_of x) marks a (read_of x ++ xs) → ReadsUntil reads ⊤ x (a ∷ []) y
+  one xs marks a e came answer =
+      record {
+        folded = record {
+          marks = marks;
+          came = came;
+          folded = to_value_one (AnswerMarks (until x.byte ⊤)) (read_of x) (read_of y) marks a
+              (subst (AnswerMarks (until x.byte ⊤) (read_of x) marks a) (sym (read_grown xs e)) answer);
+        };
+        stays = stays_grown xs e;
+        idle = λ d. absurd (cc d);
+      }
+
+  module _ (same : y.buf.now.items ≡ x.buf.now.items) where
+    none_more : y.buf.now.items ≡ x.buf.now.items ++ []
+    none_more = same ∙ sym (append-nil x.buf.now.items)
+
+    -- a cut that adds nothing
+    cut_here : (last : List ReadMark) (a : Result ℕ Error) → reads x.reader.now last y.reader.now
+        → ((after : List ℕ) → after ≡ read_of x → AnswerMarks (until x.byte ⊤) (read_of x) last (Ready a) after)
+        → ReadsUntil reads ⊤ x (Ready a ∷ []) y
+    cut_here last a came answer =
+        one [] last (Ready a) none_more came (answer (read_of x ++ []) (append-nil (read_of x)))
+
+    pub until_waits : reads x.reader.now (ReadMark.pending ∷ []) y.reader.now → ReadsUntil reads ⊤ x (Pending ∷ []) y
+    until_waits came =
+        one [] (ReadMark.pending ∷ []) Pending none_more came
+        (waits_here x.byte ⊤ (CountsPiece x.byte) (read_of x) (read_of x ++ []) (append-nil (read_of x)))
+
+    pub until_fails : (e : Error) → reads x.reader.now (ReadMark.fault (error_kind e) ∷ []) y.reader.now
+        → ReadsUntil reads ⊤ x (Ready (Err e) ∷ []) y
+    until_fails e came =
+        cut_here _ (Err e) came
+        (λ after is. concludes_at x.byte ⊤ (CountsPiece x.byte) (read_of x) _ (Cut.failed e) (Err e) after (inl refl)
+        (is, refl))
+
+    pub until_refused : (e : Error) (mid : R) (shown : List ℕ) → reads x.reader.now (filled shown) mid
+        → 0 < length shown → error_kind e ≡ OutOfMemory → y.reader.now ≡ mid
+        → ReadsUntil reads ⊤ x (Ready (Err e) ∷ []) y
+    until_refused e mid shown fills some is unread =
+        let came = fill_then reads laws x.reader.now mid y.reader.now shown [] some fills
+        (rw unread (laws.rests mid)) in
+        cut_here [] (Err e) came
+        (λ after same. concludes_at x.byte ⊤ (CountsPiece x.byte) (read_of x) [] (Cut.failed e) (Err e) after
+        (inr (refl, tt, is)) (same, refl))
+
+    ends_by : (held : List ℕ) (n : ℕ) (after : List ℕ) → after ≡ held → n ≡ length held
+        → AnswerMarks (until x.byte ⊤) held (ReadMark.end ∷ []) (Ready (Ok n)) after
+    ends_by [] n after is count =
+        concludes_at x.byte ⊤ (CountsPiece x.byte) [] _ Cut.nothing (Ok n) after (refl, refl)
+        (is, ap Ok (count ∙ ap length (sym is)))
+    ends_by (b ∷ held) n after is count =
+        let some : 0 < length (b ∷ held) = omega arith in
+        concludes_at x.byte ⊤ (CountsPiece x.byte) (b ∷ held) _ (Cut.last (b ∷ held)) (Ok n) after (refl, some, refl)
+        (is, ap Ok (count ∙ ap length (sym is)))
+
+    pub until_ends : (n : ℕ) → n ≡ length x.buf.now.items - x.start
+        → reads x.reader.now (ReadMark.end ∷ []) y.reader.now → ReadsUntil reads ⊤ x (Ready (Ok n) ∷ []) y
+    until_ends n count came =
+        cut_here _ (Ok n) came
+        (λ after is. ends_by (read_of x) n after is (count ∙ sym (length-drop x.start x.buf.now.items)))
+
+  module _ (mid : R) (shown : List ℕ) (fills : reads x.reader.now (filled shown) mid) where
+    pub until_found : (k n : ℕ) → IsFirstByte (is_byte x.byte) shown (Some k)
+        → y.buf.now.items ≡ x.buf.now.items ++ take (k + 1) shown
+        → reads mid (bytes (take (k + 1) shown)) y.reader.now → n ≡ length y.buf.now.items - x.start
+        → ReadsUntil reads ⊤ x (Ready (Ok n) ∷ []) y
+    until_found k n first is took count =
+        let at = found_at x.byte shown k first in
+        let all = take (k + 1) shown in
+        let came = fill_then reads laws x.reader.now mid y.reader.now shown (bytes all)
+        (omega (arith, at.0)) fills took in
+        let whole : read_of x ++ all ≡ (read_of x ++ take k shown) ++ x.byte ∷ [] = ap (λ l. read_of x ++ l) at.2
+        ∙ sym (append_assoc (read_of x) (take k shown) (x.byte ∷ [])) in
+        let long : n ≡ length (read_of x ++ all) =
+        omega (
+          arith,
+          count,
+          ap length is,
+          length-append x.buf.now.items all,
+          length-append (read_of x) all,
+          length-drop x.start x.buf.now.items,
+          within,
+        ) in
+        let piece = concludes_piece x.byte ⊤ (CountsPiece x.byte) (read_of x) (take k shown) (Ok n)
+        (read_of x ++ all) at.1 (whole, ap Ok long) in
+        one all (bytes all) _ is came
+        (subst (λ l. AnswerMarks (until x.byte ⊤) (read_of x) (bytes l) (Ready (Ok n)) (read_of x ++ all))
+        (sym at.2) piece)
+
+    pub until_more : IsFirstByte (is_byte x.byte) shown None → 0 < length shown
+        → y.buf.now.items ≡ x.buf.now.items ++ shown → reads mid (bytes shown) y.reader.now
+        → AppendsMore reads ⊤ x y
+    until_more first some is took =
+        let all = takes_all x.byte ⊤ (CountsPiece x.byte) (read_of x) shown (found_none x.byte shown first) in
+        record {
+          taken = shown;
+          some = some;
+          came = fill_then reads laws x.reader.now mid y.reader.now shown (bytes shown) some fills took;
+          folds = rw (read_grown shown is) all;
+          stays = stays_grown shown is;
+        }

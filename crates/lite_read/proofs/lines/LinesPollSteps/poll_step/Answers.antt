@@ -1,0 +1,77 @@
+use Rattle.std.proofs.Common.{◌≡◌, ◌<◌, [], Some, None, Ok, Err, length, refl, rules}
+use Rattle.std.proofs.lemmas.Grind.{common_steps}
+use Rattle.futures.specs.declared.task.Poll.TheVariants.{Ready, Pending}
+use Rattle.lite_read.specs.Lines.{lines_over}
+use Rattle.lite_read.specs.LineText.{IsText, without_return}
+use Rattle.lite_read.proofs.Items.{item_at_end, item_cut, item_fails, item_more, item_refused, item_waits}
+use Rattle.lite_read.proofs.lines.LinesPollSteps.poll_step.Goals as goal
+
+pub returns-in-Pending-clause-stepped : goal.returns-in-Pending-clause-stepped
+returns-in-Pending-clause-stepped g c =
+    let is : c.find_line.result ≡ Pending = search rules in
+    item_waits lines_over (λ k. 10)
+    (λ xs. IsText (without_return xs)) IsText g.R.Tale.reads g.R.Tale.read_laws _ _ refl refl
+    (rw is at c.find_line.ensures.ran)
+
+pub returns-in-Ready-Err-clause-stepped : goal.returns-in-Ready-Err-clause-stepped
+returns-in-Ready-Err-clause-stepped g c =
+    let is : c.find_line.result ≡ Ready (Err c.in-Ready-Err.e) = search rules in
+    item_fails lines_over (λ k. 10)
+    (λ xs. IsText (without_return xs)) IsText g.R.Tale.reads g.R.Tale.read_laws _ _ refl refl c.in-Ready-Err.e
+    (rw is at c.find_line.ensures.ran)
+
+pub returns-in-Ok-clause-stepped : goal.returns-in-Ok-clause-stepped
+returns-in-Ok-clause-stepped g c =
+    let at = c.in-Ready-Ok-Some-default.at in
+    let is : c.find_line.result ≡ Ready (Ok (Some at, c.in-Ready-Ok-Some-default.ascii)) = search rules in
+    let shown = g.R.AsyncBufRead.lent c.find_line.new.reader in
+    let e = c.in-Ok.ensures in
+    item_cut lines_over (λ k. 10)
+    (λ xs. IsText
+    (without_return xs)) IsText g.R.Tale.reads g.R.Tale.read_laws _ _ refl c.whole.ensures.empty _ shown
+    at c.whole.result
+    (rw is at c.find_line.ensures.ran) (rw is at c.find_line.ensures.found) (rw e.ok at c.whole.ensures.text) e.taken
+
+pub returns-in-Err-clause-stepped : goal.returns-in-Err-clause-stepped
+returns-in-Err-clause-stepped g c =
+    let at = c.in-Ready-Ok-Some-default.at in
+    let is : c.find_line.result ≡ Ready (Ok (Some at, c.in-Ready-Ok-Some-default.ascii)) = search rules in
+    let shown = g.R.AsyncBufRead.lent c.find_line.new.reader in
+    let some : 0 < length shown = search (rules, common_steps) in
+    let e = c.in-Err.ensures in
+    item_refused lines_over (λ k. 10)
+    (λ xs. IsText (without_return xs)) IsText g.R.Tale.reads g.R.Tale.read_laws _ _ refl e.held c.in-Err.e _ shown
+    (rw is at c.find_line.ensures.ran) some e.refused e.unread
+
+pub returns-then-is_empty-clause-stepped : goal.returns-then-is_empty-clause-stepped
+returns-then-is_empty-clause-stepped g c =
+    let is : c.find_line.result ≡ Ready (Ok (None, c.in-Ready-Ok-None-default.ascii)) = search rules in
+    let shown = g.R.AsyncBufRead.lent c.find_line.new.reader in
+    let none : shown ≡ [] = search (rules, common_steps) in
+    item_at_end lines_over (λ k. 10)
+    (λ xs. IsText
+    (without_return xs)) IsText g.R.Tale.reads g.R.Tale.read_laws _ _ refl c.last.ensures.empty c.last.result
+    c.last.ensures.text
+    (rw (is, none) at c.find_line.ensures.ran)
+
+pub returns-in-Ok-take_in-clause-stepped : goal.returns-in-Ok-take_in-clause-stepped
+returns-in-Ok-take_in-clause-stepped g c =
+    let is : c.find_line.result ≡ Ready (Ok (None, c.in-Ready-Ok-None-default.ascii)) = search rules in
+    let shown = g.R.AsyncBufRead.lent c.find_line.new.reader in
+    let some : 0 < length shown = search (rules, common_steps) in
+    let e = c.in-Ok-take_in.ensures in
+    item_more lines_over (λ k. 10)
+    (λ xs. IsText (without_return xs)) IsText g.R.Tale.reads g.R.Tale.read_laws _ _ refl _ shown
+    (rw is at c.find_line.ensures.ran)
+    (rw is at c.find_line.ensures.found) some e.ok e.taken
+
+pub returns-in-Err-take_in-clause-stepped : goal.returns-in-Err-take_in-clause-stepped
+returns-in-Err-take_in-clause-stepped g c =
+    let is : c.find_line.result ≡ Ready (Ok (None, c.in-Ready-Ok-None-default.ascii)) = search rules in
+    let shown = g.R.AsyncBufRead.lent c.find_line.new.reader in
+    let some : 0 < length shown = search (rules, common_steps) in
+    let e = c.in-Err-take_in.ensures in
+    item_refused lines_over (λ k. 10)
+    (λ xs. IsText
+    (without_return xs)) IsText g.R.Tale.reads g.R.Tale.read_laws _ _ refl e.held c.in-Err-take_in.e _ shown
+    (rw is at c.find_line.ensures.ran) some e.refused e.unread

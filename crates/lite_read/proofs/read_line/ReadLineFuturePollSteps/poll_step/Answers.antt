@@ -1,0 +1,84 @@
+use Rattle.std.proofs.Common.{◌≡◌, ◌∙◌, ◌<◌, [], Some, None, Ok, Err, length, take, refl, rules, ap}
+use Rattle.std.proofs.lemmas.Grind.{common_steps}
+use Rattle.futures.specs.declared.task.Poll.TheVariants.{Ready}
+use Rattle.lite_read.proofs.Cutting.{take_whole}
+use Rattle.lite_read.proofs.ReadLine.{ended, failed, filled_last, line_cut, line_more, line_refused}
+use Rattle.lite_read.proofs.TextSteps.{text_waits}
+use Rattle.lite_read.specs.ReadLine.{line_over, read_line_fold}
+use Rattle.std.specs.Prelude.{⊤}
+use Rattle.lite_read.proofs.read_line.ReadLineFuturePollSteps.poll_step.Goals as goal
+
+pub returns-in-Ready-Err-clause-stepped : goal.returns-in-Ready-Err-clause-stepped
+returns-in-Ready-Err-clause-stepped g c =
+    let x = c.args.self.now in
+    let is : c.find_line.result ≡ Ready (Err c.in-Ready-Err.e) = search rules in
+    let f = c.finish-in-Ready-Err.ensures in
+    filled_last g.R.Tale.read_laws x c.find_line.new.reader c.finish-in-Ready-Err.new.self _ _
+    c.finish-in-Ready-Err.result f.reader f.text f.value f.gains f.empty f.held
+    (failed x.bytes.items c.in-Ready-Err.e) (rw is at c.find_line.ensures.ran)
+
+pub returns-then-amount-eq0-clause-stepped : goal.returns-then-amount-eq0-clause-stepped
+returns-then-amount-eq0-clause-stepped g c =
+    let x = c.args.self.now in
+    let is : c.find_line.result ≡ Ready (Ok (None, c.in-Ready-Ok-None-default.ascii)) = search rules in
+    let shown = g.R.AsyncBufRead.lent c.find_line.new.reader in
+    let none : shown ≡ [] = search (rules, common_steps) in
+    let f = c.whole-then-amount-eq0.ensures in
+    filled_last g.R.Tale.read_laws x c.find_line.new.reader c.whole-then-amount-eq0.new.self _ _
+    c.whole-then-amount-eq0.result f.reader f.text f.value f.gains f.empty f.held
+    (ended x.bytes.items _ refl) (rw (is, none) at c.find_line.ensures.ran)
+
+pub returns-in-Ok-clause-stepped : goal.returns-in-Ok-clause-stepped
+returns-in-Ok-clause-stepped g c =
+    let at = c.in-Ready-Ok-Some-default.at in
+    let is : c.find_line.result ≡ Ready (Ok (Some at, c.in-Ready-Ok-Some-default.ascii)) = search rules in
+    let shown = g.R.AsyncBufRead.lent c.find_line.new.reader in
+    let e = c.in-Ok.ensures in
+    let f = c.whole.ensures in
+    line_cut g.R.Tale.read_laws c.args.self.now c.find_line.new.reader c.take_in.new.self shown e.stays e.text
+    (rw is at c.find_line.ensures.ran)
+    c.whole.new.self _ c.whole.result f.reader f.text f.value f.gains f.empty f.held at refl
+    (rw is at c.find_line.ensures.found) e.ok e.taken
+
+pub returns-in-Err-clause-stepped : goal.returns-in-Err-clause-stepped
+returns-in-Err-clause-stepped g c =
+    let at = c.in-Ready-Ok-Some-default.at in
+    let is : c.find_line.result ≡ Ready (Ok (Some at, c.in-Ready-Ok-Some-default.ascii)) = search rules in
+    let shown = g.R.AsyncBufRead.lent c.find_line.new.reader in
+    let some : 0 < length shown = search (rules, common_steps) in
+    let e = c.in-Err.ensures in
+    let f = c.finish.ensures in
+    line_refused g.R.Tale.read_laws c.args.self.now c.find_line.new.reader c.take_in.new.self shown e.stays e.text
+    (rw is at c.find_line.ensures.ran)
+    c.finish.new.self _ c.finish.result f.reader f.text f.value f.gains f.empty f.held c.in-Err.e refl e.refused some
+    e.unread e.kept
+
+pub returns-in-Ok-take_in-clause-stepped : goal.returns-in-Ok-take_in-clause-stepped
+returns-in-Ok-take_in-clause-stepped g c =
+    let is : c.find_line.result ≡ Ready (Ok (None, c.in-Ready-Ok-None-default.ascii)) = search rules in
+    let shown = g.R.AsyncBufRead.lent c.find_line.new.reader in
+    let some : 0 < length shown = search (rules, common_steps) in
+    let e = c.in-Ok-take_in.ensures in
+    let all = ap (λ n. take n shown) c.lent_by-amount.ensures ∙ take_whole shown in
+    line_more g.R.Tale.read_laws c.args.self.now c.find_line.new.reader c.take_in-in-Ready-Ok-None-default.new.self
+    shown e.stays e.text (rw is at c.find_line.ensures.ran)
+    (rw is at c.find_line.ensures.found) some (rw all at e.ok) (rw all at e.taken) e.held
+
+pub returns-in-Err-take_in-clause-stepped : goal.returns-in-Err-take_in-clause-stepped
+returns-in-Err-take_in-clause-stepped g c =
+    let is : c.find_line.result ≡ Ready (Ok (None, c.in-Ready-Ok-None-default.ascii)) = search rules in
+    let shown = g.R.AsyncBufRead.lent c.find_line.new.reader in
+    let some : 0 < length shown = search (rules, common_steps) in
+    let e = c.in-Err-take_in.ensures in
+    let f = c.finish-in-Err-take_in.ensures in
+    line_refused g.R.Tale.read_laws c.args.self.now c.find_line.new.reader c.take_in-in-Ready-Ok-None-default.new.self
+    shown e.stays e.text (rw is at c.find_line.ensures.ran)
+    c.finish-in-Err-take_in.new.self _ c.finish-in-Err-take_in.result f.reader f.text f.value f.gains f.empty f.held
+    c.in-Err-take_in.e refl e.refused some e.unread e.kept
+
+pub returns-in-Pending-clause-stepped : goal.returns-in-Pending-clause-stepped
+returns-in-Pending-clause-stepped g c = (
+  text_waits line_over (read_line_fold ⊤) g.R.Tale.reads c.args.self.now _ (record { reader = refl; text = refl }) refl
+      refl tt (rw c.in-Pending.is at c.find_line.ensures.ran),
+  record { fits = c.requires.1.fits; known = c.requires.1.known },
+)

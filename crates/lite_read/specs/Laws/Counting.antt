@@ -1,0 +1,145 @@
+-- What streams of pieces do to a rank.
+use Rattle.std.proofs.Common.{◌≡◌, ◌∙◌, ◌<◌, ◌+◌, ℕ, zero, suc, List, [], ◌∷◌, ◌++◌, length, Some, None, Result, Ok, ap}
+use Rattle.std.proofs.Common.{sym, arith, length-append}
+use Rattle.std.specs.List.{FoldsTo}
+use Rattle.std.specs.declared.io.Error.{Error}
+use Rattle.futures.specs.declared.task.Poll.TheVariants.{Ready, Pending}
+use Rattle.lite_base.specs.Answers.{Answer, items}
+use Rattle.lite_base.specs.OkRanks.{OkCounting, all_ok}
+use Rattle.lite_base.specs.Rank.{Below, Lowers}
+use Rattle.lite_base.specs.Ranks.{Ranks}
+use Rattle.lite_base.specs.Runs.{Runs}
+use Rattle.lite_io_base.specs.Counting.{ReadCounting}
+use Rattle.lite_io_base.specs.Falls.{Falls}
+use Rattle.lite_io_base.specs.Laws.Falls.{falls_held}
+use Rattle.lite_io_base.specs.Laws.Marks.{given-append, given-bytes}
+use Rattle.lite_io_base.specs.Marks.{ReadMark, bytes, given}
+use Rattle.lite_io_base.specs.Runs.{MarkLaws}
+use Rattle.lite_read.specs.Pieces.{Cut, CutsPiece, Itemised, pieces}
+use Rattle.lite_read.specs.Laws.Segments.{flow_keeps}
+use Rattle.lite_read.specs.Segments.{Flows, PieceSegments, StreamOver}
+
+below_some : (n : ℕ) (xs ys : List ℕ) → 0 < n → Falls n xs ys → Below xs ys
+below_some zero xs ys some h = absurd (omega (arith, some))
+below_some (suc n) xs ys some h = h
+
+module _ {A : Type 0} (byte : ℕ) (may_refuse : Type 0) (whole final : List ℕ → Result A Error → Type 0) where
+  grown : (p q xs : List ℕ) → FoldsTo (pieces byte may_refuse (Itemised whole final)).takes p xs q
+      → length q ≡ length p + length xs
+  grown p q [] h = let e : length q ≡ length p = ap length (sym h) in omega (arith, e)
+  grown p q (x ∷ xs) h =
+      let rest = grown h.0 q xs h.2 in
+      omega (arith, rest, ap length h.1.1, length-append p (x ∷ []))
+
+  came_in : (taken : List ℕ) (last marks : List ReadMark) → marks ≡ bytes taken ++ last
+      → given marks ≡ length taken + given last
+  came_in taken last marks e =
+      ap given e ∙ given-append (bytes taken) last ∙ ap (λ n. n + given last) (given-bytes taken)
+
+  -- bytes that came in and those that were held are given out or held
+  piece_out : (held : List ℕ) (last : List ReadMark) (cut : Cut) (x : A) (after : List ℕ)
+      → CutsPiece byte may_refuse held last cut
+      → Itemised whole final cut held (Some (Ok x)) after → (n : ℕ) × (0 < n)
+      × (given last + length held ≡ n + length after)
+  piece_out held last (Cut.piece xs) x after c i =
+      let none : length after ≡ 0 = ap length i.1 in
+      let one : given last ≡ 1 = ap given c.0 in
+      (length held + 1, omega arith, omega (arith, none, one))
+  piece_out held last (Cut.last xs) x after c i =
+      let none : length after ≡ 0 = ap length i.1 in
+      let nought : given last ≡ 0 = ap given c.0 in
+      (length held, c.1, omega (arith, none, nought))
+  piece_out held last Cut.nothing x after c i = absurd i
+  piece_out held last (Cut.failed e) x after c i = absurd (cc i.0)
+
+  end_out : (held : List ℕ) (last : List ReadMark) (cut : Cut) (after : List ℕ)
+      → CutsPiece byte may_refuse held last cut
+      → Itemised whole final cut held None after → given last + length held ≡ length after
+  end_out held last (Cut.piece xs) after c i = absurd i
+  end_out held last (Cut.last xs) after c i = absurd i
+  end_out held last Cut.nothing after c i =
+      let none : length after ≡ 0 = ap length i in
+      let nought : given last ≡ 0 = ap given c.0 in
+      let empty : length held ≡ 0 = ap length c.1 in
+      omega (arith, none, nought, empty)
+  end_out held last (Cut.failed e) after c i = absurd i
+
+  segments_out : (p q : List ℕ) (marks : List ReadMark) (l : List (Answer A))
+      → PieceSegments (pieces byte may_refuse (Itemised whole final)) p marks (all_ok l) q
+      → (n : ℕ) × (given marks + length p ≡ n + length q) × ((xs ys : List ℕ) → Falls n xs ys → Lowers l xs ys)
+  segments_out p q marks [] h =
+      let none : given marks ≡ 0 = ap given h.0 in
+      (0, omega (arith, none, ap length h.1), λ xs ys f. f)
+  segments_out p q marks (Pending ∷ l) (first, rest, m, cut, a, more) =
+      let r = segments_out m q rest l more in
+      let all = ap given cut ∙ given-append first rest in
+      let none : given a.last ≡ 0 = ap given a.given.0 in
+      let same : length m ≡ length a.between = ap length a.given.2 in (
+        r.0,
+        omega (
+          arith,
+          r.1,
+          all,
+          came_in a.taken a.last first a.cut,
+          grown p a.between a.taken a.folds,
+          none,
+          same,
+        ),
+        r.2,
+      )
+  segments_out p q marks (Ready None ∷ l) (first, rest, m, cut, a, more) =
+      let r = segments_out m q rest l more in
+      let all = ap given cut ∙ given-append first rest in
+      let e = end_out a.between a.last a.given.0 m a.given.1 a.given.2 in
+      (r.0, omega (arith, r.1, all, came_in a.taken a.last first a.cut, grown p a.between a.taken a.folds, e), r.2)
+  segments_out p q marks (Ready (Some x) ∷ l) (first, rest, m, cut, a, more) =
+      let r = segments_out m q rest l more in
+      let all = ap given cut ∙ given-append first rest in
+      let e = piece_out a.between a.last a.given.0 x m a.given.1 a.given.2 in
+      let some : 0 < e.0 + r.0 = omega (arith, e.1) in (
+        e.0 + r.0,
+        omega (arith, r.1, all, came_in a.taken a.last first a.cut, grown p a.between a.taken a.folds, e.2),
+        λ xs ys f. below_some (e.0 + r.0) xs ys some f,
+      )
+
+-- the rank of the reader, and then how much is held
+abbrev pub flow_ranks : {X S K : Type 0} → StreamOver X S (List ℕ) K → Ranks S → Ranks X
+flow_ranks over r =
+    record {
+      width = r.width + 1;
+      rank = λ x. r.rank (over.reader x) ++ length (over.held x) ∷ [];
+      counts = λ x. r.firm (over.reader x);
+      firm = λ x. r.firm (over.reader x);
+    }
+
+module _ {X S K A : Type 0} (over : StreamOver X S (List ℕ) K) (byte : K → ℕ) (may_refuse : Type 0)
+    (whole final : List ℕ → Result A Error → Type 0) {reads : Runs ReadMark S}
+    (laws : MarkLaws reads) {r : Ranks S} (counting : ReadCounting reads r) where
+  flow_lowers : (x y : X) (l : List (Answer A)) → r.firm (over.reader x)
+      → Flows over (λ k. pieces (byte k) may_refuse (Itemised whole final)) reads x (all_ok l) y
+      → Lowers l (r.rank (over.reader y) ++ length (over.held y) ∷ [])
+      (r.rank (over.reader x) ++ length (over.held x) ∷ [])
+  flow_lowers x y l f h =
+      let s = h.segmented in
+      let out = segments_out (byte (over.kept x)) may_refuse whole final (over.held x) (over.held y) s.marks l s.cut in
+      let fell = counting.lowers (over.reader x) (over.reader y) s.marks f s.came in
+      out.2 _ _ (falls_held (given s.marks) out.0 (length (over.held x)) (length (over.held y)) (r.rank (over.reader y))
+      (r.rank (over.reader x)) fell out.1)
+
+  firm_still : (x y : X) (l : List (Answer (Result A Error))) → r.firm (over.reader x)
+      → Flows over (λ k. pieces (byte k) may_refuse (Itemised whole final)) reads x l y → r.firm (over.reader y)
+  firm_still x y l f h =
+      flow_keeps over (λ k. pieces (byte k) may_refuse (Itemised whole final)) laws r.firm
+      (λ s t m. counting.firm_on s t m) x y l f h
+
+  pub flow_counting : OkCounting (Flows over (λ k. pieces (byte k) may_refuse (Itemised whole final)) reads)
+      (flow_ranks over r)
+  flow_counting =
+      record {
+        sized = λ x. length-append (r.rank (over.reader x)) (length (over.held x) ∷ [])
+            ∙ ap (λ n. n + 1) (counting.sized (over.reader x));
+        counts_on = firm_still;
+        firm_on = firm_still;
+        falls = λ x y a more f h. flow_lowers x y (items (a ∷ more)) f h;
+        lowers = flow_lowers;
+      }

@@ -1,0 +1,187 @@
+-- What is cut out of one tale is the same wherever its pendings stand.
+use Rattle.std.specs.Prelude.{⊤}
+use Rattle.std.proofs.Common.{◌≡◌, ◌≢◌, ◌<◌, ◌∙◌, ℕ, List, [], ◌∷◌, Option, Some, None, Result, inl, inr, length, refl}
+use Rattle.std.proofs.Common.{ap, sym, subst, arith}
+use Rattle.std.specs.IoError.{error_kind}
+use Rattle.std.specs.declared.io.Error.{Error}
+use Rattle.lite_base.specs.Alike.{OptionBy, Sameness}
+use Rattle.lite_base.specs.Answers.{Comparable}
+use Rattle.lite_base.specs.Calm.{CalmLaws}
+use Rattle.lite_base.specs.Steady.{SteadyLawsBy}
+use Rattle.lite_base.specs.Laws.StreamLaws.{runs_of}
+use Rattle.lite_base.specs.Runs.{Runs}
+use Rattle.lite_io_base.specs.Marks.{ReadMark}
+use Rattle.lite_io_base.specs.Steady.{CalmReadLaws, NoPendingRead, SteadyReadLaws}
+use Rattle.lite_read.specs.ReadFold.{ReadFold}
+use Rattle.lite_read.specs.Laws.Deterministic.{segments_alike, segments_no_pending}
+use Rattle.lite_read.specs.Deterministic.{IsDeterministic, SameOr}
+use Rattle.lite_read.specs.Laws.Segments.{flow_laws}
+use Rattle.lite_read.specs.Pieces.{Cut, CutsPiece, Itemised, pieces}
+use Rattle.lite_read.specs.Segments.{Flows, PieceSegments, StreamOver}
+
+-- cuts of one kind, and of the same bytes
+abbrev pub SameCut : Cut → Cut → Type 0
+SameCut (Cut.piece xs) (Cut.piece ys) = xs ≡ ys
+SameCut (Cut.last xs) (Cut.last ys) = xs ≡ ys
+SameCut Cut.nothing Cut.nothing = ⊤
+SameCut (Cut.failed e) (Cut.failed f) = error_kind e ≡ error_kind f
+SameCut a b = ⊥
+
+-- the four ways in which what is held is cut, where memory is found
+data CutsNow (byte : ℕ) (held : List ℕ) : List ReadMark → Cut → Type 0 where
+  piece : CutsNow byte held (ReadMark.byte byte ∷ []) (Cut.piece held)
+  last : 0 < length held → CutsNow byte held (ReadMark.end ∷ []) (Cut.last held)
+  nothing : held ≡ [] → CutsNow byte held (ReadMark.end ∷ []) Cut.nothing
+  failed : (e : Error) → CutsNow byte held (ReadMark.fault (error_kind e) ∷ []) (Cut.failed e)
+
+cuts_now : (byte : ℕ) (held : List ℕ) (l : List ReadMark) (cut : Cut) → CutsPiece byte ⊥ held l cut
+    → CutsNow byte held l cut
+cuts_now byte held l (Cut.piece xs) h = rw (h.0, h.1) CutsNow.piece
+cuts_now byte held l (Cut.last xs) h = rw (h.0, h.2) (CutsNow.last h.1)
+cuts_now byte held l Cut.nothing h = rw h.0 (CutsNow.nothing h.1)
+cuts_now byte held l (Cut.failed e) (inl h) = rw h (CutsNow.failed e)
+cuts_now byte held l (Cut.failed e) (inr h) = absurd h.1
+
+now_no_pending : (byte : ℕ) (held : List ℕ) (l : List ReadMark) (cut : Cut) → CutsNow byte held l cut → NoPendingRead l
+now_no_pending byte held _ _ CutsNow.piece = tt
+now_no_pending byte held _ _ (CutsNow.last some) = tt
+now_no_pending byte held _ _ (CutsNow.nothing none) = tt
+now_no_pending byte held _ _ (CutsNow.failed e) = tt
+
+now_or_taken : (byte : ℕ) (held : List ℕ) (l m : List ReadMark) (cut : Cut) (b : ℕ) → CutsNow byte held l cut → b ≢ byte
+    → Comparable l (ReadMark.byte b ∷ m) → ⊥
+now_or_taken byte held _ m _ b CutsNow.piece other c = other (let same : byte ≡ b = cc c.0 in sym same)
+now_or_taken byte held _ m _ b (CutsNow.last some) other c = cc c.0
+now_or_taken byte held _ m _ b (CutsNow.nothing none) other c = cc c.0
+now_or_taken byte held _ m _ b (CutsNow.failed e) other c = cc c.0
+
+abbrev OneCut : List ReadMark → List ReadMark → Cut → Cut → Type 0
+OneCut l m a b = SameCut a b × (l ≡ m)
+
+none_some : (held : List ℕ) → held ≡ [] → 0 < length held → ⊥
+none_some [] e some = omega (arith, some)
+none_some (x ∷ held) e some = cc e
+
+one_cut : (byte : ℕ) (held : List ℕ) (l m : List ReadMark) (a b : Cut) → CutsNow byte held l a → CutsNow byte held m b
+    → Comparable l m → OneCut l m a b
+one_cut byte held _ _ _ _ CutsNow.piece CutsNow.piece c = (refl, refl)
+one_cut byte held _ _ _ _ (CutsNow.last some) (CutsNow.last more) c = (refl, refl)
+one_cut byte held _ _ _ _ (CutsNow.nothing none) (CutsNow.nothing again) c = (tt, refl)
+one_cut byte held _ _ _ _ (CutsNow.failed e) (CutsNow.failed f) c =
+    let same : error_kind e ≡ error_kind f = cc c.0 in (same, ap (λ k. ReadMark.fault k ∷ []) same)
+one_cut byte held _ _ _ _ (CutsNow.last some) (CutsNow.nothing none) c = absurd (none_some held none some)
+one_cut byte held _ _ _ _ (CutsNow.nothing none) (CutsNow.last some) c = absurd (none_some held none some)
+one_cut byte held _ _ _ _ CutsNow.piece (CutsNow.last some) c = absurd (cc c.0)
+one_cut byte held _ _ _ _ CutsNow.piece (CutsNow.nothing none) c = absurd (cc c.0)
+one_cut byte held _ _ _ _ CutsNow.piece (CutsNow.failed f) c = absurd (cc c.0)
+one_cut byte held _ _ _ _ (CutsNow.last some) CutsNow.piece c = absurd (cc c.0)
+one_cut byte held _ _ _ _ (CutsNow.last some) (CutsNow.failed f) c = absurd (cc c.0)
+one_cut byte held _ _ _ _ (CutsNow.nothing none) CutsNow.piece c = absurd (cc c.0)
+one_cut byte held _ _ _ _ (CutsNow.nothing none) (CutsNow.failed f) c = absurd (cc c.0)
+one_cut byte held _ _ _ _ (CutsNow.failed e) CutsNow.piece c = absurd (cc c.0)
+one_cut byte held _ _ _ _ (CutsNow.failed e) (CutsNow.last some) c = absurd (cc c.0)
+one_cut byte held _ _ _ _ (CutsNow.failed e) (CutsNow.nothing none) c = absurd (cc c.0)
+
+-- one value is made of one cut, and one list is held then
+abbrev pub BecomesOne : {R : Type 0} → (R → R → Type 0) → (Cut → List ℕ → R → List ℕ → Type 0) → Type 0
+BecomesOne {R} same becomes = (a b : Cut) (held : List ℕ) (v w : R) (p q : List ℕ) → SameCut a b → becomes a held v p
+    → becomes b held w q → same v w × (p ≡ q)
+
+pub pieces_deterministic : {R : Type 0} {same : R → R → Type 0} (byte : ℕ)
+    (becomes : Cut → List ℕ → R → List ℕ → Type 0) → BecomesOne same becomes
+    → IsDeterministic same (pieces byte ⊥ becomes)
+pieces_deterministic byte becomes one =
+    record {
+      one_way = λ p q r b h k. h.1 ∙ sym k.1;
+      at_once = λ p q l v h. now_no_pending byte p l h.0 (cuts_now byte p l h.0 h.1);
+      given_or_taken = λ p q r l m v b h k c. now_or_taken byte p l m h.0 b (cuts_now byte p l h.0 h.1) k.0 c;
+      one_value = λ p q r l m v w h k c.
+          let cut = one_cut byte p l m h.0 k.0 (cuts_now byte p l h.0 h.1) (cuts_now byte p m k.0 k.1) c in
+          let made = one h.0 k.0 p v w q r cut.0 h.2 k.2 in
+          (made.0, made.1, cut.1);
+    }
+
+-- what becomes of the bytes of a line is one
+abbrev pub MakesOne : {A : Type 0} → (A → A → Type 0) → (List ℕ → Result A Error → Type 0) → Type 0
+MakesOne {A} same makes = (xs : List ℕ) (r s : Result A Error) → makes xs r → makes xs s → SameOr same r s
+
+module _ {A : Type 0} {same : A → A → Type 0} {whole final : List ℕ → Result A Error → Type 0}
+    (one : MakesOne same whole) (end : MakesOne same final) where
+  abbrev PieceItem : Type 0
+  PieceItem = Option (Result A Error)
+
+  abbrev PieceMade : Cut → List ℕ → PieceItem → List ℕ → Type 0
+  PieceMade = Itemised whole final
+
+  both_made : (makes : List ℕ → Result A Error → Type 0) → MakesOne same makes → (xs ys : List ℕ) (r s : Result A Error)
+      → xs ≡ ys → makes xs r → makes ys s → SameOr same r s
+  both_made makes m xs ys r s e h k = m ys r s (subst (λ zs. makes zs r) e h) k
+
+  itemised_one : BecomesOne (OptionBy (SameOr same)) PieceMade
+  itemised_one (Cut.piece xs) (Cut.piece ys) held (Some r) (Some s) p q e h k =
+      (both_made whole one xs ys r s e h.0 k.0, h.1 ∙ sym k.1)
+  itemised_one (Cut.piece xs) (Cut.piece ys) held None w p q e h k = absurd h
+  itemised_one (Cut.piece xs) (Cut.piece ys) held (Some r) None p q e h k = absurd k
+  itemised_one (Cut.last xs) (Cut.last ys) held (Some r) (Some s) p q e h k =
+      (both_made final end xs ys r s e h.0 k.0, h.1 ∙ sym k.1)
+  itemised_one (Cut.last xs) (Cut.last ys) held None w p q e h k = absurd h
+  itemised_one (Cut.last xs) (Cut.last ys) held (Some r) None p q e h k = absurd k
+  itemised_one Cut.nothing Cut.nothing held None None p q e h k = (tt, h ∙ sym k)
+  itemised_one Cut.nothing Cut.nothing held (Some r) w p q e h k = absurd h
+  itemised_one Cut.nothing Cut.nothing held None (Some s) p q e h k = absurd k
+  itemised_one (Cut.failed a) (Cut.failed b) held (Some r) (Some s) p q e h k = rw (h.0, k.0) (e, h.1 ∙ sym k.1)
+  itemised_one (Cut.failed a) (Cut.failed b) held None w p q e h k = absurd h
+  itemised_one (Cut.failed a) (Cut.failed b) held (Some r) None p q e h k = absurd k
+  itemised_one (Cut.piece xs) (Cut.last ys) held v w p q e h k = absurd e
+  itemised_one (Cut.piece xs) Cut.nothing held v w p q e h k = absurd e
+  itemised_one (Cut.piece xs) (Cut.failed b) held v w p q e h k = absurd e
+  itemised_one (Cut.last xs) (Cut.piece ys) held v w p q e h k = absurd e
+  itemised_one (Cut.last xs) Cut.nothing held v w p q e h k = absurd e
+  itemised_one (Cut.last xs) (Cut.failed b) held v w p q e h k = absurd e
+  itemised_one Cut.nothing (Cut.piece ys) held v w p q e h k = absurd e
+  itemised_one Cut.nothing (Cut.last ys) held v w p q e h k = absurd e
+  itemised_one Cut.nothing (Cut.failed b) held v w p q e h k = absurd e
+  itemised_one (Cut.failed a) (Cut.piece ys) held v w p q e h k = absurd e
+  itemised_one (Cut.failed a) (Cut.last ys) held v w p q e h k = absurd e
+  itemised_one (Cut.failed a) Cut.nothing held v w p q e h k = absurd e
+
+  pub items_deterministic : (byte : ℕ) → IsDeterministic (OptionBy (SameOr same)) (pieces byte ⊥ (Itemised whole final))
+  items_deterministic byte = pieces_deterministic byte (Itemised whole final) itemised_one
+
+module _ {X S M K : Type 0} (over : StreamOver X S M K) where
+  -- they hold the same, and keep the same, over readers that are alike
+  abbrev pub FlowAlike : (S → S → Type 0) → X → X → Type 0
+  FlowAlike alike x y =
+      alike (over.reader x) (over.reader y) × (over.held x ≡ over.held y) × (over.kept x ≡ over.kept y)
+
+module _ {X S M K A : Type 0} (over : StreamOver X S M K) where
+  pub flow_steady : {same : A → A → Type 0} {reads ample : Runs ReadMark S} {needs_none : Type 0}
+      {alike : S → S → Type 0} (refusing fold : K → ReadFold M (Option A))
+      → ((k : K) → IsDeterministic (OptionBy same) (fold k)) → SteadyReadLaws reads ample needs_none alike
+      → SteadyLawsBy (Sameness.by same) (Flows over refusing reads) (Flows over fold ample) ⊥ (FlowAlike over alike)
+  flow_steady {same} {ample = ample} {alike = alike} refusing fold deterministic s =
+      record {
+        laws = runs_of (flow_laws over fold s.laws);
+        steady = λ x y e l m x' y' h k.
+            let i = h.segmented in
+            let j = k.segmented in
+            let held = subst (λ p. PieceSegments (fold (over.kept y)) p j.marks m (over.held y')) (sym e.1) j.cut in
+            let other = subst (λ c. PieceSegments (fold c) (over.held x) j.marks m (over.held y')) (sym e.2) held in
+            let g = fold (over.kept x) in
+            let t = deterministic (over.kept x) in
+            segments_alike g t s (over.reader x) (over.reader y) (over.reader x') (over.reader y') (over.held x)
+            (over.held x') (over.held y') i.marks j.marks l m e.0 i.came j.came i.cut other;
+        found = λ n. absurd n;
+      }
+
+  pub flow_calm : {reads : Runs ReadMark S} {is_calm : S → Type 0} (fold : K → ReadFold M (Option A))
+      → CalmReadLaws reads is_calm
+      → CalmLaws (Flows over fold reads) (λ x. is_calm (over.reader x))
+  flow_calm fold c =
+      record {
+        no_pending = λ x y l k h.
+            let g = h.segmented in
+            segments_no_pending (fold (over.kept x)) (over.held x) (over.held y) g.marks l
+            (c.no_pending (over.reader x) (over.reader y) g.marks k g.came) g.cut;
+        calm_on = λ x y l k h. c.calm_on (over.reader x) (over.reader y) h.segmented.marks k h.segmented.came;
+      }

@@ -1,0 +1,51 @@
+-- What is read of one tale for a text is the same wherever its pendings stand.
+use Rattle.std.proofs.Common.{inl, inr, ◌≡◌, ◌∙◌, ℕ, List, Result, Ok, Err, sym, ap, subst}
+use Rattle.std.specs.declared.io.Error.{Error}
+use Rattle.lite_base.specs.Answers.{Comparable}
+use Rattle.lite_io_base.specs.Marks.{ReadMark}
+use Rattle.lite_read.specs.ReadFold.{ReadFold}
+use Rattle.lite_read.specs.Deterministic.{IsDeterministic, SameByKind}
+use Rattle.lite_read.specs.Texts.{AppendsText, Reading, ValueOf, in_text}
+
+-- equal bytes that give one value give one in text
+value_same : (xs : List ℕ) (a b v w : Result ℕ Error) → SameByKind a b → ValueOf xs a v → ValueOf xs b w
+    → SameByKind v w
+value_same xs (Ok n) (Ok m) (Ok v) (Ok w) s h k = h.1 ∙ s ∙ sym k.1
+value_same xs (Ok n) (Ok m) (Ok v) (Err f) s h k = absurd (k.0 h.0)
+value_same xs (Ok n) (Ok m) (Err e) (Ok w) s h k = absurd (h.0 k.0)
+value_same xs (Ok n) (Ok m) (Err e) (Err f) s h k = h.1 ∙ sym k.1
+value_same xs (Ok n) (Err f) v w s h k = absurd s
+value_same xs (Err e) (Ok m) v w s h k = absurd s
+value_same xs (Err e) (Err f) v w s h k =
+    subst (λ z. SameByKind z w) (sym h) (subst (λ z. SameByKind (Err e) z) (sym k) s)
+
+gains_same : (xs before p q : List ℕ) → AppendsText xs before p → AppendsText xs before q → p ≡ q
+gains_same xs before p q (inl h) (inl k) = h.1 ∙ sym k.1
+gains_same xs before p q (inl h) (inr k) = absurd (k.0 h.0)
+gains_same xs before p q (inr h) (inl k) = absurd (h.0 k.0)
+gains_same xs before p q (inr h) (inr k) = h.1 ∙ sym k.1
+
+same_reading : (p q : Reading) → p.read ≡ q.read → p.text ≡ q.text → p ≡ q
+same_reading p q e f = ap (λ r. record { read = r; text = p.text }) e ∙ ap (λ t. record { read = q.read; text = t }) f
+
+module _ (fold : ReadFold (List ℕ) (Result ℕ Error)) (s : IsDeterministic SameByKind fold) where
+  one_text : (p q r : Reading) (l m : List ReadMark) (v w : Result ℕ Error) → (in_text fold).gives p l v q
+      → (in_text fold).gives p m w r → Comparable l m
+      → SameByKind v w × (q ≡ r) × (l ≡ m)
+  one_text p q r l m v w (a, xs, given, value, gains, empty) (b, ys, given', value', gains', empty') c =
+      let both = s.one_value p.read xs ys l m a b given given' c in
+      let value2 : ValueOf xs b w = subst (λ z. ValueOf z b w) (sym both.1) value' in
+      let gains2 : AppendsText xs p.text r.text = subst (λ z. AppendsText z p.text r.text) (sym both.1) gains' in (
+        value_same xs a b v w both.0 value value2,
+        same_reading q r (empty ∙ sym empty') (gains_same xs p.text q.text r.text gains gains2),
+        both.2,
+      )
+
+  pub text_deterministic : IsDeterministic SameByKind (in_text fold)
+  text_deterministic =
+      record {
+        one_way = λ p q r b h k. same_reading q r (s.one_way p.read q.read r.read b h.0 k.0) (h.1 ∙ sym k.1);
+        at_once = λ p q l v h. s.at_once p.read h.1 l h.0 h.2;
+        given_or_taken = λ p q r l m v b h k c. s.given_or_taken p.read h.1 r.read l m h.0 b h.2 k.0 c;
+        one_value = one_text;
+      }

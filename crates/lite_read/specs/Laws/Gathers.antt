@@ -1,0 +1,92 @@
+-- Laws of futures over a reader.
+use Rattle.std.proofs.Common.{◌≡◌, List, [], ◌∷◌, ◌++◌, refl, subst, sym}
+use Rattle.futures.specs.declared.task.Poll.{Poll}
+use Rattle.lite_base.specs.Answers.{ComparableBy, Waiting, strip}
+use Rattle.lite_base.specs.Calm.{CalmLaws}
+use Rattle.lite_base.specs.FutureLaws.{FutureLaws}
+use Rattle.lite_base.specs.Laws.Answers.{up_to_once}
+use Rattle.lite_base.specs.Runs.{Runs}
+use Rattle.lite_io_base.specs.Marks.{ReadMark}
+use Rattle.lite_io_base.specs.Runs.{MarkLaws}
+use Rattle.lite_io_base.specs.Steady.{CalmReadLaws, SteadyReadLaws}
+use Rattle.lite_read.specs.Deterministic.{IsDeterministic}
+use Rattle.lite_read.specs.Laws.Deterministic.{read_folded_alike, segments_no_pending}
+use Rattle.lite_read.specs.Laws.PollSteps.{idle_join}
+use Rattle.lite_read.specs.Laws.ReadFold.{read_folded_before, read_folded_follow, read_folded_none}
+use Rattle.lite_read.specs.PollSteps.{TakesBytes}
+use Rattle.lite_read.specs.ReadFold.{Gathers, ReadFold, ReadFolded}
+
+-- what is kept through runs, and with it what is made of marks
+pub record KeepLaws {X M R : Type 0} (fold : X → ReadFold M R) (Keeps : X → X → Type 0) : Type 1 where
+  pub none : (x : X) → Keeps x x
+  pub join : (x y z : X) → Keeps x y → Keeps y z → Keeps x z
+  pub same : (x y : X) → Keeps x y → fold y ≡ fold x
+
+-- what is made of the marks stays too
+folded_on : {X S M R : Type 0} {fold : X → ReadFold M R} {Keeps : X → X → Type 0} {reads : Runs ReadMark S}
+    → KeepLaws fold Keeps → (x y : X) (s t : S) (p q : M) (l : List (Poll R)) → Keeps x y
+    → ReadFolded (fold y) reads s p l t q → ReadFolded (fold x) reads s p l t q
+folded_on {reads = reads} keeps x y s t p q l k h = subst (λ f. ReadFolded f reads s p l t q) (keeps.same x y k) h
+
+module _ {X S M R : Type 0} {reader : X → S} {held : X → M} {fold : X → ReadFold M R} {Keeps : X → X → Type 0}
+    {reads : Runs ReadMark S} where
+  gathers_follow : KeepLaws fold Keeps → MarkLaws reads → (x y z : X) (l m : List (Poll R)) → Waiting l
+      → Gathers reader held fold Keeps reads x l y → Gathers reader held fold Keeps reads y m z
+      → Gathers reader held fold Keeps reads x (l ++ m) z
+  gathers_follow keeps laws x y z l m w h k =
+      record {
+        folded = read_folded_follow (fold x) laws (reader x) (reader y) (reader z) (held x) (held y) (held z) l m w
+            h.folded (folded_on keeps x y (reader y) (reader z) (held y) (held z) m h.stays k.folded);
+        stays = keeps.join x y z h.stays k.stays;
+        idle = idle_join x y z l m h.idle k.idle;
+      }
+
+  pub gathers_laws : KeepLaws fold Keeps → MarkLaws reads → FutureLaws (Gathers reader held fold Keeps reads)
+  gathers_laws keeps laws =
+      record {
+        rests = λ x. record {
+          folded = read_folded_none (fold x) laws (reader x) (held x);
+          stays = keeps.none x;
+          idle = λ e. refl;
+        };
+        stays = λ x y h. h.idle refl;
+        follows = gathers_follow keeps laws;
+        once = λ x y l h. up_to_once l h.folded.folded.1;
+      }
+
+  -- a step before an answer
+  pub gathers_before : {Steps : X → X → Type 0} → KeepLaws fold Keeps → MarkLaws reads
+      → ((x y : X) → Steps x y → Keeps x y)
+      → (x y z : X) (a : Poll R) → TakesBytes reader held fold Steps reads x y
+      → Gathers reader held fold Keeps reads y (a ∷ []) z → Gathers reader held fold Keeps reads x (a ∷ []) z
+  gathers_before keeps laws kept x y z a t h =
+      let stays = kept x y t.stays in
+      record {
+        folded = read_folded_before (fold x) laws (reader x) (reader y) (reader z) (held x) (held y) (held z) t.taken a
+            t.came t.folds (folded_on keeps x y (reader y) (reader z) (held y) (held z) (a ∷ []) stays h.folded);
+        stays = keeps.join x y z stays h.stays;
+        idle = λ e. absurd (cc e);
+      }
+
+  -- two that hold the same, and make the same of marks, over readers that are alike
+  pub gathers_alike : {same : R → R → Type 0} {ample : Runs ReadMark S} {needs_none : Type 0} {alike : S → S → Type 0}
+      → ((x : X) → IsDeterministic same (fold x)) → SteadyReadLaws reads ample needs_none alike
+      → (x y : X) → alike (reader x) (reader y) → held x ≡ held y → fold y ≡ fold x
+      → (l m : List (Poll R)) (x' y' : X) → Gathers reader held fold Keeps ample x l x'
+      → Gathers reader held fold Keeps ample y m y' → ComparableBy same (strip l) (strip m)
+  gathers_alike {ample = ample} one s x y e d f l m x' y' h k =
+      let made = subst (λ g. ReadFolded g ample (reader y) (held y) m (reader y') (held y')) f k.folded in
+      let other = subst (λ p. ReadFolded (fold x) ample (reader y) p m (reader y') (held y')) (sym d) made in
+      read_folded_alike (fold x) (one x) s (reader x) (reader y) (reader x') (reader y') (held x) (held x') (held y')
+      l m e h.folded other
+
+  pub gathers_calm : {is_calm : S → Type 0} → CalmReadLaws reads is_calm
+      → CalmLaws (Gathers reader held fold Keeps reads) (λ x. is_calm (reader x))
+  gathers_calm c =
+      record {
+        no_pending = λ x y l k h.
+            let g = h.folded in
+            segments_no_pending (fold x) (held x) (held y) g.marks l
+            (c.no_pending (reader x) (reader y) g.marks k g.came) g.folded.0;
+        calm_on = λ x y l k h. c.calm_on (reader x) (reader y) h.folded.marks k h.folded.came;
+      }

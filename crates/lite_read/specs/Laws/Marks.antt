@@ -1,0 +1,89 @@
+-- `split`, `lines` and `read_until` do not depend on when their reader was pending, where memory was found.
+use Rattle.std.proofs.Common.{◌≡◌, ◌∙◌, ℕ, [], ◌∷◌, ◌++◌, Ok, Err, Global, length, ap, sym, subst}
+use Rattle.std.proofs.lemmas.Str.{IsUtf8-string_bytes}
+use Rattle.std.specs.Prelude.{IsUtf8, string_bytes, ⊤}
+use Rattle.std.specs.declared.string.String.{String}
+use Rattle.std.specs.declared.vec.Vec.{Vec}
+use Rattle.lite_base.specs.Calm.{CalmLaws}
+use Rattle.lite_base.specs.Alike.{Sameness}
+use Rattle.lite_base.specs.Steady.{FutureSteadyLawsBy}
+use Rattle.lite_base.specs.Runs.{Runs}
+use Rattle.lite_io_base.specs.Marks.{ReadMark}
+use Rattle.lite_io_base.specs.Steady.{CalmReadLaws, SteadyReadLaws}
+use Rattle.lite_read.specs.Laws.Gathers.{gathers_alike, gathers_calm}
+use Rattle.lite_read.specs.Deterministic.{IsDeterministic, SameByKind}
+use Rattle.lite_read.specs.Laws.ReadUntil.{until_laws}
+use Rattle.lite_read.specs.Laws.DeterministicPieces.{BecomesOne, MakesOne, pieces_deterministic}
+use Rattle.lite_read.specs.Pieces.{Cut}
+use Rattle.lite_read.specs.UntilVector.{read_of}
+use Rattle.lite_read.specs.ReadUntil.{CountsPiece, ReadsUntil, until}
+use Rattle.lite_read.specs.Split.{IsVec}
+use Rattle.lite_read.specs.LineText.{IsText, without_return}
+use Rattle.lite_read.specs.declared.read_until.ReadUntilFuture.{ReadUntilFuture}
+
+-- vectors of the same bytes, and texts
+abbrev pub SameVec : Vec ℕ Global → Vec ℕ Global → Type 0
+SameVec v w = v.items ≡ w.items
+
+abbrev pub SameText : String Global → String Global → Type 0
+SameText s t = string_bytes s ≡ string_bytes t
+
+pub vec_one : MakesOne SameVec IsVec
+vec_one xs (Ok v) (Ok w) h k = h ∙ sym k
+vec_one xs (Ok v) (Err e) h k = absurd k
+vec_one xs (Err e) r h k = absurd h
+
+pub text_one : MakesOne SameText IsText
+text_one xs (Ok s) (Ok t) h k = h ∙ sym k
+text_one xs (Ok s) (Err e) h k = absurd (k.1 (subst IsUtf8 h (IsUtf8-string_bytes s)))
+text_one xs (Err e) (Ok t) h k = absurd (h.1 (subst IsUtf8 k (IsUtf8-string_bytes t)))
+text_one xs (Err e) (Err f) h k = h.0 ∙ sym k.0
+
+pub line_one : MakesOne SameText (λ xs. IsText (without_return xs))
+line_one xs r s h k = text_one (without_return xs) r s h k
+
+counted_one : (byte : ℕ) → BecomesOne SameByKind (CountsPiece byte)
+counted_one byte (Cut.piece xs) (Cut.piece ys) held v w p q e h k =
+    let same = h.0 ∙ ap (λ zs. zs ++ byte ∷ []) e ∙ sym k.0 in
+    rw (h.1, k.1) (ap length same, same)
+counted_one byte (Cut.last xs) (Cut.last ys) held v w p q e h k =
+    let same = h.0 ∙ e ∙ sym k.0 in rw (h.1, k.1) (ap length same, same)
+counted_one byte Cut.nothing Cut.nothing held v w p q e h k =
+    let same = h.0 ∙ sym k.0 in rw (h.1, k.1) (ap length same, same)
+counted_one byte (Cut.failed a) (Cut.failed b) held v w p q e h k = rw (h.1, k.1) (e, h.0 ∙ sym k.0)
+counted_one byte (Cut.piece xs) (Cut.last ys) held v w p q e h k = absurd e
+counted_one byte (Cut.piece xs) Cut.nothing held v w p q e h k = absurd e
+counted_one byte (Cut.piece xs) (Cut.failed b) held v w p q e h k = absurd e
+counted_one byte (Cut.last xs) (Cut.piece ys) held v w p q e h k = absurd e
+counted_one byte (Cut.last xs) Cut.nothing held v w p q e h k = absurd e
+counted_one byte (Cut.last xs) (Cut.failed b) held v w p q e h k = absurd e
+counted_one byte Cut.nothing (Cut.piece ys) held v w p q e h k = absurd e
+counted_one byte Cut.nothing (Cut.last ys) held v w p q e h k = absurd e
+counted_one byte Cut.nothing (Cut.failed b) held v w p q e h k = absurd e
+counted_one byte (Cut.failed a) (Cut.piece ys) held v w p q e h k = absurd e
+counted_one byte (Cut.failed a) (Cut.last ys) held v w p q e h k = absurd e
+counted_one byte (Cut.failed a) Cut.nothing held v w p q e h k = absurd e
+
+pub until_deterministic : (byte : ℕ) → IsDeterministic SameByKind (until byte ⊥)
+until_deterministic byte = pieces_deterministic byte (CountsPiece byte) (counted_one byte)
+
+module _ {R : Type 0} where
+  -- they read to the same byte, and have read the same, over readers that are alike
+  abbrev pub UntilAlike : (R → R → Type 0) → ReadUntilFuture R → ReadUntilFuture R → Type 0
+  UntilAlike alike x y = alike x.reader.now y.reader.now × (read_of x ≡ read_of y) × (x.byte ≡ y.byte)
+
+  module _ {reads : Runs ReadMark R} where
+    pub until_steady : {ample : Runs ReadMark R} {needs_none : Type 0} {alike : R → R → Type 0}
+        → SteadyReadLaws reads ample needs_none alike
+        → FutureSteadyLawsBy (Sameness.by SameByKind) (ReadsUntil reads ⊤) (ReadsUntil ample ⊥) ⊥ (UntilAlike alike)
+    until_steady s =
+        record {
+          laws = until_laws ⊥ s.laws;
+          steady = λ x y e.
+              gathers_alike (λ x. until_deterministic x.byte) s x y e.0 e.1 (ap (λ b. until b ⊥) (sym e.2));
+          found = λ n. absurd n;
+        }
+
+    pub until_calm : {is_calm : R → Type 0} → CalmReadLaws reads is_calm
+        → CalmLaws (ReadsUntil reads ⊤) (λ (x : ReadUntilFuture R). is_calm x.reader.now)
+    until_calm = gathers_calm

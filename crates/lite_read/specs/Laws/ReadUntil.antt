@@ -1,0 +1,48 @@
+-- Laws of `read_until`.
+use Rattle.std.specs.Prelude.{⊤}
+use Rattle.std.proofs.Common.{◌≡◌, ◌∙◌, ◌≤◌, [], ◌∷◌, length, take, Result, ℕ, refl, ap, subst, arith}
+use Rattle.std.specs.declared.io.Error.{Error}
+use Rattle.futures.specs.declared.task.Poll.{Poll}
+use Rattle.lite_base.specs.FutureLaws.{FutureLaws}
+use Rattle.lite_base.specs.Runs.{Runs}
+use Rattle.lite_io_base.specs.Marks.{ReadMark}
+use Rattle.lite_io_base.specs.Runs.{MarkLaws}
+use Rattle.lite_read.specs.Laws.Gathers.{KeepLaws, gathers_before, gathers_laws}
+use Rattle.lite_read.specs.Laws.PollSteps.{lent_still}
+use Rattle.lite_read.specs.UntilVector.{UntilStays}
+use Rattle.lite_read.specs.ReadUntil.{ReadsUntil, until}
+use Rattle.lite_read.specs.PieceSteps.{AppendsMore}
+use Rattle.lite_read.specs.declared.read_until.ReadUntilFuture.{ReadUntilFuture}
+
+module _ {R : Type 0} where
+  stays_none : (x : ReadUntilFuture R) → UntilStays x x
+  stays_none x = record { reader = refl; buf = refl; byte = refl; start = refl; before = refl; grows = omega arith }
+
+  -- what was there at first is there still
+  pub stays_within : (x y : ReadUntilFuture R) → UntilStays x y → x.start ≤ length x.buf.now.items
+      → y.start ≤ length y.buf.now.items
+  stays_within x y h within = omega (arith, h.start, h.grows, within)
+
+  stays_join : (x y z : ReadUntilFuture R) → UntilStays x y → UntilStays y z → UntilStays x z
+  stays_join x y z h k =
+      record {
+        reader = lent_still x.reader y.reader z.reader h.reader k.reader;
+        buf = lent_still x.buf y.buf z.buf h.buf k.buf;
+        byte = k.byte ∙ h.byte;
+        start = k.start ∙ h.start;
+        before = subst (λ n. take n z.buf.now.items ≡ take n y.buf.now.items) h.start k.before ∙ h.before;
+        grows = omega (arith, h.grows, k.grows);
+      }
+
+  keeps : (m : Type 0) → KeepLaws (λ (x : ReadUntilFuture R). until x.byte m) UntilStays
+  keeps m = record { none = stays_none; join = stays_join; same = λ x y k. ap (λ b. until b m) k.byte }
+
+  module _ {reads : Runs ReadMark R} where
+    -- whether memory may be refused or not
+    pub until_laws : (may_refuse : Type 0) → MarkLaws reads → FutureLaws (ReadsUntil reads may_refuse)
+    until_laws may_refuse = gathers_laws (keeps may_refuse)
+
+    -- a step before others
+    pub step_before : MarkLaws reads → (x y z : ReadUntilFuture R) (a : Poll (Result ℕ Error)) → AppendsMore reads ⊤ x y
+        → ReadsUntil reads ⊤ y (a ∷ []) z → ReadsUntil reads ⊤ x (a ∷ []) z
+    step_before laws = gathers_before (keeps ⊤) laws (λ x y k. k)

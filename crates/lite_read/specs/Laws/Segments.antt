@@ -1,0 +1,93 @@
+-- Laws of streams over what a reader tells.
+use Rattle.std.proofs.Common.{◌≡◌, ◌∙◌, ◌≤◌, ℕ, List, [], ◌∷◌, ◌++◌, Option, None, refl, sym, subst}
+use Rattle.std.specs.Prelude.{IfSome}
+use Rattle.std.specs.List.{FoldsTo}
+use Rattle.futures.specs.declared.task.Poll.{Poll}
+use Rattle.lite_base.specs.Answers.{before_end}
+use Rattle.lite_base.specs.Laws.Segments.{segments_join}
+use Rattle.lite_base.specs.StreamLaws.{StreamLaws}
+use Rattle.lite_base.specs.Runs.{NoHint, Runs}
+use Rattle.lite_io_base.specs.Marks.{ReadMark, bytes}
+use Rattle.lite_io_base.specs.Runs.{MarkLaws}
+use Rattle.lite_read.specs.ReadFold.{AnswerMarks, ReadFold}
+use Rattle.lite_read.specs.Laws.ReadFold.{answers_before}
+use Rattle.lite_read.specs.Laws.PollSteps.{idle_join}
+use Rattle.lite_read.specs.Segments.{Flows, Segmented, StreamOver}
+use Rattle.lite_read.specs.PieceSteps.{TakesPieceIn}
+
+unbounded : (hint : ℕ × Option ℕ) (n : ℕ) → hint ≡ (0, None) → IfSome hint.1 (λ most. n ≤ most)
+unbounded hint n e = subst (λ (v : ℕ × Option ℕ). IfSome v.1 (λ most. n ≤ most)) (sym e) tt
+
+module _ {M R : Type 0} (fold : ReadFold M R) where
+  module _ {S : Type 0} {reads : Runs ReadMark S} (laws : MarkLaws reads) where
+    segmented_none : (s : S) (p : M) → Segmented fold reads s p [] s p
+    segmented_none s p = record { marks = []; came = laws.rests s; cut = (refl, refl) }
+
+    segmented_follow : (s t u : S) (p q r : M) (l m : List (Poll R)) → Segmented fold reads s p l t q
+        → Segmented fold reads t q m u r
+        → Segmented fold reads s p (l ++ m) u r
+    segmented_follow s t u p q r l m h k =
+        record {
+          marks = h.marks ++ k.marks;
+          came = laws.follows s t u h.marks k.marks h.came k.came;
+          cut = segments_join (AnswerMarks fold) p q r h.marks k.marks l m h.cut k.cut;
+        }
+
+    segmented_before : (s t u : S) (p m q : M) (xs : List ℕ) (a : Poll R) → reads s (bytes xs) t
+        → FoldsTo fold.takes p xs m
+        → Segmented fold reads t m (a ∷ []) u q → Segmented fold reads s p (a ∷ []) u q
+    segmented_before s t u p m q xs a came f h =
+        record {
+          marks = bytes xs ++ h.marks;
+          came = laws.follows s t u (bytes xs) h.marks came h.came;
+          cut = answers_before fold p m q xs h.marks a [] f h.cut;
+        }
+
+module _ {X S M K R : Type 0} (over : StreamOver X S M K) (fold : K → ReadFold M R) {reads : Runs ReadMark S}
+    (laws : MarkLaws reads) where
+  flows_follow : (x y z : X) (l m : List (Poll R)) → Flows over fold reads x l y → Flows over fold reads y m z
+      → Flows over fold reads x (l ++ m) z
+  flows_follow x y z l m h k =
+      let next = subst
+      (λ v. Segmented (fold v) reads (over.reader y) (over.held y) m (over.reader z)
+      (over.held z)) h.stays k.segmented in
+      record {
+        segmented = segmented_follow (fold (over.kept x)) laws _ _ _ _ _ _ l m h.segmented next;
+        stays = k.stays ∙ h.stays;
+        idle = idle_join x y z l m h.idle k.idle;
+      }
+
+  -- a step before others
+  pub step_before : (x y z : X) (a : Poll R) → TakesPieceIn over fold reads x y → Flows over fold reads y (a ∷ []) z
+      → Flows over fold reads x (a ∷ []) z
+  step_before x y z a t h =
+      let next = subst
+      (λ v. Segmented (fold v) reads (over.reader y) (over.held y) (a ∷ []) (over.reader z)
+      (over.held z)) t.stays h.segmented in
+      record {
+        segmented = segmented_before (fold (over.kept x)) laws _ _ _ _ _ _ t.taken a t.came t.folds next;
+        stays = h.stays ∙ t.stays;
+        idle = λ e. absurd (cc e);
+      }
+
+module _ {X S M K A : Type 0} (over : StreamOver X S M K) (fold : K → ReadFold M (Option A)) {reads : Runs ReadMark S}
+    (laws : MarkLaws reads) where
+  -- a stream whose hint is no bound
+  pub flow_laws : StreamLaws (Flows over fold reads) NoHint
+  flow_laws =
+      record {
+        rests = λ x. record {
+          segmented = segmented_none (fold (over.kept x)) laws (over.reader x) (over.held x);
+          stays = refl;
+          idle = λ e. refl;
+        };
+        stays = λ x y h. h.idle refl;
+        follows = flows_follow over fold laws;
+        bounded = λ x y hint l allowed h. unbounded hint (before_end l) allowed;
+      }
+
+  -- what holds of a reader through its runs holds after a run of the stream
+  pub flow_keeps : (P : S → Type 0) → ((s t : S) (l : List ReadMark) → P s → reads s l t → P t)
+      → (x y : X) (l : List (Poll (Option A))) → P (over.reader x)
+      → Flows over fold reads x l y → P (over.reader y)
+  flow_keeps P keeps x y l p h = keeps (over.reader x) (over.reader y) h.segmented.marks p h.segmented.came

@@ -1,0 +1,26 @@
+-- `lines`: the pieces between newlines, 0x0A, as text.
+use Rattle.std.specs.Prelude.{ℕ, List, Option, Result}
+use Rattle.std.proofs.Common.{Global}
+use Rattle.std.specs.declared.io.Error.{Error}
+use Rattle.std.specs.declared.string.String.{String}
+use Rattle.lite_base.specs.Answers.{Answer}
+use Rattle.lite_base.specs.Runs.{Runs}
+use Rattle.lite_io_base.specs.Marks.{ReadMark}
+use Rattle.lite_read.specs.ReadFold.{ReadFold}
+use Rattle.lite_read.specs.Pieces.{Itemised, pieces}
+use Rattle.lite_read.specs.Segments.{Flows, StreamOver}
+use Rattle.lite_read.specs.LineText.{IsText, without_return}
+use Rattle.lite_read.specs.declared.lines.Lines.{Lines}
+
+-- a line before a newline is without its return, and a last line keeps it
+abbrev pub lining : Type 0 → Unit {0} → ReadFold (List ℕ) (Option (Result (String Global) Error))
+lining may_refuse u = pieces 10 may_refuse (Itemised (λ xs. IsText (without_return xs)) IsText)
+
+-- a `lines` holds bytes, and keeps nothing else
+abbrev pub lines_over : {R : Type 0} → StreamOver (Lines R) R (List ℕ) (Unit {0})
+lines_over = record { reader = λ x. x.reader; held = λ x. x.held.bytes.items; kept = λ x. tt }
+
+module _ {R : Type 0} (reads : Runs ReadMark R) (may_refuse : Type 0) where
+  -- the reader's marks, cut into lines
+  abbrev pub GivesLines : Runs (Answer (Result (String Global) Error)) (Lines R)
+  GivesLines = Flows lines_over (lining may_refuse) reads

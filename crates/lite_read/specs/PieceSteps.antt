@@ -1,0 +1,19 @@
+-- The steps of a poll that go on: bytes were taken in.
+use Rattle.std.specs.Prelude.{◌≡◌}
+use Rattle.lite_io_base.specs.Marks.{ReadMark}
+use Rattle.lite_read.specs.ReadFold.{ReadFold}
+use Rattle.lite_read.specs.PollSteps.{TakesBytes}
+use Rattle.lite_read.specs.UntilVector.{UntilStays, read_of}
+use Rattle.lite_read.specs.ReadUntil.{until}
+use Rattle.lite_read.specs.Segments.{StreamOver}
+use Rattle.lite_read.specs.declared.read_until.ReadUntilFuture.{ReadUntilFuture}
+use Rattle.lite_base.specs.Runs.{Runs}
+
+-- one step of a poll of `read_until` that goes on: bytes were taken in
+abbrev pub AppendsMore : {R : Type 0} → Runs ReadMark R → Type 0 → ReadUntilFuture R → ReadUntilFuture R → Type 0
+AppendsMore reads may_refuse = TakesBytes (λ x. x.reader.now) read_of (λ x. until x.byte may_refuse) UntilStays reads
+
+-- one step of a poll of `split` or `lines` that goes on: bytes were taken in
+abbrev pub TakesPieceIn : {X S M K R : Type 0} → StreamOver X S M K → (K → ReadFold M R) → Runs ReadMark S → X → X
+    → Type 0
+TakesPieceIn over fold = TakesBytes over.reader over.held (λ x. fold (over.kept x)) (λ x y. over.kept y ≡ over.kept x)

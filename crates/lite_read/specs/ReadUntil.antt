@@ -1,0 +1,26 @@
+-- `read_until`: a piece with its delimiter goes to the end of a vector.
+use Rattle.std.specs.Prelude.{◌≡◌, ℕ, List, [], ◌∷◌, ◌++◌, length, Result, Ok, Err}
+use Rattle.std.specs.declared.io.Error.{Error}
+use Rattle.futures.specs.declared.task.Poll.{Poll}
+use Rattle.lite_io_base.specs.Marks.{ReadMark}
+use Rattle.lite_read.specs.ReadFold.{Gathers, ReadFold}
+use Rattle.lite_read.specs.UntilVector.{UntilStays, read_of}
+use Rattle.lite_read.specs.Pieces.{Cut, pieces}
+use Rattle.lite_read.specs.declared.read_until.ReadUntilFuture.{ReadUntilFuture}
+use Rattle.lite_base.specs.Runs.{Runs}
+
+-- What is held after a cut stays in the vector: a piece with its delimiter, or what stood before an end, and the value
+-- is how many bytes that is; or what was held before an error.
+abbrev pub CountsPiece : ℕ → Cut → List ℕ → Result ℕ Error → List ℕ → Type 0
+CountsPiece byte (Cut.piece xs) held r after = (after ≡ xs ++ byte ∷ []) × (r ≡ Ok (length after))
+CountsPiece byte (Cut.last xs) held r after = (after ≡ xs) × (r ≡ Ok (length after))
+CountsPiece byte Cut.nothing held r after = (after ≡ []) × (r ≡ Ok (length after))
+CountsPiece byte (Cut.failed e) held r after = (after ≡ held) × (r ≡ Err e)
+
+-- bytes are taken in up to the delimiter, with it
+abbrev pub until : ℕ → Type 0 → ReadFold (List ℕ) (Result ℕ Error)
+until byte may_refuse = pieces byte may_refuse (CountsPiece byte)
+
+-- a future that takes them into its vector
+abbrev pub ReadsUntil : {R : Type 0} → Runs ReadMark R → Type 0 → Runs (Poll (Result ℕ Error)) (ReadUntilFuture R)
+ReadsUntil reads may_refuse = Gathers (λ x. x.reader.now) read_of (λ x. until x.byte may_refuse) UntilStays reads

@@ -1,0 +1,30 @@
+-- `split`: the pieces without their delimiters.
+use Rattle.std.specs.Prelude.{◌≡◌, ℕ, List, Option, Result, Ok, Err}
+use Rattle.std.proofs.Common.{Global}
+use Rattle.std.specs.declared.io.Error.{Error}
+use Rattle.std.specs.declared.vec.Vec.{Vec}
+use Rattle.lite_base.specs.Answers.{Answer}
+use Rattle.lite_base.specs.Runs.{Runs}
+use Rattle.lite_io_base.specs.Marks.{ReadMark}
+use Rattle.lite_read.specs.ReadFold.{ReadFold}
+use Rattle.lite_read.specs.Pieces.{Itemised, pieces}
+use Rattle.lite_read.specs.Segments.{Flows, StreamOver}
+use Rattle.lite_read.specs.declared.split.Split.{Split}
+
+-- the item is a vector of these bytes
+abbrev pub IsVec : List ℕ → Result (Vec ℕ Global) Error → Type 0
+IsVec xs (Ok v) = v.items ≡ xs
+IsVec xs (Err e) = ⊥
+
+-- bytes are taken in up to the delimiter, and become a vector without it
+abbrev pub splitting : Type 0 → ℕ → ReadFold (List ℕ) (Option (Result (Vec ℕ Global) Error))
+splitting may_refuse byte = pieces byte may_refuse (Itemised IsVec IsVec)
+
+-- a `split` holds bytes, and keeps its delimiter
+abbrev pub split_over : {R : Type 0} → StreamOver (Split R) R (List ℕ) ℕ
+split_over = record { reader = λ x. x.reader; held = λ x. x.held.items; kept = λ x. x.byte }
+
+module _ {R : Type 0} (reads : Runs ReadMark R) (may_refuse : Type 0) where
+  -- the reader's marks, cut into pieces
+  abbrev pub Splits : Runs (Answer (Result (Vec ℕ Global) Error)) (Split R)
+  Splits = Flows split_over (splitting may_refuse) reads

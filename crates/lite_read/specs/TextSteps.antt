@@ -1,0 +1,21 @@
+-- The steps of a poll that reads for a text.
+use Rattle.std.specs.Prelude.{◌≡◌, ℕ, List, [], ◌∷◌, Result, string_bytes}
+use Rattle.std.specs.declared.io.Error.{Error}
+use Rattle.futures.specs.declared.task.Poll.{Poll}
+use Rattle.lite_io_base.specs.Marks.{ReadMark}
+use Rattle.lite_read.specs.ReadFold.{ReadFold}
+use Rattle.lite_read.specs.PollSteps.{TakesBytes}
+use Rattle.lite_read.specs.Holding.{TextOver, TextStays}
+use Rattle.lite_read.specs.Texts.{ReadsText}
+use Rattle.lite_base.specs.Runs.{Runs}
+
+module _ {X R A : Type 0} (over : TextOver X R A) (fold : ReadFold (List ℕ) (Result ℕ Error)) where
+  -- one that goes on takes bytes in, and leaves the text
+  abbrev pub TakesTextIn : Runs ReadMark R → X → X → Type 0
+  TakesTextIn =
+      TakesBytes (λ x. (over.reader x).now) over.read (λ x. fold)
+      (λ x y. TextStays over x y × (string_bytes (over.text y).now ≡ string_bytes (over.text x).now) × over.holds y)
+
+  -- one that answers leaves what is true before each poll
+  abbrev pub AnswersText : Runs ReadMark R → X → Poll (Result ℕ Error) → X → Type 0
+  AnswersText reads x a y = ReadsText over fold reads x (a ∷ []) y × over.holds y

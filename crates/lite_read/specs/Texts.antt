@@ -1,0 +1,44 @@
+-- Bytes that are read for a text, and what the text gains.
+use Rattle.std.specs.Prelude.{◌≡◌, ◌⊎◌, ℕ, List, [], ◌++◌, Result, Ok, Err, IsUtf8, string_bytes}
+use Rattle.std.specs.IoError.{error_kind}
+use Rattle.std.specs.declared.io.Error.{Error}
+use Rattle.std.specs.declared.io.ErrorKind.TheVariants.{InvalidData}
+use Rattle.futures.specs.declared.task.Poll.{Poll}
+use Rattle.lite_io_base.specs.Marks.{ReadMark}
+use Rattle.lite_read.specs.ReadFold.{Gathers, ReadFold}
+use Rattle.lite_read.specs.Holding.{TextOver, TextStays}
+use Rattle.lite_base.specs.Runs.{Runs}
+
+-- the bytes are appended to the text where they are UTF-8, and else dropped
+abbrev pub AppendsText : Runs ℕ (List ℕ)
+AppendsText xs before after = (IsUtf8 xs × (after ≡ before ++ xs)) ⊎ ((¬ IsUtf8 xs) × (after ≡ before))
+
+-- the value where reading the bytes gave the one before: how many there are is no value of bytes that are not UTF-8
+abbrev pub ValueOf : List ℕ → Result ℕ Error → Result ℕ Error → Type 0
+ValueOf xs (Ok n) (Ok m) = IsUtf8 xs × (m ≡ n)
+ValueOf xs (Ok n) (Err e) = (¬ IsUtf8 xs) × (error_kind e ≡ InvalidData)
+ValueOf xs (Err e) r = r ≡ Err e
+
+-- what was read for a text, and the text
+pub record Reading : Type 0 where
+  pub read : List ℕ
+  pub text : List ℕ
+
+-- bytes are read as `fold` says, and go into the text with the value
+abbrev pub in_text : ReadFold (List ℕ) (Result ℕ Error) → ReadFold Reading (Result ℕ Error)
+in_text fold =
+    record {
+      takes = λ p b q. fold.takes p.read b q.read × (q.text ≡ p.text);
+      asks = λ p. fold.asks p.read;
+      gives = λ p marks r q. (v : Result ℕ Error) × (all : List ℕ) × fold.gives p.read marks v all × ValueOf all v r
+          × AppendsText all p.text q.text × (q.read ≡ []);
+    }
+
+module _ {X R A : Type 0} (over : TextOver X R A) where
+  -- what a future has read for its text, and the text
+  abbrev pub reading : X → Reading
+  reading x = record { read = over.read x; text = string_bytes (over.text x).now }
+
+  -- a future that reads for its text
+  abbrev pub ReadsText : ReadFold (List ℕ) (Result ℕ Error) → Runs ReadMark R → Runs (Poll (Result ℕ Error)) X
+  ReadsText fold = Gathers (λ x. (over.reader x).now) reading (λ x. in_text fold) (TextStays over)

@@ -1,0 +1,61 @@
+//! Fills that look at what is there, and lend nothing.
+ghost use Rattle.std.specs.Prelude.{◌≡◌, ◌+◌, ◌<◌, ◌^◌, IfOk, IfSome};
+ghost use Rattle.std.specs.Char.{is_ascii};
+ghost use Rattle.std.specs.List.{list_all};
+ghost use Rattle.futures.specs.Poll.{IfReady};
+ghost use Rattle.futures.specs.Task.{Keeps};
+ghost use Rattle.lite_io_base.specs.Marks.{fill_marks};
+ghost use Rattle.lite_read.specs.Find.{up_to};
+ghost use Rattle.memchr.specs.Find.{IsFirstByte, is_byte};
+ghost use Rattle.lite_base.specs.Registered.{Registered};
+
+use crate::{LineScan, scan_line};
+use lite_base::{Context, Poll};
+use lite_io_base::AsyncBufRead;
+use memchr::memchr;
+use std::io;
+
+/// Fills a reader, and answers where `byte` first stands in what its `buffer` then shows.
+// An answer of I/O has about a hundred bytes, which a call would write and read again.
+#[inline(always)]
+pub(crate) fn find_byte<R: AsyncBufRead>(
+    reader: &mut R,
+    cx: &mut Context<'_>,
+    byte: u8,
+) -> Poll<io::Result<Option<usize>>>
+    ensures ran { R.reads reader.old (fill_marks result (R.lent reader.new)) reader.new }
+    ensures found { IfReady result (λ r. IfOk r (λ at. IsFirstByte (is_byte byte) (R.lent reader.new) at)) }
+    ensures fits { IfReady result (λ r. IfOk r (λ at. IfSome at (λ k. k + 1 < 2 ^ 64))) }
+    ensures left { Registered result (R.registers reader.new) cx.new }
+    ensures kept { Keeps cx.old cx.new }
+{
+    match reader.poll_fill_buf(cx) {
+        Poll::Ready(Ok(available)) => Poll::Ready(Ok(memchr(byte, available))),
+        Poll::Ready(Err(e)) => Poll::Ready(Err(e)),
+        Poll::Pending => Poll::Pending,
+    }
+}
+
+/// Fills a reader, and answers where the first newline stands in what its `buffer` then shows, and whether what stands
+/// before it, or all of it, is ASCII.
+#[tactic(auto, using(crate::proofs::Texts::first_newline, crate::proofs::Texts::line_ascii))]
+pub fn find_line<R: AsyncBufRead>(
+    reader: &mut R,
+    cx: &mut Context<'_>,
+) -> Poll<io::Result<(Option<usize>, bool)>>
+    ensures ran { R.reads reader.old (fill_marks result (R.lent reader.new)) reader.new }
+    ensures found { IfReady result (λ r. IfOk r (λ line. IsFirstByte (is_byte 10) (R.lent reader.new) line.0)) }
+    ensures fits { IfReady result (λ r. IfOk r (λ line. IfSome line.0 (λ k. k + 1 < 2 ^ 64))) }
+    ensures ascii { IfReady result (λ r. IfOk r (λ line. line.1 ≡ list_all is_ascii (up_to line.0 (R.lent reader.new)))) }
+    ensures left { Registered result (R.registers reader.new) cx.new }
+    ensures kept { Keeps cx.old cx.new }
+{
+    match reader.poll_fill_buf(cx) {
+        Poll::Ready(Ok(available)) => {
+            let LineScan { newline, ascii } = scan_line(available);
+            Poll::Ready(Ok((newline, ascii)))
+        }
+        Poll::Ready(Err(e)) => Poll::Ready(Err(e)),
+        Poll::Pending => Poll::Pending,
+    }
+}

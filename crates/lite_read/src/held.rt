@@ -1,0 +1,118 @@
+//! Bytes that are read for a text, which has room for them all, so that they can be appended without memory.
+ghost use Rattle.std.specs.Prelude.{◌≡◌, ◌≤◌, ◌++◌, [], ◌+◌, true, length, take, IfErr, IfOk, IsUtf8, MatchBool, OnErr};
+ghost use Rattle.std.specs.Prelude.{OnOk, string_bytes, string_capacity, string_len};
+ghost use Rattle.std.specs.IoError.{error_kind};
+ghost use Rattle.std.specs.declared.io.ErrorKind.TheVariants.{OutOfMemory};
+ghost use Rattle.lite_io_base.specs.Marks.{bytes as read_bytes};
+ghost use Rattle.lite_read.specs.Holding.{HasRoomFor};
+ghost use Rattle.lite_read.specs.Texts.{AppendsText, ValueOf};
+
+use lite_io_base::AsyncBufRead;
+use std::alloc::{AllocError, Allocator};
+use std::io::ErrorKind;
+use std::{io, str};
+
+/// Adds the first `amount` bytes that `reader` lends, and takes them. `Err` says that memory was refused; nothing changes
+/// then, but how much room there is.
+pub(crate) fn take_in<R: AsyncBufRead, A: Allocator>(
+    reader: &mut R,
+    amount: usize,
+    text: &mut String<A>,
+    bytes: &mut Vec<u8, A>,
+) -> io::Result<()>
+    requires fits { HasRoomFor text.old bytes.old }
+    requires within { amount ≤ length (R.lent reader.old) }
+    ensures fits { HasRoomFor text.new bytes.new }
+    ensures text { string_bytes text.new ≡ string_bytes text.old }
+    ensures ok { IfOk result (λ u. bytes.new.items ≡ bytes.old.items ++ take amount (R.lent reader.old)) }
+    ensures taken { IfOk result (λ u. R.reads reader.old (read_bytes (take amount (R.lent reader.old))) reader.new) }
+    ensures refused { IfErr result (λ e. error_kind e ≡ OutOfMemory) }
+    ensures unread { IfErr result (λ e. reader.new ≡ reader.old) }
+    ensures kept { IfErr result (λ e. bytes.new.items ≡ bytes.old.items) }
+{
+    hold(text, bytes, &reader.buffer()[..amount])?;
+    reader.consume(amount);
+    Ok(())
+}
+
+// Adds a piece. `Err` says that memory was refused; the bytes stay then.
+fn hold<A: Allocator>(
+    text: &mut String<A>,
+    bytes: &mut Vec<u8, A>,
+    piece: &[u8],
+) -> Result<(), AllocError>
+    requires { HasRoomFor text.old bytes.old }
+    ensures fits { HasRoomFor text.new bytes.new }
+    ensures text { string_bytes text.new ≡ string_bytes text.old }
+    ensures ok { OnOk result (bytes.new.items ≡ bytes.old.items ++ piece.now) }
+    ensures err { OnErr result (bytes.new.items ≡ bytes.old.items) }
+{
+    text.reserve(bytes.len() + piece.len())?;
+    bytes.extend_from_slice(piece)
+}
+
+/// Makes room, so that there are `len` bytes. `Err` says that memory was refused; the bytes stay then.
+pub(crate) fn make_room<A: Allocator>(
+    text: &mut String<A>,
+    bytes: &mut Vec<u8, A>,
+    len: usize,
+) -> Result<(), AllocError>
+    requires fits { HasRoomFor text.old bytes.old }
+    requires more { length bytes.old.items ≤ len }
+    ensures fits { HasRoomFor text.new bytes.new }
+    ensures text { string_bytes text.new ≡ string_bytes text.old }
+    ensures front { take (length bytes.old.items) bytes.new.items ≡ bytes.old.items }
+    ensures ok { OnOk result (length bytes.new.items ≡ len) }
+    ensures err { OnErr result (bytes.new.items ≡ bytes.old.items) }
+{
+    text.reserve(len)?;
+    bytes.resize(len, 0)
+}
+
+/// The value where reading the bytes gave `read`. They go into the text, if they are text, and none are held then. Where
+/// they are known as UTF-8 they are not checked.
+pub(crate) fn finish<A: Allocator>(
+    text: &mut String<A>,
+    bytes: &mut Vec<u8, A>,
+    read: io::Result<usize>,
+    known: bool,
+) -> io::Result<usize>
+    requires fits { HasRoomFor text.old bytes.old }
+    requires known { known ≡ true → IsUtf8 bytes.old.items }
+    ensures fits { HasRoomFor text.new bytes.new }
+    ensures value { ValueOf bytes.old.items read result }
+    ensures gains { AppendsText bytes.old.items (string_bytes text.old) (string_bytes text.new) }
+    ensures empty { bytes.new.items ≡ [] }
+{
+    let added = add_text(text, bytes, known);
+    bytes.clear();
+    if added {
+        return read;
+    }
+    match read {
+        Ok(_) => Err(ErrorKind::InvalidData.into()),
+        Err(e) => Err(e),
+    }
+}
+
+// Appends the bytes to the text, and answers whether they are UTF-8. If not, they are not appended.
+fn add_text<A: Allocator>(text: &mut String<A>, bytes: &[u8], known: bool) -> bool
+    requires fits { string_len text.old + length bytes.now ≤ string_capacity text.old }
+    requires known { known ≡ true → IsUtf8 bytes.now }
+    ensures gains { AppendsText bytes.now (string_bytes text.old) (string_bytes text.new) }
+    ensures value { MatchBool result (IsUtf8 bytes.now) (¬ IsUtf8 bytes.now) }
+{
+    if known {
+        let appended = text.push_str(unsafe { str::from_utf8_unchecked(bytes) });
+        prove!(appended.is_ok());
+        return true;
+    }
+    match str::from_utf8(bytes) {
+        Ok(added) => {
+            let appended = text.push_str(added);
+            prove!(appended.is_ok());
+            true
+        }
+        Err(_) => false,
+    }
+}

@@ -1,0 +1,128 @@
+ghost use Rattle.std.specs.Prelude.{⊤, ◌≡◌, ◌≤◌, ◌<◌, ◌++◌, ◌+◌, [], ◌∷◌, None, length, take, IfErr, IfOk};
+ghost use Rattle.std.specs.Char.{is_ascii};
+ghost use Rattle.std.specs.IoError.{error_kind};
+ghost use Rattle.std.specs.List.{list_all};
+ghost use Rattle.std.specs.declared.io.ErrorKind.TheVariants.{OutOfMemory};
+ghost use Rattle.lite_base.specs.Chain.{OneStep};
+ghost use Rattle.lite_base.specs.Laws.Ends.{Terminates-map};
+ghost use Rattle.lite_base.specs.Runs.{NoHint};
+ghost use Rattle.lite_io_base.specs.Marks.{bytes};
+ghost use Rattle.lite_read.specs.Laws.PollSteps.{takes_given};
+ghost use Rattle.lite_read.specs.Laws.Segments.{flow_laws};
+ghost use Rattle.lite_read.specs.Lines.{GivesLines, lines_over, lining};
+ghost use Rattle.lite_read.specs.PieceSteps.{TakesPieceIn};
+
+use crate::find::find_line;
+use crate::text::LineBytes;
+use lite_base::{Context, Poll, PollSteps, Stream, drive};
+use lite_io_base::{AsyncBufRead, CountedRead};
+use std::alloc::Global;
+use std::io;
+
+/// The stream of the lines of a reader.
+///
+/// Made by [`lines`](crate::make::lines). An item is `Ok` with the text before a newline (0x0A), without a return (0x0D) at
+/// its end, or before an end if there is some, and that keeps its return. It is an `Err` of the kind `InvalidData` where the
+/// line isn't UTF-8, and the next poll goes on behind that line; or one with an error of the reader, or of the kind
+/// `OutOfMemory` where memory was refused. These two cut nothing: the bytes before them stay, and the next poll goes on
+/// with them. Ported from `src/io.rs`, `Lines`.
+#[derive(Drop)]
+pub struct Lines<R> {
+    pub(crate) reader: R,
+    // What was read of the next line.
+    pub(crate) held: LineBytes,
+    pub(crate) alloc: Global,
+}
+
+impl<R: AsyncBufRead> Lines<R> {
+    // Takes in the bytes before the newline at `at`, and takes the newline.
+    fn take_line(&mut self, at: usize, ascii: bool) -> io::Result<()>
+        requires within { at < length (R.lent self.old.reader) }
+        requires ascii { ascii ≡ list_all is_ascii (take at (R.lent self.old.reader)) }
+        ensures ok { IfOk result
+            (λ u. self.new.held.bytes.items ≡ self.old.held.bytes.items ++ take at (R.lent self.old.reader)) }
+        ensures taken { IfOk result
+            (λ u. R.reads self.old.reader (bytes (take (at + 1) (R.lent self.old.reader))) self.new.reader) }
+        ensures refused { IfErr result (λ e. error_kind e ≡ OutOfMemory) }
+        ensures unread { IfErr result (λ e. self.new.reader ≡ self.old.reader) }
+        ensures held { IfErr result (λ e. self.new.held.bytes.items ≡ self.old.held.bytes.items) }
+    {
+        self.held.reserve_exact(at)?;
+        self.held.append(&self.reader.buffer()[..at], ascii)?;
+        self.reader.consume(at + 1);
+        Ok(())
+    }
+
+    // Takes in all bytes that are there.
+    fn take_in(&mut self, ascii: bool) -> io::Result<()>
+        requires { ascii ≡ list_all is_ascii (R.lent self.old.reader) }
+        ensures ok { IfOk result
+            (λ u. self.new.held.bytes.items ≡ self.old.held.bytes.items ++ R.lent self.old.reader) }
+        ensures taken { IfOk result (λ u. R.reads self.old.reader (bytes (R.lent self.old.reader)) self.new.reader) }
+        ensures refused { IfErr result (λ e. error_kind e ≡ OutOfMemory) }
+        ensures unread { IfErr result (λ e. self.new.reader ≡ self.old.reader) }
+        ensures held { IfErr result (λ e. self.new.held.bytes.items ≡ self.old.held.bytes.items) }
+    {
+        let available = self.reader.buffer();
+        let amount = available.len();
+        self.held.append(available, ascii)?;
+        self.reader.consume(amount);
+        Ok(())
+    }
+}
+
+impl<R: AsyncBufRead + CountedRead> PollSteps for Lines<R> {
+    type Output = Option<io::Result<String>>;
+
+    ghost can_step = { λ x. R.ranks.counts x.reader };
+
+    ghost step = { OneStep (TakesPieceIn lines_over (lining ⊤) R.reads) (λ x a y. GivesLines R.reads ⊤ x (a ∷ []) y) };
+
+    ghost step_registers = { λ x. R.registers x.reader };
+
+    ghost goes_on = { λ x y c h. R.counting.counts_on x.reader y.reader (bytes h.taken) c h.came };
+
+    ghost finite = { λ x c. Terminates-map (λ y. y.reader) takes_given x (R.ends x.reader c) };
+
+    fn poll_step(&mut self, cx: &mut Context<'_>) -> Option<Poll<Option<io::Result<String>>>> {
+        match find_line(&mut self.reader, cx) {
+            Poll::Ready(Ok((Some(at), ascii))) => match self.take_line(at, ascii) {
+                Ok(()) => Some(Poll::Ready(Some(self.held.whole(self.alloc)))),
+                Err(e) => Some(Poll::Ready(Some(Err(e)))),
+            },
+            Poll::Ready(Ok((None, ascii))) => {
+                if self.reader.buffer().is_empty() {
+                    return Some(Poll::Ready(self.held.last(self.alloc)));
+                }
+                match self.take_in(ascii) {
+                    Ok(()) => None,
+                    Err(e) => Some(Poll::Ready(Some(Err(e)))),
+                }
+            }
+            Poll::Ready(Err(e)) => Some(Poll::Ready(Some(Err(e)))),
+            Poll::Pending => Some(Poll::Pending),
+        }
+    }
+}
+
+impl<R: AsyncBufRead + CountedRead> Stream for Lines<R> {
+    type Item = io::Result<String>;
+
+    ghost can_poll = { λ x. R.ranks.counts x.reader };
+
+    ghost run = { GivesLines R.reads ⊤ };
+
+    ghost registers = { λ x. R.registers x.reader };
+
+    ghost hints = { NoHint };
+
+    ghost laws = { flow_laws lines_over (lining ⊤) R.read_laws };
+
+    fn poll_next(&mut self, cx: &mut Context<'_>) -> Poll<Option<io::Result<String>>> {
+        drive(self, cx)
+    }
+
+    fn size_hint(&self) -> (usize, Option<usize>) {
+        (0, None)
+    }
+}

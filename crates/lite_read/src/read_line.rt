@@ -1,0 +1,153 @@
+ghost use Rattle.std.specs.Prelude.{⊤, ◌≡◌, ◌≤◌, ◌<◌, ◌++◌, ◌+◌, [], Ok, length, take, IfErr, IfOk, string_bytes};
+ghost use Rattle.std.specs.Char.{is_ascii};
+ghost use Rattle.std.specs.IoError.{error_kind};
+ghost use Rattle.std.specs.List.{list_all};
+ghost use Rattle.std.specs.declared.io.ErrorKind.TheVariants.{OutOfMemory};
+ghost use Rattle.lite_base.specs.Chain.{OneStep};
+ghost use Rattle.lite_base.specs.Laws.Ends.{Terminates-map};
+ghost use Rattle.lite_io_base.specs.Marks.{bytes};
+ghost use Rattle.lite_read.specs.Laws.PollSteps.{takes_given};
+ghost use Rattle.lite_read.specs.Holding.{TextStays};
+ghost use Rattle.lite_read.specs.Laws.Texts.{text_laws};
+ghost use Rattle.lite_read.specs.ReadLine.{LineHolds, ReadsLine, line_over, read_line_fold};
+ghost use Rattle.lite_read.specs.Texts.{AppendsText, ValueOf};
+ghost use Rattle.lite_read.specs.TextSteps.{AnswersText, TakesTextIn};
+
+use crate::find::find_line;
+use crate::held::{finish, take_in};
+use lite_base::{Context, Future, Poll, PollSteps, drive};
+use lite_io_base::{AsyncBufRead, CountedRead};
+use std::alloc::{Allocator, Global};
+use std::io;
+
+/// The future of one line, which is appended to a text.
+///
+/// Made by [`read_line`](crate::make::read_line). The value is `Ok` with the number of bytes that were read, the newline
+/// (0x0A) among them if there was one, and 0 at an end before any: the text ends with them then. It is an `Err` of the kind
+/// `InvalidData` where these bytes are not UTF-8, and they are dropped then; or one with an error of the reader, or of the
+/// kind `OutOfMemory` where memory was refused. What was read before these two is appended to the text if it is UTF-8, and
+/// else dropped; a piece for which there was no memory is not read. No byte past the newline is read. While a poll is
+/// pending the text is as it was. Ported from `src/io.rs`, `ReadLineFuture`.
+#[derive(Drop)]
+pub struct ReadLineFuture<'a, R, A: Allocator = Global> {
+    pub(crate) reader: &'a mut R,
+    pub(crate) text: &'a mut String<A>,
+    // What was read of the line.
+    pub(crate) bytes: Vec<u8, A>,
+    // Whether that is ASCII.
+    pub(crate) ascii: bool,
+}
+
+impl<R: AsyncBufRead, A: Allocator> ReadLineFuture<'_, R, A> {
+    // Takes in the first `amount` bytes that are there, and it is known whether they are ASCII.
+    #[tactic(auto, using(crate::proofs::Texts::ascii_more))]
+    fn take_in(&mut self, amount: usize, ascii: bool) -> io::Result<()>
+        requires held { LineHolds self.old }
+        requires within { amount ≤ length (R.lent self.old.reader.now) }
+        requires ascii { ascii ≡ list_all is_ascii (take amount (R.lent self.old.reader.now)) }
+        ensures held { LineHolds self.new }
+        ensures stays { TextStays line_over self.old self.new }
+        ensures text { string_bytes self.new.text.now ≡ string_bytes self.old.text.now }
+        ensures ok { IfOk result
+            (λ u. self.new.bytes.items ≡ self.old.bytes.items ++ take amount (R.lent self.old.reader.now)) }
+        ensures taken { IfOk result
+            (λ u. R.reads self.old.reader.now
+            (bytes (take amount (R.lent self.old.reader.now))) self.new.reader.now) }
+        ensures refused { IfErr result (λ e. error_kind e ≡ OutOfMemory) }
+        ensures unread { IfErr result (λ e. self.new.reader.now ≡ self.old.reader.now) }
+        ensures kept { IfErr result (λ e. self.new.bytes.items ≡ self.old.bytes.items) }
+    {
+        take_in(self.reader, amount, self.text, &mut self.bytes)?;
+        self.ascii &= ascii;
+        Ok(())
+    }
+
+    // The value of a line that was read whole.
+    fn whole(&mut self) -> io::Result<usize>
+        requires { LineHolds self.old }
+        ensures held { LineHolds self.new }
+        ensures reader { self.new.reader ≡ self.old.reader }
+        ensures text { self.new.text ≡ record self.old.text { now = self.new.text.now } }
+        ensures value { ValueOf self.old.bytes.items (Ok (length self.old.bytes.items)) result }
+        ensures gains { AppendsText self.old.bytes.items (string_bytes self.old.text.now) (string_bytes self.new.text.now) }
+        ensures empty { self.new.bytes.items ≡ [] }
+    {
+        let amount = self.bytes.len();
+        self.finish(Ok(amount))
+    }
+
+    // The value of a line whose bytes are held, where reading them gave `read`.
+    #[tactic(auto, using(crate::proofs::Texts::all_utf8))]
+    fn finish(&mut self, read: io::Result<usize>) -> io::Result<usize>
+        requires { LineHolds self.old }
+        ensures held { LineHolds self.new }
+        ensures reader { self.new.reader ≡ self.old.reader }
+        ensures text { self.new.text ≡ record self.old.text { now = self.new.text.now } }
+        ensures value { ValueOf self.old.bytes.items read result }
+        ensures gains { AppendsText self.old.bytes.items (string_bytes self.old.text.now) (string_bytes self.new.text.now) }
+        ensures empty { self.new.bytes.items ≡ [] }
+    {
+        let value = finish(self.text, &mut self.bytes, read, self.ascii);
+        self.ascii = true;
+        value
+    }
+}
+
+// How many bytes a reader lends.
+fn lent_by<R: AsyncBufRead>(reader: &R) -> usize
+    ensures { result ≡ length (R.lent reader.now) }
+{
+    reader.buffer().len()
+}
+
+impl<R: AsyncBufRead + CountedRead, A: Allocator> PollSteps for ReadLineFuture<'_, R, A> {
+    type Output = io::Result<usize>;
+
+    ghost can_step = { λ x. R.ranks.counts x.reader.now × LineHolds x };
+
+    ghost step = { OneStep (TakesTextIn line_over (read_line_fold ⊤) R.reads)
+        (AnswersText line_over (read_line_fold ⊤) R.reads) };
+
+    ghost step_registers = { λ x. R.registers x.reader.now };
+
+    ghost goes_on = { λ x y c h. (R.counting.counts_on x.reader.now y.reader.now (bytes h.taken) c.0 h.came, h.stays.2) };
+
+    ghost finite = { λ x c. Terminates-map (λ y. y.reader.now) takes_given x (R.ends x.reader.now c.0) };
+
+    fn poll_step(&mut self, cx: &mut Context<'_>) -> Option<Poll<io::Result<usize>>> {
+        match find_line(self.reader, cx) {
+            Poll::Ready(Ok((Some(at), ascii))) => match self.take_in(at + 1, ascii) {
+                Ok(()) => Some(Poll::Ready(self.whole())),
+                Err(e) => Some(Poll::Ready(self.finish(Err(e)))),
+            },
+            Poll::Ready(Ok((None, ascii))) => {
+                let amount = lent_by(self.reader);
+                if amount == 0 {
+                    return Some(Poll::Ready(self.whole()));
+                }
+                match self.take_in(amount, ascii) {
+                    Ok(()) => None,
+                    Err(e) => Some(Poll::Ready(self.finish(Err(e)))),
+                }
+            }
+            Poll::Ready(Err(e)) => Some(Poll::Ready(self.finish(Err(e)))),
+            Poll::Pending => Some(Poll::Pending),
+        }
+    }
+}
+
+impl<R: AsyncBufRead + CountedRead, A: Allocator> Future for ReadLineFuture<'_, R, A> {
+    type Output = io::Result<usize>;
+
+    ghost can_poll = { λ x. R.ranks.counts x.reader.now × LineHolds x };
+
+    ghost run = { ReadsLine ⊤ R.reads };
+
+    ghost registers = { λ x. R.registers x.reader.now };
+
+    ghost laws = { text_laws line_over (read_line_fold ⊤) R.read_laws };
+
+    fn poll(&mut self, cx: &mut Context<'_>) -> Poll<io::Result<usize>> {
+        drive(self, cx)
+    }
+}

@@ -1,0 +1,125 @@
+ghost use Rattle.std.specs.Prelude.{⊤, ◌≡◌, ◌≤◌, ◌<◌, [], length, take, OnErr, OnOk, string_bytes};
+ghost use Rattle.lite_base.specs.Chain.{OneStep};
+ghost use Rattle.lite_base.specs.Laws.Ends.{Terminates-map};
+ghost use Rattle.lite_io_base.specs.Marks.{bytes};
+ghost use Rattle.lite_read.specs.Laws.PollSteps.{takes_given};
+ghost use Rattle.lite_read.specs.Holding.{TextStays};
+ghost use Rattle.lite_read.specs.Laws.Texts.{text_laws};
+ghost use Rattle.lite_read.specs.ReadToString.{ReadsToString, StringHolds, all_over, read_to_string_fold, text_front};
+ghost use Rattle.lite_read.specs.Texts.{AppendsText, ValueOf};
+ghost use Rattle.lite_read.specs.TextSteps.{AnswersText, TakesTextIn};
+
+use crate::held::{finish, make_room};
+use lite_base::{Context, Future, Poll, PollSteps, drive};
+use lite_io_base::CountedRead;
+use std::alloc::{AllocError, Allocator, Global};
+use std::io;
+use std::io::ErrorKind;
+
+/// How many bytes the first read has room for.
+const FIRST_ROOM: usize = 32;
+
+/// The future of reads up to an end, whose bytes are appended to a text.
+///
+/// Made by [`read_to_string`](crate::make::read_to_string). The value is `Ok` with the number of bytes that were read: the
+/// text ends with them then. It is an `Err` of the kind `InvalidData` where they are not UTF-8, and they are dropped then; or
+/// one with an error of the reader, or of the kind `OutOfMemory` where memory was refused. What was read before these two is
+/// appended to the text if it is UTF-8, and else dropped. Room is made before each read, in the text too, so that a refusal
+/// loses nothing; no byte of it is zeroed twice. While a poll is pending the text is as it was. Ported from `src/io.rs`,
+/// `ReadToStringFuture`.
+#[derive(Drop)]
+pub struct ReadToStringFuture<'a, R, A: Allocator = Global> {
+    pub(crate) reader: &'a mut R,
+    pub(crate) text: &'a mut String<A>,
+    // What was read, and room behind it.
+    pub(crate) bytes: Vec<u8, A>,
+    // How much was read.
+    pub(crate) filled: usize,
+    // How much room is made at once, if that is more than the first.
+    pub(crate) room: usize,
+}
+
+impl<R, A: Allocator> ReadToStringFuture<'_, R, A> {
+    // Makes room for a read, if there is none.
+    fn make_room(&mut self) -> Result<(), AllocError>
+        requires { StringHolds self.old }
+        ensures held { StringHolds self.new }
+        ensures stays { TextStays all_over self.old self.new }
+        ensures reader { self.new.reader ≡ self.old.reader }
+        ensures text { string_bytes self.new.text.now ≡ string_bytes self.old.text.now }
+        ensures front { text_front self.new ≡ text_front self.old }
+        ensures room { OnOk result (self.new.filled < length self.new.bytes.items) }
+    {
+        if self.filled < self.bytes.len() {
+            return Ok(());
+        }
+        match self.filled.checked_add(self.room.max(FIRST_ROOM)) {
+            Some(len) => make_room(self.text, &mut self.bytes, len),
+            None => Err(AllocError),
+        }
+    }
+
+    // The value, where reading gave `read`.
+    fn finish(&mut self, read: io::Result<usize>) -> io::Result<usize>
+        requires { StringHolds self.old }
+        ensures held { StringHolds self.new }
+        ensures reader { self.new.reader ≡ self.old.reader }
+        ensures text { self.new.text ≡ record self.old.text { now = self.new.text.now } }
+        ensures value { ValueOf (text_front self.old) read result }
+        ensures gains { AppendsText (text_front self.old) (string_bytes self.old.text.now) (string_bytes self.new.text.now) }
+        ensures empty { text_front self.new ≡ [] }
+    {
+        self.bytes.truncate(self.filled);
+        self.filled = 0;
+        finish(self.text, &mut self.bytes, read, false)
+    }
+}
+
+impl<R: CountedRead, A: Allocator> PollSteps for ReadToStringFuture<'_, R, A> {
+    type Output = io::Result<usize>;
+
+    ghost can_step = { λ x. R.ranks.counts x.reader.now × StringHolds x };
+
+    ghost step = { OneStep (TakesTextIn all_over (read_to_string_fold ⊤) R.reads)
+        (AnswersText all_over (read_to_string_fold ⊤) R.reads) };
+
+    ghost step_registers = { λ x. R.registers x.reader.now };
+
+    ghost goes_on = { λ x y c h. (R.counting.counts_on x.reader.now y.reader.now (bytes h.taken) c.0 h.came, h.stays.2) };
+
+    ghost finite = { λ x c. Terminates-map (λ y. y.reader.now) takes_given x (R.ends x.reader.now c.0) };
+
+    fn poll_step(&mut self, cx: &mut Context<'_>) -> Option<Poll<io::Result<usize>>> {
+        if self.make_room().is_err() {
+            return Some(Poll::Ready(self.finish(Err(ErrorKind::OutOfMemory.into()))));
+        }
+        match self.reader.poll_read(cx, &mut self.bytes[self.filled..]) {
+            Poll::Ready(Ok(0)) => Some(Poll::Ready(self.finish(Ok(self.filled)))),
+            Poll::Ready(Ok(n)) => {
+                self.filled += n;
+                if self.filled == self.bytes.len() {
+                    self.room = self.room.max(n.saturating_mul(2));
+                }
+                None
+            }
+            Poll::Ready(Err(e)) => Some(Poll::Ready(self.finish(Err(e)))),
+            Poll::Pending => Some(Poll::Pending),
+        }
+    }
+}
+
+impl<R: CountedRead, A: Allocator> Future for ReadToStringFuture<'_, R, A> {
+    type Output = io::Result<usize>;
+
+    ghost can_poll = { λ x. R.ranks.counts x.reader.now × StringHolds x };
+
+    ghost run = { ReadsToString ⊤ R.reads };
+
+    ghost registers = { λ x. R.registers x.reader.now };
+
+    ghost laws = { text_laws all_over (read_to_string_fold ⊤) R.read_laws };
+
+    fn poll(&mut self, cx: &mut Context<'_>) -> Poll<io::Result<usize>> {
+        drive(self, cx)
+    }
+}

@@ -1,0 +1,81 @@
+ghost use Rattle.std.specs.Prelude.{⊤, ◌≤◌, [], ◌∷◌, length};
+ghost use Rattle.lite_base.specs.Chain.{OneStep};
+ghost use Rattle.lite_base.specs.Laws.Ends.{Terminates-map};
+ghost use Rattle.lite_io_base.specs.Marks.{bytes};
+ghost use Rattle.lite_read.specs.Laws.PollSteps.{takes_given};
+ghost use Rattle.lite_read.specs.Laws.ReadUntil.{stays_within, until_laws};
+ghost use Rattle.lite_read.specs.ReadUntil.{ReadsUntil};
+ghost use Rattle.lite_read.specs.PieceSteps.{AppendsMore};
+
+use crate::append::append;
+use crate::find::find_byte;
+use lite_base::{Context, Future, Poll, PollSteps, drive};
+use lite_io_base::{AsyncBufRead, CountedRead};
+use std::io;
+
+/// The future of reads up to a delimiter, or to an end.
+///
+/// Made by [`read_until`](crate::make::read_until). The value is `Ok` with the number of bytes that were appended to the
+/// vector, the delimiter among them, and 0 at an end before any; or `Err` with an error of the reader, or of the kind
+/// `OutOfMemory` where memory was refused. What was read before an error stays in the vector, and what was not appended is
+/// not read. Ported from `src/io.rs`, `ReadUntilFuture`.
+#[derive(Drop)]
+pub struct ReadUntilFuture<'a, R> {
+    pub(crate) reader: &'a mut R,
+    pub(crate) byte: u8,
+    pub(crate) buf: &'a mut Vec<u8>,
+    // How long the vector was at first.
+    pub(crate) start: usize,
+}
+
+impl<R: AsyncBufRead + CountedRead> PollSteps for ReadUntilFuture<'_, R> {
+    type Output = io::Result<usize>;
+
+    ghost can_step = { λ x. R.ranks.counts x.reader.now × (x.start ≤ length x.buf.now.items) };
+
+    ghost step = { OneStep (AppendsMore R.reads ⊤) (λ x a y. ReadsUntil R.reads ⊤ x (a ∷ []) y) };
+
+    ghost step_registers = { λ x. R.registers x.reader.now };
+
+    ghost goes_on = { λ x y c h.
+        (R.counting.counts_on x.reader.now y.reader.now (bytes h.taken) c.0 h.came, stays_within x y h.stays c.1) };
+
+    ghost finite = { λ x c. Terminates-map (λ y. y.reader.now) takes_given x (R.ends x.reader.now c.0) };
+
+    fn poll_step(&mut self, cx: &mut Context<'_>) -> Option<Poll<io::Result<usize>>> {
+        match find_byte(self.reader, cx, self.byte) {
+            Poll::Ready(Ok(Some(at))) => match append(self.reader, at + 1, self.buf) {
+                Ok(()) => Some(Poll::Ready(Ok(self.buf.len() - self.start))),
+                Err(e) => Some(Poll::Ready(Err(e))),
+            },
+            Poll::Ready(Ok(None)) => {
+                let amount = self.reader.buffer().len();
+                if amount == 0 {
+                    return Some(Poll::Ready(Ok(self.buf.len() - self.start)));
+                }
+                match append(self.reader, amount, self.buf) {
+                    Ok(()) => None,
+                    Err(e) => Some(Poll::Ready(Err(e))),
+                }
+            }
+            Poll::Ready(Err(e)) => Some(Poll::Ready(Err(e))),
+            Poll::Pending => Some(Poll::Pending),
+        }
+    }
+}
+
+impl<R: AsyncBufRead + CountedRead> Future for ReadUntilFuture<'_, R> {
+    type Output = io::Result<usize>;
+
+    ghost can_poll = { λ x. R.ranks.counts x.reader.now × (x.start ≤ length x.buf.now.items) };
+
+    ghost run = { ReadsUntil R.reads ⊤ };
+
+    ghost registers = { λ x. R.registers x.reader.now };
+
+    ghost laws = { until_laws ⊤ R.read_laws };
+
+    fn poll(&mut self, cx: &mut Context<'_>) -> Poll<io::Result<usize>> {
+        drive(self, cx)
+    }
+}

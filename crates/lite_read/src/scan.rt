@@ -1,0 +1,98 @@
+//! Where a line ends.
+ghost use Rattle.std.specs.Prelude.{◌≡◌, ◌+◌, ◌≤◌, length, take, drop, position};
+ghost use Rattle.std.specs.Char.{is_ascii};
+ghost use Rattle.std.specs.List.{before_first, list_all, position_or_len, prefix_len};
+ghost use Rattle.lite_read.specs.Scan.{first_set, is_newline};
+
+use std::simd::prelude::*;
+
+const NEWLINE: u8 = b'\n';
+
+/// How many bytes are looked at together.
+const LANES: usize = 32;
+
+/// Where the first line of some bytes ends, and whether it is ASCII.
+#[derive(Clone, Copy, Debug, PartialEq, Eq)]
+pub struct LineScan {
+    /// The place of the first newline, 0x0A. `None` says that there is none.
+    pub newline: Option<usize>,
+    /// Whether each byte before it (each byte, where there is none) is below 0x80.
+    pub ascii: bool,
+}
+
+/// Looks for the first newline, and for bytes before it that are not ASCII. Takes no memory, and looks at no byte past the
+/// 32 that hold the newline. The original has no such call.
+pub fn scan_line(bytes: &[u8]) -> LineScan
+    ensures newline { result.newline ≡ position is_newline bytes.now }
+    ensures ascii { result.ascii ≡ list_all is_ascii (before_first is_newline bytes.now) }
+{
+    let mut ascii = true;
+    let mut at = 0;
+    while bytes.len() - at >= LANES {
+        let line = line_run(bytes, at);
+        ascii &= line <= ascii_run(bytes, at);
+        if line < LANES {
+            return LineScan {
+                newline: Some(at + line),
+                ascii,
+            };
+        }
+        at += LANES;
+    }
+    scan_rest(bytes, at, ascii)
+}
+
+// The bytes from `at` on. Before them is no newline, and `ascii` says whether they are ASCII.
+fn scan_rest(bytes: &[u8], at: usize, mut ascii: bool) -> LineScan
+    requires within { at ≤ length bytes.now }
+    requires line { position_or_len is_newline (take at bytes.now) ≡ at }
+    requires ascii { ascii ≡ list_all is_ascii (take at bytes.now) }
+    ensures newline { result.newline ≡ position is_newline bytes.now }
+    ensures ascii { result.ascii ≡ list_all is_ascii (before_first is_newline bytes.now) }
+{
+    for i in at..bytes.len() {
+        if bytes[i] == NEWLINE {
+            return LineScan {
+                newline: Some(i),
+                ascii,
+            };
+        }
+        ascii &= bytes[i].is_ascii();
+    }
+    LineScan {
+        newline: None,
+        ascii,
+    }
+}
+
+// How many of the 32 bytes from `at` on, from the first, are no newline.
+#[inline(always)]
+fn line_run(bytes: &[u8], at: usize) -> usize
+    requires { at + 32 ≤ length bytes.now }
+    ensures { result ≡ position_or_len is_newline (take 32 (drop at bytes.now)) }
+{
+    let newlines = u8x32::from_slice(&bytes[at..]).simd_eq(u8x32::splat(NEWLINE));
+    first_set(newlines.to_bitmask())
+}
+
+// How many are ASCII.
+#[inline(always)]
+fn ascii_run(bytes: &[u8], at: usize) -> usize
+    requires { at + 32 ≤ length bytes.now }
+    ensures { result ≡ prefix_len is_ascii (take 32 (drop at bytes.now)) }
+{
+    let others = u8x32::from_slice(&bytes[at..]).simd_ge(u8x32::splat(0x80));
+    first_set(others.to_bitmask())
+}
+
+// The place of the lowest bit that is set, or 32.
+#[inline(always)]
+fn first_set(mask: u64) -> usize
+    ensures { result ≡ first_set mask }
+{
+    if mask == 0 {
+        LANES
+    } else {
+        mask.trailing_zeros() as usize
+    }
+}

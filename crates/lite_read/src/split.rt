@@ -1,0 +1,134 @@
+ghost use Rattle.std.specs.Prelude.{⊤, ◌≡◌, ◌≤◌, ◌<◌, ◌++◌, ◌+◌, Option, None, [], ◌∷◌, length, take, IfErr, IfOk};
+ghost use Rattle.std.specs.IoError.{error_kind};
+ghost use Rattle.std.specs.declared.io.ErrorKind.TheVariants.{OutOfMemory};
+ghost use Rattle.lite_base.specs.Chain.{OneStep};
+ghost use Rattle.lite_base.specs.Laws.Ends.{Terminates-map};
+ghost use Rattle.lite_base.specs.Runs.{NoHint};
+ghost use Rattle.lite_io_base.specs.Marks.{bytes};
+ghost use Rattle.lite_read.specs.Laws.PollSteps.{takes_given};
+ghost use Rattle.lite_read.specs.Laws.Segments.{flow_laws};
+ghost use Rattle.lite_read.specs.Pieces.{AtEnd};
+ghost use Rattle.lite_read.specs.Split.{IsVec, Splits, split_over, splitting};
+ghost use Rattle.lite_read.specs.PieceSteps.{TakesPieceIn};
+
+use crate::find::find_byte;
+use lite_base::{Context, Poll, PollSteps, Stream, drive};
+use lite_io_base::{AsyncBufRead, CountedRead};
+use std::alloc::Global;
+use std::{io, mem};
+
+/// The stream of the pieces between delimiters.
+///
+/// Made by [`split`](crate::make::split). An item is `Ok` with the bytes before a delimiter, or before an end if there are
+/// some; or `Err` with an error of the reader, or of the kind `OutOfMemory` where memory was refused. An error cuts
+/// nothing: the bytes before it stay, and the next poll goes on with them. Ported from `src/io.rs`, `Split`.
+#[derive(Drop)]
+pub struct Split<R> {
+    pub(crate) reader: R,
+    pub(crate) byte: u8,
+    // What was read of the next piece.
+    pub(crate) held: Vec<u8>,
+    pub(crate) alloc: Global,
+}
+
+impl<R: AsyncBufRead> Split<R> {
+    // The piece that ends at the delimiter at `at`, which is taken with it.
+    fn cut(&mut self, at: usize) -> io::Result<Vec<u8>>
+        requires { at < length (R.lent self.old.reader) }
+        ensures ok { IfOk result (λ v. IsVec (self.old.held.items ++ take at (R.lent self.old.reader)) result
+            × R.reads self.old.reader (bytes (take (at + 1) (R.lent self.old.reader))) self.new.reader
+            × (self.new.held.items ≡ [])) }
+        ensures err { IfErr result
+            (λ e. (error_kind e ≡ OutOfMemory) × (self.new.reader ≡ self.old.reader)
+            × (self.new.held.items ≡ self.old.held.items)) }
+        ensures byte { self.new.byte ≡ self.old.byte }
+    {
+        self.held.reserve_exact(at)?;
+        self.held.extend_from_slice(&self.reader.buffer()[..at])?;
+        self.reader.consume(at + 1);
+        Ok(mem::replace(&mut self.held, Vec::new(self.alloc)))
+    }
+
+    // Takes in all bytes that are there.
+    fn take_in(&mut self) -> io::Result<()>
+        ensures ok { IfOk result (λ u. self.new.held.items ≡ self.old.held.items ++ R.lent self.old.reader) }
+        ensures taken { IfOk result (λ u. R.reads self.old.reader (bytes (R.lent self.old.reader)) self.new.reader) }
+        ensures refused { IfErr result (λ e. error_kind e ≡ OutOfMemory) }
+        ensures unread { IfErr result (λ e. self.new.reader ≡ self.old.reader) }
+        ensures held { IfErr result (λ e. self.new.held.items ≡ self.old.held.items) }
+        ensures byte { self.new.byte ≡ self.old.byte }
+    {
+        let available = self.reader.buffer();
+        let amount = available.len();
+        self.held.extend_from_slice(available)?;
+        self.reader.consume(amount);
+        Ok(())
+    }
+
+    // What is held at an end, if it is something.
+    fn last(&mut self) -> Option<io::Result<Vec<u8>>>
+        ensures value { AtEnd IsVec self.old.held.items result }
+        ensures empty { self.new.held.items ≡ [] }
+        ensures reader { self.new.reader ≡ self.old.reader }
+        ensures byte { self.new.byte ≡ self.old.byte }
+    {
+        if self.held.is_empty() {
+            None
+        } else {
+            Some(Ok(mem::replace(&mut self.held, Vec::new(self.alloc))))
+        }
+    }
+}
+
+impl<R: AsyncBufRead + CountedRead> PollSteps for Split<R> {
+    type Output = Option<io::Result<Vec<u8>>>;
+
+    ghost can_step = { λ x. R.ranks.counts x.reader };
+
+    ghost step = { OneStep (TakesPieceIn split_over (splitting ⊤) R.reads) (λ x a y. Splits R.reads ⊤ x (a ∷ []) y) };
+
+    ghost step_registers = { λ x. R.registers x.reader };
+
+    ghost goes_on = { λ x y c h. R.counting.counts_on x.reader y.reader (bytes h.taken) c h.came };
+
+    ghost finite = { λ x c. Terminates-map (λ y. y.reader) takes_given x (R.ends x.reader c) };
+
+    fn poll_step(&mut self, cx: &mut Context<'_>) -> Option<Poll<Option<io::Result<Vec<u8>>>>> {
+        match find_byte(&mut self.reader, cx, self.byte) {
+            Poll::Ready(Ok(Some(at))) => Some(Poll::Ready(Some(self.cut(at)))),
+            Poll::Ready(Ok(None)) => {
+                if self.reader.buffer().is_empty() {
+                    return Some(Poll::Ready(self.last()));
+                }
+                match self.take_in() {
+                    Ok(()) => None,
+                    Err(e) => Some(Poll::Ready(Some(Err(e)))),
+                }
+            }
+            Poll::Ready(Err(e)) => Some(Poll::Ready(Some(Err(e)))),
+            Poll::Pending => Some(Poll::Pending),
+        }
+    }
+}
+
+impl<R: AsyncBufRead + CountedRead> Stream for Split<R> {
+    type Item = io::Result<Vec<u8>>;
+
+    ghost can_poll = { λ x. R.ranks.counts x.reader };
+
+    ghost run = { Splits R.reads ⊤ };
+
+    ghost registers = { λ x. R.registers x.reader };
+
+    ghost hints = { NoHint };
+
+    ghost laws = { flow_laws split_over (splitting ⊤) R.read_laws };
+
+    fn poll_next(&mut self, cx: &mut Context<'_>) -> Poll<Option<io::Result<Vec<u8>>>> {
+        drive(self, cx)
+    }
+
+    fn size_hint(&self) -> (usize, Option<usize>) {
+        (0, None)
+    }
+}

@@ -1,0 +1,9 @@
+use Rattle.std.specs.Fn.{CalledAt}
+use Rattle.lite_base.specs.Calling.{Accepts}
+use Rattle.lite_reshape.specs.Laws.PollSteps.{sifts_answer}
+use Rattle.lite_reshape.proofs.filter.FilterStream.poll_next.Goals as goal
+
+pub returns-clause-ran : goal.returns-clause-ran
+returns-clause-ran g c = let steps = c.drive.ensures.stepped in
+    sifts_answer (Accepts (CalledAt g.P.FnMut)) g.S.Stream.run _ (λ m. m.stream)
+    (λ m. m.predicate) g.met.S.Stream.laws.follows _ steps.0 _ _ steps.1 steps.2

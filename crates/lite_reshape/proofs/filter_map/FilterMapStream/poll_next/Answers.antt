@@ -1,0 +1,8 @@
+use Rattle.lite_base.specs.Calling.{Calls}
+use Rattle.lite_reshape.specs.Laws.PollSteps.{sifts_answer}
+use Rattle.lite_reshape.proofs.filter_map.FilterMapStream.poll_next.Goals as goal
+
+pub returns-clause-ran : goal.returns-clause-ran
+returns-clause-ran g c = let steps = c.drive.ensures.stepped in
+    sifts_answer (Calls g.F.FnMut) g.S.Stream.run _ (λ m. m.stream)
+    (λ m. m.f) g.met.S.Stream.laws.follows _ steps.0 _ _ steps.1 steps.2

@@ -1,0 +1,89 @@
+use Rattle.std.proofs.Common.{◌≡◌, Some, None, refl}
+use Rattle.std.specs.Fn.{Called}
+use Rattle.futures.specs.declared.task.Poll.TheVariants.{Ready, Pending}
+use Rattle.lite_base.specs.Answers.{item}
+use Rattle.lite_reshape.specs.Laws.Expanding.{held_answers, made_answers, none_answers}
+use Rattle.lite_reshape.specs.Laws.Then.{hands_pending, hands_value}
+use Rattle.lite_reshape.specs.Then.{HandsOut}
+use Rattle.lite_base.specs.Calling.{Calls}
+use Rattle.lite_stream.specs.Laws.EachItem.{each_asked, each_here}
+use Rattle.lite_reshape.proofs.then.ThenStream.poll_next.Goals as goal
+
+pub returns-in-Some-clause-ran : goal.returns-in-Some-clause-ran
+returns-in-Some-clause-ran g c =
+    let run = g.Fut.Future.run in
+    let is : c.poll.result ≡ Pending = cc in
+    rw c.in-Some.is
+    (held_answers g.S.Stream.run (Calls g.F.FnMut) (HandsOut run) _ _ _ Pending (Some c.poll.new.self)
+    (g.met.S.Stream.laws.rests _) (hands_pending run _ _ c.poll.result is c.poll.ensures.ran))
+
+pub returns-in-Ready-ready-clause-ran : goal.returns-in-Ready-ready-clause-ran
+returns-in-Ready-ready-clause-ran g c =
+    let run = g.Fut.Future.run in
+    let is : c.poll.result ≡ Ready c.in-Ready-ready.field-0 = cc in
+    rw c.in-Some.is
+    (held_answers g.S.Stream.run (Calls g.F.FnMut) (HandsOut run) _ _ _ (item _) None (g.met.S.Stream.laws.rests _)
+    (hands_value run _ _ c.poll.result c.in-Ready-ready.field-0 is c.poll.ensures.ran))
+
+pub returns-in-None-clause-ran : goal.returns-in-None-clause-ran
+returns-in-None-clause-ran g c =
+    let is : c.poll_next.result ≡ Pending = cc in
+    rw c.in-None.is
+    (none_answers g.S.Stream.run (Calls g.F.FnMut)
+    (HandsOut g.Fut.Future.run) _ _ _ c.poll_next.result is c.poll_next.ensures.ran)
+
+pub returns-in-Ready-clause-ran : goal.returns-in-Ready-clause-ran
+returns-in-Ready-clause-ran g c =
+    let run = g.Fut.Future.run in
+    let is : c.poll_next.result ≡ item c.in-Some-ready.item = cc in
+    rw c.in-None.is
+    (made_answers g.S.Stream.run (Calls g.F.FnMut)
+    (HandsOut run) _ _ _ _ c.poll_next.result c.in-Some-ready.item c.f-future.result
+    (item _) None is c.poll_next.ensures.ran c.f-future.ensures
+    (hands_value run _ _ _ _ refl c.in-Ready.ensures.ran))
+
+pub returns-in-Pending-clause-ran : goal.returns-in-Pending-clause-ran
+returns-in-Pending-clause-ran g c =
+    let run = g.Fut.Future.run in
+    let is : c.poll_next.result ≡ item c.in-Some-ready.item = cc in
+    rw c.in-None.is
+    (made_answers g.S.Stream.run (Calls g.F.FnMut)
+    (HandsOut run) _ _ _ _ c.poll_next.result c.in-Some-ready.item c.f-future.result Pending
+    (Some _) is c.poll_next.ensures.ran c.f-future.ensures
+    (hands_pending run _ _ _ refl c.in-Pending.ensures.ran))
+
+pub f-future-requires : goal.f-future-requires
+f-future-requires g c =
+    let is : c.poll_next.result ≡ item c.in-Some-ready.item = cc in
+    (each_here g.S.Stream.run (Calls g.F.FnMut)
+    (λ p x. g.F.FnMut.pre p (x, tt)
+    × ((v : _) (q : _) → Called g.F.FnMut p (x, tt) v q → g.Fut.Future.can_poll v)) _ _ _ _ c.requires.1
+    (rw is at c.poll_next.ensures.ran)).0
+
+pub poll-requires-in-Some-ready : goal.poll-requires-in-Some-ready
+poll-requires-in-Some-ready g c =
+    let is : c.poll_next.result ≡ item c.in-Some-ready.item = cc in
+    (each_here g.S.Stream.run (Calls g.F.FnMut)
+    (λ p x. g.F.FnMut.pre p (x, tt)
+    × ((v : _) (q : _) → Called g.F.FnMut p (x, tt) v q → g.Fut.Future.can_poll v)) _ _ _ _ c.requires.1
+    (rw is at c.poll_next.ensures.ran)).1 _ _ c.f-future.ensures
+
+pub returns-in-Ready-clause-again : goal.returns-in-Ready-clause-again
+returns-in-Ready-clause-again g c =
+    let is : c.poll_next.result ≡ item c.in-Some-ready.item = cc in
+    let more = each_asked g.S.Stream.run (Calls g.F.FnMut)
+    (λ p x. g.F.FnMut.pre p (x, tt)
+    × ((v : _) (q : _) → Called g.F.FnMut p (x, tt) v q
+    → g.Fut.Future.can_poll v)) g.met.S.Stream.laws.follows _ _ _ _ _ c.f-future.result c.requires.1
+    (rw is at c.poll_next.ensures.ran) c.f-future.ensures in
+    (c.poll_next.ensures.again, more, c.requires.2)
+
+pub returns-in-Pending-clause-again : goal.returns-in-Pending-clause-again
+returns-in-Pending-clause-again g c =
+    let is : c.poll_next.result ≡ item c.in-Some-ready.item = cc in
+    let more = each_asked g.S.Stream.run (Calls g.F.FnMut)
+    (λ p x. g.F.FnMut.pre p (x, tt)
+    × ((v : _) (q : _) → Called g.F.FnMut p (x, tt) v q
+    → g.Fut.Future.can_poll v)) g.met.S.Stream.laws.follows _ _ _ _ _ c.f-future.result c.requires.1
+    (rw is at c.poll_next.ensures.ran) c.f-future.ensures in
+    (c.poll_next.ensures.again, more, c.in-Pending.ensures.again)

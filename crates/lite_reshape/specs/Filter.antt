@@ -1,0 +1,26 @@
+-- `filter`: the items that the predicate rejects are left out.
+use Rattle.std.specs.Prelude.{Bool}
+use Rattle.lite_base.specs.Answers.{Answer}
+use Rattle.lite_base.specs.Ranks.{Ranks}
+use Rattle.lite_base.specs.Calling.{Accepts}
+use Rattle.lite_base.specs.Runs.{Question, Runs}
+use Rattle.lite_reshape.specs.Leaving.{LeavesOut}
+use Rattle.lite_stream.specs.Through.{AdapterParts, Through}
+use Rattle.lite_reshape.specs.declared.filter.Filter.{Filter}
+
+-- a poll may be made: the source may be polled, its rank counts, and the predicate may be asked about each item of it
+abbrev pub CanFilter : {S F : Type 0} → (S → Type 0) → Ranks S → (S → F → Type 0) → Filter S F → Type 0
+CanFilter can_poll ranks asks x = can_poll x.stream × ranks.counts x.stream × asks x.stream x.predicate
+
+-- the source's list without the items that the predicate rejects
+abbrev pub Filters : {S F A : Type 0} → Runs (Answer A) S → Question F A Bool → Runs (Answer A) (Filter S F)
+Filters run test x l y = Through run (LeavesOut (Accepts test)) x.stream x.predicate l y.stream y.predicate
+
+-- a `filter` is its stream, and its predicate
+abbrev pub filter_parts : {S F : Type 0} → AdapterParts (Filter S F) S F
+filter_parts =
+    record {
+      source = λ m. m.stream;
+      held = λ m. m.predicate;
+      same = λ x y e d. λ i. record { stream = e i; predicate = d i };
+    }

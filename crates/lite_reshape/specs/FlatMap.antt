@@ -1,0 +1,65 @@
+-- `flat_map`: `flatten` of what the function makes of each item.
+use Rattle.std.specs.Prelude.{◌+◌, ◌++◌, List, Option, IfSome}
+use Rattle.std.specs.Fn.{Called, Mut}
+use Rattle.std.specs.List.{FoldsTo}
+use Rattle.lite_base.specs.Answers.{Answer}
+use Rattle.lite_base.specs.Ranks.{Ranks}
+use Rattle.lite_reshape.specs.Flatten.{Flattening}
+use Rattle.lite_reshape.specs.Inner.{CanStepFlat, FlatSteps, inner_rank}
+use Rattle.lite_reshape.specs.declared.flat_map.FlatMap.{FlatMap}
+use Rattle.lite_base.specs.Calling.{Calls}
+use Rattle.lite_base.specs.Runs.{Runs}
+use Rattle.lite_stream.specs.Map.{Maps}
+use Rattle.lite_stream.specs.Through.{AdapterParts, Through}
+use Rattle.lite_stream.specs.declared.map.Map.{Map}
+
+-- the streams that the function makes are flattened
+abbrev pub FlatMaps : {S F V A B : Type 0} → Runs (Answer A) S → Mut F (A × Unit {0}) V → Runs (Answer B) V
+    → Runs (Answer B) (FlatMap S V F)
+FlatMaps run g run' x l y =
+    Through (Maps run (Calls g)) (Flattening run') x.stream x.inner_stream l y.stream y.inner_stream
+
+-- each call of the function, from f on, makes a thing that has the fact
+pub record MakesAlways {F X V : Type 0} (g : Mut F X V) (Fact : V → Type 0) (f : F) : Type 0 where
+  pub at : (xs : List X) (p q : F) (x : X) (v : V) → FoldsTo (λ r y s. (w : V) × Called g r y w s) f xs p
+      → Called g p x v q → Fact v
+
+-- what is held has the fact, and so does each thing that the function makes
+abbrev pub EachMade : {F X V : Type 0} → Mut F X V → (V → Type 0) → F → Option V → Type 0
+EachMade g Fact f held = IfSome held Fact × MakesAlways g Fact f
+
+-- a `flat_map` is a `map` of streams, and the stream that it holds
+abbrev pub flat_map_parts : {S V F : Type 0} → AdapterParts (FlatMap S V F) (Map S F) (Option V)
+flat_map_parts =
+    record {
+      source = λ m. m.stream;
+      held = λ m. m.inner_stream;
+      same = λ x y e d. λ i. record { stream = e i; inner_stream = d i };
+    }
+
+-- a poll may be made: the `map` may be polled, its rank counts, and each stream that the function makes may be polled
+abbrev pub CanFlatMap : {S V F X : Type 0} → Mut F X V → (Map S F → Type 0) → (S → Type 0) → (V → Type 0)
+    → FlatMap S V F → Type 0
+CanFlatMap g can_poll counts can_poll' x =
+    can_poll x.stream × counts x.stream.stream × EachMade g can_poll' x.stream.f x.inner_stream
+
+-- a step may be made: the `map` may be polled, its rank counts, and each stream that the function makes may be polled
+abbrev pub CanStepMap : {S V F A : Type 0} → Runs (Answer A) S → Mut F (A × Unit {0}) V
+    → (Map S F → Type 0) → (S → Type 0) → (V → Type 0) → FlatMap S V F → Type 0
+CanStepMap run g can_poll counts can_poll' =
+    CanStepFlat flat_map_parts (Maps run (Calls g)) can_poll (λ m. counts m.stream) can_poll'
+
+-- one step of a poll of a `flat_map`, after which another may be made
+abbrev pub FlatMapSteps : {S F V A B : Type 0} → Runs (Answer A) S → Mut F (A × Unit {0}) V → Runs (Answer B) V
+    → (FlatMap S V F → Type 0) → FlatMap S V F → Option (Answer B) → FlatMap S V F → Type 0
+FlatMapSteps run g run' can_step = FlatSteps run' (Maps run (Calls g)) flat_map_parts can_step
+
+-- the stream's rank and then that of the stream that is held; each stream that is made has to count
+abbrev pub flat_map_ranks : {S V F X : Type 0} → Mut F X V → Ranks S → Ranks V → Ranks (FlatMap S V F)
+flat_map_ranks g r r' =
+    record {
+      width = r.width + r'.width;
+      rank = λ m. r.rank m.stream.stream ++ inner_rank r'.width r'.rank m.inner_stream;
+      counts = λ m. r.counts m.stream.stream × EachMade g r'.counts m.stream.f m.inner_stream;
+      firm = λ m. r.firm m.stream.stream × EachMade g r'.firm m.stream.f m.inner_stream;
+    }

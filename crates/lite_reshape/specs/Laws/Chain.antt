@@ -1,0 +1,309 @@
+-- Laws of two streams that are chained.
+use Rattle.std.specs.Prelude.{replicate}
+use Rattle.std.proofs.lemmas.List.{length-replicate}
+use Rattle.std.proofs.Common.{◌≡◌, ◌∙◌, ℕ, ◌+◌, List, [], ◌∷◌, ◌++◌, length, Some, None, inl, inr, refl, ap, sym, subst}
+use Rattle.std.proofs.Common.{arith, length-append, append_assoc, append-nil}
+use Rattle.futures.specs.declared.task.Poll.TheVariants.{Ready, Pending}
+use Rattle.lite_base.specs.Answers.{Answer, Endless, end, item, items}
+use Rattle.lite_base.specs.Laws.Falling.{AtMost-both, AtMost-length, Below-after, Below-first, Lowers-at_most}
+use Rattle.lite_base.specs.Laws.Endless.{endless_join}
+use Rattle.lite_base.specs.Laws.Hint.{same_hint}
+use Rattle.lite_base.specs.Rank.{AtMost, Below, Lowers}
+use Rattle.lite_base.specs.Ranks.{Counting, Ranks}
+use Rattle.lite_base.specs.StreamLaws.{RunLaws, StreamLaws}
+use Rattle.lite_base.specs.Laws.StreamLaws.{laws_of, runs_of}
+use Rattle.lite_base.specs.Runs.{Hints, NoHint, Runs}
+use Rattle.lite_reshape.specs.Chain.{Chains, CrossesOver, Joins, is_done, second_after}
+use Rattle.lite_reshape.specs.Chaining.{chain_rank, chain_ranks, second_rank, zeros}
+use Rattle.lite_reshape.specs.Laws.Before.{items_after, not_empty, own_lowers}
+use Rattle.lite_reshape.specs.Laws.Zeros.{zeros_least}
+use Rattle.lite_reshape.specs.declared.chain.Chain.{Chain}
+use Rattle.lite_reshape.specs.declared.chain.Part.TheVariants.{First, Second, Done}
+use Rattle.lite_reshape.specs.declared.chain.Part.{Part}
+use Rattle.lite_stream.specs.Cutting.{Cuts}
+use Rattle.lite_stream.specs.Laws.Cutting.{cuts_relating}
+use Rattle.lite_stream.specs.Laws.Lower.{at_most_below, lowers_after}
+
+zeros_length : (xs : List ℕ) → length (zeros xs) ≡ length xs
+zeros_length xs = length-replicate (length xs) 0
+
+zeros_same : (xs ys : List ℕ) → length xs ≡ length ys → zeros xs ≡ zeros ys
+zeros_same xs ys e = ap (λ n. replicate n 0) e
+
+zeros_below : (xs ys : List ℕ) → Below xs ys → Below (zeros xs) ys
+zeros_below xs ys h = at_most_below (zeros xs) xs ys (zeros_least (length xs) xs refl) h
+
+second_below : (g : Part) (xs ys : List ℕ) → Below xs ys → Below (second_rank g xs) ys
+second_below First xs ys h = h
+second_below Second xs ys h = h
+second_below Done xs ys h = zeros_below xs ys h
+
+-- a rank once the first has ended
+ended_rank : (g : Part) (xs ys : List ℕ) → (g ≡ First → ⊥) → chain_rank g xs ys ≡ zeros xs ++ second_rank g ys
+ended_rank First xs ys n = absurd (n refl)
+ended_rank Second xs ys n = refl
+ended_rank Done xs ys n = refl
+
+chain_below : (g : Part) (xs us ys vs : List ℕ) → Below xs us → length ys ≡ length vs
+    → Below (chain_rank g xs ys) (us ++ vs)
+chain_below First xs us ys vs h e = Below-first xs us ys vs h e
+chain_below Second xs us ys vs h e = Below-first (zeros xs) us ys vs (zeros_below xs us h) e
+chain_below Done xs us ys vs h e = Below-first (zeros xs) us (zeros ys) vs (zeros_below xs us h) (zeros_length ys ∙ e)
+
+module _ {A : Type 0} where
+  -- the second goes on, and the first is not asked again
+  after_not : (s : Part) (b : Answer A) → (s ≡ First → ⊥) → second_after b s ≡ First → ⊥
+  after_not s Pending n e = n e
+  after_not s (Ready None) n e = absurd (cc e)
+  after_not s (Ready (Some x)) n e = n e
+
+  not_first : (s g : Part) (j l : List (Answer A)) → Cuts is_done second_after s j l g → (s ≡ First → ⊥) → g ≡ First → ⊥
+  not_first s g j [] r n e = n (sym r.1 ∙ e)
+  not_first s g j (b ∷ l) (inl r) n e = not_first s g j l r.2 n e
+  not_first s g j (b ∷ l) (inr r) n e = not_first (second_after b s) g r.1 l r.3 (after_not s b n) e
+
+  later : (s g h : Part) (i j k l m : List (Answer A)) → (s ≡ First → ⊥) → Cuts is_done second_after s j l g
+      → Joins g i k m h
+      → (i ≡ []) × Cuts is_done second_after s (j ++ k) (l ++ m) h
+  later s First h i j k l m n r q = absurd (not_first s First j l r n refl)
+  later s Second h i j k l m n r q =
+      (q.0, (cuts_relating is_done second_after).following.joins s Second h j k l m r q.1)
+  later s Done h i j k l m n r q = (q.0, (cuts_relating is_done second_after).following.joins s Done h j k l m r q.1)
+
+  -- answers of the first stand before what follows
+  own_before : (h : Part) (i u k m : List (Answer A)) → Endless i → Joins First u k m h
+      → Joins First (i ++ u) k (i ++ m) h
+  own_before h i u k m endless (inl q) = inl (endless_join i u endless q.0, q.1, ap (λ n. i ++ n) q.2, q.3)
+  own_before h i u k m endless (inr q) =
+      inr (record {
+        own = i ++ q.own;
+        endless = endless_join i q.own endless q.endless;
+        through_end = ap (λ n. i ++ n) q.through_end ∙ sym (append_assoc i q.own (end ∷ []));
+        next = q.next;
+        later = q.later;
+        joined = ap (λ n. i ++ n) q.joined ∙ sym (append_assoc i q.own (q.next ∷ q.later));
+        followed = q.followed;
+      })
+
+  crosses_on : (g h : Part) (i u j k l m : List (Answer A)) → CrossesOver i j l g → Joins g u k m h
+      → CrossesOver (i ++ u) (j ++ k) (l ++ m) h
+  crosses_on g h i u j k l m r q =
+      let e = later Second g h u j k (r.next ∷ r.later) m (λ d. absurd (cc d)) r.followed q in
+      record {
+        own = r.own;
+        endless = r.endless;
+        through_end = ap (λ n. i ++ n) e.0 ∙ append-nil i ∙ r.through_end;
+        next = r.next;
+        later = r.later ++ m;
+        joined = ap (λ n. n ++ m) r.joined ∙ append_assoc r.own (r.next ∷ r.later) m;
+        followed = e.1;
+      }
+
+  joins_follow : (f g h : Part) (i u j k l m : List (Answer A)) → Joins f i j l g → Joins g u k m h
+      → Joins f (i ++ u) (j ++ k) (l ++ m) h
+  joins_follow First g h i u j k l m (inl r) q =
+      rw (r.1, r.2) (own_before h i u k m r.0 (subst (λ p. Joins p u k m h) r.3 q))
+  joins_follow First g h i u j k l m (inr r) q = inr (crosses_on g h i u j k l m r q)
+  joins_follow Second g h i u j k l m r q =
+      let e = later Second g h u j k l m (λ d. absurd (cc d)) r.1 q in
+      (rw (r.0, e.0) refl, e.1)
+  joins_follow Done g h i u j k l m r q =
+      let e = later Done g h u j k l m (λ d. absurd (cc d)) r.1 q in
+      (rw (r.0, e.0) refl, e.1)
+
+  joins_stay : (f g : Part) (i j : List (Answer A)) → Joins f i j [] g → (i ≡ []) × (j ≡ []) × (g ≡ f)
+  joins_stay First g i j (inl r) = (sym r.2, r.1, r.3)
+  joins_stay First g i j (inr r) = absurd (not_empty r.own r.next r.later r.joined)
+  joins_stay Second g i j r = (r.0, r.1.0, r.1.1)
+  joins_stay Done g i j r = (r.0, r.1.0, r.1.1)
+
+  -- after the second's end
+  done_lowers : (g : Part) (j l : List (Answer A)) (us vs : List ℕ) → AtMost us vs
+      → Cuts is_done second_after Done j l g → (g ≡ Done) × Lowers l us vs
+  done_lowers g j [] us vs h r = (r.1, h)
+  done_lowers g j (b ∷ l) us vs h (inl r) = let e = done_lowers g j l us vs h r.2 in (e.0, rw r.1 e.1)
+  done_lowers g j (b ∷ l) us vs h (inr r) = absurd (r.0 refl)
+
+  second_lowers : (g : Part) (j l : List (Answer A)) (xs ys : List ℕ) → Cuts is_done second_after Second j l g
+      → Lowers j xs ys → Lowers l (second_rank g xs) ys
+  second_lowers g j [] xs ys r h = rw r.1 (subst (λ k. Lowers k xs ys) r.0 h)
+  second_lowers g j (b ∷ l) xs ys (inl r) h = absurd (cc r.0)
+  second_lowers g j (Pending ∷ l) xs ys (inr r) h = second_lowers g r.1 l xs ys r.3 (subst (λ k. Lowers k xs ys) r.2 h)
+  second_lowers g j (Ready None ∷ l) xs ys (inr r) h =
+      let same = AtMost-length xs ys (Lowers-at_most r.1 xs ys (subst (λ k. Lowers k xs ys) r.2 h)) in
+      let e = done_lowers g r.1 l (zeros xs) ys (zeros_least (length xs) ys (sym same)) r.3 in
+      rw e.0 e.1
+  second_lowers g j (Ready (Some x) ∷ l) xs ys (inr r) h = second_below g xs ys (subst (λ k. Lowers k xs ys) r.2 h)
+
+  -- what stands after does not rise
+  lowers_first : (l : List (Answer A)) (xs us ys vs : List ℕ) → Lowers l xs us → AtMost ys vs
+      → Lowers l (xs ++ ys) (us ++ vs)
+  lowers_first [] xs us ys vs h m = AtMost-both xs us ys vs h m
+  lowers_first (Pending ∷ l) xs us ys vs h m = lowers_first l xs us ys vs h m
+  lowers_first (Ready None ∷ l) xs us ys vs h m = lowers_first l xs us ys vs h m
+  lowers_first (Ready (Some x) ∷ l) xs us ys vs h m = Below-first xs us ys vs h (AtMost-length ys vs m)
+
+  joins_lowers : (f g : Part) (i j l : List (Answer A)) (xs us ys vs : List ℕ) → Joins f i j l g → Lowers i xs us
+      → Lowers j ys vs
+      → Lowers l (chain_rank g xs ys) (chain_rank f us vs)
+  joins_lowers First g i j l xs us ys vs (inl r) h k =
+      rw (r.2, r.3) (lowers_first i xs us ys vs h (Lowers-at_most j ys vs k))
+  joins_lowers First g i j l xs us ys vs (inr r) h k =
+      let low : Lowers (r.own ++ end ∷ []) xs us = subst (λ n. Lowers n xs us) r.through_end h in
+      let same = AtMost-length xs us (Lowers-at_most i xs us h) in
+      let same' = AtMost-length ys vs (Lowers-at_most j ys vs k) in
+      let second = second_lowers g j (r.next ∷ r.later) ys vs r.followed k in
+      let after = lowers_after (r.next ∷ r.later) (zeros xs) us (second_rank g ys) vs
+      (zeros_least (length xs) us (sym same)) second in
+      let ended = ended_rank g xs ys (not_first Second g j (r.next ∷ r.later) r.followed (λ d. absurd (cc d))) in
+      subst (λ n. Lowers n (chain_rank g xs ys) (us ++ vs)) (sym r.joined)
+      (own_lowers r.own (end ∷ []) (r.next ∷ r.later) xs us (chain_rank g xs ys) (us ++ vs) low
+      (λ _. subst (λ n. Lowers (r.next ∷ r.later) n (us ++ vs)) (sym ended) after)
+      (λ b. chain_below g xs us ys vs b same'))
+  joins_lowers Second g i j l xs us ys vs r h k =
+      let same = AtMost-length xs us (Lowers-at_most i xs us h) in
+      rw (ended_rank g xs ys (not_first Second g j l r.1 (λ d. absurd (cc d))))
+      (lowers_after l (zeros xs) (zeros us) (second_rank g ys) vs (inl (zeros_same xs us same))
+      (second_lowers g j l ys vs r.1 k))
+  joins_lowers Done g i j l xs us ys vs r h k =
+      let same = AtMost-length xs us (Lowers-at_most i xs us h) in
+      let same' = AtMost-length ys vs (Lowers-at_most j ys vs k) in
+      let level = ap (λ z. z ++ zeros ys) (zeros_same xs us same) ∙ ap (λ z. zeros us ++ z) (zeros_same ys vs same') in
+      let e = done_lowers g j l (zeros xs ++ zeros ys) (zeros us ++ zeros vs) (inl level) r.1 in
+      rw e.0 e.1
+
+  -- the second gave the items that went out, and did not end
+  second_items : (s g : Part) (j : List (Answer A)) (l : List A) → Cuts is_done second_after s j (items l) g
+      → (s ≡ Second) → g ≡ Second
+  second_items s g j [] r e = r.1 ∙ e
+  second_items s g j (x ∷ l) (inl r) e = absurd (cc)
+  second_items s g j (x ∷ l) (inr r) e = second_items s g r.1 l r.3 e
+
+  second_falls : (g : Part) (j : List (Answer A)) (b : Answer A) (o : List (Answer A)) (l : List A)
+      (xs us ys vs : List ℕ)
+      → ((a : A) (before : List A) → j ≡ items (a ∷ before) → Below ys vs) → AtMost (zeros xs) us
+      → b ∷ o ≡ items l → Cuts is_done second_after Second j (b ∷ o) g → Below (chain_rank g xs ys) (us ++ vs)
+  second_falls g j b o [] xs us ys vs falls m same r = absurd (cc same)
+  second_falls g j b o (y ∷ l) xs us ys vs falls m same r =
+      let gave : Cuts is_done second_after Second j (items (y ∷ l)) g =
+      subst (λ n. Cuts is_done second_after Second j n g) same r in
+      let e = (cuts_relating is_done second_after).from_items Second g j y l gave in
+      rw (second_items Second g j (y ∷ l) gave refl) (Below-after (zeros xs) us ys vs m (falls e.0 e.1 e.2))
+
+  joins_falls : (f g : Part) (i j : List (Answer A)) (y : A) (l : List A) (xs us ys vs : List ℕ)
+      → ((a : A) (before : List A) → i ≡ items (a ∷ before) → Below xs us)
+      → ((a : A) (before : List A) → j ≡ items (a ∷ before) → Below ys vs)
+      → length xs ≡ length us → length ys ≡ length vs → Joins f i j (items (y ∷ l)) g
+      → Below (chain_rank g xs ys) (chain_rank f us vs)
+  joins_falls First g i j y l xs us ys vs falls falls' same same' (inl r) =
+      rw r.3 (Below-first xs us ys vs (falls y l (sym r.2)) same')
+  joins_falls First g i j y l xs us ys vs falls falls' same same' (inr r) =
+      let m = items_after r.own (r.next ∷ r.later) (y ∷ l) r.joined in
+      second_falls g j r.next r.later m.0 xs us ys vs falls' (zeros_least (length xs) us (sym same)) m.1 r.followed
+  joins_falls Second g i j y l xs us ys vs falls falls' same same' r =
+      second_falls g j (item y) (items l) (y ∷ l) xs (zeros us) ys vs falls' (inl (zeros_same xs us same)) refl r.1
+  joins_falls Done g i j y l xs us ys vs falls falls' same same' r =
+      absurd (elim r.1 [ inl e ↦ cc e.1 | inr e ↦ e.0 refl ])
+
+joins_start : (A : Type 0) (f : Part) → Joins {A = A} f [] [] [] f
+joins_start A First = inl (refl, refl, refl, refl)
+joins_start A Second = (refl, (refl, refl))
+joins_start A Done = (refl, (refl, refl))
+
+module _ {S U A : Type 0} (run : Runs (Answer A) S) (run' : Runs (Answer A) U) where
+  chains_rest : ((x : S) → run x [] x) → ((x : U) → run' x [] x) → (x : Chain S U) → Chains run run' x [] x
+  chains_rest rests rests' x =
+      record {
+        firsts = [];
+        seconds = [];
+        came = rests x.first;
+        then_came = rests' x.second;
+        joined = joins_start A x.part;
+      }
+
+  chains_stay : ((x y : S) → run x [] y → y ≡ x) → ((x y : U) → run' x [] y → y ≡ x) → (x y : Chain S U)
+      → Chains run run' x [] y → y ≡ x
+  chains_stay stays stays' x y h =
+      let e = joins_stay x.part y.part h.firsts h.seconds h.joined in
+      let same = stays x.first y.first (subst (λ l. run x.first l y.first) e.0 h.came) in
+      let same' = stays' x.second y.second (subst (λ l. run' x.second l y.second) e.1 h.then_came) in
+      λ i. record { first = same i; second = same' i; part = e.2 i }
+
+  chains_follow : ((x y z : S) (l m : List (Answer A)) → run x l y → run y m z → run x (l ++ m) z)
+      → ((x y z : U) (l m : List (Answer A)) → run' x l y → run' y m z → run' x (l ++ m) z)
+      → (x y z : Chain S U) (l m : List (Answer A)) → Chains run run' x l y → Chains run run' y m z
+      → Chains run run' x (l ++ m) z
+  chains_follow follows follows' x y z l m a b =
+      record {
+        firsts = a.firsts ++ b.firsts;
+        seconds = a.seconds ++ b.seconds;
+        came = follows x.first y.first z.first a.firsts b.firsts a.came b.came;
+        then_came = follows' x.second y.second z.second a.seconds b.seconds a.then_came b.then_came;
+        joined = joins_follow x.part y.part z.part a.firsts b.firsts a.seconds b.seconds l m a.joined b.joined;
+      }
+
+  module _ (rank : S → List ℕ) (rank' : U → List ℕ) where
+    chains_falls : (x y : Chain S U) (a : A) (more : List A)
+        → ((b : A) (before : List A) → run x.first (items (b ∷ before)) y.first → Below (rank y.first) (rank x.first))
+        → ((b : A) (before : List A) → run' x.second (items (b ∷ before)) y.second
+        → Below (rank' y.second) (rank' x.second))
+        → length (rank y.first) ≡ length (rank x.first) → length (rank' y.second) ≡ length (rank' x.second)
+        → Chains run run' x (items (a ∷ more)) y
+        → Below (chain_rank y.part (rank y.first) (rank' y.second)) (chain_rank x.part (rank x.first) (rank' x.second))
+    chains_falls x y a more falls falls' same same' h =
+        joins_falls x.part y.part h.firsts h.seconds a more (rank y.first) (rank x.first) (rank' y.second)
+        (rank' x.second)
+        (λ b before e. falls b before (subst (λ l. run x.first l y.first) e h.came))
+        (λ b before e. falls' b before (subst (λ l. run' x.second l y.second) e h.then_came)) same same' h.joined
+
+    chains_lowers : (x y : Chain S U) (l : List (Answer A))
+        → ((i : List (Answer A)) → run x.first i y.first → Lowers i (rank y.first) (rank x.first))
+        → ((j : List (Answer A)) → run' x.second j y.second → Lowers j (rank' y.second) (rank' x.second))
+        → Chains run run' x l y
+        → Lowers l (chain_rank y.part (rank y.first) (rank' y.second))
+        (chain_rank x.part (rank x.first) (rank' x.second))
+    chains_lowers x y l lowers lowers' h =
+        joins_lowers x.part y.part h.firsts h.seconds l (rank y.first) (rank x.first) (rank' y.second) (rank' x.second)
+        h.joined (lowers h.firsts h.came) (lowers' h.seconds h.then_came)
+
+chain_sized : (part : Part) (xs ys : List ℕ) (m n : ℕ) → length xs ≡ m → length ys ≡ n
+    → length (chain_rank part xs ys) ≡ m + n
+chain_sized First xs ys m n d e = length-append xs ys ∙ omega (arith, d, e)
+chain_sized Second xs ys m n d e = length-append (zeros xs) ys ∙ omega (arith, zeros_length xs, d, e)
+chain_sized Done xs ys m n d e =
+    length-append (zeros xs) (zeros ys) ∙ omega (arith, zeros_length xs, zeros_length ys, d, e)
+
+same_length : (xs ys : List ℕ) {n : ℕ} → length xs ≡ n → length ys ≡ n → length xs ≡ length ys
+same_length xs ys d e = d ∙ sym e
+
+module _ {S U A : Type 0} {run : Runs (Answer A) S} {run' : Runs (Answer A) U} where
+  pub chain_runs : RunLaws run → RunLaws run' → RunLaws (Chains run run')
+  chain_runs s u =
+      record {
+        rests = chains_rest run run' s.rests u.rests;
+        stays = chains_stay run run' s.stays u.stays;
+        follows = chains_follow run run' s.follows u.follows;
+      }
+
+  pub chain_laws : {hints : Hints S} {hints' : Hints U} → StreamLaws run hints → StreamLaws run' hints'
+      → StreamLaws (Chains run run') NoHint
+  chain_laws s u = laws_of (chain_runs (runs_of s) (runs_of u)) (λ x y hint l e h. same_hint hint (0, None) l e tt)
+
+  pub chain_counting : {r : Ranks S} {r' : Ranks U} → Counting run r → Counting run' r'
+      → Counting (Chains run run') (chain_ranks r r')
+  chain_counting {r} {r'} s u =
+      record {
+        sized = λ x. chain_sized x.part (r.rank x.first) (r'.rank x.second) r.width r'.width (s.sized x.first)
+            (u.sized x.second);
+        counts_on = λ x y l c h.
+            (s.counts_on x.first y.first h.firsts c.0 h.came, u.counts_on x.second y.second h.seconds c.1 h.then_came);
+        firm_on = λ x y l c h.
+            (s.firm_on x.first y.first h.firsts c.0 h.came, u.firm_on x.second y.second h.seconds c.1 h.then_came);
+        falls = λ x y a more c.
+            chains_falls run run' r.rank r'.rank x y a more
+            (λ b before. s.falls x.first y.first b before c.0) (λ b before. u.falls x.second y.second b before c.1)
+            (same_length (r.rank y.first) (r.rank x.first) (s.sized y.first) (s.sized x.first))
+            (same_length (r'.rank y.second) (r'.rank x.second) (u.sized y.second) (u.sized x.second));
+        lowers = λ x y l c. chains_lowers run run' r.rank r'.rank x y l (λ i. s.lowers x.first y.first i c.0)
+            (λ j. u.lowers x.second y.second j c.1);
+      }

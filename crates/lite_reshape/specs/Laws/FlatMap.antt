@@ -1,0 +1,168 @@
+-- Laws of streams that a function makes.
+use Rattle.std.specs.Fn.{Called, Mut}
+use Rattle.std.proofs.Common.{◌≡◌, List, [], ◌∷◌, ◌++◌, Option, Some, None, refl, sym, subst}
+use Rattle.futures.specs.declared.task.Poll.TheVariants.{Ready, Pending}
+use Rattle.lite_base.specs.Alike.{OptionBy, SameItem, Sameness}
+use Rattle.lite_base.specs.Answers.{Answer, item}
+use Rattle.lite_base.specs.Calm.{CalmLaws}
+use Rattle.lite_base.specs.Ends.{Terminates}
+use Rattle.lite_base.specs.Falling.{ItemRun}
+use Rattle.lite_base.specs.Ranks.{Counting, Ranks, ranks_of}
+use Rattle.lite_base.specs.Laws.Ranks.{counting_ends}
+use Rattle.lite_base.specs.Steady.{SteadyLawsBy}
+use Rattle.lite_base.specs.StreamLaws.{StreamLaws}
+use Rattle.lite_base.specs.Laws.StreamLaws.{runs_of}
+use Rattle.lite_reshape.specs.FlatMap.{EachMade, FlatMaps, MakesAlways, flat_map_parts, flat_map_ranks}
+use Rattle.lite_reshape.specs.Inner.{EachInner}
+use Rattle.lite_reshape.specs.Laws.Calming.{flattening_calm}
+use Rattle.lite_reshape.specs.Laws.Flatten.{each_inner_on, flattening, flattening_counting}
+use Rattle.lite_reshape.specs.Laws.SteadyFlatten.{flattening_steady}
+use Rattle.lite_reshape.specs.declared.flat_map.FlatMap.{FlatMap}
+use Rattle.lite_base.specs.Calling.{AgreeFrom, Answering, Calls}
+use Rattle.lite_base.specs.Laws.Calling.{agree_from_matches}
+use Rattle.lite_base.specs.Runs.{Hints, NoHint, Runs}
+use Rattle.lite_stream.specs.Laws.Agreeing.{through_alike, through_steady_over}
+use Rattle.lite_stream.specs.Laws.Calming.{through_calm}
+use Rattle.lite_stream.specs.Laws.Pointwise.{replaces_calming, replaces_agreeing_by, replaces_answering}
+use Rattle.lite_stream.specs.Laws.Pointwise.{replaces_relating}
+use Rattle.lite_stream.specs.Laws.Through.{laws_following, laws_hinted, through_counting}
+use Rattle.lite_stream.specs.Map.{Maps, map_parts}
+use Rattle.lite_stream.specs.Pointwise.{Replaces}
+use Rattle.lite_stream.specs.declared.map.Map.{Map}
+
+-- what is made has the fact, and the function goes on to make such things
+pub makes_on : {F X V : Type 0} (g : Mut F X V) (Fact : V → Type 0) (f : F) (x : X) (v : V) (h : F)
+    → MakesAlways g Fact f → Called g f x v h
+    → Fact v × MakesAlways g Fact h
+makes_on g Fact f x v h always called = (
+  always.at [] f h x v refl called,
+  record {
+    at = λ xs p q y w folds then_called. always.at (x ∷ xs) p q y w (h, (v, called), folds) then_called;
+  },
+)
+
+module _ {F A V : Type 0} (g : Mut F (A × Unit {0}) V) (Fact : V → Type 0) where
+  -- what each call promises holds of each item that comes out
+  made_has : (f h : F) (i : List (Answer A)) (before after : List (Answer V)) (v : V) → MakesAlways g Fact f
+      → Replaces (Calls g) f i (before ++ item v ∷ after) h → Fact v
+  made_has f h [] [] after v always c = absurd c
+  made_has f h [] (b ∷ before) after v always c = absurd c
+  made_has f h (Pending ∷ i) [] after v always c = absurd (cc c.0)
+  made_has f h (Pending ∷ i) (b ∷ before) after v always c = made_has f h i before after v always c.1
+  made_has f h (Ready None ∷ i) [] after v always c = absurd (cc c.0)
+  made_has f h (Ready None ∷ i) (b ∷ before) after v always c = made_has f h i before after v always c.1
+  made_has f h (Ready (Some x) ∷ i) [] after v always (None, k, e, called, c) = absurd called
+  made_has f h (Ready (Some x) ∷ i) [] after v always (Some w, k, e, called, c) =
+      let same : w ≡ v = cc e in subst Fact same (makes_on g Fact f (x, tt) w k always called).0
+  made_has f h (Ready (Some x) ∷ i) (b ∷ before) after v always (None, k, e, called, c) = absurd called
+  made_has f h (Ready (Some x) ∷ i) (b ∷ before) after v always (Some w, k, e, called, c) =
+      made_has k h i before after v (makes_on g Fact f (x, tt) w k always called).1 c
+
+  -- and the function goes on to promise it
+  still_promises : (f h : F) (i : List (Answer A)) (o : List (Answer V)) → MakesAlways g Fact f
+      → Replaces (Calls g) f i o h
+      → MakesAlways g Fact h
+  still_promises f h [] [] always c = subst (MakesAlways g Fact) (sym c) always
+  still_promises f h [] (b ∷ o) always c = absurd c
+  still_promises f h (a ∷ i) [] always c = absurd c
+  still_promises f h (Pending ∷ i) (b ∷ o) always c = still_promises f h i o always c.1
+  still_promises f h (Ready None ∷ i) (b ∷ o) always c = still_promises f h i o always c.1
+  still_promises f h (Ready (Some x) ∷ i) (b ∷ o) always (None, k, e, called, c) = absurd called
+  still_promises f h (Ready (Some x) ∷ i) (b ∷ o) always (Some w, k, e, called, c) =
+      still_promises k h i o (makes_on g Fact f (x, tt) w k always called).1 c
+
+  module _ {S B : Type 0} (run : Runs (Answer A) S) (run' : Runs (Answer B) V) where
+    pub each_made : (x : Map S F) (held : Option V) → EachMade g Fact x.f held
+        → EachInner (Maps run (Calls g)) Fact x held
+    each_made x held each = (each.0, λ y before after v h. made_has x.f y.f h.ins before after v each.1 h.related)
+
+    pub made_promises : (x y : FlatMap S V F) (l : List (Answer B)) → EachMade g Fact x.stream.f x.inner_stream
+        → FlatMaps run g run' x l y
+        → MakesAlways g Fact y.stream.f
+    made_promises x y l each h = still_promises x.stream.f y.stream.f h.came.ins h.ins each.1 h.came.related
+
+    each_made_on : ((b c : V) (l : List (Answer B)) → Fact b → run' b l c → Fact c)
+        → ((x y z : Map S F) (l m : List (Answer V)) → Maps run (Calls g) x l y → Maps run (Calls g) y m z
+        → Maps run (Calls g) x (l ++ m) z)
+        → (x y : FlatMap S V F) (l : List (Answer B)) → EachMade g Fact x.stream.f x.inner_stream
+        → FlatMaps run g run' x l y
+        → EachMade g Fact y.stream.f y.inner_stream
+    each_made_on kept follows x y l each h =
+        let made = each_made x.stream x.inner_stream each in
+        let inner = each_inner_on run'
+        (Maps run (Calls g)) Fact kept follows x.stream y.stream x.inner_stream y.inner_stream l made h in
+        (inner.0, made_promises x y l each h)
+
+module _ {S F A V : Type 0} (g : Mut F (A × Unit {0}) V) {run : Runs (Answer A) S} where
+  outer_laws : {hints : Hints S} → StreamLaws run hints
+      → StreamLaws (Maps run (Calls g)) (λ (m : Map S F) hint. hints m.stream hint)
+  outer_laws laws = laws_hinted map_parts laws (replaces_relating (Calls g))
+
+  outer_counting : {r : Ranks S} → Counting run r
+      → Counting (Maps run (Calls g)) (ranks_of (λ (m : Map S F). m.stream) r)
+  outer_counting c = through_counting map_parts c (replaces_relating (Calls g))
+
+  -- no chain of items that are made is endless
+  pub made_end : {r : Ranks S} → Counting run r → (x : Map S F) → r.counts x.stream
+      → Terminates (ItemRun (Maps run (Calls g))) x
+  made_end c = counting_ends (outer_counting c)
+
+  module _ {B : Type 0} {run' : Runs (Answer B) V} {hints : Hints S} where
+    pub flat_map_laws : {hints' : Hints V} → StreamLaws run hints → StreamLaws run' hints'
+        → StreamLaws (FlatMaps run g run') NoHint
+    flat_map_laws laws laws' = laws_following flat_map_parts (outer_laws laws) (flattening (runs_of laws'))
+
+    pub flat_map_counting : {r : Ranks S} {r' : Ranks V} → StreamLaws run hints → Counting run r → Counting run' r'
+        → Counting (FlatMaps run g run') (flat_map_ranks g r r')
+    flat_map_counting {r} {r'} laws c c' =
+        let outer = outer_laws laws in
+        let all = flattening_counting flat_map_parts outer (outer_counting c) c' in
+        record {
+          sized = all.sized;
+          counts_on = λ x y l k h.
+              let made = each_made_on g r'.counts run run' c'.counts_on outer.follows x y l k.1 h in
+              (c.counts_on x.stream.stream y.stream.stream h.came.ins k.0 h.came.came, made);
+          firm_on = λ x y l k h.
+              let made = each_made_on g r'.firm run run' c'.firm_on outer.follows x y l k.1 h in
+              (c.firm_on x.stream.stream y.stream.stream h.came.ins k.0 h.came.came, made);
+          falls = λ x y a more k h. all.falls x y a more
+              (k.0, each_made g r'.counts run run' x.stream x.inner_stream k.1) h;
+          lowers = λ x y l k h. all.lowers x y l (k.0, each_made g r'.firm run run' x.stream x.inner_stream k.1) h;
+        }
+
+module _ {S F A V B : Type 0} (g : Mut F (A × Unit {0}) V) {run ample : Runs (Answer A) S}
+    {run' found : Runs (Answer B) V}
+    {none none' : Type 0} {alike : S → S → Type 0} {alike' : V → V → Type 0} where
+  -- by functions that make streams which are alike
+  pub flat_map_steady : (like : Sameness A) (same : Sameness B) → SteadyLawsBy like run ample none alike
+      → SteadyLawsBy same run' found none' alike'
+      → SteadyLawsBy same (FlatMaps run g run') (FlatMaps ample g found) (none × none')
+      (λ (x y : FlatMap S V F).
+      alike x.stream.stream y.stream.stream × AgreeFrom (SameItem like) alike' (Calls g) x.stream.f y.stream.f
+      × OptionBy alike' x.inner_stream y.inner_stream)
+  flat_map_steady like same s =
+      let outer = through_steady_over map_parts like (Answering like (Calls g)) s
+      (replaces_relating (Calls g)).following (replaces_answering (Calls g) like) in
+      let made = replaces_agreeing_by (Calls g) like alike' (agree_from_matches (SameItem like) alike' (Calls g)) in
+      flattening_steady flat_map_parts same
+      (λ x y e. (
+        through_alike map_parts x.stream y.stream (s.steady x.stream.stream y.stream.stream e.0) e.1 made,
+        e.2,
+      )) outer.laws outer.found
+
+-- by a function that makes calm streams
+pub flat_map_calm : {S F A V B : Type 0} (g : Mut F (A × Unit {0}) V) {run : Runs (Answer A) S}
+    {run' : Runs (Answer B) V}
+    {hints : Hints S} {is_calm : S → Type 0} {calm : V → Type 0}
+    → StreamLaws run hints → CalmLaws run is_calm → CalmLaws run' calm
+    → CalmLaws (FlatMaps run g run')
+    (λ (m : FlatMap S V F). is_calm m.stream.stream × EachMade g calm m.stream.f m.inner_stream)
+flat_map_calm g {run = run} {run' = run'} {calm = calm} laws c d =
+    let outer = outer_laws g laws in
+    let all = flattening_calm d flat_map_parts outer.follows (through_calm map_parts c (replaces_calming (Calls g))) in
+    record {
+      no_pending = λ x y l k h. all.no_pending x y l (k.0, each_made g calm run run' x.stream x.inner_stream k.1) h;
+      calm_on = λ x y l k h.
+          let made = each_made_on g calm run run' d.calm_on outer.follows x y l k.1 h in
+          (c.calm_on x.stream.stream y.stream.stream h.came.ins k.0 h.came.came, made);
+    }

@@ -1,0 +1,123 @@
+-- Laws of answers of which some are left out.
+use Rattle.std.proofs.Common.{◌≡◌, ℕ, ◌≤◌, ◌<◌, List, [], ◌∷◌, Option, Some, None, refl, ap, subst, sym, arith}
+use Rattle.std.specs.List.{AllByRecursion}
+use Rattle.futures.specs.declared.task.Poll.TheVariants.{Ready, Pending}
+use Rattle.lite_base.specs.Answers.{Answer, before_end, end, item, items}
+use Rattle.lite_base.specs.Calm.{waits}
+use Rattle.lite_base.specs.Laws.Falling.{Lowers-below}
+use Rattle.lite_base.specs.Laws.Segments.{answers_by, answers_given, answers_taken, segments_join}
+use Rattle.lite_base.specs.Rank.{Lowers}
+use Rattle.lite_base.specs.Runs.{Question}
+use Rattle.lite_base.specs.Segments.{OneAnswer, Segment}
+use Rattle.lite_reshape.specs.Leaving.{LeavesOut, Passes, Rejects}
+use Rattle.lite_stream.specs.Laws.Calming.{Calming}
+use Rattle.lite_stream.specs.Laws.Through.{Relating}
+
+-- what holds of each answer that goes out, and of each item that is rejected, holds of each answer that came in
+pub leaves_each : {F A B : Type 0} (call : Question F A (Option B)) (P : Answer A → Type 0) (Q : Answer B → Type 0)
+    → ((p q : F) (a : Answer A) (b : Answer B) → Passes call p a b q → Q b → P a)
+    → ((p q : F) (x : A) → call p x None q → P (item x))
+    → (f g : F) (i : List (Answer A)) (o : List (Answer B)) → LeavesOut call f i o g → AllByRecursion Q o
+    → AllByRecursion P i
+leaves_each call P Q passed rejected f g i o =
+    answers_by item (Rejects call) (Passes call) (λ p i o. AllByRecursion Q o → AllByRecursion P i)
+    (λ p m x i b o t h e. (rejected p m x t.rejected, h e)) (λ p m a i b o t h e. (passed p m a b t e.0, h e.1)) f g i o
+    (λ e. e)
+
+-- answers that are all items
+module _ {A : Type 0} where
+  -- the answer is an item
+  abbrev IsItem : Answer A → Type 0
+  IsItem a = (x : A) × (a ≡ item x)
+
+  items_each : (l : List A) → AllByRecursion IsItem (items l)
+  items_each [] = tt
+  items_each (x ∷ l) = ((x, refl), items_each l)
+
+  each_items : (i : List (Answer A)) → AllByRecursion IsItem i → 0 < before_end i
+      → (x : A) × (before : List A) × (i ≡ items (x ∷ before))
+  each_items [] h some = absurd (omega (arith, some))
+  each_items (a ∷ []) h some = (h.0.0, [], ap (λ c. c ∷ []) h.0.1)
+  each_items (a ∷ b ∷ i) h some =
+      let rest = each_items (b ∷ i) h.1 (subst (λ c. 0 < before_end (c ∷ i)) (sym h.1.0.1) (omega arith)) in
+      (h.0.0, rest.0 ∷ rest.1, (let first = h.0.1 in let more = rest.2 in cc))
+
+-- by induction on the answers in: an item is rejected, or kept; a Pending and an end go out as they came
+module _ {F A B : Type 0} (call : Question F A (Option B)) (P : F → List (Answer A) → List (Answer B) → Type 0)
+    (rejected : (p m : F) (x : A) (i : List (Answer A)) (b : Answer B) (o : List (Answer B)) → call p x None m
+    → P m i (b ∷ o) → P p (item x ∷ i) (b ∷ o))
+    (waits : (p : F) (i : List (Answer A)) (o : List (Answer B)) → P p i o → P p (Pending ∷ i) (Pending ∷ o))
+    (ended : (p : F) (i : List (Answer A)) (o : List (Answer B)) → P p i o → P p (end ∷ i) (end ∷ o))
+    (kept : (p m : F) (x : A) (i : List (Answer A)) (y : B) (o : List (Answer B)) → call p x (Some y) m → P m i o
+    → P p (item x ∷ i) (item y ∷ o)) where
+  passed : (p m : F) (a : Answer A) (i : List (Answer A)) (b : Answer B) (o : List (Answer B)) → Passes call p a b m
+      → P m i o → P p (a ∷ i) (b ∷ o)
+  passed p m a i Pending o h k = rw h.0 (waits p i o (subst (λ z. P z i o) h.1 k))
+  passed p m a i (Ready None) o h k = rw h.0 (ended p i o (subst (λ z. P z i o) h.1 k))
+  passed p m a i (Ready (Some y)) o h k = rw h.1 (kept p m h.0 i y o h.2 k)
+
+  pub leaves_steps : (f g : F) (i : List (Answer A)) (o : List (Answer B)) → P g [] [] → LeavesOut call f i o g
+      → P f i o
+  leaves_steps f g i o none h =
+      answers_by item (Rejects call) (Passes call) P (λ p m x i b o t. rejected p m x i b o t.rejected) passed f g i o
+      none h
+
+module _ {F A B : Type 0} (call : Question F A (Option B)) where
+  leaves_bounded : (f g : F) (i : List (Answer A)) (o : List (Answer B)) → LeavesOut call f i o g
+      → before_end o ≤ before_end i
+  leaves_bounded f g i o =
+      leaves_steps call (λ p i o. before_end o ≤ before_end i) (λ p m x i b o t h. omega (arith, h)) (λ p i o h. h)
+      (λ p i o h. omega arith) (λ p m x i y o t h. omega (arith, h)) f g i o (omega arith)
+
+  leaves_lowers : (f g : F) (i : List (Answer A)) (o : List (Answer B)) (xs ys : List ℕ) → LeavesOut call f i o g
+      → Lowers i xs ys → Lowers o xs ys
+  leaves_lowers f g i o xs ys =
+      leaves_steps call (λ p i o. Lowers i xs ys → Lowers o xs ys)
+      (λ p m x i b o t h. Lowers-below (b ∷ o) xs ys) (λ p i o h. h) (λ p i o h. h) (λ p m x i y o t h k. k) f g i o
+      (λ k. k)
+
+  items_in_out : (f g : F) (i : List (Answer A)) (o : List (Answer B)) → LeavesOut call f i o g
+      → AllByRecursion IsItem o → AllByRecursion IsItem i
+  items_in_out f g i o =
+      leaves_steps call (λ p i o. AllByRecursion IsItem o → AllByRecursion IsItem i)
+      (λ p m x i b o t h e. ((x, refl), h e)) (λ p i o h e. absurd (let same = e.0.1 in cc))
+      (λ p i o h e. absurd (let same = e.0.1 in cc)) (λ p m x i y o t h e. ((x, refl), h e.1)) f g i o (λ e. e)
+
+  pub leaves_relating : Relating (LeavesOut call)
+  leaves_relating =
+      record {
+        following =
+            record {
+              starts = λ f. (refl, refl);
+              empty = λ f g i c. c;
+              joins = segments_join (Segment item (Rejects call) (OneAnswer (Passes call)));
+            };
+        bounds = leaves_bounded;
+        lowers = leaves_lowers;
+        from_items = λ f g i y l h. let fewer = leaves_bounded f g i (items (y ∷ l)) h in
+            each_items i (items_in_out f g i (items (y ∷ l)) h (items_each (y ∷ l))) (omega (arith, fewer));
+      }
+
+  -- no Pending is made up
+  pub leaves_calming : Calming (LeavesOut call)
+  leaves_calming f g i o =
+      leaves_steps call (λ p i o. waits o ≤ waits i) (λ p m x i b o t h. h) (λ p i o h. omega (arith, h))
+      (λ p i o h. h) (λ p m x i y o t h. h) f g i o (omega arith)
+
+-- where one question may be asked in place of another, of what goes with what is asked
+pub leaves_as : {F G A B : Type 0} (call : Question F A (Option B)) (other : Question G A (Option B))
+    (Goes : F → G → Type 0)
+    → ((p q : F) (n : G) (x : A) (o : Option B) → Goes p n → call p x o q → (m : G) × Goes q m × other n x o m)
+    → (p q : F) (n : G) (i : List (Answer A)) (o : List (Answer B)) → Goes p n → LeavesOut call p i o q
+    → (m : G) × Goes q m × LeavesOut other n i o m
+leaves_as {G = G} call other Goes also p q n i o g h =
+    leaves_steps call (λ p i o. (n : G) → Goes p n → (m : G) × Goes q m × LeavesOut other n i o m)
+    (λ p m x i b o t k n g. let e = also p m n x None g t in let d = k e.0 e.1 in
+    (d.0, d.1, answers_taken item (Rejects other) (Passes other) n e.0 d.0 x i b o (record { rejected = e.2 }) d.2))
+    (λ p i o k n g. let d = k n g in
+    (d.0, d.1, answers_given item (Rejects other) (Passes other) n n d.0 Pending i Pending o (refl, refl) d.2))
+    (λ p i o k n g. let d = k n g in
+    (d.0, d.1, answers_given item (Rejects other) (Passes other) n n d.0 end i end o (refl, refl) d.2))
+    (λ p m x i y o t k n g. let e = also p m n x (Some y) g t in let d = k e.0 e.1 in
+    (d.0, d.1, answers_given item (Rejects other) (Passes other) n e.0 d.0 (item x) i (item y) o (x, refl, e.2) d.2))
+    p q i o (λ n g. (n, g, (refl, refl))) h n g

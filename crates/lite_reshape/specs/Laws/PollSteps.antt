@@ -1,0 +1,43 @@
+-- The steps of a poll that leaves items out make one segment.
+use Rattle.std.proofs.Common.{List, [], ◌∷◌, ◌++◌, Option, Some, None, refl}
+use Rattle.lite_base.specs.Answers.{Answer, item}
+use Rattle.lite_base.specs.Chain.{NextStep, Reaches}
+use Rattle.lite_base.specs.Laws.Chain.{Reaches-back}
+use Rattle.lite_base.specs.Laws.Segments.{answers_given, answers_taken}
+use Rattle.lite_base.specs.Runs.{Question, Runs}
+use Rattle.lite_reshape.specs.Leaving.{LeaveStep, LeavesOut, Passes, Rejects, Sifts}
+use Rattle.lite_stream.specs.Through.{Through}
+
+module _ {S F A B : Type 0} (call : Question F A (Option B)) (run : Runs (Answer A) S) where
+  -- the last step of a poll
+  step_answers : (s t : S) (p q : F) (b : Answer B) → LeaveStep call run s p (Some b) t q
+      → Through run (LeavesOut call) s p (b ∷ []) t q
+  step_answers s t p q b h =
+      record {
+        ins = h.0 ∷ [];
+        came = h.1;
+        related = answers_given item (Rejects call) (Passes call) p q q h.0 [] b [] h.2 (refl, refl);
+      }
+
+  -- a step before others
+  step_rejects : ((x y z : S) (l m : List (Answer A)) → run x l y → run y m z → run x (l ++ m) z)
+      → (s t u : S) (p q r : F) (b : Answer B) → LeaveStep call run s p None t q
+      → Through run (LeavesOut call) t q (b ∷ []) u r → Through run (LeavesOut call) s p (b ∷ []) u r
+  step_rejects follows s t u p q r b h m =
+      record {
+        ins = item h.0 ∷ m.ins;
+        came = follows s t u (item h.0 ∷ []) m.ins h.1 m.came;
+        related = answers_taken item (Rejects call) (Passes call) p q r h.0 m.ins b []
+            (record { rejected = h.2 }) m.related;
+      }
+
+  -- the steps of a poll of an adapter
+  pub sifts_answer : {T : Type 0} (can_step : T → Type 0) (source : T → S) (asked : T → F)
+      → ((x y z : S) (l m : List (Answer A)) → run x l y → run y m z → run x (l ++ m) z)
+      → (x y z : T) (b : Answer B) → Reaches (NextStep (Sifts call run can_step source asked)) x y
+      → Sifts call run can_step source asked y (Some b) z
+      → Through run (LeavesOut call) (source x) (asked x) (b ∷ []) (source z) (asked z)
+  sifts_answer can_step source asked follows x y z b goes last =
+      Reaches-back (λ m. Through run (LeavesOut call) (source m) (asked m) (b ∷ []) (source z) (asked z))
+      (λ v w t. step_rejects follows (source v) (source w) (source z) (asked v) (asked w) (asked z) b t.1)
+      x y goes (step_answers (source y) (source z) (asked y) (asked z) b last.1)

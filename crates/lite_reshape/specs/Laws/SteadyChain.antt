@@ -1,0 +1,104 @@
+-- Two streams that are chained, by what each of them answers.
+use Rattle.std.proofs.Common.{◌≡◌, List, [], ◌∷◌, ◌++◌, Option, Some, None, inl, inr, refl, subst, sym, append-nil}
+use Rattle.futures.specs.declared.task.Poll.TheVariants.{Ready, Pending}
+use Rattle.std.specs.Prelude.{⊤}
+use Rattle.lite_base.specs.Alike.{Either, OptionBy, SameAnswer, Sameness}
+use Rattle.lite_base.specs.Answers.{Answer, ComparableBy, Endless, end, strip}
+use Rattle.lite_base.specs.Steady.{SteadyLawsBy}
+use Rattle.lite_reshape.specs.Chain.{Chains, Joins, is_done, second_after}
+use Rattle.lite_reshape.specs.declared.chain.Part.{Part}
+use Rattle.lite_reshape.specs.declared.chain.Part.TheVariants.{First, Second, Done}
+use Rattle.lite_base.specs.Laws.Alike.{both_items, comparable_nil, either_first, either_second, ends_same}
+use Rattle.lite_base.specs.Runs.{Runs}
+use Rattle.lite_reshape.specs.Laws.Chain.{chain_runs}
+use Rattle.lite_stream.specs.Laws.Cutting.{CutsStripped, cut_same, cuts_stripped}
+
+module _ {A : Type 0} where
+  -- as Joins, where nothing is pending
+  abbrev JoinsStripped : Part → Runs (Option A) (List (Option A))
+  JoinsStripped First [] js out = out ≡ []
+  JoinsStripped First (None ∷ is) js out = CutsStripped is_done second_after Second js out
+  JoinsStripped First (Some x ∷ is) js out =
+      (more : List (Option A)) × (out ≡ Some x ∷ more) × JoinsStripped First is js more
+  JoinsStripped Second is js out = CutsStripped is_done second_after Second js out
+  JoinsStripped Done is js out = CutsStripped is_done second_after Done js out
+
+  -- what the first gave before its end goes out
+  own_joined : (own rest after : List (Answer A)) (j : List (Option A)) → Endless own
+      → JoinsStripped First (strip rest) j (strip after)
+      → JoinsStripped First (strip (own ++ rest)) j (strip (own ++ after))
+  own_joined [] rest after j e h = h
+  own_joined (Pending ∷ own) rest after j e h = own_joined own rest after j (cc e) h
+  own_joined (Ready None ∷ own) rest after j e h = absurd (cc e)
+  own_joined (Ready (Some x) ∷ own) rest after j e h =
+      (strip (own ++ after), refl, own_joined own rest after j (cc e) h)
+
+  stripped : (f g : Part) (i j l : List (Answer A)) → Joins f i j l g → JoinsStripped f (strip i) (strip j) (strip l)
+  stripped First g i j l (inl r) =
+      subst (λ k. JoinsStripped First (strip i) (strip j) (strip k)) (sym r.2)
+      (subst (λ k. JoinsStripped First (strip k) (strip j) (strip k)) (append-nil i)
+      (own_joined i [] [] (strip j) r.0 refl))
+  stripped First g i j l (inr r) =
+      let after = cuts_stripped is_done second_after (λ f n. refl) Second g j (r.next ∷ r.later) r.followed in
+      subst (λ k. JoinsStripped First (strip k) (strip j) (strip l)) (sym r.through_end)
+      (subst (λ k. JoinsStripped First (strip (r.own ++ end ∷ [])) (strip j) (strip k)) (sym r.joined)
+      (own_joined r.own (end ∷ []) (r.next ∷ r.later) (strip j) r.endless after))
+  stripped Second g i j l r = cuts_stripped is_done second_after (λ f n. refl) Second g j l r.1
+  stripped Done g i j l r = cuts_stripped is_done second_after (λ f n. refl) Done g j l r.1
+
+  second_same : (x y : Option A) (f : Part) → OptionBy (λ _ _. ⊤) x y
+      → second_after (Ready x) f ≡ second_after (Ready y) f
+  second_same None None f e = refl
+  second_same None (Some y) f e = absurd e
+  second_same (Some x) None f e = absurd e
+  second_same (Some x) (Some y) f e = refl
+
+  module _ (same : Sameness A) where
+    cuts_same : (f : Part) (k h o p : List (Option A)) → CutsStripped is_done second_after f k o
+        → CutsStripped is_done second_after f h p → ComparableBy (SameAnswer same) k h
+        → ComparableBy (SameAnswer same) o p
+    cuts_same = cut_same is_done second_after (λ f n. refl) (SameAnswer same) (ends_same same)
+        (λ x y f e. second_same x y f (both_items same x y e))
+
+    joined_same : (f : Part) (i j k h o p : List (Option A)) → JoinsStripped f i k o → JoinsStripped f j h p
+        → ComparableBy (SameAnswer same) i j
+        → ComparableBy (SameAnswer same) k h → ComparableBy (SameAnswer same) o p
+    joined_same First [] j k h o p r q c d = subst (λ l. ComparableBy (SameAnswer same) l p) (sym r) tt
+    joined_same First (x ∷ i) [] k h o p r q c d =
+        subst (λ l. ComparableBy (SameAnswer same) o l) (sym q) (comparable_nil (SameAnswer same) o)
+    joined_same First (None ∷ i) (None ∷ j) k h o p r q c d = cuts_same Second k h o p r q d
+    joined_same First (None ∷ i) (Some y ∷ j) k h o p r q c d = absurd (both_items same None (Some y) c.0)
+    joined_same First (Some x ∷ i) (None ∷ j) k h o p r q c d = absurd (both_items same (Some x) None c.0)
+    joined_same First (Some x ∷ i) (Some y ∷ j) k h o p r q c d =
+        rw (r.1, q.1) (c.0, joined_same First i j k h r.0 q.0 r.2 q.2 c.1 d)
+    joined_same Second i j k h o p r q c d = cuts_same Second k h o p r q d
+    joined_same Done i j k h o p r q c d = cuts_same Done k h o p r q d
+
+module _ {S U A : Type 0} {run ample : Runs (Answer A) S} {run' ample' : Runs (Answer A) U} {none none' : Type 0}
+    {alike : S → S → Type 0} {alike' : U → U → Type 0} (same other : Sameness A) where
+  -- from one part on
+  pub chain_steady : SteadyLawsBy same run ample none alike → SteadyLawsBy other run' ample' none' alike'
+      → SteadyLawsBy (Either same other) (Chains run run') (Chains ample ample') (none × none')
+      (λ x y. alike x.first y.first × alike' x.second y.second × (y.part ≡ x.part))
+  chain_steady s u =
+      record {
+        laws = chain_runs s.laws u.laws;
+        steady = λ x y e l m x' y' h k.
+            joined_same (Either same other) x.part (strip h.firsts) (strip k.firsts) (strip h.seconds) (strip k.seconds)
+            (strip l) (strip m)
+            (stripped x.part x'.part h.firsts h.seconds l h.joined)
+            (subst (λ p. JoinsStripped p (strip k.firsts) (strip k.seconds) (strip m)) e.2
+            (stripped y.part y'.part k.firsts k.seconds m k.joined))
+            (either_first same other (strip h.firsts) (strip k.firsts)
+            (s.steady x.first y.first e.0 h.firsts k.firsts x'.first y'.first h.came k.came))
+            (either_second same other (strip h.seconds) (strip k.seconds)
+            (u.steady x.second y.second e.1 h.seconds k.seconds x'.second y'.second h.then_came k.then_came));
+        found = λ n x y l h.
+            record {
+              firsts = h.firsts;
+              seconds = h.seconds;
+              came = s.found n.0 x.first y.first h.firsts h.came;
+              then_came = u.found n.1 x.second y.second h.seconds h.then_came;
+              joined = h.joined;
+            };
+      }

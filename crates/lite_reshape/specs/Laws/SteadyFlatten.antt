@@ -1,0 +1,179 @@
+-- Streams one after the other: what goes out, Pendings aside, is the same where they are alike.
+use Rattle.std.specs.Prelude.{⊤}
+use Rattle.std.proofs.Common.{◌≡◌, ◌∙◌, ◌⊎◌, List, [], ◌∷◌, ◌++◌, Option, Some, None, inl, inr, refl, ap, subst}
+use Rattle.futures.specs.declared.task.Poll.TheVariants.{Ready, Pending}
+use Rattle.lite_base.specs.Alike.{AlikeBy, OptionBy, SameAnswer, SameItem, Sameness}
+use Rattle.lite_base.specs.Answers.{Answer, ComparableBy, Endless, end, strip}
+use Rattle.lite_base.specs.Steady.{SteadinessBy, SteadyLawsBy, TakesNone}
+use Rattle.lite_reshape.specs.Cloned.{Refers}
+use Rattle.lite_reshape.specs.Flatten.{Flat, Flattening, InnerEnded, InnerHeld}
+use Rattle.lite_reshape.specs.Inner.{EachInner}
+use Rattle.lite_reshape.specs.Laws.Replacing.{Placed, PlacedFrom, items_same, placed_from_same, refers_match}
+use Rattle.lite_base.specs.Laws.Answers.{strip_join}
+use Rattle.lite_base.specs.Laws.Alike.{both_items, comparable_as, comparable_nil}
+use Rattle.lite_base.specs.Laws.Calling.{answer_items}
+use Rattle.lite_base.specs.StreamLaws.{RunLaws}
+use Rattle.lite_base.specs.Runs.{Runs}
+use Rattle.lite_reshape.specs.Laws.Flatten.{flattening}
+use Rattle.lite_stream.specs.Laws.Through.{through_runs}
+use Rattle.lite_stream.specs.Through.{AdapterParts, Adapts}
+
+module _ {A : Type 0} where
+  abbrev AllItems : List (Option A) → Type 0
+  AllItems [] = ⊤
+  AllItems (None ∷ l) = ⊥
+  AllItems (Some x ∷ l) = AllItems l
+
+  no_end : (l : List (Answer A)) → Endless l → AllItems (strip l)
+  no_end [] e = tt
+  no_end (Pending ∷ l) e = no_end l (cc)
+  no_end (Ready None ∷ l) e = absurd (cc e)
+  no_end (Ready (Some x) ∷ l) e = no_end l (cc)
+
+  module _ (same : Sameness A) where
+    before_left : (l m k : List (Option A)) → AllItems l → ComparableBy (SameAnswer same) l (m ++ None ∷ [])
+        → ComparableBy (SameAnswer same) l (m ++ k)
+    before_left [] m k n c = tt
+    before_left (None ∷ l) m k n c = absurd n
+    before_left (Some x ∷ l) [] k n c = absurd (both_items same (Some x) None c.0)
+    before_left (Some x ∷ l) (y ∷ m) k n c = (c.0, before_left l m k n c.1)
+
+    before_right : (l m k : List (Option A)) → AllItems m → ComparableBy (SameAnswer same) (l ++ None ∷ []) m
+        → ComparableBy (SameAnswer same) (l ++ k) m
+    before_right l [] k n c = comparable_nil (SameAnswer same) (l ++ k)
+    before_right l (None ∷ m) k n c = absurd n
+    before_right [] (Some y ∷ m) k n c = absurd (both_items same None (Some y) c.0)
+    before_right (x ∷ l) (Some y ∷ m) k n c = (c.0, before_right l m k n c.1)
+
+    both_end : (l m k h : List (Option A)) → AllItems l → AllItems m
+        → ComparableBy (SameAnswer same) (l ++ None ∷ []) (m ++ None ∷ [])
+        → ComparableBy (SameAnswer same) k h
+        → ComparableBy (SameAnswer same) (l ++ k) (m ++ h)
+    both_end [] [] k h n o c d = d
+    both_end [] (None ∷ m) k h n o c d = absurd o
+    both_end [] (Some y ∷ m) k h n o c d = absurd (both_items same None (Some y) c.0)
+    both_end (None ∷ l) m k h n o c d = absurd n
+    both_end (Some x ∷ l) [] k h n o c d = absurd (both_items same (Some x) None c.0)
+    both_end (Some x ∷ l) (None ∷ m) k h n o c d = absurd o
+    both_end (Some x ∷ l) (Some y ∷ m) k h n o c d = (c.0, both_end l m k h n o c.1 d)
+
+module _ {B A : Type 0} (run : Runs (Answer A) B) where
+  -- b goes on, or it has ended and others follow
+  abbrev OwnInPlace : B → (List (Option A) → Type 0) → List (Option A) → Type 0
+  OwnInPlace b follows out =
+      ((l : List (Answer A)) × (c : B) × run b l c × Endless l × (out ≡ strip l))
+      ⊎ ((own : List (Answer A)) × (c : B) × run b (own ++ end ∷ []) c × Endless own × (more : List (Option A))
+      × (out ≡ strip own ++ more) × follows more)
+
+  in_place : (b : B) (i : List (Answer B)) (l : List (Answer A)) (last : Option B)
+      → ((m : List (Answer A)) → Flat run i m last → Placed Refers OwnInPlace tt (strip i) (strip m))
+      → InnerHeld run b i l last ⊎ InnerEnded run b (Flat run i) l last
+      → OwnInPlace b (Placed Refers OwnInPlace tt (strip i)) (strip l)
+  in_place b i l last rest (inl h) = inl (l, h.2, h.3, h.1, refl)
+  in_place b i l last rest (inr h) =
+      inr (h.0, h.5, h.6, h.4, strip (h.1 ∷ h.2), ap strip h.3 ∙ strip_join h.0 (h.1 ∷ h.2), rest (h.1 ∷ h.2) h.7)
+
+  placed : (last : Option B) (i : List (Answer B)) (l : List (Answer A)) → Flat run i l last
+      → Placed Refers OwnInPlace tt (strip i) (strip l)
+  placed last [] [] h = refl
+  placed last [] (a ∷ l) h = absurd h
+  placed last (a ∷ i) [] h = absurd h
+  placed last (Pending ∷ i) (a ∷ l) h = rw h.0 (placed last i l h.1)
+  placed last (Ready None ∷ i) (a ∷ l) h = rw h.0 (strip l, refl, placed last i l h.1)
+  placed last (Ready (Some b) ∷ i) (a ∷ l) h = (b, tt, refl, in_place b i (a ∷ l) last (λ m. placed last i m) h)
+
+  placed_from : (held last : Option B) (i : List (Answer B)) (l : List (Answer A)) → Flattening run held i l last
+      → PlacedFrom Refers OwnInPlace tt held (strip i) (strip l)
+  placed_from None last i l h = placed last i l h
+  placed_from (Some b) last i l h = in_place b i l last (λ m. placed last i m) h
+
+  module _ (same : Sameness A) {alike : B → B → Type 0} (steady : SteadinessBy (SameAnswer same) run alike) where
+    abbrev Go : List (Option A) → List (Option A) → Type 0
+    Go = ComparableBy (SameAnswer same)
+
+    places : (b c : B) (P Q : List (Option A) → Type 0) (o p : List (Option A)) → alike b c → OwnInPlace b P o
+        → OwnInPlace c Q p
+        → ((o' p' : List (Option A)) → P o' → Q p' → Go o' p') → Go o p
+    places b c P Q o p a (inl r) (inl q) rest = rw (r.4, q.4) (steady b c a r.0 q.0 r.1 q.1 r.2 q.2)
+    places b c P Q o p a (inl r) (inr q) rest =
+        let both = steady b c a r.0 (q.0 ++ end ∷ []) r.1 q.1 r.2 q.2 in
+        rw (r.4, q.5)
+        (before_left same (strip r.0) (strip q.0) q.4 (no_end r.0 r.3)
+        (subst (λ k. Go (strip r.0) k) (strip_join q.0 (end ∷ [])) both))
+    places b c P Q o p a (inr r) (inl q) rest =
+        let both = steady b c a (r.0 ++ end ∷ []) q.0 r.1 q.1 r.2 q.2 in
+        rw (r.5, q.4)
+        (before_right same (strip r.0) (strip q.0) r.4 (no_end q.0 q.3)
+        (subst (λ k. Go k (strip q.0)) (strip_join r.0 (end ∷ [])) both))
+    places b c P Q o p a (inr r) (inr q) rest =
+        let both = steady b c a (r.0 ++ end ∷ []) (q.0 ++ end ∷ []) r.1 q.1 r.2 q.2 in
+        let right = subst (λ k. Go (strip (r.0 ++ end ∷ [])) k) (strip_join q.0 (end ∷ [])) both in
+        let ends = subst (λ k. Go k (strip q.0 ++ None ∷ [])) (strip_join r.0 (end ∷ [])) right in
+        rw (r.5, q.5)
+        (both_end same (strip r.0) (strip q.0) r.4 q.4 (no_end r.0 r.3) (no_end q.0 q.3) ends
+        (rest r.4 q.4 r.6 q.6))
+
+    -- over outer streams whose items are alike
+    flattening_alike : {M S : Type 0} (p : AdapterParts M S (Option B)) (outer : Runs (Answer B) S) (x y : M)
+        → AlikeBy (OptionBy alike) outer (p.source x) (p.source y)
+        → OptionBy alike (p.held x) (p.held y) → AlikeBy (SameAnswer same) (Adapts p outer (Flattening run)) x y
+    flattening_alike p outer x y a e l m x' y' h k =
+        placed_from_same Refers OwnInPlace same (refers_match alike) places
+        tt tt (p.held x) (p.held y) (strip h.ins) (strip k.ins) (strip l) (strip m) tt e
+        (a h.ins k.ins (p.source x') (p.source y') h.came k.came)
+        (placed_from (p.held x) (p.held x') h.ins l h.related) (placed_from (p.held y) (p.held y') k.ins m k.related)
+
+-- where no poll of an inner stream asks for memory
+module _ {B A : Type 0} {run ample : Runs (Answer A) B} (t : TakesNone run ample) where
+  place_found : (b : B) (i : List (Answer B)) (l : List (Answer A)) (last : Option B)
+      → ((m : List (Answer A)) → Flat run i m last → Flat ample i m last)
+      → InnerHeld run b i l last ⊎ InnerEnded run b (Flat run i) l last → InnerHeld ample b i l last
+      ⊎ InnerEnded ample b (Flat ample i) l last
+  place_found b i l last rest (inl h) = inl (h.0, h.1, h.2, t b h.2 l h.3, h.4)
+  place_found b i l last rest (inr h) =
+      inr (h.0, h.1, h.2, h.3, h.4, h.5, t b h.5 (h.0 ++ end ∷ []) h.6, rest (h.1 ∷ h.2) h.7)
+
+  flat_found : (last : Option B) (i : List (Answer B)) (l : List (Answer A)) → Flat run i l last → Flat ample i l last
+  flat_found last [] [] h = h
+  flat_found last [] (a ∷ l) h = absurd h
+  flat_found last (a ∷ i) [] h = absurd h
+  flat_found last (Pending ∷ i) (a ∷ l) h = (h.0, flat_found last i l h.1)
+  flat_found last (Ready None ∷ i) (a ∷ l) h = (h.0, flat_found last i l h.1)
+  flat_found last (Ready (Some b) ∷ i) (a ∷ l) h = place_found b i (a ∷ l) last (λ m. flat_found last i m) h
+
+  flattening_found : (held last : Option B) (i : List (Answer B)) (l : List (Answer A)) → Flattening run held i l last
+      → Flattening ample held i l last
+  flattening_found None last i l h = flat_found last i l h
+  flattening_found (Some b) last i l h = place_found b i l last (λ m. flat_found last i m) h
+
+module _ {M S B A : Type 0} (p : AdapterParts M S (Option B)) {outer ample : Runs (Answer B) S}
+    {run found : Runs (Answer A) B}
+    {none none' : Type 0} {alike : M → M → Type 0} {alike' : B → B → Type 0} where
+  -- an adapter, where what is alike of it has outer streams whose items are alike
+  pub flattening_steady : (same : Sameness A)
+      → ((x y : M) → alike x y → AlikeBy (OptionBy alike') ample (p.source x) (p.source y)
+      × OptionBy alike' (p.held x) (p.held y))
+      → RunLaws ample → (none → TakesNone outer ample) → SteadyLawsBy same run found none' alike'
+      → SteadyLawsBy same (Adapts p outer (Flattening run)) (Adapts p ample (Flattening found)) (none × none') alike
+  flattening_steady same items laws takes s =
+      record {
+        laws = through_runs p laws (flattening s.laws);
+        steady = λ x y e. flattening_alike found same s.steady p ample x y (items x y e).0 (items x y e).1;
+        found = λ n x y l h.
+            record {
+              ins = h.ins;
+              came = takes n.0 (p.source x) (p.source y) h.ins h.came;
+              related = flattening_found (s.found n.1) (p.held x) (p.held y) h.ins l h.related;
+            };
+      }
+
+-- outer streams that are alike, each item of which is alike to those that it is the same as, have items that are alike
+pub inner_alike : {S B : Type 0} (same : Sameness B) (outer : Runs (Answer B) S) (alike : B → B → Type 0) (s t : S)
+    (held : Option B)
+    → AlikeBy (SameAnswer same) outer s t
+    → EachInner outer (λ b. (c : B) → SameItem same b c → alike b c) s held → AlikeBy (OptionBy alike) outer s t
+inner_alike same outer alike s t held a each l m s' t' h k =
+    items_same (SameItem same) alike l (strip m)
+    (λ before after b e. each.1 s' before after b (subst (λ i. outer s i s') e h))
+    (comparable_as (SameAnswer same) (OptionBy (SameItem same)) (answer_items same) (strip l) (strip m)
+    (a l m s' t' h k))

@@ -1,0 +1,149 @@
+-- Laws of items that are replaced by the lists of futures.
+use Rattle.std.specs.Prelude.{IfSome, cond, nat_lt}
+use Rattle.std.specs.Fn.{Mut}
+use Rattle.std.proofs.Common.{◌≡◌, ℕ, ◌+◌, ◌-◌, ◌^◌, ◌≤◌, List, [], ◌∷◌, ◌++◌, Option, Some, None, Bool, true, false}
+use Rattle.std.proofs.Common.{map, refl, subst, arith}
+use Rattle.futures.specs.declared.task.Poll.{Poll}
+use Rattle.futures.specs.declared.task.Poll.TheVariants.{Ready, Pending}
+use Rattle.lite_base.specs.Ranks.{count_held}
+use Rattle.lite_base.specs.Alike.{OptionBy, SameItem, Sameness}
+use Rattle.lite_base.specs.Answers.{Answer, Gives, Waiting, item}
+use Rattle.lite_base.specs.Calm.{CalmLaws, NoPending}
+use Rattle.lite_base.specs.Future.Handed.{handed}
+use Rattle.lite_base.specs.FutureLaws.{FutureLaws}
+use Rattle.lite_base.specs.Laws.Alike.{alike_agrees}
+use Rattle.lite_base.specs.Laws.Calm.{no_pending_join}
+use Rattle.lite_base.specs.Laws.Future.Spent.{shown_gives, spends_follow, spends_found, spends_rest, spends_stay}
+use Rattle.lite_base.specs.Laws.Hint.{same_hint}
+use Rattle.lite_base.specs.Steady.{FutureSteadyLawsBy, SteadyLawsBy}
+use Rattle.lite_base.specs.StreamLaws.{StreamLaws}
+use Rattle.lite_reshape.specs.FlatMap.{EachMade}
+use Rattle.lite_reshape.specs.Laws.FlatMap.{makes_on}
+use Rattle.lite_reshape.specs.Laws.Calming.{expanding_calm, through_calm_by}
+use Rattle.lite_reshape.specs.Laws.Expanding.{FollowLaws, GivingOne, expanding_bounded, expanding_following}
+use Rattle.lite_reshape.specs.Laws.SteadyExpanding.{OneMade, expanding_agreeing, expanding_found}
+use Rattle.lite_reshape.specs.Then.{HandsOut, Thens, one_more_at_most, then_hint, then_parts}
+use Rattle.lite_reshape.specs.declared.then.Then.{Then}
+use Rattle.lite_base.specs.Calling.{AgreeFrom, Calls}
+use Rattle.lite_base.specs.Laws.Calling.{agree_from_matches}
+use Rattle.lite_base.specs.Runs.{Hints, Question, Runs}
+use Rattle.lite_stream.specs.Laws.Agreeing.{through_steady_by}
+use Rattle.lite_stream.specs.Laws.Through.{laws_bounded}
+
+module _ {B : Type 0} where
+  handed_waiting : (l : List (Poll B)) → Waiting l → Waiting (map (handed Some) l)
+  handed_waiting [] w = tt
+  handed_waiting (Pending ∷ l) w = handed_waiting l w
+  handed_waiting (Ready x ∷ l) w = absurd w
+
+  handed_gives : (l : List (Poll B)) (x : B) → Gives l x → Gives (map (handed Some) l ++ []) (Some x)
+  handed_gives [] x h = absurd h
+  handed_gives (Pending ∷ l) x h = handed_gives l x h
+  handed_gives (Ready y ∷ l) x h = rw (h.0, h.1) (refl, refl)
+
+module _ {V B : Type 0} {run : Runs (Poll B) V} where
+  hands_giving : FutureLaws run → FollowLaws (HandsOut run)
+  hands_giving laws =
+      record {
+        rests = λ v. spends_rest (handed Some) (λ after. after ≡ []) laws refl (Some v);
+        stays = λ v w h. cc (spends_stay (handed Some) (λ after. after ≡ []) laws (Some v) (Some w) h);
+        answers = λ v h. shown_gives (handed Some) h.ins h.after h.value h.joined h.finishes.gives;
+        joins = λ v w next l m. spends_follow (handed Some) (λ after. after ≡ []) laws (λ j k e d. rw (e, d) refl)
+            (Some v) (Some w) next l m;
+      }
+
+  pub hands_one : GivingOne (HandsOut run)
+  hands_one =
+      record {
+        waits = λ v w l h. rw h.3 (handed_waiting h.0 h.1);
+        hands = λ v l h. (h.value, rw (h.joined, h.later) (handed_gives h.ins h.value h.finishes.gives));
+      }
+
+-- one poll of a future
+module _ {V B : Type 0} (run : Runs (Poll B) V) where
+  pub hands_pending : (v w : V) (a : Poll B) → a ≡ Pending → run v (a ∷ []) w → HandsOut run v (Pending ∷ []) (Some w)
+  hands_pending v w a is came = (Pending ∷ [], tt, subst (λ c. run v (c ∷ []) w) is came, refl)
+
+  pub hands_value : (v w : V) (a : Poll B) (y : B) → a ≡ Ready y → run v (a ∷ []) w → HandsOut run v (item y ∷ []) None
+  hands_value v w a y is came =
+      record {
+        ins = Ready y ∷ [];
+        value = y;
+        finishes = record { gives = (refl, refl); last = w; came = subst (λ c. run v (c ∷ []) w) is came };
+        after = [];
+        later = refl;
+        joined = refl;
+      }
+
+bounded_if : (b : Bool) (k n : ℕ) → k ≤ n + 1 → IfSome (cond b (Some (n + 1)) None) (λ most. k ≤ most)
+bounded_if true k n h = h
+bounded_if false k n h = tt
+
+bounded_none : (most : Option ℕ) (k n : ℕ) → k ≤ n + 0 → IfSome most (λ m. n ≤ m) → IfSome most (λ m. k ≤ m)
+bounded_none None k n h b = tt
+bounded_none (Some m) k n h b = omega (arith, h, b)
+
+bounded_some : (most : Option ℕ) (k n : ℕ) → k ≤ n + 1 → IfSome most (λ m. n ≤ m)
+    → IfSome (one_more_at_most most) (λ m. k ≤ m)
+bounded_some None k n h b = tt
+bounded_some (Some m) k n h b = bounded_if (nat_lt m (2 ^ 64 - 1)) k m (omega (arith, h, b))
+
+then_bounded : {V : Type 0} (held : Option V) (hint : ℕ × Option ℕ) (k n : ℕ) → k ≤ n + count_held held
+    → IfSome hint.1 (λ most. n ≤ most)
+    → IfSome (then_hint held hint).1 (λ most. k ≤ most)
+then_bounded None hint k n h b = bounded_none hint.1 k n h b
+then_bounded (Some v) hint k n h b = bounded_some hint.1 k n h b
+
+pub then_laws : {S F V A B : Type 0} (call : Question F A V) {gives : Runs (Poll B) V} {run : Runs (Answer A) S}
+    {hints : Hints S} → StreamLaws run hints → FutureLaws gives
+    → StreamLaws (Thens run call gives)
+    (λ (m : Then S F V) hint. (inner : ℕ × Option ℕ) × hints m.stream inner × (hint ≡ then_hint m.future inner))
+then_laws call {gives = gives} laws laws' =
+    laws_bounded then_parts laws (expanding_following call (HandsOut gives) (hands_giving laws'))
+    (λ x y hint l e h.
+    let fewer = expanding_bounded call (HandsOut gives) hands_one (x.f, x.future) (y.f, y.future) h.ins l h.related in
+    same_hint hint (then_hint x.future e.0) l e.2
+    (then_bounded x.future e.0 _ _ fewer (laws.bounded x.stream y.stream e.0 h.ins e.1 h.came)))
+
+module _ {V B : Type 0} (same : Sameness B) {gives found : Runs (Poll B) V} {none : Type 0} {alike : V → V → Type 0}
+    (s : FutureSteadyLawsBy same gives found none alike) where
+  hands_alike : OneMade (hands_one {run = found}) same alike
+  unfolding hands_one
+  hands_alike v w l m a h k = alike_agrees found v w (s.steady v w a) h.ins k.ins h.value k.value h.finishes k.finishes
+
+  -- by functions that make futures which are alike
+  pub then_steady : {S F A : Type 0} (like : Sameness A) (call : Question F A V) {run ample : Runs (Answer A) S}
+      {none' : Type 0} {alike' : S → S → Type 0} → SteadyLawsBy like run ample none' alike'
+      → SteadyLawsBy same (Thens run call gives) (Thens ample call found) (none' × none)
+      (λ (x y : Then S F V). alike' x.stream y.stream
+      × (AgreeFrom (SameItem like) alike call x.f y.f × OptionBy alike x.future y.future))
+  then_steady like call outer =
+      through_steady_by then_parts like same outer (expanding_following call (HandsOut found) (hands_giving s.laws))
+      (expanding_agreeing hands_one call like same (agree_from_matches (SameItem like) alike call) hands_alike)
+      (λ n. (
+        n.0,
+        expanding_found call
+            (λ v l next h. spends_found (handed Some) (λ after. after ≡ []) (s.found n.1) (Some v) next l h),
+      ))
+
+handed_no_pending : {B : Type 0} (l : List (Poll B)) → NoPending l → NoPending (map (handed Some) l)
+handed_no_pending [] h = tt
+handed_no_pending (Pending ∷ l) h = absurd h
+handed_no_pending (Ready x ∷ l) h = handed_no_pending l h
+
+module _ {V B : Type 0} {gives : Runs (Poll B) V} {calm : V → Type 0} (c : CalmLaws gives calm) where
+  hands_calm : (v : V) (l : List (Answer B)) (next : Option V) → calm v → HandsOut gives v l next → NoPending l
+      × IfSome next calm
+  hands_calm v l (Some w) k h = (rw h.3 (handed_no_pending h.0 (c.no_pending v w h.0 k h.2)), c.calm_on v w h.0 k h.2)
+  hands_calm v l None k h =
+      let ins = handed_no_pending h.ins (c.no_pending v h.finishes.last h.ins k h.finishes.came) in
+      (rw (h.joined, h.later) (no_pending_join (map (handed Some) h.ins) [] ins tt), tt)
+
+  -- by a function that makes calm futures
+  pub then_calm : {S F A : Type 0} (g : Mut F (A × Unit {0}) V) {run : Runs (Answer A) S} {is_calm : S → Type 0}
+      → CalmLaws run is_calm
+      → CalmLaws (Thens run (Calls g) gives) (λ (m : Then S F V). is_calm m.stream × EachMade g calm m.f m.future)
+  then_calm g d =
+      through_calm_by then_parts d
+      (expanding_calm (Calls g) (HandsOut gives)
+      (λ f x v h k called. makes_on g calm f (x, tt) v h k called) hands_calm)

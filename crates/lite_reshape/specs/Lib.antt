@@ -1,0 +1,16 @@
+pub mod Chain
+pub mod Chaining
+pub mod Cloned
+pub mod Expanding
+pub mod Filter
+pub mod FilterMap
+pub mod FlatMap
+pub mod Flatten
+pub mod HeldRegisters
+pub mod Inner
+pub mod Laws
+pub mod Leaving
+pub mod Skip
+pub mod SkipWhile
+pub mod StepBy
+pub mod Then

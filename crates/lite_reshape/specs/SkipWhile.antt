@@ -1,0 +1,39 @@
+-- `skip_while`: the items before the first one that the predicate rejects are left out.
+use Rattle.std.specs.Prelude.{◌≡◌, Option, Some, None, Bool, true, false, IfSome}
+use Rattle.std.specs.Fn.{Mut, CalledAt, TakesAt}
+use denote.Ref.{Bor}
+use Rattle.lite_base.specs.Answers.{Answer}
+use Rattle.lite_base.specs.Ranks.{Ranks}
+use Rattle.lite_base.specs.Runs.{Question, Runs}
+use Rattle.lite_reshape.specs.Leaving.{LeavesOut}
+use Rattle.lite_stream.specs.EachItem.{AtEachItem}
+use Rattle.lite_stream.specs.Through.{AdapterParts, Through}
+use Rattle.lite_reshape.specs.declared.skip_while.SkipWhile.{SkipWhile}
+
+-- the predicate is asked until an item is kept, and then it is gone and each item is kept
+abbrev pub SkipsUntil : {F A : Type 0} → Question F A Bool → Option F → A → Option A → Option F → Type 0
+SkipsUntil test None x None q = ⊥
+SkipsUntil test None x (Some y) q = (q ≡ None) × (y ≡ x)
+SkipsUntil {F} test (Some p) x None q = (r : F) × (q ≡ Some r) × test p x true r
+SkipsUntil {F} test (Some p) x (Some y) q = (r : F) × (q ≡ None) × (y ≡ x) × test p x false r
+
+-- the predicate may be asked about each item of the source until it is gone
+abbrev pub MayAskUntil : {S F A : Type 0} → Runs (Answer A) S → Mut F (Bor A × Unit {0}) Bool → S → Option F → Type 0
+MayAskUntil run g = AtEachItem run (SkipsUntil (CalledAt g)) (λ held x. IfSome held (λ p. TakesAt g p x))
+
+-- a poll may be made: the source may be polled, its rank counts, and the predicate may be asked
+abbrev pub CanSkip : {S F : Type 0} → (S → Type 0) → Ranks S → (S → Option F → Type 0) → SkipWhile S F → Type 0
+CanSkip can_poll ranks asks x = can_poll x.stream × ranks.counts x.stream × asks x.stream x.predicate
+
+-- the source's list without the items before the first that the predicate rejects
+abbrev pub SkipsWhile : {S F A : Type 0} → Runs (Answer A) S → Question F A Bool → Runs (Answer A) (SkipWhile S F)
+SkipsWhile run test x l y = Through run (LeavesOut (SkipsUntil test)) x.stream x.predicate l y.stream y.predicate
+
+-- a `skip_while` is its stream, and its predicate until that is gone
+abbrev pub skip_while_parts : {S F : Type 0} → AdapterParts (SkipWhile S F) S (Option F)
+skip_while_parts =
+    record {
+      source = λ m. m.stream;
+      held = λ m. m.predicate;
+      same = λ x y e d. λ i. record { stream = e i; predicate = d i };
+    }

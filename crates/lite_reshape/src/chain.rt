@@ -1,0 +1,88 @@
+ghost use Rattle.std.specs.Prelude.{◌≡◌, None};
+ghost use Rattle.futures.specs.Task.{Keeps};
+ghost use Rattle.lite_reshape.specs.Chain.{Chains};
+ghost use Rattle.lite_reshape.specs.Chaining.{ChainRegisters, SecondAnswers, chain_ranks};
+ghost use Rattle.lite_reshape.specs.declared.chain.Part.TheVariants.{Second};
+ghost use Rattle.lite_reshape.specs.Laws.Chain.{chain_counting, chain_laws};
+ghost use Rattle.lite_base.specs.Registered.{Registered};
+ghost use Rattle.lite_base.specs.Runs.{NoHint};
+
+use lite_base::{Context, Counted, Poll, Stream, ready};
+
+/// Which stream is asked next.
+#[derive(Clone, Copy, Debug)]
+pub(crate) enum Part {
+    First,
+    Second,
+    Done,
+}
+
+/// The items of a stream, and after its end those of another.
+///
+/// Made by [`chain`](crate::make::chain). The second stream is asked in the poll that met the first one's end. Neither
+/// is polled after its end, and then this stream ends for ever. Ported from `src/stream.rs`, `Chain`.
+#[derive(Clone, Debug, Drop)]
+pub struct Chain<S, U> {
+    pub(crate) first: S,
+    pub(crate) second: U,
+    pub(crate) part: Part,
+}
+
+impl<S: Stream, U: Stream<Item = S::Item>> Chain<S, U> {
+    // Asks the second stream, once it is its turn.
+    fn poll_second(&mut self, cx: &mut Context<'_>) -> Poll<Option<S::Item>>
+        requires turn { self.old.part ≡ Second }
+        requires can_poll { U.can_poll self.old.second }
+        ensures asked { SecondAnswers U.run self.old result self.new }
+        ensures first { self.new.first ≡ self.old.first }
+        ensures again { U.can_poll self.new.second }
+        ensures left { Registered result (ChainRegisters S.registers U.registers self.new) cx.new }
+        ensures kept { Keeps cx.old cx.new }
+    {
+        match ready!(self.second.poll_next(cx)) {
+            Some(item) => Poll::Ready(Some(item)),
+            None => {
+                self.part = Part::Done;
+                Poll::Ready(None)
+            }
+        }
+    }
+}
+
+impl<S: Stream, U: Stream<Item = S::Item>> Stream for Chain<S, U> {
+    type Item = S::Item;
+
+    ghost can_poll = { λ m. S.can_poll m.first × U.can_poll m.second };
+
+    ghost run = { Chains S.run U.run };
+
+    ghost registers = { ChainRegisters S.registers U.registers };
+
+    ghost hints = { NoHint };
+
+    ghost laws = { chain_laws S.laws U.laws };
+
+    fn poll_next(&mut self, cx: &mut Context<'_>) -> Poll<Option<S::Item>> {
+        match self.part {
+            Part::First => match ready!(self.first.poll_next(cx)) {
+                Some(item) => Poll::Ready(Some(item)),
+                None => {
+                    self.part = Part::Second;
+                    self.poll_second(cx)
+                }
+            },
+            Part::Second => self.poll_second(cx),
+            Part::Done => Poll::Ready(None),
+        }
+    }
+
+    fn size_hint(&self) -> (usize, Option<usize>) {
+        (0, None)
+    }
+}
+
+impl<S: Counted, U: Counted<Item = S::Item>> Counted for Chain<S, U> {
+    ghost ranks = { chain_ranks S.ranks U.ranks };
+
+    ghost counting = { chain_counting S.counting U.counting };
+}

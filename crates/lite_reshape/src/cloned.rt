@@ -1,0 +1,78 @@
+ghost use Rattle.std.specs.Prelude.{[], ◌∷◌, None};
+ghost use Rattle.lite_reshape.specs.Cloned.{Clones, ClonesAll, cloned_parts};
+ghost use Rattle.lite_reshape.specs.Laws.Cloned.{cloned_laws, cloned_ok_counting};
+ghost use Rattle.lite_reshape.specs.Laws.Expanding.{held_ranks};
+ghost use Rattle.lite_base.specs.Runs.{NoHint};
+
+use lite_base::{Context, Counted, OkCounted, Poll, Stream, ready};
+use std::alloc::AllocError;
+
+/// What the references of a stream refer to, cloned.
+///
+/// Made by [`cloned`](crate::make::cloned). An item is the clone, or `Err(AllocError)` where it was refused for want
+/// of memory; then the reference is kept, and the next poll asks for the same clone again without polling the stream.
+/// A clone that cannot fail is not refused. Ported from `src/stream.rs`, `Cloned`, whose clones are not refused.
+#[derive(Clone, Debug, Drop)]
+pub struct Cloned<S: Stream> {
+    pub(crate) stream: S,
+    pub(crate) held: Option<S::Item>,
+}
+
+// Asks for a clone, and holds the reference where it is refused.
+#[tactic(auto, using(crate::specs::Laws::Cloned::gives_copy))]
+fn try_clone<'a, T: Clone>(
+    item: &'a T,
+    held: &mut Option<&'a T>,
+) -> Poll<Option<Result<T, AllocError>>>
+    ensures { Clones T.is_clone T.is_infallible item.entry (result ∷ []) held.new }
+{
+    match item.clone() {
+        Ok(copy) => {
+            *held = None;
+            Poll::Ready(Some(Ok(copy)))
+        }
+        Err(refused) => {
+            *held = Some(item);
+            Poll::Ready(Some(Err(refused)))
+        }
+    }
+}
+
+impl<'a, T: Clone + 'a, S: Stream<Item = &'a T>> Stream for Cloned<S> {
+    type Item = Result<T, AllocError>;
+
+    ghost can_poll = { λ m. S.can_poll m.stream };
+
+    ghost run = { ClonesAll T.is_clone T.is_infallible S.run };
+
+    ghost registers = { λ m. S.registers m.stream };
+
+    ghost hints = { NoHint };
+
+    ghost laws = { cloned_laws T.is_clone T.is_infallible S.laws };
+
+    #[tactic(auto, using(crate::specs::Laws::Expanding::held_answers))]
+    fn poll_next(&mut self, cx: &mut Context<'_>) -> Poll<Option<Result<T, AllocError>>> {
+        match self.held {
+            Some(item) => try_clone(item, &mut self.held),
+            None => match ready!(self.stream.poll_next(cx)) {
+                Some(item) => try_clone(item, &mut self.held),
+                None => Poll::Ready(None),
+            },
+        }
+    }
+
+    fn size_hint(&self) -> (usize, Option<usize>) {
+        (0, None)
+    }
+}
+
+impl<'a, T: Clone + 'a, S: Counted<Item = &'a T>> OkCounted for Cloned<S> {
+    type Ok = T;
+
+    type Err = AllocError;
+
+    ghost ok_ranks = { held_ranks cloned_parts S.ranks };
+
+    ghost ok_counting = { cloned_ok_counting T.is_clone T.is_infallible S.laws S.counting };
+}

@@ -1,0 +1,80 @@
+ghost use Rattle.lite_base.specs.Ranks.{ranks_of};
+ghost use Rattle.std.specs.Prelude.{Option, ℕ, ◌≡◌, []};
+ghost use Rattle.std.specs.Fn.{CalledAt};
+ghost use Rattle.lite_base.specs.Laws.Ends.{Terminates-map};
+ghost use Rattle.lite_stream.specs.EachItem.{MayShowEach};
+ghost use Rattle.lite_base.specs.Calling.{Accepts};
+ghost use Rattle.lite_reshape.specs.Filter.{CanFilter, Filters, filter_parts};
+ghost use Rattle.lite_reshape.specs.Leaving.{Sifts};
+ghost use Rattle.lite_reshape.specs.Laws.Leaving.{leaves_relating};
+ghost use Rattle.lite_stream.specs.Laws.Through.{laws_capped, through_counting};
+
+use lite_base::{Context, Counted, Poll, PollSteps, Stream, drive};
+
+/// The items of a stream that a predicate accepts.
+///
+/// Made by [`filter`](crate::make::filter). A poll goes on over rejected items until there is an accepted one, a
+/// pending or an end, so the stream's rank has to count. Ported from `src/stream.rs`, `Filter`.
+#[derive(Debug, Drop)]
+pub struct Filter<S, P> {
+    pub(crate) stream: S,
+    pub(crate) predicate: P,
+}
+
+impl<S: Counted<Item: Drop>, P: FnMut(&S::Item) -> bool> PollSteps for Filter<S, P> {
+    type Output = Option<S::Item>;
+
+    ghost can_step = { CanFilter S.can_poll S.ranks (MayShowEach S.run P.FnMut) };
+
+    ghost step = { Sifts (Accepts (CalledAt P.FnMut)) S.run (CanFilter S.can_poll S.ranks (MayShowEach S.run P.FnMut))
+        (λ m. m.stream) (λ m. m.predicate) };
+
+    ghost step_registers = { λ m. S.registers m.stream };
+
+    ghost goes_on = { λ x y c h. h.0 };
+
+    ghost finite = { λ x c. Terminates-map (λ m. m.stream) (λ m n h. (h.1.0, [], h.1.1)) x (S.ends x.stream c.1) };
+
+    #[tactic(auto, using(lite_stream::specs::Laws::EachItem::each_rules))]
+    fn poll_step(&mut self, cx: &mut Context<'_>) -> Option<Poll<Option<S::Item>>> {
+        match self.stream.poll_next(cx) {
+            Poll::Ready(Some(item)) => {
+                if (self.predicate)(&item) {
+                    Some(Poll::Ready(Some(item)))
+                } else {
+                    None
+                }
+            }
+            Poll::Ready(None) => Some(Poll::Ready(None)),
+            Poll::Pending => Some(Poll::Pending),
+        }
+    }
+}
+
+impl<S: Counted<Item: Drop>, P: FnMut(&S::Item) -> bool> Stream for Filter<S, P> {
+    type Item = S::Item;
+
+    ghost can_poll = { CanFilter S.can_poll S.ranks (MayShowEach S.run P.FnMut) };
+
+    ghost run = { Filters S.run (CalledAt P.FnMut) };
+
+    ghost registers = { λ m. S.registers m.stream };
+
+    ghost hints = { λ m hint. (inner : ℕ × Option ℕ) × S.hints m.stream inner × (hint ≡ (0, inner.1)) };
+
+    ghost laws = { laws_capped filter_parts S.laws (leaves_relating (Accepts (CalledAt P.FnMut))) };
+
+    fn poll_next(&mut self, cx: &mut Context<'_>) -> Poll<Option<S::Item>> {
+        drive(self, cx)
+    }
+
+    fn size_hint(&self) -> (usize, Option<usize>) {
+        (0, self.stream.size_hint().1)
+    }
+}
+
+impl<S: Counted<Item: Drop>, P: FnMut(&S::Item) -> bool> Counted for Filter<S, P> {
+    ghost ranks = { ranks_of (λ m. m.stream) S.ranks };
+
+    ghost counting = { through_counting filter_parts S.counting (leaves_relating (Accepts (CalledAt P.FnMut))) };
+}

@@ -1,0 +1,77 @@
+ghost use Rattle.lite_base.specs.Ranks.{ranks_of};
+ghost use Rattle.std.specs.Prelude.{[], None};
+ghost use Rattle.lite_base.specs.Laws.Ends.{Terminates-map};
+ghost use Rattle.lite_stream.specs.EachItem.{MayCallEach};
+ghost use Rattle.lite_base.specs.Calling.{Calls};
+ghost use Rattle.lite_base.specs.Runs.{NoHint};
+ghost use Rattle.lite_reshape.specs.FilterMap.{CanFilterMap, FilterMaps, filter_map_parts};
+ghost use Rattle.lite_reshape.specs.Leaving.{Sifts};
+ghost use Rattle.lite_reshape.specs.Laws.Leaving.{leaves_relating};
+ghost use Rattle.lite_stream.specs.Laws.Through.{laws_unhinted, through_counting};
+
+use lite_base::{Context, Counted, Poll, PollSteps, Stream, drive};
+
+/// What a function answers to the items of a stream, without those to which it answers `None`.
+///
+/// Made by [`filter_map`](crate::make::filter_map). A poll goes on over rejected items until there is a kept one, a
+/// pending or an end, so the stream's rank has to count. Ported from `src/stream.rs`, `FilterMap`.
+#[derive(Debug, Drop)]
+pub struct FilterMap<S, F> {
+    pub(crate) stream: S,
+    pub(crate) f: F,
+}
+
+impl<B, S: Counted, F: FnMut(S::Item) -> Option<B>> PollSteps for FilterMap<S, F> {
+    type Output = Option<B>;
+
+    ghost can_step = { CanFilterMap S.can_poll S.ranks (MayCallEach S.run F.FnMut) };
+
+    ghost step = { Sifts (Calls F.FnMut) S.run (CanFilterMap S.can_poll S.ranks (MayCallEach S.run F.FnMut)) (λ m. m.stream)
+        (λ m. m.f) };
+
+    ghost step_registers = { λ m. S.registers m.stream };
+
+    ghost goes_on = { λ x y c h. h.0 };
+
+    ghost finite = { λ x c. Terminates-map (λ m. m.stream) (λ m n h. (h.1.0, [], h.1.1)) x (S.ends x.stream c.1) };
+
+    #[tactic(auto, using(lite_stream::specs::Laws::EachItem::each_rules))]
+    fn poll_step(&mut self, cx: &mut Context<'_>) -> Option<Poll<Option<B>>> {
+        match self.stream.poll_next(cx) {
+            Poll::Ready(Some(item)) => {
+                let value = (self.f)(item)?;
+                Some(Poll::Ready(Some(value)))
+            }
+            Poll::Ready(None) => Some(Poll::Ready(None)),
+            Poll::Pending => Some(Poll::Pending),
+        }
+    }
+}
+
+impl<B, S: Counted, F: FnMut(S::Item) -> Option<B>> Stream for FilterMap<S, F> {
+    type Item = B;
+
+    ghost can_poll = { CanFilterMap S.can_poll S.ranks (MayCallEach S.run F.FnMut) };
+
+    ghost run = { FilterMaps S.run (Calls F.FnMut) };
+
+    ghost registers = { λ m. S.registers m.stream };
+
+    ghost hints = { NoHint };
+
+    ghost laws = { laws_unhinted filter_map_parts S.laws (leaves_relating (Calls F.FnMut)) };
+
+    fn poll_next(&mut self, cx: &mut Context<'_>) -> Poll<Option<B>> {
+        drive(self, cx)
+    }
+
+    fn size_hint(&self) -> (usize, Option<usize>) {
+        (0, None)
+    }
+}
+
+impl<B, S: Counted, F: FnMut(S::Item) -> Option<B>> Counted for FilterMap<S, F> {
+    ghost ranks = { ranks_of (λ m. m.stream) S.ranks };
+
+    ghost counting = { through_counting filter_map_parts S.counting (leaves_relating (Calls F.FnMut)) };
+}

@@ -1,0 +1,71 @@
+ghost use Rattle.std.specs.Prelude.{None};
+ghost use Rattle.lite_reshape.specs.FlatMap.{CanFlatMap, CanStepMap, FlatMapSteps, FlatMaps, flat_map_parts};
+ghost use Rattle.lite_reshape.specs.FlatMap.{flat_map_ranks};
+ghost use Rattle.lite_reshape.specs.HeldRegisters.{HeldRegisters};
+ghost use Rattle.lite_reshape.specs.Laws.FlatMap.{flat_map_counting, flat_map_laws, made_end};
+ghost use Rattle.lite_reshape.specs.Laws.Flatten.{flat_ends};
+ghost use Rattle.lite_base.specs.Calling.{Calls};
+ghost use Rattle.lite_base.specs.Runs.{NoHint};
+ghost use Rattle.lite_stream.specs.Map.{Maps};
+
+use crate::inner::poll_part;
+use lite_base::{Context, Counted, Poll, PollSteps, Stream, drive};
+use lite_stream::Map;
+
+/// The items of the streams that a function makes of the items of a stream, one after the other.
+///
+/// Made by [`flat_map`](crate::make::flat_map). It gives what [`Flatten`](crate::Flatten) gives of a
+/// [`Map`](lite_stream::Map). Ported from `src/stream.rs`, `FlatMap`.
+#[derive(Debug, Drop)]
+pub struct FlatMap<S, U, F> {
+    pub(crate) stream: Map<S, F>,
+    pub(crate) inner_stream: Option<U>,
+}
+
+impl<S: Counted, U: Stream + Drop, F: FnMut(S::Item) -> U> PollSteps for FlatMap<S, U, F> {
+    type Output = Option<U::Item>;
+
+    ghost can_step = { CanStepMap S.run F.FnMut ⟦<Map<S, F> as Stream>⟧.can_poll S.ranks.counts U.can_poll };
+
+    ghost step = { FlatMapSteps S.run F.FnMut U.run
+        (CanStepMap S.run F.FnMut ⟦<Map<S, F> as Stream>⟧.can_poll S.ranks.counts U.can_poll) };
+
+    ghost step_registers = { λ m. HeldRegisters ⟦<Map<S, F> as Stream>⟧.registers U.registers m.stream m.inner_stream };
+
+    ghost goes_on = { λ x y c h. h.0 };
+
+    ghost finite = { flat_ends U.run (Maps S.run (Calls F.FnMut)) flat_map_parts
+        (λ x c. made_end F.FnMut S.counting x.stream c.1) };
+
+    fn poll_step(&mut self, cx: &mut Context<'_>) -> Option<Poll<Option<U::Item>>> {
+        poll_part(&mut self.stream, &mut self.inner_stream, cx)
+    }
+}
+
+impl<S: Counted, U: Stream + Drop, F: FnMut(S::Item) -> U> Stream for FlatMap<S, U, F> {
+    type Item = U::Item;
+
+    ghost can_poll = { CanFlatMap F.FnMut ⟦<Map<S, F> as Stream>⟧.can_poll S.ranks.counts U.can_poll };
+
+    ghost run = { FlatMaps S.run F.FnMut U.run };
+
+    ghost registers = { λ m. HeldRegisters ⟦<Map<S, F> as Stream>⟧.registers U.registers m.stream m.inner_stream };
+
+    ghost hints = { NoHint };
+
+    ghost laws = { flat_map_laws F.FnMut S.laws U.laws };
+
+    fn poll_next(&mut self, cx: &mut Context<'_>) -> Poll<Option<U::Item>> {
+        drive(self, cx)
+    }
+
+    fn size_hint(&self) -> (usize, Option<usize>) {
+        (0, None)
+    }
+}
+
+impl<S: Counted, U: Counted + Drop, F: FnMut(S::Item) -> U> Counted for FlatMap<S, U, F> {
+    ghost ranks = { flat_map_ranks F.FnMut S.ranks U.ranks };
+
+    ghost counting = { flat_map_counting F.FnMut S.laws S.counting U.counting };
+}

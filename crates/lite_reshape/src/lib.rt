@@ -1,0 +1,30 @@
+//! Adapters that answer more or less often than their source: those that leave items out, and those that hold something between
+//! polls, or have a second stream.
+#![tactic(auto)]
+
+mod calm;
+mod chain;
+mod cloned;
+mod filter;
+mod filter_map;
+mod flat_map;
+mod flatten;
+mod inner;
+pub mod make;
+mod ok_counted;
+mod skip;
+mod skip_while;
+mod steady;
+mod step_by;
+mod then;
+
+pub use chain::Chain;
+pub use cloned::Cloned;
+pub use filter::Filter;
+pub use filter_map::FilterMap;
+pub use flat_map::FlatMap;
+pub use flatten::Flatten;
+pub use skip::Skip;
+pub use skip_while::SkipWhile;
+pub use step_by::StepBy;
+pub use then::Then;

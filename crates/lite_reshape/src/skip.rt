@@ -1,0 +1,79 @@
+ghost use Rattle.lite_base.specs.Ranks.{ranks_of};
+ghost use Rattle.std.specs.Prelude.{None};
+ghost use Rattle.lite_base.specs.Laws.Ends.{Terminates-count};
+ghost use Rattle.lite_base.specs.Runs.{NoHint};
+ghost use Rattle.lite_reshape.specs.Skip.{Skips, SkipsFirst, skip_parts};
+ghost use Rattle.lite_reshape.specs.Laws.Counting.{one_less};
+ghost use Rattle.lite_reshape.specs.Leaving.{Sifts};
+ghost use Rattle.lite_reshape.specs.Laws.Leaving.{leaves_relating};
+ghost use Rattle.lite_stream.specs.Laws.Through.{laws_unhinted, through_counting};
+
+use lite_base::{Context, Counted, Poll, PollSteps, Stream, drive};
+
+/// The items of a stream without the first ones.
+///
+/// Made by [`skip`](crate::make::skip). A poll goes on over items that are left out until there is another item, a
+/// pending or an end; how many are still to be left out is counted across pendings and ends. Ported from
+/// `src/stream.rs`, `Skip`.
+#[derive(Clone, Debug, Drop)]
+pub struct Skip<S> {
+    pub(crate) stream: S,
+    pub(crate) n: usize,
+}
+
+impl<S: Stream<Item: Drop>> PollSteps for Skip<S> {
+    type Output = Option<S::Item>;
+
+    ghost can_step = { λ m. S.can_poll m.stream };
+
+    ghost step = { Sifts Skips S.run (λ m. S.can_poll m.stream) (λ m. m.stream) (λ m. m.n) };
+
+    ghost step_registers = { λ m. S.registers m.stream };
+
+    ghost goes_on = { λ x y c h. h.0 };
+
+    ghost finite = { λ x c. Terminates-count (λ m. m.n) (λ m n h. one_less h.1.2) x };
+
+    fn poll_step(&mut self, cx: &mut Context<'_>) -> Option<Poll<Option<S::Item>>> {
+        match self.stream.poll_next(cx) {
+            Poll::Ready(Some(item)) => {
+                if self.n == 0 {
+                    Some(Poll::Ready(Some(item)))
+                } else {
+                    self.n -= 1;
+                    None
+                }
+            }
+            Poll::Ready(None) => Some(Poll::Ready(None)),
+            Poll::Pending => Some(Poll::Pending),
+        }
+    }
+}
+
+impl<S: Stream<Item: Drop>> Stream for Skip<S> {
+    type Item = S::Item;
+
+    ghost can_poll = { λ m. S.can_poll m.stream };
+
+    ghost run = { SkipsFirst S.run };
+
+    ghost registers = { λ m. S.registers m.stream };
+
+    ghost hints = { NoHint };
+
+    ghost laws = { laws_unhinted skip_parts S.laws (leaves_relating Skips) };
+
+    fn poll_next(&mut self, cx: &mut Context<'_>) -> Poll<Option<S::Item>> {
+        drive(self, cx)
+    }
+
+    fn size_hint(&self) -> (usize, Option<usize>) {
+        (0, None)
+    }
+}
+
+impl<S: Counted<Item: Drop>> Counted for Skip<S> {
+    ghost ranks = { ranks_of (λ m. m.stream) S.ranks };
+
+    ghost counting = { through_counting skip_parts S.counting (leaves_relating Skips) };
+}

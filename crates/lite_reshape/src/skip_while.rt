@@ -1,0 +1,84 @@
+ghost use Rattle.lite_base.specs.Ranks.{ranks_of};
+ghost use Rattle.std.specs.Prelude.{[], None};
+ghost use Rattle.std.specs.Fn.{CalledAt};
+ghost use Rattle.lite_base.specs.Laws.Ends.{Terminates-map};
+ghost use Rattle.lite_base.specs.Runs.{NoHint};
+ghost use Rattle.lite_reshape.specs.SkipWhile.{CanSkip, MayAskUntil, SkipsUntil, SkipsWhile, skip_while_parts};
+ghost use Rattle.lite_reshape.specs.Leaving.{Sifts};
+ghost use Rattle.lite_reshape.specs.Laws.Leaving.{leaves_relating};
+ghost use Rattle.lite_stream.specs.Laws.Through.{laws_unhinted, through_counting};
+
+use lite_base::{Context, Counted, Poll, PollSteps, Stream, drive};
+
+/// The items of a stream from the first one that a predicate rejects.
+///
+/// Made by [`skip_while`](crate::make::skip_while). At the first item that goes out the predicate is dropped, and is
+/// not asked again. A poll goes on over items that are left out until there is another one, a pending or an end, so
+/// the stream's rank has to count. Ported from `src/stream.rs`, `SkipWhile`.
+#[derive(Debug, Drop)]
+pub struct SkipWhile<S, P> {
+    pub(crate) stream: S,
+    pub(crate) predicate: Option<P>,
+}
+
+impl<S: Counted<Item: Drop>, P: FnMut(&S::Item) -> bool + Drop> PollSteps for SkipWhile<S, P> {
+    type Output = Option<S::Item>;
+
+    ghost can_step = { CanSkip S.can_poll S.ranks (MayAskUntil S.run P.FnMut) };
+
+    ghost step = { Sifts (SkipsUntil (CalledAt P.FnMut)) S.run (CanSkip S.can_poll S.ranks (MayAskUntil S.run P.FnMut))
+        (λ m. m.stream) (λ m. m.predicate) };
+
+    ghost step_registers = { λ m. S.registers m.stream };
+
+    ghost goes_on = { λ x y c h. h.0 };
+
+    ghost finite = { λ x c. Terminates-map (λ m. m.stream) (λ m n h. (h.1.0, [], h.1.1)) x (S.ends x.stream c.1) };
+
+    #[tactic(auto, using(lite_stream::specs::Laws::EachItem::each_rules))]
+    fn poll_step(&mut self, cx: &mut Context<'_>) -> Option<Poll<Option<S::Item>>> {
+        match self.stream.poll_next(cx) {
+            Poll::Ready(Some(item)) => match &mut self.predicate {
+                Some(predicate) => {
+                    if predicate(&item) {
+                        None
+                    } else {
+                        self.predicate = None;
+                        Some(Poll::Ready(Some(item)))
+                    }
+                }
+                None => Some(Poll::Ready(Some(item))),
+            },
+            Poll::Ready(None) => Some(Poll::Ready(None)),
+            Poll::Pending => Some(Poll::Pending),
+        }
+    }
+}
+
+impl<S: Counted<Item: Drop>, P: FnMut(&S::Item) -> bool + Drop> Stream for SkipWhile<S, P> {
+    type Item = S::Item;
+
+    ghost can_poll = { CanSkip S.can_poll S.ranks (MayAskUntil S.run P.FnMut) };
+
+    ghost run = { SkipsWhile S.run (CalledAt P.FnMut) };
+
+    ghost registers = { λ m. S.registers m.stream };
+
+    ghost hints = { NoHint };
+
+    ghost laws = { laws_unhinted skip_while_parts S.laws (leaves_relating (SkipsUntil (CalledAt P.FnMut))) };
+
+    fn poll_next(&mut self, cx: &mut Context<'_>) -> Poll<Option<S::Item>> {
+        drive(self, cx)
+    }
+
+    fn size_hint(&self) -> (usize, Option<usize>) {
+        (0, None)
+    }
+}
+
+impl<S: Counted<Item: Drop>, P: FnMut(&S::Item) -> bool + Drop> Counted for SkipWhile<S, P> {
+    ghost ranks = { ranks_of (λ m. m.stream) S.ranks };
+
+    ghost counting = { through_counting skip_while_parts S.counting (leaves_relating (SkipsUntil (CalledAt P.FnMut))) };
+}

@@ -1,0 +1,80 @@
+ghost use Rattle.lite_base.specs.Ranks.{ranks_of};
+ghost use Rattle.std.specs.Prelude.{None};
+ghost use Rattle.lite_base.specs.Laws.Ends.{Terminates-count};
+ghost use Rattle.lite_base.specs.Runs.{NoHint};
+ghost use Rattle.lite_reshape.specs.StepBy.{CanStep, StepsBy, step_by_parts};
+ghost use Rattle.lite_reshape.specs.Laws.Counting.{one_less};
+ghost use Rattle.lite_reshape.specs.Leaving.{Sifts};
+ghost use Rattle.lite_reshape.specs.Laws.StepBy.{Countdown, steps_relating};
+ghost use Rattle.lite_stream.specs.Laws.Through.{laws_unhinted, through_counting};
+
+use lite_base::{Context, Counted, Poll, PollSteps, Stream, drive};
+
+/// The items of a stream whose numbers, counted from 0, are multiples of a step.
+///
+/// Made by [`step_by`](crate::make::step_by). A poll goes on over items that are left out until there is a kept one, a
+/// pending or an end; the numbers run on across pendings and ends. Ported from `src/stream.rs`, `StepBy`.
+#[derive(Clone, Debug, Drop)]
+pub struct StepBy<S> {
+    pub(crate) stream: S,
+    pub(crate) step: usize,
+    pub(crate) i: usize,
+}
+
+impl<S: Stream<Item: Drop>> PollSteps for StepBy<S> {
+    type Output = Option<S::Item>;
+
+    ghost can_step = { CanStep S.can_poll };
+
+    ghost step = { Sifts Countdown S.run (CanStep S.can_poll) (λ m. m.stream) (λ m. (m.step, m.i)) };
+
+    ghost step_registers = { λ m. S.registers m.stream };
+
+    ghost goes_on = { λ x y c h. h.0 };
+
+    ghost finite = { λ x c. Terminates-count (λ m. m.i) (λ m n h. one_less h.1.2.1) x };
+
+    fn poll_step(&mut self, cx: &mut Context<'_>) -> Option<Poll<Option<S::Item>>> {
+        match self.stream.poll_next(cx) {
+            Poll::Ready(Some(item)) => {
+                if self.i == 0 {
+                    self.i = self.step - 1;
+                    Some(Poll::Ready(Some(item)))
+                } else {
+                    self.i -= 1;
+                    None
+                }
+            }
+            Poll::Ready(None) => Some(Poll::Ready(None)),
+            Poll::Pending => Some(Poll::Pending),
+        }
+    }
+}
+
+impl<S: Stream<Item: Drop>> Stream for StepBy<S> {
+    type Item = S::Item;
+
+    ghost can_poll = { CanStep S.can_poll };
+
+    ghost run = { StepsBy S.run };
+
+    ghost registers = { λ m. S.registers m.stream };
+
+    ghost hints = { NoHint };
+
+    ghost laws = { laws_unhinted step_by_parts S.laws steps_relating };
+
+    fn poll_next(&mut self, cx: &mut Context<'_>) -> Poll<Option<S::Item>> {
+        drive(self, cx)
+    }
+
+    fn size_hint(&self) -> (usize, Option<usize>) {
+        (0, None)
+    }
+}
+
+impl<S: Counted<Item: Drop>> Counted for StepBy<S> {
+    ghost ranks = { ranks_of (λ m. m.stream) S.ranks };
+
+    ghost counting = { through_counting step_by_parts S.counting steps_relating };
+}

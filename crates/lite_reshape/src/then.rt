@@ -1,0 +1,74 @@
+ghost use Rattle.std.specs.Prelude.{Option, ℕ, ◌≡◌};
+ghost use Rattle.lite_reshape.specs.HeldRegisters.{HeldRegisters};
+ghost use Rattle.lite_reshape.specs.Laws.Expanding.{held_counting, held_ranks};
+ghost use Rattle.lite_reshape.specs.Laws.Then.{hands_one, then_laws};
+ghost use Rattle.lite_reshape.specs.Then.{CanThen, MakesEach, Thens, then_hint, then_parts};
+ghost use Rattle.lite_base.specs.Calling.{Calls};
+
+use lite_base::{Context, Counted, Future, Poll, Stream, ready};
+
+/// The values of the futures that a function makes of the items of a stream.
+///
+/// Made by [`then`](crate::make::then). A future is polled in the poll that made it; while it is pending it is held, and
+/// the stream is not polled. Ported from `src/stream.rs`, `Then`.
+#[derive(Debug, Drop)]
+pub struct Then<S, F, Fut> {
+    pub(crate) stream: S,
+    pub(crate) future: Option<Fut>,
+    pub(crate) f: F,
+}
+
+impl<S: Stream, F: FnMut(S::Item) -> Fut, Fut: Future + Drop> Stream for Then<S, F, Fut> {
+    type Item = Fut::Output;
+
+    ghost can_poll = { CanThen S.can_poll (MakesEach S.run F.FnMut Fut.can_poll) Fut.can_poll };
+
+    ghost run = { Thens S.run (Calls F.FnMut) Fut.run };
+
+    ghost registers = { λ m. HeldRegisters S.registers Fut.registers m.stream m.future };
+
+    ghost hints = { λ m hint. (inner : ℕ × Option ℕ) × S.hints m.stream inner × (hint ≡ then_hint m.future inner) };
+
+    ghost laws = { then_laws (Calls F.FnMut) S.laws Fut.laws };
+
+    #[tactic(auto, using(lite_stream::specs::Laws::EachItem::each_rules))]
+    fn poll_next(&mut self, cx: &mut Context<'_>) -> Poll<Option<Fut::Output>> {
+        match &mut self.future {
+            Some(future) => {
+                let value = ready!(future.poll(cx));
+                self.future = None;
+                Poll::Ready(Some(value))
+            }
+            None => match ready!(self.stream.poll_next(cx)) {
+                Some(item) => {
+                    let mut future = (self.f)(item);
+                    match future.poll(cx) {
+                        Poll::Ready(value) => Poll::Ready(Some(value)),
+                        Poll::Pending => {
+                            self.future = Some(future);
+                            Poll::Pending
+                        }
+                    }
+                }
+                None => Poll::Ready(None),
+            },
+        }
+    }
+
+    fn size_hint(&self) -> (usize, Option<usize>) {
+        let (lower, upper) = self.stream.size_hint();
+        if self.future.is_none() {
+            return (lower, upper);
+        }
+        (
+            lower.saturating_add(1),
+            upper.and_then(|most| most.checked_add(1)),
+        )
+    }
+}
+
+impl<S: Counted, F: FnMut(S::Item) -> Fut, Fut: Future + Drop> Counted for Then<S, F, Fut> {
+    ghost ranks = { held_ranks then_parts S.ranks };
+
+    ghost counting = { held_counting then_parts S.laws S.counting hands_one };
+}

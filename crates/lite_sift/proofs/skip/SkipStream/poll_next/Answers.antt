@@ -1,8 +1,0 @@
-use Rattle.lite_sift.specs.Skip.{Skips}
-use Rattle.lite_sift.specs.Laws.PollSteps.{sifts_answer}
-use Rattle.lite_sift.proofs.skip.SkipStream.poll_next.Goals as goal
-
-pub returns-clause-ran : goal.returns-clause-ran
-returns-clause-ran g c = let steps = c.drive.ensures.stepped in
-    sifts_answer Skips g.S.Stream.run _ (λ m. m.stream)
-    (λ m. m.n) g.met.S.Stream.laws.follows _ steps.0 _ _ steps.1 steps.2

@@ -1,5 +1,0 @@
-use Rattle.std.specs.Io.KnownBytes.{Keeps}
-use Rattle.lite_std.proofs.assert_async.AssertAsyncAsyncRead.poll_read.Given as goal
-
-abbrev pub invariant-loop : goal.invariant-loop
-invariant-loop g l = Keeps (g.T.Read.remaining l.initial.self.inner) (g.T.Read.remaining l.self.inner)

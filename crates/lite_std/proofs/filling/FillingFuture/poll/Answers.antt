@@ -1,6 +1,0 @@
-use Rattle.std.proofs.Common.{refl}
-use Rattle.lite_std.specs.Laws.Filling.{filled_once}
-use Rattle.lite_std.proofs.filling.FillingFuture.poll.Goals as goal
-
-pub returns-clause-ran : goal.returns-clause-ran
-returns-clause-ran g c = filled_once g.T.Tale.reads g.T.AsyncBufRead.lent _ _ c.fill.result c.fill.ensures.ran refl

@@ -1,4 +1,0 @@
-pub mod Blocks
-pub mod Filling
-pub mod Known
-pub mod Waits

@@ -1,3 +1,0 @@
-pub mod Deterministic
-pub mod SteadyTexts
-pub mod Texts

@@ -1,0 +1,4 @@
+pub mod Collecting
+pub mod Limits
+pub mod Telling
+pub mod Whole

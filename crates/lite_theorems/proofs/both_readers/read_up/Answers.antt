@@ -1,0 +1,11 @@
+use Rattle.std.proofs.Common.{rules}
+use Rattle.std.specs.Prelude.{⊤}
+use Rattle.lite_theorems.specs.Laws.BothReaders.{lent_on, read_up}
+use Rattle.lite_theorems.proofs.both_readers.read_up.Goals as goal
+
+pub returns-clause-read : goal.returns-clause-read
+returns-clause-read g c =
+    let begins = c.read_to_end.ensures in
+    let waited = c.wait_for.ensures in
+    let lent = lent_on ⊤ g.T.Tale.reads _ _ _ _ _ begins (waited.gave, waited.kept) in
+    read_up ⊤ g.T.Tale.reads _ _ _ _ _ begins (waited.gave, waited.kept) _ _ (search rules) (search rules)

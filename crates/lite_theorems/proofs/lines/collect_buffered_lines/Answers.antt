@@ -1,0 +1,74 @@
+use Rattle.std.specs.Prelude.{⊤}
+use Rattle.std.proofs.Common.{◌≡◌, ◌∙◌, ◌<◌, ℕ, List, [], ◌++◌, ap, subst, sym, String, Global}
+use Rattle.lite_consume.specs.Consume.{Folds}
+use Rattle.lite_consume.specs.Consuming.{fold_of}
+use Rattle.lite_consume.specs.declared.consume.Consume.{Consume}
+use Rattle.lite_gather.specs.TryCollect.{tries_collect}
+use Rattle.lite_gather.specs.declared.try_collect.TryCollect.{TryCollect}
+use Rattle.lite_buffered.specs.BufReader.{PassesBuffer, ThroughBuffer, ahead, reader_capacity}
+use Rattle.lite_buffered.specs.BufReader.{reader_inner as buffered_of}
+use Rattle.lite_buffered.specs.Take.{TakesMarks, WithinLimit, limit_of, take_inner}
+use Rattle.lite_buffered.specs.declared.buf_reader.BufReader.{BufReader}
+use Rattle.lite_buffered.specs.declared.take.Take.{Take}
+use Rattle.lite_io_base.specs.Marks.{ReadMark, bytes}
+use Rattle.lite_read.specs.Lines.{GivesLines, lining}
+use Rattle.lite_read.specs.Segments.{PieceSegments}
+use Rattle.lite_read.specs.declared.lines.Lines.{Lines}
+use Rattle.lite_theorems.specs.Lines.{AtEachValue, CollectsLines, limited, lines_told}
+use Rattle.lite_theorems.proofs.Collecting.{Has, collects_so, has_none, says}
+use Rattle.lite_theorems.proofs.Limits.{passed, told_through}
+use Rattle.lite_theorems.proofs.Telling.{Given, given}
+use Rattle.lite_theorems.proofs.lines.collect_buffered_lines.Goals as goal
+use Rattle.lite_base.specs.Runs.{Runs}
+
+module _ {R C : Type 0} (reads : Runs ReadMark R) (holds : C → List (String Global) → Type 0) where
+  abbrev Collecting : Type 0
+  Collecting = Consume (Lines (Take (BufReader R))) (TryCollect C)
+
+  lines_collected : (reader : BufReader R) (limit : ℕ) (x : Collecting) → take_inner x.stream.reader ≡ reader
+      → 0 < reader_capacity reader
+      → limit_of x.stream.reader ≡ limit → x.stream.held.bytes.items ≡ []
+      → Has holds (λ (f : TryCollect C). f.items) x.folder []
+      → AtEachValue
+      (Folds (GivesLines (TakesMarks (ThroughBuffer reads)) ⊤)
+      (fold_of (λ (f : TryCollect C). f.items) (tries_collect ⊤ holds))) x
+      (CollectsLines reads holds (ahead reader) (buffered_of reader) limit)
+  lines_collected reader limit x inner some bound held has out y v h g =
+      let s = h.came.segmented in
+      let t = s.came in
+      let b = t.ran in
+      let left = take_inner y.stream.reader in
+      let front = bytes (ahead reader) in
+      let full : PassesBuffer (reader_capacity reader) (ahead reader) b.came t.front (ahead left) =
+      subst (λ r. PassesBuffer (reader_capacity r) (ahead r) b.came t.front (ahead left)) inner b.passes
+      in
+      let told = passed (reader_capacity reader) (ahead reader) b.came t.front (ahead left) some full in
+      let fits : WithinLimit limit t.front (limit_of y.stream.reader) =
+      subst (λ (n : ℕ). WithinLimit n t.front (limit_of y.stream.reader)) bound t.fits in
+      let cut : PieceSegments (lining ⊤ tt) [] s.marks h.ins y.stream.held.bytes.items =
+      subst (λ k. PieceSegments (lining ⊤ tt) k s.marks h.ins y.stream.held.bytes.items) held s.cut in
+      let each : (more : List ReadMark) → Given h.ins (lines_told [] (limited limit (front ++ b.came) ++ more)) =
+      λ more.
+      let l = told_through limit (limit_of y.stream.reader) s.marks t.front t.ends
+      (bytes (ahead left)) t.cut fits t.used_up more in
+      let same = ap (λ k. lines_told [] (limited limit k ++ more)) told ∙ l.1 in
+      subst (Given h.ins) (sym same) (given [] y.stream.held.bytes.items s.marks h.ins cut l.0)
+      in
+      let says = says holds (λ (f : TryCollect C). f.items) out x.folder y.folder h.ins [] v has h.consumed g in
+      record {
+        tale = b.came;
+        later = buffered_of left;
+        told = subst (λ r. reads (buffered_of r) b.came (buffered_of left)) inner b.ran;
+        collects = collects_so holds (limited limit (front ++ b.came)) (Given h.ins) v says each;
+      }
+
+pub returns-clause-lines : goal.returns-clause-lines
+returns-clause-lines g c =
+    λ some.
+    let made = c.try_collect.ensures in
+    let at = ap (λ s. s.reader) made.stream ∙ c.lines.ensures.reader in
+    let has = has_none g.C.Gather.holds
+    (λ (f : TryCollect _). f.items) c.try_collect.result.folder made.«open» made.empty in
+    lines_collected g.R.Tale.reads g.C.Gather.holds c.args.reader c.args.limit c.try_collect.result
+    (ap take_inner at ∙ c.take.ensures.inner) some
+    (ap limit_of at ∙ c.take.ensures.limit) (ap (λ s. s.held.bytes.items) made.stream ∙ c.lines.ensures.empty) has

@@ -1,0 +1,12 @@
+use Rattle.std.specs.Prelude.{[]}
+use Rattle.lite_theorems.specs.Laws.Collected.{has}
+use Rattle.lite_theorems.specs.Laws.Race.{race_collected}
+use Rattle.lite_theorems.proofs.race.collect_race.Goals as goal
+
+pub returns-clause-whole : goal.returns-clause-whole
+returns-clause-whole g c =
+    let made = c.collect.ensures in
+    let is = has g.C.Gather.holds _ [] made.«open» made.empty in
+    let stays = g.met.S1.Stream.laws.stays in
+    race_collected g.S1.Stream.run g.S2.Stream.run g.R.Rng.stream stays g.met.S2.Stream.laws.stays g.C.Gather.holds
+    c.collect.result [] is

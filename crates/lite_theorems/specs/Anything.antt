@@ -1,0 +1,15 @@
+-- Nothing is said of what a value answers: all lists of answers are allowed that the laws allow.
+use Rattle.std.specs.Prelude.{⊤}
+use Rattle.std.specs.List.{FoldsTo}
+use Rattle.futures.specs.declared.task.Poll.{Poll}
+use Rattle.lite_base.specs.Answers.{Answer}
+use Rattle.lite_base.specs.Runs.{Runs}
+use Rattle.lite_theorems.specs.Futures.{StepsToValue}
+
+-- any answers of a stream, where no answer keeps the value
+abbrev pub AnyAnswers : {S A : Type 0} → Runs (Answer A) S
+AnyAnswers = FoldsTo (λ x a y. ⊤)
+
+-- any answers of a future, where no answer keeps the value, and none comes after a value
+abbrev pub AnyValue : {F A : Type 0} → Runs (Poll A) F
+AnyValue = StepsToValue (λ x a y. ⊤)

@@ -1,0 +1,13 @@
+pub mod BothReaders
+pub mod BothWriters
+pub mod Chained
+pub mod Collected
+pub mod Or
+pub mod Race
+pub mod Rows
+pub mod Anything
+pub mod Handing
+pub mod Readers
+pub mod Reading
+pub mod Streams
+pub mod Writers

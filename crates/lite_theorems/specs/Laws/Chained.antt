@@ -1,0 +1,85 @@
+-- What a chain tells up to its end is what its two readers told up to theirs.
+use Rattle.std.proofs.Common.{◌≡◌, ◌∙◌, ℕ, Bool, true, false, List, [], ◌∷◌, ◌++◌, refl, ap, sym, subst}
+use Rattle.lite_buffered.specs.Chain.{ChainsReaders, EndlessMarks, JoinsReaders, ReadsAcross}
+use Rattle.lite_buffered.specs.Chaining.{first_of, has_ended, second_of}
+use Rattle.lite_buffered.specs.declared.chain.Chain.{Chain}
+use Rattle.lite_io_base.specs.Marks.{ReadMark}
+use Rattle.lite_io_base.specs.Runs.{MarkLaws}
+use Rattle.lite_theorems.specs.Chained.{TellsBoth, TellsRest, TellsWhole}
+use Rattle.lite_write.specs.MarkLists.{BytesAlone, bytes_told}
+use Rattle.lite_write.specs.Laws.Copy.{told_both}
+use Rattle.lite_base.specs.Runs.{Runs}
+
+goes_parts : (l m : List ReadMark) → BytesAlone (l ++ m) → BytesAlone l × BytesAlone m
+goes_parts [] m h = (tt, h)
+goes_parts (ReadMark.byte b ∷ l) m h = goes_parts l m h
+goes_parts (ReadMark.pending ∷ l) m h = goes_parts l m h
+goes_parts (ReadMark.fault kind ∷ l) m h = absurd h
+goes_parts (ReadMark.end ∷ l) m h = absurd h
+
+-- a list that ends with an end has one
+ends_so : (l : List ReadMark) → EndlessMarks (l ++ ReadMark.end ∷ []) → ⊥
+ends_so [] h = h.0 refl
+ends_so (m ∷ l) h = ends_so l h.1
+
+-- what stands before the first end of one reader, and what stands after it
+cut_at : (read before after : List ReadMark) → read ++ ReadMark.end ∷ [] ≡ before ++ after → EndlessMarks before
+    → (rest : List ReadMark) × (read ≡ before ++ rest) × (after ≡ rest ++ ReadMark.end ∷ [])
+cut_at read [] after e h = (read, refl, sym e)
+cut_at [] (m ∷ before) after e h = absurd (h.0 (cc e))
+cut_at (r ∷ read) (m ∷ before) after e h =
+    let same : r ≡ m = cc e in
+    let more : read ++ ReadMark.end ∷ [] ≡ before ++ after = cc e in
+    let rest = cut_at read before after more h.1 in
+    (rest.0, cc (same, rest.1), rest.2)
+
+module _ {R S : Type 0} (first : Runs ReadMark R) (second : Runs ReadMark S) (fl : MarkLaws first) where
+  -- what TellsBoth says, by whether the first had ended
+  record TellsByEnd (b : Bool) (x : Chain R S) (xs : List ℕ) (y : Chain R S) : Type 0 where
+    pub firsts : List ℕ
+    pub seconds : List ℕ
+    pub first_told : TellsRest b first (first_of x) firsts (first_of y)
+    pub second_told : TellsWhole second (second_of x) seconds (second_of y)
+    pub all : xs ≡ firsts ++ seconds
+
+  crossed : (x y : Chain R S) (read : List ReadMark) → BytesAlone read
+      → ReadsAcross first second x (read ++ ReadMark.end ∷ []) y → TellsByEnd false x (bytes_told read) y
+  crossed x y read on h =
+      let at = cut_at read h.before h.after h.cut h.no_end in
+      let parts = goes_parts h.before at.0 (subst BytesAlone at.1 on) in
+      let came = fl.follows (first_of x) h.between (first_of y) h.before
+      (ReadMark.end ∷ []) h.first_ran h.first_ended in
+      let then_came = subst (λ l. second (second_of x) l (second_of y)) at.2 h.second_ran in
+      record {
+        firsts = bytes_told h.before;
+        seconds = bytes_told at.0;
+        first_told = record { told = h.before; goes_on = parts.0; all = refl; came = came };
+        second_told = record { told = at.0; goes_on = parts.1; all = refl; came = then_came };
+        all = ap bytes_told at.1 ∙ told_both h.before at.0;
+      }
+
+  joined : (b d : Bool) (x y : Chain R S) (read : List ReadMark) → BytesAlone read
+      → JoinsReaders first second b d x (read ++ ReadMark.end ∷ []) y → TellsByEnd b x (bytes_told read) y
+  joined false true x y read on h = crossed x y read on h
+  joined false false x y read on h = absurd (ends_so read h.1)
+  joined true false x y read on h = absurd h
+  joined true true x y read on h =
+      record {
+        firsts = [];
+        seconds = bytes_told read;
+        first_told = (refl, h.1);
+        second_told = record { told = read; goes_on = on; all = refl; came = h.0 };
+        all = refl;
+      }
+
+  pub tells_both : (x y : Chain R S) (xs : List ℕ) → TellsWhole (ChainsReaders first second) x xs y
+      → TellsBoth first second x xs y
+  tells_both x y xs t =
+      let b = joined (has_ended x) (has_ended y) x y t.told t.goes_on t.came in
+      record {
+        firsts = b.firsts;
+        seconds = b.seconds;
+        first_told = b.first_told;
+        second_told = b.second_told;
+        all = sym t.all ∙ b.all;
+      }

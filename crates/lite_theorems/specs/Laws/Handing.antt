@@ -1,0 +1,69 @@
+-- A reader over another, which hands on what that one reads: each byte as what is made of it, each other mark as it is.
+use Rattle.std.proofs.Common.{◌≡◌, ◌∙◌, ℕ, suc, ◌+◌, List, [], ◌∷◌, ◌++◌, length, map, refl, ap, sym, subst, arith}
+use Rattle.std.proofs.lemmas.List.{map-append}
+use Rattle.lite_base.specs.Ranks.{Ranks, ranks_of}
+use Rattle.lite_base.specs.Runs.{Runs}
+use Rattle.lite_io_base.specs.Counting.{ReadCounting}
+use Rattle.lite_io_base.specs.Falls.{Falls}
+use Rattle.lite_io_base.specs.Marks.{AllGiven, ReadMark, bytes, given, moved}
+use Rattle.lite_io_base.specs.Runs.{MarkLaws}
+use Rattle.lite_theorems.specs.Handing.{HandsOn, each_byte}
+
+module _ {M R : Type 0} {part : M → R} {f : ℕ → ℕ} {reads : Runs ReadMark R} where
+  pub reader_handing : MarkLaws reads → MarkLaws (HandsOn part f reads)
+  reader_handing laws =
+      record {
+        rests = λ x. record { ins = []; came = laws.rests (part x); out = refl };
+        follows = λ x y z l m h k. record {
+          ins = h.ins ++ k.ins;
+          came = laws.follows (part x) (part y) (part z) h.ins k.ins h.came k.came;
+          out = rw (h.out, k.out, map-append) refl;
+        };
+      }
+
+given_made : (f : ℕ → ℕ) (l : List ReadMark) → given (map (each_byte f) l) ≡ given l
+given_made f [] = refl
+given_made f (ReadMark.byte x ∷ l) = ap (λ n. n + 1) (given_made f l)
+given_made f (ReadMark.pending ∷ l) = given_made f l
+given_made f (ReadMark.fault kind ∷ l) = ap (λ n. n + 1) (given_made f l)
+given_made f (ReadMark.end ∷ l) = given_made f l
+
+length_made : (f : ℕ → ℕ) (l : List ReadMark) → length (map (each_byte f) l) ≡ length l
+length_made f [] = refl
+length_made f (m ∷ l) = ap suc (length_made f l)
+
+all_given : (f : ℕ → ℕ) (l : List ReadMark) → AllGiven (map (each_byte f) l) → AllGiven l
+all_given f [] h = tt
+all_given f (ReadMark.byte x ∷ l) h = (tt, all_given f l h.1)
+all_given f (ReadMark.pending ∷ l) h = absurd h.0
+all_given f (ReadMark.fault kind ∷ l) h = (tt, all_given f l h.1)
+all_given f (ReadMark.end ∷ l) h = absurd h.0
+
+module _ {M R : Type 0} {part : M → R} {f : ℕ → ℕ} {reads : Runs ReadMark R} {r : Ranks R} where
+  -- the rank of the part
+  pub handing_counting : ReadCounting reads r → ReadCounting (HandsOn part f reads) (ranks_of part r)
+  handing_counting c =
+      record {
+        sized = λ x. c.sized (part x);
+        counts_on = λ x y l k h. c.counts_on (part x) (part y) h.ins k h.came;
+        firm_on = λ x y l k h. c.firm_on (part x) (part y) h.ins k h.came;
+        falls = λ x y l k g h.
+            let low = c.falls (part x) (part y) h.ins k (all_given f h.ins (subst AllGiven h.out g)) h.came in
+            subst (λ n. Falls n (r.rank (part y)) (r.rank (part x))) (sym (ap length h.out ∙ length_made f h.ins)) low;
+        lowers = λ x y l k h.
+            subst (λ n. Falls n (r.rank (part y)) (r.rank (part x))) (sym (ap given h.out ∙ given_made f h.ins))
+            (c.lowers (part x) (part y) h.ins k h.came);
+      }
+
+made_bytes : (f : ℕ → ℕ) (xs : List ℕ) → bytes (map f xs) ≡ map (each_byte f) (bytes xs)
+made_bytes f [] = refl
+made_bytes f (x ∷ xs) = ap (λ l. ReadMark.byte (f x) ∷ l) (made_bytes f xs)
+
+-- the marks of a read whose bytes were changed where they lie, whatever else stands in the room
+pub handed_moved : (f : ℕ → ℕ) (xs room other : List ℕ) → length other ≡ length room
+    → moved other (map f xs) ≡ map (each_byte f) (moved room xs)
+handed_moved f (x ∷ xs) room other same = made_bytes f (x ∷ xs)
+handed_moved f [] [] [] same = refl
+handed_moved f [] (r ∷ room) (o ∷ other) same = refl
+handed_moved f [] [] (o ∷ other) same = absurd (omega (arith, same))
+handed_moved f [] (r ∷ room) [] same = absurd (omega (arith, same))

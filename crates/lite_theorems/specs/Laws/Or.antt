@@ -1,0 +1,35 @@
+-- Where `collect` of `or` gives Ok, the collection has taken in all that the two streams had.
+use Rattle.lite_base.specs.Future.AtEachOk.{AtEachOk}
+use Rattle.std.specs.Prelude.{⊤}
+use Rattle.std.proofs.Common.{◌≡◌, List, [], ◌∷◌, ◌++◌, Result, map, true, subst}
+use Rattle.futures.specs.declared.task.Poll.{Poll}
+use Rattle.lite_base.specs.Answers.{Answer, end}
+use Rattle.lite_base.specs.Runs.{Runs}
+use Rattle.lite_consume.specs.Consume.{Folds}
+use Rattle.lite_consume.specs.Consuming.{fold_of}
+use Rattle.lite_consume.specs.declared.consume.Consume.{Consume}
+use Rattle.lite_gather.specs.Collect.{collects}
+use Rattle.lite_gather.specs.declared.collect.Collect.{Collect}
+use Rattle.lite_gather.specs.declared.refused.Refused.{Refused}
+use Rattle.lite_theorems.specs.Interleaving.{OrHolds, items_given}
+use Rattle.lite_theorems.specs.Laws.Collected.{Has, collected}
+use Rattle.lite_theorems.specs.Laws.Rows.{merged_whole}
+use Rattle.lite_merge.specs.Or.{Ors}
+use Rattle.lite_merge.specs.declared.or.Or.{Or}
+
+module _ {S U C A : Type 0} (run : Runs (Answer A) S) (run' : Runs (Answer A) U)
+    (stays : (x y : S) → run x [] y → y ≡ x) (stays' : (x y : U) → run' x [] y → y ≡ x)
+    (holds : C → List A → Type 0) where
+  -- what the future of `collect` of `or` answers
+  abbrev pub OrCollects : Runs (Poll (Result C (Refused C A))) (Consume (Or S U) (Collect C))
+  OrCollects = Folds (Ors run run') (fold_of (λ (f : Collect C). f.collection) (collects ⊤ holds))
+
+  pub or_collected : (x : Consume (Or S U) (Collect C)) (before : List A) → Has holds x.folder.collection before
+      → AtEachOk OrCollects x (OrHolds holds run run' before x)
+  or_collected x before is out y c h g =
+      let w = collected holds (λ (f : Collect C). f.collection) out x.folder y.folder h.ins before c is h.consumed g in
+      let came = subst (λ l. Ors run run' x.stream l y.stream) w.cut h.came in
+      let order = map (λ _. true) (w.body ++ end ∷ []) in
+      let whole = merged_whole run run' stays stays' order x.stream.stream1 x.stream.stream2 w.body y.stream.stream1
+      y.stream.stream2 w.no_end came in
+      (whole.0, whole.1, items_given w.body, whole.2, whole.3, whole.4, w.held)

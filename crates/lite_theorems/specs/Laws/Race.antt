@@ -1,0 +1,45 @@
+-- Where `collect` of `race` gives Ok, the collection has taken in all that the two streams had, whatever the words
+-- were.
+use Rattle.lite_base.specs.Future.AtEachOk.{AtEachOk}
+use Rattle.std.specs.Prelude.{⊤}
+use Rattle.std.proofs.Common.{◌≡◌, List, [], ◌∷◌, ◌++◌, Result, map, subst}
+use Rattle.rand_core.specs.Stream.{Stream}
+use Rattle.futures.specs.declared.task.Poll.{Poll}
+use Rattle.lite_base.specs.Answers.{Answer, end}
+use Rattle.lite_base.specs.Future.Race.{is_first}
+use Rattle.lite_base.specs.Runs.{Runs}
+use Rattle.lite_consume.specs.Consume.{Folds}
+use Rattle.lite_consume.specs.Consuming.{fold_of}
+use Rattle.lite_consume.specs.declared.consume.Consume.{Consume}
+use Rattle.lite_gather.specs.Collect.{collects}
+use Rattle.lite_gather.specs.declared.collect.Collect.{Collect}
+use Rattle.lite_gather.specs.declared.refused.Refused.{Refused}
+use Rattle.lite_theorems.specs.Interleaving.{RaceHolds, items_given}
+use Rattle.lite_theorems.specs.Laws.Collected.{Has, collected}
+use Rattle.lite_theorems.specs.Laws.Rows.{merged_whole}
+use Rattle.lite_merge.specs.Race.{Races, RacesOn}
+use Rattle.lite_merge.specs.declared.race.Race.{Race}
+
+module _ {S U R C A : Type 0} (run : Runs (Answer A) S) (run' : Runs (Answer A) U) (stream : R → Stream)
+    (stays : (x y : S) → run x [] y → y ≡ x) (stays' : (x y : U) → run' x [] y → y ≡ x)
+    (holds : C → List A → Type 0) where
+  -- what the future of `collect` of `race` answers
+  abbrev pub RaceCollects : Runs (Poll (Result C (Refused C A))) (Consume (Race S U R) (Collect C))
+  RaceCollects = Folds (RacesOn run run' stream) (fold_of (λ (f : Collect C). f.collection) (collects ⊤ holds))
+
+  -- with an answer it drew words
+  raced : (x y : Race S U R) (body : List (Answer A)) → RacesOn run run' stream x (body ++ end ∷ []) y
+      → Races run run' stream x (body ++ end ∷ []) y
+  raced x y [] h = h
+  raced x y (b ∷ body) h = h
+
+  pub race_collected : (x : Consume (Race S U R) (Collect C)) (before : List A) → Has holds x.folder.collection before
+      → AtEachOk RaceCollects x (RaceHolds holds run run' before x)
+  race_collected x before is out y c h g =
+      let w = collected holds (λ (f : Collect C). f.collection) out x.folder y.folder h.ins before c is h.consumed g in
+      let came = raced x.stream y.stream w.body
+      (subst (λ l. RacesOn run run' stream x.stream l y.stream) w.cut h.came) in
+      let order = map is_first came.words in
+      let whole = merged_whole run run' stays stays' order x.stream.stream1 x.stream.stream2 w.body y.stream.stream1
+      y.stream.stream2 w.no_end came.merges in
+      (whole.0, whole.1, items_given w.body, whole.2, whole.3, whole.4, w.held)

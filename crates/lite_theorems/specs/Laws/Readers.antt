@@ -1,0 +1,46 @@
+-- A reader by steps: each mark is a step, in the run `Steps step`.
+use Rattle.std.proofs.Common.{◌<◌, ◌≤◌, ◌+◌, ℕ, inl, inr, List, [], ◌∷◌, ap, arith, refl}
+use Rattle.std.proofs.Math.Nat.{eq-or-lt_of_le}
+use Rattle.lite_base.specs.Laws.Falling.{Below-one}
+use Rattle.lite_base.specs.Rank.{AtMost}
+use Rattle.lite_base.specs.Ranks.{number_ranks}
+use Rattle.lite_io_base.specs.Counting.{ReadCounting}
+use Rattle.lite_io_base.specs.Laws.Counting.{number_counting}
+use Rattle.lite_io_base.specs.Falls.{Falls}
+use Rattle.lite_io_base.specs.Laws.Falls.{falls_at_most, falls_of_below}
+use Rattle.lite_io_base.specs.Laws.Steps.{steps_laws}
+use Rattle.lite_io_base.specs.Marks.{ReadMark, given}
+use Rattle.lite_io_base.specs.Runs.{MarkLaws}
+use Rattle.lite_io_base.specs.Steps.{Steps}
+use Rattle.lite_theorems.specs.Readers.{MarksLower}
+
+-- `step` is what one mark may leave
+module _ {S : Type 0} (step : S → ReadMark → S → Type 0) where
+  pub reader_by_steps : MarkLaws (Steps step)
+  reader_by_steps = steps_laws step
+
+at_most_one : (m n : ℕ) → m ≤ n → AtMost (m ∷ []) (n ∷ [])
+at_most_one m n h = elim (eq-or-lt_of_le h) [ inl e ↦ inl (ap (λ k. k ∷ []) e) | inr p ↦ inr (inl (p, refl)) ]
+
+falls_more : (g m n k : ℕ) → Falls g (m ∷ []) (n ∷ []) → n < k → Falls (g + 1) (m ∷ []) (k ∷ [])
+falls_more g m n k h less = falls_of_below (g + 1) _ _ (Below-one (falls_at_most g _ _ h) less)
+
+module _ {S : Type 0} {step : S → ReadMark → S → Type 0} {number : S → ℕ} where
+  falls_from : MarksLower step number → (x y : S) (n : ℕ) (l : List ReadMark) → number x ≤ n → Steps step x l y
+      → Falls (given l) (number y ∷ []) (n ∷ [])
+  falls_from low x y n [] least h = at_most_one (number y) n (rw h least)
+  falls_from low x y n (ReadMark.pending ∷ l) least h =
+      falls_from low h.0 y n l (omega (arith, low.by_pending x h.0 h.1, least)) h.2
+  falls_from low x y n (ReadMark.end ∷ l) least h =
+      falls_from low h.0 y n l (omega (arith, low.by_end x h.0 h.1, least)) h.2
+  falls_from low x y n (ReadMark.byte b ∷ l) least h =
+      falls_more (given l) (number y) (number h.0) n (falls_from low h.0 y (number h.0) l (omega arith) h.2)
+      (omega (arith, low.by_byte x h.0 b h.1, least))
+  falls_from low x y n (ReadMark.fault kind ∷ l) least h =
+      let less = low.by_fault x h.0 kind h.1 in
+      falls_more (given l) (number y) (number h.0) n (falls_from low h.0 y (number h.0) l (omega arith) h.2)
+      (omega (arith, less, least))
+
+  -- the rank is the number
+  pub reader_counting : MarksLower step number → ReadCounting (Steps step) (number_ranks number)
+  reader_counting low = number_counting (λ x y l h. falls_from low x y (number x) l (omega arith) h)

@@ -1,0 +1,55 @@
+-- A stream by steps: each poll is a step, in the run `FoldsTo step`.
+use Rattle.std.specs.List.{FoldsTo}
+use Rattle.std.proofs.Common.{◌≤◌, ℕ, inl, inr, List, [], ◌∷◌, Some, None, ap, arith, refl, subst, sym}
+use Rattle.std.proofs.Math.Nat.{eq-or-lt_of_le}
+use Rattle.futures.specs.declared.task.Poll.TheVariants.{Ready, Pending}
+use Rattle.lite_base.specs.Answers.{Answer, before_end}
+use Rattle.lite_base.specs.Laws.Falling.{Below-one, Lowers-at_most}
+use Rattle.lite_base.specs.Laws.Calls.{folds_follow}
+use Rattle.lite_base.specs.Laws.Hint.{same_hint}
+use Rattle.lite_base.specs.Rank.{AtMost, Lowers}
+use Rattle.lite_base.specs.Ranks.{Counting, number_ranks}
+use Rattle.lite_base.specs.Laws.Ranks.{number_counting}
+use Rattle.lite_base.specs.StreamLaws.{RunLaws, StreamLaws}
+use Rattle.lite_base.specs.Laws.StreamLaws.{laws_of}
+use Rattle.lite_base.specs.Runs.{NoHint}
+use Rattle.lite_theorems.specs.Streams.{HintsAt, ItemsLower}
+
+-- `step` is what one poll may answer and leave
+module _ {S A : Type 0} (step : S → Answer A → S → Type 0) where
+  folds_runs : RunLaws (FoldsTo step)
+  folds_runs = record { rests = λ x. refl; stays = λ x y h. sym h; follows = folds_follow step }
+
+  pub stream_by_steps : StreamLaws (FoldsTo step) NoHint
+  stream_by_steps = laws_of folds_runs (λ x y hint l e h. same_hint hint (0, None) l e tt)
+
+at_most_one : (m n : ℕ) → m ≤ n → AtMost (m ∷ []) (n ∷ [])
+at_most_one m n h = elim (eq-or-lt_of_le h) [ inl e ↦ inl (ap (λ k. k ∷ []) e) | inr p ↦ inr (inl (p, refl)) ]
+
+module _ {S A : Type 0} {step : S → Answer A → S → Type 0} {number : S → ℕ} where
+  lowers_from : ItemsLower step number → (x y : S) (n : ℕ) (l : List (Answer A)) → number x ≤ n → FoldsTo step x l y
+      → Lowers l (number y ∷ []) (n ∷ [])
+  lowers_from low x y n [] least h = at_most_one (number y) n (subst (λ k. number k ≤ n) h least)
+  lowers_from low x y n (Pending ∷ l) least h =
+      lowers_from low h.0 y n l (omega (arith, low.by_pending x h.0 h.1, least)) h.2
+  lowers_from low x y n (Ready None ∷ l) least h =
+      lowers_from low h.0 y n l (omega (arith, low.by_end x h.0 h.1, least)) h.2
+  lowers_from low x y n (Ready (Some a) ∷ l) least h =
+      Below-one (Lowers-at_most l _ _ (lowers_from low h.0 y (number h.0) l (omega arith) h.2))
+      (omega (arith, low.by_item x h.0 a h.1, least))
+
+  -- the rank is the number
+  pub stream_counting : ItemsLower step number → Counting (FoldsTo step) (number_ranks number)
+  stream_counting low = number_counting (λ x y l h. lowers_from low x y (number x) l (omega arith) h)
+
+  fewer_left : ItemsLower step number → (x y : S) (l : List (Answer A)) → FoldsTo step x l y → before_end l ≤ number x
+  fewer_left low x y [] h = omega arith
+  fewer_left low x y (Pending ∷ l) h = omega (arith, low.by_pending x h.0 h.1, fewer_left low h.0 y l h.2)
+  fewer_left low x y (Ready None ∷ l) h = omega arith
+  fewer_left low x y (Ready (Some a) ∷ l) h = omega (arith, low.by_item x h.0 a h.1, fewer_left low h.0 y l h.2)
+
+  -- the number as the hint
+  pub stream_hinting : ItemsLower step number → StreamLaws (FoldsTo step) (HintsAt number)
+  stream_hinting low =
+      laws_of (folds_runs step)
+      (λ x y hint l e h. same_hint hint (number x, Some (number x)) l e (fewer_left low x y l h))

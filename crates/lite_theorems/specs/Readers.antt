@@ -1,0 +1,13 @@
+-- A reader by steps: each mark is a step, in the run `Steps step`.
+use Rattle.std.proofs.Common.{◌<◌, ◌≤◌, ℕ}
+use Rattle.std.specs.declared.io.ErrorKind.{ErrorKind}
+use Rattle.lite_io_base.specs.Marks.{ReadMark}
+
+-- `step` is what one mark may leave
+module _ {S : Type 0} (step : S → ReadMark → S → Type 0) where
+  -- each byte and each error lowers the number, and no pending and no end raises it
+  pub record MarksLower (number : S → ℕ) : Type 0 where
+    pub by_byte : (x y : S) (b : ℕ) → step x (ReadMark.byte b) y → number y < number x
+    pub by_fault : (x y : S) (kind : ErrorKind) → step x (ReadMark.fault kind) y → number y < number x
+    pub by_pending : (x y : S) → step x ReadMark.pending y → number y ≤ number x
+    pub by_end : (x y : S) → step x ReadMark.end y → number y ≤ number x

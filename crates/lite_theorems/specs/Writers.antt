@@ -1,0 +1,1 @@
+-- A writer by steps: each mark is a step, in the run `Steps step`.

@@ -1,0 +1,17 @@
+//! What nests of combinators come to: each theorem is the contract of a function that builds the nest, or that does nothing. And the
+//! laws of own futures, streams, readers and writers whose calls go by steps, in `specs/`, a line each.
+#![tactic(auto)]
+
+mod both_readers;
+mod both_writers;
+mod chained;
+mod lines;
+mod or;
+mod race;
+
+pub use both_readers::read_both;
+pub use both_writers::write_both;
+pub use chained::{copy_buffered, copy_chain};
+pub use lines::{CollectLinesFuture, collect_buffered_lines, collect_lines};
+pub use or::collect_or;
+pub use race::collect_race;

@@ -1,0 +1,123 @@
+-- Which items come out: each adapter of a function of its own has a plain function of lists.
+use Rattle.std.proofs.Common.{◌≡◌, ◌≤◌, ℕ, suc, ◌-◌, List, [], ◌∷◌, ◌++◌, ◌∙◌, length, map, take, refl, ap, sym, inl}
+use Rattle.std.proofs.Common.{inr, subst, arith}
+use Rattle.std.specs.List.{filter}
+use Rattle.std.specs.Prelude.{Bool, true, false, Option, Some, None, Result, Ok, Err, IfOk}
+use Rattle.futures.specs.declared.task.Poll.TheVariants.{Ready, Pending}
+use Rattle.lite_base.specs.Answers.{Answer, end, item, items}
+use Rattle.lite_base.specs.Runs.{Question}
+use Rattle.lite_stream.specs.Cutting.{Cuts}
+use Rattle.lite_stream.specs.EachItem.{items_in}
+use Rattle.lite_stream.specs.Pointwise.{Replaces}
+use Rattle.lite_stream.specs.Take.{is_none_left, left_after}
+use Rattle.lite_reshape.specs.Laws.Leaving.{leaves_steps}
+use Rattle.lite_reshape.specs.Leaving.{LeavesOut}
+use Rattle.lite_views.specs.Fronts.{Front}
+use Rattle.lite_views.specs.Laws.Fronts.{front_filter, front_map, front_take}
+
+pub items_join : {A : Type 0} (l m : List (Answer A)) → items_in (l ++ m) ≡ items_in l ++ items_in m
+items_join [] m = refl
+items_join (Pending ∷ l) m = items_join l m
+items_join (Ready None ∷ l) m = items_join l m
+items_join (Ready (Some x) ∷ l) m = ap (λ k. x ∷ k) (items_join l m)
+
+pub items_of : {A : Type 0} (xs : List A) → items_in (items xs) ≡ xs
+items_of [] = refl
+items_of (x ∷ xs) = ap (λ k. x ∷ k) (items_of xs)
+
+-- map: as many answers, the items by the function
+module _ {F A B : Type 0} (call : Question F A B) where
+  pub replaced_length : (p q : F) (i : List (Answer A)) (o : List (Answer B)) → Replaces call p i o q
+      → length i ≡ length o
+  replaced_length p q [] [] h = refl
+  replaced_length p q [] (b ∷ o) h = absurd h
+  replaced_length p q (a ∷ i) [] h = absurd h
+  replaced_length p q (Pending ∷ i) (b ∷ o) h = ap suc (replaced_length p q i o h.1)
+  replaced_length p q (Ready None ∷ i) (b ∷ o) h = ap suc (replaced_length p q i o h.1)
+  replaced_length p q (Ready (Some x) ∷ i) (b ∷ o) h = ap suc (replaced_length h.1 q i o h.4)
+
+  module _ (f : A → B) (answers : (p q : F) (x : A) (y : B) → call p x y q → y ≡ f x) where
+    pub replaced_in : (p q : F) (i : List (Answer A)) (o : List (Answer B)) → Replaces call p i o q
+        → items_in o ≡ map f (items_in i)
+    replaced_in p q [] [] h = refl
+    replaced_in p q [] (b ∷ o) h = absurd h
+    replaced_in p q (a ∷ i) [] h = absurd h
+    replaced_in p q (Pending ∷ i) (b ∷ o) h = ap (λ (c : Answer B). items_in (c ∷ o)) h.0 ∙ replaced_in p q i o h.1
+    replaced_in p q (Ready None ∷ i) (b ∷ o) h = ap (λ (c : Answer B). items_in (c ∷ o)) h.0 ∙ replaced_in p q i o h.1
+    replaced_in p q (Ready (Some x) ∷ i) (b ∷ o) (None, r, same, called, more) = absurd called
+    replaced_in p q (Ready (Some x) ∷ i) (b ∷ o) (Some y, r, same, called, more) =
+        let rest = replaced_in r q i o more in
+        let value = answers p r x y called in
+        ap (λ (c : Answer B). items_in (c ∷ o)) same ∙ (ap (λ z. z ∷ items_in o) value ∙ ap (λ k. f x ∷ k) rest)
+
+    pub replaced_front : (p q : F) (xs : List A) (i : List (Answer A)) (o : List (Answer B))
+        → Front (items_in i) xs → Replaces call p i o q → Front (items_in o) (map f xs)
+    replaced_front p q xs i o came h =
+        subst (λ l. Front l (map f xs)) (sym (replaced_in p q i o h)) (front_map f (items_in i) xs came)
+
+    -- where all answers were items
+    pub replaced_items : (p q : F) (xs : List A) (o : List (Answer B)) → Replaces call p (items xs) o q
+        → o ≡ items (map f xs)
+    replaced_items p q [] [] h = refl
+    replaced_items p q [] (b ∷ o) h = absurd h
+    replaced_items p q (x ∷ xs) [] h = absurd h
+    replaced_items p q (x ∷ xs) (b ∷ o) (None, r, same, called, more) = absurd called
+    replaced_items p q (x ∷ xs) (b ∷ o) (Some y, r, same, called, more) =
+        let rest = replaced_items r q xs o more in
+        let value = answers p r x y called in
+        cc
+
+-- filter: the items that the test accepts
+module _ {F A : Type 0} (call : Question F A (Option A)) (test : A → Bool)
+    (keeps : (p q : F) (x y : A) → call p x (Some y) q → (y ≡ x) × (test x ≡ true))
+    (rejects : (p q : F) (x : A) → call p x None q → test x ≡ false) where
+  one_kept : (p m : F) (x : A) (i : List (Answer A)) (y : A) (o : List (Answer A)) → call p x (Some y) m
+      → items_in o ≡ filter test (items_in i) → y ∷ items_in o ≡ filter test (x ∷ items_in i)
+  one_kept p m x i y o t k =
+      let passed = keeps p m x y t in
+      rw passed.1 (ap (λ l. y ∷ l) k ∙ ap (λ z. z ∷ filter test (items_in i)) passed.0)
+
+  pub left_in : (p q : F) (i : List (Answer A)) (o : List (Answer A)) → LeavesOut call p i o q
+      → items_in o ≡ filter test (items_in i)
+  left_in p q i o =
+      leaves_steps call (λ p i o. items_in o ≡ filter test (items_in i))
+      (λ p m x i b o t k. rw (rejects p m x t) k) (λ p i o k. k) (λ p i o k. k) one_kept p q i o refl
+
+  pub left_front : (p q : F) (xs : List A) (i o : List (Answer A)) → Front (items_in i) xs → LeavesOut call p i o q
+      → Front (items_in o) (filter test xs)
+  left_front p q xs i o came h =
+      subst (λ l. Front l (filter test xs)) (sym (left_in p q i o h)) (front_filter test (items_in i) xs came)
+
+-- take: the items that came in, which are as many as were left to be taken at most
+pub cut_in : {F A : Type 0} (is_over : F → Type 0) (after : Answer A → F → F) (f g : F) (i o : List (Answer A))
+    → Cuts is_over after f i o g → items_in o ≡ items_in i
+cut_in is_over after f g i [] h = sym (ap items_in h.0)
+cut_in is_over after f g i (b ∷ o) (inl h) = ap (λ a. items_in (a ∷ o)) h.1 ∙ cut_in is_over after f g i o h.2
+cut_in is_over after f g i (Pending ∷ o) (inr h) =
+    cut_in is_over after (after Pending f) g h.1 o h.3 ∙ sym (ap items_in h.2)
+cut_in is_over after f g i (Ready None ∷ o) (inr h) =
+    cut_in is_over after (after end f) g h.1 o h.3 ∙ sym (ap items_in h.2)
+cut_in is_over after f g i (Ready (Some x) ∷ o) (inr h) =
+    ap (λ k. x ∷ k) (cut_in is_over after (after (item x) f) g h.1 o h.3) ∙ sym (ap items_in h.2)
+
+pub taken_length : {A : Type 0} (n m : ℕ) (i o : List (Answer A)) → Cuts is_none_left left_after n i o m
+    → length (items_in o) ≤ n
+taken_length n m i [] h = omega arith
+taken_length n m i (b ∷ o) (inl h) = rw h.1 (taken_length n m i o h.2)
+taken_length n m i (Pending ∷ o) (inr h) = taken_length n m h.1 o h.3
+taken_length n m i (Ready None ∷ o) (inr h) = let rest = taken_length 0 m h.1 o h.3 in omega (arith, rest)
+taken_length n m i (Ready (Some x) ∷ o) (inr h) =
+    let rest : length (items_in o) ≤ n - 1 = taken_length (n - 1) m h.1 o h.3 in
+    let some : ¬ (n ≡ 0) = h.0 in
+    omega (arith, rest, some)
+
+pub cut_front : {A : Type 0} (n m : ℕ) (xs : List A) (i o : List (Answer A))
+    → Front (items_in i) xs → Cuts is_none_left left_after n i o m → Front (items_in o) (take n xs)
+cut_front n m xs i o came h =
+    let same = cut_in is_none_left left_after n m i o h in
+    front_take n (items_in o) xs (taken_length n m i o h) (subst (λ l. Front l xs) (sym same) came)
+
+-- what a call that went well says, said otherwise
+pub on_ok : {A E P Q : Type 0} (r : Result A E) → (P → Q) → IfOk r (λ _. P) → IfOk r (λ _. Q)
+on_ok (Ok x) to h = to h
+on_ok (Err e) to h = tt

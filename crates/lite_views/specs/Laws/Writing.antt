@@ -1,0 +1,170 @@
+-- The futures that write to a writer of which it is known what it keeps.
+use Rattle.std.proofs.Common.{◌≡◌, ◌∙◌, ◌+◌, ◌%◌, ◌^◌, ℕ, List, [], ◌∷◌, ◌++◌, length, map, refl, ap, sym, subst, arith}
+use Rattle.std.proofs.Common.{append_assoc, append-nil}
+use Rattle.std.specs.Prelude.{⊤, Result, Ok, Err, IfOk}
+use Rattle.std.specs.List.{FoldsTo}
+use Rattle.std.specs.declared.io.Error.{Error}
+use Rattle.futures.specs.declared.task.Poll.{Poll}
+use Rattle.futures.specs.declared.task.Poll.TheVariants.{Ready, Pending}
+use Rattle.lite_base.specs.Answers.{Gives, strip}
+use Rattle.lite_base.specs.Laws.Segments.{segment_front, to_value_last}
+use Rattle.lite_base.specs.Runs.{Runs}
+use Rattle.lite_write.specs.Copy.{Copied, CopyRuns, CopyValue}
+use Rattle.lite_write.specs.Parts.{NothingCopied, held_of, met_in, source_of}
+use Rattle.lite_write.specs.declared.copy.CopyFuture.{CopyFuture}
+use Rattle.lite_write.specs.MarkLists.{BytesAlone, bytes_told}
+use Rattle.lite_io_base.specs.Known.{Known, Knows, TellsKnown}
+use Rattle.lite_io_base.specs.Laws.Known.{knows_spends}
+use Rattle.lite_io_base.specs.Stored.{Stored, Stores}
+use Rattle.lite_io_base.specs.Laws.Stored.{stores_kept}
+use Rattle.lite_io_base.specs.Marks.{ReadMark}
+use Rattle.lite_io_base.specs.Takings.{WriteMark, bytes_in, bytes_taken}
+use Rattle.lite_write.specs.Hands.{Hands}
+use Rattle.lite_write.specs.WriteAll.{Ended, HandsMarks, HandsOver}
+use Rattle.lite_views.specs.Laws.Futures.{when_left}
+use Rattle.lite_views.specs.Waiting.{WhenLeft}
+
+bytes_both : (l m : List WriteMark) → bytes_taken (l ++ m) ≡ bytes_taken l ++ bytes_taken m
+bytes_both [] m = refl
+bytes_both (a ∷ l) m =
+    ap (λ z. bytes_in a ++ z) (bytes_both l m) ∙ sym (append_assoc (bytes_in a) (bytes_taken l) (bytes_taken m))
+
+abbrev writes_of : List (List ℕ) → List WriteMark
+writes_of = map WriteMark.wrote
+
+handed_bytes : (l : List (List ℕ)) (offered left : List ℕ) → FoldsTo Hands offered l left
+    → offered ≡ bytes_taken (writes_of l) ++ left
+handed_bytes [] offered left h = h
+handed_bytes (xs ∷ l) offered left h =
+    h.1.1 ∙ ap (λ z. xs ++ z) (handed_bytes l h.0 left h.2) ∙ sym (append_assoc xs (bytes_taken (writes_of l)) left)
+
+ended_ok : (left : List ℕ) (last : List WriteMark) (u : Unit {0}) → Ended left last (Ok u) → (left ≡ []) × (last ≡ [])
+ended_ok left [] u e = (e.0, refl)
+ended_ok left (WriteMark.wrote [] ∷ []) u e = absurd e
+ended_ok left (WriteMark.wrote [] ∷ (m ∷ l)) u e = absurd e
+ended_ok left (WriteMark.wrote (x ∷ xs) ∷ l) u e = absurd e
+ended_ok left (WriteMark.fault kind ∷ []) u e = absurd e
+ended_ok left (WriteMark.fault kind ∷ (m ∷ l)) u e = absurd e
+ended_ok left (WriteMark.pending ∷ l) u e = absurd e
+ended_ok left (WriteMark.flushed ∷ l) u e = absurd e
+ended_ok left (WriteMark.closed ∷ l) u e = absurd e
+
+-- what was taken is what was offered
+pub all_handed : (out : List (Poll (Result (Unit {0}) Error))) (offered left : List ℕ) (marks : List WriteMark)
+    (u : Unit {0}) → HandsOver offered marks out left
+    → Gives out (Ok u) → bytes_taken marks ≡ offered
+all_handed [] offered left marks u h g = absurd g
+all_handed (Pending ∷ out) offered left marks u ((first, rest, m, cut, w, more), up) g =
+    let whole = segment_front offered m marks first rest Pending w cut
+    ∙ ap (λ z. writes_of w.taken ++ (z ++ rest)) w.given.0 in
+    ap bytes_taken whole ∙ bytes_both (writes_of w.taken) (WriteMark.pending ∷ rest)
+    ∙ ap (λ z. bytes_taken (writes_of w.taken) ++ z) (all_handed out m left rest u (more, up) g ∙ w.given.2)
+    ∙ sym (handed_bytes w.taken offered w.between w.folds)
+all_handed (Ready r ∷ out) offered left marks u h g =
+    let w = to_value_last HandsMarks offered left marks r out h in
+    let ok : Ended w.between w.last (Ok u) = subst (Ended w.between w.last) g.0 w.given.0 in
+    let over = ended_ok w.between w.last u ok in
+    ap bytes_taken w.cut ∙ bytes_both (writes_of w.taken) w.last
+    ∙ ap (λ z. bytes_taken (writes_of w.taken) ++ bytes_taken z) over.1
+    ∙ sym (ap (λ z. bytes_taken (writes_of w.taken) ++ z) over.0)
+    ∙ sym (handed_bytes w.taken offered w.between w.folds)
+
+-- `write_all`
+pub all_written : (v : Result (Unit {0}) Error) (out : List (Poll (Result (Unit {0}) Error)))
+    (offered left before after : List ℕ) (marks : List WriteMark)
+    → HandsOver offered marks out left → Gives out v → after ≡ before ++ bytes_taken marks
+    → IfOk v (λ u. after ≡ before ++ offered)
+all_written (Ok u) out offered left before after marks h g k =
+    k ∙ ap (λ z. before ++ z) (all_handed out offered left marks u h g)
+all_written (Err e) out offered left before after marks h g k = tt
+
+one_value : {A : Type 0} (out : List (Poll A)) (v : A) → Gives out v → strip out ≡ v ∷ []
+one_value [] v g = absurd g
+one_value (Pending ∷ out) v g = one_value out v g
+one_value (Ready x ∷ out) v g = ap (λ z. x ∷ strip z) g.1 ∙ ap (λ z. z ∷ []) g.0
+
+-- where the value is Ok
+values_ok : (n total : ℕ) (failed : List ReadMark) (last : List WriteMark) (after : List ℕ) (met : List ReadMark)
+    → CopyValue (Ok n ∷ []) failed last after met total
+    → (failed ≡ []) × (after ≡ []) × (met ≡ ReadMark.end ∷ []) × (n ≡ total)
+values_ok n total [] [] after met h = absurd h
+values_ok n total [] (WriteMark.flushed ∷ []) after met h = (refl, h.0, h.1, h.2)
+values_ok n total [] (WriteMark.flushed ∷ (m ∷ l)) after met h = absurd h
+values_ok n total [] (WriteMark.wrote xs ∷ l) after met h = absurd h
+values_ok n total [] (WriteMark.pending ∷ l) after met h = absurd h
+values_ok n total [] (WriteMark.fault kind ∷ l) after met h = absurd h
+values_ok n total [] (WriteMark.closed ∷ l) after met h = absurd h
+values_ok n total (m ∷ failed) last after met h = absurd h
+
+told_all : (read : List ReadMark) (bs ys : List ℕ) → BytesAlone read → TellsKnown bs (read ++ ReadMark.end ∷ []) ys
+    → bytes_told (read ++ ReadMark.end ∷ []) ≡ bs
+told_all [] bs ys o h = sym h.0
+told_all (ReadMark.byte b ∷ l) bs ys o h = ap (λ z. b ∷ z) (told_all l h.0 ys o h.2) ∙ sym h.1
+told_all (ReadMark.pending ∷ l) bs ys o h = told_all l bs ys o h
+told_all (ReadMark.fault kind ∷ l) bs ys o h = absurd o
+told_all (ReadMark.end ∷ l) bs ys o h = absurd o
+
+-- all that is to come was taken
+pub all_copied : (n total : ℕ) (before : List ℕ) (met told : List ReadMark) (took : List WriteMark)
+    (out : List (Poll (Result ℕ Error)))
+    (after : List ℕ) (met' : List ReadMark) (bs ys : List ℕ) → before ≡ [] → met ≡ []
+    → Copied before met told took out after met' total
+    → TellsKnown bs told ys → Gives out (Ok n)
+    → (bytes_taken took ≡ bs) × (n ≡ total)
+all_copied n total before met told took out after met' bs ys none fresh c s g =
+    let v = values_ok n total c.failed c.last after met'
+    (subst (λ l. CopyValue l c.failed c.last after met' total) (one_value out (Ok n) g) c.value) in
+    let r = c.reading in
+    let cut : told ≡ r.read ++ ReadMark.end ∷ [] =
+    sym (ap (λ z. z ++ told) fresh) ∙ r.cut ∙ ap (λ z. r.read ++ (z ++ c.failed)) v.2
+    ∙ ap (λ z. r.read ++ (ReadMark.end ∷ z)) v.0 in
+    let whole = told_all r.read bs ys r.goes_on (subst (λ l. TellsKnown bs l ys) cut s) in
+    let balance : bytes_told told ≡ bytes_taken took =
+    sym (ap (λ z. z ++ bytes_told told) none) ∙ c.balanced ∙ ap (λ z. bytes_taken took ++ z) v.1
+    ∙ append-nil (bytes_taken took) in
+    (sym balance ∙ ap bytes_told cut ∙ whole, v.3)
+
+-- `copy`
+pub all_moved : (v : Result ℕ Error) (start total : ℕ) (before : List ℕ) (met told : List ReadMark)
+    (took : List WriteMark) (out : List (Poll (Result ℕ Error)))
+    (after : List ℕ) (met' : List ReadMark) (bs ys held holds : List ℕ) → before ≡ [] → met ≡ [] → start ≡ 0
+    → Copied before met told took out after met' total → TellsKnown bs told ys
+    → Gives out v → total ≡ (start + length (bytes_taken took)) % 2 ^ 64 → holds ≡ held ++ bytes_taken took
+    → IfOk v (λ n. (holds ≡ held ++ bs) × (n ≡ length bs % 2 ^ 64))
+all_moved (Ok n) start total before met told took out after met' bs ys held holds none fresh zero_start c s g count k =
+    let all = all_copied n total before met told took out after met' bs ys none fresh c s g in
+    let from : start + length (bytes_taken took) ≡ length (bytes_taken took) = omega (arith, zero_start) in
+    (k ∙ ap (λ z. held ++ z) all.0, all.1 ∙ count ∙ ap (λ z. z % 2 ^ 64) from ∙ ap (λ z. length z % 2 ^ 64) all.0)
+all_moved (Err e) start total before met told took out after met' bs ys held holds none fresh zero_start c s g count k =
+    tt
+
+-- of a value of which three facts are known
+pub on_each : {A B : Type 0} {P Q S T : A → Type 0} (r : Result A B) → IfOk r P → IfOk r Q → IfOk r S
+    → ((x : A) → P x → Q x → S x → T x) → IfOk r T
+on_each (Ok x) p q s to = to x p q s
+on_each (Err e) p q s to = tt
+
+module _ {R W E : Type 0} (reads : Runs ReadMark R) (writes : Runs WriteMark W) (known : Known R)
+    (stored : Stored W) where
+  -- a copy that begins, and is waited for
+  pub copy_left : (reader : R) (writer : W) (f : CopyFuture R W) → source_of f ≡ reader → f.writer ≡ writer
+      → NothingCopied f → Knows reads known reader
+      → Stores writes stored writer
+      → WhenLeft E (CopyRuns reads writes) f (λ g. ⊤)
+      (λ g r. IfOk r
+      (λ n. (stored.kept g.writer ≡ stored.kept writer ++ known.left reader)
+      × (n ≡ length (known.left reader) % 2 ^ 64)))
+  copy_left reader writer f from to begins knows stores =
+      when_left (CopyRuns reads writes) f (λ g. ⊤)
+      (λ g r. IfOk r
+      (λ n. (stored.kept g.writer ≡ stored.kept writer ++ known.left reader)
+      × (n ≡ length (known.left reader) % 2 ^ 64))) tt (λ ins g ran. tt)
+      (λ ins g v gives ran.
+      let m = ran.moves in
+      let came : reads reader m.told (source_of g) = subst (λ x. reads x m.told (source_of g)) from m.came in
+      let went : writes writer m.took g.writer = subst (λ x. writes x m.took g.writer) to m.went in
+      all_moved v f.amount g.amount (held_of f) (met_in f.phase) m.told m.took ins (held_of g) (met_in g.phase)
+      (known.left reader) (known.left (source_of g))
+      (stored.kept writer) (stored.kept g.writer) begins.held begins.met begins.none m.copied
+      (knows_spends reads known reader (source_of g) m.told knows came) gives m.counted
+      (stores_kept writes stored writer g.writer m.took stores went))

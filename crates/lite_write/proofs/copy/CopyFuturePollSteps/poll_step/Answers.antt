@@ -1,0 +1,45 @@
+use Rattle.std.proofs.Common.{◌≡◌, ◌<◌, [], ◌∷◌, Ok, Err, true, false, length, refl, rules}
+use Rattle.std.proofs.lemmas.Grind.{common_steps}
+use Rattle.futures.specs.declared.task.Poll.TheVariants.{Ready, Pending}
+use Rattle.lite_buffered.specs.BufReader.{ahead}
+use Rattle.lite_write.specs.Laws.Copy.{moves_both}
+use Rattle.lite_write.proofs.Copying.{is_copying, reader_ends, reader_fails, reader_waits, then_steps}
+use Rattle.lite_write.proofs.copy.CopyFuturePollSteps.poll_step.Goals as goal
+
+pub returns-in-Ready-Ok-true-clause-stepped : goal.returns-in-Ready-Ok-true-clause-stepped
+returns-in-Ready-Ok-true-clause-stepped g c =
+    let is : c.fill.result ≡ Ready (Ok true) = search rules in
+    let none : ahead c.fill.new.reader ≡ [] = search (rules, common_steps) in
+    let copying = is_copying c.args.self.now.phase c.in_default.not-Flushing in
+    let rl = g.R.Tale.read_laws in
+    let wl = g.W.Takings.write_laws in
+    let ended = reader_ends g.R.Tale.reads g.W.Takings.writes rl wl c.args.self.now _ refl refl copying refl none
+    (rw (is, none) at c.fill.ensures.ran) in
+    moves_both rl wl c.args.self.now _ _ []
+    (c.flush-in-Ready-Ok-true.result ∷ []) tt ended c.flush-in-Ready-Ok-true.ensures.ran
+
+pub returns-in-Ready-Ok-false-clause-stepped : goal.returns-in-Ready-Ok-false-clause-stepped
+returns-in-Ready-Ok-false-clause-stepped g c =
+    let is : c.fill.result ≡ Ready (Ok false) = search rules in
+    let some : 0 < length (ahead c.fill.new.reader) = search (rules, common_steps) in
+    let copying = is_copying c.args.self.now.phase c.in_default.not-Flushing in
+    then_steps g.R.Tale.reads g.W.Takings.writes g.R.Tale.read_laws g.W.Takings.write_laws c.args.self.now _ _ refl refl
+    copying copying
+    (rw is at c.fill.ensures.ran) some c.write_some.result c.write_some.ensures.stepped
+
+pub returns-in-Ready-Err-clause-stepped : goal.returns-in-Ready-Err-clause-stepped
+returns-in-Ready-Err-clause-stepped g c =
+    let e = c.in-Ready-Err.e in
+    let is : c.fill.result ≡ Ready (Err e) = search rules in
+    let copying = is_copying c.args.self.now.phase c.in_default.not-Flushing in
+    reader_fails g.R.Tale.reads g.W.Takings.writes g.R.Tale.read_laws g.W.Takings.write_laws c.args.self.now _ refl refl
+    copying e copying
+    (rw is at c.fill.ensures.lends) (rw is at c.fill.ensures.ran)
+
+pub returns-in-Pending-clause-stepped : goal.returns-in-Pending-clause-stepped
+returns-in-Pending-clause-stepped g c =
+    let is : c.fill.result ≡ Pending = search rules in
+    let copying = is_copying c.args.self.now.phase c.in_default.not-Flushing in
+    reader_waits g.R.Tale.reads g.W.Takings.writes g.R.Tale.read_laws g.W.Takings.write_laws c.args.self.now _ refl refl
+    copying copying
+    (rw is at c.fill.ensures.lends) (rw is at c.fill.ensures.ran)

@@ -1,0 +1,224 @@
+-- Laws of `copy`.
+use Rattle.std.proofs.Common.{◌≡◌, ◌∙◌, ◌<◌, ◌+◌, ◌%◌, ◌^◌, ℕ, List, [], ◌∷◌, ◌++◌, length, Result, Ok, refl, ap, sym}
+use Rattle.std.proofs.Common.{subst, arith, append-nil, append_assoc, length-append}
+use Rattle.std.proofs.Math.Nat.{mod-add-mod, mod-eq_of_lt}
+use Rattle.std.proofs.lemmas.Grind.{flat_map-append}
+use Rattle.std.proofs.lemmas.List.Elements.{filter-append}
+use Rattle.std.specs.List.{filter}
+use Rattle.std.specs.declared.io.Error.{Error}
+use Rattle.futures.specs.declared.task.Poll.{Poll}
+use Rattle.lite_base.specs.Answers.{Waiting, strip}
+use Rattle.lite_base.specs.Chain.{Reaches}
+use Rattle.lite_base.specs.Laws.Chain.{Reaches-back}
+use Rattle.lite_base.specs.FutureLaws.{FutureLaws}
+use Rattle.lite_base.specs.Laws.Answers.{strip_join, up_to_once, waiting_strip, waiting_up_to}
+use Rattle.lite_base.specs.Laws.Calm.{waits_join}
+use Rattle.lite_base.specs.Runs.{Runs}
+use Rattle.lite_buffered.specs.BufReader.{ThroughBuffer}
+use Rattle.lite_io_base.specs.Laws.Falls.{GivenRun}
+use Rattle.lite_io_base.specs.Laws.Marks.{bytes_given}
+use Rattle.lite_io_base.specs.Marks.{ReadMark, bytes}
+use Rattle.lite_io_base.specs.Runs.{MarkLaws}
+use Rattle.lite_io_base.specs.Takings.{WriteMark, bytes_in, bytes_taken}
+use Rattle.lite_write.specs.Copy.{Copied, CopyRuns, CopyValue, Moves}
+use Rattle.lite_write.specs.Copying.{CopiesSome}
+use Rattle.lite_write.specs.MarkLists.{BytesAlone, TakesSome, TakesUpTo, TellsUpTo, byte_in, bytes_told, is_taken_wait}
+use Rattle.lite_write.specs.MarkLists.{is_told_wait, waits_taken, waits_told}
+use Rattle.lite_write.specs.Parts.{held_of, met_in, source_of}
+use Rattle.lite_write.specs.declared.copy.CopyFuture.{CopyFuture}
+
+abbrev CopyResult : Type 0
+CopyResult = Result ℕ Error
+
+pub told_both : (l m : List ReadMark) → bytes_told (l ++ m) ≡ bytes_told l ++ bytes_told m
+told_both l m = flat_map-append byte_in l m
+
+told_waits : (l m : List ReadMark) → waits_told (l ++ m) ≡ waits_told l + waits_told m
+told_waits l m =
+    ap length (filter-append is_told_wait l m) ∙ length-append (filter is_told_wait l) (filter is_told_wait m)
+
+pub taken_both : (l m : List WriteMark) → bytes_taken (l ++ m) ≡ bytes_taken l ++ bytes_taken m
+taken_both l m = flat_map-append bytes_in l m
+
+taken_waits : (l m : List WriteMark) → waits_taken (l ++ m) ≡ waits_taken l + waits_taken m
+taken_waits l m =
+    ap length (filter-append is_taken_wait l m) ∙ length-append (filter is_taken_wait l) (filter is_taken_wait m)
+
+goes_both : (l m : List ReadMark) → BytesAlone l → BytesAlone m → BytesAlone (l ++ m)
+goes_both [] m h k = k
+goes_both (ReadMark.byte b ∷ l) m h k = goes_both l m h k
+goes_both (ReadMark.pending ∷ l) m h k = goes_both l m h k
+goes_both (ReadMark.fault kind ∷ l) m h k = absurd h
+goes_both (ReadMark.end ∷ l) m h k = absurd h
+
+some_both : (l m : List WriteMark) → TakesSome l → TakesSome m → TakesSome (l ++ m)
+some_both [] m h k = k
+some_both (WriteMark.wrote xs ∷ l) m h k = (h.0, some_both l m h.1 k)
+some_both (WriteMark.pending ∷ l) m h k = some_both l m h k
+some_both (WriteMark.fault kind ∷ l) m h k = absurd h
+some_both (WriteMark.flushed ∷ l) m h k = absurd h
+some_both (WriteMark.closed ∷ l) m h k = absurd h
+
+module _ (after : List ℕ) (met : List ReadMark) (total : ℕ) where
+  no_value : (failed : List ReadMark) (last : List WriteMark) → CopyValue [] failed last after met total → (failed ≡ [])
+      × (last ≡ [])
+  no_value [] [] h = (refl, refl)
+  no_value [] (t ∷ last) h = absurd h
+  no_value (m ∷ failed) last h = absurd h
+
+  pub ok_value : (n : ℕ) (failed : List ReadMark) (last : List WriteMark)
+      → CopyValue (Ok n ∷ []) failed last after met total
+      → (failed ≡ []) × (last ≡ WriteMark.flushed ∷ []) × (after ≡ []) × (met ≡ ReadMark.end ∷ []) × (n ≡ total)
+  ok_value n [] [] h = absurd h
+  ok_value n [] (WriteMark.flushed ∷ []) h = (refl, refl, h.0, h.1, h.2)
+  ok_value n [] (WriteMark.flushed ∷ t ∷ last) h = absurd h
+  ok_value n [] (WriteMark.wrote xs ∷ last) h = absurd h
+  ok_value n [] (WriteMark.pending ∷ last) h = absurd h
+  ok_value n [] (WriteMark.fault kind ∷ last) h = absurd h
+  ok_value n [] (WriteMark.closed ∷ last) h = absurd h
+  ok_value n (m ∷ failed) last h = absurd h
+
+pub copied_none : (p : List ℕ) (a : List ReadMark) (n : ℕ) → Copied p a [] [] [] p a n
+copied_none p a n =
+    record {
+      failed = [];
+      last = [];
+      reading = record { read = []; goes_on = tt; cut = refl };
+      writing = record { written = []; takes_some = tt; cut = refl };
+      balanced = append-nil p;
+      waited = refl;
+      once = tt;
+      value = tt;
+    }
+
+-- what comes after answers that were all Pending
+module _ (p q r : List ℕ) (a b c : List ReadMark) (i j : List ReadMark) (s t : List WriteMark)
+    (l m : List (Poll CopyResult)) (n k : ℕ) (w : Waiting l)
+    (h : Copied p a i s l q b n) (g : Copied q b j t m r c k) where
+  none : (h.failed ≡ []) × (h.last ≡ [])
+  none = no_value q b n h.failed h.last (subst (λ v. CopyValue v h.failed h.last q b n) (waiting_strip l w) h.value)
+
+  reading_both : TellsUpTo (a ++ (i ++ j)) (c ++ g.failed)
+  reading_both =
+      let f = h.reading in
+      let d = g.reading in
+      let whole =
+      sym (append_assoc a i j)
+      ∙ ap (λ v. v ++ j) (f.cut ∙ ap (λ v. f.read ++ (b ++ v)) none.0 ∙ ap (λ v. f.read ++ v) (append-nil b))
+      ∙ append_assoc f.read b j ∙ ap (λ v. f.read ++ v) d.cut ∙ sym (append_assoc f.read d.read (c ++ g.failed)) in
+      record { read = f.read ++ d.read; goes_on = goes_both f.read d.read f.goes_on d.goes_on; cut = whole }
+
+  writing_both : TakesUpTo (s ++ t) g.last
+  writing_both =
+      let f = h.writing in
+      let d = g.writing in
+      let whole =
+      ap (λ v. v ++ t) (f.cut ∙ ap (λ v. f.written ++ v) none.1 ∙ append-nil f.written) ∙ ap (λ v. f.written ++ v) d.cut
+      ∙ sym (append_assoc f.written d.written g.last) in
+      record {
+        written = f.written ++ d.written;
+        takes_some = some_both f.written d.written f.takes_some d.takes_some;
+        cut = whole;
+      }
+
+  balanced_both : p ++ bytes_told (i ++ j) ≡ bytes_taken (s ++ t) ++ r
+  balanced_both =
+      ap (λ v. p ++ v) (told_both i j) ∙ sym (append_assoc p (bytes_told i) (bytes_told j))
+      ∙ ap (λ v. v ++ bytes_told j) h.balanced
+      ∙ append_assoc (bytes_taken s) q (bytes_told j) ∙ ap (λ v. bytes_taken s ++ v) g.balanced
+      ∙ sym (append_assoc (bytes_taken s) (bytes_taken t) r)
+      ∙ ap (λ v. v ++ r) (sym (taken_both s t))
+
+  same_value : strip m ≡ strip (l ++ m)
+  same_value = sym (strip_join l m ∙ ap (λ v. v ++ strip m) (waiting_strip l w))
+
+  pub copied_both : Copied p a (i ++ j) (s ++ t) (l ++ m) r c k
+  copied_both =
+      record {
+        failed = g.failed;
+        last = g.last;
+        reading = reading_both;
+        writing = writing_both;
+        balanced = balanced_both;
+        waited = omega (arith, waits_join l m, told_waits i j, taken_waits s t, h.waited, g.waited);
+        once = waiting_up_to l m w g.once;
+        value = subst (λ v. CopyValue v g.failed g.last r c k) same_value g.value;
+      }
+
+pub counted_none : (n : ℕ) → n < 2 ^ 64 → n ≡ (n + 0) % 2 ^ 64
+counted_none n fits = let whole : n ≡ n + 0 = omega arith in sym (mod-eq_of_lt fits) ∙ ap (λ v. v % 2 ^ 64) whole
+
+counted_both : (x y z : ℕ) (s t : List WriteMark) → y ≡ (x + length (bytes_taken s)) % 2 ^ 64
+    → z ≡ (y + length (bytes_taken t)) % 2 ^ 64
+    → z ≡ (x + length (bytes_taken (s ++ t))) % 2 ^ 64
+counted_both x y z s t h k =
+    let all : x + length (bytes_taken s) + length (bytes_taken t) ≡ x + length (bytes_taken (s ++ t)) =
+    omega (arith, ap length (taken_both s t), length-append (bytes_taken s) (bytes_taken t)) in
+    k ∙ ap (λ v. (v + length (bytes_taken t)) % 2 ^ 64) h
+    ∙ mod-add-mod (x + length (bytes_taken s)) (2 ^ 64) (length (bytes_taken t)) ∙ ap (λ v. v % 2 ^ 64) all
+
+given_of : {S : Type 0} (reads : Runs ReadMark S) (s t : S) (xs : List ℕ) → 0 < length xs → reads s (bytes xs) t
+    → GivenRun reads s t
+given_of reads s t [] some h = absurd (omega (arith, some))
+given_of reads s t (x ∷ xs) some h = (ReadMark.byte x, bytes xs, bytes_given (x ∷ xs), h)
+
+module _ {R W : Type 0} where
+  module _ {reads : Runs ReadMark R} {writes : Runs WriteMark W} (rl : MarkLaws reads) (wl : MarkLaws writes) where
+    pub moves_none : (x : CopyFuture R W) → Moves reads writes x [] x
+    moves_none x =
+        let same = counted_none x.amount x.counted in
+        let none = copied_none (held_of x) (met_in x.phase) x.amount in
+        record {
+          told = [];
+          took = [];
+          came = rl.rests (source_of x);
+          went = wl.rests x.writer;
+          copied = none;
+          counted = same;
+        }
+
+    pub moves_both : (x y z : CopyFuture R W) (l m : List (Poll CopyResult)) → Waiting l → Moves reads writes x l y
+        → Moves reads writes y m z
+        → Moves reads writes x (l ++ m) z
+    moves_both x y z l m w h k =
+        record {
+          told = h.told ++ k.told;
+          took = h.took ++ k.took;
+          came = rl.follows (source_of x) (source_of y) (source_of z) h.told k.told h.came k.came;
+          went = wl.follows x.writer y.writer z.writer h.took k.took h.went k.went;
+          copied = copied_both (held_of x) (held_of y) (held_of z) (met_in x.phase) (met_in y.phase)
+              (met_in z.phase) h.told k.told h.took k.took l m y.amount z.amount w h.copied k.copied;
+          counted = counted_both x.amount y.amount z.amount h.took k.took h.counted k.counted;
+        }
+
+    idle_join : (x y z : CopyFuture R W) (l m : List (Poll CopyResult)) → (l ≡ [] → y ≡ x) → (m ≡ [] → z ≡ y)
+        → l ++ m ≡ [] → z ≡ x
+    idle_join x y z [] m h k e = k e ∙ h refl
+    idle_join x y z (a ∷ l) m h k e = absurd (cc e)
+
+    pub copies_laws : FutureLaws (CopyRuns reads writes)
+    copies_laws =
+        record {
+          rests = λ x. record { moves = moves_none x; idle = λ e. refl };
+          stays = λ x y h. h.idle refl;
+          follows = λ x y z l m w h k. record {
+            moves = moves_both x y z l m w h.moves k.moves;
+            idle = idle_join x y z l m h.idle k.idle;
+          };
+          once = λ x y l h. up_to_once l h.moves.copied.once;
+        }
+
+    -- the steps of a poll
+    pub copy_answer : (x y z : CopyFuture R W) (a : Poll CopyResult) → Reaches (CopiesSome reads writes) x y
+        → Moves reads writes y (a ∷ []) z
+        → CopyRuns reads writes x (a ∷ []) z
+    copy_answer x y z a goes last =
+        let all = Reaches-back (λ v. Moves reads writes v (a ∷ []) z)
+        (λ v w t h. moves_both v w z [] (a ∷ []) tt t.moves h) x y goes last in
+        record { moves = all; idle = λ e. absurd (cc e) }
+
+  -- a step that goes on took bytes from the buffer
+  pub some_given : {reads : Runs ReadMark R} {writes : Runs WriteMark W} (x y : CopyFuture R W)
+      → CopiesSome reads writes x y
+      → GivenRun (ThroughBuffer reads) x.reader y.reader
+  some_given {reads} x y h = given_of (ThroughBuffer reads) x.reader y.reader h.taken h.some h.given

@@ -1,0 +1,27 @@
+-- The parts of a copy's future.
+use Rattle.std.specs.Prelude.{◌≡◌, ℕ, List, [], ◌∷◌}
+use Rattle.lite_buffered.specs.BufReader.{ahead, reader_inner}
+use Rattle.lite_io_base.specs.Marks.{ReadMark}
+use Rattle.lite_write.specs.declared.copy.CopyFuture.{CopyFuture}
+use Rattle.lite_write.specs.declared.copy.Phase.{Phase}
+use Rattle.lite_write.specs.declared.copy.Phase.TheVariants.{Copying, Flushing}
+
+-- the reader's end, where it was met
+abbrev pub met_in : Phase → List ReadMark
+met_in Copying = []
+met_in Flushing = ReadMark.end ∷ []
+
+module _ {R W : Type 0} where
+  -- the reader, past what was read and not yet written
+  abbrev pub source_of : CopyFuture R W → R
+  source_of x = reader_inner x.reader
+
+  -- what was read and not yet written
+  abbrev pub held_of : CopyFuture R W → List ℕ
+  held_of x = ahead x.reader
+
+  -- nothing was copied yet
+  pub record NothingCopied (x : CopyFuture R W) : Type 0 where
+    pub held : held_of x ≡ []
+    pub met : met_in x.phase ≡ []
+    pub none : x.amount ≡ 0
