@@ -10,10 +10,12 @@ pub mod FutureLaws
 pub mod Laws
 pub mod Lent
 pub mod OkRanks
+pub mod Paces
 pub mod Rank
 pub mod Ranks
 pub mod Registered
 pub mod Runs
 pub mod Steady
 pub mod StreamLaws
+pub mod Woken
 pub mod Segments

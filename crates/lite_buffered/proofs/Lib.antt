@@ -5,6 +5,7 @@ pub mod Draining
 pub mod Ends
 pub mod Limits
 pub mod Offsets
+pub mod Pacing
 pub mod Polling
 pub mod Ranges
 pub mod Reading

@@ -1,5 +1,6 @@
 pub mod BufReader
 pub mod BufWriter
+pub mod Budgeted
 pub mod Chain
 pub mod InOrder
 pub mod Known

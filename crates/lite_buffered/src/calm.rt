@@ -1,4 +1,5 @@
 //! The readers that are never pending where what they read from isn't, and the writer that isn't where what it writes to isn't.
+ghost use Rattle.lite_buffered.specs.Laws.Budgeted.{within_calm};
 ghost use Rattle.lite_buffered.specs.Laws.Steady.BufReader.{buf_reader_calm};
 ghost use Rattle.lite_buffered.specs.Laws.Steady.Chain.{chain_calm};
 ghost use Rattle.lite_buffered.specs.Laws.Steady.Past.{past_calm};
@@ -7,7 +8,7 @@ ghost use Rattle.lite_buffered.specs.Laws.Steady.Take.{take_calm};
 ghost use Rattle.lite_io_base.specs.Laws.Steady.{told_calm};
 ghost use Rattle.std.specs.Prelude.{⊤, []};
 
-use crate::{BufReader, Chain, Empty, Repeat, Take};
+use crate::{Budgeted, BufReader, Chain, Empty, Repeat, Take};
 use lite_io_base::{CalmRead, CalmWrite};
 
 impl<R: CalmRead> CalmRead for BufReader<R> {
@@ -21,6 +22,13 @@ impl<R: CalmWrite> CalmWrite for BufReader<R> {
     ghost is_calm = { λ x. R.is_calm x.inner };
 
     ghost calm = { past_calm R.calm };
+}
+
+// As a writer; as a reader it is pending by itself.
+impl<R: CalmWrite> CalmWrite for Budgeted<R> {
+    ghost is_calm = { λ x. R.is_calm x.reader };
+
+    ghost calm = { within_calm R.calm };
 }
 
 impl<R1: CalmRead, R2: CalmRead> CalmRead for Chain<R1, R2> {

@@ -1,6 +1,7 @@
 //! Buffered reading and writing, and readers over other readers.
 #![tactic(auto)]
 
+mod budgeted;
 mod buf_reader;
 mod buf_writer;
 mod calm;
@@ -15,6 +16,7 @@ mod steady;
 mod steady_write;
 mod take;
 
+pub use budgeted::Budgeted;
 pub use buf_reader::BufReader;
 pub use buf_writer::BufWriter;
 pub use chain::Chain;

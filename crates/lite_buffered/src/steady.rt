@@ -1,6 +1,8 @@
 //! The readers whose tale does not depend on when they were pending, and the writer that leaves the same bytes.
 ghost use Rattle.lite_buffered.specs.BufReader.{ThroughBuffer};
+ghost use Rattle.lite_buffered.specs.Budgeted.{BudgetsMarks};
 ghost use Rattle.lite_buffered.specs.Chain.{ChainsReaders};
+ghost use Rattle.lite_buffered.specs.Laws.Budgeted.{budgets_steady, within_steady};
 ghost use Rattle.lite_buffered.specs.Laws.Steady.BufReader.{AheadAlike, buf_reader_steady};
 ghost use Rattle.lite_buffered.specs.Laws.Steady.Chain.{PlaceAlike, chain_steady};
 ghost use Rattle.lite_buffered.specs.Laws.Steady.Past.{past_steady};
@@ -13,7 +15,7 @@ ghost use Rattle.lite_io_base.specs.Steady.{strip_marks};
 ghost use Rattle.lite_io_base.specs.Told.{TellsScript};
 ghost use Rattle.std.specs.Prelude.{◌≡◌, []};
 
-use crate::{BufReader, Chain, Empty, Repeat, Take};
+use crate::{Budgeted, BufReader, Chain, Empty, Repeat, Take};
 use lite_io_base::{SteadyRead, SteadyWrite};
 
 // Where it has some capacity: without one a fill looks like an end.
@@ -70,4 +72,23 @@ impl<R: SteadyRead> SteadyRead for Take<R> {
     ghost alike = { LimitAlike R.alike };
 
     ghost steady = { take_steady R.steady };
+}
+
+// Whatever the two budgets are.
+impl<R: SteadyRead> SteadyRead for Budgeted<R> {
+    ghost ample = { BudgetsMarks R.ample };
+
+    ghost needs_none = { R.needs_none };
+
+    ghost alike = { λ x y. R.alike x.reader y.reader };
+
+    ghost steady = { budgets_steady R.steady };
+}
+
+impl<R: SteadyWrite> SteadyWrite for Budgeted<R> {
+    ghost alike = { λ x y. R.alike x.reader y.reader };
+
+    ghost below = { λ x. R.below x.reader };
+
+    ghost steady = { within_steady R.steady };
 }

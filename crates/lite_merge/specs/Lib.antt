@@ -1,3 +1,4 @@
+pub mod Budgeted
 pub mod Cycle
 pub mod Drain
 pub mod Laws

@@ -1,6 +1,7 @@
-//! Adapters that merge two streams, or a stream and a future, start one anew, or end where it is pending.
+//! Adapters that merge two streams, or a stream and a future, start one anew, or change where it is pending.
 #![tactic(auto)]
 
+mod budgeted;
 mod calm;
 mod cycle;
 mod drain;
@@ -13,6 +14,7 @@ mod steady;
 mod stop_after_future;
 mod zip;
 
+pub use budgeted::Budgeted;
 pub use cycle::Cycle;
 pub use drain::Drain;
 pub use or::Or;

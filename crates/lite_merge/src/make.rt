@@ -1,8 +1,9 @@
 //! What makes the adapters.
-ghost use Rattle.std.specs.Prelude.{◌≡◌, None, false, MatchResult};
+ghost use Rattle.std.specs.Prelude.{◌≡◌, ◌<◌, None, false, MatchResult};
 ghost use Rattle.lite_merge.specs.Cycle.{CycleOf};
 ghost use Rattle.lite_merge.specs.declared.stop_after_future.Stopping.TheVariants.{Holding};
 
+use crate::budgeted::Budgeted;
 use crate::cycle::Cycle;
 use crate::drain::Drain;
 use crate::or::Or;
@@ -112,5 +113,18 @@ pub fn stop_after_future<S, Fut: Future>(stream: S, future: Fut) -> StopAfterFut
     StopAfterFuture {
         stream,
         future: Stopping::Holding(future),
+    }
+}
+
+/// The stream of the answers of `stream` that is pending once more after `budget` items in a row, which is above 0, and
+/// wakes its context then. The hint is that of `stream`. The original has no such call.
+pub fn with_budget<S>(stream: S, budget: usize) -> Budgeted<S>
+    requires { 0 < budget }
+    ensures { result ≡ record { stream = stream; budget = budget; left = budget } }
+{
+    Budgeted {
+        stream,
+        budget,
+        left: budget,
     }
 }

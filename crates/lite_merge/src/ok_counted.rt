@@ -6,14 +6,16 @@ ghost use Rattle.lite_merge.specs.Or.{or_ranks};
 ghost use Rattle.lite_merge.specs.Race.{race_ranks};
 ghost use Rattle.lite_base.specs.Laws.Lent.{lent_counting};
 ghost use Rattle.lite_base.specs.Ranks.{ranks_of};
+ghost use Rattle.lite_merge.specs.Budgeted.{budget_ranks};
 ghost use Rattle.lite_merge.specs.Drain.{drain_parts};
+ghost use Rattle.lite_merge.specs.Laws.Budgeted.{budget_counting};
 ghost use Rattle.lite_merge.specs.Laws.Drain.{drained_relating};
 ghost use Rattle.lite_merge.specs.Laws.StopAfterFuture.{stops_relating};
 ghost use Rattle.lite_merge.specs.Stopping.{stop_parts};
 ghost use Rattle.lite_stream.specs.Laws.Through.{through_counting};
 
-use crate::{Drain, Or, Race, StopAfterFuture};
-use lite_base::{Counted, Future, OkCounted};
+use crate::{Budgeted, Drain, Or, Race, StopAfterFuture};
+use lite_base::{Counted, Future, OkCounted, Stream};
 use rand_core::Rng;
 
 impl<T, E, S1: Counted<Item = Result<T, E>>, S2: Counted<Item = Result<T, E>>> OkCounted
@@ -57,4 +59,14 @@ impl<T, E, S: Counted<Item = Result<T, E>>, Fut: Future + Drop> OkCounted
     ghost ok_ranks = { ranks_of (λ m. m.stream) S.ranks };
 
     ghost ok_counting = { ok_counting (through_counting stop_parts S.counting (stops_relating Fut.laws)) };
+}
+
+impl<T, E, S: Stream<Item = Result<T, E>>> OkCounted for Budgeted<S> {
+    type Ok = T;
+
+    type Err = E;
+
+    ghost ok_ranks = { budget_ranks };
+
+    ghost ok_counting = { ok_counting budget_counting };
 }

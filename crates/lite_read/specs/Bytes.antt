@@ -1,9 +1,8 @@
 -- `bytes`: a reader's marks, one by one.
-use Rattle.std.specs.Prelude.{◌≡◌, ◌⊎◌, ℕ, List, [], ◌∷◌, ⊤, Some, None, Result, Ok, Err}
+use Rattle.std.specs.Prelude.{◌≡◌, ℕ, List, [], ◌∷◌, ⊤, Some, None, Result, Ok, Err}
 use Rattle.std.specs.IoError.{error_kind}
 use Rattle.std.specs.declared.io.Error.{Error}
 use Rattle.std.specs.declared.io.ErrorKind.TheVariants.{Interrupted}
-use Rattle.futures.specs.Task.{Lasting}
 use Rattle.futures.specs.declared.task.Poll.TheVariants.{Ready, Pending}
 use Rattle.lite_base.specs.Answers.{Answer}
 use Rattle.lite_base.specs.Runs.{Runs}
@@ -33,7 +32,3 @@ pub record TellsBytes {R : Type 0} (reads : Runs ReadMark R) (x : Bytes R) (out 
   pub came : reads x.inner marks y.inner
   pub told : TellsEach marks out
   pub idle : out ≡ [] → y ≡ x
-
--- what a context holds that was woken: the task runs again, and it hears each source
-abbrev pub HoldsWoken : Lasting → Type 0
-HoldsWoken fact = (fact ≡ Lasting.armed) ⊎ ((source : ℕ) × (fact ≡ Lasting.hears source))

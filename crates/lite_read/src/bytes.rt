@@ -3,7 +3,8 @@ ghost use Rattle.lite_base.specs.Ranks.{ranks_of};
 ghost use Rattle.lite_base.specs.Runs.{NoHint};
 ghost use Rattle.lite_io_base.specs.Laws.Runs.{idle_laws};
 ghost use Rattle.lite_io_base.specs.Runs.{Idle};
-ghost use Rattle.lite_read.specs.Bytes.{HoldsWoken, TellsBytes};
+ghost use Rattle.lite_base.specs.Woken.{HoldsWoken};
+ghost use Rattle.lite_read.specs.Bytes.{TellsBytes};
 ghost use Rattle.lite_read.specs.Laws.Bytes.{bytes_counting, bytes_laws, inner_counting, inner_laws};
 
 use lite_base::{Context, Counted, OkCounted, Poll, Stream};

@@ -1,7 +1,7 @@
-ghost use Rattle.std.specs.Prelude.{◌≡◌, ◌⊎◌, ℕ, true};
-ghost use Rattle.futures.specs.Task.{Lasting};
+ghost use Rattle.std.specs.Prelude.{true};
 ghost use Rattle.lite_base.specs.Future.YieldNow.{YieldsOnce};
 ghost use Rattle.lite_base.specs.Laws.Future.YieldNow.{yields_laws};
+ghost use Rattle.lite_base.specs.Woken.{HoldsWoken};
 
 use super::Future;
 use crate::{Context, Poll};
@@ -19,7 +19,7 @@ impl Future for YieldNow {
 
     ghost run = { λ x l y. YieldsOnce x.yielded l y.yielded };
 
-    ghost registers = { λ x fact. (fact ≡ Lasting.armed) ⊎ ((source : ℕ) × (fact ≡ Lasting.hears source)) };
+    ghost registers = { λ x. HoldsWoken };
 
     ghost laws = { yields_laws };
 

@@ -1,0 +1,20 @@
+use Rattle.std.proofs.Common.{◌∙◌, ◌≤◌, ◌-◌, ap, length, take}
+use Rattle.lite_io_base.specs.Marks.{bytes}
+use Rattle.lite_buffered.proofs.Pacing.{consumed_bytes, consumed_rest}
+use Rattle.lite_buffered.proofs.budgeted.BudgetedAsyncBufRead.consume.Goals as goal
+
+pub returns-clause-ran : goal.returns-clause-ran
+returns-clause-ran g c =
+    let n = c.args.amount in
+    let lent = g.R.AsyncBufRead.lent c.args.self.now.reader in
+    let fits : n ≤ length (take c.in-Some.left lent) = rw c.in-Some.is at c.requires in
+    let s = consumed_bytes c.in-Some.left n lent fits c.args.self.now.budget in
+    rw (c.in-Some.is, s.0) (record { came = bytes (take n lent); ran = c.consume.ensures.ran; paced = s.1 })
+
+pub returns-clause-rest : goal.returns-clause-rest
+returns-clause-rest g c =
+    let n = c.args.amount in
+    let left = c.in-Some.left in
+    let lent = g.R.AsyncBufRead.lent c.args.self.now.reader in
+    let fits : n ≤ length (take left lent) = rw c.in-Some.is at c.requires in
+    rw c.in-Some.is (ap (take (left - n)) c.consume.ensures.rest ∙ consumed_rest left n lent fits)

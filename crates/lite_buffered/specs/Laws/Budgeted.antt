@@ -1,0 +1,155 @@
+-- Laws of a reader with a budget.
+use Rattle.std.proofs.Common.{◌≡◌, ◌∙◌, ◌+◌, ◌-◌, ℕ, zero, suc, List, [], ◌∷◌, ◌++◌, Option, Some, None, inl, inr, refl, ap}
+use Rattle.std.proofs.Common.{length, take, subst, sym, arith}
+use Rattle.std.specs.Prelude.{⊤}
+use Rattle.lite_base.specs.Answers.{Comparable}
+use Rattle.lite_base.specs.Laws.Paces.{paces_follow}
+use Rattle.lite_base.specs.Runs.{Runs}
+use Rattle.lite_io_base.specs.Counting.{ReadCounting}
+use Rattle.lite_io_base.specs.Falls.{Falls}
+use Rattle.lite_io_base.specs.Known.{Known, TellsKnown}
+use Rattle.lite_io_base.specs.Laws.Steady.{comparable_none}
+use Rattle.lite_io_base.specs.Marks.{AllGiven, ReadMark, bytes}
+use Rattle.lite_io_base.specs.Runs.{MarkLaws, Shows}
+use Rattle.lite_io_base.specs.Steady.{SteadyReadLaws, strip_marks}
+use Rattle.lite_io_base.specs.SteadyWrite.{CalmWriteLaws, SteadyWriteLaws}
+use Rattle.lite_io_base.specs.Takings.{WriteMark}
+use Rattle.lite_buffered.specs.Budgeted.{BudgetsMarks, PacesMarks, WritesWithin, budgeted_lent, budgeted_ranks}
+use Rattle.lite_buffered.specs.Budgeted.{left_behind_mark, left_noted, left_of, lent_noted}
+use Rattle.lite_buffered.specs.declared.budgeted.Budgeted.{Budgeted}
+
+-- what may be lent of what came in is the front of what goes out
+paced_shows : (p q : ℕ × ℕ) (lent : List ℕ) (i o : List ReadMark) → PacesMarks p i o q → Comparable (bytes lent) i
+    → Comparable (bytes (take p.1 lent)) o
+paced_shows (budget, zero) q [] i o h c = tt
+paced_shows (budget, suc n) q [] i o h c = tt
+paced_shows (budget, zero) q (b ∷ lent) i o h c = tt
+paced_shows (budget, suc n) q (b ∷ lent) i [] h c = tt
+paced_shows (budget, suc n) q (b ∷ lent) i (m ∷ o) (inl h) c = absurd (omega (arith, h.0))
+paced_shows (budget, suc n) q (b ∷ lent) i (m ∷ o) (inr h) c =
+    let e = rw h.2 at c in
+    let one : suc n - 1 ≡ n = omega arith in
+    let rest = subst (λ a. PacesMarks (budget, left_behind_mark budget a (suc n)) h.1 o q) (sym e.0) h.3 in
+    (e.0, paced_shows (budget, n) q lent h.1 o (subst (λ k. PacesMarks (budget, k) h.1 o q) one rest) e.1)
+
+-- bytes and errors alone use as many of the budget
+paced_falls : (p q : ℕ × ℕ) (i o : List ReadMark) → PacesMarks p i o q → AllGiven o → q.1 + length o ≡ p.1
+paced_falls p q i [] h g = rw h.1 (omega arith)
+paced_falls p q i (m ∷ o) (inl h) g = absurd (subst (λ a. AllGiven (a ∷ [])) h.1 (g.0, tt)).0
+paced_falls p q i (ReadMark.byte b ∷ o) (inr h) g =
+    let e = paced_falls (p.0, p.1 - 1) q h.1 o h.3 g.1 in omega (arith, e, h.0)
+paced_falls p q i (ReadMark.fault kind ∷ o) (inr h) g =
+    let e = paced_falls (p.0, p.1 - 1) q h.1 o h.3 g.1 in omega (arith, e, h.0)
+paced_falls p q i (ReadMark.pending ∷ o) (inr h) g = absurd g.0
+paced_falls p q i (ReadMark.end ∷ o) (inr h) g = absurd g.0
+
+-- pendings aside, what goes out came in
+paced_tale : (p q : ℕ × ℕ) (i o : List ReadMark) → PacesMarks p i o q → strip_marks o ≡ strip_marks i
+paced_tale p q i [] h = rw h.0 refl
+paced_tale p q i (m ∷ o) (inl h) = rw h.1 (paced_tale (p.0, p.0) q i o h.2)
+paced_tale p q i (ReadMark.byte b ∷ o) (inr h) =
+    rw h.2 (ap (λ l. ReadMark.byte b ∷ l) (paced_tale (p.0, p.1 - 1) q h.1 o h.3))
+paced_tale p q i (ReadMark.pending ∷ o) (inr h) = rw h.2 (paced_tale (p.0, p.0) q h.1 o h.3)
+paced_tale p q i (ReadMark.fault kind ∷ o) (inr h) =
+    rw h.2 (ap (λ l. ReadMark.fault kind ∷ l) (paced_tale (p.0, p.1 - 1) q h.1 o h.3))
+paced_tale p q i (ReadMark.end ∷ o) (inr h) = rw h.2 (ap (λ l. ReadMark.end ∷ l) (paced_tale p q h.1 o h.3))
+
+pub paced_spends : (p q : ℕ × ℕ) (i o : List ReadMark) (xs ys : List ℕ) → PacesMarks p i o q → TellsKnown xs i ys
+    → TellsKnown xs o ys
+paced_spends p q i [] xs ys h k = rw h.0 at k
+paced_spends p q i (m ∷ o) xs ys (inl h) k = rw h.1 (paced_spends (p.0, p.0) q i o xs ys h.2 k)
+paced_spends p q i (ReadMark.byte b ∷ o) xs ys (inr h) k =
+    let e = rw h.2 at k in (e.0, e.1, paced_spends (p.0, p.1 - 1) q h.1 o e.0 ys h.3 e.2)
+paced_spends p q i (ReadMark.pending ∷ o) xs ys (inr h) k =
+    paced_spends (p.0, p.0) q h.1 o xs ys h.3 (rw h.2 at k)
+paced_spends p q i (ReadMark.fault kind ∷ o) xs ys (inr h) k = absurd (rw h.2 at k)
+paced_spends p q i (ReadMark.end ∷ o) xs ys (inr h) k =
+    let e = rw h.2 at k in (e.0, paced_spends p q h.1 o xs ys h.3 e.1)
+
+-- the bytes of its reader
+abbrev pub budgets_known : {R : Type 0} → Known R → Known (Budgeted R)
+budgets_known k = record {
+  told = BudgetsMarks k.told;
+  knows = λ x. k.knows x.reader;
+  left = λ x. k.left x.reader;
+  tells = λ x y l know h.
+      let on = k.tells x.reader y.reader h.came know h.ran in (on.0, paced_spends _ _ h.came l _ _ h.paced on.1);
+}
+
+pub budgets_laws : {R : Type 0} {reads : Runs ReadMark R} → MarkLaws reads → MarkLaws (BudgetsMarks reads)
+budgets_laws laws = record {
+  rests = λ x. record { came = []; ran = laws.rests x.reader; paced = (refl, refl) };
+  follows = λ x y z l m h k. record {
+    came = h.came ++ k.came;
+    ran = laws.follows x.reader y.reader z.reader h.came k.came h.ran k.ran;
+    paced = paces_follow ReadMark.pending left_behind_mark _ _ _ h.came k.came l m h.paced k.paced;
+  };
+}
+
+module _ {R : Type 0} {reads : Runs ReadMark R} where
+  pub budgets_show : (lent : R → List ℕ) → Shows reads lent → Shows (BudgetsMarks reads) (budgeted_lent lent)
+  budgets_show lent shows x y l h =
+      shown x.left (paced_shows _ _ (lent x.reader) h.came l h.paced (shows x.reader y.reader h.came h.ran))
+    where
+      shown : (left : Option ℕ) → Comparable (bytes (take (left_noted x.budget left) (lent x.reader))) l
+          → Comparable (bytes (lent_noted left (lent x.reader))) l
+      shown None c = tt
+      shown (Some n) c = c
+
+  pub budgets_counting : ReadCounting (BudgetsMarks reads) budgeted_ranks
+  budgets_counting = record {
+    sized = λ x. refl;
+    counts_on = λ x y l k h. tt;
+    firm_on = λ x y l k h. absurd k;
+    falls = λ x y l k g h. falls_by (length l) (left_of y) (left_of x) (paced_falls _ _ h.came l h.paced g);
+    lowers = λ x y l k h. absurd k;
+  }
+    where
+      falls_by : (n a b : ℕ) → a + n ≡ b → Falls n (a ∷ []) (b ∷ [])
+      falls_by zero a b e = inl (let same : a ≡ b = omega (arith, e) in rw same refl)
+      falls_by (suc n) a b e = inl (omega (arith, e), refl)
+
+  -- whatever the two budgets are
+  pub budgets_steady : {ample : Runs ReadMark R} {needs_none : Type 0} {alike : R → R → Type 0}
+      → SteadyReadLaws reads ample needs_none alike
+      → SteadyReadLaws (BudgetsMarks reads) (BudgetsMarks ample) needs_none
+      (λ (x y : Budgeted R). alike x.reader y.reader)
+  budgets_steady s =
+      record {
+        laws = budgets_laws s.laws;
+        steady = λ x y x' y' l m e h k. rw (paced_tale _ _ h.came l h.paced, paced_tale _ _ k.came m k.paced)
+            (s.steady x.reader y.reader x'.reader y'.reader h.came k.came e h.ran k.ran);
+        found = λ n x y l h. record {
+          came = h.came;
+          ran = s.found n x.reader y.reader h.came h.ran;
+          paced = h.paced;
+        };
+      }
+
+-- What is written goes to the inner writer.
+module _ {R : Type 0} {writes : Runs WriteMark R} where
+  pub within_laws : MarkLaws writes → MarkLaws (WritesWithin writes)
+  within_laws laws = record {
+    rests = λ x. (laws.rests x.reader, (refl, refl));
+    follows = λ x y z l m h k. (
+      laws.follows x.reader y.reader z.reader l m h.0 k.0,
+      (k.1.0 ∙ h.1.0, k.1.1 ∙ h.1.1),
+    );
+  }
+
+  pub within_steady : {alike : R → R → Type 0} {below : R → List ℕ} → SteadyWriteLaws writes alike below
+      → SteadyWriteLaws (WritesWithin writes) (λ (x y : Budgeted R). alike x.reader y.reader)
+      (λ x. below x.reader)
+  within_steady s =
+      record {
+        steady = λ x y x' y' l m e h k a b f g same.
+            s.steady x.reader y.reader x'.reader y'.reader l m e h.0 k.0 a b f g same;
+      }
+
+  pub within_calm : {is_calm : R → Type 0} → CalmWriteLaws writes is_calm
+      → CalmWriteLaws (WritesWithin writes) (λ (x : Budgeted R). is_calm x.reader)
+  within_calm c =
+      record {
+        no_pending = λ x y l k h. c.no_pending x.reader y.reader l k h.0;
+        calm_on = λ x y l k h. c.calm_on x.reader y.reader l k h.0;
+      }

@@ -1,0 +1,267 @@
+ghost use Rattle.std.specs.Prelude.{◌≡◌, ◌≤◌, ◌<◌, Ok, length, IfOk};
+ghost use Rattle.std.specs.Borrow.{Lends, sem};
+ghost use Rattle.futures.specs.Poll.{IfReady};
+ghost use Rattle.futures.specs.Task.{Keeps};
+ghost use Rattle.lite_base.specs.Registered.{Registered};
+ghost use Rattle.lite_base.specs.Woken.{HoldsWoken};
+ghost use Rattle.lite_io_base.specs.Marks.{fill_marks, read_marks};
+ghost use Rattle.lite_io_base.specs.Runs.{OnlyOkLends};
+
+use crate::fill::fill;
+use lite_base::{Context, Poll, ready};
+use lite_io_base::{AsyncBufRead, AsyncRead, AsyncSeek, AsyncWrite, CountedRead, Takings, Tale};
+use std::io;
+use std::io::{IoSlice, SeekFrom};
+
+/// A reader that is pending once more after so many bytes and errors in a row, so that whoever reads it can turn to another
+/// task.
+///
+/// Made by [`with_budget`](crate::make::with_budget). It tells what its reader does, in order. After as many bytes and errors
+/// as its budget without a pending between them it wakes its context and is pending once, in a call that does not ask its
+/// reader. Its rank, over any reader, is how many may come before that. It writes and seeks as its reader does, and lends
+/// what that lends, as far as the budget goes. The original has no such type.
+#[derive(Drop)]
+pub struct Budgeted<R> {
+    reader: R,
+    budget: usize,
+    // How many bytes and errors may come before it is pending by itself. `None` is all of the budget, behind a pending, where
+    // nothing is lent.
+    left: Option<usize>,
+}
+
+impl<R> Budgeted<R> {
+    ghost use Rattle.lite_buffered.specs.contracts.budgeted.Budgeted.{the_row};
+    ghost use Rattle.lite_buffered.specs.Budgeted.{budget_of, budgeted_inner, left_of};
+
+    pub(crate) fn new(reader: R, budget: usize) -> Budgeted<R>
+        ensures inner { budgeted_inner result ≡ reader }
+        ensures budget { budget_of result ≡ budget }
+        ensures whole { left_of result ≡ budget }
+    {
+        Budgeted {
+            reader,
+            budget,
+            left: Some(budget),
+        }
+    }
+
+    /// The inner reader.
+    pub fn get_ref(&self) -> &R
+        ensures { result.now ≡ budgeted_inner self.now }
+    {
+        &self.reader
+    }
+
+    /// The inner reader, to be changed. What it reads meanwhile doesn't count.
+    pub fn get_mut(&mut self) -> &mut R
+        ensures value { result.now ≡ budgeted_inner self.old }
+        ensures* writes_back { sem 𝓛 (Lends (the_row R.row) R.row self.entry result
+            (λ w. record self.old { reader = w })) }
+    {
+        &mut self.reader
+    }
+
+    /// The inner reader.
+    pub fn into_inner(self) -> R
+        ensures { result ≡ budgeted_inner self }
+    {
+        self.reader
+    }
+
+    // What is left of the budget.
+    fn allowed(&self) -> usize
+        ensures { result ≡ left_of self.now }
+    {
+        match self.left {
+            Some(left) => left,
+            None => self.budget,
+        }
+    }
+}
+
+impl<R: Tale> Tale for Budgeted<R> {
+    ghost use Rattle.lite_buffered.specs.Budgeted.{BudgetsMarks};
+    ghost use Rattle.lite_buffered.specs.Laws.Budgeted.{budgets_known, budgets_laws};
+
+    ghost reads = { BudgetsMarks R.reads };
+
+    ghost read_laws = { budgets_laws R.read_laws };
+
+    ghost known = { budgets_known R.known };
+}
+
+impl<R: Takings> Takings for Budgeted<R> {
+    ghost use Rattle.lite_buffered.specs.Budgeted.{WritesWithin};
+    ghost use Rattle.lite_buffered.specs.Laws.Budgeted.{within_laws};
+
+    ghost writes = { WritesWithin R.writes };
+
+    ghost write_laws = { within_laws R.write_laws };
+}
+
+impl<R: AsyncRead> AsyncRead for Budgeted<R> {
+    ghost use Rattle.lite_buffered.specs.Budgeted.{BudgetsMarks, budgeted_inner, left_of};
+
+    ghost registers = { λ x fact. R.registers (budgeted_inner x) fact × HoldsWoken fact };
+
+    fn poll_read(&mut self, cx: &mut Context<'_>, buf: &mut [u8]) -> Poll<io::Result<usize>>
+        ensures bound { IfReady result (λ r. IfOk r (λ n. n ≤ length buf.new)) }
+        ensures ran { BudgetsMarks R.reads self.old (read_marks result buf.new) self.new }
+        ensures left { Registered result (λ fact. R.registers (budgeted_inner self.new) fact × HoldsWoken fact) cx.new }
+        ensures kept { Keeps cx.old cx.new }
+
+        // Without room nothing is polled.
+        ensures idle { length buf.old ≡ 0 → (result ≡ Poll.Ready (Ok 0)) × (self.new ≡ self.old) }
+
+        // Where the budget is used up its reader is not asked.
+        ensures pauses { 0 < length buf.old → left_of self.old ≡ 0
+            → (result ≡ Poll.Pending) × (budgeted_inner self.new ≡ budgeted_inner self.old) }
+    {
+        if buf.is_empty() {
+            return Poll::Ready(Ok(0));
+        }
+        let left = self.allowed();
+        if left == 0 {
+            self.left = None;
+            return cx.yield_now();
+        }
+        let most = left.min(buf.len());
+        match self.reader.poll_read(cx, &mut buf[..most]) {
+            Poll::Ready(Ok(n)) => {
+                self.left = Some(left - n);
+                Poll::Ready(Ok(n))
+            }
+            Poll::Ready(Err(e)) => {
+                self.left = Some(left - 1);
+                Poll::Ready(Err(e))
+            }
+            Poll::Pending => {
+                self.left = None;
+                Poll::Pending
+            }
+        }
+    }
+}
+
+impl<R: AsyncBufRead> Budgeted<R> {
+    ghost use Rattle.lite_buffered.specs.Budgeted.{BudgetsMarks, budgeted_inner, budgeted_lent};
+
+    fn show(&self) -> &[u8]
+        ensures { result.now ≡ budgeted_lent R.lent self.now }
+    {
+        let Some(left) = self.left else {
+            return &[];
+        };
+        let all = self.reader.buffer();
+        let most = left.min(all.len());
+        &all[..most]
+    }
+
+    // Fills the reader, or is pending where the budget is used up.
+    fn fill(&mut self, cx: &mut Context<'_>) -> Poll<io::Result<()>>
+        ensures ran { BudgetsMarks R.reads self.old (fill_marks result (budgeted_lent R.lent self.new)) self.new }
+        ensures lends { OnlyOkLends result (budgeted_lent R.lent self.new) }
+        ensures left { Registered result (λ fact. R.registers (budgeted_inner self.new) fact × HoldsWoken fact) cx.new }
+        ensures kept { Keeps cx.old cx.new }
+    {
+        let left = self.allowed();
+        if left == 0 {
+            self.left = None;
+            return cx.yield_now();
+        }
+        match fill(&mut self.reader, cx) {
+            Poll::Ready(Ok(())) => {
+                self.left = Some(left);
+                Poll::Ready(Ok(()))
+            }
+            Poll::Ready(Err(e)) => {
+                self.left = Some(left - 1);
+                Poll::Ready(Err(e))
+            }
+            Poll::Pending => {
+                self.left = None;
+                Poll::Pending
+            }
+        }
+    }
+}
+
+impl<R: AsyncBufRead> AsyncBufRead for Budgeted<R> {
+    ghost use Rattle.lite_buffered.specs.Budgeted.{budgeted_lent};
+    ghost use Rattle.lite_buffered.specs.Laws.Budgeted.{budgets_show};
+
+    ghost lent = { budgeted_lent R.lent };
+
+    ghost shows = { budgets_show R.lent R.shows };
+
+    fn poll_fill_buf(&mut self, cx: &mut Context<'_>) -> Poll<io::Result<&[u8]>> {
+        match ready!(self.fill(cx)) {
+            Ok(()) => Poll::Ready(Ok(self.show())),
+            Err(e) => Poll::Ready(Err(e)),
+        }
+    }
+
+    fn buffer(&self) -> &[u8] {
+        self.show()
+    }
+
+    fn consume(&mut self, amount: usize) {
+        let Some(left) = self.left else {
+            return;
+        };
+        self.reader.consume(amount);
+        self.left = Some(left - amount);
+    }
+}
+
+impl<R: AsyncWrite> AsyncWrite for Budgeted<R> {
+    ghost use Rattle.lite_buffered.specs.Budgeted.{budgeted_inner};
+
+    ghost write_registers = { λ x. R.write_registers (budgeted_inner x) };
+
+    /// Writes to the inner writer.
+    fn poll_write(&mut self, cx: &mut Context<'_>, buf: &[u8]) -> Poll<io::Result<usize>> {
+        self.reader.poll_write(cx, buf)
+    }
+
+    /// Writes to the inner writer.
+    fn poll_write_vectored(
+        &mut self,
+        cx: &mut Context<'_>,
+        bufs: &[IoSlice<'_>],
+    ) -> Poll<io::Result<usize>> {
+        self.reader.poll_write_vectored(cx, bufs)
+    }
+
+    /// Flushes the inner writer.
+    fn poll_flush(&mut self, cx: &mut Context<'_>) -> Poll<io::Result<()>> {
+        self.reader.poll_flush(cx)
+    }
+
+    /// Closes the inner writer.
+    fn poll_close(&mut self, cx: &mut Context<'_>) -> Poll<io::Result<()>> {
+        self.reader.poll_close(cx)
+    }
+}
+
+impl<R: AsyncSeek> AsyncSeek for Budgeted<R> {
+    ghost use Rattle.lite_buffered.specs.Budgeted.{SeeksWithin, budgeted_inner};
+
+    ghost seeks = { SeeksWithin R.seeks };
+
+    ghost seek_registers = { λ x. R.seek_registers (budgeted_inner x) };
+
+    /// Seeks the inner seeker.
+    fn poll_seek(&mut self, cx: &mut Context<'_>, pos: SeekFrom) -> Poll<io::Result<u64>> {
+        self.reader.poll_seek(cx, pos)
+    }
+}
+
+impl<R: AsyncRead> CountedRead for Budgeted<R> {
+    ghost use Rattle.lite_buffered.specs.Budgeted.{budgeted_ranks};
+    ghost use Rattle.lite_buffered.specs.Laws.Budgeted.{budgets_counting};
+
+    ghost ranks = { budgeted_ranks };
+
+    ghost counting = { budgets_counting };
+}

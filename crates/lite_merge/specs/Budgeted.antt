@@ -1,0 +1,26 @@
+-- `with_budget`: a pending of its own after so many items in a row.
+use Rattle.std.specs.Prelude.{ℕ, ⊤, [], ◌∷◌}
+use Rattle.futures.specs.declared.task.Poll.TheVariants.{Pending}
+use Rattle.lite_base.specs.Answers.{Answer}
+use Rattle.lite_base.specs.Paces.{Paces, left_behind}
+use Rattle.lite_base.specs.Ranks.{Ranks}
+use Rattle.lite_base.specs.Runs.{Runs}
+use Rattle.lite_merge.specs.declared.budgeted.Budgeted.{Budgeted}
+use Rattle.lite_stream.specs.Through.{AdapterParts, Through}
+
+-- the source's list, with a pending where the budget is used up: so many items in a row
+abbrev pub Budgets : {S A : Type 0} → Runs (Answer A) S → Runs (Answer A) (Budgeted S)
+Budgets run x l y = Through run (Paces Pending left_behind) x.stream (x.budget, x.left) l y.stream (y.budget, y.left)
+
+-- it is its stream, and the budget with what is left of it
+abbrev pub budget_parts : {S : Type 0} → AdapterParts (Budgeted S) S (ℕ × ℕ)
+budget_parts =
+    record {
+      source = λ m. m.stream;
+      held = λ m. (m.budget, m.left);
+      same = λ x y e d. λ i. record { stream = e i; budget = (d i).0; left = (d i).1 };
+    }
+
+-- what is left of the budget, which counts at each value; a pending raises it
+abbrev pub budget_ranks : {S : Type 0} → Ranks (Budgeted S)
+budget_ranks = record { width = 1; rank = λ m. m.left ∷ []; counts = λ _. ⊤; firm = λ _. ⊥ }

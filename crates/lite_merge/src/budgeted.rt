@@ -1,0 +1,57 @@
+ghost use Rattle.lite_base.specs.Woken.{HoldsWoken};
+ghost use Rattle.lite_merge.specs.Budgeted.{Budgets, budget_parts, budget_ranks};
+ghost use Rattle.lite_merge.specs.Laws.Budgeted.{budget_counting, paces_relating};
+ghost use Rattle.lite_stream.specs.Laws.Through.{laws_hinted};
+
+use lite_base::{Context, Counted, Poll, Stream};
+
+/// A stream that is pending once more after so many items in a row, so that whoever polls it can turn to another task.
+///
+/// Made by [`with_budget`](crate::make::with_budget). It gives the answers of its stream, in order. After as many items
+/// as its budget without a pending between them it wakes its context and is pending once, in a poll that does not ask its
+/// stream. Its rank, over any stream, is how many items may come before that. The original has no such adapter.
+#[derive(Clone, Debug, Drop)]
+pub struct Budgeted<S> {
+    pub(crate) stream: S,
+    pub(crate) budget: usize,
+    // How many items may come before it is pending by itself.
+    pub(crate) left: usize,
+}
+
+impl<S: Stream> Stream for Budgeted<S> {
+    type Item = S::Item;
+
+    ghost can_poll = { λ m. S.can_poll m.stream };
+
+    ghost run = { Budgets S.run };
+
+    ghost registers = { λ m fact. S.registers m.stream fact × HoldsWoken fact };
+
+    ghost hints = { λ m. S.hints m.stream };
+
+    ghost laws = { laws_hinted budget_parts S.laws paces_relating };
+
+    fn poll_next(&mut self, cx: &mut Context<'_>) -> Poll<Option<S::Item>> {
+        if self.left == 0 {
+            self.left = self.budget;
+            return cx.yield_now();
+        }
+        let next = self.stream.poll_next(cx);
+        match &next {
+            Poll::Ready(Some(_)) => self.left -= 1,
+            Poll::Ready(None) => {}
+            Poll::Pending => self.left = self.budget,
+        }
+        next
+    }
+
+    fn size_hint(&self) -> (usize, Option<usize>) {
+        self.stream.size_hint()
+    }
+}
+
+impl<S: Stream> Counted for Budgeted<S> {
+    ghost ranks = { budget_ranks };
+
+    ghost counting = { budget_counting };
+}
