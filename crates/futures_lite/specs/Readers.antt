@@ -7,6 +7,7 @@ pub use Rattle.lite_io_base.specs.Steps.{Steps}
 pub use Rattle.lite_io_base.specs.SeekKeeps.{SeekKeeps}
 pub use Rattle.lite_io_base.specs.Steady.{CalmReadLaws, NoPendingRead, OneTale, SteadyReadLaws, strip_marks}
 pub use Rattle.lite_buffered.specs.BufReader
+pub use Rattle.lite_buffered.specs.Budgeted
 pub use Rattle.lite_buffered.specs.Chain
 pub use Rattle.lite_buffered.specs.Chaining
 pub use Rattle.lite_buffered.specs.Repeat

@@ -25,6 +25,7 @@ ghost use Rattle.lite_views.specs.Futures.{CountRuns, FindRuns, FoldRuns, LastRu
 ghost use Rattle.lite_views.specs.Trying.{TriesCollect, first_error, try_fold};
 ghost use Rattle.std.specs.Option.{option_transpose};
 ghost use Rattle.lite_views.specs.OkLists.{AllTaken, OkLists, OkSeen};
+ghost use Rattle.lite_merge.specs.Budgeted.{Budgets};
 ghost use Rattle.lite_merge.specs.Cycle.{CycleOf};
 ghost use Rattle.lite_reshape.specs.FlatMap.{FlatMaps};
 ghost use Rattle.lite_reshape.specs.Flatten.{Flattens};
@@ -44,7 +45,7 @@ pub use lite_gather::{
     UnzipFuture, UnzipRefused,
 };
 pub use lite_merge::make::{or, race, race_with_seed, stop_after_future};
-pub use lite_merge::{Cycle, Drain, Or, Race, StopAfterFuture, Zip};
+pub use lite_merge::{Budgeted, Cycle, Drain, Or, Race, StopAfterFuture, Zip};
 pub use lite_reshape::{
     Chain, Cloned, Filter, FilterMap, FlatMap, Flatten, Skip, SkipWhile, StepBy, Then,
 };
@@ -393,6 +394,19 @@ pub trait StreamExt: Stream {
         ensures { result ≡ record { stream = self.entry } }
     {
         lite_merge::make::drain(self)
+    }
+
+    /// The stream of the same answers that is pending once more after `items` items in a row, which is above 0: it wakes
+    /// its context then, and the next poll goes on. So whoever polls it can turn to another task, and its rank counts,
+    /// whatever this stream is. The hint is this stream's. The original has no such call.
+    final fn with_budget(self, items: usize) -> Budgeted<Self>
+    where
+        Self: Sized,
+        requires { 0 < items }
+        ensures parts { result ≡ record { stream = self; budget = items; left = items } }
+        ensures lists { (xs : List Self.Item) → Lists Self.run self xs → ListsAs (Budgets Self.run) result xs }
+    {
+        lite_merge::make::with_budget(self, items)
     }
 
     /// The stream of clones of what the items refer to, as `Ok` items. A clone that is refused is the item

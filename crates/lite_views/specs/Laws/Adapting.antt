@@ -9,6 +9,7 @@ use Rattle.std.specs.List.{cons_option, enumerate_from, filter, filter_map, pref
 use Rattle.futures.specs.declared.task.Poll.TheVariants.{Ready, Pending}
 use Rattle.lite_base.specs.Answers.{Answer, Endless, end, item}
 use Rattle.lite_base.specs.Calling.{Accepts, Always}
+use Rattle.lite_base.specs.Paces.{Paces, left_behind}
 use Rattle.lite_base.specs.Runs.{Question}
 use Rattle.lite_stream.specs.Copied.{CopiesItem}
 use Rattle.lite_stream.specs.Cutting.{Cuts}
@@ -106,6 +107,17 @@ filtered_fits {F} {A} asked test f q acts i o xs e t =
     let a = acts x true r (subst (λ z. asked z x true r) g c.1) in
     (ap (λ b. cond b (x ∷ filter test l) (filter test l)) (sym a.1) ∙ ap (λ z. z ∷ filter test l) (sym c.0), a.0))
     f q i o xs refl e t
+
+-- `with_budget`
+pub paced_fits : {A : Type 0} (p q : ℕ × ℕ) (i o : List (Answer A)) (xs : List A) → Fits i xs
+    → Paces Pending left_behind p i o q → Fits o xs
+paced_fits p q i [] xs e h = tt
+paced_fits p q i (b ∷ o) xs e (inl h) = rw h.1 (paced_fits (p.0, p.0) q i o xs e h.2)
+paced_fits p q i (Pending ∷ o) xs e (inr h) = paced_fits (p.0, p.0) q h.1 o xs (rw h.2 at e) h.3
+paced_fits p q i (Ready None ∷ o) xs e (inr h) = rw h.2 at e
+paced_fits p q i (Ready (Some x) ∷ o) [] e (inr h) = absurd (rw h.2 at e)
+paced_fits p q i (Ready (Some x) ∷ o) (y ∷ xs) e (inr h) =
+    let here = rw h.2 at e in (here.0, paced_fits (p.0, p.1 - 1) q h.1 o xs here.1 h.3)
 
 -- `take`
 abbrev nil : {A : Type 0} → List A
