@@ -1,14 +1,20 @@
 //! `linecount` prints how many lines standard input has.
 #![tactic(auto)]
 
-use lite_bridge::{AssertAsync, BlockOn};
-use lite_buffered::BufReader;
+use futures_lite::io::{AssertAsync, BufReader};
+use futures_lite::{AsyncBufReadExt, AsyncReadExt, StreamExt, future};
 use std::alloc::AllocGlobal;
 use std::io;
-use std::io::{BufRead, ErrorKind};
+use std::io::ErrorKind;
 use std::process::ExitCode;
 use std::random::RandomSource;
 use std::sync::Wait;
+
+/// How many bytes are read in a row before the program yields.
+const BYTES: usize = 1 << 16;
+
+/// How many lines are counted in a row before it does.
+const LINES: usize = 1 << 12;
 
 fn main(rt: HostRuntime) -> ExitCode {
     match printed(&rt, &rt) {
@@ -21,17 +27,18 @@ fn main(rt: HostRuntime) -> ExitCode {
 }
 
 /// Counts the lines and prints their number. `rt` is the host as one that may wait.
-fn printed<R>(host: &HostRuntime, rt: R) -> io::Result<()>
+fn printed<R>(host: &HostRuntime, rt: &R) -> io::Result<()>
 where
-    R: Wait + RandomSource + AllocGlobal + Drop,
+    R: Wait + RandomSource + AllocGlobal,
 {
-    let Ok(reader) = BufReader::new(host.alloc(), AssertAsync::new(host.stdin())) else {
+    let input = AssertAsync::new(host.stdin()).with_budget(BYTES);
+    let Ok(reader) = BufReader::new(host.alloc(), input) else {
         return Err(ErrorKind::OutOfMemory.into());
     };
-    let mut count = 0u64;
-    for line in BlockOn::new(rt, reader).lines(host.alloc()) {
-        line?;
-        count = count.saturating_add(1);
-    }
+    let mut lines = reader.lines(host.alloc()).with_budget(LINES);
+    let counted = lines.try_fold(0u64, |count: u64, _line: String| {
+        Ok::<u64, io::Error>(count.saturating_add(1))
+    });
+    let count = future::block_on(rt, counted)??;
     println!(host; "{count}")
 }
