@@ -10,9 +10,9 @@ use crate::closures::{
 use crate::leaf::Build;
 use crate::words::{Fault, Words};
 use futures_lite::stream::{
-    self, Chain, Counted, Enumerate, Filter, FilterMap, FlatMap, Flatten, Fuse, Inspect, Map,
-    MapWhile, Or, Pending, Race, Scan, Skip, SkipWhile, StepBy, StopAfterFuture, Take, TakeWhile,
-    Then, Zip,
+    self, Budgeted, Chain, Counted, Enumerate, Filter, FilterMap, FlatMap, Flatten, Fuse, Inspect,
+    Map, MapWhile, Or, Pending, Race, Scan, Skip, SkipWhile, StepBy, StopAfterFuture, Take,
+    TakeWhile, Then, Zip,
 };
 use futures_lite::{Context, Poll, Stream, StreamExt};
 use std::alloc::Global;
@@ -37,6 +37,7 @@ pub(crate) enum Layer<S: Counted<Item = i64> + Drop> {
     Then(Then<S, fn(i64) -> Later, Later>),
     Scan(Scan<S, i64, Step>),
     Fuse(Fuse<S>),
+    Budget(Budgeted<S>),
     Chain(Chain<S, S>),
     Zip(Zip<S, S>),
     Or(Or<S, S>),
@@ -90,6 +91,7 @@ impl<S: Counted<Item = i64> + Drop> Stream for Layer<S> {
             Layer::Then(s) => s.poll_next(cx),
             Layer::Scan(s) => s.poll_next(cx),
             Layer::Fuse(s) => s.poll_next(cx),
+            Layer::Budget(s) => s.poll_next(cx),
             Layer::Chain(s) => s.poll_next(cx),
             Layer::Zip(s) => of_pairs(s.poll_next(cx), pair_of),
             Layer::Or(s) => s.poll_next(cx),
@@ -119,6 +121,7 @@ impl<S: Counted<Item = i64> + Drop> Stream for Layer<S> {
             Layer::Then(s) => s.size_hint(),
             Layer::Scan(s) => s.size_hint(),
             Layer::Fuse(s) => s.size_hint(),
+            Layer::Budget(s) => s.size_hint(),
             Layer::Chain(s) => s.size_hint(),
             Layer::Zip(s) => s.size_hint(),
             Layer::Or(s) => s.size_hint(),
@@ -242,6 +245,13 @@ fn by_numbers<S: Build + Counted<Item = i64> + Drop>(
                 return Err(Fault::Words);
             }
             Layer::StepBy(S::build(alloc, words)?.step_by(n))
+        }
+        "budget" => {
+            let n = words.number()?;
+            if n == 0 {
+                return Err(Fault::Words);
+            }
+            Layer::Budget(S::build(alloc, words)?.with_budget(n))
         }
         "stop_after" => {
             let left = words.number()?;

@@ -5,7 +5,7 @@ use crate::io_words::bytes_of;
 use crate::readers::{BuildReader, Nest, buffered};
 use crate::words::{Fault, Words};
 use futures_lite::io::{
-    self as lite, AsyncBufRead, AsyncRead, BufReader, Chain, CountedRead, Cursor, Empty,
+    self as lite, AsyncBufRead, AsyncRead, BufReader, Budgeted, Chain, CountedRead, Cursor, Empty,
     IoSliceMut, Take, Tale,
 };
 use futures_lite::{AsyncReadExt, Context, Poll};
@@ -17,6 +17,7 @@ use std::io;
 pub(crate) enum Lender {
     Buf(BufReader<Nest>),
     Take(Take<BufReader<Nest>>),
+    Budget(Budgeted<BufReader<Nest>>),
     Chain(Chain<BufReader<Nest>, BufReader<Nest>>),
     TakeChain(Take<Chain<BufReader<Nest>, BufReader<Nest>>>),
     Memory(Cursor<Vec<u8>>),
@@ -35,6 +36,7 @@ impl AsyncRead for Lender {
         match self {
             Lender::Buf(r) => r.poll_read(cx, buf),
             Lender::Take(r) => r.poll_read(cx, buf),
+            Lender::Budget(r) => r.poll_read(cx, buf),
             Lender::Chain(r) => r.poll_read(cx, buf),
             Lender::TakeChain(r) => r.poll_read(cx, buf),
             Lender::Memory(r) => r.poll_read(cx, buf),
@@ -51,6 +53,7 @@ impl AsyncRead for Lender {
         match self {
             Lender::Buf(r) => r.poll_read_vectored(cx, bufs),
             Lender::Take(r) => r.poll_read_vectored(cx, bufs),
+            Lender::Budget(r) => r.poll_read_vectored(cx, bufs),
             Lender::Chain(r) => r.poll_read_vectored(cx, bufs),
             Lender::TakeChain(r) => r.poll_read_vectored(cx, bufs),
             Lender::Memory(r) => r.poll_read_vectored(cx, bufs),
@@ -69,6 +72,7 @@ impl AsyncBufRead for Lender {
         match self {
             Lender::Buf(r) => r.poll_fill_buf(cx),
             Lender::Take(r) => r.poll_fill_buf(cx),
+            Lender::Budget(r) => r.poll_fill_buf(cx),
             Lender::Chain(r) => r.poll_fill_buf(cx),
             Lender::TakeChain(r) => r.poll_fill_buf(cx),
             Lender::Memory(r) => r.poll_fill_buf(cx),
@@ -81,6 +85,7 @@ impl AsyncBufRead for Lender {
         match self {
             Lender::Buf(r) => r.buffer(),
             Lender::Take(r) => r.buffer(),
+            Lender::Budget(r) => r.buffer(),
             Lender::Chain(r) => r.buffer(),
             Lender::TakeChain(r) => r.buffer(),
             Lender::Memory(r) => r.buffer(),
@@ -93,6 +98,7 @@ impl AsyncBufRead for Lender {
         match self {
             Lender::Buf(r) => r.consume(amount),
             Lender::Take(r) => r.consume(amount),
+            Lender::Budget(r) => r.consume(amount),
             Lender::Chain(r) => r.consume(amount),
             Lender::TakeChain(r) => r.consume(amount),
             Lender::Memory(r) => r.consume(amount),
@@ -121,6 +127,13 @@ impl BuildReader for Lender {
             "ltake" => {
                 let n = words.number()? as u64;
                 Ok(Lender::Take(buffered_nest(alloc, words)?.take(n)))
+            }
+            "lbudget" => {
+                let n = words.number()?;
+                if n == 0 {
+                    return Err(Fault::Words);
+                }
+                Ok(Lender::Budget(buffered_nest(alloc, words)?.with_budget(n)))
             }
             "lchain" => {
                 let first = buffered_nest(alloc, words)?;

@@ -4,8 +4,8 @@ ghost use Rattle.futures_lite.specs.Own.{Anything, anything_reads};
 use crate::io_words::{bytes_of, marks_of};
 use crate::words::{Fault, Words};
 use futures_lite::io::{
-    self as lite, AsyncRead, BufReader, Chain, CountedRead, Cursor, Empty, IoSliceMut, Repeat,
-    Take, Tale,
+    self as lite, AsyncRead, BufReader, Budgeted, Chain, CountedRead, Cursor, Empty, IoSliceMut,
+    Repeat, Take, Tale,
 };
 use futures_lite::{AsyncReadExt, Context, Poll};
 use lite_mock::Marks;
@@ -87,6 +87,7 @@ pub(crate) enum Reader<R: CountedRead + Drop> {
     Take(Take<R>),
     Chain(Chain<R, R>),
     Buf(BufReader<R>),
+    Budget(Budgeted<R>),
 }
 
 impl<R: CountedRead + Drop> Tale for Reader<R> {
@@ -102,6 +103,7 @@ impl<R: CountedRead + Drop> AsyncRead for Reader<R> {
             Reader::Take(r) => r.poll_read(cx, buf),
             Reader::Chain(r) => r.poll_read(cx, buf),
             Reader::Buf(r) => r.poll_read(cx, buf),
+            Reader::Budget(r) => r.poll_read(cx, buf),
         }
     }
 
@@ -115,6 +117,7 @@ impl<R: CountedRead + Drop> AsyncRead for Reader<R> {
             Reader::Take(r) => r.poll_read_vectored(cx, bufs),
             Reader::Chain(r) => r.poll_read_vectored(cx, bufs),
             Reader::Buf(r) => r.poll_read_vectored(cx, bufs),
+            Reader::Budget(r) => r.poll_read_vectored(cx, bufs),
         }
     }
 }
@@ -144,6 +147,14 @@ impl<R: BuildReader + CountedRead + Drop> BuildReader for Reader<R> {
                 words.take()?;
                 let n = words.number()? as u64;
                 Ok(Reader::Take(R::build(alloc, words)?.take(n)))
+            }
+            "budget" => {
+                words.take()?;
+                let n = words.number()?;
+                if n == 0 {
+                    return Err(Fault::Words);
+                }
+                Ok(Reader::Budget(R::build(alloc, words)?.with_budget(n)))
             }
             "chain" => {
                 words.take()?;

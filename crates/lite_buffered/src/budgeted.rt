@@ -1,4 +1,4 @@
-ghost use Rattle.std.specs.Prelude.{◌≡◌, ◌≤◌, ◌<◌, Ok, length, IfOk};
+ghost use Rattle.std.specs.Prelude.{◌≡◌, ◌≤◌, ◌<◌, None, Ok, length, IfOk};
 ghost use Rattle.std.specs.Borrow.{Lends, sem};
 ghost use Rattle.futures.specs.Poll.{IfReady};
 ghost use Rattle.futures.specs.Task.{Keeps};
@@ -68,6 +68,17 @@ impl<R> Budgeted<R> {
         self.reader
     }
 
+    // Is pending by itself; behind it all of the budget is there anew.
+    fn pause<T>(&mut self, cx: &mut Context<'_>) -> Poll<T>
+        ensures answer { result ≡ Poll.Pending }
+        ensures anew { self.new ≡ record self.old { left = None } }
+        ensures left { Registered result HoldsWoken cx.new }
+        ensures kept { Keeps cx.old cx.new }
+    {
+        self.left = None;
+        cx.yield_now()
+    }
+
     // What is left of the budget.
     fn allowed(&self) -> usize
         ensures { result ≡ left_of self.now }
@@ -122,8 +133,7 @@ impl<R: AsyncRead> AsyncRead for Budgeted<R> {
         }
         let left = self.allowed();
         if left == 0 {
-            self.left = None;
-            return cx.yield_now();
+            return self.pause(cx);
         }
         let most = left.min(buf.len());
         match self.reader.poll_read(cx, &mut buf[..most]) {
@@ -164,18 +174,17 @@ impl<R: AsyncBufRead> Budgeted<R> {
         ensures left { Registered result (λ fact. R.registers (budgeted_inner self.new) fact × HoldsWoken fact) cx.new }
         ensures kept { Keeps cx.old cx.new }
     {
-        let left = self.allowed();
-        if left == 0 {
-            self.left = None;
-            return cx.yield_now();
+        let allowed = self.allowed();
+        if allowed == 0 {
+            return self.pause(cx);
         }
         match fill(&mut self.reader, cx) {
             Poll::Ready(Ok(())) => {
-                self.left = Some(left);
+                self.left = Some(allowed);
                 Poll::Ready(Ok(()))
             }
             Poll::Ready(Err(e)) => {
-                self.left = Some(left - 1);
+                self.left = Some(allowed - 1);
                 Poll::Ready(Err(e))
             }
             Poll::Pending => {
