@@ -9,7 +9,7 @@ ghost use Rattle.lite_reshape.specs.Inner.{EachInner};
 ghost use Rattle.lite_reshape.specs.declared.chain.Part.TheVariants.{First};
 
 use lite_base::{CalmFuture, CalmStream, Counted, Future, SteadyFuture, SteadyStream};
-use lite_merge::{Cycle, Drain, Or, Race, StopAfterFuture, Zip};
+use lite_merge::{Budgeted, Cycle, Drain, Or, Race, StopAfterFuture, Zip};
 use lite_reshape::{Chain, Cloned, FlatMap, Flatten, Then};
 use rand_core::Rng;
 
@@ -107,4 +107,12 @@ where
     requires inner { EachInner S.run B.is_calm x.now None }
     ensures drain { ⟦<Drain<'a, S> as CalmStream>⟧.is_calm drained.now }
     ensures flatten { ⟦<Flatten<S> as CalmStream>⟧.is_calm (record { stream = x.now; inner_stream = None }) }
+{}
+
+/// Streams with a budget each, as [`with_budget`](lite_merge::make::with_budget) makes them, are alike over streams that are alike,
+/// whatever the budgets are.
+pub fn budgets_are_alike<S: SteadyStream>(x: &S, y: &S, n: usize, m: usize)
+    requires { S.alike x.now y.now }
+    ensures { ⟦<Budgeted<S> as SteadyStream>⟧.alike (record { stream = x.now; budget = n; left = n })
+        (record { stream = y.now; budget = m; left = m }) }
 {}

@@ -1,10 +1,10 @@
 //! Readers: two that are alike, and a calm one, of each type.
-ghost use Rattle.std.specs.Prelude.{◌≡◌, ◌∷◌, [], false};
+ghost use Rattle.std.specs.Prelude.{◌≡◌, ◌∷◌, [], Some, false};
 ghost use Rattle.lite_buffered.specs.BufReader.{ahead, reader_capacity, reader_inner};
 ghost use Rattle.lite_io_base.specs.Marks.{ReadMark};
 
 use lite_bridge::{AssertAsync, BytesLike, Cursor};
-use lite_buffered::{BufReader, Chain, Empty, Repeat, Take};
+use lite_buffered::{Budgeted, BufReader, Chain, Empty, Repeat, Take};
 use lite_halves::Journal;
 use lite_io_base::{CalmRead, SteadyRead, Takings};
 use lite_mock::Marks;
@@ -79,4 +79,11 @@ pub fn journals_have_marks<R: SteadyRead + CalmRead + Takings + Clone>(
     requires is_calm { R.is_calm x.now.stream }
     ensures alike { ⟦<Journal<R> as SteadyRead>⟧.alike x.now y.now }
     ensures is_calm { ⟦<Journal<R> as CalmRead>⟧.is_calm x.now }
+{}
+
+/// Readers with a budget each are alike over readers that are alike, whatever the budgets are.
+pub fn budgets_are_alike<R: SteadyRead>(x: &R, y: &R, n: usize, m: usize)
+    requires { R.alike x.now y.now }
+    ensures { ⟦<Budgeted<R> as SteadyRead>⟧.alike (record { reader = x.now; budget = n; left = Some n })
+        (record { reader = y.now; budget = m; left = Some m }) }
 {}

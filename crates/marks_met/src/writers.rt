@@ -1,11 +1,11 @@
 //! Writers, and futures of writes: two that are alike, and a calm one, of each type.
-ghost use Rattle.std.specs.Prelude.{◌≡◌, []};
+ghost use Rattle.std.specs.Prelude.{◌≡◌, [], Some};
 ghost use Rattle.lite_buffered.specs.BufWriter.{buffered, writer_inner};
 ghost use Rattle.lite_buffered.specs.BufReader.{reader_inner as read_from};
 
 use lite_base::{CalmFuture, SteadyFuture};
 use lite_bridge::{AssertAsync, Cursor};
-use lite_buffered::{BufReader, BufWriter};
+use lite_buffered::{Budgeted, BufReader, BufWriter};
 use lite_io_base::{AsyncWrite, CalmWrite, IoSlice, SteadyWrite};
 use lite_mock::Takes;
 use lite_write::{
@@ -94,4 +94,13 @@ where
     ensures write_all_calm { ⟦<WriteAllFuture<'a, W> as CalmFuture>⟧.is_calm (record { writer = x.now; buf = bytes.entry }) }
     ensures write_calm { ⟦<WriteFuture<'a, W> as CalmFuture>⟧.is_calm (record { writer = x.now; buf = bytes.entry }) }
     ensures write_vectored { ⟦<WriteVectoredFuture<'a, W> as CalmFuture>⟧.is_calm (record { writer = x.now; bufs = bufs.entry }) }
+{}
+
+/// Writers behind a budget, which counts what is read, are alike over writers that are alike, and calm over calm ones.
+pub fn budgets_have_marks<W: SteadyWrite + CalmWrite>(x: &W, y: &W, n: usize, m: usize)
+    requires alike { W.alike x.now y.now }
+    requires is_calm { W.is_calm x.now }
+    ensures alike { ⟦<Budgeted<W> as SteadyWrite>⟧.alike (record { reader = x.now; budget = n; left = Some n })
+        (record { reader = y.now; budget = m; left = Some m }) }
+    ensures calm { ⟦<Budgeted<W> as CalmWrite>⟧.is_calm (record { reader = x.now; budget = n; left = Some n }) }
 {}
