@@ -51,7 +51,7 @@ where
     R: Wait + RandomSource + AllocGlobal,
     F: Future,
     requires { F.can_poll future.old }
-    ensures gave { IfOk result (λ value. (ins : List (Poll F.Output)) × Gives ins value × F.run future.old ins future.new) }
+    ensures gave { IfOk result (λ value. (ins : _) × Gives ins value × F.run future.old ins future.new) }
     ensures kept { OnErr result (future.new ≡ future.old) }
     ensures left { LeftSeen future.old result future.new × LeftAs F.run future.old result future.new }
 {

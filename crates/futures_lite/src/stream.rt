@@ -20,7 +20,7 @@ ghost use Rattle.lite_stream.specs.TakeWhile.{TakesWhile};
 ghost use Rattle.lite_merge.specs.Zip.{Zips};
 ghost use Rattle.lite_views.specs.Acting.{ActsAsOnState};
 ghost use Rattle.lite_views.specs.Lists.{map_while, scan, step_from};
-ghost use Rattle.lite_views.specs.Views.{Fronts, GoesOn, HasValue, Lists, ListsAs, Seen, ValueHolds, ValueIs};
+ghost use Rattle.lite_views.specs.Views.{Fronts, FrontsAs, GoesOn, HasValue, Lists, ListsAs, Seen, ValueHolds, ValueIs};
 ghost use Rattle.lite_views.specs.Futures.{CountRuns, FindRuns, FoldRuns, LastRuns, NthRuns, TryFoldRuns};
 ghost use Rattle.lite_views.specs.Trying.{TriesCollect, first_error, try_fold};
 ghost use Rattle.std.specs.Option.{option_transpose};
@@ -95,8 +95,8 @@ pub fn iter_array<T: Drop, const N: usize>(items: [T; N]) -> Iter<array::IntoIte
 
 /// The stream of the numbers of a range: `iter`, with its items by a list.
 pub fn iter_range(items: Range<usize>) -> Iter<Range<usize>>
-    ensures fronts { (n : ℕ) → items.end - items.start ≡ n → (range_with_len items.start n ≡ range_with_len items.start n)
-        × Fronts ⟦<Iter<Range<usize>> as Stream>⟧.run result (range_with_len items.start n) }
+    ensures fronts { (n : ℕ) → items.end - items.start ≡ n
+        → FrontsAs ⟦<Iter<Range<usize>> as Stream>⟧.run result (range_with_len items.start n) }
     ensures lists { (n : ℕ) → items.end - items.start ≡ n
         → ListsAs ⟦<Iter<Range<usize>> as Stream>⟧.run result (range_with_len items.start n) }
 {
@@ -167,7 +167,7 @@ pub trait StreamExt: Stream {
         Self: Counted + Sized,
         P: FnMut(&Self::Item) -> bool,
         ensures parts { result ≡ record { stream = self; predicate = predicate } }
-        ensures lists { (test : Self.Item → Bool) (xs : List Self.Item) → Lists Self.run self xs → ActsAsAt P.FnMut predicate test
+        ensures lists { (test : Self.Item → Bool) (xs : _) → Lists Self.run self xs → ActsAsAt P.FnMut predicate test
             → ListsAs (Filters Self.run (CalledAt P.FnMut)) result (filter test xs)
             × (length (filter test xs) ≤ length xs) }
     {
@@ -243,8 +243,8 @@ pub trait StreamExt: Stream {
     where
         Self: Sized,
         ensures parts { result ≡ record { stream = self; n = n } }
-        ensures lists { (xs : List Self.Item) → Lists Self.run self xs → ListsAs ⟦<Take<Self> as Stream>⟧.run result (take n xs) }
-        ensures repeats { (x : Self.Item) → GoesOn Self.run self x → ListsAs ⟦<Take<Self> as Stream>⟧.run result (replicate n x) }
+        ensures lists { (xs : List Self.Item) → Lists Self.run self xs → ListsAs (Takes Self.run) result (take n xs) }
+        ensures repeats { (x : Self.Item) → GoesOn Self.run self x → ListsAs (Takes Self.run) result (replicate n x) }
     {
         make::take(self, n)
     }
@@ -256,7 +256,7 @@ pub trait StreamExt: Stream {
         Self: Sized,
         P: FnMut(&Self::Item) -> bool,
         ensures parts { result ≡ record { stream = self; predicate = predicate } }
-        ensures lists { (test : Self.Item → Bool) (xs : List Self.Item) → Lists Self.run self xs → ActsAsAt P.FnMut predicate test
+        ensures lists { (test : Self.Item → Bool) (xs : _) → Lists Self.run self xs → ActsAsAt P.FnMut predicate test
             → ListsAs (TakesWhile Self.run (CalledAt P.FnMut)) result (take (prefix_len test xs) xs) }
     {
         make::take_while(self, predicate)
@@ -281,7 +281,7 @@ pub trait StreamExt: Stream {
     where
         Self: Sized,
         ensures parts { result ≡ record { stream = self; n = n } }
-        ensures lists { (xs : List Self.Item) → Lists Self.run self xs → ListsAs (SkipsFirst Self.run) result (drop n xs) }
+        ensures lists { (xs : _) → Lists Self.run self xs → ListsAs (SkipsFirst Self.run) result (drop n xs) }
     {
         lite_reshape::make::skip(self, n)
     }
@@ -293,7 +293,7 @@ pub trait StreamExt: Stream {
         Self: Counted + Sized,
         P: FnMut(&Self::Item) -> bool,
         ensures parts { result ≡ record { stream = self; predicate = Some predicate } }
-        ensures lists { (test : Self.Item → Bool) (xs : List Self.Item) → Lists Self.run self xs → ActsAsAt P.FnMut predicate test
+        ensures lists { (test : Self.Item → Bool) (xs : _) → Lists Self.run self xs → ActsAsAt P.FnMut predicate test
             → ListsAs (SkipsWhile Self.run (CalledAt P.FnMut)) result (drop (prefix_len test xs) xs) }
     {
         lite_reshape::make::skip_while(self, predicate)
@@ -456,7 +456,7 @@ pub trait StreamExt: Stream {
     where
         Self: Sized,
         ensures parts { result ≡ record { stream = self; done = false } }
-        ensures lists { (xs : List Self.Item) → Lists Self.run self xs → ListsAs ⟦<Fuse<Self> as Stream>⟧.run result xs }
+        ensures lists { (xs : List Self.Item) → Lists Self.run self xs → ListsAs (Fuses Self.run) result xs }
     {
         make::fuse(self)
     }
@@ -479,7 +479,7 @@ pub trait StreamExt: Stream {
         Self: Sized,
         F: FnMut(&Self::Item),
         ensures parts { result ≡ record { stream = self; f = f } }
-        ensures lists { (xs : List Self.Item) → Lists Self.run self xs → ListsAs ⟦<Inspect<Self, F> as Stream>⟧.run result xs }
+        ensures lists { (xs : _) → Lists Self.run self xs → ListsAs (Inspects Self.run (CalledAt F.FnMut)) result xs }
     {
         make::inspect(self, f)
     }
@@ -538,7 +538,7 @@ pub trait StreamExt: Stream {
         Self: OkCounted<Ok = T, Err = E> + Sized,
         F: FnMut(B, T) -> Result<B, E>,
         ensures parts { result ≡ record { stream = self.entry; folder = record { f = f; acc = Some init } } }
-        ensures value { (h : B → T → Result B E) (xs : List (Result T E)) → Lists Self.run self.old xs → ActsAsOnTwo F.FnMut f h
+        ensures value { (h : B → T → Result B E) (xs : _) → Lists Self.run self.old xs → ActsAsOnTwo F.FnMut f h
             → ValueIs (TryFoldRuns Self.run F.FnMut) result (try_fold h init xs) }
     {
         lite_consume::make::try_fold(self, init, f)
@@ -550,7 +550,7 @@ pub trait StreamExt: Stream {
     where
         Self: Sized,
         ensures parts { result ≡ record { stream = self.entry; folder = record { n = n } } }
-        ensures value { (xs : List Self.Item) → Lists Self.run self.old xs → ValueIs (NthRuns Self.run) result (slice_get xs n) }
+        ensures value { (xs : _) → Lists Self.run self.old xs → ValueIs (NthRuns Self.run) result (slice_get xs n) }
     {
         lite_consume::make::nth(self, n)
     }
@@ -560,7 +560,7 @@ pub trait StreamExt: Stream {
     where
         Self: Counted + Sized,
         ensures parts { result ≡ record { stream = self; folder = record { last = None } } }
-        ensures value { (xs : List Self.Item) → Lists Self.run self xs → ValueIs (LastRuns Self.run) result (last_or None xs) }
+        ensures value { (xs : _) → Lists Self.run self xs → ValueIs (LastRuns Self.run) result (last_or None xs) }
     {
         lite_consume::make::last(self)
     }
@@ -584,7 +584,7 @@ pub trait StreamExt: Stream {
         Self: Counted + Sized,
         F: FnMut(Self::Item) -> Option<B>,
         ensures parts { result ≡ record { stream = self.entry; folder = record { f = f } } }
-        ensures value { (h : Self.Item → Option B) (xs : List Self.Item) → Lists Self.run self.old xs → ActsAs F.FnMut f h
+        ensures value { (h : Self.Item → Option B) (xs : _) → Lists Self.run self.old xs → ActsAs F.FnMut f h
             → ValueIs ⟦<FindMapFuture<'a, Self, F> as Future>⟧.run result (slice_get (filter_map h xs) 0) }
     {
         lite_consume::make::find_map(self, f)
@@ -708,7 +708,7 @@ pub trait StreamExt: Stream {
         ensures predicate { result.folder.predicate ≡ predicate }
         ensures open { IsSome result.folder.res }
         ensures empty { IfSome result.folder.res (λ c. B.holds c.0 [] × B.holds c.1 []) }
-        ensures accepted { (test : Self.Item → Bool) (xs : List Self.Item) → Lists Self.run self xs → ActsAsAt P.FnMut predicate test
+        ensures accepted { (test : Self.Item → Bool) (xs : _) → Lists Self.run self xs → ActsAsAt P.FnMut predicate test
             → (filter test xs ≡ filter test xs)
             × ValueHolds AllocError ⟦<PartitionFuture<Self, P, B> as Future>⟧.run result
             (λ v. IfOk v (λ c. B.holds c.0 (filter test xs))) }

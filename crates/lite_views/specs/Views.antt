@@ -60,3 +60,7 @@ ListsAs {S} {A} run s xs = (xs ≡ xs) × Seen s xs × Lists run s xs
 -- the items that s may ever give, after an end too, are xs from the front on
 unfoldable pub Fronts : {S A : Type 0} → Runs (Answer A) S → S → List A → Type 0
 Fronts {S} {A} run s xs = (l : List (Answer A)) (t : S) → run s l t → Front (items_in l) xs
+
+-- the list stands twice, for `grind`, as in ListsAs
+abbrev pub FrontsAs : {S A : Type 0} → Runs (Answer A) S → S → List A → Type 0
+FrontsAs {S} {A} run s xs = (xs ≡ xs) × Fronts run s xs

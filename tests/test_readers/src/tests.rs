@@ -1,4 +1,5 @@
 mod asking;
+mod budgets;
 mod buffered;
 mod bytes;
 mod cursors;

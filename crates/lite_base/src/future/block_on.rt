@@ -82,7 +82,7 @@ impl BlockOn {
         future: &mut F,
     ) -> Result<F::Output, AllocError>
         requires { F.can_poll future.old }
-        ensures gave { IfOk result (λ value. (ins : List (Poll F.Output)) × Gives ins value × F.run future.old ins future.new) }
+        ensures gave { IfOk result (λ value. (ins : _) × Gives ins value × F.run future.old ins future.new) }
         ensures kept { OnErr result (future.new ≡ future.old) }
     {
         'polls: for _ in rt.forever() {

@@ -1,6 +1,6 @@
 use super::text::Text;
 use futures_lite::stream::{self, Script};
-use futures_lite::{Poll, StreamExt};
+use futures_lite::{Context, Poll, StreamExt, future};
 use std::alloc::AllocError;
 use std::cell::Cell;
 use std::io;
@@ -142,6 +142,33 @@ fn an_adapter_shows_what_it_holds(rt: HostRuntime) -> Result<(), Fail> {
     assert_eq!(rt;
         shown.as_str(),
         "Fuse { stream: Once { value: Some(5) }, done: false }"
+    );
+    Ok(())
+}
+
+#[test]
+fn a_budget_is_cloned_with_what_is_left_of_it(rt: HostRuntime) -> Result<(), Fail> {
+    let script = stream::script(vec![in rt.alloc(); item(1u8), item(2), item(3)]?);
+    let mut two = script.with_budget(2);
+    assert_eq!(rt; answers(&rt, &mut two, 1)?.as_slice(), [item(1)].as_slice());
+    let mut same = two.clone()?;
+    let expected = [item(2), Poll::Pending, item(3), Poll::Ready(None)];
+    assert_eq!(rt; answers(&rt, &mut two, 4)?.as_slice(), expected.as_slice());
+    assert_eq!(rt; answers(&rt, &mut same, 4)?.as_slice(), expected.as_slice());
+    Ok(())
+}
+
+#[test]
+fn a_budget_ranks_any_stream(rt: HostRuntime) -> Result<(), Fail> {
+    // A stream of a closure has no rank, and `last` asks for one.
+    let mut n = 0u8;
+    let numbers = stream::poll_fn(move |_cx: &mut Context<'_>| {
+        n += 1;
+        Poll::Ready((n <= 5).then_some(n))
+    });
+    assert_eq!(rt;
+        future::block_on(&rt, numbers.with_budget(2).last())?,
+        Some(5)
     );
     Ok(())
 }
