@@ -12,7 +12,8 @@ use lite_read::Lines;
 use lite_read::make::lines;
 use std::alloc::Global;
 
-/// The future of a collection of the lines of the front of a reader, which is read through a buffer.
+/// The future of a collection of the lines of the front of a reader, which is read through a buffer. Made by [`collect_lines`] and
+/// [`collect_buffered_lines`](crate::collect_buffered_lines).
 pub type CollectLinesFuture<R, C> = TryCollectFuture<Lines<Take<BufReader<R>>>, C>;
 
 /// The future of a collection of the lines of the first `limit` bytes of `reader`, which takes its memory from `memory`. The

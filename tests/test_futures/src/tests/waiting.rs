@@ -94,6 +94,8 @@ fn one_sleeper_waits_for_many_futures(rt: HostRuntime) -> Result<(), Fail> {
     for i in 0..3u8 {
         assert_eq!(rt; sleeper.block_on(&rt, future::ready(i))?, i);
         sleeper.block_on(&rt, future::yield_now())?;
+        let mut lent = future::ready(i);
+        assert_eq!(rt; sleeper.wait_for(&rt, &mut lent)?, i);
     }
     assert!(rt; BlockOn::new(&Refusing { rt: &rt }).is_err());
     Ok(())

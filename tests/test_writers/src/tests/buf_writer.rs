@@ -29,6 +29,9 @@ fn the_default_capacity_is_8192(rt: HostRuntime) -> Result<(), Fail> {
     assert_eq!(rt; writer.get_ref().taken(), b"".as_slice());
     assert_eq!(rt; write(&rt, &mut writer, b"a")?, Poll::Ready(Ok(1)));
     assert_eq!(rt; writer.get_ref().taken(), bytes.as_slice());
+    *writer.get_mut() = Takes::new(rt.alloc());
+    assert_eq!(rt; writer.get_ref().taken(), b"".as_slice());
+    assert_eq!(rt; writer.buffer(), b"a".as_slice());
     Ok(())
 }
 
