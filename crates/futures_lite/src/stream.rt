@@ -127,6 +127,7 @@ pub fn repeat<T: Clone>(item: T) -> Repeat<T>
 /// hint is (0, None).
 ///
 /// The original has no such call.
+#[tactic(auto, using(lite_views::specs::Laws::SourceLists::script_lists, lite_views::specs::Laws::SourceLists::script_fronts))]
 pub fn script<T>(answers: Vec<Poll<Option<T>>>) -> Script<T>
     ensures made { result ≡ answers.items }
     ensures lists { ListsAs ⟦<Script<T> as Stream>⟧.run result (items_in (until_end answers.items)) }

@@ -1,4 +1,5 @@
 -- The items of an adapter that holds what was made of an item: `then`, `cloned`, `flatten` and `flat_map`.
+use Rattle.lite_base.specs.declared.future.ready.Ready.{Ready as ReadyFuture}
 use Rattle.std.proofs.Common.{◌≡◌, List, [], ◌∷◌, ◌++◌, map, inl, inr, refl, ap, sym, subst, append-nil}
 use Rattle.std.specs.Prelude.{⊤, Option, Some, None, Result, Ok, flat_map}
 use Rattle.std.specs.Fn.{Called, Mut}
@@ -85,11 +86,16 @@ awaited_fits call run h f acts xs =
     )) xs
 
 -- `ready`
-pub ready_value : {A : Type 0} (x w : A) (ins : List (Poll A)) (left : Option A) → Gives ins w
+held_value : {A : Type 0} (x w : A) (ins : List (Poll A)) (left : Option A) → Gives ins w
     → GivesHeld (Some x) ins left → w ≡ x
-ready_value x w [] left g h = absurd g
-ready_value x w (Pending ∷ ins) left g h = absurd (cc h.0)
-ready_value x w (Ready y ∷ ins) left g h = let a = g.0 in let b = h.0 in cc
+held_value x w [] left g h = absurd g
+held_value x w (Pending ∷ ins) left g h = absurd (cc h.0)
+held_value x w (Ready y ∷ ins) left g h = let a = g.0 in let b = h.0 in cc
+
+pub ready_value : {A : Type 0} (x : ReadyFuture A) (v : A) → x.value ≡ Some v
+    → HasValue (λ (y : ReadyFuture A) l z. GivesHeld y.value l z.value) x v
+unfolding HasValue
+ready_value x v e ins w f = held_value v w ins f.last.value f.gives (rw e at f.came)
 
 -- `cloned`, where a clone is not refused and is equal
 module _ {T E : Type 0} (is_clone : T → T → Type 0) (is_infallible : T → Type 0)

@@ -1,4 +1,5 @@
 -- The items of a source.
+use Rattle.lite_source.specs.Once.{GivesOnce, once_left}
 use Rattle.std.proofs.Common.{◌≡◌, ◌+◌, ◌-◌, ◌∙◌, ℕ, zero, suc, List, [], ◌∷◌, ◌++◌, length, refl, ap, sym, subst}
 use Rattle.std.proofs.Common.{arith}
 use Rattle.std.specs.Array.Iter.{array_into_iter_items, array_steps}
@@ -28,8 +29,8 @@ use Rattle.lite_source.specs.declared.iter.Iter.{Iter}
 use Rattle.lite_source.specs.declared.repeat.Repeat.{Repeat}
 use Rattle.lite_stream.specs.EachItem.{items_in}
 use Rattle.lite_views.specs.Iterators.{GivesAll}
-use Rattle.lite_views.specs.Views.{EachIs, Fits, Fronts, Lists}
-use Rattle.lite_views.specs.Laws.Views.{seen}
+use Rattle.lite_views.specs.Views.{EachIs, Fits, Fronts, Lists, ListsAs, Seen, GoesOn}
+use Rattle.lite_views.specs.Laws.Views.{seen, listed}
 
 -- the items before the first end
 abbrev items_ahead : {A : Type 0} → List (Answer A) → List A
@@ -188,38 +189,50 @@ range_gives x n e = (
     stays i j k y g h = let a = g.0 in let b = g.1.0 in let c = g.1.1 in let d = h.1.0 in omega (arith, a, b, c, d)
 
 -- `script`, and `once`
-pub scripted_fits : {A : Type 0} (x l y : List (Answer A)) → GivesScript x l y → Fits l (items_in (until_end x))
-scripted_fits {A} x [] y h = tt
-scripted_fits {A} [] (a ∷ l) y h = subst (λ (b : Answer A). Fits (b ∷ l) []) (sym h.0) refl
-scripted_fits {A} (Pending ∷ x) (a ∷ l) y h =
-    subst (λ (b : Answer A). Fits (b ∷ l) (items_in (until_end x))) (sym h.0) (scripted_fits x l y h.1)
-scripted_fits {A} (Ready None ∷ x) (a ∷ l) y h = subst (λ (b : Answer A). Fits (b ∷ l) []) (sym h.0) refl
-scripted_fits {A} (Ready (Some z) ∷ x) (a ∷ l) y h =
-    subst (λ (b : Answer A). Fits (b ∷ l) (z ∷ items_in (until_end x))) (sym h.0) (refl, scripted_fits x l y h.1)
+scripted_fits : {A : Type 0} (x l y : List (Answer A)) → GivesScript x l y → Fits l (items_in (until_end x))
+scripted_fits x [] y h = tt
+scripted_fits [] (a ∷ l) y h = rw h.0 refl
+scripted_fits (Pending ∷ x) (a ∷ l) y h = rw h.0 (scripted_fits x l y h.1)
+scripted_fits (Ready None ∷ x) (a ∷ l) y h = rw h.0 refl
+scripted_fits (Ready (Some z) ∷ x) (a ∷ l) y h = rw h.0 (refl, scripted_fits x l y h.1)
 
-pub scripted_fronts : {A : Type 0} (x l y : List (Answer A)) → GivesScript x l y → Front (items_in l) (items_in x)
-scripted_fronts {A} x [] y h = (items_in x, refl)
-scripted_fronts {A} [] (a ∷ l) y h =
-    subst (λ (b : Answer A). Front (items_in (b ∷ l)) []) (sym h.0) (scripted_fronts [] l y h.1)
-scripted_fronts {A} (Pending ∷ x) (a ∷ l) y h =
-    subst (λ (b : Answer A). Front (items_in (b ∷ l)) (items_in x)) (sym h.0) (scripted_fronts x l y h.1)
-scripted_fronts {A} (Ready None ∷ x) (a ∷ l) y h =
-    subst (λ (b : Answer A). Front (items_in (b ∷ l)) (items_in x)) (sym h.0) (scripted_fronts x l y h.1)
-scripted_fronts {A} (Ready (Some z) ∷ x) (a ∷ l) y h =
-    subst (λ (b : Answer A). Front (items_in (b ∷ l)) (z ∷ items_in x)) (sym h.0)
-    (let rest = scripted_fronts x l y h.1 in (rest.0, ap (λ k. z ∷ k) rest.1))
+scripted_fronts : {A : Type 0} (x l y : List (Answer A)) → GivesScript x l y → Front (items_in l) (items_in x)
+scripted_fronts x [] y h = (items_in x, refl)
+scripted_fronts [] (a ∷ l) y h = rw h.0 (scripted_fronts [] l y h.1)
+scripted_fronts (Pending ∷ x) (a ∷ l) y h = rw h.0 (scripted_fronts x l y h.1)
+scripted_fronts (Ready None ∷ x) (a ∷ l) y h = rw h.0 (scripted_fronts x l y h.1)
+scripted_fronts (Ready (Some z) ∷ x) (a ∷ l) y h =
+    let rest = scripted_fronts x l y h.1 in rw h.0 (rest.0, ap (λ k. z ∷ k) rest.1)
+
+pub script_lists : {A : Type 0} (x : List (Answer A)) → ListsAs GivesScript x (items_in (until_end x))
+script_lists x = listed GivesScript x (items_in (until_end x)) (scripted_fits x)
+
+pub script_fronts : {A : Type 0} (x : List (Answer A)) → Fronts GivesScript x (items_in x)
+unfolding Fronts
+script_fronts x l y h = scripted_fronts x l y h
+
+pub once_lists : {A : Type 0} (x : A) → ListsAs GivesOnce (record { value = Some x }) (x ∷ [])
+once_lists x =
+    listed GivesOnce (record { value = Some x }) (x ∷ []) (λ l y h. scripted_fits (once_left (Some x)) l (once_left y.value) h)
+
+pub once_fronts : {A : Type 0} (x : A) → Fronts GivesOnce (record { value = Some x }) (x ∷ [])
+unfolding Fronts
+once_fronts x l y h = scripted_fronts (once_left (Some x)) l (once_left y.value) h
 
 -- `empty`
-pub ended_fits : {S A : Type 0} (s t : S) (l : List (Answer A)) → Unchanging (λ (_ : S) a. a ≡ end) s l t → Fits l []
-ended_fits {A = A} s t [] h = tt
-ended_fits {A = A} s t (a ∷ l) h = subst (λ (b : Answer A). Fits (b ∷ l) []) (sym h.0.0) refl
+pub empty_lists : {S A : Type 0} (x : S) → ListsAs {A = A} (Unchanging (λ _ a. a ≡ end)) x []
+empty_lists x = listed (Unchanging (λ _ a. a ≡ end)) x [] (λ l y h. ended_fits l h.0)
+  where
+    ended_fits : {A : Type 0} (l : List (Answer A)) → AllByRecursion (λ a. a ≡ end) l → Fits l []
+    ended_fits [] h = tt
+    ended_fits (a ∷ l) h = rw h.0 refl
 
 -- `repeat`, of an item whose clones equal it and are not refused
-pub cloned_goes_on : {A E : Type 0} (is_clone : A → A → Type 0) (is_infallible : A → Type 0) (x y : Repeat A)
-    (l : List (Answer (Result A E)))
-    → is_infallible x.item → ((v : A) → is_clone x.item v → v ≡ x.item) → Repeats is_clone is_infallible x l y
-    → EachIs (Ok x.item) l
-cloned_goes_on {A} {E} is_clone is_infallible x y l never equal h = each l h.0
+pub repeated_on : {A : Type 0} (E : Type 0) (is_clone : A → A → Type 0) (is_infallible : A → Type 0) (x : Repeat A)
+    → is_infallible x.item → ((v : A) → is_clone x.item v → v ≡ x.item)
+    → Seen {Y = Result A E} x (Ok x.item) × GoesOn (Repeats {E = E} is_clone is_infallible) x (Ok x.item)
+unfolding GoesOn
+repeated_on {A} E is_clone is_infallible x never equal = (seen x (Ok x.item), λ l y h. each l h.0)
   where
     each : (l : List (Answer (Result A E))) → AllByRecursion (IsCloned is_clone is_infallible x.item) l
         → EachIs (Ok x.item) l

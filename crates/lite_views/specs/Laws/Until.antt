@@ -1,18 +1,16 @@
 -- `read_until` and `read_line` of a reader of which it is known what bytes are to come.
+use Rattle.std.proofs.Math.Seq.{take-length, drop-length}
 use Rattle.std.proofs.Common.{◌≡◌, ◌∙◌, ℕ, List, [], ◌∷◌, ◌++◌, length, take, drop, refl, ap, sym, subst, append_assoc}
 use Rattle.std.proofs.Common.{append-nil, take-append-drop}
 use Rattle.std.specs.Prelude.{⊤, Result, Ok, Err, IfOk}
 use Rattle.std.specs.List.{FoldsTo}
 use Rattle.std.specs.declared.io.Error.{Error}
-use Rattle.futures.specs.declared.task.Poll.{Poll}
-use Rattle.lite_base.specs.Answers.{Gives}
 use Rattle.lite_io_base.specs.Known.{TellsKnown}
 use Rattle.lite_io_base.specs.Marks.{ReadMark}
 use Rattle.lite_read.specs.Pieces.{Cut, CutsPiece}
 use Rattle.lite_read.specs.ReadUntil.{CountsPiece, until}
-use Rattle.lite_read.specs.ReadFold.{ReadFolds}
 use Rattle.lite_read.specs.Texts.{Reading, in_text}
-use Rattle.lite_views.specs.Laws.Futures.{TakenUp, taken_up}
+use Rattle.lite_views.specs.Laws.Futures.{TakenUp}
 use Rattle.lite_views.specs.Laws.Streams.{equal, not_equal}
 use Rattle.lite_views.specs.Laws.Texts.{under_text}
 use Rattle.lite_views.specs.Pieces.{behind, through_first}
@@ -65,43 +63,28 @@ module _ (at : ℕ) where
         end.2,
       )
 
-front_of : (xs : List ℕ) → take (length xs) xs ≡ xs
-front_of [] = refl
-front_of (x ∷ xs) = ap (λ z. x ∷ z) (front_of xs)
-
-none_behind : (xs : List ℕ) → drop (length xs) xs ≡ []
-none_behind [] = refl
-none_behind (x ∷ xs) = none_behind xs
-
 -- `read_until`
-pub read_piece : (at : ℕ) (v : Result ℕ Error) (out : List (Poll (Result ℕ Error))) (old new bs ys : List ℕ)
-    (marks : List ReadMark)
-    → ReadFolds (until at ⊤) (drop (length old) old) marks out (drop (length old) new)
-    → take (length old) new ≡ take (length old) old → TellsKnown bs marks ys
-    → Gives out v
+pub read_piece : (at : ℕ) (v : Result ℕ Error) (old new bs ys : List ℕ)
+    → TakenUp (until at ⊤) (drop (length old) old) bs ys v (drop (length old) new)
+    → take (length old) new ≡ take (length old) old
     → IfOk v (λ n. (new ≡ old ++ through_first at bs) × (n ≡ length (through_first at bs)) × (ys ≡ behind at bs))
-read_piece at (Ok n) out old new bs ys marks g before s v =
-    let up = taken_up (until at ⊤) out (Ok n) (drop (length old) old) (drop (length old) new) bs ys marks g s v in
-    let r = until_read at n (drop (length old) old) (drop (length old) new) bs ys up in
-    let piece : drop (length old) new ≡ through_first at bs = r.0
-    ∙ ap (λ z. z ++ through_first at bs) (none_behind old) in
-    let kept : take (length old) new ≡ old = before ∙ front_of old in (
-      sym (take-append-drop (length old) new) ∙ ap (λ z. z ++ drop (length old) new) kept ∙ ap (λ z. old ++ z) piece,
-      r.2
-          ∙ ap length piece,
+read_piece at (Ok n) old new bs ys t before =
+    let r = until_read at n (drop (length old) old) (drop (length old) new) bs ys t in
+    let piece : drop (length old) new ≡ through_first at bs = rw drop-length at r.0 in
+    let kept : take (length old) new ≡ old = before ∙ take-length old in (
+      sym (take-append-drop (length old) new) ∙ rw (kept, piece) refl,
+      r.2 ∙ ap length piece,
       r.1,
     )
-read_piece at (Err e) out old new bs ys marks g before s v = tt
+read_piece at (Err e) old new bs ys t before = tt
 
 -- `read_line`
-pub read_text_line : (v : Result ℕ Error) (out : List (Poll (Result ℕ Error))) (p q : Reading) (before bs ys : List ℕ)
-    (marks : List ReadMark)
-    → ReadFolds (in_text (until 10 ⊤)) p marks out q → TellsKnown bs marks ys → Gives out v → p.read ≡ []
-    → p.text ≡ before
-    → IfOk v (λ n. (q.text ≡ before ++ through_first 10 bs) × (n ≡ length (through_first 10 bs)) × (ys ≡ behind 10 bs))
-read_text_line (Ok n) out p q before bs ys marks g s v none from =
-    let r = under_text (until 10 ⊤) n out p q bs ys marks g s v in
+pub read_text_line : (v : Result ℕ Error) (p q : Reading) (bs ys : List ℕ)
+    → TakenUp (in_text (until 10 ⊤)) p bs ys v q → p.read ≡ []
+    → IfOk v (λ n. (q.text ≡ p.text ++ through_first 10 bs) × (n ≡ length (through_first 10 bs)) × (ys ≡ behind 10 bs))
+read_text_line (Ok n) p q bs ys t none =
+    let r = under_text (until 10 ⊤) n p q bs ys t in
     let u = until_read 10 n p.read r.0 bs ys r.1 in
-    let line : r.0 ≡ through_first 10 bs = u.0 ∙ ap (λ z. z ++ through_first 10 bs) none in
-    (r.2 ∙ ap (λ z. z ++ r.0) from ∙ ap (λ z. before ++ z) line, u.2 ∙ ap length line, u.1)
-read_text_line (Err e) out p q before bs ys marks g s v none from = tt
+    let line : r.0 ≡ through_first 10 bs = u.0 ∙ rw none refl in
+    (rw (← line) r.2, u.2 ∙ ap length line, u.1)
+read_text_line (Err e) p q bs ys t none = tt

@@ -1,4 +1,5 @@
 -- The futures that write to a writer of which it is known what it keeps.
+use Rattle.lite_write.specs.declared.write_all.WriteAllFuture.{WriteAllFuture}
 use Rattle.std.proofs.Common.{◌≡◌, ◌∙◌, ◌+◌, ◌%◌, ◌^◌, ℕ, List, [], ◌∷◌, ◌++◌, length, map, refl, ap, sym, subst, arith}
 use Rattle.std.proofs.Common.{append_assoc, append-nil}
 use Rattle.std.specs.Prelude.{⊤, Result, Ok, Err, IfOk}
@@ -20,7 +21,7 @@ use Rattle.lite_io_base.specs.Laws.Stored.{stores_kept}
 use Rattle.lite_io_base.specs.Marks.{ReadMark}
 use Rattle.lite_io_base.specs.Takings.{WriteMark, bytes_in, bytes_taken}
 use Rattle.lite_write.specs.Hands.{Hands}
-use Rattle.lite_write.specs.WriteAll.{Ended, HandsMarks, HandsOver}
+use Rattle.lite_write.specs.WriteAll.{Ended, HandsMarks, HandsOver, WritesAll}
 use Rattle.lite_views.specs.Laws.Futures.{when_left}
 use Rattle.lite_views.specs.Waiting.{WhenLeft}
 
@@ -70,13 +71,23 @@ all_handed (Ready r ∷ out) offered left marks u h g =
     ∙ sym (handed_bytes w.taken offered w.between w.folds)
 
 -- `write_all`
-pub all_written : (v : Result (Unit {0}) Error) (out : List (Poll (Result (Unit {0}) Error)))
+all_written : (v : Result (Unit {0}) Error) (out : List (Poll (Result (Unit {0}) Error)))
     (offered left before after : List ℕ) (marks : List WriteMark)
     → HandsOver offered marks out left → Gives out v → after ≡ before ++ bytes_taken marks
     → IfOk v (λ u. after ≡ before ++ offered)
-all_written (Ok u) out offered left before after marks h g k =
-    k ∙ ap (λ z. before ++ z) (all_handed out offered left marks u h g)
+all_written (Ok u) out offered left before after marks h g k = k ∙ rw (all_handed out offered left marks u h g) refl
 all_written (Err e) out offered left before after marks h g k = tt
+
+pub written_left : {W E : Type 0} (writes : Runs WriteMark W) (stored : Stored W) (x : WriteAllFuture W)
+    → Stores writes stored x.writer.now
+    → WhenLeft E (WritesAll writes) x (λ y. y.writer.ghost_name ≡ x.writer.ghost_name)
+    (λ y r. IfOk r (λ u. stored.kept y.writer.now ≡ stored.kept x.writer.now ++ x.buf.now))
+written_left writes stored x stores =
+    when_left (WritesAll writes) x (λ y. y.writer.ghost_name ≡ x.writer.ghost_name)
+    (λ y r. IfOk r (λ u. stored.kept y.writer.now ≡ stored.kept x.writer.now ++ x.buf.now)) refl
+    (λ ins y ran. ap (λ r. r.ghost_name) ran.stays)
+    (λ ins y v gives ran. all_written v ins x.buf.now y.buf.now (stored.kept x.writer.now) (stored.kept y.writer.now)
+    ran.marks ran.handed gives (stores_kept writes stored x.writer.now y.writer.now ran.marks stores ran.came))
 
 one_value : {A : Type 0} (out : List (Poll A)) (v : A) → Gives out v → strip out ≡ v ∷ []
 one_value [] v g = absurd g
