@@ -176,29 +176,40 @@ nth_value run x xs lists =
     only_made (fold_of (λ m. m.n) nths) (Lent run) x xs (slice_get xs x.folder.n) (lent_lists run x.stream xs lists)
     (nth_made (λ m. m.n) x.folder xs)
 
+-- A fold that asks a closure about each item, and goes on or decides by its answer: `made` is what comes of the items.
+module _ {M F A O R : Type 0} (fold : Fold M A R) (f_of : M → F) (call : Question F A O) (f : F) (h : A → O)
+    (acts : AnswersAs call f h) (made : List A → R)
+    (none : (p q : M) (r : R) → fold.closes p r q → r ≡ made [])
+    (goes : (p q : M) (x : A) (xs : List A) → fold.asks p x None q
+    → (o : O) × call (f_of p) x o (f_of q) × (h x ≡ o → made (x ∷ xs) ≡ made xs))
+    (stops : (p q : M) (x : A) (r : R) (xs : List A) → fold.asks p x (Some r) q
+    → (o : O) × call (f_of p) x o (f_of q) × (h x ≡ o → made (x ∷ xs) ≡ r)) where
+  asked_made : (p : M) (xs : List A) → f_of p ≡ f → MakesOnly fold p xs (made xs)
+  asked_made p [] e v (q, s) = none p q v s
+  asked_made p (x ∷ xs) e v (inl (q, s, more)) =
+      let g = goes p q x xs s in
+      let a = answered call f h acts (f_of p) (f_of q) x g.0 e g.1 in rw (g.2 a.1) (asked_made q xs a.0 v more)
+  asked_made p (x ∷ xs) e v (inr (q, s)) =
+      let g = stops p q x v xs s in
+      let a = answered call f h acts (f_of p) (f_of q) x g.0 e g.1 in sym (g.2 a.1)
+
 -- `all`, `any`, `find`, `position`
 module _ {N F A : Type 0} (f_of : N → F) (asked : Question F A Bool) (f : F) (test : A → Bool)
     (acts : AnswersAs asked f test) where
   pub all_made : (p : N) (xs : List A) → f_of p ≡ f → MakesOnly (fold_of f_of (alls asked)) p xs (list_all test xs)
-  all_made p [] e v (q, s) = s.0
-  all_made p (x ∷ xs) e v (inl (q, s, more)) =
-      let a = answered asked f test acts (f_of p) (f_of q) x true e s in rw a.1 (all_made q xs a.0 v more)
-  all_made p (x ∷ xs) e v (inr (q, s)) =
-      let a = answered asked f test acts (f_of p) (f_of q) x false e s.1 in rw a.1 s.0
+  all_made =
+      asked_made (fold_of f_of (alls asked)) f_of asked f test acts _ (λ p q r s. s.0)
+      (λ p q x xs s. (true, s, λ e. rw e refl)) (λ p q x r xs s. (false, s.1, λ e. rw (e, s.0) refl))
 
   pub any_made : (p : N) (xs : List A) → f_of p ≡ f → MakesOnly (fold_of f_of (anys asked)) p xs (list_any test xs)
-  any_made p [] e v (q, s) = s.0
-  any_made p (x ∷ xs) e v (inl (q, s, more)) =
-      let a = answered asked f test acts (f_of p) (f_of q) x false e s in rw a.1 (any_made q xs a.0 v more)
-  any_made p (x ∷ xs) e v (inr (q, s)) =
-      let a = answered asked f test acts (f_of p) (f_of q) x true e s.1 in rw a.1 s.0
+  any_made =
+      asked_made (fold_of f_of (anys asked)) f_of asked f test acts _ (λ p q r s. s.0)
+      (λ p q x xs s. (false, s, λ e. rw e refl)) (λ p q x r xs s. (true, s.1, λ e. rw (e, s.0) refl))
 
   pub find_made : (p : N) (xs : List A) → f_of p ≡ f → MakesOnly (fold_of f_of (finds asked)) p xs (find test xs)
-  find_made p [] e v (q, s) = s.0
-  find_made p (x ∷ xs) e v (inl (q, s, more)) =
-      let a = answered asked f test acts (f_of p) (f_of q) x false e s in rw a.1 (find_made q xs a.0 v more)
-  find_made p (x ∷ xs) e v (inr (q, s)) =
-      let a = answered asked f test acts (f_of p) (f_of q) x true e s.1 in rw a.1 s.0
+  find_made =
+      asked_made (fold_of f_of (finds asked)) f_of asked f test acts _ (λ p q r s. s.0)
+      (λ p q x xs s. (false, s, λ e. rw e refl)) (λ p q x r xs s. (true, s.1, λ e. rw (e, s.0) refl))
 
   position_later : (x : A) (xs : List A) → test x ≡ false → position test (x ∷ xs) ≡ option_map suc (position test xs)
   position_later x xs h =

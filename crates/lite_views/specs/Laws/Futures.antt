@@ -1,5 +1,5 @@
 -- The futures that read from a reader of which it is known what bytes are to come.
-use Rattle.std.proofs.Common.{◌≡◌, ◌∙◌, ◌+◌, ℕ, List, [], ◌∷◌, ◌++◌, length, ap, sym, subst, arith, append_assoc}
+use Rattle.std.proofs.Common.{◌≡◌, ◌+◌, ℕ, List, [], ◌∷◌, ◌++◌, length, ap, sym, subst, arith, append_assoc}
 use Rattle.std.proofs.Common.{append-nil, length-append}
 use Rattle.std.specs.Prelude.{⊤, Result, Ok, Err, IfOk}
 use Rattle.std.specs.List.{FoldsTo}
@@ -24,7 +24,7 @@ pub when_left : {F A E : Type 0} (run : Runs (Poll A) F) (f : F) (P : F → Type
     → ((ins : List (Poll A)) (g : F) (v : A) → Gives ins v → run f ins g → Q g v) → WhenLeft E run f P Q
 unfolding LeftAs
 when_left run f P Q here kept value (Ok v) g h = (left_seen f (Ok v) g, kept h.0.0 g h.0.2, value h.0.0 g v h.0.1 h.0.2)
-when_left run f P Q here kept value (Err e) g h = (left_seen f (Err e) g, subst P (sym h.1) here, tt)
+when_left run f P Q here kept value (Err e) g h = (left_seen f (Err e) g, rw h.1 here, tt)
 
 -- a value was given: some of the bytes that are to come were taken in, and then what is told gave it
 pub record TakenUp {M R : Type 0} (fold : ReadFold M R) (p : M) (bs ys : List ℕ) (v : R) (q : M) : Type 0 where
@@ -42,7 +42,7 @@ pub taken_up : {M R : Type 0} (fold : ReadFold M R) (out : List (Poll R)) (v : R
     → TakenUp fold p bs ys v q
 taken_up fold [] v p q bs ys marks g s e = absurd e
 taken_up fold (Pending ∷ out) v p q bs ys marks ((first, rest, m, cut, w, more), up) s e =
-    let parts = spends_split bs ys first rest (subst (λ l. TellsKnown bs l ys) cut s) in
+    let parts = spends_split bs ys first rest (rw cut at s) in
     let one = spends_split bs parts.0 (bytes w.taken) w.last (subst (λ l. TellsKnown bs l parts.0) w.cut parts.1) in
     let none : parts.0 ≡ one.0 = subst (λ l. TellsKnown one.0 l parts.0) w.given.0 one.2 in
     let next = taken_up fold out v m q parts.0 ys rest (more, up) parts.2 e in
@@ -51,16 +51,15 @@ taken_up fold (Pending ∷ out) v p q bs ys marks ((first, rest, m, cut, w, more
       rest = next.rest;
       last = next.last;
       between = next.between;
-      came = spends_bytes w.taken bs one.0 one.1 ∙ ap (λ z. w.taken ++ z) (sym none ∙ next.came)
-          ∙ sym (append_assoc w.taken next.taken next.rest);
+      came = rw (append_assoc w.taken next.taken next.rest, ← next.came, none) (spends_bytes w.taken bs one.0 one.1);
       folds = folds_follow fold.takes p m next.between w.taken next.taken
-          (subst (FoldsTo fold.takes p w.taken) (sym w.given.2) w.folds) next.folds;
+          (rw w.given.2 w.folds) next.folds;
       told = next.told;
       given = next.given;
     }
 taken_up fold (Ready r ∷ out) v p q bs ys marks g s e =
     let w = to_value_last (AnswerMarks fold) p q marks r out g in
-    let one = spends_split bs ys (bytes w.taken) w.last (subst (λ l. TellsKnown bs l ys) w.cut s) in
+    let one = spends_split bs ys (bytes w.taken) w.last (rw w.cut at s) in
     record {
       taken = w.taken;
       rest = one.0;

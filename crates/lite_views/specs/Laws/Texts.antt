@@ -1,12 +1,17 @@
 -- The futures that read a text from a reader of which it is known what bytes are to come.
+use Rattle.lite_io_base.specs.Marks.{ReadMark}
+use Rattle.lite_views.specs.Waiting.{WhenLeft}
+use Rattle.lite_read.specs.Holding.{TextOver, TextStays}
+use Rattle.lite_base.specs.Runs.{Runs}
+use Rattle.lite_io_base.specs.Known.{Known, Knows}
 use Rattle.std.proofs.Common.{◌≡◌, ◌∙◌, ℕ, List, [], ◌∷◌, ◌++◌, length, inl, inr, ap, sym, arith, refl}
 use Rattle.std.specs.Prelude.{⊤, Result, Ok, Err, IfOk}
 use Rattle.std.specs.List.{FoldsTo}
 use Rattle.std.specs.declared.io.Error.{Error}
 use Rattle.lite_read.specs.ReadFold.{ReadFold}
 use Rattle.lite_read.specs.ReadToEnd.{appends}
-use Rattle.lite_read.specs.Texts.{AppendsText, Reading, ValueOf, in_text}
-use Rattle.lite_views.specs.Laws.Futures.{TakenUp, all_appended}
+use Rattle.lite_read.specs.Texts.{AppendsText, Reading, ValueOf, in_text, reading, ReadsText}
+use Rattle.lite_views.specs.Laws.Futures.{TakenUp, all_appended, gathered_left}
 
 module _ (fold : ReadFold (List ℕ) (Result ℕ Error)) where
   folds_under : (xs : List ℕ) (p q : Reading) → FoldsTo (in_text fold).takes p xs q
@@ -40,6 +45,20 @@ module _ (fold : ReadFold (List ℕ) (Result ℕ Error)) where
         },
         rw (← f.1) end.1,
       )
+
+-- a future that reads for a text: its references stay, and Q holds wherever a value was given
+pub text_left : {X R A E : Type 0} (over : TextOver X R A) (fold : ReadFold (List ℕ) (Result ℕ Error))
+    (reads : Runs ReadMark R) (known : Known R) (Q : X → Result ℕ Error → Type 0) (x : X)
+    → Knows reads known (over.reader x).now
+    → ((y : X) (v : Result ℕ Error) → TakenUp (in_text fold) (reading over x) (known.left (over.reader x).now)
+    (known.left (over.reader y).now) v (reading over y) → Q y v)
+    → WhenLeft E (ReadsText over fold reads) x (λ y. ((over.text y).ghost_name ≡ (over.text x).ghost_name)
+    × ((over.reader y).ghost_name ≡ (over.reader x).ghost_name)) Q
+text_left over fold reads known Q x knows value =
+    gathered_left (λ y. (over.reader y).now) (reading over) (λ y. in_text fold) (TextStays over) reads known
+    (λ y. ((over.text y).ghost_name ≡ (over.text x).ghost_name)
+    × ((over.reader y).ghost_name ≡ (over.reader x).ghost_name)) Q x knows (refl, refl)
+    (λ y s. rw (s.text, s.reader) (refl, refl)) (λ y v s. value y v)
 
 -- `read_to_string`
 pub all_read_text : (v : Result ℕ Error) (p q : Reading) (bs ys : List ℕ)

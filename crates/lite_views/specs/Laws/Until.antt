@@ -1,6 +1,6 @@
 -- `read_until` and `read_line` of a reader of which it is known what bytes are to come.
 use Rattle.std.proofs.Math.Seq.{take-length, drop-length}
-use Rattle.std.proofs.Common.{◌≡◌, ◌∙◌, ℕ, List, [], ◌∷◌, ◌++◌, length, take, drop, refl, ap, sym, subst, append_assoc}
+use Rattle.std.proofs.Common.{◌≡◌, ◌∙◌, ℕ, List, [], ◌∷◌, ◌++◌, length, take, drop, refl, ap, sym, append_assoc}
 use Rattle.std.proofs.Common.{append-nil, take-append-drop}
 use Rattle.std.specs.Prelude.{⊤, Result, Ok, Err, IfOk}
 use Rattle.std.specs.List.{FoldsTo}
@@ -23,31 +23,17 @@ module _ (at : ℕ) where
   taken_until (x ∷ xs) p q rest (r, t, more) =
       let next = taken_until xs r q rest more in
       let other = not_equal x at t.0 in
-      (next.0 ∙ ap (λ z. z ++ xs) t.1 ∙ append_assoc p (x ∷ []) xs, rw other (ap (λ z. x ∷ z) next.1), rw other next.2)
+      (rw (← append_assoc p (x ∷ []) xs, ← t.1) next.0, rw (other, next.1) refl, rw other next.2)
 
   cut_until : (c : Cut) (n : ℕ) (held after bs ys : List ℕ) (last : List ReadMark) → CutsPiece at ⊤ held last c
       → CountsPiece at c held (Ok n) after → TellsKnown bs last ys
       → (after ≡ held ++ through_first at bs) × (ys ≡ behind at bs) × (n ≡ length after)
   cut_until (Cut.piece xs) n held after bs ys last c k s =
-      let s = subst (λ m. TellsKnown bs m ys) c.0 s in
-      let same = equal at in
-      let front : through_first at bs ≡ at ∷ [] = ap (through_first at) s.1 ∙ rw same refl in
-      let rest : behind at bs ≡ s.0 = ap (behind at) s.1 ∙ rw same refl in
-      (k.0 ∙ ap (λ z. z ++ at ∷ []) c.1 ∙ ap (λ z. held ++ z) (sym front), s.2 ∙ sym rest, (let e = k.1 in cc))
+      let s = rw c.0 at s in rw (s.1, equal at) (rw c.1 at k.0, s.2, (let e = k.1 in cc))
   cut_until (Cut.last xs) n held after bs ys last c k s =
-      let s = subst (λ m. TellsKnown bs m ys) c.0 s in (
-        k.0 ∙ c.2 ∙ sym (append-nil held) ∙ ap (λ z. held ++ through_first at z) (sym s.0),
-        s.1 ∙ s.0
-            ∙ ap (behind at) (sym s.0),
-        (let e = k.1 in cc),
-      )
+      let s = rw c.0 at s in rw (s.0, append-nil) (k.0 ∙ c.2, s.1 ∙ s.0, (let e = k.1 in cc))
   cut_until Cut.nothing n held after bs ys last c k s =
-      let s = subst (λ m. TellsKnown bs m ys) c.0 s in (
-        k.0 ∙ sym c.1 ∙ sym (append-nil held) ∙ ap (λ z. held ++ through_first at z) (sym s.0),
-        s.1 ∙ s.0
-            ∙ ap (behind at) (sym s.0),
-        (let e = k.1 in cc),
-      )
+      let s = rw c.0 at s in rw (s.0, append-nil) (k.0 ∙ sym c.1, s.1 ∙ s.0, (let e = k.1 in cc))
   cut_until (Cut.failed e) n held after bs ys last c k s = absurd (let a = k.1 in cc)
 
   -- up to the first delimiter, or all where there is none
@@ -56,12 +42,8 @@ module _ (at : ℕ) where
   until_read n p q bs ys t =
       let f = taken_until t.taken p t.between t.rest t.folds in
       let g = t.given in
-      let end = cut_until g.0 n t.between q t.rest ys t.last g.1 g.2 t.told in (
-        end.0 ∙ ap (λ z. z ++ through_first at t.rest) f.0 ∙ append_assoc p t.taken (through_first at t.rest)
-            ∙ ap (λ z. p ++ z) (sym f.1) ∙ ap (λ z. p ++ through_first at z) (sym t.came),
-        end.1 ∙ sym f.2 ∙ ap (behind at) (sym t.came),
-        end.2,
-      )
+      let end = cut_until g.0 n t.between q t.rest ys t.last g.1 g.2 t.told in
+      rw (t.came, f.1, f.2, ← append_assoc p t.taken (through_first at t.rest), ← f.0) end
 
 -- `read_until`
 pub read_piece : (at : ℕ) (v : Result ℕ Error) (old new bs ys : List ℕ)

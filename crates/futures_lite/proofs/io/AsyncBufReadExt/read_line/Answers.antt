@@ -1,5 +1,5 @@
-use Rattle.std.proofs.Common.{refl}
-use Rattle.lite_views.specs.Laws.Futures.{gathered_left}
+use Rattle.lite_read.specs.ReadLine.{line_over}
+use Rattle.lite_views.specs.Laws.Texts.{text_left}
 use Rattle.lite_views.specs.Laws.Until.{read_text_line}
 use Rattle.futures_lite.proofs.io.AsyncBufReadExt.read_line.Goals as goal
 
@@ -7,5 +7,5 @@ pub returns-clause-line : goal.returns-clause-line
 returns-clause-line g c knows =
     let e = c.read_line.ensures in
     rw (← e.text, ← e.reader)
-    (gathered_left _ _ _ _ g.Self.Tale.reads g.Self.Tale.known _ _ _ (rw e.reader knows) (refl, refl)
-    (λ y s. rw (s.text, s.reader) (refl, refl)) (λ y v s t. read_text_line v _ _ _ _ t e.empty))
+    (text_left line_over _ g.Self.Tale.reads g.Self.Tale.known _ _ (rw e.reader knows)
+    (λ y v t. read_text_line v _ _ _ _ t e.empty))
