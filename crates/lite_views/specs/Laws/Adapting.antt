@@ -1,4 +1,5 @@
 -- The items of an adapter, by those of its source.
+use Rattle.lite_views.specs.Laws.Streams.{not_equal}
 use Rattle.lite_reshape.specs.declared.step_by.StepBy.{StepBy}
 use Rattle.lite_reshape.specs.declared.skip.Skip.{Skip}
 use Rattle.lite_stream.specs.declared.fuse.Fuse.{Fuse}
@@ -7,7 +8,7 @@ use Rattle.lite_stream.specs.declared.inspect.Inspect.{Inspect}
 use Rattle.lite_stream.specs.declared.enumerate.Enumerate.{Enumerate}
 use Rattle.std.proofs.Common.{◌≡◌, ◌≤◌, ◌<◌, ◌==◌, ◌∙◌, ℕ, zero, suc, ◌-◌, ◌+◌, ◌%◌, ◌^◌, Bor, List, [], ◌∷◌, ◌++◌}
 use Rattle.std.proofs.Common.{length, map, take, drop, inl, inr, refl, ap, replicate, sym, subst, arith}
-use Rattle.std.proofs.Common.{add-one, append-nil, eqb-true}
+use Rattle.std.proofs.Common.{add-one, append-nil}
 use Rattle.std.proofs.lemmas.List.{length-map}
 use Rattle.std.proofs.lemmas.List.FromFn.{length-enumerate_from}
 use Rattle.std.proofs.Math.Nat.{mod-add-mod, mod-eq_of_lt, zero-mod}
@@ -115,14 +116,10 @@ mapped_fits {B = B} call f h acts xs =
     always x (Some y) g c = let a = acts x y g c in (a.0, ap Some a.1)
 
 -- a test
-module _ {F A : Type 0} (asked : Question F A Bool) (f : F) (test : A → Bool) (acts : AnswersAs asked f test) where
+module _ {A : Type 0} (test : A → Bool) where
   -- the item, where it passes
   abbrev passed : A → Option A
   passed x = cond (test x) (Some x) None
-
-  accepts : AnswersAs (Accepts asked) f passed
-  accepts x None g c = let a = acts x false g c in (a.0, rw (← a.1) refl)
-  accepts x (Some y) g c = let a = acts x true g c.1 in (a.0, rw (← a.1) (ap Some c.0))
 
   filter_all : (xs : List A) → filter_map passed xs ≡ filter test xs
   filter_all [] = refl
@@ -134,21 +131,25 @@ module _ {F A : Type 0} (asked : Question F A Bool) (f : F) (test : A → Bool) 
 
   while_all : (xs : List A) → map_while passed xs ≡ take_while test xs
   while_all [] = refl
-  while_all (x ∷ xs) = by (test x) (while_all xs)
+  while_all (x ∷ xs) = by (test x) (prefix_len test xs) (while_all xs)
     where
-      by : (b : Bool) → map_while passed xs ≡ take (prefix_len test xs) xs → cons_while (cond b (Some x) None) (map_while passed xs) ≡ take (cond b (1 + prefix_len test xs) 0) (x ∷ xs)
-      by true e =
-          let n : 1 + prefix_len test xs ≡ suc (prefix_len test xs) = omega arith in
-          rw n (ap (λ l. x ∷ l) e)
-      by false e = refl
+      by : {l : List A} (b : Bool) (n : ℕ) → l ≡ take n xs
+          → cons_while (cond b (Some x) None) l ≡ take (cond b (1 + n) 0) (x ∷ xs)
+      by true n e = let one : 1 + n ≡ suc n = omega arith in rw (one, e) refl
+      by false n e = refl
+
+module _ {F A : Type 0} (asked : Question F A Bool) (f : F) (test : A → Bool) (acts : AnswersAs asked f test) where
+  accepts : AnswersAs (Accepts asked) f (passed test)
+  accepts x None g c = let a = acts x false g c in (a.0, rw (← a.1) refl)
+  accepts x (Some y) g c = let a = acts x true g c.1 in (a.0, rw (← a.1) (ap Some c.0))
 
   -- `filter`
   pub filtered_fits : (xs : List A) → Carries (LeavesOut (Accepts asked)) f xs (filter test xs)
-  filtered_fits xs = rw (← filter_all xs) (filter_mapped_fits (Accepts asked) f passed accepts xs)
+  filtered_fits xs = rw (← filter_all test xs) (filter_mapped_fits (Accepts asked) f (passed test) accepts xs)
 
   -- `take_while`
   pub taken_while_fits : (xs : List A) → Carries (Exchanges (Accepts asked)) f xs (take_while test xs)
-  taken_while_fits xs = rw (← while_all xs) (mapped_while_fits (Accepts asked) f passed accepts xs)
+  taken_while_fits xs = rw (← while_all test xs) (mapped_while_fits (Accepts asked) f (passed test) accepts xs)
 
 -- `scan`
 pub scanned_fits : {F V A B : Type 0} (call : F × V → A → Option B → F × V → Type 0) (h : V → A → V × Option B) (f : F)
@@ -163,14 +164,6 @@ scanned_fits {F} {V} {A} {B} call h f v acts xs =
         → (r.0 ≡ f) × (r.1 ≡ (h p.1 x).0) × (o ≡ (h p.1 x).1)
     again p r x o g c = acts p.1 x o r.0 r.1 (subst (λ z. call (z, p.1) x o r) g c)
 
-pub scan_fewer : {V A B : Type 0} (h : V → A → V × Option B) (s : V) (xs : List A) → length (scan h s xs) ≤ length xs
-scan_fewer h s [] = omega arith
-scan_fewer {B = B} h s (x ∷ xs) = let rest = scan_fewer h (h s x).0 xs in step (h s x).1 (scan h (h s x).0 xs) rest
-  where
-    step : (o : Option B) (ys : List B) → length ys ≤ length xs → length (cons_while o ys) ≤ length (x ∷ xs)
-    step None ys k = omega arith
-    step (Some y) ys k = omega (arith, k)
-
 -- `enumerate`
 abbrev wrapped_from : {A : Type 0} → ℕ → List A → List (ℕ × A)
 wrapped_from n [] = []
@@ -179,10 +172,8 @@ wrapped_from n (x ∷ xs) = (n, x) ∷ wrapped_from ((n + 1) % 2 ^ 64) xs
 never_wraps : {A : Type 0} (n : ℕ) (xs : List A) → n + length xs < 2 ^ 64 → wrapped_from n xs ≡ enumerate_from n xs
 never_wraps n [] h = refl
 never_wraps n (x ∷ xs) h =
-    let small : n + 1 < 2 ^ 64 = omega (arith, h) in
-    let next : (n + 1) % 2 ^ 64 ≡ n + 1 = mod-eq_of_lt small in
-    let rest : n + 1 + length xs < 2 ^ 64 = omega (arith, h) in
-    ap (λ l. (n, x) ∷ l) (ap (λ k. wrapped_from k xs) next ∙ never_wraps (n + 1) xs rest)
+    let next : (n + 1) % 2 ^ 64 ≡ n + 1 = mod-eq_of_lt (omega (arith, h)) in
+    rw next (ap (λ l. (n, x) ∷ l) (never_wraps (n + 1) xs (omega (arith, h))))
 
 pub enumerated_lists : {S A : Type 0} (run : Runs (Answer A) S) (x : Enumerate S) (xs : List A) → x.i ≡ 0
     → length xs < 2 ^ 64 → Lists run x.stream xs → ListsAs (Enumerates run) x (enumerate_from 0 xs)
@@ -390,11 +381,7 @@ skipped_while_fits {F} {A} asked f test acts xs =
 -- `step_by`
 module _ {A : Type 0} (step : ℕ) where
   left_out : (n : ℕ) (x : A) (l : List A) → (n % step ≡ 0 → ⊥) → step_from step n (x ∷ l) ≡ step_from step (n + 1) l
-  left_out n x l h = by (n % step == 0) refl
-    where
-      by : (b : Bool) → (n % step == 0) ≡ b → step_from step n (x ∷ l) ≡ step_from step (n + 1) l
-      by true e = absurd (h (eqb-true (n % step) 0 e))
-      by false e = rw e refl
+  left_out n x l h = rw (not_equal (n % step) 0 h) refl
 
   kept_on : (n : ℕ) (x : A) (l : List A) → n % step ≡ 0 → step_from step n (x ∷ l) ≡ x ∷ step_from step (n + 1) l
   kept_on n x l h = rw h refl
@@ -403,18 +390,13 @@ module _ {A : Type 0} (step : ℕ) where
   from_multiple : (n k : ℕ) (xs : List A) → n % step ≡ k % step → step_from step n xs ≡ step_from step k xs
   from_multiple n k [] h = refl
   from_multiple n k (x ∷ xs) h =
-      let next : (n + 1) % step ≡ (k + 1) % step = sym (mod-add-mod n step 1) ∙ ap (λ m. (m + 1) % step) h
-      ∙ mod-add-mod k step 1 in
-      by (n % step == 0) refl (from_multiple (n + 1) (k + 1) xs next)
+      let next : (n + 1) % step ≡ (k + 1) % step = sym (mod-add-mod n step 1) ∙ rw h (mod-add-mod k step 1) in
+      rw h (by (k % step == 0) _ _ (from_multiple (n + 1) (k + 1) xs next))
     where
-      by : (b : Bool) → (n % step == 0) ≡ b → step_from step (n + 1) xs ≡ step_from step (k + 1) xs
-          → step_from step n (x ∷ xs) ≡ step_from step k (x ∷ xs)
-      by true e rest =
-          let at = eqb-true (n % step) 0 e in
-          kept_on n x xs at ∙ ap (λ l. x ∷ l) rest ∙ sym (kept_on k x xs (sym h ∙ at))
-      by false e rest =
-          let not : n % step ≡ 0 → ⊥ = λ z. cc (sym e ∙ ap (λ m. m == 0) z) in
-          left_out n x xs not ∙ rest ∙ sym (left_out k x xs (λ z. not (h ∙ z)))
+      by : (b : Bool) (l m : List (ℕ × A)) → map (λ p. p.1) l ≡ map (λ p. p.1) m
+          → map (λ p. p.1) (cond b ((n, x) ∷ l) l) ≡ map (λ p. p.1) (cond b ((k, x) ∷ m) m)
+      by true l m e = ap (λ l. x ∷ l) e
+      by false l m e = e
 
   numbered_fits : (n : ℕ) (xs : List A) → Carries (LeavesOut (Numbered step)) n xs (step_from step n xs)
   numbered_fits n xs =
@@ -435,32 +417,30 @@ pub stepped_lists : {S A : Type 0} (run : Runs (Answer A) S) (x : StepBy S) (xs 
 stepped_lists run x xs first lists =
     listed_through step_by_parts run StepsOn x xs (step_from x.step 0 xs) lists (rw first (stepped_fits x.step xs))
 
-pub filter_fewer : {A : Type 0} (test : A → Bool) (xs : List A) → length (filter test xs) ≤ length xs
-filter_fewer test [] = omega arith
-filter_fewer test (x ∷ xs) = let rest = filter_fewer test xs in choice (test x) x (filter test xs) xs rest
-  where
-    choice : {A : Type 0} (b : Bool) (x : A) (ys xs : List A) → length ys ≤ length xs
-        → length (cond b (x ∷ ys) ys) ≤ length (x ∷ xs)
-    choice true x ys xs h = omega (arith, h)
-    choice false x ys xs h = omega (arith, h)
+-- no more items come out than go in
+while_fewer : {A : Type 0} (o : Option A) (xs : List A) (n : ℕ) → length xs ≤ n → length (cons_while o xs) ≤ suc n
+while_fewer None xs n h = omega arith
+while_fewer (Some x) xs n h = omega arith
 
-pub filter_map_fewer : {A B : Type 0} (h : A → Option B) (xs : List A) → length (filter_map h xs) ≤ length xs
-filter_map_fewer h [] = omega arith
-filter_map_fewer h (x ∷ xs) = let rest = filter_map_fewer h xs in choice (h x) (filter_map h xs) xs rest
-  where
-    choice : {A B : Type 0} (o : Option B) (ys : List B) (xs : List A) → length ys ≤ length xs
-        → length (cons_option o ys) ≤ suc (length xs)
-    choice None ys xs e = omega (arith, e)
-    choice (Some y) ys xs e = omega (arith, e)
+option_fewer : {A : Type 0} (o : Option A) (xs : List A) (n : ℕ) → length xs ≤ n → length (cons_option o xs) ≤ suc n
+option_fewer None xs n h = omega arith
+option_fewer (Some x) xs n h = omega arith
+
+pub scan_fewer : {V A B : Type 0} (h : V → A → V × Option B) (s : V) (xs : List A) → length (scan h s xs) ≤ length xs
+scan_fewer h s [] = omega arith
+scan_fewer h s (x ∷ xs) =
+    while_fewer (h s x).1 (scan h (h s x).0 xs) (length xs) (scan_fewer h (h s x).0 xs)
 
 pub map_while_fewer : {A B : Type 0} (h : A → Option B) (xs : List A) → length (map_while h xs) ≤ length xs
 map_while_fewer h [] = omega arith
-map_while_fewer h (x ∷ xs) = let rest = map_while_fewer h xs in choice (h x) (map_while h xs) xs rest
-  where
-    choice : {A B : Type 0} (o : Option B) (ys : List B) (xs : List A) → length ys ≤ length xs
-        → length (cons_while o ys) ≤ suc (length xs)
-    choice None ys xs e = omega arith
-    choice (Some y) ys xs e = omega (arith, e)
+map_while_fewer h (x ∷ xs) = while_fewer (h x) (map_while h xs) (length xs) (map_while_fewer h xs)
+
+pub filter_map_fewer : {A B : Type 0} (h : A → Option B) (xs : List A) → length (filter_map h xs) ≤ length xs
+filter_map_fewer h [] = omega arith
+filter_map_fewer h (x ∷ xs) = option_fewer (h x) (filter_map h xs) (length xs) (filter_map_fewer h xs)
+
+pub filter_fewer : {A : Type 0} (test : A → Bool) (xs : List A) → length (filter test xs) ≤ length xs
+filter_fewer test xs = rw (← filter_all test xs) (filter_map_fewer (passed test) xs)
 
 pub step_fewer : {A : Type 0} (step n : ℕ) (xs : List A) → length (step_from step n xs) ≤ length xs
 step_fewer step n xs =

@@ -1,4 +1,12 @@
 -- The value of a future that consumes a stream, by the items of the stream.
+use Rattle.lite_consume.specs.declared.position.Position.{Position}
+use Rattle.lite_consume.specs.declared.find.Find.{Find}
+use Rattle.lite_consume.specs.declared.any.Any.{Any}
+use Rattle.lite_consume.specs.declared.all.All.{All}
+use Rattle.lite_consume.specs.declared.try_for_each.TryForEach.{TryForEach}
+use Rattle.lite_consume.specs.declared.find_map.FindMap.{FindMap}
+use Rattle.lite_consume.specs.declared.try_fold.TryFold.{TryFold}
+use Rattle.lite_consume.specs.declared.fold.Fold.{Fold as FoldFolder}
 use Rattle.std.proofs.lemmas.List.Elements.{filter-append}
 use Rattle.std.proofs.lemmas.List.{map-append}
 use Rattle.lite_base.specs.Lent.{Lent}
@@ -93,17 +101,17 @@ module _ {M A R : Type 0} (fold : Fold M A R) where
     only_made v lists made = (refl, value_made (λ r. r ≡ v) lists made)
 
 -- `fold`
-pub fold_made : {N F T A : Type 0} (f_of : N → F) (acc_of : N → Option T) (call : F → T × A → T → F → Type 0)
+pub fold_made : {F T A : Type 0} (call : F → T × A → T → F → Type 0)
     (h : T → A → T) (f : F)
     → ((a : T) (x : A) (b : T) (g : F) → call f (a, x) b g → (g ≡ f) × (b ≡ h a x))
-    → (p : N) (a : T) (xs : List A) → f_of p ≡ f → acc_of p ≡ Some a
-    → MakesOnly (fold_of (λ m. (f_of m, acc_of m)) (folds call)) p xs (fold h a xs)
-fold_made f_of acc_of call h f acts p a [] e d v (q, s) = let k = s.0 in cc
-fold_made f_of acc_of call h f acts p a (x ∷ xs) e d v (inr (q, s)) = absurd s
-fold_made f_of acc_of call h f acts p a (x ∷ xs) e d v (inl (q, s, more)) =
+    → (p : FoldFolder F T) (a : T) (xs : List A) → p.f ≡ f → p.acc ≡ Some a
+    → MakesOnly (fold_of (λ m. (m.f, m.acc)) (folds call)) p xs (fold h a xs)
+fold_made call h f acts p a [] e d v (q, s) = let k = s.0 in cc
+fold_made call h f acts p a (x ∷ xs) e d v (inr (q, s)) = absurd s
+fold_made call h f acts p a (x ∷ xs) e d v (inl (q, s, more)) =
     let same : s.0 ≡ a = (let k = s.2 in cc) in
-    let step = acts a x s.1 (f_of q) (rw (← same, ← e) s.3) in
-    fold_made f_of acc_of call h f acts q (h a x) xs step.0 (rw (← step.1) s.4) v more
+    let step = acts a x s.1 q.f (rw (← same, ← e) s.3) in
+    fold_made call h f acts q (h a x) xs step.0 (rw (← step.1) s.4) v more
 
 -- `count`
 count_made : {N A : Type 0} (count_of : N → ℕ) (p : N) (xs : List A) (n : ℕ) → n ≡ count_of p
@@ -194,21 +202,21 @@ module _ {M F A O R : Type 0} (fold : Fold M A R) (f_of : M → F) (call : Quest
       let a = answered call f h acts (f_of p) (f_of q) x g.0 e g.1 in sym (g.2 a.1)
 
 -- `all`, `any`, `find`, `position`
-module _ {N F A : Type 0} (f_of : N → F) (asked : Question F A Bool) (f : F) (test : A → Bool)
+module _ {F A : Type 0} (asked : Question F A Bool) (f : F) (test : A → Bool)
     (acts : AnswersAs asked f test) where
-  pub all_made : (p : N) (xs : List A) → f_of p ≡ f → MakesOnly (fold_of f_of (alls asked)) p xs (list_all test xs)
+  pub all_made : (p : All F) (xs : List A) → p.predicate ≡ f → MakesOnly (fold_of (λ m. m.predicate) (alls asked)) p xs (list_all test xs)
   all_made =
-      asked_made (fold_of f_of (alls asked)) f_of asked f test acts _ (λ p q r s. s.0)
+      asked_made (fold_of (λ m. m.predicate) (alls asked)) (λ m. m.predicate) asked f test acts _ (λ p q r s. s.0)
       (λ p q x xs s. (true, s, λ e. rw e refl)) (λ p q x r xs s. (false, s.1, λ e. rw (e, s.0) refl))
 
-  pub any_made : (p : N) (xs : List A) → f_of p ≡ f → MakesOnly (fold_of f_of (anys asked)) p xs (list_any test xs)
+  pub any_made : (p : Any F) (xs : List A) → p.predicate ≡ f → MakesOnly (fold_of (λ m. m.predicate) (anys asked)) p xs (list_any test xs)
   any_made =
-      asked_made (fold_of f_of (anys asked)) f_of asked f test acts _ (λ p q r s. s.0)
+      asked_made (fold_of (λ m. m.predicate) (anys asked)) (λ m. m.predicate) asked f test acts _ (λ p q r s. s.0)
       (λ p q x xs s. (false, s, λ e. rw e refl)) (λ p q x r xs s. (true, s.1, λ e. rw (e, s.0) refl))
 
-  pub find_made : (p : N) (xs : List A) → f_of p ≡ f → MakesOnly (fold_of f_of (finds asked)) p xs (find test xs)
+  pub find_made : (p : Find F) (xs : List A) → p.predicate ≡ f → MakesOnly (fold_of (λ m. m.predicate) (finds asked)) p xs (find test xs)
   find_made =
-      asked_made (fold_of f_of (finds asked)) f_of asked f test acts _ (λ p q r s. s.0)
+      asked_made (fold_of (λ m. m.predicate) (finds asked)) (λ m. m.predicate) asked f test acts _ (λ p q r s. s.0)
       (λ p q x xs s. (false, s, λ e. rw e refl)) (λ p q x r xs s. (true, s.1, λ e. rw (e, s.0) refl))
 
   position_later : (x : A) (xs : List A) → test x ≡ false → position test (x ∷ xs) ≡ option_map suc (position test xs)
@@ -221,78 +229,77 @@ module _ {N F A : Type 0} (f_of : N → F) (asked : Question F A Bool) (f : F) (
       one_more true n = refl
       one_more false n = refl
 
-  positioned_made : (number_of : N → ℕ) (p : N) (xs : List A) → f_of p ≡ f → number_of p + length xs < 2 ^ 64
-      → MakesOnly (fold_of (λ m. (f_of m, number_of m)) (positions asked)) p xs
-      (option_map (λ k. number_of p + k) (position test xs))
-  positioned_made number_of p [] e b v (q, s) = s.0
-  positioned_made number_of p (x ∷ xs) e b v (inr (q, s)) =
-      let a = answered asked f test acts (f_of p) (f_of q) x true e s.1 in
-      let here : number_of p ≡ number_of p + 0 = omega arith in
+  positioned_made : (p : Position F) (xs : List A) → p.predicate ≡ f → p.index + length xs < 2 ^ 64
+      → MakesOnly (fold_of (λ m. (m.predicate, m.index)) (positions asked)) p xs
+      (option_map (λ k. p.index + k) (position test xs))
+  positioned_made p [] e b v (q, s) = s.0
+  positioned_made p (x ∷ xs) e b v (inr (q, s)) =
+      let a = answered asked f test acts p.predicate q.predicate x true e s.1 in
+      let here : p.index ≡ p.index + 0 = omega arith in
       let below : leb 1 (suc (length xs)) ≡ true = leb-suc-suc 0 (length xs) ∙ leb-zero (length xs) in
       s.0 ∙ rw (a.1, below) (ap (λ k. Some k) here)
-  positioned_made number_of p (x ∷ xs) e b v (inl (q, s, more)) =
-      let a = answered asked f test acts (f_of p) (f_of q) x false e s.0 in
-      let next : number_of q ≡ number_of p + 1 = (let k = s.1 in omega arith) in
-      let fits : number_of q + length xs < 2 ^ 64 = omega arith in
-      positioned_made number_of q xs a.0 fits v more ∙ from_next (number_of p) (number_of q) (position test xs) next
-      ∙ ap (option_map (λ k. number_of p + k)) (sym (position_later x xs a.1))
+  positioned_made p (x ∷ xs) e b v (inl (q, s, more)) =
+      let a = answered asked f test acts p.predicate q.predicate x false e s.0 in
+      let next : q.index ≡ p.index + 1 = (let k = s.1 in omega arith) in
+      let fits : q.index + length xs < 2 ^ 64 = omega arith in
+      positioned_made q xs a.0 fits v more ∙ from_next p.index q.index (position test xs) next
+      ∙ ap (option_map (λ k. p.index + k)) (sym (position_later x xs a.1))
     where
       from_next : (i j : ℕ) (o : Option ℕ) → j ≡ i + 1
           → option_map (λ k. j + k) o ≡ option_map (λ k. i + k) (option_map suc o)
       from_next i j None h = refl
       from_next i j (Some k) h = let e : j + k ≡ i + suc k = omega (arith, h) in ap (λ n. Some n) e
 
-  pub position_made : (number_of : N → ℕ) (p : N) (xs : List A) → f_of p ≡ f → number_of p ≡ 0 → length xs < 2 ^ 64
-      → MakesOnly (fold_of (λ m. (f_of m, number_of m)) (positions asked)) p xs (position test xs)
-  position_made number_of p xs e none small v s =
-      let fits : number_of p + length xs < 2 ^ 64 = omega arith in
-      positioned_made number_of p xs e fits v s ∙ from_zero (position test xs)
+  pub position_made : (p : Position F) (xs : List A) → p.predicate ≡ f → p.index ≡ 0 → length xs < 2 ^ 64
+      → MakesOnly (fold_of (λ m. (m.predicate, m.index)) (positions asked)) p xs (position test xs)
+  position_made p xs e none small v s =
+      let fits : p.index + length xs < 2 ^ 64 = omega arith in
+      positioned_made p xs e fits v s ∙ from_zero (position test xs)
     where
-      from_zero : (o : Option ℕ) → option_map (λ k. number_of p + k) o ≡ o
+      from_zero : (o : Option ℕ) → option_map (λ k. p.index + k) o ≡ o
       from_zero None = refl
-      from_zero (Some k) = let e : number_of p + k ≡ k = omega (arith, none) in ap (λ n. Some n) e
+      from_zero (Some k) = let e : p.index + k ≡ k = omega (arith, none) in ap (λ n. Some n) e
 
 -- `find_map`
-pub find_map_made : {N F A B : Type 0} (f_of : N → F) (call : Question F A (Option B)) (f : F) (h : A → Option B)
-    → AnswersAs call f h → (p : N) (xs : List A) → f_of p ≡ f
-    → MakesOnly (fold_of f_of (finds_map call)) p xs (slice_get (filter_map h xs) 0)
-find_map_made f_of call f h acts p [] e v (q, s) = s.0
-find_map_made f_of call f h acts p (x ∷ xs) e v (inl (q, s, more)) =
-    let a = answered call f h acts (f_of p) (f_of q) x None e s in
-    rw a.1 (find_map_made f_of call f h acts q xs a.0 v more)
-find_map_made f_of call f h acts p (x ∷ xs) e None (inr (q, s)) = absurd (cc s.0)
-find_map_made f_of call f h acts p (x ∷ xs) e (Some y) (inr (q, s)) =
-    let a = answered call f h acts (f_of p) (f_of q) x (Some y) e s.1 in rw a.1 refl
+pub find_map_made : {F A B : Type 0} (call : Question F A (Option B)) (f : F) (h : A → Option B)
+    → AnswersAs call f h → (p : FindMap F) (xs : List A) → p.f ≡ f
+    → MakesOnly (fold_of (λ m. m.f) (finds_map call)) p xs (slice_get (filter_map h xs) 0)
+find_map_made call f h acts p [] e v (q, s) = s.0
+find_map_made call f h acts p (x ∷ xs) e v (inl (q, s, more)) =
+    let a = answered call f h acts p.f q.f x None e s in
+    rw a.1 (find_map_made call f h acts q xs a.0 v more)
+find_map_made call f h acts p (x ∷ xs) e None (inr (q, s)) = absurd (cc s.0)
+find_map_made call f h acts p (x ∷ xs) e (Some y) (inr (q, s)) =
+    let a = answered call f h acts p.f q.f x (Some y) e s.1 in rw a.1 refl
 
 -- `try_for_each`
-pub try_for_each_made : {N F A E : Type 0} (f_of : N → F) (call : Question F A (Result (Unit {0}) E)) (f : F)
-    (h : A → Result (Unit {0}) E) → AnswersAs call f h → (p : N) (xs : List A) → f_of p ≡ f
-    → MakesOnly (fold_of f_of (tries_each call)) p xs (first_error (map h xs))
-try_for_each_made f_of call f h acts p [] e v (q, s) = s.0
-try_for_each_made f_of call f h acts p (x ∷ xs) e v (inl (q, s, more)) =
-    let a = answered call f h acts (f_of p) (f_of q) x (Ok tt) e s in
-    rw a.1 (try_for_each_made f_of call f h acts q xs a.0 v more)
-try_for_each_made f_of call f h acts p (x ∷ xs) e (Ok u) (inr (q, s)) = absurd (cc s.0)
-try_for_each_made f_of call f h acts p (x ∷ xs) e (Err w) (inr (q, s)) =
-    let a = answered call f h acts (f_of p) (f_of q) x (Err w) e s.1 in rw a.1 refl
+pub try_for_each_made : {F A E : Type 0} (call : Question F A (Result (Unit {0}) E)) (f : F)
+    (h : A → Result (Unit {0}) E) → AnswersAs call f h → (p : TryForEach F) (xs : List A) → p.f ≡ f
+    → MakesOnly (fold_of (λ m. m.f) (tries_each call)) p xs (first_error (map h xs))
+try_for_each_made call f h acts p [] e v (q, s) = s.0
+try_for_each_made call f h acts p (x ∷ xs) e v (inl (q, s, more)) =
+    let a = answered call f h acts p.f q.f x (Ok tt) e s in
+    rw a.1 (try_for_each_made call f h acts q xs a.0 v more)
+try_for_each_made call f h acts p (x ∷ xs) e (Ok u) (inr (q, s)) = absurd (cc s.0)
+try_for_each_made call f h acts p (x ∷ xs) e (Err w) (inr (q, s)) =
+    let a = answered call f h acts p.f q.f x (Err w) e s.1 in rw a.1 refl
 
 -- `try_fold`
-pub try_fold_made : {N F T B E : Type 0} (f_of : N → F) (acc_of : N → Option B)
-    (call : F → B × T → Result B E → F → Type 0) (h : B → T → Result B E) (f : F)
+pub try_fold_made : {F T B E : Type 0} (call : F → B × T → Result B E → F → Type 0) (h : B → T → Result B E) (f : F)
     → ((a : B) (x : T) (r : Result B E) (g : F) → call f (a, x) r g → (g ≡ f) × (r ≡ h a x))
-    → (p : N) (a : B) (xs : List (Result T E)) → f_of p ≡ f → acc_of p ≡ Some a
-    → MakesOnly (fold_of (λ m. (f_of m, acc_of m)) (tries_fold call)) p xs (try_fold h a xs)
-try_fold_made f_of acc_of call h f acts p a [] e d v (q, s) = let k = s.1 in let l = s.2 in cc
-try_fold_made f_of acc_of call h f acts p a (Ok x ∷ xs) e d v (inl (q, s, more)) =
+    → (p : TryFold F B) (a : B) (xs : List (Result T E)) → p.f ≡ f → p.acc ≡ Some a
+    → MakesOnly (fold_of (λ m. (m.f, m.acc)) (tries_fold call)) p xs (try_fold h a xs)
+try_fold_made call h f acts p a [] e d v (q, s) = let k = s.1 in let l = s.2 in cc
+try_fold_made call h f acts p a (Ok x ∷ xs) e d v (inl (q, s, more)) =
     let same : s.0 ≡ a = (let k = s.2 in cc) in
-    let step = acts a x (Ok s.1) (f_of q) (rw (← same, ← e) s.3) in
-    rw (← step.1) (try_fold_made f_of acc_of call h f acts q s.1 xs step.0 s.4 v more)
-try_fold_made f_of acc_of call h f acts p a (Ok x ∷ xs) e d v (inr (q, s)) =
+    let step = acts a x (Ok s.1) q.f (rw (← same, ← e) s.3) in
+    rw (← step.1) (try_fold_made call h f acts q s.1 xs step.0 s.4 v more)
+try_fold_made call h f acts p a (Ok x ∷ xs) e d v (inr (q, s)) =
     let same : s.0 ≡ a = (let k = s.2 in cc) in
-    let step = acts a x (Err s.1) (f_of q) (rw (← same, ← e) s.3) in
+    let step = acts a x (Err s.1) q.f (rw (← same, ← e) s.3) in
     rw (← step.1) s.4
-try_fold_made f_of acc_of call h f acts p a (Err w ∷ xs) e d v (inl (q, s, more)) = absurd s
-try_fold_made f_of acc_of call h f acts p a (Err w ∷ xs) e d v (inr (q, s)) = s.0
+try_fold_made call h f acts p a (Err w ∷ xs) e d v (inl (q, s, more)) = absurd s
+try_fold_made call h f acts p a (Err w ∷ xs) e d v (inr (q, s)) = s.0
 
 -- A future that gathers: `Has p l` says that of the items l were taken in, `Good r l` what is true of the value r that
 -- is made of the items l.

@@ -34,7 +34,7 @@ given_fits : {A : Type 0} (own l : List (Answer A)) (y : A) (ys : List A) → Gi
 given_fits [] l y ys g e = absurd g
 given_fits (Pending ∷ own) l y ys g e = given_fits own l y ys g e
 given_fits (Ready None ∷ own) l y ys g e = absurd (cc g.0)
-given_fits (Ready (Some z) ∷ own) l y ys g e = (let k = g.0 in cc, subst (λ k. Fits (k ++ l) ys) (sym g.1) e)
+given_fits (Ready (Some z) ∷ own) l y ys g e = (let k = g.0 in cc, rw g.1 e)
 
 -- where what is made of the item x gives Pendings while it is held, and before it is done the item h x
 module _ {F A V B : Type 0} (call : Question F A V) (gives : V → List (Answer B) → Option V → Type 0) (h : A → B)

@@ -8,7 +8,7 @@ use Rattle.lite_base.specs.Future.Finishes.{Finishes}
 use Rattle.lite_base.specs.Lent.{Lent}
 use Rattle.lite_base.specs.Runs.{Question, Runs}
 use Rattle.lite_stream.specs.Through.{AdapterParts, Adapts}
-use Rattle.lite_views.specs.Views.{Fits, Lists, ListsAs, Seen, ValueHolds, ValueIs, Waited}
+use Rattle.lite_views.specs.Views.{Fits, Lists, ListsAs, Seen, ValueHolds, Waited}
 
 pub seen : {X Y : Type 0} (x : X) (y : Y) → Seen x y
 unfolding Seen
@@ -19,11 +19,6 @@ pub value_holds : {F A E : Type 0} (run : Runs (Poll A) F) (f : F) (P : A → Ty
 unfolding Waited
 value_holds run f P to (Ok v) w = (seen f (Ok v), to w.0 v w.1)
 value_holds run f P to (Err e) w = (seen f (Err e), tt)
-
-pub value_is : {F A : Type 0} (run : Runs (Poll A) F) (f : F) (v : A)
-    → ((ins : List (Poll A)) (w : A) → Finishes run f ins w → w ≡ v)
-    → ValueIs run f v
-value_is run f v to = (refl, value_holds run f (λ w. w ≡ v) to)
 
 -- asked at f, it answers as h does, and leaves f as it was
 abbrev pub AnswersAs : {F A O : Type 0} → Question F A O → F → (A → O) → Type 0

@@ -7,4 +7,4 @@ use Rattle.futures_lite.proofs.stream.StreamExt.all.Goals as goal
 pub returns-clause-value : goal.returns-clause-value
 returns-clause-value g c test xs lists acts =
     rw c.all.ensures
-    (only_made _ _ _ xs _ (lent_lists _ _ xs lists) (all_made (λ m. m.predicate) (Calls g.P.FnMut) _ test acts _ xs refl))
+    (only_made _ _ _ xs _ (lent_lists _ _ xs lists) (all_made (Calls g.P.FnMut) _ test acts _ xs refl))

@@ -7,4 +7,4 @@ use Rattle.futures_lite.proofs.stream.StreamExt.find_map.Goals as goal
 pub returns-clause-value : goal.returns-clause-value
 returns-clause-value g c h xs lists acts =
     rw c.find_map.ensures
-    (only_made _ _ _ xs _ (lent_lists _ _ xs lists) (find_map_made (λ m. m.f) (Calls g.F.FnMut) _ h acts _ xs refl))
+    (only_made _ _ _ xs _ (lent_lists _ _ xs lists) (find_map_made (Calls g.F.FnMut) _ h acts _ xs refl))

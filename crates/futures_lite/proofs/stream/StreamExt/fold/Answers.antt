@@ -5,5 +5,5 @@ use Rattle.futures_lite.proofs.stream.StreamExt.fold.Goals as goal
 
 pub returns-clause-value : goal.returns-clause-value
 returns-clause-value g c h xs lists acts =
-    let made = fold_made (λ m. m.f) (λ m. m.acc) (CallsBoth g.F.FnMut) h _ acts in
+    let made = fold_made (CallsBoth g.F.FnMut) h _ acts in
     rw c.fold.ensures (only_made _ _ _ xs _ lists (made _ _ xs refl refl))

@@ -6,5 +6,5 @@ use Rattle.futures_lite.proofs.stream.StreamExt.position.Goals as goal
 
 pub returns-clause-value : goal.returns-clause-value
 returns-clause-value g c test xs lists acts small =
-    let made = position_made (λ m. m.predicate) (Calls g.P.FnMut) _ test acts (λ m. m.index) in
+    let made = position_made (Calls g.P.FnMut) _ test acts in
     rw c.position.ensures (only_made _ _ _ xs _ (lent_lists _ _ xs lists) (made _ xs refl refl small))
