@@ -1,5 +1,5 @@
 -- Each item that comes out has a fact, where each that goes in has one: a lemma for each family of adapters.
-use Rattle.std.proofs.Common.{◌≡◌, ℕ, zero, suc, List, [], ◌∷◌, ◌++◌, inl, inr, map, subst, sym}
+use Rattle.std.proofs.Common.{◌≡◌, ℕ, zero, suc, List, [], ◌∷◌, ◌++◌, inl, inr, map, refl}
 use Rattle.std.specs.Prelude.{⊤, Bool, true, false, Option, Some, None}
 use Rattle.futures.specs.declared.task.Poll.{Poll}
 use Rattle.futures.specs.declared.task.Poll.TheVariants.{Ready, Pending}
@@ -42,6 +42,9 @@ module _ {A : Type 0} (P : A → Type 0) where
   each_back (Ready None ∷ l) m h = each_back l m h
   each_back (Ready (Some x) ∷ l) m h = each_back l m h.1
 
+  each_same : (i j : List (Answer A)) → j ≡ i → EachItem P i → EachItem P j
+  each_same i j e h = rw e h
+
   pub each_tail : (b : Answer A) (l : List (Answer A)) → EachItem P (b ∷ l) → EachItem P l
   each_tail b l h = each_back (b ∷ []) l h
 
@@ -50,7 +53,7 @@ module _ {A : Type 0} (P : A → Type 0) where
 
   pub each_end : (l : List (Answer A)) → AllEnds l → EachItem P l
   each_end [] h = tt
-  each_end (b ∷ l) h = subst (λ (c : Answer A). EachItem P (c ∷ l)) (sym h.0) (each_end l h.1)
+  each_end (b ∷ l) h = rw h.0 (each_end l h.1)
 
 -- of each item nothing
 pub each_any : {A : Type 0} (l : List (Answer A)) → EachItem (λ (x : A). ⊤) l
@@ -75,15 +78,12 @@ module _ {F A B : Type 0} (call : Question F A (Option B)) (P : A → Type 0) (Q
   each_exchanged f g [] [] e h = tt
   each_exchanged f g [] (b ∷ o) e h = absurd h
   each_exchanged f g (a ∷ i) [] e h = tt
-  each_exchanged f g (Pending ∷ i) (b ∷ o) e h =
-      subst (λ (c : Answer B). EachItem Q (c ∷ o)) (sym h.0) (each_exchanged f g i o e h.1)
-  each_exchanged f g (Ready None ∷ i) (b ∷ o) e h =
-      subst (λ (c : Answer B). EachItem Q (c ∷ o)) (sym h.0) (each_exchanged f g i o e h.1)
+  each_exchanged f g (Pending ∷ i) (b ∷ o) e h = rw h.0 (each_exchanged f g i o e h.1)
+  each_exchanged f g (Ready None ∷ i) (b ∷ o) e h = rw h.0 (each_exchanged f g i o e h.1)
   each_exchanged f g (Ready (Some x) ∷ i) (b ∷ o) e (None, r, same, called, more) =
-      subst (λ (c : Answer B). EachItem Q (c ∷ o)) (sym same) (each_exchanged r g i o e.1 more)
+      rw same (each_exchanged r g i o e.1 more)
   each_exchanged f g (Ready (Some x) ∷ i) (b ∷ o) e (Some y, r, same, called, more) =
-      subst (λ (c : Answer B). EachItem Q (c ∷ o)) (sym same)
-      (answers f r x y e.0 called, each_exchanged r g i o e.1 more)
+      rw same (answers f r x y e.0 called, each_exchanged r g i o e.1 more)
 
   -- filter, filter_map, skip, skip_while
   pub each_left : (f g : F) (i : List (Answer A)) (o : List (Answer B)) → EachItem P i → LeavesOut call f i o g
@@ -110,28 +110,28 @@ pub each_cut : {F A : Type 0} (is_over : F → Type 0) (after : Answer A → F �
     (f g : F) (i o : List (Answer A)) → EachItem P i → Cuts is_over after f i o g → EachItem P o
 each_cut is_over after P f g i [] e h = tt
 each_cut is_over after P f g i (b ∷ o) e (inl h) =
-    subst (λ (c : Answer _). EachItem P (c ∷ o)) (sym h.1) (each_cut is_over after P f g i o e h.2)
+    rw h.1 (each_cut is_over after P f g i o e h.2)
 each_cut is_over after P f g i (b ∷ o) e (inr h) =
-    let here = subst (EachItem P) h.2 e in
+    let here = rw h.2 at e in
     each_cons P b h.1 o here (each_cut is_over after P (after b f) g h.1 o (each_tail P b h.1 here) h.3)
 
 -- fuse
 pub each_fused : {A : Type 0} (P : A → Type 0) (p q : Bool) (i o : List (Answer A)) → EachItem P i → FusesOn p i o q
     → EachItem P o
 each_fused P true q i o e h = each_end P o h.1
-each_fused P false false i o e h = subst (EachItem P) (sym h.0) e
+each_fused P false false i o e h = rw h.0 e
 each_fused P false true i o e h =
-    let own = each_front P h.0 (end ∷ []) (subst (EachItem P) h.2 e) in
-    subst (EachItem P) (sym h.4) (each_join P h.0 (end ∷ h.1) own (each_end P h.1 h.5))
+    let own = each_front P h.0 (end ∷ []) (rw h.2 at e) in
+    rw h.4 (each_join P h.0 (end ∷ h.1) own (each_end P h.1 h.5))
 
 -- chain
 pub each_joined : {A : Type 0} (P : A → Type 0) (p q : Part) (i j o : List (Answer A)) → EachItem P i → EachItem P j
     → Joins p i j o q → EachItem P o
-each_joined P First q i j o e d (inl h) = subst (EachItem P) (sym h.2) e
+each_joined P First q i j o e d (inl h) = rw h.2 e
 each_joined P First q i j o e d (inr h) =
-    let own = each_front P h.own (end ∷ []) (subst (EachItem P) h.through_end e) in
+    let own = each_front P h.own (end ∷ []) (rw h.through_end at e) in
     let after = each_cut is_done second_after P Second q j (h.next ∷ h.later) d h.followed in
-    subst (EachItem P) (sym h.joined) (each_join P h.own (h.next ∷ h.later) own after)
+    rw h.joined (each_join P h.own (h.next ∷ h.later) own after)
 each_joined P Second q i j o e d h = each_cut is_done second_after P Second q j o d h.1
 each_joined P Done q i j o e d h = each_cut is_done second_after P Done q j o d h.1
 
@@ -143,14 +143,12 @@ module _ {B A : Type 0} (run : Runs (Answer A) B) (R : B → Type 0) (P : A → 
   each_flat [] [] last e h = tt
   each_flat [] (a ∷ o) last e h = absurd h
   each_flat (b ∷ i) [] last e h = tt
-  each_flat (Pending ∷ i) (a ∷ o) last e h =
-      subst (λ (c : Answer A). EachItem P (c ∷ o)) (sym h.0) (each_flat i o last e h.1)
-  each_flat (Ready None ∷ i) (a ∷ o) last e h =
-      subst (λ (c : Answer A). EachItem P (c ∷ o)) (sym h.0) (each_flat i o last e h.1)
+  each_flat (Pending ∷ i) (a ∷ o) last e h = rw h.0 (each_flat i o last e h.1)
+  each_flat (Ready None ∷ i) (a ∷ o) last e h = rw h.0 (each_flat i o last e h.1)
   each_flat (Ready (Some b) ∷ i) (a ∷ o) last e (inl h) = gives b h.2 (a ∷ o) e.0 h.3
   each_flat (Ready (Some b) ∷ i) (a ∷ o) last e (inr h) =
       let own = each_front P h.0 (end ∷ []) (gives b h.5 (h.0 ++ end ∷ []) e.0 h.6) in
-      subst (EachItem P) (sym h.3) (each_join P h.0 (h.1 ∷ h.2) own (each_flat i (h.1 ∷ h.2) last e.1 h.7))
+      each_same P _ _ h.3 (each_join P h.0 (h.1 ∷ h.2) own (each_flat i (h.1 ∷ h.2) last e.1 h.7))
 
 -- then, cloned: what is made of an item with the one fact gives items with the other
 module _ {F A V B : Type 0} (call : Question F A V) (gives : V → List (Answer B) → Option V → Type 0) (P : A → Type 0)
@@ -162,15 +160,12 @@ module _ {F A V B : Type 0} (call : Question F A V) (gives : V → List (Answer 
   each_expanding f g [] [] last e h = tt
   each_expanding f g [] (b ∷ o) last e h = absurd h
   each_expanding f g (a ∷ i) [] last e h = tt
-  each_expanding f g (Pending ∷ i) (b ∷ o) last e h =
-      subst (λ (c : Answer B). EachItem Q (c ∷ o)) (sym h.0) (each_expanding f g i o last e h.1)
-  each_expanding f g (Ready None ∷ i) (b ∷ o) last e h =
-      subst (λ (c : Answer B). EachItem Q (c ∷ o)) (sym h.0) (each_expanding f g i o last e h.1)
+  each_expanding f g (Pending ∷ i) (b ∷ o) last e h = rw h.0 (each_expanding f g i o last e h.1)
+  each_expanding f g (Ready None ∷ i) (b ∷ o) last e h = rw h.0 (each_expanding f g i o last e h.1)
   each_expanding f g (Ready (Some x) ∷ i) (b ∷ o) last e (v, r, called, inl h) =
       made f r x v (b ∷ o) (Some h.2) e.0 called h.3
   each_expanding f g (Ready (Some x) ∷ i) (b ∷ o) last e (v, r, called, inr h) =
-      subst (EachItem Q) (sym h.2)
-      (each_join Q h.0 h.1 (made f r x v h.0 None e.0 called h.3) (each_expanding r g i h.1 last e.1 h.4))
+      each_same Q _ _ h.2 (each_join Q h.0 h.1 (made f r x v h.0 None e.0 called h.3) (each_expanding r g i h.1 last e.1 h.4))
 
 -- a future that is held hands out pendings and then its value, which has the fact
 module _ {V B : Type 0} (run : Runs (Poll B) V) (R : V → Type 0) (Q : B → Type 0)
@@ -183,36 +178,26 @@ module _ {V B : Type 0} (run : Runs (Poll B) V) (R : V → Type 0) (Q : B → Ty
   each_value : (ins : List (Poll B)) (y : B) → Gives ins y → Q y → EachItem Q (map (handed Some) ins)
   each_value [] y g q = absurd g
   each_value (Pending ∷ ins) y g q = each_value ins y g q
-  each_value (Ready z ∷ ins) y g q = (subst Q (sym g.0) q, rw g.1 tt)
+  each_value (Ready z ∷ ins) y g q = rw (g.0, g.1) (q, tt)
 
   pub each_handed : (v : V) (o : List (Answer B)) (left : Option V) → R v → HandsOut run v o left → EachItem Q o
   each_handed v o None r h =
       let own = each_value h.ins h.value h.finishes.gives (finishes v h.ins h.value r h.finishes) in
-      subst (EachItem Q) (sym h.joined) (each_join Q (map (handed Some) h.ins) h.after own (rw h.later tt))
-  each_handed v o (Some w) r h = subst (EachItem Q) (sym h.3) (each_waiting h.0 h.1)
-
-each_one : {A : Type 0} (P : A → Type 0) (b c : Answer A) → c ≡ b → EachItem P (b ∷ []) → EachItem P (c ∷ [])
-each_one P b c e h = subst (λ (a : Answer _). EachItem P (a ∷ [])) (sym e) h
-
-each_same : {A : Type 0} (P : A → Type 0) (i j : List (Answer A)) → j ≡ i → EachItem P i → EachItem P j
-each_same P i j e h = subst (EachItem P) (sym e) h
+      rw h.joined (each_join Q (map (handed Some) h.ins) h.after own (rw h.later tt))
+  each_handed v o (Some w) r h = rw h.3 (each_waiting h.0 h.1)
 
 -- or, race
 pub each_row : {A : Type 0} (P : A → Type 0) (i j : List (Answer A)) (c : Answer A) (i' j' : List (Answer A))
     → EachItem P i → EachItem P j → MergeRow i j c i' j' → EachItem P (c ∷ []) × EachItem P i' × EachItem P j'
 each_row P [] j c i' j' e d h = absurd h
-each_row P (Ready (Some x) ∷ i) j c i' j' e d h =
-    (each_one P _ _ h.0 (e.0, tt), each_same P _ _ h.1 e.1, each_same P _ _ h.2 d)
+each_row P (Ready (Some x) ∷ i) j c i' j' e d h = rw (h.0, h.1, h.2) ((e.0, tt), e.1, d)
 each_row P (Ready None ∷ i) [] c i' j' e d h = absurd h
 each_row P (Ready None ∷ i) (b ∷ j) c i' j' e d h =
-    (each_one P _ _ h.0 (each_front P (b ∷ []) j d), each_same P _ _ h.1 e, each_same P _ _ h.2 (each_tail P b j d))
+    rw (h.0, h.1, h.2) (each_front P (b ∷ []) j d, e, each_tail P b j d)
 each_row P (Pending ∷ i) [] c i' j' e d h = absurd h
-each_row P (Pending ∷ i) (Pending ∷ j) c i' j' e d h =
-    (each_one P _ _ h.0 tt, each_same P _ _ h.1 e, each_same P _ _ h.2 d)
-each_row P (Pending ∷ i) (Ready None ∷ j) c i' j' e d h =
-    (each_one P _ _ h.0 tt, each_same P _ _ h.1 e, each_same P _ _ h.2 d)
-each_row P (Pending ∷ i) (Ready (Some y) ∷ j) c i' j' e d h =
-    (each_one P _ _ h.0 (d.0, tt), each_same P _ _ h.1 e, each_same P _ _ h.2 d.1)
+each_row P (Pending ∷ i) (Pending ∷ j) c i' j' e d h = rw (h.0, h.1, h.2) (tt, e, d)
+each_row P (Pending ∷ i) (Ready None ∷ j) c i' j' e d h = rw (h.0, h.1, h.2) (tt, e, d)
+each_row P (Pending ∷ i) (Ready (Some y) ∷ j) c i' j' e d h = rw (h.0, h.1, h.2) ((d.0, tt), e, d.1)
 
 pub each_merged : {A : Type 0} (P : A → Type 0) (order : List Bool) (i j o : List (Answer A)) → EachItem P i
     → EachItem P j → MergeRows order i j o → EachItem P o
@@ -225,32 +210,26 @@ each_merged P (false ∷ order) i j (c ∷ o) e d h =
     let row = each_row P j i c h.1 h.0 d e h.2 in
     each_cons P c [] o row.0 (each_merged P order h.0 h.1 o row.2 row.1 h.3)
 
+-- Pendings have no items
+pendings_each : {A : Type 0} (P : A → Type 0) (n : ℕ) (l : List (Answer A))
+    → EachItem P (pendings n l) ≡ EachItem P l
+pendings_each P zero l = refl
+pendings_each P (suc n) l = pendings_each P n l
+
 -- zip: a fact of each item of the first and one of each of the second
-module _ {A B : Type 0} (P : A → Type 0) (Q : B → Type 0) where
-  each_after : (n : ℕ) (l : List (Answer B)) → EachItem Q (pendings n l) → EachItem Q l
-  each_after zero l h = h
-  each_after (suc n) l h = each_after n l h
-
-  each_pending : (n : ℕ) (l : List (Answer (A × B))) → EachItem (λ z. P z.0 × Q z.1) l
-      → EachItem (λ z. P z.0 × Q z.1) (pendings n l)
-  each_pending zero l h = h
-  each_pending (suc n) l h = each_pending n l h
-
-  pub each_paired : (i : List (Answer A)) (j : List (Answer B)) (o : List (Answer (A × B))) (last : Option A)
-      → EachItem P i → EachItem Q j → Pairs i j o last → EachItem (λ z. P z.0 × Q z.1) o
-  each_paired [] j o last e d h = rw h.1 tt
-  each_paired (a ∷ i) j [] last e d h = tt
-  each_paired (Pending ∷ i) j (c ∷ o) last e d h =
-      subst (λ (c : Answer (A × B)). EachItem (λ z. P z.0 × Q z.1) (c ∷ o)) (sym h.0) (each_paired i j o last e d h.1)
-  each_paired (Ready None ∷ i) j (c ∷ o) last e d h =
-      subst (λ (c : Answer (A × B)). EachItem (λ z. P z.0 × Q z.1) (c ∷ o)) (sym h.0) (each_paired i j o last e d h.1)
-  each_paired (Ready (Some x) ∷ i) j (c ∷ o) last e d (inl h) =
-      subst (EachItem (λ z. P z.0 × Q z.1)) (sym h.3) (each_pending h.0 [] tt)
-  each_paired (Ready (Some x) ∷ i) j (c ∷ o) last e d (inr (n, None, more, rest, came, went, follows)) =
-      let after : EachItem Q (end ∷ more) = each_after n (end ∷ more) (subst (EachItem Q) came d) in
-      subst (EachItem (λ z. P z.0 × Q z.1)) (sym went)
-      (each_pending n (end ∷ rest) (each_paired i more rest last e.1 after follows))
-  each_paired (Ready (Some x) ∷ i) j (c ∷ o) last e d (inr (n, Some y, more, rest, came, went, follows)) =
-      let after : EachItem Q (item y ∷ more) = each_after n (item y ∷ more) (subst (EachItem Q) came d) in
-      subst (EachItem (λ z. P z.0 × Q z.1)) (sym went)
-      (each_pending n (item (x, y) ∷ rest) ((e.0, after.0), each_paired i more rest last e.1 after.1 follows))
+pub each_paired : {A B : Type 0} (P : A → Type 0) (Q : B → Type 0) (i : List (Answer A)) (j : List (Answer B))
+    (o : List (Answer (A × B))) (last : Option A) → EachItem P i → EachItem Q j → Pairs i j o last
+    → EachItem (λ z. P z.0 × Q z.1) o
+each_paired P Q [] j o last e d h = rw h.1 tt
+each_paired P Q (a ∷ i) j [] last e d h = tt
+each_paired P Q (Pending ∷ i) j (c ∷ o) last e d h = rw h.0 (each_paired P Q i j o last e d h.1)
+each_paired P Q (Ready None ∷ i) j (c ∷ o) last e d h = rw h.0 (each_paired P Q i j o last e d h.1)
+each_paired P Q (Ready (Some x) ∷ i) j (c ∷ o) last e d (inl h) =
+    each_same (λ z. P z.0 × Q z.1) _ _ h.3 (rw pendings_each tt)
+each_paired P Q (Ready (Some x) ∷ i) j (c ∷ o) last e d (inr (n, None, more, rest, came, went, follows)) =
+    let after : EachItem Q (end ∷ more) = rw (came, pendings_each) at d in
+    each_same (λ z. P z.0 × Q z.1) _ _ went (rw pendings_each (each_paired P Q i more rest last e.1 after follows))
+each_paired P Q (Ready (Some x) ∷ i) j (c ∷ o) last e d (inr (n, Some y, more, rest, came, went, follows)) =
+    let after : EachItem Q (item y ∷ more) = rw (came, pendings_each) at d in
+    each_same (λ z. P z.0 × Q z.1) _ _ went
+    (rw pendings_each ((e.0, after.0), each_paired P Q i more rest last e.1 after.1 follows))

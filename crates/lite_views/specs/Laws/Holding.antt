@@ -1,23 +1,27 @@
 -- The items of an adapter that holds what was made of an item: `then`, `cloned`, `flatten` and `flat_map`.
-use Rattle.std.proofs.Common.{◌≡◌, ◌∙◌, List, [], ◌∷◌, ◌++◌, map, inl, inr, refl, ap, sym, subst}
+use Rattle.lite_base.specs.declared.future.ready.Ready.{Ready as ReadyFuture}
+use Rattle.std.proofs.Common.{◌≡◌, List, [], ◌∷◌, ◌++◌, map, inl, inr, refl, ap, sym, subst, append-nil}
 use Rattle.std.specs.Prelude.{⊤, Option, Some, None, Result, Ok, flat_map}
+use Rattle.std.specs.Fn.{Called, Mut}
 use Rattle.std.specs.List.{AllByRecursion}
 use denote.Ref.{Bor}
 use Rattle.futures.specs.declared.task.Poll.{Poll}
 use Rattle.futures.specs.declared.task.Poll.TheVariants.{Ready, Pending}
 use Rattle.lite_base.specs.Answers.{Answer, Gives, Waiting, end}
-use Rattle.lite_base.specs.Calling.{Always}
-use Rattle.lite_base.specs.Future.Finishes.{Finishes}
+use Rattle.lite_base.specs.Calling.{Always, Calls}
 use Rattle.lite_base.specs.Future.Handed.{handed}
 use Rattle.lite_base.specs.Future.Ready.{GivesHeld}
 use Rattle.lite_base.specs.Runs.{Question, Runs}
 use Rattle.lite_reshape.specs.Cloned.{Clones, IsCloneRefusal, Refers}
-use Rattle.lite_reshape.specs.Flatten.{Flat}
-use Rattle.lite_reshape.specs.Expanding.{Expands}
+use Rattle.lite_reshape.specs.Flatten.{Flat, Flattening}
+use Rattle.lite_reshape.specs.FlatMap.{FlatMaps}
+use Rattle.lite_reshape.specs.declared.flat_map.FlatMap.{FlatMap}
+use Rattle.lite_reshape.specs.Expanding.{Expanding, Expands}
 use Rattle.lite_reshape.specs.Then.{HandsOut}
 use Rattle.lite_stream.specs.Pointwise.{Exchanges}
-use Rattle.lite_views.specs.Laws.Adapting.{endless_fits, replaced_fits}
-use Rattle.lite_views.specs.Views.{Fits, Lists}
+use Rattle.lite_views.specs.Laws.Adapting.{continued_fits, endless_fits}
+use Rattle.lite_views.specs.Laws.Views.{Carries, listed}
+use Rattle.lite_views.specs.Views.{Fits, HasValue, Lists, ListsAs}
 
 waiting_fits : {A : Type 0} (l : List (Answer A)) (xs : List A) → Waiting l → Fits l xs
 waiting_fits [] xs w = tt
@@ -30,7 +34,7 @@ given_fits : {A : Type 0} (own l : List (Answer A)) (y : A) (ys : List A) → Gi
 given_fits [] l y ys g e = absurd g
 given_fits (Pending ∷ own) l y ys g e = given_fits own l y ys g e
 given_fits (Ready None ∷ own) l y ys g e = absurd (cc g.0)
-given_fits (Ready (Some z) ∷ own) l y ys g e = (let k = g.0 in cc, subst (λ k. Fits (k ++ l) ys) (sym g.1) e)
+given_fits (Ready (Some z) ∷ own) l y ys g e = (let k = g.0 in cc, rw g.1 e)
 
 -- where what is made of the item x gives Pendings while it is held, and before it is done the item h x
 module _ {F A V B : Type 0} (call : Question F A V) (gives : V → List (Answer B) → Option V → Type 0) (h : A → B)
@@ -38,25 +42,24 @@ module _ {F A V B : Type 0} (call : Question F A V) (gives : V → List (Answer 
     (makes : (x : A) (v : V) (g : F) → call f x v g
     → (g ≡ f) × ((out : List (Answer B)) (w : V) → gives v out (Some w) → Waiting out)
     × ((out : List (Answer B)) → gives v out None → Gives out (Some (h x)))) where
-  pub expands_fits : (p q : F) (i : List (Answer A)) (o : List (Answer B)) (last : Option V) (xs : List A) → p ≡ f
-      → Fits i xs
-      → Expands call gives p i o q last → Fits o (map h xs)
+  expands_fits : (p q : F) (i : List (Answer A)) (o : List (Answer B)) (last : Option V) (xs : List A) → p ≡ f
+      → Fits i xs → Expands call gives p i o q last → Fits o (map h xs)
   expands_fits p q [] [] last xs g e t = tt
   expands_fits p q [] (b ∷ o) last xs g e t = absurd t
   expands_fits p q (a ∷ i) [] last xs g e t = tt
-  expands_fits p q (Pending ∷ i) (b ∷ o) last xs g e t =
-      subst (λ (c : Answer B). Fits (c ∷ o) (map h xs)) (sym t.0) (expands_fits p q i o last xs g e t.1)
-  expands_fits p q (Ready None ∷ i) (b ∷ o) last xs g e t =
-      subst (λ (c : Answer B). Fits (c ∷ o) (map h xs)) (sym t.0) (ap (map h) e)
+  expands_fits p q (Pending ∷ i) (b ∷ o) last xs g e t = rw t.0 (expands_fits p q i o last xs g e t.1)
+  expands_fits p q (Ready None ∷ i) (b ∷ o) last xs g e t = rw (t.0, e) refl
   expands_fits p q (Ready (Some x) ∷ i) (b ∷ o) last [] g e t = absurd e
   expands_fits p q (Ready (Some x) ∷ i) (b ∷ o) last (y ∷ xs) g e (v, r, called, inl held) =
-      let m = makes x v r (subst (λ z. call z x v r) g called) in
-      waiting_fits (b ∷ o) (map h (y ∷ xs)) (m.1 (b ∷ o) held.2 held.3)
+      let m = makes x v r (rw (← g) called) in waiting_fits (b ∷ o) (map h (y ∷ xs)) (m.1 (b ∷ o) held.2 held.3)
   expands_fits p q (Ready (Some x) ∷ i) (b ∷ o) last (y ∷ xs) g e (v, r, called, inr done) =
-      let m = makes x v r (subst (λ z. call z x v r) g called) in
+      let m = makes x v r (rw (← g) called) in
       let rest = expands_fits r q i done.1 last xs m.0 e.1 done.4 in
-      let own : Gives done.0 (Some (h y)) = subst (λ z. Gives done.0 (Some (h z))) e.0 (m.2 done.0 done.3) in
-      subst (λ l. Fits l (map h (y ∷ xs))) (sym done.2) (given_fits done.0 done.1 (h y) (map h xs) own rest)
+      subst (λ l. Fits l (map h (y ∷ xs))) (sym done.2)
+      (given_fits done.0 done.1 (h y) (map h xs) (rw (← e.0) (m.2 done.0 done.3)) rest)
+
+  expanded_fits : (xs : List A) → Carries (Expanding call gives) (f, None) xs (map h xs)
+  expanded_fits xs i o q e t = expands_fits f q.0 i o q.1 xs refl e t
 
 -- `then`
 waiting_handed : {B : Type 0} (ins : List (Poll B)) → Waiting ins → Waiting (map (handed {B = B} Some) ins)
@@ -64,71 +67,57 @@ waiting_handed [] w = tt
 waiting_handed (Pending ∷ ins) w = waiting_handed ins w
 waiting_handed (Ready x ∷ ins) w = absurd w
 
-gives_handed : {B : Type 0} (ins : List (Poll B)) (v : B) → Gives ins v → Gives (map (handed Some) ins ++ []) (Some v)
+gives_handed : {B : Type 0} (ins : List (Poll B)) (v : B) → Gives ins v → Gives (map (handed Some) ins) (Some v)
 gives_handed [] v g = absurd g
 gives_handed (Pending ∷ ins) v g = gives_handed ins v g
-gives_handed (Ready x ∷ ins) v g = (ap Some g.0, ap (λ l. map (handed Some) l ++ []) g.1)
+gives_handed (Ready x ∷ ins) v g = (ap Some g.0, ap (map (handed Some)) g.1)
 
-pub awaited_fits : {F A V B : Type 0} (call : Question F A V) (run : Runs (Poll B) V) (h : A → B) (f q : F)
-    → ((x : A) (v : V) (g : F) → call f x v g → (g ≡ f)
-    × ((ins : List (Poll B)) (w : B) → Finishes run v ins w → w ≡ h x))
-    → (i : List (Answer A)) (o : List (Answer B)) (last : Option V) (xs : List A) → Fits i xs
-    → Expands call (HandsOut run) f i o q last → Fits o (map h xs)
-awaited_fits {F} {A} {V} {B} call run h f q acts i o last xs e t =
-    expands_fits call (HandsOut run) h f
-    (λ x v g c. let a = acts x v g c in (a.0, waits v, λ out s. done (h x) v a.1 out s))
-    f q i o last xs refl e t
-  where
-    waits : (v : V) (out : List (Answer B)) (w : V) → HandsOut run v out (Some w) → Waiting out
-    waits v out w s = subst Waiting (sym s.3) (waiting_handed s.0 s.1)
-
-    done : (y : B) (v : V) → ((ins : List (Poll B)) (w : B) → Finishes run v ins w → w ≡ y) → (out : List (Answer B))
-        → HandsOut run v out None
-        → Gives out (Some y)
-    done y v is out s =
-        let gave : Gives s.ins y = subst (Gives s.ins) (is s.ins s.value s.finishes) s.finishes.gives in
-        let joined : out ≡ map (handed Some) s.ins ++ [] = s.joined ∙ ap (λ l. map (handed Some) s.ins ++ l) s.later in
-        subst (λ l. Gives l (Some y)) (sym joined) (gives_handed s.ins y gave)
+pub awaited_fits : {F A V B : Type 0} (call : Question F A V) (run : Runs (Poll B) V) (h : A → B) (f : F)
+    → ((x : A) (v : V) (g : F) → call f x v g → (g ≡ f) × HasValue run v (h x))
+    → (xs : List A) → Carries (Expanding call (HandsOut run)) (f, None) xs (map h xs)
+unfolding HasValue
+awaited_fits call run h f acts xs =
+    expanded_fits call (HandsOut run) h f
+    (λ x v g c. let a = acts x v g c in (
+      a.0,
+      λ out w s. rw s.3 (waiting_handed s.0 s.1),
+      λ out s. rw (s.joined, s.later, append-nil, ← a.1 s.ins s.value s.finishes)
+          (gives_handed s.ins s.value s.finishes.gives),
+    )) xs
 
 -- `ready`
-pub ready_value : {A : Type 0} (x w : A) (ins : List (Poll A)) (left : Option A) → Gives ins w
+held_value : {A : Type 0} (x w : A) (ins : List (Poll A)) (left : Option A) → Gives ins w
     → GivesHeld (Some x) ins left → w ≡ x
-ready_value x w [] left g h = absurd g
-ready_value x w (Pending ∷ ins) left g h = absurd (cc h.0)
-ready_value x w (Ready y ∷ ins) left g h = let a = g.0 in let b = h.0 in cc
+held_value x w [] left g h = absurd g
+held_value x w (Pending ∷ ins) left g h = absurd (cc h.0)
+held_value x w (Ready y ∷ ins) left g h = let a = g.0 in let b = h.0 in cc
+
+pub ready_value : {A : Type 0} (x : ReadyFuture A) (v : A) → x.value ≡ Some v
+    → HasValue (λ (y : ReadyFuture A) l z. GivesHeld y.value l z.value) x v
+unfolding HasValue
+ready_value x v e ins w f = held_value v w ins f.last.value f.gives (rw e at f.came)
 
 -- `cloned`, where a clone is not refused and is equal
 module _ {T E : Type 0} (is_clone : T → T → Type 0) (is_infallible : T → Type 0)
     (infallible : (x : T) → is_infallible x)
     (equal : (x y : T) → is_clone x y → y ≡ x) where
+  none_refused : (v : Bor T) (l : List (Answer (Result T E)))
+      → AllByRecursion (IsCloneRefusal is_clone is_infallible v) l → l ≡ []
+  none_refused v [] s = refl
+  none_refused v (a ∷ l) s = absurd (s.0.0 (infallible v.now))
+
   abbrev clone_shown : Bor T → Result T E
   clone_shown x = Ok x.now
 
-  pub cloned_fits : (i : List (Answer (Bor T))) (o : List (Answer (Result T E))) (q : Unit {0}) (last : Option (Bor T))
-      (xs : List (Bor T)) → Fits i xs
-      → Expands Refers (Clones is_clone is_infallible) tt i o q last → Fits o (map (λ x. Ok x.now) xs)
-  cloned_fits i o q last xs e t =
-      expands_fits Refers (Clones is_clone is_infallible) clone_shown tt
-      (λ x v g c. (refl, waits v, λ out s. subst (λ r. Gives out (Some (clone_shown r))) c (done v out s)))
-      tt q i o last xs refl e t
-    where
-      waits : (v : Bor T) (out : List (Answer (Result T E))) (w : Bor T) → Clones is_clone is_infallible v out (Some w)
-          → Waiting out
-      waits v [] w s = tt
-      waits v (a ∷ out) w s = absurd (s.0.0.0 (infallible v.now))
-
-      unrefused : (v : Bor T) (refused l : List (Answer (Result T E))) (y : Result T E)
-          → AllByRecursion (IsCloneRefusal is_clone is_infallible v) refused
-          → Gives l (Some y) → Gives (refused ++ l) (Some y)
-      unrefused v [] l y s g = g
-      unrefused v (a ∷ refused) l y s g = absurd (s.0.0 (infallible v.now))
-
-      done : (v : Bor T) (out : List (Answer (Result T E))) → Clones is_clone is_infallible v out None
-          → Gives out (Some (Ok v.now))
-      done v out s =
-          subst (λ l. Gives l (Some (Ok v.now))) (sym s.4)
-          (unrefused v s.0 (Ready (Some (Ok s.1)) ∷ []) (Ok v.now) s.2
-          (ap (λ z. Some (Ok z)) (equal v.now s.1 s.3), refl))
+  pub cloned_fits : (xs : List (Bor T))
+      → Carries (Expanding Refers (Clones is_clone is_infallible)) (tt, None) xs (map clone_shown xs)
+  cloned_fits xs =
+      expanded_fits Refers (Clones is_clone is_infallible) clone_shown tt
+      (λ x v g c. (
+        refl,
+        λ out w s. rw (none_refused v out s.0) tt,
+        λ out s. rw (s.4, none_refused v s.0 s.2, ← c) (ap (λ z. Some (Ok z)) (equal v.now s.1 s.3), refl),
+      )) xs
 
 -- `flatten` and `flat_map`: the answers, up to their first end, are streams, each with the list that h makes of the
 -- item in its place
@@ -146,44 +135,52 @@ module _ {A V B : Type 0} (run : Runs (Answer B) V) (h : A → List B) where
   flat_fits [] [] last xs e t = tt
   flat_fits [] (b ∷ o) last xs e t = absurd t
   flat_fits (a ∷ m) [] last xs e t = tt
-  flat_fits (Pending ∷ m) (b ∷ o) last xs e t =
-      subst (λ (c : Answer B). Fits (c ∷ o) (flat_map h xs)) (sym t.0) (flat_fits m o last xs e t.1)
-  flat_fits (Ready None ∷ m) (b ∷ o) last xs e t =
-      subst (λ (c : Answer B). Fits (c ∷ o) (flat_map h xs)) (sym t.0) (ap (flat_map h) e)
+  flat_fits (Pending ∷ m) (b ∷ o) last xs e t = rw t.0 (flat_fits m o last xs e t.1)
+  flat_fits (Ready None ∷ m) (b ∷ o) last xs e t = rw (t.0, e) refl
   flat_fits (Ready (Some v) ∷ m) (b ∷ o) last [] e t = absurd e
   flat_fits (Ready (Some v) ∷ m) (b ∷ o) last (x ∷ xs) e (inl t) =
       endless_fits (b ∷ o) (h x) (flat_map h xs) t.1 (e.0 (b ∷ o) t.2 t.3)
   flat_fits (Ready (Some v) ∷ m) (b ∷ o) last (x ∷ xs) e (inr (own, a, rest, out, endless, c, ran, more)) =
-      let behind = flat_fits m (a ∷ rest) last xs e.1 more in
       subst (λ l. Fits l (flat_map h (x ∷ xs))) (sym out)
-      (replaced_fits own (a ∷ rest) (h x) (flat_map h xs) endless (e.0 (own ++ end ∷ []) c ran) behind)
+      (continued_fits own (a ∷ rest) (h x) (flat_map h xs) endless (e.0 (own ++ end ∷ []) c ran)
+      (flat_fits m (a ∷ rest) last xs e.1 more))
 
   -- by a function
-  pub called_makes : {F : Type 0} (call : Question F A V) (f p q : F)
+  called_makes : {F : Type 0} (call : Question F A V) (f p q : F)
       → ((x : A) (v : V) (g : F) → call f x v g → (g ≡ f) × Lists run v (h x))
       → (i : List (Answer A)) (m : List (Answer V)) (xs : List A) → p ≡ f → Fits i xs → Exchanges (Always call) p i m q
       → Makes m xs
   called_makes call f p q acts [] [] xs g e t = tt
   called_makes call f p q acts [] (b ∷ m) xs g e t = absurd t
   called_makes call f p q acts (a ∷ i) [] xs g e t = tt
-  called_makes call f p q acts (Pending ∷ i) (b ∷ m) xs g e t =
-      subst (λ (c : Answer V). Makes (c ∷ m) xs) (sym t.0) (called_makes call f p q acts i m xs g e t.1)
-  called_makes call f p q acts (Ready None ∷ i) (b ∷ m) xs g e t =
-      subst (λ (c : Answer V). Makes (c ∷ m) xs) (sym t.0) e
+  called_makes call f p q acts (Pending ∷ i) (b ∷ m) xs g e t = rw t.0 (called_makes call f p q acts i m xs g e t.1)
+  called_makes call f p q acts (Ready None ∷ i) (b ∷ m) xs g e t = rw t.0 e
   called_makes call f p q acts (Ready (Some x) ∷ i) (b ∷ m) [] g e t = absurd e
   called_makes call f p q acts (Ready (Some x) ∷ i) (b ∷ m) (y ∷ xs) g e (None, r, same, called, more) = absurd called
   called_makes call f p q acts (Ready (Some x) ∷ i) (b ∷ m) (y ∷ xs) g e (Some v, r, same, called, more) =
-      let a = acts x v r (subst (λ z. call z x v r) g called) in
-      let here : Lists run v (h y) = subst (λ z. Lists run v (h z)) e.0 a.1 in
-      subst (λ (c : Answer V). Makes (c ∷ m) (y ∷ xs)) (sym same)
-      (here, called_makes call f r q acts i m xs a.0 e.1 more)
+      let a = acts x v r (rw (← g) called) in
+      rw (same, ← e.0) (a.1, called_makes call f r q acts i m xs a.0 e.1 more)
+
+pub flat_mapped_lists : {S F V A B : Type 0} (run : Runs (Answer A) S) (g : Mut F (A × Unit {0}) V) (run' : Runs (Answer B) V)
+    (h : A → List B) (x : FlatMap S V F) (xs : List A) → x.inner_stream ≡ None → Lists run x.stream.stream xs
+    → ((y : A) (inner : V) (k : F) → Called g x.stream.f (y, tt) inner k → (k ≡ x.stream.f) × Lists run' inner (h y))
+    → ListsAs (FlatMaps run g run') x (flat_map h xs)
+unfolding Lists
+flat_mapped_lists run g run' h x xs none lists makes =
+    listed (FlatMaps run g run') x (flat_map h xs)
+    (λ l t r. flat_fits run' h r.ins l t.inner_stream xs
+    (called_makes run' h (Calls g) x.stream.f x.stream.f t.stream.f makes r.came.ins r.ins xs refl
+    (lists r.came.ins t.stream.stream r.came.came) r.came.related) (rw none at r.related))
 
 -- the streams themselves are the items
-pub itself_makes : {V B : Type 0} (run : Runs (Answer B) V) (h : V → List B) → ((v : V) → Lists run v (h v))
+itself_makes : {V B : Type 0} (run : Runs (Answer B) V) (h : V → List B) → ((v : V) → Lists run v (h v))
     → (m : List (Answer V)) (xs : List V) → Fits m xs → Makes run h m xs
 itself_makes run h lists [] xs e = tt
 itself_makes run h lists (Pending ∷ m) xs e = itself_makes run h lists m xs e
 itself_makes run h lists (Ready None ∷ m) xs e = e
 itself_makes run h lists (Ready (Some v) ∷ m) [] e = absurd e
-itself_makes run h lists (Ready (Some v) ∷ m) (x ∷ xs) e =
-    (subst (λ z. Lists run v (h z)) e.0 (lists v), itself_makes run h lists m xs e.1)
+itself_makes run h lists (Ready (Some v) ∷ m) (x ∷ xs) e = (rw (← e.0) (lists v), itself_makes run h lists m xs e.1)
+
+pub flattened_fits : {V B : Type 0} (run : Runs (Answer B) V) (h : V → List B) → ((v : V) → Lists run v (h v))
+    → (xs : List V) → Carries (Flattening run) None xs (flat_map h xs)
+flattened_fits run h lists xs i o q e t = flat_fits run h i o q xs (itself_makes run h lists i xs e) t

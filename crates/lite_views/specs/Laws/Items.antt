@@ -1,6 +1,6 @@
 -- Which items come out: each adapter of a function of its own has a plain function of lists.
-use Rattle.std.proofs.Common.{◌≡◌, ◌≤◌, ℕ, suc, ◌-◌, List, [], ◌∷◌, ◌++◌, ◌∙◌, length, map, take, refl, ap, sym, inl}
-use Rattle.std.proofs.Common.{inr, subst, arith}
+use Rattle.std.proofs.Common.{◌≡◌, ◌≤◌, ℕ, suc, ◌-◌, List, [], ◌∷◌, ◌++◌, length, map, take, refl, ap, inl}
+use Rattle.std.proofs.Common.{inr, arith}
 use Rattle.std.specs.List.{filter}
 use Rattle.std.specs.Prelude.{Bool, true, false, Option, Some, None, Result, Ok, Err, IfOk}
 use Rattle.futures.specs.declared.task.Poll.TheVariants.{Ready, Pending}
@@ -42,18 +42,16 @@ module _ {F A B : Type 0} (call : Question F A B) where
     replaced_in p q [] [] h = refl
     replaced_in p q [] (b ∷ o) h = absurd h
     replaced_in p q (a ∷ i) [] h = absurd h
-    replaced_in p q (Pending ∷ i) (b ∷ o) h = ap (λ (c : Answer B). items_in (c ∷ o)) h.0 ∙ replaced_in p q i o h.1
-    replaced_in p q (Ready None ∷ i) (b ∷ o) h = ap (λ (c : Answer B). items_in (c ∷ o)) h.0 ∙ replaced_in p q i o h.1
+    replaced_in p q (Pending ∷ i) (b ∷ o) h = rw h.0 (replaced_in p q i o h.1)
+    replaced_in p q (Ready None ∷ i) (b ∷ o) h = rw h.0 (replaced_in p q i o h.1)
     replaced_in p q (Ready (Some x) ∷ i) (b ∷ o) (None, r, same, called, more) = absurd called
     replaced_in p q (Ready (Some x) ∷ i) (b ∷ o) (Some y, r, same, called, more) =
-        let rest = replaced_in r q i o more in
-        let value = answers p r x y called in
-        ap (λ (c : Answer B). items_in (c ∷ o)) same ∙ (ap (λ z. z ∷ items_in o) value ∙ ap (λ k. f x ∷ k) rest)
+        rw (same, answers p r x y called) (ap (λ k. f x ∷ k) (replaced_in r q i o more))
 
     pub replaced_front : (p q : F) (xs : List A) (i : List (Answer A)) (o : List (Answer B))
         → Front (items_in i) xs → Replaces call p i o q → Front (items_in o) (map f xs)
     replaced_front p q xs i o came h =
-        subst (λ l. Front l (map f xs)) (sym (replaced_in p q i o h)) (front_map f (items_in i) xs came)
+        rw (replaced_in p q i o h) (front_map f (items_in i) xs came)
 
     -- where all answers were items
     pub replaced_items : (p q : F) (xs : List A) (o : List (Answer B)) → Replaces call p (items xs) o q
@@ -63,9 +61,7 @@ module _ {F A B : Type 0} (call : Question F A B) where
     replaced_items p q (x ∷ xs) [] h = absurd h
     replaced_items p q (x ∷ xs) (b ∷ o) (None, r, same, called, more) = absurd called
     replaced_items p q (x ∷ xs) (b ∷ o) (Some y, r, same, called, more) =
-        let rest = replaced_items r q xs o more in
-        let value = answers p r x y called in
-        cc
+        rw (same, answers p r x y called) (ap (λ l. item (f x) ∷ l) (replaced_items r q xs o more))
 
 -- filter: the items that the test accepts
 module _ {F A : Type 0} (call : Question F A (Option A)) (test : A → Bool)
@@ -74,8 +70,7 @@ module _ {F A : Type 0} (call : Question F A (Option A)) (test : A → Bool)
   one_kept : (p m : F) (x : A) (i : List (Answer A)) (y : A) (o : List (Answer A)) → call p x (Some y) m
       → items_in o ≡ filter test (items_in i) → y ∷ items_in o ≡ filter test (x ∷ items_in i)
   one_kept p m x i y o t k =
-      let passed = keeps p m x y t in
-      rw passed.1 (ap (λ l. y ∷ l) k ∙ ap (λ z. z ∷ filter test (items_in i)) passed.0)
+      let passed = keeps p m x y t in rw (passed.1, passed.0) (ap (λ l. x ∷ l) k)
 
   pub left_in : (p q : F) (i : List (Answer A)) (o : List (Answer A)) → LeavesOut call p i o q
       → items_in o ≡ filter test (items_in i)
@@ -86,36 +81,31 @@ module _ {F A : Type 0} (call : Question F A (Option A)) (test : A → Bool)
   pub left_front : (p q : F) (xs : List A) (i o : List (Answer A)) → Front (items_in i) xs → LeavesOut call p i o q
       → Front (items_in o) (filter test xs)
   left_front p q xs i o came h =
-      subst (λ l. Front l (filter test xs)) (sym (left_in p q i o h)) (front_filter test (items_in i) xs came)
+      rw (left_in p q i o h) (front_filter test (items_in i) xs came)
 
 -- take: the items that came in, which are as many as were left to be taken at most
 pub cut_in : {F A : Type 0} (is_over : F → Type 0) (after : Answer A → F → F) (f g : F) (i o : List (Answer A))
     → Cuts is_over after f i o g → items_in o ≡ items_in i
-cut_in is_over after f g i [] h = sym (ap items_in h.0)
-cut_in is_over after f g i (b ∷ o) (inl h) = ap (λ a. items_in (a ∷ o)) h.1 ∙ cut_in is_over after f g i o h.2
-cut_in is_over after f g i (Pending ∷ o) (inr h) =
-    cut_in is_over after (after Pending f) g h.1 o h.3 ∙ sym (ap items_in h.2)
-cut_in is_over after f g i (Ready None ∷ o) (inr h) =
-    cut_in is_over after (after end f) g h.1 o h.3 ∙ sym (ap items_in h.2)
+cut_in is_over after f g i [] h = rw h.0 refl
+cut_in is_over after f g i (b ∷ o) (inl h) = rw h.1 (cut_in is_over after f g i o h.2)
+cut_in is_over after f g i (Pending ∷ o) (inr h) = rw h.2 (cut_in is_over after (after Pending f) g h.1 o h.3)
+cut_in is_over after f g i (Ready None ∷ o) (inr h) = rw h.2 (cut_in is_over after (after end f) g h.1 o h.3)
 cut_in is_over after f g i (Ready (Some x) ∷ o) (inr h) =
-    ap (λ k. x ∷ k) (cut_in is_over after (after (item x) f) g h.1 o h.3) ∙ sym (ap items_in h.2)
+    rw h.2 (ap (λ k. x ∷ k) (cut_in is_over after (after (item x) f) g h.1 o h.3))
 
 pub taken_length : {A : Type 0} (n m : ℕ) (i o : List (Answer A)) → Cuts is_none_left left_after n i o m
     → length (items_in o) ≤ n
 taken_length n m i [] h = omega arith
 taken_length n m i (b ∷ o) (inl h) = rw h.1 (taken_length n m i o h.2)
 taken_length n m i (Pending ∷ o) (inr h) = taken_length n m h.1 o h.3
-taken_length n m i (Ready None ∷ o) (inr h) = let rest = taken_length 0 m h.1 o h.3 in omega (arith, rest)
+taken_length n m i (Ready None ∷ o) (inr h) = omega (arith, taken_length 0 m h.1 o h.3)
 taken_length n m i (Ready (Some x) ∷ o) (inr h) =
-    let rest : length (items_in o) ≤ n - 1 = taken_length (n - 1) m h.1 o h.3 in
-    let some : ¬ (n ≡ 0) = h.0 in
-    omega (arith, rest, some)
+    let some : ¬ (n ≡ 0) = h.0 in omega (arith, taken_length (n - 1) m h.1 o h.3)
 
 pub cut_front : {A : Type 0} (n m : ℕ) (xs : List A) (i o : List (Answer A))
     → Front (items_in i) xs → Cuts is_none_left left_after n i o m → Front (items_in o) (take n xs)
 cut_front n m xs i o came h =
-    let same = cut_in is_none_left left_after n m i o h in
-    front_take n (items_in o) xs (taken_length n m i o h) (subst (λ l. Front l xs) (sym same) came)
+    front_take n (items_in o) xs (taken_length n m i o h) (rw (cut_in is_none_left left_after n m i o h) came)
 
 -- what a call that went well says, said otherwise
 pub on_ok : {A E P Q : Type 0} (r : Result A E) → (P → Q) → IfOk r (λ _. P) → IfOk r (λ _. Q)

@@ -1,13 +1,15 @@
 -- The items of a source.
-use Rattle.std.proofs.Common.{◌≡◌, ◌+◌, ◌-◌, ◌∙◌, ℕ, zero, suc, List, [], ◌∷◌, ◌++◌, length, refl, ap, sym, subst}
+use Rattle.std.proofs.lemmas.List.FromFn.{length-range_with_len}
+use Rattle.lite_source.specs.Once.{GivesOnce, once_left}
+use Rattle.std.proofs.Common.{◌≡◌, ◌+◌, ◌-◌, ◌∙◌, ℕ, suc, List, [], ◌∷◌, length, refl, ap, sym}
 use Rattle.std.proofs.Common.{arith}
 use Rattle.std.specs.Array.Iter.{array_into_iter_items, array_steps}
 use Rattle.std.specs.Iterator.{Count, at_most}
 use Rattle.std.specs.Iterator.Adapters.{copied_steps}
 use Rattle.std.specs.List.{AllByRecursion, range_with_len}
-use Rattle.std.specs.Prelude.{Option, Some, None, Result, Ok, Err}
+use Rattle.std.specs.Prelude.{Option, Some, None, Result, Ok, Err, ⊤}
 use Rattle.std.specs.Range.{range_steps}
-use Rattle.std.specs.Slice.Iter.{iter_rest, iter_steps}
+use Rattle.std.specs.Slice.Iter.{iter_steps}
 use Rattle.std.specs.Vec.Iter.{into_iter_items, into_iter_len, into_iter_steps}
 use Rattle.std.specs.declared.alloc.Global.{Global}
 use Rattle.std.specs.declared.array.IntoIter.{IntoIter as ArrayIter}
@@ -27,128 +29,71 @@ use Rattle.lite_source.specs.Script.{GivesScript}
 use Rattle.lite_source.specs.declared.iter.Iter.{Iter}
 use Rattle.lite_source.specs.declared.repeat.Repeat.{Repeat}
 use Rattle.lite_stream.specs.EachItem.{items_in}
-use Rattle.lite_views.specs.Iterators.{GivesAll}
-use Rattle.lite_views.specs.Views.{EachIs, Fits, Fronts, Lists}
-use Rattle.lite_views.specs.Laws.Views.{seen}
-
--- the items before the first end
-abbrev items_ahead : {A : Type 0} → List (Answer A) → List A
-items_ahead l = items_in (until_end l)
-
-ahead_front : {A : Type 0} (l : List (Answer A)) (xs : List A) → Fits l xs → Front (items_ahead l) xs
-ahead_front [] xs h = (xs, refl)
-ahead_front (Pending ∷ l) xs h = ahead_front l xs h
-ahead_front (Ready None ∷ l) xs h = (xs, refl)
-ahead_front (Ready (Some x) ∷ l) [] h = absurd h
-ahead_front (Ready (Some x) ∷ l) (y ∷ xs) h =
-    let rest = ahead_front l xs h.1 in
-    let e : y ∷ xs ≡ x ∷ (items_ahead l ++ rest.0) = (let e₀ = rest.1 in let e₁ = h.0 in cc) in
-    (rest.0, e)
-
--- `iter`: after None comes no item, so all that come stand before the first end
-module _ {I A : Type 0} (can : I → Type 0) (steps : I → Option A → I → Type 0) (remaining : I → Count)
-    (stays : (i j k : I) (x : A) → steps i None j → ¬ (steps j (Some x) k)) where
-  none_after : (i j k : I) (l : List (Answer A)) → steps i None j → Iterates can steps remaining j l k → items_in l ≡ []
-  none_after i j k [] n h = refl
-  none_after i j k (Pending ∷ l) n h = absurd h.1
-  none_after i j k (Ready None ∷ l) n h = none_after j h.0 k l h.1.0 h.2
-  none_after i j k (Ready (Some x) ∷ l) n h = absurd (stays i j h.0 x n h.1.0)
-
-  all_ahead : (i j : I) (l : List (Answer A)) → Iterates can steps remaining i l j → items_in l ≡ items_ahead l
-  all_ahead i j [] h = refl
-  all_ahead i j (Pending ∷ l) h = absurd h.1
-  all_ahead i j (Ready None ∷ l) h = none_after i h.0 j l h.1.0 h.2
-  all_ahead i j (Ready (Some x) ∷ l) h = ap (λ k. x ∷ k) (all_ahead h.0 j l h.2)
-
-  pub iterated_fronts : (i j : I) (l : List (Answer A)) (xs : List A) → Fits l xs → Iterates can steps remaining i l j
-      → Front (items_in l) xs
-  iterated_fronts i j l xs fits h = subst (λ k. Front k xs) (sym (all_ahead i j l h)) (ahead_front l xs fits)
+use Rattle.lite_views.specs.Iterators.{GivesAll, IterRuns}
+use Rattle.lite_views.specs.Views.{EachIs, Fits, Fronts, ListsAs, Seen, GoesOn}
+use Rattle.lite_views.specs.Laws.Views.{seen, listed}
 
 -- an iterator that shows what is left, and how many
-module _ {I A : Type 0} (can : I → Type 0) (steps : I → Option A → I → Type 0) (remaining : I → Count)
-    (left : I → List A) (len : I → ℕ)
+module _ {I A : Type 0} (steps : I → Option A → I → Type 0) (remaining : I → Count) (left : I → List A) (len : I → ℕ)
     (some : (i j : I) (x : A) → steps i (Some x) j → (left i ≡ x ∷ left j) × (len j + 1 ≡ len i))
     (none : (i j : I) → steps i None j → (len i ≡ 0) × (len j ≡ 0)) where
   left_next : (i j : I) (l : List (Answer A)) (xs : List A) → left i ≡ xs → len i ≡ length xs
-      → Iterates can steps remaining i l j → Fits l xs
+      → Iterates (λ _. ⊤) steps remaining i l j → Fits l xs
   left_next i j [] xs e n h = tt
   left_next i j (Pending ∷ l) xs e n h = absurd h.1
   left_next i j (Ready None ∷ l) [] e n h = refl
-  left_next i j (Ready None ∷ l) (x ∷ xs) e n h = let k = (none i h.0 h.1.0).0 in absurd (omega (arith, n, k))
-  left_next i j (Ready (Some y) ∷ l) [] e n h = let k = (some i h.0 y h.1.0).1 in absurd (omega (arith, n, k))
+  left_next i j (Ready None ∷ l) (x ∷ xs) e n h = absurd (omega (arith, (none i h.0 h.1.0).0))
+  left_next i j (Ready (Some y) ∷ l) [] e n h = absurd (omega (arith, (some i h.0 y h.1.0).1))
   left_next i j (Ready (Some y) ∷ l) (x ∷ xs) e n h =
       let step = some i h.0 y h.1.0 in
-      let k = step.0 in
-      let first : y ≡ x = cc in
-      let rest : left h.0 ≡ xs = cc in
-      let fewer : len h.0 ≡ length xs = (let m = step.1 in omega (arith, n, m)) in
-      (first, left_next h.0 j l xs rest fewer h.2)
+      let first : y ≡ x = cc (step.0, e) in
+      (first, left_next h.0 j l xs (cc (step.0, e)) (omega (arith, step.1)) h.2)
 
-  pub left_fits : (i j : I) (l : List (Answer A)) → len i ≡ length (left i) → Iterates can steps remaining i l j
-      → Fits l (left i)
-  left_fits i j l n h = left_next i j l (left i) refl n h
+  pub left_gives : (x : Iter I) → len x.iter ≡ length (left x.iter) → GivesAll steps remaining x (left x.iter)
+  unfolding Fronts
+  left_gives x n = (
+    listed (IterRuns steps remaining) x (left x.iter) (λ l t h. left_next x.iter t.iter l (left x.iter) refl n h),
+    λ l t h. iterated_front (λ _. ⊤) steps remaining left len some none x.iter t.iter l h,
+  )
 
-  pub left_fronts : (i j : I) (l : List (Answer A)) → Iterates can steps remaining i l j → Front (items_in l) (left i)
-  left_fronts i j l h = iterated_front can steps remaining left len some none i j l h
+-- `iter` over a range of unsigned numbers
+pub range_gives : (x : Iter (Range ℕ)) (n : ℕ) → x.iter.end - x.iter.start ≡ n
+    → GivesAll (range_steps (λ a b. b - a) (λ a b. b ≡ a + 1)) (λ r. at_most (r.end - r.start)) x
+    (range_with_len x.iter.start n)
+range_gives x n e =
+    rw (← e)
+    (left_gives (range_steps (λ a b. b - a) (λ a b. b ≡ a + 1)) (λ r. at_most (r.end - r.start)) left
+    (λ r. r.end - r.start) some (λ i j g. (g.1.0, let a = g.0 in let b = g.1.0 in let c = g.1.1 in omega arith)) x
+    (sym (length-range_with_len x.iter.start (x.iter.end - x.iter.start))))
+  where
+    left : Range ℕ → List ℕ
+    left r = range_with_len r.start (r.end - r.start)
 
--- `iter` over a range of unsigned numbers: how far b is above a, and that it is the next
-abbrev gap : ℕ → ℕ → ℕ
-gap a b = b - a
-
-abbrev after : ℕ → ℕ → Type 0
-after a b = b ≡ a + 1
-
-module _ (can : Range ℕ → Type 0) (remaining : Range ℕ → Count) where
-  pub range_fits : (i j : Range ℕ) (l : List (Answer ℕ)) (n : ℕ) → i.end - i.start ≡ n
-      → Iterates can (range_steps gap after) remaining i l j → Fits l (range_with_len i.start n)
-  range_fits i j [] n e h = tt
-  range_fits i j (Pending ∷ l) n e h = absurd h.1
-  range_fits i j (Ready None ∷ l) zero e h = refl
-  range_fits i j (Ready None ∷ l) (suc n) e h = absurd (omega (arith, e, h.1.0.1.0))
-  range_fits i j (Ready (Some x) ∷ l) zero e h = absurd (omega (arith, e, h.1.0.1.0))
-  range_fits i j (Ready (Some x) ∷ l) (suc n) e h =
-      let step = h.1.0 in
-      let fewer : h.0.end - h.0.start ≡ n = (let a = step.0 in let b = step.1.2 in omega (arith, e, a, b)) in
-      (step.1.1, subst (λ a. Fits l (range_with_len a n)) step.1.2 (range_fits h.0 j l n fewer h.2))
+    some : (i j : Range ℕ) (y : ℕ) → range_steps (λ a b. b - a) (λ a b. b ≡ a + 1) i (Some y) j
+        → (left i ≡ y ∷ left j) × (j.end - j.start + 1 ≡ i.end - i.start)
+    some i j y g =
+        let a = g.0 in let b = g.1.0 in let c = g.1.2 in
+        let size : i.end - i.start ≡ suc (j.end - j.start) = omega arith in
+        (rw (size, g.1.1, c) refl, omega arith)
 
 module _ (A : Type 0) where
   pub vec_gives : (x : Iter (IntoIter A Global)) → into_iter_len x.iter ≡ length (into_iter_items x.iter)
       → GivesAll into_iter_steps (λ i. at_most (into_iter_len i)) x (into_iter_items x.iter)
-  unfolding Lists Fronts
-  vec_gives x n = (
-    (
-      refl,
-      seen _ _,
-      λ l t h. left_fits _ into_iter_steps _ into_iter_items into_iter_len (λ i j y g. g)
-          (λ i j g. g) x.iter t.iter l n h,
-    ),
-    λ l t h. left_fronts _ into_iter_steps _ into_iter_items into_iter_len (λ i j y g. g)
-        (λ i j g. g) x.iter t.iter l h,
-  )
+  vec_gives =
+      left_gives into_iter_steps (λ i. at_most (into_iter_len i)) into_iter_items into_iter_len (λ i j y g. g)
+      (λ i j g. g)
 
   one_less : (x : A) (l m : List A) → l ≡ x ∷ m → (l ≡ x ∷ m) × (length m + 1 ≡ length l)
   one_less x l m e = (e, omega (arith, ap length e))
-
-  array_none : {n : ℕ} (i j : ArrayIter A n) → array_steps i None j → (length (array_into_iter_items i) ≡ 0)
-      × (length (array_into_iter_items j) ≡ 0)
-  array_none i j h = (h.0, ap (λ k. length (array_into_iter_items k)) h.1 ∙ h.0)
 
   abbrev array_left : {n : ℕ} → ArrayIter A n → ℕ
   array_left i = length (array_into_iter_items i)
 
   pub array_gives : {n : ℕ} (x : Iter (ArrayIter A n))
-      → GivesAll array_steps (λ i. at_most (length (array_into_iter_items i))) x (array_into_iter_items x.iter)
-  unfolding Lists Fronts
-  array_gives x = (
-    (
-      refl,
-      seen _ _,
-      λ l t h. left_fits _ array_steps _ array_into_iter_items array_left
-          (λ i j y g. one_less y _ _ g) array_none x.iter t.iter l refl h,
-    ),
-    λ l t h. left_fronts _ array_steps _ array_into_iter_items array_left
-        (λ i j y g. one_less y _ _ g) array_none x.iter t.iter l h,
-  )
+      → GivesAll array_steps (λ i. at_most (array_left i)) x (array_into_iter_items x.iter)
+  array_gives x =
+      left_gives array_steps (λ i. at_most (array_left i)) array_into_iter_items array_left
+      (λ i j y g. one_less y _ _ g) (λ i j g. (g.0, rw g.1 g.0)) x refl
 
   slice_some : (i j : Copied (SliceIter A)) (x : A) → copied_steps iter_steps i (Some x) j
       → (slice_items i ≡ x ∷ slice_items j) × (length (slice_items j) + 1 ≡ length (slice_items i))
@@ -158,68 +103,60 @@ module _ (A : Type 0) where
 
   slice_none : (i j : Copied (SliceIter A)) → copied_steps iter_steps i None j → (length (slice_items i) ≡ 0)
       × (length (slice_items j) ≡ 0)
-  slice_none i j (None, h, e) = (h.0, ap (λ k. length (iter_rest k)) h.1 ∙ h.0)
+  slice_none i j (None, h, e) = (h.0, rw h.1 h.0)
   slice_none i j (Some y, h, e) = absurd (cc e)
 
   pub slice_gives : (x : Iter (Copied (SliceIter A)))
       → GivesAll (copied_steps iter_steps) (λ i. at_most (length (slice_items i))) x (slice_items x.iter)
-  unfolding Lists Fronts
-  slice_gives x = (
-    (
-      refl,
-      seen _ _,
-      λ l t h. left_fits _ (copied_steps iter_steps) _ slice_items
-          (λ i. length (slice_items i)) slice_some slice_none x.iter t.iter l refl h,
-    ),
-    λ l t h. left_fronts _ (copied_steps iter_steps) _ slice_items
-        (λ i. length (slice_items i)) slice_some slice_none x.iter t.iter l h,
-  )
-
-pub range_gives : (x : Iter (Range ℕ)) (n : ℕ) → x.iter.end - x.iter.start ≡ n
-    → GivesAll (range_steps (λ a b. b - a) (λ a b. b ≡ a + 1)) (λ r. at_most (r.end - r.start)) x
-    (range_with_len x.iter.start n)
-unfolding Lists Fronts
-range_gives x n e = (
-  (refl, seen _ _, λ l t h. range_fits _ _ x.iter t.iter l n e h),
-  λ l t h. iterated_fronts _ (range_steps gap after) _ stays x.iter t.iter l _ (range_fits _ _ x.iter t.iter l n e h) h,
-)
-  where
-    stays : (i j k : Range ℕ) (y : ℕ) → range_steps gap after i None j → ¬ (range_steps gap after j (Some y) k)
-    stays i j k y g h = let a = g.0 in let b = g.1.0 in let c = g.1.1 in let d = h.1.0 in omega (arith, a, b, c, d)
+  slice_gives x =
+      left_gives (copied_steps iter_steps) (λ i. at_most (length (slice_items i))) slice_items
+      (λ i. length (slice_items i)) slice_some slice_none x refl
 
 -- `script`, and `once`
-pub scripted_fits : {A : Type 0} (x l y : List (Answer A)) → GivesScript x l y → Fits l (items_in (until_end x))
-scripted_fits {A} x [] y h = tt
-scripted_fits {A} [] (a ∷ l) y h = subst (λ (b : Answer A). Fits (b ∷ l) []) (sym h.0) refl
-scripted_fits {A} (Pending ∷ x) (a ∷ l) y h =
-    subst (λ (b : Answer A). Fits (b ∷ l) (items_in (until_end x))) (sym h.0) (scripted_fits x l y h.1)
-scripted_fits {A} (Ready None ∷ x) (a ∷ l) y h = subst (λ (b : Answer A). Fits (b ∷ l) []) (sym h.0) refl
-scripted_fits {A} (Ready (Some z) ∷ x) (a ∷ l) y h =
-    subst (λ (b : Answer A). Fits (b ∷ l) (z ∷ items_in (until_end x))) (sym h.0) (refl, scripted_fits x l y h.1)
+scripted_fits : {A : Type 0} (x l y : List (Answer A)) → GivesScript x l y → Fits l (items_in (until_end x))
+scripted_fits x [] y h = tt
+scripted_fits [] (a ∷ l) y h = rw h.0 refl
+scripted_fits (Pending ∷ x) (a ∷ l) y h = rw h.0 (scripted_fits x l y h.1)
+scripted_fits (Ready None ∷ x) (a ∷ l) y h = rw h.0 refl
+scripted_fits (Ready (Some z) ∷ x) (a ∷ l) y h = rw h.0 (refl, scripted_fits x l y h.1)
 
-pub scripted_fronts : {A : Type 0} (x l y : List (Answer A)) → GivesScript x l y → Front (items_in l) (items_in x)
-scripted_fronts {A} x [] y h = (items_in x, refl)
-scripted_fronts {A} [] (a ∷ l) y h =
-    subst (λ (b : Answer A). Front (items_in (b ∷ l)) []) (sym h.0) (scripted_fronts [] l y h.1)
-scripted_fronts {A} (Pending ∷ x) (a ∷ l) y h =
-    subst (λ (b : Answer A). Front (items_in (b ∷ l)) (items_in x)) (sym h.0) (scripted_fronts x l y h.1)
-scripted_fronts {A} (Ready None ∷ x) (a ∷ l) y h =
-    subst (λ (b : Answer A). Front (items_in (b ∷ l)) (items_in x)) (sym h.0) (scripted_fronts x l y h.1)
-scripted_fronts {A} (Ready (Some z) ∷ x) (a ∷ l) y h =
-    subst (λ (b : Answer A). Front (items_in (b ∷ l)) (z ∷ items_in x)) (sym h.0)
-    (let rest = scripted_fronts x l y h.1 in (rest.0, ap (λ k. z ∷ k) rest.1))
+scripted_fronts : {A : Type 0} (x l y : List (Answer A)) → GivesScript x l y → Front (items_in l) (items_in x)
+scripted_fronts x [] y h = (items_in x, refl)
+scripted_fronts [] (a ∷ l) y h = rw h.0 (scripted_fronts [] l y h.1)
+scripted_fronts (Pending ∷ x) (a ∷ l) y h = rw h.0 (scripted_fronts x l y h.1)
+scripted_fronts (Ready None ∷ x) (a ∷ l) y h = rw h.0 (scripted_fronts x l y h.1)
+scripted_fronts (Ready (Some z) ∷ x) (a ∷ l) y h =
+    let rest = scripted_fronts x l y h.1 in rw h.0 (rest.0, ap (λ k. z ∷ k) rest.1)
+
+pub script_lists : {A : Type 0} (x : List (Answer A)) → ListsAs GivesScript x (items_in (until_end x))
+script_lists x = listed GivesScript x (items_in (until_end x)) (scripted_fits x)
+
+pub script_fronts : {A : Type 0} (x : List (Answer A)) → Fronts GivesScript x (items_in x)
+unfolding Fronts
+script_fronts x l y h = scripted_fronts x l y h
+
+pub once_lists : {A : Type 0} (x : A) → ListsAs GivesOnce (record { value = Some x }) (x ∷ [])
+once_lists x =
+    listed GivesOnce (record { value = Some x }) (x ∷ []) (λ l y h. scripted_fits (once_left (Some x)) l (once_left y.value) h)
+
+pub once_fronts : {A : Type 0} (x : A) → Fronts GivesOnce (record { value = Some x }) (x ∷ [])
+unfolding Fronts
+once_fronts x l y h = scripted_fronts (once_left (Some x)) l (once_left y.value) h
 
 -- `empty`
-pub ended_fits : {S A : Type 0} (s t : S) (l : List (Answer A)) → Unchanging (λ (_ : S) a. a ≡ end) s l t → Fits l []
-ended_fits {A = A} s t [] h = tt
-ended_fits {A = A} s t (a ∷ l) h = subst (λ (b : Answer A). Fits (b ∷ l) []) (sym h.0.0) refl
+pub empty_lists : {S A : Type 0} (x : S) → ListsAs {A = A} (Unchanging (λ _ a. a ≡ end)) x []
+empty_lists x = listed (Unchanging (λ _ a. a ≡ end)) x [] (λ l y h. ended_fits l h.0)
+  where
+    ended_fits : {A : Type 0} (l : List (Answer A)) → AllByRecursion (λ a. a ≡ end) l → Fits l []
+    ended_fits [] h = tt
+    ended_fits (a ∷ l) h = rw h.0 refl
 
 -- `repeat`, of an item whose clones equal it and are not refused
-pub cloned_goes_on : {A E : Type 0} (is_clone : A → A → Type 0) (is_infallible : A → Type 0) (x y : Repeat A)
-    (l : List (Answer (Result A E)))
-    → is_infallible x.item → ((v : A) → is_clone x.item v → v ≡ x.item) → Repeats is_clone is_infallible x l y
-    → EachIs (Ok x.item) l
-cloned_goes_on {A} {E} is_clone is_infallible x y l never equal h = each l h.0
+pub repeated_on : {A : Type 0} (E : Type 0) (is_clone : A → A → Type 0) (is_infallible : A → Type 0) (x : Repeat A)
+    → is_infallible x.item → ((v : A) → is_clone x.item v → v ≡ x.item)
+    → Seen {Y = Result A E} x (Ok x.item) × GoesOn (Repeats {E = E} is_clone is_infallible) x (Ok x.item)
+unfolding GoesOn
+repeated_on {A} E is_clone is_infallible x never equal = (seen x (Ok x.item), λ l y h. each l h.0)
   where
     each : (l : List (Answer (Result A E))) → AllByRecursion (IsCloned is_clone is_infallible x.item) l
         → EachIs (Ok x.item) l

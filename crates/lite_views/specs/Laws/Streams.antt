@@ -1,5 +1,8 @@
 -- The streams over a reader of which it is known what bytes are to come.
-use Rattle.std.proofs.Common.{◌≡◌, ◌∙◌, ◌<◌, ◌≢◌, ℕ, List, [], ◌∷◌, ◌++◌, length, map, inl, inr, refl, ap, sym, subst}
+use Rattle.lite_views.specs.Laws.OkLists.{ok_seen}
+use Rattle.lite_views.specs.Laws.Views.{listed}
+use Rattle.lite_read.specs.declared.bytes.Bytes.{Bytes}
+use Rattle.std.proofs.Common.{◌≡◌, ◌∙◌, ◌<◌, ◌≢◌, ℕ, List, [], ◌∷◌, ◌++◌, length, map, inl, inr, refl, ap, subst}
 use Rattle.std.proofs.Common.{arith}
 use Rattle.std.proofs.lemmas.Bool.Decides.{eqb_tells}
 use Rattle.std.specs.Prelude.{◌==◌, ⊤, true, false, Option, Some, None, Result, Ok, Err}
@@ -8,26 +11,25 @@ use Rattle.std.specs.declared.io.Error.{Error}
 use Rattle.futures.specs.declared.task.Poll.TheVariants.{Ready, Pending}
 use Rattle.lite_base.specs.Answers.{Answer}
 use Rattle.lite_base.specs.Runs.{Runs}
-use Rattle.lite_io_base.specs.Known.{TellsKnown}
-use Rattle.lite_io_base.specs.Laws.Known.{spends_bytes, spends_split}
+use Rattle.lite_io_base.specs.Known.{TellsKnown, Known, Knows}
+use Rattle.lite_io_base.specs.Laws.Known.{spends_bytes, spends_split, knows_spends}
 use Rattle.lite_io_base.specs.Marks.{ReadMark, bytes}
 use Rattle.lite_read.specs.Pieces.{Cut, CutsPiece, Itemised, pieces}
-use Rattle.lite_read.specs.Segments.{PieceSegments}
-use Rattle.lite_read.specs.Bytes.{TellsEach}
+use Rattle.lite_read.specs.Segments.{PieceSegments, Flows, StreamOver}
+use Rattle.lite_read.specs.Bytes.{TellsEach, TellsBytes}
 use Rattle.lite_read.specs.ReadFold.{AnswerMarks, ReadFold}
-use Rattle.lite_views.specs.Views.{Fits}
-use Rattle.lite_views.specs.OkLists.{OkFits}
+use Rattle.lite_views.specs.Views.{Fits, ListsAs}
+use Rattle.lite_views.specs.OkLists.{OkFits, OkLists, OkListsAs}
 use Rattle.lite_views.specs.Pieces.{last_piece, pieces_from}
 
 -- `bytes`
-pub bytes_fit : (marks : List ReadMark) (out : List (Answer (Result ℕ Error))) (bs ys : List ℕ) → TellsEach marks out
+bytes_fit : (marks : List ReadMark) (out : List (Answer (Result ℕ Error))) (bs ys : List ℕ) → TellsEach marks out
     → TellsKnown bs marks ys → Fits out (map Ok bs)
 bytes_fit [] [] bs ys t h = tt
 bytes_fit [] (a ∷ out) bs ys t h = absurd t
 bytes_fit (m ∷ marks) [] bs ys t h = absurd t
 bytes_fit (ReadMark.byte b ∷ marks) (Ready (Some (Ok x)) ∷ out) bs ys t h =
-    subst (λ l. Fits (Ready (Some (Ok x)) ∷ out) (map Ok l)) (sym h.1)
-    (ap (λ z. Ok z) t.0, bytes_fit marks out h.0 ys t.1 h.2)
+    rw h.1 (ap Ok t.0, bytes_fit marks out h.0 ys t.1 h.2)
 bytes_fit (ReadMark.byte b ∷ marks) (Ready (Some (Err e)) ∷ out) bs ys t h = absurd t.0
 bytes_fit (ReadMark.byte b ∷ marks) (Ready None ∷ out) bs ys t h = absurd t.0
 bytes_fit (ReadMark.byte b ∷ marks) (Pending ∷ out) bs ys t h = absurd t.0
@@ -40,6 +42,13 @@ bytes_fit (ReadMark.end ∷ marks) (Ready (Some (Ok x)) ∷ out) bs ys t h = abs
 bytes_fit (ReadMark.end ∷ marks) (Ready (Some (Err e)) ∷ out) bs ys t h = absurd t.0
 bytes_fit (ReadMark.end ∷ marks) (Ready None ∷ out) bs ys t h = ap (map Ok) h.0
 bytes_fit (ReadMark.end ∷ marks) (Pending ∷ out) bs ys t h = absurd t.0
+
+pub bytes_lists : {R : Type 0} (reads : Runs ReadMark R) (known : Known R) (x : Bytes R)
+    → Knows reads known x.inner → ListsAs (TellsBytes reads) x (map Ok (known.left x.inner))
+bytes_lists reads known x knows =
+    listed (TellsBytes reads) x (map Ok (known.left x.inner))
+    (λ l y r. bytes_fit r.marks l (known.left x.inner) (known.left y.inner) r.told
+    (knows_spends reads known x.inner y.inner r.marks knows r.came))
 
 pub not_equal : (b at : ℕ) → b ≢ at → (b == at) ≡ false
 not_equal b at n = elim (eqb_tells b at) as (λ _. (b == at) ≡ false) [ inl h ↦ absurd (n h.1) | inr h ↦ h.0 ]
@@ -60,8 +69,7 @@ module _ {A : Type 0} (at : ℕ) (whole final : List ℕ → Result A Error → 
   taken_made : (xs p q rest : List ℕ) → FoldsTo stream_fold.takes p xs q → made p (xs ++ rest) ≡ made q rest
   taken_made [] p q rest e = ap (λ v. made v rest) e
   taken_made (x ∷ xs) p q rest (r, t, more) =
-      let step : made p (x ∷ (xs ++ rest)) ≡ made (p ++ x ∷ []) (xs ++ rest) = rw (not_equal x at t.0) refl in
-      step ∙ ap (λ v. made v (xs ++ rest)) (sym t.1) ∙ taken_made xs r q rest more
+      rw (not_equal x at t.0, ← t.1) (taken_made xs r q rest more)
 
   last_made : (held : List ℕ) → 0 < length held → last_piece held ≡ held ∷ []
   last_made [] n = absurd (omega arith)
@@ -72,55 +80,55 @@ module _ {A : Type 0} (at : ℕ) (whole final : List ℕ → Result A Error → 
   StillToCome q out ys = OkFits f out (made q ys)
 
   cut_fits : (c : Cut) (r : Option (Result A Error)) (out : List (Answer (Result A Error)))
-      (held after last ys zs : List ℕ) (marks : List ReadMark)
+      (held after ys zs : List ℕ) (marks : List ReadMark)
       → CutsPiece at ⊤ held marks c → Itemised whole final c held r after → TellsKnown ys marks zs
       → StillToCome after out zs → OkFits f (Ready r ∷ out) (made held ys)
-  cut_fits (Cut.piece xs) (Some (Ok x)) out held after last ys zs marks c i s k =
-      let s = subst (λ m. TellsKnown ys m zs) c.0 s in
-      let here : made held ys ≡ h held ∷ made [] s.0 = ap (made held) s.1 ∙ rw (equal at) refl in
-      let rest : OkFits f out (made [] s.0) =
-      subst (λ v. StillToCome v out s.0) i.1 (subst (StillToCome after out) s.2 k) in
-      subst (λ l. OkFits f (Ready (Some (Ok x)) ∷ out) l) (sym here) (on_whole xs x i.0 ∙ ap h c.1, rest)
-  cut_fits (Cut.piece xs) (Some (Err e)) out held after last ys zs marks c i s k = tt
-  cut_fits (Cut.piece xs) None out held after last ys zs marks c i s k = absurd i
-  cut_fits (Cut.last xs) (Some (Ok x)) out held after last ys zs marks c i s k =
-      let s = subst (λ m. TellsKnown ys m zs) c.0 s in
-      let here : made held ys ≡ held ∷ [] = ap (made held) s.0 ∙ last_made held c.1 in
-      let rest : OkFits f out [] =
-      subst (λ v. StillToCome v out []) i.1 (subst (StillToCome after out) (s.1 ∙ s.0) k) in
-      subst (λ l. OkFits f (Ready (Some (Ok x)) ∷ out) l) (sym here) (on_final xs x i.0 ∙ c.2, rest)
-  cut_fits (Cut.last xs) (Some (Err e)) out held after last ys zs marks c i s k = tt
-  cut_fits (Cut.last xs) None out held after last ys zs marks c i s k = absurd i
-  cut_fits Cut.nothing (Some r) out held after last ys zs marks c i s k = absurd i
-  cut_fits Cut.nothing None out held after last ys zs marks c i s k =
-      let s = subst (λ m. TellsKnown ys m zs) c.0 s in
-      ap (made held) s.0 ∙ ap last_piece c.1
-  cut_fits (Cut.failed e) (Some (Ok x)) out held after last ys zs marks c i s k = absurd (let a = i.0 in cc)
-  cut_fits (Cut.failed e) (Some (Err x)) out held after last ys zs marks c i s k = tt
-  cut_fits (Cut.failed e) None out held after last ys zs marks c i s k = absurd i
+  cut_fits (Cut.piece xs) (Some (Ok x)) out held after ys zs marks c i s k =
+      let s = rw c.0 at s in rw (s.1, equal at) (on_whole xs x i.0 ∙ ap h c.1, rw (i.1, s.2) at k)
+  cut_fits (Cut.piece xs) (Some (Err e)) out held after ys zs marks c i s k = tt
+  cut_fits (Cut.piece xs) None out held after ys zs marks c i s k = absurd i
+  cut_fits (Cut.last xs) (Some (Ok x)) out held after ys zs marks c i s k =
+      let s = rw c.0 at s in rw (s.0, last_made held c.1) (on_final xs x i.0 ∙ c.2, rw (i.1, s.1, s.0) at k)
+  cut_fits (Cut.last xs) (Some (Err e)) out held after ys zs marks c i s k = tt
+  cut_fits (Cut.last xs) None out held after ys zs marks c i s k = absurd i
+  cut_fits Cut.nothing (Some r) out held after ys zs marks c i s k = absurd i
+  cut_fits Cut.nothing None out held after ys zs marks c i s k =
+      let s = rw c.0 at s in rw (s.0, c.1) refl
+  cut_fits (Cut.failed e) (Some (Ok x)) out held after ys zs marks c i s k = absurd (let a = i.0 in cc)
+  cut_fits (Cut.failed e) (Some (Err x)) out held after ys zs marks c i s k = tt
+  cut_fits (Cut.failed e) None out held after ys zs marks c i s k = absurd i
 
   answer_fits : (a : Answer (Result A Error)) (out : List (Answer (Result A Error))) (p q bs zs : List ℕ)
       (marks : List ReadMark) → AnswerMarks stream_fold p marks a q
       → TellsKnown bs marks zs → StillToCome q out zs → OkFits f (a ∷ out) (made p bs)
   answer_fits Pending out p q bs zs marks w s k =
-      let cut = spends_split bs zs (bytes w.taken) w.last (subst (λ m. TellsKnown bs m zs) w.cut s) in
-      let here : made p bs ≡ made w.between cut.0 = ap (made p) (spends_bytes w.taken bs cut.0 cut.1)
-      ∙ taken_made w.taken p w.between cut.0 w.folds in
+      let cut = spends_split bs zs (bytes w.taken) w.last (rw w.cut at s) in
       let told : zs ≡ cut.0 = subst (λ m. TellsKnown cut.0 m zs) w.given.0 cut.2 in
-      subst (OkFits f out) (sym here)
-      (subst (StillToCome w.between out) told (subst (λ v. StillToCome v out zs) w.given.2 k))
+      rw (spends_bytes w.taken bs cut.0 cut.1, taken_made w.taken p w.between cut.0 w.folds)
+      (rw (w.given.2, told) at k)
   answer_fits (Ready r) out p q bs zs marks w s k =
-      let cut = spends_split bs zs (bytes w.taken) w.last (subst (λ m. TellsKnown bs m zs) w.cut s) in
-      let here : made p bs ≡ made w.between cut.0 = ap (made p) (spends_bytes w.taken bs cut.0 cut.1)
-      ∙ taken_made w.taken p w.between cut.0 w.folds in
+      let cut = spends_split bs zs (bytes w.taken) w.last (rw w.cut at s) in
       let g = w.given in
-      subst (λ l. OkFits f (Ready r ∷ out) l) (sym here)
-      (cut_fits g.0 r out w.between q [] cut.0 zs w.last g.1 g.2 cut.2 k)
+      rw (spends_bytes w.taken bs cut.0 cut.1, taken_made w.taken p w.between cut.0 w.folds)
+      (cut_fits g.0 r out w.between q cut.0 zs w.last g.1 g.2 cut.2 k)
 
-  pub pieces_fit : (out : List (Answer (Result A Error))) (p q bs ys : List ℕ) (marks : List ReadMark)
+  pieces_fit : (out : List (Answer (Result A Error))) (p q bs ys : List ℕ) (marks : List ReadMark)
       → PieceSegments stream_fold p marks out q → TellsKnown bs marks ys
       → OkFits f out (pieces_from at h p bs)
   pieces_fit [] p q bs ys marks g s = tt
   pieces_fit (a ∷ out) p q bs ys marks (first, rest, m, e, one, more) s =
-      let cut = spends_split bs ys first rest (subst (λ l. TellsKnown bs l ys) e s) in
+      let cut = spends_split bs ys first rest (rw e at s) in
       answer_fits a out p m bs cut.0 first one cut.1 (pieces_fit out m q cut.0 ys rest more cut.2)
+
+  -- a stream of the pieces that holds nothing yet
+  pub pieces_listed : {X S K : Type 0} (over : StreamOver X S (List ℕ) K)
+      (fold : K → ReadFold (List ℕ) (Option (Result A Error))) (reads : Runs ReadMark S) (known : Known S) (x : X)
+      → fold (over.kept x) ≡ stream_fold → over.held x ≡ [] → Knows reads known (over.reader x)
+      → OkListsAs (Flows over fold reads) x f (pieces_from at h [] (known.left (over.reader x)))
+  unfolding OkLists
+  pieces_listed over fold reads known x same none knows = (
+    ok_seen x f (pieces_from at h [] (known.left (over.reader x))),
+    λ l y ran. let r = rw (same, none) at ran.segmented in
+        pieces_fit l [] (over.held y) (known.left (over.reader x)) (known.left (over.reader y)) r.marks r.cut
+        (knows_spends reads known (over.reader x) (over.reader y) r.marks knows r.came),
+  )

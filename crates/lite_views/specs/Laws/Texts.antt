@@ -1,16 +1,17 @@
 -- The futures that read a text from a reader of which it is known what bytes are to come.
-use Rattle.std.proofs.Common.{◌≡◌, ◌∙◌, ℕ, List, [], ◌∷◌, ◌++◌, length, inl, inr, ap, sym, subst, arith}
+use Rattle.lite_io_base.specs.Marks.{ReadMark}
+use Rattle.lite_views.specs.Waiting.{WhenLeft}
+use Rattle.lite_read.specs.Holding.{TextOver, TextStays}
+use Rattle.lite_base.specs.Runs.{Runs}
+use Rattle.lite_io_base.specs.Known.{Known, Knows}
+use Rattle.std.proofs.Common.{◌≡◌, ◌∙◌, ℕ, List, [], ◌∷◌, ◌++◌, length, inl, inr, ap, sym, arith, refl}
 use Rattle.std.specs.Prelude.{⊤, Result, Ok, Err, IfOk}
 use Rattle.std.specs.List.{FoldsTo}
 use Rattle.std.specs.declared.io.Error.{Error}
-use Rattle.futures.specs.declared.task.Poll.{Poll}
-use Rattle.lite_base.specs.Answers.{Gives}
-use Rattle.lite_io_base.specs.Known.{TellsKnown}
-use Rattle.lite_io_base.specs.Marks.{ReadMark}
-use Rattle.lite_read.specs.ReadFold.{ReadFold, ReadFolds}
+use Rattle.lite_read.specs.ReadFold.{ReadFold}
 use Rattle.lite_read.specs.ReadToEnd.{appends}
-use Rattle.lite_read.specs.Texts.{AppendsText, Reading, ValueOf, in_text}
-use Rattle.lite_views.specs.Laws.Futures.{TakenUp, all_appended, taken_up}
+use Rattle.lite_read.specs.Texts.{AppendsText, Reading, ValueOf, in_text, reading, ReadsText}
+use Rattle.lite_views.specs.Laws.Futures.{TakenUp, all_appended, gathered_left}
 
 module _ (fold : ReadFold (List ℕ) (Result ℕ Error)) where
   folds_under : (xs : List ℕ) (p q : Reading) → FoldsTo (in_text fold).takes p xs q
@@ -25,11 +26,9 @@ module _ (fold : ReadFold (List ℕ) (Result ℕ Error)) where
   given_under n (Ok k) all before after v (inr g) = absurd (g.0 v.0)
 
   -- what was read for a text, where the value is Ok
-  pub under_text : (n : ℕ) (out : List (Poll (Result ℕ Error))) (p q : Reading) (bs ys : List ℕ) (marks : List ReadMark)
-      → ReadFolds (in_text fold) p marks out q → TellsKnown bs marks ys → Gives out (Ok n)
+  pub under_text : (n : ℕ) (p q : Reading) (bs ys : List ℕ) → TakenUp (in_text fold) p bs ys (Ok n) q
       → (all : List ℕ) × TakenUp fold p.read bs ys (Ok n) all × (q.text ≡ p.text ++ all)
-  under_text n out p q bs ys marks g s v =
-      let t = taken_up (in_text fold) out (Ok n) p q bs ys marks g s v in
+  under_text n p q bs ys t =
       let f = folds_under t.taken p t.between t.folds in
       let w = t.given in
       let end = given_under n w.0 w.1 t.between.text q.text w.3 w.4 in (
@@ -42,20 +41,32 @@ module _ (fold : ReadFold (List ℕ) (Result ℕ Error)) where
           came = t.came;
           folds = f.0;
           told = t.told;
-          given = subst (λ r. fold.gives t.between.read t.last r w.1) end.0 w.2;
+          given = rw (← end.0) w.2;
         },
-        end.1 ∙ ap (λ z. z ++ w.1) f.1,
+        rw (← f.1) end.1,
       )
 
+-- a future that reads for a text: its references stay, and Q holds wherever a value was given
+pub text_left : {X R A E : Type 0} (over : TextOver X R A) (fold : ReadFold (List ℕ) (Result ℕ Error))
+    (reads : Runs ReadMark R) (known : Known R) (Q : X → Result ℕ Error → Type 0) (x : X)
+    → Knows reads known (over.reader x).now
+    → ((y : X) (v : Result ℕ Error) → TakenUp (in_text fold) (reading over x) (known.left (over.reader x).now)
+    (known.left (over.reader y).now) v (reading over y) → Q y v)
+    → WhenLeft E (ReadsText over fold reads) x (λ y. ((over.text y).ghost_name ≡ (over.text x).ghost_name)
+    × ((over.reader y).ghost_name ≡ (over.reader x).ghost_name)) Q
+text_left over fold reads known Q x knows value =
+    gathered_left (λ y. (over.reader y).now) (reading over) (λ y. in_text fold) (TextStays over) reads known
+    (λ y. ((over.text y).ghost_name ≡ (over.text x).ghost_name)
+    × ((over.reader y).ghost_name ≡ (over.reader x).ghost_name)) Q x knows (refl, refl)
+    (λ y s. rw (s.text, s.reader) (refl, refl)) (λ y v s. value y v)
+
 -- `read_to_string`
-pub all_read_text : (v : Result ℕ Error) (out : List (Poll (Result ℕ Error))) (p q : Reading) (before bs ys : List ℕ)
-    (marks : List ReadMark)
-    → ReadFolds (in_text (appends ⊤ 0)) p marks out q
-    → TellsKnown bs marks ys → Gives out v → p.read ≡ [] → p.text ≡ before
-    → IfOk v (λ n. (q.text ≡ before ++ bs) × (n ≡ length bs))
-all_read_text (Ok n) out p q before bs ys marks g s v none from =
-    let r = under_text (appends ⊤ 0) n out p q bs ys marks g s v in
+pub all_read_text : (v : Result ℕ Error) (p q : Reading) (bs ys : List ℕ)
+    → TakenUp (in_text (appends ⊤ 0)) p bs ys v q → p.read ≡ []
+    → IfOk v (λ n. (q.text ≡ p.text ++ bs) × (n ≡ length bs))
+all_read_text (Ok n) p q bs ys t none =
+    let r = under_text (appends ⊤ 0) n p q bs ys t in
     let all = all_appended 0 n p.read r.0 bs ys r.1 in
-    let whole : r.0 ≡ bs = all.0 ∙ ap (λ z. z ++ bs) none in
-    (r.2 ∙ ap (λ z. z ++ r.0) from ∙ ap (λ z. before ++ z) whole, omega (arith, all.1, ap length whole))
-all_read_text (Err e) out p q before bs ys marks g s v none from = tt
+    let whole : r.0 ≡ bs = all.0 ∙ rw none refl in
+    (rw (← whole) r.2, omega (arith, all.1, ap length whole))
+all_read_text (Err e) p q bs ys t none = tt

@@ -1,18 +1,16 @@
 -- `read_until` and `read_line` of a reader of which it is known what bytes are to come.
-use Rattle.std.proofs.Common.{◌≡◌, ◌∙◌, ℕ, List, [], ◌∷◌, ◌++◌, length, take, drop, refl, ap, sym, subst, append_assoc}
+use Rattle.std.proofs.Math.Seq.{take-length, drop-length}
+use Rattle.std.proofs.Common.{◌≡◌, ◌∙◌, ℕ, List, [], ◌∷◌, ◌++◌, length, take, drop, refl, ap, sym, append_assoc}
 use Rattle.std.proofs.Common.{append-nil, take-append-drop}
 use Rattle.std.specs.Prelude.{⊤, Result, Ok, Err, IfOk}
 use Rattle.std.specs.List.{FoldsTo}
 use Rattle.std.specs.declared.io.Error.{Error}
-use Rattle.futures.specs.declared.task.Poll.{Poll}
-use Rattle.lite_base.specs.Answers.{Gives}
 use Rattle.lite_io_base.specs.Known.{TellsKnown}
 use Rattle.lite_io_base.specs.Marks.{ReadMark}
 use Rattle.lite_read.specs.Pieces.{Cut, CutsPiece}
 use Rattle.lite_read.specs.ReadUntil.{CountsPiece, until}
-use Rattle.lite_read.specs.ReadFold.{ReadFolds}
 use Rattle.lite_read.specs.Texts.{Reading, in_text}
-use Rattle.lite_views.specs.Laws.Futures.{TakenUp, taken_up}
+use Rattle.lite_views.specs.Laws.Futures.{TakenUp}
 use Rattle.lite_views.specs.Laws.Streams.{equal, not_equal}
 use Rattle.lite_views.specs.Laws.Texts.{under_text}
 use Rattle.lite_views.specs.Pieces.{behind, through_first}
@@ -25,31 +23,17 @@ module _ (at : ℕ) where
   taken_until (x ∷ xs) p q rest (r, t, more) =
       let next = taken_until xs r q rest more in
       let other = not_equal x at t.0 in
-      (next.0 ∙ ap (λ z. z ++ xs) t.1 ∙ append_assoc p (x ∷ []) xs, rw other (ap (λ z. x ∷ z) next.1), rw other next.2)
+      (rw (← append_assoc p (x ∷ []) xs, ← t.1) next.0, rw (other, next.1) refl, rw other next.2)
 
   cut_until : (c : Cut) (n : ℕ) (held after bs ys : List ℕ) (last : List ReadMark) → CutsPiece at ⊤ held last c
       → CountsPiece at c held (Ok n) after → TellsKnown bs last ys
       → (after ≡ held ++ through_first at bs) × (ys ≡ behind at bs) × (n ≡ length after)
   cut_until (Cut.piece xs) n held after bs ys last c k s =
-      let s = subst (λ m. TellsKnown bs m ys) c.0 s in
-      let same = equal at in
-      let front : through_first at bs ≡ at ∷ [] = ap (through_first at) s.1 ∙ rw same refl in
-      let rest : behind at bs ≡ s.0 = ap (behind at) s.1 ∙ rw same refl in
-      (k.0 ∙ ap (λ z. z ++ at ∷ []) c.1 ∙ ap (λ z. held ++ z) (sym front), s.2 ∙ sym rest, (let e = k.1 in cc))
+      let s = rw c.0 at s in rw (s.1, equal at) (rw c.1 at k.0, s.2, (let e = k.1 in cc))
   cut_until (Cut.last xs) n held after bs ys last c k s =
-      let s = subst (λ m. TellsKnown bs m ys) c.0 s in (
-        k.0 ∙ c.2 ∙ sym (append-nil held) ∙ ap (λ z. held ++ through_first at z) (sym s.0),
-        s.1 ∙ s.0
-            ∙ ap (behind at) (sym s.0),
-        (let e = k.1 in cc),
-      )
+      let s = rw c.0 at s in rw (s.0, append-nil) (k.0 ∙ c.2, s.1 ∙ s.0, (let e = k.1 in cc))
   cut_until Cut.nothing n held after bs ys last c k s =
-      let s = subst (λ m. TellsKnown bs m ys) c.0 s in (
-        k.0 ∙ sym c.1 ∙ sym (append-nil held) ∙ ap (λ z. held ++ through_first at z) (sym s.0),
-        s.1 ∙ s.0
-            ∙ ap (behind at) (sym s.0),
-        (let e = k.1 in cc),
-      )
+      let s = rw c.0 at s in rw (s.0, append-nil) (k.0 ∙ sym c.1, s.1 ∙ s.0, (let e = k.1 in cc))
   cut_until (Cut.failed e) n held after bs ys last c k s = absurd (let a = k.1 in cc)
 
   -- up to the first delimiter, or all where there is none
@@ -58,50 +42,31 @@ module _ (at : ℕ) where
   until_read n p q bs ys t =
       let f = taken_until t.taken p t.between t.rest t.folds in
       let g = t.given in
-      let end = cut_until g.0 n t.between q t.rest ys t.last g.1 g.2 t.told in (
-        end.0 ∙ ap (λ z. z ++ through_first at t.rest) f.0 ∙ append_assoc p t.taken (through_first at t.rest)
-            ∙ ap (λ z. p ++ z) (sym f.1) ∙ ap (λ z. p ++ through_first at z) (sym t.came),
-        end.1 ∙ sym f.2 ∙ ap (behind at) (sym t.came),
-        end.2,
-      )
-
-front_of : (xs : List ℕ) → take (length xs) xs ≡ xs
-front_of [] = refl
-front_of (x ∷ xs) = ap (λ z. x ∷ z) (front_of xs)
-
-none_behind : (xs : List ℕ) → drop (length xs) xs ≡ []
-none_behind [] = refl
-none_behind (x ∷ xs) = none_behind xs
+      let end = cut_until g.0 n t.between q t.rest ys t.last g.1 g.2 t.told in
+      rw (t.came, f.1, f.2, ← append_assoc p t.taken (through_first at t.rest), ← f.0) end
 
 -- `read_until`
-pub read_piece : (at : ℕ) (v : Result ℕ Error) (out : List (Poll (Result ℕ Error))) (old new bs ys : List ℕ)
-    (marks : List ReadMark)
-    → ReadFolds (until at ⊤) (drop (length old) old) marks out (drop (length old) new)
-    → take (length old) new ≡ take (length old) old → TellsKnown bs marks ys
-    → Gives out v
+pub read_piece : (at : ℕ) (v : Result ℕ Error) (old new bs ys : List ℕ)
+    → TakenUp (until at ⊤) (drop (length old) old) bs ys v (drop (length old) new)
+    → take (length old) new ≡ take (length old) old
     → IfOk v (λ n. (new ≡ old ++ through_first at bs) × (n ≡ length (through_first at bs)) × (ys ≡ behind at bs))
-read_piece at (Ok n) out old new bs ys marks g before s v =
-    let up = taken_up (until at ⊤) out (Ok n) (drop (length old) old) (drop (length old) new) bs ys marks g s v in
-    let r = until_read at n (drop (length old) old) (drop (length old) new) bs ys up in
-    let piece : drop (length old) new ≡ through_first at bs = r.0
-    ∙ ap (λ z. z ++ through_first at bs) (none_behind old) in
-    let kept : take (length old) new ≡ old = before ∙ front_of old in (
-      sym (take-append-drop (length old) new) ∙ ap (λ z. z ++ drop (length old) new) kept ∙ ap (λ z. old ++ z) piece,
-      r.2
-          ∙ ap length piece,
+read_piece at (Ok n) old new bs ys t before =
+    let r = until_read at n (drop (length old) old) (drop (length old) new) bs ys t in
+    let piece : drop (length old) new ≡ through_first at bs = rw drop-length at r.0 in
+    let kept : take (length old) new ≡ old = before ∙ take-length old in (
+      sym (take-append-drop (length old) new) ∙ rw (kept, piece) refl,
+      r.2 ∙ ap length piece,
       r.1,
     )
-read_piece at (Err e) out old new bs ys marks g before s v = tt
+read_piece at (Err e) old new bs ys t before = tt
 
 -- `read_line`
-pub read_text_line : (v : Result ℕ Error) (out : List (Poll (Result ℕ Error))) (p q : Reading) (before bs ys : List ℕ)
-    (marks : List ReadMark)
-    → ReadFolds (in_text (until 10 ⊤)) p marks out q → TellsKnown bs marks ys → Gives out v → p.read ≡ []
-    → p.text ≡ before
-    → IfOk v (λ n. (q.text ≡ before ++ through_first 10 bs) × (n ≡ length (through_first 10 bs)) × (ys ≡ behind 10 bs))
-read_text_line (Ok n) out p q before bs ys marks g s v none from =
-    let r = under_text (until 10 ⊤) n out p q bs ys marks g s v in
+pub read_text_line : (v : Result ℕ Error) (p q : Reading) (bs ys : List ℕ)
+    → TakenUp (in_text (until 10 ⊤)) p bs ys v q → p.read ≡ []
+    → IfOk v (λ n. (q.text ≡ p.text ++ through_first 10 bs) × (n ≡ length (through_first 10 bs)) × (ys ≡ behind 10 bs))
+read_text_line (Ok n) p q bs ys t none =
+    let r = under_text (until 10 ⊤) n p q bs ys t in
     let u = until_read 10 n p.read r.0 bs ys r.1 in
-    let line : r.0 ≡ through_first 10 bs = u.0 ∙ ap (λ z. z ++ through_first 10 bs) none in
-    (r.2 ∙ ap (λ z. z ++ r.0) from ∙ ap (λ z. before ++ z) line, u.2 ∙ ap length line, u.1)
-read_text_line (Err e) out p q before bs ys marks g s v none from = tt
+    let line : r.0 ≡ through_first 10 bs = u.0 ∙ rw none refl in
+    (rw (← line) r.2, u.2 ∙ ap length line, u.1)
+read_text_line (Err e) p q bs ys t none = tt

@@ -1,4 +1,5 @@
 -- The futures that write to a writer of which it is known what it keeps.
+use Rattle.lite_write.specs.declared.write_all.WriteAllFuture.{WriteAllFuture}
 use Rattle.std.proofs.Common.{◌≡◌, ◌∙◌, ◌+◌, ◌%◌, ◌^◌, ℕ, List, [], ◌∷◌, ◌++◌, length, map, refl, ap, sym, subst, arith}
 use Rattle.std.proofs.Common.{append_assoc, append-nil}
 use Rattle.std.specs.Prelude.{⊤, Result, Ok, Err, IfOk}
@@ -20,14 +21,13 @@ use Rattle.lite_io_base.specs.Laws.Stored.{stores_kept}
 use Rattle.lite_io_base.specs.Marks.{ReadMark}
 use Rattle.lite_io_base.specs.Takings.{WriteMark, bytes_in, bytes_taken}
 use Rattle.lite_write.specs.Hands.{Hands}
-use Rattle.lite_write.specs.WriteAll.{Ended, HandsMarks, HandsOver}
+use Rattle.lite_write.specs.WriteAll.{Ended, HandsMarks, HandsOver, WritesAll}
 use Rattle.lite_views.specs.Laws.Futures.{when_left}
 use Rattle.lite_views.specs.Waiting.{WhenLeft}
 
 bytes_both : (l m : List WriteMark) → bytes_taken (l ++ m) ≡ bytes_taken l ++ bytes_taken m
 bytes_both [] m = refl
-bytes_both (a ∷ l) m =
-    ap (λ z. bytes_in a ++ z) (bytes_both l m) ∙ sym (append_assoc (bytes_in a) (bytes_taken l) (bytes_taken m))
+bytes_both (a ∷ l) m = rw (bytes_both l m) (sym (append_assoc (bytes_in a) (bytes_taken l) (bytes_taken m)))
 
 abbrev writes_of : List (List ℕ) → List WriteMark
 writes_of = map WriteMark.wrote
@@ -36,7 +36,7 @@ handed_bytes : (l : List (List ℕ)) (offered left : List ℕ) → FoldsTo Hands
     → offered ≡ bytes_taken (writes_of l) ++ left
 handed_bytes [] offered left h = h
 handed_bytes (xs ∷ l) offered left h =
-    h.1.1 ∙ ap (λ z. xs ++ z) (handed_bytes l h.0 left h.2) ∙ sym (append_assoc xs (bytes_taken (writes_of l)) left)
+    rw (h.1.1, handed_bytes l h.0 left h.2) (sym (append_assoc xs (bytes_taken (writes_of l)) left))
 
 ended_ok : (left : List ℕ) (last : List WriteMark) (u : Unit {0}) → Ended left last (Ok u) → (left ≡ []) × (last ≡ [])
 ended_ok left [] u e = (e.0, refl)
@@ -55,33 +55,36 @@ pub all_handed : (out : List (Poll (Result (Unit {0}) Error))) (offered left : L
     → Gives out (Ok u) → bytes_taken marks ≡ offered
 all_handed [] offered left marks u h g = absurd g
 all_handed (Pending ∷ out) offered left marks u ((first, rest, m, cut, w, more), up) g =
-    let whole = segment_front offered m marks first rest Pending w cut
-    ∙ ap (λ z. writes_of w.taken ++ (z ++ rest)) w.given.0 in
-    ap bytes_taken whole ∙ bytes_both (writes_of w.taken) (WriteMark.pending ∷ rest)
-    ∙ ap (λ z. bytes_taken (writes_of w.taken) ++ z) (all_handed out m left rest u (more, up) g ∙ w.given.2)
-    ∙ sym (handed_bytes w.taken offered w.between w.folds)
+    rw (segment_front offered m marks first rest Pending w cut, w.given.0, bytes_both)
+    (rw (all_handed out m left rest u (more, up) g, w.given.2) (sym (handed_bytes w.taken offered w.between w.folds)))
 all_handed (Ready r ∷ out) offered left marks u h g =
     let w = to_value_last HandsMarks offered left marks r out h in
-    let ok : Ended w.between w.last (Ok u) = subst (Ended w.between w.last) g.0 w.given.0 in
-    let over = ended_ok w.between w.last u ok in
-    ap bytes_taken w.cut ∙ bytes_both (writes_of w.taken) w.last
-    ∙ ap (λ z. bytes_taken (writes_of w.taken) ++ bytes_taken z) over.1
-    ∙ sym (ap (λ z. bytes_taken (writes_of w.taken) ++ z) over.0)
-    ∙ sym (handed_bytes w.taken offered w.between w.folds)
+    let over = ended_ok w.between w.last u (subst (Ended w.between w.last) g.0 w.given.0) in
+    rw (w.cut, bytes_both, over.1) (sym (rw over.0 at (handed_bytes w.taken offered w.between w.folds)))
 
 -- `write_all`
-pub all_written : (v : Result (Unit {0}) Error) (out : List (Poll (Result (Unit {0}) Error)))
+all_written : (v : Result (Unit {0}) Error) (out : List (Poll (Result (Unit {0}) Error)))
     (offered left before after : List ℕ) (marks : List WriteMark)
     → HandsOver offered marks out left → Gives out v → after ≡ before ++ bytes_taken marks
     → IfOk v (λ u. after ≡ before ++ offered)
-all_written (Ok u) out offered left before after marks h g k =
-    k ∙ ap (λ z. before ++ z) (all_handed out offered left marks u h g)
+all_written (Ok u) out offered left before after marks h g k = k ∙ rw (all_handed out offered left marks u h g) refl
 all_written (Err e) out offered left before after marks h g k = tt
+
+pub written_left : {W E : Type 0} (writes : Runs WriteMark W) (stored : Stored W) (x : WriteAllFuture W)
+    → Stores writes stored x.writer.now
+    → WhenLeft E (WritesAll writes) x (λ y. y.writer.ghost_name ≡ x.writer.ghost_name)
+    (λ y r. IfOk r (λ u. stored.kept y.writer.now ≡ stored.kept x.writer.now ++ x.buf.now))
+written_left writes stored x stores =
+    when_left (WritesAll writes) x (λ y. y.writer.ghost_name ≡ x.writer.ghost_name)
+    (λ y r. IfOk r (λ u. stored.kept y.writer.now ≡ stored.kept x.writer.now ++ x.buf.now)) refl
+    (λ ins y ran. ap (λ r. r.ghost_name) ran.stays)
+    (λ ins y v gives ran. all_written v ins x.buf.now y.buf.now (stored.kept x.writer.now) (stored.kept y.writer.now)
+    ran.marks ran.handed gives (stores_kept writes stored x.writer.now y.writer.now ran.marks stores ran.came))
 
 one_value : {A : Type 0} (out : List (Poll A)) (v : A) → Gives out v → strip out ≡ v ∷ []
 one_value [] v g = absurd g
 one_value (Pending ∷ out) v g = one_value out v g
-one_value (Ready x ∷ out) v g = ap (λ z. x ∷ strip z) g.1 ∙ ap (λ z. z ∷ []) g.0
+one_value (Ready x ∷ out) v g = rw (g.0, g.1) refl
 
 -- where the value is Ok
 values_ok : (n total : ℕ) (failed : List ReadMark) (last : List WriteMark) (after : List ℕ) (met : List ReadMark)
@@ -99,7 +102,7 @@ values_ok n total (m ∷ failed) last after met h = absurd h
 told_all : (read : List ReadMark) (bs ys : List ℕ) → BytesAlone read → TellsKnown bs (read ++ ReadMark.end ∷ []) ys
     → bytes_told (read ++ ReadMark.end ∷ []) ≡ bs
 told_all [] bs ys o h = sym h.0
-told_all (ReadMark.byte b ∷ l) bs ys o h = ap (λ z. b ∷ z) (told_all l h.0 ys o h.2) ∙ sym h.1
+told_all (ReadMark.byte b ∷ l) bs ys o h = rw h.1 (ap (λ z. b ∷ z) (told_all l h.0 ys o h.2))
 told_all (ReadMark.pending ∷ l) bs ys o h = told_all l bs ys o h
 told_all (ReadMark.fault kind ∷ l) bs ys o h = absurd o
 told_all (ReadMark.end ∷ l) bs ys o h = absurd o
@@ -113,15 +116,11 @@ pub all_copied : (n total : ℕ) (before : List ℕ) (met told : List ReadMark) 
     → (bytes_taken took ≡ bs) × (n ≡ total)
 all_copied n total before met told took out after met' bs ys none fresh c s g =
     let v = values_ok n total c.failed c.last after met'
-    (subst (λ l. CopyValue l c.failed c.last after met' total) (one_value out (Ok n) g) c.value) in
+    (rw (one_value out (Ok n) g) at c.value) in
     let r = c.reading in
-    let cut : told ≡ r.read ++ ReadMark.end ∷ [] =
-    sym (ap (λ z. z ++ told) fresh) ∙ r.cut ∙ ap (λ z. r.read ++ (z ++ c.failed)) v.2
-    ∙ ap (λ z. r.read ++ (ReadMark.end ∷ z)) v.0 in
-    let whole = told_all r.read bs ys r.goes_on (subst (λ l. TellsKnown bs l ys) cut s) in
-    let balance : bytes_told told ≡ bytes_taken took =
-    sym (ap (λ z. z ++ bytes_told told) none) ∙ c.balanced ∙ ap (λ z. bytes_taken took ++ z) v.1
-    ∙ append-nil (bytes_taken took) in
+    let cut : told ≡ r.read ++ ReadMark.end ∷ [] = rw (fresh, v.2, v.0) at r.cut in
+    let whole = told_all r.read bs ys r.goes_on (rw cut at s) in
+    let balance : bytes_told told ≡ bytes_taken took = rw (none, v.1, append-nil) at c.balanced in
     (sym balance ∙ ap bytes_told cut ∙ whole, v.3)
 
 -- `copy`
@@ -134,7 +133,7 @@ pub all_moved : (v : Result ℕ Error) (start total : ℕ) (before : List ℕ) (
 all_moved (Ok n) start total before met told took out after met' bs ys held holds none fresh zero_start c s g count k =
     let all = all_copied n total before met told took out after met' bs ys none fresh c s g in
     let from : start + length (bytes_taken took) ≡ length (bytes_taken took) = omega (arith, zero_start) in
-    (k ∙ ap (λ z. held ++ z) all.0, all.1 ∙ count ∙ ap (λ z. z % 2 ^ 64) from ∙ ap (λ z. length z % 2 ^ 64) all.0)
+    rw (← all.0) (k, all.1 ∙ count ∙ rw from refl)
 all_moved (Err e) start total before met told took out after met' bs ys held holds none fresh zero_start c s g count k =
     tt
 
@@ -161,8 +160,8 @@ module _ {R W E : Type 0} (reads : Runs ReadMark R) (writes : Runs WriteMark W) 
       × (n ≡ length (known.left reader) % 2 ^ 64))) tt (λ ins g ran. tt)
       (λ ins g v gives ran.
       let m = ran.moves in
-      let came : reads reader m.told (source_of g) = subst (λ x. reads x m.told (source_of g)) from m.came in
-      let went : writes writer m.took g.writer = subst (λ x. writes x m.took g.writer) to m.went in
+      let came : reads reader m.told (source_of g) = rw from at m.came in
+      let went : writes writer m.took g.writer = rw to at m.went in
       all_moved v f.amount g.amount (held_of f) (met_in f.phase) m.told m.took ins (held_of g) (met_in g.phase)
       (known.left reader) (known.left (source_of g))
       (stored.kept writer) (stored.kept g.writer) begins.held begins.met begins.none m.copied

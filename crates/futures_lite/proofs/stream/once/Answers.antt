@@ -1,14 +1,8 @@
-use Rattle.std.proofs.Common.{refl}
-use Rattle.lite_source.specs.Once.{once_left}
-use Rattle.lite_views.specs.Laws.SourceLists.{scripted_fits, scripted_fronts}
-use Rattle.lite_views.specs.Views.{Fronts, Lists}
-use Rattle.lite_views.specs.Laws.Views.{seen}
+use Rattle.lite_views.specs.Laws.SourceLists.{once_fronts, once_lists}
 use Rattle.futures_lite.proofs.stream.once.Goals as goal
 
 pub returns-clause-lists : goal.returns-clause-lists
-unfolding Lists
-returns-clause-lists g c = (refl, seen _ _, rw c.once.ensures (λ l t h. scripted_fits _ l (once_left t.value) h))
+returns-clause-lists g c = rw c.once.ensures (once_lists _)
 
 pub returns-clause-fronts : goal.returns-clause-fronts
-unfolding Fronts
-returns-clause-fronts g c = rw c.once.ensures (λ l t h. scripted_fronts _ l (once_left t.value) h)
+returns-clause-fronts g c = rw c.once.ensures (once_fronts _)

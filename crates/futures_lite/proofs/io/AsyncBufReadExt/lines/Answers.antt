@@ -1,19 +1,13 @@
+use Rattle.std.proofs.Common.{refl}
 use Rattle.std.specs.Prelude.{string_bytes}
-use Rattle.lite_io_base.specs.Laws.Known.{knows_spends}
-use Rattle.lite_read.specs.LineText.{IsText, without_return}
-use Rattle.lite_views.specs.Laws.Streams.{pieces_fit}
-use Rattle.lite_views.specs.OkLists.{OkLists}
-use Rattle.lite_views.specs.Laws.OkLists.{ok_seen}
+use Rattle.lite_read.specs.LineText.{without_return}
+use Rattle.lite_read.specs.Lines.{lines_over}
+use Rattle.lite_views.specs.Laws.Streams.{pieces_listed}
 use Rattle.futures_lite.proofs.io.AsyncBufReadExt.lines.Goals as goal
 
 pub returns-clause-read : goal.returns-clause-read
-unfolding OkLists
-returns-clause-read g c knows = (
-  ok_seen _ _ _,
-  λ l t ran.
-      let reads = g.Self.Tale.reads in
-      let s = rw (c.lines.ensures.reader, c.lines.ensures.empty) at ran.segmented in
-      pieces_fit 10 (λ xs. IsText (without_return xs)) IsText without_return string_bytes (λ xs x h. h)
-      (λ xs x h. h) l _ _ _ _ s.marks s.cut
-      (knows_spends reads g.Self.Tale.known _ _ s.marks knows s.came),
-)
+returns-clause-read g c knows =
+    let e = c.lines.ensures in
+    rw (← e.reader)
+    (pieces_listed 10 _ _ without_return string_bytes (λ xs x h. h) (λ xs x h. h) lines_over _ g.Self.Tale.reads g.Self.Tale.known _ refl
+    e.empty (rw e.reader knows))

@@ -1,19 +1,9 @@
-use Rattle.std.proofs.Common.{refl}
 use Rattle.std.specs.Fn.{CalledAt}
+use Rattle.lite_reshape.specs.Filter.{filter_parts}
 use Rattle.lite_views.specs.Laws.Adapting.{filter_fewer, filtered_fits}
-use Rattle.lite_views.specs.Views.{Lists}
-use Rattle.lite_views.specs.Laws.Views.{seen}
+use Rattle.lite_views.specs.Laws.Views.{listed_through}
 use Rattle.futures_lite.proofs.stream.StreamExt.filter.Goals as goal
 
 pub returns-clause-lists : goal.returns-clause-lists
-unfolding Lists
-returns-clause-lists g c test xs lists acts = (
-  (
-    refl,
-    seen _ _,
-    λ l t ran.
-        let r = rw c.filter.ensures at ran in
-        filtered_fits (CalledAt g.P.FnMut) test _ t.predicate acts r.ins l xs (lists r.ins _ r.came) r.related,
-  ),
-  filter_fewer test xs,
-)
+returns-clause-lists g c test xs lists acts =
+    rw c.filter.ensures (listed_through filter_parts _ _ _ xs _ lists (filtered_fits (CalledAt g.P.FnMut) _ test acts xs), filter_fewer test xs)

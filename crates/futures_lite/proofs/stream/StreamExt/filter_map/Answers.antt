@@ -1,19 +1,8 @@
-use Rattle.std.proofs.Common.{refl}
-use Rattle.lite_base.specs.Calling.{Calls}
-use Rattle.lite_views.specs.Laws.Adapting.{filter_mapped_fits, filter_map_fewer}
-use Rattle.lite_views.specs.Views.{Lists}
-use Rattle.lite_views.specs.Laws.Views.{seen}
+use Rattle.lite_reshape.specs.FilterMap.{filter_map_parts}
+use Rattle.lite_views.specs.Laws.Adapting.{filter_map_fewer, filter_mapped_fits}
+use Rattle.lite_views.specs.Laws.Views.{listed_through}
 use Rattle.futures_lite.proofs.stream.StreamExt.filter_map.Goals as goal
 
 pub returns-clause-lists : goal.returns-clause-lists
-unfolding Lists
-returns-clause-lists g c h xs lists acts = (
-  (
-    refl,
-    seen _ _,
-    λ l t ran.
-        let r = rw c.filter_map.ensures at ran in
-        filter_mapped_fits (Calls g.F.FnMut) h _ t.f acts r.ins l xs (lists r.ins _ r.came) r.related,
-  ),
-  filter_map_fewer h xs,
-)
+returns-clause-lists g c h xs lists acts =
+    rw c.filter_map.ensures (listed_through filter_map_parts _ _ _ xs _ lists (filter_mapped_fits _ _ h acts xs), filter_map_fewer h xs)

@@ -1,16 +1,6 @@
-use Rattle.std.proofs.Common.{refl}
 use Rattle.std.specs.Fn.{CalledAt}
-use Rattle.lite_views.specs.Laws.Adapting.{shown_fits}
-use Rattle.lite_views.specs.Views.{Lists}
-use Rattle.lite_views.specs.Laws.Views.{seen}
+use Rattle.lite_views.specs.Laws.Adapting.{shown_lists}
 use Rattle.futures_lite.proofs.stream.StreamExt.inspect.Goals as goal
 
 pub returns-clause-lists : goal.returns-clause-lists
-unfolding Lists
-returns-clause-lists g c xs lists = (
-  refl,
-  seen _ _,
-  λ l t ran.
-      let r = rw c.inspect.ensures at ran in
-      shown_fits (CalledAt g.F.FnMut) _ t.f r.ins l xs (lists r.ins _ r.came) r.related,
-)
+returns-clause-lists g c xs lists = rw c.inspect.ensures (shown_lists _ (CalledAt g.F.FnMut) _ xs lists)

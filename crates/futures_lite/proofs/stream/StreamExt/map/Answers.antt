@@ -1,20 +1,14 @@
-use Rattle.std.proofs.Common.{refl}
 use Rattle.lite_base.specs.Calling.{Calls}
-use Rattle.lite_views.specs.Laws.Asking.{may_ask}
+use Rattle.lite_stream.specs.Map.{map_parts}
 use Rattle.lite_views.specs.Laws.Adapting.{mapped_fits}
-use Rattle.lite_views.specs.Views.{Fronts, Lists}
-use Rattle.lite_views.specs.Laws.Views.{seen}
+use Rattle.lite_views.specs.Laws.Asking.{may_ask}
+use Rattle.lite_views.specs.Laws.Views.{listed_through, seen}
+use Rattle.lite_views.specs.Views.{Fronts}
 use Rattle.futures_lite.proofs.stream.StreamExt.map.Goals as goal
 
 pub returns-clause-lists : goal.returns-clause-lists
-unfolding Lists
-returns-clause-lists g c h xs lists acts = (
-  refl,
-  seen _ _,
-  λ l t ran.
-      let r = rw c.map.ensures at ran in
-      mapped_fits _ h _ _ acts r.ins l xs (lists r.ins _ r.came) r.related,
-)
+returns-clause-lists g c h xs lists acts =
+    rw c.map.ensures (listed_through map_parts _ _ _ xs _ lists (mapped_fits _ _ h acts xs))
 
 pub returns-clause-may : goal.returns-clause-may
 unfolding Fronts

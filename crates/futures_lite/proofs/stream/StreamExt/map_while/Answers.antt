@@ -1,19 +1,8 @@
-use Rattle.std.proofs.Common.{refl}
-use Rattle.lite_base.specs.Calling.{Calls}
-use Rattle.lite_views.specs.Laws.Adapting.{mapped_while_fits, map_while_fewer}
-use Rattle.lite_views.specs.Views.{Lists}
-use Rattle.lite_views.specs.Laws.Views.{seen}
+use Rattle.lite_stream.specs.MapWhile.{map_while_parts}
+use Rattle.lite_views.specs.Laws.Adapting.{map_while_fewer, mapped_while_fits}
+use Rattle.lite_views.specs.Laws.Views.{listed_through}
 use Rattle.futures_lite.proofs.stream.StreamExt.map_while.Goals as goal
 
 pub returns-clause-lists : goal.returns-clause-lists
-unfolding Lists
-returns-clause-lists g c h xs lists acts = (
-  (
-    refl,
-    seen _ _,
-    λ l t ran.
-        let r = rw c.map_while.ensures at ran in
-        mapped_while_fits (Calls g.F.FnMut) h _ t.f acts r.ins l xs (lists r.ins _ r.came) r.related,
-  ),
-  map_while_fewer h xs,
-)
+returns-clause-lists g c h xs lists acts =
+    rw c.map_while.ensures (listed_through map_while_parts _ _ _ xs _ lists (mapped_while_fits _ _ h acts xs), map_while_fewer h xs)

@@ -1,19 +1,8 @@
-use Rattle.std.proofs.Common.{refl}
-use Rattle.lite_base.specs.Calling.{CallsWith}
+use Rattle.lite_stream.specs.Scan.{scan_parts}
 use Rattle.lite_views.specs.Laws.Adapting.{scan_fewer, scanned_fits}
-use Rattle.lite_views.specs.Views.{Lists}
-use Rattle.lite_views.specs.Laws.Views.{seen}
+use Rattle.lite_views.specs.Laws.Views.{listed_through}
 use Rattle.futures_lite.proofs.stream.StreamExt.scan.Goals as goal
 
 pub returns-clause-lists : goal.returns-clause-lists
-unfolding Lists
-returns-clause-lists g c h xs lists acts = (
-  (
-    refl,
-    seen _ _,
-    λ l t ran.
-        let r = rw c.scan.ensures at ran in
-        scanned_fits (CallsWith g.F.FnMut) h _ _ (t.f, t.state) acts r.ins l xs (lists r.ins _ r.came) r.related,
-  ),
-  scan_fewer h _ xs,
-)
+returns-clause-lists g c h xs lists acts =
+    rw c.scan.ensures (listed_through scan_parts _ _ _ xs _ lists (scanned_fits _ h _ _ acts xs), scan_fewer h _ xs)

@@ -1,16 +1,9 @@
-use Rattle.std.proofs.Common.{refl}
 use Rattle.std.specs.Fn.{CalledAt}
+use Rattle.lite_reshape.specs.SkipWhile.{skip_while_parts}
 use Rattle.lite_views.specs.Laws.Adapting.{skipped_while_fits}
-use Rattle.lite_views.specs.Views.{Lists}
-use Rattle.lite_views.specs.Laws.Views.{seen}
+use Rattle.lite_views.specs.Laws.Views.{listed_through}
 use Rattle.futures_lite.proofs.stream.StreamExt.skip_while.Goals as goal
 
 pub returns-clause-lists : goal.returns-clause-lists
-unfolding Lists
-returns-clause-lists g c test xs lists acts = (
-  refl,
-  seen _ _,
-  λ l t ran.
-      let r = rw c.skip_while.ensures at ran in
-      skipped_while_fits (CalledAt g.P.FnMut) test _ t.predicate acts r.ins l xs (lists r.ins _ r.came) r.related,
-)
+returns-clause-lists g c test xs lists acts =
+    rw c.skip_while.ensures (listed_through skip_while_parts _ _ _ xs _ lists (skipped_while_fits (CalledAt g.P.FnMut) _ test acts xs))

@@ -1,16 +1,9 @@
-use Rattle.std.proofs.Common.{refl}
 use Rattle.std.specs.Fn.{CalledAt}
+use Rattle.lite_stream.specs.TakeWhile.{take_while_parts}
 use Rattle.lite_views.specs.Laws.Adapting.{taken_while_fits}
-use Rattle.lite_views.specs.Views.{Lists}
-use Rattle.lite_views.specs.Laws.Views.{seen}
+use Rattle.lite_views.specs.Laws.Views.{listed_through}
 use Rattle.futures_lite.proofs.stream.StreamExt.take_while.Goals as goal
 
 pub returns-clause-lists : goal.returns-clause-lists
-unfolding Lists
-returns-clause-lists g c test xs lists acts = (
-  refl,
-  seen _ _,
-  λ l t ran.
-      let r = rw c.take_while.ensures at ran in
-      taken_while_fits (CalledAt g.P.FnMut) test _ t.predicate acts r.ins l xs (lists r.ins _ r.came) r.related,
-)
+returns-clause-lists g c test xs lists acts =
+    rw c.take_while.ensures (listed_through take_while_parts _ _ _ xs _ lists (taken_while_fits (CalledAt g.P.FnMut) _ test acts xs))

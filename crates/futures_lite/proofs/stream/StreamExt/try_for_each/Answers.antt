@@ -1,14 +1,10 @@
-use Rattle.lite_base.specs.Calling.{Calls}
-use Rattle.lite_views.specs.Laws.Consuming.{finished_makes, try_for_each_made}
-use Rattle.lite_views.specs.Views.{Lists}
-use Rattle.lite_views.specs.Laws.Views.{value_is}
 use Rattle.std.proofs.Common.{refl}
+use Rattle.lite_base.specs.Calling.{Calls}
+use Rattle.lite_views.specs.Laws.Consuming.{try_for_each_made, only_made}
+use Rattle.lite_views.specs.Laws.Views.{lent_lists}
 use Rattle.futures_lite.proofs.stream.StreamExt.try_for_each.Goals as goal
 
 pub returns-clause-value : goal.returns-clause-value
-unfolding Lists
 returns-clause-value g c h xs lists acts =
-    value_is _ _ _ (λ ins v f.
-    let e = rw c.try_for_each.ensures at f in
-    try_for_each_made (λ m. m.f) (Calls g.F.FnMut) h _ acts _ xs v refl
-    (finished_makes _ _ _ ins v xs (λ l t ran. lists l t.now ran.0) e))
+    rw c.try_for_each.ensures
+    (only_made _ _ _ xs _ (lent_lists _ _ xs lists) (try_for_each_made (Calls g.F.FnMut) _ h acts _ xs refl))
