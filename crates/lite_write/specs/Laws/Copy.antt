@@ -46,37 +46,27 @@ taken_waits l m =
 
 goes_both : (l m : List ReadMark) → BytesAlone l → BytesAlone m → BytesAlone (l ++ m)
 goes_both [] m h k = k
-goes_both (ReadMark.byte b ∷ l) m h k = goes_both l m h k
-goes_both (ReadMark.pending ∷ l) m h k = goes_both l m h k
 goes_both (ReadMark.fault kind ∷ l) m h k = absurd h
 goes_both (ReadMark.end ∷ l) m h k = absurd h
+goes_both (_ ∷ l) m h k = goes_both l m h k
 
 some_both : (l m : List WriteMark) → TakesSome l → TakesSome m → TakesSome (l ++ m)
 some_both [] m h k = k
 some_both (WriteMark.wrote xs ∷ l) m h k = (h.0, some_both l m h.1 k)
 some_both (WriteMark.pending ∷ l) m h k = some_both l m h k
-some_both (WriteMark.fault kind ∷ l) m h k = absurd h
-some_both (WriteMark.flushed ∷ l) m h k = absurd h
-some_both (WriteMark.closed ∷ l) m h k = absurd h
+some_both (_ ∷ l) m h k = absurd h
 
 module _ (after : List ℕ) (met : List ReadMark) (total : ℕ) where
   no_value : (failed : List ReadMark) (last : List WriteMark) → CopyValue [] failed last after met total → (failed ≡ [])
       × (last ≡ [])
   no_value [] [] h = (refl, refl)
-  no_value [] (t ∷ last) h = absurd h
-  no_value (m ∷ failed) last h = absurd h
+  no_value _ _ h = absurd h
 
   pub ok_value : (n : ℕ) (failed : List ReadMark) (last : List WriteMark)
       → CopyValue (Ok n ∷ []) failed last after met total
       → (failed ≡ []) × (last ≡ WriteMark.flushed ∷ []) × (after ≡ []) × (met ≡ ReadMark.end ∷ []) × (n ≡ total)
-  ok_value n [] [] h = absurd h
   ok_value n [] (WriteMark.flushed ∷ []) h = (refl, refl, h.0, h.1, h.2)
-  ok_value n [] (WriteMark.flushed ∷ t ∷ last) h = absurd h
-  ok_value n [] (WriteMark.wrote xs ∷ last) h = absurd h
-  ok_value n [] (WriteMark.pending ∷ last) h = absurd h
-  ok_value n [] (WriteMark.fault kind ∷ last) h = absurd h
-  ok_value n [] (WriteMark.closed ∷ last) h = absurd h
-  ok_value n (m ∷ failed) last h = absurd h
+  ok_value n _ _ h = absurd h
 
 pub copied_none : (p : List ℕ) (a : List ReadMark) (n : ℕ) → Copied p a [] [] [] p a n
 copied_none p a n =
