@@ -22,17 +22,19 @@ returns-in-Ready-Err-clause-stepped g c =
 
 pub returns-in-Ok-clause-stepped : goal.returns-in-Ok-clause-stepped
 returns-in-Ok-clause-stepped g c =
-    let is : c.find_line.result ≡ Ready (Ok (Some c.in-Ready-Ok-Some-default.at, c.in-Ready-Ok-Some-default.ascii)) = search rules in
+    let line = c.in-Ready-Ok-Some-default in
+    let is : c.find_line.result ≡ Ready (Ok (Some line.at, line.ascii)) = search rules in
     let e = c.in-Ok.ensures in
     item_cut lines_over (λ k. 10)
     (λ xs. IsText
     (without_return xs)) IsText g.R.Tale.reads g.R.Tale.read_laws _ _ refl c.whole.ensures.empty _ _
-    c.in-Ready-Ok-Some-default.at c.whole.result
+    line.at c.whole.result
     (rw is at c.find_line.ensures.ran) (rw is at c.find_line.ensures.found) (rw e.ok at c.whole.ensures.text) e.taken
 
 pub returns-in-Err-clause-stepped : goal.returns-in-Err-clause-stepped
 returns-in-Err-clause-stepped g c =
-    let is : c.find_line.result ≡ Ready (Ok (Some c.in-Ready-Ok-Some-default.at, c.in-Ready-Ok-Some-default.ascii)) = search rules in
+    let line = c.in-Ready-Ok-Some-default in
+    let is : c.find_line.result ≡ Ready (Ok (Some line.at, line.ascii)) = search rules in
     let e = c.in-Err.ensures in
     item_refused lines_over (λ k. 10)
     (λ xs. IsText (without_return xs)) IsText g.R.Tale.reads g.R.Tale.read_laws _ _ refl e.held c.in-Err.e _ _

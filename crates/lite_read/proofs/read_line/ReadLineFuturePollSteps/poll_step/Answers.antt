@@ -29,17 +29,19 @@ returns-then-amount-eq0-clause-stepped g c =
 
 pub returns-in-Ok-clause-stepped : goal.returns-in-Ok-clause-stepped
 returns-in-Ok-clause-stepped g c =
-    let is : c.find_line.result ≡ Ready (Ok (Some c.in-Ready-Ok-Some-default.at, c.in-Ready-Ok-Some-default.ascii)) = search rules in
+    let line = c.in-Ready-Ok-Some-default in
+    let is : c.find_line.result ≡ Ready (Ok (Some line.at, line.ascii)) = search rules in
     let e = c.in-Ok.ensures in
     let f = c.whole.ensures in
     line_cut g.R.Tale.read_laws c.args.self.now c.find_line.new.reader c.take_in.new.self _ e.stays e.text
     (rw is at c.find_line.ensures.ran)
-    c.whole.new.self _ c.whole.result f.reader f.text f.value f.gains f.empty f.held c.in-Ready-Ok-Some-default.at refl
+    c.whole.new.self _ c.whole.result f.reader f.text f.value f.gains f.empty f.held line.at refl
     (rw is at c.find_line.ensures.found) e.ok e.taken
 
 pub returns-in-Err-clause-stepped : goal.returns-in-Err-clause-stepped
 returns-in-Err-clause-stepped g c =
-    let is : c.find_line.result ≡ Ready (Ok (Some c.in-Ready-Ok-Some-default.at, c.in-Ready-Ok-Some-default.ascii)) = search rules in
+    let line = c.in-Ready-Ok-Some-default in
+    let is : c.find_line.result ≡ Ready (Ok (Some line.at, line.ascii)) = search rules in
     let e = c.in-Err.ensures in
     let f = c.finish.ensures in
     line_refused g.R.Tale.read_laws c.args.self.now c.find_line.new.reader c.take_in.new.self _ e.stays e.text
