@@ -26,19 +26,17 @@ held_calm : {R : Type 0} (is_calm : R → Type 0) (r : Result (Bor (List ℕ)) E
 held_calm is_calm (Ok s) m k = tt
 held_calm is_calm (Err e) m k = k
 
-module _ {R : Type 0} {reads : Runs ReadMark R} {is_calm : R → Type 0} where
-  pub read_calm : CalmReadLaws reads is_calm
-      → CalmLaws (PolledByCalls (Reads reads)) (λ (x : ReadFuture R). is_calm x.reader.now)
-  read_calm = calls_calm (Reads reads) (λ x. x.reader.now) (λ x y r h. (_, h.came)) (λ x y h n. n)
+module _ {R : Type 0} {reads : Runs ReadMark R} {is_calm : R → Type 0}
+    (c : CalmReadLaws reads is_calm) where
+  pub read_calm : CalmLaws (PolledByCalls (Reads reads)) (λ (x : ReadFuture R). is_calm x.reader.now)
+  read_calm = calls_calm (Reads reads) (λ x. x.reader.now) (λ x y r h. (_, h.came)) (λ x y h n. n) c
 
-  pub vectored_calm : CalmReadLaws reads is_calm
-      → CalmLaws (PolledByCalls (ReadsVectored reads)) (λ (x : ReadVectoredFuture R). is_calm x.reader.now)
+  pub vectored_calm : CalmLaws (PolledByCalls (ReadsVectored reads)) (λ (x : ReadVectoredFuture R). is_calm x.reader.now)
   vectored_calm =
-      calls_calm (ReadsVectored reads) (λ x. x.reader.now) (λ x y r h. (_, h.came.2)) (λ x y h n. n)
+      calls_calm (ReadsVectored reads) (λ x. x.reader.now) (λ x y r h. (_, h.came.2)) (λ x y h n. n) c
 
-  pub fill_calm : {lent : R → List ℕ} → CalmReadLaws reads is_calm
-      → CalmLaws (PolledByCalls (FillsOnce reads lent)) (λ (x : FillBuf R). HeldCalm is_calm x.reader)
-  fill_calm {lent} c =
+  pub fill_calm : {lent : R → List ℕ} → CalmLaws (PolledByCalls (FillsOnce reads lent)) (λ (x : FillBuf R). HeldCalm is_calm x.reader)
+  fill_calm {lent} =
       polled_calm (FillsOnce reads lent)
       (λ x y k h. c.no_pending h.reader.now h.filled (fill_marks {A = Bor (List ℕ)} Pending (lent h.filled))
       (subst (HeldCalm is_calm) h.held k) h.came)

@@ -25,9 +25,9 @@ module _ {F A : Type 0} (call : F → Poll A → F → Type 0) where
   polled_laws = record { rests = λ x. refl; stays = λ x y h. h; follows = polled_follows; once = polled_once }
 
   -- one poll
-  pub polled_one : (x y : F) (c : Poll A) → call x c y → PolledByCalls call x (c ∷ []) y
-  polled_one x y Pending h = (y, h, refl)
-  polled_one x y (Ready r) h = (h, refl)
+  pub polled_one : {x y : F} {c : Poll A} → call x c y → PolledByCalls call x (c ∷ []) y
+  polled_one {c = Pending} h = (_, h, refl)
+  polled_one {c = Ready r} h = (h, refl)
 
   -- where no call of a calm value is pending, and each leaves a calm one
   module _ {is_calm : F → Type 0} (never : (x y : F) → is_calm x → call x Pending y → ⊥)
