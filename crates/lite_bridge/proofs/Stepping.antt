@@ -51,8 +51,7 @@ module _ {T : Type 0} (bytes : T → List ℕ) where
       let size : length (bytes (value_of z)) < 2 ^ 64 = subst (λ t. length (bytes t) < 2 ^ 64) (sym same) s in
       let rest = stays_placed z y l h.2 next size in
       (rest.0, rest.1 ∙ same)
-  stays_placed x y (ReadMark.pending ∷ l) h p s = absurd h.1
-  stays_placed x y (ReadMark.fault kind ∷ l) h p s = absurd h.1
+  stays_placed x y (_ ∷ l) h p s = absurd h.1
 
   -- the bare cursor reads what is ahead, and is then where the inner one is
   ahead_read : (x : BufReader (Cursor T)) → IsInStep bytes x → moves (logical x) (marks_of (ahead x)) (reader_inner x)

@@ -21,11 +21,15 @@ SpendsBytes xs (ReadMark.pending ∷ l) ys = ⊥
 SpendsBytes xs (ReadMark.fault kind ∷ l) ys = SpendsBytes xs l ys
 SpendsBytes xs (ReadMark.end ∷ l) ys = (xs ≡ []) × SpendsBytes xs l ys
 
+-- a run from bytes that are known, which are known then; where they are not, it is known that none of its marks waits
+abbrev pub WhereKnown : {M : Type 0} → (List M → Type 0) → Runs M (List ℕ) → Runs M (Option (List ℕ))
+WhereKnown NoWait run None l new = NoWait l
+WhereKnown NoWait run (Some xs) l None = ⊥
+WhereKnown NoWait run (Some xs) l (Some ys) = run xs l ys
+
 -- where the bytes to come are not known, it is known that no read is pending
 abbrev pub SpendsKnown : Runs ReadMark (Option (List ℕ))
-SpendsKnown None l new = NoPendingRead l
-SpendsKnown (Some xs) l None = ⊥
-SpendsKnown (Some xs) l (Some ys) = SpendsBytes xs l ys
+SpendsKnown = WhereKnown NoPendingRead SpendsBytes
 
 -- what is taken comes behind the bytes xs that were there; errors, flushes and closes change nothing; ys is what is
 -- there
@@ -33,15 +37,11 @@ abbrev pub GainsBytes : Runs WriteMark (List ℕ)
 GainsBytes xs [] ys = ys ≡ xs
 GainsBytes xs (WriteMark.wrote zs ∷ l) ys = GainsBytes (xs ++ zs) l ys
 GainsBytes xs (WriteMark.pending ∷ l) ys = ⊥
-GainsBytes xs (WriteMark.fault kind ∷ l) ys = GainsBytes xs l ys
-GainsBytes xs (WriteMark.flushed ∷ l) ys = GainsBytes xs l ys
-GainsBytes xs (WriteMark.closed ∷ l) ys = GainsBytes xs l ys
+GainsBytes xs (_ ∷ l) ys = GainsBytes xs l ys
 
 -- where the bytes that are there are not known, it is known that no call is pending
 abbrev pub GainsKnown : Runs WriteMark (Option (List ℕ))
-GainsKnown None l new = NoPendingWrite l
-GainsKnown (Some xs) l None = ⊥
-GainsKnown (Some xs) l (Some ys) = GainsBytes xs l ys
+GainsKnown = WhereKnown NoPendingWrite GainsBytes
 
 -- a seek is never pending; it moves a known position to where it answers, or stays there at an error, and keeps known
 -- bytes
@@ -53,10 +53,8 @@ MovesKnown old new bytes after pos Pending = ⊥
 -- no read failed
 abbrev pub NoFault : List ReadMark → Type 0
 NoFault [] = ⊤
-NoFault (ReadMark.byte b ∷ l) = NoFault l
-NoFault (ReadMark.pending ∷ l) = NoFault l
 NoFault (ReadMark.fault kind ∷ l) = ⊥
-NoFault (ReadMark.end ∷ l) = NoFault l
+NoFault (_ ∷ l) = NoFault l
 
 -- as SpendsKnown, where no read failed
 abbrev pub SpendsWell : Runs ReadMark (Option (List ℕ))

@@ -104,17 +104,12 @@ module _ {W : Type 0} (writes : Runs WriteMark W) where
     fails x y kind t =
         answered x y (WriteMark.fault kind ∷ []) (WriteMark.fault kind) t (λ n. (inl (refl, λ is. inl refl), refl))
 
-    flushes : (x y : BufWriter W) (r : Poll (Result (Unit {0}) Error)) → Then x (done_marks WriteMark.flushed r) y
-        → Buffers writes x (done_marks WriteMark.flushed r) y
-    flushes x y Pending t = waits x y t
-    flushes x y (Ready (Err e)) t = fails x y (error_kind e) t
-    flushes x y (Ready (Ok u)) t = answered x y (WriteMark.flushed ∷ []) WriteMark.flushed t (λ n. (refl, refl, refl))
-
-    closes : (x y : BufWriter W) (r : Poll (Result (Unit {0}) Error)) → Then x (done_marks WriteMark.closed r) y
-        → Buffers writes x (done_marks WriteMark.closed r) y
-    closes x y Pending t = waits x y t
-    closes x y (Ready (Err e)) t = fails x y (error_kind e) t
-    closes x y (Ready (Ok u)) t = answered x y (WriteMark.closed ∷ []) WriteMark.closed t (λ n. (refl, refl, refl))
+    -- a flush or a close, which leaves this mark where it is done
+    done : (mark : WriteMark) → ((n : ℕ) → WriterAnswers n [] (mark ∷ []) mark []) → (x y : BufWriter W)
+        (r : Poll (Result (Unit {0}) Error)) → Then x (done_marks mark r) y → Buffers writes x (done_marks mark r) y
+    done mark ok x y Pending t = waits x y t
+    done mark ok x y (Ready (Err e)) t = fails x y (error_kind e) t
+    done mark ok x y (Ready (Ok u)) t = answered x y (mark ∷ []) mark t ok
 
     passes : (x y : BufWriter W) (xs : List ℕ) (r : Poll (Result ℕ Error)) → Then x (write_marks r xs) y
         → Buffers writes x (write_marks r xs) y
@@ -123,31 +118,12 @@ module _ {W : Type 0} (writes : Runs WriteMark W) where
     passes x y xs (Ready (Ok k)) t =
         answered x y (WriteMark.wrote (take k xs) ∷ []) (WriteMark.wrote (take k xs)) t (λ n. inr (refl, refl, refl))
 
-    pub then_flush : (x m y : BufWriter W) (r : Poll (Result (Unit {0}) Error))
-        → FlushesBuffer writes x (Ready (Ok tt)) m
-        → writes m.inner (done_marks WriteMark.flushed r) y.inner → writer_capacity y ≡ writer_capacity m
-        → unwritten y ≡ unwritten m
-        → Buffers writes x (done_marks WriteMark.flushed r) y
-    then_flush x m y r f ran capacity same = flushes x y r (record {
-      mid = m;
-      flushed = f;
-      ran = ran;
-      capacity = capacity;
-      same = same;
-    })
-
-    pub then_close : (x m y : BufWriter W) (r : Poll (Result (Unit {0}) Error))
-        → FlushesBuffer writes x (Ready (Ok tt)) m
-        → writes m.inner (done_marks WriteMark.closed r) y.inner → writer_capacity y ≡ writer_capacity m
-        → unwritten y ≡ unwritten m
-        → Buffers writes x (done_marks WriteMark.closed r) y
-    then_close x m y r f ran capacity same = closes x y r (record {
-      mid = m;
-      flushed = f;
-      ran = ran;
-      capacity = capacity;
-      same = same;
-    })
+    pub then_done : (mark : WriteMark) → ((n : ℕ) → WriterAnswers n [] (mark ∷ []) mark []) → (x m y : BufWriter W)
+        (r : Poll (Result (Unit {0}) Error)) → FlushesBuffer writes x (Ready (Ok tt)) m
+        → writes m.inner (done_marks mark r) y.inner → writer_capacity y ≡ writer_capacity m
+        → unwritten y ≡ unwritten m → Buffers writes x (done_marks mark r) y
+    then_done mark ok x m y r f ran capacity same =
+        done mark ok x y r (record { mid = m; flushed = f; ran = ran; capacity = capacity; same = same })
 
     -- where nothing is held a flush of the buffer does nothing
     flush_none : (x : BufWriter W) → unwritten x ≡ [] → FlushesBuffer writes x (Ready (Ok tt)) x

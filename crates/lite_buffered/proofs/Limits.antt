@@ -1,10 +1,6 @@
 -- Reads within a limit.
-use Rattle.std.proofs.Common.{◌≡◌, ◌≤◌, ◌<◌, ◌-◌, [], ◌∷◌, ℕ, zero, suc, List, length, get_or, arith, subst}
-use Rattle.std.specs.Io.Slices.{io_slice_mut_bytes}
-use Rattle.std.specs.declared.io.slices.IoSliceMut.{IoSliceMut}
-use Rattle.lite_io_base.specs.Laws.Runs.{room_at}
+use Rattle.std.proofs.Common.{◌≡◌, ◌≤◌, ◌<◌, ◌-◌, [], ◌∷◌, ℕ, zero, suc, List, length, arith, subst}
 use Rattle.lite_io_base.specs.Marks.{bytes, moved}
-use Rattle.lite_io_base.specs.Runs.{FirstRoomAt, room_in}
 use Rattle.lite_buffered.specs.Take.{WithinLimit}
 
 pub fits_bytes : (limit : ℕ) (xs : List ℕ) → length xs ≤ limit → WithinLimit limit (bytes xs) (limit - length xs)
@@ -19,8 +15,3 @@ fits_moved limit buf (x ∷ xs) fits some room = fits_bytes limit (x ∷ xs) fit
 fits_moved limit [] [] fits some room = absurd (omega (arith, room))
 fits_moved zero (b ∷ buf) [] fits some room = absurd (omega (arith, some))
 fits_moved (suc n) (b ∷ buf) [] fits some room = omega arith
-
--- where a buffer has room, there is some
-pub some_room : (n : ℕ) (bufs : List IoSliceMut) (i : ℕ) (d : IoSliceMut) → FirstRoomAt bufs i
-    → n ≡ length (io_slice_mut_bytes (get_or bufs i d)) → 0 < room_in bufs
-some_room n bufs i d h len = omega (arith, h.1 d, room_at bufs i d h.0)

@@ -1,5 +1,5 @@
 -- What a seek leaves.
-use Rattle.std.proofs.Common.{◌≡◌, ◌∙◌, ℕ, [], ◌++◌, inl, inr, refl, sym, ap, append-nil}
+use Rattle.std.proofs.Common.{◌≡◌, ◌∙◌, ℕ, List, [], ◌++◌, inl, inr, refl, sym, ap, append-nil}
 use Rattle.std.specs.Prelude.{Result, Ok, Err}
 use Rattle.std.specs.declared.io.ErrorKind.{ErrorKind}
 use Rattle.std.specs.declared.io.traits.SeekFrom.{SeekFrom}
@@ -7,34 +7,36 @@ use Rattle.futures.specs.declared.task.Poll.{Poll}
 use Rattle.futures.specs.declared.task.Poll.TheVariants.{Ready, Pending}
 use Rattle.lite_io_base.specs.Takings.{WriteMark, bytes_taken}
 use Rattle.lite_buffered.specs.declared.buf_writer.BufWriter.{BufWriter}
-use Rattle.lite_buffered.specs.BufWriter.{FlushesBuffer, SeeksAfter, unwritten, writer_capacity}
+use Rattle.lite_buffered.specs.BufWriter.{Balanced, FlushesBuffer, SeeksAfter, StopsShort, unwritten, writer_capacity}
 use Rattle.lite_buffered.specs.Laws.BufWriter.{drains_balance, segment_balance}
 use Rattle.lite_base.specs.Runs.{Runs}
 
 module _ {W : Type 0} (writes : Runs WriteMark W) (seeks : W → SeekFrom → Poll (Result ℕ ErrorKind) → W → Type 0) where
+  -- some of what was held is not taken
+  seek_stops : (x y : BufWriter W) (to : SeekFrom) (r : Poll (Result ℕ ErrorKind)) (taken : List WriteMark)
+      → writes x.inner taken y.inner → writer_capacity y ≡ writer_capacity x
+      → StopsShort (unwritten x) taken r (unwritten y) → Balanced (unwritten x) [] taken (unwritten y)
+      → SeeksAfter writes seeks x to r y
+  seek_stops x y to r taken ran capacity stops balanced = record {
+    taken = taken;
+    between = y.inner;
+    ran = ran;
+    capacity = capacity;
+    sought = inr (stops, refl);
+    balanced = balanced;
+  }
+
   pub seek_waits : (x y : BufWriter W) (to : SeekFrom) → FlushesBuffer writes x Pending y
       → SeeksAfter writes seeks x to Pending y
   seek_waits x y to f =
-      record {
-        taken = f.taken;
-        between = y.inner;
-        ran = f.ran;
-        capacity = f.capacity;
-        sought = inr (f.empties, refl);
-        balanced = segment_balance (unwritten x) (unwritten y) f.taken WriteMark.pending f.empties.0;
-      }
+      seek_stops x y to Pending f.taken f.ran f.capacity f.empties
+      (segment_balance (unwritten x) (unwritten y) f.taken WriteMark.pending f.empties.0)
 
   pub seek_fails : (x y : BufWriter W) (to : SeekFrom) (kind : ErrorKind) → FlushesBuffer writes x (Ready (Err kind)) y
       → SeeksAfter writes seeks x to (Ready (Err kind)) y
   seek_fails x y to kind f =
-      record {
-        taken = f.taken;
-        between = y.inner;
-        ran = f.ran;
-        capacity = f.capacity;
-        sought = inr (f.empties, refl);
-        balanced = segment_balance (unwritten x) (unwritten y) f.taken (WriteMark.fault kind) f.empties.0;
-      }
+      seek_stops x y to (Ready (Err kind)) f.taken f.ran f.capacity f.empties
+      (segment_balance (unwritten x) (unwritten y) f.taken (WriteMark.fault kind) f.empties.0)
 
   pub seek_follows : (x m y : BufWriter W) (to : SeekFrom) (r : Poll (Result ℕ ErrorKind))
       → FlushesBuffer writes x (Ready (Ok tt)) m

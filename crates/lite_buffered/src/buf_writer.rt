@@ -259,6 +259,7 @@ impl<W: AsyncWrite> AsyncWrite for BufWriter<W> {
 
     /// Writes what is held to the inner writer, and then flushes that. While the former is pending, and where it fails,
     /// there is no flush.
+    #[tactic(auto, using(crate::proofs::Answering::stopped_waits, crate::proofs::Answering::stopped_fails))]
     fn poll_flush(&mut self, cx: &mut Context<'_>) -> Poll<io::Result<()>>
         ensures ran { Buffers W.writes self.old (done_marks flushed result) self.new }
         ensures shown { ShownAfter result self.old self.new }
@@ -273,6 +274,7 @@ impl<W: AsyncWrite> AsyncWrite for BufWriter<W> {
 
     /// Writes what is held to the inner writer, and then closes that. While the former is pending, and where it fails,
     /// there is no close.
+    #[tactic(auto, using(crate::proofs::Answering::stopped_waits, crate::proofs::Answering::stopped_fails))]
     fn poll_close(&mut self, cx: &mut Context<'_>) -> Poll<io::Result<()>>
         ensures ran { Buffers W.writes self.old (done_marks closed result) self.new }
         ensures shown { ShownAfter result self.old self.new }

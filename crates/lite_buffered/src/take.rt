@@ -9,7 +9,7 @@ ghost use Rattle.lite_base.specs.Registered.{Registered};
 
 use crate::fill::fill;
 use lite_base::{Context, Poll, ready};
-use lite_io_base::{AsyncBufRead, AsyncRead, CountedRead, Takings, Tale, first_with_room};
+use lite_io_base::{AsyncBufRead, AsyncRead, CountedRead, Takings, Tale, first_room};
 use std::io;
 use std::io::IoSliceMut;
 
@@ -118,6 +118,7 @@ impl<R: AsyncRead> AsyncRead for Take<R> {
         }
     }
 
+    #[tactic(auto, using(lite_io_base::specs::Laws::Runs::within_more))]
     fn poll_read_vectored(
         &mut self,
         cx: &mut Context<'_>,
@@ -131,10 +132,7 @@ impl<R: AsyncRead> AsyncRead for Take<R> {
         // Without room, and where the limit is used up, nothing is polled.
         ensures idle { (room_in bufs.old ≡ 0) ⊎ (limit_of self.old ≡ 0) → (result ≡ Poll.Ready (Ok 0)) × (self.new ≡ self.old) }
     {
-        match first_with_room(bufs) {
-            Some(i) => self.poll_read(cx, &mut bufs[i]),
-            None => self.poll_read(cx, &mut []),
-        }
+        self.poll_read(cx, first_room(bufs))
     }
 }
 

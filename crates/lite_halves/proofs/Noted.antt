@@ -20,12 +20,12 @@ notes_in-push es fs gs e n same pushed asked told =
 
 module _ {T : Type 0} (reads : Runs ReadMark T) (writes : Runs WriteMark T) (copies : T → T → Type 0) where
   -- a call that ran by the marks of its entry, which was pushed
-  pub sound_push : (start stream next : T) (es fs gs : List Entry) (e : Entry) (n : Note) (p : Part)
+  pub sound_push : {start stream next : T} {es fs gs : List Entry} (e : Entry) (n : Note) {p : Part}
       → IsSound reads writes copies (record { start = start; notes = notes_in es; stream = stream })
       → fs ≡ es → gs ≡ fs ++ e ∷ [] → asked_of e.call ≡ n.asked → told_of e.answer ≡ n.told → FitsCall n.asked n.told
       → part_of n.asked n.told ≡ p → PartRuns reads writes stream p next
       → IsSound reads writes copies (record { start = start; notes = notes_in gs; stream = next })
-  sound_push start stream next es fs gs e n p sound same pushed asked told fits is ran =
+  sound_push {start} {stream} {next} {es} {fs} {gs} e n sound same pushed asked told fits is ran =
       let a : Chronicle T = record { start = start; notes = notes_in es; stream = stream } in
       let b : Chronicle T = record { start = start; notes = notes_in gs; stream = next } in
       let adds : Adds reads writes a n b = record {

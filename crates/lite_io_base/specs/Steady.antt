@@ -4,23 +4,19 @@ use Rattle.std.specs.Prelude.{List, [], ◌∷◌, ⊤}
 use Rattle.lite_base.specs.Answers.{Comparable}
 use Rattle.lite_base.specs.Runs.{Runs}
 use Rattle.lite_io_base.specs.Marks.{ReadMark}
-use Rattle.lite_io_base.specs.Runs.{MarkLaws}
+use Rattle.lite_io_base.specs.Runs.{CalmMarks, MarkLaws}
 
 -- the tale without its pendings
 abbrev pub strip_marks : List ReadMark → List ReadMark
 strip_marks [] = []
-strip_marks (ReadMark.byte b ∷ l) = ReadMark.byte b ∷ strip_marks l
 strip_marks (ReadMark.pending ∷ l) = strip_marks l
-strip_marks (ReadMark.fault kind ∷ l) = ReadMark.fault kind ∷ strip_marks l
-strip_marks (ReadMark.end ∷ l) = ReadMark.end ∷ strip_marks l
+strip_marks (a ∷ l) = a ∷ strip_marks l
 
 -- no mark of reading is a pending
 abbrev pub NoPendingRead : List ReadMark → Type 0
 NoPendingRead [] = ⊤
-NoPendingRead (ReadMark.byte b ∷ l) = NoPendingRead l
 NoPendingRead (ReadMark.pending ∷ l) = ⊥
-NoPendingRead (ReadMark.fault kind ∷ l) = NoPendingRead l
-NoPendingRead (ReadMark.end ∷ l) = NoPendingRead l
+NoPendingRead (_ ∷ l) = NoPendingRead l
 
 module _ {S : Type 0} where
   -- pendings aside, values that are alike tell one tale, as far as both go
@@ -40,6 +36,5 @@ pub record SteadyReadLaws {S : Type 0} (reads ample : Runs ReadMark S) (needs_no
   pub found : needs_none → AllAmple reads ample
 
 -- no run of a calm reader has a pending, and each leaves a calm one
-pub record CalmReadLaws {S : Type 0} (reads : Runs ReadMark S) (is_calm : S → Type 0) : Type 0 where
-  pub no_pending : (x y : S) (l : List ReadMark) → is_calm x → reads x l y → NoPendingRead l
-  pub calm_on : (x y : S) (l : List ReadMark) → is_calm x → reads x l y → is_calm y
+abbrev pub CalmReadLaws : {S : Type 0} → Runs ReadMark S → (S → Type 0) → Type 0
+CalmReadLaws = CalmMarks NoPendingRead

@@ -2,16 +2,14 @@
 use Rattle.std.specs.Prelude.{◌≡◌, ℕ, List, [], ◌∷◌, ◌++◌, ⊤}
 use Rattle.std.specs.declared.io.ErrorKind.TheVariants.{Interrupted}
 use Rattle.lite_base.specs.Runs.{Runs}
+use Rattle.lite_io_base.specs.Runs.{CalmMarks}
 use Rattle.lite_io_base.specs.Takings.{WriteMark, bytes_taken}
 
 -- no error but interruptions, which take nothing
 abbrev pub NoError : List WriteMark → Type 0
 NoError [] = ⊤
-NoError (WriteMark.wrote xs ∷ l) = NoError l
-NoError (WriteMark.pending ∷ l) = NoError l
 NoError (WriteMark.fault kind ∷ l) = (kind ≡ Interrupted) × NoError l
-NoError (WriteMark.flushed ∷ l) = NoError l
-NoError (WriteMark.closed ∷ l) = NoError l
+NoError (_ ∷ l) = NoError l
 
 -- the last mark is a flush
 abbrev pub EndsFlushed : List WriteMark → Type 0
@@ -20,11 +18,8 @@ EndsFlushed l = (before : List WriteMark) × (l ≡ before ++ WriteMark.flushed 
 -- no mark of writing is a pending
 abbrev pub NoPendingWrite : List WriteMark → Type 0
 NoPendingWrite [] = ⊤
-NoPendingWrite (WriteMark.wrote xs ∷ l) = NoPendingWrite l
 NoPendingWrite (WriteMark.pending ∷ l) = ⊥
-NoPendingWrite (WriteMark.fault kind ∷ l) = NoPendingWrite l
-NoPendingWrite (WriteMark.flushed ∷ l) = NoPendingWrite l
-NoPendingWrite (WriteMark.closed ∷ l) = NoPendingWrite l
+NoPendingWrite (_ ∷ l) = NoPendingWrite l
 
 -- what a steady writer's runs meet: two from values that are alike, without an error, which take the same bytes and end
 -- in a flush, leave the same bytes, and values that are alike
@@ -35,6 +30,5 @@ pub record SteadyWriteLaws {S : Type 0} (writes : Runs WriteMark S) (alike : S �
       → bytes_taken l ≡ bytes_taken m → (below x' ≡ below y') × alike x' y'
 
 -- no run of a calm writer has a pending, and each leaves a calm one
-pub record CalmWriteLaws {S : Type 0} (writes : Runs WriteMark S) (is_calm : S → Type 0) : Type 0 where
-  pub no_pending : (x y : S) (l : List WriteMark) → is_calm x → writes x l y → NoPendingWrite l
-  pub calm_on : (x y : S) (l : List WriteMark) → is_calm x → writes x l y → is_calm y
+abbrev pub CalmWriteLaws : {S : Type 0} → Runs WriteMark S → (S → Type 0) → Type 0
+CalmWriteLaws = CalmMarks NoPendingWrite

@@ -20,7 +20,7 @@ use Rattle.lite_base.specs.Runs.{Runs}
 use Rattle.lite_io_base.specs.Counting.{ReadCounting}
 use Rattle.lite_io_base.specs.Marks.{ReadMark, bytes, moved}
 use Rattle.lite_io_base.specs.Runs.{MarkLaws}
-use Rattle.lite_read.proofs.Filling.{front, front_kept, moved_some}
+use Rattle.lite_read.proofs.Filling.{bytes_came, put_front, put_kept, put_len}
 use Rattle.lite_read.specs.ReadFold.{AnswerMarks, LastMarks}
 use Rattle.lite_read.specs.Appending.{read_front}
 use Rattle.lite_read.specs.Laws.ReadToEnd.{appends_all, grown}
@@ -86,10 +86,6 @@ module _ {R A : Type 0} (m : Type 0) {reads : Runs ReadMark R} (laws : MarkLaws 
         c.counts_on x.reader.now z.reader.now h.folded.marks counts h.folded.came,
       )
 
--- a vector after a write over all of it
-with_all : {A : Type 0} (v : Vec ℕ A) (ws : List ℕ) → length ws ≡ length v.items → (with_items v ws).items ≡ ws
-with_all v ws same = take_at ws (drop (length ws) v.items) v.len (same ∙ sym v.ok.0)
-
 -- the future that read into the room, by which it holds these bytes
 abbrev pub after_read : {R A : Type 0} → ReadToEndFuture R A → R → List ℕ → ℕ → ℕ → ReadToEndFuture R A
 after_read w r items filled room =
@@ -108,36 +104,23 @@ module _ {R A : Type 0} (m : Type 0) (reads : Runs ReadMark R) where
       → length new ≡ length old - w.filled → n ≤ length new → 0 < n → reads w.reader.now (moved new (take n new)) r
       → ReadsSome m reads x (after_read w r (put_mid w.filled (length old - w.filled) old new) (w.filled + n) room)
   read_some x w r old new n room same front_is within is long most some came =
-      let at = w.filled in
-      let put = put_mid at (length old - at) old new in
-      let v = with_items w.buf.now put in
+      let v = with_items w.buf.now (put_mid w.filled (length old - w.filled) old new) in
       let reader : w.reader ≡ x.reader = ap (λ (u : ReadToEndFuture R A). u.reader) same in
-      let inside : at ≤ length old = omega (arith, within, ap length is) in
-      let got : length (take n new) ≡ n = length-take-le n new most in
-      let any : 0 < length (take n new) = omega (arith, got, some) in
-      let read : reads w.reader.now (bytes (take n new)) r =
-      subst (λ l. reads w.reader.now l r) (moved_some new (take n new) any) came in
-      let kept : length put ≡ length old =
-      same_len_mid at (length old - at) old new (long ∙ sym (mid_len at (length old) old (omega arith))) in
-      let all : v.items ≡ put = with_all w.buf.now put (kept ∙ ap length is) in
-      let ahead : take (at + n) v.items ≡ take at old ++ take n new = ap (take (at + n)) all
-      ∙ front at (length old - at) n old new inside most in
-      let whole : length v.items ≡ length old = ap length all ∙ kept in
-      let more : take (at + n) v.items ≡ read_front x ++ take n new = ahead
-      ∙ ap (λ l. l ++ take n new) (ap (take at) is ∙ front_is) in
+      let all = bytes_came reads w.reader.now r new n most some came in
+      let more = put_front w.buf.now old new w.filled within is long n most in
+      let whole = put_len w.buf.now old new w.filled within is long in
       record {
         taken = take n new;
-        some = any;
-        came = subst (λ (b : MutBor R). reads b.now (bytes (take n new)) r) reader read;
-        folds = subst (λ l. FoldsTo (appends m x.start).takes (read_front x) (take n new) l) (sym more)
-            (appends_all m x.start (read_front x) (take n new));
+        some = all.0;
+        came = subst (λ (b : MutBor R). reads b.now (bytes (take n new)) r) reader all.1;
+        folds = rw (more, front_is) (appends_all m x.start (read_front x) (take n new));
         stays = (
           record {
             reader = ap (λ (b : MutBor R). record b { now = r }) reader;
             buf = ap (λ (u : ReadToEndFuture R A). record u.buf { now = v }) same;
             start = ap (λ (u : ReadToEndFuture R A). u.start) same;
           },
-          omega (arith, whole, long, most, inside),
+          omega (arith, whole, ap length is, long, most, within),
         );
       }
 
@@ -151,14 +134,9 @@ module _ {R A : Type 0} (m : Type 0) (reads : Runs ReadMark R) where
       (after_read w r (put_mid w.filled (length old - w.filled) old new) w.filled w.room)
   read_none x w r old new marks a same front_is within is long last came =
       let at = w.filled in
-      let put = put_mid at (length old - at) old new in
+      let v = with_items w.buf.now (put_mid at (length old - at) old new) in
       let reader : w.reader ≡ x.reader = ap (λ (u : ReadToEndFuture R A). u.reader) same in
-      let inside : at ≤ length old = omega (arith, within, ap length is) in
-      let kept : length put ≡ length old =
-      same_len_mid at (length old - at) old new (long ∙ sym (mid_len at (length old) old (omega arith))) in
-      let v = with_items w.buf.now put in
-      let after : take at v.items ≡ read_front x = ap (take at) (with_all w.buf.now put (kept ∙ ap length is))
-      ∙ front_kept at (length old - at) old new inside ∙ ap (take at) is ∙ front_is in
+      let after : take at v.items ≡ read_front x = put_kept w.buf.now old new at within is long ∙ front_is in
       let here = segment_alone (read_front x) (take at v.items) marks a
       (subst (LastMarks (appends m x.start) (read_front x) marks a) (sym after) last) in
       record {

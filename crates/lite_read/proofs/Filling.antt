@@ -1,9 +1,11 @@
 -- A read into what is left of a buffer.
-use Rattle.std.proofs.Common.{◌≡◌, ◌∙◌, ◌≤◌, ◌<◌, ◌+◌, ◌-◌, ℕ, List, [], ◌∷◌, ◌++◌, Result, Ok, length, take, refl, ap}
+use Rattle.std.proofs.Common.{◌≡◌, ◌∙◌, ◌≤◌, ◌<◌, ◌+◌, ◌-◌, ℕ, List, [], ◌∷◌, ◌++◌, Result, Ok, length, take, drop, refl, ap}
 use Rattle.std.proofs.Common.{sym, subst, arith, append-nil, append_assoc, length-append}
-use Rattle.std.proofs.lemmas.List.{length-take-le, take-append-le, take_all}
+use Rattle.std.proofs.lemmas.List.{length-take-le, take-append-le, take_all, take_at}
 use Rattle.std.proofs.Math.Seq.{take-append-add}
 use Rattle.std.specs.List.{FoldsTo}
+use Rattle.std.specs.Vec.{with_items}
+use Rattle.std.specs.declared.vec.Vec.{Vec}
 use Rattle.std.specs.declared.io.Error.{Error}
 use Rattle.futures.specs.declared.task.Poll.{Poll}
 use Rattle.futures.specs.declared.task.Poll.TheVariants.{Ready}
@@ -52,6 +54,41 @@ pub moved_none : (room : List ℕ) → 0 < length room → moved room [] ≡ Rea
 moved_none [] some = absurd (omega (arith, some))
 moved_none (b ∷ room) some = refl
 
+-- n bytes came, and no end
+pub bytes_came : {R : Type 0} (reads : Runs ReadMark R) (s r : R) (new : List ℕ) (n : ℕ) → n ≤ length new → 0 < n
+    → reads s (moved new (take n new)) r → (0 < length (take n new)) × reads s (bytes (take n new)) r
+bytes_came reads s r new n most some came =
+    let any : 0 < length (take n new) = omega (arith, length-take-le n new most, some) in
+    (any, rw (moved_some new (take n new) any) at came)
+
+-- a vector into whose room, behind so many bytes, others were written
+module _ {A : Type 0} (v : Vec ℕ A) (old new : List ℕ) (at : ℕ) (within : at ≤ length v.items) (is : old ≡ v.items)
+    (long : length new ≡ length old - at) where
+  abbrev written : List ℕ
+  written = put_mid at (length old - at) old new
+
+  inside : at ≤ length old
+  inside = omega (arith, within, ap length is)
+
+  put_long : length written ≡ length old
+  put_long = same_len_mid at (length old - at) old new (long ∙ sym (mid_len at (length old) old (omega (arith, inside))))
+
+  put_items : (with_items v written).items ≡ written
+  put_items = take_at written (drop (length written) v.items) v.len (put_long ∙ ap length is ∙ sym v.ok.0)
+
+  pub put_len : length (with_items v written).items ≡ length v.items
+  put_len = ap length put_items ∙ put_long ∙ ap length is
+
+  -- of which the first n count
+  pub put_front : (n : ℕ) → n ≤ length new → take (at + n) (with_items v written).items ≡ take at v.items ++ take n new
+  put_front n most =
+      ap (take (at + n)) put_items ∙ front at (length old - at) n old new inside most
+      ∙ ap (λ l. take at l ++ take n new) is
+
+  -- or none
+  pub put_kept : take at (with_items v written).items ≡ take at v.items
+  put_kept = ap (take at) put_items ∙ front_kept at (length old - at) old new inside ∙ ap (take at) is
+
 -- a read of n bytes into what is left
 pub read_more : {R : Type 0} (reads : Runs ReadMark R) (x : ReadExactFuture R) (r : R) (new : List ℕ) (n : ℕ)
     → x.filled ≤ length x.buf.now
@@ -66,7 +103,7 @@ read_more reads x r new n within long most some came =
     let old = x.buf.now in
     let at = x.filled in
     let got = length-take-le n new most in
-    let any : 0 < length (take n new) = omega (arith, got, some) in
+    let all = bytes_came reads x.reader.now r new n most some came in
     let same = same_len_mid at (length old - at) old new (long ∙ sym (mid_len at (length old) old (omega arith))) in
     let whole = fills_all (take at old) (length old) (take n new)
     (omega (arith, length-take-le at old within, got, long, most)) in
@@ -74,8 +111,8 @@ read_more reads x r new n within long most some came =
     ∙ ap (λ k. (take (at + n) (put_mid at (length old - at) old new), k)) (sym same) in
     record {
       taken = take n new;
-      some = any;
-      came = subst (λ l. reads x.reader.now l r) (moved_some new (take n new) any) came;
+      some = all.0;
+      came = all.1;
       folds = subst (λ g. FoldsTo fills.takes (take at old, length old) (take n new) g) after whole;
       stays = record { reader = refl; buf = refl; within = λ w. omega (arith, same, long, most, within) };
     }

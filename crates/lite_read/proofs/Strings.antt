@@ -13,7 +13,7 @@ use denote.MutBor.{MutBor}
 use borrow.Rule.Slice.PartMut.{mid_len, put_mid, same_len_mid}
 use Rattle.futures.specs.declared.task.Poll.TheVariants.{Ready, Pending}
 use Rattle.lite_io_base.specs.Marks.{ReadMark, bytes, moved}
-use Rattle.lite_read.proofs.Filling.{front, front_kept, moved_some}
+use Rattle.lite_read.proofs.Filling.{bytes_came, put_front, put_kept, put_len}
 use Rattle.lite_read.specs.ReadFold.{AnswerMarks}
 use Rattle.lite_read.specs.Laws.ReadToEnd.{appends_all}
 use Rattle.lite_read.specs.Holding.{TextStays}
@@ -37,10 +37,6 @@ refused g e is = segment_alone g g [] (Ready (Err e)) ((tt, is), refl)
 pub ended : (g : List ℕ) (n : ℕ) → length g ≡ n → AnswerMarks (read_to_string_fold ⊤) g (ReadMark.end ∷ []) (Ready (Ok n)) g
 ended g n is = segment_alone g g (ReadMark.end ∷ []) (Ready (Ok n)) (omega (arith, is), refl)
 
--- a vector after a write over all of it
-with_all : {A : Type 0} (v : Vec ℕ A) (ws : List ℕ) → length ws ≡ length v.items → (with_items v ws).items ≡ ws
-with_all v ws same = take_at ws (drop (length ws) v.items) v.len (same ∙ sym v.ok.0)
-
 -- the future that read n bytes into the room
 abbrev pub after_read : {R A : Type 0} → ReadToStringFuture R A → R → List ℕ → ℕ → ℕ → ReadToStringFuture R A
 after_read w r items n room =
@@ -61,32 +57,18 @@ module _ {R A : Type 0} (reads : Runs ReadMark R) where
       → TakesTextIn all_over (read_to_string_fold ⊤) reads x
       (after_read w r (put_mid w.filled (length old - w.filled) old new) n room)
   read_some x w r old new n room reader stays text front_is holds is long most some came =
-      let at = w.filled in
-      let put = put_mid at (length old - at) old new in
-      let v = with_items w.bytes put in
-      let inside : at ≤ length old = omega (arith, holds.within, ap length is) in
-      let got : length (take n new) ≡ n = length-take-le n new most in
-      let any : 0 < length (take n new) = omega (arith, got, some) in
-      let read : reads w.reader.now (bytes (take n new)) r =
-      subst (λ l. reads w.reader.now l r) (moved_some new (take n new) any) came in
-      let kept : length put ≡ length old =
-      same_len_mid at (length old - at) old new (long ∙ sym (mid_len at (length old) old (omega arith))) in
-      let all : v.items ≡ put = with_all w.bytes put (kept ∙ ap length is) in
-      let ahead : take (at + n) v.items ≡ take at old ++ take n new = ap (take (at + n)) all
-      ∙ front at (length old - at) n old new inside most in
-      let whole : length v.items ≡ length old = ap length all ∙ kept in
-      let more : take (at + n) v.items ≡ text_front x ++ take n new = ahead
-      ∙ ap (λ l. l ++ take n new) (ap (take at) is ∙ front_is) in
+      let all = bytes_came reads w.reader.now r new n most some came in
+      let more = put_front w.bytes old new w.filled holds.within is long n most in
+      let whole = put_len w.bytes old new w.filled holds.within is long in
       record {
         taken = take n new;
-        some = any;
-        came = subst (λ (b : MutBor R). reads b.now (bytes (take n new)) r) reader read;
-        folds = subst (λ l. FoldsTo (read_to_string_fold ⊤).takes (text_front x) (take n new) l) (sym more)
-            (appends_all ⊤ 0 (text_front x) (take n new));
+        some = all.0;
+        came = subst (λ (b : MutBor R). reads b.now (bytes (take n new)) r) reader all.1;
+        folds = rw (more, front_is) (appends_all ⊤ 0 (text_front x) (take n new));
         stays = (
           record { reader = ap (λ (b : MutBor R). record b { now = r }) reader; text = stays.text },
           text,
-          record { fits = holds.fits; within = omega (arith, whole, long, most, inside) },
+          record { fits = holds.fits; within = omega (arith, whole, ap length is, long, most, holds.within) },
         );
       }
 
@@ -126,23 +108,9 @@ module _ {R A : Type 0} (reads : Runs ReadMark R) (x w : ReadToStringFuture R A)
   wrote_stays : TextStays all_over x wrote
   wrote_stays = record { reader = ap (λ (b : MutBor R). record b { now = r }) reader; text = stays.text }
 
-  inside : w.filled ≤ length old
-  inside = omega (arith, holds.within, ap length is)
-
-  put_long : length (put_mid w.filled (length old - w.filled) old new) ≡ length old
-  put_long =
-      same_len_mid w.filled (length old - w.filled) old new
-      (long ∙ sym (mid_len w.filled (length old) old (omega (arith, inside))))
-
-  wrote_items : wrote.bytes.items ≡ put_mid w.filled (length old - w.filled) old new
-  wrote_items =
-      with_all w.bytes (put_mid w.filled (length old - w.filled) old new) (put_long ∙ ap length is)
-
   -- what stands before the room is as it was
   wrote_front : text_front wrote ≡ text_front x
-  wrote_front =
-      ap (take w.filled) wrote_items ∙ front_kept w.filled (length old - w.filled) old new inside
-      ∙ ap (take w.filled) is ∙ front_is
+  wrote_front = put_kept w.bytes old new w.filled holds.within is long ∙ front_is
 
   -- the reader was pending
   pub waited : string_bytes w.text.now ≡ string_bytes x.text.now → reads w.reader.now (ReadMark.pending ∷ []) r
@@ -150,7 +118,7 @@ module _ {R A : Type 0} (reads : Runs ReadMark R) (x w : ReadToStringFuture R A)
   waited text came = (
     text_waits all_over (read_to_string_fold ⊤) reads x wrote wrote_stays wrote_front text tt
         (subst (λ (b : MutBor R). reads b.now (ReadMark.pending ∷ []) r) reader came),
-    record { fits = holds.fits; within = omega (arith, inside, ap length wrote_items, put_long) },
+    record { fits = holds.fits; within = omega (arith, put_len w.bytes old new w.filled holds.within is long, holds.within) },
   )
 
   -- the reader answered, and what was read goes into the text

@@ -5,12 +5,18 @@ use Rattle.std.specs.declared.io.Error.{Error}
 use denote.MutBor.{MutBor}
 use Rattle.futures.specs.declared.task.Poll.{Poll}
 use Rattle.futures.specs.declared.task.Poll.TheVariants.{Ready, Pending}
+use Rattle.futures.specs.Poll.{OnPending}
+use Rattle.lite_base.specs.Chain.{Reaches}
+use Rattle.lite_base.specs.Ranks.{Ranks}
+use Rattle.lite_io_base.specs.Counting.{ReadCounting}
 use Rattle.lite_io_base.specs.Marks.{ReadMark}
+use Rattle.lite_io_base.specs.Runs.{MarkLaws}
 use Rattle.lite_read.specs.ReadFold.{AnswerMarks, ReadFold}
 use Rattle.lite_read.specs.Holding.{TextOver, TextStays}
-use Rattle.lite_read.specs.Laws.Texts.{folds_in, stays_join}
+use Rattle.lite_read.specs.Laws.Texts.{folds_in, stays_join, step_before}
+use Rattle.lite_read.specs.Laws.PollSteps.{goes_again, steps_answer}
 use Rattle.lite_read.specs.Texts.{AppendsText, ReadsText, ValueOf, in_text, reading}
-use Rattle.lite_read.specs.TextSteps.{AnswersText}
+use Rattle.lite_read.specs.TextSteps.{AnswersText, TakesTextIn}
 use Rattle.lite_base.specs.Laws.Segments.{segment_alone, to_value_one}
 use Rattle.lite_base.specs.Runs.{Runs}
 
@@ -80,3 +86,18 @@ module _ {X R A : Type 0} (over : TextOver X R A) (fold : ReadFold (List ℕ) (R
       let into : AppendsText (over.read w) (string_bytes (over.text x).now) (string_bytes (over.text y).now) =
       subst (λ l. AppendsText (over.read w) l (string_bytes (over.text y).now)) text gains in
       (text_given over fold reads x y all marks v r (over.read w) h value into empty end, holds)
+
+module _ {X R A : Type 0} (over : TextOver X R A) (fold : ReadFold (List ℕ) (Result ℕ Error)) {reads : Runs ReadMark R}
+    (laws : MarkLaws reads) {x z : X} {a : Poll (Result ℕ Error)} where
+  -- an answer after some steps
+  pub text_ran : (y : X) × Reaches (TakesTextIn over fold reads) x y × AnswersText over fold reads y a z
+      → AnswersText over fold reads x a z
+  text_ran = steps_answer (step_before over fold laws)
+
+  -- after a pending the future can be polled again
+  pub text_on : {r : Ranks R} → ReadCounting reads r → r.counts (over.reader x).now
+      → (y : X) × Reaches (TakesTextIn over fold reads) x y × AnswersText over fold reads y a z
+      → OnPending a (r.counts (over.reader z).now × over.holds z)
+  text_on c k steps =
+      let ran = text_ran steps in
+      goes_again a (c.counts_on _ _ ran.0.folded.marks k ran.0.folded.came, ran.1)

@@ -17,6 +17,7 @@ mod read_to_end;
 mod read_to_string;
 mod read_until;
 mod read_vectored;
+mod room;
 mod scan;
 mod seek;
 mod split;

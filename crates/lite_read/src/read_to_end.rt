@@ -5,14 +5,12 @@ ghost use Rattle.lite_read.specs.Laws.ReadToEnd.{append_laws, some_falls, steps_
 ghost use Rattle.lite_read.specs.ReadToEnd.{ReadsToEnd};
 ghost use Rattle.lite_read.specs.PollSteps.{AnswersUntrimmed, ReadsSome};
 
+use crate::room::{FIRST_ROOM, next_room};
 use lite_base::{Context, Future, Poll, PollSteps, drive};
 use lite_io_base::CountedRead;
 use std::alloc::{AllocError, Allocator, Global};
 use std::io;
 use std::io::ErrorKind;
-
-/// How many bytes the first read has room for.
-const FIRST_ROOM: usize = 32;
 
 /// The future of reads up to an end, whose bytes are appended to a vector.
 ///
@@ -73,9 +71,7 @@ impl<R: CountedRead, A: Allocator> PollSteps for ReadToEndFuture<'_, R, A> {
             Poll::Ready(Ok(0)) => Some(Poll::Ready(Ok(self.filled - self.start))),
             Poll::Ready(Ok(n)) => {
                 self.filled += n;
-                if self.filled == self.buf.len() {
-                    self.room = self.room.max(n.saturating_mul(2));
-                }
+                self.room = next_room(self.room, n, self.filled == self.buf.len());
                 None
             }
             Poll::Ready(Err(e)) => Some(Poll::Ready(Err(e))),

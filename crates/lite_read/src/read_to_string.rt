@@ -10,14 +10,12 @@ ghost use Rattle.lite_read.specs.Texts.{AppendsText, ValueOf};
 ghost use Rattle.lite_read.specs.TextSteps.{AnswersText, TakesTextIn};
 
 use crate::held::{finish, make_room};
+use crate::room::{FIRST_ROOM, next_room};
 use lite_base::{Context, Future, Poll, PollSteps, drive};
 use lite_io_base::CountedRead;
 use std::alloc::{AllocError, Allocator, Global};
 use std::io;
 use std::io::ErrorKind;
-
-/// How many bytes the first read has room for.
-const FIRST_ROOM: usize = 32;
 
 /// The future of reads up to an end, whose bytes are appended to a text.
 ///
@@ -97,9 +95,7 @@ impl<R: CountedRead, A: Allocator> PollSteps for ReadToStringFuture<'_, R, A> {
             Poll::Ready(Ok(0)) => Some(Poll::Ready(self.finish(Ok(self.filled)))),
             Poll::Ready(Ok(n)) => {
                 self.filled += n;
-                if self.filled == self.bytes.len() {
-                    self.room = self.room.max(n.saturating_mul(2));
-                }
+                self.room = next_room(self.room, n, self.filled == self.bytes.len());
                 None
             }
             Poll::Ready(Err(e)) => Some(Poll::Ready(self.finish(Err(e)))),

@@ -7,11 +7,8 @@ use Rattle.lite_base.specs.Runs.{Runs}
 abbrev pub NoFailure : List WriteMark → Type 0
 NoFailure [] = ⊤
 NoFailure (WriteMark.wrote [] ∷ l) = ⊥
-NoFailure (WriteMark.wrote (x ∷ xs) ∷ l) = NoFailure l
-NoFailure (WriteMark.pending ∷ l) = NoFailure l
 NoFailure (WriteMark.fault kind ∷ l) = ⊥
-NoFailure (WriteMark.flushed ∷ l) = NoFailure l
-NoFailure (WriteMark.closed ∷ l) = NoFailure l
+NoFailure (_ ∷ l) = NoFailure l
 
 -- the writer's runs in which no write fails or takes nothing
 abbrev pub WithoutFailure : {W : Type 0} → Runs WriteMark W → Runs WriteMark W

@@ -65,6 +65,7 @@ impl<R: AsyncRead, W: AsyncWrite> CopyFuture<R, W> {
     ghost use Rattle.lite_write.specs.Copying.{CopiesSome, CopyRegisters};
 
     // Offers what is buffered to the writer, and takes what was written from the buffer.
+    #[tactic(auto, using(crate::proofs::Copying::writer_waits, crate::proofs::Copying::writer_fails, crate::proofs::Copying::writer_takes_none))]
     fn write_some(&mut self, cx: &mut Context<'_>) -> Option<Poll<io::Result<u64>>>
         requires phase { self.old.phase ≡ Copying }
         requires some { 0 < length (ahead self.old.reader) }
@@ -87,6 +88,7 @@ impl<R: AsyncRead, W: AsyncWrite> CopyFuture<R, W> {
     }
 
     // Flushes the writer.
+    #[tactic(auto, using(crate::proofs::Copying::writer_waits, crate::proofs::Copying::writer_fails, crate::proofs::Copying::writer_is_flushed))]
     fn flush(&mut self, cx: &mut Context<'_>) -> Poll<io::Result<u64>>
         requires phase { self.old.phase ≡ Flushing }
         ensures ran { Moves R.reads W.writes self.old (result ∷ []) self.new }
@@ -119,6 +121,7 @@ impl<R: CountedRead, W: AsyncWrite> PollSteps for CopyFuture<R, W> {
 
     ghost finite = { λ x c. Terminates-map (λ y. y.reader) some_given x (counting_ends (through_counting R.counting) x.reader c) };
 
+    #[tactic(auto, using(crate::proofs::Copying::reader_waits, crate::proofs::Copying::reader_fails, crate::proofs::Copying::is_copying))]
     fn poll_step(&mut self, cx: &mut Context<'_>) -> Option<Poll<io::Result<u64>>> {
         if let Phase::Flushing = self.phase {
             return Some(self.flush(cx));

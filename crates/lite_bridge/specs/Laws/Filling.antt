@@ -15,7 +15,7 @@ pub filled_once : {T : Type 0} (reads : Runs ReadMark T) (lent : T → List ℕ)
     (c : Poll (Result (Unit {0}) Error))
     → reads x.io.now (fill_marks c (lent y.io.now)) y.io.now → y ≡ record x { io = record x.io { now = y.io.now } }
     → PolledByCalls (FillsLent reads lent) x (c ∷ []) y
-filled_once reads lent x y c came stays = polled_one (FillsLent reads lent) x y c (record {
+filled_once reads lent x y c came stays = polled_one (FillsLent reads lent) (record {
   came = came;
   stays = stays;
 })

@@ -1,5 +1,6 @@
 -- The bytes that are to come from a cursor: those from its position on. And those that one keeps that stands at their
 -- end.
+use Rattle.std.proofs.lemmas.List.{drop_all, take_all}
 use Rattle.std.proofs.Common.{◌≡◌, ◌≤◌, ◌∙◌, ℕ, zero, suc, ◌+◌, ◌-◌, List, [], ◌∷◌, ◌++◌, length, take, drop, replicate}
 use Rattle.std.proofs.Common.{refl, ap, sym, subst, arith, append_assoc, append-nil, length-append}
 use Rattle.std.specs.Prelude.{⊤}
@@ -16,10 +17,9 @@ module _ {T : Type 0} (bytes : T → List ℕ) where
       → TellsKnown (bytes_left bytes x) l (bytes_left bytes y)
   moves_spends x y [] h = ap (bytes_left bytes) h
   moves_spends x y (ReadMark.byte b ∷ l) h = (bytes_left bytes h.0, h.1.0, moves_spends h.0 y l h.2)
-  moves_spends x y (ReadMark.pending ∷ l) h = absurd h.1
-  moves_spends x y (ReadMark.fault kind ∷ l) h = absurd h.1
   moves_spends x y (ReadMark.end ∷ l) h =
       (h.1.0, subst (λ c. TellsKnown (bytes_left bytes c) l (bytes_left bytes y)) h.1.1 (moves_spends h.0 y l h.2))
+  moves_spends x y (_ ∷ l) h = absurd h.1
 
   abbrev pub cursor_known : Known (Cursor T)
   cursor_known =
@@ -34,25 +34,9 @@ module _ {T : Type 0} (bytes : T → List ℕ) where
 put_behind : (xs new ys : List ℕ) (at : ℕ) → at ≡ length xs → Puts xs at new ys → ys ≡ xs ++ new
 put_behind xs [] ys at e h = h ∙ sym (append-nil xs)
 put_behind xs (b ∷ new) ys at e h =
-    let past : length xs ≤ at + length (b ∷ new) = omega (arith, e) in
-    let over : length xs ≤ at = omega (arith, e) in
-    let front : take at xs ≡ xs = take-all xs at over in
     let none : at - length xs ≡ 0 = omega (arith, e) in
-    let zeros : replicate {A = ℕ} (at - length xs) 0 ≡ [] = ap (λ n. replicate {A = ℕ} n 0) none in
-    let behind : drop (at + length (b ∷ new)) xs ≡ [] = drop-all xs (at + length (b ∷ new)) past in
-    h ∙ rw (front, zeros, behind) (simp append-nil refl)
-  where
-    take-all : (l : List ℕ) (n : ℕ) → length l ≤ n → take n l ≡ l
-    take-all [] zero h = refl
-    take-all [] (suc n) h = refl
-    take-all (x ∷ l) zero h = absurd (omega (arith, h))
-    take-all (x ∷ l) (suc n) h = let less : length l ≤ n = omega (arith, h) in ap (λ z. x ∷ z) (take-all l n less)
-
-    drop-all : (l : List ℕ) (n : ℕ) → length l ≤ n → drop n l ≡ []
-    drop-all [] zero h = refl
-    drop-all [] (suc n) h = refl
-    drop-all (x ∷ l) zero h = absurd (omega (arith, h))
-    drop-all (x ∷ l) (suc n) h = let less : length l ≤ n = omega (arith, h) in drop-all l n less
+    let behind = drop_all (at + length (b ∷ new)) xs (omega (arith, e)) in
+    h ∙ rw (take_all at xs (omega (arith, e)), none, behind) (simp append-nil refl)
 
 module _ {T : Type 0} (bytes : T → List ℕ) (puts : T → ℕ → List ℕ → T → Type 0) (refuses : T → T → Type 0) where
   -- a write puts the bytes at its place, and one that was refused changes none
@@ -80,13 +64,10 @@ module _ {T : Type 0} (bytes : T → List ℕ) (puts : T → ℕ → List ℕ �
       let same = law.1 x.inner m.inner step.1 in
       let rest = overwrites_kept m y l law (step.2 ∙ at ∙ ap length (sym same)) more in
       (rest.0, rest.1 ∙ ap (λ z. z ++ bytes_taken l) same)
-  overwrites_kept x y (WriteMark.flushed ∷ l) law at (m, step, more) =
-      let rest = overwrites_kept m y l law (subst CursorAtEnd (sym step) at) more in
-      (rest.0, rest.1 ∙ ap (λ (z : Cursor T). bytes z.inner ++ bytes_taken l) step)
-  overwrites_kept x y (WriteMark.closed ∷ l) law at (m, step, more) =
-      let rest = overwrites_kept m y l law (subst CursorAtEnd (sym step) at) more in
-      (rest.0, rest.1 ∙ ap (λ (z : Cursor T). bytes z.inner ++ bytes_taken l) step)
   overwrites_kept x y (WriteMark.pending ∷ l) law at (m, step, more) = absurd step
+  overwrites_kept x y (_ ∷ l) law at (m, step, more) =
+      let rest = overwrites_kept m y l law (subst CursorAtEnd (sym step) at) more in
+      (rest.0, rest.1 ∙ ap (λ (z : Cursor T). bytes z.inner ++ bytes_taken l) step)
 
   -- a cursor that stands at the end of its bytes
   abbrev pub cursor_stored : Stored (Cursor T)

@@ -12,14 +12,16 @@ use Rattle.futures.specs.declared.task.Poll.{Poll}
 use Rattle.futures.specs.declared.task.Poll.TheVariants.{Pending, Ready}
 use Rattle.lite_io_base.specs.Kinds.{by_kind}
 use Rattle.lite_io_base.specs.Marks.{ReadMark, bytes, moved, read_marks}
-use Rattle.lite_io_base.specs.Runs.{MarkLaws}
+use Rattle.lite_io_base.specs.Runs.{CalmMarks, MarkLaws}
+use Rattle.lite_io_base.specs.Laws.SteadyWrite.{never_waits_both}
 use Rattle.lite_io_base.specs.Laws.Steady.{no_wait_both, no_wait_bytes}
 use Rattle.lite_io_base.specs.Steady.{CalmReadLaws, NoPendingRead, SteadyReadLaws, strip_marks}
 use Rattle.lite_io_base.specs.SteadyWrite.{CalmWriteLaws, NoPendingWrite, SteadyWriteLaws}
 use Rattle.lite_io_base.specs.Takings.{WriteMark, bytes_taken, done_marks, write_marks}
 use Rattle.lite_base.specs.Answers.{Comparable}
+use Rattle.lite_base.specs.Runs.{Runs}
 use Rattle.lite_bridge.specs.Known.{GainsBytes, GainsKnown, MovesKnown, NoFault, SameKnown, SpendsBytes, SpendsKnown}
-use Rattle.lite_bridge.specs.Known.{SpendsWell, known_bytes}
+use Rattle.lite_bridge.specs.Known.{SpendsWell, WhereKnown, known_bytes}
 
 spends_follows : (x y z : List ℕ) (l m : List ReadMark) → SpendsBytes x l y → SpendsBytes y m z
     → SpendsBytes x (l ++ m) z
@@ -38,104 +40,72 @@ spends_no_wait x y (ReadMark.pending ∷ l) h = absurd h
 spends_no_wait x y (ReadMark.fault kind ∷ l) h = spends_no_wait x y l h
 spends_no_wait x y (ReadMark.end ∷ l) h = spends_no_wait x y l h.1
 
-known_no_wait : (x y : Option (List ℕ)) (l : List ReadMark) → SpendsKnown x l y → NoPendingRead l
-known_no_wait None y l h = h
-known_no_wait (Some xs) None l h = absurd h
-known_no_wait (Some xs) (Some ys) l h = spends_no_wait xs ys l h
+-- runs from what is known, of which none waits
+module _ {M : Type 0} {NoWait : List M → Type 0} {run : Runs M (List ℕ)} (none : NoWait [])
+    (both : (l m : List M) → NoWait l → NoWait m → NoWait (l ++ m)) (laws : MarkLaws run)
+    (waits : (xs ys : List ℕ) (l : List M) → run xs l ys → NoWait l) where
+  known_no_wait : (x y : Option (List ℕ)) (l : List M) → WhereKnown NoWait run x l y → NoWait l
+  known_no_wait None y l h = h
+  known_no_wait (Some xs) None l h = absurd h
+  known_no_wait (Some xs) (Some ys) l h = waits xs ys l h
 
-known_rests : (x : Option (List ℕ)) → SpendsKnown x [] x
-known_rests None = tt
-known_rests (Some xs) = refl
+  known_rests : (x : Option (List ℕ)) → WhereKnown NoWait run x [] x
+  known_rests None = none
+  known_rests (Some xs) = laws.rests xs
 
-known_follows : (x y z : Option (List ℕ)) (l m : List ReadMark) → SpendsKnown x l y → SpendsKnown y m z
-    → SpendsKnown x (l ++ m) z
-known_follows None y z l m h k = no_wait_both l m h (known_no_wait y z m k)
-known_follows (Some xs) None z l m h k = absurd h
-known_follows (Some xs) (Some ys) None l m h k = absurd k
-known_follows (Some xs) (Some ys) (Some zs) l m h k = spends_follows xs ys zs l m h k
+  known_follows : (x y z : Option (List ℕ)) (l m : List M) → WhereKnown NoWait run x l y → WhereKnown NoWait run y m z
+      → WhereKnown NoWait run x (l ++ m) z
+  known_follows None y z l m h k = both l m h (known_no_wait y z m k)
+  known_follows (Some xs) None z l m h k = absurd h
+  known_follows (Some xs) (Some ys) None l m h k = absurd k
+  known_follows (Some xs) (Some ys) (Some zs) l m h k = laws.follows xs ys zs l m h k
+
+  module _ {S : Type 0} (known : S → Option (List ℕ)) where
+    known_laws : MarkLaws (λ x l y. WhereKnown NoWait run (known x) l (known y))
+    known_laws = record {
+      rests = λ x. known_rests (known x);
+      follows = λ x y z. known_follows (known x) (known y) (known z);
+    }
+
+    known_calm : CalmMarks NoWait (λ x l y. WhereKnown NoWait run (known x) l (known y)) (λ x. Unit {0})
+    known_calm = record { no_pending = λ x y l c. known_no_wait (known x) (known y) l; calm_on = λ x y l c h. tt }
 
 -- a reader whose bytes to come are known at some values
 pub spends_laws : {S : Type 0} (remaining : S → Option (List ℕ))
     → MarkLaws (λ x l y. SpendsKnown (remaining x) l (remaining y))
-spends_laws remaining =
-    record {
-      rests = λ x. known_rests (remaining x);
-      follows = λ x y z l m h k. known_follows (remaining x) (remaining y) (remaining z) l m h k;
-    }
+spends_laws = known_laws tt no_wait_both (record { rests = λ xs. refl; follows = spends_follows }) spends_no_wait
 
 -- it is never pending
 pub spends_calm : {S : Type 0} (remaining : S → Option (List ℕ))
     → CalmReadLaws (λ (x : S) l y. SpendsKnown (remaining x) l (remaining y)) (λ x. Unit {0})
-spends_calm remaining =
-    record {
-      no_pending = λ x y l c h. known_no_wait (remaining x) (remaining y) l h;
-      calm_on = λ x y l c h. tt;
-    }
+spends_calm = known_calm tt no_wait_both (record { rests = λ xs. refl; follows = spends_follows }) spends_no_wait
 
 gains_follows : (x y z : List ℕ) (l m : List WriteMark) → GainsBytes x l y → GainsBytes y m z → GainsBytes x (l ++ m) z
 gains_follows x y z [] m h k = subst (λ t. GainsBytes t m z) h k
 gains_follows x y z (WriteMark.wrote xs ∷ l) m h k = gains_follows (x ++ xs) y z l m h k
 gains_follows x y z (WriteMark.pending ∷ l) m h k = absurd h
-gains_follows x y z (WriteMark.fault kind ∷ l) m h k = gains_follows x y z l m h k
-gains_follows x y z (WriteMark.flushed ∷ l) m h k = gains_follows x y z l m h k
-gains_follows x y z (WriteMark.closed ∷ l) m h k = gains_follows x y z l m h k
+gains_follows x y z (_ ∷ l) m h k = gains_follows x y z l m h k
 
 gains_never_wait : (x y : List ℕ) (l : List WriteMark) → GainsBytes x l y → NoPendingWrite l
 gains_never_wait x y [] h = tt
 gains_never_wait x y (WriteMark.wrote xs ∷ l) h = gains_never_wait (x ++ xs) y l h
 gains_never_wait x y (WriteMark.pending ∷ l) h = absurd h
-gains_never_wait x y (WriteMark.fault kind ∷ l) h = gains_never_wait x y l h
-gains_never_wait x y (WriteMark.flushed ∷ l) h = gains_never_wait x y l h
-gains_never_wait x y (WriteMark.closed ∷ l) h = gains_never_wait x y l h
-
-never_waits_both : (l m : List WriteMark) → NoPendingWrite l → NoPendingWrite m → NoPendingWrite (l ++ m)
-never_waits_both [] m h k = k
-never_waits_both (WriteMark.wrote xs ∷ l) m h k = never_waits_both l m h k
-never_waits_both (WriteMark.pending ∷ l) m h k = absurd h
-never_waits_both (WriteMark.fault kind ∷ l) m h k = never_waits_both l m h k
-never_waits_both (WriteMark.flushed ∷ l) m h k = never_waits_both l m h k
-never_waits_both (WriteMark.closed ∷ l) m h k = never_waits_both l m h k
-
-gained_never_wait : (x y : Option (List ℕ)) (l : List WriteMark) → GainsKnown x l y → NoPendingWrite l
-gained_never_wait None y l h = h
-gained_never_wait (Some xs) None l h = absurd h
-gained_never_wait (Some xs) (Some ys) l h = gains_never_wait xs ys l h
-
-gained_rests : (x : Option (List ℕ)) → GainsKnown x [] x
-gained_rests None = tt
-gained_rests (Some xs) = refl
-
-gained_follows : (x y z : Option (List ℕ)) (l m : List WriteMark) → GainsKnown x l y → GainsKnown y m z
-    → GainsKnown x (l ++ m) z
-gained_follows None y z l m h k = never_waits_both l m h (gained_never_wait y z m k)
-gained_follows (Some xs) None z l m h k = absurd h
-gained_follows (Some xs) (Some ys) None l m h k = absurd k
-gained_follows (Some xs) (Some ys) (Some zs) l m h k = gains_follows xs ys zs l m h k
+gains_never_wait x y (_ ∷ l) h = gains_never_wait x y l h
 
 -- a writer whose bytes are known at some values
 pub gains_laws : {S : Type 0} (contents : S → Option (List ℕ))
     → MarkLaws (λ x l y. GainsKnown (contents x) l (contents y))
-gains_laws contents =
-    record {
-      rests = λ x. gained_rests (contents x);
-      follows = λ x y z l m h k. gained_follows (contents x) (contents y) (contents z) l m h k;
-    }
+gains_laws = known_laws tt never_waits_both (record { rests = λ xs. refl; follows = gains_follows }) gains_never_wait
 
 -- it is never pending
 pub gains_calm : {S : Type 0} (contents : S → Option (List ℕ))
     → CalmWriteLaws (λ (x : S) l y. GainsKnown (contents x) l (contents y)) (λ x. Unit {0})
-gains_calm contents =
-    record {
-      no_pending = λ x y l c h. gained_never_wait (contents x) (contents y) l h;
-      calm_on = λ x y l c h. tt;
-    }
+gains_calm = known_calm tt never_waits_both (record { rests = λ xs. refl; follows = gains_follows }) gains_never_wait
 
 no_fault_both : (l m : List ReadMark) → NoFault l → NoFault m → NoFault (l ++ m)
 no_fault_both [] m h k = k
-no_fault_both (ReadMark.byte b ∷ l) m h k = no_fault_both l m h k
-no_fault_both (ReadMark.pending ∷ l) m h k = no_fault_both l m h k
 no_fault_both (ReadMark.fault kind ∷ l) m h k = absurd h
-no_fault_both (ReadMark.end ∷ l) m h k = no_fault_both l m h k
+no_fault_both (_ ∷ l) m h k = no_fault_both l m h k
 
 -- of the same bytes one tale is told, where no read failed
 spends_one_tale : (x y z : List ℕ) (l m : List ReadMark) → SpendsBytes x l y → SpendsBytes x m z → NoFault l → NoFault m
@@ -147,8 +117,6 @@ spends_one_tale x y z (ReadMark.byte b ∷ l) [] h k n o = tt
 spends_one_tale x y z (ReadMark.end ∷ l) [] h k n o = tt
 spends_one_tale x y z (ReadMark.byte b ∷ l) (ReadMark.pending ∷ m) h k n o = absurd k
 spends_one_tale x y z (ReadMark.end ∷ l) (ReadMark.pending ∷ m) h k n o = absurd k
-spends_one_tale x y z (ReadMark.byte b ∷ l) (ReadMark.fault kind ∷ m) h k n o = absurd o
-spends_one_tale x y z (ReadMark.end ∷ l) (ReadMark.fault kind ∷ m) h k n o = absurd o
 spends_one_tale [] y z (ReadMark.byte b ∷ l) (ReadMark.byte c ∷ m) h k n o = absurd h
 spends_one_tale (a ∷ x) y z (ReadMark.byte b ∷ l) (ReadMark.byte c ∷ m) h k n o =
     (ap ReadMark.byte (h.0 ∙ sym k.0), spends_one_tale x y z l m h.1 k.1 n o)
@@ -157,16 +125,16 @@ spends_one_tale (a ∷ x) y z (ReadMark.byte b ∷ l) (ReadMark.end ∷ m) h k n
 spends_one_tale [] y z (ReadMark.end ∷ l) (ReadMark.byte c ∷ m) h k n o = absurd k
 spends_one_tale (a ∷ x) y z (ReadMark.end ∷ l) (ReadMark.byte c ∷ m) h k n o = absurd (cc h.0)
 spends_one_tale x y z (ReadMark.end ∷ l) (ReadMark.end ∷ m) h k n o = (refl, spends_one_tale x y z l m h.1 k.1 n o)
+spends_one_tale x y z (_ ∷ l) (ReadMark.fault kind ∷ m) h k n o = absurd o
 
 known_one_tale : (x x' y z : Option (List ℕ)) (l m : List ReadMark) → SameKnown x x' → SpendsWell x l y
     → SpendsWell x' m z
     → Comparable (strip_marks l) (strip_marks m)
-known_one_tale None x' y z l m e h k = absurd e
-known_one_tale (Some xs) None y z l m e h k = absurd e
 known_one_tale (Some xs) (Some ys) None z l m e h k = absurd h.0
 known_one_tale (Some xs) (Some ys) (Some y) None l m e h k = absurd k.0
 known_one_tale (Some xs) (Some ys) (Some y) (Some z) l m e h k =
     spends_one_tale xs y z l m h.0 (subst (λ t. SpendsBytes t m z) (sym e) k.0) h.1 k.1
+known_one_tale _ _ y z l m e h k = absurd e
 
 -- two readers of which the same bytes are known tell one tale, where no read failed
 pub spends_steady : {S : Type 0} (remaining : S → Option (List ℕ))
@@ -176,12 +144,11 @@ pub spends_steady : {S : Type 0} (remaining : S → Option (List ℕ))
 spends_steady remaining =
     record {
       laws = record {
-        rests = λ x. (known_rests (remaining x), tt);
+        rests = λ x. ((spends_laws remaining).rests x, tt);
         follows = λ x y z l m h k.
-            (known_follows (remaining x) (remaining y) (remaining z) l m h.0 k.0, no_fault_both l m h.1 k.1);
+            ((spends_laws remaining).follows x y z l m h.0 k.0, no_fault_both l m h.1 k.1);
       };
-      steady = λ x y x' y' l m e h k. known_one_tale (remaining x) (remaining y) (remaining x')
-          (remaining y') l m e h k;
+      steady = λ x y x' y'. known_one_tale (remaining x) (remaining y) (remaining x') (remaining y');
       found = λ n. absurd n;
     }
 
@@ -189,23 +156,20 @@ gains_all : (x y : List ℕ) (l : List WriteMark) → GainsBytes x l y → y ≡
 gains_all x y [] h = h ∙ sym (append-nil x)
 gains_all x y (WriteMark.wrote xs ∷ l) h = gains_all (x ++ xs) y l h ∙ append_assoc x xs (bytes_taken l)
 gains_all x y (WriteMark.pending ∷ l) h = absurd h
-gains_all x y (WriteMark.fault kind ∷ l) h = gains_all x y l h
-gains_all x y (WriteMark.flushed ∷ l) h = gains_all x y l h
-gains_all x y (WriteMark.closed ∷ l) h = gains_all x y l h
+gains_all x y (_ ∷ l) h = gains_all x y l h
 
 abbrev OneContents : Option (List ℕ) → Option (List ℕ) → Type 0
 OneContents x y = (known_bytes x ≡ known_bytes y) × SameKnown x y
 
 one_contents : (x y p q : Option (List ℕ)) (l m : List WriteMark) → SameKnown x y → GainsKnown x l p → GainsKnown y m q
     → bytes_taken l ≡ bytes_taken m → OneContents p q
-one_contents None y p q l m e h k same = absurd e
-one_contents (Some xs) None p q l m e h k same = absurd e
 one_contents (Some xs) (Some ys) None q l m e h k same = absurd h
 one_contents (Some xs) (Some ys) (Some ps) None l m e h k same = absurd k
 one_contents (Some xs) (Some ys) (Some ps) (Some qs) l m e h k same =
     let one = gains_all xs ps l h ∙ ap (λ t. t ++ bytes_taken l) e ∙ ap (λ t. ys ++ t) same
     ∙ sym (gains_all ys qs m k) in
     (one, one)
+one_contents _ _ p q l m e h k same = absurd e
 
 -- the same bytes are known to be there, and are so after the same bytes
 pub gains_steady : {S : Type 0} (contents : S → Option (List ℕ))
@@ -277,29 +241,25 @@ flush_gains (Some xs) (Some ys) (Some zs) (Err e) k h = h ∙ k
 pub close_gains : (x y : Option (List ℕ)) (r : Poll (Result (Unit {0}) Error))
     → GainsKnown x (done_marks WriteMark.flushed r) y
     → GainsKnown x (done_marks WriteMark.closed r) y
-close_gains None y Pending h = h
-close_gains None y (Ready (Ok u)) h = h
-close_gains None y (Ready (Err e)) h = h
 close_gains (Some xs) None r h = absurd h
-close_gains (Some xs) (Some ys) Pending h = h
-close_gains (Some xs) (Some ys) (Ready (Ok u)) h = h
-close_gains (Some xs) (Some ys) (Ready (Err e)) h = h
+close_gains _ _ Pending h = h
+close_gains _ _ (Ready (Ok u)) h = h
+close_gains _ _ (Ready (Err e)) h = h
 
 target_kept : (at : ℕ) (x y : Option (List ℕ)) (to : SeekFrom) (n : ℕ) → Keeps x y → IsSeekTarget at y to n
     → IsSeekTarget at x to n
-target_kept at x y (Start k) n s h = h
 target_kept at None y (End k) n s h = tt
 target_kept at (Some xs) None (End k) n s h = absurd s
 target_kept at (Some xs) (Some ys) (End k) n s h = subst (λ t. IsAtOffset (length t) k n) s h
-target_kept at x y (Current k) n s h = h
+target_kept at x y _ n s h = h
 
 pub seek_moves : (p q s : Option ℕ) (x y z : Option (List ℕ)) (to : SeekFrom) (r : Result ℕ Error) → StaysAt p q
     → Keeps x y → SeekMoves q s y to r
     → Keeps y z → MovesKnown p s x z to (by_kind (Ready r))
-seek_moves None q s x y z to (Ok n) stays k h l = (tt, keeps_trans x y z k l)
-seek_moves None q s x y z to (Err e) stays k h l = (tt, keeps_trans x y z k l)
 seek_moves (Some at) q s x y z to (Ok n) stays k h l =
     let moved : IsSeekTarget at y to n × (s ≡ Some n) = subst (λ t. SeekMoves {E = Error} t s y to (Ok n)) stays h in
     ((target_kept at x y to n k moved.0, moved.1), keeps_trans x y z k l)
 seek_moves (Some at) q s x y z to (Err e) stays k h l =
     (subst (λ t. SeekMoves {E = Error} t s y to (Err e)) stays h, keeps_trans x y z k l)
+seek_moves None q s x y z to (Ok n) stays k h l = (tt, keeps_trans x y z k l)
+seek_moves None q s x y z to (Err e) stays k h l = (tt, keeps_trans x y z k l)

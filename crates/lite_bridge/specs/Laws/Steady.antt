@@ -20,8 +20,7 @@ module _ {T : Type 0} (bytes : T → List ℕ) where
       let rest = subst (λ c. TellsScript (marks_of (bytes_left bytes c)) l (marks_of (bytes_left bytes y))) h.1.1
       (moves_told h.0 y l h.2) in
       rw h.1.0 (refl, rw h.1.0 at rest)
-  moves_told x y (ReadMark.pending ∷ l) h = absurd h.1
-  moves_told x y (ReadMark.fault kind ∷ l) h = absurd h.1
+  moves_told x y (_ ∷ l) h = absurd h.1
 
   same_left : (x y x' y' : Cursor T) (l m : List ReadMark) → bytes_left bytes x ≡ bytes_left bytes y
       → CursorReads bytes x l x' → CursorReads bytes y m y' → Comparable (strip_marks l) (strip_marks m)

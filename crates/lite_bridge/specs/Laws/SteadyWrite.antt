@@ -49,23 +49,16 @@ module _ {T : Type 0} (bytes : T → List ℕ) {puts : T → ℕ → List ℕ �
             (subst (λ a. Puts a h.0.position (bytes_taken l) (bytes y.inner)) same rest.all);
         place = omega (arith, rest.place, at);
       }
-  puts_all x y (WriteMark.flushed ∷ l) h = let r = subst (λ c. PutsAll c l y) h.1 (puts_all h.0 y l h.2) in record {
-    all = r.all;
-    place = r.place;
-  }
-  puts_all x y (WriteMark.closed ∷ l) h = let r = subst (λ c. PutsAll c l y) h.1 (puts_all h.0 y l h.2) in record {
-    all = r.all;
-    place = r.place;
-  }
   puts_all x y (WriteMark.pending ∷ l) h = absurd h.1
+  puts_all x y (_ ∷ l) h = let r = subst (λ c. PutsAll c l y) h.1 (puts_all h.0 y l h.2) in record {
+    all = r.all;
+    place = r.place;
+  }
 
   no_pending : (x y : Cursor T) (l : List WriteMark) → CursorWrites puts refuses x l y → NoPendingWrite l
   no_pending x y [] h = tt
-  no_pending x y (WriteMark.wrote xs ∷ l) h = no_pending h.0 y l h.2
-  no_pending x y (WriteMark.fault kind ∷ l) h = no_pending h.0 y l h.2
-  no_pending x y (WriteMark.flushed ∷ l) h = no_pending h.0 y l h.2
-  no_pending x y (WriteMark.closed ∷ l) h = no_pending h.0 y l h.2
   no_pending x y (WriteMark.pending ∷ l) h = absurd h.1
+  no_pending x y (_ ∷ l) h = no_pending h.0 y l h.2
 
   abbrev pub SamePlace : Cursor T → Cursor T → Type 0
   SamePlace x y = (bytes x.inner ≡ bytes y.inner) × (x.position ≡ y.position)

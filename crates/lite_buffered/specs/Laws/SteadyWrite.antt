@@ -1,6 +1,7 @@
 -- A buffered writer leaves what its inner writer leaves.
 use Rattle.std.proofs.Common.{◌≡◌, ◌∙◌, ℕ, List, [], ◌∷◌, ◌++◌, inl, inr, refl, sym, ap, subst, append_assoc}
 use Rattle.std.proofs.Common.{append-nil}
+use Rattle.lite_io_base.specs.Laws.SteadyWrite.{never_waits_parts}
 use Rattle.lite_io_base.specs.SteadyWrite.{CalmWriteLaws, EndsFlushed, NoError, NoPendingWrite, SteadyWriteLaws}
 use Rattle.lite_io_base.specs.Takings.{WriteMark, bytes_taken}
 use Rattle.lite_buffered.specs.declared.buf_writer.BufWriter.{BufWriter}
@@ -59,11 +60,6 @@ segments_flushed before after taken (told ∷ out) h =
     let rest = segments_flushed h.2 after h.1 out h.5 in
     let whole = h.3 ∙ ap (λ l. h.0 ++ l) rest.0.1 ∙ sym (append_assoc h.0 rest.0.0 (WriteMark.flushed ∷ [])) in
     ((h.0 ++ rest.0.0, whole), rest.1)
-
-never_waits_parts : (l m : List WriteMark) → NoPendingWrite (l ++ m) → NoPendingWrite l × NoPendingWrite m
-never_waits_parts [] m a = (tt, a)
-never_waits_parts (WriteMark.pending ∷ l) m a = absurd a
-never_waits_parts (b ∷ l) m a = never_waits_parts l m a
 
 told_no_pending : (n : ℕ) (left after : List ℕ) (last out : List WriteMark) (told : WriteMark) → NoPendingWrite last
     → NoPendingWrite out → WriterAnswers n left last told after → NoPendingWrite (told ∷ out)

@@ -18,7 +18,7 @@ use super::Journal;
 use crate::answers::{done_answer, read_answer, write_answer};
 use crate::entry::{Call, Entry};
 use lite_base::{Context, Poll};
-use lite_io_base::{AsyncRead, AsyncWrite, Takings, Tale, first_nonempty, first_with_room};
+use lite_io_base::{AsyncRead, AsyncWrite, Takings, Tale, first_nonempty, first_room};
 use std::io;
 use std::io::{ErrorKind, IoSlice, IoSliceMut};
 
@@ -144,6 +144,7 @@ impl<T: AsyncRead + Takings + Clone> AsyncRead for Journal<T> {
 
     /// Reads as `poll_read` does into the first buffer that has room, or into an empty one if none has: one call with
     /// one entry.
+    #[tactic(auto, using(crate::specs::Laws::Journal::reads_rules, lite_io_base::specs::Laws::Runs::within_more))]
     fn poll_read_vectored(
         &mut self,
         cx: &mut Context<'_>,
@@ -155,10 +156,7 @@ impl<T: AsyncRead + Takings + Clone> AsyncRead for Journal<T> {
         ensures left { Registered result (T.registers self.new.stream) cx.new }
         ensures kept { Keeps cx.old cx.new }
     {
-        match first_with_room(bufs) {
-            Some(i) => self.poll_read(cx, &mut bufs[i]),
-            None => self.poll_read(cx, &mut []),
-        }
+        self.poll_read(cx, first_room(bufs))
     }
 }
 

@@ -14,7 +14,7 @@ use super::locked::Locked;
 use super::tally::Tally;
 use crate::{Answer, buffer_answer};
 use lite_base::{Context, Poll};
-use lite_io_base::{AsyncRead, Takings, Tale, first_with_room};
+use lite_io_base::{AsyncRead, Takings, Tale, first_room};
 use std::alloc::{AllocError, AllocGlobal};
 use std::io;
 use std::io::{ErrorKind, IoSliceMut};
@@ -97,6 +97,7 @@ impl<R: Wait, T: AsyncRead + Takings + Clone, B: Books> AsyncRead for JournalRea
 
     /// Reads as `poll_read` does into the first buffer that has room, or into an empty one if none has: one call with
     /// one entry.
+    #[tactic(auto, using(lite_io_base::specs::Laws::Runs::within_more))]
     fn poll_read_vectored(
         &mut self,
         cx: &mut Context<'_>,
@@ -109,10 +110,7 @@ impl<R: Wait, T: AsyncRead + Takings + Clone, B: Books> AsyncRead for JournalRea
         ensures left { Registered result (λ _. ⊥) cx.new }
         ensures kept { Keeps cx.old cx.new }
     {
-        match first_with_room(bufs) {
-            Some(i) => self.poll_read(cx, &mut bufs[i]),
-            None => self.poll_read(cx, &mut []),
-        }
+        self.poll_read(cx, first_room(bufs))
     }
 }
 

@@ -1,14 +1,15 @@
 -- What is behind a reference.
-use Rattle.std.proofs.Common.{◌≡◌, ◌∙◌, ap, refl}
+use Rattle.std.proofs.Common.{◌≡◌, ◌∙◌, List, ap, refl}
 use Rattle.lite_base.specs.Lent.{Lent}
 use Rattle.lite_base.specs.Ranks.{Ranks, ranks_of}
 use Rattle.lite_base.specs.Runs.{Runs}
 use Rattle.lite_io_base.specs.Counting.{ReadCounting}
 use Rattle.lite_io_base.specs.Marks.{ReadMark}
-use Rattle.lite_io_base.specs.Runs.{MarkLaws}
+use Rattle.lite_io_base.specs.Runs.{CalmMarks, MarkLaws}
 use denote.MutBor.{MutBor}
 
-lent_still : {S : Type 0} (x y z : MutBor S) → y ≡ record x { now = y.now } → z ≡ record y { now = z.now }
+-- a reference stays through two runs
+pub lent_still : {S : Type 0} (x y z : MutBor S) → y ≡ record x { now = y.now } → z ≡ record y { now = z.now }
     → z ≡ record x { now = z.now }
 lent_still {S} x y z e d = d ∙ ap (λ (r : MutBor S). record r { now = z.now }) e
 
@@ -27,3 +28,16 @@ lent_counting c = record {
   falls = λ x y l k g h. c.falls x.now y.now l k g h.0;
   lowers = λ x y l k h. c.lowers x.now y.now l k h.0;
 }
+
+-- one of which a part runs is as calm as that part
+pub calm_part : {A S X : Type 0} {NoWait : List A → Type 0} {run : Runs A S} {outer : Runs A X} {is_calm : S → Type 0}
+    (part : X → S) → ((x y : X) (l : List A) → outer x l y → run (part x) l (part y)) → CalmMarks NoWait run is_calm
+    → CalmMarks NoWait outer (λ x. is_calm (part x))
+calm_part part ran c = record {
+  no_pending = λ x y l k h. c.no_pending (part x) (part y) l k (ran x y l h);
+  calm_on = λ x y l k h. c.calm_on (part x) (part y) l k (ran x y l h);
+}
+
+pub lent_calm_marks : {A S : Type 0} {NoWait : List A → Type 0} {run : Runs A S} {is_calm : S → Type 0}
+    → CalmMarks NoWait run is_calm → CalmMarks NoWait (Lent run) (λ (x : MutBor S). is_calm x.now)
+lent_calm_marks = calm_part (λ x. x.now) (λ x y l h. h.0)

@@ -29,20 +29,10 @@ module _ {S : Type 0} {reads : Runs ReadMark S} where
         found = λ n x y l h. (s.found n x.now y.now l h.0, h.1);
       }
 
-  pub lent_calm_read : {is_calm : S → Type 0} → CalmReadLaws reads is_calm
-      → CalmReadLaws (Lent reads) (λ (x : MutBor S). is_calm x.now)
-  lent_calm_read c =
-      record {
-        no_pending = λ x y l k h. c.no_pending x.now y.now l k h.0;
-        calm_on = λ x y l k h. c.calm_on x.now y.now l k h.0;
-      }
-
 pub strip_marks-append : (l m : List ReadMark) → strip_marks (l ++ m) ≡ strip_marks l ++ strip_marks m
 strip_marks-append [] m = refl
-strip_marks-append (ReadMark.byte b ∷ l) m = ap (λ k. ReadMark.byte b ∷ k) (strip_marks-append l m)
 strip_marks-append (ReadMark.pending ∷ l) m = strip_marks-append l m
-strip_marks-append (ReadMark.fault kind ∷ l) m = ap (λ k. ReadMark.fault kind ∷ k) (strip_marks-append l m)
-strip_marks-append (ReadMark.end ∷ l) m = ap (λ k. ReadMark.end ∷ k) (strip_marks-append l m)
+strip_marks-append (a ∷ l) m = ap (λ k. a ∷ k) (strip_marks-append l m)
 
 pub comparable_none : (l : List ReadMark) → Comparable l []
 comparable_none [] = tt
@@ -85,24 +75,18 @@ strip_marks-bytes (x ∷ xs) = ap (λ k. ReadMark.byte x ∷ k) (strip_marks-byt
 -- where there is no pending nothing is left out
 pub stripped_no_pending : (l : List ReadMark) → NoPendingRead l → strip_marks l ≡ l
 stripped_no_pending [] h = refl
-stripped_no_pending (ReadMark.byte b ∷ l) h = ap (λ k. ReadMark.byte b ∷ k) (stripped_no_pending l h)
 stripped_no_pending (ReadMark.pending ∷ l) h = absurd h
-stripped_no_pending (ReadMark.fault kind ∷ l) h = ap (λ k. ReadMark.fault kind ∷ k) (stripped_no_pending l h)
-stripped_no_pending (ReadMark.end ∷ l) h = ap (λ k. ReadMark.end ∷ k) (stripped_no_pending l h)
+stripped_no_pending (a ∷ l) h = ap (λ k. a ∷ k) (stripped_no_pending l h)
 
 pub no_wait_parts : (l m : List ReadMark) → NoPendingRead (l ++ m) → NoPendingRead l × NoPendingRead m
 no_wait_parts [] m h = (tt, h)
-no_wait_parts (ReadMark.byte b ∷ l) m h = no_wait_parts l m h
 no_wait_parts (ReadMark.pending ∷ l) m h = absurd h
-no_wait_parts (ReadMark.fault kind ∷ l) m h = no_wait_parts l m h
-no_wait_parts (ReadMark.end ∷ l) m h = no_wait_parts l m h
+no_wait_parts (_ ∷ l) m h = no_wait_parts l m h
 
 pub no_wait_both : (l m : List ReadMark) → NoPendingRead l → NoPendingRead m → NoPendingRead (l ++ m)
 no_wait_both [] m h k = k
-no_wait_both (ReadMark.byte b ∷ l) m h k = no_wait_both l m h k
 no_wait_both (ReadMark.pending ∷ l) m h k = absurd h
-no_wait_both (ReadMark.fault kind ∷ l) m h k = no_wait_both l m h k
-no_wait_both (ReadMark.end ∷ l) m h k = no_wait_both l m h k
+no_wait_both (_ ∷ l) m h k = no_wait_both l m h k
 
 pub no_wait_bytes : (xs : List ℕ) → NoPendingRead (bytes xs)
 no_wait_bytes [] = tt

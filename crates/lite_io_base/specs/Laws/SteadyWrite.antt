@@ -1,24 +1,31 @@
--- Writers that leave the same bytes however often they were pending, and writers that are never pending.
-use Rattle.std.specs.Prelude.{ℕ, List}
+-- Writers that leave the same bytes however often they were pending, and marks without a pending.
+use Rattle.std.specs.Prelude.{ℕ, List, [], ◌∷◌, ◌++◌}
 use denote.MutBor.{MutBor}
 use Rattle.lite_base.specs.Lent.{Lent}
 use Rattle.lite_base.specs.Runs.{Runs}
 use Rattle.lite_io_base.specs.Takings.{WriteMark}
-use Rattle.lite_io_base.specs.SteadyWrite.{CalmWriteLaws, SteadyWriteLaws}
+use Rattle.lite_io_base.specs.SteadyWrite.{NoPendingWrite, SteadyWriteLaws}
 
--- behind a reference
-module _ {S : Type 0} {writes : Runs WriteMark S} where
-  pub lent_steady_write : {alike : S → S → Type 0} {below : S → List ℕ} → SteadyWriteLaws writes alike below
-      → SteadyWriteLaws (Lent writes) (λ (x y : MutBor S). alike x.now y.now) (λ x. below x.now)
-  lent_steady_write s =
-      record {
-        steady = λ x y x' y' l m e h k a b f g same. s.steady x.now y.now x'.now y'.now l m e h.0 k.0 a b f g same;
-      }
+-- one of which a part runs is as steady as that part
+pub steady_write_part : {S X : Type 0} {writes : Runs WriteMark S} {outer : Runs WriteMark X} {alike : S → S → Type 0}
+    {below : S → List ℕ} (part : X → S)
+    → ((x y : X) (l : List WriteMark) → outer x l y → writes (part x) l (part y)) → SteadyWriteLaws writes alike below
+    → SteadyWriteLaws outer (λ x y. alike (part x) (part y)) (λ x. below (part x))
+steady_write_part part ran s = record {
+  steady = λ x y x' y' l m e h k. s.steady (part x) (part y) (part x') (part y') l m e (ran x x' l h) (ran y y' m k);
+}
 
-  pub lent_calm_write : {is_calm : S → Type 0} → CalmWriteLaws writes is_calm
-      → CalmWriteLaws (Lent writes) (λ (x : MutBor S). is_calm x.now)
-  lent_calm_write c =
-      record {
-        no_pending = λ x y l k h. c.no_pending x.now y.now l k h.0;
-        calm_on = λ x y l k h. c.calm_on x.now y.now l k h.0;
-      }
+pub lent_steady_write : {S : Type 0} {writes : Runs WriteMark S} {alike : S → S → Type 0} {below : S → List ℕ}
+    → SteadyWriteLaws writes alike below
+    → SteadyWriteLaws (Lent writes) (λ (x y : MutBor S). alike x.now y.now) (λ x. below x.now)
+lent_steady_write = steady_write_part (λ x. x.now) (λ x y l h. h.0)
+
+pub never_waits_both : (l m : List WriteMark) → NoPendingWrite l → NoPendingWrite m → NoPendingWrite (l ++ m)
+never_waits_both [] m h k = k
+never_waits_both (WriteMark.pending ∷ l) m h k = absurd h
+never_waits_both (_ ∷ l) m h k = never_waits_both l m h k
+
+pub never_waits_parts : (l m : List WriteMark) → NoPendingWrite (l ++ m) → NoPendingWrite l × NoPendingWrite m
+never_waits_parts [] m a = (tt, a)
+never_waits_parts (WriteMark.pending ∷ l) m a = absurd a
+never_waits_parts (_ ∷ l) m a = never_waits_parts l m a

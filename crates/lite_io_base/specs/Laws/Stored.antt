@@ -17,9 +17,8 @@ pub grows_kept : (xs ys : List ℕ) (l : List WriteMark) → Grows xs l ys → y
 grows_kept xs ys [] h = h ∙ sym (append-nil xs)
 grows_kept xs ys (WriteMark.wrote zs ∷ l) h = grows_kept (xs ++ zs) ys l h ∙ append_assoc xs zs (bytes_taken l)
 grows_kept xs ys (WriteMark.fault kind ∷ l) h = grows_kept xs ys l h.1
-grows_kept xs ys (WriteMark.flushed ∷ l) h = grows_kept xs ys l h
-grows_kept xs ys (WriteMark.closed ∷ l) h = grows_kept xs ys l h
 grows_kept xs ys (WriteMark.pending ∷ l) h = absurd h
+grows_kept xs ys (_ ∷ l) h = grows_kept xs ys l h
 
 -- a value that keeps what it takes behind what it holds
 abbrev pub grows_stored : {S : Type 0} (held : S → List ℕ) → Stored S

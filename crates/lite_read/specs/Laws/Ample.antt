@@ -23,13 +23,11 @@ module _ {A : Type 0} (whole final : List ℕ → Result A Error → Type 0) whe
       → NotRefused (Ready v)
       → CutsPiece byte ⊤ held marks cut
       → Itemised whole final cut held v after → CutsPiece byte ⊥ held marks cut
-  cuts_found byte held after marks (Cut.piece xs) v none c made = c
-  cuts_found byte held after marks (Cut.last xs) v none c made = c
-  cuts_found byte held after marks Cut.nothing v none c made = c
   cuts_found byte held after marks (Cut.failed e) v none (inl c) made = inl c
   cuts_found byte held after marks (Cut.failed e) None none (inr c) made = absurd made
   cuts_found byte held after marks (Cut.failed e) (Some r) none (inr c) made =
       absurd (none e (ap (λ s. item s) made.0) c.2)
+  cuts_found byte held after marks _ v none c made = c
 
   answer_found : (byte : ℕ) (p q : List ℕ) (marks : List ReadMark) (a : Answer (Result A Error)) → NotRefused a
       → AnswerMarks (pieces byte ⊤ (Itemised whole final)) p marks a q

@@ -13,6 +13,7 @@ use Rattle.lite_base.specs.Laws.StreamLaws.{laws_of}
 use Rattle.lite_base.specs.Runs.{NoHint, Runs}
 use Rattle.lite_io_base.specs.Counting.{ReadCounting}
 use Rattle.lite_io_base.specs.Falls.{Falls}
+use Rattle.lite_io_base.specs.Laws.Lent.{calm_part}
 use Rattle.lite_io_base.specs.Marks.{AllGiven, ReadMark, given}
 use Rattle.lite_io_base.specs.Runs.{MarkLaws}
 use Rattle.lite_io_base.specs.Steady.{CalmReadLaws, SteadyReadLaws}
@@ -23,9 +24,8 @@ use Rattle.lite_read.specs.declared.bytes.Bytes.{Bytes}
 tells_join : (i j : List ReadMark) (l m : List (Answer (Result ℕ Error))) → TellsEach i l → TellsEach j m
     → TellsEach (i ++ j) (l ++ m)
 tells_join [] j [] m h k = k
-tells_join [] j (a ∷ l) m h k = absurd h
-tells_join (x ∷ i) j [] m h k = absurd h
 tells_join (x ∷ i) j (a ∷ l) m h k = (h.0, tells_join i j l m h.1 k)
+tells_join _ j _ m h k = absurd h
 
 -- as many as one byte or error lower the rank
 one_below : (n : ℕ) (xs ys : List ℕ) → Falls (n + 1) xs ys → Below xs ys
@@ -37,18 +37,12 @@ tells_lower : (i : List ReadMark) (l : List (Answer (Result ℕ Error))) (xs ys 
 tells_lower [] [] xs ys h f = f
 tells_lower [] (a ∷ l) xs ys h f = absurd h
 tells_lower (x ∷ i) [] xs ys h f = absurd h
-tells_lower (ReadMark.byte b ∷ i) (Pending ∷ l) xs ys h f = absurd h.0
-tells_lower (ReadMark.byte b ∷ i) (Ready None ∷ l) xs ys h f = absurd h.0
 tells_lower (ReadMark.byte b ∷ i) (Ready (Some r) ∷ l) xs ys h f = one_below (given i) xs ys f
 tells_lower (ReadMark.fault k ∷ i) (Pending ∷ l) xs ys h f = Lowers-below l xs ys (one_below (given i) xs ys f)
-tells_lower (ReadMark.fault k ∷ i) (Ready None ∷ l) xs ys h f = absurd h.0
 tells_lower (ReadMark.fault k ∷ i) (Ready (Some r) ∷ l) xs ys h f = one_below (given i) xs ys f
 tells_lower (ReadMark.pending ∷ i) (Pending ∷ l) xs ys h f = tells_lower i l xs ys h.1 f
-tells_lower (ReadMark.pending ∷ i) (Ready None ∷ l) xs ys h f = absurd h.0
-tells_lower (ReadMark.pending ∷ i) (Ready (Some r) ∷ l) xs ys h f = absurd h.0
-tells_lower (ReadMark.end ∷ i) (Pending ∷ l) xs ys h f = absurd h.0
 tells_lower (ReadMark.end ∷ i) (Ready None ∷ l) xs ys h f = tells_lower i l xs ys h.1 f
-tells_lower (ReadMark.end ∷ i) (Ready (Some r) ∷ l) xs ys h f = absurd h.0
+tells_lower _ _ xs ys h f = absurd h.0
 
 -- items are bytes and errors
 tells_items : (i : List ReadMark) (l : List (Result ℕ Error)) → TellsEach i (items l) → AllGiven i
@@ -58,8 +52,7 @@ tells_items [] (r ∷ l) h = absurd h
 tells_items (x ∷ i) [] h = absurd h
 tells_items (ReadMark.byte b ∷ i) (r ∷ l) h = let e = tells_items i l h.1 in ((tt, e.0), ap suc e.1)
 tells_items (ReadMark.fault k ∷ i) (r ∷ l) h = let e = tells_items i l h.1 in ((tt, e.0), ap suc e.1)
-tells_items (ReadMark.pending ∷ i) (r ∷ l) h = absurd h.0
-tells_items (ReadMark.end ∷ i) (r ∷ l) h = absurd h.0
+tells_items _ (r ∷ l) h = absurd h.0
 
 module _ {R : Type 0} {reads : Runs ReadMark R} where
   tells_follow : MarkLaws reads → (x y z : Bytes R) (l m : List (Answer (Result ℕ Error))) → TellsBytes reads x l y
@@ -114,7 +107,7 @@ module _ {R : Type 0} {reads : Runs ReadMark R} where
 
   pub inner_calm : {is_calm : R → Type 0} → CalmReadLaws reads is_calm
       → CalmReadLaws (λ (x : Bytes R) l (y : Bytes R). reads x.inner l y.inner) (λ x. is_calm x.inner)
-  inner_calm c = record { no_pending = λ x y. c.no_pending x.inner y.inner; calm_on = λ x y. c.calm_on x.inner y.inner }
+  inner_calm = calm_part (λ x. x.inner) (λ x y l h. h)
 
   pub inner_counting : {r : Ranks R} → ReadCounting reads r
       → ReadCounting (λ (x : Bytes R) l (y : Bytes R). reads x.inner l y.inner) (ranks_of (λ (b : Bytes R). b.inner) r)

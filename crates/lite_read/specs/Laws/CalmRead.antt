@@ -9,7 +9,7 @@ use Rattle.lite_base.specs.Runs.{Runs}
 use Rattle.lite_io_base.specs.Marks.{ReadMark, fill_marks, read_marks}
 use Rattle.lite_io_base.specs.Steady.{CalmReadLaws}
 use Rattle.lite_read.specs.FillBuf.{FillsOnce, held_after}
-use Rattle.lite_read.specs.Laws.Polled.{polled_calm}
+use Rattle.lite_read.specs.Laws.Polled.{calls_calm, polled_calm}
 use Rattle.lite_read.specs.Polled.{PolledByCalls}
 use Rattle.lite_read.specs.Read.{Reads}
 use Rattle.lite_read.specs.ReadVectored.{ReadsVectored}
@@ -26,24 +26,17 @@ held_calm : {R : Type 0} (is_calm : R → Type 0) (r : Result (Bor (List ℕ)) E
 held_calm is_calm (Ok s) m k = tt
 held_calm is_calm (Err e) m k = k
 
-module _ {R : Type 0} {reads : Runs ReadMark R} {is_calm : R → Type 0} where
-  pub read_calm : CalmReadLaws reads is_calm
-      → CalmLaws (PolledByCalls (Reads reads)) (λ (x : ReadFuture R). is_calm x.reader.now)
-  read_calm c =
-      polled_calm (Reads reads)
-      (λ x y k h. c.no_pending x.reader.now y.reader.now (read_marks Pending y.buf.now) k h.came)
-      (λ x y r k h. c.calm_on x.reader.now y.reader.now (read_marks (Ready r) y.buf.now) k h.came)
+module _ {R : Type 0} {reads : Runs ReadMark R} {is_calm : R → Type 0}
+    (c : CalmReadLaws reads is_calm) where
+  pub read_calm : CalmLaws (PolledByCalls (Reads reads)) (λ (x : ReadFuture R). is_calm x.reader.now)
+  read_calm = calls_calm (Reads reads) (λ x. x.reader.now) (λ x y r h. (_, h.came)) (λ x y h n. n) c
 
-  pub vectored_calm : CalmReadLaws reads is_calm
-      → CalmLaws (PolledByCalls (ReadsVectored reads)) (λ (x : ReadVectoredFuture R). is_calm x.reader.now)
-  vectored_calm c =
-      polled_calm (ReadsVectored reads)
-      (λ x y k h. c.no_pending x.reader.now y.reader.now (read_marks Pending h.came.0) k h.came.2)
-      (λ x y r k h. c.calm_on x.reader.now y.reader.now (read_marks (Ready r) h.came.0) k h.came.2)
+  pub vectored_calm : CalmLaws (PolledByCalls (ReadsVectored reads)) (λ (x : ReadVectoredFuture R). is_calm x.reader.now)
+  vectored_calm =
+      calls_calm (ReadsVectored reads) (λ x. x.reader.now) (λ x y r h. (_, h.came.2)) (λ x y h n. n) c
 
-  pub fill_calm : {lent : R → List ℕ} → CalmReadLaws reads is_calm
-      → CalmLaws (PolledByCalls (FillsOnce reads lent)) (λ (x : FillBuf R). HeldCalm is_calm x.reader)
-  fill_calm {lent} c =
+  pub fill_calm : {lent : R → List ℕ} → CalmLaws (PolledByCalls (FillsOnce reads lent)) (λ (x : FillBuf R). HeldCalm is_calm x.reader)
+  fill_calm {lent} =
       polled_calm (FillsOnce reads lent)
       (λ x y k h. c.no_pending h.reader.now h.filled (fill_marks {A = Bor (List ℕ)} Pending (lent h.filled))
       (subst (HeldCalm is_calm) h.held k) h.came)

@@ -55,14 +55,12 @@ module _ {A : Type 0} (byte : ℕ) (may_refuse : Type 0) (whole final : List ℕ
   end_out : (held : List ℕ) (last : List ReadMark) (cut : Cut) (after : List ℕ)
       → CutsPiece byte may_refuse held last cut
       → Itemised whole final cut held None after → given last + length held ≡ length after
-  end_out held last (Cut.piece xs) after c i = absurd i
-  end_out held last (Cut.last xs) after c i = absurd i
   end_out held last Cut.nothing after c i =
       let none : length after ≡ 0 = ap length i in
       let nought : given last ≡ 0 = ap given c.0 in
       let empty : length held ≡ 0 = ap length c.1 in
       omega (arith, none, nought, empty)
-  end_out held last (Cut.failed e) after c i = absurd i
+  end_out held last _ after c i = absurd i
 
   segments_out : (p q : List ℕ) (marks : List ReadMark) (l : List (Answer A))
       → PieceSegments (pieces byte may_refuse (Itemised whole final)) p marks (all_ok l) q

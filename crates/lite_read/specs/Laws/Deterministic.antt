@@ -99,8 +99,6 @@ module _ {M R : Type 0} (fold : ReadFold M R) where
     -- tales that begin one another give the same values
     tale_values_alike : (p : M) (t u : List ReadMark) (vs ws : List R) → TaleValues fold p t vs
         → TaleValues fold p u ws → Comparable t u → ComparableBy same vs ws
-    tale_values_alike p _ _ _ _ (TaleValues.held _ q xs f) b c = tt
-    tale_values_alike p _ _ _ _ (TaleValues.next _ m q xs last rest v vs f h a) (TaleValues.held _ r ys g) c = tt
     tale_values_alike p _ _ _ _ (TaleValues.next _ m q xs last rest v vs f h a)
         (TaleValues.next _ n r ys end more w ws g j b) c =
         let first = aligned p m n q r xs ys last end rest more v w f g h j c in (
@@ -108,6 +106,7 @@ module _ {M R : Type 0} (fold : ReadFold M R) where
           tale_values_alike q rest more vs ws a
               (subst (λ z. TaleValues fold z more ws) (sym first.1) b) first.2,
         )
+    tale_values_alike p _ _ _ _ _ _ c = tt
 
     -- what is made of readers that are alike
     module _ {S : Type 0} {reads ample : Runs ReadMark S} {needs_none : Type 0} {alike : S → S → Type 0}

@@ -44,16 +44,12 @@ cuts_now byte held l (Cut.failed e) (inr h) = absurd h.1
 
 now_no_pending : (byte : ℕ) (held : List ℕ) (l : List ReadMark) (cut : Cut) → CutsNow byte held l cut → NoPendingRead l
 now_no_pending byte held _ _ CutsNow.piece = tt
-now_no_pending byte held _ _ (CutsNow.last some) = tt
-now_no_pending byte held _ _ (CutsNow.nothing none) = tt
-now_no_pending byte held _ _ (CutsNow.failed e) = tt
+now_no_pending byte held _ _ _ = tt
 
 now_or_taken : (byte : ℕ) (held : List ℕ) (l m : List ReadMark) (cut : Cut) (b : ℕ) → CutsNow byte held l cut → b ≢ byte
     → Comparable l (ReadMark.byte b ∷ m) → ⊥
 now_or_taken byte held _ m _ b CutsNow.piece other c = other (let same : byte ≡ b = cc c.0 in sym same)
-now_or_taken byte held _ m _ b (CutsNow.last some) other c = cc c.0
-now_or_taken byte held _ m _ b (CutsNow.nothing none) other c = cc c.0
-now_or_taken byte held _ m _ b (CutsNow.failed e) other c = cc c.0
+now_or_taken byte held _ m _ b _ other c = cc c.0
 
 abbrev OneCut : List ReadMark → List ReadMark → Cut → Cut → Type 0
 OneCut l m a b = SameCut a b × (l ≡ m)
@@ -71,16 +67,7 @@ one_cut byte held _ _ _ _ (CutsNow.failed e) (CutsNow.failed f) c =
     let same : error_kind e ≡ error_kind f = cc c.0 in (same, ap (λ k. ReadMark.fault k ∷ []) same)
 one_cut byte held _ _ _ _ (CutsNow.last some) (CutsNow.nothing none) c = absurd (none_some held none some)
 one_cut byte held _ _ _ _ (CutsNow.nothing none) (CutsNow.last some) c = absurd (none_some held none some)
-one_cut byte held _ _ _ _ CutsNow.piece (CutsNow.last some) c = absurd (cc c.0)
-one_cut byte held _ _ _ _ CutsNow.piece (CutsNow.nothing none) c = absurd (cc c.0)
-one_cut byte held _ _ _ _ CutsNow.piece (CutsNow.failed f) c = absurd (cc c.0)
-one_cut byte held _ _ _ _ (CutsNow.last some) CutsNow.piece c = absurd (cc c.0)
-one_cut byte held _ _ _ _ (CutsNow.last some) (CutsNow.failed f) c = absurd (cc c.0)
-one_cut byte held _ _ _ _ (CutsNow.nothing none) CutsNow.piece c = absurd (cc c.0)
-one_cut byte held _ _ _ _ (CutsNow.nothing none) (CutsNow.failed f) c = absurd (cc c.0)
-one_cut byte held _ _ _ _ (CutsNow.failed e) CutsNow.piece c = absurd (cc c.0)
-one_cut byte held _ _ _ _ (CutsNow.failed e) (CutsNow.last some) c = absurd (cc c.0)
-one_cut byte held _ _ _ _ (CutsNow.failed e) (CutsNow.nothing none) c = absurd (cc c.0)
+one_cut byte held _ _ _ _ _ _ c = absurd (cc c.0)
 
 -- one value is made of one cut, and one list is held then
 abbrev pub BecomesOne : {R : Type 0} → (R → R → Type 0) → (Cut → List ℕ → R → List ℕ → Type 0) → Type 0
@@ -132,18 +119,7 @@ module _ {A : Type 0} {same : A → A → Type 0} {whole final : List ℕ → Re
   itemised_one (Cut.failed a) (Cut.failed b) held (Some r) (Some s) p q e h k = rw (h.0, k.0) (e, h.1 ∙ sym k.1)
   itemised_one (Cut.failed a) (Cut.failed b) held None w p q e h k = absurd h
   itemised_one (Cut.failed a) (Cut.failed b) held (Some r) None p q e h k = absurd k
-  itemised_one (Cut.piece xs) (Cut.last ys) held v w p q e h k = absurd e
-  itemised_one (Cut.piece xs) Cut.nothing held v w p q e h k = absurd e
-  itemised_one (Cut.piece xs) (Cut.failed b) held v w p q e h k = absurd e
-  itemised_one (Cut.last xs) (Cut.piece ys) held v w p q e h k = absurd e
-  itemised_one (Cut.last xs) Cut.nothing held v w p q e h k = absurd e
-  itemised_one (Cut.last xs) (Cut.failed b) held v w p q e h k = absurd e
-  itemised_one Cut.nothing (Cut.piece ys) held v w p q e h k = absurd e
-  itemised_one Cut.nothing (Cut.last ys) held v w p q e h k = absurd e
-  itemised_one Cut.nothing (Cut.failed b) held v w p q e h k = absurd e
-  itemised_one (Cut.failed a) (Cut.piece ys) held v w p q e h k = absurd e
-  itemised_one (Cut.failed a) (Cut.last ys) held v w p q e h k = absurd e
-  itemised_one (Cut.failed a) Cut.nothing held v w p q e h k = absurd e
+  itemised_one _ _ held v w p q e h k = absurd e
 
   pub items_deterministic : (byte : ℕ) → IsDeterministic (OptionBy (SameOr same)) (pieces byte ⊥ (Itemised whole final))
   items_deterministic byte = pieces_deterministic byte (Itemised whole final) itemised_one

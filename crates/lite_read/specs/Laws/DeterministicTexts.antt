@@ -14,10 +14,9 @@ value_same xs (Ok n) (Ok m) (Ok v) (Ok w) s h k = h.1 ∙ s ∙ sym k.1
 value_same xs (Ok n) (Ok m) (Ok v) (Err f) s h k = absurd (k.0 h.0)
 value_same xs (Ok n) (Ok m) (Err e) (Ok w) s h k = absurd (h.0 k.0)
 value_same xs (Ok n) (Ok m) (Err e) (Err f) s h k = h.1 ∙ sym k.1
-value_same xs (Ok n) (Err f) v w s h k = absurd s
-value_same xs (Err e) (Ok m) v w s h k = absurd s
 value_same xs (Err e) (Err f) v w s h k =
     subst (λ z. SameByKind z w) (sym h) (subst (λ z. SameByKind (Err e) z) (sym k) s)
+value_same xs _ _ v w s h k = absurd s
 
 gains_same : (xs before p q : List ℕ) → AppendsText xs before p → AppendsText xs before q → p ≡ q
 gains_same xs before p q (inl h) (inl k) = h.1 ∙ sym k.1

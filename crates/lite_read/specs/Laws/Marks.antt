@@ -51,18 +51,7 @@ counted_one byte (Cut.last xs) (Cut.last ys) held v w p q e h k =
 counted_one byte Cut.nothing Cut.nothing held v w p q e h k =
     let same = h.0 ∙ sym k.0 in rw (h.1, k.1) (ap length same, same)
 counted_one byte (Cut.failed a) (Cut.failed b) held v w p q e h k = rw (h.1, k.1) (e, h.0 ∙ sym k.0)
-counted_one byte (Cut.piece xs) (Cut.last ys) held v w p q e h k = absurd e
-counted_one byte (Cut.piece xs) Cut.nothing held v w p q e h k = absurd e
-counted_one byte (Cut.piece xs) (Cut.failed b) held v w p q e h k = absurd e
-counted_one byte (Cut.last xs) (Cut.piece ys) held v w p q e h k = absurd e
-counted_one byte (Cut.last xs) Cut.nothing held v w p q e h k = absurd e
-counted_one byte (Cut.last xs) (Cut.failed b) held v w p q e h k = absurd e
-counted_one byte Cut.nothing (Cut.piece ys) held v w p q e h k = absurd e
-counted_one byte Cut.nothing (Cut.last ys) held v w p q e h k = absurd e
-counted_one byte Cut.nothing (Cut.failed b) held v w p q e h k = absurd e
-counted_one byte (Cut.failed a) (Cut.piece ys) held v w p q e h k = absurd e
-counted_one byte (Cut.failed a) (Cut.last ys) held v w p q e h k = absurd e
-counted_one byte (Cut.failed a) Cut.nothing held v w p q e h k = absurd e
+counted_one byte _ _ held v w p q e h k = absurd e
 
 pub until_deterministic : (byte : ℕ) → IsDeterministic SameByKind (until byte ⊥)
 until_deterministic byte = pieces_deterministic byte (CountsPiece byte) (counted_one byte)

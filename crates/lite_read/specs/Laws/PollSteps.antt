@@ -16,8 +16,8 @@ use Rattle.lite_read.specs.PollSteps.{TakesBytes}
 -- where an answer after one step is one before it, an answer after some steps is one of the first
 pub steps_answer : {X A : Type 0} {steps : X → X → Type 0} {answers : X → A → X → Type 0}
     → ((x y z : X) (a : A) → steps x y → answers y a z → answers x a z)
-    → (x y z : X) (a : A) → Reaches steps x y → answers y a z → answers x a z
-steps_answer {answers = answers} before x y z a goes last =
+    → {x z : X} {a : A} → (y : X) × Reaches steps x y × answers y a z → answers x a z
+steps_answer {answers = answers} before {x} {z} {a} (y, goes, last) =
     Reaches-back (λ v. answers v a z) (λ v w t h. before v w z a t h) x y goes last
 
 -- what holds anyhow holds after a pending
@@ -26,20 +26,15 @@ goes_again Pending p = p
 goes_again (Ready a) p = tt
 
 -- a step that goes on is a run of bytes
-some_given : {S : Type 0} (reads : Runs ReadMark S) (s t : S) (xs : List ℕ) → 0 < length xs → reads s (bytes xs) t
+pub given_of : {S : Type 0} (reads : Runs ReadMark S) (s t : S) (xs : List ℕ) → 0 < length xs → reads s (bytes xs) t
     → GivenRun reads s t
-some_given reads s t [] some h = absurd (omega (arith, some))
-some_given reads s t (x ∷ xs) some h = (ReadMark.byte x, bytes xs, bytes_given (x ∷ xs), h)
+given_of reads s t [] some h = absurd (omega (arith, some))
+given_of reads s t (x ∷ xs) some h = (ReadMark.byte x, bytes xs, bytes_given (x ∷ xs), h)
 
 pub takes_given : {X S M R : Type 0} {reader : X → S} {held : X → M} {fold : X → ReadFold M R} {Keeps : X → X → Type 0}
     {reads : Runs ReadMark S} (x y : X)
     → TakesBytes reader held fold Keeps reads x y → GivenRun reads (reader x) (reader y)
-takes_given {reader = reader} {reads = reads} x y t = some_given reads (reader x) (reader y) t.taken t.some t.came
-
--- a reference stays through two runs
-pub lent_still : {S : Type 0} (x y z : MutBor S) → y ≡ record x { now = y.now } → z ≡ record y { now = z.now }
-    → z ≡ record x { now = z.now }
-lent_still {S} x y z e d = d ∙ ap (λ (r : MutBor S). record r { now = z.now }) e
+takes_given {reader = reader} {reads = reads} x y t = given_of reads (reader x) (reader y) t.taken t.some t.came
 
 -- no answer of two runs leaves all as it is
 pub idle_join : {X A : Type 0} (x y z : X) (l m : List A) → (l ≡ [] → y ≡ x) → (m ≡ [] → z ≡ y) → l ++ m ≡ [] → z ≡ x

@@ -5,6 +5,8 @@ use Rattle.futures.specs.declared.task.Poll.TheVariants.{Ready, Pending}
 use Rattle.lite_base.specs.Answers.{Waiting, strip}
 use Rattle.lite_base.specs.Calm.{CalmLaws, NoPending}
 use Rattle.lite_base.specs.FutureLaws.{FutureLaws}
+use Rattle.lite_base.specs.Runs.{Runs}
+use Rattle.lite_io_base.specs.Runs.{CalmMarks}
 use Rattle.lite_read.specs.Polled.{PolledByCalls}
 
 module _ {F A : Type 0} (call : F → Poll A → F → Type 0) where
@@ -23,9 +25,9 @@ module _ {F A : Type 0} (call : F → Poll A → F → Type 0) where
   polled_laws = record { rests = λ x. refl; stays = λ x y h. h; follows = polled_follows; once = polled_once }
 
   -- one poll
-  pub polled_one : (x y : F) (c : Poll A) → call x c y → PolledByCalls call x (c ∷ []) y
-  polled_one x y Pending h = (y, h, refl)
-  polled_one x y (Ready r) h = (h, refl)
+  pub polled_one : {x y : F} {c : Poll A} → call x c y → PolledByCalls call x (c ∷ []) y
+  polled_one {c = Pending} h = (_, h, refl)
+  polled_one {c = Ready r} h = (h, refl)
 
   -- where no call of a calm value is pending, and each leaves a calm one
   module _ {is_calm : F → Type 0} (never : (x y : F) → is_calm x → call x Pending y → ⊥)
@@ -42,3 +44,13 @@ module _ {F A : Type 0} (call : F → Poll A → F → Type 0) where
 
     pub polled_calm : CalmLaws (PolledByCalls call) is_calm
     polled_calm = record { no_pending = no_pending; calm_on = still_calm }
+
+  -- where each call leaves marks of a part of the future, and a pending one a mark of waiting
+  pub calls_calm : {M S : Type 0} {NoWait : List M → Type 0} {run : Runs M S} {is_calm : S → Type 0} (part : F → S)
+      (came : (x y : F) (r : Poll A) → call x r y → (l : List M) × run (part x) l (part y))
+      → ((x y : F) (h : call x Pending y) → NoWait (came x y Pending h).0 → ⊥) → CalmMarks NoWait run is_calm
+      → CalmLaws (PolledByCalls call) (λ x. is_calm (part x))
+  calls_calm part came waits c =
+      polled_calm
+      (λ x y k h. let w = came x y Pending h in waits x y h (c.no_pending (part x) (part y) w.0 k w.1))
+      (λ x y r k h. let w = came x y (Ready r) h in c.calm_on (part x) (part y) w.0 k w.1)

@@ -11,7 +11,7 @@ use Rattle.lite_io_base.specs.Marks.{ReadMark}
 use Rattle.lite_io_base.specs.Runs.{MarkLaws}
 use Rattle.lite_read.specs.Laws.Gathers.{KeepLaws, gathers_before, gathers_laws}
 use Rattle.lite_read.specs.Filling.{ExactStays, filling_of}
-use Rattle.lite_read.specs.Laws.PollSteps.{lent_still}
+use Rattle.lite_io_base.specs.Laws.Lent.{lent_still}
 use Rattle.lite_read.specs.ReadExact.{ReadsExactly, fills}
 use Rattle.lite_read.specs.PollSteps.{ReadsMore}
 use Rattle.lite_read.specs.declared.read_exact.ReadExactFuture.{ReadExactFuture}

@@ -15,7 +15,8 @@ use Rattle.lite_io_base.specs.Marks.{ReadMark, bytes}
 use Rattle.lite_io_base.specs.Runs.{MarkLaws}
 use Rattle.lite_read.specs.Laws.Gathers.{KeepLaws, gathers_before, gathers_laws}
 use Rattle.lite_read.specs.Appending.{CanAppend, ToEndStays, read_front}
-use Rattle.lite_read.specs.Laws.PollSteps.{lent_still, takes_given}
+use Rattle.lite_io_base.specs.Laws.Lent.{lent_still}
+use Rattle.lite_read.specs.Laws.PollSteps.{takes_given}
 use Rattle.lite_read.specs.ReadToEnd.{ReadsToEnd, appends}
 use Rattle.lite_read.specs.PollSteps.{AnswersUntrimmed, ReadsSome}
 use Rattle.lite_read.specs.declared.read_to_end.ReadToEndFuture.{ReadToEndFuture}

@@ -8,7 +8,7 @@ use Rattle.lite_base.specs.Runs.{Runs}
 use Rattle.lite_io_base.specs.Marks.{ReadMark}
 use Rattle.lite_io_base.specs.Runs.{MarkLaws}
 use Rattle.lite_read.specs.Laws.Gathers.{KeepLaws, gathers_before, gathers_laws}
-use Rattle.lite_read.specs.Laws.PollSteps.{lent_still}
+use Rattle.lite_io_base.specs.Laws.Lent.{lent_still}
 use Rattle.lite_read.specs.UntilVector.{UntilStays}
 use Rattle.lite_read.specs.ReadUntil.{ReadsUntil, until}
 use Rattle.lite_read.specs.PieceSteps.{AppendsMore}

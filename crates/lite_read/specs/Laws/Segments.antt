@@ -4,14 +4,17 @@ use Rattle.std.specs.Prelude.{IfSome}
 use Rattle.std.specs.List.{FoldsTo}
 use Rattle.futures.specs.declared.task.Poll.{Poll}
 use Rattle.lite_base.specs.Answers.{before_end}
+use Rattle.lite_base.specs.Chain.{Reaches}
 use Rattle.lite_base.specs.Laws.Segments.{segments_join}
 use Rattle.lite_base.specs.StreamLaws.{StreamLaws}
 use Rattle.lite_base.specs.Runs.{NoHint, Runs}
+use Rattle.lite_base.specs.Ranks.{Ranks}
+use Rattle.lite_io_base.specs.Counting.{ReadCounting}
 use Rattle.lite_io_base.specs.Marks.{ReadMark, bytes}
 use Rattle.lite_io_base.specs.Runs.{MarkLaws}
 use Rattle.lite_read.specs.ReadFold.{AnswerMarks, ReadFold}
 use Rattle.lite_read.specs.Laws.ReadFold.{answers_before}
-use Rattle.lite_read.specs.Laws.PollSteps.{idle_join}
+use Rattle.lite_read.specs.Laws.PollSteps.{idle_join, steps_answer}
 use Rattle.lite_read.specs.Segments.{Flows, Segmented, StreamOver}
 use Rattle.lite_read.specs.PieceSteps.{TakesPieceIn}
 
@@ -91,3 +94,16 @@ module _ {X S M K A : Type 0} (over : StreamOver X S M K) (fold : K → ReadFold
       → (x y : X) (l : List (Poll (Option A))) → P (over.reader x)
       → Flows over fold reads x l y → P (over.reader y)
   flow_keeps P keeps x y l p h = keeps (over.reader x) (over.reader y) h.segmented.marks p h.segmented.came
+
+module _ {X S M K A : Type 0} (over : StreamOver X S M K) (fold : K → ReadFold M (Option A)) {reads : Runs ReadMark S}
+    (laws : MarkLaws reads) {x z : X} {a : Poll (Option A)} where
+  -- an answer after some steps
+  pub flow_ran : (y : X) × Reaches (TakesPieceIn over fold reads) x y × Flows over fold reads y (a ∷ []) z
+      → Flows over fold reads x (a ∷ []) z
+  flow_ran = steps_answer (step_before over fold laws)
+
+  -- leaves a reader that counts
+  pub flow_on : {r : Ranks S} → ReadCounting reads r → r.counts (over.reader x)
+      → (y : X) × Reaches (TakesPieceIn over fold reads) x y × Flows over fold reads y (a ∷ []) z
+      → r.counts (over.reader z)
+  flow_on {r} c k steps = flow_keeps over fold laws r.counts c.counts_on x z (a ∷ []) k (flow_ran steps)

@@ -43,22 +43,14 @@ said : (i : List ReadMark) (l : List (Answer (Result ℕ Error))) → TellsEach 
 said [] [] h = refl
 said [] (a ∷ l) h = absurd h
 said (m ∷ i) [] h = absurd h
-said (ReadMark.byte b ∷ i) (Pending ∷ l) h = absurd h.0
-said (ReadMark.byte b ∷ i) (Ready None ∷ l) h = absurd h.0
 said (ReadMark.byte b ∷ i) (Ready (Some (Ok x)) ∷ l) h = rw h.0 (strip l, refl, said i l h.1)
-said (ReadMark.byte b ∷ i) (Ready (Some (Err e)) ∷ l) h = absurd h.0
 said (ReadMark.pending ∷ i) (Pending ∷ l) h = said i l h.1
-said (ReadMark.pending ∷ i) (Ready None ∷ l) h = absurd h.0
-said (ReadMark.pending ∷ i) (Ready (Some r) ∷ l) h = absurd h.0
 said (ReadMark.fault kind ∷ i) (Pending ∷ l) h = inl (h.0, said i l h.1)
-said (ReadMark.fault kind ∷ i) (Ready None ∷ l) h = absurd h.0
-said (ReadMark.fault kind ∷ i) (Ready (Some (Ok x)) ∷ l) h = absurd h.0
 said (ReadMark.fault kind ∷ i) (Ready (Some (Err e)) ∷ l) h =
     let each = said i l h.1 in
     inr (record { error = e; is = h.0.0; heard = h.0.1; after = strip l; cut = refl; more = each })
-said (ReadMark.end ∷ i) (Pending ∷ l) h = absurd h.0
 said (ReadMark.end ∷ i) (Ready None ∷ l) h = (strip l, refl, said i l h.1)
-said (ReadMark.end ∷ i) (Ready (Some r) ∷ l) h = absurd h.0
+said _ _ h = absurd h.0
 
 abbrev SameBytes : List ByteItem → List ByteItem → Type 0
 SameBytes = ComparableBy (OptionBy SameByKind)

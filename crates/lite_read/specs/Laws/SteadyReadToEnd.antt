@@ -24,16 +24,10 @@ data ToEndValue (start : ℕ) (g : List ℕ) : List ReadMark → Result ℕ Erro
 
 answered : (start : ℕ) (g : List ℕ) (l : List ReadMark) (v : Result ℕ Error) → Appended ⊥ start g l v
     → ToEndValue start g l v
-answered start g [] (Ok n) h = absurd h
 answered start g [] (Err e) h = absurd h.0
-answered start g (ReadMark.byte b ∷ l) v h = absurd h
-answered start g (ReadMark.pending ∷ l) v h = absurd h
-answered start g (ReadMark.end ∷ m ∷ l) v h = absurd h
-answered start g (ReadMark.fault kind ∷ m ∷ l) v h = absurd h
 answered start g (ReadMark.end ∷ []) (Ok n) h = ToEndValue.ended n h
-answered start g (ReadMark.end ∷ []) (Err e) h = absurd h
-answered start g (ReadMark.fault kind ∷ []) (Ok n) h = absurd h
 answered start g (ReadMark.fault kind ∷ []) (Err e) h = ToEndValue.failed e kind h
+answered start g _ _ h = absurd h
 
 at_once : (start : ℕ) (g : List ℕ) (l : List ReadMark) (v : Result ℕ Error) → ToEndValue start g l v → NoPendingRead l
 at_once start g _ _ (ToEndValue.ended n h) = tt
@@ -54,8 +48,7 @@ one_value start g _ _ _ _ (ToEndValue.ended n h) (ToEndValue.ended k j) c =
 one_value start g _ _ _ _ (ToEndValue.failed e kind h) (ToEndValue.failed f other k) c =
     let same : kind ≡ other = cc c.0 in
     (h ∙ same ∙ sym k, ap (λ n. ReadMark.fault n ∷ []) same)
-one_value start g _ _ _ _ (ToEndValue.ended n h) (ToEndValue.failed f kind k) c = absurd (cc c.0)
-one_value start g _ _ _ _ (ToEndValue.failed e kind h) (ToEndValue.ended n k) c = absurd (cc c.0)
+one_value start g _ _ _ _ _ _ c = absurd (cc c.0)
 
 pub appends_deterministic : (start : ℕ) → IsDeterministic SameByKind (appends ⊥ start)
 appends_deterministic start =

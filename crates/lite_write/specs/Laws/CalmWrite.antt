@@ -5,7 +5,7 @@ use Rattle.lite_base.specs.Calm.{CalmLaws}
 use Rattle.lite_base.specs.Runs.{Runs}
 use Rattle.lite_io_base.specs.SteadyWrite.{CalmWriteLaws}
 use Rattle.lite_io_base.specs.Takings.{WriteMark, done_marks, write_marks}
-use Rattle.lite_read.specs.Laws.Polled.{polled_calm}
+use Rattle.lite_read.specs.Laws.Polled.{calls_calm}
 use Rattle.lite_read.specs.Polled.{PolledByCalls}
 use Rattle.lite_write.specs.Close.{Closes}
 use Rattle.lite_write.specs.Flush.{Flushes}
@@ -16,32 +16,16 @@ use Rattle.lite_write.specs.declared.flush.FlushFuture.{FlushFuture}
 use Rattle.lite_write.specs.declared.write.WriteFuture.{WriteFuture}
 use Rattle.lite_write.specs.declared.write_vectored.WriteVectoredFuture.{WriteVectoredFuture}
 
-module _ {W : Type 0} {writes : Runs WriteMark W} {is_calm : W → Type 0} where
-  pub write_calm : CalmWriteLaws writes is_calm
-      → CalmLaws (PolledByCalls (Writes writes)) (λ (x : WriteFuture W). is_calm x.writer.now)
-  write_calm c =
-      polled_calm (Writes writes)
-      (λ x y k h. c.no_pending x.writer.now y.writer.now (write_marks Pending x.buf.now) k h.came)
-      (λ x y r k h. c.calm_on x.writer.now y.writer.now (write_marks (Ready r) x.buf.now) k h.came)
+module _ {W : Type 0} {writes : Runs WriteMark W} {is_calm : W → Type 0}
+    (c : CalmWriteLaws writes is_calm) where
+  pub write_calm : CalmLaws (PolledByCalls (Writes writes)) (λ (x : WriteFuture W). is_calm x.writer.now)
+  write_calm = calls_calm (Writes writes) (λ x. x.writer.now) (λ x y r h. (_, h.came)) (λ x y h n. n) c
 
-  pub vectored_calm : CalmWriteLaws writes is_calm
-      → CalmLaws (PolledByCalls (WritesVectored writes)) (λ (x : WriteVectoredFuture W). is_calm x.writer.now)
-  vectored_calm c =
-      polled_calm (WritesVectored writes)
-      (λ x y k h. c.no_pending x.writer.now y.writer.now
-      (write_marks Pending (io_slices_bytes x.bufs.now)) k h.came)
-      (λ x y r k h. c.calm_on x.writer.now y.writer.now (write_marks (Ready r) (io_slices_bytes x.bufs.now)) k h.came)
+  pub vectored_calm : CalmLaws (PolledByCalls (WritesVectored writes)) (λ (x : WriteVectoredFuture W). is_calm x.writer.now)
+  vectored_calm = calls_calm (WritesVectored writes) (λ x. x.writer.now) (λ x y r h. (_, h.came)) (λ x y h n. n) c
 
-  pub flush_calm : CalmWriteLaws writes is_calm
-      → CalmLaws (PolledByCalls (Flushes writes)) (λ (x : FlushFuture W). is_calm x.writer.now)
-  flush_calm c =
-      polled_calm (Flushes writes)
-      (λ x y k h. c.no_pending x.writer.now y.writer.now (done_marks WriteMark.flushed Pending) k h.came)
-      (λ x y r k h. c.calm_on x.writer.now y.writer.now (done_marks WriteMark.flushed (Ready r)) k h.came)
+  pub flush_calm : CalmLaws (PolledByCalls (Flushes writes)) (λ (x : FlushFuture W). is_calm x.writer.now)
+  flush_calm = calls_calm (Flushes writes) (λ x. x.writer.now) (λ x y r h. (_, h.came)) (λ x y h n. n) c
 
-  pub close_calm : CalmWriteLaws writes is_calm
-      → CalmLaws (PolledByCalls (Closes writes)) (λ (x : CloseFuture W). is_calm x.writer.now)
-  close_calm c =
-      polled_calm (Closes writes)
-      (λ x y k h. c.no_pending x.writer.now y.writer.now (done_marks WriteMark.closed Pending) k h.came)
-      (λ x y r k h. c.calm_on x.writer.now y.writer.now (done_marks WriteMark.closed (Ready r)) k h.came)
+  pub close_calm : CalmLaws (PolledByCalls (Closes writes)) (λ (x : CloseFuture W). is_calm x.writer.now)
+  close_calm = calls_calm (Closes writes) (λ x. x.writer.now) (λ x y r h. (_, h.came)) (λ x y h n. n) c

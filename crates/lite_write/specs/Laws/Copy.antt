@@ -20,6 +20,7 @@ use Rattle.lite_io_base.specs.Laws.Marks.{bytes_given}
 use Rattle.lite_io_base.specs.Marks.{ReadMark, bytes}
 use Rattle.lite_io_base.specs.Runs.{MarkLaws}
 use Rattle.lite_io_base.specs.Takings.{WriteMark, bytes_in, bytes_taken}
+use Rattle.lite_read.specs.Laws.PollSteps.{given_of, idle_join}
 use Rattle.lite_write.specs.Copy.{Copied, CopyRuns, CopyValue, Moves}
 use Rattle.lite_write.specs.Copying.{CopiesSome}
 use Rattle.lite_write.specs.MarkLists.{BytesAlone, TakesSome, TakesUpTo, TellsUpTo, byte_in, bytes_told, is_taken_wait}
@@ -46,37 +47,27 @@ taken_waits l m =
 
 goes_both : (l m : List ReadMark) → BytesAlone l → BytesAlone m → BytesAlone (l ++ m)
 goes_both [] m h k = k
-goes_both (ReadMark.byte b ∷ l) m h k = goes_both l m h k
-goes_both (ReadMark.pending ∷ l) m h k = goes_both l m h k
 goes_both (ReadMark.fault kind ∷ l) m h k = absurd h
 goes_both (ReadMark.end ∷ l) m h k = absurd h
+goes_both (_ ∷ l) m h k = goes_both l m h k
 
 some_both : (l m : List WriteMark) → TakesSome l → TakesSome m → TakesSome (l ++ m)
 some_both [] m h k = k
 some_both (WriteMark.wrote xs ∷ l) m h k = (h.0, some_both l m h.1 k)
 some_both (WriteMark.pending ∷ l) m h k = some_both l m h k
-some_both (WriteMark.fault kind ∷ l) m h k = absurd h
-some_both (WriteMark.flushed ∷ l) m h k = absurd h
-some_both (WriteMark.closed ∷ l) m h k = absurd h
+some_both (_ ∷ l) m h k = absurd h
 
 module _ (after : List ℕ) (met : List ReadMark) (total : ℕ) where
   no_value : (failed : List ReadMark) (last : List WriteMark) → CopyValue [] failed last after met total → (failed ≡ [])
       × (last ≡ [])
   no_value [] [] h = (refl, refl)
-  no_value [] (t ∷ last) h = absurd h
-  no_value (m ∷ failed) last h = absurd h
+  no_value _ _ h = absurd h
 
   pub ok_value : (n : ℕ) (failed : List ReadMark) (last : List WriteMark)
       → CopyValue (Ok n ∷ []) failed last after met total
       → (failed ≡ []) × (last ≡ WriteMark.flushed ∷ []) × (after ≡ []) × (met ≡ ReadMark.end ∷ []) × (n ≡ total)
-  ok_value n [] [] h = absurd h
   ok_value n [] (WriteMark.flushed ∷ []) h = (refl, refl, h.0, h.1, h.2)
-  ok_value n [] (WriteMark.flushed ∷ t ∷ last) h = absurd h
-  ok_value n [] (WriteMark.wrote xs ∷ last) h = absurd h
-  ok_value n [] (WriteMark.pending ∷ last) h = absurd h
-  ok_value n [] (WriteMark.fault kind ∷ last) h = absurd h
-  ok_value n [] (WriteMark.closed ∷ last) h = absurd h
-  ok_value n (m ∷ failed) last h = absurd h
+  ok_value n _ _ h = absurd h
 
 pub copied_none : (p : List ℕ) (a : List ReadMark) (n : ℕ) → Copied p a [] [] [] p a n
 copied_none p a n =
@@ -157,11 +148,6 @@ counted_both x y z s t h k =
     k ∙ ap (λ v. (v + length (bytes_taken t)) % 2 ^ 64) h
     ∙ mod-add-mod (x + length (bytes_taken s)) (2 ^ 64) (length (bytes_taken t)) ∙ ap (λ v. v % 2 ^ 64) all
 
-given_of : {S : Type 0} (reads : Runs ReadMark S) (s t : S) (xs : List ℕ) → 0 < length xs → reads s (bytes xs) t
-    → GivenRun reads s t
-given_of reads s t [] some h = absurd (omega (arith, some))
-given_of reads s t (x ∷ xs) some h = (ReadMark.byte x, bytes xs, bytes_given (x ∷ xs), h)
-
 module _ {R W : Type 0} where
   module _ {reads : Runs ReadMark R} {writes : Runs WriteMark W} (rl : MarkLaws reads) (wl : MarkLaws writes) where
     pub moves_none : (x : CopyFuture R W) → Moves reads writes x [] x
@@ -190,11 +176,6 @@ module _ {R W : Type 0} where
               (met_in z.phase) h.told k.told h.took k.took l m y.amount z.amount w h.copied k.copied;
           counted = counted_both x.amount y.amount z.amount h.took k.took h.counted k.counted;
         }
-
-    idle_join : (x y z : CopyFuture R W) (l m : List (Poll CopyResult)) → (l ≡ [] → y ≡ x) → (m ≡ [] → z ≡ y)
-        → l ++ m ≡ [] → z ≡ x
-    idle_join x y z [] m h k e = k e ∙ h refl
-    idle_join x y z (a ∷ l) m h k e = absurd (cc e)
 
     pub copies_laws : FutureLaws (CopyRuns reads writes)
     copies_laws =

@@ -9,22 +9,18 @@ use Rattle.lite_write.specs.declared.sink.Sink.{Sink}
 
 follows : (x y z : Sink) (l m : List WriteMark) → Sinks x l y → Sinks y m z → Sinks x (l ++ m) z
 follows x y z [] m h k = subst (λ t. Sinks t m z) h k
-follows x y z (WriteMark.wrote xs ∷ l) m h k = follows x y z l m h k
-follows x y z (WriteMark.flushed ∷ l) m h k = follows x y z l m h k
-follows x y z (WriteMark.closed ∷ l) m h k = follows x y z l m h k
 follows x y z (WriteMark.pending ∷ l) m h k = absurd h
 follows x y z (WriteMark.fault kind ∷ l) m h k = absurd h
+follows x y z (_ ∷ l) m h k = follows x y z l m h k
 
 pub sinks_laws : MarkLaws Sinks
 sinks_laws = record { rests = λ x. refl; follows = follows }
 
 no_pending : (x y : Sink) (l : List WriteMark) → Sinks x l y → NoPendingWrite l
 no_pending x y [] h = tt
-no_pending x y (WriteMark.wrote xs ∷ l) h = no_pending x y l h
-no_pending x y (WriteMark.flushed ∷ l) h = no_pending x y l h
-no_pending x y (WriteMark.closed ∷ l) h = no_pending x y l h
 no_pending x y (WriteMark.pending ∷ l) h = absurd h
 no_pending x y (WriteMark.fault kind ∷ l) h = absurd h
+no_pending x y (_ ∷ l) h = no_pending x y l h
 
 -- nothing is kept
 pub sinks_steady : SteadyWriteLaws Sinks (λ x y. ⊤) (λ x. [])

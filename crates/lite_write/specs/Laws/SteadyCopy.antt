@@ -40,8 +40,7 @@ goes_stripped : (l : List ReadMark) → BytesAlone l → strip_marks l ≡ bytes
 goes_stripped [] g = refl
 goes_stripped (ReadMark.byte b ∷ l) g = ap (λ k. ReadMark.byte b ∷ k) (goes_stripped l g)
 goes_stripped (ReadMark.pending ∷ l) g = goes_stripped l g
-goes_stripped (ReadMark.fault kind ∷ l) g = absurd g
-goes_stripped (ReadMark.end ∷ l) g = absurd g
+goes_stripped (_ ∷ l) g = absurd g
 
 -- an end, or an error
 data Stop : Type 0 where
@@ -119,34 +118,20 @@ stopped read tale m on cut stop =
 reader_failed : (e : Error) (fault : List ReadMark) (last : List WriteMark) (after : List ℕ) (met : List ReadMark)
     (total : ℕ) → NoFailure last
     → CopyValue (Err e ∷ []) fault last after met total → (fault ≡ ReadMark.fault (error_kind e) ∷ []) × (met ≡ [])
-reader_failed e [] [] after met total k h = absurd h
 reader_failed e [] (WriteMark.wrote [] ∷ last) after met total k h = absurd k
-reader_failed e [] (WriteMark.wrote (x ∷ xs) ∷ last) after met total k h = absurd h
-reader_failed e [] (WriteMark.pending ∷ last) after met total k h = absurd h
 reader_failed e [] (WriteMark.fault kind ∷ last) after met total k h = absurd k
-reader_failed e [] (WriteMark.flushed ∷ last) after met total k h = absurd h
-reader_failed e [] (WriteMark.closed ∷ last) after met total k h = absurd h
 reader_failed e (ReadMark.fault kind ∷ []) [] after met total k h = (ap (λ v. ReadMark.fault v ∷ []) h.0, h.1)
-reader_failed e (ReadMark.fault kind ∷ []) (t ∷ last) after met total k h = absurd h
-reader_failed e (ReadMark.fault kind ∷ m ∷ fault) last after met total k h = absurd h
-reader_failed e (ReadMark.byte b ∷ fault) last after met total k h = absurd h
-reader_failed e (ReadMark.pending ∷ fault) last after met total k h = absurd h
-reader_failed e (ReadMark.end ∷ fault) last after met total k h = absurd h
+reader_failed e _ _ after met total k h = absurd h
 
 told_no_pending : (l : List ReadMark) → NoPendingRead l → waits_told l ≡ 0
 told_no_pending [] n = refl
-told_no_pending (ReadMark.byte b ∷ l) n = told_no_pending l n
 told_no_pending (ReadMark.pending ∷ l) n = absurd n
-told_no_pending (ReadMark.fault kind ∷ l) n = told_no_pending l n
-told_no_pending (ReadMark.end ∷ l) n = told_no_pending l n
+told_no_pending (_ ∷ l) n = told_no_pending l n
 
 taken_no_pending : (l : List WriteMark) → NoPendingWrite l → waits_taken l ≡ 0
 taken_no_pending [] n = refl
-taken_no_pending (WriteMark.wrote xs ∷ l) n = taken_no_pending l n
 taken_no_pending (WriteMark.pending ∷ l) n = absurd n
-taken_no_pending (WriteMark.fault kind ∷ l) n = taken_no_pending l n
-taken_no_pending (WriteMark.flushed ∷ l) n = taken_no_pending l n
-taken_no_pending (WriteMark.closed ∷ l) n = taken_no_pending l n
+taken_no_pending (_ ∷ l) n = taken_no_pending l n
 
 module _ {R W : Type 0} where
   -- they hold the same, met an end or not, and counted the same, over readers that are alike
@@ -282,9 +267,7 @@ takes_without_failure [] h = tt
 takes_without_failure (WriteMark.wrote [] ∷ l) h = absurd (omega (arith, h.0))
 takes_without_failure (WriteMark.wrote (x ∷ xs) ∷ l) h = takes_without_failure l h.1
 takes_without_failure (WriteMark.pending ∷ l) h = takes_without_failure l h
-takes_without_failure (WriteMark.fault kind ∷ l) h = absurd h
-takes_without_failure (WriteMark.flushed ∷ l) h = absurd h
-takes_without_failure (WriteMark.closed ∷ l) h = absurd h
+takes_without_failure (_ ∷ l) h = absurd h
 
 -- where the value is Ok, a flush came last
 last_no_failure : (v : SteadyCopyResult) (fault : List ReadMark) (last : List WriteMark) (after : List ℕ)

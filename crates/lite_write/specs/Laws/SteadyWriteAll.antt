@@ -9,6 +9,7 @@ use Rattle.lite_base.specs.Laws.Segments.{to_value_last}
 use Rattle.lite_base.specs.Steady.{FutureSteadyLaws}
 use Rattle.lite_base.specs.Runs.{Runs}
 use Rattle.lite_io_base.specs.Runs.{MarkLaws}
+use Rattle.lite_io_base.specs.Laws.SteadyWrite.{never_waits_parts}
 use Rattle.lite_io_base.specs.SteadyWrite.{CalmWriteLaws, NoPendingWrite}
 use Rattle.lite_io_base.specs.Takings.{WriteMark}
 use Rattle.lite_write.specs.Laws.WriteAll.{WriteAllResult, all_laws}
@@ -19,21 +20,15 @@ use Rattle.lite_write.specs.declared.write_all.WriteAllFuture.{WriteAllFuture}
 pub no_failure_both : (l m : List WriteMark) → NoFailure l → NoFailure m → NoFailure (l ++ m)
 no_failure_both [] m a b = b
 no_failure_both (WriteMark.wrote [] ∷ l) m a b = absurd a
-no_failure_both (WriteMark.wrote (x ∷ xs) ∷ l) m a b = no_failure_both l m a b
-no_failure_both (WriteMark.pending ∷ l) m a b = no_failure_both l m a b
 no_failure_both (WriteMark.fault kind ∷ l) m a b = absurd a
-no_failure_both (WriteMark.flushed ∷ l) m a b = no_failure_both l m a b
-no_failure_both (WriteMark.closed ∷ l) m a b = no_failure_both l m a b
+no_failure_both (_ ∷ l) m a b = no_failure_both l m a b
 
 -- what stands behind
 pub no_failure_last : (l m : List WriteMark) → NoFailure (l ++ m) → NoFailure m
 no_failure_last [] m a = a
 no_failure_last (WriteMark.wrote [] ∷ l) m a = absurd a
-no_failure_last (WriteMark.wrote (x ∷ xs) ∷ l) m a = no_failure_last l m a
-no_failure_last (WriteMark.pending ∷ l) m a = no_failure_last l m a
 no_failure_last (WriteMark.fault kind ∷ l) m a = absurd a
-no_failure_last (WriteMark.flushed ∷ l) m a = no_failure_last l m a
-no_failure_last (WriteMark.closed ∷ l) m a = no_failure_last l m a
+no_failure_last (_ ∷ l) m a = no_failure_last l m a
 
 pub without_failure_laws : {W : Type 0} {writes : Runs WriteMark W} → MarkLaws writes → MarkLaws (WithoutFailure writes)
 without_failure_laws laws =
@@ -50,11 +45,8 @@ AllOk (v ∷ l) = (v ≡ Ok tt) × AllOk l
 ended_ok : (left : List ℕ) (last : List WriteMark) (r : WriteAllResult) → NoFailure last → Ended left last r → r ≡ Ok tt
 ended_ok left [] r a h = h.1
 ended_ok left (WriteMark.wrote [] ∷ l) r a h = absurd a
-ended_ok left (WriteMark.wrote (x ∷ xs) ∷ l) r a h = absurd h
-ended_ok left (WriteMark.pending ∷ l) r a h = absurd h
 ended_ok left (WriteMark.fault kind ∷ l) r a h = absurd a
-ended_ok left (WriteMark.flushed ∷ l) r a h = absurd h
-ended_ok left (WriteMark.closed ∷ l) r a h = absurd h
+ended_ok left (_ ∷ l) r a h = absurd h
 
 hands_ok : (p q : List ℕ) (i : List WriteMark) (l : List (Poll WriteAllResult)) → NoFailure i → HandsOver p i l q
     → AllOk (strip l)
@@ -72,21 +64,13 @@ all_ok_same [] m a b = tt
 all_ok_same (v ∷ l) [] a b = tt
 all_ok_same (v ∷ l) (w ∷ m) a b = rw (a.0, b.0) (refl, all_ok_same l m a.1 b.1)
 
-no_pending_parts : (l m : List WriteMark) → NoPendingWrite (l ++ m) → NoPendingWrite l × NoPendingWrite m
-no_pending_parts [] m a = (tt, a)
-no_pending_parts (WriteMark.wrote xs ∷ l) m a = no_pending_parts l m a
-no_pending_parts (WriteMark.pending ∷ l) m a = absurd a
-no_pending_parts (WriteMark.fault kind ∷ l) m a = no_pending_parts l m a
-no_pending_parts (WriteMark.flushed ∷ l) m a = no_pending_parts l m a
-no_pending_parts (WriteMark.closed ∷ l) m a = no_pending_parts l m a
-
 hands_no_pending : (p q : List ℕ) (i : List WriteMark) (l : List (Poll WriteAllResult)) → NoPendingWrite i
     → HandsOver p i l q → NoPending l
 hands_no_pending p q i [] a h = tt
 hands_no_pending p q i (Pending ∷ l) a h =
     let w = h.0.4 in
-    let one = (no_pending_parts h.0.0 h.0.1 (subst NoPendingWrite h.0.3 a)).0 in
-    let last = no_pending_parts (map WriteMark.wrote w.taken) w.last (subst NoPendingWrite w.cut one) in
+    let one = (never_waits_parts h.0.0 h.0.1 (subst NoPendingWrite h.0.3 a)).0 in
+    let last = never_waits_parts (map WriteMark.wrote w.taken) w.last (subst NoPendingWrite w.cut one) in
     absurd (subst NoPendingWrite w.given.0 last.1)
 hands_no_pending p q i (Ready r ∷ l) a h = rw h.1 tt
 

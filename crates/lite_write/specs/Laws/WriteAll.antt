@@ -9,7 +9,8 @@ use Rattle.lite_base.specs.Laws.Segments.{segment_before, segments_before, to_va
 use Rattle.lite_base.specs.Runs.{Runs}
 use Rattle.lite_io_base.specs.Runs.{MarkLaws}
 use Rattle.lite_io_base.specs.Takings.{WriteMark}
-use Rattle.lite_read.specs.Laws.PollSteps.{idle_join, lent_still}
+use Rattle.lite_io_base.specs.Laws.Lent.{lent_still}
+use Rattle.lite_read.specs.Laws.PollSteps.{idle_join}
 use Rattle.lite_write.specs.PollSteps.{WritesSome}
 use Rattle.lite_write.specs.WriteAll.{HandsMarks, WritesAll}
 use Rattle.lite_write.specs.declared.write_all.WriteAllFuture.{WriteAllFuture}

@@ -22,32 +22,28 @@ returns-in-Ready-Err-clause-stepped g c =
 
 pub returns-in-Ok-clause-stepped : goal.returns-in-Ok-clause-stepped
 returns-in-Ok-clause-stepped g c =
-    let at = c.in-Ready-Ok-Some-default.at in
-    let is : c.find_line.result ≡ Ready (Ok (Some at, c.in-Ready-Ok-Some-default.ascii)) = search rules in
-    let shown = g.R.AsyncBufRead.lent c.find_line.new.reader in
+    let line = c.in-Ready-Ok-Some-default in
+    let is : c.find_line.result ≡ Ready (Ok (Some line.at, line.ascii)) = search rules in
     let e = c.in-Ok.ensures in
     item_cut lines_over (λ k. 10)
     (λ xs. IsText
-    (without_return xs)) IsText g.R.Tale.reads g.R.Tale.read_laws _ _ refl c.whole.ensures.empty _ shown
-    at c.whole.result
+    (without_return xs)) IsText g.R.Tale.reads g.R.Tale.read_laws _ _ refl c.whole.ensures.empty _ _
+    line.at c.whole.result
     (rw is at c.find_line.ensures.ran) (rw is at c.find_line.ensures.found) (rw e.ok at c.whole.ensures.text) e.taken
 
 pub returns-in-Err-clause-stepped : goal.returns-in-Err-clause-stepped
 returns-in-Err-clause-stepped g c =
-    let at = c.in-Ready-Ok-Some-default.at in
-    let is : c.find_line.result ≡ Ready (Ok (Some at, c.in-Ready-Ok-Some-default.ascii)) = search rules in
-    let shown = g.R.AsyncBufRead.lent c.find_line.new.reader in
-    let some : 0 < length shown = search (rules, common_steps) in
+    let line = c.in-Ready-Ok-Some-default in
+    let is : c.find_line.result ≡ Ready (Ok (Some line.at, line.ascii)) = search rules in
     let e = c.in-Err.ensures in
     item_refused lines_over (λ k. 10)
-    (λ xs. IsText (without_return xs)) IsText g.R.Tale.reads g.R.Tale.read_laws _ _ refl e.held c.in-Err.e _ shown
-    (rw is at c.find_line.ensures.ran) some e.refused e.unread
+    (λ xs. IsText (without_return xs)) IsText g.R.Tale.reads g.R.Tale.read_laws _ _ refl e.held c.in-Err.e _ _
+    (rw is at c.find_line.ensures.ran) (search (rules, common_steps)) e.refused e.unread
 
 pub returns-then-is_empty-clause-stepped : goal.returns-then-is_empty-clause-stepped
 returns-then-is_empty-clause-stepped g c =
     let is : c.find_line.result ≡ Ready (Ok (None, c.in-Ready-Ok-None-default.ascii)) = search rules in
-    let shown = g.R.AsyncBufRead.lent c.find_line.new.reader in
-    let none : shown ≡ [] = search (rules, common_steps) in
+    let none : g.R.AsyncBufRead.lent c.find_line.new.reader ≡ [] = search (rules, common_steps) in
     item_at_end lines_over (λ k. 10)
     (λ xs. IsText
     (without_return xs)) IsText g.R.Tale.reads g.R.Tale.read_laws _ _ refl c.last.ensures.empty c.last.result
@@ -57,21 +53,17 @@ returns-then-is_empty-clause-stepped g c =
 pub returns-in-Ok-take_in-clause-stepped : goal.returns-in-Ok-take_in-clause-stepped
 returns-in-Ok-take_in-clause-stepped g c =
     let is : c.find_line.result ≡ Ready (Ok (None, c.in-Ready-Ok-None-default.ascii)) = search rules in
-    let shown = g.R.AsyncBufRead.lent c.find_line.new.reader in
-    let some : 0 < length shown = search (rules, common_steps) in
     let e = c.in-Ok-take_in.ensures in
     item_more lines_over (λ k. 10)
-    (λ xs. IsText (without_return xs)) IsText g.R.Tale.reads g.R.Tale.read_laws _ _ refl _ shown
+    (λ xs. IsText (without_return xs)) IsText g.R.Tale.reads g.R.Tale.read_laws _ _ refl _ _
     (rw is at c.find_line.ensures.ran)
-    (rw is at c.find_line.ensures.found) some e.ok e.taken
+    (rw is at c.find_line.ensures.found) (search (rules, common_steps)) e.ok e.taken
 
 pub returns-in-Err-take_in-clause-stepped : goal.returns-in-Err-take_in-clause-stepped
 returns-in-Err-take_in-clause-stepped g c =
     let is : c.find_line.result ≡ Ready (Ok (None, c.in-Ready-Ok-None-default.ascii)) = search rules in
-    let shown = g.R.AsyncBufRead.lent c.find_line.new.reader in
-    let some : 0 < length shown = search (rules, common_steps) in
     let e = c.in-Err-take_in.ensures in
     item_refused lines_over (λ k. 10)
     (λ xs. IsText
-    (without_return xs)) IsText g.R.Tale.reads g.R.Tale.read_laws _ _ refl e.held c.in-Err-take_in.e _ shown
-    (rw is at c.find_line.ensures.ran) some e.refused e.unread
+    (without_return xs)) IsText g.R.Tale.reads g.R.Tale.read_laws _ _ refl e.held c.in-Err-take_in.e _ _
+    (rw is at c.find_line.ensures.ran) (search (rules, common_steps)) e.refused e.unread

@@ -21,8 +21,7 @@ pub returns-then-amount-eq0-clause-stepped : goal.returns-then-amount-eq0-clause
 returns-then-amount-eq0-clause-stepped g c =
     let x = c.args.self.now in
     let is : c.find_line.result ≡ Ready (Ok (None, c.in-Ready-Ok-None-default.ascii)) = search rules in
-    let shown = g.R.AsyncBufRead.lent c.find_line.new.reader in
-    let none : shown ≡ [] = search (rules, common_steps) in
+    let none : g.R.AsyncBufRead.lent c.find_line.new.reader ≡ [] = search (rules, common_steps) in
     let f = c.whole-then-amount-eq0.ensures in
     filled_last g.R.Tale.read_laws x c.find_line.new.reader c.whole-then-amount-eq0.new.self _ _
     c.whole-then-amount-eq0.result f.reader f.text f.value f.gains f.empty f.held
@@ -30,51 +29,44 @@ returns-then-amount-eq0-clause-stepped g c =
 
 pub returns-in-Ok-clause-stepped : goal.returns-in-Ok-clause-stepped
 returns-in-Ok-clause-stepped g c =
-    let at = c.in-Ready-Ok-Some-default.at in
-    let is : c.find_line.result ≡ Ready (Ok (Some at, c.in-Ready-Ok-Some-default.ascii)) = search rules in
-    let shown = g.R.AsyncBufRead.lent c.find_line.new.reader in
+    let line = c.in-Ready-Ok-Some-default in
+    let is : c.find_line.result ≡ Ready (Ok (Some line.at, line.ascii)) = search rules in
     let e = c.in-Ok.ensures in
     let f = c.whole.ensures in
-    line_cut g.R.Tale.read_laws c.args.self.now c.find_line.new.reader c.take_in.new.self shown e.stays e.text
+    line_cut g.R.Tale.read_laws c.args.self.now c.find_line.new.reader c.take_in.new.self _ e.stays e.text
     (rw is at c.find_line.ensures.ran)
-    c.whole.new.self _ c.whole.result f.reader f.text f.value f.gains f.empty f.held at refl
+    c.whole.new.self _ c.whole.result f.reader f.text f.value f.gains f.empty f.held line.at refl
     (rw is at c.find_line.ensures.found) e.ok e.taken
 
 pub returns-in-Err-clause-stepped : goal.returns-in-Err-clause-stepped
 returns-in-Err-clause-stepped g c =
-    let at = c.in-Ready-Ok-Some-default.at in
-    let is : c.find_line.result ≡ Ready (Ok (Some at, c.in-Ready-Ok-Some-default.ascii)) = search rules in
-    let shown = g.R.AsyncBufRead.lent c.find_line.new.reader in
-    let some : 0 < length shown = search (rules, common_steps) in
+    let line = c.in-Ready-Ok-Some-default in
+    let is : c.find_line.result ≡ Ready (Ok (Some line.at, line.ascii)) = search rules in
     let e = c.in-Err.ensures in
     let f = c.finish.ensures in
-    line_refused g.R.Tale.read_laws c.args.self.now c.find_line.new.reader c.take_in.new.self shown e.stays e.text
+    line_refused g.R.Tale.read_laws c.args.self.now c.find_line.new.reader c.take_in.new.self _ e.stays e.text
     (rw is at c.find_line.ensures.ran)
-    c.finish.new.self _ c.finish.result f.reader f.text f.value f.gains f.empty f.held c.in-Err.e refl e.refused some
+    c.finish.new.self _ c.finish.result f.reader f.text f.value f.gains f.empty f.held c.in-Err.e refl e.refused (search (rules, common_steps))
     e.unread e.kept
 
 pub returns-in-Ok-take_in-clause-stepped : goal.returns-in-Ok-take_in-clause-stepped
 returns-in-Ok-take_in-clause-stepped g c =
     let is : c.find_line.result ≡ Ready (Ok (None, c.in-Ready-Ok-None-default.ascii)) = search rules in
-    let shown = g.R.AsyncBufRead.lent c.find_line.new.reader in
-    let some : 0 < length shown = search (rules, common_steps) in
     let e = c.in-Ok-take_in.ensures in
-    let all = ap (λ n. take n shown) c.lent_by-amount.ensures ∙ take_whole shown in
+    let all = ap (λ n. take n (g.R.AsyncBufRead.lent c.find_line.new.reader)) c.lent_by-amount.ensures ∙ take_whole (g.R.AsyncBufRead.lent c.find_line.new.reader) in
     line_more g.R.Tale.read_laws c.args.self.now c.find_line.new.reader c.take_in-in-Ready-Ok-None-default.new.self
-    shown e.stays e.text (rw is at c.find_line.ensures.ran)
-    (rw is at c.find_line.ensures.found) some (rw all at e.ok) (rw all at e.taken) e.held
+    _ e.stays e.text (rw is at c.find_line.ensures.ran)
+    (rw is at c.find_line.ensures.found) (search (rules, common_steps)) (rw all at e.ok) (rw all at e.taken) e.held
 
 pub returns-in-Err-take_in-clause-stepped : goal.returns-in-Err-take_in-clause-stepped
 returns-in-Err-take_in-clause-stepped g c =
     let is : c.find_line.result ≡ Ready (Ok (None, c.in-Ready-Ok-None-default.ascii)) = search rules in
-    let shown = g.R.AsyncBufRead.lent c.find_line.new.reader in
-    let some : 0 < length shown = search (rules, common_steps) in
     let e = c.in-Err-take_in.ensures in
     let f = c.finish-in-Err-take_in.ensures in
     line_refused g.R.Tale.read_laws c.args.self.now c.find_line.new.reader c.take_in-in-Ready-Ok-None-default.new.self
-    shown e.stays e.text (rw is at c.find_line.ensures.ran)
+    _ e.stays e.text (rw is at c.find_line.ensures.ran)
     c.finish-in-Err-take_in.new.self _ c.finish-in-Err-take_in.result f.reader f.text f.value f.gains f.empty f.held
-    c.in-Err-take_in.e refl e.refused some e.unread e.kept
+    c.in-Err-take_in.e refl e.refused (search (rules, common_steps)) e.unread e.kept
 
 pub returns-in-Pending-clause-stepped : goal.returns-in-Pending-clause-stepped
 returns-in-Pending-clause-stepped g c = (

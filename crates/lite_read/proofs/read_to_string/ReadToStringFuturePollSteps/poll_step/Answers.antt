@@ -35,20 +35,8 @@ returns-in-Ready-Ok-eq0-clause-stepped g c =
     m.held c.deref_mut.ensures.value long))
     (rw (is, moved_none c.poll_read.new.buf room) at c.poll_read.ensures.ran)
 
-pub returns-then-self-len-clause-stepped : goal.returns-then-self-len-clause-stepped
-returns-then-self-len-clause-stepped g c =
-    let w = c.make_room.new.self in
-    let m = c.make_room.ensures in
-    let old = c.deref_mut.result.now in
-    let e = c.poll_read.ensures in
-    let is : c.poll_read.result ≡ Ready (Ok c.in-Ready-Ok.n) = search rules in
-    let long = c.poll_read.auto.buf ∙ mid_len w.filled (length old) old (omega arith) in
-    read_some g.R.Tale.reads c.args.self.now w c.poll_read.new.self old c.poll_read.new.buf c.in-Ready-Ok.n _ m.reader
-    m.stays m.text m.front m.held
-    c.deref_mut.ensures.value long (rw is at e.bound) (omega (arith, c.in-Ready-Ok.n-test)) (rw is at e.ran)
-
-pub returns-else-self-len-clause-stepped : goal.returns-else-self-len-clause-stepped
-returns-else-self-len-clause-stepped g c =
+pub returns-in-Ready-Ok-clause-stepped : goal.returns-in-Ready-Ok-clause-stepped
+returns-in-Ready-Ok-clause-stepped g c =
     let w = c.make_room.new.self in
     let m = c.make_room.ensures in
     let old = c.deref_mut.result.now in

@@ -3,13 +3,10 @@ use Rattle.lite_read.specs.Laws.ReadUntil.{stays_within, step_before}
 use Rattle.lite_read.proofs.read_until.ReadUntilFutureFuture.poll.Goals as goal
 
 pub returns-clause-ran : goal.returns-clause-ran
-returns-clause-ran g c =
-    let steps = c.drive.ensures.stepped in
-    steps_answer (step_before g.R.Tale.read_laws) _ steps.0 _ c.drive.result steps.1 steps.2
+returns-clause-ran g c = steps_answer (step_before g.R.Tale.read_laws) c.drive.ensures.stepped
 
 pub returns-clause-again : goal.returns-clause-again
 returns-clause-again g c =
-    let steps = c.drive.ensures.stepped in
-    let ran = steps_answer (step_before g.R.Tale.read_laws) _ steps.0 _ c.drive.result steps.1 steps.2 in
+    let ran = steps_answer (step_before g.R.Tale.read_laws) c.drive.ensures.stepped in
     let counts = g.met.R.CountedRead.counting.counts_on _ _ ran.folded.marks c.requires.0 ran.folded.came in
     goes_again c.drive.result (counts, stays_within _ _ ran.stays c.requires.1)

@@ -13,31 +13,25 @@ returns-in-Ready-Err-clause-stepped g c =
 
 pub returns-in-Ok-clause-stepped : goal.returns-in-Ok-clause-stepped
 returns-in-Ok-clause-stepped g c =
-    let at = c.in-Ready-Ok-Some.at in
-    let is : c.find_byte.result ≡ Ready (Ok (Some at)) = search rules in
-    let shown = g.R.AsyncBufRead.lent c.find_byte.new.reader in
+    let is : c.find_byte.result ≡ Ready (Ok (Some c.in-Ready-Ok-Some.at)) = search rules in
     let e = c.in-Ok.ensures in
     let long : c.len.result ≡ length c.append.new.buf.items = search (rules, common_steps) in
-    until_found g.R.Tale.reads g.R.Tale.read_laws c.args.self.now _ refl refl refl refl c.requires.1 _ shown
-    (rw is at c.find_byte.ensures.ran) at _
+    until_found g.R.Tale.reads g.R.Tale.read_laws c.args.self.now _ refl refl refl refl c.requires.1 _ _
+    (rw is at c.find_byte.ensures.ran) c.in-Ready-Ok-Some.at _
     (rw is at c.find_byte.ensures.found) e.ok e.taken (ap (λ n. n - c.args.self.now.start) long)
 
 pub returns-in-Err-clause-stepped : goal.returns-in-Err-clause-stepped
 returns-in-Err-clause-stepped g c =
-    let at = c.in-Ready-Ok-Some.at in
-    let is : c.find_byte.result ≡ Ready (Ok (Some at)) = search rules in
-    let shown = g.R.AsyncBufRead.lent c.find_byte.new.reader in
-    let some : 0 < length shown = search (rules, common_steps) in
+    let is : c.find_byte.result ≡ Ready (Ok (Some c.in-Ready-Ok-Some.at)) = search rules in
     let e = c.in-Err.ensures in
     until_refused g.R.Tale.reads g.R.Tale.read_laws c.args.self.now _ refl refl refl refl c.requires.1 e.held c.in-Err.e
-    _ shown (rw is at c.find_byte.ensures.ran) some e.refused e.unread
+    _ _ (rw is at c.find_byte.ensures.ran) (search (rules, common_steps)) e.refused e.unread
 
 pub returns-then-amount-eq0-clause-stepped : goal.returns-then-amount-eq0-clause-stepped
 returns-then-amount-eq0-clause-stepped g c =
     let is : c.find_byte.result ≡ Ready (Ok None) = search rules in
-    let shown = g.R.AsyncBufRead.lent c.find_byte.new.reader in
     let long : c.len-then-amount-eq0.result ≡ length c.args.self.now.buf.now.items = search (rules, common_steps) in
-    let none : shown ≡ [] = search (rules, common_steps) in
+    let none : g.R.AsyncBufRead.lent c.find_byte.new.reader ≡ [] = search (rules, common_steps) in
     until_ends g.R.Tale.reads g.R.Tale.read_laws c.args.self.now _ refl refl refl refl c.requires.1 refl _
     (ap (λ n. n - c.args.self.now.start) long)
     (rw (is, none) at c.find_byte.ensures.ran)
@@ -45,22 +39,18 @@ returns-then-amount-eq0-clause-stepped g c =
 pub returns-in-Ok-append-clause-stepped : goal.returns-in-Ok-append-clause-stepped
 returns-in-Ok-append-clause-stepped g c =
     let is : c.find_byte.result ≡ Ready (Ok None) = search rules in
-    let shown = g.R.AsyncBufRead.lent c.find_byte.new.reader in
-    let some : 0 < length shown = search (rules, common_steps) in
     let e = c.in-Ok-append.ensures in
-    let all = ap (λ l. take (length l) shown) c.buffer-amount.ensures ∙ take_whole shown in
-    until_more g.R.Tale.reads g.R.Tale.read_laws c.args.self.now _ refl refl refl refl c.requires.1 _ shown
+    let all = ap (λ l. take (length l) (g.R.AsyncBufRead.lent c.find_byte.new.reader)) c.buffer-amount.ensures ∙ take_whole (g.R.AsyncBufRead.lent c.find_byte.new.reader) in
+    until_more g.R.Tale.reads g.R.Tale.read_laws c.args.self.now _ refl refl refl refl c.requires.1 _ _
     (rw is at c.find_byte.ensures.ran)
-    (rw is at c.find_byte.ensures.found) some (rw all at e.ok) (rw all at e.taken)
+    (rw is at c.find_byte.ensures.found) (search (rules, common_steps)) (rw all at e.ok) (rw all at e.taken)
 
 pub returns-in-Err-append-clause-stepped : goal.returns-in-Err-append-clause-stepped
 returns-in-Err-append-clause-stepped g c =
     let is : c.find_byte.result ≡ Ready (Ok None) = search rules in
-    let shown = g.R.AsyncBufRead.lent c.find_byte.new.reader in
-    let some : 0 < length shown = search (rules, common_steps) in
     let e = c.in-Err-append.ensures in
     until_refused g.R.Tale.reads g.R.Tale.read_laws c.args.self.now _ refl refl refl refl c.requires.1 e.held
-    c.in-Err-append.e _ shown (rw is at c.find_byte.ensures.ran) some e.refused e.unread
+    c.in-Err-append.e _ _ (rw is at c.find_byte.ensures.ran) (search (rules, common_steps)) e.refused e.unread
 
 pub returns-in-Pending-clause-stepped : goal.returns-in-Pending-clause-stepped
 returns-in-Pending-clause-stepped g c =

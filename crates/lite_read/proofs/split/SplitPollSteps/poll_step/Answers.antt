@@ -20,18 +20,16 @@ returns-in-Ready-Err-clause-stepped g c =
 pub returns-in-Ready-Ok-Some-clause-stepped : goal.returns-in-Ready-Ok-Some-clause-stepped
 returns-in-Ready-Ok-Some-clause-stepped g c =
     let is : c.find_byte.result ≡ Ready (Ok (Some c.in-Ready-Ok-Some.at)) = search rules in
-    let shown = g.R.AsyncBufRead.lent c.find_byte.new.reader in
     let e = c.cut.ensures in
     item_found split_over
-    (λ k. k) IsVec IsVec g.R.Tale.reads g.R.Tale.read_laws _ _ e.byte _ shown c.in-Ready-Ok-Some.at c.cut.result
+    (λ k. k) IsVec IsVec g.R.Tale.reads g.R.Tale.read_laws _ _ e.byte _ _ c.in-Ready-Ok-Some.at c.cut.result
     (rw is at c.find_byte.ensures.ran)
     (rw is at c.find_byte.ensures.found) e.ok e.err
 
 pub returns-then-is_empty-clause-stepped : goal.returns-then-is_empty-clause-stepped
 returns-then-is_empty-clause-stepped g c =
     let is : c.find_byte.result ≡ Ready (Ok None) = search rules in
-    let shown = g.R.AsyncBufRead.lent c.find_byte.new.reader in
-    let none : shown ≡ [] = search (rules, common_steps) in
+    let none : g.R.AsyncBufRead.lent c.find_byte.new.reader ≡ [] = search (rules, common_steps) in
     let fills = rw (is, none) at c.find_byte.ensures.ran in
     let e = c.last.ensures in
     item_at_end split_over
@@ -41,17 +39,13 @@ returns-then-is_empty-clause-stepped g c =
 pub returns-in-Ok-clause-stepped : goal.returns-in-Ok-clause-stepped
 returns-in-Ok-clause-stepped g c =
     let is : c.find_byte.result ≡ Ready (Ok None) = search rules in
-    let shown = g.R.AsyncBufRead.lent c.find_byte.new.reader in
-    let some : 0 < length shown = search (rules, common_steps) in
     let e = c.in-Ok.ensures in
-    item_more split_over (λ k. k) IsVec IsVec g.R.Tale.reads g.R.Tale.read_laws _ _ e.byte _ shown
-    (rw is at c.find_byte.ensures.ran) (rw is at c.find_byte.ensures.found) some e.ok e.taken
+    item_more split_over (λ k. k) IsVec IsVec g.R.Tale.reads g.R.Tale.read_laws _ _ e.byte _ _
+    (rw is at c.find_byte.ensures.ran) (rw is at c.find_byte.ensures.found) (search (rules, common_steps)) e.ok e.taken
 
 pub returns-in-Err-clause-stepped : goal.returns-in-Err-clause-stepped
 returns-in-Err-clause-stepped g c =
     let is : c.find_byte.result ≡ Ready (Ok None) = search rules in
-    let shown = g.R.AsyncBufRead.lent c.find_byte.new.reader in
-    let some : 0 < length shown = search (rules, common_steps) in
     let e = c.in-Err.ensures in
-    item_refused split_over (λ k. k) IsVec IsVec g.R.Tale.reads g.R.Tale.read_laws _ _ e.byte e.held c.in-Err.e _ shown
-    (rw is at c.find_byte.ensures.ran) some e.refused e.unread
+    item_refused split_over (λ k. k) IsVec IsVec g.R.Tale.reads g.R.Tale.read_laws _ _ e.byte e.held c.in-Err.e _ _
+    (rw is at c.find_byte.ensures.ran) (search (rules, common_steps)) e.refused e.unread

@@ -4,7 +4,5 @@ use Rattle.lite_write.specs.Close.{Closes}
 use Rattle.lite_write.proofs.close.CloseFutureFuture.poll.Goals as goal
 
 pub returns-clause-ran : goal.returns-clause-ran
-returns-clause-ran g c = polled_one (Closes g.W.Takings.writes) _ _ c.poll_close.result (record {
-  came = c.poll_close.ensures.ran;
-  stays = refl;
-})
+returns-clause-ran g c =
+    polled_one (Closes g.W.Takings.writes) (record { came = c.poll_close.ensures.ran; stays = refl })

@@ -26,20 +26,3 @@ returns-in-Ready-Ok-false-clause-stepped g c =
     then_steps g.R.Tale.reads g.W.Takings.writes g.R.Tale.read_laws g.W.Takings.write_laws c.args.self.now _ _ refl refl
     copying copying
     (rw is at c.fill.ensures.ran) some c.write_some.result c.write_some.ensures.stepped
-
-pub returns-in-Ready-Err-clause-stepped : goal.returns-in-Ready-Err-clause-stepped
-returns-in-Ready-Err-clause-stepped g c =
-    let e = c.in-Ready-Err.e in
-    let is : c.fill.result ≡ Ready (Err e) = search rules in
-    let copying = is_copying c.args.self.now.phase c.in_default.not-Flushing in
-    reader_fails g.R.Tale.reads g.W.Takings.writes g.R.Tale.read_laws g.W.Takings.write_laws c.args.self.now _ refl refl
-    copying e copying
-    (rw is at c.fill.ensures.lends) (rw is at c.fill.ensures.ran)
-
-pub returns-in-Pending-clause-stepped : goal.returns-in-Pending-clause-stepped
-returns-in-Pending-clause-stepped g c =
-    let is : c.fill.result ≡ Pending = search rules in
-    let copying = is_copying c.args.self.now.phase c.in_default.not-Flushing in
-    reader_waits g.R.Tale.reads g.W.Takings.writes g.R.Tale.read_laws g.W.Takings.write_laws c.args.self.now _ refl refl
-    copying copying
-    (rw is at c.fill.ensures.lends) (rw is at c.fill.ensures.ran)

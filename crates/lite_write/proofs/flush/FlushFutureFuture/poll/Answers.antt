@@ -4,7 +4,5 @@ use Rattle.lite_write.specs.Flush.{Flushes}
 use Rattle.lite_write.proofs.flush.FlushFutureFuture.poll.Goals as goal
 
 pub returns-clause-ran : goal.returns-clause-ran
-returns-clause-ran g c = polled_one (Flushes g.W.Takings.writes) _ _ c.poll_flush.result (record {
-  came = c.poll_flush.ensures.ran;
-  stays = refl;
-})
+returns-clause-ran g c =
+    polled_one (Flushes g.W.Takings.writes) (record { came = c.poll_flush.ensures.ran; stays = refl })

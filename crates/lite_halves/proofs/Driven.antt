@@ -1,0 +1,96 @@
+-- What a loop over calls has come to: so many were made, and their answers appended.
+use Rattle.std.proofs.Common.{◌≡◌, ◌<◌, ◌+◌, ℕ, List, [], ◌∷◌, ◌++◌, length, map, get_or, refl, sym, ap}
+use Rattle.std.proofs.Common.{append-nil, append_assoc, length-append, add-zero, arith}
+use Rattle.std.proofs.lemmas.List.{map-append}
+use Rattle.std.proofs.lemmas.List.Sums.{sum_by-append}
+use Rattle.lite_io_base.specs.Marks.{ReadMark}
+use Rattle.lite_io_base.specs.Takings.{WriteMark}
+use Rattle.lite_halves.specs.declared.entry.Answer.{Answer}
+use Rattle.lite_halves.specs.Counts.{CountsOn, HalfCounts, count_moved, moved_by}
+use Rattle.lite_halves.specs.Drive.{pairs}
+use Rattle.lite_halves.specs.Entry.{AllFit, FitsCall, Note, Request, Told, told_in, told_of}
+use Rattle.lite_halves.specs.Journal.{Adds, AddsAll, Chronicle}
+use Rattle.lite_halves.specs.Laws.Entry.{fit_both}
+use Rattle.lite_halves.specs.Laws.Journal.{adds_both, adds_none, adds_one}
+use Rattle.lite_base.specs.Runs.{Runs}
+
+pairs_none : (xs : List Request) → pairs xs [] ≡ []
+pairs_none [] = refl
+pairs_none (x ∷ xs) = refl
+
+pairs_at : {C : Type 0} (ask : C → Request) (xs : List C) (ts : List Told) (t : Told) (d : C) → length ts < length xs
+    → pairs (map ask xs) (ts ++ t ∷ []) ≡ pairs (map ask xs) ts ++
+    (let n : Note = record { asked = ask (get_or xs (length ts) d); told = t } in n) ∷ []
+pairs_at ask [] ts t d inside = absurd (omega (arith, inside))
+pairs_at ask (x ∷ []) [] t d inside = refl
+pairs_at ask (x ∷ y ∷ xs) [] t d inside = refl
+pairs_at ask (x ∷ xs) (u ∷ ts) t d inside =
+    ap (λ (l : List Note). record { asked = ask x; told = u } ∷ l) (pairs_at ask xs ts t d (omega (arith, inside)))
+
+-- one call more, the n-th, and its answer
+pairs_more : {C : Type 0} (ask : C → Request) (xs : List C) (ts : List Told) (t : Told) (x d : C) (n : ℕ)
+    → length ts ≡ n → n < length xs → get_or xs n d ≡ x
+    → pairs (map ask xs) (ts ++ t ∷ []) ≡ pairs (map ask xs) ts ++
+    (let e : Note = record { asked = ask x; told = t } in e) ∷ []
+pairs_more ask xs ts t x d n many inside is = rw (← is, ← many) (pairs_at ask xs ts t d (omega arith))
+
+-- so many answers, of calls that made what `Made` says, were appended to those in `before`
+pub record Driven (Made : List Told → Type 0) (before after : List Answer) (n : ℕ) : Type 0 where
+  pub told : List Told
+  pub out : told_in after ≡ told_in before ++ told
+  pub many : length told ≡ n
+  pub made : Made told
+
+driven_none : {Made : List Told → Type 0} (out : List Answer) → Made [] → Driven Made out out 0
+driven_none out h = record { told = []; out = sym (append-nil (told_in out)); many = refl; made = h }
+
+driven_more : {Made Next : List Told → Type 0} (before out more after : List Answer) (answer : Answer) (n : ℕ)
+    (d : Driven Made before out n) → Next (d.told ++ told_of answer ∷ []) → more ≡ out
+    → after ≡ more ++ answer ∷ [] → Driven Next before after (n + 1)
+driven_more before out more after answer n d next same pushed = record {
+  told = d.told ++ told_of answer ∷ [];
+  out = rw (pushed, map-append told_of more (answer ∷ []), same, d.out, append_assoc);
+  many = omega (arith, d.many, length-append d.told (told_of answer ∷ []));
+  made = next;
+}
+
+-- a half's calls with these answers fit, and were counted from a to b
+abbrev pub HalfMade : List Request → HalfCounts → HalfCounts → List Told → Type 0
+HalfMade asked a b told = AllFit (pairs asked told) × (b.calls ≡ a.calls + length told)
+    × (b.bytes ≡ a.bytes + count_moved told)
+
+module _ {C : Type 0} (ask : C → Request) (xs : List C) where
+  pub half_none : (a : HalfCounts) (out : List Answer) → Driven (HalfMade (map ask xs) a a) out out 0
+  half_none a out = driven_none out (rw pairs_none tt, sym (add-zero a.calls), sym (add-zero a.bytes))
+
+  -- one call more, of x
+  pub half_more : (a b c : HalfCounts) (before out more after : List Answer) (answer : Answer) (n : ℕ) (x d : C)
+      → Driven (HalfMade (map ask xs) a b) before out n → n < length xs → get_or xs n d ≡ x
+      → FitsCall (ask x) (told_of answer) → CountsOn 1 (moved_by (told_of answer)) b c
+      → more ≡ out → after ≡ more ++ answer ∷ [] → Driven (HalfMade (map ask xs) a c) before after (n + 1)
+  half_more a b c before out more after answer n x d so_far inside is fits counts =
+      let t = told_of answer in
+      let made = so_far.made in
+      driven_more before out more after answer n so_far (
+        rw (pairs_more ask xs so_far.told t x d n so_far.many inside is) (fit_both _ (_ ∷ []) made.0 (fits, tt)),
+        omega (arith, counts.0, made.1, length-append so_far.told (t ∷ [])),
+        omega (arith, counts.1, made.2, sum_by-append moved_by so_far.told (t ∷ [])),
+      )
+
+module _ {T : Type 0} (reads : Runs ReadMark T) (writes : Runs WriteMark T) {C : Type 0} (ask : C → Request)
+    (xs : List C) where
+  -- the journal's calls with these answers were added
+  abbrev pub JournalMade : Chronicle T → Chronicle T → List Told → Type 0
+  JournalMade a b told = AddsAll reads writes a (pairs (map ask xs) told) b
+
+  pub journal_none : (a : Chronicle T) (out : List Answer) → Driven (JournalMade a a) out out 0
+  journal_none a out = driven_none out (rw pairs_none (adds_none reads writes a))
+
+  pub journal_more : (a b c : Chronicle T) (before out more after : List Answer) (answer : Answer) (n : ℕ) (x d : C)
+      → Driven (JournalMade a b) before out n → n < length xs → get_or xs n d ≡ x
+      → Adds reads writes b (record { asked = ask x; told = told_of answer }) c
+      → more ≡ out → after ≡ more ++ answer ∷ [] → Driven (JournalMade a c) before after (n + 1)
+  journal_more a b c before out more after answer n x d so_far inside is adds =
+      driven_more before out more after answer n so_far
+      (rw (pairs_more ask xs so_far.told (told_of answer) x d n so_far.many inside is)
+      (adds_both reads writes a b c _ (_ ∷ []) so_far.made (adds_one reads writes b c _ adds)))
