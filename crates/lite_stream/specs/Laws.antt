@@ -3,6 +3,7 @@ pub mod Calming
 pub mod Cutting
 pub mod EachItem
 pub mod Fuse
+pub mod Held
 pub mod Lower
 pub mod Matching
 pub mod Numbering

@@ -1,5 +1,6 @@
 -- Where something stands in the place of each item: what goes out, Pendings aside, is the same from things that are
 -- alike.
+use Rattle.std.specs.List.{AllByRecursion}
 use Rattle.std.specs.Prelude.{⊤}
 use Rattle.std.proofs.Common.{◌≡◌, List, [], ◌∷◌, ◌++◌, Option, Some, None, refl, ap, subst, sym}
 use Rattle.futures.specs.declared.task.Poll.TheVariants.{Ready, Pending}
@@ -7,26 +8,22 @@ use Rattle.lite_base.specs.Alike.{OptionBy, SameAnswer, Sameness}
 use Rattle.lite_base.specs.Answers.{Answer, ComparableBy, end, item, strip}
 use Rattle.lite_base.specs.Laws.Alike.{comparable_nil, ends_same}
 use Rattle.lite_base.specs.Laws.Calling.{MatchesFrom}
+use Rattle.lite_base.specs.Laws.Items.{OfItem}
 use Rattle.lite_base.specs.Runs.{Question}
 use Rattle.lite_reshape.specs.Cloned.{Refers}
 
 -- items each of which is the same as those that it is like
 pub items_same : {A : Type 0} (like same : A → A → Type 0) (l : List (Answer A)) (m : List (Option A))
-    → ((before after : List (Answer A)) (x : A) → l ≡ before ++ item x ∷ after → (y : A) → like x y → same x y)
-    → ComparableBy (OptionBy like) (strip l) m
+    → AllByRecursion (OfItem (λ x. (y : A) → like x y → same x y)) l → ComparableBy (OptionBy like) (strip l) m
     → ComparableBy (OptionBy same) (strip l) m
-items_same like same [] m come c = tt
-items_same like same (Pending ∷ l) m come c =
-    items_same like same l m (λ before after x e. come (Pending ∷ before) after x (ap (λ k. Pending ∷ k) e)) c
-items_same like same (Ready x ∷ l) [] come c = tt
-items_same like same (Ready None ∷ l) (None ∷ m) come c =
-    (tt, items_same like same l m (λ before after x e. come (end ∷ before) after x (ap (λ k. end ∷ k) e)) c.1)
-items_same like same (Ready None ∷ l) (Some y ∷ m) come c = absurd c.0
-items_same like same (Ready (Some x) ∷ l) (None ∷ m) come c = absurd c.0
-items_same like same (Ready (Some x) ∷ l) (Some y ∷ m) come c = (
-  come [] l x refl y c.0,
-  items_same like same l m (λ before after z d. come (item x ∷ before) after z (ap (λ k. item x ∷ k) d)) c.1,
-)
+items_same like same [] m each c = tt
+items_same like same (Pending ∷ l) m each c = items_same like same l m each.1 c
+items_same like same (Ready x ∷ l) [] each c = tt
+items_same like same (Ready None ∷ l) (None ∷ m) each c = (tt, items_same like same l m each.1 c.1)
+items_same like same (Ready None ∷ l) (Some y ∷ m) each c = absurd c.0
+items_same like same (Ready (Some x) ∷ l) (None ∷ m) each c = absurd c.0
+items_same like same (Ready (Some x) ∷ l) (Some y ∷ m) each c =
+    (each.0 x refl y c.0, items_same like same l m each.1 c.1)
 
 -- what is made of an item is itself
 pub refers_match : {R : Type 0} (like : R → R → Type 0) → MatchesFrom like like Refers (λ (p q : Unit {0}). ⊤)
