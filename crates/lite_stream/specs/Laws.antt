@@ -6,7 +6,7 @@ pub mod Fuse
 pub mod Held
 pub mod Lower
 pub mod Matching
-pub mod Numbering
+pub mod Placed
 pub mod Pointwise
 pub mod Take
 pub mod Through

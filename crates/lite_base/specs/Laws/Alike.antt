@@ -74,6 +74,12 @@ pub answer_items : {A : Type 0} (same : Sameness A) (x y : Option A) → SameAns
 answer_items Sameness.equal x y e = equal_options x y e
 answer_items (Sameness.by same) x y e = e
 
+-- and back
+pub item_answers : {A : Type 0} (same : Sameness A) (x y : Option A) → OptionBy (SameItem same) x y
+    → SameAnswer same x y
+item_answers Sameness.equal x y e = options_equal x y e
+item_answers (Sameness.by same) x y e = e
+
 -- two ends are the same
 pub ends_same : {A : Type 0} (same : Sameness A) → SameAnswer same None None
 ends_same Sameness.equal = refl

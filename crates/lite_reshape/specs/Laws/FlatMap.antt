@@ -23,7 +23,7 @@ use Rattle.lite_base.specs.Laws.Calling.{agree_from_matches}
 use Rattle.lite_base.specs.Runs.{Hints, NoHint, Runs}
 use Rattle.lite_stream.specs.Laws.Agreeing.{through_alike, through_steady_over}
 use Rattle.lite_stream.specs.Laws.Calming.{through_calm}
-use Rattle.lite_stream.specs.Laws.Pointwise.{replaces_calming, replaces_agreeing_by, replaces_answering}
+use Rattle.lite_stream.specs.Laws.Pointwise.{replaces_calming, replaces_agreeing, replaces_answering}
 use Rattle.lite_stream.specs.Laws.Pointwise.{replaces_relating}
 use Rattle.lite_stream.specs.Laws.Through.{laws_following, laws_hinted, through_counting}
 use Rattle.lite_stream.specs.Map.{Maps, map_parts}
@@ -143,7 +143,7 @@ module _ {S F A V B : Type 0} (g : Mut F (A × Unit {0}) V) {run ample : Runs (A
   flat_map_steady like same s =
       let outer = through_steady_over map_parts like (Answering like (Calls g)) s
       (replaces_relating (Calls g)).following (replaces_answering (Calls g) like) in
-      let made = replaces_agreeing_by (Calls g) like alike' (agree_from_matches (SameItem like) alike' (Calls g)) in
+      let made = replaces_agreeing (Calls g) like (Sameness.by alike') (agree_from_matches (SameItem like) alike' (Calls g)) in
       flattening_steady flat_map_parts same
       (λ x y e. (
         through_alike map_parts x.stream y.stream (s.steady x.stream.stream y.stream.stream e.0) e.1 made,

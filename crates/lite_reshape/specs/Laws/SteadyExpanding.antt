@@ -8,9 +8,10 @@ use Rattle.lite_base.specs.Laws.Answers.{strip_join, waiting_strip}
 use Rattle.lite_base.specs.Laws.Alike.{comparable_as, comparable_nil, gives_strip, same_answer}
 use Rattle.lite_base.specs.Laws.All.{all_any, all_split}
 use Rattle.lite_reshape.specs.Laws.Expanding.{GivingOne, expanding_by}
-use Rattle.lite_reshape.specs.Laws.Replacing.{PlacedFrom, placed_from_same}
+use Rattle.lite_stream.specs.Laws.Placed.{PlacedFrom, placed_from_same}
 use Rattle.lite_reshape.specs.Expanding.{Expanding}
-use Rattle.lite_base.specs.Laws.Calling.{MatchesFrom, answer_items}
+use Rattle.lite_base.specs.Laws.Alike.{answer_items}
+use Rattle.lite_base.specs.Laws.Calling.{MatchesFrom}
 use Rattle.lite_base.specs.Runs.{Question}
 use Rattle.lite_stream.specs.Laws.Agreeing.{AgreeingOver}
 

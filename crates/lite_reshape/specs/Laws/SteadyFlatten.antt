@@ -8,10 +8,11 @@ use Rattle.lite_base.specs.Steady.{SteadinessBy, SteadyLawsBy, TakesNone}
 use Rattle.lite_reshape.specs.Cloned.{Refers}
 use Rattle.lite_reshape.specs.Flatten.{Flattening}
 use Rattle.lite_reshape.specs.Inner.{EachInner}
-use Rattle.lite_reshape.specs.Laws.Replacing.{PlacedFrom, items_same, placed_from_same, refers_match}
+use Rattle.lite_reshape.specs.Laws.Replacing.{items_same, refers_match}
+use Rattle.lite_stream.specs.Laws.Placed.{PlacedFrom, placed_from_same}
 use Rattle.lite_base.specs.Laws.Answers.{strip_join}
 use Rattle.lite_base.specs.Laws.Alike.{both_items, comparable_as, comparable_nil}
-use Rattle.lite_base.specs.Laws.Calling.{answer_items}
+use Rattle.lite_base.specs.Laws.Alike.{answer_items}
 use Rattle.lite_base.specs.StreamLaws.{RunLaws}
 use Rattle.lite_base.specs.Runs.{Runs}
 use Rattle.lite_reshape.specs.Laws.Flatten.{flattening, flattening_by, have_come}
