@@ -13,6 +13,7 @@ pub mod OkRanks
 pub mod Rank
 pub mod Ranks
 pub mod Registered
+pub mod Rows
 pub mod Runs
 pub mod Steady
 pub mod StreamLaws
