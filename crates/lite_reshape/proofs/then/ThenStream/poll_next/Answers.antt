@@ -1,4 +1,4 @@
-use Rattle.std.proofs.Common.{◌≡◌, Some, None, refl}
+use Rattle.std.proofs.Common.{◌≡◌, Some, None, refl, rules}
 use Rattle.futures.specs.declared.task.Poll.TheVariants.{Ready, Pending}
 use Rattle.lite_base.specs.Answers.{item}
 use Rattle.lite_reshape.specs.Laws.Expanding.{held_answers, made_answers, none_answers}
@@ -52,9 +52,7 @@ returns-in-Pending-clause-ran g c =
     (hands_pending run _ _ _ refl c.in-Pending.ensures.ran))
 
 pub f-future-requires : goal.f-future-requires
-f-future-requires g c =
-    let is : c.poll_next.result ≡ item c.in-Some-ready.item = cc in
-    (each_here c.requires.1 c.poll_next.ensures.ran is).0
+f-future-requires g c = (each_here c.requires.1 c.poll_next.ensures.ran (search rules)).0
 
 pub poll-requires-in-Some-ready : goal.poll-requires-in-Some-ready
 poll-requires-in-Some-ready g c =
@@ -63,12 +61,10 @@ poll-requires-in-Some-ready g c =
 
 pub returns-in-Ready-clause-again : goal.returns-in-Ready-clause-again
 returns-in-Ready-clause-again g c =
-    let is : c.poll_next.result ≡ item c.in-Some-ready.item = cc in
-    let more = each_asked g.met.S.Stream.laws.follows c.requires.1 c.poll_next.ensures.ran is c.f-future.ensures in
-    (c.poll_next.ensures.again, more, c.requires.2)
+    let asked = each_asked g.met.S.Stream.laws.follows c.requires.1 c.poll_next.ensures.ran (search rules) in
+    (c.poll_next.ensures.again, asked c.f-future.ensures, c.requires.2)
 
 pub returns-in-Pending-clause-again : goal.returns-in-Pending-clause-again
 returns-in-Pending-clause-again g c =
-    let is : c.poll_next.result ≡ item c.in-Some-ready.item = cc in
-    let more = each_asked g.met.S.Stream.laws.follows c.requires.1 c.poll_next.ensures.ran is c.f-future.ensures in
-    (c.poll_next.ensures.again, more, c.in-Pending.ensures.again)
+    let asked = each_asked g.met.S.Stream.laws.follows c.requires.1 c.poll_next.ensures.ran (search rules) in
+    (c.poll_next.ensures.again, asked c.f-future.ensures, c.in-Pending.ensures.again)

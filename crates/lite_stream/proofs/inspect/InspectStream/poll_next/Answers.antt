@@ -1,24 +1,19 @@
-use Rattle.std.proofs.Common.{Some, refl, rules, ◌≡◌}
+use Rattle.std.proofs.Common.{Some, refl, rules}
 use Rattle.std.proofs.lemmas.Fn.{called_at}
 use Rattle.std.specs.Fn.{CalledAt}
 use Rattle.lite_base.specs.Calling.{Always}
 use Rattle.lite_stream.specs.Inspect.{ShowsItem}
 use Rattle.lite_stream.specs.Laws.Pointwise.{exchanged}
-use Rattle.lite_base.specs.Answers.{item}
 use Rattle.lite_stream.specs.Laws.EachItem.{each_asked, each_here}
 use Rattle.lite_stream.proofs.inspect.InspectStream.poll_next.Goals as goal
 
 pub f-requires : goal.f-requires
-f-requires g c =
-    let is : c.poll_next.result ≡ item c.in-Some.item = search rules in
-    each_here c.requires.1 c.poll_next.ensures.ran is _ refl
+f-requires g c = each_here c.requires.1 c.poll_next.ensures.ran (search rules) _ refl
 
 pub returns-in-Some-clause-again : goal.returns-in-Some-clause-again
 returns-in-Some-clause-again g c =
-    let is : c.poll_next.result ≡ item c.in-Some.item = search rules in
-    let shown = called_at g.F.FnMut c.f.ensures refl in
-    let more = each_asked g.met.S.Stream.laws.follows c.requires.1 c.poll_next.ensures.ran is shown in
-    (c.poll_next.ensures.again, more)
+    let asked = each_asked g.met.S.Stream.laws.follows c.requires.1 c.poll_next.ensures.ran (search rules) in
+    (c.poll_next.ensures.again, asked (called_at g.F.FnMut c.f.ensures refl))
 
 pub returns-in-Some-clause-ran : goal.returns-in-Some-clause-ran
 returns-in-Some-clause-ran g c =

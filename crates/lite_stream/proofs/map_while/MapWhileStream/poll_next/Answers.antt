@@ -1,15 +1,11 @@
-use Rattle.std.proofs.Common.{rules, ◌≡◌}
-use Rattle.lite_base.specs.Answers.{item}
+use Rattle.std.proofs.Common.{rules}
 use Rattle.lite_stream.specs.Laws.EachItem.{each_asked, each_here}
 use Rattle.lite_stream.proofs.map_while.MapWhileStream.poll_next.Goals as goal
 
 pub f-requires : goal.f-requires
-f-requires g c =
-    let is : c.poll_next.result ≡ item c.in-Some.item = search rules in
-    each_here c.requires.1 c.poll_next.ensures.ran is
+f-requires g c = each_here c.requires.1 c.poll_next.ensures.ran (search rules)
 
 pub returns-in-Some-clause-again : goal.returns-in-Some-clause-again
 returns-in-Some-clause-again g c =
-    let is : c.poll_next.result ≡ item c.in-Some.item = search rules in
-    let more = each_asked g.met.S.Stream.laws.follows c.requires.1 c.poll_next.ensures.ran is c.f.ensures in
+    let more = each_asked g.met.S.Stream.laws.follows c.requires.1 c.poll_next.ensures.ran (search rules) c.f.ensures in
     (c.poll_next.ensures.again, more)

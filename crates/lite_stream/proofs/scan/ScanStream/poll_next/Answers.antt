@@ -1,21 +1,17 @@
-use Rattle.std.proofs.Common.{refl, rules, ◌≡◌}
+use Rattle.std.proofs.Common.{refl, rules}
 use Rattle.lite_base.specs.Calling.{CallsWith}
 use Rattle.lite_stream.specs.Laws.Pointwise.{exchanged}
-use Rattle.lite_base.specs.Answers.{item}
 use Rattle.lite_stream.specs.Laws.EachItem.{each_asked, each_here}
 use Rattle.lite_stream.proofs.scan.ScanStream.poll_next.Goals as goal
 
 pub f-requires : goal.f-requires
-f-requires g c =
-    let is : c.poll_next.result ≡ item c.in-Some.item = search rules in
-    each_here c.requires.1 c.poll_next.ensures.ran is _ refl
+f-requires g c = each_here c.requires.1 c.poll_next.ensures.ran (search rules) _ refl
 
 pub returns-in-Some-clause-again : goal.returns-in-Some-clause-again
 returns-in-Some-clause-again g c =
-    let is : c.poll_next.result ≡ item c.in-Some.item = search rules in (
+    let asked = each_asked g.met.S.Stream.laws.follows c.requires.1 c.poll_next.ensures.ran (search rules) in (
       c.poll_next.ensures.again,
-      each_asked g.met.S.Stream.laws.follows c.requires.1 c.poll_next.ensures.ran is
-          (record { shown = _; shows = refl; left = _; called = c.f.ensures; leaves = refl }),
+      asked (record { shown = _; shows = refl; left = _; called = c.f.ensures; leaves = refl }),
     )
 
 pub returns-in-Some-clause-ran : goal.returns-in-Some-clause-ran
