@@ -7,7 +7,6 @@ use Rattle.futures.specs.declared.task.Poll.TheVariants.{Ready, Pending}
 use Rattle.lite_base.specs.Answers.{Answer, end, item, items}
 use Rattle.lite_base.specs.Calm.{CalmLaws, waits}
 use Rattle.lite_base.specs.Laws.Falling.{Lowers-at_most, Lowers-below}
-use Rattle.lite_base.specs.Laws.Calm.{none_no_pending, no_pending_none}
 use Rattle.lite_base.specs.Laws.Hint.{same_hint}
 use Rattle.lite_base.specs.Laws.Items.{IsItem, items_each}
 use Rattle.lite_base.specs.Rank.{AtMost, Below, Lowers}
@@ -17,6 +16,7 @@ use Rattle.lite_base.specs.Laws.StreamLaws.{laws_of, runs_of}
 use Rattle.lite_base.specs.Runs.{Hints, NoHint, Runs}
 use Rattle.lite_merge.specs.Zip.{Pairing, Pairs, WithHeld, Zips, pair_with, pendings, zip_ranks}
 use Rattle.lite_merge.specs.declared.zip.Zip.{Zip}
+use Rattle.lite_stream.specs.Laws.Calming.{calm_two}
 use Rattle.lite_stream.specs.Laws.Held.{held_falls, held_first, held_less, held_level, held_sized}
 
 module _ {C : Type 0} where
@@ -245,12 +245,7 @@ module _ {S U A B : Type 0} {run : Runs (Answer A) S} {run' : Runs (Answer B) U}
   pub zip_calm : {is_calm : S → Type 0} {is_calm' : U → Type 0} → CalmLaws run is_calm → CalmLaws run' is_calm'
       → CalmLaws (Zips run run') (λ x. is_calm x.first × is_calm' x.second)
   zip_calm s u =
-      record {
-        no_pending = λ x y l k h.
-            let fewer = pairing_waits x.item_slot y.item_slot h.firsts h.seconds l h.paired in
-            let first = no_pending_none h.firsts (s.no_pending x.first y.first h.firsts k.0 h.came) in
-            let second = no_pending_none h.seconds (u.no_pending x.second y.second h.seconds k.1 h.then_came) in
-            none_no_pending l (omega (arith, fewer, first, second));
-        calm_on = λ x y l k h.
-            (s.calm_on x.first y.first h.firsts k.0 h.came, u.calm_on x.second y.second h.seconds k.1 h.then_came);
-      }
+      calm_two (λ x. x.first) (λ x. x.second) s u
+      (λ x y l h.
+      let fewer = pairing_waits x.item_slot y.item_slot h.firsts h.seconds l h.paired in
+      (h.firsts, h.seconds, h.came, h.then_came, fewer))

@@ -5,7 +5,7 @@ use Rattle.std.proofs.Common.{◌≤◌, ◌+◌, arith, List, [], ◌∷◌, �
 use Rattle.futures.specs.declared.task.Poll.TheVariants.{Pending}
 use Rattle.lite_base.specs.Answers.{Answer, end}
 use Rattle.lite_base.specs.Calm.{CalmLaws, NoPending, waits}
-use Rattle.lite_base.specs.Laws.Calm.{none_no_pending, no_pending_front, no_pending_join, no_pending_none, waits_join}
+use Rattle.lite_base.specs.Laws.Calm.{no_pending_front, no_pending_join, no_pending_none, waits_join}
 use Rattle.lite_base.specs.Laws.Items.{OfItem}
 use Rattle.lite_base.specs.Runs.{Question, Runs}
 use Rattle.lite_reshape.specs.Chain.{Chains, Joins, is_done, second_after}
@@ -16,7 +16,7 @@ use Rattle.lite_reshape.specs.Laws.Flatten.{each_inner_on, flattening_by, have_c
 use Rattle.lite_reshape.specs.Expanding.{Expanding}
 use Rattle.lite_reshape.specs.declared.chain.Part.TheVariants.{First, Second, Done}
 use Rattle.lite_reshape.specs.declared.chain.Part.{Part}
-use Rattle.lite_stream.specs.Laws.Calming.{Calming}
+use Rattle.lite_stream.specs.Laws.Calming.{Calming, calm_two}
 use Rattle.lite_stream.specs.Laws.Cutting.{cuts_calming}
 use Rattle.lite_stream.specs.Through.{AdapterParts, Adapts}
 
@@ -36,15 +36,10 @@ module _ {S U A : Type 0} {run : Runs (Answer A) S} {run' : Runs (Answer A) U} w
   pub chain_calm : {is_calm : S → Type 0} {is_calm' : U → Type 0} → CalmLaws run is_calm → CalmLaws run' is_calm'
       → CalmLaws (Chains run run') (λ x. is_calm x.first × is_calm' x.second)
   chain_calm s u =
-      record {
-        no_pending = λ x y l k h.
-            let fewer = joins_waits x.part y.part h.firsts h.seconds l h.joined in
-            let first = no_pending_none h.firsts (s.no_pending x.first y.first h.firsts k.0 h.came) in
-            let second = no_pending_none h.seconds (u.no_pending x.second y.second h.seconds k.1 h.then_came) in
-            none_no_pending l (omega (arith, fewer, first, second));
-        calm_on = λ x y l k h.
-            (s.calm_on x.first y.first h.firsts k.0 h.came, u.calm_on x.second y.second h.seconds k.1 h.then_came);
-      }
+      calm_two (λ x. x.first) (λ x. x.second) s u
+      (λ x y l h.
+      let fewer = joins_waits x.part y.part h.firsts h.seconds l h.joined in
+      (h.firsts, h.seconds, h.came, h.then_came, fewer))
 
 -- nothing is pending that comes out of answers that are not, where what is held is calm; and what is held then is
 abbrev pub CalmingBy : {F A B : Type 0} → (F → Type 0) → (F → List (Answer A) → List (Answer B) → F → Type 0) → Type 0

@@ -63,8 +63,7 @@ module _ {T E : Type 0} (is_clone : T → T → Type 0) (is_infallible : T → T
 
 -- one poll in which a clone was made
 pub gives_copy : {T E : Type 0} (is_clone : T → T → Type 0) (is_infallible : T → Type 0) (x : Bor T) (copy : T)
-    → is_clone x.now copy
-    → Clones {E = E} is_clone is_infallible x (item (Ok copy) ∷ []) None
+    → is_clone x.now copy → Clones {E = E} is_clone is_infallible x (item (Ok copy) ∷ []) None
 gives_copy is_clone is_infallible x copy h = ([], copy, tt, h, refl)
 
 held_same : {R : Type 0} (v w : Option R) → w ≡ v → OptionBy (λ a b. a ≡ b) v w

@@ -28,7 +28,7 @@ use Rattle.lite_base.specs.Calling.{AgreeFrom, Calls}
 use Rattle.lite_base.specs.Laws.Calling.{agree_from_matches}
 use Rattle.lite_base.specs.Runs.{Hints, Question, Runs}
 use Rattle.lite_stream.specs.Laws.Agreeing.{through_steady_by}
-use Rattle.lite_stream.specs.Laws.Through.{laws_bounded}
+use Rattle.lite_stream.specs.Laws.Through.{bounded_by, laws_bounded}
 
 module _ {B : Type 0} where
   handed_waiting : (l : List (Poll B)) → Waiting l → Waiting (map (handed Some) l)
@@ -79,10 +79,6 @@ bounded_if : (b : Bool) (k n : ℕ) → k ≤ n + 1 → IfSome (cond b (Some (n 
 bounded_if true k n h = h
 bounded_if false k n h = tt
 
-bounded_none : (most : Option ℕ) (k n : ℕ) → k ≤ n + 0 → IfSome most (λ m. n ≤ m) → IfSome most (λ m. k ≤ m)
-bounded_none None k n h b = tt
-bounded_none (Some m) k n h b = omega (arith, h, b)
-
 bounded_some : (most : Option ℕ) (k n : ℕ) → k ≤ n + 1 → IfSome most (λ m. n ≤ m)
     → IfSome (one_more_at_most most) (λ m. k ≤ m)
 bounded_some None k n h b = tt
@@ -91,7 +87,7 @@ bounded_some (Some m) k n h b = bounded_if (nat_lt m (2 ^ 64 - 1)) k m (omega (a
 then_bounded : {V : Type 0} (held : Option V) (hint : ℕ × Option ℕ) (k n : ℕ) → k ≤ n + count_held held
     → IfSome hint.1 (λ most. n ≤ most)
     → IfSome (then_hint held hint).1 (λ most. k ≤ most)
-then_bounded None hint k n h b = bounded_none hint.1 k n h b
+then_bounded None hint k n h b = bounded_by hint.1 (omega (arith, h)) b
 then_bounded (Some v) hint k n h b = bounded_some hint.1 k n h b
 
 pub then_laws : {S F V A B : Type 0} (call : Question F A V) {gives : Runs (Poll B) V} {run : Runs (Answer A) S}
