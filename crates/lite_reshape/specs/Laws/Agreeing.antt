@@ -15,18 +15,18 @@ use Rattle.lite_reshape.specs.Skip.{Skips}
 use Rattle.lite_reshape.specs.SkipWhile.{SkipsUntil}
 
 -- a kept item goes out, and of a rejected one nothing
-abbrev Keeps : {B : Type 0} → Option B → (List (Option B) → Type 0) → List (Option B) → Type 0
-Keeps None follows out = follows out
-Keeps {B} (Some y) follows out = (more : List (Option B)) × (out ≡ Some y ∷ more) × follows more
+abbrev KeptInPlace : {B : Type 0} → Option B → (List (Option B) → Type 0) → List (Option B) → Type 0
+KeptInPlace None follows out = follows out
+KeptInPlace {B} (Some y) follows out = (more : List (Option B)) × (out ≡ Some y ∷ more) × follows more
 
 module _ {F A B : Type 0} (call : Question F A (Option B)) where
   stripped : (f g : F) (i : List (Answer A)) (o : List (Answer B)) → LeavesOut call f i o g
-      → Placed call Keeps f (strip i) (strip o)
+      → Placed call KeptInPlace f (strip i) (strip o)
   stripped f g i o =
-      leaves_steps call (λ p i o. Placed call Keeps p (strip i) (strip o)) (λ p m x i b o t h. (None, m, t, h))
+      leaves_steps call (λ p i o. Placed call KeptInPlace p (strip i) (strip o)) (λ p m x i b o t h. (None, m, t, h))
       (λ p i o h. h) (λ p i o h. (strip o, refl, h)) (λ p m x i y o t h. (Some y, m, t, (strip o, refl, h))) f g i o refl
 
-  keeps_alike : (same : Sameness B) → AlikeInPlace call Keeps same (SameAnswer same)
+  keeps_alike : (same : Sameness B) → AlikeInPlace call KeptInPlace same (SameAnswer same)
   keeps_alike same None None P Q o p e r q rest = rest o p r q
   keeps_alike same None (Some z) P Q o p e r q rest = absurd (both_items same None (Some z) e)
   keeps_alike same (Some y) None P Q o p e r q rest = absurd (both_items same (Some y) None e)
@@ -35,7 +35,7 @@ module _ {F A B : Type 0} (call : Question F A (Option B)) where
   -- from what agrees, calls at items that are like one another answer what is the same
   pub leaves_agreeing : (like : Sameness A) (same : Sameness B) {agree : F → F → Type 0}
       → MatchesFrom (SameItem like) (SameAnswer same) call agree → AgreeingOver like same (LeavesOut call) agree
-  leaves_agreeing like same m = placed_agreeing call Keeps like same m (keeps_alike same) stripped
+  leaves_agreeing like same m = placed_agreeing call KeptInPlace like same m (keeps_alike same) stripped
 
   -- closures that keep an item, or none
   pub leaves_keeping : (like : Sameness A)
@@ -65,10 +65,10 @@ skips_match like n m p q x w (Some y) (Some z) e s a c = (rw (a.1, c.1) s, rw (a
 
 -- from predicates that agree, or none
 module _ {F A : Type 0} (test : Question F A Bool) (like : Sameness A) where
-  abbrev Tests : F → F → Type 0
-  Tests = AgreeFrom (SameItem like) (λ y z. y ≡ z) test
+  abbrev TestsAgree : F → F → Type 0
+  TestsAgree = AgreeFrom (SameItem like) (λ y z. y ≡ z) test
 
-  until_matches : MatchesFrom (SameItem like) (SameAnswer like) (SkipsUntil test) (OptionBy Tests)
+  until_matches : MatchesFrom (SameItem like) (SameAnswer like) (SkipsUntil test) (OptionBy TestsAgree)
   until_matches None None p q x w None z e s a c = absurd a
   until_matches None None p q x w (Some y) None e s a c = absurd c
   until_matches None None p q x w (Some y) (Some z) e s a c = rw (a.0, c.0, a.1, c.1) (same_answer like x w s, tt)
@@ -76,15 +76,15 @@ module _ {F A : Type 0} (test : Question F A Bool) (like : Sameness A) where
   until_matches (Some f) None p q x w y z e s a c = absurd e
   until_matches (Some f) (Some k) p q x w y z e s a c = both y z a c
     where
-      tested : (b d : Bool) (g l : F) → test f x b g → test k w d l → (b ≡ d) × Tests g l
+      tested : (b d : Bool) (g l : F) → test f x b g → test k w d l → (b ≡ d) × TestsAgree g l
       tested b d g l = agree_from_matches (SameItem like) (λ y z. y ≡ z) test f k g l x w b d e s
 
       both : (y z : Option A) → SkipsUntil test (Some f) x y p → SkipsUntil test (Some k) w z q
-          → SameAnswer like y z × OptionBy Tests p q
+          → SameAnswer like y z × OptionBy TestsAgree p q
       both None None a c = rw (a.1, c.1) (ends_same like, (tested true true a.0 c.0 a.2 c.2).1)
       both None (Some z) a c = absurd (let t = (tested true false a.0 c.0 a.2 c.3).0 in cc)
       both (Some y) None a c = absurd (let t = (tested false true a.0 c.0 a.3 c.2).0 in cc)
       both (Some y) (Some z) a c = rw (a.1, c.1, a.2, c.2) (same_answer like x w s, tt)
 
-  pub leaves_until : AgreeingOver like like (LeavesOut (SkipsUntil test)) (OptionBy Tests)
+  pub leaves_until : AgreeingOver like like (LeavesOut (SkipsUntil test)) (OptionBy TestsAgree)
   leaves_until = leaves_agreeing (SkipsUntil test) like like until_matches
