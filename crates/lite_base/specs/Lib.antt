@@ -14,6 +14,7 @@ pub mod Paces
 pub mod Rank
 pub mod Ranks
 pub mod Registered
+pub mod Rows
 pub mod Runs
 pub mod Steady
 pub mod StreamLaws

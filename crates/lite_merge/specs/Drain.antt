@@ -6,7 +6,7 @@ use Rattle.lite_base.specs.Answers.{Answer, end}
 use Rattle.lite_base.specs.Lent.{Lent}
 use Rattle.lite_base.specs.Runs.{Runs}
 use Rattle.lite_merge.specs.declared.drain.Drain.{Drain}
-use Rattle.lite_stream.specs.Through.{AdapterParts, Through}
+use Rattle.lite_stream.specs.Through.{AdapterParts, Through, parts_of}
 
 -- an end for each Pending; an item and an end stay
 abbrev pub with_ends : {A : Type 0} → List (Answer A) → List (Answer A)
@@ -24,4 +24,4 @@ Drains run x l y = Through (Lent run) Drained x.stream tt l y.stream tt
 
 -- a `drain` is the reference to its stream
 abbrev pub drain_parts : {S : Type 0} → AdapterParts (Drain S) (MutBor S) (Unit {0})
-drain_parts = record { source = λ m. m.stream; held = λ m. tt; same = λ x y e d. λ i. record { stream = e i } }
+drain_parts = parts_of (λ m. m.stream) (λ m. tt) (λ s _. record { stream = s }) (λ x y p. p)

@@ -1,9 +1,10 @@
 -- Two streams of which each row asks one first, and the other where that one has no item.
-use Rattle.std.specs.Prelude.{◌≡◌, ◌⊎◌, ◌+◌, List, [], ◌∷◌, ◌++◌, Bool, true, false, Some, None}
+use Rattle.std.specs.Prelude.{◌≡◌, ◌⊎◌, ◌+◌, List, ◌∷◌, ◌++◌, Bool, false, Some, None}
 use Rattle.futures.specs.declared.task.Poll.TheVariants.{Ready, Pending}
 use Rattle.futures.specs.Task.{Lasting}
 use Rattle.lite_base.specs.Answers.{Answer, item}
 use Rattle.lite_base.specs.Ranks.{Ranks}
+use Rattle.lite_base.specs.Rows.{Rows}
 use Rattle.lite_base.specs.Runs.{Runs}
 use Rattle.lite_stream.specs.Fuse.{Fuses}
 use Rattle.lite_stream.specs.declared.fuse.Fuse.{Fuse}
@@ -24,12 +25,7 @@ MergeRow i j c i' j' = ⊥
 
 -- the two lists are read row by row, in the order that each row names: true, where the first stands first
 abbrev pub MergeRows : {A : Type 0} (order : List Bool) (i j out : List (Answer A)) → Type 0
-MergeRows [] i j out = (i ≡ []) × (j ≡ []) × (out ≡ [])
-MergeRows (first ∷ order) i j [] = ⊥
-MergeRows {A} (true ∷ order) i j (c ∷ out) =
-    (i' j' : List (Answer A)) × MergeRow i j c i' j' × MergeRows order i' j' out
-MergeRows {A} (false ∷ order) i j (c ∷ out) =
-    (i' j' : List (Answer A)) × MergeRow j i c j' i' × MergeRows order i' j' out
+MergeRows = Rows MergeRow
 
 -- each of the two answers through its first end, is asked no more after it, and counts as an end from there on; what
 -- goes out of their rows is out

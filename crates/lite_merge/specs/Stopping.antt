@@ -5,17 +5,12 @@ use Rattle.futures.specs.Task.{Lasting}
 use Rattle.lite_merge.specs.declared.stop_after_future.StopAfterFuture.{StopAfterFuture}
 use Rattle.lite_merge.specs.declared.stop_after_future.Stopping.TheVariants.{Holding, TakenOut, Stopped}
 use Rattle.lite_merge.specs.declared.stop_after_future.Stopping.{Stopping}
-use Rattle.lite_stream.specs.Through.{AdapterParts}
+use Rattle.lite_stream.specs.Through.{AdapterParts, parts_of}
 use Rattle.lite_base.specs.Runs.{Hints}
 
 -- a `stop_after_future` is its stream, and its future or what became of it
 abbrev pub stop_parts : {S F R : Type 0} → AdapterParts (StopAfterFuture S F R) S (Stopping F R)
-stop_parts =
-    record {
-      source = λ m. m.stream;
-      held = λ m. m.future;
-      same = λ x y e d. λ i. record { stream = e i; future = d i };
-    }
+stop_parts = parts_of (λ m. m.stream) (λ m. m.future) (λ s h. record { stream = s; future = h }) (λ x y p. p)
 
 -- the future, while it is held
 abbrev pub future_of : {F R : Type 0} → Stopping F R → Option F

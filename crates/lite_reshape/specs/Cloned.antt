@@ -8,7 +8,7 @@ use Rattle.lite_base.specs.Answers.{Answer, item}
 use Rattle.lite_base.specs.Runs.{Runs}
 use Rattle.lite_reshape.specs.Expanding.{Expanding}
 use Rattle.lite_reshape.specs.declared.cloned.Cloned.{Cloned}
-use Rattle.lite_stream.specs.Through.{AdapterParts, Through}
+use Rattle.lite_stream.specs.Through.{AdapterParts, Through, parts_of}
 
 -- the reference that comes in is what is held
 abbrev pub Refers : {R : Type 0} → Unit {0} → R → R → Unit {0} → Type 0
@@ -63,9 +63,4 @@ AlikeCloned (Sameness.by same) alike is_clone x y = alike x.stream y.stream × O
 
 -- a `cloned` is its stream, and the reference that it holds
 abbrev pub cloned_parts : {S R : Type 0} → AdapterParts (Cloned S R) S (Unit {0} × Option R)
-cloned_parts =
-    record {
-      source = λ m. m.stream;
-      held = λ m. (tt, m.held);
-      same = λ x y e d. λ i. record { stream = e i; held = (d i).1 };
-    }
+cloned_parts = parts_of (λ m. m.stream) (λ m. (tt, m.held)) (λ s h. record { stream = s; held = h.1 }) (λ x y p. p)

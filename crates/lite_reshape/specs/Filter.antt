@@ -5,7 +5,7 @@ use Rattle.lite_base.specs.Ranks.{Ranks}
 use Rattle.lite_base.specs.Calling.{Accepts}
 use Rattle.lite_base.specs.Runs.{Question, Runs}
 use Rattle.lite_reshape.specs.Leaving.{LeavesOut}
-use Rattle.lite_stream.specs.Through.{AdapterParts, Through}
+use Rattle.lite_stream.specs.Through.{AdapterParts, Through, parts_of}
 use Rattle.lite_reshape.specs.declared.filter.Filter.{Filter}
 
 -- a poll may be made: the source may be polled, its rank counts, and the predicate may be asked about each item of it
@@ -18,9 +18,4 @@ Filters run test x l y = Through run (LeavesOut (Accepts test)) x.stream x.predi
 
 -- a `filter` is its stream, and its predicate
 abbrev pub filter_parts : {S F : Type 0} → AdapterParts (Filter S F) S F
-filter_parts =
-    record {
-      source = λ m. m.stream;
-      held = λ m. m.predicate;
-      same = λ x y e d. λ i. record { stream = e i; predicate = d i };
-    }
+filter_parts = parts_of (λ m. m.stream) (λ m. m.predicate) (λ s h. record { stream = s; predicate = h }) (λ x y p. p)

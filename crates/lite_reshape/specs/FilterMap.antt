@@ -4,7 +4,7 @@ use Rattle.lite_base.specs.Answers.{Answer}
 use Rattle.lite_base.specs.Ranks.{Ranks}
 use Rattle.lite_base.specs.Runs.{Question, Runs}
 use Rattle.lite_reshape.specs.Leaving.{LeavesOut}
-use Rattle.lite_stream.specs.Through.{AdapterParts, Through}
+use Rattle.lite_stream.specs.Through.{AdapterParts, Through, parts_of}
 use Rattle.lite_reshape.specs.declared.filter_map.FilterMap.{FilterMap}
 
 -- a poll may be made: the source may be polled, its rank counts, and the function may be called with each item of it
@@ -18,9 +18,4 @@ FilterMaps run call x l y = Through run (LeavesOut call) x.stream x.f l y.stream
 
 -- a `filter_map` is its stream, and its function
 abbrev pub filter_map_parts : {S F : Type 0} → AdapterParts (FilterMap S F) S F
-filter_map_parts =
-    record {
-      source = λ m. m.stream;
-      held = λ m. m.f;
-      same = λ x y e d. λ i. record { stream = e i; f = d i };
-    }
+filter_map_parts = parts_of (λ m. m.stream) (λ m. m.f) (λ s h. record { stream = s; f = h }) (λ x y p. p)

@@ -3,7 +3,7 @@ use Rattle.std.specs.Prelude.{◌≡◌, ℕ, ◌+◌, Option, Some, None}
 use Rattle.lite_base.specs.Answers.{Answer}
 use Rattle.lite_base.specs.Runs.{Runs}
 use Rattle.lite_reshape.specs.Leaving.{LeavesOut}
-use Rattle.lite_stream.specs.Through.{AdapterParts, Through}
+use Rattle.lite_stream.specs.Through.{AdapterParts, Through, parts_of}
 use Rattle.lite_reshape.specs.declared.skip.Skip.{Skip}
 
 -- n items are still to be left out
@@ -17,4 +17,4 @@ SkipsFirst run x l y = Through run (LeavesOut Skips) x.stream x.n l y.stream y.n
 
 -- a `skip` is its stream, and how many items are still to be left out
 abbrev pub skip_parts : {S : Type 0} → AdapterParts (Skip S) S ℕ
-skip_parts = record { source = λ m. m.stream; held = λ m. m.n; same = λ x y e d. λ i. record { stream = e i; n = d i } }
+skip_parts = parts_of (λ m. m.stream) (λ m. m.n) (λ s h. record { stream = s; n = h }) (λ x y p. p)

@@ -7,7 +7,7 @@ use Rattle.lite_base.specs.Ranks.{Ranks}
 use Rattle.lite_base.specs.Runs.{Question, Runs}
 use Rattle.lite_reshape.specs.Leaving.{LeavesOut}
 use Rattle.lite_stream.specs.EachItem.{AtEachItem}
-use Rattle.lite_stream.specs.Through.{AdapterParts, Through}
+use Rattle.lite_stream.specs.Through.{AdapterParts, Through, parts_of}
 use Rattle.lite_reshape.specs.declared.skip_while.SkipWhile.{SkipWhile}
 
 -- the predicate is asked until an item is kept, and then it is gone and each item is kept
@@ -31,9 +31,4 @@ SkipsWhile run test x l y = Through run (LeavesOut (SkipsUntil test)) x.stream x
 
 -- a `skip_while` is its stream, and its predicate until that is gone
 abbrev pub skip_while_parts : {S F : Type 0} → AdapterParts (SkipWhile S F) S (Option F)
-skip_while_parts =
-    record {
-      source = λ m. m.stream;
-      held = λ m. m.predicate;
-      same = λ x y e d. λ i. record { stream = e i; predicate = d i };
-    }
+skip_while_parts = parts_of (λ m. m.stream) (λ m. m.predicate) (λ s h. record { stream = s; predicate = h }) (λ x y p. p)

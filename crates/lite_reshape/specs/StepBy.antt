@@ -4,7 +4,7 @@ use Rattle.std.specs.Prelude.{◌≡◌, ℕ, ◌+◌, ◌%◌, ◌<◌, List, [
 use Rattle.lite_base.specs.Answers.{Answer}
 use Rattle.lite_base.specs.Runs.{Runs}
 use Rattle.lite_reshape.specs.Leaving.{LeavesOut}
-use Rattle.lite_stream.specs.Through.{AdapterParts, Through}
+use Rattle.lite_stream.specs.Through.{AdapterParts, Through, parts_of}
 use Rattle.lite_reshape.specs.declared.step_by.StepBy.{StepBy}
 
 -- the item with the number n; the next one has the next number
@@ -32,9 +32,4 @@ StepsBy run x l y = Through run StepsOn x.stream (x.step, x.i) l y.stream (y.ste
 
 -- a `step_by` is its stream, and its step with how many items are left out before the next
 abbrev pub step_by_parts : {S : Type 0} → AdapterParts (StepBy S) S (ℕ × ℕ)
-step_by_parts =
-    record {
-      source = λ m. m.stream;
-      held = λ m. (m.step, m.i);
-      same = λ x y e d. λ j. record { stream = e j; step = (d j).0; i = (d j).1 };
-    }
+step_by_parts = parts_of (λ m. m.stream) (λ m. (m.step, m.i)) (λ s h. record { stream = s; step = h.0; i = h.1 }) (λ x y p. p)

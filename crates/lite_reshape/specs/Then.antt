@@ -10,7 +10,7 @@ use Rattle.lite_reshape.specs.declared.then.Then.{Then}
 use Rattle.lite_base.specs.Calling.{Calls}
 use Rattle.lite_base.specs.Runs.{Question, Runs}
 use Rattle.lite_stream.specs.EachItem.{AtEachItem}
-use Rattle.lite_stream.specs.Through.{AdapterParts, Through}
+use Rattle.lite_stream.specs.Through.{AdapterParts, Through, parts_of}
 
 -- the future's list, its value as an item, and nothing after that
 abbrev pub HandsOut : {V B : Type 0} → Runs (Poll B) V → V → List (Answer B) → Option V → Type 0
@@ -24,12 +24,7 @@ Thens run call run' x l y =
 
 -- a `then` is its stream, and its function with the future that it holds
 abbrev pub then_parts : {S F V : Type 0} → AdapterParts (Then S F V) S (F × Option V)
-then_parts =
-    record {
-      source = λ m. m.stream;
-      held = λ m. (m.f, m.future);
-      same = λ x y e d. λ i. record { stream = e i; future = (d i).1; f = (d i).0 };
-    }
+then_parts = parts_of (λ m. m.stream) (λ m. (m.f, m.future)) (λ s h. record { stream = s; future = h.1; f = h.0 }) (λ x y p. p)
 
 -- the function may be called with each item that the stream may still give, and what it makes of it has the fact
 abbrev pub MakesEach : {S F V A : Type 0} → Runs (Answer A) S → Mut F (A × Unit {0}) V → (V → Type 0) → S → F → Type 0

@@ -5,7 +5,7 @@ use Rattle.lite_base.specs.Alike.{MadeOf, Sameness}
 use Rattle.lite_base.specs.Answers.{Answer}
 use Rattle.lite_base.specs.Runs.{Runs}
 use Rattle.lite_stream.specs.Pointwise.{Replaces}
-use Rattle.lite_stream.specs.Through.{AdapterParts, Through}
+use Rattle.lite_stream.specs.Through.{AdapterParts, Through, parts_of}
 use Rattle.lite_stream.specs.declared.copied.Copied.{Copied}
 
 -- nothing is asked, so nothing is gone through
@@ -22,4 +22,4 @@ CopiesAll run x l y = Through run (Replaces CopiesItem) x.stream tt l y.stream t
 
 -- a `copied` is its stream
 abbrev pub copied_parts : {S : Type 0} → AdapterParts (Copied S) S (Unit {0})
-copied_parts = record { source = λ m. m.stream; held = λ m. tt; same = λ x y e d. λ i. record { stream = e i } }
+copied_parts = parts_of (λ m. m.stream) (λ m. tt) (λ s _. record { stream = s }) (λ x y p. p)

@@ -3,7 +3,7 @@ use Rattle.std.specs.Prelude.{◌≡◌, List, [], ◌∷◌, ◌++◌, Bool, tr
 use Rattle.std.specs.List.{AllByRecursion}
 use Rattle.lite_base.specs.Answers.{Answer, end, until_end}
 use Rattle.lite_base.specs.Runs.{Runs}
-use Rattle.lite_stream.specs.Through.{AdapterParts, Through}
+use Rattle.lite_stream.specs.Through.{AdapterParts, Through, parts_of}
 use Rattle.lite_stream.specs.declared.fuse.Fuse.{Fuse}
 
 -- each answer is an end
@@ -24,9 +24,4 @@ Fuses run x l y = Through run FusesOn x.stream x.done l y.stream y.done
 
 -- a `fuse` is its stream, and whether an end was met
 abbrev pub fuse_parts : {S : Type 0} → AdapterParts (Fuse S) S Bool
-fuse_parts =
-    record {
-      source = λ m. m.stream;
-      held = λ m. m.done;
-      same = λ x y e d. λ i. record { stream = e i; done = d i };
-    }
+fuse_parts = parts_of (λ m. m.stream) (λ m. m.done) (λ s h. record { stream = s; done = h }) (λ x y p. p)

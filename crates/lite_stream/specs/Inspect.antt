@@ -3,7 +3,7 @@ use Rattle.std.specs.Prelude.{◌≡◌}
 use Rattle.lite_base.specs.Answers.{Answer}
 use Rattle.lite_base.specs.Runs.{Question, Runs}
 use Rattle.lite_stream.specs.Pointwise.{Replaces}
-use Rattle.lite_stream.specs.Through.{AdapterParts, Through}
+use Rattle.lite_stream.specs.Through.{AdapterParts, Through, parts_of}
 use Rattle.lite_stream.specs.declared.inspect.Inspect.{Inspect}
 
 -- the function is shown the item, which goes out as it is
@@ -16,9 +16,4 @@ Inspects run look x l y = Through run (Replaces (ShowsItem look)) x.stream x.f l
 
 -- an `inspect` is its stream, and its function
 abbrev pub inspect_parts : {S F : Type 0} → AdapterParts (Inspect S F) S F
-inspect_parts =
-    record {
-      source = λ m. m.stream;
-      held = λ m. m.f;
-      same = λ x y e d. λ i. record { stream = e i; f = d i };
-    }
+inspect_parts = parts_of (λ m. m.stream) (λ m. m.f) (λ s h. record { stream = s; f = h }) (λ x y p. p)

@@ -3,9 +3,10 @@ pub mod Calming
 pub mod Cutting
 pub mod EachItem
 pub mod Fuse
+pub mod Held
 pub mod Lower
 pub mod Matching
-pub mod Numbering
+pub mod Placed
 pub mod Pointwise
 pub mod Take
 pub mod Through

@@ -3,7 +3,7 @@ use Rattle.std.specs.Prelude.{Option}
 use Rattle.lite_base.specs.Answers.{Answer}
 use Rattle.lite_base.specs.Runs.{Question, Runs}
 use Rattle.lite_stream.specs.Pointwise.{Exchanges}
-use Rattle.lite_stream.specs.Through.{AdapterParts, Through}
+use Rattle.lite_stream.specs.Through.{AdapterParts, Through, parts_of}
 use Rattle.lite_stream.specs.declared.map_while.MapWhile.{MapWhile}
 
 -- the source's list, each item replaced by what the function makes of it, or by an end
@@ -12,9 +12,4 @@ MapsWhile run call x l y = Through run (Exchanges call) x.stream x.f l y.stream 
 
 -- a `map_while` is its stream, and its function
 abbrev pub map_while_parts : {S F : Type 0} → AdapterParts (MapWhile S F) S F
-map_while_parts =
-    record {
-      source = λ m. m.stream;
-      held = λ m. m.f;
-      same = λ x y e d. λ i. record { stream = e i; f = d i };
-    }
+map_while_parts = parts_of (λ m. m.stream) (λ m. m.f) (λ s h. record { stream = s; f = h }) (λ x y p. p)

@@ -3,7 +3,7 @@ use Rattle.std.specs.Prelude.{Option}
 use Rattle.lite_base.specs.Answers.{Answer}
 use Rattle.lite_base.specs.Runs.{Runs}
 use Rattle.lite_stream.specs.Pointwise.{Exchanges}
-use Rattle.lite_stream.specs.Through.{AdapterParts, Through}
+use Rattle.lite_stream.specs.Through.{AdapterParts, Through, parts_of}
 use Rattle.lite_stream.specs.declared.scan.Scan.{Scan}
 
 -- as MapsWhile, the function with a state
@@ -13,9 +13,4 @@ Scans run call x l y = Through run (Exchanges call) x.stream (x.f, x.state) l y.
 
 -- a `scan` is its stream, and its function with the state
 abbrev pub scan_parts : {S V F : Type 0} → AdapterParts (Scan S V F) S (F × V)
-scan_parts =
-    record {
-      source = λ m. m.stream;
-      held = λ m. (m.f, m.state);
-      same = λ x y e d. λ i. record { stream = e i; f = (d i).0; state = (d i).1 };
-    }
+scan_parts = parts_of (λ m. m.stream) (λ m. (m.f, m.state)) (λ s h. record { stream = s; f = h.0; state = h.1 }) (λ x y p. p)

@@ -9,10 +9,9 @@ ghost use Rattle.lite_stream.specs.Inspect.{Inspects, ShowsItem, inspect_parts};
 ghost use Rattle.lite_stream.specs.Laws.Agreeing.{through_steady_over};
 ghost use Rattle.lite_stream.specs.Laws.Cutting.{cuts_relating};
 ghost use Rattle.lite_stream.specs.Laws.Fuse.{fuses_agreeing, fuses_relating};
-ghost use Rattle.lite_stream.specs.Laws.Matching.{copies_match, shows_match};
-ghost use Rattle.lite_stream.specs.Laws.Numbering.{numbers_agreeing};
+ghost use Rattle.lite_stream.specs.Laws.Matching.{copies_match, numbers_match, shows_match};
 ghost use Rattle.lite_stream.specs.Laws.Pointwise.{exchanges_keeping, exchanges_testing, exchanges_relating};
-ghost use Rattle.lite_stream.specs.Laws.Pointwise.{replaces_agreeing_over, replaces_answering, replaces_showing};
+ghost use Rattle.lite_stream.specs.Laws.Pointwise.{replaces_agreeing, replaces_answering, replaces_showing};
 ghost use Rattle.lite_stream.specs.Laws.Pointwise.{replaces_relating};
 ghost use Rattle.lite_stream.specs.Laws.Take.{takes_agreeing};
 ghost use Rattle.lite_stream.specs.Map.{Maps, map_parts};
@@ -36,7 +35,7 @@ impl<'a, T: Copy + 'a, S: SteadyStream<Item = &'a T>> SteadyStream for Copied<S>
     ghost alike = { λ x y. S.alike x.stream y.stream × ⊤ };
 
     ghost steady = { through_steady_over copied_parts S.same (Referred S.same) S.steady (replaces_relating CopiesItem).following
-        (replaces_agreeing_over CopiesItem S.same (Referred S.same) (copies_match S.same)) };
+        (replaces_agreeing CopiesItem S.same (Referred S.same) (copies_match S.same)) };
 }
 
 impl<S: SteadyStream> SteadyStream for Enumerate<S> {
@@ -49,7 +48,8 @@ impl<S: SteadyStream> SteadyStream for Enumerate<S> {
     ghost alike = { λ x y. S.alike x.stream y.stream × (y.i ≡ x.i) };
 
     ghost steady = { through_steady_over enumerate_parts S.same (Pairwise Sameness.equal S.same) S.steady
-        (replaces_relating Numbers).following (numbers_agreeing S.same) };
+        (replaces_relating Numbers).following
+        (replaces_agreeing Numbers S.same (Pairwise Sameness.equal S.same) (numbers_match S.same)) };
 }
 
 impl<S: SteadyStream> SteadyStream for Fuse<S> {

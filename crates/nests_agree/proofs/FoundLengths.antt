@@ -65,7 +65,7 @@ module _ {R F P : Type 0} {reads ample : Runs ReadMark R} (all : AllAmple reads 
       (λ p q z k. rejected_found z (tests p q z false k))
       x.predicate y.predicate h.ins i h.related none in
       let each = cuts_each is_none_left left_after NotRefused x.stream.n y.stream.n few.ins h.ins few.related kept in
-      let lines = exchanges_each (Always call) NotRefused NotRefused waiting_found end_found called
+      let lines = exchanges_each (Always call) NotRefused NotRefused (λ _. waiting_found) (λ _. end_found) called
       x.stream.stream.f y.stream.stream.f lengths.ins few.ins lengths.related each in
       let came = lines_ample all x.stream.stream.stream y.stream.stream.stream lengths.ins lines lengths.came in
       let measured : Maps (GivesLines ample ⊥) call x.stream.stream few.ins y.stream.stream = record {

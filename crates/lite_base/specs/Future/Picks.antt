@@ -1,8 +1,9 @@
 -- Two futures of which each poll asks one first, and the other only where that one is pending.
-use Rattle.std.specs.Prelude.{◌≡◌, List, [], ◌∷◌, Bool, true, false}
+use Rattle.std.specs.Prelude.{◌≡◌, List, [], ◌∷◌, Bool}
 use Rattle.futures.specs.declared.task.Poll.{Poll}
 use Rattle.futures.specs.declared.task.Poll.TheVariants.{Ready, Pending}
 use Rattle.lite_base.specs.Answers.{UpToValue}
+use Rattle.lite_base.specs.Rows.{Rows}
 use Rattle.lite_base.specs.Runs.{Runs}
 
 -- one row of two lists: where the first has a value that goes out alone, and else the second's answer; i' and j' are
@@ -15,10 +16,7 @@ PickRow (Pending ∷ i) (b ∷ j) c i' j' = (c ≡ b) × (i' ≡ i) × (j' ≡ j
 
 -- the two lists are read row by row, in the order that each row names: true, where the first stands first
 abbrev pub PickRows : {A : Type 0} (order : List Bool) (i j out : List (Poll A)) → Type 0
-PickRows [] i j out = (i ≡ []) × (j ≡ []) × (out ≡ [])
-PickRows (first ∷ order) i j [] = ⊥
-PickRows {A} (true ∷ order) i j (c ∷ out) = (i' j' : List (Poll A)) × PickRow i j c i' j' × PickRows order i' j' out
-PickRows {A} (false ∷ order) i j (c ∷ out) = (i' j' : List (Poll A)) × PickRow j i c j' i' × PickRows order i' j' out
+PickRows = Rows PickRow
 
 -- the two answered i and j, and what goes out of their rows is out, up to the first value
 pub record Picks {F G A : Type 0} (run_first : Runs (Poll A) F) (run_second : Runs (Poll A) G)

@@ -37,10 +37,6 @@ module _ {A : Type 0} where
 abbrev pub AgreesBy : {F A : Type 0} → (A → A → Type 0) → Runs (Poll A) F → F → F → Type 0
 AgreesBy {F} {A} same run x y = (l m : List (Poll A)) (v w : A) → Finishes run x l v → Finishes run y m w → same v w
 
--- one value
-abbrev pub Agrees : {F A : Type 0} → Runs (Poll A) F → F → F → Type 0
-Agrees = AgreesBy (λ v w. v ≡ w)
-
 pub alike_agrees : {F A : Type 0} {same : A → A → Type 0} (run : Runs (Poll A) F) (x y : F) → AlikeBy same run x y
     → AgreesBy same run x y
 alike_agrees {same} run x y e l m v w h k =
@@ -73,6 +69,12 @@ pub answer_items : {A : Type 0} (same : Sameness A) (x y : Option A) → SameAns
     → OptionBy (SameItem same) x y
 answer_items Sameness.equal x y e = equal_options x y e
 answer_items (Sameness.by same) x y e = e
+
+-- and back
+pub item_answers : {A : Type 0} (same : Sameness A) (x y : Option A) → OptionBy (SameItem same) x y
+    → SameAnswer same x y
+item_answers Sameness.equal x y e = options_equal x y e
+item_answers (Sameness.by same) x y e = e
 
 -- two ends are the same
 pub ends_same : {A : Type 0} (same : Sameness A) → SameAnswer same None None
@@ -116,27 +118,26 @@ pub made_same : {A B : Type 0} (same : Sameness A) (makes : A → B → Type 0)
 made_same Sameness.equal makes one x w y z e c d = one x y z c (subst (λ v. makes v z) (sym e) d)
 made_same (Sameness.by same) makes one x w y z e c d = (x, w, e, c, d)
 
-either_left : {A : Type 0} (same other : Sameness A) (x y : Option A) → SameAnswer same x y
+-- what is the same in one way is in either's
+either_by : {A : Type 0} (same other one : Sameness A)
+    → ((v w : A) → SameItem one v w → SameItem same v w ⊎ SameItem other v w) → (x y : Option A) → SameAnswer one x y
     → SameAnswer (Either same other) x y
-either_left Sameness.equal Sameness.equal x y e = e
-either_left same other x y e =
-    option_as (SameItem same) (λ v w. SameItem same v w ⊎ SameItem other v w) (λ v w d. inl d) x y
-    (answer_items same x y e)
-
-either_right : {A : Type 0} (same other : Sameness A) (x y : Option A) → SameAnswer other x y
-    → SameAnswer (Either same other) x y
-either_right Sameness.equal Sameness.equal x y e = e
-either_right same other x y e =
-    option_as (SameItem other) (λ v w. SameItem same v w ⊎ SameItem other v w) (λ v w d. inr d) x y
-    (answer_items other x y e)
+either_by Sameness.equal Sameness.equal one part x y e =
+    options_equal x y
+    (option_as (SameItem one) (λ v w. v ≡ w) (λ v w d. elim (part v w d) [ inl p ↦ p | inr p ↦ p ]) x y
+    (answer_items one x y e))
+either_by same other one part x y e =
+    option_as (SameItem one) (λ v w. SameItem same v w ⊎ SameItem other v w) part x y (answer_items one x y e)
 
 pub either_first : {A : Type 0} (same other : Sameness A) (l m : List (Option A)) → ComparableBy (SameAnswer same) l m
     → ComparableBy (SameAnswer (Either same other)) l m
-either_first same other = comparable_as (SameAnswer same) (SameAnswer (Either same other)) (either_left same other)
+either_first same other =
+    comparable_as (SameAnswer same) (SameAnswer (Either same other)) (either_by same other same (λ v w d. inl d))
 
 pub either_second : {A : Type 0} (same other : Sameness A) (l m : List (Option A)) → ComparableBy (SameAnswer other) l m
     → ComparableBy (SameAnswer (Either same other)) l m
-either_second same other = comparable_as (SameAnswer other) (SameAnswer (Either same other)) (either_right same other)
+either_second same other =
+    comparable_as (SameAnswer other) (SameAnswer (Either same other)) (either_by same other other (λ v w d. inr d))
 
 pub option_by : {A : Type 0} (same : A → A → Type 0) (x y : Option A) (u v : A) → OptionBy same x y → x ≡ Some u
     → y ≡ Some v → same u v

@@ -1,11 +1,11 @@
 -- What a falling rank gives.
 use Rattle.std.specs.Prelude.{◌≡◌, ℕ, zero, suc, ◌<◌, List, [], ◌∷◌, ◌++◌, length, Some, refl}
 use Rattle.std.proofs.Common.{inl, inr, sym, ap, subst, ◌∙◌, arith, length-append}
-use Rattle.futures.specs.declared.task.Poll.TheVariants.{Ready}
+use Rattle.futures.specs.declared.task.Poll.TheVariants.{Ready, Pending}
 use mathlib.Core.WellFounded.{Acc, WellFounded}
 use lib.Measure.{by_dom}
 use lib.WfN.{lt-wf_rel}
-use Rattle.lite_base.specs.Answers.{Answer, items}
+use Rattle.lite_base.specs.Answers.{Answer, Waiting, items}
 use Rattle.lite_base.specs.Ends.{Terminates}
 use Rattle.lite_base.specs.Laws.Ends.{Terminates-by, Terminates-where}
 use Rattle.lite_base.specs.Rank.{Below, AtMost, Lowers}
@@ -80,6 +80,11 @@ pub Lowers-below : {A : Type 0} (l : List (Answer A)) (xs ys : List ℕ) → Bel
 Lowers-below [] xs ys h = inr h
 Lowers-below (Ready (Some a) ∷ l) xs ys h = h
 Lowers-below (a ∷ l) xs ys h = Lowers-below l xs ys h
+
+pub waiting_lowers : {A : Type 0} (l : List (Answer A)) (xs ys : List ℕ) → Waiting l → AtMost xs ys → Lowers l xs ys
+waiting_lowers [] xs ys w h = h
+waiting_lowers (Pending ∷ l) xs ys w h = waiting_lowers l xs ys w h
+waiting_lowers (Ready b ∷ l) xs ys w h = absurd w
 
 none_below : (ys : List ℕ) → Below ys [] → Acc Below ys
 none_below [] h = absurd h

@@ -4,8 +4,7 @@ use Rattle.std.proofs.Common.{◌≡◌, ◌∙◌, Option, Some, None, inl, inr
 use Rattle.lite_base.specs.Alike.{OptionBy, Optional, SameAnswer, SameHeld, SameItem, Sameness}
 use Rattle.lite_base.specs.Calling.{Agree, AgreeFrom, AgreeKeeping, Keeping, Kin}
 use Rattle.lite_base.specs.Laws.Alike.{both_items, ends_same, held_same, optional_same, same_answer, same_held}
-use Rattle.lite_base.specs.Laws.Calling.{MatchesFrom, agree_from_matches, agree_matches, keeping_from, kin_matches}
-use Rattle.lite_base.specs.Laws.Calling.{matches_from}
+use Rattle.lite_base.specs.Laws.Calling.{MatchesFrom, agree_from_matches, keeping_from, keeping_matches, kin_matches}
 use Rattle.lite_base.specs.Runs.{Question}
 use Rattle.lite_consume.specs.Agreeing.{FoldSteadyLaws, SameDecision}
 use Rattle.lite_consume.specs.All.{alls}
@@ -183,11 +182,6 @@ module _ {T E : Type 0} where
 
 -- by functions that agree
 module _ {F A B : Type 0} (like : Sameness A) (call : Question F A (Option B)) where
-  keeping_matches : (code : Sameness A)
-      → MatchesFrom (SameItem code) (SameAnswer (Keeping code call)) call (AgreeKeeping code call)
-  keeping_matches Sameness.equal = matches_from call (agree_matches Equal call)
-  keeping_matches (Sameness.by same) = keeping_from same call
-
   -- what is there is not the same as None
   not_none : (t : Option B) → OptionBy (λ (_ _ : B). ⊤) None t → IsSome t → ⊥
   not_none None e h = cc h
@@ -199,13 +193,13 @@ module _ {F A B : Type 0} (like : Sameness A) (call : Question F A (Option B)) w
 
   find_map_asked : SameAsked (SameItem like) (SameItem (Optional (Keeping like call))) (finds_map call)
       (AgreeKeeping like call)
-  find_map_asked p k q l x w None None a e c d = (keeping_matches like p k q l x w None None a e c d).1
+  find_map_asked p k q l x w None None a e c d = (keeping_matches like call p k q l x w None None a e c d).1
   find_map_asked p k q l x w None (Some t) a e c d =
-      not_none t (both_items (Keeping like call) None t (keeping_matches like p k q l x w None t a e c d.1).0) d.0
+      not_none t (both_items (Keeping like call) None t (keeping_matches like call p k q l x w None t a e c d.1).0) d.0
   find_map_asked p k q l x w (Some r) None a e c d =
-      not_some r (both_items (Keeping like call) r None (keeping_matches like p k q l x w r None a e c.1 d).0) c.0
+      not_some r (both_items (Keeping like call) r None (keeping_matches like call p k q l x w r None a e c.1 d).0) c.0
   find_map_asked p k q l x w (Some r) (Some t) a e c d =
-      optional_same (Keeping like call) r t (keeping_matches like p k q l x w r t a e c.1 d.1).0
+      optional_same (Keeping like call) r t (keeping_matches like call p k q l x w r t a e c.1 d.1).0
 
   pub find_map_steady : Steady (SameItem like) (SameItem (Optional (Keeping like call))) (finds_map call)
       (AgreeKeeping like call)

@@ -1,16 +1,17 @@
 -- Laws of two streams of which each row asks one first.
-use Rattle.std.proofs.Common.{◌≡◌, ◌∙◌, ℕ, ◌+◌, List, [], ◌∷◌, ◌++◌, length, map, Bool, true, false, Some, None, inl}
+use Rattle.std.proofs.Common.{◌≡◌, ◌∙◌, ℕ, ◌+◌, List, [], ◌∷◌, ◌++◌, length, map, Bool, true, Some, None, inl}
 use Rattle.std.proofs.Common.{refl, ap, sym, subst, arith, length-append}
 use Rattle.futures.specs.declared.task.Poll.TheVariants.{Ready, Pending}
 use Rattle.lite_base.specs.Answers.{Answer, item, items}
 use Rattle.lite_base.specs.Calm.{CalmLaws, NoPending}
 use Rattle.lite_base.specs.Laws.Falling.{AtMost-both, AtMost-length, Below-after, Below-first, Lowers-at_most}
 use Rattle.lite_base.specs.Laws.Calm.{no_pending_join}
+use Rattle.lite_base.specs.Laws.Rows.{rows_by, rows_empty, rows_follow}
 use Rattle.lite_base.specs.Rank.{AtMost, Below, Lowers}
 use Rattle.lite_base.specs.Ranks.{Counting, Ranks}
 use Rattle.lite_base.specs.StreamLaws.{StreamLaws}
 use Rattle.lite_base.specs.Runs.{Hints, NoHint, Runs}
-use Rattle.lite_merge.specs.Merge.{MergeRow, MergeRows, Merges}
+use Rattle.lite_merge.specs.Merge.{MergeRow, MergeRows, Merges, beside_pending}
 use Rattle.lite_stream.specs.Fuse.{Fuses, fuse_parts}
 use Rattle.lite_stream.specs.Laws.Calming.{through_calm}
 use Rattle.lite_stream.specs.Laws.Fuse.{fuses_calming, fuses_relating}
@@ -33,19 +34,6 @@ module _ {A : Type 0} where
   row_more (Pending ∷ i) (b ∷ j) c i' j' k h r = (r.0, ap (λ l. l ++ k) r.1, ap (λ l. l ++ h) r.2)
   row_more i j c i' j' k h r = absurd r
 
-  rows_follow : (o p : List Bool) (i j k h l m : List (Answer A)) → MergeRows o i j l → MergeRows p k h m
-      → MergeRows (o ++ p) (i ++ k) (j ++ h) (l ++ m)
-  rows_follow [] p i j k h l m r q = rw (r.0, r.1, r.2) q
-  rows_follow (b ∷ o) p i j k h [] m r q = absurd r
-  rows_follow (true ∷ o) p i j k h (c ∷ l) m r q =
-      (r.0 ++ k, r.1 ++ h, row_more i j c r.0 r.1 k h r.2, rows_follow o p r.0 r.1 k h l m r.3 q)
-  rows_follow (false ∷ o) p i j k h (c ∷ l) m r q =
-      (r.0 ++ k, r.1 ++ h, row_more j i c r.1 r.0 h k r.2, rows_follow o p r.0 r.1 k h l m r.3 q)
-
-  rows_empty : (o : List Bool) (i j : List (Answer A)) → MergeRows o i j [] → (i ≡ []) × (j ≡ [])
-  rows_empty [] i j r = (r.0, r.1)
-  rows_empty (b ∷ o) i j r = absurd r
-
   -- where neither list has a Pending, no row has
   row_calm : (i j : List (Answer A)) (c : Answer A) (i' j' : List (Answer A)) → MergeRow i j c i' j' → NoPending i
       → NoPending j → NoPending (c ∷ []) × NoPending i' × NoPending j'
@@ -57,47 +45,45 @@ module _ {A : Type 0} where
 
   rows_calm : (o : List Bool) (i j out : List (Answer A)) → MergeRows o i j out → NoPending i → NoPending j
       → NoPending out
-  rows_calm [] i j out r p q = rw r.2 tt
-  rows_calm (b ∷ o) i j [] r p q = tt
-  rows_calm (true ∷ o) i j (c ∷ out) r p q =
-      let d = row_calm i j c r.0 r.1 r.2 p q in
-      no_pending_join (c ∷ []) out d.0 (rows_calm o r.0 r.1 out r.3 d.1 d.2)
-  rows_calm (false ∷ o) i j (c ∷ out) r p q =
-      let d = row_calm j i c r.1 r.0 r.2 q p in
-      no_pending_join (c ∷ []) out d.0 (rows_calm o r.0 r.1 out r.3 d.2 d.1)
+  rows_calm =
+      rows_by MergeRow (λ i j l. NoPending i → NoPending j → NoPending l) (λ p q. tt)
+      (λ i j c i' j' l r k p q. let d = row_calm i j c i' j' r p q in no_pending_join (c ∷ []) l d.0 (k d.1 d.2))
+      (λ i j c i' j' l r k p q. let d = row_calm j i c j' i' r q p in no_pending_join (c ∷ []) l d.0 (k d.2 d.1))
 
   -- ranks that the items of either lower
-  row_lowers : (zs ws xs us ys vs : List ℕ) (i j : List (Answer A)) (c : Answer A) (i' j' out : List (Answer A))
-      → (Below xs us → AtMost ys vs → Below zs ws) → (AtMost xs us → Below ys vs → Below zs ws)
-      → MergeRow i j c i' j' → (Lowers i' xs us → Lowers j' ys vs → Lowers out zs ws) → Lowers i xs us → Lowers j ys vs
-      → Lowers (c ∷ out) zs ws
-  row_lowers zs ws xs us ys vs (Ready (Some x) ∷ i) j c i' j' out one other r rest h k =
-      rw r.0 (one h (Lowers-at_most j ys vs k))
-  row_lowers zs ws xs us ys vs (Ready None ∷ i) (Pending ∷ j) c i' j' out one other r rest h k =
-      rw r.0 (rest (rw r.1 h) (rw r.2 k))
-  row_lowers zs ws xs us ys vs (Ready None ∷ i) (Ready None ∷ j) c i' j' out one other r rest h k =
-      rw r.0 (rest (rw r.1 h) (rw r.2 k))
-  row_lowers zs ws xs us ys vs (Ready None ∷ i) (Ready (Some y) ∷ j) c i' j' out one other r rest h k =
-      rw r.0 (other (Lowers-at_most i xs us h) k)
-  row_lowers zs ws xs us ys vs (Pending ∷ i) (Pending ∷ j) c i' j' out one other r rest h k =
-      rw r.0 (rest (rw r.1 h) (rw r.2 k))
-  row_lowers zs ws xs us ys vs (Pending ∷ i) (Ready None ∷ j) c i' j' out one other r rest h k =
-      rw r.0 (rest (rw r.1 h) (rw r.2 k))
-  row_lowers zs ws xs us ys vs (Pending ∷ i) (Ready (Some y) ∷ j) c i' j' out one other r rest h k =
-      rw r.0 (other (Lowers-at_most i xs us h) k)
-  row_lowers zs ws xs us ys vs i j c i' j' out one other r rest h k = absurd r
+  module _ (zs ws xs us ys vs : List ℕ) (one : Below xs us → AtMost ys vs → Below zs ws)
+      (other : AtMost xs us → Below ys vs → Below zs ws) where
+    beside_lowers : (b : Answer A) (out : List (Answer A)) → Lowers (b ∷ out) zs ws
+        → Lowers (beside_pending b ∷ out) zs ws
+    beside_lowers Pending out h = h
+    beside_lowers (Ready None) out h = h
+    beside_lowers (Ready (Some y)) out h = h
 
-  module _ (xs us ys vs : List ℕ) where
-    rows_lower : (o : List Bool) (i j out : List (Answer A)) → MergeRows o i j out → Lowers i xs us → Lowers j ys vs
-        → Lowers out (ys ++ xs) (vs ++ us)
-    rows_lower [] i j out r h k = rw r.2 (AtMost-both ys vs xs us (Lowers-at_most j ys vs k) (Lowers-at_most i xs us h))
-    rows_lower (b ∷ o) i j [] r h k = absurd r
-    rows_lower (true ∷ o) i j (c ∷ out) r h k =
-        row_lowers (ys ++ xs) (vs ++ us) xs us ys vs i j c r.0 r.1 out (first_below xs us ys vs)
-        (second_below xs us ys vs) r.2 (λ h' k'. rows_lower o r.0 r.1 out r.3 h' k') h k
-    rows_lower (false ∷ o) i j (c ∷ out) r h k =
-        row_lowers (ys ++ xs) (vs ++ us) ys vs xs us j i c r.1 r.0 out (λ b a. second_below xs us ys vs a b)
-        (λ a b. first_below xs us ys vs b a) r.2 (λ k' h'. rows_lower o r.0 r.1 out r.3 h' k') k h
+    asked_lowers : (b : Answer A) (j out : List (Answer A)) → AtMost xs us → (Lowers j ys vs → Lowers out zs ws)
+        → Lowers (b ∷ j) ys vs → Lowers (b ∷ out) zs ws
+    asked_lowers (Ready (Some y)) j out least rest k = other least k
+    asked_lowers b j out least rest k = rest k
+
+    row_lowers : (i j : List (Answer A)) (c : Answer A) (i' j' out : List (Answer A)) → MergeRow i j c i' j'
+        → (Lowers i' xs us → Lowers j' ys vs → Lowers out zs ws) → Lowers i xs us → Lowers j ys vs
+        → Lowers (c ∷ out) zs ws
+    row_lowers (Ready (Some x) ∷ i) j c i' j' out r rest h k = rw r.0 (one h (Lowers-at_most j ys vs k))
+    row_lowers (Ready None ∷ i) (b ∷ j) c i' j' out r rest h k =
+        rw r.0 (asked_lowers b j out (Lowers-at_most i xs us h) (λ k'. rest (rw r.1 h) (rw r.2 k')) k)
+    row_lowers (Pending ∷ i) (b ∷ j) c i' j' out r rest h k =
+        let asked = asked_lowers b j out (Lowers-at_most i xs us h) (λ k'. rest (rw r.1 h) (rw r.2 k')) k in
+        rw r.0 (beside_lowers b out asked)
+    row_lowers i j c i' j' out r rest h k = absurd r
+
+  rows_lower : (xs us ys vs : List ℕ) (o : List Bool) (i j out : List (Answer A)) → MergeRows o i j out
+      → Lowers i xs us → Lowers j ys vs → Lowers out (ys ++ xs) (vs ++ us)
+  rows_lower xs us ys vs =
+      rows_by MergeRow (λ i j l. Lowers i xs us → Lowers j ys vs → Lowers l (ys ++ xs) (vs ++ us))
+      (λ h k. AtMost-both ys vs xs us k h)
+      (row_lowers (ys ++ xs) (vs ++ us) xs us ys vs (first_below xs us ys vs) (second_below xs us ys vs))
+      (λ i j c i' j' l r rest h k. row_lowers (ys ++ xs) (vs ++ us) ys vs xs us
+      (λ b a. second_below xs us ys vs a b) (λ a b. first_below xs us ys vs b a) j i c j' i' l r
+      (λ k' h'. rest h' k') k h)
 
   -- in a row of an item where the first stands first, the second gave an item or nothing
   row_item : (i j : List (Answer A)) (y : A) (i' j' : List (Answer A)) (l s : List A) → MergeRow i j (item y) i' j'
@@ -151,7 +137,7 @@ module _ {S U A : Type 0} {run : Runs (Answer A) S} {run' : Runs (Answer A) U} {
 
   pub merges_stay : {o : List Bool} {x t : Fuse S} {y v : Fuse U} → Merges run run' o x y [] t v → (t ≡ x) × (v ≡ y)
   merges_stay {o} {x} {t} {y} {v} h =
-      let e = rows_empty o h.firsts h.seconds h.rows in (
+      let e = rows_empty MergeRow o h.firsts h.seconds h.rows in (
         (fused_laws s).stays x t (subst (λ l. Fuses run x l t) e.0 h.came),
         (fused_laws u).stays y v (subst (λ l. Fuses run' y l v) e.1 h.then_came),
       )
@@ -164,7 +150,7 @@ module _ {S U A : Type 0} {run : Runs (Answer A) S} {run' : Runs (Answer A) U} {
         seconds = h.seconds ++ k.seconds;
         came = (fused_laws s).follows x t t' h.firsts k.firsts h.came k.came;
         then_came = (fused_laws u).follows y v v' h.seconds k.seconds h.then_came k.then_came;
-        rows = rows_follow o p h.firsts h.seconds k.firsts k.seconds l m h.rows k.rows;
+        rows = rows_follow MergeRow row_more o p h.firsts h.seconds k.firsts k.seconds l m h.rows k.rows;
       }
 
 -- where both are calm

@@ -1,15 +1,15 @@
 -- Two streams whose items are paired, by what each of them answers.
-use Rattle.std.proofs.Common.{◌≡◌, ℕ, zero, suc, List, [], ◌∷◌, Option, Some, None, inl, inr, refl, ap}
+use Rattle.std.proofs.Common.{◌≡◌, ℕ, zero, suc, List, [], ◌∷◌, Option, Some, None, refl}
 use Rattle.futures.specs.declared.task.Poll.{Poll}
-use Rattle.futures.specs.declared.task.Poll.TheVariants.{Ready, Pending}
+use Rattle.futures.specs.declared.task.Poll.TheVariants.{Ready}
 use Rattle.lite_base.specs.Alike.{Pairwise, SameAnswer, SameHeld, SameItem, Sameness}
 use Rattle.lite_base.specs.Answers.{Answer, ComparableBy, strip}
 use Rattle.lite_base.specs.Laws.Alike.{both_items, comparable_nil, ends_same, held_same, item_same, pairs_same}
 use Rattle.lite_base.specs.Laws.Alike.{same_answer}
 use Rattle.lite_base.specs.Steady.{SteadyLawsBy}
 use Rattle.lite_base.specs.Runs.{Runs}
-use Rattle.lite_merge.specs.Laws.Zip.{zip_runs}
-use Rattle.lite_merge.specs.Zip.{Pairing, Pairs, WithHeld, Zips, pair_with, pendings}
+use Rattle.lite_merge.specs.Laws.Zip.{pairing_by, zip_runs}
+use Rattle.lite_merge.specs.Zip.{Pairing, Zips, pair_with, pendings}
 use Rattle.lite_merge.specs.declared.zip.Zip.{Zip}
 
 strip_pendings : {C : Type 0} (n : ℕ) (l : List (Poll C)) → strip (pendings n l) ≡ strip l
@@ -42,27 +42,14 @@ module _ {A B : Type 0} where
   Matching None is js out = Matched is js out
   Matching (Some x) is js out = Meets x (Matched is) js out
 
-  met : (x : A) (i : List (Answer A)) (j : List (Answer B)) (l : List (Answer (A × B))) (g : Option A)
-      → ((more : List (Answer B)) (rest : List (Answer (A × B))) → Pairs i more rest g
-      → Matched (strip i) (strip more) (strip rest)) → WithHeld x i (Pairs i) j l g
-      → Meets x (Matched (strip i)) (strip j) (strip l)
-  met x i j l g rest (inl c) =
-      rw (c.2, c.3, strip_pendings c.0 [], strip_pendings c.0 []) refl
-  met x i j l g rest (inr c) =
-      rw (c.4, strip_pendings, c.5, strip_pendings, strip_pair x c.1 c.3) (strip c.3, refl, rest c.2 c.3 c.6)
-
-  matched : (g : Option A) (i : List (Answer A)) (j : List (Answer B)) (l : List (Answer (A × B))) → Pairs i j l g
-      → Matched (strip i) (strip j) (strip l)
-  matched g [] j l c = ap strip c.1
-  matched g (a ∷ i) j [] c = absurd c
-  matched g (Pending ∷ i) j (b ∷ l) c = rw c.0 (matched g i j l c.1)
-  matched g (Ready None ∷ i) j (b ∷ l) c = rw c.0 (strip l, refl, matched g i j l c.1)
-  matched g (Ready (Some x) ∷ i) j (b ∷ l) c = met x i j (b ∷ l) g (λ more rest e. matched g i more rest e) c
-
   matching : (f g : Option A) (i : List (Answer A)) (j : List (Answer B)) (l : List (Answer (A × B)))
       → Pairing f i j l g → Matching f (strip i) (strip j) (strip l)
-  matching None g i j l c = matched g i j l c
-  matching (Some x) g i j l c = met x i j l g (λ more rest e. matched g i more rest e) c
+  matching f g =
+      pairing_by g (λ f i j l. Matching f (strip i) (strip j) (strip l)) (λ e. refl)
+      (λ x n e. rw (strip_pendings {C = Option B} n [], strip_pendings {C = Option (A × B)} n []) refl)
+      (λ x i n b j l r. rw (strip_pendings n (Ready b ∷ j), strip_pendings n (pair_with x b ∷ l), strip_pair x b l)
+      (strip l, refl, r))
+      (λ i j l r. r) (λ i j l r. (strip l, refl, r)) (λ x i j b l r. r) f
 
   module _ (same : Sameness A) (other : Sameness B) where
     abbrev Out : List (Option (A × B)) → List (Option (A × B)) → Type 0

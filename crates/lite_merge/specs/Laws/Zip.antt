@@ -1,13 +1,14 @@
 -- Laws of two streams whose items are paired.
-use Rattle.std.proofs.Common.{◌≡◌, ◌∙◌, ℕ, zero, suc, ◌+◌, ◌≤◌, List, [], ◌∷◌, ◌++◌, length, Option, Some, None, inl}
-use Rattle.std.proofs.Common.{inr, refl, ap, subst, arith, length-append}
+use Rattle.std.proofs.Common.{◌≡◌, ◌∙◌, ℕ, zero, suc, ◌+◌, ◌≤◌, List, [], ◌∷◌, ◌++◌, Option, Some, None, inl, inr, refl}
+use Rattle.std.proofs.Common.{ap, subst, arith}
+use Rattle.std.specs.List.{AllByRecursion}
 use Rattle.futures.specs.declared.task.Poll.{Poll}
 use Rattle.futures.specs.declared.task.Poll.TheVariants.{Ready, Pending}
-use Rattle.lite_base.specs.Answers.{Answer, item, items}
+use Rattle.lite_base.specs.Answers.{Answer, end, item, items}
 use Rattle.lite_base.specs.Calm.{CalmLaws, waits}
-use Rattle.lite_base.specs.Laws.Falling.{AtMost-both, Below-after, Below-first, Lowers-at_most, Lowers-below}
-use Rattle.lite_base.specs.Laws.Calm.{none_no_pending, no_pending_none}
+use Rattle.lite_base.specs.Laws.Falling.{Lowers-at_most, Lowers-below}
 use Rattle.lite_base.specs.Laws.Hint.{same_hint}
+use Rattle.lite_base.specs.Laws.Items.{IsItem, items_each}
 use Rattle.lite_base.specs.Rank.{AtMost, Below, Lowers}
 use Rattle.lite_base.specs.Ranks.{Counting, Ranks, count_held, held_rank}
 use Rattle.lite_base.specs.StreamLaws.{RunLaws, StreamLaws}
@@ -15,7 +16,8 @@ use Rattle.lite_base.specs.Laws.StreamLaws.{laws_of, runs_of}
 use Rattle.lite_base.specs.Runs.{Hints, NoHint, Runs}
 use Rattle.lite_merge.specs.Zip.{Pairing, Pairs, WithHeld, Zips, pair_with, pendings, zip_ranks}
 use Rattle.lite_merge.specs.declared.zip.Zip.{Zip}
-use Rattle.lite_stream.specs.Laws.Lower.{at_most_below}
+use Rattle.lite_stream.specs.Laws.Calming.{calm_two}
+use Rattle.lite_stream.specs.Laws.Held.{held_falls, held_first, held_less, held_level, held_sized}
 
 module _ {C : Type 0} where
   pendings_join : (n : ℕ) (l m : List (Poll C)) → pendings n l ++ m ≡ pendings n (l ++ m)
@@ -42,10 +44,10 @@ module _ {C : Type 0} where
   not_items (suc n) y l e = cc e
 
   -- no Pending stands among items
-  items_rest : (n : ℕ) (y : C) (l : List C) (z : Answer C) (r : List (Answer C)) → items (y ∷ l) ≡ pendings n (z ∷ r)
-      → r ≡ items l
-  items_rest zero y l z r e = cc e
-  items_rest (suc n) y l z r e = absurd (cc e)
+  items_rest : (n : ℕ) (z : Answer C) (r : List (Answer C)) → AllByRecursion IsItem (pendings n (z ∷ r))
+      → AllByRecursion IsItem r
+  items_rest zero z r h = h.1
+  items_rest (suc n) z r h = absurd (let e = h.0.1 in cc)
 
 pendings_lower : (C : Type 0) (n : ℕ) (xs ys : List ℕ) → AtMost xs ys → Lowers {A = C} (pendings n []) xs ys
 pendings_lower C zero xs ys h = h
@@ -55,69 +57,78 @@ none_pending : {C D : Type 0} (n : ℕ) → [] ≡ pendings {A = C} n [] → pen
 none_pending zero e = refl
 none_pending (suc n) e = absurd (cc e)
 
--- an item that is held counts in the last place
-held_below : {A : Type 0} (xs us : List ℕ) (x : A) → AtMost xs us
-    → Below (held_rank {V = A} xs None) (held_rank us (Some x))
-held_below xs us x h = Below-after xs us (0 ∷ []) (1 ∷ []) h (inl (omega arith, refl))
-
 pairing_starts : {A : Type 0} (B : Type 0) (f : Option A) → Pairing {B = B} f [] [] [] f
 pairing_starts B None = (refl, refl, refl)
 pairing_starts B (Some x) = inl (0, refl, refl, refl, refl)
 
+-- by induction on what comes in: of nothing; of what is held, to the last or until it is paired; of each answer
+module _ {A B : Type 0} (g : Option A) (P : Option A → List (Answer A) → List (Answer B) → List (Answer (A × B)) → Type 0)
+    (nothing : g ≡ None → P None [] [] [])
+    (still : (x : A) (n : ℕ) → g ≡ Some x → P (Some x) [] (pendings n []) (pendings n []))
+    (paired : (x : A) (i : List (Answer A)) (n : ℕ) (b : Option B) (j : List (Answer B)) (l : List (Answer (A × B)))
+    → P None i j l → P (Some x) i (pendings n (Ready b ∷ j)) (pendings n (pair_with x b ∷ l)))
+    (pends : (i : List (Answer A)) (j : List (Answer B)) (l : List (Answer (A × B))) → P None i j l
+    → P None (Pending ∷ i) j (Pending ∷ l))
+    (ended : (i : List (Answer A)) (j : List (Answer B)) (l : List (Answer (A × B))) → P None i j l
+    → P None (end ∷ i) j (end ∷ l))
+    (taken : (x : A) (i : List (Answer A)) (j : List (Answer B)) (b : Answer (A × B)) (l : List (Answer (A × B)))
+    → P (Some x) i j (b ∷ l) → P None (item x ∷ i) j (b ∷ l)) where
+  held_by : (x : A) (i : List (Answer A)) (j : List (Answer B)) (l : List (Answer (A × B)))
+      → ((more : List (Answer B)) (rest : List (Answer (A × B))) → Pairs i more rest g → P None i more rest)
+      → Pairing (Some x) i j l g → P (Some x) i j l
+  held_by x i j l rest (inl c) = rw (c.1, c.2, c.3) (still x c.0 c.4)
+  held_by x i j l rest (inr c) = rw (c.4, c.5) (paired x i c.0 c.1 c.2 c.3 (rest c.2 c.3 c.6))
+
+  pairs_by : (i : List (Answer A)) (j : List (Answer B)) (l : List (Answer (A × B))) → Pairs i j l g → P None i j l
+  pairs_by [] j l c = rw (c.0, c.1) (nothing c.2)
+  pairs_by (a ∷ i) j [] c = absurd c
+  pairs_by (Pending ∷ i) j (b ∷ l) c = rw c.0 (pends i j l (pairs_by i j l c.1))
+  pairs_by (Ready None ∷ i) j (b ∷ l) c = rw c.0 (ended i j l (pairs_by i j l c.1))
+  pairs_by (Ready (Some x) ∷ i) j (b ∷ l) c = taken x i j b l (held_by x i j (b ∷ l) (λ m r e. pairs_by i m r e) c)
+
+  pub pairing_by : (f : Option A) (i : List (Answer A)) (j : List (Answer B)) (l : List (Answer (A × B)))
+      → Pairing f i j l g → P f i j l
+  pairing_by None i j l c = pairs_by i j l c
+  pairing_by (Some x) i j l c = held_by x i j l (λ m r e. pairs_by i m r e) c
+
 module _ {A B : Type 0} where
   -- what is held may wait in two parts
-  begun : (x : A) (k : List (Answer A)) (n : ℕ) (j s : List (Answer B)) (l m : List (Answer (A × B))) (h : Option A)
-      → j ≡ pendings n [] → l ≡ pendings n [] → WithHeld x k (Pairs k) s m h
-      → WithHeld x k (Pairs k) (j ++ s) (l ++ m) h
-  begun x k n j s l m h d e (inl c) =
+  begun : (x : A) (k : List (Answer A)) (n : ℕ) (s : List (Answer B)) (m : List (Answer (A × B))) (h : Option A)
+      → Pairing (Some x) k s m h → Pairing (Some x) k (pendings n [] ++ s) (pendings n [] ++ m) h
+  begun x k n s m h (inl c) =
       inl (
         n + c.0,
         c.1,
-        rw (d, c.2, pendings_join, pendings_more) refl,
-        rw (e, c.3, pendings_join, pendings_more) refl,
+        rw (c.2, pendings_join, pendings_more) refl,
+        rw (c.3, pendings_join, pendings_more) refl,
         c.4,
       )
-  begun x k n j s l m h d e (inr c) =
+  begun x k n s m h (inr c) =
       inr (
         n + c.0,
         c.1,
         c.2,
         c.3,
-        rw (d, c.4, pendings_join, pendings_more) refl,
-        rw (e, c.5, pendings_join, pendings_more) refl,
+        rw (c.4, pendings_join, pendings_more) refl,
+        rw (c.5, pendings_join, pendings_more) refl,
         c.6,
       )
 
-  goes_on : (x : A) (i k : List (Answer A)) (j s : List (Answer B)) (l m : List (Answer (A × B))) (g h : Option A)
-      → ((more : List (Answer B)) (rest : List (Answer (A × B))) → Pairs i more rest g
-      → Pairs (i ++ k) (more ++ s) (rest ++ m) h)
-      → WithHeld x i (Pairs i) j l g → Pairing g k s m h → WithHeld x (i ++ k) (Pairs (i ++ k)) (j ++ s) (l ++ m) h
-  goes_on x i k j s l m g h rest (inl c) d =
-      rw c.1 (begun x k c.0 j s l m h c.2 c.3 (subst (λ o. Pairing o k s m h) c.4 d))
-  goes_on x i k j s l m g h rest (inr c) d =
-      inr (
-        c.0,
-        c.1,
-        c.2 ++ s,
-        c.3 ++ m,
-        rw (c.4, pendings_join) refl,
-        rw (c.5, pendings_join) refl,
-        rest c.2 c.3 c.6,
-      )
-
-  pairs_follow : (g h : Option A) (i k : List (Answer A)) (j s : List (Answer B)) (l m : List (Answer (A × B)))
-      → Pairs i j l g → Pairing g k s m h → Pairs (i ++ k) (j ++ s) (l ++ m) h
-  pairs_follow g h [] k j s l m c d = rw (c.0, c.1) (subst (λ o. Pairing o k s m h) c.2 d)
-  pairs_follow g h (a ∷ i) k j s [] m c d = absurd c
-  pairs_follow g h (Ready (Some x) ∷ i) k j s (b ∷ l) m c d =
-      goes_on x i k j s (b ∷ l) m g h (λ more rest e. pairs_follow g h i k more s rest m e d) c d
-  pairs_follow g h (a ∷ i) k j s (b ∷ l) m c d = (c.0, pairs_follow g h i k j s l m c.1 d)
-
   pairing_follow : (f g h : Option A) (i k : List (Answer A)) (j s : List (Answer B)) (l m : List (Answer (A × B)))
       → Pairing f i j l g → Pairing g k s m h → Pairing f (i ++ k) (j ++ s) (l ++ m) h
-  pairing_follow None g h i k j s l m c d = pairs_follow g h i k j s l m c d
-  pairing_follow (Some x) g h i k j s l m c d =
-      goes_on x i k j s l m g h (λ more rest e. pairs_follow g h i k more s rest m e d) c d
+  pairing_follow f g h i k j s l m c d =
+      pairing_by g (λ f i j l. Pairing f (i ++ k) (j ++ s) (l ++ m) h) (λ e. subst (λ o. Pairing o k s m h) e d)
+      (λ x n e. begun x k n s m h (subst (λ o. Pairing o k s m h) e d))
+      (λ x i n b j l r. inr (
+        n,
+        b,
+        j ++ s,
+        l ++ m,
+        pendings_join n (Ready b ∷ j) s,
+        pendings_join n (pair_with x b ∷ l) m,
+        r,
+      ))
+      (λ i j l r. (refl, r)) (λ i j l r. (refl, r)) (λ x i j b l r. r) f i j l c
 
   pairing_empty : (f g : Option A) (i : List (Answer A)) (j : List (Answer B)) → Pairing f i j [] g → (i ≡ [])
       × (j ≡ []) × (g ≡ f)
@@ -131,58 +142,38 @@ module _ {A B : Type 0} where
 
   -- ranks
 
-  pairs_lowers : (g : Option A) (i : List (Answer A)) (j : List (Answer B)) (l : List (Answer (A × B))) (xs us : List ℕ)
-      → Pairs i j l g → Lowers i xs us → Lowers l (held_rank xs g) (held_rank {V = A} us None)
-  pairs_lowers g [] j l xs us c h = rw (c.1, c.2) (AtMost-both xs us (0 ∷ []) (0 ∷ []) h (inl refl))
-  pairs_lowers g (a ∷ i) j [] xs us c h = absurd c
-  pairs_lowers g (Ready (Some x) ∷ i) j (b ∷ l) xs us c h =
-      Lowers-below (b ∷ l) (held_rank xs g) (held_rank {V = A} us None)
-      (Below-first xs us (count_held g ∷ []) (0 ∷ []) h refl)
-  pairs_lowers g (a ∷ i) j (b ∷ l) xs us c h = rw c.0 (pairs_lowers g i j l xs us c.1 h)
-
   pairing_lowers : (f g : Option A) (i : List (Answer A)) (j : List (Answer B)) (l : List (Answer (A × B)))
       (xs us : List ℕ) → Pairing f i j l g → Lowers i xs us → Lowers l (held_rank xs g) (held_rank us f)
-  pairing_lowers None g i j l xs us c h = pairs_lowers g i j l xs us c h
-  pairing_lowers (Some x) g i j l xs us (inl c) h =
-      rw (c.3, c.4)
-      (pendings_lower (A × B) c.0 (held_rank xs (Some x)) (held_rank us (Some x))
-      (AtMost-both xs us (1 ∷ []) (1 ∷ []) (subst (λ k. Lowers k xs us) c.1 h) (inl refl)))
-  pairing_lowers (Some x) g i j l xs us (inr c) h =
-      let low = Lowers-at_most c.3 (held_rank xs g) (held_rank {V = A} us None)
-      (pairs_lowers g i c.2 c.3 xs us c.6 h) in
-      Lowers-below l (held_rank xs g) (held_rank us (Some x))
-      (at_most_below (held_rank xs g) (held_rank {V = A} us None) (held_rank us (Some x)) low
-      (held_below us us x (inl refl)))
+  pairing_lowers f g i j l xs us =
+      pairing_by g (λ f i j l. Lowers i xs us → Lowers l (held_rank xs g) (held_rank us f))
+      (λ e h. held_level xs us None g h (ap count_held e))
+      (λ x n e h. pendings_lower (A × B) n _ _ (held_level xs us (Some x) g h (ap count_held e)))
+      (λ x i n b j l r h. Lowers-below (pendings n (pair_with x b ∷ l)) _ _
+      (held_less _ us x (Lowers-at_most l _ _ (r h))))
+      (λ i j l r. r) (λ i j l r. r) (λ x i j b l r h. Lowers-below (b ∷ l) _ _ (held_first xs us g None h)) f i j l
 
   -- where items came out, only items came in
-  came_items : (g : Option A) (i : List (Answer A)) (j : List (Answer B)) (l : List (A × B)) → Pairs i j (items l) g
-      → (before : List A) × (i ≡ items before)
-  came_items g [] j l c = ([], refl)
-  came_items g (a ∷ i) j [] c = absurd c
-  came_items g (Ready (Some x) ∷ i) j (y ∷ l) (inl c) = (x ∷ [], ap (λ k. item x ∷ k) c.1)
-  came_items g (Ready (Some x) ∷ i) j (y ∷ l) (inr c) =
-      let e = came_items g i c.2 l (subst (λ k. Pairs i c.2 k g) (items_rest c.0 y l (pair_with x c.1) c.3 c.5) c.6) in
-      (x ∷ e.0, ap (λ k. item x ∷ k) e.1)
-  came_items g (a ∷ i) j (y ∷ l) c = absurd (cc c.0)
+  pairing_items : (f g : Option A) (i : List (Answer A)) (j : List (Answer B)) (l : List (Answer (A × B)))
+      → Pairing f i j l g → AllByRecursion IsItem l → AllByRecursion IsItem i
+  pairing_items f g =
+      pairing_by g (λ f i j l. AllByRecursion IsItem l → AllByRecursion IsItem i) (λ e h. tt) (λ x n e h. tt)
+      (λ x i n b j l r h. r (items_rest n (pair_with x b) l h)) (λ i j l r h. absurd (let e = h.0.1 in cc))
+      (λ i j l r h. absurd (let e = h.0.1 in cc)) (λ x i j b l r h. ((x, refl), r h)) f
+
+  -- and where nothing came in, they came of what was held
+  alone : (f g : Option A) (j : List (Answer B)) (y : A × B) (l : List (A × B)) → Pairing f [] j (items (y ∷ l)) g
+      → (g ≡ None) × (v : A) × (f ≡ Some v)
+  alone None g j y l c = absurd (let e = c.1 in cc)
+  alone (Some x) g j y l (inl c) = absurd (not_items c.0 y l c.3)
+  alone (Some x) g j y l (inr c) = (c.6.2, x, refl)
 
   pairing_falls : (f g : Option A) (i : List (Answer A)) (j : List (Answer B)) (y : A × B) (l : List (A × B))
       (xs us : List ℕ)
       → ((a : A) (before : List A) → i ≡ items (a ∷ before) → Below xs us) → (i ≡ [] → xs ≡ us)
       → Pairing f i j (items (y ∷ l)) g → Below (held_rank xs g) (held_rank us f)
-  pairing_falls None g i j y l xs us falls same c = at_start (came_items g i j (y ∷ l) c)
-    where
-      at_start : (before : List A) × (i ≡ items before) → Below (held_rank xs g) (held_rank {V = A} us None)
-      at_start ([], e) = absurd (let d = (subst (λ k. Pairs k j (items (y ∷ l)) g) e c).1 in cc d)
-      at_start (x ∷ before, e) = Below-first xs us (count_held g ∷ []) (0 ∷ []) (falls x before e) refl
-  pairing_falls (Some x) g i j y l xs us falls same (inl c) = absurd (not_items c.0 y l c.3)
-  pairing_falls (Some x) g i j y l xs us falls same (inr c) =
-      let c' = subst (λ k. Pairs i c.2 k g) (items_rest c.0 y l (pair_with x c.1) c.3 c.5) c.6 in
-      at_start c' (came_items g i c.2 l c')
-    where
-      at_start : Pairs i c.2 (items l) g → (before : List A) × (i ≡ items before)
-          → Below (held_rank xs g) (held_rank us (Some x))
-      at_start c' ([], e) = rw ((subst (λ k. Pairs k c.2 (items l) g) e c').2) (held_below xs us x (inl (same e)))
-      at_start c' (z ∷ before, e) = Below-first xs us (count_held g ∷ []) (1 ∷ []) (falls z before e) refl
+  pairing_falls f g i j y l xs us falls same c =
+      held_falls i xs us g f falls same (λ e. alone f g j y l (subst (λ k. Pairing f k j (items (y ∷ l)) g) e c))
+      (pairing_items f g i j (items (y ∷ l)) c (items_each (y ∷ l)))
 
   -- no more Pendings go out than came in
 
@@ -190,39 +181,15 @@ module _ {A B : Type 0} where
   pair_no_pending x None l = refl
   pair_no_pending x (Some y) l = refl
 
-  held_waits : (x : A) (i : List (Answer A)) (follows : List (Answer B) → List (Answer (A × B)) → Option A → Type 0)
-      (j : List (Answer B)) (l : List (Answer (A × B))) (g : Option A)
-      → ((more : List (Answer B)) (rest : List (Answer (A × B))) → follows more rest g
-      → waits rest ≤ waits i + waits more) → WithHeld x i follows j l g → waits l ≤ waits i + waits j
-  held_waits x i follows j l g rest (inl c) =
-      rw (c.2, c.3) (omega (arith, waits_pendings {C = Option B} c.0 [], waits_pendings {C = Option (A × B)} c.0 []))
-  held_waits x i follows j l g rest (inr c) =
-      let fewer = rest c.2 c.3 c.6 in
-      rw (c.4, c.5)
-      (omega (
-        arith,
-        fewer,
-        waits_pendings c.0 (Ready c.1 ∷ c.2),
-        waits_pendings c.0 (pair_with x c.1 ∷ c.3),
-        pair_no_pending x c.1 c.3,
-      ))
-
-  pairs_waits : (g : Option A) (i : List (Answer A)) (j : List (Answer B)) (l : List (Answer (A × B))) → Pairs i j l g
-      → waits l ≤ waits i + waits j
-  pairs_waits g [] j l c = rw c.1 (omega arith)
-  pairs_waits g (a ∷ i) j [] c = absurd c
-  pairs_waits g (Pending ∷ i) j (b ∷ l) c = let e = pairs_waits g i j l c.1 in rw c.0 (omega (arith, e))
-  pairs_waits g (Ready None ∷ i) j (b ∷ l) c = rw c.0 (pairs_waits g i j l c.1)
-  pairs_waits g (Ready (Some x) ∷ i) j (b ∷ l) c =
-      held_waits x i (Pairs i) j (b ∷ l) g (λ more rest e. pairs_waits g i more rest e) c
-
   pairing_waits : (f g : Option A) (i : List (Answer A)) (j : List (Answer B)) (l : List (Answer (A × B)))
       → Pairing f i j l g → waits l ≤ waits i + waits j
-  pairing_waits None g i j l c = pairs_waits g i j l c
-  pairing_waits (Some x) g i j l c = held_waits x i (Pairs i) j l g (λ more rest e. pairs_waits g i more rest e) c
-
-held_sized : {A : Type 0} (xs : List ℕ) (held : Option A) {n : ℕ} → length xs ≡ n → length (held_rank xs held) ≡ n + 1
-held_sized xs held e = length-append xs (count_held held ∷ []) ∙ ap (λ k. k + 1) e
+  pairing_waits f g =
+      pairing_by g (λ f i j l. waits l ≤ waits i + waits j) (λ e. omega arith)
+      (λ x n e. omega (arith, waits_pendings {C = Option B} n [], waits_pendings {C = Option (A × B)} n []))
+      (λ x i n b j l r.
+      let out = waits_pendings n (pair_with x b ∷ l) in
+      omega (arith, r, waits_pendings n (Ready b ∷ j), out, pair_no_pending x b l))
+      (λ i j l r. omega (arith, r)) (λ i j l r. r) (λ x i j b l r. r) f
 
 module _ {S U A B : Type 0} {run : Runs (Answer A) S} {run' : Runs (Answer B) U} where
   zips_stay : ((x y : S) → run x [] y → y ≡ x) → ((x y : U) → run' x [] y → y ≡ x) → (x y : Zip S U A)
@@ -278,12 +245,7 @@ module _ {S U A B : Type 0} {run : Runs (Answer A) S} {run' : Runs (Answer B) U}
   pub zip_calm : {is_calm : S → Type 0} {is_calm' : U → Type 0} → CalmLaws run is_calm → CalmLaws run' is_calm'
       → CalmLaws (Zips run run') (λ x. is_calm x.first × is_calm' x.second)
   zip_calm s u =
-      record {
-        no_pending = λ x y l k h.
-            let fewer = pairing_waits x.item_slot y.item_slot h.firsts h.seconds l h.paired in
-            let first = no_pending_none h.firsts (s.no_pending x.first y.first h.firsts k.0 h.came) in
-            let second = no_pending_none h.seconds (u.no_pending x.second y.second h.seconds k.1 h.then_came) in
-            none_no_pending l (omega (arith, fewer, first, second));
-        calm_on = λ x y l k h.
-            (s.calm_on x.first y.first h.firsts k.0 h.came, u.calm_on x.second y.second h.seconds k.1 h.then_came);
-      }
+      calm_two (λ x. x.first) (λ x. x.second) s u
+      (λ x y l h.
+      let fewer = pairing_waits x.item_slot y.item_slot h.firsts h.seconds l h.paired in
+      (h.firsts, h.seconds, h.came, h.then_came, fewer))

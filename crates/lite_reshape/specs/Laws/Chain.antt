@@ -21,7 +21,7 @@ use Rattle.lite_reshape.specs.declared.chain.Chain.{Chain}
 use Rattle.lite_reshape.specs.declared.chain.Part.TheVariants.{First, Second, Done}
 use Rattle.lite_reshape.specs.declared.chain.Part.{Part}
 use Rattle.lite_stream.specs.Cutting.{Cuts}
-use Rattle.lite_stream.specs.Laws.Cutting.{cuts_relating}
+use Rattle.lite_stream.specs.Laws.Cutting.{cuts_relating, cuts_steps}
 use Rattle.lite_stream.specs.Laws.Lower.{at_most_below, lowers_after}
 
 zeros_length : (xs : List ℕ) → length (zeros xs) ≡ length xs
@@ -58,9 +58,9 @@ module _ {A : Type 0} where
   after_not s (Ready (Some x)) n e = n e
 
   not_first : (s g : Part) (j l : List (Answer A)) → Cuts is_done second_after s j l g → (s ≡ First → ⊥) → g ≡ First → ⊥
-  not_first s g j [] r n e = n (sym r.1 ∙ e)
-  not_first s g j (b ∷ l) (inl r) n e = not_first s g j l r.2 n e
-  not_first s g j (b ∷ l) (inr r) n e = not_first (second_after b s) g r.1 l r.3 (after_not s b n) e
+  not_first s g j l r n =
+      cuts_steps is_done second_after g (λ f i o. (f ≡ First → ⊥) → g ≡ First → ⊥) (λ n. n) (λ f i o d k. k)
+      (λ f b i o d k n. k (after_not f b n)) s j l r n
 
   later : (s g h : Part) (i j k l m : List (Answer A)) → (s ≡ First → ⊥) → Cuts is_done second_after s j l g
       → Joins g i k m h
@@ -120,9 +120,9 @@ module _ {A : Type 0} where
   -- after the second's end
   done_lowers : (g : Part) (j l : List (Answer A)) (us vs : List ℕ) → AtMost us vs
       → Cuts is_done second_after Done j l g → (g ≡ Done) × Lowers l us vs
-  done_lowers g j [] us vs h r = (r.1, h)
-  done_lowers g j (b ∷ l) us vs h (inl r) = let e = done_lowers g j l us vs h r.2 in (e.0, rw r.1 e.1)
-  done_lowers g j (b ∷ l) us vs h (inr r) = absurd (r.0 refl)
+  done_lowers g j l us vs h r =
+      cuts_steps is_done second_after g (λ f i o. f ≡ Done → (g ≡ Done) × Lowers o us vs) (λ e. (e, h)) (λ f i o d k. k)
+      (λ f b i o n k e. absurd (n e)) Done j l r refl
 
   second_lowers : (g : Part) (j l : List (Answer A)) (xs ys : List ℕ) → Cuts is_done second_after Second j l g
       → Lowers j xs ys → Lowers l (second_rank g xs) ys
@@ -210,62 +210,6 @@ joins_start A First = inl (refl, refl, refl, refl)
 joins_start A Second = (refl, (refl, refl))
 joins_start A Done = (refl, (refl, refl))
 
-module _ {S U A : Type 0} (run : Runs (Answer A) S) (run' : Runs (Answer A) U) where
-  chains_rest : ((x : S) → run x [] x) → ((x : U) → run' x [] x) → (x : Chain S U) → Chains run run' x [] x
-  chains_rest rests rests' x =
-      record {
-        firsts = [];
-        seconds = [];
-        came = rests x.first;
-        then_came = rests' x.second;
-        joined = joins_start A x.part;
-      }
-
-  chains_stay : ((x y : S) → run x [] y → y ≡ x) → ((x y : U) → run' x [] y → y ≡ x) → (x y : Chain S U)
-      → Chains run run' x [] y → y ≡ x
-  chains_stay stays stays' x y h =
-      let e = joins_stay x.part y.part h.firsts h.seconds h.joined in
-      let same = stays x.first y.first (subst (λ l. run x.first l y.first) e.0 h.came) in
-      let same' = stays' x.second y.second (subst (λ l. run' x.second l y.second) e.1 h.then_came) in
-      λ i. record { first = same i; second = same' i; part = e.2 i }
-
-  chains_follow : ((x y z : S) (l m : List (Answer A)) → run x l y → run y m z → run x (l ++ m) z)
-      → ((x y z : U) (l m : List (Answer A)) → run' x l y → run' y m z → run' x (l ++ m) z)
-      → (x y z : Chain S U) (l m : List (Answer A)) → Chains run run' x l y → Chains run run' y m z
-      → Chains run run' x (l ++ m) z
-  chains_follow follows follows' x y z l m a b =
-      record {
-        firsts = a.firsts ++ b.firsts;
-        seconds = a.seconds ++ b.seconds;
-        came = follows x.first y.first z.first a.firsts b.firsts a.came b.came;
-        then_came = follows' x.second y.second z.second a.seconds b.seconds a.then_came b.then_came;
-        joined = joins_follow x.part y.part z.part a.firsts b.firsts a.seconds b.seconds l m a.joined b.joined;
-      }
-
-  module _ (rank : S → List ℕ) (rank' : U → List ℕ) where
-    chains_falls : (x y : Chain S U) (a : A) (more : List A)
-        → ((b : A) (before : List A) → run x.first (items (b ∷ before)) y.first → Below (rank y.first) (rank x.first))
-        → ((b : A) (before : List A) → run' x.second (items (b ∷ before)) y.second
-        → Below (rank' y.second) (rank' x.second))
-        → length (rank y.first) ≡ length (rank x.first) → length (rank' y.second) ≡ length (rank' x.second)
-        → Chains run run' x (items (a ∷ more)) y
-        → Below (chain_rank y.part (rank y.first) (rank' y.second)) (chain_rank x.part (rank x.first) (rank' x.second))
-    chains_falls x y a more falls falls' same same' h =
-        joins_falls x.part y.part h.firsts h.seconds a more (rank y.first) (rank x.first) (rank' y.second)
-        (rank' x.second)
-        (λ b before e. falls b before (subst (λ l. run x.first l y.first) e h.came))
-        (λ b before e. falls' b before (subst (λ l. run' x.second l y.second) e h.then_came)) same same' h.joined
-
-    chains_lowers : (x y : Chain S U) (l : List (Answer A))
-        → ((i : List (Answer A)) → run x.first i y.first → Lowers i (rank y.first) (rank x.first))
-        → ((j : List (Answer A)) → run' x.second j y.second → Lowers j (rank' y.second) (rank' x.second))
-        → Chains run run' x l y
-        → Lowers l (chain_rank y.part (rank y.first) (rank' y.second))
-        (chain_rank x.part (rank x.first) (rank' x.second))
-    chains_lowers x y l lowers lowers' h =
-        joins_lowers x.part y.part h.firsts h.seconds l (rank y.first) (rank x.first) (rank' y.second) (rank' x.second)
-        h.joined (lowers h.firsts h.came) (lowers' h.seconds h.then_came)
-
 chain_sized : (part : Part) (xs ys : List ℕ) (m n : ℕ) → length xs ≡ m → length ys ≡ n
     → length (chain_rank part xs ys) ≡ m + n
 chain_sized First xs ys m n d e = length-append xs ys ∙ omega (arith, d, e)
@@ -273,16 +217,30 @@ chain_sized Second xs ys m n d e = length-append (zeros xs) ys ∙ omega (arith,
 chain_sized Done xs ys m n d e =
     length-append (zeros xs) (zeros ys) ∙ omega (arith, zeros_length xs, zeros_length ys, d, e)
 
-same_length : (xs ys : List ℕ) {n : ℕ} → length xs ≡ n → length ys ≡ n → length xs ≡ length ys
-same_length xs ys d e = d ∙ sym e
-
 module _ {S U A : Type 0} {run : Runs (Answer A) S} {run' : Runs (Answer A) U} where
   pub chain_runs : RunLaws run → RunLaws run' → RunLaws (Chains run run')
   chain_runs s u =
       record {
-        rests = chains_rest run run' s.rests u.rests;
-        stays = chains_stay run run' s.stays u.stays;
-        follows = chains_follow run run' s.follows u.follows;
+        rests = λ x. record {
+          firsts = [];
+          seconds = [];
+          came = s.rests x.first;
+          then_came = u.rests x.second;
+          joined = joins_start A x.part;
+        };
+        stays = λ x y h.
+            let e = joins_stay x.part y.part h.firsts h.seconds h.joined in
+            let same = s.stays x.first y.first (subst (λ l. run x.first l y.first) e.0 h.came) in
+            let same' = u.stays x.second y.second (subst (λ l. run' x.second l y.second) e.1 h.then_came) in
+            λ i. record { first = same i; second = same' i; part = e.2 i };
+        follows = λ x y z l m a b.
+            record {
+              firsts = a.firsts ++ b.firsts;
+              seconds = a.seconds ++ b.seconds;
+              came = s.follows x.first y.first z.first a.firsts b.firsts a.came b.came;
+              then_came = u.follows x.second y.second z.second a.seconds b.seconds a.then_came b.then_came;
+              joined = joins_follow x.part y.part z.part a.firsts b.firsts a.seconds b.seconds l m a.joined b.joined;
+            };
       }
 
   pub chain_laws : {hints : Hints S} {hints' : Hints U} → StreamLaws run hints → StreamLaws run' hints'
@@ -299,11 +257,15 @@ module _ {S U A : Type 0} {run : Runs (Answer A) S} {run' : Runs (Answer A) U} w
             (s.counts_on x.first y.first h.firsts c.0 h.came, u.counts_on x.second y.second h.seconds c.1 h.then_came);
         firm_on = λ x y l c h.
             (s.firm_on x.first y.first h.firsts c.0 h.came, u.firm_on x.second y.second h.seconds c.1 h.then_came);
-        falls = λ x y a more c.
-            chains_falls run run' r.rank r'.rank x y a more
-            (λ b before. s.falls x.first y.first b before c.0) (λ b before. u.falls x.second y.second b before c.1)
-            (same_length (r.rank y.first) (r.rank x.first) (s.sized y.first) (s.sized x.first))
-            (same_length (r'.rank y.second) (r'.rank x.second) (u.sized y.second) (u.sized x.second));
-        lowers = λ x y l c. chains_lowers run run' r.rank r'.rank x y l (λ i. s.lowers x.first y.first i c.0)
-            (λ j. u.lowers x.second y.second j c.1);
+        falls = λ x y a more c h.
+            joins_falls x.part y.part h.firsts h.seconds a more (r.rank y.first) (r.rank x.first) (r'.rank y.second)
+            (r'.rank x.second)
+            (λ b before e. s.falls x.first y.first b before c.0 (subst (λ l. run x.first l y.first) e h.came))
+            (λ b before e. u.falls x.second y.second b before c.1
+            (subst (λ l. run' x.second l y.second) e h.then_came))
+            (s.sized y.first ∙ sym (s.sized x.first)) (u.sized y.second ∙ sym (u.sized x.second)) h.joined;
+        lowers = λ x y l c h.
+            joins_lowers x.part y.part h.firsts h.seconds l (r.rank y.first) (r.rank x.first) (r'.rank y.second)
+            (r'.rank x.second) h.joined (s.lowers x.first y.first h.firsts c.0 h.came)
+            (u.lowers x.second y.second h.seconds c.1 h.then_came);
       }

@@ -1,17 +1,17 @@
 -- Laws of references that are replaced by clones.
 use Rattle.std.specs.List.{AllByRecursion}
 use Rattle.std.specs.Prelude.{⊤, Result, Ok}
-use Rattle.std.proofs.Common.{◌≡◌, ◌∙◌, ◌⊎◌, List, [], ◌∷◌, ◌++◌, Option, Some, None, inl, inr, refl, ap, sym, subst}
+use Rattle.std.proofs.Common.{◌≡◌, ◌∙◌, List, [], ◌∷◌, ◌++◌, Option, Some, None, refl, ap, sym, subst}
 use Rattle.std.proofs.Common.{append_assoc}
 use Rattle.futures.specs.declared.task.Poll.TheVariants.{Ready, Pending}
 use denote.Ref.{Bor}
 use Rattle.lite_base.specs.Alike.{OptionBy, SameAnswer, Sameness}
-use Rattle.lite_base.specs.Answers.{Answer, Gives, Waiting, end, item}
+use Rattle.lite_base.specs.Answers.{Answer, Gives, Waiting, item, items}
 use Rattle.lite_base.specs.Calm.{NoPending}
-use Rattle.lite_base.specs.Laws.All.{all_append}
+use Rattle.lite_base.specs.Laws.All.{all_any, all_append, all_split}
 use Rattle.lite_base.specs.Laws.Calm.{no_pending_join}
 use Rattle.lite_base.specs.OkRanks.{OkCounting, all_ok}
-use Rattle.lite_base.specs.Laws.OkRanks.{ok_counting_by}
+use Rattle.lite_base.specs.Laws.OkRanks.{ok_counting}
 use Rattle.lite_base.specs.Ranks.{Counting, Ranks}
 use Rattle.lite_base.specs.Steady.{SteadinessBy, SteadyLawsBy, TakesNone}
 use Rattle.lite_base.specs.StreamLaws.{StreamLaws}
@@ -21,10 +21,10 @@ use Rattle.lite_reshape.specs.Cloned.{IsCloneRefusal, NoCloneRefused, NotCloneRe
 use Rattle.lite_reshape.specs.Laws.Before.{not_empty}
 use Rattle.lite_reshape.specs.Laws.Calming.{expanding_calming}
 use Rattle.lite_reshape.specs.Laws.Expanding.{FollowLaws, GivingOne, held_counting, held_ranks, expanding_following}
-use Rattle.lite_reshape.specs.Laws.SteadyExpanding.{OneMade, all_any, all_split, expanding_agreeing}
+use Rattle.lite_reshape.specs.Laws.SteadyExpanding.{OneMade, expanding_agreeing}
 use Rattle.lite_reshape.specs.Laws.SteadyExpanding.{expanding_found_where}
 use Rattle.lite_reshape.specs.declared.cloned.Cloned.{Cloned}
-use Rattle.lite_reshape.specs.Expanding.{Expanding, Expands, HeldDone, StillHeld}
+use Rattle.lite_reshape.specs.Expanding.{Expanding}
 use Rattle.lite_reshape.specs.Laws.Replacing.{refers_match}
 use Rattle.lite_stream.specs.Laws.Agreeing.{through_alike}
 use Rattle.lite_stream.specs.Laws.Calming.{Calming}
@@ -61,109 +61,9 @@ module _ {T E : Type 0} (is_clone : T → T → Type 0) (is_infallible : T → T
   cloned_laws laws =
       laws_following cloned_parts laws (expanding_following Refers (Clones is_clone is_infallible) clones_giving)
 
--- a clone that is not refused
-abbrev GivesClone : {T : Type 0} → Bor T → List (Answer T) → Option (Bor T) → Type 0
-GivesClone x out (Some y) = (out ≡ []) × (y ≡ x)
-GivesClone {T} x out None = (copy : T) × (out ≡ item copy ∷ [])
-
-copies_one : {T : Type 0} → GivingOne (GivesClone {T = T})
-copies_one = record { waits = λ x y l h. rw h.0 tt; hands = λ x l h. (h.0, rw h.1 (refl, refl)) }
-
-module _ {T : Type 0} (E : Type 0) (is_clone : T → T → Type 0) (is_infallible : T → Type 0) where
-  -- among Ok items and answers that are no items
-  no_refusal : (x : Bor T) (l : List (Answer T)) (a : Answer (Result T E)) (refused rest : List (Answer (Result T E)))
-      → all_ok l ≡ a ∷ rest
-      → Refuses is_clone is_infallible x (a ∷ refused) → ⊥
-  no_refusal x [] a refused rest e h = cc e
-  no_refusal x (Pending ∷ l) a refused rest e h = let d = h.0.2 in cc
-  no_refusal x (Ready None ∷ l) a refused rest e h = let d = h.0.2 in cc
-  no_refusal x (Ready (Some y) ∷ l) a refused rest e h = let d = h.0.2 in cc
-
-  one_copy : (l : List (Answer T)) (copy : T) (rest : List (Answer (Result T E))) → all_ok l ≡ item (Ok copy) ∷ rest
-      → (m : List (Answer T)) × (l ≡ item copy ∷ m) × (rest ≡ all_ok m)
-  one_copy [] copy rest e = absurd (cc e)
-  one_copy (Pending ∷ l) copy rest e = absurd (cc e)
-  one_copy (Ready None ∷ l) copy rest e = absurd (cc e)
-  one_copy (Ready (Some y) ∷ l) copy rest e = let same : y ≡ copy = cc e in (l, ap (λ z. item z ∷ l) same, cc e)
-
-  unrefused_copy : (x : Bor T) (l : List (Answer T)) (refused rest : List (Answer (Result T E))) (copy : T)
-      → all_ok l ≡ (refused ++ item (Ok copy) ∷ []) ++ rest → Refuses is_clone is_infallible x refused
-      → (m : List (Answer T)) × (l ≡ item copy ∷ m) × (rest ≡ all_ok m)
-  unrefused_copy x l [] rest copy e h = one_copy l copy rest e
-  unrefused_copy x l (a ∷ refused) rest copy e h =
-      absurd (no_refusal x l a refused ((refused ++ item (Ok copy) ∷ []) ++ rest) e h)
-
-  none_refused : (x : Bor T) (l : List (Answer T)) → Refuses {E = E} is_clone is_infallible x (all_ok l) → l ≡ []
-  none_refused x [] h = refl
-  none_refused x (Pending ∷ l) h = absurd (cc h.0.2)
-  none_refused x (Ready None ∷ l) h = absurd (cc h.0.2)
-  none_refused x (Ready (Some y) ∷ l) h = absurd (cc h.0.2)
-
-  module _ (p q : Unit {0}) (v : Bor T) (f : Option (Bor T)) (i : List (Answer (Bor T))) (l : List (Answer T))
-      (rest : (m : List (Answer T)) → Expands Refers (Clones {E = E} is_clone is_infallible) p i (all_ok m) q f
-      → Expands Refers GivesClone p i m q f) where
-    held_unrefused : StillHeld Refers (Clones {E = E} is_clone is_infallible) p v i (all_ok l) q f
-        ⊎ HeldDone Refers (Clones is_clone is_infallible) v (Expands Refers (Clones {E = E} is_clone is_infallible) p i)
-        (all_ok l) q f
-        → StillHeld Refers GivesClone p v i l q f ⊎ HeldDone Refers GivesClone v (Expands Refers GivesClone p i) l q f
-    held_unrefused (inl c) = inl (c.0, c.1, c.2, (none_refused v l c.3.0, c.3.1), c.4)
-    held_unrefused (inr c) =
-        let own = c.3 in
-        let d = unrefused_copy v l own.0 c.1 own.1 (c.2 ∙ ap (λ n. n ++ c.1) own.4) own.2 in
-        inr (
-          item own.1 ∷ [],
-          d.0,
-          d.1,
-          (own.1, refl),
-          rest d.0 (subst (λ n. Expands Refers (Clones is_clone is_infallible) p i n q f) d.2 c.4),
-        )
-
-  unrefused : (p q : Unit {0}) (f : Option (Bor T)) (i : List (Answer (Bor T))) (l : List (Answer T))
-      → Expands Refers (Clones {E = E} is_clone is_infallible) p i (all_ok l) q f → Expands Refers GivesClone p i l q f
-  unrefused p q f [] [] c = c
-  unrefused p q f [] (Pending ∷ l) c = absurd c
-  unrefused p q f [] (Ready None ∷ l) c = absurd c
-  unrefused p q f [] (Ready (Some y) ∷ l) c = absurd c
-  unrefused p q f (a ∷ i) [] c = absurd c
-  unrefused p q f (Pending ∷ i) (Pending ∷ l) c = (refl, unrefused p q f i l c.1)
-  unrefused p q f (Pending ∷ i) (Ready None ∷ l) c = absurd (cc c.0)
-  unrefused p q f (Pending ∷ i) (Ready (Some y) ∷ l) c = absurd (cc c.0)
-  unrefused p q f (Ready None ∷ i) (Pending ∷ l) c = absurd (cc c.0)
-  unrefused p q f (Ready None ∷ i) (Ready None ∷ l) c = (refl, unrefused p q f i l c.1)
-  unrefused p q f (Ready None ∷ i) (Ready (Some y) ∷ l) c = absurd (cc c.0)
-  unrefused p q f (Ready (Some x) ∷ i) (Pending ∷ l) c =
-      (c.0, c.1, c.2, held_unrefused c.1 q c.0 f i (Pending ∷ l) (λ m k. unrefused c.1 q f i m k) c.3)
-  unrefused p q f (Ready (Some x) ∷ i) (Ready None ∷ l) c =
-      (c.0, c.1, c.2, held_unrefused c.1 q c.0 f i (end ∷ l) (λ m k. unrefused c.1 q f i m k) c.3)
-  unrefused p q f (Ready (Some x) ∷ i) (Ready (Some y) ∷ l) c =
-      (c.0, c.1, c.2, held_unrefused c.1 q c.0 f i (item y ∷ l) (λ m k. unrefused c.1 q f i m k) c.3)
-
-  expanding_unrefused : (f g : Option (Bor T)) (i : List (Answer (Bor T))) (l : List (Answer T))
-      → Expanding Refers (Clones {E = E} is_clone is_infallible) (tt, f) i (all_ok l) (tt, g)
-      → Expanding Refers GivesClone (tt, f) i l (tt, g)
-  expanding_unrefused None g i l c = unrefused tt tt g i l c
-  expanding_unrefused (Some v) g i l c = held_unrefused tt tt v g i l (λ m k. unrefused tt tt g i m k) c
-
--- the rank falls with each clone; a refusal keeps it
-pub cloned_ok_counting : {T E : Type 0} (is_clone : T → T → Type 0) (is_infallible : T → Type 0) {S : Type 0}
-    {run : Runs (Answer (Bor T)) S}
-    {hints : Hints S} {r : Ranks S} → StreamLaws run hints → Counting run r
-    → OkCounting (ClonesAll {E = E} is_clone is_infallible run) (held_ranks cloned_parts r)
-cloned_ok_counting {E = E} is_clone is_infallible laws c =
-    ok_counting_by
-    (λ x y l h. record {
-      ins = h.ins;
-      came = h.came;
-      related = expanding_unrefused E is_clone is_infallible x.held y.held h.ins l h.related;
-    })
-    (held_counting cloned_parts {call = Refers} laws c copies_one)
-    (λ x y l k h. c.counts_on x.stream y.stream h.ins k h.came)
-    (λ x y l k h. c.firm_on x.stream y.stream h.ins k h.came)
-
 -- one poll in which a clone was made
 pub gives_copy : {T E : Type 0} (is_clone : T → T → Type 0) (is_infallible : T → Type 0) (x : Bor T) (copy : T)
-    → is_clone x.now copy
-    → Clones {E = E} is_clone is_infallible x (item (Ok copy) ∷ []) None
+    → is_clone x.now copy → Clones {E = E} is_clone is_infallible x (item (Ok copy) ∷ []) None
 gives_copy is_clone is_infallible x copy h = ([], copy, tt, h, refl)
 
 held_same : {R : Type 0} (v w : Option R) → w ≡ v → OptionBy (λ a b. a ≡ b) v w
@@ -260,6 +160,29 @@ module _ {T E : Type 0} (is_clone : T → T → Type 0) (is_infallible : T → T
         found = λ n x y l h. found_where (λ _. ⊤) (λ r a all refused. refused.0 (n.1 r.now)) (s.found n.0) x y l
             (all_any l) h;
       }
+
+-- no answer among Ok items is a refusal
+ok_not_refused : {T : Type 0} (E : Type 0) (l : List (Answer T)) → NoCloneRefused {E = E} (all_ok l)
+ok_not_refused E [] = tt
+ok_not_refused E (Pending ∷ l) = (λ e d. cc d, ok_not_refused E l)
+ok_not_refused E (Ready None ∷ l) = (λ e d. cc d, ok_not_refused E l)
+ok_not_refused E (Ready (Some x) ∷ l) = (λ e d. cc d, ok_not_refused E l)
+
+-- the rank falls with each clone; a refusal keeps it
+pub cloned_ok_counting : {T E : Type 0} (is_clone : T → T → Type 0) (is_infallible : T → Type 0) {S : Type 0}
+    {run : Runs (Answer (Bor T)) S} {hints : Hints S} {r : Ranks S} → StreamLaws run hints → Counting run r
+    → OkCounting (ClonesAll {E = E} is_clone is_infallible run) (held_ranks cloned_parts r)
+cloned_ok_counting {E = E} is_clone is_infallible {run = run} laws c =
+    let found = ok_counting (held_counting cloned_parts {call = Refers} laws c (clones_one is_clone)) in
+    let unrefused = cloned_ample is_clone is_infallible {run = run} {ample = run} (λ x y l h. h) in
+    record {
+      sized = found.sized;
+      counts_on = λ x y l k h. c.counts_on x.stream y.stream h.ins k h.came;
+      firm_on = λ x y l k h. c.firm_on x.stream y.stream h.ins k h.came;
+      falls = λ x y a more k h.
+          found.falls x y a more k (unrefused x y (all_ok (items (a ∷ more))) (ok_not_refused E (items (a ∷ more))) h);
+      lowers = λ x y l k h. found.lowers x y l k (unrefused x y (all_ok l) (ok_not_refused E l) h);
+    }
 
 -- a clone is there at once, and so is its refusal
 module _ {T E : Type 0} (is_clone : T → T → Type 0) (is_infallible : T → Type 0) where

@@ -1,16 +1,18 @@
 -- Laws of items that are replaced by the list of what is made of them.
-use Rattle.std.proofs.Common.{◌≡◌, ◌∙◌, ◌⊎◌, ℕ, ◌+◌, ◌≤◌, List, [], ◌∷◌, ◌++◌, length, Option, Some, None, inl, inr}
-use Rattle.std.proofs.Common.{refl, ap, sym, subst, arith, length-append, append_assoc}
+use Rattle.std.proofs.Common.{◌≡◌, ◌∙◌, ℕ, ◌+◌, ◌≤◌, List, [], ◌∷◌, ◌++◌, Option, Some, None, inl, inr, refl, ap, sym}
+use Rattle.std.proofs.Common.{subst, arith, append_assoc}
+use Rattle.std.specs.List.{AllByRecursion}
 use Rattle.futures.specs.declared.task.Poll.TheVariants.{Ready, Pending}
-use Rattle.lite_base.specs.Answers.{Answer, Gives, Waiting, before_end, item, items}
-use Rattle.lite_base.specs.Laws.Falling.{AtMost-both, Below-after, Below-first, Lowers-at_most, Lowers-below}
-use Rattle.lite_base.specs.Rank.{AtMost, Below, Lowers}
+use Rattle.lite_base.specs.Answers.{Answer, Gives, Waiting, before_end, end, item, items}
+use Rattle.lite_base.specs.Laws.All.{all_split}
+use Rattle.lite_base.specs.Laws.Falling.{Lowers-at_most, Lowers-below, waiting_lowers}
+use Rattle.lite_base.specs.Laws.Items.{IsItem, items_each}
+use Rattle.lite_base.specs.Rank.{Below, Lowers}
 use Rattle.lite_base.specs.Ranks.{Counting, Ranks, count_held, held_rank}
 use Rattle.lite_base.specs.StreamLaws.{StreamLaws}
 use Rattle.lite_base.specs.Runs.{Hints, Question, Runs}
-use Rattle.lite_reshape.specs.Laws.Before.{items_after}
-use Rattle.lite_reshape.specs.Expanding.{Expanding, Expands, HeldDone, StillHeld}
-use Rattle.lite_stream.specs.Laws.Lower.{at_most_below}
+use Rattle.lite_reshape.specs.Expanding.{Expanding, Expands}
+use Rattle.lite_stream.specs.Laws.Held.{held_falls, held_first, held_less, held_level, held_sized}
 use Rattle.lite_stream.specs.Laws.Through.{Following}
 use Rattle.lite_stream.specs.Through.{AdapterParts, Adapts, Through}
 
@@ -28,47 +30,55 @@ pub record GivingOne {V B : Type 0} (gives : V → List (Answer B) → Option V 
   pub waits : (v w : V) (l : List (Answer B)) → gives v l (Some w) → Waiting l
   pub hands : (v : V) (l : List (Answer B)) → gives v l None → (y : B) × Gives l (Some y)
 
+-- by induction on what comes in: of nothing; of what is held, to the last or until it is done; of each answer
+module _ {F A V B : Type 0} (call : Question F A V) (gives : V → List (Answer B) → Option V → Type 0) (t : F × Option V)
+    (P : F × Option V → List (Answer A) → List (Answer B) → Type 0)
+    (nothing : t.1 ≡ None → P (t.0, None) [] [])
+    (still : (v w : V) (o : List (Answer B)) → gives v o (Some w) → t.1 ≡ Some w → P (t.0, Some v) [] o)
+    (done : (p : F) (v : V) (i : List (Answer A)) (own rest : List (Answer B)) → gives v own None → P (p, None) i rest
+    → P (p, Some v) i (own ++ rest))
+    (waits : (p : F) (i : List (Answer A)) (o : List (Answer B)) → P (p, None) i o
+    → P (p, None) (Pending ∷ i) (Pending ∷ o))
+    (ended : (p : F) (i : List (Answer A)) (o : List (Answer B)) → P (p, None) i o → P (p, None) (end ∷ i) (end ∷ o))
+    (made : (p r : F) (x : A) (v : V) (i : List (Answer A)) (b : Answer B) (o : List (Answer B)) → call p x v r
+    → P (r, Some v) i (b ∷ o) → P (p, None) (item x ∷ i) (b ∷ o)) where
+  held_by : (p : F) (v : V) (i : List (Answer A)) (o : List (Answer B))
+      → ((rest : List (Answer B)) → Expands call gives p i rest t.0 t.1 → P (p, None) i rest)
+      → Expanding call gives (p, Some v) i o t → P (p, Some v) i o
+  held_by p v i o rest (inl c) = rw c.0 (subst (λ r. P (r, Some v) [] o) c.1 (still v c.2 o c.3 c.4))
+  held_by p v i o rest (inr c) = rw c.2 (done p v i c.0 c.1 c.3 (rest c.1 c.4))
+
+  expands_by : (p : F) (i : List (Answer A)) (o : List (Answer B)) → Expands call gives p i o t.0 t.1 → P (p, None) i o
+  expands_by p [] [] c = subst (λ r. P (r, None) [] []) c.0 (nothing c.1)
+  expands_by p [] (b ∷ o) c = absurd c
+  expands_by p (a ∷ i) [] c = absurd c
+  expands_by p (Pending ∷ i) (b ∷ o) c = rw c.0 (waits p i o (expands_by p i o c.1))
+  expands_by p (Ready None ∷ i) (b ∷ o) c = rw c.0 (ended p i o (expands_by p i o c.1))
+  expands_by p (Ready (Some x) ∷ i) (b ∷ o) c =
+      made p c.1 x c.0 i b o c.2 (held_by c.1 c.0 i (b ∷ o) (λ rest k. expands_by c.1 i rest k) c.3)
+
+  pub expanding_by : (s : F × Option V) (i : List (Answer A)) (o : List (Answer B)) → Expanding call gives s i o t
+      → P s i o
+  expanding_by (p, None) i o c = expands_by p i o c
+  expanding_by (p, Some v) i o c = held_by p v i o (λ rest k. expands_by p i rest k) c
+
 module _ {F A V B : Type 0} (call : Question F A V) (gives : V → List (Answer B) → Option V → Type 0)
     (g : FollowLaws gives) where
   -- the list of what is held may be cut
-  begun : (p q : F) (v w : V) (j : List (Answer A)) (l m : List (Answer B)) (h : Option V) → gives v l (Some w)
-      → StillHeld call gives p w j m q h ⊎ HeldDone call gives w (Expands call gives p j) m q h
-      → StillHeld call gives p v j (l ++ m) q h ⊎ HeldDone call gives v (Expands call gives p j) (l ++ m) q h
-  begun p q v w j l m h ran (inl k) = inl (k.0, k.1, k.2, g.joins v w (Some k.2) l m ran k.3, k.4)
-  begun p q v w j l m h ran (inr k) =
+  begun : (t : F × Option V) (p : F) (v w : V) (j : List (Answer A)) (l m : List (Answer B)) → gives v l (Some w)
+      → Expanding call gives (p, Some w) j m t → Expanding call gives (p, Some v) j (l ++ m) t
+  begun t p v w j l m ran (inl k) = inl (k.0, k.1, k.2, g.joins v w (Some k.2) l m ran k.3, k.4)
+  begun t p v w j l m ran (inr k) =
       inr (l ++ k.0, k.1, ap (λ n. l ++ n) k.2 ∙ sym (append_assoc l k.0 k.1), g.joins v w None l k.0 ran k.3, k.4)
 
-  goes_on : (p q : F) (t : F × Option V) (v : V) (f : Option V) (i j : List (Answer A)) (l m : List (Answer B))
-      → ((rest : List (Answer B)) → Expands call gives p i rest q f → Expands call gives p (i ++ j) (rest ++ m) t.0 t.1)
-      → StillHeld call gives p v i l q f ⊎ HeldDone call gives v (Expands call gives p i) l q f
-      → Expanding call gives (q, f) j m t
-      → StillHeld call gives p v (i ++ j) (l ++ m) t.0 t.1
-      ⊎ HeldDone call gives v (Expands call gives p (i ++ j)) (l ++ m) t.0 t.1
-  goes_on p q t v f i j l m rest (inl k) d =
-      let on = subst (λ r. Expanding call gives (r, Some k.2) j m t) k.1
-      (subst (λ o. Expanding call gives (q, o) j m t) k.4 d) in
-      rw k.0 (begun p t.0 v k.2 j l m t.1 k.3 on)
-  goes_on p q t v f i j l m rest (inr k) d =
-      inr (k.0, k.1 ++ m, ap (λ n. n ++ m) k.2 ∙ append_assoc k.0 k.1 m, k.3, rest k.1 k.4)
-
-  expands_follow : (p q : F) (t : F × Option V) (f : Option V) (i j : List (Answer A)) (l m : List (Answer B))
-      → Expands call gives p i l q f
-      → Expanding call gives (q, f) j m t → Expands call gives p (i ++ j) (l ++ m) t.0 t.1
-  expands_follow p q t f [] j [] m c d =
-      subst (λ r. Expanding call gives (r, None) j m t) c.0 (subst (λ o. Expanding call gives (q, o) j m t) c.1 d)
-  expands_follow p q t f [] j (b ∷ l) m c d = absurd c
-  expands_follow p q t f (a ∷ i) j [] m c d = absurd c
-  expands_follow p q t f (Pending ∷ i) j (b ∷ l) m c d = (c.0, expands_follow p q t f i j l m c.1 d)
-  expands_follow p q t f (Ready None ∷ i) j (b ∷ l) m c d = (c.0, expands_follow p q t f i j l m c.1 d)
-  expands_follow p q t f (Ready (Some x) ∷ i) j (b ∷ l) m c d =
-      (c.0, c.1, c.2, goes_on c.1 q t c.0 f i j (b ∷ l) m (λ rest k. expands_follow c.1 q t f i j rest m k d) c.3 d)
-
   joins : (s r t : F × Option V) (i j : List (Answer A)) (l m : List (Answer B)) → Expanding call gives s i l r
-      → Expanding call gives r j m t
-      → Expanding call gives s (i ++ j) (l ++ m) t
-  joins (p, None) (q, f) t i j l m c d = expands_follow p q t f i j l m c d
-  joins (p, Some v) (q, f) t i j l m c d =
-      goes_on p q t v f i j l m (λ rest k. expands_follow p q t f i j rest m k d) c d
+      → Expanding call gives r j m t → Expanding call gives s (i ++ j) (l ++ m) t
+  joins s (q, f) t i j l m c d =
+      expanding_by call gives (q, f) (λ s i l. Expanding call gives s (i ++ j) (l ++ m) t)
+      (λ e. subst (λ o. Expanding call gives (q, o) j m t) e d)
+      (λ v w l ran e. begun t q v w j l m ran (subst (λ o. Expanding call gives (q, o) j m t) e d))
+      (λ p v i own rest ran k. inr (own, rest ++ m, append_assoc own rest m, ran, k)) (λ p i l k. (refl, k))
+      (λ p i l k. (refl, k)) (λ p r x v i b l called k. (v, r, called, k)) s i l c
 
   -- what is done has answered, so no part of an empty list is its own
   nothing : (v : V) (own rest : List (Answer B)) → [] ≡ own ++ rest → gives v own None → ⊥
@@ -91,51 +101,27 @@ module _ {F A V B : Type 0} (call : Question F A V) (gives : V → List (Answer 
 -- one poll
 module _ {S F A V B : Type 0} (run : Runs (Answer A) S) (call : Question F A V)
     (gives : V → List (Answer B) → Option V → Type 0) where
+  one_given : (f : F) (v : V) (b : Answer B) (left : Option V) → gives v (b ∷ []) left
+      → Expanding call gives (f, Some v) [] (b ∷ []) (f, left)
+  one_given f v b None given = inr (b ∷ [], [], refl, given, (refl, refl))
+  one_given f v b (Some w) given = inl (refl, refl, w, given, refl)
+
   -- of what is held, where the source is not asked
   pub held_answers : (s : S) (f : F) (v : V) (b : Answer B) (left : Option V) → run s [] s → gives v (b ∷ []) left
       → Through run (Expanding call gives) s (f, Some v) (b ∷ []) s (f, left)
-  held_answers s f v b None came given =
-      record {
-        ins = [];
-        came = came;
-        related = inr (b ∷ [], [], refl, given, (refl, refl));
-      }
-  held_answers s f v b (Some w) came given =
-      record {
-        ins = [];
-        came = came;
-        related = inl (refl, refl, w, given, refl);
-      }
+  held_answers s f v b left came given = record { ins = []; came = came; related = one_given f v b left given }
 
   -- of what is made of an item
   pub made_answers : (s t : S) (f g : F) (a : Answer A) (x : A) (v : V) (b : Answer B) (left : Option V) → a ≡ item x
       → run s (a ∷ []) t → call f x v g
       → gives v (b ∷ []) left → Through run (Expanding call gives) s (f, None) (b ∷ []) t (g, left)
-  made_answers s t f g a x v b None is came called given =
-      record {
-        ins = item x ∷ [];
-        came = subst (λ c. run s (c ∷ []) t) is came;
-        related = (v, g, called, inr (b ∷ [], [], refl, given, (refl, refl)));
-      }
-  made_answers s t f g a x v b (Some w) is came called given =
-      record {
-        ins = item x ∷ [];
-        came = subst (λ c. run s (c ∷ []) t) is came;
-        related = (v, g, called, inl (refl, refl, w, given, refl));
-      }
+  made_answers s t f g a x v b left is came called given =
+      record { ins = item x ∷ []; came = rw is at came; related = (v, g, called, one_given g v b left given) }
 
   -- of the source, which is pending
   pub none_answers : (s t : S) (f : F) (a : Answer A) → a ≡ Pending → run s (a ∷ []) t
       → Through run (Expanding call gives) s (f, None) (Pending ∷ []) t (f, None)
-  none_answers s t f a is came =
-      record {
-        ins = Pending ∷ [];
-        came = subst (λ c. run s (c ∷ []) t) is came;
-        related = (refl, (refl, refl));
-      }
-
-held_sized : {V : Type 0} (xs : List ℕ) (held : Option V) {n : ℕ} → length xs ≡ n → length (held_rank xs held) ≡ n + 1
-held_sized xs held e = length-append xs (count_held held ∷ []) ∙ ap (λ k. k + 1) e
+  none_answers s t f a is came = record { ins = Pending ∷ []; came = rw is at came; related = (refl, (refl, refl)) }
 
 module _ {B : Type 0} where
   waiting_bounded : (l : List (Answer B)) → Waiting l → before_end l ≤ 0
@@ -148,104 +134,53 @@ module _ {B : Type 0} where
   one_bounded (Pending ∷ l) m y h = one_bounded l m y h
   one_bounded (Ready b ∷ l) m y h = rw (h.0, h.1) (omega arith)
 
-  waiting_lowers : (l : List (Answer B)) (xs ys : List ℕ) → Waiting l → AtMost xs ys → Lowers l xs ys
-  waiting_lowers [] xs ys w h = h
-  waiting_lowers (Pending ∷ l) xs ys w h = waiting_lowers l xs ys w h
-  waiting_lowers (Ready b ∷ l) xs ys w h = absurd w
-
 module _ {F A V B : Type 0} (call : Question F A V) (gives : V → List (Answer B) → Option V → Type 0)
     (g : GivingOne gives) where
-  held_bounded : (p q : F) (v : V) (f : Option V) (n : ℕ) (i : List (Answer A)) (o : List (Answer B))
-      → ((rest : List (Answer B)) → Expands call gives p i rest q f → before_end rest ≤ n)
-      → StillHeld call gives p v i o q f ⊎ HeldDone call gives v (Expands call gives p i) o q f → before_end o ≤ n + 1
-  held_bounded p q v f n i o rest (inl c) = let e = waiting_bounded o (g.waits v c.2 o c.3) in omega arith
-  held_bounded p q v f n i o rest (inr c) =
-      let h = g.hands v c.0 c.3 in let e = one_bounded c.0 c.1 h.0 h.1 in let d = rest c.1 c.4 in rw c.2 (omega arith)
-
-  expands_bounded : (p q : F) (f : Option V) (i : List (Answer A)) (o : List (Answer B)) → Expands call gives p i o q f
-      → before_end o ≤ before_end i
-  expands_bounded p q f [] [] c = omega arith
-  expands_bounded p q f [] (b ∷ o) c = absurd c
-  expands_bounded p q f (a ∷ i) [] c = omega arith
-  expands_bounded p q f (Pending ∷ i) (b ∷ o) c = rw c.0 (expands_bounded p q f i o c.1)
-  expands_bounded p q f (Ready None ∷ i) (b ∷ o) c = rw c.0 (omega arith)
-  expands_bounded p q f (Ready (Some x) ∷ i) (b ∷ o) c =
-      held_bounded c.1 q c.0 f (before_end i) i (b ∷ o) (λ rest k. expands_bounded c.1 q f i rest k) c.3
-
   pub expanding_bounded : (s t : F × Option V) (i : List (Answer A)) (o : List (Answer B))
-      → Expanding call gives s i o t
-      → before_end o ≤ before_end i + count_held s.1
-  expanding_bounded (p, None) (q, f) i o c = let e = expands_bounded p q f i o c in omega arith
-  expanding_bounded (p, Some v) (q, f) i o c =
-      held_bounded p q v f (before_end i) i o (λ rest k. expands_bounded p q f i rest k) c
-
-  expands_lowers : (p q : F) (f : Option V) (i : List (Answer A)) (o : List (Answer B)) (xs us : List ℕ)
-      → Expands call gives p i o q f → Lowers i xs us
-      → Lowers o (held_rank xs f) (held_rank {V = V} us None)
-  expands_lowers p q f [] [] xs us c h = rw c.1 (AtMost-both xs us (0 ∷ []) (0 ∷ []) h (inl refl))
-  expands_lowers p q f [] (b ∷ o) xs us c h = absurd c
-  expands_lowers p q f (a ∷ i) [] xs us c h = absurd c
-  expands_lowers p q f (Pending ∷ i) (b ∷ o) xs us c h = rw c.0 (expands_lowers p q f i o xs us c.1 h)
-  expands_lowers p q f (Ready None ∷ i) (b ∷ o) xs us c h = rw c.0 (expands_lowers p q f i o xs us c.1 h)
-  expands_lowers p q f (Ready (Some x) ∷ i) (b ∷ o) xs us c h =
-      Lowers-below (b ∷ o) (held_rank xs f) (held_rank {V = V} us None)
-      (Below-first xs us (count_held f ∷ []) (0 ∷ []) h refl)
-
-  -- what is held counts in the last place
-  held_below : (xs us : List ℕ) (v : V) → AtMost xs us → Below (held_rank {V = V} xs None) (held_rank us (Some v))
-  held_below xs us v h = Below-after xs us (0 ∷ []) (1 ∷ []) h (inl (omega arith, refl))
+      → Expanding call gives s i o t → before_end o ≤ before_end i + count_held s.1
+  expanding_bounded s t =
+      expanding_by call gives t (λ s i o. before_end o ≤ before_end i + count_held s.1) (λ e. omega arith)
+      (λ v w o ran e. let none = waiting_bounded o (g.waits v w o ran) in omega (arith, none))
+      (λ p v i own rest ran k. let h = g.hands v own ran in omega (arith, k, one_bounded own rest h.0 h.1))
+      (λ p i o k. k) (λ p i o k. omega arith) (λ p r x v i b o called k. omega (arith, k)) s
 
   expanding_lowers : (s t : F × Option V) (i : List (Answer A)) (o : List (Answer B)) (xs us : List ℕ)
-      → Expanding call gives s i o t → Lowers i xs us
-      → Lowers o (held_rank xs t.1) (held_rank us s.1)
-  expanding_lowers (p, None) (q, f) i o xs us c h = expands_lowers p q f i o xs us c h
-  expanding_lowers (p, Some v) (q, f) i o xs us (inl c) h =
-      let level = AtMost-both xs us (1 ∷ []) (1 ∷ []) (subst (λ k. Lowers k xs us) c.0 h) (inl refl) in
-      rw c.4 (waiting_lowers o (held_rank xs (Some c.2)) (held_rank us (Some v)) (g.waits v c.2 o c.3) level)
-  expanding_lowers (p, Some v) (q, f) i o xs us (inr c) h =
-      let e = expands_lowers p q f i c.1 xs us c.4 h in
-      let level = Lowers-at_most c.1 (held_rank xs f) (held_rank {V = V} us None) e in
-      let below = at_most_below (held_rank xs f) (held_rank {V = V} us None) (held_rank us (Some v)) level
-      (held_below us us v (inl refl)) in
-      Lowers-below o (held_rank xs f) (held_rank us (Some v)) below
+      → Expanding call gives s i o t → Lowers i xs us → Lowers o (held_rank xs t.1) (held_rank us s.1)
+  expanding_lowers s t i o xs us =
+      expanding_by call gives t (λ s i o. Lowers i xs us → Lowers o (held_rank xs t.1) (held_rank us s.1))
+      (λ e h. held_level xs us None t.1 h (ap count_held e))
+      (λ v w o ran e h. waiting_lowers o _ _ (g.waits v w o ran) (held_level xs us (Some v) t.1 h (ap count_held e)))
+      (λ p v i own rest ran k h. Lowers-below (own ++ rest) _ _ (held_less _ us v (Lowers-at_most rest _ _ (k h))))
+      (λ p i o k. k) (λ p i o k. k)
+      (λ p r x v i b o called k h. Lowers-below (b ∷ o) _ _ (held_first xs us t.1 None h)) s i o
 
   -- where items came out, only items came in
-  came_items : (p q : F) (f : Option V) (i : List (Answer A)) (l : List B) → Expands call gives p i (items l) q f
-      → (before : List A) × (i ≡ items before)
-  came_items p q f [] l c = ([], refl)
-  came_items p q f (a ∷ i) [] c = absurd c
-  came_items p q f (Pending ∷ i) (y ∷ l) c = absurd (cc c.0)
-  came_items p q f (Ready None ∷ i) (y ∷ l) c = absurd (cc c.0)
-  came_items p q f (Ready (Some x) ∷ i) (y ∷ l) (v, r, called, inl c) = (x ∷ [], ap (λ k. item x ∷ k) c.0)
-  came_items p q f (Ready (Some x) ∷ i) (y ∷ l) (v, r, called, inr c) =
-      let m = items_after c.0 c.1 (y ∷ l) c.2 in
-      let e = came_items r q f i m.0 (subst (λ k. Expands call gives r i k q f) m.1 c.4) in
-      (x ∷ e.0, ap (λ k. item x ∷ k) e.1)
+  expanding_items : (s t : F × Option V) (i : List (Answer A)) (o : List (Answer B)) → Expanding call gives s i o t
+      → AllByRecursion IsItem o → AllByRecursion IsItem i
+  expanding_items s t =
+      expanding_by call gives t (λ s i o. AllByRecursion IsItem o → AllByRecursion IsItem i) (λ e h. tt)
+      (λ v w o ran e h. tt) (λ p v i own rest ran k h. k (all_split IsItem own rest h).1)
+      (λ p i o k h. absurd (let e = h.0.1 in cc)) (λ p i o k h. absurd (let e = h.0.1 in cc))
+      (λ p r x v i b o called k h. ((x, refl), k h)) s
 
-  -- where nothing came in, nothing is held
-  none_held : (p q : F) (f : Option V) (o : List (Answer B)) → Expands call gives p [] o q f → f ≡ None
-  none_held p q f [] c = c.1
-  none_held p q f (b ∷ o) c = absurd c
+  -- where nothing came in, they came of what was held
+  none_held : (p : F) (t : F × Option V) (o : List (Answer B)) → Expands call gives p [] o t.0 t.1 → t.1 ≡ None
+  none_held p t [] c = c.1
+  none_held p t (b ∷ o) c = absurd c
+
+  alone : (s t : F × Option V) (y : B) (l : List B) → Expanding call gives s [] (items (y ∷ l)) t → (t.1 ≡ None)
+      × (v : V) × (s.1 ≡ Some v)
+  alone (p, None) t y l c = absurd c
+  alone (p, Some v) t y l (inl c) = absurd (g.waits v c.2 (items (y ∷ l)) c.3)
+  alone (p, Some v) t y l (inr c) = (none_held p t c.1 c.4, v, refl)
 
   expanding_falls : (s t : F × Option V) (i : List (Answer A)) (y : B) (l : List B) (xs us : List ℕ)
       → ((a : A) (before : List A) → i ≡ items (a ∷ before) → Below xs us) → (i ≡ [] → xs ≡ us)
-      → Expanding call gives s i (items (y ∷ l)) t
-      → Below (held_rank xs t.1) (held_rank us s.1)
-  expanding_falls (p, None) (q, f) i y l xs us falls same c = at_start (came_items p q f i (y ∷ l) c)
-    where
-      at_start : (before : List A) × (i ≡ items before) → Below (held_rank xs f) (held_rank {V = V} us None)
-      at_start ([], e) = absurd (subst (λ k. Expands call gives p k (items (y ∷ l)) q f) e c)
-      at_start (x ∷ before, e) = Below-first xs us (count_held f ∷ []) (0 ∷ []) (falls x before e) refl
-  expanding_falls (p, Some v) (q, f) i y l xs us falls same (inl c) = absurd (g.waits v c.2 (items (y ∷ l)) c.3)
-  expanding_falls (p, Some v) (q, f) i y l xs us falls same (inr c) =
-      let m = items_after c.0 c.1 (y ∷ l) c.2 in
-      at_start (came_items p q f i m.0 (subst (λ k. Expands call gives p i k q f) m.1 c.4))
-    where
-      at_start : (before : List A) × (i ≡ items before) → Below (held_rank xs f) (held_rank us (Some v))
-      at_start ([], e) =
-          rw (none_held p q f c.1 (subst (λ k. Expands call gives p k c.1 q f) e c.4))
-          (held_below xs us v (inl (same e)))
-      at_start (x ∷ before, e) = Below-first xs us (count_held f ∷ []) (1 ∷ []) (falls x before e) refl
+      → Expanding call gives s i (items (y ∷ l)) t → Below (held_rank xs t.1) (held_rank us s.1)
+  expanding_falls s t i y l xs us falls same c =
+      held_falls i xs us t.1 s.1 falls same
+      (λ e. alone s t y l (subst (λ k. Expanding call gives s k (items (y ∷ l)) t) e c))
+      (expanding_items s t i (items (y ∷ l)) c (items_each (y ∷ l)))
 
 -- the source's rank, and then a place that counts what is held
 abbrev pub held_ranks : {M S F V : Type 0} → AdapterParts M S (F × Option V) → Ranks S → Ranks M

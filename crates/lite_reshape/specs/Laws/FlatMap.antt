@@ -1,7 +1,8 @@
 -- Laws of streams that a function makes.
 use Rattle.std.specs.Fn.{Called, Mut}
-use Rattle.std.proofs.Common.{◌≡◌, List, [], ◌∷◌, ◌++◌, Option, Some, None, refl, sym, subst}
-use Rattle.futures.specs.declared.task.Poll.TheVariants.{Ready, Pending}
+use Rattle.std.specs.List.{AllByRecursion}
+use Rattle.std.proofs.Common.{◌≡◌, List, [], ◌∷◌, ◌++◌, Option, Some, None, refl, subst}
+use Rattle.futures.specs.declared.task.Poll.TheVariants.{Ready}
 use Rattle.lite_base.specs.Alike.{OptionBy, SameItem, Sameness}
 use Rattle.lite_base.specs.Answers.{Answer, item}
 use Rattle.lite_base.specs.Calm.{CalmLaws}
@@ -18,12 +19,14 @@ use Rattle.lite_reshape.specs.Laws.Calming.{flattening_calm}
 use Rattle.lite_reshape.specs.Laws.Flatten.{each_inner_on, flattening, flattening_counting}
 use Rattle.lite_reshape.specs.Laws.SteadyFlatten.{flattening_steady}
 use Rattle.lite_reshape.specs.declared.flat_map.FlatMap.{FlatMap}
-use Rattle.lite_base.specs.Calling.{AgreeFrom, Answering, Calls}
+use Rattle.lite_base.specs.Calling.{AgreeFrom, Always, Answering, Calls}
+use Rattle.lite_base.specs.Laws.All.{all_split}
+use Rattle.lite_base.specs.Laws.Items.{OfItem}
 use Rattle.lite_base.specs.Laws.Calling.{agree_from_matches}
 use Rattle.lite_base.specs.Runs.{Hints, NoHint, Runs}
 use Rattle.lite_stream.specs.Laws.Agreeing.{through_alike, through_steady_over}
 use Rattle.lite_stream.specs.Laws.Calming.{through_calm}
-use Rattle.lite_stream.specs.Laws.Pointwise.{replaces_calming, replaces_agreeing_by, replaces_answering}
+use Rattle.lite_stream.specs.Laws.Pointwise.{exchanges_steps, replaces_calming, replaces_agreeing, replaces_answering}
 use Rattle.lite_stream.specs.Laws.Pointwise.{replaces_relating}
 use Rattle.lite_stream.specs.Laws.Through.{laws_following, laws_hinted, through_counting}
 use Rattle.lite_stream.specs.Map.{Maps, map_parts}
@@ -42,44 +45,36 @@ makes_on g Fact f x v h always called = (
 )
 
 module _ {F A V : Type 0} (g : Mut F (A × Unit {0}) V) (Fact : V → Type 0) where
-  -- what each call promises holds of each item that comes out
-  made_has : (f h : F) (i : List (Answer A)) (before after : List (Answer V)) (v : V) → MakesAlways g Fact f
-      → Replaces (Calls g) f i (before ++ item v ∷ after) h → Fact v
-  made_has f h [] [] after v always c = absurd c
-  made_has f h [] (b ∷ before) after v always c = absurd c
-  made_has f h (Pending ∷ i) [] after v always c = absurd (cc c.0)
-  made_has f h (Pending ∷ i) (b ∷ before) after v always c = made_has f h i before after v always c.1
-  made_has f h (Ready None ∷ i) [] after v always c = absurd (cc c.0)
-  made_has f h (Ready None ∷ i) (b ∷ before) after v always c = made_has f h i before after v always c.1
-  made_has f h (Ready (Some x) ∷ i) [] after v always (None, k, e, called, c) = absurd called
-  made_has f h (Ready (Some x) ∷ i) [] after v always (Some w, k, e, called, c) =
-      let same : w ≡ v = cc e in subst Fact same (makes_on g Fact f (x, tt) w k always called).0
-  made_has f h (Ready (Some x) ∷ i) (b ∷ before) after v always (None, k, e, called, c) = absurd called
-  made_has f h (Ready (Some x) ∷ i) (b ∷ before) after v always (Some w, k, e, called, c) =
-      made_has k h i before after v (makes_on g Fact f (x, tt) w k always called).1 c
+  made_here : (f q : F) (x : A) (y : Option V) → Always (Calls g) f x y q → MakesAlways g Fact f
+      → OfItem Fact (Ready y) × MakesAlways g Fact q
+  made_here f q x None called always = absurd called
+  made_here f q x (Some w) called always =
+      let on = makes_on g Fact f (x, tt) w q always called in (λ v e. let same : w ≡ v = cc e in subst Fact same on.0, on.1)
 
-  -- and the function goes on to promise it
-  still_promises : (f h : F) (i : List (Answer A)) (o : List (Answer V)) → MakesAlways g Fact f
-      → Replaces (Calls g) f i o h
-      → MakesAlways g Fact h
-  still_promises f h [] [] always c = subst (MakesAlways g Fact) (sym c) always
-  still_promises f h [] (b ∷ o) always c = absurd c
-  still_promises f h (a ∷ i) [] always c = absurd c
-  still_promises f h (Pending ∷ i) (b ∷ o) always c = still_promises f h i o always c.1
-  still_promises f h (Ready None ∷ i) (b ∷ o) always c = still_promises f h i o always c.1
-  still_promises f h (Ready (Some x) ∷ i) (b ∷ o) always (None, k, e, called, c) = absurd called
-  still_promises f h (Ready (Some x) ∷ i) (b ∷ o) always (Some w, k, e, called, c) =
-      still_promises k h i o (makes_on g Fact f (x, tt) w k always called).1 c
+  -- what each call promises holds of each item that comes out, and the function goes on to promise it
+  made_has : (f h : F) (i : List (Answer A)) (o : List (Answer V)) → Replaces (Calls g) f i o h → MakesAlways g Fact f
+      → AllByRecursion (OfItem Fact) o × MakesAlways g Fact h
+  made_has f h =
+      exchanges_steps (Always (Calls g)) h
+      (λ f i o. MakesAlways g Fact f → AllByRecursion (OfItem Fact) o × MakesAlways g Fact h) (λ k. (tt, k))
+      (λ f i o k always. let r = k always in ((λ v e. absurd (cc e), r.0), r.1))
+      (λ f i o k always. let r = k always in ((λ v e. absurd (cc e), r.0), r.1))
+      (λ f q x y i o c k always. let here = made_here f q x y c always in let r = k here.1 in ((here.0, r.0), r.1)) f
 
   module _ {S B : Type 0} (run : Runs (Answer A) S) (run' : Runs (Answer B) V) where
     pub each_made : (x : Map S F) (held : Option V) → EachMade g Fact x.f held
         → EachInner (Maps run (Calls g)) Fact x held
-    each_made x held each = (each.0, λ y before after v h. made_has x.f y.f h.ins before after v each.1 h.related)
+    each_made x held each = (
+      each.0,
+      λ y before after v h.
+          let made = (made_has x.f y.f h.ins (before ++ item v ∷ after) h.related each.1).0 in
+          (all_split (OfItem Fact) before (item v ∷ after) made).1.0 v refl,
+    )
 
     pub made_promises : (x y : FlatMap S V F) (l : List (Answer B)) → EachMade g Fact x.stream.f x.inner_stream
         → FlatMaps run g run' x l y
         → MakesAlways g Fact y.stream.f
-    made_promises x y l each h = still_promises x.stream.f y.stream.f h.came.ins h.ins each.1 h.came.related
+    made_promises x y l each h = (made_has x.stream.f y.stream.f h.came.ins h.ins h.came.related each.1).1
 
     each_made_on : ((b c : V) (l : List (Answer B)) → Fact b → run' b l c → Fact c)
         → ((x y z : Map S F) (l m : List (Answer V)) → Maps run (Calls g) x l y → Maps run (Calls g) y m z
@@ -143,7 +138,7 @@ module _ {S F A V B : Type 0} (g : Mut F (A × Unit {0}) V) {run ample : Runs (A
   flat_map_steady like same s =
       let outer = through_steady_over map_parts like (Answering like (Calls g)) s
       (replaces_relating (Calls g)).following (replaces_answering (Calls g) like) in
-      let made = replaces_agreeing_by (Calls g) like alike' (agree_from_matches (SameItem like) alike' (Calls g)) in
+      let made = replaces_agreeing (Calls g) like (Sameness.by alike') (agree_from_matches (SameItem like) alike' (Calls g)) in
       flattening_steady flat_map_parts same
       (λ x y e. (
         through_alike map_parts x.stream y.stream (s.steady x.stream.stream y.stream.stream e.0) e.1 made,

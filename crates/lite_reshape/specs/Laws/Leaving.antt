@@ -1,10 +1,11 @@
 -- Laws of answers of which some are left out.
-use Rattle.std.proofs.Common.{◌≡◌, ℕ, ◌≤◌, ◌<◌, List, [], ◌∷◌, Option, Some, None, refl, ap, subst, sym, arith}
+use Rattle.std.proofs.Common.{ℕ, ◌≤◌, List, [], ◌∷◌, Option, Some, None, refl, subst, arith}
 use Rattle.std.specs.List.{AllByRecursion}
 use Rattle.futures.specs.declared.task.Poll.TheVariants.{Ready, Pending}
 use Rattle.lite_base.specs.Answers.{Answer, before_end, end, item, items}
 use Rattle.lite_base.specs.Calm.{waits}
 use Rattle.lite_base.specs.Laws.Falling.{Lowers-below}
+use Rattle.lite_base.specs.Laws.Items.{IsItem, first_item, items_each}
 use Rattle.lite_base.specs.Laws.Segments.{answers_by, answers_given, answers_taken, segments_join}
 use Rattle.lite_base.specs.Rank.{Lowers}
 use Rattle.lite_base.specs.Runs.{Question}
@@ -23,24 +24,6 @@ leaves_each call P Q passed rejected f g i o =
     answers_by item (Rejects call) (Passes call) (λ p i o. AllByRecursion Q o → AllByRecursion P i)
     (λ p m x i b o t h e. (rejected p m x t.rejected, h e)) (λ p m a i b o t h e. (passed p m a b t e.0, h e.1)) f g i o
     (λ e. e)
-
--- answers that are all items
-module _ {A : Type 0} where
-  -- the answer is an item
-  abbrev IsItem : Answer A → Type 0
-  IsItem a = (x : A) × (a ≡ item x)
-
-  items_each : (l : List A) → AllByRecursion IsItem (items l)
-  items_each [] = tt
-  items_each (x ∷ l) = ((x, refl), items_each l)
-
-  each_items : (i : List (Answer A)) → AllByRecursion IsItem i → 0 < before_end i
-      → (x : A) × (before : List A) × (i ≡ items (x ∷ before))
-  each_items [] h some = absurd (omega (arith, some))
-  each_items (a ∷ []) h some = (h.0.0, [], ap (λ c. c ∷ []) h.0.1)
-  each_items (a ∷ b ∷ i) h some =
-      let rest = each_items (b ∷ i) h.1 (subst (λ c. 0 < before_end (c ∷ i)) (sym h.1.0.1) (omega arith)) in
-      (h.0.0, rest.0 ∷ rest.1, (let first = h.0.1 in let more = rest.2 in cc))
 
 -- by induction on the answers in: an item is rejected, or kept; a Pending and an end go out as they came
 module _ {F A B : Type 0} (call : Question F A (Option B)) (P : F → List (Answer A) → List (Answer B) → Type 0)
@@ -95,7 +78,7 @@ module _ {F A B : Type 0} (call : Question F A (Option B)) where
         bounds = leaves_bounded;
         lowers = leaves_lowers;
         from_items = λ f g i y l h. let fewer = leaves_bounded f g i (items (y ∷ l)) h in
-            each_items i (items_in_out f g i (items (y ∷ l)) h (items_each (y ∷ l))) (omega (arith, fewer));
+            first_item i (items_in_out f g i (items (y ∷ l)) h (items_each (y ∷ l))) (omega (arith, fewer));
       }
 
   -- no Pending is made up

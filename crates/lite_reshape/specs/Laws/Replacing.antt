@@ -1,81 +1,27 @@
--- Where something stands in the place of each item: what goes out, Pendings aside, is the same from things that are
--- alike.
+-- What is made of items that are alike.
+use Rattle.std.specs.List.{AllByRecursion}
 use Rattle.std.specs.Prelude.{⊤}
-use Rattle.std.proofs.Common.{◌≡◌, List, [], ◌∷◌, ◌++◌, Option, Some, None, refl, ap, subst, sym}
+use Rattle.std.proofs.Common.{List, [], ◌∷◌, Option, Some, None, refl}
 use Rattle.futures.specs.declared.task.Poll.TheVariants.{Ready, Pending}
-use Rattle.lite_base.specs.Alike.{OptionBy, SameAnswer, Sameness}
-use Rattle.lite_base.specs.Answers.{Answer, ComparableBy, end, item, strip}
-use Rattle.lite_base.specs.Laws.Alike.{comparable_nil, ends_same}
+use Rattle.lite_base.specs.Alike.{OptionBy}
+use Rattle.lite_base.specs.Answers.{Answer, ComparableBy, strip}
 use Rattle.lite_base.specs.Laws.Calling.{MatchesFrom}
-use Rattle.lite_base.specs.Runs.{Question}
+use Rattle.lite_base.specs.Laws.Items.{OfItem}
 use Rattle.lite_reshape.specs.Cloned.{Refers}
 
 -- items each of which is the same as those that it is like
 pub items_same : {A : Type 0} (like same : A → A → Type 0) (l : List (Answer A)) (m : List (Option A))
-    → ((before after : List (Answer A)) (x : A) → l ≡ before ++ item x ∷ after → (y : A) → like x y → same x y)
-    → ComparableBy (OptionBy like) (strip l) m
+    → AllByRecursion (OfItem (λ x. (y : A) → like x y → same x y)) l → ComparableBy (OptionBy like) (strip l) m
     → ComparableBy (OptionBy same) (strip l) m
-items_same like same [] m come c = tt
-items_same like same (Pending ∷ l) m come c =
-    items_same like same l m (λ before after x e. come (Pending ∷ before) after x (ap (λ k. Pending ∷ k) e)) c
-items_same like same (Ready x ∷ l) [] come c = tt
-items_same like same (Ready None ∷ l) (None ∷ m) come c =
-    (tt, items_same like same l m (λ before after x e. come (end ∷ before) after x (ap (λ k. end ∷ k) e)) c.1)
-items_same like same (Ready None ∷ l) (Some y ∷ m) come c = absurd c.0
-items_same like same (Ready (Some x) ∷ l) (None ∷ m) come c = absurd c.0
-items_same like same (Ready (Some x) ∷ l) (Some y ∷ m) come c = (
-  come [] l x refl y c.0,
-  items_same like same l m (λ before after z d. come (item x ∷ before) after z (ap (λ k. item x ∷ k) d)) c.1,
-)
+items_same like same [] m each c = tt
+items_same like same (Pending ∷ l) m each c = items_same like same l m each.1 c
+items_same like same (Ready x ∷ l) [] each c = tt
+items_same like same (Ready None ∷ l) (None ∷ m) each c = (tt, items_same like same l m each.1 c.1)
+items_same like same (Ready None ∷ l) (Some y ∷ m) each c = absurd c.0
+items_same like same (Ready (Some x) ∷ l) (None ∷ m) each c = absurd c.0
+items_same like same (Ready (Some x) ∷ l) (Some y ∷ m) each c =
+    (each.0 x refl y c.0, items_same like same l m each.1 c.1)
 
 -- what is made of an item is itself
 pub refers_match : {R : Type 0} (like : R → R → Type 0) → MatchesFrom like like Refers (λ (p q : Unit {0}). ⊤)
 refers_match like f k g l x w y z a e c d = (rw (c, d) e, tt)
-
--- `InPlace v follows out`: in the place of v there is `out`, in which v may be followed by what `follows` tells
-module _ {F A V B : Type 0} (call : Question F A V)
-    (InPlace : V → (List (Option B) → Type 0) → List (Option B) → Type 0) where
-  -- where nothing is pending: an end stays, and in the place of each item there is what is made of it
-  abbrev pub Placed : F → List (Option A) → List (Option B) → Type 0
-  Placed f [] out = out ≡ []
-  Placed f (None ∷ ins) out = (more : List (Option B)) × (out ≡ None ∷ more) × Placed f ins more
-  Placed f (Some x ∷ ins) out = (v : V) × (g : F) × call f x v g × InPlace v (Placed g ins) out
-
-  -- what is held stands before what comes in
-  abbrev pub PlacedFrom : F → Option V → List (Option A) → List (Option B) → Type 0
-  PlacedFrom f None ins out = Placed f ins out
-  PlacedFrom f (Some v) ins out = InPlace v (Placed f ins) out
-
-  -- from what agrees, alike things are made of items that are like one another, and what goes out in their places is
-  -- the same
-  module _ {like : A → A → Type 0} {alike : V → V → Type 0} {agree : F → F → Type 0} (same : Sameness B)
-      (made : MatchesFrom like alike call agree)
-      (places : (v w : V) (P Q : List (Option B) → Type 0) (o p : List (Option B)) → alike v w → InPlace v P o
-      → InPlace w Q p
-      → ((o' p' : List (Option B)) → P o' → Q p' → ComparableBy (SameAnswer same) o' p')
-      → ComparableBy (SameAnswer same) o p) where
-    placed_same : (f k : F) (i j : List (Option A)) (o p : List (Option B)) → agree f k
-        → ComparableBy (OptionBy like) i j → Placed f i o → Placed k j p
-        → ComparableBy (SameAnswer same) o p
-    placed_same f k [] j o p a c r q = subst (λ l. ComparableBy (SameAnswer same) l p) (sym r) tt
-    placed_same f k (x ∷ i) [] o p a c r q =
-        subst (λ l. ComparableBy (SameAnswer same) o l) (sym q) (comparable_nil (SameAnswer same) o)
-    placed_same f k (None ∷ i) (None ∷ j) o p a c r q =
-        rw (r.1, q.1) (ends_same same, placed_same f k i j r.0 q.0 a c.1 r.2 q.2)
-    placed_same f k (None ∷ i) (Some y ∷ j) o p a c r q = absurd c.0
-    placed_same f k (Some x ∷ i) (None ∷ j) o p a c r q = absurd c.0
-    placed_same f k (Some x ∷ i) (Some y ∷ j) o p a c r q =
-        let e = made f k r.1 q.1 x y r.0 q.0 a c.0 r.2 q.2 in
-        places r.0 q.0 (Placed r.1 i) (Placed q.1 j) o p e.0 r.3 q.3
-        (λ o' p' u v. placed_same r.1 q.1 i j o' p' e.1 c.1 u v)
-
-    -- from things that are alike, in the places of items that are, the same goes out, as far as both go
-    pub placed_from_same : (f k : F) (v w : Option V) (i j : List (Option A)) (o p : List (Option B)) → agree f k
-        → OptionBy alike v w
-        → ComparableBy (OptionBy like) i j
-        → PlacedFrom f v i o → PlacedFrom k w j p → ComparableBy (SameAnswer same) o p
-    placed_from_same f k None None i j o p a e c r q = placed_same f k i j o p a c r q
-    placed_from_same f k None (Some w) i j o p a e c r q = absurd e
-    placed_from_same f k (Some v) None i j o p a e c r q = absurd e
-    placed_from_same f k (Some v) (Some w) i j o p a e c r q =
-        places v w (Placed f i) (Placed k j) o p e r q (λ o' p' u z. placed_same f k i j o' p' a c u z)

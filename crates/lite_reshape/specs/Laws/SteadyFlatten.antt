@@ -6,15 +6,16 @@ use Rattle.lite_base.specs.Alike.{AlikeBy, OptionBy, SameAnswer, SameItem, Samen
 use Rattle.lite_base.specs.Answers.{Answer, ComparableBy, Endless, end, strip}
 use Rattle.lite_base.specs.Steady.{SteadinessBy, SteadyLawsBy, TakesNone}
 use Rattle.lite_reshape.specs.Cloned.{Refers}
-use Rattle.lite_reshape.specs.Flatten.{Flat, Flattening, InnerEnded, InnerHeld}
+use Rattle.lite_reshape.specs.Flatten.{Flattening}
 use Rattle.lite_reshape.specs.Inner.{EachInner}
-use Rattle.lite_reshape.specs.Laws.Replacing.{Placed, PlacedFrom, items_same, placed_from_same, refers_match}
+use Rattle.lite_reshape.specs.Laws.Replacing.{items_same, refers_match}
+use Rattle.lite_stream.specs.Laws.Placed.{PlacedFrom, placed_from_same}
 use Rattle.lite_base.specs.Laws.Answers.{strip_join}
 use Rattle.lite_base.specs.Laws.Alike.{both_items, comparable_as, comparable_nil}
-use Rattle.lite_base.specs.Laws.Calling.{answer_items}
+use Rattle.lite_base.specs.Laws.Alike.{answer_items}
 use Rattle.lite_base.specs.StreamLaws.{RunLaws}
 use Rattle.lite_base.specs.Runs.{Runs}
-use Rattle.lite_reshape.specs.Laws.Flatten.{flattening}
+use Rattle.lite_reshape.specs.Laws.Flatten.{flattening, flattening_by, have_come}
 use Rattle.lite_stream.specs.Laws.Through.{through_runs}
 use Rattle.lite_stream.specs.Through.{AdapterParts, Adapts}
 
@@ -65,27 +66,13 @@ module _ {B A : Type 0} (run : Runs (Answer A) B) where
       ⊎ ((own : List (Answer A)) × (c : B) × run b (own ++ end ∷ []) c × Endless own × (more : List (Option A))
       × (out ≡ strip own ++ more) × follows more)
 
-  in_place : (b : B) (i : List (Answer B)) (l : List (Answer A)) (last : Option B)
-      → ((m : List (Answer A)) → Flat run i m last → Placed Refers OwnInPlace tt (strip i) (strip m))
-      → InnerHeld run b i l last ⊎ InnerEnded run b (Flat run i) l last
-      → OwnInPlace b (Placed Refers OwnInPlace tt (strip i)) (strip l)
-  in_place b i l last rest (inl h) = inl (l, h.2, h.3, h.1, refl)
-  in_place b i l last rest (inr h) =
-      inr (h.0, h.5, h.6, h.4, strip (h.1 ∷ h.2), ap strip h.3 ∙ strip_join h.0 (h.1 ∷ h.2), rest (h.1 ∷ h.2) h.7)
-
-  placed : (last : Option B) (i : List (Answer B)) (l : List (Answer A)) → Flat run i l last
-      → Placed Refers OwnInPlace tt (strip i) (strip l)
-  placed last [] [] h = refl
-  placed last [] (a ∷ l) h = absurd h
-  placed last (a ∷ i) [] h = absurd h
-  placed last (Pending ∷ i) (a ∷ l) h = rw h.0 (placed last i l h.1)
-  placed last (Ready None ∷ i) (a ∷ l) h = rw h.0 (strip l, refl, placed last i l h.1)
-  placed last (Ready (Some b) ∷ i) (a ∷ l) h = (b, tt, refl, in_place b i (a ∷ l) last (λ m. placed last i m) h)
-
   placed_from : (held last : Option B) (i : List (Answer B)) (l : List (Answer A)) → Flattening run held i l last
       → PlacedFrom Refers OwnInPlace tt held (strip i) (strip l)
-  placed_from None last i l h = placed last i l h
-  placed_from (Some b) last i l h = in_place b i l last (λ m. placed last i m) h
+  placed_from held last =
+      flattening_by run last (λ f i l. PlacedFrom Refers OwnInPlace tt f (strip i) (strip l)) (λ e. refl)
+      (λ b c l n ran e. inl (l, c, ran, n, refl))
+      (λ b c i own a rest n ran k. inr (own, c, ran, n, strip (a ∷ rest), strip_join own (a ∷ rest), k)) (λ i l k. k)
+      (λ i l k. (strip l, refl, k)) (λ b i a l k. (b, tt, refl, k)) held
 
   module _ (same : Sameness A) {alike : B → B → Type 0} (steady : SteadinessBy (SameAnswer same) run alike) where
     abbrev Go : List (Option A) → List (Option A) → Type 0
@@ -124,27 +111,13 @@ module _ {B A : Type 0} (run : Runs (Answer A) B) where
         (placed_from (p.held x) (p.held x') h.ins l h.related) (placed_from (p.held y) (p.held y') k.ins m k.related)
 
 -- where no poll of an inner stream asks for memory
-module _ {B A : Type 0} {run ample : Runs (Answer A) B} (t : TakesNone run ample) where
-  place_found : (b : B) (i : List (Answer B)) (l : List (Answer A)) (last : Option B)
-      → ((m : List (Answer A)) → Flat run i m last → Flat ample i m last)
-      → InnerHeld run b i l last ⊎ InnerEnded run b (Flat run i) l last → InnerHeld ample b i l last
-      ⊎ InnerEnded ample b (Flat ample i) l last
-  place_found b i l last rest (inl h) = inl (h.0, h.1, h.2, t b h.2 l h.3, h.4)
-  place_found b i l last rest (inr h) =
-      inr (h.0, h.1, h.2, h.3, h.4, h.5, t b h.5 (h.0 ++ end ∷ []) h.6, rest (h.1 ∷ h.2) h.7)
-
-  flat_found : (last : Option B) (i : List (Answer B)) (l : List (Answer A)) → Flat run i l last → Flat ample i l last
-  flat_found last [] [] h = h
-  flat_found last [] (a ∷ l) h = absurd h
-  flat_found last (a ∷ i) [] h = absurd h
-  flat_found last (Pending ∷ i) (a ∷ l) h = (h.0, flat_found last i l h.1)
-  flat_found last (Ready None ∷ i) (a ∷ l) h = (h.0, flat_found last i l h.1)
-  flat_found last (Ready (Some b) ∷ i) (a ∷ l) h = place_found b i (a ∷ l) last (λ m. flat_found last i m) h
-
-  flattening_found : (held last : Option B) (i : List (Answer B)) (l : List (Answer A)) → Flattening run held i l last
-      → Flattening ample held i l last
-  flattening_found None last i l h = flat_found last i l h
-  flattening_found (Some b) last i l h = place_found b i l last (λ m. flat_found last i m) h
+flattening_found : {B A : Type 0} {run ample : Runs (Answer A) B} → TakesNone run ample → (held last : Option B)
+    (i : List (Answer B)) (l : List (Answer A)) → Flattening run held i l last → Flattening ample held i l last
+flattening_found {run = run} {ample = ample} t held last =
+    flattening_by run last (λ f i l. Flattening ample f i l last) (λ e. e)
+    (λ b c l n ran e. inl (refl, n, c, t b c l ran, e))
+    (λ b c i own a rest n ran k. inr (own, a, rest, refl, n, c, t b c (own ++ end ∷ []) ran, k)) (λ i l k. (refl, k))
+    (λ i l k. (refl, k)) (λ b i a l k. k) held
 
 module _ {M S B A : Type 0} (p : AdapterParts M S (Option B)) {outer ample : Runs (Answer B) S}
     {run found : Runs (Answer A) B}
@@ -172,8 +145,8 @@ pub inner_alike : {S B : Type 0} (same : Sameness B) (outer : Runs (Answer B) S)
     (held : Option B)
     → AlikeBy (SameAnswer same) outer s t
     → EachInner outer (λ b. (c : B) → SameItem same b c → alike b c) s held → AlikeBy (OptionBy alike) outer s t
-inner_alike same outer alike s t held a each l m s' t' h k =
+inner_alike {B = B} same outer alike s t held a each l m s' t' h k =
     items_same (SameItem same) alike l (strip m)
-    (λ before after b e. each.1 s' before after b (subst (λ i. outer s i s') e h))
+    (have_come outer (λ b. (c : B) → SameItem same b c → alike b c) s s' held l each h)
     (comparable_as (SameAnswer same) (OptionBy (SameItem same)) (answer_items same) (strip l) (strip m)
     (a l m s' t' h k))

@@ -13,6 +13,7 @@ use Rattle.lite_base.specs.Future.Handed.{handed}
 use Rattle.lite_base.specs.FutureLaws.{FutureLaws}
 use Rattle.lite_base.specs.Laws.Alike.{alike_agrees}
 use Rattle.lite_base.specs.Laws.Calm.{no_pending_join}
+use Rattle.lite_base.specs.Laws.Future.Handed.{handed_no_pending, handed_waiting}
 use Rattle.lite_base.specs.Laws.Future.Spent.{shown_gives, spends_follow, spends_found, spends_rest, spends_stay}
 use Rattle.lite_base.specs.Laws.Hint.{same_hint}
 use Rattle.lite_base.specs.Steady.{FutureSteadyLawsBy, SteadyLawsBy}
@@ -28,18 +29,13 @@ use Rattle.lite_base.specs.Calling.{AgreeFrom, Calls}
 use Rattle.lite_base.specs.Laws.Calling.{agree_from_matches}
 use Rattle.lite_base.specs.Runs.{Hints, Question, Runs}
 use Rattle.lite_stream.specs.Laws.Agreeing.{through_steady_by}
-use Rattle.lite_stream.specs.Laws.Through.{laws_bounded}
+use Rattle.lite_stream.specs.Laws.Through.{bounded_by, laws_bounded}
 
 module _ {B : Type 0} where
-  handed_waiting : (l : List (Poll B)) → Waiting l → Waiting (map (handed Some) l)
-  handed_waiting [] w = tt
-  handed_waiting (Pending ∷ l) w = handed_waiting l w
-  handed_waiting (Ready x ∷ l) w = absurd w
-
-  handed_gives : (l : List (Poll B)) (x : B) → Gives l x → Gives (map (handed Some) l ++ []) (Some x)
-  handed_gives [] x h = absurd h
-  handed_gives (Pending ∷ l) x h = handed_gives l x h
-  handed_gives (Ready y ∷ l) x h = rw (h.0, h.1) (refl, refl)
+  one_handed : (l : List (Poll B)) (x : B) → Gives l x → Gives (map (handed Some) l ++ []) (Some x)
+  one_handed [] x h = absurd h
+  one_handed (Pending ∷ l) x h = one_handed l x h
+  one_handed (Ready y ∷ l) x h = rw (h.0, h.1) (refl, refl)
 
 module _ {V B : Type 0} {run : Runs (Poll B) V} where
   hands_giving : FutureLaws run → FollowLaws (HandsOut run)
@@ -55,8 +51,8 @@ module _ {V B : Type 0} {run : Runs (Poll B) V} where
   pub hands_one : GivingOne (HandsOut run)
   hands_one =
       record {
-        waits = λ v w l h. rw h.3 (handed_waiting h.0 h.1);
-        hands = λ v l h. (h.value, rw (h.joined, h.later) (handed_gives h.ins h.value h.finishes.gives));
+        waits = λ v w l h. rw h.3 (handed_waiting Some h.0 h.1);
+        hands = λ v l h. (h.value, rw (h.joined, h.later) (one_handed h.ins h.value h.finishes.gives));
       }
 
 -- one poll of a future
@@ -79,10 +75,6 @@ bounded_if : (b : Bool) (k n : ℕ) → k ≤ n + 1 → IfSome (cond b (Some (n 
 bounded_if true k n h = h
 bounded_if false k n h = tt
 
-bounded_none : (most : Option ℕ) (k n : ℕ) → k ≤ n + 0 → IfSome most (λ m. n ≤ m) → IfSome most (λ m. k ≤ m)
-bounded_none None k n h b = tt
-bounded_none (Some m) k n h b = omega (arith, h, b)
-
 bounded_some : (most : Option ℕ) (k n : ℕ) → k ≤ n + 1 → IfSome most (λ m. n ≤ m)
     → IfSome (one_more_at_most most) (λ m. k ≤ m)
 bounded_some None k n h b = tt
@@ -91,7 +83,7 @@ bounded_some (Some m) k n h b = bounded_if (nat_lt m (2 ^ 64 - 1)) k m (omega (a
 then_bounded : {V : Type 0} (held : Option V) (hint : ℕ × Option ℕ) (k n : ℕ) → k ≤ n + count_held held
     → IfSome hint.1 (λ most. n ≤ most)
     → IfSome (then_hint held hint).1 (λ most. k ≤ most)
-then_bounded None hint k n h b = bounded_none hint.1 k n h b
+then_bounded None hint k n h b = bounded_by hint.1 (omega (arith, h)) b
 then_bounded (Some v) hint k n h b = bounded_some hint.1 k n h b
 
 pub then_laws : {S F V A B : Type 0} (call : Question F A V) {gives : Runs (Poll B) V} {run : Runs (Answer A) S}
@@ -126,17 +118,12 @@ module _ {V B : Type 0} (same : Sameness B) {gives found : Runs (Poll B) V} {non
             (λ v l next h. spends_found (handed Some) (λ after. after ≡ []) (s.found n.1) (Some v) next l h),
       ))
 
-handed_no_pending : {B : Type 0} (l : List (Poll B)) → NoPending l → NoPending (map (handed Some) l)
-handed_no_pending [] h = tt
-handed_no_pending (Pending ∷ l) h = absurd h
-handed_no_pending (Ready x ∷ l) h = handed_no_pending l h
-
 module _ {V B : Type 0} {gives : Runs (Poll B) V} {calm : V → Type 0} (c : CalmLaws gives calm) where
   hands_calm : (v : V) (l : List (Answer B)) (next : Option V) → calm v → HandsOut gives v l next → NoPending l
       × IfSome next calm
-  hands_calm v l (Some w) k h = (rw h.3 (handed_no_pending h.0 (c.no_pending v w h.0 k h.2)), c.calm_on v w h.0 k h.2)
+  hands_calm v l (Some w) k h = (rw h.3 (handed_no_pending Some h.0 (c.no_pending v w h.0 k h.2)), c.calm_on v w h.0 k h.2)
   hands_calm v l None k h =
-      let ins = handed_no_pending h.ins (c.no_pending v h.finishes.last h.ins k h.finishes.came) in
+      let ins = handed_no_pending Some h.ins (c.no_pending v h.finishes.last h.ins k h.finishes.came) in
       (rw (h.joined, h.later) (no_pending_join (map (handed Some) h.ins) [] ins tt), tt)
 
   -- by a function that makes calm futures

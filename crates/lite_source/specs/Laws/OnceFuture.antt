@@ -8,13 +8,13 @@ use Rattle.futures.specs.declared.task.Poll.TheVariants.{Ready, Pending}
 use Rattle.lite_base.specs.Alike.{OptionBy, SameAnswer, SameItem, Sameness}
 use Rattle.lite_base.specs.Answers.{Answer, ComparableBy, Waiting, end, strip}
 use Rattle.lite_base.specs.Calm.{CalmLaws, NoPending}
-use Rattle.lite_base.specs.Laws.Falling.{Lowers-below}
+use Rattle.lite_base.specs.Laws.Falling.{Lowers-below, waiting_lowers}
 use Rattle.lite_base.specs.Future.Spent.{Spends}
 use Rattle.lite_base.specs.FutureLaws.{FutureLaws}
 use Rattle.lite_base.specs.Laws.Alike.{alike_agrees, comparable_nil, ends_same, same_answer}
 use Rattle.lite_base.specs.Laws.All.{all_append}
 use Rattle.lite_base.specs.Laws.Calm.{calm_both, no_pending_join}
-use Rattle.lite_base.specs.Laws.Future.Handed.{handed_gives, handed_no_pending, handed_waits}
+use Rattle.lite_base.specs.Laws.Future.Handed.{handed_gives, handed_no_pending, handed_waiting, handed_waits}
 use Rattle.lite_base.specs.Laws.Future.Spent.{spends_found, spends_follow, spends_rest, spends_stay}
 use Rattle.lite_base.specs.Laws.Hint.{same_hint}
 use Rattle.lite_base.specs.Rank.{AtMost, Lowers}
@@ -38,18 +38,13 @@ module _ {F A : Type 0} (run : Runs (Poll A) F) where
         bounded = λ x y hint l e h. same_hint hint (0, None) l e tt;
       }
 
-  waiting_lowers : (l : List (Poll A)) (xs ys : List ℕ) → Waiting l → AtMost xs ys
-      → Lowers (map (handed (λ x. Some x)) l) xs ys
-  waiting_lowers [] xs ys w h = h
-  waiting_lowers (Pending ∷ l) xs ys w h = waiting_lowers l xs ys w h
-  waiting_lowers (Ready x ∷ l) xs ys w h = absurd w
-
   spends_lower : (x y : Option F) (l : List (Answer A))
       → Spends run (handed (λ v. Some v)) (AllByRecursion (λ a. a ≡ end)) x l y
       → Lowers l (option_len y ∷ []) (option_len x ∷ [])
   spends_lower None y l h =
       no_items_lower _ (λ x e. cc e) l (option_len y ∷ []) (0 ∷ []) h.0 (inl (ap (λ f. option_len f ∷ []) h.1))
-  spends_lower (Some f) (Some g) l h = rw h.3 (waiting_lowers h.0 (1 ∷ []) (1 ∷ []) h.1 (inl refl))
+  spends_lower (Some f) (Some g) l h = rw h.3 (waiting_lowers (map (handed (λ x. Some x)) h.0) (1 ∷ []) (1 ∷ [])
+      (handed_waiting (λ x. Some x) h.0 h.1) (inl refl))
   spends_lower (Some f) None l h = Lowers-below l (0 ∷ []) (1 ∷ []) (inl (omega arith, refl))
 
   pub once_future_counting : Counting (GivesFuture run) once_future_ranks

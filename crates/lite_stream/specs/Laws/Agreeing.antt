@@ -18,11 +18,6 @@ abbrev pub AgreeingOver : {F A B : Type 0} → Sameness A → Sameness B
     → (F → List (Answer A) → List (Answer B) → F → Type 0) → (F → F → Type 0) → Type 0
 AgreeingOver like same = AgreeingFrom (SameAnswer like) (SameAnswer same)
 
--- equal ones come of equal ones
-abbrev pub Agreeing : {F A B : Type 0} → (F → List (Answer A) → List (Answer B) → F → Type 0) → (F → F → Type 0)
-    → Type 0
-Agreeing = AgreeingFrom (λ x y. x ≡ y) (λ o p. o ≡ p)
-
 pub through_alike : {M S F A B : Type 0} (p : AdapterParts M S F) {ample : Runs (Answer A) S}
     {relates : F → List (Answer A) → List (Answer B) → F → Type 0}
     {agree : F → F → Type 0} {like : Option A → Option A → Type 0} {same : Option B → Option B → Type 0} (x y : M)

@@ -1,5 +1,5 @@
 -- Adapters of one source that make up no Pending.
-use Rattle.std.proofs.Common.{◌≤◌, List, arith}
+use Rattle.std.proofs.Common.{◌≤◌, ◌+◌, List, arith}
 use Rattle.lite_base.specs.Answers.{Answer}
 use Rattle.lite_base.specs.Calm.{CalmLaws, waits}
 use Rattle.lite_base.specs.Laws.Calm.{none_no_pending, no_pending_none}
@@ -21,4 +21,22 @@ through_calm p c t =
           let fewer = t (p.held x) (p.held y) h.ins l h.related in
           none_no_pending l (omega (arith, none, fewer));
       calm_on = λ x y l k h. c.calm_on (p.source x) (p.source y) h.ins k h.came;
+    }
+
+-- a stream of two that are calm, of which no more Pendings go out than came in
+pub calm_two : {M S U A B C : Type 0} {run : Runs (Answer A) S} {run' : Runs (Answer B) U} {runs : Runs (Answer C) M}
+    (first : M → S) (second : M → U) {is_calm : S → Type 0} {is_calm' : U → Type 0} → CalmLaws run is_calm
+    → CalmLaws run' is_calm'
+    → ((x y : M) (l : List (Answer C)) → runs x l y → (i : List (Answer A)) × (j : List (Answer B))
+    × run (first x) i (first y) × run' (second x) j (second y) × (waits l ≤ waits i + waits j))
+    → CalmLaws runs (λ m. is_calm (first m) × is_calm' (second m))
+calm_two first second c d came =
+    record {
+      no_pending = λ x y l k h.
+          let e = came x y l h in
+          let none = no_pending_none e.0 (c.no_pending (first x) (first y) e.0 k.0 e.2) in
+          let none' = no_pending_none e.1 (d.no_pending (second x) (second y) e.1 k.1 e.3) in
+          none_no_pending l (omega (arith, e.4, none, none'));
+      calm_on = λ x y l k h. let e = came x y l h in
+          (c.calm_on (first x) (first y) e.0 k.0 e.2, d.calm_on (second x) (second y) e.1 k.1 e.3);
     }

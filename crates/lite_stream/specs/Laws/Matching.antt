@@ -2,18 +2,20 @@
 use Rattle.std.specs.Prelude.{⊤}
 use Rattle.std.proofs.Common.{◌≡◌, ◌∙◌, refl, sym}
 use denote.Ref.{Bor}
-use Rattle.lite_base.specs.Alike.{SameItem, Sameness}
-use Rattle.lite_base.specs.Laws.Alike.{made_same}
+use Rattle.lite_base.specs.Alike.{Pairwise, SameItem, Sameness}
+use Rattle.lite_base.specs.Laws.Alike.{made_same, pairs_same}
 use Rattle.lite_stream.specs.Copied.{CopiesItem, Referred}
 use Rattle.lite_stream.specs.Enumerate.{Numbers}
 use Rattle.lite_stream.specs.Inspect.{ShowsItem}
-use Rattle.lite_base.specs.Laws.Calling.{Matches, MatchesFrom}
+use Rattle.lite_base.specs.Laws.Calling.{MatchesFrom}
 use Rattle.lite_base.specs.Runs.{Question}
 
 module _ {A : Type 0} where
   -- from one number on
-  pub numbers_match : Matches (λ y z. y ≡ z) (Numbers {A = A}) (λ n m. m ≡ n)
-  numbers_match f k g l x y z a c d = (rw (c.0, d.0, a) refl, rw (c.1, d.1, a) refl)
+  pub numbers_match : (like : Sameness A)
+      → MatchesFrom (SameItem like) (SameItem (Pairwise Sameness.equal like)) Numbers (λ n m. m ≡ n)
+  numbers_match like f k g l x w y z a e c d =
+      (rw (c.0, d.0) (pairs_same Sameness.equal like (f, x) (k, w) (sym a) e), rw (c.1, d.1, a) refl)
 
   -- copies of what references that are the same refer to
   pub copies_match : (like : Sameness (Bor A))

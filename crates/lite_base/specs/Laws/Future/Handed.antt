@@ -5,13 +5,17 @@ use Rattle.futures.specs.declared.task.Poll.TheVariants.{Ready, Pending}
 use Rattle.lite_base.specs.Answers.{Answer, Gives, Waiting, strip}
 use Rattle.lite_base.specs.Calm.{NoPending}
 use Rattle.lite_base.specs.Future.Handed.{handed}
+use Rattle.lite_base.specs.Laws.Answers.{waiting_strip}
 
 module _ {A B : Type 0} (shown : A → Option B) where
   -- while it waits nothing else goes out
+  pub handed_waiting : (l : List (Poll A)) → Waiting l → Waiting (map (handed shown) l)
+  handed_waiting [] w = tt
+  handed_waiting (Pending ∷ l) w = handed_waiting l w
+  handed_waiting (Ready x ∷ l) w = absurd w
+
   pub handed_waits : (l : List (Poll A)) → Waiting l → strip (map (handed shown) l) ≡ []
-  handed_waits [] w = refl
-  handed_waits (Pending ∷ l) w = handed_waits l w
-  handed_waits (Ready x ∷ l) w = absurd w
+  handed_waits l w = waiting_strip (map (handed shown) l) (handed_waiting l w)
 
   -- and then what is shown of the value, before what comes later
   pub handed_gives : (l : List (Poll A)) (later : List (Answer B)) (x : A) → Gives l x

@@ -1,6 +1,6 @@
 -- Laws of two futures of which one is asked first.
 use Rattle.std.specs.Prelude.{◌⊎◌}
-use Rattle.std.proofs.Common.{◌≡◌, List, [], ◌∷◌, ◌++◌, Bool, true, false, refl, subst, ap, inl, inr}
+use Rattle.std.proofs.Common.{◌≡◌, List, [], ◌∷◌, ◌++◌, Bool, refl, subst, ap, inl, inr}
 use Rattle.futures.specs.declared.task.Poll.{Poll}
 use Rattle.futures.specs.declared.task.Poll.TheVariants.{Ready, Pending}
 use Rattle.lite_base.specs.Answers.{Waiting}
@@ -9,6 +9,7 @@ use Rattle.lite_base.specs.Future.Picks.{PickRow, PickRows, Picks}
 use Rattle.lite_base.specs.FutureLaws.{FutureLaws}
 use Rattle.lite_base.specs.Laws.Answers.{waiting_up_to}
 use Rattle.lite_base.specs.Laws.Calm.{no_pending_join}
+use Rattle.lite_base.specs.Laws.Rows.{rows_by, rows_follow}
 use Rattle.lite_base.specs.Runs.{Runs}
 
 other_way : {P Q : Type 0} → P ⊎ Q → Q ⊎ P
@@ -29,27 +30,16 @@ module _ {A : Type 0} where
   row_waits (Pending ∷ i) (Pending ∷ j) i' j' r w v = (rw (← r.1) w, rw (← r.2) v)
   row_waits i j i' j' r w v = absurd r
 
-  pub rows_wait : (order : List Bool) (i j out : List (Poll A)) → PickRows order i j out → Waiting out → Waiting i
+  rows_wait : (order : List Bool) (i j out : List (Poll A)) → PickRows order i j out → Waiting out → Waiting i
       × Waiting j
-  rows_wait [] i j out r w = (rw r.0 tt, rw r.1 tt)
-  rows_wait (b ∷ order) i j [] r w = absurd r
-  rows_wait (b ∷ order) i j (Ready x ∷ out) r w = absurd w
-  rows_wait (true ∷ order) i j (Pending ∷ out) r w =
-      let e = rows_wait order r.0 r.1 out r.3 w in
-      row_waits i j r.0 r.1 r.2 e.0 e.1
-  rows_wait (false ∷ order) i j (Pending ∷ out) r w =
-      let e = rows_wait order r.0 r.1 out r.3 w in
-      let d = row_waits j i r.1 r.0 r.2 e.1 e.0 in
-      (d.1, d.0)
-
-  pub rows_follow : (o p : List Bool) (i j k h l m : List (Poll A)) → PickRows o i j l → PickRows p k h m
-      → PickRows (o ++ p) (i ++ k) (j ++ h) (l ++ m)
-  rows_follow [] p i j k h l m r q = rw (r.0, r.1, r.2) q
-  rows_follow (b ∷ o) p i j k h [] m r q = absurd r
-  rows_follow (true ∷ o) p i j k h (c ∷ l) m r q =
-      (r.0 ++ k, r.1 ++ h, row_more i j c r.0 r.1 k h r.2, rows_follow o p r.0 r.1 k h l m r.3 q)
-  rows_follow (false ∷ o) p i j k h (c ∷ l) m r q =
-      (r.0 ++ k, r.1 ++ h, row_more j i c r.1 r.0 h k r.2, rows_follow o p r.0 r.1 k h l m r.3 q)
+  rows_wait =
+      rows_by PickRow (λ i j l. Waiting l → Waiting i × Waiting j) (λ w. (tt, tt)) waits
+      (λ i j c i' j' l r k w. let d = waits j i c j' i' l r (λ v. let e = k v in (e.1, e.0)) w in (d.1, d.0))
+    where
+      waits : (i j : List (Poll A)) (c : Poll A) (i' j' l : List (Poll A)) → PickRow i j c i' j'
+          → (Waiting l → Waiting i' × Waiting j') → Waiting (c ∷ l) → Waiting i × Waiting j
+      waits i j Pending i' j' l r k w = let e = k w in row_waits i j i' j' r e.0 e.1
+      waits i j (Ready x) i' j' l r k w = absurd w
 
   -- where one of the two lists has no Pending, no row has
   row_calm : (i j : List (Poll A)) (c : Poll A) (i' j' : List (Poll A)) → PickRow i j c i' j' → NoPending i
@@ -63,14 +53,11 @@ module _ {A : Type 0} where
 
   rows_calm : (order : List Bool) (i j out : List (Poll A)) → PickRows order i j out → NoPending i ⊎ NoPending j
       → NoPending out
-  rows_calm [] i j out r p = rw r.2 tt
-  rows_calm (b ∷ order) i j [] r p = absurd r
-  rows_calm (true ∷ order) i j (c ∷ out) r p =
-      let d = row_calm i j c r.0 r.1 r.2 p in
-      no_pending_join (c ∷ []) out d.0 (rows_calm order r.0 r.1 out r.3 d.1)
-  rows_calm (false ∷ order) i j (c ∷ out) r p =
-      let d = row_calm j i c r.1 r.0 r.2 (other_way p) in
-      no_pending_join (c ∷ []) out d.0 (rows_calm order r.0 r.1 out r.3 (other_way d.1))
+  rows_calm =
+      rows_by PickRow (λ i j l. NoPending i ⊎ NoPending j → NoPending l) (λ p. tt)
+      (λ i j c i' j' l r k p. let d = row_calm i j c i' j' r p in no_pending_join (c ∷ []) l d.0 (k d.1))
+      (λ i j c i' j' l r k p. let d = row_calm j i c j' i' r (other_way p) in
+      no_pending_join (c ∷ []) l d.0 (k (other_way d.1)))
 
 module _ {F G A : Type 0} {run_first : Runs (Poll A) F} {run_second : Runs (Poll A) G} where
   pub picks_rest : FutureLaws run_first → FutureLaws run_second → (f : F) (g : G)
@@ -103,7 +90,7 @@ module _ {F G A : Type 0} {run_first : Runs (Poll A) F} {run_second : Runs (Poll
         j = h.j ++ k.j;
         first = laws_first.follows f f' f2 h.i k.i waits.0 h.first k.first;
         second = laws_second.follows g g' g2 h.j k.j waits.1 h.second k.second;
-        rows = rows_follow o p h.i h.j k.i k.j l m h.rows k.rows;
+        rows = rows_follow PickRow row_more o p h.i h.j k.i k.j l m h.rows k.rows;
         ends = waiting_up_to l m w k.ends;
       }
 

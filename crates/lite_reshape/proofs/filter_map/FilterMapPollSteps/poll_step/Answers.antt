@@ -1,38 +1,31 @@
 use Rattle.std.proofs.Common.{refl}
-use Rattle.lite_base.specs.Calling.{Calls}
 use Rattle.lite_stream.specs.Laws.EachItem.{each_asked, each_end, each_here}
 use Rattle.lite_reshape.proofs.filter_map.FilterMapPollSteps.poll_step.Goals as goal
 
 pub f-requires : goal.f-requires
 f-requires g c =
     let ran = rw c.in-Ready-Some.field-0-is at c.in-Ready-Some.ensures.ran in
-    each_here g.S.Stream.run (Calls g.F.FnMut) (λ p x. g.F.FnMut.pre p (x, tt)) _ _ _ _ c.requires.2 ran
+    each_here c.requires.2 ran refl
 
 pub returns-in_err-value-in-Ready-Some-clause-stepped : goal.returns-in_err-value-in-Ready-Some-clause-stepped
 returns-in_err-value-in-Ready-Some-clause-stepped g c =
     let ran = rw c.in-Ready-Some.field-0-is at c.in-Ready-Some.ensures.ran in
-    let more = each_asked g.S.Stream.run (Calls g.F.FnMut)
-    (λ p x. g.F.FnMut.pre p
-    (x, tt)) g.met.S.Stream.laws.follows _ _ _ _ _ c.f.result c.requires.2 ran c.f.ensures in (
-      (c.poll_next.ensures.again, g.met.S.Counted.counting.counts_on _ _ _ c.requires.1 c.poll_next.ensures.ran, more),
+    let counts = g.met.S.Counted.counting.counts_on _ _ _ c.requires.1 ran in
+    let more = each_asked g.met.S.Stream.laws.follows c.requires.2 ran refl c.f.ensures in (
+      (c.poll_next.ensures.again, counts, more),
       rw c.from_residual.ensures (c.in-Ready-Some.item, ran, c.in_err-value-in-Ready-Some.ensures),
     )
 
 pub returns-in_ok-value-in-Ready-Some-clause-stepped : goal.returns-in_ok-value-in-Ready-Some-clause-stepped
 returns-in_ok-value-in-Ready-Some-clause-stepped g c =
     let ran = rw c.in-Ready-Some.field-0-is at c.in-Ready-Some.ensures.ran in
-    let more = each_asked g.S.Stream.run (Calls g.F.FnMut)
-    (λ p x. g.F.FnMut.pre p
-    (x, tt)) g.met.S.Stream.laws.follows _ _ _ _ _ c.f.result c.requires.2 ran c.f.ensures in (
-      (c.poll_next.ensures.again, g.met.S.Counted.counting.counts_on _ _ _ c.requires.1 c.poll_next.ensures.ran, more),
-      (_, ran, (c.in-Ready-Some.item, refl, c.in_ok-value-in-Ready-Some.ensures)),
-    )
+    let counts = g.met.S.Counted.counting.counts_on _ _ _ c.requires.1 ran in
+    let more = each_asked g.met.S.Stream.laws.follows c.requires.2 ran refl c.f.ensures in
+    ((c.poll_next.ensures.again, counts, more), (_, ran, (_, refl, c.in_ok-value-in-Ready-Some.ensures)))
 
 pub returns-in-Ready-None-clause-stepped : goal.returns-in-Ready-None-clause-stepped
 returns-in-Ready-None-clause-stepped g c =
     let ran = rw c.in-Ready-None.field-0-is at c.in-Ready-None.ensures.ran in
-    let more = each_end g.S.Stream.run (Calls g.F.FnMut)
-    (λ p x. g.F.FnMut.pre p (x, tt)) g.met.S.Stream.laws.follows _ _ _ c.requires.2 ran in (
-      (c.poll_next.ensures.again, g.met.S.Counted.counting.counts_on _ _ _ c.requires.1 c.poll_next.ensures.ran, more),
-      (_, ran, (refl, refl)),
-    )
+    let counts = g.met.S.Counted.counting.counts_on _ _ _ c.requires.1 ran in
+    let more = each_end _ _ _ g.met.S.Stream.laws.follows _ _ _ c.requires.2 ran in
+    ((c.poll_next.ensures.again, counts, more), (_, ran, (refl, refl)))

@@ -1,5 +1,6 @@
 use Rattle.lite_reshape.specs.FlatMap.{flat_map_parts}
 use Rattle.lite_reshape.specs.Laws.FlatMap.{each_made, made_promises}
+use Rattle.lite_base.specs.Laws.StreamLaws.{runs_of}
 use Rattle.lite_reshape.specs.Laws.Flatten.{flat_answer}
 use Rattle.lite_base.specs.Calling.{Calls}
 use Rattle.lite_stream.specs.Laws.Pointwise.{replaces_relating}
@@ -16,7 +17,7 @@ returns-clause-ran g c =
     let steps = c.drive.ensures.stepped in
     let outer = laws_hinted map_parts g.met.S.Stream.laws (replaces_relating (Calls g.F.FnMut)) in
     flat_answer g.U.Stream.run
-    (Maps g.S.Stream.run (Calls g.F.FnMut)) outer.rests outer.follows flat_map_parts _ _ steps.0 _ _ steps.1 steps.2
+    (Maps g.S.Stream.run (Calls g.F.FnMut)) (runs_of outer) flat_map_parts _ _ steps.0 _ _ steps.1 steps.2
 
 pub returns-clause-again : goal.returns-clause-again
 returns-clause-again g c =

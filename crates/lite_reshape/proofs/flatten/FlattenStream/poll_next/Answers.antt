@@ -1,9 +1,9 @@
 use Rattle.lite_reshape.specs.Inner.{flatten_parts}
+use Rattle.lite_base.specs.Laws.StreamLaws.{runs_of}
 use Rattle.lite_reshape.specs.Laws.Flatten.{flat_answer}
 use Rattle.lite_reshape.proofs.flatten.FlattenStream.poll_next.Goals as goal
 
 pub returns-clause-ran : goal.returns-clause-ran
 returns-clause-ran g c =
     let steps = c.drive.ensures.stepped in
-    let outer = g.met.S.Stream.laws in
-    flat_answer g.B.Stream.run g.S.Stream.run outer.rests outer.follows flatten_parts _ _ steps.0 _ _ steps.1 steps.2
+    flat_answer g.B.Stream.run g.S.Stream.run (runs_of g.met.S.Stream.laws) flatten_parts _ _ steps.0 _ _ steps.1 steps.2

@@ -1,5 +1,4 @@
-use Rattle.std.proofs.Common.{◌≡◌, Some, None, refl}
-use Rattle.std.specs.Fn.{Called}
+use Rattle.std.proofs.Common.{◌≡◌, Some, None, refl, rules}
 use Rattle.futures.specs.declared.task.Poll.TheVariants.{Ready, Pending}
 use Rattle.lite_base.specs.Answers.{item}
 use Rattle.lite_reshape.specs.Laws.Expanding.{held_answers, made_answers, none_answers}
@@ -53,37 +52,19 @@ returns-in-Pending-clause-ran g c =
     (hands_pending run _ _ _ refl c.in-Pending.ensures.ran))
 
 pub f-future-requires : goal.f-future-requires
-f-future-requires g c =
-    let is : c.poll_next.result ≡ item c.in-Some-ready.item = cc in
-    (each_here g.S.Stream.run (Calls g.F.FnMut)
-    (λ p x. g.F.FnMut.pre p (x, tt)
-    × ((v : _) (q : _) → Called g.F.FnMut p (x, tt) v q → g.Fut.Future.can_poll v)) _ _ _ _ c.requires.1
-    (rw is at c.poll_next.ensures.ran)).0
+f-future-requires g c = (each_here c.requires.1 c.poll_next.ensures.ran (search rules)).0
 
 pub poll-requires-in-Some-ready : goal.poll-requires-in-Some-ready
 poll-requires-in-Some-ready g c =
     let is : c.poll_next.result ≡ item c.in-Some-ready.item = cc in
-    (each_here g.S.Stream.run (Calls g.F.FnMut)
-    (λ p x. g.F.FnMut.pre p (x, tt)
-    × ((v : _) (q : _) → Called g.F.FnMut p (x, tt) v q → g.Fut.Future.can_poll v)) _ _ _ _ c.requires.1
-    (rw is at c.poll_next.ensures.ran)).1 _ _ c.f-future.ensures
+    (each_here c.requires.1 c.poll_next.ensures.ran is).1 _ _ c.f-future.ensures
 
 pub returns-in-Ready-clause-again : goal.returns-in-Ready-clause-again
 returns-in-Ready-clause-again g c =
-    let is : c.poll_next.result ≡ item c.in-Some-ready.item = cc in
-    let more = each_asked g.S.Stream.run (Calls g.F.FnMut)
-    (λ p x. g.F.FnMut.pre p (x, tt)
-    × ((v : _) (q : _) → Called g.F.FnMut p (x, tt) v q
-    → g.Fut.Future.can_poll v)) g.met.S.Stream.laws.follows _ _ _ _ _ c.f-future.result c.requires.1
-    (rw is at c.poll_next.ensures.ran) c.f-future.ensures in
-    (c.poll_next.ensures.again, more, c.requires.2)
+    let asked = each_asked g.met.S.Stream.laws.follows c.requires.1 c.poll_next.ensures.ran (search rules) in
+    (c.poll_next.ensures.again, asked c.f-future.ensures, c.requires.2)
 
 pub returns-in-Pending-clause-again : goal.returns-in-Pending-clause-again
 returns-in-Pending-clause-again g c =
-    let is : c.poll_next.result ≡ item c.in-Some-ready.item = cc in
-    let more = each_asked g.S.Stream.run (Calls g.F.FnMut)
-    (λ p x. g.F.FnMut.pre p (x, tt)
-    × ((v : _) (q : _) → Called g.F.FnMut p (x, tt) v q
-    → g.Fut.Future.can_poll v)) g.met.S.Stream.laws.follows _ _ _ _ _ c.f-future.result c.requires.1
-    (rw is at c.poll_next.ensures.ran) c.f-future.ensures in
-    (c.poll_next.ensures.again, more, c.in-Pending.ensures.again)
+    let asked = each_asked g.met.S.Stream.laws.follows c.requires.1 c.poll_next.ensures.ran (search rules) in
+    (c.poll_next.ensures.again, asked c.f-future.ensures, c.in-Pending.ensures.again)

@@ -1,0 +1,41 @@
+-- A rank, and then a place that counts what is held.
+use Rattle.std.proofs.Common.{◌≡◌, ◌∙◌, ℕ, ◌+◌, List, [], ◌∷◌, length, Option, Some, None, inl, refl, ap, arith}
+use Rattle.std.proofs.Common.{length-append}
+use Rattle.std.specs.List.{AllByRecursion}
+use Rattle.lite_base.specs.Answers.{Answer, items}
+use Rattle.lite_base.specs.Laws.Falling.{AtMost-both, Below-after, Below-first}
+use Rattle.lite_base.specs.Laws.Items.{IsItem, each_items}
+use Rattle.lite_base.specs.Rank.{AtMost, Below}
+use Rattle.lite_base.specs.Ranks.{count_held, held_rank}
+use Rattle.lite_stream.specs.Laws.Lower.{at_most_below}
+
+module _ {V : Type 0} where
+  pub held_sized : (xs : List ℕ) (held : Option V) {n : ℕ} → length xs ≡ n → length (held_rank xs held) ≡ n + 1
+  held_sized xs held e = length-append xs (count_held held ∷ []) ∙ ap (λ k. k + 1) e
+
+  -- what is held goes
+  held_below : (xs us : List ℕ) (v : V) → AtMost xs us → Below (held_rank {V = V} xs None) (held_rank us (Some v))
+  held_below xs us v h = Below-after xs us (0 ∷ []) (1 ∷ []) h (inl (omega arith, refl))
+
+  pub held_less : (zs us : List ℕ) (v : V) → AtMost zs (held_rank {V = V} us None) → Below zs (held_rank us (Some v))
+  held_less zs us v h =
+      at_most_below zs (held_rank {V = V} us None) (held_rank us (Some v)) h (held_below us us v (inl refl))
+
+  -- what stands before is lower
+  pub held_first : (xs us : List ℕ) (g f : Option V) → Below xs us → Below (held_rank xs g) (held_rank us f)
+  held_first xs us g f h = Below-first xs us (count_held g ∷ []) (count_held f ∷ []) h refl
+
+  pub held_level : (xs us : List ℕ) (v w : Option V) → AtMost xs us → count_held w ≡ count_held v
+      → AtMost (held_rank xs w) (held_rank us v)
+  held_level xs us v w h e = AtMost-both xs us (count_held w ∷ []) (count_held v ∷ []) h (inl (ap (λ k. k ∷ []) e))
+
+  -- items came in, or nothing did and what was held is gone
+  pub held_falls : {A : Type 0} (i : List (Answer A)) (xs us : List ℕ) (g f : Option V)
+      → ((a : A) (before : List A) → i ≡ items (a ∷ before) → Below xs us) → (i ≡ [] → xs ≡ us)
+      → (i ≡ [] → (g ≡ None) × (v : V) × (f ≡ Some v)) → AllByRecursion IsItem i
+      → Below (held_rank xs g) (held_rank us f)
+  held_falls {A = A} i xs us g f falls same alone h = at_start (each_items i h)
+    where
+      at_start : (l : List A) × (i ≡ items l) → Below (held_rank xs g) (held_rank us f)
+      at_start ([], e) = let a = alone e in rw (a.0, a.2) (held_below xs us a.1 (inl (same e)))
+      at_start (x ∷ before, e) = held_first xs us g f (falls x before e)

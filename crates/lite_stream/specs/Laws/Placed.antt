@@ -1,0 +1,66 @@
+-- Where something stands in the place of each item: what goes out, Pendings aside, is the same from things that are
+-- alike.
+use Rattle.std.proofs.Common.{◌≡◌, List, [], ◌∷◌, Option, Some, None}
+use Rattle.lite_base.specs.Alike.{OptionBy, SameAnswer, SameItem, Sameness}
+use Rattle.lite_base.specs.Answers.{Answer, ComparableBy, strip}
+use Rattle.lite_base.specs.Laws.Alike.{answer_items, comparable_as, comparable_nil, ends_same}
+use Rattle.lite_base.specs.Laws.Calling.{MatchesFrom}
+use Rattle.lite_base.specs.Runs.{Question}
+use Rattle.lite_stream.specs.Laws.Agreeing.{AgreeingOver}
+
+-- `InPlace v follows out`: in the place of v there is `out`, in which v may be followed by what `follows` tells
+module _ {F A V B : Type 0} (call : Question F A V)
+    (InPlace : V → (List (Option B) → Type 0) → List (Option B) → Type 0) where
+  -- where nothing is pending: an end stays, and in the place of each item there is what is made of it
+  abbrev pub Placed : F → List (Option A) → List (Option B) → Type 0
+  Placed f [] out = out ≡ []
+  Placed f (None ∷ ins) out = (more : List (Option B)) × (out ≡ None ∷ more) × Placed f ins more
+  Placed f (Some x ∷ ins) out = (v : V) × (g : F) × call f x v g × InPlace v (Placed g ins) out
+
+  -- what is held stands before what comes in
+  abbrev pub PlacedFrom : F → Option V → List (Option A) → List (Option B) → Type 0
+  PlacedFrom f None ins out = Placed f ins out
+  PlacedFrom f (Some v) ins out = InPlace v (Placed f ins) out
+
+  -- in the places of things that are alike the same goes out, if it does after them
+  abbrev pub AlikeInPlace : Sameness B → (V → V → Type 0) → Type 1
+  AlikeInPlace same alike =
+      (v w : V) (P Q : List (Option B) → Type 0) (o p : List (Option B)) → alike v w → InPlace v P o → InPlace w Q p
+      → ((o' p' : List (Option B)) → P o' → Q p' → ComparableBy (SameAnswer same) o' p')
+      → ComparableBy (SameAnswer same) o p
+
+  -- from what agrees, alike things are made of items that are like one another
+  module _ {like : A → A → Type 0} {alike : V → V → Type 0} {agree : F → F → Type 0} (same : Sameness B)
+      (made : MatchesFrom like alike call agree) (places : AlikeInPlace same alike) where
+    placed_same : (f k : F) (i j : List (Option A)) (o p : List (Option B)) → agree f k
+        → ComparableBy (OptionBy like) i j → Placed f i o → Placed k j p → ComparableBy (SameAnswer same) o p
+    placed_same f k [] j o p a c r q = rw r tt
+    placed_same f k (x ∷ i) [] o p a c r q = rw q (comparable_nil (SameAnswer same) o)
+    placed_same f k (None ∷ i) (None ∷ j) o p a c r q =
+        rw (r.1, q.1) (ends_same same, placed_same f k i j r.0 q.0 a c.1 r.2 q.2)
+    placed_same f k (None ∷ i) (Some y ∷ j) o p a c r q = absurd c.0
+    placed_same f k (Some x ∷ i) (None ∷ j) o p a c r q = absurd c.0
+    placed_same f k (Some x ∷ i) (Some y ∷ j) o p a c r q =
+        let e = made f k r.1 q.1 x y r.0 q.0 a c.0 r.2 q.2 in
+        places r.0 q.0 (Placed r.1 i) (Placed q.1 j) o p e.0 r.3 q.3
+        (λ o' p' u v. placed_same r.1 q.1 i j o' p' e.1 c.1 u v)
+
+    pub placed_from_same : (f k : F) (v w : Option V) (i j : List (Option A)) (o p : List (Option B)) → agree f k
+        → OptionBy alike v w → ComparableBy (OptionBy like) i j → PlacedFrom f v i o → PlacedFrom k w j p
+        → ComparableBy (SameAnswer same) o p
+    placed_from_same f k None None i j o p a e c r q = placed_same f k i j o p a c r q
+    placed_from_same f k None (Some w) i j o p a e c r q = absurd e
+    placed_from_same f k (Some v) None i j o p a e c r q = absurd e
+    placed_from_same f k (Some v) (Some w) i j o p a e c r q =
+        places v w (Placed f i) (Placed k j) o p e r q (λ o' p' u z. placed_same f k i j o' p' a c u z)
+
+  -- the answers of a family that stand in the places of items
+  pub placed_agreeing : (like : Sameness A) (same : Sameness B) {alike : V → V → Type 0} {agree : F → F → Type 0}
+      {relates : F → List (Answer A) → List (Answer B) → F → Type 0} → MatchesFrom (SameItem like) alike call agree
+      → AlikeInPlace same alike
+      → ((f g : F) (i : List (Answer A)) (o : List (Answer B)) → relates f i o g → Placed f (strip i) (strip o))
+      → AgreeingOver like same relates agree
+  placed_agreeing like same m places placed f k g l i j o p a r q c =
+      placed_same same m places f k (strip i) (strip j) (strip o) (strip p) a
+      (comparable_as (SameAnswer like) (OptionBy (SameItem like)) (answer_items like) (strip i) (strip j) c)
+      (placed f g i o r) (placed k l j p q)
