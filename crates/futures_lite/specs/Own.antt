@@ -5,6 +5,10 @@ pub use Rattle.lite_theorems.specs.Laws.Anything.{anything_future, anything_read
 pub use Rattle.lite_theorems.specs.Laws.Anything.{anything_writes}
 pub use Rattle.lite_theorems.specs.Futures.{StepsToValue, future_by_steps}
 pub use Rattle.lite_base.specs.Runs.{Hints, NoHint, Question, Runs}
+-- of polls that loop
+pub use Rattle.lite_base.specs.Chain.{NextStep, OneStep, Reaches}
+pub use Rattle.lite_base.specs.Ends.{Terminates}
+pub use Rattle.lite_base.specs.Laws.Ends.{Terminates-count, Terminates-map}
 pub use Rattle.lite_theorems.specs.Streams.{HintsAt, ItemsLower}
 pub use Rattle.lite_theorems.specs.Laws.Streams.{stream_by_steps, stream_counting, stream_hinting}
 -- of readers and writers

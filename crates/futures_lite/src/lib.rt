@@ -16,5 +16,5 @@ pub use io::{
     AsyncBufRead, AsyncBufReadExt, AsyncRead, AsyncReadExt, AsyncSeek, AsyncSeekExt, AsyncWrite,
     AsyncWriteExt,
 };
-pub use lite_base::{Context, Future, Poll, Stream, ready};
+pub use lite_base::{Context, Future, Poll, PollSteps, Stream, drive, ready};
 pub use stream::StreamExt;

@@ -7,9 +7,10 @@ ghost use Rattle.lite_base.specs.Woken.{HoldsWoken};
 ghost use Rattle.lite_io_base.specs.Marks.{fill_marks, read_marks};
 ghost use Rattle.lite_io_base.specs.Runs.{OnlyOkLends};
 
-use crate::fill::fill;
 use lite_base::{Context, Poll, ready};
-use lite_io_base::{AsyncBufRead, AsyncRead, AsyncSeek, AsyncWrite, CountedRead, Takings, Tale};
+use lite_io_base::{
+    AsyncBufRead, AsyncRead, AsyncSeek, AsyncWrite, CountedRead, Takings, Tale, fill,
+};
 use std::io;
 use std::io::{IoSlice, SeekFrom};
 

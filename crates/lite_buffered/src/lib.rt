@@ -7,7 +7,6 @@ mod buf_writer;
 mod calm;
 mod chain;
 mod empty;
-mod fill;
 mod in_order;
 pub mod make;
 mod repeat;

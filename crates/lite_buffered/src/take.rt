@@ -7,9 +7,8 @@ ghost use Rattle.lite_io_base.specs.Runs.{Idle, ReadsInto, room_in};
 ghost use Rattle.lite_io_base.specs.Laws.Runs.{idle_laws};
 ghost use Rattle.lite_base.specs.Registered.{Registered};
 
-use crate::fill::fill;
 use lite_base::{Context, Poll, ready};
-use lite_io_base::{AsyncBufRead, AsyncRead, CountedRead, Takings, Tale, first_room};
+use lite_io_base::{AsyncBufRead, AsyncRead, CountedRead, Takings, Tale, fill, first_room};
 use std::io;
 use std::io::IoSliceMut;
 
