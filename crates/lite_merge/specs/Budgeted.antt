@@ -6,7 +6,7 @@ use Rattle.lite_base.specs.Paces.{Paces, left_behind}
 use Rattle.lite_base.specs.Ranks.{Ranks}
 use Rattle.lite_base.specs.Runs.{Runs}
 use Rattle.lite_merge.specs.declared.budgeted.Budgeted.{Budgeted}
-use Rattle.lite_stream.specs.Through.{AdapterParts, Through}
+use Rattle.lite_stream.specs.Through.{AdapterParts, Through, parts_of}
 
 -- the source's list, with a pending where the budget is used up: so many items in a row
 abbrev pub Budgets : {S A : Type 0} → Runs (Answer A) S → Runs (Answer A) (Budgeted S)
@@ -15,11 +15,8 @@ Budgets run x l y = Through run (Paces Pending left_behind) x.stream (x.budget, 
 -- it is its stream, and the budget with what is left of it
 abbrev pub budget_parts : {S : Type 0} → AdapterParts (Budgeted S) S (ℕ × ℕ)
 budget_parts =
-    record {
-      source = λ m. m.stream;
-      held = λ m. (m.budget, m.left);
-      same = λ x y e d. λ i. record { stream = e i; budget = (d i).0; left = (d i).1 };
-    }
+    parts_of (λ m. m.stream) (λ m. (m.budget, m.left)) (λ s h. record { stream = s; budget = h.0; left = h.1 })
+    (λ x y p. p)
 
 -- what is left of the budget, which counts at each value; a pending raises it
 abbrev pub budget_ranks : {S : Type 0} → Ranks (Budgeted S)
