@@ -1,4 +1,5 @@
 -- The value of `try_collect`, by what the Ok items of the stream hold.
+use Rattle.lite_gather.specs.declared.try_collect.TryCollect.{TryCollect}
 use Rattle.lite_views.specs.Views.{ValueHolds}
 use Rattle.lite_views.specs.Laws.Views.{value_holds}
 use Rattle.lite_views.specs.Laws.Consuming.{WhereSome, where_some}
@@ -16,23 +17,23 @@ use Rattle.lite_gather.specs.TryCollect.{tries_collect}
 use Rattle.lite_gather.specs.declared.refused.TryCollectError.{TryCollectError}
 use Rattle.lite_views.specs.OkLists.{AllTaken, OkFits, OkLists}
 
-module _ {N C T E Y : Type 0} (part : N → Option C) (holds : C → List T → Type 0) (f : T → Y) where
+module _ {C T E Y : Type 0} (holds : C → List T → Type 0) (f : T → Y) where
   -- the fold of `try_collect`
-  abbrev the_fold : Fold N (Result T E) (Result C (TryCollectError C T E))
-  the_fold = fold_of part (tries_collect ⊤ holds)
+  abbrev the_fold : Fold (TryCollect C) (Result T E) (Result C (TryCollectError C T E))
+  the_fold = fold_of (λ (m : TryCollect C). m.items) (tries_collect ⊤ holds)
 
   -- of what is still to come, where the collection has ts
-  abbrev Collects : Result C (TryCollectError C T E) → N → List (Answer (Result T E)) → Type 0
+  abbrev Collects : Result C (TryCollectError C T E) → TryCollect C → List (Answer (Result T E)) → Type 0
   Collects v p i =
-      (ts : List T) (xs : List Y) → WhereSome (part p) (λ c. holds c ts) → OkFits f i xs
+      (ts : List T) (xs : List Y) → WhereSome p.items (λ c. holds c ts) → OkFits f i xs
       → IfOk v (λ c. (more : List T) × holds c (ts ++ more) × (map f more ≡ xs))
 
-  one_taken : (v : Result C (TryCollectError C T E)) (p m : N) (x : Result T E) (i : List (Answer (Result T E)))
+  one_taken : (v : Result C (TryCollectError C T E)) (p m : TryCollect C) (x : Result T E) (i : List (Answer (Result T E)))
       → TakesIn the_fold p x m → Collects v m i → Collects v p (item x ∷ i)
   one_taken v p m (Err x) i t k ts xs h e = absurd t
   one_taken v p m (Ok x) i t k ts [] h e = absurd e
   one_taken v p m (Ok x) i t k ts (y ∷ xs) h e =
-      let now : WhereSome (part m) (λ c. holds c (ts ++ x ∷ [])) =
+      let now : WhereSome m.items (λ c. holds c (ts ++ x ∷ [])) =
       λ c k. let same : t.1 ≡ c = (let d = t.4 in cc) in rw (← same) (t.3 ts (h t.0 t.2)) in
       onward v (k (ts ++ x ∷ []) xs now e.1)
     where
@@ -42,24 +43,24 @@ module _ {N C T E Y : Type 0} (part : N → Option C) (holds : C → List T → 
       onward (Ok c) r = (x ∷ r.0, rw (← append_assoc ts (x ∷ []) r.0) r.1, (let a = e.0 in let b = r.2 in cc))
       onward (Err d) r = tt
 
-  decided_held : (v : Result C (TryCollectError C T E)) (p q : N) (o : Option (Result T E))
+  decided_held : (v : Result C (TryCollectError C T E)) (p q : TryCollect C) (o : Option (Result T E))
       → Decides the_fold p (Ready o) (Ready v) q → Collects v p (Ready o ∷ [])
   decided_held v p q None d ts xs h e = rw d.2 ([], rw append-nil (h d.0 d.1), sym e)
   decided_held v p q (Some (Ok x)) d ts xs h e = rw d.5 tt
   decided_held v p q (Some (Err x)) d ts xs h e = rw d.0 tt
 
-  collected : (l : List (Poll (Result C (TryCollectError C T E)))) (p q : N) (i : List (Answer (Result T E)))
+  collected : (l : List (Poll (Result C (TryCollectError C T E)))) (p q : TryCollect C) (i : List (Answer (Result T E)))
       (v : Result C (TryCollectError C T E)) → Gives l v → Consumes the_fold p i l q → Collects v p i
   collected l p q i v g h =
       consumes_steps the_fold (λ p i l. Gives l v → Collects v p i)
       (λ p m x i b l t k g. one_taken v p m x i t (k g)) (λ p i l k. k) q
       (λ p o r d g. rw (← g.0) (decided_held r p q o d)) p i l (λ g. absurd g) h g
 
-  pub all_collected : {S X : Type 0} (run : Runs (Answer (Result T E)) S) (x : Consume S N) (xs : List Y)
-      → IfSome (part x.folder) (λ c. holds c []) → OkLists run x.stream f xs
+  pub all_collected : {S X : Type 0} (run : Runs (Answer (Result T E)) S) (x : Consume S (TryCollect C)) (xs : List Y)
+      → IfSome x.folder.items (λ c. holds c []) → OkLists run x.stream f xs
       → ValueHolds X (Folds run the_fold) x (AllTaken holds f xs)
   unfolding OkLists
   all_collected run x xs none lists =
       value_holds (Folds run the_fold) x (AllTaken holds f xs)
       (λ ins v fin. collected ins x.folder fin.last.folder fin.came.ins v fin.gives fin.came.consumed [] xs
-      (where_some (λ c. holds c []) (part x.folder) none) (lists fin.came.ins fin.last.stream fin.came.came))
+      (where_some (λ c. holds c []) x.folder.items none) (lists fin.came.ins fin.last.stream fin.came.came))

@@ -1,4 +1,8 @@
 -- The value of a future that consumes a stream, by the items of the stream.
+use Rattle.lite_gather.specs.declared.unzip.Unzip.{Unzip}
+use Rattle.lite_gather.specs.declared.partition.Partition.{Partition}
+use Rattle.lite_gather.specs.declared.try_collect.TryCollect.{TryCollect}
+use Rattle.lite_gather.specs.declared.collect.Collect.{Collect}
 use Rattle.lite_consume.specs.declared.position.Position.{Position}
 use Rattle.lite_consume.specs.declared.find.Find.{Find}
 use Rattle.lite_consume.specs.declared.any.Any.{Any}
@@ -322,39 +326,39 @@ where_some P None h c e = absurd (cc e)
 where_some P (Some d) h c e = let same : d ≡ c = cc e in rw (← same) h
 
 -- `collect`
-pub collect_made : {N C T : Type 0} (part : N → Option C) (holds : C → List T → Type 0) (p : N) (xs : List T)
-    → IfSome (part p) (λ c. holds c []) → (v : Result C (Refused C T))
-    → MakesOf (fold_of part (collects ⊤ holds)) p xs v → IfOk v (λ d. holds d xs)
-collect_made part holds p xs none v =
-    gathered (fold_of part (collects ⊤ holds)) (λ p l. WhereSome (part p) (λ c. holds c l))
+pub collect_made : {C T : Type 0} (holds : C → List T → Type 0) (p : Collect C) (xs : List T)
+    → IfSome p.collection (λ c. holds c []) → (v : Result C (Refused C T))
+    → MakesOf (fold_of (λ (m : Collect C). m.collection) (collects ⊤ holds)) p xs v → IfOk v (λ d. holds d xs)
+collect_made {C = C} holds p xs none v =
+    gathered (fold_of (λ (m : Collect C). m.collection) (collects ⊤ holds)) (λ p l. WhereSome p.collection (λ c. holds c l))
     (λ v l. IfOk v (λ d. holds d l))
     (λ p q x l s h c e. let same : s.1 ≡ c = (let k = s.4 in cc) in rw (← same) (s.3 l (h s.0 s.2)))
     (λ p q x r l xs s h. rw s.5 tt) (λ p q r l s h. rw s.2 (h s.0 s.1)) p [] xs v
-    (where_some (λ c. holds c []) (part p) none)
+    (where_some (λ c. holds c []) p.collection none)
 
 -- `partition`: of the one collection or of the other
-module _ {N B F T : Type 0} (f_of : N → F) (part : N → Option (B × B)) (holds : B → List T → Type 0)
+module _ {B F T : Type 0} (holds : B → List T → Type 0)
     (asked : Question F T Bool) (f : F) where
   -- the collection `of`, which takes the items in at which the predicate answers `mine`
   module _ (of : B × B → B) (mine : Bool → Bool) (test : T → Bool)
       (acts : (x : T) (b : Bool) (g : F) → asked f x b g → (g ≡ f) × (mine b ≡ test x))
       (goes : (b : Bool) (x : T) (c d : B × B) (l : List T) → Sorted holds b c x d → holds (of c) l
       → holds (of d) (l ++ cond (mine b) (x ∷ []) [])) where
-    sorted_made : (p : N) (xs : List T) → f_of p ≡ f → WhereSome (part p) (λ c. holds (of c) [])
+    sorted_made : (p : Partition F B) (xs : List T) → p.predicate ≡ f → WhereSome p.res (λ c. holds (of c) [])
         → (v : Result (B × B) (Refused (B × B) T))
-        → MakesOf (fold_of (λ n. (f_of n, part n)) (partitions holds asked ⊤)) p xs v
+        → MakesOf (fold_of (λ (m : Partition F B). (m.predicate, m.res)) (partitions holds asked ⊤)) p xs v
         → IfOk v (λ d. holds (of d) (filter test xs))
     sorted_made p xs e none v =
-        gathered (fold_of (λ n. (f_of n, part n)) (partitions holds asked ⊤))
-        (λ p l. (f_of p ≡ f) × WhereSome (part p) (λ c. holds (of c) (filter test l)))
+        gathered (fold_of (λ (m : Partition F B). (m.predicate, m.res)) (partitions holds asked ⊤))
+        (λ p l. (p.predicate ≡ f) × WhereSome p.res (λ c. holds (of c) (filter test l)))
         (λ v l. IfOk v (λ d. holds (of d) (filter test l))) taken (λ p q x r l xs s h. rw s.7 tt)
         (λ p q r l s h. rw s.2 (h.1 s.0 s.1)) p [] xs v (e, none)
       where
-        taken : (p q : N) (x : T) (l : List T) → Partitioned holds asked ⊤ (f_of p, part p) x None (f_of q, part q)
-            → (f_of p ≡ f) × WhereSome (part p) (λ c. holds (of c) (filter test l))
-            → (f_of q ≡ f) × WhereSome (part q) (λ c. holds (of c) (filter test (l ++ x ∷ [])))
+        taken : (p q : Partition F B) (x : T) (l : List T) → Partitioned holds asked ⊤ (p.predicate, p.res) x None (q.predicate, q.res)
+            → (p.predicate ≡ f) × WhereSome p.res (λ c. holds (of c) (filter test l))
+            → (q.predicate ≡ f) × WhereSome q.res (λ c. holds (of c) (filter test (l ++ x ∷ [])))
         taken p q x l s h =
-            let a = acts x s.0 (f_of q) (rw (← h.0) s.3) in (
+            let a = acts x s.0 q.predicate (rw (← h.0) s.3) in (
               a.0,
               λ c e. let same : s.2 ≡ c = (let k = s.6 in cc) in
                   rw (filter-append test l (x ∷ []), ← a.1, ← same)
@@ -365,12 +369,12 @@ module _ {N B F T : Type 0} (f_of : N → F) (part : N → Option (B × B)) (hol
   kept_same c d l e h = rw (append-nil l, e) h
 
   -- the items that are accepted
-  pub accepted_made : (test : T → Bool) → AnswersAs asked f test → (p : N) (xs : List T) → f_of p ≡ f
-      → IfSome (part p) (λ c. holds c.0 [] × holds c.1 []) → (v : Result (B × B) (Refused (B × B) T))
-      → MakesOf (fold_of (λ n. (f_of n, part n)) (partitions holds asked ⊤)) p xs v
+  pub accepted_made : (test : T → Bool) → AnswersAs asked f test → (p : Partition F B) (xs : List T) → p.predicate ≡ f
+      → IfSome p.res (λ c. holds c.0 [] × holds c.1 []) → (v : Result (B × B) (Refused (B × B) T))
+      → MakesOf (fold_of (λ (m : Partition F B). (m.predicate, m.res)) (partitions holds asked ⊤)) p xs v
       → IfOk v (λ d. holds d.0 (filter test xs))
   accepted_made test acts p xs e none =
-      sorted_made (λ c. c.0) (λ b. b) test acts goes p xs e (λ c k. (where_some _ (part p) none c k).0)
+      sorted_made (λ c. c.0) (λ b. b) test acts goes p xs e (λ c k. (where_some _ p.res none c k).0)
     where
       goes : (b : Bool) (x : T) (c d : B × B) (l : List T) → Sorted holds b c x d → holds c.0 l
           → holds d.0 (l ++ cond b (x ∷ []) [])
@@ -378,14 +382,14 @@ module _ {N B F T : Type 0} (f_of : N → F) (part : N → Option (B × B)) (hol
       goes false x c d l s h = kept_same c.0 d.0 l s.1 h
 
   -- and the others, each of which `rest` accepts
-  pub others_made : (rest : T → Bool) → AnswersAs asked f (λ x. not (rest x)) → (p : N) (xs : List T) → f_of p ≡ f
-      → IfSome (part p) (λ c. holds c.0 [] × holds c.1 []) → (v : Result (B × B) (Refused (B × B) T))
-      → MakesOf (fold_of (λ n. (f_of n, part n)) (partitions holds asked ⊤)) p xs v
+  pub others_made : (rest : T → Bool) → AnswersAs asked f (λ x. not (rest x)) → (p : Partition F B) (xs : List T) → p.predicate ≡ f
+      → IfSome p.res (λ c. holds c.0 [] × holds c.1 []) → (v : Result (B × B) (Refused (B × B) T))
+      → MakesOf (fold_of (λ (m : Partition F B). (m.predicate, m.res)) (partitions holds asked ⊤)) p xs v
       → IfOk v (λ d. holds d.1 (filter rest xs))
   others_made rest acts p xs e none =
       sorted_made (λ c. c.1) not rest
       (λ x b g c. let a = acts x b g c in (a.0, ap not a.1 ∙ not-not (rest x))) goes p xs e
-      (λ c k. (where_some _ (part p) none c k).1)
+      (λ c k. (where_some _ p.res none c k).1)
     where
       goes : (b : Bool) (x : T) (c d : B × B) (l : List T) → Sorted holds b c x d → holds c.1 l
           → holds d.1 (l ++ cond (not b) (x ∷ []) [])
@@ -393,16 +397,16 @@ module _ {N B F T : Type 0} (f_of : N → F) (part : N → Option (B × B)) (hol
       goes false x c d l s h = s.0 l h
 
 -- `unzip`
-pub unzip_made : {N C D A B : Type 0} (part : N → Option (C × D)) (first : C → List A → Type 0)
-    (second : D → List B → Type 0) (p : N) (xs : List (A × B)) → IfSome (part p) (λ c. first c.0 [] × second c.1 [])
-    → (v : Result (C × D) (UnzipRefused C D A B)) → MakesOf (fold_of part (unzips first second ⊤)) p xs v
+pub unzip_made : {C D A B : Type 0} (first : C → List A → Type 0)
+    (second : D → List B → Type 0) (p : Unzip C D) (xs : List (A × B)) → IfSome p.res (λ c. first c.0 [] × second c.1 [])
+    → (v : Result (C × D) (UnzipRefused C D A B)) → MakesOf (fold_of (λ (m : Unzip C D). m.res) (unzips first second ⊤)) p xs v
     → IfOk v (λ d. first d.0 (map (λ x. x.0) xs) × second d.1 (map (λ x. x.1) xs))
-unzip_made {C = C} {D} {A} {B} part first second p xs none v =
-    gathered (fold_of part (unzips first second ⊤)) (λ p l. WhereSome (part p) (both l)) (λ v l. IfOk v (both l))
+unzip_made {C} {D} {A} {B} first second p xs none v =
+    gathered (fold_of (λ (m : Unzip C D). m.res) (unzips first second ⊤)) (λ p l. WhereSome p.res (both l)) (λ v l. IfOk v (both l))
     (λ p q x l s h c e. let same : s.1 ≡ c = (let k = s.5 in cc) in let had = h s.0 s.2 in
     rw (map-append (λ (z : A × B). z.0) l (x ∷ []), map-append (λ (z : A × B). z.1) l (x ∷ []), ← same)
     (s.3 (map (λ z. z.0) l) had.0, s.4 (map (λ z. z.1) l) had.1))
-    (λ p q x r l xs s h. rw s.5 tt) (λ p q r l s h. rw s.2 (h s.0 s.1)) p [] xs v (where_some (both []) (part p) none)
+    (λ p q x r l xs s h. rw s.5 tt) (λ p q r l s h. rw s.2 (h s.0 s.1)) p [] xs v (where_some (both []) p.res none)
   where
     both : List (A × B) → C × D → Type 0
     both l c = first c.0 (map (λ x. x.0) l) × second c.1 (map (λ x. x.1) l)
@@ -416,17 +420,17 @@ error_behind : {T E : Type 0} (ys : List T) (xs : List (Result T E)) → first_e
 error_behind [] xs = refl
 error_behind (y ∷ ys) xs = error_behind ys xs
 
-pub try_collect_made : {N C T E : Type 0} (part : N → Option C) (holds : C → List T → Type 0) (p : N)
-    (xs : List (Result T E)) → IfSome (part p) (λ c. holds c []) → (v : Result C (TryCollectError C T E))
-    → MakesOf (fold_of part (tries_collect ⊤ holds)) p xs v → TriesCollect holds xs v
-try_collect_made {N} {C} {T} {E} part holds p xs none v =
-    gathered (fold_of part (tries_collect ⊤ holds)) Has (λ v l. TriesCollect holds l v) takes decides closes p [] xs v
-    ([], refl, where_some (λ c. holds c []) (part p) none)
+pub try_collect_made : {C T E : Type 0} (holds : C → List T → Type 0) (p : TryCollect C)
+    (xs : List (Result T E)) → IfSome p.items (λ c. holds c []) → (v : Result C (TryCollectError C T E))
+    → MakesOf (fold_of (λ (m : TryCollect C). m.items) (tries_collect ⊤ holds)) p xs v → TriesCollect holds xs v
+try_collect_made {C} {T} {E} holds p xs none v =
+    gathered (fold_of (λ (m : TryCollect C). m.items) (tries_collect ⊤ holds)) Has (λ v l. TriesCollect holds l v) takes decides closes p [] xs v
+    ([], refl, where_some (λ c. holds c []) p.items none)
   where
-    Has : N → List (Result T E) → Type 0
-    Has p l = (ys : List T) × (l ≡ map Ok ys) × WhereSome (part p) (λ c. holds c ys)
+    Has : TryCollect C → List (Result T E) → Type 0
+    Has p l = (ys : List T) × (l ≡ map Ok ys) × WhereSome p.items (λ c. holds c ys)
 
-    takes : (p q : N) (x : Result T E) (l : List (Result T E)) → TryCollected ⊤ holds (part p) x None (part q)
+    takes : (p q : TryCollect C) (x : Result T E) (l : List (Result T E)) → TryCollected ⊤ holds p.items x None q.items
         → Has p l → Has q (l ++ x ∷ [])
     takes p q (Err w) l s h = absurd s
     takes p q (Ok x) l s (ys, e, had) = (
@@ -435,13 +439,13 @@ try_collect_made {N} {C} {T} {E} part holds p xs none v =
       λ c k. let same : s.1 ≡ c = (let d = s.4 in cc) in rw (← same) (s.3 ys (had s.0 s.2)),
     )
 
-    decides : (p q : N) (x : Result T E) (r : Result C (TryCollectError C T E)) (l xs : List (Result T E))
-        → TryCollected ⊤ holds (part p) x (Some r) (part q) → Has p l → TriesCollect holds (l ++ x ∷ xs) r
+    decides : (p q : TryCollect C) (x : Result T E) (r : Result C (TryCollectError C T E)) (l xs : List (Result T E))
+        → TryCollected ⊤ holds p.items x (Some r) q.items → Has p l → TriesCollect holds (l ++ x ∷ xs) r
     decides p q (Ok x) r l xs s h = rw s.5 (tt, tt)
     decides p q (Err w) r l xs s (ys, e, had) = rw (s.0, e) (tt, error_behind ys (Err w ∷ xs))
 
-    closes : (p q : N) (r : Result C (TryCollectError C T E)) (l : List (Result T E))
-        → (tries_collect ⊤ holds).closes (part p) r (part q) → Has p l → TriesCollect holds l r
+    closes : (p q : TryCollect C) (r : Result C (TryCollectError C T E)) (l : List (Result T E))
+        → (tries_collect ⊤ holds).closes p.items r q.items → Has p l → TriesCollect holds l r
     closes p q r l s (ys, e, had) =
         let whole : ok_prefix l ≡ ys = rw e (values_of E ys) in
         rw (s.2, whole) ((had s.0 s.1, sym e), tt)

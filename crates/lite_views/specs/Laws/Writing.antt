@@ -10,7 +10,7 @@ use Rattle.futures.specs.declared.task.Poll.TheVariants.{Ready, Pending}
 use Rattle.lite_base.specs.Answers.{Gives, strip}
 use Rattle.lite_base.specs.Laws.Segments.{segment_front, to_value_last}
 use Rattle.lite_base.specs.Runs.{Runs}
-use Rattle.lite_write.specs.Copy.{Copied, CopyRuns, CopyValue}
+use Rattle.lite_write.specs.Copy.{Copied, CopyRuns, CopyValue, Moves}
 use Rattle.lite_write.specs.Parts.{NothingCopied, held_of, met_in, source_of}
 use Rattle.lite_write.specs.declared.copy.CopyFuture.{CopyFuture}
 use Rattle.lite_write.specs.MarkLists.{BytesAlone, bytes_told}
@@ -41,13 +41,8 @@ handed_bytes (xs ∷ l) offered left h =
 ended_ok : (left : List ℕ) (last : List WriteMark) (u : Unit {0}) → Ended left last (Ok u) → (left ≡ []) × (last ≡ [])
 ended_ok left [] u e = (e.0, refl)
 ended_ok left (WriteMark.wrote [] ∷ []) u e = absurd e
-ended_ok left (WriteMark.wrote [] ∷ (m ∷ l)) u e = absurd e
-ended_ok left (WriteMark.wrote (x ∷ xs) ∷ l) u e = absurd e
 ended_ok left (WriteMark.fault kind ∷ []) u e = absurd e
-ended_ok left (WriteMark.fault kind ∷ (m ∷ l)) u e = absurd e
-ended_ok left (WriteMark.pending ∷ l) u e = absurd e
-ended_ok left (WriteMark.flushed ∷ l) u e = absurd e
-ended_ok left (WriteMark.closed ∷ l) u e = absurd e
+ended_ok left last u e = absurd e
 
 -- what was taken is what was offered
 pub all_handed : (out : List (Poll (Result (Unit {0}) Error))) (offered left : List ℕ) (marks : List WriteMark)
@@ -90,14 +85,8 @@ one_value (Ready x ∷ out) v g = rw (g.0, g.1) refl
 values_ok : (n total : ℕ) (failed : List ReadMark) (last : List WriteMark) (after : List ℕ) (met : List ReadMark)
     → CopyValue (Ok n ∷ []) failed last after met total
     → (failed ≡ []) × (after ≡ []) × (met ≡ ReadMark.end ∷ []) × (n ≡ total)
-values_ok n total [] [] after met h = absurd h
 values_ok n total [] (WriteMark.flushed ∷ []) after met h = (refl, h.0, h.1, h.2)
-values_ok n total [] (WriteMark.flushed ∷ (m ∷ l)) after met h = absurd h
-values_ok n total [] (WriteMark.wrote xs ∷ l) after met h = absurd h
-values_ok n total [] (WriteMark.pending ∷ l) after met h = absurd h
-values_ok n total [] (WriteMark.fault kind ∷ l) after met h = absurd h
-values_ok n total [] (WriteMark.closed ∷ l) after met h = absurd h
-values_ok n total (m ∷ failed) last after met h = absurd h
+values_ok n total failed last after met h = absurd h
 
 told_all : (read : List ReadMark) (bs ys : List ℕ) → BytesAlone read → TellsKnown bs (read ++ ReadMark.end ∷ []) ys
     → bytes_told (read ++ ReadMark.end ∷ []) ≡ bs
@@ -107,63 +96,44 @@ told_all (ReadMark.pending ∷ l) bs ys o h = told_all l bs ys o h
 told_all (ReadMark.fault kind ∷ l) bs ys o h = absurd o
 told_all (ReadMark.end ∷ l) bs ys o h = absurd o
 
--- all that is to come was taken
-pub all_copied : (n total : ℕ) (before : List ℕ) (met told : List ReadMark) (took : List WriteMark)
-    (out : List (Poll (Result ℕ Error)))
-    (after : List ℕ) (met' : List ReadMark) (bs ys : List ℕ) → before ≡ [] → met ≡ []
-    → Copied before met told took out after met' total
-    → TellsKnown bs told ys → Gives out (Ok n)
-    → (bytes_taken took ≡ bs) × (n ≡ total)
-all_copied n total before met told took out after met' bs ys none fresh c s g =
-    let v = values_ok n total c.failed c.last after met'
-    (rw (one_value out (Ok n) g) at c.value) in
-    let r = c.reading in
-    let cut : told ≡ r.read ++ ReadMark.end ∷ [] = rw (fresh, v.2, v.0) at r.cut in
-    let whole = told_all r.read bs ys r.goes_on (rw cut at s) in
-    let balance : bytes_told told ≡ bytes_taken took = rw (none, v.1, append-nil) at c.balanced in
-    (sym balance ∙ ap bytes_told cut ∙ whole, v.3)
-
--- `copy`
-pub all_moved : (v : Result ℕ Error) (start total : ℕ) (before : List ℕ) (met told : List ReadMark)
-    (took : List WriteMark) (out : List (Poll (Result ℕ Error)))
-    (after : List ℕ) (met' : List ReadMark) (bs ys held holds : List ℕ) → before ≡ [] → met ≡ [] → start ≡ 0
-    → Copied before met told took out after met' total → TellsKnown bs told ys
-    → Gives out v → total ≡ (start + length (bytes_taken took)) % 2 ^ 64 → holds ≡ held ++ bytes_taken took
-    → IfOk v (λ n. (holds ≡ held ++ bs) × (n ≡ length bs % 2 ^ 64))
-all_moved (Ok n) start total before met told took out after met' bs ys held holds none fresh zero_start c s g count k =
-    let all = all_copied n total before met told took out after met' bs ys none fresh c s g in
-    let from : start + length (bytes_taken took) ≡ length (bytes_taken took) = omega (arith, zero_start) in
-    rw (← all.0) (k, all.1 ∙ count ∙ rw from refl)
-all_moved (Err e) start total before met told took out after met' bs ys held holds none fresh zero_start c s g count k =
-    tt
-
 -- of a value of which three facts are known
 pub on_each : {A B : Type 0} {P Q S T : A → Type 0} (r : Result A B) → IfOk r P → IfOk r Q → IfOk r S
     → ((x : A) → P x → Q x → S x → T x) → IfOk r T
 on_each (Ok x) p q s to = to x p q s
 on_each (Err e) p q s to = tt
 
-module _ {R W E : Type 0} (reads : Runs ReadMark R) (writes : Runs WriteMark W) (known : Known R)
-    (stored : Stored W) where
+module _ {R W : Type 0} (reads : Runs ReadMark R) (writes : Runs WriteMark W) where
+  -- all that is to come was taken, where the value is Ok
+  all_moved : (x y : CopyFuture R W) (v : Result ℕ Error) (out : List (Poll (Result ℕ Error))) (bs ys held : List ℕ)
+      → NothingCopied x → (m : Moves reads writes x out y) → TellsKnown bs m.told ys → Gives out v
+      → IfOk v (λ n. (held ++ bytes_taken m.took ≡ held ++ bs) × (n ≡ length bs % 2 ^ 64))
+  all_moved x y (Err e) out bs ys held b m s g = tt
+  all_moved x y (Ok n) out bs ys held b m s g =
+      let c = m.copied in
+      let v = values_ok n y.amount c.failed c.last (held_of y) (met_in y.phase)
+      (rw (one_value out (Ok n) g) at c.value) in
+      let cut : m.told ≡ c.reading.read ++ ReadMark.end ∷ [] = rw (b.met, v.2, v.0) at c.reading.cut in
+      let whole = told_all c.reading.read bs ys c.reading.goes_on (rw cut at s) in
+      let balance : bytes_told m.told ≡ bytes_taken m.took = rw (b.held, v.1, append-nil) at c.balanced in
+      let taken : bytes_taken m.took ≡ bs = sym balance ∙ ap bytes_told cut ∙ whole in
+      let from : x.amount + length (bytes_taken m.took) ≡ length (bytes_taken m.took) = omega (arith, b.none) in
+      (rw taken refl, v.3 ∙ m.counted ∙ rw (from, taken) refl)
+
   -- a copy that begins, and is waited for
-  pub copy_left : (reader : R) (writer : W) (f : CopyFuture R W) → source_of f ≡ reader → f.writer ≡ writer
-      → NothingCopied f → Knows reads known reader
+  pub copy_left : {E : Type 0} (known : Known R) (stored : Stored W) (reader : R) (writer : W) (f : CopyFuture R W)
+      → source_of f ≡ reader → f.writer ≡ writer → NothingCopied f → Knows reads known reader
       → Stores writes stored writer
       → WhenLeft E (CopyRuns reads writes) f (λ g. ⊤)
       (λ g r. IfOk r
       (λ n. (stored.kept g.writer ≡ stored.kept writer ++ known.left reader)
       × (n ≡ length (known.left reader) % 2 ^ 64)))
-  copy_left reader writer f from to begins knows stores =
+  copy_left known stored reader writer f from to begins knows stores =
       when_left (CopyRuns reads writes) f (λ g. ⊤)
       (λ g r. IfOk r
       (λ n. (stored.kept g.writer ≡ stored.kept writer ++ known.left reader)
       × (n ≡ length (known.left reader) % 2 ^ 64))) tt (λ ins g ran. tt)
       (λ ins g v gives ran.
       let m = ran.moves in
-      let came : reads reader m.told (source_of g) = rw from at m.came in
-      let went : writes writer m.took g.writer = rw to at m.went in
-      all_moved v f.amount g.amount (held_of f) (met_in f.phase) m.told m.took ins (held_of g) (met_in g.phase)
-      (known.left reader) (known.left (source_of g))
-      (stored.kept writer) (stored.kept g.writer) begins.held begins.met begins.none m.copied
-      (knows_spends reads known reader (source_of g) m.told knows came) gives m.counted
-      (stores_kept writes stored writer g.writer m.took stores went))
+      let told = knows_spends reads known reader (source_of g) m.told knows (rw from at m.came) in
+      rw (stores_kept writes stored writer g.writer m.took stores (rw to at m.went))
+      (all_moved f g v ins (known.left reader) (known.left (source_of g)) (stored.kept writer) begins m told gives))

@@ -4,5 +4,5 @@ use Rattle.futures_lite.proofs.stream.StreamExt.collect.Goals as goal
 
 pub returns-clause-value : goal.returns-clause-value
 returns-clause-value g c xs lists =
-    let made = collect_made (λ m. m.collection) g.C.Gather.holds _ xs c.collect.ensures.empty in
+    let made = collect_made g.C.Gather.holds _ xs c.collect.ensures.empty in
     (seen _ _, value_made _ _ _ xs _ (rw c.collect.ensures.stream lists) made)

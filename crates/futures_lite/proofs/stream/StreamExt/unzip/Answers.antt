@@ -4,5 +4,5 @@ use Rattle.futures_lite.proofs.stream.StreamExt.unzip.Goals as goal
 
 pub returns-clause-value : goal.returns-clause-value
 returns-clause-value g c xs lists =
-    let made = unzip_made (λ m. m.res) g.FromA.Gather.holds g.FromB.Gather.holds _ xs c.unzip.ensures.empty in
+    let made = unzip_made g.FromA.Gather.holds g.FromB.Gather.holds _ xs c.unzip.ensures.empty in
     (seen _ _, value_made _ _ _ xs _ (rw c.unzip.ensures.stream lists) made)
