@@ -17,8 +17,7 @@ module _ {T : Type 0} (bytes : T → List ℕ) where
   moves_told x y [] h = ap (λ c. marks_of (bytes_left bytes c)) h
   moves_told x y (ReadMark.byte b ∷ l) h = rw h.1.0 (refl, moves_told h.0 y l h.2)
   moves_told x y (ReadMark.end ∷ l) h =
-      let rest = subst (λ c. TellsScript (marks_of (bytes_left bytes c)) l (marks_of (bytes_left bytes y))) h.1.1
-      (moves_told h.0 y l h.2) in
+      let rest = rw h.1.1 at (moves_told h.0 y l h.2) in
       rw h.1.0 (refl, rw h.1.0 at rest)
   moves_told x y (_ ∷ l) h = absurd h.1
 

@@ -23,6 +23,6 @@ module _ {S : Type 0} {reads : Runs ReadMark S} where
     sized = λ x. refl;
     counts_on = λ x y l c h. tt;
     firm_on = λ x y l c h. tt;
-    falls = λ x y l c g h. subst (λ n. Falls n (number y ∷ []) (number x ∷ [])) (given_all l g) (lowers x y l h);
+    falls = λ x y l c g h. rw (← (given_all l g)) (lowers x y l h);
     lowers = λ x y l c h. lowers x y l h;
   }

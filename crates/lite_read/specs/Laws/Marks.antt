@@ -35,8 +35,8 @@ vec_one xs (Err e) r h k = absurd h
 
 pub text_one : MakesOne SameText IsText
 text_one xs (Ok s) (Ok t) h k = h ∙ sym k
-text_one xs (Ok s) (Err e) h k = absurd (k.1 (subst IsUtf8 h (IsUtf8-string_bytes s)))
-text_one xs (Err e) (Ok t) h k = absurd (h.1 (subst IsUtf8 k (IsUtf8-string_bytes t)))
+text_one xs (Ok s) (Err e) h k = absurd (k.1 (rw (← h) (IsUtf8-string_bytes s)))
+text_one xs (Err e) (Ok t) h k = absurd (h.1 (rw (← k) (IsUtf8-string_bytes t)))
 text_one xs (Err e) (Err f) h k = h.0 ∙ sym k.0
 
 pub line_one : MakesOne SameText (λ xs. IsText (without_return xs))

@@ -47,8 +47,7 @@ module _ {X R A : Type 0} (over : TextOver X R A) where
         let same : reading over y ≡ record { read = over.read y; text = string_bytes (over.text x).now } =
         ap (λ v. record { read = over.read y; text = v }) t.stays.1 in
         let folds : FoldsTo (in_text fold).takes (reading over x) t.taken (reading over y) =
-        subst (λ (q : Reading). FoldsTo (in_text fold).takes (reading over x) t.taken q) (sym same)
-        (folds_in fold (string_bytes (over.text x).now) (over.read x) (over.read y) t.taken t.folds) in (
+        rw same (folds_in fold (string_bytes (over.text x).now) (over.read x) (over.read y) t.taken t.folds) in (
           gathers_before {Steps = TextStays over} (keeps fold) laws (λ x y k. k) x y z a (record {
             taken = t.taken;
             some = t.some;

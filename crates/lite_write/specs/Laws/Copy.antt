@@ -87,7 +87,7 @@ module _ (p q r : List ℕ) (a b c : List ReadMark) (i j : List ReadMark) (s t :
     (l m : List (Poll CopyResult)) (n k : ℕ) (w : Waiting l)
     (h : Copied p a i s l q b n) (g : Copied q b j t m r c k) where
   none : (h.failed ≡ []) × (h.last ≡ [])
-  none = no_value q b n h.failed h.last (subst (λ v. CopyValue v h.failed h.last q b n) (waiting_strip l w) h.value)
+  none = no_value q b n h.failed h.last (rw (← (waiting_strip l w)) h.value)
 
   reading_both : TellsUpTo (a ++ (i ++ j)) (c ++ g.failed)
   reading_both =
@@ -133,7 +133,7 @@ module _ (p q r : List ℕ) (a b c : List ReadMark) (i j : List ReadMark) (s t :
         balanced = balanced_both;
         waited = omega (arith, waits_join l m, told_waits i j, taken_waits s t, h.waited, g.waited);
         once = waiting_up_to l m w g.once;
-        value = subst (λ v. CopyValue v g.failed g.last r c k) same_value g.value;
+        value = rw (← same_value) g.value;
       }
 
 pub counted_none : (n : ℕ) → n < 2 ^ 64 → n ≡ (n + 0) % 2 ^ 64
