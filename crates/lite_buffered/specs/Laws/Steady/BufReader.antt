@@ -29,7 +29,7 @@ passes_no_wait : (n : ℕ) (p q : List ℕ) (came out : List ReadMark) → Passe
     → NoPendingRead out
 passes_no_wait zero p q came out h w = padded_no_wait came out h.2 w
 passes_no_wait (suc n) p q came out h w =
-    (no_wait_parts out (bytes q) (subst NoPendingRead h (no_wait_both (bytes p) came (no_wait_bytes p) w))).0
+    (no_wait_parts out (bytes q) (rw (← h) (no_wait_both (bytes p) came (no_wait_bytes p) w))).0
 
 -- two with some capacity and the same bytes ahead, over readers that are alike
 abbrev pub AheadAlike : {R : Type 0} → (R → R → Type 0) → BufReader R → BufReader R → Type 0
