@@ -1,5 +1,5 @@
 -- Cursors over equal bytes tell one tale, and none is ever pending.
-use Rattle.std.proofs.Common.{◌≡◌, ℕ, List, [], ◌∷◌, ap, refl, subst}
+use Rattle.std.proofs.Common.{◌≡◌, ℕ, List, [], ◌∷◌, ap, refl}
 use Rattle.std.specs.Prelude.{⊤}
 use Rattle.lite_base.specs.Answers.{Comparable}
 use Rattle.lite_io_base.specs.Laws.Steady.{no_wait_bytes, told_no_wait, told_one_tale, steady_read_always}

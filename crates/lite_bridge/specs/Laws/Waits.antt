@@ -1,5 +1,5 @@
 -- Laws of calls that wait.
-use Rattle.std.proofs.Common.{◌≡◌, ◌≤◌, ◌∙◌, ℕ, suc, List, [], ◌∷◌, ◌++◌, length, length-take-le, ap, inl, inr, subst}
+use Rattle.std.proofs.Common.{◌≡◌, ◌≤◌, ◌∙◌, ℕ, suc, List, [], ◌∷◌, ◌++◌, length, length-take-le, ap, inl, inr}
 use Rattle.std.proofs.Common.{sym}
 use Rattle.std.specs.Prelude.{◌⊎◌, Result, Ok, Err, IfOk, replicate}
 use Rattle.std.specs.Io.{ReadsAtMost, WritesAtMost}

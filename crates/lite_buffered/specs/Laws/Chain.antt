@@ -1,5 +1,5 @@
 use Rattle.std.proofs.Common.{◌≡◌, ◌∙◌, ℕ, Bool, true, false, cond, replicate, ◌+◌, List, [], ◌∷◌, ◌++◌, length, refl}
-use Rattle.std.proofs.Common.{sym, ap, subst, append_assoc, add-zero, zero-add, inl, length-append}
+use Rattle.std.proofs.Common.{ap, append_assoc, add-zero, zero-add, inl, length-append}
 use Rattle.std.specs.Prelude.{⊤}
 use Rattle.std.proofs.lemmas.List.{length-replicate}
 use Rattle.lite_io_base.specs.Falls.{Falls}

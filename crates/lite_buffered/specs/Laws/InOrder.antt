@@ -1,4 +1,4 @@
-use Rattle.std.proofs.Common.{List, [], ◌∷◌, refl, sym, subst, append-nil}
+use Rattle.std.proofs.Common.{List, [], ◌∷◌, refl, append-nil}
 use Rattle.lite_io_base.specs.Marks.{ReadMark, bytes}
 use Rattle.lite_io_base.specs.Parts.{Part, PartsInOrder, reading_of}
 use Rattle.lite_io_base.specs.Takings.{WriteMark}

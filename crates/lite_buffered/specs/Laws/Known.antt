@@ -1,6 +1,6 @@
 -- The bytes that are to come from what is read through a buffer, up to a limit, and one after the other.
-use Rattle.std.proofs.Common.{◌≡◌, ◌∙◌, ◌<◌, ℕ, zero, suc, Bool, true, false, List, [], ◌∷◌, ◌++◌, take, ap, refl, sym}
-use Rattle.std.proofs.Common.{subst, arith}
+use Rattle.std.proofs.Common.{◌≡◌, ◌∙◌, ◌<◌, ℕ, zero, suc, Bool, true, false, List, [], ◌∷◌, ◌++◌, take, ap, refl}
+use Rattle.std.proofs.Common.{arith}
 use Rattle.lite_io_base.specs.Known.{Known, TellsKnown}
 use Rattle.lite_io_base.specs.Laws.Known.{spends_both, spends_bytes, spends_front, spends_split}
 use Rattle.lite_io_base.specs.Marks.{ReadMark, bytes}

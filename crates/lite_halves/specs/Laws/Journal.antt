@@ -1,6 +1,6 @@
 -- Laws of journals.
 use Rattle.std.proofs.Common.{◌≡◌, ◌∙◌, ◌≤◌, ℕ, length, Result, List, [], ◌∷◌, ◌++◌, Option, Some, None, map, refl, sym}
-use Rattle.std.proofs.Common.{ap, append_assoc, append-nil, inl, inr, subst}
+use Rattle.std.proofs.Common.{ap, append_assoc, append-nil, inl, inr}
 use Rattle.std.proofs.lemmas.List.{map-append}
 use Rattle.std.proofs.lemmas.List.Concat.{flat_map-append}
 use Rattle.std.specs.declared.io.Error.{Error}
@@ -14,7 +14,7 @@ use Rattle.lite_io_base.specs.Marks.{ReadMark, read_marks}
 use Rattle.lite_io_base.specs.Runs.{MarkLaws, StandsFirst, room_in}
 use Rattle.lite_io_base.specs.Steps.{Steps}
 use Rattle.lite_io_base.specs.Takings.{WriteMark, done_marks, write_marks}
-use Rattle.lite_halves.specs.Entry.{AllFit, Note, close_note, flush_note, part_of, parts_in, read_note, write_note}
+use Rattle.lite_halves.specs.Entry.{Note, close_note, flush_note, part_of, parts_in, read_note, write_note}
 use Rattle.lite_halves.specs.Journal.{Adds, AddsAll, AddsOrStays, AddsRead, AddsWrite, Chronicle, ClonesEqual, IsSound}
 use Rattle.lite_halves.specs.Journal.{JournalReads, JournalWrites, Journals, Replays, Stage, Story, Thins, all_in_order}
 use Rattle.lite_halves.specs.Journal.{parts_among}

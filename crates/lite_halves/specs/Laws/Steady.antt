@@ -1,5 +1,5 @@
 -- A journal is as steady and as calm a reader as its stream.
-use Rattle.std.proofs.Common.{List, [], ◌∷◌, map, inl, inr, sym, subst}
+use Rattle.std.proofs.Common.{List, [], ◌∷◌, map, inl, inr, subst}
 use Rattle.std.specs.declared.io.ErrorKind.{ErrorKind}
 use Rattle.std.specs.declared.io.ErrorKind.TheVariants.{OutOfMemory}
 use Rattle.lite_io_base.specs.Laws.Steady.{no_wait_both, no_wait_parts}

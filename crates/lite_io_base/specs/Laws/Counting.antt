@@ -7,7 +7,6 @@ use Rattle.lite_io_base.specs.Falls.{Falls}
 use Rattle.lite_io_base.specs.Laws.Falls.{GivenRun, counted_ends}
 use Rattle.lite_io_base.specs.Laws.Marks.{given_all}
 use Rattle.lite_io_base.specs.Marks.{ReadMark, given}
-use Rattle.std.proofs.Common.{subst}
 use Rattle.lite_io_base.specs.Counting.{ReadCounting}
 
 module _ {S : Type 0} {reads : Runs ReadMark S} where

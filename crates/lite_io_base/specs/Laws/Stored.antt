@@ -1,6 +1,6 @@
 -- What a vector keeps, and what is behind a reference.
-use Rattle.std.proofs.Common.{◌≡◌, ◌∙◌, ℕ, List, [], ◌∷◌, ◌++◌, sym, append_assoc, append-nil}
-use Rattle.std.specs.Prelude.{⊤, ◌≡◌, ℕ, List, [], ◌++◌}
+use Rattle.std.proofs.Common.{◌≡◌, ℕ, List, ◌++◌}
+use Rattle.std.specs.Prelude.{⊤, ◌≡◌, ℕ, List, ◌++◌}
 use denote.MutBor.{MutBor}
 use Rattle.lite_base.specs.Lent.{Lent}
 use Rattle.lite_io_base.specs.Grows.{Grows}

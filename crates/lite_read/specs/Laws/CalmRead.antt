@@ -6,7 +6,7 @@ use Rattle.std.specs.declared.io.Error.{Error}
 use Rattle.futures.specs.declared.task.Poll.TheVariants.{Ready, Pending}
 use Rattle.lite_base.specs.Calm.{CalmLaws}
 use Rattle.lite_base.specs.Runs.{Runs}
-use Rattle.lite_io_base.specs.Marks.{ReadMark, fill_marks, read_marks}
+use Rattle.lite_io_base.specs.Marks.{ReadMark, fill_marks}
 use Rattle.lite_io_base.specs.Steady.{CalmReadLaws}
 use Rattle.lite_read.specs.FillBuf.{FillsOnce, held_after}
 use Rattle.lite_read.specs.Laws.Polled.{calls_calm, polled_calm}

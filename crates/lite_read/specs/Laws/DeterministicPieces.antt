@@ -1,7 +1,7 @@
 -- What is cut out of one tale is the same wherever its pendings stand.
 use Rattle.std.specs.Prelude.{⊤}
 use Rattle.std.proofs.Common.{◌≡◌, ◌≢◌, ◌<◌, ◌∙◌, ℕ, List, [], ◌∷◌, Option, Some, None, Result, inl, inr, length, refl}
-use Rattle.std.proofs.Common.{ap, sym, subst, arith}
+use Rattle.std.proofs.Common.{ap, sym, arith}
 use Rattle.std.specs.IoError.{error_kind}
 use Rattle.std.specs.declared.io.Error.{Error}
 use Rattle.lite_base.specs.Alike.{OptionBy, Sameness}
@@ -17,7 +17,7 @@ use Rattle.lite_read.specs.Laws.Deterministic.{segments_alike, segments_no_pendi
 use Rattle.lite_read.specs.Deterministic.{IsDeterministic, SameOr}
 use Rattle.lite_read.specs.Laws.Segments.{flow_laws}
 use Rattle.lite_read.specs.Pieces.{Cut, CutsPiece, Itemised, pieces}
-use Rattle.lite_read.specs.Segments.{Flows, PieceSegments, StreamOver}
+use Rattle.lite_read.specs.Segments.{Flows, StreamOver}
 
 -- cuts of one kind, and of the same bytes
 abbrev pub SameCut : Cut → Cut → Type 0

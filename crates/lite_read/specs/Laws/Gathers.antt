@@ -1,5 +1,5 @@
 -- Laws of futures over a reader.
-use Rattle.std.proofs.Common.{◌≡◌, List, [], ◌∷◌, ◌++◌, refl, subst, sym}
+use Rattle.std.proofs.Common.{◌≡◌, List, [], ◌∷◌, ◌++◌, refl}
 use Rattle.futures.specs.declared.task.Poll.{Poll}
 use Rattle.lite_base.specs.Answers.{ComparableBy, Waiting, strip}
 use Rattle.lite_base.specs.Calm.{CalmLaws}
@@ -14,7 +14,7 @@ use Rattle.lite_read.specs.Laws.Deterministic.{read_folded_alike, segments_no_pe
 use Rattle.lite_read.specs.Laws.PollSteps.{idle_join}
 use Rattle.lite_read.specs.Laws.ReadFold.{read_folded_before, read_folded_follow, read_folded_none}
 use Rattle.lite_read.specs.PollSteps.{TakesBytes}
-use Rattle.lite_read.specs.ReadFold.{Gathers, ReadFold, ReadFolded}
+use Rattle.lite_read.specs.ReadFold.{Gathers, ReadFold}
 
 -- what is kept through runs, and with it what is made of marks
 pub record KeepLaws {X M R : Type 0} (fold : X → ReadFold M R) (Keeps : X → X → Type 0) : Type 1 where

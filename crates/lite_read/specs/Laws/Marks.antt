@@ -1,7 +1,7 @@
 -- `split`, `lines` and `read_until` do not depend on when their reader was pending, where memory was found.
-use Rattle.std.proofs.Common.{◌≡◌, ◌∙◌, ℕ, [], ◌∷◌, ◌++◌, Ok, Err, Global, length, ap, sym, subst}
+use Rattle.std.proofs.Common.{◌≡◌, ◌∙◌, ℕ, [], ◌∷◌, ◌++◌, Ok, Err, Global, length, ap, sym}
 use Rattle.std.proofs.lemmas.Str.{IsUtf8-string_bytes}
-use Rattle.std.specs.Prelude.{IsUtf8, string_bytes, ⊤}
+use Rattle.std.specs.Prelude.{string_bytes, ⊤}
 use Rattle.std.specs.declared.string.String.{String}
 use Rattle.std.specs.declared.vec.Vec.{Vec}
 use Rattle.lite_base.specs.Calm.{CalmLaws}

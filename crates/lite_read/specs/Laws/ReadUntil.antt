@@ -1,6 +1,6 @@
 -- Laws of `read_until`.
 use Rattle.std.specs.Prelude.{⊤}
-use Rattle.std.proofs.Common.{◌≡◌, ◌∙◌, ◌≤◌, [], ◌∷◌, length, take, Result, ℕ, refl, ap, subst, arith}
+use Rattle.std.proofs.Common.{◌∙◌, ◌≤◌, [], ◌∷◌, length, Result, ℕ, refl, ap, arith}
 use Rattle.std.specs.declared.io.Error.{Error}
 use Rattle.futures.specs.declared.task.Poll.{Poll}
 use Rattle.lite_base.specs.FutureLaws.{FutureLaws}

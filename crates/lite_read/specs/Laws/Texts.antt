@@ -1,5 +1,5 @@
 -- Laws of futures that read for a text.
-use Rattle.std.proofs.Common.{◌≡◌, ℕ, List, [], ◌∷◌, Result, refl, ap, sym, subst}
+use Rattle.std.proofs.Common.{◌≡◌, ℕ, List, [], ◌∷◌, Result, refl, ap}
 use Rattle.std.specs.List.{FoldsTo}
 use Rattle.std.specs.Prelude.{string_bytes}
 use Rattle.std.specs.declared.io.Error.{Error}
@@ -12,7 +12,7 @@ use Rattle.lite_read.specs.ReadFold.{ReadFold}
 use Rattle.lite_read.specs.Laws.Gathers.{KeepLaws, gathers_before, gathers_laws}
 use Rattle.lite_io_base.specs.Laws.Lent.{lent_still}
 use Rattle.lite_read.specs.Holding.{TextOver, TextStays}
-use Rattle.lite_read.specs.Texts.{Reading, ReadsText, in_text, reading}
+use Rattle.lite_read.specs.Texts.{ReadsText, in_text, reading}
 use Rattle.lite_read.specs.TextSteps.{AnswersText, TakesTextIn}
 
 -- bytes that are taken in leave the text

@@ -1,10 +1,8 @@
 -- One write, one flush and one close are calm over a calm writer.
-use Rattle.futures.specs.declared.task.Poll.TheVariants.{Ready, Pending}
-use Rattle.std.specs.Io.Slices.{io_slices_bytes}
 use Rattle.lite_base.specs.Calm.{CalmLaws}
 use Rattle.lite_base.specs.Runs.{Runs}
 use Rattle.lite_io_base.specs.SteadyWrite.{CalmWriteLaws}
-use Rattle.lite_io_base.specs.Takings.{WriteMark, done_marks, write_marks}
+use Rattle.lite_io_base.specs.Takings.{WriteMark}
 use Rattle.lite_read.specs.Laws.Polled.{calls_calm}
 use Rattle.lite_read.specs.Polled.{PolledByCalls}
 use Rattle.lite_write.specs.Close.{Closes}

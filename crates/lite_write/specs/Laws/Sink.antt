@@ -1,5 +1,5 @@
 -- Laws of `sink`.
-use Rattle.std.proofs.Common.{List, [], ◌∷◌, ◌++◌, refl, subst}
+use Rattle.std.proofs.Common.{List, [], ◌∷◌, ◌++◌, refl}
 use Rattle.std.specs.Prelude.{⊤}
 use Rattle.lite_io_base.specs.Runs.{MarkLaws}
 use Rattle.lite_io_base.specs.SteadyWrite.{CalmWriteLaws, NoPendingWrite, SteadyWriteLaws}

@@ -2,7 +2,7 @@
 -- where one of them is.
 use Rattle.std.specs.Prelude.{⊤, IsOk}
 use Rattle.std.proofs.Common.{◌≡◌, ◌∙◌, ◌+◌, ◌%◌, ◌^◌, ℕ, List, [], ◌∷◌, ◌++◌, Result, Ok, Err, length, refl, ap, sym}
-use Rattle.std.proofs.Common.{subst, arith, append-nil, length-append}
+use Rattle.std.proofs.Common.{arith, append-nil, length-append}
 use Rattle.std.specs.IoError.{error_kind}
 use Rattle.std.specs.declared.io.Error.{Error}
 use Rattle.std.specs.declared.io.ErrorKind.{ErrorKind}

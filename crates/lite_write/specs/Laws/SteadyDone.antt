@@ -14,8 +14,6 @@ use Rattle.lite_write.specs.Flush.{Flushes}
 use Rattle.lite_write.specs.Laws.SteadyWriteAll.{AllOk, all_ok_same}
 use Rattle.lite_write.specs.Laws.WriteAll.{WriteAllResult}
 use Rattle.lite_write.specs.SteadyWriteAll.{NoFailure, NoneFails, WithoutFailure}
-use Rattle.lite_write.specs.declared.close.CloseFuture.{CloseFuture}
-use Rattle.lite_write.specs.declared.flush.FlushFuture.{FlushFuture}
 
 -- futures each poll of which is one call, of which those that prosper give Ok
 module _ {F : Type 0} (call without_failure : F → Poll WriteAllResult → F → Type 0) where

@@ -1,4 +1,4 @@
-use Rattle.std.proofs.Common.{◌≡◌, ◌∙◌, ◌<◌, ◌-◌, [], Some, None, Ok, Err, length, take, refl, rules, ap}
+use Rattle.std.proofs.Common.{◌≡◌, ◌∙◌, ◌-◌, [], Some, None, Ok, Err, length, take, refl, rules, ap}
 use Rattle.std.proofs.lemmas.Grind.{common_steps}
 use Rattle.futures.specs.declared.task.Poll.TheVariants.{Ready}
 use Rattle.lite_read.proofs.Cutting.{take_whole}
