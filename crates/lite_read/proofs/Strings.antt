@@ -115,7 +115,10 @@ module _ {R A : Type 0} (reads : Runs ReadMark R) (x w : ReadToStringFuture R A)
   waited text came = (
     text_waits all_over (read_to_string_fold ⊤) reads x wrote wrote_stays wrote_front text tt
         (subst (λ (b : MutBor R). reads b.now (ReadMark.pending ∷ []) r) reader came),
-    record { fits = holds.fits; within = omega (arith, put_len w.bytes old new w.filled holds.within is long, holds.within) },
+    record {
+      fits = holds.fits;
+      within = omega (arith, put_len w.bytes old new w.filled holds.within is long, holds.within);
+    },
   )
 
   -- the reader answered, and what was read goes into the text

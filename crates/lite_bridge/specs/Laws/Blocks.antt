@@ -66,7 +66,8 @@ module _ {T : Type 0} {writes : Runs WriteMark T} where
       → GaveOrRefused (PolledByCalls (Writes writes)) x r y
       → Blocks writes WriteMark.pending (λ c. write_marks c x.buf.now) x.writer.now r y.writer.now
   write_blocks laws x y r h =
-      rw (← (bytes_stay x y r h)) (gave_blocks (Writes writes) laws (λ (x : WriteFuture T). x.writer.now) WriteMark.pending
+      rw (← (bytes_stay x y r h))
+      (gave_blocks (Writes writes) laws (λ (x : WriteFuture T). x.writer.now) WriteMark.pending
       (λ c y. write_marks c y.buf.now) (λ y. refl)
       (λ x y c h. rw (ap (λ (t : WriteFuture T). t.buf.now) h.stays) h.came) x y r h)
 

@@ -120,7 +120,8 @@ module _ {R : Type 0} {reads : Runs ReadMark R} where
     through_falls x y l counts g h =
         let came = passes_all_given (reader_capacity x) (ahead x) (ahead y) h.came l h.passes g in
         let less = rw (← given_all h.came came) at (c.falls x.inner y.inner h.came counts came h.ran) in
-        rw (← (given_all l g)) (falls_held (given h.came) (given l) (length (ahead x)) (length (ahead y)) (r.rank y.inner)
+        rw (← (given_all l g))
+        (falls_held (given h.came) (given l) (length (ahead x)) (length (ahead y)) (r.rank y.inner)
         (r.rank x.inner) less (passes_given (reader_capacity x) (ahead x) (ahead y) h.came l h.passes))
 
     pub through_counting : ReadCounting (ThroughBuffer reads) (ahead_ranks r)

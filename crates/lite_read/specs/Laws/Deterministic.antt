@@ -56,13 +56,15 @@ module _ {M R : Type 0} (fold : ReadFold M R) where
         let w = h.4 in
         let cut = segment_front p h.2 i h.0 h.1 Pending w h.3 ∙ ap (λ k. bytes w.taken ++ (k ++ h.1)) w.given.0 in
         let rest = rw w.given.2 at (segments_values h.2 q h.1 l h.5) in
-        rw (past_pending i h.1 w.taken cut) (tale_values_behind p w.between w.taken (strip_marks h.1) (strip l) w.folds rest)
+        rw (past_pending i h.1 w.taken cut)
+        (tale_values_behind p w.between w.taken (strip_marks h.1) (strip l) w.folds rest)
     segments_values p q i (Ready r ∷ l) h =
         let c = h.4 in
         let now = s.at_once c.between h.2 c.last r c.given in
         let cut = segment_front p h.2 i h.0 h.1 (Ready r) c h.3 in
         let rest = segments_values h.2 q h.1 l h.5 in
-        rw (past_value i c.last h.1 c.taken now cut) (TaleValues.next p c.between h.2 c.taken c.last (strip_marks h.1) r (strip l) c.folds c.given rest)
+        rw (past_value i c.last h.1 c.taken now cut)
+        (TaleValues.next p c.between h.2 c.taken c.last (strip_marks h.1) r (strip l) c.folds c.given rest)
 
     -- the first values of tales that begin one another
     aligned : (p x y q r : M) (xs ys : List ℕ) (l m k n : List ReadMark) (v w : R) → FoldsTo fold.takes p xs x

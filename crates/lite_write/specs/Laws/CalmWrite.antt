@@ -19,7 +19,8 @@ module _ {W : Type 0} {writes : Runs WriteMark W} {is_calm : W → Type 0}
   pub write_calm : CalmLaws (PolledByCalls (Writes writes)) (λ (x : WriteFuture W). is_calm x.writer.now)
   write_calm = calls_calm (Writes writes) (λ x. x.writer.now) (λ x y r h. (_, h.came)) (λ x y h n. n) c
 
-  pub vectored_calm : CalmLaws (PolledByCalls (WritesVectored writes)) (λ (x : WriteVectoredFuture W). is_calm x.writer.now)
+  pub vectored_calm :
+      CalmLaws (PolledByCalls (WritesVectored writes)) (λ (x : WriteVectoredFuture W). is_calm x.writer.now)
   vectored_calm = calls_calm (WritesVectored writes) (λ x. x.writer.now) (λ x y r h. (_, h.came)) (λ x y h n. n) c
 
   pub flush_calm : CalmLaws (PolledByCalls (Flushes writes)) (λ (x : FlushFuture W). is_calm x.writer.now)

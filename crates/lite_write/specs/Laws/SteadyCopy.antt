@@ -219,7 +219,8 @@ module _ {R W : Type 0} {reads : Runs ReadMark R} {writes : Runs WriteMark W} wh
             let two = all_told y y' m j in
             let tales = s.steady (source_of x) (source_of y) (source_of x')
             (source_of y') i.told j.told e.0 i.came j.came in
-            let both = comparable_behind (strip_marks (met_in x.phase)) (strip_marks i.told) (strip_marks j.told) tales in
+            let both =
+            comparable_behind (strip_marks (met_in x.phase)) (strip_marks i.told) (strip_marks j.told) tales in
             let whole : Comparable (strip_marks (tale_of x i.told)) (strip_marks (tale_of y j.told)) =
             rw (strip_marks-append (met_in x.phase) i.told, strip_marks-append (met_in y.phase) j.told, ← e.2) both in
             let begun : before_of y ≡ before_of x = omega (arith, e.3, ap length e.1) in
