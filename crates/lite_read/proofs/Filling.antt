@@ -1,5 +1,6 @@
 -- A read into what is left of a buffer.
-use Rattle.std.proofs.Common.{◌≡◌, ◌∙◌, ◌≤◌, ◌<◌, ◌+◌, ◌-◌, ℕ, List, [], ◌∷◌, ◌++◌, Result, Ok, length, take, drop, refl, ap}
+use Rattle.std.proofs.Common.{◌≡◌, ◌∙◌, ◌≤◌, ◌<◌, ◌+◌, ◌-◌, ℕ, List, [], ◌∷◌, ◌++◌, Result, Ok, length, take, drop}
+use Rattle.std.proofs.Common.{refl, ap}
 use Rattle.std.proofs.Common.{sym, subst, arith, append-nil, append_assoc, length-append}
 use Rattle.std.proofs.lemmas.List.{length-take-le, take-append-le, take_all, take_at}
 use Rattle.std.proofs.Math.Seq.{take-append-add}
@@ -71,7 +72,8 @@ module _ {A : Type 0} (v : Vec ℕ A) (old new : List ℕ) (at : ℕ) (within : 
   inside = omega (arith, within, ap length is)
 
   put_long : length written ≡ length old
-  put_long = same_len_mid at (length old - at) old new (long ∙ sym (mid_len at (length old) old (omega (arith, inside))))
+  put_long =
+      same_len_mid at (length old - at) old new (long ∙ sym (mid_len at (length old) old (omega (arith, inside))))
 
   put_items : (with_items v written).items ≡ written
   put_items = take_at written (drop (length written) v.items) v.len (put_long ∙ ap length is ∙ sym v.ok.0)
@@ -158,7 +160,8 @@ read_none reads x r new marks a within long last came =
     let put = put_mid at (length old - at) old new in
     let same : length put ≡ length old =
     same_len_mid at (length old - at) old new (long ∙ sym (mid_len at (length old) old (omega arith))) in
-    let after : (take at put, length put) ≡ (take at old, length old) = ap (λ l. (l, length put)) (front_kept at (length old - at) old new within)
+    let after : (take at put, length put) ≡ (take at old, length old) =
+    ap (λ l. (l, length put)) (front_kept at (length old - at) old new within)
     ∙ ap (λ k. (take at old, k)) same in
     exact_one reads x _ marks a (subst (LastMarks fills (filling_of x) marks a) (sym after) last) came
     (record { reader = refl; buf = refl; within = λ h. omega (arith, same, h) })

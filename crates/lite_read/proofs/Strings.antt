@@ -1,16 +1,13 @@
 -- The steps of `read_to_string`.
-use Rattle.std.proofs.Common.{◌≡◌, ◌∙◌, ◌≤◌, ◌<◌, ◌+◌, ◌-◌, ℕ, List, [], ◌∷◌, ◌++◌, length, take, drop, Result, Ok, Err}
+use Rattle.std.proofs.Common.{◌≡◌, ◌∙◌, ◌≤◌, ◌<◌, ◌+◌, ◌-◌, ℕ, List, [], ◌∷◌, length, take, Result, Ok, Err}
 use Rattle.std.proofs.Common.{refl, ap, sym, subst, arith, length-take-le}
-use Rattle.std.proofs.lemmas.List.{take_at}
 use Rattle.std.specs.IoError.{error_kind}
-use Rattle.std.specs.List.{FoldsTo}
 use Rattle.std.specs.Prelude.{⊤, string_bytes}
 use Rattle.std.specs.Vec.{with_items}
 use Rattle.std.specs.declared.io.Error.{Error}
 use Rattle.std.specs.declared.io.ErrorKind.TheVariants.{OutOfMemory}
-use Rattle.std.specs.declared.vec.Vec.{Vec}
 use denote.MutBor.{MutBor}
-use borrow.Rule.Slice.PartMut.{mid_len, put_mid, same_len_mid}
+use borrow.Rule.Slice.PartMut.{put_mid}
 use Rattle.futures.specs.declared.task.Poll.TheVariants.{Ready, Pending}
 use Rattle.lite_io_base.specs.Marks.{ReadMark, bytes, moved}
 use Rattle.lite_read.proofs.Filling.{bytes_came, put_front, put_kept, put_len}
@@ -118,7 +115,10 @@ module _ {R A : Type 0} (reads : Runs ReadMark R) (x w : ReadToStringFuture R A)
   waited text came = (
     text_waits all_over (read_to_string_fold ⊤) reads x wrote wrote_stays wrote_front text tt
         (subst (λ (b : MutBor R). reads b.now (ReadMark.pending ∷ []) r) reader came),
-    record { fits = holds.fits; within = omega (arith, put_len w.bytes old new w.filled holds.within is long, holds.within) },
+    record {
+      fits = holds.fits;
+      within = omega (arith, put_len w.bytes old new w.filled holds.within is long, holds.within);
+    },
   )
 
   -- the reader answered, and what was read goes into the text

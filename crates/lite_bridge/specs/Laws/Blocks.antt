@@ -66,12 +66,10 @@ module _ {T : Type 0} {writes : Runs WriteMark T} where
       → GaveOrRefused (PolledByCalls (Writes writes)) x r y
       → Blocks writes WriteMark.pending (λ c. write_marks c x.buf.now) x.writer.now r y.writer.now
   write_blocks laws x y r h =
-      subst (λ (b : List ℕ). Blocks writes WriteMark.pending (λ c. write_marks c b) x.writer.now r y.writer.now)
-      (bytes_stay x y r h)
+      rw (← (bytes_stay x y r h))
       (gave_blocks (Writes writes) laws (λ (x : WriteFuture T). x.writer.now) WriteMark.pending
       (λ c y. write_marks c y.buf.now) (λ y. refl)
-      (λ x y c h. subst (λ (b : List ℕ). writes x.writer.now (write_marks c b) y.writer.now)
-      (sym (ap (λ (t : WriteFuture T). t.buf.now) h.stays)) h.came) x y r h)
+      (λ x y c h. rw (ap (λ (t : WriteFuture T). t.buf.now) h.stays) h.came) x y r h)
 
   within_last : (x y : WriteFuture T) (r : Result ℕ Error) → y.buf.now ≡ x.buf.now
       → ((m : WriteFuture T) × Writes writes m (Ready r) y) ⊎ (NoMemoryToWait r × (y ≡ x)) → WritesAtMost r x.buf.now
@@ -119,15 +117,14 @@ module _ {T : Type 0} (seeks : T → SeekFrom → Poll (Result ℕ ErrorKind) �
       let rest = sought to ins m y r (ap (λ (t : SeekFuture T). t.pos) h.1.stays ∙ e) g h.2 in (
         suc rest.0,
         rest.1,
-        (m.seeker.now, subst (λ (p : SeekFrom). seeks x.seeker.now p Pending m.seeker.now) e h.1.sought, rest.2),
+        (m.seeker.now, rw (← e) h.1.sought, rest.2),
         rest.3,
       )
   sought to (Ready a ∷ ins) x y r e g h = (
     0,
     x.seeker.now,
     refl,
-    subst (λ (t : Result ℕ Error). seeks x.seeker.now to (by_kind (Ready t)) y.seeker.now) g.0
-        (subst (λ (p : SeekFrom). seeks x.seeker.now p (by_kind (Ready a)) y.seeker.now) e h.0.sought),
+    rw (← g.0) (rw (← e) h.0.sought),
   )
 
   pub seek_blocks : (x y : SeekFuture T) (r : Result ℕ Error) → GaveOrRefused (PolledByCalls (Seeks seeks)) x r y

@@ -1,8 +1,8 @@
 -- The bytes that are to come from a cursor: those from its position on. And those that one keeps that stands at their
 -- end.
 use Rattle.std.proofs.lemmas.List.{drop_all, take_all}
-use Rattle.std.proofs.Common.{◌≡◌, ◌≤◌, ◌∙◌, ℕ, zero, suc, ◌+◌, ◌-◌, List, [], ◌∷◌, ◌++◌, length, take, drop, replicate}
-use Rattle.std.proofs.Common.{refl, ap, sym, subst, arith, append_assoc, append-nil, length-append}
+use Rattle.std.proofs.Common.{◌≡◌, ◌∙◌, ℕ, ◌+◌, ◌-◌, List, [], ◌∷◌, ◌++◌, length}
+use Rattle.std.proofs.Common.{refl, ap, sym, arith, append_assoc, append-nil, length-append}
 use Rattle.std.specs.Prelude.{⊤}
 use Rattle.lite_io_base.specs.Known.{Known, TellsKnown}
 use Rattle.lite_io_base.specs.Marks.{ReadMark}
@@ -18,7 +18,7 @@ module _ {T : Type 0} (bytes : T → List ℕ) where
   moves_spends x y [] h = ap (bytes_left bytes) h
   moves_spends x y (ReadMark.byte b ∷ l) h = (bytes_left bytes h.0, h.1.0, moves_spends h.0 y l h.2)
   moves_spends x y (ReadMark.end ∷ l) h =
-      (h.1.0, subst (λ c. TellsKnown (bytes_left bytes c) l (bytes_left bytes y)) h.1.1 (moves_spends h.0 y l h.2))
+      (h.1.0, rw (← h.1.1) (moves_spends h.0 y l h.2))
   moves_spends x y (_ ∷ l) h = absurd h.1
 
   abbrev pub cursor_known : Known (Cursor T)
@@ -51,8 +51,7 @@ module _ {T : Type 0} (bytes : T → List ℕ) (puts : T → ℕ → List ℕ �
       → CursorWrites puts refuses x l y
       → CursorAtEnd y × (bytes y.inner ≡ bytes x.inner ++ bytes_taken l)
   overwrites_kept x y [] law at h =
-      subst (λ (z : Cursor T). CursorAtEnd z × (bytes z.inner ≡ bytes x.inner ++ [])) (sym h)
-      (at, sym (append-nil (bytes x.inner)))
+      rw h (at, sym (append-nil (bytes x.inner)))
   overwrites_kept x y (WriteMark.wrote new ∷ l) law at (m, step, more) =
       let put = put_behind (bytes x.inner) new (bytes m.inner) x.position at
       (law.0 x.inner m.inner x.position new step.0) in
@@ -66,7 +65,7 @@ module _ {T : Type 0} (bytes : T → List ℕ) (puts : T → ℕ → List ℕ �
       (rest.0, rest.1 ∙ ap (λ z. z ++ bytes_taken l) same)
   overwrites_kept x y (WriteMark.pending ∷ l) law at (m, step, more) = absurd step
   overwrites_kept x y (_ ∷ l) law at (m, step, more) =
-      let rest = overwrites_kept m y l law (subst CursorAtEnd (sym step) at) more in
+      let rest = overwrites_kept m y l law (rw step at) more in
       (rest.0, rest.1 ∙ ap (λ (z : Cursor T). bytes z.inner ++ bytes_taken l) step)
 
   -- a cursor that stands at the end of its bytes

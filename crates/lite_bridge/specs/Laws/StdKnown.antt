@@ -4,10 +4,10 @@ use Rattle.std.proofs.Common.{refl, subst, sym}
 use Rattle.std.specs.Prelude.{Option, None, Some, Result, Ok, Err}
 use Rattle.std.specs.Io.{ReadsAtMost}
 use Rattle.std.specs.Io.KnownBytes.{Keeps, ReadConsumes, WriteAppends}
-use Rattle.std.specs.Io.Seek.{IsAtOffset, IsSeekTarget, SeekMoves, StaysAt}
+use Rattle.std.specs.Io.Seek.{IsSeekTarget, SeekMoves, StaysAt}
 use Rattle.std.specs.declared.io.Error.{Error}
 use Rattle.std.specs.declared.io.traits.SeekFrom.{SeekFrom}
-use Rattle.std.specs.declared.io.traits.SeekFrom.TheVariants.{Current, End, Start}
+use Rattle.std.specs.declared.io.traits.SeekFrom.TheVariants.{End}
 use Rattle.futures.specs.declared.task.Poll.{Poll}
 use Rattle.futures.specs.declared.task.Poll.TheVariants.{Pending, Ready}
 use Rattle.lite_io_base.specs.Kinds.{by_kind}
@@ -25,7 +25,7 @@ use Rattle.lite_bridge.specs.Known.{SpendsWell, WhereKnown, known_bytes}
 
 spends_follows : (x y z : List ℕ) (l m : List ReadMark) → SpendsBytes x l y → SpendsBytes y m z
     → SpendsBytes x (l ++ m) z
-spends_follows x y z [] m h k = subst (λ t. SpendsBytes t m z) h k
+spends_follows x y z [] m h k = rw (← h) k
 spends_follows [] y z (ReadMark.byte b ∷ l) m h k = absurd h
 spends_follows (a ∷ x) y z (ReadMark.byte b ∷ l) m h k = (h.0, spends_follows x y z l m h.1 k)
 spends_follows x y z (ReadMark.pending ∷ l) m h k = absurd h
@@ -81,7 +81,7 @@ pub spends_calm : {S : Type 0} (remaining : S → Option (List ℕ))
 spends_calm = known_calm tt no_wait_both (record { rests = λ xs. refl; follows = spends_follows }) spends_no_wait
 
 gains_follows : (x y z : List ℕ) (l m : List WriteMark) → GainsBytes x l y → GainsBytes y m z → GainsBytes x (l ++ m) z
-gains_follows x y z [] m h k = subst (λ t. GainsBytes t m z) h k
+gains_follows x y z [] m h k = rw (← h) k
 gains_follows x y z (WriteMark.wrote xs ∷ l) m h k = gains_follows (x ++ xs) y z l m h k
 gains_follows x y z (WriteMark.pending ∷ l) m h k = absurd h
 gains_follows x y z (_ ∷ l) m h k = gains_follows x y z l m h k
@@ -133,7 +133,7 @@ known_one_tale : (x x' y z : Option (List ℕ)) (l m : List ReadMark) → SameKn
 known_one_tale (Some xs) (Some ys) None z l m e h k = absurd h.0
 known_one_tale (Some xs) (Some ys) (Some y) None l m e h k = absurd k.0
 known_one_tale (Some xs) (Some ys) (Some y) (Some z) l m e h k =
-    spends_one_tale xs y z l m h.0 (subst (λ t. SpendsBytes t m z) (sym e) k.0) h.1 k.1
+    spends_one_tale xs y z l m h.0 (rw e k.0) h.1 k.1
 known_one_tale _ _ y z l m e h k = absurd e
 
 -- two readers of which the same bytes are known tell one tale, where no read failed
@@ -250,7 +250,7 @@ target_kept : (at : ℕ) (x y : Option (List ℕ)) (to : SeekFrom) (n : ℕ) →
     → IsSeekTarget at x to n
 target_kept at None y (End k) n s h = tt
 target_kept at (Some xs) None (End k) n s h = absurd s
-target_kept at (Some xs) (Some ys) (End k) n s h = subst (λ t. IsAtOffset (length t) k n) s h
+target_kept at (Some xs) (Some ys) (End k) n s h = rw (← s) h
 target_kept at x y _ n s h = h
 
 pub seek_moves : (p q s : Option ℕ) (x y z : Option (List ℕ)) (to : SeekFrom) (r : Result ℕ Error) → StaysAt p q

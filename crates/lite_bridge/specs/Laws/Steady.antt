@@ -1,5 +1,5 @@
 -- Cursors over equal bytes tell one tale, and none is ever pending.
-use Rattle.std.proofs.Common.{◌≡◌, ℕ, List, [], ◌∷◌, ap, refl, subst}
+use Rattle.std.proofs.Common.{◌≡◌, ℕ, List, [], ◌∷◌, ap, refl}
 use Rattle.std.specs.Prelude.{⊤}
 use Rattle.lite_base.specs.Answers.{Comparable}
 use Rattle.lite_io_base.specs.Laws.Steady.{no_wait_bytes, told_no_wait, told_one_tale, steady_read_always}
@@ -17,8 +17,7 @@ module _ {T : Type 0} (bytes : T → List ℕ) where
   moves_told x y [] h = ap (λ c. marks_of (bytes_left bytes c)) h
   moves_told x y (ReadMark.byte b ∷ l) h = rw h.1.0 (refl, moves_told h.0 y l h.2)
   moves_told x y (ReadMark.end ∷ l) h =
-      let rest = subst (λ c. TellsScript (marks_of (bytes_left bytes c)) l (marks_of (bytes_left bytes y))) h.1.1
-      (moves_told h.0 y l h.2) in
+      let rest = rw h.1.1 at (moves_told h.0 y l h.2) in
       rw h.1.0 (refl, rw h.1.0 at rest)
   moves_told x y (_ ∷ l) h = absurd h.1
 

@@ -37,7 +37,7 @@ module _ {T : Type 0} (bytes : T → List ℕ) {puts : T → ℕ → List ℕ �
       let at : h.0.position ≡ x.position + length xs = h.1.1 in
       record {
         all = puts_more (bytes x.inner) (bytes h.0.inner) (bytes y.inner) x.position xs (bytes_taken l) first
-            (subst (λ (n : ℕ). Puts (bytes h.0.inner) n (bytes_taken l) (bytes y.inner)) at rest.all);
+            (rw (← at) rest.all);
         place = omega (arith, rest.place, at, length-append xs (bytes_taken l));
       }
   puts_all x y (WriteMark.fault kind ∷ l) h =
@@ -45,12 +45,11 @@ module _ {T : Type 0} (bytes : T → List ℕ) {puts : T → ℕ → List ℕ �
       let same = stays x.inner h.0.inner h.1.1 in
       let at : h.0.position ≡ x.position = h.1.2 in
       record {
-        all = subst (λ (n : ℕ). Puts (bytes x.inner) n (bytes_taken l) (bytes y.inner)) at
-            (subst (λ a. Puts a h.0.position (bytes_taken l) (bytes y.inner)) same rest.all);
+        all = rw (← at) (rw (← same) rest.all);
         place = omega (arith, rest.place, at);
       }
   puts_all x y (WriteMark.pending ∷ l) h = absurd h.1
-  puts_all x y (_ ∷ l) h = let r = subst (λ c. PutsAll c l y) h.1 (puts_all h.0 y l h.2) in record {
+  puts_all x y (_ ∷ l) h = let r = rw h.1 at (puts_all h.0 y l h.2) in record {
     all = r.all;
     place = r.place;
   }

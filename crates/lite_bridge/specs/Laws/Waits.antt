@@ -1,5 +1,5 @@
 -- Laws of calls that wait.
-use Rattle.std.proofs.Common.{◌≡◌, ◌≤◌, ◌∙◌, ℕ, suc, List, [], ◌∷◌, ◌++◌, length, length-take-le, ap, inl, inr, subst}
+use Rattle.std.proofs.Common.{◌≡◌, ◌≤◌, ◌∙◌, ℕ, suc, List, [], ◌∷◌, ◌++◌, length, length-take-le, ap, inl, inr}
 use Rattle.std.proofs.Common.{sym}
 use Rattle.std.specs.Prelude.{◌⊎◌, Result, Ok, Err, IfOk, replicate}
 use Rattle.std.specs.Io.{ReadsAtMost, WritesAtMost}
@@ -17,7 +17,7 @@ module _ {F A : Type 0} (call : F → Poll (Result A Error) → F → Type 0) wh
       → PolledByCalls call x ins y → (m : F) × call m (Ready r) y
   polled_last [] x y r g h = absurd g
   polled_last (Pending ∷ ins) x y r g h = polled_last ins h.0 y r g h.2
-  polled_last (Ready a ∷ ins) x y r g h = (x, subst (λ t. call x (Ready t) y) g.0 h.0)
+  polled_last (Ready a ∷ ins) x y r g h = (x, rw (← g.0) h.0)
 
   polled_stays : {G : Type 0} (name : F → G) → ((x y : F) (c : Poll (Result A Error)) → call x c y → name y ≡ name x)
       → (ins : List (Poll (Result A Error))) (x y : F) → PolledByCalls call x ins y → name y ≡ name x
@@ -47,13 +47,13 @@ module _ {F A : Type 0} (call : F → Poll (Result A Error) → F → Type 0) wh
     polled_blocks [] x y r g h = absurd g
     polled_blocks (Pending ∷ ins) x y r g h =
         let rest = polled_blocks ins h.0 y r g h.2 in
-        let first = subst (λ l. run (part x) l (part h.0)) (same h.0) (came x h.0 Pending h.1) in (
+        let first = rw (same h.0) at (came x h.0 Pending h.1) in (
           suc rest.0,
           laws.follows (part x) (part h.0) (part y) (pending ∷ [])
               (replicate rest.0 pending ++ marks (Ready r) y) first rest.1,
         )
     polled_blocks (Ready a ∷ ins) x y r g h =
-        (0, subst (λ t. run (part x) (marks (Ready t) y) (part y)) g.0 (came x y (Ready a) h.0))
+        (0, rw (← g.0) (came x y (Ready a) h.0))
 
     -- what the future's part did
     pub gave_blocks : (x y : F) (r : Result A Error) → GaveOrRefused (PolledByCalls call) x r y

@@ -1,4 +1,4 @@
-use Rattle.std.proofs.Common.{◌≡◌, ◌∙◌, ℕ, zero, suc, ◌+◌, ◌-◌, List, [], ◌∷◌, ◌++◌, length, refl, sym, ap, subst}
+use Rattle.std.proofs.Common.{◌≡◌, ◌∙◌, ℕ, zero, suc, ◌+◌, ◌-◌, List, [], ◌∷◌, ◌++◌, length, refl, sym, ap}
 use Rattle.std.proofs.Common.{arith, append_assoc, append-nil, length-append}
 use Rattle.lite_base.specs.Answers.{Comparable}
 use Rattle.lite_base.specs.Ranks.{Ranks}
@@ -41,7 +41,7 @@ pub passes_of : (n : ℕ) (p : List ℕ) (came out : List ReadMark) (q : List �
     → (n ≡ 0 → (p ≡ []) × (q ≡ [])) → PassesBuffer n p came out q
 passes_of zero p came out q e none =
     let both = none refl in
-    (both.0, both.1, subst (λ l. Padded came l) (rw (both.0, both.1, append-nil) at e) (padded_same came))
+    (both.0, both.1, rw (← (rw (both.0, both.1, append-nil) at e)) (padded_same came))
 passes_of (suc n) p came out q e none = e
 
 pub passes_both : (n : ℕ) (p q r : List ℕ) (came out more next : List ReadMark) → PassesBuffer n p came out q
@@ -62,7 +62,7 @@ passes_all_given : (n : ℕ) (p q : List ℕ) (came out : List ReadMark) → Pas
     → AllGiven came
 passes_all_given zero p q came out h g = padded_all_given came out h.2 g
 passes_all_given (suc n) p q came out h g =
-    (given_parts (bytes p) came (subst AllGiven (sym h) (given_both out (bytes q) g (bytes_given q)))).1
+    (given_parts (bytes p) came (rw h (given_both out (bytes q) g (bytes_given q)))).1
 
 front : (l m k n : List ReadMark) → l ++ m ≡ k ++ n → Comparable l k
 front (a ∷ l) m (b ∷ k) n e = (cc e, front l m k n (cc e))
@@ -84,7 +84,7 @@ module _ {R : Type 0} {reads : Runs ReadMark R} where
   through_follows : MarkLaws reads → (x y z : BufReader R) (l m : List ReadMark) → ThroughBuffer reads x l y
       → ThroughBuffer reads y m z → ThroughBuffer reads x (l ++ m) z
   through_follows laws x y z l m a b =
-      let next = subst (λ n. PassesBuffer n (ahead y) b.came m (ahead z)) a.capacity b.passes in
+      let next = rw a.capacity at b.passes in
       record {
         came = a.came ++ b.came;
         ran = laws.follows x.inner y.inner z.inner a.came b.came a.ran b.ran;
@@ -120,7 +120,7 @@ module _ {R : Type 0} {reads : Runs ReadMark R} where
     through_falls x y l counts g h =
         let came = passes_all_given (reader_capacity x) (ahead x) (ahead y) h.came l h.passes g in
         let less = rw (← given_all h.came came) at (c.falls x.inner y.inner h.came counts came h.ran) in
-        subst (λ n. Falls n ((ahead_ranks r).rank y) ((ahead_ranks r).rank x)) (given_all l g)
+        rw (← (given_all l g))
         (falls_held (given h.came) (given l) (length (ahead x)) (length (ahead y)) (r.rank y.inner)
         (r.rank x.inner) less (passes_given (reader_capacity x) (ahead x) (ahead y) h.came l h.passes))
 

@@ -1,5 +1,5 @@
 use Rattle.std.proofs.Common.{◌≡◌, ◌∙◌, ℕ, Bool, true, false, cond, replicate, ◌+◌, List, [], ◌∷◌, ◌++◌, length, refl}
-use Rattle.std.proofs.Common.{sym, ap, subst, append_assoc, add-zero, zero-add, inl, length-append}
+use Rattle.std.proofs.Common.{ap, append_assoc, add-zero, zero-add, inl, length-append}
 use Rattle.std.specs.Prelude.{⊤}
 use Rattle.std.proofs.lemmas.List.{length-replicate}
 use Rattle.lite_io_base.specs.Falls.{Falls}
@@ -43,7 +43,7 @@ module _ {R S : Type 0} (first : Runs ReadMark R) (second : Runs ReadMark S) whe
         between = k.between;
         first_ran = p.follows x.first y.first k.between l k.before h.0 k.first_ran;
         first_ended = k.first_ended;
-        second_ran = subst (λ t. second t k.after z.second) h.2 k.second_ran;
+        second_ran = rw (← h.2) k.second_ran;
       }
   follows_at p q false true true x y z l m h k =
       record {
@@ -53,7 +53,7 @@ module _ {R S : Type 0} (first : Runs ReadMark R) (second : Runs ReadMark S) whe
         no_end = h.no_end;
         between = h.between;
         first_ran = h.first_ran;
-        first_ended = subst (λ t. first h.between (ReadMark.end ∷ []) t) (sym k.1) h.first_ended;
+        first_ended = rw k.1 h.first_ended;
         second_ran = q.follows x.second y.second z.second h.after m h.second_ran k.0;
       }
   follows_at p q true true true x y z l m h k = (q.follows x.second y.second z.second l m h.0 k.0, k.1 ∙ h.1)
@@ -96,13 +96,13 @@ module _ {R S : Type 0} (first : Runs ReadMark R) (second : Runs ReadMark S) whe
       (kept2 : (x y : S) (l : List ReadMark) → Q x → second x l y → Q y) where
     keep_at : (a b : Bool) (x y : Chain R S) (l : List ReadMark) → P x.first × Q x.second
         → JoinsReaders first second a b x l y → P y.first × Q y.second
-    keep_at false false x y l c h = (kept1 x.first y.first l c.0 h.0, subst Q (sym h.2) c.1)
+    keep_at false false x y l c h = (kept1 x.first y.first l c.0 h.0, rw h.2 c.1)
     keep_at false true x y l c h =
         let between = kept1 x.first h.between h.before c.0 h.first_ran in (
           kept1 h.between y.first (ReadMark.end ∷ []) between h.first_ended,
           kept2 x.second y.second h.after c.1 h.second_ran,
         )
-    keep_at true true x y l c h = (subst P (sym h.1) c.0, kept2 x.second y.second l c.1 h.0)
+    keep_at true true x y l c h = (rw h.1 c.0, kept2 x.second y.second l c.1 h.0)
     keep_at true false x y l c h = absurd h
 
     pub chains_keep : (x y : Chain R S) (l : List ReadMark) → P x.first × Q x.second → ChainsReaders first second x l y
@@ -125,7 +125,7 @@ module _ {R S : Type 0} (first : Runs ReadMark R) (second : Runs ReadMark S) whe
         rw add-zero at (falls_both (size l) 0 (rank1 y.first) (rank1 x.first) (rank2 y.second) (rank2 x.second)
         (falls1 y.first l g h.0) (inl (ap rank2 h.2)))
     fall_at false true l g h =
-        let p = parts h.before h.after (subst All h.cut g) in
+        let p = parts h.before h.after (rw (← h.cut) g) in
         let less = falls_to_zeros (size h.before) (rank1 h.between) (rank1 x.first)
         (falls1 h.between h.before p.0 h.first_ran) in
         rw (h.cut, adds)

@@ -1,4 +1,4 @@
-use Rattle.std.proofs.Common.{List, [], ◌∷◌, refl, sym, subst, append-nil}
+use Rattle.std.proofs.Common.{List, [], ◌∷◌, refl, append-nil}
 use Rattle.lite_io_base.specs.Marks.{ReadMark, bytes}
 use Rattle.lite_io_base.specs.Parts.{Part, PartsInOrder, reading_of}
 use Rattle.lite_io_base.specs.Takings.{WriteMark}
@@ -20,11 +20,10 @@ module _ {R : Type 0} (reads : Runs ReadMark R) (writes : Runs WriteMark R) wher
   inside x [] y h =
       let still = passes_of (reader_capacity x) (ahead x) [] [] (ahead x) (append-nil (bytes (ahead x)))
       (λ none. (ahead_none x none, ahead_none x none)) in
-      subst (λ z. Inside x [] z) (sym h) (record { inner = []; ran = refl; same = tt; passes = still })
+      rw h (record { inner = []; ran = refl; same = tt; passes = still })
   inside x (Part.reading l ∷ ps) y (z, a, h) =
       let r = inside z ps y h in
-      let next = subst
-      (λ n. PassesBuffer n (ahead z) (reading_of r.inner) (reading_of ps) (ahead y)) a.capacity r.passes in
+      let next = rw a.capacity at r.passes in
       record {
         inner = Part.reading a.came ∷ r.inner;
         ran = (z.inner, a.ran, r.ran);
@@ -34,13 +33,12 @@ module _ {R : Type 0} (reads : Runs ReadMark R) (writes : Runs WriteMark R) wher
       }
   inside x (Part.writing l ∷ ps) y (z, a, h) =
       let r = inside z ps y h in
-      let next = subst (λ n. PassesBuffer n (ahead z) (reading_of r.inner) (reading_of ps) (ahead y)) a.1 r.passes in
+      let next = rw a.1 at r.passes in
       record {
         inner = Part.writing l ∷ r.inner;
         ran = (z.inner, a.0, r.ran);
         same = (refl, r.same);
-        passes = subst
-            (λ p. PassesBuffer (reader_capacity x) p (reading_of r.inner) (reading_of ps) (ahead y)) a.2 next;
+        passes = rw (← a.2) next;
       }
 
   pub in_order : (x : BufReader R) → KeepsOrder reads writes x

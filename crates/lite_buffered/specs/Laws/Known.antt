@@ -1,6 +1,6 @@
 -- The bytes that are to come from what is read through a buffer, up to a limit, and one after the other.
-use Rattle.std.proofs.Common.{◌≡◌, ◌∙◌, ◌<◌, ℕ, zero, suc, Bool, true, false, List, [], ◌∷◌, ◌++◌, take, ap, refl, sym}
-use Rattle.std.proofs.Common.{subst, arith}
+use Rattle.std.proofs.Common.{◌≡◌, ◌∙◌, ◌<◌, ℕ, zero, suc, Bool, true, false, List, [], ◌∷◌, ◌++◌, take, ap, refl}
+use Rattle.std.proofs.Common.{arith}
 use Rattle.lite_io_base.specs.Known.{Known, TellsKnown}
 use Rattle.lite_io_base.specs.Laws.Known.{spends_both, spends_bytes, spends_front, spends_split}
 use Rattle.lite_io_base.specs.Marks.{ReadMark, bytes}
@@ -17,8 +17,8 @@ pub passes_spends : (n : ℕ) (before after : List ℕ) (came out : List ReadMar
 passes_spends zero before after came out xs ys n h s = absurd (omega arith)
 passes_spends (suc n) before after came out xs ys _ h s =
     let all = spends_both (before ++ xs) xs ys (bytes before) came (spends_front before xs) s in
-    let cut = spends_split (before ++ xs) ys out (bytes after) (subst (λ l. TellsKnown (before ++ xs) l ys) h all) in
-    subst (λ v. TellsKnown (before ++ xs) out v) (spends_bytes after cut.0 ys cut.2) cut.1
+    let cut = spends_split (before ++ xs) ys out (bytes after) (rw (← h) all) in
+    rw (← (spends_bytes after cut.0 ys cut.2)) cut.1
 
 pub through_spends : {R : Type 0} (k : Known R) (x y : BufReader R) (l : List ReadMark) → (0 < reader_capacity x)
     × k.knows x.inner → ThroughBuffer k.told x l y
@@ -97,7 +97,7 @@ module _ {R S : Type 0} (k : Known R) (j : Known S) where
       → ChainKnows y × TellsKnown (chain_left x) l (chain_left y)
   joins_spends false false x y l at to know h =
       let on = k.tells x.first y.first l know.0 h.0 in (
-        (on.0, subst j.knows (sym h.2) know.1, λ e. absurd (cc (e, to))),
+        (on.0, rw h.2 know.1, λ e. absurd (cc (e, to))),
         rw (ap j.left h.2) (before_end l _ _ (j.left x.second) h.1 on.1),
       )
   joins_spends false true x y l at to know h =
@@ -110,7 +110,7 @@ module _ {R S : Type 0} (k : Known R) (j : Known S) where
   joins_spends true true x y l at to know h =
       let two = j.tells x.second y.second l know.1 h.0 in
       let gone : k.left y.first ≡ [] = ap k.left h.1 ∙ know.2 at in
-      ((subst k.knows (sym h.1) know.0, two.0, λ e. gone), rw (gone, know.2 at) two.1)
+      ((rw h.1 know.0, two.0, λ e. gone), rw (gone, know.2 at) two.1)
   joins_spends true false x y l at to know h = absurd h
 
   pub chains_spends : (x y : Chain R S) (l : List ReadMark) → ChainKnows x → ChainsReaders k.told j.told x l y

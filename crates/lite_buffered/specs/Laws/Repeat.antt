@@ -1,4 +1,4 @@
-use Rattle.std.proofs.Common.{List, [], ◌∷◌, ◌++◌, refl, subst}
+use Rattle.std.proofs.Common.{List, [], ◌∷◌, ◌++◌, refl}
 use Rattle.lite_io_base.specs.Marks.{ReadMark}
 use Rattle.lite_io_base.specs.Runs.{MarkLaws}
 use Rattle.lite_buffered.specs.declared.repeat.Repeat.{Repeat}
@@ -6,7 +6,7 @@ use Rattle.lite_buffered.specs.Repeat.{RepeatsByte}
 
 repeats_follow : (x y z : Repeat) (l m : List ReadMark) → RepeatsByte x l y → RepeatsByte y m z
     → RepeatsByte x (l ++ m) z
-repeats_follow x y z [] m h k = subst (λ t. RepeatsByte t m z) h k
+repeats_follow x y z [] m h k = rw (← h) k
 repeats_follow x y z (a ∷ l) m h k = (h.0, repeats_follow x y z l m h.1 k)
 
 pub repeats_laws : MarkLaws RepeatsByte

@@ -1,5 +1,5 @@
 use Rattle.std.specs.declared.io.traits.SeekFrom.{SeekFrom}
-use Rattle.std.specs.declared.io.traits.SeekFrom.TheVariants.{Start, End, Current}
+use Rattle.std.specs.declared.io.traits.SeekFrom.TheVariants.{Current}
 use Rattle.std.proofs.Common.{inl, inr}
 use Rattle.lite_io_base.specs.SeekKeeps.{SeekKeeps}
 use Rattle.lite_buffered.specs.declared.buf_reader.BufReader.{BufReader}

@@ -33,8 +33,7 @@ answers_no_error n left after last told none h = rw h.0 tt
 segment_no_error : (before after : List ℕ) (taken : List WriteMark) (told : WriteMark) → NoError (told ∷ [])
     → WriterSegment before taken told after → NoError taken
 segment_no_error before after taken told none s =
-    subst NoError (sym s.cut)
-    (no_error_both s.drained s.last (drains_no_error before s.left s.drained s.interruptions s.drains)
+    rw s.cut (no_error_both s.drained s.last (drains_no_error before s.left s.drained s.interruptions s.drains)
     (answers_no_error s.interruptions s.left after s.last told none s.answers))
 
 no_error_head : (told : WriteMark) (l : List WriteMark) → NoError (told ∷ l) → NoError (told ∷ []) × NoError l
@@ -46,8 +45,7 @@ segments_no_error : (before after : List ℕ) (taken out : List WriteMark) → N
 segments_no_error before after taken [] none h = rw h.0 tt
 segments_no_error before after taken (told ∷ out) none h =
     let each = no_error_head told out none in
-    subst NoError (sym h.3)
-    (no_error_both h.0 h.1 (segment_no_error before h.2 h.0 told each.0 h.4)
+    rw h.3 (no_error_both h.0 h.1 (segment_no_error before h.2 h.0 told each.0 h.4)
     (segments_no_error h.2 after h.1 out each.1 h.5))
 
 -- where a flush comes last, the inner writer's comes last, and nothing is held then
@@ -70,9 +68,9 @@ segments_no_pending : (before after : List ℕ) (taken out : List WriteMark) →
     → WriterSegments before taken out after → NoPendingWrite out
 segments_no_pending before after taken [] a h = tt
 segments_no_pending before after taken (told ∷ out) a h =
-    let parts = never_waits_parts h.0 h.1 (subst NoPendingWrite h.3 a) in
+    let parts = never_waits_parts h.0 h.1 (rw (← h.3) a) in
     let s = h.4 in
-    let last = (never_waits_parts s.drained s.last (subst NoPendingWrite s.cut parts.0)).1 in
+    let last = (never_waits_parts s.drained s.last (rw (← s.cut) parts.0)).1 in
     told_no_pending s.interruptions s.left h.2 s.last out told last
     (segments_no_pending h.2 after h.1 out parts.1 h.5) s.answers
 
@@ -89,7 +87,7 @@ module _ {W : Type 0} (writes : Runs WriteMark W) where
   flushed : (x y : BufWriter W) (l : List WriteMark) → NoError l → EndsFlushed l → Buffers writes x l y → Flushed x l y
   flushed x y l none ends b =
       let last = segments_flushed (unwritten x) (unwritten y) b.taken ends.0
-      (subst (λ o. WriterSegments (unwritten x) b.taken o (unwritten y)) ends.1 b.segments) in
+      (rw (← ends.1) b.segments) in
       record {
         taken = b.taken;
         ran = b.ran;

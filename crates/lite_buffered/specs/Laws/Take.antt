@@ -13,7 +13,7 @@ use Rattle.lite_buffered.specs.declared.take.Take.{Take}
 use Rattle.lite_buffered.specs.Take.{LimitEnds, TakesMarks, WithinLimit}
 
 fits_follow : (a b c : ℕ) (l m : List ReadMark) → WithinLimit a l b → WithinLimit b m c → WithinLimit a (l ++ m) c
-fits_follow a b c [] m h k = subst (λ n. WithinLimit n m c) h k
+fits_follow a b c [] m h k = rw (← h) k
 fits_follow zero b c (e ∷ l) m h k = absurd h
 fits_follow (suc a) b c (ReadMark.byte x ∷ l) m h k = fits_follow a b c l m h k
 fits_follow (suc a) b c (e ∷ l) m h k = fits_follow (suc a) b c l m h k
@@ -56,11 +56,11 @@ module _ {R : Type 0} {reads : Runs ReadMark R} where
       → (l ++ m ≡ (a.front ++ b.front) ++ (a.ends ++ b.ends)) × LimitEnds z.limit (a.ends ++ b.ends)
   joined x y z l m a b [] is = rw is (rw (a.cut, is, append-nil, b.cut, append_assoc) refl, b.used_up)
   joined x y z l m a b (e ∷ es) is =
-      let after = subst (LimitEnds y.limit) is a.used_up in
+      let after = rw is at a.used_up in
       let none = fits_none y.limit z.limit b.front after.0 b.fits in
       let same : y.limit ≡ z.limit = after.0 ∙ sym none.1 in (
         rw (a.cut, b.cut, none.0, append-nil, append_assoc) refl,
-        ends_both z.limit a.ends b.ends (subst (λ n. LimitEnds n a.ends) same a.used_up) b.used_up,
+        ends_both z.limit a.ends b.ends (rw (← same) a.used_up) b.used_up,
       )
 
   pub takes_laws : MarkLaws reads → MarkLaws (TakesMarks reads)
@@ -98,16 +98,15 @@ module _ {R : Type 0} {reads : Runs ReadMark R} where
     takes_lowers x y l firm h =
         let same : given h.front ≡ given l =
         omega (arith, ap given h.cut, given-append h.front h.ends, ends_given y.limit h.ends h.used_up) in
-        subst (λ n. Falls n (r.rank y.inner) (r.rank x.inner)) same (c.lowers x.inner y.inner h.front firm h.ran)
+        rw (← same) (c.lowers x.inner y.inner h.front firm h.ran)
 
     takes_falls : (x y : Take R) (l : List ReadMark) → r.counts x.inner → AllGiven l → TakesMarks reads x l y
         → Falls (length l) (r.rank y.inner) (r.rank x.inner)
     takes_falls x y l counts g h =
-        let parts = given_parts h.front h.ends (subst AllGiven h.cut g) in
+        let parts = given_parts h.front h.ends (rw (← h.cut) g) in
         let same : h.front ≡ l =
         sym (h.cut ∙ ap (λ k. h.front ++ k) (ends_gone y.limit h.ends h.used_up parts.1) ∙ append-nil h.front) in
-        subst (λ k. Falls (length k) (r.rank y.inner) (r.rank x.inner)) same
-        (c.falls x.inner y.inner h.front counts parts.0 h.ran)
+        rw (← same) (c.falls x.inner y.inner h.front counts parts.0 h.ran)
 
     pub takes_counting : ReadCounting (TakesMarks reads) (ranks_of (λ (x : Take R). x.inner) r)
     takes_counting = record {

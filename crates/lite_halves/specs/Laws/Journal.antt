@@ -1,6 +1,6 @@
 -- Laws of journals.
 use Rattle.std.proofs.Common.{◌≡◌, ◌∙◌, ◌≤◌, ℕ, length, Result, List, [], ◌∷◌, ◌++◌, Option, Some, None, map, refl, sym}
-use Rattle.std.proofs.Common.{ap, append_assoc, append-nil, inl, inr, subst}
+use Rattle.std.proofs.Common.{ap, append_assoc, append-nil, inl, inr}
 use Rattle.std.proofs.lemmas.List.{map-append}
 use Rattle.std.proofs.lemmas.List.Concat.{flat_map-append}
 use Rattle.std.specs.declared.io.Error.{Error}
@@ -14,7 +14,7 @@ use Rattle.lite_io_base.specs.Marks.{ReadMark, read_marks}
 use Rattle.lite_io_base.specs.Runs.{MarkLaws, StandsFirst, room_in}
 use Rattle.lite_io_base.specs.Steps.{Steps}
 use Rattle.lite_io_base.specs.Takings.{WriteMark, done_marks, write_marks}
-use Rattle.lite_halves.specs.Entry.{AllFit, Note, close_note, flush_note, part_of, parts_in, read_note, write_note}
+use Rattle.lite_halves.specs.Entry.{Note, close_note, flush_note, part_of, parts_in, read_note, write_note}
 use Rattle.lite_halves.specs.Journal.{Adds, AddsAll, AddsOrStays, AddsRead, AddsWrite, Chronicle, ClonesEqual, IsSound}
 use Rattle.lite_halves.specs.Journal.{JournalReads, JournalWrites, Journals, Replays, Stage, Story, Thins, all_in_order}
 use Rattle.lite_halves.specs.Journal.{parts_among}
@@ -23,7 +23,7 @@ use Rattle.lite_base.specs.Runs.{Runs}
 
 thins_both : {A : Type 0} (refusal : A) (xs ks ys ls : List A) → Thins refusal xs ks → Thins refusal ys ls
     → Thins refusal (xs ++ ys) (ks ++ ls)
-thins_both {A} refusal [] ks ys ls a b = let P : List A → Type 0 = λ w. Thins refusal ys (w ++ ls) in subst P (sym a) b
+thins_both {A} refusal [] ks ys ls a b = let P : List A → Type 0 = λ w. Thins refusal ys (w ++ ls) in rw a b
 thins_both refusal (x ∷ xs) ks ys ls a b = elim a [
   | inl w ↦ inl (w.0 ++ ls, ap (λ v. v ++ ls) w.1, thins_both refusal xs w.0 ys ls w.2 b)
   | inr w ↦ inr (w.0, thins_both refusal xs ks ys ls w.1 b)
@@ -174,7 +174,7 @@ module _ {T : Type 0} (reads : Runs ReadMark T) (writes : Runs WriteMark T) wher
     stages_run equal x y (Some p ∷ ps) h = (h.0, h.1, stages_run equal h.0 y ps h.2)
     stages_run equal x y (None ∷ ps) h =
         let same : h.0 ≡ x = elim (h.1) [ inl to ↦ equal x h.0 to | inr from ↦ sym (equal h.0 x from) ] in
-        subst (λ t. PartsInOrder reads writes t (parts_among ps) y) same (stages_run equal h.0 y ps h.2)
+        rw (← same) (stages_run equal h.0 y ps h.2)
 
     -- a sound journal is a run from its start, where each clone equals its original
     pub sound_replays : (j : Chronicle T) → IsSound reads writes copies j → Replays reads writes copies j
@@ -196,7 +196,7 @@ module _ {T : Type 0} (reads : Runs ReadMark T) (writes : Runs WriteMark T) wher
         let both = story_follows a.start a.stream b.stream (parts_in a.notes) (parts_in es) sound.story
         (story_of_parts a.stream b.stream (parts_in es) adds.ran) in
         record {
-          fits = subst AllFit (sym adds.notes) (fit_both a.notes es sound.fits adds.fits);
+          fits = rw adds.notes (fit_both a.notes es sound.fits adds.fits);
           story = rw (adds.notes, parts_in-both a.notes es, adds.start) both;
         }
 
@@ -208,4 +208,4 @@ module _ {T : Type 0} (reads : Runs ReadMark T) (writes : Runs WriteMark T) wher
         (story_from_clone b.start a.start from) sound.story in
         let whole = story_follows b.start a.stream b.stream (parts_in a.notes) [] first
         (story_to_clone a.stream b.stream to) in
-        record { fits = subst AllFit (sym same) sound.fits; story = rw same (rw append-nil at whole) }
+        record { fits = rw same sound.fits; story = rw same (rw append-nil at whole) }

@@ -1,5 +1,5 @@
 -- A journal is as steady and as calm a reader as its stream.
-use Rattle.std.proofs.Common.{List, [], ◌∷◌, map, inl, inr, sym, subst}
+use Rattle.std.proofs.Common.{List, [], ◌∷◌, map, inl, inr, subst}
 use Rattle.std.specs.declared.io.ErrorKind.{ErrorKind}
 use Rattle.std.specs.declared.io.ErrorKind.TheVariants.{OutOfMemory}
 use Rattle.lite_io_base.specs.Laws.Steady.{no_wait_both, no_wait_parts}
@@ -27,7 +27,7 @@ thins_no_wait kind (m ∷ ms) ks h n = elim h [
 module _ {T : Type 0} (reads : Runs ReadMark T) (writes : Runs WriteMark T) (laws : MarkLaws reads) where
   parts_read : (marks : List (List ReadMark)) (x y : T) → PartsInOrder reads writes x (map Part.reading marks) y
       → reads x (all_in_order marks) y
-  parts_read [] x y h = subst (λ t. reads x [] t) (sym h) (laws.rests x)
+  parts_read [] x y h = rw h (laws.rests x)
   parts_read (l ∷ ls) x y h = laws.follows x h.0 y l (all_in_order ls) h.1 (parts_read ls h.0 y h.2)
 
   -- what the stream was read by
@@ -35,7 +35,7 @@ module _ {T : Type 0} (reads : Runs ReadMark T) (writes : Runs WriteMark T) (law
       → reads a.stream (all_in_order h.marks) b.stream
   stream_read a b ms h =
       parts_read h.marks a.stream b.stream
-      (subst (λ ps. PartsInOrder reads writes a.stream ps b.stream) h.kind h.added.ran)
+      (rw (← h.kind) h.added.ran)
 
 module _ {T : Type 0} {reads : Runs ReadMark T} {writes : Runs WriteMark T} where
   pub journal_calm : {is_calm : T → Type 0} → MarkLaws reads → CalmReadLaws reads is_calm

@@ -7,7 +7,6 @@ use Rattle.lite_io_base.specs.Falls.{Falls}
 use Rattle.lite_io_base.specs.Laws.Falls.{GivenRun, counted_ends}
 use Rattle.lite_io_base.specs.Laws.Marks.{given_all}
 use Rattle.lite_io_base.specs.Marks.{ReadMark, given}
-use Rattle.std.proofs.Common.{subst}
 use Rattle.lite_io_base.specs.Counting.{ReadCounting}
 
 module _ {S : Type 0} {reads : Runs ReadMark S} where
@@ -23,6 +22,6 @@ module _ {S : Type 0} {reads : Runs ReadMark S} where
     sized = λ x. refl;
     counts_on = λ x y l c h. tt;
     firm_on = λ x y l c h. tt;
-    falls = λ x y l c g h. subst (λ n. Falls n (number y ∷ []) (number x ∷ [])) (given_all l g) (lowers x y l h);
+    falls = λ x y l c g h. rw (← (given_all l g)) (lowers x y l h);
     lowers = λ x y l c h. lowers x y l h;
   }

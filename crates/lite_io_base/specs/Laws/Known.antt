@@ -1,5 +1,5 @@
 -- Laws of the bytes that are to come.
-use Rattle.std.proofs.Common.{◌≡◌, ◌∙◌, ℕ, List, [], ◌∷◌, ◌++◌, ap, refl, sym, subst}
+use Rattle.std.proofs.Common.{◌≡◌, ◌∙◌, ℕ, List, [], ◌∷◌, ◌++◌, ap, refl, sym}
 use Rattle.std.specs.Prelude.{⊤, ◌≡◌, ℕ, List, [], ◌∷◌}
 use denote.MutBor.{MutBor}
 use Rattle.lite_base.specs.Lent.{Lent}
@@ -16,7 +16,7 @@ knows_spends reads known x y l k h = (known.tells x y l k.0 (k.1 l y h)).1
 
 pub spends_both : (xs ys zs : List ℕ) (l m : List ReadMark) → TellsKnown xs l ys → TellsKnown ys m zs
     → TellsKnown xs (l ++ m) zs
-spends_both xs ys zs [] m h k = subst (λ v. TellsKnown v m zs) h k
+spends_both xs ys zs [] m h k = rw (← h) k
 spends_both xs ys zs (ReadMark.byte b ∷ l) m h k = (h.0, h.1, spends_both h.0 ys zs l m h.2 k)
 spends_both xs ys zs (ReadMark.pending ∷ l) m h k = spends_both xs ys zs l m h k
 spends_both xs ys zs (ReadMark.fault kind ∷ l) m h k = absurd h

@@ -19,15 +19,21 @@ lent_laws laws = record {
   follows = λ x y z l m h k. (laws.follows x.now y.now z.now l m h.0 k.0, lent_still x y z h.1 k.1);
 }
 
+-- one of which a part runs counts as that part does
+pub counting_part : {S X : Type 0} {reads : Runs ReadMark S} {outer : Runs ReadMark X} {r : Ranks S} (part : X → S)
+    → ((x y : X) (l : List ReadMark) → outer x l y → reads (part x) l (part y)) → ReadCounting reads r
+    → ReadCounting outer (ranks_of part r)
+counting_part part ran c = record {
+  sized = λ x. c.sized (part x);
+  counts_on = λ x y l k h. c.counts_on (part x) (part y) l k (ran x y l h);
+  firm_on = λ x y l k h. c.firm_on (part x) (part y) l k (ran x y l h);
+  falls = λ x y l k g h. c.falls (part x) (part y) l k g (ran x y l h);
+  lowers = λ x y l k h. c.lowers (part x) (part y) l k (ran x y l h);
+}
+
 pub lent_counting : {S : Type 0} {reads : Runs ReadMark S} {r : Ranks S} → ReadCounting reads r
     → ReadCounting (Lent reads) (ranks_of (λ (m : MutBor S). m.now) r)
-lent_counting c = record {
-  sized = λ x. c.sized x.now;
-  counts_on = λ x y l k h. c.counts_on x.now y.now l k h.0;
-  firm_on = λ x y l k h. c.firm_on x.now y.now l k h.0;
-  falls = λ x y l k g h. c.falls x.now y.now l k g h.0;
-  lowers = λ x y l k h. c.lowers x.now y.now l k h.0;
-}
+lent_counting = counting_part (λ m. m.now) (λ x y l h. h.0)
 
 -- one of which a part runs is as calm as that part
 pub calm_part : {A S X : Type 0} {NoWait : List A → Type 0} {run : Runs A S} {outer : Runs A X} {is_calm : S → Type 0}

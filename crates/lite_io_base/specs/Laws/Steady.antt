@@ -1,6 +1,6 @@
 -- Laws of tales without their pendings.
 use Rattle.std.specs.Prelude.{⊤, List, [], ◌∷◌}
-use Rattle.std.proofs.Common.{◌≡◌, ℕ, List, [], ◌∷◌, ◌++◌, ap, refl, subst, sym}
+use Rattle.std.proofs.Common.{◌≡◌, ℕ, List, [], ◌∷◌, ◌++◌, ap, refl, sym}
 use Rattle.lite_base.specs.Answers.{Comparable}
 use Rattle.lite_io_base.specs.Marks.{ReadMark, bytes}
 use Rattle.lite_io_base.specs.Steady.{CalmReadLaws, NoPendingRead, SteadyReadLaws, strip_marks, OneTale}
@@ -112,7 +112,7 @@ told_stripped (ReadMark.end ∷ x) y (a ∷ l) h = rw h.0 (refl, told_stripped x
 pub told_one_tale : (t u x y l m : List ReadMark) → strip_marks t ≡ strip_marks u → TellsScript t l x
     → TellsScript u m y → Comparable (strip_marks l) (strip_marks m)
 told_one_tale t u x y l m same h k =
-    let first = subst (λ v. TellsScript v (strip_marks l) (strip_marks x)) same (told_stripped t x l h) in
+    let first = rw same at (told_stripped t x l h) in
     told_comparable (strip_marks u) (strip_marks x) (strip_marks y) (strip_marks l) (strip_marks m) first
     (told_stripped u y m k)
 

@@ -1,9 +1,10 @@
 -- What a vector keeps, and what is behind a reference.
-use Rattle.std.proofs.Common.{◌≡◌, ◌∙◌, ℕ, List, [], ◌∷◌, ◌++◌, sym, append_assoc, append-nil}
-use Rattle.std.specs.Prelude.{⊤, ◌≡◌, ℕ, List, [], ◌++◌}
+use Rattle.std.proofs.Common.{◌≡◌, ℕ, List, ◌++◌}
+use Rattle.std.specs.Prelude.{⊤, ◌≡◌, ℕ, List, ◌++◌}
 use denote.MutBor.{MutBor}
 use Rattle.lite_base.specs.Lent.{Lent}
 use Rattle.lite_io_base.specs.Grows.{Grows}
+use Rattle.lite_io_base.specs.Laws.Grows.{grows_all}
 use Rattle.lite_io_base.specs.Stored.{Stored, Stores}
 use Rattle.lite_io_base.specs.Takings.{WriteMark, bytes_taken}
 use Rattle.lite_base.specs.Runs.{Runs}
@@ -13,20 +14,13 @@ pub stores_kept : {S : Type 0} (writes : Runs WriteMark S) (stored : Stored S) (
     → stored.kept y ≡ stored.kept x ++ bytes_taken l
 stores_kept writes stored x y l k h = (stored.tells x y l k.0 (k.1 l y h)).1
 
-pub grows_kept : (xs ys : List ℕ) (l : List WriteMark) → Grows xs l ys → ys ≡ xs ++ bytes_taken l
-grows_kept xs ys [] h = h ∙ sym (append-nil xs)
-grows_kept xs ys (WriteMark.wrote zs ∷ l) h = grows_kept (xs ++ zs) ys l h ∙ append_assoc xs zs (bytes_taken l)
-grows_kept xs ys (WriteMark.fault kind ∷ l) h = grows_kept xs ys l h.1
-grows_kept xs ys (WriteMark.pending ∷ l) h = absurd h
-grows_kept xs ys (_ ∷ l) h = grows_kept xs ys l h
-
 -- a value that keeps what it takes behind what it holds
 abbrev pub grows_stored : {S : Type 0} (held : S → List ℕ) → Stored S
 grows_stored held = record {
   told = λ x l y. Grows (held x) l (held y);
   stores = λ x. ⊤;
   kept = held;
-  tells = λ x y l k h. (tt, grows_kept (held x) (held y) l h);
+  tells = λ x y l k h. (tt, grows_all (held x) (held y) l h);
 }
 
 abbrev pub lent_stored : {S : Type 0} → Stored S → Stored (MutBor S)

@@ -13,7 +13,7 @@ use Rattle.lite_base.specs.Laws.StreamLaws.{laws_of}
 use Rattle.lite_base.specs.Runs.{NoHint, Runs}
 use Rattle.lite_io_base.specs.Counting.{ReadCounting}
 use Rattle.lite_io_base.specs.Falls.{Falls}
-use Rattle.lite_io_base.specs.Laws.Lent.{calm_part}
+use Rattle.lite_io_base.specs.Laws.Lent.{calm_part, counting_part}
 use Rattle.lite_io_base.specs.Marks.{AllGiven, ReadMark, given}
 use Rattle.lite_io_base.specs.Runs.{MarkLaws}
 use Rattle.lite_io_base.specs.Steady.{CalmReadLaws, SteadyReadLaws}
@@ -111,11 +111,4 @@ module _ {R : Type 0} {reads : Runs ReadMark R} where
 
   pub inner_counting : {r : Ranks R} → ReadCounting reads r
       → ReadCounting (λ (x : Bytes R) l (y : Bytes R). reads x.inner l y.inner) (ranks_of (λ (b : Bytes R). b.inner) r)
-  inner_counting c =
-      record {
-        sized = λ x. c.sized x.inner;
-        counts_on = λ x y. c.counts_on x.inner y.inner;
-        firm_on = λ x y. c.firm_on x.inner y.inner;
-        falls = λ x y. c.falls x.inner y.inner;
-        lowers = λ x y. c.lowers x.inner y.inner;
-      }
+  inner_counting = counting_part (λ x. x.inner) (λ x y l h. h)

@@ -6,7 +6,7 @@ use Rattle.std.specs.declared.io.Error.{Error}
 use Rattle.futures.specs.declared.task.Poll.TheVariants.{Ready, Pending}
 use Rattle.lite_base.specs.Calm.{CalmLaws}
 use Rattle.lite_base.specs.Runs.{Runs}
-use Rattle.lite_io_base.specs.Marks.{ReadMark, fill_marks, read_marks}
+use Rattle.lite_io_base.specs.Marks.{ReadMark, fill_marks}
 use Rattle.lite_io_base.specs.Steady.{CalmReadLaws}
 use Rattle.lite_read.specs.FillBuf.{FillsOnce, held_after}
 use Rattle.lite_read.specs.Laws.Polled.{calls_calm, polled_calm}
@@ -31,11 +31,13 @@ module _ {R : Type 0} {reads : Runs ReadMark R} {is_calm : R → Type 0}
   pub read_calm : CalmLaws (PolledByCalls (Reads reads)) (λ (x : ReadFuture R). is_calm x.reader.now)
   read_calm = calls_calm (Reads reads) (λ x. x.reader.now) (λ x y r h. (_, h.came)) (λ x y h n. n) c
 
-  pub vectored_calm : CalmLaws (PolledByCalls (ReadsVectored reads)) (λ (x : ReadVectoredFuture R). is_calm x.reader.now)
+  pub vectored_calm :
+      CalmLaws (PolledByCalls (ReadsVectored reads)) (λ (x : ReadVectoredFuture R). is_calm x.reader.now)
   vectored_calm =
       calls_calm (ReadsVectored reads) (λ x. x.reader.now) (λ x y r h. (_, h.came.2)) (λ x y h n. n) c
 
-  pub fill_calm : {lent : R → List ℕ} → CalmLaws (PolledByCalls (FillsOnce reads lent)) (λ (x : FillBuf R). HeldCalm is_calm x.reader)
+  pub fill_calm : {lent : R → List ℕ}
+      → CalmLaws (PolledByCalls (FillsOnce reads lent)) (λ (x : FillBuf R). HeldCalm is_calm x.reader)
   fill_calm {lent} =
       polled_calm (FillsOnce reads lent)
       (λ x y k h. c.no_pending h.reader.now h.filled (fill_marks {A = Bor (List ℕ)} Pending (lent h.filled))

@@ -40,13 +40,12 @@ module _ {M R : Type 0} (fold : ReadFold M R) where
       → TaleValues fold m t vs
       → TaleValues fold p (bytes xs ++ t) vs
   tale_values_behind p m xs _ _ f (TaleValues.held _ q ys g) =
-      subst (λ k. TaleValues fold p k []) (map-append ReadMark.byte xs ys)
-      (TaleValues.held p q (xs ++ ys) (folds_follow fold.takes p m q xs ys f g))
+      rw (← (map-append ReadMark.byte xs ys)) (TaleValues.held p q (xs ++ ys) (folds_follow fold.takes p m q xs ys f g))
   tale_values_behind p m xs _ _ f (TaleValues.next _ n q ys last rest v vs g h s) =
       let joined = folds_follow fold.takes p m n xs ys f g in
       let same = ap (λ k. k ++ (last ++ rest)) (map-append ReadMark.byte xs ys)
       ∙ append_assoc (bytes xs) (bytes ys) (last ++ rest) in
-      subst (λ k. TaleValues fold p k (v ∷ vs)) same (TaleValues.next p n q (xs ++ ys) last rest v vs joined h s)
+      rw (← same) (TaleValues.next p n q (xs ++ ys) last rest v vs joined h s)
 
   module _ {same : R → R → Type 0} (s : IsDeterministic same fold) where
     -- the values of segments
@@ -56,16 +55,15 @@ module _ {M R : Type 0} (fold : ReadFold M R) where
     segments_values p q i (Pending ∷ l) h =
         let w = h.4 in
         let cut = segment_front p h.2 i h.0 h.1 Pending w h.3 ∙ ap (λ k. bytes w.taken ++ (k ++ h.1)) w.given.0 in
-        let rest = subst (λ v. TaleValues fold v (strip_marks h.1) (strip l)) w.given.2
-        (segments_values h.2 q h.1 l h.5) in
-        subst (λ k. TaleValues fold p k (strip l)) (sym (past_pending i h.1 w.taken cut))
+        let rest = rw w.given.2 at (segments_values h.2 q h.1 l h.5) in
+        rw (past_pending i h.1 w.taken cut)
         (tale_values_behind p w.between w.taken (strip_marks h.1) (strip l) w.folds rest)
     segments_values p q i (Ready r ∷ l) h =
         let c = h.4 in
         let now = s.at_once c.between h.2 c.last r c.given in
         let cut = segment_front p h.2 i h.0 h.1 (Ready r) c h.3 in
         let rest = segments_values h.2 q h.1 l h.5 in
-        subst (λ k. TaleValues fold p k (r ∷ strip l)) (sym (past_value i c.last h.1 c.taken now cut))
+        rw (past_value i c.last h.1 c.taken now cut)
         (TaleValues.next p c.between h.2 c.taken c.last (strip_marks h.1) r (strip l) c.folds c.given rest)
 
     -- the first values of tales that begin one another
@@ -104,7 +102,7 @@ module _ {M R : Type 0} (fold : ReadFold M R) where
         let first = aligned p m n q r xs ys last end rest more v w f g h j c in (
           first.0,
           tale_values_alike q rest more vs ws a
-              (subst (λ z. TaleValues fold z more ws) (sym first.1) b) first.2,
+              (rw first.1 b) first.2,
         )
     tale_values_alike p _ _ _ _ _ _ c = tt
 

@@ -1,7 +1,7 @@
 -- What is cut out of one tale is the same wherever its pendings stand.
 use Rattle.std.specs.Prelude.{⊤}
 use Rattle.std.proofs.Common.{◌≡◌, ◌≢◌, ◌<◌, ◌∙◌, ℕ, List, [], ◌∷◌, Option, Some, None, Result, inl, inr, length, refl}
-use Rattle.std.proofs.Common.{ap, sym, subst, arith}
+use Rattle.std.proofs.Common.{ap, sym, arith}
 use Rattle.std.specs.IoError.{error_kind}
 use Rattle.std.specs.declared.io.Error.{Error}
 use Rattle.lite_base.specs.Alike.{OptionBy, Sameness}
@@ -17,7 +17,7 @@ use Rattle.lite_read.specs.Laws.Deterministic.{segments_alike, segments_no_pendi
 use Rattle.lite_read.specs.Deterministic.{IsDeterministic, SameOr}
 use Rattle.lite_read.specs.Laws.Segments.{flow_laws}
 use Rattle.lite_read.specs.Pieces.{Cut, CutsPiece, Itemised, pieces}
-use Rattle.lite_read.specs.Segments.{Flows, PieceSegments, StreamOver}
+use Rattle.lite_read.specs.Segments.{Flows, StreamOver}
 
 -- cuts of one kind, and of the same bytes
 abbrev pub SameCut : Cut → Cut → Type 0
@@ -102,7 +102,7 @@ module _ {A : Type 0} {same : A → A → Type 0} {whole final : List ℕ → Re
 
   both_made : (makes : List ℕ → Result A Error → Type 0) → MakesOne same makes → (xs ys : List ℕ) (r s : Result A Error)
       → xs ≡ ys → makes xs r → makes ys s → SameOr same r s
-  both_made makes m xs ys r s e h k = m ys r s (subst (λ zs. makes zs r) e h) k
+  both_made makes m xs ys r s e h k = m ys r s (rw (← e) h) k
 
   itemised_one : BecomesOne (OptionBy (SameOr same)) PieceMade
   itemised_one (Cut.piece xs) (Cut.piece ys) held (Some r) (Some s) p q e h k =
@@ -141,12 +141,10 @@ module _ {X S M K A : Type 0} (over : StreamOver X S M K) where
         steady = λ x y e l m x' y' h k.
             let i = h.segmented in
             let j = k.segmented in
-            let held = subst (λ p. PieceSegments (fold (over.kept y)) p j.marks m (over.held y')) (sym e.1) j.cut in
-            let other = subst (λ c. PieceSegments (fold c) (over.held x) j.marks m (over.held y')) (sym e.2) held in
             let g = fold (over.kept x) in
             let t = deterministic (over.kept x) in
             segments_alike g t s (over.reader x) (over.reader y) (over.reader x') (over.reader y') (over.held x)
-            (over.held x') (over.held y') i.marks j.marks l m e.0 i.came j.came i.cut other;
+            (over.held x') (over.held y') i.marks j.marks l m e.0 i.came j.came i.cut (rw (← e.1, ← e.2) at j.cut);
         found = λ n. absurd n;
       }
 

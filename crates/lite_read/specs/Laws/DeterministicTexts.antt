@@ -1,5 +1,5 @@
 -- What is read of one tale for a text is the same wherever its pendings stand.
-use Rattle.std.proofs.Common.{inl, inr, ◌≡◌, ◌∙◌, ℕ, List, Result, Ok, Err, sym, ap, subst}
+use Rattle.std.proofs.Common.{inl, inr, ◌≡◌, ◌∙◌, ℕ, List, Result, Ok, Err, sym, ap}
 use Rattle.std.specs.declared.io.Error.{Error}
 use Rattle.lite_base.specs.Answers.{Comparable}
 use Rattle.lite_io_base.specs.Marks.{ReadMark}
@@ -15,7 +15,7 @@ value_same xs (Ok n) (Ok m) (Ok v) (Err f) s h k = absurd (k.0 h.0)
 value_same xs (Ok n) (Ok m) (Err e) (Ok w) s h k = absurd (h.0 k.0)
 value_same xs (Ok n) (Ok m) (Err e) (Err f) s h k = h.1 ∙ sym k.1
 value_same xs (Err e) (Err f) v w s h k =
-    subst (λ z. SameByKind z w) (sym h) (subst (λ z. SameByKind (Err e) z) (sym k) s)
+    rw h (rw k s)
 value_same xs _ _ v w s h k = absurd s
 
 gains_same : (xs before p q : List ℕ) → AppendsText xs before p → AppendsText xs before q → p ≡ q
@@ -32,11 +32,9 @@ module _ (fold : ReadFold (List ℕ) (Result ℕ Error)) (s : IsDeterministic Sa
       → (in_text fold).gives p m w r → Comparable l m
       → SameByKind v w × (q ≡ r) × (l ≡ m)
   one_text p q r l m v w (a, xs, given, value, gains, empty) (b, ys, given', value', gains', empty') c =
-      let both = s.one_value p.read xs ys l m a b given given' c in
-      let value2 : ValueOf xs b w = subst (λ z. ValueOf z b w) (sym both.1) value' in
-      let gains2 : AppendsText xs p.text r.text = subst (λ z. AppendsText z p.text r.text) (sym both.1) gains' in (
-        value_same xs a b v w both.0 value value2,
-        same_reading q r (empty ∙ sym empty') (gains_same xs p.text q.text r.text gains gains2),
+      let both = s.one_value p.read xs ys l m a b given given' c in (
+        value_same xs a b v w both.0 value (rw both.1 value'),
+        same_reading q r (empty ∙ sym empty') (gains_same xs p.text q.text r.text gains (rw both.1 gains')),
         both.2,
       )
 

@@ -1,5 +1,5 @@
 -- Laws of futures over a reader.
-use Rattle.std.proofs.Common.{◌≡◌, List, [], ◌∷◌, ◌++◌, refl, subst, sym}
+use Rattle.std.proofs.Common.{◌≡◌, List, [], ◌∷◌, ◌++◌, refl}
 use Rattle.futures.specs.declared.task.Poll.{Poll}
 use Rattle.lite_base.specs.Answers.{ComparableBy, Waiting, strip}
 use Rattle.lite_base.specs.Calm.{CalmLaws}
@@ -14,19 +14,13 @@ use Rattle.lite_read.specs.Laws.Deterministic.{read_folded_alike, segments_no_pe
 use Rattle.lite_read.specs.Laws.PollSteps.{idle_join}
 use Rattle.lite_read.specs.Laws.ReadFold.{read_folded_before, read_folded_follow, read_folded_none}
 use Rattle.lite_read.specs.PollSteps.{TakesBytes}
-use Rattle.lite_read.specs.ReadFold.{Gathers, ReadFold, ReadFolded}
+use Rattle.lite_read.specs.ReadFold.{Gathers, ReadFold}
 
 -- what is kept through runs, and with it what is made of marks
 pub record KeepLaws {X M R : Type 0} (fold : X → ReadFold M R) (Keeps : X → X → Type 0) : Type 1 where
   pub none : (x : X) → Keeps x x
   pub join : (x y z : X) → Keeps x y → Keeps y z → Keeps x z
   pub same : (x y : X) → Keeps x y → fold y ≡ fold x
-
--- what is made of the marks stays too
-folded_on : {X S M R : Type 0} {fold : X → ReadFold M R} {Keeps : X → X → Type 0} {reads : Runs ReadMark S}
-    → KeepLaws fold Keeps → (x y : X) (s t : S) (p q : M) (l : List (Poll R)) → Keeps x y
-    → ReadFolded (fold y) reads s p l t q → ReadFolded (fold x) reads s p l t q
-folded_on {reads = reads} keeps x y s t p q l k h = subst (λ f. ReadFolded f reads s p l t q) (keeps.same x y k) h
 
 module _ {X S M R : Type 0} {reader : X → S} {held : X → M} {fold : X → ReadFold M R} {Keeps : X → X → Type 0}
     {reads : Runs ReadMark S} where
@@ -36,7 +30,7 @@ module _ {X S M R : Type 0} {reader : X → S} {held : X → M} {fold : X → Re
   gathers_follow keeps laws x y z l m w h k =
       record {
         folded = read_folded_follow (fold x) laws (reader x) (reader y) (reader z) (held x) (held y) (held z) l m w
-            h.folded (folded_on keeps x y (reader y) (reader z) (held y) (held z) m h.stays k.folded);
+            h.folded (rw (keeps.same x y h.stays) at k.folded);
         stays = keeps.join x y z h.stays k.stays;
         idle = idle_join x y z l m h.idle k.idle;
       }
@@ -63,7 +57,7 @@ module _ {X S M R : Type 0} {reader : X → S} {held : X → M} {fold : X → Re
       let stays = kept x y t.stays in
       record {
         folded = read_folded_before (fold x) laws (reader x) (reader y) (reader z) (held x) (held y) (held z) t.taken a
-            t.came t.folds (folded_on keeps x y (reader y) (reader z) (held y) (held z) (a ∷ []) stays h.folded);
+            t.came t.folds (rw (keeps.same x y stays) at h.folded);
         stays = keeps.join x y z stays h.stays;
         idle = λ e. absurd (cc e);
       }
@@ -75,10 +69,8 @@ module _ {X S M R : Type 0} {reader : X → S} {held : X → M} {fold : X → Re
       → (l m : List (Poll R)) (x' y' : X) → Gathers reader held fold Keeps ample x l x'
       → Gathers reader held fold Keeps ample y m y' → ComparableBy same (strip l) (strip m)
   gathers_alike {ample = ample} one s x y e d f l m x' y' h k =
-      let made = subst (λ g. ReadFolded g ample (reader y) (held y) m (reader y') (held y')) f k.folded in
-      let other = subst (λ p. ReadFolded (fold x) ample (reader y) p m (reader y') (held y')) (sym d) made in
       read_folded_alike (fold x) (one x) s (reader x) (reader y) (reader x') (reader y') (held x) (held x') (held y')
-      l m e h.folded other
+      l m e h.folded (rw (f, ← d) at k.folded)
 
   pub gathers_calm : {is_calm : S → Type 0} → CalmReadLaws reads is_calm
       → CalmLaws (Gathers reader held fold Keeps reads) (λ x. is_calm (reader x))

@@ -1,7 +1,7 @@
 -- `split`, `lines` and `read_until` do not depend on when their reader was pending, where memory was found.
-use Rattle.std.proofs.Common.{◌≡◌, ◌∙◌, ℕ, [], ◌∷◌, ◌++◌, Ok, Err, Global, length, ap, sym, subst}
+use Rattle.std.proofs.Common.{◌≡◌, ◌∙◌, ℕ, [], ◌∷◌, ◌++◌, Ok, Err, Global, length, ap, sym}
 use Rattle.std.proofs.lemmas.Str.{IsUtf8-string_bytes}
-use Rattle.std.specs.Prelude.{IsUtf8, string_bytes, ⊤}
+use Rattle.std.specs.Prelude.{string_bytes, ⊤}
 use Rattle.std.specs.declared.string.String.{String}
 use Rattle.std.specs.declared.vec.Vec.{Vec}
 use Rattle.lite_base.specs.Calm.{CalmLaws}
@@ -35,8 +35,8 @@ vec_one xs (Err e) r h k = absurd h
 
 pub text_one : MakesOne SameText IsText
 text_one xs (Ok s) (Ok t) h k = h ∙ sym k
-text_one xs (Ok s) (Err e) h k = absurd (k.1 (subst IsUtf8 h (IsUtf8-string_bytes s)))
-text_one xs (Err e) (Ok t) h k = absurd (h.1 (subst IsUtf8 k (IsUtf8-string_bytes t)))
+text_one xs (Ok s) (Err e) h k = absurd (k.1 (rw (← h) (IsUtf8-string_bytes s)))
+text_one xs (Err e) (Ok t) h k = absurd (h.1 (rw (← k) (IsUtf8-string_bytes t)))
 text_one xs (Err e) (Err f) h k = h.0 ∙ sym k.0
 
 pub line_one : MakesOne SameText (λ xs. IsText (without_return xs))

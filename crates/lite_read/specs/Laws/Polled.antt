@@ -1,5 +1,5 @@
 -- Laws of futures each poll of which is one call.
-use Rattle.std.proofs.Common.{◌≤◌, List, [], ◌∷◌, ◌++◌, length, refl, subst, sym, arith}
+use Rattle.std.proofs.Common.{◌≤◌, List, [], ◌∷◌, ◌++◌, length, refl, arith}
 use Rattle.futures.specs.declared.task.Poll.{Poll}
 use Rattle.futures.specs.declared.task.Poll.TheVariants.{Ready, Pending}
 use Rattle.lite_base.specs.Answers.{Waiting, strip}
@@ -12,7 +12,7 @@ use Rattle.lite_read.specs.Polled.{PolledByCalls}
 module _ {F A : Type 0} (call : F → Poll A → F → Type 0) where
   polled_follows : (x y z : F) (l m : List (Poll A)) → Waiting l → PolledByCalls call x l y → PolledByCalls call y m z
       → PolledByCalls call x (l ++ m) z
-  polled_follows x y z [] m w h k = subst (λ t. PolledByCalls call t m z) h k
+  polled_follows x y z [] m w h k = rw (← h) k
   polled_follows x y z (Pending ∷ l) m w h k = (h.0, h.1, polled_follows h.0 y z l m w h.2 k)
   polled_follows x y z (Ready r ∷ l) m w h k = absurd w
 
@@ -38,7 +38,7 @@ module _ {F A : Type 0} (call : F → Poll A → F → Type 0) where
     no_pending x y (Ready r ∷ l) k h = rw h.1 tt
 
     still_calm : (x y : F) (l : List (Poll A)) → is_calm x → PolledByCalls call x l y → is_calm y
-    still_calm x y [] k h = subst is_calm (sym h) k
+    still_calm x y [] k h = rw h k
     still_calm x y (Pending ∷ l) k h = absurd (never x h.0 k h.1)
     still_calm x y (Ready r ∷ l) k h = calm_on x y r k h.0
 

@@ -1,5 +1,5 @@
 -- Laws of `read_to_end`.
-use Rattle.std.proofs.Common.{◌≡◌, ◌∙◌, ◌≤◌, ◌+◌, ℕ, List, [], ◌∷◌, ◌++◌, length, Result, refl, ap, sym, subst, arith}
+use Rattle.std.proofs.Common.{◌≡◌, ◌∙◌, ◌≤◌, ◌+◌, ℕ, List, [], ◌∷◌, ◌++◌, length, Result, refl, ap, sym, arith}
 use Rattle.std.proofs.Common.{length-append, append-nil, append_assoc, length-take-le}
 use Rattle.std.specs.List.{FoldsTo}
 use Rattle.std.specs.declared.io.Error.{Error}
@@ -27,8 +27,7 @@ appends_all m start g [] = sym (append-nil g)
 appends_all m start g (x ∷ xs) = (
   g ++ x ∷ [],
   refl,
-  subst (λ l. FoldsTo (appends m start).takes (g ++ x ∷ []) xs l) (append_assoc g (x ∷ []) xs)
-      (appends_all m start (g ++ x ∷ []) xs),
+  rw (← (append_assoc g (x ∷ []) xs)) (appends_all m start (g ++ x ∷ []) xs),
 )
 
 pub grown : (m : Type 0) (start : ℕ) (p q xs : List ℕ) → FoldsTo (appends m start).takes p xs q → length p ≤ length q

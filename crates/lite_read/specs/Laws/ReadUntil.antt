@@ -1,6 +1,6 @@
 -- Laws of `read_until`.
 use Rattle.std.specs.Prelude.{⊤}
-use Rattle.std.proofs.Common.{◌≡◌, ◌∙◌, ◌≤◌, [], ◌∷◌, length, take, Result, ℕ, refl, ap, subst, arith}
+use Rattle.std.proofs.Common.{◌∙◌, ◌≤◌, [], ◌∷◌, length, Result, ℕ, refl, ap, arith}
 use Rattle.std.specs.declared.io.Error.{Error}
 use Rattle.futures.specs.declared.task.Poll.{Poll}
 use Rattle.lite_base.specs.FutureLaws.{FutureLaws}
@@ -30,7 +30,7 @@ module _ {R : Type 0} where
         buf = lent_still x.buf y.buf z.buf h.buf k.buf;
         byte = k.byte ∙ h.byte;
         start = k.start ∙ h.start;
-        before = subst (λ n. take n z.buf.now.items ≡ take n y.buf.now.items) h.start k.before ∙ h.before;
+        before = rw (← h.start) k.before ∙ h.before;
         grows = omega (arith, h.grows, k.grows);
       }
 

@@ -1,5 +1,5 @@
 -- Laws of streams over what a reader tells.
-use Rattle.std.proofs.Common.{◌≡◌, ◌∙◌, ◌≤◌, ℕ, List, [], ◌∷◌, ◌++◌, Option, None, refl, sym, subst}
+use Rattle.std.proofs.Common.{◌≡◌, ◌∙◌, ◌≤◌, ℕ, List, [], ◌∷◌, ◌++◌, Option, None, refl}
 use Rattle.std.specs.Prelude.{IfSome}
 use Rattle.std.specs.List.{FoldsTo}
 use Rattle.futures.specs.declared.task.Poll.{Poll}
@@ -19,7 +19,7 @@ use Rattle.lite_read.specs.Segments.{Flows, Segmented, StreamOver}
 use Rattle.lite_read.specs.PieceSteps.{TakesPieceIn}
 
 unbounded : (hint : ℕ × Option ℕ) (n : ℕ) → hint ≡ (0, None) → IfSome hint.1 (λ most. n ≤ most)
-unbounded hint n e = subst (λ (v : ℕ × Option ℕ). IfSome v.1 (λ most. n ≤ most)) (sym e) tt
+unbounded hint n e = rw e tt
 
 module _ {M R : Type 0} (fold : ReadFold M R) where
   module _ {S : Type 0} {reads : Runs ReadMark S} (laws : MarkLaws reads) where
@@ -51,9 +51,7 @@ module _ {X S M K R : Type 0} (over : StreamOver X S M K) (fold : K → ReadFold
   flows_follow : (x y z : X) (l m : List (Poll R)) → Flows over fold reads x l y → Flows over fold reads y m z
       → Flows over fold reads x (l ++ m) z
   flows_follow x y z l m h k =
-      let next = subst
-      (λ v. Segmented (fold v) reads (over.reader y) (over.held y) m (over.reader z)
-      (over.held z)) h.stays k.segmented in
+      let next = rw h.stays at k.segmented in
       record {
         segmented = segmented_follow (fold (over.kept x)) laws _ _ _ _ _ _ l m h.segmented next;
         stays = k.stays ∙ h.stays;
@@ -64,9 +62,7 @@ module _ {X S M K R : Type 0} (over : StreamOver X S M K) (fold : K → ReadFold
   pub step_before : (x y z : X) (a : Poll R) → TakesPieceIn over fold reads x y → Flows over fold reads y (a ∷ []) z
       → Flows over fold reads x (a ∷ []) z
   step_before x y z a t h =
-      let next = subst
-      (λ v. Segmented (fold v) reads (over.reader y) (over.held y) (a ∷ []) (over.reader z)
-      (over.held z)) t.stays h.segmented in
+      let next = rw t.stays at h.segmented in
       record {
         segmented = segmented_before (fold (over.kept x)) laws _ _ _ _ _ _ t.taken a t.came t.folds next;
         stays = h.stays ∙ t.stays;

@@ -1,5 +1,5 @@
 -- `read_exact` is steady over a steady reader, and calm over a calm one.
-use Rattle.std.proofs.Common.{◌≡◌, ◌∙◌, ℕ, List, [], ◌∷◌, length, Result, Ok, Err, refl, sym, ap, subst, arith}
+use Rattle.std.proofs.Common.{◌≡◌, ◌∙◌, ℕ, List, [], ◌∷◌, length, Result, Ok, Err, refl, sym, ap, arith}
 use Rattle.std.specs.IoError.{error_kind}
 use Rattle.std.specs.declared.io.ErrorKind.{ErrorKind}
 use Rattle.std.specs.declared.io.ErrorKind.TheVariants.{UnexpectedEof}
@@ -27,7 +27,7 @@ data ExactValue (g : Filling) : List ReadMark → Result (Unit {0}) Error → Ty
       → ExactValue g (ReadMark.fault kind ∷ []) (Err e)
 
 answered : (g : Filling) (l : List ReadMark) (v : Result (Unit {0}) Error) → Fulfils g l v → ExactValue g l v
-answered g [] v h = subst (ExactValue g []) (sym h.1) (ExactValue.full h.0)
+answered g [] v h = rw h.1 (ExactValue.full h.0)
 answered g (ReadMark.byte b ∷ l) v h = absurd h
 answered g (ReadMark.pending ∷ l) v h = absurd h
 answered g (ReadMark.end ∷ []) (Ok u) h = absurd h

@@ -1,5 +1,5 @@
 -- Laws of futures that read for a text.
-use Rattle.std.proofs.Common.{◌≡◌, ℕ, List, [], ◌∷◌, Result, refl, ap, sym, subst}
+use Rattle.std.proofs.Common.{◌≡◌, ℕ, List, [], ◌∷◌, Result, refl, ap}
 use Rattle.std.specs.List.{FoldsTo}
 use Rattle.std.specs.Prelude.{string_bytes}
 use Rattle.std.specs.declared.io.Error.{Error}
@@ -12,7 +12,7 @@ use Rattle.lite_read.specs.ReadFold.{ReadFold}
 use Rattle.lite_read.specs.Laws.Gathers.{KeepLaws, gathers_before, gathers_laws}
 use Rattle.lite_io_base.specs.Laws.Lent.{lent_still}
 use Rattle.lite_read.specs.Holding.{TextOver, TextStays}
-use Rattle.lite_read.specs.Texts.{Reading, ReadsText, in_text, reading}
+use Rattle.lite_read.specs.Texts.{ReadsText, in_text, reading}
 use Rattle.lite_read.specs.TextSteps.{AnswersText, TakesTextIn}
 
 -- bytes that are taken in leave the text
@@ -47,8 +47,7 @@ module _ {X R A : Type 0} (over : TextOver X R A) where
         let same : reading over y ≡ record { read = over.read y; text = string_bytes (over.text x).now } =
         ap (λ v. record { read = over.read y; text = v }) t.stays.1 in
         let folds : FoldsTo (in_text fold).takes (reading over x) t.taken (reading over y) =
-        subst (λ (q : Reading). FoldsTo (in_text fold).takes (reading over x) t.taken q) (sym same)
-        (folds_in fold (string_bytes (over.text x).now) (over.read x) (over.read y) t.taken t.folds) in (
+        rw same (folds_in fold (string_bytes (over.text x).now) (over.read x) (over.read y) t.taken t.folds) in (
           gathers_before {Steps = TextStays over} (keeps fold) laws (λ x y k. k) x y z a (record {
             taken = t.taken;
             some = t.some;

@@ -1,10 +1,8 @@
 -- One write, one flush and one close are calm over a calm writer.
-use Rattle.futures.specs.declared.task.Poll.TheVariants.{Ready, Pending}
-use Rattle.std.specs.Io.Slices.{io_slices_bytes}
 use Rattle.lite_base.specs.Calm.{CalmLaws}
 use Rattle.lite_base.specs.Runs.{Runs}
 use Rattle.lite_io_base.specs.SteadyWrite.{CalmWriteLaws}
-use Rattle.lite_io_base.specs.Takings.{WriteMark, done_marks, write_marks}
+use Rattle.lite_io_base.specs.Takings.{WriteMark}
 use Rattle.lite_read.specs.Laws.Polled.{calls_calm}
 use Rattle.lite_read.specs.Polled.{PolledByCalls}
 use Rattle.lite_write.specs.Close.{Closes}
@@ -21,7 +19,8 @@ module _ {W : Type 0} {writes : Runs WriteMark W} {is_calm : W → Type 0}
   pub write_calm : CalmLaws (PolledByCalls (Writes writes)) (λ (x : WriteFuture W). is_calm x.writer.now)
   write_calm = calls_calm (Writes writes) (λ x. x.writer.now) (λ x y r h. (_, h.came)) (λ x y h n. n) c
 
-  pub vectored_calm : CalmLaws (PolledByCalls (WritesVectored writes)) (λ (x : WriteVectoredFuture W). is_calm x.writer.now)
+  pub vectored_calm :
+      CalmLaws (PolledByCalls (WritesVectored writes)) (λ (x : WriteVectoredFuture W). is_calm x.writer.now)
   vectored_calm = calls_calm (WritesVectored writes) (λ x. x.writer.now) (λ x y r h. (_, h.came)) (λ x y h n. n) c
 
   pub flush_calm : CalmLaws (PolledByCalls (Flushes writes)) (λ (x : FlushFuture W). is_calm x.writer.now)

@@ -1,6 +1,6 @@
 -- Laws of `copy`.
 use Rattle.std.proofs.Common.{◌≡◌, ◌∙◌, ◌<◌, ◌+◌, ◌%◌, ◌^◌, ℕ, List, [], ◌∷◌, ◌++◌, length, Result, Ok, refl, ap, sym}
-use Rattle.std.proofs.Common.{subst, arith, append-nil, append_assoc, length-append}
+use Rattle.std.proofs.Common.{arith, append-nil, append_assoc, length-append}
 use Rattle.std.proofs.Math.Nat.{mod-add-mod, mod-eq_of_lt}
 use Rattle.std.proofs.lemmas.Grind.{flat_map-append}
 use Rattle.std.proofs.lemmas.List.Elements.{filter-append}
@@ -16,8 +16,7 @@ use Rattle.lite_base.specs.Laws.Calm.{waits_join}
 use Rattle.lite_base.specs.Runs.{Runs}
 use Rattle.lite_buffered.specs.BufReader.{ThroughBuffer}
 use Rattle.lite_io_base.specs.Laws.Falls.{GivenRun}
-use Rattle.lite_io_base.specs.Laws.Marks.{bytes_given}
-use Rattle.lite_io_base.specs.Marks.{ReadMark, bytes}
+use Rattle.lite_io_base.specs.Marks.{ReadMark}
 use Rattle.lite_io_base.specs.Runs.{MarkLaws}
 use Rattle.lite_io_base.specs.Takings.{WriteMark, bytes_in, bytes_taken}
 use Rattle.lite_read.specs.Laws.PollSteps.{given_of, idle_join}
@@ -87,7 +86,7 @@ module _ (p q r : List ℕ) (a b c : List ReadMark) (i j : List ReadMark) (s t :
     (l m : List (Poll CopyResult)) (n k : ℕ) (w : Waiting l)
     (h : Copied p a i s l q b n) (g : Copied q b j t m r c k) where
   none : (h.failed ≡ []) × (h.last ≡ [])
-  none = no_value q b n h.failed h.last (subst (λ v. CopyValue v h.failed h.last q b n) (waiting_strip l w) h.value)
+  none = no_value q b n h.failed h.last (rw (← (waiting_strip l w)) h.value)
 
   reading_both : TellsUpTo (a ++ (i ++ j)) (c ++ g.failed)
   reading_both =
@@ -133,7 +132,7 @@ module _ (p q r : List ℕ) (a b c : List ReadMark) (i j : List ReadMark) (s t :
         balanced = balanced_both;
         waited = omega (arith, waits_join l m, told_waits i j, taken_waits s t, h.waited, g.waited);
         once = waiting_up_to l m w g.once;
-        value = subst (λ v. CopyValue v g.failed g.last r c k) same_value g.value;
+        value = rw (← same_value) g.value;
       }
 
 pub counted_none : (n : ℕ) → n < 2 ^ 64 → n ≡ (n + 0) % 2 ^ 64

@@ -1,5 +1,5 @@
 -- Laws of `sink`.
-use Rattle.std.proofs.Common.{List, [], ◌∷◌, ◌++◌, refl, subst}
+use Rattle.std.proofs.Common.{List, [], ◌∷◌, ◌++◌, refl}
 use Rattle.std.specs.Prelude.{⊤}
 use Rattle.lite_io_base.specs.Runs.{MarkLaws}
 use Rattle.lite_io_base.specs.SteadyWrite.{CalmWriteLaws, NoPendingWrite, SteadyWriteLaws}
@@ -8,7 +8,7 @@ use Rattle.lite_write.specs.Sink.{Sinks}
 use Rattle.lite_write.specs.declared.sink.Sink.{Sink}
 
 follows : (x y z : Sink) (l m : List WriteMark) → Sinks x l y → Sinks y m z → Sinks x (l ++ m) z
-follows x y z [] m h k = subst (λ t. Sinks t m z) h k
+follows x y z [] m h k = rw (← h) k
 follows x y z (WriteMark.pending ∷ l) m h k = absurd h
 follows x y z (WriteMark.fault kind ∷ l) m h k = absurd h
 follows x y z (_ ∷ l) m h k = follows x y z l m h k

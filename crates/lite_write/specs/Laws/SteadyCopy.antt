@@ -2,7 +2,7 @@
 -- where one of them is.
 use Rattle.std.specs.Prelude.{⊤, IsOk}
 use Rattle.std.proofs.Common.{◌≡◌, ◌∙◌, ◌+◌, ◌%◌, ◌^◌, ℕ, List, [], ◌∷◌, ◌++◌, Result, Ok, Err, length, refl, ap, sym}
-use Rattle.std.proofs.Common.{subst, arith, append-nil, length-append}
+use Rattle.std.proofs.Common.{arith, append-nil, length-append}
 use Rattle.std.specs.IoError.{error_kind}
 use Rattle.std.specs.declared.io.Error.{Error}
 use Rattle.std.specs.declared.io.ErrorKind.{ErrorKind}
@@ -74,7 +74,7 @@ stops_told : (xs ys : List ℕ) (a b : Stop) (i j : List ReadMark) → strip_mar
     → Comparable (strip_marks i) (strip_marks j) → TwoTales xs ys a b
 stops_told xs ys a b i j h g c =
     one_stop xs ys a b
-    (subst (λ t. Comparable (bytes xs ++ stop_mark a ∷ []) t) g (subst (λ t. Comparable t (strip_marks j)) h c))
+    (rw (← g) (rw (← h) c))
 
 -- what the value says of the tale: all bytes up to a stop
 abbrev TaleOfValue : SteadyCopyResult → ℕ → List ReadMark → Type 0
@@ -179,7 +179,7 @@ module _ {R W : Type 0} where
         → TaleOfValue (Err e) (before_of x) (tale_of x h.told)
     err_told e value =
         let c = h.copied in
-        let no_failure = no_failure_last c.writing.written c.last (subst NoFailure c.writing.cut h.went.1) in
+        let no_failure = no_failure_last c.writing.written c.last (rw (← c.writing.cut) h.went.1) in
         let f = reader_failed e c.failed c.last (held_of y) (met_in y.phase) y.amount no_failure value in
         let cut = c.reading.cut ∙ ap (λ k. read ++ (k ++ c.failed)) f.1 ∙ ap (λ k. read ++ k) f.0 in
         (bytes_told read, stopped read (tale_of x h.told) (ReadMark.fault (error_kind e)) c.reading.goes_on cut refl)
@@ -219,16 +219,12 @@ module _ {R W : Type 0} {reads : Runs ReadMark R} {writes : Runs WriteMark W} wh
             let two = all_told y y' m j in
             let tales = s.steady (source_of x) (source_of y) (source_of x')
             (source_of y') i.told j.told e.0 i.came j.came in
-            let met = met_in x.phase in
-            let both = comparable_behind (strip_marks met) (strip_marks i.told) (strip_marks j.told) tales in
-            let left = subst (λ t. Comparable t (strip_marks met ++ strip_marks j.told))
-            (sym (strip_marks-append met i.told)) both in
-            let right = subst
-            (λ p. Comparable (strip_marks (tale_of x i.told)) (strip_marks p ++ strip_marks j.told)) e.2 left in
-            let whole = subst (λ t. Comparable (strip_marks (tale_of x i.told)) t)
-            (sym (strip_marks-append (met_in y.phase) j.told)) right in
+            let both =
+            comparable_behind (strip_marks (met_in x.phase)) (strip_marks i.told) (strip_marks j.told) tales in
+            let whole : Comparable (strip_marks (tale_of x i.told)) (strip_marks (tale_of y j.told)) =
+            rw (strip_marks-append (met_in x.phase) i.told, strip_marks-append (met_in y.phase) j.told, ← e.2) both in
             let begun : before_of y ≡ before_of x = omega (arith, e.3, ap length e.1) in
-            let other = subst (λ (n : ℕ). AllTold (strip m) n (tale_of y j.told)) begun two in
+            let other = rw begun at two in
             all_same (strip l) (strip m) (before_of x) (tale_of x i.told) (tale_of y j.told) one other whole;
         found = λ n x y l h.
             let i = h.moves in
@@ -274,7 +270,7 @@ last_no_failure : (v : SteadyCopyResult) (fault : List ReadMark) (last : List Wr
     (met : List ReadMark) (total : ℕ) → IsOk v
     → CopyValue (v ∷ []) fault last after met total → NoFailure last
 last_no_failure (Ok n) fault last after met total ok h =
-    subst NoFailure (sym (let a = ok_value after met total n fault last h in a.1)) tt
+    rw (let a = ok_value after met total n fault last h in a.1) tt
 last_no_failure (Err e) fault last after met total ok h = absurd (cc ok)
 
 module _ {R W : Type 0} {reads ample : Runs ReadMark R} {writes : Runs WriteMark W} (found : AllAmple reads ample) where
@@ -286,12 +282,10 @@ module _ {R W : Type 0} {reads ample : Runs ReadMark R} {writes : Runs WriteMark
       let m = h.came.moves in
       let k = m.copied in
       let f = k.writing in
-      let given = subst (λ i. CopyValue i k.failed k.last (held_of h.last) (met_in h.last.phase) h.last.amount)
-      (gives_strip l v h.gives) k.value in
+      let given = rw (gives_strip l v h.gives) at k.value in
       let last = last_no_failure v k.failed k.last (held_of h.last) (met_in h.last.phase) h.last.amount ok given in
       let no_failure =
-      subst NoFailure (sym f.cut)
-      (no_failure_both f.written k.last (takes_without_failure f.written f.takes_some) last) in
+      rw (← f.cut) at (no_failure_both f.written k.last (takes_without_failure f.written f.takes_some) last) in
       let came = found (source_of x) (source_of h.last) m.told m.came in
       let moves : Moves ample (WithoutFailure writes) x l h.last =
       record {

@@ -13,9 +13,7 @@ use Rattle.lite_write.specs.Close.{Closes}
 use Rattle.lite_write.specs.Flush.{Flushes}
 use Rattle.lite_write.specs.Laws.SteadyWriteAll.{AllOk, all_ok_same}
 use Rattle.lite_write.specs.Laws.WriteAll.{WriteAllResult}
-use Rattle.lite_write.specs.SteadyWriteAll.{NoneFails, WithoutFailure}
-use Rattle.lite_write.specs.declared.close.CloseFuture.{CloseFuture}
-use Rattle.lite_write.specs.declared.flush.FlushFuture.{FlushFuture}
+use Rattle.lite_write.specs.SteadyWriteAll.{NoFailure, NoneFails, WithoutFailure}
 
 -- futures each poll of which is one call, of which those that prosper give Ok
 module _ {F : Type 0} (call without_failure : F → Poll WriteAllResult → F → Type 0) where
@@ -41,29 +39,21 @@ module _ {F : Type 0} (call without_failure : F → Poll WriteAllResult → F �
         found = λ n. polled_so (so n);
       }
 
+done_ok : (mark : WriteMark) (r : WriteAllResult) → NoFailure (done_marks mark (Ready r)) → r ≡ Ok tt
+done_ok mark (Ok u) a = refl
+done_ok mark (Err e) a = absurd a
+
 module _ {W : Type 0} {writes : Runs WriteMark W} where
-  flushed_ok : (x y : FlushFuture W) (r : WriteAllResult) → Flushes (WithoutFailure writes) x (Ready r) y → r ≡ Ok tt
-  flushed_ok x y (Ok u) h = refl
-  flushed_ok x y (Err e) h = absurd h.came.1
-
-  closed_ok : (x y : CloseFuture W) (r : WriteAllResult) → Closes (WithoutFailure writes) x (Ready r) y → r ≡ Ok tt
-  closed_ok x y (Ok u) h = refl
-  closed_ok x y (Err e) h = absurd h.came.1
-
   pub flush_steady : FutureSteadyLaws (PolledByCalls (Flushes writes)) (PolledByCalls (Flushes (WithoutFailure writes)))
       (NoneFails writes) (λ x y. ⊤)
   flush_steady =
-      done_steady (Flushes writes) (Flushes (WithoutFailure writes)) flushed_ok
-      (λ n x y c h. record {
-        came = (h.came, n x.writer.now y.writer.now (done_marks WriteMark.flushed c) h.came);
-        stays = h.stays;
-      })
+      done_steady (Flushes writes) (Flushes (WithoutFailure writes)) (λ x y r h. done_ok WriteMark.flushed r h.came.1)
+      (λ n x y c h.
+      record { came = (h.came, n x.writer.now y.writer.now (done_marks WriteMark.flushed c) h.came); stays = h.stays })
 
   pub close_steady : FutureSteadyLaws (PolledByCalls (Closes writes)) (PolledByCalls (Closes (WithoutFailure writes)))
       (NoneFails writes) (λ x y. ⊤)
   close_steady =
-      done_steady (Closes writes) (Closes (WithoutFailure writes)) closed_ok
-      (λ n x y c h. record {
-        came = (h.came, n x.writer.now y.writer.now (done_marks WriteMark.closed c) h.came);
-        stays = h.stays;
-      })
+      done_steady (Closes writes) (Closes (WithoutFailure writes)) (λ x y r h. done_ok WriteMark.closed r h.came.1)
+      (λ n x y c h.
+      record { came = (h.came, n x.writer.now y.writer.now (done_marks WriteMark.closed c) h.came); stays = h.stays })

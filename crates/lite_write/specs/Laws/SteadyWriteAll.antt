@@ -52,11 +52,11 @@ hands_ok : (p q : List ℕ) (i : List WriteMark) (l : List (Poll WriteAllResult)
     → AllOk (strip l)
 hands_ok p q i [] a h = tt
 hands_ok p q i (Pending ∷ l) a h =
-    let rest = no_failure_last h.0.0 h.0.1 (subst NoFailure h.0.3 a) in
+    let rest = no_failure_last h.0.0 h.0.1 (rw (← h.0.3) a) in
     hands_ok h.0.2 q h.0.1 l rest (h.0.5, h.1)
 hands_ok p q i (Ready r ∷ l) a h =
     let c = to_value_last HandsMarks p q i r l h in
-    let last = no_failure_last (map WriteMark.wrote c.taken) c.last (subst NoFailure c.cut a) in
+    let last = no_failure_last (map WriteMark.wrote c.taken) c.last (rw (← c.cut) a) in
     rw h.1 (ended_ok c.between c.last r last c.given.0, tt)
 
 pub all_ok_same : (l m : List WriteAllResult) → AllOk l → AllOk m → ComparableBy (λ v w. v ≡ w) l m

@@ -1,5 +1,5 @@
 -- A `BufReader` with some capacity tells one tale where its reader does; it is never pending where its reader isn't.
-use Rattle.std.proofs.Common.{◌≡◌, ◌∙◌, ◌<◌, ℕ, zero, suc, List, ◌++◌, sym, ap, subst, arith}
+use Rattle.std.proofs.Common.{◌≡◌, ◌∙◌, ◌<◌, ℕ, zero, suc, List, ◌++◌, sym, ap, arith}
 use Rattle.lite_base.specs.Answers.{Comparable}
 use Rattle.lite_base.specs.Runs.{Runs}
 use Rattle.lite_io_base.specs.Laws.Steady.{comparable_behind, comparable_fronts, no_wait_both, no_wait_bytes}
@@ -29,7 +29,7 @@ passes_no_wait : (n : ℕ) (p q : List ℕ) (came out : List ReadMark) → Passe
     → NoPendingRead out
 passes_no_wait zero p q came out h w = padded_no_wait came out h.2 w
 passes_no_wait (suc n) p q came out h w =
-    (no_wait_parts out (bytes q) (subst NoPendingRead h (no_wait_both (bytes p) came (no_wait_bytes p) w))).0
+    (no_wait_parts out (bytes q) (rw (← h) (no_wait_both (bytes p) came (no_wait_bytes p) w))).0
 
 -- two with some capacity and the same bytes ahead, over readers that are alike
 abbrev pub AheadAlike : {R : Type 0} → (R → R → Type 0) → BufReader R → BufReader R → Type 0

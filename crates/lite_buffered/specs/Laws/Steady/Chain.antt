@@ -1,5 +1,5 @@
 -- `chain` tells one tale where both of its readers do, and is never pending where neither is.
-use Rattle.std.proofs.Common.{◌≡◌, Bool, true, false, List, [], ◌∷◌, ◌++◌, refl, sym, subst}
+use Rattle.std.proofs.Common.{◌≡◌, Bool, true, false, List, [], ◌∷◌, ◌++◌, refl, sym}
 use Rattle.lite_base.specs.Answers.{Comparable}
 use Rattle.lite_base.specs.Runs.{Runs}
 use Rattle.lite_io_base.specs.Laws.Steady.{comparable_behind, comparable_none, comparable_swapped, no_wait_both}
@@ -103,7 +103,7 @@ module _ {R S : Type 0} {first : Runs ReadMark R} {second : Runs ReadMark S} whe
           laws = chains_laws ample1 ample2 s.laws t.laws;
           steady = λ x y x' y' l m e h k.
               one_tale x.has_ended x'.has_ended y'.has_ended x y x' y' l m e.1 e.2 h
-              (subst (λ a. JoinsReaders ample1 ample2 a y'.has_ended y m y') (sym e.0) k);
+              (rw e.0 k);
           found = λ n x y l h. all_ample n x.has_ended y.has_ended x y l h;
         }
 
@@ -114,8 +114,7 @@ module _ {R S : Type 0} {first : Runs ReadMark R} {second : Runs ReadMark S} whe
     no_pending_at false false x y l k j h = c.no_pending x.first y.first l k h.0
     no_pending_at false true x y l k j h =
         let before = c.no_pending x.first h.between h.before k h.first_ran in
-        subst NoPendingRead (sym h.cut)
-        (no_wait_both h.before h.after before (d.no_pending x.second y.second h.after j h.second_ran))
+        rw h.cut (no_wait_both h.before h.after before (d.no_pending x.second y.second h.after j h.second_ran))
     no_pending_at true true x y l k j h = d.no_pending x.second y.second l j h.0
     no_pending_at true false x y l k j h = absurd h
 

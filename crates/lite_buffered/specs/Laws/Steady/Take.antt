@@ -86,8 +86,7 @@ module _ {R : Type 0} {reads : Runs ReadMark R} where
   take_calm c =
       record {
         no_pending = λ x y l k h.
-            subst NoPendingRead (sym h.cut)
-            (no_wait_both h.front h.ends (c.no_pending x.inner y.inner h.front k h.ran)
+            rw h.cut (no_wait_both h.front h.ends (c.no_pending x.inner y.inner h.front k h.ran)
             (ends_no_wait y.limit h.ends h.used_up));
         calm_on = λ x y l k h. c.calm_on x.inner y.inner h.front k h.ran;
       }

@@ -1,4 +1,4 @@
-use Rattle.std.proofs.Common.{◌≡◌, ◌<◌, [], Some, None, Ok, Err, length, refl, rules}
+use Rattle.std.proofs.Common.{◌≡◌, [], Some, None, Ok, Err, refl, rules}
 use Rattle.std.proofs.lemmas.Grind.{common_steps}
 use Rattle.futures.specs.declared.task.Poll.TheVariants.{Ready, Pending}
 use Rattle.lite_read.specs.Lines.{lines_over}

@@ -8,4 +8,5 @@ returns-clause-ran g c = (text_ran line_over (read_line_fold ⊤) g.R.Tale.read_
 
 pub returns-clause-again : goal.returns-clause-again
 returns-clause-again g c =
-    text_on line_over (read_line_fold ⊤) g.R.Tale.read_laws g.met.R.CountedRead.counting c.requires.0 c.drive.ensures.stepped
+    text_on line_over (read_line_fold ⊤) g.R.Tale.read_laws g.met.R.CountedRead.counting c.requires.0
+    c.drive.ensures.stepped

@@ -1,4 +1,4 @@
-use Rattle.std.proofs.Common.{◌≡◌, ◌∙◌, ◌<◌, [], Some, None, Ok, Err, length, take, refl, rules, ap}
+use Rattle.std.proofs.Common.{◌≡◌, ◌∙◌, [], Some, None, Ok, Err, take, refl, rules, ap}
 use Rattle.std.proofs.lemmas.Grind.{common_steps}
 use Rattle.futures.specs.declared.task.Poll.TheVariants.{Ready}
 use Rattle.lite_read.proofs.Cutting.{take_whole}
@@ -46,14 +46,16 @@ returns-in-Err-clause-stepped g c =
     let f = c.finish.ensures in
     line_refused g.R.Tale.read_laws c.args.self.now c.find_line.new.reader c.take_in.new.self _ e.stays e.text
     (rw is at c.find_line.ensures.ran)
-    c.finish.new.self _ c.finish.result f.reader f.text f.value f.gains f.empty f.held c.in-Err.e refl e.refused (search (rules, common_steps))
+    c.finish.new.self _ c.finish.result f.reader f.text f.value f.gains f.empty f.held c.in-Err.e refl
+    e.refused (search (rules, common_steps))
     e.unread e.kept
 
 pub returns-in-Ok-take_in-clause-stepped : goal.returns-in-Ok-take_in-clause-stepped
 returns-in-Ok-take_in-clause-stepped g c =
     let is : c.find_line.result ≡ Ready (Ok (None, c.in-Ready-Ok-None-default.ascii)) = search rules in
     let e = c.in-Ok-take_in.ensures in
-    let all = ap (λ n. take n (g.R.AsyncBufRead.lent c.find_line.new.reader)) c.lent_by-amount.ensures ∙ take_whole (g.R.AsyncBufRead.lent c.find_line.new.reader) in
+    let shown = g.R.AsyncBufRead.lent c.find_line.new.reader in
+    let all = ap (λ n. take n shown) c.lent_by-amount.ensures ∙ take_whole shown in
     line_more g.R.Tale.read_laws c.args.self.now c.find_line.new.reader c.take_in-in-Ready-Ok-None-default.new.self
     _ e.stays e.text (rw is at c.find_line.ensures.ran)
     (rw is at c.find_line.ensures.found) (search (rules, common_steps)) (rw all at e.ok) (rw all at e.taken) e.held

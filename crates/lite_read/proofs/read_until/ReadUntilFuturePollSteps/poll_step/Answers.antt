@@ -1,4 +1,4 @@
-use Rattle.std.proofs.Common.{◌≡◌, ◌∙◌, ◌<◌, ◌-◌, [], Some, None, Ok, Err, length, take, refl, rules, ap}
+use Rattle.std.proofs.Common.{◌≡◌, ◌∙◌, ◌-◌, [], Some, None, Ok, Err, length, take, refl, rules, ap}
 use Rattle.std.proofs.lemmas.Grind.{common_steps}
 use Rattle.futures.specs.declared.task.Poll.TheVariants.{Ready}
 use Rattle.lite_read.proofs.Cutting.{take_whole}
@@ -40,7 +40,8 @@ pub returns-in-Ok-append-clause-stepped : goal.returns-in-Ok-append-clause-stepp
 returns-in-Ok-append-clause-stepped g c =
     let is : c.find_byte.result ≡ Ready (Ok None) = search rules in
     let e = c.in-Ok-append.ensures in
-    let all = ap (λ l. take (length l) (g.R.AsyncBufRead.lent c.find_byte.new.reader)) c.buffer-amount.ensures ∙ take_whole (g.R.AsyncBufRead.lent c.find_byte.new.reader) in
+    let shown = g.R.AsyncBufRead.lent c.find_byte.new.reader in
+    let all = ap (λ l. take (length l) shown) c.buffer-amount.ensures ∙ take_whole shown in
     until_more g.R.Tale.reads g.R.Tale.read_laws c.args.self.now _ refl refl refl refl c.requires.1 _ _
     (rw is at c.find_byte.ensures.ran)
     (rw is at c.find_byte.ensures.found) (search (rules, common_steps)) (rw all at e.ok) (rw all at e.taken)

@@ -1,8 +1,8 @@
-use Rattle.std.proofs.Common.{◌≡◌, ◌<◌, ◌≤◌, ◌+◌, ◌%◌, ◌^◌, Ok, Err, length, take, length-take-le, refl, ap, sym, arith}
+use Rattle.std.proofs.Common.{◌≡◌, ◌<◌, ◌≤◌, ◌+◌, ◌%◌, ◌^◌, Ok, length, take, length-take-le, ap, sym, arith}
 use Rattle.std.proofs.Common.{rules}
-use Rattle.futures.specs.declared.task.Poll.TheVariants.{Ready, Pending}
+use Rattle.futures.specs.declared.task.Poll.TheVariants.{Ready}
 use Rattle.lite_buffered.specs.BufReader.{ahead}
-use Rattle.lite_write.proofs.Copying.{writer_fails, writer_takes_none, writer_waits, writes_more}
+use Rattle.lite_write.proofs.Copying.{writes_more}
 use Rattle.lite_write.proofs.copy.CopyFuture.write_some.Goals as goal
 
 pub returns-in-Ready-Ok-clause-stepped : goal.returns-in-Ready-Ok-clause-stepped

@@ -1,9 +1,9 @@
-use Rattle.std.proofs.Common.{◌≡◌, ◌<◌, [], ◌∷◌, Ok, Err, true, false, length, refl, rules}
+use Rattle.std.proofs.Common.{◌≡◌, ◌<◌, [], ◌∷◌, Ok, true, false, length, refl, rules}
 use Rattle.std.proofs.lemmas.Grind.{common_steps}
-use Rattle.futures.specs.declared.task.Poll.TheVariants.{Ready, Pending}
+use Rattle.futures.specs.declared.task.Poll.TheVariants.{Ready}
 use Rattle.lite_buffered.specs.BufReader.{ahead}
 use Rattle.lite_write.specs.Laws.Copy.{moves_both}
-use Rattle.lite_write.proofs.Copying.{is_copying, reader_ends, reader_fails, reader_waits, then_steps}
+use Rattle.lite_write.proofs.Copying.{is_copying, reader_ends, then_steps}
 use Rattle.lite_write.proofs.copy.CopyFuturePollSteps.poll_step.Goals as goal
 
 pub returns-in-Ready-Ok-true-clause-stepped : goal.returns-in-Ready-Ok-true-clause-stepped
