@@ -58,14 +58,14 @@ module _ {V B : Type 0} {run : Runs (Poll B) V} where
 -- one poll of a future
 module _ {V B : Type 0} (run : Runs (Poll B) V) where
   pub hands_pending : (v w : V) (a : Poll B) → a ≡ Pending → run v (a ∷ []) w → HandsOut run v (Pending ∷ []) (Some w)
-  hands_pending v w a is came = (Pending ∷ [], tt, subst (λ c. run v (c ∷ []) w) is came, refl)
+  hands_pending v w a is came = (Pending ∷ [], tt, rw is at came, refl)
 
   pub hands_value : (v w : V) (a : Poll B) (y : B) → a ≡ Ready y → run v (a ∷ []) w → HandsOut run v (item y ∷ []) None
   hands_value v w a y is came =
       record {
         ins = Ready y ∷ [];
         value = y;
-        finishes = record { gives = (refl, refl); last = w; came = subst (λ c. run v (c ∷ []) w) is came };
+        finishes = record { gives = (refl, refl); last = w; came = rw is at came };
         after = [];
         later = refl;
         joined = refl;
