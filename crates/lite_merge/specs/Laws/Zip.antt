@@ -62,7 +62,8 @@ pairing_starts B None = (refl, refl, refl)
 pairing_starts B (Some x) = inl (0, refl, refl, refl, refl)
 
 -- by induction on what comes in: of nothing; of what is held, to the last or until it is paired; of each answer
-module _ {A B : Type 0} (g : Option A) (P : Option A → List (Answer A) → List (Answer B) → List (Answer (A × B)) → Type 0)
+module _ {A B : Type 0} (g : Option A)
+    (P : Option A → List (Answer A) → List (Answer B) → List (Answer (A × B)) → Type 0)
     (nothing : g ≡ None → P None [] [] [])
     (still : (x : A) (n : ℕ) → g ≡ Some x → P (Some x) [] (pendings n []) (pendings n []))
     (paired : (x : A) (i : List (Answer A)) (n : ℕ) (b : Option B) (j : List (Answer B)) (l : List (Answer (A × B)))

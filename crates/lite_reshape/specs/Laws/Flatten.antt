@@ -33,14 +33,14 @@ module _ {B A : Type 0} (run : Runs (Answer A) B) (last : Option B)
     (P : Option B → List (Answer B) → List (Answer A) → Type 0)
     (nothing : last ≡ None → P None [] [])
     (still : (b c : B) (l : List (Answer A)) → Endless l → run b l c → last ≡ Some c → P (Some b) [] l)
-    (done : (b c : B) (i : List (Answer B)) (own : List (Answer A)) (a : Answer A) (rest : List (Answer A)) → Endless own
-    → run b (own ++ end ∷ []) c → P None i (a ∷ rest) → P (Some b) i (own ++ a ∷ rest))
+    (done : (b c : B) (i : List (Answer B)) (own : List (Answer A)) (a : Answer A) (rest : List (Answer A))
+    → Endless own → run b (own ++ end ∷ []) c → P None i (a ∷ rest) → P (Some b) i (own ++ a ∷ rest))
     (waits : (i : List (Answer B)) (l : List (Answer A)) → P None i l → P None (Pending ∷ i) (Pending ∷ l))
     (ended : (i : List (Answer B)) (l : List (Answer A)) → P None i l → P None (end ∷ i) (end ∷ l))
     (taken : (b : B) (i : List (Answer B)) (a : Answer A) (l : List (Answer A)) → P (Some b) i (a ∷ l)
     → P None (item b ∷ i) (a ∷ l)) where
-  inner_by : (b : B) (i : List (Answer B)) (l : List (Answer A)) → ((m : List (Answer A)) → Flat run i m last → P None i m)
-      → Flattening run (Some b) i l last → P (Some b) i l
+  inner_by : (b : B) (i : List (Answer B)) (l : List (Answer A))
+      → ((m : List (Answer A)) → Flat run i m last → P None i m) → Flattening run (Some b) i l last → P (Some b) i l
   inner_by b i l rest (inl h) = rw h.0 (still b h.2 l h.1 h.3 h.4)
   inner_by b i l rest (inr h) = rw h.3 (done b h.5 i h.0 h.1 h.2 h.4 h.6 (rest (h.1 ∷ h.2) h.7))
 

@@ -125,7 +125,8 @@ module _ {A : Type 0} where
       → StepsOn p (i ++ j) (l ++ m) r
   steps_follow p q r i j [] m h k = rw h.0 (subst (λ z. StepsOn z j m r) h.1 k)
   steps_follow p q r i j (b ∷ l) [] h k =
-      rw (ap (λ z. i ++ z) k.0 ∙ append-nil i) (subst (λ z. StepsOn p i z r) (sym (append-nil (b ∷ l))) (subst (λ z. StepsOn p i (b ∷ l) z) (sym k.1) h))
+      rw (ap (λ z. i ++ z) k.0 ∙ append-nil i)
+      (subst (λ z. StepsOn p i z r) (sym (append-nil (b ∷ l))) (subst (λ z. StepsOn p i (b ∷ l) z) (sym k.1) h))
   steps_follow p q r i j (b ∷ l) (c ∷ m) h k = steps_join p q r i j b c l m h k
 
   steps_bounded : (p q : ℕ × ℕ) (i o : List (Answer A)) → StepsOn p i o q → before_end o ≤ before_end i
