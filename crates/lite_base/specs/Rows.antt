@@ -1,8 +1,8 @@
 -- Two lists that are read row by row.
 use Rattle.std.specs.Prelude.{◌≡◌, List, [], ◌∷◌, Bool, true, false}
 
--- each row names the order: true, where the first stands first; `row i j c i' j'` gives c from the fronts of i and j, where
--- i stands first, and leaves i' and j'
+-- each row names the order: true, where the first stands first; `row i j c i' j'` gives c from the fronts of i and j,
+-- where i stands first, and leaves i' and j'
 abbrev pub Rows : {A : Type 0} → ((i j : List A) (c : A) (i' j' : List A) → Type 0) → List Bool → (i j out : List A)
     → Type 0
 Rows row [] i j out = (i ≡ []) × (j ≡ []) × (out ≡ [])

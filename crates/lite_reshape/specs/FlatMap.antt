@@ -30,7 +30,8 @@ EachMade g Fact f held = IfSome held Fact × MakesAlways g Fact f
 
 -- a `flat_map` is a `map` of streams, and the stream that it holds
 abbrev pub flat_map_parts : {S V F : Type 0} → AdapterParts (FlatMap S V F) (Map S F) (Option V)
-flat_map_parts = parts_of (λ m. m.stream) (λ m. m.inner_stream) (λ s h. record { stream = s; inner_stream = h }) (λ x y p. p)
+flat_map_parts =
+    parts_of (λ m. m.stream) (λ m. m.inner_stream) (λ s h. record { stream = s; inner_stream = h }) (λ x y p. p)
 
 -- a poll may be made: the `map` may be polled, its rank counts, and each stream that the function makes may be polled
 abbrev pub CanFlatMap : {S V F X : Type 0} → Mut F X V → (Map S F → Type 0) → (S → Type 0) → (V → Type 0)

@@ -11,7 +11,8 @@ use Rattle.lite_stream.specs.Through.{AdapterParts, parts_of}
 
 -- a `flatten` is its outer stream, and the inner one that it holds
 abbrev pub flatten_parts : {S B : Type 0} → AdapterParts (Flatten S B) S (Option B)
-flatten_parts = parts_of (λ m. m.stream) (λ m. m.inner_stream) (λ s h. record { stream = s; inner_stream = h }) (λ x y p. p)
+flatten_parts =
+    parts_of (λ m. m.stream) (λ m. m.inner_stream) (λ s h. record { stream = s; inner_stream = h }) (λ x y p. p)
 
 module _ {S B A : Type 0} (run : Runs (Answer A) B) (outer : Runs (Answer B) S) where
   -- the inner stream that was held, if there was one, came to its end, and the outer one gave the next

@@ -31,4 +31,5 @@ SkipsWhile run test x l y = Through run (LeavesOut (SkipsUntil test)) x.stream x
 
 -- a `skip_while` is its stream, and its predicate until that is gone
 abbrev pub skip_while_parts : {S F : Type 0} → AdapterParts (SkipWhile S F) S (Option F)
-skip_while_parts = parts_of (λ m. m.stream) (λ m. m.predicate) (λ s h. record { stream = s; predicate = h }) (λ x y p. p)
+skip_while_parts =
+    parts_of (λ m. m.stream) (λ m. m.predicate) (λ s h. record { stream = s; predicate = h }) (λ x y p. p)

@@ -32,4 +32,5 @@ StepsBy run x l y = Through run StepsOn x.stream (x.step, x.i) l y.stream (y.ste
 
 -- a `step_by` is its stream, and its step with how many items are left out before the next
 abbrev pub step_by_parts : {S : Type 0} → AdapterParts (StepBy S) S (ℕ × ℕ)
-step_by_parts = parts_of (λ m. m.stream) (λ m. (m.step, m.i)) (λ s h. record { stream = s; step = h.0; i = h.1 }) (λ x y p. p)
+step_by_parts =
+    parts_of (λ m. m.stream) (λ m. (m.step, m.i)) (λ s h. record { stream = s; step = h.0; i = h.1 }) (λ x y p. p)

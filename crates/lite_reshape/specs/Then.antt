@@ -24,7 +24,8 @@ Thens run call run' x l y =
 
 -- a `then` is its stream, and its function with the future that it holds
 abbrev pub then_parts : {S F V : Type 0} → AdapterParts (Then S F V) S (F × Option V)
-then_parts = parts_of (λ m. m.stream) (λ m. (m.f, m.future)) (λ s h. record { stream = s; future = h.1; f = h.0 }) (λ x y p. p)
+then_parts =
+    parts_of (λ m. m.stream) (λ m. (m.f, m.future)) (λ s h. record { stream = s; future = h.1; f = h.0 }) (λ x y p. p)
 
 -- the function may be called with each item that the stream may still give, and what it makes of it has the fact
 abbrev pub MakesEach : {S F V A : Type 0} → Runs (Answer A) S → Mut F (A × Unit {0}) V → (V → Type 0) → S → F → Type 0

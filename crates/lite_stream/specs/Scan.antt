@@ -13,4 +13,5 @@ Scans run call x l y = Through run (Exchanges call) x.stream (x.f, x.state) l y.
 
 -- a `scan` is its stream, and its function with the state
 abbrev pub scan_parts : {S V F : Type 0} → AdapterParts (Scan S V F) S (F × V)
-scan_parts = parts_of (λ m. m.stream) (λ m. (m.f, m.state)) (λ s h. record { stream = s; f = h.0; state = h.1 }) (λ x y p. p)
+scan_parts =
+    parts_of (λ m. m.stream) (λ m. (m.f, m.state)) (λ s h. record { stream = s; f = h.0; state = h.1 }) (λ x y p. p)

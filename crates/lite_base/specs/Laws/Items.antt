@@ -32,4 +32,5 @@ module _ {A : Type 0} (P : A → Type 0) where
       → ((before after : List (Answer A)) (x : A) → i ≡ before ++ item x ∷ after → P x) → AllByRecursion OfItem i
   each_of [] come = tt
   each_of (a ∷ i) come =
-      (λ x e. come [] i x (ap (λ c. c ∷ i) e), each_of i (λ before after x e. come (a ∷ before) after x (ap (λ k. a ∷ k) e)))
+      let later = each_of i (λ before after x e. come (a ∷ before) after x (ap (λ k. a ∷ k) e)) in
+      (λ x e. come [] i x (ap (λ c. c ∷ i) e), later)

@@ -50,3 +50,17 @@ module _ {S T E : Type 0} {run : Runs (Answer (Result T E)) S} {r : Ranks S} whe
         falls = λ x y a more k h. c.falls x.now y.now a more k h.0;
         lowers = λ x y l k h. c.lowers x.now y.now l k h.0;
       }
+
+-- where runs of Ok items are runs of what is in them, by a relation whose rank falls
+pub ok_counting_by : {S T E : Type 0} {run : Runs (Answer (Result T E)) S} {oks : Runs (Answer T) S} {r : Ranks S}
+    → ((x y : S) (l : List (Answer T)) → run x (all_ok l) y → oks x l y) → Counting oks r
+    → ((x y : S) (l : List (Answer (Result T E))) → r.counts x → run x l y → r.counts y)
+    → ((x y : S) (l : List (Answer (Result T E))) → r.firm x → run x l y → r.firm y) → OkCounting run r
+ok_counting_by unwraps c counts_on firm_on =
+    record {
+      sized = c.sized;
+      counts_on = counts_on;
+      firm_on = firm_on;
+      falls = λ x y a more k h. c.falls x y a more k (unwraps x y (items (a ∷ more)) h);
+      lowers = λ x y l k h. c.lowers x y l k (unwraps x y l h);
+    }

@@ -92,7 +92,7 @@ module _ {S A E : Type 0} (is_clone : S → S → Type 0) (is_infallible : S →
 
     laps_stay : (asked : List (Result S E)) (x y : Option S) → Laps run is_clone is_infallible original asked x [] y
         → y ≡ x
-    laps_stay [] x y h = lap_stay laws x y (subst (λ i. Lap run x i y) (all_ok_none E h.0 h.2) h.1)
+    laps_stay [] x y h = lap_stay laws x y (rw (all_ok_none E h.0 h.2) at h.1)
     laps_stay (r ∷ asked) x y h =
         absurd (none_after (all_ok h.own) h.anew h.rest (renews_some r h.anew h.next h.renews) h.joined)
 
@@ -139,7 +139,7 @@ module _ {S A E : Type 0} (is_clone : S → S → Type 0) (is_infallible : S →
           stream = s i;
         };
         follows = λ x y z l m h k.
-            let next = subst (λ o. Laps run is_clone is_infallible o k.0 y.stream m z.stream) h.2 k.1 in
+            let next = rw h.2 at k.1 in
             (h.0 ++ k.0, laps_join x.original h.0 k.0 x.stream y.stream z.stream l m h.1 next, k.2 ∙ h.2);
         bounded = λ x y hint l e h. same_hint hint (0, None) l e tt;
       }
@@ -185,6 +185,6 @@ module _ {S A E : Type 0} (is_clone : S → S → Type 0) (is_infallible : S →
         no_pending = λ x y l k h. (laps_calm x.original k.1 h.0 x.stream y.stream l k.0 h.1).0;
         calm_on = λ x y l k h. (
           (laps_calm x.original k.1 h.0 x.stream y.stream l k.0 h.1).1,
-          λ copy made. k.1 copy (subst (λ o. is_clone o copy) h.2 made),
+          λ copy made. k.1 copy (rw h.2 at made),
         );
       }

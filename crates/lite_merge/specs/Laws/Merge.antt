@@ -138,8 +138,8 @@ module _ {S U A : Type 0} {run : Runs (Answer A) S} {run' : Runs (Answer A) U} {
   pub merges_stay : {o : List Bool} {x t : Fuse S} {y v : Fuse U} → Merges run run' o x y [] t v → (t ≡ x) × (v ≡ y)
   merges_stay {o} {x} {t} {y} {v} h =
       let e = rows_empty MergeRow o h.firsts h.seconds h.rows in (
-        (fused_laws s).stays x t (subst (λ l. Fuses run x l t) e.0 h.came),
-        (fused_laws u).stays y v (subst (λ l. Fuses run' y l v) e.1 h.then_came),
+        (fused_laws s).stays x t (rw e.0 at h.came),
+        (fused_laws u).stays y v (rw e.1 at h.then_came),
       )
 
   pub merges_follow : {o p : List Bool} {x t t' : Fuse S} {y v v' : Fuse U} {l m : List (Answer A)}

@@ -45,12 +45,12 @@ module _ {S U A : Type 0} {run : Runs (Answer A) S} {run' : Runs (Answer A) U} w
             first_falls h.firsts h.seconds a more (r.rank y.stream1.stream) (r.rank x.stream1.stream)
             (r'.rank y.stream2.stream) (r'.rank x.stream2.stream)
             (λ b before e. first.falls x.stream1 y.stream1 b before k.0
-            (subst (λ i. Fuses run x.stream1 i y.stream1) e h.came))
+            (rw e at h.came))
             (λ b before e. second.falls x.stream2 y.stream2 b before k.1
-            (subst (λ i. Fuses run' x.stream2 i y.stream2) e h.then_came))
+            (rw e at h.then_came))
             (c.sized y.stream1.stream ∙ sym (c.sized x.stream1.stream))
             (λ e. ap (λ m. r'.rank m.stream)
             ((fused_laws u).stays x.stream2 y.stream2
-            (subst (λ i. Fuses run' x.stream2 i y.stream2) e h.then_came))) h.rows;
+            (rw e at h.then_came))) h.rows;
         lowers = λ x y l. merges_lower c d;
       }

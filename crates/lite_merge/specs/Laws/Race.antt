@@ -20,9 +20,9 @@ module _ {S U R A : Type 0} {run : Runs (Answer A) S} {run' : Runs (Answer A) U}
   module _ {hints : Hints S} {hints' : Hints U} (s : StreamLaws run hints) (u : StreamLaws run' hints') where
     races_follow : (x y z : Race S U R) (l m : List (Answer A)) → RacesOn run run' stream x l y
         → RacesOn run run' stream y m z → RacesOn run run' stream x (l ++ m) z
-    races_follow x y z [] m h k = subst (λ t. RacesOn run run' stream t m z) h k
+    races_follow x y z [] m h k = rw h at k
     races_follow x y z (c ∷ l) [] h k =
-        rw (append-nil (c ∷ l)) (subst (λ t. RacesOn run run' stream x (c ∷ l) t) (sym k) h)
+        rw (append-nil (c ∷ l)) (rw k h)
     races_follow x y z (c ∷ l) (d ∷ m) h k =
         record {
           words = h.words ++ k.words;

@@ -41,7 +41,7 @@ stops_rest A laws (Stopped r) = (refl, tt, refl)
 
 module _ {F A R : Type 0} {run : Runs (Poll R) F} (laws : FutureLaws run) where
   beside_stay : (f g : F) → PendingBeside {A = A} run f [] g → g ≡ f
-  beside_stay f g h = laws.stays f g (subst (λ l. run f l g) (none_told h.told h.rows) h.came)
+  beside_stay f g h = laws.stays f g (rw (none_told h.told h.rows) at h.came)
 
   beside_join : (f g k : F) (i j : List (Answer A)) → PendingBeside run f i g → PendingBeside run g j k
       → PendingBeside run f (i ++ j) k
@@ -61,7 +61,7 @@ module _ {F A R : Type 0} {run : Runs (Poll R) F} (laws : FutureLaws run) where
   stops_stay TakenOut g i h = (sym h.0, h.1)
   stops_stay (Stopped r) g i h = (h.0, h.2)
   stops_stay (Holding f) (Holding g) i h =
-      (sym h.2, ap (λ v. Holding v) (beside_stay f g (subst (λ l. PendingBeside run f l g) (sym h.2) h.0)))
+      (sym h.2, ap (λ v. Holding v) (beside_stay f g (rw h.2 h.0)))
   stops_stay (Holding f) (Stopped (Some value)) i h = absurd (none_out i h.later h.joined)
   stops_stay (Holding f) (Stopped None) i h =
       absurd (none_out h.own h.later (rw (h.through_end, append_assoc) at h.joined))
@@ -124,9 +124,9 @@ module _ {F A R : Type 0} {run : Runs (Poll R) F} (laws : FutureLaws run) where
 
   stops_join : (f g k : Stopping F R) (i j l m : List (Answer A)) → StopsBy run f i l g → StopsBy run g j m k
       → StopsBy run f (i ++ j) (l ++ m) k
-  stops_join TakenOut g k i j l m h d = let e = subst (λ v. StopsBy run v j m k) h.1 d in (rw (h.0, e.0) refl, e.1)
+  stops_join TakenOut g k i j l m h d = let e = rw h.1 at d in (rw (h.0, e.0) refl, e.1)
   stops_join (Stopped r) g k i j l m h d =
-      let e = subst (λ v. StopsBy run v j m k) h.2 d in
+      let e = rw h.2 at d in
       (rw (h.0, e.0) refl, all_append (λ a. a ≡ end) l m h.1 e.1, e.2)
   stops_join (Holding f) (Holding g) k i j l m h d = while_held f g k i j l m h d
   stops_join (Holding f) (Stopped (Some value)) k i j l m h d = after_value f value k i j l m h d
@@ -165,7 +165,7 @@ module _ {S F A R : Type 0} {run : Runs (Answer A) S} {hints : Hints S} {run' : 
       → x.future ≡ f → HintsBy (hints x.stream) f hint → Stops run run' x l y
       → IfSome hint.1 (λ most. before_end l ≤ most)
   stop_bounded x y hint l (Stopped r) is h k =
-      same_hint hint (0, Some 0) l h (ends_before l (subst (λ v. StopsBy run' v k.ins l y.future) is k.related).1)
+      same_hint hint (0, Some 0) l h (ends_before l (rw is at k.related).1)
   stop_bounded x y hint l f is h k = (laws_capped stop_parts laws (stops_relating laws')).bounded x y hint l h k
 
   pub stop_laws : StreamLaws (Stops run run') (StopHints {F = F} {R = R} hints)

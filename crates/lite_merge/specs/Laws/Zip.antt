@@ -62,7 +62,8 @@ pairing_starts B None = (refl, refl, refl)
 pairing_starts B (Some x) = inl (0, refl, refl, refl, refl)
 
 -- by induction on what comes in: of nothing; of what is held, to the last or until it is paired; of each answer
-module _ {A B : Type 0} (g : Option A) (P : Option A → List (Answer A) → List (Answer B) → List (Answer (A × B)) → Type 0)
+module _ {A B : Type 0} (g : Option A)
+    (P : Option A → List (Answer A) → List (Answer B) → List (Answer (A × B)) → Type 0)
     (nothing : g ≡ None → P None [] [] [])
     (still : (x : A) (n : ℕ) → g ≡ Some x → P (Some x) [] (pendings n []) (pendings n []))
     (paired : (x : A) (i : List (Answer A)) (n : ℕ) (b : Option B) (j : List (Answer B)) (l : List (Answer (A × B)))
@@ -117,8 +118,8 @@ module _ {A B : Type 0} where
   pairing_follow : (f g h : Option A) (i k : List (Answer A)) (j s : List (Answer B)) (l m : List (Answer (A × B)))
       → Pairing f i j l g → Pairing g k s m h → Pairing f (i ++ k) (j ++ s) (l ++ m) h
   pairing_follow f g h i k j s l m c d =
-      pairing_by g (λ f i j l. Pairing f (i ++ k) (j ++ s) (l ++ m) h) (λ e. subst (λ o. Pairing o k s m h) e d)
-      (λ x n e. begun x k n s m h (subst (λ o. Pairing o k s m h) e d))
+      pairing_by g (λ f i j l. Pairing f (i ++ k) (j ++ s) (l ++ m) h) (λ e. rw e at d)
+      (λ x n e. begun x k n s m h (rw e at d))
       (λ x i n b j l r. inr (
         n,
         b,
@@ -172,7 +173,7 @@ module _ {A B : Type 0} where
       → ((a : A) (before : List A) → i ≡ items (a ∷ before) → Below xs us) → (i ≡ [] → xs ≡ us)
       → Pairing f i j (items (y ∷ l)) g → Below (held_rank xs g) (held_rank us f)
   pairing_falls f g i j y l xs us falls same c =
-      held_falls i xs us g f falls same (λ e. alone f g j y l (subst (λ k. Pairing f k j (items (y ∷ l)) g) e c))
+      held_falls i xs us g f falls same (λ e. alone f g j y l (rw e at c))
       (pairing_items f g i j (items (y ∷ l)) c (items_each (y ∷ l)))
 
   -- no more Pendings go out than came in
@@ -196,8 +197,8 @@ module _ {S U A B : Type 0} {run : Runs (Answer A) S} {run' : Runs (Answer B) U}
       → Zips run run' x [] y → y ≡ x
   zips_stay stays stays' x y h =
       let e = pairing_empty x.item_slot y.item_slot h.firsts h.seconds h.paired in
-      let same = stays x.first y.first (subst (λ l. run x.first l y.first) e.0 h.came) in
-      let same' = stays' x.second y.second (subst (λ l. run' x.second l y.second) e.1 h.then_came) in
+      let same = stays x.first y.first (rw e.0 at h.came) in
+      let same' = stays' x.second y.second (rw e.1 at h.then_came) in
       λ i. record { item_slot = e.2 i; first = same i; second = same' i }
 
   pub zip_runs : RunLaws run → RunLaws run' → RunLaws (Zips run run')
@@ -235,8 +236,8 @@ module _ {S U A B : Type 0} {run : Runs (Answer A) S} {run' : Runs (Answer B) U}
         firm_on = λ x y l k h. c.firm_on x.first y.first h.firsts k h.came;
         falls = λ x y a more k h.
             pairing_falls x.item_slot y.item_slot h.firsts h.seconds a more (r.rank y.first) (r.rank x.first)
-            (λ b before e. c.falls x.first y.first b before k (subst (λ i. run x.first i y.first) e h.came))
-            (λ e. ap r.rank (s.stays x.first y.first (subst (λ i. run x.first i y.first) e h.came))) h.paired;
+            (λ b before e. c.falls x.first y.first b before k (rw e at h.came))
+            (λ e. ap r.rank (s.stays x.first y.first (rw e at h.came))) h.paired;
         lowers = λ x y l k h. pairing_lowers x.item_slot y.item_slot h.firsts h.seconds l (r.rank y.first)
             (r.rank x.first) h.paired (c.lowers x.first y.first h.firsts k h.came);
       }

@@ -24,7 +24,8 @@ module _ {F A B : Type 0} (call : Question F A (Option B)) where
       → Placed call KeptInPlace f (strip i) (strip o)
   stripped f g i o =
       leaves_steps call (λ p i o. Placed call KeptInPlace p (strip i) (strip o)) (λ p m x i b o t h. (None, m, t, h))
-      (λ p i o h. h) (λ p i o h. (strip o, refl, h)) (λ p m x i y o t h. (Some y, m, t, (strip o, refl, h))) f g i o refl
+      (λ p i o h. h) (λ p i o h. (strip o, refl, h))
+      (λ p m x i y o t h. (Some y, m, t, (strip o, refl, h))) f g i o refl
 
   keeps_alike : (same : Sameness B) → AlikeInPlace call KeptInPlace same (SameAnswer same)
   keeps_alike same None None P Q o p e r q rest = rest o p r q

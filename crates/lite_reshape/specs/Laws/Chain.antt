@@ -102,7 +102,7 @@ module _ {A : Type 0} where
   joins_follow : (f g h : Part) (i u j k l m : List (Answer A)) → Joins f i j l g → Joins g u k m h
       → Joins f (i ++ u) (j ++ k) (l ++ m) h
   joins_follow First g h i u j k l m (inl r) q =
-      rw (r.1, r.2) (own_before h i u k m r.0 (subst (λ p. Joins p u k m h) r.3 q))
+      rw (r.1, r.2) (own_before h i u k m r.0 (rw r.3 at q))
   joins_follow First g h i u j k l m (inr r) q = inr (crosses_on g h i u j k l m r q)
   joins_follow Second g h i u j k l m r q =
       let e = later Second g h u j k l m (λ d. absurd (cc d)) r.1 q in
@@ -126,14 +126,14 @@ module _ {A : Type 0} where
 
   second_lowers : (g : Part) (j l : List (Answer A)) (xs ys : List ℕ) → Cuts is_done second_after Second j l g
       → Lowers j xs ys → Lowers l (second_rank g xs) ys
-  second_lowers g j [] xs ys r h = rw r.1 (subst (λ k. Lowers k xs ys) r.0 h)
+  second_lowers g j [] xs ys r h = rw r.1 (rw r.0 at h)
   second_lowers g j (b ∷ l) xs ys (inl r) h = absurd (cc r.0)
-  second_lowers g j (Pending ∷ l) xs ys (inr r) h = second_lowers g r.1 l xs ys r.3 (subst (λ k. Lowers k xs ys) r.2 h)
+  second_lowers g j (Pending ∷ l) xs ys (inr r) h = second_lowers g r.1 l xs ys r.3 (rw r.2 at h)
   second_lowers g j (Ready None ∷ l) xs ys (inr r) h =
-      let same = AtMost-length xs ys (Lowers-at_most r.1 xs ys (subst (λ k. Lowers k xs ys) r.2 h)) in
+      let same = AtMost-length xs ys (Lowers-at_most r.1 xs ys (rw r.2 at h)) in
       let e = done_lowers g r.1 l (zeros xs) ys (zeros_least (length xs) ys (sym same)) r.3 in
       rw e.0 e.1
-  second_lowers g j (Ready (Some x) ∷ l) xs ys (inr r) h = second_below g xs ys (subst (λ k. Lowers k xs ys) r.2 h)
+  second_lowers g j (Ready (Some x) ∷ l) xs ys (inr r) h = second_below g xs ys (rw r.2 at h)
 
   -- what stands after does not rise
   lowers_first : (l : List (Answer A)) (xs us ys vs : List ℕ) → Lowers l xs us → AtMost ys vs
@@ -149,15 +149,14 @@ module _ {A : Type 0} where
   joins_lowers First g i j l xs us ys vs (inl r) h k =
       rw (r.2, r.3) (lowers_first i xs us ys vs h (Lowers-at_most j ys vs k))
   joins_lowers First g i j l xs us ys vs (inr r) h k =
-      let low : Lowers (r.own ++ end ∷ []) xs us = subst (λ n. Lowers n xs us) r.through_end h in
+      let low : Lowers (r.own ++ end ∷ []) xs us = rw r.through_end at h in
       let same = AtMost-length xs us (Lowers-at_most i xs us h) in
       let same' = AtMost-length ys vs (Lowers-at_most j ys vs k) in
       let second = second_lowers g j (r.next ∷ r.later) ys vs r.followed k in
       let after = lowers_after (r.next ∷ r.later) (zeros xs) us (second_rank g ys) vs
       (zeros_least (length xs) us (sym same)) second in
       let ended = ended_rank g xs ys (not_first Second g j (r.next ∷ r.later) r.followed (λ d. absurd (cc d))) in
-      subst (λ n. Lowers n (chain_rank g xs ys) (us ++ vs)) (sym r.joined)
-      (own_lowers r.own (end ∷ []) (r.next ∷ r.later) xs us (chain_rank g xs ys) (us ++ vs) low
+      rw r.joined (own_lowers r.own (end ∷ []) (r.next ∷ r.later) xs us (chain_rank g xs ys) (us ++ vs) low
       (λ _. subst (λ n. Lowers (r.next ∷ r.later) n (us ++ vs)) (sym ended) after)
       (λ b. chain_below g xs us ys vs b same'))
   joins_lowers Second g i j l xs us ys vs r h k =
@@ -230,8 +229,8 @@ module _ {S U A : Type 0} {run : Runs (Answer A) S} {run' : Runs (Answer A) U} w
         };
         stays = λ x y h.
             let e = joins_stay x.part y.part h.firsts h.seconds h.joined in
-            let same = s.stays x.first y.first (subst (λ l. run x.first l y.first) e.0 h.came) in
-            let same' = u.stays x.second y.second (subst (λ l. run' x.second l y.second) e.1 h.then_came) in
+            let same = s.stays x.first y.first (rw e.0 at h.came) in
+            let same' = u.stays x.second y.second (rw e.1 at h.then_came) in
             λ i. record { first = same i; second = same' i; part = e.2 i };
         follows = λ x y z l m a b.
             record {
@@ -260,9 +259,9 @@ module _ {S U A : Type 0} {run : Runs (Answer A) S} {run' : Runs (Answer A) U} w
         falls = λ x y a more c h.
             joins_falls x.part y.part h.firsts h.seconds a more (r.rank y.first) (r.rank x.first) (r'.rank y.second)
             (r'.rank x.second)
-            (λ b before e. s.falls x.first y.first b before c.0 (subst (λ l. run x.first l y.first) e h.came))
+            (λ b before e. s.falls x.first y.first b before c.0 (rw e at h.came))
             (λ b before e. u.falls x.second y.second b before c.1
-            (subst (λ l. run' x.second l y.second) e h.then_came))
+            (rw e at h.then_came))
             (s.sized y.first ∙ sym (s.sized x.first)) (u.sized y.second ∙ sym (u.sized x.second)) h.joined;
         lowers = λ x y l c h.
             joins_lowers x.part y.part h.firsts h.seconds l (r.rank y.first) (r.rank x.first) (r'.rank y.second)

@@ -35,10 +35,10 @@ module _ {T E : Type 0} (is_clone : T → T → Type 0) (is_infallible : T → T
       → Clones is_clone is_infallible x l (Some y)
       → Clones is_clone is_infallible y m next → Clones is_clone is_infallible x (l ++ m) next
   clones_join x y (Some z) l m h k =
-      let d = subst (λ v. Clones is_clone is_infallible v m (Some z)) h.1 k in
+      let d = rw h.1 at k in
       (all_append (IsCloneRefusal is_clone is_infallible x) l m h.0 d.0, d.1)
   clones_join x y None l m h k =
-      let d = subst (λ v. Clones is_clone is_infallible v m None) h.1 k in (
+      let d = rw h.1 at k in (
         l ++ d.0,
         d.1,
         all_append (IsCloneRefusal is_clone is_infallible x) l d.0 h.0 d.2,
@@ -89,7 +89,7 @@ module _ {T E : Type 0} (is_clone : T → T → Type 0) where
 
   clones_alike : EqualClones is_clone → OneMade clones_one Sameness.equal (λ x y. x ≡ y)
   unfolding clones_one
-  clones_alike equal x y l m e h k = ap Ok (equal x.now h.1 k.1 h.3 (subst (λ r. is_clone r.now k.1) (sym e) k.3))
+  clones_alike equal x y l m e h k = ap Ok (equal x.now h.1 k.1 h.3 (rw e k.3))
 
   clones_made : (same : Bor T → Bor T → Type 0) → OneMade clones_one (ClonedFrom (Sameness.by same) is_clone) same
   unfolding clones_one

@@ -45,11 +45,11 @@ module _ {F A V B : Type 0} (call : Question F A V) (gives : V → List (Answer 
   held_by : (p : F) (v : V) (i : List (Answer A)) (o : List (Answer B))
       → ((rest : List (Answer B)) → Expands call gives p i rest t.0 t.1 → P (p, None) i rest)
       → Expanding call gives (p, Some v) i o t → P (p, Some v) i o
-  held_by p v i o rest (inl c) = rw c.0 (subst (λ r. P (r, Some v) [] o) c.1 (still v c.2 o c.3 c.4))
+  held_by p v i o rest (inl c) = rw c.0 (rw c.1 at (still v c.2 o c.3 c.4))
   held_by p v i o rest (inr c) = rw c.2 (done p v i c.0 c.1 c.3 (rest c.1 c.4))
 
   expands_by : (p : F) (i : List (Answer A)) (o : List (Answer B)) → Expands call gives p i o t.0 t.1 → P (p, None) i o
-  expands_by p [] [] c = subst (λ r. P (r, None) [] []) c.0 (nothing c.1)
+  expands_by p [] [] c = rw c.0 at (nothing c.1)
   expands_by p [] (b ∷ o) c = absurd c
   expands_by p (a ∷ i) [] c = absurd c
   expands_by p (Pending ∷ i) (b ∷ o) c = rw c.0 (waits p i o (expands_by p i o c.1))
@@ -75,8 +75,8 @@ module _ {F A V B : Type 0} (call : Question F A V) (gives : V → List (Answer 
       → Expanding call gives r j m t → Expanding call gives s (i ++ j) (l ++ m) t
   joins s (q, f) t i j l m c d =
       expanding_by call gives (q, f) (λ s i l. Expanding call gives s (i ++ j) (l ++ m) t)
-      (λ e. subst (λ o. Expanding call gives (q, o) j m t) e d)
-      (λ v w l ran e. begun t q v w j l m ran (subst (λ o. Expanding call gives (q, o) j m t) e d))
+      (λ e. rw e at d)
+      (λ v w l ran e. begun t q v w j l m ran (rw e at d))
       (λ p v i own rest ran k. inr (own, rest ++ m, append_assoc own rest m, ran, k)) (λ p i l k. (refl, k))
       (λ p i l k. (refl, k)) (λ p r x v i b l called k. (v, r, called, k)) s i l c
 
@@ -179,7 +179,7 @@ module _ {F A V B : Type 0} (call : Question F A V) (gives : V → List (Answer 
       → Expanding call gives s i (items (y ∷ l)) t → Below (held_rank xs t.1) (held_rank us s.1)
   expanding_falls s t i y l xs us falls same c =
       held_falls i xs us t.1 s.1 falls same
-      (λ e. alone s t y l (subst (λ k. Expanding call gives s k (items (y ∷ l)) t) e c))
+      (λ e. alone s t y l (rw e at c))
       (expanding_items s t i (items (y ∷ l)) c (items_each (y ∷ l)))
 
 -- the source's rank, and then a place that counts what is held
@@ -205,10 +205,10 @@ module _ {M S F A V B : Type 0} (p : AdapterParts M S (F × Option V)) {call : Q
         falls = λ x y a more k h.
             expanding_falls call gives g (p.held x) (p.held y) h.ins a more (r.rank (p.source y)) (r.rank (p.source x))
             (λ b before e. c.falls (p.source x) (p.source y) b before k
-            (subst (λ i. run (p.source x) i (p.source y)) e h.came))
+            (rw e at h.came))
             (λ e. ap r.rank
             (laws.stays (p.source x) (p.source y)
-            (subst (λ i. run (p.source x) i (p.source y)) e h.came))) h.related;
+            (rw e at h.came))) h.related;
         lowers = λ x y l k h.
             expanding_lowers call gives g (p.held x) (p.held y) h.ins l (r.rank (p.source y))
             (r.rank (p.source x)) h.related

@@ -49,7 +49,8 @@ module _ {F A V : Type 0} (g : Mut F (A × Unit {0}) V) (Fact : V → Type 0) wh
       → OfItem Fact (Ready y) × MakesAlways g Fact q
   made_here f q x None called always = absurd called
   made_here f q x (Some w) called always =
-      let on = makes_on g Fact f (x, tt) w q always called in (λ v e. let same : w ≡ v = cc e in subst Fact same on.0, on.1)
+      let on = makes_on g Fact f (x, tt) w q always called in
+      (λ v e. let same : w ≡ v = cc e in subst Fact same on.0, on.1)
 
   -- what each call promises holds of each item that comes out, and the function goes on to promise it
   made_has : (f h : F) (i : List (Answer A)) (o : List (Answer V)) → Replaces (Calls g) f i o h → MakesAlways g Fact f
@@ -138,7 +139,8 @@ module _ {S F A V B : Type 0} (g : Mut F (A × Unit {0}) V) {run ample : Runs (A
   flat_map_steady like same s =
       let outer = through_steady_over map_parts like (Answering like (Calls g)) s
       (replaces_relating (Calls g)).following (replaces_answering (Calls g) like) in
-      let made = replaces_agreeing (Calls g) like (Sameness.by alike') (agree_from_matches (SameItem like) alike' (Calls g)) in
+      let made = replaces_agreeing (Calls g) like (Sameness.by alike')
+      (agree_from_matches (SameItem like) alike' (Calls g)) in
       flattening_steady flat_map_parts same
       (λ x y e. (
         through_alike map_parts x.stream y.stream (s.steady x.stream.stream y.stream.stream e.0) e.1 made,

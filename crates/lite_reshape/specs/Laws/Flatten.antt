@@ -33,14 +33,14 @@ module _ {B A : Type 0} (run : Runs (Answer A) B) (last : Option B)
     (P : Option B → List (Answer B) → List (Answer A) → Type 0)
     (nothing : last ≡ None → P None [] [])
     (still : (b c : B) (l : List (Answer A)) → Endless l → run b l c → last ≡ Some c → P (Some b) [] l)
-    (done : (b c : B) (i : List (Answer B)) (own : List (Answer A)) (a : Answer A) (rest : List (Answer A)) → Endless own
-    → run b (own ++ end ∷ []) c → P None i (a ∷ rest) → P (Some b) i (own ++ a ∷ rest))
+    (done : (b c : B) (i : List (Answer B)) (own : List (Answer A)) (a : Answer A) (rest : List (Answer A))
+    → Endless own → run b (own ++ end ∷ []) c → P None i (a ∷ rest) → P (Some b) i (own ++ a ∷ rest))
     (waits : (i : List (Answer B)) (l : List (Answer A)) → P None i l → P None (Pending ∷ i) (Pending ∷ l))
     (ended : (i : List (Answer B)) (l : List (Answer A)) → P None i l → P None (end ∷ i) (end ∷ l))
     (taken : (b : B) (i : List (Answer B)) (a : Answer A) (l : List (Answer A)) → P (Some b) i (a ∷ l)
     → P None (item b ∷ i) (a ∷ l)) where
-  inner_by : (b : B) (i : List (Answer B)) (l : List (Answer A)) → ((m : List (Answer A)) → Flat run i m last → P None i m)
-      → Flattening run (Some b) i l last → P (Some b) i l
+  inner_by : (b : B) (i : List (Answer B)) (l : List (Answer A))
+      → ((m : List (Answer A)) → Flat run i m last → P None i m) → Flattening run (Some b) i l last → P (Some b) i l
   inner_by b i l rest (inl h) = rw h.0 (still b h.2 l h.1 h.3 h.4)
   inner_by b i l rest (inr h) = rw h.3 (done b h.5 i h.0 h.1 h.2 h.4 h.6 (rest (h.1 ∷ h.2) h.7))
 
@@ -79,8 +79,8 @@ module _ {B A : Type 0} {run : Runs (Answer A) B} (laws : RunLaws run) where
       → Flattening run g j m h → Flattening run f (i ++ j) (l ++ m) h
   joins f g h i j l m c d =
       flattening_by run g (λ f i l. Flattening run f (i ++ j) (l ++ m) h)
-      (λ e. subst (λ o. Flattening run o j m h) e d)
-      (λ b c l n ran e. begun b c h j l m n ran (subst (λ o. Flattening run o j m h) e d))
+      (λ e. rw e at d)
+      (λ b c l n ran e. begun b c h j l m n ran (rw e at d))
       (λ b c i own a rest n ran k. inr (own, a, rest ++ m, append_assoc own (a ∷ rest) m, n, c, ran, k))
       (λ i l k. (refl, k)) (λ i l k. (refl, k)) (λ b i a l k. k) f i l c
 
@@ -126,7 +126,7 @@ module _ {S B A : Type 0} (run : Runs (Answer A) B) (outer : Runs (Answer B) S) 
           ins = item h.next ∷ m.ins;
           came = laws.follows x.0 y.0 z.0 (item h.next ∷ []) m.ins h.gave m.came;
           related = before_taken x.1 z.1 h.next m.ins a h.ended
-              (subst (λ o. Flattening run o m.ins (a ∷ []) z.1) h.held m.related);
+              (rw h.held at m.related);
         }
 
     -- the steps of a poll of an adapter, which has an outer stream and may hold an inner one
@@ -146,14 +146,13 @@ pub to_come : {S B : Type 0} {outer : Runs (Answer B) S} {Fact : B → Type 0}
     → outer t (before ++ item b ∷ after) u → Fact b
 to_come {outer = outer} follows s t held i each came u before after b h =
     each.1 u (i ++ before) after b
-    (subst (λ k. outer s k u) (sym (append_assoc i before (item b ∷ after)))
-    (follows s t u i (before ++ item b ∷ after) came h))
+    (rw (append_assoc i before (item b ∷ after)) (follows s t u i (before ++ item b ∷ after) came h))
 
 -- and of each that came
 pub have_come : {S B : Type 0} (outer : Runs (Answer B) S) (Fact : B → Type 0) (s t : S) (held : Option B)
     (i : List (Answer B)) → EachInner outer Fact s held → outer s i t → AllByRecursion (OfItem Fact) i
 have_come outer Fact s t held i each came =
-    each_of Fact i (λ before after b e. each.1 t before after b (subst (λ i. outer s i t) e came))
+    each_of Fact i (λ before after b e. each.1 t before after b (rw e at came))
 
 module _ {S B A : Type 0} (run : Runs (Answer A) B) (outer : Runs (Answer B) S) where
   -- no chain of steps that go on is endless, if no chain of items of the outer stream is
@@ -219,7 +218,7 @@ module _ {B A : Type 0} (run : Runs (Answer A) B) (n : ℕ) (rank : B → List �
       alone (Some b) e inner (inr h) = absurd h.7
 
       at_start : (before : List B) × (i ≡ items before) → Below (xs ++ Inner g) (us ++ Inner f)
-      at_start ([], e) = alone f e inner (subst (λ k. Flattening run f k (items (y ∷ l)) g) e h)
+      at_start ([], e) = alone f e inner (rw e at h)
       at_start (b ∷ before, e) = Below-first xs us (Inner g) (Inner f) (falls b before e) (same_size g f)
 
   -- the answers of an inner stream that ends, and what follows them
@@ -270,7 +269,7 @@ module _ {B A : Type 0} {run : Runs (Answer A) B} where
               h,
         );
         falls = λ x y a more k h.
-            let came = λ (i : List (Answer _)) (e : h.ins ≡ i). subst (λ i. outer (p.source x) i (p.source y)) e h.came in
+            let came = λ (i : List (Answer _)) (e : h.ins ≡ i). rw e at h.came in
             flat_falls run r'.width r'.rank c'.sized (p.held x) (p.held y) h.ins a more (r.rank (p.source y))
             (r.rank (p.source x))
             (λ b before e. c.falls (p.source x) (p.source y) b before k.0 (came (items (b ∷ before)) e))

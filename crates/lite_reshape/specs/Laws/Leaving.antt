@@ -35,8 +35,8 @@ module _ {F A B : Type 0} (call : Question F A (Option B)) (P : F → List (Answ
     → P p (item x ∷ i) (item y ∷ o)) where
   passed : (p m : F) (a : Answer A) (i : List (Answer A)) (b : Answer B) (o : List (Answer B)) → Passes call p a b m
       → P m i o → P p (a ∷ i) (b ∷ o)
-  passed p m a i Pending o h k = rw h.0 (waits p i o (subst (λ z. P z i o) h.1 k))
-  passed p m a i (Ready None) o h k = rw h.0 (ended p i o (subst (λ z. P z i o) h.1 k))
+  passed p m a i Pending o h k = rw h.0 (waits p i o (rw h.1 at k))
+  passed p m a i (Ready None) o h k = rw h.0 (ended p i o (rw h.1 at k))
   passed p m a i (Ready (Some y)) o h k = rw h.1 (kept p m h.0 i y o h.2 k)
 
   pub leaves_steps : (f g : F) (i : List (Answer A)) (o : List (Answer B)) → P g [] [] → LeavesOut call f i o g

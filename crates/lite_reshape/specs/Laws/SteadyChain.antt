@@ -35,13 +35,11 @@ module _ {A : Type 0} where
 
   stripped : (f g : Part) (i j l : List (Answer A)) → Joins f i j l g → JoinsStripped f (strip i) (strip j) (strip l)
   stripped First g i j l (inl r) =
-      subst (λ k. JoinsStripped First (strip i) (strip j) (strip k)) (sym r.2)
-      (subst (λ k. JoinsStripped First (strip k) (strip j) (strip k)) (append-nil i)
+      rw r.2 (subst (λ k. JoinsStripped First (strip k) (strip j) (strip k)) (append-nil i)
       (own_joined i [] [] (strip j) r.0 refl))
   stripped First g i j l (inr r) =
       let after = cuts_stripped is_done second_after (λ f n. refl) Second g j (r.next ∷ r.later) r.followed in
-      subst (λ k. JoinsStripped First (strip k) (strip j) (strip l)) (sym r.through_end)
-      (subst (λ k. JoinsStripped First (strip (r.own ++ end ∷ [])) (strip j) (strip k)) (sym r.joined)
+      rw r.through_end (subst (λ k. JoinsStripped First (strip (r.own ++ end ∷ [])) (strip j) (strip k)) (sym r.joined)
       (own_joined r.own (end ∷ []) (r.next ∷ r.later) (strip j) r.endless after))
   stripped Second g i j l r = cuts_stripped is_done second_after (λ f n. refl) Second g j l r.1
   stripped Done g i j l r = cuts_stripped is_done second_after (λ f n. refl) Done g j l r.1
@@ -63,9 +61,9 @@ module _ {A : Type 0} where
     joined_same : (f : Part) (i j k h o p : List (Option A)) → JoinsStripped f i k o → JoinsStripped f j h p
         → ComparableBy (SameAnswer same) i j
         → ComparableBy (SameAnswer same) k h → ComparableBy (SameAnswer same) o p
-    joined_same First [] j k h o p r q c d = subst (λ l. ComparableBy (SameAnswer same) l p) (sym r) tt
+    joined_same First [] j k h o p r q c d = rw r tt
     joined_same First (x ∷ i) [] k h o p r q c d =
-        subst (λ l. ComparableBy (SameAnswer same) o l) (sym q) (comparable_nil (SameAnswer same) o)
+        rw q (comparable_nil (SameAnswer same) o)
     joined_same First (None ∷ i) (None ∷ j) k h o p r q c d = cuts_same Second k h o p r q d
     joined_same First (None ∷ i) (Some y ∷ j) k h o p r q c d = absurd (both_items same None (Some y) c.0)
     joined_same First (Some x ∷ i) (None ∷ j) k h o p r q c d = absurd (both_items same (Some x) None c.0)
@@ -87,8 +85,7 @@ module _ {S U A : Type 0} {run ample : Runs (Answer A) S} {run' ample' : Runs (A
             joined_same (Either same other) x.part (strip h.firsts) (strip k.firsts) (strip h.seconds) (strip k.seconds)
             (strip l) (strip m)
             (stripped x.part x'.part h.firsts h.seconds l h.joined)
-            (subst (λ p. JoinsStripped p (strip k.firsts) (strip k.seconds) (strip m)) e.2
-            (stripped y.part y'.part k.firsts k.seconds m k.joined))
+            (rw e.2 at (stripped y.part y'.part k.firsts k.seconds m k.joined))
             (either_first same other (strip h.firsts) (strip k.firsts)
             (s.steady x.first y.first e.0 h.firsts k.firsts x'.first y'.first h.came k.came))
             (either_second same other (strip h.seconds) (strip k.seconds)

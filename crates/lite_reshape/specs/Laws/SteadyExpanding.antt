@@ -52,9 +52,9 @@ module _ {V B : Type 0} {gives : V → List (Answer B) → Option V → Type 0} 
           → OneInPlace w Q p
           → ((o' p' : List (Option B)) → P o' → Q p' → ComparableBy (SameAnswer same) o' p')
           → ComparableBy (SameAnswer same) o p
-      places v w P Q o p a (inl e) q rest = subst (λ k. ComparableBy (SameAnswer same) k p) (sym e) tt
+      places v w P Q o p a (inl e) q rest = rw e tt
       places v w P Q o p a (inr r) (inl e) rest =
-          subst (λ k. ComparableBy (SameAnswer same) o k) (sym e) (comparable_nil (SameAnswer same) o)
+          rw e (comparable_nil (SameAnswer same) o)
       places v w P Q o p a (inr r) (inr q) rest =
           rw (r.3, q.3) (
             same_answer same (one.hands v r.0 r.1).0 (one.hands w q.0 q.1).0 (value v w r.0 q.0 a r.1 q.1),

@@ -86,16 +86,16 @@ module _ {B A : Type 0} (run : Runs (Answer A) B) where
         let both = steady b c a r.0 (q.0 ++ end ∷ []) r.1 q.1 r.2 q.2 in
         rw (r.4, q.5)
         (before_left same (strip r.0) (strip q.0) q.4 (no_end r.0 r.3)
-        (subst (λ k. Go (strip r.0) k) (strip_join q.0 (end ∷ [])) both))
+        (rw (strip_join q.0 (end ∷ [])) at both))
     places b c P Q o p a (inr r) (inl q) rest =
         let both = steady b c a (r.0 ++ end ∷ []) q.0 r.1 q.1 r.2 q.2 in
         rw (r.5, q.4)
         (before_right same (strip r.0) (strip q.0) r.4 (no_end q.0 q.3)
-        (subst (λ k. Go k (strip q.0)) (strip_join r.0 (end ∷ [])) both))
+        (rw (strip_join r.0 (end ∷ [])) at both))
     places b c P Q o p a (inr r) (inr q) rest =
         let both = steady b c a (r.0 ++ end ∷ []) (q.0 ++ end ∷ []) r.1 q.1 r.2 q.2 in
-        let right = subst (λ k. Go (strip (r.0 ++ end ∷ [])) k) (strip_join q.0 (end ∷ [])) both in
-        let ends = subst (λ k. Go k (strip q.0 ++ None ∷ [])) (strip_join r.0 (end ∷ [])) right in
+        let right = rw (strip_join q.0 (end ∷ [])) at both in
+        let ends = rw (strip_join r.0 (end ∷ [])) at right in
         rw (r.5, q.5)
         (both_end same (strip r.0) (strip q.0) r.4 q.4 (no_end r.0 r.3) (no_end q.0 q.3) ends
         (rest r.4 q.4 r.6 q.6))

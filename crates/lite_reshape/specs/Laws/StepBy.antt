@@ -52,7 +52,7 @@ module _ {A : Type 0} (s : ℕ) where
       × ((q.0 ≡ s) × IsAt q m) × NumberSteps n x o m
   counted p q n x None r h =
       let step : q.0 ≡ s = h.0 ∙ r.0 in
-      let at : (n + p.1) % s ≡ 0 = subst (λ k. (n + p.1) % k ≡ 0) r.0 r.1.1 in
+      let at : (n + p.1) % s ≡ 0 = rw r.0 at r.1.1 in
       let next : (n + 1) + q.1 ≡ n + p.1 = omega (arith, h.1) in
       let less : p.1 < p.0 = r.1.0 in (
         n + 1,
@@ -60,14 +60,14 @@ module _ {A : Type 0} (s : ℕ) where
           step,
           (
             omega (arith, less, h.0, h.1),
-            subst (λ k. ((n + 1) + q.1) % k ≡ 0) (sym step) (ap (λ k. k % s) next ∙ at),
+            rw step (ap (λ k. k % s) next ∙ at),
           ),
         ),
         (refl, not_multiple s n p.1 (omega (arith, less, r.0)) (omega (arith, h.1)) at),
       )
   counted p q n x (Some y) r h =
       let step : q.0 ≡ s = h.0 ∙ r.0 in
-      let at : (n + p.1) % s ≡ 0 = subst (λ k. (n + p.1) % k ≡ 0) r.0 r.1.1 in
+      let at : (n + p.1) % s ≡ 0 = rw r.0 at r.1.1 in
       let none : n ≡ n + p.1 = omega (arith, h.1) in
       let here : n % s ≡ 0 = ap (λ k. k % s) none ∙ at in
       let next : (n + 1) + q.1 ≡ n + s = omega (arith, h.3, r.0) in (
@@ -76,8 +76,7 @@ module _ {A : Type 0} (s : ℕ) where
           step,
           (
             omega (arith, h.0, h.3),
-            subst (λ k. ((n + 1) + q.1) % k ≡ 0) (sym step)
-                (ap (λ k. k % s) next ∙ past_multiple s n s (mod_self s) ∙ here),
+            rw step (ap (λ k. k % s) next ∙ past_multiple s n s (mod_self s) ∙ here),
           ),
         ),
         (refl, here, h.2),
@@ -96,7 +95,7 @@ module _ {A : Type 0} (s : ℕ) where
         → LeavesOut NumberSteps (n + d) i o (m + d)
     shifted n m i o h =
         let k = leaves_as NumberSteps NumberSteps (λ p q. q ≡ p + d) later n m (n + d) i o refl h in
-        subst (λ z. LeavesOut NumberSteps (n + d) i o z) k.1 k.2
+        rw k.1 at k.2
 
 module _ {A : Type 0} where
   -- what comes after some answers goes on with their numbers
@@ -124,9 +123,9 @@ module _ {A : Type 0} where
 
   steps_follow : (p q r : ℕ × ℕ) (i j l m : List (Answer A)) → StepsOn p i l q → StepsOn q j m r
       → StepsOn p (i ++ j) (l ++ m) r
-  steps_follow p q r i j [] m h k = subst (λ z. StepsOn p (z ++ j) m r) (sym h.0) (subst (λ z. StepsOn z j m r) h.1 k)
+  steps_follow p q r i j [] m h k = rw h.0 (subst (λ z. StepsOn z j m r) h.1 k)
   steps_follow p q r i j (b ∷ l) [] h k =
-      subst (λ z. StepsOn p z ((b ∷ l) ++ []) r) (sym (ap (λ z. i ++ z) k.0 ∙ append-nil i))
+      rw (ap (λ z. i ++ z) k.0 ∙ append-nil i)
       (subst (λ z. StepsOn p i z r) (sym (append-nil (b ∷ l))) (subst (λ z. StepsOn p i (b ∷ l) z) (sym k.1) h))
   steps_follow p q r i j (b ∷ l) (c ∷ m) h k = steps_join p q r i j b c l m h k
 
@@ -136,7 +135,7 @@ module _ {A : Type 0} where
 
   steps_lower : (p q : ℕ × ℕ) (i o : List (Answer A)) (xs ys : List ℕ) → StepsOn p i o q → Lowers i xs ys
       → Lowers o xs ys
-  steps_lower p q i [] xs ys h k = subst (λ z. Lowers z xs ys) h.0 k
+  steps_lower p q i [] xs ys h k = rw h.0 at k
   steps_lower p q i (b ∷ o) xs ys h k = (leaves_relating (Numbered p.0)).lowers h.1 h.2 i (b ∷ o) xs ys h.5 k
 
   pub steps_relating : Relating (StepsOn {A = A})

@@ -58,14 +58,14 @@ module _ {V B : Type 0} {run : Runs (Poll B) V} where
 -- one poll of a future
 module _ {V B : Type 0} (run : Runs (Poll B) V) where
   pub hands_pending : (v w : V) (a : Poll B) → a ≡ Pending → run v (a ∷ []) w → HandsOut run v (Pending ∷ []) (Some w)
-  hands_pending v w a is came = (Pending ∷ [], tt, subst (λ c. run v (c ∷ []) w) is came, refl)
+  hands_pending v w a is came = (Pending ∷ [], tt, rw is at came, refl)
 
   pub hands_value : (v w : V) (a : Poll B) (y : B) → a ≡ Ready y → run v (a ∷ []) w → HandsOut run v (item y ∷ []) None
   hands_value v w a y is came =
       record {
         ins = Ready y ∷ [];
         value = y;
-        finishes = record { gives = (refl, refl); last = w; came = subst (λ c. run v (c ∷ []) w) is came };
+        finishes = record { gives = (refl, refl); last = w; came = rw is at came };
         after = [];
         later = refl;
         joined = refl;
@@ -121,7 +121,8 @@ module _ {V B : Type 0} (same : Sameness B) {gives found : Runs (Poll B) V} {non
 module _ {V B : Type 0} {gives : Runs (Poll B) V} {calm : V → Type 0} (c : CalmLaws gives calm) where
   hands_calm : (v : V) (l : List (Answer B)) (next : Option V) → calm v → HandsOut gives v l next → NoPending l
       × IfSome next calm
-  hands_calm v l (Some w) k h = (rw h.3 (handed_no_pending Some h.0 (c.no_pending v w h.0 k h.2)), c.calm_on v w h.0 k h.2)
+  hands_calm v l (Some w) k h =
+      (rw h.3 (handed_no_pending Some h.0 (c.no_pending v w h.0 k h.2)), c.calm_on v w h.0 k h.2)
   hands_calm v l None k h =
       let ins = handed_no_pending Some h.ins (c.no_pending v h.finishes.last h.ins k h.finishes.came) in
       (rw (h.joined, h.later) (no_pending_join (map (handed Some) h.ins) [] ins tt), tt)

@@ -28,7 +28,7 @@ module _ {A : Type 0} (may : Answer A → Type 0) where
 module _ {S A : Type 0} (may : S → Answer A → Type 0) where
   always_follow : (x y z : S) (l m : List (Answer A)) → Unchanging may x l y → Unchanging may y m z
       → Unchanging may x (l ++ m) z
-  always_follow x y z l m h k = (all_append (may x) l m h.0 (subst (λ s. AllByRecursion (may s) m) h.1 k.0), k.1 ∙ h.1)
+  always_follow x y z l m h k = (all_append (may x) l m h.0 (rw h.1 at k.0), k.1 ∙ h.1)
 
   -- its hint is `known`, which bounds the items that may come
   pub always_laws : (known : ℕ × Option ℕ)

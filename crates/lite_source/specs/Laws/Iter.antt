@@ -40,7 +40,7 @@ module _ {I A : Type 0} (can : I → Type 0) (gives : I → Option A → I → T
 
   finite_on : (i j : I) (l : List (Answer A)) → IsFinite (remaining i) → Iterates can gives remaining i l j
       → IsFinite (remaining j)
-  finite_on i j [] f h = subst (λ k. IsFinite (remaining k)) h f
+  finite_on i j [] f h = rw h at f
   finite_on i j (Pending ∷ l) f h = absurd h.1
   finite_on i j (Ready r ∷ l) f h = finite_on h.0 j l (finite_next i h.0 r h.1.1 f) h.2
 
@@ -69,7 +69,7 @@ module _ {I A : Type 0} (can : I → Type 0) (gives : I → Option A → I → T
   lowers_from : (i j : I) (n : ℕ) (l : List (Answer A)) → size (remaining i) ≤ n → IsFinite (remaining i)
       → NeverRaised can gives remaining i → Iterates can gives remaining i l j
       → Lowers l (size (remaining j) ∷ []) (n ∷ [])
-  lowers_from i j n [] least f r h = at_most_one (size (remaining j)) n (subst (λ k. size (remaining k) ≤ n) h least)
+  lowers_from i j n [] least f r h = at_most_one (size (remaining j)) n (rw h at least)
   lowers_from i j n (Pending ∷ l) least f r h = absurd h.1
   lowers_from i j n (Ready None ∷ l) least f r h =
       let kept = r.at [] i h.0 refl h.1 in

@@ -33,7 +33,7 @@ module _ {I A : Type 0} (left : I → List A) where
   FromFront i r p = MatchOption r ((length (left i) ≡ 0) × (p ≡ i)) (λ x. left i ≡ x ∷ left p)
 
   nothing_comes : (i : I) (x : A) (l : List A) → length (left i) ≡ 0 → left i ≡ x ∷ l → ⊥
-  nothing_comes i x l none e = let more : length (x ∷ l) ≡ 0 = subst (λ k. length k ≡ 0) e none in omega (arith, more)
+  nothing_comes i x l none e = let more : length (x ∷ l) ≡ 0 = rw e at none in omega (arith, more)
 
   front_step : (i j p q : I) (r s : Option A) → left i ≡ left j → FromFront i r p → FromFront j s q → (r ≡ s)
       × (left p ≡ left q)
@@ -88,7 +88,7 @@ module _ {A : Type 0} (gap : A → A → ℕ) (follows : A → A → Type 0)
       absurd (let none : gap i.start i.end ≡ 0 = rw (e.0, e.1) k.1.0 in omega (arith, h.1.0, none))
   range_step i j p q (Some x) (Some y) e h k =
       let first : x ≡ y = h.1.1 ∙ e.0 ∙ sym k.1.1 in
-      let next : p.start ≡ q.start = one j.start p.start q.start (subst (λ v. follows v p.start) e.0 h.1.2) k.1.2 in
+      let next : p.start ≡ q.start = one j.start p.start q.start (rw e.0 at h.1.2) k.1.2 in
       (ap (λ v. Some v) first, (next, h.0 ∙ e.1 ∙ sym k.0))
 
   pub range_alike : (can : Range A → Type 0) (remaining : Range A → Count) (i j : Range A) → i.start ≡ j.start

@@ -16,7 +16,7 @@ use Rattle.lite_source.specs.Script.{GivesScript}
 
 module _ {A : Type 0} where
   pub gives_follow : (x y z l m : List (Answer A)) → GivesScript x l y → GivesScript y m z → GivesScript x (l ++ m) z
-  gives_follow x y z [] m h k = subst (λ t. GivesScript t m z) h k
+  gives_follow x y z [] m h k = rw h at k
   gives_follow [] y z (a ∷ l) m h k = (h.0, gives_follow [] y z l m h.1 k)
   gives_follow (b ∷ x) y z (a ∷ l) m h k = (h.0, gives_follow x y z l m h.1 k)
 

@@ -50,9 +50,9 @@ module _ {F S V O B : Type 0} (call : Mut F (S × Unit {0}) V) (gives : Runs (Po
         ins ++ h.2,
         h.3,
         c,
-        finishes_later laws v w ins h.2 h.3 i g (subst (λ u. Finishes gives u h.2 h.3) h.4.0 h.5),
+        finishes_later laws v w ins h.2 h.3 i g (rw h.4.0 at h.5),
         h.6,
-        subst (λ k. FutureValues k (comes (after h.3)) out) h.4.1 h.7,
+        rw h.4.1 at h.7,
       )
 
   over : (p : F) (l : List (Answer B)) (out : List (Option B)) → AllByRecursion (λ a. a ≡ end) l
@@ -63,19 +63,19 @@ module _ {F S V O B : Type 0} (call : Mut F (S × Unit {0}) V) (gives : Runs (Po
   part_values : FutureLaws gives → (p q : F) (x y : Holding S V) (l : List (Answer B)) (out : List (Option B))
       → UnfoldPart call gives after shown p x l q y → FutureValues q y out → FutureValues p x (strip l ++ out)
   part_values laws p q x y l out (inr h) k =
-      let k' = subst (λ s. FutureValues q s out) h.2.1 k in
-      rw h.0 (over p l out h.2.0 (subst (λ r. FutureValues r Holding.Over out) h.1 k'))
+      let k' = rw h.2.1 at k in
+      rw h.0 (over p l out h.2.0 (rw h.1 at k'))
   part_values laws p q x y l out (inl h) k = leading h.0 h.1 h.2 h.3 h.4
     where
       leading : (v : V) (ins : List (Poll O)) → IsCurrent call p x q v → Leads call gives after shown v ins y
           → l ≡ map (handed shown) ins → FutureValues p x (strip l ++ out)
       leading v ins c (inl d) e =
           rw (e, handed_waits shown ins d.1)
-          (waited laws p q x v d.0 ins out c d.1 d.2 (subst (λ s. FutureValues q s out) d.3 k))
+          (waited laws p q x v d.0 ins out c d.1 d.2 (rw d.3 at k))
       leading v ins c (inr d) e =
           let one : strip l ≡ shown d.0 ∷ [] = ap strip (e ∙ sym (append-nil (map (handed shown) ins)))
           ∙ handed_gives shown ins [] d.0 d.1.gives in
-          rw one (inl (v, q, ins, d.0, c, d.1, refl, subst (λ s. FutureValues q s out) d.2 k))
+          rw one (inl (v, q, ins, d.0, c, d.1, refl, rw d.2 at k))
 
   unfolds_values : FutureLaws gives → (x y : F × Holding S V) (parts : List (Answer B × List (Answer B)))
       → FoldsTo (λ s part t. UnfoldPart call gives after shown s.0 s.1 (part.0 ∷ part.1) t.0 t.1) x parts y
@@ -130,9 +130,9 @@ module _ {F S V O B : Type 0} (call : Mut F (S × Unit {0}) V) (ample : Runs (Po
         rw (h.6, g.6)
         (gives h.3 g.3 value, values_same h.1 g.1 (comes (after h.3)) (comes (after g.3)) o o' f.1 next h.7 g.7)
     values_same p k x y (b ∷ o) (c ∷ o') a e (inl h) (inr g) =
-        absurd (not_over p h.1 x h.0 (subst (λ z. HoldingsBy like alike x z) g.0 e) h.4)
+        absurd (not_over p h.1 x h.0 (rw g.0 at e) h.4)
     values_same p k x y (b ∷ o) (c ∷ o') a e (inr h) (inl g) =
-        absurd (over_not k g.1 y g.0 (subst (λ z. HoldingsBy like alike z y) h.0 e) g.4)
+        absurd (over_not k g.1 y g.0 (rw h.0 at e) g.4)
     values_same p k x y (b ∷ o) (c ∷ o') a e (inr h) (inr g) =
         rw (h.1, g.1) (ends, values_same p k Holding.Over Holding.Over o o' a tt h.2 g.2)
     values_same p k x y o o' a e h g = tt
@@ -253,7 +253,7 @@ module _ {F S V O B : Type 0} (call : Mut F (S × Unit {0}) V) {run : Runs (Poll
   parts_calm : (x y : F × Holding S V) (parts : List (Answer B × List (Answer B))) → Calmly x.0 x.1
       → FoldsTo (λ s part t. UnfoldPart call run after shown s.0 s.1 (part.0 ∷ part.1) t.0 t.1) x parts y
       → NoPending (flat_map (λ part. part.0 ∷ part.1) parts) × Calmly y.0 y.1
-  parts_calm x y [] k h = (tt, subst (λ s. Calmly s.0 s.1) h k)
+  parts_calm x y [] k h = (tt, rw h at k)
   parts_calm x y (part ∷ parts) k h =
       let one = part_calm x.0 h.0.0 x.1 h.0.1 (part.0 ∷ part.1) k h.1 in
       let more = parts_calm h.0 y parts one.1 h.2 in

@@ -13,11 +13,13 @@ returns-then-predicate-clause-stepped g c =
     let ran = rw c.in-Ready-Some.field-0-is at c.in-Ready-Some.ensures.ran in
     let called = called_at g.P.FnMut c.predicate.ensures c.if-predicate.true in
     let more = each_asked g.met.S.Stream.laws.follows c.requires.2 ran refl called in
-    ((c.poll_next.ensures.again, g.met.S.Counted.counting.counts_on _ _ _ c.requires.1 ran, more), (_, ran, (_, refl, (refl, called))))
+    let counts = g.met.S.Counted.counting.counts_on _ _ _ c.requires.1 ran in
+    ((c.poll_next.ensures.again, counts, more), (_, ran, (_, refl, (refl, called))))
 
 pub returns-else-predicate-clause-stepped : goal.returns-else-predicate-clause-stepped
 returns-else-predicate-clause-stepped g c =
     let ran = rw c.in-Ready-Some.field-0-is at c.in-Ready-Some.ensures.ran in
     let called = called_at g.P.FnMut c.predicate.ensures c.if-predicate.false in
     let more = each_asked g.met.S.Stream.laws.follows c.requires.2 ran refl called in
-    ((c.poll_next.ensures.again, g.met.S.Counted.counting.counts_on _ _ _ c.requires.1 ran, more), (c.in-Ready-Some.item, ran, called))
+    let counts = g.met.S.Counted.counting.counts_on _ _ _ c.requires.1 ran in
+    ((c.poll_next.ensures.again, counts, more), (c.in-Ready-Some.item, ran, called))
