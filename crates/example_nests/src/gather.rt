@@ -2,11 +2,11 @@
 ghost use Rattle.std.specs.Prelude.{◌≡◌, ◌==◌, ◌%◌, ◌*◌, ◌^◌, ◌+◌, ◌++◌, ◌∷◌, [], Err, IfOk, Ok, Some, flat_map};
 ghost use Rattle.std.specs.Prelude.{if◌then◌else◌, map, nat_lt, not};
 ghost use Rattle.std.specs.List.{enumerate_from, filter, zip};
-ghost use Rattle.futures_lite.specs.Lists.{scan};
+ghost use Rattle.futures_lite.specs.Lists.{Lists, scan};
 
 use futures_lite::StreamExt;
 use futures_lite::future::block_on;
-use futures_lite::stream::{TryCollectError, iter_array, iter_vec as iter};
+use futures_lite::stream::{Counted, TryCollectError, iter_array, iter_vec as iter};
 use std::alloc::{AllocError, AllocGlobal};
 use std::random::RandomSource;
 use std::sync::Wait;
@@ -106,4 +106,17 @@ where
 {
     let each = iter(items).flat_map(|x: u32| iter_array([x as u64, x as u64 + 1]));
     block_on(rt, each.collect::<Vec<u64>>(rt.alloc()))?.map_err(|_| AllocError)
+}
+
+/// The doubled items of any stream whose items are known.
+pub fn all_doubled<R, S>(rt: &R, numbers: S) -> Result<Vec<u64>, AllocError>
+where
+    R: Wait + RandomSource + AllocGlobal,
+    S: Counted<Item = u32> + Drop,
+    requires polls { S.can_poll numbers }
+    requires counts { S.ranks.counts numbers }
+    ensures { (xs : _) → Lists S.run numbers xs → IfOk result (λ v. v.items ≡ map (λ x. x * 2) xs) }
+{
+    let doubled = numbers.map(|x: u32| x as u64 * 2);
+    block_on(rt, doubled.collect::<Vec<u64>>(rt.alloc()))?.map_err(|_| AllocError)
 }
