@@ -77,7 +77,8 @@ module _ {F A B : Type 0} (call : Question F A (Option B)) (Good : F → Type 0)
       one_rejected p m x i b o t k (z ∷ xs) g e =
           let step = drops p m x xs g t in rw (← e.0, step.0) (k xs step.1 e.1)
 
-      one_kept : (p m : F) (x : A) (i : List (Answer A)) (y : B) (o : List (Answer B)) → call p x (Some y) m → Left m i o
+      one_kept : (p m : F) (x : A) (i : List (Answer A)) (y : B) (o : List (Answer B)) → call p x (Some y) m
+          → Left m i o
           → Left p (item x ∷ i) (item y ∷ o)
       one_kept p m x i y o t k [] g e = absurd e
       one_kept p m x i y o t k (z ∷ xs) g e =
@@ -304,7 +305,8 @@ joined_fits q i j o xs ys e d (inr h) =
     (continued_fits h.own (h.next ∷ h.later) xs ys h.endless (rw h.through_end at e)
     (second_fits j (h.next ∷ h.later) q ys d h.followed))
 
-pub joined_lists : {S U A : Type 0} (run : Runs (Answer A) S) (run' : Runs (Answer A) U) (x : Chain S U) (xs ys : List A)
+pub joined_lists : {S U A : Type 0} (run : Runs (Answer A) S) (run' : Runs (Answer A) U) (x : Chain S U)
+    (xs ys : List A)
     → x.part ≡ First → Lists run x.first xs → Lists run' x.second ys → ListsAs (Chains run run') x (xs ++ ys)
 unfolding Lists
 joined_lists run run' x xs ys first lists others =

@@ -28,7 +28,8 @@ module _ {C T E Y : Type 0} (holds : C → List T → Type 0) (f : T → Y) wher
       (ts : List T) (xs : List Y) → WhereSome p.items (λ c. holds c ts) → OkFits f i xs
       → IfOk v (λ c. (more : List T) × holds c (ts ++ more) × (map f more ≡ xs))
 
-  one_taken : (v : Result C (TryCollectError C T E)) (p m : TryCollect C) (x : Result T E) (i : List (Answer (Result T E)))
+  one_taken : (v : Result C (TryCollectError C T E)) (p m : TryCollect C) (x : Result T E)
+      (i : List (Answer (Result T E)))
       → TakesIn the_fold p x m → Collects v m i → Collects v p (item x ∷ i)
   one_taken v p m (Err x) i t k ts xs h e = absurd t
   one_taken v p m (Ok x) i t k ts [] h e = absurd e

@@ -208,17 +208,20 @@ module _ {M F A O R : Type 0} (fold : Fold M A R) (f_of : M → F) (call : Quest
 -- `all`, `any`, `find`, `position`
 module _ {F A : Type 0} (asked : Question F A Bool) (f : F) (test : A → Bool)
     (acts : AnswersAs asked f test) where
-  pub all_made : (p : All F) (xs : List A) → p.predicate ≡ f → MakesOnly (fold_of (λ m. m.predicate) (alls asked)) p xs (list_all test xs)
+  pub all_made : (p : All F) (xs : List A) → p.predicate ≡ f → MakesOnly (fold_of (λ m. m.predicate) (alls asked)) p xs
+      (list_all test xs)
   all_made =
       asked_made (fold_of (λ m. m.predicate) (alls asked)) (λ m. m.predicate) asked f test acts _ (λ p q r s. s.0)
       (λ p q x xs s. (true, s, λ e. rw e refl)) (λ p q x r xs s. (false, s.1, λ e. rw (e, s.0) refl))
 
-  pub any_made : (p : Any F) (xs : List A) → p.predicate ≡ f → MakesOnly (fold_of (λ m. m.predicate) (anys asked)) p xs (list_any test xs)
+  pub any_made : (p : Any F) (xs : List A) → p.predicate ≡ f → MakesOnly (fold_of (λ m. m.predicate) (anys asked)) p xs
+      (list_any test xs)
   any_made =
       asked_made (fold_of (λ m. m.predicate) (anys asked)) (λ m. m.predicate) asked f test acts _ (λ p q r s. s.0)
       (λ p q x xs s. (false, s, λ e. rw e refl)) (λ p q x r xs s. (true, s.1, λ e. rw (e, s.0) refl))
 
-  pub find_made : (p : Find F) (xs : List A) → p.predicate ≡ f → MakesOnly (fold_of (λ m. m.predicate) (finds asked)) p xs (find test xs)
+  pub find_made : (p : Find F) (xs : List A) → p.predicate ≡ f → MakesOnly
+      (fold_of (λ m. m.predicate) (finds asked)) p xs (find test xs)
   find_made =
       asked_made (fold_of (λ m. m.predicate) (finds asked)) (λ m. m.predicate) asked f test acts _ (λ p q r s. s.0)
       (λ p q x xs s. (false, s, λ e. rw e refl)) (λ p q x r xs s. (true, s.1, λ e. rw (e, s.0) refl))
@@ -330,7 +333,8 @@ pub collect_made : {C T : Type 0} (holds : C → List T → Type 0) (p : Collect
     → IfSome p.collection (λ c. holds c []) → (v : Result C (Refused C T))
     → MakesOf (fold_of (λ (m : Collect C). m.collection) (collects ⊤ holds)) p xs v → IfOk v (λ d. holds d xs)
 collect_made {C = C} holds p xs none v =
-    gathered (fold_of (λ (m : Collect C). m.collection) (collects ⊤ holds)) (λ p l. WhereSome p.collection (λ c. holds c l))
+    gathered (fold_of (λ (m : Collect C). m.collection) (collects ⊤ holds))
+    (λ p l. WhereSome p.collection (λ c. holds c l))
     (λ v l. IfOk v (λ d. holds d l))
     (λ p q x l s h c e. let same : s.1 ≡ c = (let k = s.4 in cc) in rw (← same) (s.3 l (h s.0 s.2)))
     (λ p q x r l xs s h. rw s.5 tt) (λ p q r l s h. rw s.2 (h s.0 s.1)) p [] xs v
@@ -354,7 +358,8 @@ module _ {B F T : Type 0} (holds : B → List T → Type 0)
         (λ v l. IfOk v (λ d. holds (of d) (filter test l))) taken (λ p q x r l xs s h. rw s.7 tt)
         (λ p q r l s h. rw s.2 (h.1 s.0 s.1)) p [] xs v (e, none)
       where
-        taken : (p q : Partition F B) (x : T) (l : List T) → Partitioned holds asked ⊤ (p.predicate, p.res) x None (q.predicate, q.res)
+        taken : (p q : Partition F B) (x : T) (l : List T) → Partitioned holds asked ⊤ (p.predicate, p.res) x None
+            (q.predicate, q.res)
             → (p.predicate ≡ f) × WhereSome p.res (λ c. holds (of c) (filter test l))
             → (q.predicate ≡ f) × WhereSome q.res (λ c. holds (of c) (filter test (l ++ x ∷ [])))
         taken p q x l s h =
@@ -382,7 +387,8 @@ module _ {B F T : Type 0} (holds : B → List T → Type 0)
       goes false x c d l s h = kept_same c.0 d.0 l s.1 h
 
   -- and the others, each of which `rest` accepts
-  pub others_made : (rest : T → Bool) → AnswersAs asked f (λ x. not (rest x)) → (p : Partition F B) (xs : List T) → p.predicate ≡ f
+  pub others_made : (rest : T → Bool) → AnswersAs asked f (λ x. not (rest x)) → (p : Partition F B) (xs : List T)
+      → p.predicate ≡ f
       → IfSome p.res (λ c. holds c.0 [] × holds c.1 []) → (v : Result (B × B) (Refused (B × B) T))
       → MakesOf (fold_of (λ (m : Partition F B). (m.predicate, m.res)) (partitions holds asked ⊤)) p xs v
       → IfOk v (λ d. holds d.1 (filter rest xs))
@@ -398,11 +404,14 @@ module _ {B F T : Type 0} (holds : B → List T → Type 0)
 
 -- `unzip`
 pub unzip_made : {C D A B : Type 0} (first : C → List A → Type 0)
-    (second : D → List B → Type 0) (p : Unzip C D) (xs : List (A × B)) → IfSome p.res (λ c. first c.0 [] × second c.1 [])
-    → (v : Result (C × D) (UnzipRefused C D A B)) → MakesOf (fold_of (λ (m : Unzip C D). m.res) (unzips first second ⊤)) p xs v
+    (second : D → List B → Type 0) (p : Unzip C D) (xs : List (A × B)) → IfSome p.res
+    (λ c. first c.0 [] × second c.1 [])
+    → (v : Result (C × D) (UnzipRefused C D A B)) → MakesOf (fold_of (λ (m : Unzip C D). m.res)
+    (unzips first second ⊤)) p xs v
     → IfOk v (λ d. first d.0 (map (λ x. x.0) xs) × second d.1 (map (λ x. x.1) xs))
 unzip_made {C} {D} {A} {B} first second p xs none v =
-    gathered (fold_of (λ (m : Unzip C D). m.res) (unzips first second ⊤)) (λ p l. WhereSome p.res (both l)) (λ v l. IfOk v (both l))
+    gathered (fold_of (λ (m : Unzip C D). m.res) (unzips first second ⊤)) (λ p l. WhereSome p.res (both l))
+    (λ v l. IfOk v (both l))
     (λ p q x l s h c e. let same : s.1 ≡ c = (let k = s.5 in cc) in let had = h s.0 s.2 in
     rw (map-append (λ (z : A × B). z.0) l (x ∷ []), map-append (λ (z : A × B). z.1) l (x ∷ []), ← same)
     (s.3 (map (λ z. z.0) l) had.0, s.4 (map (λ z. z.1) l) had.1))
@@ -424,7 +433,8 @@ pub try_collect_made : {C T E : Type 0} (holds : C → List T → Type 0) (p : T
     (xs : List (Result T E)) → IfSome p.items (λ c. holds c []) → (v : Result C (TryCollectError C T E))
     → MakesOf (fold_of (λ (m : TryCollect C). m.items) (tries_collect ⊤ holds)) p xs v → TriesCollect holds xs v
 try_collect_made {C} {T} {E} holds p xs none v =
-    gathered (fold_of (λ (m : TryCollect C). m.items) (tries_collect ⊤ holds)) Has (λ v l. TriesCollect holds l v) takes decides closes p [] xs v
+    gathered (fold_of (λ (m : TryCollect C). m.items) (tries_collect ⊤ holds)) Has
+    (λ v l. TriesCollect holds l v) takes decides closes p [] xs v
     ([], refl, where_some (λ c. holds c []) p.items none)
   where
     Has : TryCollect C → List (Result T E) → Type 0

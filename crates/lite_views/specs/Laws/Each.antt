@@ -165,7 +165,8 @@ module _ {F A V B : Type 0} (call : Question F A V) (gives : V → List (Answer 
   each_expanding f g (Ready (Some x) ∷ i) (b ∷ o) last e (v, r, called, inl h) =
       made f r x v (b ∷ o) (Some h.2) e.0 called h.3
   each_expanding f g (Ready (Some x) ∷ i) (b ∷ o) last e (v, r, called, inr h) =
-      each_same Q _ _ h.2 (each_join Q h.0 h.1 (made f r x v h.0 None e.0 called h.3) (each_expanding r g i h.1 last e.1 h.4))
+      each_same Q _ _ h.2 (each_join Q h.0 h.1 (made f r x v h.0 None e.0 called h.3)
+      (each_expanding r g i h.1 last e.1 h.4))
 
 -- a future that is held hands out pendings and then its value, which has the fact
 module _ {V B : Type 0} (run : Runs (Poll B) V) (R : V → Type 0) (Q : B → Type 0)

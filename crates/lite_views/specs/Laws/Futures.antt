@@ -71,8 +71,8 @@ taken_up fold (Ready r ∷ out) v p q bs ys marks g s e =
       given = subst (λ u. fold.gives w.between w.last u q) e.0 w.given;
     }
 
--- a future over a reader of which it is known what is to come: P holds wherever it was waited for, and Q wherever a value
--- was given
+-- a future over a reader of which it is known what is to come: P holds wherever it was waited for, and Q wherever a
+-- value was given
 pub gathered_left : {X S M R E : Type 0} (reader : X → S) (held : X → M) (fold : X → ReadFold M R)
     (Keeps : X → X → Type 0) (reads : Runs ReadMark S) (known : Known S) (P : X → Type 0) (Q : X → R → Type 0) (x : X)
     → Knows reads known (reader x) → P x → ((y : X) → Keeps x y → P y)

@@ -161,7 +161,8 @@ module _ {A V B : Type 0} (run : Runs (Answer B) V) (h : A → List B) where
       let a = acts x v r (rw (← g) called) in
       rw (same, ← e.0) (a.1, called_makes call f r q acts i m xs a.0 e.1 more)
 
-pub flat_mapped_lists : {S F V A B : Type 0} (run : Runs (Answer A) S) (g : Mut F (A × Unit {0}) V) (run' : Runs (Answer B) V)
+pub flat_mapped_lists : {S F V A B : Type 0} (run : Runs (Answer A) S) (g : Mut F (A × Unit {0}) V)
+    (run' : Runs (Answer B) V)
     (h : A → List B) (x : FlatMap S V F) (xs : List A) → x.inner_stream ≡ None → Lists run x.stream.stream xs
     → ((y : A) (inner : V) (k : F) → Called g x.stream.f (y, tt) inner k → (k ≡ x.stream.f) × Lists run' inner (h y))
     → ListsAs (FlatMaps run g run') x (flat_map h xs)

@@ -137,7 +137,8 @@ script_fronts x l y h = scripted_fronts x l y h
 
 pub once_lists : {A : Type 0} (x : A) → ListsAs GivesOnce (record { value = Some x }) (x ∷ [])
 once_lists x =
-    listed GivesOnce (record { value = Some x }) (x ∷ []) (λ l y h. scripted_fits (once_left (Some x)) l (once_left y.value) h)
+    listed GivesOnce (record { value = Some x }) (x ∷ []) (λ l y h. scripted_fits (once_left (Some x)) l
+    (once_left y.value) h)
 
 pub once_fronts : {A : Type 0} (x : A) → Fronts GivesOnce (record { value = Some x }) (x ∷ [])
 unfolding Fronts

@@ -10,7 +10,7 @@ use Rattle.futures.specs.declared.task.Poll.TheVariants.{Ready, Pending}
 use Rattle.lite_base.specs.Answers.{Gives, strip}
 use Rattle.lite_base.specs.Laws.Segments.{segment_front, to_value_last}
 use Rattle.lite_base.specs.Runs.{Runs}
-use Rattle.lite_write.specs.Copy.{Copied, CopyRuns, CopyValue, Moves}
+use Rattle.lite_write.specs.Copy.{CopyRuns, CopyValue, Moves}
 use Rattle.lite_write.specs.Parts.{NothingCopied, held_of, met_in, source_of}
 use Rattle.lite_write.specs.declared.copy.CopyFuture.{CopyFuture}
 use Rattle.lite_write.specs.MarkLists.{BytesAlone, bytes_told}

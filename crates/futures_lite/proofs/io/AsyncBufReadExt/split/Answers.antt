@@ -7,5 +7,6 @@ pub returns-clause-read : goal.returns-clause-read
 returns-clause-read g c knows =
     let e = c.split.ensures in
     rw (← e.reader, ← e.byte)
-    (pieces_listed _ _ _ (λ xs. xs) (λ v. v.items) (λ xs x h. h) (λ xs x h. h) split_over _ g.Self.Tale.reads g.Self.Tale.known _ refl
+    (pieces_listed _ _ _ (λ xs. xs) (λ v. v.items) (λ xs x h. h)
+    (λ xs x h. h) split_over _ g.Self.Tale.reads g.Self.Tale.known _ refl
     e.empty (rw e.reader knows))

@@ -6,4 +6,8 @@ use Rattle.futures_lite.proofs.stream.StreamExt.filter.Goals as goal
 
 pub returns-clause-lists : goal.returns-clause-lists
 returns-clause-lists g c test xs lists acts =
-    rw c.filter.ensures (listed_through filter_parts _ _ _ xs _ lists (filtered_fits (CalledAt g.P.FnMut) _ test acts xs), filter_fewer test xs)
+    rw c.filter.ensures (
+      listed_through filter_parts _ _ _ xs _ lists
+          (filtered_fits (CalledAt g.P.FnMut) _ test acts xs),
+      filter_fewer test xs,
+    )

@@ -6,4 +6,5 @@ use Rattle.futures_lite.proofs.stream.StreamExt.skip_while.Goals as goal
 
 pub returns-clause-lists : goal.returns-clause-lists
 returns-clause-lists g c test xs lists acts =
-    rw c.skip_while.ensures (listed_through skip_while_parts _ _ _ xs _ lists (skipped_while_fits (CalledAt g.P.FnMut) _ test acts xs))
+    rw c.skip_while.ensures (listed_through skip_while_parts _ _ _ xs _ lists
+    (skipped_while_fits (CalledAt g.P.FnMut) _ test acts xs))
