@@ -8,7 +8,10 @@ mod sum;
 mod text;
 
 use ask::{all_even, first_large, last_small, place_of_even};
-use gather::{NotDigits, digits, evens_doubled, flattened, joined, numbered, pairs, parted, sums};
+use futures_lite::stream::iter_vec;
+use gather::{
+    NotDigits, all_doubled, digits, evens_doubled, flattened, joined, numbered, pairs, parted, sums,
+};
 use std::io;
 use sum::{counted, total};
 use text::{all, front_lines, lines, packed};
@@ -17,6 +20,7 @@ fn main(rt: HostRuntime) -> io::Result<()> {
     let numbers = vec![in rt.alloc(); 3u32, 4, 10, 11]?;
     let bytes = vec![in rt.alloc(); 1u8, 2]?;
     println!(rt; "{:?}", evens_doubled(&rt, numbers.clone()?)?)?;
+    println!(rt; "{:?}", all_doubled(&rt, iter_vec(numbers.clone()?))?)?;
     println!(rt; "{}", counted(&rt, numbers.clone()?, 3)?)?;
     println!(rt; "{}", total(&rt, numbers.clone()?)?)?;
     println!(rt; "{:?}", first_large(&rt, numbers.clone()?)?)?;

@@ -3,7 +3,8 @@ pub use Rattle.lite_io_base.specs.Grows.{Grows}
 pub use Rattle.lite_io_base.specs.Stored.{Stored, Stores, unstored}
 pub use Rattle.lite_io_base.specs.SteadyWrite.{CalmWriteLaws, EndsFlushed, NoError, NoPendingWrite, SteadyWriteLaws}
 pub use Rattle.lite_buffered.specs.BufWriter
-pub use Rattle.lite_theorems.specs.BothWriters.{BothWritten, FailsBy, FailsWith, FlushedUp, HandedUp, TakesFront, WrittenUp}
+pub use Rattle.lite_theorems.specs.BothWriters.{BothWritten, FailsBy, FailsWith, FlushedUp, HandedUp, TakesFront}
+pub use Rattle.lite_theorems.specs.BothWriters.{WrittenUp}
 pub use Rattle.lite_write.specs.Hands
 pub use Rattle.lite_write.specs.Sink
 pub use Rattle.lite_write.specs.SteadyWriteAll.{NoFailure, NoneFails, WithoutFailure}

@@ -88,8 +88,8 @@ module _ {R A : Type 0} {reads : Runs ReadMark R} (laws : MarkLaws reads) (x : R
           (omega (arith, (found_at 10 shown k first).0)) fills took in
           let h = cut_off x.bytes.items shown w.bytes.items k (length w.bytes.items) first more refl in
           text_finished line_over (read_line_fold ⊤) reads x w y from text _ v r reader after value gains empty holds
-          (subst (λ u. AnswerMarks (read_line_fold ⊤) x.bytes.items (bytes (take (k + 1) shown)) (Ready u) w.bytes.items)
-          (sym is) h) came
+          (subst (λ u. AnswerMarks (read_line_fold ⊤) x.bytes.items (bytes (take (k + 1) shown)) (Ready u)
+          w.bytes.items) (sym is) h) came
 
       -- there was no memory
       pub line_refused : (e : Error) → v ≡ Err e → error_kind e ≡ OutOfMemory → 0 < length shown → w.reader.now ≡ mid

@@ -31,7 +31,8 @@ pub refused : (g : List ℕ) (e : Error) → error_kind e ≡ OutOfMemory
     → AnswerMarks (read_to_string_fold ⊤) g [] (Ready (Err e)) g
 refused g e is = segment_alone g g [] (Ready (Err e)) ((tt, is), refl)
 
-pub ended : (g : List ℕ) (n : ℕ) → length g ≡ n → AnswerMarks (read_to_string_fold ⊤) g (ReadMark.end ∷ []) (Ready (Ok n)) g
+pub ended : (g : List ℕ) (n : ℕ) → length g ≡ n
+    → AnswerMarks (read_to_string_fold ⊤) g (ReadMark.end ∷ []) (Ready (Ok n)) g
 ended g n is = segment_alone g g (ReadMark.end ∷ []) (Ready (Ok n)) (omega (arith, is), refl)
 
 -- the future that read n bytes into the room

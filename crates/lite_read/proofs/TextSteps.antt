@@ -74,7 +74,8 @@ module _ {X R A : Type 0} (over : TextOver X R A) (fold : ReadFold (List ℕ) (R
       → ValueOf (over.read w) v r
       → AppendsText (over.read w) (string_bytes (over.text w).now) (string_bytes (over.text y).now) → over.read y ≡ []
       → over.holds y
-      → AnswerMarks fold (over.read x) marks (Ready v) (over.read w) → reads (over.reader x).now marks (over.reader w).now
+      → AnswerMarks fold (over.read x) marks (Ready v) (over.read w)
+      → reads (over.reader x).now marks (over.reader w).now
       → AnswersText over fold reads x (Ready r) y
   text_finished marks v r reader after value gains empty holds h came =
       let end : reads (over.reader x).now marks (over.reader y).now =

@@ -1,6 +1,6 @@
 -- Laws of a reader with a budget.
-use Rattle.std.proofs.Common.{◌≡◌, ◌∙◌, ◌+◌, ◌-◌, ℕ, zero, suc, List, [], ◌∷◌, ◌++◌, Option, Some, None, inl, inr, refl, ap}
-use Rattle.std.proofs.Common.{length, take, subst, sym, arith}
+use Rattle.std.proofs.Common.{◌≡◌, ◌∙◌, ◌+◌, ◌-◌, ℕ, zero, suc, List, [], ◌∷◌, ◌++◌, Option, Some, None, inl, inr}
+use Rattle.std.proofs.Common.{refl, ap, length, take, subst, sym, arith}
 use Rattle.std.specs.Prelude.{⊤}
 use Rattle.lite_base.specs.Answers.{Comparable}
 use Rattle.lite_base.specs.Laws.Paces.{paces_follow}

@@ -65,7 +65,8 @@ both_fail kind i j l m (inr h) (inl k) rest = absurd (h.heard k.0)
 both_fail kind i j l m (inr h) (inr k) rest = rw (h.cut, k.cut) (h.is ∙ sym k.is, rest h.after k.after h.more k.more)
 
 -- two tales that begin one another say the same
-say_same : (i j : List ReadMark) (l m : List ByteItem) → TaleAnswers i l → TaleAnswers j m → Comparable i j → SameBytes l m
+say_same : (i j : List ReadMark) (l m : List ByteItem) → TaleAnswers i l → TaleAnswers j m → Comparable i j
+    → SameBytes l m
 say_same [] j l m h k c = rw h tt
 say_same (a ∷ i) [] l m h k c = rw k (comparable_nil (OptionBy SameByKind) l)
 say_same (ReadMark.byte b ∷ i) (n ∷ j) l m h k c =

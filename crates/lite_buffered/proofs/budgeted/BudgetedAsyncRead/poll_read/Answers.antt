@@ -19,11 +19,12 @@ returns-in-Ready-Ok-clause-ran g c =
     let some : 0 < length buf = grind (arith, common_steps) in
     let within : n ≤ left = grind (arith, common_steps) in
     let len : length (take n buf) ≡ n = length-take-le n buf fits in
+    let marks = moved buf (take n buf) in
     rw (read_marks_room (Ready (Ok n)) buf more some fits)
     (record {
-      came = moved buf (take n buf);
+      came = marks;
       ran = rw got at c.poll_read.ensures.ran;
       paced = rw (← c.allowed-left.ensures)
-          (subst (λ k. PacesMarks (budget, left) (moved buf (take n buf)) (moved buf (take n buf)) (budget, left - k)) len
+          (subst (λ k. PacesMarks (budget, left) marks marks (budget, left - k)) len
           (paced_moved budget left buf (take n buf) (omega (arith, len)) (omega arith) some));
     })

@@ -25,10 +25,12 @@ returns-in-Ready-Ok-eq0-clause-stepped g c =
     let long = c.poll_read.auto.buf ∙ mid_len x.filled (length x.buf.now) x.buf.now (omega arith) in
     let is : c.poll_read.result ≡ Ready (Ok 0) = search rules in
     let front = length-take-le x.filled x.buf.now c.requires in
-    let room : length (take x.filled x.buf.now) < length x.buf.now = omega (arith, front, c.if-self.false, c.requires) in
+    let room : length (take x.filled x.buf.now) < length x.buf.now =
+    omega (arith, front, c.if-self.false, c.requires) in
     let some : 0 < length c.poll_read.new.buf = omega (arith, long, front, room) in
     read_none g.R.Tale.reads x c.poll_read.new.self c.poll_read.new.buf (ReadMark.end ∷ []) (Ready (Err c.into.result))
-    c.requires long ((room, c.into.ensures), refl) (rw (is, moved_none c.poll_read.new.buf some) at c.poll_read.ensures.ran)
+    c.requires long ((room, c.into.ensures), refl)
+    (rw (is, moved_none c.poll_read.new.buf some) at c.poll_read.ensures.ran)
 
 pub returns-in-Ready-Err-clause-stepped : goal.returns-in-Ready-Err-clause-stepped
 returns-in-Ready-Err-clause-stepped g c =
@@ -36,7 +38,8 @@ returns-in-Ready-Err-clause-stepped g c =
     let long = c.poll_read.auto.buf ∙ mid_len x.filled (length x.buf.now) x.buf.now (omega arith) in
     let is : c.poll_read.result ≡ Ready (Err c.in-Ready-Err.e) = search rules in
     let front = length-take-le x.filled x.buf.now c.requires in
-    let room : length (take x.filled x.buf.now) < length x.buf.now = omega (arith, front, c.if-self.false, c.requires) in
+    let room : length (take x.filled x.buf.now) < length x.buf.now =
+    omega (arith, front, c.if-self.false, c.requires) in
     read_none g.R.Tale.reads x c.poll_read.new.self c.poll_read.new.buf _ (Ready (Err c.in-Ready-Err.e)) c.requires long
     ((room, refl), refl) (rw is at c.poll_read.ensures.ran)
 
@@ -45,6 +48,7 @@ returns-in-Pending-clause-stepped g c =
     let x = c.args.self.now in
     let long = c.poll_read.auto.buf ∙ mid_len x.filled (length x.buf.now) x.buf.now (omega arith) in
     let front = length-take-le x.filled x.buf.now c.requires in
-    let room : length (take x.filled x.buf.now) < length x.buf.now = omega (arith, front, c.if-self.false, c.requires) in
+    let room : length (take x.filled x.buf.now) < length x.buf.now =
+    omega (arith, front, c.if-self.false, c.requires) in
     read_none g.R.Tale.reads x c.poll_read.new.self c.poll_read.new.buf (ReadMark.pending ∷ []) Pending c.requires long
     (refl, room, refl) (rw c.in-Pending.is at c.poll_read.ensures.ran)
