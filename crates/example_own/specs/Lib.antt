@@ -3,4 +3,5 @@ pub mod Counter
 pub mod Dots
 pub mod Table
 pub mod Tally
+pub mod Task
 pub mod Upper

@@ -1,3 +1,4 @@
+pub mod Both
 pub mod Lengths
 pub mod Lines
 pub mod Paced

@@ -1,9 +1,9 @@
 //! Nests over two scripts that differ only in where they are pending. The answers of the two runs are the same, pendings
 //! aside, as far as both go. `Err` where memory for an answer is refused: then fewer were appended.
 ghost use Rattle.std.specs.Prelude.{◌≡◌, ◌<◌, ◌++◌, List, length, IfOk, IfErr};
-ghost use Rattle.lite_base.specs.Answers.{Answer, Comparable, strip};
+ghost use Rattle.lite_base.specs.Answers.{Answer, strip};
 ghost use Rattle.lite_base.specs.Calm.{NoPending};
-ghost use Rattle.lite_laws.specs.Both.{Fewer};
+ghost use Rattle.nests_agree.specs.Both.{BeginsOther, BothAppended};
 
 use lite_base::future::make::{ready, yield_now, zip};
 use lite_base::{Context, Poll};
@@ -25,10 +25,7 @@ pub fn evens_agree(
     out_more: &mut Vec<Poll<Option<u8>>>,
 ) -> Result<(), AllocError>
     requires { strip one ≡ strip other }
-    ensures { (l m : List (Answer _)) × (out.new.items ≡ out.old.items ++ l)
-        × (out_more.new.items ≡ out_more.old.items ++ m)
-        × Comparable (strip l) (strip m) × IfOk result (λ _. (length l ≡ polls) × (length m ≡ more))
-        × IfErr result (λ _. Fewer l m polls more) }
+    ensures { BothAppended BeginsOther out.old.items out.new.items out_more.old.items out_more.new.items polls more result }
 {
     let mix = |x: u8| x ^ 1;
     let is_even = |x: &u8| *x % 2 == 0;
@@ -49,10 +46,7 @@ pub fn waits_agree(
     out_more: &mut Vec<Poll<Option<((), u8)>>>,
 ) -> Result<(), AllocError>
     requires { strip one ≡ strip other }
-    ensures { (l m : List (Answer _)) × (out.new.items ≡ out.old.items ++ l)
-        × (out_more.new.items ≡ out_more.old.items ++ m)
-        × Comparable (strip l) (strip m) × IfOk result (λ _. (length l ≡ polls) × (length m ≡ more))
-        × IfErr result (λ _. Fewer l m polls more) }
+    ensures { BothAppended BeginsOther out.old.items out.new.items out_more.old.items out_more.new.items polls more result }
 {
     let wait = |x: u8| zip(yield_now(), ready(x));
     let mut x = then(one, wait);
@@ -71,10 +65,7 @@ pub fn lists_agree(
     out_more: &mut Vec<Poll<Option<u8>>>,
 ) -> Result<(), AllocError>
     requires { strip one ≡ strip other }
-    ensures { (l m : List (Answer _)) × (out.new.items ≡ out.old.items ++ l)
-        × (out_more.new.items ≡ out_more.old.items ++ m)
-        × Comparable (strip l) (strip m) × IfOk result (λ _. (length l ≡ polls) × (length m ≡ more))
-        × IfErr result (λ _. Fewer l m polls more) }
+    ensures { BothAppended BeginsOther out.old.items out.new.items out_more.old.items out_more.new.items polls more result }
 {
     let both = |x: u8| chain(once(x), once(x ^ 1));
     let mut x = flat_map(one, both);

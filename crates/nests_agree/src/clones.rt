@@ -1,10 +1,9 @@
 //! Clones of what two sources of references give.
-ghost use Rattle.std.specs.Prelude.{◌≡◌, ◌++◌, List, length, IfOk, IfErr};
 ghost use Rattle.lite_base.specs.Alike.{SameAnswer};
-ghost use Rattle.lite_base.specs.Answers.{Answer, ComparableBy, strip};
+ghost use Rattle.lite_base.specs.Answers.{ComparableBy, strip};
 ghost use Rattle.lite_base.specs.Steady.{TakesNone};
-ghost use Rattle.lite_laws.specs.Both.{Fewer};
 ghost use Rattle.lite_reshape.specs.Cloned.{ClonedFrom, NoCloneRefused};
+ghost use Rattle.nests_agree.specs.Both.{BothAppended};
 
 use lite_base::{Context, Poll, SteadyStream, Stream};
 use lite_laws::run_both;
@@ -27,12 +26,10 @@ pub fn clones_agree<'a, T: Clone + 'a, S: SteadyStream<Item = &'a T>>(
     requires second { ⟦<Cloned<S> as Stream>⟧.can_poll y.old }
     requires alike { ⟦<Cloned<S> as SteadyStream>⟧.alike x.old y.old }
     requires found { TakesNone S.run S.ample }
-    ensures { (l m : List (Answer _)) × (out.new.items ≡ out.old.items ++ l)
-        × (out_more.new.items ≡ out_more.old.items ++ m)
-        × (NoCloneRefused l → NoCloneRefused m
+    ensures { BothAppended
+        (λ l m. NoCloneRefused l → NoCloneRefused m
         → ComparableBy (SameAnswer (ClonedFrom S.same T.is_clone)) (strip l) (strip m))
-        × IfOk result (λ _. (length l ≡ polls) × (length m ≡ more))
-        × IfErr result (λ _. Fewer l m polls more) }
+        out.old.items out.new.items out_more.old.items out_more.new.items polls more result }
 {
     run_both(x, y, cx, polls, more, out, out_more)
 }

@@ -1,7 +1,6 @@
 //! Two iterators over the same items.
-ghost use Rattle.std.specs.Prelude.{◌≡◌, ◌++◌, List, length, IfOk, IfErr};
-ghost use Rattle.lite_base.specs.Answers.{Answer, Comparable, strip};
-ghost use Rattle.lite_laws.specs.Both.{Fewer};
+ghost use Rattle.std.specs.Prelude.{◌≡◌};
+ghost use Rattle.nests_agree.specs.Both.{BeginsOther, BothAppended};
 
 use lite_base::{Context, Poll};
 use lite_laws::run_both;
@@ -21,10 +20,7 @@ pub fn vectors_agree(
     out_more: &mut Vec<Poll<Option<u8>>>,
 ) -> Result<(), AllocError>
     requires { one.items ≡ other.items }
-    ensures { (l m : List (Answer _)) × (out.new.items ≡ out.old.items ++ l)
-        × (out_more.new.items ≡ out_more.old.items ++ m)
-        × Comparable (strip l) (strip m) × IfOk result (λ _. (length l ≡ polls) × (length m ≡ more))
-        × IfErr result (λ _. Fewer l m polls more) }
+    ensures { BothAppended BeginsOther out.old.items out.new.items out_more.old.items out_more.new.items polls more result }
 {
     let mut x = iter(one);
     let mut y = iter(other);
@@ -42,10 +38,7 @@ pub fn arrays_agree(
     out_more: &mut Vec<Poll<Option<u8>>>,
 ) -> Result<(), AllocError>
     requires { one ≡ other }
-    ensures { (l m : List (Answer _)) × (out.new.items ≡ out.old.items ++ l)
-        × (out_more.new.items ≡ out_more.old.items ++ m)
-        × Comparable (strip l) (strip m) × IfOk result (λ _. (length l ≡ polls) × (length m ≡ more))
-        × IfErr result (λ _. Fewer l m polls more) }
+    ensures { BothAppended BeginsOther out.old.items out.new.items out_more.old.items out_more.new.items polls more result }
 {
     let mut x = iter(one);
     let mut y = iter(other);
@@ -63,10 +56,7 @@ pub fn slices_agree(
     out_more: &mut Vec<Poll<Option<u8>>>,
 ) -> Result<(), AllocError>
     requires { one.now ≡ other.now }
-    ensures { (l m : List (Answer _)) × (out.new.items ≡ out.old.items ++ l)
-        × (out_more.new.items ≡ out_more.old.items ++ m)
-        × Comparable (strip l) (strip m) × IfOk result (λ _. (length l ≡ polls) × (length m ≡ more))
-        × IfErr result (λ _. Fewer l m polls more) }
+    ensures { BothAppended BeginsOther out.old.items out.new.items out_more.old.items out_more.new.items polls more result }
 {
     let mut x = iter(one.iter().copied());
     let mut y = iter(other.iter().copied());
@@ -84,10 +74,7 @@ pub fn ranges_agree(
     out: &mut Vec<Poll<Option<u8>>>,
     out_more: &mut Vec<Poll<Option<u8>>>,
 ) -> Result<(), AllocError>
-    ensures { (l m : List (Answer _)) × (out.new.items ≡ out.old.items ++ l)
-        × (out_more.new.items ≡ out_more.old.items ++ m)
-        × Comparable (strip l) (strip m) × IfOk result (λ _. (length l ≡ polls) × (length m ≡ more))
-        × IfErr result (λ _. Fewer l m polls more) }
+    ensures { BothAppended BeginsOther out.old.items out.new.items out_more.old.items out_more.new.items polls more result }
 {
     let mut x = iter(start..end);
     let mut y = iter(start..end);

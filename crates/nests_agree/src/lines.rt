@@ -1,14 +1,14 @@
 //! Nests over the lines of two readers that are alike. Lines are the same where their texts have the same bytes, or both are
 //! errors of one kind.
-ghost use Rattle.std.specs.Prelude.{◌≡◌, ◌++◌, [], List, length, IfOk, IfErr, ⊤};
+ghost use Rattle.std.specs.Prelude.{length};
 ghost use Rattle.lite_base.specs.Alike.{OptionBy};
-ghost use Rattle.lite_base.specs.Answers.{Answer, Comparable, ComparableBy, strip};
+ghost use Rattle.lite_base.specs.Answers.{ComparableBy, strip};
 ghost use Rattle.nests_agree.specs.Lengths.{IsLength, IsTested, WillGiveLength};
 ghost use Rattle.nests_agree.specs.Lines.{FromLines};
-ghost use Rattle.lite_laws.specs.Both.{Fewer};
 ghost use Rattle.lite_read.specs.Laws.Marks.{SameText};
 ghost use Rattle.lite_read.specs.NoneRefused.{NoneRefused};
 ghost use Rattle.lite_read.specs.Deterministic.{SameByKind, SameOr};
+ghost use Rattle.nests_agree.specs.Both.{BeginsOther, BothAppended};
 
 use lite_base::future::Ready;
 use lite_base::future::make::ready;
@@ -40,10 +40,9 @@ where
     requires first { R.ranks.counts one }
     requires second { R.ranks.counts other }
     requires alike { R.alike one other }
-    ensures { (l m : List (Answer _)) × (out.new.items ≡ out.old.items ++ l)
-        × (out_more.new.items ≡ out_more.old.items ++ m)
-        × FromLines R.reads R.ample one other (ComparableBy (OptionBy SameByKind) (strip l) (strip m))
-        × IfOk result (λ _. (length l ≡ polls) × (length m ≡ more)) × IfErr result (λ _. Fewer l m polls more) }
+    ensures { BothAppended
+        (λ l m. FromLines R.reads R.ample one other (ComparableBy (OptionBy SameByKind) (strip l) (strip m)))
+        out.old.items out.new.items out_more.old.items out_more.new.items polls more result }
 {
     let length = |line: io::Result<String>| -> io::Result<usize>
         ensures { IsLength line result }
@@ -85,10 +84,9 @@ where
     requires first { R.ranks.counts one }
     requires second { R.ranks.counts other }
     requires alike { R.alike one other }
-    ensures { (l m : List (Answer _)) × (out.new.items ≡ out.old.items ++ l)
-        × (out_more.new.items ≡ out_more.old.items ++ m)
-        × FromLines R.reads R.ample one other (Comparable (strip l) (strip m))
-        × IfOk result (λ _. (length l ≡ polls) × (length m ≡ more)) × IfErr result (λ _. Fewer l m polls more) }
+    ensures { BothAppended
+        (λ l m. FromLines R.reads R.ample one other (BeginsOther l m))
+        out.old.items out.new.items out_more.old.items out_more.new.items polls more result }
 {
     let measure = |line: io::Result<String>| -> Ready<usize>
         ensures { WillGiveLength line result }
@@ -122,10 +120,9 @@ where
     requires second { R.ranks.counts other }
     requires alike { R.alike one other }
     requires found { R.needs_none }
-    ensures { (l m : List (Answer _)) × (out.new.items ≡ out.old.items ++ l)
-        × (out_more.new.items ≡ out_more.old.items ++ m)
-        × (NoneRefused l → NoneRefused m → ComparableBy (OptionBy (SameOr SameText)) (strip l) (strip m))
-        × IfOk result (λ _. (length l ≡ polls) × (length m ≡ more)) × IfErr result (λ _. Fewer l m polls more) }
+    ensures { BothAppended
+        (λ l m. NoneRefused l → NoneRefused m → ComparableBy (OptionBy (SameOr SameText)) (strip l) (strip m))
+        out.old.items out.new.items out_more.old.items out_more.new.items polls more result }
 {
     let mut x = lines(one, alloc);
     let mut y = lines(other, alloc);

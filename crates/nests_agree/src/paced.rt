@@ -1,12 +1,11 @@
 //! A stream of a caller's own.
-ghost use Rattle.std.specs.Prelude.{◌≡◌, ◌++◌, List, length, None, IfOk, IfErr};
+ghost use Rattle.std.specs.Prelude.{◌≡◌, None};
 ghost use Rattle.std.specs.List.{FoldsTo};
-ghost use Rattle.lite_base.specs.Answers.{Answer, Comparable, strip};
 ghost use Rattle.lite_base.specs.Laws.Steady.{steady_always};
 ghost use Rattle.lite_base.specs.Runs.{NoHint};
 ghost use Rattle.nests_agree.specs.Paced.{PacedStep, paced_alike};
-ghost use Rattle.lite_laws.specs.Both.{Fewer};
 ghost use Rattle.lite_source.specs.Laws.Folds.{folds_laws};
+ghost use Rattle.nests_agree.specs.Both.{BeginsOther, BothAppended};
 
 use lite_base::{Context, Poll, SteadyStream, Stream};
 use lite_laws::run_both;
@@ -63,10 +62,7 @@ pub fn paces_agree(
     out_more: &mut Vec<Poll<Option<u8>>>,
 ) -> Result<(), AllocError>
     requires { y.old.item ≡ x.old.item }
-    ensures { (l m : List (Answer _)) × (out.new.items ≡ out.old.items ++ l)
-        × (out_more.new.items ≡ out_more.old.items ++ m)
-        × Comparable (strip l) (strip m) × IfOk result (λ _. (length l ≡ polls) × (length m ≡ more))
-        × IfErr result (λ _. Fewer l m polls more) }
+    ensures { BothAppended BeginsOther out.old.items out.new.items out_more.old.items out_more.new.items polls more result }
 {
     run_both(x, y, cx, polls, more, out, out_more)
 }
