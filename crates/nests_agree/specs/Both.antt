@@ -12,5 +12,5 @@ BothAppended {A} agree before after before_more after_more polls more result =
     × IfOk result (λ _. (length l ≡ polls) × (length m ≡ more)) × IfErr result (λ _. Fewer l m polls more)
 
 -- Pendings aside, one of the two lists begins the other
-abbrev pub BeginsOther : {A : Type 0} → List (Answer A) → List (Answer A) → Type 0
-BeginsOther l m = Comparable (strip l) (strip m)
+abbrev pub Begins : {A : Type 0} → List (Answer A) → List (Answer A) → Type 0
+Begins l m = Comparable (strip l) (strip m)

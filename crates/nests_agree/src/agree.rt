@@ -3,7 +3,7 @@
 ghost use Rattle.std.specs.Prelude.{◌≡◌, ◌<◌, ◌++◌, List, length, IfOk, IfErr};
 ghost use Rattle.lite_base.specs.Answers.{Answer, strip};
 ghost use Rattle.lite_base.specs.Calm.{NoPending};
-ghost use Rattle.nests_agree.specs.Both.{BeginsOther, BothAppended};
+ghost use Rattle.nests_agree.specs.Both.{Begins, BothAppended};
 
 use lite_base::future::make::{ready, yield_now, zip};
 use lite_base::{Context, Poll};
@@ -25,7 +25,7 @@ pub fn evens_agree(
     out_more: &mut Vec<Poll<Option<u8>>>,
 ) -> Result<(), AllocError>
     requires { strip one ≡ strip other }
-    ensures { BothAppended BeginsOther out.old.items out.new.items out_more.old.items out_more.new.items polls more result }
+    ensures { BothAppended Begins out.old.items out.new.items out_more.old.items out_more.new.items polls more result }
 {
     let mix = |x: u8| x ^ 1;
     let is_even = |x: &u8| *x % 2 == 0;
@@ -46,7 +46,7 @@ pub fn waits_agree(
     out_more: &mut Vec<Poll<Option<((), u8)>>>,
 ) -> Result<(), AllocError>
     requires { strip one ≡ strip other }
-    ensures { BothAppended BeginsOther out.old.items out.new.items out_more.old.items out_more.new.items polls more result }
+    ensures { BothAppended Begins out.old.items out.new.items out_more.old.items out_more.new.items polls more result }
 {
     let wait = |x: u8| zip(yield_now(), ready(x));
     let mut x = then(one, wait);
@@ -65,7 +65,7 @@ pub fn lists_agree(
     out_more: &mut Vec<Poll<Option<u8>>>,
 ) -> Result<(), AllocError>
     requires { strip one ≡ strip other }
-    ensures { BothAppended BeginsOther out.old.items out.new.items out_more.old.items out_more.new.items polls more result }
+    ensures { BothAppended Begins out.old.items out.new.items out_more.old.items out_more.new.items polls more result }
 {
     let both = |x: u8| chain(once(x), once(x ^ 1));
     let mut x = flat_map(one, both);

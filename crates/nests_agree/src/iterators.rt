@@ -1,6 +1,6 @@
 //! Two iterators over the same items.
 ghost use Rattle.std.specs.Prelude.{◌≡◌};
-ghost use Rattle.nests_agree.specs.Both.{BeginsOther, BothAppended};
+ghost use Rattle.nests_agree.specs.Both.{Begins, BothAppended};
 
 use lite_base::{Context, Poll};
 use lite_laws::run_both;
@@ -20,7 +20,7 @@ pub fn vectors_agree(
     out_more: &mut Vec<Poll<Option<u8>>>,
 ) -> Result<(), AllocError>
     requires { one.items ≡ other.items }
-    ensures { BothAppended BeginsOther out.old.items out.new.items out_more.old.items out_more.new.items polls more result }
+    ensures { BothAppended Begins out.old.items out.new.items out_more.old.items out_more.new.items polls more result }
 {
     let mut x = iter(one);
     let mut y = iter(other);
@@ -38,7 +38,7 @@ pub fn arrays_agree(
     out_more: &mut Vec<Poll<Option<u8>>>,
 ) -> Result<(), AllocError>
     requires { one ≡ other }
-    ensures { BothAppended BeginsOther out.old.items out.new.items out_more.old.items out_more.new.items polls more result }
+    ensures { BothAppended Begins out.old.items out.new.items out_more.old.items out_more.new.items polls more result }
 {
     let mut x = iter(one);
     let mut y = iter(other);
@@ -56,7 +56,7 @@ pub fn slices_agree(
     out_more: &mut Vec<Poll<Option<u8>>>,
 ) -> Result<(), AllocError>
     requires { one.now ≡ other.now }
-    ensures { BothAppended BeginsOther out.old.items out.new.items out_more.old.items out_more.new.items polls more result }
+    ensures { BothAppended Begins out.old.items out.new.items out_more.old.items out_more.new.items polls more result }
 {
     let mut x = iter(one.iter().copied());
     let mut y = iter(other.iter().copied());
@@ -74,7 +74,7 @@ pub fn ranges_agree(
     out: &mut Vec<Poll<Option<u8>>>,
     out_more: &mut Vec<Poll<Option<u8>>>,
 ) -> Result<(), AllocError>
-    ensures { BothAppended BeginsOther out.old.items out.new.items out_more.old.items out_more.new.items polls more result }
+    ensures { BothAppended Begins out.old.items out.new.items out_more.old.items out_more.new.items polls more result }
 {
     let mut x = iter(start..end);
     let mut y = iter(start..end);

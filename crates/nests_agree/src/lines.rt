@@ -8,7 +8,7 @@ ghost use Rattle.nests_agree.specs.Lines.{FromLines};
 ghost use Rattle.lite_read.specs.Laws.Marks.{SameText};
 ghost use Rattle.lite_read.specs.NoneRefused.{NoneRefused};
 ghost use Rattle.lite_read.specs.Deterministic.{SameByKind, SameOr};
-ghost use Rattle.nests_agree.specs.Both.{BeginsOther, BothAppended};
+ghost use Rattle.nests_agree.specs.Both.{Begins, BothAppended};
 
 use lite_base::future::Ready;
 use lite_base::future::make::ready;
@@ -85,7 +85,7 @@ where
     requires second { R.ranks.counts other }
     requires alike { R.alike one other }
     ensures { BothAppended
-        (λ l m. FromLines R.reads R.ample one other (BeginsOther l m))
+        (λ l m. FromLines R.reads R.ample one other (Begins l m))
         out.old.items out.new.items out_more.old.items out_more.new.items polls more result }
 {
     let measure = |line: io::Result<String>| -> Ready<usize>

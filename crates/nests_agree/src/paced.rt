@@ -5,7 +5,7 @@ ghost use Rattle.lite_base.specs.Laws.Steady.{steady_always};
 ghost use Rattle.lite_base.specs.Runs.{NoHint};
 ghost use Rattle.nests_agree.specs.Paced.{PacedStep, paced_alike};
 ghost use Rattle.lite_source.specs.Laws.Folds.{folds_laws};
-ghost use Rattle.nests_agree.specs.Both.{BeginsOther, BothAppended};
+ghost use Rattle.nests_agree.specs.Both.{Begins, BothAppended};
 
 use lite_base::{Context, Poll, SteadyStream, Stream};
 use lite_laws::run_both;
@@ -62,7 +62,7 @@ pub fn paces_agree(
     out_more: &mut Vec<Poll<Option<u8>>>,
 ) -> Result<(), AllocError>
     requires { y.old.item ≡ x.old.item }
-    ensures { BothAppended BeginsOther out.old.items out.new.items out_more.old.items out_more.new.items polls more result }
+    ensures { BothAppended Begins out.old.items out.new.items out_more.old.items out_more.new.items polls more result }
 {
     run_both(x, y, cx, polls, more, out, out_more)
 }
