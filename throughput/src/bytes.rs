@@ -2,7 +2,7 @@
 
 use crate::fault::Fault;
 use futures_lite::io::{AsyncBufRead, AsyncRead, AsyncReadExt, AsyncWrite, BufReader, Cursor};
-use futures_lite::{Context, Poll};
+use futures_lite::{Context, Poll, Stream};
 use std::alloc::{AllocError, Global};
 
 /// How many bytes one write of `cursor_overwrite` and `cursor_extend` offers.
@@ -30,6 +30,13 @@ pub(crate) fn blocks_len(blocks: u64) -> Result<u64, Fault> {
         Some(len) => Ok(len),
         None => Err(Fault::Memory),
     }
+}
+
+/// The noise alone, which the cases of readers make first.
+#[inline(never)]
+pub(crate) fn made_noise(alloc: Global, n: u64) -> Result<u64, Fault> {
+    let bytes = noise(alloc, n)?;
+    Ok(bytes.len() as u64)
 }
 
 /// Reads to the end, a byte at a time.
@@ -125,6 +132,21 @@ pub(crate) fn chain_fill(alloc: Global, cx: &mut Context<'_>, n: u64) -> Result<
         &mut buffered(alloc, front)?.chain(buffered(alloc, rest)?),
         cx,
     ))
+}
+
+/// Each byte of a buffered reader is an item.
+#[inline(never)]
+pub(crate) fn bytes(alloc: Global, cx: &mut Context<'_>, n: u64) -> Result<u64, Fault> {
+    let noise = noise(alloc, n)?;
+    let mut bytes = buffered(alloc, &noise)?.bytes();
+    let mut sum = 0u64;
+    for _ in 0..n {
+        let Poll::Ready(Some(Ok(byte))) = bytes.poll_next(cx) else {
+            break;
+        };
+        sum = sum.wrapping_add(byte as u64);
+    }
+    Ok(sum)
 }
 
 /// Over a vector that has the bytes already.

@@ -6,10 +6,10 @@ use futures_lite::{Context, Future, Poll, StreamExt, stream};
 use std::alloc::Global;
 
 #[inline(never)]
-pub(crate) fn next(cx: &mut Context<'_>, n: u64) -> u64 {
+pub(crate) fn next(cx: &mut Context<'_>, n: u64, polls: u64) -> u64 {
     let mut numbers = stream::iter(0..n);
     let mut sum = 0u64;
-    for _ in 0..n {
+    for _ in 0..polls {
         let Poll::Ready(Some(x)) = numbers.next().poll(cx) else {
             break;
         };
@@ -21,7 +21,7 @@ pub(crate) fn next(cx: &mut Context<'_>, n: u64) -> u64 {
 #[inline(never)]
 pub(crate) fn count(cx: &mut Context<'_>, n: u64) -> u64 {
     match stream::iter(0..n)
-        .filter(|x: &u64| *x % 3 != 0)
+        .filter(|x: &u64| *x & 3 != 0)
         .count()
         .poll(cx)
     {
@@ -45,7 +45,7 @@ pub(crate) fn fold(cx: &mut Context<'_>, n: u64) -> u64 {
 #[inline(never)]
 pub(crate) fn find(cx: &mut Context<'_>, n: u64) -> u64 {
     match stream::iter(0..n)
-        .find(|x: &u64| *x ^ 0x5555 == u64::MAX)
+        .find(|x: &u64| x.wrapping_mul(*x) ^ (*x >> 3) == u64::MAX)
         .poll(cx)
     {
         Poll::Ready(Some(x)) => x,

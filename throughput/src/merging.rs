@@ -5,45 +5,50 @@ use futures_lite::{Context, StreamExt, future, stream};
 use std::alloc::AllocError;
 
 #[inline(never)]
-pub(crate) fn zip(cx: &mut Context<'_>, n: u64) -> u64 {
+pub(crate) fn zip(cx: &mut Context<'_>, n: u64, polls: u64) -> u64 {
     let mut pairs = stream::iter(0..n).zip(stream::iter(5..n.wrapping_add(5)));
-    fold_pairs(&mut pairs, cx, n)
+    fold_pairs(&mut pairs, cx, polls)
 }
 
 /// The items of the first stream, and then those of the second.
 #[inline(never)]
-pub(crate) fn or(cx: &mut Context<'_>, n: u64) -> u64 {
+pub(crate) fn or(cx: &mut Context<'_>, n: u64, polls: u64) -> u64 {
     let half = n / 2;
-    fold_items(&mut stream::iter(0..half).or(stream::iter(half..n)), cx, n)
+    fold_items(
+        &mut stream::iter(0..half).or(stream::iter(half..n)),
+        cx,
+        polls,
+    )
 }
 
 #[inline(never)]
-pub(crate) fn race_with_seed(cx: &mut Context<'_>, n: u64) -> u64 {
+pub(crate) fn race_with_seed(cx: &mut Context<'_>, n: u64, polls: u64) -> u64 {
     let mut merged = stream::race_with_seed(
         stream::iter(0..n),
         stream::iter(n..n.wrapping_mul(2)),
         7,
     );
-    fold_items(&mut merged, cx, n)
+    fold_items(&mut merged, cx, polls)
 }
 
-/// Rounds of 8 items.
+/// Rounds of 8 items, whose first isn't known to the compiler.
 #[inline(never)]
-pub(crate) fn cycle(cx: &mut Context<'_>, n: u64) -> Result<u64, AllocError> {
-    match stream::iter(0..8u64).cycle() {
-        Ok(mut rounds) => Ok(fold_found(&mut rounds, cx, n)),
+pub(crate) fn cycle(cx: &mut Context<'_>, n: u64, polls: u64) -> Result<u64, AllocError> {
+    let first = n % 8;
+    match stream::iter(first..first + 8).cycle() {
+        Ok(mut rounds) => Ok(fold_found(&mut rounds, cx, polls)),
         Err(_refused) => Err(AllocError),
     }
 }
 
 #[inline(never)]
-pub(crate) fn drain(cx: &mut Context<'_>, n: u64) -> u64 {
+pub(crate) fn drain(cx: &mut Context<'_>, n: u64, polls: u64) -> u64 {
     let mut numbers = stream::iter(0..n);
-    fold_items(&mut numbers.drain(), cx, n)
+    fold_items(&mut numbers.drain(), cx, polls)
 }
 
 #[inline(never)]
-pub(crate) fn stop_after_future(cx: &mut Context<'_>, n: u64) -> u64 {
+pub(crate) fn stop_after_future(cx: &mut Context<'_>, n: u64, polls: u64) -> u64 {
     let mut numbers = stream::stop_after_future(stream::iter(0..n), future::pending::<()>());
-    fold_items(&mut numbers, cx, n)
+    fold_items(&mut numbers, cx, polls)
 }

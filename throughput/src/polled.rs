@@ -1,4 +1,5 @@
-//! Streams that are polled by hand.
+//! Streams that are polled by hand. How often comes from outside the function that makes the stream, so that a compiler can't know that
+//! it is the source's length, and leave out the asking whether that has ended.
 
 use futures_lite::{Context, Poll, Stream};
 use std::alloc::AllocError;

@@ -6,126 +6,145 @@ use futures_lite::{Context, Poll, StreamExt, future, stream};
 use std::alloc::{AllocError, Global};
 
 #[inline(never)]
-pub(crate) fn nest(cx: &mut Context<'_>, n: u64) -> u64 {
+pub(crate) fn nest(cx: &mut Context<'_>, n: u64, polls: u64) -> u64 {
     let mut nest = stream::iter(0..n)
         .map(|x: u64| x.wrapping_mul(3).wrapping_add(1))
         .filter(|x: &u64| *x % 2 == 0)
         .take(n as usize);
-    fold_items(&mut nest, cx, n)
+    fold_items(&mut nest, cx, polls)
+}
+
+/// Eight adapters.
+#[inline(never)]
+pub(crate) fn nest_of_eight(cx: &mut Context<'_>, n: u64, polls: u64) -> u64 {
+    let mut nest = stream::iter(0..n)
+        .map(|x: u64| x.wrapping_mul(3))
+        .inspect(|_x: &u64| {})
+        .filter(|x: &u64| *x & 7 != 0)
+        .enumerate()
+        .map(|(i, x): (usize, u64)| x ^ i as u64)
+        .take_while(|x: &u64| *x != u64::MAX)
+        .skip(3)
+        .take(n as usize);
+    fold_items(&mut nest, cx, polls)
 }
 
 #[inline(never)]
-pub(crate) fn joined(cx: &mut Context<'_>, n: u64) -> u64 {
+pub(crate) fn joined(cx: &mut Context<'_>, n: u64, polls: u64) -> u64 {
     let half = n / 2;
     let mut joined = stream::iter(0..half)
         .chain(stream::iter(half..n))
         .enumerate()
         .skip(3)
         .step_by(2);
-    fold_numbered(&mut joined, cx, n)
+    fold_numbered(&mut joined, cx, polls)
 }
 
 /// Streams of 4 items each.
 #[inline(never)]
-pub(crate) fn flat_map(cx: &mut Context<'_>, n: u64) -> u64 {
+pub(crate) fn flat_map(cx: &mut Context<'_>, n: u64, polls: u64) -> u64 {
     let mut flat = stream::iter(0..n / 4).flat_map(|x: u64| stream::iter(x..x.wrapping_add(4)));
-    fold_items(&mut flat, cx, n)
+    fold_items(&mut flat, cx, polls)
 }
 
 #[inline(never)]
-pub(crate) fn iter(cx: &mut Context<'_>, n: u64) -> u64 {
-    fold_items(&mut stream::iter(0..n), cx, n)
+pub(crate) fn iter(cx: &mut Context<'_>, n: u64, polls: u64) -> u64 {
+    fold_items(&mut stream::iter(0..n), cx, polls)
 }
 
 #[inline(never)]
-pub(crate) fn map(cx: &mut Context<'_>, n: u64) -> u64 {
+pub(crate) fn map(cx: &mut Context<'_>, n: u64, polls: u64) -> u64 {
     fold_items(
         &mut stream::iter(0..n).map(|x: u64| x.wrapping_mul(3)),
         cx,
-        n,
+        polls,
     )
 }
 
 #[inline(never)]
-pub(crate) fn filter(cx: &mut Context<'_>, n: u64) -> u64 {
-    fold_items(&mut stream::iter(0..n).filter(|x: &u64| *x % 3 != 0), cx, n)
+pub(crate) fn filter(cx: &mut Context<'_>, n: u64, polls: u64) -> u64 {
+    fold_items(
+        &mut stream::iter(0..n).filter(|x: &u64| *x & 3 != 0),
+        cx,
+        polls,
+    )
 }
 
 #[inline(never)]
-pub(crate) fn filter_map(cx: &mut Context<'_>, n: u64) -> u64 {
-    let mut kept = stream::iter(0..n).filter_map(|x: u64| if x % 3 != 0 {
+pub(crate) fn filter_map(cx: &mut Context<'_>, n: u64, polls: u64) -> u64 {
+    let mut kept = stream::iter(0..n).filter_map(|x: u64| if x & 3 != 0 {
         Some(x ^ 5)
     } else {
         None
     });
-    fold_items(&mut kept, cx, n)
+    fold_items(&mut kept, cx, polls)
 }
 
 #[inline(never)]
-pub(crate) fn skip(cx: &mut Context<'_>, n: u64) -> u64 {
-    fold_items(&mut stream::iter(0..n).skip(3), cx, n)
+pub(crate) fn skip(cx: &mut Context<'_>, n: u64, polls: u64) -> u64 {
+    fold_items(&mut stream::iter(0..n).skip(3), cx, polls)
 }
 
 #[inline(never)]
-pub(crate) fn step_by(cx: &mut Context<'_>, n: u64) -> u64 {
-    fold_items(&mut stream::iter(0..n).step_by(3), cx, n)
+pub(crate) fn step_by(cx: &mut Context<'_>, n: u64, polls: u64) -> u64 {
+    fold_items(&mut stream::iter(0..n).step_by(3), cx, polls)
 }
 
 #[inline(never)]
-pub(crate) fn chain(cx: &mut Context<'_>, n: u64) -> u64 {
+pub(crate) fn chain(cx: &mut Context<'_>, n: u64, polls: u64) -> u64 {
     let half = n / 2;
     fold_items(
         &mut stream::iter(0..half).chain(stream::iter(half..n)),
         cx,
-        n,
+        polls,
     )
 }
 
 #[inline(never)]
-pub(crate) fn enumerate(cx: &mut Context<'_>, n: u64) -> u64 {
-    fold_numbered(&mut stream::iter(0..n).enumerate(), cx, n)
+pub(crate) fn enumerate(cx: &mut Context<'_>, n: u64, polls: u64) -> u64 {
+    fold_numbered(&mut stream::iter(0..n).enumerate(), cx, polls)
 }
 
 #[inline(never)]
-pub(crate) fn take(cx: &mut Context<'_>, n: u64) -> u64 {
-    fold_items(&mut stream::iter(0..n).take(n as usize), cx, n)
+pub(crate) fn take(cx: &mut Context<'_>, n: u64, polls: u64) -> u64 {
+    fold_items(&mut stream::iter(0..n).take(n as usize), cx, polls)
 }
 
 #[inline(never)]
-pub(crate) fn take_while(cx: &mut Context<'_>, n: u64) -> u64 {
+pub(crate) fn take_while(cx: &mut Context<'_>, n: u64, polls: u64) -> u64 {
     fold_items(
         &mut stream::iter(0..n).take_while(|x: &u64| *x < u64::MAX - 1),
         cx,
-        n,
+        polls,
     )
 }
 
 #[inline(never)]
-pub(crate) fn map_while(cx: &mut Context<'_>, n: u64) -> u64 {
+pub(crate) fn map_while(cx: &mut Context<'_>, n: u64, polls: u64) -> u64 {
     fold_items(
         &mut stream::iter(0..n).map_while(|x: u64| x.checked_add(5)),
         cx,
-        n,
+        polls,
     )
 }
 
 #[inline(never)]
-pub(crate) fn scan(cx: &mut Context<'_>, n: u64) -> u64 {
+pub(crate) fn scan(cx: &mut Context<'_>, n: u64, polls: u64) -> u64 {
     let mut sums = stream::iter(0..n).scan(0u64, |state: &mut u64, x: u64| {
         *state = state.wrapping_add(x);
         Some(*state)
     });
-    fold_items(&mut sums, cx, n)
+    fold_items(&mut sums, cx, polls)
 }
 
 #[inline(never)]
-pub(crate) fn then(cx: &mut Context<'_>, n: u64) -> u64 {
+pub(crate) fn then(cx: &mut Context<'_>, n: u64, polls: u64) -> u64 {
     let mut made = stream::iter(0..n).then(|x: u64| future::ready(x ^ 1));
-    fold_items(&mut made, cx, n)
+    fold_items(&mut made, cx, polls)
 }
 
 #[inline(never)]
-pub(crate) fn unfold(cx: &mut Context<'_>, n: u64) -> u64 {
+pub(crate) fn unfold(cx: &mut Context<'_>, n: u64, polls: u64) -> u64 {
     let mut numbers = stream::unfold(0u64, move |s: u64| {
         future::ready(if s < n {
             Some((s ^ 1, s.wrapping_add(1)))
@@ -133,7 +152,7 @@ pub(crate) fn unfold(cx: &mut Context<'_>, n: u64) -> u64 {
             None
         })
     });
-    fold_items(&mut numbers, cx, n)
+    fold_items(&mut numbers, cx, polls)
 }
 
 /// `n / 1000` scripts of a thousand answers each, made and then polled.
@@ -151,7 +170,7 @@ pub(crate) fn scripts(alloc: Global, cx: &mut Context<'_>, n: u64) -> Result<u64
 
 /// A thousand answers, each eighth of them a pending.
 fn thousand(alloc: Global, seed: u64) -> Result<Vec<Poll<Option<u64>>>, AllocError> {
-    let mut answers = Vec::new(alloc);
+    let mut answers = Vec::with_capacity(alloc, 1000)?;
     for i in 0..1000u64 {
         answers.push(if i % 8 == 7 {
             Poll::Pending

@@ -1,6 +1,8 @@
-//! Lines, pieces and whole texts, and writes that go through a buffer. A line has 16 bytes, its newline included.
+//! Lines, pieces and whole texts, and writes that go through a buffer. A line has 16 bytes, its newline included, where no other
+//! is named.
 
 use crate::bytes::{BLOCK, blocks_len, buffered, noise, write_blocks};
+use crate::ends::Ends;
 use crate::fault::Fault;
 use futures_lite::io::{AsyncBufReadExt, AsyncReadExt, AsyncWriteExt, BufWriter, Cursor};
 use futures_lite::{Context, Future, Poll, Stream, io};
@@ -15,11 +17,70 @@ fn text(alloc: Global, n: u64) -> Result<Vec<u8>, Fault> {
     Ok(bytes)
 }
 
+/// The lines alone, which the other cases make first.
+#[inline(never)]
+pub(crate) fn made_text(alloc: Global, n: u64) -> Result<u64, Fault> {
+    let bytes = text(alloc, n)?;
+    Ok(bytes.len() as u64)
+}
+
+/// A line of so many letters of two bytes each, one letter of one byte, and a newline.
+pub(crate) fn wide_line(alloc: Global, letters: u64) -> Result<Vec<u8>, Fault> {
+    let mut line = Vec::new(alloc);
+    for _ in 0..letters {
+        line.extend_from_slice("\u{e9}".as_bytes())?;
+    }
+    line.extend_from_slice(b"a\n")?;
+    Ok(line)
+}
+
+/// A line of ASCII, of so many letters and a newline.
+pub(crate) fn narrow_line(alloc: Global, letters: u64) -> Result<Vec<u8>, Fault> {
+    let mut line = Vec::new(alloc);
+    for _ in 0..letters {
+        line.extend_from_slice(b"a")?;
+    }
+    line.extend_from_slice(b"\n")?;
+    Ok(line)
+}
+
+/// One line, so many times.
+fn repeated(alloc: Global, line: &[u8], n: u64) -> Result<Vec<u8>, Fault> {
+    let mut bytes = Vec::new(alloc);
+    for _ in 0..n {
+        bytes.extend_from_slice(line)?;
+    }
+    Ok(bytes)
+}
+
+/// One line so many times alone, which the next case makes first.
+#[inline(never)]
+pub(crate) fn made_lines(alloc: Global, line: &[u8], n: u64) -> Result<u64, Fault> {
+    let bytes = repeated(alloc, line, n)?;
+    Ok(bytes.len() as u64)
+}
+
+/// The bytes of all lines, without their newlines, of one line so many times.
+#[inline(never)]
+pub(crate) fn lines_of(
+    alloc: Global,
+    cx: &mut Context<'_>,
+    line: &[u8],
+    n: u64,
+) -> Result<u64, Fault> {
+    let bytes = repeated(alloc, line, n)?;
+    count_lines(alloc, cx, &bytes, n)
+}
+
 /// The bytes of all lines, without their newlines.
 #[inline(never)]
 pub(crate) fn lines(alloc: Global, cx: &mut Context<'_>, n: u64) -> Result<u64, Fault> {
     let bytes = text(alloc, n)?;
-    let mut lines = buffered(alloc, &bytes)?.lines(alloc);
+    count_lines(alloc, cx, &bytes, n)
+}
+
+fn count_lines(alloc: Global, cx: &mut Context<'_>, bytes: &[u8], n: u64) -> Result<u64, Fault> {
+    let mut lines = buffered(alloc, bytes)?.lines(alloc);
     let mut sum = 0u64;
     for _ in 0..n {
         let Poll::Ready(Some(Ok(line))) = lines.poll_next(cx) else {
@@ -91,11 +152,40 @@ pub(crate) fn read_to_end(alloc: Global, cx: &mut Context<'_>, n: u64) -> Result
     }
 }
 
-/// So many bytes to a writer that takes all.
+/// So many bytes of text, all ASCII or none, that are checked to be UTF-8.
+#[inline(never)]
+pub(crate) fn read_to_string(
+    alloc: Global,
+    cx: &mut Context<'_>,
+    letter: &[u8],
+    n: u64,
+) -> Result<u64, Fault> {
+    let bytes = repeated(alloc, letter, n / 16)?;
+    let mut reader = Cursor::new(bytes.as_slice());
+    let mut text = String::new(alloc);
+    match reader.read_to_string(&mut text).poll(cx) {
+        Poll::Ready(Ok(count)) => Ok(count as u64),
+        Poll::Ready(Err(_refused)) => Err(Fault::Memory),
+        Poll::Pending => Ok(0),
+    }
+}
+
+/// So many bytes to a writer that takes all, and reads of each write its first byte and its last.
 #[inline(never)]
 pub(crate) fn copy(alloc: Global, cx: &mut Context<'_>, n: u64) -> Result<u64, Fault> {
     let bytes = noise(alloc, n)?;
-    let Ok(mut copying) = io::copy(alloc, bytes.as_slice(), io::sink()) else {
+    let mut ends = Ends { sum: 0 };
+    let copied = copy_to(alloc, cx, &bytes, &mut ends)?;
+    Ok(copied.wrapping_add(ends.sum))
+}
+
+fn copy_to(
+    alloc: Global,
+    cx: &mut Context<'_>,
+    bytes: &[u8],
+    ends: &mut Ends,
+) -> Result<u64, Fault> {
+    let Ok(mut copying) = io::copy(alloc, bytes, ends) else {
         return Err(Fault::Memory);
     };
     match copying.poll(cx) {

@@ -18,6 +18,22 @@ pub(crate) fn zip(cx: &mut Context<'_>, n: u64) -> u64 {
     sum
 }
 
+/// Eight values by seven futures, one in another.
+#[inline(never)]
+pub(crate) fn zip_of_eight(cx: &mut Context<'_>, n: u64) -> u64 {
+    let mut sum = 0u64;
+    for i in 0..n {
+        let two = future::zip(future::ready(i), future::ready(sum));
+        let four = future::zip(future::zip(two, future::ready(1u64)), future::ready(2u64));
+        let six = future::zip(future::zip(four, future::ready(3u64)), future::ready(4u64));
+        let mut all = future::zip(future::zip(six, future::ready(5u64)), future::ready(6u64));
+        if let Poll::Ready((((((((a, b), c), d), e), f), g), h)) = all.poll(cx) {
+            sum = sum.wrapping_add(a ^ (b >> 7) ^ c ^ d ^ e ^ f ^ g ^ h);
+        }
+    }
+    sum
+}
+
 #[inline(never)]
 pub(crate) fn or(cx: &mut Context<'_>, n: u64) -> u64 {
     let mut sum = 0u64;

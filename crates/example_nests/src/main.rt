@@ -12,7 +12,7 @@ use futures_lite::stream::iter_vec;
 use gather::{
     NotDigits, all_doubled, digits, evens_doubled, flattened, joined, numbered, pairs, parted, sums,
 };
-use std::io;
+use std::io::{self, ErrorKind};
 use sum::{counted, total};
 use text::{all, front_lines, lines, packed};
 
@@ -36,17 +36,15 @@ fn main(rt: HostRuntime) -> io::Result<()> {
     match digits(&rt, numbers) {
         Ok(all) => println!(rt; "{all:?}")?,
         Err(NotDigits::Item(x)) => println!(rt; "{x} is no digit")?,
-        Err(NotDigits::Memory) => println!(rt; "out of memory")?,
+        Err(NotDigits::Memory) => return Err(ErrorKind::OutOfMemory.into()),
     }
     println!(rt; "{:?}", lines(&rt, b"one\ntwo\r\nthree")?)?;
     let second = b"wo\nthree".to_vec(rt.alloc())?;
     println!(rt; "{:?}", front_lines(&rt, b"one\nt", second, 7)?)?;
     let mut read = Vec::new(rt.alloc());
-    if let Ok(n) = all(&rt, b"abc", &mut read)? {
-        println!(rt; "{n} {read:?}")?;
-    }
-    if let Ok(bytes) = packed(&rt, b"ab")? {
-        println!(rt; "{bytes:?}")?;
-    }
+    let n = all(&rt, b"abc", &mut read)??;
+    println!(rt; "{n} {read:?}")?;
+    let bytes = packed(&rt, b"ab")??;
+    println!(rt; "{bytes:?}")?;
     Ok(())
 }

@@ -3,5 +3,4 @@ pub mod Counter
 pub mod Dots
 pub mod Table
 pub mod Tally
-pub mod Task
 pub mod Upper

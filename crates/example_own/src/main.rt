@@ -11,8 +11,6 @@ mod readers_here;
 mod streams_here;
 mod table;
 mod tally;
-mod task;
-mod tasks_here;
 mod ticks;
 mod upper;
 
@@ -20,7 +18,6 @@ use std::io;
 
 fn main(rt: HostRuntime) -> io::Result<()> {
     futures_here::show(&rt)?;
-    tasks_here::show(&rt)?;
     streams_here::show(&rt)?;
     readers_here::show(&rt)
 }

@@ -21,3 +21,6 @@ pub use Rattle.lite_theorems.specs.Laws.Collected
 pub use Rattle.lite_theorems.specs.Laws.Or
 pub use Rattle.lite_theorems.specs.Laws.Race
 pub use Rattle.lite_theorems.specs.Laws.Rows
+-- that calls which are waited for follow one another: `told_follow`, `front_follows`
+pub use Rattle.lite_theorems.specs.Laws.Taken
+pub use Rattle.lite_theorems.specs.Laws.Told

@@ -14,6 +14,8 @@ pub use Rattle.lite_buffered.specs.Repeat
 pub use Rattle.lite_buffered.specs.Take
 pub use Rattle.lite_bridge.specs.Cursor
 pub use Rattle.lite_theorems.specs.BothReaders.{BothRead, HasReadMemory, ReadsUp}
+-- what one was told while a call was waited for
+pub use Rattle.lite_theorems.specs.Told.{EndsAtFirst, FillsUp, PieceTold, EndsShort, ToldFewer, ToldStripped, Without}
 pub use Rattle.lite_read.specs.Appending
 pub use Rattle.lite_read.specs.Bytes
 pub use Rattle.lite_read.specs.Filling

@@ -20,7 +20,7 @@ use std::random::RandomSource;
 use std::sync::Wait;
 
 /// A future that is ready with `value` at the first poll. Ported from `core::future::ready`.
-#[tactic(auto, using(lite_views::specs::Laws::Holding::ready_value))]
+#[tactic(auto, using(lite_views::proofs::Holding::ready_value))]
 pub fn ready<T>(value: T) -> Ready<T>
     ensures parts { result ≡ record { value = Some value } }
     ensures value { HasValue ⟦<Ready<T> as Future>⟧.run result value }

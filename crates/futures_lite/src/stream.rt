@@ -131,7 +131,7 @@ pub fn repeat<T: Clone>(item: T) -> Repeat<T>
 /// hint is (0, None).
 ///
 /// The original has no such call.
-#[tactic(auto, using(lite_views::specs::Laws::SourceLists::script_lists, lite_views::specs::Laws::SourceLists::script_fronts))]
+#[tactic(auto, using(lite_views::proofs::SourceLists::script_lists, lite_views::proofs::SourceLists::script_fronts))]
 pub fn script<T>(answers: Vec<Poll<Option<T>>>) -> Script<T>
     ensures made { result ≡ answers.items }
     ensures lists { ListsAs ⟦<Script<T> as Stream>⟧.run result (items_in (until_end answers.items)) }
@@ -243,7 +243,7 @@ pub trait StreamExt: Stream {
 
     /// The stream of the first `n` items, which ends for ever after the last of them, or after the first end, and
     /// then never polls this stream; with 0 it never does. The hint says nothing.
-    #[tactic(auto, using(lite_views::specs::Laws::Adapting::taken_lists, lite_views::specs::Laws::Adapting::repeated_lists))]
+    #[tactic(auto, using(lite_views::proofs::Adapting::taken_lists, lite_views::proofs::Adapting::repeated_lists))]
     final fn take(self, n: usize) -> Take<Self>
     where
         Self: Sized,
@@ -282,7 +282,7 @@ pub trait StreamExt: Stream {
     }
 
     /// The stream of the items without the first `n`. A poll goes on over those. The hint says nothing.
-    #[tactic(auto, using(lite_views::specs::Laws::Adapting::skipped_lists))]
+    #[tactic(auto, using(lite_views::proofs::Adapting::skipped_lists))]
     final fn skip(self, n: usize) -> Skip<Self>
     where
         Self: Sized,
@@ -307,7 +307,7 @@ pub trait StreamExt: Stream {
 
     /// The stream of the items whose numbers, counted from 0, are multiples of `step`, which is above 0. A poll goes
     /// on over the items between. The hint says nothing.
-    #[tactic(auto, using(lite_views::specs::Laws::Adapting::stepped_lists, lite_views::specs::Laws::Adapting::step_fewer))]
+    #[tactic(auto, using(lite_views::proofs::Adapting::stepped_lists, lite_views::proofs::Adapting::step_fewer))]
     final fn step_by(self, step: usize) -> StepBy<Self>
     where
         Self: Sized,
@@ -321,7 +321,7 @@ pub trait StreamExt: Stream {
 
     /// The stream of the items, and after its end those of `other`, which is asked in the poll that met this end.
     /// Neither is polled after its end. The hint says nothing.
-    #[tactic(auto, using(lite_views::specs::Laws::Adapting::joined_lists))]
+    #[tactic(auto, using(lite_views::proofs::Adapting::joined_lists))]
     final fn chain<U>(self, other: U) -> Chain<Self, U>
     where
         Self: Sized,
@@ -336,7 +336,7 @@ pub trait StreamExt: Stream {
     /// The stream of the pairs of the items and those of `other`. An item is held while `other` is pending, and this
     /// stream is not polled meanwhile; where `other` ends it is let go, and an end goes out. A pending and an end of
     /// this stream go out too. It is not fused: polled after an end it goes on. The hint says nothing.
-    #[tactic(auto, using(lite_views::specs::Laws::Adapting::paired_lists))]
+    #[tactic(auto, using(lite_views::proofs::Adapting::paired_lists))]
     final fn zip<U>(self, other: U) -> Zip<Self, U>
     where
         Self: Sized,
@@ -408,7 +408,7 @@ pub trait StreamExt: Stream {
     /// The stream of the same answers that is pending once more after `items` items in a row, which is above 0: it wakes
     /// its context then, and the next poll goes on. So whoever polls it can turn to another task, and its rank counts,
     /// whatever this stream is. The hint is this stream's. The original has no such call.
-    #[tactic(auto, using(lite_views::specs::Laws::Adapting::paced_lists))]
+    #[tactic(auto, using(lite_views::proofs::Adapting::paced_lists))]
     final fn with_budget(self, items: usize) -> Budgeted<Self>
     where
         Self: Sized,
@@ -434,7 +434,7 @@ pub trait StreamExt: Stream {
     }
 
     /// The stream of copies of what the items refer to. The hint says nothing.
-    #[tactic(auto, using(lite_views::specs::Laws::Adapting::copied_lists))]
+    #[tactic(auto, using(lite_views::proofs::Adapting::copied_lists))]
     final fn copied<'a, T: 'a>(self) -> Copied<Self>
     where
         Self: Stream<Item = &'a T> + Sized,
@@ -463,7 +463,7 @@ pub trait StreamExt: Stream {
     }
 
     /// The stream until its first end, and then an end for ever; it is not polled again then. The hint says nothing.
-    #[tactic(auto, using(lite_views::specs::Laws::Adapting::fused_lists))]
+    #[tactic(auto, using(lite_views::proofs::Adapting::fused_lists))]
     final fn fuse(self) -> Fuse<Self>
     where
         Self: Sized,
@@ -475,7 +475,7 @@ pub trait StreamExt: Stream {
 
     /// The stream of the items, each paired with its number, from 0 on, across pendings and ends. After `usize::MAX`
     /// comes 0. The hint says nothing.
-    #[tactic(auto, using(lite_views::specs::Laws::Adapting::enumerated_lists))]
+    #[tactic(auto, using(lite_views::proofs::Adapting::enumerated_lists))]
     final fn enumerate(self) -> Enumerate<Self>
     where
         Self: Sized,
@@ -498,7 +498,7 @@ pub trait StreamExt: Stream {
     }
 
     /// The future of the next item, and `None` where the stream ends. It takes any stream, and polls it once a poll.
-    #[tactic(auto, using(lite_views::specs::Laws::Consuming::next_value))]
+    #[tactic(auto, using(lite_views::proofs::Consuming::next_value))]
     final fn next<'a>(&'a mut self) -> NextFuture<'a, Self>
     where
         Self: Sized,
@@ -511,7 +511,7 @@ pub trait StreamExt: Stream {
 
     /// The future of what the next item holds, or its error, and `Ok(None)` where the stream ends. It takes any stream of
     /// Results, and polls it once a poll.
-    #[tactic(auto, using(lite_views::specs::Laws::Consuming::try_next_value))]
+    #[tactic(auto, using(lite_views::proofs::Consuming::try_next_value))]
     final fn try_next<'a, T, E>(&'a mut self) -> TryNextFuture<'a, Self>
     where
         Self: Stream<Item = Result<T, E>> + Sized,
@@ -523,7 +523,7 @@ pub trait StreamExt: Stream {
     }
 
     /// The future of how many items there are before the end. After `usize::MAX` comes 0.
-    #[tactic(auto, using(lite_views::specs::Laws::Consuming::counted_value))]
+    #[tactic(auto, using(lite_views::proofs::Consuming::counted_value))]
     final fn count(self) -> CountFuture<Self>
     where
         Self: Counted + Sized,
@@ -562,7 +562,7 @@ pub trait StreamExt: Stream {
 
     /// The future of the item with the number `n`, counted from 0, and `None` where the stream ends before it. It takes any
     /// stream.
-    #[tactic(auto, using(lite_views::specs::Laws::Consuming::nth_value))]
+    #[tactic(auto, using(lite_views::proofs::Consuming::nth_value))]
     final fn nth(&mut self, n: usize) -> NthFuture<'_, Self>
     where
         Self: Sized,
@@ -573,7 +573,7 @@ pub trait StreamExt: Stream {
     }
 
     /// The future of the last item before the end, and `None` where there is none.
-    #[tactic(auto, using(lite_views::specs::Laws::Consuming::last_value))]
+    #[tactic(auto, using(lite_views::proofs::Consuming::last_value))]
     final fn last(self) -> LastFuture<Self>
     where
         Self: Counted + Sized,

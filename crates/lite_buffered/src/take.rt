@@ -141,10 +141,16 @@ impl<R: AsyncBufRead> Take<R> {
     fn show(&self) -> &[u8]
         ensures { result.now ≡ take (limit_of self.now) (R.lent (take_inner self.now)) }
     {
-        let all = self.inner.buffer();
-        let most = self.limit.min(all.len() as u64) as usize;
-        &all[..most]
+        first_bytes(self.inner.buffer(), self.limit)
     }
+}
+
+/// At most so many of some bytes, from the first on.
+fn first_bytes(all: &[u8], limit: u64) -> &[u8]
+    ensures { result.now ≡ take limit all.now }
+{
+    let most = limit.min(all.len() as u64) as usize;
+    &all[..most]
 }
 
 impl<R: AsyncBufRead> AsyncBufRead for Take<R> {
@@ -156,11 +162,13 @@ impl<R: AsyncBufRead> AsyncBufRead for Take<R> {
     ghost shows = { takes_show R.lent R.shows };
 
     fn poll_fill_buf(&mut self, cx: &mut Context<'_>) -> Poll<io::Result<&[u8]>> {
-        if self.limit == 0 {
+        // What is compared is what cuts, so that it is known below that it is not 0.
+        let limit = self.limit;
+        if limit == 0 {
             return Poll::Ready(Ok(&[]));
         }
         match ready!(fill(&mut self.inner, cx)) {
-            Ok(()) => Poll::Ready(Ok(self.show())),
+            Ok(()) => Poll::Ready(Ok(first_bytes(self.inner.buffer(), limit))),
             Err(e) => Poll::Ready(Err(e)),
         }
     }

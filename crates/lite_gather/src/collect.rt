@@ -7,6 +7,7 @@ use crate::gather::Gather;
 use crate::refused::Refused;
 use lite_base::Counted;
 use lite_consume::{Consume, Folder};
+use std::mem;
 
 /// The collection of the items of a stream.
 ///
@@ -31,17 +32,16 @@ impl<S: Counted, C: Gather<S::Item>> Folder<S> for Collect<C> {
     ghost counts = { S.ranks.counts };
 
     fn take_in(&mut self, item: S::Item) -> Option<Result<C, Refused<C, S::Item>>> {
-        let taken = match &mut self.collection {
-            Some(collection) => collection.take_in(item),
-            None => unreachable!(),
+        // It is taken out meanwhile, since one that grows lends its address, and with it that of the whole future.
+        let Some(mut collected) = self.collection.take() else {
+            unreachable!()
         };
-        let item = match taken {
-            Ok(()) => return None,
-            Err(item) => item,
-        };
-        match self.collection.take() {
-            Some(collected) => Some(Err(Refused { collected, item })),
-            None => unreachable!(),
+        match collected.take_in(item) {
+            Ok(()) => match mem::replace(&mut self.collection, Some(collected)) {
+                None => None,
+                Some(_collection) => unreachable!(),
+            },
+            Err(item) => Some(Err(Refused { collected, item })),
         }
     }
 

@@ -7,6 +7,7 @@ use crate::gather::Gather;
 use crate::refused::{Refused, TryCollectError};
 use lite_base::OkCounted;
 use lite_consume::{Consume, Folder};
+use std::mem;
 
 /// The collection of what the items of a stream hold, up to the first error.
 ///
@@ -38,20 +39,19 @@ impl<S: OkCounted, C: Gather<S::Ok>> Folder<S> for TryCollect<C> {
             Ok(value) => value,
             Err(error) => return Some(Err(TryCollectError::Source(error))),
         };
-        let taken = match &mut self.items {
-            Some(items) => items.take_in(value),
-            None => unreachable!(),
+        // It is taken out meanwhile, as that of `collect`.
+        let Some(mut collected) = self.items.take() else {
+            unreachable!()
         };
-        let item = match taken {
-            Ok(()) => return None,
-            Err(item) => item,
-        };
-        match self.items.take() {
-            Some(collected) => {
+        match collected.take_in(value) {
+            Ok(()) => match mem::replace(&mut self.items, Some(collected)) {
+                None => None,
+                Some(_items) => unreachable!(),
+            },
+            Err(item) => {
                 let refused = Refused { collected, item };
                 Some(Err(TryCollectError::Memory(refused)))
             }
-            None => unreachable!(),
         }
     }
 

@@ -1,11 +1,12 @@
+mod Items
+mod ReadLine
+mod Strings
+mod TextSteps
+mod Until
+pub mod Ample
 pub mod Appending
 pub mod Cutting
 pub mod Filling
 pub mod FirstLine
-mod Items
 pub mod Lanes
-mod ReadLine
-mod Strings
-mod TextSteps
 pub mod Texts
-mod Until

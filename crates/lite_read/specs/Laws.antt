@@ -1,4 +1,3 @@
-pub mod Ample
 pub mod Bytes
 pub mod CalmRead
 pub mod Counting

@@ -8,7 +8,6 @@ pub mod Expanding
 pub mod FlatMap
 pub mod Flatten
 pub mod Leaving
-pub mod PollSteps
 pub mod Replacing
 pub mod SteadyChain
 pub mod SteadyExpanding

@@ -1,3 +1,5 @@
+pub mod BothReaders
+pub mod BothWriters
 pub mod Collecting
 pub mod Limits
 pub mod Telling

@@ -1,5 +1,3 @@
-pub mod BothReaders
-pub mod BothWriters
 pub mod Chained
 pub mod Collected
 pub mod Or
@@ -10,4 +8,6 @@ pub mod Handing
 pub mod Readers
 pub mod Reading
 pub mod Streams
+pub mod Taken
+pub mod Told
 pub mod Writers

@@ -10,4 +10,5 @@ pub mod Lines
 pub mod Readers
 pub mod Reading
 pub mod Streams
+pub mod Told
 pub mod Writers

@@ -2,9 +2,9 @@ ghost use Rattle.std.specs.Prelude.{◌≡◌, [], List, IfOk};
 ghost use Rattle.lite_io_base.specs.Takings.{WriteMark, bytes_taken};
 ghost use Rattle.lite_theorems.specs.BothWriters.{BothWritten, FlushedUp, HandedUp, TakesFront, WrittenUp};
 
+use crate::waits::{wait_flush, wait_write_all};
 use lite_base::future::block_on::BlockOn;
 use lite_io_base::{AsyncWrite, SteadyWrite};
-use lite_write::make::{flush, write_all};
 use std::alloc::{AllocError, AllocGlobal};
 use std::io;
 use std::random::RandomSource;
@@ -14,7 +14,7 @@ use std::sync::Wait;
 /// after the other. Where both values are `Ok`, the same bytes are below the two, wherever each was pending and however the
 /// bytes were cut up on the way, and the writers are alike again.
 ///
-/// A value is that of [`write_all`], and where that is `Ok` the one of the flush. Where it is an error, a front of the bytes
+/// A value is that of [`write_all`](lite_write::make::write_all), and where that is `Ok` the one of the flush. Where it is an error, a front of the bytes
 /// was taken, and nothing is said of what is below. It may wait for ever. `Err` says that there was no memory for what the
 /// thread sleeps on: then each took a front of the bytes, or none. The original has no such call.
 pub fn write_both<R, T>(
@@ -47,33 +47,8 @@ fn write_up<R: Wait, T: AsyncWrite>(
     ensures { (took : List WriteMark) × TakesFront T.writes writer.old bytes.now took writer.new
         × IfOk result (λ v. WrittenUp bytes.now took v) }
 {
-    match hand_up(on, rt, writer, bytes)? {
-        Ok(()) => flush_up(on, rt, writer),
+    match wait_write_all(on, rt, writer, bytes)? {
+        Ok(()) => wait_flush(on, rt, writer),
         Err(e) => Ok(Err(e)),
     }
-}
-
-// Waits until the writer took all of the bytes, or failed.
-fn hand_up<R: Wait, T: AsyncWrite>(
-    on: &mut BlockOn,
-    rt: &R,
-    writer: &mut T,
-    bytes: &[u8],
-) -> Result<io::Result<()>, AllocError>
-    ensures { (took : List WriteMark) × TakesFront T.writes writer.old bytes.now took writer.new
-        × IfOk result (λ v. HandedUp bytes.now took v) }
-{
-    on.wait_for(rt, &mut write_all(writer, bytes))
-}
-
-// Waits until the writer was flushed, or failed.
-fn flush_up<R: Wait, T: AsyncWrite>(
-    on: &mut BlockOn,
-    rt: &R,
-    writer: &mut T,
-) -> Result<io::Result<()>, AllocError>
-    ensures { (took : List WriteMark) × T.writes writer.old took writer.new × (bytes_taken took ≡ [])
-        × IfOk result (λ v. FlushedUp took v) }
-{
-    on.wait_for(rt, &mut flush(writer))
 }

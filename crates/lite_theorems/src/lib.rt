@@ -8,6 +8,7 @@ mod chained;
 mod lines;
 mod or;
 mod race;
+mod waits;
 
 pub use both_readers::read_both;
 pub use both_writers::write_both;
@@ -15,3 +16,4 @@ pub use chained::{copy_buffered, copy_chain};
 pub use lines::{CollectLinesFuture, collect_buffered_lines, collect_lines};
 pub use or::collect_or;
 pub use race::collect_race;
+pub use waits::{wait_flush, wait_read, wait_read_exact, wait_read_until, wait_write_all};

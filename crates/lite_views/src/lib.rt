@@ -1,2 +1,2 @@
-//! What comes out of nests, by plain lists: of items, of values and of bytes. Words and lemmas, in `specs/`, and no code.
+//! What comes out of nests, by plain lists: of items, of values and of bytes. Words and lemmas, in `specs/` and `proofs/`, and no code.
 #![tactic(auto)]

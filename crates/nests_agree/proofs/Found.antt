@@ -16,7 +16,7 @@ use Rattle.lite_gather.specs.declared.refused.TryCollectError.TheVariants.{Sourc
 use Rattle.lite_io_base.specs.Marks.{ReadMark}
 use Rattle.lite_io_base.specs.Steady.{AllAmple}
 use Rattle.lite_laws.specs.Both.{OneValue}
-use Rattle.lite_read.specs.Laws.Ample.{lines_ample}
+use Rattle.lite_read.proofs.Ample.{lines_ample}
 use Rattle.lite_read.specs.Lines.{GivesLines}
 use Rattle.lite_read.specs.NoneRefused.{NoneRefused, NotRefused}
 use Rattle.lite_read.specs.declared.lines.Lines.{Lines}

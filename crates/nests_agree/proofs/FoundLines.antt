@@ -17,8 +17,8 @@ use Rattle.lite_consume.specs.Laws.Agreeing.{finished_ample, part_within, within
 use Rattle.lite_consume.specs.Laws.Consuming.{consumes_by}
 use Rattle.lite_consume.specs.declared.consume.Consume.{Consume}
 use Rattle.lite_gather.specs.Collect.{collects}
-use Rattle.lite_gather.specs.Laws.Ample.{FitsGathered, FitsTried, collect_each, collect_within, try_collect_each}
-use Rattle.lite_gather.specs.Laws.Ample.{try_collect_within}
+use Rattle.lite_gather.proofs.Ample.{FitsGathered, FitsTried, collect_each, collect_within, try_collect_each}
+use Rattle.lite_gather.proofs.Ample.{try_collect_within}
 use Rattle.lite_gather.specs.TryCollect.{tries_collect}
 use Rattle.lite_gather.specs.TryCollect as try_values
 use Rattle.lite_gather.specs.declared.collect.Collect.{Collect}

@@ -1,3 +1,4 @@
 mod block;
 mod consume;
+mod examples;
 mod gather;

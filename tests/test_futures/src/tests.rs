@@ -1,6 +1,7 @@
 mod bell;
 mod counting;
 mod future;
+mod pendings;
 mod refusing;
 mod sleeping;
 mod waiting;

@@ -9,6 +9,7 @@ mod polls;
 mod read_to_end;
 mod readers;
 mod told;
+mod waits;
 
 use futures_lite::io::CountedRead;
 

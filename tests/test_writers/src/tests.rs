@@ -5,5 +5,6 @@ mod bridge;
 mod budget;
 mod buf_writer;
 mod copy;
+mod examples;
 mod marks;
 mod vectors;

@@ -32,20 +32,20 @@ module _ {M A R : Type 0} (fold : Fold M A R) where
       → ConsumesStripped p (strip i) (strip l)
   stripped p q i l =
       consumes_steps fold (λ p i l. ConsumesStripped p (strip i) (strip l)) (λ p m x i b l t h. inl (m, t, h))
-      (λ p i l h. h) q (λ p o r d. decided p q o r d) p i l refl
+      (λ p i l h. h) q (λ p. decided p q) p i l refl
 
 -- items that come in are compared by `like`
 module _ {M A R : Type 0} (like : Sameness A) {fold ample : Fold M A R} {none : Type 0} {agree : M → M → Type 0}
     {same : R → R → Type 0} (f : FoldSteadyLaws (SameItem like) fold ample none agree same) where
-  asked_same : (p k : M) (x w : A) (i j : List (Option A)) (o u : List R) → agree p k → SameItem like x w
-      → ((q l : M) → agree q l → ConsumesStripped ample q i o → ConsumesStripped ample l j u → ComparableBy same o u)
-      → ConsumesStripped ample p (Some x ∷ i) o → ConsumesStripped ample k (Some w ∷ j) u → ComparableBy same o u
-  asked_same p k x w i j o u a e rest (inl h) (inl g) =
-      rest h.0 g.0 (f.asks p k h.0 g.0 x w None None a e h.1 g.1) h.2 g.2
-  asked_same p k x w i j o u a e rest (inl h) (inr g) = absurd (f.asks p k h.0 g.1 x w None (Some g.0) a e h.1 g.2)
-  asked_same p k x w i j o u a e rest (inr h) (inl g) = absurd (f.asks p k h.1 g.0 x w (Some h.0) None a e h.2 g.1)
-  asked_same p k x w i j o u a e rest (inr h) (inr g) =
-      rw (h.3, g.3) (f.asks p k h.1 g.1 x w (Some h.0) (Some g.0) a e h.2 g.2, tt)
+  module _ (p k : M) (x w : A) (i j : List (Option A)) (o u : List R) (a : agree p k) (e : SameItem like x w)
+      (rest : (q l : M) → agree q l → ConsumesStripped ample q i o → ConsumesStripped ample l j u
+      → ComparableBy same o u) where
+    asked_same : ConsumesStripped ample p (Some x ∷ i) o → ConsumesStripped ample k (Some w ∷ j) u
+        → ComparableBy same o u
+    asked_same (inl h) (inl g) = rest h.0 g.0 (f.asks p k h.0 g.0 x w None None a e h.1 g.1) h.2 g.2
+    asked_same (inl h) (inr g) = absurd (f.asks p k h.0 g.1 x w None (Some g.0) a e h.1 g.2)
+    asked_same (inr h) (inl g) = absurd (f.asks p k h.1 g.0 x w (Some h.0) None a e h.2 g.1)
+    asked_same (inr h) (inr g) = rw (h.3, g.3) (f.asks p k h.1 g.1 x w (Some h.0) (Some g.0) a e h.2 g.2, tt)
 
   made_same : (p k : M) (i j : List (Option A)) (o u : List R) → agree p k → ComparableBy (SameAnswer like) i j
       → ConsumesStripped ample p i o → ConsumesStripped ample k j u → ComparableBy same o u
@@ -55,7 +55,7 @@ module _ {M A R : Type 0} (like : Sameness A) {fold ample : Fold M A R} {none : 
   made_same p k (None ∷ i) (Some y ∷ j) o u a c h g = absurd (both_items like None (Some y) c.0)
   made_same p k (Some x ∷ i) (None ∷ j) o u a c h g = absurd (both_items like (Some x) None c.0)
   made_same p k (Some x ∷ i) (Some y ∷ j) o u a c h g =
-      asked_same p k x y i j o u a (item_same like x y c.0) (λ q l b h' g'. made_same q l i j o u b c.1 h' g') h g
+      asked_same p k x y i j o u a (item_same like x y c.0) (λ q l b. made_same q l i j o u b c.1) h g
 
 -- one value is given
 gives_one : {A : Type 0} (l : List (Poll A)) (v w : A) → Gives l v → Gives l w → v ≡ w
@@ -93,44 +93,46 @@ module _ {S M A R : Type 0} {run found : Runs (Answer A) S} {fold ample : Fold M
       }
 
 -- where no poll of the stream asks for any
-pub finished_taking_none : {S M A R : Type 0} {run found : Runs (Answer A) S} {fold ample : Fold M A R}
-    {may : R → Type 0} → TakesNone run found → WithinWhere may fold ample
-    → (x : Consume S M) (l : List (Poll R)) (value : R) → may value → Finishes (Folds run fold) x l value
-    → Finishes (Folds found ample) x l value
-finished_taking_none takes within x l value m =
-    finished_ample (λ i. ⊤) (λ s t i u. takes s t i) within x l value m (λ q i h. tt)
+module _ {S M A R : Type 0} {run found : Runs (Answer A) S} {fold ample : Fold M A R} where
+  pub finished_taking_none : {may : R → Type 0} → TakesNone run found → WithinWhere may fold ample → (x : Consume S M)
+      (l : List (Poll R)) (value : R) → may value → Finishes (Folds run fold) x l value
+      → Finishes (Folds found ample) x l value
+  finished_taking_none takes within x l value m =
+      finished_ample (λ i. ⊤) (λ s t i u. takes s t i) within x l value m (λ q i h. tt)
 
--- over a steady stream, a fold whose values agree
-pub consumed_steady : {S M A R : Type 0} {run found : Runs (Answer A) S} {fold ample : Fold M A R} {none none' : Type 0}
-    {alike : S → S → Type 0} {agree : M → M → Type 0} (like : Sameness A) (same : Sameness R)
-    → SteadyLawsBy like run found none alike → FoldSteadyLaws (SameItem like) fold ample none' agree (SameItem same)
-    → FutureSteadyLawsBy same (Folds run fold) (Folds found ample) (none × none')
-    (λ (x y : Consume S M). alike x.stream y.stream × agree x.folder y.folder)
-consumed_steady {ample = ample} like same s f =
-    record {
-      laws = consumed_laws ample s.laws;
-      steady = λ x y e l m x' y' h k.
-          made_same like f x.folder y.folder (strip h.ins) (strip k.ins) (strip l) (strip m) e.1
-          (s.steady x.stream y.stream e.0 h.ins k.ins x'.stream y'.stream h.came k.came)
-          (stripped ample x.folder x'.folder h.ins l h.consumed) (stripped ample y.folder y'.folder k.ins m k.consumed);
-      found = λ n x y l h. consumed_ample (λ i. ⊤) (λ v w i u. s.found n.0 v w i) (f.found n.1) x y l (λ r g. tt)
-          (λ i c. tt) h;
-    }
+  -- over a steady stream, a fold whose values agree
+  pub consumed_steady : {none none' : Type 0} {alike : S → S → Type 0} {agree : M → M → Type 0} (like : Sameness A)
+      (same : Sameness R) → SteadyLawsBy like run found none alike
+      → FoldSteadyLaws (SameItem like) fold ample none' agree (SameItem same)
+      → FutureSteadyLawsBy same (Folds run fold) (Folds found ample)
+      (none × none') (λ (x y : Consume S M). alike x.stream y.stream × agree x.folder y.folder)
+  consumed_steady like same s f =
+      record {
+        laws = consumed_laws ample s.laws;
+        steady = λ x y e l m x' y' h k.
+            made_same like f x.folder y.folder (strip h.ins) (strip k.ins) (strip l) (strip m) e.1
+            (s.steady x.stream y.stream e.0 h.ins k.ins x'.stream y'.stream h.came k.came)
+            (stripped ample x.folder x'.folder h.ins l h.consumed)
+            (stripped ample y.folder y'.folder k.ins m k.consumed);
+        found = λ n x y l h.
+            consumed_ample (λ i. ⊤) (λ v w i u. s.found n.0 v w i) (f.found n.1) x y l (λ r g. tt) (λ i c. tt) h;
+      }
 
 -- a fold of a part
-pub part_within : {N M A R : Type 0} (part : N → M) {may : R → Type 0} {fold ample : Fold M A R}
-    → WithinWhere may fold ample → WithinWhere may (fold_of part fold) (fold_of part ample)
-part_within part w = record { asks = λ p q. w.asks (part p) (part q); closes = λ p q. w.closes (part p) (part q) }
+module _ {N M A R : Type 0} (part : N → M) where
+  pub part_within : {may : R → Type 0} {fold ample : Fold M A R} → WithinWhere may fold ample
+      → WithinWhere may (fold_of part fold) (fold_of part ample)
+  part_within w = record { asks = λ p q. w.asks (part p) (part q); closes = λ p q. w.closes (part p) (part q) }
 
-pub part_steady : {N M A R : Type 0} (part : N → M) {fold ample : Fold M A R} {none : Type 0} {agree : M → M → Type 0}
-    {like : A → A → Type 0} {same : R → R → Type 0} → FoldSteadyLaws like fold ample none agree same
-    → FoldSteadyLaws like (fold_of part fold) (fold_of part ample) none (λ x y. agree (part x) (part y)) same
-part_steady part f =
-    record {
-      asks = λ p k q l. f.asks (part p) (part k) (part q) (part l);
-      closes = λ p k q l. f.closes (part p) (part k) (part q) (part l);
-      found = λ n. part_within part (f.found n);
-    }
+  pub part_steady : {fold ample : Fold M A R} {none : Type 0} {agree : M → M → Type 0} {like : A → A → Type 0}
+      {same : R → R → Type 0} → FoldSteadyLaws like fold ample none agree same
+      → FoldSteadyLaws like (fold_of part fold) (fold_of part ample) none (λ x y. agree (part x) (part y)) same
+  part_steady f =
+      record {
+        asks = λ p k q l. f.asks (part p) (part k) (part q) (part l);
+        closes = λ p k q l. f.closes (part p) (part k) (part q) (part l);
+        found = λ n. part_within (f.found n);
+      }
 
 -- each step of a fold is one of its own
 pub within_itself : {M A R : Type 0} (fold : Fold M A R) → ⊤ → Within fold fold

@@ -1,5 +1,5 @@
 -- Laws of what is made of a stream's items.
-use Rattle.std.proofs.Common.{◌≡◌, Option, Some, None, List, [], ◌∷◌, ◌++◌, refl, subst, sym}
+use Rattle.std.proofs.Common.{◌≡◌, Option, Some, None, List, [], ◌∷◌, ◌++◌, refl}
 use Rattle.std.specs.List.{AllByRecursion}
 use Rattle.futures.specs.declared.task.Poll.{Poll}
 use Rattle.futures.specs.declared.task.Poll.TheVariants.{Ready, Pending}
@@ -29,20 +29,15 @@ module _ {M A R : Type 0} (fold : Fold M A R) (P : M → List (Answer A) → Lis
 
   one_given : (p m : M) (a : Answer A) (i : List (Answer A)) (b : Poll R) (l : List (Poll R)) → Decides fold p a b m
       → Holds m i l → Holds p (a ∷ i) (b ∷ l)
-  one_given p m Pending i Pending l d h =
-      (λ e. absurd (cc e), λ u. waits p i l (subst (λ z. P z i l) d (h.1 u)))
-  one_given p m Pending i (Ready r) l d h = absurd d
-  one_given p m (Ready o) i Pending l d h = absurd d
-  one_given p m (Ready o) i (Ready r) l d h = (
-    λ e. absurd (cc e),
-    λ u. let none = h.0 u in
-        rw (none.0, u) (settled p o r (subst (λ z. Decides fold p (Ready o) (Ready r) z) none.1 d)),
-  )
+  one_given p m Pending i Pending l d h = (λ e. cc e, λ u. waits p i l (rw (← d) (h.1 u)))
+  one_given p m (Ready o) i (Ready r) l d h =
+      (λ e. cc e, λ u. let none = h.0 u in rw (none.0, u) (settled p o r (rw (← none.1) d)))
+  one_given p m _ i _ l d h = absurd d
 
   pub consumes_steps : (p : M) (i : List (Answer A)) (l : List (Poll R)) → P q [] [] → Consumes fold p i l q → P p i l
   consumes_steps p i l none h =
       (answers_by item (TakesIn fold) (Decides fold) Holds
-      (λ p m x i b l t k. (λ e. absurd (cc e), λ u. taken p m x i b l t (k.1 u))) one_given p q i l
+      (λ p m x i b l t k. (λ e. cc e, λ u. taken p m x i b l t (k.1 u))) one_given p q i l
       (λ e. (refl, refl), λ u. none) h.0).1 h.1
 
 -- What holds of each item that is taken in, and of the answer that decides, holds of each answer that came before a
@@ -56,8 +51,7 @@ each_consumed fold P kept may waits taken decided p q i l v m g h =
     consumes_steps fold (λ p i l. Gives l v → kept p × AllByRecursion P i)
     (λ p n x i b l t k g. let rest = k g in let first = taken p n x rest.0 t in (first.0, (first.1, rest.1)))
     (λ p i l k g. let rest = k g in (rest.0, (waits, rest.1))) q
-    (λ p o r d g. let last = decided p q o r (subst may (sym g.0) m) d in (last.0, (last.1, tt)))
-    p i l (λ g. absurd g) h g
+    (λ p o r d g. let last = decided p q o r (rw g.0 m) d in (last.0, (last.1, tt))) p i l absurd h g
 
 -- where each step of the one fold is one of the other, by a part, if the value that it gives is such
 module _ {N M A R : Type 0} (part : N → M) (fold : Fold N A R) (other : Fold M A R) {may : R → Type 0}
@@ -92,13 +86,13 @@ module _ {N M A R : Type 0} (part : N → M) (fold : Fold N A R) (other : Fold M
 no_pending : {M A R : Type 0} (fold : Fold M A R) (p q : M) (i : List (Answer A)) (l : List (Poll R))
     → Consumes fold p i l q → NoPending i → NoPending l
 no_pending fold p q i l =
-    consumes_steps fold (λ p i l. NoPending i → NoPending l) (λ p m x i b l t k. k) (λ p i l k e. absurd e) q
+    consumes_steps fold (λ p i l. NoPending i → NoPending l) (λ p m x i b l t k. k) (λ p i l k. absurd) q
     (λ p o r d e. tt) p i l (λ e. e)
 
 module _ {S M A R : Type 0} {run : Runs (Answer A) S} (fold : Fold M A R) where
   stays : ((s t : S) → run s [] t → t ≡ s) → (x y : Consume S M) → Folds run fold x [] y → y ≡ x
   stays source x y h =
-      let e = source x.stream y.stream (subst (λ i. run x.stream i y.stream) h.consumed.0.0 h.came) in
+      let e = source x.stream y.stream (rw (← h.consumed.0.0) h.came) in
       λ i. record { stream = e i; folder = h.consumed.0.1 i }
 
   pub consumed_laws : RunLaws run → FutureLaws (Folds run fold)

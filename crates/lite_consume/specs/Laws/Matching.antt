@@ -52,11 +52,12 @@ module _ {F A : Type 0} (like : A → A → Type 0) (test : Question F A Bool) w
   tests_match : MatchesFrom like Equal test Tests
   tests_match = agree_from_matches like Equal test
 
-  never_both : (f k g l : F) (x w : A) → Tests f k → like x w → test f x true g → test k w false l → ⊥
-  never_both f k g l x w a e c d = let b = (tests_match f k g l x w true false a e c d).0 in cc
+  module _ (f k g l : F) (x w : A) (a : Tests f k) (e : like x w) where
+    never_both : test f x true g → test k w false l → ⊥
+    never_both c d = let b = (tests_match f k g l x w true false a e c d).0 in cc
 
-  never_both_ways : (f k g l : F) (x w : A) → Tests f k → like x w → test f x false g → test k w true l → ⊥
-  never_both_ways f k g l x w a e c d = let b = (tests_match f k g l x w false true a e c d).0 in cc
+    never_both_ways : test f x false g → test k w true l → ⊥
+    never_both_ways c d = let b = (tests_match f k g l x w false true a e c d).0 in cc
 
   all_asked : SameAsked like Equal (alls test) Tests
   all_asked p k q l x w None None a e c d = (tests_match p k q l x w true true a e c d).1
@@ -78,10 +79,10 @@ module _ {F A : Type 0} (like : A → A → Type 0) (test : Question F A Bool) w
 
   position_asked : SameAsked like Equal (positions test) (AgreeBeside Tests)
   position_asked p k q l x w None None a e c d =
-      ((tests_match p.0 k.0 q.0 l.0 x w false false a.0 e c.0 d.0).1, rw (c.1, d.1, a.1) refl)
+      ((tests_match p.0 k.0 q.0 l.0 x w false false a.0 e c.0 d.0).1, rw (c.1, d.1, a.1))
   position_asked p k q l x w None (Some t) a e c d = never_both_ways p.0 k.0 q.0 l.0 x w a.0 e c.0 d.1
   position_asked p k q l x w (Some r) None a e c d = never_both p.0 k.0 q.0 l.0 x w a.0 e c.1 d.0
-  position_asked p k q l x w (Some r) (Some t) a e c d = rw (c.0, d.0, a.1) refl
+  position_asked p k q l x w (Some r) (Some t) a e c d = rw (c.0, d.0, a.1)
 
   pub position_steady : Steady like Equal (positions test) (AgreeBeside Tests)
   position_steady =
@@ -89,27 +90,25 @@ module _ {F A : Type 0} (like : A → A → Type 0) (test : Question F A Bool) w
 
 -- items that are the same, or none, as values
 module _ {A : Type 0} (like : Sameness A) where
-  no_items : SameItem (Optional like) None None
-  no_items = optional_same like None None (ends_same like)
-
   both_none : (r t : Option A) → r ≡ None → t ≡ None → SameItem (Optional like) r t
-  both_none r t c d = rw (c, d) no_items
+  both_none r t c d = rw (c, d) (optional_same like None None (ends_same like))
 
   both_some : (x w : A) (r t : Option A) → SameItem like x w → r ≡ Some x → t ≡ Some w → SameItem (Optional like) r t
   both_some x w r t e c d = rw (c, d) (optional_same like (Some x) (Some w) (same_answer like x w e))
 
-  find_asked : {F : Type 0} (test : Question F A Bool)
-      → SameAsked (SameItem like) (SameItem (Optional like)) (finds test) (AgreeFrom (SameItem like) Equal test)
-  find_asked test p k q l x w None None a e c d = (tests_match (SameItem like) test p k q l x w false false a e c d).1
-  find_asked test p k q l x w None (Some t) a e c d = never_both_ways (SameItem like) test p k q l x w a e c d.1
-  find_asked test p k q l x w (Some r) None a e c d = never_both (SameItem like) test p k q l x w a e c.1 d
-  find_asked test p k q l x w (Some r) (Some t) a e c d = both_some x w r t e c.0 d.0
+  module _ {F : Type 0} (test : Question F A Bool) where
+    find_asked : SameAsked (SameItem like) (SameItem (Optional like))
+        (finds test) (AgreeFrom (SameItem like) Equal test)
+    find_asked p k q l x w None None a e c d = (tests_match (SameItem like) test p k q l x w false false a e c d).1
+    find_asked p k q l x w None (Some t) a e c d = never_both_ways (SameItem like) test p k q l x w a e c d.1
+    find_asked p k q l x w (Some r) None a e c d = never_both (SameItem like) test p k q l x w a e c.1 d
+    find_asked p k q l x w (Some r) (Some t) a e c d = both_some x w r t e c.0 d.0
 
-  pub find_steady : {F : Type 0} (test : Question F A Bool)
-      → Steady (SameItem like) (SameItem (Optional like)) (finds test) (AgreeFrom (SameItem like) Equal test)
-  find_steady test =
-      steady (SameItem like) (SameItem (Optional like)) (finds test) (AgreeFrom (SameItem like) Equal test)
-      (find_asked test) (λ p k q l r t a c d. both_none r t c.0 d.0)
+    pub find_steady : Steady (SameItem like) (SameItem (Optional like))
+        (finds test) (AgreeFrom (SameItem like) Equal test)
+    find_steady =
+        steady (SameItem like) (SameItem (Optional like)) (finds test) (AgreeFrom (SameItem like) Equal test)
+        (find_asked) (λ p k q l r t a c d. both_none r t c.0 d.0)
 
   next_asked : {M : Type 0} → SameAsked (SameItem like) (SameItem (Optional like)) (nexts {M = M}) (λ p k. ⊤)
   next_asked p k q l x w None u a e c d = absurd c
@@ -117,13 +116,13 @@ module _ {A : Type 0} (like : Sameness A) where
   next_asked p k q l x w (Some r) (Some t) a e c d = both_some x w r t e c d
 
   pub next_steady : {M : Type 0} → Steady (SameItem like) (SameItem (Optional like)) (nexts {M = M}) (λ p k. ⊤)
-  next_steady = steady (SameItem like) (SameItem (Optional like)) nexts (λ p k. ⊤) next_asked
-      (λ p k q l r t a c d. both_none r t c d)
+  next_steady =
+      steady (SameItem like) (SameItem (Optional like)) nexts (λ p k. ⊤) next_asked (λ p k q l r t a. both_none r t)
 
   nth_asked : SameAsked (SameItem like) (SameItem (Optional like)) nths (λ n m. m ≡ n)
-  nth_asked p k q l x w None None a e c d = omega (arith, a, c, d)
-  nth_asked p k q l x w None (Some t) a e c d = omega (arith, a, c, d.0)
-  nth_asked p k q l x w (Some r) None a e c d = omega (arith, a, c.0, d)
+  nth_asked p k q l x w None None a e c d = omega arith
+  nth_asked p k q l x w None (Some t) a e c d = omega arith
+  nth_asked p k q l x w (Some r) None a e c d = omega arith
   nth_asked p k q l x w (Some r) (Some t) a e c d = both_some x w r t e c.1 d.1
 
   pub nth_steady : Steady (SameItem like) (SameItem (Optional like)) nths (λ n m. m ≡ n)
@@ -132,8 +131,8 @@ module _ {A : Type 0} (like : Sameness A) where
 
   last_asked : SameAsked (SameItem like) (SameItem (Optional like)) lasts (SameHeld like)
   last_asked p k q l x w None None a e c d = rw (c.1, d.1) (same_held like (Some x) (Some w) (same_answer like x w e))
-  last_asked p k q l x w None (Some t) a e c d = absurd (let b = d.0 in cc)
-  last_asked p k q l x w (Some r) u a e c d = absurd (let b = c.0 in cc)
+  last_asked p k q l x w None (Some t) a e c d = cc
+  last_asked p k q l x w (Some r) u a e c d = cc
 
   pub last_steady : Steady (SameItem like) (SameItem (Optional like)) lasts (SameHeld like)
   last_steady =
@@ -142,9 +141,9 @@ module _ {A : Type 0} (like : Sameness A) where
 
   -- of equal counts
   count_asked : SameAsked (SameItem like) Equal counts (λ n m. m ≡ n)
-  count_asked p k q l x w None None a e c d = rw (c.1, d.1, a) refl
-  count_asked p k q l x w None (Some t) a e c d = absurd (let b = d.0 in cc)
-  count_asked p k q l x w (Some r) u a e c d = absurd (let b = c.0 in cc)
+  count_asked p k q l x w None None a e c d = rw (c.1, d.1, a)
+  count_asked p k q l x w None (Some t) a e c d = cc
+  count_asked p k q l x w (Some r) u a e c d = cc
 
   pub count_steady : Steady (SameItem like) Equal counts (λ n m. m ≡ n)
   count_steady =
@@ -158,15 +157,11 @@ module _ {T E : Type 0} where
   same_items : (like : Sameness (Result T E)) (r t : Result (Option T) E)
       → SameAnswer like (next_item_of r) (next_item_of t) → SameItem (SameNext like) r t
   same_items Sameness.equal (Ok None) (Ok None) e = refl
-  same_items Sameness.equal (Ok None) (Ok (Some y)) e = absurd (cc e)
-  same_items Sameness.equal (Ok None) (Err f) e = absurd (cc e)
-  same_items Sameness.equal (Ok (Some x)) (Ok None) e = absurd (cc e)
-  same_items Sameness.equal (Ok (Some x)) (Ok (Some y)) e = let d : x ≡ y = cc in ap (λ v. Ok (Some v)) d
-  same_items Sameness.equal (Ok (Some x)) (Err f) e = absurd (cc e)
-  same_items Sameness.equal (Err d) (Ok None) e = absurd (cc e)
-  same_items Sameness.equal (Err d) (Ok (Some y)) e = absurd (cc e)
-  same_items Sameness.equal (Err d) (Err f) e = let b : d ≡ f = cc in ap (λ v. Err v) b
+  same_items Sameness.equal (Ok (Some x)) (Ok (Some y)) e = ap (λ v. Ok (Some v)) cc
+  same_items Sameness.equal (Err d) (Ok None) e = cc
+  same_items Sameness.equal (Err d) (Err f) e = ap Err cc
   same_items (Sameness.by like) r t e = e
+  same_items Sameness.equal _ _ e = cc
 
   module _ {M : Type 0} (like : Sameness (Result T E)) where
     try_next_asked : SameAsked (SameItem like) (SameItem (SameNext like)) (tries_next {M = M}) (λ p k. ⊤)
@@ -184,11 +179,11 @@ module _ {T E : Type 0} where
 module _ {F A B : Type 0} (like : Sameness A) (call : Question F A (Option B)) where
   -- what is there is not the same as None
   not_none : (t : Option B) → OptionBy (λ (_ _ : B). ⊤) None t → IsSome t → ⊥
-  not_none None e h = cc h
+  not_none None e h = cc
   not_none (Some y) e h = e
 
   not_some : (r : Option B) → OptionBy (λ (_ _ : B). ⊤) r None → IsSome r → ⊥
-  not_some None e h = cc h
+  not_some None e h = cc
   not_some (Some y) e h = e
 
   find_map_asked : SameAsked (SameItem like) (SameItem (Optional (Keeping like call))) (finds_map call)
@@ -211,8 +206,8 @@ module _ {F A B : Type 0} (like : Sameness A) (call : Question F A (Option B)) w
 module _ {F A : Type 0} (like : A → A → Type 0) (call : Question F A (Unit {0})) where
   for_each_asked : SameAsked like Equal (calls_each call) (AgreeFrom like Equal call)
   for_each_asked p k q l x w None None a e c d = (agree_from_matches like Equal call p k q l x w tt tt a e c.1 d.1).1
-  for_each_asked p k q l x w None (Some t) a e c d = absurd (let b = d.0 in cc)
-  for_each_asked p k q l x w (Some r) u a e c d = absurd (let b = c.0 in cc)
+  for_each_asked p k q l x w None (Some t) a e c d = cc
+  for_each_asked p k q l x w (Some r) u a e c d = cc
 
   pub for_each_steady : Steady like Equal (calls_each call) (AgreeFrom like Equal call)
   for_each_steady =
@@ -266,7 +261,7 @@ module _ {F T A : Type 0} (call : F → T × A → T → F → Type 0) where
   fold_asked : SameAsked Equal Equal (folds call) (AgreeBeside (Agree call))
   fold_asked p k q l x w None None a e c d =
       let s = folded_same call p k q l x w c.0 d.0 c.1 d.1 a e c.2 d.2 c.3 d.3 in
-      (s.1, rw (c.4, d.4, s.0) refl)
+      (s.1, rw (c.4, d.4, s.0))
   fold_asked p k q l x w None (Some t) a e c d = absurd d
   fold_asked p k q l x w (Some r) u a e c d = absurd c
 
@@ -297,12 +292,10 @@ module _ {F B T E : Type 0} (call : F → B × T → Result B E → F → Type 0
       let s = (folded_same call p k q l x w c.0 d.0 (Err c.1) (Ok d.1) a (cc e) c.2 d.2 c.3 d.3).0 in cc
   try_fold_asked p k q l (Ok x) (Ok w) (Some r) (Some t) a e c d =
       c.4 ∙ (folded_same call p k q l x w c.0 d.0 (Err c.1) (Err d.1) a (cc e) c.2 d.2 c.3 d.3).0 ∙ sym d.4
-  try_fold_asked p k q l (Ok x) (Err f) o u a e c d = absurd (cc e)
-  try_fold_asked p k q l (Err f) (Ok w) o u a e c d = absurd (cc e)
   try_fold_asked p k q l (Err f) (Err g) None u a e c d = absurd c
   try_fold_asked p k q l (Err f) (Err g) (Some r) None a e c d = absurd d
-  try_fold_asked p k q l (Err f) (Err g) (Some r) (Some t) a e c d =
-      c.0 ∙ (let b : f ≡ g = cc in ap (λ v. Err v) b) ∙ sym d.0
+  try_fold_asked p k q l (Err f) (Err g) (Some r) (Some t) a e c d = c.0 ∙ (ap Err cc) ∙ sym d.0
+  try_fold_asked p k q l _ _ o u a e c d = cc
 
   pub try_fold_steady : (like : Sameness (Result T E))
       → Steady (SameItem like) (SameItem (Giving like (tries_fold call))) (tries_fold call)

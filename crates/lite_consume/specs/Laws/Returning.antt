@@ -15,13 +15,13 @@ use Rattle.lite_consume.specs.PollSteps.{Returns, TakesItem}
 
 -- a count that goes down
 pub one_less : {n m : ℕ} → n ≡ m + 1 → m < n
-one_less e = omega (arith, e)
+one_less e = omega arith
 
 module _ {S M A R : Type 0} {run : Runs (Answer A) S} {fold : Fold M A R} {is_open : M → Type 0} where
   -- since items lower the stream's rank
   pub returns_counted : {r : Ranks S} → Counting run r
       → ((p q : M) (x : A) → is_open p → TakesIn fold p x q → is_open q) → Returns run fold r.counts is_open
-  returns_counted {r} c opens =
+  returns_counted c opens =
       record {
         counts_on = c.counts_on;
         ends = λ s p k. Terminates-map (λ v. v.0) (λ v w h. (h.0, [], h.1)) (s, p) (counting_ends c s k);
@@ -47,10 +47,10 @@ module _ {S M T E R : Type 0} {run : Runs (Answer (Result T E)) S} {fold : Fold 
   -- since Ok items lower the stream's rank, and no other item is taken in
   pub returns_ok : {r : Ranks S} → OkCounting run r → ((p q : M) (e : E) → TakesIn fold p (Err e) q → ⊥)
       → ((p q : M) (x : Result T E) → is_open p → TakesIn fold p x q → is_open q) → Returns run fold r.counts is_open
-  returns_ok {r} c errors opens =
+  returns_ok c errors opens =
       record {
         counts_on = c.counts_on;
-        ends = λ s p k. Terminates-map (λ v. v.0) (λ v w h. ok_step errors v w h) (s, p) (ok_counting_ends c s k);
+        ends = λ s p k. Terminates-map (λ v. v.0) (ok_step errors) (s, p) (ok_counting_ends c s k);
         opens = opens;
       }
     where

@@ -46,8 +46,8 @@ none_held (Sameness.by same) holds c d h k = ([], [], h, k, tt)
 pub both_there : {C : Type 0} {same : C → C → Type 0} {empty : C → Type 0} → ((c d : C) → empty c → empty d → same c d)
     → (p k : Option C) → IsSome p → IsSome k → IfSome p empty → IfSome k empty
     → OptionBy same p k
-both_there none None k h g e d = absurd (cc h)
-both_there none (Some c) None h g e d = absurd (cc g)
+both_there none None k h g e d = cc
+both_there none (Some c) None h g e d = cc
 both_there none (Some c) (Some b) h g e d = none c b e d
 
 module _ {C T : Type 0} (like : Sameness T) (holds : C → List T → Type 0) where
@@ -74,11 +74,11 @@ module _ {C T : Type 0} (like : Sameness T) (holds : C → List T → Type 0) wh
 -- items that are Ok, and errors
 module _ {A E : Type 0} where
   oks_same : (like : Sameness (Result A E)) (x w : A) → SameItem like (Ok x) (Ok w) → SameItem (SameOk like) x w
-  oks_same Sameness.equal x w e = cc e
+  oks_same Sameness.equal x w e = cc
   oks_same (Sameness.by same) x w e = e
 
   errs_same : (like : Sameness (Result A E)) (e f : E) → SameItem like (Err e) (Err f) → SameItem (SameErr like) e f
-  errs_same Sameness.equal e f h = cc h
+  errs_same Sameness.equal e f h = cc
   errs_same (Sameness.by same) e f h = h
 
   pub unmixed_holds : (like : Sameness (Result A E)) (P : Type 0) → Unmixed like P → P
@@ -91,12 +91,12 @@ module _ {A E : Type 0} where
 
   not_err : (like : Sameness (Result A E)) (P : Type 0) (x : A) (e : E) → Unmixed like P → SameItem like (Ok x) (Err e)
       → ⊥
-  not_err Sameness.equal P x e u h = cc h
+  not_err Sameness.equal P x e u h = cc
   not_err (Sameness.by same) P x e u h = (u.1 x e).0 h
 
   not_ok : (like : Sameness (Result A E)) (P : Type 0) (x : A) (e : E) → Unmixed like P → SameItem like (Err e) (Ok x)
       → ⊥
-  not_ok Sameness.equal P x e u h = cc h
+  not_ok Sameness.equal P x e u h = cc
   not_ok (Sameness.by same) P x e u h = (u.1 x e).1 h
 
 module _ {C T E : Type 0} (like : Sameness (Result T E)) (holds : C → List T → Type 0) where
@@ -151,9 +151,9 @@ module _ {B T P : Type 0} (like : Sameness T) (holds : B → List T → Type 0) 
       → (partitions holds test ⊥).asks p x o q → (partitions holds test ⊥).asks k w u l
       → SameDecision (SameCollected HoldBoth) (Sorts q l) o u
   partition_asked p k q l x w None None a e h g =
-      let same = option_by HoldBoth p.1 k.1 h.1 g.1 a.1 h.4 g.4 in
       let t = agree_from_matches (SameItem like) (λ y z. y ≡ z) test p.0 k.0 q.0 l.0 x w h.0 g.0 a.0 e h.3 g.3 in
-      let both = sorted_same h.0 h.1 g.1 h.2 g.2 x w same e h.5 (subst (λ b. Sorted holds b g.1 w g.2) (sym t.0) g.5) in
+      let both =
+      sorted_same h.0 h.1 g.1 h.2 g.2 x w (option_by HoldBoth p.1 k.1 h.1 g.1 a.1 h.4 g.4) e h.5 (rw t.0 g.5) in
       (t.1, some_by HoldBoth q.1 l.1 h.2 g.2 h.6 g.6 both)
   partition_asked p k q l x w None (Some t) a e h g = g.0
   partition_asked p k q l x w (Some r) u a e h g = absurd h.0
@@ -203,8 +203,8 @@ module _ {C D A B : Type 0} (holds_first : C → List A → Type 0) (holds_secon
         → (unzips holds_first holds_second ⊥).asks p x o q → (unzips holds_first holds_second ⊥).asks k w u l
         → SameDecision (SameCollected SamePairs) (OptionBy SamePairs q l) o u
     unzip_asked p k q l x w None None a e h g =
-        let same = option_by SamePairs p k h.0 g.0 a h.2 g.2 in
-        some_by SamePairs q l h.1 g.1 h.5 g.5 (parts_same like h.0 g.0 h.1 g.1 x w same e h.3 h.4 g.3 g.4)
+        some_by SamePairs q l h.1 g.1 h.5 g.5
+        (parts_same like h.0 g.0 h.1 g.1 x w (option_by SamePairs p k h.0 g.0 a h.2 g.2) e h.3 h.4 g.3 g.4)
     unzip_asked p k q l x w None (Some t) a e h g = g.0
     unzip_asked p k q l x w (Some r) u a e h g = absurd h.0
 

@@ -4,7 +4,7 @@ use Rattle.std.specs.Prelude.{Result, Ok, Err}
 use Rattle.std.proofs.lemmas.List.{map-append}
 use Rattle.std.specs.declared.io.Error.{Error}
 use Rattle.futures.specs.declared.task.Poll.{Poll}
-use Rattle.futures.specs.declared.task.Poll.TheVariants.{Ready, Pending}
+use Rattle.futures.specs.declared.task.Poll.TheVariants.{Ready}
 use Rattle.lite_io_base.specs.Parts.{Part}
 use Rattle.lite_io_base.specs.Marks.{moved, read_marks}
 use Rattle.lite_io_base.specs.Takings.{WriteMark, done_marks, write_marks}
@@ -20,9 +20,8 @@ fit_both [] fs h k = k
 fit_both (e ∷ es) fs h k = (h.0, fit_both es fs h.1 k)
 
 met_moved : (buf xs : List ℕ) → met (length buf) xs ≡ moved buf xs
-met_moved buf (x ∷ xs) = refl
-met_moved (b ∷ buf) [] = refl
 met_moved [] [] = refl
+met_moved _ _ = refl
 
 -- the marks of an entry are those of its call's answer
 pub read_note_part : (r : Poll (Result ℕ Error)) (buf : List ℕ)
@@ -32,16 +31,14 @@ read_note_part r buf = refl
 
 pub write_note_part : (r : Poll (Result ℕ Error)) (xs : List ℕ)
     → part_of (write_note r xs).asked (write_note r xs).told ≡ Part.writing (write_marks r xs)
-write_note_part Pending xs = refl
 write_note_part (Ready (Err e)) xs = refl
-write_note_part (Ready (Ok n)) xs = refl
+write_note_part _ xs = refl
 
 -- those of a flush or of a close
 pub done_note_part : (mark : WriteMark) (r : Poll (Result (Unit {0}) Error))
     → Part.writing (done_marks_of mark (told_of_done r)) ≡ Part.writing (done_marks mark r)
-done_note_part mark Pending = refl
 done_note_part mark (Ready (Err e)) = refl
-done_note_part mark (Ready (Ok u)) = refl
+done_note_part mark _ = refl
 
 -- the answer fits its call
 pub read_note_fits : (r : Poll (Result ℕ Error)) (buf : List ℕ) → CountsWithin r (length buf)
@@ -55,6 +52,5 @@ write_note_fits (Ready (Ok n)) xs within = within
 write_note_fits r xs within = tt
 
 pub done_fits : (r : Poll (Result (Unit {0}) Error)) → FitsDone (told_of_done r)
-done_fits Pending = tt
 done_fits (Ready (Err e)) = tt
-done_fits (Ready (Ok u)) = tt
+done_fits _ = tt

@@ -36,12 +36,12 @@ thins_none refusal (m ∷ ms) = inl (ms, refl, thins_none refusal ms)
 
 parts_among-both : (ps qs : List (Option Part)) → parts_among (ps ++ qs) ≡ parts_among ps ++ parts_among qs
 parts_among-both [] qs = refl
-parts_among-both (Some p ∷ ps) qs = ap (λ l. p ∷ l) (parts_among-both ps qs)
+parts_among-both (Some p ∷ ps) qs = rw (parts_among-both ps qs)
 parts_among-both (None ∷ ps) qs = parts_among-both ps qs
 
 parts_among-all : (ps : List Part) → parts_among (map Some ps) ≡ ps
 parts_among-all [] = refl
-parts_among-all (p ∷ ps) = ap (λ l. p ∷ l) (parts_among-all ps)
+parts_among-all (p ∷ ps) = rw (parts_among-all ps)
 
 module _ {T : Type 0} (reads : Runs ReadMark T) (writes : Runs WriteMark T) where
   pub adds_none : (c : Chronicle T) → AddsAll reads writes c [] c
@@ -49,13 +49,15 @@ module _ {T : Type 0} (reads : Runs ReadMark T) (writes : Runs WriteMark T) wher
 
   pub adds_both : (a b c : Chronicle T) (es fs : List Note) → AddsAll reads writes a es b → AddsAll reads writes b fs c
       → AddsAll reads writes a (es ++ fs) c
-  adds_both a b c es fs p q = record {
-    fits = fit_both es fs p.fits q.fits;
-    start = q.start ∙ p.start;
-    notes = rw (q.notes, p.notes, append_assoc);
-    ran = rw (parts_in-both es fs)
-        (steps_follow (PartRuns reads writes) a.stream b.stream c.stream (parts_in es) (parts_in fs) p.ran q.ran);
-  }
+  adds_both a b c es fs p q =
+      record {
+        fits = fit_both es fs p.fits q.fits;
+        start = q.start ∙ p.start;
+        notes = rw (q.notes, p.notes, append_assoc);
+        ran =
+            rw parts_in-both
+            (steps_follow (PartRuns reads writes) a.stream b.stream c.stream (parts_in es) (parts_in fs) p.ran q.ran);
+      }
 
   -- one entry is added as several are
   pub adds_one : (a b : Chronicle T) (e : Note) → Adds reads writes a e b → AddsAll reads writes a (e ∷ []) b
@@ -65,14 +67,16 @@ module _ {T : Type 0} (reads : Runs ReadMark T) (writes : Runs WriteMark T) wher
   module _ {A : Type 0} (part : List A → Part) (refusal : A) where
     journals_follow : (a b c : Chronicle T) (l m : List A) → Journals reads writes part refusal a l b
         → Journals reads writes part refusal b m c → Journals reads writes part refusal a (l ++ m) c
-    journals_follow a b c l m p q = record {
-      entries = p.entries ++ q.entries;
-      marks = p.marks ++ q.marks;
-      kind = rw (parts_in-both p.entries q.entries, p.kind, q.kind) (sym (map-append part p.marks q.marks));
-      added = adds_both a b c p.entries q.entries p.added q.added;
-      thinned = rw (flat_map-append (λ (w : List A). w) p.marks q.marks)
-          (thins_both refusal l (all_in_order p.marks) m (all_in_order q.marks) p.thinned q.thinned);
-    }
+    journals_follow a b c l m p q =
+        record {
+          entries = p.entries ++ q.entries;
+          marks = p.marks ++ q.marks;
+          kind = rw (parts_in-both, p.kind, q.kind) (sym (map-append part p.marks q.marks));
+          added = adds_both a b c p.entries q.entries p.added q.added;
+          thinned =
+              rw flat_map-append
+              (thins_both refusal l (all_in_order p.marks) m (all_in_order q.marks) p.thinned q.thinned);
+        }
 
     pub journals_laws : MarkLaws (Journals reads writes part refusal)
     journals_laws = record {
@@ -81,65 +85,67 @@ module _ {T : Type 0} (reads : Runs ReadMark T) (writes : Runs WriteMark T) wher
     }
 
     -- of a call that added its entry
-    journals_add : (a b : Chronicle T) (e : Note) (ms : List A) → part_of e.asked e.told ≡ part ms
-        → Adds reads writes a e b → Journals reads writes part refusal a ms b
-    journals_add a b e ms is h =
-        record {
-          entries = e ∷ [];
-          marks = ms ∷ [];
-          kind = ap (λ p. p ∷ []) is;
-          added = adds_one a b e h;
-          thinned = rw append-nil (thins_none refusal ms);
-        }
+    module _ (a b : Chronicle T) where
+      journals_add : (e : Note) (ms : List A) → part_of e.asked e.told ≡ part ms → Adds reads writes a e b
+          → Journals reads writes part refusal a ms b
+      journals_add e ms is h =
+          record {
+            entries = e ∷ [];
+            marks = ms ∷ [];
+            kind = ap (λ p. p ∷ []) is;
+            added = adds_one a b e h;
+            thinned = rw append-nil (thins_none refusal ms);
+          }
 
-    -- and of one that was refused
-    journals_refuse : (a b : Chronicle T) (m : A) → m ≡ refusal → b ≡ a
-        → Journals reads writes part refusal a (m ∷ []) b
-    journals_refuse a b m refused same =
-        rw same record { entries = []; marks = []; kind = refl; added = adds_none a; thinned = inr (refused, refl) }
+      -- and of one that was refused
+      journals_refuse : (m : A) → m ≡ refusal → b ≡ a → Journals reads writes part refusal a (m ∷ []) b
+      journals_refuse m refused same =
+          rw same record { entries = []; marks = []; kind = refl; added = adds_none a; thinned = inr (refused, refl) }
 
-  pub read_adds : (a b : Chronicle T) (r : Poll (Result ℕ Error)) (buf : List ℕ)
-      → Adds reads writes a (read_note r buf) b → JournalReads reads writes a (read_marks r buf) b
-  read_adds a b r buf =
-      journals_add Part.reading (ReadMark.fault OutOfMemory) a b (read_note r buf) (read_marks r buf)
-      (read_note_part r buf)
+  module _ (a b : Chronicle T) where
+    pub read_adds : (r : Poll (Result ℕ Error)) (buf : List ℕ) → Adds reads writes a (read_note r buf) b
+        → JournalReads reads writes a (read_marks r buf) b
+    read_adds r buf =
+        journals_add Part.reading (ReadMark.fault OutOfMemory) a b (read_note r buf) (read_marks r buf)
+        (read_note_part r buf)
 
-  pub reads_refuse : (a b : Chronicle T) (kind : ErrorKind) → kind ≡ OutOfMemory → b ≡ a
-      → JournalReads reads writes a (ReadMark.fault kind ∷ []) b
-  reads_refuse a b kind refused =
-      journals_refuse Part.reading (ReadMark.fault OutOfMemory) a b (ReadMark.fault kind) (ap ReadMark.fault refused)
+    pub reads_refuse : (kind : ErrorKind) → kind ≡ OutOfMemory → b ≡ a
+        → JournalReads reads writes a (ReadMark.fault kind ∷ []) b
+    reads_refuse kind refused =
+        journals_refuse Part.reading (ReadMark.fault OutOfMemory) a b (ReadMark.fault kind) (ap ReadMark.fault refused)
 
-  pub write_adds : (a b : Chronicle T) (r : Poll (Result ℕ Error)) (xs : List ℕ)
-      → Adds reads writes a (write_note r xs) b → JournalWrites reads writes a (write_marks r xs) b
-  write_adds a b r xs =
-      journals_add Part.writing (WriteMark.fault OutOfMemory) a b (write_note r xs) (write_marks r xs)
-      (write_note_part r xs)
+    pub write_adds : (r : Poll (Result ℕ Error)) (xs : List ℕ) → Adds reads writes a (write_note r xs) b
+        → JournalWrites reads writes a (write_marks r xs) b
+    write_adds r xs =
+        journals_add Part.writing (WriteMark.fault OutOfMemory) a b (write_note r xs) (write_marks r xs)
+        (write_note_part r xs)
 
-  pub flush_adds : (a b : Chronicle T) (r : Poll (Result (Unit {0}) Error)) → Adds reads writes a (flush_note r) b
-      → JournalWrites reads writes a (done_marks WriteMark.flushed r) b
-  flush_adds a b r =
-      journals_add Part.writing (WriteMark.fault OutOfMemory) a b (flush_note r) (done_marks WriteMark.flushed r)
-      (done_note_part WriteMark.flushed r)
+    pub flush_adds : (r : Poll (Result (Unit {0}) Error)) → Adds reads writes a (flush_note r) b
+        → JournalWrites reads writes a (done_marks WriteMark.flushed r) b
+    flush_adds r =
+        journals_add Part.writing (WriteMark.fault OutOfMemory) a b (flush_note r) (done_marks WriteMark.flushed r)
+        (done_note_part WriteMark.flushed r)
 
-  pub close_adds : (a b : Chronicle T) (r : Poll (Result (Unit {0}) Error)) → Adds reads writes a (close_note r) b
-      → JournalWrites reads writes a (done_marks WriteMark.closed r) b
-  close_adds a b r =
-      journals_add Part.writing (WriteMark.fault OutOfMemory) a b (close_note r) (done_marks WriteMark.closed r)
-      (done_note_part WriteMark.closed r)
+    pub close_adds : (r : Poll (Result (Unit {0}) Error)) → Adds reads writes a (close_note r) b
+        → JournalWrites reads writes a (done_marks WriteMark.closed r) b
+    close_adds r =
+        journals_add Part.writing (WriteMark.fault OutOfMemory) a b (close_note r) (done_marks WriteMark.closed r)
+        (done_note_part WriteMark.closed r)
 
-  pub writes_refuse : (a b : Chronicle T) (kind : ErrorKind) → kind ≡ OutOfMemory → b ≡ a
-      → JournalWrites reads writes a (WriteMark.fault kind ∷ []) b
-  writes_refuse a b kind refused =
-      journals_refuse Part.writing (WriteMark.fault OutOfMemory) a b (WriteMark.fault kind) (ap WriteMark.fault refused)
+    pub writes_refuse : (kind : ErrorKind) → kind ≡ OutOfMemory → b ≡ a
+        → JournalWrites reads writes a (WriteMark.fault kind ∷ []) b
+    writes_refuse kind refused =
+        journals_refuse Part.writing (WriteMark.fault OutOfMemory) a b (WriteMark.fault kind)
+        (ap WriteMark.fault refused)
 
-  pub vectored_reads : (a b : Chronicle T) (r : Poll (Result ℕ Error)) (buf : List ℕ) (bufs : List IoSliceMut)
-      → length buf ≤ room_in bufs → AddsOrStays reads writes a (read_note r buf) b → AddsRead reads writes a r bufs b
-  vectored_reads a b r buf bufs fits h = (buf, fits, h)
+    pub vectored_reads : (r : Poll (Result ℕ Error)) (buf : List ℕ) (bufs : List IoSliceMut)
+        → length buf ≤ room_in bufs → AddsOrStays reads writes a (read_note r buf) b
+        → AddsRead reads writes a r bufs b
+    vectored_reads r buf bufs fits h = (buf, fits, h)
 
-  pub vectored_writes : (a b : Chronicle T) (r : Poll (Result ℕ Error)) (front offered : List ℕ)
-      → StandsFirst front offered → AddsOrStays reads writes a (write_note r front) b
-      → AddsWrite reads writes a r offered b
-  vectored_writes a b r front offered first h = (front, first, h)
+    pub vectored_writes : (r : Poll (Result ℕ Error)) (front offered : List ℕ) → StandsFirst front offered
+        → AddsOrStays reads writes a (write_note r front) b → AddsWrite reads writes a r offered b
+    vectored_writes r front offered first h = (front, first, h)
 
   pub ruleset reads_rules = (read_adds, reads_refuse, vectored_reads)
 
@@ -159,14 +165,15 @@ module _ {T : Type 0} (reads : Runs ReadMark T) (writes : Runs WriteMark T) wher
     stages_of x y [] h = h
     stages_of x y (p ∷ ps) h = (h.0, h.1, stages_of h.0 y ps h.2)
 
-    story_of_parts : (x y : T) (ps : List Part) → PartsInOrder reads writes x ps y → Story reads writes copies x ps y
-    story_of_parts x y ps h = (map Some ps, sym (parts_among-all ps), stages_of x y ps h)
+    module _ (x y : T) where
+      story_of_parts : (ps : List Part) → PartsInOrder reads writes x ps y → Story reads writes copies x ps y
+      story_of_parts ps h = (map Some ps, sym (parts_among-all ps), stages_of x y ps h)
 
-    story_to_clone : (x y : T) → copies x y → Story reads writes copies x [] y
-    story_to_clone x y h = (None ∷ [], refl, (y, inl h, refl))
+      story_to_clone : copies x y → Story reads writes copies x [] y
+      story_to_clone h = (None ∷ [], refl, (y, inl h, refl))
 
-    story_from_clone : (x y : T) → copies y x → Story reads writes copies x [] y
-    story_from_clone x y h = (None ∷ [], refl, (y, inr h, refl))
+      story_from_clone : copies y x → Story reads writes copies x [] y
+      story_from_clone h = (None ∷ [], refl, (y, inr h, refl))
 
     stages_run : ClonesEqual copies → (x y : T) (stages : List (Option Part))
         → Steps (Stage reads writes copies) x stages y → PartsInOrder reads writes x (parts_among stages) y
@@ -190,22 +197,26 @@ module _ {T : Type 0} (reads : Runs ReadMark T) (writes : Runs WriteMark T) wher
     sound_new start stream h = record { fits = tt; story = story_from_clone start stream h }
 
     -- with the entries of more calls
-    pub sound_more : (a b : Chronicle T) (es : List Note) → IsSound reads writes copies a → AddsAll reads writes a es b
-        → IsSound reads writes copies b
-    sound_more a b es sound adds =
-        let both = story_follows a.start a.stream b.stream (parts_in a.notes) (parts_in es) sound.story
-        (story_of_parts a.stream b.stream (parts_in es) adds.ran) in
-        record {
-          fits = rw adds.notes (fit_both a.notes es sound.fits adds.fits);
-          story = rw (adds.notes, parts_in-both a.notes es, adds.start) both;
-        }
+    module _ (a b : Chronicle T) where
+      pub sound_more : (es : List Note) → IsSound reads writes copies a → AddsAll reads writes a es b
+          → IsSound reads writes copies b
+      sound_more es sound adds =
+          let both =
+          story_follows a.start a.stream b.stream (parts_in a.notes) (parts_in es) sound.story
+          (story_of_parts a.stream b.stream (parts_in es) adds.ran) in
+          record {
+            fits = rw adds.notes (fit_both a.notes es sound.fits adds.fits);
+            story = rw (adds.notes, parts_in-both, adds.start) both;
+          }
 
-    -- of which all is cloned
-    pub sound_clone : (a b : Chronicle T) → IsSound reads writes copies a → copies a.start b.start
-        → copies a.stream b.stream → b.notes ≡ a.notes → IsSound reads writes copies b
-    sound_clone a b sound from to same =
-        let first = story_follows b.start a.start a.stream [] (parts_in a.notes)
-        (story_from_clone b.start a.start from) sound.story in
-        let whole = story_follows b.start a.stream b.stream (parts_in a.notes) [] first
-        (story_to_clone a.stream b.stream to) in
-        record { fits = rw same sound.fits; story = rw same (rw append-nil at whole) }
+      -- of which all is cloned
+      pub sound_clone : IsSound reads writes copies a → copies a.start b.start → copies a.stream b.stream
+          → b.notes ≡ a.notes → IsSound reads writes copies b
+      sound_clone sound from to same =
+          let first =
+          story_follows b.start a.start a.stream [] (parts_in a.notes) (story_from_clone b.start a.start from)
+          sound.story in
+          let whole =
+          story_follows b.start a.stream b.stream (parts_in a.notes) [] first
+          (story_to_clone a.stream b.stream to) in
+          record { fits = rw same sound.fits; story = rw same (rw append-nil at whole) }

@@ -18,7 +18,7 @@ module _ {S : Type 0} {reads : Runs ReadMark S} where
   pub number_counting : {number : S → ℕ}
       → ((x y : S) (l : List ReadMark) → reads x l y → Falls (given l) (number y ∷ []) (number x ∷ []))
       → ReadCounting reads (number_ranks number)
-  number_counting {number} lowers = record {
+  number_counting lowers = record {
     sized = λ x. refl;
     counts_on = λ x y l c h. tt;
     firm_on = λ x y l c h. tt;

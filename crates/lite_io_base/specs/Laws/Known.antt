@@ -42,22 +42,14 @@ spends_bytes (b ∷ bs) xs ys h = h.1 ∙ ap (λ v. b ∷ v) (spends_bytes bs h.
 
 same_bytes : (xs ys : List ℕ) → bytes ys ≡ bytes xs → ys ≡ xs
 same_bytes [] [] e = refl
-same_bytes (x ∷ xs) (y ∷ ys) e =
-    let first : y ≡ x = cc e in
-    let others : bytes ys ≡ bytes xs = cc e in
-    let rest = same_bytes xs ys others in
-    cc
-same_bytes _ _ e = absurd (cc e)
+same_bytes (x ∷ xs) (y ∷ ys) e = let first : y ≡ x = cc e in let rest = same_bytes xs ys (cc e) in cc
+same_bytes _ _ e = cc
 
 pub told_spends : (xs ys : List ℕ) (l : List ReadMark) → TellsScript (bytes xs) l (bytes ys) → TellsKnown xs l ys
 told_spends xs ys [] h = same_bytes xs ys h
-told_spends [] ys (ReadMark.byte b ∷ l) h = absurd (let e = h.0 in cc)
-told_spends [] ys (ReadMark.pending ∷ l) h = absurd (let e = h.0 in cc)
-told_spends [] ys (ReadMark.fault kind ∷ l) h = absurd (let e = h.0 in cc)
 told_spends [] ys (ReadMark.end ∷ l) h = (refl, told_spends [] ys l h.1)
-told_spends (x ∷ xs) ys (ReadMark.byte b ∷ l) h =
-    let e = h.0 in let same : x ∷ xs ≡ b ∷ xs = cc in (xs, same, told_spends xs ys l h.1)
-told_spends (x ∷ xs) ys (_ ∷ l) h = absurd (let e = h.0 in cc)
+told_spends (x ∷ xs) ys (ReadMark.byte b ∷ l) h = let e = h.0 in (xs, cc, told_spends xs ys l h.1)
+told_spends _ ys (_ ∷ l) h = cc
 
 -- a value that tells its bytes, and then ends for ever
 abbrev pub told_known : {S : Type 0} (held : S → List ℕ) → Known S

@@ -32,7 +32,7 @@ module _ {S : Type 0} {reads : Runs ReadMark S} where
 pub strip_marks-append : (l m : List ReadMark) → strip_marks (l ++ m) ≡ strip_marks l ++ strip_marks m
 strip_marks-append [] m = refl
 strip_marks-append (ReadMark.pending ∷ l) m = strip_marks-append l m
-strip_marks-append (a ∷ l) m = ap (λ k. a ∷ k) (strip_marks-append l m)
+strip_marks-append (a ∷ l) m = rw (strip_marks-append l m)
 
 pub comparable_none : (l : List ReadMark) → Comparable l []
 comparable_none [] = tt
@@ -47,16 +47,13 @@ comparable_swapped (a ∷ l) (b ∷ m) c = (sym c.0, comparable_swapped l m c.1)
 pub comparable_stripped : (l m : List ReadMark) → Comparable l m → Comparable (strip_marks l) (strip_marks m)
 comparable_stripped [] m c = tt
 comparable_stripped (a ∷ l) [] c = comparable_none (strip_marks (a ∷ l))
-comparable_stripped (ReadMark.byte b ∷ l) (a ∷ m) c = rw (← c.0) (refl, comparable_stripped l m c.1)
 comparable_stripped (ReadMark.pending ∷ l) (a ∷ m) c = rw (← c.0) (comparable_stripped l m c.1)
-comparable_stripped (ReadMark.fault kind ∷ l) (a ∷ m) c = rw (← c.0) (refl, comparable_stripped l m c.1)
-comparable_stripped (ReadMark.end ∷ l) (a ∷ m) c = rw (← c.0) (refl, comparable_stripped l m c.1)
+comparable_stripped (_ ∷ l) (a ∷ m) c = rw (← c.0) (refl, comparable_stripped l m c.1)
 
 -- the fronts of lists that begin one another
 pub comparable_fronts : (l k m n : List ReadMark) → Comparable (l ++ k) (m ++ n) → Comparable l m
-comparable_fronts [] k m n c = tt
-comparable_fronts (a ∷ l) k [] n c = tt
 comparable_fronts (a ∷ l) k (b ∷ m) n c = (c.0, comparable_fronts l k m n c.1)
+comparable_fronts _ k _ n c = tt
 
 -- and what stands behind one front
 pub comparable_rest : (p l m : List ReadMark) → Comparable (p ++ l) (p ++ m) → Comparable l m
@@ -70,13 +67,13 @@ comparable_behind (a ∷ p) l m c = (refl, comparable_behind p l m c)
 
 pub strip_marks-bytes : (xs : List ℕ) → strip_marks (bytes xs) ≡ bytes xs
 strip_marks-bytes [] = refl
-strip_marks-bytes (x ∷ xs) = ap (λ k. ReadMark.byte x ∷ k) (strip_marks-bytes xs)
+strip_marks-bytes (x ∷ xs) = rw (strip_marks-bytes xs)
 
 -- where there is no pending nothing is left out
 pub stripped_no_pending : (l : List ReadMark) → NoPendingRead l → strip_marks l ≡ l
 stripped_no_pending [] h = refl
 stripped_no_pending (ReadMark.pending ∷ l) h = absurd h
-stripped_no_pending (a ∷ l) h = ap (λ k. a ∷ k) (stripped_no_pending l h)
+stripped_no_pending (a ∷ l) h = rw (stripped_no_pending l h)
 
 pub no_wait_parts : (l m : List ReadMark) → NoPendingRead (l ++ m) → NoPendingRead l × NoPendingRead m
 no_wait_parts [] m h = (tt, h)
@@ -94,67 +91,58 @@ no_wait_bytes (x ∷ xs) = no_wait_bytes xs
 
 -- what is known from the start
 told_comparable : (t x y l m : List ReadMark) → TellsScript t l x → TellsScript t m y → Comparable l m
-told_comparable t x y [] m h k = tt
-told_comparable t x y (a ∷ l) [] h k = tt
 told_comparable [] x y (a ∷ l) (b ∷ m) h k = (cc (h.0, k.0), told_comparable [] x y l m h.1 k.1)
 told_comparable (c ∷ t) x y (a ∷ l) (b ∷ m) h k = (cc (h.0, k.0), told_comparable t x y l m h.1 k.1)
+told_comparable t x y _ _ h k = tt
 
 told_stripped : (x y l : List ReadMark) → TellsScript x l y
     → TellsScript (strip_marks x) (strip_marks l) (strip_marks y)
 told_stripped x y [] h = ap strip_marks h
 told_stripped [] y (a ∷ l) h = rw h.0 (refl, told_stripped [] y l h.1)
-told_stripped (ReadMark.byte b ∷ x) y (a ∷ l) h = rw h.0 (refl, told_stripped x y l h.1)
 told_stripped (ReadMark.pending ∷ x) y (a ∷ l) h = rw h.0 (told_stripped x y l h.1)
-told_stripped (ReadMark.fault kind ∷ x) y (a ∷ l) h = rw h.0 (refl, told_stripped x y l h.1)
-told_stripped (ReadMark.end ∷ x) y (a ∷ l) h = rw h.0 (refl, told_stripped x y l h.1)
+told_stripped (_ ∷ x) y (a ∷ l) h = rw h.0 (refl, told_stripped x y l h.1)
 
 -- two that know the same, pendings aside, tell the same
 pub told_one_tale : (t u x y l m : List ReadMark) → strip_marks t ≡ strip_marks u → TellsScript t l x
     → TellsScript u m y → Comparable (strip_marks l) (strip_marks m)
 told_one_tale t u x y l m same h k =
-    let first = rw same at (told_stripped t x l h) in
-    told_comparable (strip_marks u) (strip_marks x) (strip_marks y) (strip_marks l) (strip_marks m) first
-    (told_stripped u y m k)
+    told_comparable (strip_marks u) (strip_marks x) (strip_marks y) (strip_marks l) (strip_marks m)
+    (rw same at (told_stripped t x l h)) (told_stripped u y m k)
 
 -- no pending to come, then none came
 pub told_no_wait : (t x l : List ReadMark) → NoPendingRead t → TellsScript t l x → NoPendingRead l × NoPendingRead x
 told_no_wait t x [] n h = (tt, rw h n)
 told_no_wait [] x (a ∷ l) n h = rw h.0 (told_no_wait [] x l tt h.1)
-told_no_wait (ReadMark.byte b ∷ t) x (a ∷ l) n h = rw h.0 (told_no_wait t x l n h.1)
 told_no_wait (ReadMark.pending ∷ t) x (a ∷ l) n h = absurd n
-told_no_wait (ReadMark.fault kind ∷ t) x (a ∷ l) n h = rw h.0 (told_no_wait t x l n h.1)
-told_no_wait (ReadMark.end ∷ t) x (a ∷ l) n h = rw h.0 (told_no_wait t x l n h.1)
+told_no_wait (_ ∷ t) x (a ∷ l) n h = rw h.0 (told_no_wait t x l n h.1)
 
 -- values whose marks are known from the start
 module _ {S : Type 0} where
-  pub told_steady : (marks : S → List ReadMark)
-      → SteadyReadLaws (λ x l y. TellsScript (marks x) l (marks y)) (λ x l y. TellsScript (marks x) l (marks y)) ⊤
-      (λ x y. strip_marks (marks x) ≡ strip_marks (marks y))
-  told_steady marks =
-      steady_read_always (told_laws marks)
-      (λ x y x' y' l m e h k. told_one_tale (marks x) (marks y) (marks x') (marks y') l m e h k)
+  module _ (marks : S → List ReadMark) where
+    pub told_steady : SteadyReadLaws (λ x l y. TellsScript (marks x) l (marks y))
+        (λ x l y. TellsScript (marks x) l (marks y)) ⊤ (λ x y. strip_marks (marks x) ≡ strip_marks (marks y))
+    told_steady =
+        steady_read_always (told_laws marks) (λ x y x' y'. told_one_tale (marks x) (marks y) (marks x') (marks y'))
 
-  pub told_calm : (marks : S → List ReadMark)
-      → CalmReadLaws (λ x l y. TellsScript (marks x) l (marks y)) (λ x. NoPendingRead (marks x))
-  told_calm marks =
-      record {
-        no_pending = λ x y l n h. (told_no_wait (marks x) (marks y) l n h).0;
-        calm_on = λ x y l n h. (told_no_wait (marks x) (marks y) l n h).1;
-      }
+    pub told_calm : CalmReadLaws (λ x l y. TellsScript (marks x) l (marks y)) (λ x. NoPendingRead (marks x))
+    told_calm =
+        record {
+          no_pending = λ x y l n h. (told_no_wait (marks x) (marks y) l n h).0;
+          calm_on = λ x y l n h. (told_no_wait (marks x) (marks y) l n h).1;
+        }
 
   -- slices, whose marks are their bytes
-  pub slice_steady : (held : S → List ℕ)
-      → SteadyReadLaws (λ x l y. TellsScript (bytes (held x)) l (bytes (held y)))
-      (λ x l y. TellsScript (bytes (held x)) l (bytes (held y))) ⊤ (λ x y. held x ≡ held y)
-  slice_steady held =
-      steady_read_always (told_laws (λ x. bytes (held x)))
-      (λ x y x' y' l m e h k. told_one_tale (bytes (held x)) (bytes (held y)) (bytes (held x')) (bytes (held y')) l m
-      (ap (λ xs. strip_marks (bytes xs)) e) h k)
+  module _ (held : S → List ℕ) where
+    pub slice_steady : SteadyReadLaws (λ x l y. TellsScript (bytes (held x)) l (bytes (held y)))
+        (λ x l y. TellsScript (bytes (held x)) l (bytes (held y))) ⊤ (λ x y. held x ≡ held y)
+    slice_steady =
+        steady_read_always (told_laws (λ x. bytes (held x)))
+        (λ x y x' y' l m e.
+        told_one_tale (bytes (held x)) (bytes (held y)) (bytes (held x')) (bytes (held y')) l m (rw e))
 
-  pub slice_calm : (held : S → List ℕ)
-      → CalmReadLaws (λ x l y. TellsScript (bytes (held x)) l (bytes (held y))) (λ x. ⊤)
-  slice_calm held =
-      record {
-        no_pending = λ x y l n h. (told_no_wait (bytes (held x)) (bytes (held y)) l (no_wait_bytes (held x)) h).0;
-        calm_on = λ x y l n h. tt;
-      }
+    pub slice_calm : CalmReadLaws (λ x l y. TellsScript (bytes (held x)) l (bytes (held y))) (λ x. ⊤)
+    slice_calm =
+        record {
+          no_pending = λ x y l n h. (told_no_wait (bytes (held x)) (bytes (held y)) l (no_wait_bytes (held x)) h).0;
+          calm_on = λ x y l n h. tt;
+        }

@@ -1,8 +1,8 @@
 -- Laws of `cycle`.
 use Rattle.std.specs.Prelude.{IfSome, Result, Ok, Err}
-use Rattle.std.proofs.Common.{◌≡◌, ◌∙◌, List, [], ◌∷◌, ◌++◌, Option, Some, None, refl, ap, subst, append_assoc}
+use Rattle.std.proofs.Common.{◌≡◌, ◌∙◌, List, [], ◌∷◌, ◌++◌, Option, Some, None, refl, append_assoc}
 use Rattle.futures.specs.declared.task.Poll.TheVariants.{Ready, Pending}
-use Rattle.lite_base.specs.Answers.{Answer, Endless, end, item}
+use Rattle.lite_base.specs.Answers.{Answer, Endless, end}
 use Rattle.lite_base.specs.Calm.{CalmLaws, NoPending}
 use Rattle.lite_base.specs.Laws.Calm.{no_pending_front, no_pending_join}
 use Rattle.lite_base.specs.Laws.Hint.{same_hint}
@@ -15,15 +15,14 @@ use Rattle.lite_base.specs.Runs.{Hints, NoHint, Runs}
 module _ {A : Type 0} (E : Type 0) where
   all_ok_join : (i j : List (Answer A)) → all_ok {E = E} (i ++ j) ≡ all_ok i ++ all_ok j
   all_ok_join [] j = refl
-  all_ok_join (Pending ∷ i) j = ap (λ l. Pending ∷ l) (all_ok_join i j)
-  all_ok_join (Ready None ∷ i) j = ap (λ l. end ∷ l) (all_ok_join i j)
-  all_ok_join (Ready (Some x) ∷ i) j = ap (λ l. item (Ok x) ∷ l) (all_ok_join i j)
+  all_ok_join (Pending ∷ i) j = rw (all_ok_join i j)
+  all_ok_join (Ready None ∷ i) j = rw (all_ok_join i j)
+  all_ok_join (Ready (Some x) ∷ i) j = rw (all_ok_join i j)
 
   all_ok_none : (i : List (Answer A)) → [] ≡ all_ok {E = E} i → i ≡ []
   all_ok_none [] e = refl
-  all_ok_none (Pending ∷ i) e = absurd (cc e)
-  all_ok_none (Ready None ∷ i) e = absurd (cc e)
-  all_ok_none (Ready (Some x) ∷ i) e = absurd (cc e)
+  all_ok_none (Ready None ∷ i) e = cc
+  all_ok_none (_ ∷ i) e = cc
 
   all_ok_no_pending : (i : List (Answer A)) → NoPending i → NoPending (all_ok {E = E} i)
   all_ok_no_pending [] h = tt
@@ -33,7 +32,7 @@ module _ {A : Type 0} (E : Type 0) where
 
 none_after : {A : Type 0} (i j l : List A) → ([] ≡ j → ⊥) → [] ≡ i ++ (j ++ l) → ⊥
 none_after [] [] l some e = some refl
-none_after i j l some e = cc e
+none_after i j l some e = cc
 
 module _ {S A : Type 0} {run : Runs (Answer A) S} {hints : Hints S} (laws : StreamLaws run hints) where
   lap_rest : (x : Option S) → Lap run x [] x
@@ -42,18 +41,18 @@ module _ {S A : Type 0} {run : Runs (Answer A) S} {hints : Hints S} (laws : Stre
 
   lap_stay : (x y : Option S) → Lap run x [] y → y ≡ x
   lap_stay None None h = refl
-  lap_stay (Some s) (Some t) h = ap (λ v. Some v) (laws.stays s t h.0)
+  lap_stay (Some s) (Some t) h = rw (laws.stays s t h.0)
   lap_stay x y h = absurd h
 
   lap_join : (x y z : Option S) (i j : List (Answer A)) → Lap run x i y → Lap run y j z → Lap run x (i ++ j) z
-  lap_join None None None i j h k = rw (h, k) refl
+  lap_join None None None i j h k = rw (h, k)
   lap_join None (Some t) z i j h k = absurd h
   lap_join (Some s) None z i j h k = absurd h
   lap_join (Some s) (Some t) (Some u) i j h k = (laws.follows s t u i j h.0 k.0, endless_join i j h.1 k.1)
   lap_join x y z i j h k = absurd k
 
   lap_over : (x y : Option S) (i j : List (Answer A)) → Lap run x i y → LapOver run y j → LapOver run x (i ++ j)
-  lap_over None None i j h k = rw (h, k) refl
+  lap_over None None i j h k = rw (h, k)
   lap_over (Some s) (Some t) i j h k = (
     k.0,
     rw append_assoc (laws.follows s t k.0 i (j ++ end ∷ []) h.0 k.1),
@@ -86,7 +85,7 @@ module _ {S A E : Type 0} (is_clone : S → S → Type 0) (is_infallible : S →
 
     renews_some : (asked : Result S E) (out : List (Answer (Result A E))) (s : Option S)
         → Renews run is_clone is_infallible original asked out s → [] ≡ out → ⊥
-    renews_some (Err e) out s h none = cc (none ∙ h.1)
+    renews_some (Err e) out s h none = cc
     renews_some (Ok copy) out None h none = h.1
     renews_some (Ok copy) out (Some s) h none = cc (all_ok_none E (h.1.0 ∷ []) (none ∙ h.1.2))
 
@@ -100,8 +99,7 @@ module _ {S A E : Type 0} (is_clone : S → S → Type 0) (is_infallible : S →
     laps_after : (asked : List (Result S E)) (x y z : Option S) (own : List (Answer A))
         (out : List (Answer (Result A E))) → Lap run x own y → Laps run is_clone is_infallible original asked y out z
         → Laps run is_clone is_infallible original asked x (all_ok own ++ out) z
-    laps_after [] x y z own out h k =
-        (own ++ k.0, lap_join laws x y z own k.0 h k.1, rw (k.2, all_ok_join E own k.0) refl)
+    laps_after [] x y z own out h k = (own ++ k.0, lap_join laws x y z own k.0 h k.1, rw (k.2, all_ok_join))
     laps_after (r ∷ asked) x y z own out h k =
         record {
           own = own ++ k.own;
@@ -111,7 +109,7 @@ module _ {S A E : Type 0} (is_clone : S → S → Type 0) (is_infallible : S →
           renews = k.renews;
           rest = k.rest;
           goes_on = k.goes_on;
-          joined = rw (k.joined, all_ok_join E own k.own, append_assoc);
+          joined = rw (k.joined, all_ok_join, append_assoc);
         }
 
     laps_join : (asked more : List (Result S E)) (x y z : Option S) (l m : List (Answer (Result A E)))
@@ -134,13 +132,10 @@ module _ {S A E : Type 0} (is_clone : S → S → Type 0) (is_infallible : S →
   cycle_laws =
       record {
         rests = λ x. ([], ([], lap_rest laws x.stream, refl), refl);
-        stays = λ x y h. let s = laps_stay x.original h.0 x.stream y.stream h.1 in λ i. record {
-          original = h.2 i;
-          stream = s i;
-        };
+        stays = λ x y h.
+            λ i. record { original = h.2 i; stream = (laps_stay x.original h.0 x.stream y.stream h.1) i };
         follows = λ x y z l m h k.
-            let next = rw h.2 at k.1 in
-            (h.0 ++ k.0, laps_join x.original h.0 k.0 x.stream y.stream z.stream l m h.1 next, k.2 ∙ h.2);
+            (h.0 ++ k.0, laps_join x.original h.0 k.0 x.stream y.stream z.stream l m h.1 (rw h.2 at k.1), k.2 ∙ h.2);
         bounded = λ x y hint l e h. same_hint hint (0, None) l e tt;
       }
 
@@ -170,11 +165,12 @@ module _ {S A E : Type 0} (is_clone : S → S → Type 0) (is_infallible : S →
         → Laps run is_clone is_infallible original asked x out y → NoPending out × IfSome y is_calm
     laps_calm [] x y out k h = let e = lap_calm c x y h.0 k h.1 in (rw h.2 (all_ok_no_pending E h.0 e.0), e.1)
     laps_calm (r ∷ asked) x y out k h =
-        let before = all_ok_no_pending E h.own (over_calm c x h.own k h.over) in
         let anew = renews_calm r h.anew h.next h.renews in
         let after = laps_calm asked h.next y h.rest anew.1 h.goes_on in (
           rw h.joined
-              (no_pending_join (all_ok h.own) (h.anew ++ h.rest) before (no_pending_join h.anew h.rest anew.0 after.0)),
+              (no_pending_join (all_ok h.own) (h.anew ++ h.rest)
+              (all_ok_no_pending E h.own (over_calm c x h.own k h.over))
+              (no_pending_join h.anew h.rest anew.0 after.0)),
           after.1,
         )
 

@@ -1,5 +1,5 @@
 -- Laws of `drain`.
-use Rattle.std.proofs.Common.{◌≡◌, ℕ, ◌≤◌, List, [], ◌∷◌, ◌++◌, Some, None, refl, ap, arith}
+use Rattle.std.proofs.Common.{◌≡◌, ℕ, ◌≤◌, List, [], ◌∷◌, ◌++◌, Some, None, refl, arith}
 use Rattle.futures.specs.declared.task.Poll.TheVariants.{Ready, Pending}
 use Rattle.lite_base.specs.Answers.{Answer, before_end, items}
 use Rattle.lite_base.specs.Calm.{CalmLaws, NoPending}
@@ -11,17 +11,17 @@ use Rattle.lite_stream.specs.Laws.Through.{Relating}
 module _ {A : Type 0} where
   drained_join : (i j : List (Answer A)) → with_ends (i ++ j) ≡ with_ends i ++ with_ends j
   drained_join [] j = refl
-  drained_join (Pending ∷ i) j = ap (λ l. Ready None ∷ l) (drained_join i j)
-  drained_join (Ready o ∷ i) j = ap (λ l. Ready o ∷ l) (drained_join i j)
+  drained_join (Pending ∷ i) j = rw (drained_join i j)
+  drained_join (Ready o ∷ i) j = rw (drained_join i j)
 
   drained_none : (i : List (Answer A)) → [] ≡ with_ends i → i ≡ []
   drained_none [] e = refl
-  drained_none (Pending ∷ i) e = absurd (cc e)
-  drained_none (Ready o ∷ i) e = absurd (cc e)
+  drained_none (Pending ∷ i) e = cc
+  drained_none (Ready o ∷ i) e = cc
 
   -- an end goes out where a Pending came in, so no more items stand before the first end
   drained_bounded : (i : List (Answer A)) → before_end (with_ends i) ≤ before_end i
-  drained_bounded (Ready (Some x) ∷ i) = let e = drained_bounded i in omega (arith, e)
+  drained_bounded (Ready (Some x) ∷ i) = omega (arith, drained_bounded i)
   drained_bounded i = omega arith
 
   drained_lowers : (i : List (Answer A)) (xs ys : List ℕ) → Lowers i xs ys → Lowers (with_ends i) xs ys
@@ -31,27 +31,24 @@ module _ {A : Type 0} where
 
   drained_items : (i : List (Answer A)) (l : List A) → items l ≡ with_ends i → i ≡ items l
   drained_items [] [] e = refl
-  drained_items [] (x ∷ l) e = absurd (cc e)
   drained_items (a ∷ i) [] e = absurd (drained_some a i e)
     where
       drained_some : (a : Answer A) (i : List (Answer A)) → [] ≡ with_ends (a ∷ i) → ⊥
       drained_some Pending i e = cc e
       drained_some (Ready o) i e = cc e
-  drained_items (Pending ∷ i) (x ∷ l) e = absurd (cc e)
-  drained_items (Ready None ∷ i) (x ∷ l) e = absurd (cc e)
   drained_items (Ready (Some y) ∷ i) (x ∷ l) e =
       let same : x ≡ y = cc e in
-      rw (same, drained_items i l (cc e)) refl
+      rw (same, drained_items i l (cc e))
+  drained_items _ (x ∷ l) e = cc
 
   pub drained_relating : Relating (Drained {A = A})
   drained_relating =
       record {
-        following =
-            record {
-              starts = λ f. refl;
-              empty = λ f g i h. (drained_none i h, refl);
-              joins = λ f g h i j l m a b. rw (a, b, drained_join i j) refl;
-            };
+        following = record {
+          starts = λ f. refl;
+          empty = λ f g i h. (drained_none i h, refl);
+          joins = λ f g h i j l m a b. rw (a, b, drained_join) refl;
+        };
         bounds = λ f g i o h. rw h (drained_bounded i);
         lowers = λ f g i o xs ys h k. rw h (drained_lowers i xs ys k);
         from_items = λ f g i y l h. (y, l, drained_items i (y ∷ l) h);

@@ -16,7 +16,7 @@ module _ {A : Type 0} where
   ends_bounded [] l h = ends_before l h
   ends_bounded (Pending ∷ i) l h = ends_bounded i l h
   ends_bounded (Ready None ∷ i) l h = omega arith
-  ends_bounded (Ready (Some x) ∷ i) l h = let e = ends_bounded i l h in omega (arith, e)
+  ends_bounded (Ready (Some x) ∷ i) l h = omega (arith, ends_bounded i l h)
 
   ends_keep : (l : List (Answer A)) (xs ys : List ℕ) → AllEnds l → AtMost xs ys → Lowers l xs ys
   ends_keep [] xs ys h k = k
@@ -34,11 +34,11 @@ module _ {A : Type 0} where
   -- nor Pendings
   pub ends_calm : (i l : List (Answer A)) → AllEnds l → waits (i ++ l) ≤ waits i
   ends_calm [] l h = ends_waits l h
-  ends_calm (Pending ∷ i) l h = let e = ends_calm i l h in omega (arith, e)
+  ends_calm (Pending ∷ i) l h = omega (arith, ends_calm i l h)
   ends_calm (Ready x ∷ i) l h = ends_calm i l h
 
   -- items have no end among them
   pub no_end_among : (i j : List (Answer A)) (l : List A) → items l ≡ i ++ end ∷ j → ⊥
-  no_end_among [] j [] e = cc e
+  no_end_among [] j [] e = cc
   no_end_among (a ∷ i) j (x ∷ l) e = no_end_among i j l (cc e)
-  no_end_among i j l e = cc e
+  no_end_among i j l e = cc

@@ -1,6 +1,6 @@
 -- Laws of two streams of which each row asks one first.
 use Rattle.std.proofs.Common.{◌≡◌, ◌∙◌, ℕ, ◌+◌, List, [], ◌∷◌, ◌++◌, length, map, Bool, true, Some, None, inl}
-use Rattle.std.proofs.Common.{refl, ap, sym, subst, arith, length-append}
+use Rattle.std.proofs.Common.{refl, ap, sym, arith, length-append}
 use Rattle.futures.specs.declared.task.Poll.TheVariants.{Ready, Pending}
 use Rattle.lite_base.specs.Answers.{Answer, item, items}
 use Rattle.lite_base.specs.Calm.{CalmLaws, NoPending}
@@ -55,9 +55,8 @@ module _ {A : Type 0} where
       (other : AtMost xs us → Below ys vs → Below zs ws) where
     beside_lowers : (b : Answer A) (out : List (Answer A)) → Lowers (b ∷ out) zs ws
         → Lowers (beside_pending b ∷ out) zs ws
-    beside_lowers Pending out h = h
     beside_lowers (Ready None) out h = h
-    beside_lowers (Ready (Some y)) out h = h
+    beside_lowers _ out h = h
 
     asked_lowers : (b : Answer A) (j out : List (Answer A)) → AtMost xs us → (Lowers j ys vs → Lowers out zs ws)
         → Lowers (b ∷ j) ys vs → Lowers (b ∷ out) zs ws
@@ -91,11 +90,11 @@ module _ {A : Type 0} where
   row_item (Ready (Some x) ∷ i) j y i' j' l s r e rest =
       (s, sym r.2 ∙ e, λ none. let d = rest none in let a = r.0 in let b = r.1 in cc)
   row_item (Ready None ∷ i) (b ∷ j) y i' j' l s r e rest =
-      (y ∷ s, (let a = r.0 in let d = r.2 in cc), λ none. absurd (cc none))
-  row_item (Pending ∷ i) (Pending ∷ j) y i' j' l s r e rest = absurd (cc r.0)
-  row_item (Pending ∷ i) (Ready None ∷ j) y i' j' l s r e rest = absurd (cc r.0)
+      (y ∷ s, (let a = r.0 in let d = r.2 in cc), λ none. cc none)
+  row_item (Pending ∷ i) (Pending ∷ j) y i' j' l s r e rest = cc
+  row_item (Pending ∷ i) (Ready None ∷ j) y i' j' l s r e rest = cc
   row_item (Pending ∷ i) (Ready (Some z) ∷ j) y i' j' l s r e rest =
-      (z ∷ s, (let d = r.2 in cc), λ none. absurd (cc none))
+      (z ∷ s, (let d = r.2 in cc), λ none. cc none)
   row_item i j y i' j' l s r e rest = absurd r
 
   -- in rows of items where the first stands first, the second gave items alone, and where it gave none all are the

@@ -1,5 +1,5 @@
 -- Laws of `or`.
-use Rattle.std.proofs.Common.{◌∙◌, true, None, ap, subst, sym}
+use Rattle.std.proofs.Common.{◌∙◌, None, ap, sym}
 use Rattle.std.proofs.lemmas.List.{map-append}
 use Rattle.lite_base.specs.Answers.{Answer}
 use Rattle.lite_base.specs.Calm.{CalmLaws}
@@ -12,7 +12,7 @@ use Rattle.lite_merge.specs.Laws.Merge.{first_falls, fused_laws, merges_calm, me
 use Rattle.lite_merge.specs.Laws.Merge.{merges_rest, merges_sized, merges_stay}
 use Rattle.lite_merge.specs.Or.{Ors, or_ranks}
 use Rattle.lite_merge.specs.declared.or.Or.{Or}
-use Rattle.lite_stream.specs.Fuse.{Fuses, fuse_parts}
+use Rattle.lite_stream.specs.Fuse.{fuse_parts}
 use Rattle.lite_stream.specs.Laws.Fuse.{fuses_relating}
 use Rattle.lite_stream.specs.Laws.Through.{through_counting}
 
@@ -23,7 +23,7 @@ module _ {S U A : Type 0} {run : Runs (Answer A) S} {run' : Runs (Answer A) U} w
       record {
         rests = λ x. merges_rest s u x.stream1 x.stream2;
         stays = λ x y h. let e = merges_stay s u h in λ i. record { stream1 = e.0 i; stream2 = e.1 i };
-        follows = λ x y z l m h k. rw (map-append (λ (_ : Answer A). true) l m) (merges_follow s u h k);
+        follows = λ x y z l m h k. rw map-append (merges_follow s u h k);
         bounded = λ x y hint l e h. same_hint hint (0, None) l e tt;
       }
 
@@ -34,7 +34,7 @@ module _ {S U A : Type 0} {run : Runs (Answer A) S} {run' : Runs (Answer A) U} w
 
   pub or_counting : {hints' : Hints U} {r : Ranks S} {r' : Ranks U} → StreamLaws run' hints' → Counting run r
       → Counting run' r' → Counting (Ors run run') (or_ranks r r')
-  or_counting {r = r} {r' = r'} u c d =
+  or_counting {r} {r'} u c d =
       let first = through_counting fuse_parts c fuses_relating in
       let second = through_counting fuse_parts d fuses_relating in
       record {

@@ -1,10 +1,9 @@
 -- Laws of `race`.
-use Rattle.std.proofs.Common.{◌≡◌, List, [], ◌∷◌, ◌++◌, None, refl, subst, sym, inl, append-nil}
+use Rattle.std.proofs.Common.{◌≡◌, List, [], ◌∷◌, ◌++◌, None, refl, inl, append-nil}
 use Rattle.std.proofs.lemmas.List.{map-append}
 use Rattle.rand_core.specs.Stream.{Stream, next_u32}
 use Rattle.lite_base.specs.Answers.{Answer, items}
 use Rattle.lite_base.specs.Calm.{CalmLaws, NoPending}
-use Rattle.lite_base.specs.Future.Race.{is_first}
 use Rattle.lite_base.specs.Laws.Calls.{folds_follow}
 use Rattle.lite_base.specs.Laws.Calm.{calm_both}
 use Rattle.lite_base.specs.Laws.Hint.{same_hint}
@@ -18,18 +17,19 @@ use Rattle.lite_merge.specs.declared.race.Race.{Race}
 
 module _ {S U R A : Type 0} {run : Runs (Answer A) S} {run' : Runs (Answer A) U} (stream : R → Stream) where
   module _ {hints : Hints S} {hints' : Hints U} (s : StreamLaws run hints) (u : StreamLaws run' hints') where
-    races_follow : (x y z : Race S U R) (l m : List (Answer A)) → RacesOn run run' stream x l y
-        → RacesOn run run' stream y m z → RacesOn run run' stream x (l ++ m) z
-    races_follow x y z [] m h k = rw h at k
-    races_follow x y z (c ∷ l) [] h k =
-        rw (append-nil (c ∷ l)) (rw k h)
-    races_follow x y z (c ∷ l) (d ∷ m) h k =
-        record {
-          words = h.words ++ k.words;
-          drawn = folds_follow (λ s word left. (word, left) ≡ next_u32 s) (stream x.rng) (stream y.rng)
-              (stream z.rng) h.words k.words h.drawn k.drawn;
-          merges = rw (map-append is_first h.words k.words) (merges_follow s u h.merges k.merges);
-        }
+    module _ (x y z : Race S U R) where
+      races_follow : (l m : List (Answer A)) → RacesOn run run' stream x l y → RacesOn run run' stream y m z
+          → RacesOn run run' stream x (l ++ m) z
+      races_follow [] m h k = rw h at k
+      races_follow (c ∷ l) [] h k = rw (append-nil (c ∷ l)) (rw k h)
+      races_follow (c ∷ l) (d ∷ m) h k =
+          record {
+            words = h.words ++ k.words;
+            drawn =
+                folds_follow (λ s word left. (word, left) ≡ next_u32 s) (stream x.rng) (stream y.rng) (stream z.rng)
+                h.words k.words h.drawn k.drawn;
+            merges = rw map-append (merges_follow s u h.merges k.merges);
+          }
 
     pub race_laws : StreamLaws (RacesOn run run' stream) NoHint
     race_laws = record {

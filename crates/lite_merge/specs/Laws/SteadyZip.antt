@@ -1,7 +1,6 @@
 -- Two streams whose items are paired, by what each of them answers.
 use Rattle.std.proofs.Common.{◌≡◌, ℕ, zero, suc, List, [], ◌∷◌, Option, Some, None, refl}
 use Rattle.futures.specs.declared.task.Poll.{Poll}
-use Rattle.futures.specs.declared.task.Poll.TheVariants.{Ready}
 use Rattle.lite_base.specs.Alike.{Pairwise, SameAnswer, SameHeld, SameItem, Sameness}
 use Rattle.lite_base.specs.Answers.{Answer, ComparableBy, strip}
 use Rattle.lite_base.specs.Laws.Alike.{both_items, comparable_nil, ends_same, held_same, item_same, pairs_same}
@@ -46,32 +45,33 @@ module _ {A B : Type 0} where
       → Pairing f i j l g → Matching f (strip i) (strip j) (strip l)
   matching f g =
       pairing_by g (λ f i j l. Matching f (strip i) (strip j) (strip l)) (λ e. refl)
-      (λ x n e. rw (strip_pendings {C = Option B} n [], strip_pendings {C = Option (A × B)} n []) refl)
-      (λ x i n b j l r. rw (strip_pendings n (Ready b ∷ j), strip_pendings n (pair_with x b ∷ l), strip_pair x b l)
-      (strip l, refl, r))
-      (λ i j l r. r) (λ i j l r. (strip l, refl, r)) (λ x i j b l r. r) f
+      (λ x n e. rw (strip_pendings, strip_pendings))
+      (λ x i n b j l r. rw (strip_pendings, strip_pendings, strip_pair) (strip l, refl, r)) (λ i j l r. r)
+      (λ i j l r. (strip l, refl, r)) (λ x i j b l r. r) f
 
   module _ (same : Sameness A) (other : Sameness B) where
     abbrev Out : List (Option (A × B)) → List (Option (A × B)) → Type 0
     Out = ComparableBy (SameAnswer (Pairwise same other))
 
-    other_same : (x y : A) (b c : Option B) → SameItem same x y → SameAnswer other b c
-        → SameAnswer (Pairwise same other) (with_other x b) (with_other y c)
-    other_same x y None None e d = ends_same (Pairwise same other)
-    other_same x y None (Some c) e d = absurd (both_items other None (Some c) d)
-    other_same x y (Some b) None e d = absurd (both_items other (Some b) None d)
-    other_same x y (Some b) (Some c) e d =
-        same_answer (Pairwise same other) (x, b) (y, c) (pairs_same same other (x, b) (y, c) e (item_same other b c d))
+    module _ (x y : A) where
+      other_same : (b c : Option B) → SameItem same x y → SameAnswer other b c
+          → SameAnswer (Pairwise same other) (with_other x b) (with_other y c)
+      other_same None None e d = ends_same (Pairwise same other)
+      other_same None (Some c) e d = absurd (both_items other None (Some c) d)
+      other_same (Some b) None e d = absurd (both_items other (Some b) None d)
+      other_same (Some b) (Some c) e d =
+          same_answer (Pairwise same other) (x, b) (y, c)
+          (pairs_same same other (x, b) (y, c) e (item_same other b c d))
 
-    meets_same : (x y : A) (P Q : List (Option B) → List (Option (A × B)) → Type 0) (j k : List (Option B))
-        (o p : List (Option (A × B))) → SameItem same x y
-        → ((more more' : List (Option B)) (rest rest' : List (Option (A × B))) → P more rest → Q more' rest'
-        → ComparableBy (SameAnswer other) more more' → Out rest rest')
-        → Meets x P j o → Meets y Q k p → ComparableBy (SameAnswer other) j k → Out o p
-    meets_same x y P Q [] k o p e rest r q d = rw r tt
-    meets_same x y P Q (b ∷ j) [] o p e rest r q d = rw q (comparable_nil (SameAnswer (Pairwise same other)) o)
-    meets_same x y P Q (b ∷ j) (c ∷ k) o p e rest r q d =
-        rw (r.1, q.1) (other_same x y b c e d.0, rest j k r.0 q.0 r.2 q.2 d.1)
+      meets_same : (P Q : List (Option B) → List (Option (A × B)) → Type 0) (j k : List (Option B))
+          (o p : List (Option (A × B))) → SameItem same x y
+          → ((more more' : List (Option B)) (rest rest' : List (Option (A × B))) → P more rest → Q more' rest'
+          → ComparableBy (SameAnswer other) more more' → Out rest rest')
+          → Meets x P j o → Meets y Q k p → ComparableBy (SameAnswer other) j k → Out o p
+      meets_same P Q [] k o p e rest r q d = rw r tt
+      meets_same P Q (b ∷ j) [] o p e rest r q d = rw q (comparable_nil (SameAnswer (Pairwise same other)) o)
+      meets_same P Q (b ∷ j) (c ∷ k) o p e rest r q d =
+          rw (r.1, q.1) (other_same b c e d.0, rest j k r.0 q.0 r.2 q.2 d.1)
 
     matched_same : (i k : List (Option A)) (j h : List (Option B)) (o p : List (Option (A × B))) → Matched i j o
         → Matched k h p → ComparableBy (SameAnswer same) i k → ComparableBy (SameAnswer other) j h → Out o p
@@ -83,7 +83,7 @@ module _ {A B : Type 0} where
     matched_same (Some x ∷ i) (None ∷ k) j h o p r q c d = absurd (both_items same (Some x) None c.0)
     matched_same (Some x ∷ i) (Some y ∷ k) j h o p r q c d =
         meets_same x y (Matched i) (Matched k) j h o p (item_same same x y c.0)
-        (λ more more' rest rest' u v w. matched_same i k more more' rest rest' u v c.1 w) r q d
+        (λ more more' rest rest' u v. matched_same i k more more' rest rest' u v c.1) r q d
 
     matching_same : (f g : Option A) (i k : List (Option A)) (j h : List (Option B)) (o p : List (Option (A × B)))
         → SameAnswer same f g → Matching f i j o → Matching g k h p → ComparableBy (SameAnswer same) i k
@@ -93,7 +93,7 @@ module _ {A B : Type 0} where
     matching_same (Some x) None i k j h o p e r q c d = absurd (both_items same (Some x) None e)
     matching_same (Some x) (Some y) i k j h o p e r q c d =
         meets_same x y (Matched i) (Matched k) j h o p (item_same same x y e)
-        (λ more more' rest rest' u v w. matched_same i k more more' rest rest' u v c w) r q d
+        (λ more more' rest rest' u v. matched_same i k more more' rest rest' u v c) r q d
 
 module _ {S U A B : Type 0} {run ample : Runs (Answer A) S} {run' ample' : Runs (Answer B) U} {none none' : Type 0}
     {alike : S → S → Type 0} {alike' : U → U → Type 0} (same : Sameness A) (other : Sameness B) where

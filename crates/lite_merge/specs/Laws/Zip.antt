@@ -1,6 +1,6 @@
 -- Laws of two streams whose items are paired.
 use Rattle.std.proofs.Common.{◌≡◌, ◌∙◌, ℕ, zero, suc, ◌+◌, ◌≤◌, List, [], ◌∷◌, ◌++◌, Option, Some, None, inl, inr, refl}
-use Rattle.std.proofs.Common.{ap, subst, arith}
+use Rattle.std.proofs.Common.{ap, arith}
 use Rattle.std.specs.List.{AllByRecursion}
 use Rattle.futures.specs.declared.task.Poll.{Poll}
 use Rattle.futures.specs.declared.task.Poll.TheVariants.{Ready, Pending}
@@ -22,32 +22,32 @@ use Rattle.lite_stream.specs.Laws.Held.{held_falls, held_first, held_less, held_
 module _ {C : Type 0} where
   pendings_join : (n : ℕ) (l m : List (Poll C)) → pendings n l ++ m ≡ pendings n (l ++ m)
   pendings_join zero l m = refl
-  pendings_join (suc n) l m = ap (λ k. Pending ∷ k) (pendings_join n l m)
+  pendings_join (suc n) l m = rw (pendings_join n l m)
 
   pendings_more : (n k : ℕ) (l : List (Poll C)) → pendings n (pendings k l) ≡ pendings (n + k) l
-  pendings_more zero k l = let e : k ≡ 0 + k = omega arith in ap (λ m. pendings m l) e
+  pendings_more zero k l = ap (λ m. pendings m l) (omega arith)
   pendings_more (suc n) k l =
       let e : suc (n + k) ≡ suc n + k = omega arith in
       ap (λ m. Pending ∷ m) (pendings_more n k l) ∙ ap (λ m. pendings m l) e
 
   waits_pendings : (n : ℕ) (l : List (Poll C)) → waits (pendings n l) ≡ n + waits l
   waits_pendings zero l = omega arith
-  waits_pendings (suc n) l = let e = waits_pendings n l in omega (arith, e)
+  waits_pendings (suc n) l = omega (arith, waits_pendings n l)
 
   not_none : (n : ℕ) (z : Poll C) (r : List (Poll C)) → [] ≡ pendings n (z ∷ r) → ⊥
-  not_none zero z r e = cc e
-  not_none (suc n) z r e = cc e
+  not_none zero z r e = cc
+  not_none (suc n) z r e = cc
 
 module _ {C : Type 0} where
   not_items : (n : ℕ) (y : C) (l : List C) → items (y ∷ l) ≡ pendings n [] → ⊥
-  not_items zero y l e = cc e
-  not_items (suc n) y l e = cc e
+  not_items zero y l e = cc
+  not_items (suc n) y l e = cc
 
   -- no Pending stands among items
   items_rest : (n : ℕ) (z : Answer C) (r : List (Answer C)) → AllByRecursion IsItem (pendings n (z ∷ r))
       → AllByRecursion IsItem r
   items_rest zero z r h = h.1
-  items_rest (suc n) z r h = absurd (let e = h.0.1 in cc)
+  items_rest (suc n) z r h = cc
 
 pendings_lower : (C : Type 0) (n : ℕ) (xs ys : List ℕ) → AtMost xs ys → Lowers {A = C} (pendings n []) xs ys
 pendings_lower C zero xs ys h = h
@@ -55,7 +55,7 @@ pendings_lower C (suc n) xs ys h = pendings_lower C n xs ys h
 
 none_pending : {C D : Type 0} (n : ℕ) → [] ≡ pendings {A = C} n [] → pendings {A = D} n [] ≡ []
 none_pending zero e = refl
-none_pending (suc n) e = absurd (cc e)
+none_pending (suc n) e = cc
 
 pairing_starts : {A : Type 0} (B : Type 0) (f : Option A) → Pairing {B = B} f [] [] [] f
 pairing_starts B None = (refl, refl, refl)
@@ -85,35 +85,35 @@ module _ {A B : Type 0} (g : Option A)
   pairs_by (a ∷ i) j [] c = absurd c
   pairs_by (Pending ∷ i) j (b ∷ l) c = rw c.0 (pends i j l (pairs_by i j l c.1))
   pairs_by (Ready None ∷ i) j (b ∷ l) c = rw c.0 (ended i j l (pairs_by i j l c.1))
-  pairs_by (Ready (Some x) ∷ i) j (b ∷ l) c = taken x i j b l (held_by x i j (b ∷ l) (λ m r e. pairs_by i m r e) c)
+  pairs_by (Ready (Some x) ∷ i) j (b ∷ l) c = taken x i j b l (held_by x i j (b ∷ l) (pairs_by i) c)
 
   pub pairing_by : (f : Option A) (i : List (Answer A)) (j : List (Answer B)) (l : List (Answer (A × B)))
       → Pairing f i j l g → P f i j l
   pairing_by None i j l c = pairs_by i j l c
-  pairing_by (Some x) i j l c = held_by x i j l (λ m r e. pairs_by i m r e) c
+  pairing_by (Some x) i j l c = held_by x i j l (pairs_by i) c
 
 module _ {A B : Type 0} where
   -- what is held may wait in two parts
-  begun : (x : A) (k : List (Answer A)) (n : ℕ) (s : List (Answer B)) (m : List (Answer (A × B))) (h : Option A)
-      → Pairing (Some x) k s m h → Pairing (Some x) k (pendings n [] ++ s) (pendings n [] ++ m) h
-  begun x k n s m h (inl c) =
-      inl (
-        n + c.0,
-        c.1,
-        rw (c.2, pendings_join, pendings_more) refl,
-        rw (c.3, pendings_join, pendings_more) refl,
-        c.4,
-      )
-  begun x k n s m h (inr c) =
-      inr (
-        n + c.0,
-        c.1,
-        c.2,
-        c.3,
-        rw (c.4, pendings_join, pendings_more) refl,
-        rw (c.5, pendings_join, pendings_more) refl,
-        c.6,
-      )
+  module _ (x : A) (k : List (Answer A)) (n : ℕ) (s : List (Answer B)) (m : List (Answer (A × B))) (h : Option A) where
+    begun : Pairing (Some x) k s m h → Pairing (Some x) k (pendings n [] ++ s) (pendings n [] ++ m) h
+    begun (inl c) =
+        inl (
+          n + c.0,
+          c.1,
+          rw (c.2, pendings_join, pendings_more),
+          rw (c.3, pendings_join, pendings_more),
+          c.4,
+        )
+    begun (inr c) =
+        inr (
+          n + c.0,
+          c.1,
+          c.2,
+          c.3,
+          rw (c.4, pendings_join, pendings_more),
+          rw (c.5, pendings_join, pendings_more),
+          c.6,
+        )
 
   pairing_follow : (f g h : Option A) (i k : List (Answer A)) (j s : List (Answer B)) (l m : List (Answer (A × B)))
       → Pairing f i j l g → Pairing g k s m h → Pairing f (i ++ k) (j ++ s) (l ++ m) h
@@ -143,28 +143,29 @@ module _ {A B : Type 0} where
 
   -- ranks
 
-  pairing_lowers : (f g : Option A) (i : List (Answer A)) (j : List (Answer B)) (l : List (Answer (A × B)))
-      (xs us : List ℕ) → Pairing f i j l g → Lowers i xs us → Lowers l (held_rank xs g) (held_rank us f)
-  pairing_lowers f g i j l xs us =
-      pairing_by g (λ f i j l. Lowers i xs us → Lowers l (held_rank xs g) (held_rank us f))
-      (λ e h. held_level xs us None g h (ap count_held e))
-      (λ x n e h. pendings_lower (A × B) n _ _ (held_level xs us (Some x) g h (ap count_held e)))
-      (λ x i n b j l r h. Lowers-below (pendings n (pair_with x b ∷ l)) _ _
-      (held_less _ us x (Lowers-at_most l _ _ (r h))))
-      (λ i j l r. r) (λ i j l r. r) (λ x i j b l r h. Lowers-below (b ∷ l) _ _ (held_first xs us g None h)) f i j l
+  module _ (f g : Option A) where
+    pairing_lowers : (i : List (Answer A)) (j : List (Answer B)) (l : List (Answer (A × B))) (xs us : List ℕ)
+        → Pairing f i j l g → Lowers i xs us → Lowers l (held_rank xs g) (held_rank us f)
+    pairing_lowers i j l xs us =
+        pairing_by g (λ f i j l. Lowers i xs us → Lowers l (held_rank xs g) (held_rank us f))
+        (λ e h. held_level xs us None g h (ap count_held e))
+        (λ x n e h. pendings_lower (A × B) n _ _ (held_level xs us (Some x) g h (ap count_held e)))
+        (λ x i n b j l r h. Lowers-below (pendings n (pair_with x b ∷ l)) _ _
+        (held_less _ us x (Lowers-at_most l _ _ (r h))))
+        (λ i j l r. r) (λ i j l r. r) (λ x i j b l r h. Lowers-below (b ∷ l) _ _ (held_first xs us g None h)) f i j l
 
-  -- where items came out, only items came in
-  pairing_items : (f g : Option A) (i : List (Answer A)) (j : List (Answer B)) (l : List (Answer (A × B)))
-      → Pairing f i j l g → AllByRecursion IsItem l → AllByRecursion IsItem i
-  pairing_items f g =
-      pairing_by g (λ f i j l. AllByRecursion IsItem l → AllByRecursion IsItem i) (λ e h. tt) (λ x n e h. tt)
-      (λ x i n b j l r h. r (items_rest n (pair_with x b) l h)) (λ i j l r h. absurd (let e = h.0.1 in cc))
-      (λ i j l r h. absurd (let e = h.0.1 in cc)) (λ x i j b l r h. ((x, refl), r h)) f
+    -- where items came out, only items came in
+    pairing_items : (i : List (Answer A)) (j : List (Answer B)) (l : List (Answer (A × B))) → Pairing f i j l g
+        → AllByRecursion IsItem l → AllByRecursion IsItem i
+    pairing_items =
+        pairing_by g (λ f i j l. AllByRecursion IsItem l → AllByRecursion IsItem i) (λ e h. tt) (λ x n e h. tt)
+        (λ x i n b j l r h. r (items_rest n (pair_with x b) l h)) (λ i j l r h. let e = h.0.1 in cc)
+        (λ i j l r h. let e = h.0.1 in cc) (λ x i j b l r h. ((x, refl), r h)) f
 
   -- and where nothing came in, they came of what was held
   alone : (f g : Option A) (j : List (Answer B)) (y : A × B) (l : List (A × B)) → Pairing f [] j (items (y ∷ l)) g
       → (g ≡ None) × (v : A) × (f ≡ Some v)
-  alone None g j y l c = absurd (let e = c.1 in cc)
+  alone None g j y l c = cc
   alone (Some x) g j y l (inl c) = absurd (not_items c.0 y l c.3)
   alone (Some x) g j y l (inr c) = (c.6.2, x, refl)
 
@@ -188,8 +189,8 @@ module _ {A B : Type 0} where
       pairing_by g (λ f i j l. waits l ≤ waits i + waits j) (λ e. omega arith)
       (λ x n e. omega (arith, waits_pendings {C = Option B} n [], waits_pendings {C = Option (A × B)} n []))
       (λ x i n b j l r.
-      let out = waits_pendings n (pair_with x b ∷ l) in
-      omega (arith, r, waits_pendings n (Ready b ∷ j), out, pair_no_pending x b l))
+      omega
+      (arith, r, waits_pendings n (Ready b ∷ j), waits_pendings n (pair_with x b ∷ l), pair_no_pending x b l))
       (λ i j l r. omega (arith, r)) (λ i j l r. r) (λ x i j b l r. r) f
 
 module _ {S U A B : Type 0} {run : Runs (Answer A) S} {run' : Runs (Answer B) U} where
@@ -197,9 +198,12 @@ module _ {S U A B : Type 0} {run : Runs (Answer A) S} {run' : Runs (Answer B) U}
       → Zips run run' x [] y → y ≡ x
   zips_stay stays stays' x y h =
       let e = pairing_empty x.item_slot y.item_slot h.firsts h.seconds h.paired in
-      let same = stays x.first y.first (rw e.0 at h.came) in
-      let same' = stays' x.second y.second (rw e.1 at h.then_came) in
-      λ i. record { item_slot = e.2 i; first = same i; second = same' i }
+      λ i.
+      record {
+        item_slot = e.2 i;
+        first = (stays x.first y.first (rw e.0 at h.came)) i;
+        second = (stays' x.second y.second (rw e.1 at h.then_came)) i;
+      }
 
   pub zip_runs : RunLaws run → RunLaws run' → RunLaws (Zips run run')
   zip_runs s u =
@@ -229,7 +233,7 @@ module _ {S U A B : Type 0} {run : Runs (Answer A) S} {run' : Runs (Answer B) U}
 
   pub zip_counting : {hints : Hints S} {r : Ranks S} → StreamLaws run hints → Counting run r
       → Counting (Zips run run') (zip_ranks r)
-  zip_counting {r = r} s c =
+  zip_counting {r} s c =
       record {
         sized = λ x. held_sized (r.rank x.first) x.item_slot (c.sized x.first);
         counts_on = λ x y l k h. c.counts_on x.first y.first h.firsts k h.came;
@@ -247,6 +251,10 @@ module _ {S U A B : Type 0} {run : Runs (Answer A) S} {run' : Runs (Answer B) U}
       → CalmLaws (Zips run run') (λ x. is_calm x.first × is_calm' x.second)
   zip_calm s u =
       calm_two (λ x. x.first) (λ x. x.second) s u
-      (λ x y l h.
-      let fewer = pairing_waits x.item_slot y.item_slot h.firsts h.seconds l h.paired in
-      (h.firsts, h.seconds, h.came, h.then_came, fewer))
+      (λ x y l h. (
+        h.firsts,
+        h.seconds,
+        h.came,
+        h.then_came,
+        pairing_waits x.item_slot y.item_slot h.firsts h.seconds l h.paired,
+      ))

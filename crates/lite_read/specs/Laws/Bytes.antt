@@ -29,7 +29,7 @@ tells_join _ j _ m h k = absurd h
 
 -- as many as one byte or error lower the rank
 one_below : (n : ℕ) (xs ys : List ℕ) → Falls (n + 1) xs ys → Below xs ys
-one_below n xs ys h = subst (λ k. Falls k xs ys) (add-one n) h
+one_below n xs ys h = rw (add-one n) at h
 
 -- what the marks do to a rank, the answers do
 tells_lower : (i : List ReadMark) (l : List (Answer (Result ℕ Error))) (xs ys : List ℕ) → TellsEach i l
@@ -55,26 +55,27 @@ tells_items (ReadMark.fault k ∷ i) (r ∷ l) h = let e = tells_items i l h.1 i
 tells_items _ (r ∷ l) h = absurd h.0
 
 module _ {R : Type 0} {reads : Runs ReadMark R} where
-  tells_follow : MarkLaws reads → (x y z : Bytes R) (l m : List (Answer (Result ℕ Error))) → TellsBytes reads x l y
-      → TellsBytes reads y m z → TellsBytes reads x (l ++ m) z
-  tells_follow laws x y z l m h k =
-      record {
-        marks = h.marks ++ k.marks;
-        came = laws.follows x.inner y.inner z.inner h.marks k.marks h.came k.came;
-        told = tells_join h.marks k.marks l m h.told k.told;
-        idle = idle_join x y z l m h.idle k.idle;
-      }
+  module _ (laws : MarkLaws reads) where
+    tells_follow : (x y z : Bytes R) (l m : List (Answer (Result ℕ Error))) → TellsBytes reads x l y
+        → TellsBytes reads y m z → TellsBytes reads x (l ++ m) z
+    tells_follow x y z l m h k =
+        record {
+          marks = h.marks ++ k.marks;
+          came = laws.follows x.inner y.inner z.inner h.marks k.marks h.came k.came;
+          told = tells_join h.marks k.marks l m h.told k.told;
+          idle = idle_join x y z l m h.idle k.idle;
+        }
 
-  tells_runs : MarkLaws reads → StreamRunLaws (TellsBytes reads)
-  tells_runs laws =
-      record {
-        rests = λ x. record { marks = []; came = laws.rests x.inner; told = tt; idle = λ e. refl };
-        stays = λ x y h. h.idle refl;
-        follows = tells_follow laws;
-      }
+    tells_runs : StreamRunLaws (TellsBytes reads)
+    tells_runs =
+        record {
+          rests = λ x. record { marks = []; came = laws.rests x.inner; told = tt; idle = λ e. refl };
+          stays = λ x y h. h.idle refl;
+          follows = tells_follow;
+        }
 
-  pub bytes_laws : MarkLaws reads → StreamLaws (TellsBytes reads) NoHint
-  bytes_laws laws = laws_of (tells_runs laws) (λ x y hint l e h. same_hint hint (0, None) l e tt)
+    pub bytes_laws : StreamLaws (TellsBytes reads) NoHint
+    bytes_laws = laws_of (tells_runs) (λ x y hint l e h. same_hint hint (0, None) l e tt)
 
   pub bytes_counting : {r : Ranks R} → ReadCounting reads r
       → Counting (TellsBytes reads) (ranks_of (λ (b : Bytes R). b.inner) r)

@@ -40,9 +40,11 @@ module _ {R : Type 0} {reads : Runs ReadMark R} {is_calm : R → Type 0}
       → CalmLaws (PolledByCalls (FillsOnce reads lent)) (λ (x : FillBuf R). HeldCalm is_calm x.reader)
   fill_calm {lent} =
       polled_calm (FillsOnce reads lent)
-      (λ x y k h. c.no_pending h.reader.now h.filled (fill_marks {A = Bor (List ℕ)} Pending (lent h.filled))
-      (subst (HeldCalm is_calm) h.held k) h.came)
+      (λ x y k h.
+      c.no_pending h.reader.now h.filled (fill_marks {A = Bor (List ℕ)} Pending (lent h.filled))
+      (rw h.held at k) h.came)
       (λ x y r k h.
-      let calm = c.calm_on h.reader.now h.filled (fill_marks (Ready r) (lent h.filled))
+      let calm =
+      c.calm_on h.reader.now h.filled (fill_marks (Ready r) (lent h.filled))
       (subst (HeldCalm is_calm) h.held k) h.came in
       subst (HeldCalm is_calm) (sym h.after) (held_calm is_calm r (record h.reader { now = h.filled }) calm))

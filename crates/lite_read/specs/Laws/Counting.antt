@@ -26,10 +26,8 @@ below_some (suc n) xs ys some h = h
 module _ {A : Type 0} (byte : ℕ) (may_refuse : Type 0) (whole final : List ℕ → Result A Error → Type 0) where
   grown : (p q xs : List ℕ) → FoldsTo (pieces byte may_refuse (Itemised whole final)).takes p xs q
       → length q ≡ length p + length xs
-  grown p q [] h = let e : length q ≡ length p = ap length (sym h) in omega (arith, e)
-  grown p q (x ∷ xs) h =
-      let rest = grown h.0 q xs h.2 in
-      omega (arith, rest, ap length h.1.1, length-append p (x ∷ []))
+  grown p q [] h = omega (arith, ap length (sym h))
+  grown p q (x ∷ xs) h = omega (arith, grown h.0 q xs h.2, ap length h.1.1, length-append p (x ∷ []))
 
   came_in : (taken : List ℕ) (last marks : List ReadMark) → marks ≡ bytes taken ++ last
       → given marks ≡ length taken + given last
@@ -37,67 +35,65 @@ module _ {A : Type 0} (byte : ℕ) (may_refuse : Type 0) (whole final : List ℕ
       ap given e ∙ given-append (bytes taken) last ∙ ap (λ n. n + given last) (given-bytes taken)
 
   -- bytes that came in and those that were held are given out or held
-  piece_out : (held : List ℕ) (last : List ReadMark) (cut : Cut) (x : A) (after : List ℕ)
-      → CutsPiece byte may_refuse held last cut
-      → Itemised whole final cut held (Some (Ok x)) after → (n : ℕ) × (0 < n)
-      × (given last + length held ≡ n + length after)
-  piece_out held last (Cut.piece xs) x after c i =
-      let none : length after ≡ 0 = ap length i.1 in
-      let one : given last ≡ 1 = ap given c.0 in
-      (length held + 1, omega arith, omega (arith, none, one))
-  piece_out held last (Cut.last xs) x after c i =
-      let none : length after ≡ 0 = ap length i.1 in
-      let nought : given last ≡ 0 = ap given c.0 in
-      (length held, c.1, omega (arith, none, nought))
-  piece_out held last Cut.nothing x after c i = absurd i
-  piece_out held last (Cut.failed e) x after c i = absurd (cc i.0)
+  module _ (held : List ℕ) where
+    piece_out : (last : List ReadMark) (cut : Cut) (x : A) (after : List ℕ) → CutsPiece byte may_refuse held last cut
+        → Itemised whole final cut held (Some (Ok x)) after → (n : ℕ) × (0 < n)
+        × (given last + length held ≡ n + length after)
+    piece_out last (Cut.piece xs) x after c i =
+        (length held + 1, omega arith, omega (arith, ap length i.1, ap given c.0))
+    piece_out last (Cut.last xs) x after c i = (length held, c.1, omega (arith, ap length i.1, ap given c.0))
+    piece_out last Cut.nothing x after c i = absurd i
+    piece_out last (Cut.failed e) x after c i = cc
 
-  end_out : (held : List ℕ) (last : List ReadMark) (cut : Cut) (after : List ℕ)
-      → CutsPiece byte may_refuse held last cut
-      → Itemised whole final cut held None after → given last + length held ≡ length after
-  end_out held last Cut.nothing after c i =
-      let none : length after ≡ 0 = ap length i in
-      let nought : given last ≡ 0 = ap given c.0 in
-      let empty : length held ≡ 0 = ap length c.1 in
-      omega (arith, none, nought, empty)
-  end_out held last _ after c i = absurd i
+    end_out : (last : List ReadMark) (cut : Cut) (after : List ℕ) → CutsPiece byte may_refuse held last cut
+        → Itemised whole final cut held None after → given last + length held ≡ length after
+    end_out last Cut.nothing after c i = omega (arith, ap length i, ap given c.0, ap length c.1)
+    end_out last _ after c i = absurd i
 
   segments_out : (p q : List ℕ) (marks : List ReadMark) (l : List (Answer A))
       → PieceSegments (pieces byte may_refuse (Itemised whole final)) p marks (all_ok l) q
       → (n : ℕ) × (given marks + length p ≡ n + length q) × ((xs ys : List ℕ) → Falls n xs ys → Lowers l xs ys)
-  segments_out p q marks [] h =
-      let none : given marks ≡ 0 = ap given h.0 in
-      (0, omega (arith, none, ap length h.1), λ xs ys f. f)
+  segments_out p q marks [] h = (0, omega (arith, ap given h.0, ap length h.1), λ xs ys f. f)
   segments_out p q marks (Pending ∷ l) (first, rest, m, cut, a, more) =
-      let r = segments_out m q rest l more in
-      let all = ap given cut ∙ given-append first rest in
-      let none : given a.last ≡ 0 = ap given a.given.0 in
-      let same : length m ≡ length a.between = ap length a.given.2 in (
+      let r = segments_out m q rest l more in (
         r.0,
         omega (
           arith,
           r.1,
-          all,
+          ap given cut ∙ given-append first rest,
           came_in a.taken a.last first a.cut,
           grown p a.between a.taken a.folds,
-          none,
-          same,
+          ap given a.given.0,
+          ap length a.given.2,
         ),
         r.2,
       )
   segments_out p q marks (Ready None ∷ l) (first, rest, m, cut, a, more) =
-      let r = segments_out m q rest l more in
-      let all = ap given cut ∙ given-append first rest in
-      let e = end_out a.between a.last a.given.0 m a.given.1 a.given.2 in
-      (r.0, omega (arith, r.1, all, came_in a.taken a.last first a.cut, grown p a.between a.taken a.folds, e), r.2)
+      let r = segments_out m q rest l more in (
+        r.0,
+        omega (
+          arith,
+          r.1,
+          ap given cut ∙ given-append first rest,
+          came_in a.taken a.last first a.cut,
+          grown p a.between a.taken a.folds,
+          end_out a.between a.last a.given.0 m a.given.1 a.given.2,
+        ),
+        r.2,
+      )
   segments_out p q marks (Ready (Some x) ∷ l) (first, rest, m, cut, a, more) =
       let r = segments_out m q rest l more in
-      let all = ap given cut ∙ given-append first rest in
-      let e = piece_out a.between a.last a.given.0 x m a.given.1 a.given.2 in
-      let some : 0 < e.0 + r.0 = omega (arith, e.1) in (
+      let e = piece_out a.between a.last a.given.0 x m a.given.1 a.given.2 in (
         e.0 + r.0,
-        omega (arith, r.1, all, came_in a.taken a.last first a.cut, grown p a.between a.taken a.folds, e.2),
-        λ xs ys f. below_some (e.0 + r.0) xs ys some f,
+        omega (
+          arith,
+          r.1,
+          ap given cut ∙ given-append first rest,
+          came_in a.taken a.last first a.cut,
+          grown p a.between a.taken a.folds,
+          e.2,
+        ),
+        λ xs ys f. below_some (e.0 + r.0) xs ys (omega (arith, e.1)) f,
       )
 
 -- the rank of the reader, and then how much is held
@@ -119,16 +115,15 @@ module _ {X S K A : Type 0} (over : StreamOver X S (List ℕ) K) (byte : K → �
       (r.rank (over.reader x) ++ length (over.held x) ∷ [])
   flow_lowers x y l f h =
       let s = h.segmented in
-      let out = segments_out (byte (over.kept x)) may_refuse whole final (over.held x) (over.held y) s.marks l s.cut in
-      let fell = counting.lowers (over.reader x) (over.reader y) s.marks f s.came in
-      out.2 _ _ (falls_held (given s.marks) out.0 (length (over.held x)) (length (over.held y)) (r.rank (over.reader y))
-      (r.rank (over.reader x)) fell out.1)
+      let out =
+      segments_out (byte (over.kept x)) may_refuse whole final (over.held x) (over.held y) s.marks l s.cut in
+      out.2 _ _
+      (falls_held (given s.marks) out.0 (length (over.held x)) (length (over.held y)) (r.rank (over.reader y))
+      (r.rank (over.reader x)) (counting.lowers (over.reader x) (over.reader y) s.marks f s.came) out.1)
 
   firm_still : (x y : X) (l : List (Answer (Result A Error))) → r.firm (over.reader x)
       → Flows over (λ k. pieces (byte k) may_refuse (Itemised whole final)) reads x l y → r.firm (over.reader y)
-  firm_still x y l f h =
-      flow_keeps over (λ k. pieces (byte k) may_refuse (Itemised whole final)) laws r.firm
-      (λ s t m. counting.firm_on s t m) x y l f h
+  firm_still = flow_keeps over (λ k. pieces (byte k) may_refuse (Itemised whole final)) laws r.firm counting.firm_on
 
   pub flow_counting : OkCounting (Flows over (λ k. pieces (byte k) may_refuse (Itemised whole final)) reads)
       (flow_ranks over r)

@@ -42,10 +42,10 @@ module _ {M R : Type 0} (fold : ReadFold M R) where
   tale_values_behind p m xs _ _ f (TaleValues.held _ q ys g) =
       rw (← (map-append ReadMark.byte xs ys)) (TaleValues.held p q (xs ++ ys) (folds_follow fold.takes p m q xs ys f g))
   tale_values_behind p m xs _ _ f (TaleValues.next _ n q ys last rest v vs g h s) =
-      let joined = folds_follow fold.takes p m n xs ys f g in
-      let same = ap (λ k. k ++ (last ++ rest)) (map-append ReadMark.byte xs ys)
-      ∙ append_assoc (bytes xs) (bytes ys) (last ++ rest) in
-      rw (← same) (TaleValues.next p n q (xs ++ ys) last rest v vs joined h s)
+      let same =
+      ap (λ k. k ++ (last ++ rest)) (map-append ReadMark.byte xs ys) ∙ append_assoc (bytes xs) (bytes ys)
+      (last ++ rest) in
+      rw (← same) (TaleValues.next p n q (xs ++ ys) last rest v vs (folds_follow fold.takes p m n xs ys f g) h s)
 
   module _ {same : R → R → Type 0} (s : IsDeterministic same fold) where
     -- the values of segments
@@ -55,16 +55,15 @@ module _ {M R : Type 0} (fold : ReadFold M R) where
     segments_values p q i (Pending ∷ l) h =
         let w = h.4 in
         let cut = segment_front p h.2 i h.0 h.1 Pending w h.3 ∙ ap (λ k. bytes w.taken ++ (k ++ h.1)) w.given.0 in
-        let rest = rw w.given.2 at (segments_values h.2 q h.1 l h.5) in
         rw (past_pending i h.1 w.taken cut)
-        (tale_values_behind p w.between w.taken (strip_marks h.1) (strip l) w.folds rest)
+        (tale_values_behind p w.between w.taken (strip_marks h.1) (strip l) w.folds
+        (rw w.given.2 at (segments_values h.2 q h.1 l h.5)))
     segments_values p q i (Ready r ∷ l) h =
         let c = h.4 in
-        let now = s.at_once c.between h.2 c.last r c.given in
         let cut = segment_front p h.2 i h.0 h.1 (Ready r) c h.3 in
-        let rest = segments_values h.2 q h.1 l h.5 in
-        rw (past_value i c.last h.1 c.taken now cut)
-        (TaleValues.next p c.between h.2 c.taken c.last (strip_marks h.1) r (strip l) c.folds c.given rest)
+        rw (past_value i c.last h.1 c.taken (s.at_once c.between h.2 c.last r c.given) cut)
+        (TaleValues.next p c.between h.2 c.taken c.last (strip_marks h.1) r (strip l) c.folds c.given
+        (segments_values h.2 q h.1 l h.5))
 
     -- the first values of tales that begin one another
     aligned : (p x y q r : M) (xs ys : List ℕ) (l m k n : List ReadMark) (v w : R) → FoldsTo fold.takes p xs x
@@ -75,24 +74,25 @@ module _ {M R : Type 0} (fold : ReadFold M R) where
         let one = subst (λ (z : M). fold.gives z l v q) (sym f) h in
         let other = subst (λ (z : M). fold.gives z m w r) (sym g) j in
         let both = s.one_value p q r l m v w one other (comparable_fronts l k m n c) in
-        (both.0, both.1, comparable_rest m k n (subst (λ z. Comparable (z ++ k) (m ++ n)) both.2 c))
+        (both.0, both.1, comparable_rest m k n (rw both.2 at c))
     aligned p x y q r [] (b ∷ ys) l m k n v w f g h j c =
         let one = subst (λ (z : M). fold.gives z l v q) (sym f) h in
-        let front = subst (λ z. Comparable (l ++ k) z)
-        (sym (append-nil (ReadMark.byte b ∷ (bytes ys ++ (m ++ n))))) c in
-        absurd (s.given_or_taken p q g.0 l (bytes ys ++ (m ++ n)) v b one g.1
+        let front = subst (Comparable (l ++ k)) (sym (append-nil (ReadMark.byte b ∷ (bytes ys ++ (m ++ n))))) c in
+        absurd
+        (s.given_or_taken p q g.0 l (bytes ys ++ (m ++ n)) v b one g.1
         (comparable_fronts l k (ReadMark.byte b ∷ (bytes ys ++ (m ++ n))) [] front))
     aligned p x y q r (b ∷ xs) [] l m k n v w f g h j c =
         let other = subst (λ (z : M). fold.gives z m w r) (sym g) j in
         let related = comparable_swapped (ReadMark.byte b ∷ (bytes xs ++ (l ++ k))) (m ++ n) c in
-        let front = subst (λ z. Comparable (m ++ n) z)
-        (sym (append-nil (ReadMark.byte b ∷ (bytes xs ++ (l ++ k))))) related in
-        absurd (s.given_or_taken p r f.0 m (bytes xs ++ (l ++ k)) w b other f.1
+        let front =
+        subst (Comparable (m ++ n)) (sym (append-nil (ReadMark.byte b ∷ (bytes xs ++ (l ++ k))))) related in
+        absurd
+        (s.given_or_taken p r f.0 m (bytes xs ++ (l ++ k)) w b other f.1
         (comparable_fronts m n (ReadMark.byte b ∷ (bytes xs ++ (l ++ k))) [] front))
     aligned p x y q r (b ∷ xs) (d ∷ ys) l m k n v w f g h j c =
         let byte : b ≡ d = cc c.0 in
-        let way = s.one_way p g.0 f.0 b (subst (λ z. fold.takes p z g.0) (sym byte) g.1) f.1 in
-        aligned f.0 x y q r xs ys l m k n v w f.2 (subst (λ z. FoldsTo fold.takes z ys y) way g.2) h j c.1
+        let way = s.one_way p g.0 f.0 b (rw byte g.1) f.1 in
+        aligned f.0 x y q r xs ys l m k n v w f.2 (rw (← way) g.2) h j c.1
 
     -- tales that begin one another give the same values
     tale_values_alike : (p : M) (t u : List ReadMark) (vs ws : List R) → TaleValues fold p t vs
@@ -109,26 +109,26 @@ module _ {M R : Type 0} (fold : ReadFold M R) where
     -- what is made of readers that are alike
     module _ {S : Type 0} {reads ample : Runs ReadMark S} {needs_none : Type 0} {alike : S → S → Type 0}
         (laws : SteadyReadLaws reads ample needs_none alike) where
-      pub segments_alike : (x y x' y' : S) (p q r : M) (i j : List ReadMark) (l m : List (Poll R)) → alike x y
-          → ample x i x' → ample y j y' → Segments (AnswerMarks fold) p i l q → Segments (AnswerMarks fold) p j m r
-          → ComparableBy same (strip l) (strip m)
-      segments_alike x y x' y' p q r i j l m e a b h k =
-          tale_values_alike p (strip_marks i) (strip_marks j) (strip l) (strip m) (segments_values p q i l h)
-          (segments_values p r j m k) (laws.steady x y x' y' i j e a b)
+      module _ (x y x' y' : S) (p q r : M) where
+        pub segments_alike : (i j : List ReadMark) (l m : List (Poll R)) → alike x y → ample x i x' → ample y j y'
+            → Segments (AnswerMarks fold) p i l q → Segments (AnswerMarks fold) p j m r
+            → ComparableBy same (strip l) (strip m)
+        segments_alike i j l m e a b h k =
+            tale_values_alike p (strip_marks i) (strip_marks j) (strip l) (strip m) (segments_values p q i l h)
+            (segments_values p r j m k) (laws.steady x y x' y' i j e a b)
 
-      pub read_folded_alike : (x y x' y' : S) (p q r : M) (l m : List (Poll R)) → alike x y
-          → ReadFolded fold ample x p l x' q → ReadFolded fold ample y p m y' r → ComparableBy same (strip l) (strip m)
-      read_folded_alike x y x' y' p q r l m e h k =
-          segments_alike x y x' y' p q r h.marks k.marks l m e h.came k.came h.folded.0 k.folded.0
+        pub read_folded_alike : (l m : List (Poll R)) → alike x y → ReadFolded fold ample x p l x' q
+            → ReadFolded fold ample y p m y' r → ComparableBy same (strip l) (strip m)
+        read_folded_alike l m e h k = segments_alike h.marks k.marks l m e h.came k.came h.folded.0 k.folded.0
 
   -- where no pending is told none is answered
   pub segments_no_pending : (p q : M) (i : List ReadMark) (l : List (Poll R)) → NoPendingRead i
       → Segments (AnswerMarks fold) p i l q → NoPending l
   segments_no_pending p q i [] n h = tt
   segments_no_pending p q i (Pending ∷ l) n h =
-      let parts = no_wait_parts h.0 h.1 (subst NoPendingRead h.3 n) in
-      let last = no_wait_parts (bytes h.4.taken) h.4.last (subst NoPendingRead h.4.cut parts.0) in
+      let last =
+      no_wait_parts (bytes h.4.taken) h.4.last
+      (subst NoPendingRead h.4.cut (no_wait_parts h.0 h.1 (subst NoPendingRead h.3 n)).0) in
       absurd (subst NoPendingRead h.4.given.0 last.1)
   segments_no_pending p q i (Ready v ∷ l) n h =
-      let parts = no_wait_parts h.0 h.1 (subst NoPendingRead h.3 n) in
-      segments_no_pending h.2 q h.1 l parts.1 h.5
+      segments_no_pending h.2 q h.1 l (no_wait_parts h.0 h.1 (subst NoPendingRead h.3 n)).1 h.5

@@ -48,15 +48,15 @@ now_no_pending byte held _ _ _ = tt
 
 now_or_taken : (byte : ℕ) (held : List ℕ) (l m : List ReadMark) (cut : Cut) (b : ℕ) → CutsNow byte held l cut → b ≢ byte
     → Comparable l (ReadMark.byte b ∷ m) → ⊥
-now_or_taken byte held _ m _ b CutsNow.piece other c = other (let same : byte ≡ b = cc c.0 in sym same)
-now_or_taken byte held _ m _ b _ other c = cc c.0
+now_or_taken byte held _ m _ b CutsNow.piece other c = other (sym (cc c.0))
+now_or_taken byte held _ m _ b _ other c = cc
 
 abbrev OneCut : List ReadMark → List ReadMark → Cut → Cut → Type 0
 OneCut l m a b = SameCut a b × (l ≡ m)
 
 none_some : (held : List ℕ) → held ≡ [] → 0 < length held → ⊥
-none_some [] e some = omega (arith, some)
-none_some (x ∷ held) e some = cc e
+none_some [] e some = omega arith
+none_some (x ∷ held) e some = cc
 
 one_cut : (byte : ℕ) (held : List ℕ) (l m : List ReadMark) (a b : Cut) → CutsNow byte held l a → CutsNow byte held m b
     → Comparable l m → OneCut l m a b
@@ -67,7 +67,7 @@ one_cut byte held _ _ _ _ (CutsNow.failed e) (CutsNow.failed f) c =
     let same : error_kind e ≡ error_kind f = cc c.0 in (same, ap (λ k. ReadMark.fault k ∷ []) same)
 one_cut byte held _ _ _ _ (CutsNow.last some) (CutsNow.nothing none) c = absurd (none_some held none some)
 one_cut byte held _ _ _ _ (CutsNow.nothing none) (CutsNow.last some) c = absurd (none_some held none some)
-one_cut byte held _ _ _ _ _ _ c = absurd (cc c.0)
+one_cut byte held _ _ _ _ _ _ c = cc
 
 -- one value is made of one cut, and one list is held then
 abbrev pub BecomesOne : {R : Type 0} → (R → R → Type 0) → (Cut → List ℕ → R → List ℕ → Type 0) → Type 0
@@ -102,7 +102,7 @@ module _ {A : Type 0} {same : A → A → Type 0} {whole final : List ℕ → Re
 
   both_made : (makes : List ℕ → Result A Error → Type 0) → MakesOne same makes → (xs ys : List ℕ) (r s : Result A Error)
       → xs ≡ ys → makes xs r → makes ys s → SameOr same r s
-  both_made makes m xs ys r s e h k = m ys r s (rw (← e) h) k
+  both_made makes m xs ys r s e h = m ys r s (rw (← e) h)
 
   itemised_one : BecomesOne (OptionBy (SameOr same)) PieceMade
   itemised_one (Cut.piece xs) (Cut.piece ys) held (Some r) (Some s) p q e h k =
@@ -135,16 +135,15 @@ module _ {X S M K A : Type 0} (over : StreamOver X S M K) where
       {alike : S → S → Type 0} (refusing fold : K → ReadFold M (Option A))
       → ((k : K) → IsDeterministic (OptionBy same) (fold k)) → SteadyReadLaws reads ample needs_none alike
       → SteadyLawsBy (Sameness.by same) (Flows over refusing reads) (Flows over fold ample) ⊥ (FlowAlike over alike)
-  flow_steady {same} {ample = ample} {alike = alike} refusing fold deterministic s =
+  flow_steady refusing fold deterministic s =
       record {
         laws = runs_of (flow_laws over fold s.laws);
         steady = λ x y e l m x' y' h k.
             let i = h.segmented in
             let j = k.segmented in
-            let g = fold (over.kept x) in
-            let t = deterministic (over.kept x) in
-            segments_alike g t s (over.reader x) (over.reader y) (over.reader x') (over.reader y') (over.held x)
-            (over.held x') (over.held y') i.marks j.marks l m e.0 i.came j.came i.cut (rw (← e.1, ← e.2) at j.cut);
+            segments_alike (fold (over.kept x)) (deterministic (over.kept x)) s (over.reader x) (over.reader y)
+            (over.reader x') (over.reader y') (over.held x) (over.held x') (over.held y') i.marks j.marks l m e.0
+            i.came j.came i.cut (rw (← e.1, ← e.2) at j.cut);
         found = λ n. absurd n;
       }
 

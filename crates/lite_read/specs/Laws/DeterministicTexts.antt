@@ -18,11 +18,12 @@ value_same xs (Err e) (Err f) v w s h k =
     rw h (rw k s)
 value_same xs _ _ v w s h k = absurd s
 
-gains_same : (xs before p q : List ℕ) → AppendsText xs before p → AppendsText xs before q → p ≡ q
-gains_same xs before p q (inl h) (inl k) = h.1 ∙ sym k.1
-gains_same xs before p q (inl h) (inr k) = absurd (k.0 h.0)
-gains_same xs before p q (inr h) (inl k) = absurd (h.0 k.0)
-gains_same xs before p q (inr h) (inr k) = h.1 ∙ sym k.1
+module _ (xs before p q : List ℕ) where
+  gains_same : AppendsText xs before p → AppendsText xs before q → p ≡ q
+  gains_same (inl h) (inl k) = h.1 ∙ sym k.1
+  gains_same (inl h) (inr k) = absurd (k.0 h.0)
+  gains_same (inr h) (inl k) = absurd (h.0 k.0)
+  gains_same (inr h) (inr k) = h.1 ∙ sym k.1
 
 same_reading : (p q : Reading) → p.read ≡ q.read → p.text ≡ q.text → p ≡ q
 same_reading p q e f = ap (λ r. record { read = r; text = p.text }) e ∙ ap (λ t. record { read = q.read; text = t }) f

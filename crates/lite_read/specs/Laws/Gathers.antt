@@ -24,29 +24,29 @@ pub record KeepLaws {X M R : Type 0} (fold : X → ReadFold M R) (Keeps : X → 
 
 module _ {X S M R : Type 0} {reader : X → S} {held : X → M} {fold : X → ReadFold M R} {Keeps : X → X → Type 0}
     {reads : Runs ReadMark S} where
-  gathers_follow : KeepLaws fold Keeps → MarkLaws reads → (x y z : X) (l m : List (Poll R)) → Waiting l
-      → Gathers reader held fold Keeps reads x l y → Gathers reader held fold Keeps reads y m z
-      → Gathers reader held fold Keeps reads x (l ++ m) z
-  gathers_follow keeps laws x y z l m w h k =
-      record {
-        folded = read_folded_follow (fold x) laws (reader x) (reader y) (reader z) (held x) (held y) (held z) l m w
-            h.folded (rw (keeps.same x y h.stays) at k.folded);
-        stays = keeps.join x y z h.stays k.stays;
-        idle = idle_join x y z l m h.idle k.idle;
-      }
+  module _ (keeps : KeepLaws fold Keeps) (laws : MarkLaws reads) where
+    gathers_follow : (x y z : X) (l m : List (Poll R)) → Waiting l → Gathers reader held fold Keeps reads x l y
+        → Gathers reader held fold Keeps reads y m z → Gathers reader held fold Keeps reads x (l ++ m) z
+    gathers_follow x y z l m w h k =
+        record {
+          folded = read_folded_follow (fold x) laws (reader x) (reader y) (reader z) (held x) (held y) (held z) l m w
+              h.folded (rw (keeps.same x y h.stays) at k.folded);
+          stays = keeps.join x y z h.stays k.stays;
+          idle = idle_join x y z l m h.idle k.idle;
+        }
 
-  pub gathers_laws : KeepLaws fold Keeps → MarkLaws reads → FutureLaws (Gathers reader held fold Keeps reads)
-  gathers_laws keeps laws =
-      record {
-        rests = λ x. record {
-          folded = read_folded_none (fold x) laws (reader x) (held x);
-          stays = keeps.none x;
-          idle = λ e. refl;
-        };
-        stays = λ x y h. h.idle refl;
-        follows = gathers_follow keeps laws;
-        once = λ x y l h. up_to_once l h.folded.folded.1;
-      }
+    pub gathers_laws : FutureLaws (Gathers reader held fold Keeps reads)
+    gathers_laws =
+        record {
+          rests = λ x. record {
+            folded = read_folded_none (fold x) laws (reader x) (held x);
+            stays = keeps.none x;
+            idle = λ e. refl;
+          };
+          stays = λ x y h. h.idle refl;
+          follows = gathers_follow;
+          once = λ x y l h. up_to_once l h.folded.folded.1;
+        }
 
   -- a step before an answer
   pub gathers_before : {Steps : X → X → Type 0} → KeepLaws fold Keeps → MarkLaws reads
@@ -56,10 +56,11 @@ module _ {X S M R : Type 0} {reader : X → S} {held : X → M} {fold : X → Re
   gathers_before keeps laws kept x y z a t h =
       let stays = kept x y t.stays in
       record {
-        folded = read_folded_before (fold x) laws (reader x) (reader y) (reader z) (held x) (held y) (held z) t.taken a
+        folded =
+            read_folded_before (fold x) laws (reader x) (reader y) (reader z) (held x) (held y) (held z) t.taken a
             t.came t.folds (rw (keeps.same x y stays) at h.folded);
         stays = keeps.join x y z stays h.stays;
-        idle = λ e. absurd (cc e);
+        idle = λ e. cc e;
       }
 
   -- two that hold the same, and make the same of marks, over readers that are alike
@@ -68,7 +69,7 @@ module _ {X S M R : Type 0} {reader : X → S} {held : X → M} {fold : X → Re
       → (x y : X) → alike (reader x) (reader y) → held x ≡ held y → fold y ≡ fold x
       → (l m : List (Poll R)) (x' y' : X) → Gathers reader held fold Keeps ample x l x'
       → Gathers reader held fold Keeps ample y m y' → ComparableBy same (strip l) (strip m)
-  gathers_alike {ample = ample} one s x y e d f l m x' y' h k =
+  gathers_alike one s x y e d f l m x' y' h k =
       read_folded_alike (fold x) (one x) s (reader x) (reader y) (reader x') (reader y') (held x) (held x') (held y')
       l m e h.folded (rw (f, ← d) at k.folded)
 

@@ -40,21 +40,22 @@ text_one xs (Err e) (Ok t) h k = absurd (h.1 (rw (← k) (IsUtf8-string_bytes t)
 text_one xs (Err e) (Err f) h k = h.0 ∙ sym k.0
 
 pub line_one : MakesOne SameText (λ xs. IsText (without_return xs))
-line_one xs r s h k = text_one (without_return xs) r s h k
+line_one xs = text_one (without_return xs)
 
-counted_one : (byte : ℕ) → BecomesOne SameByKind (CountsPiece byte)
-counted_one byte (Cut.piece xs) (Cut.piece ys) held v w p q e h k =
-    let same = h.0 ∙ ap (λ zs. zs ++ byte ∷ []) e ∙ sym k.0 in
-    rw (h.1, k.1) (ap length same, same)
-counted_one byte (Cut.last xs) (Cut.last ys) held v w p q e h k =
-    let same = h.0 ∙ e ∙ sym k.0 in rw (h.1, k.1) (ap length same, same)
-counted_one byte Cut.nothing Cut.nothing held v w p q e h k =
-    let same = h.0 ∙ sym k.0 in rw (h.1, k.1) (ap length same, same)
-counted_one byte (Cut.failed a) (Cut.failed b) held v w p q e h k = rw (h.1, k.1) (e, h.0 ∙ sym k.0)
-counted_one byte _ _ held v w p q e h k = absurd e
+module _ (byte : ℕ) where
+  counted_one : BecomesOne SameByKind (CountsPiece byte)
+  counted_one (Cut.piece xs) (Cut.piece ys) held v w p q e h k =
+      let same = h.0 ∙ ap (λ zs. zs ++ byte ∷ []) e ∙ sym k.0 in
+      rw (h.1, k.1) (ap length same, same)
+  counted_one (Cut.last xs) (Cut.last ys) held v w p q e h k =
+      let same = h.0 ∙ e ∙ sym k.0 in rw (h.1, k.1) (ap length same, same)
+  counted_one Cut.nothing Cut.nothing held v w p q e h k =
+      let same = h.0 ∙ sym k.0 in rw (h.1, k.1) (ap length same, same)
+  counted_one (Cut.failed a) (Cut.failed b) held v w p q e h k = rw (h.1, k.1) (e, h.0 ∙ sym k.0)
+  counted_one _ _ held v w p q e h k = absurd e
 
-pub until_deterministic : (byte : ℕ) → IsDeterministic SameByKind (until byte ⊥)
-until_deterministic byte = pieces_deterministic byte (CountsPiece byte) (counted_one byte)
+  pub until_deterministic : IsDeterministic SameByKind (until byte ⊥)
+  until_deterministic = pieces_deterministic byte (CountsPiece byte) (counted_one)
 
 module _ {R : Type 0} where
   -- they read to the same byte, and have read the same, over readers that are alike
@@ -68,8 +69,7 @@ module _ {R : Type 0} where
     until_steady s =
         record {
           laws = until_laws ⊥ s.laws;
-          steady = λ x y e.
-              gathers_alike (λ x. until_deterministic x.byte) s x y e.0 e.1 (ap (λ b. until b ⊥) (sym e.2));
+          steady = λ x y e. gathers_alike (λ x. until_deterministic x.byte) s x y e.0 e.1 (rw (sym e.2));
           found = λ n. absurd n;
         }
 

@@ -16,8 +16,8 @@ use Rattle.lite_read.specs.PollSteps.{TakesBytes}
 pub steps_answer : {X A : Type 0} {steps : X → X → Type 0} {answers : X → A → X → Type 0}
     → ((x y z : X) (a : A) → steps x y → answers y a z → answers x a z)
     → {x z : X} {a : A} → (y : X) × Reaches steps x y × answers y a z → answers x a z
-steps_answer {answers = answers} before {x} {z} {a} (y, goes, last) =
-    Reaches-back (λ v. answers v a z) (λ v w t h. before v w z a t h) x y goes last
+steps_answer {answers} before {x} {z} {a} (y, goes, last) =
+    Reaches-back (λ v. answers v a z) (λ v w. before v w z a) x y goes last
 
 -- what holds anyhow holds after a pending
 pub goes_again : {A P : Type 0} (r : Poll A) → P → OnPending r P
@@ -33,9 +33,9 @@ given_of reads s t (x ∷ xs) some h = (ReadMark.byte x, bytes xs, bytes_given (
 pub takes_given : {X S M R : Type 0} {reader : X → S} {held : X → M} {fold : X → ReadFold M R} {Keeps : X → X → Type 0}
     {reads : Runs ReadMark S} (x y : X)
     → TakesBytes reader held fold Keeps reads x y → GivenRun reads (reader x) (reader y)
-takes_given {reader = reader} {reads = reads} x y t = given_of reads (reader x) (reader y) t.taken t.some t.came
+takes_given {reader} {reads} x y t = given_of reads (reader x) (reader y) t.taken t.some t.came
 
 -- no answer of two runs leaves all as it is
 pub idle_join : {X A : Type 0} (x y z : X) (l m : List A) → (l ≡ [] → y ≡ x) → (m ≡ [] → z ≡ y) → l ++ m ≡ [] → z ≡ x
 idle_join x y z [] m h k e = k e ∙ h refl
-idle_join x y z (a ∷ l) m h k e = absurd (cc e)
+idle_join x y z (a ∷ l) m h k e = cc

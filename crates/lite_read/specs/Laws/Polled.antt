@@ -32,15 +32,16 @@ module _ {F A : Type 0} (call : F → Poll A → F → Type 0) where
   -- where no call of a calm value is pending, and each leaves a calm one
   module _ {is_calm : F → Type 0} (never : (x y : F) → is_calm x → call x Pending y → ⊥)
       (calm_on : (x y : F) (r : A) → is_calm x → call x (Ready r) y → is_calm y) where
-    no_pending : (x y : F) (l : List (Poll A)) → is_calm x → PolledByCalls call x l y → NoPending l
-    no_pending x y [] k h = tt
-    no_pending x y (Pending ∷ l) k h = absurd (never x h.0 k h.1)
-    no_pending x y (Ready r ∷ l) k h = rw h.1 tt
+    module _ (x y : F) where
+      no_pending : (l : List (Poll A)) → is_calm x → PolledByCalls call x l y → NoPending l
+      no_pending [] k h = tt
+      no_pending (Pending ∷ l) k h = absurd (never x h.0 k h.1)
+      no_pending (Ready r ∷ l) k h = rw h.1 tt
 
-    still_calm : (x y : F) (l : List (Poll A)) → is_calm x → PolledByCalls call x l y → is_calm y
-    still_calm x y [] k h = rw h k
-    still_calm x y (Pending ∷ l) k h = absurd (never x h.0 k h.1)
-    still_calm x y (Ready r ∷ l) k h = calm_on x y r k h.0
+      still_calm : (l : List (Poll A)) → is_calm x → PolledByCalls call x l y → is_calm y
+      still_calm [] k h = rw h k
+      still_calm (Pending ∷ l) k h = absurd (never x h.0 k h.1)
+      still_calm (Ready r ∷ l) k h = calm_on x y r k h.0
 
     pub polled_calm : CalmLaws (PolledByCalls call) is_calm
     polled_calm = record { no_pending = no_pending; calm_on = still_calm }

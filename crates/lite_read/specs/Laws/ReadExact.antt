@@ -1,6 +1,6 @@
 -- Laws of `read_exact`.
 use Rattle.std.proofs.Common.{◌≡◌, ◌∙◌, ◌<◌, ◌-◌, ◌+◌, ℕ, List, [], ◌∷◌, length, Result, refl, ap, sym, arith}
-use Rattle.std.proofs.Common.{length-append}
+use Rattle.std.proofs.Common.{◌++◌, append-nil, append_assoc, length-append}
 use Rattle.std.proofs.lemmas.List.{length-take}
 use Rattle.std.specs.List.{FoldsTo}
 use Rattle.std.specs.declared.io.Error.{Error}
@@ -10,25 +10,21 @@ use Rattle.lite_base.specs.Runs.{Runs}
 use Rattle.lite_io_base.specs.Marks.{ReadMark}
 use Rattle.lite_io_base.specs.Runs.{MarkLaws}
 use Rattle.lite_read.specs.Laws.Gathers.{KeepLaws, gathers_before, gathers_laws}
-use Rattle.lite_read.specs.Filling.{ExactStays, filling_of}
+use Rattle.lite_read.specs.Filling.{ExactStays, Filling, filling_of}
 use Rattle.lite_io_base.specs.Laws.Lent.{lent_still}
 use Rattle.lite_read.specs.ReadExact.{ReadsExactly, fills}
 use Rattle.lite_read.specs.PollSteps.{ReadsMore}
 use Rattle.lite_read.specs.declared.read_exact.ReadExactFuture.{ReadExactFuture}
 
 -- bytes that were taken in were filled in
-filled_more : (g h : List ℕ × ℕ) (xs : List ℕ) → FoldsTo fills.takes g xs h → (length h.0 ≡ length g.0 + length xs)
-    × (h.1 ≡ g.1)
-filled_more g h [] e =
-    let same : length h.0 ≡ length g.0 = ap (λ k. length k.0) (sym e) in
-    (omega (arith, same), ap (λ k. k.1) (sym e))
-filled_more g h (x ∷ xs) e =
-    let rest = filled_more e.0 h xs e.2 in
-    let grown : length e.0.0 ≡ length g.0 + 1 = ap (λ k. length k.0) e.1.1 ∙ length-append g.0 (x ∷ []) in
-    (omega (arith, rest.0, grown), rest.1 ∙ ap (λ k. k.1) e.1.1)
+pub filled_by : (xs : List ℕ) (p q : Filling) → FoldsTo fills.takes p xs q → (q.0 ≡ p.0 ++ xs) × (q.1 ≡ p.1)
+filled_by [] p q h = rw (← h, append-nil) (refl, refl)
+filled_by (x ∷ xs) p q h =
+    let rest = filled_by xs h.0 q h.2 in
+    rw (← append_assoc p.0 (x ∷ []) xs) (rest.0 ∙ ap (λ (z : Filling). z.0 ++ xs) h.1.1, rest.1 ∙ ap (λ z. z.1) h.1.1)
 
 had_room : (g h : List ℕ × ℕ) (xs : List ℕ) → 0 < length xs → FoldsTo fills.takes g xs h → length g.0 < g.1
-had_room g h [] some e = absurd (omega (arith, some))
+had_room g h [] some e = omega arith
 had_room g h (x ∷ xs) some e = e.1.0
 
 module _ {R : Type 0} where
@@ -60,6 +56,7 @@ module _ {R : Type 0} where
   pub room_falls : {reads : Runs ReadMark R} (x y : ReadExactFuture R) → ReadsMore reads x y
       → length y.buf.now - y.filled < length x.buf.now - x.filled
   room_falls x y t =
-      let more = filled_more (filling_of x) (filling_of y) t.taken t.folds in
+      let more = filled_by t.taken (filling_of x) (filling_of y) t.folds in
+      let grown = ap length more.0 ∙ length-append (filling_of x).0 t.taken in
       let room = had_room (filling_of x) (filling_of y) t.taken t.some t.folds in
-      omega (arith, more.0, more.1, room, t.some, length-take x.filled x.buf.now, length-take y.filled y.buf.now)
+      omega (arith, grown, more.1, room, t.some, length-take x.filled x.buf.now, length-take y.filled y.buf.now)

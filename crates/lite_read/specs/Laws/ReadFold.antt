@@ -22,22 +22,21 @@ module _ {M R : Type 0} (fold : ReadFold M R) where
     pub read_folded_none : (s : S) (p : M) → ReadFolded fold reads s p [] s p
     read_folded_none s p = record { marks = []; came = laws.rests s; folded = ((refl, refl), tt) }
 
-    pub read_folded_follow : (s t u : S) (p q r : M) (l m : List (Poll R)) → Waiting l → ReadFolded fold reads s p l t q
-        → ReadFolded fold reads t q m u r → ReadFolded fold reads s p (l ++ m) u r
-    read_folded_follow s t u p q r l m w h k =
-        record {
-          marks = h.marks ++ k.marks;
-          came = laws.follows s t u h.marks k.marks h.came k.came;
-          folded = to_value_join (AnswerMarks fold) p q r h.marks k.marks l m w h.folded k.folded;
-        }
+    module _ (s t u : S) (p : M) where
+      pub read_folded_follow : (q r : M) (l m : List (Poll R)) → Waiting l → ReadFolded fold reads s p l t q
+          → ReadFolded fold reads t q m u r → ReadFolded fold reads s p (l ++ m) u r
+      read_folded_follow q r l m w h k =
+          record {
+            marks = h.marks ++ k.marks;
+            came = laws.follows s t u h.marks k.marks h.came k.came;
+            folded = to_value_join (AnswerMarks fold) p q r h.marks k.marks l m w h.folded k.folded;
+          }
 
-    pub read_folded_before : (s t u : S) (p m q : M) (xs : List ℕ) (a : Poll R) → reads s (bytes xs) t
-        → FoldsTo fold.takes p xs m
-        → ReadFolded fold reads t m (a ∷ []) u q
-        → ReadFolded fold reads s p (a ∷ []) u q
-    read_folded_before s t u p m q xs a came f h =
-        record {
-          marks = bytes xs ++ h.marks;
-          came = laws.follows s t u (bytes xs) h.marks came h.came;
-          folded = (answers_before p m q xs h.marks a [] f h.folded.0, h.folded.1);
-        }
+      pub read_folded_before : (m q : M) (xs : List ℕ) (a : Poll R) → reads s (bytes xs) t → FoldsTo fold.takes p xs m
+          → ReadFolded fold reads t m (a ∷ []) u q → ReadFolded fold reads s p (a ∷ []) u q
+      read_folded_before m q xs a came f h =
+          record {
+            marks = bytes xs ++ h.marks;
+            came = laws.follows s t u (bytes xs) h.marks came h.came;
+            folded = (answers_before p m q xs h.marks a [] f h.folded.0, h.folded.1);
+          }

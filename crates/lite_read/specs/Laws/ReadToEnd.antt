@@ -1,5 +1,5 @@
 -- Laws of `read_to_end`.
-use Rattle.std.proofs.Common.{◌≡◌, ◌∙◌, ◌≤◌, ◌+◌, ℕ, List, [], ◌∷◌, ◌++◌, length, Result, refl, ap, sym, arith}
+use Rattle.std.proofs.Common.{◌∙◌, ◌≤◌, ℕ, List, [], ◌∷◌, ◌++◌, length, Result, refl, ap, sym, arith}
 use Rattle.std.proofs.Common.{length-append, append-nil, append_assoc, length-take-le}
 use Rattle.std.specs.List.{FoldsTo}
 use Rattle.std.specs.declared.io.Error.{Error}
@@ -32,10 +32,7 @@ appends_all m start g (x ∷ xs) = (
 
 pub grown : (m : Type 0) (start : ℕ) (p q xs : List ℕ) → FoldsTo (appends m start).takes p xs q → length p ≤ length q
 grown m start p q [] h = omega (arith, ap length h)
-grown m start p q (x ∷ xs) h =
-    let here : length h.0 ≡ length p + 1 = ap length h.1 ∙ length-append p (x ∷ []) in
-    let rest = grown m start h.0 q xs h.2 in
-    omega (arith, here, rest)
+grown m start p q (x ∷ xs) h = omega (arith, ap length h.1 ∙ length-append p (x ∷ []), grown m start h.0 q xs h.2)
 
 module _ {R A : Type 0} where
   stays_none : (x : ReadToEndFuture R A) → ToEndStays x x
@@ -60,11 +57,16 @@ module _ {R A : Type 0} where
     pub steps_on : ReadCounting reads r → (x y : ReadToEndFuture R A) → CanAppend r.counts x → ReadsSome m reads x y
         → CanAppend r.counts y
     steps_on c x y can t =
-        let before : length (read_front x) ≡ x.filled = length-take-le x.filled x.buf.now.items can.within in
-        let after : length (read_front y) ≡ y.filled = length-take-le y.filled y.buf.now.items t.stays.1 in
-        let more = grown m x.start (read_front x) (read_front y) t.taken t.folds in
         record {
-          started = omega (arith, t.stays.0.start, can.started, before, after, more);
+          started =
+              omega (
+                arith,
+                t.stays.0.start,
+                can.started,
+                length-take-le x.filled x.buf.now.items can.within,
+                length-take-le y.filled y.buf.now.items t.stays.1,
+                grown m x.start (read_front x) (read_front y) t.taken t.folds,
+              );
           within = t.stays.1;
           counts = c.counts_on x.reader.now y.reader.now (bytes t.taken) can.counts t.came;
         }
@@ -79,6 +81,4 @@ module _ {R A : Type 0} where
     -- a step before others
     pub step_before : (x y z : ReadToEndFuture R A) (a : Poll (Result ℕ Error)) → ReadsSome m reads x y
         → AnswersUntrimmed m reads y a z → AnswersUntrimmed m reads x a z
-    step_before =
-        gathers_before {Steps = λ x y. ToEndStays x y × (y.filled ≤ length y.buf.now.items)} (keeps m) laws
-        (λ x y k. k.0)
+    step_before = gathers_before (keeps m) laws (λ x y k. k.0)

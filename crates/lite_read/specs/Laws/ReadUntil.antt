@@ -19,20 +19,20 @@ module _ {R : Type 0} where
   stays_none x = record { reader = refl; buf = refl; byte = refl; start = refl; before = refl; grows = omega arith }
 
   -- what was there at first is there still
-  pub stays_within : (x y : ReadUntilFuture R) → UntilStays x y → x.start ≤ length x.buf.now.items
-      → y.start ≤ length y.buf.now.items
-  stays_within x y h within = omega (arith, h.start, h.grows, within)
+  module _ (x y : ReadUntilFuture R) where
+    pub stays_within : UntilStays x y → x.start ≤ length x.buf.now.items → y.start ≤ length y.buf.now.items
+    stays_within h within = omega arith
 
-  stays_join : (x y z : ReadUntilFuture R) → UntilStays x y → UntilStays y z → UntilStays x z
-  stays_join x y z h k =
-      record {
-        reader = lent_still x.reader y.reader z.reader h.reader k.reader;
-        buf = lent_still x.buf y.buf z.buf h.buf k.buf;
-        byte = k.byte ∙ h.byte;
-        start = k.start ∙ h.start;
-        before = rw (← h.start) k.before ∙ h.before;
-        grows = omega (arith, h.grows, k.grows);
-      }
+    stays_join : (z : ReadUntilFuture R) → UntilStays x y → UntilStays y z → UntilStays x z
+    stays_join z h k =
+        record {
+          reader = lent_still x.reader y.reader z.reader h.reader k.reader;
+          buf = lent_still x.buf y.buf z.buf h.buf k.buf;
+          byte = k.byte ∙ h.byte;
+          start = k.start ∙ h.start;
+          before = rw (← h.start) k.before ∙ h.before;
+          grows = omega (arith, h.grows, k.grows);
+        }
 
   keeps : (m : Type 0) → KeepLaws (λ (x : ReadUntilFuture R). until x.byte m) UntilStays
   keeps m = record { none = stays_none; join = stays_join; same = λ x y k. ap (λ b. until b m) k.byte }

@@ -26,48 +26,49 @@ module _ {M R : Type 0} (fold : ReadFold M R) where
     segmented_none : (s : S) (p : M) → Segmented fold reads s p [] s p
     segmented_none s p = record { marks = []; came = laws.rests s; cut = (refl, refl) }
 
-    segmented_follow : (s t u : S) (p q r : M) (l m : List (Poll R)) → Segmented fold reads s p l t q
-        → Segmented fold reads t q m u r
-        → Segmented fold reads s p (l ++ m) u r
-    segmented_follow s t u p q r l m h k =
-        record {
-          marks = h.marks ++ k.marks;
-          came = laws.follows s t u h.marks k.marks h.came k.came;
-          cut = segments_join (AnswerMarks fold) p q r h.marks k.marks l m h.cut k.cut;
-        }
+    module _ (s t u : S) (p : M) where
+      segmented_follow : (q r : M) (l m : List (Poll R)) → Segmented fold reads s p l t q
+          → Segmented fold reads t q m u r → Segmented fold reads s p (l ++ m) u r
+      segmented_follow q r l m h k =
+          record {
+            marks = h.marks ++ k.marks;
+            came = laws.follows s t u h.marks k.marks h.came k.came;
+            cut = segments_join (AnswerMarks fold) p q r h.marks k.marks l m h.cut k.cut;
+          }
 
-    segmented_before : (s t u : S) (p m q : M) (xs : List ℕ) (a : Poll R) → reads s (bytes xs) t
-        → FoldsTo fold.takes p xs m
-        → Segmented fold reads t m (a ∷ []) u q → Segmented fold reads s p (a ∷ []) u q
-    segmented_before s t u p m q xs a came f h =
-        record {
-          marks = bytes xs ++ h.marks;
-          came = laws.follows s t u (bytes xs) h.marks came h.came;
-          cut = answers_before fold p m q xs h.marks a [] f h.cut;
-        }
+      segmented_before : (m q : M) (xs : List ℕ) (a : Poll R) → reads s (bytes xs) t → FoldsTo fold.takes p xs m
+          → Segmented fold reads t m (a ∷ []) u q → Segmented fold reads s p (a ∷ []) u q
+      segmented_before m q xs a came f h =
+          record {
+            marks = bytes xs ++ h.marks;
+            came = laws.follows s t u (bytes xs) h.marks came h.came;
+            cut = answers_before fold p m q xs h.marks a [] f h.cut;
+          }
 
 module _ {X S M K R : Type 0} (over : StreamOver X S M K) (fold : K → ReadFold M R) {reads : Runs ReadMark S}
     (laws : MarkLaws reads) where
-  flows_follow : (x y z : X) (l m : List (Poll R)) → Flows over fold reads x l y → Flows over fold reads y m z
-      → Flows over fold reads x (l ++ m) z
-  flows_follow x y z l m h k =
-      let next = rw h.stays at k.segmented in
-      record {
-        segmented = segmented_follow (fold (over.kept x)) laws _ _ _ _ _ _ l m h.segmented next;
-        stays = k.stays ∙ h.stays;
-        idle = idle_join x y z l m h.idle k.idle;
-      }
+  module _ (x y z : X) where
+    flows_follow : (l m : List (Poll R)) → Flows over fold reads x l y → Flows over fold reads y m z
+        → Flows over fold reads x (l ++ m) z
+    flows_follow l m h k =
+        record {
+          segmented =
+              segmented_follow (fold (over.kept x)) laws _ _ _ _ _ _ l m h.segmented (rw h.stays at k.segmented);
+          stays = k.stays ∙ h.stays;
+          idle = idle_join x y z l m h.idle k.idle;
+        }
 
-  -- a step before others
-  pub step_before : (x y z : X) (a : Poll R) → TakesPieceIn over fold reads x y → Flows over fold reads y (a ∷ []) z
-      → Flows over fold reads x (a ∷ []) z
-  step_before x y z a t h =
-      let next = rw t.stays at h.segmented in
-      record {
-        segmented = segmented_before (fold (over.kept x)) laws _ _ _ _ _ _ t.taken a t.came t.folds next;
-        stays = h.stays ∙ t.stays;
-        idle = λ e. absurd (cc e);
-      }
+    -- a step before others
+    pub step_before : (a : Poll R) → TakesPieceIn over fold reads x y → Flows over fold reads y (a ∷ []) z
+        → Flows over fold reads x (a ∷ []) z
+    step_before a t h =
+        record {
+          segmented =
+              segmented_before (fold (over.kept x)) laws _ _ _ _ _ _ t.taken a t.came t.folds
+              (rw t.stays at h.segmented);
+          stays = h.stays ∙ t.stays;
+          idle = λ e. cc e;
+        }
 
 module _ {X S M K A : Type 0} (over : StreamOver X S M K) (fold : K → ReadFold M (Option A)) {reads : Runs ReadMark S}
     (laws : MarkLaws reads) where

@@ -47,8 +47,7 @@ said (ReadMark.byte b ∷ i) (Ready (Some (Ok x)) ∷ l) h = rw h.0 (strip l, re
 said (ReadMark.pending ∷ i) (Pending ∷ l) h = said i l h.1
 said (ReadMark.fault kind ∷ i) (Pending ∷ l) h = inl (h.0, said i l h.1)
 said (ReadMark.fault kind ∷ i) (Ready (Some (Err e)) ∷ l) h =
-    let each = said i l h.1 in
-    inr (record { error = e; is = h.0.0; heard = h.0.1; after = strip l; cut = refl; more = each })
+    inr (record { error = e; is = h.0.0; heard = h.0.1; after = strip l; cut = refl; more = (said i l h.1) })
 said (ReadMark.end ∷ i) (Ready None ∷ l) h = (strip l, refl, said i l h.1)
 said _ _ h = absurd h.0
 
@@ -56,13 +55,13 @@ abbrev SameBytes : List ByteItem → List ByteItem → Type 0
 SameBytes = ComparableBy (OptionBy SameByKind)
 
 -- an error comes first in both tales, where the rest of both says the same
-both_fail : (kind : ErrorKind) (i j : List ReadMark) (l m : List ByteItem) → TaleAnswers (ReadMark.fault kind ∷ i) l
-    → TaleAnswers (ReadMark.fault kind ∷ j) m
-    → ((l m : List ByteItem) → TaleAnswers i l → TaleAnswers j m → SameBytes l m) → SameBytes l m
-both_fail kind i j l m (inl h) (inl k) rest = rest l m h.1 k.1
-both_fail kind i j l m (inl h) (inr k) rest = absurd (k.heard h.0)
-both_fail kind i j l m (inr h) (inl k) rest = absurd (h.heard k.0)
-both_fail kind i j l m (inr h) (inr k) rest = rw (h.cut, k.cut) (h.is ∙ sym k.is, rest h.after k.after h.more k.more)
+module _ (kind : ErrorKind) (i j : List ReadMark) (l m : List ByteItem) where
+  both_fail : TaleAnswers (ReadMark.fault kind ∷ i) l → TaleAnswers (ReadMark.fault kind ∷ j) m
+      → ((l m : List ByteItem) → TaleAnswers i l → TaleAnswers j m → SameBytes l m) → SameBytes l m
+  both_fail (inl h) (inl k) rest = rest l m h.1 k.1
+  both_fail (inl h) (inr k) rest = absurd (k.heard h.0)
+  both_fail (inr h) (inl k) rest = absurd (h.heard k.0)
+  both_fail (inr h) (inr k) rest = rw (h.cut, k.cut) (h.is ∙ sym k.is, rest h.after k.after h.more k.more)
 
 -- two tales that begin one another say the same
 say_same : (i j : List ReadMark) (l m : List ByteItem) → TaleAnswers i l → TaleAnswers j m → Comparable i j

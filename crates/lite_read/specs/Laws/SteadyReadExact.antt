@@ -26,25 +26,25 @@ data ExactValue (g : Filling) : List ReadMark → Result (Unit {0}) Error → Ty
   failed : (e : Error) (kind : ErrorKind) → HasRoom g → error_kind e ≡ kind
       → ExactValue g (ReadMark.fault kind ∷ []) (Err e)
 
-answered : (g : Filling) (l : List ReadMark) (v : Result (Unit {0}) Error) → Fulfils g l v → ExactValue g l v
-answered g [] v h = rw h.1 (ExactValue.full h.0)
-answered g (ReadMark.byte b ∷ l) v h = absurd h
-answered g (ReadMark.pending ∷ l) v h = absurd h
-answered g (ReadMark.end ∷ []) (Ok u) h = absurd h
-answered g (ReadMark.end ∷ []) (Err e) h = ExactValue.ended e h.0 h.1
-answered g (ReadMark.fault kind ∷ []) (Ok u) h = absurd h
-answered g (ReadMark.fault kind ∷ []) (Err e) h = ExactValue.failed e kind h.0 h.1
-answered g (_ ∷ m ∷ l) v h = absurd h
+module _ (g : Filling) where
+  answered : (l : List ReadMark) (v : Result (Unit {0}) Error) → Fulfils g l v → ExactValue g l v
+  answered [] v h = rw h.1 (ExactValue.full h.0)
+  answered (ReadMark.byte b ∷ l) v h = absurd h
+  answered (ReadMark.pending ∷ l) v h = absurd h
+  answered (ReadMark.end ∷ []) (Ok u) h = absurd h
+  answered (ReadMark.end ∷ []) (Err e) h = ExactValue.ended e h.0 h.1
+  answered (ReadMark.fault kind ∷ []) (Ok u) h = absurd h
+  answered (ReadMark.fault kind ∷ []) (Err e) h = ExactValue.failed e kind h.0 h.1
+  answered (_ ∷ m ∷ l) v h = absurd h
 
-at_once : (g : Filling) (l : List ReadMark) (v : Result (Unit {0}) Error) → ExactValue g l v → NoPendingRead l
-at_once g _ _ (ExactValue.full h) = tt
-at_once g _ _ (ExactValue.ended e room h) = tt
-at_once g _ _ (ExactValue.failed e kind room h) = tt
+  at_once : (l : List ReadMark) (v : Result (Unit {0}) Error) → ExactValue g l v → NoPendingRead l
+  at_once _ _ (ExactValue.full h) = tt
+  at_once _ _ _ = tt
 
 given_or_taken : (g : Filling) (l m : List ReadMark) (v : Result (Unit {0}) Error) (b : ℕ) → ExactValue g l v
     → HasRoom g → Comparable l (ReadMark.byte b ∷ m) → ⊥
-given_or_taken g _ m _ b (ExactValue.full h) room c = omega (arith, h, room)
-given_or_taken g _ m _ b _ room c = cc c.0
+given_or_taken g _ m _ b (ExactValue.full h) room c = omega arith
+given_or_taken g _ m _ b _ room c = cc
 
 abbrev OneExactValue : Result (Unit {0}) Error → Result (Unit {0}) Error → List ReadMark → List ReadMark → Type 0
 OneExactValue v w l m = SameByKind v w × (l ≡ m)
@@ -60,7 +60,7 @@ one_value g _ _ _ _ (ExactValue.ended e room h) (ExactValue.ended f more k) c = 
 one_value g _ _ _ _ (ExactValue.failed e kind room h) (ExactValue.failed f other more k) c =
     let same : kind ≡ other = cc c.0 in
     (h ∙ same ∙ sym k, ap (λ n. ReadMark.fault n ∷ []) same)
-one_value g _ _ _ _ _ _ c = absurd (cc c.0)
+one_value g _ _ _ _ _ _ c = cc
 
 fills_deterministic : IsDeterministic SameByKind fills
 fills_deterministic =

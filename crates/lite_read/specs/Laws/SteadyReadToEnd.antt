@@ -22,33 +22,32 @@ data ToEndValue (start : ℕ) (g : List ℕ) : List ReadMark → Result ℕ Erro
   ended : (n : ℕ) → length g ≡ start + n → ToEndValue start g (ReadMark.end ∷ []) (Ok n)
   failed : (e : Error) (kind : ErrorKind) → error_kind e ≡ kind → ToEndValue start g (ReadMark.fault kind ∷ []) (Err e)
 
-answered : (start : ℕ) (g : List ℕ) (l : List ReadMark) (v : Result ℕ Error) → Appended ⊥ start g l v
-    → ToEndValue start g l v
-answered start g [] (Err e) h = absurd h.0
-answered start g (ReadMark.end ∷ []) (Ok n) h = ToEndValue.ended n h
-answered start g (ReadMark.fault kind ∷ []) (Err e) h = ToEndValue.failed e kind h
-answered start g _ _ h = absurd h
+module _ (start : ℕ) (g : List ℕ) where
+  answered : (l : List ReadMark) (v : Result ℕ Error) → Appended ⊥ start g l v → ToEndValue start g l v
+  answered [] (Err e) h = absurd h.0
+  answered (ReadMark.end ∷ []) (Ok n) h = ToEndValue.ended n h
+  answered (ReadMark.fault kind ∷ []) (Err e) h = ToEndValue.failed e kind h
+  answered _ _ h = absurd h
 
-at_once : (start : ℕ) (g : List ℕ) (l : List ReadMark) (v : Result ℕ Error) → ToEndValue start g l v → NoPendingRead l
-at_once start g _ _ (ToEndValue.ended n h) = tt
-at_once start g _ _ (ToEndValue.failed e kind h) = tt
+  at_once : (l : List ReadMark) (v : Result ℕ Error) → ToEndValue start g l v → NoPendingRead l
+  at_once _ _ (ToEndValue.ended n h) = tt
+  at_once _ _ (ToEndValue.failed e kind h) = tt
 
-given_or_taken : (start : ℕ) (g : List ℕ) (l m : List ReadMark) (v : Result ℕ Error) (b : ℕ) → ToEndValue start g l v
-    → Comparable l (ReadMark.byte b ∷ m) → ⊥
-given_or_taken start g _ m _ b (ToEndValue.ended n h) c = cc c.0
-given_or_taken start g _ m _ b (ToEndValue.failed e kind h) c = cc c.0
+  given_or_taken : (l m : List ReadMark) (v : Result ℕ Error) (b : ℕ) → ToEndValue start g l v
+      → Comparable l (ReadMark.byte b ∷ m) → ⊥
+  given_or_taken _ m _ b (ToEndValue.ended n h) c = cc
+  given_or_taken _ m _ b (ToEndValue.failed e kind h) c = cc
 
 abbrev OneToEndValue : Result ℕ Error → Result ℕ Error → List ReadMark → List ReadMark → Type 0
 OneToEndValue v w l m = SameByKind v w × (l ≡ m)
 
 one_value : (start : ℕ) (g : List ℕ) (l m : List ReadMark) (v w : Result ℕ Error) → ToEndValue start g l v
     → ToEndValue start g m w → Comparable l m → OneToEndValue v w l m
-one_value start g _ _ _ _ (ToEndValue.ended n h) (ToEndValue.ended k j) c =
-    let same : n ≡ k = omega (arith, h, j) in (same, refl)
+one_value start g _ _ _ _ (ToEndValue.ended n h) (ToEndValue.ended k j) c = (omega (arith, h, j), refl)
 one_value start g _ _ _ _ (ToEndValue.failed e kind h) (ToEndValue.failed f other k) c =
     let same : kind ≡ other = cc c.0 in
     (h ∙ same ∙ sym k, ap (λ n. ReadMark.fault n ∷ []) same)
-one_value start g _ _ _ _ _ _ c = absurd (cc c.0)
+one_value start g _ _ _ _ _ _ c = cc
 
 pub appends_deterministic : (start : ℕ) → IsDeterministic SameByKind (appends ⊥ start)
 appends_deterministic start =

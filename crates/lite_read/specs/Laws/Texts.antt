@@ -18,7 +18,7 @@ use Rattle.lite_read.specs.TextSteps.{AnswersText, TakesTextIn}
 -- bytes that are taken in leave the text
 pub folds_in : (fold : ReadFold (List ℕ) (Result ℕ Error)) (text p q xs : List ℕ) → FoldsTo fold.takes p xs q
     → FoldsTo (in_text fold).takes (record { read = p; text = text }) xs (record { read = q; text = text })
-folds_in fold text p q [] h = ap (λ v. record { read = v; text = text }) h
+folds_in fold text p q [] h = rw h
 folds_in fold text p q (x ∷ xs) h = (record { read = h.0; text = text }, (h.1, refl), folds_in fold text h.0 q xs h.2)
 
 module _ {X R A : Type 0} (over : TextOver X R A) where

@@ -1,5 +1,5 @@
 -- Laws of what leaves items out: its answers do not depend on when its source was pending.
-use Rattle.std.proofs.Common.{◌≡◌, List, [], ◌∷◌, Option, Some, None, refl, arith}
+use Rattle.std.proofs.Common.{◌≡◌, List, ◌∷◌, Option, Some, None, refl, arith}
 use Rattle.std.specs.Prelude.{Bool, true, false}
 use Rattle.lite_base.specs.Alike.{OptionBy, SameAnswer, SameItem, Sameness}
 use Rattle.lite_base.specs.Answers.{Answer, strip}
@@ -34,14 +34,14 @@ module _ {F A B : Type 0} (call : Question F A (Option B)) where
   keeps_alike same (Some y) (Some z) P Q o p e r q rest = rw (r.1, q.1) (e, rest r.0 q.0 r.2 q.2)
 
   -- from what agrees, calls at items that are like one another answer what is the same
-  pub leaves_agreeing : (like : Sameness A) (same : Sameness B) {agree : F → F → Type 0}
-      → MatchesFrom (SameItem like) (SameAnswer same) call agree → AgreeingOver like same (LeavesOut call) agree
-  leaves_agreeing like same m = placed_agreeing call KeptInPlace like same m (keeps_alike same) stripped
+  module _ (like : Sameness A) where
+    pub leaves_agreeing : (same : Sameness B) {agree : F → F → Type 0}
+        → MatchesFrom (SameItem like) (SameAnswer same) call agree → AgreeingOver like same (LeavesOut call) agree
+    leaves_agreeing same m = placed_agreeing call KeptInPlace like same m (keeps_alike same) stripped
 
-  -- closures that keep an item, or none
-  pub leaves_keeping : (like : Sameness A)
-      → AgreeingOver like (Keeping like call) (LeavesOut call) (AgreeKeeping like call)
-  leaves_keeping like = leaves_agreeing like (Keeping like call) (keeping_matches like call)
+    -- closures that keep an item, or none
+    pub leaves_keeping : AgreeingOver like (Keeping like call) (LeavesOut call) (AgreeKeeping like call)
+    leaves_keeping = leaves_agreeing (Keeping like call) (keeping_matches like call)
 
 -- an item goes out as it came in, or not at all
 module _ {F A : Type 0} where
@@ -59,10 +59,10 @@ module _ {F A : Type 0} where
 
 -- from one count on
 pub skips_match : {A : Type 0} (like : A → A → Type 0) → MatchesFrom like (OptionBy like) Skips (λ n m. m ≡ n)
-skips_match like n m p q x w None None e s a c = (tt, omega (arith, e, a, c))
-skips_match like n m p q x w None (Some z) e s a c = absurd (omega (arith, e, a, c.0))
-skips_match like n m p q x w (Some y) None e s a c = absurd (omega (arith, e, a.0, c))
-skips_match like n m p q x w (Some y) (Some z) e s a c = (rw (a.1, c.1) s, rw (a.2, c.2) refl)
+skips_match like n m p q x w None None e s a c = omega arith
+skips_match like n m p q x w None (Some z) e s a c = omega arith
+skips_match like n m p q x w (Some y) None e s a c = omega arith
+skips_match like n m p q x w (Some y) (Some z) e s a c = (rw (a.1, c.1) s, rw (a.2, c.2))
 
 -- from predicates that agree, or none
 module _ {F A : Type 0} (test : Question F A Bool) (like : Sameness A) where

@@ -1,6 +1,6 @@
 -- Lists of answers of which some stand before others.
-use Rattle.std.proofs.Common.{◌≡◌, ℕ, List, [], ◌∷◌, ◌++◌, Some, None, sym}
-use Rattle.futures.specs.declared.task.Poll.TheVariants.{Ready, Pending}
+use Rattle.std.proofs.Common.{◌≡◌, ℕ, List, [], ◌∷◌, ◌++◌, Some, sym}
+use Rattle.futures.specs.declared.task.Poll.TheVariants.{Ready}
 use Rattle.lite_base.specs.Answers.{Answer, items}
 use Rattle.lite_base.specs.Rank.{Below, Lowers}
 
@@ -9,17 +9,16 @@ module _ {A : Type 0} where
   pub items_after : (before after : List (Answer A)) (l : List A) → items l ≡ before ++ after → (m : List A)
       × (after ≡ items m)
   items_after [] after l e = (l, sym e)
-  items_after (a ∷ before) after [] e = absurd (cc e)
+  items_after (a ∷ before) after [] e = cc
   items_after (a ∷ before) after (x ∷ l) e = items_after before after l (cc e)
 
   pub not_empty : (before : List (Answer A)) (a : Answer A) (after : List (Answer A)) → [] ≡ before ++ a ∷ after → ⊥
-  not_empty [] a after e = cc e
-  not_empty (b ∷ before) a after e = cc e
+  not_empty [] a after e = cc
+  not_empty (b ∷ before) a after e = cc
 
   -- an item among the first answers lowers the rank, or else what follows them does
   pub own_lowers : (own last after : List (Answer A)) (xs us ys vs : List ℕ) → Lowers (own ++ last) xs us
       → (Lowers last xs us → Lowers after ys vs) → (Below xs us → Below ys vs) → Lowers (own ++ after) ys vs
   own_lowers [] last after xs us ys vs h then below = then h
-  own_lowers (Pending ∷ own) last after xs us ys vs h then below = own_lowers own last after xs us ys vs h then below
-  own_lowers (Ready None ∷ own) last after xs us ys vs h then below = own_lowers own last after xs us ys vs h then below
   own_lowers (Ready (Some x) ∷ own) last after xs us ys vs h then below = below h
+  own_lowers (_ ∷ own) last after xs us ys vs h then below = own_lowers own last after xs us ys vs h then below

@@ -2,7 +2,6 @@
 use Rattle.std.specs.List.{AllByRecursion}
 use Rattle.std.specs.Prelude.{IfSome}
 use Rattle.std.proofs.Common.{◌≤◌, ◌+◌, arith, List, [], ◌∷◌, ◌++◌, Option, Some, None, inl, inr, refl}
-use Rattle.futures.specs.declared.task.Poll.TheVariants.{Pending}
 use Rattle.lite_base.specs.Answers.{Answer, end}
 use Rattle.lite_base.specs.Calm.{CalmLaws, NoPending, waits}
 use Rattle.lite_base.specs.Laws.Calm.{no_pending_front, no_pending_join, no_pending_none, waits_join}
@@ -26,9 +25,8 @@ module _ {A : Type 0} where
   joins_waits First g i j l (inr r) =
       let e = cuts_calming is_done second_after Second g j (r.next ∷ r.later) r.followed in
       let own = waits_join r.own (end ∷ []) in
-      let out = waits_join r.own (r.next ∷ r.later) in
-      rw (r.through_end, r.joined) (omega (arith, e, own, out))
-  joins_waits Second g i j l r = let e = cuts_calming is_done second_after Second g j l r.1 in omega (arith, e)
+      rw (r.through_end, r.joined) (omega (arith, e, own, waits_join r.own (r.next ∷ r.later)))
+  joins_waits Second g i j l r = omega (arith, cuts_calming is_done second_after Second g j l r.1)
   joins_waits Done g i j l r = let e = cuts_calming is_done second_after Done g j l r.1 in omega (arith, e)
 
 module _ {S U A : Type 0} {run : Runs (Answer A) S} {run' : Runs (Answer A) U} where
@@ -37,9 +35,7 @@ module _ {S U A : Type 0} {run : Runs (Answer A) S} {run' : Runs (Answer A) U} w
       → CalmLaws (Chains run run') (λ x. is_calm x.first × is_calm' x.second)
   chain_calm s u =
       calm_two (λ x. x.first) (λ x. x.second) s u
-      (λ x y l h.
-      let fewer = joins_waits x.part y.part h.firsts h.seconds l h.joined in
-      (h.firsts, h.seconds, h.came, h.then_came, fewer))
+      (λ x y l h. (h.firsts, h.seconds, h.came, h.then_came, joins_waits x.part y.part h.firsts h.seconds l h.joined))
 
 -- nothing is pending that comes out of answers that are not, where what is held is calm; and what is held then is
 abbrev pub CalmingBy : {F A B : Type 0} → (F → Type 0) → (F → List (Answer A) → List (Answer B) → F → Type 0) → Type 0
@@ -84,9 +80,8 @@ module _ {F A V B : Type 0} (call : Question F A V) (gives : V → List (Answer 
       → Calming (Expanding call gives)
   expanding_calming no_pending s t =
       expanding_by call gives t (λ s i o. waits o ≤ waits i) (λ e. omega arith)
-      (λ v w o ran e. let none = no_pending_none o (no_pending v o (Some w) ran) in omega (arith, none))
-      (λ p v i own rest ran k. let none = no_pending_none own (no_pending v own None ran) in
-      omega (arith, none, waits_join own rest, k))
+      (λ v w o ran e. omega (arith, no_pending_none o (no_pending v o (Some w) ran)))
+      (λ p v i own rest ran k. omega (arith, no_pending_none own (no_pending v own None ran), waits_join own rest, k))
       (λ p i o k. omega (arith, k)) (λ p i o k. k) (λ p r x v i b o called k. k) s
 
 module _ {B A : Type 0} {run : Runs (Answer A) B} {calm : B → Type 0} (c : CalmLaws run calm) where
@@ -95,10 +90,10 @@ module _ {B A : Type 0} {run : Runs (Answer A) B} {calm : B → Type 0} (c : Cal
   flattening_no_pending held last =
       flattening_by run last (λ f i l. IfSome f calm → AllByRecursion (OfItem calm) i → NoPending i → NoPending l)
       (λ e k each n. tt) (λ b d l m ran e k each n. c.no_pending b d l k ran)
-      (λ b d i own a rest m ran h k each n. no_pending_join own (a ∷ rest)
+      (λ b d i own a rest m ran h k each n.
+      no_pending_join own (a ∷ rest)
       (no_pending_front own (end ∷ []) (c.no_pending b d (own ++ end ∷ []) k ran)) (h tt each n))
-      (λ i l h k each n. absurd n) (λ i l h k each n. h tt each.1 n) (λ b i a l h k each n. h (each.0 b refl) each.1 n)
-      held
+      (λ i l h k each. absurd) (λ i l h k each. h tt each.1) (λ b i a l h k each. h (each.0 b refl) each.1) held
 
   -- an adapter, where the inner stream that is held is calm, and each that may come
   pub flattening_calm : {M S : Type 0} (p : AdapterParts M S (Option B)) {outer : Runs (Answer B) S}
@@ -106,7 +101,7 @@ module _ {B A : Type 0} {run : Runs (Answer A) B} {calm : B → Type 0} (c : Cal
       → ((x y z : S) (l m : List (Answer B)) → outer x l y → outer y m z → outer x (l ++ m) z) → CalmLaws outer is_calm
       → CalmLaws (Adapts p outer (Flattening run))
       (λ m. is_calm (p.source m) × EachInner outer calm (p.source m) (p.held m))
-  flattening_calm p {outer = outer} follows d =
+  flattening_calm p {outer} follows d =
       record {
         no_pending = λ x y l k h.
             flattening_no_pending (p.held x) (p.held y) h.ins l h.related k.1.0

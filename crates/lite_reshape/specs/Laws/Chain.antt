@@ -1,5 +1,4 @@
 -- Laws of two streams that are chained.
-use Rattle.std.specs.Prelude.{replicate}
 use Rattle.std.proofs.lemmas.List.{length-replicate}
 use Rattle.std.proofs.Common.{◌≡◌, ◌∙◌, ℕ, ◌+◌, List, [], ◌∷◌, ◌++◌, length, Some, None, inl, inr, refl, ap, sym, subst}
 use Rattle.std.proofs.Common.{arith, length-append, append_assoc, append-nil}
@@ -17,7 +16,6 @@ use Rattle.lite_reshape.specs.Chain.{Chains, CrossesOver, Joins, is_done, second
 use Rattle.lite_reshape.specs.Chaining.{chain_rank, chain_ranks, second_rank, zeros}
 use Rattle.lite_reshape.specs.Laws.Before.{items_after, not_empty, own_lowers}
 use Rattle.lite_reshape.specs.Laws.Zeros.{zeros_least}
-use Rattle.lite_reshape.specs.declared.chain.Chain.{Chain}
 use Rattle.lite_reshape.specs.declared.chain.Part.TheVariants.{First, Second, Done}
 use Rattle.lite_reshape.specs.declared.chain.Part.{Part}
 use Rattle.lite_stream.specs.Cutting.{Cuts}
@@ -27,22 +25,21 @@ use Rattle.lite_stream.specs.Laws.Lower.{at_most_below, lowers_after}
 zeros_length : (xs : List ℕ) → length (zeros xs) ≡ length xs
 zeros_length xs = length-replicate (length xs) 0
 
-zeros_same : (xs ys : List ℕ) → length xs ≡ length ys → zeros xs ≡ zeros ys
-zeros_same xs ys e = ap (λ n. replicate n 0) e
+module _ (xs ys : List ℕ) where
+  zeros_same : length xs ≡ length ys → zeros xs ≡ zeros ys
+  zeros_same e = cc
 
-zeros_below : (xs ys : List ℕ) → Below xs ys → Below (zeros xs) ys
-zeros_below xs ys h = at_most_below (zeros xs) xs ys (zeros_least (length xs) xs refl) h
+  zeros_below : Below xs ys → Below (zeros xs) ys
+  zeros_below = at_most_below (zeros xs) xs ys (zeros_least (length xs) xs refl)
 
 second_below : (g : Part) (xs ys : List ℕ) → Below xs ys → Below (second_rank g xs) ys
-second_below First xs ys h = h
-second_below Second xs ys h = h
 second_below Done xs ys h = zeros_below xs ys h
+second_below _ xs ys h = h
 
 -- a rank once the first has ended
 ended_rank : (g : Part) (xs ys : List ℕ) → (g ≡ First → ⊥) → chain_rank g xs ys ≡ zeros xs ++ second_rank g ys
 ended_rank First xs ys n = absurd (n refl)
-ended_rank Second xs ys n = refl
-ended_rank Done xs ys n = refl
+ended_rank _ xs ys n = refl
 
 chain_below : (g : Part) (xs us ys vs : List ℕ) → Below xs us → length ys ≡ length vs
     → Below (chain_rank g xs ys) (us ++ vs)
@@ -53,9 +50,8 @@ chain_below Done xs us ys vs h e = Below-first (zeros xs) us (zeros ys) vs (zero
 module _ {A : Type 0} where
   -- the second goes on, and the first is not asked again
   after_not : (s : Part) (b : Answer A) → (s ≡ First → ⊥) → second_after b s ≡ First → ⊥
-  after_not s Pending n e = n e
-  after_not s (Ready None) n e = absurd (cc e)
-  after_not s (Ready (Some x)) n e = n e
+  after_not s (Ready None) n e = cc
+  after_not s _ n e = n e
 
   not_first : (s g : Part) (j l : List (Answer A)) → Cuts is_done second_after s j l g → (s ≡ First → ⊥) → g ≡ First → ⊥
   not_first s g j l r n =
@@ -71,24 +67,24 @@ module _ {A : Type 0} where
   later s Done h i j k l m n r q = (q.0, (cuts_relating is_done second_after).following.joins s Done h j k l m r q.1)
 
   -- answers of the first stand before what follows
-  own_before : (h : Part) (i u k m : List (Answer A)) → Endless i → Joins First u k m h
-      → Joins First (i ++ u) k (i ++ m) h
-  own_before h i u k m endless (inl q) = inl (endless_join i u endless q.0, q.1, ap (λ n. i ++ n) q.2, q.3)
-  own_before h i u k m endless (inr q) =
-      inr (record {
-        own = i ++ q.own;
-        endless = endless_join i q.own endless q.endless;
-        through_end = ap (λ n. i ++ n) q.through_end ∙ sym (append_assoc i q.own (end ∷ []));
-        next = q.next;
-        later = q.later;
-        joined = ap (λ n. i ++ n) q.joined ∙ sym (append_assoc i q.own (q.next ∷ q.later));
-        followed = q.followed;
-      })
+  module _ (h : Part) (i u k m : List (Answer A)) (endless : Endless i) where
+    own_before : Joins First u k m h → Joins First (i ++ u) k (i ++ m) h
+    own_before (inl q) = inl (endless_join i u endless q.0, q.1, ap (λ n. i ++ n) q.2, q.3)
+    own_before (inr q) =
+        inr (record {
+          own = i ++ q.own;
+          endless = endless_join i q.own endless q.endless;
+          through_end = ap (λ n. i ++ n) q.through_end ∙ sym (append_assoc i q.own (end ∷ []));
+          next = q.next;
+          later = q.later;
+          joined = ap (λ n. i ++ n) q.joined ∙ sym (append_assoc i q.own (q.next ∷ q.later));
+          followed = q.followed;
+        })
 
   crosses_on : (g h : Part) (i u j k l m : List (Answer A)) → CrossesOver i j l g → Joins g u k m h
       → CrossesOver (i ++ u) (j ++ k) (l ++ m) h
   crosses_on g h i u j k l m r q =
-      let e = later Second g h u j k (r.next ∷ r.later) m (λ d. absurd (cc d)) r.followed q in
+      let e = later Second g h u j k (r.next ∷ r.later) m (λ d. cc d) r.followed q in
       record {
         own = r.own;
         endless = r.endless;
@@ -105,43 +101,42 @@ module _ {A : Type 0} where
       rw (r.1, r.2) (own_before h i u k m r.0 (rw r.3 at q))
   joins_follow First g h i u j k l m (inr r) q = inr (crosses_on g h i u j k l m r q)
   joins_follow Second g h i u j k l m r q =
-      let e = later Second g h u j k l m (λ d. absurd (cc d)) r.1 q in
-      (rw (r.0, e.0) refl, e.1)
+      let e = later Second g h u j k l m (λ d. cc d) r.1 q in
+      (rw (r.0, e.0), e.1)
   joins_follow Done g h i u j k l m r q =
-      let e = later Done g h u j k l m (λ d. absurd (cc d)) r.1 q in
-      (rw (r.0, e.0) refl, e.1)
+      let e = later Done g h u j k l m (λ d. cc d) r.1 q in
+      (rw (r.0, e.0), e.1)
 
   joins_stay : (f g : Part) (i j : List (Answer A)) → Joins f i j [] g → (i ≡ []) × (j ≡ []) × (g ≡ f)
   joins_stay First g i j (inl r) = (sym r.2, r.1, r.3)
   joins_stay First g i j (inr r) = absurd (not_empty r.own r.next r.later r.joined)
-  joins_stay Second g i j r = (r.0, r.1.0, r.1.1)
-  joins_stay Done g i j r = (r.0, r.1.0, r.1.1)
+  joins_stay _ g i j r = (r.0, r.1.0, r.1.1)
 
   -- after the second's end
-  done_lowers : (g : Part) (j l : List (Answer A)) (us vs : List ℕ) → AtMost us vs
-      → Cuts is_done second_after Done j l g → (g ≡ Done) × Lowers l us vs
-  done_lowers g j l us vs h r =
-      cuts_steps is_done second_after g (λ f i o. f ≡ Done → (g ≡ Done) × Lowers o us vs) (λ e. (e, h)) (λ f i o d k. k)
-      (λ f b i o n k e. absurd (n e)) Done j l r refl
+  module _ (g : Part) where
+    done_lowers : (j l : List (Answer A)) (us vs : List ℕ) → AtMost us vs → Cuts is_done second_after Done j l g
+        → (g ≡ Done) × Lowers l us vs
+    done_lowers j l us vs h r =
+        cuts_steps is_done second_after g (λ f i o. f ≡ Done → (g ≡ Done) × Lowers o us vs) (λ e. (e, h))
+        (λ f i o d k. k) (λ f b i o n k e. absurd (n e)) Done j l r refl
 
-  second_lowers : (g : Part) (j l : List (Answer A)) (xs ys : List ℕ) → Cuts is_done second_after Second j l g
-      → Lowers j xs ys → Lowers l (second_rank g xs) ys
-  second_lowers g j [] xs ys r h = rw r.1 (rw r.0 at h)
-  second_lowers g j (b ∷ l) xs ys (inl r) h = absurd (cc r.0)
-  second_lowers g j (Pending ∷ l) xs ys (inr r) h = second_lowers g r.1 l xs ys r.3 (rw r.2 at h)
-  second_lowers g j (Ready None ∷ l) xs ys (inr r) h =
-      let same = AtMost-length xs ys (Lowers-at_most r.1 xs ys (rw r.2 at h)) in
-      let e = done_lowers g r.1 l (zeros xs) ys (zeros_least (length xs) ys (sym same)) r.3 in
-      rw e.0 e.1
-  second_lowers g j (Ready (Some x) ∷ l) xs ys (inr r) h = second_below g xs ys (rw r.2 at h)
+    second_lowers : (j l : List (Answer A)) (xs ys : List ℕ) → Cuts is_done second_after Second j l g → Lowers j xs ys
+        → Lowers l (second_rank g xs) ys
+    second_lowers j [] xs ys r h = rw r.1 (rw r.0 at h)
+    second_lowers j (b ∷ l) xs ys (inl r) h = cc
+    second_lowers j (Pending ∷ l) xs ys (inr r) h = second_lowers r.1 l xs ys r.3 (rw r.2 at h)
+    second_lowers j (Ready None ∷ l) xs ys (inr r) h =
+        let same = AtMost-length xs ys (Lowers-at_most r.1 xs ys (rw r.2 at h)) in
+        let e = done_lowers r.1 l (zeros xs) ys (zeros_least (length xs) ys (sym same)) r.3 in
+        rw e.0 e.1
+    second_lowers j (Ready (Some x) ∷ l) xs ys (inr r) h = second_below g xs ys (rw r.2 at h)
 
   -- what stands after does not rise
   lowers_first : (l : List (Answer A)) (xs us ys vs : List ℕ) → Lowers l xs us → AtMost ys vs
       → Lowers l (xs ++ ys) (us ++ vs)
   lowers_first [] xs us ys vs h m = AtMost-both xs us ys vs h m
-  lowers_first (Pending ∷ l) xs us ys vs h m = lowers_first l xs us ys vs h m
-  lowers_first (Ready None ∷ l) xs us ys vs h m = lowers_first l xs us ys vs h m
   lowers_first (Ready (Some x) ∷ l) xs us ys vs h m = Below-first xs us ys vs h (AtMost-length ys vs m)
+  lowers_first (_ ∷ l) xs us ys vs h m = lowers_first l xs us ys vs h m
 
   joins_lowers : (f g : Part) (i j l : List (Answer A)) (xs us ys vs : List ℕ) → Joins f i j l g → Lowers i xs us
       → Lowers j ys vs
@@ -149,21 +144,19 @@ module _ {A : Type 0} where
   joins_lowers First g i j l xs us ys vs (inl r) h k =
       rw (r.2, r.3) (lowers_first i xs us ys vs h (Lowers-at_most j ys vs k))
   joins_lowers First g i j l xs us ys vs (inr r) h k =
-      let low : Lowers (r.own ++ end ∷ []) xs us = rw r.through_end at h in
-      let same = AtMost-length xs us (Lowers-at_most i xs us h) in
-      let same' = AtMost-length ys vs (Lowers-at_most j ys vs k) in
       let second = second_lowers g j (r.next ∷ r.later) ys vs r.followed k in
-      let after = lowers_after (r.next ∷ r.later) (zeros xs) us (second_rank g ys) vs
-      (zeros_least (length xs) us (sym same)) second in
-      let ended = ended_rank g xs ys (not_first Second g j (r.next ∷ r.later) r.followed (λ d. absurd (cc d))) in
-      rw r.joined (own_lowers r.own (end ∷ []) (r.next ∷ r.later) xs us (chain_rank g xs ys) (us ++ vs) low
+      let after =
+      lowers_after (r.next ∷ r.later) (zeros xs) us (second_rank g ys) vs
+      (zeros_least (length xs) us (sym (AtMost-length xs us (Lowers-at_most i xs us h)))) second in
+      let ended = ended_rank g xs ys (not_first Second g j (r.next ∷ r.later) r.followed (λ d. cc d)) in
+      rw r.joined
+      (own_lowers r.own (end ∷ []) (r.next ∷ r.later) xs us (chain_rank g xs ys) (us ++ vs) (rw r.through_end at h)
       (λ _. subst (λ n. Lowers (r.next ∷ r.later) n (us ++ vs)) (sym ended) after)
-      (λ b. chain_below g xs us ys vs b same'))
+      (λ b. chain_below g xs us ys vs b (AtMost-length ys vs (Lowers-at_most j ys vs k))))
   joins_lowers Second g i j l xs us ys vs r h k =
-      let same = AtMost-length xs us (Lowers-at_most i xs us h) in
-      rw (ended_rank g xs ys (not_first Second g j l r.1 (λ d. absurd (cc d))))
-      (lowers_after l (zeros xs) (zeros us) (second_rank g ys) vs (inl (zeros_same xs us same))
-      (second_lowers g j l ys vs r.1 k))
+      rw (ended_rank g xs ys (not_first Second g j l r.1 (λ d. cc d)))
+      (lowers_after l (zeros xs) (zeros us) (second_rank g ys) vs
+      (inl (zeros_same xs us (AtMost-length xs us (Lowers-at_most i xs us h)))) (second_lowers g j l ys vs r.1 k))
   joins_lowers Done g i j l xs us ys vs r h k =
       let same = AtMost-length xs us (Lowers-at_most i xs us h) in
       let same' = AtMost-length ys vs (Lowers-at_most j ys vs k) in
@@ -172,22 +165,23 @@ module _ {A : Type 0} where
       rw e.0 e.1
 
   -- the second gave the items that went out, and did not end
-  second_items : (s g : Part) (j : List (Answer A)) (l : List A) → Cuts is_done second_after s j (items l) g
-      → (s ≡ Second) → g ≡ Second
-  second_items s g j [] r e = r.1 ∙ e
-  second_items s g j (x ∷ l) (inl r) e = absurd (cc)
-  second_items s g j (x ∷ l) (inr r) e = second_items s g r.1 l r.3 e
+  module _ (s g : Part) where
+    second_items : (j : List (Answer A)) (l : List A) → Cuts is_done second_after s j (items l) g → (s ≡ Second)
+        → g ≡ Second
+    second_items j [] r e = cc
+    second_items j (x ∷ l) (inl r) e = cc
+    second_items j (x ∷ l) (inr r) e = second_items r.1 l r.3 e
 
-  second_falls : (g : Part) (j : List (Answer A)) (b : Answer A) (o : List (Answer A)) (l : List A)
-      (xs us ys vs : List ℕ)
-      → ((a : A) (before : List A) → j ≡ items (a ∷ before) → Below ys vs) → AtMost (zeros xs) us
-      → b ∷ o ≡ items l → Cuts is_done second_after Second j (b ∷ o) g → Below (chain_rank g xs ys) (us ++ vs)
-  second_falls g j b o [] xs us ys vs falls m same r = absurd (cc same)
-  second_falls g j b o (y ∷ l) xs us ys vs falls m same r =
-      let gave : Cuts is_done second_after Second j (items (y ∷ l)) g =
-      subst (λ n. Cuts is_done second_after Second j n g) same r in
-      let e = (cuts_relating is_done second_after).from_items Second g j y l gave in
-      rw (second_items Second g j (y ∷ l) gave refl) (Below-after (zeros xs) us ys vs m (falls e.0 e.1 e.2))
+  module _ (g : Part) (j : List (Answer A)) (b : Answer A) (o : List (Answer A)) where
+    second_falls : (l : List A) (xs us ys vs : List ℕ)
+        → ((a : A) (before : List A) → j ≡ items (a ∷ before) → Below ys vs) → AtMost (zeros xs) us → b ∷ o ≡ items l
+        → Cuts is_done second_after Second j (b ∷ o) g → Below (chain_rank g xs ys) (us ++ vs)
+    second_falls [] xs us ys vs falls m same r = cc
+    second_falls (y ∷ l) xs us ys vs falls m same r =
+        let gave : Cuts is_done second_after Second j (items (y ∷ l)) g =
+        subst (λ n. Cuts is_done second_after Second j n g) same r in
+        let e = (cuts_relating is_done second_after).from_items Second g j y l gave in
+        rw (second_items Second g j (y ∷ l) gave refl) (Below-after (zeros xs) us ys vs m (falls e.0 e.1 e.2))
 
   joins_falls : (f g : Part) (i j : List (Answer A)) (y : A) (l : List A) (xs us ys vs : List ℕ)
       → ((a : A) (before : List A) → i ≡ items (a ∷ before) → Below xs us)
@@ -206,8 +200,7 @@ module _ {A : Type 0} where
 
 joins_start : (A : Type 0) (f : Part) → Joins {A = A} f [] [] [] f
 joins_start A First = inl (refl, refl, refl, refl)
-joins_start A Second = (refl, (refl, refl))
-joins_start A Done = (refl, (refl, refl))
+joins_start A _ = (refl, (refl, refl))
 
 chain_sized : (part : Part) (xs ys : List ℕ) (m n : ℕ) → length xs ≡ m → length ys ≡ n
     → length (chain_rank part xs ys) ≡ m + n
@@ -220,18 +213,22 @@ module _ {S U A : Type 0} {run : Runs (Answer A) S} {run' : Runs (Answer A) U} w
   pub chain_runs : RunLaws run → RunLaws run' → RunLaws (Chains run run')
   chain_runs s u =
       record {
-        rests = λ x. record {
-          firsts = [];
-          seconds = [];
-          came = s.rests x.first;
-          then_came = u.rests x.second;
-          joined = joins_start A x.part;
-        };
+        rests = λ x.
+            record {
+              firsts = [];
+              seconds = [];
+              came = s.rests x.first;
+              then_came = u.rests x.second;
+              joined = joins_start A x.part;
+            };
         stays = λ x y h.
             let e = joins_stay x.part y.part h.firsts h.seconds h.joined in
-            let same = s.stays x.first y.first (rw e.0 at h.came) in
-            let same' = u.stays x.second y.second (rw e.1 at h.then_came) in
-            λ i. record { first = same i; second = same' i; part = e.2 i };
+            λ i.
+            record {
+              first = (s.stays x.first y.first (rw e.0 at h.came)) i;
+              second = (u.stays x.second y.second (rw e.1 at h.then_came)) i;
+              part = e.2 i;
+            };
         follows = λ x y z l m a b.
             record {
               firsts = a.firsts ++ b.firsts;

@@ -1,7 +1,7 @@
 -- Laws of references that are replaced by clones.
 use Rattle.std.specs.List.{AllByRecursion}
 use Rattle.std.specs.Prelude.{⊤, Result, Ok}
-use Rattle.std.proofs.Common.{◌≡◌, ◌∙◌, List, [], ◌∷◌, ◌++◌, Option, Some, None, refl, ap, sym, subst}
+use Rattle.std.proofs.Common.{◌≡◌, ◌∙◌, List, [], ◌∷◌, ◌++◌, Option, Some, None, refl, ap, sym}
 use Rattle.std.proofs.Common.{append_assoc}
 use Rattle.futures.specs.declared.task.Poll.TheVariants.{Ready, Pending}
 use denote.Ref.{Bor}
@@ -68,9 +68,8 @@ gives_copy is_clone is_infallible x copy h = ([], copy, tt, h, refl)
 
 held_same : {R : Type 0} (v w : Option R) → w ≡ v → OptionBy (λ a b. a ≡ b) v w
 held_same None None e = tt
-held_same None (Some w) e = absurd (cc e)
-held_same (Some v) None e = absurd (cc e)
 held_same (Some v) (Some w) e = cc
+held_same _ _ e = cc
 
 -- where no clone is refused, one item comes of each reference
 module _ {T E : Type 0} (is_clone : T → T → Type 0) where
@@ -112,18 +111,18 @@ module _ {T E : Type 0} (is_clone : T → T → Type 0) where
   -- among answers that are no refusals
   module _ (is_infallible : T → Type 0) (may : Answer (Result T E) → Type 0)
       (never : (x : Bor T) (a : Answer (Result T E)) → may a → IsCloneRefusal is_clone is_infallible x a → ⊥) where
-    refuses_found : (x : Bor T) (l : List (Answer (Result T E))) → AllByRecursion may l
-        → Refuses is_clone is_infallible x l → Refuses is_clone (λ _. ⊤) x l
-    refuses_found x [] all h = tt
-    refuses_found x (a ∷ l) all h = absurd (never x a all.0 h.0)
+    module _ (x : Bor T) where
+      refuses_found : (l : List (Answer (Result T E))) → AllByRecursion may l → Refuses is_clone is_infallible x l
+          → Refuses is_clone (λ _. ⊤) x l
+      refuses_found [] all h = tt
+      refuses_found (a ∷ l) all h = absurd (never x a all.0 h.0)
 
-    clones_found : (x : Bor T) (l : List (Answer (Result T E))) (next : Option (Bor T)) → AllByRecursion may l
-        → Clones is_clone is_infallible x l next
-        → Clones is_clone (λ _. ⊤) x l next
-    clones_found x l (Some y) all h = (refuses_found x l all h.0, h.1)
-    clones_found x l None all h =
-        let own = all_split may h.0 (item (Ok h.1) ∷ []) (subst (AllByRecursion may) h.4 all) in
-        (h.0, h.1, refuses_found x h.0 own.0 h.2, h.3, h.4)
+      clones_found : (l : List (Answer (Result T E))) (next : Option (Bor T)) → AllByRecursion may l
+          → Clones is_clone is_infallible x l next → Clones is_clone (λ _. ⊤) x l next
+      clones_found l (Some y) all h = (refuses_found l all h.0, h.1)
+      clones_found l None all h =
+          let own = all_split may h.0 (item (Ok h.1) ∷ []) (rw (← h.4) all) in
+          (h.0, h.1, refuses_found h.0 own.0 h.2, h.3, h.4)
 
 module _ {T E : Type 0} (is_clone : T → T → Type 0) (is_infallible : T → Type 0) {S : Type 0}
     {run ample : Runs (Answer (Bor T)) S} where
@@ -164,37 +163,38 @@ module _ {T E : Type 0} (is_clone : T → T → Type 0) (is_infallible : T → T
 -- no answer among Ok items is a refusal
 ok_not_refused : {T : Type 0} (E : Type 0) (l : List (Answer T)) → NoCloneRefused {E = E} (all_ok l)
 ok_not_refused E [] = tt
-ok_not_refused E (Pending ∷ l) = (λ e d. cc d, ok_not_refused E l)
 ok_not_refused E (Ready None ∷ l) = (λ e d. cc d, ok_not_refused E l)
-ok_not_refused E (Ready (Some x) ∷ l) = (λ e d. cc d, ok_not_refused E l)
+ok_not_refused E (_ ∷ l) = (λ e d. cc d, ok_not_refused E l)
 
 -- the rank falls with each clone; a refusal keeps it
 pub cloned_ok_counting : {T E : Type 0} (is_clone : T → T → Type 0) (is_infallible : T → Type 0) {S : Type 0}
     {run : Runs (Answer (Bor T)) S} {hints : Hints S} {r : Ranks S} → StreamLaws run hints → Counting run r
     → OkCounting (ClonesAll {E = E} is_clone is_infallible run) (held_ranks cloned_parts r)
-cloned_ok_counting {E = E} is_clone is_infallible {run = run} laws c =
-    let found = ok_counting (held_counting cloned_parts {call = Refers} laws c (clones_one is_clone)) in
-    let unrefused = cloned_ample is_clone is_infallible {run = run} {ample = run} (λ x y l h. h) in
+cloned_ok_counting {E} is_clone is_infallible {run} laws c =
+    let found = ok_counting (held_counting cloned_parts laws c (clones_one is_clone)) in
+    let unrefused = cloned_ample is_clone is_infallible (λ x y l h. h) in
     record {
       sized = found.sized;
       counts_on = λ x y l k h. c.counts_on x.stream y.stream h.ins k h.came;
       firm_on = λ x y l k h. c.firm_on x.stream y.stream h.ins k h.came;
       falls = λ x y a more k h.
-          found.falls x y a more k (unrefused x y (all_ok (items (a ∷ more))) (ok_not_refused E (items (a ∷ more))) h);
+          found.falls x y a more k
+          (unrefused x y (all_ok (items (a ∷ more))) (ok_not_refused E (items (a ∷ more))) h);
       lowers = λ x y l k h. found.lowers x y l k (unrefused x y (all_ok l) (ok_not_refused E l) h);
     }
 
 -- a clone is there at once, and so is its refusal
 module _ {T E : Type 0} (is_clone : T → T → Type 0) (is_infallible : T → Type 0) where
-  refuses_no_pending : (x : Bor T) (l : List (Answer (Result T E))) → Refuses is_clone is_infallible x l → NoPending l
-  refuses_no_pending x [] h = tt
-  refuses_no_pending x (Pending ∷ l) h = absurd (cc h.0.2)
-  refuses_no_pending x (Ready a ∷ l) h = refuses_no_pending x l h.1
+  module _ (x : Bor T) where
+    refuses_no_pending : (l : List (Answer (Result T E))) → Refuses is_clone is_infallible x l → NoPending l
+    refuses_no_pending [] h = tt
+    refuses_no_pending (Pending ∷ l) h = cc
+    refuses_no_pending (Ready a ∷ l) h = refuses_no_pending l h.1
 
-  clones_no_pending : (x : Bor T) (l : List (Answer (Result T E))) (next : Option (Bor T))
-      → Clones is_clone is_infallible x l next → NoPending l
-  clones_no_pending x l (Some y) h = refuses_no_pending x l h.0
-  clones_no_pending x l None h = rw h.4 (no_pending_join h.0 (item (Ok h.1) ∷ []) (refuses_no_pending x h.0 h.2) tt)
+    clones_no_pending : (l : List (Answer (Result T E))) (next : Option (Bor T))
+        → Clones is_clone is_infallible x l next → NoPending l
+    clones_no_pending l (Some y) h = refuses_no_pending l h.0
+    clones_no_pending l None h = rw h.4 (no_pending_join h.0 (item (Ok h.1) ∷ []) (refuses_no_pending h.0 h.2) tt)
 
   pub clones_calming : Calming (Expanding Refers (Clones {E = E} is_clone is_infallible))
   clones_calming = expanding_calming Refers (Clones is_clone is_infallible) clones_no_pending

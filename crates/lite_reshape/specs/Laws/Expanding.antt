@@ -1,6 +1,6 @@
 -- Laws of items that are replaced by the list of what is made of them.
 use Rattle.std.proofs.Common.{◌≡◌, ◌∙◌, ℕ, ◌+◌, ◌≤◌, List, [], ◌∷◌, ◌++◌, Option, Some, None, inl, inr, refl, ap, sym}
-use Rattle.std.proofs.Common.{subst, arith, append_assoc}
+use Rattle.std.proofs.Common.{arith, append_assoc}
 use Rattle.std.specs.List.{AllByRecursion}
 use Rattle.futures.specs.declared.task.Poll.TheVariants.{Ready, Pending}
 use Rattle.lite_base.specs.Answers.{Answer, Gives, Waiting, before_end, end, item, items}
@@ -42,34 +42,34 @@ module _ {F A V B : Type 0} (call : Question F A V) (gives : V → List (Answer 
     (ended : (p : F) (i : List (Answer A)) (o : List (Answer B)) → P (p, None) i o → P (p, None) (end ∷ i) (end ∷ o))
     (made : (p r : F) (x : A) (v : V) (i : List (Answer A)) (b : Answer B) (o : List (Answer B)) → call p x v r
     → P (r, Some v) i (b ∷ o) → P (p, None) (item x ∷ i) (b ∷ o)) where
-  held_by : (p : F) (v : V) (i : List (Answer A)) (o : List (Answer B))
-      → ((rest : List (Answer B)) → Expands call gives p i rest t.0 t.1 → P (p, None) i rest)
-      → Expanding call gives (p, Some v) i o t → P (p, Some v) i o
-  held_by p v i o rest (inl c) = rw c.0 (rw c.1 at (still v c.2 o c.3 c.4))
-  held_by p v i o rest (inr c) = rw c.2 (done p v i c.0 c.1 c.3 (rest c.1 c.4))
+  module _ (p : F) (v : V) (i : List (Answer A)) (o : List (Answer B))
+      (rest : (rest : List (Answer B)) → Expands call gives p i rest t.0 t.1 → P (p, None) i rest) where
+    held_by : Expanding call gives (p, Some v) i o t → P (p, Some v) i o
+    held_by (inl c) = rw c.0 (rw c.1 at (still v c.2 o c.3 c.4))
+    held_by (inr c) = rw c.2 (done p v i c.0 c.1 c.3 (rest c.1 c.4))
 
   expands_by : (p : F) (i : List (Answer A)) (o : List (Answer B)) → Expands call gives p i o t.0 t.1 → P (p, None) i o
   expands_by p [] [] c = rw c.0 at (nothing c.1)
-  expands_by p [] (b ∷ o) c = absurd c
-  expands_by p (a ∷ i) [] c = absurd c
   expands_by p (Pending ∷ i) (b ∷ o) c = rw c.0 (waits p i o (expands_by p i o c.1))
   expands_by p (Ready None ∷ i) (b ∷ o) c = rw c.0 (ended p i o (expands_by p i o c.1))
   expands_by p (Ready (Some x) ∷ i) (b ∷ o) c =
-      made p c.1 x c.0 i b o c.2 (held_by c.1 c.0 i (b ∷ o) (λ rest k. expands_by c.1 i rest k) c.3)
+      made p c.1 x c.0 i b o c.2 (held_by c.1 c.0 i (b ∷ o) (expands_by c.1 i) c.3)
+  expands_by p _ _ h = absurd h
 
   pub expanding_by : (s : F × Option V) (i : List (Answer A)) (o : List (Answer B)) → Expanding call gives s i o t
       → P s i o
   expanding_by (p, None) i o c = expands_by p i o c
-  expanding_by (p, Some v) i o c = held_by p v i o (λ rest k. expands_by p i rest k) c
+  expanding_by (p, Some v) i o c = held_by p v i o (expands_by p i) c
 
 module _ {F A V B : Type 0} (call : Question F A V) (gives : V → List (Answer B) → Option V → Type 0)
     (g : FollowLaws gives) where
   -- the list of what is held may be cut
-  begun : (t : F × Option V) (p : F) (v w : V) (j : List (Answer A)) (l m : List (Answer B)) → gives v l (Some w)
-      → Expanding call gives (p, Some w) j m t → Expanding call gives (p, Some v) j (l ++ m) t
-  begun t p v w j l m ran (inl k) = inl (k.0, k.1, k.2, g.joins v w (Some k.2) l m ran k.3, k.4)
-  begun t p v w j l m ran (inr k) =
-      inr (l ++ k.0, k.1, ap (λ n. l ++ n) k.2 ∙ sym (append_assoc l k.0 k.1), g.joins v w None l k.0 ran k.3, k.4)
+  module _ (t : F × Option V) (p : F) (v w : V) (j : List (Answer A)) (l m : List (Answer B))
+      (ran : gives v l (Some w)) where
+    begun : Expanding call gives (p, Some w) j m t → Expanding call gives (p, Some v) j (l ++ m) t
+    begun (inl k) = inl (k.0, k.1, k.2, g.joins v w (Some k.2) l m ran k.3, k.4)
+    begun (inr k) =
+        inr (l ++ k.0, k.1, ap (λ n. l ++ n) k.2 ∙ sym (append_assoc l k.0 k.1), g.joins v w None l k.0 ran k.3, k.4)
 
   joins : (s r t : F × Option V) (i j : List (Answer A)) (l m : List (Answer B)) → Expanding call gives s i l r
       → Expanding call gives r j m t → Expanding call gives s (i ++ j) (l ++ m) t
@@ -83,12 +83,12 @@ module _ {F A V B : Type 0} (call : Question F A V) (gives : V → List (Answer 
   -- what is done has answered, so no part of an empty list is its own
   nothing : (v : V) (own rest : List (Answer B)) → [] ≡ own ++ rest → gives v own None → ⊥
   nothing v [] rest e h = g.answers v h
-  nothing v (b ∷ own) rest e h = cc e
+  nothing v (b ∷ own) rest e h = cc
 
   empty : (s t : F × Option V) (i : List (Answer A)) → Expanding call gives s i [] t → (i ≡ []) × (t ≡ s)
   empty (p, None) (q, f) [] c = (refl, λ k. (c.0 k, c.1 k))
   empty (p, None) t (a ∷ i) c = absurd c
-  empty (p, Some v) (q, f) i (inl c) = let same = c.4 ∙ ap Some (g.stays v c.2 c.3) in (c.0, λ k. (c.1 k, same k))
+  empty (p, Some v) (q, f) i (inl c) = (c.0, λ k. (c.1 k, (c.4 ∙ ap Some (g.stays v c.2 c.3)) k))
   empty (p, Some v) t i (inr c) = absurd (nothing v c.0 c.1 c.2 c.3)
 
   starts : (s : F × Option V) → Expanding call gives s [] [] s
@@ -136,32 +136,33 @@ module _ {B : Type 0} where
 
 module _ {F A V B : Type 0} (call : Question F A V) (gives : V → List (Answer B) → Option V → Type 0)
     (g : GivingOne gives) where
-  pub expanding_bounded : (s t : F × Option V) (i : List (Answer A)) (o : List (Answer B))
-      → Expanding call gives s i o t → before_end o ≤ before_end i + count_held s.1
-  expanding_bounded s t =
-      expanding_by call gives t (λ s i o. before_end o ≤ before_end i + count_held s.1) (λ e. omega arith)
-      (λ v w o ran e. let none = waiting_bounded o (g.waits v w o ran) in omega (arith, none))
-      (λ p v i own rest ran k. let h = g.hands v own ran in omega (arith, k, one_bounded own rest h.0 h.1))
-      (λ p i o k. k) (λ p i o k. omega arith) (λ p r x v i b o called k. omega (arith, k)) s
+  module _ (s t : F × Option V) where
+    pub expanding_bounded : (i : List (Answer A)) (o : List (Answer B)) → Expanding call gives s i o t
+        → before_end o ≤ before_end i + count_held s.1
+    expanding_bounded =
+        expanding_by call gives t (λ s i o. before_end o ≤ before_end i + count_held s.1) (λ e. omega arith)
+        (λ v w o ran e. omega (arith, waiting_bounded o (g.waits v w o ran)))
+        (λ p v i own rest ran k. let h = g.hands v own ran in omega (arith, k, one_bounded own rest h.0 h.1))
+        (λ p i o k. k) (λ p i o k. omega arith) (λ p r x v i b o called k. omega (arith, k)) s
 
-  expanding_lowers : (s t : F × Option V) (i : List (Answer A)) (o : List (Answer B)) (xs us : List ℕ)
-      → Expanding call gives s i o t → Lowers i xs us → Lowers o (held_rank xs t.1) (held_rank us s.1)
-  expanding_lowers s t i o xs us =
-      expanding_by call gives t (λ s i o. Lowers i xs us → Lowers o (held_rank xs t.1) (held_rank us s.1))
-      (λ e h. held_level xs us None t.1 h (ap count_held e))
-      (λ v w o ran e h. waiting_lowers o _ _ (g.waits v w o ran) (held_level xs us (Some v) t.1 h (ap count_held e)))
-      (λ p v i own rest ran k h. Lowers-below (own ++ rest) _ _ (held_less _ us v (Lowers-at_most rest _ _ (k h))))
-      (λ p i o k. k) (λ p i o k. k)
-      (λ p r x v i b o called k h. Lowers-below (b ∷ o) _ _ (held_first xs us t.1 None h)) s i o
+    expanding_lowers : (i : List (Answer A)) (o : List (Answer B)) (xs us : List ℕ) → Expanding call gives s i o t
+        → Lowers i xs us → Lowers o (held_rank xs t.1) (held_rank us s.1)
+    expanding_lowers i o xs us =
+        expanding_by call gives t (λ s i o. Lowers i xs us → Lowers o (held_rank xs t.1) (held_rank us s.1))
+        (λ e h. held_level xs us None t.1 h (ap count_held e))
+        (λ v w o ran e h. waiting_lowers o _ _ (g.waits v w o ran) (held_level xs us (Some v) t.1 h (ap count_held e)))
+        (λ p v i own rest ran k h. Lowers-below (own ++ rest) _ _ (held_less _ us v (Lowers-at_most rest _ _ (k h))))
+        (λ p i o k. k) (λ p i o k. k)
+        (λ p r x v i b o called k h. Lowers-below (b ∷ o) _ _ (held_first xs us t.1 None h)) s i o
 
-  -- where items came out, only items came in
-  expanding_items : (s t : F × Option V) (i : List (Answer A)) (o : List (Answer B)) → Expanding call gives s i o t
-      → AllByRecursion IsItem o → AllByRecursion IsItem i
-  expanding_items s t =
-      expanding_by call gives t (λ s i o. AllByRecursion IsItem o → AllByRecursion IsItem i) (λ e h. tt)
-      (λ v w o ran e h. tt) (λ p v i own rest ran k h. k (all_split IsItem own rest h).1)
-      (λ p i o k h. absurd (let e = h.0.1 in cc)) (λ p i o k h. absurd (let e = h.0.1 in cc))
-      (λ p r x v i b o called k h. ((x, refl), k h)) s
+    -- where items came out, only items came in
+    expanding_items : (i : List (Answer A)) (o : List (Answer B)) → Expanding call gives s i o t
+        → AllByRecursion IsItem o → AllByRecursion IsItem i
+    expanding_items =
+        expanding_by call gives t (λ s i o. AllByRecursion IsItem o → AllByRecursion IsItem i) (λ e h. tt)
+        (λ v w o ran e h. tt) (λ p v i own rest ran k h. k (all_split IsItem own rest h).1)
+        (λ p i o k h. let e = h.0.1 in cc) (λ p i o k h. let e = h.0.1 in cc)
+        (λ p r x v i b o called k h. ((x, refl), k h)) s
 
   -- where nothing came in, they came of what was held
   none_held : (p : F) (t : F × Option V) (o : List (Answer B)) → Expands call gives p [] o t.0 t.1 → t.1 ≡ None

@@ -58,8 +58,8 @@ module _ {F A V : Type 0} (g : Mut F (A × Unit {0}) V) (Fact : V → Type 0) wh
   made_has f h =
       exchanges_steps (Always (Calls g)) h
       (λ f i o. MakesAlways g Fact f → AllByRecursion (OfItem Fact) o × MakesAlways g Fact h) (λ k. (tt, k))
-      (λ f i o k always. let r = k always in ((λ v e. absurd (cc e), r.0), r.1))
-      (λ f i o k always. let r = k always in ((λ v e. absurd (cc e), r.0), r.1))
+      (λ f i o k always. let r = k always in ((λ v e. cc e, r.0), r.1))
+      (λ f i o k always. let r = k always in ((λ v e. cc e, r.0), r.1))
       (λ f q x y i o c k always. let here = made_here f q x y c always in let r = k here.1 in ((here.0, r.0), r.1)) f
 
   module _ {S B : Type 0} (run : Runs (Answer A) S) (run' : Runs (Answer B) V) where
@@ -94,14 +94,13 @@ module _ {S F A V : Type 0} (g : Mut F (A × Unit {0}) V) {run : Runs (Answer A)
       → StreamLaws (Maps run (Calls g)) (λ (m : Map S F) hint. hints m.stream hint)
   outer_laws laws = laws_hinted map_parts laws (replaces_relating (Calls g))
 
-  outer_counting : {r : Ranks S} → Counting run r
-      → Counting (Maps run (Calls g)) (ranks_of (λ (m : Map S F). m.stream) r)
-  outer_counting c = through_counting map_parts c (replaces_relating (Calls g))
+  module _ {r : Ranks S} (c : Counting run r) where
+    outer_counting : Counting (Maps run (Calls g)) (ranks_of (λ (m : Map S F). m.stream) r)
+    outer_counting = through_counting map_parts c (replaces_relating (Calls g))
 
-  -- no chain of items that are made is endless
-  pub made_end : {r : Ranks S} → Counting run r → (x : Map S F) → r.counts x.stream
-      → Terminates (ItemRun (Maps run (Calls g))) x
-  made_end c = counting_ends (outer_counting c)
+    -- no chain of items that are made is endless
+    pub made_end : (x : Map S F) → r.counts x.stream → Terminates (ItemRun (Maps run (Calls g))) x
+    made_end = counting_ends (outer_counting)
 
   module _ {B : Type 0} {run' : Runs (Answer B) V} {hints : Hints S} where
     pub flat_map_laws : {hints' : Hints V} → StreamLaws run hints → StreamLaws run' hints'
@@ -154,9 +153,10 @@ pub flat_map_calm : {S F A V B : Type 0} (g : Mut F (A × Unit {0}) V) {run : Ru
     → StreamLaws run hints → CalmLaws run is_calm → CalmLaws run' calm
     → CalmLaws (FlatMaps run g run')
     (λ (m : FlatMap S V F). is_calm m.stream.stream × EachMade g calm m.stream.f m.inner_stream)
-flat_map_calm g {run = run} {run' = run'} {calm = calm} laws c d =
+flat_map_calm g {run} {run'} {calm} laws c d =
     let outer = outer_laws g laws in
-    let all = flattening_calm d flat_map_parts outer.follows (through_calm map_parts c (replaces_calming (Calls g))) in
+    let all =
+    flattening_calm d flat_map_parts outer.follows (through_calm map_parts c (replaces_calming (Calls g))) in
     record {
       no_pending = λ x y l k h. all.no_pending x y l (k.0, each_made g calm run run' x.stream x.inner_stream k.1) h;
       calm_on = λ x y l k h.

@@ -1,7 +1,7 @@
 -- Laws of a stream of streams that is flattened.
 use Rattle.std.specs.Prelude.{IfSome, replicate}
-use Rattle.std.proofs.Common.{◌≡◌, ◌∙◌, ℕ, ◌+◌, ◌⊎◌, List, [], ◌∷◌, ◌++◌, length, Option, Some, None, inl, inr, refl}
-use Rattle.std.proofs.Common.{ap, sym, subst, arith, length-append, append_assoc}
+use Rattle.std.proofs.Common.{◌≡◌, ◌∙◌, ℕ, List, [], ◌∷◌, ◌++◌, length, Option, Some, None, inl, inr, refl}
+use Rattle.std.proofs.Common.{ap, sym, arith, length-append, append_assoc}
 use Rattle.std.proofs.lemmas.List.{length-replicate}
 use Rattle.std.specs.List.{AllByRecursion}
 use Rattle.futures.specs.declared.task.Poll.TheVariants.{Ready, Pending}
@@ -39,41 +39,42 @@ module _ {B A : Type 0} (run : Runs (Answer A) B) (last : Option B)
     (ended : (i : List (Answer B)) (l : List (Answer A)) → P None i l → P None (end ∷ i) (end ∷ l))
     (taken : (b : B) (i : List (Answer B)) (a : Answer A) (l : List (Answer A)) → P (Some b) i (a ∷ l)
     → P None (item b ∷ i) (a ∷ l)) where
-  inner_by : (b : B) (i : List (Answer B)) (l : List (Answer A))
-      → ((m : List (Answer A)) → Flat run i m last → P None i m) → Flattening run (Some b) i l last → P (Some b) i l
-  inner_by b i l rest (inl h) = rw h.0 (still b h.2 l h.1 h.3 h.4)
-  inner_by b i l rest (inr h) = rw h.3 (done b h.5 i h.0 h.1 h.2 h.4 h.6 (rest (h.1 ∷ h.2) h.7))
+  module _ (b : B) (i : List (Answer B)) (l : List (Answer A))
+      (rest : (m : List (Answer A)) → Flat run i m last → P None i m) where
+    inner_by : Flattening run (Some b) i l last → P (Some b) i l
+    inner_by (inl h) = rw h.0 (still b h.2 l h.1 h.3 h.4)
+    inner_by (inr h) = rw h.3 (done b h.5 i h.0 h.1 h.2 h.4 h.6 (rest (h.1 ∷ h.2) h.7))
 
   flat_by : (i : List (Answer B)) (l : List (Answer A)) → Flat run i l last → P None i l
   flat_by [] [] h = nothing h
-  flat_by [] (a ∷ l) h = absurd h
-  flat_by (a ∷ i) [] h = absurd h
   flat_by (Pending ∷ i) (a ∷ l) h = rw h.0 (waits i l (flat_by i l h.1))
   flat_by (Ready None ∷ i) (a ∷ l) h = rw h.0 (ended i l (flat_by i l h.1))
-  flat_by (Ready (Some b) ∷ i) (a ∷ l) h = taken b i a l (inner_by b i (a ∷ l) (λ m k. flat_by i m k) h)
+  flat_by (Ready (Some b) ∷ i) (a ∷ l) h = taken b i a l (inner_by b i (a ∷ l) (flat_by i) h)
+  flat_by _ _ h = absurd h
 
   pub flattening_by : (held : Option B) (i : List (Answer B)) (l : List (Answer A)) → Flattening run held i l last
       → P held i l
   flattening_by None i l h = flat_by i l h
-  flattening_by (Some b) i l h = inner_by b i l (λ m k. flat_by i m k) h
+  flattening_by (Some b) i l h = inner_by b i l (flat_by i) h
 
 module _ {B A : Type 0} {run : Runs (Answer A) B} (laws : RunLaws run) where
   -- the list of a stream may be cut while it is held
-  begun : (b c : B) (h : Option B) (j : List (Answer B)) (l m : List (Answer A)) → Endless l → run b l c
-      → Flattening run (Some c) j m h → Flattening run (Some b) j (l ++ m) h
-  begun b c h j l m endless ran (inl k) =
-      inl (k.0, endless_join l m endless k.1, k.2, laws.follows b c k.2 l m ran k.3, k.4)
-  begun b c h j l m endless ran (inr k) =
-      inr (
-        l ++ k.0,
-        k.1,
-        k.2,
-        ap (λ n. l ++ n) k.3 ∙ sym (append_assoc l k.0 (k.1 ∷ k.2)),
-        endless_join l k.0 endless k.4,
-        k.5,
-        rw (append_assoc l k.0 (end ∷ [])) (laws.follows b c k.5 l (k.0 ++ end ∷ []) ran k.6),
-        k.7,
-      )
+  module _ (b c : B) (h : Option B) (j : List (Answer B)) (l m : List (Answer A)) (endless : Endless l)
+      (ran : run b l c) where
+    begun : Flattening run (Some c) j m h → Flattening run (Some b) j (l ++ m) h
+    begun (inl k) =
+        inl (k.0, endless_join l m endless k.1, k.2, laws.follows b c k.2 l m ran k.3, k.4)
+    begun (inr k) =
+        inr (
+          l ++ k.0,
+          k.1,
+          k.2,
+          ap (λ n. l ++ n) k.3 ∙ sym (append_assoc l k.0 (k.1 ∷ k.2)),
+          endless_join l k.0 endless k.4,
+          k.5,
+          rw append_assoc (laws.follows b c k.5 l (k.0 ++ end ∷ []) ran k.6),
+          k.7,
+        )
 
   joins : (f g h : Option B) (i j : List (Answer B)) (l m : List (Answer A)) → Flattening run f i l g
       → Flattening run g j m h → Flattening run f (i ++ j) (l ++ m) h
@@ -99,17 +100,18 @@ module _ {B A : Type 0} {run : Runs (Answer A) B} (laws : RunLaws run) where
 
 module _ {S B A : Type 0} (run : Runs (Answer A) B) (outer : Runs (Answer B) S) where
   -- an inner stream that has ended, before a step where none is held
-  pub ended_step : (s : S) (b c : B) (r : Option (Answer A)) (y : S × Option B) → run b (end ∷ []) c
-      → FlatStep run outer (s, None) r y → FlatStep run outer (s, Some b) r y
-  ended_step s b c None y ended h = record { ended = (c, ended); next = h.next; gave = h.gave; held = h.held }
-  ended_step s b c (Some a) y ended (inl h) = absurd h.1
-  ended_step s b c (Some a) y ended (inr h) = inr (h.0, h.1, inr ([], a, [], refl, refl, c, ended, h.2), h.3)
+  module _ (s : S) (b c : B) where
+    pub ended_step : (r : Option (Answer A)) (y : S × Option B) → run b (end ∷ []) c
+        → FlatStep run outer (s, None) r y → FlatStep run outer (s, Some b) r y
+    ended_step None y ended h = record { ended = (c, ended); next = h.next; gave = h.gave; held = h.held }
+    ended_step (Some a) y ended (inl h) = absurd h.1
+    ended_step (Some a) y ended (inr h) = inr (h.0, h.1, inr ([], a, [], refl, refl, c, ended, h.2), h.3)
 
   module _ (laws : RunLaws outer) where
-    step_answers : (x y : S × Option B) (a : Answer A) → GivesOne run outer x a y
-        → Through outer (Flattening run) x.0 x.1 (a ∷ []) y.0 y.1
-    step_answers x y a (inl h) = record { ins = []; came = rw h.0 (laws.rests x.0); related = h.1 }
-    step_answers x y a (inr h) = record { ins = h.0 ∷ []; came = h.1; related = h.2 }
+    module _ (x y : S × Option B) (a : Answer A) where
+      step_answers : GivesOne run outer x a y → Through outer (Flattening run) x.0 x.1 (a ∷ []) y.0 y.1
+      step_answers (inl h) = record { ins = []; came = rw h.0 (laws.rests x.0); related = h.1 }
+      step_answers (inr h) = record { ins = h.0 ∷ []; came = h.1; related = h.2 }
 
     -- an inner stream that has ended, before the one that was taken next
     before_taken : (held last : Option B) (b : B) (ins : List (Answer B)) (a : Answer A)
@@ -144,9 +146,8 @@ pub to_come : {S B : Type 0} {outer : Runs (Answer B) S} {Fact : B → Type 0}
     → (s t : S) (held : Option B) (i : List (Answer B)) → EachInner outer Fact s held → outer s i t
     → (u : S) (before after : List (Answer B)) (b : B)
     → outer t (before ++ item b ∷ after) u → Fact b
-to_come {outer = outer} follows s t held i each came u before after b h =
-    each.1 u (i ++ before) after b
-    (rw (append_assoc i before (item b ∷ after)) (follows s t u i (before ++ item b ∷ after) came h))
+to_come follows s t held i each came u before after b h =
+    each.1 u (i ++ before) after b (rw append_assoc (follows s t u i (before ++ item b ∷ after) came h))
 
 -- and of each that came
 pub have_come : {S B : Type 0} (outer : Runs (Answer B) S) (Fact : B → Type 0) (s t : S) (held : Option B)
@@ -167,9 +168,9 @@ module _ {S B A : Type 0} (run : Runs (Answer A) B) (outer : Runs (Answer B) S) 
         → IfSome held Fact → AllByRecursion (OfItem Fact) i → IfSome last Fact
     last_has held last =
         flattening_by run last (λ f i l. IfSome f Fact → AllByRecursion (OfItem Fact) i → IfSome last Fact)
-        (λ e k each. rw e tt) (λ b c l n ran e k each. rw e (kept b c l k ran))
-        (λ b c i own a rest n ran h k each. h tt each) (λ i l h k each. h tt each.1) (λ i l h k each. h tt each.1)
-        (λ b i a l h k each. h (each.0 b refl) each.1) held
+        (λ e k each. rw e tt) (λ b c l n ran e k each. rw e (kept b c l k ran)) (λ b c i own a rest n ran h k. h tt)
+        (λ i l h k each. h tt each.1) (λ i l h k each. h tt each.1) (λ b i a l h k each. h (each.0 b refl) each.1)
+        held
 
     pub each_inner_on : ((x y z : S) (l m : List (Answer B)) → outer x l y → outer y m z → outer x (l ++ m) z)
         → (s t : S) (held last : Option B) (l : List (Answer A)) → EachInner outer Fact s held
@@ -195,31 +196,32 @@ module _ {B A : Type 0} (run : Runs (Answer A) B) (n : ℕ) (rank : B → List �
   same_size g f = inner_sized g ∙ sym (inner_sized f)
 
   -- where items came out, only items came in
-  flattening_items : (f g : Option B) (i : List (Answer B)) (l : List (Answer A)) → Flattening run f i l g
-      → AllByRecursion IsItem l → AllByRecursion IsItem i
-  flattening_items f g =
-      flattening_by run g (λ f i l. AllByRecursion IsItem l → AllByRecursion IsItem i) (λ e h. tt)
-      (λ b c l n ran e h. tt) (λ b c i own a rest n ran k h. k (all_split IsItem own (a ∷ rest) h).1)
-      (λ i l k h. absurd (let e = h.0.1 in cc)) (λ i l k h. absurd (let e = h.0.1 in cc))
-      (λ b i a l k h. ((b, refl), k h)) f
+  module _ (f g : Option B) where
+    flattening_items : (i : List (Answer B)) (l : List (Answer A)) → Flattening run f i l g → AllByRecursion IsItem l
+        → AllByRecursion IsItem i
+    flattening_items =
+        flattening_by run g (λ f i l. AllByRecursion IsItem l → AllByRecursion IsItem i) (λ e h. tt)
+        (λ b c l n ran e h. tt) (λ b c i own a rest n ran k h. k (all_split IsItem own (a ∷ rest) h).1)
+        (λ i l k h. let e = h.0.1 in cc) (λ i l k h. let e = h.0.1 in cc)
+        (λ b i a l k h. ((b, refl), k h)) f
 
-  flat_falls : (f g : Option B) (i : List (Answer B)) (y : A) (l : List A) (xs us : List ℕ)
-      → ((b : B) (before : List B) → i ≡ items (b ∷ before) → Below xs us) → (i ≡ [] → xs ≡ us)
-      → ((b c : B) → f ≡ Some b → run b (items (y ∷ l)) c → Below (rank c) (rank b))
-      → Flattening run f i (items (y ∷ l)) g → Below (xs ++ Inner g) (us ++ Inner f)
-  flat_falls f g i y l xs us falls same inner h =
-      at_start (each_items i (flattening_items f g i (items (y ∷ l)) h (items_each (y ∷ l))))
-    where
-      alone : (f : Option B) → i ≡ [] → ((b c : B) → f ≡ Some b → run b (items (y ∷ l)) c → Below (rank c) (rank b))
-          → Flattening run f [] (items (y ∷ l)) g → Below (xs ++ Inner g) (us ++ Inner f)
-      alone None e inner h = absurd h
-      alone (Some b) e inner (inl h) =
-          rw h.4 (Below-after xs us (rank h.2) (rank b) (inl (same e)) (inner b h.2 refl h.3))
-      alone (Some b) e inner (inr h) = absurd h.7
+    flat_falls : (i : List (Answer B)) (y : A) (l : List A) (xs us : List ℕ)
+        → ((b : B) (before : List B) → i ≡ items (b ∷ before) → Below xs us) → (i ≡ [] → xs ≡ us)
+        → ((b c : B) → f ≡ Some b → run b (items (y ∷ l)) c → Below (rank c) (rank b))
+        → Flattening run f i (items (y ∷ l)) g → Below (xs ++ Inner g) (us ++ Inner f)
+    flat_falls i y l xs us falls same inner h =
+        at_start (each_items i (flattening_items i (items (y ∷ l)) h (items_each (y ∷ l))))
+      where
+        alone : (f : Option B) → i ≡ [] → ((b c : B) → f ≡ Some b → run b (items (y ∷ l)) c → Below (rank c) (rank b))
+            → Flattening run f [] (items (y ∷ l)) g → Below (xs ++ Inner g) (us ++ Inner f)
+        alone None e inner h = absurd h
+        alone (Some b) e inner (inl h) =
+            rw h.4 (Below-after xs us (rank h.2) (rank b) (inl (same e)) (inner b h.2 refl h.3))
+        alone (Some b) e inner (inr h) = absurd h.7
 
-      at_start : (before : List B) × (i ≡ items before) → Below (xs ++ Inner g) (us ++ Inner f)
-      at_start ([], e) = alone f e inner (rw e at h)
-      at_start (b ∷ before, e) = Below-first xs us (Inner g) (Inner f) (falls b before e) (same_size g f)
+        at_start : (before : List B) × (i ≡ items before) → Below (xs ++ Inner g) (us ++ Inner f)
+        at_start ([], e) = alone f e inner (rw e at h)
+        at_start (b ∷ before, e) = Below-first xs us (Inner g) (Inner f) (falls b before e) (same_size g f)
 
   -- the answers of an inner stream that ends, and what follows them
   ended_lowers : (b c : B) (own rest : List (Answer A)) (xs us : List ℕ) → Lowers (own ++ end ∷ []) (rank c) (rank b)
@@ -241,11 +243,11 @@ module _ {B A : Type 0} (run : Runs (Answer A) B) (n : ℕ) (rank : B → List �
       flattening_by run g (λ f i l. IfSome f firm → Lowers i xs us → Lowers l (xs ++ Inner g) (us ++ Inner f))
       (λ e k h. rw e (AtMost-both xs us (replicate n 0) (replicate n 0) h (inl refl)))
       (λ b c l m ran e k h. rw e (lowers_after l xs us (rank c) (rank b) h (inner b c l k ran)))
-      (λ b c i own a rest m ran k d h. ended_lowers b c own (a ∷ rest) (xs ++ Inner g) us
-      (inner b c (own ++ end ∷ []) d ran) (k tt h))
-      (λ i l k d h. k tt h) (λ i l k d h. k tt h)
-      (λ b i a l k d h. Lowers-below (a ∷ l) _ _
-      (Below-first xs us (Inner g) (replicate n 0) h (same_size g None))) f i l
+      (λ b c i own a rest m ran k d h.
+      ended_lowers b c own (a ∷ rest) (xs ++ Inner g) us (inner b c (own ++ end ∷ []) d ran) (k tt h))
+      (λ i l k d. k tt) (λ i l k d. k tt)
+      (λ b i a l k d h. Lowers-below (a ∷ l) _ _ (Below-first xs us (Inner g) (replicate n 0) h (same_size g None))) f
+      i l
 
 held_has : {B : Type 0} (Fact : B → Type 0) {held : Option B} {b : B} → IfSome held Fact → held ≡ Some b → Fact b
 held_has Fact h e = rw e at h
@@ -254,19 +256,20 @@ module _ {B A : Type 0} {run : Runs (Answer A) B} where
   pub flattening_counting : {M S : Type 0} (p : AdapterParts M S (Option B)) {outer : Runs (Answer B) S}
       {hints : Hints S} {r : Ranks S} {r' : Ranks B} → StreamLaws outer hints → Counting outer r → Counting run r'
       → Counting (Adapts p outer (Flattening run)) (flattening_ranks p outer r r')
-  flattening_counting p {outer = outer} {r = r} {r' = r'} laws c c' =
+  flattening_counting p {outer} {r} {r'} laws c c' =
       record {
-        sized = λ x. length-append (r.rank (p.source x)) _
-            ∙ omega (arith, c.sized (p.source x), inner_sized run r'.width r'.rank c'.sized (p.held x));
+        sized = λ x.
+            length-append (r.rank (p.source x)) _ ∙ omega
+            (arith, c.sized (p.source x), inner_sized run r'.width r'.rank c'.sized (p.held x));
         counts_on = λ x y l k h. (
           c.counts_on (p.source x) (p.source y) h.ins k.0 h.came,
-          each_inner_on run outer r'.counts c'.counts_on laws.follows (p.source x) (p.source y) (p.held x) (p.held y) l
-              k.1 h,
+          each_inner_on run outer r'.counts c'.counts_on laws.follows (p.source x) (p.source y) (p.held x)
+              (p.held y) l k.1 h,
         );
         firm_on = λ x y l k h. (
           c.firm_on (p.source x) (p.source y) h.ins k.0 h.came,
-          each_inner_on run outer r'.firm c'.firm_on laws.follows (p.source x) (p.source y) (p.held x) (p.held y) l k.1
-              h,
+          each_inner_on run outer r'.firm c'.firm_on laws.follows (p.source x) (p.source y) (p.held x) (p.held y)
+              l k.1 h,
         );
         falls = λ x y a more k h.
             let came = λ (i : List (Answer _)) (e : h.ins ≡ i). rw e at h.came in

@@ -1,5 +1,5 @@
 -- Laws of answers of which some are left out.
-use Rattle.std.proofs.Common.{ℕ, ◌≤◌, List, [], ◌∷◌, Option, Some, None, refl, subst, arith}
+use Rattle.std.proofs.Common.{ℕ, ◌≤◌, List, [], ◌∷◌, Option, Some, None, refl, arith}
 use Rattle.std.specs.List.{AllByRecursion}
 use Rattle.futures.specs.declared.task.Poll.TheVariants.{Ready, Pending}
 use Rattle.lite_base.specs.Answers.{Answer, before_end, end, item, items}
@@ -33,52 +33,49 @@ module _ {F A B : Type 0} (call : Question F A (Option B)) (P : F → List (Answ
     (ended : (p : F) (i : List (Answer A)) (o : List (Answer B)) → P p i o → P p (end ∷ i) (end ∷ o))
     (kept : (p m : F) (x : A) (i : List (Answer A)) (y : B) (o : List (Answer B)) → call p x (Some y) m → P m i o
     → P p (item x ∷ i) (item y ∷ o)) where
-  passed : (p m : F) (a : Answer A) (i : List (Answer A)) (b : Answer B) (o : List (Answer B)) → Passes call p a b m
-      → P m i o → P p (a ∷ i) (b ∷ o)
-  passed p m a i Pending o h k = rw h.0 (waits p i o (rw h.1 at k))
-  passed p m a i (Ready None) o h k = rw h.0 (ended p i o (rw h.1 at k))
-  passed p m a i (Ready (Some y)) o h k = rw h.1 (kept p m h.0 i y o h.2 k)
+  module _ (p m : F) (a : Answer A) (i : List (Answer A)) where
+    passed : (b : Answer B) (o : List (Answer B)) → Passes call p a b m → P m i o → P p (a ∷ i) (b ∷ o)
+    passed Pending o h k = rw h.0 (waits p i o (rw h.1 at k))
+    passed (Ready None) o h k = rw h.0 (ended p i o (rw h.1 at k))
+    passed (Ready (Some y)) o h k = rw h.1 (kept p m h.0 i y o h.2 k)
 
   pub leaves_steps : (f g : F) (i : List (Answer A)) (o : List (Answer B)) → P g [] [] → LeavesOut call f i o g
       → P f i o
-  leaves_steps f g i o none h =
+  leaves_steps f g i o =
       answers_by item (Rejects call) (Passes call) P (λ p m x i b o t. rejected p m x i b o t.rejected) passed f g i o
-      none h
 
 module _ {F A B : Type 0} (call : Question F A (Option B)) where
-  leaves_bounded : (f g : F) (i : List (Answer A)) (o : List (Answer B)) → LeavesOut call f i o g
-      → before_end o ≤ before_end i
-  leaves_bounded f g i o =
-      leaves_steps call (λ p i o. before_end o ≤ before_end i) (λ p m x i b o t h. omega (arith, h)) (λ p i o h. h)
-      (λ p i o h. omega arith) (λ p m x i y o t h. omega (arith, h)) f g i o (omega arith)
+  module _ (f g : F) (i : List (Answer A)) (o : List (Answer B)) where
+    leaves_bounded : LeavesOut call f i o g → before_end o ≤ before_end i
+    leaves_bounded =
+        leaves_steps call (λ p i o. before_end o ≤ before_end i) (λ p m x i b o t h. omega (arith, h)) (λ p i o h. h)
+        (λ p i o h. omega arith) (λ p m x i y o t h. omega (arith, h)) f g i o (omega arith)
 
-  leaves_lowers : (f g : F) (i : List (Answer A)) (o : List (Answer B)) (xs ys : List ℕ) → LeavesOut call f i o g
-      → Lowers i xs ys → Lowers o xs ys
-  leaves_lowers f g i o xs ys =
-      leaves_steps call (λ p i o. Lowers i xs ys → Lowers o xs ys)
-      (λ p m x i b o t h. Lowers-below (b ∷ o) xs ys) (λ p i o h. h) (λ p i o h. h) (λ p m x i y o t h k. k) f g i o
-      (λ k. k)
+    leaves_lowers : (xs ys : List ℕ) → LeavesOut call f i o g → Lowers i xs ys → Lowers o xs ys
+    leaves_lowers xs ys =
+        leaves_steps call (λ p i o. Lowers i xs ys → Lowers o xs ys)
+        (λ p m x i b o t h. Lowers-below (b ∷ o) xs ys) (λ p i o h. h) (λ p i o h. h) (λ p m x i y o t h k. k) f g i o
+        (λ k. k)
 
-  items_in_out : (f g : F) (i : List (Answer A)) (o : List (Answer B)) → LeavesOut call f i o g
-      → AllByRecursion IsItem o → AllByRecursion IsItem i
-  items_in_out f g i o =
-      leaves_steps call (λ p i o. AllByRecursion IsItem o → AllByRecursion IsItem i)
-      (λ p m x i b o t h e. ((x, refl), h e)) (λ p i o h e. absurd (let same = e.0.1 in cc))
-      (λ p i o h e. absurd (let same = e.0.1 in cc)) (λ p m x i y o t h e. ((x, refl), h e.1)) f g i o (λ e. e)
+    items_in_out : LeavesOut call f i o g → AllByRecursion IsItem o → AllByRecursion IsItem i
+    items_in_out =
+        leaves_steps call (λ p i o. AllByRecursion IsItem o → AllByRecursion IsItem i)
+        (λ p m x i b o t h e. ((x, refl), h e)) (λ p i o h e. let same = e.0.1 in cc)
+        (λ p i o h e. let same = e.0.1 in cc) (λ p m x i y o t h e. ((x, refl), h e.1)) f g i o (λ e. e)
 
   pub leaves_relating : Relating (LeavesOut call)
   leaves_relating =
       record {
-        following =
-            record {
-              starts = λ f. (refl, refl);
-              empty = λ f g i c. c;
-              joins = segments_join (Segment item (Rejects call) (OneAnswer (Passes call)));
-            };
+        following = record {
+          starts = λ f. (refl, refl);
+          empty = λ f g i c. c;
+          joins = segments_join (Segment item (Rejects call) (OneAnswer (Passes call)));
+        };
         bounds = leaves_bounded;
         lowers = leaves_lowers;
-        from_items = λ f g i y l h. let fewer = leaves_bounded f g i (items (y ∷ l)) h in
-            first_item i (items_in_out f g i (items (y ∷ l)) h (items_each (y ∷ l))) (omega (arith, fewer));
+        from_items = λ f g i y l h.
+            first_item i (items_in_out f g i (items (y ∷ l)) h (items_each (y ∷ l)))
+            (omega (arith, leaves_bounded f g i (items (y ∷ l)) h));
       }
 
   -- no Pending is made up
@@ -90,17 +87,31 @@ module _ {F A B : Type 0} (call : Question F A (Option B)) where
 -- where one question may be asked in place of another, of what goes with what is asked
 pub leaves_as : {F G A B : Type 0} (call : Question F A (Option B)) (other : Question G A (Option B))
     (Goes : F → G → Type 0)
-    → ((p q : F) (n : G) (x : A) (o : Option B) → Goes p n → call p x o q → (m : G) × Goes q m × other n x o m)
-    → (p q : F) (n : G) (i : List (Answer A)) (o : List (Answer B)) → Goes p n → LeavesOut call p i o q
-    → (m : G) × Goes q m × LeavesOut other n i o m
-leaves_as {G = G} call other Goes also p q n i o g h =
+    (also : ((p q : F) (n : G) (x : A) (o : Option B) → Goes p n → call p x o q → (m : G) × Goes q m × other n x o m))
+    (p q : F) (n : G) (i : List (Answer A)) (o : List (Answer B)) → Goes p n → LeavesOut call p i o q → (m : G)
+    × Goes q m × LeavesOut other n i o m
+leaves_as {G} call other Goes also p q n i o g h =
     leaves_steps call (λ p i o. (n : G) → Goes p n → (m : G) × Goes q m × LeavesOut other n i o m)
-    (λ p m x i b o t k n g. let e = also p m n x None g t in let d = k e.0 e.1 in
-    (d.0, d.1, answers_taken item (Rejects other) (Passes other) n e.0 d.0 x i b o (record { rejected = e.2 }) d.2))
-    (λ p i o k n g. let d = k n g in
-    (d.0, d.1, answers_given item (Rejects other) (Passes other) n n d.0 Pending i Pending o (refl, refl) d.2))
-    (λ p i o k n g. let d = k n g in
+    (λ p m x i b o t k n g.
+    let e = also p m n x None g t in
+    let d = k e.0 e.1 in (
+      d.0,
+      d.1,
+      answers_taken item (Rejects other) (Passes other) n e.0 d.0 x i b o (record { rejected = e.2 }) d.2,
+    ))
+    (λ p i o k n g.
+    let d = k n g in (
+      d.0,
+      d.1,
+      answers_given item (Rejects other) (Passes other) n n d.0 Pending i Pending o (refl, refl) d.2,
+    ))
+    (λ p i o k n g.
+    let d = k n g in
     (d.0, d.1, answers_given item (Rejects other) (Passes other) n n d.0 end i end o (refl, refl) d.2))
-    (λ p m x i y o t k n g. let e = also p m n x (Some y) g t in let d = k e.0 e.1 in
-    (d.0, d.1, answers_given item (Rejects other) (Passes other) n e.0 d.0 (item x) i (item y) o (x, refl, e.2) d.2))
-    p q i o (λ n g. (n, g, (refl, refl))) h n g
+    (λ p m x i y o t k n g.
+    let e = also p m n x (Some y) g t in
+    let d = k e.0 e.1 in (
+      d.0,
+      d.1,
+      answers_given item (Rejects other) (Passes other) n e.0 d.0 (item x) i (item y) o (x, refl, e.2) d.2,
+    )) p q i o (λ n g. (n, g, (refl, refl))) h n g

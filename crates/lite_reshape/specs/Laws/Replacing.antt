@@ -1,7 +1,7 @@
 -- What is made of items that are alike.
 use Rattle.std.specs.List.{AllByRecursion}
 use Rattle.std.specs.Prelude.{⊤}
-use Rattle.std.proofs.Common.{List, [], ◌∷◌, Option, Some, None, refl}
+use Rattle.std.proofs.Common.{List, ◌∷◌, Option, Some, None, refl}
 use Rattle.futures.specs.declared.task.Poll.TheVariants.{Ready, Pending}
 use Rattle.lite_base.specs.Alike.{OptionBy}
 use Rattle.lite_base.specs.Answers.{Answer, ComparableBy, strip}
@@ -10,17 +10,15 @@ use Rattle.lite_base.specs.Laws.Items.{OfItem}
 use Rattle.lite_reshape.specs.Cloned.{Refers}
 
 -- items each of which is the same as those that it is like
-pub items_same : {A : Type 0} (like same : A → A → Type 0) (l : List (Answer A)) (m : List (Option A))
-    → AllByRecursion (OfItem (λ x. (y : A) → like x y → same x y)) l → ComparableBy (OptionBy like) (strip l) m
-    → ComparableBy (OptionBy same) (strip l) m
-items_same like same [] m each c = tt
-items_same like same (Pending ∷ l) m each c = items_same like same l m each.1 c
-items_same like same (Ready x ∷ l) [] each c = tt
-items_same like same (Ready None ∷ l) (None ∷ m) each c = (tt, items_same like same l m each.1 c.1)
-items_same like same (Ready None ∷ l) (Some y ∷ m) each c = absurd c.0
-items_same like same (Ready (Some x) ∷ l) (None ∷ m) each c = absurd c.0
-items_same like same (Ready (Some x) ∷ l) (Some y ∷ m) each c =
-    (each.0 x refl y c.0, items_same like same l m each.1 c.1)
+module _ {A : Type 0} (like same : A → A → Type 0) where
+  pub items_same : (l : List (Answer A)) (m : List (Option A))
+      → AllByRecursion (OfItem (λ x. (y : A) → like x y → same x y)) l → ComparableBy (OptionBy like) (strip l) m
+      → ComparableBy (OptionBy same) (strip l) m
+  items_same (Pending ∷ l) m each c = items_same l m each.1 c
+  items_same (Ready None ∷ l) (None ∷ m) each c = (tt, items_same l m each.1 c.1)
+  items_same (Ready (Some x) ∷ l) (Some y ∷ m) each c = (each.0 x refl y c.0, items_same l m each.1 c.1)
+  items_same (Ready _ ∷ l) (_ ∷ m) each c = absurd c.0
+  items_same _ _ each c = tt
 
 -- what is made of an item is itself
 pub refers_match : {R : Type 0} (like : R → R → Type 0) → MatchesFrom like like Refers (λ (p q : Unit {0}). ⊤)

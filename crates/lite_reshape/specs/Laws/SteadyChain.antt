@@ -1,5 +1,5 @@
 -- Two streams that are chained, by what each of them answers.
-use Rattle.std.proofs.Common.{◌≡◌, List, [], ◌∷◌, ◌++◌, Option, Some, None, inl, inr, refl, subst, sym, append-nil}
+use Rattle.std.proofs.Common.{◌≡◌, List, [], ◌∷◌, ◌++◌, Option, Some, None, inl, inr, refl, append-nil}
 use Rattle.futures.specs.declared.task.Poll.TheVariants.{Ready, Pending}
 use Rattle.std.specs.Prelude.{⊤}
 use Rattle.lite_base.specs.Alike.{Either, OptionBy, SameAnswer, Sameness}
@@ -29,27 +29,23 @@ module _ {A : Type 0} where
       → JoinsStripped First (strip (own ++ rest)) j (strip (own ++ after))
   own_joined [] rest after j e h = h
   own_joined (Pending ∷ own) rest after j e h = own_joined own rest after j (cc e) h
-  own_joined (Ready None ∷ own) rest after j e h = absurd (cc e)
+  own_joined (Ready None ∷ own) rest after j e h = cc
   own_joined (Ready (Some x) ∷ own) rest after j e h =
       (strip (own ++ after), refl, own_joined own rest after j (cc e) h)
 
   stripped : (f g : Part) (i j l : List (Answer A)) → Joins f i j l g → JoinsStripped f (strip i) (strip j) (strip l)
-  stripped First g i j l (inl r) =
-      rw r.2 (subst (λ k. JoinsStripped First (strip k) (strip j) (strip k)) (append-nil i)
-      (own_joined i [] [] (strip j) r.0 refl))
+  stripped First g i j l (inl r) = rw r.2 (rw (← (append-nil i)) (own_joined i [] [] (strip j) r.0 refl))
   stripped First g i j l (inr r) =
       let after = cuts_stripped is_done second_after (λ f n. refl) Second g j (r.next ∷ r.later) r.followed in
-      rw r.through_end (subst (λ k. JoinsStripped First (strip (r.own ++ end ∷ [])) (strip j) (strip k)) (sym r.joined)
-      (own_joined r.own (end ∷ []) (r.next ∷ r.later) (strip j) r.endless after))
+      rw r.through_end (rw r.joined (own_joined r.own (end ∷ []) (r.next ∷ r.later) (strip j) r.endless after))
   stripped Second g i j l r = cuts_stripped is_done second_after (λ f n. refl) Second g j l r.1
   stripped Done g i j l r = cuts_stripped is_done second_after (λ f n. refl) Done g j l r.1
 
   second_same : (x y : Option A) (f : Part) → OptionBy (λ _ _. ⊤) x y
       → second_after (Ready x) f ≡ second_after (Ready y) f
   second_same None None f e = refl
-  second_same None (Some y) f e = absurd e
-  second_same (Some x) None f e = absurd e
   second_same (Some x) (Some y) f e = refl
+  second_same _ _ f h = absurd h
 
   module _ (same : Sameness A) where
     cuts_same : (f : Part) (k h o p : List (Option A)) → CutsStripped is_done second_after f k o
@@ -61,16 +57,15 @@ module _ {A : Type 0} where
     joined_same : (f : Part) (i j k h o p : List (Option A)) → JoinsStripped f i k o → JoinsStripped f j h p
         → ComparableBy (SameAnswer same) i j
         → ComparableBy (SameAnswer same) k h → ComparableBy (SameAnswer same) o p
-    joined_same First [] j k h o p r q c d = rw r tt
+    joined_same First [] j k h o p r q c d = cc
     joined_same First (x ∷ i) [] k h o p r q c d =
         rw q (comparable_nil (SameAnswer same) o)
-    joined_same First (None ∷ i) (None ∷ j) k h o p r q c d = cuts_same Second k h o p r q d
     joined_same First (None ∷ i) (Some y ∷ j) k h o p r q c d = absurd (both_items same None (Some y) c.0)
     joined_same First (Some x ∷ i) (None ∷ j) k h o p r q c d = absurd (both_items same (Some x) None c.0)
     joined_same First (Some x ∷ i) (Some y ∷ j) k h o p r q c d =
         rw (r.1, q.1) (c.0, joined_same First i j k h r.0 q.0 r.2 q.2 c.1 d)
-    joined_same Second i j k h o p r q c d = cuts_same Second k h o p r q d
     joined_same Done i j k h o p r q c d = cuts_same Done k h o p r q d
+    joined_same _ _ _ k h o p r q c d = cuts_same Second k h o p r q d
 
 module _ {S U A : Type 0} {run ample : Runs (Answer A) S} {run' ample' : Runs (Answer A) U} {none none' : Type 0}
     {alike : S → S → Type 0} {alike' : U → U → Type 0} (same other : Sameness A) where

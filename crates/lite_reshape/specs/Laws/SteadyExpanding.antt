@@ -1,11 +1,11 @@
 -- Items that are replaced by the list of what is made of them, where that gives one item: the same, where it is alike.
 use Rattle.std.specs.List.{AllByRecursion}
 use Rattle.std.specs.Prelude.{⊤}
-use Rattle.std.proofs.Common.{◌≡◌, ◌∙◌, ◌⊎◌, List, [], ◌∷◌, ◌++◌, Option, Some, None, inl, inr, refl, ap, subst, sym}
+use Rattle.std.proofs.Common.{◌≡◌, ◌∙◌, ◌⊎◌, List, [], ◌∷◌, ◌++◌, Option, Some, None, inl, inr, refl, ap}
 use Rattle.lite_base.specs.Alike.{OptionBy, SameAnswer, SameItem, Sameness}
 use Rattle.lite_base.specs.Answers.{Answer, ComparableBy, strip}
 use Rattle.lite_base.specs.Laws.Answers.{strip_join, waiting_strip}
-use Rattle.lite_base.specs.Laws.Alike.{comparable_as, comparable_nil, gives_strip, same_answer}
+use Rattle.lite_base.specs.Laws.Alike.{comparable_as, gives_strip, same_answer}
 use Rattle.lite_base.specs.Laws.All.{all_any, all_split}
 use Rattle.lite_reshape.specs.Laws.Expanding.{GivingOne, expanding_by}
 use Rattle.lite_stream.specs.Laws.Placed.{PlacedFrom, placed_from_same}
@@ -48,18 +48,17 @@ module _ {V B : Type 0} {gives : V → List (Answer B) → Option V → Type 0} 
     module _ (like : Sameness A) (same : Sameness B) {alike : V → V → Type 0} {agree : F → F → Type 0}
         (m : MatchesFrom (SameItem like) alike call agree)
         (value : OneMade same alike) where
-      places : (v w : V) (P Q : List (Option B) → Type 0) (o p : List (Option B)) → alike v w → OneInPlace v P o
-          → OneInPlace w Q p
-          → ((o' p' : List (Option B)) → P o' → Q p' → ComparableBy (SameAnswer same) o' p')
-          → ComparableBy (SameAnswer same) o p
-      places v w P Q o p a (inl e) q rest = rw e tt
-      places v w P Q o p a (inr r) (inl e) rest =
-          rw e (comparable_nil (SameAnswer same) o)
-      places v w P Q o p a (inr r) (inr q) rest =
-          rw (r.3, q.3) (
-            same_answer same (one.hands v r.0 r.1).0 (one.hands w q.0 q.1).0 (value v w r.0 q.0 a r.1 q.1),
-            rest r.2 q.2 r.4 q.4,
-          )
+      module _ (v w : V) (P Q : List (Option B) → Type 0) (o p : List (Option B)) (a : alike v w) where
+        places : OneInPlace v P o → OneInPlace w Q p
+            → ((o' p' : List (Option B)) → P o' → Q p' → ComparableBy (SameAnswer same) o' p')
+            → ComparableBy (SameAnswer same) o p
+        places (inl e) q rest = cc
+        places (inr r) (inl e) rest = cc
+        places (inr r) (inr q) rest =
+            rw (r.3, q.3) (
+              same_answer same (one.hands v r.0 r.1).0 (one.hands w q.0 q.1).0 (value v w r.0 q.0 a r.1 q.1),
+              rest r.2 q.2 r.4 q.4,
+            )
 
       -- by a call that makes alike things of items that are like one another
       pub expanding_agreeing : AgreeingOver like same (Expanding call gives)
@@ -89,5 +88,4 @@ module _ {F A V B : Type 0} (call : Question F A V) {gives gives' : V → List (
   pub expanding_found : ((v : V) (l : List (Answer B)) (next : Option V) → gives v l next → gives' v l next)
       → (s t : F × Option V) (i : List (Answer A)) (o : List (Answer B)) → Expanding call gives s i o t
       → Expanding call gives' s i o t
-  expanding_found found s t i o c =
-      expanding_found_where (λ _. ⊤) (λ v l next all h. found v l next h) s t i o (all_any o) c
+  expanding_found found s t i o = expanding_found_where (λ _. ⊤) (λ v l next all. found v l next) s t i o (all_any o)

@@ -1,7 +1,7 @@
 -- Streams one after the other: what goes out, Pendings aside, is the same where they are alike.
 use Rattle.std.specs.Prelude.{⊤}
-use Rattle.std.proofs.Common.{◌≡◌, ◌∙◌, ◌⊎◌, List, [], ◌∷◌, ◌++◌, Option, Some, None, inl, inr, refl, ap, subst}
-use Rattle.futures.specs.declared.task.Poll.TheVariants.{Ready, Pending}
+use Rattle.std.proofs.Common.{◌≡◌, ◌⊎◌, List, [], ◌∷◌, ◌++◌, Option, Some, None, inl, inr, refl}
+use Rattle.futures.specs.declared.task.Poll.TheVariants.{Ready}
 use Rattle.lite_base.specs.Alike.{AlikeBy, OptionBy, SameAnswer, SameItem, Sameness}
 use Rattle.lite_base.specs.Answers.{Answer, ComparableBy, Endless, end, strip}
 use Rattle.lite_base.specs.Steady.{SteadinessBy, SteadyLawsBy, TakesNone}
@@ -27,9 +27,8 @@ module _ {A : Type 0} where
 
   no_end : (l : List (Answer A)) → Endless l → AllItems (strip l)
   no_end [] e = tt
-  no_end (Pending ∷ l) e = no_end l (cc)
-  no_end (Ready None ∷ l) e = absurd (cc e)
-  no_end (Ready (Some x) ∷ l) e = no_end l (cc)
+  no_end (Ready None ∷ l) e = cc
+  no_end (_ ∷ l) e = no_end l (cc)
 
   module _ (same : Sameness A) where
     before_left : (l m k : List (Option A)) → AllItems l → ComparableBy (SameAnswer same) l (m ++ None ∷ [])
@@ -51,12 +50,11 @@ module _ {A : Type 0} where
         → ComparableBy (SameAnswer same) k h
         → ComparableBy (SameAnswer same) (l ++ k) (m ++ h)
     both_end [] [] k h n o c d = d
-    both_end [] (None ∷ m) k h n o c d = absurd o
     both_end [] (Some y ∷ m) k h n o c d = absurd (both_items same None (Some y) c.0)
     both_end (None ∷ l) m k h n o c d = absurd n
     both_end (Some x ∷ l) [] k h n o c d = absurd (both_items same (Some x) None c.0)
-    both_end (Some x ∷ l) (None ∷ m) k h n o c d = absurd o
     both_end (Some x ∷ l) (Some y ∷ m) k h n o c d = (c.0, both_end l m k h n o c.1 d)
+    both_end _ (None ∷ m) k h n o c d = absurd o
 
 module _ {B A : Type 0} (run : Runs (Answer A) B) where
   -- b goes on, or it has ended and others follow
@@ -78,27 +76,20 @@ module _ {B A : Type 0} (run : Runs (Answer A) B) where
     abbrev Go : List (Option A) → List (Option A) → Type 0
     Go = ComparableBy (SameAnswer same)
 
-    places : (b c : B) (P Q : List (Option A) → Type 0) (o p : List (Option A)) → alike b c → OwnInPlace b P o
-        → OwnInPlace c Q p
-        → ((o' p' : List (Option A)) → P o' → Q p' → Go o' p') → Go o p
-    places b c P Q o p a (inl r) (inl q) rest = rw (r.4, q.4) (steady b c a r.0 q.0 r.1 q.1 r.2 q.2)
-    places b c P Q o p a (inl r) (inr q) rest =
-        let both = steady b c a r.0 (q.0 ++ end ∷ []) r.1 q.1 r.2 q.2 in
-        rw (r.4, q.5)
-        (before_left same (strip r.0) (strip q.0) q.4 (no_end r.0 r.3)
-        (rw (strip_join q.0 (end ∷ [])) at both))
-    places b c P Q o p a (inr r) (inl q) rest =
-        let both = steady b c a (r.0 ++ end ∷ []) q.0 r.1 q.1 r.2 q.2 in
-        rw (r.5, q.4)
-        (before_right same (strip r.0) (strip q.0) r.4 (no_end q.0 q.3)
-        (rw (strip_join r.0 (end ∷ [])) at both))
-    places b c P Q o p a (inr r) (inr q) rest =
-        let both = steady b c a (r.0 ++ end ∷ []) (q.0 ++ end ∷ []) r.1 q.1 r.2 q.2 in
-        let right = rw (strip_join q.0 (end ∷ [])) at both in
-        let ends = rw (strip_join r.0 (end ∷ [])) at right in
-        rw (r.5, q.5)
-        (both_end same (strip r.0) (strip q.0) r.4 q.4 (no_end r.0 r.3) (no_end q.0 q.3) ends
-        (rest r.4 q.4 r.6 q.6))
+    module _ (b c : B) (P Q : List (Option A) → Type 0) (o p : List (Option A)) (a : alike b c) where
+      places : OwnInPlace b P o → OwnInPlace c Q p → ((o' p' : List (Option A)) → P o' → Q p' → Go o' p') → Go o p
+      places (inl r) (inl q) rest = rw (r.4, q.4) (steady b c a r.0 q.0 r.1 q.1 r.2 q.2)
+      places (inl r) (inr q) rest =
+          let both = steady b c a r.0 (q.0 ++ end ∷ []) r.1 q.1 r.2 q.2 in
+          rw (r.4, q.5) (before_left same (strip r.0) (strip q.0) q.4 (no_end r.0 r.3) (rw strip_join at both))
+      places (inr r) (inl q) rest =
+          let both = steady b c a (r.0 ++ end ∷ []) q.0 r.1 q.1 r.2 q.2 in
+          rw (r.5, q.4) (before_right same (strip r.0) (strip q.0) r.4 (no_end q.0 q.3) (rw strip_join at both))
+      places (inr r) (inr q) rest =
+          let both = steady b c a (r.0 ++ end ∷ []) (q.0 ++ end ∷ []) r.1 q.1 r.2 q.2 in
+          let ends = rw strip_join at (rw strip_join at both) in
+          rw (r.5, q.5)
+          (both_end same (strip r.0) (strip q.0) r.4 q.4 (no_end r.0 r.3) (no_end q.0 q.3) ends (rest r.4 q.4 r.6 q.6))
 
     -- over outer streams whose items are alike
     flattening_alike : {M S : Type 0} (p : AdapterParts M S (Option B)) (outer : Runs (Answer B) S) (x y : M)
@@ -113,7 +104,7 @@ module _ {B A : Type 0} (run : Runs (Answer A) B) where
 -- where no poll of an inner stream asks for memory
 flattening_found : {B A : Type 0} {run ample : Runs (Answer A) B} → TakesNone run ample → (held last : Option B)
     (i : List (Answer B)) (l : List (Answer A)) → Flattening run held i l last → Flattening ample held i l last
-flattening_found {run = run} {ample = ample} t held last =
+flattening_found {run} {ample} t held last =
     flattening_by run last (λ f i l. Flattening ample f i l last) (λ e. e)
     (λ b c l n ran e. inl (refl, n, c, t b c l ran, e))
     (λ b c i own a rest n ran k. inr (own, a, rest, refl, n, c, t b c (own ++ end ∷ []) ran, k)) (λ i l k. (refl, k))
@@ -145,7 +136,7 @@ pub inner_alike : {S B : Type 0} (same : Sameness B) (outer : Runs (Answer B) S)
     (held : Option B)
     → AlikeBy (SameAnswer same) outer s t
     → EachInner outer (λ b. (c : B) → SameItem same b c → alike b c) s held → AlikeBy (OptionBy alike) outer s t
-inner_alike {B = B} same outer alike s t held a each l m s' t' h k =
+inner_alike {B} same outer alike s t held a each l m s' t' h k =
     items_same (SameItem same) alike l (strip m)
     (have_come outer (λ b. (c : B) → SameItem same b c → alike b c) s s' held l each h)
     (comparable_as (SameAnswer same) (OptionBy (SameItem same)) (answer_items same) (strip l) (strip m)

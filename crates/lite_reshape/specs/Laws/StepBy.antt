@@ -24,21 +24,16 @@ Countdown p x (Some y) q = (q.0 ≡ p.0) × (p.1 ≡ 0) × (y ≡ x) × (q.1 + 1
 
 -- a multiple of the step changes nothing
 past_multiple : (s n d : ℕ) → d % s ≡ 0 → (n + d) % s ≡ n % s
-past_multiple s n d e =
-    sym (add-mod-mod n d s) ∙ ap (λ k. (n + k) % s) e ∙ ap (λ k. k % s) (let same : n + 0 ≡ n = omega arith in same)
+past_multiple s n d e = sym (add-mod-mod n d s) ∙ ap (λ k. (n + k) % s) e ∙ ap (λ k. k % s) ((omega arith))
 
 -- not so many more items as the step is no multiple away
 not_multiple : (s n i : ℕ) → i < s → 0 < i → (n + i) % s ≡ 0 → n % s ≡ 0 → ⊥
 not_multiple s n i less more at here =
-    let swapped : n + i ≡ i + n = omega arith in
-    let left : i % s ≡ 0 = sym (past_multiple s i n here) ∙ ap (λ k. k % s) (sym swapped) ∙ at in
-    let same : i % s ≡ i = mod-eq_of_lt less in
-    omega (arith, left, same, more)
+    let left : i % s ≡ 0 = sym (past_multiple s i n here) ∙ ap (λ k. k % s) (sym (omega arith)) ∙ at in
+    omega (arith, left, mod-eq_of_lt less, more)
 
 is_at_later : (p : ℕ × ℕ) (n d : ℕ) → d % p.0 ≡ 0 → IsAt p n → IsAt p (n + d)
-is_at_later p n d e h =
-    let same : (n + d) + p.1 ≡ (n + p.1) + d = omega arith in
-    (h.0, ap (λ k. k % p.0) same ∙ past_multiple p.0 (n + p.1) d e ∙ h.1)
+is_at_later p n d e h = (h.0, ap (λ k. k % p.0) (omega arith) ∙ past_multiple p.0 (n + p.1) d e ∙ h.1)
 
 module _ {A : Type 0} (s : ℕ) where
   abbrev NumberSteps : ℕ → A → Option A → ℕ → Type 0
@@ -48,47 +43,39 @@ module _ {A : Type 0} (s : ℕ) where
   CountsItems = Countdown
 
   -- a number that may be that of the next item goes on with what is counted down
-  counted : (p q : ℕ × ℕ) (n : ℕ) (x : A) (o : Option A) → (p.0 ≡ s) × IsAt p n → CountsItems p x o q → (m : ℕ)
-      × ((q.0 ≡ s) × IsAt q m) × NumberSteps n x o m
-  counted p q n x None r h =
-      let step : q.0 ≡ s = h.0 ∙ r.0 in
-      let at : (n + p.1) % s ≡ 0 = rw r.0 at r.1.1 in
-      let next : (n + 1) + q.1 ≡ n + p.1 = omega (arith, h.1) in
-      let less : p.1 < p.0 = r.1.0 in (
-        n + 1,
-        (
-          step,
+  module _ (p q : ℕ × ℕ) (n : ℕ) (x : A) where
+    counted : (o : Option A) → (p.0 ≡ s) × IsAt p n → CountsItems p x o q → (m : ℕ) × ((q.0 ≡ s) × IsAt q m)
+        × NumberSteps n x o m
+    counted None r h =
+        let step : q.0 ≡ s = h.0 ∙ r.0 in
+        let at : (n + p.1) % s ≡ 0 = rw r.0 at r.1.1 in
+        let less : p.1 < p.0 = r.1.0 in (
+          n + 1,
+          (step, (omega (arith, less, h.0, h.1), rw step (ap (λ k. k % s) (omega (arith, h.1)) ∙ at))),
+          (refl, not_multiple s n p.1 (omega (arith, less, r.0)) (omega (arith, h.1)) at),
+        )
+    counted (Some y) r h =
+        let step : q.0 ≡ s = h.0 ∙ r.0 in
+        let at : (n + p.1) % s ≡ 0 = rw r.0 at r.1.1 in
+        let here : n % s ≡ 0 = ap (λ k. k % s) (omega (arith, h.1)) ∙ at in (
+          n + 1,
           (
-            omega (arith, less, h.0, h.1),
-            rw step (ap (λ k. k % s) next ∙ at),
+            step,
+            (
+              omega (arith, h.0, h.3),
+              rw step (ap (λ k. k % s) (omega (arith, h.3, r.0)) ∙ past_multiple s n s (mod_self s) ∙ here),
+            ),
           ),
-        ),
-        (refl, not_multiple s n p.1 (omega (arith, less, r.0)) (omega (arith, h.1)) at),
-      )
-  counted p q n x (Some y) r h =
-      let step : q.0 ≡ s = h.0 ∙ r.0 in
-      let at : (n + p.1) % s ≡ 0 = rw r.0 at r.1.1 in
-      let none : n ≡ n + p.1 = omega (arith, h.1) in
-      let here : n % s ≡ 0 = ap (λ k. k % s) none ∙ at in
-      let next : (n + 1) + q.1 ≡ n + s = omega (arith, h.3, r.0) in (
-        n + 1,
-        (
-          step,
-          (
-            omega (arith, h.0, h.3),
-            rw step (ap (λ k. k % s) next ∙ past_multiple s n s (mod_self s) ∙ here),
-          ),
-        ),
-        (refl, here, h.2),
-      )
+          (refl, here, h.2),
+        )
 
   module _ (d : ℕ) (e : d % s ≡ 0) where
-    later : (p q n : ℕ) (x : A) (o : Option A) → n ≡ p + d → NumberSteps p x o q → (m : ℕ) × (m ≡ q + d)
-        × NumberSteps n x o m
-    later p q n x None g h =
-        (n + 1, omega (arith, g, h.0), (refl, λ z. h.1 (sym (past_multiple s p d e) ∙ ap (λ k. k % s) (sym g) ∙ z)))
-    later p q n x (Some y) g h =
-        (n + 1, omega (arith, g, h.0), (refl, ap (λ k. k % s) g ∙ past_multiple s p d e ∙ h.1, h.2))
+    module _ (p q n : ℕ) (x : A) where
+      later : (o : Option A) → n ≡ p + d → NumberSteps p x o q → (m : ℕ) × (m ≡ q + d) × NumberSteps n x o m
+      later None g h =
+          (n + 1, omega (arith, g, h.0), (refl, λ z. h.1 (sym (past_multiple s p d e) ∙ ap (λ k. k % s) (sym g) ∙ z)))
+      later (Some y) g h =
+          (n + 1, omega (arith, g, h.0), (refl, ap (λ k. k % s) g ∙ past_multiple s p d e ∙ h.1, h.2))
 
     -- all numbers may be later by a multiple of the step
     shifted : (n m : ℕ) (i o : List (Answer A)) → LeavesOut NumberSteps n i o m
@@ -99,44 +86,43 @@ module _ {A : Type 0} (s : ℕ) where
 
 module _ {A : Type 0} where
   -- what comes after some answers goes on with their numbers
-  steps_join : (p q r : ℕ × ℕ) (i j : List (Answer A)) (b c : Answer A) (l m : List (Answer A)) → StepsOn p i (b ∷ l) q
-      → StepsOn q j (c ∷ m) r → StepsOn p (i ++ j) (b ∷ l ++ c ∷ m) r
-  steps_join p q r i j b c l m h k =
-      let first = h.2 + q.1 in
-      let second = k.1 + q.1 in
-      let by_first : first % p.0 ≡ 0 = subst (λ z. first % z ≡ 0) h.0 h.4.1 in
-      let by_second : second % p.0 ≡ 0 = subst (λ z. second % z ≡ 0) h.0 k.3.1 in
-      let ahead = shifted p.0 second by_second h.1 h.2 i (b ∷ l) h.5 in
-      let behind = shifted p.0 first by_first k.1 k.2 j (c ∷ m)
-      (subst (λ z. LeavesOut (Numbered z) k.1 j (c ∷ m) k.2) h.0 k.5) in
-      let meet : k.1 + first ≡ h.2 + second = omega arith in
-      let last = is_at_later r k.2 first (subst (λ z. first % z ≡ 0) (sym (k.0 ∙ h.0)) by_first) k.4 in (
-        k.0 ∙ h.0,
-        h.1 + second,
-        k.2 + first,
-        is_at_later p h.1 second by_second h.3,
-        last,
-        (leaves_relating (Numbered p.0)).following.joins (h.1 + second) (h.2 + second) (k.2 + first) i j (b ∷ l)
-            (c ∷ m) ahead
-            (subst (λ z. LeavesOut (Numbered p.0) z j (c ∷ m) (k.2 + first)) meet behind),
-      )
+  module _ (p q r : ℕ × ℕ) (i j : List (Answer A)) where
+    steps_join : (b c : Answer A) (l m : List (Answer A)) → StepsOn p i (b ∷ l) q → StepsOn q j (c ∷ m) r
+        → StepsOn p (i ++ j) (b ∷ l ++ c ∷ m) r
+    steps_join b c l m h k =
+        let first = h.2 + q.1 in
+        let second = k.1 + q.1 in
+        let by_first : first % p.0 ≡ 0 = subst (λ z. first % z ≡ 0) h.0 h.4.1 in
+        let by_second : second % p.0 ≡ 0 = subst (λ z. second % z ≡ 0) h.0 k.3.1 in
+        let ahead = shifted p.0 second by_second h.1 h.2 i (b ∷ l) h.5 in
+        let behind = shifted p.0 first by_first k.1 k.2 j (c ∷ m)
+        (subst (λ z. LeavesOut (Numbered z) k.1 j (c ∷ m) k.2) h.0 k.5) in
+        let meet : k.1 + first ≡ h.2 + second = omega arith in
+        let last = is_at_later r k.2 first (subst (λ z. first % z ≡ 0) (sym (k.0 ∙ h.0)) by_first) k.4 in (
+          k.0 ∙ h.0,
+          h.1 + second,
+          k.2 + first,
+          is_at_later p h.1 second by_second h.3,
+          last,
+          (leaves_relating (Numbered p.0)).following.joins (h.1 + second) (h.2 + second) (k.2 + first) i j (b ∷ l)
+              (c ∷ m) ahead
+              (subst (λ z. LeavesOut (Numbered p.0) z j (c ∷ m) (k.2 + first)) meet behind),
+        )
 
-  steps_follow : (p q r : ℕ × ℕ) (i j l m : List (Answer A)) → StepsOn p i l q → StepsOn q j m r
-      → StepsOn p (i ++ j) (l ++ m) r
-  steps_follow p q r i j [] m h k = rw h.0 (subst (λ z. StepsOn z j m r) h.1 k)
-  steps_follow p q r i j (b ∷ l) [] h k =
-      rw (ap (λ z. i ++ z) k.0 ∙ append-nil i)
-      (subst (λ z. StepsOn p i z r) (sym (append-nil (b ∷ l))) (subst (λ z. StepsOn p i (b ∷ l) z) (sym k.1) h))
-  steps_follow p q r i j (b ∷ l) (c ∷ m) h k = steps_join p q r i j b c l m h k
+    steps_follow : (l m : List (Answer A)) → StepsOn p i l q → StepsOn q j m r → StepsOn p (i ++ j) (l ++ m) r
+    steps_follow [] m h k = rw h.0 (rw (← h.1) k)
+    steps_follow (b ∷ l) [] h k =
+        rw (ap (λ z. i ++ z) k.0 ∙ append-nil i) (subst (λ z. StepsOn p i z r) (sym (append-nil (b ∷ l))) (rw k.1 h))
+    steps_follow (b ∷ l) (c ∷ m) h k = steps_join b c l m h k
 
-  steps_bounded : (p q : ℕ × ℕ) (i o : List (Answer A)) → StepsOn p i o q → before_end o ≤ before_end i
-  steps_bounded p q i [] h = omega arith
-  steps_bounded p q i (b ∷ o) h = (leaves_relating (Numbered p.0)).bounds h.1 h.2 i (b ∷ o) h.5
+  module _ (p q : ℕ × ℕ) (i : List (Answer A)) where
+    steps_bounded : (o : List (Answer A)) → StepsOn p i o q → before_end o ≤ before_end i
+    steps_bounded [] h = omega arith
+    steps_bounded (b ∷ o) h = (leaves_relating (Numbered p.0)).bounds h.1 h.2 i (b ∷ o) h.5
 
-  steps_lower : (p q : ℕ × ℕ) (i o : List (Answer A)) (xs ys : List ℕ) → StepsOn p i o q → Lowers i xs ys
-      → Lowers o xs ys
-  steps_lower p q i [] xs ys h k = rw h.0 at k
-  steps_lower p q i (b ∷ o) xs ys h k = (leaves_relating (Numbered p.0)).lowers h.1 h.2 i (b ∷ o) xs ys h.5 k
+    steps_lower : (o : List (Answer A)) (xs ys : List ℕ) → StepsOn p i o q → Lowers i xs ys → Lowers o xs ys
+    steps_lower [] xs ys h k = rw h.0 at k
+    steps_lower (b ∷ o) xs ys h k = (leaves_relating (Numbered p.0)).lowers h.1 h.2 i (b ∷ o) xs ys h.5 k
 
   pub steps_relating : Relating (StepsOn {A = A})
   steps_relating =
@@ -151,29 +137,29 @@ module _ {A : Type 0} where
   pub stepped : {S : Type 0} (run : Runs (Answer A) S) (x y : S) (p q : ℕ × ℕ) (b : Answer A) → p.1 < p.0
       → Through run (LeavesOut Countdown) x p (b ∷ []) y q → Through run StepsOn x p (b ∷ []) y q
   stepped run x y p q b less h =
-      let whole : (p.0 - p.1) + p.1 ≡ p.0 = omega (arith, less) in
-      let at : IsAt p (p.0 - p.1) = (less, ap (λ k. k % p.0) whole ∙ mod_self p.0) in
-      let e = leaves_as Countdown (Numbered p.0) (λ s n. (s.0 ≡ p.0) × IsAt s n) (counted p.0) p q (p.0 - p.1) h.ins
+      let at : IsAt p (p.0 - p.1) = (less, ap (λ k. k % p.0) (omega (arith, less)) ∙ mod_self p.0) in
+      let e =
+      leaves_as Countdown (Numbered p.0) (λ s n. (s.0 ≡ p.0) × IsAt s n) (counted p.0) p q (p.0 - p.1) h.ins
       (b ∷ []) (refl, at) h.related in
       record { ins = h.ins; came = h.came; related = (e.1.0, p.0 - p.1, e.0, at, e.1.1, e.2) }
 
 -- two numbers that are each i less than a multiple of the step differ by multiples of it
-same_remainder : (s n m i : ℕ) → (n + i) % s ≡ 0 → (m + i) % s ≡ 0 → n % s ≡ m % s
-same_remainder s n m i h k =
-    let swapped : n + (m + i) ≡ m + (n + i) = omega arith in
-    sym (past_multiple s n (m + i) k) ∙ ap (λ v. v % s) swapped ∙ past_multiple s m (n + i) h
+module _ (s n m : ℕ) where
+  same_remainder : (i : ℕ) → (n + i) % s ≡ 0 → (m + i) % s ≡ 0 → n % s ≡ m % s
+  same_remainder i h k =
+      sym (past_multiple s n (m + i) k) ∙ ap (λ v. v % s) (omega arith) ∙ past_multiple s m (n + i) h
 
-next_remainder : (s n m : ℕ) → n % s ≡ m % s → (n + 1) % s ≡ (m + 1) % s
-next_remainder s n m e = sym (mod-add-mod n s 1) ∙ ap (λ k. (k + 1) % s) e ∙ mod-add-mod m s 1
+  next_remainder : n % s ≡ m % s → (n + 1) % s ≡ (m + 1) % s
+  next_remainder e = sym (mod-add-mod n s 1) ∙ ap (λ k. (k + 1) % s) e ∙ mod-add-mod m s 1
 
 module _ {A : Type 0} where
   -- from numbers that differ by multiples of the step, the same items are kept
-  numbered_match : (s : ℕ) (like : A → A → Type 0)
-      → MatchesFrom like (OptionBy like) (Numbered {A = A} s) (λ n m. n % s ≡ m % s)
-  numbered_match s like n m p q x w None None e h a c = rw (a.0, c.0) (tt, next_remainder s n m e)
-  numbered_match s like n m p q x w None (Some z) e h a c = absurd (a.1 (e ∙ c.1))
-  numbered_match s like n m p q x w (Some y) None e h a c = absurd (c.1 (sym e ∙ a.1))
-  numbered_match s like n m p q x w (Some y) (Some z) e h a c = rw (a.0, c.0, a.2, c.2) (h, next_remainder s n m e)
+  module _ (s : ℕ) (like : A → A → Type 0) where
+    numbered_match : MatchesFrom like (OptionBy like) (Numbered {A = A} s) (λ n m. n % s ≡ m % s)
+    numbered_match n m p q x w None None e h a c = rw (a.0, c.0) (tt, next_remainder s n m e)
+    numbered_match n m p q x w None (Some z) e h a c = absurd (a.1 (e ∙ c.1))
+    numbered_match n m p q x w (Some y) None e h a c = absurd (c.1 (sym e ∙ a.1))
+    numbered_match n m p q x w (Some y) (Some z) e h a c = rw (a.0, c.0, a.2, c.2) (h, next_remainder s n m e)
 
   -- from one step and one count on
   pub steps_agreeing : (like : Sameness A) → AgreeingOver like like (StepsOn {A = A}) (λ p q. (q.0 ≡ p.0) × (q.1 ≡ p.1))

@@ -2,12 +2,12 @@
 use Rattle.std.specs.Prelude.{IfSome, cond, nat_lt}
 use Rattle.std.specs.Fn.{Mut}
 use Rattle.std.proofs.Common.{◌≡◌, ℕ, ◌+◌, ◌-◌, ◌^◌, ◌≤◌, List, [], ◌∷◌, ◌++◌, Option, Some, None, Bool, true, false}
-use Rattle.std.proofs.Common.{map, refl, subst, arith}
+use Rattle.std.proofs.Common.{map, refl, arith}
 use Rattle.futures.specs.declared.task.Poll.{Poll}
 use Rattle.futures.specs.declared.task.Poll.TheVariants.{Ready, Pending}
 use Rattle.lite_base.specs.Ranks.{count_held}
 use Rattle.lite_base.specs.Alike.{OptionBy, SameItem, Sameness}
-use Rattle.lite_base.specs.Answers.{Answer, Gives, Waiting, item}
+use Rattle.lite_base.specs.Answers.{Answer, Gives, item}
 use Rattle.lite_base.specs.Calm.{CalmLaws, NoPending}
 use Rattle.lite_base.specs.Future.Handed.{handed}
 use Rattle.lite_base.specs.FutureLaws.{FutureLaws}
@@ -44,7 +44,7 @@ module _ {V B : Type 0} {run : Runs (Poll B) V} where
         rests = λ v. spends_rest (handed Some) (λ after. after ≡ []) laws refl (Some v);
         stays = λ v w h. cc (spends_stay (handed Some) (λ after. after ≡ []) laws (Some v) (Some w) h);
         answers = λ v h. shown_gives (handed Some) h.ins h.after h.value h.joined h.finishes.gives;
-        joins = λ v w next l m. spends_follow (handed Some) (λ after. after ≡ []) laws (λ j k e d. rw (e, d) refl)
+        joins = λ v w next l m. spends_follow (handed Some) (λ after. after ≡ []) laws (λ j k e d. rw (e, d))
             (Some v) (Some w) next l m;
       }
 
@@ -57,19 +57,20 @@ module _ {V B : Type 0} {run : Runs (Poll B) V} where
 
 -- one poll of a future
 module _ {V B : Type 0} (run : Runs (Poll B) V) where
-  pub hands_pending : (v w : V) (a : Poll B) → a ≡ Pending → run v (a ∷ []) w → HandsOut run v (Pending ∷ []) (Some w)
-  hands_pending v w a is came = (Pending ∷ [], tt, rw is at came, refl)
+  module _ (v w : V) (a : Poll B) where
+    pub hands_pending : a ≡ Pending → run v (a ∷ []) w → HandsOut run v (Pending ∷ []) (Some w)
+    hands_pending is came = (Pending ∷ [], tt, rw is at came, refl)
 
-  pub hands_value : (v w : V) (a : Poll B) (y : B) → a ≡ Ready y → run v (a ∷ []) w → HandsOut run v (item y ∷ []) None
-  hands_value v w a y is came =
-      record {
-        ins = Ready y ∷ [];
-        value = y;
-        finishes = record { gives = (refl, refl); last = w; came = rw is at came };
-        after = [];
-        later = refl;
-        joined = refl;
-      }
+    pub hands_value : (y : B) → a ≡ Ready y → run v (a ∷ []) w → HandsOut run v (item y ∷ []) None
+    hands_value y is came =
+        record {
+          ins = Ready y ∷ [];
+          value = y;
+          finishes = record { gives = (refl, refl); last = w; came = rw is at came };
+          after = [];
+          later = refl;
+          joined = refl;
+        }
 
 bounded_if : (b : Bool) (k n : ℕ) → k ≤ n + 1 → IfSome (cond b (Some (n + 1)) None) (λ most. k ≤ most)
 bounded_if true k n h = h
@@ -90,7 +91,7 @@ pub then_laws : {S F V A B : Type 0} (call : Question F A V) {gives : Runs (Poll
     {hints : Hints S} → StreamLaws run hints → FutureLaws gives
     → StreamLaws (Thens run call gives)
     (λ (m : Then S F V) hint. (inner : ℕ × Option ℕ) × hints m.stream inner × (hint ≡ then_hint m.future inner))
-then_laws call {gives = gives} laws laws' =
+then_laws call {gives} laws laws' =
     laws_bounded then_parts laws (expanding_following call (HandsOut gives) (hands_giving laws'))
     (λ x y hint l e h.
     let fewer = expanding_bounded call (HandsOut gives) hands_one (x.f, x.future) (y.f, y.future) h.ins l h.related in
@@ -115,7 +116,7 @@ module _ {V B : Type 0} (same : Sameness B) {gives found : Runs (Poll B) V} {non
       (λ n. (
         n.0,
         expanding_found call
-            (λ v l next h. spends_found (handed Some) (λ after. after ≡ []) (s.found n.1) (Some v) next l h),
+            (λ v l next. spends_found (handed Some) (λ after. after ≡ []) (s.found n.1) (Some v) next l),
       ))
 
 module _ {V B : Type 0} {gives : Runs (Poll B) V} {calm : V → Type 0} (c : CalmLaws gives calm) where
@@ -133,5 +134,4 @@ module _ {V B : Type 0} {gives : Runs (Poll B) V} {calm : V → Type 0} (c : Cal
       → CalmLaws (Thens run (Calls g) gives) (λ (m : Then S F V). is_calm m.stream × EachMade g calm m.f m.future)
   then_calm g d =
       through_calm_by then_parts d
-      (expanding_calm (Calls g) (HandsOut gives)
-      (λ f x v h k called. makes_on g calm f (x, tt) v h k called) hands_calm)
+      (expanding_calm (Calls g) (HandsOut gives) (λ f x. makes_on g calm f (x, tt)) hands_calm)

@@ -6,8 +6,7 @@ use Rattle.lite_base.specs.Rank.{AtMost}
 
 pub zeros_least : (n : ℕ) (ys : List ℕ) → length ys ≡ n → AtMost (replicate n 0) ys
 zeros_least zero [] e = inl refl
-zeros_least zero (y ∷ ys) e = absurd (omega (arith, e))
-zeros_least (suc n) [] e = absurd (omega (arith, e))
 zeros_least (suc n) (zero ∷ ys) e =
     elim (zeros_least n ys (omega (arith, e))) [ inl d ↦ inl (ap (λ l. 0 ∷ l) d) | inr p ↦ inr (inr (refl, p)) ]
 zeros_least (suc n) (suc y ∷ ys) e = inr (inl (omega arith, length-replicate n 0 ∙ omega (arith, e)))
+zeros_least _ _ e = cc

@@ -28,22 +28,22 @@ module _ {S P A : Type 0} (part : S → P) (next : P → Answer A → P → Type
   -- it is its own source: those whose answers are the same are alike
   pub folds_steady : SteadyLaws (λ x l y. FoldsTo next (part x) l (part y))
       (λ x l y. FoldsTo next (part x) l (part y)) ⊤ (λ x y. Alike (FoldsTo next) (part x) (part y))
-  folds_steady = steady_always (folds_laws 0) (λ x y e l m x' y' h k. e l m (part x') (part y') h k)
+  folds_steady = steady_always (folds_laws 0) (λ x y e l m x' y'. e l m (part x') (part y'))
 
 module _ {S P A : Type 0} (part : S → P) (next : P → Answer A → P → Type 0) where
-  folds_no_pending : ((p q : P) → next p Pending q → ⊥) → (p q : P) (l : List (Answer A)) → FoldsTo next p l q
-      → NoPending l
-  folds_no_pending never p q [] h = tt
-  folds_no_pending never p q (Pending ∷ l) h = absurd (never p h.0 h.1)
-  folds_no_pending never p q (Ready r ∷ l) h = folds_no_pending never h.0 q l h.2
+  module _ (never : (p q : P) → next p Pending q → ⊥) where
+    folds_no_pending : (p q : P) (l : List (Answer A)) → FoldsTo next p l q → NoPending l
+    folds_no_pending p q [] h = tt
+    folds_no_pending p q (Pending ∷ l) h = absurd (never p h.0 h.1)
+    folds_no_pending p q (Ready r ∷ l) h = folds_no_pending h.0 q l h.2
 
-  -- no call is answered Pending
-  pub folds_calm : ((p q : P) → next p Pending q → ⊥) → CalmLaws (λ x l y. FoldsTo next (part x) l (part y)) (λ x. ⊤)
-  folds_calm never =
-      record {
-        no_pending = λ x y l k h. folds_no_pending never (part x) (part y) l h;
-        calm_on = λ x y l k h. tt;
-      }
+    -- no call is answered Pending
+    pub folds_calm : CalmLaws (λ x l y. FoldsTo next (part x) l (part y)) (λ x. ⊤)
+    folds_calm =
+        record {
+          no_pending = λ x y l k h. folds_no_pending (part x) (part y) l h;
+          calm_on = λ x y l k h. tt;
+        }
 
 -- by steps: those are alike whose ready answers are the same where they agree, if they agree again after each of these,
 -- and a Pending of either keeps what they agree in

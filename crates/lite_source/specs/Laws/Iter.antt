@@ -1,6 +1,6 @@
 -- Laws of `iter`.
 use Rattle.std.specs.Prelude.{IfSome}
-use Rattle.std.proofs.Common.{◌≤◌, sym, ℕ, List, [], ◌∷◌, ◌++◌, Option, Some, None, refl, ap, subst, arith, inl, inr}
+use Rattle.std.proofs.Common.{◌≤◌, sym, ℕ, List, [], ◌∷◌, ◌++◌, Option, Some, None, refl, ap, arith, inl, inr}
 use Rattle.std.proofs.Math.Nat.{eq-or-lt_of_le}
 use Rattle.std.specs.Iterator.{Count, IsFinite, MakesProgress, UpTo, size}
 use Rattle.futures.specs.declared.task.Poll.TheVariants.{Ready, Pending}
@@ -16,27 +16,27 @@ use Rattle.lite_source.specs.declared.iter.Iter.{Iter}
 up_to : (most : Option ℕ) (count : Count) (n : ℕ) → (IsFinite count → n ≤ size count) → IfSome most (UpTo count)
     → IfSome most (λ m. n ≤ m)
 up_to None count n h b = tt
-up_to (Some m) count n h b = omega (arith, h b.0, b.1)
+up_to (Some m) count n h b = omega arith
 
 at_most_one : (m n : ℕ) → m ≤ n → AtMost (m ∷ []) (n ∷ [])
 at_most_one m n h = elim (eq-or-lt_of_le h) [ inl e ↦ inl (ap (λ k. k ∷ []) e) | inr p ↦ inr (inl (p, refl)) ]
 
 module _ {I A : Type 0} (can : I → Type 0) (gives : I → Option A → I → Type 0) (remaining : I → Count) where
   -- after a call it may still be called
-  pub always_on : (i j : I) (a : Answer A) → AlwaysNext can gives remaining i → Nexts can gives remaining i a j
-      → AlwaysNext can gives remaining j
-  always_on i j a h c = record { at = λ l k d. h.at (a ∷ l) k (j, c, d) }
+  module _ (i j : I) where
+    pub always_on : (a : Answer A) → AlwaysNext can gives remaining i → Nexts can gives remaining i a j
+        → AlwaysNext can gives remaining j
+    always_on a h c = record { at = λ l k d. h.at (a ∷ l) k (j, c, d) }
 
-  never_on : (i j : I) (l : List (Answer A)) → NeverRaised can gives remaining i → Iterates can gives remaining i l j
-      → NeverRaised can gives remaining j
-  never_on i j l h c = record {
-    at = λ m k n d e. h.at (l ++ m) k n (folds_follow (Nexts can gives remaining) i j k l m c d) e;
-  }
+    never_on : (l : List (Answer A)) → NeverRaised can gives remaining i → Iterates can gives remaining i l j
+        → NeverRaised can gives remaining j
+    never_on l h c = record {
+      at = λ m k n d e. h.at (l ++ m) k n (folds_follow (Nexts can gives remaining) i j k l m c d) e;
+    }
 
-  finite_next : (i j : I) (r : Option A) → MakesProgress can remaining i r j → IsFinite (remaining i)
-      → IsFinite (remaining j)
-  finite_next i j None m f = m.rests f
-  finite_next i j (Some x) m f = (m.on f).1
+    finite_next : (r : Option A) → MakesProgress can remaining i r j → IsFinite (remaining i) → IsFinite (remaining j)
+    finite_next None m f = m.rests f
+    finite_next (Some x) m f = (m.on f).1
 
   finite_on : (i j : I) (l : List (Answer A)) → IsFinite (remaining i) → Iterates can gives remaining i l j
       → IsFinite (remaining j)
@@ -57,14 +57,12 @@ module _ {I A : Type 0} (can : I → Type 0) (gives : I → Option A → I → T
 
   items_lower : (i j : I) (l : List A) → IsFinite (remaining i) → Iterates can gives remaining i (items l) j
       → size (remaining j) ≤ size (remaining i)
-  items_lower i j [] f h = subst (λ k. size (remaining k) ≤ size (remaining i)) h (omega arith)
-  items_lower i j (x ∷ l) f h =
-      let on = h.1.1.on f in omega (arith, on.2, items_lower h.0 j l on.1 h.2)
+  items_lower i j [] f h = rw (← h) (omega arith)
+  items_lower i j (x ∷ l) f h = let on = h.1.1.on f in omega (arith, on.2, items_lower h.0 j l on.1 h.2)
 
   iter_falls : (i j : I) (a : A) (more : List A) → IsFinite (remaining i)
       → Iterates can gives remaining i (items (a ∷ more)) j → Below (size (remaining j) ∷ []) (size (remaining i) ∷ [])
-  iter_falls i j a more f h =
-      let on = h.1.1.on f in inl (omega (arith, on.2, items_lower h.0 j more on.1 h.2), refl)
+  iter_falls i j a more f h = let on = h.1.1.on f in inl (omega (arith, on.2, items_lower h.0 j more on.1 h.2), refl)
 
   lowers_from : (i j : I) (n : ℕ) (l : List (Answer A)) → size (remaining i) ≤ n → IsFinite (remaining i)
       → NeverRaised can gives remaining i → Iterates can gives remaining i l j
@@ -72,8 +70,7 @@ module _ {I A : Type 0} (can : I → Type 0) (gives : I → Option A → I → T
   lowers_from i j n [] least f r h = at_most_one (size (remaining j)) n (rw h at least)
   lowers_from i j n (Pending ∷ l) least f r h = absurd h.1
   lowers_from i j n (Ready None ∷ l) least f r h =
-      let kept = r.at [] i h.0 refl h.1 in
-      lowers_from h.0 j n l (omega (arith, kept, least)) (finite_next i h.0 None h.1.1 f)
+      lowers_from h.0 j n l (omega (arith, r.at [] i h.0 refl h.1, least)) (finite_next i h.0 None h.1.1 f)
       (never_on i h.0 (Ready None ∷ []) r (h.0, h.1, refl)) h.2
   lowers_from i j n (Ready (Some x) ∷ l) least f r h =
       let on = h.1.1.on f in

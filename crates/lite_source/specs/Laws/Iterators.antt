@@ -1,6 +1,6 @@
 -- Laws of `iter` where nothing is said of its answers: iterators that go on in one way from values that agree give
 -- streams that are alike.
-use Rattle.std.proofs.Common.{◌≡◌, ◌<◌, ℕ, List, ◌∷◌, Option, Some, None, length, ◌∙◌, refl, ap, subst, sym, arith}
+use Rattle.std.proofs.Common.{◌≡◌, ◌<◌, ℕ, List, ◌∷◌, Option, Some, None, length, ◌∙◌, refl, ap, sym, arith}
 use denote.Bor.{Bor}
 use Rattle.std.specs.Prelude.{MatchOption}
 use Rattle.std.specs.Array.Iter.{array_into_iter_items, array_steps}
@@ -23,9 +23,9 @@ pub iter_alike : {I A : Type 0} (can : I → Type 0) (gives : I → Option A →
     (agree : I → I → Type 0)
     → ((i j p q : I) (r s : Option A) → agree i j → gives i r p → gives j s q → (r ≡ s) × agree p q) → (i j : I)
     → agree i j → Alike (Iterates can gives remaining) i j
-iter_alike can gives remaining agree step i j a =
-    folds_alike (Nexts can gives remaining) agree (λ p q r b h. absurd h) (λ p q r b h. absurd h)
-    (λ p q r s x y b h k. step p q r s x y b h.0 k.0) i j a
+iter_alike can gives remaining agree step =
+    folds_alike (Nexts can gives remaining) agree (λ p q r b. absurd) (λ p q r b. absurd)
+    (λ p q r s x y b h k. step p q r s x y b h.0 k.0)
 
 -- what is left comes off its front, until nothing is
 module _ {I A : Type 0} (left : I → List A) where
@@ -33,22 +33,22 @@ module _ {I A : Type 0} (left : I → List A) where
   FromFront i r p = MatchOption r ((length (left i) ≡ 0) × (p ≡ i)) (λ x. left i ≡ x ∷ left p)
 
   nothing_comes : (i : I) (x : A) (l : List A) → length (left i) ≡ 0 → left i ≡ x ∷ l → ⊥
-  nothing_comes i x l none e = let more : length (x ∷ l) ≡ 0 = rw e at none in omega (arith, more)
+  nothing_comes i x l none e = omega (arith, rw e at none)
 
-  front_step : (i j p q : I) (r s : Option A) → left i ≡ left j → FromFront i r p → FromFront j s q → (r ≡ s)
-      × (left p ≡ left q)
-  front_step i j p q None None e h k = (refl, rw (h.1, k.1) e)
-  front_step i j p q None (Some y) e h k = absurd (nothing_comes i y (left q) h.0 (e ∙ k))
-  front_step i j p q (Some x) None e h k = absurd (nothing_comes j x (left p) k.0 (sym e ∙ h))
-  front_step i j p q (Some x) (Some y) e h k = (cc (h, e, k), cc (h, e, k))
+  module _ (i j p q : I) where
+    front_step : (r s : Option A) → left i ≡ left j → FromFront i r p → FromFront j s q → (r ≡ s) × (left p ≡ left q)
+    front_step None None e h k = (refl, rw (h.1, k.1) e)
+    front_step None (Some y) e h k = absurd (nothing_comes i y (left q) h.0 (e ∙ k))
+    front_step (Some x) None e h k = absurd (nothing_comes j x (left p) k.0 (sym e ∙ h))
+    front_step (Some x) (Some y) e h k = (cc (h, e, k), cc (h, e, k))
 
 module _ {A : Type 0} where
   pub array_alike : {n : ℕ} (can : ArrayIter A n → Type 0) (remaining : ArrayIter A n → Count) (i j : ArrayIter A n)
       → array_into_iter_items i ≡ array_into_iter_items j
       → Alike (Iterates can array_steps remaining) i j
-  array_alike can remaining i j e =
+  array_alike can remaining =
       iter_alike can array_steps remaining (λ p q. array_into_iter_items p ≡ array_into_iter_items q)
-      (front_step array_into_iter_items) i j e
+      (front_step array_into_iter_items)
 
   -- what the references of a slice show
   abbrev pub slice_items : Copied (SliceIter A) → List A
@@ -70,8 +70,8 @@ module _ {A : Type 0} where
   pub slice_alike : (can : Copied (SliceIter A) → Type 0) (remaining : Copied (SliceIter A) → Count)
       (i j : Copied (SliceIter A)) → slice_items i ≡ slice_items j
       → Alike (Iterates can (copied_steps iter_steps) remaining) i j
-  slice_alike can remaining i j e =
-      iter_alike can (copied_steps iter_steps) remaining (λ p q. slice_items p ≡ slice_items q) shown_step i j e
+  slice_alike can remaining =
+      iter_alike can (copied_steps iter_steps) remaining (λ p q. slice_items p ≡ slice_items q) shown_step
 
 -- one value has one that follows it
 module _ {A : Type 0} (gap : A → A → ℕ) (follows : A → A → Type 0)
@@ -79,17 +79,15 @@ module _ {A : Type 0} (gap : A → A → ℕ) (follows : A → A → Type 0)
   abbrev SameEnds : Range A → Range A → Type 0
   SameEnds i j = (i.start ≡ j.start) × (i.end ≡ j.end)
 
-  range_step : (i j p q : Range A) (r s : Option A) → SameEnds i j → range_steps gap follows i r p
-      → range_steps gap follows j s q → (r ≡ s) × SameEnds p q
-  range_step i j p q None None e h k = (refl, (h.1.1 ∙ e.0 ∙ sym k.1.1, h.0 ∙ e.1 ∙ sym k.0))
-  range_step i j p q None (Some y) e h k =
-      absurd (let none = rw (e.0, e.1) at h.1.0 in omega (arith, k.1.0, none))
-  range_step i j p q (Some x) None e h k =
-      absurd (let none : gap i.start i.end ≡ 0 = rw (e.0, e.1) k.1.0 in omega (arith, h.1.0, none))
-  range_step i j p q (Some x) (Some y) e h k =
-      let first : x ≡ y = h.1.1 ∙ e.0 ∙ sym k.1.1 in
-      let next : p.start ≡ q.start = one j.start p.start q.start (rw e.0 at h.1.2) k.1.2 in
-      (ap (λ v. Some v) first, (next, h.0 ∙ e.1 ∙ sym k.0))
+  module _ (i j p q : Range A) where
+    range_step : (r s : Option A) → SameEnds i j → range_steps gap follows i r p → range_steps gap follows j s q
+        → (r ≡ s) × SameEnds p q
+    range_step None None e h k = (refl, (h.1.1 ∙ e.0 ∙ sym k.1.1, h.0 ∙ e.1 ∙ sym k.0))
+    range_step None (Some y) e h k = absurd (omega (arith, k.1.0, rw (e.0, e.1) at h.1.0))
+    range_step (Some x) None e h k =
+        absurd (let none : gap i.start i.end ≡ 0 = rw (e.0, e.1) k.1.0 in omega (arith, h.1.0, none))
+    range_step (Some x) (Some y) e h k =
+        (ap Some (h.1.1 ∙ e.0 ∙ sym k.1.1), (one j.start p.start q.start (rw e.0 at h.1.2) k.1.2, h.0 ∙ e.1 ∙ sym k.0))
 
   pub range_alike : (can : Range A → Type 0) (remaining : Range A → Count) (i j : Range A) → i.start ≡ j.start
       → i.end ≡ j.end → Alike (Iterates can (range_steps gap follows) remaining) i j
@@ -100,14 +98,14 @@ module _ {A Z : Type 0} where
   abbrev pub SameLeft : IntoIter A Z → IntoIter A Z → Type 0
   SameLeft i j = (into_iter_len i ≡ into_iter_len j) × (0 < into_iter_len i → into_iter_items i ≡ into_iter_items j)
 
-  left_step : (i j p q : IntoIter A Z) (r s : Option A) → SameLeft i j → into_iter_steps i r p → into_iter_steps j s q
-      → (r ≡ s) × SameLeft p q
-  left_step i j p q None None e h k = (refl, (h.1 ∙ sym k.1, λ more. absurd (omega (arith, more, h.1))))
-  left_step i j p q None (Some y) e h k = absurd (omega (arith, e.0, h.0, k.1))
-  left_step i j p q (Some x) None e h k = absurd (omega (arith, e.0, h.1, k.0))
-  left_step i j p q (Some x) (Some y) e h k =
-      let same : into_iter_items i ≡ into_iter_items j = e.1 (omega (arith, h.1)) in
-      (cc (h.0, same, k.0), (omega (arith, e.0, h.1, k.1), λ more. cc (h.0, same, k.0)))
+  module _ (i j p q : IntoIter A Z) where
+    left_step : (r s : Option A) → SameLeft i j → into_iter_steps i r p → into_iter_steps j s q → (r ≡ s) × SameLeft p q
+    left_step None None e h k = (refl, (h.1 ∙ sym k.1, λ more. absurd (omega (arith, more, h.1))))
+    left_step None (Some y) e h k = absurd (omega (arith, e.0, h.0, k.1))
+    left_step (Some x) None e h k = absurd (omega (arith, e.0, h.1, k.0))
+    left_step (Some x) (Some y) e h k =
+        let same : into_iter_items i ≡ into_iter_items j = e.1 (omega (arith, h.1)) in
+        (cc (h.0, same, k.0), (omega (arith, e.0, h.1, k.1), λ more. cc (h.0, same, k.0)))
 
   pub vec_alike : (can : IntoIter A Z → Type 0) (remaining : IntoIter A Z → Count) (i j : IntoIter A Z)
       → into_iter_len i ≡ into_iter_len j → into_iter_items i ≡ into_iter_items j

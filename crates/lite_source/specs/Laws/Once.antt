@@ -13,8 +13,8 @@ use Rattle.lite_source.specs.Laws.Script.{gives_bounded, gives_calm, gives_follo
 module _ {A : Type 0} where
   held_same : (a b : Option A) → once_left b ≡ once_left a → b ≡ a
   held_same None None e = refl
-  held_same (Some x) (Some y) e = cc e
-  held_same a b e = absurd (cc e)
+  held_same (Some x) (Some y) e = cc
+  held_same a b e = cc
 
   pub once_laws : StreamLaws (GivesOnce {A = A})
       (λ x hint. hint ≡ (length (once_left x.value), Some (length (once_left x.value))))
@@ -37,7 +37,7 @@ module _ {A : Type 0} where
   -- with equal items
   pub once_steady : Steadiness (GivesOnce {A = A}) (λ x y. y.value ≡ x.value)
   once_steady x y e l m x' y' =
-      gives_steady (once_left x.value) (once_left y.value) (rw e refl) l m (once_left x'.value) (once_left y'.value)
+      gives_steady (once_left x.value) (once_left y.value) (rw e) l m (once_left x'.value) (once_left y'.value)
 
   pub once_calm : CalmLaws (GivesOnce {A = A}) (λ x. ⊤)
   once_calm =

@@ -1,12 +1,11 @@
 -- Laws of `once_future`.
 use Rattle.std.specs.Prelude.{IfSome}
-use Rattle.std.proofs.Common.{◌≡◌, ◌∙◌, ℕ, List, [], ◌∷◌, map, refl, Option, Some, None, ap, arith, inl}
+use Rattle.std.proofs.Common.{◌≡◌, ◌∙◌, List, [], ◌∷◌, map, refl, Option, Some, None, ap, arith, inl}
 use Rattle.std.specs.List.{AllByRecursion}
 use Rattle.std.specs.Option.{option_len}
 use Rattle.futures.specs.declared.task.Poll.{Poll}
-use Rattle.futures.specs.declared.task.Poll.TheVariants.{Ready, Pending}
 use Rattle.lite_base.specs.Alike.{OptionBy, SameAnswer, SameItem, Sameness}
-use Rattle.lite_base.specs.Answers.{Answer, ComparableBy, Waiting, end, strip}
+use Rattle.lite_base.specs.Answers.{Answer, ComparableBy, end, strip}
 use Rattle.lite_base.specs.Calm.{CalmLaws, NoPending}
 use Rattle.lite_base.specs.Laws.Falling.{Lowers-below, waiting_lowers}
 use Rattle.lite_base.specs.Future.Spent.{Spends}
@@ -17,7 +16,7 @@ use Rattle.lite_base.specs.Laws.Calm.{calm_both, no_pending_join}
 use Rattle.lite_base.specs.Laws.Future.Handed.{handed_gives, handed_no_pending, handed_waiting, handed_waits}
 use Rattle.lite_base.specs.Laws.Future.Spent.{spends_found, spends_follow, spends_rest, spends_stay}
 use Rattle.lite_base.specs.Laws.Hint.{same_hint}
-use Rattle.lite_base.specs.Rank.{AtMost, Lowers}
+use Rattle.lite_base.specs.Rank.{Lowers}
 use Rattle.lite_base.specs.Ranks.{Counting}
 use Rattle.lite_base.specs.Laws.Ranks.{number_counting}
 use Rattle.lite_base.specs.Steady.{FutureSteadyLawsBy, SteadinessBy, SteadyLawsBy}
@@ -41,10 +40,9 @@ module _ {F A : Type 0} (run : Runs (Poll A) F) where
   spends_lower : (x y : Option F) (l : List (Answer A))
       → Spends run (handed (λ v. Some v)) (AllByRecursion (λ a. a ≡ end)) x l y
       → Lowers l (option_len y ∷ []) (option_len x ∷ [])
-  spends_lower None y l h =
-      no_items_lower _ (λ x e. cc e) l (option_len y ∷ []) (0 ∷ []) h.0 (inl (ap (λ f. option_len f ∷ []) h.1))
-  spends_lower (Some f) (Some g) l h = rw h.3 (waiting_lowers (map (handed (λ x. Some x)) h.0) (1 ∷ []) (1 ∷ [])
-      (handed_waiting (λ x. Some x) h.0 h.1) (inl refl))
+  spends_lower None y l h = no_items_lower _ (λ x e. cc e) l (option_len y ∷ []) (0 ∷ []) h.0 (inl (rw h.1))
+  spends_lower (Some f) (Some g) l h =
+      rw h.3 (waiting_lowers (map (handed Some) h.0) (1 ∷ []) (1 ∷ []) (handed_waiting Some h.0 h.1) (inl refl))
   spends_lower (Some f) None l h = Lowers-below l (0 ∷ []) (1 ∷ []) (inl (omega arith, refl))
 
   pub once_future_counting : Counting (GivesFuture run) once_future_ranks
@@ -61,17 +59,15 @@ module _ {F A : Type 0} (same : Sameness A) {run : Runs (Poll A) F} {alike : F �
       → ComparableBy (SameAnswer same) (strip l) (strip m)
   handing_same None None f' g' l m e h k = answers_same None (SameAnswer same) (ends_same same) l m h.0 k.0
   handing_same (Some f) (Some g) (Some f') g' l m e h k =
-      let none = ap strip h.3 ∙ handed_waits (λ v. Some v) h.0 h.1 in rw none tt
+      let none = ap strip h.3 ∙ handed_waits Some h.0 h.1 in rw none tt
   handing_same (Some f) (Some g) None (Some g') l m e h k =
-      let none = ap strip k.3 ∙ handed_waits (λ v. Some v) k.0 k.1 in
-      rw none (comparable_nil (SameAnswer same) (strip l))
+      let none = ap strip k.3 ∙ handed_waits Some k.0 k.1 in rw none (comparable_nil (SameAnswer same) (strip l))
   handing_same (Some f) (Some g) None None l m e h k =
-      let one = ap strip h.joined ∙ handed_gives (λ v. Some v) h.ins h.after h.value h.finishes.gives in
-      let two = ap strip k.joined ∙ handed_gives (λ v. Some v) k.ins k.after k.value k.finishes.gives in
-      let values : SameItem same h.value k.value =
-      alike_agrees run f g (s f g e) h.ins k.ins h.value k.value h.finishes k.finishes in
+      let one = ap strip h.joined ∙ handed_gives Some h.ins h.after h.value h.finishes.gives in
+      let two = ap strip k.joined ∙ handed_gives Some k.ins k.after k.value k.finishes.gives in
       rw (one, two) (
-        same_answer same h.value k.value values,
+        same_answer same h.value k.value
+            (alike_agrees run f g (s f g e) h.ins k.ins h.value k.value h.finishes k.finishes),
         answers_same None (SameAnswer same) (ends_same same) h.after k.after h.later k.later,
       )
   handing_same f g f' g' l m e h k = absurd e
@@ -84,8 +80,7 @@ once_future_steady same s =
     record {
       laws = runs_of (once_future_laws _ s.laws);
       steady = λ x y e l m x' y'. handing_same same s.steady x.future y.future x'.future y'.future l m e;
-      found = λ n x y l. spends_found (handed (λ v. Some v)) (AllByRecursion (λ a. a ≡ end))
-          (s.found n) x.future y.future l;
+      found = λ n x y l. spends_found (handed Some) (AllByRecursion (λ a. a ≡ end)) (s.found n) x.future y.future l;
     }
 
 module _ {F A : Type 0} {run : Runs (Poll A) F} {is_calm : F → Type 0} (c : CalmLaws run is_calm) where
@@ -93,14 +88,11 @@ module _ {F A : Type 0} {run : Runs (Poll A) F} {is_calm : F → Type 0} (c : Ca
       × IfSome y is_calm
   handing_calm None y l k h = rw h.1 (answers_no_pending None l h.0, tt)
   handing_calm (Some f) (Some g) l k h =
-      rw h.3 (handed_no_pending (λ v. Some v) h.0 (c.no_pending f g h.0 k h.2), c.calm_on f g h.0 k h.2)
+      rw h.3 (handed_no_pending Some h.0 (c.no_pending f g h.0 k h.2), c.calm_on f g h.0 k h.2)
   handing_calm (Some f) None l k h =
-      let before = handed_no_pending (λ v. Some v) h.ins (c.no_pending f h.finishes.last h.ins k h.finishes.came) in
-      rw h.joined (
-        no_pending_join (map (handed (λ v. Some v)) h.ins) h.after before
-            (answers_no_pending None h.after h.later),
-        tt,
-      )
+      let before = handed_no_pending Some h.ins (c.no_pending f h.finishes.last h.ins k h.finishes.came) in
+      rw h.joined
+      (no_pending_join (map (handed Some) h.ins) h.after before (answers_no_pending None h.after h.later), tt)
 
   pub once_future_calm : CalmLaws (GivesFuture run) (λ x. IfSome x.future is_calm)
   once_future_calm = calm_both (λ x y. handing_calm x.future y.future)

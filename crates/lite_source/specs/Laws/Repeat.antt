@@ -16,25 +16,26 @@ module _ {A E : Type 0} (is_clone : A → A → Type 0) (is_infallible : A → T
   pub repeat_laws : (least : ℕ) → StreamLaws (Repeats {E = E} is_clone is_infallible) (λ x hint. hint ≡ (least, None))
   repeat_laws least = always_laws _ (least, None) (λ x l h. tt)
 
-  clones_found : ((x : A) → is_infallible x) → (own : A) (l : List (Answer (Result A E)))
-      → AllByRecursion (IsCloned is_clone is_infallible own) l → AllByRecursion (IsCloned is_clone (λ _. ⊤) own) l
-  clones_found n own [] h = tt
-  clones_found n own (Ready (Some (Ok v)) ∷ l) h = (h.0, clones_found n own l h.1)
-  clones_found n own (Ready (Some (Err e)) ∷ l) h = absurd (h.0 (n own))
-  clones_found n own (a ∷ l) h = absurd h.0
+  module _ (n : (x : A) → is_infallible x) (own : A) where
+    clones_found : (l : List (Answer (Result A E))) → AllByRecursion (IsCloned is_clone is_infallible own) l
+        → AllByRecursion (IsCloned is_clone (λ _. ⊤) own) l
+    clones_found [] h = tt
+    clones_found (Ready (Some (Ok v)) ∷ l) h = (h.0, clones_found l h.1)
+    clones_found (Ready (Some (Err e)) ∷ l) h = absurd (h.0 (n own))
+    clones_found (a ∷ l) h = absurd h.0
 
-  clones_same : (own other : A) → SameClones is_clone own other → (l m : List (Answer (Result A E)))
-      → AllByRecursion (IsCloned is_clone (λ _. ⊤) own) l → AllByRecursion (IsCloned is_clone (λ _. ⊤) other) m
-      → Comparable (strip l) (strip m)
-  clones_same own other e (Pending ∷ l) m h k = absurd h.0
-  clones_same own other e (Ready None ∷ l) m h k = absurd h.0
-  clones_same own other e (Ready (Some (Err x)) ∷ l) m h k = absurd (h.0 tt)
-  clones_same own other e (Ready (Some (Ok v)) ∷ l) (Pending ∷ m) h k = absurd k.0
-  clones_same own other e (Ready (Some (Ok v)) ∷ l) (Ready None ∷ m) h k = absurd k.0
-  clones_same own other e (Ready (Some (Ok v)) ∷ l) (Ready (Some (Err x)) ∷ m) h k = absurd (k.0 tt)
-  clones_same own other e (Ready (Some (Ok v)) ∷ l) (Ready (Some (Ok w)) ∷ m) h k =
-      (ap (λ z. Some (Ok z)) (e v w h.0 k.0), clones_same own other e l m h.1 k.1)
-  clones_same own other e l m h k = tt
+  module _ (own other : A) (e : SameClones is_clone own other) where
+    clones_same : (l m : List (Answer (Result A E))) → AllByRecursion (IsCloned is_clone (λ _. ⊤) own) l
+        → AllByRecursion (IsCloned is_clone (λ _. ⊤) other) m → Comparable (strip l) (strip m)
+    clones_same (Pending ∷ l) m h k = absurd h.0
+    clones_same (Ready None ∷ l) m h k = absurd h.0
+    clones_same (Ready (Some (Err x)) ∷ l) m h k = absurd (h.0 tt)
+    clones_same (Ready (Some (Ok v)) ∷ l) (Pending ∷ m) h k = absurd k.0
+    clones_same (Ready (Some (Ok v)) ∷ l) (Ready None ∷ m) h k = absurd k.0
+    clones_same (Ready (Some (Ok v)) ∷ l) (Ready (Some (Err x)) ∷ m) h k = absurd (k.0 tt)
+    clones_same (Ready (Some (Ok v)) ∷ l) (Ready (Some (Ok w)) ∷ m) h k =
+        (ap (λ z. Some (Ok z)) (e v w h.0 k.0), clones_same l m h.1 k.1)
+    clones_same l m h k = tt
 
   -- where no clone is refused, those of the same clones
   pub repeat_steady : SteadyLaws (Repeats {E = E} is_clone is_infallible) (Repeats is_clone (λ _. ⊤))

@@ -1,6 +1,6 @@
 -- Laws of `script`, and of other sources whose answers to come are a list.
 use Rattle.std.specs.Prelude.{⊤}
-use Rattle.std.proofs.Common.{◌≡◌, ◌∙◌, ◌≤◌, List, [], ◌∷◌, ◌++◌, length, Option, Some, None, refl, ap, subst, sym, inl}
+use Rattle.std.proofs.Common.{◌≡◌, ◌∙◌, ◌≤◌, List, [], ◌∷◌, ◌++◌, length, Option, Some, None, refl, sym, inl}
 use Rattle.std.proofs.Common.{arith}
 use Rattle.futures.specs.declared.task.Poll.TheVariants.{Ready, Pending}
 use Rattle.lite_base.specs.Answers.{Answer, Comparable, before_end, strip}
@@ -27,9 +27,9 @@ module _ {A : Type 0} where
   gives_bounded x y l h = omega arith
 
   pub gives_lowers : (x y l : List (Answer A)) → GivesScript x l y → Lowers l (length y ∷ []) (length x ∷ [])
-  gives_lowers x y [] h = inl (ap (λ t. length t ∷ []) h)
+  gives_lowers x y [] h = inl (rw h)
   gives_lowers [] y (Ready None ∷ l) h = gives_lowers [] y l h.1
-  gives_lowers [] y (a ∷ l) h = absurd (cc h.0)
+  gives_lowers [] y (a ∷ l) h = cc
   gives_lowers (b ∷ x) y (a ∷ l) h =
       Lowers-below (a ∷ l) _ _ (Below-one (Lowers-at_most l _ _ (gives_lowers x y l h.1)) (omega arith))
 

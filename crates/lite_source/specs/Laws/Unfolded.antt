@@ -1,7 +1,7 @@
 -- What `unfold` and `try_unfold` answer, Pendings aside: the same from futures that are alike.
 use Rattle.std.specs.Prelude.{⊤}
 use Rattle.std.proofs.Common.{inl, inr, ◌≡◌, ◌∙◌, ◌⊎◌, List, [], ◌∷◌, ◌++◌, map, flat_map, Option, Some, None, refl, ap}
-use Rattle.std.proofs.Common.{subst, sym, append-nil}
+use Rattle.std.proofs.Common.{sym, append-nil}
 use Rattle.std.specs.Fn.{AlwaysReturns, Mut}
 use Rattle.std.specs.List.{AllByRecursion, FoldsTo}
 use Rattle.futures.specs.declared.task.Poll.{Poll}
@@ -38,44 +38,42 @@ module _ {F S V O B : Type 0} (call : Mut F (S × Unit {0}) V) (gives : Runs (Po
       ⊎ ((x ≡ Holding.Over) × (b ≡ None) × FutureValues p Holding.Over out)
 
   -- some Pendings of a future change nothing of it
-  waited : FutureLaws gives → (p q : F) (x : Holding S V) (v w : V) (ins : List (Poll O)) (out : List (Option B))
-      → IsCurrent call p x q v → Waiting ins → gives v ins w → FutureValues q (Holding.Asked w) out
-      → FutureValues p x out
-  waited laws p q x v w ins [] c i g h = tt
-  waited laws p q x v w ins (b ∷ out) c i g (inr h) = absurd (let e = h.0 in cc)
-  waited laws p q x v w ins (b ∷ out) c i g (inl h) =
-      inl (
-        v,
-        q,
-        ins ++ h.2,
-        h.3,
-        c,
-        finishes_later laws v w ins h.2 h.3 i g (rw h.4.0 at h.5),
-        h.6,
-        rw h.4.1 at h.7,
-      )
+  module _ (laws : FutureLaws gives) (p q : F) (x : Holding S V) (v w : V) (ins : List (Poll O)) where
+    waited : (out : List (Option B)) → IsCurrent call p x q v → Waiting ins → gives v ins w
+        → FutureValues q (Holding.Asked w) out → FutureValues p x out
+    waited [] c i g h = tt
+    waited (b ∷ out) c i g (inr h) = cc
+    waited (b ∷ out) c i g (inl h) =
+        inl (
+          v,
+          q,
+          ins ++ h.2,
+          h.3,
+          c,
+          finishes_later laws v w ins h.2 h.3 i g (rw h.4.0 at h.5),
+          h.6,
+          rw h.4.1 at h.7,
+        )
 
   over : (p : F) (l : List (Answer B)) (out : List (Option B)) → AllByRecursion (λ a. a ≡ end) l
       → FutureValues p Holding.Over out → FutureValues p Holding.Over (strip l ++ out)
   over p [] out h k = k
   over p (a ∷ l) out h k = rw h.0 (inr (refl, refl, over p l out h.1 k))
 
-  part_values : FutureLaws gives → (p q : F) (x y : Holding S V) (l : List (Answer B)) (out : List (Option B))
-      → UnfoldPart call gives after shown p x l q y → FutureValues q y out → FutureValues p x (strip l ++ out)
-  part_values laws p q x y l out (inr h) k =
-      let k' = rw h.2.1 at k in
-      rw h.0 (over p l out h.2.0 (rw h.1 at k'))
-  part_values laws p q x y l out (inl h) k = leading h.0 h.1 h.2 h.3 h.4
-    where
-      leading : (v : V) (ins : List (Poll O)) → IsCurrent call p x q v → Leads call gives after shown v ins y
-          → l ≡ map (handed shown) ins → FutureValues p x (strip l ++ out)
-      leading v ins c (inl d) e =
-          rw (e, handed_waits shown ins d.1)
-          (waited laws p q x v d.0 ins out c d.1 d.2 (rw d.3 at k))
-      leading v ins c (inr d) e =
-          let one : strip l ≡ shown d.0 ∷ [] = ap strip (e ∙ sym (append-nil (map (handed shown) ins)))
-          ∙ handed_gives shown ins [] d.0 d.1.gives in
-          rw one (inl (v, q, ins, d.0, c, d.1, refl, rw d.2 at k))
+  module _ (laws : FutureLaws gives) (p q : F) (x y : Holding S V) (l : List (Answer B)) (out : List (Option B)) where
+    part_values : UnfoldPart call gives after shown p x l q y → FutureValues q y out → FutureValues p x (strip l ++ out)
+    part_values (inr h) k = rw h.0 (over p l out h.2.0 (rw h.1 at (rw h.2.1 at k)))
+    part_values (inl h) k = leading h.0 h.1 h.2 h.3 h.4
+      where
+        leading : (v : V) (ins : List (Poll O)) → IsCurrent call p x q v → Leads call gives after shown v ins y
+            → l ≡ map (handed shown) ins → FutureValues p x (strip l ++ out)
+        leading v ins c (inl d) e =
+            rw (e, handed_waits shown ins d.1)
+            (waited laws p q x v d.0 ins out c d.1 d.2 (rw d.3 at k))
+        leading v ins c (inr d) e =
+            let one : strip l ≡ shown d.0 ∷ [] = ap strip (e ∙ sym (append-nil (map (handed shown) ins)))
+            ∙ handed_gives shown ins [] d.0 d.1.gives in
+            rw one (inl (v, q, ins, d.0, c, d.1, refl, rw d.2 at k))
 
   unfolds_values : FutureLaws gives → (x y : F × Holding S V) (parts : List (Answer B × List (Answer B)))
       → FoldsTo (λ s part t. UnfoldPart call gives after shown s.0 s.1 (part.0 ∷ part.1) t.0 t.1) x parts y
@@ -83,33 +81,32 @@ module _ {F S V O B : Type 0} (call : Mut F (S × Unit {0}) V) (gives : Runs (Po
   unfolds_values laws x y [] h = tt
   unfolds_values laws x y (part ∷ parts) h =
       let rest = flat_map (λ part. part.0 ∷ part.1) parts in
-      rw (strip_join (part.0 ∷ part.1) rest)
-      (part_values laws x.0 h.0.0 x.1 h.0.1 (part.0 ∷ part.1) (strip rest) h.1
-      (unfolds_values laws h.0 y parts h.2))
+      rw strip_join
+      (part_values laws x.0 h.0.0 x.1 h.0.1 (part.0 ∷ part.1) (strip rest) h.1 (unfolds_values laws h.0 y parts h.2))
 
 -- by functions that make futures which are alike: `same` of values, `like` of seeds, `shows` of what goes out
 module _ {F S V O B : Type 0} (call : Mut F (S × Unit {0}) V) (ample : Runs (Poll O) V) {alike : V → V → Type 0}
     {same : O → O → Type 0}
     (like : S → S → Type 0) (shows : Option B → Option B → Type 0) (s : SteadinessBy same ample alike)
     (after : O → Option S) (shown : O → Option B) where
-  current_alike : (p k q l : F) (x y : Holding S V) (v w : V) → AgreeFrom like alike (Calls call) p k
-      → HoldingsBy like alike x y → IsCurrent call p x q v
-      → IsCurrent call k y l w
-      → alike v w × AgreeFrom like alike (Calls call) q l
-  current_alike p k q l (Holding.Seed r) (Holding.Seed t) v w a e c d =
-      agree_from_matches like alike (Calls call) p k q l r t v w a e c d
-  current_alike p k q l (Holding.Asked r) (Holding.Asked t) v w a e c d = rw (c.0, d.0, c.1, d.1) (e, a)
-  current_alike p k q l Holding.Over y v w a e c d = absurd c
-  current_alike p k q l x y v w a e c d = absurd e
+  module _ (p k q l : F) where
+    current_alike : (x y : Holding S V) (v w : V) → AgreeFrom like alike (Calls call) p k → HoldingsBy like alike x y
+        → IsCurrent call p x q v → IsCurrent call k y l w → alike v w × AgreeFrom like alike (Calls call) q l
+    current_alike (Holding.Seed r) (Holding.Seed t) v w a e c d =
+        agree_from_matches like alike (Calls call) p k q l r t v w a e c d
+    current_alike (Holding.Asked r) (Holding.Asked t) v w a e c d = rw (c.0, d.0, c.1, d.1) (e, a)
+    current_alike Holding.Over y v w a e c d = absurd c
+    current_alike x y v w a e c d = absurd e
 
   -- one that is over has no future
-  not_over : (p q : F) (x : Holding S V) (v : V) → HoldingsBy like alike x Holding.Over → IsCurrent call p x q v → ⊥
-  not_over p q Holding.Over v e c = c
-  not_over p q x v e c = e
+  module _ (p q : F) where
+    not_over : (x : Holding S V) (v : V) → HoldingsBy like alike x Holding.Over → IsCurrent call p x q v → ⊥
+    not_over Holding.Over v e c = c
+    not_over x v e c = e
 
-  over_not : (p q : F) (x : Holding S V) (v : V) → HoldingsBy like alike Holding.Over x → IsCurrent call p x q v → ⊥
-  over_not p q Holding.Over v e c = c
-  over_not p q x v e c = e
+    over_not : (x : Holding S V) (v : V) → HoldingsBy like alike Holding.Over x → IsCurrent call p x q v → ⊥
+    over_not Holding.Over v e c = c
+    over_not x v e c = e
 
   comes_alike : (m n : Option S) → OptionBy like m n → HoldingsBy like alike (comes m) (comes n)
   comes_alike None None e = tt
@@ -126,13 +123,13 @@ module _ {F S V O B : Type 0} (call : Mut F (S × Unit {0}) V) (ample : Runs (Po
     values_same p k x y (b ∷ o) (c ∷ o') a e (inl h) (inl g) =
         let f = current_alike p k h.1 g.1 x y h.0 g.0 a e h.4 g.4 in
         let value : same h.3 g.3 = alike_agrees ample h.0 g.0 (s h.0 g.0 f.0) h.2 g.2 h.3 g.3 h.5 g.5 in
-        let next = comes_alike (after h.3) (after g.3) (goes h.3 g.3 value) in
-        rw (h.6, g.6)
-        (gives h.3 g.3 value, values_same h.1 g.1 (comes (after h.3)) (comes (after g.3)) o o' f.1 next h.7 g.7)
-    values_same p k x y (b ∷ o) (c ∷ o') a e (inl h) (inr g) =
-        absurd (not_over p h.1 x h.0 (rw g.0 at e) h.4)
-    values_same p k x y (b ∷ o) (c ∷ o') a e (inr h) (inl g) =
-        absurd (over_not k g.1 y g.0 (rw h.0 at e) g.4)
+        rw (h.6, g.6) (
+          gives h.3 g.3 value,
+          values_same h.1 g.1 (comes (after h.3)) (comes (after g.3)) o o' f.1
+              (comes_alike (after h.3) (after g.3) (goes h.3 g.3 value)) h.7 g.7,
+        )
+    values_same p k x y (b ∷ o) (c ∷ o') a e (inl h) (inr g) = absurd (not_over p h.1 x h.0 (rw g.0 at e) h.4)
+    values_same p k x y (b ∷ o) (c ∷ o') a e (inr h) (inl g) = absurd (over_not k g.1 y g.0 (rw h.0 at e) g.4)
     values_same p k x y (b ∷ o) (c ∷ o') a e (inr h) (inr g) =
         rw (h.1, g.1) (ends, values_same p k Holding.Over Holding.Over o o' a tt h.2 g.2)
     values_same p k x y o o' a e h g = tt
@@ -172,8 +169,7 @@ module _ {F S V O B : Type 0} (call : Mut F (S × Unit {0}) V) (ample : Runs (Po
       → ComparableBy (SameAnswer (PartOf same shown)) o p
   unfolds_same Sameness.equal s x y o p e h k =
       values_same call ample (λ r t. r ≡ t) (λ b c. b ≡ c) s after shown
-      (λ v w d. equal_options (after v) (after w) (ap after d)) (λ v w d. ap shown d) refl
-      x.0 y.0 x.1 y.1 o p e.0 e.1 h k
+      (λ v w d. equal_options (after v) (after w) (ap after d)) (λ v w. ap shown) refl x.0 y.0 x.1 y.1 o p e.0 e.1 h k
   unfolds_same (Sameness.by same) s x y o p e h k =
       values_same call ample (SameItem (PartOf (Sameness.by same) after))
       (SameAnswer (PartOf (Sameness.by same) shown)) s after shown
@@ -188,10 +184,10 @@ module _ {F S V O B : Type 0} (call : Mut F (S × Unit {0}) V) {run ample : Runs
   leads_found v ins next (inl h) = inl (h.0, h.1, takes v h.0 ins h.2, h.3)
   leads_found v ins next (inr h) = inr (h.0, finishes_found takes v ins h.0 h.1, h.2)
 
-  part_found : (p q : F) (x y : Holding S V) (l : List (Answer B)) → UnfoldPart call run after shown p x l q y
-      → UnfoldPart call ample after shown p x l q y
-  part_found p q x y l (inl h) = inl (h.0, h.1, h.2, leads_found h.0 h.1 y h.3, h.4)
-  part_found p q x y l (inr h) = inr h
+  module _ (p q : F) (x y : Holding S V) (l : List (Answer B)) where
+    part_found : UnfoldPart call run after shown p x l q y → UnfoldPart call ample after shown p x l q y
+    part_found (inl h) = inl (h.0, h.1, h.2, leads_found h.0 h.1 y h.3, h.4)
+    part_found (inr h) = inr h
 
   parts_found : (x y : F × Holding S V) (parts : List (Answer B × List (Answer B)))
       → FoldsTo (λ s part t. UnfoldPart call run after shown s.0 s.1 (part.0 ∷ part.1) t.0 t.1) x parts y
@@ -229,7 +225,7 @@ module _ {F S V O B : Type 0} (call : Mut F (S × Unit {0}) V) {run : Runs (Poll
 
   current_calm : (p q : F) (x : Holding S V) (v : V) → Calmly p x → IsCurrent call p x q v → calm v
       × AlwaysReturns call (λ s v. calm v) q
-  current_calm p q (Holding.Seed s) v k h = call_promises call (λ s v. calm v) p (s, tt) v q k.0 h
+  current_calm p q (Holding.Seed s) v k h = call_promises call (λ s. calm) p (s, tt) v q k.0 h
   current_calm p q (Holding.Asked w) v k h = rw (h.0, h.1) (k.1, k.0)
   current_calm p q Holding.Over v k h = absurd h
 
@@ -242,13 +238,13 @@ module _ {F S V O B : Type 0} (call : Mut F (S × Unit {0}) V) {run : Runs (Poll
   leads_calm v ins next k (inl h) = (c.no_pending v h.0 ins k h.2, rw h.3 (c.calm_on v h.0 ins k h.2))
   leads_calm v ins next k (inr h) = (c.no_pending v h.1.last ins k h.1.came, rw h.2 (comes_calm (after h.0)))
 
-  part_calm : (p q : F) (x y : Holding S V) (l : List (Answer B)) → Calmly p x
-      → UnfoldPart call run after shown p x l q y → NoPending l × Calmly q y
-  part_calm p q x y l k (inl h) =
-      let made = current_calm p q x h.0 k h.2 in
-      let led = leads_calm h.0 h.1 y made.0 h.3 in
-      (rw h.4 (handed_no_pending shown h.1 led.0), (made.1, led.1))
-  part_calm p q x y l k (inr h) = (answers_no_pending None l h.2.0, (rw h.1 k.0, rw h.2.1 tt))
+  module _ (p q : F) (x y : Holding S V) (l : List (Answer B)) (k : Calmly p x) where
+    part_calm : UnfoldPart call run after shown p x l q y → NoPending l × Calmly q y
+    part_calm (inl h) =
+        let made = current_calm p q x h.0 k h.2 in
+        let led = leads_calm h.0 h.1 y made.0 h.3 in
+        (rw h.4 (handed_no_pending shown h.1 led.0), (made.1, led.1))
+    part_calm (inr h) = (answers_no_pending None l h.2.0, (rw h.1 k.0, rw h.2.1 tt))
 
   parts_calm : (x y : F × Holding S V) (parts : List (Answer B × List (Answer B))) → Calmly x.0 x.1
       → FoldsTo (λ s part t. UnfoldPart call run after shown s.0 s.1 (part.0 ∷ part.1) t.0 t.1) x parts y

@@ -18,7 +18,7 @@ module _ {F S V O B : Type 0} (call : Mut F (S × Unit {0}) V) (gives : Runs (Po
       → FoldsTo (λ s part t. UnfoldPart call gives after shown s.0 s.1 (part.0 ∷ part.1) t.0 t.1) x parts y
       → [] ≡ flat_map (λ part. part.0 ∷ part.1) parts → y ≡ x
   stays_by x y [] h e = sym h
-  stays_by x y (part ∷ parts) h e = absurd (cc e)
+  stays_by x y (part ∷ parts) h e = cc
 
   -- a source that holds such a pair, and nothing else
   pub unfolds_laws : {X : Type 0} (pair : X → F × Holding S V) → ((x y : X) → pair y ≡ pair x → y ≡ x)
@@ -30,27 +30,28 @@ module _ {F S V O B : Type 0} (call : Mut F (S × Unit {0}) V) (gives : Runs (Po
         follows = λ x y z l m h k. (
           h.0 ++ k.0,
           folds_follow _ (pair x) (pair y) (pair z) h.0 k.0 h.1 k.1,
-          rw (h.2, k.2, flat_map-append) refl,
+          rw (h.2, k.2, flat_map-append),
         );
         bounded = λ x y hint l e h. same_hint hint (0, None) l e tt;
       }
 
   -- where the future is pending, so is the source
-  pub unfolds_wait : (p q : F) (x next : Holding S V) → UnfoldStep call gives p x Pending q next
-      → Unfolds call gives after shown (p, x) (Pending ∷ []) (q, next)
-  unfolds_wait p q x next h =
-      ((Pending, []) ∷ [], ((q, next), inl (h.0, Pending ∷ [], h.2, inl (h.1, tt, h.3, h.4), refl), refl), refl)
+  module _ (p q : F) (x : Holding S V) where
+    pub unfolds_wait : (next : Holding S V) → UnfoldStep call gives p x Pending q next
+        → Unfolds call gives after shown (p, x) (Pending ∷ []) (q, next)
+    unfolds_wait next h =
+        ((Pending, []) ∷ [], ((q, next), inl (h.0, Pending ∷ [], h.2, inl (h.1, tt, h.3, h.4), refl), refl), refl)
 
-  -- where it gives its value, what is shown of that goes out
-  pub unfolds_value : (p q : F) (x y next : Holding S V) (o : O) → UnfoldStep call gives p x (Ready (Some o)) q y
-      → next ≡ comes (after o) → Unfolds call gives after shown (p, x) (Ready (shown o) ∷ []) (q, next)
-  unfolds_value p q x y next o h e =
-      ((Ready (shown o), []) ∷ [], ((q, next), inl (h.0, Ready o ∷ [], h.1, inr (o, h.2, e), refl), refl), refl)
+    -- where it gives its value, what is shown of that goes out
+    pub unfolds_value : (y next : Holding S V) (o : O) → UnfoldStep call gives p x (Ready (Some o)) q y
+        → next ≡ comes (after o) → Unfolds call gives after shown (p, x) (Ready (shown o) ∷ []) (q, next)
+    unfolds_value y next o h e =
+        ((Ready (shown o), []) ∷ [], ((q, next), inl (h.0, Ready o ∷ [], h.1, inr (o, h.2, e), refl), refl), refl)
 
-  -- and where there is none, it is over
-  pub unfolds_over : (p q : F) (x next : Holding S V) → UnfoldStep call gives p x (Ready None) q next
-      → Unfolds call gives after shown (p, x) (end ∷ []) (q, next)
-  unfolds_over p q x next h = ((end, []) ∷ [], ((q, next), inr (h.0, h.1, ((refl, tt), h.2)), refl), refl)
+    -- and where there is none, it is over
+    pub unfolds_over : (next : Holding S V) → UnfoldStep call gives p x (Ready None) q next
+        → Unfolds call gives after shown (p, x) (end ∷ []) (q, next)
+    unfolds_over next h = ((end, []) ∷ [], ((q, next), inr (h.0, h.1, ((refl, tt), h.2)), refl), refl)
 
   -- the answers that hand on what the future answers
   pub ruleset unfolds_rules = (unfolds_wait, unfolds_over)

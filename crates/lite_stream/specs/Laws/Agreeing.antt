@@ -1,5 +1,5 @@
 -- Laws of adapters of one source whose answers do not depend on when it was pending.
-use Rattle.std.proofs.Common.{◌≡◌, List, Option}
+use Rattle.std.proofs.Common.{List, Option}
 use Rattle.lite_base.specs.Alike.{AlikeBy, SameAnswer, Sameness}
 use Rattle.lite_base.specs.Answers.{Answer, ComparableBy, strip}
 use Rattle.lite_base.specs.Steady.{SteadyLawsBy}
@@ -31,29 +31,27 @@ module _ {M S F A B : Type 0} (p : AdapterParts M S F) {run ample : Runs (Answer
     {relates : F → List (Answer A) → List (Answer B) → F → Type 0} {alike : S → S → Type 0}
     {agree : F → F → Type 0} where
   -- an adapter whose answers are others where memory was found
-  pub through_steady_by : (like : Sameness A) (same : Sameness B)
-      {relates' : F → List (Answer A) → List (Answer B) → F → Type 0} {needs_none' : Type 0}
-      → SteadyLawsBy like run ample needs_none alike
-      → Following relates → AgreeingOver like same relates agree
-      → (needs_none' → needs_none
-      × ((f g : F) (i : List (Answer A)) (o : List (Answer B)) → relates' f i o g → relates f i o g))
-      → SteadyLawsBy same (Adapts p run relates') (Adapts p ample relates) needs_none'
-      (λ x y. alike (p.source x) (p.source y) × agree (p.held x) (p.held y))
-  through_steady_by like same s t agrees found =
-      record {
-        laws = through_runs p s.laws t;
-        steady = λ x y e. through_alike p x y (s.steady (p.source x) (p.source y) e.0) e.1 agrees;
-        found = λ n x y l h. record {
-          ins = h.ins;
-          came = s.found (found n).0 (p.source x) (p.source y) h.ins h.came;
-          related = (found n).1 (p.held x) (p.held y) h.ins l h.related;
-        };
-      }
+  module _ (like : Sameness A) (same : Sameness B) where
+    pub through_steady_by : {relates' : F → List (Answer A) → List (Answer B) → F → Type 0} {needs_none' : Type 0}
+        → SteadyLawsBy like run ample needs_none alike → Following relates → AgreeingOver like same relates agree
+        → (needs_none'
+        → needs_none × ((f g : F) (i : List (Answer A)) (o : List (Answer B)) → relates' f i o g → relates f i o g))
+        → SteadyLawsBy same (Adapts p run relates') (Adapts p ample relates) needs_none'
+        (λ x y. alike (p.source x) (p.source y) × agree (p.held x) (p.held y))
+    through_steady_by s t agrees found =
+        record {
+          laws = through_runs p s.laws t;
+          steady = λ x y e. through_alike p x y (s.steady (p.source x) (p.source y) e.0) e.1 agrees;
+          found = λ n x y l h. record {
+            ins = h.ins;
+            came = s.found (found n).0 (p.source x) (p.source y) h.ins h.came;
+            related = (found n).1 (p.held x) (p.held y) h.ins l h.related;
+          };
+        }
 
-  -- one that takes no memory itself
-  pub through_steady_over : (like : Sameness A) (same : Sameness B) → SteadyLawsBy like run ample needs_none alike
-      → Following relates
-      → AgreeingOver like same relates agree
-      → SteadyLawsBy same (Adapts p run relates) (Adapts p ample relates) needs_none
-      (λ x y. alike (p.source x) (p.source y) × agree (p.held x) (p.held y))
-  through_steady_over like same s t agrees = through_steady_by like same s t agrees (λ n. (n, λ f g i o h. h))
+    -- one that takes no memory itself
+    pub through_steady_over : SteadyLawsBy like run ample needs_none alike → Following relates
+        → AgreeingOver like same relates agree
+        → SteadyLawsBy same (Adapts p run relates) (Adapts p ample relates) needs_none
+        (λ x y. alike (p.source x) (p.source y) × agree (p.held x) (p.held y))
+    through_steady_over s t agrees = through_steady_by s t agrees (λ n. (n, λ f g i o h. h))

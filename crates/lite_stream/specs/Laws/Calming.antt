@@ -18,8 +18,7 @@ through_calm p c t =
     record {
       no_pending = λ x y l k h.
           let none = no_pending_none h.ins (c.no_pending (p.source x) (p.source y) h.ins k h.came) in
-          let fewer = t (p.held x) (p.held y) h.ins l h.related in
-          none_no_pending l (omega (arith, none, fewer));
+          none_no_pending l (omega (arith, none, t (p.held x) (p.held y) h.ins l h.related));
       calm_on = λ x y l k h. c.calm_on (p.source x) (p.source y) h.ins k h.came;
     }
 

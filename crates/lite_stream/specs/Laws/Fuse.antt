@@ -1,6 +1,5 @@
 -- Laws of `fuse`: it cuts the answers off once an end was met.
-use Rattle.std.proofs.Common.{◌≡◌, ◌∙◌, List, [], ◌∷◌, ◌++◌, Some, None, Bool, true, false, refl, inl, inr, ap, subst}
-use Rattle.std.proofs.Common.{sym}
+use Rattle.std.proofs.Common.{◌≡◌, ◌∙◌, List, [], ◌∷◌, ◌++◌, Some, None, Bool, true, false, refl, inl, inr, ap}
 use Rattle.futures.specs.declared.task.Poll.TheVariants.{Ready, Pending}
 use Rattle.lite_base.specs.Alike.{Sameness}
 use Rattle.lite_base.specs.Answers.{Answer, end, item, until_end}
@@ -24,7 +23,7 @@ abbrev pub ended_after : {A : Type 0} → Answer A → Bool → Bool
 ended_after b before = is_end b
 
 not_ended : false ≡ true → ⊥
-not_ended e = cc e
+not_ended e = cc
 
 pends : (A : Type 0) (f : Bool) → (is_over_after f → ⊥) → ended_after {A = A} Pending f ≡ f
 pends A true n = absurd (n refl)
@@ -47,16 +46,14 @@ module _ {A : Type 0} where
 
   met_end : (i o : List (Answer A)) (g : Bool) → (i ≡ []) × AllEnds o × (g ≡ true) → FusesOn false (end ∷ i) (end ∷ o) g
   met_end i o true h = ([], o, ap (λ l. end ∷ l) h.0, refl, refl, h.1)
-  met_end i o false h = absurd (cc h.2)
+  met_end i o false h = cc
 
   of_cut : (i o : List (Answer A)) (g : Bool) → Cuts is_over_after ended_after false i o g → FusesOn false i o g
-  of_cut i [] g c =
-      subst (λ l. FusesOn false l [] g) (sym c.0) (subst (λ h. FusesOn {A = A} false [] [] h) (sym c.1) (refl, refl))
+  of_cut i [] g c = rw c.0 (rw c.1 (refl, refl))
   of_cut i (b ∷ o) g (inl c) = absurd (not_ended c.0)
   of_cut i (Pending ∷ o) g (inr c) =
       rw c.2 (fuses_more Pending c.1 o g (λ l. refl) (of_cut c.1 o g c.3))
-  of_cut i (Ready None ∷ o) g (inr c) =
-      subst (λ l. FusesOn false l (end ∷ o) g) (sym c.2) (met_end c.1 o g (after_end c.1 o true g refl c.3))
+  of_cut i (Ready None ∷ o) g (inr c) = rw c.2 (met_end c.1 o g (after_end c.1 o true g refl c.3))
   of_cut i (Ready (Some x) ∷ o) g (inr c) =
       rw c.2 (fuses_more (item x) c.1 o g (λ l. refl) (of_cut c.1 o g c.3))
 
@@ -73,21 +70,20 @@ module _ {A : Type 0} where
   own_cut : (i own later : List (Answer A)) → i ≡ own ++ end ∷ [] → until_end own ≡ own → AllEnds later
       → Cuts is_over_after ended_after false i (own ++ end ∷ later) true
   own_cut i [] later e u a = inr (not_ended, [], e, ends_cut [] later true refl a refl)
-  own_cut i (Ready None ∷ own) later e u a = absurd (cc u)
+  own_cut i (Ready None ∷ own) later e u a = cc
   own_cut i (b ∷ own) later e u a =
       inr (not_ended, own ++ end ∷ [], e, own_cut (own ++ end ∷ []) own later refl (cc u) a)
 
   -- answers without an end
   all_cut : (i : List (Answer A)) → until_end i ≡ i → Cuts is_over_after ended_after false i i false
   all_cut [] u = (refl, refl)
-  all_cut (Ready None ∷ i) u = absurd (cc u)
+  all_cut (Ready None ∷ i) u = cc
   all_cut (a ∷ i) u = inr (not_ended, i, refl, all_cut i (cc u))
 
   to_cuts : (f g : Bool) (i o : List (Answer A)) → FusesOn f i o g → Cuts is_over_after ended_after f i o g
   to_cuts true g i o h = ends_cut i o g h.0 h.1 h.2
-  to_cuts false false i o h = subst (λ l. Cuts is_over_after ended_after false i l false) (sym h.0) (all_cut i h.1)
-  to_cuts false true i o h =
-      subst (λ l. Cuts is_over_after ended_after false i l true) (sym h.4) (own_cut i h.0 h.1 h.2 h.3 h.5)
+  to_cuts false false i o h = rw h.0 (all_cut i h.1)
+  to_cuts false true i o h = rw h.4 (own_cut i h.0 h.1 h.2 h.3 h.5)
 
   pub fuses_relating : Relating (FusesOn {A = A})
   fuses_relating = relating_by to_cuts of_cuts (cuts_relating is_over_after ended_after)

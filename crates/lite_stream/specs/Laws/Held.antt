@@ -22,19 +22,20 @@ module _ {V : Type 0} where
       at_most_below zs (held_rank {V = V} us None) (held_rank us (Some v)) h (held_below us us v (inl refl))
 
   -- what stands before is lower
-  pub held_first : (xs us : List ℕ) (g f : Option V) → Below xs us → Below (held_rank xs g) (held_rank us f)
-  held_first xs us g f h = Below-first xs us (count_held g ∷ []) (count_held f ∷ []) h refl
+  module _ (xs us : List ℕ) where
+    pub held_first : (g f : Option V) → Below xs us → Below (held_rank xs g) (held_rank us f)
+    held_first g f h = Below-first xs us (count_held g ∷ []) (count_held f ∷ []) h refl
 
-  pub held_level : (xs us : List ℕ) (v w : Option V) → AtMost xs us → count_held w ≡ count_held v
-      → AtMost (held_rank xs w) (held_rank us v)
-  held_level xs us v w h e = AtMost-both xs us (count_held w ∷ []) (count_held v ∷ []) h (inl (ap (λ k. k ∷ []) e))
+    pub held_level : (v w : Option V) → AtMost xs us → count_held w ≡ count_held v
+        → AtMost (held_rank xs w) (held_rank us v)
+    held_level v w h e = AtMost-both xs us (count_held w ∷ []) (count_held v ∷ []) h (inl (rw e))
 
   -- items came in, or nothing did and what was held is gone
   pub held_falls : {A : Type 0} (i : List (Answer A)) (xs us : List ℕ) (g f : Option V)
       → ((a : A) (before : List A) → i ≡ items (a ∷ before) → Below xs us) → (i ≡ [] → xs ≡ us)
       → (i ≡ [] → (g ≡ None) × (v : V) × (f ≡ Some v)) → AllByRecursion IsItem i
       → Below (held_rank xs g) (held_rank us f)
-  held_falls {A = A} i xs us g f falls same alone h = at_start (each_items i h)
+  held_falls {A} i xs us g f falls same alone h = at_start (each_items i h)
     where
       at_start : (l : List A) × (i ≡ items l) → Below (held_rank xs g) (held_rank us f)
       at_start ([], e) = let a = alone e in rw (a.0, a.2) (held_below xs us a.1 (inl (same e)))

@@ -1,6 +1,6 @@
 -- What is asked about each item where no closure's answer goes out.
 use Rattle.std.specs.Prelude.{⊤}
-use Rattle.std.proofs.Common.{◌≡◌, ◌∙◌, refl, sym}
+use Rattle.std.proofs.Common.{◌≡◌, ◌∙◌, sym}
 use denote.Ref.{Bor}
 use Rattle.lite_base.specs.Alike.{Pairwise, SameItem, Sameness}
 use Rattle.lite_base.specs.Laws.Alike.{made_same, pairs_same}
@@ -15,7 +15,7 @@ module _ {A : Type 0} where
   pub numbers_match : (like : Sameness A)
       → MatchesFrom (SameItem like) (SameItem (Pairwise Sameness.equal like)) Numbers (λ n m. m ≡ n)
   numbers_match like f k g l x w y z a e c d =
-      (rw (c.0, d.0) (pairs_same Sameness.equal like (f, x) (k, w) (sym a) e), rw (c.1, d.1, a) refl)
+      (rw (c.0, d.0) (pairs_same Sameness.equal like (f, x) (k, w) (sym a) e), rw (c.1, d.1, a))
 
   -- copies of what references that are the same refer to
   pub copies_match : (like : Sameness (Bor A))

@@ -38,21 +38,18 @@ module _ {F A V B : Type 0} (call : Question F A V)
     placed_same f k (x ∷ i) [] o p a c r q = rw q (comparable_nil (SameAnswer same) o)
     placed_same f k (None ∷ i) (None ∷ j) o p a c r q =
         rw (r.1, q.1) (ends_same same, placed_same f k i j r.0 q.0 a c.1 r.2 q.2)
-    placed_same f k (None ∷ i) (Some y ∷ j) o p a c r q = absurd c.0
-    placed_same f k (Some x ∷ i) (None ∷ j) o p a c r q = absurd c.0
     placed_same f k (Some x ∷ i) (Some y ∷ j) o p a c r q =
         let e = made f k r.1 q.1 x y r.0 q.0 a c.0 r.2 q.2 in
-        places r.0 q.0 (Placed r.1 i) (Placed q.1 j) o p e.0 r.3 q.3
-        (λ o' p' u v. placed_same r.1 q.1 i j o' p' e.1 c.1 u v)
+        places r.0 q.0 (Placed r.1 i) (Placed q.1 j) o p e.0 r.3 q.3 (λ o' p'. placed_same r.1 q.1 i j o' p' e.1 c.1)
+    placed_same f k (_ ∷ i) (_ ∷ j) o p a c r q = absurd c.0
 
     pub placed_from_same : (f k : F) (v w : Option V) (i j : List (Option A)) (o p : List (Option B)) → agree f k
         → OptionBy alike v w → ComparableBy (OptionBy like) i j → PlacedFrom f v i o → PlacedFrom k w j p
         → ComparableBy (SameAnswer same) o p
     placed_from_same f k None None i j o p a e c r q = placed_same f k i j o p a c r q
-    placed_from_same f k None (Some w) i j o p a e c r q = absurd e
-    placed_from_same f k (Some v) None i j o p a e c r q = absurd e
     placed_from_same f k (Some v) (Some w) i j o p a e c r q =
-        places v w (Placed f i) (Placed k j) o p e r q (λ o' p' u z. placed_same f k i j o' p' a c u z)
+        places v w (Placed f i) (Placed k j) o p e r q (λ o' p'. placed_same f k i j o' p' a c)
+    placed_from_same f k _ _ i j o p a h c r q = absurd h
 
   -- the answers of a family that stand in the places of items
   pub placed_agreeing : (like : Sameness A) (same : Sameness B) {alike : V → V → Type 0} {agree : F → F → Type 0}

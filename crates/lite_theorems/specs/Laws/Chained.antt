@@ -12,10 +12,9 @@ use Rattle.lite_base.specs.Runs.{Runs}
 
 goes_parts : (l m : List ReadMark) → BytesAlone (l ++ m) → BytesAlone l × BytesAlone m
 goes_parts [] m h = (tt, h)
-goes_parts (ReadMark.byte b ∷ l) m h = goes_parts l m h
-goes_parts (ReadMark.pending ∷ l) m h = goes_parts l m h
 goes_parts (ReadMark.fault kind ∷ l) m h = absurd h
 goes_parts (ReadMark.end ∷ l) m h = absurd h
+goes_parts (_ ∷ l) m h = goes_parts l m h
 
 -- a list that ends with an end has one
 ends_so : (l : List ReadMark) → EndlessMarks (l ++ ReadMark.end ∷ []) → ⊥
@@ -28,10 +27,7 @@ cut_at : (read before after : List ReadMark) → read ++ ReadMark.end ∷ [] ≡
 cut_at read [] after e h = (read, refl, sym e)
 cut_at [] (m ∷ before) after e h = absurd (h.0 (cc e))
 cut_at (r ∷ read) (m ∷ before) after e h =
-    let same : r ≡ m = cc e in
-    let more : read ++ ReadMark.end ∷ [] ≡ before ++ after = cc e in
-    let rest = cut_at read before after more h.1 in
-    (rest.0, cc (same, rest.1), rest.2)
+    let same : r ≡ m = cc e in let rest = cut_at read before after (cc e) h.1 in (rest.0, cc (same, rest.1), rest.2)
 
 module _ {R S : Type 0} (first : Runs ReadMark R) (second : Runs ReadMark S) (fl : MarkLaws first) where
   -- what TellsBoth says, by whether the first had ended

@@ -13,10 +13,10 @@ use Rattle.lite_theorems.specs.Interleaving.{items_given}
 use Rattle.lite_theorems.specs.Laws.Rows.{WithoutEnd}
 
 same_some : {C : Type 0} (c d : C) → ◌≡◌ {A = Option C} (Some c) (Some d) → c ≡ d
-same_some c d e = cc e
+same_some c d e = cc
 
 same_ok : {C E : Type 0} (c d : C) → ◌≡◌ {A = Result C E} (Ok c) (Ok d) → c ≡ d
-same_ok c d e = cc e
+same_ok c d e = cc
 
 -- there is a collection, and it holds these items
 abbrev pub Has : {C A : Type 0} → (C → List A → Type 0) → Option C → List A → Type 0
@@ -25,13 +25,13 @@ Has {C} holds o l = (c : C) × (o ≡ Some c) × holds c l
 -- a collection that is there, as a contract says it
 pub has : {C A : Type 0} (holds : C → List A → Type 0) (o : Option C) (l : List A) → IsSome o
     → IfSome o (λ c. holds c l) → Has holds o l
-has holds None l s h = absurd (cc s)
+has holds None l s h = cc
 has holds (Some c) l s h = (c, refl, h)
 
 -- the one that is there
 held_by : {C A : Type 0} (holds : C → List A → Type 0) (o : Option C) (l : List A) (c : C) → Has holds o l → o ≡ Some c
     → holds c l
-held_by holds o l c h e = subst (λ d. holds d l) (same_some h.0 c (sym h.1 ∙ e)) h.2
+held_by holds o l c h e = rw (← (same_some h.0 c (sym h.1 ∙ e))) h.2
 
 module _ {N C A : Type 0} (holds : C → List A → Type 0) (part : N → Option C) where
   abbrev CollectResult : Type 0
@@ -74,7 +74,7 @@ module _ {N C A : Type 0} (holds : C → List A → Type 0) (part : N → Option
   decided p q None r c d e before h =
       let held = subst (λ b. holds b before) (same_ok d.0 c (sym d.2 ∙ e)) (held_by holds (part p) before d.0 h d.1) in
       record { body = []; cut = refl; no_end = tt; held = subst (holds c) (sym (append-nil before)) held }
-  decided p q (Some x) r c d e before h = absurd (let a = d.5 in cc)
+  decided p q (Some x) r c d e before h = cc
 
   pub collected : (out : List (Poll (Result C (Refused C A)))) (p q : N) (ins : List (Answer A)) (before : List A)
       (c : C) → Has holds (part p) before
@@ -83,4 +83,4 @@ module _ {N C A : Type 0} (holds : C → List A → Type 0) (part : N → Option
       consumes_steps Gathering
       (λ p ins out. Gives out (Ok c) → (before : List A) → Has holds (part p) before → Whole ins before c)
       (λ p m x i b l t k g. one_taken p m x i c t (k g)) (λ p i l k g before h. one_waits i before c (k g before h)) q
-      (λ p o r d g. decided p q o r c d g.0) p ins out (λ g. absurd g) k g before h
+      (λ p o r d g. decided p q o r c d g.0) p ins out absurd k g before h

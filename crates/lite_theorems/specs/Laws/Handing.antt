@@ -1,5 +1,5 @@
 -- A reader over another, which hands on what that one reads: each byte as what is made of it, each other mark as it is.
-use Rattle.std.proofs.Common.{◌≡◌, ◌∙◌, ℕ, suc, ◌+◌, List, [], ◌∷◌, ◌++◌, length, map, refl, ap, sym, subst, arith}
+use Rattle.std.proofs.Common.{◌≡◌, ◌∙◌, ℕ, suc, List, [], ◌∷◌, ◌++◌, length, map, refl, ap, sym, subst, arith}
 use Rattle.std.proofs.lemmas.List.{map-append}
 use Rattle.lite_base.specs.Ranks.{Ranks, ranks_of}
 use Rattle.lite_base.specs.Runs.{Runs}
@@ -23,10 +23,9 @@ module _ {M R : Type 0} {part : M → R} {f : ℕ → ℕ} {reads : Runs ReadMar
 
 given_made : (f : ℕ → ℕ) (l : List ReadMark) → given (map (each_byte f) l) ≡ given l
 given_made f [] = refl
-given_made f (ReadMark.byte x ∷ l) = ap (λ n. n + 1) (given_made f l)
 given_made f (ReadMark.pending ∷ l) = given_made f l
-given_made f (ReadMark.fault kind ∷ l) = ap (λ n. n + 1) (given_made f l)
 given_made f (ReadMark.end ∷ l) = given_made f l
+given_made f (_ ∷ l) = rw (given_made f l)
 
 length_made : (f : ℕ → ℕ) (l : List ReadMark) → length (map (each_byte f) l) ≡ length l
 length_made f [] = refl
@@ -34,10 +33,9 @@ length_made f (m ∷ l) = ap suc (length_made f l)
 
 all_given : (f : ℕ → ℕ) (l : List ReadMark) → AllGiven (map (each_byte f) l) → AllGiven l
 all_given f [] h = tt
-all_given f (ReadMark.byte x ∷ l) h = (tt, all_given f l h.1)
 all_given f (ReadMark.pending ∷ l) h = absurd h.0
-all_given f (ReadMark.fault kind ∷ l) h = (tt, all_given f l h.1)
 all_given f (ReadMark.end ∷ l) h = absurd h.0
+all_given f (_ ∷ l) h = (tt, all_given f l h.1)
 
 module _ {M R : Type 0} {part : M → R} {f : ℕ → ℕ} {reads : Runs ReadMark R} {r : Ranks R} where
   -- the rank of the part
@@ -57,7 +55,7 @@ module _ {M R : Type 0} {part : M → R} {f : ℕ → ℕ} {reads : Runs ReadMar
 
 made_bytes : (f : ℕ → ℕ) (xs : List ℕ) → bytes (map f xs) ≡ map (each_byte f) (bytes xs)
 made_bytes f [] = refl
-made_bytes f (x ∷ xs) = ap (λ l. ReadMark.byte (f x) ∷ l) (made_bytes f xs)
+made_bytes f (x ∷ xs) = rw (made_bytes f xs)
 
 -- the marks of a read whose bytes were changed where they lie, whatever else stands in the room
 pub handed_moved : (f : ℕ → ℕ) (xs room other : List ℕ) → length other ≡ length room
@@ -65,5 +63,4 @@ pub handed_moved : (f : ℕ → ℕ) (xs room other : List ℕ) → length other
 handed_moved f (x ∷ xs) room other same = made_bytes f (x ∷ xs)
 handed_moved f [] [] [] same = refl
 handed_moved f [] (r ∷ room) (o ∷ other) same = refl
-handed_moved f [] [] (o ∷ other) same = absurd (omega (arith, same))
-handed_moved f [] (r ∷ room) [] same = absurd (omega (arith, same))
+handed_moved f [] _ _ same = absurd (omega (arith, same))

@@ -27,9 +27,10 @@ module _ {S U C A : Type 0} (run : Runs (Answer A) S) (run' : Runs (Answer A) U)
   pub or_collected : (x : Consume (Or S U) (Collect C)) (before : List A) → Has holds x.folder.collection before
       → AtEachOk OrCollects x (OrHolds holds run run' before x)
   or_collected x before is out y c h g =
-      let w = collected holds (λ (f : Collect C). f.collection) out x.folder y.folder h.ins before c is h.consumed g in
+      let w =
+      collected holds (λ (f : Collect C). f.collection) out x.folder y.folder h.ins before c is h.consumed g in
       let came = subst (λ l. Ors run run' x.stream l y.stream) w.cut h.came in
-      let order = map (λ _. true) (w.body ++ end ∷ []) in
-      let whole = merged_whole run run' stays stays' order x.stream.stream1 x.stream.stream2 w.body y.stream.stream1
-      y.stream.stream2 w.no_end came in
+      let whole =
+      merged_whole run run' stays stays' (map (λ _. true) (w.body ++ end ∷ [])) x.stream.stream1 x.stream.stream2
+      w.body y.stream.stream1 y.stream.stream2 w.no_end came in
       (whole.0, whole.1, items_given w.body, whole.2, whole.3, whole.4, w.held)

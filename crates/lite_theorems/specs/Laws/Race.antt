@@ -2,7 +2,7 @@
 -- were.
 use Rattle.lite_base.specs.Future.AtEachOk.{AtEachOk}
 use Rattle.std.specs.Prelude.{⊤}
-use Rattle.std.proofs.Common.{◌≡◌, List, [], ◌∷◌, ◌++◌, Result, map, subst}
+use Rattle.std.proofs.Common.{◌≡◌, List, [], ◌∷◌, ◌++◌, Result, map}
 use Rattle.rand_core.specs.Stream.{Stream}
 use Rattle.futures.specs.declared.task.Poll.{Poll}
 use Rattle.lite_base.specs.Answers.{Answer, end}
@@ -36,10 +36,10 @@ module _ {S U R C A : Type 0} (run : Runs (Answer A) S) (run' : Runs (Answer A) 
   pub race_collected : (x : Consume (Race S U R) (Collect C)) (before : List A) → Has holds x.folder.collection before
       → AtEachOk RaceCollects x (RaceHolds holds run run' before x)
   race_collected x before is out y c h g =
-      let w = collected holds (λ (f : Collect C). f.collection) out x.folder y.folder h.ins before c is h.consumed g in
-      let came = raced x.stream y.stream w.body
-      (subst (λ l. RacesOn run run' stream x.stream l y.stream) w.cut h.came) in
-      let order = map is_first came.words in
-      let whole = merged_whole run run' stays stays' order x.stream.stream1 x.stream.stream2 w.body y.stream.stream1
-      y.stream.stream2 w.no_end came.merges in
+      let w =
+      collected holds (λ (f : Collect C). f.collection) out x.folder y.folder h.ins before c is h.consumed g in
+      let came = raced x.stream y.stream w.body (rw (← w.cut) h.came) in
+      let whole =
+      merged_whole run run' stays stays' (map is_first came.words) x.stream.stream1 x.stream.stream2 w.body
+      y.stream.stream1 y.stream.stream2 w.no_end came.merges in
       (whole.0, whole.1, items_given w.body, whole.2, whole.3, whole.4, w.held)

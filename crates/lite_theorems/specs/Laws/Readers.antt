@@ -37,10 +37,9 @@ module _ {S : Type 0} {step : S → ReadMark → S → Type 0} {number : S → �
       falls_more (given l) (number y) (number h.0) n (falls_from low h.0 y (number h.0) l (omega arith) h.2)
       (omega (arith, low.by_byte x h.0 b h.1, least))
   falls_from low x y n (ReadMark.fault kind ∷ l) least h =
-      let less = low.by_fault x h.0 kind h.1 in
       falls_more (given l) (number y) (number h.0) n (falls_from low h.0 y (number h.0) l (omega arith) h.2)
-      (omega (arith, less, least))
+      (omega (arith, low.by_fault x h.0 kind h.1, least))
 
   -- the rank is the number
   pub reader_counting : MarksLower step number → ReadCounting (Steps step) (number_ranks number)
-  reader_counting low = number_counting (λ x y l h. falls_from low x y (number x) l (omega arith) h)
+  reader_counting low = number_counting (λ x y l. falls_from low x y (number x) l (omega arith))

@@ -47,9 +47,8 @@ module _ {A : Type 0} where
 
   ends_for_ever : (l : List (Answer A)) → AllEnds l → EndsForEver l × (items_given l ≡ [])
   ends_for_ever [] a = (tt, refl)
-  ends_for_ever (Pending ∷ l) a = absurd (let d = a.0 in cc)
   ends_for_ever (Ready None ∷ l) a = (a.1, refl)
-  ends_for_ever (Ready (Some x) ∷ l) a = absurd (let d = a.0 in cc)
+  ends_for_ever (_ ∷ l) a = cc
 
   -- the first has ended
   row_second : (i j : List (Answer A)) (b : Answer A) → AllEnds i → EndsForEver (b ∷ j) → ReadOn b (end ∷ i) (b ∷ j) i j
@@ -94,7 +93,6 @@ module _ {A : Type 0} where
 
   row_on : (i j : List (Answer A)) (c : Answer A) (i' j' : List (Answer A)) → MergeRow i j c i' j' → EndsForEver i
       → EndsForEver j → ReadOn c i j i' j'
-  row_on [] j c i' j' r p q = absurd r
   row_on (Ready (Some x) ∷ i) j c i' j' r p q =
       rw (r.0, r.1, r.2) (record {
         first_on = p;
@@ -103,37 +101,31 @@ module _ {A : Type 0} where
         first_end = λ h. h;
         second_end = λ h. h;
       })
-  row_on (Ready None ∷ i) [] c i' j' r p q = absurd r
   row_on (Ready None ∷ i) (b ∷ j) c i' j' r p q = rw (r.0, r.1, r.2) (row_second i j b p q)
-  row_on (Pending ∷ i) [] c i' j' r p q = absurd r
   row_on (Pending ∷ i) (b ∷ j) c i' j' r p q = rw (r.0, r.1, r.2) (row_beside i j b p q)
+  row_on _ _ c i' j' h p q = absurd h
 
   -- an end goes out where both gave one
   row_end : (i j i' j' : List (Answer A)) → MergeRow i j end i' j' → HasEnd i × HasEnd j
-  row_end [] j i' j' r = absurd r
-  row_end (Ready (Some x) ∷ i) j i' j' r = absurd (cc r.0)
-  row_end (Ready None ∷ i) [] i' j' r = absurd r
-  row_end (Ready None ∷ i) (Pending ∷ j) i' j' r = absurd (cc r.0)
+  row_end (Ready (Some x) ∷ i) j i' j' r = cc
+  row_end (Ready None ∷ i) (Pending ∷ j) i' j' r = cc
   row_end (Ready None ∷ i) (Ready None ∷ j) i' j' r = (tt, tt)
-  row_end (Ready None ∷ i) (Ready (Some y) ∷ j) i' j' r = absurd (cc r.0)
-  row_end (Pending ∷ i) [] i' j' r = absurd r
-  row_end (Pending ∷ i) (Pending ∷ j) i' j' r = absurd (cc r.0)
-  row_end (Pending ∷ i) (Ready None ∷ j) i' j' r = absurd (cc r.0)
-  row_end (Pending ∷ i) (Ready (Some y) ∷ j) i' j' r = absurd (cc r.0)
+  row_end (Ready None ∷ i) (Ready (Some y) ∷ j) i' j' r = cc
+  row_end (Pending ∷ i) (Pending ∷ j) i' j' r = cc
+  row_end (Pending ∷ i) (Ready None ∷ j) i' j' r = cc
+  row_end (Pending ∷ i) (Ready (Some y) ∷ j) i' j' r = cc
+  row_end _ _ i' j' h = absurd h
 
   taken_swapped : (c : Answer A) (l m l' m' : List A) → Taken c m l m' l' → Taken c l m l' m'
-  taken_swapped Pending l m l' m' t = (t.1, t.0)
-  taken_swapped (Ready None) l m l' m' t = (t.1, t.0)
   taken_swapped (Ready (Some x)) l m l' m' (inl (e, f)) = inr (f, e)
   taken_swapped (Ready (Some x)) l m l' m' (inr (e, f)) = inl (f, e)
+  taken_swapped _ l m l' m' t = (t.1, t.0)
 
   -- what went out stands before an interleaving of what is left
   interleaves_on : (c : Answer A) (l m l' m' : List A) (body : List (Answer A)) → WithoutEnd (c ∷ body)
       → Taken c l m l' m'
       → Interleaves l' m' (items_given body) → Interleaves l m (items_given (c ∷ body))
-  interleaves_on Pending l m l' m' body n t h =
-      subst (λ k. Interleaves k m (items_given body)) (sym t.0)
-      (subst (λ k. Interleaves l' k (items_given body)) (sym t.1) h)
+  interleaves_on Pending l m l' m' body n t h = rw t.0 (rw t.1 h)
   interleaves_on (Ready None) l m l' m' body n t h = absurd n
   interleaves_on (Ready (Some x)) l m l' m' body n (inl (e, f)) h =
       inl (l', e, subst (λ k. Interleaves l' k (items_given body)) (sym f) h)
@@ -141,9 +133,8 @@ module _ {A : Type 0} where
       inr (m', f, subst (λ k. Interleaves k m' (items_given body)) (sym e) h)
 
   no_end_on : (c : Answer A) (body : List (Answer A)) → WithoutEnd (c ∷ body) → WithoutEnd body
-  no_end_on Pending body n = n
   no_end_on (Ready None) body n = absurd n
-  no_end_on (Ready (Some x)) body n = n
+  no_end_on _ body n = n
 
   -- of rows whose one end stands last
   record Merged (i j body : List (Answer A)) : Type 0 where
@@ -153,15 +144,16 @@ module _ {A : Type 0} where
 
   rows_merged : (o : List Bool) (i j body : List (Answer A)) → MergeRows o i j (body ++ end ∷ []) → WithoutEnd body
       → EndsForEver i → EndsForEver j → Merged i j body
-  rows_merged [] i j [] r n p q = absurd (cc r.2)
-  rows_merged [] i j (b ∷ body) r n p q = absurd (cc r.2)
+  rows_merged [] i j [] r n p q = cc
+  rows_merged [] i j (b ∷ body) r n p q = cc
   rows_merged (true ∷ o) i j [] r n p q =
       let ends = row_end i j r.0 r.1 r.2 in
       record { first_end = ends.0; second_end = ends.1; interleaved = (row_on i j end r.0 r.1 r.2 p q).taken }
   rows_merged (false ∷ o) i j [] r n p q =
       let ends = row_end j i r.1 r.0 r.2 in
-      let read = row_on j i end r.1 r.0 r.2 q p in
-      let taken = taken_swapped end (items_given i) (items_given j) (items_given r.0) (items_given r.1) read.taken in
+      let taken =
+      taken_swapped end (items_given i) (items_given j) (items_given r.0) (items_given r.1)
+      (row_on j i end r.1 r.0 r.2 q p).taken in
       record { first_end = ends.1; second_end = ends.0; interleaved = taken }
   rows_merged (true ∷ o) i j (b ∷ body) r n p q =
       let read = row_on i j b r.0 r.1 r.2 p q in
@@ -184,16 +176,15 @@ module _ {A : Type 0} where
   -- before a first end
   open_list : (l : List (Answer A)) → until_end l ≡ l → EndsForEver l × (HasEnd l → ⊥)
   open_list [] u = (tt, λ h. h)
-  open_list (Pending ∷ l) u = open_list l (cc u)
-  open_list (Ready None ∷ l) u = absurd (cc u)
-  open_list (Ready (Some x) ∷ l) u = open_list l (cc u)
+  open_list (Ready None ∷ l) u = cc
+  open_list (_ ∷ l) u = open_list l (cc u)
 
   -- through a first end, and ends after it
   ended_list : (own later : List (Answer A)) → until_end own ≡ own → AllEnds later
       → EndsForEver (own ++ end ∷ later) × (strip own ≡ map Some (items_given (own ++ end ∷ later)))
   ended_list [] later u a = (a, refl)
   ended_list (Pending ∷ own) later u a = ended_list own later (cc u) a
-  ended_list (Ready None ∷ own) later u a = absurd (cc u)
+  ended_list (Ready None ∷ own) later u a = cc
   ended_list (Ready (Some x) ∷ own) later u a = let e = ended_list own later (cc u) a in (e.0, ap (λ k. Some x ∷ k) e.1)
 
   -- the items, and then an end
@@ -204,19 +195,17 @@ module _ {A : Type 0} where
   fused_list : (i l : List (Answer A)) (g : Bool) → FusesOn false i l g → EndsForEver l
       × (HasEnd l → GaveWhole i (items_given l))
   fused_list i l false h =
-      let u = open_list i h.1 in
-      (subst (λ k. EndsForEver k) (sym h.0) u.0, λ e. absurd (u.1 (subst (λ k. HasEnd k) h.0 e)))
+      let u = open_list i h.1 in (subst EndsForEver (sym h.0) u.0, λ e. absurd (u.1 (subst HasEnd h.0 e)))
   fused_list i l true h =
       let e = ended_list h.0 h.1 h.3 h.5 in
-      (subst (λ k. EndsForEver k) (sym h.4) e.0, λ d. (h.0, h.2, e.1 ∙ ap (λ k. map Some (items_given k)) (sym h.4)))
+      (subst EndsForEver (sym h.4) e.0, λ d. (h.0, h.2, e.1 ∙ ap (λ k. map Some (items_given k)) (sym h.4)))
 
 -- a list of a fused stream ends for ever, and where it ends, its items are all that the stream had
 fused_rest : {S A : Type 0} (run : Runs (Answer A) S) → ((x y : S) → run x [] y → y ≡ x)
     → (g : Bool) (s t : S) (i l : List (Answer A))
     → (d : Bool) → run s i t → FusesOn g i l d → EndsForEver l × (HasEnd l → EndsWith run g s (items_given l) t)
 fused_rest run stays true s t i l d came h =
-    let e = ends_for_ever l h.1 in
-    (e.0, λ _. (e.1, stays s t (subst (λ j. run s j t) h.0 came)))
+    let e = ends_for_ever l h.1 in (e.0, λ _. (e.1, stays s t (rw (← h.0) came)))
 fused_rest run stays false s t i l d came h =
     let f = fused_list i l d h in
     (f.0, λ e. let g = f.1 e in (g.0, subst (λ j. run s j t) g.1 came, g.2))

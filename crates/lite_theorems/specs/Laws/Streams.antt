@@ -1,6 +1,6 @@
 -- A stream by steps: each poll is a step, in the run `FoldsTo step`.
 use Rattle.std.specs.List.{FoldsTo}
-use Rattle.std.proofs.Common.{◌≤◌, ℕ, inl, inr, List, [], ◌∷◌, Some, None, ap, arith, refl, subst, sym}
+use Rattle.std.proofs.Common.{◌≤◌, ℕ, inl, inr, List, [], ◌∷◌, Some, None, ap, arith, refl, sym}
 use Rattle.std.proofs.Math.Nat.{eq-or-lt_of_le}
 use Rattle.futures.specs.declared.task.Poll.TheVariants.{Ready, Pending}
 use Rattle.lite_base.specs.Answers.{Answer, before_end}
@@ -29,7 +29,7 @@ at_most_one m n h = elim (eq-or-lt_of_le h) [ inl e ↦ inl (ap (λ k. k ∷ [])
 module _ {S A : Type 0} {step : S → Answer A → S → Type 0} {number : S → ℕ} where
   lowers_from : ItemsLower step number → (x y : S) (n : ℕ) (l : List (Answer A)) → number x ≤ n → FoldsTo step x l y
       → Lowers l (number y ∷ []) (n ∷ [])
-  lowers_from low x y n [] least h = at_most_one (number y) n (subst (λ k. number k ≤ n) h least)
+  lowers_from low x y n [] least h = at_most_one (number y) n (rw (← h) least)
   lowers_from low x y n (Pending ∷ l) least h =
       lowers_from low h.0 y n l (omega (arith, low.by_pending x h.0 h.1, least)) h.2
   lowers_from low x y n (Ready None ∷ l) least h =
@@ -40,13 +40,12 @@ module _ {S A : Type 0} {step : S → Answer A → S → Type 0} {number : S →
 
   -- the rank is the number
   pub stream_counting : ItemsLower step number → Counting (FoldsTo step) (number_ranks number)
-  stream_counting low = number_counting (λ x y l h. lowers_from low x y (number x) l (omega arith) h)
+  stream_counting low = number_counting (λ x y l. lowers_from low x y (number x) l (omega arith))
 
   fewer_left : ItemsLower step number → (x y : S) (l : List (Answer A)) → FoldsTo step x l y → before_end l ≤ number x
-  fewer_left low x y [] h = omega arith
   fewer_left low x y (Pending ∷ l) h = omega (arith, low.by_pending x h.0 h.1, fewer_left low h.0 y l h.2)
-  fewer_left low x y (Ready None ∷ l) h = omega arith
   fewer_left low x y (Ready (Some a) ∷ l) h = omega (arith, low.by_item x h.0 a h.1, fewer_left low h.0 y l h.2)
+  fewer_left low x y _ h = omega arith
 
   -- the number as the hint
   pub stream_hinting : ItemsLower step number → StreamLaws (FoldsTo step) (HintsAt number)

@@ -1,6 +1,6 @@
 -- Laws of what stands first in a list.
 use Rattle.std.proofs.lemmas.List.{map-append}
-use Rattle.std.proofs.Common.{◌≡◌, ◌≤◌, ℕ, zero, suc, List, [], ◌∷◌, ◌++◌, ◌∙◌, length, map, take, refl, ap, arith}
+use Rattle.std.proofs.Common.{◌≤◌, ℕ, zero, suc, List, [], ◌∷◌, ◌∙◌, length, map, take, refl, ap, arith}
 use Rattle.std.specs.Prelude.{Bool}
 use Rattle.std.specs.List.{filter}
 use Rattle.std.proofs.lemmas.List.Elements.{filter-append}
@@ -17,8 +17,7 @@ front_filter test xs ys h = (filter test h.0, ap (filter test) h.1 ∙ filter-ap
 pub front_take : {A : Type 0} (n : ℕ) (xs ys : List A) → length xs ≤ n → Front xs ys → Front xs (take n ys)
 front_take n [] ys short h = (take n ys, refl)
 front_take zero (x ∷ xs) ys short h = absurd (omega (arith, short))
-front_take (suc n) (x ∷ xs) [] short h = absurd (cc (h.1))
+front_take (suc n) (x ∷ xs) [] short h = cc
 front_take (suc n) (x ∷ xs) (y ∷ ys) short h =
-    let behind : ys ≡ xs ++ h.0 = cc (h.1) in
-    let rest = front_take n xs ys (omega (arith, short)) (h.0, behind) in
+    let rest = front_take n xs ys (omega (arith, short)) (h.0, cc (h.1)) in
     (rest.0, let e = h.1 in let k = rest.1 in cc)

@@ -1,5 +1,5 @@
 -- Which items come out: each adapter of a function of its own has a plain function of lists.
-use Rattle.std.proofs.Common.{◌≡◌, ◌≤◌, ℕ, suc, ◌-◌, List, [], ◌∷◌, ◌++◌, length, map, take, refl, ap, inl}
+use Rattle.std.proofs.Common.{◌≡◌, ◌≤◌, ℕ, suc, ◌-◌, List, [], ◌∷◌, length, map, take, refl, ap, inl}
 use Rattle.std.proofs.Common.{inr, arith}
 use Rattle.std.specs.List.{filter}
 use Rattle.std.specs.Prelude.{Bool, true, false, Option, Some, None, Result, Ok, Err, IfOk}
@@ -15,38 +15,24 @@ use Rattle.lite_reshape.specs.Leaving.{LeavesOut}
 use Rattle.lite_views.specs.Fronts.{Front}
 use Rattle.lite_views.specs.Laws.Fronts.{front_filter, front_map, front_take}
 
-pub items_join : {A : Type 0} (l m : List (Answer A)) → items_in (l ++ m) ≡ items_in l ++ items_in m
-items_join [] m = refl
-items_join (Pending ∷ l) m = items_join l m
-items_join (Ready None ∷ l) m = items_join l m
-items_join (Ready (Some x) ∷ l) m = ap (λ k. x ∷ k) (items_join l m)
-
-pub items_of : {A : Type 0} (xs : List A) → items_in (items xs) ≡ xs
-items_of [] = refl
-items_of (x ∷ xs) = ap (λ k. x ∷ k) (items_of xs)
-
 -- map: as many answers, the items by the function
 module _ {F A B : Type 0} (call : Question F A B) where
   pub replaced_length : (p q : F) (i : List (Answer A)) (o : List (Answer B)) → Replaces call p i o q
       → length i ≡ length o
   replaced_length p q [] [] h = refl
-  replaced_length p q [] (b ∷ o) h = absurd h
-  replaced_length p q (a ∷ i) [] h = absurd h
-  replaced_length p q (Pending ∷ i) (b ∷ o) h = ap suc (replaced_length p q i o h.1)
-  replaced_length p q (Ready None ∷ i) (b ∷ o) h = ap suc (replaced_length p q i o h.1)
   replaced_length p q (Ready (Some x) ∷ i) (b ∷ o) h = ap suc (replaced_length h.1 q i o h.4)
+  replaced_length p q (_ ∷ i) (b ∷ o) h = ap suc (replaced_length p q i o h.1)
+  replaced_length p q _ _ h = absurd h
 
   module _ (f : A → B) (answers : (p q : F) (x : A) (y : B) → call p x y q → y ≡ f x) where
     pub replaced_in : (p q : F) (i : List (Answer A)) (o : List (Answer B)) → Replaces call p i o q
         → items_in o ≡ map f (items_in i)
     replaced_in p q [] [] h = refl
-    replaced_in p q [] (b ∷ o) h = absurd h
-    replaced_in p q (a ∷ i) [] h = absurd h
-    replaced_in p q (Pending ∷ i) (b ∷ o) h = rw h.0 (replaced_in p q i o h.1)
-    replaced_in p q (Ready None ∷ i) (b ∷ o) h = rw h.0 (replaced_in p q i o h.1)
     replaced_in p q (Ready (Some x) ∷ i) (b ∷ o) (None, r, same, called, more) = absurd called
     replaced_in p q (Ready (Some x) ∷ i) (b ∷ o) (Some y, r, same, called, more) =
-        rw (same, answers p r x y called) (ap (λ k. f x ∷ k) (replaced_in r q i o more))
+        rw (same, answers p r x y called) (rw (replaced_in r q i o more))
+    replaced_in p q (_ ∷ i) (b ∷ o) h = rw h.0 (replaced_in p q i o h.1)
+    replaced_in p q _ _ h = absurd h
 
     pub replaced_front : (p q : F) (xs : List A) (i : List (Answer A)) (o : List (Answer B))
         → Front (items_in i) xs → Replaces call p i o q → Front (items_in o) (map f xs)
@@ -57,11 +43,10 @@ module _ {F A B : Type 0} (call : Question F A B) where
     pub replaced_items : (p q : F) (xs : List A) (o : List (Answer B)) → Replaces call p (items xs) o q
         → o ≡ items (map f xs)
     replaced_items p q [] [] h = refl
-    replaced_items p q [] (b ∷ o) h = absurd h
-    replaced_items p q (x ∷ xs) [] h = absurd h
     replaced_items p q (x ∷ xs) (b ∷ o) (None, r, same, called, more) = absurd called
     replaced_items p q (x ∷ xs) (b ∷ o) (Some y, r, same, called, more) =
-        rw (same, answers p r x y called) (ap (λ l. item (f x) ∷ l) (replaced_items r q xs o more))
+        rw (same, answers p r x y called) (rw (replaced_items r q xs o more))
+    replaced_items p q _ _ h = absurd h
 
 -- filter: the items that the test accepts
 module _ {F A : Type 0} (call : Question F A (Option A)) (test : A → Bool)
@@ -69,29 +54,27 @@ module _ {F A : Type 0} (call : Question F A (Option A)) (test : A → Bool)
     (rejects : (p q : F) (x : A) → call p x None q → test x ≡ false) where
   one_kept : (p m : F) (x : A) (i : List (Answer A)) (y : A) (o : List (Answer A)) → call p x (Some y) m
       → items_in o ≡ filter test (items_in i) → y ∷ items_in o ≡ filter test (x ∷ items_in i)
-  one_kept p m x i y o t k =
-      let passed = keeps p m x y t in rw (passed.1, passed.0) (ap (λ l. x ∷ l) k)
+  one_kept p m x i y o t k = let passed = keeps p m x y t in rw (passed.1, passed.0) (rw k)
 
-  pub left_in : (p q : F) (i : List (Answer A)) (o : List (Answer A)) → LeavesOut call p i o q
-      → items_in o ≡ filter test (items_in i)
-  left_in p q i o =
-      leaves_steps call (λ p i o. items_in o ≡ filter test (items_in i))
-      (λ p m x i b o t k. rw (rejects p m x t) k) (λ p i o k. k) (λ p i o k. k) one_kept p q i o refl
+  module _ (p q : F) where
+    pub left_in : (i o : List (Answer A)) → LeavesOut call p i o q → items_in o ≡ filter test (items_in i)
+    left_in i o =
+        leaves_steps call (λ p i o. items_in o ≡ filter test (items_in i))
+        (λ p m x i b o t k. rw (rejects p m x t) k) (λ p i o k. k) (λ p i o k. k) one_kept p q i o refl
 
-  pub left_front : (p q : F) (xs : List A) (i o : List (Answer A)) → Front (items_in i) xs → LeavesOut call p i o q
-      → Front (items_in o) (filter test xs)
-  left_front p q xs i o came h =
-      rw (left_in p q i o h) (front_filter test (items_in i) xs came)
+    pub left_front : (xs : List A) (i o : List (Answer A)) → Front (items_in i) xs → LeavesOut call p i o q
+        → Front (items_in o) (filter test xs)
+    left_front xs i o came h = rw (left_in i o h) (front_filter test (items_in i) xs came)
 
 -- take: the items that came in, which are as many as were left to be taken at most
-pub cut_in : {F A : Type 0} (is_over : F → Type 0) (after : Answer A → F → F) (f g : F) (i o : List (Answer A))
-    → Cuts is_over after f i o g → items_in o ≡ items_in i
-cut_in is_over after f g i [] h = rw h.0 refl
-cut_in is_over after f g i (b ∷ o) (inl h) = rw h.1 (cut_in is_over after f g i o h.2)
-cut_in is_over after f g i (Pending ∷ o) (inr h) = rw h.2 (cut_in is_over after (after Pending f) g h.1 o h.3)
-cut_in is_over after f g i (Ready None ∷ o) (inr h) = rw h.2 (cut_in is_over after (after end f) g h.1 o h.3)
-cut_in is_over after f g i (Ready (Some x) ∷ o) (inr h) =
-    rw h.2 (ap (λ k. x ∷ k) (cut_in is_over after (after (item x) f) g h.1 o h.3))
+module _ {F A : Type 0} (is_over : F → Type 0) (after : Answer A → F → F) where
+  pub cut_in : (f g : F) (i o : List (Answer A)) → Cuts is_over after f i o g → items_in o ≡ items_in i
+  cut_in f g i [] h = cc
+  cut_in f g i (b ∷ o) (inl h) = rw h.1 (cut_in f g i o h.2)
+  cut_in f g i (Pending ∷ o) (inr h) = rw h.2 (cut_in (after Pending f) g h.1 o h.3)
+  cut_in f g i (Ready None ∷ o) (inr h) = rw h.2 (cut_in (after end f) g h.1 o h.3)
+  cut_in f g i (Ready (Some x) ∷ o) (inr h) =
+      rw h.2 (rw (cut_in (after (item x) f) g h.1 o h.3))
 
 pub taken_length : {A : Type 0} (n m : ℕ) (i o : List (Answer A)) → Cuts is_none_left left_after n i o m
     → length (items_in o) ≤ n

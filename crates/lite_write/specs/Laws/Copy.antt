@@ -1,7 +1,7 @@
 -- Laws of `copy`.
 use Rattle.std.proofs.Common.{◌≡◌, ◌∙◌, ◌<◌, ◌+◌, ◌%◌, ◌^◌, ℕ, List, [], ◌∷◌, ◌++◌, length, Result, Ok, refl, ap, sym}
 use Rattle.std.proofs.Common.{arith, append-nil, append_assoc, length-append}
-use Rattle.std.proofs.Math.Nat.{mod-add-mod, mod-eq_of_lt}
+use Rattle.std.proofs.Math.Nat.{mod-add-mod}
 use Rattle.std.proofs.lemmas.Grind.{flat_map-append}
 use Rattle.std.proofs.lemmas.List.Elements.{filter-append}
 use Rattle.std.specs.List.{filter}
@@ -31,14 +31,14 @@ abbrev CopyResult : Type 0
 CopyResult = Result ℕ Error
 
 pub told_both : (l m : List ReadMark) → bytes_told (l ++ m) ≡ bytes_told l ++ bytes_told m
-told_both l m = flat_map-append byte_in l m
+told_both = flat_map-append byte_in
 
 told_waits : (l m : List ReadMark) → waits_told (l ++ m) ≡ waits_told l + waits_told m
 told_waits l m =
     ap length (filter-append is_told_wait l m) ∙ length-append (filter is_told_wait l) (filter is_told_wait m)
 
 pub taken_both : (l m : List WriteMark) → bytes_taken (l ++ m) ≡ bytes_taken l ++ bytes_taken m
-taken_both l m = flat_map-append bytes_in l m
+taken_both = flat_map-append bytes_in
 
 taken_waits : (l m : List WriteMark) → waits_taken (l ++ m) ≡ waits_taken l + waits_taken m
 taken_waits l m =
@@ -136,30 +136,27 @@ module _ (p q r : List ℕ) (a b c : List ReadMark) (i j : List ReadMark) (s t :
       }
 
 pub counted_none : (n : ℕ) → n < 2 ^ 64 → n ≡ (n + 0) % 2 ^ 64
-counted_none n fits = let whole : n ≡ n + 0 = omega arith in sym (mod-eq_of_lt fits) ∙ ap (λ v. v % 2 ^ 64) whole
+counted_none n fits = omega arith
 
 counted_both : (x y z : ℕ) (s t : List WriteMark) → y ≡ (x + length (bytes_taken s)) % 2 ^ 64
     → z ≡ (y + length (bytes_taken t)) % 2 ^ 64
     → z ≡ (x + length (bytes_taken (s ++ t))) % 2 ^ 64
 counted_both x y z s t h k =
-    let all : x + length (bytes_taken s) + length (bytes_taken t) ≡ x + length (bytes_taken (s ++ t)) =
-    omega (arith, ap length (taken_both s t), length-append (bytes_taken s) (bytes_taken t)) in
-    k ∙ ap (λ v. (v + length (bytes_taken t)) % 2 ^ 64) h
-    ∙ mod-add-mod (x + length (bytes_taken s)) (2 ^ 64) (length (bytes_taken t)) ∙ ap (λ v. v % 2 ^ 64) all
+    k ∙ ap (λ v. (v + length (bytes_taken t)) % 2 ^ 64) h ∙ mod-add-mod (x + length (bytes_taken s)) (2 ^ 64)
+    (length (bytes_taken t)) ∙ ap (λ v. v % 2 ^ 64)
+    (omega (arith, ap length (taken_both s t), length-append (bytes_taken s) (bytes_taken t)))
 
 module _ {R W : Type 0} where
   module _ {reads : Runs ReadMark R} {writes : Runs WriteMark W} (rl : MarkLaws reads) (wl : MarkLaws writes) where
     pub moves_none : (x : CopyFuture R W) → Moves reads writes x [] x
     moves_none x =
-        let same = counted_none x.amount x.counted in
-        let none = copied_none (held_of x) (met_in x.phase) x.amount in
         record {
           told = [];
           took = [];
           came = rl.rests (source_of x);
           went = wl.rests x.writer;
-          copied = none;
-          counted = same;
+          copied = (copied_none (held_of x) (met_in x.phase) x.amount);
+          counted = (counted_none x.amount x.counted);
         }
 
     pub moves_both : (x y z : CopyFuture R W) (l m : List (Poll CopyResult)) → Waiting l → Moves reads writes x l y
@@ -193,9 +190,10 @@ module _ {R W : Type 0} where
         → Moves reads writes y (a ∷ []) z
         → CopyRuns reads writes x (a ∷ []) z
     copy_answer x y z a goes last =
-        let all = Reaches-back (λ v. Moves reads writes v (a ∷ []) z)
-        (λ v w t h. moves_both v w z [] (a ∷ []) tt t.moves h) x y goes last in
-        record { moves = all; idle = λ e. absurd (cc e) }
+        let all =
+        Reaches-back (λ v. Moves reads writes v (a ∷ []) z) (λ v w t. moves_both v w z [] (a ∷ []) tt t.moves) x y
+        goes last in
+        record { moves = all; idle = λ e. cc e }
 
   -- a step that goes on took bytes from the buffer
   pub some_given : {reads : Runs ReadMark R} {writes : Runs WriteMark W} (x y : CopyFuture R W)

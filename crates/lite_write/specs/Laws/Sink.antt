@@ -7,20 +7,22 @@ use Rattle.lite_io_base.specs.Takings.{WriteMark}
 use Rattle.lite_write.specs.Sink.{Sinks}
 use Rattle.lite_write.specs.declared.sink.Sink.{Sink}
 
-follows : (x y z : Sink) (l m : List WriteMark) → Sinks x l y → Sinks y m z → Sinks x (l ++ m) z
-follows x y z [] m h k = rw (← h) k
-follows x y z (WriteMark.pending ∷ l) m h k = absurd h
-follows x y z (WriteMark.fault kind ∷ l) m h k = absurd h
-follows x y z (_ ∷ l) m h k = follows x y z l m h k
+module _ (x y z : Sink) where
+  follows : (l m : List WriteMark) → Sinks x l y → Sinks y m z → Sinks x (l ++ m) z
+  follows [] m h k = rw (← h) k
+  follows (WriteMark.pending ∷ l) m h k = absurd h
+  follows (WriteMark.fault kind ∷ l) m h k = absurd h
+  follows (_ ∷ l) m h k = follows l m h k
 
 pub sinks_laws : MarkLaws Sinks
 sinks_laws = record { rests = λ x. refl; follows = follows }
 
-no_pending : (x y : Sink) (l : List WriteMark) → Sinks x l y → NoPendingWrite l
-no_pending x y [] h = tt
-no_pending x y (WriteMark.pending ∷ l) h = absurd h
-no_pending x y (WriteMark.fault kind ∷ l) h = absurd h
-no_pending x y (_ ∷ l) h = no_pending x y l h
+module _ (x y : Sink) where
+  no_pending : (l : List WriteMark) → Sinks x l y → NoPendingWrite l
+  no_pending [] h = tt
+  no_pending (WriteMark.pending ∷ l) h = absurd h
+  no_pending (WriteMark.fault kind ∷ l) h = absurd h
+  no_pending (_ ∷ l) h = no_pending l h
 
 -- nothing is kept
 pub sinks_steady : SteadyWriteLaws Sinks (λ x y. ⊤) (λ x. [])

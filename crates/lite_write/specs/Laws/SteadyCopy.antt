@@ -38,7 +38,7 @@ SteadyCopyResult = Result ℕ Error
 -- bytes and pendings, without the pendings
 goes_stripped : (l : List ReadMark) → BytesAlone l → strip_marks l ≡ bytes (bytes_told l)
 goes_stripped [] g = refl
-goes_stripped (ReadMark.byte b ∷ l) g = ap (λ k. ReadMark.byte b ∷ k) (goes_stripped l g)
+goes_stripped (ReadMark.byte b ∷ l) g = rw (goes_stripped l g)
 goes_stripped (ReadMark.pending ∷ l) g = goes_stripped l g
 goes_stripped (_ ∷ l) g = absurd g
 
@@ -56,8 +56,8 @@ abbrev TwoTales : List ℕ → List ℕ → Stop → Stop → Type 0
 TwoTales xs ys a b = (xs ≡ ys) × (stop_mark a ≡ stop_mark b)
 
 stops_not : (a : Stop) (x : ℕ) → stop_mark a ≡ ReadMark.byte x → ⊥
-stops_not Stop.ended x e = cc e
-stops_not (Stop.failed kind) x e = cc e
+stops_not Stop.ended x e = cc
+stops_not (Stop.failed kind) x e = cc
 
 one_stop : (xs ys : List ℕ) (a b : Stop) → Comparable (bytes xs ++ stop_mark a ∷ []) (bytes ys ++ stop_mark b ∷ [])
     → TwoTales xs ys a b
@@ -67,7 +67,7 @@ one_stop (x ∷ xs) [] a b c = absurd (stops_not b x (sym c.0))
 one_stop (x ∷ xs) (y ∷ ys) a b c =
     let rest = one_stop xs ys a b c.1 in
     let same : x ≡ y = cc c.0 in
-    (rw (same, rest.0) refl, rest.1)
+    (rw (same, rest.0), rest.1)
 
 stops_told : (xs ys : List ℕ) (a b : Stop) (i j : List ReadMark) → strip_marks i ≡ bytes xs ++ stop_mark a ∷ []
     → strip_marks j ≡ bytes ys ++ stop_mark b ∷ []
@@ -89,11 +89,9 @@ same_told (Ok n) (Ok k) held i j h g c =
     let both = stops_told h.0 g.0 Stop.ended Stop.ended i j h.1 g.1 c in
     h.2 ∙ ap (λ (l : List ℕ). (held + length l) % 2 ^ 64) both.0 ∙ sym g.2
 same_told (Ok n) (Err e) held i j h g c =
-    let both = stops_told h.0 g.0 Stop.ended (Stop.failed (error_kind e)) i j h.1 g.1 c in
-    absurd (let e = both.1 in cc e)
+    let both = stops_told h.0 g.0 Stop.ended (Stop.failed (error_kind e)) i j h.1 g.1 c in absurd (cc both.1)
 same_told (Err e) (Ok n) held i j h g c =
-    let both = stops_told h.0 g.0 (Stop.failed (error_kind e)) Stop.ended i j h.1 g.1 c in
-    absurd (let e = both.1 in cc e)
+    let both = stops_told h.0 g.0 (Stop.failed (error_kind e)) Stop.ended i j h.1 g.1 c in absurd (cc both.1)
 same_told (Err e) (Err f) held i j h g c =
     let both = stops_told h.0 g.0 (Stop.failed (error_kind e)) (Stop.failed (error_kind f)) i j h.1 g.1 c in
     cc both.1
@@ -158,9 +156,8 @@ module _ {R W : Type 0} where
         let c = h.copied in
         let bytes = sym (append-nil (bytes_told read)) ∙ sym (told_both read (ReadMark.end ∷ [])) in
         let whole = told_both (met_in x.phase) h.told ∙ ap (λ k. k ++ bytes_told h.told) (no_bytes x.phase) in
-        let told = ap bytes_told (sym (c.reading.cut ∙ end)) ∙ whole in
-        sym (append-nil (bytes_taken h.took)) ∙ ap (λ k. bytes_taken h.took ++ k) (sym empty) ∙ sym c.balanced
-        ∙ ap (λ k. held_of x ++ k) (sym (bytes ∙ told))
+        sym (append-nil (bytes_taken h.took)) ∙ ap (λ k. bytes_taken h.took ++ k) (sym empty) ∙ sym c.balanced ∙ ap
+        (λ k. held_of x ++ k) (sym (bytes ∙ (ap bytes_told (sym (c.reading.cut ∙ end)) ∙ whole)))
 
     ok_told : (n : ℕ) → CopyValue (Ok n ∷ []) h.copied.failed h.copied.last (held_of y) (met_in y.phase) y.amount
         → TaleOfValue (Ok n) (before_of x) (tale_of x h.told)
@@ -169,18 +166,20 @@ module _ {R W : Type 0} where
         let a = ok_value (held_of y) (met_in y.phase) y.amount n c.failed c.last value in
         let end : read ++ (met_in y.phase ++ c.failed) ≡ read ++ ReadMark.end ∷ [] =
         ap (λ k. read ++ (k ++ c.failed)) a.3 ∙ ap (λ k. read ++ (ReadMark.end ∷ k)) a.0 in
-        let took = taken_all a.2 end in
-        let sum : x.amount + length (bytes_taken h.took) ≡ before_of x + length (bytes_told read) =
-        omega (arith, ap length took, length-append (held_of x) (bytes_told read)) in
-        let tale = stopped read (tale_of x h.told) ReadMark.end c.reading.goes_on (c.reading.cut ∙ end) refl in
-        (bytes_told read, tale, a.4 ∙ h.counted ∙ ap (λ (k : ℕ). k % 2 ^ 64) sum)
+        let tale = stopped read (tale_of x h.told) ReadMark.end c.reading.goes_on (c.reading.cut ∙ end) refl in (
+          bytes_told read,
+          tale,
+          a.4 ∙ h.counted ∙ ap (λ (k : ℕ). k % 2 ^ 64)
+              (omega (arith, ap length (taken_all a.2 end), length-append (held_of x) (bytes_told read))),
+        )
 
     err_told : (e : Error) → CopyValue (Err e ∷ []) h.copied.failed h.copied.last (held_of y) (met_in y.phase) y.amount
         → TaleOfValue (Err e) (before_of x) (tale_of x h.told)
     err_told e value =
         let c = h.copied in
-        let no_failure = no_failure_last c.writing.written c.last (rw (← c.writing.cut) h.went.1) in
-        let f = reader_failed e c.failed c.last (held_of y) (met_in y.phase) y.amount no_failure value in
+        let f =
+        reader_failed e c.failed c.last (held_of y) (met_in y.phase) y.amount
+        (no_failure_last c.writing.written c.last (rw (← c.writing.cut) h.went.1)) value in
         let cut = c.reading.cut ∙ ap (λ k. read ++ (k ++ c.failed)) f.1 ∙ ap (λ k. read ++ k) f.0 in
         (bytes_told read, stopped read (tale_of x h.told) (ReadMark.fault (error_kind e)) c.reading.goes_on cut refl)
 
@@ -199,9 +198,8 @@ module _ {R W : Type 0} where
 all_same : (l m : List SteadyCopyResult) (held : ℕ) (i j : List ReadMark) → AllTold l held i → AllTold m held j
     → Comparable (strip_marks i) (strip_marks j)
     → ComparableBy SameByKind l m
-all_same [] m held i j h g c = tt
-all_same (v ∷ l) [] held i j h g c = tt
 all_same (v ∷ l) (w ∷ m) held i j h g c = rw h.1 (same_told v w held i j h.0 g.0 c, tt)
+all_same _ _ held i j h g c = tt
 
 module _ {R W : Type 0} {reads : Runs ReadMark R} {writes : Runs WriteMark W} where
   pub copy_steady : {ample : Runs ReadMark R} {needs_none : Type 0} {alike : R → R → Type 0}
@@ -217,19 +215,19 @@ module _ {R W : Type 0} {reads : Runs ReadMark R} {writes : Runs WriteMark W} wh
             let j = k.moves in
             let one = all_told x x' l i in
             let two = all_told y y' m j in
-            let tales = s.steady (source_of x) (source_of y) (source_of x')
-            (source_of y') i.told j.told e.0 i.came j.came in
+            let tales =
+            s.steady (source_of x) (source_of y) (source_of x') (source_of y') i.told j.told e.0 i.came j.came in
             let both =
             comparable_behind (strip_marks (met_in x.phase)) (strip_marks i.told) (strip_marks j.told) tales in
-            let whole : Comparable (strip_marks (tale_of x i.told)) (strip_marks (tale_of y j.told)) =
-            rw (strip_marks-append (met_in x.phase) i.told, strip_marks-append (met_in y.phase) j.told, ← e.2) both in
             let begun : before_of y ≡ before_of x = omega (arith, e.3, ap length e.1) in
             let other = rw begun at two in
-            all_same (strip l) (strip m) (before_of x) (tale_of x i.told) (tale_of y j.told) one other whole;
+            all_same (strip l) (strip m) (before_of x) (tale_of x i.told) (tale_of y j.told) one other
+            (rw (strip_marks-append (met_in x.phase) i.told, strip_marks-append (met_in y.phase) j.told, ← e.2) both);
         found = λ n x y l h.
             let i = h.moves in
             let came = s.found n.0 (source_of x) (source_of y) i.told i.came in
-            let went : WithoutFailure writes x.writer i.took y.writer = (i.went, n.1 x.writer y.writer i.took i.went) in
+            let went : WithoutFailure writes x.writer i.took y.writer =
+            (i.went, n.1 x.writer y.writer i.took i.went) in
             record {
               moves = record {
                 told = i.told;
@@ -251,8 +249,13 @@ module _ {R W : Type 0} {reads : Runs ReadMark R} {writes : Runs WriteMark W} wh
         no_pending = λ x y l k h.
             let i = h.moves in
             let told = told_no_pending i.told (c.no_pending (source_of x) (source_of y) i.told k.0 i.came) in
-            let taken = taken_no_pending i.took (d.no_pending x.writer y.writer i.took k.1 i.went) in
-            none_no_pending l (omega (arith, i.copied.waited, told, taken));
+            none_no_pending l
+            (omega (
+              arith,
+              i.copied.waited,
+              told,
+              taken_no_pending i.took (d.no_pending x.writer y.writer i.took k.1 i.went),
+            ));
         calm_on = λ x y l k h.
             let i = h.moves in
             (c.calm_on (source_of x) (source_of y) i.told k.0 i.came, d.calm_on x.writer y.writer i.took k.1 i.went);
@@ -260,7 +263,7 @@ module _ {R W : Type 0} {reads : Runs ReadMark R} {writes : Runs WriteMark W} wh
 
 takes_without_failure : (l : List WriteMark) → TakesSome l → NoFailure l
 takes_without_failure [] h = tt
-takes_without_failure (WriteMark.wrote [] ∷ l) h = absurd (omega (arith, h.0))
+takes_without_failure (WriteMark.wrote [] ∷ l) h = omega arith
 takes_without_failure (WriteMark.wrote (x ∷ xs) ∷ l) h = takes_without_failure l h.1
 takes_without_failure (WriteMark.pending ∷ l) h = takes_without_failure l h
 takes_without_failure (_ ∷ l) h = absurd h
@@ -269,9 +272,8 @@ takes_without_failure (_ ∷ l) h = absurd h
 last_no_failure : (v : SteadyCopyResult) (fault : List ReadMark) (last : List WriteMark) (after : List ℕ)
     (met : List ReadMark) (total : ℕ) → IsOk v
     → CopyValue (v ∷ []) fault last after met total → NoFailure last
-last_no_failure (Ok n) fault last after met total ok h =
-    rw (let a = ok_value after met total n fault last h in a.1) tt
-last_no_failure (Err e) fault last after met total ok h = absurd (cc ok)
+last_no_failure (Ok n) fault last after met total ok h = rw ((ok_value after met total n fault last h).1) tt
+last_no_failure (Err e) fault last after met total ok h = cc
 
 module _ {R W : Type 0} {reads ample : Runs ReadMark R} {writes : Runs WriteMark W} (found : AllAmple reads ample) where
   -- where the value is Ok no write failed
@@ -282,8 +284,9 @@ module _ {R W : Type 0} {reads ample : Runs ReadMark R} {writes : Runs WriteMark
       let m = h.came.moves in
       let k = m.copied in
       let f = k.writing in
-      let given = rw (gives_strip l v h.gives) at k.value in
-      let last = last_no_failure v k.failed k.last (held_of h.last) (met_in h.last.phase) h.last.amount ok given in
+      let last =
+      last_no_failure v k.failed k.last (held_of h.last) (met_in h.last.phase) h.last.amount ok
+      (rw (gives_strip l v h.gives) at k.value) in
       let no_failure =
       rw (← f.cut) at (no_failure_both f.written k.last (takes_without_failure f.written f.takes_some) last) in
       let came = found (source_of x) (source_of h.last) m.told m.came in

@@ -51,28 +51,25 @@ ended_ok left (_ ∷ l) r a h = absurd h
 hands_ok : (p q : List ℕ) (i : List WriteMark) (l : List (Poll WriteAllResult)) → NoFailure i → HandsOver p i l q
     → AllOk (strip l)
 hands_ok p q i [] a h = tt
-hands_ok p q i (Pending ∷ l) a h =
-    let rest = no_failure_last h.0.0 h.0.1 (rw (← h.0.3) a) in
-    hands_ok h.0.2 q h.0.1 l rest (h.0.5, h.1)
+hands_ok p q i (Pending ∷ l) a h = hands_ok h.0.2 q h.0.1 l (no_failure_last h.0.0 h.0.1 (rw (← h.0.3) a)) (h.0.5, h.1)
 hands_ok p q i (Ready r ∷ l) a h =
     let c = to_value_last HandsMarks p q i r l h in
     let last = no_failure_last (map WriteMark.wrote c.taken) c.last (rw (← c.cut) a) in
     rw h.1 (ended_ok c.between c.last r last c.given.0, tt)
 
 pub all_ok_same : (l m : List WriteAllResult) → AllOk l → AllOk m → ComparableBy (λ v w. v ≡ w) l m
-all_ok_same [] m a b = tt
-all_ok_same (v ∷ l) [] a b = tt
 all_ok_same (v ∷ l) (w ∷ m) a b = rw (a.0, b.0) (refl, all_ok_same l m a.1 b.1)
+all_ok_same _ _ a b = tt
 
-hands_no_pending : (p q : List ℕ) (i : List WriteMark) (l : List (Poll WriteAllResult)) → NoPendingWrite i
-    → HandsOver p i l q → NoPending l
-hands_no_pending p q i [] a h = tt
-hands_no_pending p q i (Pending ∷ l) a h =
-    let w = h.0.4 in
-    let one = (never_waits_parts h.0.0 h.0.1 (subst NoPendingWrite h.0.3 a)).0 in
-    let last = never_waits_parts (map WriteMark.wrote w.taken) w.last (subst NoPendingWrite w.cut one) in
-    absurd (subst NoPendingWrite w.given.0 last.1)
-hands_no_pending p q i (Ready r ∷ l) a h = rw h.1 tt
+module _ (p q : List ℕ) (i : List WriteMark) where
+  hands_no_pending : (l : List (Poll WriteAllResult)) → NoPendingWrite i → HandsOver p i l q → NoPending l
+  hands_no_pending [] a h = tt
+  hands_no_pending (Pending ∷ l) a h =
+      let w = h.0.4 in
+      let one = (never_waits_parts h.0.0 h.0.1 (subst NoPendingWrite h.0.3 a)).0 in
+      let last = never_waits_parts (map WriteMark.wrote w.taken) w.last (subst NoPendingWrite w.cut one) in
+      absurd (subst NoPendingWrite w.given.0 last.1)
+  hands_no_pending (Ready r ∷ l) a h = rw h.1 tt
 
 module _ {W : Type 0} {writes : Runs WriteMark W} where
   pub all_steady : MarkLaws writes

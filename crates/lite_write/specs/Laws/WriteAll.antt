@@ -1,5 +1,5 @@
 -- Laws of `write_all`.
-use Rattle.std.proofs.Common.{◌≡◌, ◌∙◌, ◌<◌, ◌+◌, List, [], ◌∷◌, ◌++◌, length, Result, refl, ap, arith, length-append}
+use Rattle.std.proofs.Common.{◌∙◌, ◌<◌, List, [], ◌∷◌, ◌++◌, length, Result, refl, ap, arith, length-append}
 use Rattle.std.specs.declared.io.Error.{Error}
 use Rattle.futures.specs.declared.task.Poll.{Poll}
 use Rattle.lite_base.specs.Answers.{Waiting}
@@ -61,13 +61,10 @@ module _ {W : Type 0} where
             h.handed.1,
           );
           stays = lent_still x.writer y.writer z.writer t.stays h.stays;
-          idle = λ e. absurd (cc e);
+          idle = λ e. cc e;
         }
 
   -- what is left falls
   pub left_falls : {writes : Runs WriteMark W} (x y : WriteAllFuture W) → WritesSome writes x y
       → length y.buf.now < length x.buf.now
-  left_falls x y t =
-      let all : length x.buf.now ≡ length t.taken + length y.buf.now = ap length t.front
-      ∙ length-append t.taken y.buf.now in
-      omega (arith, all, t.some)
+  left_falls x y t = omega (arith, ap length t.front ∙ length-append t.taken y.buf.now, t.some)

@@ -57,31 +57,39 @@ fn collect_fills_a_collection_of_a_users_own(rt: HostRuntime) -> Result<(), Fail
     Ok(())
 }
 
+/// The collection that has taken all items in.
+fn whole<C, T: Drop>(gathered: Result<C, T>) -> Result<C, Fail> {
+    match gathered {
+        Ok(collection) => Ok(collection),
+        Err(_) => Err(Fail::from("no memory for an item")),
+    }
+}
+
 #[test]
 fn each_collection_takes_items_in_by_its_own_rule(rt: HostRuntime) -> Result<(), Fail> {
-    let deque: Result<VecDeque<u8>, u8> = gather_all(rt.alloc(), vec![in rt.alloc(); 2, 1, 2]?);
+    let deque: VecDeque<u8> = whole(gather_all(rt.alloc(), vec![in rt.alloc(); 2u8, 1, 2]?))?;
     let mut expected = VecDeque::new(rt.alloc());
     for x in [2u8, 1, 2] {
         expected.push_back(x)?;
     }
-    assert_eq!(rt; deque, Ok(expected));
-    let list: Result<Vec<u8>, u8> = gather_all(rt.alloc(), vec![in rt.alloc(); 2, 1, 2]?);
-    assert_eq!(rt; list, Ok(vec![in rt.alloc(); 2u8, 1, 2]?));
-    let text: Result<String, char> = gather_all(rt.alloc(), vec![in rt.alloc(); 'a', 'b', 'ä']?);
-    assert_eq!(rt; text, Ok(String::from_str(rt.alloc(), "abä")?));
-    let map: Result<BTreeMap<u8, &str>, (u8, &str)> = gather_all(
+    assert_eq!(rt; deque, expected);
+    let list: Vec<u8> = whole(gather_all(rt.alloc(), vec![in rt.alloc(); 2u8, 1, 2]?))?;
+    assert_eq!(rt; list, vec![in rt.alloc(); 2u8, 1, 2]?);
+    let text: String = whole(gather_all(rt.alloc(), vec![in rt.alloc(); 'a', 'b', 'ä']?))?;
+    assert_eq!(rt; text.as_str(), "abä");
+    let map: BTreeMap<u8, &str> = whole(gather_all(
         rt.alloc(),
-        vec![in rt.alloc(); (1, "a"), (1, "b")]?,
-    );
+        vec![in rt.alloc(); (1u8, "a"), (1, "b")]?,
+    ))?;
     let mut expected = BTreeMap::new(rt.alloc());
     expected.insert(1u8, "b")?;
-    assert_eq!(rt; map, Ok(expected));
-    let set: Result<BTreeSet<u8>, u8> = gather_all(rt.alloc(), vec![in rt.alloc(); 2, 1, 2]?);
+    assert_eq!(rt; map, expected);
+    let set: BTreeSet<u8> = whole(gather_all(rt.alloc(), vec![in rt.alloc(); 2u8, 1, 2]?))?;
     let mut expected = BTreeSet::new(rt.alloc());
     for x in [1u8, 2] {
         expected.insert(x)?;
     }
-    assert_eq!(rt; set, Ok(expected));
+    assert_eq!(rt; set, expected);
     Ok(())
 }
 
@@ -125,6 +133,53 @@ fn partition_hands_back_what_was_refused(rt: HostRuntime) -> Result<(), Fail> {
     let refused = Refused {
         collected: (few(2)?, few(1)?),
         item: 3,
+    };
+    assert_eq!(rt; got.as_slice(), [Poll::Ready(Err(refused))].as_slice());
+    Ok(())
+}
+
+#[test]
+fn partition_hands_back_what_was_refused_to_the_first(rt: HostRuntime) -> Result<(), Fail> {
+    let one = Room {
+        alloc: rt.alloc(),
+        items: 1,
+    };
+    let sorted = stream::iter(1u8..5).partition(one, |x: &u8| *x % 2 == 1);
+    let mut sorted: stream::PartitionFuture<_, _, Few<u8>> = sorted;
+    let got = polled(&rt, &mut sorted, 1)?;
+    let few = |x: u8| -> Result<Few<u8>, Fail> {
+        Ok(Few {
+            items: vec![in rt.alloc(); x]?,
+            room: 1,
+        })
+    };
+    let refused = Refused {
+        collected: (few(1)?, few(2)?),
+        item: 3,
+    };
+    assert_eq!(rt; got.as_slice(), [Poll::Ready(Err(refused))].as_slice());
+    Ok(())
+}
+
+#[test]
+fn unzip_hands_back_a_later_pair_whose_first_part_was_refused(rt: HostRuntime) -> Result<(), Fail> {
+    let one = Room {
+        alloc: rt.alloc(),
+        items: 1,
+    };
+    let pairs = stream::iter([(1u8, 2u8), (3, 4)].into_iter());
+    let mut parts: stream::UnzipFuture<_, Few<u8>, Tall<u8>> = pairs.unzip(one);
+    let got = polled(&rt, &mut parts, 1)?;
+    let left = Few {
+        items: vec![in rt.alloc(); 1u8]?,
+        room: 1,
+    };
+    let right = Tall {
+        items: vec![in rt.alloc(); 2u8]?,
+    };
+    let refused = UnzipRefused::Left {
+        collected: (left, right),
+        item: (3, 4),
     };
     assert_eq!(rt; got.as_slice(), [Poll::Ready(Err(refused))].as_slice());
     Ok(())

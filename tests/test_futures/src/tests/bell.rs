@@ -7,7 +7,7 @@ use futures_lite::{Context, Future, Poll};
 use std::alloc::{AllocError, Global};
 use std::sync::{Arc, Mutex, Wait};
 
-/// A future that registers at a source of its own, and is ready once the bell was rung.
+/// A future that registers at a source of its own, and is ready once the bell was rung, or rung as often as it has to be.
 #[derive(Drop)]
 pub(super) struct Bell {
     shared: Arc<Shared>,
@@ -21,14 +21,20 @@ struct Shared {
 
 #[derive(Drop)]
 struct State {
-    is_rung: bool,
+    /// How often it still has to be rung.
+    left: u32,
     waiting: Option<Waker>,
 }
 
 impl Bell {
     pub(super) fn new(alloc: Global) -> Result<Bell, AllocError> {
+        Bell::after(alloc, 1)
+    }
+
+    /// One that has to be rung so often.
+    pub(super) fn after(alloc: Global, rings: u32) -> Result<Bell, AllocError> {
         let state = State {
-            is_rung: false,
+            left: rings,
             waiting: None,
         };
         let shared = Shared {
@@ -47,19 +53,21 @@ impl Bell {
         })
     }
 
-    /// Makes it ready, and wakes what waits for it.
+    /// Wakes what waits for it, and makes it ready where it was rung often enough.
     pub(super) fn ring<R: Wait>(&self, rt: &R) {
         let mut state = self.shared.state.lock(rt);
-        state.is_rung = true;
+        state.left = state.left.saturating_sub(1);
         state.waiting = None;
     }
 
-    /// Rings once something waits for it.
+    /// Rings each time that something waits for it, until it is ready.
     pub(super) fn ring_when_waited_for<R: Wait>(&self, rt: &R) {
         for _ in rt.forever() {
             let is_waited_for = self.shared.state.lock(rt).waiting.is_some();
             if is_waited_for {
                 self.ring(rt);
+            }
+            if self.shared.state.lock(rt).left == 0 {
                 return;
             }
         }
@@ -80,7 +88,7 @@ impl Future for Bell {
             return cx.yield_now();
         };
         let state = &mut *guard;
-        if state.is_rung {
+        if state.left == 0 {
             return Poll::Ready(Ok(()));
         }
         cx.register(&self.shared.source, &mut state.waiting)

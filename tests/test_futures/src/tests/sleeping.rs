@@ -69,9 +69,9 @@ fn a_sleeper_of_streams_sleeps(rt: HostRuntime) -> Result<(), Fail> {
 
 /// A reader of so many bytes, and then of none until the bell was rung.
 #[derive(Drop)]
-struct UntilBell {
-    left: u32,
-    bell: Bell,
+pub(super) struct UntilBell {
+    pub(super) left: u32,
+    pub(super) bell: Bell,
 }
 
 impl Tale for UntilBell {

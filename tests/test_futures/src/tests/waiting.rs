@@ -3,8 +3,9 @@ use super::counting::Counting;
 use super::refusing::Refusing;
 use futures::task::{Doorbell, Solo, Source};
 use futures_lite::future::{self, BlockOn, Future, FutureExt};
-use futures_lite::{AsyncReadExt, Context, Poll};
+use futures_lite::{AsyncReadExt, Context, Poll, StreamExt, io as lite, stream};
 use std::alloc::{AllocError, AllocGlobal, Global};
+use std::io::{self, ErrorKind};
 use std::random::RandomSource;
 use std::sync::Wait;
 use std::sync::atomic::AtomicU64;
@@ -79,7 +80,7 @@ fn wait_for_leaves_the_future_with_its_caller(rt: HostRuntime) -> Result<(), Fai
     let mut read = Vec::new(rt.alloc());
     let mut text = b"ab".as_slice();
     let mut reading = text.read_to_end(&mut read);
-    assert_eq!(rt; future::wait_for(&rt, &mut reading)?.ok(), Some(2));
+    assert_eq!(rt; future::wait_for(&rt, &mut reading)??, 2);
     assert_eq!(rt; read.as_slice(), b"ab".as_slice());
     let mut yielding = future::yield_now();
     future::wait_for(&rt, &mut yielding)?;
@@ -140,5 +141,25 @@ fn a_refused_block_on_polls_nothing(rt: HostRuntime) -> Result<(), Fail> {
     let refused = future::block_on(&Refusing { rt: &rt }, future);
     assert_eq!(rt; refused, Err(AllocError));
     assert_eq!(rt; polls.load(SeqCst), 0);
+    Ok(())
+}
+
+#[test]
+fn a_refused_blocking_stream_polls_nothing(rt: HostRuntime) -> Result<(), Fail> {
+    let refusing = Refusing { rt: &rt };
+    let mut numbers = stream::iter(1u8..4);
+    let refused = stream::block_on(refusing, &mut numbers).next();
+    assert_eq!(rt; refused, Err(AllocError));
+    assert_eq!(rt; future::block_on(&rt, numbers.next())?, Some(1));
+    Ok(())
+}
+
+#[test]
+fn a_refused_blocking_reader_polls_nothing(rt: HostRuntime) -> Result<(), Fail> {
+    let refusing = Refusing { rt: &rt };
+    let mut bytes = b"ab".as_slice();
+    let refused = io::Read::read(&mut lite::BlockOn::new(refusing, &mut bytes), &mut [0u8; 1]);
+    assert_eq!(rt; refused.map_err(|e| e.kind()), Err(ErrorKind::OutOfMemory));
+    assert_eq!(rt; bytes, b"ab".as_slice());
     Ok(())
 }

@@ -32,13 +32,16 @@ fn a_refused_line_comes_at_the_next_poll(rt: HostRuntime) -> Result<(), Fail> {
 
 #[test]
 fn many_lines(rt: HostRuntime) -> Result<(), Fail> {
-    const LINES: usize = 100_000;
+    const LINES: usize = 1_000;
     let mut text = Vec::with_capacity(rt.alloc(), 5 * LINES)?;
     for _ in 0..LINES {
         text.extend_from_slice(b"line\n")?;
     }
     let reader = Cursor::new(text.as_slice());
-    let told = told(&rt, &mut lines(reader, rt.alloc()), LINES + 1)?;
+    let mut told = told(&rt, &mut lines(reader, rt.alloc()), LINES + 2)?;
+    if take_error(&mut told, ErrorKind::OutOfMemory).is_none() {
+        told.pop();
+    }
     let mut n = 0_usize;
     for line in &told {
         if matches!(line, Some(Ok(line)) if line.as_str() == "line") {

@@ -119,8 +119,8 @@ fn bytes_before_an_error_agree(rt: HostRuntime) -> Result<(), Fail> {
     late.fault(ErrorKind::Other)?;
     let (mut got, mut got_late) = (Vec::new(rt.alloc()), Vec::new(rt.alloc()));
     let (one, other) = reads_agree(&rt, one, late, b"xyz", 9, &mut got, &mut got_late)?;
-    assert!(rt; one.is_err_and(|e| e.kind() == ErrorKind::Other));
-    assert!(rt; other.is_err_and(|e| e.kind() == ErrorKind::Other));
+    assert_eq!(rt; one.map_err(|e| e.kind()), Err(ErrorKind::Other));
+    assert_eq!(rt; other.map_err(|e| e.kind()), Err(ErrorKind::Other));
     assert_eq!(rt; got.as_slice(), b"abcd".as_slice());
     assert_eq!(rt; got_late.as_slice(), b"abcd".as_slice());
     Ok(())

@@ -1,5 +1,5 @@
 use super::always::Always;
-use futures_lite::{Context, Poll, StreamExt, stream};
+use futures_lite::{Context, Poll, StreamExt, future, stream};
 use std::sync::atomic::AtomicU64;
 use std::sync::atomic::Ordering::SeqCst;
 use std::test::Fail;
@@ -47,6 +47,21 @@ fn or_polls_nothing_once_both_have_ended(rt: HostRuntime) -> Result<(), Fail> {
         answers(&rt, &mut second, 1)?.as_slice(),
         [item(6)].as_slice()
     );
+    Ok(())
+}
+
+#[test]
+fn a_stream_whose_future_was_taken_out_is_never_stopped(rt: HostRuntime) -> Result<(), Fail> {
+    let mut numbers = stream::stop_after_future(stream::iter(1u8..4), future::pending::<()>());
+    let got = answers(&rt, &mut numbers, 1)?;
+    assert_eq!(rt; got.as_slice(), [item(1)].as_slice());
+    assert!(rt; numbers.take_future().is_some());
+    assert!(rt; numbers.take_future().is_none());
+    assert!(rt; !numbers.is_stopped());
+    let got = answers(&rt, &mut numbers, 3)?;
+    let expected = [item(2), item(3), Poll::Ready(None)];
+    assert_eq!(rt; got.as_slice(), expected.as_slice());
+    assert!(rt; !numbers.is_stopped());
     Ok(())
 }
 

@@ -3,7 +3,7 @@ use futures_lite::io::{self, AsyncBufRead, BufReader, ErrorKind};
 use futures_lite::{Context, Future, Poll};
 use lite_mock::Marks;
 use lite_read::make::fill_buf;
-use std::alloc::Global;
+use std::alloc::{AllocError, Global};
 use std::test::Fail;
 
 #[test]
@@ -12,8 +12,7 @@ fn after_an_error_it_may_be_polled_again(rt: HostRuntime) -> Result<(), Fail> {
     marks.fault(ErrorKind::Other)?;
     marks.chunk(b"ab")?;
     let Ok(mut reader) = BufReader::with_capacity(rt.alloc(), 2, marks) else {
-        assert!(rt; false);
-        return Ok(());
+        return Err(AllocError.into());
     };
     let mut future = fill_buf(&mut reader);
     let solo = Solo::new(&rt, Doorbell::spinning())?;

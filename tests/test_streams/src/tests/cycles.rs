@@ -1,6 +1,6 @@
 use super::scarce::Scarce;
 use futures_lite::stream::script;
-use futures_lite::{Poll, Stream, StreamExt};
+use futures_lite::{Poll, Stream, StreamExt, stream};
 use std::alloc::AllocError;
 use std::cell::Cell;
 use std::test::Fail;
@@ -19,6 +19,17 @@ fn drain_lends_its_stream(rt: HostRuntime) -> Result<(), Fail> {
 }
 
 #[test]
+fn a_cycle_of_nothing_ends(rt: HostRuntime) -> Result<(), Fail> {
+    let Ok(round) = stream::empty::<u8>().cycle() else {
+        return Err(AllocError.into());
+    };
+    let got = answers(&rt, &mut round.map(|x: Result<u8, AllocError>| x.ok()), 2)?;
+    let expected = [Poll::Ready(None), Poll::Ready(None)];
+    assert_eq!(rt; got.as_slice(), expected.as_slice());
+    Ok(())
+}
+
+#[test]
 fn a_cycle_whose_copy_is_refused_asks_again(rt: HostRuntime) -> Result<(), Fail> {
     let asked = Cell::new(0);
     let one = Scarce {
@@ -27,8 +38,7 @@ fn a_cycle_whose_copy_is_refused_asks_again(rt: HostRuntime) -> Result<(), Fail>
         refused: 1,
     };
     let Ok(round) = script(vec![in rt.alloc(); item(one)]?).cycle() else {
-        assert!(rt; false);
-        return Ok(());
+        return Err(AllocError.into());
     };
     let mut numbers = round.map(|copy: Result<Scarce, AllocError>| match copy {
         Ok(scarce) => Ok(scarce.number),

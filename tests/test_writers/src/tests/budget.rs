@@ -64,6 +64,14 @@ fn place(rt: &HostRuntime, name: &str) -> Result<PathBuf, Fail> {
     Ok(path)
 }
 
+/// The value of a future that gave it in its first poll.
+pub(super) fn at_once<T: Drop>(mut answers: Vec<Poll<io::Result<T>>>) -> Result<T, Fail> {
+    match answers.pop() {
+        Some(Poll::Ready(value)) => Ok(value?),
+        _ => Err(Fail::from("it is pending")),
+    }
+}
+
 #[test]
 fn a_file_is_copied_to_a_file(rt: HostRuntime) -> Result<(), Fail> {
     let mut bytes: Vec<u8> = Vec::with_capacity(rt.alloc(), 20_000)?;
@@ -93,9 +101,9 @@ fn a_file_is_copied_to_a_file(rt: HostRuntime) -> Result<(), Fail> {
     let ended = polled(&rt, &mut read_to_end(&mut reader, &mut read), 1)?;
     fs::remove_file(&rt, &from)?;
     fs::remove_file(&rt, &to)?;
-    assert!(rt; matches!(written.as_slice(), [Poll::Ready(Ok(()))]));
-    assert!(rt; matches!(copied.as_slice(), [Poll::Ready(Ok(20_000))]));
-    assert!(rt; matches!(ended.as_slice(), [Poll::Ready(Ok(20_000))]));
+    at_once(written)?;
+    assert_eq!(rt; at_once(copied)?, 20_000);
+    assert_eq!(rt; at_once(ended)?, 20_000);
     assert_eq!(rt; read.as_slice(), bytes.as_slice());
     Ok(())
 }

@@ -1,5 +1,5 @@
 use Rattle.lite_views.specs.Views.{Waited}
-use Rattle.lite_views.specs.Laws.Views.{seen}
+use Rattle.lite_views.proofs.Views.{seen}
 use Rattle.futures_lite.proofs.future.block_on.Goals as goal
 
 pub returns-clause-waited : goal.returns-clause-waited

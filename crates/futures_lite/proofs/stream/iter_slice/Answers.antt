@@ -3,7 +3,7 @@ use Rattle.std.specs.Iterator.{at_most}
 use Rattle.std.specs.Iterator.Adapters.{copied_source, copied_steps}
 use Rattle.std.specs.Slice.Iter.{iter_rest, iter_steps}
 use Rattle.lite_views.specs.Iterators.{GivesAll}
-use Rattle.lite_views.specs.Laws.SourceLists.{slice_gives}
+use Rattle.lite_views.proofs.SourceLists.{slice_gives}
 use Rattle.futures_lite.proofs.stream.iter_slice.Goals as goal
 
 pub returns : goal.returns

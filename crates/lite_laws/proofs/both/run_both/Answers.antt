@@ -1,6 +1,6 @@
 use Rattle.std.proofs.Common.{rules, IfOk, IfErr, Result, Ok, Err, [], inl, inr, refl}
 use Rattle.std.proofs.lemmas.Result.{IfErr-at_err, on_err_weaker}
-use Rattle.lite_laws.specs.Laws.Waits.{waits_on}
+use Rattle.lite_laws.proofs.Waits.{waits_on}
 use Rattle.lite_laws.proofs.both.run_both.Goals as goal
 
 both_ok : {A E P : Type 0} (Q : Type 0) (r : Result A E) → P → IfOk r (λ _. Q) → IfOk r (λ _. P × Q)

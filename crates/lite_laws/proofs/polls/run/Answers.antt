@@ -1,6 +1,6 @@
 use Rattle.std.proofs.Common.{rules, arith, ◌∙◌, ◌+◌, [], ◌∷◌, ◌++◌, ap, append_assoc, length-append}
 use Rattle.std.proofs.lemmas.Grind.{common_steps}
-use Rattle.lite_laws.specs.Laws.Waits.{waits_last}
+use Rattle.lite_laws.proofs.Waits.{waits_last}
 use Rattle.lite_laws.proofs.polls.run.Goals as goal
 
 pub loop-preserved : goal.loop-preserved

@@ -1,5 +1,5 @@
 use Rattle.std.proofs.Common.{rules, [], append-nil, sym}
-use Rattle.lite_theorems.specs.Laws.BothReaders.{both_read}
+use Rattle.lite_theorems.proofs.BothReaders.{both_read}
 use Rattle.lite_theorems.proofs.both_readers.read_both.Goals as goal
 
 pub returns-in_err-on-clause-agree : goal.returns-in_err-on-clause-agree

@@ -1,6 +1,6 @@
 use Rattle.std.proofs.Common.{rules}
 use Rattle.std.specs.Prelude.{⊤}
-use Rattle.lite_theorems.specs.Laws.BothReaders.{lent_on, read_up}
+use Rattle.lite_theorems.proofs.BothReaders.{lent_on, read_up}
 use Rattle.lite_theorems.proofs.both_readers.read_up.Goals as goal
 
 pub returns-clause-read : goal.returns-clause-read

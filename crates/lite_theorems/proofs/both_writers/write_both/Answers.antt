@@ -1,5 +1,5 @@
 use Rattle.std.proofs.Common.{rules, [], refl}
-use Rattle.lite_theorems.specs.Laws.BothWriters.{both_written}
+use Rattle.lite_theorems.proofs.BothWriters.{both_written}
 use Rattle.lite_theorems.proofs.both_writers.write_both.Goals as goal
 
 pub returns-in_err-on : goal.returns-in_err-on

@@ -13,28 +13,12 @@ IsBoth x v = v ≡ record {
 }
 
 pub run_both-requires-clause-first : goal.run_both-requires-clause-first
-run_both-requires-clause-first c = (
-  (tt, search of_calls),
-  search rules,
-  (
-    search rules,
-    record {
-      at = λ xs p q x v folds d. (tt, tt);
-    },
-  ),
-)
+run_both-requires-clause-first c =
+    ((tt, search of_calls), search rules, (search rules, record { at = λ xs p q x v folds d. (tt, tt) }))
 
 pub run_both-requires-clause-second : goal.run_both-requires-clause-second
-run_both-requires-clause-second c = (
-  (tt, search of_calls),
-  search rules,
-  (
-    search rules,
-    record {
-      at = λ xs p q x v folds d. (tt, tt);
-    },
-  ),
-)
+run_both-requires-clause-second c =
+    ((tt, search of_calls), search rules, (search rules, record { at = λ xs p q x v folds d. (tt, tt) }))
 
 pub run_both-requires-clause-alike : goal.run_both-requires-clause-alike
 run_both-requires-clause-alike c = (

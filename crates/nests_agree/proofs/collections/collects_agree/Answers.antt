@@ -1,7 +1,7 @@
 use Rattle.std.proofs.Common.{rules, ◌≡◌}
 use Rattle.lite_consume.specs.Laws.Agreeing.{finished_taking_none, part_within}
 use Rattle.lite_gather.specs.Laws.Agreeing.{both_there, none_held}
-use Rattle.lite_gather.specs.Laws.Ample.{collect_within}
+use Rattle.lite_gather.proofs.Ample.{collect_within}
 use Rattle.nests_agree.proofs.Found.{both_found, gathered_as, same_items}
 use Rattle.nests_agree.proofs.collections.collects_agree.Goals as goal
 

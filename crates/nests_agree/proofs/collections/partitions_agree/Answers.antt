@@ -3,7 +3,7 @@ use Rattle.lite_base.specs.Alike.{SameItem}
 use Rattle.lite_base.specs.Laws.Calling.{answers_agree_from}
 use Rattle.lite_consume.specs.Laws.Agreeing.{finished_taking_none, part_within}
 use Rattle.lite_gather.specs.Laws.Agreeing.{both_there, none_held}
-use Rattle.lite_gather.specs.Laws.Ample.{partition_within}
+use Rattle.lite_gather.proofs.Ample.{partition_within}
 use Rattle.nests_agree.proofs.Found.{both_found, both_items, gathered_as}
 use Rattle.nests_agree.proofs.collections.partitions_agree.Goals as goal
 

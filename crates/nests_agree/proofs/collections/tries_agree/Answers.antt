@@ -2,7 +2,7 @@ use Rattle.std.proofs.Common.{◌≡◌}
 use Rattle.lite_base.specs.Alike.{SameOk}
 use Rattle.lite_consume.specs.Laws.Agreeing.{finished_taking_none, part_within}
 use Rattle.lite_gather.specs.Laws.Agreeing.{both_there, none_held, unmixed_holds, unmixed_on}
-use Rattle.lite_gather.specs.Laws.Ample.{try_collect_within}
+use Rattle.lite_gather.proofs.Ample.{try_collect_within}
 use Rattle.nests_agree.proofs.Found.{both_found, same_items, try_gathered_as}
 use Rattle.nests_agree.proofs.collections.tries_agree.Goals as goal
 

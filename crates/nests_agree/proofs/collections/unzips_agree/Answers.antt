@@ -1,7 +1,7 @@
 use Rattle.std.proofs.Common.{rules, ◌≡◌}
 use Rattle.lite_consume.specs.Laws.Agreeing.{finished_taking_none, part_within}
 use Rattle.lite_gather.specs.Laws.Agreeing.{both_there, no_parts}
-use Rattle.lite_gather.specs.Laws.Ample.{unzip_within}
+use Rattle.lite_gather.proofs.Ample.{unzip_within}
 use Rattle.nests_agree.proofs.Found.{both_found}
 use Rattle.nests_agree.proofs.collections.unzips_agree.Goals as goal
 

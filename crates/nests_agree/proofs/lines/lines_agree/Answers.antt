@@ -1,5 +1,5 @@
 use Rattle.std.proofs.Common.{rules, refl}
-use Rattle.lite_read.specs.Laws.Ample.{lines_ample}
+use Rattle.lite_read.proofs.Ample.{lines_ample}
 use Rattle.nests_agree.proofs.lines.lines_agree.Goals as goal
 
 pub run_both-requires-clause-alike : goal.run_both-requires-clause-alike

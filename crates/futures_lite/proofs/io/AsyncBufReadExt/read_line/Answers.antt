@@ -1,6 +1,6 @@
 use Rattle.lite_read.specs.ReadLine.{line_over}
-use Rattle.lite_views.specs.Laws.Texts.{text_left}
-use Rattle.lite_views.specs.Laws.Until.{read_text_line}
+use Rattle.lite_views.proofs.Texts.{text_left}
+use Rattle.lite_views.proofs.Until.{read_text_line}
 use Rattle.futures_lite.proofs.io.AsyncBufReadExt.read_line.Goals as goal
 
 pub returns-clause-line : goal.returns-clause-line

@@ -1,6 +1,6 @@
 use Rattle.std.proofs.Common.{refl}
-use Rattle.lite_views.specs.Laws.Futures.{gathered_left}
-use Rattle.lite_views.specs.Laws.Until.{read_piece}
+use Rattle.lite_views.proofs.Futures.{gathered_left}
+use Rattle.lite_views.proofs.Until.{read_piece}
 use Rattle.futures_lite.proofs.io.AsyncBufReadExt.read_until.Goals as goal
 
 pub returns-clause-piece : goal.returns-clause-piece

@@ -1,6 +1,6 @@
 use Rattle.std.proofs.Common.{refl}
-use Rattle.lite_views.specs.Laws.Exact.{exactly_read}
-use Rattle.lite_views.specs.Laws.Futures.{gathered_left}
+use Rattle.lite_views.proofs.Exact.{exactly_read}
+use Rattle.lite_views.proofs.Futures.{gathered_left}
 use Rattle.futures_lite.proofs.io.AsyncReadExt.read_exact.Goals as goal
 
 pub returns-clause-first : goal.returns-clause-first

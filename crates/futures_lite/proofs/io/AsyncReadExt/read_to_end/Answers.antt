@@ -1,5 +1,5 @@
 use Rattle.std.proofs.Common.{refl}
-use Rattle.lite_views.specs.Laws.Futures.{all_read, gathered_left}
+use Rattle.lite_views.proofs.Futures.{all_read, gathered_left}
 use Rattle.futures_lite.proofs.io.AsyncReadExt.read_to_end.Goals as goal
 
 pub returns-clause-all : goal.returns-clause-all

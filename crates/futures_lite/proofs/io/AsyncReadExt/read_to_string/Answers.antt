@@ -1,5 +1,5 @@
 use Rattle.lite_read.specs.ReadToString.{all_over}
-use Rattle.lite_views.specs.Laws.Texts.{all_read_text, text_left}
+use Rattle.lite_views.proofs.Texts.{all_read_text, text_left}
 use Rattle.futures_lite.proofs.io.AsyncReadExt.read_to_string.Goals as goal
 
 pub returns-clause-all : goal.returns-clause-all

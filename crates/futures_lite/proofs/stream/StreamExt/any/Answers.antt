@@ -1,7 +1,7 @@
 use Rattle.std.proofs.Common.{refl}
 use Rattle.lite_base.specs.Calling.{Calls}
-use Rattle.lite_views.specs.Laws.Consuming.{any_made, only_made}
-use Rattle.lite_views.specs.Laws.Views.{lent_lists}
+use Rattle.lite_views.proofs.Consuming.{any_made, only_made}
+use Rattle.lite_views.proofs.Views.{lent_lists}
 use Rattle.futures_lite.proofs.stream.StreamExt.any.Goals as goal
 
 pub returns-clause-value : goal.returns-clause-value

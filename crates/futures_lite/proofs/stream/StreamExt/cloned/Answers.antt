@@ -1,6 +1,6 @@
 use Rattle.lite_reshape.specs.Cloned.{cloned_parts}
-use Rattle.lite_views.specs.Laws.Holding.{cloned_fits}
-use Rattle.lite_views.specs.Laws.Views.{listed_through}
+use Rattle.lite_views.proofs.Holding.{cloned_fits}
+use Rattle.lite_views.proofs.Views.{listed_through}
 use Rattle.futures_lite.proofs.stream.StreamExt.cloned.Goals as goal
 
 pub returns-clause-lists : goal.returns-clause-lists

@@ -1,5 +1,5 @@
-use Rattle.lite_views.specs.Laws.Consuming.{collect_made, value_made}
-use Rattle.lite_views.specs.Laws.Views.{seen}
+use Rattle.lite_views.proofs.Consuming.{collect_made, value_made}
+use Rattle.lite_views.proofs.Views.{seen}
 use Rattle.futures_lite.proofs.stream.StreamExt.collect.Goals as goal
 
 pub returns-clause-value : goal.returns-clause-value

@@ -1,6 +1,6 @@
 use Rattle.lite_reshape.specs.FilterMap.{filter_map_parts}
-use Rattle.lite_views.specs.Laws.Adapting.{filter_map_fewer, filter_mapped_fits}
-use Rattle.lite_views.specs.Laws.Views.{listed_through}
+use Rattle.lite_views.proofs.Adapting.{filter_map_fewer, filter_mapped_fits}
+use Rattle.lite_views.proofs.Views.{listed_through}
 use Rattle.futures_lite.proofs.stream.StreamExt.filter_map.Goals as goal
 
 pub returns-clause-lists : goal.returns-clause-lists

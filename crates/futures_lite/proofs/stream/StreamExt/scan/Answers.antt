@@ -1,6 +1,6 @@
 use Rattle.lite_stream.specs.Scan.{scan_parts}
-use Rattle.lite_views.specs.Laws.Adapting.{scan_fewer, scanned_fits}
-use Rattle.lite_views.specs.Laws.Views.{listed_through}
+use Rattle.lite_views.proofs.Adapting.{scan_fewer, scanned_fits}
+use Rattle.lite_views.proofs.Views.{listed_through}
 use Rattle.futures_lite.proofs.stream.StreamExt.scan.Goals as goal
 
 pub returns-clause-lists : goal.returns-clause-lists

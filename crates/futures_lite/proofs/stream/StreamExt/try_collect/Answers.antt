@@ -1,7 +1,7 @@
-use Rattle.lite_views.specs.Laws.Collecting.{all_collected}
-use Rattle.lite_views.specs.Laws.Consuming.{try_collect_made, value_made}
-use Rattle.lite_views.specs.Laws.OkLists.{ok_seen}
-use Rattle.lite_views.specs.Laws.Views.{seen}
+use Rattle.lite_views.proofs.Collecting.{all_collected}
+use Rattle.lite_views.proofs.Consuming.{try_collect_made, value_made}
+use Rattle.lite_views.proofs.OkLists.{ok_seen}
+use Rattle.lite_views.proofs.Views.{seen}
 use Rattle.futures_lite.proofs.stream.StreamExt.try_collect.Goals as goal
 
 pub returns-clause-value : goal.returns-clause-value

@@ -1,5 +1,5 @@
-use Rattle.lite_views.specs.Laws.Consuming.{unzip_made, value_made}
-use Rattle.lite_views.specs.Laws.Views.{seen}
+use Rattle.lite_views.proofs.Consuming.{unzip_made, value_made}
+use Rattle.lite_views.proofs.Views.{seen}
 use Rattle.futures_lite.proofs.stream.StreamExt.unzip.Goals as goal
 
 pub returns-clause-value : goal.returns-clause-value

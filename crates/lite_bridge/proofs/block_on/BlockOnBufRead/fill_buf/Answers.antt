@@ -1,6 +1,6 @@
 use Rattle.std.proofs.Common.{List, ℕ, refl, sym}
 use Rattle.std.specs.Borrow.{Bor}
-use Rattle.lite_bridge.specs.Laws.Blocks.{fill_fails, fill_lends, filling_stays}
+use Rattle.lite_bridge.proofs.Blocks.{fill_fails, fill_lends, filling_stays}
 use Rattle.lite_bridge.proofs.block_on.BlockOnBufRead.fill_buf.Goals as goal
 
 pub shape_of-self : goal.shape_of-self

@@ -1,5 +1,5 @@
 use Rattle.std.proofs.Common.{◌∙◌, ap, rules, sym}
-use Rattle.lite_bridge.specs.Laws.Blocks.{buf_stays, read_blocks, read_in_room, reader_stays}
+use Rattle.lite_bridge.proofs.Blocks.{buf_stays, read_blocks, read_in_room, reader_stays}
 use Rattle.lite_bridge.proofs.block_on.BlockOnRead.read.Goals as goal
 
 pub shape_of-self : goal.shape_of-self

@@ -1,5 +1,5 @@
 use Rattle.std.proofs.Common.{◌∙◌, ap, sym}
-use Rattle.lite_bridge.specs.Laws.Blocks.{seek_blocks, seeker_stays}
+use Rattle.lite_bridge.proofs.Blocks.{seek_blocks, seeker_stays}
 use Rattle.lite_bridge.proofs.block_on.BlockOnSeek.seek.Goals as goal
 
 pub shape_of-self : goal.shape_of-self

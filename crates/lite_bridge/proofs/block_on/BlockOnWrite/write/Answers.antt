@@ -1,5 +1,5 @@
 use Rattle.std.proofs.Common.{◌∙◌, ap, sym}
-use Rattle.lite_bridge.specs.Laws.Blocks.{write_blocks, write_within, writer_stays}
+use Rattle.lite_bridge.proofs.Blocks.{write_blocks, write_within, writer_stays}
 use Rattle.lite_bridge.proofs.block_on.BlockOnWrite.write.Goals as goal
 
 pub shape_of-self : goal.shape_of-self

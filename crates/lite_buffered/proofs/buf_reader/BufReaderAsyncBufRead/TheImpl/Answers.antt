@@ -3,7 +3,7 @@ use base.Logic.{mono_l}
 use contract.Monad.{fact}
 use denote.Param.{param}
 use Rattle.futures.specs.Task.{Keeps}
-use Rattle.lite_io_base.specs.Laws.Afterwards.{afterwards_weaker, clauses_give}
+use Rattle.lite_io_base.proofs.Afterwards.{afterwards_weaker, clauses_give}
 use Rattle.lite_buffered.specs.contracts.buf_reader.BufReader.{the_row}
 use Rattle.lite_buffered.proofs.buf_reader.BufReaderAsyncBufRead.TheImpl.Goals as goal
 

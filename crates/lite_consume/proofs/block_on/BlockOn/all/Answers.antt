@@ -1,6 +1,6 @@
 use Rattle.lite_base.specs.Calling.{Calls}
 use Rattle.lite_consume.specs.Given.{MayCall}
-use Rattle.lite_consume.specs.Laws.Given.{each_of, given}
+use Rattle.lite_consume.proofs.Given.{each_of, given}
 use Rattle.lite_consume.specs.All.{alls}
 use Rattle.lite_consume.proofs.block_on.BlockOn.all.Goals as goal
 

@@ -1,4 +1,4 @@
-use Rattle.lite_consume.specs.Laws.Given.{lent_each, lent_given}
+use Rattle.lite_consume.proofs.Given.{lent_each, lent_given}
 use Rattle.lite_consume.proofs.block_on.BlockOn.ask.Goals as goal
 
 pub wait_for-requires : goal.wait_for-requires

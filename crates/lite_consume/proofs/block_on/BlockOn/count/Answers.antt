@@ -1,4 +1,4 @@
-use Rattle.lite_consume.specs.Laws.Given.{given_last}
+use Rattle.lite_consume.proofs.Given.{given_last}
 use Rattle.lite_consume.specs.Count.{counts}
 use Rattle.lite_consume.proofs.block_on.BlockOn.count.Goals as goal
 

@@ -1,5 +1,5 @@
 use Rattle.std.specs.Fn.{CalledAt, TakesAt}
-use Rattle.lite_consume.specs.Laws.Given.{each_of, given}
+use Rattle.lite_consume.proofs.Given.{each_of, given}
 use Rattle.lite_consume.specs.Find.{finds}
 use Rattle.lite_consume.proofs.block_on.BlockOn.find.Goals as goal
 

@@ -1,6 +1,6 @@
 use Rattle.lite_base.specs.Calling.{Calls}
 use Rattle.lite_consume.specs.Given.{MayCall}
-use Rattle.lite_consume.specs.Laws.Given.{each_of, given_last}
+use Rattle.lite_consume.proofs.Given.{each_of, given_last}
 use Rattle.lite_consume.specs.ForEach.{calls_each}
 use Rattle.lite_consume.proofs.block_on.BlockOn.for_each.Goals as goal
 

@@ -1,4 +1,4 @@
-use Rattle.lite_consume.specs.Laws.Given.{given_last}
+use Rattle.lite_consume.proofs.Given.{given_last}
 use Rattle.lite_consume.specs.Last.{lasts}
 use Rattle.lite_consume.proofs.block_on.BlockOn.last.Goals as goal
 

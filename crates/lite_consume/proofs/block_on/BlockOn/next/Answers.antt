@@ -1,4 +1,4 @@
-use Rattle.lite_consume.specs.Laws.Given.{given}
+use Rattle.lite_consume.proofs.Given.{given}
 use Rattle.lite_consume.specs.Next.{nexts}
 use Rattle.lite_consume.proofs.block_on.BlockOn.next.Goals as goal
 

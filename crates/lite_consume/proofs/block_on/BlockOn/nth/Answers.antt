@@ -1,4 +1,4 @@
-use Rattle.lite_consume.specs.Laws.Given.{given}
+use Rattle.lite_consume.proofs.Given.{given}
 use Rattle.lite_consume.specs.Nth.{nths}
 use Rattle.lite_consume.proofs.block_on.BlockOn.nth.Goals as goal
 

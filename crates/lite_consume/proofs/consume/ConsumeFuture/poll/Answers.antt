@@ -1,4 +1,4 @@
-use Rattle.lite_consume.specs.Laws.PollSteps.{steps_answer}
+use Rattle.lite_consume.proofs.PollSteps.{steps_answer}
 use Rattle.lite_consume.proofs.consume.ConsumeFuture.poll.Goals as goal
 
 pub returns-clause-ran : goal.returns-clause-ran

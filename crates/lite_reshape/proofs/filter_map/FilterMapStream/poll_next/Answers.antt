@@ -1,5 +1,5 @@
 use Rattle.lite_base.specs.Calling.{Calls}
-use Rattle.lite_reshape.specs.Laws.PollSteps.{sifts_answer}
+use Rattle.lite_reshape.proofs.PollSteps.{sifts_answer}
 use Rattle.lite_reshape.proofs.filter_map.FilterMapStream.poll_next.Goals as goal
 
 pub returns-clause-ran : goal.returns-clause-ran

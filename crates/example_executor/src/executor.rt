@@ -1,0 +1,87 @@
+//! A small executor, on this thread.
+ghost use Rattle.std.specs.List.{AllByRecursion};
+ghost use Rattle.example_executor.specs.Tasks.{EachRan, MayRun, TaskRan};
+
+use crate::task::Task;
+use futures::task::{Doorbell, Queue, Source};
+use futures_lite::{Context, Future, Poll};
+use std::alloc::AllocGlobal;
+use std::io;
+use std::random::RandomSource;
+use std::sync::Wait;
+
+/// Polls the futures until so many of them have their values: each new one, and then each one whose context was woken. The
+/// thread sleeps while there is none, and for ever where none of those that are left is woken. Each value is one that the
+/// task's own future gave. `Err` says that there was no memory, or no random bytes to name the queue by: then none was polled.
+pub fn run<R, F>(rt: &R, tasks: &mut [Task<F, F::Output>], wanted: usize) -> io::Result<()>
+where
+    R: Wait + RandomSource + AllocGlobal,
+    F: Future<Output: Drop>,
+    requires { AllByRecursion (MayRun F.can_poll) tasks.old }
+    ensures { EachRan F.run tasks.old tasks.new }
+{
+    let queue = Queue::new(rt, Doorbell::parking())?;
+    let source = Source::new();
+    for _ in 0..tasks.len() {
+        queue.add()?.schedule();
+    }
+    let mut left = wanted;
+    for _ in rt.forever() {
+        if left == 0 {
+            return Ok(());
+        }
+        let Some(cx) = queue.next(rt) else {
+            return Ok(());
+        };
+        if poll_at(tasks, &source, cx) {
+            left -= 1;
+        }
+    }
+    unreachable!()
+}
+
+/// Polls the task of this context, and says whether it has its value now.
+fn poll_at<F: Future<Output: Drop>>(
+    tasks: &mut [Task<F, F::Output>],
+    source: &Source,
+    cx: Context<'_>,
+) -> bool
+    requires { AllByRecursion (MayRun F.can_poll) tasks.old }
+    ensures ran { EachRan F.run tasks.old tasks.new }
+    ensures again { AllByRecursion (MayRun F.can_poll) tasks.new }
+{
+    let at = cx.task();
+    if at < tasks.len() {
+        return poll_one(&mut tasks[at], source, cx);
+    }
+    cx.cancel();
+    false
+}
+
+/// Polls a task that has no value yet, and ends or parks it; says whether it has its value now.
+fn poll_one<F: Future<Output: Drop>>(
+    task: &mut Task<F, F::Output>,
+    source: &Source,
+    mut cx: Context<'_>,
+) -> bool
+    requires { MayRun F.can_poll task.old }
+    ensures ran { TaskRan F.run task.old task.new }
+    ensures again { MayRun F.can_poll task.new }
+{
+    if task.value.is_some() {
+        cx.cancel();
+        return false;
+    }
+    match task.future.poll(&mut cx) {
+        Poll::Ready(value) => {
+            task.value = Some(value);
+            cx.cancel();
+            true
+        }
+        Poll::Pending => {
+            let _: Poll<()> = cx.register(source, &mut task.slot);
+            cx.park();
+            false
+        }
+    }
+}

@@ -1,0 +1,69 @@
+-- What a frame is, and what reading one was told.
+use Rattle.std.specs.Prelude.{◌≡◌, ◌⊎◌, ◌<◌, ◌≤◌, ◌^◌, ℕ, List, [], ◌∷◌, ◌++◌, length, Option, Some, None}
+use Rattle.std.specs.Prelude.{Result, Ok, Err}
+use Rattle.std.proofs.Common.{Global}
+use Rattle.std.specs.Int.{to_be_bytes, w32}
+use Rattle.std.specs.IoError.{error_kind}
+use Rattle.std.specs.declared.io.ErrorKind.TheVariants.{UnexpectedEof}
+use Rattle.std.specs.declared.vec.Vec.{Vec}
+use Rattle.futures_lite.specs.Marks.{ReadMark, bytes}
+use Rattle.example_frames.specs.declared.fault.FrameError.{FrameError}
+use Rattle.example_frames.specs.declared.fault.FrameError.TheVariants.{Ended, Io, Memory, TooLong}
+
+-- a length in four bytes, the highest first
+abbrev pub header : ℕ → List ℕ
+header n = to_be_bytes w32 n
+
+-- a payload, and before it how many bytes it has
+abbrev pub frame : List ℕ → List ℕ
+frame payload = header (length payload) ++ payload
+
+-- a frame began with these bytes: they are fewer than those of a header, or one within the limit and some of its payload
+abbrev pub Begun : ℕ → List ℕ → Type 0
+Begun limit front = (length front < 4)
+    ⊎ ((n : ℕ) × (some : List ℕ) × (front ≡ header n ++ some) × (length some ≤ n) × (n ≤ limit))
+
+-- why no more bytes of a frame came: an end, or an error that says of itself that it is one; the error; or nothing is
+-- said, where memory was refused
+abbrev pub StopsFrame : List ReadMark → FrameError → Type 0
+StopsFrame last Ended = (last ≡ ReadMark.end ∷ []) ⊎ (last ≡ ReadMark.fault UnexpectedEof ∷ [])
+StopsFrame last (Io e) = last ≡ ReadMark.fault (error_kind e) ∷ []
+StopsFrame last Memory = last ≡ []
+StopsFrame last (TooLong n) = ⊥
+
+-- fewer bytes than a part has, or none
+abbrev pub FewerThan : List ℕ → List ℕ → Type 0
+FewerThan part front = (length front < length part) ⊎ (front ≡ [])
+
+-- what filling a part of a frame was told: its bytes; or fewer, and then an end, the error, or nothing
+abbrev pub PartTold : List ℕ → List ReadMark → Result (Unit {0}) FrameError → Type 0
+PartTold part l (Ok u) = l ≡ bytes part
+PartTold part l (Err e) = (front : List ℕ) × (last : List ReadMark) × FewerThan part front × StopsFrame last e
+    × (l ≡ bytes front ++ last)
+
+-- what reading the first byte of a frame was told
+abbrev pub FirstTold : List ReadMark → Result (Option ℕ) FrameError → Type 0
+FirstTold l (Ok None) = l ≡ ReadMark.end ∷ []
+FirstTold l (Ok (Some b)) = l ≡ bytes (b ∷ [])
+FirstTold l (Err e) = StopsFrame l e
+
+-- what reading a header was told, and the length that it says
+abbrev pub HeaderTold : List ReadMark → Result (Option ℕ) FrameError → Type 0
+HeaderTold l (Ok None) = l ≡ ReadMark.end ∷ []
+HeaderTold l (Ok (Some n)) = (l ≡ bytes (header n)) × (n < 2 ^ 32)
+HeaderTold l (Err e) = (front : List ℕ) × (last : List ReadMark) × (length front < 4) × StopsFrame last e
+    × (l ≡ bytes front ++ last)
+
+-- What reading a frame was told, by its value: an end; the frame of the payload; a header above the limit; or what began
+-- a frame, and then why no more came.
+abbrev pub FrameTold : ℕ → List ReadMark → Result (Option (Vec ℕ Global)) FrameError → Type 0
+FrameTold limit l (Ok None) = l ≡ ReadMark.end ∷ []
+FrameTold limit l (Ok (Some payload)) = (l ≡ bytes (frame payload.items)) × (length payload.items ≤ limit)
+FrameTold limit l (Err (TooLong n)) = (l ≡ bytes (header n)) × (limit < n)
+FrameTold limit l (Err e) = (front : List ℕ) × (last : List ReadMark) × Begun limit front × StopsFrame last e
+    × (l ≡ bytes front ++ last)
+
+-- where what was told is the frame of this payload so far, the value is that
+abbrev pub IsPayload : List ℕ → Option (Vec ℕ Global) → Type 0
+IsPayload sent None = ⊥
+IsPayload sent (Some payload) = payload.items ≡ sent

@@ -1,0 +1,29 @@
+//! Why a frame is not written or not read.
+use std::alloc::AllocError;
+use std::io;
+
+/// Why a frame was not written, or not read.
+#[derive(Debug, Drop)]
+pub enum FrameError {
+    /// The payload has this many bytes, above the limit, or its header says so. Of a payload to be written nothing was
+    /// written; of one to be read the header was read.
+    TooLong(u64),
+    /// The input ended within the frame: what there was of it was read.
+    Ended,
+    /// The reader's error, or the writer's: a part of the frame was read or written.
+    Io(io::Error),
+    /// Memory was refused, for the payload or for the wait: at most the header was read, or nothing was written.
+    Memory,
+}
+
+impl From<AllocError> for FrameError {
+    fn from(_: AllocError) -> FrameError {
+        FrameError::Memory
+    }
+}
+
+impl From<io::Error> for FrameError {
+    fn from(error: io::Error) -> FrameError {
+        FrameError::Io(error)
+    }
+}

@@ -1,0 +1,126 @@
+-- What was told and written so far, and what comes behind it.
+use Rattle.std.proofs.Common.{◌≡◌, ◌⊎◌, ◌∙◌, ℕ, true, List, [], ◌∷◌, ◌++◌, Result, Ok, Err, ap, refl, sym, subst}
+use Rattle.std.proofs.Common.{append-nil, append_assoc}
+use Rattle.std.proofs.lemmas.List.{map-append}
+use Rattle.std.specs.Prelude.{IfOk}
+use Rattle.futures_lite.specs.Laws.Taken.{taken_both}
+use Rattle.futures_lite.specs.Laws.Told.{told_follow, told_none}
+use Rattle.futures_lite.specs.Marks.{ReadMark, WriteMark, bytes, bytes_taken}
+use Rattle.futures_lite.specs.Own.{MarkLaws, Runs}
+use Rattle.futures_lite.specs.Readers.{StandsFirst, ToldStripped}
+use Rattle.futures_lite.specs.Writers.{EndsFlushed, TakesFront}
+use Rattle.example_line_server.specs.Serving.{LineEnds, OfOutput, Replied, ServingEnds, StopsServing, replies}
+use Rattle.example_line_server.specs.declared.fault.ServeError.{ServeError}
+use Rattle.example_line_server.specs.declared.fault.ServeError.TheVariants.{Input, Memory, Output}
+use Rattle.example_line_server.proofs.Lines.{Ended, ended_both, ended_none, ended_whole, replies_both}
+
+pub stops_output : (rest : List ReadMark) (e : ServeError) → (rest ≡ []) ⊎ (rest ≡ ReadMark.end ∷ []) → OfOutput e
+    → StopsServing rest e
+stops_output rest (Input e) at h = absurd h
+stops_output rest (Output e) at h = at
+stops_output rest Memory at h = at
+
+-- where a front of these replies was written, and they are those to what was read
+pub replied : {R : Type 0} (told : List ReadMark) (took : List WriteMark)
+    (Ends : List ℕ → List ReadMark → List WriteMark → R → Type 0) (value : R) (xs given : List ℕ) (rest : List ReadMark)
+    → told ≡ bytes xs ++ rest → given ≡ replies xs → StandsFirst (bytes_taken took) given → Ends xs rest took value
+    → Replied told took Ends value
+replied told took Ends value xs given rest cut same front ends =
+    record { read = xs; rest = rest; cut = cut; front = (front.0, sym same ∙ front.1); ends = ends }
+
+ends_later : (l m : List WriteMark) → EndsFlushed m → EndsFlushed (l ++ m)
+ends_later l m h = (l ++ h.0, ap (λ k. l ++ k) h.1 ∙ sym (append_assoc l h.0 (WriteMark.flushed ∷ [])))
+
+module _ {W : Type 0} {writes : Runs WriteMark W} (laws : MarkLaws writes) (x y z : W) (p : List ℕ)
+    (l m : List WriteMark) (before : TakesFront writes x p l y) (all : bytes_taken l ≡ p) (more : writes y m z)
+    (none : bytes_taken m ≡ []) where
+  still_all : bytes_taken (l ++ m) ≡ p
+  still_all = taken_both l m ∙ ap (λ k. bytes_taken l ++ k) none ∙ append-nil (bytes_taken l) ∙ all
+
+  -- marks without a byte behind all bytes
+  pub none_behind : TakesFront writes x p (l ++ m) z × (bytes_taken (l ++ m) ≡ p)
+  none_behind = ((laws.follows x y z l m before.0 more, ([], sym (append-nil _ ∙ still_all))), still_all)
+
+  -- a flush behind them
+  pub flush_behind : {E : Type 0} (r : Result (Unit {0}) E) → IfOk r (λ _. EndsFlushed m)
+      → IfOk r (λ _. (bytes_taken (l ++ m) ≡ p) × EndsFlushed (l ++ m))
+  flush_behind (Ok u) h = (still_all, ends_later l m h)
+  flush_behind (Err e) h = tt
+
+-- all that was told so far was answered
+pub record SoFar {S W : Type 0} (reads : Runs ReadMark S) (writes : Runs WriteMark W) (x : S) (y : W) (x' : S) (y' : W)
+    : Type 0 where
+  pub read : List ℕ
+  pub took : List WriteMark
+  pub told : ToldStripped reads x (bytes read) x'
+  pub wrote : writes y took y'
+  pub all : bytes_taken took ≡ replies read
+  pub ended : Ended read
+
+module _ {S W : Type 0} {reads : Runs ReadMark S} {writes : Runs WriteMark W} (in_laws : MarkLaws reads)
+    (out_laws : MarkLaws writes) where
+  pub so_far_none : (x : S) (y : W) → SoFar reads writes x y x y
+  so_far_none x y =
+      record {
+        read = [];
+        took = [];
+        told = told_none in_laws x;
+        wrote = out_laws.rests y;
+        all = refl;
+        ended = ended_none;
+      }
+
+  module _ (x x' x'' : S) (y y' y'' : W) (h : SoFar reads writes x y x' y') (l : List ReadMark) (t : List WriteMark)
+      (told : ToldStripped reads x' l x'') (wrote : writes y' t y'') where
+    all_both : (xs : List ℕ) → bytes_taken t ≡ replies xs → bytes_taken (h.took ++ t) ≡ replies (h.read ++ xs)
+    all_both xs e = rw (taken_both h.took t, h.all, e) (sym (replies_both h.read xs h.ended))
+
+    front_both : (xs : List ℕ) → StandsFirst (bytes_taken t) (replies xs)
+        → StandsFirst (bytes_taken (h.took ++ t)) (replies (h.read ++ xs))
+    front_both xs f = (
+      f.0,
+      replies_both h.read xs h.ended ∙ ap (λ k. replies h.read ++ k) f.1
+          ∙ sym (append_assoc (replies h.read) (bytes_taken t) f.0)
+          ∙ ap (λ k. k ++ f.0) (sym (taken_both h.took t ∙ ap (λ k. k ++ bytes_taken t) h.all)),
+    )
+
+    -- a whole line more
+    pub so_far_on : Replied l t LineEnds (Ok true) → SoFar reads writes x y x'' y''
+    so_far_on r =
+        let all_bytes : bytes h.read ++ l ≡ bytes (h.read ++ r.read) = ap (λ k. bytes h.read ++ k)
+        (r.cut ∙ ap (λ k. bytes r.read ++ k) r.ends.0 ∙ append-nil (bytes r.read))
+        ∙ sym (map-append ReadMark.byte h.read r.read) in
+        record {
+          read = h.read ++ r.read;
+          took = h.took ++ t;
+          told = subst (λ k. ToldStripped reads x k x'') all_bytes
+              (told_follow in_laws x x' x'' (bytes h.read) l h.told told);
+          wrote = out_laws.follows y y' y'' h.took t h.wrote wrote;
+          all = all_both r.read r.ends.2;
+          ended = ended_both h.read r.read h.ended (ended_whole r.read r.ends.1);
+        }
+
+    -- what is said of all, where no more lines come
+    pub served : (line : Result (Unit {0}) ServeError)
+        → Replied l t ServingEnds line
+        → (l : List ReadMark) × (took : List WriteMark) × ToldStripped reads x l x'' × writes y took y''
+        × Replied l took ServingEnds line
+    served line r = (
+      bytes h.read ++ l,
+      h.took ++ t,
+      told_follow in_laws x x' x'' (bytes h.read) l h.told told,
+      out_laws.follows y y' y'' h.took t h.wrote wrote,
+      record {
+        read = h.read ++ r.read;
+        rest = r.rest;
+        cut = ap (λ k. bytes h.read ++ k) r.cut ∙ sym (append_assoc (bytes h.read) (bytes r.read) r.rest)
+            ∙ ap (λ k. k ++ r.rest) (sym (map-append ReadMark.byte h.read r.read));
+        front = front_both r.read r.front;
+        ends = ends_both line r.rest r.read r.ends;
+      },
+    )
+      where
+        ends_both : (line : Result (Unit {0}) ServeError) (rest : List ReadMark) (xs : List ℕ)
+            → ServingEnds xs rest t line → ServingEnds (h.read ++ xs) rest (h.took ++ t) line
+        ends_both (Ok u) rest xs e = (e.0, (all_both xs e.1.0, ends_later h.took t e.1.1))
+        ends_both (Err e) rest xs s = s

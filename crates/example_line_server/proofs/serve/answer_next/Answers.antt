@@ -1,0 +1,57 @@
+use Rattle.std.proofs.Common.{◌≡◌, ◌∙◌, [], ◌∷◌, Err, append-nil, inl, inr, refl, rules, sym}
+use Rattle.futures_lite.specs.Marks.{ReadMark, bytes}
+use Rattle.example_line_server.specs.Serving.{replies}
+use Rattle.example_line_server.proofs.Lines.{last_line, whole_line}
+use Rattle.example_line_server.proofs.Serving.{replied, stops_output}
+use Rattle.example_line_server.proofs.serve.answer_next.Goals as goal
+
+pub returns-in_err-read_line-clause-answered : goal.returns-in_err-read_line-clause-answered
+returns-in_err-read_line-clause-answered g c =
+    let t = c.in_err-read_line.ensures.told in
+    let xs = c.read_line.new.line.items in
+    let is : c.from_residual.result ≡ Err c.in_err-read_line.field-0.0 = search rules in
+    let wrote = g.O.Takings.write_laws.rests _ in
+    rw is (t.0, [], t.1, wrote, replied _ _ _ _ xs _ t.2.0 t.2.1 refl (replies xs, refl) t.2.2)
+
+pub returns-in_err-answer_whole-clause-answered : goal.returns-in_err-answer_whole-clause-answered
+returns-in_err-answer_whole-clause-answered g c =
+    let one = c.in_ok-read_line.ensures.told in
+    let two = c.in_err-answer_whole.ensures in
+    let xs = c.read_line.new.line.items in
+    let take = c.take_line.ensures in
+    let w = whole_line xs _ one.0 c.take_line.result one.2 take.whole take.last c.if-take_line.true in
+    let cut = w.1 ∙ sym (append-nil (bytes xs)) in
+    let is : c.from_residual-in_err-answer_whole.result ≡ Err c.in_err-answer_whole.field-0.0 = search rules in
+    let stops = stops_output [] _ (inl refl) two.3 in
+    rw is (one.0, two.0, one.1, two.1.0, replied _ _ _ _ xs _ [] cut w.2 two.1.1 stops)
+
+pub returns-then-take_line-clause-answered : goal.returns-then-take_line-clause-answered
+returns-then-take_line-clause-answered g c =
+    let one = c.in_ok-read_line.ensures.told in
+    let two = c.in_ok-answer_whole.ensures in
+    let xs = c.read_line.new.line.items in
+    let take = c.take_line.ensures in
+    let w = whole_line xs _ one.0 c.take_line.result one.2 take.whole take.last c.if-take_line.true in
+    let cut = w.1 ∙ sym (append-nil (bytes xs)) in
+    (one.0, two.0, one.1, two.1.0, replied _ _ _ _ xs _ [] cut w.2 two.1.1 (refl, w.0, two.2 ∙ w.2))
+
+pub returns-in_err-answer_last-clause-answered : goal.returns-in_err-answer_last-clause-answered
+returns-in_err-answer_last-clause-answered g c =
+    let one = c.in_ok-read_line.ensures.told in
+    let two = c.in_err-answer_last.ensures in
+    let xs = c.read_line.new.line.items in
+    let take = c.take_line.ensures in
+    let w = last_line xs _ one.0 c.take_line.result one.2 take.whole take.last c.if-take_line.false in
+    let is : c.from_residual-in_err-answer_last.result ≡ Err c.in_err-answer_last.field-0.0 = search rules in
+    let stops = stops_output (ReadMark.end ∷ []) _ (inr refl) two.3 in
+    rw is (one.0, two.0, one.1, two.1.0, replied _ _ _ _ xs _ (ReadMark.end ∷ []) w.0 w.1 two.1.1 stops)
+
+pub returns-clause-answered : goal.returns-clause-answered
+returns-clause-answered g c =
+    let one = c.in_ok-read_line.ensures.told in
+    let two = c.in_ok-answer_last.ensures in
+    let xs = c.read_line.new.line.items in
+    let take = c.take_line.ensures in
+    let w = last_line xs _ one.0 c.take_line.result one.2 take.whole take.last c.if-take_line.false in
+    let all = two.2.0 ∙ w.1 in
+    (one.0, two.0, one.1, two.1.0, replied _ _ _ _ xs _ (ReadMark.end ∷ []) w.0 w.1 two.1.1 (refl, (all, two.2.1)))

@@ -1,0 +1,47 @@
+//! A line server: each line of standard input is answered by a line of standard output.
+#![tactic(auto)]
+
+mod fault;
+mod reply;
+mod serve;
+
+use fault::ServeError;
+use futures_lite::AsyncReadExt;
+use futures_lite::future::BlockOn;
+use futures_lite::io::{AssertAsync, BufReader, BufWriter};
+use serve::serve;
+use std::alloc::AllocGlobal;
+use std::process::ExitCode;
+use std::random::RandomSource;
+use std::sync::Wait;
+
+/// How many bytes are read in a row before the program yields.
+const BYTES: usize = 1 << 16;
+
+fn main(rt: HostRuntime) -> ExitCode {
+    match serve_standard(&rt, &rt) {
+        Ok(()) => ExitCode::from(0),
+        Err(e) => {
+            let _ = eprintln!(rt; "example_line_server: {e:?}");
+            ExitCode::from(1)
+        }
+    }
+}
+
+/// Serves standard input. `rt` is the host as one that may wait.
+fn serve_standard<R>(host: &HostRuntime, rt: &R) -> Result<(), ServeError>
+where
+    R: Wait + RandomSource + AllocGlobal,
+{
+    let Ok(mut on) = BlockOn::new(rt) else {
+        return Err(ServeError::Memory);
+    };
+    let input = AssertAsync::new(host.stdin()).with_budget(BYTES);
+    let Ok(mut requests) = BufReader::new(rt.alloc(), input) else {
+        return Err(ServeError::Memory);
+    };
+    let Ok(mut replies) = BufWriter::new(rt.alloc(), AssertAsync::new(host.stdout())) else {
+        return Err(ServeError::Memory);
+    };
+    serve(&mut on, rt, rt.alloc(), &mut requests, &mut replies)
+}

@@ -1,0 +1,55 @@
+-- Runs of `split` and `lines` without a refusal are runs in which memory was found, where the reader asks for none.
+use Rattle.std.specs.Prelude.{⊤}
+use Rattle.std.proofs.Common.{ℕ, List, Global, Option, Some, None, Result, inl, inr}
+use Rattle.std.specs.declared.io.Error.{Error}
+use Rattle.std.specs.declared.string.String.{String}
+use Rattle.futures.specs.declared.task.Poll.TheVariants.{Ready, Pending}
+use Rattle.lite_base.specs.Answers.{Answer}
+use Rattle.lite_base.specs.Laws.Segments.{segment_gives, segments_map}
+use Rattle.lite_base.specs.Runs.{Runs}
+use Rattle.lite_io_base.specs.Marks.{ReadMark}
+use Rattle.lite_io_base.specs.Steady.{AllAmple}
+use Rattle.lite_read.specs.Lines.{GivesLines, lines_over}
+use Rattle.lite_read.specs.ReadFold.{AnswerMarks}
+use Rattle.lite_read.specs.NoneRefused.{NoneRefused, NotRefused}
+use Rattle.lite_read.specs.Pieces.{Cut, CutsPiece, Itemised, pieces}
+use Rattle.lite_read.specs.Segments.{Flows, StreamOver}
+use Rattle.lite_read.specs.LineText.{IsText, without_return}
+use Rattle.lite_read.specs.declared.lines.Lines.{Lines}
+
+module _ {A : Type 0} (whole final : List ℕ → Result A Error → Type 0) where
+  -- an item that is no refusal comes of a mark
+  module _ (byte : ℕ) (held after : List ℕ) (marks : List ReadMark) where
+    cuts_found : (cut : Cut) (v : Option (Result A Error)) → NotRefused (Ready v) → CutsPiece byte ⊤ held marks cut
+        → Itemised whole final cut held v after → CutsPiece byte ⊥ held marks cut
+    cuts_found (Cut.failed e) v none (inl c) made = inl c
+    cuts_found (Cut.failed e) None none (inr c) made = absurd made
+    cuts_found (Cut.failed e) (Some r) none (inr c) made = absurd (none e (rw made.0) c.2)
+    cuts_found _ v none c made = c
+
+  answer_found : (byte : ℕ) (p q : List ℕ) (marks : List ReadMark) (a : Answer (Result A Error)) → NotRefused a
+      → AnswerMarks (pieces byte ⊤ (Itemised whole final)) p marks a q
+      → AnswerMarks (pieces byte ⊥ (Itemised whole final)) p marks a q
+  answer_found byte p q marks Pending none h = segment_gives p q q marks Pending Pending (λ m last g. g) h
+  answer_found byte p q marks (Ready v) none h =
+      segment_gives p q q marks (Ready v) (Ready v)
+      (λ m last g. (g.0, cuts_found byte m q last g.0 v none g.1 g.2, g.2)) h
+
+  module _ {X S K : Type 0} (over : StreamOver X S (List ℕ) K) (byte : K → ℕ) {reads ample : Runs ReadMark S} where
+    flow_found : AllAmple reads ample → (x y : X) (out : List (Answer (Result A Error))) → NoneRefused out
+        → Flows over (λ k. pieces (byte k) ⊤ (Itemised whole final)) reads x out y
+        → Flows over (λ k. pieces (byte k) ⊥ (Itemised whole final)) ample x out y
+    flow_found all x y out none h =
+        let s = h.segmented in
+        let came = all (over.reader x) (over.reader y) s.marks s.came in
+        let at = byte (over.kept x) in
+        let cut = segments_map (AnswerMarks (pieces at ⊤ (Itemised whole final)))
+        (AnswerMarks (pieces at ⊥ (Itemised whole final))) NotRefused (answer_found at) (over.held x) (over.held y)
+        s.marks out none s.cut in
+        record { segmented = record { marks = s.marks; came = came; cut = cut }; stays = h.stays; idle = h.idle }
+
+module _ {R : Type 0} {reads ample : Runs ReadMark R} where
+  pub lines_ample : AllAmple reads ample → (x y : Lines R) (out : List (Answer (Result (String Global) Error)))
+      → NoneRefused out
+      → GivesLines reads ⊤ x out y → GivesLines ample ⊥ x out y
+  lines_ample = flow_found (λ xs. IsText (without_return xs)) IsText lines_over (λ u. 10)

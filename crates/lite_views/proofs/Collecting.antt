@@ -1,0 +1,66 @@
+-- The value of `try_collect`, by what the Ok items of the stream hold.
+use Rattle.lite_gather.specs.declared.try_collect.TryCollect.{TryCollect}
+use Rattle.lite_views.specs.Views.{ValueHolds}
+use Rattle.lite_views.proofs.Views.{value_holds}
+use Rattle.lite_views.proofs.Consuming.{WhereSome, where_some}
+use Rattle.std.proofs.Common.{◌≡◌, List, [], ◌∷◌, ◌++◌, map, sym, append_assoc, append-nil}
+use Rattle.std.specs.Prelude.{⊤, Option, Some, None, Result, Ok, Err, IfOk, IfSome}
+use Rattle.futures.specs.declared.task.Poll.{Poll}
+use Rattle.futures.specs.declared.task.Poll.TheVariants.{Ready}
+use Rattle.lite_base.specs.Answers.{Answer, Gives, item}
+use Rattle.lite_base.specs.Runs.{Runs}
+use Rattle.lite_consume.specs.Consume.{Folds}
+use Rattle.lite_consume.specs.Consuming.{Consumes, Decides, Fold, TakesIn, fold_of}
+use Rattle.lite_consume.specs.Laws.Consuming.{consumes_steps}
+use Rattle.lite_consume.specs.declared.consume.Consume.{Consume}
+use Rattle.lite_gather.specs.TryCollect.{tries_collect}
+use Rattle.lite_gather.specs.declared.refused.TryCollectError.{TryCollectError}
+use Rattle.lite_views.specs.OkLists.{AllTaken, OkFits, OkLists}
+
+module _ {C T E Y : Type 0} (holds : C → List T → Type 0) (f : T → Y) where
+  -- the fold of `try_collect`
+  abbrev the_fold : Fold (TryCollect C) (Result T E) (Result C (TryCollectError C T E))
+  the_fold = fold_of (λ (m : TryCollect C). m.items) (tries_collect ⊤ holds)
+
+  -- of what is still to come, where the collection has ts
+  abbrev Collects : Result C (TryCollectError C T E) → TryCollect C → List (Answer (Result T E)) → Type 0
+  Collects v p i =
+      (ts : List T) (xs : List Y) → WhereSome p.items (λ c. holds c ts) → OkFits f i xs
+      → IfOk v (λ c. (more : List T) × holds c (ts ++ more) × (map f more ≡ xs))
+
+  module _ (v : Result C (TryCollectError C T E)) (p : TryCollect C) where
+    one_taken : (m : TryCollect C) (x : Result T E) (i : List (Answer (Result T E))) → TakesIn the_fold p x m
+        → Collects v m i → Collects v p (item x ∷ i)
+    one_taken m (Err x) i t k ts xs h e = absurd t
+    one_taken m (Ok x) i t k ts [] h e = absurd e
+    one_taken m (Ok x) i t k ts (y ∷ xs) h e =
+        let now : WhereSome m.items (λ c. holds c (ts ++ x ∷ [])) =
+        λ c k. let same : t.1 ≡ c = (let d = t.4 in cc) in rw (← same) (t.3 ts (h t.0 t.2)) in
+        onward v (k (ts ++ x ∷ []) xs now e.1)
+      where
+        onward : (v : Result C (TryCollectError C T E))
+            → IfOk v (λ c. (more : List T) × holds c ((ts ++ x ∷ []) ++ more) × (map f more ≡ xs))
+            → IfOk v (λ c. (more : List T) × holds c (ts ++ more) × (map f more ≡ y ∷ xs))
+        onward (Ok c) r = (x ∷ r.0, rw (← append_assoc ts (x ∷ []) r.0) r.1, (let a = e.0 in let b = r.2 in cc))
+        onward (Err d) r = tt
+
+    decided_held : (q : TryCollect C) (o : Option (Result T E)) → Decides the_fold p (Ready o) (Ready v) q
+        → Collects v p (Ready o ∷ [])
+    decided_held q None d ts xs h e = rw d.2 ([], rw append-nil (h d.0 d.1), sym e)
+    decided_held q (Some (Ok x)) d ts xs h e = cc
+    decided_held q (Some (Err x)) d ts xs h e = cc
+
+  collected : (l : List (Poll (Result C (TryCollectError C T E)))) (p q : TryCollect C) (i : List (Answer (Result T E)))
+      (v : Result C (TryCollectError C T E)) → Gives l v → Consumes the_fold p i l q → Collects v p i
+  collected l p q i v g h =
+      consumes_steps the_fold (λ p i l. Gives l v → Collects v p i) (λ p m x i b l t k g. one_taken v p m x i t (k g))
+      (λ p i l k. k) q (λ p o r d g. rw (← g.0) (decided_held r p q o d)) p i l absurd h g
+
+  pub all_collected : {S X : Type 0} (run : Runs (Answer (Result T E)) S) (x : Consume S (TryCollect C)) (xs : List Y)
+      → IfSome x.folder.items (λ c. holds c []) → OkLists run x.stream f xs
+      → ValueHolds X (Folds run the_fold) x (AllTaken holds f xs)
+  unfolding OkLists
+  all_collected run x xs none lists =
+      value_holds (Folds run the_fold) x (AllTaken holds f xs)
+      (λ ins v fin. collected ins x.folder fin.last.folder fin.came.ins v fin.gives fin.came.consumed [] xs
+      (where_some (λ c. holds c []) x.folder.items none) (lists fin.came.ins fin.last.stream fin.came.came))

@@ -1,0 +1,185 @@
+-- The items of an adapter that holds what was made of an item: `then`, `cloned`, `flatten` and `flat_map`.
+use Rattle.lite_base.specs.declared.future.ready.Ready.{Ready as ReadyFuture}
+use Rattle.std.proofs.Common.{◌≡◌, List, [], ◌∷◌, ◌++◌, map, inl, inr, refl, ap, sym, subst, append-nil}
+use Rattle.std.specs.Prelude.{⊤, Option, Some, None, Result, Ok, flat_map}
+use Rattle.std.specs.Fn.{Called, Mut}
+use Rattle.std.specs.List.{AllByRecursion}
+use denote.Ref.{Bor}
+use Rattle.futures.specs.declared.task.Poll.{Poll}
+use Rattle.futures.specs.declared.task.Poll.TheVariants.{Ready, Pending}
+use Rattle.lite_base.specs.Answers.{Answer, Gives, Waiting, end}
+use Rattle.lite_base.specs.Calling.{Always, Calls}
+use Rattle.lite_base.specs.Future.Handed.{handed}
+use Rattle.lite_base.specs.Future.Ready.{GivesHeld}
+use Rattle.lite_base.specs.Runs.{Question, Runs}
+use Rattle.lite_reshape.specs.Cloned.{Clones, IsCloneRefusal, Refers}
+use Rattle.lite_reshape.specs.Flatten.{Flat, Flattening}
+use Rattle.lite_reshape.specs.FlatMap.{FlatMaps}
+use Rattle.lite_reshape.specs.declared.flat_map.FlatMap.{FlatMap}
+use Rattle.lite_reshape.specs.Expanding.{Expanding, Expands}
+use Rattle.lite_reshape.specs.Then.{HandsOut}
+use Rattle.lite_stream.specs.Pointwise.{Exchanges}
+use Rattle.lite_views.proofs.Adapting.{continued_fits, endless_fits}
+use Rattle.lite_views.proofs.Views.{Carries, listed}
+use Rattle.lite_views.specs.Views.{Fits, HasValue, Lists, ListsAs}
+
+waiting_fits : {A : Type 0} (l : List (Answer A)) (xs : List A) → Waiting l → Fits l xs
+waiting_fits [] xs w = tt
+waiting_fits (Pending ∷ l) xs w = waiting_fits l xs w
+waiting_fits (Ready a ∷ l) xs w = absurd w
+
+-- one item, after any Pendings, and then what fits the rest of the list
+given_fits : {A : Type 0} (own l : List (Answer A)) (y : A) (ys : List A) → Gives own (Some y) → Fits l ys
+    → Fits (own ++ l) (y ∷ ys)
+given_fits [] l y ys g e = absurd g
+given_fits (Pending ∷ own) l y ys g e = given_fits own l y ys g e
+given_fits (Ready None ∷ own) l y ys g e = cc
+given_fits (Ready (Some z) ∷ own) l y ys g e = (let k = g.0 in cc, rw g.1 e)
+
+-- where what is made of the item x gives Pendings while it is held, and before it is done the item h x
+module _ {F A V B : Type 0} (call : Question F A V) (gives : V → List (Answer B) → Option V → Type 0) (h : A → B)
+    (f : F)
+    (makes : (x : A) (v : V) (g : F) → call f x v g
+    → (g ≡ f) × ((out : List (Answer B)) (w : V) → gives v out (Some w) → Waiting out)
+    × ((out : List (Answer B)) → gives v out None → Gives out (Some (h x)))) where
+  expands_fits : (p q : F) (i : List (Answer A)) (o : List (Answer B)) (last : Option V) (xs : List A) → p ≡ f
+      → Fits i xs → Expands call gives p i o q last → Fits o (map h xs)
+  expands_fits p q [] (b ∷ o) last xs g e t = absurd t
+  expands_fits p q (Pending ∷ i) (b ∷ o) last xs g e t = rw t.0 (expands_fits p q i o last xs g e t.1)
+  expands_fits p q (Ready None ∷ i) (b ∷ o) last xs g e t = rw (t.0, e)
+  expands_fits p q (Ready (Some x) ∷ i) (b ∷ o) last [] g e t = absurd e
+  expands_fits p q (Ready (Some x) ∷ i) (b ∷ o) last (y ∷ xs) g e (v, r, called, inl held) =
+      waiting_fits (b ∷ o) (map h (y ∷ xs)) ((makes x v r (rw (← g) called)).1 (b ∷ o) held.2 held.3)
+  expands_fits p q (Ready (Some x) ∷ i) (b ∷ o) last (y ∷ xs) g e (v, r, called, inr done) =
+      let m = makes x v r (rw (← g) called) in
+      let rest = expands_fits r q i done.1 last xs m.0 e.1 done.4 in
+      subst (λ l. Fits l (map h (y ∷ xs))) (sym done.2)
+      (given_fits done.0 done.1 (h y) (map h xs) (rw (← e.0) (m.2 done.0 done.3)) rest)
+  expands_fits p q _ [] last xs g e t = tt
+
+  expanded_fits : (xs : List A) → Carries (Expanding call gives) (f, None) xs (map h xs)
+  expanded_fits xs i o q = expands_fits f q.0 i o q.1 xs refl
+
+-- `then`
+waiting_handed : {B : Type 0} (ins : List (Poll B)) → Waiting ins → Waiting (map (handed {B = B} Some) ins)
+waiting_handed [] w = tt
+waiting_handed (Pending ∷ ins) w = waiting_handed ins w
+waiting_handed (Ready x ∷ ins) w = absurd w
+
+gives_handed : {B : Type 0} (ins : List (Poll B)) (v : B) → Gives ins v → Gives (map (handed Some) ins) (Some v)
+gives_handed [] v g = absurd g
+gives_handed (Pending ∷ ins) v g = gives_handed ins v g
+gives_handed (Ready x ∷ ins) v g = (ap Some g.0, ap (map (handed Some)) g.1)
+
+pub awaited_fits : {F A V B : Type 0} (call : Question F A V) (run : Runs (Poll B) V) (h : A → B) (f : F)
+    → ((x : A) (v : V) (g : F) → call f x v g → (g ≡ f) × HasValue run v (h x))
+    → (xs : List A) → Carries (Expanding call (HandsOut run)) (f, None) xs (map h xs)
+unfolding HasValue
+awaited_fits call run h f acts =
+    expanded_fits call (HandsOut run) h f
+    (λ x v g c.
+    let a = acts x v g c in (
+      a.0,
+      λ out w s. rw s.3 (waiting_handed s.0 s.1),
+      λ out s.
+          rw (s.joined, s.later, append-nil, ← a.1 s.ins s.value s.finishes)
+          (gives_handed s.ins s.value s.finishes.gives),
+    ))
+
+-- `ready`
+held_value : {A : Type 0} (x w : A) (ins : List (Poll A)) (left : Option A) → Gives ins w
+    → GivesHeld (Some x) ins left → w ≡ x
+held_value x w [] left g h = absurd g
+held_value x w (Pending ∷ ins) left g h = cc
+held_value x w (Ready y ∷ ins) left g h = cc
+
+pub ready_value : {A : Type 0} (x : ReadyFuture A) (v : A) → x.value ≡ Some v
+    → HasValue (λ (y : ReadyFuture A) l z. GivesHeld y.value l z.value) x v
+unfolding HasValue
+ready_value x v e ins w f = held_value v w ins f.last.value f.gives (rw e at f.came)
+
+-- `cloned`, where a clone is not refused and is equal
+module _ {T E : Type 0} (is_clone : T → T → Type 0) (is_infallible : T → Type 0)
+    (infallible : (x : T) → is_infallible x)
+    (equal : (x y : T) → is_clone x y → y ≡ x) where
+  none_refused : (v : Bor T) (l : List (Answer (Result T E)))
+      → AllByRecursion (IsCloneRefusal is_clone is_infallible v) l → l ≡ []
+  none_refused v [] s = refl
+  none_refused v (a ∷ l) s = absurd (s.0.0 (infallible v.now))
+
+  abbrev clone_shown : Bor T → Result T E
+  clone_shown x = Ok x.now
+
+  pub cloned_fits : (xs : List (Bor T))
+      → Carries (Expanding Refers (Clones is_clone is_infallible)) (tt, None) xs (map clone_shown xs)
+  cloned_fits =
+      expanded_fits Refers (Clones is_clone is_infallible) clone_shown tt
+      (λ x v g c. (
+        refl,
+        λ out w s. rw (none_refused v out s.0) tt,
+        λ out s. rw (s.4, none_refused v s.0 s.2, ← c) (ap (λ z. Some (Ok z)) (equal v.now s.1 s.3), refl),
+      ))
+
+-- `flatten` and `flat_map`: the answers, up to their first end, are streams, each with the list that h makes of the
+-- item in its place
+module _ {A V B : Type 0} (run : Runs (Answer B) V) (h : A → List B) where
+  abbrev pub Makes : List (Answer V) → List A → Type 0
+  Makes [] xs = ⊤
+  Makes (Pending ∷ l) xs = Makes l xs
+  Makes (Ready None ∷ l) xs = xs ≡ []
+  Makes (Ready (Some v) ∷ l) [] = ⊥
+  Makes (Ready (Some v) ∷ l) (x ∷ xs) = Lists run v (h x) × Makes l xs
+
+  pub flat_fits : (m : List (Answer V)) (o : List (Answer B)) (last : Option V) (xs : List A) → Makes m xs
+      → Flat run m o last → Fits o (flat_map h xs)
+  unfolding Lists
+  flat_fits [] (b ∷ o) last xs e t = absurd t
+  flat_fits (Pending ∷ m) (b ∷ o) last xs e t = rw t.0 (flat_fits m o last xs e t.1)
+  flat_fits (Ready None ∷ m) (b ∷ o) last xs e t = rw (t.0, e)
+  flat_fits (Ready (Some v) ∷ m) (b ∷ o) last [] e t = absurd e
+  flat_fits (Ready (Some v) ∷ m) (b ∷ o) last (x ∷ xs) e (inl t) =
+      endless_fits (b ∷ o) (h x) (flat_map h xs) t.1 (e.0 (b ∷ o) t.2 t.3)
+  flat_fits (Ready (Some v) ∷ m) (b ∷ o) last (x ∷ xs) e (inr (own, a, rest, out, endless, c, ran, more)) =
+      subst (λ l. Fits l (flat_map h (x ∷ xs))) (sym out)
+      (continued_fits own (a ∷ rest) (h x) (flat_map h xs) endless (e.0 (own ++ end ∷ []) c ran)
+      (flat_fits m (a ∷ rest) last xs e.1 more))
+  flat_fits _ [] last xs e t = tt
+
+  -- by a function
+  module _ {F : Type 0} (call : Question F A V) (f : F) where
+    called_makes : (p q : F) → ((x : A) (v : V) (g : F) → call f x v g → (g ≡ f) × Lists run v (h x))
+        → (i : List (Answer A)) (m : List (Answer V)) (xs : List A) → p ≡ f → Fits i xs
+        → Exchanges (Always call) p i m q → Makes m xs
+    called_makes p q acts [] (b ∷ m) xs g e t = absurd t
+    called_makes p q acts (Pending ∷ i) (b ∷ m) xs g e t = rw t.0 (called_makes p q acts i m xs g e t.1)
+    called_makes p q acts (Ready None ∷ i) (b ∷ m) xs g e t = rw t.0 e
+    called_makes p q acts (Ready (Some x) ∷ i) (b ∷ m) [] g e t = absurd e
+    called_makes p q acts (Ready (Some x) ∷ i) (b ∷ m) (y ∷ xs) g e (None, r, same, called, more) = absurd called
+    called_makes p q acts (Ready (Some x) ∷ i) (b ∷ m) (y ∷ xs) g e (Some v, r, same, called, more) =
+        let a = acts x v r (rw (← g) called) in
+        rw (same, ← e.0) (a.1, called_makes r q acts i m xs a.0 e.1 more)
+    called_makes p q acts _ [] xs g e t = tt
+
+pub flat_mapped_lists : {S F V A B : Type 0} (run : Runs (Answer A) S) (g : Mut F (A × Unit {0}) V)
+    (run' : Runs (Answer B) V)
+    (h : A → List B) (x : FlatMap S V F) (xs : List A) → x.inner_stream ≡ None → Lists run x.stream.stream xs
+    → ((y : A) (inner : V) (k : F) → Called g x.stream.f (y, tt) inner k → (k ≡ x.stream.f) × Lists run' inner (h y))
+    → ListsAs (FlatMaps run g run') x (flat_map h xs)
+unfolding Lists
+flat_mapped_lists run g run' h x xs none lists makes =
+    listed (FlatMaps run g run') x (flat_map h xs)
+    (λ l t r. flat_fits run' h r.ins l t.inner_stream xs
+    (called_makes run' h (Calls g) x.stream.f x.stream.f t.stream.f makes r.came.ins r.ins xs refl
+    (lists r.came.ins t.stream.stream r.came.came) r.came.related) (rw none at r.related))
+
+-- the streams themselves are the items
+module _ {V B : Type 0} (run : Runs (Answer B) V) (h : V → List B) (lists : (v : V) → Lists run v (h v)) where
+  itself_makes : (m : List (Answer V)) (xs : List V) → Fits m xs → Makes run h m xs
+  itself_makes [] xs e = tt
+  itself_makes (Pending ∷ m) xs e = itself_makes m xs e
+  itself_makes (Ready None ∷ m) xs e = e
+  itself_makes (Ready (Some v) ∷ m) [] e = absurd e
+  itself_makes (Ready (Some v) ∷ m) (x ∷ xs) e = (rw (← e.0) (lists v), itself_makes m xs e.1)
+
+  pub flattened_fits : (xs : List V) → Carries (Flattening run) None xs (flat_map h xs)
+  flattened_fits xs i o q e = flat_fits run h i o q xs (itself_makes i xs e)

@@ -1,0 +1,15 @@
+pub mod Adapting
+pub mod Asking
+pub mod Collecting
+pub mod Consuming
+pub mod Exact
+pub mod Futures
+pub mod Holding
+pub mod OkLists
+pub mod SourceLists
+pub mod Streams
+pub mod Texts
+pub mod Until
+pub mod Views
+pub mod Waiting
+pub mod Writing

@@ -1,0 +1,120 @@
+-- The streams over a reader of which it is known what bytes are to come.
+use Rattle.lite_views.proofs.OkLists.{ok_seen}
+use Rattle.lite_views.proofs.Views.{listed}
+use Rattle.lite_read.specs.declared.bytes.Bytes.{Bytes}
+use Rattle.std.proofs.Common.{◌≡◌, ◌∙◌, ◌<◌, ◌≢◌, ℕ, List, [], ◌∷◌, ◌++◌, length, map, inl, inr, refl, ap, subst}
+use Rattle.std.proofs.Common.{arith}
+use Rattle.std.proofs.lemmas.Bool.Decides.{eqb_tells}
+use Rattle.std.specs.Prelude.{◌==◌, ⊤, true, false, Option, Some, None, Result, Ok, Err}
+use Rattle.std.specs.List.{FoldsTo}
+use Rattle.std.specs.declared.io.Error.{Error}
+use Rattle.futures.specs.declared.task.Poll.TheVariants.{Ready, Pending}
+use Rattle.lite_base.specs.Answers.{Answer}
+use Rattle.lite_base.specs.Runs.{Runs}
+use Rattle.lite_io_base.specs.Known.{TellsKnown, Known, Knows}
+use Rattle.lite_io_base.specs.Laws.Known.{spends_bytes, spends_split, knows_spends}
+use Rattle.lite_io_base.specs.Marks.{ReadMark, bytes}
+use Rattle.lite_read.specs.Pieces.{Cut, CutsPiece, Itemised, pieces}
+use Rattle.lite_read.specs.Segments.{PieceSegments, Flows, StreamOver}
+use Rattle.lite_read.specs.Bytes.{TellsEach, TellsBytes}
+use Rattle.lite_read.specs.ReadFold.{AnswerMarks, ReadFold}
+use Rattle.lite_views.specs.Views.{Fits, ListsAs}
+use Rattle.lite_views.specs.OkLists.{OkFits, OkLists, OkListsAs}
+use Rattle.lite_views.specs.Pieces.{last_piece, pieces_from}
+
+-- `bytes`
+bytes_fit : (marks : List ReadMark) (out : List (Answer (Result ℕ Error))) (bs ys : List ℕ) → TellsEach marks out
+    → TellsKnown bs marks ys → Fits out (map Ok bs)
+bytes_fit [] [] bs ys t h = tt
+bytes_fit (ReadMark.byte b ∷ marks) (Ready (Some (Ok x)) ∷ out) bs ys t h =
+    rw h.1 (ap Ok t.0, bytes_fit marks out h.0 ys t.1 h.2)
+bytes_fit (ReadMark.pending ∷ marks) (Pending ∷ out) bs ys t h = bytes_fit marks out bs ys t.1 h
+bytes_fit (ReadMark.fault kind ∷ marks) (a ∷ out) bs ys t h = absurd h
+bytes_fit (ReadMark.end ∷ marks) (Ready None ∷ out) bs ys t h = ap (map Ok) h.0
+bytes_fit (_ ∷ marks) (_ ∷ out) bs ys t h = absurd t.0
+bytes_fit _ _ bs ys t h = absurd t
+
+pub bytes_lists : {R : Type 0} (reads : Runs ReadMark R) (known : Known R) (x : Bytes R)
+    → Knows reads known x.inner → ListsAs (TellsBytes reads) x (map Ok (known.left x.inner))
+bytes_lists reads known x knows =
+    listed (TellsBytes reads) x (map Ok (known.left x.inner))
+    (λ l y r. bytes_fit r.marks l (known.left x.inner) (known.left y.inner) r.told
+    (knows_spends reads known x.inner y.inner r.marks knows r.came))
+
+pub not_equal : (b at : ℕ) → b ≢ at → (b == at) ≡ false
+not_equal b at n = elim (eqb_tells b at) as (λ _. (b == at) ≡ false) [ inl h ↦ absurd (n h.1) | inr h ↦ h.0 ]
+
+pub equal : (b : ℕ) → (b == b) ≡ true
+equal b = elim (eqb_tells b b) as (λ _. (b == b) ≡ true) [ inl h ↦ h.0 | inr h ↦ absurd (h.1 refl) ]
+
+-- The pieces of a reader: `at` ends one, and h is made of it; f is what an item holds.
+module _ {A : Type 0} (at : ℕ) (whole final : List ℕ → Result A Error → Type 0) (h : List ℕ → List ℕ) (f : A → List ℕ)
+    (on_whole : (xs : List ℕ) (x : A) → whole xs (Ok x) → f x ≡ h xs)
+    (on_final : (xs : List ℕ) (x : A) → final xs (Ok x) → f x ≡ xs) where
+  abbrev stream_fold : ReadFold (List ℕ) (Option (Result A Error))
+  stream_fold = pieces at ⊤ (Itemised whole final)
+
+  abbrev made : List ℕ → List ℕ → List (List ℕ)
+  made = pieces_from at h
+
+  taken_made : (xs p q rest : List ℕ) → FoldsTo stream_fold.takes p xs q → made p (xs ++ rest) ≡ made q rest
+  taken_made [] p q rest e = ap (λ v. made v rest) e
+  taken_made (x ∷ xs) p q rest (r, t, more) =
+      rw (not_equal x at t.0, ← t.1) (taken_made xs r q rest more)
+
+  last_made : (held : List ℕ) → 0 < length held → last_piece held ≡ held ∷ []
+  last_made [] n = absurd (omega arith)
+  last_made (b ∷ held) n = refl
+
+  -- what stands in the places of the answers that are still to come
+  abbrev StillToCome : Runs (Answer (Result A Error)) (List ℕ)
+  StillToCome q out ys = OkFits f out (made q ys)
+
+  cut_fits : (c : Cut) (r : Option (Result A Error)) (out : List (Answer (Result A Error)))
+      (held after ys zs : List ℕ) (marks : List ReadMark)
+      → CutsPiece at ⊤ held marks c → Itemised whole final c held r after → TellsKnown ys marks zs
+      → StillToCome after out zs → OkFits f (Ready r ∷ out) (made held ys)
+  cut_fits (Cut.piece xs) (Some (Ok x)) out held after ys zs marks c i s k =
+      let s = rw c.0 at s in rw (s.1, equal at) (on_whole xs x i.0 ∙ ap h c.1, rw (i.1, s.2) at k)
+  cut_fits (Cut.last xs) (Some (Ok x)) out held after ys zs marks c i s k =
+      let s = rw c.0 at s in rw (s.0, last_made held c.1) (on_final xs x i.0 ∙ c.2, rw (i.1, s.1, s.0) at k)
+  cut_fits Cut.nothing None out held after ys zs marks c i s k =
+      let s = rw c.0 at s in rw (s.0, c.1)
+  cut_fits (Cut.failed e) (Some (Ok x)) out held after ys zs marks c i s k = let a = i.0 in cc
+  cut_fits _ (Some (Err _)) out held after ys zs marks c i s k = tt
+  cut_fits _ _ out held after ys zs marks c h s k = absurd h
+
+  answer_fits : (a : Answer (Result A Error)) (out : List (Answer (Result A Error))) (p q bs zs : List ℕ)
+      (marks : List ReadMark) → AnswerMarks stream_fold p marks a q
+      → TellsKnown bs marks zs → StillToCome q out zs → OkFits f (a ∷ out) (made p bs)
+  answer_fits Pending out p q bs zs marks w s k =
+      let cut = spends_split bs zs (bytes w.taken) w.last (rw w.cut at s) in
+      let told : zs ≡ cut.0 = subst (λ m. TellsKnown cut.0 m zs) w.given.0 cut.2 in
+      rw (spends_bytes w.taken bs cut.0 cut.1, taken_made w.taken p w.between cut.0 w.folds)
+      (rw (w.given.2, told) at k)
+  answer_fits (Ready r) out p q bs zs marks w s k =
+      let cut = spends_split bs zs (bytes w.taken) w.last (rw w.cut at s) in
+      let g = w.given in
+      rw (spends_bytes w.taken bs cut.0 cut.1, taken_made w.taken p w.between cut.0 w.folds)
+      (cut_fits g.0 r out w.between q cut.0 zs w.last g.1 g.2 cut.2 k)
+
+  pieces_fit : (out : List (Answer (Result A Error))) (p q bs ys : List ℕ) (marks : List ReadMark)
+      → PieceSegments stream_fold p marks out q → TellsKnown bs marks ys
+      → OkFits f out (pieces_from at h p bs)
+  pieces_fit [] p q bs ys marks g s = tt
+  pieces_fit (a ∷ out) p q bs ys marks (first, rest, m, e, one, more) s =
+      let cut = spends_split bs ys first rest (rw e at s) in
+      answer_fits a out p m bs cut.0 first one cut.1 (pieces_fit out m q cut.0 ys rest more cut.2)
+
+  -- a stream of the pieces that holds nothing yet
+  pub pieces_listed : {X S K : Type 0} (over : StreamOver X S (List ℕ) K)
+      (fold : K → ReadFold (List ℕ) (Option (Result A Error))) (reads : Runs ReadMark S) (known : Known S) (x : X)
+      → fold (over.kept x) ≡ stream_fold → over.held x ≡ [] → Knows reads known (over.reader x)
+      → OkListsAs (Flows over fold reads) x f (pieces_from at h [] (known.left (over.reader x)))
+  unfolding OkLists
+  pieces_listed over fold reads known x same none knows = (
+    ok_seen x f (pieces_from at h [] (known.left (over.reader x))),
+    λ l y ran. let r = rw (same, none) at ran.segmented in
+        pieces_fit l [] (over.held y) (known.left (over.reader x)) (known.left (over.reader y)) r.marks r.cut
+        (knows_spends reads known (over.reader x) (over.reader y) r.marks knows r.came),
+  )

@@ -1,0 +1,139 @@
+-- The futures that write to a writer of which it is known what it keeps.
+use Rattle.lite_write.specs.declared.write_all.WriteAllFuture.{WriteAllFuture}
+use Rattle.std.proofs.Common.{◌≡◌, ◌∙◌, ◌+◌, ◌%◌, ◌^◌, ℕ, List, [], ◌∷◌, ◌++◌, length, map, refl, ap, sym, arith}
+use Rattle.std.proofs.Common.{append_assoc, append-nil}
+use Rattle.std.specs.Prelude.{⊤, Result, Ok, Err, IfOk}
+use Rattle.std.specs.List.{FoldsTo}
+use Rattle.std.specs.declared.io.Error.{Error}
+use Rattle.futures.specs.declared.task.Poll.{Poll}
+use Rattle.futures.specs.declared.task.Poll.TheVariants.{Ready, Pending}
+use Rattle.lite_base.specs.Answers.{Gives, strip}
+use Rattle.lite_base.specs.Laws.Segments.{segment_front, to_value_last}
+use Rattle.lite_base.specs.Runs.{Runs}
+use Rattle.lite_write.specs.Copy.{CopyRuns, CopyValue, Moves}
+use Rattle.lite_write.specs.Parts.{NothingCopied, held_of, met_in, source_of}
+use Rattle.lite_write.specs.declared.copy.CopyFuture.{CopyFuture}
+use Rattle.lite_write.specs.MarkLists.{BytesAlone, bytes_told}
+use Rattle.lite_io_base.specs.Known.{Known, Knows, TellsKnown}
+use Rattle.lite_io_base.specs.Laws.Known.{knows_spends}
+use Rattle.lite_io_base.specs.Stored.{Stored, Stores}
+use Rattle.lite_io_base.specs.Laws.Stored.{stores_kept}
+use Rattle.lite_io_base.specs.Marks.{ReadMark}
+use Rattle.lite_io_base.specs.Takings.{WriteMark, bytes_in, bytes_taken}
+use Rattle.lite_write.specs.Hands.{Hands}
+use Rattle.lite_write.specs.WriteAll.{Ended, HandsMarks, HandsOver, WritesAll}
+use Rattle.lite_views.proofs.Futures.{when_left}
+use Rattle.lite_views.specs.Waiting.{WhenLeft}
+
+bytes_both : (l m : List WriteMark) → bytes_taken (l ++ m) ≡ bytes_taken l ++ bytes_taken m
+bytes_both [] m = refl
+bytes_both (a ∷ l) m = rw (bytes_both l m) (sym (append_assoc (bytes_in a) (bytes_taken l) (bytes_taken m)))
+
+abbrev writes_of : List (List ℕ) → List WriteMark
+writes_of = map WriteMark.wrote
+
+handed_bytes : (l : List (List ℕ)) (offered left : List ℕ) → FoldsTo Hands offered l left
+    → offered ≡ bytes_taken (writes_of l) ++ left
+handed_bytes [] offered left h = h
+handed_bytes (xs ∷ l) offered left h =
+    rw (h.1.1, handed_bytes l h.0 left h.2) (sym (append_assoc xs (bytes_taken (writes_of l)) left))
+
+ended_ok : (left : List ℕ) (last : List WriteMark) (u : Unit {0}) → Ended left last (Ok u) → (left ≡ []) × (last ≡ [])
+ended_ok left [] u e = (e.0, refl)
+ended_ok left (WriteMark.wrote [] ∷ []) u e = absurd e
+ended_ok left (WriteMark.fault kind ∷ []) u e = absurd e
+ended_ok left last u e = absurd e
+
+-- what was taken is what was offered
+pub all_handed : (out : List (Poll (Result (Unit {0}) Error))) (offered left : List ℕ) (marks : List WriteMark)
+    (u : Unit {0}) → HandsOver offered marks out left
+    → Gives out (Ok u) → bytes_taken marks ≡ offered
+all_handed [] offered left marks u h g = absurd g
+all_handed (Pending ∷ out) offered left marks u ((first, rest, m, cut, w, more), up) g =
+    rw (segment_front offered m marks first rest Pending w cut, w.given.0, bytes_both)
+    (rw (all_handed out m left rest u (more, up) g, w.given.2) (sym (handed_bytes w.taken offered w.between w.folds)))
+all_handed (Ready r ∷ out) offered left marks u h g =
+    let w = to_value_last HandsMarks offered left marks r out h in
+    let over = ended_ok w.between w.last u (rw (← g.0) w.given.0) in
+    rw (w.cut, bytes_both, over.1) (sym (rw over.0 at (handed_bytes w.taken offered w.between w.folds)))
+
+-- `write_all`
+all_written : (v : Result (Unit {0}) Error) (out : List (Poll (Result (Unit {0}) Error)))
+    (offered left before after : List ℕ) (marks : List WriteMark)
+    → HandsOver offered marks out left → Gives out v → after ≡ before ++ bytes_taken marks
+    → IfOk v (λ u. after ≡ before ++ offered)
+all_written (Ok u) out offered left before after marks h g k = k ∙ rw (all_handed out offered left marks u h g)
+all_written (Err e) out offered left before after marks h g k = tt
+
+pub written_left : {W E : Type 0} (writes : Runs WriteMark W) (stored : Stored W) (x : WriteAllFuture W)
+    → Stores writes stored x.writer.now
+    → WhenLeft E (WritesAll writes) x (λ y. y.writer.ghost_name ≡ x.writer.ghost_name)
+    (λ y r. IfOk r (λ u. stored.kept y.writer.now ≡ stored.kept x.writer.now ++ x.buf.now))
+written_left writes stored x stores =
+    when_left (WritesAll writes) x (λ y. y.writer.ghost_name ≡ x.writer.ghost_name)
+    (λ y r. IfOk r (λ u. stored.kept y.writer.now ≡ stored.kept x.writer.now ++ x.buf.now)) refl
+    (λ ins y ran. ap (λ r. r.ghost_name) ran.stays)
+    (λ ins y v gives ran. all_written v ins x.buf.now y.buf.now (stored.kept x.writer.now) (stored.kept y.writer.now)
+    ran.marks ran.handed gives (stores_kept writes stored x.writer.now y.writer.now ran.marks stores ran.came))
+
+one_value : {A : Type 0} (out : List (Poll A)) (v : A) → Gives out v → strip out ≡ v ∷ []
+one_value [] v g = absurd g
+one_value (Pending ∷ out) v g = one_value out v g
+one_value (Ready x ∷ out) v g = cc
+
+-- where the value is Ok
+values_ok : (n total : ℕ) (failed : List ReadMark) (last : List WriteMark) (after : List ℕ) (met : List ReadMark)
+    → CopyValue (Ok n ∷ []) failed last after met total
+    → (failed ≡ []) × (after ≡ []) × (met ≡ ReadMark.end ∷ []) × (n ≡ total)
+values_ok n total [] (WriteMark.flushed ∷ []) after met h = (refl, h.0, h.1, h.2)
+values_ok n total failed last after met h = absurd h
+
+told_all : (read : List ReadMark) (bs ys : List ℕ) → BytesAlone read → TellsKnown bs (read ++ ReadMark.end ∷ []) ys
+    → bytes_told (read ++ ReadMark.end ∷ []) ≡ bs
+told_all [] bs ys o h = cc
+told_all (ReadMark.byte b ∷ l) bs ys o h = rw h.1 (rw (told_all l h.0 ys o h.2))
+told_all (ReadMark.pending ∷ l) bs ys o h = told_all l bs ys o h
+told_all (_ ∷ l) bs ys o h = absurd o
+
+-- of a value of which three facts are known
+pub on_each : {A B : Type 0} {P Q S T : A → Type 0} (r : Result A B) → IfOk r P → IfOk r Q → IfOk r S
+    → ((x : A) → P x → Q x → S x → T x) → IfOk r T
+on_each (Ok x) p q s to = to x p q s
+on_each (Err e) p q s to = tt
+
+module _ {R W : Type 0} (reads : Runs ReadMark R) (writes : Runs WriteMark W) where
+  -- all that is to come was taken, where the value is Ok
+  all_moved : (x y : CopyFuture R W) (v : Result ℕ Error) (out : List (Poll (Result ℕ Error))) (bs ys held : List ℕ)
+      → NothingCopied x → (m : Moves reads writes x out y) → TellsKnown bs m.told ys → Gives out v
+      → IfOk v (λ n. (held ++ bytes_taken m.took ≡ held ++ bs) × (n ≡ length bs % 2 ^ 64))
+  all_moved x y (Err e) out bs ys held b m s g = tt
+  all_moved x y (Ok n) out bs ys held b m s g =
+      let c = m.copied in
+      let v =
+      values_ok n y.amount c.failed c.last (held_of y) (met_in y.phase)
+      (rw (one_value out (Ok n) g) at c.value) in
+      let cut : m.told ≡ c.reading.read ++ ReadMark.end ∷ [] = rw (b.met, v.2, v.0) at c.reading.cut in
+      let whole = told_all c.reading.read bs ys c.reading.goes_on (rw cut at s) in
+      let taken : bytes_taken m.took ≡ bs =
+      sym (rw (b.held, v.1, append-nil) at c.balanced) ∙ ap bytes_told cut ∙ whole in
+      let from : x.amount + length (bytes_taken m.took) ≡ length (bytes_taken m.took) = omega (arith, b.none) in
+      (rw taken, v.3 ∙ m.counted ∙ rw (from, taken))
+
+  -- a copy that begins, and is waited for
+  pub copy_left : {E : Type 0} (known : Known R) (stored : Stored W) (reader : R) (writer : W) (f : CopyFuture R W)
+      → source_of f ≡ reader → f.writer ≡ writer → NothingCopied f → Knows reads known reader
+      → Stores writes stored writer
+      → WhenLeft E (CopyRuns reads writes) f (λ g. ⊤)
+      (λ g r. IfOk r
+      (λ n. (stored.kept g.writer ≡ stored.kept writer ++ known.left reader)
+      × (n ≡ length (known.left reader) % 2 ^ 64)))
+  copy_left known stored reader writer f from to begins knows stores =
+      when_left (CopyRuns reads writes) f (λ g. ⊤)
+      (λ g r. IfOk r
+      (λ n. (stored.kept g.writer ≡ stored.kept writer ++ known.left reader)
+      × (n ≡ length (known.left reader) % 2 ^ 64))) tt (λ ins g ran. tt)
+      (λ ins g v gives ran.
+      let m = ran.moves in
+      let told = knows_spends reads known reader (source_of g) m.told knows (rw from at m.came) in
+      rw (stores_kept writes stored writer g.writer m.took stores (rw to at m.went))
+      (all_moved f g v ins (known.left reader) (known.left (source_of g)) (stored.kept writer) begins m told gives))
