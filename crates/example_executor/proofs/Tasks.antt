@@ -1,11 +1,11 @@
 -- Tasks that ran, one poll after another.
-use Rattle.std.proofs.Common.{◌≡◌, ◌∙◌, ◌<◌, ℕ, zero, suc, List, [], ◌∷◌, ◌++◌, length, slice_set, Option, Some, None}
-use Rattle.std.proofs.Common.{arith, refl}
+use Rattle.std.proofs.Common.{◌≡◌, ◌∙◌, ◌<◌, ◌+◌, ℕ, zero, suc, Bool, true, false, List, [], ◌∷◌, ◌++◌, length, slice_set, Option, Some, None}
+use Rattle.std.proofs.Common.{ap, arith, refl}
 use Rattle.std.proofs.Math.ListN.{get_or}
 use Rattle.futures_lite.specs.Answers.{Poll, Pending, Ready, Waiting}
 use Rattle.futures_lite.specs.Futures.{FutureLaws}
 use Rattle.futures_lite.specs.Own.{Runs}
-use Rattle.example_executor.specs.Tasks.{AnsweredBy, EachRan, TaskRan, WhileNone}
+use Rattle.example_executor.specs.Tasks.{AnsweredBy, EachRan, TaskRan, WhileNone, finished, one_if_some, one_more_if}
 use Rattle.example_executor.specs.declared.task.Task.{Task}
 
 -- pendings, and then what comes
@@ -14,6 +14,27 @@ waited_by v [] m w h = h
 waited_by None (Pending ∷ l) m w h = waited_by None l m w h
 waited_by (Some v) (Pending ∷ l) m w h = waited_by (Some v) l m w h
 waited_by v (Ready x ∷ l) m w h = absurd w
+
+one_more_first : (b : Bool) (m n : ℕ) → one_more_if b m + n ≡ one_more_if b (m + n)
+one_more_first true m n = refl
+one_more_first false m n = refl
+
+one_more_last : (b : Bool) (m n : ℕ) → m + one_more_if b n ≡ one_more_if b (m + n)
+one_more_last true m n = omega arith
+one_more_last false m n = refl
+
+-- where one of them has come to its value
+pub finished_set : {F A : Type 0} (xs : List (Task F A)) (at : ℕ) (x y d : Task F A) (b : Bool) → at < length xs
+    → x ≡ get_or xs at d → one_if_some y.value ≡ one_more_if b (one_if_some x.value)
+    → finished (slice_set xs at y) ≡ one_more_if b (finished xs)
+finished_set [] at x y d b within is h = absurd (omega (arith, within))
+finished_set (t ∷ xs) zero x y d b within is h =
+    let first : one_if_some y.value ≡ one_more_if b (one_if_some t.value) = rw (← is) h in
+    ap (λ n. n + finished xs) first ∙ one_more_first b (one_if_some t.value) (finished xs)
+finished_set (t ∷ xs) (suc at) x y d b within is h =
+    let shorter : at < length xs = omega (arith, within) in
+    ap (λ n. one_if_some t.value + n) (finished_set xs at x y d b shorter is h)
+    ∙ one_more_last b (one_if_some t.value) (finished xs)
 
 module _ {F A : Type 0} {run : Runs (Poll A) F} (laws : FutureLaws run) where
   pub task_idle : (x : Task F A) → TaskRan run x x

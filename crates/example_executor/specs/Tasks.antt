@@ -1,5 +1,5 @@
 -- What an executor does with its tasks.
-use Rattle.std.specs.Prelude.{◌≡◌, List, [], ◌∷◌, Option, None, Some, ⊤}
+use Rattle.std.specs.Prelude.{◌≡◌, ◌+◌, ℕ, Bool, true, false, List, [], ◌∷◌, Option, None, Some, ⊤}
 use Rattle.futures_lite.specs.Answers.{Gives, Poll, Waiting}
 use Rattle.futures_lite.specs.Own.{Runs}
 use Rattle.example_executor.specs.declared.task.Task.{Task}
@@ -28,3 +28,18 @@ abbrev pub EachRan : {F A : Type 0} → Runs (Poll A) F → List (Task F A) → 
 EachRan run [] [] = ⊤
 EachRan run (x ∷ xs) (y ∷ ys) = TaskRan run x y × EachRan run xs ys
 EachRan run xs ys = ⊥
+
+-- one for a value
+abbrev pub one_if_some : {A : Type 0} → Option A → ℕ
+one_if_some None = 0
+one_if_some (Some v) = 1
+
+-- how many tasks have their values
+abbrev pub finished : {F A : Type 0} → List (Task F A) → ℕ
+finished [] = 0
+finished (x ∷ xs) = one_if_some x.value + finished xs
+
+-- one more, where this is so
+abbrev pub one_more_if : Bool → ℕ → ℕ
+one_more_if true n = 1 + n
+one_more_if false n = n

@@ -1,24 +1,26 @@
 //! A small executor, on this thread.
 ghost use Rattle.std.specs.List.{AllByRecursion};
-ghost use Rattle.example_executor.specs.Tasks.{EachRan, MayRun, TaskRan};
+ghost use Rattle.std.specs.Prelude.{◌≡◌, ◌+◌, OnOk};
+ghost use Rattle.example_executor.specs.Tasks.{EachRan, MayRun, TaskRan, finished, one_if_some, one_more_if};
 
+use crate::fault::RunError;
 use crate::task::Task;
 use futures::task::{Doorbell, Queue, Source};
 use futures_lite::{Context, Future, Poll};
 use std::alloc::AllocGlobal;
-use std::io;
 use std::random::RandomSource;
 use std::sync::Wait;
 
-/// Polls the futures until so many of them have their values: each new one, and then each one whose context was woken. The
-/// thread sleeps while there is none, and for ever where none of those that are left is woken. Each value is one that the
-/// task's own future gave. `Err` says that there was no memory, or no random bytes to name the queue by: then none was polled.
-pub fn run<R, F>(rt: &R, tasks: &mut [Task<F, F::Output>], wanted: usize) -> io::Result<()>
+/// Polls the futures until so many more of them have their values: each new one, and then each one whose context was woken.
+/// The thread sleeps while there is none, and for ever where none of those that are left is woken. Each value is one that
+/// the task's own future gave; what the errors leave is said there.
+pub fn run<R, F>(rt: &R, tasks: &mut [Task<F, F::Output>], wanted: usize) -> Result<(), RunError>
 where
     R: Wait + RandomSource + AllocGlobal,
     F: Future<Output: Drop>,
     requires { AllByRecursion (MayRun F.can_poll) tasks.old }
-    ensures { EachRan F.run tasks.old tasks.new }
+    ensures ran { EachRan F.run tasks.old tasks.new }
+    ensures came { OnOk result (finished tasks.new ≡ wanted + finished tasks.old) }
 {
     let queue = Queue::new(rt, Doorbell::parking())?;
     let source = Source::new();
@@ -31,7 +33,7 @@ where
             return Ok(());
         }
         let Some(cx) = queue.next(rt) else {
-            return Ok(());
+            return Err(RunError::TooFew);
         };
         if poll_at(tasks, &source, cx) {
             left -= 1;
@@ -48,6 +50,7 @@ fn poll_at<F: Future<Output: Drop>>(
 ) -> bool
     requires { AllByRecursion (MayRun F.can_poll) tasks.old }
     ensures ran { EachRan F.run tasks.old tasks.new }
+    ensures came { finished tasks.new ≡ one_more_if result (finished tasks.old) }
     ensures again { AllByRecursion (MayRun F.can_poll) tasks.new }
 {
     let at = cx.task();
@@ -66,6 +69,7 @@ fn poll_one<F: Future<Output: Drop>>(
 ) -> bool
     requires { MayRun F.can_poll task.old }
     ensures ran { TaskRan F.run task.old task.new }
+    ensures came { one_if_some task.new.value ≡ one_more_if result (one_if_some task.old.value) }
     ensures again { MayRun F.can_poll task.new }
 {
     if task.value.is_some() {

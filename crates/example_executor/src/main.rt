@@ -3,6 +3,7 @@
 
 mod either;
 mod executor;
+mod fault;
 mod task;
 
 use either::Either;

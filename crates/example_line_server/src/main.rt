@@ -1,19 +1,17 @@
 //! A line server: each line of standard input is answered by a line of standard output.
 #![tactic(auto)]
 
-mod fault;
-mod reply;
-mod serve;
+mod words;
 
-use fault::ServeError;
 use futures_lite::AsyncReadExt;
 use futures_lite::future::BlockOn;
 use futures_lite::io::{AssertAsync, BufReader, BufWriter};
-use serve::serve;
+use futures_lite::laws::{ServeError, serve_lines};
 use std::alloc::AllocGlobal;
 use std::process::ExitCode;
 use std::random::RandomSource;
 use std::sync::Wait;
+use words::Words;
 
 /// How many bytes are read in a row before the program yields.
 const BYTES: usize = 1 << 16;
@@ -43,5 +41,12 @@ where
     let Ok(mut replies) = BufWriter::new(rt.alloc(), AssertAsync::new(host.stdout())) else {
         return Err(ServeError::Memory);
     };
-    serve(&mut on, rt, rt.alloc(), &mut requests, &mut replies)
+    serve_lines(
+        &mut on,
+        rt,
+        rt.alloc(),
+        &mut requests,
+        &mut replies,
+        &mut Words,
+    )
 }

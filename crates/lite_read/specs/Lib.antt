@@ -1,4 +1,5 @@
 pub mod Appending
+pub mod BytePieces
 pub mod Bytes
 pub mod Deterministic
 pub mod FillBuf

@@ -2,5 +2,7 @@ pub mod BothReaders
 pub mod BothWriters
 pub mod Collecting
 pub mod Limits
+pub mod LinesServed
+pub mod Serving
 pub mod Telling
 pub mod Whole

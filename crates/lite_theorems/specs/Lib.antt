@@ -9,6 +9,6 @@ pub mod Laws
 pub mod Lines
 pub mod Readers
 pub mod Reading
+pub mod Serving
 pub mod Streams
 pub mod Told
-pub mod Writers

@@ -5,15 +5,19 @@
 mod both_readers;
 mod both_writers;
 mod chained;
+mod line_server;
 mod lines;
 mod or;
 mod race;
+mod serve_error;
 mod waits;
 
 pub use both_readers::read_both;
 pub use both_writers::write_both;
 pub use chained::{copy_buffered, copy_chain};
+pub use line_server::{LineService, serve_lines};
 pub use lines::{CollectLinesFuture, collect_buffered_lines, collect_lines};
 pub use or::collect_or;
 pub use race::collect_race;
+pub use serve_error::ServeError;
 pub use waits::{wait_flush, wait_read, wait_read_exact, wait_read_until, wait_write_all};

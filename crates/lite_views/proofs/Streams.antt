@@ -20,7 +20,7 @@ use Rattle.lite_read.specs.Bytes.{TellsEach, TellsBytes}
 use Rattle.lite_read.specs.ReadFold.{AnswerMarks, ReadFold}
 use Rattle.lite_views.specs.Views.{Fits, ListsAs}
 use Rattle.lite_views.specs.OkLists.{OkFits, OkLists, OkListsAs}
-use Rattle.lite_views.specs.Pieces.{last_piece, pieces_from}
+use Rattle.lite_read.specs.BytePieces.{last_piece, pieces_from}
 
 -- `bytes`
 bytes_fit : (marks : List ReadMark) (out : List (Answer (Result ℕ Error))) (bs ys : List ℕ) → TellsEach marks out

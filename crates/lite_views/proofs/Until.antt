@@ -13,7 +13,7 @@ use Rattle.lite_read.specs.Texts.{Reading, in_text}
 use Rattle.lite_views.proofs.Futures.{TakenUp}
 use Rattle.lite_views.proofs.Streams.{equal, not_equal}
 use Rattle.lite_views.proofs.Texts.{under_text}
-use Rattle.lite_views.specs.Pieces.{behind, through_first}
+use Rattle.lite_read.specs.BytePieces.{behind, through_first}
 
 module _ (at : ℕ) where
   taken_until : (xs p q rest : List ℕ) → FoldsTo (until at ⊤).takes p xs q

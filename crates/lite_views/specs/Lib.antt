@@ -6,7 +6,6 @@ pub mod Iterators
 pub mod Laws
 pub mod Lists
 pub mod OkLists
-pub mod Pieces
 pub mod Trying
 pub mod Views
 pub mod Waiting

@@ -1,7 +1,7 @@
-//! Why a server stops before its input ends.
+//! Why a server of lines stops before its input ends.
 use std::io;
 
-/// Why a server stopped before the end of its input.
+/// Why [`serve_lines`](crate::serve_lines) stopped before the end of its input. The original has no such type.
 #[derive(Debug, Drop)]
 pub enum ServeError {
     /// The input gave this error, or memory for a line was refused: each whole line before was answered, the line that it

@@ -1,9 +1,9 @@
 use Rattle.std.proofs.Common.{◌≡◌, ◌∙◌, [], ◌∷◌, Err, append-nil, inl, inr, refl, rules, sym}
-use Rattle.futures_lite.specs.Marks.{ReadMark, bytes}
-use Rattle.example_line_server.specs.Serving.{replies}
-use Rattle.example_line_server.proofs.Lines.{last_line, whole_line}
-use Rattle.example_line_server.proofs.Serving.{replied, stops_output}
-use Rattle.example_line_server.proofs.serve.answer_next.Goals as goal
+use Rattle.lite_io_base.specs.Marks.{ReadMark, bytes}
+use Rattle.lite_theorems.specs.Serving.{replies}
+use Rattle.lite_theorems.proofs.LinesServed.{last_line, whole_line}
+use Rattle.lite_theorems.proofs.Serving.{replied, stops_output}
+use Rattle.lite_theorems.proofs.line_server.answer_next.Goals as goal
 
 pub returns-in_err-read_line-clause-answered : goal.returns-in_err-read_line-clause-answered
 returns-in_err-read_line-clause-answered g c =
@@ -11,7 +11,7 @@ returns-in_err-read_line-clause-answered g c =
     let xs = c.read_line.new.line.items in
     let is : c.from_residual.result ≡ Err c.in_err-read_line.field-0.0 = search rules in
     let wrote = g.O.Takings.write_laws.rests _ in
-    rw is (t.0, [], t.1, wrote, replied _ _ _ _ xs _ t.2.0 t.2.1 refl (replies xs, refl) t.2.2)
+    rw is (t.0, [], t.1, wrote, replied _ _ _ _ _ xs _ t.2.0 t.2.1 refl (replies g.L.LineService.reply xs, refl) t.2.2)
 
 pub returns-in_err-answer_whole-clause-answered : goal.returns-in_err-answer_whole-clause-answered
 returns-in_err-answer_whole-clause-answered g c =
@@ -19,11 +19,11 @@ returns-in_err-answer_whole-clause-answered g c =
     let two = c.in_err-answer_whole.ensures in
     let xs = c.read_line.new.line.items in
     let take = c.take_line.ensures in
-    let w = whole_line xs _ one.0 c.take_line.result one.2 take.whole take.last c.if-take_line.true in
+    let w = whole_line g.L.LineService.reply xs _ one.0 c.take_line.result one.2 take.whole take.last c.if-take_line.true in
     let cut = w.1 ∙ sym (append-nil (bytes xs)) in
     let is : c.from_residual-in_err-answer_whole.result ≡ Err c.in_err-answer_whole.field-0.0 = search rules in
     let stops = stops_output [] _ (inl refl) two.3 in
-    rw is (one.0, two.0, one.1, two.1.0, replied _ _ _ _ xs _ [] cut w.2 two.1.1 stops)
+    rw is (one.0, two.0, one.1, two.1.0, replied _ _ _ _ _ xs _ [] cut w.2 two.1.1 stops)
 
 pub returns-then-take_line-clause-answered : goal.returns-then-take_line-clause-answered
 returns-then-take_line-clause-answered g c =
@@ -31,9 +31,9 @@ returns-then-take_line-clause-answered g c =
     let two = c.in_ok-answer_whole.ensures in
     let xs = c.read_line.new.line.items in
     let take = c.take_line.ensures in
-    let w = whole_line xs _ one.0 c.take_line.result one.2 take.whole take.last c.if-take_line.true in
+    let w = whole_line g.L.LineService.reply xs _ one.0 c.take_line.result one.2 take.whole take.last c.if-take_line.true in
     let cut = w.1 ∙ sym (append-nil (bytes xs)) in
-    (one.0, two.0, one.1, two.1.0, replied _ _ _ _ xs _ [] cut w.2 two.1.1 (refl, w.0, two.2 ∙ w.2))
+    (one.0, two.0, one.1, two.1.0, replied _ _ _ _ _ xs _ [] cut w.2 two.1.1 (refl, w.0, two.2 ∙ w.2))
 
 pub returns-in_err-answer_last-clause-answered : goal.returns-in_err-answer_last-clause-answered
 returns-in_err-answer_last-clause-answered g c =
@@ -41,10 +41,10 @@ returns-in_err-answer_last-clause-answered g c =
     let two = c.in_err-answer_last.ensures in
     let xs = c.read_line.new.line.items in
     let take = c.take_line.ensures in
-    let w = last_line xs _ one.0 c.take_line.result one.2 take.whole take.last c.if-take_line.false in
+    let w = last_line g.L.LineService.reply xs _ one.0 c.take_line.result one.2 take.whole take.last c.if-take_line.false in
     let is : c.from_residual-in_err-answer_last.result ≡ Err c.in_err-answer_last.field-0.0 = search rules in
     let stops = stops_output (ReadMark.end ∷ []) _ (inr refl) two.3 in
-    rw is (one.0, two.0, one.1, two.1.0, replied _ _ _ _ xs _ (ReadMark.end ∷ []) w.0 w.1 two.1.1 stops)
+    rw is (one.0, two.0, one.1, two.1.0, replied _ _ _ _ _ xs _ (ReadMark.end ∷ []) w.0 w.1 two.1.1 stops)
 
 pub returns-clause-answered : goal.returns-clause-answered
 returns-clause-answered g c =
@@ -52,6 +52,6 @@ returns-clause-answered g c =
     let two = c.in_ok-answer_last.ensures in
     let xs = c.read_line.new.line.items in
     let take = c.take_line.ensures in
-    let w = last_line xs _ one.0 c.take_line.result one.2 take.whole take.last c.if-take_line.false in
+    let w = last_line g.L.LineService.reply xs _ one.0 c.take_line.result one.2 take.whole take.last c.if-take_line.false in
     let all = two.2.0 ∙ w.1 in
-    (one.0, two.0, one.1, two.1.0, replied _ _ _ _ xs _ (ReadMark.end ∷ []) w.0 w.1 two.1.1 (refl, (all, two.2.1)))
+    (one.0, two.0, one.1, two.1.0, replied _ _ _ _ _ xs _ (ReadMark.end ∷ []) w.0 w.1 two.1.1 (refl, (all, two.2.1)))

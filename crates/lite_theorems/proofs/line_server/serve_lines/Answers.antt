@@ -1,7 +1,7 @@
 use Rattle.std.proofs.Common.{◌≡◌, Err, Ok, false, rules, subst, true}
-use Rattle.example_line_server.specs.Serving.{LineEnds, Replied}
-use Rattle.example_line_server.proofs.Serving.{served, so_far_none, so_far_on}
-use Rattle.example_line_server.proofs.serve.serve.Goals as goal
+use Rattle.lite_theorems.specs.Serving.{LineEnds, Replied}
+use Rattle.lite_theorems.proofs.Serving.{served, so_far_none, so_far_on}
+use Rattle.lite_theorems.proofs.line_server.serve_lines.Goals as goal
 
 pub loop-init : goal.loop-init
 loop-init g c = (so_far_none g.I.Tale.read_laws g.O.Takings.write_laws _ _, c.requires)
@@ -20,7 +20,7 @@ returns-then-not-branch g c =
     let h = c.loop.invariant.0 in
     let t = c.in_ok-answer_next.ensures.answered in
     let over : c.in_ok-answer_next.field-0 ≡ false = search rules in
-    let r = subst (λ b. Replied t.0 t.1 LineEnds (Ok b)) over t.4 in
+    let r = subst (λ b. Replied g.L.LineService.reply t.0 t.1 LineEnds (Ok b)) over t.4 in
     served g.I.Tale.read_laws g.O.Takings.write_laws _ _ _ _ _ _ h t.0 t.1 t.2 t.3 (Ok tt)
     (record { read = r.read; rest = r.rest; cut = r.cut; front = r.front; ends = r.ends })
 
@@ -29,5 +29,5 @@ loop-preserved g c =
     let h = c.loop.invariant.0 in
     let t = c.in_ok-answer_next.ensures.answered in
     let more : c.in_ok-answer_next.field-0 ≡ true = search rules in
-    let r = subst (λ b. Replied t.0 t.1 LineEnds (Ok b)) more t.4 in
+    let r = subst (λ b. Replied g.L.LineService.reply t.0 t.1 LineEnds (Ok b)) more t.4 in
     (so_far_on g.I.Tale.read_laws g.O.Takings.write_laws _ _ _ _ _ _ h t.0 t.1 t.2 t.3 r, c.in_ok-answer_next.ensures.again)

@@ -4,10 +4,11 @@ use Rattle.std.proofs.Common.{Ok, refl, sym}
 use Rattle.std.proofs.lemmas.Bool.{ne_eqb}
 use Rattle.std.proofs.lemmas.Grind.{flat_map-append}
 use Rattle.std.specs.Prelude.{◌==◌, flat_map}
-use Rattle.futures_lite.specs.Lines.{byte_lines, last_piece, pieces_from, without_return}
-use Rattle.futures_lite.specs.Marks.{ReadMark, bytes}
-use Rattle.futures_lite.specs.Readers.{EndsAtFirst, Without}
-use Rattle.example_line_server.specs.Serving.{PieceIn, replies, reply}
+use Rattle.lite_read.specs.BytePieces.{byte_lines, last_piece, pieces_from}
+use Rattle.lite_read.specs.LineText.{without_return}
+use Rattle.lite_io_base.specs.Marks.{ReadMark, bytes}
+use Rattle.lite_theorems.specs.Told.{EndsAtFirst, Without}
+use Rattle.lite_theorems.specs.Serving.{PieceIn, Replying, replies}
 
 pieces_whole : (before held rest : List ℕ) → Without 10 before
     → pieces_from 10 without_return held (before ++ 10 ∷ rest)
@@ -42,17 +43,18 @@ ended_whole xs e rest =
     let more = pieces_whole e.before [] rest e.without in
     rw e.whole (ap byte_lines (append_assoc e.before (10 ∷ []) rest) ∙ more ∙ ap (λ l. l ++ byte_lines rest) (sym one))
 
-pub replies_both : (xs ys : List ℕ) → Ended xs → replies (xs ++ ys) ≡ replies xs ++ replies ys
-replies_both xs ys h = ap (flat_map reply) (h ys) ∙ flat_map-append reply (byte_lines xs) (byte_lines ys)
+pub replies_both : (reply : Replying) (xs ys : List ℕ) → Ended xs
+    → replies reply (xs ++ ys) ≡ replies reply xs ++ replies reply ys
+replies_both reply xs ys h = ap (flat_map reply) (h ys) ∙ flat_map-append reply (byte_lines xs) (byte_lines ys)
 
 -- what was read of one line, of which the newline was taken off
-module _ (xs after : List ℕ) (told : List ReadMark) (whole : Bool) (piece : PieceIn xs told (Ok tt))
+module _ (reply : Replying) (xs after : List ℕ) (told : List ReadMark) (whole : Bool) (piece : PieceIn xs told (Ok tt))
     (is_whole : (before : List ℕ) → xs ≡ before ++ 10 ∷ [] → (whole ≡ true) × (after ≡ without_return before))
     (is_last : Without 10 xs → (whole ≡ false) × (after ≡ xs)) where
-  pub whole_line : whole ≡ true → EndsAtFirst 10 xs × (told ≡ bytes xs) × (reply after ≡ replies xs)
+  pub whole_line : whole ≡ true → EndsAtFirst 10 xs × (told ≡ bytes xs) × (reply after ≡ replies reply xs)
   whole_line is_true = by_piece piece
     where
-      by_piece : PieceIn xs told (Ok tt) → EndsAtFirst 10 xs × (told ≡ bytes xs) × (reply after ≡ replies xs)
+      by_piece : PieceIn xs told (Ok tt) → EndsAtFirst 10 xs × (told ≡ bytes xs) × (reply after ≡ replies reply xs)
       by_piece (inl (e, t)) =
           let lines : byte_lines xs ≡ without_return e.before ∷ [] =
           ap byte_lines e.whole ∙ pieces_whole e.before [] [] e.without in
@@ -60,17 +62,17 @@ module _ (xs after : List ℕ) (told : List ReadMark) (whole : Bool) (piece : Pi
           (e, t, ap reply text ∙ sym (ap (flat_map reply) lines ∙ append-nil (reply (without_return e.before))))
       by_piece (inr (w, t)) = absurd (cc ((is_last w).0, is_true))
 
-  pub last_line : whole ≡ false → (told ≡ bytes xs ++ ReadMark.end ∷ []) × (flat_map reply (last_piece after) ≡ replies xs)
+  pub last_line : whole ≡ false → (told ≡ bytes xs ++ ReadMark.end ∷ []) × (flat_map reply (last_piece after) ≡ replies reply xs)
   last_line is_false = by_piece piece
     where
       by_piece : PieceIn xs told (Ok tt)
-          → (told ≡ bytes xs ++ ReadMark.end ∷ []) × (flat_map reply (last_piece after) ≡ replies xs)
+          → (told ≡ bytes xs ++ ReadMark.end ∷ []) × (flat_map reply (last_piece after) ≡ replies reply xs)
       by_piece (inl (e, t)) = absurd (cc ((is_whole e.before e.whole).0, is_false))
       by_piece (inr (w, t)) =
           let text = (is_last w).1 in
           (t, ap (λ l. flat_map reply (last_piece l)) text ∙ sym (ap (flat_map reply) (pieces_last xs [] w)))
 
 -- something before an end is one line
-pub last_reply : (xs : List ℕ) → (xs ≡ [] → ⊥) → flat_map reply (last_piece xs) ≡ reply xs
-last_reply [] some = absurd (some refl)
-last_reply (b ∷ xs) some = append-nil (reply (b ∷ xs))
+pub last_reply : (reply : Replying) (xs : List ℕ) → (xs ≡ [] → ⊥) → flat_map reply (last_piece xs) ≡ reply xs
+last_reply reply [] some = absurd (some refl)
+last_reply reply (b ∷ xs) some = append-nil (reply (b ∷ xs))

@@ -1,10 +1,9 @@
 use Rattle.std.proofs.Common.{◌≡◌, ◌++◌, rules}
 use Rattle.std.specs.Prelude.{flat_map}
-use Rattle.futures_lite.specs.Lines.{last_piece}
-use Rattle.example_line_server.specs.Serving.{reply}
-use Rattle.example_line_server.proofs.Lines.{last_reply}
-use Rattle.example_line_server.proofs.Serving.{flush_behind, none_behind}
-use Rattle.example_line_server.proofs.serve.answer_last.Goals as goal
+use Rattle.lite_read.specs.BytePieces.{last_piece}
+use Rattle.lite_theorems.proofs.LinesServed.{last_reply}
+use Rattle.lite_theorems.proofs.Serving.{flush_behind, none_behind}
+use Rattle.lite_theorems.proofs.line_server.answer_last.Goals as goal
 
 pub returns : goal.returns
 returns g c =
@@ -13,6 +12,7 @@ returns g c =
     let laws = g.O.Takings.write_laws in
     let all = none_behind laws _ _ _ _ one.0 two.0 one.1 one.2 two.1 two.2 in
     let flushed = flush_behind laws _ _ _ _ one.0 two.0 one.1 one.2 two.1 two.2 _ two.3 in
-    let same : flat_map reply (last_piece c.args.line.now.items) ≡ reply c.args.line.now.items =
-    last_reply c.args.line.now.items (search rules) in
+    let reply = g.L.LineService.reply in
+    let xs = c.args.line.now.items in
+    let same : flat_map reply (last_piece xs) ≡ reply xs = last_reply reply xs (search rules) in
     (one.0 ++ two.0, rw same all.0, rw same flushed, two.4)

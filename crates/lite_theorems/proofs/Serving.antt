@@ -3,16 +3,19 @@ use Rattle.std.proofs.Common.{◌≡◌, ◌⊎◌, ◌∙◌, ℕ, true, List, 
 use Rattle.std.proofs.Common.{append-nil, append_assoc}
 use Rattle.std.proofs.lemmas.List.{map-append}
 use Rattle.std.specs.Prelude.{IfOk}
-use Rattle.futures_lite.specs.Laws.Taken.{taken_both}
-use Rattle.futures_lite.specs.Laws.Told.{told_follow, told_none}
-use Rattle.futures_lite.specs.Marks.{ReadMark, WriteMark, bytes, bytes_taken}
-use Rattle.futures_lite.specs.Own.{MarkLaws, Runs}
-use Rattle.futures_lite.specs.Readers.{StandsFirst, ToldStripped}
-use Rattle.futures_lite.specs.Writers.{EndsFlushed, TakesFront}
-use Rattle.example_line_server.specs.Serving.{LineEnds, OfOutput, Replied, ServingEnds, StopsServing, replies}
-use Rattle.example_line_server.specs.declared.fault.ServeError.{ServeError}
-use Rattle.example_line_server.specs.declared.fault.ServeError.TheVariants.{Input, Memory, Output}
-use Rattle.example_line_server.proofs.Lines.{Ended, ended_both, ended_none, ended_whole, replies_both}
+use Rattle.lite_theorems.specs.Laws.Taken.{taken_both}
+use Rattle.lite_theorems.specs.Laws.Told.{told_follow, told_none}
+use Rattle.lite_io_base.specs.Marks.{ReadMark, bytes}
+use Rattle.lite_io_base.specs.Takings.{WriteMark, bytes_taken}
+use Rattle.lite_base.specs.Runs.{Runs}
+use Rattle.lite_io_base.specs.Runs.{MarkLaws, StandsFirst}
+use Rattle.lite_theorems.specs.Told.{ToldStripped}
+use Rattle.lite_io_base.specs.SteadyWrite.{EndsFlushed}
+use Rattle.lite_theorems.specs.BothWriters.{TakesFront}
+use Rattle.lite_theorems.specs.Serving.{LineEnds, OfOutput, Replied, Replying, ServingEnds, StopsServing, replies}
+use Rattle.lite_theorems.specs.declared.serve_error.ServeError.{ServeError}
+use Rattle.lite_theorems.specs.declared.serve_error.ServeError.TheVariants.{Input, Memory, Output}
+use Rattle.lite_theorems.proofs.LinesServed.{Ended, ended_both, ended_none, ended_whole, replies_both}
 
 pub stops_output : (rest : List ReadMark) (e : ServeError) → (rest ≡ []) ⊎ (rest ≡ ReadMark.end ∷ []) → OfOutput e
     → StopsServing rest e
@@ -21,11 +24,11 @@ stops_output rest (Output e) at h = at
 stops_output rest Memory at h = at
 
 -- where a front of these replies was written, and they are those to what was read
-pub replied : {R : Type 0} (told : List ReadMark) (took : List WriteMark)
-    (Ends : List ℕ → List ReadMark → List WriteMark → R → Type 0) (value : R) (xs given : List ℕ) (rest : List ReadMark)
-    → told ≡ bytes xs ++ rest → given ≡ replies xs → StandsFirst (bytes_taken took) given → Ends xs rest took value
-    → Replied told took Ends value
-replied told took Ends value xs given rest cut same front ends =
+pub replied : {R : Type 0} (reply : Replying) (told : List ReadMark) (took : List WriteMark)
+    (Ends : Replying → List ℕ → List ReadMark → List WriteMark → R → Type 0) (value : R) (xs given : List ℕ)
+    (rest : List ReadMark) → told ≡ bytes xs ++ rest → given ≡ replies reply xs → StandsFirst (bytes_taken took) given
+    → Ends reply xs rest took value → Replied reply told took Ends value
+replied reply told took Ends value xs given rest cut same front ends =
     record { read = xs; rest = rest; cut = cut; front = (front.0, sym same ∙ front.1); ends = ends }
 
 ends_later : (l m : List WriteMark) → EndsFlushed m → EndsFlushed (l ++ m)
@@ -48,18 +51,18 @@ module _ {W : Type 0} {writes : Runs WriteMark W} (laws : MarkLaws writes) (x y 
   flush_behind (Err e) h = tt
 
 -- all that was told so far was answered
-pub record SoFar {S W : Type 0} (reads : Runs ReadMark S) (writes : Runs WriteMark W) (x : S) (y : W) (x' : S) (y' : W)
-    : Type 0 where
+pub record SoFar {S W : Type 0} (reply : Replying) (reads : Runs ReadMark S) (writes : Runs WriteMark W)
+    (x : S) (y : W) (x' : S) (y' : W) : Type 0 where
   pub read : List ℕ
   pub took : List WriteMark
   pub told : ToldStripped reads x (bytes read) x'
   pub wrote : writes y took y'
-  pub all : bytes_taken took ≡ replies read
+  pub all : bytes_taken took ≡ replies reply read
   pub ended : Ended read
 
-module _ {S W : Type 0} {reads : Runs ReadMark S} {writes : Runs WriteMark W} (in_laws : MarkLaws reads)
+module _ {S W : Type 0} {reply : Replying} {reads : Runs ReadMark S} {writes : Runs WriteMark W} (in_laws : MarkLaws reads)
     (out_laws : MarkLaws writes) where
-  pub so_far_none : (x : S) (y : W) → SoFar reads writes x y x y
+  pub so_far_none : (x : S) (y : W) → SoFar reply reads writes x y x y
   so_far_none x y =
       record {
         read = [];
@@ -70,22 +73,22 @@ module _ {S W : Type 0} {reads : Runs ReadMark S} {writes : Runs WriteMark W} (i
         ended = ended_none;
       }
 
-  module _ (x x' x'' : S) (y y' y'' : W) (h : SoFar reads writes x y x' y') (l : List ReadMark) (t : List WriteMark)
+  module _ (x x' x'' : S) (y y' y'' : W) (h : SoFar reply reads writes x y x' y') (l : List ReadMark) (t : List WriteMark)
       (told : ToldStripped reads x' l x'') (wrote : writes y' t y'') where
-    all_both : (xs : List ℕ) → bytes_taken t ≡ replies xs → bytes_taken (h.took ++ t) ≡ replies (h.read ++ xs)
-    all_both xs e = rw (taken_both h.took t, h.all, e) (sym (replies_both h.read xs h.ended))
+    all_both : (xs : List ℕ) → bytes_taken t ≡ replies reply xs → bytes_taken (h.took ++ t) ≡ replies reply (h.read ++ xs)
+    all_both xs e = rw (taken_both h.took t, h.all, e) (sym (replies_both reply h.read xs h.ended))
 
-    front_both : (xs : List ℕ) → StandsFirst (bytes_taken t) (replies xs)
-        → StandsFirst (bytes_taken (h.took ++ t)) (replies (h.read ++ xs))
+    front_both : (xs : List ℕ) → StandsFirst (bytes_taken t) (replies reply xs)
+        → StandsFirst (bytes_taken (h.took ++ t)) (replies reply (h.read ++ xs))
     front_both xs f = (
       f.0,
-      replies_both h.read xs h.ended ∙ ap (λ k. replies h.read ++ k) f.1
-          ∙ sym (append_assoc (replies h.read) (bytes_taken t) f.0)
+      replies_both reply h.read xs h.ended ∙ ap (λ k. replies reply h.read ++ k) f.1
+          ∙ sym (append_assoc (replies reply h.read) (bytes_taken t) f.0)
           ∙ ap (λ k. k ++ f.0) (sym (taken_both h.took t ∙ ap (λ k. k ++ bytes_taken t) h.all)),
     )
 
     -- a whole line more
-    pub so_far_on : Replied l t LineEnds (Ok true) → SoFar reads writes x y x'' y''
+    pub so_far_on : Replied reply l t LineEnds (Ok true) → SoFar reply reads writes x y x'' y''
     so_far_on r =
         let all_bytes : bytes h.read ++ l ≡ bytes (h.read ++ r.read) = ap (λ k. bytes h.read ++ k)
         (r.cut ∙ ap (λ k. bytes r.read ++ k) r.ends.0 ∙ append-nil (bytes r.read))
@@ -102,9 +105,9 @@ module _ {S W : Type 0} {reads : Runs ReadMark S} {writes : Runs WriteMark W} (i
 
     -- what is said of all, where no more lines come
     pub served : (line : Result (Unit {0}) ServeError)
-        → Replied l t ServingEnds line
+        → Replied reply l t ServingEnds line
         → (l : List ReadMark) × (took : List WriteMark) × ToldStripped reads x l x'' × writes y took y''
-        × Replied l took ServingEnds line
+        × Replied reply l took ServingEnds line
     served line r = (
       bytes h.read ++ l,
       h.took ++ t,
@@ -121,6 +124,6 @@ module _ {S W : Type 0} {reads : Runs ReadMark S} {writes : Runs WriteMark W} (i
     )
       where
         ends_both : (line : Result (Unit {0}) ServeError) (rest : List ReadMark) (xs : List ℕ)
-            → ServingEnds xs rest t line → ServingEnds (h.read ++ xs) rest (h.took ++ t) line
+            → ServingEnds reply xs rest t line → ServingEnds reply (h.read ++ xs) rest (h.took ++ t) line
         ends_both (Ok u) rest xs e = (e.0, (all_both xs e.1.0, ends_later h.took t e.1.1))
         ends_both (Err e) rest xs s = s

@@ -1,6 +1,6 @@
 use Rattle.std.proofs.Common.{◌++◌, rules}
-use Rattle.example_line_server.proofs.Serving.{none_behind}
-use Rattle.example_line_server.proofs.serve.answer_whole.Goals as goal
+use Rattle.lite_theorems.proofs.Serving.{none_behind}
+use Rattle.lite_theorems.proofs.line_server.answer_whole.Goals as goal
 
 pub returns : goal.returns
 returns g c =

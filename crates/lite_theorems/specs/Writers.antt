@@ -1,1 +1,0 @@
--- A writer by steps: each mark is a step, in the run `Steps step`.

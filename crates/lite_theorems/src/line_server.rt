@@ -1,0 +1,219 @@
+//! Each line of a reader is answered to a writer.
+ghost use Rattle.std.specs.Prelude.{◌≡◌, ◌++◌, ◌∷◌, [], List, IfErr, IfOk, false, flat_map, true};
+ghost use Rattle.lite_io_base.specs.Marks.{ReadMark};
+ghost use Rattle.lite_io_base.specs.SteadyWrite.{EndsFlushed};
+ghost use Rattle.lite_io_base.specs.Takings.{WriteMark, bytes_taken};
+ghost use Rattle.lite_read.specs.BytePieces.{last_piece};
+ghost use Rattle.lite_read.specs.LineText.{without_return};
+ghost use Rattle.lite_theorems.specs.BothWriters.{TakesFront};
+ghost use Rattle.lite_theorems.specs.Serving.{LineEnds, OfOutput, PieceIn, Replied, Replying, ServingEnds};
+ghost use Rattle.lite_theorems.specs.Told.{ToldStripped, Without};
+
+use crate::serve_error::ServeError;
+use crate::waits::{wait_flush, wait_read_until, wait_write_all};
+use lite_base::future::block_on::BlockOn;
+use lite_io_base::{AsyncBufRead, AsyncWrite, CountedRead};
+use std::alloc::{AllocError, Global};
+use std::sync::Wait;
+
+/// What is answered to a line: what [`serve_lines`] asks for. The original has no such trait.
+pub trait LineService {
+    /// The reply to a line, which is without its newline and its return.
+    ghost reply: { Replying };
+
+    /// Makes the reply to a line in its place. `Err` says that memory for it was refused; the line may be anything then.
+    fn answer(&mut self, line: &mut Vec<u8>) -> Result<(), AllocError>
+        ensures { IfOk result (λ _. line.new.items ≡ reply line.old.items) };
+}
+
+/// Answers each line of `requests` to `replies`, up to the first end, in order, on this thread, by `on`. Where it gives `Ok`,
+/// what was written is the replies to the lines of what was read, none lost and none twice, and is flushed; else a front of
+/// those, and the error says why it stopped. It flushes where no more of the input is at hand, too. It may wait for ever. The
+/// original has no such call.
+pub fn serve_lines<R, I, O, L>(
+    on: &mut BlockOn,
+    rt: &R,
+    alloc: Global,
+    requests: &mut I,
+    replies: &mut O,
+    service: &mut L,
+) -> Result<(), ServeError>
+where
+    R: Wait,
+    I: AsyncBufRead + CountedRead,
+    O: AsyncWrite,
+    L: LineService,
+    requires { I.ranks.counts requests.old }
+    ensures { (l : List ReadMark) × (took : List WriteMark) × ToldStripped I.reads requests.old l requests.new
+        × O.writes replies.old took replies.new × Replied L.reply l took ServingEnds result }
+{
+    let mut line = Vec::new(alloc);
+    for _ in rt.forever() {
+        if !answer_next(on, rt, requests, replies, service, &mut line)? {
+            return Ok(());
+        }
+    }
+    unreachable!()
+}
+
+/// Answers the next line, if there is one; says whether a newline ended it.
+fn answer_next<R, I, O, L>(
+    on: &mut BlockOn,
+    rt: &R,
+    requests: &mut I,
+    replies: &mut O,
+    service: &mut L,
+    line: &mut Vec<u8>,
+) -> Result<bool, ServeError>
+where
+    R: Wait,
+    I: AsyncBufRead + CountedRead,
+    O: AsyncWrite,
+    L: LineService,
+    requires { I.ranks.counts requests.old }
+    ensures answered { (l : List ReadMark) × (took : List WriteMark) × ToldStripped I.reads requests.old l requests.new
+        × O.writes replies.old took replies.new × Replied L.reply l took LineEnds result }
+    ensures again { I.ranks.counts requests.new }
+{
+    line.clear();
+    read_line(on, rt, requests, line)?;
+    if take_line(line) {
+        answer_whole(on, rt, requests, replies, service, line)?;
+        return Ok(true);
+    }
+    answer_last(on, rt, replies, service, line)?;
+    Ok(false)
+}
+
+/// Reads a line with its newline, or what stands before an end.
+fn read_line<R: Wait, I: AsyncBufRead + CountedRead>(
+    on: &mut BlockOn,
+    rt: &R,
+    requests: &mut I,
+    line: &mut Vec<u8>,
+) -> Result<(), ServeError>
+    requires counts { I.ranks.counts requests.old }
+    requires empty { line.old.items ≡ [] }
+    ensures told { (l : List ReadMark) × ToldStripped I.reads requests.old l requests.new × PieceIn line.new.items l result }
+    ensures again { I.ranks.counts requests.new }
+{
+    match wait_read_until(on, rt, requests, b'\n', line) {
+        Ok(Ok(_)) => Ok(()),
+        Ok(Err(e)) => Err(ServeError::Input(e)),
+        Err(_) => Err(ServeError::Memory),
+    }
+}
+
+/// Answers a line that a newline ended, and flushes where no more of the input is at hand.
+fn answer_whole<R: Wait, I: AsyncBufRead, O: AsyncWrite, L: LineService>(
+    on: &mut BlockOn,
+    rt: &R,
+    requests: &I,
+    replies: &mut O,
+    service: &mut L,
+    line: &mut Vec<u8>,
+) -> Result<(), ServeError>
+    ensures { (took : List WriteMark) × TakesFront O.writes replies.old (L.reply line.old.items) took replies.new
+        × IfOk result (λ _. bytes_taken took ≡ L.reply line.old.items) × IfErr result OfOutput }
+{
+    answer(on, rt, replies, service, line)?;
+    flush_if(on, rt, replies, requests.buffer().is_empty())
+}
+
+/// Answers what stood before an end, if that was something, and flushes.
+fn answer_last<R: Wait, O: AsyncWrite, L: LineService>(
+    on: &mut BlockOn,
+    rt: &R,
+    replies: &mut O,
+    service: &mut L,
+    line: &mut Vec<u8>,
+) -> Result<(), ServeError>
+    ensures { (took : List WriteMark)
+        × TakesFront O.writes replies.old (flat_map L.reply (last_piece line.old.items)) took replies.new
+        × IfOk result (λ _. (bytes_taken took ≡ flat_map L.reply (last_piece line.old.items)) × EndsFlushed took)
+        × IfErr result OfOutput }
+{
+    if line.is_empty() {
+        return flush(on, rt, replies);
+    }
+    answer(on, rt, replies, service, line)?;
+    flush(on, rt, replies)
+}
+
+/// Answers a line, which becomes the reply.
+fn answer<R: Wait, O: AsyncWrite, L: LineService>(
+    on: &mut BlockOn,
+    rt: &R,
+    replies: &mut O,
+    service: &mut L,
+    line: &mut Vec<u8>,
+) -> Result<(), ServeError>
+    ensures { (took : List WriteMark) × TakesFront O.writes replies.old (L.reply line.old.items) took replies.new
+        × IfOk result (λ _. bytes_taken took ≡ L.reply line.old.items) × IfErr result OfOutput }
+{
+    let Ok(()) = service.answer(line) else {
+        return Err(ServeError::Memory);
+    };
+    match wait_write_all(on, rt, replies, line) {
+        Ok(Ok(())) => Ok(()),
+        Ok(Err(e)) => Err(ServeError::Output(e)),
+        Err(_) => Err(ServeError::Memory),
+    }
+}
+
+/// Flushes the replies.
+fn flush<R: Wait, O: AsyncWrite>(
+    on: &mut BlockOn,
+    rt: &R,
+    replies: &mut O,
+) -> Result<(), ServeError>
+    ensures { (took : List WriteMark) × O.writes replies.old took replies.new × (bytes_taken took ≡ [])
+        × IfOk result (λ _. EndsFlushed took) × IfErr result OfOutput }
+{
+    match wait_flush(on, rt, replies) {
+        Ok(Ok(())) => Ok(()),
+        Ok(Err(e)) => Err(ServeError::Output(e)),
+        Err(_) => Err(ServeError::Memory),
+    }
+}
+
+/// Flushes the replies, if that is to be done now.
+fn flush_if<R: Wait, O: AsyncWrite>(
+    on: &mut BlockOn,
+    rt: &R,
+    replies: &mut O,
+    now: bool,
+) -> Result<(), ServeError>
+    ensures { (took : List WriteMark) × O.writes replies.old took replies.new × (bytes_taken took ≡ [])
+        × IfErr result OfOutput }
+{
+    if !now {
+        return Ok(());
+    }
+    flush(on, rt, replies)
+}
+
+/// Takes the newline off, and one return before it, and says whether there was a newline.
+fn take_line(piece: &mut Vec<u8>) -> bool
+    ensures whole { (before : _) → piece.old.items ≡ before ++ 10 ∷ []
+        → (result ≡ true) × (piece.new.items ≡ without_return before) }
+    ensures last { Without 10 piece.old.items → (result ≡ false) × (piece.new.items ≡ piece.old.items) }
+{
+    let amount = piece.len();
+    if amount == 0 || piece[amount - 1] != b'\n' {
+        return false;
+    }
+    piece.truncate(amount - 1);
+    drop_return(piece);
+    true
+}
+
+/// Takes a return at the end off.
+fn drop_return(line: &mut Vec<u8>)
+    ensures { line.new.items ≡ without_return line.old.items }
+{
+    let amount = line.len();
+    if amount > 0 && line[amount - 1] == b'\r' {
+        line.truncate(amount - 1);
+    }
+}
