@@ -16,12 +16,20 @@ waited_by (Some v) (Pending ∷ l) m w h = waited_by (Some v) l m w h
 waited_by v (Ready x ∷ l) m w h = absurd w
 
 one_more_first : (b : Bool) (m n : ℕ) → one_more_if b m + n ≡ one_more_if b (m + n)
-one_more_first true m n = refl
+one_more_first true m n = omega arith
 one_more_first false m n = refl
 
 one_more_last : (b : Bool) (m n : ℕ) → m + one_more_if b n ≡ one_more_if b (m + n)
 one_more_last true m n = omega arith
 one_more_last false m n = refl
+
+pub one_came : (b : Bool) (n m : ℕ) → b ≡ true → m ≡ one_more_if b n → m ≡ 1 + n
+one_came true n m is h = h
+one_came false n m is h = absurd (cc is)
+
+pub none_came : (b : Bool) (n m : ℕ) → b ≡ false → m ≡ one_more_if b n → m ≡ n
+none_came true n m is h = absurd (cc is)
+none_came false n m is h = h
 
 -- where one of them has come to its value
 pub finished_set : {F A : Type 0} (xs : List (Task F A)) (at : ℕ) (x y d : Task F A) (b : Bool) → at < length xs

@@ -11,4 +11,4 @@ returns-clause-ran g c = each_idle g.met.F.Future.laws _
 
 pub returns-then-at-tasks-clause-came : goal.returns-then-at-tasks-clause-came
 returns-then-at-tasks-clause-came g c =
-    finished_set _ _ _ _ _ _ c.index-tasks-at.result c.if-at-tasks.true refl c.poll_one.ensures.came
+    finished_set _ _ _ _ c.index-tasks-at.result _ c.if-at-tasks.true refl c.poll_one.ensures.came
