@@ -41,12 +41,5 @@ where
     let Ok(mut replies) = BufWriter::new(rt.alloc(), AssertAsync::new(host.stdout())) else {
         return Err(ServeError::Memory);
     };
-    serve_lines(
-        &mut on,
-        rt,
-        rt.alloc(),
-        &mut requests,
-        &mut replies,
-        &mut Words,
-    )
+    serve_lines(&mut on, rt, &mut requests, &mut replies, &mut Words)
 }

@@ -13,7 +13,7 @@ use crate::serve_error::ServeError;
 use crate::waits::{wait_flush, wait_read_until, wait_write_all};
 use lite_base::future::block_on::BlockOn;
 use lite_io_base::{AsyncBufRead, AsyncWrite, CountedRead};
-use std::alloc::{AllocError, Global};
+use std::alloc::{AllocError, AllocGlobal};
 use std::sync::Wait;
 
 /// What is answered to a line: what [`serve_lines`] asks for. The original has no such trait.
@@ -33,13 +33,12 @@ pub trait LineService {
 pub fn serve_lines<R, I, O, L>(
     on: &mut BlockOn,
     rt: &R,
-    alloc: Global,
     requests: &mut I,
     replies: &mut O,
     service: &mut L,
 ) -> Result<(), ServeError>
 where
-    R: Wait,
+    R: Wait + AllocGlobal,
     I: AsyncBufRead + CountedRead,
     O: AsyncWrite,
     L: LineService,
@@ -47,7 +46,7 @@ where
     ensures { (l : List ReadMark) × (took : List WriteMark) × ToldStripped I.reads requests.old l requests.new
         × O.writes replies.old took replies.new × Replied L.reply l took ServingEnds result }
 {
-    let mut line = Vec::new(alloc);
+    let mut line = Vec::new(rt.alloc());
     for _ in rt.forever() {
         if !answer_next(on, rt, requests, replies, service, &mut line)? {
             return Ok(());

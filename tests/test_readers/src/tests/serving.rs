@@ -45,14 +45,7 @@ fn each_line_is_answered_in_order(rt: HostRuntime) -> Result<(), Fail> {
             return Err(AllocError.into());
         };
         let (mut written, mut echo) = (Vec::new(rt.alloc()), Echo { lines: 0 });
-        let ended = serve_lines(
-            &mut on,
-            &rt,
-            rt.alloc(),
-            &mut requests,
-            &mut written,
-            &mut echo,
-        );
+        let ended = serve_lines(&mut on, &rt, &mut requests, &mut written, &mut echo);
         assert!(rt; ended.is_ok());
         assert_eq!(rt; written.as_slice(), replies);
         assert_eq!(rt; echo.lines, lines);
@@ -73,27 +66,13 @@ fn a_server_stops_at_an_error(rt: HostRuntime) -> Result<(), Fail> {
     let (mut replies, mut echo) = (Takes::new(rt.alloc()), Echo { lines: 0 });
     replies.order(Order::AtMost(2))?;
     replies.order(Order::Wait)?;
-    let stopped = serve_lines(
-        &mut on,
-        &rt,
-        rt.alloc(),
-        &mut requests,
-        &mut replies,
-        &mut echo,
-    );
+    let stopped = serve_lines(&mut on, &rt, &mut requests, &mut replies, &mut echo);
     assert!(rt; matches!(stopped, Err(ServeError::Input(e)) if e.kind() == ErrorKind::Other));
     assert_eq!(rt; replies.taken(), b"one\n".as_slice());
 
     replies.order(Order::AtMost(1))?;
     replies.order(Order::Fail(ErrorKind::Other))?;
-    let stopped = serve_lines(
-        &mut on,
-        &rt,
-        rt.alloc(),
-        &mut requests,
-        &mut replies,
-        &mut echo,
-    );
+    let stopped = serve_lines(&mut on, &rt, &mut requests, &mut replies, &mut echo);
     assert!(rt; matches!(stopped, Err(ServeError::Output(e)) if e.kind() == ErrorKind::Other));
     assert_eq!(rt; replies.taken(), b"one\no".as_slice());
     Ok(())
@@ -116,14 +95,7 @@ fn a_server_flushes_where_no_input_is_at_hand(rt: HostRuntime) -> Result<(), Fai
             return Err(AllocError.into());
         };
         let mut echo = Echo { lines: 0 };
-        let stopped = serve_lines(
-            &mut on,
-            &rt,
-            rt.alloc(),
-            &mut requests,
-            &mut replies,
-            &mut echo,
-        );
+        let stopped = serve_lines(&mut on, &rt, &mut requests, &mut replies, &mut echo);
         assert!(rt; matches!(stopped, Err(ServeError::Input(_))));
         assert_eq!(rt; replies.get_ref().taken(), flushed);
         assert_eq!(rt; replies.buffer().len() + flushed.len(), 4);
