@@ -8,6 +8,7 @@ mod methods;
 mod polls;
 mod read_to_end;
 mod readers;
+mod shown;
 mod told;
 mod waits;
 
