@@ -30,7 +30,8 @@ pub fn ready<T>(value: T) -> Ready<T>
 
 /// Waits on this thread for a future, and answers its value. It may wait for ever, and a sleep costs the processor
 /// nothing. `AllocError`: the queue that it sleeps on was refused for memory, and the future was not polled. Who
-/// waits often holds a [`BlockOn`], which makes the queue once.
+/// waits often holds a [`BlockOn`], which makes the queue once. The future is let go, so it has to be `Drop`; `wait_for`
+/// leaves it with its caller.
 pub fn block_on<R, F>(rt: &R, future: F) -> Result<F::Output, AllocError>
 where
     R: Wait + RandomSource + AllocGlobal,

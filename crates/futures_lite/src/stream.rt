@@ -70,7 +70,8 @@ pub fn empty<T>() -> Empty<T>
     lite_source::make::empty()
 }
 
-/// The stream of the items of a vector: `iter`, with its items by a list.
+/// The stream of the items of a vector: `iter`, with its items by a list. What was not asked for is let go with the
+/// stream, so the items have to be `Drop`.
 pub fn iter_vec<T: Drop>(items: Vec<T>) -> Iter<vec::IntoIter<T>>
     ensures fronts { Fronts ⟦<Iter<vec::IntoIter<T>> as Stream>⟧.run result items.items }
     ensures small { length items.items < 2 ^ 64 }
@@ -88,7 +89,8 @@ pub fn iter_slice<'a, T: Copy>(items: &'a [T]) -> Iter<iterators::Copied<slice::
     iter(items.iter().copied())
 }
 
-/// The stream of the items of an array: `iter`, with its items by a list.
+/// The stream of the items of an array: `iter`, with its items by a list. The items have to be `Drop`, as in
+/// `iter_vec`.
 pub fn iter_array<T: Drop, const N: usize>(items: [T; N]) -> Iter<array::IntoIter<T, N>>
     ensures fronts { Fronts ⟦<Iter<array::IntoIter<T, N>> as Stream>⟧.run result items }
     ensures lists { ListsAs ⟦<Iter<array::IntoIter<T, N>> as Stream>⟧.run result items }
@@ -164,8 +166,8 @@ pub trait StreamExt: Stream {
     }
 
     /// The stream of the items that `predicate` accepts, which is called once for each item, in order. A poll goes on
-    /// over rejected items until there is an accepted one, a pending or an end, so the stream's rank has to count.
-    /// The hint is 0, and this stream's upper bound.
+    /// over rejected items until there is an accepted one, a pending or an end, so the stream's rank has to count. It
+    /// lets those go, so they have to be `Drop`. The hint is 0, and this stream's upper bound.
     final fn filter<P>(self, predicate: P) -> Filter<Self, P>
     where
         Self: Counted + Sized,
@@ -180,7 +182,8 @@ pub trait StreamExt: Stream {
 
     /// The stream of the items of the streams that `f` makes of the items, one after the other. A poll goes on over
     /// inner streams that end, and this stream is polled only while no inner stream is held; so its rank has to
-    /// count, and where that of the inner streams does too, so does the whole. The hint says nothing.
+    /// count, and where that of the inner streams does too, so does the whole. An inner stream that ended is let go,
+    /// so they have to be `Drop`. The hint says nothing.
     final fn flat_map<U, F>(self, f: F) -> FlatMap<Self, U, F>
     where
         Self: Counted + Sized,
@@ -197,7 +200,8 @@ pub trait StreamExt: Stream {
 
     /// The stream of the items of the streams that are the items, one after the other. A poll goes on over inner
     /// streams that end, and this stream is polled only while no inner stream is held; so its rank has to count, and
-    /// where that of the inner streams does too, so does the whole. The hint says nothing.
+    /// where that of the inner streams does too, so does the whole. An inner stream that ended is let go, so they have
+    /// to be `Drop`. The hint says nothing.
     final fn flatten(self) -> Flatten<Self>
     where
         Self: Counted + Sized,
@@ -211,8 +215,9 @@ pub trait StreamExt: Stream {
     }
 
     /// The stream of the values of the futures that `f` makes of the items. A future is polled in the poll that made
-    /// it; while it is pending it is held, and this stream is not polled. The hint is this stream's, and one more in
-    /// both places while a future is held.
+    /// it; while it is pending it is held, and this stream is not polled. A future is let go with its value, so they
+    /// have to be `Drop`. The hint is this stream's, and while a future is held one more in both places: at `usize::MAX`
+    /// the lower one stays, and there is no upper one.
     final fn then<F, Fut>(self, f: F) -> Then<Self, F, Fut>
     where
         Self: Sized,
@@ -254,8 +259,8 @@ pub trait StreamExt: Stream {
         make::take(self, n)
     }
 
-    /// The stream of the items, with an end in the place of each one that `predicate` rejects, which is lost. Polled
-    /// again after that end it goes on. The hint says nothing.
+    /// The stream of the items, with an end in the place of each one that `predicate` rejects, which is let go, so that
+    /// the items have to be `Drop`. Polled again after that end it goes on. The hint says nothing.
     final fn take_while<P>(self, predicate: P) -> TakeWhile<Self, P>
     where
         Self: Sized,
@@ -281,7 +286,8 @@ pub trait StreamExt: Stream {
         make::map_while(self, f)
     }
 
-    /// The stream of the items without the first `n`. A poll goes on over those. The hint says nothing.
+    /// The stream of the items without the first `n`. A poll goes on over those, and lets them go, so the items have
+    /// to be `Drop`. The hint says nothing.
     #[tactic(auto, using(lite_views::proofs::Adapting::skipped_lists))]
     final fn skip(self, n: usize) -> Skip<Self>
     where
@@ -293,7 +299,8 @@ pub trait StreamExt: Stream {
     }
 
     /// The stream of the items from the first one that `predicate` rejects, which is asked no more after it. A poll
-    /// goes on over the items before it, so the stream's rank has to count. The hint says nothing.
+    /// goes on over the items before it, so the stream's rank has to count. It lets those go, and then the predicate,
+    /// so all of them have to be `Drop`. The hint says nothing.
     final fn skip_while<P>(self, predicate: P) -> SkipWhile<Self, P>
     where
         Self: Counted + Sized,
@@ -306,7 +313,7 @@ pub trait StreamExt: Stream {
     }
 
     /// The stream of the items whose numbers, counted from 0, are multiples of `step`, which is above 0. A poll goes
-    /// on over the items between. The hint says nothing.
+    /// on over the items between, and lets them go, so the items have to be `Drop`. The hint says nothing.
     #[tactic(auto, using(lite_views::proofs::Adapting::stepped_lists, lite_views::proofs::Adapting::step_fewer))]
     final fn step_by(self, step: usize) -> StepBy<Self>
     where
@@ -334,8 +341,9 @@ pub trait StreamExt: Stream {
     }
 
     /// The stream of the pairs of the items and those of `other`. An item is held while `other` is pending, and this
-    /// stream is not polled meanwhile; where `other` ends it is let go, and an end goes out. A pending and an end of
-    /// this stream go out too. It is not fused: polled after an end it goes on. The hint says nothing.
+    /// stream is not polled meanwhile; where `other` ends it is let go, so this stream's items have to be `Drop`, and an
+    /// end goes out. A pending and an end of this stream go out too. It is not fused: polled after an end it goes on.
+    /// The hint says nothing.
     #[tactic(auto, using(lite_views::proofs::Adapting::paired_lists))]
     final fn zip<U>(self, other: U) -> Zip<Self, U>
     where
@@ -522,7 +530,8 @@ pub trait StreamExt: Stream {
         lite_consume::make::try_next(self)
     }
 
-    /// The future of how many items there are before the end. After `usize::MAX` comes 0.
+    /// The future of how many items there are before the end. After `usize::MAX` comes 0. It lets the items go, so they
+    /// have to be `Drop`.
     #[tactic(auto, using(lite_views::proofs::Consuming::counted_value))]
     final fn count(self) -> CountFuture<Self>
     where
@@ -534,8 +543,8 @@ pub trait StreamExt: Stream {
         lite_consume::make::count(self)
     }
 
-    /// The future of what `f` makes of `init` and of the items before the end, one after the other. It is not polled
-    /// again after its value.
+    /// The future of what `f` makes of `init` and of the items before the end, one after the other. What it makes has
+    /// to be `Drop`. It is not polled again after its value.
     final fn fold<T, F>(self, init: T, f: F) -> FoldFuture<Self, F, T>
     where
         Self: Counted + Sized,
@@ -548,7 +557,8 @@ pub trait StreamExt: Stream {
     }
 
     /// The future of what `f` makes of `init` and of what the items hold, one after the other, up to the end or the
-    /// first error, an item's or one that `f` answers. It is not polled again after its value.
+    /// first error, an item's or one that `f` answers. What it makes has to be `Drop`. It is not polled again after its
+    /// value.
     final fn try_fold<T, E, F, B>(&mut self, init: B, f: F) -> TryFoldFuture<'_, Self, F, B>
     where
         Self: OkCounted<Ok = T, Err = E> + Sized,
@@ -561,7 +571,7 @@ pub trait StreamExt: Stream {
     }
 
     /// The future of the item with the number `n`, counted from 0, and `None` where the stream ends before it. It takes any
-    /// stream.
+    /// stream, and lets the items before that one go, so they have to be `Drop`.
     #[tactic(auto, using(lite_views::proofs::Consuming::nth_value))]
     final fn nth(&mut self, n: usize) -> NthFuture<'_, Self>
     where
@@ -572,7 +582,8 @@ pub trait StreamExt: Stream {
         lite_consume::make::nth(self, n)
     }
 
-    /// The future of the last item before the end, and `None` where there is none.
+    /// The future of the last item before the end, and `None` where there is none. It lets the others go, so the items
+    /// have to be `Drop`.
     #[tactic(auto, using(lite_views::proofs::Consuming::last_value))]
     final fn last(self) -> LastFuture<Self>
     where
@@ -583,7 +594,8 @@ pub trait StreamExt: Stream {
         lite_consume::make::last(self)
     }
 
-    /// The future of the first item that `predicate` accepts, and `None` where the stream ends before it.
+    /// The future of the first item that `predicate` accepts, and `None` where the stream ends before it. It lets the
+    /// items before that one go, so they have to be `Drop`.
     final fn find<P>(&mut self, predicate: P) -> FindFuture<'_, Self, P>
     where
         Self: Counted + Sized,
@@ -676,8 +688,8 @@ pub trait StreamExt: Stream {
     /// The future of a collection of the items before the end, which takes its memory from `alloc`. Where it has no
     /// room for an item the value is `Refused`: what was collected, and that item. A vector and a deque take items in
     /// at the back, a `String` characters at its end, a `BTreeMap` pairs, whose keys stay and whose values are
-    /// replaced where the key is there, and a `BTreeSet` keeps an item that is there. It is not polled again after
-    /// its value.
+    /// replaced where the key is there, and a `BTreeSet` keeps an item that is there; keys, values and items of these two
+    /// have to be `Drop`. It is not polled again after its value.
     final fn collect<C>(self, alloc: C::Alloc) -> CollectFuture<Self, C>
     where
         Self: Counted + Sized,

@@ -14,8 +14,8 @@ ghost use Rattle.lite_bridge.specs.AsyncAsSync.{InTime, PollsWith, SameContext, 
 
 use lite_base::{Context, Poll};
 use lite_io_base::{AsyncRead, AsyncSeek, AsyncWrite};
-use std::io;
 use std::io::{ErrorKind, IoSlice, IoSliceMut, Read, Seek, SeekFrom, Write};
+use std::{fmt, io};
 
 /// What is polled, with the context of a poll, as std's traits know it: a pending is an error of the kind `WouldBlock`.
 ///
@@ -28,6 +28,14 @@ pub struct AsyncAsSync<'r, 'ctx, T> {
 
     /// What is polled.
     pub inner: T,
+}
+
+impl<T: fmt::Debug> fmt::Debug for AsyncAsSync<'_, '_, T> {
+    fn fmt<W: fmt::Write>(&self, f: &mut fmt::Formatter<W>) -> fmt::Result {
+        f.debug_struct("AsyncAsSync")
+            .field("inner", &self.inner)
+            .finish_non_exhaustive()
+    }
 }
 
 // The answer, where a pending is an error.

@@ -15,10 +15,10 @@ use lite_io_base::{AsyncBufRead, AsyncRead, AsyncSeek, AsyncWrite};
 use lite_read::make::{read, seek};
 use lite_write::make::{flush, write};
 use std::alloc::{AllocError, AllocGlobal};
-use std::io;
 use std::io::{BufRead, Read, Seek, SeekFrom, Write};
 use std::random::RandomSource;
 use std::sync::Wait;
+use std::{fmt, io};
 
 /// Waits on this thread for what is polled, and so reads, writes and seeks by the traits of std.
 ///
@@ -31,6 +31,12 @@ pub struct BlockOn<R, T> {
     io: T,
     // Made at the first call, and kept for the others.
     waiter: Option<Waiter>,
+}
+
+impl<R, T: fmt::Debug> fmt::Debug for BlockOn<R, T> {
+    fn fmt<W: fmt::Write>(&self, f: &mut fmt::Formatter<W>) -> fmt::Result {
+        f.debug_tuple("BlockOn").field(&self.io).finish()
+    }
 }
 
 // What is waited with, which is made where there is none yet.
@@ -95,7 +101,7 @@ impl<R, T> BlockOn<R, T> {
         &mut self.io
     }
 
-    /// What is waited for.
+    /// What is waited for. `rt` is let go, so it has to be `Drop`.
     pub fn into_inner(self) -> T
     where
         R: Drop,

@@ -21,7 +21,7 @@ use std::io::{IoSlice, SeekFrom};
 /// as its budget without a pending between them it wakes its context and is pending once, in a call that does not ask its
 /// reader. Its rank, over any reader, is how many may come before that. It writes and seeks as its reader does, and lends
 /// what that lends, as far as the budget goes. The original has no such type.
-#[derive(Drop)]
+#[derive(Debug, Drop)]
 pub struct Budgeted<R> {
     reader: R,
     budget: usize,

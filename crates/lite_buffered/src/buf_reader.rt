@@ -12,8 +12,8 @@ use lite_io_base::{
     fill_slices, total_room,
 };
 use std::alloc::Global;
-use std::io;
 use std::io::{IoSliceMut, SeekFrom};
+use std::{fmt, io};
 
 /// The capacity of a buffer, in bytes, where none is named.
 const DEFAULT_CAPACITY: usize = 8192;
@@ -35,11 +35,22 @@ pub struct BufReader<R> {
     ghost in_range: { (pos ≤ end) × (end ≤ length buf.items) },
 }
 
+impl<R: fmt::Debug> fmt::Debug for BufReader<R> {
+    fn fmt<W: fmt::Write>(&self, f: &mut fmt::Formatter<W>) -> fmt::Result {
+        let (held, capacity) = (self.end - self.pos, self.buf.len());
+        f.debug_struct("BufReader")
+            .field("reader", &self.inner)
+            .field("buffer", &format_args!("{held}/{capacity}"))
+            .finish()
+    }
+}
+
 impl<R: Drop> BufReader<R> {
     ghost use Rattle.lite_buffered.specs.contracts.buf_reader.BufReader.{the_row};
     ghost use Rattle.lite_buffered.specs.BufReader.{ahead, reader_capacity, reader_inner};
 
     /// A reader with a buffer of 8192 bytes. `Err` hands `inner` back, where there was no memory for the buffer.
+    /// `inner` has to be `Drop`.
     pub fn new(alloc: Global, inner: R) -> Result<BufReader<R>, R>
         ensures inner { IfOk result (λ r. reader_inner r ≡ inner) }
         ensures empty { IfOk result (λ r. ahead r ≡ []) }
@@ -50,7 +61,7 @@ impl<R: Drop> BufReader<R> {
     }
 
     /// A reader with a buffer of `capacity` bytes, with none of them used. `Err` hands `inner` back, where there was no
-    /// memory for the buffer. With a capacity of 0 each read goes to `inner`, and nothing is lent.
+    /// memory for the buffer. With a capacity of 0 each read goes to `inner`, and nothing is lent. `inner` has to be `Drop`.
     pub fn with_capacity(alloc: Global, capacity: usize, inner: R) -> Result<BufReader<R>, R>
         ensures inner { IfOk result (λ r. reader_inner r ≡ inner) }
         ensures empty { IfOk result (λ r. ahead r ≡ []) }
@@ -68,14 +79,14 @@ impl<R: Drop> BufReader<R> {
         }
     }
 
-    /// The inner reader.
+    /// The inner reader, which has to be `Drop`.
     pub fn get_ref(&self) -> &R
         ensures { result.now ≡ reader_inner self.now }
     {
         &self.inner
     }
 
-    /// The inner reader, to be changed. What it reads meanwhile is not buffered.
+    /// The inner reader, to be changed. What it reads meanwhile is not buffered. It has to be `Drop`.
     pub fn get_mut(&mut self) -> &mut R
         ensures value { result.now ≡ reader_inner self.old }
         ensures* writes_back { sem 𝓛 (Lends (the_row R.row) R.row self.entry result
@@ -84,7 +95,7 @@ impl<R: Drop> BufReader<R> {
         &mut self.inner
     }
 
-    /// The inner reader. The bytes that were read ahead are lost.
+    /// The inner reader, which has to be `Drop`. The bytes that were read ahead are lost.
     pub fn into_inner(self) -> R
         ensures { result ≡ reader_inner self }
     {

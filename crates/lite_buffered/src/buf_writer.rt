@@ -14,8 +14,8 @@ use lite_base::{Context, Poll, ready};
 use lite_io_base::{AsyncSeek, AsyncWrite, Takings, Tale};
 use std::alloc::Global;
 use std::boxed::BoxedSlice;
-use std::io;
 use std::io::{ErrorKind, SeekFrom};
+use std::{fmt, io};
 
 /// The capacity of a buffer, in bytes, where none is named.
 const DEFAULT_CAPACITY: usize = 8192;
@@ -42,11 +42,21 @@ pub struct BufWriter<W> {
     ghost in_range: { (written ≤ len) × (len ≤ length (boxed_slice_items buf)) },
 }
 
+impl<W: fmt::Debug> fmt::Debug for BufWriter<W> {
+    fn fmt<O: fmt::Write>(&self, f: &mut fmt::Formatter<O>) -> fmt::Result {
+        f.debug_struct("BufWriter")
+            .field("writer", &self.inner)
+            .field("buf", &self.buffer())
+            .finish()
+    }
+}
+
 impl<W: Drop> BufWriter<W> {
     ghost use Rattle.lite_buffered.specs.contracts.buf_writer.BufWriter.{the_row};
     ghost use Rattle.lite_buffered.specs.BufWriter.{buffered, unwritten, writer_capacity, writer_inner};
 
     /// A writer with a buffer of 8192 bytes. `Err` hands `inner` back, where there was no memory for the buffer.
+    /// `inner` has to be `Drop`.
     pub fn new(alloc: Global, inner: W) -> Result<BufWriter<W>, W>
         ensures inner { IfOk result (λ w. writer_inner w ≡ inner) }
         ensures empty { IfOk result (λ w. buffered w ≡ []) }
@@ -57,7 +67,7 @@ impl<W: Drop> BufWriter<W> {
     }
 
     /// A writer with a buffer of `capacity` bytes, with none of them used. `Err` hands `inner` back, where there was no
-    /// memory for the buffer. With a capacity of 0 each write goes to `inner`, and nothing is held.
+    /// memory for the buffer. With a capacity of 0 each write goes to `inner`, and nothing is held. `inner` has to be `Drop`.
     pub fn with_capacity(alloc: Global, capacity: usize, inner: W) -> Result<BufWriter<W>, W>
         ensures inner { IfOk result (λ w. writer_inner w ≡ inner) }
         ensures empty { IfOk result (λ w. buffered w ≡ []) }
@@ -75,14 +85,14 @@ impl<W: Drop> BufWriter<W> {
         }
     }
 
-    /// The inner writer.
+    /// The inner writer, which has to be `Drop`.
     pub fn get_ref(&self) -> &W
         ensures { result.now ≡ writer_inner self.now }
     {
         &self.inner
     }
 
-    /// The inner writer, to be changed. What is written to it passes what is held.
+    /// The inner writer, to be changed. What is written to it passes what is held. It has to be `Drop`.
     pub fn get_mut(&mut self) -> &mut W
         ensures value { result.now ≡ writer_inner self.old }
         ensures* writes_back { sem 𝓛 (Lends (the_row W.row) W.row self.entry result
@@ -91,7 +101,7 @@ impl<W: Drop> BufWriter<W> {
         &mut self.inner
     }
 
-    /// The inner writer. Nothing is written: what is held is lost.
+    /// The inner writer, which has to be `Drop`. Nothing is written: what is held is lost.
     pub fn into_inner(self) -> W
         ensures { result ≡ writer_inner self }
     {

@@ -11,8 +11,8 @@ use lite_base::{Context, Poll, ready};
 use lite_io_base::{
     AsyncBufRead, AsyncRead, CountedRead, Takings, Tale, fill, fill_slices, total_room,
 };
-use std::io;
 use std::io::IoSliceMut;
+use std::{fmt, io};
 
 /// What one reader gives up to its end, and then what another gives.
 ///
@@ -23,6 +23,15 @@ pub struct Chain<R1, R2> {
     first: R1,
     second: R2,
     has_ended: bool,
+}
+
+impl<R1: fmt::Debug, R2: fmt::Debug> fmt::Debug for Chain<R1, R2> {
+    fn fmt<W: fmt::Write>(&self, f: &mut fmt::Formatter<W>) -> fmt::Result {
+        f.debug_struct("Chain")
+            .field("r1", &self.first)
+            .field("r2", &self.second)
+            .finish()
+    }
 }
 
 impl<R1, R2> Chain<R1, R2> {

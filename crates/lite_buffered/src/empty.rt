@@ -9,13 +9,19 @@ ghost use Rattle.lite_io_base.specs.Laws.Runs.{idle_laws};
 
 use lite_base::{Context, Poll};
 use lite_io_base::{AsyncBufRead, AsyncRead, CountedRead, Takings, Tale};
-use std::io;
+use std::{fmt, io};
 
 /// A reader that is at its end, for ever.
 ///
 /// Made by [`empty`](crate::make::empty). Ported from `src/io.rs`, `Empty`.
 #[derive(Clone, Copy)]
 pub struct Empty {}
+
+impl fmt::Debug for Empty {
+    fn fmt<W: fmt::Write>(&self, f: &mut fmt::Formatter<W>) -> fmt::Result {
+        f.debug_struct("Empty").finish_non_exhaustive()
+    }
+}
 
 impl Empty {
     pub(crate) fn new() -> Empty {

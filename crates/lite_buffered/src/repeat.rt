@@ -15,7 +15,7 @@ use std::io;
 /// A reader that gives one byte for ever, as much of it as there is room for.
 ///
 /// Made by [`repeat`](crate::make::repeat). Ported from `src/io.rs`, `Repeat`.
-#[derive(Clone, Copy)]
+#[derive(Clone, Copy, Debug)]
 pub struct Repeat {
     byte: u8,
 }

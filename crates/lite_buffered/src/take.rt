@@ -16,7 +16,7 @@ use std::io::IoSliceMut;
 ///
 /// Where the limit is used up the inner reader is asked no more. Made by [`take`](crate::make::take). Ported from
 /// `src/io.rs`, `Take`.
-#[derive(Drop)]
+#[derive(Debug, Drop)]
 pub struct Take<R> {
     inner: R,
     limit: u64,

@@ -21,6 +21,7 @@ use crate::{All, Any, Count, Find, FindMap, Fold, Folder, ForEach, Last, Next, N
 use lite_base::future::block_on::BlockOn as Waiter;
 use lite_base::{Counted, Stream};
 use std::alloc::{AllocError, AllocGlobal};
+use std::fmt;
 use std::random::RandomSource;
 use std::sync::Wait;
 
@@ -35,6 +36,12 @@ pub struct BlockOn<R, S> {
     pub(crate) stream: S,
     // Made at the first call, and kept for the others.
     pub(crate) waiter: Option<Waiter>,
+}
+
+impl<R, S: fmt::Debug> fmt::Debug for BlockOn<R, S> {
+    fn fmt<W: fmt::Write>(&self, f: &mut fmt::Formatter<W>) -> fmt::Result {
+        f.debug_tuple("BlockOn").field(&self.stream).finish()
+    }
 }
 
 /// What is waited with, which is made where there is none yet.
@@ -74,7 +81,8 @@ impl<R: Wait + RandomSource + AllocGlobal, S: Stream> BlockOn<R, S> {
         self.ask(Next)
     }
 
-    /// The item with the number `n`, counted from 0, and `None` where the stream ends before it. It may wait for ever.
+    /// The item with the number `n`, counted from 0, and `None` where the stream ends before it. It may wait for ever. The
+    /// items before that one are let go, so they have to be `Drop`.
     pub fn nth(&mut self, n: usize) -> Result<Option<S::Item>, AllocError>
     where
         S: Stream<Item: Drop>,
@@ -85,7 +93,8 @@ impl<R: Wait + RandomSource + AllocGlobal, S: Stream> BlockOn<R, S> {
         self.ask(Nth { n })
     }
 
-    /// How many items there are before the end, in 64 bits. It may wait for ever.
+    /// How many items there are before the end. After `usize::MAX` comes 0. It may wait for ever. The items, the stream and
+    /// the runtime are let go, so they have to be `Drop`.
     pub fn count(mut self) -> Result<usize, AllocError>
     where
         R: Drop,
@@ -97,7 +106,8 @@ impl<R: Wait + RandomSource + AllocGlobal, S: Stream> BlockOn<R, S> {
         self.ask(Count { count: 0 })
     }
 
-    /// The last item before the end, and `None` where there is none. It may wait for ever.
+    /// The last item before the end, and `None` where there is none. It may wait for ever. The other items, the stream and
+    /// the runtime are let go, so they have to be `Drop`.
     pub fn last(mut self) -> Result<Option<S::Item>, AllocError>
     where
         R: Drop,
@@ -109,7 +119,8 @@ impl<R: Wait + RandomSource + AllocGlobal, S: Stream> BlockOn<R, S> {
         self.ask(Last { last: None })
     }
 
-    /// What `f` makes of `init` and of the items before the end, one after the other. It may wait for ever.
+    /// What `f` makes of `init` and of the items before the end, one after the other. It may wait for ever. `f`, what it
+    /// makes, the stream and the runtime have to be `Drop`.
     pub fn fold<T, F>(mut self, init: T, f: F) -> Result<T, AllocError>
     where
         R: Drop,
@@ -125,7 +136,7 @@ impl<R: Wait + RandomSource + AllocGlobal, S: Stream> BlockOn<R, S> {
         self.ask(Fold { f, acc: Some(init) })
     }
 
-    /// Calls `f` with each item before the end. It may wait for ever.
+    /// Calls `f` with each item before the end. It may wait for ever. `f`, the stream and the runtime have to be `Drop`.
     pub fn for_each<F>(mut self, f: F) -> Result<(), AllocError>
     where
         R: Drop,
@@ -141,6 +152,7 @@ impl<R: Wait + RandomSource + AllocGlobal, S: Stream> BlockOn<R, S> {
     }
 
     /// Whether `predicate` accepts each item; the first one that it rejects decides. It may wait for ever.
+    /// `predicate` has to be `Drop`.
     pub fn all<P>(&mut self, predicate: P) -> Result<bool, AllocError>
     where
         S: Counted,
@@ -156,6 +168,7 @@ impl<R: Wait + RandomSource + AllocGlobal, S: Stream> BlockOn<R, S> {
     }
 
     /// Whether `predicate` accepts an item; the first one that it accepts decides. It may wait for ever.
+    /// `predicate` has to be `Drop`.
     pub fn any<P>(&mut self, predicate: P) -> Result<bool, AllocError>
     where
         S: Counted,
@@ -170,7 +183,8 @@ impl<R: Wait + RandomSource + AllocGlobal, S: Stream> BlockOn<R, S> {
         self.ask(Any { predicate })
     }
 
-    /// The first item that `predicate` accepts, and `None` where the stream ends before it. It may wait for ever.
+    /// The first item that `predicate` accepts, and `None` where the stream ends before it. It may wait for ever. The items
+    /// before that one are let go, so they have to be `Drop`, and so has `predicate`.
     pub fn find<P>(&mut self, predicate: P) -> Result<Option<S::Item>, AllocError>
     where
         S: Counted<Item: Drop>,
@@ -185,7 +199,8 @@ impl<R: Wait + RandomSource + AllocGlobal, S: Stream> BlockOn<R, S> {
         self.ask(Find { predicate })
     }
 
-    /// The first answer of `f` to the items that is not `None`, and `None` where the stream ends before it. It may wait for ever.
+    /// The first answer of `f` to the items that is not `None`, and `None` where the stream ends before it. It may wait for
+    /// ever. `f` has to be `Drop`.
     pub fn find_map<F, B>(&mut self, f: F) -> Result<Option<B>, AllocError>
     where
         S: Counted,
@@ -200,7 +215,8 @@ impl<R: Wait + RandomSource + AllocGlobal, S: Stream> BlockOn<R, S> {
         self.ask(FindMap { f })
     }
 
-    /// The number of the first item that `predicate` accepts, counted from 0, and `None` where the stream ends before it. It may wait for ever.
+    /// The number of the first item that `predicate` accepts, counted from 0, and `None` where the stream ends before it.
+    /// After `usize::MAX` comes 0. It may wait for ever. `predicate` has to be `Drop`.
     pub fn position<P>(&mut self, predicate: P) -> Result<Option<usize>, AllocError>
     where
         S: Counted,

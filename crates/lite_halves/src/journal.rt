@@ -21,7 +21,7 @@ use std::marker::Model;
 /// itself is an answer like any other: `step_read`, `step_write`, `step_flush` and `step_close` tell the two apart. A
 /// vectored call is one plain call on the first nonempty buffer, with one entry. An entry of a read keeps the bytes
 /// that came. The original has no such type.
-#[derive(Drop)]
+#[derive(Debug, Drop)]
 pub struct Journal<T: Tale + Takings + Clone> {
     start: T,
     stream: T,
@@ -77,7 +77,7 @@ impl<T: Tale + Takings + Clone> Journal<T> {
         &self.entries
     }
 
-    /// The stream as it is now.
+    /// The stream as it is now. The one that was kept as the start is let go, so the stream has to be `Drop`.
     pub fn into_inner(self) -> T
     where
         T: Drop,

@@ -22,7 +22,7 @@ pub use write_half::JournalWriteHalf;
 ///
 /// `B` names the ledgers of the calls and of the bytes of both halves; so halves of two splits do not go together. `Err`
 /// hands the journal back: there was no memory for what the halves share; the blanks are spent. The halves keep `rt` for
-/// their calls, which may wait; this call does not. The original has no such call.
+/// their calls, which may wait; this call does not. `rt` and the stream have to be `Drop`. The original has no such call.
 pub fn split_journalled<R, T, B>(
     rt: R,
     journal: Journal<T>,

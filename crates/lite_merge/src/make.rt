@@ -105,8 +105,8 @@ pub fn drain<S>(stream: &mut S) -> Drain<'_, S>
 }
 
 /// The stream of the items of `stream` until `future` has its value, which is polled first in each poll; then it ends
-/// for ever. At the end of `stream` the future is dropped. The hint is 0 and the upper bound of `stream`, and (0,
-/// Some(0)) once it is stopped. Ported from `src/stream.rs`, `stop_after_future`.
+/// for ever. At the end of `stream` the future is dropped, so it has to be `Drop`. The hint is 0 and the upper bound of
+/// `stream`, and (0, Some(0)) once it is stopped. Ported from `src/stream.rs`, `stop_after_future`.
 pub fn stop_after_future<S, Fut: Future>(stream: S, future: Fut) -> StopAfterFuture<S, Fut>
     ensures { result ≡ record { stream = stream; future = Holding future } }
 {

@@ -17,7 +17,7 @@ use std::io::{ErrorKind, IoSliceMut};
 /// Made by [`bytes`](crate::make::bytes). Each poll is one read of one byte. An error of the reader is an item, after which
 /// it may be polled again; one of the kind `Interrupted` is none, but wakes the context and is pending. It ends where the
 /// reader does. It can be read from as its reader can. Ported from `src/io.rs`, `Bytes`.
-#[derive(Drop)]
+#[derive(Debug, Drop)]
 pub struct Bytes<R> {
     pub(crate) inner: R,
 }

@@ -16,7 +16,7 @@ use std::io;
 /// Made by [`fill_buf`](crate::make::fill_buf). Each poll is one fill of the reader. The value is the bytes, none of them
 /// taken and none where the reader is at an end, or the reader's error. After bytes it holds no reader, and is not polled
 /// again. After an error it holds the reader as the error left it, and may be polled again. Ported from `src/io.rs`, `FillBuf`.
-#[derive(Drop)]
+#[derive(Debug, Drop)]
 pub struct FillBuf<'a, R> {
     // None once its bytes are lent.
     pub(crate) reader: Option<&'a mut R>,

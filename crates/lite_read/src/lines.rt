@@ -26,7 +26,7 @@ use std::io;
 /// line isn't UTF-8, and the next poll goes on behind that line; or one with an error of the reader, or of the kind
 /// `OutOfMemory` where memory was refused. These two cut nothing: the bytes before them stay, and the next poll goes on
 /// with them. Ported from `src/io.rs`, `Lines`.
-#[derive(Drop)]
+#[derive(Debug, Drop)]
 pub struct Lines<R> {
     pub(crate) reader: R,
     // What was read of the next line.

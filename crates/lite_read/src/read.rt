@@ -11,7 +11,7 @@ use std::io;
 /// Made by [`read`](crate::make::read). Each poll is one read of the reader. The value is how many bytes, at most the
 /// buffer's length, stand at its front, where 0 into some room is an end, or the reader's error. Ported from `src/io.rs`,
 /// `ReadFuture`.
-#[derive(Drop)]
+#[derive(Debug, Drop)]
 pub struct ReadFuture<'a, R> {
     pub(crate) reader: &'a mut R,
     pub(crate) buf: &'a mut [u8],

@@ -15,7 +15,7 @@ use std::io::ErrorKind;
 /// Made by [`read_exact`](crate::make::read_exact). Where the buffer is full nothing is read. The value is `Ok` where it is
 /// full, an `UnexpectedEof` where the reader ended before, and else the reader's error; what was read stands at the front
 /// of the buffer then. Ported from `src/io.rs`, `ReadExactFuture`.
-#[derive(Drop)]
+#[derive(Debug, Drop)]
 pub struct ReadExactFuture<'a, R> {
     pub(crate) reader: &'a mut R,
     pub(crate) buf: &'a mut [u8],

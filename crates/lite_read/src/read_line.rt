@@ -28,7 +28,7 @@ use std::io;
 /// kind `OutOfMemory` where memory was refused. What was read before these two is appended to the text if it is UTF-8, and
 /// else dropped; a piece for which there was no memory is not read. No byte past the newline is read. While a poll is
 /// pending the text is as it was. Ported from `src/io.rs`, `ReadLineFuture`.
-#[derive(Drop)]
+#[derive(Debug, Drop)]
 pub struct ReadLineFuture<'a, R, A: Allocator = Global> {
     pub(crate) reader: &'a mut R,
     pub(crate) text: &'a mut String<A>,

@@ -19,7 +19,7 @@ use std::io::ErrorKind;
 /// poll is pending. Room is made before each read, so that a refusal loses nothing, and is cut off before each answer.
 /// Of the room of a poll each byte is zeroed once: there are 32 at first, and twice as many as the largest read that left
 /// no room. Ported from `src/io.rs`, `ReadToEndFuture`.
-#[derive(Drop)]
+#[derive(Debug, Drop)]
 pub struct ReadToEndFuture<'a, R, A: Allocator = Global> {
     pub(crate) reader: &'a mut R,
     pub(crate) buf: &'a mut Vec<u8, A>,

@@ -25,7 +25,7 @@ use std::io::ErrorKind;
 /// appended to the text if it is UTF-8, and else dropped. Room is made before each read, in the text too, so that a refusal
 /// loses nothing; no byte of it is zeroed twice. While a poll is pending the text is as it was. Ported from `src/io.rs`,
 /// `ReadToStringFuture`.
-#[derive(Drop)]
+#[derive(Debug, Drop)]
 pub struct ReadToStringFuture<'a, R, A: Allocator = Global> {
     pub(crate) reader: &'a mut R,
     pub(crate) text: &'a mut String<A>,

@@ -19,7 +19,7 @@ use std::io;
 /// vector, the delimiter among them, and 0 at an end before any; or `Err` with an error of the reader, or of the kind
 /// `OutOfMemory` where memory was refused. What was read before an error stays in the vector, and what was not appended is
 /// not read. Ported from `src/io.rs`, `ReadUntilFuture`.
-#[derive(Drop)]
+#[derive(Debug, Drop)]
 pub struct ReadUntilFuture<'a, R> {
     pub(crate) reader: &'a mut R,
     pub(crate) byte: u8,

@@ -13,7 +13,7 @@ use std::{io, mem};
 /// Made by [`read_vectored`](crate::make::read_vectored). Each poll is one vectored read of the reader. The value is how
 /// many bytes were read into the buffers, at most as many as they have room for, where 0 into some room is an end, or the
 /// reader's error. Ported from `src/io.rs`, `ReadVectoredFuture`.
-#[derive(Drop)]
+#[derive(Debug, Drop)]
 pub struct ReadVectoredFuture<'a, 'b, R> {
     pub(crate) reader: &'a mut R,
     // None only within a poll.

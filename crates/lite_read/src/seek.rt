@@ -11,7 +11,7 @@ use std::io::SeekFrom;
 ///
 /// Made by [`seek`](crate::make::seek). Each poll is one seek of the seeker. The value is the new position, in bytes from the
 /// start, or the seeker's error. Ported from `src/io.rs`, `SeekFuture`.
-#[derive(Drop)]
+#[derive(Debug, Drop)]
 pub struct SeekFuture<'a, S> {
     pub(crate) seeker: &'a mut S,
     pub(crate) pos: SeekFrom,

@@ -22,7 +22,7 @@ use std::{io, mem};
 /// Made by [`split`](crate::make::split). An item is `Ok` with the bytes before a delimiter, or before an end if there are
 /// some; or `Err` with an error of the reader, or of the kind `OutOfMemory` where memory was refused. An error cuts
 /// nothing: the bytes before it stay, and the next poll goes on with them. Ported from `src/io.rs`, `Split`.
-#[derive(Drop)]
+#[derive(Debug, Drop)]
 pub struct Split<R> {
     pub(crate) reader: R,
     pub(crate) byte: u8,

@@ -14,7 +14,7 @@ use std::{io, mem, str};
 const RETURN: u8 = b'\r';
 
 /// The bytes of a line so far, and whether they are all ASCII.
-#[derive(Drop)]
+#[derive(Debug, Drop)]
 pub(crate) struct LineBytes {
     bytes: Vec<u8>,
     ascii: bool,

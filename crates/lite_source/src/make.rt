@@ -43,7 +43,8 @@ pub fn once<T>(t: T) -> Once<T>
 }
 
 /// A stream that polls `future` until it has its value, gives it, and then ends for ever. A poll asks that the future
-/// may be polled. The hint is (0, None). Ported from `src/stream.rs`, `once_future`.
+/// may be polled. It is let go with its value, so it has to be `Drop`. The hint is (0, None). Ported from
+/// `src/stream.rs`, `once_future`.
 pub fn once_future<F: Future>(future: F) -> OnceFuture<F>
     ensures { result ≡ record { future = Some future } }
 {
@@ -98,8 +99,8 @@ pub fn script<T>(answers: Vec<Poll<Option<T>>>) -> Script<T>
 
 /// A stream that gives the items of the futures that `f` makes, the first of `init` and each later one of what the
 /// value before it left, up to `Ok(None)` or an error, which is its last item; then it ends for ever. A poll asks
-/// that `f` may always be called and makes futures that may be polled. The hint is (0, None). Ported from
-/// `src/stream.rs`, `try_unfold`.
+/// that `f` may always be called and makes futures that may be polled. What is left and the futures have to be `Drop`.
+/// The hint is (0, None). Ported from `src/stream.rs`, `try_unfold`.
 pub fn try_unfold<T, E, F, Fut, Item>(init: T, f: F) -> TryUnfold<T, F, Fut>
 where
     F: FnMut(T) -> Fut,
@@ -114,7 +115,8 @@ where
 
 /// A stream that gives the items of the futures that `f` makes, the first of `seed` and each later one of what the
 /// value before it left, up to `None`; then it ends for ever. A poll asks that `f` may always be called and makes
-/// futures that may be polled. The hint is (0, None). Ported from `src/stream.rs`, `unfold`.
+/// futures that may be polled. What is left and the futures have to be `Drop`. The hint is (0, None). Ported from
+/// `src/stream.rs`, `unfold`.
 pub fn unfold<T, F, Fut, Item>(seed: T, f: F) -> Unfold<T, F, Fut>
 where
     F: FnMut(T) -> Fut,

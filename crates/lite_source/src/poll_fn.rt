@@ -6,6 +6,7 @@ ghost use Rattle.lite_base.specs.Runs.{NoHint};
 ghost use Rattle.lite_source.specs.Laws.Folds.{folds_laws};
 
 use lite_base::{Context, Poll, Stream};
+use std::fmt;
 
 /// Calls a function at each poll, and hands on what it answers.
 ///
@@ -13,6 +14,12 @@ use lite_base::{Context, Poll, Stream};
 #[derive(Drop)]
 pub struct PollFn<F> {
     pub(crate) f: F,
+}
+
+impl<F> fmt::Debug for PollFn<F> {
+    fn fmt<W: fmt::Write>(&self, f: &mut fmt::Formatter<W>) -> fmt::Result {
+        f.debug_struct("PollFn").finish()
+    }
 }
 
 impl<T, F: FnMut(&mut Context<'_>) -> Poll<Option<T>>> Stream for PollFn<F> {

@@ -7,6 +7,7 @@ ghost use Rattle.lite_base.specs.Runs.{NoHint};
 
 use crate::unfolding::Unfolding;
 use lite_base::{Context, Future, Poll, Stream, ready};
+use std::fmt;
 
 /// Gives the items that the futures of a function make, each of the seed that the one before it left, up to an error.
 ///
@@ -17,6 +18,12 @@ use lite_base::{Context, Future, Poll, Stream, ready};
 pub struct TryUnfold<T, F, Fut> {
     pub(crate) f: F,
     pub(crate) state: Unfolding<T, Fut>,
+}
+
+impl<T: fmt::Debug, F, Fut: fmt::Debug> fmt::Debug for TryUnfold<T, F, Fut> {
+    fn fmt<W: fmt::Write>(&self, f: &mut fmt::Formatter<W>) -> fmt::Result {
+        self.state.show("TryUnfold", f)
+    }
 }
 
 impl<T, F, Fut, Item, E> Stream for TryUnfold<T, F, Fut>

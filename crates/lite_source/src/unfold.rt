@@ -7,6 +7,7 @@ ghost use Rattle.lite_base.specs.Runs.{NoHint};
 
 use crate::unfolding::Unfolding;
 use lite_base::{Context, Future, Poll, Stream, ready};
+use std::fmt;
 
 /// Gives the items that the futures of a function make, each of the seed that the one before it left.
 ///
@@ -17,6 +18,12 @@ use lite_base::{Context, Future, Poll, Stream, ready};
 pub struct Unfold<T, F, Fut> {
     pub(crate) f: F,
     pub(crate) state: Unfolding<T, Fut>,
+}
+
+impl<T: fmt::Debug, F, Fut: fmt::Debug> fmt::Debug for Unfold<T, F, Fut> {
+    fn fmt<W: fmt::Write>(&self, f: &mut fmt::Formatter<W>) -> fmt::Result {
+        self.state.show("Unfold", f)
+    }
 }
 
 impl<T, F, Fut, Item> Stream for Unfold<T, F, Fut>

@@ -5,6 +5,7 @@ ghost use Rattle.lite_source.specs.Unfolding.{Holding, IfHeldFuture, UnfoldRegis
 ghost use Rattle.lite_base.specs.Registered.{Registered};
 
 use lite_base::{Context, Future, Poll, ready};
+use std::fmt;
 use std::marker::Model;
 
 /// What an unfolding stream holds between two polls: what the next future is made of, a future that was pending, or
@@ -70,5 +71,15 @@ impl<T: Drop, Fut: Future + Drop> Unfolding<T, Fut> {
         ensures { self.new ≡ Holding.Seed seed }
     {
         self.seed = Some(seed);
+    }
+}
+
+impl<T: fmt::Debug, Fut: fmt::Debug> Unfolding<T, Fut> {
+    /// Shows what is held, in a struct of this name, by the names of the original.
+    pub(crate) fn show<W: fmt::Write>(&self, name: &str, f: &mut fmt::Formatter<W>) -> fmt::Result {
+        f.debug_struct(name)
+            .field("state", &self.seed)
+            .field("fut", &self.future)
+            .finish()
     }
 }

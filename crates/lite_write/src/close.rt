@@ -10,7 +10,7 @@ use std::io;
 ///
 /// Made by [`close`](crate::make::close). Each poll is one `poll_close` of the writer. The value is `Ok`, or the writer's error.
 /// Ported from `src/io.rs`, `CloseFuture`.
-#[derive(Drop)]
+#[derive(Debug, Drop)]
 pub struct CloseFuture<'a, W> {
     pub(crate) writer: &'a mut W,
 }

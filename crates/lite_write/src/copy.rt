@@ -17,7 +17,7 @@ use std::io;
 use std::io::ErrorKind;
 
 /// How far a copy is.
-#[derive(Clone, Copy)]
+#[derive(Clone, Copy, Debug)]
 pub(crate) enum Phase {
     Copying,
     // The reader's end was met, and all that it gave is written.
@@ -26,13 +26,14 @@ pub(crate) enum Phase {
 
 /// The future of a copy of what a reader gives, up to its first end, to a writer, which is then flushed.
 ///
-/// Made by [`copy`](crate::make::copy). The value is how many bytes were written, in 64 bits: all that the reader gave
-/// before its end. Or it is an error of the reader, of a write or of the flush, or one of the kind `WriteZero` where a write
-/// took none. After an error what was written stays written, and what was read and not written is lost with the future.
+/// Made by [`copy`](crate::make::copy). The value is how many bytes were written, all that the reader gave before its
+/// end; after `u64::MAX` comes 0. Or it is an error of the reader, of a write or of the flush, or one of the kind
+/// `WriteZero` where a write took none. After an error what was written stays written, and what was read and not written
+/// is lost with the future.
 ///
 /// The reader is asked only where nothing is left to be written, and no more after its end: where the flush is pending, the
 /// next poll flushes again. No poll takes memory. Ported from `src/io.rs`, `CopyFuture`.
-#[derive(Drop)]
+#[derive(Debug, Drop)]
 pub struct CopyFuture<R, W> {
     pub(crate) reader: BufReader<R>,
     pub(crate) writer: W,

@@ -10,7 +10,7 @@ use std::io;
 ///
 /// Made by [`flush`](crate::make::flush). Each poll is one `poll_flush` of the writer. The value is `Ok`, or the writer's error.
 /// Ported from `src/io.rs`, `FlushFuture`.
-#[derive(Drop)]
+#[derive(Debug, Drop)]
 pub struct FlushFuture<'a, W> {
     pub(crate) writer: &'a mut W,
 }

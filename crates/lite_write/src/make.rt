@@ -58,7 +58,7 @@ pub fn write_vectored<'a, W>(
 }
 
 /// The future of a copy of what `reader` gives, up to its first end, to `writer`, through a buffer of 8192 bytes. `Err`
-/// hands both back, where there was no memory for the buffer. Ported from `src/io.rs`, `copy`.
+/// hands both back, where there was no memory for the buffer. Both have to be `Drop`. Ported from `src/io.rs`, `copy`.
 pub fn copy<R: Drop, W: Drop>(
     alloc: Global,
     reader: R,

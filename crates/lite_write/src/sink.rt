@@ -17,7 +17,7 @@ use std::io::IoSlice;
 /// A writer that takes all that is offered, and keeps none of it.
 ///
 /// Made by [`sink`](crate::make::sink). Ported from `src/io.rs`, `Sink`.
-#[derive(Clone, Copy)]
+#[derive(Clone, Copy, Debug)]
 pub struct Sink {}
 
 impl Takings for Sink {

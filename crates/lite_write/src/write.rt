@@ -10,7 +10,7 @@ use std::io;
 ///
 /// Made by [`write`](crate::make::write). Each poll is one write to the writer. The value is how many of the bytes, from
 /// the front, were taken, or the writer's error, after which none was. Ported from `src/io.rs`, `WriteFuture`.
-#[derive(Drop)]
+#[derive(Debug, Drop)]
 pub struct WriteFuture<'a, W> {
     pub(crate) writer: &'a mut W,
     pub(crate) buf: &'a [u8],

@@ -15,7 +15,7 @@ use std::io::ErrorKind;
 /// Made by [`write_all`](crate::make::write_all). Where no byte is left nothing is written. The value is `Ok` once all are
 /// taken, an error of the kind `WriteZero` where a write took none, and else the writer's error; what was taken stays
 /// taken. Ported from `src/io.rs`, `WriteAllFuture`.
-#[derive(Drop)]
+#[derive(Debug, Drop)]
 pub struct WriteAllFuture<'a, W> {
     pub(crate) writer: &'a mut W,
     // What is not taken yet.

@@ -12,7 +12,7 @@ use std::io::IoSlice;
 /// Made by [`write_vectored`](crate::make::write_vectored). Each poll is one vectored write to the writer. The value is
 /// how many of the bytes, one buffer after another, were taken, or the writer's error, after which none was. Ported from
 /// `src/io.rs`, `WriteVectoredFuture`.
-#[derive(Drop)]
+#[derive(Debug, Drop)]
 pub struct WriteVectoredFuture<'a, W> {
     pub(crate) writer: &'a mut W,
     pub(crate) bufs: &'a [IoSlice<'a>],

@@ -3,5 +3,6 @@ mod journal;
 mod pipe;
 mod refused;
 mod replays;
+mod shown;
 mod steps;
 mod threads;

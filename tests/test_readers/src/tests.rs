@@ -9,6 +9,7 @@ mod polls;
 mod read_to_end;
 mod readers;
 mod serving;
+mod shown;
 mod told;
 mod waits;
 

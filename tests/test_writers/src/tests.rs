@@ -7,4 +7,5 @@ mod buf_writer;
 mod copy;
 mod examples;
 mod marks;
+mod shown;
 mod vectors;

@@ -8,6 +8,7 @@ use super::Future;
 use crate::Poll;
 use futures::task::{Doorbell, Queue, Source, Waker};
 use std::alloc::{AllocError, AllocGlobal};
+use std::fmt;
 use std::io::ErrorKind;
 use std::random::RandomSource;
 use std::sync::Wait;
@@ -15,8 +16,8 @@ use std::sync::Wait;
 /// Polls `future` on this thread until it is ready, and answers its value. It may wait for ever.
 ///
 /// It is [`BlockOn::block_on`] over a `BlockOn` of its own: `Err` says that there was no memory for that, and the future
-/// was not polled. Whoever waits often keeps a [`BlockOn`], and saves making one at each call. Ported from
-/// `src/future.rs`, `block_on`, which keeps what it sleeps on for each thread.
+/// was not polled. The future is let go, so it has to be `Drop`. Whoever waits often keeps a [`BlockOn`], and saves making
+/// one at each call. Ported from `src/future.rs`, `block_on`, which keeps what it sleeps on for each thread.
 pub fn block_on<R, F>(rt: &R, future: F) -> Result<F::Output, AllocError>
 where
     R: Wait + RandomSource + AllocGlobal,
@@ -40,6 +41,12 @@ pub struct BlockOn {
     slot: Option<Waker>,
 }
 
+impl fmt::Debug for BlockOn {
+    fn fmt<W: fmt::Write>(&self, f: &mut fmt::Formatter<W>) -> fmt::Result {
+        f.debug_struct("BlockOn").finish_non_exhaustive()
+    }
+}
+
 impl BlockOn {
     /// Makes what a thread sleeps on. `Err` is want of memory alone. While the system gives no random bytes, of which it
     /// is named, they are asked for again, so a source that always fails is asked for ever.
@@ -58,7 +65,7 @@ impl BlockOn {
 
     /// Polls `future` on this thread until it is ready, and answers its value. It may wait for ever.
     ///
-    /// It is [`wait_for`](BlockOn::wait_for), which lets the future go.
+    /// It is [`wait_for`](BlockOn::wait_for), after which the future is let go, so it has to be `Drop`.
     pub fn block_on<R: Wait, F: Future + Drop>(
         &mut self,
         rt: &R,

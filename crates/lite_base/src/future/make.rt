@@ -52,7 +52,8 @@ pub fn poll_once<F: Future>(f: F) -> PollOnce<F>
 }
 
 /// A future of both values, once both are there. Each poll polls each unfinished future once, the first before the
-/// second. Ported from `src/future.rs`, `zip`.
+/// second. A future is let go with its value, so the futures and the values have to be `Drop`. Ported from
+/// `src/future.rs`, `zip`.
 pub fn zip<F1, F2>(future1: F1, future2: F2) -> Zip<F1, F2>
 where
     F1: Future<Output: Drop>,
@@ -67,8 +68,8 @@ where
 }
 
 /// A future of both values, once both are there, or of the first error that is met. Each poll polls each unfinished
-/// future once, the first before the second, which is not polled beside an error of the first. Ported from
-/// `src/future.rs`, `try_zip`.
+/// future once, the first before the second, which is not polled beside an error of the first. The futures and the
+/// values have to be `Drop`. Ported from `src/future.rs`, `try_zip`.
 pub fn try_zip<T1, T2, E, F1, F2>(future1: F1, future2: F2) -> TryZip<F1, T1, F2, T2>
 where
     F1: Future<Output = Result<T1, E>>,
@@ -125,8 +126,8 @@ where
     race(future1, future2, Pcg32::seed_from_u64(seed))
 }
 
-/// A future that lets `future` go in the poll that gives its value, and is pending for ever after that. Ported from
-/// `src/future.rs`, `fuse`.
+/// A future that lets `future` go in the poll that gives its value, so it has to be `Drop`, and is pending for ever after
+/// that. Ported from `src/future.rs`, `fuse`.
 pub fn fuse<F: Future>(future: F) -> Fuse<F>
     ensures { result ≡ record { inner = Some future } }
 {

@@ -4,6 +4,7 @@ ghost use Rattle.lite_base.specs.Laws.Future.Calls.{polled_laws};
 
 use super::Future;
 use crate::{Context, Poll};
+use std::fmt;
 
 /// Calls a function at each poll, and hands on what it answers.
 ///
@@ -11,6 +12,12 @@ use crate::{Context, Poll};
 #[derive(Drop)]
 pub struct PollFn<F> {
     pub(crate) f: F,
+}
+
+impl<F> fmt::Debug for PollFn<F> {
+    fn fmt<W: fmt::Write>(&self, f: &mut fmt::Formatter<W>) -> fmt::Result {
+        f.debug_struct("PollFn").finish()
+    }
 }
 
 impl<T, F: FnMut(&mut Context<'_>) -> Poll<T>> Future for PollFn<F> {

@@ -3,6 +3,7 @@ ghost use Rattle.lite_base.specs.Laws.Future.PollOnce.{tells_laws};
 
 use super::Future;
 use crate::{Context, Poll};
+use std::fmt;
 
 /// Polls a future once, and is ready with what it answered: `Some` of its value, or `None` where it was pending.
 ///
@@ -10,6 +11,12 @@ use crate::{Context, Poll};
 #[derive(Drop)]
 pub struct PollOnce<F> {
     pub(crate) f: F,
+}
+
+impl<F> fmt::Debug for PollOnce<F> {
+    fn fmt<W: fmt::Write>(&self, f: &mut fmt::Formatter<W>) -> fmt::Result {
+        f.debug_struct("PollOnce").finish()
+    }
 }
 
 impl<F: Future> Future for PollOnce<F> {

@@ -16,10 +16,10 @@ use crate::{Answer, buffer_answer};
 use lite_base::{Context, Poll};
 use lite_io_base::{AsyncRead, Takings, Tale, first_room};
 use std::alloc::{AllocError, AllocGlobal};
-use std::io;
 use std::io::{ErrorKind, IoSliceMut};
 use std::marker::Model;
 use std::sync::{Arc, Mutex, Wait};
+use std::{fmt, io};
 
 /// The half of a journal that reads. Made by [`split_journalled`](crate::split_journalled).
 ///
@@ -31,6 +31,15 @@ pub struct JournalReadHalf<R, T: Tale + Takings + Clone, B: Books> {
     pub(super) rt: R,
     pub(super) shared: Arc<Mutex<Locked<T, B>>>,
     pub(super) tally: Tally<Reads<B>, Got<B>>,
+}
+
+impl<R, T: Tale + Takings + Clone, B: Books> fmt::Debug for JournalReadHalf<R, T, B> {
+    fn fmt<W: fmt::Write>(&self, f: &mut fmt::Formatter<W>) -> fmt::Result {
+        f.debug_struct("JournalReadHalf")
+            .field("calls", &self.calls())
+            .field("bytes", &self.bytes())
+            .finish_non_exhaustive()
+    }
 }
 
 impl<R, T: Tale + Takings + Clone, B: Books> Model for JournalReadHalf<R, T, B> {

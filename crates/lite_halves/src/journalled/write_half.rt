@@ -19,10 +19,10 @@ use crate::{Answer, Call, done_answer, write_answer};
 use lite_base::{Context, Poll};
 use lite_io_base::{AsyncWrite, Takings, Tale, first_nonempty};
 use std::alloc::AllocError;
-use std::io;
 use std::io::{ErrorKind, IoSlice};
 use std::marker::Model;
 use std::sync::{Arc, Mutex, Wait};
+use std::{fmt, io};
 
 /// The half of a journal that writes. Made by [`split_journalled`](crate::split_journalled).
 ///
@@ -34,6 +34,15 @@ pub struct JournalWriteHalf<R, T: Tale + Takings + Clone, B: Books> {
     pub(super) rt: R,
     pub(super) shared: Arc<Mutex<Locked<T, B>>>,
     pub(super) tally: Tally<Writes<B>, Taken<B>>,
+}
+
+impl<R, T: Tale + Takings + Clone, B: Books> fmt::Debug for JournalWriteHalf<R, T, B> {
+    fn fmt<W: fmt::Write>(&self, f: &mut fmt::Formatter<W>) -> fmt::Result {
+        f.debug_struct("JournalWriteHalf")
+            .field("calls", &self.calls())
+            .field("bytes", &self.bytes())
+            .finish_non_exhaustive()
+    }
 }
 
 impl<R, T: Tale + Takings + Clone, B: Books> Model for JournalWriteHalf<R, T, B> {

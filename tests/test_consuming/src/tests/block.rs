@@ -13,6 +13,14 @@ fn next_waits_for_each_item(rt: HostRuntime) -> Result<(), Fail> {
 }
 
 #[test]
+fn a_blocking_stream_shows_its_stream(rt: HostRuntime) -> Result<(), Fail> {
+    let seven = stream::block_on(rt, stream::once(7u8));
+    let shown = format!(in rt.alloc(); "{seven:?}")?;
+    assert_eq!(rt; shown.as_str(), "BlockOn(Once { value: Some(7) })");
+    Ok(())
+}
+
+#[test]
 fn what_ends_at_the_end_takes_the_stream(rt: HostRuntime) -> Result<(), Fail> {
     assert_eq!(rt; stream::block_on(rt, stream::iter(1u8..4)).count(), Ok(3));
     assert_eq!(rt;

@@ -1,7 +1,7 @@
 ghost use Rattle.std.specs.Prelude.{IfSome};
 
 use futures::task::{Doorbell, Solo};
-use futures_lite::future::{self, Fuse, Future};
+use futures_lite::future::{self, BlockOn, Fuse, Future};
 use futures_lite::{Context, Poll};
 use std::sync::atomic::AtomicU64;
 use std::sync::atomic::Ordering::SeqCst;
@@ -134,5 +134,12 @@ fn a_future_shows_what_it_holds(rt: HostRuntime) -> Result<(), Fail> {
     );
     let shown = format!(in rt.alloc(); "{:?}", future::yield_now())?;
     assert_eq!(rt; shown.as_str(), "YieldNow { yielded: false }");
+    let never = future::poll_fn(|_cx: &mut Context<'_>| Poll::<u8>::Pending);
+    let shown = format!(in rt.alloc(); "{never:?}")?;
+    assert_eq!(rt; shown.as_str(), "PollFn");
+    let shown = format!(in rt.alloc(); "{:?}", future::poll_once(never))?;
+    assert_eq!(rt; shown.as_str(), "PollOnce");
+    let shown = format!(in rt.alloc(); "{:?}", BlockOn::new(&rt)?)?;
+    assert_eq!(rt; shown.as_str(), "BlockOn { .. }");
     Ok(())
 }

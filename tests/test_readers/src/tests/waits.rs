@@ -1,6 +1,7 @@
 use futures_lite::future::BlockOn;
 use futures_lite::io::BufReader;
 use futures_lite::laws::{wait_flush, wait_read, wait_read_exact, wait_read_until, wait_write_all};
+use std::alloc::AllocError;
 use std::io::ErrorKind;
 use std::test::Fail;
 
@@ -35,7 +36,7 @@ fn waits_for_a_write_and_a_flush_give_their_values(rt: HostRuntime) -> Result<()
     wait_flush(&mut on, &rt, &mut written)??;
     assert_eq!(rt; written.as_slice(), b"abc".as_slice());
     let Ok(mut reader) = BufReader::with_capacity(rt.alloc(), 2, written.as_slice()) else {
-        return Ok(());
+        return Err(AllocError.into());
     };
     let mut buf = [0u8; 3];
     wait_read_exact(&mut on, &rt, &mut reader, &mut buf)??;

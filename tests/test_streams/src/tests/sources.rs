@@ -1,5 +1,5 @@
 use super::text::Text;
-use futures_lite::{Context, Poll, StreamExt, stream};
+use futures_lite::{Context, Poll, StreamExt, future, stream};
 use std::alloc::AllocError;
 use std::cell::Cell;
 use std::test::Fail;
@@ -71,5 +71,28 @@ fn sources_of_known_items_give_them(rt: HostRuntime) -> Result<(), Fail> {
     assert_eq!(rt; got.as_slice(), expected.as_slice());
     let got = answers(&rt, &mut stream::iter_range(2..4).map(|x| x as u8), 3)?;
     assert_eq!(rt; got.as_slice(), expected.as_slice());
+    Ok(())
+}
+
+#[test]
+fn a_source_shows_what_it_holds(rt: HostRuntime) -> Result<(), Fail> {
+    let polls = stream::poll_fn(|_cx: &mut Context<'_>| Poll::<Option<u8>>::Pending);
+    let shown = format!(in rt.alloc(); "{polls:?}")?;
+    assert_eq!(rt; shown.as_str(), "PollFn");
+    let mut never = stream::unfold(1u8, |_seed: u8| future::pending::<Option<(u8, u8)>>());
+    let shown = format!(in rt.alloc(); "{never:?}")?;
+    assert_eq!(rt; shown.as_str(), "Unfold { state: Some(1), fut: None }");
+    let got = answers(&rt, &mut never, 1)?;
+    assert_eq!(rt; got.as_slice(), [Poll::Pending].as_slice());
+    let shown = format!(in rt.alloc(); "{never:?}")?;
+    assert_eq!(rt;
+        shown.as_str(),
+        "Unfold { state: None, fut: Some(Pending { marker: PhantomData<_> }) }"
+    );
+    let tried = stream::try_unfold(1u8, |_seed: u8| {
+        future::pending::<Result<Option<(u8, u8)>, u8>>()
+    });
+    let shown = format!(in rt.alloc(); "{tried:?}")?;
+    assert_eq!(rt; shown.as_str(), "TryUnfold { state: Some(1), fut: None }");
     Ok(())
 }

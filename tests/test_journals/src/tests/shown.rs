@@ -1,0 +1,73 @@
+//! What journals and halves show of themselves.
+ghost use Rattle.std.specs.Prelude.{◌≡◌};
+
+use futures_lite::io::{self, Blanks, Books, Cursor, Journal, split_journalled};
+use std::alloc::{AllocError, AllocGlobal};
+use std::fmt::Debug;
+use std::marker::Brand;
+use std::process::Abort;
+use std::sync::Wait;
+use std::test::Fail;
+use test_support::{journal_on, reads_byte};
+
+/// Asserts that something is shown by this text.
+fn shows<R, T>(rt: R, x: &T, text: &str) -> Result<(), Fail>
+where
+    R: Abort + AllocGlobal + Copy,
+    T: Debug,
+{
+    assert_eq!(rt; format!(in rt.alloc(); "{x:?}")?.as_str(), text);
+    Ok(())
+}
+
+#[test]
+fn halves_show_what_they_share(rt: HostRuntime) -> Result<(), Fail> {
+    let Ok((reader, writer)) = io::split(rt, Cursor::new([1u8, 2])) else {
+        return Err(AllocError.into());
+    };
+    let shared = "Mutex { data: Cursor { inner: [1, 2], position: 0 }, poisoned: false, .. }";
+    shows(
+        rt,
+        &reader,
+        format!(in rt.alloc(); "ReadHalf({shared})")?.as_str(),
+    )?;
+    shows(
+        rt,
+        &writer,
+        format!(in rt.alloc(); "WriteHalf({shared})")?.as_str(),
+    )
+}
+
+#[test]
+fn a_journal_shows_its_entries(rt: HostRuntime) -> Result<(), Fail> {
+    let mut journal = journal_on(rt.alloc(), &[1, 2])?;
+    assert!(rt; reads_byte(&rt, &mut journal, 1)?);
+    let start = "Cursor { inner: [1, 2], position: 0 }";
+    let stream = "Cursor { inner: [1, 2], position: 1 }";
+    let entry = "Entry { call: Read { room: 1 }, answer: Read([1]) }";
+    let held = format!(in rt.alloc(); "start: {start}, stream: {stream}, entries: [{entry}]")?;
+    let text = format!(in rt.alloc(); "Journal {{ {held}, alloc: Global }}")?;
+    shows(rt, &journal, text.as_str())
+}
+
+/// Asserts how both halves of a journal of one read are shown.
+fn halves_show<R, B>(rt: R, journal: Journal<Cursor<Vec<u8>>>, blanks: Blanks) -> Result<(), Fail>
+where
+    R: Wait + Abort + AllocGlobal + Copy,
+    B: Books,
+    requires { blanks ≡ B.names }
+{
+    let halves = split_journalled::<R, Cursor<Vec<u8>>, B>(rt, journal, blanks);
+    let Ok((reader, writer)) = halves else {
+        return Err(AllocError.into());
+    };
+    shows(rt, &reader, "JournalReadHalf { calls: 1, bytes: 1, .. }")?;
+    shows(rt, &writer, "JournalWriteHalf { calls: 0, bytes: 0, .. }")
+}
+
+#[test]
+fn halves_of_a_journal_show_how_often_they_were_called(rt: HostRuntime) -> Result<(), Fail> {
+    let mut journal = journal_on(rt.alloc(), &[1, 2])?;
+    assert!(rt; reads_byte(&rt, &mut journal, 1)?);
+    halves_show::<HostRuntime, Brand>(rt, journal, Blanks::new())
+}
