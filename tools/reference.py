@@ -37,6 +37,8 @@ class Item:
         made = re.search(r"Made by \[`(?:\w+::)*(\w+)`\]", self.says)
         self.made_by, self.kind_of_owner = made and made[1], None
         self.asks, self.gives = ([it for it in clauses(said) if it.startswith(word)] for word in ("requires", "ensures"))
+        # The variants of an enum, with their comments.
+        self.variants = []
 
     @property
     def does_nothing(self):
@@ -87,7 +89,10 @@ def items_in(path):
             first = next((number for number, it in enumerate(told) if CLAUSE.match(it)), len(told))
             inner = len(found["indent"]) == 4
             if found["public"] and not inner or inner and owner and (found["public"] or owner_is_trait(lines, at)):
-                yield Item(path, owner if inner else None, found["kind"], found["name"], comment, told[:first], told[first:])
+                item = Item(path, owner if inner else None, found["kind"], found["name"], comment, told[:first], told[first:])
+                if item.kind == "enum":
+                    item.variants = lines[end + 1 : lines.index("}", end)]
+                yield item
             comment, at = [], end
         elif not line.strip().startswith("#["):
             comment = []
@@ -249,7 +254,8 @@ class Reference:
 
     def entry(self, item, module):
         """Returns the part of a page that is an item's."""
-        parts = [f"### `{item.title}`", f"```text\n{textwrap.fill(item.head, WIDTH, subsequent_indent='    ')}\n```"]
+        head = textwrap.fill(item.head, WIDTH, subsequent_indent="    ")
+        parts = [f"### `{item.title}`", "```text\n" + "\n".join([f"{head} {{", *item.variants, "}"] if item.variants else [head]) + "\n```"]
         parts += [paragraphs(item.says)] if item.says else []
         parts += [wrapped(f"In words: {it}") for it in words_of(item, self.words)]
         for name, said in (("Asks", item.asks), ("Contract", item.gives)):
