@@ -14,6 +14,10 @@ pub(crate) type Part = Box<dyn FnMut(i64) -> Option<i64>>;
 
 pub(crate) type Step = Box<dyn FnMut(&mut i64, i64) -> Option<i64>>;
 
+pub(crate) type ToBurst = Box<dyn FnMut(i64) -> Burst>;
+
+pub(crate) type ToLater = Box<dyn FnMut(i64) -> Later>;
+
 pub(crate) fn map_of(alloc: Global, k: usize) -> Result<Change, Fault> {
     let f: fn(i64) -> i64 = match k {
         0 => double,
@@ -256,6 +260,34 @@ fn ok_third(x: i64) -> Result<i64, i64> {
 }
 
 pub(crate) fn nothing_seen(_x: &i64) {}
+
+/// Makes a stream of an item, or of that times how many calls there were.
+pub(crate) fn to_burst(alloc: Global, counts: bool) -> Result<ToBurst, Fault> {
+    if !counts {
+        let f: fn(i64) -> Burst = burst;
+        return Ok(Box::new(alloc, f)?);
+    }
+    let mut calls = 0i64;
+    let f = move |x: i64| {
+        calls = calls.wrapping_add(1);
+        burst(x.wrapping_mul(calls))
+    };
+    Ok(Box::new(alloc, f)?)
+}
+
+/// Makes a future of an item, or of that times how many calls there were.
+pub(crate) fn to_later(alloc: Global, counts: bool) -> Result<ToLater, Fault> {
+    if !counts {
+        let f: fn(i64) -> Later = later;
+        return Ok(Box::new(alloc, f)?);
+    }
+    let mut calls = 0i64;
+    let f = move |x: i64| {
+        calls = calls.wrapping_add(1);
+        later(x.wrapping_mul(calls))
+    };
+    Ok(Box::new(alloc, f)?)
+}
 
 pub(crate) fn burst(x: i64) -> Burst {
     let left = match x % 4 {

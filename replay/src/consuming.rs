@@ -13,7 +13,9 @@ pub(crate) enum Consumer {
     Count,
     Last,
     Fold,
+    FoldCalls,
     ForEach,
+    ForEachCalls,
     Collect,
     CollectDeque,
     CollectSet,
@@ -35,7 +37,9 @@ impl Consumer {
             "count" => Consumer::Count,
             "last" => Consumer::Last,
             "fold" => Consumer::Fold,
+            "fold_calls" => Consumer::FoldCalls,
             "for_each" => Consumer::ForEach,
+            "for_each_calls" => Consumer::ForEachCalls,
             "collect" => Consumer::Collect,
             "collect_deque" => Consumer::CollectDeque,
             "collect_set" => Consumer::CollectSet,
@@ -72,7 +76,9 @@ impl Consumer {
                     answers.number(sum)?;
                 }
             }
+            Consumer::FoldCalls => fold_calls(nest, cx, answers)?,
             Consumer::ForEach => for_each(nest, cx, answers)?,
+            Consumer::ForEachCalls => for_each_calls(nest, cx, answers)?,
             Consumer::Collect => collected(nest, alloc, cx, answers)?,
             Consumer::CollectDeque => collected_deque(nest, alloc, cx, answers)?,
             Consumer::CollectSet => collected_set(nest, alloc, cx, answers)?,
@@ -101,6 +107,40 @@ fn for_each<S: Counted<Item = i64> + Drop>(
         }
     }
     answers.number(sum)
+}
+
+/// Folds each item times how many calls there were.
+fn fold_calls<S: Counted<Item = i64> + Drop>(
+    nest: S,
+    cx: &mut Context<'_>,
+    answers: &mut Answers,
+) -> Result<(), AllocError> {
+    let mut calls = 0i64;
+    let mut future = nest.fold(7i64, |sum: i64, x: i64| {
+        calls = calls.wrapping_add(1);
+        folded(sum, x.wrapping_mul(calls))
+    });
+    match answers.finish(&mut future, cx)? {
+        Some(sum) => answers.number(sum),
+        None => Ok(()),
+    }
+}
+
+/// Folds each item times how many calls there were, and tells the sum once all were seen.
+fn for_each_calls<S: Counted<Item = i64> + Drop>(
+    nest: S,
+    cx: &mut Context<'_>,
+    answers: &mut Answers,
+) -> Result<(), AllocError> {
+    let (mut sum, mut calls) = (1i64, 0i64);
+    let is_done = {
+        let mut future = nest.for_each(|x: i64| {
+            calls = calls.wrapping_add(1);
+            sum = folded(sum, x.wrapping_mul(calls));
+        });
+        answers.finish(&mut future, cx)?.is_some()
+    };
+    if is_done { answers.number(sum) } else { Ok(()) }
 }
 
 fn collected<S: Counted<Item = i64> + Drop>(

@@ -4,8 +4,8 @@ ghost use Rattle.futures_lite.specs.Own.{AnyAnswers, NoHint, anything_stream};
 use crate::bits::Bits;
 use crate::bursts::{Burst, Later};
 use crate::closures::{
-    Change, Part, Step, Test, burst, later, map_of, nothing_seen, pair_of, part_of, predicate_of,
-    step_of,
+    Change, Part, Step, Test, ToBurst, ToLater, burst, map_of, nothing_seen, pair_of, part_of,
+    predicate_of, step_of, to_burst, to_later,
 };
 use crate::leaf::Build;
 use crate::words::{Fault, Words};
@@ -33,8 +33,8 @@ pub(crate) enum Layer<S: Counted<Item = i64> + Drop> {
     Enumerate(Enumerate<S>),
     Inspect(Inspect<S, fn(&i64)>),
     Flatten(Flatten<Map<S, fn(i64) -> Burst>>),
-    FlatMap(FlatMap<S, Burst, fn(i64) -> Burst>),
-    Then(Then<S, fn(i64) -> Later, Later>),
+    FlatMap(FlatMap<S, Burst, ToBurst>),
+    Then(Then<S, ToLater, Later>),
     Scan(Scan<S, i64, Step>),
     Fuse(Fuse<S>),
     Budget(Budgeted<S>),
@@ -202,16 +202,21 @@ fn by_streams_and_futures<S: Build + Counted<Item = i64> + Drop>(
     alloc: Global,
     words: &mut Words<'_>,
 ) -> Result<Option<Layer<S>>, Fault> {
-    let to_burst: fn(i64) -> Burst = burst;
     let layer = match word {
         "inspect" => {
             let f: fn(&i64) = nothing_seen;
             Layer::Inspect(S::build(alloc, words)?.inspect(f))
         }
-        "flatten" => Layer::Flatten(S::build(alloc, words)?.map(to_burst).flatten()),
-        "flat_map" => Layer::FlatMap(S::build(alloc, words)?.flat_map(to_burst)),
-        "then" => {
-            let f: fn(i64) -> Later = later;
+        "flatten" => {
+            let f: fn(i64) -> Burst = burst;
+            Layer::Flatten(S::build(alloc, words)?.map(f).flatten())
+        }
+        "flat_map" | "flat_map_calls" => {
+            let f = to_burst(alloc, word == "flat_map_calls")?;
+            Layer::FlatMap(S::build(alloc, words)?.flat_map(f))
+        }
+        "then" | "then_calls" => {
+            let f = to_later(alloc, word == "then_calls")?;
             Layer::Then(S::build(alloc, words)?.then(f))
         }
         "scan" => {

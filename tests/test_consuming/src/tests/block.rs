@@ -47,6 +47,9 @@ fn what_stops_at_an_item_leaves_the_rest(rt: HostRuntime) -> Result<(), Fail> {
     assert_eq!(rt; numbers.nth(1), Ok(Some(2)));
     assert_eq!(rt; numbers.next(), Ok(Some(3)));
     let mut numbers = stream::block_on(rt, stream::iter(1u8..4));
+    assert_eq!(rt; numbers.nth(usize::MAX), Ok(None));
+    assert_eq!(rt; numbers.next(), Ok(None));
+    let mut numbers = stream::block_on(rt, stream::iter(1u8..4));
     assert_eq!(rt; numbers.find(|x: &u8| *x == 2), Ok(Some(2)));
     assert_eq!(rt; numbers.next(), Ok(Some(3)));
     let mut numbers = stream::block_on(rt, stream::iter(1u8..4));

@@ -19,6 +19,20 @@ fn a_lent_vector_is_written_to(rt: HostRuntime) -> Result<(), Fail> {
 }
 
 #[test]
+fn a_cursor_past_its_slice_takes_nothing(rt: HostRuntime) -> Result<(), Fail> {
+    let mut room = *b"ab";
+    for place in [2, u64::MAX] {
+        let mut cursor = Cursor::new(&mut room[..]);
+        cursor.set_position(place);
+        assert_eq!(rt; write(&rt, &mut cursor, b"x")?, Poll::Ready(Ok(0)));
+        assert!(rt; gives(&rt, &mut cursor, 1, b"")?);
+        assert_eq!(rt; cursor.position(), place);
+    }
+    assert_eq!(rt; room, *b"ab");
+    Ok(())
+}
+
+#[test]
 fn a_sink_takes_the_first_slice_that_has_bytes(rt: HostRuntime) -> Result<(), Fail> {
     assert_eq!(rt;
         try_write_both(&rt, &mut sink(), b"", b"cd")?,
