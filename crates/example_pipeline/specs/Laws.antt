@@ -1,4 +1,5 @@
--- What parse answers is the number of the digits; how windows and text go on with a number; texts and their bytes.
+-- What parse answers is the number of the digits; how windows and text go on with a number; texts and their bytes;
+-- where nothing was written.
 use Rattle.std.proofs.Common.{◌≡◌, ◌==◌, ℕ, ◌+◌, ◌^◌, ◌%◌, ◌<◌, ◌≤◌, ◌∙◌, ◌&&◌, Bool, true, false, cond, not}
 use Rattle.std.proofs.Common.{List, [], ◌∷◌, ◌++◌, Option, Some, None, String, Global, ap, ap₂, append-nil}
 use Rattle.std.proofs.Common.{arith, filter, flat_map, if◌then◌else◌, length, lt-ltb}
@@ -11,8 +12,11 @@ use Rattle.std.specs.Option.{is_none}
 use Rattle.std.specs.Str.{all_ascii_digits}
 use Rattle.std.specs.Str.Parse.{IsNumeral, digits_value}
 use Rattle.futures_lite.specs.Lists.{map_while}
-use Rattle.example_pipeline.specs.Pipeline.{digits_number, even_numbers, first_bad, full_sums, line_number}
-use Rattle.example_pipeline.specs.Pipeline.{part_count, part_sum, sum_line, text_bad, text_evens, window_sums}
+use Rattle.example_pipeline.specs.Pipeline.{OfWriting, Untouched, digits_number, even_numbers, first_bad, full_sums}
+use Rattle.example_pipeline.specs.Pipeline.{line_number, part_count, part_sum, sum_line, text_bad, text_evens}
+use Rattle.example_pipeline.specs.Pipeline.{window_sums}
+use Rattle.example_pipeline.specs.declared.fault.PipelineError.{PipelineError}
+use Rattle.example_pipeline.specs.declared.fault.PipelineError.TheVariants.{Input, Memory, NotANumber, Output, Overflow}
 
 digits_model : IsNumeralModel (λ ds. all_ascii_digits ds ≡ true) (digits_value 10)
 digits_model = numerals_by_value _ tells_all_ascii_digits
@@ -112,3 +116,20 @@ unfolding text_bad
 text_bad_is texts =
     ap₂ (λ n m. cond (nat_lt n m) (Some n) None)
     (prefix_of_texts (λ line. not (is_none (line_number line))) texts) (sym (length-map texts string_bytes))
+
+pub untouched_same : {W : Type 0} (x : W) (e : PipelineError) → Untouched x x e
+untouched_same x (Input e) = refl
+untouched_same x Overflow = refl
+untouched_same x (NotANumber n) = tt
+untouched_same x (Output e) = tt
+untouched_same x Memory = tt
+
+pub untouched_writing : {W : Type 0} (x y : W) (e : PipelineError) → OfWriting e → Untouched x y e
+untouched_writing x y (Input e) h = absurd h
+untouched_writing x y Overflow h = absurd h
+untouched_writing x y (NotANumber n) h = absurd h
+untouched_writing x y (Output e) h = tt
+untouched_writing x y Memory h = tt
+
+-- what a run needs of those
+pub ruleset runs = (text_evens_are, text_bad_is, untouched_same, untouched_writing)

@@ -1,6 +1,6 @@
 -- What the pipeline makes of lines: the even ones of their numbers, sums of windows of three, and the text of those.
 use Rattle.std.specs.Prelude.{◌≡◌, ◌==◌, ℕ, ◌+◌, ◌^◌, ◌%◌, ◌&&◌, List, [], ◌∷◌, ◌++◌, Option, Some, None, decimal}
-use Rattle.std.specs.Prelude.{String, if◌then◌else◌, is_none, flat_map, length, nat_lt, string_bytes}
+use Rattle.std.specs.Prelude.{String, if◌then◌else◌, is_none, flat_map, length, nat_lt, string_bytes, ⊤}
 use Rattle.std.proofs.Common.{Global}
 use Rattle.std.specs.List.{filter, position}
 use Rattle.std.specs.Str.{all_ascii_digits}
@@ -9,6 +9,8 @@ use Rattle.futures_lite.specs.Lists.{map_while}
 use Rattle.futures_lite.specs.Marks.{WriteMark, bytes_taken}
 use Rattle.futures_lite.specs.Own.{Runs}
 use Rattle.futures_lite.specs.Writers.{EndsFlushed}
+use Rattle.example_pipeline.specs.declared.fault.PipelineError.{PipelineError}
+use Rattle.example_pipeline.specs.declared.fault.PipelineError.TheVariants.{Input, Memory, NotANumber, Output, Overflow}
 
 -- the number of these digits, if there are digits alone and it fits 64 bits
 abbrev pub digits_number : List ℕ → Option ℕ
@@ -27,10 +29,11 @@ first_bad lines = position (λ line. is_none (line_number line)) lines
 abbrev pub even_numbers : List (List ℕ) → List ℕ
 even_numbers lines = filter (λ x. x % 2 == 0) (map_while line_number lines)
 
--- the same of texts, by their bytes
+-- the same of texts, by their bytes: the place of the first that is no number
 unfoldable pub text_bad : List (String Global) → Option ℕ
 text_bad texts = position (λ t. is_none (line_number (string_bytes t))) texts
 
+-- and the even ones of the numbers before that
 unfoldable pub text_evens : List (String Global) → List ℕ
 text_evens texts = filter (λ x. x % 2 == 0) (map_while (λ t. line_number (string_bytes t)) texts)
 
@@ -73,6 +76,22 @@ part_sum (a ∷ b ∷ c ∷ xs) = part_sum xs
 -- the numbers l were added up so far: the sums of the full windows, and the count and the sum of what stands behind
 abbrev pub Summed : List ℕ → ℕ → ℕ → List ℕ → Type 0
 Summed full count part l = (full ≡ full_sums l) × (count ≡ part_count l) × (part ≡ part_sum l)
+
+-- where reading or adding up failed, the writer is as it was
+abbrev pub Untouched : {W : Type 0} → W → W → PipelineError → Type 0
+Untouched before after (Input e) = after ≡ before
+Untouched before after Overflow = after ≡ before
+Untouched before after (NotANumber n) = ⊤
+Untouched before after (Output e) = ⊤
+Untouched before after Memory = ⊤
+
+-- the output failed, or memory was refused
+abbrev pub OfWriting : PipelineError → Type 0
+OfWriting (Input e) = ⊥
+OfWriting Overflow = ⊥
+OfWriting (NotANumber n) = ⊥
+OfWriting (Output e) = ⊤
+OfWriting Memory = ⊤
 
 -- the writer took just these bytes, and was flushed behind them
 pub record Written {W : Type 0} (writes : Runs WriteMark W) (before : W) (text : List ℕ) (after : W) : Type 0 where

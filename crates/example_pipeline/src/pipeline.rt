@@ -1,8 +1,8 @@
 //! Lines become numbers, numbers become sums, and sums become text.
-ghost use Rattle.std.specs.Prelude.{◌≡◌, IfOk, flat_map, map, string_bytes};
+ghost use Rattle.std.specs.Prelude.{◌≡◌, IfErr, IfOk, flat_map, map, string_bytes};
 ghost use Rattle.futures_lite.specs.Lists.{OkLists};
-ghost use Rattle.example_pipeline.specs.Pipeline.{Summed, Written, first_bad, sum_line, sums_text};
-ghost use Rattle.example_pipeline.specs.Pipeline.{text_bad, text_evens, window_sums};
+ghost use Rattle.example_pipeline.specs.Pipeline.{OfWriting, Summed, Untouched, Written, first_bad, sum_line};
+ghost use Rattle.example_pipeline.specs.Pipeline.{sums_text, text_bad, text_evens, window_sums};
 
 use crate::fault::PipelineError;
 use crate::number::number;
@@ -20,7 +20,7 @@ use std::sync::Wait;
 /// Writes the sums of windows of three of the even numbers that the lines are, each as a line, and flushes: up to the first
 /// line that is no number. Gives how many lines stand before that one, if there is one. Where the lines are `xs` and it gives
 /// `Ok`, just the text of those sums was written. Where the input fails, or a sum does not fit, nothing is written.
-#[tactic(auto, using(crate::specs::Laws::text_evens_are, crate::specs::Laws::text_bad_is))]
+#[tactic(auto, using(crate::specs::Laws::runs))]
 pub fn run<R, S, O>(rt: &R, lines: S, output: &mut O) -> Result<Option<usize>, PipelineError>
 where
     R: Wait + RandomSource + AllocGlobal,
@@ -28,8 +28,9 @@ where
     O: AsyncWrite,
     requires polls { S.can_poll lines }
     requires counts { S.ok_ranks.counts lines }
-    ensures { (xs : _) → OkLists S.run lines string_bytes xs → IfOk result (λ bad.
+    ensures written { (xs : _) → OkLists S.run lines string_bytes xs → IfOk result (λ bad.
         (bad ≡ first_bad xs) × Written O.writes output.old (sums_text xs) output.new) }
+    ensures untouched { IfErr result (λ e. Untouched output.old output.new e) }
 {
     let texts = read(rt, lines)?;
     let bad = first_bad(&texts);
@@ -111,7 +112,8 @@ fn write<R, O>(rt: &R, output: &mut O, text: &[u8]) -> Result<(), PipelineError>
 where
     R: Wait + RandomSource + AllocGlobal,
     O: AsyncWrite,
-    ensures { IfOk result (λ _. Written O.writes output.old text.now output.new) }
+    ensures written { IfOk result (λ _. Written O.writes output.old text.now output.new) }
+    ensures failed { IfErr result OfWriting }
 {
     let Ok(mut on) = BlockOn::new(rt) else {
         return Err(PipelineError::Memory);
