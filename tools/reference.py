@@ -21,7 +21,7 @@ PLACES = (
     "crates/linecount/src/*.rt",
     "tests/*/src/**/*.rs",
     "replay/src/*.rs",
-    *(f"crates/{it}/src/*.rt" for it in ("nests_polled", "nests_agree", "theorems_at_types", "test_support", "marks_met")),
+    *(f"crates/{it}/src/*.rt" for it in ("nests_by_hand", "nests_polled", "nests_agree", "theorems_at_types", "test_support", "marks_met")),
 )
 # How many lines an example has at most.
 LONGEST = 5

@@ -1,58 +1,52 @@
-//! Nests of adapters with contracts, polled by hand: what the polls answer is printed.
+//! Numbers in lines: the even ones are added up by threes, and each sum is written as a line.
 #![tactic(auto)]
 
-mod closures;
-mod nest;
-mod twice;
+mod fault;
+mod number;
+mod pipeline;
+mod sums;
+mod text;
 
-use closures::hundredths;
-use futures_lite::stream::script;
-use futures_lite::{Doorbell, Poll, Solo};
-use nest::{first_evens, small_evens, tripled};
-use std::io;
-use twice::triples_agree;
+use fault::PipelineError;
+use futures_lite::io::{AssertAsync, BufReader, BufWriter};
+use futures_lite::{AsyncBufReadExt, AsyncReadExt, StreamExt};
+use pipeline::run;
+use std::alloc::AllocGlobal;
+use std::process::ExitCode;
+use std::random::RandomSource;
+use std::sync::Wait;
 
-fn main(rt: HostRuntime) -> io::Result<()> {
-    let numbers = vec![in rt.alloc(); 1u32, 2, 3, 4, 500, 6]?;
-    let divisors = vec![in rt.alloc(); 1u64, 7, 30]?;
-    let (once, once_more) = (numbers.clone()?, numbers.clone()?);
-    let solo = Solo::new(&rt, Doorbell::spinning())?;
-    let mut answers = Vec::new(rt.alloc());
+/// How many bytes are read in a row before the program yields.
+const BYTES: usize = 1 << 16;
 
-    let mut cx = solo.begin();
-    let ran = hundredths(divisors, &mut cx, 4, &mut answers)
-        .and_then(|_| small_evens(numbers, &mut cx, 4, &mut answers))
-        .and_then(|_| first_evens(once, 2, &mut cx, 3, &mut answers))
-        .and_then(|_| tripled(once_more, &mut cx, &mut answers));
-    cx.cancel();
-    ran?;
-    again(&rt, &mut answers)?;
+/// How many lines are taken in a row before it does.
+const LINES: usize = 1 << 12;
 
-    for answer in answers {
-        match answer {
-            Poll::Ready(Some(x)) => println!(rt; "{x}")?,
-            Poll::Ready(None) => println!(rt; "end")?,
-            Poll::Pending => println!(rt; "pending")?,
+fn main(rt: HostRuntime) -> ExitCode {
+    match run_standard(&rt, &rt) {
+        Ok(()) => ExitCode::from(0),
+        Err(e) => {
+            let _ = eprintln!(rt; "example_pipeline: {e}");
+            ExitCode::from(1)
         }
     }
-    Ok(())
 }
 
-/// The same nest over two scripts that differ in their pendings alone: what each of them answers, one after the other.
-fn again(rt: &HostRuntime, answers: &mut Vec<Poll<Option<u64>>>) -> io::Result<()> {
-    let plain = script(vec![in rt.alloc(); Poll::Ready(Some(1u32)), Poll::Ready(Some(6))]?);
-    let late = script(vec![in rt.alloc();
-        Poll::Pending,
-        Poll::Ready(Some(1u32)),
-        Poll::Pending,
-        Poll::Ready(Some(6)),
-    ]?);
-    let solo = Solo::new(rt, Doorbell::spinning())?;
-    let mut answers_late = Vec::new(rt.alloc());
-    let mut cx = solo.begin();
-    let ran = triples_agree(plain, late, 2, &mut cx, 4, answers, &mut answers_late);
-    cx.cancel();
-    ran?;
-    answers.append(&mut answers_late)?;
-    Ok(())
+/// Runs the pipeline from standard input to standard output. `rt` is the host as one that may wait.
+fn run_standard<R>(host: &HostRuntime, rt: &R) -> Result<(), PipelineError>
+where
+    R: Wait + RandomSource + AllocGlobal,
+{
+    let input = AssertAsync::new(host.stdin()).with_budget(BYTES);
+    let Ok(reader) = BufReader::new(rt.alloc(), input) else {
+        return Err(PipelineError::Memory);
+    };
+    let lines = reader.lines(rt.alloc()).with_budget(LINES);
+    let Ok(mut output) = BufWriter::new(rt.alloc(), AssertAsync::new(host.stdout())) else {
+        return Err(PipelineError::Memory);
+    };
+    match run(rt, lines, &mut output)? {
+        Some(before) => Err(PipelineError::NotANumber(before)),
+        None => Ok(()),
+    }
 }

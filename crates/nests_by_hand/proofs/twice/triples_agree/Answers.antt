@@ -1,6 +1,6 @@
 use Rattle.std.proofs.Common.{rules}
 use Rattle.futures_lite.specs.Laws.Calling.{agrees_alone}
-use Rattle.example_pipeline.proofs.twice.triples_agree.Goals as goal
+use Rattle.nests_by_hand.proofs.twice.triples_agree.Goals as goal
 
 pub run_both-requires-clause-alike : goal.run_both-requires-clause-alike
 -- as the nest stands, from the source out: each closure agrees with itself

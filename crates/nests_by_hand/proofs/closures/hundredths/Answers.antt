@@ -3,7 +3,7 @@ use Rattle.std.specs.List.{AllByRecursion}
 use Rattle.std.specs.Vec.Iter.{into_iter_items}
 use Rattle.futures_lite.specs.Laws.Each.{each_any, each_replaced}
 use Rattle.futures_lite.specs.Laws.Sources.{given_of_vec}
-use Rattle.example_pipeline.proofs.closures.hundredths.Goals as goal
+use Rattle.nests_by_hand.proofs.closures.hundredths.Goals as goal
 
 pub run-requires : goal.run-requires
 run-requires c =

@@ -4,7 +4,7 @@ use Rattle.std.specs.Prelude.{nat_eq}
 use Rattle.std.specs.Vec.Iter.{into_iter_items}
 use Rattle.futures_lite.specs.Laws.Items.{cut_front, left_front, replaced_front}
 use Rattle.futures_lite.specs.Laws.Sources.{vec_front}
-use Rattle.example_pipeline.proofs.nest.first_evens.Goals as goal
+use Rattle.nests_by_hand.proofs.nest.first_evens.Goals as goal
 
 pub returns : goal.returns
 returns c =

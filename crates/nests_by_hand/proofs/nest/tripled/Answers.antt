@@ -3,7 +3,7 @@ use Rattle.std.specs.Vec.Iter.{into_iter_items, into_iter_len}
 use Rattle.futures_lite.specs.Answers.{items}
 use Rattle.futures_lite.specs.Laws.Items.{on_ok, replaced_items, replaced_length}
 use Rattle.futures_lite.specs.Laws.Sources.{vec_items}
-use Rattle.example_pipeline.proofs.nest.tripled.Goals as goal
+use Rattle.nests_by_hand.proofs.nest.tripled.Goals as goal
 
 pub returns : goal.returns
 returns c =

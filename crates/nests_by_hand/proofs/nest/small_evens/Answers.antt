@@ -1,6 +1,6 @@
 use Rattle.std.proofs.Common.{rules}
 use Rattle.futures_lite.specs.Laws.Each.{each_kept}
-use Rattle.example_pipeline.proofs.nest.small_evens.Goals as goal
+use Rattle.nests_by_hand.proofs.nest.small_evens.Goals as goal
 
 pub returns : goal.returns
 returns c =

@@ -1,0 +1,58 @@
+//! Nests of adapters with contracts, polled by hand: what the polls answer is printed.
+#![tactic(auto)]
+
+mod closures;
+mod nest;
+mod twice;
+
+use closures::hundredths;
+use futures_lite::stream::script;
+use futures_lite::{Doorbell, Poll, Solo};
+use nest::{first_evens, small_evens, tripled};
+use std::io;
+use twice::triples_agree;
+
+fn main(rt: HostRuntime) -> io::Result<()> {
+    let numbers = vec![in rt.alloc(); 1u32, 2, 3, 4, 500, 6]?;
+    let divisors = vec![in rt.alloc(); 1u64, 7, 30]?;
+    let (once, once_more) = (numbers.clone()?, numbers.clone()?);
+    let solo = Solo::new(&rt, Doorbell::spinning())?;
+    let mut answers = Vec::new(rt.alloc());
+
+    let mut cx = solo.begin();
+    let ran = hundredths(divisors, &mut cx, 4, &mut answers)
+        .and_then(|_| small_evens(numbers, &mut cx, 4, &mut answers))
+        .and_then(|_| first_evens(once, 2, &mut cx, 3, &mut answers))
+        .and_then(|_| tripled(once_more, &mut cx, &mut answers));
+    cx.cancel();
+    ran?;
+    again(&rt, &mut answers)?;
+
+    for answer in answers {
+        match answer {
+            Poll::Ready(Some(x)) => println!(rt; "{x}")?,
+            Poll::Ready(None) => println!(rt; "end")?,
+            Poll::Pending => println!(rt; "pending")?,
+        }
+    }
+    Ok(())
+}
+
+/// The same nest over two scripts that differ in their pendings alone: what each of them answers, one after the other.
+fn again(rt: &HostRuntime, answers: &mut Vec<Poll<Option<u64>>>) -> io::Result<()> {
+    let plain = script(vec![in rt.alloc(); Poll::Ready(Some(1u32)), Poll::Ready(Some(6))]?);
+    let late = script(vec![in rt.alloc();
+        Poll::Pending,
+        Poll::Ready(Some(1u32)),
+        Poll::Pending,
+        Poll::Ready(Some(6)),
+    ]?);
+    let solo = Solo::new(rt, Doorbell::spinning())?;
+    let mut answers_late = Vec::new(rt.alloc());
+    let mut cx = solo.begin();
+    let ran = triples_agree(plain, late, 2, &mut cx, 4, answers, &mut answers_late);
+    cx.cancel();
+    ran?;
+    answers.append(&mut answers_late)?;
+    Ok(())
+}
