@@ -9,6 +9,8 @@ TOP = os.path.dirname(os.path.dirname(os.path.abspath(__file__)))
 # The folders of a crate that its proof reads.
 PARTS = ("src", "specs", "proofs")
 FACADE = "futures_lite"
+# How many seconds a program may run that is tried: on a busy machine, beside others.
+PATIENCE = "600"
 # The crates of tests stand below one folder, with their lines.
 TESTS, TEST_LINES = "tests", "tests/lines.txt"
 # The suffixes in a crate of those of a program beside the crates: `rt ci` takes a file of a crate's kind in a crate alone.
