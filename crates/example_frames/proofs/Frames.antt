@@ -9,7 +9,7 @@ use Rattle.std.specs.Prelude.{IfOk}
 use Rattle.futures_lite.specs.Answers.{Comparable, Ready}
 use Rattle.futures_lite.specs.Laws.Taken.{taken_both}
 use Rattle.futures_lite.specs.Marks.{ReadMark, WriteMark, bytes, bytes_taken, read_marks}
-use Rattle.example_frames.specs.Frames.{Begun, FewerThan, FrameTold, HeaderTold, PartTold, StopsFrame}
+use Rattle.example_frames.specs.Frames.{FirstTold, FrameTold, HeaderTold, PartTold, StopsPart}
 use Rattle.example_frames.specs.Frames.{frame, header}
 use Rattle.example_frames.specs.declared.fault.FrameError.{FrameError}
 use Rattle.example_frames.specs.declared.fault.FrameError.TheVariants.{Ended, Io, Memory, TooLong}
@@ -22,19 +22,27 @@ first_marks (suc n) [] one within some = absurd (omega (arith, one))
 first_marks (suc n) (b ∷ buf) one within some =
     let no_more : n ≡ 0 = omega (arith, one, within) in rw no_more refl
 
-fewer_more : (b : ℕ) (part front : List ℕ) → length part ≡ 3 → FewerThan part front → length (b ∷ front) < 4
-fewer_more b part front three (inl h) = omega (arith, three, h)
-fewer_more b part front three (inr h) = rw h (omega arith)
+-- a part that came short
+pub part_short : (part : List ℕ) (l : List ReadMark) (e : FrameError) (front : List ℕ) (last : List ReadMark)
+    → length front < length part → StopsPart last e → l ≡ bytes front ++ last → PartTold part l (Err e)
+part_short part l (TooLong n) front last fewer stops cut = absurd stops
+part_short part l Ended front last fewer stops cut = (front, last, fewer, stops, cut)
+part_short part l (Io e) front last fewer stops cut = (front, last, fewer, stops, cut)
+part_short part l Memory front last fewer stops cut = absurd stops
 
-fewer_within : (part front : List ℕ) → FewerThan part front → length front ≤ length part
-fewer_within part front (inl h) = omega (arith, h)
-fewer_within part front (inr h) = rw h (omega arith)
+-- a header of which no byte was read
+pub no_first : (l : List ReadMark) (e : FrameError) → FirstTold l (Err e) → HeaderTold l (Err e)
+no_first l e stops = ([], l, omega arith, stops, refl)
 
 -- a header of which the first byte was read
 pub header_broke : (b : ℕ) (l m : List ReadMark) (part : List ℕ) (e : FrameError) → length part ≡ 3
     → l ≡ bytes (b ∷ []) → PartTold part m (Err e) → HeaderTold (l ++ m) (Err e)
-header_broke b l m part e three first (front, last, fewer, stops, cut) =
-    (b ∷ front, last, fewer_more b part front three fewer, stops, rw (first, cut) refl)
+header_broke b l m part (TooLong n) three first h = absurd h.3
+header_broke b l m part Ended three first (front, last, fewer, stops, cut) =
+    (b ∷ front, last, omega (arith, three, fewer), (omega arith, stops), rw (first, cut) refl)
+header_broke b l m part (Io e) three first (front, last, fewer, stops, cut) =
+    (b ∷ front, last, omega (arith, three, fewer), stops, rw (first, cut) refl)
+header_broke b l m part Memory three first h = (b ∷ [], [], omega arith, refl, rw (first, h) refl)
 
 fits_more : (b : ℕ) (rest : List ℕ) → b < 256 → ((i : ℕ) → get_or rest i 0 < 256) → (i : ℕ)
     → get_or (b ∷ rest) i 0 < 256
@@ -59,31 +67,32 @@ pub no_header : (limit : ℕ) (l : List ReadMark) (e : FrameError) → HeaderTol
 no_header limit l (TooLong n) h = absurd h.3
 no_header limit l Ended h = (h.0, h.1, inl h.2, h.3, h.4)
 no_header limit l (Io e) h = (h.0, h.1, inl h.2, h.3, h.4)
-no_header limit l Memory h = (h.0, h.1, inl h.2, h.3, h.4)
+no_header limit l Memory h = (h.0, inl h.2, h.4 ∙ ap (λ t. bytes h.0 ++ t) h.3 ∙ append-nil (bytes h.0))
 
 module _ (limit n : ℕ) (l : List ReadMark) (is : l ≡ bytes (header n)) (within : n ≤ limit) where
+  goes_on : (m : List ReadMark) (front : List ℕ) (last : List ReadMark) → m ≡ bytes front ++ last
+      → l ++ m ≡ bytes (header n ++ front) ++ last
+  goes_on m front last cut = ap (λ r. r ++ m) is
+      ∙ ap (λ r. bytes (header n) ++ r) cut ∙ sym (append_assoc (bytes (header n)) (bytes front) last)
+      ∙ ap (λ r. r ++ last) (sym (map-append ReadMark.byte (header n) front))
+
   -- behind its header it broke off
   pub frame_broke : (m : List ReadMark) (part : List ℕ) (e : FrameError) → length part ≡ n → PartTold part m (Err e)
       → FrameTold limit (l ++ m) (Err e)
-  frame_broke m part e room (front, last, fewer, stops, cut) =
-      let some : length front ≤ n = omega (arith, room, fewer_within part front fewer) in
-      let whole : l ++ m ≡ bytes (header n ++ front) ++ last = ap (λ r. r ++ m) is
-      ∙ ap (λ r. bytes (header n) ++ r) cut ∙ sym (append_assoc (bytes (header n)) (bytes front) last)
-      ∙ ap (λ r. r ++ last) (sym (map-append ReadMark.byte (header n) front)) in
-      by_error e (header n ++ front, last, inr (n, front, refl, some, within), stops, whole)
-    where
-      by_error : (e : FrameError) → (front : List ℕ) × (last : List ReadMark) × Begun limit front × StopsFrame last e
-          × (l ++ m ≡ bytes front ++ last) → FrameTold limit (l ++ m) (Err e)
-      by_error (TooLong k) h = absurd h.3
-      by_error Ended h = h
-      by_error (Io e) h = h
-      by_error Memory h = h
+  frame_broke m part (TooLong k) room h = absurd h.3
+  frame_broke m part Ended room (front, last, fewer, stops, cut) =
+      let some : length front < n = omega (arith, room, fewer) in
+      let begun : 0 < length (header n ++ front) = omega arith in
+      (header n ++ front, last, inr (n, front, refl, some, within), (begun, stops), goes_on m front last cut)
+  frame_broke m part (Io e) room (front, last, fewer, stops, cut) =
+      let some : length front < n = omega (arith, room, fewer) in
+      (header n ++ front, last, inr (n, front, refl, some, within), stops, goes_on m front last cut)
+  frame_broke m part Memory room h =
+      (header n, inr (n, refl, within), ap (λ r. l ++ r) h ∙ append-nil l ∙ is)
 
   -- no memory for its payload
   pub frame_refused : FrameTold limit l (Err Memory)
-  frame_refused =
-      let some : length {A = ℕ} [] ≤ n = omega arith in
-      (header n, [], inr (n, [], sym (append-nil (header n)), some, within), refl, is ∙ sym (append-nil (bytes (header n))))
+  frame_refused = (header n, inr (n, refl, within), is)
 
   pub frame_whole : (m : List ReadMark) (payload : List ℕ) → length payload ≡ n → m ≡ bytes payload
       → l ++ m ≡ bytes (frame payload)

@@ -4,7 +4,7 @@ ghost use Rattle.futures_lite.specs.Answers.{Comparable};
 ghost use Rattle.futures_lite.specs.Marks.{ReadMark, bytes};
 ghost use Rattle.futures_lite.specs.Readers.{EndsShort, ToldStripped};
 ghost use Rattle.example_frames.specs.Frames.{FirstTold, FrameTold, HeaderTold, IsPayload};
-ghost use Rattle.example_frames.specs.Frames.{PartTold, StopsFrame, frame};
+ghost use Rattle.example_frames.specs.Frames.{PartTold, StopsPart, frame};
 
 use crate::fault::FrameError;
 use futures_lite::AsyncRead;
@@ -95,7 +95,7 @@ fn read_part<R: Wait, S: AsyncRead>(
 
 /// What an error within a frame is.
 fn broken(error: io::Error) -> FrameError
-    ensures { (last : _) → EndsShort last error → StopsFrame last result }
+    ensures { (last : _) → EndsShort last error → StopsPart last result }
 {
     if error.kind() == ErrorKind::UnexpectedEof {
         FrameError::Ended

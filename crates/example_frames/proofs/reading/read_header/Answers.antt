@@ -1,14 +1,15 @@
-use Rattle.std.proofs.Common.{◌≡◌, ◌<◌, [], ◌++◌, Ok, Err, arith, refl, rules, subst}
+use Rattle.std.proofs.Common.{◌≡◌, ◌<◌, ◌++◌, Ok, Err, rules, subst}
 use Rattle.futures_lite.specs.Laws.Told.{told_follow}
 use Rattle.example_frames.specs.Frames.{FirstTold}
-use Rattle.example_frames.proofs.Frames.{header_broke, header_whole}
+use Rattle.example_frames.proofs.Frames.{header_broke, header_whole, no_first}
 use Rattle.example_frames.proofs.reading.read_header.Goals as goal
 
 pub returns-in_err-first : goal.returns-in_err-first
 returns-in_err-first g c =
     let t = c.in_err-first.ensures in
     let is : c.from_residual.result ≡ Err c.in_err-first.field-0.0 = search rules in
-    (t.0, t.1, rw is ([], t.0, omega arith, t.2, refl))
+    let told = no_first t.0 c.in_err-first.field-0.0 t.2 in
+    (t.0, t.1, rw is told)
 
 pub returns-in_err-read_part : goal.returns-in_err-read_part
 returns-in_err-read_part g c =
