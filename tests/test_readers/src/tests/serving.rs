@@ -23,6 +23,15 @@ impl LineService for Echo {
     }
 }
 
+/// What a server came to, by the side that stopped it and the kind of its error.
+fn came(ended: Result<(), ServeError>) -> Result<(), (&'static str, ErrorKind)> {
+    ended.map_err(|e| match e {
+        ServeError::Input(e) => ("input", e.kind()),
+        ServeError::Output(e) => ("output", e.kind()),
+        ServeError::Memory => ("memory", ErrorKind::OutOfMemory),
+    })
+}
+
 /// A reader of the text in pieces of three bytes, with a pending before each.
 fn pieces(rt: &HostRuntime, text: &[u8]) -> Result<Marks, Fail> {
     let mut marks = Marks::new(rt.alloc());
@@ -46,7 +55,7 @@ fn each_line_is_answered_in_order(rt: HostRuntime) -> Result<(), Fail> {
         };
         let (mut written, mut echo) = (Vec::new(rt.alloc()), Echo { lines: 0 });
         let ended = serve_lines(&mut on, &rt, &mut requests, &mut written, &mut echo);
-        assert!(rt; ended.is_ok());
+        assert_eq!(rt; came(ended), Ok(()));
         assert_eq!(rt; written.as_slice(), replies);
         assert_eq!(rt; echo.lines, lines);
     }
@@ -67,13 +76,13 @@ fn a_server_stops_at_an_error(rt: HostRuntime) -> Result<(), Fail> {
     replies.order(Order::AtMost(2))?;
     replies.order(Order::Wait)?;
     let stopped = serve_lines(&mut on, &rt, &mut requests, &mut replies, &mut echo);
-    assert!(rt; matches!(stopped, Err(ServeError::Input(e)) if e.kind() == ErrorKind::Other));
+    assert_eq!(rt; came(stopped), Err(("input", ErrorKind::Other)));
     assert_eq!(rt; replies.taken(), b"one\n".as_slice());
 
     replies.order(Order::AtMost(1))?;
     replies.order(Order::Fail(ErrorKind::Other))?;
     let stopped = serve_lines(&mut on, &rt, &mut requests, &mut replies, &mut echo);
-    assert!(rt; matches!(stopped, Err(ServeError::Output(e)) if e.kind() == ErrorKind::Other));
+    assert_eq!(rt; came(stopped), Err(("output", ErrorKind::Other)));
     assert_eq!(rt; replies.taken(), b"one\no".as_slice());
     Ok(())
 }
@@ -96,7 +105,7 @@ fn a_server_flushes_where_no_input_is_at_hand(rt: HostRuntime) -> Result<(), Fai
         };
         let mut echo = Echo { lines: 0 };
         let stopped = serve_lines(&mut on, &rt, &mut requests, &mut replies, &mut echo);
-        assert!(rt; matches!(stopped, Err(ServeError::Input(_))));
+        assert_eq!(rt; came(stopped), Err(("input", ErrorKind::Other)));
         assert_eq!(rt; replies.get_ref().taken(), flushed);
         assert_eq!(rt; replies.buffer().len() + flushed.len(), 4);
     }
