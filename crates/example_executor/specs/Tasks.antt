@@ -2,6 +2,8 @@
 use Rattle.std.specs.Prelude.{◌≡◌, ◌+◌, ℕ, Bool, true, false, List, [], ◌∷◌, Option, None, Some, ⊤}
 use Rattle.futures_lite.specs.Answers.{Gives, Poll, Waiting}
 use Rattle.futures_lite.specs.Own.{Runs}
+use Rattle.example_executor.specs.declared.fault.RunError.{RunError}
+use Rattle.example_executor.specs.declared.fault.RunError.TheVariants.{Memory, Queue, TooFew}
 use Rattle.example_executor.specs.declared.task.Task.{Task}
 
 -- the one where there is no value yet, the other where there is one
@@ -43,3 +45,9 @@ finished (x ∷ xs) = one_if_some x.value + finished xs
 abbrev pub one_more_if : Bool → ℕ → ℕ
 one_more_if true n = 1 + n
 one_more_if false n = n
+
+-- this is so where the error says that there were too few
+abbrev pub WhereTooFew : RunError → Type 0 → Type 0
+WhereTooFew (Queue e) few = ⊤
+WhereTooFew Memory few = ⊤
+WhereTooFew TooFew few = few

@@ -1,7 +1,8 @@
 //! A small executor, on this thread.
 ghost use Rattle.std.specs.List.{AllByRecursion};
-ghost use Rattle.std.specs.Prelude.{◌≡◌, ◌+◌, OnOk};
-ghost use Rattle.example_executor.specs.Tasks.{EachRan, MayRun, TaskRan, finished, one_if_some, one_more_if};
+ghost use Rattle.std.specs.Prelude.{◌≡◌, ◌+◌, ◌<◌, IfErr, OnOk};
+ghost use Rattle.example_executor.specs.Tasks.{EachRan, MayRun, TaskRan, WhereTooFew};
+ghost use Rattle.example_executor.specs.Tasks.{finished, one_if_some, one_more_if};
 
 use crate::fault::RunError;
 use crate::task::Task;
@@ -21,11 +22,18 @@ where
     requires { AllByRecursion (MayRun F.can_poll) tasks.old }
     ensures ran { EachRan F.run tasks.old tasks.new }
     ensures came { OnOk result (finished tasks.new ≡ wanted + finished tasks.old) }
+    ensures few { IfErr result (λ e. WhereTooFew e (finished tasks.new < wanted + finished tasks.old)) }
 {
-    let queue = Queue::new(rt, Doorbell::parking())?;
+    let queue = match Queue::new(rt, Doorbell::parking()) {
+        Ok(queue) => queue,
+        Err(e) => return Err(RunError::Queue(e)),
+    };
     let source = Source::new();
     for _ in 0..tasks.len() {
-        queue.add()?.schedule();
+        let Ok(place) = queue.add() else {
+            return Err(RunError::Memory);
+        };
+        place.schedule();
     }
     let mut left = wanted;
     for _ in rt.forever() {
