@@ -5,6 +5,9 @@ use std::alloc::AllocGlobal;
 use std::random::RandomSource;
 use std::sync::Wait;
 
+/// A piece of text of 16 bytes.
+const LETTERS: &[u8] = b"0123456789abcdef";
+
 /// What the case of this name computes at size `n`. A name of none is a fault of the arguments.
 pub(crate) fn computed<R>(rt: &R, cx: &mut Context<'_>, name: &str, n: u64) -> Result<u64, Fault>
 where
@@ -63,13 +66,14 @@ where
         "cursor_extend" => bytes::cursor_extend(alloc, cx, n),
         "made_text" => texts::made_text(alloc, n),
         "made_lines_8" => texts::made_lines(alloc, &texts::narrow_line(alloc, 7)?, n),
+        "made_lines_16" => texts::made_lines(alloc, LETTERS, n / 16),
         "made_lines_2000" => texts::made_lines(alloc, &texts::narrow_line(alloc, 1999)?, n),
         "lines" => texts::lines(alloc, cx, n),
         "lines_8" => texts::lines_of(alloc, cx, &texts::narrow_line(alloc, 7)?, n),
         "lines_2000" => texts::lines_of(alloc, cx, &texts::narrow_line(alloc, 1999)?, n),
         "wide_lines_8" => texts::lines_of(alloc, cx, &texts::wide_line(alloc, 3)?, n),
         "wide_lines_2000" => texts::lines_of(alloc, cx, &texts::wide_line(alloc, 999)?, n),
-        "read_to_string" => texts::read_to_string(alloc, cx, b"0123456789abcdef", n),
+        "read_to_string" => texts::read_to_string(alloc, cx, LETTERS, n),
         "read_wide_to_string" => texts::read_to_string(
             alloc,
             cx,

@@ -7,7 +7,7 @@ use std::alloc::Global;
 
 #[inline(never)]
 pub(crate) fn next(cx: &mut Context<'_>, n: u64, polls: u64) -> u64 {
-    let mut numbers = stream::iter(0..n);
+    let mut numbers = stream::iter(0..n).map(|x: u64| x ^ 5);
     let mut sum = 0u64;
     for _ in 0..polls {
         let Poll::Ready(Some(x)) = numbers.next().poll(cx) else {

@@ -1,7 +1,7 @@
 -- What is known of the first line from what was seen of it.
 use Rattle.std.proofs.Common.{◌≡◌, ◌≢◌, ℕ, zero, suc, ◌+◌, ◌<◌, ◌≤◌, Bool, true, false, not, ◌&&◌, cond, List, [], ◌∷◌}
 use Rattle.std.proofs.Common.{length, take, drop, get_or, leb, position, Some, None, sym, ap, ◌∙◌, arith}
-use Rattle.std.proofs.lemmas.Bool.{cond-false, cond-true, eq-eqb, le-leb, le-ltb, lt-leb, lt-ltb, ne_eqb}
+use Rattle.std.proofs.lemmas.Bool.{and_from, cond-false, cond-true, eq-eqb, le-leb, le-ltb, lt-leb, lt-ltb, ne_eqb}
 use Rattle.std.proofs.lemmas.List.{drop_more, length-drop, length-take, length-take-le, take-append-drop, take_all}
 use Rattle.std.proofs.Math.Dec.{leb-suc-suc}
 use Rattle.std.proofs.Math.Seq.{take-add}
@@ -9,7 +9,7 @@ use Rattle.std.proofs.lemmas.List.Folds.{list_all-append, prefix_len-append}
 use Rattle.std.proofs.lemmas.List.Sums.{prefix_len-le-length}
 use Rattle.std.specs.Char.{is_ascii}
 use Rattle.std.specs.List.{before_first, list_all, position_or_len, prefix_len}
-use Rattle.lite_read.specs.Scan.{is_newline}
+use Rattle.lite_read.specs.Scan.{IsPlain, is_newline}
 
 module _ (p : ℕ → Bool) (d : List ℕ) where
   -- the front passes whole, and so more of the list passes by what follows
@@ -92,7 +92,27 @@ ascii_on d at m k ascii less room e =
     ∙ ap (λ b. list_all is_ascii (take at d) && b) (sym rest)
     ∙ sym (ap (list_all is_ascii) (take-add at m d) ∙ list_all-append is_ascii (take at d) (take m (drop at d)))
 
+-- the next n bytes were looked at, and none of them is a newline
+pub seen_on : (d : List ℕ) (at n line run : ℕ) (ascii : Bool) → at + n ≤ length d
+    → position_or_len is_newline (take at d) ≡ at → ascii ≡ list_all is_ascii (take at d)
+    → line ≡ position_or_len is_newline (take n (drop at d)) → n ≤ line → run ≡ prefix_len is_ascii (take n (drop at d))
+    → (position_or_len is_newline (take (at + n) d) ≡ at + n)
+    × ((ascii && leb line run) ≡ list_all is_ascii (take (at + n) d))
+seen_on d at n line run ascii room seen e line_is more run_is =
+    let whole = seen_more d at seen line n room line_is more in
+    (whole.1, rw (whole.0, run_is) (ascii_on d at n n ascii (omega arith) room e))
+
 -- the line ends at this place
 pub line_is : (d : List ℕ) (place : ℕ) → position_or_len is_newline d ≡ place
     → list_all is_ascii (take place d) ≡ list_all is_ascii (before_first is_newline d)
 line_is d place e = ap (λ n. list_all is_ascii (take n d)) (sym e)
+
+-- the next n bytes are plain too
+pub plain_more : (d : List ℕ) (at n : ℕ) → IsPlain at d → IsPlain n (drop at d) → IsPlain (at + n) d
+plain_more d at n front next =
+    record {
+      within = omega (arith, front.within, next.within, length-drop at d);
+      line = run_on (λ b. not (is_newline b)) d at n front.within front.line ∙ ap (λ k. at + k) next.line;
+      ascii = ap (list_all is_ascii) (take-add at n d) ∙ list_all-append is_ascii (take at d) (take n (drop at d))
+          ∙ and_from _ _ front.ascii next.ascii;
+    }

@@ -2,7 +2,7 @@
 use Rattle.std.proofs.Common.{◌≡◌, ℕ, ◌+◌, ◌%◌, ◌^◌, ◌≤◌, Bool, true, false, not, cond, List, map, length, leb, refl}
 use Rattle.std.proofs.Common.{sym, ap, ◌∙◌, arith, inl, inr}
 use Rattle.std.proofs.lemmas.Bool.{cases_lt, le-leb, le-ltb, lt-leb, lt-ltb}
-use Rattle.std.proofs.lemmas.Simd.{map-map, mask_l-mod, length-chunk, first_set_mask_l}
+use Rattle.std.proofs.lemmas.Simd.{map-map, mask_l-mod, length-chunk, first_set_mask_l, leading_from_mask_l}
 use Rattle.std.proofs.lemmas.List.{length-map}
 use Rattle.std.specs.Char.{is_ascii}
 use Rattle.std.specs.List.{prefix_len}
@@ -14,18 +14,30 @@ flag : (b : Bool) → not (top 7 (cond b 255 0)) ≡ not b
 flag true = refl
 flag false = refl
 
--- the lanes z were computed from 32 bytes of d, each all ones where `fails` says so
-pub run_of : (fails : ℕ → Bool) (d : List ℕ) (at : ℕ) (z : List ℕ) → at + 32 ≤ length d
-    → z ≡ map (λ x. cond (fails x) 255 0) (chunk at 32 d)
-    → first_set (mask_l (map (top 7) z) % 2 ^ 64) ≡ prefix_len (λ x. not (fails x)) (chunk at 32 d)
-run_of fails d at z room lanes =
-    let v = chunk at 32 d in
-    let stops : ℕ → Bool = λ x. top 7 (cond (fails x) 255 0) in
-    let long = length-chunk at 32 d room in
-    let mask = ap (λ l. mask_l l % 2 ^ 64) (ap (map (top 7)) lanes ∙ map-map (top 7) (λ x. cond (fails x) 255 0) v)
-    ∙ mask_l-mod (map stops v) 64 (omega (arith, length-map v stops, long)) in
-    ap first_set mask ∙ first_set_mask_l stops v 32 long (omega arith)
-    ∙ ap (λ p. prefix_len p v) (λ i. λ x. flag (fails x) i)
+-- the lanes z were computed from n bytes of d, each all ones where `fails` says so
+module _ (fails : ℕ → Bool) (d : List ℕ) (at n : ℕ) (z : List ℕ) (few : n ≤ 64) (room : at + n ≤ length d)
+    (lanes : z ≡ map (λ x. cond (fails x) 255 0) (chunk at n d)) where
+  abbrev v : List ℕ
+  v = chunk at n d
+
+  abbrev stops : ℕ → Bool
+  stops x = top 7 (cond (fails x) 255 0)
+
+  long : length v ≡ n
+  long = length-chunk at n d room
+
+  mask : mask_l (map (top 7) z) % 2 ^ 64 ≡ mask_l (map stops v)
+  mask = ap (λ l. mask_l l % 2 ^ 64) (ap (map (top 7)) lanes ∙ map-map (top 7) (λ x. cond (fails x) 255 0) v)
+      ∙ mask_l-mod (map stops v) 64 (omega (arith, length-map v stops, long, few))
+
+  passing : prefix_len (λ x. not (stops x)) v ≡ prefix_len (λ x. not (fails x)) v
+  passing = ap (λ p. prefix_len p v) (λ i. λ x. flag (fails x) i)
+
+  pub run_of : n ≡ 32 → first_set (mask_l (map (top 7) z) % 2 ^ 64) ≡ prefix_len (λ x. not (fails x)) v
+  run_of is = ap first_set mask ∙ first_set_mask_l stops v 32 (long ∙ is) (omega arith) ∙ passing
+
+  pub none_of : mask_l (map (top 7) z) % 2 ^ 64 ≡ 0 → prefix_len (λ x. not (fails x)) v ≡ n
+  none_of none = sym passing ∙ leading_from_mask_l stops v (sym mask ∙ none) ∙ long
 
 pub below_128 : (b : ℕ) → not (leb 128 b) ≡ is_ascii b
 below_128 b =

@@ -1,12 +1,16 @@
 -- What a future that reads for a text holds, and what stays.
-use Rattle.std.specs.Prelude.{◌≡◌, ◌≤◌, ◌+◌, ℕ, List, string_capacity, string_len, vec_len}
+use Rattle.std.specs.Prelude.{◌≡◌, ◌≤◌, ◌⊎◌, ◌+◌, ℕ, List, string_capacity, string_len, vec_len}
 use Rattle.std.specs.declared.string.String.{String}
 use Rattle.std.specs.declared.vec.Vec.{Vec}
 use denote.MutBor.{MutBor}
 
--- the text has room for the bytes
+-- so many bytes can become part of the text without memory: it has room for them, or is empty, and takes theirs
+abbrev pub CanTakeIn : {A : Type 0} → String A → ℕ → Type 0
+CanTakeIn text len = (string_len text ≡ 0) ⊎ (string_len text + len ≤ string_capacity text)
+
+-- the bytes can become part of the text without memory
 abbrev pub HasRoomFor : {A : Type 0} → String A → Vec ℕ A → Type 0
-HasRoomFor text bytes = string_len text + vec_len bytes ≤ string_capacity text
+HasRoomFor text bytes = CanTakeIn text (vec_len bytes)
 
 -- a future of the type X that reads for a text: its reader, its text, what it has read, and what is true of it before
 -- each poll

@@ -16,7 +16,7 @@ use Rattle.lite_base.specs.Runs.{Runs}
 abbrev pub read_line_fold : Type 0 → ReadFold (List ℕ) (Result ℕ Error)
 read_line_fold may_refuse = until 10 may_refuse
 
--- the text has room for what was read, and it is known whether that is ASCII
+-- the text can take in what was read, and it is known whether that is ASCII
 pub record LineHolds {R A : Type 0} (x : ReadLineFuture R A) : Type 0 where
   pub fits : HasRoomFor x.text.now x.bytes
   pub known : x.ascii ≡ list_all is_ascii x.bytes.items

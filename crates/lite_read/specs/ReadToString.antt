@@ -18,7 +18,7 @@ read_to_string_fold may_refuse = appends may_refuse 0
 abbrev pub text_front : {R A : Type 0} → ReadToStringFuture R A → List ℕ
 text_front x = take x.filled x.bytes.items
 
--- the text has room for what was read, and for the room behind it
+-- the text can take in what was read, and the room behind it
 pub record StringHolds {R A : Type 0} (x : ReadToStringFuture R A) : Type 0 where
   pub fits : HasRoomFor x.text.now x.bytes
   pub within : x.filled ≤ length x.bytes.items

@@ -1,6 +1,8 @@
 -- The first line of some bytes: `position is_newline bytes` is where it ends, `before_first is_newline bytes` is the
 -- line.
-use Rattle.std.specs.Prelude.{ℕ, Bool, ◌==◌, if◌then◌else◌}
+use Rattle.std.specs.Prelude.{ℕ, Bool, true, List, length, take, ◌==◌, ◌≡◌, ◌≤◌, if◌then◌else◌}
+use Rattle.std.specs.Char.{is_ascii}
+use Rattle.std.specs.List.{list_all, position_or_len}
 use Rattle.std.specs.Int.{w64, trailing_zeros}
 
 -- the byte is a newline, 0x0A
@@ -10,3 +12,9 @@ is_newline b = b == 10
 -- the place of the lowest of 32 bits that is set, or 32
 abbrev pub first_set : ℕ → ℕ
 first_set mask = if mask == 0 then 32 else trailing_zeros w64 mask
+
+-- there are so many bytes, and of these none is a newline and each is ASCII
+pub record IsPlain (n : ℕ) (bytes : List ℕ) : Type 0 where
+  pub within : n ≤ length bytes
+  pub line : position_or_len is_newline (take n bytes) ≡ n
+  pub ascii : list_all is_ascii (take n bytes) ≡ true

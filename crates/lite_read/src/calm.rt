@@ -75,14 +75,14 @@ impl<R: AsyncBufRead + CountedRead + CalmRead> CalmFuture for ReadUntilFuture<'_
     ghost calm = { until_calm R.calm };
 }
 
-impl<R: CalmRead + AsyncBufRead + CountedRead, A: Allocator> CalmFuture
+impl<R: CalmRead + AsyncBufRead + CountedRead, A: Allocator + Copy> CalmFuture
     for ReadLineFuture<'_, R, A> {
     ghost is_calm = { λ x. R.is_calm x.reader.now };
 
     ghost calm = { text_calm line_over read_line_fold R.calm };
 }
 
-impl<R: CalmRead + CountedRead, A: Allocator> CalmFuture for ReadToStringFuture<'_, R, A> {
+impl<R: CalmRead + CountedRead, A: Allocator + Copy> CalmFuture for ReadToStringFuture<'_, R, A> {
     ghost is_calm = { λ x. R.is_calm x.reader.now };
 
     ghost calm = { text_calm all_over read_to_string_fold R.calm };

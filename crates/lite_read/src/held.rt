@@ -1,20 +1,20 @@
-//! Bytes that are read for a text, which has room for them all, so that they can be appended without memory.
+//! Bytes that are read for a text, which has room for them all or is empty, so that they become part of it without memory.
 ghost use Rattle.std.specs.Prelude.{◌≡◌, ◌≤◌, ◌++◌, [], ◌+◌, true, length, take, IfErr, IfOk, IsUtf8, MatchBool, OnErr};
 ghost use Rattle.std.specs.Prelude.{OnOk, string_bytes, string_capacity, string_len};
 ghost use Rattle.std.specs.IoError.{error_kind};
 ghost use Rattle.std.specs.declared.io.ErrorKind.TheVariants.{OutOfMemory};
 ghost use Rattle.lite_io_base.specs.Marks.{bytes as read_bytes};
-ghost use Rattle.lite_read.specs.Holding.{HasRoomFor};
+ghost use Rattle.lite_read.specs.Holding.{CanTakeIn, HasRoomFor};
 ghost use Rattle.lite_read.specs.Texts.{AppendsText, ValueOf};
 
 use lite_io_base::AsyncBufRead;
 use std::alloc::{AllocError, Allocator};
 use std::io::ErrorKind;
-use std::{io, str};
+use std::{io, mem, str};
 
 /// Adds the first `amount` bytes that `reader` lends, and takes them. `Err` says that memory was refused; nothing changes
 /// then, but how much room there is.
-pub(crate) fn take_in<R: AsyncBufRead, A: Allocator>(
+pub(crate) fn take_in<R: AsyncBufRead, A: Allocator + Copy>(
     reader: &mut R,
     amount: usize,
     text: &mut String<A>,
@@ -36,7 +36,7 @@ pub(crate) fn take_in<R: AsyncBufRead, A: Allocator>(
 }
 
 // Adds a piece. `Err` says that memory was refused; the bytes stay then.
-fn hold<A: Allocator>(
+fn hold<A: Allocator + Copy>(
     text: &mut String<A>,
     bytes: &mut Vec<u8, A>,
     piece: &[u8],
@@ -47,12 +47,12 @@ fn hold<A: Allocator>(
     ensures ok { OnOk result (bytes.new.items ≡ bytes.old.items ++ piece.now) }
     ensures err { OnErr result (bytes.new.items ≡ bytes.old.items) }
 {
-    text.reserve(bytes.len() + piece.len())?;
+    prepare(text, bytes, bytes.len() + piece.len())?;
     bytes.extend_from_slice(piece)
 }
 
 /// Makes room, so that there are `len` bytes. `Err` says that memory was refused; the bytes stay then.
-pub(crate) fn make_room<A: Allocator>(
+pub(crate) fn make_room<A: Allocator + Copy>(
     text: &mut String<A>,
     bytes: &mut Vec<u8, A>,
     len: usize,
@@ -65,13 +65,35 @@ pub(crate) fn make_room<A: Allocator>(
     ensures ok { OnOk result (length bytes.new.items ≡ len) }
     ensures err { OnErr result (bytes.new.items ≡ bytes.old.items) }
 {
-    text.reserve(len)?;
+    prepare(text, bytes, len)?;
     bytes.resize(len, 0)
+}
+
+// Sees to it that the text can take in `len` bytes. One that is empty takes over their memory, and gives its own for them.
+fn prepare<A: Allocator + Copy>(
+    text: &mut String<A>,
+    bytes: &mut Vec<u8, A>,
+    len: usize,
+) -> Result<(), AllocError>
+    requires { HasRoomFor text.old bytes.old }
+    ensures fits { HasRoomFor text.new bytes.new }
+    ensures room { OnOk result (CanTakeIn text.new len) }
+    ensures text { string_bytes text.new ≡ string_bytes text.old }
+    ensures bytes { bytes.new.items ≡ bytes.old.items }
+{
+    if !text.is_empty() {
+        return text.reserve(len);
+    }
+    if bytes.is_empty() && bytes.capacity() < text.capacity() {
+        let alloc = *text.allocator();
+        *bytes = mem::replace(text, String::new(alloc)).into_bytes();
+    }
+    Ok(())
 }
 
 /// The value where reading the bytes gave `read`. They go into the text, if they are text, and none are held then. Where
 /// they are known as UTF-8 they are not checked.
-pub(crate) fn finish<A: Allocator>(
+pub(crate) fn finish<A: Allocator + Copy>(
     text: &mut String<A>,
     bytes: &mut Vec<u8, A>,
     read: io::Result<usize>,
@@ -95,24 +117,37 @@ pub(crate) fn finish<A: Allocator>(
     }
 }
 
-// Appends the bytes to the text, and answers whether they are UTF-8. If not, they are not appended.
-fn add_text<A: Allocator>(text: &mut String<A>, bytes: &[u8], known: bool) -> bool
-    requires fits { string_len text.old + length bytes.now ≤ string_capacity text.old }
-    requires known { known ≡ true → IsUtf8 bytes.now }
-    ensures gains { AppendsText bytes.now (string_bytes text.old) (string_bytes text.new) }
-    ensures value { MatchBool result (IsUtf8 bytes.now) (¬ IsUtf8 bytes.now) }
+// Adds the bytes to the text, and answers whether they are UTF-8. If not, they are not added. A text that was empty has
+// their memory then.
+fn add_text<A: Allocator + Copy>(text: &mut String<A>, bytes: &mut Vec<u8, A>, known: bool) -> bool
+    requires fits { HasRoomFor text.old bytes.old }
+    requires known { known ≡ true → IsUtf8 bytes.old.items }
+    ensures gains { AppendsText bytes.old.items (string_bytes text.old) (string_bytes text.new) }
+    ensures value { MatchBool result (IsUtf8 bytes.old.items) (¬ IsUtf8 bytes.old.items) }
 {
-    if known {
-        let appended = text.push_str(unsafe { str::from_utf8_unchecked(bytes) });
-        prove!(appended.is_ok());
-        return true;
+    if !known && !is_utf8(bytes) {
+        return false;
     }
-    match str::from_utf8(bytes) {
-        Ok(added) => {
-            let appended = text.push_str(added);
-            prove!(appended.is_ok());
-            true
-        }
-        Err(_) => false,
+    if text.is_empty() {
+        let alloc = *text.allocator();
+        *text = unsafe { String::from_utf8_unchecked(mem::replace(bytes, Vec::new(alloc))) };
+    } else {
+        append_text(text, bytes);
     }
+    true
+}
+
+fn append_text<A: Allocator>(text: &mut String<A>, bytes: &[u8])
+    requires fits { string_len text.old + length bytes.now ≤ string_capacity text.old }
+    requires utf8 { IsUtf8 bytes.now }
+    ensures { string_bytes text.new ≡ string_bytes text.old ++ bytes.now }
+{
+    let appended = text.push_str(unsafe { str::from_utf8_unchecked(bytes) });
+    prove!(appended.is_ok());
+}
+
+fn is_utf8(bytes: &[u8]) -> bool
+    ensures { MatchBool result (IsUtf8 bytes.now) (¬ IsUtf8 bytes.now) }
+{
+    str::from_utf8(bytes).is_ok()
 }

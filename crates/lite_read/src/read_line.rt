@@ -27,7 +27,8 @@ use std::io;
 /// `InvalidData` where these bytes are not UTF-8, and they are dropped then; or one with an error of the reader, or of the
 /// kind `OutOfMemory` where memory was refused. What was read before these two is appended to the text if it is UTF-8, and
 /// else dropped; a piece for which there was no memory is not read. No byte past the newline is read. While a poll is
-/// pending the text is as it was. Ported from `src/io.rs`, `ReadLineFuture`.
+/// pending the text is as it was. The bytes are read into the memory of an empty text, or into more, which is its own once it
+/// has the bytes; so a text that is emptied before each line takes no new memory. Ported from `src/io.rs`, `ReadLineFuture`.
 #[derive(Debug, Drop)]
 pub struct ReadLineFuture<'a, R, A: Allocator = Global> {
     pub(crate) reader: &'a mut R,
@@ -38,7 +39,7 @@ pub struct ReadLineFuture<'a, R, A: Allocator = Global> {
     pub(crate) ascii: bool,
 }
 
-impl<R: AsyncBufRead, A: Allocator> ReadLineFuture<'_, R, A> {
+impl<R: AsyncBufRead, A: Allocator + Copy> ReadLineFuture<'_, R, A> {
     // Takes in the first `amount` bytes that are there, and it is known whether they are ASCII.
     #[tactic(auto, using(crate::proofs::Texts::ascii_more))]
     fn take_in(&mut self, amount: usize, ascii: bool) -> io::Result<()>
@@ -100,7 +101,7 @@ fn lent_by<R: AsyncBufRead>(reader: &R) -> usize
     reader.buffer().len()
 }
 
-impl<R: AsyncBufRead + CountedRead, A: Allocator> PollSteps for ReadLineFuture<'_, R, A> {
+impl<R: AsyncBufRead + CountedRead, A: Allocator + Copy> PollSteps for ReadLineFuture<'_, R, A> {
     type Output = io::Result<usize>;
 
     ghost can_step = { λ x. R.ranks.counts x.reader.now × LineHolds x };
@@ -136,7 +137,7 @@ impl<R: AsyncBufRead + CountedRead, A: Allocator> PollSteps for ReadLineFuture<'
     }
 }
 
-impl<R: AsyncBufRead + CountedRead, A: Allocator> Future for ReadLineFuture<'_, R, A> {
+impl<R: AsyncBufRead + CountedRead, A: Allocator + Copy> Future for ReadLineFuture<'_, R, A> {
     type Output = io::Result<usize>;
 
     ghost can_poll = { λ x. R.ranks.counts x.reader.now × LineHolds x };

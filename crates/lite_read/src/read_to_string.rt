@@ -23,7 +23,8 @@ use std::io::ErrorKind;
 /// text ends with them then. It is an `Err` of the kind `InvalidData` where they are not UTF-8, and they are dropped then; or
 /// one with an error of the reader, or of the kind `OutOfMemory` where memory was refused. What was read before these two is
 /// appended to the text if it is UTF-8, and else dropped. Room is made before each read, in the text too, so that a refusal
-/// loses nothing; no byte of it is zeroed twice. While a poll is pending the text is as it was. Ported from `src/io.rs`,
+/// loses nothing; no byte of it is zeroed twice. While a poll is pending the text is as it was. An empty text needs no room:
+/// the bytes are read into its memory, or into more, which is its own once it has the bytes. Ported from `src/io.rs`,
 /// `ReadToStringFuture`.
 #[derive(Debug, Drop)]
 pub struct ReadToStringFuture<'a, R, A: Allocator = Global> {
@@ -37,7 +38,7 @@ pub struct ReadToStringFuture<'a, R, A: Allocator = Global> {
     pub(crate) room: usize,
 }
 
-impl<R, A: Allocator> ReadToStringFuture<'_, R, A> {
+impl<R, A: Allocator + Copy> ReadToStringFuture<'_, R, A> {
     // Makes room for a read, if there is none.
     fn make_room(&mut self) -> Result<(), AllocError>
         requires { StringHolds self.old }
@@ -73,7 +74,7 @@ impl<R, A: Allocator> ReadToStringFuture<'_, R, A> {
     }
 }
 
-impl<R: CountedRead, A: Allocator> PollSteps for ReadToStringFuture<'_, R, A> {
+impl<R: CountedRead, A: Allocator + Copy> PollSteps for ReadToStringFuture<'_, R, A> {
     type Output = io::Result<usize>;
 
     ghost can_step = { λ x. R.ranks.counts x.reader.now × StringHolds x };
@@ -104,7 +105,7 @@ impl<R: CountedRead, A: Allocator> PollSteps for ReadToStringFuture<'_, R, A> {
     }
 }
 
-impl<R: CountedRead, A: Allocator> Future for ReadToStringFuture<'_, R, A> {
+impl<R: CountedRead, A: Allocator + Copy> Future for ReadToStringFuture<'_, R, A> {
     type Output = io::Result<usize>;
 
     ghost can_poll = { λ x. R.ranks.counts x.reader.now × StringHolds x };

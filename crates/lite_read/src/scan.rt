@@ -1,8 +1,8 @@
 //! Where a line ends.
-ghost use Rattle.std.specs.Prelude.{◌≡◌, ◌+◌, ◌≤◌, length, take, drop, position};
+ghost use Rattle.std.specs.Prelude.{◌≡◌, ◌+◌, ◌≤◌, length, take, drop, position, IsTrue};
 ghost use Rattle.std.specs.Char.{is_ascii};
 ghost use Rattle.std.specs.List.{before_first, list_all, position_or_len, prefix_len};
-ghost use Rattle.lite_read.specs.Scan.{first_set, is_newline};
+ghost use Rattle.lite_read.specs.Scan.{IsPlain, first_set, is_newline};
 
 use std::simd::prelude::*;
 
@@ -10,6 +10,9 @@ const NEWLINE: u8 = b'\n';
 
 /// How many bytes are looked at together.
 const LANES: usize = 32;
+
+/// How many of a long line are.
+const LONG: usize = 64;
 
 /// Where the first line of some bytes ends, and whether it is ASCII.
 #[derive(Clone, Copy, Debug, PartialEq, Eq)]
@@ -38,8 +41,23 @@ pub fn scan_line(bytes: &[u8]) -> LineScan
             };
         }
         at += LANES;
+        if ascii {
+            at = past_plain(bytes, at);
+        }
     }
     scan_rest(bytes, at, ascii)
+}
+
+// The place past the 64s of bytes, from `at` on, that are ASCII and no newline. Those before `at` are too.
+fn past_plain(bytes: &[u8], mut at: usize) -> usize
+    requires { IsPlain at bytes.now }
+    ensures more { at ≤ result }
+    ensures plain { IsPlain result bytes.now }
+{
+    while bytes.len() - at >= LONG && is_plain(bytes, at) {
+        at += LONG;
+    }
+    at
 }
 
 // The bytes from `at` on. Before them is no newline, and `ascii` says whether they are ASCII.
@@ -63,6 +81,18 @@ fn scan_rest(bytes: &[u8], at: usize, mut ascii: bool) -> LineScan
         newline: None,
         ascii,
     }
+}
+
+// Whether the 64 bytes from `at` on are ASCII and no newline. Both are tested at once.
+#[inline(always)]
+fn is_plain(bytes: &[u8], at: usize) -> bool
+    requires { at + 64 ≤ length bytes.now }
+    ensures { IsTrue result → IsPlain 64 (drop at bytes.now) }
+{
+    let lanes = u8x64::from_slice(&bytes[at..]);
+    let newlines = lanes.simd_eq(u8x64::splat(NEWLINE)).to_bitmask();
+    let others = lanes.simd_ge(u8x64::splat(0x80)).to_bitmask();
+    (newlines == 0) & (others == 0)
 }
 
 // How many of the 32 bytes from `at` on, from the first, are no newline.

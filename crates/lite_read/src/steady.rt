@@ -111,7 +111,7 @@ impl<R: AsyncBufRead + CountedRead + SteadyRead> SteadyFuture for ReadUntilFutur
     ghost steady = { until_steady R.steady };
 }
 
-impl<R: SteadyRead + AsyncBufRead + CountedRead, A: Allocator> SteadyFuture
+impl<R: SteadyRead + AsyncBufRead + CountedRead, A: Allocator + Copy> SteadyFuture
     for ReadLineFuture<'_, R, A> {
     ghost ample = { ReadsLine ⊥ R.ample };
 
@@ -124,7 +124,8 @@ impl<R: SteadyRead + AsyncBufRead + CountedRead, A: Allocator> SteadyFuture
     ghost steady = { text_steady line_over read_line_fold (until_deterministic 10) R.steady };
 }
 
-impl<R: SteadyRead + CountedRead, A: Allocator> SteadyFuture for ReadToStringFuture<'_, R, A> {
+impl<R: SteadyRead + CountedRead, A: Allocator + Copy> SteadyFuture
+    for ReadToStringFuture<'_, R, A> {
     ghost ample = { ReadsToString ⊥ R.ample };
 
     ghost needs_none = { ⊥ };

@@ -1,4 +1,4 @@
-use Rattle.std.proofs.Common.{leb, cond, ap, ◌∙◌}
+use Rattle.std.proofs.Common.{leb, cond, ap, ◌∙◌, arith, refl}
 use Rattle.std.proofs.lemmas.Simd.{zip2_splat_left, length-chunk}
 use Rattle.std.specs.List.{prefix_len}
 use lib.Lanes.{chunk}
@@ -9,6 +9,6 @@ pub returns : goal.returns
 returns c =
     let v = chunk c.args.at 32 c.args.bytes.now in
     let long = length-chunk c.args.at 32 c.args.bytes.now c.requires in
-    let run = run_of (λ b. leb 128 b) c.args.bytes.now c.args.at _ c.requires
-    (zip2_splat_left (λ a b. cond (leb a b) 255 0) 128 32 v long) in
+    let run = run_of (λ b. leb 128 b) c.args.bytes.now c.args.at 32 _ (omega arith) c.requires
+    (zip2_splat_left (λ a b. cond (leb a b) 255 0) 128 32 v long) refl in
     c.first_set.ensures ∙ run ∙ ap (λ p. prefix_len p v) (λ i. λ b. below_128 b i)

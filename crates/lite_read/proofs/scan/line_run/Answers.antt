@@ -1,5 +1,5 @@
 use Rattle.std.proofs.lemmas.Simd.{zip2_splat, length-chunk}
-use Rattle.std.proofs.Common.{◌==◌, ◌∙◌}
+use Rattle.std.proofs.Common.{◌==◌, ◌∙◌, arith, refl}
 use lib.Lanes.{chunk}
 use Rattle.lite_read.proofs.Lanes.{run_of}
 use Rattle.lite_read.proofs.scan.line_run.Goals as goal
@@ -8,5 +8,5 @@ pub returns : goal.returns
 returns c =
     let long = length-chunk c.args.at 32 c.args.bytes.now c.requires in
     c.first_set.ensures
-    ∙ run_of (λ b. b == 10) c.args.bytes.now c.args.at _ c.requires
-    (zip2_splat _ (chunk c.args.at 32 c.args.bytes.now) 32 10 long)
+    ∙ run_of (λ b. b == 10) c.args.bytes.now c.args.at 32 _ (omega arith) c.requires
+    (zip2_splat _ (chunk c.args.at 32 c.args.bytes.now) 32 10 long) refl

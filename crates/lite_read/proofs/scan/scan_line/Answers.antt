@@ -1,5 +1,5 @@
-use Rattle.std.proofs.Common.{◌+◌, ◌<◌, ◌≤◌, length, ◌∙◌, arith}
-use Rattle.lite_read.proofs.FirstLine.{ascii_on, found, line_is, newline_at, seen_more}
+use Rattle.std.proofs.Common.{◌+◌, ◌<◌, ◌≤◌, length, sym, ◌∙◌, arith}
+use Rattle.lite_read.proofs.FirstLine.{ascii_on, found, line_is, newline_at, seen_on}
 use Rattle.lite_read.proofs.scan.scan_line.Goals as goal
 
 pub returns-then-line-lt-LANES-clause-newline : goal.returns-then-line-lt-LANES-clause-newline
@@ -22,13 +22,16 @@ returns-then-line-lt-LANES-clause-ascii c =
     rw c.ascii_run.ensures (ascii_on d at line 32 c.loop-at.ascii (omega (arith, less)) room c.loop-at.invariant.2
     ∙ line_is d (at + line) (found d at c.loop-at.invariant.1 line 32 room less c.line_run-line.ensures))
 
+pub past_plain-at-requires : goal.past_plain-at-requires
+past_plain-at-requires c =
+    let room : c.loop-at.at + 32 ≤ length c.args.bytes.now = omega (arith, c.loop-at-test.true, c.loop-at.invariant.0) in
+    let seen = seen_on c.args.bytes.now c.loop-at.at 32 _ _ _ room c.loop-at.invariant.1 c.loop-at.invariant.2
+    c.line_run-line.ensures (omega (arith, c.if-line-lt-LANES.false)) c.ascii_run.ensures in
+    record { within = room; line = seen.0; ascii = sym seen.1 ∙ c.if-ascii.true }
+
 pub loop-at-preserved : goal.loop-at-preserved
 loop-at-preserved c =
-    let d = c.args.bytes.now in
-    let at = c.loop-at.at in
-    let line = c.line_run-line.result in
-    let room : at + 32 ≤ length d = omega (arith, c.loop-at-test.true, c.loop-at.invariant.0) in
-    let whole = seen_more d at c.loop-at.invariant.1 line 32 room c.line_run-line.ensures
-    (omega (arith, c.if-line-lt-LANES.false)) in
-    let ascii = ascii_on d at 32 32 c.loop-at.ascii (omega arith) room c.loop-at.invariant.2 in
-    (room, whole.1, rw (whole.0, c.ascii_run.ensures) ascii)
+    let room : c.loop-at.at + 32 ≤ length c.args.bytes.now = omega (arith, c.loop-at-test.true, c.loop-at.invariant.0) in
+    let seen = seen_on c.args.bytes.now c.loop-at.at 32 _ _ _ room c.loop-at.invariant.1 c.loop-at.invariant.2
+    c.line_run-line.ensures (omega (arith, c.if-line-lt-LANES.false)) c.ascii_run.ensures in
+    (room, seen.0, seen.1)
