@@ -43,7 +43,7 @@ const FOLDS: [(&str, u64, &[u64]); 27] = [
 
 /// Cases, their sizes, and their numbers: of texts all bytes that are read, of writers all that are written, of futures
 /// all values.
-const NUMBERS: [(&str, u64, u64); 32] = [
+const NUMBERS: [(&str, u64, u64); 33] = [
     ("made_noise", 600, 600),
     ("made_text", 6, 96),
     ("made_lines_8", 6, 48),
