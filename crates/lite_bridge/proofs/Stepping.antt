@@ -1,20 +1,16 @@
 -- A read of a buffered reader over a cursor is one of the bare cursor.
-use Rattle.std.proofs.Common.{◌≡◌, ◌∙◌, ◌≤◌, ◌<◌, ◌^◌, ℕ, zero, suc, ◌+◌, ◌-◌, List, [], ◌∷◌, ◌++◌, length, take, refl}
+use Rattle.std.proofs.Common.{◌≡◌, ◌∙◌, ◌≤◌, ◌<◌, ◌^◌, ℕ, suc, ◌+◌, ◌-◌, List, [], ◌∷◌, ◌++◌, length, take, refl}
 use Rattle.std.proofs.Common.{sym, ap, subst, arith, length-take, length-drop}
 use Rattle.lite_io_base.specs.Laws.Steps.{steps_follow, steps_split}
 use Rattle.lite_io_base.specs.Marks.{ReadMark, bytes as marks_of}
 use Rattle.lite_buffered.specs.declared.buf_reader.BufReader.{BufReader}
-use Rattle.lite_buffered.specs.BufReader.{PassesBuffer, ThroughBuffer, ahead, reader_capacity, reader_inner}
+use Rattle.lite_buffered.specs.BufReader.{ThroughBuffer, ahead, reader_capacity, reader_inner}
 use Rattle.lite_bridge.specs.declared.cursor.Cursor.{Cursor}
 use Rattle.lite_bridge.specs.Cursor.{CursorReads, ReadStep, at_place, bytes_left, cursor_inner as value_of, position_of}
 use Rattle.lite_bridge.specs.Laws.Cursor.{cursor_taken}
 use Rattle.lite_bridge.specs.Logical.{IsInStep, logical}
+use Rattle.lite_buffered.specs.Laws.BufReader.{passes_some}
 use Rattle.lite_base.specs.Runs.{Runs}
-
-passes_some : (n : ℕ) (p q : List ℕ) (came out : List ReadMark) → 0 < n → PassesBuffer n p came out q
-    → marks_of p ++ came ≡ out ++ marks_of q
-passes_some zero p q came out some h = absurd (omega (arith, some))
-passes_some (suc n) p q came out some h = h
 
 module _ {T : Type 0} (bytes : T → List ℕ) where
   abbrev moves : Runs ReadMark (Cursor T)
@@ -80,7 +76,7 @@ module _ {T : Type 0} (bytes : T → List ℕ) where
       → moves (logical x) l (logical y) × IsInStep bytes y
   reads_as_bare x y l s h =
       let is : marks_of (ahead x) ++ h.came ≡ l ++ marks_of (ahead y) =
-      passes_some (reader_capacity x) (ahead x) (ahead y) h.came l s.buffered h.passes in
+      passes_some (reader_capacity x) (ahead x) h.came l (ahead y) s.buffered h.passes in
       let whole = steps_follow (ReadStep bytes) (logical x) (reader_inner x) (reader_inner y)
       (marks_of (ahead x)) h.came (ahead_read x s) h.ran in
       let cut = steps_split (ReadStep bytes) (logical x) (reader_inner y) l (marks_of (ahead y))

@@ -1,11 +1,12 @@
 -- What reads and writes of std tell of bytes that are known.
-use Rattle.std.specs.Prelude.{◌≡◌, ℕ, List, [], ◌∷◌, ◌++◌, Option, None, Some, Result, ⊤}
+use Rattle.std.specs.Prelude.{◌≡◌, ℕ, List, [], ◌∷◌, Option, None, Some, Result, ⊤}
 use Rattle.std.specs.Io.KnownBytes.{Keeps}
 use Rattle.std.specs.Io.Seek.{SeekMoves}
 use Rattle.std.specs.declared.io.ErrorKind.{ErrorKind}
 use Rattle.std.specs.declared.io.traits.SeekFrom.{SeekFrom}
 use Rattle.futures.specs.declared.task.Poll.{Poll}
 use Rattle.futures.specs.declared.task.Poll.TheVariants.{Ready, Pending}
+use Rattle.lite_io_base.specs.Grows.{GrowsWhere}
 use Rattle.lite_io_base.specs.Marks.{ReadMark}
 use Rattle.lite_io_base.specs.Steady.{NoPendingRead}
 use Rattle.lite_io_base.specs.SteadyWrite.{NoPendingWrite}
@@ -34,10 +35,7 @@ SpendsKnown = WhereKnown NoPendingRead SpendsBytes
 -- what is taken comes behind the bytes xs that were there; errors, flushes and closes change nothing; ys is what is
 -- there
 abbrev pub GainsBytes : Runs WriteMark (List ℕ)
-GainsBytes xs [] ys = ys ≡ xs
-GainsBytes xs (WriteMark.wrote zs ∷ l) ys = GainsBytes (xs ++ zs) l ys
-GainsBytes xs (WriteMark.pending ∷ l) ys = ⊥
-GainsBytes xs (_ ∷ l) ys = GainsBytes xs l ys
+GainsBytes = GrowsWhere (λ _. ⊤)
 
 -- where the bytes that are there are not known, it is known that no call is pending
 abbrev pub GainsKnown : Runs WriteMark (Option (List ℕ))

@@ -14,8 +14,9 @@ use Rattle.lite_io_base.specs.Takings.{WriteMark, done_marks, write_marks}
 use Rattle.lite_buffered.specs.declared.buf_writer.BufWriter.{BufWriter}
 use Rattle.lite_buffered.specs.BufWriter.{Buffers, FlushesBuffer, MakesRoom, ShownAfter, TakesHeld, WriterAnswers}
 use Rattle.lite_buffered.specs.BufWriter.{WriterSegment, buffered, unwritten, writer_capacity}
-use Rattle.lite_buffered.specs.Laws.BufWriter.{balanced_one, segments_one}
-use Rattle.lite_buffered.proofs.Draining.{range_none}
+use Rattle.lite_buffered.specs.Laws.BufWriter.{balanced_one}
+use Rattle.lite_buffered.proofs.Ranges.{slice_range_none}
+use Rattle.lite_base.specs.Laws.Segments.{segments_one}
 use Rattle.lite_base.specs.Runs.{Runs}
 
 -- nothing is in the buffer
@@ -28,7 +29,7 @@ shown_none x m y (Ready r) none buf written len =
     let same : buffered y ≡ buffered m = rw (buf, len) refl in
     let empty : y.len ≡ 0 =
     omega (arith, ap length (same ∙ none), length-take y.len (boxed_slice_items y.buf), y.in_range.1) in
-    same ∙ none ∙ sym (range_none (boxed_slice_items y.buf) y.written y.len (omega (arith, empty)))
+    same ∙ none ∙ sym (slice_range_none (boxed_slice_items y.buf) y.written y.len (omega (arith, empty)))
 
 module _ {W : Type 0} (writes : Runs WriteMark W) where
   -- one answer
@@ -40,7 +41,7 @@ module _ {W : Type 0} (writes : Runs WriteMark W) where
         taken = taken;
         ran = ran;
         capacity = capacity;
-        segments = segments_one (unwritten x) (unwritten y) taken told segment;
+        segments = segments_one WriterSegment (unwritten x) (unwritten y) taken told segment;
         balanced = balanced_one (unwritten x) (unwritten y) taken told segment;
       }
 
@@ -142,7 +143,7 @@ module _ {W : Type 0} (writes : Runs WriteMark W) where
         let big : writer_capacity x ≤ count = subst (λ v. writer_capacity v ≤ count) same large in
         let none : x.len ≡ 0 = omega (arith, fits, big, length-take x.len (boxed_slice_items x.buf), x.in_range.1) in
         subst (λ v. FlushesBuffer writes x (Ready (Ok tt)) v) (sym same)
-        (flush_none x (range_none (boxed_slice_items x.buf) x.written x.len (omega (arith, none))))
+        (flush_none x (slice_range_none (boxed_slice_items x.buf) x.written x.len (omega (arith, none))))
 
     -- a write of as many bytes as the capacity
     pub room_then_past : (x m y : BufWriter W) (xs : List ℕ) (r : Poll (Result ℕ Error))

@@ -1,6 +1,6 @@
 -- What a flush of the buffer does.
 use Rattle.std.proofs.Common.{◌≡◌, ◌∙◌, ℕ, ◌+◌, ◌-◌, ◌≤◌, ◌<◌, List, [], ◌∷◌, ◌++◌, length, take, drop, slice_range}
-use Rattle.std.proofs.Common.{refl, sym, ap, subst, arith, take-append-drop, drop-drop, length-drop, length-take-le}
+use Rattle.std.proofs.Common.{refl, sym, ap, subst, arith, length-take-le}
 use Rattle.std.proofs.lemmas.List.{drop-take, drop-append-le, length-take}
 use Rattle.std.specs.Box.{boxed_slice_items}
 use Rattle.std.specs.declared.io.ErrorKind.{ErrorKind}
@@ -12,6 +12,7 @@ use Rattle.lite_io_base.specs.Takings.{WriteMark}
 use Rattle.lite_buffered.specs.declared.buf_writer.BufWriter.{BufWriter}
 use Rattle.lite_buffered.specs.BufWriter.{FlushesBuffer, IsFault, TakesHeld, WriterAnswers, WriterSegment, unwritten}
 use Rattle.lite_buffered.specs.BufWriter.{writer_capacity}
+use Rattle.lite_buffered.proofs.Ranges.{length-slice_range, slice_range_split}
 use Rattle.lite_base.specs.Runs.{Runs}
 
 -- a range is the rest of the front
@@ -29,24 +30,8 @@ range_more xs ys bytes i j within fits is =
     ∙ drop-append-le i (take j xs) bytes (omega (arith, length-take j xs))
     ∙ ap (λ l. l ++ bytes) (sym (range_of_front xs i j within))
 
--- a range is its first n elements and then the rest
-range_split : (xs : List ℕ) (i j n : ℕ) → i + n ≤ j
-    → slice_range xs i j ≡ take n (slice_range xs i j) ++ slice_range xs (i + n) j
-range_split xs i j n within =
-    let len : j - i ≡ n + (j - (i + n)) = omega arith in
-    let next : slice_range xs (i + n) j ≡ drop n (slice_range xs i j) =
-    sym (ap (λ k. drop n (take k (drop i xs))) len ∙ drop-take n (j - (i + n)) (drop i xs)
-    ∙ ap (take (j - (i + n))) (drop-drop n i xs)) in
-    sym (take-append-drop n (slice_range xs i j)) ∙ ap (λ ws. take n (slice_range xs i j) ++ ws) (sym next)
-
-pub range_none : (xs : List ℕ) (i j : ℕ) → j ≤ i → slice_range xs i j ≡ []
-range_none xs i j e = let nothing : j - i ≡ 0 = omega arith in rw nothing refl
-
-length-range : (xs : List ℕ) (i j : ℕ) → i ≤ j → j ≤ length xs → length (slice_range xs i j) ≡ j - i
-length-range xs i j p q = omega (arith, length-take (j - i) (drop i xs), length-drop i xs)
-
 pub length-held : {W : Type 0} (x : BufWriter W) → length (unwritten x) ≡ x.len - x.written
-length-held x = length-range (boxed_slice_items x.buf) x.written x.len x.in_range.0 x.in_range.1
+length-held x = length-slice_range (boxed_slice_items x.buf) x.written x.len x.in_range.0 x.in_range.1
 
 pub held_same : {W : Type 0} (x y : BufWriter W) → y.buf ≡ x.buf → y.written ≡ x.written → y.len ≡ x.len
     → unwritten y ≡ unwritten x
@@ -83,7 +68,7 @@ module _ {W : Type 0} (writes : Runs WriteMark W) (laws : MarkLaws writes) where
       let next : slice_range (boxed_slice_items y.buf) (y.written + k) y.len ≡ unwritten z =
       rw (buf, written, len) refl in
       let cut : unwritten y ≡ take k (unwritten y) ++ unwritten z =
-      range_split (boxed_slice_items y.buf) y.written y.len k within ∙ ap (λ l. take k (unwritten y) ++ l) next in
+      slice_range_split (boxed_slice_items y.buf) y.written y.len k within ∙ ap (λ l. take k (unwritten y) ++ l) next in
       let front = take k (unwritten y) in
       record {
         taken = d.taken ++ WriteMark.wrote front ∷ [];

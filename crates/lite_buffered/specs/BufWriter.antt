@@ -11,6 +11,7 @@ use Rattle.futures.specs.declared.task.Poll.TheVariants.{Ready, Pending}
 use Rattle.lite_io_base.specs.Takings.{WriteMark, bytes_taken}
 use Rattle.lite_buffered.specs.declared.buf_writer.BufWriter.{BufWriter}
 use Rattle.lite_base.specs.Runs.{Runs}
+use Rattle.lite_base.specs.Segments.{Segments}
 
 -- the bytes in the buffer
 abbrev pub buffered : {W : Type 0} → BufWriter W → List ℕ
@@ -55,8 +56,7 @@ WriterAnswers n left last (WriteMark.wrote xs) after =
     ((last ≡ []) × (after ≡ left ++ xs)) ⊎ ((last ≡ WriteMark.wrote xs ∷ []) × (left ≡ []) × (after ≡ []))
 WriterAnswers n left last WriteMark.pending after = (last ≡ WriteMark.pending ∷ []) × (after ≡ left)
 WriterAnswers n left last (WriteMark.fault kind) after = IsFault n left last kind × (after ≡ left)
-WriterAnswers n left last WriteMark.flushed after = (last ≡ WriteMark.flushed ∷ []) × (left ≡ []) × (after ≡ [])
-WriterAnswers n left last WriteMark.closed after = (last ≡ WriteMark.closed ∷ []) × (left ≡ []) × (after ≡ [])
+WriterAnswers n left last done after = (last ≡ done ∷ []) × (left ≡ []) × (after ≡ [])
 
 -- what the inner writer does for one answer: held bytes are taken, and then comes the answer
 pub record WriterSegment (before : List ℕ) (taken : List WriteMark) (told : WriteMark) (after : List ℕ) : Type 0 where
@@ -70,10 +70,7 @@ pub record WriterSegment (before : List ℕ) (taken : List WriteMark) (told : Wr
 
 -- the inner writer's marks are cut into segments, one for each answer
 abbrev pub WriterSegments : List ℕ → List WriteMark → List WriteMark → List ℕ → Type 0
-WriterSegments before taken [] after = (taken ≡ []) × (after ≡ before)
-WriterSegments before taken (told ∷ out) after =
-    (front : List WriteMark) × (rest : List WriteMark) × (between : List ℕ) × (taken ≡ front ++ rest)
-    × WriterSegment before front told between × WriterSegments between rest out after
+WriterSegments = Segments WriterSegment
 
 -- the inner writer ran, and no byte was lost
 pub record Buffers {W : Type 0} (writes : Runs WriteMark W) (x : BufWriter W) (out : List WriteMark)

@@ -17,9 +17,7 @@ abbrev pub WithinLimit : Runs ReadMark ℕ
 WithinLimit limit [] rest = rest ≡ limit
 WithinLimit zero (m ∷ ms) rest = ⊥
 WithinLimit (suc n) (ReadMark.byte b ∷ ms) rest = WithinLimit n ms rest
-WithinLimit (suc n) (ReadMark.pending ∷ ms) rest = WithinLimit (suc n) ms rest
-WithinLimit (suc n) (ReadMark.fault kind ∷ ms) rest = WithinLimit (suc n) ms rest
-WithinLimit (suc n) (ReadMark.end ∷ ms) rest = WithinLimit (suc n) ms rest
+WithinLimit (suc n) (_ ∷ ms) rest = WithinLimit (suc n) ms rest
 
 -- ends alone, and only if the limit is used up
 abbrev pub LimitEnds : ℕ → List ReadMark → Type 0

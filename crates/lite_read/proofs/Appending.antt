@@ -13,7 +13,8 @@ use Rattle.futures.specs.Poll.{OnPending}
 use Rattle.futures.specs.declared.task.Poll.{Poll}
 use Rattle.futures.specs.declared.task.Poll.TheVariants.{Ready, Pending}
 use Rattle.lite_base.specs.Ranks.{Ranks}
-use Rattle.lite_base.specs.Laws.Segments.{segment_alone, to_value_one}
+use Rattle.lite_base.specs.Laws.Answers.{up_to_one}
+use Rattle.lite_base.specs.Laws.Segments.{segment_alone, segments_one}
 use Rattle.lite_base.specs.Runs.{Runs}
 use Rattle.lite_io_base.specs.Counting.{ReadCounting}
 use Rattle.lite_io_base.specs.Marks.{ReadMark, bytes, moved}
@@ -39,8 +40,9 @@ module _ {R A : Type 0} (m : Type 0) {reads : Runs ReadMark R} (laws : MarkLaws 
         folded = record {
           marks = [];
           came = rw reader (laws.rests x.reader.now);
-          folded = to_value_one (AnswerMarks (appends m x.start)) (read_front x) (read_front w) [] (Ready (Err e)) none;
+          cut = segments_one (AnswerMarks (appends m x.start)) (read_front x) (read_front w) [] (Ready (Err e)) none;
         };
+        ends = refl;
         stays = record {
           reader = rw reader refl;
           buf = ap (λ (v : ReadToEndFuture R A). v.buf) same;
@@ -59,6 +61,7 @@ module _ {R A : Type 0} (m : Type 0) {reads : Runs ReadMark R} (laws : MarkLaws 
       let whole : take n old ≡ old = rw all (take-length old) in
       record {
         folded = rw cut (rw whole at h.folded);
+        ends = h.ends;
         stays = record {
           reader = h.stays.reader;
           buf = ap (λ (b : MutBor (Vec ℕ A)). record b { now = v }) h.stays.buf;
@@ -75,7 +78,7 @@ module _ {R A : Type 0} (m : Type 0) {reads : Runs ReadMark R} (laws : MarkLaws 
       → OnPending a ((z.start ≤ length (read_front z)) × r.counts z.reader.now)
   polls_on c x z (Ready r) n all started counts h = tt
   polls_on c x z Pending n all started counts h =
-      let k = h.folded.folded.0 in
+      let k = h.folded.cut in
       let more = grown m x.start (take n x.buf.now.items) k.4.between k.4.taken k.4.folds in
       let whole : length (take n x.buf.now.items) ≡ n = length-take-le n x.buf.now.items (omega (arith, all)) in
       let same : length (read_front z) ≡ length k.4.between = ap length (k.5.1 ∙ k.4.given.2) in
@@ -141,8 +144,9 @@ module _ {R A : Type 0} (m : Type 0) (reads : Runs ReadMark R) where
         folded = record {
           marks = marks;
           came = subst (λ (b : MutBor R). reads b.now marks r) reader came;
-          folded = to_value_one (AnswerMarks (appends m x.start)) (read_front x) (take at v.items) marks a here;
+          cut = segments_one (AnswerMarks (appends m x.start)) (read_front x) (take at v.items) marks a here;
         };
+        ends = up_to_one a;
         stays = record {
           reader = ap (λ (b : MutBor R). record b { now = r }) reader;
           buf = ap (λ (u : ReadToEndFuture R A). record u.buf { now = v }) same;

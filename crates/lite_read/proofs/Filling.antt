@@ -17,7 +17,8 @@ use Rattle.lite_read.specs.ReadExact.{ReadsExactly, fills}
 use Rattle.lite_read.specs.ReadFold.{AnswerMarks, LastMarks}
 use Rattle.lite_read.specs.PollSteps.{ReadsMore}
 use Rattle.lite_read.specs.declared.read_exact.ReadExactFuture.{ReadExactFuture}
-use Rattle.lite_base.specs.Laws.Segments.{segment_alone, to_value_one}
+use Rattle.lite_base.specs.Laws.Answers.{up_to_one}
+use Rattle.lite_base.specs.Laws.Segments.{segment_alone, segments_one}
 use Rattle.lite_base.specs.Runs.{Runs}
 
 pub moved_some : (room xs : List ℕ) → 0 < length xs → moved room xs ≡ bytes xs
@@ -129,9 +130,10 @@ exact_one reads x y marks a last came stays =
       folded = record {
         marks = marks;
         came = came;
-        folded = to_value_one (AnswerMarks fills) (filling_of x) (filling_of y) marks a
+        cut = segments_one (AnswerMarks fills) (filling_of x) (filling_of y) marks a
             (segment_alone (filling_of x) (filling_of y) marks a last);
       };
+      ends = up_to_one a;
       stays = stays;
       idle = λ e. absurd (cc e);
     }

@@ -17,7 +17,8 @@ use Rattle.lite_read.specs.Laws.Texts.{folds_in, stays_join, step_before}
 use Rattle.lite_read.specs.Laws.PollSteps.{goes_again, steps_answer}
 use Rattle.lite_read.specs.Texts.{AppendsText, ReadsText, ValueOf, in_text, reading}
 use Rattle.lite_read.specs.TextSteps.{AnswersText, TakesTextIn}
-use Rattle.lite_base.specs.Laws.Segments.{segment_alone, to_value_one}
+use Rattle.lite_base.specs.Laws.Answers.{up_to_one}
+use Rattle.lite_base.specs.Laws.Segments.{segment_alone, segments_one}
 use Rattle.lite_base.specs.Runs.{Runs}
 
 module _ {X R A : Type 0} (over : TextOver X R A) (fold : ReadFold (List ℕ) (Result ℕ Error)) (reads : Runs ReadMark R)
@@ -30,8 +31,9 @@ module _ {X R A : Type 0} (over : TextOver X R A) (fold : ReadFold (List ℕ) (R
         folded = record {
           marks = marks;
           came = came;
-          folded = to_value_one (AnswerMarks (in_text fold)) (reading over x) (reading over y) marks a answer;
+          cut = segments_one (AnswerMarks (in_text fold)) (reading over x) (reading over y) marks a answer;
         };
+        ends = up_to_one a;
         stays = stays;
         idle = λ e. absurd (cc e);
       }

@@ -20,7 +20,8 @@ use Rattle.lite_read.specs.PieceSteps.{AppendsMore}
 use Rattle.lite_read.specs.declared.read_until.ReadUntilFuture.{ReadUntilFuture}
 use Rattle.lite_read.proofs.Cutting.{concludes_at, concludes_piece, fill_then, found_at, found_none, takes_all}
 use Rattle.lite_read.proofs.Cutting.{waits_here}
-use Rattle.lite_base.specs.Laws.Segments.{to_value_one}
+use Rattle.lite_base.specs.Laws.Answers.{up_to_one}
+use Rattle.lite_base.specs.Laws.Segments.{segments_one}
 use Rattle.lite_base.specs.Runs.{Runs}
 
 module _ {R : Type 0} (reads : Runs ReadMark R) (laws : MarkLaws reads) (x y : ReadUntilFuture R)
@@ -51,9 +52,10 @@ module _ {R : Type 0} (reads : Runs ReadMark R) (laws : MarkLaws reads) (x y : R
         folded = record {
           marks = marks;
           came = came;
-          folded = to_value_one (AnswerMarks (until x.byte ⊤)) (read_of x) (read_of y) marks a
+          cut = segments_one (AnswerMarks (until x.byte ⊤)) (read_of x) (read_of y) marks a
               (subst (AnswerMarks (until x.byte ⊤) (read_of x) marks a) (sym (read_grown xs e)) answer);
         };
+        ends = up_to_one a;
         stays = stays_grown xs e;
         idle = λ d. absurd (cc d);
       }

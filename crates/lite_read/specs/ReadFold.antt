@@ -4,7 +4,8 @@ use Rattle.futures.specs.declared.task.Poll.{Poll}
 use Rattle.futures.specs.declared.task.Poll.TheVariants.{Ready, Pending}
 use Rattle.lite_io_base.specs.Marks.{ReadMark}
 use Rattle.lite_base.specs.Runs.{Question, Runs}
-use Rattle.lite_base.specs.Segments.{Segment, SegmentsToValue}
+use Rattle.lite_base.specs.Answers.{UpToValue}
+use Rattle.lite_base.specs.Segments.{Segment, Segments, SegmentsToValue}
 
 -- what is made of marks: which bytes are taken in, when more may be asked for, and what the value is
 pub record ReadFold (M R : Type 0) : Type 1 where
@@ -29,17 +30,23 @@ module _ {M R : Type 0} (fold : ReadFold M R) where
   abbrev pub ReadFolds : M → List ReadMark → List (Poll R) → M → Type 0
   ReadFolds = SegmentsToValue AnswerMarks
 
-  -- the reader left some marks, and they were gathered
-  pub record ReadFolded {S : Type 0} (reads : Runs ReadMark S) (s : S) (p : M) (out : List (Poll R)) (t : S)
+  -- the marks of each answer in order, and each goes on with what the one before it left
+  abbrev pub PieceSegments : M → List ReadMark → List (Poll R) → M → Type 0
+  PieceSegments = Segments AnswerMarks
+
+  -- the reader left some marks, and they were cut so
+  pub record Segmented {S : Type 0} (reads : Runs ReadMark S) (s : S) (p : M) (out : List (Poll R)) (t : S)
       (q : M) : Type 0 where
     pub marks : List ReadMark
     pub came : reads s marks t
-    pub folded : ReadFolds p marks out q
+    pub cut : PieceSegments p marks out q
 
 module _ {X S M R : Type 0} (reader : X → S) (held : X → M) (fold : X → ReadFold M R) (Keeps : X → X → Type 0)
     (reads : Runs ReadMark S) where
-  -- a future over a reader: the reader left some marks, and they were gathered; no answer leaves all as it is
+  -- a future over a reader: the reader left some marks, and they were gathered, up to a value; no answer leaves all as
+  -- it is
   pub record Gathers (x : X) (out : List (Poll R)) (y : X) : Type 0 where
-    pub folded : ReadFolded (fold x) reads (reader x) (held x) out (reader y) (held y)
+    pub folded : Segmented (fold x) reads (reader x) (held x) out (reader y) (held y)
+    pub ends : UpToValue out
     pub stays : Keeps x y
     pub idle : out ≡ [] → y ≡ x

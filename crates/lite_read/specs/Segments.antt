@@ -2,21 +2,9 @@
 use Rattle.std.specs.Prelude.{◌≡◌, List, []}
 use Rattle.futures.specs.declared.task.Poll.{Poll}
 use Rattle.lite_io_base.specs.Marks.{ReadMark}
-use Rattle.lite_read.specs.ReadFold.{AnswerMarks, ReadFold}
+use Rattle.lite_read.specs.ReadFold.{ReadFold}
+pub use Rattle.lite_read.specs.ReadFold.{PieceSegments, Segmented}
 use Rattle.lite_base.specs.Runs.{Runs}
-use Rattle.lite_base.specs.Segments.{Segments}
-
-module _ {M R : Type 0} (fold : ReadFold M R) where
-  -- the marks of each answer in order, and each goes on with what the one before it left
-  abbrev pub PieceSegments : M → List ReadMark → List (Poll R) → M → Type 0
-  PieceSegments = Segments (AnswerMarks fold)
-
-  -- the reader left some marks, and they were cut so
-  pub record Segmented {S : Type 0} (reads : Runs ReadMark S) (s : S) (p : M) (out : List (Poll R)) (t : S)
-      (q : M) : Type 0 where
-    pub marks : List ReadMark
-    pub came : reads s marks t
-    pub cut : PieceSegments p marks out q
 
 -- a stream of the type X over a reader of the type S: what it holds, and what it never changes
 pub record StreamOver (X S M K : Type 0) : Type 0 where

@@ -29,11 +29,10 @@ folded m start p q (x ∷ xs) h = folded m start h.0 q xs h.2 ∙ ap (λ k. k ++
 
 no_wait : (m : Type 0) (start : ℕ) (g : List ℕ) (l : List ReadMark) (v : ReadResult) → Appended m start g l v
     → NoPendingRead l
-no_wait m start g (ReadMark.byte b ∷ l) v h = absurd h
-no_wait m start g (ReadMark.pending ∷ l) v h = absurd h
-no_wait m start g (ReadMark.end ∷ n ∷ l) v h = absurd h
-no_wait m start g (ReadMark.fault kind ∷ n ∷ l) v h = absurd h
-no_wait m start g _ v h = tt
+no_wait m start g [] v h = tt
+no_wait m start g (ReadMark.end ∷ []) v h = tt
+no_wait m start g (ReadMark.fault kind ∷ []) v h = tt
+no_wait m start g _ v h = absurd h
 
 -- what was there before is not counted
 from_none : (m : Type 0) (p xs : List ℕ) (l : List ReadMark) (v : ReadResult) → Appended m (length p) (p ++ xs) l v
@@ -91,7 +90,7 @@ module _ {R A : Type 0} (m : Type 0) (reads : Runs ReadMark R) where
       let q = y.buf.now.items in
       let c =
       read_folds_once (appends m x.start) (λ p q l v h. no_wait m x.start p l v h.0) p q h.folded.marks l v
-      h.folded.folded g in
+      (h.folded.cut, h.ends) g in
       let all = folded m x.start p c.between c.taken c.folds in
       let last = subst (λ g. Appended m x.start g c.last v) all c.given.0 in
       let value = from_none m p c.taken c.last v (rw (← begun) last) in (

@@ -2,7 +2,6 @@
 use Rattle.std.specs.Prelude.{IfErr, IfOk, IsOk}
 use Rattle.std.proofs.Common.{◌≡◌, ◌∙◌, ℕ, List, [], ◌∷◌, ◌++◌, Result, Ok, Err, inl, inr, refl, sym, ap, subst, arith}
 use Rattle.std.proofs.Common.{append_assoc, append-nil, map}
-use Rattle.std.proofs.lemmas.Grind.{flat_map-append}
 use Rattle.std.specs.IoError.{error_kind}
 use Rattle.std.specs.List.{FoldsTo}
 use Rattle.std.specs.declared.io.Error.{Error}
@@ -14,7 +13,8 @@ use Rattle.lite_base.specs.Laws.Segments.{segment_front, to_value_last}
 use Rattle.lite_base.specs.Runs.{Runs}
 use Rattle.lite_io_base.specs.Runs.{MarkLaws, StandsFirst}
 use Rattle.lite_io_base.specs.SteadyWrite.{NoError, SteadyWriteLaws}
-use Rattle.lite_io_base.specs.Takings.{WriteMark, bytes_in, bytes_taken}
+use Rattle.lite_io_base.specs.Takings.{WriteMark, bytes_taken}
+use Rattle.lite_io_base.specs.Laws.Takings.{taken_both}
 use Rattle.lite_read.specs.Polled.{PolledByCalls}
 use Rattle.lite_write.specs.Flush.{Flushes}
 use Rattle.lite_write.specs.Laws.SteadyWriteAll.{no_failure_both}
@@ -28,9 +28,6 @@ use Rattle.lite_theorems.specs.BothWriters.{BothWritten, FailsBy, FailsWith, Flu
 
 abbrev WriteResult : Type 0
 WriteResult = Result (Unit {0}) Error
-
-bytes_both : (l m : List WriteMark) → bytes_taken (l ++ m) ≡ bytes_taken l ++ bytes_taken m
-bytes_both = flat_map-append bytes_in
 
 later : (b m : List WriteMark) (t : WriteMark) (l : List WriteMark) → l ≡ m ++ t ∷ [] → b ++ l ≡ (b ++ m) ++ t ∷ []
 later b m t l e = ap (λ k. b ++ k) e ∙ sym (append_assoc b m (t ∷ []))
@@ -67,7 +64,6 @@ Handed p l v = StandsFirst (bytes_taken l) p × HandedUp p l v
 ended_up : (p : List ℕ) (l : List WriteMark) (v : WriteResult) → Ended p l v → Handed p l v
 ended_up p [] (Ok u) h = ((p, refl), (tt, sym h.0))
 ended_up p [] (Err e) h = cc
-ended_up p (WriteMark.wrote [] ∷ []) (Ok u) h = absurd h
 ended_up p (WriteMark.wrote [] ∷ []) (Err e) h = (
   (p, refl),
   record {
@@ -76,20 +72,14 @@ ended_up p (WriteMark.wrote [] ∷ []) (Err e) h = (
     last = inr (refl, h.1);
   },
 )
-ended_up p (WriteMark.wrote [] ∷ m ∷ l) v h = absurd h
-ended_up p (WriteMark.wrote (x ∷ xs) ∷ l) v h = absurd h
-ended_up p (WriteMark.pending ∷ l) v h = absurd h
-ended_up p (WriteMark.fault kind ∷ []) (Ok u) h = absurd h
 ended_up p (WriteMark.fault kind ∷ []) (Err e) h =
     ((p, refl), record { before = []; no_failure = tt; last = inl (rw (sym h.1)) })
-ended_up p (WriteMark.fault kind ∷ m ∷ l) v h = absurd h
-ended_up p (WriteMark.flushed ∷ l) v h = absurd h
-ended_up p (WriteMark.closed ∷ l) v h = absurd h
+ended_up p _ v h = absurd h
 
 value_later : (p q : List ℕ) (b l : List WriteMark) (v : WriteResult) → NoFailure b → p ≡ bytes_taken b ++ q
     → HandedUp q l v → HandedUp p (b ++ l) v
 value_later p q b l (Ok u) a front h =
-    (no_failure_both b l a h.0, bytes_both b l ∙ ap (λ k. bytes_taken b ++ k) h.1 ∙ sym front)
+    (no_failure_both b l a h.0, taken_both b l ∙ ap (λ k. bytes_taken b ++ k) h.1 ∙ sym front)
 value_later p q b l (Err e) a front h = fails_later b l e a h
 
 handed_later : (p q : List ℕ) (b l : List WriteMark) (v : WriteResult) → NoFailure b → p ≡ bytes_taken b ++ q
@@ -97,7 +87,7 @@ handed_later : (p q : List ℕ) (b l : List WriteMark) (v : WriteResult) → NoF
 handed_later p q b l v a front h =
     let rest = h.0.0 in
     let whole = front ∙ ap (λ k. bytes_taken b ++ k) h.0.1 ∙ sym (append_assoc (bytes_taken b) (bytes_taken l) rest) in
-    ((rest, whole ∙ ap (λ k. k ++ rest) (sym (bytes_both b l))), value_later p q b l v a front h.1)
+    ((rest, whole ∙ ap (λ k. k ++ rest) (sym (taken_both b l))), value_later p q b l v a front h.1)
 
 -- a future that was polled to its value
 handed_up : (p q : List ℕ) (i : List WriteMark) (l : List (Poll WriteResult)) (v : WriteResult) → HandsOver p i l q
@@ -206,7 +196,7 @@ module _ {W : Type 0} (writes : Runs WriteMark W) where
 
 -- marks without a byte behind others
 none_after : (p : List ℕ) (b l : List WriteMark) → bytes_taken b ≡ p → bytes_taken l ≡ [] → bytes_taken (b ++ l) ≡ p
-none_after p b l all none = bytes_both b l ∙ ap (λ k. bytes_taken b ++ k) none ∙ append-nil (bytes_taken b) ∙ all
+none_after p b l all none = taken_both b l ∙ ap (λ k. bytes_taken b ++ k) none ∙ append-nil (bytes_taken b) ∙ all
 
 -- all was taken, and then flushed
 written_later : (p : List ℕ) (b l : List WriteMark) (v : WriteResult) → NoFailure b → bytes_taken b ≡ p

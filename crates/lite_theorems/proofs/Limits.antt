@@ -1,17 +1,9 @@
 -- The lines of what a reader tells through a limit and a buffer.
-use Rattle.std.proofs.Common.{◌≡◌, ◌∙◌, ◌<◌, ℕ, zero, suc, arith, List, [], ◌∷◌, ◌++◌, refl, ap, sym, append_assoc}
+use Rattle.std.proofs.Common.{◌≡◌, ◌∙◌, ℕ, zero, suc, arith, List, [], ◌∷◌, ◌++◌, refl, ap, sym, append_assoc}
 use Rattle.std.proofs.Common.{append-nil}
-use Rattle.lite_buffered.specs.BufReader.{PassesBuffer}
 use Rattle.lite_buffered.specs.Take.{LimitEnds, WithinLimit}
-use Rattle.lite_io_base.specs.Marks.{ReadMark, bytes}
+use Rattle.lite_io_base.specs.Marks.{ReadMark}
 use Rattle.lite_theorems.specs.Lines.{limited, lines_told}
-
--- where there is a capacity
-pub passed : (n : ℕ) (before : List ℕ) (came out : List ReadMark) (after : List ℕ) → 0 < n
-    → PassesBuffer n before came out after
-    → bytes before ++ came ≡ out ++ bytes after
-passed zero before came out after some h = absurd (omega (arith, some))
-passed (suc n) before came out after some h = h
 
 -- marks that fit
 fitted : (n rest : ℕ) (front l : List ReadMark) → WithinLimit n front rest
@@ -19,10 +11,7 @@ fitted : (n rest : ℕ) (front l : List ReadMark) → WithinLimit n front rest
 fitted n rest [] l f = rw f refl
 fitted zero rest (m ∷ front) l f = absurd f
 fitted (suc n) rest (ReadMark.byte b ∷ front) l f = ap (λ k. ReadMark.byte b ∷ k) (fitted n rest front l f)
-fitted (suc n) rest (ReadMark.pending ∷ front) l f = ap (λ k. ReadMark.pending ∷ k) (fitted (suc n) rest front l f)
-fitted (suc n) rest (ReadMark.fault kind ∷ front) l f =
-    ap (λ k. ReadMark.fault kind ∷ k) (fitted (suc n) rest front l f)
-fitted (suc n) rest (ReadMark.end ∷ front) l f = ap (λ k. ReadMark.end ∷ k) (fitted (suc n) rest front l f)
+fitted (suc n) rest (m ∷ front) l f = ap (λ k. m ∷ k) (fitted (suc n) rest front l f)
 
 -- nothing is told behind two ends
 two_ends : (held : List ℕ) (front l m : List ReadMark)

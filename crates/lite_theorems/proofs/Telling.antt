@@ -64,18 +64,15 @@ cut_given p q last (Some r) ins l (Cut.piece xs, is, becomes) g =
     rw is.0 (line_given (without_return p) r ins (lines_told [] l)
     (subst (λ ys. IsText (without_return ys) r) is.1 becomes.0)
     (subst (λ m. Given ins (lines_told m l)) becomes.1 g))
-cut_given p q last None ins l (Cut.piece xs, is, becomes) g = absurd becomes
 cut_given [] q last (Some r) ins l (Cut.last xs, is, becomes) g = absurd (omega (arith, is.1))
 cut_given (b ∷ p) q last (Some r) ins l (Cut.last xs, is, becomes) g =
     rw is.0 (line_given (b ∷ p) r ins (lines_told [] l) (subst (λ ys. IsText ys r) is.2 becomes.0)
     (subst (λ m. Given ins (lines_told m l)) becomes.1 g))
-cut_given p q last None ins l (Cut.last xs, is, becomes) g = absurd becomes
-cut_given p q last (Some r) ins l (Cut.nothing, is, becomes) g = absurd becomes
 cut_given p q last None ins l (Cut.nothing, is, becomes) g = rw (is.0, is.1) refl
-cut_given p q last None ins l (Cut.failed e, is, becomes) g = absurd becomes
 cut_given p q last (Some r) ins l (Cut.failed e, inl is, becomes) g = rw (is, becomes.0) (inr refl)
 cut_given p q last (Some r) ins l (Cut.failed e, inr is, becomes) g =
     rw becomes.0 (refused e (lines_told p (last ++ l)) is.2)
+cut_given p q last r ins l (cut, is, becomes) g = absurd becomes
 
 pub given : (p q : List ℕ) (ms : List ReadMark) (ins : List (Answer Text)) → PieceSegments (lining ⊤ tt) p ms ins q
     → (l : List ReadMark)

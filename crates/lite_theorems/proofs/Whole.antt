@@ -1,14 +1,15 @@
 -- What comes of a copy, a chain and a buffered writer.
 use Rattle.lite_base.specs.Future.AtEachOk.{AtEachOk}
 use Rattle.std.proofs.Common.{◌≡◌, ◌∙◌, ◌+◌, ◌%◌, ◌^◌, ℕ, false, List, [], ◌∷◌, ◌++◌, Result, Ok, Err, IfOk, length}
-use Rattle.std.proofs.Common.{refl, ap, sym, subst, arith, append-nil, append_assoc}
+use Rattle.std.proofs.Common.{refl, ap, sym, subst, arith, append-nil}
 use Rattle.std.specs.declared.io.Error.{Error}
 use Rattle.futures.specs.declared.task.Poll.{Poll}
 use Rattle.lite_base.specs.Answers.{Gives}
 use Rattle.lite_base.specs.Laws.Alike.{gives_strip}
 use Rattle.lite_base.specs.Lent.{Lent}
 use Rattle.lite_base.specs.Runs.{Runs}
-use Rattle.lite_buffered.specs.BufWriter.{Buffers, WriterSegments, unwritten, writer_inner}
+use Rattle.lite_buffered.specs.BufWriter.{Buffers, unwritten, writer_inner}
+use Rattle.lite_buffered.specs.Laws.SteadyWrite.{segments_flushed}
 use Rattle.lite_buffered.specs.declared.buf_writer.BufWriter.{BufWriter}
 use Rattle.lite_buffered.specs.Chain.{ChainsReaders}
 use Rattle.lite_buffered.specs.Chaining.{first_of, has_ended, second_of}
@@ -19,44 +20,33 @@ use Rattle.lite_io_base.specs.Takings.{WriteMark, bytes_taken}
 use Rattle.lite_theorems.specs.Chained.{CopiesBoth, CopiesWhole, TakesWhole, TellsRest, TellsWhole}
 use Rattle.lite_write.specs.Copy.{CopyRuns, CopyValue}
 use Rattle.lite_theorems.specs.Laws.Chained.{tells_both}
-use Rattle.lite_write.specs.Laws.Copy.{ok_value, taken_both, told_both}
+use Rattle.lite_write.specs.Laws.Copy.{ok_value, told_both}
+use Rattle.lite_io_base.specs.Laws.Takings.{taken_both}
 use Rattle.lite_write.specs.MarkLists.{bytes_told}
 use Rattle.lite_write.specs.Parts.{NothingCopied, held_of, met_in, source_of}
 use Rattle.lite_write.specs.declared.copy.CopyFuture.{CopyFuture}
 use denote.MutBor.{MutBor}
-
--- the inner writer's marks up to a flush, after which nothing is held
-flushes : (before : List ℕ) (taken out : List WriteMark) (after : List ℕ)
-    → WriterSegments before taken (out ++ WriteMark.flushed ∷ []) after
-    → (front : List WriteMark) × (taken ≡ front ++ WriteMark.flushed ∷ []) × (after ≡ [])
-flushes before taken [] after h =
-    let one = h.4 in
-    let cut = h.3 ∙ ap (λ l. h.0 ++ l) h.5.0 ∙ append-nil h.0 ∙ one.cut ∙ ap (λ l. one.drained ++ l) one.answers.0 in
-    (one.drained, cut, h.5.1 ∙ one.answers.2)
-flushes before taken (told ∷ out) after h =
-    let more = flushes h.2 h.1 out after h.5 in
-    (h.0 ++ more.0, h.3 ∙ ap (λ l. h.0 ++ l) more.1 ∙ sym (append_assoc h.0 more.0 (WriteMark.flushed ∷ [])), more.2)
 
 -- a buffered writer that took some bytes and then was flushed
 buffered_whole : {W : Type 0} (writes : Runs WriteMark W) (x y : BufWriter W) (out : List WriteMark)
     → Buffers writes x (out ++ WriteMark.flushed ∷ []) y
     → TakesWhole writes (writer_inner x) (unwritten x ++ bytes_taken out) (writer_inner y) × (unwritten y ≡ [])
 buffered_whole writes x y out h =
-    let last = flushes (unwritten x) h.taken out (unwritten y) h.segments in
+    let last = segments_flushed (unwritten x) (unwritten y) h.taken out h.segments in
     let told : bytes_taken (out ++ WriteMark.flushed ∷ []) ≡ bytes_taken out = taken_both out (WriteMark.flushed ∷ [])
     ∙ append-nil (bytes_taken out) in
-    let front : bytes_taken h.taken ≡ bytes_taken last.0 = ap bytes_taken last.1
-    ∙ taken_both last.0 (WriteMark.flushed ∷ []) ∙ append-nil (bytes_taken last.0) in
+    let front : bytes_taken h.taken ≡ bytes_taken last.0.0 = ap bytes_taken last.0.1
+    ∙ taken_both last.0.0 (WriteMark.flushed ∷ []) ∙ append-nil (bytes_taken last.0.0) in
     let whole = sym
-    (ap (λ l. unwritten x ++ l) (sym told) ∙ h.balanced ∙ ap (λ l. bytes_taken h.taken ++ l) last.2
+    (ap (λ l. unwritten x ++ l) (sym told) ∙ h.balanced ∙ ap (λ l. bytes_taken h.taken ++ l) last.1
     ∙ append-nil (bytes_taken h.taken) ∙ front) in (
       record {
-        taken = last.0;
+        taken = last.0.0;
         all = whole;
         went =
-            subst (λ l. writes (writer_inner x) l (writer_inner y)) last.1 h.ran;
+            subst (λ l. writes (writer_inner x) l (writer_inner y)) last.0.1 h.ran;
       },
-      last.2,
+      last.1,
     )
 
 module _ {R W : Type 0} (reads : Runs ReadMark R) (writes : Runs WriteMark W) where

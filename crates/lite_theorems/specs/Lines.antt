@@ -36,9 +36,7 @@ abbrev pub limited : ℕ → List ReadMark → List ReadMark
 limited zero l = ReadMark.end ∷ ReadMark.end ∷ []
 limited (suc n) [] = []
 limited (suc n) (ReadMark.byte b ∷ l) = ReadMark.byte b ∷ limited n l
-limited (suc n) (ReadMark.pending ∷ l) = ReadMark.pending ∷ limited (suc n) l
-limited (suc n) (ReadMark.fault kind ∷ l) = ReadMark.fault kind ∷ limited (suc n) l
-limited (suc n) (ReadMark.end ∷ l) = ReadMark.end ∷ limited (suc n) l
+limited (suc n) (m ∷ l) = m ∷ limited (suc n) l
 
 -- the texts, each as a line
 abbrev pub as_lines : List (String Global) → List Line

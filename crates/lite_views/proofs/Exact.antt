@@ -15,11 +15,9 @@ module _ (p : Filling) (bs ys : List ℕ) where
   full : (last : List ReadMark) (u : Unit {0}) → Fulfils p last (Ok u) → TellsKnown bs last ys → (length p.0 ≡ p.1)
       × (ys ≡ bs)
   full [] u f s = (f.0, s)
-  full (ReadMark.end ∷ []) u f s = absurd f
-  full (ReadMark.end ∷ (m ∷ l)) u f s = absurd f
   full (ReadMark.fault kind ∷ l) u f s = absurd s
-  full (ReadMark.byte b ∷ l) u f s = absurd f
-  full (ReadMark.pending ∷ l) u f s = absurd f
+  full (ReadMark.end ∷ []) u f s = absurd f
+  full _ u f s = absurd f
 
 -- `read_exact`: the buffer has the bytes that came first, and the others are left
 pub exactly_read : (v : Result (Unit {0}) Error) (k : ℕ) (old new bs ys : List ℕ)

@@ -87,7 +87,7 @@ gathered_left reader held fold Keeps reads known P Q x knows here kept value =
     when_left (Gathers reader held fold Keeps reads) x P Q here (λ ins y ran. kept y ran.stays)
     (λ ins y v gives ran. let r = ran.folded in
     value y v ran.stays
-    (taken_up (fold x) ins v (held x) (held y) (known.left (reader x)) (known.left (reader y)) r.marks r.folded
+    (taken_up (fold x) ins v (held x) (held y) (known.left (reader x)) (known.left (reader y)) r.marks (r.cut, ran.ends)
     (knows_spends reads known (reader x) (reader y) r.marks knows r.came) gives))
 
 taken_all : (start : ℕ) (xs p q : List ℕ) → FoldsTo (appends ⊤ start).takes p xs q → q ≡ p ++ xs
@@ -97,12 +97,9 @@ taken_all start (x ∷ xs) p q h = rw (← append_assoc p (x ∷ []) xs, ← h.1
 module _ (start n : ℕ) (g bs ys : List ℕ) where
   at_end : (last : List ReadMark) → Appended ⊤ start g last (Ok n) → TellsKnown bs last ys → (bs ≡ [])
       × (length g ≡ start + n)
-  at_end [] a s = absurd a
-  at_end (ReadMark.byte b ∷ l) a s = absurd a
-  at_end (ReadMark.pending ∷ l) a s = absurd a
-  at_end (ReadMark.fault kind ∷ l) a s = absurd s
   at_end (ReadMark.end ∷ []) a s = (s.0, a)
-  at_end (ReadMark.end ∷ (m ∷ l)) a s = absurd a
+  at_end (ReadMark.fault kind ∷ l) a s = absurd s
+  at_end _ a s = absurd a
 
 -- all that is to come stands behind what stood there, and the value counts it
 pub all_appended : (start n : ℕ) (p q bs ys : List ℕ) → TakenUp (appends ⊤ start) p bs ys (Ok n) q

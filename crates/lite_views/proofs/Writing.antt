@@ -19,15 +19,12 @@ use Rattle.lite_io_base.specs.Laws.Known.{knows_spends}
 use Rattle.lite_io_base.specs.Stored.{Stored, Stores}
 use Rattle.lite_io_base.specs.Laws.Stored.{stores_kept}
 use Rattle.lite_io_base.specs.Marks.{ReadMark}
-use Rattle.lite_io_base.specs.Takings.{WriteMark, bytes_in, bytes_taken}
+use Rattle.lite_io_base.specs.Takings.{WriteMark, bytes_taken}
+use Rattle.lite_io_base.specs.Laws.Takings.{taken_both}
 use Rattle.lite_write.specs.Hands.{Hands}
 use Rattle.lite_write.specs.WriteAll.{Ended, HandsMarks, HandsOver, WritesAll}
 use Rattle.lite_views.proofs.Futures.{when_left}
 use Rattle.lite_views.specs.Waiting.{WhenLeft}
-
-bytes_both : (l m : List WriteMark) → bytes_taken (l ++ m) ≡ bytes_taken l ++ bytes_taken m
-bytes_both [] m = refl
-bytes_both (a ∷ l) m = rw (bytes_both l m) (sym (append_assoc (bytes_in a) (bytes_taken l) (bytes_taken m)))
 
 abbrev writes_of : List (List ℕ) → List WriteMark
 writes_of = map WriteMark.wrote
@@ -50,12 +47,12 @@ pub all_handed : (out : List (Poll (Result (Unit {0}) Error))) (offered left : L
     → Gives out (Ok u) → bytes_taken marks ≡ offered
 all_handed [] offered left marks u h g = absurd g
 all_handed (Pending ∷ out) offered left marks u ((first, rest, m, cut, w, more), up) g =
-    rw (segment_front offered m marks first rest Pending w cut, w.given.0, bytes_both)
+    rw (segment_front offered m marks first rest Pending w cut, w.given.0, taken_both)
     (rw (all_handed out m left rest u (more, up) g, w.given.2) (sym (handed_bytes w.taken offered w.between w.folds)))
 all_handed (Ready r ∷ out) offered left marks u h g =
     let w = to_value_last HandsMarks offered left marks r out h in
     let over = ended_ok w.between w.last u (rw (← g.0) w.given.0) in
-    rw (w.cut, bytes_both, over.1) (sym (rw over.0 at (handed_bytes w.taken offered w.between w.folds)))
+    rw (w.cut, taken_both, over.1) (sym (rw over.0 at (handed_bytes w.taken offered w.between w.folds)))
 
 -- `write_all`
 all_written : (v : Result (Unit {0}) Error) (out : List (Poll (Result (Unit {0}) Error)))

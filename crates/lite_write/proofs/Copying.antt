@@ -1,13 +1,13 @@
 -- The steps of `copy`.
-use Rattle.std.proofs.Common.{◌≡◌, ◌∙◌, ◌<◌, ◌+◌, ◌%◌, ◌^◌, ℕ, zero, suc, List, [], ◌∷◌, ◌++◌, Option, Some, None}
+use Rattle.std.proofs.Common.{◌≡◌, ◌∙◌, ◌<◌, ◌+◌, ◌%◌, ◌^◌, ℕ, List, [], ◌∷◌, ◌++◌, Option, Some, None}
 use Rattle.std.proofs.Common.{Result, Ok, Err, length, refl, ap, sym, subst, arith, append-nil}
 use Rattle.std.specs.IoError.{error_kind}
 use Rattle.std.specs.declared.io.Error.{Error}
 use Rattle.std.specs.declared.io.ErrorKind.TheVariants.{WriteZero}
-use Rattle.futures.specs.Poll.{OnPending}
 use Rattle.futures.specs.declared.task.Poll.{Poll}
 use Rattle.futures.specs.declared.task.Poll.TheVariants.{Ready, Pending}
-use Rattle.lite_buffered.specs.BufReader.{PassesBuffer, ThroughBuffer, ahead, reader_capacity}
+use Rattle.lite_buffered.specs.Laws.BufReader.{passes_some}
+use Rattle.lite_buffered.specs.BufReader.{ThroughBuffer, ahead, reader_capacity}
 use Rattle.lite_buffered.specs.Laws.BufReader.{through_laws}
 use Rattle.lite_buffered.specs.declared.buf_reader.BufReader.{BufReader}
 use Rattle.lite_io_base.specs.Marks.{ReadMark, bytes, filled}
@@ -38,12 +38,6 @@ no_waits (x ∷ xs) = no_waits xs
 bytes_go_on : (xs : List ℕ) → BytesAlone (bytes xs)
 bytes_go_on [] = tt
 bytes_go_on (x ∷ xs) = bytes_go_on xs
-
--- with a buffer, what was ahead and then came in is what went out and then is ahead
-passes_some : (n : ℕ) (p : List ℕ) (came out : List ReadMark) (q : List ℕ) → 0 < n → PassesBuffer n p came out q
-    → bytes p ++ came ≡ out ++ bytes q
-passes_some zero p came out q some h = absurd (omega (arith, some))
-passes_some (suc n) p came out q some h = h
 
 -- where only bytes went out, only bytes came in
 all_bytes : (p : List ℕ) (came : List ReadMark) (z : List ℕ) → bytes p ++ came ≡ bytes z → (xs : List ℕ)
@@ -281,8 +275,3 @@ module _ {R W : Type 0} (reads : Runs ReadMark R) (writes : Runs WriteMark W) (r
 pub is_copying : (a : Phase) → (a ≡ Flushing → ⊥) → a ≡ Copying
 is_copying Copying h = refl
 is_copying Flushing h = absurd (h refl)
-
--- what holds anyhow holds after a pending
-pub goes_again : {A P : Type 0} (r : Poll A) → P → OnPending r P
-goes_again Pending p = p
-goes_again (Ready a) p = tt

@@ -7,7 +7,6 @@ use Rattle.lite_base.specs.Runs.{Runs}
 -- no mark is a pending or an error
 abbrev pub Sinks : Runs WriteMark Sink
 Sinks x [] y = y ≡ x
-Sinks x (WriteMark.wrote xs ∷ l) y = Sinks x l y
-Sinks x (WriteMark.flushed ∷ l) y = Sinks x l y
-Sinks x (WriteMark.closed ∷ l) y = Sinks x l y
-Sinks x (m ∷ l) y = ⊥
+Sinks x (WriteMark.pending ∷ l) y = ⊥
+Sinks x (WriteMark.fault kind ∷ l) y = ⊥
+Sinks x (_ ∷ l) y = Sinks x l y

@@ -6,6 +6,7 @@ mod compared;
 mod entries;
 mod polls;
 mod refusing;
+mod shown;
 
 pub use calls::{
     Answered, by_kind, finishes, is_done, read, reads_byte, seek, told, try_read, try_read_both,
@@ -13,5 +14,6 @@ pub use calls::{
 };
 pub use compared::{gives, lends, try_read_room};
 pub use entries::{are, cursor_on, got, journal_on};
-pub use polls::{answers, firm, item, polled, ranked};
+pub use polls::{answers, firm, is_woken, item, polled, ranked};
 pub use refusing::Refusing;
+pub use shown::shows;

@@ -56,6 +56,17 @@ where
     Ok(out)
 }
 
+/// Whether the task is woken: it may not sleep.
+pub fn is_woken(solo: &Solo) -> bool {
+    match solo.sleep() {
+        Some(asleep) => {
+            asleep.end();
+            false
+        }
+        None => true,
+    }
+}
+
 /// An answer that is an item.
 pub fn item<T>(x: T) -> Poll<Option<T>>
     ensures { result ≡ Ready (Some x) }

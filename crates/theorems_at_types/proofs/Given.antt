@@ -17,21 +17,13 @@ none_left (Ready (Some y) ∷ own) t (x ∷ l) h e = absurd (cc h.0)
 script_given : {A : Type 0} (s own t : List (Answer A)) (l : List A) → Scripts s (own ++ end ∷ []) t
     → strip own ≡ map Some l → l ≡ items_given s
 script_given [] own t l h e = none_left own t l h e
-script_given (Pending ∷ s) [] t l h e = absurd (cc h.0)
 script_given (Ready None ∷ s) [] t [] h e = refl
-script_given (Ready None ∷ s) [] t (x ∷ l) h e = absurd (cc e)
-script_given (Ready (Some y) ∷ s) [] t l h e = absurd (cc h.0)
 script_given (Pending ∷ s) (Pending ∷ own) t l h e = script_given s own t l h.1 e
-script_given (Ready None ∷ s) (Pending ∷ own) t l h e = absurd (cc h.0)
-script_given (Ready (Some y) ∷ s) (Pending ∷ own) t l h e = absurd (cc h.0)
-script_given s (Ready None ∷ own) t [] h e = absurd (cc e)
-script_given s (Ready None ∷ own) t (x ∷ l) h e = absurd (cc e)
-script_given s (Ready (Some z) ∷ own) t [] h e = absurd (cc e)
-script_given (Pending ∷ s) (Ready (Some z) ∷ own) t (x ∷ l) h e = absurd (cc h.0)
-script_given (Ready None ∷ s) (Ready (Some z) ∷ own) t (x ∷ l) h e = absurd (cc h.0)
 script_given (Ready (Some y) ∷ s) (Ready (Some z) ∷ own) t (x ∷ l) h e =
     let same : x ≡ y = (let d = h.0 in cc) in
     rw (sym same) (ap (λ k. x ∷ k) (script_given s own t l h.1 (cc e)))
+script_given (_ ∷ s) (Ready None ∷ own) t [] h e = cc
+script_given (_ ∷ s) own t l h e = cc
 
 script_whole : {A : Type 0} (s t : List (Answer A)) (l : List A) → GivesWhole Scripts s l t → l ≡ items_given s
 script_whole s t l h = script_given s h.0 t l h.1 h.2

@@ -4,7 +4,6 @@ use Rattle.futures.specs.declared.task.Poll.{Poll}
 use Rattle.futures.specs.declared.task.Poll.TheVariants.{Ready, Pending}
 use Rattle.lite_base.specs.Calm.{CalmLaws, NoPending, waits}
 use Rattle.lite_base.specs.Runs.{Runs}
-use Rattle.std.specs.Prelude.{◌+◌, List, [], ◌∷◌}
 use denote.MutBor.{MutBor}
 use Rattle.lite_base.specs.Lent.{Lent}
 

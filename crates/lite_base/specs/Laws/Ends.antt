@@ -7,15 +7,18 @@ use Rattle.lite_base.specs.Chain.{After, Reaches}
 use Rattle.lite_base.specs.Laws.Chain.{Reaches-on, Reaches-then}
 use Rattle.lite_base.specs.Ends.{Terminates}
 
--- steps that lead to steps of what ends, end
-ends_map : {S T : Type 0} {next : S → S → Type 0} {next' : T → T → Type 0} (f : S → T)
-    → ((x y : S) → next x y → next' (f x) (f y)) → (t : T) → Terminates next' t → (x : S) → t ≡ f x → Terminates next x
-ends_map {next' = next'} f to t (Terminates.ends h) x e =
-    Terminates.ends (λ y s. ends_map f to (f y) (h (f y) (subst (λ k. next' k (f y)) (sym e) (to x y s))) y refl)
+ends_acc : {S X : Type 0} {next : S → S → Type 0} {≺ : X → X → Type 0} (f : S → X)
+    → ((x y : S) → next x y → ≺ (f y) (f x)) → (a : X) → Acc ≺ a → (x : S) → a ≡ f x → Terminates next x
+ends_acc {≺ = ≺} f to a (Acc.intro a' h) x e =
+    Terminates.ends (λ y s. ends_acc f to (f y) (h (f y) (subst (λ k. ≺ (f y) k) (sym e) (to x y s))) y refl)
 
+accessible : {T : Type 0} {next : T → T → Type 0} (t : T) → Terminates next t → Acc (λ u v. next v u) t
+accessible t (Terminates.ends h) = Acc.intro t (λ u s. accessible u (h u s))
+
+-- steps that lead to steps of what ends, end
 pub Terminates-map : {S T : Type 0} {next : S → S → Type 0} {next' : T → T → Type 0} (f : S → T)
     → ((x y : S) → next x y → next' (f x) (f y)) → (x : S) → Terminates next' (f x) → Terminates next x
-Terminates-map f to x h = ends_map f to (f x) h x refl
+Terminates-map {next' = next'} f to x h = ends_acc {≺ = λ u v. next' v u} f to (f x) (accessible (f x) h) x refl
 
 -- several steps at once end too
 ends_after : {S : Type 0} {next : S → S → Type 0} (x : S) → Terminates next x → (w : S) → Reaches next x w
@@ -28,11 +31,6 @@ ends_after x (Terminates.ends h) w p =
 pub Terminates-after : {S : Type 0} {next : S → S → Type 0} (x : S) → Terminates next x → Terminates (After next) x
 Terminates-after x h = ends_after x h x Reaches.stay
 
-ends_acc : {S X : Type 0} {next : S → S → Type 0} {≺ : X → X → Type 0} (f : S → X)
-    → ((x y : S) → next x y → ≺ (f y) (f x)) → (a : X) → Acc ≺ a → (x : S) → a ≡ f x → Terminates next x
-ends_acc {≺ = ≺} f to a (Acc.intro a' h) x e =
-    Terminates.ends (λ y s. ends_acc f to (f y) (h (f y) (subst (λ k. ≺ (f y) k) (sym e) (to x y s))) y refl)
-
 -- steps that lower a measure end
 pub Terminates-by : {S X : Type 0} {next : S → S → Type 0} (≺ : X → X → Type 0) → WellFounded ≺ → (f : S → X)
     → ((x y : S) → next x y → ≺ (f y) (f x)) → (x : S) → Terminates next x
@@ -42,11 +40,8 @@ pub Terminates-count : {S : Type 0} {next : S → S → Type 0} (f : S → ℕ) 
     → Terminates next x
 Terminates-count = Terminates-by ◌<◌ lt-wf_rel.wf
 
-ends_where : {S : Type 0} {next : S → S → Type 0} (P : S → Type 0) → ((x y : S) → P x → next x y → P y) → (x : S)
-    → Terminates (λ y z. P y × next y z) x → P x → Terminates next x
-ends_where P keeps x (Terminates.ends h) p = Terminates.ends (λ y s. ends_where P keeps y (h y (p, s)) (keeps x y p s))
-
 -- it is enough to look at values with a fact that the steps keep
 pub Terminates-where : {S : Type 0} {next : S → S → Type 0} (P : S → Type 0) → ((x y : S) → P x → next x y → P y)
     → (x : S) → P x → Terminates (λ y z. P y × next y z) x → Terminates next x
-Terminates-where P keeps x p h = ends_where P keeps x h p
+Terminates-where P keeps x p (Terminates.ends h) =
+    Terminates.ends (λ y s. Terminates-where P keeps y (keeps x y p s) (h y (p, s)))

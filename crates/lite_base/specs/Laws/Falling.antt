@@ -1,8 +1,9 @@
 -- What a falling rank gives.
-use Rattle.std.specs.Prelude.{◌≡◌, ℕ, zero, suc, ◌<◌, List, [], ◌∷◌, ◌++◌, length, Some, refl}
+use Rattle.std.specs.Prelude.{◌≡◌, ℕ, zero, suc, ◌<◌, ◌≤◌, List, [], ◌∷◌, ◌++◌, length, Some, refl}
 use Rattle.std.proofs.Common.{inl, inr, sym, ap, subst, ◌∙◌, arith, length-append}
 use Rattle.futures.specs.declared.task.Poll.TheVariants.{Ready, Pending}
 use mathlib.Core.WellFounded.{Acc, WellFounded}
+use Rattle.std.proofs.Math.Nat.{eq-or-lt_of_le}
 use lib.Measure.{by_dom}
 use lib.WfN.{lt-wf_rel}
 use Rattle.lite_base.specs.Answers.{Answer, Waiting, items}
@@ -70,6 +71,9 @@ pub Below-one : {m n k : ℕ} → AtMost (m ∷ []) (n ∷ []) → n < k → Bel
 Below-one {m} {n} (inl e) less = let same : m ≡ n = cc e in inl (omega (arith, same, less), refl)
 Below-one (inr (inl p)) less = inl (omega (arith, p.0, less), refl)
 Below-one (inr (inr p)) less = absurd p.1
+
+pub at_most_one : (m n : ℕ) → m ≤ n → AtMost (m ∷ []) (n ∷ [])
+at_most_one m n h = elim (eq-or-lt_of_le h) [ inl e ↦ inl (ap (λ k. k ∷ []) e) | inr p ↦ inr (inl (p, refl)) ]
 
 pub Lowers-at_most : {A : Type 0} (l : List (Answer A)) (xs ys : List ℕ) → Lowers l xs ys → AtMost xs ys
 Lowers-at_most [] xs ys h = h

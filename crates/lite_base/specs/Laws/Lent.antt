@@ -16,7 +16,7 @@ lent_stays : {S A : Type 0} (run : Runs A S) → ((x y : S) → run x [] y → y
     → y ≡ x
 lent_stays {S = S} run stays x y h = h.1 ∙ ap (λ (v : S). record x { now = v }) (stays x.now y.now h.0)
 
-lent_still : {S : Type 0} (x y z : MutBor S) → y ≡ record x { now = y.now } → z ≡ record y { now = z.now }
+pub lent_still : {S : Type 0} (x y z : MutBor S) → y ≡ record x { now = y.now } → z ≡ record y { now = z.now }
     → z ≡ record x { now = z.now }
 lent_still {S} x y z e d = d ∙ ap (λ (r : MutBor S). record r { now = z.now }) e
 

@@ -2,32 +2,26 @@
 -- end.
 use Rattle.std.proofs.lemmas.List.{drop_all, take_all}
 use Rattle.std.proofs.Common.{◌≡◌, ◌∙◌, ℕ, ◌+◌, ◌-◌, List, [], ◌∷◌, ◌++◌, length}
-use Rattle.std.proofs.Common.{refl, ap, sym, arith, append_assoc, append-nil, length-append}
+use Rattle.std.proofs.Common.{ap, sym, arith, append-nil, length-append}
 use Rattle.std.specs.Prelude.{⊤}
-use Rattle.lite_io_base.specs.Known.{Known, TellsKnown}
-use Rattle.lite_io_base.specs.Marks.{ReadMark}
+use Rattle.lite_io_base.specs.Known.{Known}
+use Rattle.lite_io_base.specs.Laws.Known.{told_spends}
 use Rattle.lite_io_base.specs.Stored.{Stored}
 use Rattle.lite_io_base.specs.Takings.{WriteMark, bytes_taken}
 use Rattle.lite_bridge.specs.Cursor.{CursorReads, CursorWrites, bytes_left}
+use Rattle.lite_bridge.specs.Laws.Cursor.{cursor_told}
+use Rattle.lite_bridge.specs.Laws.SteadyWrite.{puts_all}
 use Rattle.lite_bridge.specs.Put.{Puts}
 use Rattle.lite_bridge.specs.declared.cursor.Cursor.{Cursor}
 
 module _ {T : Type 0} (bytes : T → List ℕ) where
-  pub moves_spends : (x y : Cursor T) (l : List ReadMark) → CursorReads bytes x l y
-      → TellsKnown (bytes_left bytes x) l (bytes_left bytes y)
-  moves_spends x y [] h = ap (bytes_left bytes) h
-  moves_spends x y (ReadMark.byte b ∷ l) h = (bytes_left bytes h.0, h.1.0, moves_spends h.0 y l h.2)
-  moves_spends x y (ReadMark.end ∷ l) h =
-      (h.1.0, rw (← h.1.1) (moves_spends h.0 y l h.2))
-  moves_spends x y (_ ∷ l) h = absurd h.1
-
   abbrev pub cursor_known : Known (Cursor T)
   cursor_known =
       record {
         told = CursorReads bytes;
         knows = λ x. ⊤;
         left = bytes_left bytes;
-        tells = λ x y l k h. (tt, moves_spends x y l h);
+        tells = λ x y l k h. (tt, told_spends (bytes_left bytes x) (bytes_left bytes y) l (cursor_told bytes x y l h));
       }
 
 -- what stands at the end of a list, put there
@@ -36,7 +30,7 @@ put_behind xs [] ys at e h = h ∙ sym (append-nil xs)
 put_behind xs (b ∷ new) ys at e h =
     let none : at - length xs ≡ 0 = omega (arith, e) in
     let behind = drop_all (at + length (b ∷ new)) xs (omega (arith, e)) in
-    h ∙ rw (take_all at xs (omega (arith, e)), none, behind) (simp append-nil refl)
+    h ∙ rw (take_all at xs (omega (arith, e)), none, behind) (simp append-nil)
 
 module _ {T : Type 0} (bytes : T → List ℕ) (puts : T → ℕ → List ℕ → T → Type 0) (refuses : T → T → Type 0) where
   -- a write puts the bytes at its place, and one that was refused changes none
@@ -50,23 +44,10 @@ module _ {T : Type 0} (bytes : T → List ℕ) (puts : T → ℕ → List ℕ �
   pub overwrites_kept : (x y : Cursor T) (l : List WriteMark) → PutsBytes → CursorAtEnd x
       → CursorWrites puts refuses x l y
       → CursorAtEnd y × (bytes y.inner ≡ bytes x.inner ++ bytes_taken l)
-  overwrites_kept x y [] law at h =
-      rw h (at, sym (append-nil (bytes x.inner)))
-  overwrites_kept x y (WriteMark.wrote new ∷ l) law at (m, step, more) =
-      let put = put_behind (bytes x.inner) new (bytes m.inner) x.position at
-      (law.0 x.inner m.inner x.position new step.0) in
-      let moved : CursorAtEnd m = step.1 ∙ ap (λ n. n + length new) at
-      ∙ sym (ap length put ∙ length-append (bytes x.inner) new) in
-      let rest = overwrites_kept m y l law moved more in
-      (rest.0, rest.1 ∙ ap (λ z. z ++ bytes_taken l) put ∙ append_assoc (bytes x.inner) new (bytes_taken l))
-  overwrites_kept x y (WriteMark.fault kind ∷ l) law at (m, step, more) =
-      let same = law.1 x.inner m.inner step.1 in
-      let rest = overwrites_kept m y l law (step.2 ∙ at ∙ ap length (sym same)) more in
-      (rest.0, rest.1 ∙ ap (λ z. z ++ bytes_taken l) same)
-  overwrites_kept x y (WriteMark.pending ∷ l) law at (m, step, more) = absurd step
-  overwrites_kept x y (_ ∷ l) law at (m, step, more) =
-      let rest = overwrites_kept m y l law (rw step at) more in
-      (rest.0, rest.1 ∙ ap (λ (z : Cursor T). bytes z.inner ++ bytes_taken l) step)
+  overwrites_kept x y l law at h =
+      let p = puts_all bytes (λ x at new y. law.0 x y at new) law.1 x y l h in
+      let all = put_behind (bytes x.inner) (bytes_taken l) (bytes y.inner) x.position at p.all in
+      (omega (arith, p.place, at, ap length all, length-append (bytes x.inner) (bytes_taken l)), all)
 
   -- a cursor that stands at the end of its bytes
   abbrev pub cursor_stored : Stored (Cursor T)

@@ -1,7 +1,7 @@
 -- Laws of reads and writes of std.
-use Rattle.std.proofs.Common.{◌≡◌, ◌<◌, ◌∙◌, ℕ, List, [], ◌∷◌, ◌++◌, append-nil, append_assoc, length, take, ap, arith}
+use Rattle.std.proofs.Common.{◌≡◌, ◌<◌, ◌∙◌, ℕ, List, [], ◌∷◌, ◌++◌, length, take, ap, arith}
 use Rattle.std.proofs.Common.{refl, subst, sym}
-use Rattle.std.specs.Prelude.{Option, None, Some, Result, Ok, Err}
+use Rattle.std.specs.Prelude.{Option, None, Some, Result, Ok, Err, ⊤}
 use Rattle.std.specs.Io.{ReadsAtMost}
 use Rattle.std.specs.Io.KnownBytes.{Keeps, ReadConsumes, WriteAppends}
 use Rattle.std.specs.Io.Seek.{IsSeekTarget, SeekMoves, StaysAt}
@@ -11,16 +11,18 @@ use Rattle.std.specs.declared.io.traits.SeekFrom.TheVariants.{End}
 use Rattle.futures.specs.declared.task.Poll.{Poll}
 use Rattle.futures.specs.declared.task.Poll.TheVariants.{Pending, Ready}
 use Rattle.lite_io_base.specs.Kinds.{by_kind}
+use Rattle.lite_io_base.specs.Laws.Grows.{growing_laws, grows_all, grows_no_pending}
 use Rattle.lite_io_base.specs.Marks.{ReadMark, bytes, moved, read_marks}
 use Rattle.lite_io_base.specs.Runs.{CalmMarks, MarkLaws}
 use Rattle.lite_io_base.specs.Laws.SteadyWrite.{never_waits_both}
-use Rattle.lite_io_base.specs.Laws.Steady.{no_wait_both, no_wait_bytes}
+use Rattle.lite_io_base.specs.Laws.Steady.{no_wait_both, no_wait_moved, told_one_tale}
 use Rattle.lite_io_base.specs.Steady.{CalmReadLaws, NoPendingRead, SteadyReadLaws, strip_marks}
-use Rattle.lite_io_base.specs.SteadyWrite.{CalmWriteLaws, NoPendingWrite, SteadyWriteLaws}
+use Rattle.lite_io_base.specs.SteadyWrite.{CalmWriteLaws, SteadyWriteLaws}
 use Rattle.lite_io_base.specs.Takings.{WriteMark, bytes_taken, done_marks, write_marks}
+use Rattle.lite_io_base.specs.Told.{TellsScript}
 use Rattle.lite_base.specs.Answers.{Comparable}
 use Rattle.lite_base.specs.Runs.{Runs}
-use Rattle.lite_bridge.specs.Known.{GainsBytes, GainsKnown, MovesKnown, NoFault, SameKnown, SpendsBytes, SpendsKnown}
+use Rattle.lite_bridge.specs.Known.{GainsKnown, MovesKnown, NoFault, SameKnown, SpendsBytes, SpendsKnown}
 use Rattle.lite_bridge.specs.Known.{SpendsWell, WhereKnown, known_bytes}
 
 spends_follows : (x y z : List ℕ) (l m : List ReadMark) → SpendsBytes x l y → SpendsBytes y m z
@@ -80,52 +82,30 @@ pub spends_calm : {S : Type 0} (remaining : S → Option (List ℕ))
     → CalmReadLaws (λ (x : S) l y. SpendsKnown (remaining x) l (remaining y)) (λ x. Unit {0})
 spends_calm = known_calm tt no_wait_both (record { rests = λ xs. refl; follows = spends_follows }) spends_no_wait
 
-gains_follows : (x y z : List ℕ) (l m : List WriteMark) → GainsBytes x l y → GainsBytes y m z → GainsBytes x (l ++ m) z
-gains_follows x y z [] m h k = rw (← h) k
-gains_follows x y z (WriteMark.wrote xs ∷ l) m h k = gains_follows (x ++ xs) y z l m h k
-gains_follows x y z (WriteMark.pending ∷ l) m h k = absurd h
-gains_follows x y z (_ ∷ l) m h k = gains_follows x y z l m h k
-
-gains_never_wait : (x y : List ℕ) (l : List WriteMark) → GainsBytes x l y → NoPendingWrite l
-gains_never_wait x y [] h = tt
-gains_never_wait x y (WriteMark.wrote xs ∷ l) h = gains_never_wait (x ++ xs) y l h
-gains_never_wait x y (WriteMark.pending ∷ l) h = absurd h
-gains_never_wait x y (_ ∷ l) h = gains_never_wait x y l h
-
 -- a writer whose bytes are known at some values
 pub gains_laws : {S : Type 0} (contents : S → Option (List ℕ))
     → MarkLaws (λ x l y. GainsKnown (contents x) l (contents y))
-gains_laws = known_laws tt never_waits_both (record { rests = λ xs. refl; follows = gains_follows }) gains_never_wait
+gains_laws = known_laws tt never_waits_both (growing_laws (λ _. ⊤)) (grows_no_pending (λ _. ⊤))
 
 -- it is never pending
 pub gains_calm : {S : Type 0} (contents : S → Option (List ℕ))
     → CalmWriteLaws (λ (x : S) l y. GainsKnown (contents x) l (contents y)) (λ x. Unit {0})
-gains_calm = known_calm tt never_waits_both (record { rests = λ xs. refl; follows = gains_follows }) gains_never_wait
+gains_calm = known_calm tt never_waits_both (growing_laws (λ _. ⊤)) (grows_no_pending (λ _. ⊤))
 
 no_fault_both : (l m : List ReadMark) → NoFault l → NoFault m → NoFault (l ++ m)
 no_fault_both [] m h k = k
 no_fault_both (ReadMark.fault kind ∷ l) m h k = absurd h
 no_fault_both (_ ∷ l) m h k = no_fault_both l m h k
 
--- of the same bytes one tale is told, where no read failed
-spends_one_tale : (x y z : List ℕ) (l m : List ReadMark) → SpendsBytes x l y → SpendsBytes x m z → NoFault l → NoFault m
-    → Comparable (strip_marks l) (strip_marks m)
-spends_one_tale x y z [] m h k n o = tt
-spends_one_tale x y z (ReadMark.pending ∷ l) m h k n o = absurd h
-spends_one_tale x y z (ReadMark.fault kind ∷ l) m h k n o = absurd n
-spends_one_tale x y z (ReadMark.byte b ∷ l) [] h k n o = tt
-spends_one_tale x y z (ReadMark.end ∷ l) [] h k n o = tt
-spends_one_tale x y z (ReadMark.byte b ∷ l) (ReadMark.pending ∷ m) h k n o = absurd k
-spends_one_tale x y z (ReadMark.end ∷ l) (ReadMark.pending ∷ m) h k n o = absurd k
-spends_one_tale [] y z (ReadMark.byte b ∷ l) (ReadMark.byte c ∷ m) h k n o = absurd h
-spends_one_tale (a ∷ x) y z (ReadMark.byte b ∷ l) (ReadMark.byte c ∷ m) h k n o =
-    (ap ReadMark.byte (h.0 ∙ sym k.0), spends_one_tale x y z l m h.1 k.1 n o)
-spends_one_tale [] y z (ReadMark.byte b ∷ l) (ReadMark.end ∷ m) h k n o = absurd h
-spends_one_tale (a ∷ x) y z (ReadMark.byte b ∷ l) (ReadMark.end ∷ m) h k n o = absurd (cc k.0)
-spends_one_tale [] y z (ReadMark.end ∷ l) (ReadMark.byte c ∷ m) h k n o = absurd k
-spends_one_tale (a ∷ x) y z (ReadMark.end ∷ l) (ReadMark.byte c ∷ m) h k n o = absurd (cc h.0)
-spends_one_tale x y z (ReadMark.end ∷ l) (ReadMark.end ∷ m) h k n o = (refl, spends_one_tale x y z l m h.1 k.1 n o)
-spends_one_tale x y z (_ ∷ l) (ReadMark.fault kind ∷ m) h k n o = absurd o
+-- where no read failed, the bytes are told in their order
+spends_told : (x y : List ℕ) (l : List ReadMark) → SpendsBytes x l y → NoFault l → TellsScript (bytes x) l (bytes y)
+spends_told x y [] h n = ap bytes h
+spends_told [] y (ReadMark.byte b ∷ l) h n = absurd h
+spends_told (a ∷ x) y (ReadMark.byte b ∷ l) h n = (ap ReadMark.byte h.0, spends_told x y l h.1 n)
+spends_told x y (ReadMark.pending ∷ l) h n = absurd h
+spends_told x y (ReadMark.fault kind ∷ l) h n = absurd n
+spends_told [] y (ReadMark.end ∷ l) h n = (refl, spends_told [] y l h.1 n)
+spends_told (a ∷ x) y (ReadMark.end ∷ l) h n = absurd (cc h.0)
 
 known_one_tale : (x x' y z : Option (List ℕ)) (l m : List ReadMark) → SameKnown x x' → SpendsWell x l y
     → SpendsWell x' m z
@@ -133,7 +113,8 @@ known_one_tale : (x x' y z : Option (List ℕ)) (l m : List ReadMark) → SameKn
 known_one_tale (Some xs) (Some ys) None z l m e h k = absurd h.0
 known_one_tale (Some xs) (Some ys) (Some y) None l m e h k = absurd k.0
 known_one_tale (Some xs) (Some ys) (Some y) (Some z) l m e h k =
-    spends_one_tale xs y z l m h.0 (rw e k.0) h.1 k.1
+    told_one_tale (bytes xs) (bytes ys) (bytes y) (bytes z) l m (rw e) (spends_told xs y l h.0 h.1)
+    (spends_told ys z m k.0 k.1)
 known_one_tale _ _ y z l m e h k = absurd e
 
 -- two readers of which the same bytes are known tell one tale, where no read failed
@@ -152,12 +133,6 @@ spends_steady remaining =
       found = λ n. absurd n;
     }
 
-gains_all : (x y : List ℕ) (l : List WriteMark) → GainsBytes x l y → y ≡ x ++ bytes_taken l
-gains_all x y [] h = h ∙ sym (append-nil x)
-gains_all x y (WriteMark.wrote xs ∷ l) h = gains_all (x ++ xs) y l h ∙ append_assoc x xs (bytes_taken l)
-gains_all x y (WriteMark.pending ∷ l) h = absurd h
-gains_all x y (_ ∷ l) h = gains_all x y l h
-
 abbrev OneContents : Option (List ℕ) → Option (List ℕ) → Type 0
 OneContents x y = (known_bytes x ≡ known_bytes y) × SameKnown x y
 
@@ -166,8 +141,8 @@ one_contents : (x y p q : Option (List ℕ)) (l m : List WriteMark) → SameKnow
 one_contents (Some xs) (Some ys) None q l m e h k same = absurd h
 one_contents (Some xs) (Some ys) (Some ps) None l m e h k same = absurd k
 one_contents (Some xs) (Some ys) (Some ps) (Some qs) l m e h k same =
-    let one = gains_all xs ps l h ∙ ap (λ t. t ++ bytes_taken l) e ∙ ap (λ t. ys ++ t) same
-    ∙ sym (gains_all ys qs m k) in
+    let one = grows_all (λ _. ⊤) xs ps l h ∙ ap (λ t. t ++ bytes_taken l) e ∙ ap (λ t. ys ++ t) same
+    ∙ sym (grows_all (λ _. ⊤) ys qs m k) in
     (one, one)
 one_contents _ _ p q l m e h k same = absurd e
 
@@ -182,11 +157,6 @@ gains_steady contents =
     }
 
 -- Calls of std's traits, after calls that failed and so kept what is known.
-no_wait_moved : (room xs : List ℕ) → NoPendingRead (moved room xs)
-no_wait_moved room (x ∷ xs) = no_wait_bytes xs
-no_wait_moved (r ∷ room) [] = tt
-no_wait_moved [] [] = tt
-
 spends_front : (xs ys : List ℕ) → SpendsBytes (xs ++ ys) (bytes xs) ys
 spends_front [] ys = refl
 spends_front (x ∷ xs) ys = (refl, spends_front xs ys)
@@ -226,7 +196,7 @@ write_gains (Some xs) None z r buf k h = absurd k
 write_gains (Some xs) (Some ys) None (Ok n) buf k h = absurd h
 write_gains (Some xs) (Some ys) None (Err e) buf k h = absurd h
 write_gains (Some xs) (Some ys) (Some zs) (Ok n) buf k h = h ∙ ap (λ t. t ++ take n buf) k
-write_gains (Some xs) (Some ys) (Some zs) (Err e) buf k h = h ∙ k
+write_gains (Some xs) (Some ys) (Some zs) (Err e) buf k h = (tt, h ∙ k)
 
 pub flush_gains : (x y z : Option (List ℕ)) (r : Result (Unit {0}) Error) → Keeps x y → Keeps y z
     → GainsKnown x (done_marks WriteMark.flushed (Ready r)) z
@@ -235,7 +205,7 @@ flush_gains None y z (Err e) k h = tt
 flush_gains (Some xs) None z r k h = absurd k
 flush_gains (Some xs) (Some ys) None r k h = absurd h
 flush_gains (Some xs) (Some ys) (Some zs) (Ok u) k h = h ∙ k
-flush_gains (Some xs) (Some ys) (Some zs) (Err e) k h = h ∙ k
+flush_gains (Some xs) (Some ys) (Some zs) (Err e) k h = (tt, h ∙ k)
 
 -- a close is a flush
 pub close_gains : (x y : Option (List ℕ)) (r : Poll (Result (Unit {0}) Error))

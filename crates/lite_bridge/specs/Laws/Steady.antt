@@ -1,32 +1,22 @@
 -- Cursors over equal bytes tell one tale, and none is ever pending.
-use Rattle.std.proofs.Common.{◌≡◌, ℕ, List, [], ◌∷◌, ap, refl}
+use Rattle.std.proofs.Common.{◌≡◌, ℕ, List, ap}
 use Rattle.std.specs.Prelude.{⊤}
 use Rattle.lite_base.specs.Answers.{Comparable}
 use Rattle.lite_io_base.specs.Laws.Steady.{no_wait_bytes, told_no_wait, told_one_tale, steady_read_always}
 use Rattle.lite_io_base.specs.Laws.Steps.{steps_laws}
 use Rattle.lite_io_base.specs.Marks.{ReadMark, bytes as marks_of}
 use Rattle.lite_io_base.specs.Steady.{CalmReadLaws, SteadyReadLaws, strip_marks}
-use Rattle.lite_io_base.specs.Told.{TellsScript}
 use Rattle.lite_bridge.specs.declared.cursor.Cursor.{Cursor}
 use Rattle.lite_bridge.specs.Cursor.{CursorReads, ReadStep, bytes_left}
+use Rattle.lite_bridge.specs.Laws.Cursor.{cursor_told}
 
 module _ {T : Type 0} (bytes : T → List ℕ) where
-  -- what is left is what is told
-  moves_told : (x y : Cursor T) (l : List ReadMark) → CursorReads bytes x l y
-      → TellsScript (marks_of (bytes_left bytes x)) l (marks_of (bytes_left bytes y))
-  moves_told x y [] h = ap (λ c. marks_of (bytes_left bytes c)) h
-  moves_told x y (ReadMark.byte b ∷ l) h = rw h.1.0 (refl, moves_told h.0 y l h.2)
-  moves_told x y (ReadMark.end ∷ l) h =
-      let rest = rw h.1.1 at (moves_told h.0 y l h.2) in
-      rw h.1.0 (refl, rw h.1.0 at rest)
-  moves_told x y (_ ∷ l) h = absurd h.1
-
   same_left : (x y x' y' : Cursor T) (l m : List ReadMark) → bytes_left bytes x ≡ bytes_left bytes y
       → CursorReads bytes x l x' → CursorReads bytes y m y' → Comparable (strip_marks l) (strip_marks m)
   same_left x y x' y' l m e h k =
       let same = ap (λ xs. strip_marks (marks_of xs)) e in
       told_one_tale (marks_of (bytes_left bytes x)) (marks_of (bytes_left bytes y)) (marks_of (bytes_left bytes x'))
-      (marks_of (bytes_left bytes y')) l m same (moves_told x x' l h) (moves_told y y' m k)
+      (marks_of (bytes_left bytes y')) l m same (cursor_told bytes x x' l h) (cursor_told bytes y y' m k)
 
   pub cursor_steady : SteadyReadLaws (CursorReads bytes) (CursorReads bytes) ⊤
       (λ x y. bytes_left bytes x ≡ bytes_left bytes y)
@@ -37,6 +27,6 @@ module _ {T : Type 0} (bytes : T → List ℕ) where
       record {
         no_pending = λ x y l n h.
             (told_no_wait (marks_of (bytes_left bytes x)) (marks_of (bytes_left bytes y)) l
-            (no_wait_bytes (bytes_left bytes x)) (moves_told x y l h)).0;
+            (no_wait_bytes (bytes_left bytes x)) (cursor_told bytes x y l h)).0;
         calm_on = λ x y l n h. tt;
       }

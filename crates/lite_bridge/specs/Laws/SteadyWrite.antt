@@ -1,5 +1,5 @@
 -- Cursors over equal bytes, at one place, leave equal bytes, and none is ever pending.
-use Rattle.std.proofs.Common.{◌≡◌, ◌∙◌, ◌+◌, ℕ, List, [], ◌∷◌, length, ap, subst, sym, arith, add-zero, length-append}
+use Rattle.std.proofs.Common.{◌≡◌, ◌∙◌, ◌+◌, ℕ, List, [], ◌∷◌, length, ap, sym, arith, add-zero, length-append}
 use Rattle.std.proofs.Common.{Global}
 use Rattle.std.specs.Prelude.{⊤}
 use Rattle.lite_io_base.specs.SteadyWrite.{CalmWriteLaws, NoPendingWrite, SteadyWriteLaws}
@@ -21,11 +21,11 @@ module _ {T : Type 0} (bytes : T → List ℕ) {puts : T → ℕ → List ℕ �
     (put : (x : T) (at : ℕ) (xs : List ℕ) (y : T) → puts x at xs y → Puts (bytes x) at xs (bytes y))
     (stays : (x y : T) → refuses x y → bytes y ≡ bytes x) where
   -- all that was taken is put where the cursor stood
-  pub record PutsAll (x : Cursor T) (l : List WriteMark) (y : Cursor T) : Type 0 where
-    pub all : Puts (bytes x.inner) x.position (bytes_taken l) (bytes y.inner)
-    pub place : y.position ≡ x.position + length (bytes_taken l)
+  pub record PutsAll (x : Cursor T) (taken : List ℕ) (y : Cursor T) : Type 0 where
+    pub all : Puts (bytes x.inner) x.position taken (bytes y.inner)
+    pub place : y.position ≡ x.position + length taken
 
-  puts_all : (x y : Cursor T) (l : List WriteMark) → CursorWrites puts refuses x l y → PutsAll x l y
+  pub puts_all : (x y : Cursor T) (l : List WriteMark) → CursorWrites puts refuses x l y → PutsAll x (bytes_taken l) y
   puts_all x y [] h =
       record {
         all = ap (λ c. bytes c.inner) h;
@@ -49,10 +49,7 @@ module _ {T : Type 0} (bytes : T → List ℕ) {puts : T → ℕ → List ℕ �
         place = omega (arith, rest.place, at);
       }
   puts_all x y (WriteMark.pending ∷ l) h = absurd h.1
-  puts_all x y (_ ∷ l) h = let r = rw h.1 at (puts_all h.0 y l h.2) in record {
-    all = r.all;
-    place = r.place;
-  }
+  puts_all x y (_ ∷ l) h = rw h.1 at (puts_all h.0 y l h.2)
 
   no_pending : (x y : Cursor T) (l : List WriteMark) → CursorWrites puts refuses x l y → NoPendingWrite l
   no_pending x y [] h = tt
@@ -68,11 +65,8 @@ module _ {T : Type 0} (bytes : T → List ℕ) {puts : T → ℕ → List ℕ �
         steady = λ x y x' y' l m e h k a b f g same.
             let p = puts_all x x' l h in
             let q = puts_all y y' m k in
-            let moved = subst (λ ys. Puts (bytes y.inner) y.position ys (bytes x'.inner)) same
-            (subst (λ (n : ℕ). Puts (bytes y.inner) n (bytes_taken l) (bytes x'.inner)) e.1
-            (subst (λ a. Puts a x.position (bytes_taken l) (bytes x'.inner)) e.0 p.all)) in
             let one = puts_one (bytes y.inner) (bytes x'.inner) (bytes y'.inner) y.position
-            (bytes_taken m) moved q.all in
+            (bytes_taken m) (rw (e.0, e.1, same) at p.all) q.all in
             let place : x'.position ≡ y'.position = omega (arith, p.place, q.place, e.1, ap length same) in
             (one, (one, place));
       }

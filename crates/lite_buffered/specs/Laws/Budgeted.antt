@@ -1,14 +1,14 @@
 -- Laws of a reader with a budget.
 use Rattle.std.proofs.Common.{◌≡◌, ◌∙◌, ◌+◌, ◌-◌, ℕ, zero, suc, List, [], ◌∷◌, ◌++◌, Option, Some, None, inl, inr}
 use Rattle.std.proofs.Common.{refl, ap, length, take, subst, sym, arith}
-use Rattle.std.specs.Prelude.{⊤}
 use Rattle.lite_base.specs.Answers.{Comparable}
 use Rattle.lite_base.specs.Laws.Paces.{paces_follow}
 use Rattle.lite_base.specs.Runs.{Runs}
 use Rattle.lite_io_base.specs.Counting.{ReadCounting}
 use Rattle.lite_io_base.specs.Falls.{Falls}
 use Rattle.lite_io_base.specs.Known.{Known, TellsKnown}
-use Rattle.lite_io_base.specs.Laws.Steady.{comparable_none}
+use Rattle.lite_io_base.specs.Laws.Lent.{calm_part}
+use Rattle.lite_io_base.specs.Laws.SteadyWrite.{steady_write_part}
 use Rattle.lite_io_base.specs.Marks.{AllGiven, ReadMark, bytes}
 use Rattle.lite_io_base.specs.Runs.{MarkLaws, Shows}
 use Rattle.lite_io_base.specs.Steady.{SteadyReadLaws, strip_marks}
@@ -21,38 +21,29 @@ use Rattle.lite_buffered.specs.declared.budgeted.Budgeted.{Budgeted}
 -- what may be lent of what came in is the front of what goes out
 paced_shows : (p q : ℕ × ℕ) (lent : List ℕ) (i o : List ReadMark) → PacesMarks p i o q → Comparable (bytes lent) i
     → Comparable (bytes (take p.1 lent)) o
-paced_shows (budget, zero) q [] i o h c = tt
-paced_shows (budget, suc n) q [] i o h c = tt
-paced_shows (budget, zero) q (b ∷ lent) i o h c = tt
-paced_shows (budget, suc n) q (b ∷ lent) i [] h c = tt
 paced_shows (budget, suc n) q (b ∷ lent) i (m ∷ o) (inl h) c = absurd (omega (arith, h.0))
 paced_shows (budget, suc n) q (b ∷ lent) i (m ∷ o) (inr h) c =
     let e = rw h.2 at c in
     let one : suc n - 1 ≡ n = omega arith in
     let rest = subst (λ a. PacesMarks (budget, left_behind_mark budget a (suc n)) h.1 o q) (sym e.0) h.3 in
     (e.0, paced_shows (budget, n) q lent h.1 o (subst (λ k. PacesMarks (budget, k) h.1 o q) one rest) e.1)
+paced_shows p q lent i o h c = tt
 
 -- bytes and errors alone use as many of the budget
 paced_falls : (p q : ℕ × ℕ) (i o : List ReadMark) → PacesMarks p i o q → AllGiven o → q.1 + length o ≡ p.1
 paced_falls p q i [] h g = rw h.1 (omega arith)
 paced_falls p q i (m ∷ o) (inl h) g = absurd (subst (λ a. AllGiven (a ∷ [])) h.1 (g.0, tt)).0
-paced_falls p q i (ReadMark.byte b ∷ o) (inr h) g =
-    let e = paced_falls (p.0, p.1 - 1) q h.1 o h.3 g.1 in omega (arith, e, h.0)
-paced_falls p q i (ReadMark.fault kind ∷ o) (inr h) g =
-    let e = paced_falls (p.0, p.1 - 1) q h.1 o h.3 g.1 in omega (arith, e, h.0)
 paced_falls p q i (ReadMark.pending ∷ o) (inr h) g = absurd g.0
 paced_falls p q i (ReadMark.end ∷ o) (inr h) g = absurd g.0
+paced_falls p q i (_ ∷ o) (inr h) g = let e = paced_falls (p.0, p.1 - 1) q h.1 o h.3 g.1 in omega (arith, e, h.0)
 
 -- pendings aside, what goes out came in
 paced_tale : (p q : ℕ × ℕ) (i o : List ReadMark) → PacesMarks p i o q → strip_marks o ≡ strip_marks i
 paced_tale p q i [] h = rw h.0 refl
 paced_tale p q i (m ∷ o) (inl h) = rw h.1 (paced_tale (p.0, p.0) q i o h.2)
-paced_tale p q i (ReadMark.byte b ∷ o) (inr h) =
-    rw h.2 (ap (λ l. ReadMark.byte b ∷ l) (paced_tale (p.0, p.1 - 1) q h.1 o h.3))
 paced_tale p q i (ReadMark.pending ∷ o) (inr h) = rw h.2 (paced_tale (p.0, p.0) q h.1 o h.3)
-paced_tale p q i (ReadMark.fault kind ∷ o) (inr h) =
-    rw h.2 (ap (λ l. ReadMark.fault kind ∷ l) (paced_tale (p.0, p.1 - 1) q h.1 o h.3))
-paced_tale p q i (ReadMark.end ∷ o) (inr h) = rw h.2 (ap (λ l. ReadMark.end ∷ l) (paced_tale p q h.1 o h.3))
+paced_tale p q i (m ∷ o) (inr h) =
+    rw h.2 (ap (λ l. m ∷ l) (paced_tale (p.0, left_behind_mark p.0 m p.1) q h.1 o h.3))
 
 pub paced_spends : (p q : ℕ × ℕ) (i o : List ReadMark) (xs ys : List ℕ) → PacesMarks p i o q → TellsKnown xs i ys
     → TellsKnown xs o ys
@@ -140,16 +131,8 @@ module _ {R : Type 0} {writes : Runs WriteMark R} where
   pub within_steady : {alike : R → R → Type 0} {below : R → List ℕ} → SteadyWriteLaws writes alike below
       → SteadyWriteLaws (WritesWithin writes) (λ (x y : Budgeted R). alike x.reader y.reader)
       (λ x. below x.reader)
-  within_steady s =
-      record {
-        steady = λ x y x' y' l m e h k a b f g same.
-            s.steady x.reader y.reader x'.reader y'.reader l m e h.0 k.0 a b f g same;
-      }
+  within_steady = steady_write_part (λ x. x.reader) (λ x y l h. h.0)
 
   pub within_calm : {is_calm : R → Type 0} → CalmWriteLaws writes is_calm
       → CalmWriteLaws (WritesWithin writes) (λ (x : Budgeted R). is_calm x.reader)
-  within_calm c =
-      record {
-        no_pending = λ x y l k h. c.no_pending x.reader y.reader l k h.0;
-        calm_on = λ x y l k h. c.calm_on x.reader y.reader l k h.0;
-      }
+  within_calm = calm_part (λ x. x.reader) (λ x y l h. h.0)

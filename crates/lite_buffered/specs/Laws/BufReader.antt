@@ -1,4 +1,4 @@
-use Rattle.std.proofs.Common.{◌≡◌, ◌∙◌, ℕ, zero, suc, ◌+◌, ◌-◌, List, [], ◌∷◌, ◌++◌, length, refl, sym, ap}
+use Rattle.std.proofs.Common.{◌≡◌, ◌∙◌, ◌<◌, ℕ, zero, suc, ◌+◌, ◌-◌, List, [], ◌∷◌, ◌++◌, length, refl, sym, ap}
 use Rattle.std.proofs.Common.{arith, append_assoc, append-nil, length-append}
 use Rattle.lite_base.specs.Answers.{Comparable}
 use Rattle.lite_base.specs.Ranks.{Ranks}
@@ -43,6 +43,12 @@ passes_of zero p came out q e none =
     let both = none refl in
     (both.0, both.1, rw (← (rw (both.0, both.1, append-nil) at e)) (padded_same came))
 passes_of (suc n) p came out q e none = e
+
+-- with some capacity
+pub passes_some : (n : ℕ) (p : List ℕ) (came out : List ReadMark) (q : List ℕ) → 0 < n → PassesBuffer n p came out q
+    → bytes p ++ came ≡ out ++ bytes q
+passes_some zero p came out q some h = absurd (omega (arith, some))
+passes_some (suc n) p came out q some h = h
 
 pub passes_both : (n : ℕ) (p q r : List ℕ) (came out more next : List ReadMark) → PassesBuffer n p came out q
     → PassesBuffer n q more next r → PassesBuffer n p (came ++ more) (out ++ next) r

@@ -1,24 +1,22 @@
 -- Laws of `BufWriter`.
 use Rattle.std.proofs.Common.{◌≡◌, ◌∙◌, ℕ, List, [], ◌∷◌, ◌++◌, inl, inr, refl, sym, ap, append_assoc, append-nil}
-use Rattle.std.proofs.lemmas.Grind.{flat_map-append}
+use Rattle.lite_io_base.specs.Laws.Takings.{taken_both}
 use Rattle.lite_io_base.specs.Runs.{MarkLaws}
 use Rattle.lite_io_base.specs.Takings.{WriteMark, bytes_in, bytes_taken}
 use Rattle.lite_buffered.specs.declared.buf_writer.BufWriter.{BufWriter}
-use Rattle.lite_buffered.specs.BufWriter.{Balanced, Buffers, TakesHeld, WriterAnswers, WriterSegment, WriterSegments}
+use Rattle.lite_buffered.specs.BufWriter.{Balanced, Buffers, TakesHeld, WriterAnswers, WriterSegment}
 use Rattle.lite_buffered.specs.BufWriter.{unwritten}
+use Rattle.lite_base.specs.Laws.Segments.{segments_join}
 use Rattle.lite_base.specs.Runs.{Runs}
-
-bytes_both : (l m : List WriteMark) → bytes_taken (l ++ m) ≡ bytes_taken l ++ bytes_taken m
-bytes_both l m = flat_map-append bytes_in l m
 
 -- what was held is what was taken and what is left
 pub drains_balance : (before rest : List ℕ) (taken : List WriteMark) (n : ℕ) → TakesHeld before taken rest n
     → before ≡ bytes_taken taken ++ rest
 drains_balance before _ _ _ TakesHeld.none = refl
 drains_balance before _ _ _ (TakesHeld.some ms xs rest n d more) =
-    rw (bytes_both, append-nil, append_assoc) (drains_balance before (xs ++ rest) ms n d)
+    rw (taken_both, append-nil, append_assoc) (drains_balance before (xs ++ rest) ms n d)
 drains_balance before _ _ _ (TakesHeld.interrupted ms rest n d more few) =
-    rw (bytes_both, append-nil) (drains_balance before rest ms n d)
+    rw (taken_both, append-nil) (drains_balance before rest ms n d)
 
 answers_balance : (n : ℕ) (left after : List ℕ) (last : List WriteMark) (told : WriteMark)
     → WriterAnswers n left last told after
@@ -38,7 +36,7 @@ segment_balance before after taken told s =
     rw (
       drains_balance before s.left s.drained s.interruptions s.drains,
       s.cut,
-      bytes_both,
+      taken_both,
       append_assoc,
       answers_balance s.interruptions s.left after s.last told s.answers,
       append_assoc,
@@ -49,24 +47,7 @@ balanced_both : (a b c : List ℕ) (taken more out next : List WriteMark) → Ba
     → Balanced b next more c
     → Balanced a (out ++ next) (taken ++ more) c
 balanced_both a b c taken more out next h k =
-    rw (bytes_both, bytes_both, ← append_assoc, h, append_assoc, k, append_assoc)
-
-segments_follow : (a b c : List ℕ) (taken more out next : List WriteMark) → WriterSegments a taken out b
-    → WriterSegments b more next c
-    → WriterSegments a (taken ++ more) (out ++ next) c
-segments_follow a b c taken more [] next h k = rw (h.0, ← h.1) k
-segments_follow a b c taken more (told ∷ out) next e k = (
-  e.0,
-  e.1 ++ more,
-  e.2,
-  rw (e.3, append_assoc),
-  e.4,
-  segments_follow e.2 b c e.1 more out next e.5 k,
-)
-
-pub segments_one : (before after : List ℕ) (taken : List WriteMark) (told : WriteMark)
-    → WriterSegment before taken told after → WriterSegments before taken (told ∷ []) after
-segments_one before after taken told s = (taken, [], after, sym (append-nil taken), s, (refl, refl))
+    rw (taken_both, taken_both, ← append_assoc, h, append_assoc, k, append_assoc)
 
 pub balanced_one : (before after : List ℕ) (taken : List WriteMark) (told : WriteMark)
     → WriterSegment before taken told after → Balanced before (told ∷ []) taken after
@@ -81,7 +62,7 @@ module _ {W : Type 0} {writes : Runs WriteMark W} (laws : MarkLaws writes) where
         taken = a.taken ++ b.taken;
         ran = laws.follows x.inner y.inner z.inner a.taken b.taken a.ran b.ran;
         capacity = b.capacity ∙ a.capacity;
-        segments = segments_follow (unwritten x) (unwritten y) (unwritten z) a.taken b.taken l m a.segments b.segments;
+        segments = segments_join WriterSegment (unwritten x) (unwritten y) (unwritten z) a.taken b.taken l m a.segments b.segments;
         balanced = balanced_both (unwritten x) (unwritten y) (unwritten z) a.taken b.taken l m a.balanced b.balanced;
       }
 

@@ -67,12 +67,11 @@ module _ {R S : Type 0} (first : Runs ReadMark R) (second : Runs ReadMark S) whe
   }
 
   -- what is lent stands before an end
-  before_end : (xs : List ℕ) (before after : List ReadMark) → EndlessMarks before
-      → Comparable (bytes xs) (before ++ ReadMark.end ∷ [])
+  before_end : (xs : List ℕ) (before after : List ReadMark) → Comparable (bytes xs) (before ++ ReadMark.end ∷ [])
       → Comparable (bytes xs) (before ++ after)
-  before_end [] before after n h = tt
-  before_end (x ∷ xs) [] after n h = absurd (cc h.0)
-  before_end (x ∷ xs) (m ∷ before) after n h = (h.0, before_end xs before after n.1 h.1)
+  before_end [] before after h = tt
+  before_end (x ∷ xs) [] after h = absurd (cc h.0)
+  before_end (x ∷ xs) (m ∷ before) after h = (h.0, before_end xs before after h.1)
 
   module _ (lent1 : R → List ℕ) (lent2 : S → List ℕ) where
     show_at : MarkLaws first → Shows first lent1 → Shows second lent2
@@ -81,9 +80,7 @@ module _ {R S : Type 0} (first : Runs ReadMark R) (second : Runs ReadMark S) whe
     show_at f p q false false x y l h = p x.first y.first l h.0
     show_at f p q false true x y l h =
         let whole = f.follows x.first h.between y.first h.before (ReadMark.end ∷ []) h.first_ran h.first_ended in
-        let shown = before_end (lent1 x.first) h.before h.after h.no_end
-        (p x.first y.first (h.before ++ ReadMark.end ∷ []) whole) in
-        rw h.cut shown
+        rw h.cut (before_end (lent1 x.first) h.before h.after (p x.first y.first (h.before ++ ReadMark.end ∷ []) whole))
     show_at f p q true true x y l h = q x.second y.second l h.0
     show_at f p q true false x y l h = absurd h
 

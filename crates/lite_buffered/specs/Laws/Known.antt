@@ -4,6 +4,7 @@ use Rattle.std.proofs.Common.{arith}
 use Rattle.lite_io_base.specs.Known.{Known, TellsKnown}
 use Rattle.lite_io_base.specs.Laws.Known.{spends_both, spends_bytes, spends_front, spends_split}
 use Rattle.lite_io_base.specs.Marks.{ReadMark, bytes}
+use Rattle.lite_buffered.specs.Laws.BufReader.{passes_some}
 use Rattle.lite_buffered.specs.BufReader.{PassesBuffer, ThroughBuffer, ahead, reader_capacity, reader_inner}
 use Rattle.lite_buffered.specs.Chain.{ChainsReaders, EndlessMarks, JoinsReaders}
 use Rattle.lite_buffered.specs.Take.{LimitEnds, TakesMarks, WithinLimit}
@@ -14,10 +15,9 @@ use Rattle.lite_buffered.specs.declared.take.Take.{Take}
 pub passes_spends : (n : ℕ) (before after : List ℕ) (came out : List ReadMark) (xs ys : List ℕ) → 0 < n
     → PassesBuffer n before came out after → TellsKnown xs came ys
     → TellsKnown (before ++ xs) out (after ++ ys)
-passes_spends zero before after came out xs ys n h s = absurd (omega arith)
-passes_spends (suc n) before after came out xs ys _ h s =
+passes_spends n before after came out xs ys some h s =
     let all = spends_both (before ++ xs) xs ys (bytes before) came (spends_front before xs) s in
-    let cut = spends_split (before ++ xs) ys out (bytes after) (rw (← h) all) in
+    let cut = spends_split (before ++ xs) ys out (bytes after) (rw (← passes_some n before came out after some h) all) in
     rw (← (spends_bytes after cut.0 ys cut.2)) cut.1
 
 pub through_spends : {R : Type 0} (k : Known R) (x y : BufReader R) (l : List ReadMark) → (0 < reader_capacity x)

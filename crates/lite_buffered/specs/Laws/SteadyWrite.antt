@@ -49,7 +49,7 @@ segments_no_error before after taken (told ∷ out) none h =
     (segments_no_error h.2 after h.1 out each.1 h.5))
 
 -- where a flush comes last, the inner writer's comes last, and nothing is held then
-segments_flushed : (before after : List ℕ) (taken out : List WriteMark)
+pub segments_flushed : (before after : List ℕ) (taken out : List WriteMark)
     → WriterSegments before taken (out ++ WriteMark.flushed ∷ []) after → EndsFlushed taken × (after ≡ [])
 segments_flushed before after taken [] h =
     let s = h.4 in

@@ -120,10 +120,9 @@ module _ {A : Type 0} (like : Sameness A) where
       steady (SameItem like) (SameItem (Optional like)) nexts (λ p k. ⊤) next_asked (λ p k q l r t a. both_none r t)
 
   nth_asked : SameAsked (SameItem like) (SameItem (Optional like)) nths (λ n m. m ≡ n)
-  nth_asked p k q l x w None None a e c d = omega arith
-  nth_asked p k q l x w None (Some t) a e c d = omega arith
-  nth_asked p k q l x w (Some r) None a e c d = omega arith
   nth_asked p k q l x w (Some r) (Some t) a e c d = both_some x w r t e c.1 d.1
+  nth_asked p k q l x w None None a e c d = omega arith
+  nth_asked p k q l x w o u a e c d = omega arith
 
   pub nth_steady : Steady (SameItem like) (SameItem (Optional like)) nths (λ n m. m ≡ n)
   nth_steady = steady (SameItem like) (SameItem (Optional like)) nths (λ n m. m ≡ n) nth_asked
@@ -131,8 +130,7 @@ module _ {A : Type 0} (like : Sameness A) where
 
   last_asked : SameAsked (SameItem like) (SameItem (Optional like)) lasts (SameHeld like)
   last_asked p k q l x w None None a e c d = rw (c.1, d.1) (same_held like (Some x) (Some w) (same_answer like x w e))
-  last_asked p k q l x w None (Some t) a e c d = cc
-  last_asked p k q l x w (Some r) u a e c d = cc
+  last_asked p k q l x w o u a e c d = cc
 
   pub last_steady : Steady (SameItem like) (SameItem (Optional like)) lasts (SameHeld like)
   last_steady =
@@ -142,8 +140,7 @@ module _ {A : Type 0} (like : Sameness A) where
   -- of equal counts
   count_asked : SameAsked (SameItem like) Equal counts (λ n m. m ≡ n)
   count_asked p k q l x w None None a e c d = rw (c.1, d.1, a)
-  count_asked p k q l x w None (Some t) a e c d = cc
-  count_asked p k q l x w (Some r) u a e c d = cc
+  count_asked p k q l x w o u a e c d = cc
 
   pub count_steady : Steady (SameItem like) Equal counts (λ n m. m ≡ n)
   count_steady =
@@ -206,8 +203,7 @@ module _ {F A B : Type 0} (like : Sameness A) (call : Question F A (Option B)) w
 module _ {F A : Type 0} (like : A → A → Type 0) (call : Question F A (Unit {0})) where
   for_each_asked : SameAsked like Equal (calls_each call) (AgreeFrom like Equal call)
   for_each_asked p k q l x w None None a e c d = (agree_from_matches like Equal call p k q l x w tt tt a e c.1 d.1).1
-  for_each_asked p k q l x w None (Some t) a e c d = cc
-  for_each_asked p k q l x w (Some r) u a e c d = cc
+  for_each_asked p k q l x w o u a e c d = cc
 
   pub for_each_steady : Steady like Equal (calls_each call) (AgreeFrom like Equal call)
   for_each_steady =

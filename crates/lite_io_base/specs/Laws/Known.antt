@@ -1,6 +1,6 @@
 -- Laws of the bytes that are to come.
 use Rattle.std.proofs.Common.{◌≡◌, ◌∙◌, ℕ, List, [], ◌∷◌, ◌++◌, ap, refl, sym}
-use Rattle.std.specs.Prelude.{⊤, ◌≡◌, ℕ, List, [], ◌∷◌}
+use Rattle.std.specs.Prelude.{⊤}
 use denote.MutBor.{MutBor}
 use Rattle.lite_base.specs.Lent.{Lent}
 use Rattle.lite_io_base.specs.Known.{Known, TellsKnown, Knows}

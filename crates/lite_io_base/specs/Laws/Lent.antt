@@ -1,17 +1,13 @@
 -- What is behind a reference.
-use Rattle.std.proofs.Common.{◌≡◌, ◌∙◌, List, ap, refl}
+use Rattle.std.proofs.Common.{List, refl}
 use Rattle.lite_base.specs.Lent.{Lent}
+pub use Rattle.lite_base.specs.Laws.Lent.{lent_still}
 use Rattle.lite_base.specs.Ranks.{Ranks, ranks_of}
 use Rattle.lite_base.specs.Runs.{Runs}
 use Rattle.lite_io_base.specs.Counting.{ReadCounting}
 use Rattle.lite_io_base.specs.Marks.{ReadMark}
 use Rattle.lite_io_base.specs.Runs.{CalmMarks, MarkLaws}
 use denote.MutBor.{MutBor}
-
--- a reference stays through two runs
-pub lent_still : {S : Type 0} (x y z : MutBor S) → y ≡ record x { now = y.now } → z ≡ record y { now = z.now }
-    → z ≡ record x { now = z.now }
-lent_still {S} x y z e d = d ∙ ap (λ (r : MutBor S). record r { now = z.now }) e
 
 pub lent_laws : {A S : Type 0} {run : Runs A S} → MarkLaws run → MarkLaws (Lent run)
 lent_laws laws = record {

@@ -1,8 +1,8 @@
 -- Laws of tales without their pendings.
 use Rattle.std.specs.Prelude.{⊤, List, [], ◌∷◌}
-use Rattle.std.proofs.Common.{◌≡◌, ℕ, List, [], ◌∷◌, ◌++◌, ap, refl, sym}
+use Rattle.std.proofs.Common.{◌≡◌, ℕ, ◌++◌, ap, refl, sym}
 use Rattle.lite_base.specs.Answers.{Comparable}
-use Rattle.lite_io_base.specs.Marks.{ReadMark, bytes}
+use Rattle.lite_io_base.specs.Marks.{ReadMark, bytes, moved}
 use Rattle.lite_io_base.specs.Steady.{CalmReadLaws, NoPendingRead, SteadyReadLaws, strip_marks, OneTale}
 use Rattle.lite_io_base.specs.Laws.Told.{told_laws}
 use Rattle.lite_io_base.specs.Told.{TellsScript}
@@ -88,6 +88,11 @@ no_wait_both (_ ∷ l) m h k = no_wait_both l m h k
 pub no_wait_bytes : (xs : List ℕ) → NoPendingRead (bytes xs)
 no_wait_bytes [] = tt
 no_wait_bytes (x ∷ xs) = no_wait_bytes xs
+
+pub no_wait_moved : (room xs : List ℕ) → NoPendingRead (moved room xs)
+no_wait_moved room (x ∷ xs) = no_wait_bytes xs
+no_wait_moved (r ∷ room) [] = tt
+no_wait_moved [] [] = tt
 
 -- what is known from the start
 told_comparable : (t x y l m : List ReadMark) → TellsScript t l x → TellsScript t m y → Comparable l m

@@ -1,9 +1,9 @@
 -- What a vector keeps, and what is behind a reference.
 use Rattle.std.proofs.Common.{◌≡◌, ℕ, List, ◌++◌}
-use Rattle.std.specs.Prelude.{⊤, ◌≡◌, ℕ, List, ◌++◌}
+use Rattle.std.specs.Prelude.{⊤}
 use denote.MutBor.{MutBor}
 use Rattle.lite_base.specs.Lent.{Lent}
-use Rattle.lite_io_base.specs.Grows.{Grows}
+use Rattle.lite_io_base.specs.Grows.{Grows, IsRefusal}
 use Rattle.lite_io_base.specs.Laws.Grows.{grows_all}
 use Rattle.lite_io_base.specs.Stored.{Stored, Stores}
 use Rattle.lite_io_base.specs.Takings.{WriteMark, bytes_taken}
@@ -20,7 +20,7 @@ grows_stored held = record {
   told = λ x l y. Grows (held x) l (held y);
   stores = λ x. ⊤;
   kept = held;
-  tells = λ x y l k h. (tt, grows_all (held x) (held y) l h);
+  tells = λ x y l k h. (tt, grows_all IsRefusal (held x) (held y) l h);
 }
 
 abbrev pub lent_stored : {S : Type 0} → Stored S → Stored (MutBor S)

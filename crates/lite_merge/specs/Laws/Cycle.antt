@@ -15,9 +15,8 @@ use Rattle.lite_base.specs.Runs.{Hints, NoHint, Runs}
 module _ {A : Type 0} (E : Type 0) where
   all_ok_join : (i j : List (Answer A)) → all_ok {E = E} (i ++ j) ≡ all_ok i ++ all_ok j
   all_ok_join [] j = refl
-  all_ok_join (Pending ∷ i) j = rw (all_ok_join i j)
-  all_ok_join (Ready None ∷ i) j = rw (all_ok_join i j)
   all_ok_join (Ready (Some x) ∷ i) j = rw (all_ok_join i j)
+  all_ok_join (_ ∷ i) j = rw (all_ok_join i j)
 
   all_ok_none : (i : List (Answer A)) → [] ≡ all_ok {E = E} i → i ≡ []
   all_ok_none [] e = refl

@@ -30,8 +30,7 @@ module _ {A : Type 0} where
   row_more : (i j : List (Answer A)) (c : Answer A) (i' j' k h : List (Answer A)) → MergeRow i j c i' j'
       → MergeRow (i ++ k) (j ++ h) c (i' ++ k) (j' ++ h)
   row_more (Ready (Some x) ∷ i) j c i' j' k h r = (r.0, ap (λ l. l ++ k) r.1, ap (λ l. l ++ h) r.2)
-  row_more (Ready None ∷ i) (b ∷ j) c i' j' k h r = (r.0, ap (λ l. l ++ k) r.1, ap (λ l. l ++ h) r.2)
-  row_more (Pending ∷ i) (b ∷ j) c i' j' k h r = (r.0, ap (λ l. l ++ k) r.1, ap (λ l. l ++ h) r.2)
+  row_more (a ∷ i) (b ∷ j) c i' j' k h r = (r.0, ap (λ l. l ++ k) r.1, ap (λ l. l ++ h) r.2)
   row_more i j c i' j' k h r = absurd r
 
   -- where neither list has a Pending, no row has

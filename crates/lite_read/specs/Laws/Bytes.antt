@@ -50,9 +50,9 @@ tells_items : (i : List ReadMark) (l : List (Result ℕ Error)) → TellsEach i 
 tells_items [] [] h = (tt, refl)
 tells_items [] (r ∷ l) h = absurd h
 tells_items (x ∷ i) [] h = absurd h
-tells_items (ReadMark.byte b ∷ i) (r ∷ l) h = let e = tells_items i l h.1 in ((tt, e.0), ap suc e.1)
-tells_items (ReadMark.fault k ∷ i) (r ∷ l) h = let e = tells_items i l h.1 in ((tt, e.0), ap suc e.1)
-tells_items _ (r ∷ l) h = absurd h.0
+tells_items (ReadMark.pending ∷ i) (r ∷ l) h = absurd h.0
+tells_items (ReadMark.end ∷ i) (r ∷ l) h = absurd h.0
+tells_items (_ ∷ i) (r ∷ l) h = let e = tells_items i l h.1 in ((tt, e.0), ap suc e.1)
 
 module _ {R : Type 0} {reads : Runs ReadMark R} where
   module _ (laws : MarkLaws reads) where

@@ -17,6 +17,7 @@ use Rattle.lite_io_base.specs.Marks.{ReadMark, bytes, given}
 use Rattle.lite_io_base.specs.Runs.{MarkLaws}
 use Rattle.lite_read.specs.Pieces.{Cut, CutsPiece, Itemised, pieces}
 use Rattle.lite_read.specs.Laws.Segments.{flow_keeps}
+use Rattle.lite_read.specs.ReadFold.{AnswerMarks}
 use Rattle.lite_read.specs.Segments.{Flows, PieceSegments, StreamOver}
 
 below_some : (n : ℕ) (xs ys : List ℕ) → 0 < n → Falls n xs ys → Below xs ys
@@ -29,10 +30,17 @@ module _ {A : Type 0} (byte : ℕ) (may_refuse : Type 0) (whole final : List ℕ
   grown p q [] h = omega (arith, ap length (sym h))
   grown p q (x ∷ xs) h = omega (arith, grown h.0 q xs h.2, ap length h.1.1, length-append p (x ∷ []))
 
-  came_in : (taken : List ℕ) (last marks : List ReadMark) → marks ≡ bytes taken ++ last
-      → given marks ≡ length taken + given last
-  came_in taken last marks e =
-      ap given e ∙ given-append (bytes taken) last ∙ ap (λ n. n + given last) (given-bytes taken)
+  came_in : {p q : List ℕ} {marks : List ReadMark} {b : Answer (Result A Error)}
+      (s : AnswerMarks (pieces byte may_refuse (Itemised whole final)) p marks b q)
+      → given marks + length p ≡ given s.last + length s.between
+  came_in {p} s =
+      omega (
+        arith,
+        ap given s.cut,
+        given-append (bytes s.taken) s.last,
+        given-bytes s.taken,
+        grown p s.between s.taken s.folds,
+      )
 
   -- bytes that came in and those that were held are given out or held
   module _ (held : List ℕ) where
@@ -61,8 +69,7 @@ module _ {A : Type 0} (byte : ℕ) (may_refuse : Type 0) (whole final : List ℕ
           arith,
           r.1,
           ap given cut ∙ given-append first rest,
-          came_in a.taken a.last first a.cut,
-          grown p a.between a.taken a.folds,
+          came_in a,
           ap given a.given.0,
           ap length a.given.2,
         ),
@@ -75,8 +82,7 @@ module _ {A : Type 0} (byte : ℕ) (may_refuse : Type 0) (whole final : List ℕ
           arith,
           r.1,
           ap given cut ∙ given-append first rest,
-          came_in a.taken a.last first a.cut,
-          grown p a.between a.taken a.folds,
+          came_in a,
           end_out a.between a.last a.given.0 m a.given.1 a.given.2,
         ),
         r.2,
@@ -89,8 +95,7 @@ module _ {A : Type 0} (byte : ℕ) (may_refuse : Type 0) (whole final : List ℕ
           arith,
           r.1,
           ap given cut ∙ given-append first rest,
-          came_in a.taken a.last first a.cut,
-          grown p a.between a.taken a.folds,
+          came_in a,
           e.2,
         ),
         λ xs ys f. below_some (e.0 + r.0) xs ys (omega (arith, e.1)) f,

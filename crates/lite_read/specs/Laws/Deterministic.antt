@@ -12,7 +12,7 @@ use Rattle.lite_io_base.specs.Laws.Steady.{comparable_fronts, comparable_rest, c
 use Rattle.lite_io_base.specs.Laws.Steady.{strip_marks-append, strip_marks-bytes, stripped_no_pending}
 use Rattle.lite_io_base.specs.Marks.{ReadMark, bytes}
 use Rattle.lite_io_base.specs.Steady.{NoPendingRead, SteadyReadLaws, strip_marks}
-use Rattle.lite_read.specs.ReadFold.{AnswerMarks, ReadFold, ReadFolded}
+use Rattle.lite_read.specs.ReadFold.{AnswerMarks, ReadFold, Segmented}
 use Rattle.lite_base.specs.Laws.Calls.{folds_follow}
 use Rattle.lite_base.specs.Laws.Segments.{segment_front}
 use Rattle.lite_read.specs.Deterministic.{IsDeterministic, TaleValues}
@@ -110,16 +110,12 @@ module _ {M R : Type 0} (fold : ReadFold M R) where
     module _ {S : Type 0} {reads ample : Runs ReadMark S} {needs_none : Type 0} {alike : S → S → Type 0}
         (laws : SteadyReadLaws reads ample needs_none alike) where
       module _ (x y x' y' : S) (p q r : M) where
-        pub segments_alike : (i j : List ReadMark) (l m : List (Poll R)) → alike x y → ample x i x' → ample y j y'
-            → Segments (AnswerMarks fold) p i l q → Segments (AnswerMarks fold) p j m r
-            → ComparableBy same (strip l) (strip m)
-        segments_alike i j l m e a b h k =
-            tale_values_alike p (strip_marks i) (strip_marks j) (strip l) (strip m) (segments_values p q i l h)
-            (segments_values p r j m k) (laws.steady x y x' y' i j e a b)
-
-        pub read_folded_alike : (l m : List (Poll R)) → alike x y → ReadFolded fold ample x p l x' q
-            → ReadFolded fold ample y p m y' r → ComparableBy same (strip l) (strip m)
-        read_folded_alike l m e h k = segments_alike h.marks k.marks l m e h.came k.came h.folded.0 k.folded.0
+        pub segmented_alike : (l m : List (Poll R)) → alike x y → Segmented fold ample x p l x' q
+            → Segmented fold ample y p m y' r → ComparableBy same (strip l) (strip m)
+        segmented_alike l m e h k =
+            tale_values_alike p (strip_marks h.marks) (strip_marks k.marks) (strip l) (strip m)
+            (segments_values p q h.marks l h.cut) (segments_values p r k.marks m k.cut)
+            (laws.steady x y x' y' h.marks k.marks e h.came k.came)
 
   -- where no pending is told none is answered
   pub segments_no_pending : (p q : M) (i : List ReadMark) (l : List (Poll R)) → NoPendingRead i

@@ -13,7 +13,7 @@ use Rattle.lite_base.specs.Runs.{Runs}
 use Rattle.lite_io_base.specs.Marks.{ReadMark}
 use Rattle.lite_io_base.specs.Steady.{CalmReadLaws, NoPendingRead, SteadyReadLaws}
 use Rattle.lite_read.specs.ReadFold.{ReadFold}
-use Rattle.lite_read.specs.Laws.Deterministic.{segments_alike, segments_no_pending}
+use Rattle.lite_read.specs.Laws.Deterministic.{segmented_alike, segments_no_pending}
 use Rattle.lite_read.specs.Deterministic.{IsDeterministic, SameOr}
 use Rattle.lite_read.specs.Laws.Segments.{flow_laws}
 use Rattle.lite_read.specs.Pieces.{Cut, CutsPiece, Itemised, pieces}
@@ -139,11 +139,9 @@ module _ {X S M K A : Type 0} (over : StreamOver X S M K) where
       record {
         laws = runs_of (flow_laws over fold s.laws);
         steady = λ x y e l m x' y' h k.
-            let i = h.segmented in
-            let j = k.segmented in
-            segments_alike (fold (over.kept x)) (deterministic (over.kept x)) s (over.reader x) (over.reader y)
-            (over.reader x') (over.reader y') (over.held x) (over.held x') (over.held y') i.marks j.marks l m e.0
-            i.came j.came i.cut (rw (← e.1, ← e.2) at j.cut);
+            segmented_alike (fold (over.kept x)) (deterministic (over.kept x)) s (over.reader x) (over.reader y)
+            (over.reader x') (over.reader y') (over.held x) (over.held x') (over.held y') l m e.0 h.segmented
+            (rw (← e.1, ← e.2) at k.segmented);
         found = λ n. absurd n;
       }
 

@@ -4,15 +4,15 @@ use Rattle.futures.specs.declared.task.Poll.{Poll}
 use Rattle.lite_base.specs.Answers.{ComparableBy, Waiting, strip}
 use Rattle.lite_base.specs.Calm.{CalmLaws}
 use Rattle.lite_base.specs.FutureLaws.{FutureLaws}
-use Rattle.lite_base.specs.Laws.Answers.{up_to_once}
+use Rattle.lite_base.specs.Laws.Answers.{up_to_once, waiting_up_to}
 use Rattle.lite_base.specs.Runs.{Runs}
 use Rattle.lite_io_base.specs.Marks.{ReadMark}
 use Rattle.lite_io_base.specs.Runs.{MarkLaws}
 use Rattle.lite_io_base.specs.Steady.{CalmReadLaws, SteadyReadLaws}
 use Rattle.lite_read.specs.Deterministic.{IsDeterministic}
-use Rattle.lite_read.specs.Laws.Deterministic.{read_folded_alike, segments_no_pending}
+use Rattle.lite_read.specs.Laws.Deterministic.{segmented_alike, segments_no_pending}
 use Rattle.lite_read.specs.Laws.PollSteps.{idle_join}
-use Rattle.lite_read.specs.Laws.ReadFold.{read_folded_before, read_folded_follow, read_folded_none}
+use Rattle.lite_read.specs.Laws.Segments.{segmented_before, segmented_follow, segmented_none}
 use Rattle.lite_read.specs.PollSteps.{TakesBytes}
 use Rattle.lite_read.specs.ReadFold.{Gathers, ReadFold}
 
@@ -29,8 +29,9 @@ module _ {X S M R : Type 0} {reader : X → S} {held : X → M} {fold : X → Re
         → Gathers reader held fold Keeps reads y m z → Gathers reader held fold Keeps reads x (l ++ m) z
     gathers_follow x y z l m w h k =
         record {
-          folded = read_folded_follow (fold x) laws (reader x) (reader y) (reader z) (held x) (held y) (held z) l m w
+          folded = segmented_follow (fold x) laws (reader x) (reader y) (reader z) (held x) (held y) (held z) l m
               h.folded (rw (keeps.same x y h.stays) at k.folded);
+          ends = waiting_up_to l m w k.ends;
           stays = keeps.join x y z h.stays k.stays;
           idle = idle_join x y z l m h.idle k.idle;
         }
@@ -39,13 +40,14 @@ module _ {X S M R : Type 0} {reader : X → S} {held : X → M} {fold : X → Re
     gathers_laws =
         record {
           rests = λ x. record {
-            folded = read_folded_none (fold x) laws (reader x) (held x);
+            folded = segmented_none (fold x) laws (reader x) (held x);
+            ends = tt;
             stays = keeps.none x;
             idle = λ e. refl;
           };
           stays = λ x y h. h.idle refl;
           follows = gathers_follow;
-          once = λ x y l h. up_to_once l h.folded.folded.1;
+          once = λ x y l h. up_to_once l h.ends;
         }
 
   -- a step before an answer
@@ -57,8 +59,9 @@ module _ {X S M R : Type 0} {reader : X → S} {held : X → M} {fold : X → Re
       let stays = kept x y t.stays in
       record {
         folded =
-            read_folded_before (fold x) laws (reader x) (reader y) (reader z) (held x) (held y) (held z) t.taken a
+            segmented_before (fold x) laws (reader x) (reader y) (reader z) (held x) (held y) (held z) t.taken a
             t.came t.folds (rw (keeps.same x y stays) at h.folded);
+        ends = h.ends;
         stays = keeps.join x y z stays h.stays;
         idle = λ e. cc e;
       }
@@ -70,7 +73,7 @@ module _ {X S M R : Type 0} {reader : X → S} {held : X → M} {fold : X → Re
       → (l m : List (Poll R)) (x' y' : X) → Gathers reader held fold Keeps ample x l x'
       → Gathers reader held fold Keeps ample y m y' → ComparableBy same (strip l) (strip m)
   gathers_alike one s x y e d f l m x' y' h k =
-      read_folded_alike (fold x) (one x) s (reader x) (reader y) (reader x') (reader y') (held x) (held x') (held y')
+      segmented_alike (fold x) (one x) s (reader x) (reader y) (reader x') (reader y') (held x) (held x') (held y')
       l m e h.folded (rw (f, ← d) at k.folded)
 
   pub gathers_calm : {is_calm : S → Type 0} → CalmReadLaws reads is_calm
@@ -80,6 +83,6 @@ module _ {X S M R : Type 0} {reader : X → S} {held : X → M} {fold : X → Re
         no_pending = λ x y l k h.
             let g = h.folded in
             segments_no_pending (fold x) (held x) (held y) g.marks l
-            (c.no_pending (reader x) (reader y) g.marks k g.came) g.folded.0;
+            (c.no_pending (reader x) (reader y) g.marks k g.came) g.cut;
         calm_on = λ x y l k h. c.calm_on (reader x) (reader y) h.folded.marks k h.folded.came;
       }

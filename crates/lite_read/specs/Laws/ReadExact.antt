@@ -1,5 +1,5 @@
 -- Laws of `read_exact`.
-use Rattle.std.proofs.Common.{◌≡◌, ◌∙◌, ◌<◌, ◌-◌, ◌+◌, ℕ, List, [], ◌∷◌, length, Result, refl, ap, sym, arith}
+use Rattle.std.proofs.Common.{◌≡◌, ◌∙◌, ◌<◌, ◌-◌, ℕ, List, [], ◌∷◌, length, Result, refl, ap, arith}
 use Rattle.std.proofs.Common.{◌++◌, append-nil, append_assoc, length-append}
 use Rattle.std.proofs.lemmas.List.{length-take}
 use Rattle.std.specs.List.{FoldsTo}

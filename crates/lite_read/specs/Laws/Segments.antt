@@ -23,11 +23,11 @@ unbounded hint n e = rw e tt
 
 module _ {M R : Type 0} (fold : ReadFold M R) where
   module _ {S : Type 0} {reads : Runs ReadMark S} (laws : MarkLaws reads) where
-    segmented_none : (s : S) (p : M) → Segmented fold reads s p [] s p
+    pub segmented_none : (s : S) (p : M) → Segmented fold reads s p [] s p
     segmented_none s p = record { marks = []; came = laws.rests s; cut = (refl, refl) }
 
     module _ (s t u : S) (p : M) where
-      segmented_follow : (q r : M) (l m : List (Poll R)) → Segmented fold reads s p l t q
+      pub segmented_follow : (q r : M) (l m : List (Poll R)) → Segmented fold reads s p l t q
           → Segmented fold reads t q m u r → Segmented fold reads s p (l ++ m) u r
       segmented_follow q r l m h k =
           record {
@@ -36,7 +36,7 @@ module _ {M R : Type 0} (fold : ReadFold M R) where
             cut = segments_join (AnswerMarks fold) p q r h.marks k.marks l m h.cut k.cut;
           }
 
-      segmented_before : (m q : M) (xs : List ℕ) (a : Poll R) → reads s (bytes xs) t → FoldsTo fold.takes p xs m
+      pub segmented_before : (m q : M) (xs : List ℕ) (a : Poll R) → reads s (bytes xs) t → FoldsTo fold.takes p xs m
           → Segmented fold reads t m (a ∷ []) u q → Segmented fold reads s p (a ∷ []) u q
       segmented_before m q xs a came f h =
           record {

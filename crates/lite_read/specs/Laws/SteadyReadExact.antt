@@ -29,13 +29,9 @@ data ExactValue (g : Filling) : List ReadMark → Result (Unit {0}) Error → Ty
 module _ (g : Filling) where
   answered : (l : List ReadMark) (v : Result (Unit {0}) Error) → Fulfils g l v → ExactValue g l v
   answered [] v h = rw h.1 (ExactValue.full h.0)
-  answered (ReadMark.byte b ∷ l) v h = absurd h
-  answered (ReadMark.pending ∷ l) v h = absurd h
-  answered (ReadMark.end ∷ []) (Ok u) h = absurd h
   answered (ReadMark.end ∷ []) (Err e) h = ExactValue.ended e h.0 h.1
-  answered (ReadMark.fault kind ∷ []) (Ok u) h = absurd h
   answered (ReadMark.fault kind ∷ []) (Err e) h = ExactValue.failed e kind h.0 h.1
-  answered (_ ∷ m ∷ l) v h = absurd h
+  answered _ v h = absurd h
 
   at_once : (l : List ReadMark) (v : Result (Unit {0}) Error) → ExactValue g l v → NoPendingRead l
   at_once _ _ (ExactValue.full h) = tt
@@ -84,7 +80,12 @@ module _ {R : Type 0} {reads : Runs ReadMark R} where
     all_ample n x y l h =
         let g = h.folded in
         let came = s.found n x.reader.now y.reader.now g.marks g.came in
-        record { folded = record { marks = g.marks; came = came; folded = g.folded }; stays = h.stays; idle = h.idle }
+        record {
+          folded = record { marks = g.marks; came = came; cut = g.cut };
+          ends = h.ends;
+          stays = h.stays;
+          idle = h.idle;
+        }
 
     pub exact_steady : FutureSteadyLawsBy (Sameness.by SameByKind) (ReadsExactly reads) (ReadsExactly ample) needs_none
         (ExactAlike alike)

@@ -59,10 +59,9 @@ module _ {F A : Type 0} where
 
 -- from one count on
 pub skips_match : {A : Type 0} (like : A → A → Type 0) → MatchesFrom like (OptionBy like) Skips (λ n m. m ≡ n)
-skips_match like n m p q x w None None e s a c = omega arith
-skips_match like n m p q x w None (Some z) e s a c = omega arith
-skips_match like n m p q x w (Some y) None e s a c = omega arith
 skips_match like n m p q x w (Some y) (Some z) e s a c = (rw (a.1, c.1) s, rw (a.2, c.2))
+skips_match like n m p q x w None None e s a c = omega arith
+skips_match like n m p q x w y z e s a c = omega arith
 
 -- from predicates that agree, or none
 module _ {F A : Type 0} (test : Question F A Bool) (like : Sameness A) where

@@ -1,13 +1,12 @@
 -- Laws of `iter`.
 use Rattle.std.specs.Prelude.{IfSome}
-use Rattle.std.proofs.Common.{◌≤◌, sym, ℕ, List, [], ◌∷◌, ◌++◌, Option, Some, None, refl, ap, arith, inl, inr}
-use Rattle.std.proofs.Math.Nat.{eq-or-lt_of_le}
+use Rattle.std.proofs.Common.{◌≤◌, sym, ℕ, List, [], ◌∷◌, ◌++◌, Option, Some, None, refl, ap, arith, inl}
 use Rattle.std.specs.Iterator.{Count, IsFinite, MakesProgress, UpTo, size}
 use Rattle.futures.specs.declared.task.Poll.TheVariants.{Ready, Pending}
 use Rattle.lite_base.specs.Answers.{Answer, before_end, items}
-use Rattle.lite_base.specs.Laws.Falling.{Below-one, Lowers-at_most}
+use Rattle.lite_base.specs.Laws.Falling.{Below-one, Lowers-at_most, at_most_one}
 use Rattle.lite_base.specs.Laws.Calls.{folds_follow}
-use Rattle.lite_base.specs.Rank.{AtMost, Below, Lowers}
+use Rattle.lite_base.specs.Rank.{Below, Lowers}
 use Rattle.lite_base.specs.Ranks.{Counting}
 use Rattle.lite_base.specs.StreamLaws.{StreamLaws}
 use Rattle.lite_source.specs.Iter.{AlwaysNext, IterHints, Iterates, NeverRaised, Nexts, iter_ranks}
@@ -17,9 +16,6 @@ up_to : (most : Option ℕ) (count : Count) (n : ℕ) → (IsFinite count → n 
     → IfSome most (λ m. n ≤ m)
 up_to None count n h b = tt
 up_to (Some m) count n h b = omega arith
-
-at_most_one : (m n : ℕ) → m ≤ n → AtMost (m ∷ []) (n ∷ [])
-at_most_one m n h = elim (eq-or-lt_of_le h) [ inl e ↦ inl (ap (λ k. k ∷ []) e) | inr p ↦ inr (inl (p, refl)) ]
 
 module _ {I A : Type 0} (can : I → Type 0) (gives : I → Option A → I → Type 0) (remaining : I → Count) where
   -- after a call it may still be called

@@ -1,8 +1,6 @@
 -- A reader by steps: each mark is a step, in the run `Steps step`.
-use Rattle.std.proofs.Common.{◌<◌, ◌≤◌, ◌+◌, ℕ, inl, inr, List, [], ◌∷◌, ap, arith, refl}
-use Rattle.std.proofs.Math.Nat.{eq-or-lt_of_le}
-use Rattle.lite_base.specs.Laws.Falling.{Below-one}
-use Rattle.lite_base.specs.Rank.{AtMost}
+use Rattle.std.proofs.Common.{◌<◌, ◌≤◌, ◌+◌, ℕ, List, [], ◌∷◌, arith}
+use Rattle.lite_base.specs.Laws.Falling.{Below-one, at_most_one}
 use Rattle.lite_base.specs.Ranks.{number_ranks}
 use Rattle.lite_io_base.specs.Counting.{ReadCounting}
 use Rattle.lite_io_base.specs.Laws.Counting.{number_counting}
@@ -18,9 +16,6 @@ use Rattle.lite_theorems.specs.Readers.{MarksLower}
 module _ {S : Type 0} (step : S → ReadMark → S → Type 0) where
   pub reader_by_steps : MarkLaws (Steps step)
   reader_by_steps = steps_laws step
-
-at_most_one : (m n : ℕ) → m ≤ n → AtMost (m ∷ []) (n ∷ [])
-at_most_one m n h = elim (eq-or-lt_of_le h) [ inl e ↦ inl (ap (λ k. k ∷ []) e) | inr p ↦ inr (inl (p, refl)) ]
 
 falls_more : (g m n k : ℕ) → Falls g (m ∷ []) (n ∷ []) → n < k → Falls (g + 1) (m ∷ []) (k ∷ [])
 falls_more g m n k h less = falls_of_below (g + 1) _ _ (Below-one (falls_at_most g _ _ h) less)

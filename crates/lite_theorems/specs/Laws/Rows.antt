@@ -107,13 +107,10 @@ module _ {A : Type 0} where
 
   -- an end goes out where both gave one
   row_end : (i j i' j' : List (Answer A)) → MergeRow i j end i' j' → HasEnd i × HasEnd j
-  row_end (Ready (Some x) ∷ i) j i' j' r = cc
-  row_end (Ready None ∷ i) (Pending ∷ j) i' j' r = cc
   row_end (Ready None ∷ i) (Ready None ∷ j) i' j' r = (tt, tt)
-  row_end (Ready None ∷ i) (Ready (Some y) ∷ j) i' j' r = cc
-  row_end (Pending ∷ i) (Pending ∷ j) i' j' r = cc
-  row_end (Pending ∷ i) (Ready None ∷ j) i' j' r = cc
+  row_end (Ready (Some x) ∷ i) j i' j' r = cc
   row_end (Pending ∷ i) (Ready (Some y) ∷ j) i' j' r = cc
+  row_end (_ ∷ i) (_ ∷ j) i' j' r = cc
   row_end _ _ i' j' h = absurd h
 
   taken_swapped : (c : Answer A) (l m l' m' : List A) → Taken c m l m' l' → Taken c l m l' m'

@@ -1,13 +1,12 @@
 -- A stream by steps: each poll is a step, in the run `FoldsTo step`.
 use Rattle.std.specs.List.{FoldsTo}
-use Rattle.std.proofs.Common.{◌≤◌, ℕ, inl, inr, List, [], ◌∷◌, Some, None, ap, arith, refl, sym}
-use Rattle.std.proofs.Math.Nat.{eq-or-lt_of_le}
+use Rattle.std.proofs.Common.{◌≤◌, ℕ, List, [], ◌∷◌, Some, None, arith, refl, sym}
 use Rattle.futures.specs.declared.task.Poll.TheVariants.{Ready, Pending}
 use Rattle.lite_base.specs.Answers.{Answer, before_end}
-use Rattle.lite_base.specs.Laws.Falling.{Below-one, Lowers-at_most}
+use Rattle.lite_base.specs.Laws.Falling.{Below-one, Lowers-at_most, at_most_one}
 use Rattle.lite_base.specs.Laws.Calls.{folds_follow}
 use Rattle.lite_base.specs.Laws.Hint.{same_hint}
-use Rattle.lite_base.specs.Rank.{AtMost, Lowers}
+use Rattle.lite_base.specs.Rank.{Lowers}
 use Rattle.lite_base.specs.Ranks.{Counting, number_ranks}
 use Rattle.lite_base.specs.Laws.Ranks.{number_counting}
 use Rattle.lite_base.specs.StreamLaws.{RunLaws, StreamLaws}
@@ -22,9 +21,6 @@ module _ {S A : Type 0} (step : S → Answer A → S → Type 0) where
 
   pub stream_by_steps : StreamLaws (FoldsTo step) NoHint
   stream_by_steps = laws_of folds_runs (λ x y hint l e h. same_hint hint (0, None) l e tt)
-
-at_most_one : (m n : ℕ) → m ≤ n → AtMost (m ∷ []) (n ∷ [])
-at_most_one m n h = elim (eq-or-lt_of_le h) [ inl e ↦ inl (ap (λ k. k ∷ []) e) | inr p ↦ inr (inl (p, refl)) ]
 
 module _ {S A : Type 0} {step : S → Answer A → S → Type 0} {number : S → ℕ} where
   lowers_from : ItemsLower step number → (x y : S) (n : ℕ) (l : List (Answer A)) → number x ≤ n → FoldsTo step x l y

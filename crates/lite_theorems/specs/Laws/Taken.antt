@@ -1,13 +1,10 @@
 -- What a writer takes while calls of it are waited for, one after the other.
 use Rattle.std.proofs.Common.{◌≡◌, ◌∙◌, ℕ, List, ◌++◌, ap, append_assoc, sym}
-use Rattle.std.proofs.lemmas.Grind.{flat_map-append}
 use Rattle.lite_base.specs.Runs.{Runs}
 use Rattle.lite_io_base.specs.Runs.{MarkLaws}
-use Rattle.lite_io_base.specs.Takings.{WriteMark, bytes_in, bytes_taken}
+use Rattle.lite_io_base.specs.Takings.{WriteMark, bytes_taken}
+pub use Rattle.lite_io_base.specs.Laws.Takings.{taken_both}
 use Rattle.lite_theorems.specs.BothWriters.{TakesFront}
-
-pub taken_both : (l m : List WriteMark) → bytes_taken (l ++ m) ≡ bytes_taken l ++ bytes_taken m
-taken_both l m = flat_map-append bytes_in l m
 
 module _ {W : Type 0} (writes : Runs WriteMark W) where
   -- a front of some bytes is a front of more

@@ -12,8 +12,8 @@ use Rattle.futures.specs.declared.task.Poll.TheVariants.{Ready, Pending}
 use Rattle.lite_base.specs.Answers.{Gives}
 use Rattle.lite_base.specs.Laws.Segments.{segment_before, segment_front, to_value_last}
 use Rattle.lite_base.specs.Runs.{Runs}
-use Rattle.lite_io_base.specs.Laws.Steady.{no_wait_bytes, strip_marks-append, stripped_no_pending}
-use Rattle.lite_io_base.specs.Marks.{ReadMark, bytes, moved, read_marks}
+use Rattle.lite_io_base.specs.Laws.Steady.{no_wait_moved, strip_marks-append, stripped_no_pending}
+use Rattle.lite_io_base.specs.Marks.{ReadMark, bytes, read_marks}
 use Rattle.lite_io_base.specs.Runs.{MarkLaws}
 use Rattle.lite_io_base.specs.Steady.{NoPendingRead, strip_marks}
 use Rattle.lite_read.specs.Filling.{ExactStays, Filling, filling_of}
@@ -83,7 +83,7 @@ gathers_told : {X S M R : Type 0} (reader : X → S) (held : X → M) (fold : X 
     → ToldValue reads (fold x) (reader x) (held x) v (reader y) (held y)
 gathers_told reader held fold Keeps reads x y now l v g h =
     let f = h.folded in
-    let once = read_folds_once (fold x) now (held x) (held y) f.marks l v f.folded g in
+    let once = read_folds_once (fold x) now (held x) (held y) f.marks l v (f.cut, h.ends) g in
     (strip_marks f.marks, (f.marks, f.came, refl), once)
 
 -- `read_exact`
@@ -92,28 +92,20 @@ Filled = Result (Unit {0}) Error
 
 no_wait_full : (g : Filling) (l : List ReadMark) (v : Filled) → Fulfils g l v → NoPendingRead l
 no_wait_full g [] v h = tt
-no_wait_full g (ReadMark.byte b ∷ l) v h = absurd h
-no_wait_full g (ReadMark.pending ∷ l) v h = absurd h
-no_wait_full g (ReadMark.end ∷ n ∷ l) v h = absurd h
-no_wait_full g (ReadMark.fault kind ∷ n ∷ l) v h = absurd h
 no_wait_full g (ReadMark.end ∷ []) v h = tt
 no_wait_full g (ReadMark.fault kind ∷ []) v h = tt
+no_wait_full g _ v h = absurd h
 
 fills_up : (xs new : List ℕ) (last : List ReadMark) (v : Filled) → (length xs ≡ length new → xs ≡ new)
     → Fulfils (xs, length new) last v → FillsUp new (bytes xs ++ last) v
 fills_up xs new [] (Ok u) all h = append-nil (bytes xs) ∙ ap bytes (all h.0)
-fills_up xs new (ReadMark.byte b ∷ l) v all h = absurd h
-fills_up xs new (ReadMark.pending ∷ l) v all h = absurd h
-fills_up xs new (ReadMark.end ∷ n ∷ l) v all h = absurd h
-fills_up xs new (ReadMark.fault kind ∷ n ∷ l) v all h = absurd h
-fills_up xs new (ReadMark.end ∷ []) (Ok u) all h = absurd h
-fills_up xs new (ReadMark.fault kind ∷ []) (Ok u) all h = absurd h
 fills_up xs new [] (Err e) all h = absurd (cc h.1)
 fills_up xs new (ReadMark.end ∷ []) (Err e) all h =
     record { front = xs; last = ReadMark.end ∷ []; fewer = h.0; stops = inl (refl, h.1); cut = refl }
 fills_up xs new (ReadMark.fault kind ∷ []) (Err e) all h =
     let stops : EndsShort (ReadMark.fault kind ∷ []) e = inr (ap (λ k. ReadMark.fault k ∷ []) (sym h.1)) in
     record { front = xs; last = ReadMark.fault kind ∷ []; fewer = h.0; stops = stops; cut = refl }
+fills_up xs new _ v all h = absurd h
 
 exact_value : (k n : ℕ) (new : List ℕ) (l : List ReadMark) (v : Filled)
     → AnswerMarks fills ([], n) l (Ready v) (take k new, length new) → (length new ≡ n) × FillsUp new l v
@@ -127,11 +119,6 @@ exact_value k n new l v w =
     (room, rw w.cut (fills_up w.taken new w.last v all (rw held at w.given.0)))
 
 -- `read`
-no_wait_moved : (room xs : List ℕ) → NoPendingRead (moved room xs)
-no_wait_moved room (x ∷ xs) = no_wait_bytes (x ∷ xs)
-no_wait_moved (r ∷ room) [] = tt
-no_wait_moved [] [] = tt
-
 no_wait_read : (v : Result ℕ Error) (buf : List ℕ) → NoPendingRead (read_marks (Ready v) buf)
 no_wait_read (Ok n) buf = no_wait_moved buf (take n buf)
 no_wait_read (Err e) buf = tt
@@ -175,11 +162,9 @@ polled_told laws x y (Ready r ∷ l) v g h =
 -- `read_until`
 module _ (at : ℕ) where
   no_wait_cut : (p : List ℕ) (l : List ReadMark) (cut : Cut) → CutsPiece at ⊤ p l cut → NoPendingRead l
-  no_wait_cut p l (Cut.piece xs) h = rw h.0 tt
-  no_wait_cut p l (Cut.last xs) h = rw h.0 tt
-  no_wait_cut p l Cut.nothing h = rw h.0 tt
   no_wait_cut p l (Cut.failed e) (inl h) = rw h tt
   no_wait_cut p l (Cut.failed e) (inr h) = rw h.0 tt
+  no_wait_cut p l _ h = rw h.0 tt
 
   held_without : (xs p q : List ℕ) → FoldsTo (until at ⊤).takes p xs q → (q ≡ p ++ xs) × Without at xs
   held_without [] p q h = (sym h ∙ sym (append-nil p), tt)

@@ -1,5 +1,5 @@
 -- Laws of `copy`.
-use Rattle.std.proofs.Common.{◌≡◌, ◌∙◌, ◌<◌, ◌+◌, ◌%◌, ◌^◌, ℕ, List, [], ◌∷◌, ◌++◌, length, Result, Ok, refl, ap, sym}
+use Rattle.std.proofs.Common.{◌≡◌, ◌∙◌, ◌<◌, ◌+◌, ◌%◌, ◌^◌, ℕ, Bool, List, [], ◌∷◌, ◌++◌, length, Result, Ok, refl, ap, sym}
 use Rattle.std.proofs.Common.{arith, append-nil, append_assoc, length-append}
 use Rattle.std.proofs.Math.Nat.{mod-add-mod}
 use Rattle.std.proofs.lemmas.Grind.{flat_map-append}
@@ -18,12 +18,13 @@ use Rattle.lite_buffered.specs.BufReader.{ThroughBuffer}
 use Rattle.lite_io_base.specs.Laws.Falls.{GivenRun}
 use Rattle.lite_io_base.specs.Marks.{ReadMark}
 use Rattle.lite_io_base.specs.Runs.{MarkLaws}
-use Rattle.lite_io_base.specs.Takings.{WriteMark, bytes_in, bytes_taken}
+use Rattle.lite_io_base.specs.Takings.{WriteMark, bytes_taken}
+use Rattle.lite_io_base.specs.Laws.Takings.{taken_both}
 use Rattle.lite_read.specs.Laws.PollSteps.{given_of, idle_join}
 use Rattle.lite_write.specs.Copy.{Copied, CopyRuns, CopyValue, Moves}
 use Rattle.lite_write.specs.Copying.{CopiesSome}
 use Rattle.lite_write.specs.MarkLists.{BytesAlone, TakesSome, TakesUpTo, TellsUpTo, byte_in, bytes_told, is_taken_wait}
-use Rattle.lite_write.specs.MarkLists.{is_told_wait, waits_taken, waits_told}
+use Rattle.lite_write.specs.MarkLists.{is_told_wait}
 use Rattle.lite_write.specs.Parts.{held_of, met_in, source_of}
 use Rattle.lite_write.specs.declared.copy.CopyFuture.{CopyFuture}
 
@@ -33,16 +34,9 @@ CopyResult = Result ℕ Error
 pub told_both : (l m : List ReadMark) → bytes_told (l ++ m) ≡ bytes_told l ++ bytes_told m
 told_both = flat_map-append byte_in
 
-told_waits : (l m : List ReadMark) → waits_told (l ++ m) ≡ waits_told l + waits_told m
-told_waits l m =
-    ap length (filter-append is_told_wait l m) ∙ length-append (filter is_told_wait l) (filter is_told_wait m)
-
-pub taken_both : (l m : List WriteMark) → bytes_taken (l ++ m) ≡ bytes_taken l ++ bytes_taken m
-taken_both = flat_map-append bytes_in
-
-taken_waits : (l m : List WriteMark) → waits_taken (l ++ m) ≡ waits_taken l + waits_taken m
-taken_waits l m =
-    ap length (filter-append is_taken_wait l m) ∙ length-append (filter is_taken_wait l) (filter is_taken_wait m)
+filtered_both : {A : Type 0} (test : A → Bool) (l m : List A)
+    → length (filter test (l ++ m)) ≡ length (filter test l) + length (filter test m)
+filtered_both test l m = ap length (filter-append test l m) ∙ length-append (filter test l) (filter test m)
 
 goes_both : (l m : List ReadMark) → BytesAlone l → BytesAlone m → BytesAlone (l ++ m)
 goes_both [] m h k = k
@@ -130,7 +124,7 @@ module _ (p q r : List ℕ) (a b c : List ReadMark) (i j : List ReadMark) (s t :
         reading = reading_both;
         writing = writing_both;
         balanced = balanced_both;
-        waited = omega (arith, waits_join l m, told_waits i j, taken_waits s t, h.waited, g.waited);
+        waited = omega (arith, waits_join l m, filtered_both is_told_wait i j, filtered_both is_taken_wait s t, h.waited, g.waited);
         once = waiting_up_to l m w g.once;
         value = rw (← same_value) g.value;
       }

@@ -26,22 +26,31 @@ fn collect_hands_back_the_item_that_was_refused(rt: HostRuntime) -> Result<(), F
     Ok(())
 }
 
+/// Room for so many items.
+fn room_for(rt: HostRuntime, items: usize) -> Room {
+    Room {
+        alloc: rt.alloc(),
+        items,
+    }
+}
+
+/// A collection with room for one item, which holds this one.
+fn full(rt: HostRuntime, item: u8) -> Result<Few<u8>, Fail> {
+    let items = vec![in rt.alloc(); item]?;
+    Ok(Few { items, room: 1 })
+}
+
 #[test]
 fn collect_fills_a_collection_of_a_users_own(rt: HostRuntime) -> Result<(), Fail> {
-    let two = Room {
-        alloc: rt.alloc(),
-        items: 2,
-    };
+    let two = room_for(rt, 2);
     let mut numbers = stream::iter(1u8..5);
     let got: Vec<Poll<Result<Few<u8>, Refused<Few<u8>, u8>>>> = polled(
         &rt,
         &mut (&mut numbers).collect(two),
         1,
     )?;
-    let collected = Few {
-        items: vec![in rt.alloc(); 1u8, 2]?,
-        room: 2,
-    };
+    let items = vec![in rt.alloc(); 1u8, 2]?;
+    let collected = Few { items, room: 2 };
     let expected = [Poll::Ready(Err(Refused { collected, item: 3 }))];
     assert_eq!(rt; got.as_slice(), expected.as_slice());
     let got: Vec<Poll<Result<Few<u8>, Refused<Few<u8>, u8>>>> = polled(
@@ -49,10 +58,8 @@ fn collect_fills_a_collection_of_a_users_own(rt: HostRuntime) -> Result<(), Fail
         &mut numbers.collect(two),
         1,
     )?;
-    let collected = Few {
-        items: vec![in rt.alloc(); 4u8]?,
-        room: 2,
-    };
+    let items = vec![in rt.alloc(); 4u8]?;
+    let collected = Few { items, room: 2 };
     assert_eq!(rt; got.as_slice(), [Poll::Ready(Ok(collected))].as_slice());
     Ok(())
 }
@@ -95,90 +102,51 @@ fn each_collection_takes_items_in_by_its_own_rule(rt: HostRuntime) -> Result<(),
 
 #[test]
 fn try_collect_hands_back_what_was_refused(rt: HostRuntime) -> Result<(), Fail> {
-    let one = Room {
-        alloc: rt.alloc(),
-        items: 1,
-    };
     let list = vec![in rt.alloc(); item(Ok(1u8)), item(Ok(2)), item(Err(9u8))]?;
     let results = stream::script(list);
     let got: Vec<Poll<Result<Few<u8>, TryCollectError<Few<u8>, u8, u8>>>> = polled(
         &rt,
-        &mut results.try_collect(one),
+        &mut results.try_collect(room_for(rt, 1)),
         1,
     )?;
-    let collected = Few {
-        items: vec![in rt.alloc(); 1u8]?,
-        room: 1,
-    };
+    let collected = full(rt, 1)?;
     let refused = TryCollectError::Memory(Refused { collected, item: 2 });
     assert_eq!(rt; got.as_slice(), [Poll::Ready(Err(refused))].as_slice());
     Ok(())
 }
 
-#[test]
-fn partition_hands_back_what_was_refused(rt: HostRuntime) -> Result<(), Fail> {
-    let one = Room {
-        alloc: rt.alloc(),
-        items: 1,
-    };
-    let sorted = stream::iter(1u8..5).partition(one, |x: &u8| *x % 2 == 0);
+/// Of 1 to 4 those that are as odd as `left` go to the first part: whether 3 is refused where each part has room for one.
+fn partition_refuses(rt: HostRuntime, left: u8, right: u8) -> Result<bool, Fail> {
+    let sorted = stream::iter(1u8..5).partition(room_for(rt, 1), move |x: &u8| *x % 2 == left % 2);
     let mut sorted: stream::PartitionFuture<_, _, Few<u8>> = sorted;
     let got = polled(&rt, &mut sorted, 1)?;
-    let few = |x: u8| -> Result<Few<u8>, Fail> {
-        Ok(Few {
-            items: vec![in rt.alloc(); x]?,
-            room: 1,
-        })
-    };
     let refused = Refused {
-        collected: (few(2)?, few(1)?),
+        collected: (full(rt, left)?, full(rt, right)?),
         item: 3,
     };
-    assert_eq!(rt; got.as_slice(), [Poll::Ready(Err(refused))].as_slice());
+    Ok(got.as_slice() == [Poll::Ready(Err(refused))].as_slice())
+}
+
+#[test]
+fn partition_hands_back_what_was_refused(rt: HostRuntime) -> Result<(), Fail> {
+    assert!(rt; partition_refuses(rt, 2, 1)?);
     Ok(())
 }
 
 #[test]
 fn partition_hands_back_what_was_refused_to_the_first(rt: HostRuntime) -> Result<(), Fail> {
-    let one = Room {
-        alloc: rt.alloc(),
-        items: 1,
-    };
-    let sorted = stream::iter(1u8..5).partition(one, |x: &u8| *x % 2 == 1);
-    let mut sorted: stream::PartitionFuture<_, _, Few<u8>> = sorted;
-    let got = polled(&rt, &mut sorted, 1)?;
-    let few = |x: u8| -> Result<Few<u8>, Fail> {
-        Ok(Few {
-            items: vec![in rt.alloc(); x]?,
-            room: 1,
-        })
-    };
-    let refused = Refused {
-        collected: (few(1)?, few(2)?),
-        item: 3,
-    };
-    assert_eq!(rt; got.as_slice(), [Poll::Ready(Err(refused))].as_slice());
+    assert!(rt; partition_refuses(rt, 1, 2)?);
     Ok(())
 }
 
 #[test]
 fn unzip_hands_back_a_later_pair_whose_first_part_was_refused(rt: HostRuntime) -> Result<(), Fail> {
-    let one = Room {
-        alloc: rt.alloc(),
-        items: 1,
-    };
     let pairs = stream::iter([(1u8, 2u8), (3, 4)].into_iter());
-    let mut parts: stream::UnzipFuture<_, Few<u8>, Tall<u8>> = pairs.unzip(one);
+    let mut parts: stream::UnzipFuture<_, Few<u8>, Tall<u8>> = pairs.unzip(room_for(rt, 1));
     let got = polled(&rt, &mut parts, 1)?;
-    let left = Few {
-        items: vec![in rt.alloc(); 1u8]?,
-        room: 1,
-    };
-    let right = Tall {
-        items: vec![in rt.alloc(); 2u8]?,
-    };
+    let items = vec![in rt.alloc(); 2u8]?;
     let refused = UnzipRefused::Left {
-        collected: (left, right),
+        collected: (full(rt, 1)?, Tall { items }),
         item: (3, 4),
     };
     assert_eq!(rt; got.as_slice(), [Poll::Ready(Err(refused))].as_slice());
@@ -204,22 +172,12 @@ fn unzip_hands_back_what_was_refused(rt: HostRuntime) -> Result<(), Fail> {
 
 #[test]
 fn unzip_keeps_the_first_part_where_the_second_is_refused(rt: HostRuntime) -> Result<(), Fail> {
-    let one = Room {
-        alloc: rt.alloc(),
-        items: 1,
-    };
     let pairs = stream::iter([(1u8, 2u8), (3, 4)].into_iter());
-    let mut parts: stream::UnzipFuture<_, Tall<u8>, Few<u8>> = pairs.unzip(one);
+    let mut parts: stream::UnzipFuture<_, Tall<u8>, Few<u8>> = pairs.unzip(room_for(rt, 1));
     let got = polled(&rt, &mut parts, 1)?;
-    let left = Tall {
-        items: vec![in rt.alloc(); 1u8, 3]?,
-    };
-    let right = Few {
-        items: vec![in rt.alloc(); 2u8]?,
-        room: 1,
-    };
+    let items = vec![in rt.alloc(); 1u8, 3]?;
     let refused = UnzipRefused::Right {
-        collected: (left, right),
+        collected: (Tall { items }, full(rt, 2)?),
         item: 4,
     };
     assert_eq!(rt; got.as_slice(), [Poll::Ready(Err(refused))].as_slice());

@@ -12,16 +12,7 @@ use std::sync::atomic::AtomicU64;
 use std::sync::atomic::Ordering::SeqCst;
 use std::test::Fail;
 use std::thread;
-
-fn is_woken(solo: &Solo) -> bool {
-    match solo.sleep() {
-        Some(asleep) => {
-            asleep.end();
-            false
-        }
-        None => true,
-    }
-}
+use test_support::is_woken;
 
 /// Whether a poll of the future is pending, and its task is woken once the bell is rung and not before.
 fn is_woken_by<R, F>(rt: &R, mut future: F, bell: &Bell) -> Result<bool, Fail>

@@ -3,22 +3,11 @@ ghost use Rattle.std.specs.Prelude.{◌≡◌};
 
 use futures_lite::io::{self, Blanks, Books, Cursor, Journal, split_journalled};
 use std::alloc::{AllocError, AllocGlobal};
-use std::fmt::Debug;
 use std::marker::Brand;
 use std::process::Abort;
 use std::sync::Wait;
 use std::test::Fail;
-use test_support::{journal_on, reads_byte};
-
-/// Asserts that something is shown by this text.
-fn shows<R, T>(rt: R, x: &T, text: &str) -> Result<(), Fail>
-where
-    R: Abort + AllocGlobal + Copy,
-    T: Debug,
-{
-    assert_eq!(rt; format!(in rt.alloc(); "{x:?}")?.as_str(), text);
-    Ok(())
-}
+use test_support::{journal_on, reads_byte, shows};
 
 #[test]
 fn halves_show_what_they_share(rt: HostRuntime) -> Result<(), Fail> {
@@ -26,16 +15,21 @@ fn halves_show_what_they_share(rt: HostRuntime) -> Result<(), Fail> {
         return Err(AllocError.into());
     };
     let shared = "Mutex { data: Cursor { inner: [1, 2], position: 0 }, poisoned: false, .. }";
-    shows(
-        rt,
-        &reader,
-        format!(in rt.alloc(); "ReadHalf({shared})")?.as_str(),
-    )?;
-    shows(
-        rt,
-        &writer,
-        format!(in rt.alloc(); "WriteHalf({shared})")?.as_str(),
-    )
+    assert!(rt;
+        shows(
+            &rt,
+            &reader,
+            format!(in rt.alloc(); "ReadHalf({shared})")?.as_str(),
+        )?
+    );
+    assert!(rt;
+        shows(
+            &rt,
+            &writer,
+            format!(in rt.alloc(); "WriteHalf({shared})")?.as_str(),
+        )?
+    );
+    Ok(())
 }
 
 #[test]
@@ -47,7 +41,8 @@ fn a_journal_shows_its_entries(rt: HostRuntime) -> Result<(), Fail> {
     let entry = "Entry { call: Read { room: 1 }, answer: Read([1]) }";
     let held = format!(in rt.alloc(); "start: {start}, stream: {stream}, entries: [{entry}]")?;
     let text = format!(in rt.alloc(); "Journal {{ {held}, alloc: Global }}")?;
-    shows(rt, &journal, text.as_str())
+    assert!(rt; shows(&rt, &journal, text.as_str())?);
+    Ok(())
 }
 
 /// Asserts how both halves of a journal of one read are shown.
@@ -61,8 +56,9 @@ where
     let Ok((reader, writer)) = halves else {
         return Err(AllocError.into());
     };
-    shows(rt, &reader, "JournalReadHalf { calls: 1, bytes: 1, .. }")?;
-    shows(rt, &writer, "JournalWriteHalf { calls: 0, bytes: 0, .. }")
+    assert!(rt; shows(&rt, &reader, "JournalReadHalf { calls: 1, bytes: 1, .. }")?);
+    assert!(rt; shows(&rt, &writer, "JournalWriteHalf { calls: 0, bytes: 0, .. }")?);
+    Ok(())
 }
 
 #[test]

@@ -10,6 +10,7 @@ use std::alloc::AllocGlobal;
 use std::cell::Cell;
 use std::random::RandomSource;
 use std::test::Fail;
+use test_support::is_woken;
 
 /// A stream that is pending for ever, and leaves the waker of its task in a slot. Who empties the slot wakes the task.
 #[derive(Drop)]
@@ -36,16 +37,6 @@ impl<'a> Stream for Waiting<'a> {
 
     fn size_hint(&self) -> (usize, Option<usize>) {
         (0, Some(0))
-    }
-}
-
-fn is_woken(solo: &Solo) -> bool {
-    match solo.sleep() {
-        Some(asleep) => {
-            asleep.end();
-            false
-        }
-        None => true,
     }
 }
 

@@ -19,9 +19,9 @@ other_way (inr q) = inl q
 module _ {A : Type 0} where
   row_more : (i j : List (Poll A)) (c : Poll A) (i' j' k h : List (Poll A)) → PickRow i j c i' j'
       → PickRow (i ++ k) (j ++ h) c (i' ++ k) (j' ++ h)
-  row_more (Ready x ∷ i) j c i' j' k h r = (r.0, ap (λ l. l ++ k) r.1, ap (λ l. l ++ h) r.2)
-  row_more (Pending ∷ i) (b ∷ j) c i' j' k h r = (r.0, ap (λ l. l ++ k) r.1, ap (λ l. l ++ h) r.2)
-  row_more i j c i' j' k h r = absurd r
+  row_more [] j c i' j' k h r = absurd r
+  row_more (Pending ∷ i) [] c i' j' k h r = absurd r
+  row_more (a ∷ i) j c i' j' k h r = (r.0, ap (λ l. l ++ k) r.1, ap (λ l. l ++ h) r.2)
 
   -- a row that was pending, before rows that wait
   row_waits : (i j i' j' : List (Poll A)) → PickRow i j Pending i' j' → Waiting i' → Waiting j' → Waiting i × Waiting j

@@ -1,5 +1,5 @@
 -- A `BufReader` with some capacity tells one tale where its reader does; it is never pending where its reader isn't.
-use Rattle.std.proofs.Common.{◌≡◌, ◌∙◌, ◌<◌, ℕ, zero, suc, List, ◌++◌, sym, ap, arith}
+use Rattle.std.proofs.Common.{◌≡◌, ◌∙◌, ◌<◌, ℕ, zero, suc, List, ◌++◌, sym, ap}
 use Rattle.lite_base.specs.Answers.{Comparable}
 use Rattle.lite_base.specs.Runs.{Runs}
 use Rattle.lite_io_base.specs.Laws.Steady.{comparable_behind, comparable_fronts, no_wait_both, no_wait_bytes}
@@ -8,21 +8,19 @@ use Rattle.lite_io_base.specs.Marks.{ReadMark, bytes}
 use Rattle.lite_io_base.specs.Steady.{CalmReadLaws, NoPendingRead, SteadyReadLaws, strip_marks}
 use Rattle.lite_buffered.specs.declared.buf_reader.BufReader.{BufReader}
 use Rattle.lite_buffered.specs.BufReader.{Padded, PassesBuffer, ThroughBuffer, ahead, reader_capacity}
-use Rattle.lite_buffered.specs.Laws.BufReader.{through_laws}
+use Rattle.lite_buffered.specs.Laws.BufReader.{passes_some, through_laws}
 
 -- with some capacity, pendings aside, what was ahead and what came in are what went out and what is ahead
 passes_apart : (n : ℕ) (p q : List ℕ) (came out : List ReadMark) → 0 < n → PassesBuffer n p came out q
     → strip_marks (bytes p) ++ strip_marks came ≡ strip_marks out ++ strip_marks (bytes q)
-passes_apart zero p q came out some h = absurd (omega (arith, some))
-passes_apart (suc n) p q came out some h =
-    sym (strip_marks-append (bytes p) came) ∙ ap strip_marks h ∙ strip_marks-append out (bytes q)
+passes_apart n p q came out some h =
+    sym (strip_marks-append (bytes p) came) ∙ ap strip_marks (passes_some n p came out q some h)
+    ∙ strip_marks-append out (bytes q)
 
 padded_no_wait : (l k : List ReadMark) → Padded l k → NoPendingRead l → NoPendingRead k
 padded_no_wait _ _ Padded.none h = tt
-padded_no_wait _ _ (Padded.same (ReadMark.byte b) l k p) h = padded_no_wait l k p h
 padded_no_wait _ _ (Padded.same ReadMark.pending l k p) h = absurd h
-padded_no_wait _ _ (Padded.same (ReadMark.fault kind) l k p) h = padded_no_wait l k p h
-padded_no_wait _ _ (Padded.same ReadMark.end l k p) h = padded_no_wait l k p h
+padded_no_wait _ _ (Padded.same a l k p) h = padded_no_wait l k p h
 padded_no_wait _ _ (Padded.more l k p) h = padded_no_wait l k p h
 
 passes_no_wait : (n : ℕ) (p q : List ℕ) (came out : List ReadMark) → PassesBuffer n p came out q → NoPendingRead came

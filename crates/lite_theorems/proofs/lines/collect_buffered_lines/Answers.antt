@@ -16,7 +16,8 @@ use Rattle.lite_read.specs.Segments.{PieceSegments}
 use Rattle.lite_read.specs.declared.lines.Lines.{Lines}
 use Rattle.lite_theorems.specs.Lines.{AtEachValue, CollectsLines, limited, lines_told}
 use Rattle.lite_theorems.proofs.Collecting.{Has, collects_so, has_none, says}
-use Rattle.lite_theorems.proofs.Limits.{passed, told_through}
+use Rattle.lite_buffered.specs.Laws.BufReader.{passes_some}
+use Rattle.lite_theorems.proofs.Limits.{told_through}
 use Rattle.lite_theorems.proofs.Telling.{Given, given}
 use Rattle.lite_theorems.proofs.lines.collect_buffered_lines.Goals as goal
 use Rattle.lite_base.specs.Runs.{Runs}
@@ -42,7 +43,7 @@ module _ {R C : Type 0} (reads : Runs ReadMark R) (holds : C → List (String Gl
       let full : PassesBuffer (reader_capacity reader) (ahead reader) b.came t.front (ahead left) =
       subst (λ r. PassesBuffer (reader_capacity r) (ahead r) b.came t.front (ahead left)) inner b.passes
       in
-      let told = passed (reader_capacity reader) (ahead reader) b.came t.front (ahead left) some full in
+      let told = passes_some (reader_capacity reader) (ahead reader) b.came t.front (ahead left) some full in
       let fits : WithinLimit limit t.front (limit_of y.stream.reader) =
       subst (λ (n : ℕ). WithinLimit n t.front (limit_of y.stream.reader)) bound t.fits in
       let cut : PieceSegments (lining ⊤ tt) [] s.marks h.ins y.stream.held.bytes.items =
