@@ -20,6 +20,7 @@ impl Tale for Dots {
 }
 
 impl AsyncRead for Dots {
+    #[tactic(auto, using(futures_lite::specs::Own::reads_one))]
     fn poll_read(&mut self, _cx: &mut Context<'_>, buf: &mut [u8]) -> Poll<io::Result<usize>> {
         if self.left == 0 || buf.is_empty() {
             return Poll::Ready(Ok(0));

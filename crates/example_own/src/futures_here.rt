@@ -21,6 +21,7 @@ where
 }
 
 /// Waits for a countdown: the value is the one that it was made with.
+#[tactic(auto, using(crate::specs::Countdown::countdown_value))]
 fn waited<R>(rt: &R, left: u8, value: u32) -> Result<u32, AllocError>
 where
     R: Wait + RandomSource + AllocGlobal,

@@ -1,12 +1,11 @@
 //! Two streams of one's own, adapted and consumed on this thread.
 use crate::counter::Counter;
-use crate::evens::even_numbers;
+use crate::evens::{even_numbers, evens};
 use crate::ticks::Ticks;
 use futures_lite::future::{block_on, poll_fn};
 use futures_lite::{Doorbell, Solo, Stream, StreamExt, stream};
 use std::alloc::AllocGlobal;
 use std::io;
-use std::io::ErrorKind;
 use std::random::RandomSource;
 use std::sync::Wait;
 
@@ -33,9 +32,5 @@ where
     cx.cancel();
     ran?;
     println!(rt; "{answers:?}")?;
-    let evens = Counter { next: 1, end: 10 }.filter(|x| *x % 2 == 0);
-    match block_on(rt, evens.collect::<Vec<u32>>(rt.alloc()))? {
-        Ok(numbers) => println!(rt; "{numbers:?}"),
-        Err(_) => Err(io::Error::from(ErrorKind::OutOfMemory)),
-    }
+    println!(rt; "{:?}", evens(rt, Counter { next: 1, end: 10 })?)
 }

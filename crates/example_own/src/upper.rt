@@ -24,6 +24,7 @@ impl<R: Tale> Tale for Upper<R> {
 impl<R: AsyncRead> AsyncRead for Upper<R> {
     ghost registers = { λ x. R.registers x.inner };
 
+    #[tactic(auto, using(futures_lite::specs::Own::hands_read))]
     fn poll_read(&mut self, cx: &mut Context<'_>, buf: &mut [u8]) -> Poll<io::Result<usize>> {
         match self.inner.poll_read(cx, buf) {
             Poll::Ready(Ok(n)) => {

@@ -1,5 +1,5 @@
 -- A reader by steps that reads many bytes at once, of those that are left: each is one step.
-use Rattle.std.proofs.Common.{◌≡◌, ◌+◌, ℕ, List, [], ◌∷◌}
+use Rattle.std.proofs.Common.{◌≡◌, ◌+◌, ℕ, List, [], ◌∷◌, drop}
 use Rattle.lite_io_base.specs.Marks.{ReadMark}
 
 -- `left` are the bytes that are to come, and `further x n` is x where n more of them were read
@@ -13,3 +13,18 @@ module _ {S : Type 0} (step : S → ReadMark → S → Type 0) (left : S → Lis
         × step x (ReadMark.byte b) (further x 1)
     -- there is an end where none is left
     pub by_end : (x : S) → left x ≡ [] → step x ReadMark.end x
+
+-- `left` are the bytes that are to come, and `on x n` is x where n more of them were read
+module _ {S : Type 0} (left : S → List ℕ) (on : S → ℕ → S) where
+  -- a byte is the first of those that are to come, and an end is met where there is none
+  abbrev pub FrontStep : S → ReadMark → S → Type 0
+  FrontStep x (ReadMark.byte b) y = (left x ≡ b ∷ left y) × (y ≡ on x 1)
+  FrontStep x ReadMark.end y = (left x ≡ []) × (y ≡ x)
+  FrontStep x ReadMark.pending y = ⊥
+  FrontStep x (ReadMark.fault kind) y = ⊥
+
+  -- what the two have to do with each other
+  pub record FrontLaws : Type 0 where
+    pub none : (x : S) → on x 0 ≡ x
+    pub more : (x : S) (m n : ℕ) → on (on x m) n ≡ on x (m + n)
+    pub rest : (x : S) (n : ℕ) → left (on x n) ≡ drop n (left x)

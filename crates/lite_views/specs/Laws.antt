@@ -2,3 +2,4 @@ pub mod Each
 pub mod Fronts
 pub mod Items
 pub mod Sources
+pub mod Steps

@@ -1,6 +1,8 @@
 -- A reader over another, which hands on what that one reads: each byte as what is made of it, each other mark as it is.
-use Rattle.std.proofs.Common.{◌≡◌, ◌∙◌, ℕ, suc, List, [], ◌∷◌, ◌++◌, length, map, refl, ap, sym, subst, arith}
-use Rattle.std.proofs.lemmas.List.{map-append}
+use Rattle.std.proofs.Common.{◌≡◌, ◌∙◌, ◌≤◌, ℕ, suc, List, [], ◌∷◌, ◌++◌, length, map, take, drop, refl, ap, sym, subst}
+use Rattle.std.proofs.Common.{arith, length-append, length-drop, length-take-le}
+use Rattle.std.proofs.Math.Seq.{take-append_seam}
+use Rattle.std.proofs.lemmas.List.{length-map, map-append}
 use Rattle.lite_base.specs.Ranks.{Ranks, ranks_of}
 use Rattle.lite_base.specs.Runs.{Runs}
 use Rattle.lite_io_base.specs.Counting.{ReadCounting}
@@ -64,3 +66,20 @@ handed_moved f (x ∷ xs) room other same = made_bytes f (x ∷ xs)
 handed_moved f [] [] [] same = refl
 handed_moved f [] (r ∷ room) (o ∷ other) same = refl
 handed_moved f [] _ _ same = absurd (omega (arith, same))
+
+-- a read of what the part read, of which the bytes that came were changed where they lie
+module _ {M R : Type 0} (part : M → R) (f : ℕ → ℕ) (reads : Runs ReadMark R) (x y : M) (buf out : List ℕ) (n : ℕ) where
+  pub hands_read : reads (part x) (moved buf (take n buf)) (part y) → n ≤ length buf → out ≡ map f (take n buf)
+      → HandsOn part f reads x (moved (out ++ drop n buf) (take n (out ++ drop n buf))) y
+  hands_read ran fits is =
+      let other = out ++ drop n buf in
+      let len : length out ≡ n = ap length is ∙ length-map (take n buf) f ∙ length-take-le n buf fits in
+      let room : length other ≡ length buf =
+      omega (arith, length-append out (drop n buf), length-drop n buf, len, fits) in
+      let taken : take n other ≡ map f (take n buf) =
+      ap (λ k. take k other) (sym len) ∙ take-append_seam out (drop n buf) ∙ is in
+      record {
+        ins = moved buf (take n buf);
+        came = ran;
+        out = rw taken (handed_moved f (take n buf) buf other room);
+      }

@@ -1,9 +1,11 @@
 -- A reader by steps that reads many bytes at once, of those that are left: each is one step.
 use Rattle.std.proofs.Common.{◌≡◌, ◌∙◌, ◌<◌, ◌≤◌, ℕ, zero, suc, List, [], ◌∷◌, ◌++◌, length, min, take, drop, refl}
 use Rattle.std.proofs.Common.{sym, ap, subst, arith, length-take-le, slice_set, take-append-drop}
+use Rattle.std.proofs.lemmas.Grind.{common_steps}
 use Rattle.lite_io_base.specs.Marks.{ReadMark, bytes, moved}
 use Rattle.lite_io_base.specs.Steps.{Steps}
-use Rattle.lite_theorems.specs.Reading.{ReadsLeft}
+use Rattle.lite_theorems.specs.Readers.{MarksLower}
+use Rattle.lite_theorems.specs.Reading.{FrontLaws, FrontStep, ReadsLeft}
 
 module _ {S : Type 0} {step : S → ReadMark → S → Type 0} {left : S → List ℕ} {further : S → ℕ → S}
     (reads : ReadsLeft step left further) where
@@ -36,6 +38,38 @@ module _ {S : Type 0} {step : S → ReadMark → S → Type 0} {left : S → Lis
       → take n buf ≡ take n (left x)
       → Steps step x (moved buf (take n buf)) (further x n)
   reads_into x buf n few same = rw same (reads_at x (left x) buf n refl few)
+
+-- the number of the bytes that are to come falls with each
+pub front_lowers : {S : Type 0} (left : S → List ℕ) (on : S → ℕ → S)
+    → MarksLower (FrontStep left on) (λ x. length (left x))
+front_lowers left on =
+    record {
+      by_byte = λ x y b h. omega (arith, ap length h.0);
+      by_fault = λ x y kind h. absurd h;
+      by_pending = λ x y h. absurd h;
+      by_end = λ x y h. rw h.1 (omega arith);
+    }
+
+module _ {S : Type 0} {left : S → List ℕ} {on : S → ℕ → S} where
+  front_reads : FrontLaws left on → ReadsLeft (FrontStep left on) left on
+  front_reads laws =
+      record {
+        none = laws.none;
+        more = λ x n. laws.more x 1 n ∙ ap (on x) (omega arith);
+        by_byte = λ x b rest e.
+            let after : left (on x 1) ≡ rest = laws.rest x 1 ∙ ap (drop 1) e in
+            (after, (e ∙ ap (λ l. b ∷ l) (sym after), refl));
+        by_end = λ x e. (e, refl);
+      }
+
+  -- a read of the first bytes that are to come, as many as there are and as there is room for
+  pub front_read : (x y : S) (buf : List ℕ) (n : ℕ) → FrontLaws left on → n ≡ min (length (left x)) (length buf)
+      → take n buf ≡ take n (left x) → y ≡ on x n
+      → Steps (FrontStep left on) x (moved buf (take n buf)) y
+  front_read x y buf n laws few same is = rw is (reads_into (front_reads laws) x buf n few same)
+
+-- such a read, with what a buffer has after its first bytes were put in
+pub ruleset front_rules = (front_read, common_steps)
 
 -- a read of one byte, which is stored at the front
 pub reads_one : {S : Type 0} (step : S → ReadMark → S → Type 0) (x y : S) (b : ℕ) (buf : List ℕ) → 0 < length buf

@@ -1,10 +1,12 @@
 -- Each item that comes out has a fact, where each that goes in has one: a lemma for each family of adapters.
 use Rattle.std.proofs.Common.{◌≡◌, ℕ, zero, suc, List, [], ◌∷◌, ◌++◌, inl, inr, map, refl}
+use Rattle.std.specs.Fn.{CalledAt, Mut}
 use Rattle.std.specs.Prelude.{⊤, Bool, true, false, Option, Some, None}
+use denote.Ref.{Bor}
 use Rattle.futures.specs.declared.task.Poll.{Poll}
 use Rattle.futures.specs.declared.task.Poll.TheVariants.{Ready, Pending}
 use Rattle.lite_base.specs.Answers.{Answer, Gives, Waiting, end, item}
-use Rattle.lite_base.specs.Calling.{Always}
+use Rattle.lite_base.specs.Calling.{Accepts, Always}
 use Rattle.lite_base.specs.Future.Finishes.{Finishes}
 use Rattle.lite_base.specs.Future.Handed.{handed}
 use Rattle.lite_base.specs.Runs.{Question, Runs}
@@ -84,6 +86,13 @@ pub each_kept : {F A B : Type 0} (call : Question F A (Option B)) (Q : B → Typ
     → (f g : F) (i : List (Answer A)) (o : List (Answer B)) → LeavesOut call f i o g → EachItem Q o
 each_kept call Q answers f g i o =
     each_left call (λ x. ⊤) Q (λ p q x y any. answers p q x y) f g i o (each_any i)
+
+-- filter: what its closure accepts
+pub each_accepted : {F A : Type 0} (g : Mut F (Bor A × Unit {0}) Bool) (P Q : A → Type 0)
+    → ((p q : F) (x : A) → P x → CalledAt g p x true q → Q x)
+    → (f h : F) (i o : List (Answer A)) → EachItem P i → LeavesOut (Accepts (CalledAt g)) f i o h → EachItem Q o
+each_accepted g P Q accepts =
+    each_left (Accepts (CalledAt g)) P Q (λ p q x y has called. rw called.0 (accepts p q x has called.1))
 
 -- map, enumerate, inspect, copied
 pub each_replaced : {F A B : Type 0} (call : Question F A B) (P : A → Type 0) (Q : B → Type 0)

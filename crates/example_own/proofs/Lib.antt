@@ -1,3 +1,0 @@
-mod Waiting
-mod Below
-mod Reading
