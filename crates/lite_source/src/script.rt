@@ -9,6 +9,7 @@ ghost use Rattle.lite_source.specs.Script.{GivesScript, IsCloneBy};
 
 use lite_base::{Context, Counted, OkCounted, Poll, Stream};
 use std::alloc::AllocError;
+use std::collections::VecDeque;
 use std::marker::Model;
 
 /// Gives its answers in order, and then ends for ever. A contract sees it as the list of answers that are left.
@@ -16,25 +17,25 @@ use std::marker::Model;
 /// Made by [`script`](crate::make::script). The original has no such type.
 #[derive(Debug, Drop)]
 pub struct Script<T> {
-    // The next answer stands last, so that a poll takes it without moving the others.
-    answers: Vec<Poll<Option<T>>>,
+    answers: VecDeque<Poll<Option<T>>>,
 }
 
 impl<T> Model for Script<T> {
-    ghost use Rattle.std.specs.Prelude.{List, reverse};
+    ghost use Rattle.std.specs.Prelude.{List};
     ghost use Rattle.lite_base.specs.Answers.{Answer};
 
     ghost Value = { List (Answer T) };
 
-    ghost view = { λ s. reverse s.answers.items };
+    ghost view = { λ s. s.answers.items };
 }
 
 impl<T> Script<T> {
-    pub(crate) fn new(mut answers: Vec<Poll<Option<T>>>) -> Script<T>
+    pub(crate) fn new(answers: Vec<Poll<Option<T>>>) -> Script<T>
         ensures { result ≡ answers.items }
     {
-        answers.reverse();
-        Script { answers }
+        Script {
+            answers: VecDeque::from(answers),
+        }
     }
 }
 
@@ -56,7 +57,7 @@ impl<T: Clone> Clone for Script<T> {
         for answer in &self.answers {
             answers.push(clone_answer(answer)?)?;
         }
-        Ok(Script { answers })
+        Ok(Script::new(answers))
     }
 }
 
@@ -70,7 +71,7 @@ impl<T> Stream for Script<T> {
     ghost laws = { script_laws };
 
     fn poll_next(&mut self, _cx: &mut Context<'_>) -> Poll<Option<T>> {
-        match self.answers.pop() {
+        match self.answers.pop_front() {
             Some(answer) => answer,
             None => Poll::Ready(None),
         }
