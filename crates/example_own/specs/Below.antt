@@ -30,4 +30,5 @@ module _ {F : Type 0} (g : Mut F (Bor ℕ × Unit {0}) Bool) (p q : F) (i o : Li
   pub even_left : ((p q : F) (n : ℕ) → CalledAt g p n true q → n % 2 ≡ 0) → EachItem (λ n. n < 100) i
       → LeavesOut (Accepts (CalledAt g)) p i o q → EachItem (λ n. (n % 2 ≡ 0) × (n < 100)) o
   even_left even =
-      each_accepted g (λ n. n < 100) (λ n. (n % 2 ≡ 0) × (n < 100)) (λ p q n low called. (even p q n called, low)) p q i o
+      each_accepted g (λ n. n < 100) (λ n. (n % 2 ≡ 0) × (n < 100))
+      (λ p q n low called. (even p q n called, low)) p q i o
