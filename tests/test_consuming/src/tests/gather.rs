@@ -115,27 +115,45 @@ fn try_collect_hands_back_what_was_refused(rt: HostRuntime) -> Result<(), Fail> 
     Ok(())
 }
 
-/// Of 1 to 4 those that are as odd as `left` go to the first part: whether 3 is refused where each part has room for one.
-fn partition_refuses(rt: HostRuntime, left: u8, right: u8) -> Result<bool, Fail> {
-    let sorted = stream::iter(1u8..5).partition(room_for(rt, 1), move |x: &u8| *x % 2 == left % 2);
-    let mut sorted: stream::PartitionFuture<_, _, Few<u8>> = sorted;
-    let got = polled(&rt, &mut sorted, 1)?;
-    let refused = Refused {
+type Parts = (Few<u8>, Few<u8>);
+
+/// What is answered of 1 to 4 where each part has room for one, and those that are as odd as `left` go to the first.
+fn partitioned(
+    rt: HostRuntime,
+    left: u8,
+) -> Result<Vec<Poll<Result<Parts, Refused<Parts, u8>>>>, Fail> {
+    let mut sorted = stream::iter(1u8..5).partition(
+        room_for(rt, 1),
+        move |x: &u8| *x % 2 == left % 2,
+    );
+    Ok(polled(&rt, &mut sorted, 1)?)
+}
+
+/// That 3 was refused, with one item in each part.
+fn refuses_three(rt: HostRuntime, left: u8, right: u8) -> Result<Refused<Parts, u8>, Fail> {
+    Ok(Refused {
         collected: (full(rt, left)?, full(rt, right)?),
         item: 3,
-    };
-    Ok(got.as_slice() == [Poll::Ready(Err(refused))].as_slice())
+    })
 }
 
 #[test]
 fn partition_hands_back_what_was_refused(rt: HostRuntime) -> Result<(), Fail> {
-    assert!(rt; partition_refuses(rt, 2, 1)?);
+    let got = partitioned(rt, 2)?;
+    assert_eq!(rt;
+        got.as_slice(),
+        [Poll::Ready(Err(refuses_three(rt, 2, 1)?))].as_slice()
+    );
     Ok(())
 }
 
 #[test]
 fn partition_hands_back_what_was_refused_to_the_first(rt: HostRuntime) -> Result<(), Fail> {
-    assert!(rt; partition_refuses(rt, 1, 2)?);
+    let got = partitioned(rt, 1)?;
+    assert_eq!(rt;
+        got.as_slice(),
+        [Poll::Ready(Err(refuses_three(rt, 1, 2)?))].as_slice()
+    );
     Ok(())
 }
 
