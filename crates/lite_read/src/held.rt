@@ -8,6 +8,7 @@ ghost use Rattle.lite_read.specs.Holding.{CanTakeIn, HasRoomFor};
 ghost use Rattle.lite_read.specs.Texts.{AppendsText, ValueOf};
 
 use lite_io_base::AsyncBufRead;
+use simdutf8::basic::from_utf8;
 use std::alloc::{AllocError, Allocator};
 use std::io::ErrorKind;
 use std::{io, mem, str};
@@ -149,5 +150,5 @@ fn append_text<A: Allocator>(text: &mut String<A>, bytes: &[u8])
 fn is_utf8(bytes: &[u8]) -> bool
     ensures { MatchBool result (IsUtf8 bytes.now) (¬ IsUtf8 bytes.now) }
 {
-    str::from_utf8(bytes).is_ok()
+    from_utf8(bytes).is_ok()
 }

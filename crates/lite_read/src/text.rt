@@ -7,9 +7,10 @@ ghost use Rattle.std.specs.declared.io.ErrorKind.TheVariants.{OutOfMemory};
 ghost use Rattle.lite_read.specs.Pieces.{AtEnd};
 ghost use Rattle.lite_read.specs.LineText.{IsText, without_return};
 
+use simdutf8::basic::from_utf8;
 use std::alloc::{AllocError, Global};
 use std::io::ErrorKind;
-use std::{io, mem, str};
+use std::{io, mem};
 
 const RETURN: u8 = b'\r';
 
@@ -92,7 +93,7 @@ fn text_of(bytes: Vec<u8>, ascii: bool) -> io::Result<String>
     ensures { IsText bytes.items result }
 {
     if !ascii {
-        if let Err(_) = str::from_utf8(&bytes) {
+        if let Err(_) = from_utf8(&bytes) {
             return Err(io::Error::from(ErrorKind::InvalidData));
         }
     }
