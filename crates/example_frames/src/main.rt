@@ -14,7 +14,6 @@ use futures_lite::io::{BufReader, Cursor};
 use reading::read_frame;
 use std::alloc::AllocGlobal;
 use std::io::BufRead;
-use std::process::ExitCode;
 use std::random::RandomSource;
 use std::sync::Wait;
 use writing::write_frame;
@@ -22,14 +21,8 @@ use writing::write_frame;
 /// How many bytes a payload may have.
 const LIMIT: u32 = 1 << 16;
 
-fn main(rt: HostRuntime) -> ExitCode {
-    match there_and_back(&rt, &rt) {
-        Ok(()) => ExitCode::from(0),
-        Err(e) => {
-            let _ = eprintln!(rt; "example_frames: {e:?}");
-            ExitCode::from(1)
-        }
-    }
+fn main(rt: HostRuntime) -> Result<(), FrameError> {
+    there_and_back(&rt, &rt)
 }
 
 /// Writes the lines as frames, and prints what is read of them. `rt` is the host as one that may wait.

@@ -8,7 +8,6 @@ use futures_lite::future::BlockOn;
 use futures_lite::io::{AssertAsync, BufReader, BufWriter};
 use futures_lite::laws::{ServeError, serve_lines};
 use std::alloc::AllocGlobal;
-use std::process::ExitCode;
 use std::random::RandomSource;
 use std::sync::Wait;
 use words::Words;
@@ -16,14 +15,8 @@ use words::Words;
 /// How many bytes are read in a row before the program yields.
 const BYTES: usize = 1 << 16;
 
-fn main(rt: HostRuntime) -> ExitCode {
-    match serve_standard(&rt, &rt) {
-        Ok(()) => ExitCode::from(0),
-        Err(e) => {
-            let _ = eprintln!(rt; "example_line_server: {e:?}");
-            ExitCode::from(1)
-        }
-    }
+fn main(rt: HostRuntime) -> Result<(), ServeError> {
+    serve_standard(&rt, &rt)
 }
 
 /// Serves standard input. `rt` is the host as one that may wait.

@@ -1,3 +1,4 @@
+pub mod Appended
 pub mod Found
 pub mod FoundLengths
 pub mod FoundLines

@@ -5,9 +5,10 @@ ghost use Rattle.lite_base.specs.Answers.{Answer, strip};
 ghost use Rattle.lite_base.specs.Calm.{NoPending};
 ghost use Rattle.nests_agree.specs.Both.{Begins, BothAppended};
 
+use crate::both::{TwoRuns, both_appended};
 use lite_base::future::make::{ready, yield_now, zip};
 use lite_base::{Context, Poll};
-use lite_laws::{run_both, run_calm};
+use lite_laws::run_calm;
 use lite_reshape::make::{chain, filter, flat_map, then};
 use lite_source::Script;
 use lite_source::make::once;
@@ -19,20 +20,17 @@ pub fn evens_agree(
     one: Script<u8>,
     other: Script<u8>,
     cx: &mut Context<'_>,
-    polls: usize,
-    more: usize,
-    out: &mut Vec<Poll<Option<u8>>>,
-    out_more: &mut Vec<Poll<Option<u8>>>,
+    runs: &mut TwoRuns<u8>,
 ) -> Result<(), AllocError>
     requires { strip one ≡ strip other }
-    ensures { BothAppended Begins out.old.items out.new.items out_more.old.items out_more.new.items polls more result }
+    ensures { BothAppended Begins runs.old runs.new result }
 {
     let mix = |x: u8| x ^ 1;
     let is_even = |x: &u8| *x % 2 == 0;
     let is_small = |x: &u8| *x < 100;
     let mut x = take(take_while(filter(map(one, mix), is_even), is_small), 3);
     let mut y = take(take_while(filter(map(other, mix), is_even), is_small), 3);
-    run_both(&mut x, &mut y, cx, polls, more, out, out_more)
+    both_appended(&mut x, &mut y, cx, runs)
 }
 
 /// Makes a future of each item that is pending once.
@@ -40,18 +38,15 @@ pub fn waits_agree(
     one: Script<u8>,
     other: Script<u8>,
     cx: &mut Context<'_>,
-    polls: usize,
-    more: usize,
-    out: &mut Vec<Poll<Option<((), u8)>>>,
-    out_more: &mut Vec<Poll<Option<((), u8)>>>,
+    runs: &mut TwoRuns<((), u8)>,
 ) -> Result<(), AllocError>
     requires { strip one ≡ strip other }
-    ensures { BothAppended Begins out.old.items out.new.items out_more.old.items out_more.new.items polls more result }
+    ensures { BothAppended Begins runs.old runs.new result }
 {
     let wait = |x: u8| zip(yield_now(), ready(x));
     let mut x = then(one, wait);
     let mut y = then(other, wait);
-    run_both(&mut x, &mut y, cx, polls, more, out, out_more)
+    both_appended(&mut x, &mut y, cx, runs)
 }
 
 /// Makes a stream of two items of each item.
@@ -59,18 +54,15 @@ pub fn lists_agree(
     one: Script<u8>,
     other: Script<u8>,
     cx: &mut Context<'_>,
-    polls: usize,
-    more: usize,
-    out: &mut Vec<Poll<Option<u8>>>,
-    out_more: &mut Vec<Poll<Option<u8>>>,
+    runs: &mut TwoRuns<u8>,
 ) -> Result<(), AllocError>
     requires { strip one ≡ strip other }
-    ensures { BothAppended Begins out.old.items out.new.items out_more.old.items out_more.new.items polls more result }
+    ensures { BothAppended Begins runs.old runs.new result }
 {
     let both = |x: u8| chain(once(x), once(x ^ 1));
     let mut x = flat_map(one, both);
     let mut y = flat_map(other, both);
-    run_both(&mut x, &mut y, cx, polls, more, out, out_more)
+    both_appended(&mut x, &mut y, cx, runs)
 }
 
 /// Runs a nest with futures over a script without a pending: none comes out.

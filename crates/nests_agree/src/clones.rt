@@ -5,8 +5,8 @@ ghost use Rattle.lite_base.specs.Steady.{TakesNone};
 ghost use Rattle.lite_reshape.specs.Cloned.{ClonedFrom, NoCloneRefused};
 ghost use Rattle.nests_agree.specs.Both.{BothAppended};
 
-use lite_base::{Context, Poll, SteadyStream, Stream};
-use lite_laws::run_both;
+use crate::both::{TwoRuns, both_appended};
+use lite_base::{Context, SteadyStream, Stream};
 use lite_reshape::Cloned;
 use std::alloc::AllocError;
 
@@ -17,10 +17,7 @@ pub fn clones_agree<'a, T: Clone + 'a, S: SteadyStream<Item = &'a T>>(
     x: &mut Cloned<S>,
     y: &mut Cloned<S>,
     cx: &mut Context<'_>,
-    polls: usize,
-    more: usize,
-    out: &mut Vec<Poll<Option<Result<T, AllocError>>>>,
-    out_more: &mut Vec<Poll<Option<Result<T, AllocError>>>>,
+    runs: &mut TwoRuns<Result<T, AllocError>>,
 ) -> Result<(), AllocError>
     requires first { ⟦<Cloned<S> as Stream>⟧.can_poll x.old }
     requires second { ⟦<Cloned<S> as Stream>⟧.can_poll y.old }
@@ -29,7 +26,7 @@ pub fn clones_agree<'a, T: Clone + 'a, S: SteadyStream<Item = &'a T>>(
     ensures { BothAppended
         (λ l m. NoCloneRefused l → NoCloneRefused m
         → ComparableBy (SameAnswer (ClonedFrom S.same T.is_clone)) (strip l) (strip m))
-        out.old.items out.new.items out_more.old.items out_more.new.items polls more result }
+        runs.old runs.new result }
 {
-    run_both(x, y, cx, polls, more, out, out_more)
+    both_appended(x, y, cx, runs)
 }

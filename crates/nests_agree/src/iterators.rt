@@ -2,8 +2,8 @@
 ghost use Rattle.std.specs.Prelude.{◌≡◌};
 ghost use Rattle.nests_agree.specs.Both.{Begins, BothAppended};
 
-use lite_base::{Context, Poll};
-use lite_laws::run_both;
+use crate::both::{TwoRuns, both_appended};
+use lite_base::Context;
 use lite_source::make::iter;
 use std::alloc::AllocError;
 
@@ -14,17 +14,14 @@ pub fn vectors_agree(
     one: Vec<u8>,
     other: Vec<u8>,
     cx: &mut Context<'_>,
-    polls: usize,
-    more: usize,
-    out: &mut Vec<Poll<Option<u8>>>,
-    out_more: &mut Vec<Poll<Option<u8>>>,
+    runs: &mut TwoRuns<u8>,
 ) -> Result<(), AllocError>
     requires { one.items ≡ other.items }
-    ensures { BothAppended Begins out.old.items out.new.items out_more.old.items out_more.new.items polls more result }
+    ensures { BothAppended Begins runs.old runs.new result }
 {
     let mut x = iter(one);
     let mut y = iter(other);
-    run_both(&mut x, &mut y, cx, polls, more, out, out_more)
+    both_appended(&mut x, &mut y, cx, runs)
 }
 
 /// Of two arrays.
@@ -32,17 +29,14 @@ pub fn arrays_agree(
     one: [u8; 4],
     other: [u8; 4],
     cx: &mut Context<'_>,
-    polls: usize,
-    more: usize,
-    out: &mut Vec<Poll<Option<u8>>>,
-    out_more: &mut Vec<Poll<Option<u8>>>,
+    runs: &mut TwoRuns<u8>,
 ) -> Result<(), AllocError>
     requires { one ≡ other }
-    ensures { BothAppended Begins out.old.items out.new.items out_more.old.items out_more.new.items polls more result }
+    ensures { BothAppended Begins runs.old runs.new result }
 {
     let mut x = iter(one);
     let mut y = iter(other);
-    run_both(&mut x, &mut y, cx, polls, more, out, out_more)
+    both_appended(&mut x, &mut y, cx, runs)
 }
 
 /// Of two slices, by value.
@@ -50,17 +44,14 @@ pub fn slices_agree(
     one: &[u8],
     other: &[u8],
     cx: &mut Context<'_>,
-    polls: usize,
-    more: usize,
-    out: &mut Vec<Poll<Option<u8>>>,
-    out_more: &mut Vec<Poll<Option<u8>>>,
+    runs: &mut TwoRuns<u8>,
 ) -> Result<(), AllocError>
     requires { one.now ≡ other.now }
-    ensures { BothAppended Begins out.old.items out.new.items out_more.old.items out_more.new.items polls more result }
+    ensures { BothAppended Begins runs.old runs.new result }
 {
     let mut x = iter(one.iter().copied());
     let mut y = iter(other.iter().copied());
-    run_both(&mut x, &mut y, cx, polls, more, out, out_more)
+    both_appended(&mut x, &mut y, cx, runs)
 }
 
 /// Of the numbers from `start` up to `end`, twice.
@@ -69,14 +60,11 @@ pub fn ranges_agree(
     start: u8,
     end: u8,
     cx: &mut Context<'_>,
-    polls: usize,
-    more: usize,
-    out: &mut Vec<Poll<Option<u8>>>,
-    out_more: &mut Vec<Poll<Option<u8>>>,
+    runs: &mut TwoRuns<u8>,
 ) -> Result<(), AllocError>
-    ensures { BothAppended Begins out.old.items out.new.items out_more.old.items out_more.new.items polls more result }
+    ensures { BothAppended Begins runs.old runs.new result }
 {
     let mut x = iter(start..end);
     let mut y = iter(start..end);
-    run_both(&mut x, &mut y, cx, polls, more, out, out_more)
+    both_appended(&mut x, &mut y, cx, runs)
 }

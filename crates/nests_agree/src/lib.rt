@@ -5,6 +5,7 @@
 #![tactic(auto)]
 
 pub mod agree;
+pub mod both;
 pub mod clones;
 pub mod collected;
 pub mod collections;

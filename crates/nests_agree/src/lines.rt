@@ -10,11 +10,11 @@ ghost use Rattle.lite_read.specs.NoneRefused.{NoneRefused};
 ghost use Rattle.lite_read.specs.Deterministic.{SameByKind, SameOr};
 ghost use Rattle.nests_agree.specs.Both.{Begins, BothAppended};
 
+use crate::both::{TwoRuns, both_appended};
+use lite_base::Context;
 use lite_base::future::Ready;
 use lite_base::future::make::ready;
-use lite_base::{Context, Poll};
 use lite_io_base::{AsyncBufRead, CountedRead, SteadyRead};
-use lite_laws::run_both;
 use lite_read::make::lines;
 use lite_reshape::make::{filter, then};
 use lite_stream::make::{map, take};
@@ -30,10 +30,7 @@ pub fn lengths_agree<R>(
     alloc: Global,
     most: usize,
     cx: &mut Context<'_>,
-    polls: usize,
-    more: usize,
-    out: &mut Vec<Poll<Option<io::Result<usize>>>>,
-    out_more: &mut Vec<Poll<Option<io::Result<usize>>>>,
+    runs: &mut TwoRuns<io::Result<usize>>,
 ) -> Result<(), AllocError>
 where
     R: AsyncBufRead + CountedRead + SteadyRead + Drop,
@@ -42,7 +39,7 @@ where
     requires alike { R.alike one other }
     ensures { BothAppended
         (λ l m. FromLines R.reads R.ample one other (ComparableBy (OptionBy SameByKind) (strip l) (strip m)))
-        out.old.items out.new.items out_more.old.items out_more.new.items polls more result }
+        runs.old runs.new result }
 {
     let length = |line: io::Result<String>| -> io::Result<usize>
         ensures { IsLength line result }
@@ -62,7 +59,7 @@ where
     };
     let mut x = filter(take(map(lines(one, alloc), length), most), is_some);
     let mut y = filter(take(map(lines(other, alloc), length), most), is_some);
-    run_both(&mut x, &mut y, cx, polls, more, out, out_more)
+    both_appended(&mut x, &mut y, cx, runs)
 }
 
 /// Makes a future of each line of each of two readers that are alike, up to a number of lines, which gives the line's length,
@@ -74,10 +71,7 @@ pub fn futures_of_lines_agree<R>(
     alloc: Global,
     most: usize,
     cx: &mut Context<'_>,
-    polls: usize,
-    more: usize,
-    out: &mut Vec<Poll<Option<usize>>>,
-    out_more: &mut Vec<Poll<Option<usize>>>,
+    runs: &mut TwoRuns<usize>,
 ) -> Result<(), AllocError>
 where
     R: AsyncBufRead + CountedRead + SteadyRead + Drop,
@@ -86,7 +80,7 @@ where
     requires alike { R.alike one other }
     ensures { BothAppended
         (λ l m. FromLines R.reads R.ample one other (Begins l m))
-        out.old.items out.new.items out_more.old.items out_more.new.items polls more result }
+        runs.old runs.new result }
 {
     let measure = |line: io::Result<String>| -> Ready<usize>
         ensures { WillGiveLength line result }
@@ -98,7 +92,7 @@ where
     };
     let mut x = take(then(lines(one, alloc), measure), most);
     let mut y = take(then(lines(other, alloc), measure), most);
-    run_both(&mut x, &mut y, cx, polls, more, out, out_more)
+    both_appended(&mut x, &mut y, cx, runs)
 }
 
 /// Runs the lines of each of two readers that are alike and ask for no memory. Where no answer is a refusal, an error of the
@@ -109,10 +103,7 @@ pub fn lines_agree<R>(
     other: R,
     alloc: Global,
     cx: &mut Context<'_>,
-    polls: usize,
-    more: usize,
-    out: &mut Vec<Poll<Option<io::Result<String>>>>,
-    out_more: &mut Vec<Poll<Option<io::Result<String>>>>,
+    runs: &mut TwoRuns<io::Result<String>>,
 ) -> Result<(), AllocError>
 where
     R: AsyncBufRead + CountedRead + SteadyRead + Drop,
@@ -122,9 +113,9 @@ where
     requires found { R.needs_none }
     ensures { BothAppended
         (λ l m. NoneRefused l → NoneRefused m → ComparableBy (OptionBy (SameOr SameText)) (strip l) (strip m))
-        out.old.items out.new.items out_more.old.items out_more.new.items polls more result }
+        runs.old runs.new result }
 {
     let mut x = lines(one, alloc);
     let mut y = lines(other, alloc);
-    run_both(&mut x, &mut y, cx, polls, more, out, out_more)
+    both_appended(&mut x, &mut y, cx, runs)
 }

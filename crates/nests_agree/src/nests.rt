@@ -1,14 +1,14 @@
 //! A nest over any two steady sources that are alike.
-ghost use Rattle.std.specs.Prelude.{◌≡◌, ◌++◌, List, length, IfOk, IfErr};
+ghost use Rattle.std.specs.Prelude.{◌≡◌};
 ghost use Rattle.std.specs.Fn.{CalledAt};
 ghost use Rattle.lite_base.specs.Alike.{SameAnswer, SameItem};
-ghost use Rattle.lite_base.specs.Answers.{Answer, ComparableBy, strip};
+ghost use Rattle.lite_base.specs.Answers.{ComparableBy, strip};
 ghost use Rattle.lite_base.specs.Calling.{AgreeFrom, AgreeOver, Answering, Calls};
-ghost use Rattle.lite_laws.specs.Both.{Fewer};
 ghost use Rattle.lite_laws.specs.Waits.{HoldsEach, IfWaits};
+ghost use Rattle.nests_agree.specs.Both.{BothAppended};
 
-use lite_base::{Context, Counted, Poll, SteadyStream, Stream};
-use lite_laws::run_both;
+use crate::both::{TwoRuns, both_appended};
+use lite_base::{Context, Counted, SteadyStream, Stream};
 use lite_reshape::Filter;
 use lite_stream::{Map, Take};
 use std::alloc::AllocError;
@@ -20,10 +20,7 @@ pub fn nests_agree<S, U, F, P>(
     x: &mut Take<Filter<Map<S, F>, P>>,
     y: &mut Take<Filter<Map<S, F>, P>>,
     cx: &mut Context<'_>,
-    polls: usize,
-    more: usize,
-    out: &mut Vec<Poll<Option<U>>>,
-    out_more: &mut Vec<Poll<Option<U>>>,
+    runs: &mut TwoRuns<U>,
 ) -> Result<(), AllocError>
 where
     S: Counted + SteadyStream,
@@ -38,13 +35,11 @@ where
         (CalledAt P.FnMut) x.old.stream.predicate y.old.stream.predicate }
     requires counts { y.old.n ≡ x.old.n }
     requires found { S.needs_none }
-    ensures { (l m : List (Answer _)) × (out.new.items ≡ out.old.items ++ l)
-        × (out_more.new.items ≡ out_more.old.items ++ m)
-        × ComparableBy (SameAnswer (Answering S.same (Calls F.FnMut))) (strip l) (strip m)
-        × IfOk result (λ _. (length l ≡ polls) × (length m ≡ more))
+    ensures { BothAppended
+        (λ l m. ComparableBy (SameAnswer (Answering S.same (Calls F.FnMut))) (strip l) (strip m)
         × IfWaits l (HoldsEach (S.registers x.new.stream.stream.stream) cx.new)
-        × IfWaits m (HoldsEach (S.registers y.new.stream.stream.stream) cx.new)
-        × IfErr result (λ _. Fewer l m polls more) }
+        × IfWaits m (HoldsEach (S.registers y.new.stream.stream.stream) cx.new))
+        runs.old runs.new result }
 {
-    run_both(x, y, cx, polls, more, out, out_more)
+    both_appended(x, y, cx, runs)
 }

@@ -7,8 +7,8 @@ ghost use Rattle.nests_agree.specs.Paced.{PacedStep, paced_alike};
 ghost use Rattle.lite_source.specs.Laws.Folds.{folds_laws};
 ghost use Rattle.nests_agree.specs.Both.{Begins, BothAppended};
 
+use crate::both::{TwoRuns, both_appended};
 use lite_base::{Context, Poll, SteadyStream, Stream};
-use lite_laws::run_both;
 use std::alloc::AllocError;
 
 /// Gives one item for ever, and is pending before each. It does not see to being polled again.
@@ -56,13 +56,10 @@ pub fn paces_agree(
     x: &mut Paced,
     y: &mut Paced,
     cx: &mut Context<'_>,
-    polls: usize,
-    more: usize,
-    out: &mut Vec<Poll<Option<u8>>>,
-    out_more: &mut Vec<Poll<Option<u8>>>,
+    runs: &mut TwoRuns<u8>,
 ) -> Result<(), AllocError>
     requires { y.old.item ≡ x.old.item }
-    ensures { BothAppended Begins out.old.items out.new.items out_more.old.items out_more.new.items polls more result }
+    ensures { BothAppended Begins runs.old runs.new result }
 {
-    run_both(x, y, cx, polls, more, out, out_more)
+    both_appended(x, y, cx, runs)
 }

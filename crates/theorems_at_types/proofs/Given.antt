@@ -1,5 +1,6 @@
 -- A script gives the items before its first end whole, and the last answer of a future that was polled is its value.
-use Rattle.std.proofs.Common.{◌≡◌, ◌∙◌, List, [], ◌∷◌, ◌++◌, Some, None, map, refl, ap, subst, sym}
+use Rattle.std.proofs.Common.{◌≡◌, ◌∙◌, List, [], ◌∷◌, ◌++◌, Option, Some, None, Result, Ok, Err, map, refl, ap, subst, sym}
+use Rattle.std.specs.Prelude.{IfOk, IfSome}
 use Rattle.futures.specs.declared.task.Poll.{Poll}
 use Rattle.futures.specs.declared.task.Poll.TheVariants.{Ready, Pending}
 use Rattle.lite_base.specs.Answers.{Answer, Gives, UpToValue, end, strip}
@@ -49,3 +50,10 @@ pub given_popped : {A : Type 0} (all l : List (Poll A)) (a : Poll A) (x : A) →
 given_popped all l a x e is u =
     let last : all ≡ l ++ Ready x ∷ [] = e ∙ ap (λ b. l ++ b ∷ []) is in
     subst (λ k. Gives k x) (sym last) (given_last l x (subst (λ k. UpToValue k) last u))
+
+-- what is known of a value that was given, in other words
+pub given_as : {A E : Type 0} {P Q : A → Type 0} → ((x : A) → P x → Q x) → (r : Result (Option A) E)
+    → IfOk r (λ given. IfSome given P) → IfOk r (λ given. IfSome given Q)
+given_as told (Ok (Some x)) h = told x h
+given_as told (Ok None) h = tt
+given_as told (Err e) h = tt

@@ -1,10 +1,12 @@
 //! What is collected of two scripts that are merged.
-ghost use Rattle.std.specs.Prelude.{IfOk, IfSome};
+ghost use Rattle.std.specs.Prelude.{IfOk, IfSome, List, Ok, Result};
+ghost use Rattle.futures.specs.declared.task.Poll.{Poll};
+ghost use Rattle.lite_base.specs.Answers.{Gives};
 ghost use Rattle.lite_theorems.specs.Interleaving.{Interleaves, items_given};
 
-use futures_lite::Poll;
 use futures_lite::laws::{collect_or, collect_race};
 use futures_lite::stream::script;
+use futures_lite::{Future, Poll};
 use rand_core::Rng;
 use std::alloc::AllocGlobal;
 use std::io;
@@ -27,12 +29,8 @@ where
     ensures { IfOk result
         (λ given. IfSome given (λ v. Interleaves (items_given first.items) (items_given second.items) v.items)) }
 {
-    let mut future = collect_or(script(first), script(second), rt.alloc());
-    let mut answers = polled(rt, &mut future, polls)?;
-    match answers.pop() {
-        Some(Poll::Ready(Ok(items))) => Ok(Some(items)),
-        _ => Ok(None),
-    }
+    let collection = collect_or(script(first), script(second), rt.alloc());
+    given(rt, collection, polls)
 }
 
 /// The same of `race`, whatever the words of `rng` are.
@@ -49,10 +47,25 @@ where
     ensures { IfOk result
         (λ given. IfSome given (λ v. Interleaves (items_given first.items) (items_given second.items) v.items)) }
 {
-    let mut future = collect_race(script(first), script(second), rng, rt.alloc());
+    let collection = collect_race(script(first), script(second), rng, rt.alloc());
+    given(rt, collection, polls)
+}
+
+// The value of a future that is polled at most so often, where it is no error.
+fn given<R, F, V, E>(rt: &R, future: F, polls: usize) -> io::Result<Option<V>>
+where
+    R: RandomSource + AllocGlobal,
+    F: Future<Output = Result<V, E>> + Drop,
+    V: Drop,
+    E: Drop,
+    requires { F.can_poll future }
+    ensures { IfOk result (λ given. IfSome given
+        (λ v. (l : List (Poll (Result V E))) × (last : F) × F.run future l last × Gives l (Ok v))) }
+{
+    let mut future = future;
     let mut answers = polled(rt, &mut future, polls)?;
     match answers.pop() {
-        Some(Poll::Ready(Ok(items))) => Ok(Some(items)),
+        Some(Poll::Ready(Ok(value))) => Ok(Some(value)),
         _ => Ok(None),
     }
 }

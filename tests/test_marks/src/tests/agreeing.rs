@@ -1,6 +1,5 @@
 //! Each nest runs plainly, and with a pending before every answer; and collections of the same items.
-use super::scripts::{plain_and_late, ready_ones};
-use futures::task::{Doorbell, Solo};
+use super::scripts::{both_ran, plain_and_late, ready_ones};
 use lite_base::Poll;
 use lite_source::make::script;
 use nests_agree::agree::evens_agree;
@@ -12,12 +11,7 @@ use test_support::item;
 #[test]
 fn map_filter_and_take_agree(rt: HostRuntime) -> Result<(), Fail> {
     let (plain, late) = plain_and_late(&rt, &[Some(1u8), Some(6), Some(3), Some(9), Some(5)])?;
-    let (mut got, mut got_late) = (Vec::new(rt.alloc()), Vec::new(rt.alloc()));
-    let solo = Solo::new(&rt, Doorbell::spinning())?;
-    let mut cx = solo.begin();
-    let ran = evens_agree(plain, late, &mut cx, 4, 8, &mut got, &mut got_late);
-    cx.cancel();
-    ran?;
+    let (got, got_late) = both_ran(&rt, 4, 8, |cx, runs| evens_agree(plain, late, cx, runs))?;
     let expected = [Some(0), Some(2), Some(8), None];
     assert_eq!(rt; ready_ones(&rt, got)?.as_slice(), expected.as_slice());
     assert_eq!(rt; ready_ones(&rt, got_late)?.as_slice(), expected.as_slice());
@@ -34,12 +28,7 @@ fn a_stream_of_a_callers_own_agrees(rt: HostRuntime) -> Result<(), Fail> {
         item: 7,
         waits: true,
     };
-    let (mut got, mut got_late) = (Vec::new(rt.alloc()), Vec::new(rt.alloc()));
-    let solo = Solo::new(&rt, Doorbell::spinning())?;
-    let mut cx = solo.begin();
-    let ran = paces_agree(&mut x, &mut y, &mut cx, 3, 6, &mut got, &mut got_late);
-    cx.cancel();
-    ran?;
+    let (got, got_late) = both_ran(&rt, 3, 6, |cx, runs| paces_agree(&mut x, &mut y, cx, runs))?;
     let expected = [item(7), Poll::Pending, item(7)];
     assert_eq!(rt; got.as_slice(), expected.as_slice());
     let expected = [Some(7), Some(7), Some(7)];

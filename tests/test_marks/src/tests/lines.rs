@@ -2,8 +2,7 @@
 ghost use Rattle.std.specs.Prelude.{◌≡◌, [], IfOk};
 ghost use Rattle.lite_buffered.specs.BufReader.{ahead, reader_capacity, reader_inner};
 
-use super::scripts::ready_ones;
-use futures::task::{Doorbell, Solo};
+use super::scripts::{both_ran, ready_ones};
 use lite_base::Poll;
 use lite_buffered::BufReader;
 use lite_buffered::make::take;
@@ -70,22 +69,10 @@ fn lines_after_a_pending_agree(rt: HostRuntime) -> Result<(), Fail> {
     let chunks: [&[u8]; 3] = [b"ab\n\ncd", b"e\nf", b"gh\n"];
     let one = buffered(&rt, &chunks, false)?;
     let other = buffered(&rt, &chunks, true)?;
-    let (mut got, mut got_late) = (Vec::new(rt.alloc()), Vec::new(rt.alloc()));
-    let solo = Solo::new(&rt, Doorbell::spinning())?;
-    let mut cx = solo.begin();
-    let ran = lengths_agree(
-        one,
-        other,
-        rt.alloc(),
-        5,
-        &mut cx,
-        4,
-        9,
-        &mut got,
-        &mut got_late,
-    );
-    cx.cancel();
-    ran?;
+    let alloc = rt.alloc();
+    let (got, got_late) = both_ran(&rt, 4, 9, |cx, runs| {
+        lengths_agree(one, other, alloc, 5, cx, runs)
+    })?;
     let expected = [Some(2), Some(3), Some(3), None];
     assert_eq!(rt; lengths(&rt, got)?.as_slice(), expected.as_slice());
     let late = lengths(&rt, got_late)?;
@@ -164,22 +151,10 @@ fn futures_of_lines_agree_after_a_pending(rt: HostRuntime) -> Result<(), Fail> {
     let chunks: [&[u8]; 3] = [b"ab\n\ncd", b"e\nf", b"gh\n"];
     let one = buffered(&rt, &chunks, false)?;
     let other = buffered(&rt, &chunks, true)?;
-    let (mut got, mut got_late) = (Vec::new(rt.alloc()), Vec::new(rt.alloc()));
-    let solo = Solo::new(&rt, Doorbell::spinning())?;
-    let mut cx = solo.begin();
-    let ran = futures_of_lines_agree(
-        one,
-        other,
-        rt.alloc(),
-        3,
-        &mut cx,
-        4,
-        9,
-        &mut got,
-        &mut got_late,
-    );
-    cx.cancel();
-    ran?;
+    let alloc = rt.alloc();
+    let (got, got_late) = both_ran(&rt, 4, 9, |cx, runs| {
+        futures_of_lines_agree(one, other, alloc, 3, cx, runs)
+    })?;
     let expected = [Some(2), Some(0), Some(3), None];
     assert_eq!(rt; ready_ones(&rt, got)?.as_slice(), expected.as_slice());
     let late = ready_ones(&rt, got_late)?;
@@ -192,21 +167,10 @@ fn lines_without_a_refusal_agree(rt: HostRuntime) -> Result<(), Fail> {
     let chunks: [&[u8]; 2] = [b"ab\nc", b"d\r\n\xff\n"];
     let one = buffered(&rt, &chunks, false)?;
     let other = buffered(&rt, &chunks, true)?;
-    let (mut got, mut got_late) = (Vec::new(rt.alloc()), Vec::new(rt.alloc()));
-    let solo = Solo::new(&rt, Doorbell::spinning())?;
-    let mut cx = solo.begin();
-    let ran = lines_agree(
-        one,
-        other,
-        rt.alloc(),
-        &mut cx,
-        4,
-        6,
-        &mut got,
-        &mut got_late,
-    );
-    cx.cancel();
-    ran?;
+    let alloc = rt.alloc();
+    let (got, got_late) = both_ran(&rt, 4, 6, |cx, runs| {
+        lines_agree(one, other, alloc, cx, runs)
+    })?;
     let expected = "ab;cd;InvalidData;end;";
     assert_eq!(rt; spelled(&rt, got)?.as_str(), expected);
     assert_eq!(rt; spelled(&rt, got_late)?.as_str(), expected);

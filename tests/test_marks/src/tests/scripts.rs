@@ -1,10 +1,13 @@
 ghost use Rattle.std.specs.Prelude.{◌≡◌, IfOk};
 ghost use Rattle.lite_base.specs.Answers.{strip};
 
-use lite_base::Poll;
+use futures::task::{Doorbell, Solo};
+use lite_base::{Context, Poll};
 use lite_source::Script;
 use lite_source::make::script;
+use nests_agree::both::TwoRuns;
 use std::alloc::AllocError;
+use std::test::Fail;
 
 /// A script of these answers, and one that is pending before each of them.
 #[tactic(auto, using(crate::proofs::Later::pushed_later))]
@@ -35,4 +38,30 @@ pub(super) fn ready_ones<T: Drop>(
         }
     }
     Ok(ready)
+}
+
+/// What `run` appends to two lists, in a context of its own, where the first stream is polled `polls` times and the second
+/// `more` times.
+pub(super) fn both_ran<T: Drop, F>(
+    rt: &HostRuntime,
+    polls: usize,
+    more: usize,
+    run: F,
+) -> Result<(Vec<Poll<Option<T>>>, Vec<Poll<Option<T>>>), Fail>
+where
+    F: FnOnce(&mut Context<'_>, &mut TwoRuns<T>) -> Result<(), AllocError>,
+{
+    let (out, out_more) = (Vec::new(rt.alloc()), Vec::new(rt.alloc()));
+    let mut runs = TwoRuns {
+        polls,
+        more,
+        out,
+        out_more,
+    };
+    let solo = Solo::new(rt, Doorbell::spinning())?;
+    let mut cx = solo.begin();
+    let ran = run(&mut cx, &mut runs);
+    cx.cancel();
+    ran?;
+    Ok((runs.out, runs.out_more))
 }

@@ -1,9 +1,10 @@
 use Rattle.std.proofs.Common.{rules}
 use Rattle.lite_base.specs.Laws.Calling.{agrees_alone}
+use Rattle.nests_agree.proofs.Appended.{appended_as}
 use Rattle.nests_agree.proofs.agree.evens_agree.Goals as goal
 
-pub run_both-requires-clause-alike : goal.run_both-requires-clause-alike
-run_both-requires-clause-alike c = (
+pub both_appended-requires-clause-alike : goal.both_appended-requires-clause-alike
+both_appended-requires-clause-alike c = (
   (
     (
       (search rules, agrees_alone _ (λ f g h x y z d e. search rules) _),
@@ -15,6 +16,4 @@ run_both-requires-clause-alike c = (
 )
 
 pub returns : goal.returns
-returns c =
-    let both = c.run_both.ensures.agree in
-    (both.0, both.1, both.2, both.3, both.4.always tt, both.5, both.8)
+returns c = appended_as (λ l m h. h.0.always tt) c.both_appended.ensures

@@ -4,13 +4,14 @@ use Rattle.lite_base.specs.declared.future.half.Half.TheVariants.{Asked}
 use Rattle.lite_base.specs.declared.future.ready.Ready.{Ready}
 use Rattle.lite_base.specs.declared.future.yield_now.YieldNow.{YieldNow}
 use Rattle.lite_base.specs.declared.future.zip.Zip.{Zip}
+use Rattle.nests_agree.proofs.Appended.{appended_as}
 use Rattle.nests_agree.proofs.agree.waits_agree.Goals as goal
 
 abbrev Waits : ℕ → Zip YieldNow (Ready ℕ) (Unit {0}) ℕ → Type 0
 Waits x v = (v.first ≡ Asked (record { yielded = false })) × (v.second ≡ Asked (record { value = Some x }))
 
-pub run_both-requires-clause-alike : goal.run_both-requires-clause-alike
-run_both-requires-clause-alike c = (
+pub both_appended-requires-clause-alike : goal.both_appended-requires-clause-alike
+both_appended-requires-clause-alike c = (
   search rules,
   (
     answers_agree _ _ Waits (λ f g x y d. search rules) (λ x y z p q. rw (p.0, p.1, q.0, q.1) (tt, refl)) _ _,
@@ -19,6 +20,4 @@ run_both-requires-clause-alike c = (
 )
 
 pub returns : goal.returns
-returns c =
-    let both = c.run_both.ensures.agree in
-    (both.0, both.1, both.2, both.3, both.4.always (tt, (tt, tt)), both.5, both.8)
+returns c = appended_as (λ l m h. h.0.always (tt, (tt, tt))) c.both_appended.ensures

@@ -2,12 +2,13 @@ use Rattle.std.proofs.Common.{rules, refl}
 use Rattle.lite_base.specs.Laws.Calling.{answers_agree_from}
 use Rattle.lite_read.specs.Laws.Marks.{SameText}
 use Rattle.lite_read.specs.Deterministic.{SameOr}
+use Rattle.nests_agree.proofs.Appended.{appended_as}
 use Rattle.nests_agree.proofs.SameLengths.{same_future}
 use Rattle.nests_agree.specs.Lengths.{WillGiveLength}
 use Rattle.nests_agree.proofs.lines.futures_of_lines_agree.Goals as goal
 
-pub run_both-requires-clause-alike : goal.run_both-requires-clause-alike
-run_both-requires-clause-alike g c = (
+pub both_appended-requires-clause-alike : goal.both_appended-requires-clause-alike
+both_appended-requires-clause-alike g c = (
   (
     (search rules, search rules, refl),
     (answers_agree_from (SameOr SameText) _ _ WillGiveLength (λ f k x y d. search rules) same_future _ _, search rules),
@@ -17,38 +18,33 @@ run_both-requires-clause-alike g c = (
 
 pub returns : goal.returns
 returns g c =
-    let both = c.run_both.ensures.agree in
-    let ran = both.4 in
+    appended_as
+    (λ l m h.
+    let ran = h.0 in
     let one = ran.first.came in
-    let other = ran.second.came in (
-      both.0,
-      both.1,
-      both.2,
-      both.3,
-      record {
-        start = c.take-x.result.stream.stream;
-        start_more = c.take-y.result.stream.stream;
-        last = c.run_both.new.x.stream.stream;
-        last_more = c.run_both.new.y.stream.stream;
-        lines = one.ins;
-        lines_more = other.ins;
-        from_one = (search rules, search rules);
-        from_other = (search rules, search rules);
-        came = one.came;
-        came_more = other.came;
-        found = λ a b.
-            ran.found
-            (record {
-              ins = ran.first.ins;
-              came = record { ins = one.ins; came = a; related = one.related };
-              related = ran.first.related;
-            })
-            (record {
-              ins = ran.second.ins;
-              came = record { ins = other.ins; came = b; related = other.related };
-              related = ran.second.related;
-            });
-      },
-      both.5,
-      both.8,
-    )
+    let other = ran.second.came in
+    record {
+      start = c.take-x.result.stream.stream;
+      start_more = c.take-y.result.stream.stream;
+      last = c.both_appended.new.x.stream.stream;
+      last_more = c.both_appended.new.y.stream.stream;
+      lines = one.ins;
+      lines_more = other.ins;
+      from_one = (search rules, search rules);
+      from_other = (search rules, search rules);
+      came = one.came;
+      came_more = other.came;
+      found = λ a b.
+          ran.found
+          (record {
+            ins = ran.first.ins;
+            came = record { ins = one.ins; came = a; related = one.related };
+            related = ran.first.related;
+          })
+          (record {
+            ins = ran.second.ins;
+            came = record { ins = other.ins; came = b; related = other.related };
+            related = ran.second.related;
+          });
+    })
+    c.both_appended.ensures

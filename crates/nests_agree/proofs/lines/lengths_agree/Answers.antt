@@ -6,12 +6,13 @@ use Rattle.lite_base.specs.Laws.Alike.{comparable_as, option_as}
 use Rattle.lite_base.specs.Laws.Calling.{agree_narrower, answers_agree_from, kin_answers_by}
 use Rattle.lite_read.specs.Laws.Marks.{SameText}
 use Rattle.lite_read.specs.Deterministic.{SameByKind, SameOr}
+use Rattle.nests_agree.proofs.Appended.{appended_as}
 use Rattle.nests_agree.proofs.SameLengths.{same_length, same_tested}
 use Rattle.nests_agree.specs.Lengths.{IsLength, IsTested}
 use Rattle.nests_agree.proofs.lines.lengths_agree.Goals as goal
 
-pub run_both-requires-clause-alike : goal.run_both-requires-clause-alike
-run_both-requires-clause-alike g c = (
+pub both_appended-requires-clause-alike : goal.both_appended-requires-clause-alike
+both_appended-requires-clause-alike g c = (
   (((search rules, search rules, refl), Kin.one _), search rules),
   agree_narrower (kin_answers_by (SameOr SameText) SameByKind _ IsLength (λ f g x y d. search rules) same_length)
       (answers_agree_from SameByKind (λ a b. a ≡ b) _ IsTested (λ f g x y d. search rules) same_tested _ _),
@@ -19,52 +20,47 @@ run_both-requires-clause-alike g c = (
 
 pub returns : goal.returns
 returns g c =
-    let both = c.run_both.ensures.agree in
-    let ran = both.4 in
+    appended_as
+    (λ l m h.
+    let ran = h.0 in
     let taken = ran.first.came in
     let taken_more = ran.second.came in
     let one = taken.came in
-    let other = taken_more.came in (
-      both.0,
-      both.1,
-      both.2,
-      both.3,
-      record {
-        start = c.filter-x.result.stream.stream.stream;
-        start_more = c.filter-y.result.stream.stream.stream;
-        last = c.run_both.new.x.stream.stream.stream;
-        last_more = c.run_both.new.y.stream.stream.stream;
-        lines = one.ins;
-        lines_more = other.ins;
-        from_one = (search rules, search rules);
-        from_other = (search rules, search rules);
-        came = one.came;
-        came_more = other.came;
-        found = λ a b.
-            comparable_as _ (OptionBy SameByKind)
-            (option_as _ SameByKind
-            (kin_answers_by (SameOr SameText) SameByKind _ IsLength (λ f g x y d. search rules) same_length))
-            (strip both.0) (strip both.1)
-            (ran.found
-            (record {
-              ins = ran.first.ins;
-              came = record {
-                ins = taken.ins;
-                came = record { ins = one.ins; came = a; related = one.related };
-                related = taken.related;
-              };
-              related = ran.first.related;
-            })
-            (record {
-              ins = ran.second.ins;
-              came = record {
-                ins = taken_more.ins;
-                came = record { ins = other.ins; came = b; related = other.related };
-                related = taken_more.related;
-              };
-              related = ran.second.related;
-            }));
-      },
-      both.5,
-      both.8,
-    )
+    let other = taken_more.came in
+    record {
+      start = c.filter-x.result.stream.stream.stream;
+      start_more = c.filter-y.result.stream.stream.stream;
+      last = c.both_appended.new.x.stream.stream.stream;
+      last_more = c.both_appended.new.y.stream.stream.stream;
+      lines = one.ins;
+      lines_more = other.ins;
+      from_one = (search rules, search rules);
+      from_other = (search rules, search rules);
+      came = one.came;
+      came_more = other.came;
+      found = λ a b.
+          comparable_as _ (OptionBy SameByKind)
+          (option_as _ SameByKind
+          (kin_answers_by (SameOr SameText) SameByKind _ IsLength (λ f g x y d. search rules) same_length))
+          (strip l) (strip m)
+          (ran.found
+          (record {
+            ins = ran.first.ins;
+            came = record {
+              ins = taken.ins;
+              came = record { ins = one.ins; came = a; related = one.related };
+              related = taken.related;
+            };
+            related = ran.first.related;
+          })
+          (record {
+            ins = ran.second.ins;
+            came = record {
+              ins = taken_more.ins;
+              came = record { ins = other.ins; came = b; related = other.related };
+              related = taken_more.related;
+            };
+            related = ran.second.related;
+          }));
+    })
+    c.both_appended.ensures

@@ -1,0 +1,16 @@
+use Rattle.std.proofs.Common.{refl}
+use Rattle.nests_agree.proofs.both.both_appended.Goals as goal
+
+pub returns : goal.returns
+returns g c =
+    let both = c.run_both.ensures.agree in
+    record {
+      answers = both.0;
+      more_answers = both.1;
+      first = both.2;
+      second = both.3;
+      asked = (refl, refl);
+      agreed = (both.4, both.6, both.7);
+      all = both.5;
+      short = both.8;
+    }
