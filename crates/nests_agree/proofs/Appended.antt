@@ -11,10 +11,7 @@ appended_as told h =
     record {
       answers = h.answers;
       more_answers = h.more_answers;
-      first = h.first;
-      second = h.second;
-      asked = h.asked;
+      appended = h.appended;
       agreed = told h.answers h.more_answers h.agreed;
-      all = h.all;
-      short = h.short;
+      many = h.many;
     }

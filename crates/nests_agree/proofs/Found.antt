@@ -22,7 +22,14 @@ use Rattle.lite_read.specs.NoneRefused.{NoneRefused, NotRefused}
 use Rattle.lite_read.specs.declared.lines.Lines.{Lines}
 use Rattle.lite_stream.specs.Laws.Cutting.{cuts_each}
 use Rattle.lite_stream.specs.Take.{Takes, is_none_left, left_after}
+use Rattle.lite_stream.specs.Through.{Through}
 use Rattle.lite_stream.specs.declared.take.Take.{Take}
+
+-- what came out of an adapter comes out by any run that gave what came in
+pub through_from : {S F A B : Type 0} {run other : Runs (Answer A) S}
+    {relates : F → List (Answer A) → List (Answer B) → F → Type 0} {s t : S} {f g : F} {out : List (Answer B)}
+    → (h : Through run relates s f out t g) → other s h.ins t → Through other relates s f out t g
+through_from h came = record { ins = h.ins; came = came; related = h.related }
 
 -- each value that is such was given in a run in which memory was found
 pub both_found : {F A E : Type 0} (same : Sameness A) {want : A → A → Type 0} {run ample : Runs (Poll A) F}
@@ -78,4 +85,4 @@ module _ {R : Type 0} {reads ample : Runs ReadMark R} (all : AllAmple reads ampl
       → Takes (GivesLines reads ⊤) x i y → Takes (GivesLines ample ⊥) x i y
   taken_ample x y i none h =
       let before = cuts_each is_none_left left_after NotRefused x.n y.n h.ins i h.related none in
-      record { ins = h.ins; came = lines_ample all x.stream y.stream h.ins before h.came; related = h.related }
+      through_from h (lines_ample all x.stream y.stream h.ins before h.came)

@@ -25,6 +25,7 @@ use Rattle.lite_stream.specs.Map.{Maps}
 use Rattle.lite_stream.specs.Take.{Takes, is_none_left, left_after}
 use Rattle.lite_stream.specs.declared.map.Map.{Map}
 use Rattle.lite_stream.specs.declared.take.Take.{Take}
+use Rattle.nests_agree.proofs.Found.{through_from}
 use Rattle.nests_agree.proofs.FoundLines.{end_found, ok_found, waiting_found}
 use Rattle.nests_agree.specs.Lengths.{IsLength, IsTested}
 
@@ -67,14 +68,7 @@ module _ {R F P : Type 0} {reads ample : Runs ReadMark R} (all : AllAmple reads 
       let each = cuts_each is_none_left left_after NotRefused x.stream.n y.stream.n few.ins h.ins few.related kept in
       let lines = exchanges_each (Always call) NotRefused NotRefused (λ _. waiting_found) (λ _. end_found) called
       x.stream.stream.f y.stream.stream.f lengths.ins few.ins lengths.related each in
-      let came = lines_ample all x.stream.stream.stream y.stream.stream.stream lengths.ins lines lengths.came in
-      let measured : Maps (GivesLines ample ⊥) call x.stream.stream few.ins y.stream.stream = record {
-        ins = lengths.ins;
-        came = came;
-        related = lengths.related;
-      } in
-      record {
-        ins = h.ins;
-        came = record { ins = few.ins; came = measured; related = few.related };
-        related = h.related;
-      }
+      through_from h
+      (through_from few
+      (through_from lengths
+      (lines_ample all x.stream.stream.stream y.stream.stream.stream lengths.ins lines lengths.came)))

@@ -10,12 +10,12 @@ pub record BothAppended {A R E : Type 0} (agree : List (Answer A) → List (Answ
     (result : Result R E) : Type 0 where
   pub answers : List (Answer A)
   pub more_answers : List (Answer A)
-  pub first : after.out.items ≡ before.out.items ++ answers
-  pub second : after.out_more.items ≡ before.out_more.items ++ more_answers
-  pub asked : (after.polls ≡ before.polls) × (after.more ≡ before.more)
+  pub appended : (after.out.items ≡ before.out.items ++ answers)
+      × (after.out_more.items ≡ before.out_more.items ++ more_answers)
+      × (after.polls ≡ before.polls) × (after.more ≡ before.more)
   pub agreed : agree answers more_answers
-  pub all : IfOk result (λ _. (length answers ≡ before.polls) × (length more_answers ≡ before.more))
-  pub short : IfErr result (λ _. Fewer answers more_answers before.polls before.more)
+  pub many : IfOk result (λ _. (length answers ≡ before.polls) × (length more_answers ≡ before.more))
+      × IfErr result (λ _. Fewer answers more_answers before.polls before.more)
 
 -- Pendings aside, one of the two lists begins the other
 abbrev pub Begins : {A : Type 0} → List (Answer A) → List (Answer A) → Type 0

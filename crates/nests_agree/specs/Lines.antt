@@ -15,20 +15,19 @@ use Rattle.lite_io_base.specs.Marks.{ReadMark}
 use Rattle.lite_read.specs.Lines.{GivesLines}
 use Rattle.lite_read.specs.declared.lines.Lines.{Lines}
 
--- lines were read of each of the two readers, from the first line on, and that holds where memory was found for all of
--- them
-pub record FromLines {R : Type 0} (reads ample : Runs ReadMark R) (one other : R) (holds : Type 0) : Type 0 where
+-- lines that were read of this reader, from the first line on
+pub record LinesRead {R : Type 0} (reads : Runs ReadMark R) (reader : R) : Type 0 where
   pub start : Lines R
-  pub start_more : Lines R
   pub last : Lines R
-  pub last_more : Lines R
   pub lines : List (Answer (Result (String Global) Error))
-  pub lines_more : List (Answer (Result (String Global) Error))
-  pub from_one : (start.reader ≡ one) × (start.held.bytes.items ≡ [])
-  pub from_other : (start_more.reader ≡ other) × (start_more.held.bytes.items ≡ [])
+  pub begun : (start.reader ≡ reader) × (start.held.bytes.items ≡ [])
   pub came : GivesLines reads ⊤ start lines last
-  pub came_more : GivesLines reads ⊤ start_more lines_more last_more
-  pub found : GivesLines ample ⊥ start lines last → GivesLines ample ⊥ start_more lines_more last_more → holds
+
+-- lines were read of each of the two readers, and that holds where memory was found for all of them
+abbrev pub FromLines : {R : Type 0} → (reads ample : Runs ReadMark R) → (one other : R) → Type 0 → Type 0
+FromLines reads ample one other holds =
+    (h : LinesRead reads one) × (k : LinesRead reads other)
+    × (GivesLines ample ⊥ h.start h.lines h.last → GivesLines ample ⊥ k.start k.lines k.last → holds)
 
 -- the value of those who try is no refusal of memory
 abbrev pub WasFound : {C T : Type 0} → Result C (TryCollectError C T Error) → Type 0

@@ -7,10 +7,7 @@ returns g c =
     record {
       answers = both.0;
       more_answers = both.1;
-      first = both.2;
-      second = both.3;
-      asked = (refl, refl);
+      appended = (both.2, both.3, refl, refl);
       agreed = (both.4, both.6, both.7);
-      all = both.5;
-      short = both.8;
+      many = (both.5, both.8);
     }

@@ -3,6 +3,7 @@ use Rattle.lite_base.specs.Laws.Calling.{answers_agree_from}
 use Rattle.lite_read.specs.Laws.Marks.{SameText}
 use Rattle.lite_read.specs.Deterministic.{SameOr}
 use Rattle.nests_agree.proofs.Appended.{appended_as}
+use Rattle.nests_agree.proofs.Found.{through_from}
 use Rattle.nests_agree.proofs.SameLengths.{same_future}
 use Rattle.nests_agree.specs.Lengths.{WillGiveLength}
 use Rattle.nests_agree.proofs.lines.futures_of_lines_agree.Goals as goal
@@ -22,29 +23,21 @@ returns g c =
     (λ l m h.
     let ran = h.0 in
     let one = ran.first.came in
-    let other = ran.second.came in
-    record {
-      start = c.take-x.result.stream.stream;
-      start_more = c.take-y.result.stream.stream;
-      last = c.both_appended.new.x.stream.stream;
-      last_more = c.both_appended.new.y.stream.stream;
-      lines = one.ins;
-      lines_more = other.ins;
-      from_one = (search rules, search rules);
-      from_other = (search rules, search rules);
-      came = one.came;
-      came_more = other.came;
-      found = λ a b.
-          ran.found
-          (record {
-            ins = ran.first.ins;
-            came = record { ins = one.ins; came = a; related = one.related };
-            related = ran.first.related;
-          })
-          (record {
-            ins = ran.second.ins;
-            came = record { ins = other.ins; came = b; related = other.related };
-            related = ran.second.related;
-          });
-    })
+    let other = ran.second.came in (
+      record {
+        start = c.take-x.result.stream.stream;
+        last = c.both_appended.new.x.stream.stream;
+        lines = one.ins;
+        begun = (search rules, search rules);
+        came = one.came;
+      },
+      record {
+        start = c.take-y.result.stream.stream;
+        last = c.both_appended.new.y.stream.stream;
+        lines = other.ins;
+        begun = (search rules, search rules);
+        came = other.came;
+      },
+      λ a b. ran.found (through_from ran.first (through_from one a)) (through_from ran.second (through_from other b)),
+    ))
     c.both_appended.ensures

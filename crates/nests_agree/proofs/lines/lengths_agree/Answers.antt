@@ -7,6 +7,7 @@ use Rattle.lite_base.specs.Laws.Calling.{agree_narrower, answers_agree_from, kin
 use Rattle.lite_read.specs.Laws.Marks.{SameText}
 use Rattle.lite_read.specs.Deterministic.{SameByKind, SameOr}
 use Rattle.nests_agree.proofs.Appended.{appended_as}
+use Rattle.nests_agree.proofs.Found.{through_from}
 use Rattle.nests_agree.proofs.SameLengths.{same_length, same_tested}
 use Rattle.nests_agree.specs.Lengths.{IsLength, IsTested}
 use Rattle.nests_agree.proofs.lines.lengths_agree.Goals as goal
@@ -23,44 +24,28 @@ returns g c =
     appended_as
     (λ l m h.
     let ran = h.0 in
-    let taken = ran.first.came in
-    let taken_more = ran.second.came in
-    let one = taken.came in
-    let other = taken_more.came in
-    record {
-      start = c.filter-x.result.stream.stream.stream;
-      start_more = c.filter-y.result.stream.stream.stream;
-      last = c.both_appended.new.x.stream.stream.stream;
-      last_more = c.both_appended.new.y.stream.stream.stream;
-      lines = one.ins;
-      lines_more = other.ins;
-      from_one = (search rules, search rules);
-      from_other = (search rules, search rules);
-      came = one.came;
-      came_more = other.came;
-      found = λ a b.
-          comparable_as _ (OptionBy SameByKind)
-          (option_as _ SameByKind
-          (kin_answers_by (SameOr SameText) SameByKind _ IsLength (λ f g x y d. search rules) same_length))
-          (strip l) (strip m)
-          (ran.found
-          (record {
-            ins = ran.first.ins;
-            came = record {
-              ins = taken.ins;
-              came = record { ins = one.ins; came = a; related = one.related };
-              related = taken.related;
-            };
-            related = ran.first.related;
-          })
-          (record {
-            ins = ran.second.ins;
-            came = record {
-              ins = taken_more.ins;
-              came = record { ins = other.ins; came = b; related = other.related };
-              related = taken_more.related;
-            };
-            related = ran.second.related;
-          }));
-    })
+    let one = ran.first.came.came in
+    let other = ran.second.came.came in (
+      record {
+        start = c.filter-x.result.stream.stream.stream;
+        last = c.both_appended.new.x.stream.stream.stream;
+        lines = one.ins;
+        begun = (search rules, search rules);
+        came = one.came;
+      },
+      record {
+        start = c.filter-y.result.stream.stream.stream;
+        last = c.both_appended.new.y.stream.stream.stream;
+        lines = other.ins;
+        begun = (search rules, search rules);
+        came = other.came;
+      },
+      λ a b.
+      comparable_as _ (OptionBy SameByKind)
+      (option_as _ SameByKind
+      (kin_answers_by (SameOr SameText) SameByKind _ IsLength (λ f g x y d. search rules) same_length))
+      (strip l) (strip m)
+      (ran.found (through_from ran.first (through_from ran.first.came (through_from one a)))
+      (through_from ran.second (through_from ran.second.came (through_from other b)))),
+    ))
     c.both_appended.ensures
