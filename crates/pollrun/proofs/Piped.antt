@@ -1,6 +1,9 @@
 -- What the closures of the pipes compute, over whole lists.
-use Rattle.std.proofs.Common.{◌≡◌, ℤ, ◌+ℤ◌, Bool, true, false, List, [], ◌∷◌, map, refl, ap, Option, Some, None, Result}
-use Rattle.std.proofs.Common.{Ok, Err, IfOk, subst}
+use Rattle.std.proofs.Common.{◌≡◌, ℕ, ℤ, ◌+ℤ◌, Bool, true, false, List, [], ◌∷◌, ◌++◌, length, map, refl, ap, Option}
+use Rattle.std.proofs.Common.{Some, None, Result, Ok, Err, IfOk, Global, subst}
+use Rattle.std.specs.Fmt.{signed_decimal}
+use Rattle.std.specs.Prelude.{string_bytes}
+use Rattle.std.specs.declared.string.String.{String}
 use Rattle.futures.specs.declared.task.Poll.TheVariants.{Ready, Pending}
 use Rattle.lite_base.specs.Answers.{Answer}
 use Rattle.lite_base.specs.Calling.{Accepts, Always}
@@ -8,11 +11,25 @@ use Rattle.lite_base.specs.Runs.{Question}
 use Rattle.lite_reshape.specs.Laws.Leaving.{leaves_as}
 use Rattle.lite_reshape.specs.Leaving.{LeavesOut}
 use Rattle.lite_stream.specs.Pointwise.{Replaces}
-use Rattle.pollrun.specs.Served.{doubled, is_even}
+use Rattle.pollrun.specs.Served.{PipeAnswers, Prints, doubled, is_even}
+use Rattle.pollrun.specs.Spelling.{spelled_list}
+use Rattle.pollrun.specs.declared.request.Pipe.TheVariants.{One}
+use Rattle.pollrun.specs.declared.request.Single.{Single}
 
 pub on_ok : {T E : Type 0} {P Q : T → Type 0} (r : Result T E) → ((x : T) → P x → Q x) → IfOk r P → IfOk r Q
 on_ok (Ok x) to h = to x h
 on_ok (Err e) to h = tt
+
+-- what is printed of a nest over one script, where its answers are the pipe's
+pub printed : {S E : Type 0} (ran : List (Answer ℤ) → S → Type 0) (script : List (Answer ℤ)) (polls : ℕ) (pipe : Single)
+    (r : Result (String Global) E)
+    → IfOk r (λ line. (out : List (Answer ℤ)) × (t : S) × ran out t × (length out ≡ polls)
+    × (string_bytes line ≡ spelled_list signed_decimal out ++ 10 ∷ []))
+    → ((out : List (Answer ℤ)) (t : S) → ran out t → PipeAnswers (One pipe) (script ∷ []) out)
+    → IfOk r (λ line. Prints (One pipe) (script ∷ []) polls (string_bytes line))
+printed ran script polls pipe (Ok line) h answers =
+    record { out = h.0; answers = answers h.0 h.1 h.2; all_polls = h.3; spells = h.4 }
+printed ran script polls pipe (Err e) h answers = tt
 
 -- what a call always answers, and only an item
 item_doubled : {F : Type 0} (call : Question F ℤ ℤ) → ((p q : F) (x y : ℤ) → call p x y q → y ≡ x +ℤ x)
