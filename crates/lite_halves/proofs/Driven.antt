@@ -93,4 +93,4 @@ module _ {T : Type 0} (reads : Runs ReadMark T) (writes : Runs WriteMark T) {C :
   journal_more a b c before out more after answer n x d so_far inside is adds =
       driven_more before out more after answer n so_far
       (rw (pairs_more ask xs so_far.told (told_of answer) x d n so_far.many inside is)
-      (adds_both reads writes a b c _ (_ ∷ []) so_far.made (adds_one reads writes b c _ adds)))
+      (adds_both reads writes so_far.made (adds_one reads writes adds)))

@@ -34,4 +34,4 @@ module _ {T : Type 0} (reads : Runs ReadMark T) (writes : Runs WriteMark T) (cop
         notes = notes_in-push es fs gs e n same pushed asked told;
         ran = subst (λ w. PartRuns reads writes stream w next) (sym is) ran;
       } in
-      sound_more reads writes copies a b (n ∷ []) sound (adds_one reads writes a b n adds)
+      sound_more reads writes copies a b (n ∷ []) sound (adds_one reads writes adds)

@@ -47,21 +47,19 @@ module _ {T : Type 0} (reads : Runs ReadMark T) (writes : Runs WriteMark T) wher
   pub adds_none : (c : Chronicle T) → AddsAll reads writes c [] c
   adds_none c = record { fits = tt; start = refl; notes = sym (append-nil c.notes); ran = refl }
 
-  pub adds_both : (a b c : Chronicle T) (es fs : List Note) → AddsAll reads writes a es b → AddsAll reads writes b fs c
+  pub adds_both : {a b c : Chronicle T} {es fs : List Note} → AddsAll reads writes a es b → AddsAll reads writes b fs c
       → AddsAll reads writes a (es ++ fs) c
-  adds_both a b c es fs p q =
+  adds_both p q =
       record {
-        fits = fit_both es fs p.fits q.fits;
+        fits = fit_both _ _ p.fits q.fits;
         start = q.start ∙ p.start;
         notes = rw (q.notes, p.notes, append_assoc);
-        ran =
-            rw parts_in-both
-            (steps_follow (PartRuns reads writes) a.stream b.stream c.stream (parts_in es) (parts_in fs) p.ran q.ran);
+        ran = rw parts_in-both (steps_follow (PartRuns reads writes) _ _ _ _ _ p.ran q.ran);
       }
 
   -- one entry is added as several are
-  pub adds_one : (a b : Chronicle T) (e : Note) → Adds reads writes a e b → AddsAll reads writes a (e ∷ []) b
-  adds_one a b e h = record { fits = (h.fits, tt); start = h.start; notes = h.notes; ran = (b.stream, h.ran, refl) }
+  pub adds_one : {a b : Chronicle T} {e : Note} → Adds reads writes a e b → AddsAll reads writes a (e ∷ []) b
+  adds_one {b = b} h = record { fits = (h.fits, tt); start = h.start; notes = h.notes; ran = (b.stream, h.ran, refl) }
 
   -- what a journal's callers see of one kind of calls
   module _ {A : Type 0} (part : List A → Part) (refusal : A) where
@@ -72,10 +70,8 @@ module _ {T : Type 0} (reads : Runs ReadMark T) (writes : Runs WriteMark T) wher
           entries = p.entries ++ q.entries;
           marks = p.marks ++ q.marks;
           kind = rw (parts_in-both, p.kind, q.kind) (sym (map-append part p.marks q.marks));
-          added = adds_both a b c p.entries q.entries p.added q.added;
-          thinned =
-              rw flat_map-append
-              (thins_both refusal l (all_in_order p.marks) m (all_in_order q.marks) p.thinned q.thinned);
+          added = adds_both p.added q.added;
+          thinned = rw flat_map-append (thins_both _ l _ m _ p.thinned q.thinned);
         }
 
     pub journals_laws : MarkLaws (Journals reads writes part refusal)
@@ -85,58 +81,47 @@ module _ {T : Type 0} (reads : Runs ReadMark T) (writes : Runs WriteMark T) wher
     }
 
     -- of a call that added its entry
-    module _ (a b : Chronicle T) where
-      journals_add : (e : Note) (ms : List A) → part_of e.asked e.told ≡ part ms → Adds reads writes a e b
-          → Journals reads writes part refusal a ms b
-      journals_add e ms is h =
-          record {
-            entries = e ∷ [];
-            marks = ms ∷ [];
-            kind = ap (λ p. p ∷ []) is;
-            added = adds_one a b e h;
-            thinned = rw append-nil (thins_none refusal ms);
-          }
+    journals_add : {a b : Chronicle T} {e : Note} {ms : List A} → part_of e.asked e.told ≡ part ms
+        → Adds reads writes a e b → Journals reads writes part refusal a ms b
+    journals_add {e = e} {ms = ms} is h =
+        record {
+          entries = e ∷ [];
+          marks = ms ∷ [];
+          kind = ap (λ p. p ∷ []) is;
+          added = adds_one h;
+          thinned = rw append-nil (thins_none refusal ms);
+        }
 
-      -- and of one that was refused
-      journals_refuse : (m : A) → m ≡ refusal → b ≡ a → Journals reads writes part refusal a (m ∷ []) b
-      journals_refuse m refused same =
-          rw same record { entries = []; marks = []; kind = refl; added = adds_none a; thinned = inr (refused, refl) }
+    -- and of one that was refused
+    journals_refuse : {a b : Chronicle T} {m : A} → m ≡ refusal → b ≡ a
+        → Journals reads writes part refusal a (m ∷ []) b
+    journals_refuse {a} refused same =
+        rw same record { entries = []; marks = []; kind = refl; added = adds_none a; thinned = inr (refused, refl) }
 
   module _ (a b : Chronicle T) where
     pub read_adds : (r : Poll (Result ℕ Error)) (buf : List ℕ) → Adds reads writes a (read_note r buf) b
         → JournalReads reads writes a (read_marks r buf) b
-    read_adds r buf =
-        journals_add Part.reading (ReadMark.fault OutOfMemory) a b (read_note r buf) (read_marks r buf)
-        (read_note_part r buf)
+    read_adds r buf = journals_add _ _ (read_note_part r buf)
 
     pub reads_refuse : (kind : ErrorKind) → kind ≡ OutOfMemory → b ≡ a
         → JournalReads reads writes a (ReadMark.fault kind ∷ []) b
-    reads_refuse kind refused =
-        journals_refuse Part.reading (ReadMark.fault OutOfMemory) a b (ReadMark.fault kind) (ap ReadMark.fault refused)
+    reads_refuse kind refused = journals_refuse _ _ (ap ReadMark.fault refused)
 
     pub write_adds : (r : Poll (Result ℕ Error)) (xs : List ℕ) → Adds reads writes a (write_note r xs) b
         → JournalWrites reads writes a (write_marks r xs) b
-    write_adds r xs =
-        journals_add Part.writing (WriteMark.fault OutOfMemory) a b (write_note r xs) (write_marks r xs)
-        (write_note_part r xs)
+    write_adds r xs = journals_add _ _ (write_note_part r xs)
 
     pub flush_adds : (r : Poll (Result (Unit {0}) Error)) → Adds reads writes a (flush_note r) b
         → JournalWrites reads writes a (done_marks WriteMark.flushed r) b
-    flush_adds r =
-        journals_add Part.writing (WriteMark.fault OutOfMemory) a b (flush_note r) (done_marks WriteMark.flushed r)
-        (done_note_part WriteMark.flushed r)
+    flush_adds r = journals_add _ _ (done_note_part WriteMark.flushed r)
 
     pub close_adds : (r : Poll (Result (Unit {0}) Error)) → Adds reads writes a (close_note r) b
         → JournalWrites reads writes a (done_marks WriteMark.closed r) b
-    close_adds r =
-        journals_add Part.writing (WriteMark.fault OutOfMemory) a b (close_note r) (done_marks WriteMark.closed r)
-        (done_note_part WriteMark.closed r)
+    close_adds r = journals_add _ _ (done_note_part WriteMark.closed r)
 
     pub writes_refuse : (kind : ErrorKind) → kind ≡ OutOfMemory → b ≡ a
         → JournalWrites reads writes a (WriteMark.fault kind ∷ []) b
-    writes_refuse kind refused =
-        journals_refuse Part.writing (WriteMark.fault OutOfMemory) a b (WriteMark.fault kind)
-        (ap WriteMark.fault refused)
+    writes_refuse kind refused = journals_refuse _ _ (ap WriteMark.fault refused)
 
     pub vectored_reads : (r : Poll (Result ℕ Error)) (buf : List ℕ) (bufs : List IoSliceMut)
         → length buf ≤ room_in bufs → AddsOrStays reads writes a (read_note r buf) b
@@ -152,12 +137,12 @@ module _ {T : Type 0} (reads : Runs ReadMark T) (writes : Runs WriteMark T) wher
   pub ruleset writes_rules = (write_adds, flush_adds, close_adds, writes_refuse, vectored_writes)
 
   module _ (copies : T → T → Type 0) where
-    story_follows : (x y z : T) (l m : List Part) → Story reads writes copies x l y → Story reads writes copies y m z
+    story_follows : {x y z : T} {l m : List Part} → Story reads writes copies x l y → Story reads writes copies y m z
         → Story reads writes copies x (l ++ m) z
-    story_follows x y z l m h k = (
+    story_follows h k = (
       h.0 ++ k.0,
       rw (h.1, k.1) (sym (parts_among-both h.0 k.0)),
-      steps_follow (Stage reads writes copies) x y z h.0 k.0 h.2 k.2,
+      steps_follow (Stage reads writes copies) _ _ _ h.0 k.0 h.2 k.2,
     )
 
     stages_of : (x y : T) (ps : List Part) → PartsInOrder reads writes x ps y
@@ -165,7 +150,7 @@ module _ {T : Type 0} (reads : Runs ReadMark T) (writes : Runs WriteMark T) wher
     stages_of x y [] h = h
     stages_of x y (p ∷ ps) h = (h.0, h.1, stages_of h.0 y ps h.2)
 
-    module _ (x y : T) where
+    module _ {x y : T} where
       story_of_parts : (ps : List Part) → PartsInOrder reads writes x ps y → Story reads writes copies x ps y
       story_of_parts ps h = (map Some ps, sym (parts_among-all ps), stages_of x y ps h)
 
@@ -185,8 +170,7 @@ module _ {T : Type 0} (reads : Runs ReadMark T) (writes : Runs WriteMark T) wher
 
     -- a sound journal is a run from its start, where each clone equals its original
     pub sound_replays : (j : Chronicle T) → IsSound reads writes copies j → Replays reads writes copies j
-    sound_replays j sound equal =
-        rw sound.story.1 (stages_run equal j.start j.stream sound.story.0 sound.story.2)
+    sound_replays j sound equal = rw sound.story.1 (stages_run equal _ _ sound.story.0 sound.story.2)
 
     -- a journal without entries
     pub sound_new : (start stream : T) → copies stream start → IsSound reads writes copies (record {
@@ -194,29 +178,21 @@ module _ {T : Type 0} (reads : Runs ReadMark T) (writes : Runs WriteMark T) wher
       notes = [];
       stream = stream;
     })
-    sound_new start stream h = record { fits = tt; story = story_from_clone start stream h }
+    sound_new start stream h = record { fits = tt; story = story_from_clone h }
 
     -- with the entries of more calls
     module _ (a b : Chronicle T) where
       pub sound_more : (es : List Note) → IsSound reads writes copies a → AddsAll reads writes a es b
           → IsSound reads writes copies b
       sound_more es sound adds =
-          let both =
-          story_follows a.start a.stream b.stream (parts_in a.notes) (parts_in es) sound.story
-          (story_of_parts a.stream b.stream (parts_in es) adds.ran) in
           record {
             fits = rw adds.notes (fit_both a.notes es sound.fits adds.fits);
-            story = rw (adds.notes, parts_in-both, adds.start) both;
+            story = rw (adds.notes, parts_in-both, adds.start) (story_follows sound.story (story_of_parts (parts_in es) adds.ran));
           }
 
       -- of which all is cloned
       pub sound_clone : IsSound reads writes copies a → copies a.start b.start → copies a.stream b.stream
           → b.notes ≡ a.notes → IsSound reads writes copies b
       sound_clone sound from to same =
-          let first =
-          story_follows b.start a.start a.stream [] (parts_in a.notes) (story_from_clone b.start a.start from)
-          sound.story in
-          let whole =
-          story_follows b.start a.stream b.stream (parts_in a.notes) [] first
-          (story_to_clone a.stream b.stream to) in
+          let whole = story_follows (story_follows (story_from_clone from) sound.story) (story_to_clone to) in
           record { fits = rw same sound.fits; story = rw same (rw append-nil at whole) }
