@@ -66,18 +66,6 @@ impl<R, T: Tale + Takings + Clone, B: Books> JournalReadHalf<R, T, B> {
     }
 }
 
-impl<R: Wait, T: AsyncRead + Takings + Clone, B: Books> JournalReadHalf<R, T, B> {
-    // One read with its entry. `None`: there was no memory for the entry, and nothing was called.
-    fn step(&mut self, cx: &mut Context<'_>, buf: &mut [u8]) -> Option<Poll<io::Result<usize>>>
-        ensures some { IfSome result (λ r. CountsOn 1 (count_of r) self.old self.new) }
-        ensures none { IfNone result (self.new ≡ self.old) }
-        ensures bound { IfSome result (λ r. IfReady r (λ a. IfOk a (λ n. n ≤ length buf.new))) }
-        ensures kept { Keeps cx.old cx.new }
-    {
-        self.shared.lock(&self.rt).read(&mut self.tally, cx, buf)
-    }
-}
-
 impl<R, T: Tale + Takings + Clone, B: Books> Tale for JournalReadHalf<R, T, B> {
     ghost reads = { ReadCounts };
 
@@ -98,7 +86,7 @@ impl<R: Wait, T: AsyncRead + Takings + Clone, B: Books> AsyncRead for JournalRea
         ensures left { Registered result (λ _. ⊥) cx.new }
         ensures kept { Keeps cx.old cx.new }
     {
-        match self.step(cx, buf) {
+        match self.shared.lock(&self.rt).read(&mut self.tally, cx, buf) {
             Some(polled) => polled,
             None => Poll::Ready(Err(io::Error::from(ErrorKind::OutOfMemory))),
         }
@@ -137,7 +125,10 @@ where
         ensures kept { Keeps cx.old cx.new }
     {
         let mut buf = vec![in self.rt.alloc(); 0; room].ok()?;
-        let polled = self.step(cx, &mut buf)?;
+        let polled = self
+            .shared
+            .lock(&self.rt)
+            .read(&mut self.tally, cx, &mut buf)?;
         Some(buffer_answer(&polled, buf))
     }
 

@@ -70,34 +70,6 @@ impl<R, T: Tale + Takings + Clone, B: Books> JournalWriteHalf<R, T, B> {
 }
 
 impl<R: Wait, T: Tale + AsyncWrite + Clone, B: Books> JournalWriteHalf<R, T, B> {
-    // One write with its entry. `None`: there was no memory for the entry, and nothing was called.
-    fn step_write(&mut self, cx: &mut Context<'_>, buf: &[u8]) -> Option<Poll<io::Result<usize>>>
-        ensures some { IfSome result (λ r. CountsOn 1 (count_of r) self.old self.new) }
-        ensures none { IfNone result (self.new ≡ self.old) }
-        ensures bound { IfSome result (λ r. IfReady r (λ a. IfOk a (λ n. n ≤ length buf.now))) }
-        ensures kept { Keeps cx.old cx.new }
-    {
-        self.shared.lock(&self.rt).write(&mut self.tally, cx, buf)
-    }
-
-    // One flush with its entry. `None`: there was no memory for the entry, and nothing was called.
-    fn step_flush(&mut self, cx: &mut Context<'_>) -> Option<Poll<io::Result<()>>>
-        ensures some { IfSome result (λ r. CountsOn 1 0 self.old self.new) }
-        ensures none { IfNone result (self.new ≡ self.old) }
-        ensures kept { Keeps cx.old cx.new }
-    {
-        self.shared.lock(&self.rt).flush(&mut self.tally, cx)
-    }
-
-    // One close with its entry. `None`: there was no memory for the entry, and nothing was called.
-    fn step_close(&mut self, cx: &mut Context<'_>) -> Option<Poll<io::Result<()>>>
-        ensures some { IfSome result (λ r. CountsOn 1 0 self.old self.new) }
-        ensures none { IfNone result (self.new ≡ self.old) }
-        ensures kept { Keeps cx.old cx.new }
-    {
-        self.shared.lock(&self.rt).close(&mut self.tally, cx)
-    }
-
     // One call with its entry. `None`: there was no memory for the entry, and nothing was called.
     fn make(&mut self, cx: &mut Context<'_>, call: &Call) -> Option<Answer>
         requires { IsWrite call.now }
@@ -106,11 +78,13 @@ impl<R: Wait, T: Tale + AsyncWrite + Clone, B: Books> JournalWriteHalf<R, T, B> 
         ensures none { IfNone result (self.new ≡ self.old) }
         ensures kept { Keeps cx.old cx.new }
     {
+        let mut locked = self.shared.lock(&self.rt);
+        let tally = &mut self.tally;
         match call {
             Call::Read { .. } => unreachable!(),
-            Call::Write(bytes) => Some(write_answer(&self.step_write(cx, bytes)?)),
-            Call::Flush => Some(done_answer(&self.step_flush(cx)?)),
-            Call::Close => Some(done_answer(&self.step_close(cx)?)),
+            Call::Write(bytes) => Some(write_answer(&locked.write(tally, cx, bytes)?)),
+            Call::Flush => Some(done_answer(&locked.flush(tally, cx)?)),
+            Call::Close => Some(done_answer(&locked.close(tally, cx)?)),
         }
     }
 
@@ -160,7 +134,7 @@ impl<R: Wait, T: Tale + AsyncWrite + Clone, B: Books> AsyncWrite for JournalWrit
         ensures left { Registered result (λ _. ⊥) cx.new }
         ensures kept { Keeps cx.old cx.new }
     {
-        match self.step_write(cx, buf) {
+        match self.shared.lock(&self.rt).write(&mut self.tally, cx, buf) {
             Some(polled) => polled,
             None => Poll::Ready(Err(io::Error::from(ErrorKind::OutOfMemory))),
         }
@@ -191,7 +165,7 @@ impl<R: Wait, T: Tale + AsyncWrite + Clone, B: Books> AsyncWrite for JournalWrit
         ensures left { Registered result (λ _. ⊥) cx.new }
         ensures kept { Keeps cx.old cx.new }
     {
-        match self.step_flush(cx) {
+        match self.shared.lock(&self.rt).flush(&mut self.tally, cx) {
             Some(polled) => polled,
             None => Poll::Ready(Err(io::Error::from(ErrorKind::OutOfMemory))),
         }
@@ -204,7 +178,7 @@ impl<R: Wait, T: Tale + AsyncWrite + Clone, B: Books> AsyncWrite for JournalWrit
         ensures left { Registered result (λ _. ⊥) cx.new }
         ensures kept { Keeps cx.old cx.new }
     {
-        match self.step_close(cx) {
+        match self.shared.lock(&self.rt).close(&mut self.tally, cx) {
             Some(polled) => polled,
             None => Poll::Ready(Err(io::Error::from(ErrorKind::OutOfMemory))),
         }
