@@ -1,11 +1,13 @@
 //! Answers of polls, as they are written down.
-ghost use Rattle.std.specs.Prelude.{◌≡◌, ◌≤◌, [], length, vec_capacity, IfOk};
+ghost use Rattle.std.specs.Prelude.{◌≡◌, ◌≤◌, [], length, vec_capacity, IfOk, MatchOption};
 ghost use Rattle.futures.specs.Poll.{IfReady};
+ghost use Rattle.lite_halves.specs.Counts.{IsOutOfMemory};
 ghost use Rattle.lite_halves.specs.Entry.{told_of, told_of_done, told_of_read, told_of_write};
 
 use crate::entry::Answer;
 use lite_base::Poll;
 use std::io;
+use std::io::ErrorKind;
 
 /// What a read into the whole of `buf` was told: `buf` cut to what was read.
 pub fn buffer_answer(polled: &Poll<io::Result<usize>>, mut buf: Vec<u8>) -> Answer
@@ -66,5 +68,15 @@ pub fn done_answer(polled: &Poll<io::Result<()>>) -> Answer
         Poll::Pending => Answer::Pending,
         Poll::Ready(Ok(())) => Answer::Done,
         Poll::Ready(Err(e)) => Answer::Fault(e.kind()),
+    }
+}
+
+/// The answer, or that memory was refused where there is none.
+pub(crate) fn or_refused<T>(polled: Option<Poll<io::Result<T>>>) -> Poll<io::Result<T>>
+    ensures { MatchOption polled (IsOutOfMemory result) (λ answer. result ≡ answer) }
+{
+    match polled {
+        Some(answer) => answer,
+        None => Poll::Ready(Err(io::Error::from(ErrorKind::OutOfMemory))),
     }
 }

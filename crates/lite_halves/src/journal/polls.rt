@@ -15,12 +15,12 @@ ghost use Rattle.lite_halves.specs.Laws.Journal.{journals_laws};
 ghost use Rattle.lite_base.specs.Registered.{Registered};
 
 use super::Journal;
-use crate::answers::{done_answer, read_answer, write_answer};
+use crate::answers::{done_answer, or_refused, read_answer, write_answer};
 use crate::entry::{Call, Entry};
 use lite_base::{Context, Poll};
 use lite_io_base::{AsyncRead, AsyncWrite, Takings, Tale, first_nonempty, first_room};
 use std::io;
-use std::io::{ErrorKind, IoSlice, IoSliceMut};
+use std::io::{IoSlice, IoSliceMut};
 
 impl<T: Tale + Takings + Clone> Tale for Journal<T> {
     ghost reads = { JournalReads T.reads T.writes };
@@ -136,10 +136,7 @@ impl<T: AsyncRead + Takings + Clone> AsyncRead for Journal<T> {
         ensures left { Registered result (T.registers self.new.stream) cx.new }
         ensures kept { Keeps cx.old cx.new }
     {
-        match self.step_read(cx, buf) {
-            Some(polled) => polled,
-            None => Poll::Ready(Err(io::Error::from(ErrorKind::OutOfMemory))),
-        }
+        or_refused(self.step_read(cx, buf))
     }
 
     /// Reads as `poll_read` does into the first buffer that has room, or into an empty one if none has: one call with
@@ -175,10 +172,7 @@ impl<T: Tale + AsyncWrite + Clone> AsyncWrite for Journal<T> {
         ensures left { Registered result (T.write_registers self.new.stream) cx.new }
         ensures kept { Keeps cx.old cx.new }
     {
-        match self.step_write(cx, buf) {
-            Some(polled) => polled,
-            None => Poll::Ready(Err(io::Error::from(ErrorKind::OutOfMemory))),
-        }
+        or_refused(self.step_write(cx, buf))
     }
 
     /// Writes as `poll_write` does the first buffer that has a byte, or an empty one if none has: one call with one
@@ -203,10 +197,7 @@ impl<T: Tale + AsyncWrite + Clone> AsyncWrite for Journal<T> {
         ensures left { Registered result (T.write_registers self.new.stream) cx.new }
         ensures kept { Keeps cx.old cx.new }
     {
-        match self.step_flush(cx) {
-            Some(polled) => polled,
-            None => Poll::Ready(Err(io::Error::from(ErrorKind::OutOfMemory))),
-        }
+        or_refused(self.step_flush(cx))
     }
 
     fn poll_close(&mut self, cx: &mut Context<'_>) -> Poll<io::Result<()>>
@@ -215,9 +206,6 @@ impl<T: Tale + AsyncWrite + Clone> AsyncWrite for Journal<T> {
         ensures left { Registered result (T.write_registers self.new.stream) cx.new }
         ensures kept { Keeps cx.old cx.new }
     {
-        match self.step_close(cx) {
-            Some(polled) => polled,
-            None => Poll::Ready(Err(io::Error::from(ErrorKind::OutOfMemory))),
-        }
+        or_refused(self.step_close(cx))
     }
 }

@@ -12,11 +12,12 @@ ghost use Rattle.lite_base.specs.Registered.{Registered};
 use super::books::{Books, Got, Reads};
 use super::locked::Locked;
 use super::tally::Tally;
+use crate::answers::or_refused;
 use crate::{Answer, buffer_answer};
 use lite_base::{Context, Poll};
 use lite_io_base::{AsyncRead, Takings, Tale, first_room};
 use std::alloc::{AllocError, AllocGlobal};
-use std::io::{ErrorKind, IoSliceMut};
+use std::io::IoSliceMut;
 use std::marker::Model;
 use std::sync::{Arc, Mutex, Wait};
 use std::{fmt, io};
@@ -86,10 +87,7 @@ impl<R: Wait, T: AsyncRead + Takings + Clone, B: Books> AsyncRead for JournalRea
         ensures left { Registered result (λ _. ⊥) cx.new }
         ensures kept { Keeps cx.old cx.new }
     {
-        match self.shared.lock(&self.rt).read(&mut self.tally, cx, buf) {
-            Some(polled) => polled,
-            None => Poll::Ready(Err(io::Error::from(ErrorKind::OutOfMemory))),
-        }
+        or_refused(self.shared.lock(&self.rt).read(&mut self.tally, cx, buf))
     }
 
     /// Reads as `poll_read` does into the first buffer that has room, or into an empty one if none has: one call with

@@ -15,11 +15,12 @@ ghost use Rattle.lite_base.specs.Registered.{Registered};
 use super::books::{Books, Taken, Writes};
 use super::locked::Locked;
 use super::tally::Tally;
+use crate::answers::or_refused;
 use crate::{Answer, Call, done_answer, write_answer};
 use lite_base::{Context, Poll};
 use lite_io_base::{AsyncWrite, Takings, Tale, first_nonempty};
 use std::alloc::AllocError;
-use std::io::{ErrorKind, IoSlice};
+use std::io::IoSlice;
 use std::marker::Model;
 use std::sync::{Arc, Mutex, Wait};
 use std::{fmt, io};
@@ -134,10 +135,7 @@ impl<R: Wait, T: Tale + AsyncWrite + Clone, B: Books> AsyncWrite for JournalWrit
         ensures left { Registered result (λ _. ⊥) cx.new }
         ensures kept { Keeps cx.old cx.new }
     {
-        match self.shared.lock(&self.rt).write(&mut self.tally, cx, buf) {
-            Some(polled) => polled,
-            None => Poll::Ready(Err(io::Error::from(ErrorKind::OutOfMemory))),
-        }
+        or_refused(self.shared.lock(&self.rt).write(&mut self.tally, cx, buf))
     }
 
     /// Writes as `poll_write` does the first buffer that has a byte, or an empty one if none has: one call with one
@@ -165,10 +163,7 @@ impl<R: Wait, T: Tale + AsyncWrite + Clone, B: Books> AsyncWrite for JournalWrit
         ensures left { Registered result (λ _. ⊥) cx.new }
         ensures kept { Keeps cx.old cx.new }
     {
-        match self.shared.lock(&self.rt).flush(&mut self.tally, cx) {
-            Some(polled) => polled,
-            None => Poll::Ready(Err(io::Error::from(ErrorKind::OutOfMemory))),
-        }
+        or_refused(self.shared.lock(&self.rt).flush(&mut self.tally, cx))
     }
 
     fn poll_close(&mut self, cx: &mut Context<'_>) -> Poll<io::Result<()>>
@@ -178,9 +173,6 @@ impl<R: Wait, T: Tale + AsyncWrite + Clone, B: Books> AsyncWrite for JournalWrit
         ensures left { Registered result (λ _. ⊥) cx.new }
         ensures kept { Keeps cx.old cx.new }
     {
-        match self.shared.lock(&self.rt).close(&mut self.tally, cx) {
-            Some(polled) => polled,
-            None => Poll::Ready(Err(io::Error::from(ErrorKind::OutOfMemory))),
-        }
+        or_refused(self.shared.lock(&self.rt).close(&mut self.tally, cx))
     }
 }
