@@ -34,7 +34,7 @@ module _ {S U A : Type 0} {run : Runs (Answer A) S} {run' : Runs (Answer A) U} w
   pub chain_calm : {is_calm : S → Type 0} {is_calm' : U → Type 0} → CalmLaws run is_calm → CalmLaws run' is_calm'
       → CalmLaws (Chains run run') (λ x. is_calm x.first × is_calm' x.second)
   chain_calm s u =
-      calm_two (λ x. x.first) (λ x. x.second) s u
+      calm_two _ _ s u
       (λ x y l h. (h.firsts, h.seconds, h.came, h.then_came, joins_waits x.part y.part h.firsts h.seconds l h.joined))
 
 -- nothing is pending that comes out of answers that are not, where what is held is calm; and what is held then is
@@ -50,7 +50,7 @@ pub through_calm_by : {M S F A B : Type 0} (p : AdapterParts M S F) {run : Runs 
 through_calm_by p c t =
     record {
       no_pending = λ x y l k h.
-          (t (p.held x) (p.held y) h.ins l k.1 h.related (c.no_pending (p.source x) (p.source y) h.ins k.0 h.came)).0;
+          (t _ _ h.ins l k.1 h.related (c.no_pending (p.source x) (p.source y) h.ins k.0 h.came)).0;
       calm_on = λ x y l k h.
           let no_pending = c.no_pending (p.source x) (p.source y) h.ins k.0 h.came in (
             c.calm_on (p.source x) (p.source y) h.ins k.0 h.came,
@@ -69,7 +69,7 @@ module _ {F A V B : Type 0} (call : Question F A V) (gives : V → List (Answer 
       expanding_by call gives t
       (λ s i o. IfSome s.1 calm_made × calm s.0 → NoPending i → NoPending o × (IfSome t.1 calm_made × calm t.0))
       (λ e k n. (tt, (rw e tt, k.1)))
-      (λ v w o ran e k n. let a = answers v o (Some w) k.0 ran in (a.0, (rw e a.1, k.1)))
+      (λ v w o ran e k n. let a = answers v o _ k.0 ran in (a.0, (rw e a.1, k.1)))
       (λ p v i own rest ran h k n. let r = h (tt, k.1) n in
       (no_pending_join own rest (answers v own None k.0 ran).0 r.0, r.1))
       (λ p i o h k n. absurd n) (λ p i o h k n. h k n)
@@ -80,7 +80,7 @@ module _ {F A V B : Type 0} (call : Question F A V) (gives : V → List (Answer 
       → Calming (Expanding call gives)
   expanding_calming no_pending s t =
       expanding_by call gives t (λ s i o. waits o ≤ waits i) (λ e. omega arith)
-      (λ v w o ran e. omega (arith, no_pending_none o (no_pending v o (Some w) ran)))
+      (λ v w o ran e. omega (arith, no_pending_none o (no_pending v o _ ran)))
       (λ p v i own rest ran k. omega (arith, no_pending_none own (no_pending v own None ran), waits_join own rest, k))
       (λ p i o k. omega (arith, k)) (λ p i o k. k) (λ p r x v i b o called k. k) s
 
@@ -92,7 +92,7 @@ module _ {B A : Type 0} {run : Runs (Answer A) B} {calm : B → Type 0} (c : Cal
       (λ e k each n. tt) (λ b d l m ran e k each n. c.no_pending b d l k ran)
       (λ b d i own a rest m ran h k each n.
       no_pending_join own (a ∷ rest)
-      (no_pending_front own (end ∷ []) (c.no_pending b d (own ++ end ∷ []) k ran)) (h tt each n))
+      (no_pending_front own (end ∷ []) (c.no_pending b d _ k ran)) (h tt each n))
       (λ i l h k each. absurd) (λ i l h k each. h tt each.1) (λ b i a l h k each. h (each.0 b refl) each.1) held
 
   -- an adapter, where the inner stream that is held is calm, and each that may come
@@ -104,11 +104,11 @@ module _ {B A : Type 0} {run : Runs (Answer A) B} {calm : B → Type 0} (c : Cal
   flattening_calm p {outer} follows d =
       record {
         no_pending = λ x y l k h.
-            flattening_no_pending (p.held x) (p.held y) h.ins l h.related k.1.0
-            (have_come outer calm (p.source x) (p.source y) (p.held x) h.ins k.1 h.came)
-            (d.no_pending (p.source x) (p.source y) h.ins k.0 h.came);
+            flattening_no_pending _ _ h.ins l h.related k.1.0
+            (have_come outer calm _ _ _ h.ins k.1 h.came)
+            (d.no_pending _ _ h.ins k.0 h.came);
         calm_on = λ x y l k h. (
-          d.calm_on (p.source x) (p.source y) h.ins k.0 h.came,
-          each_inner_on run outer calm c.calm_on follows (p.source x) (p.source y) (p.held x) (p.held y) l k.1 h,
+          d.calm_on _ _ h.ins k.0 h.came,
+          each_inner_on run outer calm c.calm_on follows _ _ _ _ l k.1 h,
         );
       }

@@ -36,15 +36,15 @@ module _ {T E : Type 0} (is_clone : T → T → Type 0) (is_infallible : T → T
       → Clones is_clone is_infallible y m next → Clones is_clone is_infallible x (l ++ m) next
   clones_join x y (Some z) l m h k =
       let d = rw h.1 at k in
-      (all_append (IsCloneRefusal is_clone is_infallible x) l m h.0 d.0, d.1)
+      (all_append _ l m h.0 d.0, d.1)
   clones_join x y None l m h k =
       let d = rw h.1 at k in (
         l ++ d.0,
         d.1,
-        all_append (IsCloneRefusal is_clone is_infallible x) l d.0 h.0 d.2,
+        all_append _ l d.0 h.0 d.2,
         d.3,
         ap (λ n. l ++ n) d.4
-            ∙ sym (append_assoc l d.0 (item (Ok d.1) ∷ [])),
+            ∙ sym (append_assoc l d.0 _),
       )
 
   clones_giving : FollowLaws (Clones {E = E} is_clone is_infallible)
@@ -101,7 +101,7 @@ module _ {T E : Type 0} (is_clone : T → T → Type 0) where
       (AlikeCloned like alike is_clone)
   cloned_alike Sameness.equal s x y e =
       through_alike cloned_parts x y (s x.stream y.stream e.0) (tt, held_same x.held y.held e.1)
-      (expanding_agreeing clones_one Refers Sameness.equal Sameness.equal (refers_match (λ v w. v ≡ w))
+      (expanding_agreeing clones_one Refers Sameness.equal Sameness.equal (refers_match _)
       (clones_alike e.2))
   cloned_alike (Sameness.by same) s x y e =
       through_alike cloned_parts x y (s x.stream y.stream e.0) (tt, e.1)
@@ -194,7 +194,7 @@ module _ {T E : Type 0} (is_clone : T → T → Type 0) (is_infallible : T → T
     clones_no_pending : (l : List (Answer (Result T E))) (next : Option (Bor T))
         → Clones is_clone is_infallible x l next → NoPending l
     clones_no_pending l (Some y) h = refuses_no_pending l h.0
-    clones_no_pending l None h = rw h.4 (no_pending_join h.0 (item (Ok h.1) ∷ []) (refuses_no_pending h.0 h.2) tt)
+    clones_no_pending l None h = rw h.4 (no_pending_join h.0 (item _ ∷ []) (refuses_no_pending h.0 h.2) tt)
 
   pub clones_calming : Calming (Expanding Refers (Clones {E = E} is_clone is_infallible))
-  clones_calming = expanding_calming Refers (Clones is_clone is_infallible) clones_no_pending
+  clones_calming = expanding_calming Refers _ clones_no_pending

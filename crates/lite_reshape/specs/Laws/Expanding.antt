@@ -53,7 +53,7 @@ module _ {F A V B : Type 0} (call : Question F A V) (gives : V → List (Answer 
   expands_by p (Pending ∷ i) (b ∷ o) c = rw c.0 (waits p i o (expands_by p i o c.1))
   expands_by p (Ready None ∷ i) (b ∷ o) c = rw c.0 (ended p i o (expands_by p i o c.1))
   expands_by p (Ready (Some x) ∷ i) (b ∷ o) c =
-      made p c.1 x c.0 i b o c.2 (held_by c.1 c.0 i (b ∷ o) (expands_by c.1 i) c.3)
+      made p c.1 x c.0 i b o c.2 (held_by c.1 c.0 i _ (expands_by c.1 i) c.3)
   expands_by p _ _ h = absurd h
 
   pub expanding_by : (s : F × Option V) (i : List (Answer A)) (o : List (Answer B)) → Expanding call gives s i o t
@@ -67,7 +67,7 @@ module _ {F A V B : Type 0} (call : Question F A V) (gives : V → List (Answer 
   module _ (t : F × Option V) (p : F) (v w : V) (j : List (Answer A)) (l m : List (Answer B))
       (ran : gives v l (Some w)) where
     begun : Expanding call gives (p, Some w) j m t → Expanding call gives (p, Some v) j (l ++ m) t
-    begun (inl k) = inl (k.0, k.1, k.2, g.joins v w (Some k.2) l m ran k.3, k.4)
+    begun (inl k) = inl (k.0, k.1, k.2, g.joins v w _ l m ran k.3, k.4)
     begun (inr k) =
         inr (l ++ k.0, k.1, ap (λ n. l ++ n) k.2 ∙ sym (append_assoc l k.0 k.1), g.joins v w None l k.0 ran k.3, k.4)
 
@@ -200,18 +200,18 @@ module _ {M S F A V B : Type 0} (p : AdapterParts M S (F × Option V)) {call : Q
       → Counting (Adapts p run (Expanding call gives)) (held_ranks p r)
   held_counting laws c g =
       record {
-        sized = λ x. held_sized (r.rank (p.source x)) (p.held x).1 (c.sized (p.source x));
-        counts_on = λ x y l k h. c.counts_on (p.source x) (p.source y) h.ins k h.came;
-        firm_on = λ x y l k h. c.firm_on (p.source x) (p.source y) h.ins k h.came;
+        sized = λ x. held_sized _ (p.held x).1 (c.sized _);
+        counts_on = λ x y l k h. c.counts_on _ _ h.ins k h.came;
+        firm_on = λ x y l k h. c.firm_on _ _ h.ins k h.came;
         falls = λ x y a more k h.
-            expanding_falls call gives g (p.held x) (p.held y) h.ins a more (r.rank (p.source y)) (r.rank (p.source x))
-            (λ b before e. c.falls (p.source x) (p.source y) b before k
+            expanding_falls call gives g _ _ h.ins a more _ _
+            (λ b before e. c.falls _ _ b before k
             (rw e at h.came))
             (λ e. ap r.rank
-            (laws.stays (p.source x) (p.source y)
+            (laws.stays _ _
             (rw e at h.came))) h.related;
         lowers = λ x y l k h.
-            expanding_lowers call gives g (p.held x) (p.held y) h.ins l (r.rank (p.source y))
-            (r.rank (p.source x)) h.related
-            (c.lowers (p.source x) (p.source y) h.ins k h.came);
+            expanding_lowers call gives g _ _ h.ins l _
+            _ h.related
+            (c.lowers _ _ h.ins k h.came);
       }

@@ -56,7 +56,7 @@ module _ {F A V : Type 0} (g : Mut F (A × Unit {0}) V) (Fact : V → Type 0) wh
   made_has : (f h : F) (i : List (Answer A)) (o : List (Answer V)) → Replaces (Calls g) f i o h → MakesAlways g Fact f
       → AllByRecursion (OfItem Fact) o × MakesAlways g Fact h
   made_has f h =
-      exchanges_steps (Always (Calls g)) h
+      exchanges_steps _ h
       (λ f i o. MakesAlways g Fact f → AllByRecursion (OfItem Fact) o × MakesAlways g Fact h) (λ k. (tt, k))
       (λ f i o k always. let r = k always in ((λ v e. cc e, r.0), r.1))
       (λ f i o k always. let r = k always in ((λ v e. cc e, r.0), r.1))
@@ -68,8 +68,8 @@ module _ {F A V : Type 0} (g : Mut F (A × Unit {0}) V) (Fact : V → Type 0) wh
     each_made x held each = (
       each.0,
       λ y before after v h.
-          let made = (made_has x.f y.f h.ins (before ++ item v ∷ after) h.related each.1).0 in
-          (all_split (OfItem Fact) before (item v ∷ after) made).1.0 v refl,
+          let made = (made_has x.f y.f h.ins _ h.related each.1).0 in
+          (all_split _ before _ made).1.0 v refl,
     )
 
     pub made_promises : (x y : FlatMap S V F) (l : List (Answer B)) → EachMade g Fact x.stream.f x.inner_stream
@@ -86,13 +86,13 @@ module _ {F A V : Type 0} (g : Mut F (A × Unit {0}) V) (Fact : V → Type 0) wh
     each_made_on kept follows x y l each h =
         let made = each_made x.stream x.inner_stream each in
         let inner = each_inner_on run'
-        (Maps run (Calls g)) Fact kept follows x.stream y.stream x.inner_stream y.inner_stream l made h in
+        _ Fact kept follows x.stream y.stream x.inner_stream y.inner_stream l made h in
         (inner.0, made_promises x y l each h)
 
 module _ {S F A V : Type 0} (g : Mut F (A × Unit {0}) V) {run : Runs (Answer A) S} where
   outer_laws : {hints : Hints S} → StreamLaws run hints
       → StreamLaws (Maps run (Calls g)) (λ (m : Map S F) hint. hints m.stream hint)
-  outer_laws laws = laws_hinted map_parts laws (replaces_relating (Calls g))
+  outer_laws laws = laws_hinted map_parts laws (replaces_relating _)
 
   module _ {r : Ranks S} (c : Counting run r) where
     outer_counting : Counting (Maps run (Calls g)) (ranks_of (λ (m : Map S F). m.stream) r)
@@ -156,7 +156,7 @@ pub flat_map_calm : {S F A V B : Type 0} (g : Mut F (A × Unit {0}) V) {run : Ru
 flat_map_calm g {run} {run'} {calm} laws c d =
     let outer = outer_laws g laws in
     let all =
-    flattening_calm d flat_map_parts outer.follows (through_calm map_parts c (replaces_calming (Calls g))) in
+    flattening_calm d flat_map_parts outer.follows (through_calm map_parts c (replaces_calming _)) in
     record {
       no_pending = λ x y l k h. all.no_pending x y l (k.0, each_made g calm run run' x.stream x.inner_stream k.1) h;
       calm_on = λ x y l k h.

@@ -43,13 +43,13 @@ module _ {B A : Type 0} (run : Runs (Answer A) B) (last : Option B)
       (rest : (m : List (Answer A)) → Flat run i m last → P None i m) where
     inner_by : Flattening run (Some b) i l last → P (Some b) i l
     inner_by (inl h) = rw h.0 (still b h.2 l h.1 h.3 h.4)
-    inner_by (inr h) = rw h.3 (done b h.5 i h.0 h.1 h.2 h.4 h.6 (rest (h.1 ∷ h.2) h.7))
+    inner_by (inr h) = rw h.3 (done b h.5 i h.0 h.1 h.2 h.4 h.6 (rest _ h.7))
 
   flat_by : (i : List (Answer B)) (l : List (Answer A)) → Flat run i l last → P None i l
   flat_by [] [] h = nothing h
   flat_by (Pending ∷ i) (a ∷ l) h = rw h.0 (waits i l (flat_by i l h.1))
   flat_by (Ready None ∷ i) (a ∷ l) h = rw h.0 (ended i l (flat_by i l h.1))
-  flat_by (Ready (Some b) ∷ i) (a ∷ l) h = taken b i a l (inner_by b i (a ∷ l) (flat_by i) h)
+  flat_by (Ready (Some b) ∷ i) (a ∷ l) h = taken b i a l (inner_by b i _ (flat_by i) h)
   flat_by _ _ h = absurd h
 
   pub flattening_by : (held : Option B) (i : List (Answer B)) (l : List (Answer A)) → Flattening run held i l last
@@ -69,10 +69,10 @@ module _ {B A : Type 0} {run : Runs (Answer A) B} (laws : RunLaws run) where
           l ++ k.0,
           k.1,
           k.2,
-          ap (λ n. l ++ n) k.3 ∙ sym (append_assoc l k.0 (k.1 ∷ k.2)),
+          ap (λ n. l ++ n) k.3 ∙ sym (append_assoc l k.0 _),
           endless_join l k.0 endless k.4,
           k.5,
-          rw append_assoc (laws.follows b c k.5 l (k.0 ++ end ∷ []) ran k.6),
+          rw append_assoc (laws.follows b c k.5 l _ ran k.6),
           k.7,
         )
 
@@ -126,7 +126,7 @@ module _ {S B A : Type 0} (run : Runs (Answer A) B) (outer : Runs (Answer B) S) 
     step_before x y z a h m =
         record {
           ins = item h.next ∷ m.ins;
-          came = laws.follows x.0 y.0 z.0 (item h.next ∷ []) m.ins h.gave m.came;
+          came = laws.follows x.0 y.0 z.0 _ m.ins h.gave m.came;
           related = before_taken x.1 z.1 h.next m.ins a h.ended
               (rw h.held at m.related);
         }
@@ -136,7 +136,7 @@ module _ {S B A : Type 0} (run : Runs (Answer A) B) (outer : Runs (Answer B) S) 
         → Reaches (NextStep (FlatSteps run outer p can_step)) x y → FlatSteps run outer p can_step y (Some a) z
         → Adapts p outer (Flattening run) x (a ∷ []) z
     flat_answer p can_step x y z a goes last =
-        Reaches-back (λ m. Adapts p outer (Flattening run) m (a ∷ []) z)
+        Reaches-back _
         (λ v w t. step_before (p.source v, p.held v) (p.source w, p.held w) (p.source z, p.held z) a t.1)
         x y goes (step_answers (p.source y, p.held y) (p.source z, p.held z) a last.1)
 
@@ -147,7 +147,7 @@ pub to_come : {S B : Type 0} {outer : Runs (Answer B) S} {Fact : B → Type 0}
     → (u : S) (before after : List (Answer B)) (b : B)
     → outer t (before ++ item b ∷ after) u → Fact b
 to_come follows s t held i each came u before after b h =
-    each.1 u (i ++ before) after b (rw append_assoc (follows s t u i (before ++ item b ∷ after) came h))
+    each.1 u (i ++ before) after b (rw append_assoc (follows s t u i _ came h))
 
 -- and of each that came
 pub have_come : {S B : Type 0} (outer : Runs (Answer B) S) (Fact : B → Type 0) (s t : S) (held : Option B)
@@ -227,10 +227,10 @@ module _ {B A : Type 0} (run : Runs (Answer A) B) (n : ℕ) (rank : B → List �
   ended_lowers : (b c : B) (own rest : List (Answer A)) (xs us : List ℕ) → Lowers (own ++ end ∷ []) (rank c) (rank b)
       → Lowers rest xs (us ++ replicate n 0) → Lowers (own ++ rest) xs (us ++ rank b)
   ended_lowers b c own rest xs us low h =
-      own_lowers own (end ∷ []) rest (rank c) (rank b) xs (us ++ rank b) low
+      own_lowers own _ rest _ _ xs _ low
       (λ _.
-      let least = AtMost-both us us (replicate n 0) (rank b) (inl refl) (zeros_least n (rank b) (sized b)) in
-      lowers_at_most rest xs (us ++ replicate n 0) (us ++ rank b) h least)
+      let least = AtMost-both us us _ _ (inl refl) (zeros_least n _ (sized b)) in
+      lowers_at_most rest xs _ (us ++ rank b) h least)
       (λ below.
       let gone = at_most_below (replicate n 0) (rank c) (rank b) (zeros_least n (rank c) (sized c)) below in
       at_most_below xs (us ++ replicate n 0) (us ++ rank b) (Lowers-at_most rest xs (us ++ replicate n 0) h)
@@ -259,7 +259,7 @@ module _ {B A : Type 0} {run : Runs (Answer A) B} where
   flattening_counting p {outer} {r} {r'} laws c c' =
       record {
         sized = λ x.
-            length-append (r.rank (p.source x)) _ ∙ omega
+            length-append (r.rank _) _ ∙ omega
             (arith, c.sized (p.source x), inner_sized run r'.width r'.rank c'.sized (p.held x));
         counts_on = λ x y l k h. (
           c.counts_on (p.source x) (p.source y) h.ins k.0 h.came,
@@ -273,12 +273,12 @@ module _ {B A : Type 0} {run : Runs (Answer A) B} where
         );
         falls = λ x y a more k h.
             let came = λ (i : List (Answer _)) (e : h.ins ≡ i). rw e at h.came in
-            flat_falls run r'.width r'.rank c'.sized (p.held x) (p.held y) h.ins a more (r.rank (p.source y))
-            (r.rank (p.source x))
-            (λ b before e. c.falls (p.source x) (p.source y) b before k.0 (came (items (b ∷ before)) e))
-            (λ e. ap r.rank (laws.stays (p.source x) (p.source y) (came [] e)))
+            flat_falls run r'.width r'.rank c'.sized _ _ h.ins a more _
+            _
+            (λ b before e. c.falls _ _ b before k.0 (came _ e))
+            (λ e. ap r.rank (laws.stays _ _ (came [] e)))
             (λ b d e. c'.falls b d a more (held_has r'.counts k.1.0 e)) h.related;
         lowers = λ x y l k h.
-            flat_lowers run r'.width r'.rank c'.sized r'.firm (p.held x) (p.held y) h.ins l (r.rank (p.source y))
-            (r.rank (p.source x)) c'.lowers h.related k.1.0 (c.lowers (p.source x) (p.source y) h.ins k.0 h.came);
+            flat_lowers run r'.width r'.rank c'.sized r'.firm _ _ h.ins l _
+            _ c'.lowers h.related k.1.0 (c.lowers _ _ h.ins k.0 h.came);
       }

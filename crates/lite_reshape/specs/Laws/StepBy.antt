@@ -122,7 +122,7 @@ module _ {A : Type 0} where
 
     steps_lower : (o : List (Answer A)) (xs ys : List ℕ) → StepsOn p i o q → Lowers i xs ys → Lowers o xs ys
     steps_lower [] xs ys h k = rw h.0 at k
-    steps_lower (b ∷ o) xs ys h k = (leaves_relating (Numbered p.0)).lowers h.1 h.2 i (b ∷ o) xs ys h.5 k
+    steps_lower (b ∷ o) xs ys h k = (leaves_relating _).lowers h.1 h.2 i (b ∷ o) xs ys h.5 k
 
   pub steps_relating : Relating (StepsOn {A = A})
   steps_relating =
@@ -130,7 +130,7 @@ module _ {A : Type 0} where
         following = record { starts = λ p. (refl, refl); empty = λ p q i h. h; joins = steps_follow };
         bounds = steps_bounded;
         lowers = steps_lower;
-        from_items = λ p q i y l h. (leaves_relating (Numbered p.0)).from_items h.1 h.2 i y l h.5;
+        from_items = λ p q i y l h. (leaves_relating _).from_items h.1 h.2 i y l h.5;
       }
 
   -- one poll that counts down
@@ -164,7 +164,7 @@ module _ {A : Type 0} where
   -- from one step and one count on
   pub steps_agreeing : (like : Sameness A) → AgreeingOver like like (StepsOn {A = A}) (λ p q. (q.0 ≡ p.0) × (q.1 ≡ p.1))
   steps_agreeing like p q r t i j [] l e h k c = tt
-  steps_agreeing like p q r t i j (a ∷ o) [] e h k c = comparable_nil (SameAnswer like) (strip (a ∷ o))
+  steps_agreeing like p q r t i j (a ∷ o) [] e h k c = comparable_nil _ _
   steps_agreeing like p q r t i j (a ∷ o) (b ∷ l) e h k c =
       let at : (k.1 + p.1) % p.0 ≡ 0 =
       subst (λ z. (k.1 + z) % p.0 ≡ 0) e.1 (subst (λ z. (k.1 + q.1) % z ≡ 0) e.0 k.3.1) in

@@ -92,7 +92,7 @@ pub then_laws : {S F V A B : Type 0} (call : Question F A V) {gives : Runs (Poll
     → StreamLaws (Thens run call gives)
     (λ (m : Then S F V) hint. (inner : ℕ × Option ℕ) × hints m.stream inner × (hint ≡ then_hint m.future inner))
 then_laws call {gives} laws laws' =
-    laws_bounded then_parts laws (expanding_following call (HandsOut gives) (hands_giving laws'))
+    laws_bounded then_parts laws (expanding_following call _ (hands_giving laws'))
     (λ x y hint l e h.
     let fewer = expanding_bounded call (HandsOut gives) hands_one (x.f, x.future) (y.f, y.future) h.ins l h.related in
     same_hint hint (then_hint x.future e.0) l e.2
@@ -111,8 +111,8 @@ module _ {V B : Type 0} (same : Sameness B) {gives found : Runs (Poll B) V} {non
       (λ (x y : Then S F V). alike' x.stream y.stream
       × (AgreeFrom (SameItem like) alike call x.f y.f × OptionBy alike x.future y.future))
   then_steady like call outer =
-      through_steady_by then_parts like same outer (expanding_following call (HandsOut found) (hands_giving s.laws))
-      (expanding_agreeing hands_one call like same (agree_from_matches (SameItem like) alike call) hands_alike)
+      through_steady_by then_parts like same outer (expanding_following call _ (hands_giving s.laws))
+      (expanding_agreeing hands_one call like same (agree_from_matches _ alike call) hands_alike)
       (λ n. (
         n.0,
         expanding_found call
@@ -134,4 +134,4 @@ module _ {V B : Type 0} {gives : Runs (Poll B) V} {calm : V → Type 0} (c : Cal
       → CalmLaws (Thens run (Calls g) gives) (λ (m : Then S F V). is_calm m.stream × EachMade g calm m.f m.future)
   then_calm g d =
       through_calm_by then_parts d
-      (expanding_calm (Calls g) (HandsOut gives) (λ f x. makes_on g calm f (x, tt)) hands_calm)
+      (expanding_calm _ _ (λ f x. makes_on g calm f (x, tt)) hands_calm)
