@@ -30,7 +30,7 @@ module _ {F A B : Type 0} (call : Question F A (Option B)) where
   keeps_alike : (same : Sameness B) → AlikeInPlace call KeptInPlace same (SameAnswer same)
   keeps_alike same None None P Q o p e r q rest = rest o p r q
   keeps_alike same None (Some z) P Q o p e r q rest = absurd (both_items same None _ e)
-  keeps_alike same (Some y) None P Q o p e r q rest = absurd (both_items same (Some y) None e)
+  keeps_alike same (Some y) None P Q o p e r q rest = absurd (both_items same _ None e)
   keeps_alike same (Some y) (Some z) P Q o p e r q rest = rw (r.1, q.1) (e, rest r.0 q.0 r.2 q.2)
 
   -- from what agrees, calls at items that are like one another answer what is the same

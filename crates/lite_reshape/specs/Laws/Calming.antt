@@ -50,11 +50,11 @@ pub through_calm_by : {M S F A B : Type 0} (p : AdapterParts M S F) {run : Runs 
 through_calm_by p c t =
     record {
       no_pending = λ x y l k h.
-          (t _ _ h.ins l k.1 h.related (c.no_pending (p.source x) (p.source y) h.ins k.0 h.came)).0;
+          (t _ _ h.ins l k.1 h.related (c.no_pending _ _ h.ins k.0 h.came)).0;
       calm_on = λ x y l k h.
-          let no_pending = c.no_pending (p.source x) (p.source y) h.ins k.0 h.came in (
-            c.calm_on (p.source x) (p.source y) h.ins k.0 h.came,
-            (t (p.held x) (p.held y) h.ins l k.1 h.related no_pending).1,
+          let no_pending = c.no_pending _ _ h.ins k.0 h.came in (
+            c.calm_on _ _ h.ins k.0 h.came,
+            (t _ _ h.ins l k.1 h.related no_pending).1,
           );
     }
 

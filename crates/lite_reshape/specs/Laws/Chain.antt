@@ -77,7 +77,7 @@ module _ {A : Type 0} where
           through_end = ap (λ n. i ++ n) q.through_end ∙ sym (append_assoc i q.own _);
           next = q.next;
           later = q.later;
-          joined = ap (λ n. i ++ n) q.joined ∙ sym (append_assoc i q.own (q.next ∷ q.later));
+          joined = ap (λ n. i ++ n) q.joined ∙ sym (append_assoc i q.own _);
           followed = q.followed;
         })
 
@@ -91,7 +91,7 @@ module _ {A : Type 0} where
         through_end = ap (λ n. i ++ n) e.0 ∙ append-nil i ∙ r.through_end;
         next = r.next;
         later = r.later ++ m;
-        joined = ap (λ n. n ++ m) r.joined ∙ append_assoc r.own (r.next ∷ r.later) m;
+        joined = ap (λ n. n ++ m) r.joined ∙ append_assoc r.own _ m;
         followed = e.1;
       }
 
@@ -127,7 +127,7 @@ module _ {A : Type 0} where
     second_lowers j (Pending ∷ l) xs ys (inr r) h = second_lowers r.1 l xs ys r.3 (rw r.2 at h)
     second_lowers j (Ready None ∷ l) xs ys (inr r) h =
         let same = AtMost-length xs ys (Lowers-at_most r.1 xs ys (rw r.2 at h)) in
-        let e = done_lowers r.1 l _ ys (zeros_least (length xs) ys (sym same)) r.3 in
+        let e = done_lowers r.1 l _ ys (zeros_least _ ys (sym same)) r.3 in
         rw e.0 e.1
     second_lowers j (Ready (Some x) ∷ l) xs ys (inr r) h = second_below g xs ys (rw r.2 at h)
 

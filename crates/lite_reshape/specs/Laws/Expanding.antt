@@ -172,7 +172,7 @@ module _ {F A V B : Type 0} (call : Question F A V) (gives : V → List (Answer 
   alone : (s t : F × Option V) (y : B) (l : List B) → Expanding call gives s [] (items (y ∷ l)) t → (t.1 ≡ None)
       × (v : V) × (s.1 ≡ Some v)
   alone (p, None) t y l c = absurd c
-  alone (p, Some v) t y l (inl c) = absurd (g.waits v c.2 (items (y ∷ l)) c.3)
+  alone (p, Some v) t y l (inl c) = absurd (g.waits v c.2 _ c.3)
   alone (p, Some v) t y l (inr c) = (none_held p t c.1 c.4, v, refl)
 
   expanding_falls : (s t : F × Option V) (i : List (Answer A)) (y : B) (l : List B) (xs us : List ℕ)
@@ -200,7 +200,7 @@ module _ {M S F A V B : Type 0} (p : AdapterParts M S (F × Option V)) {call : Q
       → Counting (Adapts p run (Expanding call gives)) (held_ranks p r)
   held_counting laws c g =
       record {
-        sized = λ x. held_sized _ (p.held x).1 (c.sized _);
+        sized = λ x. held_sized _ _ (c.sized _);
         counts_on = λ x y l k h. c.counts_on _ _ h.ins k h.came;
         firm_on = λ x y l k h. c.firm_on _ _ h.ins k h.came;
         falls = λ x y a more k h.

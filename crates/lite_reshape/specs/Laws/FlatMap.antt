@@ -96,7 +96,7 @@ module _ {S F A V : Type 0} (g : Mut F (A × Unit {0}) V) {run : Runs (Answer A)
 
   module _ {r : Ranks S} (c : Counting run r) where
     outer_counting : Counting (Maps run (Calls g)) (ranks_of (λ (m : Map S F). m.stream) r)
-    outer_counting = through_counting map_parts c (replaces_relating (Calls g))
+    outer_counting = through_counting map_parts c (replaces_relating _)
 
     -- no chain of items that are made is endless
     pub made_end : (x : Map S F) → r.counts x.stream → Terminates (ItemRun (Maps run (Calls g))) x
@@ -136,10 +136,10 @@ module _ {S F A V B : Type 0} (g : Mut F (A × Unit {0}) V) {run ample : Runs (A
       alike x.stream.stream y.stream.stream × AgreeFrom (SameItem like) alike' (Calls g) x.stream.f y.stream.f
       × OptionBy alike' x.inner_stream y.inner_stream)
   flat_map_steady like same s =
-      let outer = through_steady_over map_parts like (Answering like (Calls g)) s
-      (replaces_relating (Calls g)).following (replaces_answering (Calls g) like) in
-      let made = replaces_agreeing (Calls g) like (Sameness.by alike')
-      (agree_from_matches (SameItem like) alike' (Calls g)) in
+      let outer = through_steady_over map_parts like _ s
+      (replaces_relating _).following (replaces_answering _ like) in
+      let made = replaces_agreeing _ like (Sameness.by alike')
+      (agree_from_matches _ alike' _) in
       flattening_steady flat_map_parts same
       (λ x y e. (
         through_alike map_parts x.stream y.stream (s.steady x.stream.stream y.stream.stream e.0) e.1 made,

@@ -201,7 +201,7 @@ module _ {B A : Type 0} (run : Runs (Answer A) B) (n : ℕ) (rank : B → List �
         → AllByRecursion IsItem i
     flattening_items =
         flattening_by run g (λ f i l. AllByRecursion IsItem l → AllByRecursion IsItem i) (λ e h. tt)
-        (λ b c l n ran e h. tt) (λ b c i own a rest n ran k h. k (all_split IsItem own (a ∷ rest) h).1)
+        (λ b c l n ran e h. tt) (λ b c i own a rest n ran k h. k (all_split IsItem own _ h).1)
         (λ i l k h. let e = h.0.1 in cc) (λ i l k h. let e = h.0.1 in cc)
         (λ b i a l k h. ((b, refl), k h)) f
 
@@ -230,11 +230,11 @@ module _ {B A : Type 0} (run : Runs (Answer A) B) (n : ℕ) (rank : B → List �
       own_lowers own _ rest _ _ xs _ low
       (λ _.
       let least = AtMost-both us us _ _ (inl refl) (zeros_least n _ (sized b)) in
-      lowers_at_most rest xs _ (us ++ rank b) h least)
+      lowers_at_most rest xs _ _ h least)
       (λ below.
-      let gone = at_most_below (replicate n 0) (rank c) (rank b) (zeros_least n (rank c) (sized c)) below in
-      at_most_below xs (us ++ replicate n 0) (us ++ rank b) (Lowers-at_most rest xs (us ++ replicate n 0) h)
-      (Below-then us (replicate n 0) (rank b) gone))
+      let gone = at_most_below _ _ _ (zeros_least n _ (sized c)) below in
+      at_most_below xs (us ++ replicate n 0) _ (Lowers-at_most rest xs _ h)
+      (Below-then us _ _ gone))
 
   flat_lowers : (firm : B → Type 0) (f g : Option B) (i : List (Answer B)) (l : List (Answer A)) (xs us : List ℕ)
       → ((b c : B) (m : List (Answer A)) → firm b → run b m c → Lowers m (rank c) (rank b)) → Flattening run f i l g
@@ -244,9 +244,9 @@ module _ {B A : Type 0} (run : Runs (Answer A) B) (n : ℕ) (rank : B → List �
       (λ e k h. rw e (AtMost-both xs us (replicate n 0) (replicate n 0) h (inl refl)))
       (λ b c l m ran e k h. rw e (lowers_after l xs us (rank c) (rank b) h (inner b c l k ran)))
       (λ b c i own a rest m ran k d h.
-      ended_lowers b c own (a ∷ rest) (xs ++ Inner g) us (inner b c (own ++ end ∷ []) d ran) (k tt h))
+      ended_lowers b c own (a ∷ rest) (xs ++ Inner g) us (inner b c _ d ran) (k tt h))
       (λ i l k d. k tt) (λ i l k d. k tt)
-      (λ b i a l k d h. Lowers-below (a ∷ l) _ _ (Below-first xs us (Inner g) (replicate n 0) h (same_size g None))) f
+      (λ b i a l k d h. Lowers-below (a ∷ l) _ _ (Below-first xs us _ _ h (same_size g None))) f
       i l
 
 held_has : {B : Type 0} (Fact : B → Type 0) {held : Option B} {b : B} → IfSome held Fact → held ≡ Some b → Fact b
@@ -264,15 +264,15 @@ module _ {B A : Type 0} {run : Runs (Answer A) B} where
         counts_on = λ x y l k h. (
           c.counts_on (p.source x) (p.source y) h.ins k.0 h.came,
           each_inner_on run outer r'.counts c'.counts_on laws.follows (p.source x) (p.source y) (p.held x)
-              (p.held y) l k.1 h,
+              _ l k.1 h,
         );
         firm_on = λ x y l k h. (
-          c.firm_on (p.source x) (p.source y) h.ins k.0 h.came,
-          each_inner_on run outer r'.firm c'.firm_on laws.follows (p.source x) (p.source y) (p.held x) (p.held y)
+          c.firm_on _ _ h.ins k.0 h.came,
+          each_inner_on run outer r'.firm c'.firm_on laws.follows _ _ _ _
               l k.1 h,
         );
         falls = λ x y a more k h.
-            let came = λ (i : List (Answer _)) (e : h.ins ≡ i). rw e at h.came in
+            let came = λ (i : List _) (e : h.ins ≡ i). rw e at h.came in
             flat_falls run r'.width r'.rank c'.sized _ _ h.ins a more _
             _
             (λ b before e. c.falls _ _ b before k.0 (came _ e))

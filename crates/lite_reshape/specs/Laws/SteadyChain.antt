@@ -37,7 +37,7 @@ module _ {A : Type 0} where
   stripped First g i j l (inl r) = rw r.2 (rw (← (append-nil i)) (own_joined i [] [] _ r.0 refl))
   stripped First g i j l (inr r) =
       let after = cuts_stripped is_done second_after (λ f n. refl) Second g j (r.next ∷ r.later) r.followed in
-      rw r.through_end (rw r.joined (own_joined r.own _ (r.next ∷ r.later) (strip j) r.endless after))
+      rw r.through_end (rw r.joined (own_joined r.own _ _ _ r.endless after))
   stripped Second g i j l r = cuts_stripped is_done second_after (λ f n. refl) Second g j l r.1
   stripped Done g i j l r = cuts_stripped is_done second_after (λ f n. refl) Done g j l r.1
 
@@ -61,7 +61,7 @@ module _ {A : Type 0} where
     joined_same First (x ∷ i) [] k h o p r q c d =
         rw q (comparable_nil _ o)
     joined_same First (None ∷ i) (Some y ∷ j) k h o p r q c d = absurd (both_items same None _ c.0)
-    joined_same First (Some x ∷ i) (None ∷ j) k h o p r q c d = absurd (both_items same (Some x) None c.0)
+    joined_same First (Some x ∷ i) (None ∷ j) k h o p r q c d = absurd (both_items same _ None c.0)
     joined_same First (Some x ∷ i) (Some y ∷ j) k h o p r q c d =
         rw (r.1, q.1) (c.0, joined_same First i j k h r.0 q.0 r.2 q.2 c.1 d)
     joined_same Done i j k h o p r q c d = cuts_same Done k h o p r q d

@@ -19,14 +19,14 @@ module _ {V B : Type 0} {gives : V → List (Answer B) → Option V → Type 0} 
   -- alike things are done with items that are the same
   abbrev pub OneMade : Sameness B → (V → V → Type 0) → Type 0
   OneMade same alike =
-      (v w : V) (l m : List _) → alike v w → (h : gives v l None) (k : gives w m None)
+      (v w : V) (l m : List (Answer B)) → alike v w → (h : gives v l None) (k : gives w m None)
       → SameItem same (one.hands v l h).0 (one.hands w m k).0
 
   -- v is not done, or its item stands before what follows
   abbrev OneInPlace : V → (List (Option B) → Type 0) → List (Option B) → Type 0
   OneInPlace v follows out =
       (out ≡ []) ⊎
-      ((l : List _) × (h : gives v l None) × (more : List (Option B))
+      ((l : List (Answer B)) × (h : gives v l None) × (more : List (Option B))
       × (out ≡ Some (one.hands v l h).0 ∷ more) × follows more)
 
   module _ {F A : Type 0} (call : Question F A V) where
@@ -78,7 +78,7 @@ module _ {F A V B : Type 0} (call : Question F A V) {gives gives' : V → List (
         → Expanding call gives s i o t → Expanding call gives' s i o t
     expanding_found_where s t i o all c =
         expanding_by call gives t (λ s i o. AllByRecursion may o → Expanding call gives' s i o t) (λ e all. (refl, e))
-        (λ v w o ran e all. inl (refl, refl, w, found v o (Some w) all ran, e))
+        (λ v w o ran e all. inl (refl, refl, w, found v o _ all ran, e))
         (λ p v i own rest ran k all. let both = all_split may own rest all in
         inr (own, rest, refl, found v own None both.0 ran, k both.1))
         (λ p i o k all. (refl, k all.1)) (λ p i o k all. (refl, k all.1))

@@ -52,7 +52,7 @@ module _ {A : Type 0} where
     both_end [] [] k h n o c d = d
     both_end [] (Some y ∷ m) k h n o c d = absurd (both_items same None _ c.0)
     both_end (None ∷ l) m k h n o c d = absurd n
-    both_end (Some x ∷ l) [] k h n o c d = absurd (both_items same (Some x) None c.0)
+    both_end (Some x ∷ l) [] k h n o c d = absurd (both_items same _ None c.0)
     both_end (Some x ∷ l) (Some y ∷ m) k h n o c d = (c.0, both_end l m k h n o c.1 d)
     both_end _ (None ∷ m) k h n o c d = absurd o
 
@@ -60,7 +60,7 @@ module _ {B A : Type 0} (run : Runs (Answer A) B) where
   -- b goes on, or it has ended and others follow
   abbrev OwnInPlace : B → (List (Option A) → Type 0) → List (Option A) → Type 0
   OwnInPlace b follows out =
-      ((l : List _) × (c : B) × run b l c × Endless l × (out ≡ strip l))
+      ((l : List (Answer A)) × (c : B) × run b l c × Endless l × (out ≡ strip l))
       ⊎ ((own : List (Answer A)) × (c : B) × run b (own ++ end ∷ []) c × Endless own × (more : List (Option A))
       × (out ≡ strip own ++ more) × follows more)
 
@@ -86,10 +86,10 @@ module _ {B A : Type 0} (run : Runs (Answer A) B) where
           let both = steady b c a _ q.0 r.1 q.1 r.2 q.2 in
           rw (r.5, q.4) (before_right same _ _ r.4 (no_end q.0 q.3) (rw strip_join at both))
       places (inr r) (inr q) rest =
-          let both = steady b c a _ (q.0 ++ end ∷ []) r.1 q.1 r.2 q.2 in
+          let both = steady b c a _ _ r.1 q.1 r.2 q.2 in
           let ends = rw strip_join at (rw strip_join at both) in
           rw (r.5, q.5)
-          (both_end same (strip r.0) (strip q.0) r.4 q.4 (no_end r.0 r.3) (no_end q.0 q.3) ends (rest r.4 q.4 r.6 q.6))
+          (both_end same _ _ r.4 q.4 (no_end r.0 r.3) (no_end q.0 q.3) ends (rest r.4 q.4 r.6 q.6))
 
     -- over outer streams whose items are alike
     flattening_alike : {M S : Type 0} (p : AdapterParts M S (Option B)) (outer : Runs (Answer B) S) (x y : M)
@@ -98,8 +98,8 @@ module _ {B A : Type 0} (run : Runs (Answer A) B) where
     flattening_alike p outer x y a e l m x' y' h k =
         placed_from_same Refers OwnInPlace same (refers_match alike) places
         tt tt _ _ _ _ _ _ tt e
-        (a h.ins k.ins (p.source x') (p.source y') h.came k.came)
-        (placed_from (p.held x) (p.held x') h.ins l h.related) (placed_from (p.held y) (p.held y') k.ins m k.related)
+        (a h.ins k.ins _ _ h.came k.came)
+        (placed_from _ _ h.ins l h.related) (placed_from _ _ k.ins m k.related)
 
 -- where no poll of an inner stream asks for memory
 flattening_found : {B A : Type 0} {run ample : Runs (Answer A) B} → TakesNone run ample → (held last : Option B)
@@ -107,7 +107,7 @@ flattening_found : {B A : Type 0} {run ample : Runs (Answer A) B} → TakesNone 
 flattening_found {run} {ample} t held last =
     flattening_by run last (λ f i l. Flattening ample f i l last) (λ e. e)
     (λ b c l n ran e. inl (refl, n, c, t b c l ran, e))
-    (λ b c i own a rest n ran k. inr (own, a, rest, refl, n, c, t b c (own ++ end ∷ []) ran, k)) (λ i l k. (refl, k))
+    (λ b c i own a rest n ran k. inr (own, a, rest, refl, n, c, t b c _ ran, k)) (λ i l k. (refl, k))
     (λ i l k. (refl, k)) (λ b i a l k. k) held
 
 module _ {M S B A : Type 0} (p : AdapterParts M S (Option B)) {outer ample : Runs (Answer B) S}

@@ -43,7 +43,7 @@ module _ {V B : Type 0} {run : Runs (Poll B) V} where
       record {
         rests = λ v. spends_rest (handed Some) (λ after. after ≡ []) laws refl (Some v);
         stays = λ v w h. cc (spends_stay (handed Some) (λ after. after ≡ []) laws (Some v) (Some w) h);
-        answers = λ v h. shown_gives (handed Some) h.ins h.after h.value h.joined h.finishes.gives;
+        answers = λ v h. shown_gives _ h.ins h.after h.value h.joined h.finishes.gives;
         joins = λ v w next l m. spends_follow (handed Some) (λ after. after ≡ []) laws (λ j k e d. rw (e, d))
             (Some v) (Some w) next l m;
       }
@@ -94,7 +94,7 @@ pub then_laws : {S F V A B : Type 0} (call : Question F A V) {gives : Runs (Poll
 then_laws call {gives} laws laws' =
     laws_bounded then_parts laws (expanding_following call _ (hands_giving laws'))
     (λ x y hint l e h.
-    let fewer = expanding_bounded call (HandsOut gives) hands_one (x.f, x.future) (y.f, y.future) h.ins l h.related in
+    let fewer = expanding_bounded call _ hands_one (x.f, x.future) (y.f, y.future) h.ins l h.related in
     same_hint hint (then_hint x.future e.0) l e.2
     (then_bounded x.future e.0 _ _ fewer (laws.bounded x.stream y.stream e.0 h.ins e.1 h.came)))
 
@@ -126,7 +126,7 @@ module _ {V B : Type 0} {gives : Runs (Poll B) V} {calm : V → Type 0} (c : Cal
       (rw h.3 (handed_no_pending Some h.0 (c.no_pending v w h.0 k h.2)), c.calm_on v w h.0 k h.2)
   hands_calm v l None k h =
       let ins = handed_no_pending Some h.ins (c.no_pending v h.finishes.last h.ins k h.finishes.came) in
-      (rw (h.joined, h.later) (no_pending_join (map (handed Some) h.ins) [] ins tt), tt)
+      (rw (h.joined, h.later) (no_pending_join (map _ h.ins) [] ins tt), tt)
 
   -- by a function that makes calm futures
   pub then_calm : {S F A : Type 0} (g : Mut F (A × Unit {0}) V) {run : Runs (Answer A) S} {is_calm : S → Type 0}
