@@ -83,7 +83,7 @@ ends_same (Sameness.by same) = tt
 
 -- and an end and an item never are
 pub both_items : {A : Type 0} (same : Sameness A) (x y : Option A) → SameAnswer same x y → OptionBy (λ _ _. ⊤) x y
-both_items same x y e = option_as (SameItem same) (λ _ _. ⊤) (λ v w d. tt) x y (answer_items same x y e)
+both_items same x y e = option_as _ _ _ x y (answer_items same x y e)
 
 pub item_same : {A : Type 0} (same : Sameness A) (x y : A) → SameAnswer same (Some x) (Some y) → SameItem same x y
 item_same Sameness.equal x y e = cc e
@@ -124,20 +124,20 @@ either_by : {A : Type 0} (same other one : Sameness A)
     → SameAnswer (Either same other) x y
 either_by Sameness.equal Sameness.equal one part x y e =
     options_equal x y
-    (option_as (SameItem one) (λ v w. v ≡ w) (λ v w d. elim (part v w d) [ inl p ↦ p | inr p ↦ p ]) x y
+    (option_as _ _ (λ v w d. elim (part v w d) [ inl p ↦ p | inr p ↦ p ]) x y
     (answer_items one x y e))
 either_by same other one part x y e =
-    option_as (SameItem one) (λ v w. SameItem same v w ⊎ SameItem other v w) part x y (answer_items one x y e)
+    option_as _ _ part x y (answer_items one x y e)
 
 pub either_first : {A : Type 0} (same other : Sameness A) (l m : List (Option A)) → ComparableBy (SameAnswer same) l m
     → ComparableBy (SameAnswer (Either same other)) l m
 either_first same other =
-    comparable_as (SameAnswer same) (SameAnswer (Either same other)) (either_by same other same (λ v w d. inl d))
+    comparable_as _ _ (either_by same other same (λ v w d. inl d))
 
 pub either_second : {A : Type 0} (same other : Sameness A) (l m : List (Option A)) → ComparableBy (SameAnswer other) l m
     → ComparableBy (SameAnswer (Either same other)) l m
 either_second same other =
-    comparable_as (SameAnswer other) (SameAnswer (Either same other)) (either_by same other other (λ v w d. inr d))
+    comparable_as _ _ (either_by same other other (λ v w d. inr d))
 
 pub option_by : {A : Type 0} (same : A → A → Type 0) (x y : Option A) (u v : A) → OptionBy same x y → x ≡ Some u
     → y ≡ Some v → same u v

@@ -54,13 +54,13 @@ pub agrees_alone_from : {F A B : Type 0} (like : A → A → Type 0) (same : B �
     → ((f g h : F) (x w : A) (y z : B) → like x w → call f x y g → call f w z h → same y z × (h ≡ g)) → (f : F)
     → AgreeFrom like same call f f
 agrees_alone_from like same call one f =
-    matches_agree_from like same call (λ p k. k ≡ p)
+    matches_agree_from like same call _
     (λ p k g l x w y z a e c d. one p g l x w y z e c (subst (λ q. call q w z l) a d)) f f refl
 
 pub agrees_alone : {F A B : Type 0} (call : Question F A B)
     → ((f g h : F) (x : A) (y z : B) → call f x y g → call f x z h → (y ≡ z) × (h ≡ g)) → (f : F) → Agree call f f
 agrees_alone call one =
-    agrees_alone_from (λ x w. x ≡ w) (λ y z. y ≡ z) call
+    agrees_alone_from _ _ call
     (λ f g h x w y z e c d. one f g h x y z c (subst (λ v. call f v z h) (sym e) d))
 
 -- closures that agree on items which are alike do on those that are alike in a narrower way
@@ -88,14 +88,14 @@ pub answers_agree : {F A B : Type 0} (same : B → B → Type 0) (call : Questio
     → ((f g : F) (x : A) (y : B) → call f x y g → P x y) → ((x : A) (y z : B) → P x y → P x z → same y z) → (f k : F)
     → AgreeBy same call f k
 answers_agree same call P answers alike =
-    answers_agree_from (λ x w. x ≡ w) same call P answers
+    answers_agree_from _ same call P answers
     (λ x w y z e p q. alike x y z p (subst (λ v. P v z) (sym e) q))
 
 -- a closure that answers what a function does agrees with itself
 pub function_agree : {F A B : Type 0} (call : Question F A B) (function : A → B)
     → ((f g : F) (x : A) (y : B) → call f x y g → y ≡ function x) → (f k : F) → Agree call f k
 function_agree call function answers =
-    answers_agree (λ y z. y ≡ z) call (λ x y. y ≡ function x) answers (λ x y z p q. p ∙ sym q)
+    answers_agree _ call _ answers (λ x y z p q. p ∙ sym q)
 
 -- by how the items that come in are compared
 module _ {F A : Type 0} (like : Sameness A) where
@@ -139,10 +139,10 @@ keeping_from {B = B} like call f k g l x w y z a e c d =
 
 pub keeping_matches : {F A B : Type 0} (like : Sameness A) (call : Question F A (Option B))
     → MatchesFrom (SameItem like) (SameAnswer (Keeping like call)) call (AgreeKeeping like call)
-keeping_matches Sameness.equal call = agree_from_matches (λ x w. x ≡ w) (λ y z. y ≡ z) call
+keeping_matches Sameness.equal call = agree_from_matches _ _ call
 keeping_matches (Sameness.by like) call = keeping_from like call
 
 pub answering_matches : {F A B : Type 0} (like : Sameness A) (call : Question F A B)
     → MatchesFrom (SameItem like) (SameItem (Answering like call)) call (AgreeOver like call)
-answering_matches Sameness.equal call = agree_from_matches (λ x w. x ≡ w) (λ y z. y ≡ z) call
+answering_matches Sameness.equal call = agree_from_matches _ _ call
 answering_matches (Sameness.by like) call = kin_matches like call

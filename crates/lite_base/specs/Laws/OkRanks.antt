@@ -38,7 +38,7 @@ module _ {S T E : Type 0} {run : Runs (Answer (Result T E)) S} {r : Ranks S} whe
   -- from a value that counts, no chain of runs of Ok items is endless
   pub ok_counting_ends : OkCounting run r → (x : S) → r.counts x → Terminates (OkRun run) x
   ok_counting_ends c =
-      ranked_ends (OkRun run) r.counts r.rank (λ x y k h. c.counts_on x y (all_ok (items (h.0 ∷ h.1))) k h.2)
+      ranked_ends _ r.counts r.rank (λ x y k h. c.counts_on x y _ k h.2)
       (λ x y k h. c.falls x y h.0 h.1 k h.2)
 
   pub lent_ok_counting : OkCounting run r → OkCounting (Lent run) (ranks_of (λ (s : MutBor S). s.now) r)
@@ -61,6 +61,6 @@ ok_counting_by unwraps c counts_on firm_on =
       sized = c.sized;
       counts_on = counts_on;
       firm_on = firm_on;
-      falls = λ x y a more k h. c.falls x y a more k (unwraps x y (items (a ∷ more)) h);
+      falls = λ x y a more k h. c.falls x y a more k (unwraps x y _ h);
       lowers = λ x y l k h. c.lowers x y l k (unwraps x y l h);
     }

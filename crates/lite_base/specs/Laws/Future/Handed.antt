@@ -15,7 +15,7 @@ module _ {A B : Type 0} (shown : A → Option B) where
   handed_waiting (Ready x ∷ l) w = absurd w
 
   pub handed_waits : (l : List (Poll A)) → Waiting l → strip (map (handed shown) l) ≡ []
-  handed_waits l w = waiting_strip (map (handed shown) l) (handed_waiting l w)
+  handed_waits l w = waiting_strip (map _ l) (handed_waiting l w)
 
   -- and then what is shown of the value, before what comes later
   pub handed_gives : (l : List (Poll A)) (later : List (Answer B)) (x : A) → Gives l x

@@ -54,7 +54,7 @@ module _ {A : Type 0} where
   rows_calm : (order : List Bool) (i j out : List (Poll A)) → PickRows order i j out → NoPending i ⊎ NoPending j
       → NoPending out
   rows_calm =
-      rows_by PickRow (λ i j l. NoPending i ⊎ NoPending j → NoPending l) (λ p. tt)
+      rows_by PickRow _ _
       (λ i j c i' j' l r k p. let d = row_calm i j c i' j' r p in no_pending_join (c ∷ []) l d.0 (k d.1))
       (λ i j c i' j' l r k p. let d = row_calm j i c j' i' r (other_way p) in
       no_pending_join (c ∷ []) l d.0 (k (other_way d.1)))
