@@ -23,7 +23,7 @@ module _ {A : Type 0} where
         rests = λ x. refl;
         stays = λ x y h i. record { value = held_same x.value y.value h i };
         follows = λ x y z. gives_follow (once_left x.value) (once_left y.value) (once_left z.value);
-        bounded = λ x y hint l e h. same_hint hint (length (once_left x.value), Some (length (once_left x.value))) l e
+        bounded = λ x y hint l e h. same_hint hint (length (once_left x.value), Some _) l e
             (gives_bounded (once_left x.value) (once_left y.value) l h);
       }
 

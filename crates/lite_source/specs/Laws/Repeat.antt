@@ -14,7 +14,7 @@ use Rattle.lite_source.specs.Laws.Always.{always_laws}
 module _ {A E : Type 0} (is_clone : A → A → Type 0) (is_infallible : A → Type 0) where
   -- its hint bounds nothing
   pub repeat_laws : (least : ℕ) → StreamLaws (Repeats {E = E} is_clone is_infallible) (λ x hint. hint ≡ (least, None))
-  repeat_laws least = always_laws _ (least, None) (λ x l h. tt)
+  repeat_laws least = always_laws _ (least, None) _
 
   module _ (n : (x : A) → is_infallible x) (own : A) where
     clones_found : (l : List (Answer (Result A E))) → AllByRecursion (IsCloned is_clone is_infallible own) l
@@ -42,7 +42,7 @@ module _ {A E : Type 0} (is_clone : A → A → Type 0) (is_infallible : A → T
       ((x : A) → is_infallible x) (λ x y. SameClones is_clone x.item y.item)
   repeat_steady =
       record {
-        laws = runs_of (always_laws (λ x. IsCloned is_clone (λ _. ⊤) x.item) (0, None) (λ x l h. tt));
+        laws = runs_of (always_laws _ (0, None) _);
         steady = λ x y e l m x' y' h k. clones_same x.item y.item e l m h.0 k.0;
         found = λ n x y l h. (clones_found n x.item l h.0, h.1);
       }

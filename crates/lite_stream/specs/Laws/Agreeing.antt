@@ -24,8 +24,8 @@ pub through_alike : {M S F A B : Type 0} (p : AdapterParts M S F) {ample : Runs 
     → AlikeBy like ample (p.source x) (p.source y) → agree (p.held x) (p.held y) → AgreeingFrom like same relates agree
     → AlikeBy same (Adapts p ample relates) x y
 through_alike p x y e a agrees l m x' y' h k =
-    agrees (p.held x) (p.held y) (p.held x') (p.held y') h.ins k.ins l m a h.related k.related
-    (e h.ins k.ins (p.source x') (p.source y') h.came k.came)
+    agrees _ _ _ _ h.ins k.ins l m a h.related k.related
+    (e h.ins k.ins _ _ h.came k.came)
 
 module _ {M S F A B : Type 0} (p : AdapterParts M S F) {run ample : Runs (Answer A) S} {needs_none : Type 0}
     {relates : F → List (Answer A) → List (Answer B) → F → Type 0} {alike : S → S → Type 0}
@@ -41,11 +41,11 @@ module _ {M S F A B : Type 0} (p : AdapterParts M S F) {run ample : Runs (Answer
     through_steady_by s t agrees found =
         record {
           laws = through_runs p s.laws t;
-          steady = λ x y e. through_alike p x y (s.steady (p.source x) (p.source y) e.0) e.1 agrees;
+          steady = λ x y e. through_alike p x y (s.steady _ _ e.0) e.1 agrees;
           found = λ n x y l h. record {
             ins = h.ins;
-            came = s.found (found n).0 (p.source x) (p.source y) h.ins h.came;
-            related = (found n).1 (p.held x) (p.held y) h.ins l h.related;
+            came = s.found (found n).0 _ _ h.ins h.came;
+            related = (found n).1 _ _ h.ins l h.related;
           };
         }
 

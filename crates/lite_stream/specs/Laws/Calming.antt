@@ -17,9 +17,9 @@ pub through_calm : {M S F A B : Type 0} (p : AdapterParts M S F) {run : Runs (An
 through_calm p c t =
     record {
       no_pending = λ x y l k h.
-          let none = no_pending_none h.ins (c.no_pending (p.source x) (p.source y) h.ins k h.came) in
-          none_no_pending l (omega (arith, none, t (p.held x) (p.held y) h.ins l h.related));
-      calm_on = λ x y l k h. c.calm_on (p.source x) (p.source y) h.ins k h.came;
+          let none = no_pending_none h.ins (c.no_pending _ _ h.ins k h.came) in
+          none_no_pending l (omega (arith, none, t _ _ h.ins l h.related));
+      calm_on = λ x y l k h. c.calm_on _ _ h.ins k h.came;
     }
 
 -- a stream of two that are calm, of which no more Pendings go out than came in

@@ -30,13 +30,13 @@ module _ {S F A O : Type 0} (run : Runs (Answer A) S) (call : Question F A O) (P
     each_pending came =
         record {
           at = λ ins x u p more. h.at (Pending ∷ ins) x u p
-              (follows s t u (Pending ∷ []) (ins ++ item x ∷ []) came more);
+              (follows s t u _ _ came more);
         }
 
     pub each_end : run s (end ∷ []) t → AtEachItem run call P t f
     each_end came =
         record {
-          at = λ ins x u p more. h.at (end ∷ ins) x u p (follows s t u (end ∷ []) (ins ++ item x ∷ []) came more);
+          at = λ ins x u p more. h.at (end ∷ ins) x u p (follows s t u _ _ came more);
         }
 
 -- what each poll that is no item leaves
