@@ -39,7 +39,7 @@ Below-trans xs ys zs h k = absurd h
 pub Below-first : (xs ys us vs : List ℕ) → Below xs ys → length us ≡ length vs → Below (xs ++ us) (ys ++ vs)
 Below-first (x ∷ xs) (y ∷ ys) us vs h e =
     elim h [
-      | inl p ↦ inl (p.0, rw (length-append xs us, length-append ys vs, p.1, e) refl)
+      | inl p ↦ inl (p.0, rw (length-append xs us, length-append ys vs, p.1, e))
       | inr p ↦ inr (p.0, Below-first xs ys us vs p.1 e)
     ]
 Below-first xs ys us vs h e = absurd h

@@ -12,7 +12,7 @@ use Rattle.lite_base.specs.Ranks.{Counting, Ranks, ranks_of}
 use Rattle.lite_base.specs.Runs.{Runs}
 use Rattle.lite_base.specs.OkRanks.{OkCounting, OkRun, all_ok}
 
-ok_items : {T E : Type 0} (l : List T) → all_ok {E = E} (items l) ≡ items (map (λ (x : T). Ok x) l)
+ok_items : {T E : Type 0} (l : List T) → all_ok {E = E} (items l) ≡ items (map Ok l)
 ok_items [] = refl
 ok_items (x ∷ l) = ap (λ k. item (Ok x) ∷ k) (ok_items l)
 
@@ -30,7 +30,7 @@ module _ {S T E : Type 0} {run : Runs (Answer (Result T E)) S} {r : Ranks S} whe
         sized = c.sized;
         counts_on = c.counts_on;
         firm_on = c.firm_on;
-        falls = λ x y a more k h. c.falls x y (Ok a) (map (λ (b : T). Ok b) more) k
+        falls = λ x y a more k h. c.falls x y (Ok a) (map Ok more) k
             (subst (λ l. run x l y) (ok_items {E = E} (a ∷ more)) h);
         lowers = λ x y l k h. ok_lowers E l _ _ (c.lowers x y (all_ok l) k h);
       }

@@ -59,7 +59,7 @@ module _ {M I R : Type 0} (one : Question M (List I) (Poll R)) where
   to_value_last p q i r l h =
       let none = subst (λ v. Segments one h.0.2 h.0.1 v q) h.1 h.0.5 in
       let whole : i ≡ h.0.0 = h.0.3 ∙ ap (λ v. h.0.0 ++ v) none.0 ∙ append-nil h.0.0 in
-      subst (λ v. one p v _ q) (sym whole) (subst (λ v. one p h.0.0 _ v) (sym none.1) h.0.4)
+      subst (λ v. one p v _ q) (sym whole) (subst (one p h.0.0 _) (sym none.1) h.0.4)
 
 module _ {M A I O : Type 0} {shows : A → I} {takes : M → A → M → Type 0} {gives : Question M (List I) O} where
   -- more is taken in before

@@ -9,6 +9,7 @@ use Rattle.lite_base.specs.Laws.Calling.{MatchesFrom, accepts_matches, agree_fro
 use Rattle.lite_base.specs.Runs.{Question}
 use Rattle.lite_stream.specs.Laws.Agreeing.{AgreeingOver}
 use Rattle.lite_stream.specs.Laws.Placed.{AlikeInPlace, Placed, placed_agreeing}
+use Rattle.lite_stream.specs.Laws.Through.{Entails}
 use Rattle.lite_reshape.specs.Laws.Leaving.{leaves_steps}
 use Rattle.lite_reshape.specs.Leaving.{LeavesOut}
 use Rattle.lite_reshape.specs.Skip.{Skips}
@@ -20,8 +21,7 @@ KeptInPlace None follows out = follows out
 KeptInPlace {B} (Some y) follows out = (more : List (Option B)) × (out ≡ Some y ∷ more) × follows more
 
 module _ {F A B : Type 0} (call : Question F A (Option B)) where
-  stripped : (f g : F) (i : List (Answer A)) (o : List (Answer B)) → LeavesOut call f i o g
-      → Placed call KeptInPlace f (strip i) (strip o)
+  stripped : Entails (LeavesOut call) (λ f i o g. Placed call KeptInPlace f (strip i) (strip o))
   stripped f g i o =
       leaves_steps call (λ p i o. Placed call KeptInPlace p (strip i) (strip o)) (λ p m x i b o t h. (None, m, t, h))
       (λ p i o h. h) (λ p i o h. (strip o, refl, h))

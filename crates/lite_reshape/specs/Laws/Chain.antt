@@ -247,21 +247,18 @@ module _ {S U A : Type 0} {run : Runs (Answer A) S} {run' : Runs (Answer A) U} w
       → Counting (Chains run run') (chain_ranks r r')
   chain_counting {r} {r'} s u =
       record {
-        sized = λ x. chain_sized x.part _ _ r.width r'.width (s.sized x.first)
-            (u.sized x.second);
+        sized = λ x. chain_sized x.part _ _ r.width r'.width (s.sized x.first) (u.sized x.second);
         counts_on = λ x y l c h.
             (s.counts_on x.first y.first h.firsts c.0 h.came, u.counts_on x.second y.second h.seconds c.1 h.then_came);
         firm_on = λ x y l c h.
             (s.firm_on x.first y.first h.firsts c.0 h.came, u.firm_on x.second y.second h.seconds c.1 h.then_came);
         falls = λ x y a more c h.
-            joins_falls x.part y.part h.firsts h.seconds a more _ _ _
-            _
+            joins_falls x.part y.part h.firsts h.seconds a more _ _ _ _
             (λ b before e. s.falls x.first y.first b before c.0 (rw e at h.came))
-            (λ b before e. u.falls x.second y.second b before c.1
-            (rw e at h.then_came))
+            (λ b before e. u.falls x.second y.second b before c.1 (rw e at h.then_came))
             (s.sized y.first ∙ sym (s.sized x.first)) (u.sized y.second ∙ sym (u.sized x.second)) h.joined;
         lowers = λ x y l c h.
-            joins_lowers x.part y.part h.firsts h.seconds l _ _ _
-            _ h.joined (s.lowers x.first y.first h.firsts c.0 h.came)
+            joins_lowers x.part y.part h.firsts h.seconds l _ _ _ _ h.joined
+            (s.lowers x.first y.first h.firsts c.0 h.came)
             (u.lowers x.second y.second h.seconds c.1 h.then_came);
       }

@@ -6,6 +6,7 @@ use Rattle.futures.specs.declared.task.Poll.TheVariants.{Ready}
 use Rattle.lite_base.specs.Alike.{OptionBy, SameItem, Sameness}
 use Rattle.lite_base.specs.Answers.{Answer, item}
 use Rattle.lite_base.specs.Calm.{CalmLaws}
+use Rattle.lite_base.specs.Laws.Calm.{calm_both}
 use Rattle.lite_base.specs.Ends.{Terminates}
 use Rattle.lite_base.specs.Falling.{ItemRun}
 use Rattle.lite_base.specs.Ranks.{Counting, Ranks, ranks_of}
@@ -78,15 +79,13 @@ module _ {F A V : Type 0} (g : Mut F (A × Unit {0}) V) (Fact : V → Type 0) wh
     made_promises x y l each h = (made_has x.stream.f y.stream.f h.came.ins h.ins h.came.related each.1).1
 
     each_made_on : ((b c : V) (l : List (Answer B)) → Fact b → run' b l c → Fact c)
-        → ((x y z : Map S F) (l m : List (Answer V)) → Maps run (Calls g) x l y → Maps run (Calls g) y m z
-        → Maps run (Calls g) x (l ++ m) z)
+        → {hints : Hints (Map S F)} → StreamLaws (Maps run (Calls g)) hints
         → (x y : FlatMap S V F) (l : List (Answer B)) → EachMade g Fact x.stream.f x.inner_stream
         → FlatMaps run g run' x l y
         → EachMade g Fact y.stream.f y.inner_stream
-    each_made_on kept follows x y l each h =
+    each_made_on kept laws x y l each h =
         let made = each_made x.stream x.inner_stream each in
-        let inner = each_inner_on run'
-        _ Fact kept follows x.stream y.stream x.inner_stream y.inner_stream l made h in
+        let inner = each_inner_on run' _ Fact kept laws _ _ _ _ l made h in
         (inner.0, made_promises x y l each h)
 
 module _ {S F A V : Type 0} (g : Mut F (A × Unit {0}) V) {run : Runs (Answer A) S} where
@@ -115,10 +114,10 @@ module _ {S F A V : Type 0} (g : Mut F (A × Unit {0}) V) {run : Runs (Answer A)
         record {
           sized = all.sized;
           counts_on = λ x y l k h.
-              let made = each_made_on g r'.counts run run' c'.counts_on outer.follows x y l k.1 h in
+              let made = each_made_on g r'.counts run run' c'.counts_on outer x y l k.1 h in
               (c.counts_on x.stream.stream y.stream.stream h.came.ins k.0 h.came.came, made);
           firm_on = λ x y l k h.
-              let made = each_made_on g r'.firm run run' c'.firm_on outer.follows x y l k.1 h in
+              let made = each_made_on g r'.firm run run' c'.firm_on outer x y l k.1 h in
               (c.firm_on x.stream.stream y.stream.stream h.came.ins k.0 h.came.came, made);
           falls = λ x y a more k h. all.falls x y a more
               (k.0, each_made g r'.counts run run' x.stream x.inner_stream k.1) h;
@@ -156,10 +155,9 @@ pub flat_map_calm : {S F A V B : Type 0} (g : Mut F (A × Unit {0}) V) {run : Ru
 flat_map_calm g {run} {run'} {calm} laws c d =
     let outer = outer_laws g laws in
     let all =
-    flattening_calm d flat_map_parts outer.follows (through_calm map_parts c (replaces_calming _)) in
-    record {
-      no_pending = λ x y l k h. all.no_pending x y l (k.0, each_made g calm run run' x.stream x.inner_stream k.1) h;
-      calm_on = λ x y l k h.
-          let made = each_made_on g calm run run' d.calm_on outer.follows x y l k.1 h in
-          (c.calm_on x.stream.stream y.stream.stream h.came.ins k.0 h.came.came, made);
-    }
+    flattening_calm d flat_map_parts outer (through_calm map_parts c (replaces_calming _)) in
+    calm_both
+    (λ x y l k h. (
+      all.no_pending x y l (k.0, each_made g calm run run' x.stream x.inner_stream k.1) h,
+      (c.calm_on _ _ h.came.ins k.0 h.came.came, each_made_on g calm run run' d.calm_on outer x y l k.1 h),
+    ))

@@ -12,14 +12,13 @@ use Rattle.lite_base.specs.Runs.{Question}
 use Rattle.lite_base.specs.Segments.{OneAnswer, Segment}
 use Rattle.lite_reshape.specs.Leaving.{LeavesOut, Passes, Rejects}
 use Rattle.lite_stream.specs.Laws.Calming.{Calming}
-use Rattle.lite_stream.specs.Laws.Through.{Relating}
+use Rattle.lite_stream.specs.Laws.Through.{AlsoBefore, Entails, Relating}
 
 -- what holds of each answer that goes out, and of each item that is rejected, holds of each answer that came in
 pub leaves_each : {F A B : Type 0} (call : Question F A (Option B)) (P : Answer A → Type 0) (Q : Answer B → Type 0)
     → ((p q : F) (a : Answer A) (b : Answer B) → Passes call p a b q → Q b → P a)
     → ((p q : F) (x : A) → call p x None q → P (item x))
-    → (f g : F) (i : List (Answer A)) (o : List (Answer B)) → LeavesOut call f i o g → AllByRecursion Q o
-    → AllByRecursion P i
+    → Entails (LeavesOut call) (λ f i o g. AllByRecursion Q o → AllByRecursion P i)
 leaves_each call P Q passed rejected f g i o =
     answers_by item _ _ (λ p i o. AllByRecursion Q o → AllByRecursion P i)
     (λ p m x i b o t h e. (rejected p m x t.rejected, h e)) (λ p m a i b o t h e. (passed p m a b t e.0, h e.1)) f g i o
@@ -29,8 +28,7 @@ leaves_each call P Q passed rejected f g i o =
 module _ {F A B : Type 0} (call : Question F A (Option B)) (P : F → List (Answer A) → List (Answer B) → Type 0)
     (rejected : (p m : F) (x : A) (i : List (Answer A)) (b : Answer B) (o : List (Answer B)) → call p x None m
     → P m i (b ∷ o) → P p (item x ∷ i) (b ∷ o))
-    (waits : (p : F) (i : List (Answer A)) (o : List (Answer B)) → P p i o → P p (Pending ∷ i) (Pending ∷ o))
-    (ended : (p : F) (i : List (Answer A)) (o : List (Answer B)) → P p i o → P p (end ∷ i) (end ∷ o))
+    (waits : AlsoBefore P Pending Pending) (ended : AlsoBefore P end end)
     (kept : (p m : F) (x : A) (i : List (Answer A)) (y : B) (o : List (Answer B)) → call p x (Some y) m → P m i o
     → P p (item x ∷ i) (item y ∷ o)) where
   module _ (p m : F) (a : Answer A) (i : List (Answer A)) where

@@ -77,8 +77,7 @@ module _ {S U A : Type 0} {run ample : Runs (Answer A) S} {run' ample' : Runs (A
       record {
         laws = chain_runs s.laws u.laws;
         steady = λ x y e l m x' y' h k.
-            joined_same _ x.part _ _ _ _
-            _ _
+            joined_same _ x.part _ _ _ _ _ _
             (stripped x.part x'.part h.firsts h.seconds l h.joined)
             (rw e.2 at (stripped y.part y'.part k.firsts k.seconds m k.joined))
             (either_first same other _ _

@@ -14,6 +14,7 @@ use Rattle.lite_base.specs.Laws.Alike.{answer_items}
 use Rattle.lite_base.specs.Laws.Calling.{MatchesFrom}
 use Rattle.lite_base.specs.Runs.{Question}
 use Rattle.lite_stream.specs.Laws.Agreeing.{AgreeingOver}
+use Rattle.lite_stream.specs.Laws.Through.{Entails}
 
 module _ {V B : Type 0} {gives : V → List (Answer B) → Option V → Type 0} (one : GivingOne gives) where
   -- alike things are done with items that are the same
@@ -30,8 +31,7 @@ module _ {V B : Type 0} {gives : V → List (Answer B) → Option V → Type 0} 
       × (out ≡ Some (one.hands v l h).0 ∷ more) × follows more)
 
   module _ {F A : Type 0} (call : Question F A V) where
-    placed_from : (s t : F × Option V) (i : List (Answer A)) (o : List (Answer B)) → Expanding call gives s i o t
-        → PlacedFrom call OneInPlace s.0 s.1 (strip i) (strip o)
+    placed_from : Entails (Expanding call gives) (λ s i o t. PlacedFrom call OneInPlace s.0 s.1 (strip i) (strip o))
     placed_from s t =
         expanding_by call gives t (λ s i o. PlacedFrom call OneInPlace s.0 s.1 _ _) (λ e. refl)
         (λ v w o ran e. inl (waiting_strip o (one.waits v w o ran)))
@@ -86,6 +86,5 @@ module _ {F A V B : Type 0} (call : Question F A V) {gives gives' : V → List (
 
   -- and where each list is, whatever its answers
   pub expanding_found : ((v : V) (l : List (Answer B)) (next : Option V) → gives v l next → gives' v l next)
-      → (s t : F × Option V) (i : List (Answer A)) (o : List (Answer B)) → Expanding call gives s i o t
-      → Expanding call gives' s i o t
+      → Entails (Expanding call gives) (Expanding call gives')
   expanding_found found s t i o = expanding_found_where _ (λ v l next all. found v l next) s t i o (all_any o)

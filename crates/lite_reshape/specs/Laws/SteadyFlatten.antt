@@ -16,7 +16,7 @@ use Rattle.lite_base.specs.Laws.Alike.{answer_items}
 use Rattle.lite_base.specs.StreamLaws.{RunLaws}
 use Rattle.lite_base.specs.Runs.{Runs}
 use Rattle.lite_reshape.specs.Laws.Flatten.{flattening, flattening_by, have_come}
-use Rattle.lite_stream.specs.Laws.Through.{through_runs}
+use Rattle.lite_stream.specs.Laws.Through.{Entails, through_runs}
 use Rattle.lite_stream.specs.Through.{AdapterParts, Adapts}
 
 module _ {A : Type 0} where
@@ -64,8 +64,7 @@ module _ {B A : Type 0} (run : Runs (Answer A) B) where
       ⊎ ((own : List (Answer A)) × (c : B) × run b (own ++ end ∷ []) c × Endless own × (more : List (Option A))
       × (out ≡ strip own ++ more) × follows more)
 
-  placed_from : (held last : Option B) (i : List (Answer B)) (l : List (Answer A)) → Flattening run held i l last
-      → PlacedFrom Refers OwnInPlace tt held (strip i) (strip l)
+  placed_from : Entails (Flattening run) (λ f i l g. PlacedFrom Refers OwnInPlace tt f (strip i) (strip l))
   placed_from held last =
       flattening_by run last (λ f i l. PlacedFrom Refers OwnInPlace tt f _ _) (λ e. refl)
       (λ b c l n ran e. inl (l, c, ran, n, refl))
@@ -102,8 +101,8 @@ module _ {B A : Type 0} (run : Runs (Answer A) B) where
         (placed_from _ _ h.ins l h.related) (placed_from _ _ k.ins m k.related)
 
 -- where no poll of an inner stream asks for memory
-flattening_found : {B A : Type 0} {run ample : Runs (Answer A) B} → TakesNone run ample → (held last : Option B)
-    (i : List (Answer B)) (l : List (Answer A)) → Flattening run held i l last → Flattening ample held i l last
+flattening_found : {B A : Type 0} {run ample : Runs (Answer A) B} → TakesNone run ample
+    → Entails (Flattening run) (Flattening ample)
 flattening_found {run} {ample} t held last =
     flattening_by run last (λ f i l. Flattening ample f i l last) (λ e. e)
     (λ b c l n ran e. inl (refl, n, c, t b c l ran, e))

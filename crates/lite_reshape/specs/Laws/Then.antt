@@ -56,21 +56,20 @@ module _ {V B : Type 0} {run : Runs (Poll B) V} where
       }
 
 -- one poll of a future
-module _ {V B : Type 0} (run : Runs (Poll B) V) where
-  module _ (v w : V) (a : Poll B) where
-    pub hands_pending : a ≡ Pending → run v (a ∷ []) w → HandsOut run v (Pending ∷ []) (Some w)
-    hands_pending is came = (Pending ∷ [], tt, rw is at came, refl)
+module _ {V B : Type 0} (run : Runs (Poll B) V) {v w : V} {a : Poll B} where
+  pub hands_pending : a ≡ Pending → run v (a ∷ []) w → HandsOut run v (Pending ∷ []) (Some w)
+  hands_pending is came = (Pending ∷ [], tt, rw is at came, refl)
 
-    pub hands_value : (y : B) → a ≡ Ready y → run v (a ∷ []) w → HandsOut run v (item y ∷ []) None
-    hands_value y is came =
-        record {
-          ins = Ready y ∷ [];
-          value = y;
-          finishes = record { gives = (refl, refl); last = w; came = rw is at came };
-          after = [];
-          later = refl;
-          joined = refl;
-        }
+  pub hands_value : {y : B} → a ≡ Ready y → run v (a ∷ []) w → HandsOut run v (item y ∷ []) None
+  hands_value {y} is came =
+      record {
+        ins = Ready y ∷ [];
+        value = y;
+        finishes = record { gives = (refl, refl); last = w; came = rw is at came };
+        after = [];
+        later = refl;
+        joined = refl;
+      }
 
 bounded_if : (b : Bool) (k n : ℕ) → k ≤ n + 1 → IfSome (cond b (Some (n + 1)) None) (λ most. k ≤ most)
 bounded_if true k n h = h

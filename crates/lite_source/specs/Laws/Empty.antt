@@ -3,6 +3,7 @@ use Rattle.std.specs.Prelude.{⊤}
 use Rattle.std.proofs.Common.{◌≡◌, Some, None, refl}
 use Rattle.lite_base.specs.Answers.{end}
 use Rattle.lite_base.specs.Calm.{CalmLaws}
+use Rattle.lite_base.specs.Laws.Calm.{calm_both}
 use Rattle.lite_base.specs.Ranks.{Counting}
 use Rattle.lite_base.specs.Steady.{Steadiness}
 use Rattle.lite_base.specs.StreamLaws.{StreamLaws}
@@ -21,4 +22,4 @@ module _ {S A : Type 0} where
   empty_steady x y e l m x' y' h k = answers_same None _ refl l m h.0 k.0
 
   pub empty_calm : CalmLaws (GivesEnds {S = S} {A = A}) (λ x. ⊤)
-  empty_calm = record { no_pending = λ x y l k h. answers_no_pending None l h.0; calm_on = λ x y l k h. tt }
+  empty_calm = calm_both (λ x y l k h. (answers_no_pending None l h.0, tt))

@@ -27,7 +27,7 @@ module _ {I A : Type 0} (can : I → Type 0) (gives : I → Option A → I → T
     never_on : (l : List (Answer A)) → NeverRaised can gives remaining i → Iterates can gives remaining i l j
         → NeverRaised can gives remaining j
     never_on l h c = record {
-      at = λ m k n d e. h.at _ k n (folds_follow _ i j k l m c d) e;
+      at = λ m k n d. h.at _ k n (folds_follow _ i j k l m c d);
     }
 
     finite_next : (r : Option A) → MakesProgress can remaining i r j → IsFinite (remaining i) → IsFinite (remaining j)
@@ -95,7 +95,7 @@ module _ {I A : Type 0} (can : I → Type 0) (gives : I → Option A → I → T
   iter_counting =
       record {
         sized = λ x. refl;
-        counts_on = λ x y l. finite_on x.iter y.iter l;
+        counts_on = λ x y. finite_on x.iter y.iter;
         firm_on = λ x y l f h. (finite_on x.iter y.iter l f.0 h, never_on x.iter y.iter l f.1 h);
         falls = λ x y. iter_falls x.iter y.iter;
         lowers = λ x y l f. iter_lowers x.iter y.iter l f.0 f.1;

@@ -38,7 +38,7 @@ module _ {F A : Type 0} (run : Runs (Poll A) F) where
       }
 
   spends_lower : (x y : Option F) (l : List (Answer A))
-      → Spends run (handed (λ v. Some v)) (AllByRecursion (λ a. a ≡ end)) x l y
+      → Spends run (handed Some) (AllByRecursion (λ a. a ≡ end)) x l y
       → Lowers l (option_len y ∷ []) (option_len x ∷ [])
   spends_lower None y l h = no_items_lower _ (λ x e. cc e) l _ _ h.0 (inl (rw h.1))
   spends_lower (Some f) (Some g) l h =
@@ -50,7 +50,7 @@ module _ {F A : Type 0} (run : Runs (Poll A) F) where
 
 -- what a held future answers, and then ends
 abbrev Handing : {F A : Type 0} → Runs (Poll A) F → Runs (Answer A) (Option F)
-Handing run = Spends run (handed (λ v. Some v)) (AllByRecursion (λ a. a ≡ end))
+Handing run = Spends run (handed Some) (AllByRecursion (λ a. a ≡ end))
 
 module _ {F A : Type 0} (same : Sameness A) {run : Runs (Poll A) F} {alike : F → F → Type 0}
     (s : SteadinessBy (SameItem same) run alike) where
@@ -80,7 +80,7 @@ once_future_steady same s =
     record {
       laws = runs_of (once_future_laws _ s.laws);
       steady = λ x y e l m x' y'. handing_same same s.steady x.future y.future x'.future y'.future l m e;
-      found = λ n x y l. spends_found _ _ (s.found n) x.future y.future l;
+      found = λ n x y. spends_found _ _ (s.found n) x.future y.future;
     }
 
 module _ {F A : Type 0} {run : Runs (Poll A) F} {is_calm : F → Type 0} (c : CalmLaws run is_calm) where

@@ -5,6 +5,7 @@ use Rattle.std.specs.List.{AllByRecursion}
 use Rattle.futures.specs.declared.task.Poll.TheVariants.{Ready, Pending}
 use Rattle.lite_base.specs.Answers.{Answer, Comparable, strip}
 use Rattle.lite_base.specs.Calm.{CalmLaws, NoPending}
+use Rattle.lite_base.specs.Laws.Calm.{calm_both}
 use Rattle.lite_base.specs.Steady.{SteadyLaws}
 use Rattle.lite_base.specs.StreamLaws.{StreamLaws}
 use Rattle.lite_base.specs.Laws.StreamLaws.{runs_of}
@@ -54,4 +55,4 @@ module _ {A E : Type 0} (is_clone : A → A → Type 0) (is_infallible : A → T
   clones_no_pending own (Ready r ∷ l) h = clones_no_pending own l h.1
 
   pub repeat_calm : CalmLaws (Repeats {E = E} is_clone is_infallible) (λ x. ⊤)
-  repeat_calm = record { no_pending = λ x y l k h. clones_no_pending x.item l h.0; calm_on = λ x y l k h. tt }
+  repeat_calm = calm_both (λ x y l k h. (clones_no_pending x.item l h.0, tt))

@@ -65,7 +65,7 @@ module _ {F S V O B : Type 0} (call : Mut F (S × Unit {0}) V) (gives : Runs (Po
     part_values (inr h) k = rw h.0 (over p l out h.2.0 (rw h.1 at (rw h.2.1 at k)))
     part_values (inl h) k = leading h.0 h.1 h.2 h.3 h.4
       where
-        leading : (v : V) (ins : List _) → IsCurrent call p x q v → Leads call gives after shown v ins y
+        leading : (v : V) (ins : List (Poll O)) → IsCurrent call p x q v → Leads call gives after shown v ins y
             → l ≡ map (handed shown) ins → FutureValues p x (strip l ++ out)
         leading v ins c (inl d) e =
             rw (e, handed_waits shown ins d.1)
@@ -221,10 +221,10 @@ module _ {F S V O B : Type 0} (call : Mut F (S × Unit {0}) V) {run : Runs (Poll
     (c : CalmLaws run calm) (after : O → Option S) (shown : O → Option B) where
   -- the function makes calm futures, and one that is held is calm
   abbrev Calmly : F → Holding S V → Type 0
-  Calmly p x = AlwaysReturns call (λ s v. calm v) p × IfHeldFuture x calm
+  Calmly p x = AlwaysReturns call (λ s. calm) p × IfHeldFuture x calm
 
   current_calm : (p q : F) (x : Holding S V) (v : V) → Calmly p x → IsCurrent call p x q v → calm v
-      × AlwaysReturns call (λ s v. calm v) q
+      × AlwaysReturns call (λ s. calm) q
   current_calm p q (Holding.Seed s) v k h = call_promises call _ p (s, tt) v q k.0 h
   current_calm p q (Holding.Asked w) v k h = rw (h.0, h.1) (k.1, k.0)
   current_calm p q Holding.Over v k h = absurd h
@@ -257,5 +257,5 @@ module _ {F S V O B : Type 0} (call : Mut F (S × Unit {0}) V) {run : Runs (Poll
 
   pub unfolds_calm : {X : Type 0} (pair : X → F × Holding S V)
       → CalmLaws (λ x l y. Unfolds call run after shown (pair x) l (pair y))
-      (λ x. AlwaysReturns call (λ s v. calm v) (pair x).0 × IfHeldFuture (pair x).1 calm)
+      (λ x. AlwaysReturns call (λ s. calm) (pair x).0 × IfHeldFuture (pair x).1 calm)
   unfolds_calm pair = calm_both (λ x y l k h. rw h.2 (parts_calm (pair x) (pair y) h.0 k h.1))

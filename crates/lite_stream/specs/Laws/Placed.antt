@@ -7,6 +7,7 @@ use Rattle.lite_base.specs.Laws.Alike.{answer_items, comparable_as, comparable_n
 use Rattle.lite_base.specs.Laws.Calling.{MatchesFrom}
 use Rattle.lite_base.specs.Runs.{Question}
 use Rattle.lite_stream.specs.Laws.Agreeing.{AgreeingOver}
+use Rattle.lite_stream.specs.Laws.Through.{Entails}
 
 -- `InPlace v follows out`: in the place of v there is `out`, in which v may be followed by what `follows` tells
 module _ {F A V B : Type 0} (call : Question F A V)
@@ -53,9 +54,9 @@ module _ {F A V B : Type 0} (call : Question F A V)
 
   -- the answers of a family that stand in the places of items
   pub placed_agreeing : (like : Sameness A) (same : Sameness B) {alike : V → V → Type 0} {agree : F → F → Type 0}
-      {relates : F → List (Answer A) → List (Answer B) → F → Type 0} → MatchesFrom (SameItem like) alike call agree
+      {relates : Question F (List (Answer A)) (List (Answer B))} → MatchesFrom (SameItem like) alike call agree
       → AlikeInPlace same alike
-      → ((f g : F) (i : List (Answer A)) (o : List (Answer B)) → relates f i o g → Placed f (strip i) (strip o))
+      → Entails relates (λ f i o g. Placed f (strip i) (strip o))
       → AgreeingOver like same relates agree
   placed_agreeing like same m places placed f k g l i j o p a r q c =
       placed_same same m places f k _ _ _ _ a

@@ -12,7 +12,7 @@ use Rattle.lite_base.specs.Future.Calls.{AlwaysObeys, CallAnswers, NeverPends, P
 use Rattle.lite_base.specs.FutureLaws.{FutureLaws}
 use Rattle.lite_base.specs.Laws.Answers.{up_to_once, waiting_up_to}
 use Rattle.lite_base.specs.Laws.Calls.{folds_follow}
-use Rattle.lite_base.specs.Laws.Calm.{no_pending_back}
+use Rattle.lite_base.specs.Laws.Calm.{calm_both, no_pending_back}
 use Rattle.lite_base.specs.Steady.{FutureSteadyLaws}
 use Rattle.lite_base.specs.Laws.Steady.{future_steady_always}
 use Rattle.lite_base.specs.declared.future.poll_fn.PollFn.{PollFn}
@@ -40,11 +40,7 @@ module _ {F A : Type 0} (g : Poller F A) where
 
   pub polled_calm : CalmLaws (λ (x : PollFn F) (l : List (Poll A)) (y : PollFn F). Polled g x.f l y.f)
       (λ x. NeverPends g x.f)
-  polled_calm =
-      record {
-        no_pending = λ x y l k h. k.at l y.f h.1;
-        calm_on = λ x y l k h. never_pends_on x.f y.f l k h.1;
-      }
+  polled_calm = calm_both (λ x y l k h. (k.at l y.f h.1, never_pends_on x.f y.f l k h.1))
 
   -- after a call whose answer goes on, it still obeys
   pub obeys_on : (On : List (Poll A) → Type 0) (f q : F) (a : Poll A) → ((l : List (Poll A)) → On l → On (a ∷ l))

@@ -22,7 +22,7 @@ module _ {A B : Type 0} (shown : A → Option B) where
       → strip (map (handed shown) l ++ later) ≡ shown x ∷ strip later
   handed_gives [] later x g = absurd g
   handed_gives (Pending ∷ l) later x g = handed_gives l later x g
-  handed_gives (Ready y ∷ l) later x g = rw (g.0, g.1) refl
+  handed_gives (Ready y ∷ l) later x g = rw (g.0, g.1)
 
   pub handed_no_pending : (l : List (Poll A)) → NoPending l → NoPending (map (handed shown) l)
   handed_no_pending [] h = tt
