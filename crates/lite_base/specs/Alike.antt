@@ -22,20 +22,21 @@ pub data Sameness (A : Type 0) : Type 1 where
   equal : Sameness A
   by : (A → A → Type 0) → Sameness A
 
--- answers that are the same: two ends, or two items that are
-abbrev pub SameAnswer : {A : Type 0} → Sameness A → Option A → Option A → Type 0
-SameAnswer Sameness.equal x y = x ≡ y
-SameAnswer (Sameness.by same) x y = OptionBy same x y
+module _ {A : Type 0} where
+  -- answers that are the same: two ends, or two items that are
+  abbrev pub SameAnswer : Sameness A → Option A → Option A → Type 0
+  SameAnswer Sameness.equal x y = x ≡ y
+  SameAnswer (Sameness.by same) x y = OptionBy same x y
 
--- two items that are the same
-abbrev pub SameItem : {A : Type 0} → Sameness A → A → A → Type 0
-SameItem Sameness.equal x y = x ≡ y
-SameItem (Sameness.by same) x y = same x y
+  -- two items that are the same
+  abbrev pub SameItem : Sameness A → A → A → Type 0
+  SameItem Sameness.equal x y = x ≡ y
+  SameItem (Sameness.by same) x y = same x y
 
--- items that come from two sources are the same where they are in either's way
-abbrev pub Either : {A : Type 0} → Sameness A → Sameness A → Sameness A
-Either Sameness.equal Sameness.equal = Sameness.equal
-Either same other = Sameness.by (λ x y. SameItem same x y ⊎ SameItem other x y)
+  -- items that come from two sources are the same where they are in either's way
+  abbrev pub Either : Sameness A → Sameness A → Sameness A
+  Either Sameness.equal Sameness.equal = Sameness.equal
+  Either same other = Sameness.by (λ x y. SameItem same x y ⊎ SameItem other x y)
 
 -- pairs are the same where their parts are, one by one
 abbrev pub Pairwise : {A B : Type 0} → Sameness A → Sameness B → Sameness (A × B)
@@ -47,20 +48,21 @@ abbrev pub MadeOf : {A B : Type 0} → Sameness A → (A → B → Type 0) → S
 MadeOf Sameness.equal makes = Sameness.equal
 MadeOf {A} (Sameness.by same) makes = Sameness.by (λ y z. (x : A) × (w : A) × same x w × makes x y × makes w z)
 
--- what is there or not is the same: both are not there, or both are and are the same
-abbrev pub Optional : {A : Type 0} → Sameness A → Sameness (Option A)
-Optional Sameness.equal = Sameness.equal
-Optional (Sameness.by same) = Sameness.by (OptionBy same)
+module _ {A : Type 0} where
+  -- what is there or not is the same: both are not there, or both are and are the same
+  abbrev pub Optional : Sameness A → Sameness (Option A)
+  Optional Sameness.equal = Sameness.equal
+  Optional (Sameness.by same) = Sameness.by (OptionBy same)
 
--- what two values hold is the same, or neither holds anything
-abbrev pub SameHeld : {A : Type 0} → Sameness A → Option A → Option A → Type 0
-SameHeld Sameness.equal x y = y ≡ x
-SameHeld (Sameness.by same) x y = OptionBy same x y
+  -- what two values hold is the same, or neither holds anything
+  abbrev pub SameHeld : Sameness A → Option A → Option A → Type 0
+  SameHeld Sameness.equal x y = y ≡ x
+  SameHeld (Sameness.by same) x y = OptionBy same x y
 
--- lists of one length, which are the same item by item
-abbrev pub SameList : {A : Type 0} → Sameness A → List A → List A → Type 0
-SameList Sameness.equal l m = l ≡ m
-SameList (Sameness.by same) l m = AllZip same l m
+  -- lists of one length, which are the same item by item
+  abbrev pub SameList : Sameness A → List A → List A → Type 0
+  SameList Sameness.equal l m = l ≡ m
+  SameList (Sameness.by same) l m = AllZip same l m
 
 -- what Ok holds is the same where two Oks of it are
 abbrev pub SameOk : {A E : Type 0} → Sameness (Result A E) → Sameness A

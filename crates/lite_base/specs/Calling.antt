@@ -25,43 +25,44 @@ abbrev pub Accepts : {F A : Type 0} → Question F A Bool → F → A → Option
 Accepts test p x None q = test p x false q
 Accepts test p x (Some y) q = (y ≡ x) × test p x true q
 
--- what the calls at a list of arguments answer
-abbrev pub Answered : {F A B : Type 0} → Question F A B → F → List A → List B → F → Type 0
-Answered call f [] [] g = g ≡ f
-Answered call f [] (y ∷ ys) g = ⊥
-Answered call f (x ∷ xs) [] g = ⊥
-Answered {F} call f (x ∷ xs) (y ∷ ys) g = (h : F) × call f x y h × Answered call h xs ys g
+module _ {F A B : Type 0} where
+  -- what the calls at a list of arguments answer
+  abbrev pub Answered : Question F A B → F → List A → List B → F → Type 0
+  Answered call f [] [] g = g ≡ f
+  Answered call f [] (y ∷ ys) g = ⊥
+  Answered call f (x ∷ xs) [] g = ⊥
+  Answered call f (x ∷ xs) (y ∷ ys) g = (h : F) × call f x y h × Answered call h xs ys g
 
--- lists of arguments that are alike get answers that are the same, from f and from k on
-pub record AgreeFrom {F A B : Type 0} (like : A → A → Type 0) (same : B → B → Type 0) (call : Question F A B)
-    (f k : F) : Type 0 where
-  pub at : (xs ws : List A) (ys zs : List B) (g l : F) → ComparableBy like xs ws → Answered call f xs ys g
-      → Answered call k ws zs l → ComparableBy same ys zs
+  -- lists of arguments that are alike get answers that are the same, from f and from k on
+  pub record AgreeFrom (like : A → A → Type 0) (same : B → B → Type 0) (call : Question F A B)
+      (f k : F) : Type 0 where
+    pub at : (xs ws : List A) (ys zs : List B) (g l : F) → ComparableBy like xs ws → Answered call f xs ys g
+        → Answered call k ws zs l → ComparableBy same ys zs
 
--- equal lists of arguments get answers that are the same, from f and from k on
-abbrev pub AgreeBy : {F A B : Type 0} → (B → B → Type 0) → Question F A B → F → F → Type 0
-AgreeBy = AgreeFrom (λ x w. x ≡ w)
+  -- equal lists of arguments get answers that are the same, from f and from k on
+  abbrev pub AgreeBy : (B → B → Type 0) → Question F A B → F → F → Type 0
+  AgreeBy = AgreeFrom (λ x w. x ≡ w)
 
--- equal lists of arguments get equal answers, from f and from k on
-abbrev pub Agree : {F A B : Type 0} → Question F A B → F → F → Type 0
-Agree = AgreeBy (λ y z. y ≡ z)
+  -- equal lists of arguments get equal answers, from f and from k on
+  abbrev pub Agree : Question F A B → F → F → Type 0
+  Agree = AgreeBy (λ y z. y ≡ z)
 
--- closures are kin that are equal, or that were made of kin by calls at items that are alike
-pub data Kin {F A B : Type 0} (like : A → A → Type 0) (call : Question F A B) : F → F → Type 0 where
-  one : (f : F) → Kin like call f f
-  called : (f k g l : F) (x w : A) (y z : B) → Kin like call f k → like x w → call f x y g → call k w z l
-      → Kin like call g l
+  -- closures are kin that are equal, or that were made of kin by calls at items that are alike
+  pub data Kin (like : A → A → Type 0) (call : Question F A B) : F → F → Type 0 where
+    one : (f : F) → Kin like call f f
+    called : (f k g l : F) (x w : A) (y z : B) → Kin like call f k → like x w → call f x y g → call k w z l
+        → Kin like call g l
 
--- what kin answer to items that are alike
-abbrev pub KinAnswers : {F A B : Type 0} → (A → A → Type 0) → Question F A B → B → B → Type 0
-KinAnswers {F} {A} {B} like call y z =
-    (f : F) × (k : F) × (g : F) × (l : F) × (x : A) × (w : A) × Kin like call f k × like x w × call f x y g
-    × call k w z l
+  -- what kin answer to items that are alike
+  abbrev pub KinAnswers : (A → A → Type 0) → Question F A B → B → B → Type 0
+  KinAnswers like call y z =
+      (f : F) × (k : F) × (g : F) × (l : F) × (x : A) × (w : A) × Kin like call f k × like x w × call f x y g
+      × call k w z l
 
--- as they go out of an adapter: equal where equal items came in, and else what kin answer
-abbrev pub Answering : {F A B : Type 0} → Sameness A → Question F A B → Sameness B
-Answering Sameness.equal call = Sameness.equal
-Answering (Sameness.by same) call = Sameness.by (KinAnswers same call)
+  -- as they go out of an adapter: equal where equal items came in, and else what kin answer
+  abbrev pub Answering : Sameness A → Question F A B → Sameness B
+  Answering Sameness.equal call = Sameness.equal
+  Answering (Sameness.by same) call = Sameness.by (KinAnswers same call)
 
 -- items that go out where the answer is Some: equal where equal items came in, and else what kin answer
 abbrev pub Keeping : {F A B : Type 0} → Sameness A → Question F A (Option B) → Sameness B

@@ -16,15 +16,16 @@ pub record Segment {M A I O : Type 0} (shows : A → I) (takes : M → A → M �
   pub folds : FoldsTo takes p taken between
   pub given : gives between last answer q
 
--- the last of the segment is one thing, at which the answer is given
-abbrev pub OneAnswer : {M I O : Type 0} → Question M I O → Question M (List I) O
-OneAnswer {I = I} gives p last b q = (a : I) × (last ≡ a ∷ []) × gives p a b q
+module _ {M I O : Type 0} where
+  -- the last of the segment is one thing, at which the answer is given
+  abbrev pub OneAnswer : Question M I O → Question M (List I) O
+  OneAnswer gives p last b q = (a : I) × (last ≡ a ∷ []) × gives p a b q
 
--- the list is cut into segments, one for each answer; each goes on with what the one before it left
-abbrev pub Segments : {M I O : Type 0} → Question M (List I) O → M → List I → List O → M → Type 0
-Segments one p ins [] q = (ins ≡ []) × (q ≡ p)
-Segments {M} {I} one p ins (a ∷ out) q =
-    (first : List I) × (rest : List I) × (m : M) × (ins ≡ first ++ rest) × one p first a m × Segments one m rest out q
+  -- the list is cut into segments, one for each answer; each goes on with what the one before it left
+  abbrev pub Segments : Question M (List I) O → M → List I → List O → M → Type 0
+  Segments one p ins [] q = (ins ≡ []) × (q ≡ p)
+  Segments one p ins (a ∷ out) q =
+      (first : List I) × (rest : List I) × (m : M) × (ins ≡ first ++ rest) × one p first a m × Segments one m rest out q
 
 -- those of a future: the first value is the last answer
 abbrev pub SegmentsToValue : {M I R : Type 0} → Question M (List I) (Poll R) → M → List I → List (Poll R) → M → Type 0

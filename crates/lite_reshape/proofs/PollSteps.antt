@@ -4,8 +4,12 @@ use Rattle.lite_base.specs.Answers.{Answer, item}
 use Rattle.lite_base.specs.Chain.{NextStep, Reaches}
 use Rattle.lite_base.specs.Laws.Chain.{Reaches-back}
 use Rattle.lite_base.specs.Laws.Segments.{answers_given, answers_taken}
-use Rattle.lite_base.specs.Runs.{Question, Runs}
+use Rattle.lite_base.specs.Ranks.{Counting, Ranks}
+use Rattle.lite_base.specs.Runs.{Hints, Question, Runs}
+use Rattle.lite_base.specs.StreamLaws.{StreamLaws}
 use Rattle.lite_reshape.specs.Leaving.{LeaveStep, LeavesOut, Passes, Rejects, Sifts}
+use Rattle.lite_stream.specs.EachItem.{AtEachItem}
+use Rattle.lite_stream.specs.Laws.EachItem.{each_asked}
 use Rattle.lite_stream.specs.Through.{Through}
 
 module _ {S F A B : Type 0} (call : Question F A (Option B)) (run : Runs (Answer A) S) where
@@ -41,3 +45,11 @@ module _ {S F A B : Type 0} (call : Question F A (Option B)) (run : Runs (Answer
       Reaches-back (λ m. Through run (LeavesOut call) (source m) (asked m) (b ∷ []) (source z) (asked z))
       (λ v w t. step_rejects follows (source v) (source w) (source z) (asked v) (asked w) (asked z) b t.1)
       x y goes (step_answers (source y) (source z) (asked y) (asked z) b last.1)
+
+-- after a step that asked about an item another may be made
+pub steps_on : {S F A O : Type 0} {run : Runs (Answer A) S} {call : Question F A O} {P : F → A → Type 0}
+    {hints : Hints S} {r : Ranks S} {s t : S} {f g : F} {x : A} {o : O} → StreamLaws run hints → Counting run r
+    → {Q R : Type 0}
+    → Q × r.counts s × AtEachItem run call P s f → run s (item x ∷ []) t → call f x o g → R
+    → R × r.counts t × AtEachItem run call P t g
+steps_on laws c can ran called again = (again, c.counts_on _ _ _ can.1 ran, each_asked laws can.2 ran refl called)

@@ -13,29 +13,30 @@ use Rattle.lite_stream.specs.Cutting.{Cuts}
 abbrev pub is_done : Part → Type 0
 is_done part = part ≡ Done
 
--- the second is over at its first end
-abbrev pub second_after : {A : Type 0} → Answer A → Part → Part
-second_after Pending part = part
-second_after (Ready None) part = Done
-second_after (Ready (Some x)) part = part
+module _ {A : Type 0} where
+  -- the second is over at its first end
+  abbrev pub second_after : Answer A → Part → Part
+  second_after Pending part = part
+  second_after (Ready None) part = Done
+  second_after (Ready (Some x)) part = part
 
--- the first came to its end, which is left out, and then there is at least one answer of the second
-pub record CrossesOver {A : Type 0} (firsts seconds out : List (Answer A)) (to : Part) : Type 0 where
-  pub own : List (Answer A)
-  pub endless : Endless own
-  pub through_end : firsts ≡ own ++ end ∷ []
-  pub next : Answer A
-  pub later : List (Answer A)
-  pub joined : out ≡ own ++ next ∷ later
-  pub followed : Cuts is_done second_after Second seconds (next ∷ later) to
+  -- the first came to its end, which is left out, and then there is at least one answer of the second
+  pub record CrossesOver (firsts seconds out : List (Answer A)) (to : Part) : Type 0 where
+    pub own : List (Answer A)
+    pub endless : Endless own
+    pub through_end : firsts ≡ own ++ end ∷ []
+    pub next : Answer A
+    pub later : List (Answer A)
+    pub joined : out ≡ own ++ next ∷ later
+    pub followed : Cuts is_done second_after Second seconds (next ∷ later) to
 
--- from one part to another: the first has not come to its end, and all answers are its own, or they cross over to the
--- second
-abbrev pub Joins : {A : Type 0} → Part → List (Answer A) → List (Answer A) → List (Answer A) → Part → Type 0
-Joins First firsts seconds out to =
-    (Endless firsts × (seconds ≡ []) × (out ≡ firsts) × (to ≡ First)) ⊎ CrossesOver firsts seconds out to
-Joins Second firsts seconds out to = (firsts ≡ []) × Cuts is_done second_after Second seconds out to
-Joins Done firsts seconds out to = (firsts ≡ []) × Cuts is_done second_after Done seconds out to
+  -- from one part to another: the first has not come to its end, and all answers are its own, or they cross over to the
+  -- second
+  abbrev pub Joins : Part → List (Answer A) → List (Answer A) → List (Answer A) → Part → Type 0
+  Joins First firsts seconds out to =
+      (Endless firsts × (seconds ≡ []) × (out ≡ firsts) × (to ≡ First)) ⊎ CrossesOver firsts seconds out to
+  Joins Second firsts seconds out to = (firsts ≡ []) × Cuts is_done second_after Second seconds out to
+  Joins Done firsts seconds out to = (firsts ≡ []) × Cuts is_done second_after Done seconds out to
 
 -- the first gave one list and the second another, and they go out joined
 pub record Chains {S U A : Type 0} (run : Runs (Answer A) S) (run' : Runs (Answer A) U)

@@ -38,13 +38,14 @@ abbrev pub ClonesUnrefused : {T E S : Type 0} → (T → T → Type 0) → Runs 
     → Runs (Answer (Result T E)) (Cloned S (Bor T))
 ClonesUnrefused is_clone = ClonesAll is_clone (λ x. ⊤)
 
--- no answer is a refusal
-abbrev pub NotCloneRefused : {T E : Type 0} → Answer (Result T E) → Type 0
-NotCloneRefused {E = E} a = (e : E) → a ≡ item (Err e) → ⊥
+module _ {T E : Type 0} where
+  -- no answer is a refusal
+  abbrev pub NotCloneRefused : Answer (Result T E) → Type 0
+  NotCloneRefused a = (e : E) → a ≡ item (Err e) → ⊥
 
--- no answer of the list is a refusal
-abbrev pub NoCloneRefused : {T E : Type 0} → List (Answer (Result T E)) → Type 0
-NoCloneRefused = AllByRecursion NotCloneRefused
+  -- no answer of the list is a refusal
+  abbrev pub NoCloneRefused : List (Answer (Result T E)) → Type 0
+  NoCloneRefused = AllByRecursion NotCloneRefused
 
 -- all clones of a thing are equal
 abbrev pub EqualClones : {T : Type 0} → (T → T → Type 0) → Type 0

@@ -28,6 +28,6 @@ module _ {F A V B : Type 0} (call : Question F A V) (gives : V → List (Answer 
       × (StillHeld r v ins (b ∷ out) q last ⊎ HeldDone v (Expands r ins) (b ∷ out) q last)
 
   -- what is held stands before what comes in
-  abbrev pub Expanding : F × Option V → List (Answer A) → List (Answer B) → F × Option V → Type 0
+  abbrev pub Expanding : Question (F × Option V) (List (Answer A)) (List (Answer B))
   Expanding (p, None) ins out t = Expands p ins out t.0 t.1
   Expanding (p, Some v) ins out t = StillHeld p v ins out t.0 t.1 ⊎ HeldDone v (Expands p ins) out t.0 t.1

@@ -19,7 +19,7 @@ module _ {F A B : Type 0} (call : Question F A (Option B)) where
   Passes p a (Ready (Some y)) q = (x : A) × (a ≡ item x) × call p x (Some y) q
 
   -- the answers in are cut into segments: in each some items are rejected, and then one answer passes
-  abbrev pub LeavesOut : F → List (Answer A) → List (Answer B) → F → Type 0
+  abbrev pub LeavesOut : Question F (List (Answer A)) (List (Answer B))
   LeavesOut p ins out q = Segments (Segment item Rejects (OneAnswer Passes)) p ins out q
 
   -- one step of a poll: the source is polled once, and a rejected item is let go

@@ -73,7 +73,7 @@ impl<S: Counted + CalmStream, U: CalmStream + Drop, F: FnMut(S::Item) -> U> Calm
 impl<B: CalmStream + Drop, S: Counted<Item = B> + CalmStream> CalmStream for Flatten<S> {
     ghost is_calm = { λ m. S.is_calm m.stream × EachInner S.run B.is_calm m.stream m.inner_stream };
 
-    ghost calm = { flattening_calm B.calm flatten_parts S.laws.follows S.calm };
+    ghost calm = { flattening_calm B.calm flatten_parts S.laws S.calm };
 }
 
 impl<S: CalmStream, F: FnMut(S::Item) -> Fut, Fut: CalmFuture + Drop> CalmStream

@@ -12,7 +12,7 @@ use Rattle.lite_source.specs.declared.once_future.OnceFuture.{OnceFuture}
 
 -- the future's list, its value as an item, and then an end for ever
 abbrev pub GivesFuture : {F A : Type 0} → Runs (Poll A) F → Runs (Answer A) (OnceFuture F)
-GivesFuture run x out y = Spends run (handed (λ v. Some v)) (AllByRecursion (λ a. a ≡ end)) x.future out y.future
+GivesFuture run x out y = Spends run (handed Some) (AllByRecursion (λ a. a ≡ end)) x.future out y.future
 
 -- how many futures are held
 abbrev pub once_future_ranks : {F : Type 0} → Ranks (OnceFuture F)

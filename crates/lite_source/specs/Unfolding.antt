@@ -20,24 +20,25 @@ pub data Holding (S V : Type 0) : Type 0 where
   Asked : V → Holding S V
   Over : Holding S V
 
--- what is held, by the two options that hold it
-abbrev pub holding : {S V : Type 0} → Option S → Option V → Holding S V
-holding (Some s) future = Holding.Seed s
-holding None (Some v) = Holding.Asked v
-holding None None = Holding.Over
+module _ {S V : Type 0} where
+  -- what is held, by the two options that hold it
+  abbrev pub holding : Option S → Option V → Holding S V
+  holding (Some s) future = Holding.Seed s
+  holding None (Some v) = Holding.Asked v
+  holding None None = Holding.Over
 
--- the future that is held, if any, is such
-abbrev pub IfHeldFuture : {S V : Type 0} → Holding S V → (V → Type 0) → Type 0
-IfHeldFuture (Holding.Asked v) P = P v
-IfHeldFuture (Holding.Seed s) P = ⊤
-IfHeldFuture Holding.Over P = ⊤
+  -- the future that is held, if any, is such
+  abbrev pub IfHeldFuture : Holding S V → (V → Type 0) → Type 0
+  IfHeldFuture (Holding.Asked v) P = P v
+  IfHeldFuture (Holding.Seed s) P = ⊤
+  IfHeldFuture Holding.Over P = ⊤
 
--- seeds that are the same, or futures that are alike, or nothing
-abbrev pub HoldingsBy : {S V : Type 0} → (S → S → Type 0) → (V → V → Type 0) → Holding S V → Holding S V → Type 0
-HoldingsBy same alike (Holding.Seed s) (Holding.Seed t) = same s t
-HoldingsBy same alike (Holding.Asked v) (Holding.Asked w) = alike v w
-HoldingsBy same alike Holding.Over Holding.Over = ⊤
-HoldingsBy same alike x y = ⊥
+  -- seeds that are the same, or futures that are alike, or nothing
+  abbrev pub HoldingsBy : (S → S → Type 0) → (V → V → Type 0) → Holding S V → Holding S V → Type 0
+  HoldingsBy same alike (Holding.Seed s) (Holding.Seed t) = same s t
+  HoldingsBy same alike (Holding.Asked v) (Holding.Asked w) = alike v w
+  HoldingsBy same alike Holding.Over Holding.Over = ⊤
+  HoldingsBy same alike x y = ⊥
 
 -- when parts of values are the same, as a value's item or its seed: where they stand in values that are
 abbrev pub PartOf : {O B : Type 0} → Sameness O → (O → Option B) → Sameness B

@@ -33,4 +33,4 @@ MayShowEach run g = AtEachItem run (CalledAt g) (TakesAt g)
 -- a function may be called with each item and a state, which goes on from call to call
 abbrev pub MayCallEachWith : {S F V A B : Type 0} → Runs (Answer A) S
     → Mut F (MutBor V × (A × Unit {0})) (B × (MutBor V × Unit {0})) → S → F × V → Type 0
-MayCallEachWith run g = AtEachItem run (CallsWith g) (λ p x. TakesWithState g p.0 p.1 x)
+MayCallEachWith run g = AtEachItem run (CallsWith g) (λ p. TakesWithState g p.0 p.1)

@@ -28,7 +28,7 @@ pub record Fails {F G A B C E : Type 0} (run : Runs (Poll (Result A E)) F) (run_
   pub came : run before ins last
   pub is_kept : y ≡ Asked last
   pub others : List (Poll (Result B E))
-  pub stands : Stands (λ b. Ok b) run_other u others v
+  pub stands : Stands Ok run_other u others v
   pub asked : length others + unasked ≡ length out
   pub gives : Gives out (Err error)
 
@@ -36,5 +36,5 @@ pub record Fails {F G A B C E : Type 0} (run : Runs (Poll (Result A E)) F) (run_
 abbrev pub TryZips : {F G A B E : Type 0} → Runs (Poll (Result A E)) F → Runs (Poll (Result B E)) G
     → Half F A → Half G B → List (Poll (Result (A × B) E)) → Half F A → Half G B → Type 0
 TryZips run_first run_second x u out y v =
-    Together (λ a. Ok a) (λ b. Ok b) try_pair run_first run_second x u out y v
+    Together Ok Ok try_pair run_first run_second x u out y v
     ⊎ (Fails run_first run_second 1 x u out y v ⊎ Fails run_second run_first 0 u x out v y)

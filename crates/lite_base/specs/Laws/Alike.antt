@@ -26,7 +26,7 @@ module _ {A : Type 0} where
   pub gives_strip : (l : List (Poll A)) (v : A) → Gives l v → strip l ≡ v ∷ []
   gives_strip [] v g = absurd g
   gives_strip (Pending ∷ l) v g = gives_strip l v g
-  gives_strip (Ready y ∷ l) v g = rw (g.0, g.1) refl
+  gives_strip (Ready y ∷ l) v g = rw (g.0, g.1)
 
   pub up_to_gives : (l : List (Poll A)) (v : A) → UpToValue l → strip l ≡ v ∷ [] → Gives l v
   up_to_gives [] v u e = absurd (cc e)
@@ -42,69 +42,70 @@ pub alike_agrees : {F A : Type 0} {same : A → A → Type 0} (run : Runs (Poll 
 alike_agrees {same} run x y e l m v w h k =
     (rw (gives_strip l v h.gives, gives_strip m w k.gives) at (e l m h.last k.last h.came k.came)).0
 
--- lists that are the same in one way are in a weaker one
-pub comparable_as : {A : Type 0} (same want : A → A → Type 0) → ((x y : A) → same x y → want x y) → (l m : List A)
-    → ComparableBy same l m → ComparableBy want l m
-comparable_as same want weaker (x ∷ l) (y ∷ m) c = (weaker x y c.0, comparable_as same want weaker l m c.1)
-comparable_as same want weaker l m c = tt
+module _ {A : Type 0} where
+  -- lists that are the same in one way are in a weaker one
+  pub comparable_as : (same want : A → A → Type 0) → ((x y : A) → same x y → want x y) → (l m : List A)
+      → ComparableBy same l m → ComparableBy want l m
+  comparable_as same want weaker (x ∷ l) (y ∷ m) c = (weaker x y c.0, comparable_as same want weaker l m c.1)
+  comparable_as same want weaker l m c = tt
 
-pub option_as : {A : Type 0} (same want : A → A → Type 0) → ((x y : A) → same x y → want x y) → (x y : Option A)
-    → OptionBy same x y → OptionBy want x y
-option_as same want weaker None None c = tt
-option_as same want weaker (Some x) (Some y) c = weaker x y c
-option_as same want weaker x y c = absurd c
+  pub option_as : (same want : A → A → Type 0) → ((x y : A) → same x y → want x y) → (x y : Option A)
+      → OptionBy same x y → OptionBy want x y
+  option_as same want weaker None None c = tt
+  option_as same want weaker (Some x) (Some y) c = weaker x y c
+  option_as same want weaker x y c = absurd c
 
-pub options_equal : {A : Type 0} (x y : Option A) → OptionBy (λ v w. v ≡ w) x y → x ≡ y
-options_equal None None e = refl
-options_equal (Some x) (Some y) e = ap (λ v. Some v) e
-options_equal x y e = absurd e
+  pub options_equal : (x y : Option A) → OptionBy (λ v w. v ≡ w) x y → x ≡ y
+  options_equal None None e = refl
+  options_equal (Some x) (Some y) e = ap Some e
+  options_equal x y e = absurd e
 
-pub equal_options : {A : Type 0} (x y : Option A) → x ≡ y → OptionBy (λ v w. v ≡ w) x y
-equal_options None None e = tt
-equal_options (Some x) (Some y) e = cc e
-equal_options x y e = absurd (cc e)
+  pub equal_options : (x y : Option A) → x ≡ y → OptionBy (λ v w. v ≡ w) x y
+  equal_options None None e = tt
+  equal_options (Some x) (Some y) e = cc e
+  equal_options x y e = absurd (cc e)
 
--- answers that are the same, by their items
-pub answer_items : {A : Type 0} (same : Sameness A) (x y : Option A) → SameAnswer same x y
-    → OptionBy (SameItem same) x y
-answer_items Sameness.equal x y e = equal_options x y e
-answer_items (Sameness.by same) x y e = e
+  -- answers that are the same, by their items
+  pub answer_items : (same : Sameness A) (x y : Option A) → SameAnswer same x y
+      → OptionBy (SameItem same) x y
+  answer_items Sameness.equal x y e = equal_options x y e
+  answer_items (Sameness.by same) x y e = e
 
--- and back
-pub item_answers : {A : Type 0} (same : Sameness A) (x y : Option A) → OptionBy (SameItem same) x y
-    → SameAnswer same x y
-item_answers Sameness.equal x y e = options_equal x y e
-item_answers (Sameness.by same) x y e = e
+  -- and back
+  pub item_answers : (same : Sameness A) (x y : Option A) → OptionBy (SameItem same) x y
+      → SameAnswer same x y
+  item_answers Sameness.equal x y e = options_equal x y e
+  item_answers (Sameness.by same) x y e = e
 
--- two ends are the same
-pub ends_same : {A : Type 0} (same : Sameness A) → SameAnswer same None None
-ends_same Sameness.equal = refl
-ends_same (Sameness.by same) = tt
+  -- two ends are the same
+  pub ends_same : (same : Sameness A) → SameAnswer same None None
+  ends_same Sameness.equal = refl
+  ends_same (Sameness.by same) = tt
 
--- and an end and an item never are
-pub both_items : {A : Type 0} (same : Sameness A) (x y : Option A) → SameAnswer same x y → OptionBy (λ _ _. ⊤) x y
-both_items same x y e = option_as (SameItem same) (λ _ _. ⊤) (λ v w d. tt) x y (answer_items same x y e)
+  -- and an end and an item never are
+  pub both_items : (same : Sameness A) (x y : Option A) → SameAnswer same x y → OptionBy (λ _ _. ⊤) x y
+  both_items same x y e = option_as _ _ _ x y (answer_items same x y e)
 
-pub item_same : {A : Type 0} (same : Sameness A) (x y : A) → SameAnswer same (Some x) (Some y) → SameItem same x y
-item_same Sameness.equal x y e = cc e
-item_same (Sameness.by same) x y e = e
+  pub item_same : (same : Sameness A) (x y : A) → SameAnswer same (Some x) (Some y) → SameItem same x y
+  item_same Sameness.equal x y e = cc e
+  item_same (Sameness.by same) x y e = e
 
-pub same_answer : {A : Type 0} (same : Sameness A) (x y : A) → SameItem same x y → SameAnswer same (Some x) (Some y)
-same_answer Sameness.equal x y e = ap (λ v. Some v) e
-same_answer (Sameness.by same) x y e = e
+  pub same_answer : (same : Sameness A) (x y : A) → SameItem same x y → SameAnswer same (Some x) (Some y)
+  same_answer Sameness.equal x y e = ap Some e
+  same_answer (Sameness.by same) x y e = e
 
-pub optional_same : {A : Type 0} (same : Sameness A) (x y : Option A) → SameAnswer same x y
-    → SameItem (Optional same) x y
-optional_same Sameness.equal x y e = e
-optional_same (Sameness.by same) x y e = e
+  pub optional_same : (same : Sameness A) (x y : Option A) → SameAnswer same x y
+      → SameItem (Optional same) x y
+  optional_same Sameness.equal x y e = e
+  optional_same (Sameness.by same) x y e = e
 
-pub held_same : {A : Type 0} (same : Sameness A) (x y : Option A) → SameHeld same x y → SameAnswer same x y
-held_same Sameness.equal x y e = sym e
-held_same (Sameness.by same) x y e = e
+  pub held_same : (same : Sameness A) (x y : Option A) → SameHeld same x y → SameAnswer same x y
+  held_same Sameness.equal x y e = sym e
+  held_same (Sameness.by same) x y e = e
 
-pub same_held : {A : Type 0} (same : Sameness A) (x y : Option A) → SameAnswer same x y → SameHeld same x y
-same_held Sameness.equal x y e = sym e
-same_held (Sameness.by same) x y e = e
+  pub same_held : (same : Sameness A) (x y : Option A) → SameAnswer same x y → SameHeld same x y
+  same_held Sameness.equal x y e = sym e
+  same_held (Sameness.by same) x y e = e
 
 pub pairs_same : {A B : Type 0} (same : Sameness A) (other : Sameness B) (p q : A × B) → SameItem same p.0 q.0
     → SameItem other p.1 q.1 → SameItem (Pairwise same other) p q
@@ -118,27 +119,28 @@ pub made_same : {A B : Type 0} (same : Sameness A) (makes : A → B → Type 0)
 made_same Sameness.equal makes one x w y z e c d = one x y z c (subst (λ v. makes v z) (sym e) d)
 made_same (Sameness.by same) makes one x w y z e c d = (x, w, e, c, d)
 
--- what is the same in one way is in either's
-either_by : {A : Type 0} (same other one : Sameness A)
-    → ((v w : A) → SameItem one v w → SameItem same v w ⊎ SameItem other v w) → (x y : Option A) → SameAnswer one x y
-    → SameAnswer (Either same other) x y
-either_by Sameness.equal Sameness.equal one part x y e =
-    options_equal x y
-    (option_as (SameItem one) (λ v w. v ≡ w) (λ v w d. elim (part v w d) [ inl p ↦ p | inr p ↦ p ]) x y
-    (answer_items one x y e))
-either_by same other one part x y e =
-    option_as (SameItem one) (λ v w. SameItem same v w ⊎ SameItem other v w) part x y (answer_items one x y e)
+module _ {A : Type 0} where
+  -- what is the same in one way is in either's
+  either_by : (same other one : Sameness A)
+      → ((v w : A) → SameItem one v w → SameItem same v w ⊎ SameItem other v w) → (x y : Option A) → SameAnswer one x y
+      → SameAnswer (Either same other) x y
+  either_by Sameness.equal Sameness.equal one part x y e =
+      options_equal x y
+      (option_as _ _ (λ v w d. elim (part v w d) [ inl p ↦ p | inr p ↦ p ]) x y
+      (answer_items one x y e))
+  either_by same other one part x y e =
+      option_as _ _ part x y (answer_items one x y e)
 
-pub either_first : {A : Type 0} (same other : Sameness A) (l m : List (Option A)) → ComparableBy (SameAnswer same) l m
-    → ComparableBy (SameAnswer (Either same other)) l m
-either_first same other =
-    comparable_as (SameAnswer same) (SameAnswer (Either same other)) (either_by same other same (λ v w d. inl d))
+  pub either_first : (same other : Sameness A) (l m : List (Option A)) → ComparableBy (SameAnswer same) l m
+      → ComparableBy (SameAnswer (Either same other)) l m
+  either_first same other =
+      comparable_as _ _ (either_by same other same (λ v w. inl))
 
-pub either_second : {A : Type 0} (same other : Sameness A) (l m : List (Option A)) → ComparableBy (SameAnswer other) l m
-    → ComparableBy (SameAnswer (Either same other)) l m
-either_second same other =
-    comparable_as (SameAnswer other) (SameAnswer (Either same other)) (either_by same other other (λ v w d. inr d))
+  pub either_second : (same other : Sameness A) (l m : List (Option A)) → ComparableBy (SameAnswer other) l m
+      → ComparableBy (SameAnswer (Either same other)) l m
+  either_second same other =
+      comparable_as _ _ (either_by same other other (λ v w. inr))
 
-pub option_by : {A : Type 0} (same : A → A → Type 0) (x y : Option A) (u v : A) → OptionBy same x y → x ≡ Some u
-    → y ≡ Some v → same u v
-option_by same x y u v h e d = rw (e, d) at h
+  pub option_by : (same : A → A → Type 0) (x y : Option A) (u v : A) → OptionBy same x y → x ≡ Some u
+      → y ≡ Some v → same u v
+  option_by same x y u v h e d = rw (e, d) at h

@@ -15,87 +15,81 @@ MatchesFrom {F} {A} {B} like same call agree =
     (f k g l : F) (x w : A) (y z : B) → agree f k → like x w → call f x y g → call k w z l → same y z × agree g l
 
 -- closures that agree do
-pub agree_from_matches : {F A B : Type 0} (like : A → A → Type 0) (same : B → B → Type 0) (call : Question F A B)
-    → MatchesFrom like same call (AgreeFrom like same call)
-agree_from_matches like same call f k g l x w y z a e c d = (
-  (a.at (x ∷ []) (w ∷ []) (y ∷ []) (z ∷ []) g l (e, tt) (g, c, refl) (l, d, refl)).0,
-  record {
-    at = λ xs ws ys zs g' l' e' u v. (a.at (x ∷ xs) (w ∷ ws) (y ∷ ys) (z ∷ zs) g' l' (e, e') (g, c, u) (l, d, v)).1;
-  },
-)
+module _ {F A B : Type 0} (like : A → A → Type 0) (same : B → B → Type 0) (call : Question F A B) where
+  pub agree_from_matches : MatchesFrom like same call (AgreeFrom like same call)
+  agree_from_matches f k g l x w y z a e c d = (
+    (a.at (x ∷ []) (w ∷ []) (y ∷ []) (z ∷ []) g l (e, tt) (g, c, refl) (l, d, refl)).0,
+    record {
+      at = λ xs ws ys zs g' l' e' u v. (a.at (x ∷ xs) (w ∷ ws) (y ∷ ys) (z ∷ zs) g' l' (e, e') (g, c, u) (l, d, v)).1;
+    },
+  )
 
--- and to show that they do, it is enough to name which values agree
-pub matches_agree_from : {F A B : Type 0} (like : A → A → Type 0) (same : B → B → Type 0) (call : Question F A B)
-    (agree : F → F → Type 0) → MatchesFrom like same call agree
-    → (f k : F) → agree f k → AgreeFrom like same call f k
-matches_agree_from {F} {A} {B} like same call agree m f k a = record {
-  at = λ xs ws ys zs g l e u v. answers xs ws ys zs f k g l a e u v;
-}
-  where
-    answers : (xs ws : List A) (ys zs : List B) (f k g l : F) → agree f k → ComparableBy like xs ws
+  -- and to show that they do, it is enough to name which values agree
+  module _ (agree : F → F → Type 0) (m : MatchesFrom like same call agree) where
+    answered : (xs ws : List A) (ys zs : List B) (f k g l : F) → agree f k → ComparableBy like xs ws
         → Answered call f xs ys g → Answered call k ws zs l → ComparableBy same ys zs
-    answers [] ws (y ∷ ys) (z ∷ zs) f k g l a e u v = absurd u
-    answers (x ∷ xs) [] (y ∷ ys) (z ∷ zs) f k g l a e u v = absurd v
-    answers (x ∷ xs) (w ∷ ws) (y ∷ ys) (z ∷ zs) f k g l a e u v =
-        let s = m f k u.0 v.0 x w y z a e.0 u.1 v.1 in (s.0, answers xs ws ys zs u.0 v.0 g l s.1 e.1 u.2 v.2)
-    answers xs ws ys zs f k g l a e u v = tt
+    answered [] ws (y ∷ ys) (z ∷ zs) f k g l a e u v = absurd u
+    answered (x ∷ xs) [] (y ∷ ys) (z ∷ zs) f k g l a e u v = absurd v
+    answered (x ∷ xs) (w ∷ ws) (y ∷ ys) (z ∷ zs) f k g l a e u v =
+        let s = m f k u.0 v.0 x w y z a e.0 u.1 v.1 in (s.0, answered xs ws ys zs u.0 v.0 g l s.1 e.1 u.2 v.2)
+    answered xs ws ys zs f k g l a e u v = tt
 
--- a closure of which each answer has P does, where answers with P to items that are alike are the same
-pub answers_agree_from : {F A B : Type 0} (like : A → A → Type 0) (same : B → B → Type 0) (call : Question F A B)
-    (P : A → B → Type 0) → ((f g : F) (x : A) (y : B) → call f x y g → P x y)
-    → ((x w : A) (y z : B) → like x w → P x y → P w z → same y z) → (f k : F) → AgreeFrom like same call f k
-answers_agree_from like same call P answers alike f k =
-    matches_agree_from like same call (λ _ _. ⊤)
-    (λ f' k' g l x w y z a e c d. (alike x w y z e (answers f' g x y c) (answers k' l w z d), tt)) f k tt
+    pub matches_agree_from : (f k : F) → agree f k → AgreeFrom like same call f k
+    matches_agree_from f k a = record { at = λ xs ws ys zs g l. answered xs ws ys zs f k g l a }
 
--- a closure that answers items which are alike in the same way, and is then one, agrees with itself; `search rules`
--- finds that it does, of one whose answers are known
-pub agrees_alone_from : {F A B : Type 0} (like : A → A → Type 0) (same : B → B → Type 0) (call : Question F A B)
-    → ((f g h : F) (x w : A) (y z : B) → like x w → call f x y g → call f w z h → same y z × (h ≡ g)) → (f : F)
-    → AgreeFrom like same call f f
-agrees_alone_from like same call one f =
-    matches_agree_from like same call (λ p k. k ≡ p)
-    (λ p k g l x w y z a e c d. one p g l x w y z e c (subst (λ q. call q w z l) a d)) f f refl
+  module _ (P : A → B → Type 0) (answers : (f g : F) (x : A) (y : B) → call f x y g → P x y)
+      (alike : (x w : A) (y z : B) → like x w → P x y → P w z → same y z) where
+    -- a closure of which each answer has P does, where answers with P to items that are alike are the same
+    pub answers_agree_from : (f k : F) → AgreeFrom like same call f k
+    answers_agree_from f k =
+        matches_agree_from (λ _ _. ⊤)
+        (λ f' k' g l x w y z a e c d. (alike x w y z e (answers f' g x y c) (answers k' l w z d), tt)) f k tt
 
-pub agrees_alone : {F A B : Type 0} (call : Question F A B)
-    → ((f g h : F) (x : A) (y z : B) → call f x y g → call f x z h → (y ≡ z) × (h ≡ g)) → (f : F) → Agree call f f
-agrees_alone call one =
-    agrees_alone_from (λ x w. x ≡ w) (λ y z. y ≡ z) call
-    (λ f g h x w y z e c d. one f g h x y z c (subst (λ v. call f v z h) (sym e) d))
+    -- and what kin answer is the same, by such a fact
+    pub kin_answers_by : (y z : B) → KinAnswers like call y z → same y z
+    kin_answers_by y z h = alike h.4 h.5 y z h.7 (answers h.0 h.2 h.4 y h.8) (answers h.1 h.3 h.5 z h.9)
+
+  -- a closure that answers items which are alike in the same way, and is then one, agrees with itself; `search rules`
+  -- finds that it does, of one whose answers are known
+  pub agrees_alone_from : ((f g h : F) (x w : A) (y z : B) → like x w → call f x y g → call f w z h
+      → same y z × (h ≡ g)) → (f : F) → AgreeFrom like same call f f
+  agrees_alone_from one f =
+      matches_agree_from _
+      (λ p k g l x w y z a e c d. one p g l x w y z e c (subst (λ q. call q w z l) a d)) f f refl
+
+module _ {F A B : Type 0} (call : Question F A B) where
+  pub agrees_alone : ((f g h : F) (x : A) (y z : B) → call f x y g → call f x z h → (y ≡ z) × (h ≡ g)) → (f : F)
+      → Agree call f f
+  agrees_alone one =
+      agrees_alone_from _ _ call (λ f g h x w y z e c d. one f g h x y z c (subst (λ v. call f v z h) (sym e) d))
 
 -- closures that agree on items which are alike do on those that are alike in a narrower way
 pub agree_narrower : {F A B : Type 0} {narrow wide : A → A → Type 0} {same : B → B → Type 0} {call : Question F A B}
     {f k : F} → ((x w : A) → narrow x w → wide x w)
     → AgreeFrom wide same call f k → AgreeFrom narrow same call f k
 agree_narrower {narrow} {wide} less a = record {
-  at = λ xs ws ys zs g l e u v. a.at xs ws ys zs g l (comparable_as narrow wide less xs ws e) u v;
+  at = λ xs ws ys zs g l e. a.at xs ws ys zs g l (comparable_as narrow wide less xs ws e);
 }
 
--- kin do, by what they answer
-pub kin_matches : {F A B : Type 0} (like : A → A → Type 0) (call : Question F A B)
-    → MatchesFrom like (KinAnswers like call) call (Kin like call)
-kin_matches like call f k g l x w y z a e c d = ((f, k, g, l, x, w, a, e, c, d), Kin.called f k g l x w y z a e c d)
+module _ {F A B : Type 0} where
+  -- kin do, by what they answer
+  pub kin_matches : (like : A → A → Type 0) (call : Question F A B)
+      → MatchesFrom like (KinAnswers like call) call (Kin like call)
+  kin_matches like call f k g l x w y z a e c d = ((f, k, g, l, x, w, a, e, c, d), Kin.called f k g l x w y z a e c d)
 
--- and what they answer is the same, by a fact P of each answer
-pub kin_answers_by : {F A B : Type 0} (like : A → A → Type 0) (same : B → B → Type 0) (call : Question F A B)
-    (P : A → B → Type 0) → ((f g : F) (x : A) (y : B) → call f x y g → P x y)
-    → ((x w : A) (y z : B) → like x w → P x y → P w z → same y z) → (y z : B) → KinAnswers like call y z → same y z
-kin_answers_by like same call P answers alike y z h =
-    alike h.4 h.5 y z h.7 (answers h.0 h.2 h.4 y h.8) (answers h.1 h.3 h.5 z h.9)
+  -- the same of equal arguments
+  pub answers_agree : (same : B → B → Type 0) (call : Question F A B) (P : A → B → Type 0)
+      → ((f g : F) (x : A) (y : B) → call f x y g → P x y) → ((x : A) (y z : B) → P x y → P x z → same y z) → (f k : F)
+      → AgreeBy same call f k
+  answers_agree same call P answers alike =
+      answers_agree_from _ same call P answers
+      (λ x w y z e p q. alike x y z p (subst (λ v. P v z) (sym e) q))
 
--- the same of equal arguments
-pub answers_agree : {F A B : Type 0} (same : B → B → Type 0) (call : Question F A B) (P : A → B → Type 0)
-    → ((f g : F) (x : A) (y : B) → call f x y g → P x y) → ((x : A) (y z : B) → P x y → P x z → same y z) → (f k : F)
-    → AgreeBy same call f k
-answers_agree same call P answers alike =
-    answers_agree_from (λ x w. x ≡ w) same call P answers
-    (λ x w y z e p q. alike x y z p (subst (λ v. P v z) (sym e) q))
-
--- a closure that answers what a function does agrees with itself
-pub function_agree : {F A B : Type 0} (call : Question F A B) (function : A → B)
-    → ((f g : F) (x : A) (y : B) → call f x y g → y ≡ function x) → (f k : F) → Agree call f k
-function_agree call function answers =
-    answers_agree (λ y z. y ≡ z) call (λ x y. y ≡ function x) answers (λ x y z p q. p ∙ sym q)
+  -- a closure that answers what a function does agrees with itself
+  pub function_agree : (call : Question F A B) (function : A → B)
+      → ((f g : F) (x : A) (y : B) → call f x y g → y ≡ function x) → (f k : F) → Agree call f k
+  function_agree call function answers =
+      answers_agree _ call _ answers (λ x y z p q. p ∙ sym q)
 
 -- by how the items that come in are compared
 module _ {F A : Type 0} (like : Sameness A) where
@@ -122,27 +116,28 @@ module _ {F A : Type 0} (like : Sameness A) where
       both (Some y) None c d = absurd (let s = (tested true false c.1 d).0 in cc)
       both (Some y) (Some z) c d = (rw (c.0, d.0) (same_answer like x w e), (tested true true c.1 d.1).1)
 
--- kin that both keep, or both reject
-pub keeping_from : {F A B : Type 0} (like : A → A → Type 0) (call : Question F A (Option B))
-    → MatchesFrom like (OptionBy (λ y z. KinAnswers like call (Some y) (Some z))) call
-    (λ f k. Kin like call f k × AgreeFrom like (OptionBy (λ _ _. ⊤)) call f k)
-keeping_from {B = B} like call f k g l x w y z a e c d =
-    let kin = kin_matches like call f k g l x w y z a.0 e c d in
-    let shape = agree_from_matches like (OptionBy (λ _ _. ⊤)) call f k g l x w y z a.1 e c d in
-    (kept y z kin.0 shape.0, (kin.1, shape.1))
-  where
-    kept : (y z : Option B) → KinAnswers like call y z → OptionBy (λ (_ _ : B). ⊤) y z
-        → OptionBy (λ y z. KinAnswers like call (Some y) (Some z)) y z
-    kept None None kin shape = tt
-    kept (Some y) (Some z) kin shape = kin
-    kept y z kin shape = absurd shape
+module _ {F A B : Type 0} where
+  -- kin that both keep, or both reject
+  pub keeping_from : (like : A → A → Type 0) (call : Question F A (Option B))
+      → MatchesFrom like (OptionBy (λ y z. KinAnswers like call (Some y) (Some z))) call
+      (λ f k. Kin like call f k × AgreeFrom like (OptionBy (λ _ _. ⊤)) call f k)
+  keeping_from like call f k g l x w y z a e c d =
+      let kin = kin_matches like call f k g l x w y z a.0 e c d in
+      let shape = agree_from_matches like (OptionBy (λ _ _. ⊤)) call f k g l x w y z a.1 e c d in
+      (kept y z kin.0 shape.0, (kin.1, shape.1))
+    where
+      kept : (y z : Option B) → KinAnswers like call y z → OptionBy (λ (_ _ : B). ⊤) y z
+          → OptionBy (λ y z. KinAnswers like call (Some y) (Some z)) y z
+      kept None None kin shape = tt
+      kept (Some y) (Some z) kin shape = kin
+      kept y z kin shape = absurd shape
 
-pub keeping_matches : {F A B : Type 0} (like : Sameness A) (call : Question F A (Option B))
-    → MatchesFrom (SameItem like) (SameAnswer (Keeping like call)) call (AgreeKeeping like call)
-keeping_matches Sameness.equal call = agree_from_matches (λ x w. x ≡ w) (λ y z. y ≡ z) call
-keeping_matches (Sameness.by like) call = keeping_from like call
+  pub keeping_matches : (like : Sameness A) (call : Question F A (Option B))
+      → MatchesFrom (SameItem like) (SameAnswer (Keeping like call)) call (AgreeKeeping like call)
+  keeping_matches Sameness.equal call = agree_from_matches _ _ call
+  keeping_matches (Sameness.by like) call = keeping_from like call
 
-pub answering_matches : {F A B : Type 0} (like : Sameness A) (call : Question F A B)
-    → MatchesFrom (SameItem like) (SameItem (Answering like call)) call (AgreeOver like call)
-answering_matches Sameness.equal call = agree_from_matches (λ x w. x ≡ w) (λ y z. y ≡ z) call
-answering_matches (Sameness.by like) call = kin_matches like call
+  pub answering_matches : (like : Sameness A) (call : Question F A B)
+      → MatchesFrom (SameItem like) (SameItem (Answering like call)) call (AgreeOver like call)
+  answering_matches Sameness.equal call = agree_from_matches _ _ call
+  answering_matches (Sameness.by like) call = kin_matches like call

@@ -39,7 +39,7 @@ Below-trans xs ys zs h k = absurd h
 pub Below-first : (xs ys us vs : List ℕ) → Below xs ys → length us ≡ length vs → Below (xs ++ us) (ys ++ vs)
 Below-first (x ∷ xs) (y ∷ ys) us vs h e =
     elim h [
-      | inl p ↦ inl (p.0, rw (length-append xs us, length-append ys vs, p.1, e) refl)
+      | inl p ↦ inl (p.0, rw (length-append xs us, length-append ys vs, p.1, e))
       | inr p ↦ inr (p.0, Below-first xs ys us vs p.1 e)
     ]
 Below-first xs ys us vs h e = absurd h
@@ -105,9 +105,9 @@ below_cons x xs first rest (y ∷ ys) h =
 ends_cons : (n : ℕ) → ((xs : List ℕ) → length xs ≡ n → Acc Below xs) → (x : ℕ) (xs : List ℕ) → length xs ≡ n
     → Acc Below (x ∷ xs)
 ends_cons n all x =
-    by_dom ◌<◌ (λ (x₁ : ℕ). (xs : List ℕ) → length xs ≡ n → Acc Below (x₁ ∷ xs))
-    (λ x₁ first xs e. by_dom Below (λ (xs₁ : List ℕ). length xs₁ ≡ n → Acc Below (x₁ ∷ xs₁))
-    (λ xs₁ rest e₁. Acc.intro (x₁ ∷ xs₁)
+    by_dom ◌<◌ (λ (x₁ : ℕ). (xs : List ℕ) → length xs ≡ n → Acc Below _)
+    (λ x₁ first xs e. by_dom Below (λ (xs₁ : List ℕ). length xs₁ ≡ n → Acc Below _)
+    (λ xs₁ rest e₁. Acc.intro _
     (below_cons x₁ xs₁ (λ x' lt xs' same. first x' lt xs' (same ∙ e₁))
     (λ xs' lower. rest xs' lower (Below-length xs' xs₁ lower ∙ e₁))))
     xs (all xs e) e)
@@ -119,7 +119,7 @@ ends zero (x ∷ xs) e = absurd (omega (arith, e))
 ends (suc n) (x ∷ xs) e = ends_cons n (ends n) x xs (omega (arith, e))
 
 pub Below-wf : WellFounded Below
-Below-wf = record { apply = λ xs. ends (length xs) xs refl }
+Below-wf = record { apply = λ xs. ends _ xs refl }
 
 -- from a value that counts, no chain of steps that lower a rank is endless
 pub ranked_ends : {S : Type 0} (next : S → S → Type 0) (counts : S → Type 0) (rank : S → List ℕ)
@@ -135,5 +135,5 @@ module _ {S A : Type 0} (run : Runs (Answer A) S) (counts : S → Type 0) (rank 
   -- from a value that counts, no chain of runs of items is endless
   pub counted_ends : (x : S) → counts x → Terminates (ItemRun run) x
   counted_ends =
-      ranked_ends (ItemRun run) counts rank (λ y z k h. kept y z (items (h.0 ∷ h.1)) k h.2)
+      ranked_ends _ counts rank (λ y z k h. kept y z _ k h.2)
       (λ y z k h. falls y z h.0 h.1 k h.2)

@@ -29,7 +29,7 @@ lent_runs {run = run} laws =
     }
 
 module _ {S A : Type 0} {run : Runs (Answer A) S} where
-  pub lent_laws : {hints : Hints S} → StreamLaws run hints → StreamLaws (Lent run) (λ s hint. hints s.now hint)
+  pub lent_laws : {hints : Hints S} → StreamLaws run hints → StreamLaws (Lent run) (λ s. hints s.now)
   lent_laws laws = laws_of (lent_runs (runs_of laws)) (λ x y hint l e h. laws.bounded x.now y.now hint l e h.0)
 
   pub lent_counting : {r : Ranks S} → Counting run r → Counting (Lent run) (ranks_of (λ (s : MutBor S). s.now) r)

@@ -12,7 +12,7 @@ use Rattle.lite_base.specs.Ranks.{Counting, Ranks, ranks_of}
 use Rattle.lite_base.specs.Runs.{Runs}
 use Rattle.lite_base.specs.OkRanks.{OkCounting, OkRun, all_ok}
 
-ok_items : {T E : Type 0} (l : List T) → all_ok {E = E} (items l) ≡ items (map (λ (x : T). Ok x) l)
+ok_items : {T E : Type 0} (l : List T) → all_ok {E = E} (items l) ≡ items (map Ok l)
 ok_items [] = refl
 ok_items (x ∷ l) = ap (λ k. item (Ok x) ∷ k) (ok_items l)
 
@@ -30,7 +30,7 @@ module _ {S T E : Type 0} {run : Runs (Answer (Result T E)) S} {r : Ranks S} whe
         sized = c.sized;
         counts_on = c.counts_on;
         firm_on = c.firm_on;
-        falls = λ x y a more k h. c.falls x y (Ok a) (map (λ (b : T). Ok b) more) k
+        falls = λ x y a more k h. c.falls x y (Ok a) (map Ok more) k
             (subst (λ l. run x l y) (ok_items {E = E} (a ∷ more)) h);
         lowers = λ x y l k h. ok_lowers E l _ _ (c.lowers x y (all_ok l) k h);
       }
@@ -38,7 +38,7 @@ module _ {S T E : Type 0} {run : Runs (Answer (Result T E)) S} {r : Ranks S} whe
   -- from a value that counts, no chain of runs of Ok items is endless
   pub ok_counting_ends : OkCounting run r → (x : S) → r.counts x → Terminates (OkRun run) x
   ok_counting_ends c =
-      ranked_ends (OkRun run) r.counts r.rank (λ x y k h. c.counts_on x y (all_ok (items (h.0 ∷ h.1))) k h.2)
+      ranked_ends _ r.counts r.rank (λ x y k h. c.counts_on x y _ k h.2)
       (λ x y k h. c.falls x y h.0 h.1 k h.2)
 
   pub lent_ok_counting : OkCounting run r → OkCounting (Lent run) (ranks_of (λ (s : MutBor S). s.now) r)
@@ -61,6 +61,6 @@ ok_counting_by unwraps c counts_on firm_on =
       sized = c.sized;
       counts_on = counts_on;
       firm_on = firm_on;
-      falls = λ x y a more k h. c.falls x y a more k (unwraps x y (items (a ∷ more)) h);
+      falls = λ x y a more k h. c.falls x y a more k (unwraps x y _ h);
       lowers = λ x y l k h. c.lowers x y l k (unwraps x y l h);
     }

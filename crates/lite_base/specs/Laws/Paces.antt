@@ -44,11 +44,11 @@ module _ {A : Type 0} where
   paced_items p q i [] h = (h.0, rw h.1 (omega arith))
   paced_items p q i (x ∷ l) (inl h) = absurd (cc h.1)
   paced_items p q i (x ∷ l) (inr h) =
-      let e = paced_items (p.0, p.1 - 1) q h.1 l h.3 in (rw (h.2, e.0) refl, omega (arith, e.1, h.0))
+      let e = paced_items (p.0, p.1 - 1) q h.1 l h.3 in (rw (h.2, e.0), omega (arith, e.1, h.0))
 
   -- the pauses aside the answers are those that came in
   pub paced_strip : (p q : ℕ × ℕ) (i o : List (Answer A)) → Paces Pending left_behind p i o q → strip o ≡ strip i
-  paced_strip p q i [] h = rw h.0 refl
+  paced_strip p q i [] h = rw h.0
   paced_strip p q i (b ∷ o) (inl h) = rw h.1 (paced_strip (p.0, p.0) q i o h.2)
   paced_strip p q i (Pending ∷ o) (inr h) = rw h.2 (paced_strip (p.0, p.0) q h.1 o h.3)
   paced_strip p q i (Ready x ∷ o) (inr h) =

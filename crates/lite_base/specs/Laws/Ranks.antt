@@ -22,6 +22,6 @@ module _ {S A : Type 0} {run : Runs (Answer A) S} where
         sized = λ x. refl;
         counts_on = λ x y l c h. tt;
         firm_on = λ x y l c h. tt;
-        falls = λ x y a more c h. lowers x y (items (a ∷ more)) h;
-        lowers = λ x y l c h. lowers x y l h;
+        falls = λ x y a more c. lowers x y _;
+        lowers = λ x y l c. lowers x y l;
       }

@@ -59,7 +59,7 @@ module _ {M I R : Type 0} (one : Question M (List I) (Poll R)) where
   to_value_last p q i r l h =
       let none = subst (λ v. Segments one h.0.2 h.0.1 v q) h.1 h.0.5 in
       let whole : i ≡ h.0.0 = h.0.3 ∙ ap (λ v. h.0.0 ++ v) none.0 ∙ append-nil h.0.0 in
-      subst (λ v. one p v (Ready r) q) (sym whole) (subst (λ v. one p h.0.0 (Ready r) v) (sym none.1) h.0.4)
+      subst (λ v. one p v _ q) (sym whole) (subst (one p h.0.0 _) (sym none.1) h.0.4)
 
 module _ {M A I O : Type 0} {shows : A → I} {takes : M → A → M → Type 0} {gives : Question M (List I) O} where
   -- more is taken in before
@@ -69,7 +69,7 @@ module _ {M A I O : Type 0} {shows : A → I} {takes : M → A → M → Type 0}
       record {
         taken = xs ++ h.taken;
         last = h.last;
-        cut = ap (λ v. map shows xs ++ v) h.cut ∙ sym (append_assoc (map shows xs) (map shows h.taken) h.last)
+        cut = ap (λ v. map shows xs ++ v) h.cut ∙ sym (append_assoc _ _ h.last)
             ∙ ap (λ v. v ++ h.last) (sym (map-append shows xs h.taken));
         between = h.between;
         folds = folds_follow takes p m h.between xs h.taken f h.folds;
@@ -99,7 +99,7 @@ module _ {M A I O : Type 0} {shows : A → I} {takes : M → A → M → Type 0}
   pub segment_front : (p q : M) (i first rest : List I) (a : O) (h : Segment shows takes gives p first a q)
       → i ≡ first ++ rest → i ≡ map shows h.taken ++ (h.last ++ rest)
   segment_front p q i first rest a h e =
-      e ∙ ap (λ v. v ++ rest) h.cut ∙ append_assoc (map shows h.taken) h.last rest
+      e ∙ ap (λ v. v ++ rest) h.cut ∙ append_assoc _ h.last rest
 
 -- where the last of each segment is one answer
 module _ {M A I O : Type 0} (shows : A → I) (takes : M → A → M → Type 0) (gives : Question M I O) where
@@ -117,7 +117,7 @@ module _ {M A I O : Type 0} (shows : A → I) (takes : M → A → M → Type 0)
   pub answers_given : (p m q : M) (a : I) (i : List I) (b : O) (l : List O) → gives p a b m → Segments ByAnswers m i l q
       → Segments ByAnswers p (a ∷ i) (b ∷ l) q
   answers_given p m q a i b l g h =
-      (a ∷ [], i, m, refl, segment_alone p m (a ∷ []) b (a, refl, g), h)
+      (a ∷ [], i, m, refl, segment_alone p m _ b (a, refl, g), h)
 
   -- by induction: what holds of no answers, and on with each answer in, that is taken in or at which one goes out
   module _ (P : M → List I → List O → Type 0)
@@ -129,7 +129,7 @@ module _ {M A I O : Type 0} (shows : A → I) (takes : M → A → M → Type 0)
         → P p (map shows xs ++ i) (b ∷ l)
     all_taken p m [] i b l h k = subst (λ z. P z i (b ∷ l)) (sym h) k
     all_taken p m (x ∷ xs) i b l h k =
-        taken p h.0 x (map shows xs ++ i) b l h.1 (all_taken h.0 m xs i b l h.2 k)
+        taken p h.0 x _ b l h.1 (all_taken h.0 m xs i b l h.2 k)
 
     pub answers_by : (p q : M) (i : List I) (l : List O) → P q [] [] → Segments ByAnswers p i l q → P p i l
     answers_by p q i [] none h = subst (λ k. P p k []) (sym h.0) (subst (λ z. P z [] []) h.1 none)
@@ -137,7 +137,7 @@ module _ {M A I O : Type 0} (shows : A → I) (takes : M → A → M → Type 0)
         let s = h.4 in
         let a = s.given.0 in
         let last = ap (λ v. map shows s.taken ++ v) s.given.1 in
-        let cut = h.3 ∙ ap (λ v. v ++ h.1) (s.cut ∙ last) ∙ append_assoc (map shows s.taken) (a ∷ []) h.1 in
+        let cut = h.3 ∙ ap (λ v. v ++ h.1) (s.cut ∙ last) ∙ append_assoc _ _ h.1 in
         subst (λ k. P p k (b ∷ l)) (sym cut)
-        (all_taken p s.between s.taken (a ∷ h.1) b l s.folds
+        (all_taken p s.between s.taken _ b l s.folds
         (given s.between h.2 a h.1 b l s.given.2 (answers_by h.2 q h.1 l none h.5)))

@@ -7,7 +7,12 @@ use Rattle.lite_base.specs.StreamLaws.{RunLaws, StreamLaws}
 pub runs_of : {S A : Type 0} {run : Runs (Answer A) S} {hints : Hints S} → StreamLaws run hints → RunLaws run
 runs_of laws = record { rests = laws.rests; stays = laws.stays; follows = laws.follows }
 
-pub laws_of : {S A : Type 0} {run : Runs (Answer A) S} {hints : Hints S} → RunLaws run
-    → ((x y : S) (hint : ℕ × Option ℕ) (l : List (Answer A)) → hints x hint → run x l y
-    → IfSome hint.1 (λ most. before_end l ≤ most)) → StreamLaws run hints
+-- no run has more items before its first end than a hint allows
+abbrev pub HintsHold : {S A : Type 0} → Runs (Answer A) S → Hints S → Type 0
+HintsHold {S} {A} run hints =
+    (x y : S) (hint : ℕ × Option ℕ) (l : List (Answer A)) → hints x hint → run x l y
+    → IfSome hint.1 (λ most. before_end l ≤ most)
+
+pub laws_of : {S A : Type 0} {run : Runs (Answer A) S} {hints : Hints S} → RunLaws run → HintsHold run hints
+    → StreamLaws run hints
 laws_of runs bounded = record { rests = runs.rests; stays = runs.stays; follows = runs.follows; bounded = bounded }

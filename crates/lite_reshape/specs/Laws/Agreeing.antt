@@ -9,6 +9,7 @@ use Rattle.lite_base.specs.Laws.Calling.{MatchesFrom, accepts_matches, agree_fro
 use Rattle.lite_base.specs.Runs.{Question}
 use Rattle.lite_stream.specs.Laws.Agreeing.{AgreeingOver}
 use Rattle.lite_stream.specs.Laws.Placed.{AlikeInPlace, Placed, placed_agreeing}
+use Rattle.lite_stream.specs.Laws.Through.{Entails}
 use Rattle.lite_reshape.specs.Laws.Leaving.{leaves_steps}
 use Rattle.lite_reshape.specs.Leaving.{LeavesOut}
 use Rattle.lite_reshape.specs.Skip.{Skips}
@@ -20,8 +21,7 @@ KeptInPlace None follows out = follows out
 KeptInPlace {B} (Some y) follows out = (more : List (Option B)) × (out ≡ Some y ∷ more) × follows more
 
 module _ {F A B : Type 0} (call : Question F A (Option B)) where
-  stripped : (f g : F) (i : List (Answer A)) (o : List (Answer B)) → LeavesOut call f i o g
-      → Placed call KeptInPlace f (strip i) (strip o)
+  stripped : Entails (LeavesOut call) (λ f i o g. Placed call KeptInPlace f (strip i) (strip o))
   stripped f g i o =
       leaves_steps call (λ p i o. Placed call KeptInPlace p (strip i) (strip o)) (λ p m x i b o t h. (None, m, t, h))
       (λ p i o h. h) (λ p i o h. (strip o, refl, h))
@@ -29,8 +29,8 @@ module _ {F A B : Type 0} (call : Question F A (Option B)) where
 
   keeps_alike : (same : Sameness B) → AlikeInPlace call KeptInPlace same (SameAnswer same)
   keeps_alike same None None P Q o p e r q rest = rest o p r q
-  keeps_alike same None (Some z) P Q o p e r q rest = absurd (both_items same None (Some z) e)
-  keeps_alike same (Some y) None P Q o p e r q rest = absurd (both_items same (Some y) None e)
+  keeps_alike same None (Some z) P Q o p e r q rest = absurd (both_items same None _ e)
+  keeps_alike same (Some y) None P Q o p e r q rest = absurd (both_items same _ None e)
   keeps_alike same (Some y) (Some z) P Q o p e r q rest = rw (r.1, q.1) (e, rest r.0 q.0 r.2 q.2)
 
   -- from what agrees, calls at items that are like one another answer what is the same
@@ -41,7 +41,7 @@ module _ {F A B : Type 0} (call : Question F A (Option B)) where
 
     -- closures that keep an item, or none
     pub leaves_keeping : AgreeingOver like (Keeping like call) (LeavesOut call) (AgreeKeeping like call)
-    leaves_keeping = leaves_agreeing (Keeping like call) (keeping_matches like call)
+    leaves_keeping = leaves_agreeing _ (keeping_matches like call)
 
 -- an item goes out as it came in, or not at all
 module _ {F A : Type 0} where
@@ -50,12 +50,12 @@ module _ {F A : Type 0} where
       → AgreeingOver like like (LeavesOut call) agree
   leaves_showing call m like =
       leaves_agreeing call like like
-      (λ f k g l x w y z a e c d. let s = m (SameItem like) f k g l x w y z a e c d in (item_answers like y z s.0, s.1))
+      (λ f k g l x w y z a e c d. let s = m _ f k g l x w y z a e c d in (item_answers like y z s.0, s.1))
 
   -- by a test
   pub leaves_testing : (test : Question F A Bool) (like : Sameness A)
       → AgreeingOver like like (LeavesOut (Accepts test)) (AgreeFrom (SameItem like) (λ y z. y ≡ z) test)
-  leaves_testing test like = leaves_agreeing (Accepts test) like like (accepts_matches like test)
+  leaves_testing test like = leaves_agreeing _ like like (accepts_matches like test)
 
 -- from one count on
 pub skips_match : {A : Type 0} (like : A → A → Type 0) → MatchesFrom like (OptionBy like) Skips (λ n m. m ≡ n)
@@ -87,4 +87,4 @@ module _ {F A : Type 0} (test : Question F A Bool) (like : Sameness A) where
       both (Some y) (Some z) a c = rw (a.1, c.1, a.2, c.2) (same_answer like x w s, tt)
 
   pub leaves_until : AgreeingOver like like (LeavesOut (SkipsUntil test)) (OptionBy TestsAgree)
-  leaves_until = leaves_agreeing (SkipsUntil test) like like until_matches
+  leaves_until = leaves_agreeing _ like like until_matches

@@ -4,9 +4,9 @@ use Rattle.std.specs.Prelude.{IfSome}
 use Rattle.std.proofs.Common.{◌≤◌, ◌+◌, arith, List, [], ◌∷◌, ◌++◌, Option, Some, None, inl, inr, refl}
 use Rattle.lite_base.specs.Answers.{Answer, end}
 use Rattle.lite_base.specs.Calm.{CalmLaws, NoPending, waits}
-use Rattle.lite_base.specs.Laws.Calm.{no_pending_front, no_pending_join, no_pending_none, waits_join}
+use Rattle.lite_base.specs.Laws.Calm.{calm_both, no_pending_front, no_pending_join, no_pending_none, waits_join}
 use Rattle.lite_base.specs.Laws.Items.{OfItem}
-use Rattle.lite_base.specs.Runs.{Question, Runs}
+use Rattle.lite_base.specs.Runs.{Hints, Question, Runs}
 use Rattle.lite_reshape.specs.Chain.{Chains, Joins, is_done, second_after}
 use Rattle.lite_reshape.specs.Flatten.{Flattening}
 use Rattle.lite_reshape.specs.Inner.{EachInner}
@@ -17,6 +17,8 @@ use Rattle.lite_reshape.specs.declared.chain.Part.TheVariants.{First, Second, Do
 use Rattle.lite_reshape.specs.declared.chain.Part.{Part}
 use Rattle.lite_stream.specs.Laws.Calming.{Calming, calm_two}
 use Rattle.lite_stream.specs.Laws.Cutting.{cuts_calming}
+use Rattle.lite_base.specs.StreamLaws.{StreamLaws}
+use Rattle.lite_stream.specs.Laws.Through.{Entails}
 use Rattle.lite_stream.specs.Through.{AdapterParts, Adapts}
 
 module _ {A : Type 0} where
@@ -34,29 +36,24 @@ module _ {S U A : Type 0} {run : Runs (Answer A) S} {run' : Runs (Answer A) U} w
   pub chain_calm : {is_calm : S → Type 0} {is_calm' : U → Type 0} → CalmLaws run is_calm → CalmLaws run' is_calm'
       → CalmLaws (Chains run run') (λ x. is_calm x.first × is_calm' x.second)
   chain_calm s u =
-      calm_two (λ x. x.first) (λ x. x.second) s u
+      calm_two _ _ s u
       (λ x y l h. (h.firsts, h.seconds, h.came, h.then_came, joins_waits x.part y.part h.firsts h.seconds l h.joined))
 
 -- nothing is pending that comes out of answers that are not, where what is held is calm; and what is held then is
-abbrev pub CalmingBy : {F A B : Type 0} → (F → Type 0) → (F → List (Answer A) → List (Answer B) → F → Type 0) → Type 0
+abbrev pub CalmingBy : {F A B : Type 0} → (F → Type 0) → Question F (List (Answer A)) (List (Answer B)) → Type 0
 CalmingBy {F} {A} {B} held_calm relates = (f g : F) (i : List (Answer A)) (o : List (Answer B)) → held_calm f
     → relates f i o g → NoPending i → NoPending o × held_calm g
 
 -- an adapter of one source, where what it holds is calm
 pub through_calm_by : {M S F A B : Type 0} (p : AdapterParts M S F) {run : Runs (Answer A) S}
-    {relates : F → List (Answer A) → List (Answer B) → F → Type 0} {is_calm : S → Type 0} {held_calm : F → Type 0}
+    {relates : Question F (List (Answer A)) (List (Answer B))} {is_calm : S → Type 0} {held_calm : F → Type 0}
     → CalmLaws run is_calm → CalmingBy held_calm relates
     → CalmLaws (Adapts p run relates) (λ m. is_calm (p.source m) × held_calm (p.held m))
 through_calm_by p c t =
-    record {
-      no_pending = λ x y l k h.
-          (t (p.held x) (p.held y) h.ins l k.1 h.related (c.no_pending (p.source x) (p.source y) h.ins k.0 h.came)).0;
-      calm_on = λ x y l k h.
-          let no_pending = c.no_pending (p.source x) (p.source y) h.ins k.0 h.came in (
-            c.calm_on (p.source x) (p.source y) h.ins k.0 h.came,
-            (t (p.held x) (p.held y) h.ins l k.1 h.related no_pending).1,
-          );
-    }
+    calm_both
+    (λ x y l k h.
+    let e = t _ _ h.ins l k.1 h.related (c.no_pending _ _ h.ins k.0 h.came) in
+    (e.0, (c.calm_on _ _ h.ins k.0 h.came, e.1)))
 
 module _ {F A V B : Type 0} (call : Question F A V) (gives : V → List (Answer B) → Option V → Type 0) where
   -- where what is made of each item is calm, and what is held
@@ -69,46 +66,42 @@ module _ {F A V B : Type 0} (call : Question F A V) (gives : V → List (Answer 
       expanding_by call gives t
       (λ s i o. IfSome s.1 calm_made × calm s.0 → NoPending i → NoPending o × (IfSome t.1 calm_made × calm t.0))
       (λ e k n. (tt, (rw e tt, k.1)))
-      (λ v w o ran e k n. let a = answers v o (Some w) k.0 ran in (a.0, (rw e a.1, k.1)))
+      (λ v w o ran e k n. let a = answers v o _ k.0 ran in (a.0, (rw e a.1, k.1)))
       (λ p v i own rest ran h k n. let r = h (tt, k.1) n in
       (no_pending_join own rest (answers v own None k.0 ran).0 r.0, r.1))
-      (λ p i o h k n. absurd n) (λ p i o h k n. h k n)
-      (λ p r x v i b o called h k n. h (calls p x v r k.1 called) n) s i o c k
+      (λ p i o h k n. absurd n) (λ p i o h. h)
+      (λ p r x v i b o called h k. h (calls p x v r k.1 called)) s i o c k
 
   -- where no list of what is made of an item has a Pending
   pub expanding_calming : ((v : V) (l : List (Answer B)) (next : Option V) → gives v l next → NoPending l)
       → Calming (Expanding call gives)
   expanding_calming no_pending s t =
       expanding_by call gives t (λ s i o. waits o ≤ waits i) (λ e. omega arith)
-      (λ v w o ran e. omega (arith, no_pending_none o (no_pending v o (Some w) ran)))
+      (λ v w o ran e. omega (arith, no_pending_none o (no_pending v o _ ran)))
       (λ p v i own rest ran k. omega (arith, no_pending_none own (no_pending v own None ran), waits_join own rest, k))
       (λ p i o k. omega (arith, k)) (λ p i o k. k) (λ p r x v i b o called k. k) s
 
 module _ {B A : Type 0} {run : Runs (Answer A) B} {calm : B → Type 0} (c : CalmLaws run calm) where
-  flattening_no_pending : (held last : Option B) (i : List (Answer B)) (l : List (Answer A))
-      → Flattening run held i l last → IfSome held calm → AllByRecursion (OfItem calm) i → NoPending i → NoPending l
+  flattening_no_pending : Entails (Flattening run)
+      (λ f i l g. IfSome f calm → AllByRecursion (OfItem calm) i → NoPending i → NoPending l)
   flattening_no_pending held last =
       flattening_by run last (λ f i l. IfSome f calm → AllByRecursion (OfItem calm) i → NoPending i → NoPending l)
       (λ e k each n. tt) (λ b d l m ran e k each n. c.no_pending b d l k ran)
       (λ b d i own a rest m ran h k each n.
       no_pending_join own (a ∷ rest)
-      (no_pending_front own (end ∷ []) (c.no_pending b d (own ++ end ∷ []) k ran)) (h tt each n))
+      (no_pending_front own (end ∷ []) (c.no_pending b d _ k ran)) (h tt each n))
       (λ i l h k each. absurd) (λ i l h k each. h tt each.1) (λ b i a l h k each. h (each.0 b refl) each.1) held
 
   -- an adapter, where the inner stream that is held is calm, and each that may come
   pub flattening_calm : {M S : Type 0} (p : AdapterParts M S (Option B)) {outer : Runs (Answer B) S}
-      {is_calm : S → Type 0}
-      → ((x y z : S) (l m : List (Answer B)) → outer x l y → outer y m z → outer x (l ++ m) z) → CalmLaws outer is_calm
+      {is_calm : S → Type 0} {hints : Hints S} → StreamLaws outer hints → CalmLaws outer is_calm
       → CalmLaws (Adapts p outer (Flattening run))
       (λ m. is_calm (p.source m) × EachInner outer calm (p.source m) (p.held m))
-  flattening_calm p {outer} follows d =
-      record {
-        no_pending = λ x y l k h.
-            flattening_no_pending (p.held x) (p.held y) h.ins l h.related k.1.0
-            (have_come outer calm (p.source x) (p.source y) (p.held x) h.ins k.1 h.came)
-            (d.no_pending (p.source x) (p.source y) h.ins k.0 h.came);
-        calm_on = λ x y l k h. (
-          d.calm_on (p.source x) (p.source y) h.ins k.0 h.came,
-          each_inner_on run outer calm c.calm_on follows (p.source x) (p.source y) (p.held x) (p.held y) l k.1 h,
-        );
-      }
+  flattening_calm p {outer} laws d =
+      calm_both
+      (λ x y l k h. (
+        flattening_no_pending _ _ h.ins l h.related k.1.0
+            (have_come outer calm _ _ _ h.ins k.1 h.came)
+            (d.no_pending _ _ h.ins k.0 h.came),
+        (d.calm_on _ _ h.ins k.0 h.came, each_inner_on run outer calm c.calm_on laws _ _ _ _ l k.1 h),
+      ))

@@ -23,14 +23,14 @@ use Rattle.lite_stream.specs.Laws.Cutting.{cuts_relating, cuts_steps}
 use Rattle.lite_stream.specs.Laws.Lower.{at_most_below, lowers_after}
 
 zeros_length : (xs : List ℕ) → length (zeros xs) ≡ length xs
-zeros_length xs = length-replicate (length xs) 0
+zeros_length xs = length-replicate _ 0
 
 module _ (xs ys : List ℕ) where
   zeros_same : length xs ≡ length ys → zeros xs ≡ zeros ys
   zeros_same e = cc
 
   zeros_below : Below xs ys → Below (zeros xs) ys
-  zeros_below = at_most_below (zeros xs) xs ys (zeros_least (length xs) xs refl)
+  zeros_below = at_most_below _ xs ys (zeros_least _ xs refl)
 
 second_below : (g : Part) (xs ys : List ℕ) → Below xs ys → Below (second_rank g xs) ys
 second_below Done xs ys h = zeros_below xs ys h
@@ -44,8 +44,8 @@ ended_rank _ xs ys n = refl
 chain_below : (g : Part) (xs us ys vs : List ℕ) → Below xs us → length ys ≡ length vs
     → Below (chain_rank g xs ys) (us ++ vs)
 chain_below First xs us ys vs h e = Below-first xs us ys vs h e
-chain_below Second xs us ys vs h e = Below-first (zeros xs) us ys vs (zeros_below xs us h) e
-chain_below Done xs us ys vs h e = Below-first (zeros xs) us (zeros ys) vs (zeros_below xs us h) (zeros_length ys ∙ e)
+chain_below Second xs us ys vs h e = Below-first _ us ys vs (zeros_below xs us h) e
+chain_below Done xs us ys vs h e = Below-first _ us _ vs (zeros_below xs us h) (zeros_length ys ∙ e)
 
 module _ {A : Type 0} where
   -- the second goes on, and the first is not asked again
@@ -74,10 +74,10 @@ module _ {A : Type 0} where
         inr (record {
           own = i ++ q.own;
           endless = endless_join i q.own endless q.endless;
-          through_end = ap (λ n. i ++ n) q.through_end ∙ sym (append_assoc i q.own (end ∷ []));
+          through_end = ap (λ n. i ++ n) q.through_end ∙ sym (append_assoc i q.own _);
           next = q.next;
           later = q.later;
-          joined = ap (λ n. i ++ n) q.joined ∙ sym (append_assoc i q.own (q.next ∷ q.later));
+          joined = ap (λ n. i ++ n) q.joined ∙ sym (append_assoc i q.own _);
           followed = q.followed;
         })
 
@@ -91,7 +91,7 @@ module _ {A : Type 0} where
         through_end = ap (λ n. i ++ n) e.0 ∙ append-nil i ∙ r.through_end;
         next = r.next;
         later = r.later ++ m;
-        joined = ap (λ n. n ++ m) r.joined ∙ append_assoc r.own (r.next ∷ r.later) m;
+        joined = ap (λ n. n ++ m) r.joined ∙ append_assoc r.own _ m;
         followed = e.1;
       }
 
@@ -127,7 +127,7 @@ module _ {A : Type 0} where
     second_lowers j (Pending ∷ l) xs ys (inr r) h = second_lowers r.1 l xs ys r.3 (rw r.2 at h)
     second_lowers j (Ready None ∷ l) xs ys (inr r) h =
         let same = AtMost-length xs ys (Lowers-at_most r.1 xs ys (rw r.2 at h)) in
-        let e = done_lowers r.1 l (zeros xs) ys (zeros_least (length xs) ys (sym same)) r.3 in
+        let e = done_lowers r.1 l _ ys (zeros_least _ ys (sym same)) r.3 in
         rw e.0 e.1
     second_lowers j (Ready (Some x) ∷ l) xs ys (inr r) h = second_below g xs ys (rw r.2 at h)
 
@@ -150,18 +150,18 @@ module _ {A : Type 0} where
       (zeros_least (length xs) us (sym (AtMost-length xs us (Lowers-at_most i xs us h)))) second in
       let ended = ended_rank g xs ys (not_first Second g j (r.next ∷ r.later) r.followed (λ d. cc d)) in
       rw r.joined
-      (own_lowers r.own (end ∷ []) (r.next ∷ r.later) xs us (chain_rank g xs ys) (us ++ vs) (rw r.through_end at h)
+      (own_lowers r.own _ _ xs us _ _ (rw r.through_end at h)
       (λ _. subst (λ n. Lowers (r.next ∷ r.later) n (us ++ vs)) (sym ended) after)
       (λ b. chain_below g xs us ys vs b (AtMost-length ys vs (Lowers-at_most j ys vs k))))
   joins_lowers Second g i j l xs us ys vs r h k =
       rw (ended_rank g xs ys (not_first Second g j l r.1 (λ d. cc d)))
-      (lowers_after l (zeros xs) (zeros us) (second_rank g ys) vs
+      (lowers_after l _ _ _ vs
       (inl (zeros_same xs us (AtMost-length xs us (Lowers-at_most i xs us h)))) (second_lowers g j l ys vs r.1 k))
   joins_lowers Done g i j l xs us ys vs r h k =
       let same = AtMost-length xs us (Lowers-at_most i xs us h) in
       let same' = AtMost-length ys vs (Lowers-at_most j ys vs k) in
       let level = ap (λ z. z ++ zeros ys) (zeros_same xs us same) ∙ ap (λ z. zeros us ++ z) (zeros_same ys vs same') in
-      let e = done_lowers g j l (zeros xs ++ zeros ys) (zeros us ++ zeros vs) (inl level) r.1 in
+      let e = done_lowers g j l _ _ (inl level) r.1 in
       rw e.0 e.1
 
   -- the second gave the items that went out, and did not end
@@ -191,10 +191,10 @@ module _ {A : Type 0} where
   joins_falls First g i j y l xs us ys vs falls falls' same same' (inl r) =
       rw r.3 (Below-first xs us ys vs (falls y l (sym r.2)) same')
   joins_falls First g i j y l xs us ys vs falls falls' same same' (inr r) =
-      let m = items_after r.own (r.next ∷ r.later) (y ∷ l) r.joined in
-      second_falls g j r.next r.later m.0 xs us ys vs falls' (zeros_least (length xs) us (sym same)) m.1 r.followed
+      let m = items_after r.own _ (y ∷ l) r.joined in
+      second_falls g j r.next r.later m.0 xs us ys vs falls' (zeros_least _ us (sym same)) m.1 r.followed
   joins_falls Second g i j y l xs us ys vs falls falls' same same' r =
-      second_falls g j (item y) (items l) (y ∷ l) xs (zeros us) ys vs falls' (inl (zeros_same xs us same)) refl r.1
+      second_falls g j _ _ (y ∷ l) xs _ ys vs falls' (inl (zeros_same xs us same)) refl r.1
   joins_falls Done g i j y l xs us ys vs falls falls' same same' r =
       absurd (elim r.1 [ inl e ↦ cc e.1 | inr e ↦ e.0 refl ])
 
@@ -205,9 +205,9 @@ joins_start A _ = (refl, (refl, refl))
 chain_sized : (part : Part) (xs ys : List ℕ) (m n : ℕ) → length xs ≡ m → length ys ≡ n
     → length (chain_rank part xs ys) ≡ m + n
 chain_sized First xs ys m n d e = length-append xs ys ∙ omega (arith, d, e)
-chain_sized Second xs ys m n d e = length-append (zeros xs) ys ∙ omega (arith, zeros_length xs, d, e)
+chain_sized Second xs ys m n d e = length-append _ ys ∙ omega (arith, zeros_length xs, d, e)
 chain_sized Done xs ys m n d e =
-    length-append (zeros xs) (zeros ys) ∙ omega (arith, zeros_length xs, zeros_length ys, d, e)
+    length-append _ (zeros ys) ∙ omega (arith, zeros_length xs, zeros_length ys, d, e)
 
 module _ {S U A : Type 0} {run : Runs (Answer A) S} {run' : Runs (Answer A) U} where
   pub chain_runs : RunLaws run → RunLaws run' → RunLaws (Chains run run')
@@ -247,21 +247,18 @@ module _ {S U A : Type 0} {run : Runs (Answer A) S} {run' : Runs (Answer A) U} w
       → Counting (Chains run run') (chain_ranks r r')
   chain_counting {r} {r'} s u =
       record {
-        sized = λ x. chain_sized x.part (r.rank x.first) (r'.rank x.second) r.width r'.width (s.sized x.first)
-            (u.sized x.second);
+        sized = λ x. chain_sized x.part _ _ r.width r'.width (s.sized x.first) (u.sized x.second);
         counts_on = λ x y l c h.
             (s.counts_on x.first y.first h.firsts c.0 h.came, u.counts_on x.second y.second h.seconds c.1 h.then_came);
         firm_on = λ x y l c h.
             (s.firm_on x.first y.first h.firsts c.0 h.came, u.firm_on x.second y.second h.seconds c.1 h.then_came);
         falls = λ x y a more c h.
-            joins_falls x.part y.part h.firsts h.seconds a more (r.rank y.first) (r.rank x.first) (r'.rank y.second)
-            (r'.rank x.second)
+            joins_falls x.part y.part h.firsts h.seconds a more _ _ _ _
             (λ b before e. s.falls x.first y.first b before c.0 (rw e at h.came))
-            (λ b before e. u.falls x.second y.second b before c.1
-            (rw e at h.then_came))
+            (λ b before e. u.falls x.second y.second b before c.1 (rw e at h.then_came))
             (s.sized y.first ∙ sym (s.sized x.first)) (u.sized y.second ∙ sym (u.sized x.second)) h.joined;
         lowers = λ x y l c h.
-            joins_lowers x.part y.part h.firsts h.seconds l (r.rank y.first) (r.rank x.first) (r'.rank y.second)
-            (r'.rank x.second) h.joined (s.lowers x.first y.first h.firsts c.0 h.came)
+            joins_lowers x.part y.part h.firsts h.seconds l _ _ _ _ h.joined
+            (s.lowers x.first y.first h.firsts c.0 h.came)
             (u.lowers x.second y.second h.seconds c.1 h.then_came);
       }

@@ -36,15 +36,15 @@ module _ {T E : Type 0} (is_clone : T → T → Type 0) (is_infallible : T → T
       → Clones is_clone is_infallible y m next → Clones is_clone is_infallible x (l ++ m) next
   clones_join x y (Some z) l m h k =
       let d = rw h.1 at k in
-      (all_append (IsCloneRefusal is_clone is_infallible x) l m h.0 d.0, d.1)
+      (all_append _ l m h.0 d.0, d.1)
   clones_join x y None l m h k =
       let d = rw h.1 at k in (
         l ++ d.0,
         d.1,
-        all_append (IsCloneRefusal is_clone is_infallible x) l d.0 h.0 d.2,
+        all_append _ l d.0 h.0 d.2,
         d.3,
         ap (λ n. l ++ n) d.4
-            ∙ sym (append_assoc l d.0 (item (Ok d.1) ∷ [])),
+            ∙ sym (append_assoc l d.0 _),
       )
 
   clones_giving : FollowLaws (Clones {E = E} is_clone is_infallible)
@@ -52,14 +52,14 @@ module _ {T E : Type 0} (is_clone : T → T → Type 0) (is_infallible : T → T
       record {
         rests = λ x. (tt, refl);
         stays = λ x y h. h.1;
-        answers = λ x h. not_empty h.0 (item (Ok h.1)) [] h.4;
+        answers = λ x h. not_empty h.0 _ [] h.4;
         joins = clones_join;
       }
 
   pub cloned_laws : {S : Type 0} {run : Runs (Answer (Bor T)) S} {hints : Hints S} → StreamLaws run hints
       → StreamLaws (ClonesAll {E = E} is_clone is_infallible run) NoHint
   cloned_laws laws =
-      laws_following cloned_parts laws (expanding_following Refers (Clones is_clone is_infallible) clones_giving)
+      laws_following cloned_parts laws (expanding_following Refers _ clones_giving)
 
 -- one poll in which a clone was made
 pub gives_copy : {T E : Type 0} (is_clone : T → T → Type 0) (is_infallible : T → Type 0) (x : Bor T) (copy : T)
@@ -101,7 +101,7 @@ module _ {T E : Type 0} (is_clone : T → T → Type 0) where
       (AlikeCloned like alike is_clone)
   cloned_alike Sameness.equal s x y e =
       through_alike cloned_parts x y (s x.stream y.stream e.0) (tt, held_same x.held y.held e.1)
-      (expanding_agreeing clones_one Refers Sameness.equal Sameness.equal (refers_match (λ v w. v ≡ w))
+      (expanding_agreeing clones_one Refers Sameness.equal Sameness.equal (refers_match _)
       (clones_alike e.2))
   cloned_alike (Sameness.by same) s x y e =
       through_alike cloned_parts x y (s x.stream y.stream e.0) (tt, e.1)
@@ -154,9 +154,9 @@ module _ {T E : Type 0} (is_clone : T → T → Type 0) (is_infallible : T → T
   cloned_steady like s =
       record {
         laws = through_runs cloned_parts s.laws
-            (expanding_following Refers (Clones is_clone (λ _. ⊤)) (clones_giving is_clone (λ _. ⊤)));
+            (expanding_following Refers _ (clones_giving is_clone _));
         steady = cloned_alike is_clone like s.steady;
-        found = λ n x y l h. found_where (λ _. ⊤) (λ r a all refused. refused.0 (n.1 r.now)) (s.found n.0) x y l
+        found = λ n x y l h. found_where _ (λ r a all refused. refused.0 (n.1 r.now)) (s.found n.0) x y l
             (all_any l) h;
       }
 
@@ -194,7 +194,7 @@ module _ {T E : Type 0} (is_clone : T → T → Type 0) (is_infallible : T → T
     clones_no_pending : (l : List (Answer (Result T E))) (next : Option (Bor T))
         → Clones is_clone is_infallible x l next → NoPending l
     clones_no_pending l (Some y) h = refuses_no_pending l h.0
-    clones_no_pending l None h = rw h.4 (no_pending_join h.0 (item (Ok h.1) ∷ []) (refuses_no_pending h.0 h.2) tt)
+    clones_no_pending l None h = rw h.4 (no_pending_join h.0 _ (refuses_no_pending h.0 h.2) tt)
 
   pub clones_calming : Calming (Expanding Refers (Clones {E = E} is_clone is_infallible))
-  clones_calming = expanding_calming Refers (Clones is_clone is_infallible) clones_no_pending
+  clones_calming = expanding_calming Refers _ clones_no_pending

@@ -13,7 +13,7 @@ use Rattle.lite_base.specs.StreamLaws.{StreamLaws}
 use Rattle.lite_base.specs.Runs.{Hints, Question, Runs}
 use Rattle.lite_reshape.specs.Expanding.{Expanding, Expands}
 use Rattle.lite_stream.specs.Laws.Held.{held_falls, held_first, held_less, held_level, held_sized}
-use Rattle.lite_stream.specs.Laws.Through.{Following}
+use Rattle.lite_stream.specs.Laws.Through.{AlsoBefore, Entails, Following}
 use Rattle.lite_stream.specs.Through.{AdapterParts, Adapts, Through}
 
 -- what the lists of what is made of an item have to meet, that runs may follow one another
@@ -37,9 +37,7 @@ module _ {F A V B : Type 0} (call : Question F A V) (gives : V → List (Answer 
     (still : (v w : V) (o : List (Answer B)) → gives v o (Some w) → t.1 ≡ Some w → P (t.0, Some v) [] o)
     (done : (p : F) (v : V) (i : List (Answer A)) (own rest : List (Answer B)) → gives v own None → P (p, None) i rest
     → P (p, Some v) i (own ++ rest))
-    (waits : (p : F) (i : List (Answer A)) (o : List (Answer B)) → P (p, None) i o
-    → P (p, None) (Pending ∷ i) (Pending ∷ o))
-    (ended : (p : F) (i : List (Answer A)) (o : List (Answer B)) → P (p, None) i o → P (p, None) (end ∷ i) (end ∷ o))
+    (waits : AlsoBefore (λ p. P (p, None)) Pending Pending) (ended : AlsoBefore (λ p. P (p, None)) end end)
     (made : (p r : F) (x : A) (v : V) (i : List (Answer A)) (b : Answer B) (o : List (Answer B)) → call p x v r
     → P (r, Some v) i (b ∷ o) → P (p, None) (item x ∷ i) (b ∷ o)) where
   module _ (p : F) (v : V) (i : List (Answer A)) (o : List (Answer B))
@@ -53,7 +51,7 @@ module _ {F A V B : Type 0} (call : Question F A V) (gives : V → List (Answer 
   expands_by p (Pending ∷ i) (b ∷ o) c = rw c.0 (waits p i o (expands_by p i o c.1))
   expands_by p (Ready None ∷ i) (b ∷ o) c = rw c.0 (ended p i o (expands_by p i o c.1))
   expands_by p (Ready (Some x) ∷ i) (b ∷ o) c =
-      made p c.1 x c.0 i b o c.2 (held_by c.1 c.0 i (b ∷ o) (expands_by c.1 i) c.3)
+      made p c.1 x c.0 i b o c.2 (held_by c.1 c.0 i _ (expands_by c.1 i) c.3)
   expands_by p _ _ h = absurd h
 
   pub expanding_by : (s : F × Option V) (i : List (Answer A)) (o : List (Answer B)) → Expanding call gives s i o t
@@ -67,7 +65,7 @@ module _ {F A V B : Type 0} (call : Question F A V) (gives : V → List (Answer 
   module _ (t : F × Option V) (p : F) (v w : V) (j : List (Answer A)) (l m : List (Answer B))
       (ran : gives v l (Some w)) where
     begun : Expanding call gives (p, Some w) j m t → Expanding call gives (p, Some v) j (l ++ m) t
-    begun (inl k) = inl (k.0, k.1, k.2, g.joins v w (Some k.2) l m ran k.3, k.4)
+    begun (inl k) = inl (k.0, k.1, k.2, g.joins v w _ l m ran k.3, k.4)
     begun (inr k) =
         inr (l ++ k.0, k.1, ap (λ n. l ++ n) k.2 ∙ sym (append_assoc l k.0 k.1), g.joins v w None l k.0 ran k.3, k.4)
 
@@ -111,17 +109,19 @@ module _ {S F A V B : Type 0} (run : Runs (Answer A) S) (call : Question F A V)
       → Through run (Expanding call gives) s (f, Some v) (b ∷ []) s (f, left)
   held_answers s f v b left came given = record { ins = []; came = came; related = one_given f v b left given }
 
-  -- of what is made of an item
-  pub made_answers : (s t : S) (f g : F) (a : Answer A) (x : A) (v : V) (b : Answer B) (left : Option V) → a ≡ item x
-      → run s (a ∷ []) t → call f x v g
-      → gives v (b ∷ []) left → Through run (Expanding call gives) s (f, None) (b ∷ []) t (g, left)
-  made_answers s t f g a x v b left is came called given =
-      record { ins = item x ∷ []; came = rw is at came; related = (v, g, called, one_given g v b left given) }
+  -- where nothing is held, of what is made of an item
+  pub made_answers : {s t : S} {f g : F} {held left : Option V} {a : Answer A} {x : A} {v : V} {b : Answer B}
+      → held ≡ None → a ≡ item x → run s (a ∷ []) t → call f x v g → gives v (b ∷ []) left
+      → Through run (Expanding call gives) s (f, held) (b ∷ []) t (g, left)
+  made_answers {g} {left} {x} {v} {b} none is came called given =
+      rw none
+      (record { ins = item x ∷ []; came = rw is at came; related = (v, g, called, one_given g v b left given) })
 
   -- of the source, which is pending
-  pub none_answers : (s t : S) (f : F) (a : Answer A) → a ≡ Pending → run s (a ∷ []) t
-      → Through run (Expanding call gives) s (f, None) (Pending ∷ []) t (f, None)
-  none_answers s t f a is came = record { ins = Pending ∷ []; came = rw is at came; related = (refl, (refl, refl)) }
+  pub none_answers : {s t : S} {f : F} {held : Option V} {a : Answer A} → held ≡ None → a ≡ Pending → run s (a ∷ []) t
+      → Through run (Expanding call gives) s (f, held) (Pending ∷ []) t (f, held)
+  none_answers none is came =
+      rw none (record { ins = Pending ∷ []; came = rw is at came; related = (refl, (refl, refl)) })
 
 module _ {B : Type 0} where
   waiting_bounded : (l : List (Answer B)) → Waiting l → before_end l ≤ 0
@@ -136,15 +136,14 @@ module _ {B : Type 0} where
 
 module _ {F A V B : Type 0} (call : Question F A V) (gives : V → List (Answer B) → Option V → Type 0)
     (g : GivingOne gives) where
-  module _ (s t : F × Option V) where
-    pub expanding_bounded : (i : List (Answer A)) (o : List (Answer B)) → Expanding call gives s i o t
-        → before_end o ≤ before_end i + count_held s.1
-    expanding_bounded =
-        expanding_by call gives t (λ s i o. before_end o ≤ before_end i + count_held s.1) (λ e. omega arith)
-        (λ v w o ran e. omega (arith, waiting_bounded o (g.waits v w o ran)))
-        (λ p v i own rest ran k. let h = g.hands v own ran in omega (arith, k, one_bounded own rest h.0 h.1))
-        (λ p i o k. k) (λ p i o k. omega arith) (λ p r x v i b o called k. omega (arith, k)) s
+  pub expanding_bounded : Entails (Expanding call gives) (λ s i o t. before_end o ≤ before_end i + count_held s.1)
+  expanding_bounded s t =
+      expanding_by call gives t (λ s i o. before_end o ≤ before_end i + count_held s.1) (λ e. omega arith)
+      (λ v w o ran e. omega (arith, waiting_bounded o (g.waits v w o ran)))
+      (λ p v i own rest ran k. let h = g.hands v own ran in omega (arith, k, one_bounded own rest h.0 h.1))
+      (λ p i o k. k) (λ p i o k. omega arith) (λ p r x v i b o called k. omega (arith, k)) s
 
+  module _ (s t : F × Option V) where
     expanding_lowers : (i : List (Answer A)) (o : List (Answer B)) (xs us : List ℕ) → Expanding call gives s i o t
         → Lowers i xs us → Lowers o (held_rank xs t.1) (held_rank us s.1)
     expanding_lowers i o xs us =
@@ -155,14 +154,13 @@ module _ {F A V B : Type 0} (call : Question F A V) (gives : V → List (Answer 
         (λ p i o k. k) (λ p i o k. k)
         (λ p r x v i b o called k h. Lowers-below (b ∷ o) _ _ (held_first xs us t.1 None h)) s i o
 
-    -- where items came out, only items came in
-    expanding_items : (i : List (Answer A)) (o : List (Answer B)) → Expanding call gives s i o t
-        → AllByRecursion IsItem o → AllByRecursion IsItem i
-    expanding_items =
-        expanding_by call gives t (λ s i o. AllByRecursion IsItem o → AllByRecursion IsItem i) (λ e h. tt)
-        (λ v w o ran e h. tt) (λ p v i own rest ran k h. k (all_split IsItem own rest h).1)
-        (λ p i o k h. let e = h.0.1 in cc) (λ p i o k h. let e = h.0.1 in cc)
-        (λ p r x v i b o called k h. ((x, refl), k h)) s
+  -- where items came out, only items came in
+  expanding_items : Entails (Expanding call gives) (λ s i o t. AllByRecursion IsItem o → AllByRecursion IsItem i)
+  expanding_items s t =
+      expanding_by call gives t (λ s i o. AllByRecursion IsItem o → AllByRecursion IsItem i) (λ e h. tt)
+      (λ v w o ran e h. tt) (λ p v i own rest ran k h. k (all_split IsItem own rest h).1)
+      (λ p i o k h. let e = h.0.1 in cc) (λ p i o k h. let e = h.0.1 in cc)
+      (λ p r x v i b o called k h. ((x, refl), k h)) s
 
   -- where nothing came in, they came of what was held
   none_held : (p : F) (t : F × Option V) (o : List (Answer B)) → Expands call gives p [] o t.0 t.1 → t.1 ≡ None
@@ -172,7 +170,7 @@ module _ {F A V B : Type 0} (call : Question F A V) (gives : V → List (Answer 
   alone : (s t : F × Option V) (y : B) (l : List B) → Expanding call gives s [] (items (y ∷ l)) t → (t.1 ≡ None)
       × (v : V) × (s.1 ≡ Some v)
   alone (p, None) t y l c = absurd c
-  alone (p, Some v) t y l (inl c) = absurd (g.waits v c.2 (items (y ∷ l)) c.3)
+  alone (p, Some v) t y l (inl c) = absurd (g.waits v c.2 _ c.3)
   alone (p, Some v) t y l (inr c) = (none_held p t c.1 c.4, v, refl)
 
   expanding_falls : (s t : F × Option V) (i : List (Answer A)) (y : B) (l : List B) (xs us : List ℕ)
@@ -200,18 +198,13 @@ module _ {M S F A V B : Type 0} (p : AdapterParts M S (F × Option V)) {call : Q
       → Counting (Adapts p run (Expanding call gives)) (held_ranks p r)
   held_counting laws c g =
       record {
-        sized = λ x. held_sized (r.rank (p.source x)) (p.held x).1 (c.sized (p.source x));
-        counts_on = λ x y l k h. c.counts_on (p.source x) (p.source y) h.ins k h.came;
-        firm_on = λ x y l k h. c.firm_on (p.source x) (p.source y) h.ins k h.came;
+        sized = λ x. held_sized _ _ (c.sized _);
+        counts_on = λ x y l k h. c.counts_on _ _ h.ins k h.came;
+        firm_on = λ x y l k h. c.firm_on _ _ h.ins k h.came;
         falls = λ x y a more k h.
-            expanding_falls call gives g (p.held x) (p.held y) h.ins a more (r.rank (p.source y)) (r.rank (p.source x))
-            (λ b before e. c.falls (p.source x) (p.source y) b before k
-            (rw e at h.came))
-            (λ e. ap r.rank
-            (laws.stays (p.source x) (p.source y)
-            (rw e at h.came))) h.related;
+            expanding_falls call gives g _ _ h.ins a more _ _
+            (λ b before e. c.falls _ _ b before k (rw e at h.came))
+            (λ e. ap r.rank (laws.stays _ _ (rw e at h.came))) h.related;
         lowers = λ x y l k h.
-            expanding_lowers call gives g (p.held x) (p.held y) h.ins l (r.rank (p.source y))
-            (r.rank (p.source x)) h.related
-            (c.lowers (p.source x) (p.source y) h.ins k h.came);
+            expanding_lowers call gives g _ _ h.ins l _ _ h.related (c.lowers _ _ h.ins k h.came);
       }

@@ -6,6 +6,7 @@ use Rattle.futures.specs.declared.task.Poll.TheVariants.{Ready}
 use Rattle.lite_base.specs.Alike.{OptionBy, SameItem, Sameness}
 use Rattle.lite_base.specs.Answers.{Answer, item}
 use Rattle.lite_base.specs.Calm.{CalmLaws}
+use Rattle.lite_base.specs.Laws.Calm.{calm_both}
 use Rattle.lite_base.specs.Ends.{Terminates}
 use Rattle.lite_base.specs.Falling.{ItemRun}
 use Rattle.lite_base.specs.Ranks.{Counting, Ranks, ranks_of}
@@ -56,7 +57,7 @@ module _ {F A V : Type 0} (g : Mut F (A × Unit {0}) V) (Fact : V → Type 0) wh
   made_has : (f h : F) (i : List (Answer A)) (o : List (Answer V)) → Replaces (Calls g) f i o h → MakesAlways g Fact f
       → AllByRecursion (OfItem Fact) o × MakesAlways g Fact h
   made_has f h =
-      exchanges_steps (Always (Calls g)) h
+      exchanges_steps _ h
       (λ f i o. MakesAlways g Fact f → AllByRecursion (OfItem Fact) o × MakesAlways g Fact h) (λ k. (tt, k))
       (λ f i o k always. let r = k always in ((λ v e. cc e, r.0), r.1))
       (λ f i o k always. let r = k always in ((λ v e. cc e, r.0), r.1))
@@ -68,8 +69,8 @@ module _ {F A V : Type 0} (g : Mut F (A × Unit {0}) V) (Fact : V → Type 0) wh
     each_made x held each = (
       each.0,
       λ y before after v h.
-          let made = (made_has x.f y.f h.ins (before ++ item v ∷ after) h.related each.1).0 in
-          (all_split (OfItem Fact) before (item v ∷ after) made).1.0 v refl,
+          let made = (made_has x.f y.f h.ins _ h.related each.1).0 in
+          (all_split _ before _ made).1.0 v refl,
     )
 
     pub made_promises : (x y : FlatMap S V F) (l : List (Answer B)) → EachMade g Fact x.stream.f x.inner_stream
@@ -78,25 +79,23 @@ module _ {F A V : Type 0} (g : Mut F (A × Unit {0}) V) (Fact : V → Type 0) wh
     made_promises x y l each h = (made_has x.stream.f y.stream.f h.came.ins h.ins h.came.related each.1).1
 
     each_made_on : ((b c : V) (l : List (Answer B)) → Fact b → run' b l c → Fact c)
-        → ((x y z : Map S F) (l m : List (Answer V)) → Maps run (Calls g) x l y → Maps run (Calls g) y m z
-        → Maps run (Calls g) x (l ++ m) z)
+        → {hints : Hints (Map S F)} → StreamLaws (Maps run (Calls g)) hints
         → (x y : FlatMap S V F) (l : List (Answer B)) → EachMade g Fact x.stream.f x.inner_stream
         → FlatMaps run g run' x l y
         → EachMade g Fact y.stream.f y.inner_stream
-    each_made_on kept follows x y l each h =
+    each_made_on kept laws x y l each h =
         let made = each_made x.stream x.inner_stream each in
-        let inner = each_inner_on run'
-        (Maps run (Calls g)) Fact kept follows x.stream y.stream x.inner_stream y.inner_stream l made h in
+        let inner = each_inner_on run' _ Fact kept laws _ _ _ _ l made h in
         (inner.0, made_promises x y l each h)
 
 module _ {S F A V : Type 0} (g : Mut F (A × Unit {0}) V) {run : Runs (Answer A) S} where
   outer_laws : {hints : Hints S} → StreamLaws run hints
       → StreamLaws (Maps run (Calls g)) (λ (m : Map S F) hint. hints m.stream hint)
-  outer_laws laws = laws_hinted map_parts laws (replaces_relating (Calls g))
+  outer_laws laws = laws_hinted map_parts laws (replaces_relating _)
 
   module _ {r : Ranks S} (c : Counting run r) where
     outer_counting : Counting (Maps run (Calls g)) (ranks_of (λ (m : Map S F). m.stream) r)
-    outer_counting = through_counting map_parts c (replaces_relating (Calls g))
+    outer_counting = through_counting map_parts c (replaces_relating _)
 
     -- no chain of items that are made is endless
     pub made_end : (x : Map S F) → r.counts x.stream → Terminates (ItemRun (Maps run (Calls g))) x
@@ -115,10 +114,10 @@ module _ {S F A V : Type 0} (g : Mut F (A × Unit {0}) V) {run : Runs (Answer A)
         record {
           sized = all.sized;
           counts_on = λ x y l k h.
-              let made = each_made_on g r'.counts run run' c'.counts_on outer.follows x y l k.1 h in
+              let made = each_made_on g r'.counts run run' c'.counts_on outer x y l k.1 h in
               (c.counts_on x.stream.stream y.stream.stream h.came.ins k.0 h.came.came, made);
           firm_on = λ x y l k h.
-              let made = each_made_on g r'.firm run run' c'.firm_on outer.follows x y l k.1 h in
+              let made = each_made_on g r'.firm run run' c'.firm_on outer x y l k.1 h in
               (c.firm_on x.stream.stream y.stream.stream h.came.ins k.0 h.came.came, made);
           falls = λ x y a more k h. all.falls x y a more
               (k.0, each_made g r'.counts run run' x.stream x.inner_stream k.1) h;
@@ -136,10 +135,10 @@ module _ {S F A V B : Type 0} (g : Mut F (A × Unit {0}) V) {run ample : Runs (A
       alike x.stream.stream y.stream.stream × AgreeFrom (SameItem like) alike' (Calls g) x.stream.f y.stream.f
       × OptionBy alike' x.inner_stream y.inner_stream)
   flat_map_steady like same s =
-      let outer = through_steady_over map_parts like (Answering like (Calls g)) s
-      (replaces_relating (Calls g)).following (replaces_answering (Calls g) like) in
-      let made = replaces_agreeing (Calls g) like (Sameness.by alike')
-      (agree_from_matches (SameItem like) alike' (Calls g)) in
+      let outer = through_steady_over map_parts like _ s
+      (replaces_relating _).following (replaces_answering _ like) in
+      let made = replaces_agreeing _ like (Sameness.by alike')
+      (agree_from_matches _ alike' _) in
       flattening_steady flat_map_parts same
       (λ x y e. (
         through_alike map_parts x.stream y.stream (s.steady x.stream.stream y.stream.stream e.0) e.1 made,
@@ -156,10 +155,9 @@ pub flat_map_calm : {S F A V B : Type 0} (g : Mut F (A × Unit {0}) V) {run : Ru
 flat_map_calm g {run} {run'} {calm} laws c d =
     let outer = outer_laws g laws in
     let all =
-    flattening_calm d flat_map_parts outer.follows (through_calm map_parts c (replaces_calming (Calls g))) in
-    record {
-      no_pending = λ x y l k h. all.no_pending x y l (k.0, each_made g calm run run' x.stream x.inner_stream k.1) h;
-      calm_on = λ x y l k h.
-          let made = each_made_on g calm run run' d.calm_on outer.follows x y l k.1 h in
-          (c.calm_on x.stream.stream y.stream.stream h.came.ins k.0 h.came.came, made);
-    }
+    flattening_calm d flat_map_parts outer (through_calm map_parts c (replaces_calming _)) in
+    calm_both
+    (λ x y l k h. (
+      all.no_pending x y l (k.0, each_made g calm run run' x.stream x.inner_stream k.1) h,
+      (c.calm_on _ _ h.came.ins k.0 h.came.came, each_made_on g calm run run' d.calm_on outer x y l k.1 h),
+    ))

@@ -25,7 +25,7 @@ use Rattle.lite_reshape.specs.Inner.{EachInner, FlatStep, FlatSteps, GivesOne, T
 use Rattle.lite_reshape.specs.Laws.Before.{not_empty, own_lowers}
 use Rattle.lite_reshape.specs.Laws.Zeros.{zeros_least}
 use Rattle.lite_stream.specs.Laws.Lower.{at_most_below, lowers_after, lowers_at_most}
-use Rattle.lite_stream.specs.Laws.Through.{Following}
+use Rattle.lite_stream.specs.Laws.Through.{Entails, Following}
 use Rattle.lite_stream.specs.Through.{AdapterParts, Adapts, Through}
 
 -- by induction on what comes in, as expanding_by: of an inner stream that is held, to the last or until it is done
@@ -43,13 +43,13 @@ module _ {B A : Type 0} (run : Runs (Answer A) B) (last : Option B)
       (rest : (m : List (Answer A)) → Flat run i m last → P None i m) where
     inner_by : Flattening run (Some b) i l last → P (Some b) i l
     inner_by (inl h) = rw h.0 (still b h.2 l h.1 h.3 h.4)
-    inner_by (inr h) = rw h.3 (done b h.5 i h.0 h.1 h.2 h.4 h.6 (rest (h.1 ∷ h.2) h.7))
+    inner_by (inr h) = rw h.3 (done b h.5 i h.0 h.1 h.2 h.4 h.6 (rest _ h.7))
 
   flat_by : (i : List (Answer B)) (l : List (Answer A)) → Flat run i l last → P None i l
   flat_by [] [] h = nothing h
   flat_by (Pending ∷ i) (a ∷ l) h = rw h.0 (waits i l (flat_by i l h.1))
   flat_by (Ready None ∷ i) (a ∷ l) h = rw h.0 (ended i l (flat_by i l h.1))
-  flat_by (Ready (Some b) ∷ i) (a ∷ l) h = taken b i a l (inner_by b i (a ∷ l) (flat_by i) h)
+  flat_by (Ready (Some b) ∷ i) (a ∷ l) h = taken b i a l (inner_by b i _ (flat_by i) h)
   flat_by _ _ h = absurd h
 
   pub flattening_by : (held : Option B) (i : List (Answer B)) (l : List (Answer A)) → Flattening run held i l last
@@ -69,10 +69,10 @@ module _ {B A : Type 0} {run : Runs (Answer A) B} (laws : RunLaws run) where
           l ++ k.0,
           k.1,
           k.2,
-          ap (λ n. l ++ n) k.3 ∙ sym (append_assoc l k.0 (k.1 ∷ k.2)),
+          ap (λ n. l ++ n) k.3 ∙ sym (append_assoc l k.0 _),
           endless_join l k.0 endless k.4,
           k.5,
-          rw append_assoc (laws.follows b c k.5 l (k.0 ++ end ∷ []) ran k.6),
+          rw append_assoc (laws.follows b c k.5 l _ ran k.6),
           k.7,
         )
 
@@ -126,7 +126,7 @@ module _ {S B A : Type 0} (run : Runs (Answer A) B) (outer : Runs (Answer B) S) 
     step_before x y z a h m =
         record {
           ins = item h.next ∷ m.ins;
-          came = laws.follows x.0 y.0 z.0 (item h.next ∷ []) m.ins h.gave m.came;
+          came = laws.follows x.0 y.0 z.0 _ m.ins h.gave m.came;
           related = before_taken x.1 z.1 h.next m.ins a h.ended
               (rw h.held at m.related);
         }
@@ -136,18 +136,18 @@ module _ {S B A : Type 0} (run : Runs (Answer A) B) (outer : Runs (Answer B) S) 
         → Reaches (NextStep (FlatSteps run outer p can_step)) x y → FlatSteps run outer p can_step y (Some a) z
         → Adapts p outer (Flattening run) x (a ∷ []) z
     flat_answer p can_step x y z a goes last =
-        Reaches-back (λ m. Adapts p outer (Flattening run) m (a ∷ []) z)
+        Reaches-back _
         (λ v w t. step_before (p.source v, p.held v) (p.source w, p.held w) (p.source z, p.held z) a t.1)
         x y goes (step_answers (p.source y, p.held y) (p.source z, p.held z) a last.1)
 
 -- what holds of each inner stream that may come holds of each that may come later
-pub to_come : {S B : Type 0} {outer : Runs (Answer B) S} {Fact : B → Type 0}
-    → ((x y z : S) (l m : List (Answer B)) → outer x l y → outer y m z → outer x (l ++ m) z)
-    → (s t : S) (held : Option B) (i : List (Answer B)) → EachInner outer Fact s held → outer s i t
+pub to_come : {S B : Type 0} {outer : Runs (Answer B) S} {Fact : B → Type 0} {hints : Hints S}
+    → StreamLaws outer hints → (s t : S) (held : Option B) (i : List (Answer B)) → EachInner outer Fact s held
+    → outer s i t
     → (u : S) (before after : List (Answer B)) (b : B)
     → outer t (before ++ item b ∷ after) u → Fact b
-to_come follows s t held i each came u before after b h =
-    each.1 u (i ++ before) after b (rw append_assoc (follows s t u i (before ++ item b ∷ after) came h))
+to_come laws s t held i each came u before after b h =
+    each.1 u (i ++ before) after b (rw append_assoc (laws.follows s t u i _ came h))
 
 -- and of each that came
 pub have_come : {S B : Type 0} (outer : Runs (Answer B) S) (Fact : B → Type 0) (s t : S) (held : Option B)
@@ -164,21 +164,20 @@ module _ {S B A : Type 0} (run : Runs (Answer A) B) (outer : Runs (Answer B) S) 
 
   module _ (Fact : B → Type 0) (kept : (b c : B) (l : List (Answer A)) → Fact b → run b l c → Fact c) where
     -- a fact that runs keep holds of what is held at last
-    last_has : (held last : Option B) (i : List (Answer B)) (l : List (Answer A)) → Flattening run held i l last
-        → IfSome held Fact → AllByRecursion (OfItem Fact) i → IfSome last Fact
+    last_has : Entails (Flattening run) (λ f i l g. IfSome f Fact → AllByRecursion (OfItem Fact) i → IfSome g Fact)
     last_has held last =
         flattening_by run last (λ f i l. IfSome f Fact → AllByRecursion (OfItem Fact) i → IfSome last Fact)
         (λ e k each. rw e tt) (λ b c l n ran e k each. rw e (kept b c l k ran)) (λ b c i own a rest n ran h k. h tt)
         (λ i l h k each. h tt each.1) (λ i l h k each. h tt each.1) (λ b i a l h k each. h (each.0 b refl) each.1)
         held
 
-    pub each_inner_on : ((x y z : S) (l m : List (Answer B)) → outer x l y → outer y m z → outer x (l ++ m) z)
+    pub each_inner_on : {hints : Hints S} → StreamLaws outer hints
         → (s t : S) (held last : Option B) (l : List (Answer A)) → EachInner outer Fact s held
         → Through outer (Flattening run) s held l t last
         → EachInner outer Fact t last
-    each_inner_on follows s t held last l each h = (
+    each_inner_on laws s t held last l each h = (
       last_has held last h.ins l h.related each.0 (have_come outer Fact s t held h.ins each h.came),
-      to_come follows s t held h.ins each h.came,
+      to_come laws s t held h.ins each h.came,
     )
 
 -- ranks
@@ -196,21 +195,20 @@ module _ {B A : Type 0} (run : Runs (Answer A) B) (n : ℕ) (rank : B → List �
   same_size g f = inner_sized g ∙ sym (inner_sized f)
 
   -- where items came out, only items came in
-  module _ (f g : Option B) where
-    flattening_items : (i : List (Answer B)) (l : List (Answer A)) → Flattening run f i l g → AllByRecursion IsItem l
-        → AllByRecursion IsItem i
-    flattening_items =
-        flattening_by run g (λ f i l. AllByRecursion IsItem l → AllByRecursion IsItem i) (λ e h. tt)
-        (λ b c l n ran e h. tt) (λ b c i own a rest n ran k h. k (all_split IsItem own (a ∷ rest) h).1)
-        (λ i l k h. let e = h.0.1 in cc) (λ i l k h. let e = h.0.1 in cc)
-        (λ b i a l k h. ((b, refl), k h)) f
+  flattening_items : Entails (Flattening run) (λ f i l g. AllByRecursion IsItem l → AllByRecursion IsItem i)
+  flattening_items f g =
+      flattening_by run g (λ f i l. AllByRecursion IsItem l → AllByRecursion IsItem i) (λ e h. tt)
+      (λ b c l n ran e h. tt) (λ b c i own a rest n ran k h. k (all_split IsItem own _ h).1)
+      (λ i l k h. let e = h.0.1 in cc) (λ i l k h. let e = h.0.1 in cc)
+      (λ b i a l k h. ((b, refl), k h)) f
 
+  module _ (f g : Option B) where
     flat_falls : (i : List (Answer B)) (y : A) (l : List A) (xs us : List ℕ)
         → ((b : B) (before : List B) → i ≡ items (b ∷ before) → Below xs us) → (i ≡ [] → xs ≡ us)
         → ((b c : B) → f ≡ Some b → run b (items (y ∷ l)) c → Below (rank c) (rank b))
         → Flattening run f i (items (y ∷ l)) g → Below (xs ++ Inner g) (us ++ Inner f)
     flat_falls i y l xs us falls same inner h =
-        at_start (each_items i (flattening_items i (items (y ∷ l)) h (items_each (y ∷ l))))
+        at_start (each_items i (flattening_items f g i (items (y ∷ l)) h (items_each (y ∷ l))))
       where
         alone : (f : Option B) → i ≡ [] → ((b c : B) → f ≡ Some b → run b (items (y ∷ l)) c → Below (rank c) (rank b))
             → Flattening run f [] (items (y ∷ l)) g → Below (xs ++ Inner g) (us ++ Inner f)
@@ -227,14 +225,14 @@ module _ {B A : Type 0} (run : Runs (Answer A) B) (n : ℕ) (rank : B → List �
   ended_lowers : (b c : B) (own rest : List (Answer A)) (xs us : List ℕ) → Lowers (own ++ end ∷ []) (rank c) (rank b)
       → Lowers rest xs (us ++ replicate n 0) → Lowers (own ++ rest) xs (us ++ rank b)
   ended_lowers b c own rest xs us low h =
-      own_lowers own (end ∷ []) rest (rank c) (rank b) xs (us ++ rank b) low
+      own_lowers own _ rest _ _ xs _ low
       (λ _.
-      let least = AtMost-both us us (replicate n 0) (rank b) (inl refl) (zeros_least n (rank b) (sized b)) in
-      lowers_at_most rest xs (us ++ replicate n 0) (us ++ rank b) h least)
+      let least = AtMost-both us us _ _ (inl refl) (zeros_least n _ (sized b)) in
+      lowers_at_most rest xs _ _ h least)
       (λ below.
-      let gone = at_most_below (replicate n 0) (rank c) (rank b) (zeros_least n (rank c) (sized c)) below in
-      at_most_below xs (us ++ replicate n 0) (us ++ rank b) (Lowers-at_most rest xs (us ++ replicate n 0) h)
-      (Below-then us (replicate n 0) (rank b) gone))
+      let gone = at_most_below _ _ _ (zeros_least n _ (sized c)) below in
+      at_most_below xs (us ++ replicate n 0) _ (Lowers-at_most rest xs _ h)
+      (Below-then us _ _ gone))
 
   flat_lowers : (firm : B → Type 0) (f g : Option B) (i : List (Answer B)) (l : List (Answer A)) (xs us : List ℕ)
       → ((b c : B) (m : List (Answer A)) → firm b → run b m c → Lowers m (rank c) (rank b)) → Flattening run f i l g
@@ -244,9 +242,9 @@ module _ {B A : Type 0} (run : Runs (Answer A) B) (n : ℕ) (rank : B → List �
       (λ e k h. rw e (AtMost-both xs us (replicate n 0) (replicate n 0) h (inl refl)))
       (λ b c l m ran e k h. rw e (lowers_after l xs us (rank c) (rank b) h (inner b c l k ran)))
       (λ b c i own a rest m ran k d h.
-      ended_lowers b c own (a ∷ rest) (xs ++ Inner g) us (inner b c (own ++ end ∷ []) d ran) (k tt h))
+      ended_lowers b c own (a ∷ rest) (xs ++ Inner g) us (inner b c _ d ran) (k tt h))
       (λ i l k d. k tt) (λ i l k d. k tt)
-      (λ b i a l k d h. Lowers-below (a ∷ l) _ _ (Below-first xs us (Inner g) (replicate n 0) h (same_size g None))) f
+      (λ b i a l k d h. Lowers-below (a ∷ l) _ _ (Below-first xs us _ _ h (same_size g None))) f
       i l
 
 held_has : {B : Type 0} (Fact : B → Type 0) {held : Option B} {b : B} → IfSome held Fact → held ≡ Some b → Fact b
@@ -259,26 +257,23 @@ module _ {B A : Type 0} {run : Runs (Answer A) B} where
   flattening_counting p {outer} {r} {r'} laws c c' =
       record {
         sized = λ x.
-            length-append (r.rank (p.source x)) _ ∙ omega
-            (arith, c.sized (p.source x), inner_sized run r'.width r'.rank c'.sized (p.held x));
+            length-append (r.rank _) _
+            ∙ omega (arith, c.sized (p.source x), inner_sized run r'.width r'.rank c'.sized (p.held x));
         counts_on = λ x y l k h. (
-          c.counts_on (p.source x) (p.source y) h.ins k.0 h.came,
-          each_inner_on run outer r'.counts c'.counts_on laws.follows (p.source x) (p.source y) (p.held x)
-              (p.held y) l k.1 h,
+          c.counts_on _ _ h.ins k.0 h.came,
+          each_inner_on run outer r'.counts c'.counts_on laws _ _ _ _ l k.1 h,
         );
         firm_on = λ x y l k h. (
-          c.firm_on (p.source x) (p.source y) h.ins k.0 h.came,
-          each_inner_on run outer r'.firm c'.firm_on laws.follows (p.source x) (p.source y) (p.held x) (p.held y)
-              l k.1 h,
+          c.firm_on _ _ h.ins k.0 h.came,
+          each_inner_on run outer r'.firm c'.firm_on laws _ _ _ _ l k.1 h,
         );
         falls = λ x y a more k h.
             let came = λ (i : List (Answer _)) (e : h.ins ≡ i). rw e at h.came in
-            flat_falls run r'.width r'.rank c'.sized (p.held x) (p.held y) h.ins a more (r.rank (p.source y))
-            (r.rank (p.source x))
-            (λ b before e. c.falls (p.source x) (p.source y) b before k.0 (came (items (b ∷ before)) e))
-            (λ e. ap r.rank (laws.stays (p.source x) (p.source y) (came [] e)))
+            flat_falls run r'.width r'.rank c'.sized _ _ h.ins a more _ _
+            (λ b before e. c.falls _ _ b before k.0 (came _ e))
+            (λ e. ap r.rank (laws.stays _ _ (came [] e)))
             (λ b d e. c'.falls b d a more (held_has r'.counts k.1.0 e)) h.related;
         lowers = λ x y l k h.
-            flat_lowers run r'.width r'.rank c'.sized r'.firm (p.held x) (p.held y) h.ins l (r.rank (p.source y))
-            (r.rank (p.source x)) c'.lowers h.related k.1.0 (c.lowers (p.source x) (p.source y) h.ins k.0 h.came);
+            flat_lowers run r'.width r'.rank c'.sized r'.firm _ _ h.ins l _ _
+            c'.lowers h.related k.1.0 (c.lowers _ _ h.ins k.0 h.came);
       }

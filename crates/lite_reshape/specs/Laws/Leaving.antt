@@ -12,16 +12,15 @@ use Rattle.lite_base.specs.Runs.{Question}
 use Rattle.lite_base.specs.Segments.{OneAnswer, Segment}
 use Rattle.lite_reshape.specs.Leaving.{LeavesOut, Passes, Rejects}
 use Rattle.lite_stream.specs.Laws.Calming.{Calming}
-use Rattle.lite_stream.specs.Laws.Through.{Relating}
+use Rattle.lite_stream.specs.Laws.Through.{AlsoBefore, Entails, Relating}
 
 -- what holds of each answer that goes out, and of each item that is rejected, holds of each answer that came in
 pub leaves_each : {F A B : Type 0} (call : Question F A (Option B)) (P : Answer A → Type 0) (Q : Answer B → Type 0)
     → ((p q : F) (a : Answer A) (b : Answer B) → Passes call p a b q → Q b → P a)
     → ((p q : F) (x : A) → call p x None q → P (item x))
-    → (f g : F) (i : List (Answer A)) (o : List (Answer B)) → LeavesOut call f i o g → AllByRecursion Q o
-    → AllByRecursion P i
+    → Entails (LeavesOut call) (λ f i o g. AllByRecursion Q o → AllByRecursion P i)
 leaves_each call P Q passed rejected f g i o =
-    answers_by item (Rejects call) (Passes call) (λ p i o. AllByRecursion Q o → AllByRecursion P i)
+    answers_by item _ _ (λ p i o. AllByRecursion Q o → AllByRecursion P i)
     (λ p m x i b o t h e. (rejected p m x t.rejected, h e)) (λ p m a i b o t h e. (passed p m a b t e.0, h e.1)) f g i o
     (λ e. e)
 
@@ -29,8 +28,7 @@ leaves_each call P Q passed rejected f g i o =
 module _ {F A B : Type 0} (call : Question F A (Option B)) (P : F → List (Answer A) → List (Answer B) → Type 0)
     (rejected : (p m : F) (x : A) (i : List (Answer A)) (b : Answer B) (o : List (Answer B)) → call p x None m
     → P m i (b ∷ o) → P p (item x ∷ i) (b ∷ o))
-    (waits : (p : F) (i : List (Answer A)) (o : List (Answer B)) → P p i o → P p (Pending ∷ i) (Pending ∷ o))
-    (ended : (p : F) (i : List (Answer A)) (o : List (Answer B)) → P p i o → P p (end ∷ i) (end ∷ o))
+    (waits : AlsoBefore P Pending Pending) (ended : AlsoBefore P end end)
     (kept : (p m : F) (x : A) (i : List (Answer A)) (y : B) (o : List (Answer B)) → call p x (Some y) m → P m i o
     → P p (item x ∷ i) (item y ∷ o)) where
   module _ (p m : F) (a : Answer A) (i : List (Answer A)) where
@@ -42,7 +40,7 @@ module _ {F A B : Type 0} (call : Question F A (Option B)) (P : F → List (Answ
   pub leaves_steps : (f g : F) (i : List (Answer A)) (o : List (Answer B)) → P g [] [] → LeavesOut call f i o g
       → P f i o
   leaves_steps f g i o =
-      answers_by item (Rejects call) (Passes call) P (λ p m x i b o t. rejected p m x i b o t.rejected) passed f g i o
+      answers_by item _ _ P (λ p m x i b o t. rejected p m x i b o t.rejected) passed f g i o
 
 module _ {F A B : Type 0} (call : Question F A (Option B)) where
   module _ (f g : F) (i : List (Answer A)) (o : List (Answer B)) where
@@ -69,7 +67,7 @@ module _ {F A B : Type 0} (call : Question F A (Option B)) where
         following = record {
           starts = λ f. (refl, refl);
           empty = λ f g i c. c;
-          joins = segments_join (Segment item (Rejects call) (OneAnswer (Passes call)));
+          joins = segments_join (Segment item _ _);
         };
         bounds = leaves_bounded;
         lowers = leaves_lowers;
@@ -97,21 +95,21 @@ leaves_as {G} call other Goes also p q n i o g h =
     let d = k e.0 e.1 in (
       d.0,
       d.1,
-      answers_taken item (Rejects other) (Passes other) n e.0 d.0 x i b o (record { rejected = e.2 }) d.2,
+      answers_taken item _ _ n e.0 d.0 x i b o (record { rejected = e.2 }) d.2,
     ))
     (λ p i o k n g.
     let d = k n g in (
       d.0,
       d.1,
-      answers_given item (Rejects other) (Passes other) n n d.0 Pending i Pending o (refl, refl) d.2,
+      answers_given item _ _ n n d.0 Pending i Pending o (refl, refl) d.2,
     ))
     (λ p i o k n g.
     let d = k n g in
-    (d.0, d.1, answers_given item (Rejects other) (Passes other) n n d.0 end i end o (refl, refl) d.2))
+    (d.0, d.1, answers_given item _ _ n n d.0 end i end o (refl, refl) d.2))
     (λ p m x i y o t k n g.
-    let e = also p m n x (Some y) g t in
+    let e = also p m n x _ g t in
     let d = k e.0 e.1 in (
       d.0,
       d.1,
-      answers_given item (Rejects other) (Passes other) n e.0 d.0 (item x) i (item y) o (x, refl, e.2) d.2,
+      answers_given item _ _ n e.0 d.0 _ i _ o (x, refl, e.2) d.2,
     )) p q i o (λ n g. (n, g, (refl, refl))) h n g

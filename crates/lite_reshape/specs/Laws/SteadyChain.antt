@@ -34,10 +34,10 @@ module _ {A : Type 0} where
       (strip (own ++ after), refl, own_joined own rest after j (cc e) h)
 
   stripped : (f g : Part) (i j l : List (Answer A)) → Joins f i j l g → JoinsStripped f (strip i) (strip j) (strip l)
-  stripped First g i j l (inl r) = rw r.2 (rw (← (append-nil i)) (own_joined i [] [] (strip j) r.0 refl))
+  stripped First g i j l (inl r) = rw r.2 (rw (← (append-nil i)) (own_joined i [] [] _ r.0 refl))
   stripped First g i j l (inr r) =
       let after = cuts_stripped is_done second_after (λ f n. refl) Second g j (r.next ∷ r.later) r.followed in
-      rw r.through_end (rw r.joined (own_joined r.own (end ∷ []) (r.next ∷ r.later) (strip j) r.endless after))
+      rw r.through_end (rw r.joined (own_joined r.own _ _ _ r.endless after))
   stripped Second g i j l r = cuts_stripped is_done second_after (λ f n. refl) Second g j l r.1
   stripped Done g i j l r = cuts_stripped is_done second_after (λ f n. refl) Done g j l r.1
 
@@ -51,7 +51,7 @@ module _ {A : Type 0} where
     cuts_same : (f : Part) (k h o p : List (Option A)) → CutsStripped is_done second_after f k o
         → CutsStripped is_done second_after f h p → ComparableBy (SameAnswer same) k h
         → ComparableBy (SameAnswer same) o p
-    cuts_same = cut_same is_done second_after (λ f n. refl) (SameAnswer same) (ends_same same)
+    cuts_same = cut_same is_done second_after (λ f n. refl) _ (ends_same same)
         (λ x y f e. second_same x y f (both_items same x y e))
 
     joined_same : (f : Part) (i j k h o p : List (Option A)) → JoinsStripped f i k o → JoinsStripped f j h p
@@ -59,9 +59,9 @@ module _ {A : Type 0} where
         → ComparableBy (SameAnswer same) k h → ComparableBy (SameAnswer same) o p
     joined_same First [] j k h o p r q c d = cc
     joined_same First (x ∷ i) [] k h o p r q c d =
-        rw q (comparable_nil (SameAnswer same) o)
-    joined_same First (None ∷ i) (Some y ∷ j) k h o p r q c d = absurd (both_items same None (Some y) c.0)
-    joined_same First (Some x ∷ i) (None ∷ j) k h o p r q c d = absurd (both_items same (Some x) None c.0)
+        rw q (comparable_nil _ o)
+    joined_same First (None ∷ i) (Some y ∷ j) k h o p r q c d = absurd (both_items same None _ c.0)
+    joined_same First (Some x ∷ i) (None ∷ j) k h o p r q c d = absurd (both_items same _ None c.0)
     joined_same First (Some x ∷ i) (Some y ∷ j) k h o p r q c d =
         rw (r.1, q.1) (c.0, joined_same First i j k h r.0 q.0 r.2 q.2 c.1 d)
     joined_same Done i j k h o p r q c d = cuts_same Done k h o p r q d
@@ -77,13 +77,12 @@ module _ {S U A : Type 0} {run ample : Runs (Answer A) S} {run' ample' : Runs (A
       record {
         laws = chain_runs s.laws u.laws;
         steady = λ x y e l m x' y' h k.
-            joined_same (Either same other) x.part (strip h.firsts) (strip k.firsts) (strip h.seconds) (strip k.seconds)
-            (strip l) (strip m)
+            joined_same _ x.part _ _ _ _ _ _
             (stripped x.part x'.part h.firsts h.seconds l h.joined)
             (rw e.2 at (stripped y.part y'.part k.firsts k.seconds m k.joined))
-            (either_first same other (strip h.firsts) (strip k.firsts)
+            (either_first same other _ _
             (s.steady x.first y.first e.0 h.firsts k.firsts x'.first y'.first h.came k.came))
-            (either_second same other (strip h.seconds) (strip k.seconds)
+            (either_second same other _ _
             (u.steady x.second y.second e.1 h.seconds k.seconds x'.second y'.second h.then_came k.then_came));
         found = λ n x y l h.
             record {

@@ -14,6 +14,7 @@ use Rattle.lite_base.specs.Laws.Alike.{answer_items}
 use Rattle.lite_base.specs.Laws.Calling.{MatchesFrom}
 use Rattle.lite_base.specs.Runs.{Question}
 use Rattle.lite_stream.specs.Laws.Agreeing.{AgreeingOver}
+use Rattle.lite_stream.specs.Laws.Through.{Entails}
 
 module _ {V B : Type 0} {gives : V → List (Answer B) → Option V → Type 0} (one : GivingOne gives) where
   -- alike things are done with items that are the same
@@ -30,17 +31,16 @@ module _ {V B : Type 0} {gives : V → List (Answer B) → Option V → Type 0} 
       × (out ≡ Some (one.hands v l h).0 ∷ more) × follows more)
 
   module _ {F A : Type 0} (call : Question F A V) where
-    placed_from : (s t : F × Option V) (i : List (Answer A)) (o : List (Answer B)) → Expanding call gives s i o t
-        → PlacedFrom call OneInPlace s.0 s.1 (strip i) (strip o)
+    placed_from : Entails (Expanding call gives) (λ s i o t. PlacedFrom call OneInPlace s.0 s.1 (strip i) (strip o))
     placed_from s t =
-        expanding_by call gives t (λ s i o. PlacedFrom call OneInPlace s.0 s.1 (strip i) (strip o)) (λ e. refl)
+        expanding_by call gives t (λ s i o. PlacedFrom call OneInPlace s.0 s.1 _ _) (λ e. refl)
         (λ v w o ran e. inl (waiting_strip o (one.waits v w o ran)))
         (λ p v i own rest ran k. let h = one.hands v own ran in
         inr (
           own,
           ran,
           strip rest,
-          strip_join own rest ∙ ap (λ k. k ++ strip rest) (gives_strip own (Some h.0) h.1),
+          strip_join own rest ∙ ap (λ k. k ++ strip rest) (gives_strip own _ h.1),
           k,
         ))
         (λ p i o k. k) (λ p i o k. (strip o, refl, k)) (λ p r x v i b o called k. (v, r, called, k)) s
@@ -64,8 +64,8 @@ module _ {V B : Type 0} {gives : V → List (Answer B) → Option V → Type 0} 
       pub expanding_agreeing : AgreeingOver like same (Expanding call gives)
           (λ s t. agree s.0 t.0 × OptionBy alike s.1 t.1)
       expanding_agreeing s t s' t' i j o p a r q c =
-          placed_from_same call OneInPlace same m places s.0 t.0 s.1 t.1 (strip i) (strip j) (strip o) (strip p) a.0 a.1
-          (comparable_as (SameAnswer like) (OptionBy (SameItem like)) (answer_items like) (strip i) (strip j) c)
+          placed_from_same call OneInPlace same m places s.0 t.0 s.1 t.1 _ _ _ _ a.0 a.1
+          (comparable_as _ _ (answer_items like) _ _ c)
           (placed_from s s' i o r) (placed_from t t' j p q)
 
 module _ {F A V B : Type 0} (call : Question F A V) {gives gives' : V → List (Answer B) → Option V → Type 0} where
@@ -78,7 +78,7 @@ module _ {F A V B : Type 0} (call : Question F A V) {gives gives' : V → List (
         → Expanding call gives s i o t → Expanding call gives' s i o t
     expanding_found_where s t i o all c =
         expanding_by call gives t (λ s i o. AllByRecursion may o → Expanding call gives' s i o t) (λ e all. (refl, e))
-        (λ v w o ran e all. inl (refl, refl, w, found v o (Some w) all ran, e))
+        (λ v w o ran e all. inl (refl, refl, w, found v o _ all ran, e))
         (λ p v i own rest ran k all. let both = all_split may own rest all in
         inr (own, rest, refl, found v own None both.0 ran, k both.1))
         (λ p i o k all. (refl, k all.1)) (λ p i o k all. (refl, k all.1))
@@ -86,6 +86,5 @@ module _ {F A V B : Type 0} (call : Question F A V) {gives gives' : V → List (
 
   -- and where each list is, whatever its answers
   pub expanding_found : ((v : V) (l : List (Answer B)) (next : Option V) → gives v l next → gives' v l next)
-      → (s t : F × Option V) (i : List (Answer A)) (o : List (Answer B)) → Expanding call gives s i o t
-      → Expanding call gives' s i o t
-  expanding_found found s t i o = expanding_found_where (λ _. ⊤) (λ v l next all. found v l next) s t i o (all_any o)
+      → Entails (Expanding call gives) (Expanding call gives')
+  expanding_found found s t i o = expanding_found_where _ (λ v l next all. found v l next) s t i o (all_any o)

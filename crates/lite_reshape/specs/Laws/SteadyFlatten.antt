@@ -16,7 +16,7 @@ use Rattle.lite_base.specs.Laws.Alike.{answer_items}
 use Rattle.lite_base.specs.StreamLaws.{RunLaws}
 use Rattle.lite_base.specs.Runs.{Runs}
 use Rattle.lite_reshape.specs.Laws.Flatten.{flattening, flattening_by, have_come}
-use Rattle.lite_stream.specs.Laws.Through.{through_runs}
+use Rattle.lite_stream.specs.Laws.Through.{Entails, through_runs}
 use Rattle.lite_stream.specs.Through.{AdapterParts, Adapts}
 
 module _ {A : Type 0} where
@@ -35,14 +35,14 @@ module _ {A : Type 0} where
         → ComparableBy (SameAnswer same) l (m ++ k)
     before_left [] m k n c = tt
     before_left (None ∷ l) m k n c = absurd n
-    before_left (Some x ∷ l) [] k n c = absurd (both_items same (Some x) None c.0)
+    before_left (Some x ∷ l) [] k n c = absurd (both_items same _ None c.0)
     before_left (Some x ∷ l) (y ∷ m) k n c = (c.0, before_left l m k n c.1)
 
     before_right : (l m k : List (Option A)) → AllItems m → ComparableBy (SameAnswer same) (l ++ None ∷ []) m
         → ComparableBy (SameAnswer same) (l ++ k) m
-    before_right l [] k n c = comparable_nil (SameAnswer same) (l ++ k)
+    before_right l [] k n c = comparable_nil _ _
     before_right l (None ∷ m) k n c = absurd n
-    before_right [] (Some y ∷ m) k n c = absurd (both_items same None (Some y) c.0)
+    before_right [] (Some y ∷ m) k n c = absurd (both_items same None _ c.0)
     before_right (x ∷ l) (Some y ∷ m) k n c = (c.0, before_right l m k n c.1)
 
     both_end : (l m k h : List (Option A)) → AllItems l → AllItems m
@@ -50,9 +50,9 @@ module _ {A : Type 0} where
         → ComparableBy (SameAnswer same) k h
         → ComparableBy (SameAnswer same) (l ++ k) (m ++ h)
     both_end [] [] k h n o c d = d
-    both_end [] (Some y ∷ m) k h n o c d = absurd (both_items same None (Some y) c.0)
+    both_end [] (Some y ∷ m) k h n o c d = absurd (both_items same None _ c.0)
     both_end (None ∷ l) m k h n o c d = absurd n
-    both_end (Some x ∷ l) [] k h n o c d = absurd (both_items same (Some x) None c.0)
+    both_end (Some x ∷ l) [] k h n o c d = absurd (both_items same _ None c.0)
     both_end (Some x ∷ l) (Some y ∷ m) k h n o c d = (c.0, both_end l m k h n o c.1 d)
     both_end _ (None ∷ m) k h n o c d = absurd o
 
@@ -64,12 +64,11 @@ module _ {B A : Type 0} (run : Runs (Answer A) B) where
       ⊎ ((own : List (Answer A)) × (c : B) × run b (own ++ end ∷ []) c × Endless own × (more : List (Option A))
       × (out ≡ strip own ++ more) × follows more)
 
-  placed_from : (held last : Option B) (i : List (Answer B)) (l : List (Answer A)) → Flattening run held i l last
-      → PlacedFrom Refers OwnInPlace tt held (strip i) (strip l)
+  placed_from : Entails (Flattening run) (λ f i l g. PlacedFrom Refers OwnInPlace tt f (strip i) (strip l))
   placed_from held last =
-      flattening_by run last (λ f i l. PlacedFrom Refers OwnInPlace tt f (strip i) (strip l)) (λ e. refl)
+      flattening_by run last (λ f i l. PlacedFrom Refers OwnInPlace tt f _ _) (λ e. refl)
       (λ b c l n ran e. inl (l, c, ran, n, refl))
-      (λ b c i own a rest n ran k. inr (own, c, ran, n, strip (a ∷ rest), strip_join own (a ∷ rest), k)) (λ i l k. k)
+      (λ b c i own a rest n ran k. inr (own, c, ran, n, strip (a ∷ rest), strip_join own _, k)) (λ i l k. k)
       (λ i l k. (strip l, refl, k)) (λ b i a l k. (b, tt, refl, k)) held
 
   module _ (same : Sameness A) {alike : B → B → Type 0} (steady : SteadinessBy (SameAnswer same) run alike) where
@@ -80,16 +79,16 @@ module _ {B A : Type 0} (run : Runs (Answer A) B) where
       places : OwnInPlace b P o → OwnInPlace c Q p → ((o' p' : List (Option A)) → P o' → Q p' → Go o' p') → Go o p
       places (inl r) (inl q) rest = rw (r.4, q.4) (steady b c a r.0 q.0 r.1 q.1 r.2 q.2)
       places (inl r) (inr q) rest =
-          let both = steady b c a r.0 (q.0 ++ end ∷ []) r.1 q.1 r.2 q.2 in
-          rw (r.4, q.5) (before_left same (strip r.0) (strip q.0) q.4 (no_end r.0 r.3) (rw strip_join at both))
+          let both = steady b c a r.0 _ r.1 q.1 r.2 q.2 in
+          rw (r.4, q.5) (before_left same _ _ q.4 (no_end r.0 r.3) (rw strip_join at both))
       places (inr r) (inl q) rest =
-          let both = steady b c a (r.0 ++ end ∷ []) q.0 r.1 q.1 r.2 q.2 in
-          rw (r.5, q.4) (before_right same (strip r.0) (strip q.0) r.4 (no_end q.0 q.3) (rw strip_join at both))
+          let both = steady b c a _ q.0 r.1 q.1 r.2 q.2 in
+          rw (r.5, q.4) (before_right same _ _ r.4 (no_end q.0 q.3) (rw strip_join at both))
       places (inr r) (inr q) rest =
-          let both = steady b c a (r.0 ++ end ∷ []) (q.0 ++ end ∷ []) r.1 q.1 r.2 q.2 in
+          let both = steady b c a _ _ r.1 q.1 r.2 q.2 in
           let ends = rw strip_join at (rw strip_join at both) in
           rw (r.5, q.5)
-          (both_end same (strip r.0) (strip q.0) r.4 q.4 (no_end r.0 r.3) (no_end q.0 q.3) ends (rest r.4 q.4 r.6 q.6))
+          (both_end same _ _ r.4 q.4 (no_end r.0 r.3) (no_end q.0 q.3) ends (rest r.4 q.4 r.6 q.6))
 
     -- over outer streams whose items are alike
     flattening_alike : {M S : Type 0} (p : AdapterParts M S (Option B)) (outer : Runs (Answer B) S) (x y : M)
@@ -97,17 +96,17 @@ module _ {B A : Type 0} (run : Runs (Answer A) B) where
         → OptionBy alike (p.held x) (p.held y) → AlikeBy (SameAnswer same) (Adapts p outer (Flattening run)) x y
     flattening_alike p outer x y a e l m x' y' h k =
         placed_from_same Refers OwnInPlace same (refers_match alike) places
-        tt tt (p.held x) (p.held y) (strip h.ins) (strip k.ins) (strip l) (strip m) tt e
-        (a h.ins k.ins (p.source x') (p.source y') h.came k.came)
-        (placed_from (p.held x) (p.held x') h.ins l h.related) (placed_from (p.held y) (p.held y') k.ins m k.related)
+        tt tt _ _ _ _ _ _ tt e
+        (a h.ins k.ins _ _ h.came k.came)
+        (placed_from _ _ h.ins l h.related) (placed_from _ _ k.ins m k.related)
 
 -- where no poll of an inner stream asks for memory
-flattening_found : {B A : Type 0} {run ample : Runs (Answer A) B} → TakesNone run ample → (held last : Option B)
-    (i : List (Answer B)) (l : List (Answer A)) → Flattening run held i l last → Flattening ample held i l last
+flattening_found : {B A : Type 0} {run ample : Runs (Answer A) B} → TakesNone run ample
+    → Entails (Flattening run) (Flattening ample)
 flattening_found {run} {ample} t held last =
     flattening_by run last (λ f i l. Flattening ample f i l last) (λ e. e)
     (λ b c l n ran e. inl (refl, n, c, t b c l ran, e))
-    (λ b c i own a rest n ran k. inr (own, a, rest, refl, n, c, t b c (own ++ end ∷ []) ran, k)) (λ i l k. (refl, k))
+    (λ b c i own a rest n ran k. inr (own, a, rest, refl, n, c, t b c _ ran, k)) (λ i l k. (refl, k))
     (λ i l k. (refl, k)) (λ b i a l k. k) held
 
 module _ {M S B A : Type 0} (p : AdapterParts M S (Option B)) {outer ample : Runs (Answer B) S}
@@ -126,8 +125,8 @@ module _ {M S B A : Type 0} (p : AdapterParts M S (Option B)) {outer ample : Run
         found = λ n x y l h.
             record {
               ins = h.ins;
-              came = takes n.0 (p.source x) (p.source y) h.ins h.came;
-              related = flattening_found (s.found n.1) (p.held x) (p.held y) h.ins l h.related;
+              came = takes n.0 _ _ h.ins h.came;
+              related = flattening_found (s.found n.1) _ _ h.ins l h.related;
             };
       }
 
@@ -137,7 +136,7 @@ pub inner_alike : {S B : Type 0} (same : Sameness B) (outer : Runs (Answer B) S)
     → AlikeBy (SameAnswer same) outer s t
     → EachInner outer (λ b. (c : B) → SameItem same b c → alike b c) s held → AlikeBy (OptionBy alike) outer s t
 inner_alike {B} same outer alike s t held a each l m s' t' h k =
-    items_same (SameItem same) alike l (strip m)
-    (have_come outer (λ b. (c : B) → SameItem same b c → alike b c) s s' held l each h)
-    (comparable_as (SameAnswer same) (OptionBy (SameItem same)) (answer_items same) (strip l) (strip m)
+    items_same _ alike l _
+    (have_come outer _ s s' held l each h)
+    (comparable_as _ _ (answer_items same) _ _
     (a l m s' t' h k))

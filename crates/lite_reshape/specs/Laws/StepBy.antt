@@ -81,7 +81,7 @@ module _ {A : Type 0} (s : ℕ) where
     shifted : (n m : ℕ) (i o : List (Answer A)) → LeavesOut NumberSteps n i o m
         → LeavesOut NumberSteps (n + d) i o (m + d)
     shifted n m i o h =
-        let k = leaves_as NumberSteps NumberSteps (λ p q. q ≡ p + d) later n m (n + d) i o refl h in
+        let k = leaves_as NumberSteps NumberSteps _ later n m (n + d) i o refl h in
         rw k.1 at k.2
 
 module _ {A : Type 0} where
@@ -122,7 +122,7 @@ module _ {A : Type 0} where
 
     steps_lower : (o : List (Answer A)) (xs ys : List ℕ) → StepsOn p i o q → Lowers i xs ys → Lowers o xs ys
     steps_lower [] xs ys h k = rw h.0 at k
-    steps_lower (b ∷ o) xs ys h k = (leaves_relating (Numbered p.0)).lowers h.1 h.2 i (b ∷ o) xs ys h.5 k
+    steps_lower (b ∷ o) xs ys h k = (leaves_relating _).lowers h.1 h.2 i (b ∷ o) xs ys h.5 k
 
   pub steps_relating : Relating (StepsOn {A = A})
   steps_relating =
@@ -130,7 +130,7 @@ module _ {A : Type 0} where
         following = record { starts = λ p. (refl, refl); empty = λ p q i h. h; joins = steps_follow };
         bounds = steps_bounded;
         lowers = steps_lower;
-        from_items = λ p q i y l h. (leaves_relating (Numbered p.0)).from_items h.1 h.2 i y l h.5;
+        from_items = λ p q i y l h. (leaves_relating _).from_items h.1 h.2 i y l h.5;
       }
 
   -- one poll that counts down
@@ -139,7 +139,7 @@ module _ {A : Type 0} where
   stepped run x y p q b less h =
       let at : IsAt p (p.0 - p.1) = (less, ap (λ k. k % p.0) (omega (arith, less)) ∙ mod_self p.0) in
       let e =
-      leaves_as Countdown (Numbered p.0) (λ s n. (s.0 ≡ p.0) × IsAt s n) (counted p.0) p q (p.0 - p.1) h.ins
+      leaves_as Countdown _ _ (counted p.0) p q (p.0 - p.1) h.ins
       (b ∷ []) (refl, at) h.related in
       record { ins = h.ins; came = h.came; related = (e.1.0, p.0 - p.1, e.0, at, e.1.1, e.2) }
 
@@ -164,11 +164,11 @@ module _ {A : Type 0} where
   -- from one step and one count on
   pub steps_agreeing : (like : Sameness A) → AgreeingOver like like (StepsOn {A = A}) (λ p q. (q.0 ≡ p.0) × (q.1 ≡ p.1))
   steps_agreeing like p q r t i j [] l e h k c = tt
-  steps_agreeing like p q r t i j (a ∷ o) [] e h k c = comparable_nil (SameAnswer like) (strip (a ∷ o))
+  steps_agreeing like p q r t i j (a ∷ o) [] e h k c = comparable_nil _ _
   steps_agreeing like p q r t i j (a ∷ o) (b ∷ l) e h k c =
       let at : (k.1 + p.1) % p.0 ≡ 0 =
       subst (λ z. (k.1 + z) % p.0 ≡ 0) e.1 (subst (λ z. (k.1 + q.1) % z ≡ 0) e.0 k.3.1) in
-      leaves_showing (Numbered p.0) (numbered_match p.0) like h.1 k.1 h.2 k.2 i j (a ∷ o) (b ∷ l)
+      leaves_showing _ (numbered_match p.0) like h.1 k.1 h.2 k.2 i j (a ∷ o) (b ∷ l)
       (same_remainder p.0 h.1 k.1 p.1 h.3.1 at) h.5
       (subst (λ z. LeavesOut (Numbered z) k.1 j (b ∷ l) k.2) e.0 k.5) c
 

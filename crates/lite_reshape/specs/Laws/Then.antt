@@ -43,7 +43,7 @@ module _ {V B : Type 0} {run : Runs (Poll B) V} where
       record {
         rests = λ v. spends_rest (handed Some) (λ after. after ≡ []) laws refl (Some v);
         stays = λ v w h. cc (spends_stay (handed Some) (λ after. after ≡ []) laws (Some v) (Some w) h);
-        answers = λ v h. shown_gives (handed Some) h.ins h.after h.value h.joined h.finishes.gives;
+        answers = λ v h. shown_gives _ h.ins h.after h.value h.joined h.finishes.gives;
         joins = λ v w next l m. spends_follow (handed Some) (λ after. after ≡ []) laws (λ j k e d. rw (e, d))
             (Some v) (Some w) next l m;
       }
@@ -56,21 +56,20 @@ module _ {V B : Type 0} {run : Runs (Poll B) V} where
       }
 
 -- one poll of a future
-module _ {V B : Type 0} (run : Runs (Poll B) V) where
-  module _ (v w : V) (a : Poll B) where
-    pub hands_pending : a ≡ Pending → run v (a ∷ []) w → HandsOut run v (Pending ∷ []) (Some w)
-    hands_pending is came = (Pending ∷ [], tt, rw is at came, refl)
+module _ {V B : Type 0} (run : Runs (Poll B) V) {v w : V} {a : Poll B} where
+  pub hands_pending : a ≡ Pending → run v (a ∷ []) w → HandsOut run v (Pending ∷ []) (Some w)
+  hands_pending is came = (Pending ∷ [], tt, rw is at came, refl)
 
-    pub hands_value : (y : B) → a ≡ Ready y → run v (a ∷ []) w → HandsOut run v (item y ∷ []) None
-    hands_value y is came =
-        record {
-          ins = Ready y ∷ [];
-          value = y;
-          finishes = record { gives = (refl, refl); last = w; came = rw is at came };
-          after = [];
-          later = refl;
-          joined = refl;
-        }
+  pub hands_value : {y : B} → a ≡ Ready y → run v (a ∷ []) w → HandsOut run v (item y ∷ []) None
+  hands_value {y} is came =
+      record {
+        ins = Ready y ∷ [];
+        value = y;
+        finishes = record { gives = (refl, refl); last = w; came = rw is at came };
+        after = [];
+        later = refl;
+        joined = refl;
+      }
 
 bounded_if : (b : Bool) (k n : ℕ) → k ≤ n + 1 → IfSome (cond b (Some (n + 1)) None) (λ most. k ≤ most)
 bounded_if true k n h = h
@@ -92,9 +91,9 @@ pub then_laws : {S F V A B : Type 0} (call : Question F A V) {gives : Runs (Poll
     → StreamLaws (Thens run call gives)
     (λ (m : Then S F V) hint. (inner : ℕ × Option ℕ) × hints m.stream inner × (hint ≡ then_hint m.future inner))
 then_laws call {gives} laws laws' =
-    laws_bounded then_parts laws (expanding_following call (HandsOut gives) (hands_giving laws'))
+    laws_bounded then_parts laws (expanding_following call _ (hands_giving laws'))
     (λ x y hint l e h.
-    let fewer = expanding_bounded call (HandsOut gives) hands_one (x.f, x.future) (y.f, y.future) h.ins l h.related in
+    let fewer = expanding_bounded call _ hands_one (x.f, x.future) (y.f, y.future) h.ins l h.related in
     same_hint hint (then_hint x.future e.0) l e.2
     (then_bounded x.future e.0 _ _ fewer (laws.bounded x.stream y.stream e.0 h.ins e.1 h.came)))
 
@@ -111,8 +110,8 @@ module _ {V B : Type 0} (same : Sameness B) {gives found : Runs (Poll B) V} {non
       (λ (x y : Then S F V). alike' x.stream y.stream
       × (AgreeFrom (SameItem like) alike call x.f y.f × OptionBy alike x.future y.future))
   then_steady like call outer =
-      through_steady_by then_parts like same outer (expanding_following call (HandsOut found) (hands_giving s.laws))
-      (expanding_agreeing hands_one call like same (agree_from_matches (SameItem like) alike call) hands_alike)
+      through_steady_by then_parts like same outer (expanding_following call _ (hands_giving s.laws))
+      (expanding_agreeing hands_one call like same (agree_from_matches _ alike call) hands_alike)
       (λ n. (
         n.0,
         expanding_found call
@@ -126,7 +125,7 @@ module _ {V B : Type 0} {gives : Runs (Poll B) V} {calm : V → Type 0} (c : Cal
       (rw h.3 (handed_no_pending Some h.0 (c.no_pending v w h.0 k h.2)), c.calm_on v w h.0 k h.2)
   hands_calm v l None k h =
       let ins = handed_no_pending Some h.ins (c.no_pending v h.finishes.last h.ins k h.finishes.came) in
-      (rw (h.joined, h.later) (no_pending_join (map (handed Some) h.ins) [] ins tt), tt)
+      (rw (h.joined, h.later) (no_pending_join (map _ h.ins) [] ins tt), tt)
 
   -- by a function that makes calm futures
   pub then_calm : {S F A : Type 0} (g : Mut F (A × Unit {0}) V) {run : Runs (Answer A) S} {is_calm : S → Type 0}
@@ -134,4 +133,4 @@ module _ {V B : Type 0} {gives : Runs (Poll B) V} {calm : V → Type 0} (c : Cal
       → CalmLaws (Thens run (Calls g) gives) (λ (m : Then S F V). is_calm m.stream × EachMade g calm m.f m.future)
   then_calm g d =
       through_calm_by then_parts d
-      (expanding_calm (Calls g) (HandsOut gives) (λ f x. makes_on g calm f (x, tt)) hands_calm)
+      (expanding_calm _ _ (λ f x. makes_on g calm f (x, tt)) hands_calm)

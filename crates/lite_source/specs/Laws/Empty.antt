@@ -3,6 +3,7 @@ use Rattle.std.specs.Prelude.{⊤}
 use Rattle.std.proofs.Common.{◌≡◌, Some, None, refl}
 use Rattle.lite_base.specs.Answers.{end}
 use Rattle.lite_base.specs.Calm.{CalmLaws}
+use Rattle.lite_base.specs.Laws.Calm.{calm_both}
 use Rattle.lite_base.specs.Ranks.{Counting}
 use Rattle.lite_base.specs.Steady.{Steadiness}
 use Rattle.lite_base.specs.StreamLaws.{StreamLaws}
@@ -12,13 +13,13 @@ use Rattle.lite_source.specs.Laws.Always.{answers_no_pending, answers_same, item
 
 module _ {S A : Type 0} where
   pub empty_laws : StreamLaws (GivesEnds {S = S} {A = A}) (λ x hint. hint ≡ (0, Some 0))
-  empty_laws = itemless_laws (λ _ a. a ≡ end) (λ s x e. cc e)
+  empty_laws = itemless_laws _ (λ s x e. cc e)
 
   pub empty_counting : Counting (GivesEnds {S = S} {A = A}) no_ranks
-  empty_counting = itemless_counting (λ _ a. a ≡ end) (λ s x e. cc e)
+  empty_counting = itemless_counting _ (λ s x e. cc e)
 
   pub empty_steady : Steadiness (GivesEnds {S = S} {A = A}) (λ x y. ⊤)
-  empty_steady x y e l m x' y' h k = answers_same None (λ a b. a ≡ b) refl l m h.0 k.0
+  empty_steady x y e l m x' y' h k = answers_same None _ refl l m h.0 k.0
 
   pub empty_calm : CalmLaws (GivesEnds {S = S} {A = A}) (λ x. ⊤)
-  empty_calm = record { no_pending = λ x y l k h. answers_no_pending None l h.0; calm_on = λ x y l k h. tt }
+  empty_calm = calm_both (λ x y l k h. (answers_no_pending None l h.0, tt))

@@ -6,6 +6,7 @@ use Rattle.futures.specs.declared.task.Poll.TheVariants.{Ready, Pending}
 use Rattle.lite_base.specs.Alike.{Alike}
 use Rattle.lite_base.specs.Answers.{Answer, Comparable, strip}
 use Rattle.lite_base.specs.Calm.{CalmLaws, NoPending}
+use Rattle.lite_base.specs.Laws.Calm.{calm_both}
 use Rattle.lite_base.specs.Laws.Calls.{folds_follow}
 use Rattle.lite_base.specs.Laws.Hint.{same_hint}
 use Rattle.lite_base.specs.Steady.{SteadyLaws}
@@ -39,11 +40,7 @@ module _ {S P A : Type 0} (part : S → P) (next : P → Answer A → P → Type
 
     -- no call is answered Pending
     pub folds_calm : CalmLaws (λ x l y. FoldsTo next (part x) l (part y)) (λ x. ⊤)
-    folds_calm =
-        record {
-          no_pending = λ x y l k h. folds_no_pending (part x) (part y) l h;
-          calm_on = λ x y l k h. tt;
-        }
+    folds_calm = calm_both (λ x y l k h. (folds_no_pending (part x) (part y) l h, tt))
 
 -- by steps: those are alike whose ready answers are the same where they agree, if they agree again after each of these,
 -- and a Pending of either keeps what they agree in
@@ -67,4 +64,4 @@ folds_alike {P} {A} next agree left right same p q e l m p' q' h k = answers l m
         → Comparable (strip l) (strip m)
     answers [] m p q e h k = tt
     answers (Pending ∷ l) m p q e h k = answers l m h.0 q (left p q h.0 e h.1) h.2 k
-    answers (Ready a ∷ l) m p q e h k = after a l (λ m' p q e h k. answers l m' p q e h k) m p q e h k
+    answers (Ready a ∷ l) m p q e h k = after a l (answers l) m p q e h k

@@ -27,7 +27,7 @@ module _ {I A : Type 0} (can : I → Type 0) (gives : I → Option A → I → T
     never_on : (l : List (Answer A)) → NeverRaised can gives remaining i → Iterates can gives remaining i l j
         → NeverRaised can gives remaining j
     never_on l h c = record {
-      at = λ m k n d e. h.at (l ++ m) k n (folds_follow (Nexts can gives remaining) i j k l m c d) e;
+      at = λ m k n d. h.at _ k n (folds_follow _ i j k l m c d);
     }
 
     finite_next : (r : Option A) → MakesProgress can remaining i r j → IsFinite (remaining i) → IsFinite (remaining j)
@@ -71,7 +71,7 @@ module _ {I A : Type 0} (can : I → Type 0) (gives : I → Option A → I → T
   lowers_from i j n (Ready (Some x) ∷ l) least f r h =
       let on = h.1.1.on f in
       let e = lowers_from h.0 j (size (remaining h.0)) l (omega arith) on.1
-      (never_on i h.0 (Ready (Some x) ∷ []) r (h.0, h.1, refl)) h.2 in
+      (never_on i h.0 (Ready _ ∷ []) r (h.0, h.1, refl)) h.2 in
       Below-one (Lowers-at_most l _ _ e) (omega (arith, on.2, least))
 
   iter_lowers : (i j : I) (l : List (Answer A)) → IsFinite (remaining i) → NeverRaised can gives remaining i
@@ -85,7 +85,7 @@ module _ {I A : Type 0} (can : I → Type 0) (gives : I → Option A → I → T
       record {
         rests = λ x. refl;
         stays = λ x y h. ap (λ (v : I). record x { iter = v }) (sym h);
-        follows = λ x y z. folds_follow (Nexts can gives remaining) x.iter y.iter z.iter;
+        follows = λ x y z. folds_follow _ x.iter y.iter z.iter;
         bounded = λ x y hint l e. iter_bounded x.iter y.iter hint.1 l e.1;
       }
 
@@ -95,7 +95,7 @@ module _ {I A : Type 0} (can : I → Type 0) (gives : I → Option A → I → T
   iter_counting =
       record {
         sized = λ x. refl;
-        counts_on = λ x y l. finite_on x.iter y.iter l;
+        counts_on = λ x y. finite_on x.iter y.iter;
         firm_on = λ x y l f h. (finite_on x.iter y.iter l f.0 h, never_on x.iter y.iter l f.1 h);
         falls = λ x y. iter_falls x.iter y.iter;
         lowers = λ x y l f. iter_lowers x.iter y.iter l f.0 f.1;

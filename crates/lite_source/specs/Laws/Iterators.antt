@@ -24,7 +24,7 @@ pub iter_alike : {I A : Type 0} (can : I → Type 0) (gives : I → Option A →
     → ((i j p q : I) (r s : Option A) → agree i j → gives i r p → gives j s q → (r ≡ s) × agree p q) → (i j : I)
     → agree i j → Alike (Iterates can gives remaining) i j
 iter_alike can gives remaining agree step =
-    folds_alike (Nexts can gives remaining) agree (λ p q r b. absurd) (λ p q r b. absurd)
+    folds_alike _ agree (λ p q r b. absurd) (λ p q r b. absurd)
     (λ p q r s x y b h k. step p q r s x y b h.0 k.0)
 
 -- what is left comes off its front, until nothing is
@@ -47,7 +47,7 @@ module _ {A : Type 0} where
       → array_into_iter_items i ≡ array_into_iter_items j
       → Alike (Iterates can array_steps remaining) i j
   array_alike can remaining =
-      iter_alike can array_steps remaining (λ p q. array_into_iter_items p ≡ array_into_iter_items q)
+      iter_alike can array_steps remaining _
       (front_step array_into_iter_items)
 
   -- what the references of a slice show
@@ -58,7 +58,7 @@ module _ {A : Type 0} where
       → copied_steps iter_steps i r p → copied_steps iter_steps j s q → (r ≡ s) × (slice_items p ≡ slice_items q)
   shown_step i j p q r s e h k = from_front h.0 k.0 h.1 k.1 h.2 k.2
     where
-      from_front : (o u : Option (Bor A)) → iter_steps (copied_source i) o (copied_source p)
+      from_front : (o u : Option _) → iter_steps (copied_source i) o (copied_source p)
           → iter_steps (copied_source j) u (copied_source q) → r ≡ option_copied o → s ≡ option_copied u
           → (r ≡ s) × (slice_items p ≡ slice_items q)
       from_front None None a b c d = (c ∙ sym d, ap iter_rest a.1 ∙ e ∙ sym (ap iter_rest b.1))
@@ -71,7 +71,7 @@ module _ {A : Type 0} where
       (i j : Copied (SliceIter A)) → slice_items i ≡ slice_items j
       → Alike (Iterates can (copied_steps iter_steps) remaining) i j
   slice_alike can remaining =
-      iter_alike can (copied_steps iter_steps) remaining (λ p q. slice_items p ≡ slice_items q) shown_step
+      iter_alike can (copied_steps iter_steps) remaining _ shown_step
 
 -- one value has one that follows it
 module _ {A : Type 0} (gap : A → A → ℕ) (follows : A → A → Type 0)

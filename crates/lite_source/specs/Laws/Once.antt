@@ -2,6 +2,7 @@
 use Rattle.std.specs.Prelude.{⊤}
 use Rattle.std.proofs.Common.{◌≡◌, length, Option, Some, None, refl}
 use Rattle.lite_base.specs.Calm.{CalmLaws, NoPending}
+use Rattle.lite_base.specs.Laws.Calm.{calm_both}
 use Rattle.lite_base.specs.Laws.Hint.{same_hint}
 use Rattle.lite_base.specs.Ranks.{Counting}
 use Rattle.lite_base.specs.Laws.Ranks.{number_counting}
@@ -23,7 +24,7 @@ module _ {A : Type 0} where
         rests = λ x. refl;
         stays = λ x y h i. record { value = held_same x.value y.value h i };
         follows = λ x y z. gives_follow (once_left x.value) (once_left y.value) (once_left z.value);
-        bounded = λ x y hint l e h. same_hint hint (length (once_left x.value), Some (length (once_left x.value))) l e
+        bounded = λ x y hint l e h. same_hint hint (length (once_left x.value), Some _) l e
             (gives_bounded (once_left x.value) (once_left y.value) l h);
       }
 
@@ -40,9 +41,4 @@ module _ {A : Type 0} where
       gives_steady (once_left x.value) (once_left y.value) (rw e) l m (once_left x'.value) (once_left y'.value)
 
   pub once_calm : CalmLaws (GivesOnce {A = A}) (λ x. ⊤)
-  once_calm =
-      record {
-        no_pending = λ x y l k h. gives_calm.no_pending (once_left x.value) (once_left y.value) l
-            (held_no_pending x.value) h;
-        calm_on = λ x y l k h. tt;
-      }
+  once_calm = calm_both (λ x y l k h. (gives_calm.no_pending _ _ l (held_no_pending x.value) h, tt))

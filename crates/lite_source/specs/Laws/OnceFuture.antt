@@ -33,42 +33,42 @@ module _ {F A : Type 0} (run : Runs (Poll A) F) where
       record {
         rests = λ x. spends_rest _ _ laws tt x.future;
         stays = λ x y h. ap (λ v. record x { future = v }) (spends_stay _ _ laws x.future y.future h);
-        follows = λ x y z. spends_follow _ _ laws (all_append (λ a. a ≡ end)) x.future y.future z.future;
+        follows = λ x y z. spends_follow _ _ laws (all_append _) x.future y.future z.future;
         bounded = λ x y hint l e h. same_hint hint (0, None) l e tt;
       }
 
   spends_lower : (x y : Option F) (l : List (Answer A))
-      → Spends run (handed (λ v. Some v)) (AllByRecursion (λ a. a ≡ end)) x l y
+      → Spends run (handed Some) (AllByRecursion (λ a. a ≡ end)) x l y
       → Lowers l (option_len y ∷ []) (option_len x ∷ [])
-  spends_lower None y l h = no_items_lower _ (λ x e. cc e) l (option_len y ∷ []) (0 ∷ []) h.0 (inl (rw h.1))
+  spends_lower None y l h = no_items_lower _ (λ x e. cc e) l _ _ h.0 (inl (rw h.1))
   spends_lower (Some f) (Some g) l h =
-      rw h.3 (waiting_lowers (map (handed Some) h.0) (1 ∷ []) (1 ∷ []) (handed_waiting Some h.0 h.1) (inl refl))
-  spends_lower (Some f) None l h = Lowers-below l (0 ∷ []) (1 ∷ []) (inl (omega arith, refl))
+      rw h.3 (waiting_lowers (map _ h.0) (1 ∷ []) _ (handed_waiting Some h.0 h.1) (inl refl))
+  spends_lower (Some f) None l h = Lowers-below l _ _ (inl (omega arith, refl))
 
   pub once_future_counting : Counting (GivesFuture run) once_future_ranks
   once_future_counting = number_counting (λ x y. spends_lower x.future y.future)
 
 -- what a held future answers, and then ends
 abbrev Handing : {F A : Type 0} → Runs (Poll A) F → Runs (Answer A) (Option F)
-Handing run = Spends run (handed (λ v. Some v)) (AllByRecursion (λ a. a ≡ end))
+Handing run = Spends run (handed Some) (AllByRecursion (λ a. a ≡ end))
 
 module _ {F A : Type 0} (same : Sameness A) {run : Runs (Poll A) F} {alike : F → F → Type 0}
     (s : SteadinessBy (SameItem same) run alike) where
   handing_same : (f g f' g' : Option F) (l m : List (Answer A)) → OptionBy alike f g → Handing run f l f'
       → Handing run g m g'
       → ComparableBy (SameAnswer same) (strip l) (strip m)
-  handing_same None None f' g' l m e h k = answers_same None (SameAnswer same) (ends_same same) l m h.0 k.0
+  handing_same None None f' g' l m e h k = answers_same None _ (ends_same same) l m h.0 k.0
   handing_same (Some f) (Some g) (Some f') g' l m e h k =
       let none = ap strip h.3 ∙ handed_waits Some h.0 h.1 in rw none tt
   handing_same (Some f) (Some g) None (Some g') l m e h k =
-      let none = ap strip k.3 ∙ handed_waits Some k.0 k.1 in rw none (comparable_nil (SameAnswer same) (strip l))
+      let none = ap strip k.3 ∙ handed_waits Some k.0 k.1 in rw none (comparable_nil _ _)
   handing_same (Some f) (Some g) None None l m e h k =
       let one = ap strip h.joined ∙ handed_gives Some h.ins h.after h.value h.finishes.gives in
       let two = ap strip k.joined ∙ handed_gives Some k.ins k.after k.value k.finishes.gives in
       rw (one, two) (
         same_answer same h.value k.value
             (alike_agrees run f g (s f g e) h.ins k.ins h.value k.value h.finishes k.finishes),
-        answers_same None (SameAnswer same) (ends_same same) h.after k.after h.later k.later,
+        answers_same None _ (ends_same same) h.after k.after h.later k.later,
       )
   handing_same f g f' g' l m e h k = absurd e
 
@@ -80,7 +80,7 @@ once_future_steady same s =
     record {
       laws = runs_of (once_future_laws _ s.laws);
       steady = λ x y e l m x' y'. handing_same same s.steady x.future y.future x'.future y'.future l m e;
-      found = λ n x y l. spends_found (handed Some) (AllByRecursion (λ a. a ≡ end)) (s.found n) x.future y.future l;
+      found = λ n x y. spends_found _ _ (s.found n) x.future y.future;
     }
 
 module _ {F A : Type 0} {run : Runs (Poll A) F} {is_calm : F → Type 0} (c : CalmLaws run is_calm) where
@@ -92,7 +92,7 @@ module _ {F A : Type 0} {run : Runs (Poll A) F} {is_calm : F → Type 0} (c : Ca
   handing_calm (Some f) None l k h =
       let before = handed_no_pending Some h.ins (c.no_pending f h.finishes.last h.ins k h.finishes.came) in
       rw h.joined
-      (no_pending_join (map (handed Some) h.ins) h.after before (answers_no_pending None h.after h.later), tt)
+      (no_pending_join (map _ h.ins) h.after before (answers_no_pending None h.after h.later), tt)
 
   pub once_future_calm : CalmLaws (GivesFuture run) (λ x. IfSome x.future is_calm)
   once_future_calm = calm_both (λ x y. handing_calm x.future y.future)

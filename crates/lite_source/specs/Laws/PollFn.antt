@@ -3,6 +3,7 @@ use Rattle.std.proofs.Common.{List, Option}
 use Rattle.std.specs.List.{FoldsTo}
 use Rattle.lite_base.specs.Answers.{Answer}
 use Rattle.lite_base.specs.Calm.{CalmLaws}
+use Rattle.lite_base.specs.Laws.Calm.{calm_both}
 use Rattle.lite_base.specs.Future.Calls.{CallAnswers, NeverPends, Poller}
 use Rattle.lite_base.specs.Laws.Future.Calls.{never_pends_on}
 use Rattle.lite_source.specs.declared.poll_fn.PollFn.{PollFn}
@@ -11,8 +12,4 @@ use Rattle.lite_source.specs.declared.poll_fn.PollFn.{PollFn}
 pub poll_fn_calm : {F A : Type 0} (g : Poller F (Option A))
     → CalmLaws (λ (x : PollFn F) (l : List (Answer A)) (y : PollFn F). FoldsTo (CallAnswers g) x.f l y.f)
     (λ x. NeverPends g x.f)
-poll_fn_calm g =
-    record {
-      no_pending = λ x y l k h. k.at l y.f h;
-      calm_on = λ x y l k h. never_pends_on g x.f y.f l k h;
-    }
+poll_fn_calm g = calm_both (λ x y l k h. (k.at l y.f h, never_pends_on g x.f y.f l k h))

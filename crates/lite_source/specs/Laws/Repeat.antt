@@ -5,6 +5,7 @@ use Rattle.std.specs.List.{AllByRecursion}
 use Rattle.futures.specs.declared.task.Poll.TheVariants.{Ready, Pending}
 use Rattle.lite_base.specs.Answers.{Answer, Comparable, strip}
 use Rattle.lite_base.specs.Calm.{CalmLaws, NoPending}
+use Rattle.lite_base.specs.Laws.Calm.{calm_both}
 use Rattle.lite_base.specs.Steady.{SteadyLaws}
 use Rattle.lite_base.specs.StreamLaws.{StreamLaws}
 use Rattle.lite_base.specs.Laws.StreamLaws.{runs_of}
@@ -14,7 +15,7 @@ use Rattle.lite_source.specs.Laws.Always.{always_laws}
 module _ {A E : Type 0} (is_clone : A → A → Type 0) (is_infallible : A → Type 0) where
   -- its hint bounds nothing
   pub repeat_laws : (least : ℕ) → StreamLaws (Repeats {E = E} is_clone is_infallible) (λ x hint. hint ≡ (least, None))
-  repeat_laws least = always_laws _ (least, None) (λ x l h. tt)
+  repeat_laws least = always_laws _ (least, None) _
 
   module _ (n : (x : A) → is_infallible x) (own : A) where
     clones_found : (l : List (Answer (Result A E))) → AllByRecursion (IsCloned is_clone is_infallible own) l
@@ -42,7 +43,7 @@ module _ {A E : Type 0} (is_clone : A → A → Type 0) (is_infallible : A → T
       ((x : A) → is_infallible x) (λ x y. SameClones is_clone x.item y.item)
   repeat_steady =
       record {
-        laws = runs_of (always_laws (λ x. IsCloned is_clone (λ _. ⊤) x.item) (0, None) (λ x l h. tt));
+        laws = runs_of (always_laws _ (0, None) _);
         steady = λ x y e l m x' y' h k. clones_same x.item y.item e l m h.0 k.0;
         found = λ n x y l h. (clones_found n x.item l h.0, h.1);
       }
@@ -54,4 +55,4 @@ module _ {A E : Type 0} (is_clone : A → A → Type 0) (is_infallible : A → T
   clones_no_pending own (Ready r ∷ l) h = clones_no_pending own l h.1
 
   pub repeat_calm : CalmLaws (Repeats {E = E} is_clone is_infallible) (λ x. ⊤)
-  repeat_calm = record { no_pending = λ x y l k h. clones_no_pending x.item l h.0; calm_on = λ x y l k h. tt }
+  repeat_calm = calm_both (λ x y l k h. (clones_no_pending x.item l h.0, tt))

@@ -62,7 +62,7 @@ module _ {A : Type 0} where
   -- lists that differ in their Pendings alone
   pub gives_steady : Steadiness (GivesScript {A = A}) (λ x y. strip x ≡ strip y)
   gives_steady x y e l m x' y' h k =
-      emits_same (strip x) (strip l) (strip m) (gives_emits x x' l h) (rw e (gives_emits y y' m k))
+      emits_same _ _ _ (gives_emits x x' l h) (rw e (gives_emits y y' m k))
 
   gives_no_pending : (x y l : List (Answer A)) → NoPending x → GivesScript x l y → NoPending l × NoPending y
   gives_no_pending x y [] k h = rw h (tt, k)

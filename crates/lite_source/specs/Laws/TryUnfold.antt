@@ -11,7 +11,7 @@ use Rattle.lite_source.specs.declared.try_unfold.TryUnfold.{TryUnfold}
 module _ {F S V A E : Type 0} (call : Mut F (S × Unit {0}) V) (gives : Runs (Poll (Result (Option (A × S)) E)) V) where
   pub try_unfold_laws : StreamLaws (TryUnfoldsBy call gives) NoHint
   try_unfold_laws =
-      unfolds_laws call gives try_seed_of try_item_of (λ (x : TryUnfold S F V). (x.f, x.state)) (λ x y e i. record {
+      unfolds_laws call gives try_seed_of try_item_of _ (λ x y e i. record {
         f = (e i).0;
         state = (e i).1;
       })

@@ -10,7 +10,7 @@ use Rattle.lite_source.specs.declared.unfold.Unfold.{Unfold}
 
 module _ {F S V A : Type 0} (call : Mut F (S × Unit {0}) V) (gives : Runs (Poll (Option (A × S))) V) where
   pub unfold_laws : StreamLaws (UnfoldsBy call gives) NoHint
-  unfold_laws = unfolds_laws call gives seed_of item_of (λ (x : Unfold S F V). (x.f, x.state)) (λ x y e i. record {
+  unfold_laws = unfolds_laws call gives seed_of item_of _ (λ x y e i. record {
     f = (e i).0;
     state = (e i).1;
   })

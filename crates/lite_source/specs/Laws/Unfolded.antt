@@ -71,7 +71,7 @@ module _ {F S V O B : Type 0} (call : Mut F (S × Unit {0}) V) (gives : Runs (Po
             rw (e, handed_waits shown ins d.1)
             (waited laws p q x v d.0 ins out c d.1 d.2 (rw d.3 at k))
         leading v ins c (inr d) e =
-            let one : strip l ≡ shown d.0 ∷ [] = ap strip (e ∙ sym (append-nil (map (handed shown) ins)))
+            let one : strip l ≡ shown d.0 ∷ [] = ap strip (e ∙ sym (append-nil _))
             ∙ handed_gives shown ins [] d.0 d.1.gives in
             rw one (inl (v, q, ins, d.0, c, d.1, refl, rw d.2 at k))
 
@@ -82,7 +82,7 @@ module _ {F S V O B : Type 0} (call : Mut F (S × Unit {0}) V) (gives : Runs (Po
   unfolds_values laws x y (part ∷ parts) h =
       let rest = flat_map (λ part. part.0 ∷ part.1) parts in
       rw strip_join
-      (part_values laws x.0 h.0.0 x.1 h.0.1 (part.0 ∷ part.1) (strip rest) h.1 (unfolds_values laws h.0 y parts h.2))
+      (part_values laws x.0 h.0.0 x.1 h.0.1 _ _ h.1 (unfolds_values laws h.0 y parts h.2))
 
 -- by functions that make futures which are alike: `same` of values, `like` of seeds, `shows` of what goes out
 module _ {F S V O B : Type 0} (call : Mut F (S × Unit {0}) V) (ample : Runs (Poll O) V) {alike : V → V → Type 0}
@@ -93,7 +93,7 @@ module _ {F S V O B : Type 0} (call : Mut F (S × Unit {0}) V) (ample : Runs (Po
     current_alike : (x y : Holding S V) (v w : V) → AgreeFrom like alike (Calls call) p k → HoldingsBy like alike x y
         → IsCurrent call p x q v → IsCurrent call k y l w → alike v w × AgreeFrom like alike (Calls call) q l
     current_alike (Holding.Seed r) (Holding.Seed t) v w a e c d =
-        agree_from_matches like alike (Calls call) p k q l r t v w a e c d
+        agree_from_matches like alike _ p k q l r t v w a e c d
     current_alike (Holding.Asked r) (Holding.Asked t) v w a e c d = rw (c.0, d.0, c.1, d.1) (e, a)
     current_alike Holding.Over y v w a e c d = absurd c
     current_alike x y v w a e c d = absurd e
@@ -125,8 +125,8 @@ module _ {F S V O B : Type 0} (call : Mut F (S × Unit {0}) V) (ample : Runs (Po
         let value : same h.3 g.3 = alike_agrees ample h.0 g.0 (s h.0 g.0 f.0) h.2 g.2 h.3 g.3 h.5 g.5 in
         rw (h.6, g.6) (
           gives h.3 g.3 value,
-          values_same h.1 g.1 (comes (after h.3)) (comes (after g.3)) o o' f.1
-              (comes_alike (after h.3) (after g.3) (goes h.3 g.3 value)) h.7 g.7,
+          values_same h.1 g.1 _ _ o o' f.1
+              (comes_alike _ _ (goes h.3 g.3 value)) h.7 g.7,
         )
     values_same p k x y (b ∷ o) (c ∷ o') a e (inl h) (inr g) = absurd (not_over p h.1 x h.0 (rw g.0 at e) h.4)
     values_same p k x y (b ∷ o) (c ∷ o') a e (inr h) (inl g) = absurd (over_not k g.1 y g.0 (rw h.0 at e) g.4)
@@ -168,11 +168,11 @@ module _ {F S V O B : Type 0} (call : Mut F (S × Unit {0}) V) (ample : Runs (Po
       → FutureValues call ample after shown x.0 x.1 o → FutureValues call ample after shown y.0 y.1 p
       → ComparableBy (SameAnswer (PartOf same shown)) o p
   unfolds_same Sameness.equal s x y o p e h k =
-      values_same call ample (λ r t. r ≡ t) (λ b c. b ≡ c) s after shown
-      (λ v w d. equal_options (after v) (after w) (ap after d)) (λ v w. ap shown) refl x.0 y.0 x.1 y.1 o p e.0 e.1 h k
+      values_same call ample _ _ s after shown
+      (λ v w d. equal_options _ _ (ap after d)) (λ v w. ap shown) refl x.0 y.0 x.1 y.1 o p e.0 e.1 h k
   unfolds_same (Sameness.by same) s x y o p e h k =
-      values_same call ample (SameItem (PartOf (Sameness.by same) after))
-      (SameAnswer (PartOf (Sameness.by same) shown)) s after shown
+      values_same call ample _
+      _ s after shown
       (parts_same same after e.3) (parts_same same shown e.2) tt
       x.0 y.0 x.1 y.1 o p e.0 e.1 h k
 
@@ -194,7 +194,7 @@ module _ {F S V O B : Type 0} (call : Mut F (S × Unit {0}) V) {run ample : Runs
       → FoldsTo (λ s part t. UnfoldPart call ample after shown s.0 s.1 (part.0 ∷ part.1) t.0 t.1) x parts y
   parts_found x y [] h = h
   parts_found x y (part ∷ parts) h =
-      (h.0, part_found x.0 h.0.0 x.1 h.0.1 (part.0 ∷ part.1) h.1, parts_found h.0 y parts h.2)
+      (h.0, part_found x.0 h.0.0 x.1 h.0.1 _ h.1, parts_found h.0 y parts h.2)
 
 module _ {F S V O B : Type 0} (call : Mut F (S × Unit {0}) V) {run ample : Runs (Poll O) V} {none : Type 0}
     {alike : V → V → Type 0} (after : O → Option S) (shown : O → Option B) where
@@ -221,11 +221,11 @@ module _ {F S V O B : Type 0} (call : Mut F (S × Unit {0}) V) {run : Runs (Poll
     (c : CalmLaws run calm) (after : O → Option S) (shown : O → Option B) where
   -- the function makes calm futures, and one that is held is calm
   abbrev Calmly : F → Holding S V → Type 0
-  Calmly p x = AlwaysReturns call (λ s v. calm v) p × IfHeldFuture x calm
+  Calmly p x = AlwaysReturns call (λ s. calm) p × IfHeldFuture x calm
 
   current_calm : (p q : F) (x : Holding S V) (v : V) → Calmly p x → IsCurrent call p x q v → calm v
-      × AlwaysReturns call (λ s v. calm v) q
-  current_calm p q (Holding.Seed s) v k h = call_promises call (λ s. calm) p (s, tt) v q k.0 h
+      × AlwaysReturns call (λ s. calm) q
+  current_calm p q (Holding.Seed s) v k h = call_promises call _ p (s, tt) v q k.0 h
   current_calm p q (Holding.Asked w) v k h = rw (h.0, h.1) (k.1, k.0)
   current_calm p q Holding.Over v k h = absurd h
 
@@ -236,7 +236,7 @@ module _ {F S V O B : Type 0} (call : Mut F (S × Unit {0}) V) {run : Runs (Poll
   leads_calm : (v : V) (ins : List (Poll O)) (next : Holding S V) → calm v → Leads call run after shown v ins next
       → NoPending ins × IfHeldFuture next calm
   leads_calm v ins next k (inl h) = (c.no_pending v h.0 ins k h.2, rw h.3 (c.calm_on v h.0 ins k h.2))
-  leads_calm v ins next k (inr h) = (c.no_pending v h.1.last ins k h.1.came, rw h.2 (comes_calm (after h.0)))
+  leads_calm v ins next k (inr h) = (c.no_pending v h.1.last ins k h.1.came, rw h.2 (comes_calm _))
 
   module _ (p q : F) (x y : Holding S V) (l : List (Answer B)) (k : Calmly p x) where
     part_calm : UnfoldPart call run after shown p x l q y → NoPending l × Calmly q y
@@ -251,11 +251,11 @@ module _ {F S V O B : Type 0} (call : Mut F (S × Unit {0}) V) {run : Runs (Poll
       → NoPending (flat_map (λ part. part.0 ∷ part.1) parts) × Calmly y.0 y.1
   parts_calm x y [] k h = (tt, rw h at k)
   parts_calm x y (part ∷ parts) k h =
-      let one = part_calm x.0 h.0.0 x.1 h.0.1 (part.0 ∷ part.1) k h.1 in
+      let one = part_calm x.0 h.0.0 x.1 h.0.1 _ k h.1 in
       let more = parts_calm h.0 y parts one.1 h.2 in
       (no_pending_join (part.0 ∷ part.1) (flat_map (λ part. part.0 ∷ part.1) parts) one.0 more.0, more.1)
 
   pub unfolds_calm : {X : Type 0} (pair : X → F × Holding S V)
       → CalmLaws (λ x l y. Unfolds call run after shown (pair x) l (pair y))
-      (λ x. AlwaysReturns call (λ s v. calm v) (pair x).0 × IfHeldFuture (pair x).1 calm)
+      (λ x. AlwaysReturns call (λ s. calm) (pair x).0 × IfHeldFuture (pair x).1 calm)
   unfolds_calm pair = calm_both (λ x y l k h. rw h.2 (parts_calm (pair x) (pair y) h.0 k h.1))

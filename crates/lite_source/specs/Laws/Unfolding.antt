@@ -46,7 +46,7 @@ module _ {F S V O B : Type 0} (call : Mut F (S × Unit {0}) V) (gives : Runs (Po
     pub unfolds_value : (y next : Holding S V) (o : O) → UnfoldStep call gives p x (Ready (Some o)) q y
         → next ≡ comes (after o) → Unfolds call gives after shown (p, x) (Ready (shown o) ∷ []) (q, next)
     unfolds_value y next o h e =
-        ((Ready (shown o), []) ∷ [], ((q, next), inl (h.0, Ready o ∷ [], h.1, inr (o, h.2, e), refl), refl), refl)
+        ((Ready _, []) ∷ [], ((q, next), inl (h.0, Ready o ∷ [], h.1, inr (o, h.2, e), refl), refl), refl)
 
     -- and where there is none, it is over
     pub unfolds_over : (next : Holding S V) → UnfoldStep call gives p x (Ready None) q next

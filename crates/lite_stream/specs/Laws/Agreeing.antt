@@ -3,49 +3,50 @@ use Rattle.std.proofs.Common.{List, Option}
 use Rattle.lite_base.specs.Alike.{AlikeBy, SameAnswer, Sameness}
 use Rattle.lite_base.specs.Answers.{Answer, ComparableBy, strip}
 use Rattle.lite_base.specs.Steady.{SteadyLawsBy}
-use Rattle.lite_base.specs.Runs.{Runs}
-use Rattle.lite_stream.specs.Laws.Through.{Following, through_runs}
+use Rattle.lite_base.specs.Runs.{Question, Runs}
+use Rattle.lite_stream.specs.Laws.Through.{Entails, Following, through_runs}
 use Rattle.lite_stream.specs.Through.{AdapterParts, Adapts}
 
--- from what agrees, answers that are the same come of answers in that are, Pendings aside
-abbrev pub AgreeingFrom : {F A B : Type 0} → (Option A → Option A → Type 0) → (Option B → Option B → Type 0)
-    → (F → List (Answer A) → List (Answer B) → F → Type 0) → (F → F → Type 0) → Type 0
-AgreeingFrom {F} {A} {B} like same relates agree =
-    (f k g l : F) (i j : List (Answer A)) (o p : List (Answer B)) → agree f k → relates f i o g → relates k j p l
-    → ComparableBy like (strip i) (strip j) → ComparableBy same (strip o) (strip p)
+module _ {F A B : Type 0} where
+  -- from what agrees, answers that are the same come of answers in that are, Pendings aside
+  abbrev pub AgreeingFrom : (Option A → Option A → Type 0) → (Option B → Option B → Type 0)
+      → Question F (List (Answer A)) (List (Answer B)) → (F → F → Type 0) → Type 0
+  AgreeingFrom like same relates agree =
+      (f k g l : F) (i j : List (Answer A)) (o p : List (Answer B)) → agree f k → relates f i o g → relates k j p l
+      → ComparableBy like (strip i) (strip j) → ComparableBy same (strip o) (strip p)
 
-abbrev pub AgreeingOver : {F A B : Type 0} → Sameness A → Sameness B
-    → (F → List (Answer A) → List (Answer B) → F → Type 0) → (F → F → Type 0) → Type 0
-AgreeingOver like same = AgreeingFrom (SameAnswer like) (SameAnswer same)
+  abbrev pub AgreeingOver : Sameness A → Sameness B
+      → Question F (List (Answer A)) (List (Answer B)) → (F → F → Type 0) → Type 0
+  AgreeingOver like same = AgreeingFrom (SameAnswer like) (SameAnswer same)
 
 pub through_alike : {M S F A B : Type 0} (p : AdapterParts M S F) {ample : Runs (Answer A) S}
-    {relates : F → List (Answer A) → List (Answer B) → F → Type 0}
+    {relates : Question F (List (Answer A)) (List (Answer B))}
     {agree : F → F → Type 0} {like : Option A → Option A → Type 0} {same : Option B → Option B → Type 0} (x y : M)
     → AlikeBy like ample (p.source x) (p.source y) → agree (p.held x) (p.held y) → AgreeingFrom like same relates agree
     → AlikeBy same (Adapts p ample relates) x y
 through_alike p x y e a agrees l m x' y' h k =
-    agrees (p.held x) (p.held y) (p.held x') (p.held y') h.ins k.ins l m a h.related k.related
-    (e h.ins k.ins (p.source x') (p.source y') h.came k.came)
+    agrees _ _ _ _ h.ins k.ins l m a h.related k.related
+    (e h.ins k.ins _ _ h.came k.came)
 
 module _ {M S F A B : Type 0} (p : AdapterParts M S F) {run ample : Runs (Answer A) S} {needs_none : Type 0}
-    {relates : F → List (Answer A) → List (Answer B) → F → Type 0} {alike : S → S → Type 0}
+    {relates : Question F (List (Answer A)) (List (Answer B))} {alike : S → S → Type 0}
     {agree : F → F → Type 0} where
   -- an adapter whose answers are others where memory was found
   module _ (like : Sameness A) (same : Sameness B) where
-    pub through_steady_by : {relates' : F → List (Answer A) → List (Answer B) → F → Type 0} {needs_none' : Type 0}
+    pub through_steady_by : {relates' : Question F (List (Answer A)) (List (Answer B))} {needs_none' : Type 0}
         → SteadyLawsBy like run ample needs_none alike → Following relates → AgreeingOver like same relates agree
         → (needs_none'
-        → needs_none × ((f g : F) (i : List (Answer A)) (o : List (Answer B)) → relates' f i o g → relates f i o g))
+        → needs_none × Entails relates' relates)
         → SteadyLawsBy same (Adapts p run relates') (Adapts p ample relates) needs_none'
         (λ x y. alike (p.source x) (p.source y) × agree (p.held x) (p.held y))
     through_steady_by s t agrees found =
         record {
           laws = through_runs p s.laws t;
-          steady = λ x y e. through_alike p x y (s.steady (p.source x) (p.source y) e.0) e.1 agrees;
+          steady = λ x y e. through_alike p x y (s.steady _ _ e.0) e.1 agrees;
           found = λ n x y l h. record {
             ins = h.ins;
-            came = s.found (found n).0 (p.source x) (p.source y) h.ins h.came;
-            related = (found n).1 (p.held x) (p.held y) h.ins l h.related;
+            came = s.found (found n).0 _ _ h.ins h.came;
+            related = (found n).1 _ _ h.ins l h.related;
           };
         }
 

@@ -2,25 +2,23 @@
 use Rattle.std.proofs.Common.{◌≤◌, ◌+◌, List, arith}
 use Rattle.lite_base.specs.Answers.{Answer}
 use Rattle.lite_base.specs.Calm.{CalmLaws, waits}
-use Rattle.lite_base.specs.Laws.Calm.{none_no_pending, no_pending_none}
-use Rattle.lite_base.specs.Runs.{Runs}
+use Rattle.lite_base.specs.Laws.Calm.{calm_both, none_no_pending, no_pending_none}
+use Rattle.lite_base.specs.Runs.{Question, Runs}
+use Rattle.lite_stream.specs.Laws.Through.{Entails}
 use Rattle.lite_stream.specs.Through.{AdapterParts, Adapts}
 
 -- no more Pendings go out than came in
-abbrev pub Calming : {F A B : Type 0} → (F → List (Answer A) → List (Answer B) → F → Type 0) → Type 0
-Calming {F} {A} {B} relates =
-    (f g : F) (i : List (Answer A)) (o : List (Answer B)) → relates f i o g → waits o ≤ waits i
+abbrev pub Calming : {F A B : Type 0} → Question F (List (Answer A)) (List (Answer B)) → Type 0
+Calming relates = Entails relates (λ f i o g. waits o ≤ waits i)
 
 pub through_calm : {M S F A B : Type 0} (p : AdapterParts M S F) {run : Runs (Answer A) S}
-    {relates : F → List (Answer A) → List (Answer B) → F → Type 0} {is_calm : S → Type 0}
+    {relates : Question F (List (Answer A)) (List (Answer B))} {is_calm : S → Type 0}
     → CalmLaws run is_calm → Calming relates → CalmLaws (Adapts p run relates) (λ m. is_calm (p.source m))
 through_calm p c t =
-    record {
-      no_pending = λ x y l k h.
-          let none = no_pending_none h.ins (c.no_pending (p.source x) (p.source y) h.ins k h.came) in
-          none_no_pending l (omega (arith, none, t (p.held x) (p.held y) h.ins l h.related));
-      calm_on = λ x y l k h. c.calm_on (p.source x) (p.source y) h.ins k h.came;
-    }
+    calm_both
+    (λ x y l k h.
+    let none = no_pending_none h.ins (c.no_pending _ _ h.ins k h.came) in
+    (none_no_pending l (omega (arith, none, t _ _ h.ins l h.related)), c.calm_on _ _ h.ins k h.came))
 
 -- a stream of two that are calm, of which no more Pendings go out than came in
 pub calm_two : {M S U A B C : Type 0} {run : Runs (Answer A) S} {run' : Runs (Answer B) U} {runs : Runs (Answer C) M}
@@ -30,12 +28,11 @@ pub calm_two : {M S U A B C : Type 0} {run : Runs (Answer A) S} {run' : Runs (An
     × run (first x) i (first y) × run' (second x) j (second y) × (waits l ≤ waits i + waits j))
     → CalmLaws runs (λ m. is_calm (first m) × is_calm' (second m))
 calm_two first second c d came =
-    record {
-      no_pending = λ x y l k h.
-          let e = came x y l h in
-          let none = no_pending_none e.0 (c.no_pending (first x) (first y) e.0 k.0 e.2) in
-          let none' = no_pending_none e.1 (d.no_pending (second x) (second y) e.1 k.1 e.3) in
-          none_no_pending l (omega (arith, e.4, none, none'));
-      calm_on = λ x y l k h. let e = came x y l h in
-          (c.calm_on (first x) (first y) e.0 k.0 e.2, d.calm_on (second x) (second y) e.1 k.1 e.3);
-    }
+    calm_both
+    (λ x y l k h.
+    let e = came x y l h in
+    let none = no_pending_none e.0 (c.no_pending _ _ e.0 k.0 e.2) in
+    let none' = no_pending_none e.1 (d.no_pending _ _ e.1 k.1 e.3) in (
+      none_no_pending l (omega (arith, e.4, none, none')),
+      (c.calm_on _ _ e.0 k.0 e.2, d.calm_on _ _ e.1 k.1 e.3),
+    ))

@@ -2,7 +2,8 @@
 use Rattle.std.proofs.Common.{◌≡◌, List, [], ◌∷◌, ◌++◌, refl}
 use Rattle.futures.specs.declared.task.Poll.TheVariants.{Pending}
 use Rattle.lite_base.specs.Answers.{Answer, end, item}
-use Rattle.lite_base.specs.Runs.{Question, Runs}
+use Rattle.lite_base.specs.Runs.{Hints, Question, Runs}
+use Rattle.lite_base.specs.StreamLaws.{StreamLaws}
 use Rattle.lite_stream.specs.EachItem.{AtEachItem}
 
 -- of the item that was answered
@@ -12,15 +13,20 @@ module _ {S F A O : Type 0} {run : Runs (Answer A) S} {call : Question F A O} {P
   each_here {x} h came is = h.at [] x t f (rw (← is) came) refl
 
   -- after it was asked about an item
-  pub each_asked : {g : F} {a : Answer A} {x : A} {o : O}
-      → ((x y z : S) (l m : List (Answer A)) → run x l y → run y m z → run x (l ++ m) z) → AtEachItem run call P s f
-      → run s (a ∷ []) t → a ≡ item x → call f x o g → AtEachItem run call P t g
-  each_asked {g} {x} {o} follows h came is called =
-      record {
-        at = λ ins y u p more asked.
-            h.at (item x ∷ ins) y u p (follows s t u (item x ∷ []) (ins ++ item y ∷ []) (rw (← is) came) more)
-            (g, (o, called), asked);
-      }
+  module _ {hints : Hints S} {g : F} {a : Answer A} {x : A} {o : O} (laws : StreamLaws run hints) where
+    pub each_asked : AtEachItem run call P s f → run s (a ∷ []) t → a ≡ item x → call f x o g
+        → AtEachItem run call P t g
+    each_asked h came is called =
+        record {
+          at = λ ins y u p more asked.
+              h.at (item x ∷ ins) y u p (laws.follows s t u (item x ∷ []) _ (rw (← is) came) more)
+              (g, (o, called), asked);
+        }
+
+    -- beside what else holds then
+    pub each_again : {Q : Type 0} → AtEachItem run call P s f → run s (a ∷ []) t → a ≡ item x → call f x o g → Q
+        → Q × AtEachItem run call P t g
+    each_again h came is called again = (again, each_asked h came is called)
 
 module _ {S F A O : Type 0} (run : Runs (Answer A) S) (call : Question F A O) (P : F → A → Type 0)
     (follows : (x y z : S) (l m : List (Answer A)) → run x l y → run y m z → run x (l ++ m) z) where
@@ -30,13 +36,13 @@ module _ {S F A O : Type 0} (run : Runs (Answer A) S) (call : Question F A O) (P
     each_pending came =
         record {
           at = λ ins x u p more. h.at (Pending ∷ ins) x u p
-              (follows s t u (Pending ∷ []) (ins ++ item x ∷ []) came more);
+              (follows s t u _ _ came more);
         }
 
     pub each_end : run s (end ∷ []) t → AtEachItem run call P t f
     each_end came =
         record {
-          at = λ ins x u p more. h.at (end ∷ ins) x u p (follows s t u (end ∷ []) (ins ++ item x ∷ []) came more);
+          at = λ ins x u p more. h.at (end ∷ ins) x u p (follows s t u _ _ came more);
         }
 
 -- what each poll that is no item leaves

@@ -55,7 +55,7 @@ module _ {A : Type 0} where
       rw c.2 (fuses_more Pending c.1 o g (λ l. refl) (of_cut c.1 o g c.3))
   of_cut i (Ready None ∷ o) g (inr c) = rw c.2 (met_end c.1 o g (after_end c.1 o true g refl c.3))
   of_cut i (Ready (Some x) ∷ o) g (inr c) =
-      rw c.2 (fuses_more (item x) c.1 o g (λ l. refl) (of_cut c.1 o g c.3))
+      rw c.2 (fuses_more _ c.1 o g (λ l. refl) (of_cut c.1 o g c.3))
 
   of_cuts : (f g : Bool) (i o : List (Answer A)) → Cuts is_over_after ended_after f i o g → FusesOn f i o g
   of_cuts true g i o c = after_end i o true g refl c

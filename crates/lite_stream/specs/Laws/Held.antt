@@ -11,24 +11,24 @@ use Rattle.lite_stream.specs.Laws.Lower.{at_most_below}
 
 module _ {V : Type 0} where
   pub held_sized : (xs : List ℕ) (held : Option V) {n : ℕ} → length xs ≡ n → length (held_rank xs held) ≡ n + 1
-  held_sized xs held e = length-append xs (count_held held ∷ []) ∙ ap (λ k. k + 1) e
+  held_sized xs held e = length-append xs _ ∙ ap (λ k. k + 1) e
 
   -- what is held goes
   held_below : (xs us : List ℕ) (v : V) → AtMost xs us → Below (held_rank {V = V} xs None) (held_rank us (Some v))
-  held_below xs us v h = Below-after xs us (0 ∷ []) (1 ∷ []) h (inl (omega arith, refl))
+  held_below xs us v h = Below-after xs us _ _ h (inl (omega arith, refl))
 
   pub held_less : (zs us : List ℕ) (v : V) → AtMost zs (held_rank {V = V} us None) → Below zs (held_rank us (Some v))
   held_less zs us v h =
-      at_most_below zs (held_rank {V = V} us None) (held_rank us (Some v)) h (held_below us us v (inl refl))
+      at_most_below zs _ _ h (held_below us us v (inl refl))
 
   -- what stands before is lower
   module _ (xs us : List ℕ) where
     pub held_first : (g f : Option V) → Below xs us → Below (held_rank xs g) (held_rank us f)
-    held_first g f h = Below-first xs us (count_held g ∷ []) (count_held f ∷ []) h refl
+    held_first g f h = Below-first xs us _ _ h refl
 
     pub held_level : (v w : Option V) → AtMost xs us → count_held w ≡ count_held v
         → AtMost (held_rank xs w) (held_rank us v)
-    held_level v w h e = AtMost-both xs us (count_held w ∷ []) (count_held v ∷ []) h (inl (rw e))
+    held_level v w h e = AtMost-both xs us _ _ h (inl (rw e))
 
   -- items came in, or nothing did and what was held is gone
   pub held_falls : {A : Type 0} (i : List (Answer A)) (xs us : List ℕ) (g f : Option V)

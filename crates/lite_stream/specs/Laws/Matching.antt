@@ -21,7 +21,7 @@ module _ {A : Type 0} where
   pub copies_match : (like : Sameness (Bor A))
       → MatchesFrom (SameItem like) (SameItem (Referred like)) CopiesItem (λ p q. ⊤)
   copies_match like f k g l x w y z a e c d =
-      (made_same like (λ r v. v ≡ r.now) (λ r v u p q. p ∙ sym q) x w y z e c d, tt)
+      (made_same like _ (λ r v u p q. p ∙ sym q) x w y z e c d, tt)
 
   -- whatever it is shown to
   pub shows_match : {F : Type 0} (look : Question F A (Unit {0})) (like : A → A → Type 0)

@@ -7,6 +7,7 @@ use Rattle.lite_base.specs.Laws.Alike.{answer_items, comparable_as, comparable_n
 use Rattle.lite_base.specs.Laws.Calling.{MatchesFrom}
 use Rattle.lite_base.specs.Runs.{Question}
 use Rattle.lite_stream.specs.Laws.Agreeing.{AgreeingOver}
+use Rattle.lite_stream.specs.Laws.Through.{Entails}
 
 -- `InPlace v follows out`: in the place of v there is `out`, in which v may be followed by what `follows` tells
 module _ {F A V B : Type 0} (call : Question F A V)
@@ -35,12 +36,12 @@ module _ {F A V B : Type 0} (call : Question F A V)
     placed_same : (f k : F) (i j : List (Option A)) (o p : List (Option B)) → agree f k
         → ComparableBy (OptionBy like) i j → Placed f i o → Placed k j p → ComparableBy (SameAnswer same) o p
     placed_same f k [] j o p a c r q = rw r tt
-    placed_same f k (x ∷ i) [] o p a c r q = rw q (comparable_nil (SameAnswer same) o)
+    placed_same f k (x ∷ i) [] o p a c r q = rw q (comparable_nil _ o)
     placed_same f k (None ∷ i) (None ∷ j) o p a c r q =
         rw (r.1, q.1) (ends_same same, placed_same f k i j r.0 q.0 a c.1 r.2 q.2)
     placed_same f k (Some x ∷ i) (Some y ∷ j) o p a c r q =
         let e = made f k r.1 q.1 x y r.0 q.0 a c.0 r.2 q.2 in
-        places r.0 q.0 (Placed r.1 i) (Placed q.1 j) o p e.0 r.3 q.3 (λ o' p'. placed_same r.1 q.1 i j o' p' e.1 c.1)
+        places r.0 q.0 _ _ o p e.0 r.3 q.3 (λ o' p'. placed_same r.1 q.1 i j o' p' e.1 c.1)
     placed_same f k (_ ∷ i) (_ ∷ j) o p a c r q = absurd c.0
 
     pub placed_from_same : (f k : F) (v w : Option V) (i j : List (Option A)) (o p : List (Option B)) → agree f k
@@ -48,16 +49,16 @@ module _ {F A V B : Type 0} (call : Question F A V)
         → ComparableBy (SameAnswer same) o p
     placed_from_same f k None None i j o p a e c r q = placed_same f k i j o p a c r q
     placed_from_same f k (Some v) (Some w) i j o p a e c r q =
-        places v w (Placed f i) (Placed k j) o p e r q (λ o' p'. placed_same f k i j o' p' a c)
+        places v w _ _ o p e r q (λ o' p'. placed_same f k i j o' p' a c)
     placed_from_same f k _ _ i j o p a h c r q = absurd h
 
   -- the answers of a family that stand in the places of items
   pub placed_agreeing : (like : Sameness A) (same : Sameness B) {alike : V → V → Type 0} {agree : F → F → Type 0}
-      {relates : F → List (Answer A) → List (Answer B) → F → Type 0} → MatchesFrom (SameItem like) alike call agree
+      {relates : Question F (List (Answer A)) (List (Answer B))} → MatchesFrom (SameItem like) alike call agree
       → AlikeInPlace same alike
-      → ((f g : F) (i : List (Answer A)) (o : List (Answer B)) → relates f i o g → Placed f (strip i) (strip o))
+      → Entails relates (λ f i o g. Placed f (strip i) (strip o))
       → AgreeingOver like same relates agree
   placed_agreeing like same m places placed f k g l i j o p a r q c =
-      placed_same same m places f k (strip i) (strip j) (strip o) (strip p) a
-      (comparable_as (SameAnswer like) (OptionBy (SameItem like)) (answer_items like) (strip i) (strip j) c)
+      placed_same same m places f k _ _ _ _ a
+      (comparable_as _ _ (answer_items like) _ _ c)
       (placed f g i o r) (placed k l j p q)

@@ -12,7 +12,7 @@ use Rattle.lite_base.specs.Future.Calls.{AlwaysObeys, CallAnswers, NeverPends, P
 use Rattle.lite_base.specs.FutureLaws.{FutureLaws}
 use Rattle.lite_base.specs.Laws.Answers.{up_to_once, waiting_up_to}
 use Rattle.lite_base.specs.Laws.Calls.{folds_follow}
-use Rattle.lite_base.specs.Laws.Calm.{no_pending_back}
+use Rattle.lite_base.specs.Laws.Calm.{calm_both, no_pending_back}
 use Rattle.lite_base.specs.Steady.{FutureSteadyLaws}
 use Rattle.lite_base.specs.Laws.Steady.{future_steady_always}
 use Rattle.lite_base.specs.declared.future.poll_fn.PollFn.{PollFn}
@@ -23,7 +23,7 @@ module _ {F A : Type 0} (g : Poller F A) where
       record {
         rests = λ x. (tt, refl);
         stays = λ x y h. ap (λ v. record x { f = v }) (sym h.1);
-        follows = λ x y z l m w h k. (waiting_up_to l m w k.0, folds_follow (CallAnswers g) x.f y.f z.f l m h.1 k.1);
+        follows = λ x y z l m w h k. (waiting_up_to l m w k.0, folds_follow _ x.f y.f z.f l m h.1 k.1);
         once = λ x y l h. up_to_once l h.0;
       }
 
@@ -35,21 +35,17 @@ module _ {F A : Type 0} (g : Poller F A) where
   -- it is so on
   pub never_pends_on : (f q : F) (l : List (Poll A)) → NeverPends g f → FoldsTo (CallAnswers g) f l q → NeverPends g q
   never_pends_on f q l k h = record {
-    at = λ m p d. no_pending_back l m (k.at (l ++ m) p (folds_follow (CallAnswers g) f q p l m h d));
+    at = λ m p d. no_pending_back l m (k.at _ p (folds_follow _ f q p l m h d));
   }
 
   pub polled_calm : CalmLaws (λ (x : PollFn F) (l : List (Poll A)) (y : PollFn F). Polled g x.f l y.f)
       (λ x. NeverPends g x.f)
-  polled_calm =
-      record {
-        no_pending = λ x y l k h. k.at l y.f h.1;
-        calm_on = λ x y l k h. never_pends_on x.f y.f l k h.1;
-      }
+  polled_calm = calm_both (λ x y l k h. (k.at l y.f h.1, never_pends_on x.f y.f l k h.1))
 
   -- after a call whose answer goes on, it still obeys
   pub obeys_on : (On : List (Poll A) → Type 0) (f q : F) (a : Poll A) → ((l : List (Poll A)) → On l → On (a ∷ l))
       → AlwaysObeys g On f → CallAnswers g f a q → AlwaysObeys g On q
-  obeys_on On f q a more h c = record { at = λ l p w d. h.at (a ∷ l) p (more l w) (q, c, d) }
+  obeys_on On f q a more h c = record { at = λ l p w d. h.at _ p (more l w) (q, c, d) }
 
   -- until its value
   pub obeys_until : (f q : F) (a : Poll A) → AlwaysObeys g Waiting f → CallAnswers g f a q

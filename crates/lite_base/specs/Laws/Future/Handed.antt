@@ -15,14 +15,14 @@ module _ {A B : Type 0} (shown : A → Option B) where
   handed_waiting (Ready x ∷ l) w = absurd w
 
   pub handed_waits : (l : List (Poll A)) → Waiting l → strip (map (handed shown) l) ≡ []
-  handed_waits l w = waiting_strip (map (handed shown) l) (handed_waiting l w)
+  handed_waits l w = waiting_strip (map _ l) (handed_waiting l w)
 
   -- and then what is shown of the value, before what comes later
   pub handed_gives : (l : List (Poll A)) (later : List (Answer B)) (x : A) → Gives l x
       → strip (map (handed shown) l ++ later) ≡ shown x ∷ strip later
   handed_gives [] later x g = absurd g
   handed_gives (Pending ∷ l) later x g = handed_gives l later x g
-  handed_gives (Ready y ∷ l) later x g = rw (g.0, g.1) refl
+  handed_gives (Ready y ∷ l) later x g = rw (g.0, g.1)
 
   pub handed_no_pending : (l : List (Poll A)) → NoPending l → NoPending (map (handed shown) l)
   handed_no_pending [] h = tt

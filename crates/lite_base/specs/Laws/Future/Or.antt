@@ -19,7 +19,7 @@ module _ {F G A : Type 0} {run_first : Runs (Poll A) F} {run_second : Runs (Poll
         stays = λ x y h. let e = picks_stay laws_first laws_second h in
             λ i. record { future1 = e.0 i; future2 = e.1 i };
         follows = λ x y z l m w h k.
-            rw (map-append (λ (_ : Poll A). true) l m) (picks_follow laws_first laws_second w h k);
+            rw (map-append _ l m) (picks_follow laws_first laws_second w h k);
         once = λ x y l h. up_to_once l h.ends;
       }
 

@@ -54,45 +54,45 @@ module _ {A : Type 0} where
   rows_calm : (order : List Bool) (i j out : List (Poll A)) → PickRows order i j out → NoPending i ⊎ NoPending j
       → NoPending out
   rows_calm =
-      rows_by PickRow (λ i j l. NoPending i ⊎ NoPending j → NoPending l) (λ p. tt)
+      rows_by PickRow _ _
       (λ i j c i' j' l r k p. let d = row_calm i j c i' j' r p in no_pending_join (c ∷ []) l d.0 (k d.1))
       (λ i j c i' j' l r k p. let d = row_calm j i c j' i' r (other_way p) in
       no_pending_join (c ∷ []) l d.0 (k (other_way d.1)))
 
 module _ {F G A : Type 0} {run_first : Runs (Poll A) F} {run_second : Runs (Poll A) G} where
-  pub picks_rest : FutureLaws run_first → FutureLaws run_second → (f : F) (g : G)
-      → Picks run_first run_second [] f g [] f g
-  picks_rest laws_first laws_second f g =
-      record {
-        i = [];
-        j = [];
-        first = laws_first.rests f;
-        second = laws_second.rests g;
-        rows = (refl, refl, refl);
-        ends = tt;
-      }
+  module _ (laws_first : FutureLaws run_first) (laws_second : FutureLaws run_second) where
+    pub picks_rest : (f : F) (g : G)
+        → Picks run_first run_second [] f g [] f g
+    picks_rest f g =
+        record {
+          i = [];
+          j = [];
+          first = laws_first.rests f;
+          second = laws_second.rests g;
+          rows = (refl, refl, refl);
+          ends = tt;
+        }
 
-  pub picks_stay : FutureLaws run_first → FutureLaws run_second → {f f' : F} {g g' : G}
-      → Picks run_first run_second [] f g [] f' g' → (f' ≡ f) × (g' ≡ g)
-  picks_stay laws_first laws_second {f} {f'} {g} {g'} h = (
-    laws_first.stays f f' (subst (λ l. run_first f l f') h.rows.0 h.first),
-    laws_second.stays g g' (subst (λ l. run_second g l g') h.rows.1 h.second),
-  )
+    pub picks_stay : {f f' : F} {g g' : G}
+        → Picks run_first run_second [] f g [] f' g' → (f' ≡ f) × (g' ≡ g)
+    picks_stay {f} {f'} {g} {g'} h = (
+      laws_first.stays f f' (subst (λ l. run_first f l f') h.rows.0 h.first),
+      laws_second.stays g g' (subst (λ l. run_second g l g') h.rows.1 h.second),
+    )
 
-  pub picks_follow : FutureLaws run_first → FutureLaws run_second
-      → {o p : List Bool} {f f' f2 : F} {g g' g2 : G} {l m : List (Poll A)} → Waiting l
-      → Picks run_first run_second o f g l f' g' → Picks run_first run_second p f' g' m f2 g2
-      → Picks run_first run_second (o ++ p) f g (l ++ m) f2 g2
-  picks_follow laws_first laws_second {o} {p} {f} {f'} {f2} {g} {g'} {g2} {l} {m} w h k =
-      let waits = rows_wait o h.i h.j l h.rows w in
-      record {
-        i = h.i ++ k.i;
-        j = h.j ++ k.j;
-        first = laws_first.follows f f' f2 h.i k.i waits.0 h.first k.first;
-        second = laws_second.follows g g' g2 h.j k.j waits.1 h.second k.second;
-        rows = rows_follow PickRow row_more o p h.i h.j k.i k.j l m h.rows k.rows;
-        ends = waiting_up_to l m w k.ends;
-      }
+    pub picks_follow : {o p : List Bool} {f f' f2 : F} {g g' g2 : G} {l m : List (Poll A)} → Waiting l
+        → Picks run_first run_second o f g l f' g' → Picks run_first run_second p f' g' m f2 g2
+        → Picks run_first run_second (o ++ p) f g (l ++ m) f2 g2
+    picks_follow {o} {p} {f} {f'} {f2} {g} {g'} {g2} {l} {m} w h k =
+        let waits = rows_wait o h.i h.j l h.rows w in
+        record {
+          i = h.i ++ k.i;
+          j = h.j ++ k.j;
+          first = laws_first.follows f f' f2 h.i k.i waits.0 h.first k.first;
+          second = laws_second.follows g g' g2 h.j k.j waits.1 h.second k.second;
+          rows = rows_follow PickRow row_more o p h.i h.j k.i k.j l m h.rows k.rows;
+          ends = waiting_up_to l m w k.ends;
+        }
 
   -- where one of the two is never pending, they are not
   pub picks_calm : {calm_first : F → Type 0} {calm_second : G → Type 0} → CalmLaws run_first calm_first

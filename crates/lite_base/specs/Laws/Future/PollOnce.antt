@@ -5,6 +5,7 @@ use Rattle.futures.specs.declared.task.Poll.{Poll}
 use Rattle.futures.specs.declared.task.Poll.TheVariants.{Ready, Pending}
 use Rattle.lite_base.specs.Answers.{Waiting, strip}
 use Rattle.lite_base.specs.Calm.{CalmLaws, NoPending}
+use Rattle.lite_base.specs.Laws.Calm.{calm_both}
 use Rattle.lite_base.specs.Future.PollOnce.{TellsFirst}
 use Rattle.lite_base.specs.FutureLaws.{FutureLaws}
 use Rattle.lite_base.specs.declared.future.poll_once.PollOnce.{PollOnce}
@@ -28,7 +29,7 @@ module _ {F A : Type 0} (run : Runs (Poll A) F) where
   tells_no_pending x y (Ready b ∷ l) h = rw h.3 tt
 
   pub tells_calm : CalmLaws (TellsFirst run) (λ x. ⊤)
-  tells_calm = record { no_pending = λ x y l k h. tells_no_pending x y l h; calm_on = λ x y l k h. tt }
+  tells_calm = calm_both (λ x y l k h. (tells_no_pending x y l h, tt))
 
   pub tells_laws : FutureLaws (TellsFirst run)
   tells_laws = record { rests = λ x. refl; stays = λ x y h. h; follows = tells_follow; once = tells_once }

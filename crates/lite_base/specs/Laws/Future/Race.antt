@@ -31,7 +31,7 @@ module _ {F G R A : Type 0} {run_first : Runs (Poll A) F} {run_second : Runs (Po
     races_follow x y z (c ∷ l) (d ∷ m) w h k =
         record {
           words = h.words ++ k.words;
-          drawn = folds_follow (λ s word left. (word, left) ≡ next_u32 s) (stream x.rng) (stream y.rng)
+          drawn = folds_follow _ (stream x.rng) (stream y.rng)
               (stream z.rng) h.words k.words h.drawn k.drawn;
           picks = rw (map-append is_first h.words k.words)
               (picks_follow laws_first laws_second w h.picks k.picks);

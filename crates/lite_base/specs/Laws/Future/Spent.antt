@@ -28,7 +28,7 @@ module _ {F A B : Type 0} {run : Runs (Poll A) F} (shown : Poll A → Poll B) (L
 
   pub spends_stay : (x y : Option F) → Spends run shown Later x [] y → y ≡ x
   spends_stay None y h = h.1
-  spends_stay (Some f) (Some g) h = ap (λ v. Some v) (laws.stays f g (rw (shown_none shown h.0 h.3) at h.2))
+  spends_stay (Some f) (Some g) h = ap Some (laws.stays f g (rw (shown_none shown h.0 h.3) at h.2))
   spends_stay (Some f) None h = absurd (shown_gives shown h.ins h.after h.value h.joined h.finishes.gives)
 
   -- of any two runs, the first with its value or without
@@ -44,7 +44,7 @@ module _ {F A B : Type 0} {run : Runs (Poll A) F} (shown : Poll A → Poll B) (L
         finishes = h.finishes;
         after = h.after ++ m;
         later = more h.after m h.later k.0;
-        joined = rw (h.joined, append_assoc) refl;
+        joined = rw (h.joined, append_assoc);
       }
   spends_follow more (Some f) None (Some g) l m h k = absurd (let e = k.1 in cc)
   spends_follow more (Some f) (Some g) None l m h k =
@@ -54,13 +54,13 @@ module _ {F A B : Type 0} {run : Runs (Poll A) F} (shown : Poll A → Poll B) (L
         finishes = finishes_later laws f g h.0 k.ins k.value h.1 h.2 k.finishes;
         after = k.after;
         later = k.later;
-        joined = rw (h.3, k.joined, map-append, append_assoc) refl;
+        joined = rw (h.3, k.joined, map-append, append_assoc);
       }
   spends_follow more (Some f) (Some g) (Some j) l m h k = (
     h.0 ++ k.0,
     waiting_waiting h.0 k.0 h.1 k.1,
     laws.follows f g j h.0 k.0 h.1 h.2 k.2,
-    rw (h.3, k.3, map-append) refl,
+    rw (h.3, k.3, map-append),
   )
 
 module _ {F A B : Type 0} {run ample : Runs (Poll A) F} (shown : Poll A → Poll B) (Later : List (Poll B) → Type 0) where

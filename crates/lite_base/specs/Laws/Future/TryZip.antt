@@ -24,72 +24,71 @@ module _ {F G A B C E : Type 0} {run : Runs (Poll (Result A E)) F} {run_other : 
   fails_later : FutureLaws run → FutureLaws run_other → {x y z : Half F A} {u v t : Half G B}
       {m : List (Poll (Result C E))} (p : Half F A) (q : Half G B) (i : List (Poll (Result A E)))
       (j : List (Poll (Result B E))) (l : List (Poll (Result C E))) → Waiting l
-      → Stands (λ a. Ok a) run x i p → Stands (λ b. Ok b) run_other u j q → TakenWithPair l p y → TakenWithPair l q v
+      → Stands Ok run x i p → Stands Ok run_other u j q → TakenWithPair l p y → TakenWithPair l q v
       → length i ≡ length l → length j ≡ length l
       → Fails run run_other unasked y v m z t → Fails run run_other unasked x u (l ++ m) z t
   fails_later laws laws_other {x} {y} {z} {u} {v} {t} {m} p q i j l w h k held other d e f =
       let same = sym (taken_waiting l p y w held) ∙ f.was_asked in
-      let s = stands_asked (λ a. Ok a) run x f.before i (subst (λ o. Stands (λ a. Ok a) run x i o) same h) in
-      let before = subst (λ o. Stands (λ b. Ok b) run_other u j o) (sym (taken_waiting l q v w other)) k in
+      let s = stands_asked _ run x f.before i (subst (Stands Ok run x i) same h) in
+      let before = subst (Stands Ok run_other u j) (sym (taken_waiting l q v w other)) k in
       record {
         before = s.0;
         was_asked = s.1;
         ins = i ++ f.ins;
         error = f.error;
         failed = (
-          waiting_gives i f.ins (Err f.error) s.2 f.failed.0,
+          waiting_gives i f.ins _ s.2 f.failed.0,
           length-append i f.ins ∙ rw (length-append l m) (omega (arith, d, f.failed.1)),
         );
         last = f.last;
         came = laws.follows s.0 f.before f.last i f.ins s.2 s.3 f.came;
         is_kept = f.is_kept;
         others = j ++ f.others;
-        stands = stands_follow (λ b. Ok b) run_other laws_other u v t j f.others before f.stands;
+        stands = stands_follow _ run_other laws_other u v t j f.others before f.stands;
         asked = rw (length-append j f.others, length-append l m) (omega (arith, e, f.asked));
-        gives = waiting_gives l m (Err f.error) w f.gives;
+        gives = waiting_gives l m _ w f.gives;
       }
 
 module _ {F G A B E : Type 0} {run_first : Runs (Poll (Result A E)) F} {run_second : Runs (Poll (Result B E)) G} where
-  try_zips_stay : FutureLaws run_first → FutureLaws run_second → {x y : Half F A} {u v : Half G B}
-      → TryZips run_first run_second x u [] y v → (y ≡ x) × (v ≡ u)
-  try_zips_stay laws_first laws_second (inl h) = together_stay laws_first laws_second h
-  try_zips_stay laws_first laws_second (inr (inl h)) = absurd h.gives
-  try_zips_stay laws_first laws_second (inr (inr h)) = absurd h.gives
-
-  try_zips_follow : FutureLaws run_first → FutureLaws run_second
-      → {x y z : Half F A} {u v t : Half G B} {l m : List (Poll (Result (A × B) E))} → Waiting l
-      → TryZips run_first run_second x u l y v → TryZips run_first run_second y v m z t
-      → TryZips run_first run_second x u (l ++ m) z t
-  try_zips_follow laws_first laws_second {l} w (inr (inl h)) k = absurd (waiting_not_gives l (Err h.error) w h.gives)
-  try_zips_follow laws_first laws_second {l} w (inr (inr h)) k = absurd (waiting_not_gives l (Err h.error) w h.gives)
-  try_zips_follow laws_first laws_second w (inl h) (inl k) = inl (together_follow laws_first laws_second w h k)
-  try_zips_follow laws_first laws_second {l} w (inl h) (inr (inl k)) =
-      let long = rows_long try_pair h.i h.j l h.rows in
-      inr (inl (fails_later laws_first laws_second h.p h.q h.i h.j l w h.first h.second h.taken.0 h.taken.1 long.0
-      long.1 k))
-  try_zips_follow laws_first laws_second {l} w (inl h) (inr (inr k)) =
-      let long = rows_long try_pair h.i h.j l h.rows in
-      inr (inr (fails_later laws_second laws_first h.q h.p h.j h.i l w h.second h.first h.taken.1 h.taken.0 long.1
-      long.0 k))
-
   try_zips_once : {x y : Half F A} {u v : Half G B} {l : List (Poll (Result (A × B) E))}
       → TryZips run_first run_second x u l y v → length (strip l) ≤ 1
   try_zips_once (inl h) = together_once h
-  try_zips_once {l} (inr (inl h)) = gives_once l (Err h.error) h.gives
-  try_zips_once {l} (inr (inr h)) = gives_once l (Err h.error) h.gives
+  try_zips_once {l} (inr (inl h)) = gives_once l _ h.gives
+  try_zips_once {l} (inr (inr h)) = gives_once l _ h.gives
 
-  pub try_zips_laws : FutureLaws run_first → FutureLaws run_second
-      → FutureLaws
-      (λ (x : TryZip F A G B) (l : List (Poll (Result (A × B) E)))
-      (y : TryZip F A G B). TryZips run_first run_second x.first x.second l y.first y.second)
-  try_zips_laws laws_first laws_second =
-      record {
-        rests = λ x. inl (together_rest laws_first laws_second x.first x.second);
-        stays = λ x y h. let e = try_zips_stay laws_first laws_second h in
-            λ i. record { first = e.0 i; second = e.1 i };
-        follows = λ x y z l m. try_zips_follow laws_first laws_second;
-        once = λ x y l. try_zips_once;
-      }
+  module _ (laws_first : FutureLaws run_first) (laws_second : FutureLaws run_second) where
+    try_zips_stay : {x y : Half F A} {u v : Half G B}
+        → TryZips run_first run_second x u [] y v → (y ≡ x) × (v ≡ u)
+    try_zips_stay (inl h) = together_stay laws_first laws_second h
+    try_zips_stay (inr (inl h)) = absurd h.gives
+    try_zips_stay (inr (inr h)) = absurd h.gives
+
+    try_zips_follow : {x y z : Half F A} {u v t : Half G B} {l m : List (Poll (Result (A × B) E))} → Waiting l
+        → TryZips run_first run_second x u l y v → TryZips run_first run_second y v m z t
+        → TryZips run_first run_second x u (l ++ m) z t
+    try_zips_follow {l} w (inr (inl h)) k = absurd (waiting_not_gives l _ w h.gives)
+    try_zips_follow {l} w (inr (inr h)) k = absurd (waiting_not_gives l _ w h.gives)
+    try_zips_follow w (inl h) (inl k) = inl (together_follow laws_first laws_second w h k)
+    try_zips_follow {l} w (inl h) (inr (inl k)) =
+        let long = rows_long try_pair h.i h.j l h.rows in
+        inr (inl (fails_later laws_first laws_second h.p h.q h.i h.j l w h.first h.second h.taken.0 h.taken.1 long.0
+        long.1 k))
+    try_zips_follow {l} w (inl h) (inr (inr k)) =
+        let long = rows_long try_pair h.i h.j l h.rows in
+        inr (inr (fails_later laws_second laws_first h.q h.p h.j h.i l w h.second h.first h.taken.1 h.taken.0 long.1
+        long.0 k))
+
+    pub try_zips_laws : FutureLaws
+        (λ (x : TryZip F A G B) (l : List (Poll (Result (A × B) E)))
+        (y : TryZip F A G B). TryZips run_first run_second x.first x.second l y.first y.second)
+    try_zips_laws =
+        record {
+          rests = λ x. inl (together_rest laws_first laws_second x.first x.second);
+          stays = λ x y h. let e = try_zips_stay h in
+              λ i. record { first = e.0 i; second = e.1 i };
+          follows = λ x y z l m. try_zips_follow;
+          once = λ x y l. try_zips_once;
+        }
 
 -- a value at the first poll, by a list that is no longer than one
 gives_no_pending : {A B : Type 0} (i : List (Poll A)) (o : List (Poll B)) (x : A) (y : B) → NoPending i → Gives i x
@@ -109,11 +108,11 @@ module _ {F G A B E : Type 0} {run_first : Runs (Poll (Result A E)) F} {run_seco
       → NoPending l × (IfAsked y calm_first × IfAsked v calm_second)
   fails_calm {u} {v} {l} k h =
       let calm : calm_first h.before = subst (λ p. IfAsked p calm_first) h.was_asked k.0 in (
-        gives_no_pending h.ins l (Err h.error) (Err h.error)
+        gives_no_pending h.ins l _ _
             (c.no_pending h.before h.last h.ins calm h.came) h.failed.0 h.failed.1 h.gives,
         (
           rw h.is_kept (c.calm_on h.before h.last h.ins calm h.came),
-          (stands_calm (λ b. Ok b) run_second d u v h.others k.1 h.stands).1,
+          (stands_calm _ run_second d u v h.others k.1 h.stands).1,
         ),
       )
 

@@ -55,7 +55,7 @@ module _ {F G A B : Type 0} {run_first ample_first : Runs (Poll A) F} {run_secon
       record {
         laws = zips_laws s.laws t.laws;
         steady = λ x y e l m x' y' h k.
-            by_value (strip l) (strip m) ((zips_laws s.laws t.laws).once x x' l h)
+            by_value _ _ ((zips_laws s.laws t.laws).once x x' l h)
             ((zips_laws s.laws t.laws).once y y' m k)
             (λ v w f g.
             zips_agree ample_first ample_second same other x.first y.first x'.first y'.first x.second y.second x'.second
@@ -70,8 +70,8 @@ module _ {F G A B : Type 0} {run_first ample_first : Runs (Poll A) F} {run_secon
               j = h.j;
               p = h.p;
               q = h.q;
-              first = stands_found (λ v. v) (s.found n.0) x.first h.p h.i h.first;
-              second = stands_found (λ w. w) (t.found n.1) x.second h.q h.j h.second;
+              first = stands_found _ (s.found n.0) x.first h.p h.i h.first;
+              second = stands_found _ (t.found n.1) x.second h.q h.j h.second;
               rows = h.rows;
               taken = h.taken;
             };

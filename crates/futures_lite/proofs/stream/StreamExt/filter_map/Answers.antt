@@ -6,7 +6,6 @@ use Rattle.futures_lite.proofs.stream.StreamExt.filter_map.Goals as goal
 pub returns-clause-lists : goal.returns-clause-lists
 returns-clause-lists g c h xs lists acts =
     rw c.filter_map.ensures (
-      listed_through filter_map_parts _ _ _ xs _ lists
-          (filter_mapped_fits _ _ h acts xs),
+      listed_through filter_map_parts _ _ _ xs _ lists (filter_mapped_fits _ _ h acts xs),
       filter_map_fewer h xs,
     )

@@ -6,7 +6,6 @@ use Rattle.futures_lite.proofs.stream.StreamExt.map_while.Goals as goal
 pub returns-clause-lists : goal.returns-clause-lists
 returns-clause-lists g c h xs lists acts =
     rw c.map_while.ensures (
-      listed_through map_while_parts _ _ _ xs _ lists
-          (mapped_while_fits _ _ h acts xs),
+      listed_through map_while_parts _ _ _ xs _ lists (mapped_while_fits _ _ h acts xs),
       map_while_fewer h xs,
     )

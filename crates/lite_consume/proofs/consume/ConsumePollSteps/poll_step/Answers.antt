@@ -11,7 +11,7 @@ pub returns-in-None-clause-stepped : goal.returns-in-None-clause-stepped
 returns-in-None-clause-stepped g c =
     let ran = rw c.in-Ready-Some.field-0-is at c.in-Ready-Some.ensures.ran in
     let taken = rw c.in-None.is at c.take_in.ensures in
-    let more = each_asked {o = tt} g.met.S.Stream.laws.follows c.requires.3 ran refl taken in
+    let more = each_asked {o = tt} g.met.S.Stream.laws c.requires.3 ran refl taken in
     let returns = g.met.F.Folder.returns in
     let counts = returns.counts_on _ _ _ c.requires.1 ran in
     ((c.poll_next.ensures.again, counts, returns.opens _ _ _ c.requires.2 taken, more), (_, ran, taken))

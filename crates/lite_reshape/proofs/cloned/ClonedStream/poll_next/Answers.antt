@@ -9,14 +9,11 @@ pub returns-in-None-clause-ran : goal.returns-in-None-clause-ran
 returns-in-None-clause-ran g c =
     let clones = Clones g.T.Clone.is_clone g.T.Clone.is_infallible in
     let is : c.poll_next.result ≡ Pending = cc in
-    rw c.in-None.is
-    (none_answers g.S.Stream.run Refers clones c.args.self.now.stream c.poll_next.new.self tt c.poll_next.result is
-    c.poll_next.ensures.ran)
+    none_answers g.S.Stream.run Refers clones c.in-None.is is c.poll_next.ensures.ran
 
 pub returns-in-Some-ready-clause-ran : goal.returns-in-Some-ready-clause-ran
 returns-in-Some-ready-clause-ran g c =
     let clones = Clones g.T.Clone.is_clone g.T.Clone.is_infallible in
     let is : c.poll_next.result ≡ item c.in-Some-ready.item = cc in
-    rw c.in-None.is
-    (made_answers g.S.Stream.run Refers clones c.args.self.now.stream c.poll_next.new.self tt tt c.poll_next.result
-    c.in-Some-ready.item _ _ _ is c.poll_next.ensures.ran refl c.try_clone-in-Some-ready.ensures)
+    made_answers g.S.Stream.run Refers clones c.in-None.is is c.poll_next.ensures.ran refl
+    c.try_clone-in-Some-ready.ensures

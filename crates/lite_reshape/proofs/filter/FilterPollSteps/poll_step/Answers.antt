@@ -1,6 +1,7 @@
 use Rattle.std.proofs.Common.{refl}
 use Rattle.std.proofs.lemmas.Fn.{called_at}
-use Rattle.lite_stream.specs.Laws.EachItem.{each_asked, each_here}
+use Rattle.lite_stream.specs.Laws.EachItem.{each_here}
+use Rattle.lite_reshape.proofs.PollSteps.{steps_on}
 use Rattle.lite_reshape.proofs.filter.FilterPollSteps.poll_step.Goals as goal
 
 pub predicate-requires : goal.predicate-requires
@@ -11,15 +12,15 @@ predicate-requires g c =
 pub returns-then-predicate-clause-stepped : goal.returns-then-predicate-clause-stepped
 returns-then-predicate-clause-stepped g c =
     let ran = rw c.in-Ready-Some.field-0-is at c.in-Ready-Some.ensures.ran in
-    let called = called_at g.P.FnMut c.predicate.ensures c.if-predicate.true in
-    let more = each_asked g.met.S.Stream.laws.follows c.requires.2 ran refl called in
-    let counts = g.met.S.Counted.counting.counts_on _ _ _ c.requires.1 ran in
-    ((c.poll_next.ensures.again, counts, more), (_, ran, (_, refl, (refl, called))))
+    let called = called_at g.P.FnMut c.predicate.ensures c.if-predicate.true in (
+      steps_on g.met.S.Stream.laws g.met.S.Counted.counting c.requires ran called c.poll_next.ensures.again,
+      (_, ran, (_, refl, (refl, called))),
+    )
 
 pub returns-else-predicate-clause-stepped : goal.returns-else-predicate-clause-stepped
 returns-else-predicate-clause-stepped g c =
     let ran = rw c.in-Ready-Some.field-0-is at c.in-Ready-Some.ensures.ran in
-    let called = called_at g.P.FnMut c.predicate.ensures c.if-predicate.false in
-    let more = each_asked g.met.S.Stream.laws.follows c.requires.2 ran refl called in
-    let counts = g.met.S.Counted.counting.counts_on _ _ _ c.requires.1 ran in
-    ((c.poll_next.ensures.again, counts, more), (c.in-Ready-Some.item, ran, called))
+    let called = called_at g.P.FnMut c.predicate.ensures c.if-predicate.false in (
+      steps_on g.met.S.Stream.laws g.met.S.Counted.counting c.requires ran called c.poll_next.ensures.again,
+      (c.in-Ready-Some.item, ran, called),
+    )

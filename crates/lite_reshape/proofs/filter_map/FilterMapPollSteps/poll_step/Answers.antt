@@ -1,5 +1,6 @@
 use Rattle.std.proofs.Common.{refl}
-use Rattle.lite_stream.specs.Laws.EachItem.{each_asked, each_end, each_here}
+use Rattle.lite_stream.specs.Laws.EachItem.{each_end, each_here}
+use Rattle.lite_reshape.proofs.PollSteps.{steps_on}
 use Rattle.lite_reshape.proofs.filter_map.FilterMapPollSteps.poll_step.Goals as goal
 
 pub f-requires : goal.f-requires
@@ -9,19 +10,17 @@ f-requires g c =
 
 pub returns-in_err-value-in-Ready-Some-clause-stepped : goal.returns-in_err-value-in-Ready-Some-clause-stepped
 returns-in_err-value-in-Ready-Some-clause-stepped g c =
-    let ran = rw c.in-Ready-Some.field-0-is at c.in-Ready-Some.ensures.ran in
-    let counts = g.met.S.Counted.counting.counts_on _ _ _ c.requires.1 ran in
-    let more = each_asked g.met.S.Stream.laws.follows c.requires.2 ran refl c.f.ensures in (
-      (c.poll_next.ensures.again, counts, more),
+    let ran = rw c.in-Ready-Some.field-0-is at c.in-Ready-Some.ensures.ran in (
+      steps_on g.met.S.Stream.laws g.met.S.Counted.counting c.requires ran c.f.ensures c.poll_next.ensures.again,
       rw c.from_residual.ensures (c.in-Ready-Some.item, ran, c.in_err-value-in-Ready-Some.ensures),
     )
 
 pub returns-in_ok-value-in-Ready-Some-clause-stepped : goal.returns-in_ok-value-in-Ready-Some-clause-stepped
 returns-in_ok-value-in-Ready-Some-clause-stepped g c =
-    let ran = rw c.in-Ready-Some.field-0-is at c.in-Ready-Some.ensures.ran in
-    let counts = g.met.S.Counted.counting.counts_on _ _ _ c.requires.1 ran in
-    let more = each_asked g.met.S.Stream.laws.follows c.requires.2 ran refl c.f.ensures in
-    ((c.poll_next.ensures.again, counts, more), (_, ran, (_, refl, c.in_ok-value-in-Ready-Some.ensures)))
+    let ran = rw c.in-Ready-Some.field-0-is at c.in-Ready-Some.ensures.ran in (
+      steps_on g.met.S.Stream.laws g.met.S.Counted.counting c.requires ran c.f.ensures c.poll_next.ensures.again,
+      (_, ran, (_, refl, c.in_ok-value-in-Ready-Some.ensures)),
+    )
 
 pub returns-in-Ready-None-clause-stepped : goal.returns-in-Ready-None-clause-stepped
 returns-in-Ready-None-clause-stepped g c =

@@ -1,7 +1,8 @@
 use Rattle.std.proofs.Common.{refl}
 use Rattle.std.proofs.lemmas.Fn.{called_at}
 use Rattle.std.specs.Prelude.{Some, None}
-use Rattle.lite_stream.specs.Laws.EachItem.{each_asked, each_here}
+use Rattle.lite_stream.specs.Laws.EachItem.{each_here}
+use Rattle.lite_reshape.proofs.PollSteps.{steps_on}
 use Rattle.lite_reshape.proofs.skip_while.SkipWhilePollSteps.poll_step.Goals as goal
 
 pub predicate-requires : goal.predicate-requires
@@ -13,30 +14,27 @@ predicate-requires g c =
 pub returns-then-predicate-clause-stepped : goal.returns-then-predicate-clause-stepped
 returns-then-predicate-clause-stepped g c =
     let ran = rw c.in-Ready-Some.field-0-is at c.in-Ready-Some.ensures.ran in
-    let counts = g.met.S.Counted.counting.counts_on _ _ _ c.requires.1 ran in
-    let asks = rw c.in-Some.is at c.requires.2 in
     let called = called_at g.P.FnMut c.predicate.ensures c.if-predicate.true in
-    let more = each_asked {o = None} g.met.S.Stream.laws.follows asks ran refl (_, refl, called) in (
-      (c.poll_next.ensures.again, counts, more),
+    let can = rw c.in-Some.is at c.requires in (
+      steps_on {o = None} g.met.S.Stream.laws g.met.S.Counted.counting can ran (_, refl, called)
+          c.poll_next.ensures.again,
       (c.in-Ready-Some.item, ran, rw c.in-Some.is (c.predicate.new.self, refl, called)),
     )
 
 pub returns-else-predicate-clause-stepped : goal.returns-else-predicate-clause-stepped
 returns-else-predicate-clause-stepped g c =
     let ran = rw c.in-Ready-Some.field-0-is at c.in-Ready-Some.ensures.ran in
-    let counts = g.met.S.Counted.counting.counts_on _ _ _ c.requires.1 ran in
-    let asks = rw c.in-Some.is at c.requires.2 in
     let called = called_at g.P.FnMut c.predicate.ensures c.if-predicate.false in
-    let more = each_asked {o = Some c.in-Ready-Some.item} g.met.S.Stream.laws.follows asks ran refl
-    (c.predicate.new.self, refl, refl, called) in (
-      (c.poll_next.ensures.again, counts, more),
+    let can = rw c.in-Some.is at c.requires in (
+      steps_on {o = Some c.in-Ready-Some.item} g.met.S.Stream.laws g.met.S.Counted.counting can ran
+          (c.predicate.new.self, refl, refl, called) c.poll_next.ensures.again,
       (_, ran, (c.in-Ready-Some.item, refl, rw c.in-Some.is (c.predicate.new.self, refl, refl, called))),
     )
 
 pub returns-in-None-clause-stepped : goal.returns-in-None-clause-stepped
 returns-in-None-clause-stepped g c =
-    let ran = rw c.in-Ready-Some.field-0-is at c.in-Ready-Some.ensures.ran in
-    let counts = g.met.S.Counted.counting.counts_on _ _ _ c.requires.1 ran in
-    let more = each_asked {o = Some c.in-Ready-Some.item} g.met.S.Stream.laws.follows c.requires.2 ran refl
-    (rw c.in-None.is (refl, refl)) in
-    ((c.poll_next.ensures.again, counts, more), (_, ran, (c.in-Ready-Some.item, refl, rw c.in-None.is (refl, refl))))
+    let ran = rw c.in-Ready-Some.field-0-is at c.in-Ready-Some.ensures.ran in (
+      steps_on {o = Some c.in-Ready-Some.item} g.met.S.Stream.laws g.met.S.Counted.counting c.requires ran
+          (rw c.in-None.is (refl, refl)) c.poll_next.ensures.again,
+      (_, ran, (c.in-Ready-Some.item, refl, rw c.in-None.is (refl, refl))),
+    )

@@ -14,7 +14,7 @@ returns-in-Some-clause-ran g c =
     let is : c.poll.result ≡ Pending = cc in
     rw c.in-Some.is
     (held_answers g.S.Stream.run (Calls g.F.FnMut) (HandsOut run) _ _ _ Pending (Some c.poll.new.self)
-    (g.met.S.Stream.laws.rests _) (hands_pending run _ _ c.poll.result is c.poll.ensures.ran))
+    (g.met.S.Stream.laws.rests _) (hands_pending run is c.poll.ensures.ran))
 
 pub returns-in-Ready-ready-clause-ran : goal.returns-in-Ready-ready-clause-ran
 returns-in-Ready-ready-clause-ran g c =
@@ -22,34 +22,25 @@ returns-in-Ready-ready-clause-ran g c =
     let is : c.poll.result ≡ Ready c.in-Ready-ready.field-0 = cc in
     rw c.in-Some.is
     (held_answers g.S.Stream.run (Calls g.F.FnMut) (HandsOut run) _ _ _ (item _) None (g.met.S.Stream.laws.rests _)
-    (hands_value run _ _ c.poll.result c.in-Ready-ready.field-0 is c.poll.ensures.ran))
+    (hands_value run is c.poll.ensures.ran))
 
 pub returns-in-None-clause-ran : goal.returns-in-None-clause-ran
 returns-in-None-clause-ran g c =
     let is : c.poll_next.result ≡ Pending = cc in
-    rw c.in-None.is
-    (none_answers g.S.Stream.run (Calls g.F.FnMut)
-    (HandsOut g.Fut.Future.run) _ _ _ c.poll_next.result is c.poll_next.ensures.ran)
+    none_answers g.S.Stream.run (Calls g.F.FnMut) (HandsOut g.Fut.Future.run) c.in-None.is is c.poll_next.ensures.ran
 
 pub returns-in-Ready-clause-ran : goal.returns-in-Ready-clause-ran
 returns-in-Ready-clause-ran g c =
-    let run = g.Fut.Future.run in
     let is : c.poll_next.result ≡ item c.in-Some-ready.item = cc in
     rw c.in-None.is
-    (made_answers g.S.Stream.run (Calls g.F.FnMut)
-    (HandsOut run) _ _ _ _ c.poll_next.result c.in-Some-ready.item c.f-future.result
-    (item _) None is c.poll_next.ensures.ran c.f-future.ensures
-    (hands_value run _ _ _ _ refl c.in-Ready.ensures.ran))
+    (made_answers g.S.Stream.run (Calls g.F.FnMut) (HandsOut g.Fut.Future.run) refl is c.poll_next.ensures.ran
+    c.f-future.ensures (hands_value g.Fut.Future.run refl c.in-Ready.ensures.ran))
 
 pub returns-in-Pending-clause-ran : goal.returns-in-Pending-clause-ran
 returns-in-Pending-clause-ran g c =
-    let run = g.Fut.Future.run in
     let is : c.poll_next.result ≡ item c.in-Some-ready.item = cc in
-    rw c.in-None.is
-    (made_answers g.S.Stream.run (Calls g.F.FnMut)
-    (HandsOut run) _ _ _ _ c.poll_next.result c.in-Some-ready.item c.f-future.result Pending
-    (Some _) is c.poll_next.ensures.ran c.f-future.ensures
-    (hands_pending run _ _ _ refl c.in-Pending.ensures.ran))
+    made_answers g.S.Stream.run (Calls g.F.FnMut) (HandsOut g.Fut.Future.run) c.in-None.is is c.poll_next.ensures.ran
+    c.f-future.ensures (hands_pending g.Fut.Future.run refl c.in-Pending.ensures.ran)
 
 pub f-future-requires : goal.f-future-requires
 f-future-requires g c = (each_here c.requires.1 c.poll_next.ensures.ran (search rules)).0
@@ -61,10 +52,10 @@ poll-requires-in-Some-ready g c =
 
 pub returns-in-Ready-clause-again : goal.returns-in-Ready-clause-again
 returns-in-Ready-clause-again g c =
-    let asked = each_asked g.met.S.Stream.laws.follows c.requires.1 c.poll_next.ensures.ran (search rules) in
+    let asked = each_asked g.met.S.Stream.laws c.requires.1 c.poll_next.ensures.ran (search rules) in
     (c.poll_next.ensures.again, asked c.f-future.ensures, c.requires.2)
 
 pub returns-in-Pending-clause-again : goal.returns-in-Pending-clause-again
 returns-in-Pending-clause-again g c =
-    let asked = each_asked g.met.S.Stream.laws.follows c.requires.1 c.poll_next.ensures.ran (search rules) in
+    let asked = each_asked g.met.S.Stream.laws c.requires.1 c.poll_next.ensures.ran (search rules) in
     (c.poll_next.ensures.again, asked c.f-future.ensures, c.in-Pending.ensures.again)

@@ -4,7 +4,7 @@ use Rattle.std.specs.Fn.{CalledAt}
 use Rattle.lite_base.specs.Calling.{Always}
 use Rattle.lite_stream.specs.Inspect.{ShowsItem}
 use Rattle.lite_stream.specs.Laws.Pointwise.{exchanged}
-use Rattle.lite_stream.specs.Laws.EachItem.{each_asked, each_here}
+use Rattle.lite_stream.specs.Laws.EachItem.{each_again, each_here}
 use Rattle.lite_stream.proofs.inspect.InspectStream.poll_next.Goals as goal
 
 pub f-requires : goal.f-requires
@@ -12,8 +12,8 @@ f-requires g c = each_here c.requires.1 c.poll_next.ensures.ran (search rules) _
 
 pub returns-in-Some-clause-again : goal.returns-in-Some-clause-again
 returns-in-Some-clause-again g c =
-    let asked = each_asked g.met.S.Stream.laws.follows c.requires.1 c.poll_next.ensures.ran (search rules) in
-    (c.poll_next.ensures.again, asked (called_at g.F.FnMut c.f.ensures refl))
+    each_again g.met.S.Stream.laws c.requires.1 c.poll_next.ensures.ran (search rules)
+    (called_at g.F.FnMut c.f.ensures refl) c.poll_next.ensures.again
 
 pub returns-in-Some-clause-ran : goal.returns-in-Some-clause-ran
 returns-in-Some-clause-ran g c =

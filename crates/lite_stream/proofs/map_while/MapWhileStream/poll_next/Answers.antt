@@ -1,5 +1,5 @@
 use Rattle.std.proofs.Common.{rules}
-use Rattle.lite_stream.specs.Laws.EachItem.{each_asked, each_here}
+use Rattle.lite_stream.specs.Laws.EachItem.{each_again, each_here}
 use Rattle.lite_stream.proofs.map_while.MapWhileStream.poll_next.Goals as goal
 
 pub f-requires : goal.f-requires
@@ -7,5 +7,4 @@ f-requires g c = each_here c.requires.1 c.poll_next.ensures.ran (search rules)
 
 pub returns-in-Some-clause-again : goal.returns-in-Some-clause-again
 returns-in-Some-clause-again g c =
-    let more = each_asked g.met.S.Stream.laws.follows c.requires.1 c.poll_next.ensures.ran (search rules) c.f.ensures in
-    (c.poll_next.ensures.again, more)
+    let e = c.poll_next.ensures in each_again g.met.S.Stream.laws c.requires.1 e.ran (search rules) c.f.ensures e.again

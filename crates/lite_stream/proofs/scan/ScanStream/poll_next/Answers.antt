@@ -1,7 +1,7 @@
 use Rattle.std.proofs.Common.{refl, rules}
 use Rattle.lite_base.specs.Calling.{CallsWith}
 use Rattle.lite_stream.specs.Laws.Pointwise.{exchanged}
-use Rattle.lite_stream.specs.Laws.EachItem.{each_asked, each_here}
+use Rattle.lite_stream.specs.Laws.EachItem.{each_again, each_here}
 use Rattle.lite_stream.proofs.scan.ScanStream.poll_next.Goals as goal
 
 pub f-requires : goal.f-requires
@@ -9,10 +9,8 @@ f-requires g c = each_here c.requires.1 c.poll_next.ensures.ran (search rules) _
 
 pub returns-in-Some-clause-again : goal.returns-in-Some-clause-again
 returns-in-Some-clause-again g c =
-    let asked = each_asked g.met.S.Stream.laws.follows c.requires.1 c.poll_next.ensures.ran (search rules) in (
-      c.poll_next.ensures.again,
-      asked (record { shown = _; shows = refl; left = _; called = c.f.ensures; leaves = refl }),
-    )
+    each_again g.met.S.Stream.laws c.requires.1 c.poll_next.ensures.ran (search rules)
+    (record { shown = _; shows = refl; left = _; called = c.f.ensures; leaves = refl }) c.poll_next.ensures.again
 
 pub returns-in-Some-clause-ran : goal.returns-in-Some-clause-ran
 returns-in-Some-clause-ran g c =
