@@ -32,7 +32,7 @@ Steady like same fold agree = FoldSteadyLaws like fold fold ⊤ agree same
 
 module _ {M A R : Type 0} (like : A → A → Type 0) (same : R → R → Type 0) (fold : Fold M A R)
     (agree : M → M → Type 0) where
-  abbrev SameAsked : Type 0
+  abbrev pub SameAsked : Type 0
   SameAsked = (p k q l : M) (x w : A) (o u : Option R) → agree p k → like x w → fold.asks p x o q → fold.asks k w u l
       → SameDecision same (agree q l) o u
 
