@@ -73,16 +73,6 @@ module _ {A : Type 0} where
         rw r.0 (beside_lowers b out asked)
     row_lowers i j c i' j' out r rest h k = absurd r
 
-  rows_lower : (xs us ys vs : List ℕ) (o : List Bool) (i j out : List (Answer A)) → MergeRows o i j out
-      → Lowers i xs us → Lowers j ys vs → Lowers out (ys ++ xs) (vs ++ us)
-  rows_lower xs us ys vs =
-      rows_by MergeRow (λ i j l. Lowers i xs us → Lowers j ys vs → Lowers l (ys ++ xs) (vs ++ us))
-      (λ h k. AtMost-both ys vs xs us k h)
-      (row_lowers (ys ++ xs) (vs ++ us) xs us ys vs (first_below xs us ys vs) (second_below xs us ys vs))
-      (λ i j c i' j' l r rest h k. row_lowers (ys ++ xs) (vs ++ us) ys vs xs us
-      (λ b a. second_below xs us ys vs a b) (λ a b. first_below xs us ys vs b a) j i c j' i' l r
-      (λ k' h'. rest h' k') k h)
-
   -- in a row of an item where the first stands first, the second gave an item or nothing
   row_item : (i j : List (Answer A)) (y : A) (i' j' : List (Answer A)) (l s : List A) → MergeRow i j (item y) i' j'
       → j' ≡ items s → (s ≡ [] → i' ≡ items l) → (t : List A) × (j ≡ items t) × (t ≡ [] → i ≡ items (y ∷ l))
@@ -173,7 +163,16 @@ module _ {S U A : Type 0} {run : Runs (Answer A) S} {run' : Runs (Answer A) U} {
       × r'.firm y.stream → Merges run run' o x y l t v
       → Lowers l (r'.rank v.stream ++ r.rank t.stream) (r'.rank y.stream ++ r.rank x.stream)
   merges_lower {o} {x} {t} {y} {v} {l} k h =
-      rows_lower (r.rank t.stream) (r.rank x.stream) (r'.rank v.stream) (r'.rank y.stream) o h.firsts h.seconds l h.rows
+      let xs = r.rank t.stream in
+      let us = r.rank x.stream in
+      let ys = r'.rank v.stream in
+      let vs = r'.rank y.stream in
+      rows_by MergeRow (λ i j l. Lowers i xs us → Lowers j ys vs → Lowers l (ys ++ xs) (vs ++ us))
+      (λ h k. AtMost-both ys vs xs us k h)
+      (row_lowers (ys ++ xs) (vs ++ us) xs us ys vs (first_below xs us ys vs) (second_below xs us ys vs))
+      (λ i j c i' j' l r rest h k. row_lowers (ys ++ xs) (vs ++ us) ys vs xs us
+      (λ b a. second_below xs us ys vs a b) (λ a b. first_below xs us ys vs b a) j i c j' i' l r
+      (λ k' h'. rest h' k') k h) o h.firsts h.seconds l h.rows
       ((through_counting fuse_parts c fuses_relating).lowers x t h.firsts k.0 h.came)
       ((through_counting fuse_parts d fuses_relating).lowers y v h.seconds k.1 h.then_came)
 
