@@ -16,7 +16,7 @@ use Rattle.lite_io_base.specs.Laws.Steady.{no_wait_moved, strip_marks-append, st
 use Rattle.lite_io_base.specs.Marks.{ReadMark, bytes, read_marks}
 use Rattle.lite_io_base.specs.Runs.{MarkLaws}
 use Rattle.lite_io_base.specs.Steady.{NoPendingRead, strip_marks}
-use Rattle.lite_read.specs.Filling.{ExactStays, Filling, filling_of}
+use Rattle.lite_read.specs.Filling.{Filling, filling_of}
 use Rattle.lite_read.specs.Laws.Deterministic.{past_pending, past_value}
 use Rattle.lite_read.specs.Laws.ReadExact.{filled_by}
 use Rattle.lite_read.specs.Pieces.{Cut, CutsPiece}
@@ -25,7 +25,7 @@ use Rattle.lite_read.specs.Read.{Reads}
 use Rattle.lite_read.specs.ReadExact.{Fulfils, ReadsExactly, fills}
 use Rattle.lite_read.specs.ReadFold.{AnswerMarks, Gathers, ReadFold, ReadFolds}
 use Rattle.lite_read.specs.ReadUntil.{CountsPiece, ReadsUntil, until}
-use Rattle.lite_read.specs.UntilVector.{UntilStays, read_of}
+use Rattle.lite_read.specs.UntilVector.{read_of}
 use Rattle.lite_read.specs.declared.read.ReadFuture.{ReadFuture}
 use Rattle.lite_read.specs.declared.read_exact.ReadExactFuture.{ReadExactFuture}
 use Rattle.lite_read.specs.declared.read_until.ReadUntilFuture.{ReadUntilFuture}
@@ -72,19 +72,15 @@ read_folds_once fold now p q i (Ready r ∷ l) v h g =
 abbrev pub WaitedFor : {F A E : Type 0} → Runs (Poll A) F → F → Result A E → F → Type 0
 WaitedFor {F} {A} run x r y = IfOk r (λ v. (l : List (Poll A)) × Gives l v × run x l y) × OnErr r (y ≡ x)
 
--- what was told, and gave the value
-abbrev ToldValue : {S M R : Type 0} → Runs ReadMark S → ReadFold M R → S → M → R → S → M → Type 0
-ToldValue reads fold s p v t q = (l : List ReadMark) × ToldStripped reads s l t × AnswerMarks fold p l (Ready v) q
-
-gathers_told : {X S M R : Type 0} (reader : X → S) (held : X → M) (fold : X → ReadFold M R) (Keeps : X → X → Type 0)
-    (reads : Runs ReadMark S) (x y : X)
-    → ((p q : M) (l : List ReadMark) (v : R) → (fold x).gives p l v q → NoPendingRead l)
-    → (l : List (Poll R)) (v : R) → Gives l v → Gathers reader held fold Keeps reads x l y
-    → ToldValue reads (fold x) (reader x) (held x) v (reader y) (held y)
-gathers_told reader held fold Keeps reads x y now l v g h =
+-- what was told gave the value
+gathers_told : {X S M R : Type 0} {reader : X → S} {held : X → M} {fold : X → ReadFold M R} {Keeps : X → X → Type 0}
+    {reads : Runs ReadMark S} {x y : X} {l : List (Poll R)} {v : R} → Gathers reader held fold Keeps reads x l y
+    → ((p q : M) (l : List ReadMark) (v : R) → (fold x).gives p l v q → NoPendingRead l) → Gives l v
+    → (m : List ReadMark) × ToldStripped reads (reader x) m (reader y) × AnswerMarks (fold x) (held x) m (Ready v) (held y)
+gathers_told {held = held} {fold = fold} {x = x} {y = y} {l = l} {v = v} h now g =
     let f = h.folded in
-    let once = read_folds_once (fold x) now (held x) (held y) f.marks l v (f.cut, h.ends) g in
-    (strip_marks f.marks, (f.marks, f.came, refl), once)
+    (strip_marks f.marks, (f.marks, f.came, refl),
+    read_folds_once (fold x) now (held x) (held y) f.marks l v (f.cut, h.ends) g)
 
 -- `read_exact`
 abbrev Filled : Type 0
@@ -231,8 +227,7 @@ module _ {S E : Type 0} {reads : Runs ReadMark S} (laws : MarkLaws reads) where
       → ToldByExact reads x.reader.now x.buf.now r y.reader.now y.buf.now × SameTwo y.reader y.buf x.reader x.buf
   exact_waited x y (Ok v) begun w =
       let h = w.0.2 in
-      let told = gathers_told (λ z. z.reader.now) filling_of (λ z. fills) ExactStays reads x y
-      (λ p q l v h. no_wait_full p l v h.0) w.0.0 v w.0.1 h in
+      let told = gathers_told h (λ p q l v h. no_wait_full p l v h.0) w.0.1 in
       let from = subst (λ n. AnswerMarks fills (take n x.buf.now, length x.buf.now) told.0 (Ready v) (filling_of y)) begun
       told.2 in
       let value = exact_value y.filled (length x.buf.now) y.buf.now told.0 v from in (
@@ -250,8 +245,7 @@ module _ {S E : Type 0} {reads : Runs ReadMark S} (laws : MarkLaws reads) where
       let h = w.0.2 in
       let old = x.buf.now.items in
       let new = y.buf.now.items in
-      let told = gathers_told (λ z. z.reader.now) read_of (λ z. until z.byte ⊤) UntilStays reads x y
-      (λ p q l v h. no_wait_cut x.byte p l h.0 h.1) w.0.0 v w.0.1 h in
+      let told = gathers_told h (λ p q l v h. no_wait_cut x.byte p l h.0 h.1) w.0.1 in
       let none : read_of x ≡ [] = rw begun (drop-length old) in
       let some : read_of y ≡ drop (length old) new = rw (h.stays.start, begun) refl in
       let xs = drop (length old) new in
@@ -266,14 +260,6 @@ module _ {S E : Type 0} {reads : Runs ReadMark S} (laws : MarkLaws reads) where
       rw w.1 (([], [], told_none laws x.reader.now, sym (append-nil x.buf.now.items), tt, (refl, refl)), (refl, refl))
 
 -- what is told of two values is told of values that equal them
-module _ {S E : Type 0} (reads : Runs ReadMark S) (s : S) (before : List ℕ) (t t' : S) (ts ts' : List ℕ) (e : t' ≡ t)
-    (d : ts' ≡ ts) where
-  pub read_at : (r : Result (Result ℕ Error) E) → ToldByRead reads s before r t ts → ToldByRead reads s before r t' ts'
-  read_at r h = rw (e, d) h
-
-  pub exact_at : (r : Result Filled E) → ToldByExact reads s before r t ts → ToldByExact reads s before r t' ts'
-  exact_at r h = rw (e, d) h
-
-  pub until_at : (at : ℕ) (r : Result (Result ℕ Error) E) → ToldByUntil reads at s before r t ts
-      → ToldByUntil reads at s before r t' ts'
-  until_at at r h = rw (e, d) h
+pub told_at : {S : Type 0} (Told : S → List ℕ → Type 0) {t t' : S} {ts ts' : List ℕ} → t' ≡ t → ts' ≡ ts → Told t ts
+    → Told t' ts'
+told_at Told e d h = rw (e, d) h
