@@ -18,14 +18,6 @@ use Rattle.lite_stream.specs.Laws.Fuse.{fuses_calming, fuses_relating}
 use Rattle.lite_stream.specs.Laws.Through.{laws_unhinted, through_counting}
 use Rattle.lite_stream.specs.declared.fuse.Fuse.{Fuse}
 
--- the second's rank stands before the first's
-module _ (xs us ys vs : List ℕ) where
-  first_below : Below xs us → AtMost ys vs → Below (ys ++ xs) (vs ++ us)
-  first_below h k = Below-after ys vs xs us k h
-
-  second_below : AtMost xs us → Below ys vs → Below (ys ++ xs) (vs ++ us)
-  second_below h k = Below-first ys vs xs us k (AtMost-length xs us h)
-
 module _ {A : Type 0} where
   row_more : (i j : List (Answer A)) (c : Answer A) (i' j' k h : List (Answer A)) → MergeRow i j c i' j'
       → MergeRow (i ++ k) (j ++ h) c (i' ++ k) (j' ++ h)
@@ -169,9 +161,10 @@ module _ {S U A : Type 0} {run : Runs (Answer A) S} {run' : Runs (Answer A) U} {
       let vs = r'.rank y.stream in
       rows_by MergeRow (λ i j l. Lowers i xs us → Lowers j ys vs → Lowers l (ys ++ xs) (vs ++ us))
       (λ h k. AtMost-both ys vs xs us k h)
-      (row_lowers (ys ++ xs) (vs ++ us) xs us ys vs (first_below xs us ys vs) (second_below xs us ys vs))
+      (row_lowers (ys ++ xs) (vs ++ us) xs us ys vs (λ h k. Below-after ys vs xs us k h)
+      (λ h k. Below-first ys vs xs us k (AtMost-length xs us h)))
       (λ i j c i' j' l r rest h k. row_lowers (ys ++ xs) (vs ++ us) ys vs xs us
-      (λ b a. second_below xs us ys vs a b) (λ a b. first_below xs us ys vs b a) j i c j' i' l r
+      (λ k h. Below-first ys vs xs us k (AtMost-length xs us h)) (λ k h. Below-after ys vs xs us k h) j i c j' i' l r
       (λ k' h'. rest h' k') k h) o h.firsts h.seconds l h.rows
       ((through_counting fuse_parts c fuses_relating).lowers x t h.firsts k.0 h.came)
       ((through_counting fuse_parts d fuses_relating).lowers y v h.seconds k.1 h.then_came)

@@ -210,12 +210,12 @@ fused_rest run stays false s t i l d came h =
 module _ {S U A : Type 0} (run : Runs (Answer A) S) (run' : Runs (Answer A) U)
     (stays : (x y : S) → run x [] y → y ≡ x) (stays' : (x y : U) → run' x [] y → y ≡ x) where
   -- of answers that end once: both streams gave all that they had, and what went out is an interleaving
-  pub merged_whole : (o : List Bool) (s : Fuse S) (u : Fuse U) (body : List (Answer A)) (t : Fuse S) (v : Fuse U)
+  pub merged_whole : {o : List Bool} {s : Fuse S} {u : Fuse U} (body : List (Answer A)) {t : Fuse S} {v : Fuse U}
       → WithoutEnd body
       → Merges run run' o s u (body ++ end ∷ []) t v
       → (firsts seconds : List A) × GivesRest run s firsts t × GivesRest run' u seconds v
       × Interleaves firsts seconds (items_given body)
-  merged_whole o s u body t v n h =
+  merged_whole {o} {s} {u} body {t} {v} n h =
       let first = fused_rest run stays s.done s.stream t.stream h.came.ins h.firsts t.done h.came.came h.came.related in
       let second = fused_rest run' stays' u.done u.stream v.stream h.then_came.ins h.seconds v.done h.then_came.came
       h.then_came.related in
