@@ -78,9 +78,11 @@ gathers_told : {X S M R : Type 0} {reader : X → S} {held : X → M} {fold : X 
     → ((p q : M) (l : List ReadMark) (v : R) → (fold x).gives p l v q → NoPendingRead l) → Gives l v
     → (m : List ReadMark) × ToldStripped reads (reader x) m (reader y) × AnswerMarks (fold x) (held x) m (Ready v) (held y)
 gathers_told {held = held} {fold = fold} {x = x} {y = y} {l = l} {v = v} h now g =
-    let f = h.folded in
-    (strip_marks f.marks, (f.marks, f.came, refl),
-    read_folds_once (fold x) now (held x) (held y) f.marks l v (f.cut, h.ends) g)
+    let f = h.folded in (
+      strip_marks f.marks,
+      (f.marks, f.came, refl),
+      read_folds_once (fold x) now (held x) (held y) f.marks l v (f.cut, h.ends) g,
+    )
 
 -- `read_exact`
 abbrev Filled : Type 0
