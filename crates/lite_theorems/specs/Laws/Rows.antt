@@ -184,13 +184,9 @@ module _ {A : Type 0} where
   ended_list (Ready None ∷ own) later u a = cc
   ended_list (Ready (Some x) ∷ own) later u a = let e = ended_list own later (cc u) a in (e.0, ap (λ k. Some x ∷ k) e.1)
 
-  -- the items, and then an end
-  abbrev GaveWhole : List (Answer A) → List A → Type 0
-  GaveWhole i l = (own : List (Answer A)) × (i ≡ own ++ end ∷ []) × (strip own ≡ map Some l)
-
   -- a fused list ends for ever, and where it ends, what came in are its items and then an end
   fused_list : (i l : List (Answer A)) (g : Bool) → FusesOn false i l g → EndsForEver l
-      × (HasEnd l → GaveWhole i (items_given l))
+      × (HasEnd l → (own : List (Answer A)) × (i ≡ own ++ end ∷ []) × (strip own ≡ map Some (items_given l)))
   fused_list i l false h =
       let u = open_list i h.1 in (subst EndsForEver (sym h.0) u.0, λ e. absurd (u.1 (subst HasEnd h.0 e)))
   fused_list i l true h =

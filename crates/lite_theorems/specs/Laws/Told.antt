@@ -121,41 +121,36 @@ no_wait_read : (v : Result ℕ Error) (buf : List ℕ) → NoPendingRead (read_m
 no_wait_read (Ok n) buf = no_wait_moved buf (take n buf)
 no_wait_read (Err e) buf = tt
 
--- what a read was told, and what it leaves
-record ReadOnce {S : Type 0} (reads : Runs ReadMark S) (x : ReadFuture S) (v : Result ℕ Error) (y : ReadFuture S)
-    : Type 0 where
-  told : ToldStripped reads x.reader.now (read_marks (Ready v) y.buf.now) y.reader.now
-  room : length y.buf.now ≡ length x.buf.now
-  bound : IfOk v (λ n. n ≤ length y.buf.now)
-  reader : y.reader.ghost_name ≡ x.reader.ghost_name
-  buf : y.buf.ghost_name ≡ x.buf.ghost_name
+-- what a read was told while it was waited for, in which it gave r and left ts in the buffer
+abbrev pub ToldByRead : {S E : Type 0} → Runs ReadMark S → S → List ℕ → Result (Result ℕ Error) E → S → List ℕ → Type 0
+ToldByRead reads s before r t ts = ((l : List ReadMark) × ToldStripped reads s l t
+    × IfOk r (λ v. l ≡ read_marks (Ready v) ts) × IfErr r (λ _. l ≡ []))
+    × (length ts ≡ length before) × IfOk r (λ v. IfOk v (λ n. n ≤ length ts))
 
-polled_told : {S : Type 0} {reads : Runs ReadMark S} → MarkLaws reads → (x y : ReadFuture S)
+-- both references of a future are those of another
+abbrev pub SameTwo : {A B : Type 0} → MutBor A → MutBor B → MutBor A → MutBor B → Type 0
+SameTwo a b c d = (a.ghost_name ≡ c.ghost_name) × (b.ghost_name ≡ d.ghost_name)
+
+polled_told : {S : Type 0} (E : Type 0) {reads : Runs ReadMark S} → MarkLaws reads → (x y : ReadFuture S)
     (l : List (Poll (Result ℕ Error))) (v : Result ℕ Error) → Gives l v → PolledByCalls (Reads reads) x l y
-    → ReadOnce reads x v y
-polled_told laws x y [] v g h = absurd g
-polled_told laws x y (Pending ∷ l) v g h =
-    let rest = polled_told laws h.0 y l v g h.2 in
+    → ToldByRead {E = E} reads x.reader.now x.buf.now (Ok v) y.reader.now y.buf.now × SameTwo y.reader y.buf x.reader x.buf
+polled_told E laws x y [] v g h = absurd g
+polled_told E laws x y (Pending ∷ l) v g h =
     let first = h.1 in
-    let marks = read_marks (Ready v) y.buf.now in
-    record {
-      told = told_follow laws x.reader.now h.0.reader.now y.reader.now [] marks
-          (ReadMark.pending ∷ [], first.came, refl) rest.told;
-      room = rest.room ∙ first.room;
-      bound = rest.bound;
-      reader = rest.reader ∙ ap (λ z. z.reader.ghost_name) first.stays;
-      buf = rest.buf ∙ ap (λ z. z.buf.ghost_name) first.stays;
-    }
-polled_told laws x y (Ready r ∷ l) v g h =
+    let more = polled_told E laws h.0 y l v g h.2 in
+    let told = more.0.0 in
+    let names = more.1 in
+    let all = told_follow laws x.reader.now h.0.reader.now y.reader.now [] told.0
+    (ReadMark.pending ∷ [], first.came, refl) told.1 in (
+      ((told.0, all, told.2, tt), more.0.1 ∙ first.room, more.0.2),
+      (names.0 ∙ ap (λ z. z.reader.ghost_name) first.stays, names.1 ∙ ap (λ z. z.buf.ghost_name) first.stays),
+    )
+polled_told E laws x y (Ready r ∷ l) v g h =
     let last = rw g.0 at h.0 in
-    let marks = read_marks (Ready v) y.buf.now in
-    record {
-      told = (marks, last.came, stripped_no_pending marks (no_wait_read v y.buf.now));
-      room = last.room;
-      bound = last.bound;
-      reader = ap (λ z. z.reader.ghost_name) last.stays;
-      buf = ap (λ z. z.buf.ghost_name) last.stays;
-    }
+    let marks = read_marks (Ready v) y.buf.now in (
+      ((marks, (marks, last.came, stripped_no_pending marks (no_wait_read v y.buf.now)), refl, tt), last.room, last.bound),
+      (ap (λ z. z.reader.ghost_name) last.stays, ap (λ z. z.buf.ghost_name) last.stays),
+    )
 
 -- `read_until`
 module _ (at : ℕ) where
@@ -194,13 +189,7 @@ module _ (at : ℕ) where
       let g = w.given in
       rw (w.cut, ← held.0) (piece_cut w.between q w.last v g.0 (rw held.0 held.1) g.1 g.2)
 
--- what a read was told while it was waited for, in which it gave r and left ts in the buffer
-abbrev pub ToldByRead : {S E : Type 0} → Runs ReadMark S → S → List ℕ → Result (Result ℕ Error) E → S → List ℕ → Type 0
-ToldByRead reads s before r t ts = ((l : List ReadMark) × ToldStripped reads s l t
-    × IfOk r (λ v. l ≡ read_marks (Ready v) ts) × IfErr r (λ _. l ≡ []))
-    × (length ts ≡ length before) × IfOk r (λ v. IfOk v (λ n. n ≤ length ts))
-
--- a `read_exact` likewise
+-- what a `read_exact` was told while it was waited for, in which it gave r and left ts in the buffer
 abbrev pub ToldByExact : {S E : Type 0} → Runs ReadMark S → S → List ℕ → Result Filled E → S → List ℕ → Type 0
 ToldByExact reads s before r t ts = ((l : List ReadMark) × ToldStripped reads s l t
     × IfOk r (λ v. FillsUp ts l v) × IfErr r (λ _. l ≡ [])) × (length ts ≡ length before)
@@ -210,17 +199,11 @@ abbrev pub ToldByUntil : {S E : Type 0} → Runs ReadMark S → ℕ → S → Li
 ToldByUntil reads at s before r t ts = (l : List ReadMark) × (xs : List ℕ) × ToldStripped reads s l t × (ts ≡ before ++ xs)
     × IfOk r (λ v. PieceTold at xs l v) × IfErr r (λ _. (l ≡ []) × (xs ≡ []))
 
--- both references of a future are those of another
-abbrev pub SameTwo : {A B : Type 0} → MutBor A → MutBor B → MutBor A → MutBor B → Type 0
-SameTwo a b c d = (a.ghost_name ≡ c.ghost_name) × (b.ghost_name ≡ d.ghost_name)
-
 module _ {S E : Type 0} {reads : Runs ReadMark S} (laws : MarkLaws reads) where
   -- `read`: what was told, and the references
   pub read_waited : (x y : ReadFuture S) (r : Result (Result ℕ Error) E) → WaitedFor (PolledByCalls (Reads reads)) x r y
       → ToldByRead reads x.reader.now x.buf.now r y.reader.now y.buf.now × SameTwo y.reader y.buf x.reader x.buf
-  read_waited x y (Ok v) w =
-      let h = polled_told laws x y w.0.0 v w.0.1 w.0.2 in
-      (((read_marks (Ready v) y.buf.now, h.told, refl, tt), h.room, h.bound), (h.reader, h.buf))
+  read_waited x y (Ok v) w = polled_told E laws x y w.0.0 v w.0.1 w.0.2
   read_waited x y (Err e) w = rw w.1 ((([], told_none laws x.reader.now, tt, refl), refl, tt), (refl, refl))
 
   -- `read_exact` likewise
