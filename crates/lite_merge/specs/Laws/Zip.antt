@@ -126,16 +126,7 @@ module _ {A B : Type 0} where
 
   -- ranks
 
-  module _ (f g : Option A) where
-    -- where items came out, only items came in
-    pairing_items : (i : List (Answer A)) (j : List (Answer B)) (l : List (Answer (A × B))) → Pairing f i j l g
-        → AllByRecursion IsItem l → AllByRecursion IsItem i
-    pairing_items =
-        pairing_by g (λ f i j l. AllByRecursion IsItem l → AllByRecursion IsItem i) (λ e h. tt) (λ x n e h. tt)
-        (λ x i n b j l r h. r (items_rest n (pair_with x b) l h)) (λ i j l r h. let e = h.0.1 in cc)
-        (λ i j l r h. let e = h.0.1 in cc) (λ x i j b l r h. ((x, refl), r h)) f
-
-  -- and where nothing came in, they came of what was held
+  -- where items came out and nothing came in, they came of what was held
   alone : (f g : Option A) (j : List (Answer B)) (y : A × B) (l : List (A × B)) → Pairing f [] j (items (y ∷ l)) g
       → (g ≡ None) × (v : A) × (f ≡ Some v)
   alone None g j y l c = cc
@@ -205,8 +196,11 @@ module _ {S U A B : Type 0} {run : Runs (Answer A) S} {run' : Runs (Answer B) U}
             (λ b before e. c.falls x.first y.first b before k (rw e at h.came))
             (λ e. ap r.rank (s.stays x.first y.first (rw e at h.came)))
             (λ e. alone x.item_slot y.item_slot h.seconds a more (rw e at h.paired))
-            (pairing_items x.item_slot y.item_slot h.firsts h.seconds (items (a ∷ more)) h.paired
-            (items_each (a ∷ more)));
+            -- where items came out, only items came in
+            (pairing_by y.item_slot (λ f i j l. AllByRecursion IsItem l → AllByRecursion IsItem i) (λ e h. tt)
+            (λ v n e h. tt) (λ v i n b j l r h. r (items_rest n (pair_with v b) l h)) (λ i j l r h. let e = h.0.1 in cc)
+            (λ i j l r h. let e = h.0.1 in cc) (λ v i j b l r h. ((v, refl), r h)) x.item_slot h.firsts h.seconds
+            (items (a ∷ more)) h.paired (items_each (a ∷ more)));
         lowers = λ x y l k h.
             let xs = r.rank y.first in
             let us = r.rank x.first in
