@@ -111,7 +111,7 @@ exact_value k n new l v w =
     let taken = filled_by w.taken ([], n) w.between w.folds in
     let front : take k new ≡ w.taken = ap (λ (z : Filling). z.0) w.given.1 ∙ taken.0 in
     let room : length new ≡ n = ap (λ (z : Filling). z.1) w.given.1 ∙ taken.1 in
-    let held : w.between ≡ (w.taken, length new) = cc (taken.0, taken.1, room) in
+    let held : w.between ≡ (w.taken, length new) = cc in
     let all : length w.taken ≡ length new → w.taken ≡ new = λ e. sym front ∙ take_all k new
     (omega (arith, length-take k new, ap length front, e)) in
     (room, rw w.cut (fills_up w.taken new w.last v all (rw held at w.given.0)))
