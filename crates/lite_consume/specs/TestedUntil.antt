@@ -4,11 +4,11 @@ use Rattle.lite_base.specs.Runs.{Question}
 use Rattle.lite_consume.specs.Consuming.{Fold}
 
 module _ {F A : Type 0} (test : Question F A Bool) (goes_on decides : Bool) where
-  -- an item for which the test gives `goes_on` is taken in; one for which it gives `decides` decides, and that is the value
+  -- an item of which the test gives `goes_on` is taken in; where the test gives `decides`, that is the value
   abbrev pub TestStep : Question F A (Option Bool)
   TestStep p x None q = test p x goes_on q
   TestStep p x (Some r) q = (r ≡ decides) × test p x decides q
 
-  -- the value is `goes_on` where no item decided
+  -- a test is asked about each item: the value is `decides` at the first of which it gives that, and `goes_on` at an end
   abbrev pub tested_until : Fold F A Bool
   tested_until = record { asks = TestStep; closes = λ p r q. (r ≡ goes_on) × (q ≡ p) }

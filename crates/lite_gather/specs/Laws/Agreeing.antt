@@ -52,21 +52,21 @@ both_there none (Some c) None h g e d = cc
 both_there none (Some c) (Some b) h g e d = none c b e d
 
 module _ {C T : Type 0} (like : Sameness T) (holds : C → List T → Type 0) where
-  abbrev Holds : C → C → Type 0
-  Holds = HoldsSame like holds
+  abbrev HoldsLike : C → C → Type 0
+  HoldsLike = HoldsSame like holds
 
-  collect_asked : SameAsked (SameItem like) (SameCollected Holds) (collects ⊥ holds) (OptionBy Holds)
+  collect_asked : SameAsked (SameItem like) (SameCollected HoldsLike) (collects ⊥ holds) (OptionBy HoldsLike)
   collect_asked p k q l x w None None a e h g =
-      some_by Holds h.4 g.4 (took_same like holds x w (there Holds a h.2 g.2) e h.3 g.3)
+      some_by HoldsLike h.4 g.4 (took_same like holds x w (there HoldsLike a h.2 g.2) e h.3 g.3)
   collect_asked p k q l x w None (Some t) a e h g = g.0
   collect_asked p k q l x w (Some r) u a e h g = absurd h.0
 
-  pub collect_steady : FoldSteadyLaws (SameItem like) (collects ⊤ holds) (collects ⊥ holds) ⊥ (OptionBy Holds)
-      (SameCollected Holds)
+  pub collect_steady : FoldSteadyLaws (SameItem like) (collects ⊤ holds) (collects ⊥ holds) ⊥ (OptionBy HoldsLike)
+      (SameCollected HoldsLike)
   collect_steady =
       record {
         asks = collect_asked;
-        closes = λ p k q l r t a h g. ok_by Holds h.2 g.2 (there Holds a h.1 g.1);
+        closes = λ p k q l r t a h g. ok_by HoldsLike h.2 g.2 (there HoldsLike a h.1 g.1);
         found = absurd;
       }
 
