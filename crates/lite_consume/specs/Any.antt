@@ -1,14 +1,9 @@
--- `any`: whether the predicate accepts an item. The first one that it accepts decides.
-use Rattle.std.specs.Prelude.{◌≡◌, Option, Some, None, Bool, true, false}
-use Rattle.lite_consume.specs.Consuming.{Fold}
+-- `any`: whether the predicate accepts an item.
+use Rattle.std.specs.Prelude.{Bool, true, false}
 use Rattle.lite_base.specs.Runs.{Question}
+use Rattle.lite_consume.specs.Consuming.{Fold}
+use Rattle.lite_consume.specs.TestedUntil.{tested_until}
 
-module _ {F A : Type 0} (test : Question F A Bool) where
-  -- an item that is rejected is taken in, and one that is accepted decides: true
-  abbrev pub AnyStep : Question F A (Option Bool)
-  AnyStep p x None q = test p x false q
-  AnyStep p x (Some r) q = (r ≡ true) × test p x true q
-
-  -- the value is false where no item was accepted
-  abbrev pub anys : Fold F A Bool
-  anys = record { asks = AnyStep; closes = λ p r q. (r ≡ false) × (q ≡ p) }
+-- the first item that is accepted decides: true
+abbrev pub anys : {F A : Type 0} → Question F A Bool → Fold F A Bool
+anys test = tested_until test false true

@@ -17,6 +17,7 @@ pub mod Next
 pub mod Nth
 pub mod PollSteps
 pub mod Position
+pub mod TestedUntil
 pub mod TryFold
 pub mod TryForEach
 pub mod TryNext

@@ -4,6 +4,7 @@ ghost use Rattle.lite_consume.specs.Consuming.{fold_of};
 ghost use Rattle.lite_consume.specs.Laws.Returning.{returns_counted};
 ghost use Rattle.lite_gather.specs.Partition.{Sorted, Unsorted, partitions, partitions_open};
 
+use crate::collect::hand_out;
 use crate::gather::Gather;
 use crate::refused::Refused;
 use lite_base::Counted;
@@ -61,17 +62,12 @@ impl<S: Counted, P: FnMut(&S::Item) -> bool, B: Gather<S::Item>> Folder<S> for P
             Ok(()) => return None,
             Err(item) => item,
         };
-        match self.res.take() {
-            Some(collected) => Some(Err(Refused { collected, item })),
-            None => unreachable!(),
-        }
+        let collected = hand_out(&mut self.res);
+        Some(Err(Refused { collected, item }))
     }
 
     fn close(&mut self) -> Result<(B, B), Refused<(B, B), S::Item>> {
-        match self.res.take() {
-            Some(both) => Ok(both),
-            None => unreachable!(),
-        }
+        Ok(hand_out(&mut self.res))
     }
 
     ghost returns = { returns_counted S.counting

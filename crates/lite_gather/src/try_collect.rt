@@ -3,6 +3,7 @@ ghost use Rattle.lite_consume.specs.Consuming.{fold_of};
 ghost use Rattle.lite_consume.specs.Laws.Returning.{returns_ok};
 ghost use Rattle.lite_gather.specs.TryCollect.{tries_collect, tries_collect_open};
 
+use crate::collect::hand_out;
 use crate::gather::Gather;
 use crate::refused::{Refused, TryCollectError};
 use lite_base::OkCounted;
@@ -40,9 +41,7 @@ impl<S: OkCounted, C: Gather<S::Ok>> Folder<S> for TryCollect<C> {
             Err(error) => return Some(Err(TryCollectError::Source(error))),
         };
         // It is taken out meanwhile, as that of `collect`.
-        let Some(mut collected) = self.items.take() else {
-            unreachable!()
-        };
+        let mut collected = hand_out(&mut self.items);
         match collected.take_in(value) {
             Ok(()) => match mem::replace(&mut self.items, Some(collected)) {
                 None => None,
@@ -56,10 +55,7 @@ impl<S: OkCounted, C: Gather<S::Ok>> Folder<S> for TryCollect<C> {
     }
 
     fn close(&mut self) -> Result<C, TryCollectError<C, S::Ok, S::Err>> {
-        match self.items.take() {
-            Some(items) => Ok(items),
-            None => unreachable!(),
-        }
+        Ok(hand_out(&mut self.items))
     }
 
     ghost returns = { returns_ok S.ok_counting (λ p q e h. h) (λ p q x o h. tries_collect_open ⊤ C.holds p.items q.items x h) };

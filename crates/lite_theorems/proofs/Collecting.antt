@@ -1,5 +1,5 @@
 -- What `try_collect` makes of the answers of `lines`.
-use Rattle.std.specs.Prelude.{IfSome, IsSome, string_bytes, ⊤}
+use Rattle.std.specs.Prelude.{string_bytes, ⊤}
 use Rattle.std.proofs.Common.{◌≡◌, ◌∙◌, List, [], ◌∷◌, ◌++◌, Option, Some, None, Result, Ok, Err, Global, refl, ap, sym}
 use Rattle.std.proofs.Common.{subst, append-nil, append_assoc}
 use Rattle.std.specs.declared.io.Error.{Error}
@@ -13,6 +13,7 @@ use Rattle.lite_gather.specs.TryCollect.{tries_collect}
 use Rattle.lite_gather.specs.declared.refused.TryCollectError.{TryCollectError}
 use Rattle.lite_gather.specs.declared.refused.TryCollectError.TheVariants.{Source, Memory}
 use Rattle.lite_io_base.specs.Marks.{ReadMark}
+use Rattle.lite_theorems.specs.Laws.Collected.{Has, held_by}
 use Rattle.lite_theorems.specs.Lines.{CollectsOf, Line, StandsFor, as_lines, lines_told}
 use Rattle.lite_theorems.proofs.Telling.{Given, Text}
 
@@ -62,49 +63,35 @@ module _ {C : Type 0} (holds : C → List (String Global) → Type 0) where
       (h.0, r.0, h.1, r.1)
 
   module _ {N : Type 0} (part : N → Option C) where
-    -- there is a collection, and it holds these texts
-    abbrev pub Has : N → List (String Global) → Type 0
-    Has p l = (c : C) × (part p ≡ Some c) × holds c l
-
-    pub has_none : (p : N) → IsSome (part p) → IfSome (part p) (λ c. holds c []) → Has p []
-    has_none p s h = made (part p) s h where
-      made : (o : Option C) → IsSome o → IfSome o (λ c. holds c []) → (c : C) × (o ≡ Some c) × holds c []
-      made None s h = absurd (cc s)
-      made (Some c) s h = (c, refl, h)
-
-    held_by : (p : N) (l : List (String Global)) (c : C) → Has p l → part p ≡ Some c → holds c l
-    held_by p l c h e =
-        subst (λ d. holds d l) (let same : ◌≡◌ {A = Option C} (Some h.0) (Some c) = sym h.1 ∙ e in cc same) h.2
-
     abbrev Collecting : Fold N Text Value
     Collecting = fold_of part (tries_collect ⊤ holds)
 
     -- of what is still to come, whatever the collection has
     abbrev SaysOn : Value → N → List (Answer Text) → Type 0
-    SaysOn v p ins = (before : List (String Global)) → Has p before → Says before (Given ins) v
+    SaysOn v p ins = (before : List (String Global)) → Has holds (part p) before → Says before (Given ins) v
 
     one_taken : (v : Value) (p m : N) (x : Text) (ins : List (Answer Text)) → TakesIn Collecting p x m → SaysOn v m ins
         → SaysOn v p (item x ∷ ins)
     one_taken v p m (Ok text) ins t next before has =
         one_more text before ins v
-        (next (before ++ text ∷ []) (t.1, t.4, t.3 before (held_by p before t.0 has t.2)))
+        (next (before ++ text ∷ []) (t.1, t.4, t.3 before (held_by holds (part p) before t.0 has t.2)))
     one_taken v p m (Err e) ins t next before has = absurd t
 
     -- the answer that decides
     decides : (v : Value) (p q : N) (o : Option Text) → Decides Collecting p (Ready o) (Ready v) q
         → SaysOn v p (Ready o ∷ [])
     decides v p q None d before has =
-        rw d.2 ([], subst (holds d.0) (sym (append-nil before)) (held_by p before d.0 has d.1), λ l g. g)
+        rw d.2 ([], subst (holds d.0) (sym (append-nil before)) (held_by holds (part p) before d.0 has d.1), λ l g. g)
     decides v p q (Some (Err e)) d before has = rw d.0 ([], λ l g. (l, refl, g))
     decides v p q (Some (Ok text)) d before has =
         rw d.5 (
           [],
-          subst (holds d.2) (sym (append-nil before)) (d.4 before (held_by p before d.1 has d.3)),
+          subst (holds d.2) (sym (append-nil before)) (d.4 before (held_by holds (part p) before d.1 has d.3)),
           λ l g. (g.0, g.1),
         )
 
     pub says : (out : List (Poll Value)) (p q : N) (ins : List (Answer Text)) (before : List (String Global))
-        (v : Value) → Has p before
+        (v : Value) → Has holds (part p) before
         → Consumes Collecting p ins out q
         → Gives out v → Says before (Given ins) v
     says out p q ins before v has k g =

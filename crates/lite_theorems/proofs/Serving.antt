@@ -1,21 +1,23 @@
 -- What was told and written so far, and what comes behind it.
-use Rattle.std.proofs.Common.{◌≡◌, ◌⊎◌, ◌∙◌, ℕ, true, List, [], ◌∷◌, ◌++◌, Result, Ok, Err, ap, refl, sym, subst}
+use Rattle.std.proofs.Common.{◌≡◌, ◌⊎◌, ◌∙◌, ℕ, Bool, true, false, List, [], ◌∷◌, ◌++◌, Result, Ok, Err, ap, refl, sym, subst}
 use Rattle.std.proofs.Common.{append-nil, append_assoc}
 use Rattle.std.proofs.lemmas.List.{map-append}
-use Rattle.std.specs.Prelude.{IfOk}
+use Rattle.std.specs.Prelude.{IfOk, flat_map}
 use Rattle.lite_theorems.specs.Laws.Taken.{taken_both}
 use Rattle.lite_theorems.specs.Laws.Told.{told_follow, told_none}
 use Rattle.lite_io_base.specs.Marks.{ReadMark, bytes}
 use Rattle.lite_io_base.specs.Takings.{WriteMark, bytes_taken}
 use Rattle.lite_base.specs.Runs.{Runs}
 use Rattle.lite_io_base.specs.Runs.{MarkLaws, StandsFirst}
-use Rattle.lite_theorems.specs.Told.{ToldStripped}
+use Rattle.lite_read.specs.BytePieces.{last_piece}
+use Rattle.lite_read.specs.LineText.{without_return}
+use Rattle.lite_theorems.specs.Told.{EndsAtFirst, ToldStripped, Without}
 use Rattle.lite_io_base.specs.SteadyWrite.{EndsFlushed}
 use Rattle.lite_theorems.specs.BothWriters.{TakesFront}
-use Rattle.lite_theorems.specs.Serving.{LineEnds, OfOutput, Replied, Replying, ServingEnds, StopsServing, replies}
+use Rattle.lite_theorems.specs.Serving.{LineEnds, OfOutput, PieceIn, Replied, Replying, ServingEnds, StopsServing, replies}
 use Rattle.lite_theorems.specs.declared.serve_error.ServeError.{ServeError}
 use Rattle.lite_theorems.specs.declared.serve_error.ServeError.TheVariants.{Input, Memory, Output}
-use Rattle.lite_theorems.proofs.LinesServed.{Ended, ended_both, ended_none, ended_whole, replies_both}
+use Rattle.lite_theorems.proofs.LinesServed.{Ended, ended_both, ended_none, ended_whole, last_line, replies_both, whole_line}
 
 pub stops_output : (rest : List ReadMark) (e : ServeError) → (rest ≡ []) ⊎ (rest ≡ ReadMark.end ∷ []) → OfOutput e
     → StopsServing rest e
@@ -30,6 +32,25 @@ pub replied : {R : Type 0} (reply : Replying) (told : List ReadMark) (took : Lis
     → Ends reply xs rest took value → Replied reply told took Ends value
 replied reply told took Ends value xs given rest cut same front ends =
     record { read = xs; rest = rest; cut = cut; front = (front.0, sym same ∙ front.1); ends = ends }
+
+-- a line that was read, of which the newline was taken off, and a front of whose reply was written
+module _ {R : Type 0} (reply : Replying) {xs after : List ℕ} {told : List ReadMark} {whole : Bool} (piece : PieceIn xs told (Ok tt))
+    (is_whole : (before : List ℕ) → xs ≡ before ++ 10 ∷ [] → (whole ≡ true) × (after ≡ without_return before))
+    (is_last : Without 10 xs → (whole ≡ false) × (after ≡ xs)) (took : List WriteMark)
+    (Ends : Replying → List ℕ → List ReadMark → List WriteMark → R → Type 0) (value : R) where
+  pub whole_replied : whole ≡ true → StandsFirst (bytes_taken took) (reply after)
+      → (EndsAtFirst 10 xs → reply after ≡ replies reply xs → Ends reply xs [] took value)
+      → Replied reply told took Ends value
+  whole_replied is front ends =
+      let w = whole_line reply xs after told whole piece is_whole is_last is in
+      replied reply told took Ends value xs (reply after) [] (w.1 ∙ sym (append-nil (bytes xs))) w.2 front (ends w.0 w.2)
+
+  pub last_replied : whole ≡ false → StandsFirst (bytes_taken took) (flat_map reply (last_piece after))
+      → (flat_map reply (last_piece after) ≡ replies reply xs → Ends reply xs (ReadMark.end ∷ []) took value)
+      → Replied reply told took Ends value
+  last_replied is front ends =
+      let w = last_line reply xs after told whole piece is_whole is_last is in
+      replied reply told took Ends value xs (flat_map reply (last_piece after)) (ReadMark.end ∷ []) w.0 w.1 front (ends w.1)
 
 ends_later : (l m : List WriteMark) → EndsFlushed m → EndsFlushed (l ++ m)
 ends_later l m h = (l ++ h.0, ap (λ k. l ++ k) h.1 ∙ sym (append_assoc l h.0 (WriteMark.flushed ∷ [])))

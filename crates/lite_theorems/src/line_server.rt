@@ -1,5 +1,5 @@
 //! Each line of a reader is answered to a writer.
-ghost use Rattle.std.specs.Prelude.{◌≡◌, ◌++◌, ◌∷◌, [], List, IfErr, IfOk, false, flat_map, true};
+ghost use Rattle.std.specs.Prelude.{◌≡◌, ◌++◌, ◌∷◌, [], List, Ok, IfErr, IfOk, false, flat_map, true};
 ghost use Rattle.lite_io_base.specs.Marks.{ReadMark};
 ghost use Rattle.lite_io_base.specs.SteadyWrite.{EndsFlushed};
 ghost use Rattle.lite_io_base.specs.Takings.{WriteMark, bytes_taken};
@@ -14,6 +14,7 @@ use crate::waits::{wait_flush, wait_read_until, wait_write_all};
 use lite_base::future::block_on::BlockOn;
 use lite_io_base::{AsyncBufRead, AsyncWrite, CountedRead};
 use std::alloc::{AllocError, AllocGlobal};
+use std::io;
 use std::sync::Wait;
 
 /// What is answered to a line: what [`serve_lines`] asks for. The original has no such trait.
@@ -153,11 +154,7 @@ fn answer<R: Wait, O: AsyncWrite, L: LineService>(
     let Ok(()) = service.answer(line) else {
         return Err(ServeError::Memory);
     };
-    match wait_write_all(on, rt, replies, line) {
-        Ok(Ok(())) => Ok(()),
-        Ok(Err(e)) => Err(ServeError::Output(e)),
-        Err(_) => Err(ServeError::Memory),
-    }
+    of_output(wait_write_all(on, rt, replies, line))
 }
 
 /// Flushes the replies.
@@ -169,7 +166,14 @@ fn flush<R: Wait, O: AsyncWrite>(
     ensures { (took : List WriteMark) × O.writes replies.old took replies.new × (bytes_taken took ≡ [])
         × IfOk result (λ _. EndsFlushed took) × IfErr result OfOutput }
 {
-    match wait_flush(on, rt, replies) {
+    of_output(wait_flush(on, rt, replies))
+}
+
+/// What a wait for a call of the output comes to.
+fn of_output(waited: Result<io::Result<()>, AllocError>) -> Result<(), ServeError>
+    ensures { IfOk result (λ _. waited ≡ Ok (Ok tt)) × IfErr result OfOutput }
+{
+    match waited {
         Ok(Ok(())) => Ok(()),
         Ok(Err(e)) => Err(ServeError::Output(e)),
         Err(_) => Err(ServeError::Memory),

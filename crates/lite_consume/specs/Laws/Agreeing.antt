@@ -37,16 +37,6 @@ module _ {M A R : Type 0} (fold : Fold M A R) where
 -- items that come in are compared by `like`
 module _ {M A R : Type 0} (like : Sameness A) {fold ample : Fold M A R} {none : Type 0} {agree : M → M → Type 0}
     {same : R → R → Type 0} (f : FoldSteadyLaws (SameItem like) fold ample none agree same) where
-  module _ (p k : M) (x w : A) (i j : List (Option A)) (o u : List R) (a : agree p k) (e : SameItem like x w)
-      (rest : (q l : M) → agree q l → ConsumesStripped ample q i o → ConsumesStripped ample l j u
-      → ComparableBy same o u) where
-    asked_same : ConsumesStripped ample p (Some x ∷ i) o → ConsumesStripped ample k (Some w ∷ j) u
-        → ComparableBy same o u
-    asked_same (inl h) (inl g) = rest h.0 g.0 (f.asks p k h.0 g.0 x w None None a e h.1 g.1) h.2 g.2
-    asked_same (inl h) (inr g) = absurd (f.asks p k h.0 g.1 x w None (Some g.0) a e h.1 g.2)
-    asked_same (inr h) (inl g) = absurd (f.asks p k h.1 g.0 x w (Some h.0) None a e h.2 g.1)
-    asked_same (inr h) (inr g) = rw (h.3, g.3) (f.asks p k h.1 g.1 x w (Some h.0) (Some g.0) a e h.2 g.2, tt)
-
   made_same : (p k : M) (i j : List (Option A)) (o u : List R) → agree p k → ComparableBy (SameAnswer like) i j
       → ConsumesStripped ample p i o → ConsumesStripped ample k j u → ComparableBy same o u
   made_same p k [] j o u a c h g = rw h tt
@@ -54,15 +44,14 @@ module _ {M A R : Type 0} (like : Sameness A) {fold ample : Fold M A R} {none : 
   made_same p k (None ∷ i) (None ∷ j) o u a c h g = rw (h.3, g.3) (f.closes p k h.1 g.1 h.0 g.0 a h.2 g.2, tt)
   made_same p k (None ∷ i) (Some y ∷ j) o u a c h g = absurd (both_items like None (Some y) c.0)
   made_same p k (Some x ∷ i) (None ∷ j) o u a c h g = absurd (both_items like (Some x) None c.0)
-  made_same p k (Some x ∷ i) (Some y ∷ j) o u a c h g =
-      asked_same p k x y i j o u a (item_same like x y c.0) (λ q l b. made_same q l i j o u b c.1) h g
-
--- one value is given
-gives_one : {A : Type 0} (l : List (Poll A)) (v w : A) → Gives l v → Gives l w → v ≡ w
-gives_one l v w g h =
-    let e = gives_strip l v g in
-    let d = gives_strip l w h in
-    cc
+  made_same p k (Some x ∷ i) (Some y ∷ j) o u a c (inl h) (inl g) =
+      made_same h.0 g.0 i j o u (f.asks p k h.0 g.0 x y None None a (item_same like x y c.0) h.1 g.1) c.1 h.2 g.2
+  made_same p k (Some x ∷ i) (Some y ∷ j) o u a c (inl h) (inr g) =
+      absurd (f.asks p k h.0 g.1 x y None (Some g.0) a (item_same like x y c.0) h.1 g.2)
+  made_same p k (Some x ∷ i) (Some y ∷ j) o u a c (inr h) (inl g) =
+      absurd (f.asks p k h.1 g.0 x y (Some h.0) None a (item_same like x y c.0) h.2 g.1)
+  made_same p k (Some x ∷ i) (Some y ∷ j) o u a c (inr h) (inr g) =
+      rw (h.3, g.3) (f.asks p k h.1 g.1 x y (Some h.0) (Some g.0) a (item_same like x y c.0) h.2 g.2, tt)
 
 -- If memory was found in each step but those that give another value, and the stream found it wherever its answers were
 -- such as came before the value, then it was found in a run that gave no other.
@@ -88,7 +77,8 @@ module _ {S M A R : Type 0} {run found : Runs (Answer A) S} {fold ample : Fold M
       record {
         gives = f.gives;
         last = f.last;
-        came = consumed_ample x f.last l (λ r g. subst may (gives_one l value r f.gives g) m)
+        came = consumed_ample x f.last l
+            (λ r g. let same : value ≡ r = cc (gives_strip l value f.gives, gives_strip l r g) in subst may same m)
             (such f.last.folder) f.came;
       }
 

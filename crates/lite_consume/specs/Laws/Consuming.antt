@@ -14,7 +14,6 @@ use Rattle.lite_base.specs.Segments.{OneAnswer, Segment}
 use Rattle.lite_consume.specs.Agreeing.{WithinWhere}
 use Rattle.lite_consume.specs.Consume.{Folds}
 use Rattle.lite_consume.specs.Consuming.{Consumes, Decides, Fold, TakesIn, fold_of}
-use Rattle.lite_consume.specs.declared.consume.Consume.{Consume}
 
 -- by induction on the answers in: items are taken in, Pendings go out, and at last the value does
 module _ {M A R : Type 0} (fold : Fold M A R) (P : M → List (Answer A) → List (Poll R) → Type 0)
@@ -82,24 +81,14 @@ module _ {N M A R : Type 0} (part : N → M) (fold : Fold N A R) (other : Fold M
       ))
       p i l (λ m. ((refl, refl), tt)) h m
 
--- no Pending is made up
-no_pending : {M A R : Type 0} (fold : Fold M A R) (p q : M) (i : List (Answer A)) (l : List (Poll R))
-    → Consumes fold p i l q → NoPending i → NoPending l
-no_pending fold p q i l =
-    consumes_steps fold (λ p i l. NoPending i → NoPending l) (λ p m x i b l t k. k) (λ p i l k. absurd) q
-    (λ p o r d e. tt) p i l (λ e. e)
-
 module _ {S M A R : Type 0} {run : Runs (Answer A) S} (fold : Fold M A R) where
-  stays : ((s t : S) → run s [] t → t ≡ s) → (x y : Consume S M) → Folds run fold x [] y → y ≡ x
-  stays source x y h =
-      let e = source x.stream y.stream (rw (← h.consumed.0.0) h.came) in
-      λ i. record { stream = e i; folder = h.consumed.0.1 i }
-
   pub consumed_laws : RunLaws run → FutureLaws (Folds run fold)
   consumed_laws laws =
       record {
         rests = λ x. record { ins = []; came = laws.rests x.stream; consumed = ((refl, refl), tt) };
-        stays = stays laws.stays;
+        stays = λ x y h.
+            let e = laws.stays x.stream y.stream (rw (← h.consumed.0.0) h.came) in
+            λ i. record { stream = e i; folder = h.consumed.0.1 i };
         follows = λ x y z l m w h k.
             record {
               ins = h.ins ++ k.ins;
@@ -110,11 +99,12 @@ module _ {S M A R : Type 0} {run : Runs (Answer A) S} (fold : Fold M A R) where
         once = λ x y l h. up_to_once l h.consumed.1;
       }
 
-  -- over a stream that is never pending it is not either
+  -- over a stream that is never pending it is not either, since no Pending is made up
   pub consumed_calm : {is_calm : S → Type 0} → CalmLaws run is_calm → CalmLaws (Folds run fold) (λ x. is_calm x.stream)
   consumed_calm c =
       record {
-        no_pending = λ x y l k h. no_pending fold x.folder y.folder h.ins l h.consumed
-            (c.no_pending x.stream y.stream h.ins k h.came);
+        no_pending = λ x y l k h.
+            consumes_steps fold (λ p i l. NoPending i → NoPending l) (λ p m x i b l t k. k) (λ p i l k. absurd) y.folder
+            (λ p o r d e. tt) x.folder h.ins l (λ e. e) h.consumed (c.no_pending x.stream y.stream h.ins k h.came);
         calm_on = λ x y l k h. c.calm_on x.stream y.stream h.ins k h.came;
       }

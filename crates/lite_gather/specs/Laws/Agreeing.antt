@@ -6,9 +6,9 @@ use Rattle.std.proofs.lemmas.List.Elements.{AllZip-push}
 use Rattle.lite_base.specs.Alike.{OptionBy, SameErr, SameItem, SameOk, Sameness}
 use Rattle.lite_base.specs.Calling.{AgreeFrom}
 use Rattle.lite_base.specs.Laws.Alike.{option_by}
-use Rattle.lite_base.specs.Laws.Calling.{agree_from_matches}
 use Rattle.lite_base.specs.Runs.{Question}
-use Rattle.lite_consume.specs.Agreeing.{FoldSteadyLaws, SameDecision}
+use Rattle.lite_consume.specs.Agreeing.{FoldSteadyLaws}
+use Rattle.lite_consume.specs.Laws.Matching.{SameAsked, matched}
 use Rattle.lite_gather.specs.Agreeing.{HoldsParts, HoldsSame, HoldsSameBoth, HoldsSameParts, SameCollected}
 use Rattle.lite_gather.specs.Agreeing.{TrySameCollected, Unmixed}
 use Rattle.lite_gather.specs.Collect.{collects}
@@ -16,24 +16,25 @@ use Rattle.lite_gather.specs.Gathering.{Took}
 use Rattle.lite_gather.specs.Partition.{Sorted, partitions}
 use Rattle.lite_gather.specs.TryCollect.{tries_collect}
 use Rattle.lite_gather.specs.Unzip.{unzips}
-use Rattle.lite_gather.specs.declared.refused.Refused.{Refused}
-use Rattle.lite_gather.specs.declared.refused.TryCollectError.{TryCollectError}
-use Rattle.lite_gather.specs.declared.refused.UnzipRefused.{UnzipRefused}
 
 -- two that are there are the same so
-some_by : {C : Type 0} (same : C → C → Type 0) (q l : Option C) (c d : C) → q ≡ Some c → l ≡ Some d → same c d
+some_by : {C : Type 0} (same : C → C → Type 0) {q l : Option C} {c d : C} → q ≡ Some c → l ≡ Some d → same c d
     → OptionBy same q l
-some_by same q l c d e f h = rw (e, f) h
+some_by same e f h = rw (e, f) h
 
-ok_by : {C E : Type 0} (same : C → C → Type 0) (r t : Result C E) (c d : C) → r ≡ Ok c → t ≡ Ok d → same c d
+there : {C : Type 0} (same : C → C → Type 0) {p k : Option C} {c d : C} → OptionBy same p k → p ≡ Some c
+    → k ≡ Some d → same c d
+there same = option_by same _ _ _ _
+
+ok_by : {C E : Type 0} (same : C → C → Type 0) {r t : Result C E} {c d : C} → r ≡ Ok c → t ≡ Ok d → same c d
     → SameCollected same r t
-ok_by same r t c d e f h = rw (e, f) h
+ok_by same e f h = rw (e, f) h
 
-took_same : {C T : Type 0} (like : Sameness T) (holds : C → List T → Type 0) (c d c' d' : C) (x w : T)
+took_same : {C T : Type 0} (like : Sameness T) (holds : C → List T → Type 0) {c d c' d' : C} (x w : T)
     → HoldsSame like holds c d → SameItem like x w → Took holds c x c' → Took holds d w d' → HoldsSame like holds c' d'
-took_same Sameness.equal holds c d c' d' x w h e k g =
+took_same Sameness.equal holds {d' = d'} x w h e k g =
     (h.0 ++ x ∷ [], k h.0 h.1, subst (λ v. holds d' (h.0 ++ v ∷ [])) (sym e) (g h.0 h.2))
-took_same (Sameness.by same) holds c d c' d' x w h e k g =
+took_same (Sameness.by same) holds x w h e k g =
     (h.0 ++ x ∷ [], h.1 ++ w ∷ [], k h.0 h.2, g h.1 h.3, AllZip-push same h.0 h.1 x w h.4 e)
 
 -- collections that hold nothing are the same
@@ -51,24 +52,22 @@ both_there none (Some c) None h g e d = cc
 both_there none (Some c) (Some b) h g e d = none c b e d
 
 module _ {C T : Type 0} (like : Sameness T) (holds : C → List T → Type 0) where
-  collect_asked : (p k q l : Option C) (x w : T) (o u : Option (Result C (Refused C T)))
-      → OptionBy (HoldsSame like holds) p k → SameItem like x w → (collects ⊥ holds).asks p x o q
-      → (collects ⊥ holds).asks k w u l
-      → SameDecision (SameCollected (HoldsSame like holds)) (OptionBy (HoldsSame like holds) q l) o u
+  abbrev HoldsLike : C → C → Type 0
+  HoldsLike = HoldsSame like holds
+
+  collect_asked : SameAsked (SameItem like) (SameCollected HoldsLike) (collects ⊥ holds) (OptionBy HoldsLike)
   collect_asked p k q l x w None None a e h g =
-      let same = option_by (HoldsSame like holds) p k h.0 g.0 a h.2 g.2 in
-      some_by (HoldsSame like holds) q l h.1 g.1 h.4 g.4 (took_same like holds h.0 g.0 h.1 g.1 x w same e h.3 g.3)
+      some_by HoldsLike h.4 g.4 (took_same like holds x w (there HoldsLike a h.2 g.2) e h.3 g.3)
   collect_asked p k q l x w None (Some t) a e h g = g.0
   collect_asked p k q l x w (Some r) u a e h g = absurd h.0
 
-  pub collect_steady : FoldSteadyLaws (SameItem like) (collects ⊤ holds) (collects ⊥ holds) ⊥
-      (OptionBy (HoldsSame like holds)) (SameCollected (HoldsSame like holds))
+  pub collect_steady : FoldSteadyLaws (SameItem like) (collects ⊤ holds) (collects ⊥ holds) ⊥ (OptionBy HoldsLike)
+      (SameCollected HoldsLike)
   collect_steady =
       record {
         asks = collect_asked;
-        closes = λ p k q l r t a h g. ok_by (HoldsSame like holds) r t h.0 g.0 h.2 g.2
-            (option_by (HoldsSame like holds) p k h.0 g.0 a h.1 g.1);
-        found = λ n. absurd n;
+        closes = λ p k q l r t a h g. ok_by HoldsLike h.2 g.2 (there HoldsLike a h.1 g.1);
+        found = absurd;
       }
 
 -- items that are Ok, and errors
@@ -106,14 +105,12 @@ module _ {C T E : Type 0} (like : Sameness (Result T E)) (holds : C → List T �
   abbrev Tries : Option C → Option C → Type 0
   Tries p k = Unmixed like (OptionBy HoldsAlike p k)
 
-  try_collect_asked : (p k q l : Option C) (x w : Result T E) (o u : Option (Result C (TryCollectError C T E)))
-      → Tries p k → SameItem like x w → (tries_collect ⊥ holds).asks p x o q → (tries_collect ⊥ holds).asks k w u l
-      → SameDecision (TrySameCollected HoldsAlike (SameItem (SameErr like))) (Tries q l) o u
+  try_collect_asked : SameAsked (SameItem like) (TrySameCollected HoldsAlike (SameItem (SameErr like)))
+      (tries_collect ⊥ holds) Tries
   try_collect_asked p k q l (Ok x) (Ok w) None None a e h g =
-      let same = option_by HoldsAlike p k h.0 g.0 (unmixed_holds like (OptionBy HoldsAlike p k) a) h.2 g.2 in
-      let took = took_same (SameOk like) holds h.0 g.0 h.1 g.1 x w same (oks_same like x w e) h.3 g.3 in
+      let same = there HoldsAlike (unmixed_holds like (OptionBy HoldsAlike p k) a) h.2 g.2 in
       unmixed_on like (OptionBy HoldsAlike p k) (OptionBy HoldsAlike q l) a
-      (some_by HoldsAlike q l h.1 g.1 h.4 g.4 took)
+      (some_by HoldsAlike h.4 g.4 (took_same (SameOk like) holds x w same (oks_same like x w e) h.3 g.3))
   try_collect_asked p k q l (Ok x) (Ok w) None (Some t) a e h g = g.0
   try_collect_asked p k q l (Ok x) (Ok w) (Some r) u a e h g = absurd h.0
   try_collect_asked p k q l (Ok x) (Err f) o u a e h g = absurd (not_err like (OptionBy HoldsAlike p k) x f a e)
@@ -128,8 +125,8 @@ module _ {C T E : Type 0} (like : Sameness (Result T E)) (holds : C → List T �
       record {
         asks = try_collect_asked;
         closes = λ p k q l r t a h g. rw (h.2, g.2)
-            (option_by HoldsAlike p k h.0 g.0 (unmixed_holds like (OptionBy HoldsAlike p k) a) h.1 g.1);
-        found = λ n. absurd n;
+            (there HoldsAlike (unmixed_holds like (OptionBy HoldsAlike p k) a) h.1 g.1);
+        found = absurd;
       }
 
 -- by tests that agree
@@ -142,19 +139,14 @@ module _ {B T P : Type 0} (like : Sameness T) (holds : B → List T → Type 0) 
 
   sorted_same : (b : Bool) (c d c' d' : B × B) (x w : T) → HoldBoth c d → SameItem like x w → Sorted holds b c x c'
       → Sorted holds b d w d' → HoldBoth c' d'
-  sorted_same true c d c' d' x w s e h g = (took_same like holds c.0 d.0 c'.0 d'.0 x w s.0 e h.0 g.0, rw (h.1, g.1) s.1)
-  sorted_same false c d c' d' x w s e h g =
-      (rw (h.1, g.1) s.0, took_same like holds c.1 d.1 c'.1 d'.1 x w s.1 e h.0 g.0)
+  sorted_same true c d c' d' x w s e h g = (took_same like holds x w s.0 e h.0 g.0, rw (h.1, g.1) s.1)
+  sorted_same false c d c' d' x w s e h g = (rw (h.1, g.1) s.0, took_same like holds x w s.1 e h.0 g.0)
 
-  partition_asked : (p k q l : P × Option (B × B)) (x w : T) (o u : Option (Result (B × B) (Refused (B × B) T)))
-      → Sorts p k → SameItem like x w
-      → (partitions holds test ⊥).asks p x o q → (partitions holds test ⊥).asks k w u l
-      → SameDecision (SameCollected HoldBoth) (Sorts q l) o u
+  partition_asked : SameAsked (SameItem like) (SameCollected HoldBoth) (partitions holds test ⊥) Sorts
   partition_asked p k q l x w None None a e h g =
-      let t = agree_from_matches (SameItem like) (λ y z. y ≡ z) test p.0 k.0 q.0 l.0 x w h.0 g.0 a.0 e h.3 g.3 in
-      let both =
-      sorted_same h.0 h.1 g.1 h.2 g.2 x w (option_by HoldBoth p.1 k.1 h.1 g.1 a.1 h.4 g.4) e h.5 (rw t.0 g.5) in
-      (t.1, some_by HoldBoth q.1 l.1 h.2 g.2 h.6 g.6 both)
+      let t = matched a.0 e h.3 g.3 in
+      let both = sorted_same h.0 h.1 g.1 h.2 g.2 x w (there HoldBoth a.1 h.4 g.4) e h.5 (rw t.0 g.5) in
+      (t.1, some_by HoldBoth h.6 g.6 both)
   partition_asked p k q l x w None (Some t) a e h g = g.0
   partition_asked p k q l x w (Some r) u a e h g = absurd h.0
 
@@ -163,9 +155,8 @@ module _ {B T P : Type 0} (like : Sameness T) (holds : B → List T → Type 0) 
   partition_steady =
       record {
         asks = partition_asked;
-        closes = λ p k q l r t a h g. ok_by HoldBoth r t h.0 g.0 h.2 g.2
-            (option_by HoldBoth p.1 k.1 h.0 g.0 a.1 h.1 g.1);
-        found = λ n. absurd n;
+        closes = λ p k q l r t a h g. ok_by HoldBoth h.2 g.2 (there HoldBoth a.1 h.1 g.1);
+        found = absurd;
       }
 
 -- the parts of pairs
@@ -182,11 +173,11 @@ module _ {C D A B : Type 0} (holds_first : C → List A → Type 0) (holds_secon
       → Took holds_first c.0 x.0 c'.0 → Took holds_second c.1 x.1 c'.1 → Took holds_first d.0 w.0 d'.0
       → Took holds_second d.1 w.1 d'.1 → HoldsSameParts like holds_first holds_second c' d'
   parts_same Sameness.equal c d c' d' x w s e h k g j = (
-    took_same Sameness.equal holds_first c.0 d.0 c'.0 d'.0 x.0 w.0 s.0 (λ i. (e i).0) h g,
-    took_same Sameness.equal holds_second c.1 d.1 c'.1 d'.1 x.1 w.1 s.1 (λ i. (e i).1) k j,
+    took_same Sameness.equal holds_first x.0 w.0 s.0 (λ i. (e i).0) h g,
+    took_same Sameness.equal holds_second x.1 w.1 s.1 (λ i. (e i).1) k j,
   )
   parts_same (Sameness.by same) c d c' d' x w s e h k g j =
-      took_same (Sameness.by same) (HoldsParts holds_first holds_second) c d c' d' x w s e (took_parts c c' x h k)
+      took_same (Sameness.by same) (HoldsParts holds_first holds_second) x w s e (took_parts c c' x h k)
       (took_parts d d' w g j)
 
   pub no_parts : (like : Sameness (A × B)) (c d : C × D) → holds_first c.0 [] → holds_second c.1 [] → holds_first d.0 []
@@ -198,13 +189,11 @@ module _ {C D A B : Type 0} (holds_first : C → List A → Type 0) (holds_secon
     abbrev SamePairs : C × D → C × D → Type 0
     SamePairs = HoldsSameParts like holds_first holds_second
 
-    unzip_asked : (p k q l : Option (C × D)) (x w : A × B) (o u : Option (Result (C × D) (UnzipRefused C D A B)))
-        → OptionBy SamePairs p k → SameItem like x w
-        → (unzips holds_first holds_second ⊥).asks p x o q → (unzips holds_first holds_second ⊥).asks k w u l
-        → SameDecision (SameCollected SamePairs) (OptionBy SamePairs q l) o u
+    unzip_asked : SameAsked (SameItem like) (SameCollected SamePairs) (unzips holds_first holds_second ⊥)
+        (OptionBy SamePairs)
     unzip_asked p k q l x w None None a e h g =
-        some_by SamePairs q l h.1 g.1 h.5 g.5
-        (parts_same like h.0 g.0 h.1 g.1 x w (option_by SamePairs p k h.0 g.0 a h.2 g.2) e h.3 h.4 g.3 g.4)
+        some_by SamePairs h.5 g.5
+        (parts_same like h.0 g.0 h.1 g.1 x w (there SamePairs a h.2 g.2) e h.3 h.4 g.3 g.4)
     unzip_asked p k q l x w None (Some t) a e h g = g.0
     unzip_asked p k q l x w (Some r) u a e h g = absurd h.0
 
@@ -213,6 +202,6 @@ module _ {C D A B : Type 0} (holds_first : C → List A → Type 0) (holds_secon
     unzip_steady =
         record {
           asks = unzip_asked;
-          closes = λ p k q l r t a h g. ok_by SamePairs r t h.0 g.0 h.2 g.2 (option_by SamePairs p k h.0 g.0 a h.1 g.1);
-          found = λ n. absurd n;
+          closes = λ p k q l r t a h g. ok_by SamePairs h.2 g.2 (there SamePairs a h.1 g.1);
+          found = absurd;
         }

@@ -4,7 +4,7 @@ use Rattle.std.proofs.Common.{◌≡◌, ◌∙◌, List, [], ◌∷◌, ◌++�
 use Rattle.futures.specs.declared.task.Poll.TheVariants.{Ready, Pending}
 use Rattle.lite_base.specs.Answers.{Answer, Endless, end}
 use Rattle.lite_base.specs.Calm.{CalmLaws, NoPending}
-use Rattle.lite_base.specs.Laws.Calm.{no_pending_front, no_pending_join}
+use Rattle.lite_base.specs.Laws.Calm.{calm_both, no_pending_front, no_pending_join}
 use Rattle.lite_base.specs.Laws.Hint.{same_hint}
 use Rattle.lite_base.specs.OkRanks.{all_ok}
 use Rattle.lite_base.specs.StreamLaws.{StreamLaws}
@@ -176,10 +176,6 @@ module _ {S A E : Type 0} (is_clone : S → S → Type 0) (is_infallible : S →
   -- where the stream and each copy are calm
   pub cycle_calm : CalmLaws (Cycles {E = E} run is_clone is_infallible) (AllCopies is_calm is_clone)
   cycle_calm =
-      record {
-        no_pending = λ x y l k h. (laps_calm x.original k.1 h.0 x.stream y.stream l k.0 h.1).0;
-        calm_on = λ x y l k h. (
-          (laps_calm x.original k.1 h.0 x.stream y.stream l k.0 h.1).1,
-          λ copy made. k.1 copy (rw h.2 at made),
-        );
-      }
+      calm_both (λ x y l k h.
+      let e = laps_calm x.original k.1 h.0 x.stream y.stream l k.0 h.1 in
+      (e.0, (e.1, λ copy made. k.1 copy (rw h.2 at made))))

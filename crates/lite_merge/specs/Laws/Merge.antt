@@ -6,7 +6,7 @@ use Rattle.lite_base.specs.Answers.{Answer, item, items}
 use Rattle.lite_base.specs.Calm.{CalmLaws, NoPending}
 use Rattle.lite_base.specs.Laws.Falling.{AtMost-both, AtMost-length, Below-after, Below-first, Lowers-at_most}
 use Rattle.lite_base.specs.Laws.Calm.{no_pending_join}
-use Rattle.lite_base.specs.Laws.Rows.{rows_by, rows_empty, rows_follow}
+use Rattle.lite_base.specs.Laws.Rows.{rows_by, rows_follow}
 use Rattle.lite_base.specs.Rank.{AtMost, Below, Lowers}
 use Rattle.lite_base.specs.Ranks.{Counting, Ranks}
 use Rattle.lite_base.specs.StreamLaws.{StreamLaws}
@@ -17,14 +17,6 @@ use Rattle.lite_stream.specs.Laws.Calming.{through_calm}
 use Rattle.lite_stream.specs.Laws.Fuse.{fuses_calming, fuses_relating}
 use Rattle.lite_stream.specs.Laws.Through.{laws_unhinted, through_counting}
 use Rattle.lite_stream.specs.declared.fuse.Fuse.{Fuse}
-
--- the second's rank stands before the first's
-module _ (xs us ys vs : List ℕ) where
-  first_below : Below xs us → AtMost ys vs → Below (ys ++ xs) (vs ++ us)
-  first_below h k = Below-after ys vs xs us k h
-
-  second_below : AtMost xs us → Below ys vs → Below (ys ++ xs) (vs ++ us)
-  second_below h k = Below-first ys vs xs us k (AtMost-length xs us h)
 
 module _ {A : Type 0} where
   row_more : (i j : List (Answer A)) (c : Answer A) (i' j' k h : List (Answer A)) → MergeRow i j c i' j'
@@ -73,16 +65,6 @@ module _ {A : Type 0} where
         rw r.0 (beside_lowers b out asked)
     row_lowers i j c i' j' out r rest h k = absurd r
 
-  rows_lower : (xs us ys vs : List ℕ) (o : List Bool) (i j out : List (Answer A)) → MergeRows o i j out
-      → Lowers i xs us → Lowers j ys vs → Lowers out (ys ++ xs) (vs ++ us)
-  rows_lower xs us ys vs =
-      rows_by MergeRow (λ i j l. Lowers i xs us → Lowers j ys vs → Lowers l (ys ++ xs) (vs ++ us))
-      (λ h k. AtMost-both ys vs xs us k h)
-      (row_lowers (ys ++ xs) (vs ++ us) xs us ys vs (first_below xs us ys vs) (second_below xs us ys vs))
-      (λ i j c i' j' l r rest h k. row_lowers (ys ++ xs) (vs ++ us) ys vs xs us
-      (λ b a. second_below xs us ys vs a b) (λ a b. first_below xs us ys vs b a) j i c j' i' l r
-      (λ k' h'. rest h' k') k h)
-
   -- in a row of an item where the first stands first, the second gave an item or nothing
   row_item : (i j : List (Answer A)) (y : A) (i' j' : List (Answer A)) (l s : List A) → MergeRow i j (item y) i' j'
       → j' ≡ items s → (s ≡ [] → i' ≡ items l) → (t : List A) × (j ≡ items t) × (t ≡ [] → i ≡ items (y ∷ l))
@@ -105,17 +87,6 @@ module _ {A : Type 0} where
       let e = first_items r.0 r.1 l r.3 in
       row_item i j y r.0 r.1 l e.0 r.2 e.1 e.2
 
-  pub first_falls : (i j : List (Answer A)) (y : A) (l : List A) (xs us ys vs : List ℕ)
-      → ((a : A) (before : List A) → i ≡ items (a ∷ before) → Below xs us)
-      → ((a : A) (before : List A) → j ≡ items (a ∷ before) → Below ys vs)
-      → length xs ≡ length us → (j ≡ [] → ys ≡ vs) → MergeRows (map (λ _. true) (items (y ∷ l))) i j (items (y ∷ l))
-      → Below (ys ++ xs) (vs ++ us)
-  first_falls i j y l xs us ys vs falls falls' same none r = at_items (first_items i j (y ∷ l) r)
-    where
-      at_items : (s : List A) × (j ≡ items s) × (s ≡ [] → i ≡ items (y ∷ l)) → Below (ys ++ xs) (vs ++ us)
-      at_items ([], e, all) = Below-after ys vs xs us (inl (none e)) (falls y l (all refl))
-      at_items (z ∷ s, e, all) = Below-first ys vs xs us (falls' z s e) same
-
 -- the laws of a stream that is asked through its first end
 pub fused_laws : {S A : Type 0} {run : Runs (Answer A) S} {hints : Hints S} → StreamLaws run hints
     → StreamLaws (Fuses run) NoHint
@@ -123,23 +94,6 @@ fused_laws s = laws_unhinted fuse_parts s fuses_relating
 
 module _ {S U A : Type 0} {run : Runs (Answer A) S} {run' : Runs (Answer A) U} {hints : Hints S} {hints' : Hints U}
     (s : StreamLaws run hints) (u : StreamLaws run' hints') where
-  pub merges_rest : (x : Fuse S) (y : Fuse U) → Merges run run' [] x y [] x y
-  merges_rest x y =
-      record {
-        firsts = [];
-        seconds = [];
-        came = (fused_laws s).rests x;
-        then_came = (fused_laws u).rests y;
-        rows = (refl, refl, refl);
-      }
-
-  pub merges_stay : {o : List Bool} {x t : Fuse S} {y v : Fuse U} → Merges run run' o x y [] t v → (t ≡ x) × (v ≡ y)
-  merges_stay {o} {x} {t} {y} {v} h =
-      let e = rows_empty MergeRow o h.firsts h.seconds h.rows in (
-        (fused_laws s).stays x t (rw e.0 at h.came),
-        (fused_laws u).stays y v (rw e.1 at h.then_came),
-      )
-
   pub merges_follow : {o p : List Bool} {x t t' : Fuse S} {y v v' : Fuse U} {l m : List (Answer A)}
       → Merges run run' o x y l t v → Merges run run' p t v m t' v' → Merges run run' (o ++ p) x y (l ++ m) t' v'
   merges_follow {o} {p} {x} {t} {t'} {y} {v} {v'} {l} {m} h k =
@@ -173,9 +127,37 @@ module _ {S U A : Type 0} {run : Runs (Answer A) S} {run' : Runs (Answer A) U} {
       × r'.firm y.stream → Merges run run' o x y l t v
       → Lowers l (r'.rank v.stream ++ r.rank t.stream) (r'.rank y.stream ++ r.rank x.stream)
   merges_lower {o} {x} {t} {y} {v} {l} k h =
-      rows_lower (r.rank t.stream) (r.rank x.stream) (r'.rank v.stream) (r'.rank y.stream) o h.firsts h.seconds l h.rows
+      let xs = r.rank t.stream in
+      let us = r.rank x.stream in
+      let ys = r'.rank v.stream in
+      let vs = r'.rank y.stream in
+      rows_by MergeRow (λ i j l. Lowers i xs us → Lowers j ys vs → Lowers l (ys ++ xs) (vs ++ us))
+      (λ h k. AtMost-both ys vs xs us k h)
+      (row_lowers (ys ++ xs) (vs ++ us) xs us ys vs (λ h k. Below-after ys vs xs us k h)
+      (λ h k. Below-first ys vs xs us k (AtMost-length xs us h)))
+      (λ i j c i' j' l r rest h k. row_lowers (ys ++ xs) (vs ++ us) ys vs xs us
+      (λ k h. Below-first ys vs xs us k (AtMost-length xs us h)) (λ k h. Below-after ys vs xs us k h) j i c j' i' l r
+      (λ k' h'. rest h' k') k h) o h.firsts h.seconds l h.rows
       ((through_counting fuse_parts c fuses_relating).lowers x t h.firsts k.0 h.came)
       ((through_counting fuse_parts d fuses_relating).lowers y v h.seconds k.1 h.then_came)
+
+  -- where the first stands first in each row
+  pub first_falls : {hints' : Hints U} → StreamLaws run' hints' → {x t : Fuse S} {y v : Fuse U} (a : A) (more : List A)
+      → r.counts x.stream × r'.counts y.stream
+      → Merges run run' (map (λ _. true) (items (a ∷ more))) x y (items (a ∷ more)) t v
+      → Below (r'.rank v.stream ++ r.rank t.stream) (r'.rank y.stream ++ r.rank x.stream)
+  first_falls u {x} {t} {y} {v} a more k h = at_items (first_items h.firsts h.seconds (a ∷ more) h.rows)
+    where
+      at_items : (s : List A) × (h.seconds ≡ items s) × (s ≡ [] → h.firsts ≡ items (a ∷ more))
+          → Below (r'.rank v.stream ++ r.rank t.stream) (r'.rank y.stream ++ r.rank x.stream)
+      at_items ([], e, all) =
+          Below-after (r'.rank v.stream) (r'.rank y.stream) (r.rank t.stream) (r.rank x.stream)
+          (inl (ap (λ m. r'.rank m.stream) ((fused_laws u).stays y v (rw e at h.then_came))))
+          ((through_counting fuse_parts c fuses_relating).falls x t a more k.0 (rw (all refl) at h.came))
+      at_items (z ∷ s, e, all) =
+          Below-first (r'.rank v.stream) (r'.rank y.stream) (r.rank t.stream) (r.rank x.stream)
+          ((through_counting fuse_parts d fuses_relating).falls y v z s k.1 (rw e at h.then_came))
+          (c.sized t.stream ∙ sym (c.sized x.stream))
 
 -- what each run keeps
 pub merges_keep : {S U A : Type 0} {run : Runs (Answer A) S} {run' : Runs (Answer A) U} {P : S → Type 0}

@@ -1,28 +1,38 @@
 -- Laws of `or`.
-use Rattle.std.proofs.Common.{◌∙◌, None, ap, sym}
+use Rattle.std.proofs.Common.{[], None, refl}
 use Rattle.std.proofs.lemmas.List.{map-append}
 use Rattle.lite_base.specs.Answers.{Answer}
 use Rattle.lite_base.specs.Calm.{CalmLaws}
 use Rattle.lite_base.specs.Laws.Calm.{calm_both}
 use Rattle.lite_base.specs.Laws.Hint.{same_hint}
+use Rattle.lite_base.specs.Laws.Rows.{rows_empty}
 use Rattle.lite_base.specs.Ranks.{Counting, Ranks}
 use Rattle.lite_base.specs.StreamLaws.{StreamLaws}
 use Rattle.lite_base.specs.Runs.{Hints, NoHint, Runs}
 use Rattle.lite_merge.specs.Laws.Merge.{first_falls, fused_laws, merges_calm, merges_follow, merges_keep, merges_lower}
-use Rattle.lite_merge.specs.Laws.Merge.{merges_rest, merges_sized, merges_stay}
+use Rattle.lite_merge.specs.Laws.Merge.{merges_sized}
+use Rattle.lite_merge.specs.Merge.{MergeRow}
 use Rattle.lite_merge.specs.Or.{Ors, or_ranks}
 use Rattle.lite_merge.specs.declared.or.Or.{Or}
-use Rattle.lite_stream.specs.Fuse.{fuse_parts}
-use Rattle.lite_stream.specs.Laws.Fuse.{fuses_relating}
-use Rattle.lite_stream.specs.Laws.Through.{through_counting}
 
 module _ {S U A : Type 0} {run : Runs (Answer A) S} {run' : Runs (Answer A) U} where
   pub or_laws : {hints : Hints S} {hints' : Hints U} → StreamLaws run hints → StreamLaws run' hints'
       → StreamLaws (Ors run run') NoHint
   or_laws s u =
       record {
-        rests = λ x. merges_rest s u x.stream1 x.stream2;
-        stays = λ x y h. let e = merges_stay s u h in λ i. record { stream1 = e.0 i; stream2 = e.1 i };
+        rests = λ x. record {
+          firsts = [];
+          seconds = [];
+          came = (fused_laws s).rests x.stream1;
+          then_came = (fused_laws u).rests x.stream2;
+          rows = (refl, refl, refl);
+        };
+        stays = λ x y h.
+            let e = rows_empty MergeRow [] h.firsts h.seconds h.rows in
+            λ i. record {
+              stream1 = ((fused_laws s).stays x.stream1 y.stream1 (rw e.0 at h.came)) i;
+              stream2 = ((fused_laws u).stays x.stream2 y.stream2 (rw e.1 at h.then_came)) i;
+            };
         follows = λ x y z l m h k. rw map-append (merges_follow s u h k);
         bounded = λ x y hint l e h. same_hint hint (0, None) l e tt;
       }
@@ -34,23 +44,11 @@ module _ {S U A : Type 0} {run : Runs (Answer A) S} {run' : Runs (Answer A) U} w
 
   pub or_counting : {hints' : Hints U} {r : Ranks S} {r' : Ranks U} → StreamLaws run' hints' → Counting run r
       → Counting run' r' → Counting (Ors run run') (or_ranks r r')
-  or_counting {r} {r'} u c d =
-      let first = through_counting fuse_parts c fuses_relating in
-      let second = through_counting fuse_parts d fuses_relating in
+  or_counting u c d =
       record {
         sized = λ x. merges_sized c d x.stream1.stream x.stream2.stream;
         counts_on = λ x y l. merges_keep c.counts_on d.counts_on;
         firm_on = λ x y l. merges_keep c.firm_on d.firm_on;
-        falls = λ x y a more k h.
-            first_falls h.firsts h.seconds a more (r.rank y.stream1.stream) (r.rank x.stream1.stream)
-            (r'.rank y.stream2.stream) (r'.rank x.stream2.stream)
-            (λ b before e. first.falls x.stream1 y.stream1 b before k.0
-            (rw e at h.came))
-            (λ b before e. second.falls x.stream2 y.stream2 b before k.1
-            (rw e at h.then_came))
-            (c.sized y.stream1.stream ∙ sym (c.sized x.stream1.stream))
-            (λ e. ap (λ m. r'.rank m.stream)
-            ((fused_laws u).stays x.stream2 y.stream2
-            (rw e at h.then_came))) h.rows;
+        falls = λ x y. first_falls c d u;
         lowers = λ x y l. merges_lower c d;
       }

@@ -15,6 +15,11 @@ strip_pendings : {C : Type 0} (n : ℕ) (l : List (Poll C)) → strip (pendings 
 strip_pendings zero l = refl
 strip_pendings (suc n) l = strip_pendings n l
 
+-- an item that is held stands before the others
+abbrev held_before : {A : Type 0} → Option A → List (Option A) → List (Option A)
+held_before None is = is
+held_before (Some x) is = Some x ∷ is
+
 module _ {A B : Type 0} where
   -- the pair, or the end
   abbrev with_other : A → Option B → Option (A × B)
@@ -25,26 +30,18 @@ module _ {A B : Type 0} where
   strip_pair x None l = refl
   strip_pair x (Some y) l = refl
 
-  -- as Held, where nothing is pending
-  abbrev Meets : A → (List (Option B) → List (Option (A × B)) → Type 0) → List (Option B) → List (Option (A × B))
-      → Type 0
-  Meets x follows [] out = out ≡ []
-  Meets x follows (b ∷ js) out = (more : List (Option (A × B))) × (out ≡ with_other x b ∷ more) × follows js more
-
-  -- as Pairs and Pairing, where nothing is pending
+  -- as Pairs, where nothing is pending
   abbrev Matched : List (Option A) → List (Option B) → List (Option (A × B)) → Type 0
   Matched [] js out = out ≡ []
   Matched (None ∷ is) js out = (more : List (Option (A × B))) × (out ≡ None ∷ more) × Matched is js more
-  Matched (Some x ∷ is) js out = Meets x (Matched is) js out
-
-  abbrev Matching : Option A → List (Option A) → List (Option B) → List (Option (A × B)) → Type 0
-  Matching None is js out = Matched is js out
-  Matching (Some x) is js out = Meets x (Matched is) js out
+  Matched (Some x ∷ is) [] out = out ≡ []
+  Matched (Some x ∷ is) (b ∷ js) out =
+      (more : List (Option (A × B))) × (out ≡ with_other x b ∷ more) × Matched is js more
 
   matching : (f g : Option A) (i : List (Answer A)) (j : List (Answer B)) (l : List (Answer (A × B)))
-      → Pairing f i j l g → Matching f (strip i) (strip j) (strip l)
+      → Pairing f i j l g → Matched (held_before f (strip i)) (strip j) (strip l)
   matching f g =
-      pairing_by g (λ f i j l. Matching f (strip i) (strip j) (strip l)) (λ e. refl)
+      pairing_by g (λ f i j l. Matched (held_before f (strip i)) (strip j) (strip l)) (λ e. refl)
       (λ x n e. rw (strip_pendings, strip_pendings))
       (λ x i n b j l r. rw (strip_pendings, strip_pendings, strip_pair) (strip l, refl, r)) (λ i j l r. r)
       (λ i j l r. (strip l, refl, r)) (λ x i j b l r. r) f
@@ -53,25 +50,13 @@ module _ {A B : Type 0} where
     abbrev Out : List (Option (A × B)) → List (Option (A × B)) → Type 0
     Out = ComparableBy (SameAnswer (Pairwise same other))
 
-    module _ (x y : A) where
-      other_same : (b c : Option B) → SameItem same x y → SameAnswer other b c
-          → SameAnswer (Pairwise same other) (with_other x b) (with_other y c)
-      other_same None None e d = ends_same (Pairwise same other)
-      other_same None (Some c) e d = absurd (both_items other None (Some c) d)
-      other_same (Some b) None e d = absurd (both_items other (Some b) None d)
-      other_same (Some b) (Some c) e d =
-          same_answer (Pairwise same other) (x, b) (y, c)
-          (pairs_same same other (x, b) (y, c) e (item_same other b c d))
-
-      meets_same : (P Q : List (Option B) → List (Option (A × B)) → Type 0) (j k : List (Option B))
-          (o p : List (Option (A × B))) → SameItem same x y
-          → ((more more' : List (Option B)) (rest rest' : List (Option (A × B))) → P more rest → Q more' rest'
-          → ComparableBy (SameAnswer other) more more' → Out rest rest')
-          → Meets x P j o → Meets y Q k p → ComparableBy (SameAnswer other) j k → Out o p
-      meets_same P Q [] k o p e rest r q d = rw r tt
-      meets_same P Q (b ∷ j) [] o p e rest r q d = rw q (comparable_nil (SameAnswer (Pairwise same other)) o)
-      meets_same P Q (b ∷ j) (c ∷ k) o p e rest r q d =
-          rw (r.1, q.1) (other_same b c e d.0, rest j k r.0 q.0 r.2 q.2 d.1)
+    other_same : (x y : A) (b c : Option B) → SameItem same x y → SameAnswer other b c
+        → SameAnswer (Pairwise same other) (with_other x b) (with_other y c)
+    other_same x y None None e d = ends_same (Pairwise same other)
+    other_same x y None (Some c) e d = absurd (both_items other None (Some c) d)
+    other_same x y (Some b) None e d = absurd (both_items other (Some b) None d)
+    other_same x y (Some b) (Some c) e d =
+        same_answer (Pairwise same other) (x, b) (y, c) (pairs_same same other (x, b) (y, c) e (item_same other b c d))
 
     matched_same : (i k : List (Option A)) (j h : List (Option B)) (o p : List (Option (A × B))) → Matched i j o
         → Matched k h p → ComparableBy (SameAnswer same) i k → ComparableBy (SameAnswer other) j h → Out o p
@@ -81,19 +66,19 @@ module _ {A B : Type 0} where
         rw (r.1, q.1) (ends_same (Pairwise same other), matched_same i k j h r.0 q.0 r.2 q.2 c.1 d)
     matched_same (None ∷ i) (Some y ∷ k) j h o p r q c d = absurd (both_items same None (Some y) c.0)
     matched_same (Some x ∷ i) (None ∷ k) j h o p r q c d = absurd (both_items same (Some x) None c.0)
-    matched_same (Some x ∷ i) (Some y ∷ k) j h o p r q c d =
-        meets_same x y (Matched i) (Matched k) j h o p (item_same same x y c.0)
-        (λ more more' rest rest' u v. matched_same i k more more' rest rest' u v c.1) r q d
+    matched_same (Some x ∷ i) (Some y ∷ k) [] h o p r q c d = rw r tt
+    matched_same (Some x ∷ i) (Some y ∷ k) (b ∷ j) [] o p r q c d =
+        rw q (comparable_nil (SameAnswer (Pairwise same other)) o)
+    matched_same (Some x ∷ i) (Some y ∷ k) (b ∷ j) (g ∷ h) o p r q c d =
+        rw (r.1, q.1)
+        (other_same x y b g (item_same same x y c.0) d.0, matched_same i k j h r.0 q.0 r.2 q.2 c.1 d.1)
 
-    matching_same : (f g : Option A) (i k : List (Option A)) (j h : List (Option B)) (o p : List (Option (A × B)))
-        → SameAnswer same f g → Matching f i j o → Matching g k h p → ComparableBy (SameAnswer same) i k
-        → ComparableBy (SameAnswer other) j h → Out o p
-    matching_same None None i k j h o p e r q c d = matched_same i k j h o p r q c d
-    matching_same None (Some y) i k j h o p e r q c d = absurd (both_items same None (Some y) e)
-    matching_same (Some x) None i k j h o p e r q c d = absurd (both_items same (Some x) None e)
-    matching_same (Some x) (Some y) i k j h o p e r q c d =
-        meets_same x y (Matched i) (Matched k) j h o p (item_same same x y e)
-        (λ more more' rest rest' u v. matched_same i k more more' rest rest' u v c) r q d
+    same_before : (f g : Option A) (i k : List (Option A)) → SameAnswer same f g → ComparableBy (SameAnswer same) i k
+        → ComparableBy (SameAnswer same) (held_before f i) (held_before g k)
+    same_before None None i k e c = c
+    same_before (Some x) (Some y) i k e c = (e, c)
+    same_before None (Some y) i k e c = absurd (both_items same None (Some y) e)
+    same_before (Some x) None i k e c = absurd (both_items same (Some x) None e)
 
 module _ {S U A B : Type 0} {run ample : Runs (Answer A) S} {run' ample' : Runs (Answer B) U} {none none' : Type 0}
     {alike : S → S → Type 0} {alike' : U → U → Type 0} (same : Sameness A) (other : Sameness B) where
@@ -106,11 +91,13 @@ module _ {S U A B : Type 0} {run ample : Runs (Answer A) S} {run' ample' : Runs 
       record {
         laws = zip_runs s.laws u.laws;
         steady = λ x y e l m x' y' h k.
-            matching_same same other x.item_slot y.item_slot (strip h.firsts) (strip k.firsts) (strip h.seconds)
-            (strip k.seconds) (strip l) (strip m) (held_same same x.item_slot y.item_slot e.2)
+            matched_same same other (held_before x.item_slot (strip h.firsts)) (held_before y.item_slot (strip k.firsts))
+            (strip h.seconds) (strip k.seconds) (strip l) (strip m)
             (matching x.item_slot x'.item_slot h.firsts h.seconds l h.paired)
             (matching y.item_slot y'.item_slot k.firsts k.seconds m k.paired)
-            (s.steady x.first y.first e.0 h.firsts k.firsts x'.first y'.first h.came k.came)
+            (same_before same other x.item_slot y.item_slot (strip h.firsts) (strip k.firsts)
+            (held_same same x.item_slot y.item_slot e.2)
+            (s.steady x.first y.first e.0 h.firsts k.firsts x'.first y'.first h.came k.came))
             (u.steady x.second y.second e.1 h.seconds k.seconds x'.second y'.second h.then_came k.then_came);
         found = λ n x y l h.
             record {

@@ -15,7 +15,7 @@ use Rattle.lite_base.specs.StreamLaws.{StreamLaws}
 use Rattle.lite_base.specs.Laws.Endless.{endless_join}
 use Rattle.lite_base.specs.Runs.{Hints, Runs}
 use Rattle.lite_merge.specs.Laws.Ends.{ends_before, ends_bounded, ends_calm, ends_lower, no_end_among}
-use Rattle.lite_merge.specs.StopAfterFuture.{PendingBeside, StoppedByEnd, StoppedByValue, Stops, StopsBy}
+use Rattle.lite_merge.specs.StopAfterFuture.{PendingBeside, Stops, StopsBy}
 use Rattle.lite_merge.specs.Stopping.{HintsBy, StopHints, stop_parts}
 use Rattle.lite_merge.specs.declared.stop_after_future.StopAfterFuture.{StopAfterFuture}
 use Rattle.lite_merge.specs.declared.stop_after_future.Stopping.TheVariants.{Holding, TakenOut, Stopped}
@@ -41,9 +41,6 @@ stops_rest A laws (Stopped r) = (refl, tt, refl)
 
 module _ {F A R : Type 0} {run : Runs (Poll R) F} (laws : FutureLaws run) where
   module _ (f g : F) where
-    beside_stay : PendingBeside {A = A} run f [] g → g ≡ f
-    beside_stay h = laws.stays f g (rw (none_told h.told h.rows) at h.came)
-
     beside_join : (k : F) (i j : List (Answer A)) → PendingBeside run f i g → PendingBeside run g j k
         → PendingBeside run f (i ++ j) k
     beside_join k i j h d =
@@ -61,69 +58,12 @@ module _ {F A R : Type 0} {run : Runs (Poll R) F} (laws : FutureLaws run) where
   stops_stay : (f g : Stopping F R) (i : List (Answer A)) → StopsBy run f i [] g → (i ≡ []) × (g ≡ f)
   stops_stay TakenOut g i h = (sym h.0, h.1)
   stops_stay (Stopped r) g i h = (h.0, h.2)
-  stops_stay (Holding f) (Holding g) i h = (sym h.2, ap Holding (beside_stay f g (rw h.2 h.0)))
+  stops_stay (Holding f) (Holding g) i h =
+      (sym h.2, ap Holding (laws.stays f g (rw (none_told h.0.told (rw (← h.2) at h.0.rows)) at h.0.came)))
   stops_stay (Holding f) (Stopped (Some value)) i h = absurd (none_out i h.later h.joined)
   stops_stay (Holding f) (Stopped None) i h =
       absurd (none_out h.own h.later (rw (h.through_end, append_assoc) at h.joined))
   stops_stay (Holding f) TakenOut i h = absurd h
-
-  -- after it was stopped
-  module _ (f : F) where
-    after_value : (value : R) (k : Stopping F R) (i j l m : List (Answer A)) → StoppedByValue run f i l value
-        → StopsBy run (Stopped (Some value)) j m k → StopsBy run (Holding f) (i ++ j) (l ++ m) k
-    after_value value k i j l m h d =
-        rw (d.2, d.0, append-nil)
-        record {
-          told = h.told;
-          finishes = h.finishes;
-          rows = h.rows;
-          endless = h.endless;
-          later = h.later ++ m;
-          ends = all_append (λ a. a ≡ end) h.later m h.ends d.1;
-          joined = rw (h.joined, append_assoc) refl;
-        }
-
-    after_end : (k : Stopping F R) (i j l m : List (Answer A)) → StoppedByEnd run f i l
-        → StopsBy run (Stopped None) j m k → StopsBy run (Holding f) (i ++ j) (l ++ m) k
-    after_end k i j l m h d =
-        rw (d.2, d.0, append-nil)
-        record {
-          last = h.last;
-          beside = h.beside;
-          own = h.own;
-          endless = h.endless;
-          through_end = h.through_end;
-          later = h.later ++ m;
-          ends = all_append (λ a. a ≡ end) h.later m h.ends d.1;
-          joined = rw (h.joined, append_assoc) refl;
-        }
-
-    -- before it was stopped
-    while_held : (g : F) (k : Stopping F R) (i j l m : List (Answer A)) → StopsBy run (Holding f) i l (Holding g)
-        → StopsBy run (Holding g) j m k → StopsBy run (Holding f) (i ++ j) (l ++ m) k
-    while_held g (Holding k) i j l m h d = (beside_join f g k i j h.0 d.0, endless_join i j h.1 d.1, rw (h.2, d.2))
-    while_held g (Stopped (Some value)) i j l m h d =
-        record {
-          told = h.0.told ++ d.told;
-          finishes = finishes_later laws f g h.0.told d.told value h.0.waiting h.0.came d.finishes;
-          rows = omega (arith, h.0.rows, d.rows, length-append h.0.told d.told, length-append i j);
-          endless = endless_join i j h.1 d.endless;
-          later = d.later;
-          ends = d.ends;
-          joined = rw (h.2, d.joined, append_assoc) refl;
-        }
-    while_held g (Stopped None) i j l m h d =
-        record {
-          last = d.last;
-          beside = beside_join f g d.last i j h.0 d.beside;
-          own = i ++ d.own;
-          endless = endless_join i d.own h.1 d.endless;
-          through_end = rw (d.through_end, append_assoc) refl;
-          later = d.later;
-          ends = d.ends;
-          joined = rw (h.2, d.joined, append_assoc) refl;
-        }
-    while_held g TakenOut i j l m h d = absurd d
 
   stops_join : (f g k : Stopping F R) (i j l m : List (Answer A)) → StopsBy run f i l g → StopsBy run g j m k
       → StopsBy run f (i ++ j) (l ++ m) k
@@ -131,9 +71,55 @@ module _ {F A R : Type 0} {run : Runs (Poll R) F} (laws : FutureLaws run) where
   stops_join (Stopped r) g k i j l m h d =
       let e = rw h.2 at d in
       (rw (h.0, e.0), all_append (λ a. a ≡ end) l m h.1 e.1, e.2)
-  stops_join (Holding f) (Holding g) k i j l m h d = while_held f g k i j l m h d
-  stops_join (Holding f) (Stopped (Some value)) k i j l m h d = after_value f value k i j l m h d
-  stops_join (Holding f) (Stopped None) k i j l m h d = after_end f k i j l m h d
+  -- after it was stopped
+  stops_join (Holding f) (Stopped (Some value)) k i j l m h d =
+      rw (d.2, d.0, append-nil)
+      record {
+        told = h.told;
+        finishes = h.finishes;
+        rows = h.rows;
+        endless = h.endless;
+        later = h.later ++ m;
+        ends = all_append (λ a. a ≡ end) h.later m h.ends d.1;
+        joined = rw (h.joined, append_assoc) refl;
+      }
+  stops_join (Holding f) (Stopped None) k i j l m h d =
+      rw (d.2, d.0, append-nil)
+      record {
+        last = h.last;
+        beside = h.beside;
+        own = h.own;
+        endless = h.endless;
+        through_end = h.through_end;
+        later = h.later ++ m;
+        ends = all_append (λ a. a ≡ end) h.later m h.ends d.1;
+        joined = rw (h.joined, append_assoc) refl;
+      }
+  -- before it was stopped
+  stops_join (Holding f) (Holding g) (Holding k) i j l m h d =
+      (beside_join f g k i j h.0 d.0, endless_join i j h.1 d.1, rw (h.2, d.2))
+  stops_join (Holding f) (Holding g) (Stopped (Some value)) i j l m h d =
+      record {
+        told = h.0.told ++ d.told;
+        finishes = finishes_later laws f g h.0.told d.told value h.0.waiting h.0.came d.finishes;
+        rows = omega (arith, h.0.rows, d.rows, length-append h.0.told d.told, length-append i j);
+        endless = endless_join i j h.1 d.endless;
+        later = d.later;
+        ends = d.ends;
+        joined = rw (h.2, d.joined, append_assoc) refl;
+      }
+  stops_join (Holding f) (Holding g) (Stopped None) i j l m h d =
+      record {
+        last = d.last;
+        beside = beside_join f g d.last i j h.0 d.beside;
+        own = i ++ d.own;
+        endless = endless_join i d.own h.1 d.endless;
+        through_end = rw (d.through_end, append_assoc) refl;
+        later = d.later;
+        ends = d.ends;
+        joined = rw (h.2, d.joined, append_assoc) refl;
+      }
+  stops_join (Holding f) (Holding g) TakenOut i j l m h d = absurd d
   stops_join (Holding f) TakenOut k i j l m h d = absurd h
 
   -- what goes out is what came in, and then ends; where it was stopped by a value the first of them came in its row

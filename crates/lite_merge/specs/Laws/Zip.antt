@@ -9,13 +9,12 @@ use Rattle.lite_base.specs.Calm.{CalmLaws, waits}
 use Rattle.lite_base.specs.Laws.Falling.{Lowers-at_most, Lowers-below}
 use Rattle.lite_base.specs.Laws.Hint.{same_hint}
 use Rattle.lite_base.specs.Laws.Items.{IsItem, items_each}
-use Rattle.lite_base.specs.Rank.{AtMost, Below, Lowers}
+use Rattle.lite_base.specs.Rank.{AtMost, Lowers}
 use Rattle.lite_base.specs.Ranks.{Counting, Ranks, count_held, held_rank}
 use Rattle.lite_base.specs.StreamLaws.{RunLaws, StreamLaws}
 use Rattle.lite_base.specs.Laws.StreamLaws.{laws_of, runs_of}
 use Rattle.lite_base.specs.Runs.{Hints, NoHint, Runs}
 use Rattle.lite_merge.specs.Zip.{Pairing, Pairs, WithHeld, Zips, pair_with, pendings, zip_ranks}
-use Rattle.lite_merge.specs.declared.zip.Zip.{Zip}
 use Rattle.lite_stream.specs.Laws.Calming.{calm_two}
 use Rattle.lite_stream.specs.Laws.Held.{held_falls, held_first, held_less, held_level, held_sized}
 
@@ -115,22 +114,6 @@ module _ {A B : Type 0} where
           c.6,
         )
 
-  pairing_follow : (f g h : Option A) (i k : List (Answer A)) (j s : List (Answer B)) (l m : List (Answer (A × B)))
-      → Pairing f i j l g → Pairing g k s m h → Pairing f (i ++ k) (j ++ s) (l ++ m) h
-  pairing_follow f g h i k j s l m c d =
-      pairing_by g (λ f i j l. Pairing f (i ++ k) (j ++ s) (l ++ m) h) (λ e. rw e at d)
-      (λ x n e. begun x k n s m h (rw e at d))
-      (λ x i n b j l r. inr (
-        n,
-        b,
-        j ++ s,
-        l ++ m,
-        pendings_join n (Ready b ∷ j) s,
-        pendings_join n (pair_with x b ∷ l) m,
-        r,
-      ))
-      (λ i j l r. (refl, r)) (λ i j l r. (refl, r)) (λ x i j b l r. r) f i j l c
-
   pairing_empty : (f g : Option A) (i : List (Answer A)) (j : List (Answer B)) → Pairing f i j [] g → (i ≡ [])
       × (j ≡ []) × (g ≡ f)
   pairing_empty None g [] j c = (refl, c.0, c.2)
@@ -143,39 +126,12 @@ module _ {A B : Type 0} where
 
   -- ranks
 
-  module _ (f g : Option A) where
-    pairing_lowers : (i : List (Answer A)) (j : List (Answer B)) (l : List (Answer (A × B))) (xs us : List ℕ)
-        → Pairing f i j l g → Lowers i xs us → Lowers l (held_rank xs g) (held_rank us f)
-    pairing_lowers i j l xs us =
-        pairing_by g (λ f i j l. Lowers i xs us → Lowers l (held_rank xs g) (held_rank us f))
-        (λ e h. held_level xs us None g h (ap count_held e))
-        (λ x n e h. pendings_lower (A × B) n _ _ (held_level xs us (Some x) g h (ap count_held e)))
-        (λ x i n b j l r h. Lowers-below (pendings n (pair_with x b ∷ l)) _ _
-        (held_less _ us x (Lowers-at_most l _ _ (r h))))
-        (λ i j l r. r) (λ i j l r. r) (λ x i j b l r h. Lowers-below (b ∷ l) _ _ (held_first xs us g None h)) f i j l
-
-    -- where items came out, only items came in
-    pairing_items : (i : List (Answer A)) (j : List (Answer B)) (l : List (Answer (A × B))) → Pairing f i j l g
-        → AllByRecursion IsItem l → AllByRecursion IsItem i
-    pairing_items =
-        pairing_by g (λ f i j l. AllByRecursion IsItem l → AllByRecursion IsItem i) (λ e h. tt) (λ x n e h. tt)
-        (λ x i n b j l r h. r (items_rest n (pair_with x b) l h)) (λ i j l r h. let e = h.0.1 in cc)
-        (λ i j l r h. let e = h.0.1 in cc) (λ x i j b l r h. ((x, refl), r h)) f
-
-  -- and where nothing came in, they came of what was held
+  -- where items came out and nothing came in, they came of what was held
   alone : (f g : Option A) (j : List (Answer B)) (y : A × B) (l : List (A × B)) → Pairing f [] j (items (y ∷ l)) g
       → (g ≡ None) × (v : A) × (f ≡ Some v)
   alone None g j y l c = cc
   alone (Some x) g j y l (inl c) = absurd (not_items c.0 y l c.3)
   alone (Some x) g j y l (inr c) = (c.6.2, x, refl)
-
-  pairing_falls : (f g : Option A) (i : List (Answer A)) (j : List (Answer B)) (y : A × B) (l : List (A × B))
-      (xs us : List ℕ)
-      → ((a : A) (before : List A) → i ≡ items (a ∷ before) → Below xs us) → (i ≡ [] → xs ≡ us)
-      → Pairing f i j (items (y ∷ l)) g → Below (held_rank xs g) (held_rank us f)
-  pairing_falls f g i j y l xs us falls same c =
-      held_falls i xs us g f falls same (λ e. alone f g j y l (rw e at c))
-      (pairing_items f g i j (items (y ∷ l)) c (items_each (y ∷ l)))
 
   -- no more Pendings go out than came in
 
@@ -183,28 +139,7 @@ module _ {A B : Type 0} where
   pair_no_pending x None l = refl
   pair_no_pending x (Some y) l = refl
 
-  pairing_waits : (f g : Option A) (i : List (Answer A)) (j : List (Answer B)) (l : List (Answer (A × B)))
-      → Pairing f i j l g → waits l ≤ waits i + waits j
-  pairing_waits f g =
-      pairing_by g (λ f i j l. waits l ≤ waits i + waits j) (λ e. omega arith)
-      (λ x n e. omega (arith, waits_pendings {C = Option B} n [], waits_pendings {C = Option (A × B)} n []))
-      (λ x i n b j l r.
-      omega
-      (arith, r, waits_pendings n (Ready b ∷ j), waits_pendings n (pair_with x b ∷ l), pair_no_pending x b l))
-      (λ i j l r. omega (arith, r)) (λ i j l r. r) (λ x i j b l r. r) f
-
 module _ {S U A B : Type 0} {run : Runs (Answer A) S} {run' : Runs (Answer B) U} where
-  zips_stay : ((x y : S) → run x [] y → y ≡ x) → ((x y : U) → run' x [] y → y ≡ x) → (x y : Zip S U A)
-      → Zips run run' x [] y → y ≡ x
-  zips_stay stays stays' x y h =
-      let e = pairing_empty x.item_slot y.item_slot h.firsts h.seconds h.paired in
-      λ i.
-      record {
-        item_slot = e.2 i;
-        first = (stays x.first y.first (rw e.0 at h.came)) i;
-        second = (stays' x.second y.second (rw e.1 at h.then_came)) i;
-      }
-
   pub zip_runs : RunLaws run → RunLaws run' → RunLaws (Zips run run')
   zip_runs s u =
       record {
@@ -215,15 +150,33 @@ module _ {S U A B : Type 0} {run : Runs (Answer A) S} {run' : Runs (Answer B) U}
           then_came = u.rests x.second;
           paired = pairing_starts B x.item_slot;
         };
-        stays = zips_stay s.stays u.stays;
+        stays = λ x y h.
+            let e = pairing_empty x.item_slot y.item_slot h.firsts h.seconds h.paired in
+            λ i. record {
+              item_slot = e.2 i;
+              first = (s.stays x.first y.first (rw e.0 at h.came)) i;
+              second = (u.stays x.second y.second (rw e.1 at h.then_came)) i;
+            };
         follows = λ x y z l m h k.
             record {
               firsts = h.firsts ++ k.firsts;
               seconds = h.seconds ++ k.seconds;
               came = s.follows x.first y.first z.first h.firsts k.firsts h.came k.came;
               then_came = u.follows x.second y.second z.second h.seconds k.seconds h.then_came k.then_came;
-              paired = pairing_follow x.item_slot y.item_slot z.item_slot h.firsts k.firsts h.seconds k.seconds l m
-                  h.paired k.paired;
+              paired = pairing_by y.item_slot
+                  (λ f i j l. Pairing f (i ++ k.firsts) (j ++ k.seconds) (l ++ m) z.item_slot)
+                  (λ e. rw e at k.paired) (λ v n e. begun v k.firsts n k.seconds m z.item_slot (rw e at k.paired))
+                  (λ v i n b j l r. inr (
+                    n,
+                    b,
+                    j ++ k.seconds,
+                    l ++ m,
+                    pendings_join n (Ready b ∷ j) k.seconds,
+                    pendings_join n (pair_with v b ∷ l) m,
+                    r,
+                  ))
+                  (λ i j l r. (refl, r)) (λ i j l r. (refl, r)) (λ v i j b l r. r) x.item_slot h.firsts h.seconds l
+                  h.paired;
             };
       }
 
@@ -239,11 +192,27 @@ module _ {S U A B : Type 0} {run : Runs (Answer A) S} {run' : Runs (Answer B) U}
         counts_on = λ x y l k h. c.counts_on x.first y.first h.firsts k h.came;
         firm_on = λ x y l k h. c.firm_on x.first y.first h.firsts k h.came;
         falls = λ x y a more k h.
-            pairing_falls x.item_slot y.item_slot h.firsts h.seconds a more (r.rank y.first) (r.rank x.first)
+            held_falls h.firsts (r.rank y.first) (r.rank x.first) y.item_slot x.item_slot
             (λ b before e. c.falls x.first y.first b before k (rw e at h.came))
-            (λ e. ap r.rank (s.stays x.first y.first (rw e at h.came))) h.paired;
-        lowers = λ x y l k h. pairing_lowers x.item_slot y.item_slot h.firsts h.seconds l (r.rank y.first)
-            (r.rank x.first) h.paired (c.lowers x.first y.first h.firsts k h.came);
+            (λ e. ap r.rank (s.stays x.first y.first (rw e at h.came)))
+            (λ e. alone x.item_slot y.item_slot h.seconds a more (rw e at h.paired))
+            -- where items came out, only items came in
+            (pairing_by y.item_slot (λ f i j l. AllByRecursion IsItem l → AllByRecursion IsItem i) (λ e h. tt)
+            (λ v n e h. tt) (λ v i n b j l r h. r (items_rest n (pair_with v b) l h)) (λ i j l r h. let e = h.0.1 in cc)
+            (λ i j l r h. let e = h.0.1 in cc) (λ v i j b l r h. ((v, refl), r h)) x.item_slot h.firsts h.seconds
+            (items (a ∷ more)) h.paired (items_each (a ∷ more)));
+        lowers = λ x y l k h.
+            let xs = r.rank y.first in
+            let us = r.rank x.first in
+            pairing_by y.item_slot
+            (λ f i j l. Lowers i xs us → Lowers l (held_rank xs y.item_slot) (held_rank us f))
+            (λ e h. held_level xs us None y.item_slot h (ap count_held e))
+            (λ v n e h. pendings_lower (A × B) n _ _ (held_level xs us (Some v) y.item_slot h (ap count_held e)))
+            (λ v i n b j l r h. Lowers-below (pendings n (pair_with v b ∷ l)) _ _
+            (held_less _ us v (Lowers-at_most l _ _ (r h))))
+            (λ i j l r. r) (λ i j l r. r)
+            (λ v i j b l r h. Lowers-below (b ∷ l) _ _ (held_first xs us y.item_slot None h)) x.item_slot h.firsts
+            h.seconds l h.paired (c.lowers x.first y.first h.firsts k h.came);
       }
 
   -- where both are calm
@@ -256,5 +225,10 @@ module _ {S U A B : Type 0} {run : Runs (Answer A) S} {run' : Runs (Answer B) U}
         h.seconds,
         h.came,
         h.then_came,
-        pairing_waits x.item_slot y.item_slot h.firsts h.seconds l h.paired,
+        pairing_by y.item_slot (λ f i j l. waits l ≤ waits i + waits j) (λ e. omega arith)
+            (λ v n e. omega (arith, waits_pendings {C = Option B} n [], waits_pendings {C = Option (A × B)} n []))
+            (λ v i n b j l r.
+            omega
+            (arith, r, waits_pendings n (Ready b ∷ j), waits_pendings n (pair_with v b ∷ l), pair_no_pending v b l))
+            (λ i j l r. omega (arith, r)) (λ i j l r. r) (λ v i j b l r. r) x.item_slot h.firsts h.seconds l h.paired,
       ))

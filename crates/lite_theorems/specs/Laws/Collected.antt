@@ -1,22 +1,16 @@
 -- Where `collect` gives Ok, the stream gave items and pendings and then an end, and the collection holds the items.
 use Rattle.std.specs.Prelude.{IsSome, IfSome, ⊤}
-use Rattle.std.proofs.Common.{◌≡◌, ◌∙◌, List, [], ◌∷◌, ◌++◌, Option, Some, None, Result, Ok, refl, ap, sym, subst}
+use Rattle.std.proofs.Common.{◌≡◌, List, [], ◌∷◌, ◌++◌, Option, Some, None, Result, Ok, refl, ap, sym, subst}
 use Rattle.std.proofs.Common.{append-nil, append_assoc}
 use Rattle.futures.specs.declared.task.Poll.{Poll}
 use Rattle.futures.specs.declared.task.Poll.TheVariants.{Ready, Pending}
 use Rattle.lite_base.specs.Answers.{Answer, Gives, end, item}
-use Rattle.lite_consume.specs.Consuming.{Consumes, Decides, Fold, TakesIn, fold_of}
+use Rattle.lite_consume.specs.Consuming.{Consumes, Decides, Fold, fold_of}
 use Rattle.lite_consume.specs.Laws.Consuming.{consumes_steps}
 use Rattle.lite_gather.specs.Collect.{collects}
 use Rattle.lite_gather.specs.declared.refused.Refused.{Refused}
 use Rattle.lite_theorems.specs.Interleaving.{items_given}
 use Rattle.lite_theorems.specs.Laws.Rows.{WithoutEnd}
-
-same_some : {C : Type 0} (c d : C) → ◌≡◌ {A = Option C} (Some c) (Some d) → c ≡ d
-same_some c d e = cc
-
-same_ok : {C E : Type 0} (c d : C) → ◌≡◌ {A = Result C E} (Ok c) (Ok d) → c ≡ d
-same_ok c d e = cc
 
 -- there is a collection, and it holds these items
 abbrev pub Has : {C A : Type 0} → (C → List A → Type 0) → Option C → List A → Type 0
@@ -29,9 +23,9 @@ has holds None l s h = cc
 has holds (Some c) l s h = (c, refl, h)
 
 -- the one that is there
-held_by : {C A : Type 0} (holds : C → List A → Type 0) (o : Option C) (l : List A) (c : C) → Has holds o l → o ≡ Some c
+pub held_by : {C A : Type 0} (holds : C → List A → Type 0) (o : Option C) (l : List A) (c : C) → Has holds o l → o ≡ Some c
     → holds c l
-held_by holds o l c h e = rw (← (same_some h.0 c (sym h.1 ∙ e))) h.2
+held_by holds o l c h e = let same : c ≡ h.0 = cc h.1 in rw same h.2
 
 module _ {N C A : Type 0} (holds : C → List A → Type 0) (part : N → Option C) where
   abbrev CollectResult : Type 0
@@ -48,39 +42,36 @@ module _ {N C A : Type 0} (holds : C → List A → Type 0) (part : N → Option
     pub no_end : WithoutEnd body
     pub held : holds c (before ++ items_given body)
 
-  one_taken : (p m : N) (x : A) (i : List (Answer A)) (c : C) → TakesIn Gathering p x m
-      → ((before : List A) → Has holds (part m) before → Whole i before c)
-      → (before : List A) → Has holds (part p) before → Whole (item x ∷ i) before c
-  one_taken p m x i c t k before h =
-      let held = t.3 before (held_by holds (part p) before t.0 h t.2) in
-      let rest = k (before ++ x ∷ []) (t.1, t.4, held) in
-      record {
-        body = item x ∷ rest.body;
-        cut = ap (λ l. item x ∷ l) rest.cut;
-        no_end = rest.no_end;
-        held = subst (holds c) (append_assoc before (x ∷ []) (items_given rest.body)) rest.held;
-      }
-
-  one_waits : (i : List (Answer A)) (before : List A) (c : C) → Whole i before c → Whole (Pending ∷ i) before c
-  one_waits i before c h = record {
-    body = Pending ∷ h.body;
-    cut = ap (λ l. Pending ∷ l) h.cut;
-    no_end = h.no_end;
-    held = h.held;
-  }
-
   decided : (p q : N) (o : Option A) (r : CollectResult) (c : C) → Decides Gathering p (Ready o) (Ready r) q → r ≡ Ok c
       → (before : List A) → Has holds (part p) before → Whole (Ready o ∷ []) before c
   decided p q None r c d e before h =
-      let held = subst (λ b. holds b before) (same_ok d.0 c (sym d.2 ∙ e)) (held_by holds (part p) before d.0 h d.1) in
+      let same : d.0 ≡ c = cc d.2 in
+      let held = subst (λ b. holds b before) same (held_by holds (part p) before d.0 h d.1) in
       record { body = []; cut = refl; no_end = tt; held = subst (holds c) (sym (append-nil before)) held }
   decided p q (Some x) r c d e before h = cc
 
-  pub collected : (out : List (Poll (Result C (Refused C A)))) (p q : N) (ins : List (Answer A)) (before : List A)
+  pub collected : (out : List (Poll CollectResult)) (p q : N) (ins : List (Answer A)) (before : List A)
       (c : C) → Has holds (part p) before
       → Consumes Gathering p ins out q → Gives out (Ok c) → Whole ins before c
   collected out p q ins before c h k g =
       consumes_steps Gathering
       (λ p ins out. Gives out (Ok c) → (before : List A) → Has holds (part p) before → Whole ins before c)
-      (λ p m x i b l t k g. one_taken p m x i c t (k g)) (λ p i l k g before h. one_waits i before c (k g before h)) q
+      (λ p m x i b l t k g before h.
+      let held = t.3 before (held_by holds (part p) before t.0 h t.2) in
+      let rest = k g (before ++ x ∷ []) (t.1, t.4, held) in
+      record {
+        body = item x ∷ rest.body;
+        cut = ap (λ l. item x ∷ l) rest.cut;
+        no_end = rest.no_end;
+        held = subst (holds c) (append_assoc before (x ∷ []) (items_given rest.body)) rest.held;
+      })
+      (λ p i l k g before h.
+      let rest = k g before h in
+      record {
+        body = Pending ∷ rest.body;
+        cut = ap (λ l. Pending ∷ l) rest.cut;
+        no_end = rest.no_end;
+        held = rest.held;
+      })
+      q
       (λ p o r d g. decided p q o r c d g.0) p ins out absurd k g before h

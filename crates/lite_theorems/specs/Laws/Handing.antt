@@ -1,5 +1,5 @@
 -- A reader over another, which hands on what that one reads: each byte as what is made of it, each other mark as it is.
-use Rattle.std.proofs.Common.{◌≡◌, ◌∙◌, ◌≤◌, ℕ, suc, List, [], ◌∷◌, ◌++◌, length, map, take, drop, refl, ap, sym, subst}
+use Rattle.std.proofs.Common.{◌≡◌, ◌∙◌, ◌≤◌, ℕ, List, [], ◌∷◌, ◌++◌, length, map, take, drop, refl, ap, sym, subst}
 use Rattle.std.proofs.Common.{arith, length-append, length-drop, length-take-le}
 use Rattle.std.proofs.Math.Seq.{take-append_seam}
 use Rattle.std.proofs.lemmas.List.{length-map, map-append}
@@ -29,10 +29,6 @@ given_made f (ReadMark.pending ∷ l) = given_made f l
 given_made f (ReadMark.end ∷ l) = given_made f l
 given_made f (_ ∷ l) = rw (given_made f l)
 
-length_made : (f : ℕ → ℕ) (l : List ReadMark) → length (map (each_byte f) l) ≡ length l
-length_made f [] = refl
-length_made f (m ∷ l) = ap suc (length_made f l)
-
 all_given : (f : ℕ → ℕ) (l : List ReadMark) → AllGiven (map (each_byte f) l) → AllGiven l
 all_given f [] h = tt
 all_given f (ReadMark.pending ∷ l) h = absurd h.0
@@ -49,7 +45,7 @@ module _ {M R : Type 0} {part : M → R} {f : ℕ → ℕ} {reads : Runs ReadMar
         firm_on = λ x y l k h. c.firm_on (part x) (part y) h.ins k h.came;
         falls = λ x y l k g h.
             let low = c.falls (part x) (part y) h.ins k (all_given f h.ins (subst AllGiven h.out g)) h.came in
-            subst (λ n. Falls n (r.rank (part y)) (r.rank (part x))) (sym (ap length h.out ∙ length_made f h.ins)) low;
+            subst (λ n. Falls n (r.rank (part y)) (r.rank (part x))) (sym (ap length h.out ∙ length-map h.ins (each_byte f))) low;
         lowers = λ x y l k h.
             subst (λ n. Falls n (r.rank (part y)) (r.rank (part x))) (sym (ap given h.out ∙ given_made f h.ins))
             (c.lowers (part x) (part y) h.ins k h.came);

@@ -1,9 +1,9 @@
 -- Where `collect` of `or` gives Ok, the collection has taken in all that the two streams had.
 use Rattle.lite_base.specs.Future.AtEachOk.{AtEachOk}
 use Rattle.std.specs.Prelude.{⊤}
-use Rattle.std.proofs.Common.{◌≡◌, List, [], ◌∷◌, ◌++◌, Result, map, true, subst}
+use Rattle.std.proofs.Common.{◌≡◌, List, [], Result, subst}
 use Rattle.futures.specs.declared.task.Poll.{Poll}
-use Rattle.lite_base.specs.Answers.{Answer, end}
+use Rattle.lite_base.specs.Answers.{Answer}
 use Rattle.lite_base.specs.Runs.{Runs}
 use Rattle.lite_consume.specs.Consume.{Folds}
 use Rattle.lite_consume.specs.Consuming.{fold_of}
@@ -30,7 +30,5 @@ module _ {S U C A : Type 0} (run : Runs (Answer A) S) (run' : Runs (Answer A) U)
       let w =
       collected holds (λ (f : Collect C). f.collection) out x.folder y.folder h.ins before c is h.consumed g in
       let came = subst (λ l. Ors run run' x.stream l y.stream) w.cut h.came in
-      let whole =
-      merged_whole run run' stays stays' (map (λ _. true) (w.body ++ end ∷ [])) x.stream.stream1 x.stream.stream2
-      w.body y.stream.stream1 y.stream.stream2 w.no_end came in
+      let whole = merged_whole run run' stays stays' w.body w.no_end came in
       (whole.0, whole.1, items_given w.body, whole.2, whole.3, whole.4, w.held)

@@ -2,11 +2,10 @@
 -- were.
 use Rattle.lite_base.specs.Future.AtEachOk.{AtEachOk}
 use Rattle.std.specs.Prelude.{⊤}
-use Rattle.std.proofs.Common.{◌≡◌, List, [], ◌∷◌, ◌++◌, Result, map}
+use Rattle.std.proofs.Common.{◌≡◌, List, [], ◌∷◌, ◌++◌, Result}
 use Rattle.rand_core.specs.Stream.{Stream}
 use Rattle.futures.specs.declared.task.Poll.{Poll}
 use Rattle.lite_base.specs.Answers.{Answer, end}
-use Rattle.lite_base.specs.Future.Race.{is_first}
 use Rattle.lite_base.specs.Runs.{Runs}
 use Rattle.lite_consume.specs.Consume.{Folds}
 use Rattle.lite_consume.specs.Consuming.{fold_of}
@@ -39,7 +38,5 @@ module _ {S U R C A : Type 0} (run : Runs (Answer A) S) (run' : Runs (Answer A) 
       let w =
       collected holds (λ (f : Collect C). f.collection) out x.folder y.folder h.ins before c is h.consumed g in
       let came = raced x.stream y.stream w.body (rw (← w.cut) h.came) in
-      let whole =
-      merged_whole run run' stays stays' (map is_first came.words) x.stream.stream1 x.stream.stream2 w.body
-      y.stream.stream1 y.stream.stream2 w.no_end came.merges in
+      let whole = merged_whole run run' stays stays' w.body w.no_end came.merges in
       (whole.0, whole.1, items_given w.body, whole.2, whole.3, whole.4, w.held)

@@ -184,13 +184,9 @@ module _ {A : Type 0} where
   ended_list (Ready None ∷ own) later u a = cc
   ended_list (Ready (Some x) ∷ own) later u a = let e = ended_list own later (cc u) a in (e.0, ap (λ k. Some x ∷ k) e.1)
 
-  -- the items, and then an end
-  abbrev GaveWhole : List (Answer A) → List A → Type 0
-  GaveWhole i l = (own : List (Answer A)) × (i ≡ own ++ end ∷ []) × (strip own ≡ map Some l)
-
   -- a fused list ends for ever, and where it ends, what came in are its items and then an end
   fused_list : (i l : List (Answer A)) (g : Bool) → FusesOn false i l g → EndsForEver l
-      × (HasEnd l → GaveWhole i (items_given l))
+      × (HasEnd l → (own : List (Answer A)) × (i ≡ own ++ end ∷ []) × (strip own ≡ map Some (items_given l)))
   fused_list i l false h =
       let u = open_list i h.1 in (subst EndsForEver (sym h.0) u.0, λ e. absurd (u.1 (subst HasEnd h.0 e)))
   fused_list i l true h =
@@ -210,12 +206,12 @@ fused_rest run stays false s t i l d came h =
 module _ {S U A : Type 0} (run : Runs (Answer A) S) (run' : Runs (Answer A) U)
     (stays : (x y : S) → run x [] y → y ≡ x) (stays' : (x y : U) → run' x [] y → y ≡ x) where
   -- of answers that end once: both streams gave all that they had, and what went out is an interleaving
-  pub merged_whole : (o : List Bool) (s : Fuse S) (u : Fuse U) (body : List (Answer A)) (t : Fuse S) (v : Fuse U)
+  pub merged_whole : {o : List Bool} {s : Fuse S} {u : Fuse U} (body : List (Answer A)) {t : Fuse S} {v : Fuse U}
       → WithoutEnd body
       → Merges run run' o s u (body ++ end ∷ []) t v
       → (firsts seconds : List A) × GivesRest run s firsts t × GivesRest run' u seconds v
       × Interleaves firsts seconds (items_given body)
-  merged_whole o s u body t v n h =
+  merged_whole {o} {s} {u} body {t} {v} n h =
       let first = fused_rest run stays s.done s.stream t.stream h.came.ins h.firsts t.done h.came.came h.came.related in
       let second = fused_rest run' stays' u.done u.stream v.stream h.then_came.ins h.seconds v.done h.then_came.came
       h.then_came.related in

@@ -16,7 +16,7 @@ use Rattle.lite_io_base.specs.Laws.Steady.{no_wait_moved, strip_marks-append, st
 use Rattle.lite_io_base.specs.Marks.{ReadMark, bytes, read_marks}
 use Rattle.lite_io_base.specs.Runs.{MarkLaws}
 use Rattle.lite_io_base.specs.Steady.{NoPendingRead, strip_marks}
-use Rattle.lite_read.specs.Filling.{ExactStays, Filling, filling_of}
+use Rattle.lite_read.specs.Filling.{Filling, filling_of}
 use Rattle.lite_read.specs.Laws.Deterministic.{past_pending, past_value}
 use Rattle.lite_read.specs.Laws.ReadExact.{filled_by}
 use Rattle.lite_read.specs.Pieces.{Cut, CutsPiece}
@@ -25,7 +25,7 @@ use Rattle.lite_read.specs.Read.{Reads}
 use Rattle.lite_read.specs.ReadExact.{Fulfils, ReadsExactly, fills}
 use Rattle.lite_read.specs.ReadFold.{AnswerMarks, Gathers, ReadFold, ReadFolds}
 use Rattle.lite_read.specs.ReadUntil.{CountsPiece, ReadsUntil, until}
-use Rattle.lite_read.specs.UntilVector.{UntilStays, read_of}
+use Rattle.lite_read.specs.UntilVector.{read_of}
 use Rattle.lite_read.specs.declared.read.ReadFuture.{ReadFuture}
 use Rattle.lite_read.specs.declared.read_exact.ReadExactFuture.{ReadExactFuture}
 use Rattle.lite_read.specs.declared.read_until.ReadUntilFuture.{ReadUntilFuture}
@@ -72,19 +72,17 @@ read_folds_once fold now p q i (Ready r ∷ l) v h g =
 abbrev pub WaitedFor : {F A E : Type 0} → Runs (Poll A) F → F → Result A E → F → Type 0
 WaitedFor {F} {A} run x r y = IfOk r (λ v. (l : List (Poll A)) × Gives l v × run x l y) × OnErr r (y ≡ x)
 
--- what was told, and gave the value
-abbrev ToldValue : {S M R : Type 0} → Runs ReadMark S → ReadFold M R → S → M → R → S → M → Type 0
-ToldValue reads fold s p v t q = (l : List ReadMark) × ToldStripped reads s l t × AnswerMarks fold p l (Ready v) q
-
-gathers_told : {X S M R : Type 0} (reader : X → S) (held : X → M) (fold : X → ReadFold M R) (Keeps : X → X → Type 0)
-    (reads : Runs ReadMark S) (x y : X)
-    → ((p q : M) (l : List ReadMark) (v : R) → (fold x).gives p l v q → NoPendingRead l)
-    → (l : List (Poll R)) (v : R) → Gives l v → Gathers reader held fold Keeps reads x l y
-    → ToldValue reads (fold x) (reader x) (held x) v (reader y) (held y)
-gathers_told reader held fold Keeps reads x y now l v g h =
-    let f = h.folded in
-    let once = read_folds_once (fold x) now (held x) (held y) f.marks l v (f.cut, h.ends) g in
-    (strip_marks f.marks, (f.marks, f.came, refl), once)
+-- what was told gave the value
+gathers_told : {X S M R : Type 0} {reader : X → S} {held : X → M} {fold : X → ReadFold M R} {Keeps : X → X → Type 0}
+    {reads : Runs ReadMark S} {x y : X} {l : List (Poll R)} {v : R} → Gathers reader held fold Keeps reads x l y
+    → ((p q : M) (l : List ReadMark) (v : R) → (fold x).gives p l v q → NoPendingRead l) → Gives l v
+    → (m : List ReadMark) × ToldStripped reads (reader x) m (reader y) × AnswerMarks (fold x) (held x) m (Ready v) (held y)
+gathers_told {held = held} {fold = fold} {x = x} {y = y} {l = l} {v = v} h now g =
+    let f = h.folded in (
+      strip_marks f.marks,
+      (f.marks, f.came, refl),
+      read_folds_once (fold x) now (held x) (held y) f.marks l v (f.cut, h.ends) g,
+    )
 
 -- `read_exact`
 abbrev Filled : Type 0
@@ -113,7 +111,7 @@ exact_value k n new l v w =
     let taken = filled_by w.taken ([], n) w.between w.folds in
     let front : take k new ≡ w.taken = ap (λ (z : Filling). z.0) w.given.1 ∙ taken.0 in
     let room : length new ≡ n = ap (λ (z : Filling). z.1) w.given.1 ∙ taken.1 in
-    let held : w.between ≡ (w.taken, length new) = cc (taken.0, taken.1, room) in
+    let held : w.between ≡ (w.taken, length new) = cc in
     let all : length w.taken ≡ length new → w.taken ≡ new = λ e. sym front ∙ take_all k new
     (omega (arith, length-take k new, ap length front, e)) in
     (room, rw w.cut (fills_up w.taken new w.last v all (rw held at w.given.0)))
@@ -123,41 +121,36 @@ no_wait_read : (v : Result ℕ Error) (buf : List ℕ) → NoPendingRead (read_m
 no_wait_read (Ok n) buf = no_wait_moved buf (take n buf)
 no_wait_read (Err e) buf = tt
 
--- what a read was told, and what it leaves
-record ReadOnce {S : Type 0} (reads : Runs ReadMark S) (x : ReadFuture S) (v : Result ℕ Error) (y : ReadFuture S)
-    : Type 0 where
-  told : ToldStripped reads x.reader.now (read_marks (Ready v) y.buf.now) y.reader.now
-  room : length y.buf.now ≡ length x.buf.now
-  bound : IfOk v (λ n. n ≤ length y.buf.now)
-  reader : y.reader.ghost_name ≡ x.reader.ghost_name
-  buf : y.buf.ghost_name ≡ x.buf.ghost_name
+-- what a read was told while it was waited for, in which it gave r and left ts in the buffer
+abbrev pub ToldByRead : {S E : Type 0} → Runs ReadMark S → S → List ℕ → Result (Result ℕ Error) E → S → List ℕ → Type 0
+ToldByRead reads s before r t ts = ((l : List ReadMark) × ToldStripped reads s l t
+    × IfOk r (λ v. l ≡ read_marks (Ready v) ts) × IfErr r (λ _. l ≡ []))
+    × (length ts ≡ length before) × IfOk r (λ v. IfOk v (λ n. n ≤ length ts))
 
-polled_told : {S : Type 0} {reads : Runs ReadMark S} → MarkLaws reads → (x y : ReadFuture S)
+-- both references of a future are those of another
+abbrev pub SameTwo : {A B : Type 0} → MutBor A → MutBor B → MutBor A → MutBor B → Type 0
+SameTwo a b c d = (a.ghost_name ≡ c.ghost_name) × (b.ghost_name ≡ d.ghost_name)
+
+polled_told : {S : Type 0} (E : Type 0) {reads : Runs ReadMark S} → MarkLaws reads → (x y : ReadFuture S)
     (l : List (Poll (Result ℕ Error))) (v : Result ℕ Error) → Gives l v → PolledByCalls (Reads reads) x l y
-    → ReadOnce reads x v y
-polled_told laws x y [] v g h = absurd g
-polled_told laws x y (Pending ∷ l) v g h =
-    let rest = polled_told laws h.0 y l v g h.2 in
+    → ToldByRead {E = E} reads x.reader.now x.buf.now (Ok v) y.reader.now y.buf.now × SameTwo y.reader y.buf x.reader x.buf
+polled_told E laws x y [] v g h = absurd g
+polled_told E laws x y (Pending ∷ l) v g h =
     let first = h.1 in
-    let marks = read_marks (Ready v) y.buf.now in
-    record {
-      told = told_follow laws x.reader.now h.0.reader.now y.reader.now [] marks
-          (ReadMark.pending ∷ [], first.came, refl) rest.told;
-      room = rest.room ∙ first.room;
-      bound = rest.bound;
-      reader = rest.reader ∙ ap (λ z. z.reader.ghost_name) first.stays;
-      buf = rest.buf ∙ ap (λ z. z.buf.ghost_name) first.stays;
-    }
-polled_told laws x y (Ready r ∷ l) v g h =
+    let more = polled_told E laws h.0 y l v g h.2 in
+    let told = more.0.0 in
+    let names = more.1 in
+    let all = told_follow laws x.reader.now h.0.reader.now y.reader.now [] told.0
+    (ReadMark.pending ∷ [], first.came, refl) told.1 in (
+      ((told.0, all, told.2, tt), more.0.1 ∙ first.room, more.0.2),
+      (names.0 ∙ ap (λ z. z.reader.ghost_name) first.stays, names.1 ∙ ap (λ z. z.buf.ghost_name) first.stays),
+    )
+polled_told E laws x y (Ready r ∷ l) v g h =
     let last = rw g.0 at h.0 in
-    let marks = read_marks (Ready v) y.buf.now in
-    record {
-      told = (marks, last.came, stripped_no_pending marks (no_wait_read v y.buf.now));
-      room = last.room;
-      bound = last.bound;
-      reader = ap (λ z. z.reader.ghost_name) last.stays;
-      buf = ap (λ z. z.buf.ghost_name) last.stays;
-    }
+    let marks = read_marks (Ready v) y.buf.now in (
+      ((marks, (marks, last.came, stripped_no_pending marks (no_wait_read v y.buf.now)), refl, tt), last.room, last.bound),
+      (ap (λ z. z.reader.ghost_name) last.stays, ap (λ z. z.buf.ghost_name) last.stays),
+    )
 
 -- `read_until`
 module _ (at : ℕ) where
@@ -196,13 +189,7 @@ module _ (at : ℕ) where
       let g = w.given in
       rw (w.cut, ← held.0) (piece_cut w.between q w.last v g.0 (rw held.0 held.1) g.1 g.2)
 
--- what a read was told while it was waited for, in which it gave r and left ts in the buffer
-abbrev pub ToldByRead : {S E : Type 0} → Runs ReadMark S → S → List ℕ → Result (Result ℕ Error) E → S → List ℕ → Type 0
-ToldByRead reads s before r t ts = ((l : List ReadMark) × ToldStripped reads s l t
-    × IfOk r (λ v. l ≡ read_marks (Ready v) ts) × IfErr r (λ _. l ≡ []))
-    × (length ts ≡ length before) × IfOk r (λ v. IfOk v (λ n. n ≤ length ts))
-
--- a `read_exact` likewise
+-- what a `read_exact` was told while it was waited for, in which it gave r and left ts in the buffer
 abbrev pub ToldByExact : {S E : Type 0} → Runs ReadMark S → S → List ℕ → Result Filled E → S → List ℕ → Type 0
 ToldByExact reads s before r t ts = ((l : List ReadMark) × ToldStripped reads s l t
     × IfOk r (λ v. FillsUp ts l v) × IfErr r (λ _. l ≡ [])) × (length ts ≡ length before)
@@ -212,17 +199,11 @@ abbrev pub ToldByUntil : {S E : Type 0} → Runs ReadMark S → ℕ → S → Li
 ToldByUntil reads at s before r t ts = (l : List ReadMark) × (xs : List ℕ) × ToldStripped reads s l t × (ts ≡ before ++ xs)
     × IfOk r (λ v. PieceTold at xs l v) × IfErr r (λ _. (l ≡ []) × (xs ≡ []))
 
--- both references of a future are those of another
-abbrev pub SameTwo : {A B : Type 0} → MutBor A → MutBor B → MutBor A → MutBor B → Type 0
-SameTwo a b c d = (a.ghost_name ≡ c.ghost_name) × (b.ghost_name ≡ d.ghost_name)
-
 module _ {S E : Type 0} {reads : Runs ReadMark S} (laws : MarkLaws reads) where
   -- `read`: what was told, and the references
   pub read_waited : (x y : ReadFuture S) (r : Result (Result ℕ Error) E) → WaitedFor (PolledByCalls (Reads reads)) x r y
       → ToldByRead reads x.reader.now x.buf.now r y.reader.now y.buf.now × SameTwo y.reader y.buf x.reader x.buf
-  read_waited x y (Ok v) w =
-      let h = polled_told laws x y w.0.0 v w.0.1 w.0.2 in
-      (((read_marks (Ready v) y.buf.now, h.told, refl, tt), h.room, h.bound), (h.reader, h.buf))
+  read_waited x y (Ok v) w = polled_told E laws x y w.0.0 v w.0.1 w.0.2
   read_waited x y (Err e) w = rw w.1 ((([], told_none laws x.reader.now, tt, refl), refl, tt), (refl, refl))
 
   -- `read_exact` likewise
@@ -231,8 +212,7 @@ module _ {S E : Type 0} {reads : Runs ReadMark S} (laws : MarkLaws reads) where
       → ToldByExact reads x.reader.now x.buf.now r y.reader.now y.buf.now × SameTwo y.reader y.buf x.reader x.buf
   exact_waited x y (Ok v) begun w =
       let h = w.0.2 in
-      let told = gathers_told (λ z. z.reader.now) filling_of (λ z. fills) ExactStays reads x y
-      (λ p q l v h. no_wait_full p l v h.0) w.0.0 v w.0.1 h in
+      let told = gathers_told h (λ p q l v h. no_wait_full p l v h.0) w.0.1 in
       let from = subst (λ n. AnswerMarks fills (take n x.buf.now, length x.buf.now) told.0 (Ready v) (filling_of y)) begun
       told.2 in
       let value = exact_value y.filled (length x.buf.now) y.buf.now told.0 v from in (
@@ -250,8 +230,7 @@ module _ {S E : Type 0} {reads : Runs ReadMark S} (laws : MarkLaws reads) where
       let h = w.0.2 in
       let old = x.buf.now.items in
       let new = y.buf.now.items in
-      let told = gathers_told (λ z. z.reader.now) read_of (λ z. until z.byte ⊤) UntilStays reads x y
-      (λ p q l v h. no_wait_cut x.byte p l h.0 h.1) w.0.0 v w.0.1 h in
+      let told = gathers_told h (λ p q l v h. no_wait_cut x.byte p l h.0 h.1) w.0.1 in
       let none : read_of x ≡ [] = rw begun (drop-length old) in
       let some : read_of y ≡ drop (length old) new = rw (h.stays.start, begun) refl in
       let xs = drop (length old) new in
@@ -266,14 +245,6 @@ module _ {S E : Type 0} {reads : Runs ReadMark S} (laws : MarkLaws reads) where
       rw w.1 (([], [], told_none laws x.reader.now, sym (append-nil x.buf.now.items), tt, (refl, refl)), (refl, refl))
 
 -- what is told of two values is told of values that equal them
-module _ {S E : Type 0} (reads : Runs ReadMark S) (s : S) (before : List ℕ) (t t' : S) (ts ts' : List ℕ) (e : t' ≡ t)
-    (d : ts' ≡ ts) where
-  pub read_at : (r : Result (Result ℕ Error) E) → ToldByRead reads s before r t ts → ToldByRead reads s before r t' ts'
-  read_at r h = rw (e, d) h
-
-  pub exact_at : (r : Result Filled E) → ToldByExact reads s before r t ts → ToldByExact reads s before r t' ts'
-  exact_at r h = rw (e, d) h
-
-  pub until_at : (at : ℕ) (r : Result (Result ℕ Error) E) → ToldByUntil reads at s before r t ts
-      → ToldByUntil reads at s before r t' ts'
-  until_at at r h = rw (e, d) h
+pub told_at : {S : Type 0} (Told : S → List ℕ → Type 0) {t t' : S} {ts ts' : List ℕ} → t' ≡ t → ts' ≡ ts → Told t ts
+    → Told t' ts'
+told_at Told e d h = rw (e, d) h

@@ -5,9 +5,11 @@ use Rattle.std.specs.List.{filter}
 use Rattle.std.specs.Prelude.{Bool, true, false, Option, Some, None, Result, Ok, Err, IfOk}
 use Rattle.futures.specs.declared.task.Poll.TheVariants.{Ready, Pending}
 use Rattle.lite_base.specs.Answers.{Answer, end, item, items}
+use Rattle.lite_base.specs.Calling.{Always}
 use Rattle.lite_base.specs.Runs.{Question}
 use Rattle.lite_stream.specs.Cutting.{Cuts}
 use Rattle.lite_stream.specs.EachItem.{items_in}
+use Rattle.lite_stream.specs.Laws.Pointwise.{exchanges_steps}
 use Rattle.lite_stream.specs.Pointwise.{Replaces}
 use Rattle.lite_stream.specs.Take.{is_none_left, left_after}
 use Rattle.lite_reshape.specs.Laws.Leaving.{leaves_steps}
@@ -19,10 +21,9 @@ use Rattle.lite_views.specs.Laws.Fronts.{front_filter, front_map, front_take}
 module _ {F A B : Type 0} (call : Question F A B) where
   pub replaced_length : (p q : F) (i : List (Answer A)) (o : List (Answer B)) → Replaces call p i o q
       → length i ≡ length o
-  replaced_length p q [] [] h = refl
-  replaced_length p q (Ready (Some x) ∷ i) (b ∷ o) h = ap suc (replaced_length h.1 q i o h.4)
-  replaced_length p q (_ ∷ i) (b ∷ o) h = ap suc (replaced_length p q i o h.1)
-  replaced_length p q _ _ h = absurd h
+  replaced_length p q =
+      exchanges_steps (Always call) q (λ p i o. length i ≡ length o) refl (λ p i o. ap suc) (λ p i o. ap suc)
+      (λ p m x y i o c. ap suc) p
 
   module _ (f : A → B) (answers : (p q : F) (x : A) (y : B) → call p x y q → y ≡ f x) where
     pub replaced_in : (p q : F) (i : List (Answer A)) (o : List (Answer B)) → Replaces call p i o q

@@ -1,8 +1,7 @@
-use Rattle.std.proofs.Common.{◌≡◌, ◌∙◌, [], ◌∷◌, Err, append-nil, inl, inr, refl, rules, sym}
-use Rattle.lite_io_base.specs.Marks.{ReadMark, bytes}
+use Rattle.std.proofs.Common.{◌≡◌, ◌∙◌, [], ◌∷◌, Err, inl, inr, refl, rules}
+use Rattle.lite_io_base.specs.Marks.{ReadMark}
 use Rattle.lite_theorems.specs.Serving.{replies}
-use Rattle.lite_theorems.proofs.LinesServed.{last_line, whole_line}
-use Rattle.lite_theorems.proofs.Serving.{replied, stops_output}
+use Rattle.lite_theorems.proofs.Serving.{last_replied, replied, stops_output, whole_replied}
 use Rattle.lite_theorems.proofs.line_server.answer_next.Goals as goal
 
 pub returns-in_err-read_line-clause-answered : goal.returns-in_err-read_line-clause-answered
@@ -17,41 +16,44 @@ pub returns-in_err-answer_whole-clause-answered : goal.returns-in_err-answer_who
 returns-in_err-answer_whole-clause-answered g c =
     let one = c.in_ok-read_line.ensures.told in
     let two = c.in_err-answer_whole.ensures in
-    let xs = c.read_line.new.line.items in
     let take = c.take_line.ensures in
-    let w = whole_line g.L.LineService.reply xs _ one.0 c.take_line.result one.2 take.whole take.last c.if-take_line.true in
-    let cut = w.1 ∙ sym (append-nil (bytes xs)) in
     let is : c.from_residual-in_err-answer_whole.result ≡ Err c.in_err-answer_whole.field-0.0 = search rules in
     let stops = stops_output [] _ (inl refl) two.3 in
-    rw is (one.0, two.0, one.1, two.1.0, replied _ _ _ _ _ xs _ [] cut w.2 two.1.1 stops)
+    let done = whole_replied g.L.LineService.reply one.2 take.whole take.last two.0 _ _ c.if-take_line.true two.1.1 (λ e w. stops) in
+    rw is (one.0, two.0, one.1, two.1.0, done)
 
 pub returns-then-take_line-clause-answered : goal.returns-then-take_line-clause-answered
 returns-then-take_line-clause-answered g c =
     let one = c.in_ok-read_line.ensures.told in
     let two = c.in_ok-answer_whole.ensures in
-    let xs = c.read_line.new.line.items in
-    let take = c.take_line.ensures in
-    let w = whole_line g.L.LineService.reply xs _ one.0 c.take_line.result one.2 take.whole take.last c.if-take_line.true in
-    let cut = w.1 ∙ sym (append-nil (bytes xs)) in
-    (one.0, two.0, one.1, two.1.0, replied _ _ _ _ _ xs _ [] cut w.2 two.1.1 (refl, w.0, two.2 ∙ w.2))
+    let take = c.take_line.ensures in (
+      one.0,
+      two.0,
+      one.1,
+      two.1.0,
+      whole_replied g.L.LineService.reply one.2 take.whole take.last two.0 _ _ c.if-take_line.true two.1.1
+          (λ e w. (refl, e, two.2 ∙ w)),
+    )
 
 pub returns-in_err-answer_last-clause-answered : goal.returns-in_err-answer_last-clause-answered
 returns-in_err-answer_last-clause-answered g c =
     let one = c.in_ok-read_line.ensures.told in
     let two = c.in_err-answer_last.ensures in
-    let xs = c.read_line.new.line.items in
     let take = c.take_line.ensures in
-    let w = last_line g.L.LineService.reply xs _ one.0 c.take_line.result one.2 take.whole take.last c.if-take_line.false in
     let is : c.from_residual-in_err-answer_last.result ≡ Err c.in_err-answer_last.field-0.0 = search rules in
     let stops = stops_output (ReadMark.end ∷ []) _ (inr refl) two.3 in
-    rw is (one.0, two.0, one.1, two.1.0, replied _ _ _ _ _ xs _ (ReadMark.end ∷ []) w.0 w.1 two.1.1 stops)
+    let done = last_replied g.L.LineService.reply one.2 take.whole take.last two.0 _ _ c.if-take_line.false two.1.1 (λ w. stops) in
+    rw is (one.0, two.0, one.1, two.1.0, done)
 
 pub returns-clause-answered : goal.returns-clause-answered
 returns-clause-answered g c =
     let one = c.in_ok-read_line.ensures.told in
     let two = c.in_ok-answer_last.ensures in
-    let xs = c.read_line.new.line.items in
-    let take = c.take_line.ensures in
-    let w = last_line g.L.LineService.reply xs _ one.0 c.take_line.result one.2 take.whole take.last c.if-take_line.false in
-    let all = two.2.0 ∙ w.1 in
-    (one.0, two.0, one.1, two.1.0, replied _ _ _ _ _ xs _ (ReadMark.end ∷ []) w.0 w.1 two.1.1 (refl, (all, two.2.1)))
+    let take = c.take_line.ensures in (
+      one.0,
+      two.0,
+      one.1,
+      two.1.0,
+      last_replied g.L.LineService.reply one.2 take.whole take.last two.0 _ _ c.if-take_line.false two.1.1
+          (λ w. (refl, (two.2.0 ∙ w, two.2.1))),
+    )

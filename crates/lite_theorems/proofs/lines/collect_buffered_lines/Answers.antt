@@ -15,7 +15,8 @@ use Rattle.lite_read.specs.Lines.{GivesLines, lining}
 use Rattle.lite_read.specs.Segments.{PieceSegments}
 use Rattle.lite_read.specs.declared.lines.Lines.{Lines}
 use Rattle.lite_theorems.specs.Lines.{AtEachValue, CollectsLines, limited, lines_told}
-use Rattle.lite_theorems.proofs.Collecting.{Has, collects_so, has_none, says}
+use Rattle.lite_theorems.proofs.Collecting.{collects_so, says}
+use Rattle.lite_theorems.specs.Laws.Collected.{Has, has}
 use Rattle.lite_buffered.specs.Laws.BufReader.{passes_some}
 use Rattle.lite_theorems.proofs.Limits.{told_through}
 use Rattle.lite_theorems.proofs.Telling.{Given, given}
@@ -29,7 +30,7 @@ module _ {R C : Type 0} (reads : Runs ReadMark R) (holds : C → List (String Gl
   lines_collected : (reader : BufReader R) (limit : ℕ) (x : Collecting) → take_inner x.stream.reader ≡ reader
       → 0 < reader_capacity reader
       → limit_of x.stream.reader ≡ limit → x.stream.held.bytes.items ≡ []
-      → Has holds (λ (f : TryCollect C). f.items) x.folder []
+      → Has holds x.folder.items []
       → AtEachValue
       (Folds (GivesLines (TakesMarks (ThroughBuffer reads)) ⊤)
       (fold_of (λ (f : TryCollect C). f.items) (tries_collect ⊤ holds))) x
@@ -68,8 +69,7 @@ returns-clause-lines g c =
     λ some.
     let made = c.try_collect.ensures in
     let at = ap (λ s. s.reader) made.stream ∙ c.lines.ensures.reader in
-    let has = has_none g.C.Gather.holds
-    (λ (f : TryCollect _). f.items) c.try_collect.result.folder made.«open» made.empty in
+    let held = has g.C.Gather.holds c.try_collect.result.folder.items [] made.«open» made.empty in
     lines_collected g.R.Tale.reads g.C.Gather.holds c.args.reader c.args.limit c.try_collect.result
     (ap take_inner at ∙ c.take.ensures.inner) some
-    (ap limit_of at ∙ c.take.ensures.limit) (ap (λ s. s.held.bytes.items) made.stream ∙ c.lines.ensures.empty) has
+    (ap limit_of at ∙ c.take.ensures.limit) (ap (λ s. s.held.bytes.items) made.stream ∙ c.lines.ensures.empty) held

@@ -1,5 +1,5 @@
 use Rattle.std.proofs.Common.{rules}
-use Rattle.lite_theorems.specs.Laws.Told.{read_at, read_waited}
+use Rattle.lite_theorems.specs.Laws.Told.{ToldByRead, read_waited, told_at}
 use Rattle.lite_theorems.proofs.waits.wait_read.Goals as goal
 
 pub returns : goal.returns
@@ -7,5 +7,5 @@ returns g c =
     let w = c.wait_for.ensures in
     let h = rw c.read.ensures at (read_waited g.T.Tale.read_laws _ _ _ (w.gave, w.kept)) in
     let lent = h.1 in
-    let told = read_at g.T.Tale.reads _ _ _ _ _ _ (search rules) (search rules) _ h.0 in
+    let told = told_at (ToldByRead g.T.Tale.reads _ _ _) (search rules) (search rules) h.0 in
     record { told = told.0; room = told.1; bound = told.2 }

@@ -1,5 +1,5 @@
 use Rattle.std.proofs.Common.{ap, rules}
-use Rattle.lite_theorems.specs.Laws.Told.{exact_at, exact_waited}
+use Rattle.lite_theorems.specs.Laws.Told.{ToldByExact, exact_waited, told_at}
 use Rattle.lite_theorems.proofs.waits.wait_read_exact.Goals as goal
 
 pub returns : goal.returns
@@ -8,5 +8,5 @@ returns g c =
     let begun = ap (λ z. z.filled) c.read_exact.ensures in
     let h = rw c.read_exact.ensures at (exact_waited g.T.Tale.read_laws _ _ _ begun (w.gave, w.kept)) in
     let lent = h.1 in
-    let told = exact_at g.T.Tale.reads _ _ _ _ _ _ (search rules) (search rules) _ h.0 in
+    let told = told_at (ToldByExact g.T.Tale.reads _ _ _) (search rules) (search rules) h.0 in
     record { told = told.0; room = told.1 }

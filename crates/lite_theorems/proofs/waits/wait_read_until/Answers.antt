@@ -1,5 +1,5 @@
 use Rattle.std.proofs.Common.{◌∙◌, ap, length, rules, sym}
-use Rattle.lite_theorems.specs.Laws.Told.{until_at, until_waited}
+use Rattle.lite_theorems.specs.Laws.Told.{ToldByUntil, told_at, until_waited}
 use Rattle.lite_theorems.proofs.waits.wait_read_until.Goals as goal
 
 pub returns-clause-told : goal.returns-clause-told
@@ -9,4 +9,4 @@ returns-clause-told g c =
     let begun = ap (λ z. z.start) made ∙ sym (ap (λ z. length z.buf.now.items) made) in
     let h = rw c.read_until.ensures at (until_waited g.T.Tale.read_laws _ _ _ begun (w.gave, w.kept)) in
     let lent = h.1 in
-    until_at g.T.Tale.reads _ _ _ _ _ _ (search rules) (search rules) _ _ h.0
+    told_at (ToldByUntil g.T.Tale.reads _ _ _ _) (search rules) (search rules) h.0

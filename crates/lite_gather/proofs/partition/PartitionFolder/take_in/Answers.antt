@@ -14,16 +14,15 @@ returns-in-Ok g c = (
 
 pub returns : goal.returns
 returns g c =
-    let held = c.in-Some-take.ensures.value in
-    let collected : c.in-Some-take.collected ≡ (c.take_one-taken.new.accepted, c.take_one-taken.new.rejected) =
-    cc held in (
+    let out = c.hand_out-collected in
+    let collected : out.result ≡ (c.take_one-taken.new.accepted, c.take_one-taken.new.rejected) = cc out.ensures.was in (
       tt,
       c.predicate-is_accepted.result,
       (c.in-Some.accepted, c.in-Some.rejected),
-      c.in-Some-take.collected,
+      out.result,
       record { shown = _; shows = refl; called = c.predicate-is_accepted.ensures },
       c.in-Some.is,
       rw collected c.in-Err.ensures.kept.1,
-      ap (λ x. Err (record { collected = c.in-Some-take.collected; item = x })) c.in-Err.ensures.kept.0,
-      c.take.ensures.after,
+      ap (λ x. Err (record { collected = out.result; item = x })) c.in-Err.ensures.kept.0,
+      out.ensures.gone,
     )
