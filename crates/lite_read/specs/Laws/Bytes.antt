@@ -37,9 +37,9 @@ tells_lower : (i : List ReadMark) (l : List (Answer (Result ℕ Error))) (xs ys 
 tells_lower [] [] xs ys h f = f
 tells_lower [] (a ∷ l) xs ys h f = absurd h
 tells_lower (x ∷ i) [] xs ys h f = absurd h
-tells_lower (ReadMark.byte b ∷ i) (Ready (Some r) ∷ l) xs ys h f = one_below (given i) xs ys f
-tells_lower (ReadMark.fault k ∷ i) (Pending ∷ l) xs ys h f = Lowers-below l xs ys (one_below (given i) xs ys f)
-tells_lower (ReadMark.fault k ∷ i) (Ready (Some r) ∷ l) xs ys h f = one_below (given i) xs ys f
+tells_lower (ReadMark.byte b ∷ i) (Ready (Some r) ∷ l) xs ys h f = one_below _ xs ys f
+tells_lower (ReadMark.fault k ∷ i) (Pending ∷ l) xs ys h f = Lowers-below l xs ys (one_below _ xs ys f)
+tells_lower (ReadMark.fault k ∷ i) (Ready (Some r) ∷ l) xs ys h f = one_below _ xs ys f
 tells_lower (ReadMark.pending ∷ i) (Pending ∷ l) xs ys h f = tells_lower i l xs ys h.1 f
 tells_lower (ReadMark.end ∷ i) (Ready None ∷ l) xs ys h f = tells_lower i l xs ys h.1 f
 tells_lower _ _ xs ys h f = absurd h.0
@@ -87,7 +87,7 @@ module _ {R : Type 0} {reads : Runs ReadMark R} where
         falls = λ x y a more k h.
             let e = tells_items h.marks (a ∷ more) h.told in
             subst (λ n. Falls n (r.rank y.inner) (r.rank x.inner)) e.1 (c.falls x.inner y.inner h.marks k e.0 h.came);
-        lowers = λ x y l k h. tells_lower h.marks l (r.rank y.inner) (r.rank x.inner) h.told
+        lowers = λ x y l k h. tells_lower h.marks l _ _ h.told
             (c.lowers x.inner y.inner h.marks k h.came);
       }
 

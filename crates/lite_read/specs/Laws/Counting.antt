@@ -98,7 +98,7 @@ module _ {A : Type 0} (byte : ℕ) (may_refuse : Type 0) (whole final : List ℕ
           came_in a,
           e.2,
         ),
-        λ xs ys f. below_some (e.0 + r.0) xs ys (omega (arith, e.1)) f,
+        λ xs ys f. below_some _ xs ys (omega (arith, e.1)) f,
       )
 
 -- the rank of the reader, and then how much is held
@@ -121,21 +121,21 @@ module _ {X S K A : Type 0} (over : StreamOver X S (List ℕ) K) (byte : K → �
   flow_lowers x y l f h =
       let s = h.segmented in
       let out =
-      segments_out (byte (over.kept x)) may_refuse whole final (over.held x) (over.held y) s.marks l s.cut in
+      segments_out (byte _) may_refuse whole final _ _ s.marks l s.cut in
       out.2 _ _
-      (falls_held (given s.marks) out.0 (length (over.held x)) (length (over.held y)) (r.rank (over.reader y))
-      (r.rank (over.reader x)) (counting.lowers (over.reader x) (over.reader y) s.marks f s.came) out.1)
+      (falls_held _ out.0 (length _) (length _) (r.rank _)
+      (r.rank _) (counting.lowers _ _ s.marks f s.came) out.1)
 
   firm_still : (x y : X) (l : List (Answer (Result A Error))) → r.firm (over.reader x)
       → Flows over (λ k. pieces (byte k) may_refuse (Itemised whole final)) reads x l y → r.firm (over.reader y)
-  firm_still = flow_keeps over (λ k. pieces (byte k) may_refuse (Itemised whole final)) laws r.firm counting.firm_on
+  firm_still = flow_keeps over (λ k. pieces _ may_refuse _) laws r.firm counting.firm_on
 
   pub flow_counting : OkCounting (Flows over (λ k. pieces (byte k) may_refuse (Itemised whole final)) reads)
       (flow_ranks over r)
   flow_counting =
       record {
-        sized = λ x. length-append (r.rank (over.reader x)) (length (over.held x) ∷ [])
-            ∙ ap (λ n. n + 1) (counting.sized (over.reader x));
+        sized = λ x. length-append (r.rank _) (length _ ∷ [])
+            ∙ ap (λ n. n + 1) (counting.sized _);
         counts_on = firm_still;
         firm_on = firm_still;
         falls = λ x y a more f h. flow_lowers x y (items (a ∷ more)) f h;

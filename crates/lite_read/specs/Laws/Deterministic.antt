@@ -56,13 +56,13 @@ module _ {M R : Type 0} (fold : ReadFold M R) where
         let w = h.4 in
         let cut = segment_front p h.2 i h.0 h.1 Pending w h.3 ∙ ap (λ k. bytes w.taken ++ (k ++ h.1)) w.given.0 in
         rw (past_pending i h.1 w.taken cut)
-        (tale_values_behind p w.between w.taken (strip_marks h.1) (strip l) w.folds
+        (tale_values_behind p w.between w.taken _ _ w.folds
         (rw w.given.2 at (segments_values h.2 q h.1 l h.5)))
     segments_values p q i (Ready r ∷ l) h =
         let c = h.4 in
-        let cut = segment_front p h.2 i h.0 h.1 (Ready r) c h.3 in
+        let cut = segment_front p h.2 i h.0 h.1 _ c h.3 in
         rw (past_value i c.last h.1 c.taken (s.at_once c.between h.2 c.last r c.given) cut)
-        (TaleValues.next p c.between h.2 c.taken c.last (strip_marks h.1) r (strip l) c.folds c.given
+        (TaleValues.next p c.between h.2 c.taken c.last _ r _ c.folds c.given
         (segments_values h.2 q h.1 l h.5))
 
     -- the first values of tales that begin one another
@@ -77,18 +77,18 @@ module _ {M R : Type 0} (fold : ReadFold M R) where
         (both.0, both.1, comparable_rest m k n (rw both.2 at c))
     aligned p x y q r [] (b ∷ ys) l m k n v w f g h j c =
         let one = subst (λ (z : M). fold.gives z l v q) (sym f) h in
-        let front = subst (Comparable (l ++ k)) (sym (append-nil (ReadMark.byte b ∷ (bytes ys ++ (m ++ n))))) c in
+        let front = subst (Comparable _) (sym (append-nil _)) c in
         absurd
-        (s.given_or_taken p q g.0 l (bytes ys ++ (m ++ n)) v b one g.1
-        (comparable_fronts l k (ReadMark.byte b ∷ (bytes ys ++ (m ++ n))) [] front))
+        (s.given_or_taken p q g.0 l _ v b one g.1
+        (comparable_fronts l k _ [] front))
     aligned p x y q r (b ∷ xs) [] l m k n v w f g h j c =
         let other = subst (λ (z : M). fold.gives z m w r) (sym g) j in
-        let related = comparable_swapped (ReadMark.byte b ∷ (bytes xs ++ (l ++ k))) (m ++ n) c in
+        let related = comparable_swapped (ReadMark.byte b ∷ (bytes xs ++ (l ++ k))) _ c in
         let front =
-        subst (Comparable (m ++ n)) (sym (append-nil (ReadMark.byte b ∷ (bytes xs ++ (l ++ k))))) related in
+        subst (Comparable _) (sym (append-nil _)) related in
         absurd
         (s.given_or_taken p r f.0 m (bytes xs ++ (l ++ k)) w b other f.1
-        (comparable_fronts m n (ReadMark.byte b ∷ (bytes xs ++ (l ++ k))) [] front))
+        (comparable_fronts m n _ [] front))
     aligned p x y q r (b ∷ xs) (d ∷ ys) l m k n v w f g h j c =
         let byte : b ≡ d = cc c.0 in
         let way = s.one_way p g.0 f.0 b (rw byte g.1) f.1 in
@@ -113,7 +113,7 @@ module _ {M R : Type 0} (fold : ReadFold M R) where
         pub segmented_alike : (l m : List (Poll R)) → alike x y → Segmented fold ample x p l x' q
             → Segmented fold ample y p m y' r → ComparableBy same (strip l) (strip m)
         segmented_alike l m e h k =
-            tale_values_alike p (strip_marks h.marks) (strip_marks k.marks) (strip l) (strip m)
+            tale_values_alike p (strip_marks h.marks) (strip_marks k.marks) _ _
             (segments_values p q h.marks l h.cut) (segments_values p r k.marks m k.cut)
             (laws.steady x y x' y' h.marks k.marks e h.came k.came)
 

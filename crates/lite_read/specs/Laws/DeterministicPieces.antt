@@ -122,7 +122,7 @@ module _ {A : Type 0} {same : A → A → Type 0} {whole final : List ℕ → Re
   itemised_one _ _ held v w p q e h k = absurd e
 
   pub items_deterministic : (byte : ℕ) → IsDeterministic (OptionBy (SameOr same)) (pieces byte ⊥ (Itemised whole final))
-  items_deterministic byte = pieces_deterministic byte (Itemised whole final) itemised_one
+  items_deterministic byte = pieces_deterministic byte _ itemised_one
 
 module _ {X S M K : Type 0} (over : StreamOver X S M K) where
   -- they hold the same, and keep the same, over readers that are alike
@@ -139,8 +139,8 @@ module _ {X S M K A : Type 0} (over : StreamOver X S M K) where
       record {
         laws = runs_of (flow_laws over fold s.laws);
         steady = λ x y e l m x' y' h k.
-            segmented_alike (fold (over.kept x)) (deterministic (over.kept x)) s (over.reader x) (over.reader y)
-            (over.reader x') (over.reader y') (over.held x) (over.held x') (over.held y') l m e.0 h.segmented
+            segmented_alike (fold _) (deterministic _) s _ _
+            _ _ _ _ _ l m e.0 h.segmented
             (rw (← e.1, ← e.2) at k.segmented);
         found = λ n. absurd n;
       }
@@ -152,7 +152,7 @@ module _ {X S M K A : Type 0} (over : StreamOver X S M K) where
       record {
         no_pending = λ x y l k h.
             let g = h.segmented in
-            segments_no_pending (fold (over.kept x)) (over.held x) (over.held y) g.marks l
-            (c.no_pending (over.reader x) (over.reader y) g.marks k g.came) g.cut;
-        calm_on = λ x y l k h. c.calm_on (over.reader x) (over.reader y) h.segmented.marks k h.segmented.came;
+            segments_no_pending (fold _) _ _ g.marks l
+            (c.no_pending _ _ g.marks k g.came) g.cut;
+        calm_on = λ x y l k h. c.calm_on _ _ h.segmented.marks k h.segmented.came;
       }

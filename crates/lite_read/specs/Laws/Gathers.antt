@@ -29,7 +29,7 @@ module _ {X S M R : Type 0} {reader : X → S} {held : X → M} {fold : X → Re
         → Gathers reader held fold Keeps reads y m z → Gathers reader held fold Keeps reads x (l ++ m) z
     gathers_follow x y z l m w h k =
         record {
-          folded = segmented_follow (fold x) laws (reader x) (reader y) (reader z) (held x) (held y) (held z) l m
+          folded = segmented_follow _ laws _ _ _ _ _ _ l m
               h.folded (rw (keeps.same x y h.stays) at k.folded);
           ends = waiting_up_to l m w k.ends;
           stays = keeps.join x y z h.stays k.stays;
@@ -40,7 +40,7 @@ module _ {X S M R : Type 0} {reader : X → S} {held : X → M} {fold : X → Re
     gathers_laws =
         record {
           rests = λ x. record {
-            folded = segmented_none (fold x) laws (reader x) (held x);
+            folded = segmented_none _ laws _ _;
             ends = tt;
             stays = keeps.none x;
             idle = λ e. refl;
@@ -59,7 +59,7 @@ module _ {X S M R : Type 0} {reader : X → S} {held : X → M} {fold : X → Re
       let stays = kept x y t.stays in
       record {
         folded =
-            segmented_before (fold x) laws (reader x) (reader y) (reader z) (held x) (held y) (held z) t.taken a
+            segmented_before _ laws _ _ _ _ _ _ t.taken a
             t.came t.folds (rw (keeps.same x y stays) at h.folded);
         ends = h.ends;
         stays = keeps.join x y z stays h.stays;
@@ -73,7 +73,7 @@ module _ {X S M R : Type 0} {reader : X → S} {held : X → M} {fold : X → Re
       → (l m : List (Poll R)) (x' y' : X) → Gathers reader held fold Keeps ample x l x'
       → Gathers reader held fold Keeps ample y m y' → ComparableBy same (strip l) (strip m)
   gathers_alike one s x y e d f l m x' y' h k =
-      segmented_alike (fold x) (one x) s (reader x) (reader y) (reader x') (reader y') (held x) (held x') (held y')
+      segmented_alike _ (one x) s _ _ _ _ _ _ _
       l m e h.folded (rw (f, ← d) at k.folded)
 
   pub gathers_calm : {is_calm : S → Type 0} → CalmReadLaws reads is_calm
@@ -82,7 +82,7 @@ module _ {X S M R : Type 0} {reader : X → S} {held : X → M} {fold : X → Re
       record {
         no_pending = λ x y l k h.
             let g = h.folded in
-            segments_no_pending (fold x) (held x) (held y) g.marks l
-            (c.no_pending (reader x) (reader y) g.marks k g.came) g.cut;
-        calm_on = λ x y l k h. c.calm_on (reader x) (reader y) h.folded.marks k h.folded.came;
+            segments_no_pending _ _ _ g.marks l
+            (c.no_pending _ _ g.marks k g.came) g.cut;
+        calm_on = λ x y l k h. c.calm_on _ _ h.folded.marks k h.folded.came;
       }

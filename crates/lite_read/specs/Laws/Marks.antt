@@ -40,7 +40,7 @@ text_one xs (Err e) (Ok t) h k = absurd (h.1 (rw (← k) (IsUtf8-string_bytes t)
 text_one xs (Err e) (Err f) h k = h.0 ∙ sym k.0
 
 pub line_one : MakesOne SameText (λ xs. IsText (without_return xs))
-line_one xs = text_one (without_return xs)
+line_one xs = text_one _
 
 module _ (byte : ℕ) where
   counted_one : BecomesOne SameByKind (CountsPiece byte)
@@ -55,7 +55,7 @@ module _ (byte : ℕ) where
   counted_one _ _ held v w p q e h k = absurd e
 
   pub until_deterministic : IsDeterministic SameByKind (until byte ⊥)
-  until_deterministic = pieces_deterministic byte (CountsPiece byte) (counted_one)
+  until_deterministic = pieces_deterministic byte _ (counted_one)
 
 module _ {R : Type 0} where
   -- they read to the same byte, and have read the same, over readers that are alike

@@ -65,10 +65,10 @@ module _ {R A : Type 0} where
                 can.started,
                 length-take-le x.filled x.buf.now.items can.within,
                 length-take-le y.filled y.buf.now.items t.stays.1,
-                grown m x.start (read_front x) (read_front y) t.taken t.folds,
+                grown m x.start _ _ t.taken t.folds,
               );
           within = t.stays.1;
-          counts = c.counts_on x.reader.now y.reader.now (bytes t.taken) can.counts t.came;
+          counts = c.counts_on x.reader.now y.reader.now _ can.counts t.came;
         }
 
   keeps : (m : Type 0) → KeepLaws (λ (x : ReadToEndFuture R A). appends m x.start) ToEndStays

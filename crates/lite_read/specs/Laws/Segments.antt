@@ -33,7 +33,7 @@ module _ {M R : Type 0} (fold : ReadFold M R) where
           record {
             marks = h.marks ++ k.marks;
             came = laws.follows s t u h.marks k.marks h.came k.came;
-            cut = segments_join (AnswerMarks fold) p q r h.marks k.marks l m h.cut k.cut;
+            cut = segments_join _ p q r h.marks k.marks l m h.cut k.cut;
           }
 
       pub segmented_before : (m q : M) (xs : List ℕ) (a : Poll R) → reads s (bytes xs) t → FoldsTo fold.takes p xs m
@@ -41,7 +41,7 @@ module _ {M R : Type 0} (fold : ReadFold M R) where
       segmented_before m q xs a came f h =
           record {
             marks = bytes xs ++ h.marks;
-            came = laws.follows s t u (bytes xs) h.marks came h.came;
+            came = laws.follows s t u _ h.marks came h.came;
             cut = answers_before fold p m q xs h.marks a [] f h.cut;
           }
 
@@ -53,7 +53,7 @@ module _ {X S M K R : Type 0} (over : StreamOver X S M K) (fold : K → ReadFold
     flows_follow l m h k =
         record {
           segmented =
-              segmented_follow (fold (over.kept x)) laws _ _ _ _ _ _ l m h.segmented (rw h.stays at k.segmented);
+              segmented_follow (fold _) laws _ _ _ _ _ _ l m h.segmented (rw h.stays at k.segmented);
           stays = k.stays ∙ h.stays;
           idle = idle_join x y z l m h.idle k.idle;
         }
@@ -64,7 +64,7 @@ module _ {X S M K R : Type 0} (over : StreamOver X S M K) (fold : K → ReadFold
     step_before a t h =
         record {
           segmented =
-              segmented_before (fold (over.kept x)) laws _ _ _ _ _ _ t.taken a t.came t.folds
+              segmented_before (fold _) laws _ _ _ _ _ _ t.taken a t.came t.folds
               (rw t.stays at h.segmented);
           stays = h.stays ∙ t.stays;
           idle = λ e. cc e;
@@ -77,20 +77,20 @@ module _ {X S M K A : Type 0} (over : StreamOver X S M K) (fold : K → ReadFold
   flow_laws =
       record {
         rests = λ x. record {
-          segmented = segmented_none (fold (over.kept x)) laws (over.reader x) (over.held x);
+          segmented = segmented_none (fold _) laws _ _;
           stays = refl;
           idle = λ e. refl;
         };
         stays = λ x y h. h.idle refl;
         follows = flows_follow over fold laws;
-        bounded = λ x y hint l allowed h. unbounded hint (before_end l) allowed;
+        bounded = λ x y hint l allowed h. unbounded hint _ allowed;
       }
 
   -- what holds of a reader through its runs holds after a run of the stream
   pub flow_keeps : (P : S → Type 0) → ((s t : S) (l : List ReadMark) → P s → reads s l t → P t)
       → (x y : X) (l : List (Poll (Option A))) → P (over.reader x)
       → Flows over fold reads x l y → P (over.reader y)
-  flow_keeps P keeps x y l p h = keeps (over.reader x) (over.reader y) h.segmented.marks p h.segmented.came
+  flow_keeps P keeps x y l p h = keeps _ _ h.segmented.marks p h.segmented.came
 
 module _ {X S M K A : Type 0} (over : StreamOver X S M K) (fold : K → ReadFold M (Option A)) {reads : Runs ReadMark S}
     (laws : MarkLaws reads) {x z : X} {a : Poll (Option A)} where
