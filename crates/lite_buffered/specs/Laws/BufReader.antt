@@ -24,7 +24,7 @@ padded_both _ _ m n (Padded.same a l k p) q = Padded.same a (l ++ m) (k ++ n) (p
 padded_both _ _ m n (Padded.more l k p) q = Padded.more (l ++ m) (k ++ n) (padded_both l k m n p q)
 
 given_one : (a : ReadMark) (l k : List ReadMark) → given l ≡ given k → given (a ∷ l) ≡ given (a ∷ k)
-given_one a l k e = given-append (a ∷ []) l ∙ ap (λ n. given (a ∷ []) + n) e ∙ sym (given-append (a ∷ []) k)
+given_one a l k e = rw (given-append (a ∷ []) l, e) (sym (given-append (a ∷ []) k))
 
 padded_given : (l k : List ReadMark) → Padded l k → given l ≡ given k
 padded_given _ _ Padded.none = refl

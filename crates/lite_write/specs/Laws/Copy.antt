@@ -36,7 +36,7 @@ told_both = flat_map-append byte_in
 
 filtered_both : {A : Type 0} (test : A → Bool) (l m : List A)
     → length (filter test (l ++ m)) ≡ length (filter test l) + length (filter test m)
-filtered_both test l m = ap length (filter-append test l m) ∙ length-append (filter test l) (filter test m)
+filtered_both test l m = rw (filter-append, length-append) refl
 
 goes_both : (l m : List ReadMark) → BytesAlone l → BytesAlone m → BytesAlone (l ++ m)
 goes_both [] m h k = k
@@ -86,35 +86,27 @@ module _ (p q r : List ℕ) (a b c : List ReadMark) (i j : List ReadMark) (s t :
   reading_both =
       let f = h.reading in
       let d = g.reading in
-      let whole =
-      sym (append_assoc a i j)
-      ∙ ap (λ v. v ++ j) (f.cut ∙ ap (λ v. f.read ++ (b ++ v)) none.0 ∙ ap (λ v. f.read ++ v) (append-nil b))
-      ∙ append_assoc f.read b j ∙ ap (λ v. f.read ++ v) d.cut ∙ sym (append_assoc f.read d.read (c ++ g.failed)) in
-      record { read = f.read ++ d.read; goes_on = goes_both f.read d.read f.goes_on d.goes_on; cut = whole }
+      record {
+        read = f.read ++ d.read;
+        goes_on = goes_both f.read d.read f.goes_on d.goes_on;
+        cut = rw (← append_assoc, f.cut, none.0, append-nil, append_assoc, d.cut, append_assoc) refl;
+      }
 
   writing_both : TakesUpTo (s ++ t) g.last
   writing_both =
       let f = h.writing in
       let d = g.writing in
-      let whole =
-      ap (λ v. v ++ t) (f.cut ∙ ap (λ v. f.written ++ v) none.1 ∙ append-nil f.written) ∙ ap (λ v. f.written ++ v) d.cut
-      ∙ sym (append_assoc f.written d.written g.last) in
       record {
         written = f.written ++ d.written;
         takes_some = some_both f.written d.written f.takes_some d.takes_some;
-        cut = whole;
+        cut = rw (f.cut, none.1, append-nil, d.cut, append_assoc) refl;
       }
 
   balanced_both : p ++ bytes_told (i ++ j) ≡ bytes_taken (s ++ t) ++ r
-  balanced_both =
-      ap (λ v. p ++ v) (told_both i j) ∙ sym (append_assoc p (bytes_told i) (bytes_told j))
-      ∙ ap (λ v. v ++ bytes_told j) h.balanced
-      ∙ append_assoc (bytes_taken s) q (bytes_told j) ∙ ap (λ v. bytes_taken s ++ v) g.balanced
-      ∙ sym (append_assoc (bytes_taken s) (bytes_taken t) r)
-      ∙ ap (λ v. v ++ r) (sym (taken_both s t))
+  balanced_both = rw (told_both i j, ← append_assoc, h.balanced, append_assoc, g.balanced, taken_both s t, append_assoc) refl
 
   same_value : strip m ≡ strip (l ++ m)
-  same_value = sym (strip_join l m ∙ ap (λ v. v ++ strip m) (waiting_strip l w))
+  same_value = rw (strip_join l m, waiting_strip l w) refl
 
   pub copied_both : Copied p a (i ++ j) (s ++ t) (l ++ m) r c k
   copied_both =

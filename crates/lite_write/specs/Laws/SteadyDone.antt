@@ -48,12 +48,10 @@ module _ {W : Type 0} {writes : Runs WriteMark W} where
       (NoneFails writes) (λ x y. ⊤)
   flush_steady =
       done_steady (Flushes writes) (Flushes (WithoutFailure writes)) (λ x y r h. done_ok WriteMark.flushed r h.came.1)
-      (λ n x y c h.
-      record { came = (h.came, n x.writer.now y.writer.now (done_marks WriteMark.flushed c) h.came); stays = h.stays })
+      (λ n x y c h. record { came = (h.came, n _ _ _ h.came); stays = h.stays })
 
   pub close_steady : FutureSteadyLaws (PolledByCalls (Closes writes)) (PolledByCalls (Closes (WithoutFailure writes)))
       (NoneFails writes) (λ x y. ⊤)
   close_steady =
       done_steady (Closes writes) (Closes (WithoutFailure writes)) (λ x y r h. done_ok WriteMark.closed r h.came.1)
-      (λ n x y c h.
-      record { came = (h.came, n x.writer.now y.writer.now (done_marks WriteMark.closed c) h.came); stays = h.stays })
+      (λ n x y c h. record { came = (h.came, n _ _ _ h.came); stays = h.stays })

@@ -66,20 +66,20 @@ module _ {R : Type 0} {reads : Runs ReadMark R} where
         (strip_marks h.ends) (strip_marks k.ends) fits fits2 ends ends2 inner in
         rw (h.cut, strip_marks-append, k.cut, strip_marks-append) both
 
-    all_ample : needs_none → (x y : Take R) (l : List ReadMark) → TakesMarks reads x l y → TakesMarks ample x l y
-    all_ample n x y l h =
-        record {
-          front = h.front;
-          ends = h.ends;
-          cut = h.cut;
-          ran = s.found n x.inner y.inner h.front h.ran;
-          fits = h.fits;
-          used_up = h.used_up;
-          still = h.still;
-        }
-
     pub take_steady : SteadyReadLaws (TakesMarks reads) (TakesMarks ample) needs_none (LimitAlike alike)
-    take_steady = record { laws = takes_laws s.laws; steady = one_tale; found = all_ample }
+    take_steady = record {
+      laws = takes_laws s.laws;
+      steady = one_tale;
+      found = λ n x y l h. record {
+        front = h.front;
+        ends = h.ends;
+        cut = h.cut;
+        ran = s.found n _ _ _ h.ran;
+        fits = h.fits;
+        used_up = h.used_up;
+        still = h.still;
+      };
+    }
 
   pub take_calm : {is_calm : R → Type 0} → CalmReadLaws reads is_calm
       → CalmReadLaws (TakesMarks reads) (λ (x : Take R). is_calm x.inner)
