@@ -80,7 +80,7 @@ budgets_laws laws = record {
 module _ {R : Type 0} {reads : Runs ReadMark R} where
   pub budgets_show : (lent : R → List ℕ) → Shows reads lent → Shows (BudgetsMarks reads) (budgeted_lent lent)
   budgets_show lent shows x y l h =
-      shown x.left (paced_shows _ _ (lent x.reader) h.came l h.paced (shows x.reader y.reader h.came h.ran))
+      shown x.left (paced_shows _ _ _ h.came l h.paced (shows x.reader y.reader h.came h.ran))
     where
       shown : (left : Option ℕ) → Comparable (bytes (take (left_noted x.budget left) (lent x.reader))) l
           → Comparable (bytes (lent_noted left (lent x.reader))) l
@@ -92,7 +92,7 @@ module _ {R : Type 0} {reads : Runs ReadMark R} where
     sized = λ x. refl;
     counts_on = λ x y l k h. tt;
     firm_on = λ x y l k h. absurd k;
-    falls = λ x y l k g h. falls_by (length l) (left_of y) (left_of x) (paced_falls _ _ h.came l h.paced g);
+    falls = λ x y l k g h. falls_by _ _ _ (paced_falls _ _ h.came l h.paced g);
     lowers = λ x y l k h. absurd k;
   }
     where

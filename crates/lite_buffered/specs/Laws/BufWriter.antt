@@ -14,7 +14,7 @@ pub drains_balance : (before rest : List ℕ) (taken : List WriteMark) (n : ℕ)
     → before ≡ bytes_taken taken ++ rest
 drains_balance before _ _ _ TakesHeld.none = refl
 drains_balance before _ _ _ (TakesHeld.some ms xs rest n d more) =
-    rw (taken_both, append-nil, append_assoc) (drains_balance before (xs ++ rest) ms n d)
+    rw (taken_both, append-nil, append_assoc) (drains_balance before _ ms n d)
 drains_balance before _ _ _ (TakesHeld.interrupted ms rest n d more few) =
     rw (taken_both, append-nil) (drains_balance before rest ms n d)
 
@@ -52,7 +52,7 @@ balanced_both a b c taken more out next h k =
 pub balanced_one : (before after : List ℕ) (taken : List WriteMark) (told : WriteMark)
     → WriterSegment before taken told after → Balanced before (told ∷ []) taken after
 balanced_one before after taken told s =
-    ap (λ l. before ++ l) (append-nil (bytes_in told)) ∙ segment_balance before after taken told s
+    ap (λ l. before ++ l) (append-nil _) ∙ segment_balance before after taken told s
 
 module _ {W : Type 0} {writes : Runs WriteMark W} (laws : MarkLaws writes) where
   buffers_follow : (x y z : BufWriter W) (l m : List WriteMark) → Buffers writes x l y → Buffers writes y m z
@@ -62,8 +62,8 @@ module _ {W : Type 0} {writes : Runs WriteMark W} (laws : MarkLaws writes) where
         taken = a.taken ++ b.taken;
         ran = laws.follows x.inner y.inner z.inner a.taken b.taken a.ran b.ran;
         capacity = b.capacity ∙ a.capacity;
-        segments = segments_join WriterSegment (unwritten x) (unwritten y) (unwritten z) a.taken b.taken l m a.segments b.segments;
-        balanced = balanced_both (unwritten x) (unwritten y) (unwritten z) a.taken b.taken l m a.balanced b.balanced;
+        segments = segments_join WriterSegment _ _ _ a.taken b.taken l m a.segments b.segments;
+        balanced = balanced_both _ _ _ a.taken b.taken l m a.balanced b.balanced;
       }
 
   pub buffers_laws : MarkLaws (Buffers writes)
@@ -73,7 +73,7 @@ module _ {W : Type 0} {writes : Runs WriteMark W} (laws : MarkLaws writes) where
       ran = laws.rests x.inner;
       capacity = refl;
       segments = (refl, refl);
-      balanced = append-nil (unwritten x);
+      balanced = append-nil _;
     };
     follows = buffers_follow;
   }

@@ -20,7 +20,7 @@ no_end_both [] m h k = k
 no_end_both (a ∷ l) m h k = (h.0, no_end_both l m h.1 k)
 
 first_sized : (w : ℕ) (xs : List ℕ) → length xs ≡ w → (b : Bool) → length (cond b (replicate w 0) xs) ≡ w
-first_sized w xs e true = length-replicate {A = ℕ} w 0
+first_sized w xs e true = length-replicate w 0
 first_sized w xs e false = e
 
 module _ {R S : Type 0} (first : Runs ReadMark R) (second : Runs ReadMark S) where
@@ -80,7 +80,7 @@ module _ {R S : Type 0} (first : Runs ReadMark R) (second : Runs ReadMark S) whe
     show_at f p q false false x y l h = p x.first y.first l h.0
     show_at f p q false true x y l h =
         let whole = f.follows x.first h.between y.first h.before (ReadMark.end ∷ []) h.first_ran h.first_ended in
-        rw h.cut (before_end (lent1 x.first) h.before h.after (p x.first y.first (h.before ++ ReadMark.end ∷ []) whole))
+        rw h.cut (before_end _ h.before h.after (p x.first y.first (h.before ++ ReadMark.end ∷ []) whole))
     show_at f p q true true x y l h = q x.second y.second l h.0
     show_at f p q true false x y l h = absurd h
 

@@ -28,8 +28,8 @@ through_spends k x y l know h =
     let room = know.0 in
     let same = h.capacity in (
       (omega (arith, room, same), on.0),
-      passes_spends (reader_capacity x) (ahead x) (ahead y) h.came l (k.left x.inner)
-          (k.left y.inner) know.0 h.passes on.1,
+      passes_spends _ _ _ h.came l _
+          _ know.0 h.passes on.1,
     )
 
 -- what was read ahead, and then what the inner reader is to give
@@ -47,9 +47,9 @@ fits_spends limit rest [] xs ys f h = rw (f, h) refl
 fits_spends zero rest (m ∷ l) xs ys f h = absurd f
 fits_spends (suc n) rest (ReadMark.byte b ∷ l) xs ys f h =
     (take n h.0, ap (take (suc n)) h.1, fits_spends n rest l h.0 ys f h.2)
-fits_spends (suc n) rest (ReadMark.pending ∷ l) xs ys f h = fits_spends (suc n) rest l xs ys f h
+fits_spends (suc n) rest (ReadMark.pending ∷ l) xs ys f h = fits_spends _ rest l xs ys f h
 fits_spends (suc n) rest (ReadMark.fault kind ∷ l) xs ys f h = absurd h
-fits_spends (suc n) rest (ReadMark.end ∷ l) xs ys f h = (ap (take (suc n)) h.0, fits_spends (suc n) rest l xs ys f h.1)
+fits_spends (suc n) rest (ReadMark.end ∷ l) xs ys f h = (ap (take (suc n)) h.0, fits_spends _ rest l xs ys f h.1)
 
 ends_spends : (rest : ℕ) (l : List ReadMark) (ys : List ℕ) → LimitEnds rest l
     → TellsKnown (take rest ys) l (take rest ys)
@@ -63,8 +63,8 @@ pub takes_spends : {R : Type 0} (k : Known R) (x y : Take R) (l : List ReadMark)
     → k.knows y.inner × TellsKnown (take x.limit (k.left x.inner)) l (take y.limit (k.left y.inner))
 takes_spends k x y l know h =
     let on = k.tells x.inner y.inner h.front know h.ran in
-    let front = fits_spends x.limit y.limit h.front (k.left x.inner) (k.left y.inner) h.fits on.1 in
-    let whole = spends_both _ _ _ h.front h.ends front (ends_spends y.limit h.ends (k.left y.inner) h.used_up) in
+    let front = fits_spends x.limit y.limit h.front _ _ h.fits on.1 in
+    let whole = spends_both _ _ _ h.front h.ends front (ends_spends y.limit h.ends _ h.used_up) in
     (on.0, rw h.cut whole)
 
 -- the first bytes
@@ -98,7 +98,7 @@ module _ {R S : Type 0} (k : Known R) (j : Known S) where
   joins_spends false false x y l at to know h =
       let on = k.tells x.first y.first l know.0 h.0 in (
         (on.0, rw h.2 know.1, λ e. absurd (cc (e, to))),
-        rw (ap j.left h.2) (before_end l _ _ (j.left x.second) h.1 on.1),
+        rw (ap j.left h.2) (before_end l _ _ _ h.1 on.1),
       )
   joins_spends false true x y l at to know h =
       let one = k.tells x.first h.between h.before know.0 h.first_ran in

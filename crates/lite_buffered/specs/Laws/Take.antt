@@ -16,7 +16,7 @@ fits_follow : (a b c : ℕ) (l m : List ReadMark) → WithinLimit a l b → With
 fits_follow a b c [] m h k = rw (← h) k
 fits_follow zero b c (e ∷ l) m h k = absurd h
 fits_follow (suc a) b c (ReadMark.byte x ∷ l) m h k = fits_follow a b c l m h k
-fits_follow (suc a) b c (e ∷ l) m h k = fits_follow (suc a) b c l m h k
+fits_follow (suc a) b c (e ∷ l) m h k = fits_follow _ b c l m h k
 
 fits_none : (b c : ℕ) (m : List ReadMark) → b ≡ 0 → WithinLimit b m c → (m ≡ []) × (c ≡ 0)
 fits_none b c [] z h = (refl, h ∙ z)
@@ -39,7 +39,7 @@ ends_gone c (e ∷ l) h g = absurd (subst (λ m. AllGiven (m ∷ [])) h.1 (g.0, 
 -- what is lent of a front, with the ends behind it
 fits_show : (limit rest : ℕ) (lent : List ℕ) (front ends : List ReadMark) → WithinLimit limit front rest
     → LimitEnds rest ends → Comparable (bytes lent) front → Comparable (bytes (take limit lent)) (front ++ ends)
-fits_show limit rest lent [] [] f e h = comparable_none (bytes (take limit lent))
+fits_show limit rest lent [] [] f e h = comparable_none (bytes _)
 fits_show limit rest lent [] (m ∷ ends) f e h = let none : limit ≡ 0 = omega (arith, f, e.0) in rw none tt
 fits_show zero rest lent (m ∷ front) ends f e h = absurd f
 fits_show (suc n) rest [] (m ∷ front) ends f e h = tt
@@ -90,7 +90,7 @@ module _ {R : Type 0} {reads : Runs ReadMark R} where
   pub takes_show : (lent : R → List ℕ) → Shows reads lent → Shows (TakesMarks reads) (λ x. take x.limit (lent x.inner))
   takes_show lent shows x y l h =
       rw h.cut
-      (fits_show x.limit y.limit (lent x.inner) h.front h.ends h.fits h.used_up (shows x.inner y.inner h.front h.ran))
+      (fits_show x.limit y.limit _ h.front h.ends h.fits h.used_up (shows x.inner y.inner h.front h.ran))
 
   module _ {r : Ranks R} (c : ReadCounting reads r) where
     takes_lowers : (x y : Take R) (l : List ReadMark) → r.firm x.inner → TakesMarks reads x l y

@@ -62,7 +62,7 @@ module _ {R : Type 0} {reads : Runs ReadMark R} where
       → CalmReadLaws (ThroughBuffer reads) (λ (x : BufReader R). is_calm x.inner)
   buf_reader_calm c =
       record {
-        no_pending = λ x y l k h. passes_no_wait (reader_capacity x) (ahead x) (ahead y) h.came l h.passes
+        no_pending = λ x y l k h. passes_no_wait _ _ _ h.came l h.passes
             (c.no_pending x.inner y.inner h.came k h.ran);
         calm_on = λ x y l k h. c.calm_on x.inner y.inner h.came k h.ran;
       }

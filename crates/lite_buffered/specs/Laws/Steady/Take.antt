@@ -13,7 +13,7 @@ fits_stripped : (n rest : ℕ) (l : List ReadMark) → WithinLimit n l rest → 
 fits_stripped n rest [] h = h
 fits_stripped zero rest (m ∷ l) h = absurd h
 fits_stripped (suc n) rest (ReadMark.byte b ∷ l) h = fits_stripped n rest l h
-fits_stripped (suc n) rest (m ∷ l) h = fits_stripped (suc n) rest l h
+fits_stripped (suc n) rest (m ∷ l) h = fits_stripped _ rest l h
 
 ends_stripped : (rest : ℕ) (l : List ReadMark) → LimitEnds rest l → LimitEnds rest (strip_marks l)
 ends_stripped rest [] h = tt
@@ -40,7 +40,7 @@ fronts_alike (suc n) r s (ReadMark.byte x ∷ p) (b ∷ q) e d f g h k c =
     (c.0, fronts_alike n r s p q e d f same h k c.1)
 fronts_alike (suc n) r s (a ∷ p) (b ∷ q) e d f g h k c =
     let same : WithinLimit (suc n) q s = subst (λ t. WithinLimit (suc n) (t ∷ q) s) (sym c.0) g in
-    (c.0, fronts_alike (suc n) r s p q e d f same h k c.1)
+    (c.0, fronts_alike _ r s p q e d f same h k c.1)
 
 ends_no_wait : (rest : ℕ) (l : List ReadMark) → LimitEnds rest l → NoPendingRead l
 ends_no_wait rest [] h = tt
@@ -62,8 +62,8 @@ module _ {R : Type 0} {reads : Runs ReadMark R} where
         let ends = ends_stripped x'.limit h.ends h.used_up in
         let ends2 = ends_stripped y'.limit k.ends k.used_up in
         let inner = s.steady x.inner y.inner x'.inner y'.inner h.front k.front e.0 h.ran k.ran in
-        let both = fronts_alike x.limit x'.limit y'.limit (strip_marks h.front) (strip_marks k.front)
-        (strip_marks h.ends) (strip_marks k.ends) fits fits2 ends ends2 inner in
+        let both = fronts_alike x.limit x'.limit y'.limit _ _
+        _ _ fits fits2 ends ends2 inner in
         rw (h.cut, strip_marks-append, k.cut, strip_marks-append) both
 
     pub take_steady : SteadyReadLaws (TakesMarks reads) (TakesMarks ample) needs_none (LimitAlike alike)
