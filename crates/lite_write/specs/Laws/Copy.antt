@@ -139,9 +139,9 @@ module _ {R W : Type 0} where
         record {
           told = [];
           took = [];
-          came = rl.rests (source_of x);
+          came = rl.rests _;
           went = wl.rests x.writer;
-          copied = (copied_none (held_of x) (met_in x.phase) x.amount);
+          copied = (copied_none _ _ x.amount);
           counted = (counted_none x.amount x.counted);
         }
 
@@ -152,10 +152,10 @@ module _ {R W : Type 0} where
         record {
           told = h.told ++ k.told;
           took = h.took ++ k.took;
-          came = rl.follows (source_of x) (source_of y) (source_of z) h.told k.told h.came k.came;
+          came = rl.follows _ _ _ h.told k.told h.came k.came;
           went = wl.follows x.writer y.writer z.writer h.took k.took h.went k.went;
-          copied = copied_both (held_of x) (held_of y) (held_of z) (met_in x.phase) (met_in y.phase)
-              (met_in z.phase) h.told k.told h.took k.took l m y.amount z.amount w h.copied k.copied;
+          copied = copied_both _ _ _ _ _
+              _ h.told k.told h.took k.took l m y.amount z.amount w h.copied k.copied;
           counted = counted_both x.amount y.amount z.amount h.took k.took h.counted k.counted;
         }
 

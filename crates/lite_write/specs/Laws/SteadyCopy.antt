@@ -145,7 +145,7 @@ module _ {R W : Type 0} where
         → TaleOfValue (Ok n) (before_of x) (tale_of x h.told)
     ok_told n value =
         let c = h.copied in
-        let a = ok_value (held_of y) (met_in y.phase) y.amount n c.failed c.last value in
+        let a = ok_value _ _ y.amount n c.failed c.last value in
         let end : read ++ (met_in y.phase ++ c.failed) ≡ read ++ ReadMark.end ∷ [] =
         ap (λ k. read ++ (k ++ c.failed)) a.3 ∙ ap (λ k. read ++ (ReadMark.end ∷ k)) a.0 in
         (
@@ -160,7 +160,7 @@ module _ {R W : Type 0} where
     err_told e value =
         let c = h.copied in
         let f =
-        reader_failed e c.failed c.last (held_of y) (met_in y.phase) y.amount
+        reader_failed e c.failed c.last _ _ y.amount
         (no_failure_last c.writing.written c.last (rw (← c.writing.cut) h.went.1)) value in
         let cut = c.reading.cut ∙ ap (λ k. read ++ (k ++ c.failed)) f.1 ∙ ap (λ k. read ++ k) f.0 in
         (bytes_told read, stopped read _ (Err e) c.reading.goes_on cut, tt)
@@ -175,7 +175,7 @@ module _ {R W : Type 0} where
     told_at (Err e ∷ v ∷ given) a = absurd a
 
     all_told : AllTold (strip out) (before_of x) (tale_of x h.told)
-    all_told = told_at (strip out) h.copied.value
+    all_told = told_at _ h.copied.value
 
 all_same : (l m : List SteadyCopyResult) (held : ℕ) (i j : List ReadMark) → AllTold l held i → AllTold m held j
     → Comparable (strip_marks i) (strip_marks j)
@@ -205,13 +205,13 @@ module _ {R W : Type 0} {reads : Runs ReadMark R} {writes : Runs WriteMark W} wh
             let one = all_told x x' l i in
             let two = all_told y y' m j in
             let tales =
-            s.steady (source_of x) (source_of y) (source_of x') (source_of y') i.told j.told e.0 i.came j.came in
+            s.steady _ _ _ _ i.told j.told e.0 i.came j.came in
             let both =
-            comparable_behind (strip_marks (met_in x.phase)) (strip_marks i.told) (strip_marks j.told) tales in
+            comparable_behind (strip_marks (met_in x.phase)) _ _ tales in
             let begun : before_of y ≡ before_of x = omega (arith, e.3, ap length e.1) in
             let other = rw begun at two in
-            all_same (strip l) (strip m) (before_of x) (tale_of x i.told) (tale_of y j.told) one other
-            (rw (strip_marks-append (met_in x.phase) i.told, strip_marks-append (met_in y.phase) j.told, ← e.2) both);
+            all_same _ _ _ _ _ one other
+            (rw (strip_marks-append _ i.told, strip_marks-append _ j.told, ← e.2) both);
         found = λ n x y l h.
             let i = h.moves in
             record {
@@ -227,7 +227,7 @@ module _ {R W : Type 0} {reads : Runs ReadMark R} {writes : Runs WriteMark W} wh
       record {
         no_pending = λ x y l k h.
             let i = h.moves in
-            let told = told_no_pending i.told (c.no_pending (source_of x) (source_of y) i.told k.0 i.came) in
+            let told = told_no_pending i.told (c.no_pending _ _ i.told k.0 i.came) in
             none_no_pending l
             (omega (
               arith,
@@ -237,7 +237,7 @@ module _ {R W : Type 0} {reads : Runs ReadMark R} {writes : Runs WriteMark W} wh
             ));
         calm_on = λ x y l k h.
             let i = h.moves in
-            (c.calm_on (source_of x) (source_of y) i.told k.0 i.came, d.calm_on x.writer y.writer i.took k.1 i.went);
+            (c.calm_on _ _ i.told k.0 i.came, d.calm_on x.writer y.writer i.took k.1 i.went);
       }
 
 takes_without_failure : (l : List WriteMark) → TakesSome l → NoFailure l
@@ -264,7 +264,7 @@ module _ {R W : Type 0} {reads ample : Runs ReadMark R} {writes : Runs WriteMark
       let k = m.copied in
       let f = k.writing in
       let last =
-      last_no_failure v k.failed k.last (held_of h.last) (met_in h.last.phase) h.last.amount ok
+      last_no_failure v k.failed k.last _ _ h.last.amount ok
       (rw (gives_strip l v h.gives) at k.value) in
       let no_failure =
       rw (← f.cut) at (no_failure_both f.written k.last (takes_without_failure f.written f.takes_some) last) in
