@@ -28,19 +28,18 @@ fronts_alike : (n r s : ℕ) (p q e d : List ReadMark) → WithinLimit n p r →
     → LimitEnds s d → Comparable p q → Comparable (p ++ e) (q ++ d)
 fronts_alike n r s [] [] e d f g h k c = ends_alike r s e d h k
 fronts_alike n r s [] (b ∷ q) [] d f g h k c = tt
-fronts_alike zero r s [] (b ∷ q) (x ∷ e) d f g h k c = absurd g
 fronts_alike (suc n) r s [] (b ∷ q) (x ∷ e) d f g h k c =
     let none : suc n ≡ 0 = sym f ∙ h.0 in absurd (omega (arith, none))
 fronts_alike n r s (a ∷ p) [] e [] f g h k c = comparable_none ((a ∷ p) ++ e)
 fronts_alike (suc n) r s (a ∷ p) [] e (x ∷ d) f g h k c =
     let none : suc n ≡ 0 = sym g ∙ k.0 in absurd (omega (arith, none))
-fronts_alike zero r s (a ∷ p) q e d f g h k c = absurd f
 fronts_alike (suc n) r s (ReadMark.byte x ∷ p) (b ∷ q) e d f g h k c =
     let same : WithinLimit n q s = subst (λ t. WithinLimit (suc n) (t ∷ q) s) (sym c.0) g in
     (c.0, fronts_alike n r s p q e d f same h k c.1)
 fronts_alike (suc n) r s (a ∷ p) (b ∷ q) e d f g h k c =
     let same : WithinLimit (suc n) q s = subst (λ t. WithinLimit (suc n) (t ∷ q) s) (sym c.0) g in
     (c.0, fronts_alike _ r s p q e d f same h k c.1)
+fronts_alike _ r s _ _ _ d f g h k c = absurd assumption
 
 ends_no_wait : (rest : ℕ) (l : List ReadMark) → LimitEnds rest l → NoPendingRead l
 ends_no_wait rest [] h = tt
