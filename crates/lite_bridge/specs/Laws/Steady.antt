@@ -20,7 +20,7 @@ module _ {T : Type 0} (bytes : T → List ℕ) where
 
   pub cursor_steady : SteadyReadLaws (CursorReads bytes) (CursorReads bytes) ⊤
       (λ x y. bytes_left bytes x ≡ bytes_left bytes y)
-  cursor_steady = steady_read_always (steps_laws (ReadStep bytes)) same_left
+  cursor_steady = steady_read_always (steps_laws _) same_left
 
   pub cursor_calm : CalmReadLaws (CursorReads bytes) (λ x. ⊤)
   cursor_calm =

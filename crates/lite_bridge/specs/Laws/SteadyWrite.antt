@@ -40,7 +40,7 @@ module _ {T : Type 0} (bytes : T → List ℕ) {puts : T → ℕ → List ℕ �
       let first = put x.inner x.position xs h.0.inner h.1.0 in
       let at : h.0.position ≡ x.position + length xs = h.1.1 in
       record {
-        all = puts_more (bytes x.inner) (bytes h.0.inner) (bytes y.inner) x.position xs (bytes_taken l) first
+        all = puts_more _ _ _ x.position xs _ first
             (rw (← at) rest.all);
         place = omega (arith, rest.place, at, length-append xs (bytes_taken l));
       }
@@ -66,8 +66,8 @@ module _ {T : Type 0} (bytes : T → List ℕ) {puts : T → ℕ → List ℕ �
         steady = λ x y x' y' l m e h k a b f g same.
             let p = puts_all x x' l h in
             let q = puts_all y y' m k in
-            let one = puts_one (bytes y.inner) (bytes x'.inner) (bytes y'.inner) y.position
-            (bytes_taken m) (rw (e.0, e.1, same) at p.all) q.all in
+            let one = puts_one _ _ _ y.position
+            _ (rw (e.0, e.1, same) at p.all) q.all in
             let place : x'.position ≡ y'.position = omega (arith, p.place, q.place, e.1, ap length same) in
             (one, (one, place));
       }
@@ -77,10 +77,10 @@ module _ {T : Type 0} (bytes : T → List ℕ) {puts : T → ℕ → List ℕ �
 
 -- over a slice behind a reference
 pub slice_steady_write : SteadyWriteLaws CursorWritesLent (SamePlace (λ s. s.now)) (λ x. x.inner.now)
-slice_steady_write = cursor_steady_write (λ (s : MutBor (List ℕ)). s.now) (λ x at xs y h. h.0) (λ x y h. absurd h)
+slice_steady_write = cursor_steady_write (λ (s : MutBor _). s.now) (λ x at xs y h. h.0) (λ x y h. absurd h)
 
 pub slice_calm_write : CalmWriteLaws CursorWritesLent (λ x. ⊤)
-slice_calm_write = cursor_calm_write (λ (s : MutBor (List ℕ)). s.now) (λ x at xs y h. h.0) (λ x y h. absurd h)
+slice_calm_write = cursor_calm_write (λ (s : MutBor _). s.now) (λ x at xs y h. h.0) (λ x y h. absurd h)
 
 -- over a vector
 pub vec_steady_write : SteadyWriteLaws (CursorWrites PutsVec VecStays) (SamePlace (λ v. v.items)) (λ x. x.inner.items)
@@ -93,7 +93,7 @@ vec_calm_write = cursor_calm_write (λ (v : Vec ℕ Global). v.items) (λ x at x
 pub lent_vec_steady_write : SteadyWriteLaws (CursorWrites PutsVecLent VecStaysLent) (SamePlace (λ v. v.now.items))
     (λ x. x.inner.now.items)
 lent_vec_steady_write =
-    cursor_steady_write (λ (v : MutBor (Vec ℕ Global)). v.now.items) (λ x at xs y h. h.0) (λ x y h. h.0)
+    cursor_steady_write (λ (v : MutBor _). v.now.items) (λ x at xs y h. h.0) (λ x y h. h.0)
 
 pub lent_vec_calm_write : CalmWriteLaws (CursorWrites PutsVecLent VecStaysLent) (λ x. ⊤)
-lent_vec_calm_write = cursor_calm_write (λ (v : MutBor (Vec ℕ Global)). v.now.items) (λ x at xs y h. h.0) (λ x y h. h.0)
+lent_vec_calm_write = cursor_calm_write (λ (v : MutBor _). v.now.items) (λ x at xs y h. h.0) (λ x y h. h.0)
