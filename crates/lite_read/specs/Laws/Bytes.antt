@@ -99,7 +99,7 @@ module _ {R : Type 0} {reads : Runs ReadMark R} where
       (λ x l y. ample x.inner l y.inner) needs_none (λ x y. alike x.inner y.inner)
   inner_steady s =
       record {
-        laws = record { rests = λ x. s.laws.rests x.inner; follows = λ x y z. s.laws.follows x.inner y.inner z.inner };
+        laws = record { rests = λ x. s.laws.rests x.inner; follows = λ x y z. s.laws.follows _ _ _ };
         steady = λ x y x' y'. s.steady x.inner y.inner x'.inner y'.inner;
         found = λ n x y. s.found n x.inner y.inner;
       }

@@ -58,46 +58,28 @@ module _ {A : Type 0} (byte : ℕ) (may_refuse : Type 0) (whole final : List ℕ
     end_out last Cut.nothing after c i = omega (arith, ap length i, ap given c.0, ap length c.1)
     end_out last _ after c i = absurd i
 
+  -- what is given out of what came in, and what that does to a rank
+  abbrev GivesOut : List ℕ → List ReadMark → List (Answer A) → List ℕ → Type 0
+  GivesOut p marks l q = (n : ℕ) × (given marks + length p ≡ n + length q)
+      × ((xs ys : List ℕ) → Falls n xs ys → Lowers l xs ys)
+
   segments_out : (p q : List ℕ) (marks : List ReadMark) (l : List (Answer A))
-      → PieceSegments (pieces byte may_refuse (Itemised whole final)) p marks (all_ok l) q
-      → (n : ℕ) × (given marks + length p ≡ n + length q) × ((xs ys : List ℕ) → Falls n xs ys → Lowers l xs ys)
+      → PieceSegments (pieces byte may_refuse (Itemised whole final)) p marks (all_ok l) q → GivesOut p marks l q
   segments_out p q marks [] h = (0, omega (arith, ap given h.0, ap length h.1), λ xs ys f. f)
   segments_out p q marks (Pending ∷ l) (first, rest, m, cut, a, more) =
-      let r = segments_out m q rest l more in (
-        r.0,
-        omega (
-          arith,
-          r.1,
-          ap given cut ∙ given-append first rest,
-          came_in a,
-          ap given a.given.0,
-          ap length a.given.2,
-        ),
-        r.2,
-      )
+      let r = segments_out m q rest l more in
+      let came = ap given cut ∙ given-append first rest in
+      (r.0, omega (arith, r.1, came, came_in a, ap given a.given.0, ap length a.given.2), r.2)
   segments_out p q marks (Ready None ∷ l) (first, rest, m, cut, a, more) =
-      let r = segments_out m q rest l more in (
-        r.0,
-        omega (
-          arith,
-          r.1,
-          ap given cut ∙ given-append first rest,
-          came_in a,
-          end_out a.between a.last a.given.0 m a.given.1 a.given.2,
-        ),
-        r.2,
-      )
+      let r = segments_out m q rest l more in
+      let came = ap given cut ∙ given-append first rest in
+      (r.0, omega (arith, r.1, came, came_in a, end_out a.between a.last a.given.0 m a.given.1 a.given.2), r.2)
   segments_out p q marks (Ready (Some x) ∷ l) (first, rest, m, cut, a, more) =
       let r = segments_out m q rest l more in
+      let came = ap given cut ∙ given-append first rest in
       let e = piece_out a.between a.last a.given.0 x m a.given.1 a.given.2 in (
         e.0 + r.0,
-        omega (
-          arith,
-          r.1,
-          ap given cut ∙ given-append first rest,
-          came_in a,
-          e.2,
-        ),
+        omega (arith, r.1, came, came_in a, e.2),
         λ xs ys f. below_some _ xs ys (omega (arith, e.1)) f,
       )
 
