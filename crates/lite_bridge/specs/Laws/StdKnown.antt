@@ -132,8 +132,7 @@ OneContents x y = (known_bytes x ≡ known_bytes y) × SameKnown x y
 one_contents : (x y p q : Option (List ℕ)) (l m : List WriteMark) → SameKnown x y → GainsKnown x l p → GainsKnown y m q
     → bytes_taken l ≡ bytes_taken m → OneContents p q
 one_contents (Some xs) (Some ys) (Some ps) (Some qs) l m e h k same =
-    let one = grows_all (λ _. ⊤) xs ps l h ∙ ap (λ t. t ++ bytes_taken l) e ∙ ap (λ t. ys ++ t) same
-    ∙ sym (grows_all (λ _. ⊤) ys qs m k) in
+    let one : ps ≡ qs = rw (grows_all _ xs ps l h, grows_all _ ys qs m k, e, same) refl in
     (one, one)
 one_contents _ _ _ _ l m e h k same = absurd assumption
 
@@ -162,31 +161,26 @@ keeps_trans None y z h k = tt
 keeps_trans (Some xs) (Some ys) (Some zs) h k = k ∙ h
 keeps_trans _ _ _ h k = absurd assumption
 
-none_taken : (n : ℕ) (buf : List ℕ) → n ≡ length (take n buf) → take n buf ≡ [] → n ≡ 0
-none_taken n buf counts none = counts ∙ ap length none
-
 pub read_spends : (x y z : Option (List ℕ)) (r : Result ℕ Error) (buf : List ℕ) → Keeps x y → ReadsAtMost r buf
     → ReadConsumes y z r buf
     → SpendsKnown x (read_marks (Ready r) buf) z
 read_spends None y z (Ok n) buf k b h = no_wait_moved buf (take n buf)
 read_spends None y z (Err e) buf k b h = tt
-read_spends (Some xs) None z r buf k b h = absurd k
-read_spends (Some xs) (Some ys) None (Ok n) buf k b h = absurd h.0
-read_spends (Some xs) (Some ys) None (Err e) buf k b h = absurd h
 read_spends (Some xs) (Some ys) (Some zs) (Ok n) buf k b h =
     subst (λ t. SpendsBytes t (moved buf (take n buf)) zs) (sym h.0 ∙ k)
-    (spends_moved buf (take n buf) zs (λ none room. h.1 (none_taken n buf b.1 none) room))
+    (spends_moved buf (take n buf) zs (λ none room. h.1 (b.1 ∙ ap length none) room))
 read_spends (Some xs) (Some ys) (Some zs) (Err e) buf k b h = h ∙ k
+read_spends _ _ _ (Ok n) buf k b h = absurd assumption
+read_spends _ _ _ (Err e) buf k b h = absurd assumption
 
 pub write_gains : (x y z : Option (List ℕ)) (r : Result ℕ Error) (buf : List ℕ) → Keeps x y → WriteAppends y z r buf
     → GainsKnown x (write_marks (Ready r) buf) z
 write_gains None y z (Ok n) buf k h = tt
 write_gains None y z (Err e) buf k h = tt
-write_gains (Some xs) None z r buf k h = absurd k
-write_gains (Some xs) (Some ys) None (Ok n) buf k h = absurd h
-write_gains (Some xs) (Some ys) None (Err e) buf k h = absurd h
-write_gains (Some xs) (Some ys) (Some zs) (Ok n) buf k h = h ∙ ap (λ t. t ++ take n buf) k
+write_gains (Some xs) (Some ys) (Some zs) (Ok n) buf k h = rw (h, k)
 write_gains (Some xs) (Some ys) (Some zs) (Err e) buf k h = (tt, h ∙ k)
+write_gains _ _ _ (Ok n) buf k h = absurd assumption
+write_gains _ _ _ (Err e) buf k h = absurd assumption
 
 pub flush_gains : (x y z : Option (List ℕ)) (r : Result (Unit {0}) Error) → Keeps x y → Keeps y z
     → GainsKnown x (done_marks WriteMark.flushed (Ready r)) z
@@ -216,9 +210,9 @@ pub seek_moves : (p q s : Option ℕ) (x y z : Option (List ℕ)) (to : SeekFrom
     → Keeps x y → SeekMoves q s y to r
     → Keeps y z → MovesKnown p s x z to (by_kind (Ready r))
 seek_moves (Some at) q s x y z to (Ok n) stays k h l =
-    let moved : IsSeekTarget at y to n × (s ≡ Some n) = subst (λ t. SeekMoves {E = Error} t s y to (Ok n)) stays h in
+    let moved = rw stays at h in
     ((target_kept at x y to n k moved.0, moved.1), keeps_trans x y z k l)
 seek_moves (Some at) q s x y z to (Err e) stays k h l =
-    (subst (λ t. SeekMoves {E = Error} t s y to (Err e)) stays h, keeps_trans x y z k l)
+    (rw stays at h, keeps_trans x y z k l)
 seek_moves None q s x y z to (Ok n) stays k h l = (tt, keeps_trans x y z k l)
 seek_moves None q s x y z to (Err e) stays k h l = (tt, keeps_trans x y z k l)

@@ -87,17 +87,6 @@ held_sized : (xs : List ℕ) (k n : ℕ) → length xs ≡ n → length (xs ++ k
 held_sized xs k n e = omega (arith, length-append xs (k ∷ []), e)
 
 module _ {R : Type 0} {reads : Runs ReadMark R} where
-  through_follows : MarkLaws reads → (x y z : BufReader R) (l m : List ReadMark) → ThroughBuffer reads x l y
-      → ThroughBuffer reads y m z → ThroughBuffer reads x (l ++ m) z
-  through_follows laws x y z l m a b =
-      let next = rw a.capacity at b.passes in
-      record {
-        came = a.came ++ b.came;
-        ran = laws.follows x.inner y.inner z.inner a.came b.came a.ran b.ran;
-        capacity = b.capacity ∙ a.capacity;
-        passes = passes_both _ _ _ _ a.came l b.came m a.passes next;
-      }
-
   pub through_laws : MarkLaws reads → MarkLaws (ThroughBuffer reads)
   through_laws laws = record {
     rests = λ x. record {
@@ -107,36 +96,31 @@ module _ {R : Type 0} {reads : Runs ReadMark R} where
       passes = passes_of _ _ [] [] (ahead x) (append-nil (bytes _))
           (λ none. (ahead_none x none, ahead_none x none));
     };
-    follows = through_follows laws;
+    follows = λ x y z l m a b.
+        let next = rw a.capacity at b.passes in
+        record {
+          came = a.came ++ b.came;
+          ran = laws.follows _ _ _ a.came b.came a.ran b.ran;
+          capacity = b.capacity ∙ a.capacity;
+          passes = passes_both _ _ _ _ a.came l b.came m a.passes next;
+        };
   }
 
   pub through_shows : Shows (ThroughBuffer reads) ahead
   through_shows x y l h = passes_front _ _ _ h.came l h.passes
 
   module _ {r : Ranks R} (c : ReadCounting reads r) where
-    through_lowers : (x y : BufReader R) (l : List ReadMark) → r.firm x.inner → ThroughBuffer reads x l y
-        → Falls (given l) ((ahead_ranks r).rank y) ((ahead_ranks r).rank x)
-    through_lowers x y l firm h =
-        falls_held _ _ (length _) (length _) _ _
-        (c.lowers x.inner y.inner h.came firm h.ran)
-        (passes_given _ _ _ h.came l h.passes)
-
-    through_falls : (x y : BufReader R) (l : List ReadMark) → r.counts x.inner → AllGiven l → ThroughBuffer reads x l y
-        → Falls (length l) ((ahead_ranks r).rank y) ((ahead_ranks r).rank x)
-    through_falls x y l counts g h =
-        let came = passes_all_given _ _ _ h.came l h.passes g in
-        let less = rw (← given_all h.came came) at (c.falls x.inner y.inner h.came counts came h.ran) in
-        rw (← (given_all l g))
-        (falls_held _ _ (length _) (length _) _
-        _ less (passes_given _ _ _ h.came l h.passes))
-
     pub through_counting : ReadCounting (ThroughBuffer reads) (ahead_ranks r)
     through_counting = record {
       sized = λ x. held_sized _ (length _) r.width (c.sized x.inner);
       counts_on = λ x y l k h. c.counts_on x.inner y.inner h.came k h.ran;
       firm_on = λ x y l k h. c.firm_on x.inner y.inner h.came k h.ran;
-      falls = through_falls;
-      lowers = through_lowers;
+      falls = λ x y l k g h.
+          let came = passes_all_given _ _ _ h.came l h.passes g in
+          let less = rw (← given_all h.came came) at (c.falls _ _ h.came k came h.ran) in
+          rw (← (given_all l g)) (falls_held _ _ (length _) (length _) _ _ less (passes_given _ _ _ h.came l h.passes));
+      lowers = λ x y l k h.
+          falls_held _ _ (length _) (length _) _ _ (c.lowers _ _ h.came k h.ran) (passes_given _ _ _ h.came l h.passes);
     }
 
 pub past_laws : {R : Type 0} {writes : Runs WriteMark R} → MarkLaws writes → MarkLaws (Past writes)

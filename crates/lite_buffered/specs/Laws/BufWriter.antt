@@ -55,17 +55,6 @@ balanced_one before after taken told s =
     ap (λ l. before ++ l) (append-nil _) ∙ segment_balance before after taken told s
 
 module _ {W : Type 0} {writes : Runs WriteMark W} (laws : MarkLaws writes) where
-  buffers_follow : (x y z : BufWriter W) (l m : List WriteMark) → Buffers writes x l y → Buffers writes y m z
-      → Buffers writes x (l ++ m) z
-  buffers_follow x y z l m a b =
-      record {
-        taken = a.taken ++ b.taken;
-        ran = laws.follows x.inner y.inner z.inner a.taken b.taken a.ran b.ran;
-        capacity = b.capacity ∙ a.capacity;
-        segments = segments_join WriterSegment _ _ _ a.taken b.taken l m a.segments b.segments;
-        balanced = balanced_both _ _ _ a.taken b.taken l m a.balanced b.balanced;
-      }
-
   pub buffers_laws : MarkLaws (Buffers writes)
   buffers_laws = record {
     rests = λ x. record {
@@ -75,5 +64,11 @@ module _ {W : Type 0} {writes : Runs WriteMark W} (laws : MarkLaws writes) where
       segments = (refl, refl);
       balanced = append-nil _;
     };
-    follows = buffers_follow;
+    follows = λ x y z l m a b. record {
+      taken = a.taken ++ b.taken;
+      ran = laws.follows _ _ _ a.taken b.taken a.ran b.ran;
+      capacity = b.capacity ∙ a.capacity;
+      segments = segments_join WriterSegment _ _ _ a.taken b.taken l m a.segments b.segments;
+      balanced = balanced_both _ _ _ a.taken b.taken l m a.balanced b.balanced;
+    };
   }

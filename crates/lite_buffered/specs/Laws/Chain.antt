@@ -133,11 +133,6 @@ module _ {R S : Type 0} (first : Runs ReadMark R) (second : Runs ReadMark S) whe
         (rank2 x.second) (inl refl) (falls2 l g h.0))
     fall_at true false l g h = absurd h
 
-    chains_fall : (l : List ReadMark) → All l → ChainsReaders first second x l y
-        → Falls (size l) (cond y.has_ended (replicate width 0) (rank1 y.first) ++ rank2 y.second)
-        (cond x.has_ended (replicate width 0) (rank1 x.first) ++ rank2 x.second)
-    chains_fall = fall_at x.has_ended y.has_ended
-
   module _ {r : Ranks R} {s : Ranks S} (c : ReadCounting first r) (d : ReadCounting second s) where
     pub chains_counting : ReadCounting (ChainsReaders first second) (chain_read_ranks r s)
     chains_counting = record {
@@ -146,9 +141,9 @@ module _ {R S : Type 0} (first : Runs ReadMark R) (second : Runs ReadMark S) whe
       counts_on = chains_keep r.counts s.counts c.counts_on d.counts_on;
       firm_on = chains_keep r.firm s.firm c.firm_on d.firm_on;
       falls = λ x y l k.
-          chains_fall r.width r.rank s.rank c.sized AllGiven length given_parts length-append x y
-          (λ v m. c.falls x.first v m k.0) (λ m. d.falls x.second y.second m k.1) l;
+          fall_at r.width r.rank s.rank c.sized AllGiven length given_parts length-append x y
+          (λ v m. c.falls x.first v m k.0) (λ m. d.falls x.second y.second m k.1) x.has_ended y.has_ended l;
       lowers = λ x y l k h.
-          chains_fall r.width r.rank s.rank c.sized (λ _. ⊤) given (λ m n _. (tt, tt)) given-append x y
-          (λ v m _. c.lowers x.first v m k.0) (λ m _. d.lowers x.second y.second m k.1) l tt h;
+          fall_at r.width r.rank s.rank c.sized (λ _. ⊤) given (λ m n _. (tt, tt)) given-append x y
+          (λ v m _. c.lowers x.first v m k.0) (λ m _. d.lowers x.second y.second m k.1) x.has_ended y.has_ended l tt h;
     }

@@ -12,25 +12,14 @@ use Rattle.lite_buffered.specs.declared.buf_reader.BufReader.{BufReader}
 use Rattle.lite_buffered.specs.declared.chain.Chain.{Chain}
 use Rattle.lite_buffered.specs.declared.take.Take.{Take}
 
-pub passes_spends : (n : ℕ) (before after : List ℕ) (came out : List ReadMark) (xs ys : List ℕ) → 0 < n
-    → PassesBuffer n before came out after → TellsKnown xs came ys
-    → TellsKnown (before ++ xs) out (after ++ ys)
-passes_spends n before after came out xs ys some h s =
-    let all = spends_both (before ++ xs) xs ys (bytes before) came (spends_front before xs) s in
-    let cut = spends_split (before ++ xs) ys out (bytes after) (rw (← passes_some n before came out after some h) all) in
-    rw (← (spends_bytes after cut.0 ys cut.2)) cut.1
-
 pub through_spends : {R : Type 0} (k : Known R) (x y : BufReader R) (l : List ReadMark) → (0 < reader_capacity x)
     × k.knows x.inner → ThroughBuffer k.told x l y
     → ((0 < reader_capacity y) × k.knows y.inner) × TellsKnown (ahead x ++ k.left x.inner) l (ahead y ++ k.left y.inner)
 through_spends k x y l know h =
     let on = k.tells x.inner y.inner h.came know.1 h.ran in
-    let room = know.0 in
-    let same = h.capacity in (
-      (omega (arith, room, same), on.0),
-      passes_spends _ _ _ h.came l _
-          _ know.0 h.passes on.1,
-    )
+    let all = spends_both _ _ _ (bytes (ahead x)) h.came (spends_front (ahead x) _) on.1 in
+    let cut = spends_split _ _ l (bytes (ahead y)) (rw (passes_some _ _ h.came l _ know.0 h.passes) at all) in
+    ((rw h.capacity know.0, on.0), rw (← (spends_bytes (ahead y) cut.0 _ cut.2)) cut.1)
 
 -- what was read ahead, and then what the inner reader is to give
 abbrev pub through_known : {R : Type 0} → Known R → Known (BufReader R)

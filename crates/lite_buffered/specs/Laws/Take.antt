@@ -93,26 +93,17 @@ module _ {R : Type 0} {reads : Runs ReadMark R} where
       (fits_show x.limit y.limit _ h.front h.ends h.fits h.used_up (shows x.inner y.inner h.front h.ran))
 
   module _ {r : Ranks R} (c : ReadCounting reads r) where
-    takes_lowers : (x y : Take R) (l : List ReadMark) → r.firm x.inner → TakesMarks reads x l y
-        → Falls (given l) (r.rank y.inner) (r.rank x.inner)
-    takes_lowers x y l firm h =
-        let same : given h.front ≡ given l =
-        omega (arith, ap given h.cut, given-append h.front h.ends, ends_given y.limit h.ends h.used_up) in
-        rw (← same) (c.lowers x.inner y.inner h.front firm h.ran)
-
-    takes_falls : (x y : Take R) (l : List ReadMark) → r.counts x.inner → AllGiven l → TakesMarks reads x l y
-        → Falls (length l) (r.rank y.inner) (r.rank x.inner)
-    takes_falls x y l counts g h =
-        let parts = given_parts h.front h.ends (rw (← h.cut) g) in
-        let same : h.front ≡ l =
-        sym (h.cut ∙ ap (λ k. h.front ++ k) (ends_gone y.limit h.ends h.used_up parts.1) ∙ append-nil h.front) in
-        rw (← same) (c.falls x.inner y.inner h.front counts parts.0 h.ran)
-
     pub takes_counting : ReadCounting (TakesMarks reads) (ranks_of (λ (x : Take R). x.inner) r)
     takes_counting = record {
       sized = λ x. c.sized x.inner;
       counts_on = λ x y l k h. c.counts_on x.inner y.inner h.front k h.ran;
       firm_on = λ x y l k h. c.firm_on x.inner y.inner h.front k h.ran;
-      falls = takes_falls;
-      lowers = takes_lowers;
+      falls = λ x y l k g h.
+          let parts = given_parts h.front h.ends (rw (← h.cut) g) in
+          let same : h.front ≡ l = rw (h.cut, ends_gone y.limit h.ends h.used_up parts.1, append-nil) in
+          rw (← same) (c.falls _ _ h.front k parts.0 h.ran);
+      lowers = λ x y l k h.
+          let same : given h.front ≡ given l =
+          omega (arith, ap given h.cut, given-append h.front h.ends, ends_given y.limit h.ends h.used_up) in
+          rw (← same) (c.lowers _ _ h.front k h.ran);
     }

@@ -54,26 +54,17 @@ tells_items (_ ∷ i) (r ∷ l) h = let e = tells_items i l h.1 in ((tt, e.0), a
 
 module _ {R : Type 0} {reads : Runs ReadMark R} where
   module _ (laws : MarkLaws reads) where
-    tells_follow : (x y z : Bytes R) (l m : List (Answer (Result ℕ Error))) → TellsBytes reads x l y
-        → TellsBytes reads y m z → TellsBytes reads x (l ++ m) z
-    tells_follow x y z l m h k =
-        record {
-          marks = h.marks ++ k.marks;
-          came = laws.follows x.inner y.inner z.inner h.marks k.marks h.came k.came;
-          told = tells_join h.marks k.marks l m h.told k.told;
-          idle = idle_join x y z l m h.idle k.idle;
-        }
-
-    tells_runs : StreamRunLaws (TellsBytes reads)
-    tells_runs =
-        record {
-          rests = λ x. record { marks = []; came = laws.rests x.inner; told = tt; idle = λ e. refl };
-          stays = λ x y h. h.idle refl;
-          follows = tells_follow;
-        }
-
     pub bytes_laws : StreamLaws (TellsBytes reads) NoHint
-    bytes_laws = laws_of (tells_runs) (λ x y hint l e h. same_hint hint (0, None) l e tt)
+    bytes_laws = laws_of (record {
+      rests = λ x. record { marks = []; came = laws.rests x.inner; told = tt; idle = λ e. refl };
+      stays = λ x y h. h.idle refl;
+      follows = λ x y z l m h k. record {
+        marks = h.marks ++ k.marks;
+        came = laws.follows _ _ _ h.marks k.marks h.came k.came;
+        told = tells_join h.marks k.marks l m h.told k.told;
+        idle = idle_join x y z l m h.idle k.idle;
+      };
+    }) (λ x y hint l e h. same_hint hint (0, None) l e tt)
 
   pub bytes_counting : {r : Ranks R} → ReadCounting reads r
       → Counting (TellsBytes reads) (ranks_of (λ (b : Bytes R). b.inner) r)

@@ -103,7 +103,7 @@ module _ {X S K A : Type 0} (over : StreamOver X S (List ℕ) K) (byte : K → �
   flow_lowers x y l f h =
       let s = h.segmented in
       let out =
-      segments_out (byte _) may_refuse whole final _ _ s.marks l s.cut in
+      segments_out _ may_refuse whole final _ _ s.marks l s.cut in
       out.2 _ _
       (falls_held _ out.0 (length _) (length _) (r.rank _)
       (r.rank _) (counting.lowers _ _ s.marks f s.came) out.1)
@@ -116,7 +116,7 @@ module _ {X S K A : Type 0} (over : StreamOver X S (List ℕ) K) (byte : K → �
       (flow_ranks over r)
   flow_counting =
       record {
-        sized = λ x. length-append (r.rank _) (length _ ∷ [])
+        sized = λ x. length-append _ (length _ ∷ [])
             ∙ ap (λ n. n + 1) (counting.sized _);
         counts_on = firm_still;
         firm_on = firm_still;

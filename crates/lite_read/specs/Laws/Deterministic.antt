@@ -51,7 +51,7 @@ module _ {M R : Type 0} (fold : ReadFold M R) where
     segments_values p q i [] h = rw h.0 (TaleValues.held p p [] refl)
     segments_values p q i (Pending ∷ l) h =
         let w = h.4 in
-        let cut = segment_front p h.2 i h.0 h.1 Pending w h.3 ∙ ap (λ k. bytes w.taken ++ (k ++ h.1)) w.given.0 in
+        let cut = rw w.given.0 at (segment_front p h.2 i h.0 h.1 Pending w h.3) in
         rw (past_pending i h.1 w.taken cut)
         (tale_values_behind p w.between w.taken _ _ w.folds
         (rw w.given.2 at (segments_values h.2 q h.1 l h.5)))

@@ -114,7 +114,7 @@ module _ {X S M K A : Type 0} (over : StreamOver X S M K) where
       record {
         laws = runs_of (flow_laws over fold s.laws);
         steady = λ x y e l m x' y' h k.
-            segmented_alike (fold _) (deterministic _) s _ _
+            segmented_alike _ (deterministic _) s _ _
             _ _ _ _ _ l m e.0 h.segmented
             (rw (← e.1, ← e.2) at k.segmented);
         found = λ n. absurd n;
@@ -127,7 +127,7 @@ module _ {X S M K A : Type 0} (over : StreamOver X S M K) where
       record {
         no_pending = λ x y l k h.
             let g = h.segmented in
-            segments_no_pending (fold _) _ _ g.marks l
+            segments_no_pending _ _ _ g.marks l
             (c.no_pending _ _ g.marks k g.came) g.cut;
         calm_on = λ x y l k h. c.calm_on _ _ h.segmented.marks k h.segmented.came;
       }

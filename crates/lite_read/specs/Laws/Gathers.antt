@@ -25,17 +25,6 @@ pub record KeepLaws {X M R : Type 0} (fold : X → ReadFold M R) (Keeps : X → 
 module _ {X S M R : Type 0} {reader : X → S} {held : X → M} {fold : X → ReadFold M R} {Keeps : X → X → Type 0}
     {reads : Runs ReadMark S} where
   module _ (keeps : KeepLaws fold Keeps) (laws : MarkLaws reads) where
-    gathers_follow : (x y z : X) (l m : List (Poll R)) → Waiting l → Gathers reader held fold Keeps reads x l y
-        → Gathers reader held fold Keeps reads y m z → Gathers reader held fold Keeps reads x (l ++ m) z
-    gathers_follow x y z l m w h k =
-        record {
-          folded = segmented_follow _ laws _ _ _ _ _ _ l m
-              h.folded (rw (keeps.same x y h.stays) at k.folded);
-          ends = waiting_up_to l m w k.ends;
-          stays = keeps.join x y z h.stays k.stays;
-          idle = idle_join x y z l m h.idle k.idle;
-        }
-
     pub gathers_laws : FutureLaws (Gathers reader held fold Keeps reads)
     gathers_laws =
         record {
@@ -46,7 +35,12 @@ module _ {X S M R : Type 0} {reader : X → S} {held : X → M} {fold : X → Re
             idle = λ e. refl;
           };
           stays = λ x y h. h.idle refl;
-          follows = gathers_follow;
+          follows = λ x y z l m w h k. record {
+            folded = segmented_follow _ laws _ _ _ _ _ _ l m h.folded (rw (keeps.same x y h.stays) at k.folded);
+            ends = waiting_up_to l m w k.ends;
+            stays = keeps.join x y z h.stays k.stays;
+            idle = idle_join x y z l m h.idle k.idle;
+          };
           once = λ x y l h. up_to_once l h.ends;
         }
 

@@ -18,9 +18,6 @@ use Rattle.lite_read.specs.Laws.PollSteps.{idle_join, steps_answer}
 use Rattle.lite_read.specs.Segments.{Flows, Segmented, StreamOver}
 use Rattle.lite_read.specs.PieceSteps.{TakesPieceIn}
 
-unbounded : (hint : ℕ × Option ℕ) (n : ℕ) → hint ≡ (0, None) → IfSome hint.1 (λ most. n ≤ most)
-unbounded hint n e = rw e tt
-
 module _ {M R : Type 0} (fold : ReadFold M R) where
   module _ {S : Type 0} {reads : Runs ReadMark S} (laws : MarkLaws reads) where
     pub segmented_none : (s : S) (p : M) → Segmented fold reads s p [] s p
@@ -53,7 +50,7 @@ module _ {X S M K R : Type 0} (over : StreamOver X S M K) (fold : K → ReadFold
     flows_follow l m h k =
         record {
           segmented =
-              segmented_follow (fold _) laws _ _ _ _ _ _ l m h.segmented (rw h.stays at k.segmented);
+              segmented_follow _ laws _ _ _ _ _ _ l m h.segmented (rw h.stays at k.segmented);
           stays = k.stays ∙ h.stays;
           idle = idle_join x y z l m h.idle k.idle;
         }
@@ -64,7 +61,7 @@ module _ {X S M K R : Type 0} (over : StreamOver X S M K) (fold : K → ReadFold
     step_before a t h =
         record {
           segmented =
-              segmented_before (fold _) laws _ _ _ _ _ _ t.taken a t.came t.folds
+              segmented_before _ laws _ _ _ _ _ _ t.taken a t.came t.folds
               (rw t.stays at h.segmented);
           stays = h.stays ∙ t.stays;
           idle = λ e. cc e;
@@ -77,13 +74,13 @@ module _ {X S M K A : Type 0} (over : StreamOver X S M K) (fold : K → ReadFold
   flow_laws =
       record {
         rests = λ x. record {
-          segmented = segmented_none (fold _) laws _ _;
+          segmented = segmented_none _ laws _ _;
           stays = refl;
           idle = λ e. refl;
         };
         stays = λ x y h. h.idle refl;
         follows = flows_follow over fold laws;
-        bounded = λ x y hint l allowed h. unbounded hint _ allowed;
+        bounded = λ x y hint l allowed h. rw allowed tt;
       }
 
   -- what holds of a reader through its runs holds after a run of the stream
