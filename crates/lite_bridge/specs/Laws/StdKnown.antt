@@ -132,7 +132,7 @@ OneContents x y = (known_bytes x ≡ known_bytes y) × SameKnown x y
 one_contents : (x y p q : Option (List ℕ)) (l m : List WriteMark) → SameKnown x y → GainsKnown x l p → GainsKnown y m q
     → bytes_taken l ≡ bytes_taken m → OneContents p q
 one_contents (Some xs) (Some ys) (Some ps) (Some qs) l m e h k same =
-    let one : ps ≡ qs = rw (grows_all _ xs ps l h, grows_all _ ys qs m k, e, same) refl in
+    let one : ps ≡ qs = rw (grows_all _ xs ps l h, grows_all _ ys qs m k, e, same) in
     (one, one)
 one_contents _ _ _ _ l m e h k same = absurd assumption
 

@@ -39,7 +39,7 @@ paced_falls p q i (_ ∷ o) (inr h) g = let e = paced_falls (p.0, p.1 - 1) q h.1
 
 -- pendings aside, what goes out came in
 paced_tale : (p q : ℕ × ℕ) (i o : List ReadMark) → PacesMarks p i o q → strip_marks o ≡ strip_marks i
-paced_tale p q i [] h = rw h.0 refl
+paced_tale p q i [] h = rw h.0
 paced_tale p q i (m ∷ o) (inl h) = rw h.1 (paced_tale (p.0, p.0) q i o h.2)
 paced_tale p q i (ReadMark.pending ∷ o) (inr h) = rw h.2 (paced_tale (p.0, p.0) q h.1 o h.3)
 paced_tale p q i (m ∷ o) (inr h) =
@@ -97,7 +97,7 @@ module _ {R : Type 0} {reads : Runs ReadMark R} where
   }
     where
       falls_by : (n a b : ℕ) → a + n ≡ b → Falls n (a ∷ []) (b ∷ [])
-      falls_by zero a b e = inl (let same : a ≡ b = omega (arith, e) in rw same refl)
+      falls_by zero a b e = inl (let same : a ≡ b = omega (arith, e) in rw same)
       falls_by (suc n) a b e = inl (omega (arith, e), refl)
 
   -- whatever the two budgets are

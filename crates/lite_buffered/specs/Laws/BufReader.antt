@@ -81,7 +81,7 @@ passes_front (suc n) p q came out h = front _ came out _ h
 
 -- without a buffer nothing is ahead
 pub ahead_none : {R : Type 0} (x : BufReader R) → reader_capacity x ≡ 0 → ahead x ≡ []
-ahead_none x none = let nothing : x.end - x.pos ≡ 0 = omega arith in rw nothing refl
+ahead_none x none = let nothing : x.end - x.pos ≡ 0 = omega arith in rw nothing
 
 held_sized : (xs : List ℕ) (k n : ℕ) → length xs ≡ n → length (xs ++ k ∷ []) ≡ n + 1
 held_sized xs k n e = omega (arith, length-append xs (k ∷ []), e)

@@ -32,7 +32,7 @@ through_known k = record {
 
 fits_spends : (limit rest : ℕ) (l : List ReadMark) (xs ys : List ℕ) → WithinLimit limit l rest → TellsKnown xs l ys
     → TellsKnown (take limit xs) l (take rest ys)
-fits_spends limit rest [] xs ys f h = rw (f, h) refl
+fits_spends limit rest [] xs ys f h = rw (f, h)
 fits_spends (suc n) rest (ReadMark.byte b ∷ l) xs ys f h =
     (take n h.0, ap (take (suc n)) h.1, fits_spends n rest l h.0 ys f h.2)
 fits_spends (suc n) rest (ReadMark.pending ∷ l) xs ys f h = fits_spends _ rest l xs ys f h

@@ -109,7 +109,7 @@ module _ {W : Type 0} {writes : Runs WriteMark W} where
         steady = λ x y x' y' l m e h k a b f g same.
             let p = flushed writes x x' l a f h in
             let q = flushed writes y y' m b g k in
-            let bytes : bytes_taken p.taken ≡ bytes_taken q.taken = rw (p.bytes, q.bytes, e.0, same) refl in
+            let bytes : bytes_taken p.taken ≡ bytes_taken q.taken = rw (p.bytes, q.bytes, e.0, same) in
             let inner = s.steady x.inner y.inner x'.inner y'.inner p.taken q.taken e.1 p.ran q.ran p.none q.none p.last
             q.last bytes in
             (inner.0, (p.empty ∙ sym q.empty, inner.1));

@@ -54,12 +54,12 @@ module _ {R : Type 0} {reads : Runs ReadMark R} where
   joined : (x y z : Take R) (l m : List ReadMark) (a : TakesMarks reads x l y) (b : TakesMarks reads y m z)
       (e : List ReadMark) → a.ends ≡ e
       → (l ++ m ≡ (a.front ++ b.front) ++ (a.ends ++ b.ends)) × LimitEnds z.limit (a.ends ++ b.ends)
-  joined x y z l m a b [] is = rw is (rw (a.cut, is, append-nil, b.cut, append_assoc) refl, b.used_up)
+  joined x y z l m a b [] is = rw is (rw (a.cut, is, append-nil, b.cut, append_assoc), b.used_up)
   joined x y z l m a b (e ∷ es) is =
       let after = rw is at a.used_up in
       let none = fits_none y.limit z.limit b.front after.0 b.fits in
       let same : y.limit ≡ z.limit = after.0 ∙ sym none.1 in (
-        rw (a.cut, b.cut, none.0, append-nil, append_assoc) refl,
+        rw (a.cut, b.cut, none.0, append-nil, append_assoc),
         ends_both z.limit a.ends b.ends (rw (← same) a.used_up) b.used_up,
       )
 

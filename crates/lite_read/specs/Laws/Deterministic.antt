@@ -20,14 +20,14 @@ use Rattle.lite_read.specs.Deterministic.{IsDeterministic, TaleValues}
 -- some bytes, and then a pending
 pub past_pending : (marks rest : List ReadMark) (xs : List ℕ) → marks ≡ bytes xs ++ ReadMark.pending ∷ rest
     → strip_marks marks ≡ bytes xs ++ strip_marks rest
-past_pending marks rest xs cut = rw (cut, strip_marks-append, strip_marks-bytes) refl
+past_pending marks rest xs cut = rw (cut, strip_marks-append, strip_marks-bytes)
 
 -- some bytes, and then marks that are no pending
 pub past_value : (marks last rest : List ReadMark) (xs : List ℕ) → NoPendingRead last
     → marks ≡ bytes xs ++ (last ++ rest)
     → strip_marks marks ≡ bytes xs ++ (last ++ strip_marks rest)
 past_value marks last rest xs now cut =
-    rw (cut, strip_marks-append, strip_marks-bytes, strip_marks-append, stripped_no_pending last now) refl
+    rw (cut, strip_marks-append, strip_marks-bytes, strip_marks-append, stripped_no_pending last now)
 
 comparable_front : (l k m : List ReadMark) → Comparable (l ++ k) m → Comparable l m
 comparable_front (a ∷ l) k (b ∷ m) c = (c.0, comparable_front l k m c.1)
@@ -133,7 +133,7 @@ module _ {All : Type 0} {Taken : ReadMark → Type 0} where
   same_marks (GivenBy.at_none all) (GivenBy.at_none again) c = refl
   same_marks (GivenBy.at_none all) (GivenBy.at_mark m more other now) c = absurd (more all)
   same_marks (GivenBy.at_mark m more other now) (GivenBy.at_none all) c = absurd (more all)
-  same_marks (GivenBy.at_mark m more other now) (GivenBy.at_mark n _ _ _) c = rw c.0 refl
+  same_marks (GivenBy.at_mark m more other now) (GivenBy.at_mark n _ _ _) c = rw c.0
 
 module _ {M R : Type 0} (fold : ReadFold M R) where
   -- a byte's mark, where it is taken in

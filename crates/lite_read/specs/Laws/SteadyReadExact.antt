@@ -29,7 +29,7 @@ given_by g _ v h = absurd h
 
 one_value : (g : Filling) (l : List ReadMark) (v w : Result (Unit {0}) Error) → Fulfils g l v → Fulfils g l w
     → SameByKind v w
-one_value g [] v w h k = rw (h.1, k.1) refl
+one_value g [] v w h k = rw (h.1, k.1)
 one_value g (ReadMark.end ∷ []) (Err e) (Err f) h k = h.1 ∙ sym k.1
 one_value g (ReadMark.fault kind ∷ []) (Err e) (Err f) h k = h.1 ∙ sym k.1
 one_value g _ v w h k = absurd assumption

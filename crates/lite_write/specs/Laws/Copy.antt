@@ -36,7 +36,7 @@ told_both = flat_map-append byte_in
 
 filtered_both : {A : Type 0} (test : A → Bool) (l m : List A)
     → length (filter test (l ++ m)) ≡ length (filter test l) + length (filter test m)
-filtered_both test l m = rw (filter-append, length-append) refl
+filtered_both test l m = rw (filter-append, length-append)
 
 goes_both : (l m : List ReadMark) → BytesAlone l → BytesAlone m → BytesAlone (l ++ m)
 goes_both [] m h k = k
@@ -89,7 +89,7 @@ module _ (p q r : List ℕ) (a b c : List ReadMark) (i j : List ReadMark) (s t :
       record {
         read = f.read ++ d.read;
         goes_on = goes_both f.read d.read f.goes_on d.goes_on;
-        cut = rw (← append_assoc, f.cut, none.0, append-nil, append_assoc, d.cut, append_assoc) refl;
+        cut = rw (← append_assoc, f.cut, none.0, append-nil, append_assoc, d.cut, append_assoc);
       }
 
   writing_both : TakesUpTo (s ++ t) g.last
@@ -99,14 +99,14 @@ module _ (p q r : List ℕ) (a b c : List ReadMark) (i j : List ReadMark) (s t :
       record {
         written = f.written ++ d.written;
         takes_some = some_both f.written d.written f.takes_some d.takes_some;
-        cut = rw (f.cut, none.1, append-nil, d.cut, append_assoc) refl;
+        cut = rw (f.cut, none.1, append-nil, d.cut, append_assoc);
       }
 
   balanced_both : p ++ bytes_told (i ++ j) ≡ bytes_taken (s ++ t) ++ r
-  balanced_both = rw (told_both i j, ← append_assoc, h.balanced, append_assoc, g.balanced, taken_both s t, append_assoc) refl
+  balanced_both = rw (told_both i j, ← append_assoc, h.balanced, append_assoc, g.balanced, taken_both s t, append_assoc)
 
   same_value : strip m ≡ strip (l ++ m)
-  same_value = rw (strip_join l m, waiting_strip l w) refl
+  same_value = rw (strip_join l m, waiting_strip l w)
 
   pub copied_both : Copied p a (i ++ j) (s ++ t) (l ++ m) r c k
   copied_both =

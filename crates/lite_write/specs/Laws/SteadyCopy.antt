@@ -93,8 +93,8 @@ AllTold (v ∷ l) held tale = TaleOfValue v held tale × (l ≡ [])
 
 stopped : (read tale : List ReadMark) (v : SteadyCopyResult) → BytesAlone read → tale ≡ read ++ stop_of v ∷ []
     → strip_marks tale ≡ bytes (bytes_told read) ++ stop_of v ∷ []
-stopped read tale (Ok n) on cut = rw (cut, strip_marks-append, goes_stripped read on) refl
-stopped read tale (Err e) on cut = rw (cut, strip_marks-append, goes_stripped read on) refl
+stopped read tale (Ok n) on cut = rw (cut, strip_marks-append, goes_stripped read on)
+stopped read tale (Err e) on cut = rw (cut, strip_marks-append, goes_stripped read on)
 
 -- an error where no write failed is one of the reader
 reader_failed : (e : Error) (fault : List ReadMark) (last : List WriteMark) (after : List ℕ) (met : List ReadMark)

@@ -28,7 +28,7 @@ same_end : (p q : List ReadMark) → EndlessMarks p → EndlessMarks q
 same_end [] [] n o c = refl
 same_end [] (b ∷ q) n o c = absurd (o.0 (sym c.0))
 same_end (a ∷ p) [] n o c = absurd (n.0 c.0)
-same_end (a ∷ p) (b ∷ q) n o c = rw (c.0, same_end p q n.1 o.1 c.1) refl
+same_end (a ∷ p) (b ∷ q) n o c = rw (c.0, same_end p q n.1 o.1 c.1)
 
 -- two that are at one place, over readers that are alike
 abbrev pub PlaceAlike : {R S : Type 0} → (R → R → Type 0) → (S → S → Type 0) → Chain R S → Chain R S → Type 0
