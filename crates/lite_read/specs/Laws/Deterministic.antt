@@ -11,7 +11,7 @@ use Rattle.lite_base.specs.Segments.{Segments}
 use Rattle.lite_io_base.specs.Laws.Steady.{comparable_fronts, comparable_rest, comparable_swapped, no_wait_parts}
 use Rattle.lite_io_base.specs.Laws.Steady.{strip_marks-append, strip_marks-bytes, stripped_no_pending}
 use Rattle.lite_io_base.specs.Marks.{ReadMark, bytes}
-use Rattle.lite_io_base.specs.Steady.{NoPendingRead, SteadyReadLaws, strip_marks}
+use Rattle.lite_io_base.specs.Steady.{CalmReadLaws, NoPendingRead, SteadyReadLaws, strip_marks}
 use Rattle.lite_read.specs.ReadFold.{AnswerMarks, ReadFold, Segmented}
 use Rattle.lite_base.specs.Laws.Calls.{folds_follow}
 use Rattle.lite_base.specs.Laws.Segments.{segment_front}
@@ -113,6 +113,13 @@ module _ {M R : Type 0} (fold : ReadFold M R) where
       absurd (subst NoPendingRead h.4.given.0 last.1)
   segments_no_pending p q i (Ready v ∷ l) n h =
       segments_no_pending h.2 q h.1 l (no_wait_parts h.0 h.1 (subst NoPendingRead h.3 n)).1 h.5
+
+  -- over a calm reader, which stays so
+  pub segmented_calm : {S : Type 0} {reads : Runs ReadMark S} {is_calm : S → Type 0} (x y : S) (p q : M)
+      (l : List (Poll R)) → CalmReadLaws reads is_calm → is_calm x → Segmented fold reads x p l y q
+      → NoPending l × is_calm y
+  segmented_calm x y p q l c k h =
+      (segments_no_pending p q h.marks l (c.no_pending x y h.marks k h.came) h.cut, c.calm_on x y h.marks k h.came)
 
 -- the marks by which a value is given: none, where all is there, or one that is no pending and is not taken in
 pub data GivenBy (All : Type 0) (Taken : ReadMark → Type 0) : List ReadMark → Type 0 where

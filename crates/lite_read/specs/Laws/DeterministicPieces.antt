@@ -14,7 +14,7 @@ use Rattle.lite_base.specs.Runs.{Runs}
 use Rattle.lite_io_base.specs.Marks.{ReadMark}
 use Rattle.lite_io_base.specs.Steady.{CalmReadLaws, NoPendingRead, SteadyReadLaws}
 use Rattle.lite_read.specs.ReadFold.{ReadFold}
-use Rattle.lite_read.specs.Laws.Deterministic.{GivenBy, TakenAt, deterministic_by, segmented_alike, segments_no_pending}
+use Rattle.lite_read.specs.Laws.Deterministic.{GivenBy, TakenAt, deterministic_by, segmented_alike, segmented_calm}
 use Rattle.lite_read.specs.Deterministic.{IsDeterministic, SameOr}
 use Rattle.lite_read.specs.Laws.Segments.{flow_laws}
 use Rattle.lite_read.specs.Pieces.{Cut, CutsPiece, Itemised, pieces}
@@ -125,9 +125,6 @@ module _ {X S M K A : Type 0} (over : StreamOver X S M K) where
       → CalmLaws (Flows over fold reads) (λ x. is_calm (over.reader x))
   flow_calm fold c =
       record {
-        no_pending = λ x y l k h.
-            let g = h.segmented in
-            segments_no_pending _ _ _ g.marks l
-            (c.no_pending _ _ g.marks k g.came) g.cut;
-        calm_on = λ x y l k h. c.calm_on _ _ h.segmented.marks k h.segmented.came;
+        no_pending = λ x y l k h. (segmented_calm _ _ _ _ _ l c k h.segmented).0;
+        calm_on = λ x y l k h. (segmented_calm _ _ _ _ _ l c k h.segmented).1;
       }

@@ -10,7 +10,7 @@ use Rattle.lite_io_base.specs.Marks.{ReadMark}
 use Rattle.lite_io_base.specs.Runs.{MarkLaws}
 use Rattle.lite_io_base.specs.Steady.{CalmReadLaws, SteadyReadLaws}
 use Rattle.lite_read.specs.Deterministic.{IsDeterministic}
-use Rattle.lite_read.specs.Laws.Deterministic.{segmented_alike, segments_no_pending}
+use Rattle.lite_read.specs.Laws.Deterministic.{segmented_alike, segmented_calm}
 use Rattle.lite_read.specs.Laws.PollSteps.{idle_join}
 use Rattle.lite_read.specs.Laws.Segments.{segmented_before, segmented_follow, segmented_none}
 use Rattle.lite_read.specs.PollSteps.{TakesBytes}
@@ -74,9 +74,6 @@ module _ {X S M R : Type 0} {reader : X → S} {held : X → M} {fold : X → Re
       → CalmLaws (Gathers reader held fold Keeps reads) (λ x. is_calm (reader x))
   gathers_calm c =
       record {
-        no_pending = λ x y l k h.
-            let g = h.folded in
-            segments_no_pending _ _ _ g.marks l
-            (c.no_pending _ _ g.marks k g.came) g.cut;
-        calm_on = λ x y l k h. c.calm_on _ _ h.folded.marks k h.folded.came;
+        no_pending = λ x y l k h. (segmented_calm _ _ _ _ _ l c k h.folded).0;
+        calm_on = λ x y l k h. (segmented_calm _ _ _ _ _ l c k h.folded).1;
       }

@@ -84,22 +84,18 @@ module _ (p q r : List ℕ) (a b c : List ReadMark) (i j : List ReadMark) (s t :
 
   reading_both : TellsUpTo (a ++ (i ++ j)) (c ++ g.failed)
   reading_both =
-      let f = h.reading in
-      let d = g.reading in
       record {
-        read = f.read ++ d.read;
-        goes_on = goes_both f.read d.read f.goes_on d.goes_on;
-        cut = rw (← append_assoc, f.cut, none.0, append-nil, append_assoc, d.cut, append_assoc);
+        read = h.reading.read ++ g.reading.read;
+        goes_on = goes_both h.reading.read g.reading.read h.reading.goes_on g.reading.goes_on;
+        cut = rw (← append_assoc, h.reading.cut, none.0, append-nil, append_assoc, g.reading.cut, append_assoc);
       }
 
   writing_both : TakesUpTo (s ++ t) g.last
   writing_both =
-      let f = h.writing in
-      let d = g.writing in
       record {
-        written = f.written ++ d.written;
-        takes_some = some_both f.written d.written f.takes_some d.takes_some;
-        cut = rw (f.cut, none.1, append-nil, d.cut, append_assoc);
+        written = h.writing.written ++ g.writing.written;
+        takes_some = some_both h.writing.written g.writing.written h.writing.takes_some g.writing.takes_some;
+        cut = rw (h.writing.cut, none.1, append-nil, g.writing.cut, append_assoc);
       }
 
   balanced_both : p ++ bytes_told (i ++ j) ≡ bytes_taken (s ++ t) ++ r
