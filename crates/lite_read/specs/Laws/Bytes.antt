@@ -8,7 +8,7 @@ use Rattle.lite_base.specs.Laws.Falling.{Lowers-below}
 use Rattle.lite_base.specs.Laws.Hint.{same_hint}
 use Rattle.lite_base.specs.Rank.{Below, Lowers}
 use Rattle.lite_base.specs.Ranks.{Counting, Ranks, ranks_of}
-use Rattle.lite_base.specs.StreamLaws.{RunLaws as StreamRunLaws, StreamLaws}
+use Rattle.lite_base.specs.StreamLaws.{StreamLaws}
 use Rattle.lite_base.specs.Laws.StreamLaws.{laws_of}
 use Rattle.lite_base.specs.Runs.{NoHint, Runs}
 use Rattle.lite_io_base.specs.Counting.{ReadCounting}

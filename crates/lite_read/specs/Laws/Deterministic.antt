@@ -1,5 +1,5 @@
 -- What is gathered of one tale is the same wherever its pendings stand.
-use Rattle.std.proofs.Common.{◌≡◌, ◌∙◌, ℕ, List, [], ◌∷◌, ◌++◌, refl, sym, ap, subst, append_assoc, append-nil}
+use Rattle.std.proofs.Common.{◌≡◌, ℕ, List, [], ◌∷◌, ◌++◌, refl, subst, append_assoc}
 use Rattle.std.proofs.lemmas.List.{map-append}
 use Rattle.std.specs.List.{FoldsTo}
 use Rattle.futures.specs.declared.task.Poll.{Poll}

@@ -1,9 +1,7 @@
 -- Laws of streams over what a reader tells.
-use Rattle.std.proofs.Common.{◌≡◌, ◌∙◌, ◌≤◌, ℕ, List, [], ◌∷◌, ◌++◌, Option, None, refl}
-use Rattle.std.specs.Prelude.{IfSome}
+use Rattle.std.proofs.Common.{◌∙◌, ℕ, List, [], ◌∷◌, ◌++◌, Option, refl}
 use Rattle.std.specs.List.{FoldsTo}
 use Rattle.futures.specs.declared.task.Poll.{Poll}
-use Rattle.lite_base.specs.Answers.{before_end}
 use Rattle.lite_base.specs.Chain.{Reaches}
 use Rattle.lite_base.specs.Laws.Segments.{segments_join}
 use Rattle.lite_base.specs.StreamLaws.{StreamLaws}
@@ -12,7 +10,7 @@ use Rattle.lite_base.specs.Ranks.{Ranks}
 use Rattle.lite_io_base.specs.Counting.{ReadCounting}
 use Rattle.lite_io_base.specs.Marks.{ReadMark, bytes}
 use Rattle.lite_io_base.specs.Runs.{MarkLaws}
-use Rattle.lite_read.specs.ReadFold.{AnswerMarks, ReadFold}
+use Rattle.lite_read.specs.ReadFold.{ReadFold}
 use Rattle.lite_read.specs.Laws.ReadFold.{answers_before}
 use Rattle.lite_read.specs.Laws.PollSteps.{idle_join, steps_answer}
 use Rattle.lite_read.specs.Segments.{Flows, Segmented, StreamOver}
