@@ -142,8 +142,7 @@ pub gains_steady : {S : Type 0} (contents : S → Option (List ℕ))
     (λ x y. SameKnown (contents x) (contents y)) (λ x. known_bytes (contents x))
 gains_steady contents =
     record {
-      steady = λ x y x' y' l m e h k a b f g same. one_contents _ _ _
-          _ l m e h k same;
+      steady = λ x y x' y' l m e h k a b f g same. one_contents _ _ _ _ l m e h k same;
     }
 
 -- Calls of std's traits, after calls that failed and so kept what is known.

@@ -40,8 +40,7 @@ module _ {T : Type 0} (bytes : T → List ℕ) {puts : T → ℕ → List ℕ �
       let first = put x.inner x.position xs h.0.inner h.1.0 in
       let at : h.0.position ≡ x.position + length xs = h.1.1 in
       record {
-        all = puts_more _ _ _ x.position xs _ first
-            (rw (← at) rest.all);
+        all = puts_more _ _ _ x.position xs _ first (rw (← at) rest.all);
         place = omega (arith, rest.place, at, length-append xs (bytes_taken l));
       }
   puts_all x y (WriteMark.fault kind ∷ l) h =
@@ -66,8 +65,7 @@ module _ {T : Type 0} (bytes : T → List ℕ) {puts : T → ℕ → List ℕ �
         steady = λ x y x' y' l m e h k a b f g same.
             let p = puts_all x x' l h in
             let q = puts_all y y' m k in
-            let one = puts_one _ _ _ y.position
-            _ (rw (e.0, e.1, same) at p.all) q.all in
+            let one = puts_one _ _ _ y.position _ (rw (e.0, e.1, same) at p.all) q.all in
             let place : x'.position ≡ y'.position = omega (arith, p.place, q.place, e.1, ap length same) in
             (one, (one, place));
       }

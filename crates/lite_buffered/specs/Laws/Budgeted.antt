@@ -15,7 +15,7 @@ use Rattle.lite_io_base.specs.Steady.{SteadyReadLaws, strip_marks}
 use Rattle.lite_io_base.specs.SteadyWrite.{CalmWriteLaws, SteadyWriteLaws}
 use Rattle.lite_io_base.specs.Takings.{WriteMark}
 use Rattle.lite_buffered.specs.Budgeted.{BudgetsMarks, PacesMarks, WritesWithin, budgeted_lent, budgeted_ranks}
-use Rattle.lite_buffered.specs.Budgeted.{left_behind_mark, left_noted, left_of, lent_noted}
+use Rattle.lite_buffered.specs.Budgeted.{left_behind_mark, left_noted, lent_noted}
 use Rattle.lite_buffered.specs.declared.budgeted.Budgeted.{Budgeted}
 
 -- what may be lent of what came in is the front of what goes out

@@ -5,7 +5,6 @@ use Rattle.lite_base.specs.Ranks.{Ranks}
 use Rattle.lite_base.specs.Runs.{Runs}
 use Rattle.lite_io_base.specs.Counting.{ReadCounting}
 use Rattle.lite_io_base.specs.Takings.{WriteMark}
-use Rattle.lite_io_base.specs.Falls.{Falls}
 use Rattle.lite_io_base.specs.Laws.Falls.{falls_held}
 use Rattle.lite_io_base.specs.Laws.Marks.{bytes_given, given-append, given-bytes, given_all, given_both, given_parts}
 use Rattle.lite_io_base.specs.Marks.{AllGiven, ReadMark, bytes, given}
@@ -93,8 +92,7 @@ module _ {R : Type 0} {reads : Runs ReadMark R} where
       came = [];
       ran = laws.rests x.inner;
       capacity = refl;
-      passes = passes_of _ _ [] [] (ahead x) (append-nil (bytes _))
-          (λ none. (ahead_none x none, ahead_none x none));
+      passes = passes_of _ _ [] [] (ahead x) (append-nil (bytes _)) (λ none. (ahead_none x none, ahead_none x none));
     };
     follows = λ x y z l m a b.
         let next = rw a.capacity at b.passes in

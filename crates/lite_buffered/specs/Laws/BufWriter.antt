@@ -3,9 +3,7 @@ use Rattle.std.proofs.Common.{◌≡◌, ◌∙◌, ℕ, List, [], ◌∷◌, �
 use Rattle.lite_io_base.specs.Laws.Takings.{taken_both}
 use Rattle.lite_io_base.specs.Runs.{MarkLaws}
 use Rattle.lite_io_base.specs.Takings.{WriteMark, bytes_in, bytes_taken}
-use Rattle.lite_buffered.specs.declared.buf_writer.BufWriter.{BufWriter}
 use Rattle.lite_buffered.specs.BufWriter.{Balanced, Buffers, TakesHeld, WriterAnswers, WriterSegment}
-use Rattle.lite_buffered.specs.BufWriter.{unwritten}
 use Rattle.lite_base.specs.Laws.Segments.{segments_join}
 use Rattle.lite_base.specs.Runs.{Runs}
 

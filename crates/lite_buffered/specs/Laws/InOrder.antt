@@ -1,9 +1,9 @@
 use Rattle.std.proofs.Common.{[], ◌∷◌, refl, append-nil}
 use Rattle.lite_io_base.specs.Marks.{ReadMark, bytes}
-use Rattle.lite_io_base.specs.Parts.{Part, reading_of}
+use Rattle.lite_io_base.specs.Parts.{Part}
 use Rattle.lite_io_base.specs.Takings.{WriteMark}
 use Rattle.lite_buffered.specs.declared.buf_reader.BufReader.{BufReader}
-use Rattle.lite_buffered.specs.BufReader.{ahead, reader_capacity}
+use Rattle.lite_buffered.specs.BufReader.{ahead}
 use Rattle.lite_buffered.specs.InOrder.{KeepsOrder}
 use Rattle.lite_buffered.specs.Laws.BufReader.{ahead_none, passes_both, passes_of}
 use Rattle.lite_base.specs.Runs.{Runs}
@@ -20,8 +20,7 @@ module _ {R : Type 0} (reads : Runs ReadMark R) (writes : Runs WriteMark R) wher
         Part.reading a.came ∷ r.0,
         (z.inner, a.ran, r.1),
         r.2,
-        passes_both _ _ _ _ a.came l _ _
-            a.passes next,
+        passes_both _ _ _ _ a.came l _ _ a.passes next,
       )
   in_order x (Part.writing l ∷ ps) y (z, a, h) =
       let r = in_order z ps y h in

@@ -1,10 +1,9 @@
-use Rattle.std.proofs.Common.{◌≡◌, ◌∙◌, ℕ, zero, suc, List, [], ◌∷◌, ◌++◌, length, take, refl, sym, ap, subst, arith}
+use Rattle.std.proofs.Common.{◌≡◌, ◌∙◌, ℕ, zero, suc, List, [], ◌∷◌, ◌++◌, take, refl, sym, ap, subst, arith}
 use Rattle.std.proofs.Common.{append_assoc, append-nil}
 use Rattle.lite_base.specs.Answers.{Comparable}
 use Rattle.lite_base.specs.Ranks.{Ranks, ranks_of}
 use Rattle.lite_base.specs.Runs.{Runs}
 use Rattle.lite_io_base.specs.Counting.{ReadCounting}
-use Rattle.lite_io_base.specs.Falls.{Falls}
 use Rattle.lite_io_base.specs.Laws.Marks.{given-append, given_parts}
 use Rattle.lite_io_base.specs.Laws.Steady.{comparable_none}
 use Rattle.lite_io_base.specs.Marks.{AllGiven, ReadMark, bytes, given}
@@ -89,8 +88,7 @@ module _ {R : Type 0} {reads : Runs ReadMark R} where
 
   pub takes_show : (lent : R → List ℕ) → Shows reads lent → Shows (TakesMarks reads) (λ x. take x.limit (lent x.inner))
   takes_show lent shows x y l h =
-      rw h.cut
-      (fits_show x.limit y.limit _ h.front h.ends h.fits h.used_up (shows x.inner y.inner h.front h.ran))
+      rw h.cut (fits_show x.limit y.limit _ h.front h.ends h.fits h.used_up (shows x.inner y.inner h.front h.ran))
 
   module _ {r : Ranks R} (c : ReadCounting reads r) where
     pub takes_counting : ReadCounting (TakesMarks reads) (ranks_of (λ (x : Take R). x.inner) r)

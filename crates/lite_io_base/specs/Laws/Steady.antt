@@ -111,8 +111,7 @@ told_stripped (_ ∷ x) y (a ∷ l) h = rw h.0 (refl, told_stripped x y l h.1)
 pub told_one_tale : (t u x y l m : List ReadMark) → strip_marks t ≡ strip_marks u → TellsScript t l x
     → TellsScript u m y → Comparable (strip_marks l) (strip_marks m)
 told_one_tale t u x y l m same h k =
-    told_comparable _ _ (strip_marks y) _ _
-    (rw same at (told_stripped t x l h)) (told_stripped u y m k)
+    told_comparable _ _ (strip_marks y) _ _ (rw same at (told_stripped t x l h)) (told_stripped u y m k)
 
 -- no pending to come, then none came
 pub told_no_wait : (t x l : List ReadMark) → NoPendingRead t → TellsScript t l x → NoPendingRead l × NoPendingRead x

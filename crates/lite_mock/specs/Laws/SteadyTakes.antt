@@ -1,10 +1,8 @@
 -- A `Takes` leaves what was taken, however often it was pending.
-use Rattle.std.proofs.Common.{◌≡◌, ◌∙◌, List, [], ◌∷◌, ◌++◌, inl, inr, ap, subst, sym, append-nil, append_assoc}
+use Rattle.std.proofs.Common.{◌≡◌, List, [], ◌∷◌, ◌++◌, inl, inr, append-nil, append_assoc}
 use Rattle.lite_io_base.specs.SteadyWrite.{CalmWriteLaws, SteadyWriteLaws}
 use Rattle.lite_io_base.specs.Takings.{WriteMark, bytes_taken}
 use Rattle.lite_mock.specs.Takes.{AllObey, Orders}
-use Rattle.lite_mock.specs.declared.takes.Order.{Order}
-use Rattle.lite_mock.specs.declared.takes.Order.TheVariants.{AtMost, Wait, Fail}
 use Rattle.lite_mock.specs.SteadyTakes.{BothOrders, NoPendingOrder}
 
 all_taken : (x y : Orders) (l : List WriteMark) → AllObey x l y → y.taken ≡ x.taken ++ bytes_taken l

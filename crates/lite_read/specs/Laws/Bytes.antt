@@ -76,8 +76,7 @@ module _ {R : Type 0} {reads : Runs ReadMark R} where
         falls = λ x y a more k h.
             let e = tells_items h.marks (a ∷ more) h.told in
             subst (λ n. Falls n (r.rank y.inner) (r.rank x.inner)) e.1 (c.falls x.inner y.inner h.marks k e.0 h.came);
-        lowers = λ x y l k h. tells_lower h.marks l _ _ h.told
-            (c.lowers x.inner y.inner h.marks k h.came);
+        lowers = λ x y l k h. tells_lower h.marks l _ _ h.told (c.lowers x.inner y.inner h.marks k h.came);
       }
 
   -- it is read as its reader is

@@ -104,8 +104,7 @@ module _ {X S K A : Type 0} (over : StreamOver X S (List ℕ) K) (byte : K → �
       let s = h.segmented in
       let out =
       segments_out _ may_refuse whole final _ _ s.marks l s.cut in
-      out.2 _ _
-      (falls_held _ out.0 (length _) (length _) (r.rank _)
+      out.2 _ _ (falls_held _ out.0 (length _) (length _) (r.rank _)
       (r.rank _) (counting.lowers _ _ s.marks f s.came) out.1)
 
   firm_still : (x y : X) (l : List (Answer (Result A Error))) → r.firm (over.reader x)

@@ -52,15 +52,13 @@ module _ {M R : Type 0} (fold : ReadFold M R) where
     segments_values p q i (Pending ∷ l) h =
         let w = h.4 in
         let cut = rw w.given.0 at (segment_front p h.2 i h.0 h.1 Pending w h.3) in
-        rw (past_pending i h.1 w.taken cut)
-        (tale_values_behind p w.between w.taken _ _ w.folds
+        rw (past_pending i h.1 w.taken cut) (tale_values_behind p w.between w.taken _ _ w.folds
         (rw w.given.2 at (segments_values h.2 q h.1 l h.5)))
     segments_values p q i (Ready r ∷ l) h =
         let c = h.4 in
         let cut = segment_front p h.2 i h.0 h.1 _ c h.3 in
         rw (past_value i c.last h.1 c.taken (s.at_once c.between h.2 c.last r c.given) cut)
-        (TaleValues.next p c.between h.2 c.taken c.last _ r _ c.folds c.given
-        (segments_values h.2 q h.1 l h.5))
+        (TaleValues.next p c.between h.2 c.taken c.last _ r _ c.folds c.given (segments_values h.2 q h.1 l h.5))
 
     -- the first values of tales that begin one another
     aligned : (p x y q r : M) (xs ys : List ℕ) (l m k n : List ReadMark) (v w : R) → FoldsTo fold.takes p xs x

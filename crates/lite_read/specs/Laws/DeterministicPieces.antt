@@ -113,9 +113,7 @@ module _ {X S M K A : Type 0} (over : StreamOver X S M K) where
       record {
         laws = runs_of (flow_laws over fold s.laws);
         steady = λ x y e l m x' y' h k.
-            segmented_alike _ (deterministic _) s _ _
-            _ _ _ _ _ l m e.0 h.segmented
-            (rw (← e.1, ← e.2) at k.segmented);
+            segmented_alike _ (deterministic _) s _ _ _ _ _ _ _ l m e.0 h.segmented (rw (← e.1, ← e.2) at k.segmented);
         found = λ n. absurd n;
       }
 

@@ -53,8 +53,7 @@ module _ {X S M R : Type 0} {reader : X → S} {held : X → M} {fold : X → Re
       let stays = kept x y t.stays in
       record {
         folded =
-            segmented_before _ laws _ _ _ _ _ _ t.taken a
-            t.came t.folds (rw (keeps.same x y stays) at h.folded);
+            segmented_before _ laws _ _ _ _ _ _ t.taken a t.came t.folds (rw (keeps.same x y stays) at h.folded);
         ends = h.ends;
         stays = keeps.join x y z stays h.stays;
         idle = λ e. cc e;
@@ -67,8 +66,7 @@ module _ {X S M R : Type 0} {reader : X → S} {held : X → M} {fold : X → Re
       → (l m : List (Poll R)) (x' y' : X) → Gathers reader held fold Keeps ample x l x'
       → Gathers reader held fold Keeps ample y m y' → ComparableBy same (strip l) (strip m)
   gathers_alike one s x y e d f l m x' y' h k =
-      segmented_alike _ (one x) s _ _ _ _ _ _ _
-      l m e h.folded (rw (f, ← d) at k.folded)
+      segmented_alike _ (one x) s _ _ _ _ _ _ _ l m e h.folded (rw (f, ← d) at k.folded)
 
   pub gathers_calm : {is_calm : S → Type 0} → CalmReadLaws reads is_calm
       → CalmLaws (Gathers reader held fold Keeps reads) (λ x. is_calm (reader x))

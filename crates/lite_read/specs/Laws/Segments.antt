@@ -59,8 +59,7 @@ module _ {X S M K R : Type 0} (over : StreamOver X S M K) (fold : K → ReadFold
     step_before a t h =
         record {
           segmented =
-              segmented_before _ laws _ _ _ _ _ _ t.taken a t.came t.folds
-              (rw t.stays at h.segmented);
+              segmented_before _ laws _ _ _ _ _ _ t.taken a t.came t.folds (rw t.stays at h.segmented);
           stays = h.stays ∙ t.stays;
           idle = λ e. cc e;
         }

@@ -84,8 +84,7 @@ module _ {R : Type 0} {reads ample : Runs ReadMark R} {needs_none : Type 0} {ali
       record {
         laws = runs_of (bytes_laws s.laws);
         steady = λ x y e l m x' y' h k.
-            say_same (strip_marks h.marks) (strip_marks k.marks) _ _ (said h.marks l h.told)
-            (said k.marks m k.told)
+            say_same (strip_marks h.marks) (strip_marks k.marks) _ _ (said h.marks l h.told) (said k.marks m k.told)
             (s.steady x.inner y.inner x'.inner y'.inner h.marks k.marks e h.came k.came);
         found = λ n x y l h. record {
           marks = h.marks;

@@ -1,5 +1,5 @@
 -- Laws of `copy`.
-use Rattle.std.proofs.Common.{◌≡◌, ◌∙◌, ◌<◌, ◌+◌, ◌%◌, ◌^◌, ℕ, Bool, List, [], ◌∷◌, ◌++◌, length, Result, Ok, refl, ap, sym}
+use Rattle.std.proofs.Common.{◌≡◌, ◌∙◌, ◌<◌, ◌+◌, ◌%◌, ◌^◌, ℕ, Bool, List, [], ◌∷◌, ◌++◌, length, Result, Ok, refl, ap}
 use Rattle.std.proofs.Common.{arith, append-nil, append_assoc, length-append}
 use Rattle.std.proofs.Math.Nat.{mod-add-mod}
 use Rattle.std.proofs.lemmas.Grind.{flat_map-append}
@@ -25,7 +25,6 @@ use Rattle.lite_write.specs.Copy.{Copied, CopyRuns, CopyValue, Moves}
 use Rattle.lite_write.specs.Copying.{CopiesSome}
 use Rattle.lite_write.specs.MarkLists.{BytesAlone, TakesSome, TakesUpTo, TellsUpTo, byte_in, bytes_told, is_taken_wait}
 use Rattle.lite_write.specs.MarkLists.{is_told_wait}
-use Rattle.lite_write.specs.Parts.{held_of, met_in, source_of}
 use Rattle.lite_write.specs.declared.copy.CopyFuture.{CopyFuture}
 
 abbrev CopyResult : Type 0
@@ -150,8 +149,7 @@ module _ {R W : Type 0} where
           took = h.took ++ k.took;
           came = rl.follows _ _ _ h.told k.told h.came k.came;
           went = wl.follows x.writer y.writer z.writer h.took k.took h.went k.went;
-          copied = copied_both _ _ _ _ _
-              _ h.told k.told h.took k.took l m y.amount z.amount w h.copied k.copied;
+          copied = copied_both _ _ _ _ _ _ h.told k.told h.took k.took l m y.amount z.amount w h.copied k.copied;
           counted = counted_both x.amount y.amount z.amount h.took k.took h.counted k.counted;
         }
 

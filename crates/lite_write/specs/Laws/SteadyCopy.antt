@@ -5,7 +5,6 @@ use Rattle.std.proofs.Common.{◌≡◌, ◌∙◌, ◌+◌, ◌%◌, ◌^◌, �
 use Rattle.std.proofs.Common.{arith, append-nil, length-append}
 use Rattle.std.specs.IoError.{error_kind}
 use Rattle.std.specs.declared.io.Error.{Error}
-use Rattle.std.specs.declared.io.ErrorKind.{ErrorKind}
 use Rattle.futures.specs.declared.task.Poll.{Poll}
 use Rattle.lite_base.specs.Answers.{Comparable, ComparableBy, strip}
 use Rattle.lite_base.specs.Calm.{CalmLaws}
@@ -147,8 +146,7 @@ module _ {R W : Type 0} where
         let c = h.copied in
         let a = ok_value _ _ y.amount n c.failed c.last value in
         let end : read ++ (met_in y.phase ++ c.failed) ≡ read ++ ReadMark.end ∷ [] =
-        ap (λ k. read ++ (k ++ c.failed)) a.3 ∙ ap (λ k. read ++ (ReadMark.end ∷ k)) a.0 in
-        (
+        ap (λ k. read ++ (k ++ c.failed)) a.3 ∙ ap (λ k. read ++ (ReadMark.end ∷ k)) a.0 in (
           bytes_told read,
           stopped read _ (Ok n) c.reading.goes_on (c.reading.cut ∙ end),
           a.4 ∙ h.counted ∙ ap (λ (k : ℕ). k % 2 ^ 64)
@@ -209,8 +207,7 @@ module _ {R W : Type 0} {reads : Runs ReadMark R} {writes : Runs WriteMark W} wh
             comparable_behind (strip_marks (met_in x.phase)) _ _ tales in
             let begun : before_of y ≡ before_of x = omega (arith, e.3, ap length e.1) in
             let other = rw begun at two in
-            all_same _ _ _ _ _ one other
-            (rw (strip_marks-append _ i.told, strip_marks-append _ j.told, ← e.2) both);
+            all_same _ _ _ _ _ one other (rw (strip_marks-append _ i.told, strip_marks-append _ j.told, ← e.2) both);
         found = λ n x y l h.
             let i = h.moves in
             record {
@@ -263,8 +260,7 @@ module _ {R W : Type 0} {reads ample : Runs ReadMark R} {writes : Runs WriteMark
       let k = m.copied in
       let f = k.writing in
       let last =
-      last_no_failure v k.failed k.last _ _ h.last.amount ok
-      (rw (gives_strip l v h.gives) at k.value) in
+      last_no_failure v k.failed k.last _ _ h.last.amount ok (rw (gives_strip l v h.gives) at k.value) in
       let no_failure =
       rw (← f.cut) at (no_failure_both f.written k.last (takes_without_failure f.written f.takes_some) last) in
       record {

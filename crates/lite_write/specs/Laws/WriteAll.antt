@@ -1,8 +1,7 @@
 -- Laws of `write_all`.
-use Rattle.std.proofs.Common.{◌∙◌, ◌<◌, List, [], ◌∷◌, ◌++◌, length, Result, refl, ap, arith, length-append}
+use Rattle.std.proofs.Common.{◌∙◌, ◌<◌, [], ◌∷◌, ◌++◌, length, Result, refl, ap, arith, length-append}
 use Rattle.std.specs.declared.io.Error.{Error}
 use Rattle.futures.specs.declared.task.Poll.{Poll}
-use Rattle.lite_base.specs.Answers.{Waiting}
 use Rattle.lite_base.specs.FutureLaws.{FutureLaws}
 use Rattle.lite_base.specs.Laws.Answers.{up_to_once}
 use Rattle.lite_base.specs.Laws.Segments.{segment_before, segments_before, to_value_join}

@@ -1,5 +1,5 @@
 -- A `BufReader` with some capacity tells one tale where its reader does; it is never pending where its reader isn't.
-use Rattle.std.proofs.Common.{◌≡◌, ◌∙◌, ◌<◌, ℕ, zero, suc, List, ◌++◌, sym, ap}
+use Rattle.std.proofs.Common.{◌≡◌, ◌<◌, ℕ, zero, suc, List, ◌++◌}
 use Rattle.lite_base.specs.Answers.{Comparable}
 use Rattle.lite_base.specs.Runs.{Runs}
 use Rattle.lite_io_base.specs.Laws.Steady.{comparable_behind, comparable_fronts, no_wait_both, no_wait_bytes}
@@ -62,7 +62,6 @@ module _ {R : Type 0} {reads : Runs ReadMark R} where
       → CalmReadLaws (ThroughBuffer reads) (λ (x : BufReader R). is_calm x.inner)
   buf_reader_calm c =
       record {
-        no_pending = λ x y l k h. passes_no_wait _ _ _ h.came l h.passes
-            (c.no_pending x.inner y.inner h.came k h.ran);
+        no_pending = λ x y l k h. passes_no_wait _ _ _ h.came l h.passes (c.no_pending x.inner y.inner h.came k h.ran);
         calm_on = λ x y l k h. c.calm_on x.inner y.inner h.came k h.ran;
       }

@@ -48,9 +48,7 @@ module _ {R S : Type 0} {first : Runs ReadMark R} {second : Runs ReadMark S} whe
         → Comparable (strip_marks (h.before ++ ReadMark.end ∷ [])) (strip_marks m)
         → Comparable (strip_marks l) (strip_marks m)
     past_cut x x' l m h n c =
-        rw (h.cut, strip_marks-append)
-        (past_end _ _ _ (stripped_no_end m n)
-        (rw strip_marks-append at c))
+        rw (h.cut, strip_marks-append) (past_end _ _ _ (stripped_no_end m n) (rw strip_marks-append at c))
 
     both_cross : (x y x' y' : Chain R S) (l m : List ReadMark) → alike1 x.first y.first → alike2 x.second y.second
         → ReadsAcross ample1 ample2 x l x'
@@ -61,8 +59,7 @@ module _ {R S : Type 0} {first : Runs ReadMark R} {second : Runs ReadMark S} whe
         let same = same_end _ _ (stripped_no_end h.before h.no_end)
         (stripped_no_end k.before k.no_end) (rw (strip_marks-append, strip_marks-append) at c) in
         let after = t.steady x.second y.second x'.second y'.second h.after k.after d h.second_ran k.second_ran in
-        rw (h.cut, strip_marks-append, k.cut, strip_marks-append, same)
-        (comparable_behind _ _ _ after)
+        rw (h.cut, strip_marks-append, k.cut, strip_marks-append, same) (comparable_behind _ _ _ after)
 
     one_tale : (a b c : Bool) (x y x' y' : Chain R S) (l m : List ReadMark) → alike1 x.first y.first
         → alike2 x.second y.second → JoinsReaders ample1 ample2 a b x l x'

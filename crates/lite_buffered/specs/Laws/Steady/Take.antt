@@ -61,8 +61,7 @@ module _ {R : Type 0} {reads : Runs ReadMark R} where
         let ends = ends_stripped x'.limit h.ends h.used_up in
         let ends2 = ends_stripped y'.limit k.ends k.used_up in
         let inner = s.steady x.inner y.inner x'.inner y'.inner h.front k.front e.0 h.ran k.ran in
-        let both = fronts_alike x.limit x'.limit y'.limit _ _
-        _ _ fits fits2 ends ends2 inner in
+        let both = fronts_alike x.limit x'.limit y'.limit _ _ _ _ fits fits2 ends ends2 inner in
         rw (h.cut, strip_marks-append, k.cut, strip_marks-append) both
 
     pub take_steady : SteadyReadLaws (TakesMarks reads) (TakesMarks ample) needs_none (LimitAlike alike)
