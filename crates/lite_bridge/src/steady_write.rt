@@ -1,14 +1,14 @@
 //! The cursors that leave the same bytes where the same are taken, and are never pending.
 ghost use Rattle.std.specs.Prelude.{⊤};
 ghost use Rattle.lite_bridge.specs.Laws.SteadyWrite.{lent_vec_calm_write, lent_vec_steady_write, slice_calm_write};
-ghost use Rattle.lite_bridge.specs.Laws.SteadyWrite.{slice_steady_write, SameLentVec, SameSlice, SameVecBytes};
+ghost use Rattle.lite_bridge.specs.Laws.SteadyWrite.{SamePlace, slice_steady_write};
 ghost use Rattle.lite_bridge.specs.Laws.SteadyWrite.{vec_calm_write, vec_steady_write};
 
 use crate::cursor::Cursor;
 use lite_io_base::{CalmWrite, SteadyWrite};
 
 impl SteadyWrite for Cursor<Vec<u8>> {
-    ghost alike = { SameVecBytes };
+    ghost alike = { SamePlace (λ v. v.items) };
 
     ghost below = { λ x. x.inner.items };
 
@@ -22,7 +22,7 @@ impl CalmWrite for Cursor<Vec<u8>> {
 }
 
 impl SteadyWrite for Cursor<&mut Vec<u8>> {
-    ghost alike = { SameLentVec };
+    ghost alike = { SamePlace (λ v. v.now.items) };
 
     ghost below = { λ x. x.inner.now.items };
 
@@ -36,7 +36,7 @@ impl CalmWrite for Cursor<&mut Vec<u8>> {
 }
 
 impl SteadyWrite for Cursor<&mut [u8]> {
-    ghost alike = { SameSlice };
+    ghost alike = { SamePlace (λ s. s.now) };
 
     ghost below = { λ x. x.inner.now };
 

@@ -1,14 +1,10 @@
 ghost use Rattle.std.specs.Prelude.{◌≡◌, IsSome, IfSome};
-ghost use Rattle.futures.specs.Task.{Keeps};
-ghost use Rattle.lite_io_base.specs.Marks.{fill_marks};
-ghost use Rattle.lite_io_base.specs.Runs.{OnlyOkLends};
 ghost use Rattle.lite_read.specs.FillBuf.{FillsOnce};
 ghost use Rattle.lite_read.specs.Laws.Polled.{polled_laws};
 ghost use Rattle.lite_read.specs.Polled.{PolledByCalls};
-ghost use Rattle.lite_base.specs.Registered.{Registered};
 
 use lite_base::{Context, Future, Poll};
-use lite_io_base::AsyncBufRead;
+use lite_io_base::{AsyncBufRead, fill};
 use std::io;
 
 /// The future of the bytes that come next, which the reader lends.
@@ -48,20 +44,6 @@ impl<'a, R: AsyncBufRead> Future for FillBuf<'a, R> {
                 Poll::Pending
             }
         }
-    }
-}
-
-// Fills the reader without keeping what it lends.
-fn fill<R: AsyncBufRead>(reader: &mut R, cx: &mut Context<'_>) -> Poll<io::Result<()>>
-    ensures ran { R.reads reader.old (fill_marks result (R.lent reader.new)) reader.new }
-    ensures lends { OnlyOkLends result (R.lent reader.new) }
-    ensures left { Registered result (R.registers reader.new) cx.new }
-    ensures kept { Keeps cx.old cx.new }
-{
-    match reader.poll_fill_buf(cx) {
-        Poll::Ready(Ok(_)) => Poll::Ready(Ok(())),
-        Poll::Ready(Err(e)) => Poll::Ready(Err(e)),
-        Poll::Pending => Poll::Pending,
     }
 }
 

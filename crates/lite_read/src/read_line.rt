@@ -28,7 +28,8 @@ use std::io;
 /// kind `OutOfMemory` where memory was refused. What was read before these two is appended to the text if it is UTF-8, and
 /// else dropped; a piece for which there was no memory is not read. No byte past the newline is read. While a poll is
 /// pending the text is as it was. The bytes are read into the memory of an empty text, or into more, which is its own once it
-/// has the bytes; so a text that is emptied before each line takes no new memory. Ported from `src/io.rs`, `ReadLineFuture`.
+/// has the bytes; so a text that is emptied before each line takes more memory only for a longer line. Ported from
+/// `src/io.rs`, `ReadLineFuture`.
 #[derive(Debug, Drop)]
 pub struct ReadLineFuture<'a, R, A: Allocator = Global> {
     pub(crate) reader: &'a mut R,

@@ -46,7 +46,7 @@ module _ {T : Type 0} (bytes : T → List ℕ) (puts : T → ℕ → List ℕ �
       → CursorAtEnd y × (bytes y.inner ≡ bytes x.inner ++ bytes_taken l)
   overwrites_kept x y l law at h =
       let p = puts_all bytes (λ x at new y. law.0 x y at new) law.1 x y l h in
-      let all = put_behind (bytes x.inner) (bytes_taken l) (bytes y.inner) x.position at p.all in
+      let all = put_behind _ _ _ x.position at p.all in
       (omega (arith, p.place, at, ap length all, length-append (bytes x.inner) (bytes_taken l)), all)
 
   -- a cursor that stands at the end of its bytes

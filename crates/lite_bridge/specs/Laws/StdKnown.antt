@@ -28,19 +28,17 @@ use Rattle.lite_bridge.specs.Known.{SpendsWell, WhereKnown, known_bytes}
 spends_follows : (x y z : List ℕ) (l m : List ReadMark) → SpendsBytes x l y → SpendsBytes y m z
     → SpendsBytes x (l ++ m) z
 spends_follows x y z [] m h k = rw (← h) k
-spends_follows [] y z (ReadMark.byte b ∷ l) m h k = absurd h
 spends_follows (a ∷ x) y z (ReadMark.byte b ∷ l) m h k = (h.0, spends_follows x y z l m h.1 k)
-spends_follows x y z (ReadMark.pending ∷ l) m h k = absurd h
 spends_follows x y z (ReadMark.fault kind ∷ l) m h k = spends_follows x y z l m h k
 spends_follows x y z (ReadMark.end ∷ l) m h k = (h.0, spends_follows x y z l m h.1 k)
+spends_follows _ y z _ m h k = absurd assumption
 
 spends_no_wait : (x y : List ℕ) (l : List ReadMark) → SpendsBytes x l y → NoPendingRead l
 spends_no_wait x y [] h = tt
-spends_no_wait [] y (ReadMark.byte b ∷ l) h = absurd h
 spends_no_wait (a ∷ x) y (ReadMark.byte b ∷ l) h = spends_no_wait x y l h.1
-spends_no_wait x y (ReadMark.pending ∷ l) h = absurd h
 spends_no_wait x y (ReadMark.fault kind ∷ l) h = spends_no_wait x y l h
 spends_no_wait x y (ReadMark.end ∷ l) h = spends_no_wait x y l h.1
+spends_no_wait _ y _ h = absurd assumption
 
 -- runs from what is known, of which none waits
 module _ {M : Type 0} {NoWait : List M → Type 0} {run : Runs M (List ℕ)} (none : NoWait [])
@@ -58,19 +56,18 @@ module _ {M : Type 0} {NoWait : List M → Type 0} {run : Runs M (List ℕ)} (no
   known_follows : (x y z : Option (List ℕ)) (l m : List M) → WhereKnown NoWait run x l y → WhereKnown NoWait run y m z
       → WhereKnown NoWait run x (l ++ m) z
   known_follows None y z l m h k = both l m h (known_no_wait y z m k)
-  known_follows (Some xs) None z l m h k = absurd h
-  known_follows (Some xs) (Some ys) None l m h k = absurd k
   known_follows (Some xs) (Some ys) (Some zs) l m h k = laws.follows xs ys zs l m h k
+  known_follows _ _ _ l m h k = absurd assumption
 
   module _ {S : Type 0} (known : S → Option (List ℕ)) where
     known_laws : MarkLaws (λ x l y. WhereKnown NoWait run (known x) l (known y))
     known_laws = record {
-      rests = λ x. known_rests (known x);
-      follows = λ x y z. known_follows (known x) (known y) (known z);
+      rests = λ x. known_rests _;
+      follows = λ x y z. known_follows _ _ _;
     }
 
     known_calm : CalmMarks NoWait (λ x l y. WhereKnown NoWait run (known x) l (known y)) (λ x. Unit {0})
-    known_calm = record { no_pending = λ x y l c. known_no_wait (known x) (known y) l; calm_on = λ x y l c h. tt }
+    known_calm = record { no_pending = λ x y l c. known_no_wait _ _ l; calm_on = λ x y l c h. tt }
 
 -- a reader whose bytes to come are known at some values
 pub spends_laws : {S : Type 0} (remaining : S → Option (List ℕ))
@@ -100,22 +97,18 @@ no_fault_both (_ ∷ l) m h k = no_fault_both l m h k
 -- where no read failed, the bytes are told in their order
 spends_told : (x y : List ℕ) (l : List ReadMark) → SpendsBytes x l y → NoFault l → TellsScript (bytes x) l (bytes y)
 spends_told x y [] h n = ap bytes h
-spends_told [] y (ReadMark.byte b ∷ l) h n = absurd h
 spends_told (a ∷ x) y (ReadMark.byte b ∷ l) h n = (ap ReadMark.byte h.0, spends_told x y l h.1 n)
-spends_told x y (ReadMark.pending ∷ l) h n = absurd h
-spends_told x y (ReadMark.fault kind ∷ l) h n = absurd n
 spends_told [] y (ReadMark.end ∷ l) h n = (refl, spends_told [] y l h.1 n)
 spends_told (a ∷ x) y (ReadMark.end ∷ l) h n = absurd (cc h.0)
+spends_told _ y _ h n = absurd assumption
 
 known_one_tale : (x x' y z : Option (List ℕ)) (l m : List ReadMark) → SameKnown x x' → SpendsWell x l y
     → SpendsWell x' m z
     → Comparable (strip_marks l) (strip_marks m)
-known_one_tale (Some xs) (Some ys) None z l m e h k = absurd h.0
-known_one_tale (Some xs) (Some ys) (Some y) None l m e h k = absurd k.0
 known_one_tale (Some xs) (Some ys) (Some y) (Some z) l m e h k =
     told_one_tale (bytes xs) (bytes ys) (bytes y) (bytes z) l m (rw e) (spends_told xs y l h.0 h.1)
     (spends_told ys z m k.0 k.1)
-known_one_tale _ _ y z l m e h k = absurd e
+known_one_tale _ _ _ _ l m e h k = absurd assumption
 
 -- two readers of which the same bytes are known tell one tale, where no read failed
 pub spends_steady : {S : Type 0} (remaining : S → Option (List ℕ))
@@ -129,7 +122,7 @@ spends_steady remaining =
         follows = λ x y z l m h k.
             ((spends_laws remaining).follows x y z l m h.0 k.0, no_fault_both l m h.1 k.1);
       };
-      steady = λ x y x' y'. known_one_tale (remaining x) (remaining y) (remaining x') (remaining y');
+      steady = λ x y x' y'. known_one_tale _ _ _ _;
       found = λ n. absurd n;
     }
 
@@ -138,13 +131,10 @@ OneContents x y = (known_bytes x ≡ known_bytes y) × SameKnown x y
 
 one_contents : (x y p q : Option (List ℕ)) (l m : List WriteMark) → SameKnown x y → GainsKnown x l p → GainsKnown y m q
     → bytes_taken l ≡ bytes_taken m → OneContents p q
-one_contents (Some xs) (Some ys) None q l m e h k same = absurd h
-one_contents (Some xs) (Some ys) (Some ps) None l m e h k same = absurd k
 one_contents (Some xs) (Some ys) (Some ps) (Some qs) l m e h k same =
-    let one = grows_all (λ _. ⊤) xs ps l h ∙ ap (λ t. t ++ bytes_taken l) e ∙ ap (λ t. ys ++ t) same
-    ∙ sym (grows_all (λ _. ⊤) ys qs m k) in
+    let one : ps ≡ qs = rw (grows_all _ xs ps l h, grows_all _ ys qs m k, e, same) in
     (one, one)
-one_contents _ _ p q l m e h k same = absurd e
+one_contents _ _ _ _ l m e h k same = absurd assumption
 
 -- the same bytes are known to be there, and are so after the same bytes
 pub gains_steady : {S : Type 0} (contents : S → Option (List ℕ))
@@ -152,8 +142,7 @@ pub gains_steady : {S : Type 0} (contents : S → Option (List ℕ))
     (λ x y. SameKnown (contents x) (contents y)) (λ x. known_bytes (contents x))
 gains_steady contents =
     record {
-      steady = λ x y x' y' l m e h k a b f g same. one_contents (contents x) (contents y) (contents x')
-          (contents y') l m e h k same;
+      steady = λ x y x' y' l m e h k a b f g same. one_contents _ _ _ _ l m e h k same;
     }
 
 -- Calls of std's traits, after calls that failed and so kept what is known.
@@ -168,44 +157,37 @@ spends_moved (r ∷ room) [] ys none = (none refl (omega arith), refl)
 
 keeps_trans : (x y z : Option (List ℕ)) → Keeps x y → Keeps y z → Keeps x z
 keeps_trans None y z h k = tt
-keeps_trans (Some xs) None z h k = absurd h
-keeps_trans (Some xs) (Some ys) None h k = absurd k
 keeps_trans (Some xs) (Some ys) (Some zs) h k = k ∙ h
-
-none_taken : (n : ℕ) (buf : List ℕ) → n ≡ length (take n buf) → take n buf ≡ [] → n ≡ 0
-none_taken n buf counts none = counts ∙ ap length none
+keeps_trans _ _ _ h k = absurd assumption
 
 pub read_spends : (x y z : Option (List ℕ)) (r : Result ℕ Error) (buf : List ℕ) → Keeps x y → ReadsAtMost r buf
     → ReadConsumes y z r buf
     → SpendsKnown x (read_marks (Ready r) buf) z
 read_spends None y z (Ok n) buf k b h = no_wait_moved buf (take n buf)
 read_spends None y z (Err e) buf k b h = tt
-read_spends (Some xs) None z r buf k b h = absurd k
-read_spends (Some xs) (Some ys) None (Ok n) buf k b h = absurd h.0
-read_spends (Some xs) (Some ys) None (Err e) buf k b h = absurd h
 read_spends (Some xs) (Some ys) (Some zs) (Ok n) buf k b h =
     subst (λ t. SpendsBytes t (moved buf (take n buf)) zs) (sym h.0 ∙ k)
-    (spends_moved buf (take n buf) zs (λ none room. h.1 (none_taken n buf b.1 none) room))
+    (spends_moved buf (take n buf) zs (λ none room. h.1 (b.1 ∙ ap length none) room))
 read_spends (Some xs) (Some ys) (Some zs) (Err e) buf k b h = h ∙ k
+read_spends _ _ _ (Ok n) buf k b h = absurd assumption
+read_spends _ _ _ (Err e) buf k b h = absurd assumption
 
 pub write_gains : (x y z : Option (List ℕ)) (r : Result ℕ Error) (buf : List ℕ) → Keeps x y → WriteAppends y z r buf
     → GainsKnown x (write_marks (Ready r) buf) z
 write_gains None y z (Ok n) buf k h = tt
 write_gains None y z (Err e) buf k h = tt
-write_gains (Some xs) None z r buf k h = absurd k
-write_gains (Some xs) (Some ys) None (Ok n) buf k h = absurd h
-write_gains (Some xs) (Some ys) None (Err e) buf k h = absurd h
-write_gains (Some xs) (Some ys) (Some zs) (Ok n) buf k h = h ∙ ap (λ t. t ++ take n buf) k
+write_gains (Some xs) (Some ys) (Some zs) (Ok n) buf k h = rw (h, k)
 write_gains (Some xs) (Some ys) (Some zs) (Err e) buf k h = (tt, h ∙ k)
+write_gains _ _ _ (Ok n) buf k h = absurd assumption
+write_gains _ _ _ (Err e) buf k h = absurd assumption
 
 pub flush_gains : (x y z : Option (List ℕ)) (r : Result (Unit {0}) Error) → Keeps x y → Keeps y z
     → GainsKnown x (done_marks WriteMark.flushed (Ready r)) z
 flush_gains None y z (Ok u) k h = tt
 flush_gains None y z (Err e) k h = tt
-flush_gains (Some xs) None z r k h = absurd k
-flush_gains (Some xs) (Some ys) None r k h = absurd h
 flush_gains (Some xs) (Some ys) (Some zs) (Ok u) k h = h ∙ k
 flush_gains (Some xs) (Some ys) (Some zs) (Err e) k h = (tt, h ∙ k)
+flush_gains _ _ _ r k h = absurd assumption
 
 -- a close is a flush
 pub close_gains : (x y : Option (List ℕ)) (r : Poll (Result (Unit {0}) Error))
@@ -227,9 +209,9 @@ pub seek_moves : (p q s : Option ℕ) (x y z : Option (List ℕ)) (to : SeekFrom
     → Keeps x y → SeekMoves q s y to r
     → Keeps y z → MovesKnown p s x z to (by_kind (Ready r))
 seek_moves (Some at) q s x y z to (Ok n) stays k h l =
-    let moved : IsSeekTarget at y to n × (s ≡ Some n) = subst (λ t. SeekMoves {E = Error} t s y to (Ok n)) stays h in
+    let moved = rw stays at h in
     ((target_kept at x y to n k moved.0, moved.1), keeps_trans x y z k l)
 seek_moves (Some at) q s x y z to (Err e) stays k h l =
-    (subst (λ t. SeekMoves {E = Error} t s y to (Err e)) stays h, keeps_trans x y z k l)
+    (rw stays at h, keeps_trans x y z k l)
 seek_moves None q s x y z to (Ok n) stays k h l = (tt, keeps_trans x y z k l)
 seek_moves None q s x y z to (Err e) stays k h l = (tt, keeps_trans x y z k l)

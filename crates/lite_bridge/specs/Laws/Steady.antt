@@ -1,32 +1,25 @@
 -- Cursors over equal bytes tell one tale, and none is ever pending.
 use Rattle.std.proofs.Common.{◌≡◌, ℕ, List, ap}
 use Rattle.std.specs.Prelude.{⊤}
-use Rattle.lite_base.specs.Answers.{Comparable}
 use Rattle.lite_io_base.specs.Laws.Steady.{no_wait_bytes, told_no_wait, told_one_tale, steady_read_always}
 use Rattle.lite_io_base.specs.Laws.Steps.{steps_laws}
-use Rattle.lite_io_base.specs.Marks.{ReadMark, bytes as marks_of}
+use Rattle.lite_io_base.specs.Marks.{bytes as marks_of}
 use Rattle.lite_io_base.specs.Steady.{CalmReadLaws, SteadyReadLaws, strip_marks}
-use Rattle.lite_bridge.specs.declared.cursor.Cursor.{Cursor}
-use Rattle.lite_bridge.specs.Cursor.{CursorReads, ReadStep, bytes_left}
+use Rattle.lite_bridge.specs.Cursor.{CursorReads, bytes_left}
 use Rattle.lite_bridge.specs.Laws.Cursor.{cursor_told}
 
 module _ {T : Type 0} (bytes : T → List ℕ) where
-  same_left : (x y x' y' : Cursor T) (l m : List ReadMark) → bytes_left bytes x ≡ bytes_left bytes y
-      → CursorReads bytes x l x' → CursorReads bytes y m y' → Comparable (strip_marks l) (strip_marks m)
-  same_left x y x' y' l m e h k =
-      let same = ap (λ xs. strip_marks (marks_of xs)) e in
-      told_one_tale (marks_of (bytes_left bytes x)) (marks_of (bytes_left bytes y)) (marks_of (bytes_left bytes x'))
-      (marks_of (bytes_left bytes y')) l m same (cursor_told bytes x x' l h) (cursor_told bytes y y' m k)
-
   pub cursor_steady : SteadyReadLaws (CursorReads bytes) (CursorReads bytes) ⊤
       (λ x y. bytes_left bytes x ≡ bytes_left bytes y)
-  cursor_steady = steady_read_always (steps_laws (ReadStep bytes)) same_left
+  cursor_steady =
+      steady_read_always (steps_laws _) (λ x y x' y' l m e h k.
+      told_one_tale (marks_of (bytes_left bytes x)) _ _ _ l m (ap (λ xs. strip_marks (marks_of xs)) e)
+      (cursor_told bytes x x' l h) (cursor_told bytes y y' m k))
 
   pub cursor_calm : CalmReadLaws (CursorReads bytes) (λ x. ⊤)
   cursor_calm =
       record {
         no_pending = λ x y l n h.
-            (told_no_wait (marks_of (bytes_left bytes x)) (marks_of (bytes_left bytes y)) l
-            (no_wait_bytes (bytes_left bytes x)) (cursor_told bytes x y l h)).0;
+            (told_no_wait _ _ l (no_wait_bytes (bytes_left bytes x)) (cursor_told bytes x y l h)).0;
         calm_on = λ x y l n h. tt;
       }

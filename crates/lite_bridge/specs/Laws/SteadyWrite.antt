@@ -12,6 +12,10 @@ use Rattle.lite_bridge.specs.Put.{Puts, PutsVec, PutsVecLent, VecStays, VecStays
 use Rattle.std.specs.declared.vec.Vec.{Vec}
 use denote.MutBor.{MutBor}
 
+-- equal bytes, at one place
+abbrev pub SamePlace : {T : Type 0} → (T → List ℕ) → Cursor T → Cursor T → Type 0
+SamePlace bytes x y = (bytes x.inner ≡ bytes y.inner) × (x.position ≡ y.position)
+
 -- what a write leaves is one
 puts_one : (a b c : List ℕ) (at : ℕ) (xs : List ℕ) → Puts a at xs b → Puts a at xs c → b ≡ c
 puts_one a b c at [] h k = h ∙ sym k
@@ -36,8 +40,7 @@ module _ {T : Type 0} (bytes : T → List ℕ) {puts : T → ℕ → List ℕ �
       let first = put x.inner x.position xs h.0.inner h.1.0 in
       let at : h.0.position ≡ x.position + length xs = h.1.1 in
       record {
-        all = puts_more (bytes x.inner) (bytes h.0.inner) (bytes y.inner) x.position xs (bytes_taken l) first
-            (rw (← at) rest.all);
+        all = puts_more _ _ _ x.position xs _ first (rw (← at) rest.all);
         place = omega (arith, rest.place, at, length-append xs (bytes_taken l));
       }
   puts_all x y (WriteMark.fault kind ∷ l) h =
@@ -56,17 +59,13 @@ module _ {T : Type 0} (bytes : T → List ℕ) {puts : T → ℕ → List ℕ �
   no_pending x y (WriteMark.pending ∷ l) h = absurd h.1
   no_pending x y (_ ∷ l) h = no_pending h.0 y l h.2
 
-  abbrev pub SamePlace : Cursor T → Cursor T → Type 0
-  SamePlace x y = (bytes x.inner ≡ bytes y.inner) × (x.position ≡ y.position)
-
-  pub cursor_steady_write : SteadyWriteLaws (CursorWrites puts refuses) SamePlace (λ x. bytes x.inner)
+  pub cursor_steady_write : SteadyWriteLaws (CursorWrites puts refuses) (SamePlace bytes) (λ x. bytes x.inner)
   cursor_steady_write =
       record {
         steady = λ x y x' y' l m e h k a b f g same.
             let p = puts_all x x' l h in
             let q = puts_all y y' m k in
-            let one = puts_one (bytes y.inner) (bytes x'.inner) (bytes y'.inner) y.position
-            (bytes_taken m) (rw (e.0, e.1, same) at p.all) q.all in
+            let one = puts_one _ _ _ y.position _ (rw (e.0, e.1, same) at p.all) q.all in
             let place : x'.position ≡ y'.position = omega (arith, p.place, q.place, e.1, ap length same) in
             (one, (one, place));
       }
@@ -75,32 +74,24 @@ module _ {T : Type 0} (bytes : T → List ℕ) {puts : T → ℕ → List ℕ �
   cursor_calm_write = record { no_pending = λ x y l c h. no_pending x y l h; calm_on = λ x y l c h. tt }
 
 -- over a slice behind a reference
-abbrev pub SameSlice : Cursor (MutBor (List ℕ)) → Cursor (MutBor (List ℕ)) → Type 0
-SameSlice x y = (x.inner.now ≡ y.inner.now) × (x.position ≡ y.position)
-
-pub slice_steady_write : SteadyWriteLaws CursorWritesLent SameSlice (λ x. x.inner.now)
-slice_steady_write = cursor_steady_write (λ (s : MutBor (List ℕ)). s.now) (λ x at xs y h. h.0) (λ x y h. absurd h)
+pub slice_steady_write : SteadyWriteLaws CursorWritesLent (SamePlace (λ s. s.now)) (λ x. x.inner.now)
+slice_steady_write = cursor_steady_write (λ (s : MutBor _). s.now) (λ x at xs y h. h.0) (λ x y h. absurd h)
 
 pub slice_calm_write : CalmWriteLaws CursorWritesLent (λ x. ⊤)
-slice_calm_write = cursor_calm_write (λ (s : MutBor (List ℕ)). s.now) (λ x at xs y h. h.0) (λ x y h. absurd h)
+slice_calm_write = cursor_calm_write (λ (s : MutBor _). s.now) (λ x at xs y h. h.0) (λ x y h. absurd h)
 
 -- over a vector
-abbrev pub SameVecBytes : Cursor (Vec ℕ Global) → Cursor (Vec ℕ Global) → Type 0
-SameVecBytes x y = (x.inner.items ≡ y.inner.items) × (x.position ≡ y.position)
-
-pub vec_steady_write : SteadyWriteLaws (CursorWrites PutsVec VecStays) SameVecBytes (λ x. x.inner.items)
+pub vec_steady_write : SteadyWriteLaws (CursorWrites PutsVec VecStays) (SamePlace (λ v. v.items)) (λ x. x.inner.items)
 vec_steady_write = cursor_steady_write (λ (v : Vec ℕ Global). v.items) (λ x at xs y h. h) (λ x y h. h)
 
 pub vec_calm_write : CalmWriteLaws (CursorWrites PutsVec VecStays) (λ x. ⊤)
 vec_calm_write = cursor_calm_write (λ (v : Vec ℕ Global). v.items) (λ x at xs y h. h) (λ x y h. h)
 
 -- over a vector behind a reference
-abbrev pub SameLentVec : Cursor (MutBor (Vec ℕ Global)) → Cursor (MutBor (Vec ℕ Global)) → Type 0
-SameLentVec x y = (x.inner.now.items ≡ y.inner.now.items) × (x.position ≡ y.position)
-
-pub lent_vec_steady_write : SteadyWriteLaws (CursorWrites PutsVecLent VecStaysLent) SameLentVec (λ x. x.inner.now.items)
+pub lent_vec_steady_write : SteadyWriteLaws (CursorWrites PutsVecLent VecStaysLent) (SamePlace (λ v. v.now.items))
+    (λ x. x.inner.now.items)
 lent_vec_steady_write =
-    cursor_steady_write (λ (v : MutBor (Vec ℕ Global)). v.now.items) (λ x at xs y h. h.0) (λ x y h. h.0)
+    cursor_steady_write (λ (v : MutBor _). v.now.items) (λ x at xs y h. h.0) (λ x y h. h.0)
 
 pub lent_vec_calm_write : CalmWriteLaws (CursorWrites PutsVecLent VecStaysLent) (λ x. ⊤)
-lent_vec_calm_write = cursor_calm_write (λ (v : MutBor (Vec ℕ Global)). v.now.items) (λ x at xs y h. h.0) (λ x y h. h.0)
+lent_vec_calm_write = cursor_calm_write (λ (v : MutBor _). v.now.items) (λ x at xs y h. h.0) (λ x y h. h.0)

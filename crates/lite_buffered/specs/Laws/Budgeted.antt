@@ -15,7 +15,7 @@ use Rattle.lite_io_base.specs.Steady.{SteadyReadLaws, strip_marks}
 use Rattle.lite_io_base.specs.SteadyWrite.{CalmWriteLaws, SteadyWriteLaws}
 use Rattle.lite_io_base.specs.Takings.{WriteMark}
 use Rattle.lite_buffered.specs.Budgeted.{BudgetsMarks, PacesMarks, WritesWithin, budgeted_lent, budgeted_ranks}
-use Rattle.lite_buffered.specs.Budgeted.{left_behind_mark, left_noted, left_of, lent_noted}
+use Rattle.lite_buffered.specs.Budgeted.{left_behind_mark, left_noted, lent_noted}
 use Rattle.lite_buffered.specs.declared.budgeted.Budgeted.{Budgeted}
 
 -- what may be lent of what came in is the front of what goes out
@@ -39,7 +39,7 @@ paced_falls p q i (_ ∷ o) (inr h) g = let e = paced_falls (p.0, p.1 - 1) q h.1
 
 -- pendings aside, what goes out came in
 paced_tale : (p q : ℕ × ℕ) (i o : List ReadMark) → PacesMarks p i o q → strip_marks o ≡ strip_marks i
-paced_tale p q i [] h = rw h.0 refl
+paced_tale p q i [] h = rw h.0
 paced_tale p q i (m ∷ o) (inl h) = rw h.1 (paced_tale (p.0, p.0) q i o h.2)
 paced_tale p q i (ReadMark.pending ∷ o) (inr h) = rw h.2 (paced_tale (p.0, p.0) q h.1 o h.3)
 paced_tale p q i (m ∷ o) (inr h) =
@@ -80,7 +80,7 @@ budgets_laws laws = record {
 module _ {R : Type 0} {reads : Runs ReadMark R} where
   pub budgets_show : (lent : R → List ℕ) → Shows reads lent → Shows (BudgetsMarks reads) (budgeted_lent lent)
   budgets_show lent shows x y l h =
-      shown x.left (paced_shows _ _ (lent x.reader) h.came l h.paced (shows x.reader y.reader h.came h.ran))
+      shown x.left (paced_shows _ _ _ h.came l h.paced (shows x.reader y.reader h.came h.ran))
     where
       shown : (left : Option ℕ) → Comparable (bytes (take (left_noted x.budget left) (lent x.reader))) l
           → Comparable (bytes (lent_noted left (lent x.reader))) l
@@ -92,12 +92,12 @@ module _ {R : Type 0} {reads : Runs ReadMark R} where
     sized = λ x. refl;
     counts_on = λ x y l k h. tt;
     firm_on = λ x y l k h. absurd k;
-    falls = λ x y l k g h. falls_by (length l) (left_of y) (left_of x) (paced_falls _ _ h.came l h.paced g);
+    falls = λ x y l k g h. falls_by _ _ _ (paced_falls _ _ h.came l h.paced g);
     lowers = λ x y l k h. absurd k;
   }
     where
       falls_by : (n a b : ℕ) → a + n ≡ b → Falls n (a ∷ []) (b ∷ [])
-      falls_by zero a b e = inl (let same : a ≡ b = omega (arith, e) in rw same refl)
+      falls_by zero a b e = inl (let same : a ≡ b = omega (arith, e) in rw same)
       falls_by (suc n) a b e = inl (omega (arith, e), refl)
 
   -- whatever the two budgets are

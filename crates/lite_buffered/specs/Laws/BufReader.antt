@@ -5,7 +5,6 @@ use Rattle.lite_base.specs.Ranks.{Ranks}
 use Rattle.lite_base.specs.Runs.{Runs}
 use Rattle.lite_io_base.specs.Counting.{ReadCounting}
 use Rattle.lite_io_base.specs.Takings.{WriteMark}
-use Rattle.lite_io_base.specs.Falls.{Falls}
 use Rattle.lite_io_base.specs.Laws.Falls.{falls_held}
 use Rattle.lite_io_base.specs.Laws.Marks.{bytes_given, given-append, given-bytes, given_all, given_both, given_parts}
 use Rattle.lite_io_base.specs.Marks.{AllGiven, ReadMark, bytes, given}
@@ -20,11 +19,11 @@ padded_same (m ∷ l) = Padded.same m l l (padded_same l)
 
 padded_both : (l k m n : List ReadMark) → Padded l k → Padded m n → Padded (l ++ m) (k ++ n)
 padded_both _ _ m n Padded.none q = q
-padded_both _ _ m n (Padded.same a l k p) q = Padded.same a (l ++ m) (k ++ n) (padded_both l k m n p q)
-padded_both _ _ m n (Padded.more l k p) q = Padded.more (l ++ m) (k ++ n) (padded_both l k m n p q)
+padded_both _ _ m n (Padded.same a l k p) q = Padded.same a _ _ (padded_both l k m n p q)
+padded_both _ _ m n (Padded.more l k p) q = Padded.more _ _ (padded_both l k m n p q)
 
 given_one : (a : ReadMark) (l k : List ReadMark) → given l ≡ given k → given (a ∷ l) ≡ given (a ∷ k)
-given_one a l k e = given-append (a ∷ []) l ∙ ap (λ n. given (a ∷ []) + n) e ∙ sym (given-append (a ∷ []) k)
+given_one a l k e = rw (given-append (a ∷ []) l, e) (sym (given-append (a ∷ []) k))
 
 padded_given : (l k : List ReadMark) → Padded l k → given l ≡ given k
 padded_given _ _ Padded.none = refl
@@ -77,66 +76,49 @@ front l m k n e = tt
 passes_front : (n : ℕ) (p q : List ℕ) (came out : List ReadMark) → PassesBuffer n p came out q
     → Comparable (bytes p) out
 passes_front zero p q came out h = rw h.0 tt
-passes_front (suc n) p q came out h = front (bytes p) came out (bytes q) h
+passes_front (suc n) p q came out h = front _ came out _ h
 
 -- without a buffer nothing is ahead
 pub ahead_none : {R : Type 0} (x : BufReader R) → reader_capacity x ≡ 0 → ahead x ≡ []
-ahead_none x none = let nothing : x.end - x.pos ≡ 0 = omega arith in rw nothing refl
+ahead_none x none = let nothing : x.end - x.pos ≡ 0 = omega arith in rw nothing
 
 held_sized : (xs : List ℕ) (k n : ℕ) → length xs ≡ n → length (xs ++ k ∷ []) ≡ n + 1
 held_sized xs k n e = omega (arith, length-append xs (k ∷ []), e)
 
 module _ {R : Type 0} {reads : Runs ReadMark R} where
-  through_follows : MarkLaws reads → (x y z : BufReader R) (l m : List ReadMark) → ThroughBuffer reads x l y
-      → ThroughBuffer reads y m z → ThroughBuffer reads x (l ++ m) z
-  through_follows laws x y z l m a b =
-      let next = rw a.capacity at b.passes in
-      record {
-        came = a.came ++ b.came;
-        ran = laws.follows x.inner y.inner z.inner a.came b.came a.ran b.ran;
-        capacity = b.capacity ∙ a.capacity;
-        passes = passes_both (reader_capacity x) (ahead x) (ahead y) (ahead z) a.came l b.came m a.passes next;
-      }
-
   pub through_laws : MarkLaws reads → MarkLaws (ThroughBuffer reads)
   through_laws laws = record {
     rests = λ x. record {
       came = [];
       ran = laws.rests x.inner;
       capacity = refl;
-      passes = passes_of (reader_capacity x) (ahead x) [] [] (ahead x) (append-nil (bytes (ahead x)))
-          (λ none. (ahead_none x none, ahead_none x none));
+      passes = passes_of _ _ [] [] (ahead x) (append-nil (bytes _)) (λ none. (ahead_none x none, ahead_none x none));
     };
-    follows = through_follows laws;
+    follows = λ x y z l m a b.
+        let next = rw a.capacity at b.passes in
+        record {
+          came = a.came ++ b.came;
+          ran = laws.follows _ _ _ a.came b.came a.ran b.ran;
+          capacity = b.capacity ∙ a.capacity;
+          passes = passes_both _ _ _ _ a.came l b.came m a.passes next;
+        };
   }
 
   pub through_shows : Shows (ThroughBuffer reads) ahead
-  through_shows x y l h = passes_front (reader_capacity x) (ahead x) (ahead y) h.came l h.passes
+  through_shows x y l h = passes_front _ _ _ h.came l h.passes
 
   module _ {r : Ranks R} (c : ReadCounting reads r) where
-    through_lowers : (x y : BufReader R) (l : List ReadMark) → r.firm x.inner → ThroughBuffer reads x l y
-        → Falls (given l) ((ahead_ranks r).rank y) ((ahead_ranks r).rank x)
-    through_lowers x y l firm h =
-        falls_held (given h.came) (given l) (length (ahead x)) (length (ahead y)) (r.rank y.inner) (r.rank x.inner)
-        (c.lowers x.inner y.inner h.came firm h.ran)
-        (passes_given (reader_capacity x) (ahead x) (ahead y) h.came l h.passes)
-
-    through_falls : (x y : BufReader R) (l : List ReadMark) → r.counts x.inner → AllGiven l → ThroughBuffer reads x l y
-        → Falls (length l) ((ahead_ranks r).rank y) ((ahead_ranks r).rank x)
-    through_falls x y l counts g h =
-        let came = passes_all_given (reader_capacity x) (ahead x) (ahead y) h.came l h.passes g in
-        let less = rw (← given_all h.came came) at (c.falls x.inner y.inner h.came counts came h.ran) in
-        rw (← (given_all l g))
-        (falls_held (given h.came) (given l) (length (ahead x)) (length (ahead y)) (r.rank y.inner)
-        (r.rank x.inner) less (passes_given (reader_capacity x) (ahead x) (ahead y) h.came l h.passes))
-
     pub through_counting : ReadCounting (ThroughBuffer reads) (ahead_ranks r)
     through_counting = record {
-      sized = λ x. held_sized (r.rank x.inner) (length (ahead x)) r.width (c.sized x.inner);
+      sized = λ x. held_sized _ (length _) r.width (c.sized x.inner);
       counts_on = λ x y l k h. c.counts_on x.inner y.inner h.came k h.ran;
       firm_on = λ x y l k h. c.firm_on x.inner y.inner h.came k h.ran;
-      falls = through_falls;
-      lowers = through_lowers;
+      falls = λ x y l k g h.
+          let came = passes_all_given _ _ _ h.came l h.passes g in
+          let less = rw (← given_all h.came came) at (c.falls _ _ h.came k came h.ran) in
+          rw (← (given_all l g)) (falls_held _ _ (length _) (length _) _ _ less (passes_given _ _ _ h.came l h.passes));
+      lowers = λ x y l k h.
+          falls_held _ _ (length _) (length _) _ _ (c.lowers _ _ h.came k h.ran) (passes_given _ _ _ h.came l h.passes);
     }
 
 pub past_laws : {R : Type 0} {writes : Runs WriteMark R} → MarkLaws writes → MarkLaws (Past writes)

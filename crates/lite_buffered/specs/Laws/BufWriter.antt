@@ -3,9 +3,7 @@ use Rattle.std.proofs.Common.{◌≡◌, ◌∙◌, ℕ, List, [], ◌∷◌, �
 use Rattle.lite_io_base.specs.Laws.Takings.{taken_both}
 use Rattle.lite_io_base.specs.Runs.{MarkLaws}
 use Rattle.lite_io_base.specs.Takings.{WriteMark, bytes_in, bytes_taken}
-use Rattle.lite_buffered.specs.declared.buf_writer.BufWriter.{BufWriter}
 use Rattle.lite_buffered.specs.BufWriter.{Balanced, Buffers, TakesHeld, WriterAnswers, WriterSegment}
-use Rattle.lite_buffered.specs.BufWriter.{unwritten}
 use Rattle.lite_base.specs.Laws.Segments.{segments_join}
 use Rattle.lite_base.specs.Runs.{Runs}
 
@@ -14,20 +12,20 @@ pub drains_balance : (before rest : List ℕ) (taken : List WriteMark) (n : ℕ)
     → before ≡ bytes_taken taken ++ rest
 drains_balance before _ _ _ TakesHeld.none = refl
 drains_balance before _ _ _ (TakesHeld.some ms xs rest n d more) =
-    rw (taken_both, append-nil, append_assoc) (drains_balance before (xs ++ rest) ms n d)
+    rw (taken_both, append-nil, append_assoc) (drains_balance before _ ms n d)
 drains_balance before _ _ _ (TakesHeld.interrupted ms rest n d more few) =
     rw (taken_both, append-nil) (drains_balance before rest ms n d)
 
 answers_balance : (n : ℕ) (left after : List ℕ) (last : List WriteMark) (told : WriteMark)
     → WriterAnswers n left last told after
     → left ++ bytes_in told ≡ bytes_taken last ++ after
-answers_balance n left after last (WriteMark.wrote xs) (inl h) = rw (h.0, h.1) refl
+answers_balance n left after last (WriteMark.wrote xs) (inl h) = rw (h.0, h.1)
 answers_balance n left after last (WriteMark.wrote xs) (inr h) =
     rw (h.0, h.1, h.2) (sym (append-nil (xs ++ []) ∙ append-nil xs))
 answers_balance n left after last WriteMark.pending h = rw (h.0, h.1) (append-nil left)
 answers_balance n left after last (WriteMark.fault kind) (inl f, h) = rw (f.0, h) (append-nil left)
 answers_balance n left after last (WriteMark.fault kind) (inr f, h) = rw (f.0, h) (append-nil left)
-answers_balance n left after last told h = rw (h.0, h.1, h.2) refl
+answers_balance n left after last told h = rw (h.0, h.1, h.2)
 
 pub segment_balance : (before after : List ℕ) (taken : List WriteMark) (told : WriteMark)
     → WriterSegment before taken told after
@@ -52,20 +50,9 @@ balanced_both a b c taken more out next h k =
 pub balanced_one : (before after : List ℕ) (taken : List WriteMark) (told : WriteMark)
     → WriterSegment before taken told after → Balanced before (told ∷ []) taken after
 balanced_one before after taken told s =
-    ap (λ l. before ++ l) (append-nil (bytes_in told)) ∙ segment_balance before after taken told s
+    ap (λ l. before ++ l) (append-nil _) ∙ segment_balance before after taken told s
 
 module _ {W : Type 0} {writes : Runs WriteMark W} (laws : MarkLaws writes) where
-  buffers_follow : (x y z : BufWriter W) (l m : List WriteMark) → Buffers writes x l y → Buffers writes y m z
-      → Buffers writes x (l ++ m) z
-  buffers_follow x y z l m a b =
-      record {
-        taken = a.taken ++ b.taken;
-        ran = laws.follows x.inner y.inner z.inner a.taken b.taken a.ran b.ran;
-        capacity = b.capacity ∙ a.capacity;
-        segments = segments_join WriterSegment (unwritten x) (unwritten y) (unwritten z) a.taken b.taken l m a.segments b.segments;
-        balanced = balanced_both (unwritten x) (unwritten y) (unwritten z) a.taken b.taken l m a.balanced b.balanced;
-      }
-
   pub buffers_laws : MarkLaws (Buffers writes)
   buffers_laws = record {
     rests = λ x. record {
@@ -73,7 +60,13 @@ module _ {W : Type 0} {writes : Runs WriteMark W} (laws : MarkLaws writes) where
       ran = laws.rests x.inner;
       capacity = refl;
       segments = (refl, refl);
-      balanced = append-nil (unwritten x);
+      balanced = append-nil _;
     };
-    follows = buffers_follow;
+    follows = λ x y z l m a b. record {
+      taken = a.taken ++ b.taken;
+      ran = laws.follows _ _ _ a.taken b.taken a.ran b.ran;
+      capacity = b.capacity ∙ a.capacity;
+      segments = segments_join WriterSegment _ _ _ a.taken b.taken l m a.segments b.segments;
+      balanced = balanced_both _ _ _ a.taken b.taken l m a.balanced b.balanced;
+    };
   }

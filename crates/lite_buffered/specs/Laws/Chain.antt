@@ -20,7 +20,7 @@ no_end_both [] m h k = k
 no_end_both (a ∷ l) m h k = (h.0, no_end_both l m h.1 k)
 
 first_sized : (w : ℕ) (xs : List ℕ) → length xs ≡ w → (b : Bool) → length (cond b (replicate w 0) xs) ≡ w
-first_sized w xs e true = length-replicate {A = ℕ} w 0
+first_sized w xs e true = length-replicate w 0
 first_sized w xs e false = e
 
 module _ {R S : Type 0} (first : Runs ReadMark R) (second : Runs ReadMark S) where
@@ -57,8 +57,7 @@ module _ {R S : Type 0} (first : Runs ReadMark R) (second : Runs ReadMark S) whe
         second_ran = q.follows x.second y.second z.second h.after m h.second_ran k.0;
       }
   follows_at p q true true true x y z l m h k = (q.follows x.second y.second z.second l m h.0 k.0, k.1 ∙ h.1)
-  follows_at p q true false c x y z l m h k = absurd h
-  follows_at p q a true false x y z l m h k = absurd k
+  follows_at p q _ _ _ x y z l m h k = absurd assumption
 
   pub chains_laws : MarkLaws first → MarkLaws second → MarkLaws (ChainsReaders first second)
   chains_laws p q = record {
@@ -80,7 +79,7 @@ module _ {R S : Type 0} (first : Runs ReadMark R) (second : Runs ReadMark S) whe
     show_at f p q false false x y l h = p x.first y.first l h.0
     show_at f p q false true x y l h =
         let whole = f.follows x.first h.between y.first h.before (ReadMark.end ∷ []) h.first_ran h.first_ended in
-        rw h.cut (before_end (lent1 x.first) h.before h.after (p x.first y.first (h.before ++ ReadMark.end ∷ []) whole))
+        rw h.cut (before_end _ h.before h.after (p x.first y.first (h.before ++ ReadMark.end ∷ []) whole))
     show_at f p q true true x y l h = q x.second y.second l h.0
     show_at f p q true false x y l h = absurd h
 
@@ -134,11 +133,6 @@ module _ {R S : Type 0} (first : Runs ReadMark R) (second : Runs ReadMark S) whe
         (rank2 x.second) (inl refl) (falls2 l g h.0))
     fall_at true false l g h = absurd h
 
-    chains_fall : (l : List ReadMark) → All l → ChainsReaders first second x l y
-        → Falls (size l) (cond y.has_ended (replicate width 0) (rank1 y.first) ++ rank2 y.second)
-        (cond x.has_ended (replicate width 0) (rank1 x.first) ++ rank2 x.second)
-    chains_fall = fall_at x.has_ended y.has_ended
-
   module _ {r : Ranks R} {s : Ranks S} (c : ReadCounting first r) (d : ReadCounting second s) where
     pub chains_counting : ReadCounting (ChainsReaders first second) (chain_read_ranks r s)
     chains_counting = record {
@@ -147,9 +141,9 @@ module _ {R S : Type 0} (first : Runs ReadMark R) (second : Runs ReadMark S) whe
       counts_on = chains_keep r.counts s.counts c.counts_on d.counts_on;
       firm_on = chains_keep r.firm s.firm c.firm_on d.firm_on;
       falls = λ x y l k.
-          chains_fall r.width r.rank s.rank c.sized AllGiven length given_parts length-append x y
-          (λ v m. c.falls x.first v m k.0) (λ m. d.falls x.second y.second m k.1) l;
+          fall_at r.width r.rank s.rank c.sized AllGiven length given_parts length-append x y
+          (λ v m. c.falls x.first v m k.0) (λ m. d.falls x.second y.second m k.1) x.has_ended y.has_ended l;
       lowers = λ x y l k h.
-          chains_fall r.width r.rank s.rank c.sized (λ _. ⊤) given (λ m n _. (tt, tt)) given-append x y
-          (λ v m _. c.lowers x.first v m k.0) (λ m _. d.lowers x.second y.second m k.1) l tt h;
+          fall_at r.width r.rank s.rank c.sized (λ _. ⊤) given (λ m n _. (tt, tt)) given-append x y
+          (λ v m _. c.lowers x.first v m k.0) (λ m _. d.lowers x.second y.second m k.1) x.has_ended y.has_ended l tt h;
     }

@@ -1,9 +1,9 @@
 use Rattle.std.proofs.Common.{[], ◌∷◌, refl, append-nil}
 use Rattle.lite_io_base.specs.Marks.{ReadMark, bytes}
-use Rattle.lite_io_base.specs.Parts.{Part, reading_of}
+use Rattle.lite_io_base.specs.Parts.{Part}
 use Rattle.lite_io_base.specs.Takings.{WriteMark}
 use Rattle.lite_buffered.specs.declared.buf_reader.BufReader.{BufReader}
-use Rattle.lite_buffered.specs.BufReader.{ahead, reader_capacity}
+use Rattle.lite_buffered.specs.BufReader.{ahead}
 use Rattle.lite_buffered.specs.InOrder.{KeepsOrder}
 use Rattle.lite_buffered.specs.Laws.BufReader.{ahead_none, passes_both, passes_of}
 use Rattle.lite_base.specs.Runs.{Runs}
@@ -11,7 +11,7 @@ use Rattle.lite_base.specs.Runs.{Runs}
 module _ {R : Type 0} (reads : Runs ReadMark R) (writes : Runs WriteMark R) where
   pub in_order : (x : BufReader R) → KeepsOrder reads writes x
   in_order x [] y h =
-      let still = passes_of (reader_capacity x) (ahead x) [] [] (ahead x) (append-nil (bytes (ahead x)))
+      let still = passes_of _ _ [] [] (ahead x) (append-nil (bytes _))
       (λ none. (ahead_none x none, ahead_none x none)) in
       rw h ([], refl, tt, still)
   in_order x (Part.reading l ∷ ps) y (z, a, h) =
@@ -20,8 +20,7 @@ module _ {R : Type 0} (reads : Runs ReadMark R) (writes : Runs WriteMark R) wher
         Part.reading a.came ∷ r.0,
         (z.inner, a.ran, r.1),
         r.2,
-        passes_both (reader_capacity x) (ahead x) (ahead z) (ahead y) a.came l (reading_of r.0) (reading_of ps)
-            a.passes next,
+        passes_both _ _ _ _ a.came l _ _ a.passes next,
       )
   in_order x (Part.writing l ∷ ps) y (z, a, h) =
       let r = in_order z ps y h in

@@ -1,36 +1,24 @@
 -- The bytes that are to come from what is read through a buffer, up to a limit, and one after the other.
-use Rattle.std.proofs.Common.{◌≡◌, ◌∙◌, ◌<◌, ℕ, zero, suc, Bool, true, false, List, [], ◌∷◌, ◌++◌, take, ap, refl}
-use Rattle.std.proofs.Common.{arith}
+use Rattle.std.proofs.Common.{◌≡◌, ◌∙◌, ◌<◌, ℕ, suc, Bool, true, false, List, [], ◌∷◌, ◌++◌, take, ap, refl}
 use Rattle.lite_io_base.specs.Known.{Known, TellsKnown}
 use Rattle.lite_io_base.specs.Laws.Known.{spends_both, spends_bytes, spends_front, spends_split}
 use Rattle.lite_io_base.specs.Marks.{ReadMark, bytes}
 use Rattle.lite_buffered.specs.Laws.BufReader.{passes_some}
-use Rattle.lite_buffered.specs.BufReader.{PassesBuffer, ThroughBuffer, ahead, reader_capacity, reader_inner}
+use Rattle.lite_buffered.specs.BufReader.{ThroughBuffer, ahead, reader_capacity, reader_inner}
 use Rattle.lite_buffered.specs.Chain.{ChainsReaders, EndlessMarks, JoinsReaders}
 use Rattle.lite_buffered.specs.Take.{LimitEnds, TakesMarks, WithinLimit}
 use Rattle.lite_buffered.specs.declared.buf_reader.BufReader.{BufReader}
 use Rattle.lite_buffered.specs.declared.chain.Chain.{Chain}
 use Rattle.lite_buffered.specs.declared.take.Take.{Take}
 
-pub passes_spends : (n : ℕ) (before after : List ℕ) (came out : List ReadMark) (xs ys : List ℕ) → 0 < n
-    → PassesBuffer n before came out after → TellsKnown xs came ys
-    → TellsKnown (before ++ xs) out (after ++ ys)
-passes_spends n before after came out xs ys some h s =
-    let all = spends_both (before ++ xs) xs ys (bytes before) came (spends_front before xs) s in
-    let cut = spends_split (before ++ xs) ys out (bytes after) (rw (← passes_some n before came out after some h) all) in
-    rw (← (spends_bytes after cut.0 ys cut.2)) cut.1
-
 pub through_spends : {R : Type 0} (k : Known R) (x y : BufReader R) (l : List ReadMark) → (0 < reader_capacity x)
     × k.knows x.inner → ThroughBuffer k.told x l y
     → ((0 < reader_capacity y) × k.knows y.inner) × TellsKnown (ahead x ++ k.left x.inner) l (ahead y ++ k.left y.inner)
 through_spends k x y l know h =
     let on = k.tells x.inner y.inner h.came know.1 h.ran in
-    let room = know.0 in
-    let same = h.capacity in (
-      (omega (arith, room, same), on.0),
-      passes_spends (reader_capacity x) (ahead x) (ahead y) h.came l (k.left x.inner)
-          (k.left y.inner) know.0 h.passes on.1,
-    )
+    let all = spends_both _ _ _ (bytes (ahead x)) h.came (spends_front (ahead x) _) on.1 in
+    let cut = spends_split _ _ l (bytes (ahead y)) (rw (passes_some _ _ h.came l _ know.0 h.passes) at all) in
+    ((rw h.capacity know.0, on.0), rw (← (spends_bytes (ahead y) cut.0 _ cut.2)) cut.1)
 
 -- what was read ahead, and then what the inner reader is to give
 abbrev pub through_known : {R : Type 0} → Known R → Known (BufReader R)
@@ -43,13 +31,12 @@ through_known k = record {
 
 fits_spends : (limit rest : ℕ) (l : List ReadMark) (xs ys : List ℕ) → WithinLimit limit l rest → TellsKnown xs l ys
     → TellsKnown (take limit xs) l (take rest ys)
-fits_spends limit rest [] xs ys f h = rw (f, h) refl
-fits_spends zero rest (m ∷ l) xs ys f h = absurd f
+fits_spends limit rest [] xs ys f h = rw (f, h)
 fits_spends (suc n) rest (ReadMark.byte b ∷ l) xs ys f h =
     (take n h.0, ap (take (suc n)) h.1, fits_spends n rest l h.0 ys f h.2)
-fits_spends (suc n) rest (ReadMark.pending ∷ l) xs ys f h = fits_spends (suc n) rest l xs ys f h
-fits_spends (suc n) rest (ReadMark.fault kind ∷ l) xs ys f h = absurd h
-fits_spends (suc n) rest (ReadMark.end ∷ l) xs ys f h = (ap (take (suc n)) h.0, fits_spends (suc n) rest l xs ys f h.1)
+fits_spends (suc n) rest (ReadMark.pending ∷ l) xs ys f h = fits_spends _ rest l xs ys f h
+fits_spends (suc n) rest (ReadMark.end ∷ l) xs ys f h = (ap (take (suc n)) h.0, fits_spends _ rest l xs ys f h.1)
+fits_spends _ rest _ xs ys f h = absurd assumption
 
 ends_spends : (rest : ℕ) (l : List ReadMark) (ys : List ℕ) → LimitEnds rest l
     → TellsKnown (take rest ys) l (take rest ys)
@@ -63,8 +50,8 @@ pub takes_spends : {R : Type 0} (k : Known R) (x y : Take R) (l : List ReadMark)
     → k.knows y.inner × TellsKnown (take x.limit (k.left x.inner)) l (take y.limit (k.left y.inner))
 takes_spends k x y l know h =
     let on = k.tells x.inner y.inner h.front know h.ran in
-    let front = fits_spends x.limit y.limit h.front (k.left x.inner) (k.left y.inner) h.fits on.1 in
-    let whole = spends_both _ _ _ h.front h.ends front (ends_spends y.limit h.ends (k.left y.inner) h.used_up) in
+    let front = fits_spends x.limit y.limit h.front _ _ h.fits on.1 in
+    let whole = spends_both _ _ _ h.front h.ends front (ends_spends y.limit h.ends _ h.used_up) in
     (on.0, rw h.cut whole)
 
 -- the first bytes
@@ -98,7 +85,7 @@ module _ {R S : Type 0} (k : Known R) (j : Known S) where
   joins_spends false false x y l at to know h =
       let on = k.tells x.first y.first l know.0 h.0 in (
         (on.0, rw h.2 know.1, λ e. absurd (cc (e, to))),
-        rw (ap j.left h.2) (before_end l _ _ (j.left x.second) h.1 on.1),
+        rw (ap j.left h.2) (before_end l _ _ _ h.1 on.1),
       )
   joins_spends false true x y l at to know h =
       let one = k.tells x.first h.between h.before know.0 h.first_ran in

@@ -21,5 +21,5 @@ module _ {R : Type 0} (seeks : R → SeekFrom → SeekAnswer → R → Type 0) (
   -- what each seek of the inner reader keeps, each seek of a buffered one keeps
   pub seeks_keep : SeekKeeps (SeeksThrough seeks) (λ x. P (reader_inner x))
   seeks_keep x y (Current offset) r p (inl h) = once x y _ r p h.1
-  seeks_keep x y (Current offset) r p (inr h) = twice x y _ (Current offset) r p h.1
+  seeks_keep x y (Current offset) r p (inr h) = twice x y _ _ r p h.1
   seeks_keep x y a r p h = once x y a r p h

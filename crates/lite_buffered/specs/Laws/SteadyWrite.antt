@@ -18,7 +18,7 @@ drains_no_error : (before rest : List ℕ) (taken : List WriteMark) (n : ℕ) �
     → NoError taken
 drains_no_error before _ _ _ TakesHeld.none = tt
 drains_no_error before _ _ _ (TakesHeld.some ms xs rest n d more) =
-    no_error_both ms _ (drains_no_error before (xs ++ rest) ms n d) tt
+    no_error_both ms _ (drains_no_error before _ ms n d) tt
 drains_no_error before _ _ _ (TakesHeld.interrupted ms rest n d more few) =
     no_error_both ms _ (drains_no_error before rest ms n d) (refl, tt)
 
@@ -109,7 +109,7 @@ module _ {W : Type 0} {writes : Runs WriteMark W} where
         steady = λ x y x' y' l m e h k a b f g same.
             let p = flushed writes x x' l a f h in
             let q = flushed writes y y' m b g k in
-            let bytes : bytes_taken p.taken ≡ bytes_taken q.taken = rw (p.bytes, q.bytes, e.0, same) refl in
+            let bytes : bytes_taken p.taken ≡ bytes_taken q.taken = rw (p.bytes, q.bytes, e.0, same) in
             let inner = s.steady x.inner y.inner x'.inner y'.inner p.taken q.taken e.1 p.ran q.ran p.none q.none p.last
             q.last bytes in
             (inner.0, (p.empty ∙ sym q.empty, inner.1));
@@ -119,7 +119,7 @@ module _ {W : Type 0} {writes : Runs WriteMark W} where
       → CalmWriteLaws (Buffers writes) (λ (x : BufWriter W). is_calm x.inner)
   buf_writer_calm c =
       record {
-        no_pending = λ x y l k h. segments_no_pending (unwritten x) (unwritten y) h.taken l
+        no_pending = λ x y l k h. segments_no_pending _ _ h.taken l
             (c.no_pending x.inner y.inner h.taken k h.ran) h.segments;
         calm_on = λ x y l k h. c.calm_on x.inner y.inner h.taken k h.ran;
       }

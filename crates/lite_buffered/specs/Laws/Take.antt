@@ -1,10 +1,9 @@
-use Rattle.std.proofs.Common.{◌≡◌, ◌∙◌, ℕ, zero, suc, List, [], ◌∷◌, ◌++◌, length, take, refl, sym, ap, subst, arith}
+use Rattle.std.proofs.Common.{◌≡◌, ◌∙◌, ℕ, zero, suc, List, [], ◌∷◌, ◌++◌, take, refl, sym, ap, subst, arith}
 use Rattle.std.proofs.Common.{append_assoc, append-nil}
 use Rattle.lite_base.specs.Answers.{Comparable}
 use Rattle.lite_base.specs.Ranks.{Ranks, ranks_of}
 use Rattle.lite_base.specs.Runs.{Runs}
 use Rattle.lite_io_base.specs.Counting.{ReadCounting}
-use Rattle.lite_io_base.specs.Falls.{Falls}
 use Rattle.lite_io_base.specs.Laws.Marks.{given-append, given_parts}
 use Rattle.lite_io_base.specs.Laws.Steady.{comparable_none}
 use Rattle.lite_io_base.specs.Marks.{AllGiven, ReadMark, bytes, given}
@@ -16,7 +15,7 @@ fits_follow : (a b c : ℕ) (l m : List ReadMark) → WithinLimit a l b → With
 fits_follow a b c [] m h k = rw (← h) k
 fits_follow zero b c (e ∷ l) m h k = absurd h
 fits_follow (suc a) b c (ReadMark.byte x ∷ l) m h k = fits_follow a b c l m h k
-fits_follow (suc a) b c (e ∷ l) m h k = fits_follow (suc a) b c l m h k
+fits_follow (suc a) b c (e ∷ l) m h k = fits_follow _ b c l m h k
 
 fits_none : (b c : ℕ) (m : List ReadMark) → b ≡ 0 → WithinLimit b m c → (m ≡ []) × (c ≡ 0)
 fits_none b c [] z h = (refl, h ∙ z)
@@ -39,7 +38,7 @@ ends_gone c (e ∷ l) h g = absurd (subst (λ m. AllGiven (m ∷ [])) h.1 (g.0, 
 -- what is lent of a front, with the ends behind it
 fits_show : (limit rest : ℕ) (lent : List ℕ) (front ends : List ReadMark) → WithinLimit limit front rest
     → LimitEnds rest ends → Comparable (bytes lent) front → Comparable (bytes (take limit lent)) (front ++ ends)
-fits_show limit rest lent [] [] f e h = comparable_none (bytes (take limit lent))
+fits_show limit rest lent [] [] f e h = comparable_none (bytes _)
 fits_show limit rest lent [] (m ∷ ends) f e h = let none : limit ≡ 0 = omega (arith, f, e.0) in rw none tt
 fits_show zero rest lent (m ∷ front) ends f e h = absurd f
 fits_show (suc n) rest [] (m ∷ front) ends f e h = tt
@@ -54,12 +53,12 @@ module _ {R : Type 0} {reads : Runs ReadMark R} where
   joined : (x y z : Take R) (l m : List ReadMark) (a : TakesMarks reads x l y) (b : TakesMarks reads y m z)
       (e : List ReadMark) → a.ends ≡ e
       → (l ++ m ≡ (a.front ++ b.front) ++ (a.ends ++ b.ends)) × LimitEnds z.limit (a.ends ++ b.ends)
-  joined x y z l m a b [] is = rw is (rw (a.cut, is, append-nil, b.cut, append_assoc) refl, b.used_up)
+  joined x y z l m a b [] is = rw is (rw (a.cut, is, append-nil, b.cut, append_assoc), b.used_up)
   joined x y z l m a b (e ∷ es) is =
       let after = rw is at a.used_up in
       let none = fits_none y.limit z.limit b.front after.0 b.fits in
       let same : y.limit ≡ z.limit = after.0 ∙ sym none.1 in (
-        rw (a.cut, b.cut, none.0, append-nil, append_assoc) refl,
+        rw (a.cut, b.cut, none.0, append-nil, append_assoc),
         ends_both z.limit a.ends b.ends (rw (← same) a.used_up) b.used_up,
       )
 
@@ -89,30 +88,20 @@ module _ {R : Type 0} {reads : Runs ReadMark R} where
 
   pub takes_show : (lent : R → List ℕ) → Shows reads lent → Shows (TakesMarks reads) (λ x. take x.limit (lent x.inner))
   takes_show lent shows x y l h =
-      rw h.cut
-      (fits_show x.limit y.limit (lent x.inner) h.front h.ends h.fits h.used_up (shows x.inner y.inner h.front h.ran))
+      rw h.cut (fits_show x.limit y.limit _ h.front h.ends h.fits h.used_up (shows x.inner y.inner h.front h.ran))
 
   module _ {r : Ranks R} (c : ReadCounting reads r) where
-    takes_lowers : (x y : Take R) (l : List ReadMark) → r.firm x.inner → TakesMarks reads x l y
-        → Falls (given l) (r.rank y.inner) (r.rank x.inner)
-    takes_lowers x y l firm h =
-        let same : given h.front ≡ given l =
-        omega (arith, ap given h.cut, given-append h.front h.ends, ends_given y.limit h.ends h.used_up) in
-        rw (← same) (c.lowers x.inner y.inner h.front firm h.ran)
-
-    takes_falls : (x y : Take R) (l : List ReadMark) → r.counts x.inner → AllGiven l → TakesMarks reads x l y
-        → Falls (length l) (r.rank y.inner) (r.rank x.inner)
-    takes_falls x y l counts g h =
-        let parts = given_parts h.front h.ends (rw (← h.cut) g) in
-        let same : h.front ≡ l =
-        sym (h.cut ∙ ap (λ k. h.front ++ k) (ends_gone y.limit h.ends h.used_up parts.1) ∙ append-nil h.front) in
-        rw (← same) (c.falls x.inner y.inner h.front counts parts.0 h.ran)
-
     pub takes_counting : ReadCounting (TakesMarks reads) (ranks_of (λ (x : Take R). x.inner) r)
     takes_counting = record {
       sized = λ x. c.sized x.inner;
       counts_on = λ x y l k h. c.counts_on x.inner y.inner h.front k h.ran;
       firm_on = λ x y l k h. c.firm_on x.inner y.inner h.front k h.ran;
-      falls = takes_falls;
-      lowers = takes_lowers;
+      falls = λ x y l k g h.
+          let parts = given_parts h.front h.ends (rw (← h.cut) g) in
+          let same : h.front ≡ l = rw (h.cut, ends_gone y.limit h.ends h.used_up parts.1, append-nil) in
+          rw (← same) (c.falls _ _ h.front k parts.0 h.ran);
+      lowers = λ x y l k h.
+          let same : given h.front ≡ given l =
+          omega (arith, ap given h.cut, given-append h.front h.ends, ends_given y.limit h.ends h.used_up) in
+          rw (← same) (c.lowers _ _ h.front k h.ran);
     }

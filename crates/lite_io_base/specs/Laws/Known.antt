@@ -63,7 +63,7 @@ told_known held = record {
 abbrev pub lent_known : {S : Type 0} → Known S → Known (MutBor S)
 lent_known {S} k = record {
   told = Lent k.told;
-  knows = λ (x : MutBor S). k.knows x.now;
-  left = λ (x : MutBor S). k.left x.now;
+  knows = λ x. k.knows x.now;
+  left = λ x. k.left x.now;
   tells = λ x y l know h. k.tells x.now y.now l know h.0;
 }

@@ -20,11 +20,11 @@ pub counting_part : {S X : Type 0} {reads : Runs ReadMark S} {outer : Runs ReadM
     → ((x y : X) (l : List ReadMark) → outer x l y → reads (part x) l (part y)) → ReadCounting reads r
     → ReadCounting outer (ranks_of part r)
 counting_part part ran c = record {
-  sized = λ x. c.sized (part x);
-  counts_on = λ x y l k h. c.counts_on (part x) (part y) l k (ran x y l h);
-  firm_on = λ x y l k h. c.firm_on (part x) (part y) l k (ran x y l h);
-  falls = λ x y l k g h. c.falls (part x) (part y) l k g (ran x y l h);
-  lowers = λ x y l k h. c.lowers (part x) (part y) l k (ran x y l h);
+  sized = λ x. c.sized _;
+  counts_on = λ x y l k h. c.counts_on _ _ l k (ran x y l h);
+  firm_on = λ x y l k h. c.firm_on _ _ l k (ran x y l h);
+  falls = λ x y l k g h. c.falls _ _ l k g (ran x y l h);
+  lowers = λ x y l k h. c.lowers _ _ l k (ran x y l h);
 }
 
 pub lent_counting : {S : Type 0} {reads : Runs ReadMark S} {r : Ranks S} → ReadCounting reads r
@@ -36,8 +36,8 @@ pub calm_part : {A S X : Type 0} {NoWait : List A → Type 0} {run : Runs A S} {
     (part : X → S) → ((x y : X) (l : List A) → outer x l y → run (part x) l (part y)) → CalmMarks NoWait run is_calm
     → CalmMarks NoWait outer (λ x. is_calm (part x))
 calm_part part ran c = record {
-  no_pending = λ x y l k h. c.no_pending (part x) (part y) l k (ran x y l h);
-  calm_on = λ x y l k h. c.calm_on (part x) (part y) l k (ran x y l h);
+  no_pending = λ x y l k h. c.no_pending _ (part y) l k (ran x y l h);
+  calm_on = λ x y l k h. c.calm_on _ _ l k (ran x y l h);
 }
 
 pub lent_calm_marks : {A S : Type 0} {NoWait : List A → Type 0} {run : Runs A S} {is_calm : S → Type 0}

@@ -111,8 +111,7 @@ told_stripped (_ ∷ x) y (a ∷ l) h = rw h.0 (refl, told_stripped x y l h.1)
 pub told_one_tale : (t u x y l m : List ReadMark) → strip_marks t ≡ strip_marks u → TellsScript t l x
     → TellsScript u m y → Comparable (strip_marks l) (strip_marks m)
 told_one_tale t u x y l m same h k =
-    told_comparable (strip_marks u) (strip_marks x) (strip_marks y) (strip_marks l) (strip_marks m)
-    (rw same at (told_stripped t x l h)) (told_stripped u y m k)
+    told_comparable _ _ (strip_marks y) _ _ (rw same at (told_stripped t x l h)) (told_stripped u y m k)
 
 -- no pending to come, then none came
 pub told_no_wait : (t x l : List ReadMark) → NoPendingRead t → TellsScript t l x → NoPendingRead l × NoPendingRead x
@@ -127,13 +126,13 @@ module _ {S : Type 0} where
     pub told_steady : SteadyReadLaws (λ x l y. TellsScript (marks x) l (marks y))
         (λ x l y. TellsScript (marks x) l (marks y)) ⊤ (λ x y. strip_marks (marks x) ≡ strip_marks (marks y))
     told_steady =
-        steady_read_always (told_laws marks) (λ x y x' y'. told_one_tale (marks x) (marks y) (marks x') (marks y'))
+        steady_read_always (told_laws marks) (λ x y x' y'. told_one_tale _ _ _ _)
 
     pub told_calm : CalmReadLaws (λ x l y. TellsScript (marks x) l (marks y)) (λ x. NoPendingRead (marks x))
     told_calm =
         record {
-          no_pending = λ x y l n h. (told_no_wait (marks x) (marks y) l n h).0;
-          calm_on = λ x y l n h. (told_no_wait (marks x) (marks y) l n h).1;
+          no_pending = λ x y l n h. (told_no_wait _ _ l n h).0;
+          calm_on = λ x y l n h. (told_no_wait _ _ l n h).1;
         }
 
   -- slices, whose marks are their bytes
@@ -141,13 +140,13 @@ module _ {S : Type 0} where
     pub slice_steady : SteadyReadLaws (λ x l y. TellsScript (bytes (held x)) l (bytes (held y)))
         (λ x l y. TellsScript (bytes (held x)) l (bytes (held y))) ⊤ (λ x y. held x ≡ held y)
     slice_steady =
-        steady_read_always (told_laws (λ x. bytes (held x)))
+        steady_read_always (told_laws (λ x. bytes _))
         (λ x y x' y' l m e.
-        told_one_tale (bytes (held x)) (bytes (held y)) (bytes (held x')) (bytes (held y')) l m (rw e))
+        told_one_tale (bytes _) (bytes _) (bytes _) (bytes _) l m (rw e))
 
     pub slice_calm : CalmReadLaws (λ x l y. TellsScript (bytes (held x)) l (bytes (held y))) (λ x. ⊤)
     slice_calm =
         record {
-          no_pending = λ x y l n h. (told_no_wait (bytes (held x)) (bytes (held y)) l (no_wait_bytes (held x)) h).0;
+          no_pending = λ x y l n h. (told_no_wait (bytes _) (bytes _) l (no_wait_bytes (held x)) h).0;
           calm_on = λ x y l n h. tt;
         }

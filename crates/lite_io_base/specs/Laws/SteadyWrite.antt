@@ -12,7 +12,7 @@ pub steady_write_part : {S X : Type 0} {writes : Runs WriteMark S} {outer : Runs
     → ((x y : X) (l : List WriteMark) → outer x l y → writes (part x) l (part y)) → SteadyWriteLaws writes alike below
     → SteadyWriteLaws outer (λ x y. alike (part x) (part y)) (λ x. below (part x))
 steady_write_part part ran s = record {
-  steady = λ x y x' y' l m e h k. s.steady (part x) (part y) (part x') (part y') l m e (ran x x' l h) (ran y y' m k);
+  steady = λ x y x' y' l m e h k. s.steady _ _ _ _ l m e (ran x x' l h) (ran y y' m k);
 }
 
 pub lent_steady_write : {S : Type 0} {writes : Runs WriteMark S} {alike : S → S → Type 0} {below : S → List ℕ}

@@ -26,7 +26,7 @@ grows_stored held = record {
 abbrev pub lent_stored : {S : Type 0} → Stored S → Stored (MutBor S)
 lent_stored {S} k = record {
   told = Lent k.told;
-  stores = λ (x : MutBor S). k.stores x.now;
-  kept = λ (x : MutBor S). k.kept x.now;
+  stores = λ x. k.stores x.now;
+  kept = λ x. k.kept x.now;
   tells = λ x y l know h. k.tells x.now y.now l know h.0;
 }

@@ -1,34 +1,26 @@
 -- A `Takes` leaves what was taken, however often it was pending.
-use Rattle.std.proofs.Common.{◌≡◌, ◌∙◌, List, [], ◌∷◌, ◌++◌, inl, inr, ap, subst, sym, append-nil, append_assoc}
+use Rattle.std.proofs.Common.{◌≡◌, List, [], ◌∷◌, ◌++◌, inl, inr, append-nil, append_assoc}
 use Rattle.lite_io_base.specs.SteadyWrite.{CalmWriteLaws, SteadyWriteLaws}
 use Rattle.lite_io_base.specs.Takings.{WriteMark, bytes_taken}
 use Rattle.lite_mock.specs.Takes.{AllObey, Orders}
-use Rattle.lite_mock.specs.declared.takes.Order.{Order}
-use Rattle.lite_mock.specs.declared.takes.Order.TheVariants.{AtMost, Wait, Fail}
 use Rattle.lite_mock.specs.SteadyTakes.{BothOrders, NoPendingOrder}
 
 all_taken : (x y : Orders) (l : List WriteMark) → AllObey x l y → y.taken ≡ x.taken ++ bytes_taken l
-all_taken x y [] h = ap (λ o. o.taken) h ∙ sym (append-nil x.taken)
+all_taken x y [] h = rw (h, append-nil)
 all_taken x y (WriteMark.wrote xs ∷ l) h = rw (all_taken h.0 y l h.2, h.1.0, append_assoc)
-all_taken x y (WriteMark.pending ∷ l) h = all_taken h.0 y l h.2 ∙ ap (λ k. k ++ bytes_taken l) h.1.1
-all_taken x y (WriteMark.fault kind ∷ l) (z, inl f, h) = all_taken z y l h ∙ ap (λ k. k ++ bytes_taken l) f.1
-all_taken x y (WriteMark.fault kind ∷ l) (z, inr f, h) = all_taken z y l h ∙ ap (λ o. o.taken ++ bytes_taken l) f.1
-all_taken x y (a ∷ l) h = all_taken h.0 y l h.2 ∙ ap (λ o. o.taken ++ bytes_taken l) h.1
-
--- orders that are left after those before them
-orders_behind : (x y : Orders) (o : Order) → NoPendingOrder x.orders → x.orders ≡ o ∷ y.orders
-    → NoPendingOrder (o ∷ y.orders)
-orders_behind x y o n e = subst NoPendingOrder e n
+all_taken x y (WriteMark.pending ∷ l) h = rw (all_taken h.0 y l h.2, h.1.1)
+all_taken x y (WriteMark.fault kind ∷ l) (z, inl f, h) = rw (all_taken z y l h, f.1)
+all_taken x y (WriteMark.fault kind ∷ l) (z, inr f, h) = rw (all_taken z y l h, f.1)
+all_taken x y (a ∷ l) h = rw (all_taken h.0 y l h.2, h.1)
 
 none_waits : (x y : Orders) (l : List WriteMark) → NoPendingOrder x.orders → AllObey x l y → BothOrders x l y
-none_waits x y [] n h = (tt, subst (λ o. NoPendingOrder o.orders) (sym h) n)
-none_waits x y (WriteMark.wrote xs ∷ l) n (z, (t, inl e), h) = none_waits z y l (subst NoPendingOrder (sym e.1) tt) h
-none_waits x y (WriteMark.wrote xs ∷ l) n (z, (t, inr e), h) = none_waits z y l (orders_behind x z (AtMost e.0) n e.1) h
-none_waits x y (WriteMark.pending ∷ l) n h = absurd (orders_behind x h.0 Wait n h.1.0)
-none_waits x y (WriteMark.fault kind ∷ l) n (z, inl f, h) = none_waits z y l (orders_behind x z (Fail kind) n f.0) h
-none_waits x y (WriteMark.fault kind ∷ l) n (z, inr f, h) =
-    none_waits z y l (subst (λ o. NoPendingOrder o.orders) (sym f.1) n) h
-none_waits x y (a ∷ l) n h = none_waits h.0 y l (subst (λ o. NoPendingOrder o.orders) (sym h.1) n) h.2
+none_waits x y [] n h = (tt, rw h n)
+none_waits x y (WriteMark.wrote xs ∷ l) n (z, (t, inl e), h) = none_waits z y l (rw e.1 tt) h
+none_waits x y (WriteMark.wrote xs ∷ l) n (z, (t, inr e), h) = none_waits z y l (rw e.1 at n) h
+none_waits x y (WriteMark.pending ∷ l) n h = absurd (rw h.1.0 at n)
+none_waits x y (WriteMark.fault kind ∷ l) n (z, inl f, h) = none_waits z y l (rw f.0 at n) h
+none_waits x y (WriteMark.fault kind ∷ l) n (z, inr f, h) = none_waits z y l (rw f.1 n) h
+none_waits x y (a ∷ l) n h = none_waits h.0 y l (rw h.1 n) h.2
 
 pub takes_steady : SteadyWriteLaws AllObey (λ x y. x.taken ≡ y.taken) (λ x. x.taken)
 takes_steady =

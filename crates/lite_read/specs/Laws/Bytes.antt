@@ -8,7 +8,7 @@ use Rattle.lite_base.specs.Laws.Falling.{Lowers-below}
 use Rattle.lite_base.specs.Laws.Hint.{same_hint}
 use Rattle.lite_base.specs.Rank.{Below, Lowers}
 use Rattle.lite_base.specs.Ranks.{Counting, Ranks, ranks_of}
-use Rattle.lite_base.specs.StreamLaws.{RunLaws as StreamRunLaws, StreamLaws}
+use Rattle.lite_base.specs.StreamLaws.{StreamLaws}
 use Rattle.lite_base.specs.Laws.StreamLaws.{laws_of}
 use Rattle.lite_base.specs.Runs.{NoHint, Runs}
 use Rattle.lite_io_base.specs.Counting.{ReadCounting}
@@ -35,14 +35,12 @@ one_below n xs ys h = rw (add-one n) at h
 tells_lower : (i : List ReadMark) (l : List (Answer (Result ℕ Error))) (xs ys : List ℕ) → TellsEach i l
     → Falls (given i) xs ys → Lowers l xs ys
 tells_lower [] [] xs ys h f = f
-tells_lower [] (a ∷ l) xs ys h f = absurd h
-tells_lower (x ∷ i) [] xs ys h f = absurd h
-tells_lower (ReadMark.byte b ∷ i) (Ready (Some r) ∷ l) xs ys h f = one_below (given i) xs ys f
-tells_lower (ReadMark.fault k ∷ i) (Pending ∷ l) xs ys h f = Lowers-below l xs ys (one_below (given i) xs ys f)
-tells_lower (ReadMark.fault k ∷ i) (Ready (Some r) ∷ l) xs ys h f = one_below (given i) xs ys f
+tells_lower (ReadMark.byte b ∷ i) (Ready (Some r) ∷ l) xs ys h f = one_below _ xs ys f
+tells_lower (ReadMark.fault k ∷ i) (Pending ∷ l) xs ys h f = Lowers-below l xs ys (one_below _ xs ys f)
+tells_lower (ReadMark.fault k ∷ i) (Ready (Some r) ∷ l) xs ys h f = one_below _ xs ys f
 tells_lower (ReadMark.pending ∷ i) (Pending ∷ l) xs ys h f = tells_lower i l xs ys h.1 f
 tells_lower (ReadMark.end ∷ i) (Ready None ∷ l) xs ys h f = tells_lower i l xs ys h.1 f
-tells_lower _ _ xs ys h f = absurd h.0
+tells_lower _ _ xs ys h f = absurd assumption
 
 -- items are bytes and errors
 tells_items : (i : List ReadMark) (l : List (Result ℕ Error)) → TellsEach i (items l) → AllGiven i
@@ -56,26 +54,17 @@ tells_items (_ ∷ i) (r ∷ l) h = let e = tells_items i l h.1 in ((tt, e.0), a
 
 module _ {R : Type 0} {reads : Runs ReadMark R} where
   module _ (laws : MarkLaws reads) where
-    tells_follow : (x y z : Bytes R) (l m : List (Answer (Result ℕ Error))) → TellsBytes reads x l y
-        → TellsBytes reads y m z → TellsBytes reads x (l ++ m) z
-    tells_follow x y z l m h k =
-        record {
-          marks = h.marks ++ k.marks;
-          came = laws.follows x.inner y.inner z.inner h.marks k.marks h.came k.came;
-          told = tells_join h.marks k.marks l m h.told k.told;
-          idle = idle_join x y z l m h.idle k.idle;
-        }
-
-    tells_runs : StreamRunLaws (TellsBytes reads)
-    tells_runs =
-        record {
-          rests = λ x. record { marks = []; came = laws.rests x.inner; told = tt; idle = λ e. refl };
-          stays = λ x y h. h.idle refl;
-          follows = tells_follow;
-        }
-
     pub bytes_laws : StreamLaws (TellsBytes reads) NoHint
-    bytes_laws = laws_of (tells_runs) (λ x y hint l e h. same_hint hint (0, None) l e tt)
+    bytes_laws = laws_of (record {
+      rests = λ x. record { marks = []; came = laws.rests x.inner; told = tt; idle = λ e. refl };
+      stays = λ x y h. h.idle refl;
+      follows = λ x y z l m h k. record {
+        marks = h.marks ++ k.marks;
+        came = laws.follows _ _ _ h.marks k.marks h.came k.came;
+        told = tells_join h.marks k.marks l m h.told k.told;
+        idle = idle_join x y z l m h.idle k.idle;
+      };
+    }) (λ x y hint l e h. same_hint hint (0, None) l e tt)
 
   pub bytes_counting : {r : Ranks R} → ReadCounting reads r
       → Counting (TellsBytes reads) (ranks_of (λ (b : Bytes R). b.inner) r)
@@ -87,8 +76,7 @@ module _ {R : Type 0} {reads : Runs ReadMark R} where
         falls = λ x y a more k h.
             let e = tells_items h.marks (a ∷ more) h.told in
             subst (λ n. Falls n (r.rank y.inner) (r.rank x.inner)) e.1 (c.falls x.inner y.inner h.marks k e.0 h.came);
-        lowers = λ x y l k h. tells_lower h.marks l (r.rank y.inner) (r.rank x.inner) h.told
-            (c.lowers x.inner y.inner h.marks k h.came);
+        lowers = λ x y l k h. tells_lower h.marks l _ _ h.told (c.lowers x.inner y.inner h.marks k h.came);
       }
 
   -- it is read as its reader is
@@ -101,7 +89,7 @@ module _ {R : Type 0} {reads : Runs ReadMark R} where
       (λ x l y. ample x.inner l y.inner) needs_none (λ x y. alike x.inner y.inner)
   inner_steady s =
       record {
-        laws = record { rests = λ x. s.laws.rests x.inner; follows = λ x y z. s.laws.follows x.inner y.inner z.inner };
+        laws = record { rests = λ x. s.laws.rests x.inner; follows = λ x y z. s.laws.follows _ _ _ };
         steady = λ x y x' y'. s.steady x.inner y.inner x'.inner y'.inner;
         found = λ n x y. s.found n x.inner y.inner;
       }

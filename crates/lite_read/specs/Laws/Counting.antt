@@ -58,47 +58,29 @@ module _ {A : Type 0} (byte : ℕ) (may_refuse : Type 0) (whole final : List ℕ
     end_out last Cut.nothing after c i = omega (arith, ap length i, ap given c.0, ap length c.1)
     end_out last _ after c i = absurd i
 
+  -- what is given out of what came in, and what that does to a rank
+  abbrev GivesOut : List ℕ → List ReadMark → List (Answer A) → List ℕ → Type 0
+  GivesOut p marks l q = (n : ℕ) × (given marks + length p ≡ n + length q)
+      × ((xs ys : List ℕ) → Falls n xs ys → Lowers l xs ys)
+
   segments_out : (p q : List ℕ) (marks : List ReadMark) (l : List (Answer A))
-      → PieceSegments (pieces byte may_refuse (Itemised whole final)) p marks (all_ok l) q
-      → (n : ℕ) × (given marks + length p ≡ n + length q) × ((xs ys : List ℕ) → Falls n xs ys → Lowers l xs ys)
+      → PieceSegments (pieces byte may_refuse (Itemised whole final)) p marks (all_ok l) q → GivesOut p marks l q
   segments_out p q marks [] h = (0, omega (arith, ap given h.0, ap length h.1), λ xs ys f. f)
   segments_out p q marks (Pending ∷ l) (first, rest, m, cut, a, more) =
-      let r = segments_out m q rest l more in (
-        r.0,
-        omega (
-          arith,
-          r.1,
-          ap given cut ∙ given-append first rest,
-          came_in a,
-          ap given a.given.0,
-          ap length a.given.2,
-        ),
-        r.2,
-      )
+      let r = segments_out m q rest l more in
+      let came = ap given cut ∙ given-append first rest in
+      (r.0, omega (arith, r.1, came, came_in a, ap given a.given.0, ap length a.given.2), r.2)
   segments_out p q marks (Ready None ∷ l) (first, rest, m, cut, a, more) =
-      let r = segments_out m q rest l more in (
-        r.0,
-        omega (
-          arith,
-          r.1,
-          ap given cut ∙ given-append first rest,
-          came_in a,
-          end_out a.between a.last a.given.0 m a.given.1 a.given.2,
-        ),
-        r.2,
-      )
+      let r = segments_out m q rest l more in
+      let came = ap given cut ∙ given-append first rest in
+      (r.0, omega (arith, r.1, came, came_in a, end_out a.between a.last a.given.0 m a.given.1 a.given.2), r.2)
   segments_out p q marks (Ready (Some x) ∷ l) (first, rest, m, cut, a, more) =
       let r = segments_out m q rest l more in
+      let came = ap given cut ∙ given-append first rest in
       let e = piece_out a.between a.last a.given.0 x m a.given.1 a.given.2 in (
         e.0 + r.0,
-        omega (
-          arith,
-          r.1,
-          ap given cut ∙ given-append first rest,
-          came_in a,
-          e.2,
-        ),
-        λ xs ys f. below_some (e.0 + r.0) xs ys (omega (arith, e.1)) f,
+        omega (arith, r.1, came, came_in a, e.2),
+        λ xs ys f. below_some _ xs ys (omega (arith, e.1)) f,
       )
 
 -- the rank of the reader, and then how much is held
@@ -121,21 +103,20 @@ module _ {X S K A : Type 0} (over : StreamOver X S (List ℕ) K) (byte : K → �
   flow_lowers x y l f h =
       let s = h.segmented in
       let out =
-      segments_out (byte (over.kept x)) may_refuse whole final (over.held x) (over.held y) s.marks l s.cut in
-      out.2 _ _
-      (falls_held (given s.marks) out.0 (length (over.held x)) (length (over.held y)) (r.rank (over.reader y))
-      (r.rank (over.reader x)) (counting.lowers (over.reader x) (over.reader y) s.marks f s.came) out.1)
+      segments_out _ may_refuse whole final _ _ s.marks l s.cut in
+      out.2 _ _ (falls_held _ out.0 (length _) (length _) (r.rank _)
+      (r.rank _) (counting.lowers _ _ s.marks f s.came) out.1)
 
   firm_still : (x y : X) (l : List (Answer (Result A Error))) → r.firm (over.reader x)
       → Flows over (λ k. pieces (byte k) may_refuse (Itemised whole final)) reads x l y → r.firm (over.reader y)
-  firm_still = flow_keeps over (λ k. pieces (byte k) may_refuse (Itemised whole final)) laws r.firm counting.firm_on
+  firm_still = flow_keeps over (λ k. pieces _ may_refuse _) laws r.firm counting.firm_on
 
   pub flow_counting : OkCounting (Flows over (λ k. pieces (byte k) may_refuse (Itemised whole final)) reads)
       (flow_ranks over r)
   flow_counting =
       record {
-        sized = λ x. length-append (r.rank (over.reader x)) (length (over.held x) ∷ [])
-            ∙ ap (λ n. n + 1) (counting.sized (over.reader x));
+        sized = λ x. length-append _ (length _ ∷ [])
+            ∙ ap (λ n. n + 1) (counting.sized _);
         counts_on = firm_still;
         firm_on = firm_still;
         falls = λ x y a more f h. flow_lowers x y (items (a ∷ more)) f h;

@@ -1,5 +1,5 @@
 -- What is gathered of one tale is the same wherever its pendings stand.
-use Rattle.std.proofs.Common.{◌≡◌, ◌∙◌, ℕ, List, [], ◌∷◌, ◌++◌, refl, sym, ap, subst, append_assoc, append-nil}
+use Rattle.std.proofs.Common.{◌≡◌, ℕ, List, [], ◌∷◌, ◌++◌, refl, subst, append_assoc}
 use Rattle.std.proofs.lemmas.List.{map-append}
 use Rattle.std.specs.List.{FoldsTo}
 use Rattle.futures.specs.declared.task.Poll.{Poll}
@@ -11,7 +11,7 @@ use Rattle.lite_base.specs.Segments.{Segments}
 use Rattle.lite_io_base.specs.Laws.Steady.{comparable_fronts, comparable_rest, comparable_swapped, no_wait_parts}
 use Rattle.lite_io_base.specs.Laws.Steady.{strip_marks-append, strip_marks-bytes, stripped_no_pending}
 use Rattle.lite_io_base.specs.Marks.{ReadMark, bytes}
-use Rattle.lite_io_base.specs.Steady.{NoPendingRead, SteadyReadLaws, strip_marks}
+use Rattle.lite_io_base.specs.Steady.{CalmReadLaws, NoPendingRead, SteadyReadLaws, strip_marks}
 use Rattle.lite_read.specs.ReadFold.{AnswerMarks, ReadFold, Segmented}
 use Rattle.lite_base.specs.Laws.Calls.{folds_follow}
 use Rattle.lite_base.specs.Laws.Segments.{segment_front}
@@ -20,19 +20,18 @@ use Rattle.lite_read.specs.Deterministic.{IsDeterministic, TaleValues}
 -- some bytes, and then a pending
 pub past_pending : (marks rest : List ReadMark) (xs : List ℕ) → marks ≡ bytes xs ++ ReadMark.pending ∷ rest
     → strip_marks marks ≡ bytes xs ++ strip_marks rest
-past_pending marks rest xs cut =
-    ap strip_marks cut ∙ strip_marks-append (bytes xs) (ReadMark.pending ∷ rest)
-    ∙ ap (λ k. k ++ strip_marks rest) (strip_marks-bytes xs)
+past_pending marks rest xs cut = rw (cut, strip_marks-append, strip_marks-bytes)
 
 -- some bytes, and then marks that are no pending
 pub past_value : (marks last rest : List ReadMark) (xs : List ℕ) → NoPendingRead last
     → marks ≡ bytes xs ++ (last ++ rest)
     → strip_marks marks ≡ bytes xs ++ (last ++ strip_marks rest)
 past_value marks last rest xs now cut =
-    let inner = strip_marks-append last rest ∙ ap (λ k. k ++ strip_marks rest) (stripped_no_pending last now) in
-    ap strip_marks cut ∙ strip_marks-append (bytes xs) (last ++ rest)
-    ∙ ap (λ k. k ++ strip_marks (last ++ rest)) (strip_marks-bytes xs)
-    ∙ ap (λ k. bytes xs ++ k) inner
+    rw (cut, strip_marks-append, strip_marks-bytes, strip_marks-append, stripped_no_pending last now)
+
+comparable_front : (l k m : List ReadMark) → Comparable (l ++ k) m → Comparable l m
+comparable_front (a ∷ l) k (b ∷ m) c = (c.0, comparable_front l k m c.1)
+comparable_front _ k _ c = tt
 
 module _ {M R : Type 0} (fold : ReadFold M R) where
   -- bytes that are taken in before
@@ -42,10 +41,8 @@ module _ {M R : Type 0} (fold : ReadFold M R) where
   tale_values_behind p m xs _ _ f (TaleValues.held _ q ys g) =
       rw (← (map-append ReadMark.byte xs ys)) (TaleValues.held p q (xs ++ ys) (folds_follow fold.takes p m q xs ys f g))
   tale_values_behind p m xs _ _ f (TaleValues.next _ n q ys last rest v vs g h s) =
-      let same =
-      ap (λ k. k ++ (last ++ rest)) (map-append ReadMark.byte xs ys) ∙ append_assoc (bytes xs) (bytes ys)
-      (last ++ rest) in
-      rw (← same) (TaleValues.next p n q (xs ++ ys) last rest v vs (folds_follow fold.takes p m n xs ys f g) h s)
+      rw (← append_assoc, ← map-append)
+      (TaleValues.next p n q (xs ++ ys) last rest v vs (folds_follow fold.takes p m n xs ys f g) h s)
 
   module _ {same : R → R → Type 0} (s : IsDeterministic same fold) where
     -- the values of segments
@@ -54,16 +51,14 @@ module _ {M R : Type 0} (fold : ReadFold M R) where
     segments_values p q i [] h = rw h.0 (TaleValues.held p p [] refl)
     segments_values p q i (Pending ∷ l) h =
         let w = h.4 in
-        let cut = segment_front p h.2 i h.0 h.1 Pending w h.3 ∙ ap (λ k. bytes w.taken ++ (k ++ h.1)) w.given.0 in
-        rw (past_pending i h.1 w.taken cut)
-        (tale_values_behind p w.between w.taken (strip_marks h.1) (strip l) w.folds
+        let cut = rw w.given.0 at (segment_front p h.2 i h.0 h.1 Pending w h.3) in
+        rw (past_pending i h.1 w.taken cut) (tale_values_behind p w.between w.taken _ _ w.folds
         (rw w.given.2 at (segments_values h.2 q h.1 l h.5)))
     segments_values p q i (Ready r ∷ l) h =
         let c = h.4 in
-        let cut = segment_front p h.2 i h.0 h.1 (Ready r) c h.3 in
+        let cut = segment_front p h.2 i h.0 h.1 _ c h.3 in
         rw (past_value i c.last h.1 c.taken (s.at_once c.between h.2 c.last r c.given) cut)
-        (TaleValues.next p c.between h.2 c.taken c.last (strip_marks h.1) r (strip l) c.folds c.given
-        (segments_values h.2 q h.1 l h.5))
+        (TaleValues.next p c.between h.2 c.taken c.last _ r _ c.folds c.given (segments_values h.2 q h.1 l h.5))
 
     -- the first values of tales that begin one another
     aligned : (p x y q r : M) (xs ys : List ℕ) (l m k n : List ReadMark) (v w : R) → FoldsTo fold.takes p xs x
@@ -71,24 +66,12 @@ module _ {M R : Type 0} (fold : ReadFold M R) where
         → fold.gives x l v q → fold.gives y m w r → Comparable (bytes xs ++ (l ++ k)) (bytes ys ++ (m ++ n)) → same v w
         × (q ≡ r) × Comparable k n
     aligned p x y q r [] [] l m k n v w f g h j c =
-        let one = subst (λ (z : M). fold.gives z l v q) (sym f) h in
-        let other = subst (λ (z : M). fold.gives z m w r) (sym g) j in
-        let both = s.one_value p q r l m v w one other (comparable_fronts l k m n c) in
+        let both = s.one_value p q r l m v w (rw f h) (rw g j) (comparable_fronts l k m n c) in
         (both.0, both.1, comparable_rest m k n (rw both.2 at c))
     aligned p x y q r [] (b ∷ ys) l m k n v w f g h j c =
-        let one = subst (λ (z : M). fold.gives z l v q) (sym f) h in
-        let front = subst (Comparable (l ++ k)) (sym (append-nil (ReadMark.byte b ∷ (bytes ys ++ (m ++ n))))) c in
-        absurd
-        (s.given_or_taken p q g.0 l (bytes ys ++ (m ++ n)) v b one g.1
-        (comparable_fronts l k (ReadMark.byte b ∷ (bytes ys ++ (m ++ n))) [] front))
+        absurd (s.given_or_taken p q g.0 l _ v b (rw f h) g.1 (comparable_front l k _ c))
     aligned p x y q r (b ∷ xs) [] l m k n v w f g h j c =
-        let other = subst (λ (z : M). fold.gives z m w r) (sym g) j in
-        let related = comparable_swapped (ReadMark.byte b ∷ (bytes xs ++ (l ++ k))) (m ++ n) c in
-        let front =
-        subst (Comparable (m ++ n)) (sym (append-nil (ReadMark.byte b ∷ (bytes xs ++ (l ++ k))))) related in
-        absurd
-        (s.given_or_taken p r f.0 m (bytes xs ++ (l ++ k)) w b other f.1
-        (comparable_fronts m n (ReadMark.byte b ∷ (bytes xs ++ (l ++ k))) [] front))
+        absurd (s.given_or_taken p r f.0 m _ w b (rw g j) f.1 (comparable_front m n _ (comparable_swapped _ _ c)))
     aligned p x y q r (b ∷ xs) (d ∷ ys) l m k n v w f g h j c =
         let byte : b ≡ d = cc c.0 in
         let way = s.one_way p g.0 f.0 b (rw byte g.1) f.1 in
@@ -113,7 +96,7 @@ module _ {M R : Type 0} (fold : ReadFold M R) where
         pub segmented_alike : (l m : List (Poll R)) → alike x y → Segmented fold ample x p l x' q
             → Segmented fold ample y p m y' r → ComparableBy same (strip l) (strip m)
         segmented_alike l m e h k =
-            tale_values_alike p (strip_marks h.marks) (strip_marks k.marks) (strip l) (strip m)
+            tale_values_alike p (strip_marks h.marks) (strip_marks k.marks) _ _
             (segments_values p q h.marks l h.cut) (segments_values p r k.marks m k.cut)
             (laws.steady x y x' y' h.marks k.marks e h.came k.came)
 
@@ -128,3 +111,54 @@ module _ {M R : Type 0} (fold : ReadFold M R) where
       absurd (subst NoPendingRead h.4.given.0 last.1)
   segments_no_pending p q i (Ready v ∷ l) n h =
       segments_no_pending h.2 q h.1 l (no_wait_parts h.0 h.1 (subst NoPendingRead h.3 n)).1 h.5
+
+  -- over a calm reader, which stays so
+  pub segmented_calm : {S : Type 0} {reads : Runs ReadMark S} {is_calm : S → Type 0} (x y : S) (p q : M)
+      (l : List (Poll R)) → CalmReadLaws reads is_calm → is_calm x → Segmented fold reads x p l y q
+      → NoPending l × is_calm y
+  segmented_calm x y p q l c k h =
+      (segments_no_pending p q h.marks l (c.no_pending x y h.marks k h.came) h.cut, c.calm_on x y h.marks k h.came)
+
+-- the marks by which a value is given: none, where all is there, or one that is no pending and is not taken in
+pub data GivenBy (All : Type 0) (Taken : ReadMark → Type 0) : List ReadMark → Type 0 where
+  at_none : All → GivenBy All Taken []
+  at_mark : (m : ReadMark) → (All → ⊥) → (Taken m → ⊥) → NoPendingRead (m ∷ []) → GivenBy All Taken (m ∷ [])
+
+module _ {All : Type 0} {Taken : ReadMark → Type 0} where
+  given_no_pending : {l : List ReadMark} → GivenBy All Taken l → NoPendingRead l
+  given_no_pending (GivenBy.at_none all) = tt
+  given_no_pending (GivenBy.at_mark m more other now) = now
+
+  not_taken : {l : List ReadMark} {a : ReadMark} (m : List ReadMark) → GivenBy All Taken l → (All → ⊥) → Taken a
+      → Comparable l (a ∷ m) → ⊥
+  not_taken _ (GivenBy.at_none all) more t c = more all
+  not_taken _ (GivenBy.at_mark m _ other now) more t c = other (rw c.0 t)
+
+  same_marks : {l m : List ReadMark} → GivenBy All Taken l → GivenBy All Taken m → Comparable l m → l ≡ m
+  same_marks (GivenBy.at_none all) (GivenBy.at_none again) c = refl
+  same_marks (GivenBy.at_none all) (GivenBy.at_mark m more other now) c = absurd (more all)
+  same_marks (GivenBy.at_mark m more other now) (GivenBy.at_none all) c = absurd (more all)
+  same_marks (GivenBy.at_mark m more other now) (GivenBy.at_mark n _ _ _) c = rw c.0
+
+module _ {M R : Type 0} (fold : ReadFold M R) where
+  -- a byte's mark, where it is taken in
+  abbrev pub TakenAt : M → ReadMark → Type 0
+  TakenAt p m = (b : ℕ) × (r : M) × (m ≡ ReadMark.byte b) × fold.takes p b r
+
+  -- each value is given so, and by the same marks the same
+  pub deterministic_by : {same : R → R → Type 0} (All : M → Type 0)
+      → ((p q r : M) (b : ℕ) → fold.takes p b q → fold.takes p b r → q ≡ r)
+      → ((p r : M) (b : ℕ) → fold.takes p b r → All p → ⊥)
+      → ((p q : M) (l : List ReadMark) (v : R) → fold.gives p l v q → GivenBy (All p) (TakenAt p) l)
+      → ((p q r : M) (l : List ReadMark) (v w : R) → fold.gives p l v q → fold.gives p l w r → same v w × (q ≡ r))
+      → IsDeterministic same fold
+  deterministic_by All one_way more by one =
+      record {
+        one_way = one_way;
+        at_once = λ p q l v h. given_no_pending (by p q l v h);
+        given_or_taken = λ p q r l m v b h k. not_taken m (by p q l v h) (more p r b k) (b, r, refl, k);
+        one_value = λ p q r l m v w h k c.
+            let marks = same_marks (by p q l v h) (by p r m w k) c in
+            let both = one p q r l v w h (rw marks k) in
+            (both.0, both.1, marks);
+      }

@@ -1,19 +1,19 @@
 -- What is cut out of one tale is the same wherever its pendings stand.
 use Rattle.std.specs.Prelude.{⊤}
-use Rattle.std.proofs.Common.{◌≡◌, ◌≢◌, ◌<◌, ◌∙◌, ℕ, List, [], ◌∷◌, Option, Some, None, Result, inl, inr, length, refl}
+use Rattle.std.proofs.Common.{◌≡◌, ◌<◌, ◌∙◌, ℕ, List, [], ◌∷◌, Option, Some, None, Result, inl, inr, length, refl}
 use Rattle.std.proofs.Common.{ap, sym, arith}
 use Rattle.std.specs.IoError.{error_kind}
 use Rattle.std.specs.declared.io.Error.{Error}
+use Rattle.std.specs.declared.io.ErrorKind.{ErrorKind}
 use Rattle.lite_base.specs.Alike.{OptionBy, Sameness}
-use Rattle.lite_base.specs.Answers.{Comparable}
 use Rattle.lite_base.specs.Calm.{CalmLaws}
 use Rattle.lite_base.specs.Steady.{SteadyLawsBy}
 use Rattle.lite_base.specs.Laws.StreamLaws.{runs_of}
 use Rattle.lite_base.specs.Runs.{Runs}
 use Rattle.lite_io_base.specs.Marks.{ReadMark}
-use Rattle.lite_io_base.specs.Steady.{CalmReadLaws, NoPendingRead, SteadyReadLaws}
+use Rattle.lite_io_base.specs.Steady.{CalmReadLaws, SteadyReadLaws}
 use Rattle.lite_read.specs.ReadFold.{ReadFold}
-use Rattle.lite_read.specs.Laws.Deterministic.{segmented_alike, segments_no_pending}
+use Rattle.lite_read.specs.Laws.Deterministic.{GivenBy, TakenAt, deterministic_by, segmented_alike, segmented_calm}
 use Rattle.lite_read.specs.Deterministic.{IsDeterministic, SameOr}
 use Rattle.lite_read.specs.Laws.Segments.{flow_laws}
 use Rattle.lite_read.specs.Pieces.{Cut, CutsPiece, Itemised, pieces}
@@ -29,45 +29,32 @@ SameCut a b = ⊥
 
 -- the four ways in which what is held is cut, where memory is found
 data CutsNow (byte : ℕ) (held : List ℕ) : List ReadMark → Cut → Type 0 where
-  piece : CutsNow byte held (ReadMark.byte byte ∷ []) (Cut.piece held)
+  piece : (b : ℕ) → b ≡ byte → CutsNow byte held (ReadMark.byte b ∷ []) (Cut.piece held)
   last : 0 < length held → CutsNow byte held (ReadMark.end ∷ []) (Cut.last held)
   nothing : held ≡ [] → CutsNow byte held (ReadMark.end ∷ []) Cut.nothing
-  failed : (e : Error) → CutsNow byte held (ReadMark.fault (error_kind e) ∷ []) (Cut.failed e)
+  failed : (e : Error) (kind : ErrorKind) → error_kind e ≡ kind → CutsNow byte held (ReadMark.fault kind ∷ []) (Cut.failed e)
 
 cuts_now : (byte : ℕ) (held : List ℕ) (l : List ReadMark) (cut : Cut) → CutsPiece byte ⊥ held l cut
     → CutsNow byte held l cut
-cuts_now byte held l (Cut.piece xs) h = rw (h.0, h.1) CutsNow.piece
+cuts_now byte held l (Cut.piece xs) h = rw (h.0, h.1) (CutsNow.piece _ refl)
 cuts_now byte held l (Cut.last xs) h = rw (h.0, h.2) (CutsNow.last h.1)
 cuts_now byte held l Cut.nothing h = rw h.0 (CutsNow.nothing h.1)
-cuts_now byte held l (Cut.failed e) (inl h) = rw h (CutsNow.failed e)
+cuts_now byte held l (Cut.failed e) (inl h) = rw h (CutsNow.failed e _ refl)
 cuts_now byte held l (Cut.failed e) (inr h) = absurd h.1
 
-now_no_pending : (byte : ℕ) (held : List ℕ) (l : List ReadMark) (cut : Cut) → CutsNow byte held l cut → NoPendingRead l
-now_no_pending byte held _ _ CutsNow.piece = tt
-now_no_pending byte held _ _ _ = tt
+given_by : {R : Type 0} (byte : ℕ) (becomes : Cut → List ℕ → R → List ℕ → Type 0) (held : List ℕ) (l : List ReadMark)
+    (cut : Cut) → CutsNow byte held l cut → GivenBy ⊥ (TakenAt (pieces byte ⊥ becomes) held) l
+given_by byte becomes held _ _ (CutsNow.piece b e) = GivenBy.at_mark _ (λ n. n) (λ t. t.3.0 (cc (t.2, e))) tt
+given_by byte becomes held _ _ _ = GivenBy.at_mark _ (λ n. n) (λ t. cc t.2) tt
 
-now_or_taken : (byte : ℕ) (held : List ℕ) (l m : List ReadMark) (cut : Cut) (b : ℕ) → CutsNow byte held l cut → b ≢ byte
-    → Comparable l (ReadMark.byte b ∷ m) → ⊥
-now_or_taken byte held _ m _ b CutsNow.piece other c = other (sym (cc c.0))
-now_or_taken byte held _ m _ b _ other c = cc
-
-abbrev OneCut : List ReadMark → List ReadMark → Cut → Cut → Type 0
-OneCut l m a b = SameCut a b × (l ≡ m)
-
-none_some : (held : List ℕ) → held ≡ [] → 0 < length held → ⊥
-none_some [] e some = omega arith
-none_some (x ∷ held) e some = cc
-
-one_cut : (byte : ℕ) (held : List ℕ) (l m : List ReadMark) (a b : Cut) → CutsNow byte held l a → CutsNow byte held m b
-    → Comparable l m → OneCut l m a b
-one_cut byte held _ _ _ _ CutsNow.piece CutsNow.piece c = (refl, refl)
-one_cut byte held _ _ _ _ (CutsNow.last some) (CutsNow.last more) c = (refl, refl)
-one_cut byte held _ _ _ _ (CutsNow.nothing none) (CutsNow.nothing again) c = (tt, refl)
-one_cut byte held _ _ _ _ (CutsNow.failed e) (CutsNow.failed f) c =
-    let same : error_kind e ≡ error_kind f = cc c.0 in (same, ap (λ k. ReadMark.fault k ∷ []) same)
-one_cut byte held _ _ _ _ (CutsNow.last some) (CutsNow.nothing none) c = absurd (none_some held none some)
-one_cut byte held _ _ _ _ (CutsNow.nothing none) (CutsNow.last some) c = absurd (none_some held none some)
-one_cut byte held _ _ _ _ _ _ c = cc
+one_cut : (byte : ℕ) (held : List ℕ) (l : List ReadMark) (a b : Cut) → CutsNow byte held l a → CutsNow byte held l b
+    → SameCut a b
+one_cut byte held _ _ _ (CutsNow.piece b e) (CutsNow.piece _ f) = refl
+one_cut byte held _ _ _ (CutsNow.last some) (CutsNow.last more) = refl
+one_cut byte held _ _ _ (CutsNow.nothing none) (CutsNow.nothing again) = tt
+one_cut byte held _ _ _ (CutsNow.failed e kind h) (CutsNow.failed f _ k) = h ∙ sym k
+one_cut byte held _ _ _ (CutsNow.last some) (CutsNow.nothing none) = absurd (omega (arith, ap length none))
+one_cut byte held _ _ _ (CutsNow.nothing none) (CutsNow.last some) = absurd (omega (arith, ap length none))
 
 -- one value is made of one cut, and one list is held then
 abbrev pub BecomesOne : {R : Type 0} → (R → R → Type 0) → (Cut → List ℕ → R → List ℕ → Type 0) → Type 0
@@ -78,15 +65,10 @@ pub pieces_deterministic : {R : Type 0} {same : R → R → Type 0} (byte : ℕ)
     (becomes : Cut → List ℕ → R → List ℕ → Type 0) → BecomesOne same becomes
     → IsDeterministic same (pieces byte ⊥ becomes)
 pieces_deterministic byte becomes one =
-    record {
-      one_way = λ p q r b h k. h.1 ∙ sym k.1;
-      at_once = λ p q l v h. now_no_pending byte p l h.0 (cuts_now byte p l h.0 h.1);
-      given_or_taken = λ p q r l m v b h k c. now_or_taken byte p l m h.0 b (cuts_now byte p l h.0 h.1) k.0 c;
-      one_value = λ p q r l m v w h k c.
-          let cut = one_cut byte p l m h.0 k.0 (cuts_now byte p l h.0 h.1) (cuts_now byte p m k.0 k.1) c in
-          let made = one h.0 k.0 p v w q r cut.0 h.2 k.2 in
-          (made.0, made.1, cut.1);
-    }
+    deterministic_by _ (λ p. ⊥) (λ p q r b h k. h.1 ∙ sym k.1) (λ p r b h n. n)
+    (λ p q l v h. given_by byte becomes p l h.0 (cuts_now byte p l h.0 h.1))
+    (λ p q r l v w h k.
+    one h.0 k.0 p v w q r (one_cut byte p l h.0 k.0 (cuts_now byte p l h.0 h.1) (cuts_now byte p l k.0 k.1)) h.2 k.2)
 
 -- what becomes of the bytes of a line is one
 abbrev pub MakesOne : {A : Type 0} → (A → A → Type 0) → (List ℕ → Result A Error → Type 0) → Type 0
@@ -107,22 +89,14 @@ module _ {A : Type 0} {same : A → A → Type 0} {whole final : List ℕ → Re
   itemised_one : BecomesOne (OptionBy (SameOr same)) PieceMade
   itemised_one (Cut.piece xs) (Cut.piece ys) held (Some r) (Some s) p q e h k =
       (both_made whole one xs ys r s e h.0 k.0, h.1 ∙ sym k.1)
-  itemised_one (Cut.piece xs) (Cut.piece ys) held None w p q e h k = absurd h
-  itemised_one (Cut.piece xs) (Cut.piece ys) held (Some r) None p q e h k = absurd k
   itemised_one (Cut.last xs) (Cut.last ys) held (Some r) (Some s) p q e h k =
       (both_made final end xs ys r s e h.0 k.0, h.1 ∙ sym k.1)
-  itemised_one (Cut.last xs) (Cut.last ys) held None w p q e h k = absurd h
-  itemised_one (Cut.last xs) (Cut.last ys) held (Some r) None p q e h k = absurd k
   itemised_one Cut.nothing Cut.nothing held None None p q e h k = (tt, h ∙ sym k)
-  itemised_one Cut.nothing Cut.nothing held (Some r) w p q e h k = absurd h
-  itemised_one Cut.nothing Cut.nothing held None (Some s) p q e h k = absurd k
   itemised_one (Cut.failed a) (Cut.failed b) held (Some r) (Some s) p q e h k = rw (h.0, k.0) (e, h.1 ∙ sym k.1)
-  itemised_one (Cut.failed a) (Cut.failed b) held None w p q e h k = absurd h
-  itemised_one (Cut.failed a) (Cut.failed b) held (Some r) None p q e h k = absurd k
-  itemised_one _ _ held v w p q e h k = absurd e
+  itemised_one _ _ held v w p q e h k = absurd assumption
 
   pub items_deterministic : (byte : ℕ) → IsDeterministic (OptionBy (SameOr same)) (pieces byte ⊥ (Itemised whole final))
-  items_deterministic byte = pieces_deterministic byte (Itemised whole final) itemised_one
+  items_deterministic byte = pieces_deterministic byte _ itemised_one
 
 module _ {X S M K : Type 0} (over : StreamOver X S M K) where
   -- they hold the same, and keep the same, over readers that are alike
@@ -139,9 +113,7 @@ module _ {X S M K A : Type 0} (over : StreamOver X S M K) where
       record {
         laws = runs_of (flow_laws over fold s.laws);
         steady = λ x y e l m x' y' h k.
-            segmented_alike (fold (over.kept x)) (deterministic (over.kept x)) s (over.reader x) (over.reader y)
-            (over.reader x') (over.reader y') (over.held x) (over.held x') (over.held y') l m e.0 h.segmented
-            (rw (← e.1, ← e.2) at k.segmented);
+            segmented_alike _ (deterministic _) s _ _ _ _ _ _ _ l m e.0 h.segmented (rw (← e.1, ← e.2) at k.segmented);
         found = λ n. absurd n;
       }
 
@@ -150,9 +122,6 @@ module _ {X S M K A : Type 0} (over : StreamOver X S M K) where
       → CalmLaws (Flows over fold reads) (λ x. is_calm (over.reader x))
   flow_calm fold c =
       record {
-        no_pending = λ x y l k h.
-            let g = h.segmented in
-            segments_no_pending (fold (over.kept x)) (over.held x) (over.held y) g.marks l
-            (c.no_pending (over.reader x) (over.reader y) g.marks k g.came) g.cut;
-        calm_on = λ x y l k h. c.calm_on (over.reader x) (over.reader y) h.segmented.marks k h.segmented.came;
+        no_pending = λ x y l k h. (segmented_calm _ _ _ _ _ l c k h.segmented).0;
+        calm_on = λ x y l k h. (segmented_calm _ _ _ _ _ l c k h.segmented).1;
       }

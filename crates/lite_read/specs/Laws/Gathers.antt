@@ -1,7 +1,7 @@
 -- Laws of futures over a reader.
-use Rattle.std.proofs.Common.{◌≡◌, List, [], ◌∷◌, ◌++◌, refl}
+use Rattle.std.proofs.Common.{◌≡◌, List, [], ◌∷◌, refl}
 use Rattle.futures.specs.declared.task.Poll.{Poll}
-use Rattle.lite_base.specs.Answers.{ComparableBy, Waiting, strip}
+use Rattle.lite_base.specs.Answers.{ComparableBy, strip}
 use Rattle.lite_base.specs.Calm.{CalmLaws}
 use Rattle.lite_base.specs.FutureLaws.{FutureLaws}
 use Rattle.lite_base.specs.Laws.Answers.{up_to_once, waiting_up_to}
@@ -10,7 +10,7 @@ use Rattle.lite_io_base.specs.Marks.{ReadMark}
 use Rattle.lite_io_base.specs.Runs.{MarkLaws}
 use Rattle.lite_io_base.specs.Steady.{CalmReadLaws, SteadyReadLaws}
 use Rattle.lite_read.specs.Deterministic.{IsDeterministic}
-use Rattle.lite_read.specs.Laws.Deterministic.{segmented_alike, segments_no_pending}
+use Rattle.lite_read.specs.Laws.Deterministic.{segmented_alike, segmented_calm}
 use Rattle.lite_read.specs.Laws.PollSteps.{idle_join}
 use Rattle.lite_read.specs.Laws.Segments.{segmented_before, segmented_follow, segmented_none}
 use Rattle.lite_read.specs.PollSteps.{TakesBytes}
@@ -25,28 +25,22 @@ pub record KeepLaws {X M R : Type 0} (fold : X → ReadFold M R) (Keeps : X → 
 module _ {X S M R : Type 0} {reader : X → S} {held : X → M} {fold : X → ReadFold M R} {Keeps : X → X → Type 0}
     {reads : Runs ReadMark S} where
   module _ (keeps : KeepLaws fold Keeps) (laws : MarkLaws reads) where
-    gathers_follow : (x y z : X) (l m : List (Poll R)) → Waiting l → Gathers reader held fold Keeps reads x l y
-        → Gathers reader held fold Keeps reads y m z → Gathers reader held fold Keeps reads x (l ++ m) z
-    gathers_follow x y z l m w h k =
-        record {
-          folded = segmented_follow (fold x) laws (reader x) (reader y) (reader z) (held x) (held y) (held z) l m
-              h.folded (rw (keeps.same x y h.stays) at k.folded);
-          ends = waiting_up_to l m w k.ends;
-          stays = keeps.join x y z h.stays k.stays;
-          idle = idle_join x y z l m h.idle k.idle;
-        }
-
     pub gathers_laws : FutureLaws (Gathers reader held fold Keeps reads)
     gathers_laws =
         record {
           rests = λ x. record {
-            folded = segmented_none (fold x) laws (reader x) (held x);
+            folded = segmented_none _ laws _ _;
             ends = tt;
             stays = keeps.none x;
             idle = λ e. refl;
           };
           stays = λ x y h. h.idle refl;
-          follows = gathers_follow;
+          follows = λ x y z l m w h k. record {
+            folded = segmented_follow _ laws _ _ _ _ _ _ l m h.folded (rw (keeps.same x y h.stays) at k.folded);
+            ends = waiting_up_to l m w k.ends;
+            stays = keeps.join x y z h.stays k.stays;
+            idle = idle_join x y z l m h.idle k.idle;
+          };
           once = λ x y l h. up_to_once l h.ends;
         }
 
@@ -59,8 +53,7 @@ module _ {X S M R : Type 0} {reader : X → S} {held : X → M} {fold : X → Re
       let stays = kept x y t.stays in
       record {
         folded =
-            segmented_before (fold x) laws (reader x) (reader y) (reader z) (held x) (held y) (held z) t.taken a
-            t.came t.folds (rw (keeps.same x y stays) at h.folded);
+            segmented_before _ laws _ _ _ _ _ _ t.taken a t.came t.folds (rw (keeps.same x y stays) at h.folded);
         ends = h.ends;
         stays = keeps.join x y z stays h.stays;
         idle = λ e. cc e;
@@ -73,16 +66,12 @@ module _ {X S M R : Type 0} {reader : X → S} {held : X → M} {fold : X → Re
       → (l m : List (Poll R)) (x' y' : X) → Gathers reader held fold Keeps ample x l x'
       → Gathers reader held fold Keeps ample y m y' → ComparableBy same (strip l) (strip m)
   gathers_alike one s x y e d f l m x' y' h k =
-      segmented_alike (fold x) (one x) s (reader x) (reader y) (reader x') (reader y') (held x) (held x') (held y')
-      l m e h.folded (rw (f, ← d) at k.folded)
+      segmented_alike _ (one x) s _ _ _ _ _ _ _ l m e h.folded (rw (f, ← d) at k.folded)
 
   pub gathers_calm : {is_calm : S → Type 0} → CalmReadLaws reads is_calm
       → CalmLaws (Gathers reader held fold Keeps reads) (λ x. is_calm (reader x))
   gathers_calm c =
       record {
-        no_pending = λ x y l k h.
-            let g = h.folded in
-            segments_no_pending (fold x) (held x) (held y) g.marks l
-            (c.no_pending (reader x) (reader y) g.marks k g.came) g.cut;
-        calm_on = λ x y l k h. c.calm_on (reader x) (reader y) h.folded.marks k h.folded.came;
+        no_pending = λ x y l k h. (segmented_calm _ _ _ _ _ l c k h.folded).0;
+        calm_on = λ x y l k h. (segmented_calm _ _ _ _ _ l c k h.folded).1;
       }

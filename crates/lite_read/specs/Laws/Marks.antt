@@ -30,8 +30,7 @@ SameText s t = string_bytes s ≡ string_bytes t
 
 pub vec_one : MakesOne SameVec IsVec
 vec_one xs (Ok v) (Ok w) h k = h ∙ sym k
-vec_one xs (Ok v) (Err e) h k = absurd k
-vec_one xs (Err e) r h k = absurd h
+vec_one xs _ _ h k = absurd assumption
 
 pub text_one : MakesOne SameText IsText
 text_one xs (Ok s) (Ok t) h k = h ∙ sym k
@@ -40,7 +39,7 @@ text_one xs (Err e) (Ok t) h k = absurd (h.1 (rw (← k) (IsUtf8-string_bytes t)
 text_one xs (Err e) (Err f) h k = h.0 ∙ sym k.0
 
 pub line_one : MakesOne SameText (λ xs. IsText (without_return xs))
-line_one xs = text_one (without_return xs)
+line_one xs = text_one _
 
 module _ (byte : ℕ) where
   counted_one : BecomesOne SameByKind (CountsPiece byte)
@@ -55,7 +54,7 @@ module _ (byte : ℕ) where
   counted_one _ _ held v w p q e h k = absurd e
 
   pub until_deterministic : IsDeterministic SameByKind (until byte ⊥)
-  until_deterministic = pieces_deterministic byte (CountsPiece byte) (counted_one)
+  until_deterministic = pieces_deterministic byte _ (counted_one)
 
 module _ {R : Type 0} where
   -- they read to the same byte, and have read the same, over readers that are alike

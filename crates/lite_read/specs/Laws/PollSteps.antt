@@ -33,7 +33,7 @@ given_of reads s t (x ∷ xs) some h = (ReadMark.byte x, bytes xs, bytes_given (
 pub takes_given : {X S M R : Type 0} {reader : X → S} {held : X → M} {fold : X → ReadFold M R} {Keeps : X → X → Type 0}
     {reads : Runs ReadMark S} (x y : X)
     → TakesBytes reader held fold Keeps reads x y → GivenRun reads (reader x) (reader y)
-takes_given {reader} {reads} x y t = given_of reads (reader x) (reader y) t.taken t.some t.came
+takes_given {reader} {reads} x y t = given_of reads _ _ t.taken t.some t.came
 
 -- no answer of two runs leaves all as it is
 pub idle_join : {X A : Type 0} (x y z : X) (l m : List A) → (l ≡ [] → y ≡ x) → (m ≡ [] → z ≡ y) → l ++ m ≡ [] → z ≡ x

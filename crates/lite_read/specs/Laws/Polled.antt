@@ -52,6 +52,5 @@ module _ {F A : Type 0} (call : F → Poll A → F → Type 0) where
       → ((x y : F) (h : call x Pending y) → NoWait (came x y Pending h).0 → ⊥) → CalmMarks NoWait run is_calm
       → CalmLaws (PolledByCalls call) (λ x. is_calm (part x))
   calls_calm part came waits c =
-      polled_calm
-      (λ x y k h. let w = came x y Pending h in waits x y h (c.no_pending (part x) (part y) w.0 k w.1))
-      (λ x y r k h. let w = came x y (Ready r) h in c.calm_on (part x) (part y) w.0 k w.1)
+      polled_calm (λ x y k h. let w = came x y Pending h in waits x y h (c.no_pending _ _ w.0 k w.1))
+      (λ x y r k h. let w = came x y _ h in c.calm_on _ _ w.0 k w.1)

@@ -56,7 +56,7 @@ module _ {R : Type 0} where
   pub room_falls : {reads : Runs ReadMark R} (x y : ReadExactFuture R) → ReadsMore reads x y
       → length y.buf.now - y.filled < length x.buf.now - x.filled
   room_falls x y t =
-      let more = filled_by t.taken (filling_of x) (filling_of y) t.folds in
+      let more = filled_by t.taken _ _ t.folds in
       let grown = ap length more.0 ∙ length-append (filling_of x).0 t.taken in
-      let room = had_room (filling_of x) (filling_of y) t.taken t.some t.folds in
+      let room = had_room _ _ t.taken t.some t.folds in
       omega (arith, grown, more.1, room, t.some, length-take x.filled x.buf.now, length-take y.filled y.buf.now)

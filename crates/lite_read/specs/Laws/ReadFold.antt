@@ -13,4 +13,4 @@ module _ {M R : Type 0} (fold : ReadFold M R) where
       → FoldsTo fold.takes p xs m → Segments (AnswerMarks fold) m i (a ∷ l) q
       → Segments (AnswerMarks fold) p (bytes xs ++ i) (a ∷ l) q
   answers_before p m q xs i a l f =
-      segments_before (AnswerMarks fold) p m q (bytes xs) i a l (λ k first. segment_before p m k xs first a f)
+      segments_before _ p m q _ i a l (λ k first. segment_before p m k xs first a f)

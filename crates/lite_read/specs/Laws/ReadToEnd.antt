@@ -11,10 +11,10 @@ use Rattle.lite_base.specs.Ranks.{Ranks}
 use Rattle.lite_base.specs.Runs.{Runs}
 use Rattle.lite_io_base.specs.Counting.{ReadCounting}
 use Rattle.lite_io_base.specs.Laws.Falls.{GivenRun}
-use Rattle.lite_io_base.specs.Marks.{ReadMark, bytes}
+use Rattle.lite_io_base.specs.Marks.{ReadMark}
 use Rattle.lite_io_base.specs.Runs.{MarkLaws}
 use Rattle.lite_read.specs.Laws.Gathers.{KeepLaws, gathers_before, gathers_laws}
-use Rattle.lite_read.specs.Appending.{CanAppend, ToEndStays, read_front}
+use Rattle.lite_read.specs.Appending.{CanAppend, ToEndStays}
 use Rattle.lite_io_base.specs.Laws.Lent.{lent_still}
 use Rattle.lite_read.specs.Laws.PollSteps.{takes_given}
 use Rattle.lite_read.specs.ReadToEnd.{ReadsToEnd, appends}
@@ -65,10 +65,10 @@ module _ {R A : Type 0} where
                 can.started,
                 length-take-le x.filled x.buf.now.items can.within,
                 length-take-le y.filled y.buf.now.items t.stays.1,
-                grown m x.start (read_front x) (read_front y) t.taken t.folds,
+                grown m x.start _ _ t.taken t.folds,
               );
           within = t.stays.1;
-          counts = c.counts_on x.reader.now y.reader.now (bytes t.taken) can.counts t.came;
+          counts = c.counts_on x.reader.now y.reader.now _ can.counts t.came;
         }
 
   keeps : (m : Type 0) → KeepLaws (λ (x : ReadToEndFuture R A). appends m x.start) ToEndStays

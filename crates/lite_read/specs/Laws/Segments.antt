@@ -1,9 +1,7 @@
 -- Laws of streams over what a reader tells.
-use Rattle.std.proofs.Common.{◌≡◌, ◌∙◌, ◌≤◌, ℕ, List, [], ◌∷◌, ◌++◌, Option, None, refl}
-use Rattle.std.specs.Prelude.{IfSome}
+use Rattle.std.proofs.Common.{◌∙◌, ℕ, List, [], ◌∷◌, ◌++◌, Option, refl}
 use Rattle.std.specs.List.{FoldsTo}
 use Rattle.futures.specs.declared.task.Poll.{Poll}
-use Rattle.lite_base.specs.Answers.{before_end}
 use Rattle.lite_base.specs.Chain.{Reaches}
 use Rattle.lite_base.specs.Laws.Segments.{segments_join}
 use Rattle.lite_base.specs.StreamLaws.{StreamLaws}
@@ -12,14 +10,11 @@ use Rattle.lite_base.specs.Ranks.{Ranks}
 use Rattle.lite_io_base.specs.Counting.{ReadCounting}
 use Rattle.lite_io_base.specs.Marks.{ReadMark, bytes}
 use Rattle.lite_io_base.specs.Runs.{MarkLaws}
-use Rattle.lite_read.specs.ReadFold.{AnswerMarks, ReadFold}
+use Rattle.lite_read.specs.ReadFold.{ReadFold}
 use Rattle.lite_read.specs.Laws.ReadFold.{answers_before}
 use Rattle.lite_read.specs.Laws.PollSteps.{idle_join, steps_answer}
 use Rattle.lite_read.specs.Segments.{Flows, Segmented, StreamOver}
 use Rattle.lite_read.specs.PieceSteps.{TakesPieceIn}
-
-unbounded : (hint : ℕ × Option ℕ) (n : ℕ) → hint ≡ (0, None) → IfSome hint.1 (λ most. n ≤ most)
-unbounded hint n e = rw e tt
 
 module _ {M R : Type 0} (fold : ReadFold M R) where
   module _ {S : Type 0} {reads : Runs ReadMark S} (laws : MarkLaws reads) where
@@ -33,7 +28,7 @@ module _ {M R : Type 0} (fold : ReadFold M R) where
           record {
             marks = h.marks ++ k.marks;
             came = laws.follows s t u h.marks k.marks h.came k.came;
-            cut = segments_join (AnswerMarks fold) p q r h.marks k.marks l m h.cut k.cut;
+            cut = segments_join _ p q r h.marks k.marks l m h.cut k.cut;
           }
 
       pub segmented_before : (m q : M) (xs : List ℕ) (a : Poll R) → reads s (bytes xs) t → FoldsTo fold.takes p xs m
@@ -41,7 +36,7 @@ module _ {M R : Type 0} (fold : ReadFold M R) where
       segmented_before m q xs a came f h =
           record {
             marks = bytes xs ++ h.marks;
-            came = laws.follows s t u (bytes xs) h.marks came h.came;
+            came = laws.follows s t u _ h.marks came h.came;
             cut = answers_before fold p m q xs h.marks a [] f h.cut;
           }
 
@@ -53,7 +48,7 @@ module _ {X S M K R : Type 0} (over : StreamOver X S M K) (fold : K → ReadFold
     flows_follow l m h k =
         record {
           segmented =
-              segmented_follow (fold (over.kept x)) laws _ _ _ _ _ _ l m h.segmented (rw h.stays at k.segmented);
+              segmented_follow _ laws _ _ _ _ _ _ l m h.segmented (rw h.stays at k.segmented);
           stays = k.stays ∙ h.stays;
           idle = idle_join x y z l m h.idle k.idle;
         }
@@ -64,8 +59,7 @@ module _ {X S M K R : Type 0} (over : StreamOver X S M K) (fold : K → ReadFold
     step_before a t h =
         record {
           segmented =
-              segmented_before (fold (over.kept x)) laws _ _ _ _ _ _ t.taken a t.came t.folds
-              (rw t.stays at h.segmented);
+              segmented_before _ laws _ _ _ _ _ _ t.taken a t.came t.folds (rw t.stays at h.segmented);
           stays = h.stays ∙ t.stays;
           idle = λ e. cc e;
         }
@@ -77,20 +71,20 @@ module _ {X S M K A : Type 0} (over : StreamOver X S M K) (fold : K → ReadFold
   flow_laws =
       record {
         rests = λ x. record {
-          segmented = segmented_none (fold (over.kept x)) laws (over.reader x) (over.held x);
+          segmented = segmented_none _ laws _ _;
           stays = refl;
           idle = λ e. refl;
         };
         stays = λ x y h. h.idle refl;
         follows = flows_follow over fold laws;
-        bounded = λ x y hint l allowed h. unbounded hint (before_end l) allowed;
+        bounded = λ x y hint l allowed h. rw allowed tt;
       }
 
   -- what holds of a reader through its runs holds after a run of the stream
   pub flow_keeps : (P : S → Type 0) → ((s t : S) (l : List ReadMark) → P s → reads s l t → P t)
       → (x y : X) (l : List (Poll (Option A))) → P (over.reader x)
       → Flows over fold reads x l y → P (over.reader y)
-  flow_keeps P keeps x y l p h = keeps (over.reader x) (over.reader y) h.segmented.marks p h.segmented.came
+  flow_keeps P keeps x y l p h = keeps _ _ h.segmented.marks p h.segmented.came
 
 module _ {X S M K A : Type 0} (over : StreamOver X S M K) (fold : K → ReadFold M (Option A)) {reads : Runs ReadMark S}
     (laws : MarkLaws reads) {x z : X} {a : Poll (Option A)} where

@@ -41,15 +41,13 @@ TaleAnswers (ReadMark.end ∷ ms) l = (after : List ByteItem) × (l ≡ None ∷
 
 said : (i : List ReadMark) (l : List (Answer (Result ℕ Error))) → TellsEach i l → TaleAnswers (strip_marks i) (strip l)
 said [] [] h = refl
-said [] (a ∷ l) h = absurd h
-said (m ∷ i) [] h = absurd h
 said (ReadMark.byte b ∷ i) (Ready (Some (Ok x)) ∷ l) h = rw h.0 (strip l, refl, said i l h.1)
 said (ReadMark.pending ∷ i) (Pending ∷ l) h = said i l h.1
 said (ReadMark.fault kind ∷ i) (Pending ∷ l) h = inl (h.0, said i l h.1)
 said (ReadMark.fault kind ∷ i) (Ready (Some (Err e)) ∷ l) h =
     inr (record { error = e; is = h.0.0; heard = h.0.1; after = strip l; cut = refl; more = (said i l h.1) })
 said (ReadMark.end ∷ i) (Ready None ∷ l) h = (strip l, refl, said i l h.1)
-said _ _ h = absurd h.0
+said _ _ h = absurd assumption
 
 abbrev SameBytes : List ByteItem → List ByteItem → Type 0
 SameBytes = ComparableBy (OptionBy SameByKind)
@@ -86,8 +84,7 @@ module _ {R : Type 0} {reads ample : Runs ReadMark R} {needs_none : Type 0} {ali
       record {
         laws = runs_of (bytes_laws s.laws);
         steady = λ x y e l m x' y' h k.
-            say_same (strip_marks h.marks) (strip_marks k.marks) (strip l) (strip m) (said h.marks l h.told)
-            (said k.marks m k.told)
+            say_same (strip_marks h.marks) (strip_marks k.marks) _ _ (said h.marks l h.told) (said k.marks m k.told)
             (s.steady x.inner y.inner x'.inner y'.inner h.marks k.marks e h.came k.came);
         found = λ n x y l h. record {
           marks = h.marks;

@@ -27,8 +27,8 @@ module _ {X R A : Type 0} (over : TextOver X R A) where
       pub text_steady : FutureSteadyLawsBy (Sameness.by SameByKind) (ReadsText over (fold ⊤) reads)
           (ReadsText over (fold ⊥) ample) ⊥ (TextAlike alike)
       text_steady = record {
-        laws = text_laws over (fold ⊥) s.laws;
-        steady = λ x y e. gathers_alike (λ x. text_deterministic (fold ⊥) deterministic) s x y e.0 e.1 refl;
+        laws = text_laws over _ s.laws;
+        steady = λ x y e. gathers_alike (λ x. text_deterministic _ deterministic) s x y e.0 e.1 refl;
         found = λ n. absurd n;
       }
 

@@ -28,8 +28,8 @@ module _ {X R A : Type 0} (over : TextOver X R A) where
   pub stays_join : (x y z : X) → TextStays over x y → TextStays over y z → TextStays over x z
   stays_join x y z h k =
       record {
-        reader = lent_still (over.reader x) (over.reader y) (over.reader z) h.reader k.reader;
-        text = lent_still (over.text x) (over.text y) (over.text z) h.text k.text;
+        reader = lent_still (over.reader x) _ _ h.reader k.reader;
+        text = lent_still (over.text x) _ _ h.text k.text;
       }
 
   keeps : (fold : ReadFold (List ℕ) (Result ℕ Error)) → KeepLaws (λ (x : X). in_text fold) (TextStays over)
@@ -48,7 +48,7 @@ module _ {X R A : Type 0} (over : TextOver X R A) where
         ap (λ v. record { read = over.read y; text = v }) t.stays.1 in
         let folds : FoldsTo (in_text fold).takes (reading over x) t.taken (reading over y) =
         rw same (folds_in fold (string_bytes (over.text x).now) (over.read x) (over.read y) t.taken t.folds) in (
-          gathers_before {Steps = TextStays over} (keeps fold) laws (λ x y k. k) x y z a (record {
+          gathers_before (keeps fold) laws (λ x y k. k) x y z a (record {
             taken = t.taken;
             some = t.some;
             came = t.came;

@@ -1,5 +1,5 @@
 -- Laws of `copy`.
-use Rattle.std.proofs.Common.{◌≡◌, ◌∙◌, ◌<◌, ◌+◌, ◌%◌, ◌^◌, ℕ, Bool, List, [], ◌∷◌, ◌++◌, length, Result, Ok, refl, ap, sym}
+use Rattle.std.proofs.Common.{◌≡◌, ◌∙◌, ◌<◌, ◌+◌, ◌%◌, ◌^◌, ℕ, Bool, List, [], ◌∷◌, ◌++◌, length, Result, Ok, refl, ap}
 use Rattle.std.proofs.Common.{arith, append-nil, append_assoc, length-append}
 use Rattle.std.proofs.Math.Nat.{mod-add-mod}
 use Rattle.std.proofs.lemmas.Grind.{flat_map-append}
@@ -25,7 +25,6 @@ use Rattle.lite_write.specs.Copy.{Copied, CopyRuns, CopyValue, Moves}
 use Rattle.lite_write.specs.Copying.{CopiesSome}
 use Rattle.lite_write.specs.MarkLists.{BytesAlone, TakesSome, TakesUpTo, TellsUpTo, byte_in, bytes_told, is_taken_wait}
 use Rattle.lite_write.specs.MarkLists.{is_told_wait}
-use Rattle.lite_write.specs.Parts.{held_of, met_in, source_of}
 use Rattle.lite_write.specs.declared.copy.CopyFuture.{CopyFuture}
 
 abbrev CopyResult : Type 0
@@ -36,7 +35,7 @@ told_both = flat_map-append byte_in
 
 filtered_both : {A : Type 0} (test : A → Bool) (l m : List A)
     → length (filter test (l ++ m)) ≡ length (filter test l) + length (filter test m)
-filtered_both test l m = ap length (filter-append test l m) ∙ length-append (filter test l) (filter test m)
+filtered_both test l m = rw (filter-append, length-append)
 
 goes_both : (l m : List ReadMark) → BytesAlone l → BytesAlone m → BytesAlone (l ++ m)
 goes_both [] m h k = k
@@ -84,37 +83,25 @@ module _ (p q r : List ℕ) (a b c : List ReadMark) (i j : List ReadMark) (s t :
 
   reading_both : TellsUpTo (a ++ (i ++ j)) (c ++ g.failed)
   reading_both =
-      let f = h.reading in
-      let d = g.reading in
-      let whole =
-      sym (append_assoc a i j)
-      ∙ ap (λ v. v ++ j) (f.cut ∙ ap (λ v. f.read ++ (b ++ v)) none.0 ∙ ap (λ v. f.read ++ v) (append-nil b))
-      ∙ append_assoc f.read b j ∙ ap (λ v. f.read ++ v) d.cut ∙ sym (append_assoc f.read d.read (c ++ g.failed)) in
-      record { read = f.read ++ d.read; goes_on = goes_both f.read d.read f.goes_on d.goes_on; cut = whole }
+      record {
+        read = h.reading.read ++ g.reading.read;
+        goes_on = goes_both h.reading.read g.reading.read h.reading.goes_on g.reading.goes_on;
+        cut = rw (← append_assoc, h.reading.cut, none.0, append-nil, append_assoc, g.reading.cut, append_assoc);
+      }
 
   writing_both : TakesUpTo (s ++ t) g.last
   writing_both =
-      let f = h.writing in
-      let d = g.writing in
-      let whole =
-      ap (λ v. v ++ t) (f.cut ∙ ap (λ v. f.written ++ v) none.1 ∙ append-nil f.written) ∙ ap (λ v. f.written ++ v) d.cut
-      ∙ sym (append_assoc f.written d.written g.last) in
       record {
-        written = f.written ++ d.written;
-        takes_some = some_both f.written d.written f.takes_some d.takes_some;
-        cut = whole;
+        written = h.writing.written ++ g.writing.written;
+        takes_some = some_both h.writing.written g.writing.written h.writing.takes_some g.writing.takes_some;
+        cut = rw (h.writing.cut, none.1, append-nil, g.writing.cut, append_assoc);
       }
 
   balanced_both : p ++ bytes_told (i ++ j) ≡ bytes_taken (s ++ t) ++ r
-  balanced_both =
-      ap (λ v. p ++ v) (told_both i j) ∙ sym (append_assoc p (bytes_told i) (bytes_told j))
-      ∙ ap (λ v. v ++ bytes_told j) h.balanced
-      ∙ append_assoc (bytes_taken s) q (bytes_told j) ∙ ap (λ v. bytes_taken s ++ v) g.balanced
-      ∙ sym (append_assoc (bytes_taken s) (bytes_taken t) r)
-      ∙ ap (λ v. v ++ r) (sym (taken_both s t))
+  balanced_both = rw (told_both i j, ← append_assoc, h.balanced, append_assoc, g.balanced, taken_both s t, append_assoc)
 
   same_value : strip m ≡ strip (l ++ m)
-  same_value = sym (strip_join l m ∙ ap (λ v. v ++ strip m) (waiting_strip l w))
+  same_value = rw (strip_join l m, waiting_strip l w)
 
   pub copied_both : Copied p a (i ++ j) (s ++ t) (l ++ m) r c k
   copied_both =
@@ -147,9 +134,9 @@ module _ {R W : Type 0} where
         record {
           told = [];
           took = [];
-          came = rl.rests (source_of x);
+          came = rl.rests _;
           went = wl.rests x.writer;
-          copied = (copied_none (held_of x) (met_in x.phase) x.amount);
+          copied = (copied_none _ _ x.amount);
           counted = (counted_none x.amount x.counted);
         }
 
@@ -160,10 +147,9 @@ module _ {R W : Type 0} where
         record {
           told = h.told ++ k.told;
           took = h.took ++ k.took;
-          came = rl.follows (source_of x) (source_of y) (source_of z) h.told k.told h.came k.came;
+          came = rl.follows _ _ _ h.told k.told h.came k.came;
           went = wl.follows x.writer y.writer z.writer h.took k.took h.went k.went;
-          copied = copied_both (held_of x) (held_of y) (held_of z) (met_in x.phase) (met_in y.phase)
-              (met_in z.phase) h.told k.told h.took k.took l m y.amount z.amount w h.copied k.copied;
+          copied = copied_both _ _ _ _ _ _ h.told k.told h.took k.took l m y.amount z.amount w h.copied k.copied;
           counted = counted_both x.amount y.amount z.amount h.took k.took h.counted k.counted;
         }
 

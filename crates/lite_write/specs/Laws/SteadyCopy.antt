@@ -5,7 +5,6 @@ use Rattle.std.proofs.Common.{◌≡◌, ◌∙◌, ◌+◌, ◌%◌, ◌^◌, �
 use Rattle.std.proofs.Common.{arith, append-nil, length-append}
 use Rattle.std.specs.IoError.{error_kind}
 use Rattle.std.specs.declared.io.Error.{Error}
-use Rattle.std.specs.declared.io.ErrorKind.{ErrorKind}
 use Rattle.futures.specs.declared.task.Poll.{Poll}
 use Rattle.lite_base.specs.Answers.{Comparable, ComparableBy, strip}
 use Rattle.lite_base.specs.Calm.{CalmLaws}
@@ -42,59 +41,45 @@ goes_stripped (ReadMark.byte b ∷ l) g = rw (goes_stripped l g)
 goes_stripped (ReadMark.pending ∷ l) g = goes_stripped l g
 goes_stripped (_ ∷ l) g = absurd g
 
--- an end, or an error
-data Stop : Type 0 where
-  ended : Stop
-  failed : ErrorKind → Stop
+-- the mark at which the value stops: an end, or an error
+abbrev stop_of : SteadyCopyResult → ReadMark
+stop_of (Ok n) = ReadMark.end
+stop_of (Err e) = ReadMark.fault (error_kind e)
 
-abbrev stop_mark : Stop → ReadMark
-stop_mark Stop.ended = ReadMark.end
-stop_mark (Stop.failed kind) = ReadMark.fault kind
+stops_not : (v : SteadyCopyResult) (x : ℕ) → stop_of v ≡ ReadMark.byte x → ⊥
+stops_not (Ok n) x e = cc
+stops_not (Err e) x h = cc
 
 -- two tales of some bytes and then a stop, of which one begins the other
-abbrev TwoTales : List ℕ → List ℕ → Stop → Stop → Type 0
-TwoTales xs ys a b = (xs ≡ ys) × (stop_mark a ≡ stop_mark b)
-
-stops_not : (a : Stop) (x : ℕ) → stop_mark a ≡ ReadMark.byte x → ⊥
-stops_not Stop.ended x e = cc
-stops_not (Stop.failed kind) x e = cc
-
-one_stop : (xs ys : List ℕ) (a b : Stop) → Comparable (bytes xs ++ stop_mark a ∷ []) (bytes ys ++ stop_mark b ∷ [])
-    → TwoTales xs ys a b
-one_stop [] [] a b c = (refl, c.0)
-one_stop [] (y ∷ ys) a b c = absurd (stops_not a y c.0)
-one_stop (x ∷ xs) [] a b c = absurd (stops_not b x (sym c.0))
-one_stop (x ∷ xs) (y ∷ ys) a b c =
-    let rest = one_stop xs ys a b c.1 in
+one_stop : (v w : SteadyCopyResult) (xs ys : List ℕ)
+    → Comparable (bytes xs ++ stop_of v ∷ []) (bytes ys ++ stop_of w ∷ []) → (xs ≡ ys) × (stop_of v ≡ stop_of w)
+one_stop v w [] [] c = (refl, c.0)
+one_stop v w [] (y ∷ ys) c = absurd (stops_not v y c.0)
+one_stop v w (x ∷ xs) [] c = absurd (stops_not w x (sym c.0))
+one_stop v w (x ∷ xs) (y ∷ ys) c =
+    let rest = one_stop v w xs ys c.1 in
     let same : x ≡ y = cc c.0 in
     (rw (same, rest.0), rest.1)
 
-stops_told : (xs ys : List ℕ) (a b : Stop) (i j : List ReadMark) → strip_marks i ≡ bytes xs ++ stop_mark a ∷ []
-    → strip_marks j ≡ bytes ys ++ stop_mark b ∷ []
-    → Comparable (strip_marks i) (strip_marks j) → TwoTales xs ys a b
-stops_told xs ys a b i j h g c =
-    one_stop xs ys a b
-    (rw (← g) (rw (← h) c))
+-- how many bytes a value of Ok counts
+abbrev Counted : SteadyCopyResult → ℕ → List ℕ → Type 0
+Counted (Ok n) held xs = n ≡ (held + length xs) % 2 ^ 64
+Counted (Err e) held xs = ⊤
 
--- what the value says of the tale: all bytes up to a stop
+-- what the value says of the tale: all bytes up to its stop
 abbrev TaleOfValue : SteadyCopyResult → ℕ → List ReadMark → Type 0
-TaleOfValue (Ok n) held tale =
-    (xs : List ℕ) × (strip_marks tale ≡ bytes xs ++ ReadMark.end ∷ []) × (n ≡ (held + length xs) % 2 ^ 64)
-TaleOfValue (Err e) held tale = (xs : List ℕ) × (strip_marks tale ≡ bytes xs ++ ReadMark.fault (error_kind e) ∷ [])
+TaleOfValue v held tale = (xs : List ℕ) × (strip_marks tale ≡ bytes xs ++ stop_of v ∷ []) × Counted v held xs
+
+same_value : (v w : SteadyCopyResult) (held : ℕ) (xs ys : List ℕ) → (xs ≡ ys) × (stop_of v ≡ stop_of w)
+    → Counted v held xs → Counted w held ys → SameByKind v w
+same_value (Ok n) (Ok k) held xs ys both h g = cc
+same_value (Err e) (Err f) held xs ys both h g = cc both.1
+same_value _ _ held xs ys both h g = absurd (cc both.1)
 
 same_told : (v w : SteadyCopyResult) (held : ℕ) (i j : List ReadMark) → TaleOfValue v held i → TaleOfValue w held j
-    → Comparable (strip_marks i) (strip_marks j)
-    → SameByKind v w
-same_told (Ok n) (Ok k) held i j h g c =
-    let both = stops_told h.0 g.0 Stop.ended Stop.ended i j h.1 g.1 c in
-    h.2 ∙ ap (λ (l : List ℕ). (held + length l) % 2 ^ 64) both.0 ∙ sym g.2
-same_told (Ok n) (Err e) held i j h g c =
-    let both = stops_told h.0 g.0 Stop.ended (Stop.failed (error_kind e)) i j h.1 g.1 c in absurd (cc both.1)
-same_told (Err e) (Ok n) held i j h g c =
-    let both = stops_told h.0 g.0 (Stop.failed (error_kind e)) Stop.ended i j h.1 g.1 c in absurd (cc both.1)
-same_told (Err e) (Err f) held i j h g c =
-    let both = stops_told h.0 g.0 (Stop.failed (error_kind e)) (Stop.failed (error_kind f)) i j h.1 g.1 c in
-    cc both.1
+    → Comparable (strip_marks i) (strip_marks j) → SameByKind v w
+same_told v w held i j h g c =
+    same_value v w held h.0 g.0 (one_stop v w h.0 g.0 (rw (← g.1, ← h.1) c)) h.2 g.2
 
 no_bytes : (phase : Phase) → bytes_told (met_in phase) ≡ []
 no_bytes Copying = refl
@@ -105,12 +90,10 @@ abbrev AllTold : List SteadyCopyResult → ℕ → List ReadMark → Type 0
 AllTold [] held tale = ⊤
 AllTold (v ∷ l) held tale = TaleOfValue v held tale × (l ≡ [])
 
-stopped : (read tale : List ReadMark) (m : ReadMark) → BytesAlone read → tale ≡ read ++ m ∷ []
-    → strip_marks (m ∷ []) ≡ m ∷ []
-    → strip_marks tale ≡ bytes (bytes_told read) ++ m ∷ []
-stopped read tale m on cut stop =
-    ap strip_marks cut ∙ strip_marks-append read (m ∷ []) ∙ ap (λ k. k ++ strip_marks (m ∷ [])) (goes_stripped read on)
-    ∙ ap (λ k. bytes (bytes_told read) ++ k) stop
+stopped : (read tale : List ReadMark) (v : SteadyCopyResult) → BytesAlone read → tale ≡ read ++ stop_of v ∷ []
+    → strip_marks tale ≡ bytes (bytes_told read) ++ stop_of v ∷ []
+stopped read tale (Ok n) on cut = rw (cut, strip_marks-append, goes_stripped read on)
+stopped read tale (Err e) on cut = rw (cut, strip_marks-append, goes_stripped read on)
 
 -- an error where no write failed is one of the reader
 reader_failed : (e : Error) (fault : List ReadMark) (last : List WriteMark) (after : List ℕ) (met : List ReadMark)
@@ -153,22 +136,19 @@ module _ {R W : Type 0} where
     taken_all : held_of y ≡ [] → read ++ (met_in y.phase ++ h.copied.failed) ≡ read ++ ReadMark.end ∷ []
         → bytes_taken h.took ≡ held_of x ++ bytes_told read
     taken_all empty end =
-        let c = h.copied in
-        let bytes = sym (append-nil (bytes_told read)) ∙ sym (told_both read (ReadMark.end ∷ [])) in
-        let whole = told_both (met_in x.phase) h.told ∙ ap (λ k. k ++ bytes_told h.told) (no_bytes x.phase) in
-        sym (append-nil (bytes_taken h.took)) ∙ ap (λ k. bytes_taken h.took ++ k) (sym empty) ∙ sym c.balanced ∙ ap
-        (λ k. held_of x ++ k) (sym (bytes ∙ (ap bytes_told (sym (c.reading.cut ∙ end)) ∙ whole)))
+        let told : bytes_told h.told ≡ bytes_told read =
+        simp (told_both, no_bytes, append-nil) at (ap bytes_told (h.copied.reading.cut ∙ end)) in
+        sym (rw (told, empty, append-nil) at h.copied.balanced)
 
     ok_told : (n : ℕ) → CopyValue (Ok n ∷ []) h.copied.failed h.copied.last (held_of y) (met_in y.phase) y.amount
         → TaleOfValue (Ok n) (before_of x) (tale_of x h.told)
     ok_told n value =
         let c = h.copied in
-        let a = ok_value (held_of y) (met_in y.phase) y.amount n c.failed c.last value in
+        let a = ok_value _ _ y.amount n c.failed c.last value in
         let end : read ++ (met_in y.phase ++ c.failed) ≡ read ++ ReadMark.end ∷ [] =
-        ap (λ k. read ++ (k ++ c.failed)) a.3 ∙ ap (λ k. read ++ (ReadMark.end ∷ k)) a.0 in
-        let tale = stopped read (tale_of x h.told) ReadMark.end c.reading.goes_on (c.reading.cut ∙ end) refl in (
+        ap (λ k. read ++ (k ++ c.failed)) a.3 ∙ ap (λ k. read ++ (ReadMark.end ∷ k)) a.0 in (
           bytes_told read,
-          tale,
+          stopped read _ (Ok n) c.reading.goes_on (c.reading.cut ∙ end),
           a.4 ∙ h.counted ∙ ap (λ (k : ℕ). k % 2 ^ 64)
               (omega (arith, ap length (taken_all a.2 end), length-append (held_of x) (bytes_told read))),
         )
@@ -178,10 +158,10 @@ module _ {R W : Type 0} where
     err_told e value =
         let c = h.copied in
         let f =
-        reader_failed e c.failed c.last (held_of y) (met_in y.phase) y.amount
+        reader_failed e c.failed c.last _ _ y.amount
         (no_failure_last c.writing.written c.last (rw (← c.writing.cut) h.went.1)) value in
         let cut = c.reading.cut ∙ ap (λ k. read ++ (k ++ c.failed)) f.1 ∙ ap (λ k. read ++ k) f.0 in
-        (bytes_told read, stopped read (tale_of x h.told) (ReadMark.fault (error_kind e)) c.reading.goes_on cut refl)
+        (bytes_told read, stopped read _ (Err e) c.reading.goes_on cut, tt)
 
     told_at : (given : List SteadyCopyResult)
         → CopyValue given h.copied.failed h.copied.last (held_of y) (met_in y.phase) y.amount
@@ -189,17 +169,23 @@ module _ {R W : Type 0} where
     told_at [] a = tt
     told_at (Ok n ∷ []) a = (ok_told n a, refl)
     told_at (Err e ∷ []) a = (err_told e a, refl)
-    told_at (Ok n ∷ v ∷ given) a = absurd a
-    told_at (Err e ∷ v ∷ given) a = absurd a
+    told_at _ a = absurd assumption
 
     all_told : AllTold (strip out) (before_of x) (tale_of x h.told)
-    all_told = told_at (strip out) h.copied.value
+    all_told = told_at _ h.copied.value
 
 all_same : (l m : List SteadyCopyResult) (held : ℕ) (i j : List ReadMark) → AllTold l held i → AllTold m held j
     → Comparable (strip_marks i) (strip_marks j)
     → ComparableBy SameByKind l m
 all_same (v ∷ l) (w ∷ m) held i j h g c = rw h.1 (same_told v w held i j h.0 g.0 c, tt)
 all_same _ _ held i j h g c = tt
+
+-- what is copied of other runs by the same marks
+moves_by : {R W : Type 0} {reads ample : Runs ReadMark R} {writes wins : Runs WriteMark W} {x y : CopyFuture R W}
+    {out : List (Poll SteadyCopyResult)} (m : Moves reads writes x out y) → ample (source_of x) m.told (source_of y)
+    → wins x.writer m.took y.writer → Moves ample wins x out y
+moves_by m came went =
+    record { told = m.told; took = m.took; came = came; went = went; copied = m.copied; counted = m.counted }
 
 module _ {R W : Type 0} {reads : Runs ReadMark R} {writes : Runs WriteMark W} where
   pub copy_steady : {ample : Runs ReadMark R} {needs_none : Type 0} {alike : R → R → Type 0}
@@ -216,27 +202,16 @@ module _ {R W : Type 0} {reads : Runs ReadMark R} {writes : Runs WriteMark W} wh
             let one = all_told x x' l i in
             let two = all_told y y' m j in
             let tales =
-            s.steady (source_of x) (source_of y) (source_of x') (source_of y') i.told j.told e.0 i.came j.came in
+            s.steady _ _ _ _ i.told j.told e.0 i.came j.came in
             let both =
-            comparable_behind (strip_marks (met_in x.phase)) (strip_marks i.told) (strip_marks j.told) tales in
+            comparable_behind (strip_marks (met_in x.phase)) _ _ tales in
             let begun : before_of y ≡ before_of x = omega (arith, e.3, ap length e.1) in
             let other = rw begun at two in
-            all_same (strip l) (strip m) (before_of x) (tale_of x i.told) (tale_of y j.told) one other
-            (rw (strip_marks-append (met_in x.phase) i.told, strip_marks-append (met_in y.phase) j.told, ← e.2) both);
+            all_same _ _ _ _ _ one other (rw (strip_marks-append _ i.told, strip_marks-append _ j.told, ← e.2) both);
         found = λ n x y l h.
             let i = h.moves in
-            let came = s.found n.0 (source_of x) (source_of y) i.told i.came in
-            let went : WithoutFailure writes x.writer i.took y.writer =
-            (i.went, n.1 x.writer y.writer i.took i.went) in
             record {
-              moves = record {
-                told = i.told;
-                took = i.took;
-                came = came;
-                went = went;
-                copied = i.copied;
-                counted = i.counted;
-              };
+              moves = moves_by i (s.found n.0 _ _ _ i.came) (i.went, n.1 _ _ _ i.went);
               idle = h.idle;
             };
       }
@@ -248,7 +223,7 @@ module _ {R W : Type 0} {reads : Runs ReadMark R} {writes : Runs WriteMark W} wh
       record {
         no_pending = λ x y l k h.
             let i = h.moves in
-            let told = told_no_pending i.told (c.no_pending (source_of x) (source_of y) i.told k.0 i.came) in
+            let told = told_no_pending i.told (c.no_pending _ _ i.told k.0 i.came) in
             none_no_pending l
             (omega (
               arith,
@@ -258,7 +233,7 @@ module _ {R W : Type 0} {reads : Runs ReadMark R} {writes : Runs WriteMark W} wh
             ));
         calm_on = λ x y l k h.
             let i = h.moves in
-            (c.calm_on (source_of x) (source_of y) i.told k.0 i.came, d.calm_on x.writer y.writer i.took k.1 i.went);
+            (c.calm_on _ _ i.told k.0 i.came, d.calm_on x.writer y.writer i.took k.1 i.went);
       }
 
 takes_without_failure : (l : List WriteMark) → TakesSome l → NoFailure l
@@ -285,18 +260,11 @@ module _ {R W : Type 0} {reads ample : Runs ReadMark R} {writes : Runs WriteMark
       let k = m.copied in
       let f = k.writing in
       let last =
-      last_no_failure v k.failed k.last (held_of h.last) (met_in h.last.phase) h.last.amount ok
-      (rw (gives_strip l v h.gives) at k.value) in
+      last_no_failure v k.failed k.last _ _ h.last.amount ok (rw (gives_strip l v h.gives) at k.value) in
       let no_failure =
       rw (← f.cut) at (no_failure_both f.written k.last (takes_without_failure f.written f.takes_some) last) in
-      let came = found (source_of x) (source_of h.last) m.told m.came in
-      let moves : Moves ample (WithoutFailure writes) x l h.last =
       record {
-        told = m.told;
-        took = m.took;
-        came = came;
-        went = (m.went, no_failure);
-        copied = k;
-        counted = m.counted;
-      } in
-      record { gives = h.gives; last = h.last; came = record { moves = moves; idle = h.came.idle } }
+        gives = h.gives;
+        last = h.last;
+        came = record { moves = moves_by m (found _ _ m.told m.came) (m.went, no_failure); idle = h.came.idle };
+      }

@@ -27,7 +27,7 @@ module _ {F : Type 0} (call without_failure : F → Poll WriteAllResult → F �
       → (x y : F) (l : List (Poll WriteAllResult)) → PolledByCalls call x l y → PolledByCalls without_failure x l y
   polled_so so x y [] h = h
   polled_so so x y (Pending ∷ l) h = (h.0, so x h.0 Pending h.1, polled_so so h.0 y l h.2)
-  polled_so so x y (Ready r ∷ l) h = (so x y (Ready r) h.0, h.1)
+  polled_so so x y (Ready r ∷ l) h = (so x y _ h.0, h.1)
 
   done_steady : {needs_none : Type 0} → ((x y : F) (r : WriteAllResult) → without_failure x (Ready r) y → r ≡ Ok tt)
       → (needs_none → (x y : F) (c : Poll WriteAllResult) → call x c y → without_failure x c y)
@@ -35,7 +35,7 @@ module _ {F : Type 0} (call without_failure : F → Poll WriteAllResult → F �
   done_steady ok so =
       record {
         laws = polled_laws without_failure;
-        steady = λ x y e l m x' y' h k. all_ok_same (strip l) (strip m) (values_ok ok x x' l h) (values_ok ok y y' m k);
+        steady = λ x y e l m x' y' h k. all_ok_same _ _ (values_ok ok x x' l h) (values_ok ok y y' m k);
         found = λ n. polled_so (so n);
       }
 
@@ -48,12 +48,10 @@ module _ {W : Type 0} {writes : Runs WriteMark W} where
       (NoneFails writes) (λ x y. ⊤)
   flush_steady =
       done_steady (Flushes writes) (Flushes (WithoutFailure writes)) (λ x y r h. done_ok WriteMark.flushed r h.came.1)
-      (λ n x y c h.
-      record { came = (h.came, n x.writer.now y.writer.now (done_marks WriteMark.flushed c) h.came); stays = h.stays })
+      (λ n x y c h. record { came = (h.came, n _ _ _ h.came); stays = h.stays })
 
   pub close_steady : FutureSteadyLaws (PolledByCalls (Closes writes)) (PolledByCalls (Closes (WithoutFailure writes)))
       (NoneFails writes) (λ x y. ⊤)
   close_steady =
       done_steady (Closes writes) (Closes (WithoutFailure writes)) (λ x y r h. done_ok WriteMark.closed r h.came.1)
-      (λ n x y c h.
-      record { came = (h.came, n x.writer.now y.writer.now (done_marks WriteMark.closed c) h.came); stays = h.stays })
+      (λ n x y c h. record { came = (h.came, n _ _ _ h.came); stays = h.stays })

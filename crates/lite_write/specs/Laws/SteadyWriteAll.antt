@@ -78,11 +78,10 @@ module _ {W : Type 0} {writes : Runs WriteMark W} where
       record {
         laws = all_laws (without_failure_laws laws);
         steady = λ x y e l m x' y' h k.
-            all_ok_same (strip l) (strip m) (hands_ok x.buf.now x'.buf.now h.marks l h.came.1 h.handed)
-            (hands_ok y.buf.now y'.buf.now k.marks m k.came.1 k.handed);
+            all_ok_same _ _ (hands_ok _ _ h.marks l h.came.1 h.handed) (hands_ok _ _ k.marks m k.came.1 k.handed);
         found = λ n x y l h. record {
           marks = h.marks;
-          came = (h.came, n x.writer.now y.writer.now h.marks h.came);
+          came = (h.came, n _ _ _ h.came);
           handed = h.handed;
           stays = h.stays;
           idle = h.idle;

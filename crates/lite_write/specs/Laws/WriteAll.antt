@@ -1,8 +1,7 @@
 -- Laws of `write_all`.
-use Rattle.std.proofs.Common.{◌∙◌, ◌<◌, List, [], ◌∷◌, ◌++◌, length, Result, refl, ap, arith, length-append}
+use Rattle.std.proofs.Common.{◌∙◌, ◌<◌, [], ◌∷◌, ◌++◌, length, Result, refl, ap, arith, length-append}
 use Rattle.std.specs.declared.io.Error.{Error}
 use Rattle.futures.specs.declared.task.Poll.{Poll}
-use Rattle.lite_base.specs.Answers.{Waiting}
 use Rattle.lite_base.specs.FutureLaws.{FutureLaws}
 use Rattle.lite_base.specs.Laws.Answers.{up_to_once}
 use Rattle.lite_base.specs.Laws.Segments.{segment_before, segments_before, to_value_join}
@@ -20,17 +19,6 @@ WriteAllResult = Result (Unit {0}) Error
 
 module _ {W : Type 0} where
   module _ {writes : Runs WriteMark W} (laws : MarkLaws writes) where
-    follows : (x y z : WriteAllFuture W) (l m : List (Poll WriteAllResult)) → Waiting l → WritesAll writes x l y
-        → WritesAll writes y m z → WritesAll writes x (l ++ m) z
-    follows x y z l m w h k =
-        record {
-          marks = h.marks ++ k.marks;
-          came = laws.follows x.writer.now y.writer.now z.writer.now h.marks k.marks h.came k.came;
-          handed = to_value_join HandsMarks x.buf.now y.buf.now z.buf.now h.marks k.marks l m w h.handed k.handed;
-          stays = lent_still x.writer y.writer z.writer h.stays k.stays;
-          idle = idle_join x y z l m h.idle k.idle;
-        }
-
     pub all_laws : FutureLaws (WritesAll writes)
     all_laws =
         record {
@@ -42,7 +30,13 @@ module _ {W : Type 0} where
             idle = λ e. refl;
           };
           stays = λ x y h. h.idle refl;
-          follows = follows;
+          follows = λ x y z l m w h k. record {
+            marks = h.marks ++ k.marks;
+            came = laws.follows _ _ _ h.marks k.marks h.came k.came;
+            handed = to_value_join HandsMarks _ _ _ h.marks k.marks l m w h.handed k.handed;
+            stays = lent_still x.writer _ _ h.stays k.stays;
+            idle = idle_join x y z l m h.idle k.idle;
+          };
           once = λ x y l h. up_to_once l h.handed.1;
         }
 

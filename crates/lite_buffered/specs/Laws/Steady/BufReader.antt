@@ -1,5 +1,5 @@
 -- A `BufReader` with some capacity tells one tale where its reader does; it is never pending where its reader isn't.
-use Rattle.std.proofs.Common.{◌≡◌, ◌∙◌, ◌<◌, ℕ, zero, suc, List, ◌++◌, sym, ap}
+use Rattle.std.proofs.Common.{◌≡◌, ◌<◌, ℕ, zero, suc, List, ◌++◌}
 use Rattle.lite_base.specs.Answers.{Comparable}
 use Rattle.lite_base.specs.Runs.{Runs}
 use Rattle.lite_io_base.specs.Laws.Steady.{comparable_behind, comparable_fronts, no_wait_both, no_wait_bytes}
@@ -14,8 +14,7 @@ use Rattle.lite_buffered.specs.Laws.BufReader.{passes_some, through_laws}
 passes_apart : (n : ℕ) (p q : List ℕ) (came out : List ReadMark) → 0 < n → PassesBuffer n p came out q
     → strip_marks (bytes p) ++ strip_marks came ≡ strip_marks out ++ strip_marks (bytes q)
 passes_apart n p q came out some h =
-    sym (strip_marks-append (bytes p) came) ∙ ap strip_marks (passes_some n p came out q some h)
-    ∙ strip_marks-append out (bytes q)
+    rw (← strip_marks-append, passes_some n p came out q some h) (strip_marks-append out _)
 
 padded_no_wait : (l k : List ReadMark) → Padded l k → NoPendingRead l → NoPendingRead k
 padded_no_wait _ _ Padded.none h = tt
@@ -47,23 +46,22 @@ module _ {R : Type 0} {reads : Runs ReadMark R} where
         comparable_fronts (strip_marks l) (strip_marks (bytes (ahead x'))) (strip_marks m)
         (strip_marks (bytes (ahead y'))) (rw (← first, ← second, e.2) both)
 
-    all_ample : needs_none → (x y : BufReader R) (l : List ReadMark) → ThroughBuffer reads x l y
-        → ThroughBuffer ample x l y
-    all_ample n x y l h = record {
-      came = h.came;
-      ran = s.found n x.inner y.inner h.came h.ran;
-      capacity = h.capacity;
-      passes = h.passes;
-    }
-
     pub buf_reader_steady : SteadyReadLaws (ThroughBuffer reads) (ThroughBuffer ample) needs_none (AheadAlike alike)
-    buf_reader_steady = record { laws = through_laws s.laws; steady = one_tale; found = all_ample }
+    buf_reader_steady = record {
+      laws = through_laws s.laws;
+      steady = one_tale;
+      found = λ n x y l h. record {
+        came = h.came;
+        ran = s.found n _ _ _ h.ran;
+        capacity = h.capacity;
+        passes = h.passes;
+      };
+    }
 
   pub buf_reader_calm : {is_calm : R → Type 0} → CalmReadLaws reads is_calm
       → CalmReadLaws (ThroughBuffer reads) (λ (x : BufReader R). is_calm x.inner)
   buf_reader_calm c =
       record {
-        no_pending = λ x y l k h. passes_no_wait (reader_capacity x) (ahead x) (ahead y) h.came l h.passes
-            (c.no_pending x.inner y.inner h.came k h.ran);
+        no_pending = λ x y l k h. passes_no_wait _ _ _ h.came l h.passes (c.no_pending x.inner y.inner h.came k h.ran);
         calm_on = λ x y l k h. c.calm_on x.inner y.inner h.came k h.ran;
       }

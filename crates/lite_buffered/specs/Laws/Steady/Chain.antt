@@ -18,7 +18,7 @@ stripped_no_end (a ∷ l) h = (h.0, stripped_no_end l h.1)
 
 -- what has no end stands before the end
 past_end : (p q k : List ReadMark) → EndlessMarks q → Comparable (p ++ ReadMark.end ∷ []) q → Comparable (p ++ k) q
-past_end p [] k n c = comparable_none (p ++ k)
+past_end p [] k n c = comparable_none _
 past_end [] (b ∷ q) k n c = absurd (n.0 (sym c.0))
 past_end (a ∷ p) (b ∷ q) k n c = (c.0, past_end p q k n.1 c.1)
 
@@ -28,7 +28,7 @@ same_end : (p q : List ReadMark) → EndlessMarks p → EndlessMarks q
 same_end [] [] n o c = refl
 same_end [] (b ∷ q) n o c = absurd (o.0 (sym c.0))
 same_end (a ∷ p) [] n o c = absurd (n.0 c.0)
-same_end (a ∷ p) (b ∷ q) n o c = rw (c.0, same_end p q n.1 o.1 c.1) refl
+same_end (a ∷ p) (b ∷ q) n o c = rw (c.0, same_end p q n.1 o.1 c.1)
 
 -- two that are at one place, over readers that are alike
 abbrev pub PlaceAlike : {R S : Type 0} → (R → R → Type 0) → (S → S → Type 0) → Chain R S → Chain R S → Type 0
@@ -48,9 +48,7 @@ module _ {R S : Type 0} {first : Runs ReadMark R} {second : Runs ReadMark S} whe
         → Comparable (strip_marks (h.before ++ ReadMark.end ∷ [])) (strip_marks m)
         → Comparable (strip_marks l) (strip_marks m)
     past_cut x x' l m h n c =
-        rw (h.cut, strip_marks-append)
-        (past_end (strip_marks h.before) (strip_marks m) (strip_marks h.after) (stripped_no_end m n)
-        (rw strip_marks-append at c))
+        rw (h.cut, strip_marks-append) (past_end _ _ _ (stripped_no_end m n) (rw strip_marks-append at c))
 
     both_cross : (x y x' y' : Chain R S) (l m : List ReadMark) → alike1 x.first y.first → alike2 x.second y.second
         → ReadsAcross ample1 ample2 x l x'
@@ -58,11 +56,10 @@ module _ {R S : Type 0} {first : Runs ReadMark R} {second : Runs ReadMark S} whe
     both_cross x y x' y' l m e d h k =
         let c = s.steady x.first y.first x'.first y'.first (h.before ++ ReadMark.end ∷ [])
         (k.before ++ ReadMark.end ∷ []) e (whole x x' l h) (whole y y' m k) in
-        let same = same_end (strip_marks h.before) (strip_marks k.before) (stripped_no_end h.before h.no_end)
+        let same = same_end _ _ (stripped_no_end h.before h.no_end)
         (stripped_no_end k.before k.no_end) (rw (strip_marks-append, strip_marks-append) at c) in
         let after = t.steady x.second y.second x'.second y'.second h.after k.after d h.second_ran k.second_ran in
-        rw (h.cut, strip_marks-append, k.cut, strip_marks-append, same)
-        (comparable_behind (strip_marks k.before) (strip_marks h.after) (strip_marks k.after) after)
+        rw (h.cut, strip_marks-append, k.cut, strip_marks-append, same) (comparable_behind _ _ _ after)
 
     one_tale : (a b c : Bool) (x y x' y' : Chain R S) (l m : List ReadMark) → alike1 x.first y.first
         → alike2 x.second y.second → JoinsReaders ample1 ample2 a b x l x'
@@ -72,12 +69,11 @@ module _ {R S : Type 0} {first : Runs ReadMark R} {second : Runs ReadMark S} whe
         past_cut x x' l m h k.1
         (s.steady x.first y.first x'.first y'.first (h.before ++ ReadMark.end ∷ []) m e (whole x x' l h) k.0)
     one_tale false false true x y x' y' l m e d h k =
-        comparable_swapped (strip_marks m) (strip_marks l) (past_cut y y' m l k h.1 (comparable_swapped _ _
+        comparable_swapped _ _ (past_cut y y' m l k h.1 (comparable_swapped _ _
         (s.steady x.first y.first x'.first y'.first l (k.before ++ ReadMark.end ∷ []) e h.0 (whole y y' m k))))
     one_tale false true true x y x' y' l m e d h k = both_cross x y x' y' l m e d h k
     one_tale true true true x y x' y' l m e d h k = t.steady x.second y.second x'.second y'.second l m d h.0 k.0
-    one_tale true false c x y x' y' l m e d h k = absurd h
-    one_tale true true false x y x' y' l m e d h k = absurd k
+    one_tale true _ _ x y x' y' l m e d h k = absurd assumption
 
     all_ample : none1 × none2 → (a b : Bool) (x y : Chain R S) (l : List ReadMark) → JoinsReaders first second a b x l y
         → JoinsReaders ample1 ample2 a b x l y

@@ -13,7 +13,7 @@ fits_stripped : (n rest : ℕ) (l : List ReadMark) → WithinLimit n l rest → 
 fits_stripped n rest [] h = h
 fits_stripped zero rest (m ∷ l) h = absurd h
 fits_stripped (suc n) rest (ReadMark.byte b ∷ l) h = fits_stripped n rest l h
-fits_stripped (suc n) rest (m ∷ l) h = fits_stripped (suc n) rest l h
+fits_stripped (suc n) rest (m ∷ l) h = fits_stripped _ rest l h
 
 ends_stripped : (rest : ℕ) (l : List ReadMark) → LimitEnds rest l → LimitEnds rest (strip_marks l)
 ends_stripped rest [] h = tt
@@ -28,19 +28,18 @@ fronts_alike : (n r s : ℕ) (p q e d : List ReadMark) → WithinLimit n p r →
     → LimitEnds s d → Comparable p q → Comparable (p ++ e) (q ++ d)
 fronts_alike n r s [] [] e d f g h k c = ends_alike r s e d h k
 fronts_alike n r s [] (b ∷ q) [] d f g h k c = tt
-fronts_alike zero r s [] (b ∷ q) (x ∷ e) d f g h k c = absurd g
 fronts_alike (suc n) r s [] (b ∷ q) (x ∷ e) d f g h k c =
     let none : suc n ≡ 0 = sym f ∙ h.0 in absurd (omega (arith, none))
 fronts_alike n r s (a ∷ p) [] e [] f g h k c = comparable_none ((a ∷ p) ++ e)
 fronts_alike (suc n) r s (a ∷ p) [] e (x ∷ d) f g h k c =
     let none : suc n ≡ 0 = sym g ∙ k.0 in absurd (omega (arith, none))
-fronts_alike zero r s (a ∷ p) q e d f g h k c = absurd f
 fronts_alike (suc n) r s (ReadMark.byte x ∷ p) (b ∷ q) e d f g h k c =
     let same : WithinLimit n q s = subst (λ t. WithinLimit (suc n) (t ∷ q) s) (sym c.0) g in
     (c.0, fronts_alike n r s p q e d f same h k c.1)
 fronts_alike (suc n) r s (a ∷ p) (b ∷ q) e d f g h k c =
     let same : WithinLimit (suc n) q s = subst (λ t. WithinLimit (suc n) (t ∷ q) s) (sym c.0) g in
-    (c.0, fronts_alike (suc n) r s p q e d f same h k c.1)
+    (c.0, fronts_alike _ r s p q e d f same h k c.1)
+fronts_alike _ r s _ _ _ d f g h k c = absurd assumption
 
 ends_no_wait : (rest : ℕ) (l : List ReadMark) → LimitEnds rest l → NoPendingRead l
 ends_no_wait rest [] h = tt
@@ -62,24 +61,23 @@ module _ {R : Type 0} {reads : Runs ReadMark R} where
         let ends = ends_stripped x'.limit h.ends h.used_up in
         let ends2 = ends_stripped y'.limit k.ends k.used_up in
         let inner = s.steady x.inner y.inner x'.inner y'.inner h.front k.front e.0 h.ran k.ran in
-        let both = fronts_alike x.limit x'.limit y'.limit (strip_marks h.front) (strip_marks k.front)
-        (strip_marks h.ends) (strip_marks k.ends) fits fits2 ends ends2 inner in
+        let both = fronts_alike x.limit x'.limit y'.limit _ _ _ _ fits fits2 ends ends2 inner in
         rw (h.cut, strip_marks-append, k.cut, strip_marks-append) both
 
-    all_ample : needs_none → (x y : Take R) (l : List ReadMark) → TakesMarks reads x l y → TakesMarks ample x l y
-    all_ample n x y l h =
-        record {
-          front = h.front;
-          ends = h.ends;
-          cut = h.cut;
-          ran = s.found n x.inner y.inner h.front h.ran;
-          fits = h.fits;
-          used_up = h.used_up;
-          still = h.still;
-        }
-
     pub take_steady : SteadyReadLaws (TakesMarks reads) (TakesMarks ample) needs_none (LimitAlike alike)
-    take_steady = record { laws = takes_laws s.laws; steady = one_tale; found = all_ample }
+    take_steady = record {
+      laws = takes_laws s.laws;
+      steady = one_tale;
+      found = λ n x y l h. record {
+        front = h.front;
+        ends = h.ends;
+        cut = h.cut;
+        ran = s.found n _ _ _ h.ran;
+        fits = h.fits;
+        used_up = h.used_up;
+        still = h.still;
+      };
+    }
 
   pub take_calm : {is_calm : R → Type 0} → CalmReadLaws reads is_calm
       → CalmReadLaws (TakesMarks reads) (λ (x : Take R). is_calm x.inner)

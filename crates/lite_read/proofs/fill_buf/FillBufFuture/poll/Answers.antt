@@ -1,52 +1,41 @@
-use Rattle.std.proofs.Common.{◌∙◌, refl, sym}
-use Rattle.futures.specs.declared.task.Poll.TheVariants.{Pending}
-use Rattle.lite_read.specs.FillBuf.{FillsOnce}
+use Rattle.std.proofs.Common.{◌∙◌, List, ℕ, refl, sym}
+use Rattle.std.specs.Prelude.{◌≡◌, Result, Some}
+use Rattle.std.specs.Borrow.{Bor, MutBor}
+use Rattle.std.specs.declared.io.Error.{Error}
+use Rattle.futures.specs.declared.task.Poll.{Poll}
+use Rattle.lite_base.specs.Runs.{Runs}
+use Rattle.lite_io_base.specs.Marks.{ReadMark, fill_marks}
+use Rattle.lite_io_base.specs.Runs.{LendsFront}
+use Rattle.lite_read.specs.FillBuf.{FillsOnce, held_after}
+use Rattle.lite_read.specs.declared.fill_buf.FillBuf.{FillBuf}
 use Rattle.lite_read.proofs.fill_buf.FillBufFuture.poll.Goals as goal
 
+filled_once : {R : Type 0} {reads : Runs ReadMark R} {lent : R → List ℕ} {x y : FillBuf R} (reader : MutBor R)
+    (filled : R) (c : Poll (Result (Bor (List ℕ)) Error)) → x.reader ≡ Some reader
+    → reads reader.now (fill_marks c (lent filled)) filled → LendsFront c (lent filled)
+    → y.reader ≡ held_after c (record reader { now = filled }) → FillsOnce reads lent x c y
+filled_once reader filled c held came lends after =
+    record { reader = reader; filled = filled; held = held; came = came; lends = lends; after = after }
+
 pub returns-in-Ready-Ok-clause-ran : goal.returns-in-Ready-Ok-clause-ran
-returns-in-Ready-Ok-clause-ran g c =
-    let ran = rw c.in-Ready-Ok.field-0-is at (rw c.in-Ready-Ok.is at c.fill.ensures.ran) in
-    let held = sym c.take.ensures.value ∙ c.in-Some.is in (
-      record {
-        reader = c.in-Some.reader;
-        filled = c.fill.new.reader;
-        held = held;
-        came = ran;
-        lends = c.shown.ensures;
-        after = c.take.ensures.after;
-      },
-      refl,
-    )
+returns-in-Ready-Ok-clause-ran g c = (
+  filled_once c.in-Some.reader c.fill.new.reader _ (sym c.take.ensures.value ∙ c.in-Some.is)
+      (rw c.in-Ready-Ok.field-0-is at (rw c.in-Ready-Ok.is at c.fill.ensures.ran)) c.shown.ensures c.take.ensures.after,
+  refl,
+)
 
 pub returns-in-Ready-Err-clause-ran : goal.returns-in-Ready-Err-clause-ran
-returns-in-Ready-Err-clause-ran g c =
-    let ran = rw c.in-Ready-Err.field-0-is at (rw c.in-Ready-Err.is at c.fill.ensures.ran) in
-    let lends = rw c.in-Ready-Err.field-0-is at (rw c.in-Ready-Err.is at c.fill.ensures.lends) in
-    let held = sym c.take.ensures.value ∙ c.in-Some.is in (
-      record {
-        reader = c.in-Some.reader;
-        filled = c.fill.new.reader;
-        held = held;
-        came = ran;
-        lends = lends;
-        after =
-            refl;
-      },
-      refl,
-    )
+returns-in-Ready-Err-clause-ran g c = (
+  filled_once c.in-Some.reader c.fill.new.reader _ (sym c.take.ensures.value ∙ c.in-Some.is)
+      (rw c.in-Ready-Err.field-0-is at (rw c.in-Ready-Err.is at c.fill.ensures.ran))
+      (rw c.in-Ready-Err.field-0-is at (rw c.in-Ready-Err.is at c.fill.ensures.lends)) refl,
+  refl,
+)
 
 pub returns-in-Pending-clause-ran : goal.returns-in-Pending-clause-ran
-returns-in-Pending-clause-ran g c =
-    let ran = rw c.in-Pending.is at c.fill.ensures.ran in
-    let lends = rw c.in-Pending.is at c.fill.ensures.lends in
-    let held = sym c.take.ensures.value ∙ c.in-Some.is in
-    let filled : FillsOnce g.R.Tale.reads g.R.AsyncBufRead.lent c.args.self.now Pending _ =
-    record {
-      reader = c.in-Some.reader;
-      filled = c.fill.new.reader;
-      held = held;
-      came = ran;
-      lends = lends;
-      after = refl;
-    } in
-    (_, filled, refl)
+returns-in-Pending-clause-ran g c = (
+  _,
+  filled_once c.in-Some.reader c.fill.new.reader _ (sym c.take.ensures.value ∙ c.in-Some.is)
+      (rw c.in-Pending.is at c.fill.ensures.ran) (rw c.in-Pending.is at c.fill.ensures.lends) refl,
+  refl,
+)
