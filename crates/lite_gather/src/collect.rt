@@ -1,4 +1,4 @@
-ghost use Rattle.std.specs.Prelude.{◌≡◌, IsSome, None, Some, ⊤};
+ghost use Rattle.std.specs.Prelude.{IsSome, ⊤};
 ghost use Rattle.lite_consume.specs.Consuming.{fold_of};
 ghost use Rattle.lite_consume.specs.Laws.Returning.{returns_counted};
 ghost use Rattle.lite_gather.specs.Collect.{collects, collects_open};
@@ -15,18 +15,6 @@ use std::mem;
 /// what it was with the item that it refused; after either the future may not be polled. Ported from `src/stream.rs`,
 /// `CollectFuture`.
 pub type CollectFuture<S, C> = Consume<S, Collect<C>>;
-
-/// Takes out the collection that is held.
-pub(crate) fn hand_out<C>(held: &mut Option<C>) -> C
-    requires { IsSome held.old }
-    ensures was { held.old ≡ Some result }
-    ensures gone { held.new ≡ None }
-{
-    match held.take() {
-        Some(collection) => collection,
-        None => unreachable!(),
-    }
-}
 
 /// Takes each item into the collection.
 #[derive(Debug, Drop)]
@@ -45,7 +33,7 @@ impl<S: Counted, C: Gather<S::Item>> Folder<S> for Collect<C> {
 
     fn take_in(&mut self, item: S::Item) -> Option<Result<C, Refused<C, S::Item>>> {
         // It is taken out meanwhile, since one that grows lends its address, and with it that of the whole future.
-        let mut collected = hand_out(&mut self.collection);
+        let mut collected = self.collection.take().unwrap();
         match collected.take_in(item) {
             Ok(()) => match mem::replace(&mut self.collection, Some(collected)) {
                 None => None,
@@ -56,7 +44,7 @@ impl<S: Counted, C: Gather<S::Item>> Folder<S> for Collect<C> {
     }
 
     fn close(&mut self) -> Result<C, Refused<C, S::Item>> {
-        Ok(hand_out(&mut self.collection))
+        Ok(self.collection.take().unwrap())
     }
 
     ghost returns = { returns_counted S.counting (λ p q x o h. collects_open ⊤ C.holds p.collection q.collection x h) };

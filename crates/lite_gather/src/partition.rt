@@ -4,7 +4,6 @@ ghost use Rattle.lite_consume.specs.Consuming.{fold_of};
 ghost use Rattle.lite_consume.specs.Laws.Returning.{returns_counted};
 ghost use Rattle.lite_gather.specs.Partition.{Sorted, Unsorted, partitions, partitions_open};
 
-use crate::collect::hand_out;
 use crate::gather::Gather;
 use crate::refused::Refused;
 use lite_base::Counted;
@@ -62,12 +61,12 @@ impl<S: Counted, P: FnMut(&S::Item) -> bool, B: Gather<S::Item>> Folder<S> for P
             Ok(()) => return None,
             Err(item) => item,
         };
-        let collected = hand_out(&mut self.res);
+        let collected = self.res.take().unwrap();
         Some(Err(Refused { collected, item }))
     }
 
     fn close(&mut self) -> Result<(B, B), Refused<(B, B), S::Item>> {
-        Ok(hand_out(&mut self.res))
+        Ok(self.res.take().unwrap())
     }
 
     ghost returns = { returns_counted S.counting

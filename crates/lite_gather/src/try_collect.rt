@@ -3,7 +3,6 @@ ghost use Rattle.lite_consume.specs.Consuming.{fold_of};
 ghost use Rattle.lite_consume.specs.Laws.Returning.{returns_ok};
 ghost use Rattle.lite_gather.specs.TryCollect.{tries_collect, tries_collect_open};
 
-use crate::collect::hand_out;
 use crate::gather::Gather;
 use crate::refused::{Refused, TryCollectError};
 use lite_base::OkCounted;
@@ -41,7 +40,7 @@ impl<S: OkCounted, C: Gather<S::Ok>> Folder<S> for TryCollect<C> {
             Err(error) => return Some(Err(TryCollectError::Source(error))),
         };
         // It is taken out meanwhile, as that of `collect`.
-        let mut collected = hand_out(&mut self.items);
+        let mut collected = self.items.take().unwrap();
         match collected.take_in(value) {
             Ok(()) => match mem::replace(&mut self.items, Some(collected)) {
                 None => None,
@@ -55,7 +54,7 @@ impl<S: OkCounted, C: Gather<S::Ok>> Folder<S> for TryCollect<C> {
     }
 
     fn close(&mut self) -> Result<C, TryCollectError<C, S::Ok, S::Err>> {
-        Ok(hand_out(&mut self.items))
+        Ok(self.items.take().unwrap())
     }
 
     ghost returns = { returns_ok S.ok_counting (λ p q e h. h) (λ p q x o h. tries_collect_open ⊤ C.holds p.items q.items x h) };

@@ -5,7 +5,6 @@ ghost use Rattle.lite_gather.specs.Gathering.{Took};
 ghost use Rattle.lite_gather.specs.Refused.{refused_of};
 ghost use Rattle.lite_gather.specs.Unzip.{RefusedOne, unzips, unzips_open};
 
-use crate::collect::hand_out;
 use crate::gather::Gather;
 use crate::refused::UnzipRefused;
 use lite_base::Counted;
@@ -86,12 +85,12 @@ impl<A, B, S: Counted<Item = (A, B)>, FromA: Gather<A>, FromB: Gather<B>> Folder
             Ok(()) => return None,
             Err(part) => part,
         };
-        let collected = hand_out(&mut self.res);
+        let collected = self.res.take().unwrap();
         Some(Err(part.with(collected)))
     }
 
     fn close(&mut self) -> Result<(FromA, FromB), UnzipRefused<FromA, FromB, A, B>> {
-        Ok(hand_out(&mut self.res))
+        Ok(self.res.take().unwrap())
     }
 
     ghost returns = { returns_counted S.counting (λ p q x o h. unzips_open FromA.holds FromB.holds ⊤ p.res q.res x h) };

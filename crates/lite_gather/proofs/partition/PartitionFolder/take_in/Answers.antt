@@ -14,8 +14,8 @@ returns-in-Ok g c = (
 
 pub returns : goal.returns
 returns g c =
-    let out = c.hand_out-collected in
-    let collected : out.result ≡ (c.take_one-taken.new.accepted, c.take_one-taken.new.rejected) = cc out.ensures.was in (
+    let out = c.unwrap-collected in
+    let collected : out.result ≡ (c.take_one-taken.new.accepted, c.take_one-taken.new.rejected) = cc (c.take.ensures.value, out.ensures) in (
       tt,
       c.predicate-is_accepted.result,
       (c.in-Some.accepted, c.in-Some.rejected),
@@ -24,5 +24,5 @@ returns g c =
       c.in-Some.is,
       rw collected c.in-Err.ensures.kept.1,
       ap (λ x. Err (record { collected = out.result; item = x })) c.in-Err.ensures.kept.0,
-      out.ensures.gone,
+      c.take.ensures.after,
     )

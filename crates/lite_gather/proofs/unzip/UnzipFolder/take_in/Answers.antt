@@ -14,13 +14,13 @@ returns-in-Ok g c =
 
 pub returns : goal.returns
 returns g c =
-    let out = c.hand_out-collected in
-    let collected : out.result ≡ (c.take_both-taken.new.left, c.take_both-taken.new.right) = cc out.ensures.was in (
+    let out = c.unwrap-collected in
+    let collected : out.result ≡ (c.take_both-taken.new.left, c.take_both-taken.new.right) = cc (c.take.ensures.value, out.ensures) in (
       tt,
       (c.in-Some.left, c.in-Some.right),
       c.with.result,
       c.in-Some.is,
       rw (c.with.ensures, collected) c.in-Err.ensures.refused,
       refl,
-      out.ensures.gone,
+      c.take.ensures.after,
     )

@@ -1,0 +1,5 @@
+use Rattle.std.proofs.Common.{◌∙◌, refl, sym}
+use Rattle.lite_gather.proofs.unzip.UnzipFolder.close.Goals as goal
+
+pub returns : goal.returns
+returns g c = (c.unwrap.result, sym c.take.ensures.value ∙ c.unwrap.ensures, refl, c.take.ensures.after)
