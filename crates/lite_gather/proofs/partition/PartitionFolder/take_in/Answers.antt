@@ -15,7 +15,8 @@ returns-in-Ok g c = (
 pub returns : goal.returns
 returns g c =
     let out = c.hand_out-collected in
-    let collected : out.result ≡ (c.take_one-taken.new.accepted, c.take_one-taken.new.rejected) = cc out.ensures.was in (
+    let new = c.take_one-taken.new in
+    let collected : out.result ≡ (new.accepted, new.rejected) = cc out.ensures.was in (
       tt,
       c.predicate-is_accepted.result,
       (c.in-Some.accepted, c.in-Some.rejected),
