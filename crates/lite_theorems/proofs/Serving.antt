@@ -34,7 +34,8 @@ replied reply told took Ends value xs given rest cut same front ends =
     record { read = xs; rest = rest; cut = cut; front = (front.0, sym same ∙ front.1); ends = ends }
 
 -- a line that was read, of which the newline was taken off, and a front of whose reply was written
-module _ {R : Type 0} (reply : Replying) {xs after : List ℕ} {told : List ReadMark} {whole : Bool} (piece : PieceIn xs told (Ok tt))
+module _ {R : Type 0} (reply : Replying) {xs after : List ℕ} {told : List ReadMark} {whole : Bool}
+    (piece : PieceIn xs told (Ok tt))
     (is_whole : (before : List ℕ) → xs ≡ before ++ 10 ∷ [] → (whole ≡ true) × (after ≡ without_return before))
     (is_last : Without 10 xs → (whole ≡ false) × (after ≡ xs)) (took : List WriteMark)
     (Ends : Replying → List ℕ → List ReadMark → List WriteMark → R → Type 0) (value : R) where
@@ -43,14 +44,16 @@ module _ {R : Type 0} (reply : Replying) {xs after : List ℕ} {told : List Read
       → Replied reply told took Ends value
   whole_replied is front ends =
       let w = whole_line reply xs after told whole piece is_whole is_last is in
-      replied reply told took Ends value xs (reply after) [] (w.1 ∙ sym (append-nil (bytes xs))) w.2 front (ends w.0 w.2)
+      replied reply told took Ends value xs (reply after) [] (w.1 ∙ sym (append-nil (bytes xs))) w.2 front
+      (ends w.0 w.2)
 
   pub last_replied : whole ≡ false → StandsFirst (bytes_taken took) (flat_map reply (last_piece after))
       → (flat_map reply (last_piece after) ≡ replies reply xs → Ends reply xs (ReadMark.end ∷ []) took value)
       → Replied reply told took Ends value
   last_replied is front ends =
       let w = last_line reply xs after told whole piece is_whole is_last is in
-      replied reply told took Ends value xs (flat_map reply (last_piece after)) (ReadMark.end ∷ []) w.0 w.1 front (ends w.1)
+      replied reply told took Ends value xs (flat_map reply (last_piece after)) (ReadMark.end ∷ []) w.0 w.1 front
+      (ends w.1)
 
 ends_later : (l m : List WriteMark) → EndsFlushed m → EndsFlushed (l ++ m)
 ends_later l m h = (l ++ h.0, ap (λ k. l ++ k) h.1 ∙ sym (append_assoc l h.0 (WriteMark.flushed ∷ [])))

@@ -128,7 +128,9 @@ module _ {A : Type 0} (like : Sameness A) where
   last_asked p k q l x w o u a e c d = cc
 
   pub last_steady : ItemSteady lasts (SameHeld like)
-  last_steady = steady {same = SameItem (Optional like)} {fold = lasts} last_asked (λ p k q l r t a c d. rw (c, d) (optional_same like p k (held_same like p k a)))
+  last_steady =
+      steady {same = SameItem (Optional like)} {fold = lasts} last_asked
+      (λ p k q l r t a c d. rw (c, d) (optional_same like p k (held_same like p k a)))
 
   -- of equal counts
   count_asked : SameAsked (SameItem like) Equal counts (λ n m. m ≡ n)
@@ -161,7 +163,8 @@ module _ {T E : Type 0} where
 
     pub try_next_steady : Steady (SameItem like) (SameItem (SameNext like)) (tries_next {M = M}) (λ p k. ⊤)
     try_next_steady =
-        steady {same = SameItem (SameNext like)} {fold = tries_next} try_next_asked (λ p k q l r t a c d. rw (c, d) (same_items like (Ok None) (Ok None) (ends_same like)))
+        steady {same = SameItem (SameNext like)} {fold = tries_next} try_next_asked
+        (λ p k q l r t a c d. rw (c, d) (same_items like (Ok None) (Ok None) (ends_same like)))
 
 -- by functions that agree
 module _ {F A B : Type 0} (like : Sameness A) (call : Question F A (Option B)) where

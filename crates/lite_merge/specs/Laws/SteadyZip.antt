@@ -91,8 +91,8 @@ module _ {S U A B : Type 0} {run ample : Runs (Answer A) S} {run' ample' : Runs 
       record {
         laws = zip_runs s.laws u.laws;
         steady = λ x y e l m x' y' h k.
-            matched_same same other (held_before x.item_slot (strip h.firsts)) (held_before y.item_slot (strip k.firsts))
-            (strip h.seconds) (strip k.seconds) (strip l) (strip m)
+            matched_same same other (held_before x.item_slot (strip h.firsts))
+            (held_before y.item_slot (strip k.firsts)) (strip h.seconds) (strip k.seconds) (strip l) (strip m)
             (matching x.item_slot x'.item_slot h.firsts h.seconds l h.paired)
             (matching y.item_slot y'.item_slot k.firsts k.seconds m k.paired)
             (same_before same other x.item_slot y.item_slot (strip h.firsts) (strip k.firsts)

@@ -124,8 +124,6 @@ module _ {A B : Type 0} where
   pub ready_pairs : (x : A) (b : Option B) → WithHeld x [] (Pairs []) (Ready b ∷ []) (pair_with x b ∷ []) None
   ready_pairs x b = inr (0, b, [], [], refl, refl, (refl, refl, refl))
 
-  -- ranks
-
   -- where items came out and nothing came in, they came of what was held
   alone : (f g : Option A) (j : List (Answer B)) (y : A × B) (l : List (A × B)) → Pairing f [] j (items (y ∷ l)) g
       → (g ≡ None) × (v : A) × (f ≡ Some v)
@@ -133,8 +131,7 @@ module _ {A B : Type 0} where
   alone (Some x) g j y l (inl c) = absurd (not_items c.0 y l c.3)
   alone (Some x) g j y l (inr c) = (c.6.2, x, refl)
 
-  -- no more Pendings go out than came in
-
+  -- a pair is no Pending
   pair_no_pending : (x : A) (b : Option B) (l : List (Answer (A × B))) → waits (pair_with x b ∷ l) ≡ waits l
   pair_no_pending x None l = refl
   pair_no_pending x (Some y) l = refl

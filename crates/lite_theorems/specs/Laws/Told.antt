@@ -76,7 +76,8 @@ WaitedFor {F} {A} run x r y = IfOk r (λ v. (l : List (Poll A)) × Gives l v × 
 gathers_told : {X S M R : Type 0} {reader : X → S} {held : X → M} {fold : X → ReadFold M R} {Keeps : X → X → Type 0}
     {reads : Runs ReadMark S} {x y : X} {l : List (Poll R)} {v : R} → Gathers reader held fold Keeps reads x l y
     → ((p q : M) (l : List ReadMark) (v : R) → (fold x).gives p l v q → NoPendingRead l) → Gives l v
-    → (m : List ReadMark) × ToldStripped reads (reader x) m (reader y) × AnswerMarks (fold x) (held x) m (Ready v) (held y)
+    → (m : List ReadMark) × ToldStripped reads (reader x) m (reader y)
+    × AnswerMarks (fold x) (held x) m (Ready v) (held y)
 gathers_told {held = held} {fold = fold} {x = x} {y = y} {l = l} {v = v} h now g =
     let f = h.folded in (
       strip_marks f.marks,
@@ -133,7 +134,8 @@ SameTwo a b c d = (a.ghost_name ≡ c.ghost_name) × (b.ghost_name ≡ d.ghost_n
 
 polled_told : {S : Type 0} (E : Type 0) {reads : Runs ReadMark S} → MarkLaws reads → (x y : ReadFuture S)
     (l : List (Poll (Result ℕ Error))) (v : Result ℕ Error) → Gives l v → PolledByCalls (Reads reads) x l y
-    → ToldByRead {E = E} reads x.reader.now x.buf.now (Ok v) y.reader.now y.buf.now × SameTwo y.reader y.buf x.reader x.buf
+    → ToldByRead {E = E} reads x.reader.now x.buf.now (Ok v) y.reader.now y.buf.now
+    × SameTwo y.reader y.buf x.reader x.buf
 polled_told E laws x y [] v g h = absurd g
 polled_told E laws x y (Pending ∷ l) v g h =
     let first = h.1 in
@@ -147,8 +149,9 @@ polled_told E laws x y (Pending ∷ l) v g h =
     )
 polled_told E laws x y (Ready r ∷ l) v g h =
     let last = rw g.0 at h.0 in
-    let marks = read_marks (Ready v) y.buf.now in (
-      ((marks, (marks, last.came, stripped_no_pending marks (no_wait_read v y.buf.now)), refl, tt), last.room, last.bound),
+    let marks = read_marks (Ready v) y.buf.now in
+    let same = stripped_no_pending marks (no_wait_read v y.buf.now) in (
+      ((marks, (marks, last.came, same), refl, tt), last.room, last.bound),
       (ap (λ z. z.reader.ghost_name) last.stays, ap (λ z. z.buf.ghost_name) last.stays),
     )
 

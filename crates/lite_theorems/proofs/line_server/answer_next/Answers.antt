@@ -19,7 +19,9 @@ returns-in_err-answer_whole-clause-answered g c =
     let take = c.take_line.ensures in
     let is : c.from_residual-in_err-answer_whole.result ≡ Err c.in_err-answer_whole.field-0.0 = search rules in
     let stops = stops_output [] _ (inl refl) two.3 in
-    let done = whole_replied g.L.LineService.reply one.2 take.whole take.last two.0 _ _ c.if-take_line.true two.1.1 (λ e w. stops) in
+    let done =
+    whole_replied g.L.LineService.reply one.2 take.whole take.last two.0 _ _
+    c.if-take_line.true two.1.1 (λ e w. stops) in
     rw is (one.0, two.0, one.1, two.1.0, done)
 
 pub returns-then-take_line-clause-answered : goal.returns-then-take_line-clause-answered
@@ -42,7 +44,9 @@ returns-in_err-answer_last-clause-answered g c =
     let take = c.take_line.ensures in
     let is : c.from_residual-in_err-answer_last.result ≡ Err c.in_err-answer_last.field-0.0 = search rules in
     let stops = stops_output (ReadMark.end ∷ []) _ (inr refl) two.3 in
-    let done = last_replied g.L.LineService.reply one.2 take.whole take.last two.0 _ _ c.if-take_line.false two.1.1 (λ w. stops) in
+    let done =
+    last_replied g.L.LineService.reply one.2 take.whole take.last two.0 _ _
+    c.if-take_line.false two.1.1 (λ w. stops) in
     rw is (one.0, two.0, one.1, two.1.0, done)
 
 pub returns-clause-answered : goal.returns-clause-answered
