@@ -32,7 +32,8 @@ data CutsNow (byte : ℕ) (held : List ℕ) : List ReadMark → Cut → Type 0 w
   piece : (b : ℕ) → b ≡ byte → CutsNow byte held (ReadMark.byte b ∷ []) (Cut.piece held)
   last : 0 < length held → CutsNow byte held (ReadMark.end ∷ []) (Cut.last held)
   nothing : held ≡ [] → CutsNow byte held (ReadMark.end ∷ []) Cut.nothing
-  failed : (e : Error) (kind : ErrorKind) → error_kind e ≡ kind → CutsNow byte held (ReadMark.fault kind ∷ []) (Cut.failed e)
+  failed : (e : Error) (kind : ErrorKind) → error_kind e ≡ kind
+      → CutsNow byte held (ReadMark.fault kind ∷ []) (Cut.failed e)
 
 cuts_now : (byte : ℕ) (held : List ℕ) (l : List ReadMark) (cut : Cut) → CutsPiece byte ⊥ held l cut
     → CutsNow byte held l cut

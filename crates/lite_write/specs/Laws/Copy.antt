@@ -111,7 +111,14 @@ module _ (p q r : List ℕ) (a b c : List ReadMark) (i j : List ReadMark) (s t :
         reading = reading_both;
         writing = writing_both;
         balanced = balanced_both;
-        waited = omega (arith, waits_join l m, filtered_both is_told_wait i j, filtered_both is_taken_wait s t, h.waited, g.waited);
+        waited = omega (
+          arith,
+          waits_join l m,
+          filtered_both is_told_wait i j,
+          filtered_both is_taken_wait s t,
+          h.waited,
+          g.waited,
+        );
         once = waiting_up_to l m w g.once;
         value = rw (← same_value) g.value;
       }

@@ -62,16 +62,16 @@ one_stop v w (x ∷ xs) (y ∷ ys) c =
     (rw (same, rest.0), rest.1)
 
 -- how many bytes a value of Ok counts
-abbrev Counted : SteadyCopyResult → ℕ → List ℕ → Type 0
-Counted (Ok n) held xs = n ≡ (held + length xs) % 2 ^ 64
-Counted (Err e) held xs = ⊤
+abbrev OkCounts : SteadyCopyResult → ℕ → List ℕ → Type 0
+OkCounts (Ok n) held xs = n ≡ (held + length xs) % 2 ^ 64
+OkCounts (Err e) held xs = ⊤
 
 -- what the value says of the tale: all bytes up to its stop
 abbrev TaleOfValue : SteadyCopyResult → ℕ → List ReadMark → Type 0
-TaleOfValue v held tale = (xs : List ℕ) × (strip_marks tale ≡ bytes xs ++ stop_of v ∷ []) × Counted v held xs
+TaleOfValue v held tale = (xs : List ℕ) × (strip_marks tale ≡ bytes xs ++ stop_of v ∷ []) × OkCounts v held xs
 
 same_value : (v w : SteadyCopyResult) (held : ℕ) (xs ys : List ℕ) → (xs ≡ ys) × (stop_of v ≡ stop_of w)
-    → Counted v held xs → Counted w held ys → SameByKind v w
+    → OkCounts v held xs → OkCounts w held ys → SameByKind v w
 same_value (Ok n) (Ok k) held xs ys both h g = cc
 same_value (Err e) (Err f) held xs ys both h g = cc both.1
 same_value _ _ held xs ys both h g = absurd (cc both.1)

@@ -4,14 +4,16 @@ use Rattle.lite_read.proofs.scan.scan_line.Goals as goal
 
 pub returns-then-line-lt-LANES-clause-newline : goal.returns-then-line-lt-LANES-clause-newline
 returns-then-line-lt-LANES-clause-newline c =
-    let room : c.loop-at.at + 32 ≤ length c.args.bytes.now = omega (arith, c.loop-at-test.true, c.loop-at.invariant.0) in
+    let room : c.loop-at.at + 32 ≤ length c.args.bytes.now =
+    omega (arith, c.loop-at-test.true, c.loop-at.invariant.0) in
     let less : c.line_run-line.result < 32 = omega (arith, c.if-line-lt-LANES.true) in
     newline_at c.args.bytes.now (c.loop-at.at + c.line_run-line.result) (omega (arith, room, less))
     (found _ _ c.loop-at.invariant.1 _ 32 room less c.line_run-line.ensures)
 
 pub returns-then-line-lt-LANES-clause-ascii : goal.returns-then-line-lt-LANES-clause-ascii
 returns-then-line-lt-LANES-clause-ascii c =
-    let room : c.loop-at.at + 32 ≤ length c.args.bytes.now = omega (arith, c.loop-at-test.true, c.loop-at.invariant.0) in
+    let room : c.loop-at.at + 32 ≤ length c.args.bytes.now =
+    omega (arith, c.loop-at-test.true, c.loop-at.invariant.0) in
     let less : c.line_run-line.result < 32 = omega (arith, c.if-line-lt-LANES.true) in
     rw c.ascii_run.ensures (ascii_on _ _ _ 32 c.loop-at.ascii (omega (arith, less)) room c.loop-at.invariant.2
     ∙ line_is _ _ (found _ _ c.loop-at.invariant.1 _ 32 room less c.line_run-line.ensures))
