@@ -1,5 +1,6 @@
 -- Tasks that ran, one poll after another.
-use Rattle.std.proofs.Common.{◌≡◌, ◌∙◌, ◌<◌, ◌+◌, ℕ, zero, suc, Bool, true, false, List, [], ◌∷◌, ◌++◌, length, slice_set, Option, Some, None}
+use Rattle.std.proofs.Common.{◌≡◌, ◌∙◌, ◌<◌, ◌+◌, ℕ, zero, suc, Bool, true, false, List, [], ◌∷◌, ◌++◌, length}
+use Rattle.std.proofs.Common.{slice_set, Option, Some, None}
 use Rattle.std.proofs.Common.{ap, arith, refl}
 use Rattle.std.proofs.Math.ListN.{get_or}
 use Rattle.futures_lite.specs.Answers.{Poll, Pending, Ready, Waiting}
@@ -81,7 +82,8 @@ module _ {F A : Type 0} {run : Runs (Poll A) F} (laws : FutureLaws run) where
   each_follows (x ∷ xs) (y ∷ ys) [] h k = absurd k
 
   -- one of them ran
-  pub each_set : (xs : List (Task F A)) (at : ℕ) (x y d : Task F A) → at < length xs → x ≡ get_or xs at d → TaskRan run x y
+  pub each_set : (xs : List (Task F A)) (at : ℕ) (x y d : Task F A) → at < length xs → x ≡ get_or xs at d
+      → TaskRan run x y
       → EachRan run xs (slice_set xs at y)
   each_set [] at x y d within is h = absurd (omega (arith, within))
   each_set (t ∷ xs) zero x y d within is h = (rw is at h, each_idle xs)

@@ -14,7 +14,8 @@ OfEither one other (One a) = one a
 OfEither one other (Other b) = other b
 
 -- what the future that it is has registered
-abbrev pub EitherRegisters : {A B : Type 0} → (A → Lasting → Type 0) → (B → Lasting → Type 0) → Either A B → Lasting → Type 0
+abbrev pub EitherRegisters : {A B : Type 0} → (A → Lasting → Type 0) → (B → Lasting → Type 0) → Either A B → Lasting
+    → Type 0
 EitherRegisters one other (One a) fact = one a fact
 EitherRegisters one other (Other b) fact = other b fact
 
@@ -37,7 +38,8 @@ module _ {A B O : Type 0} {one : Runs (Poll O) A} {other : Runs (Poll O) B} wher
       stays (Other a) (Other b) h = ap Other (g.stays a b h)
       stays x y h = absurd h
 
-      follows : (x y z : Either A B) (l m : List (Poll O)) → Waiting l → EitherRuns one other x l y → EitherRuns one other y m z
+      follows : (x y z : Either A B) (l m : List (Poll O)) → Waiting l → EitherRuns one other x l y
+          → EitherRuns one other y m z
           → EitherRuns one other x (l ++ m) z
       follows (One a) (One b) (One c) l m w h k = f.follows a b c l m w h k
       follows (Other a) (Other b) (Other c) l m w h k = g.follows a b c l m w h k

@@ -121,7 +121,8 @@ same_payload p q small short c =
     (same_parts p q [] [] lengths (rw (append-nil p, append-nil q) parts.1)).0
 
 -- the value of a frame that was read whole
-pub whole_value : (limit n : ℕ) (l m : List ReadMark) (part items : List ℕ) → items ≡ part → length part ≡ n → n < 2 ^ 32
+pub whole_value : (limit n : ℕ) (l m : List ReadMark) (part items : List ℕ) → items ≡ part → length part ≡ n
+    → n < 2 ^ 32
     → n ≤ limit → l ≡ bytes (header n) → m ≡ bytes part
     → (l ++ m ≡ bytes (frame items)) × (length items ≤ limit)
     × ((sent : List ℕ) → length sent < 2 ^ 32 → Comparable (l ++ m) (bytes (frame sent)) → items ≡ sent)
@@ -130,7 +131,8 @@ whole_value limit n l m part items same room small within head told =
     let whole = frame_whole limit n l head within m items size (told ∙ ap bytes (sym same)) in (
       whole,
       omega (arith, size, within),
-      λ sent short c. same_payload items sent (rw size small) short (subst (λ t. Comparable t (bytes (frame sent))) whole c),
+      λ sent short c.
+          same_payload items sent (rw size small) short (subst (λ t. Comparable t (bytes (frame sent))) whole c),
     )
 
 -- an end is no front of a frame

@@ -18,8 +18,8 @@ header n = to_be_bytes w32 n
 abbrev pub frame : List ℕ → List ℕ
 frame payload = header (length payload) ++ payload
 
--- a frame began with these bytes and is not whole: they are fewer than those of a header, or one within the limit and some
--- of its payload
+-- a frame began with these bytes and is not whole: they are fewer than those of a header, or one within the limit and
+-- some of its payload
 abbrev pub Begun : ℕ → List ℕ → Type 0
 Begun limit front = (length front < 4)
     ⊎ ((n : ℕ) × (some : List ℕ) × (front ≡ header n ++ some) × (length some < n) × (n ≤ limit))
@@ -32,8 +32,8 @@ BeforePayload limit front = (length front < 4) ⊎ ((n : ℕ) × (front ≡ head
 abbrev pub IsEnd : List ReadMark → Type 0
 IsEnd last = (last ≡ ReadMark.end ∷ []) ⊎ (last ≡ ReadMark.fault UnexpectedEof ∷ [])
 
--- why no more bytes of a frame came behind these: an end, which is one within a frame; the error; or nothing is said, where
--- memory was refused
+-- why no more bytes of a frame came behind these: an end, which is one within a frame; the error; or nothing is said,
+-- where memory was refused
 abbrev pub StopsFrame : List ℕ → List ReadMark → FrameError → Type 0
 StopsFrame front last Ended = (0 < length front) × IsEnd last
 StopsFrame front last (Io e) = last ≡ ReadMark.fault (error_kind e) ∷ []
@@ -67,8 +67,8 @@ HeaderTold l (Ok (Some n)) = (l ≡ bytes (header n)) × (n < 2 ^ 32)
 HeaderTold l (Err e) = (front : List ℕ) × (last : List ReadMark) × (length front < 4) × StopsFrame front last e
     × (l ≡ bytes front ++ last)
 
--- What reading a frame was told, by its value: an end; the frame of the payload; a header above the limit; no payload, where
--- memory was refused; or what began a frame, and then why no more came.
+-- What reading a frame was told, by its value: an end; the frame of the payload; a header above the limit; no
+-- payload, where memory was refused; or what began a frame, and then why no more came.
 abbrev pub FrameTold : ℕ → List ReadMark → Result (Option (Vec ℕ Global)) FrameError → Type 0
 FrameTold limit l (Ok None) = l ≡ ReadMark.end ∷ []
 FrameTold limit l (Ok (Some payload)) = (l ≡ bytes (frame payload.items)) × (length payload.items ≤ limit)

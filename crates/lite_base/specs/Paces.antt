@@ -4,8 +4,8 @@ use Rattle.futures.specs.declared.task.Poll.TheVariants.{Ready, Pending}
 use Rattle.lite_base.specs.Answers.{Answer}
 
 -- Each thing goes out as it came in, while something is left of the budget, the first number; where nothing is, the
--- pause goes out, nothing comes in, and the budget is there anew. The second number is what is left, and `after` what is
--- left behind a thing.
+-- pause goes out, nothing comes in, and the budget is there anew. The second number is what is left, and `after` what
+-- is left behind a thing.
 abbrev pub Paces : {X : Type 0} → X → (ℕ → X → ℕ → ℕ) → ℕ × ℕ → List X → List X → ℕ × ℕ → Type 0
 Paces pause after p ins [] q = (ins ≡ []) × (q ≡ p)
 Paces {X} pause after p ins (b ∷ out) q =

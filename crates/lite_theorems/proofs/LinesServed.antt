@@ -1,5 +1,6 @@
 -- The lines of bytes that come piece by piece, and the replies to them.
-use Rattle.std.proofs.Common.{◌≡◌, ◌∙◌, ℕ, Bool, true, false, List, [], ◌∷◌, ◌++◌, inl, inr, ap, append-nil, append_assoc}
+use Rattle.std.proofs.Common.{◌≡◌, ◌∙◌, ℕ, Bool, true, false, List, [], ◌∷◌, ◌++◌, inl, inr, ap}
+use Rattle.std.proofs.Common.{append-nil, append_assoc}
 use Rattle.std.proofs.Common.{Ok, refl, sym}
 use Rattle.std.proofs.lemmas.Bool.{ne_eqb}
 use Rattle.std.proofs.lemmas.Grind.{flat_map-append}
@@ -62,7 +63,8 @@ module _ (reply : Replying) (xs after : List ℕ) (told : List ReadMark) (whole 
           (e, t, ap reply text ∙ sym (ap (flat_map reply) lines ∙ append-nil (reply (without_return e.before))))
       by_piece (inr (w, t)) = absurd (cc ((is_last w).0, is_true))
 
-  pub last_line : whole ≡ false → (told ≡ bytes xs ++ ReadMark.end ∷ []) × (flat_map reply (last_piece after) ≡ replies reply xs)
+  pub last_line : whole ≡ false → (told ≡ bytes xs ++ ReadMark.end ∷ [])
+      × (flat_map reply (last_piece after) ≡ replies reply xs)
   last_line is_false = by_piece piece
     where
       by_piece : PieceIn xs told (Ok tt)

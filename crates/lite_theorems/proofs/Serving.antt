@@ -1,5 +1,6 @@
 -- What was told and written so far, and what comes behind it.
-use Rattle.std.proofs.Common.{◌≡◌, ◌⊎◌, ◌∙◌, ℕ, Bool, true, false, List, [], ◌∷◌, ◌++◌, Result, Ok, Err, ap, refl, sym, subst}
+use Rattle.std.proofs.Common.{◌≡◌, ◌⊎◌, ◌∙◌, ℕ, Bool, true, false, List, [], ◌∷◌, ◌++◌, Result, Ok, Err, ap}
+use Rattle.std.proofs.Common.{refl, sym, subst}
 use Rattle.std.proofs.Common.{append-nil, append_assoc}
 use Rattle.std.proofs.lemmas.List.{map-append}
 use Rattle.std.specs.Prelude.{IfOk, flat_map}
@@ -14,10 +15,12 @@ use Rattle.lite_read.specs.LineText.{without_return}
 use Rattle.lite_theorems.specs.Told.{EndsAtFirst, ToldStripped, Without}
 use Rattle.lite_io_base.specs.SteadyWrite.{EndsFlushed}
 use Rattle.lite_theorems.specs.BothWriters.{TakesFront}
-use Rattle.lite_theorems.specs.Serving.{LineEnds, OfOutput, PieceIn, Replied, Replying, ServingEnds, StopsServing, replies}
+use Rattle.lite_theorems.specs.Serving.{LineEnds, OfOutput, PieceIn, Replied, Replying, ServingEnds}
+use Rattle.lite_theorems.specs.Serving.{StopsServing, replies}
 use Rattle.lite_theorems.specs.declared.serve_error.ServeError.{ServeError}
 use Rattle.lite_theorems.specs.declared.serve_error.ServeError.TheVariants.{Input, Memory, Output}
-use Rattle.lite_theorems.proofs.LinesServed.{Ended, ended_both, ended_none, ended_whole, last_line, replies_both, whole_line}
+use Rattle.lite_theorems.proofs.LinesServed.{Ended, ended_both, ended_none, ended_whole, last_line}
+use Rattle.lite_theorems.proofs.LinesServed.{replies_both, whole_line}
 
 pub stops_output : (rest : List ReadMark) (e : ServeError) → (rest ≡ []) ⊎ (rest ≡ ReadMark.end ∷ []) → OfOutput e
     → StopsServing rest e
@@ -84,7 +87,8 @@ pub record SoFar {S W : Type 0} (reply : Replying) (reads : Runs ReadMark S) (wr
   pub all : bytes_taken took ≡ replies reply read
   pub ended : Ended read
 
-module _ {S W : Type 0} {reply : Replying} {reads : Runs ReadMark S} {writes : Runs WriteMark W} (in_laws : MarkLaws reads)
+module _ {S W : Type 0} {reply : Replying} {reads : Runs ReadMark S} {writes : Runs WriteMark W}
+    (in_laws : MarkLaws reads)
     (out_laws : MarkLaws writes) where
   pub so_far_none : (x : S) (y : W) → SoFar reply reads writes x y x y
   so_far_none x y =
@@ -97,9 +101,11 @@ module _ {S W : Type 0} {reply : Replying} {reads : Runs ReadMark S} {writes : R
         ended = ended_none;
       }
 
-  module _ (x x' x'' : S) (y y' y'' : W) (h : SoFar reply reads writes x y x' y') (l : List ReadMark) (t : List WriteMark)
+  module _ (x x' x'' : S) (y y' y'' : W) (h : SoFar reply reads writes x y x' y')
+      (l : List ReadMark) (t : List WriteMark)
       (told : ToldStripped reads x' l x'') (wrote : writes y' t y'') where
-    all_both : (xs : List ℕ) → bytes_taken t ≡ replies reply xs → bytes_taken (h.took ++ t) ≡ replies reply (h.read ++ xs)
+    all_both : (xs : List ℕ) → bytes_taken t ≡ replies reply xs
+        → bytes_taken (h.took ++ t) ≡ replies reply (h.read ++ xs)
     all_both xs e = rw (taken_both h.took t, h.all, e) (sym (replies_both reply h.read xs h.ended))
 
     front_both : (xs : List ℕ) → StandsFirst (bytes_taken t) (replies reply xs)

@@ -34,7 +34,8 @@ OfOutput Memory = ⊤
 
 -- what reading one line was told: the line with its newline; what stands before an end, or before it stopped
 abbrev pub PieceIn : List ℕ → List ReadMark → Result (Unit {0}) ServeError → Type 0
-PieceIn xs told (Ok u) = (EndsAtFirst 10 xs × (told ≡ bytes xs)) ⊎ (Without 10 xs × (told ≡ bytes xs ++ ReadMark.end ∷ []))
+PieceIn xs told (Ok u) =
+    (EndsAtFirst 10 xs × (told ≡ bytes xs)) ⊎ (Without 10 xs × (told ≡ bytes xs ++ ReadMark.end ∷ []))
 PieceIn xs told (Err e) = (rest : List ReadMark) × (told ≡ bytes xs ++ rest) × StopsServing rest e
 
 -- all replies to these bytes were written, and flushed

@@ -14,7 +14,8 @@ ToldStripped reads x l y = (told : List ReadMark) × reads x told y × (strip_ma
 
 -- these marks are an end where the value is UnexpectedEof, or the error of the value
 abbrev pub EndsShort : List ReadMark → Error → Type 0
-EndsShort last e = ((last ≡ ReadMark.end ∷ []) × (error_kind e ≡ UnexpectedEof)) ⊎ (last ≡ ReadMark.fault (error_kind e) ∷ [])
+EndsShort last e =
+    ((last ≡ ReadMark.end ∷ []) × (error_kind e ≡ UnexpectedEof)) ⊎ (last ≡ ReadMark.fault (error_kind e) ∷ [])
 
 -- fewer than n bytes were told, and then why no more came
 pub record ToldFewer (n : ℕ) (told : List ReadMark) (e : Error) : Type 0 where

@@ -187,7 +187,9 @@ module _ {T : Type 0} (reads : Runs ReadMark T) (writes : Runs WriteMark T) wher
       sound_more es sound adds =
           record {
             fits = rw adds.notes (fit_both a.notes es sound.fits adds.fits);
-            story = rw (adds.notes, parts_in-both, adds.start) (story_follows sound.story (story_of_parts (parts_in es) adds.ran));
+            story =
+                rw (adds.notes, parts_in-both, adds.start)
+                (story_follows sound.story (story_of_parts (parts_in es) adds.ran));
           }
 
       -- of which all is cloned

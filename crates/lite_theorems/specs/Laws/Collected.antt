@@ -23,7 +23,8 @@ has holds None l s h = cc
 has holds (Some c) l s h = (c, refl, h)
 
 -- the one that is there
-pub held_by : {C A : Type 0} (holds : C → List A → Type 0) (o : Option C) (l : List A) (c : C) → Has holds o l → o ≡ Some c
+pub held_by : {C A : Type 0} (holds : C → List A → Type 0) (o : Option C) (l : List A) (c : C) → Has holds o l
+    → o ≡ Some c
     → holds c l
 held_by holds o l c h e = let same : c ≡ h.0 = cc h.1 in rw same h.2
 

@@ -45,7 +45,8 @@ module _ {M R : Type 0} {part : M → R} {f : ℕ → ℕ} {reads : Runs ReadMar
         firm_on = λ x y l k h. c.firm_on (part x) (part y) h.ins k h.came;
         falls = λ x y l k g h.
             let low = c.falls (part x) (part y) h.ins k (all_given f h.ins (subst AllGiven h.out g)) h.came in
-            subst (λ n. Falls n (r.rank (part y)) (r.rank (part x))) (sym (ap length h.out ∙ length-map h.ins (each_byte f))) low;
+            subst (λ n. Falls n (r.rank (part y)) (r.rank (part x)))
+            (sym (ap length h.out ∙ length-map h.ins (each_byte f))) low;
         lowers = λ x y l k h.
             subst (λ n. Falls n (r.rank (part y)) (r.rank (part x))) (sym (ap given h.out ∙ given_made f h.ins))
             (c.lowers (part x) (part y) h.ins k h.came);

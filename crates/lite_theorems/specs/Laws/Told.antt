@@ -198,8 +198,10 @@ ToldByExact reads s before r t ts = ((l : List ReadMark) × ToldStripped reads s
     × IfOk r (λ v. FillsUp ts l v) × IfErr r (λ _. l ≡ [])) × (length ts ≡ length before)
 
 -- a `read_until` likewise, which left these bytes in its vector
-abbrev pub ToldByUntil : {S E : Type 0} → Runs ReadMark S → ℕ → S → List ℕ → Result (Result ℕ Error) E → S → List ℕ → Type 0
-ToldByUntil reads at s before r t ts = (l : List ReadMark) × (xs : List ℕ) × ToldStripped reads s l t × (ts ≡ before ++ xs)
+abbrev pub ToldByUntil : {S E : Type 0} → Runs ReadMark S → ℕ → S → List ℕ → Result (Result ℕ Error) E → S → List ℕ
+    → Type 0
+ToldByUntil reads at s before r t ts =
+    (l : List ReadMark) × (xs : List ℕ) × ToldStripped reads s l t × (ts ≡ before ++ xs)
     × IfOk r (λ v. PieceTold at xs l v) × IfErr r (λ _. (l ≡ []) × (xs ≡ []))
 
 module _ {S E : Type 0} {reads : Runs ReadMark S} (laws : MarkLaws reads) where
@@ -216,7 +218,8 @@ module _ {S E : Type 0} {reads : Runs ReadMark S} (laws : MarkLaws reads) where
   exact_waited x y (Ok v) begun w =
       let h = w.0.2 in
       let told = gathers_told h (λ p q l v h. no_wait_full p l v h.0) w.0.1 in
-      let from = subst (λ n. AnswerMarks fills (take n x.buf.now, length x.buf.now) told.0 (Ready v) (filling_of y)) begun
+      let from = subst (λ n. AnswerMarks fills (take n x.buf.now, length x.buf.now) told.0 (Ready v) (filling_of y))
+      begun
       told.2 in
       let value = exact_value y.filled (length x.buf.now) y.buf.now told.0 v from in (
         ((told.0, told.1, value.1, tt), value.0),

@@ -20,14 +20,16 @@ returns-then-line-lt-LANES-clause-ascii c =
 
 pub past_plain-at-requires : goal.past_plain-at-requires
 past_plain-at-requires c =
-    let room : c.loop-at.at + 32 ≤ length c.args.bytes.now = omega (arith, c.loop-at-test.true, c.loop-at.invariant.0) in
+    let room : c.loop-at.at + 32 ≤ length c.args.bytes.now =
+    omega (arith, c.loop-at-test.true, c.loop-at.invariant.0) in
     let seen = seen_on c.args.bytes.now c.loop-at.at 32 _ _ _ room c.loop-at.invariant.1 c.loop-at.invariant.2
     c.line_run-line.ensures (omega (arith, c.if-line-lt-LANES.false)) c.ascii_run.ensures in
     record { within = room; line = seen.0; ascii = sym seen.1 ∙ c.if-ascii.true }
 
 pub loop-at-preserved : goal.loop-at-preserved
 loop-at-preserved c =
-    let room : c.loop-at.at + 32 ≤ length c.args.bytes.now = omega (arith, c.loop-at-test.true, c.loop-at.invariant.0) in
+    let room : c.loop-at.at + 32 ≤ length c.args.bytes.now =
+    omega (arith, c.loop-at-test.true, c.loop-at.invariant.0) in
     let seen = seen_on c.args.bytes.now c.loop-at.at 32 _ _ _ room c.loop-at.invariant.1 c.loop-at.invariant.2
     c.line_run-line.ensures (omega (arith, c.if-line-lt-LANES.false)) c.ascii_run.ensures in
     (room, seen.0, seen.1)

@@ -12,7 +12,8 @@ returns-in_err-answer_next g c =
     let t = c.in_err-answer_next.ensures.answered in
     let r = t.4 in
     let is : c.from_residual.result ≡ Err c.in_err-answer_next.field-0.0 = search rules in
-    rw is (served g.I.Tale.read_laws g.O.Takings.write_laws _ _ _ _ _ _ h t.0 t.1 t.2 t.3 (Err c.in_err-answer_next.field-0.0)
+    rw is (served g.I.Tale.read_laws g.O.Takings.write_laws _ _ _ _ _ _ h t.0 t.1 t.2 t.3
+    (Err c.in_err-answer_next.field-0.0)
     (record { read = r.read; rest = r.rest; cut = r.cut; front = r.front; ends = r.ends }))
 
 pub returns-then-not-branch : goal.returns-then-not-branch
@@ -29,5 +30,7 @@ loop-preserved g c =
     let h = c.loop.invariant.0 in
     let t = c.in_ok-answer_next.ensures.answered in
     let more : c.in_ok-answer_next.field-0 ≡ true = search rules in
-    let r = subst (λ b. Replied g.L.LineService.reply t.0 t.1 LineEnds (Ok b)) more t.4 in
-    (so_far_on g.I.Tale.read_laws g.O.Takings.write_laws _ _ _ _ _ _ h t.0 t.1 t.2 t.3 r, c.in_ok-answer_next.ensures.again)
+    let r = subst (λ b. Replied g.L.LineService.reply t.0 t.1 LineEnds (Ok b)) more t.4 in (
+      so_far_on g.I.Tale.read_laws g.O.Takings.write_laws _ _ _ _ _ _ h t.0 t.1 t.2 t.3 r,
+      c.in_ok-answer_next.ensures.again,
+    )

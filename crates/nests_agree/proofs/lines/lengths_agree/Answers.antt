@@ -41,11 +41,11 @@ returns g c =
         came = other.came;
       },
       λ a b.
-      comparable_as _ (OptionBy SameByKind)
-      (option_as _ SameByKind
-      (kin_answers_by (SameOr SameText) SameByKind _ IsLength (λ f g x y d. search rules) same_length))
-      (strip l) (strip m)
-      (ran.found (through_from ran.first (through_from ran.first.came (through_from one a)))
-      (through_from ran.second (through_from ran.second.came (through_from other b)))),
+          comparable_as _ (OptionBy SameByKind)
+          (option_as _ SameByKind
+          (kin_answers_by (SameOr SameText) SameByKind _ IsLength (λ f g x y d. search rules) same_length))
+          (strip l) (strip m)
+          (ran.found (through_from ran.first (through_from ran.first.came (through_from one a)))
+          (through_from ran.second (through_from ran.second.came (through_from other b)))),
     ))
     c.both_appended.ensures
