@@ -7,6 +7,7 @@ use Rattle.lite_base.specs.Lent.{Lent}
 use Rattle.lite_base.specs.Runs.{Runs}
 use Rattle.lite_merge.specs.declared.drain.Drain.{Drain}
 use Rattle.lite_stream.specs.Through.{AdapterParts, Through, parts_of}
+use Rattle.lite_stream.specs.Relates.{Relates}
 
 -- an end for each Pending; an item and an end stay
 abbrev pub with_ends : {A : Type 0} → List (Answer A) → List (Answer A)
@@ -15,7 +16,7 @@ with_ends (Pending ∷ l) = end ∷ with_ends l
 with_ends (Ready o ∷ l) = Ready o ∷ with_ends l
 
 -- what goes out is what came in, with an end for each Pending
-abbrev pub Drained : {A : Type 0} → Unit {0} → List (Answer A) → List (Answer A) → Unit {0} → Type 0
+abbrev pub Drained : {A : Type 0} → Relates (Unit {0}) A A
 Drained f ins out g = out ≡ with_ends ins
 
 -- the lent stream's list, with an end for each Pending

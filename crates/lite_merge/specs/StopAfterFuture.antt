@@ -10,6 +10,7 @@ use Rattle.lite_merge.specs.declared.stop_after_future.Stopping.TheVariants.{Hol
 use Rattle.lite_merge.specs.declared.stop_after_future.Stopping.{Stopping}
 use Rattle.lite_stream.specs.Fuse.{AllEnds}
 use Rattle.lite_stream.specs.Through.{Through}
+use Rattle.lite_stream.specs.Relates.{Relates}
 
 module _ {F A R : Type 0} (run : Runs (Poll R) F) where
   -- in rows: beside each of the stream's answers the future was pending; its value has a row of its own
@@ -41,7 +42,7 @@ module _ {F A R : Type 0} (run : Runs (Poll R) F) where
     pub joined : out ≡ ins ++ later
 
   -- by what has become of the future, before and after
-  abbrev pub StopsBy : Stopping F R → List (Answer A) → List (Answer A) → Stopping F R → Type 0
+  abbrev pub StopsBy : Relates (Stopping F R) A A
   StopsBy TakenOut ins out y = (out ≡ ins) × (y ≡ TakenOut)
   StopsBy (Stopped r) ins out y = (ins ≡ []) × AllEnds out × (y ≡ Stopped r)
   StopsBy (Holding f) ins out (Holding g) = PendingBeside f ins g × Endless ins × (out ≡ ins)

@@ -3,6 +3,7 @@ use Rattle.std.specs.Prelude.{◌≡◌, ◌⊎◌, List, [], ◌∷◌, ◌++�
 use Rattle.futures.specs.declared.task.Poll.TheVariants.{Ready, Pending}
 use Rattle.lite_base.specs.Answers.{Answer, end}
 use Rattle.lite_base.specs.Runs.{Question}
+use Rattle.lite_stream.specs.Relates.{Relates}
 
 -- `call p x v q`: asked about the item x, it goes from p to q and makes v;
 -- `gives v out left`: v gave these answers in order, and then `left` is left of it, or it is done
@@ -28,6 +29,6 @@ module _ {F A V B : Type 0} (call : Question F A V) (gives : V → List (Answer 
       × (StillHeld r v ins (b ∷ out) q last ⊎ HeldDone v (Expands r ins) (b ∷ out) q last)
 
   -- what is held stands before what comes in
-  abbrev pub Expanding : Question (F × Option V) (List (Answer A)) (List (Answer B))
+  abbrev pub Expanding : Relates (F × Option V) A B
   Expanding (p, None) ins out t = Expands p ins out t.0 t.1
   Expanding (p, Some v) ins out t = StillHeld p v ins out t.0 t.1 ⊎ HeldDone v (Expands p ins) out t.0 t.1

@@ -5,6 +5,7 @@ use Rattle.lite_base.specs.Answers.{Answer, Endless, end}
 use Rattle.lite_base.specs.Runs.{Runs}
 use Rattle.lite_reshape.specs.declared.flatten.Flatten.{Flatten}
 use Rattle.lite_stream.specs.Through.{Through}
+use Rattle.lite_stream.specs.Relates.{Relates}
 
 module _ {B A : Type 0} (run : Runs (Answer A) B) where
   -- the inner stream b is held to the last: no more comes in, and all answers are its own, before its first end
@@ -28,7 +29,7 @@ module _ {B A : Type 0} (run : Runs (Answer A) B) where
   Flat (Ready (Some b) ∷ ins) (a ∷ out) last = InnerHeld b ins (a ∷ out) last ⊎ InnerEnded b (Flat ins) (a ∷ out) last
 
   -- an inner stream that is held stands before the outer list
-  abbrev pub Flattening : Option B → List (Answer B) → List (Answer A) → Option B → Type 0
+  abbrev pub Flattening : Relates (Option B) B A
   Flattening None ins out last = Flat ins out last
   Flattening (Some b) ins out last = InnerHeld b ins out last ⊎ InnerEnded b (Flat ins) out last
 

@@ -4,6 +4,7 @@ use Rattle.futures.specs.declared.task.Poll.TheVariants.{Ready, Pending}
 use Rattle.lite_base.specs.Answers.{Answer, end, item}
 use Rattle.lite_base.specs.Runs.{Question, Runs}
 use Rattle.lite_base.specs.Segments.{OneAnswer, Segment, Segments}
+use Rattle.lite_stream.specs.Relates.{Relates}
 
 -- `call p x o q`: asked about the item x, it goes from p to q; an item is kept where the answer o is Some, and rejected
 -- where it is None
@@ -19,7 +20,7 @@ module _ {F A B : Type 0} (call : Question F A (Option B)) where
   Passes p a (Ready (Some y)) q = (x : A) × (a ≡ item x) × call p x (Some y) q
 
   -- the answers in are cut into segments: in each some items are rejected, and then one answer passes
-  abbrev pub LeavesOut : Question F (List (Answer A)) (List (Answer B))
+  abbrev pub LeavesOut : Relates F A B
   LeavesOut p ins out q = Segments (Segment item Rejects (OneAnswer Passes)) p ins out q
 
   -- one step of a poll: the source is polled once, and a rejected item is let go

@@ -2,16 +2,17 @@
 use Rattle.std.specs.Prelude.{◌≡◌, List, [], ◌∷◌, ◌++◌, Bool, true, false}
 use Rattle.std.specs.List.{AllByRecursion}
 use Rattle.lite_base.specs.Answers.{Answer, end, until_end}
-use Rattle.lite_base.specs.Runs.{Question, Runs}
+use Rattle.lite_base.specs.Runs.{Runs}
 use Rattle.lite_stream.specs.Through.{AdapterParts, Through, parts_of}
 use Rattle.lite_stream.specs.declared.fuse.Fuse.{Fuse}
+use Rattle.lite_stream.specs.Relates.{Relates}
 
 -- each answer is an end
 abbrev pub AllEnds : {A : Type 0} → List (Answer A) → Type 0
 AllEnds = AllByRecursion (λ a. a ≡ end)
 
 -- by whether an end was met, before and after: nothing more comes in after the first end, which goes out
-abbrev pub FusesOn : {A : Type 0} → Question Bool (List (Answer A)) (List (Answer A))
+abbrev pub FusesOn : {A : Type 0} → Relates Bool A A
 FusesOn true ins out after = (ins ≡ []) × AllEnds out × (after ≡ true)
 FusesOn false ins out false = (out ≡ ins) × (until_end ins ≡ ins)
 FusesOn {A} false ins out true =

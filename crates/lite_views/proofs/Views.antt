@@ -9,6 +9,7 @@ use Rattle.lite_base.specs.Lent.{Lent}
 use Rattle.lite_base.specs.Runs.{Question, Runs}
 use Rattle.lite_stream.specs.Through.{AdapterParts, Adapts}
 use Rattle.lite_views.specs.Views.{Fits, Lists, ListsAs, Seen, ValueHolds, Waited}
+use Rattle.lite_stream.specs.Relates.{Relates}
 
 pub seen : {X Y : Type 0} (x : X) (y : Y) → Seen x y
 unfolding Seen
@@ -31,7 +32,7 @@ pub answered : {F A O : Type 0} (call : Question F A O) (f : F) (h : A → O) (a
 answered call f h acts p q x o e c = let a = acts x o q (rw (← e) c) in (a.0, sym a.1)
 
 -- what an adapter that holds p makes of answers that fit xs fits ys
-abbrev pub Carries : {F A B : Type 0} → (F → List (Answer A) → List (Answer B) → F → Type 0) → F → List A → List B
+abbrev pub Carries : {F A B : Type 0} → Relates F A B → F → List A → List B
     → Type 0
 Carries {F} {A} {B} relates p xs ys =
     (i : List (Answer A)) (o : List (Answer B)) (q : F) → Fits i xs → relates p i o q → Fits o ys
@@ -44,7 +45,7 @@ listed run s xs fits = (refl, seen s xs, fits)
 
 -- the items of an adapter, by those of its source
 pub listed_through : {M S F A B : Type 0} (parts : AdapterParts M S F) (run : Runs (Answer A) S)
-    (relates : F → List (Answer A) → List (Answer B) → F → Type 0) (m : M) (xs : List A) (ys : List B)
+    (relates : Relates F A B) (m : M) (xs : List A) (ys : List B)
     → Lists run (parts.source m) xs → Carries relates (parts.held m) xs ys → ListsAs (Adapts parts run relates) m ys
 unfolding Lists
 listed_through parts run relates m xs ys lists carries =

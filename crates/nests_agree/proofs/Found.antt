@@ -24,10 +24,11 @@ use Rattle.lite_stream.specs.Laws.Cutting.{cuts_each}
 use Rattle.lite_stream.specs.Take.{Takes, is_none_left, left_after}
 use Rattle.lite_stream.specs.Through.{Through}
 use Rattle.lite_stream.specs.declared.take.Take.{Take}
+use Rattle.lite_stream.specs.Relates.{Relates}
 
 -- what came out of an adapter comes out by any run that gave what came in
 pub through_from : {S F A B : Type 0} {run other : Runs (Answer A) S}
-    {relates : F → List (Answer A) → List (Answer B) → F → Type 0} {s t : S} {f g : F} {out : List (Answer B)}
+    {relates : Relates F A B} {s t : S} {f g : F} {out : List (Answer B)}
     → (h : Through run relates s f out t g) → other s h.ins t → Through other relates s f out t g
 through_from h came = record { ins = h.ins; came = came; related = h.related }
 

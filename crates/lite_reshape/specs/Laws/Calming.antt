@@ -20,6 +20,7 @@ use Rattle.lite_stream.specs.Laws.Cutting.{cuts_calming}
 use Rattle.lite_base.specs.StreamLaws.{StreamLaws}
 use Rattle.lite_stream.specs.Laws.Through.{Entails}
 use Rattle.lite_stream.specs.Through.{AdapterParts, Adapts}
+use Rattle.lite_stream.specs.Relates.{Relates}
 
 module _ {A : Type 0} where
   joins_waits : (f g : Part) (i j l : List (Answer A)) → Joins f i j l g → waits l ≤ waits i + waits j
@@ -40,13 +41,13 @@ module _ {S U A : Type 0} {run : Runs (Answer A) S} {run' : Runs (Answer A) U} w
       (λ x y l h. (h.firsts, h.seconds, h.came, h.then_came, joins_waits x.part y.part h.firsts h.seconds l h.joined))
 
 -- nothing is pending that comes out of answers that are not, where what is held is calm; and what is held then is
-abbrev pub CalmingBy : {F A B : Type 0} → (F → Type 0) → Question F (List (Answer A)) (List (Answer B)) → Type 0
+abbrev pub CalmingBy : {F A B : Type 0} → (F → Type 0) → Relates F A B → Type 0
 CalmingBy {F} {A} {B} held_calm relates = (f g : F) (i : List (Answer A)) (o : List (Answer B)) → held_calm f
     → relates f i o g → NoPending i → NoPending o × held_calm g
 
 -- an adapter of one source, where what it holds is calm
 pub through_calm_by : {M S F A B : Type 0} (p : AdapterParts M S F) {run : Runs (Answer A) S}
-    {relates : Question F (List (Answer A)) (List (Answer B))} {is_calm : S → Type 0} {held_calm : F → Type 0}
+    {relates : Relates F A B} {is_calm : S → Type 0} {held_calm : F → Type 0}
     → CalmLaws run is_calm → CalmingBy held_calm relates
     → CalmLaws (Adapts p run relates) (λ m. is_calm (p.source m) × held_calm (p.held m))
 through_calm_by p c t =

@@ -3,24 +3,25 @@ use Rattle.std.proofs.Common.{List, Option}
 use Rattle.lite_base.specs.Alike.{AlikeBy, SameAnswer, Sameness}
 use Rattle.lite_base.specs.Answers.{Answer, ComparableBy, strip}
 use Rattle.lite_base.specs.Steady.{SteadyLawsBy}
-use Rattle.lite_base.specs.Runs.{Question, Runs}
+use Rattle.lite_base.specs.Runs.{Runs}
 use Rattle.lite_stream.specs.Laws.Through.{Entails, Following, through_runs}
 use Rattle.lite_stream.specs.Through.{AdapterParts, Adapts}
+use Rattle.lite_stream.specs.Relates.{Relates}
 
 module _ {F A B : Type 0} where
   -- from what agrees, answers that are the same come of answers in that are, Pendings aside
   abbrev pub AgreeingFrom : (Option A → Option A → Type 0) → (Option B → Option B → Type 0)
-      → Question F (List (Answer A)) (List (Answer B)) → (F → F → Type 0) → Type 0
+      → Relates F A B → (F → F → Type 0) → Type 0
   AgreeingFrom like same relates agree =
       (f k g l : F) (i j : List (Answer A)) (o p : List (Answer B)) → agree f k → relates f i o g → relates k j p l
       → ComparableBy like (strip i) (strip j) → ComparableBy same (strip o) (strip p)
 
   abbrev pub AgreeingOver : Sameness A → Sameness B
-      → Question F (List (Answer A)) (List (Answer B)) → (F → F → Type 0) → Type 0
+      → Relates F A B → (F → F → Type 0) → Type 0
   AgreeingOver like same = AgreeingFrom (SameAnswer like) (SameAnswer same)
 
 pub through_alike : {M S F A B : Type 0} (p : AdapterParts M S F) {ample : Runs (Answer A) S}
-    {relates : Question F (List (Answer A)) (List (Answer B))}
+    {relates : Relates F A B}
     {agree : F → F → Type 0} {like : Option A → Option A → Type 0} {same : Option B → Option B → Type 0} (x y : M)
     → AlikeBy like ample (p.source x) (p.source y) → agree (p.held x) (p.held y) → AgreeingFrom like same relates agree
     → AlikeBy same (Adapts p ample relates) x y
@@ -29,11 +30,11 @@ through_alike p x y e a agrees l m x' y' h k =
     (e h.ins k.ins _ _ h.came k.came)
 
 module _ {M S F A B : Type 0} (p : AdapterParts M S F) {run ample : Runs (Answer A) S} {needs_none : Type 0}
-    {relates : Question F (List (Answer A)) (List (Answer B))} {alike : S → S → Type 0}
+    {relates : Relates F A B} {alike : S → S → Type 0}
     {agree : F → F → Type 0} where
   -- an adapter whose answers are others where memory was found
   module _ (like : Sameness A) (same : Sameness B) where
-    pub through_steady_by : {relates' : Question F (List (Answer A)) (List (Answer B))} {needs_none' : Type 0}
+    pub through_steady_by : {relates' : Relates F A B} {needs_none' : Type 0}
         → SteadyLawsBy like run ample needs_none alike → Following relates → AgreeingOver like same relates agree
         → (needs_none'
         → needs_none × Entails relates' relates)

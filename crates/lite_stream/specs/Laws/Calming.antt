@@ -3,16 +3,17 @@ use Rattle.std.proofs.Common.{◌≤◌, ◌+◌, List, arith}
 use Rattle.lite_base.specs.Answers.{Answer}
 use Rattle.lite_base.specs.Calm.{CalmLaws, waits}
 use Rattle.lite_base.specs.Laws.Calm.{calm_both, none_no_pending, no_pending_none}
-use Rattle.lite_base.specs.Runs.{Question, Runs}
+use Rattle.lite_base.specs.Runs.{Runs}
 use Rattle.lite_stream.specs.Laws.Through.{Entails}
 use Rattle.lite_stream.specs.Through.{AdapterParts, Adapts}
+use Rattle.lite_stream.specs.Relates.{Relates}
 
 -- no more Pendings go out than came in
-abbrev pub Calming : {F A B : Type 0} → Question F (List (Answer A)) (List (Answer B)) → Type 0
+abbrev pub Calming : {F A B : Type 0} → Relates F A B → Type 0
 Calming relates = Entails relates (λ f i o g. waits o ≤ waits i)
 
 pub through_calm : {M S F A B : Type 0} (p : AdapterParts M S F) {run : Runs (Answer A) S}
-    {relates : Question F (List (Answer A)) (List (Answer B))} {is_calm : S → Type 0}
+    {relates : Relates F A B} {is_calm : S → Type 0}
     → CalmLaws run is_calm → Calming relates → CalmLaws (Adapts p run relates) (λ m. is_calm (p.source m))
 through_calm p c t =
     calm_both

@@ -8,6 +8,7 @@ use Rattle.lite_base.specs.Laws.Calling.{MatchesFrom}
 use Rattle.lite_base.specs.Runs.{Question}
 use Rattle.lite_stream.specs.Laws.Agreeing.{AgreeingOver}
 use Rattle.lite_stream.specs.Laws.Through.{Entails}
+use Rattle.lite_stream.specs.Relates.{Relates}
 
 -- `InPlace v follows out`: in the place of v there is `out`, in which v may be followed by what `follows` tells
 module _ {F A V B : Type 0} (call : Question F A V)
@@ -54,7 +55,7 @@ module _ {F A V B : Type 0} (call : Question F A V)
 
   -- the answers of a family that stand in the places of items
   pub placed_agreeing : (like : Sameness A) (same : Sameness B) {alike : V → V → Type 0} {agree : F → F → Type 0}
-      {relates : Question F (List (Answer A)) (List (Answer B))} → MatchesFrom (SameItem like) alike call agree
+      {relates : Relates F A B} → MatchesFrom (SameItem like) alike call agree
       → AlikeInPlace same alike
       → Entails relates (λ f i o g. Placed f (strip i) (strip o))
       → AgreeingOver like same relates agree
