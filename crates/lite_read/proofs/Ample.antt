@@ -32,8 +32,7 @@ module _ {A : Type 0} (whole final : List ℕ → Result A Error → Type 0) whe
       → AnswerMarks (pieces byte ⊥ (Itemised whole final)) p marks a q
   answer_found byte p q marks Pending none h = segment_gives p q q marks Pending Pending (λ m last g. g) h
   answer_found byte p q marks (Ready v) none h =
-      segment_gives p q q marks (Ready v) (Ready v)
-      (λ m last g. (g.0, cuts_found byte m q last g.0 v none g.1 g.2, g.2)) h
+      segment_gives p q q marks _ _ (λ m last g. (g.0, cuts_found byte m q last g.0 v none g.1 g.2, g.2)) h
 
   module _ {X S K : Type 0} (over : StreamOver X S (List ℕ) K) (byte : K → ℕ) {reads ample : Runs ReadMark S} where
     flow_found : AllAmple reads ample → (x y : X) (out : List (Answer (Result A Error))) → NoneRefused out
@@ -41,10 +40,9 @@ module _ {A : Type 0} (whole final : List ℕ → Result A Error → Type 0) whe
         → Flows over (λ k. pieces (byte k) ⊥ (Itemised whole final)) ample x out y
     flow_found all x y out none h =
         let s = h.segmented in
-        let came = all (over.reader x) (over.reader y) s.marks s.came in
+        let came = all _ _ s.marks s.came in
         let at = byte (over.kept x) in
-        let cut = segments_map (AnswerMarks (pieces at ⊤ (Itemised whole final)))
-        (AnswerMarks (pieces at ⊥ (Itemised whole final))) NotRefused (answer_found at) (over.held x) (over.held y)
+        let cut = segments_map (AnswerMarks _) (AnswerMarks _) NotRefused (answer_found at) _ _
         s.marks out none s.cut in
         record { segmented = record { marks = s.marks; came = came; cut = cut }; stays = h.stays; idle = h.idle }
 
@@ -52,4 +50,4 @@ module _ {R : Type 0} {reads ample : Runs ReadMark R} where
   pub lines_ample : AllAmple reads ample → (x y : Lines R) (out : List (Answer (Result (String Global) Error)))
       → NoneRefused out
       → GivesLines reads ⊤ x out y → GivesLines ample ⊥ x out y
-  lines_ample = flow_found (λ xs. IsText (without_return xs)) IsText lines_over (λ u. 10)
+  lines_ample = flow_found (λ xs. IsText _) IsText lines_over (λ u. 10)

@@ -35,12 +35,12 @@ module _ {R A : Type 0} (m : Type 0) {reads : Runs ReadMark R} (laws : MarkLaws 
   refused x w e may same front kind =
       let reader : w.reader ≡ x.reader = ap (λ (v : ReadToEndFuture R A). v.reader) same in
       let none : AnswerMarks (appends m x.start) (read_front x) [] (Ready (Err e)) (read_front w) =
-      segment_alone (read_front x) (read_front w) [] (Ready (Err e)) ((may, kind), front) in
+      segment_alone _ _ [] (Ready _) ((may, kind), front) in
       record {
         folded = record {
           marks = [];
           came = rw reader (laws.rests x.reader.now);
-          cut = segments_one (AnswerMarks (appends m x.start)) (read_front x) (read_front w) [] (Ready (Err e)) none;
+          cut = segments_one (AnswerMarks _) _ _ [] (Ready _) none;
         };
         ends = refl;
         stays = record {
@@ -64,7 +64,7 @@ module _ {R A : Type 0} (m : Type 0) {reads : Runs ReadMark R} (laws : MarkLaws 
         ends = h.ends;
         stays = record {
           reader = h.stays.reader;
-          buf = ap (λ (b : MutBor (Vec ℕ A)). record b { now = v }) h.stays.buf;
+          buf = ap (λ (b : MutBor _). record b { now = v }) h.stays.buf;
           start = h.stays.start;
         };
         idle = λ e. absurd (cc e);
@@ -79,7 +79,7 @@ module _ {R A : Type 0} (m : Type 0) {reads : Runs ReadMark R} (laws : MarkLaws 
   polls_on c x z (Ready r) n all started counts h = tt
   polls_on c x z Pending n all started counts h =
       let k = h.folded.cut in
-      let more = grown m x.start (take n x.buf.now.items) k.4.between k.4.taken k.4.folds in
+      let more = grown m x.start _ k.4.between k.4.taken k.4.folds in
       let whole : length (take n x.buf.now.items) ≡ n = length-take-le n x.buf.now.items (omega (arith, all)) in
       let same : length (read_front z) ≡ length k.4.between = ap length (k.5.1 ∙ k.4.given.2) in
       let start = h.stays.start in (
@@ -105,7 +105,7 @@ module _ {R A : Type 0} (m : Type 0) (reads : Runs ReadMark R) where
       → length new ≡ length old - w.filled → n ≤ length new → 0 < n → reads w.reader.now (moved new (take n new)) r
       → ReadsSome m reads x (after_read w r (put_mid w.filled (length old - w.filled) old new) (w.filled + n) room)
   read_some x w r old new n room same front_is within is long most some came =
-      let v = with_items w.buf.now (put_mid w.filled (length old - w.filled) old new) in
+      let v = with_items w.buf.now (put_mid w.filled _ old new) in
       let reader : w.reader ≡ x.reader = ap (λ (u : ReadToEndFuture R A). u.reader) same in
       let all = bytes_came reads w.reader.now r new n most some came in
       let more = put_front w.buf.now old new w.filled within is long n most in
@@ -114,7 +114,7 @@ module _ {R A : Type 0} (m : Type 0) (reads : Runs ReadMark R) where
         taken = take n new;
         some = all.0;
         came = subst (λ (b : MutBor R). reads b.now (bytes (take n new)) r) reader all.1;
-        folds = rw (more, front_is) (appends_all m x.start (read_front x) (take n new));
+        folds = rw (more, front_is) (appends_all m x.start _ _);
         stays = (
           record {
             reader = ap (λ (b : MutBor R). record b { now = r }) reader;
@@ -135,16 +135,16 @@ module _ {R A : Type 0} (m : Type 0) (reads : Runs ReadMark R) where
       (after_read w r (put_mid w.filled (length old - w.filled) old new) w.filled w.room)
   read_none x w r old new marks a same front_is within is long last came =
       let at = w.filled in
-      let v = with_items w.buf.now (put_mid at (length old - at) old new) in
+      let v = with_items w.buf.now _ in
       let reader : w.reader ≡ x.reader = ap (λ (u : ReadToEndFuture R A). u.reader) same in
       let after : take at v.items ≡ read_front x = put_kept w.buf.now old new at within is long ∙ front_is in
-      let here = segment_alone (read_front x) (take at v.items) marks a
+      let here = segment_alone _ _ marks a
       (subst (LastMarks (appends m x.start) (read_front x) marks a) (sym after) last) in
       record {
         folded = record {
           marks = marks;
           came = subst (λ (b : MutBor R). reads b.now marks r) reader came;
-          cut = segments_one (AnswerMarks (appends m x.start)) (read_front x) (take at v.items) marks a here;
+          cut = segments_one (AnswerMarks _) _ _ marks a here;
         };
         ends = up_to_one a;
         stays = record {

@@ -24,7 +24,7 @@ Lacks byte xs = All (λ b. b ≢ byte) xs
 pub lacks_before : (byte : ℕ) (shown : List ℕ) (k : ℕ) → k ≤ length shown
     → ((i : ℕ) → 0 ≤ i → i < k → ¬ is_byte byte (get_or shown i 0) ≡ true) → Lacks byte (take k shown)
 lacks_before byte shown k within none =
-    All-from_get_or (λ x. x ≢ byte) (take k shown) 0 (λ i below e.
+    All-from_get_or (λ x. x ≢ byte) _ 0 (λ i below e.
     let small : i < k = omega (arith, length-take-le k shown within, below) in
     none i zero-le small (eq-eqb _ _ (sym (get_or-take k shown i 0 small) ∙ e)))
 
@@ -46,7 +46,7 @@ take_whole (x ∷ shown) = ap (λ l. x ∷ l) (take_whole shown)
 -- it was not
 pub found_none : (byte : ℕ) (shown : List ℕ) → IsFirstByte (is_byte byte) shown None → Lacks byte shown
 found_none byte shown first =
-    subst (Lacks byte) (take_whole shown) (lacks_before byte shown (length shown) (omega arith) first)
+    subst (Lacks byte) (take_whole shown) (lacks_before byte shown _ (omega arith) first)
 
 -- a fill that lent something left no mark
 pub fill_then : {S : Type 0} (reads : Runs ReadMark S) → MarkLaws reads
@@ -76,7 +76,7 @@ module _ {R : Type 0} (byte : ℕ) (may_refuse : Type 0) (becomes : Cut → List
       → CutsPiece byte may_refuse held last cut → becomes cut held r after
       → AnswerMarks (pieces byte may_refuse becomes) held last (Ready r) after
   concludes_at held last cut r after is becomes_so =
-      segment_alone held after last (Ready r) (cut, is, becomes_so)
+      segment_alone held after last _ (cut, is, becomes_so)
 
   -- more bytes and the delimiter
   pub concludes_piece : (held xs : List ℕ) (r : R) (after : List ℕ) → Lacks byte xs
@@ -89,7 +89,7 @@ module _ {R : Type 0} (byte : ℕ) (may_refuse : Type 0) (becomes : Cut → List
         cut = map-append ReadMark.byte xs (byte ∷ []);
         between = held ++ xs;
         folds = takes_all held xs none;
-        given = (Cut.piece (held ++ xs), (refl, refl), becomes_so);
+        given = (Cut.piece _, (refl, refl), becomes_so);
       }
 
   pub waits_here : (held after : List ℕ) → after ≡ held
@@ -106,7 +106,7 @@ module _ {X S M K R : Type 0} (over : StreamOver X S M K) (fold : K → ReadFold
         segmented = record {
           marks = marks;
           came = came;
-          cut = segments_one (AnswerMarks (fold (over.kept x))) (over.held x) (over.held y) marks a answers;
+          cut = segments_one (AnswerMarks (fold _)) _ _ marks a answers;
         };
         stays = same;
         idle = λ e. absurd (cc e);

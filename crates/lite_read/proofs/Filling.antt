@@ -42,14 +42,14 @@ pub front : (at k n : ℕ) (old new : List ℕ) → at ≤ length old → n ≤ 
     → take (at + n) (put_mid at k old new) ≡ take at old ++ take n new
 front at k n old new room most =
     ap (λ m. take (m + n) (put_mid at k old new)) (sym (length-take-le at old room))
-    ∙ take-append-add (take at old) (new ++ post_of at k old) n
+    ∙ take-append-add _ _ n
     ∙ ap (λ l. take at old ++ l) (take-append-le n new (post_of at k old) most)
 
 -- it is as it was
 pub front_kept : (at k : ℕ) (old new : List ℕ) → at ≤ length old → take at (put_mid at k old new) ≡ take at old
 front_kept at k old new room =
     let all = length-take-le at old room in
-    take-append-le at (take at old) (new ++ post_of at k old) (omega (arith, all))
+    take-append-le at (take at old) _ (omega (arith, all))
     ∙ take_all at (take at old) (omega (arith, all))
 
 pub moved_none : (room : List ℕ) → 0 < length room → moved room [] ≡ ReadMark.end ∷ []
@@ -61,7 +61,7 @@ pub bytes_came : {R : Type 0} (reads : Runs ReadMark R) (s r : R) (new : List �
     → reads s (moved new (take n new)) r → (0 < length (take n new)) × reads s (bytes (take n new)) r
 bytes_came reads s r new n most some came =
     let any : 0 < length (take n new) = omega (arith, length-take-le n new most, some) in
-    (any, rw (moved_some new (take n new) any) at came)
+    (any, rw (moved_some new _ any) at came)
 
 -- a vector into whose room, behind so many bytes, others were written
 module _ {A : Type 0} (v : Vec ℕ A) (old new : List ℕ) (at : ℕ) (within : at ≤ length v.items) (is : old ≡ v.items)
@@ -77,7 +77,7 @@ module _ {A : Type 0} (v : Vec ℕ A) (old new : List ℕ) (at : ℕ) (within : 
       same_len_mid at (length old - at) old new (long ∙ sym (mid_len at (length old) old (omega (arith, inside))))
 
   put_items : (with_items v written).items ≡ written
-  put_items = take_at written (drop (length written) v.items) v.len (put_long ∙ ap length is ∙ sym v.ok.0)
+  put_items = take_at written (drop _ v.items) v.len (put_long ∙ ap length is ∙ sym v.ok.0)
 
   pub put_len : length (with_items v written).items ≡ length v.items
   put_len = ap length put_items ∙ put_long ∙ ap length is
@@ -85,7 +85,7 @@ module _ {A : Type 0} (v : Vec ℕ A) (old new : List ℕ) (at : ℕ) (within : 
   -- of which the first n count
   pub put_front : (n : ℕ) → n ≤ length new → take (at + n) (with_items v written).items ≡ take at v.items ++ take n new
   put_front n most =
-      ap (take (at + n)) put_items ∙ front at (length old - at) n old new inside most
+      ap (take _) put_items ∙ front at (length old - at) n old new inside most
       ∙ ap (λ l. take at l ++ take n new) is
 
   -- or none
@@ -130,7 +130,7 @@ exact_one reads x y marks a last came stays =
       folded = record {
         marks = marks;
         came = came;
-        cut = segments_one (AnswerMarks fills) (filling_of x) (filling_of y) marks a
+        cut = segments_one (AnswerMarks fills) (filling_of x) _ marks a
             (segment_alone (filling_of x) (filling_of y) marks a last);
       };
       ends = up_to_one a;
@@ -143,7 +143,7 @@ pub exact_full : {R : Type 0} (reads : Runs ReadMark R) (x : ReadExactFuture R) 
     → x.filled ≡ length x.buf.now → ReadsExactly reads x (Ready (Ok tt) ∷ []) x
 exact_full reads x came full =
     let all = length-take-le x.filled x.buf.now (omega (arith, full)) in
-    exact_one reads x x [] (Ready (Ok tt)) ((omega (arith, all, full), refl), refl) came
+    exact_one reads x x [] (Ready _) ((omega (arith, all, full), refl), refl) came
     (record { reader = refl; buf = refl; within = λ h. h })
 
 -- a read that moved nothing into what is left
@@ -165,5 +165,5 @@ read_none reads x r new marks a within long last came =
     let after : (take at put, length put) ≡ (take at old, length old) =
     ap (λ l. (l, length put)) (front_kept at (length old - at) old new within)
     ∙ ap (λ k. (take at old, k)) same in
-    exact_one reads x _ marks a (subst (LastMarks fills (filling_of x) marks a) (sym after) last) came
+    exact_one reads x _ marks a (subst (LastMarks fills _ marks a) (sym after) last) came
     (record { reader = refl; buf = refl; within = λ h. omega (arith, same, h) })

@@ -23,8 +23,8 @@ module _ {X S K A : Type 0} (over : StreamOver X S (List ℕ) K) (byte : K → �
     pub item_waits : reads (over.reader x) (ReadMark.pending ∷ []) (over.reader y)
         → Flows over (λ k. pieces (byte k) ⊤ (Itemised whole final)) reads x (Pending ∷ []) y
     item_waits came =
-        flow_one over (λ k. pieces (byte k) ⊤ (Itemised whole final)) reads x y (ReadMark.pending ∷ []) Pending came
-        (waits_here (byte (over.kept x)) ⊤ (Itemised whole final) (over.held x) (over.held y) held) same
+        flow_one over (λ k. pieces _ ⊤ (Itemised whole final)) reads x y (ReadMark.pending ∷ []) Pending came
+        (waits_here (byte _) ⊤ (Itemised whole final) _ _ held) same
 
     pub item_fails : (e : Error) → reads (over.reader x) (ReadMark.fault (error_kind e) ∷ []) (over.reader y)
         → Flows over (λ k. pieces (byte k) ⊤ (Itemised whole final)) reads x (Ready (Some (Err e)) ∷ []) y
@@ -37,27 +37,24 @@ module _ {X S K A : Type 0} (over : StreamOver X S (List ℕ) K) (byte : K → �
         → 0 < length shown → error_kind e ≡ OutOfMemory → over.reader y ≡ mid
         → Flows over (λ k. pieces (byte k) ⊤ (Itemised whole final)) reads x (Ready (Some (Err e)) ∷ []) y
     item_refused e mid shown fills some is unread =
-        let came = fill_then reads laws (over.reader x) mid (over.reader y) shown [] some fills
-        (rw unread (laws.rests mid)) in
-        flow_one over (λ k. pieces (byte k) ⊤ (Itemised whole final)) reads x y [] _ came
-        (concludes_at (byte (over.kept x)) ⊤ (Itemised whole final) (over.held x) [] (Cut.failed e) (Some (Err e))
-        (over.held y) (inr (refl, tt, is)) (refl, held)) same
+        let came = fill_then reads laws _ mid _ shown [] some fills (rw unread (laws.rests mid)) in
+        flow_one over (λ k. pieces _ ⊤ (Itemised whole final)) reads x y [] _ came
+        (concludes_at (byte _) ⊤ (Itemised whole final) _ [] (Cut.failed e) (Some _)
+        _ (inr (refl, tt, is)) (refl, held)) same
 
   module _ (empty : over.held y ≡ []) where
     item_last : (r : Result A Error) → 0 < length (over.held x) → final (over.held x) r
         → reads (over.reader x) (ReadMark.end ∷ []) (over.reader y)
         → Flows over (λ k. pieces (byte k) ⊤ (Itemised whole final)) reads x (Ready (Some r) ∷ []) y
     item_last r some is came =
-        flow_one over (λ k. pieces (byte k) ⊤ (Itemised whole final)) reads x y _ _ came
-        (concludes_at (byte (over.kept x)) ⊤ (Itemised whole final) (over.held x) _ (Cut.last (over.held x)) (Some r)
-        (over.held y) (refl, some, refl) (is, empty)) same
+        flow_one over (λ k. pieces _ ⊤ (Itemised whole final)) reads x y _ _ came
+        (concludes_at (byte _) ⊤ (Itemised whole final) _ _ (Cut.last _) _ _ (refl, some, refl) (is, empty)) same
 
     item_ends : over.held x ≡ [] → reads (over.reader x) (ReadMark.end ∷ []) (over.reader y)
         → Flows over (λ k. pieces (byte k) ⊤ (Itemised whole final)) reads x (Ready None ∷ []) y
     item_ends none came =
-        flow_one over (λ k. pieces (byte k) ⊤ (Itemised whole final)) reads x y _ _ came
-        (concludes_at (byte (over.kept x)) ⊤ (Itemised whole final) (over.held x) _ Cut.nothing None (over.held y)
-        (refl, none) empty) same
+        flow_one over (λ k. pieces _ ⊤ (Itemised whole final)) reads x y _ _ came
+        (concludes_at (byte _) ⊤ (Itemised whole final) _ _ Cut.nothing None _ (refl, none) empty) same
 
     pub item_at_end : (r : Option (Result A Error)) → AtEnd final (over.held x) r
         → reads (over.reader x) (ReadMark.end ∷ []) (over.reader y)
@@ -70,12 +67,10 @@ module _ {X S K A : Type 0} (over : StreamOver X S (List ℕ) K) (byte : K → �
         → whole (over.held x ++ take k shown) r → reads mid (bytes (take (k + 1) shown)) (over.reader y)
         → Flows over (λ k. pieces (byte k) ⊤ (Itemised whole final)) reads x (Ready (Some r) ∷ []) y
     item_cut mid shown k r fills first is took =
-        let at = found_at (byte (over.kept x)) shown k first in
-        let came = fill_then reads laws (over.reader x) mid (over.reader y) shown (bytes (take (k + 1) shown))
-        (omega (arith, at.0)) fills took in
-        let piece = concludes_piece (byte (over.kept x)) ⊤ (Itemised whole final) (over.held x) (take k shown) (Some r)
-        (over.held y) at.1 (is, empty) in
-        flow_one over (λ k. pieces (byte k) ⊤ (Itemised whole final)) reads x y _ _ came (rw at.2 piece) same
+        let at = found_at (byte _) shown k first in
+        let came = fill_then reads laws _ mid _ shown (bytes (take _ shown)) (omega (arith, at.0)) fills took in
+        let piece = concludes_piece (byte _) ⊤ (Itemised whole final) _ _ _ _ at.1 (is, empty) in
+        flow_one over (λ k. pieces _ ⊤ (Itemised whole final)) reads x y _ _ came (rw at.2 piece) same
 
   -- what became of the delimiter at k
   pub item_found : (mid : S) (shown : List ℕ) (k : ℕ) (r : Result A Error) → reads (over.reader x) (filled shown) mid
@@ -84,21 +79,20 @@ module _ {X S K A : Type 0} (over : StreamOver X S (List ℕ) K) (byte : K → �
       × (over.held y ≡ []))
       → IfErr r (λ e. (error_kind e ≡ OutOfMemory) × (over.reader y ≡ mid) × (over.held y ≡ over.held x))
       → Flows over (λ k. pieces (byte k) ⊤ (Itemised whole final)) reads x (Ready (Some r) ∷ []) y
-  item_found mid shown k (Ok v) fills first ok err = item_cut ok.2 mid shown k (Ok v) fills first ok.0 ok.1
+  item_found mid shown k (Ok v) fills first ok err = item_cut ok.2 mid shown k _ fills first ok.0 ok.1
   item_found mid shown k (Err e) fills first ok err =
-      item_refused err.2 e mid shown fills (omega (arith, (found_at (byte (over.kept x)) shown k first).0)) err.0 err.1
+      item_refused err.2 e mid shown fills (omega (arith, (found_at (byte _) shown k first).0)) err.0 err.1
 
   pub item_more : (mid : S) (shown : List ℕ) → reads (over.reader x) (filled shown) mid
       → IsFirstByte (is_byte (byte (over.kept x))) shown None → 0 < length shown
       → over.held y ≡ over.held x ++ shown → reads mid (bytes shown) (over.reader y)
       → TakesPieceIn over (λ k. pieces (byte k) ⊤ (Itemised whole final)) reads x y
   item_more mid shown fills first some is took =
-      let all = takes_all (byte (over.kept x)) ⊤ (Itemised whole final) (over.held x) shown
-      (found_none (byte (over.kept x)) shown first) in
+      let all = takes_all (byte _) ⊤ (Itemised whole final) _ shown (found_none (byte _) shown first) in
       record {
         taken = shown;
         some = some;
-        came = fill_then reads laws (over.reader x) mid (over.reader y) shown (bytes shown) some fills took;
+        came = fill_then reads laws _ mid _ shown _ some fills took;
         folds = rw is all;
         stays = same;
       }

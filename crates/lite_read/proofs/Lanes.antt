@@ -27,8 +27,8 @@ module _ (fails : ℕ → Bool) (d : List ℕ) (at n : ℕ) (z : List ℕ) (few 
   long = length-chunk at n d room
 
   mask : mask_l (map (top 7) z) % 2 ^ 64 ≡ mask_l (map stops v)
-  mask = ap (λ l. mask_l l % 2 ^ 64) (ap (map (top 7)) lanes ∙ map-map (top 7) (λ x. cond (fails x) 255 0) v)
-      ∙ mask_l-mod (map stops v) 64 (omega (arith, length-map v stops, long, few))
+  mask = ap (λ l. mask_l l % 2 ^ 64) (ap (map _) lanes ∙ map-map _ (λ x. cond _ 255 0) v)
+      ∙ mask_l-mod _ 64 (omega (arith, length-map v stops, long, few))
 
   passing : prefix_len (λ x. not (stops x)) v ≡ prefix_len (λ x. not (fails x)) v
   passing = ap (λ p. prefix_len p v) (λ i. λ x. flag (fails x) i)

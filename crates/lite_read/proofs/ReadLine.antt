@@ -30,15 +30,14 @@ failed held e = concludes_at 10 ⊤ (CountsPiece 10) held _ (Cut.failed e) (Err 
 pub refused : (held : List ℕ) (e : Error) → error_kind e ≡ OutOfMemory
     → AnswerMarks (read_line_fold ⊤) held [] (Ready (Err e)) held
 refused held e is =
-    concludes_at 10 ⊤ (CountsPiece 10) held [] (Cut.failed e) (Err e) held (inr (refl, tt, is)) (refl, refl)
+    concludes_at 10 ⊤ (CountsPiece 10) held [] (Cut.failed e) _ held (inr (refl, tt, is)) (refl, refl)
 
 pub ended : (held : List ℕ) (n : ℕ) → n ≡ length held
     → AnswerMarks (read_line_fold ⊤) held (ReadMark.end ∷ []) (Ready (Ok n)) held
-ended [] n is = concludes_at 10 ⊤ (CountsPiece 10) [] _ Cut.nothing (Ok n) [] (refl, refl) (refl, ap Ok is)
+ended [] n is = concludes_at 10 ⊤ (CountsPiece 10) [] _ Cut.nothing _ [] (refl, refl) (refl, ap Ok is)
 ended (b ∷ held) n is =
     let some : 0 < length (b ∷ held) = omega arith in
-    concludes_at 10 ⊤ (CountsPiece 10) (b ∷ held) _ (Cut.last (b ∷ held)) (Ok n) (b ∷ held) (refl, some, refl)
-    (refl, ap Ok is)
+    concludes_at 10 ⊤ (CountsPiece 10) _ _ (Cut.last _) _ _ (refl, some, refl) (refl, ap Ok is)
 
 cut_off : (held shown all : List ℕ) (k n : ℕ) → IsFirstByte (is_byte 10) shown (Some k)
     → all ≡ held ++ take (k + 1) shown → n ≡ length all
@@ -46,8 +45,8 @@ cut_off : (held shown all : List ℕ) (k n : ℕ) → IsFirstByte (is_byte 10) s
 cut_off held shown all k n first is count =
     let at = found_at 10 shown k first in
     let whole : all ≡ (held ++ take k shown) ++ 10 ∷ [] = is ∙ ap (λ l. held ++ l) at.2
-    ∙ sym (append_assoc held (take k shown) (10 ∷ [])) in
-    let piece = concludes_piece 10 ⊤ (CountsPiece 10) held (take k shown) (Ok n) all at.1 (whole, ap Ok count) in
+    ∙ sym (append_assoc held _ (10 ∷ [])) in
+    let piece = concludes_piece 10 ⊤ (CountsPiece 10) held _ _ all at.1 (whole, ap Ok count) in
     subst (λ l. AnswerMarks (read_line_fold ⊤) held (bytes l) (Ready (Ok n)) all) (sym at.2) piece
 
 -- the future whose reader was filled
@@ -64,7 +63,7 @@ module _ {R A : Type 0} {reads : Runs ReadMark R} (laws : MarkLaws reads) (x : R
       → AnswerMarks (read_line_fold ⊤) x.bytes.items marks (Ready v) x.bytes.items → reads x.reader.now marks mid
       → AnswersText line_over (read_line_fold ⊤) reads x (Ready r) y
   filled_last y marks v r reader after value gains empty holds h came =
-      text_finished line_over (read_line_fold ⊤) reads x (after_fill x mid) y
+      text_finished line_over _ reads x (after_fill x mid) y
       (record { reader = refl; text = refl }) refl marks v r reader after value gains empty holds h came
 
   module _ (w : ReadLineFuture R A) (shown : List ℕ) (stays : TextStays line_over (after_fill x mid) w)
@@ -84,10 +83,10 @@ module _ {R A : Type 0} {reads : Runs ReadMark R} (laws : MarkLaws reads) (x : R
           → reads mid (bytes (take (k + 1) shown)) w.reader.now
           → AnswersText line_over (read_line_fold ⊤) reads x (Ready r) y
       line_cut k is first more took =
-          let came = fill_then reads laws x.reader.now mid w.reader.now shown (bytes (take (k + 1) shown))
+          let came = fill_then reads laws x.reader.now mid w.reader.now shown (bytes (take _ shown))
           (omega (arith, (found_at 10 shown k first).0)) fills took in
-          let h = cut_off x.bytes.items shown w.bytes.items k (length w.bytes.items) first more refl in
-          text_finished line_over (read_line_fold ⊤) reads x w y from text _ v r reader after value gains empty holds
+          let h = cut_off x.bytes.items shown w.bytes.items k _ first more refl in
+          text_finished line_over _ reads x w y from text _ v r reader after value gains empty holds
           (subst (λ u. AnswerMarks (read_line_fold ⊤) x.bytes.items (bytes (take (k + 1) shown)) (Ready u)
           w.bytes.items) (sym is) h) came
 
@@ -100,7 +99,7 @@ module _ {R A : Type 0} {reads : Runs ReadMark R} (laws : MarkLaws reads) (x : R
           (rw unread (laws.rests mid)) in
           let h = subst (λ u. AnswerMarks (read_line_fold ⊤) x.bytes.items [] (Ready u) x.bytes.items) (sym is)
           (refused x.bytes.items e kind) in
-          text_finished line_over (read_line_fold ⊤) reads x w y from text [] v r reader after value gains empty holds
+          text_finished line_over _ reads x w y from text [] v r reader after value gains empty holds
           (subst (λ l. AnswerMarks (read_line_fold ⊤) x.bytes.items [] (Ready v) l) (sym kept) h) came
 
     -- all was taken in
@@ -112,7 +111,7 @@ module _ {R A : Type 0} {reads : Runs ReadMark R} (laws : MarkLaws reads) (x : R
         record {
           taken = shown;
           some = some;
-          came = fill_then reads laws x.reader.now mid w.reader.now shown (bytes shown) some fills took;
+          came = fill_then reads laws x.reader.now mid w.reader.now shown _ some fills took;
           folds = subst (λ l. FoldsTo (read_line_fold ⊤).takes x.bytes.items shown l) (sym more) all;
           stays = (from, text, holds);
         }

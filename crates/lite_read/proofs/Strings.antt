@@ -25,15 +25,15 @@ use Rattle.lite_base.specs.Runs.{Runs}
 -- what reading up to an end gives
 pub failed : (g : List ℕ) (e : Error)
     → AnswerMarks (read_to_string_fold ⊤) g (ReadMark.fault (error_kind e) ∷ []) (Ready (Err e)) g
-failed g e = segment_alone g g (ReadMark.fault (error_kind e) ∷ []) (Ready (Err e)) (refl, refl)
+failed g e = segment_alone g g (ReadMark.fault _ ∷ []) (Ready _) (refl, refl)
 
 pub refused : (g : List ℕ) (e : Error) → error_kind e ≡ OutOfMemory
     → AnswerMarks (read_to_string_fold ⊤) g [] (Ready (Err e)) g
-refused g e is = segment_alone g g [] (Ready (Err e)) ((tt, is), refl)
+refused g e is = segment_alone g g [] (Ready _) ((tt, is), refl)
 
 pub ended : (g : List ℕ) (n : ℕ) → length g ≡ n
     → AnswerMarks (read_to_string_fold ⊤) g (ReadMark.end ∷ []) (Ready (Ok n)) g
-ended g n is = segment_alone g g (ReadMark.end ∷ []) (Ready (Ok n)) (omega (arith, is), refl)
+ended g n is = segment_alone g g (ReadMark.end ∷ []) (Ready _) (omega (arith, is), refl)
 
 -- the future that read n bytes into the room
 abbrev pub after_read : {R A : Type 0} → ReadToStringFuture R A → R → List ℕ → ℕ → ℕ → ReadToStringFuture R A
@@ -62,7 +62,7 @@ module _ {R A : Type 0} (reads : Runs ReadMark R) where
         taken = take n new;
         some = all.0;
         came = subst (λ (b : MutBor R). reads b.now (bytes (take n new)) r) reader all.1;
-        folds = rw (more, front_is) (appends_all ⊤ 0 (text_front x) (take n new));
+        folds = rw (more, front_is) (appends_all ⊤ 0 _ _);
         stays = (
           record { reader = ap (λ (b : MutBor R). record b { now = r }) reader; text = stays.text },
           text,
@@ -92,8 +92,7 @@ module _ {R A : Type 0} (reads : Runs ReadMark R) (x w y : ReadToStringFuture R 
       → AnswerMarks (read_to_string_fold ⊤) (text_front w) marks (Ready v) (text_front w)
       → reads x.reader.now marks w.reader.now → AnswersText all_over (read_to_string_fold ⊤) reads x (Ready r) y
   finished marks v r reader after value gains empty holds h came =
-      text_finished all_over
-      (read_to_string_fold ⊤) reads x w y stays text marks v r reader after value gains empty holds
+      text_finished all_over _ reads x w y stays text marks v r reader after value gains empty holds
       (subst (λ l. AnswerMarks (read_to_string_fold ⊤) l marks (Ready v) (text_front w)) front_is h) came
 
 module _ {R A : Type 0} (reads : Runs ReadMark R) (x w : ReadToStringFuture R A) (r : R) (old new : List ℕ)
@@ -114,7 +113,7 @@ module _ {R A : Type 0} (reads : Runs ReadMark R) (x w : ReadToStringFuture R A)
   pub waited : string_bytes w.text.now ≡ string_bytes x.text.now → reads w.reader.now (ReadMark.pending ∷ []) r
       → AnswersText all_over (read_to_string_fold ⊤) reads x Pending wrote
   waited text came = (
-    text_waits all_over (read_to_string_fold ⊤) reads x wrote wrote_stays wrote_front text tt
+    text_waits all_over _ reads x wrote wrote_stays wrote_front text tt
         (subst (λ (b : MutBor R). reads b.now (ReadMark.pending ∷ []) r) reader came),
     record {
       fits = holds.fits;

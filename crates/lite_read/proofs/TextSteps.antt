@@ -31,7 +31,7 @@ module _ {X R A : Type 0} (over : TextOver X R A) (fold : ReadFold (List ℕ) (R
         folded = record {
           marks = marks;
           came = came;
-          cut = segments_one (AnswerMarks (in_text fold)) (reading over x) (reading over y) marks a answer;
+          cut = segments_one (AnswerMarks _) _ _ marks a answer;
         };
         ends = up_to_one a;
         stays = stays;
@@ -44,8 +44,7 @@ module _ {X R A : Type 0} (over : TextOver X R A) (fold : ReadFold (List ℕ) (R
       → ReadsText over fold reads x (Pending ∷ []) y
   text_waits read text asks came =
       let same : reading over y ≡ reading over x = cc (read, text) in
-      one (ReadMark.pending ∷ []) Pending came
-      (segment_alone (reading over x) (reading over y) (ReadMark.pending ∷ []) Pending (refl, asks, same))
+      one (ReadMark.pending ∷ []) Pending came (segment_alone _ _ (ReadMark.pending ∷ []) Pending (refl, asks, same))
 
   -- reading the bytes gives a value, and they go into the text
   pub text_given : (marks : List ReadMark) (v r : Result ℕ Error) (all : List ℕ)
@@ -55,12 +54,12 @@ module _ {X R A : Type 0} (over : TextOver X R A) (fold : ReadFold (List ℕ) (R
       → ReadsText over fold reads x (Ready r ∷ []) y
   text_given marks v r all h value gains empty came =
       let text = string_bytes (over.text x).now in
-      one marks (Ready r) came (record {
+      one marks _ came (record {
         taken = h.taken;
         last = h.last;
         cut = h.cut;
         between = record { read = h.between; text = text };
-        folds = folds_in fold text (over.read x) h.between h.taken h.folds;
+        folds = folds_in fold text _ h.between h.taken h.folds;
         given = (v, all, h.given, value, gains, empty);
       })
 
@@ -83,12 +82,12 @@ module _ {X R A : Type 0} (over : TextOver X R A) (fold : ReadFold (List ℕ) (R
       let end : reads (over.reader x).now marks (over.reader y).now =
       subst (λ (b : MutBor R). reads (over.reader x).now marks b.now) (sym reader) came in
       let all = stays_join over x w y stays (record {
-        reader = kept_ref (over.reader w) (over.reader y) reader;
+        reader = kept_ref _ _ reader;
         text = after;
       }) in
       let into : AppendsText (over.read w) (string_bytes (over.text x).now) (string_bytes (over.text y).now) =
       subst (λ l. AppendsText (over.read w) l (string_bytes (over.text y).now)) text gains in
-      (text_given over fold reads x y all marks v r (over.read w) h value into empty end, holds)
+      (text_given over fold reads x y all marks v r _ h value into empty end, holds)
 
 module _ {X R A : Type 0} (over : TextOver X R A) (fold : ReadFold (List ℕ) (Result ℕ Error)) {reads : Runs ReadMark R}
     (laws : MarkLaws reads) {x z : X} {a : Poll (Result ℕ Error)} where

@@ -39,19 +39,17 @@ first_by xs false less more =
 -- the first newline, as a first byte that passes a test
 pub first_newline : (xs : List ℕ) (r : Option ℕ) → r ≡ position is_newline xs → IsFirstByte (is_byte 10) xs r
 first_newline xs r e =
-    subst (IsFirstByte (is_byte 10) xs) (sym e)
-    (first_by xs (ltb (position_or_len is_newline xs) (length xs)) (ltb-true _ _) (ltb-false _ _))
+    subst (IsFirstByte (is_byte 10) xs) (sym e) (first_by xs (ltb _ _) (ltb-true _ _) (ltb-false _ _))
 
 up_by : (xs : List ℕ) (b : Bool) → (b ≡ false → length xs ≤ position_or_len is_newline xs)
     → before_first is_newline xs ≡ up_to (cond b (Some (position_or_len is_newline xs)) None) xs
 up_by xs true more = refl
-up_by xs false more = take_all (position_or_len is_newline xs) xs (more refl)
+up_by xs false more = take_all _ xs (more refl)
 
 pub line_ascii : (xs : List ℕ) (r : Option ℕ) (a : Bool) → r ≡ position is_newline xs
     → a ≡ list_all is_ascii (before_first is_newline xs) → a ≡ list_all is_ascii (up_to r xs)
 line_ascii xs r a e h =
-    h ∙ ap (list_all is_ascii)
-    (up_by xs (ltb (position_or_len is_newline xs) (length xs)) (ltb-false _ _) ∙ ap (λ v. up_to v xs) (sym e))
+    h ∙ ap (list_all is_ascii) (up_by xs (ltb _ _) (ltb-false _ _) ∙ ap (λ v. up_to v xs) (sym e))
 
 small : (bs : List ℕ) → list_all is_ascii bs ≡ true → All (λ b. b < 128) bs
 small bs e = λ i d inside. ltb-true _ _ (AllPass-from_list_all is_ascii bs e i d inside)
@@ -61,8 +59,8 @@ pub all_utf8 : (bs : List ℕ) (a : Bool) → a ≡ list_all is_ascii bs → a �
 all_utf8 bs a e t = IsUtf8-from_ascii bs (IsAscii-from_all bs (small bs (sym e ∙ t)))
 
 shorter_utf8 : (bs : List ℕ) (n : ℕ) (b : Bool) → All (λ b. b < 128) bs → IsUtf8 (cond b (take n bs) bs)
-shorter_utf8 bs n true h = IsUtf8-from_ascii (take n bs) (IsAscii-from_all (take n bs) (All-take (λ b. b < 128) n bs h))
+shorter_utf8 bs n true h = IsUtf8-from_ascii _ (IsAscii-from_all _ (All-take (λ b. b < 128) n bs h))
 shorter_utf8 bs n false h = IsUtf8-from_ascii bs (IsAscii-from_all bs h)
 
 pub line_utf8 : (bs : List ℕ) (a : Bool) → a ≡ list_all is_ascii bs → a ≡ true → IsUtf8 (without_return bs)
-line_utf8 bs a e t = shorter_utf8 bs (length bs - 1) _ (small bs (sym e ∙ t))
+line_utf8 bs a e t = shorter_utf8 bs _ _ (small bs (sym e ∙ t))

@@ -52,8 +52,8 @@ module _ {R : Type 0} (reads : Runs ReadMark R) (laws : MarkLaws reads) (x y : R
         folded = record {
           marks = marks;
           came = came;
-          cut = segments_one (AnswerMarks (until x.byte ⊤)) (read_of x) (read_of y) marks a
-              (subst (AnswerMarks (until x.byte ⊤) (read_of x) marks a) (sym (read_grown xs e)) answer);
+          cut = segments_one (AnswerMarks _) _ _ marks a
+              (subst (AnswerMarks _ _ marks a) (sym (read_grown xs e)) answer);
         };
         ends = up_to_one a;
         stays = stays_grown xs e;
@@ -69,12 +69,12 @@ module _ {R : Type 0} (reads : Runs ReadMark R) (laws : MarkLaws reads) (x y : R
         → ((after : List ℕ) → after ≡ read_of x → AnswerMarks (until x.byte ⊤) (read_of x) last (Ready a) after)
         → ReadsUntil reads ⊤ x (Ready a ∷ []) y
     cut_here last a came answer =
-        one [] last (Ready a) none_more came (answer (read_of x ++ []) (append-nil (read_of x)))
+        one [] last _ none_more came (answer (read_of x ++ []) (append-nil _))
 
     pub until_waits : reads x.reader.now (ReadMark.pending ∷ []) y.reader.now → ReadsUntil reads ⊤ x (Pending ∷ []) y
     until_waits came =
         one [] (ReadMark.pending ∷ []) Pending none_more came
-        (waits_here x.byte ⊤ (CountsPiece x.byte) (read_of x) (read_of x ++ []) (append-nil (read_of x)))
+        (waits_here x.byte ⊤ (CountsPiece x.byte) _ (read_of x ++ []) (append-nil _))
 
     pub until_fails : (e : Error) → reads x.reader.now (ReadMark.fault (error_kind e) ∷ []) y.reader.now
         → ReadsUntil reads ⊤ x (Ready (Err e) ∷ []) y
@@ -89,25 +89,23 @@ module _ {R : Type 0} (reads : Runs ReadMark R) (laws : MarkLaws reads) (x y : R
     until_refused e mid shown fills some is unread =
         let came = fill_then reads laws x.reader.now mid y.reader.now shown [] some fills
         (rw unread (laws.rests mid)) in
-        cut_here [] (Err e) came
-        (λ after same. concludes_at x.byte ⊤ (CountsPiece x.byte) (read_of x) [] (Cut.failed e) (Err e) after
+        cut_here [] (Err e) came (λ after same. concludes_at x.byte ⊤ (CountsPiece x.byte) _ [] (Cut.failed e) _ after
         (inr (refl, tt, is)) (same, refl))
 
     ends_by : (held : List ℕ) (n : ℕ) (after : List ℕ) → after ≡ held → n ≡ length held
         → AnswerMarks (until x.byte ⊤) held (ReadMark.end ∷ []) (Ready (Ok n)) after
     ends_by [] n after is count =
-        concludes_at x.byte ⊤ (CountsPiece x.byte) [] _ Cut.nothing (Ok n) after (refl, refl)
+        concludes_at x.byte ⊤ (CountsPiece x.byte) [] _ Cut.nothing _ after (refl, refl)
         (is, ap Ok (count ∙ ap length (sym is)))
     ends_by (b ∷ held) n after is count =
         let some : 0 < length (b ∷ held) = omega arith in
-        concludes_at x.byte ⊤ (CountsPiece x.byte) (b ∷ held) _ (Cut.last (b ∷ held)) (Ok n) after (refl, some, refl)
+        concludes_at x.byte ⊤ (CountsPiece x.byte) _ _ (Cut.last _) _ after (refl, some, refl)
         (is, ap Ok (count ∙ ap length (sym is)))
 
     pub until_ends : (n : ℕ) → n ≡ length x.buf.now.items - x.start
         → reads x.reader.now (ReadMark.end ∷ []) y.reader.now → ReadsUntil reads ⊤ x (Ready (Ok n) ∷ []) y
     until_ends n count came =
-        cut_here _ (Ok n) came
-        (λ after is. ends_by (read_of x) n after is (count ∙ sym (length-drop x.start x.buf.now.items)))
+        cut_here _ _ came (λ after is. ends_by _ n after is (count ∙ sym (length-drop x.start x.buf.now.items)))
 
   module _ (mid : R) (shown : List ℕ) (fills : reads x.reader.now (filled shown) mid) where
     pub until_found : (k n : ℕ) → IsFirstByte (is_byte x.byte) shown (Some k)
@@ -116,11 +114,10 @@ module _ {R : Type 0} (reads : Runs ReadMark R) (laws : MarkLaws reads) (x y : R
         → ReadsUntil reads ⊤ x (Ready (Ok n) ∷ []) y
     until_found k n first is took count =
         let at = found_at x.byte shown k first in
-        let all = take (k + 1) shown in
-        let came = fill_then reads laws x.reader.now mid y.reader.now shown (bytes all)
-        (omega (arith, at.0)) fills took in
+        let all = take _ shown in
+        let came = fill_then reads laws x.reader.now mid y.reader.now shown _ (omega (arith, at.0)) fills took in
         let whole : read_of x ++ all ≡ (read_of x ++ take k shown) ++ x.byte ∷ [] = ap (λ l. read_of x ++ l) at.2
-        ∙ sym (append_assoc (read_of x) (take k shown) (x.byte ∷ [])) in
+        ∙ sym (append_assoc _ _ (x.byte ∷ [])) in
         let long : n ≡ length (read_of x ++ all) =
         omega (
           arith,
@@ -131,9 +128,8 @@ module _ {R : Type 0} (reads : Runs ReadMark R) (laws : MarkLaws reads) (x y : R
           length-drop x.start x.buf.now.items,
           within,
         ) in
-        let piece = concludes_piece x.byte ⊤ (CountsPiece x.byte) (read_of x) (take k shown) (Ok n)
-        (read_of x ++ all) at.1 (whole, ap Ok long) in
-        one all (bytes all) _ is came
+        let piece = concludes_piece x.byte ⊤ (CountsPiece x.byte) _ _ _ _ at.1 (whole, ap Ok long) in
+        one all _ _ is came
         (subst (λ l. AnswerMarks (until x.byte ⊤) (read_of x) (bytes l) (Ready (Ok n)) (read_of x ++ all))
         (sym at.2) piece)
 
@@ -141,11 +137,11 @@ module _ {R : Type 0} (reads : Runs ReadMark R) (laws : MarkLaws reads) (x y : R
         → y.buf.now.items ≡ x.buf.now.items ++ shown → reads mid (bytes shown) y.reader.now
         → AppendsMore reads ⊤ x y
     until_more first some is took =
-        let all = takes_all x.byte ⊤ (CountsPiece x.byte) (read_of x) shown (found_none x.byte shown first) in
+        let all = takes_all x.byte ⊤ (CountsPiece x.byte) _ shown (found_none x.byte shown first) in
         record {
           taken = shown;
           some = some;
-          came = fill_then reads laws x.reader.now mid y.reader.now shown (bytes shown) some fills took;
+          came = fill_then reads laws x.reader.now mid y.reader.now shown _ some fills took;
           folds = rw (read_grown shown is) all;
           stays = stays_grown shown is;
         }
