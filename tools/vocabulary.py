@@ -56,10 +56,6 @@ def definitions(crate):
                 yield Word(found["word"], crate, os.path.splitext(file)[0].replace("/", "."), comment_over(lines, at))
 
 
-def is_law(word):
-    return word.module.split(".")[0] == "Laws"
-
-
 def libraries():
     return with_below(crates_in(TOP), [FACADE])
 
@@ -102,10 +98,17 @@ def passed_on():
     return {name.strip() for it in found for name in (it["names"] or it["path"].rpartition("::")[2]).split(",")}
 
 
+def cited(said, where):
+    """Yields the crate, the module and the name of each ghost name in a text, in their order."""
+    for name in re.findall(r"[\w'-]+", said):
+        if name in where:
+            yield *where[name], name
+
+
 def ghost_in(body, member, where):
-    """Returns the modules of the ghost names, in their order, that a member of an impl says."""
+    """Returns the ghost names, in their order, that a member of an impl says, with their crates and modules."""
     said = member and re.search(rf"ghost {member} = \{{(.*?)\}};", body, re.S)
-    return [where[it] for it in re.findall(r"[\w'-]+", said[1]) if it in where] if said else []
+    return list(cited(said[1], where)) if said else []
 
 
 def module_path(crate, module):
@@ -113,8 +116,8 @@ def module_path(crate, module):
 
 
 def calls():
-    """Yields a row for each type that is polled, read, written or sought: its crate, the calls that make one, its source, and the modules
-    of its definition and of its laws."""
+    """Yields a row for each type that is polled, read, written or sought: its crate, the calls that make one, its source, its definition, and
+    the modules of its laws."""
     below = set(libraries())
     for crate in libraries():
         made = makers(crate)
@@ -123,7 +126,7 @@ def calls():
             where = imported(text)
             for impl in IMPL.finditer(text):
                 run, laws = (ghost_in(impl["body"], member[impl["trait"]], where) for member in (RUN_OF, LAWS_OF))
-                lawful = list(dict.fromkeys(it for it in laws if it[1].startswith("Laws.")))
+                lawful = list(dict.fromkeys(it[:2] for it in laws if it[1].startswith("Laws.")))
                 if impl["trait"] == "Folder":
                     lawful.append(CONSUMING)
                 known = [it for it in run if it[0] in below]
@@ -136,8 +139,8 @@ def calls():
 
 
 def functions():
-    """Yields a row for each function that the facade passes on and that makes no such type: its crate, its source, and the modules of what its
-    contract says."""
+    """Yields a row for each function that the facade passes on and that makes no such type: its crate, its source, and the words of its
+    contract."""
     public, made = passed_on(), {name for _, names, *_ in calls() for name in names}
     for crate in libraries():
         for file in files_of(f"{TOP}/crates/{crate}/src"):
@@ -145,8 +148,7 @@ def functions():
             where = imported(text)
             for found in FUNCTION.finditer(text):
                 said = found["said"].partition("\n    ensures")[2]
-                cited = [where[it] for it in re.findall(r"[\w'-]+", said) if it in where and where[it][0] in libraries()]
-                own = [it for it in dict.fromkeys(cited) if it[1] not in PLAIN]
+                own = [it for it in dict.fromkeys(cited(said, where)) if it[0] in libraries() and it[1] not in PLAIN]
                 if found["name"] in public - made and crate != FACADE and own:
                     yield crate, found["name"], file, own
 
@@ -157,6 +159,14 @@ HEAD_ENDS = "## Calls\n"
 
 def link(path, text):
     return f"[{text}](../{path})"
+
+
+def defined_at(words):
+    """Links the modules of these words, each with those that stand in it."""
+    modules = {}
+    for crate, module, name in words:
+        modules.setdefault((crate, module), []).append(f"`{name}`")
+    return ", ".join(f"{' '.join(names)} {link(module_path(*it), it[1].replace('.', '/'))}" for it, names in modules.items())
 
 
 def snake(name):
@@ -171,16 +181,17 @@ def rows_of_calls():
             ", ".join(f"`{it}`" for it in sorted(named, key=len)),
             KIND[trait],
             link(f"crates/{crate}/src/{file}", f"{crate} {os.path.splitext(file)[0]}"),
-            link(module_path(*defined), defined[1].replace(".", "/")),
+            defined_at([defined]),
             ", ".join(link(module_path(*it), it[1].removeprefix("Laws.").replace(".", "/")) for it in laws) or "-",
         ]
     for crate, name, file, defined in functions():
-        laws = [(it[0], f"Laws.{it[1]}") for it in defined if os.path.exists(f"{TOP}/{module_path(it[0], f'Laws.{it[1]}')}")]
+        modules = dict.fromkeys(it[:2] for it in defined)
+        laws = [(it[0], f"Laws.{it[1]}") for it in modules if os.path.exists(f"{TOP}/{module_path(it[0], f'Laws.{it[1]}')}")]
         yield [
             f"`{name}`",
             "function",
             link(f"crates/{crate}/src/{file}", f"{crate} {os.path.splitext(file)[0]}"),
-            ", ".join(link(module_path(*it), it[1].replace(".", "/")) for it in defined),
+            defined_at(defined),
             ", ".join(link(module_path(*it), it[1].removeprefix("Laws.").replace(".", "/")) for it in laws) or "-",
         ]
 
@@ -212,7 +223,7 @@ def faults():
     for crate in crates_in(TOP):
         for word in definitions(crate):
             there.setdefault(word.name, []).append(word)
-            if not word.says and not is_law(word):
+            if not word.says:
                 yield word.path, f"{word.name} has no comment"
     for name, words in sorted(there.items()):
         if len(words) > 1:

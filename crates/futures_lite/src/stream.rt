@@ -391,7 +391,7 @@ pub trait StreamExt: Stream {
 
     /// The stream of the items over and over, by copies of this stream as it is now, or this stream itself, unpolled,
     /// where memory for the first copy was refused. The items are `Ok`. At an end a fresh copy is made and polled
-    /// once in the same poll, and its answer goes out whatever it is: an empty stream's cycle ends. A copy that is
+    /// once in the same poll, and its answer goes out whatever it is, for an empty stream an end. A copy that is
     /// refused is the item `Err(AllocError)`, and the next poll tries it again without polling the stream. The hint
     /// says nothing.
     final fn cycle(self) -> Result<Cycle<Self>, Self>

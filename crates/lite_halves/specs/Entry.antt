@@ -160,7 +160,7 @@ told_of_done Waits = Told.pending
 told_of_done (Ready (Err e)) = Told.fault (error_kind e)
 told_of_done (Ready (Ok u)) = Told.done
 
--- the entry of a read that left the buffer so, of a write of these bytes, of a flush and of a close
+-- the entry of a read that left the buffer so
 abbrev pub read_note : Poll (Result ℕ Error) → List ℕ → Note
 read_note r buf = record { asked = Request.room (length buf); told = told_of_read r buf }
 

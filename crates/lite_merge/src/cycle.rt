@@ -11,8 +11,9 @@ use std::alloc::AllocError;
 
 /// The items of a stream over and over.
 ///
-/// Made by [`cycle`](crate::make::cycle). `Ok` is an item. At an end a copy of the stream as it was handed in is made, and
-/// polled once in the same poll; what it answers goes out whatever it is, so the cycle of a stream without items ends.
+/// Made by [`cycle`](crate::make::cycle), which keeps a copy of the stream as it was handed in. `Ok` is an item. At an end a
+/// copy of that one is made, and polled once in the same poll; what it answers goes out whatever it is. So the cycle of a
+/// stream without items answers an end, and the next poll asks the same copy.
 /// `Err(AllocError)` is a copy that was refused for want of memory; the next poll asks for it again, without polling the
 /// stream that has ended. A copy is what the stream's own `Clone` may give. Ported from `src/stream.rs`, `Cycle`, whose
 /// copies are not refused.

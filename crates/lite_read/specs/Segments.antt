@@ -13,7 +13,8 @@ pub record StreamOver (X S M K : Type 0) : Type 0 where
   pub kept : X → K
 
 module _ {X S M K R : Type 0} (over : StreamOver X S M K) (fold : K → ReadFold M R) (reads : Runs ReadMark S) where
-  -- no answer leaves all as it is
+  -- a stream over a reader: the reader left some marks, and they were cut into segments, each of which makes one
+  -- answer; no answer leaves all as it is
   pub record Flows (x : X) (out : List (Poll R)) (y : X) : Type 0 where
     pub segmented : Segmented (fold (over.kept x)) reads (over.reader x) (over.held x) out (over.reader y) (over.held y)
     pub stays : over.kept y ≡ over.kept x

@@ -14,6 +14,9 @@ use lite_stream::Map;
 
 /// The items of the streams that a function makes of the items of a stream, one after the other.
 ///
+/// Pendings go out as they come, and ends of the stream too; the end of an inner stream is left out, and the stream is asked
+/// for the next one in the same poll. While an inner stream is held the stream is not polled.
+///
 /// Made by [`flat_map`](crate::make::flat_map). It gives what [`Flatten`](crate::Flatten) gives of a
 /// [`Map`](lite_stream::Map). Ported from `src/stream.rs`, `FlatMap`.
 #[derive(Debug, Drop)]

@@ -52,7 +52,7 @@ module _ {R W : Type 0} (reads : Runs ReadMark R) (writes : Runs WriteMark W) wh
     pub copied : Copied (held_of x) (met_in x.phase) told took out (held_of y) (met_in y.phase) y.amount
     pub counted : y.amount ≡ (x.amount + length (bytes_taken took)) % 2 ^ 64
 
-  -- no answer leaves all as it is
+  -- a copy: from what was read to what the writer took, up to its value; no answer leaves all as it is
   pub record CopyRuns (x : CopyFuture R W) (out : List (Poll (Result ℕ Error))) (y : CopyFuture R W) : Type 0 where
     pub moves : Moves x out y
     pub idle : out ≡ [] → y ≡ x

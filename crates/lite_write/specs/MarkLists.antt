@@ -23,7 +23,7 @@ abbrev pub is_taken_wait : WriteMark → Bool
 is_taken_wait WriteMark.pending = true
 is_taken_wait m = false
 
--- how many pendings a reader told, and a writer answered
+-- how many pendings a reader told
 abbrev pub waits_told : List ReadMark → ℕ
 waits_told l = length (filter is_told_wait l)
 

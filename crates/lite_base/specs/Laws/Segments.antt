@@ -103,6 +103,7 @@ module _ {M A I O : Type 0} {shows : A → I} {takes : M → A → M → Type 0}
 
 -- where the last of each segment is one answer
 module _ {M A I O : Type 0} (shows : A → I) (takes : M → A → M → Type 0) (gives : Question M I O) where
+  -- one segment, whose last is one answer
   abbrev ByAnswers : Question M (List I) O
   ByAnswers = Segment shows takes (OneAnswer gives)
 

@@ -15,6 +15,7 @@ use Rattle.lite_bridge.specs.Put.{Puts}
 use Rattle.lite_bridge.specs.declared.cursor.Cursor.{Cursor}
 
 module _ {T : Type 0} (bytes : T → List ℕ) where
+  -- what is known of a cursor: the bytes from its position on are left
   abbrev pub cursor_known : Known (Cursor T)
   cursor_known =
       record {
@@ -38,6 +39,7 @@ module _ {T : Type 0} (bytes : T → List ℕ) (puts : T → ℕ → List ℕ �
   PutsBytes = ((x y : T) (at : ℕ) (new : List ℕ) → puts x at new y → Puts (bytes x) at new (bytes y))
       × ((x y : T) → refuses x y → bytes y ≡ bytes x)
 
+  -- the position is behind the last byte
   abbrev pub CursorAtEnd : Cursor T → Type 0
   CursorAtEnd x = x.position ≡ length (bytes x.inner)
 

@@ -126,6 +126,7 @@ spends_steady remaining =
       found = λ n. absurd n;
     }
 
+-- two writers whose contents are both known and the same, or both unknown
 abbrev OneContents : Option (List ℕ) → Option (List ℕ) → Type 0
 OneContents x y = (known_bytes x ≡ known_bytes y) × SameKnown x y
 

@@ -76,6 +76,7 @@ module _ {R S : Type 0} (k : Known R) (j : Known S) where
   abbrev pub ChainKnows : Chain R S → Type 0
   ChainKnows x = k.knows x.first × j.knows x.second × (x.has_ended ≡ true → k.left x.first ≡ [])
 
+  -- what is left of two readers, one after the other
   abbrev pub chain_left : Chain R S → List ℕ
   chain_left x = k.left x.first ++ j.left x.second
 

@@ -32,10 +32,13 @@ Steady like same fold agree = FoldSteadyLaws like fold fold ⊤ agree same
 
 module _ {M A R : Type 0} (like : A → A → Type 0) (same : R → R → Type 0) (fold : Fold M A R)
     (agree : M → M → Type 0) where
+  -- folds that agree, asked about items that are alike: both go on and agree, or both decide for values that are the
+  -- same
   abbrev pub SameAsked : Type 0
   SameAsked = (p k q l : M) (x w : A) (o u : Option R) → agree p k → like x w → fold.asks p x o q → fold.asks k w u l
       → SameDecision same (agree q l) o u
 
+  -- folds that agree close with values that are the same
   abbrev SameClosed : Type 0
   SameClosed = (p k q l : M) (r t : R) → agree p k → fold.closes p r q → fold.closes k t l → same r t
 
@@ -44,6 +47,7 @@ steady : {M A R : Type 0} {like : A → A → Type 0} {same : R → R → Type 0
     → Steady like same fold agree
 steady {fold = fold} asks closes = record { asks = asks; closes = closes; found = within_itself fold }
 
+-- the two are equal
 abbrev Equal : {R : Type 0} → R → R → Type 0
 Equal r t = r ≡ t
 
@@ -55,6 +59,7 @@ matched {like = like} {same = same} {call = call} = agree_from_matches like same
 
 -- by tests that agree
 module _ {F A : Type 0} (like : A → A → Type 0) (test : Question F A Bool) where
+  -- tests that agree on items that are alike
   abbrev Tests : F → F → Type 0
   Tests = AgreeFrom like Equal test
 
@@ -91,9 +96,11 @@ module _ {A : Type 0} (like : Sameness A) where
   both_some : {x w : A} {r t : Option A} → SameItem like x w → r ≡ Some x → t ≡ Some w → SameItem (Optional like) r t
   both_some {x} {w} e c d = rw (c, d) (optional_same like (Some x) (Some w) (same_answer like x w e))
 
+  -- as SameAsked, of a fold whose value is one of the items, or none
   abbrev ItemAsked : {M : Type 0} → Fold M A (Option A) → (M → M → Type 0) → Type 0
   ItemAsked = SameAsked (SameItem like) (SameItem (Optional like))
 
+  -- as Steady, of a fold whose value is one of the items, or none
   abbrev ItemSteady : {M : Type 0} → Fold M A (Option A) → (M → M → Type 0) → Type 0
   ItemSteady = Steady (SameItem like) (SameItem (Optional like))
 
@@ -202,6 +209,7 @@ module _ {F A : Type 0} (like : A → A → Type 0) (call : Question F A (Unit {
 
 -- where items are the same by a relation: any fold, from kin of which both decide at an item, or none does
 module _ {M A R : Type 0} (like : A → A → Type 0) (fold : Fold M A R) where
+  -- folders that are kin, of which both decide at an item, or none does
   abbrev Deciding : M → M → Type 0
   Deciding p k = AgreeDeciding (Sameness.by like) Equal fold p k
 

@@ -52,6 +52,7 @@ both_there none (Some c) None h g e d = cc
 both_there none (Some c) (Some b) h g e d = none c b e d
 
 module _ {C T : Type 0} (like : Sameness T) (holds : C → List T → Type 0) where
+  -- two collections hold items that are the same
   abbrev HoldsLike : C → C → Type 0
   HoldsLike = HoldsSame like holds
 
@@ -99,9 +100,11 @@ module _ {A E : Type 0} where
   not_ok (Sameness.by same) P x e u h = (u.1 x e).1 h
 
 module _ {C T E : Type 0} (like : Sameness (Result T E)) (holds : C → List T → Type 0) where
+  -- two collections hold what is in Oks that are the same
   abbrev HoldsAlike : C → C → Type 0
   HoldsAlike = HoldsSame (SameOk like) holds
 
+  -- two folders of `try_collect`: both hold collections of what is the same, or none does
   abbrev Tries : Option C → Option C → Type 0
   Tries p k = Unmixed like (OptionBy HoldsAlike p k)
 
@@ -131,9 +134,11 @@ module _ {C T E : Type 0} (like : Sameness (Result T E)) (holds : C → List T �
 
 -- by tests that agree
 module _ {B T P : Type 0} (like : Sameness T) (holds : B → List T → Type 0) (test : Question P T Bool) where
+  -- two pairs of collections, each part of which holds items that are the same
   abbrev HoldBoth : B × B → B × B → Type 0
   HoldBoth = HoldsSameBoth like like holds holds
 
+  -- two folders of `partition`: their tests agree, and they hold pairs that are the same, or nothing
   abbrev Sorts : P × Option (B × B) → P × Option (B × B) → Type 0
   Sorts p k = AgreeFrom (SameItem like) (λ y z. y ≡ z) test p.0 k.0 × OptionBy HoldBoth p.1 k.1
 
@@ -186,6 +191,7 @@ module _ {C D A B : Type 0} (holds_first : C → List A → Type 0) (holds_secon
   no_parts (Sameness.by same) c d h k g j = ([], [], (h, k), (g, j), tt)
 
   module _ (like : Sameness (A × B)) where
+    -- two pairs of collections that hold the parts of pairs that are the same
     abbrev SamePairs : C × D → C × D → Type 0
     SamePairs = HoldsSameParts like holds_first holds_second
 

@@ -60,6 +60,7 @@ told_known held = record {
   tells = λ x y l k h. (tt, told_spends (held x) (held y) l h);
 }
 
+-- what is known of a reader that is lent is what is known of the reader
 abbrev pub lent_known : {S : Type 0} → Known S → Known (MutBor S)
 lent_known {S} k = record {
   told = Lent k.told;

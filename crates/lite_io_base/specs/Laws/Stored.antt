@@ -23,6 +23,7 @@ grows_stored held = record {
   tells = λ x y l k h. (tt, grows_all IsRefusal (held x) (held y) l h);
 }
 
+-- what a writer that is lent stores is what the writer stores
 abbrev pub lent_stored : {S : Type 0} → Stored S → Stored (MutBor S)
 lent_stored {S} k = record {
   told = Lent k.told;

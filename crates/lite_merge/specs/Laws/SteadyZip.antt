@@ -47,6 +47,7 @@ module _ {A B : Type 0} where
       (λ i j l r. (strip l, refl, r)) (λ x i j b l r. r) f
 
   module _ (same : Sameness A) (other : Sameness B) where
+    -- the pairs of two runs are the same, as far as both go
     abbrev Out : List (Option (A × B)) → List (Option (A × B)) → Type 0
     Out = ComparableBy (SameAnswer (Pairwise same other))
 

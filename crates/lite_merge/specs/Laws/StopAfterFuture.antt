@@ -123,14 +123,14 @@ module _ {F A R : Type 0} {run : Runs (Poll R) F} (laws : FutureLaws run) where
   stops_join (Holding f) TakenOut k i j l m h d = absurd h
 
   -- what goes out is what came in, and then ends; where it was stopped by a value the first of them came in its row
-  with_ends : (f g : Stopping F R) (i o : List (Answer A)) → StopsBy run f i o g → (later : List (Answer A))
+  ends_behind : (f g : Stopping F R) (i o : List (Answer A)) → StopsBy run f i o g → (later : List (Answer A))
       × AllEnds later × (o ≡ i ++ later)
-  with_ends TakenOut g i o h = ([], tt, h.0 ∙ sym (append-nil i))
-  with_ends (Stopped r) g i o h = (o, h.1, ap (λ l. l ++ o) (sym h.0))
-  with_ends (Holding f) (Holding g) i o h = ([], tt, h.2 ∙ sym (append-nil i))
-  with_ends (Holding f) (Stopped (Some value)) i o h = (end ∷ h.later, (refl, h.ends), h.joined)
-  with_ends (Holding f) (Stopped None) i o h = (h.later, h.ends, h.joined)
-  with_ends (Holding f) TakenOut i o h = absurd h
+  ends_behind TakenOut g i o h = ([], tt, h.0 ∙ sym (append-nil i))
+  ends_behind (Stopped r) g i o h = (o, h.1, ap (λ l. l ++ o) (sym h.0))
+  ends_behind (Holding f) (Holding g) i o h = ([], tt, h.2 ∙ sym (append-nil i))
+  ends_behind (Holding f) (Stopped (Some value)) i o h = (end ∷ h.later, (refl, h.ends), h.joined)
+  ends_behind (Holding f) (Stopped None) i o h = (h.later, h.ends, h.joined)
+  ends_behind (Holding f) TakenOut i o h = absurd h
 
   came_of : (i later : List (Answer A)) (l : List A) → AllEnds later → items l ≡ i ++ later → i ≡ items l
   came_of i [] l h e = sym (e ∙ append-nil i)
@@ -140,13 +140,14 @@ module _ {F A R : Type 0} {run : Runs (Poll R) F} (laws : FutureLaws run) where
   stops_relating =
       record {
         following = record { starts = stops_rest A laws; empty = stops_stay; joins = stops_join };
-        bounds = λ f g i o h. let e = with_ends f g i o h in rw e.2 (ends_bounded i e.0 e.1);
-        lowers = λ f g i o xs ys h k. let e = with_ends f g i o h in rw e.2 (ends_lower i e.0 xs ys e.1 k);
-        from_items = λ f g i y l h. let e = with_ends f g i (items (y ∷ l)) h in (y, l, came_of i e.0 (y ∷ l) e.1 e.2);
+        bounds = λ f g i o h. let e = ends_behind f g i o h in rw e.2 (ends_bounded i e.0 e.1);
+        lowers = λ f g i o xs ys h k. let e = ends_behind f g i o h in rw e.2 (ends_lower i e.0 xs ys e.1 k);
+        from_items = λ f g i y l h.
+            let e = ends_behind f g i (items (y ∷ l)) h in (y, l, came_of i e.0 (y ∷ l) e.1 e.2);
       }
 
   pub stops_calming : Calming (StopsBy {A = A} run)
-  stops_calming f g i o h = let e = with_ends f g i o h in rw e.2 (ends_calm i e.0 e.1)
+  stops_calming f g i o h = let e = ends_behind f g i o h in rw e.2 (ends_calm i e.0 e.1)
 
 module _ {S F A R : Type 0} {run : Runs (Answer A) S} {hints : Hints S} {run' : Runs (Poll R) F}
     (laws : StreamLaws run hints) (laws' : FutureLaws run') where

@@ -77,9 +77,11 @@ MakesOne {A} same makes = (xs : List ℕ) (r s : Result A Error) → makes xs r 
 
 module _ {A : Type 0} {same : A → A → Type 0} {whole final : List ℕ → Result A Error → Type 0}
     (one : MakesOne same whole) (end : MakesOne same final) where
+  -- what one ready answer of a stream of pieces is: a piece, an error or an end
   abbrev PieceItem : Type 0
   PieceItem = Option (Result A Error)
 
+  -- of a cut and the bytes before it the answer, and the bytes that are held then
   abbrev PieceMade : Cut → List ℕ → PieceItem → List ℕ → Type 0
   PieceMade = Itemised whole final
 

@@ -25,6 +25,7 @@ use Rattle.lite_read.specs.declared.read_until.ReadUntilFuture.{ReadUntilFuture}
 abbrev pub SameVec : Vec ℕ Global → Vec ℕ Global → Type 0
 SameVec v w = v.items ≡ w.items
 
+-- two texts of the same bytes
 abbrev pub SameText : String Global → String Global → Type 0
 SameText s t = string_bytes s ≡ string_bytes t
 

@@ -19,6 +19,7 @@ use Rattle.lite_read.specs.Laws.Bytes.{bytes_laws}
 use Rattle.lite_read.specs.Deterministic.{SameByKind}
 use Rattle.lite_read.specs.declared.bytes.Bytes.{Bytes}
 
+-- what one ready answer of a stream of bytes is: a byte, an error or an end
 abbrev ByteItem : Type 0
 ByteItem = Option (Result ℕ Error)
 
@@ -49,6 +50,7 @@ said (ReadMark.fault kind ∷ i) (Ready (Some (Err e)) ∷ l) h =
 said (ReadMark.end ∷ i) (Ready None ∷ l) h = (strip l, refl, said i l h.1)
 said _ _ h = absurd assumption
 
+-- two lists of ready answers of bytes are the same, errors by their kinds, as far as both go
 abbrev SameBytes : List ByteItem → List ByteItem → Type 0
 SameBytes = ComparableBy (OptionBy SameByKind)
 

@@ -35,6 +35,7 @@ appends_deterministic start =
     (λ p q r l v w h k. (one_value start p l v w h.0 k.0, h.1 ∙ sym k.1))
 
 module _ {R A : Type 0} where
+  -- the bytes that stand in the vector
   abbrev bytes_held : ReadToEndFuture R A → List ℕ
   bytes_held x = x.buf.now.items
 

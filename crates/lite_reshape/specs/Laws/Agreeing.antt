@@ -65,6 +65,7 @@ skips_match like n m p q x w y z e s a c = omega arith
 
 -- from predicates that agree, or none
 module _ {F A : Type 0} (test : Question F A Bool) (like : Sameness A) where
+  -- predicates that agree on items that are the same
   abbrev TestsAgree : F → F → Type 0
   TestsAgree = AgreeFrom (SameItem like) (λ y z. y ≡ z) test
 

@@ -184,6 +184,7 @@ module _ {S B A : Type 0} (run : Runs (Answer A) B) (outer : Runs (Answer B) S) 
 
 module _ {B A : Type 0} (run : Runs (Answer A) B) (n : ℕ) (rank : B → List ℕ)
     (sized : (b : B) → length (rank b) ≡ n) where
+  -- the rank of the inner stream that is held, or zeros where none is
   abbrev Inner : Option B → List ℕ
   Inner = inner_rank n rank
 

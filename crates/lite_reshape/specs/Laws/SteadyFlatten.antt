@@ -20,6 +20,7 @@ use Rattle.lite_stream.specs.Laws.Through.{Entails, through_runs}
 use Rattle.lite_stream.specs.Through.{AdapterParts, Adapts}
 
 module _ {A : Type 0} where
+  -- among ready answers: each is an item
   abbrev AllItems : List (Option A) → Type 0
   AllItems [] = ⊤
   AllItems (None ∷ l) = ⊥
@@ -72,6 +73,7 @@ module _ {B A : Type 0} (run : Runs (Answer A) B) where
       (λ i l k. (strip l, refl, k)) (λ b i a l k. (b, tt, refl, k)) held
 
   module _ (same : Sameness A) {alike : B → B → Type 0} (steady : SteadinessBy (SameAnswer same) run alike) where
+    -- two lists of ready answers are the same, as far as both go
     abbrev Go : List (Option A) → List (Option A) → Type 0
     Go = ComparableBy (SameAnswer same)
 

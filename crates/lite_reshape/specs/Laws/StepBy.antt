@@ -36,9 +36,11 @@ is_at_later : (p : ℕ × ℕ) (n d : ℕ) → d % p.0 ≡ 0 → IsAt p n → Is
 is_at_later p n d e h = (h.0, ap (λ k. k % p.0) (omega arith) ∙ past_multiple p.0 (n + p.1) d e ∙ h.1)
 
 module _ {A : Type 0} (s : ℕ) where
+  -- one item of `step_by`, by how many are still to be left out before the next
   abbrev NumberSteps : ℕ → A → Option A → ℕ → Type 0
   NumberSteps = Numbered s
 
+  -- the same, beside the step, which stays
   abbrev CountsItems : ℕ × ℕ → A → Option A → ℕ × ℕ → Type 0
   CountsItems = Countdown
 

@@ -29,6 +29,7 @@ iter_alike can gives remaining agree step =
 
 -- what is left comes off its front, until nothing is
 module _ {I A : Type 0} (left : I → List A) where
+  -- one item comes off the front of what is left, or nothing is left and nothing changes
   abbrev FromFront : I → Option A → I → Type 0
   FromFront i r p = MatchOption r ((length (left i) ≡ 0) × (p ≡ i)) (λ x. left i ≡ x ∷ left p)
 
@@ -76,6 +77,7 @@ module _ {A : Type 0} where
 -- one value has one that follows it
 module _ {A : Type 0} (gap : A → A → ℕ) (follows : A → A → Type 0)
     (one : (x y z : A) → follows x y → follows x z → y ≡ z) where
+  -- two ranges of numbers with the same start and the same end
   abbrev SameEnds : Range A → Range A → Type 0
   SameEnds i j = (i.start ≡ j.start) × (i.end ≡ j.end)
 

@@ -16,6 +16,8 @@ module _ {F A B : Type 0} where
       (f k g l : F) (i j : List (Answer A)) (o p : List (Answer B)) → agree f k → relates f i o g → relates k j p l
       → ComparableBy like (strip i) (strip j) → ComparableBy same (strip o) (strip p)
 
+  -- an adapter hands on what is the same: where answers are the same by `like` that came in, those that went out are
+  -- by `same`
   abbrev pub AgreeingOver : Sameness A → Sameness B
       → Relates F A B → (F → F → Type 0) → Type 0
   AgreeingOver like same = AgreeingFrom (SameAnswer like) (SameAnswer same)

@@ -10,6 +10,7 @@ use Rattle.lite_stream.specs.Laws.Calming.{Calming}
 use Rattle.lite_stream.specs.Laws.Cutting.{cuts_agreeing, cuts_calming, cuts_relating}
 use Rattle.lite_stream.specs.Laws.Through.{Relating, relating_by}
 
+-- an answer that is an end
 abbrev pub is_end : {A : Type 0} → Answer A → Bool
 is_end Pending = false
 is_end (Ready None) = true
@@ -19,6 +20,7 @@ is_end (Ready (Some x)) = false
 abbrev pub is_over_after : Bool → Type 0
 is_over_after ended = ended ≡ true
 
+-- whether this answer is an end, whatever came before
 abbrev pub ended_after : {A : Type 0} → Answer A → Bool → Bool
 ended_after b before = is_end b
 

@@ -29,9 +29,11 @@ pub held_by : {C A : Type 0} (holds : C → List A → Type 0) (o : Option C) (l
 held_by holds o l c h e = let same : c ≡ h.0 = cc h.1 in rw same h.2
 
 module _ {N C A : Type 0} (holds : C → List A → Type 0) (part : N → Option C) where
+  -- the value of a collection: it, or a refusal
   abbrev CollectResult : Type 0
   CollectResult = Result C (Refused C A)
 
+  -- the fold that collects, of a folder that holds the collection in a part of it
   abbrev Gathering : Fold N A CollectResult
   Gathering = fold_of part (collects ⊤ holds)
 

@@ -27,7 +27,8 @@ use Rattle.lite_write.specs.MarkLists.{BytesAlone, TakesSome, TakesUpTo, TellsUp
 use Rattle.lite_write.specs.MarkLists.{is_told_wait}
 use Rattle.lite_write.specs.declared.copy.CopyFuture.{CopyFuture}
 
-abbrev CopyResult : Type 0
+-- the value of a copy: how many bytes, or an error
+abbrev pub CopyResult : Type 0
 CopyResult = Result ℕ Error
 
 pub told_both : (l m : List ReadMark) → bytes_told (l ++ m) ≡ bytes_told l ++ bytes_told m

@@ -24,15 +24,12 @@ use Rattle.lite_read.specs.Deterministic.{SameByKind}
 use Rattle.lite_write.specs.Laws.SteadyWriteAll.{without_failure_laws, no_failure_both, no_failure_last}
 use Rattle.lite_write.specs.SteadyWriteAll.{NoFailure, NoneFails, WithoutFailure}
 use Rattle.lite_write.specs.Copy.{CopyRuns, CopyValue, Moves}
-use Rattle.lite_write.specs.Laws.Copy.{copies_laws, ok_value, told_both}
+use Rattle.lite_write.specs.Laws.Copy.{CopyResult, copies_laws, ok_value, told_both}
 use Rattle.lite_write.specs.MarkLists.{BytesAlone, TakesSome, bytes_told, waits_taken, waits_told}
 use Rattle.lite_write.specs.Parts.{held_of, met_in, source_of}
 use Rattle.lite_write.specs.declared.copy.CopyFuture.{CopyFuture}
 use Rattle.lite_write.specs.declared.copy.Phase.{Phase}
 use Rattle.lite_write.specs.declared.copy.Phase.TheVariants.{Copying, Flushing}
-
-abbrev SteadyCopyResult : Type 0
-SteadyCopyResult = Result ℕ Error
 
 -- bytes and pendings, without the pendings
 goes_stripped : (l : List ReadMark) → BytesAlone l → strip_marks l ≡ bytes (bytes_told l)
@@ -42,16 +39,16 @@ goes_stripped (ReadMark.pending ∷ l) g = goes_stripped l g
 goes_stripped (_ ∷ l) g = absurd g
 
 -- the mark at which the value stops: an end, or an error
-abbrev stop_of : SteadyCopyResult → ReadMark
+abbrev stop_of : CopyResult → ReadMark
 stop_of (Ok n) = ReadMark.end
 stop_of (Err e) = ReadMark.fault (error_kind e)
 
-stops_not : (v : SteadyCopyResult) (x : ℕ) → stop_of v ≡ ReadMark.byte x → ⊥
+stops_not : (v : CopyResult) (x : ℕ) → stop_of v ≡ ReadMark.byte x → ⊥
 stops_not (Ok n) x e = cc
 stops_not (Err e) x h = cc
 
 -- two tales of some bytes and then a stop, of which one begins the other
-one_stop : (v w : SteadyCopyResult) (xs ys : List ℕ)
+one_stop : (v w : CopyResult) (xs ys : List ℕ)
     → Comparable (bytes xs ++ stop_of v ∷ []) (bytes ys ++ stop_of w ∷ []) → (xs ≡ ys) × (stop_of v ≡ stop_of w)
 one_stop v w [] [] c = (refl, c.0)
 one_stop v w [] (y ∷ ys) c = absurd (stops_not v y c.0)
@@ -62,21 +59,21 @@ one_stop v w (x ∷ xs) (y ∷ ys) c =
     (rw (same, rest.0), rest.1)
 
 -- how many bytes a value of Ok counts
-abbrev OkCounts : SteadyCopyResult → ℕ → List ℕ → Type 0
+abbrev OkCounts : CopyResult → ℕ → List ℕ → Type 0
 OkCounts (Ok n) held xs = n ≡ (held + length xs) % 2 ^ 64
 OkCounts (Err e) held xs = ⊤
 
 -- what the value says of the tale: all bytes up to its stop
-abbrev TaleOfValue : SteadyCopyResult → ℕ → List ReadMark → Type 0
+abbrev TaleOfValue : CopyResult → ℕ → List ReadMark → Type 0
 TaleOfValue v held tale = (xs : List ℕ) × (strip_marks tale ≡ bytes xs ++ stop_of v ∷ []) × OkCounts v held xs
 
-same_value : (v w : SteadyCopyResult) (held : ℕ) (xs ys : List ℕ) → (xs ≡ ys) × (stop_of v ≡ stop_of w)
+same_value : (v w : CopyResult) (held : ℕ) (xs ys : List ℕ) → (xs ≡ ys) × (stop_of v ≡ stop_of w)
     → OkCounts v held xs → OkCounts w held ys → SameByKind v w
 same_value (Ok n) (Ok k) held xs ys both h g = cc
 same_value (Err e) (Err f) held xs ys both h g = cc both.1
 same_value _ _ held xs ys both h g = absurd (cc both.1)
 
-same_told : (v w : SteadyCopyResult) (held : ℕ) (i j : List ReadMark) → TaleOfValue v held i → TaleOfValue w held j
+same_told : (v w : CopyResult) (held : ℕ) (i j : List ReadMark) → TaleOfValue v held i → TaleOfValue w held j
     → Comparable (strip_marks i) (strip_marks j) → SameByKind v w
 same_told v w held i j h g c =
     same_value v w held h.0 g.0 (one_stop v w h.0 g.0 (rw (← g.1, ← h.1) c)) h.2 g.2
@@ -86,11 +83,11 @@ no_bytes Copying = refl
 no_bytes Flushing = refl
 
 -- the one value, if there is one, says so
-abbrev AllTold : List SteadyCopyResult → ℕ → List ReadMark → Type 0
+abbrev AllTold : List CopyResult → ℕ → List ReadMark → Type 0
 AllTold [] held tale = ⊤
 AllTold (v ∷ l) held tale = TaleOfValue v held tale × (l ≡ [])
 
-stopped : (read tale : List ReadMark) (v : SteadyCopyResult) → BytesAlone read → tale ≡ read ++ stop_of v ∷ []
+stopped : (read tale : List ReadMark) (v : CopyResult) → BytesAlone read → tale ≡ read ++ stop_of v ∷ []
     → strip_marks tale ≡ bytes (bytes_told read) ++ stop_of v ∷ []
 stopped read tale (Ok n) on cut = rw (cut, strip_marks-append, goes_stripped read on)
 stopped read tale (Err e) on cut = rw (cut, strip_marks-append, goes_stripped read on)
@@ -120,15 +117,18 @@ module _ {R W : Type 0} where
   CopyAlike alike x y = alike (source_of x) (source_of y) × (held_of x ≡ held_of y) × (met_in x.phase ≡ met_in y.phase)
       × (x.amount ≡ y.amount)
 
+  -- what the reader told in all: an end that was met before, and then this
   abbrev tale_of : CopyFuture R W → List ReadMark → List ReadMark
   tale_of x told = met_in x.phase ++ told
 
+  -- how many bytes were read before: those that were written and those that are held
   abbrev before_of : CopyFuture R W → ℕ
   before_of x = x.amount + length (held_of x)
 
   module _ {reads : Runs ReadMark R} {writes : Runs WriteMark W} (x y : CopyFuture R W)
-      (out : List (Poll SteadyCopyResult))
+      (out : List (Poll CopyResult))
       (h : Moves reads (WithoutFailure writes) x out y) where
+    -- what the reader told
     abbrev read : List ReadMark
     read = h.copied.reading.read
 
@@ -163,7 +163,7 @@ module _ {R W : Type 0} where
         let cut = c.reading.cut ∙ ap (λ k. read ++ (k ++ c.failed)) f.1 ∙ ap (λ k. read ++ k) f.0 in
         (bytes_told read, stopped read _ (Err e) c.reading.goes_on cut, tt)
 
-    told_at : (given : List SteadyCopyResult)
+    told_at : (given : List CopyResult)
         → CopyValue given h.copied.failed h.copied.last (held_of y) (met_in y.phase) y.amount
         → AllTold given (before_of x) (tale_of x h.told)
     told_at [] a = tt
@@ -174,7 +174,7 @@ module _ {R W : Type 0} where
     all_told : AllTold (strip out) (before_of x) (tale_of x h.told)
     all_told = told_at _ h.copied.value
 
-all_same : (l m : List SteadyCopyResult) (held : ℕ) (i j : List ReadMark) → AllTold l held i → AllTold m held j
+all_same : (l m : List CopyResult) (held : ℕ) (i j : List ReadMark) → AllTold l held i → AllTold m held j
     → Comparable (strip_marks i) (strip_marks j)
     → ComparableBy SameByKind l m
 all_same (v ∷ l) (w ∷ m) held i j h g c = rw h.1 (same_told v w held i j h.0 g.0 c, tt)
@@ -182,7 +182,7 @@ all_same _ _ held i j h g c = tt
 
 -- what is copied of other runs by the same marks
 moves_by : {R W : Type 0} {reads ample : Runs ReadMark R} {writes wins : Runs WriteMark W} {x y : CopyFuture R W}
-    {out : List (Poll SteadyCopyResult)} (m : Moves reads writes x out y) → ample (source_of x) m.told (source_of y)
+    {out : List (Poll CopyResult)} (m : Moves reads writes x out y) → ample (source_of x) m.told (source_of y)
     → wins x.writer m.took y.writer → Moves ample wins x out y
 moves_by m came went =
     record { told = m.told; took = m.took; came = came; went = went; copied = m.copied; counted = m.counted }
@@ -244,7 +244,7 @@ takes_without_failure (WriteMark.pending ∷ l) h = takes_without_failure l h
 takes_without_failure (_ ∷ l) h = absurd h
 
 -- where the value is Ok, a flush came last
-last_no_failure : (v : SteadyCopyResult) (fault : List ReadMark) (last : List WriteMark) (after : List ℕ)
+last_no_failure : (v : CopyResult) (fault : List ReadMark) (last : List WriteMark) (after : List ℕ)
     (met : List ReadMark) (total : ℕ) → IsOk v
     → CopyValue (v ∷ []) fault last after met total → NoFailure last
 last_no_failure (Ok n) fault last after met total ok h = rw ((ok_value after met total n fault last h).1) tt
@@ -252,7 +252,7 @@ last_no_failure (Err e) fault last after met total ok h = cc
 
 module _ {R W : Type 0} {reads ample : Runs ReadMark R} {writes : Runs WriteMark W} (found : AllAmple reads ample) where
   -- where the value is Ok no write failed
-  pub ok_no_failure : (x : CopyFuture R W) (l : List (Poll SteadyCopyResult)) (v : SteadyCopyResult) → IsOk v
+  pub ok_no_failure : (x : CopyFuture R W) (l : List (Poll CopyResult)) (v : CopyResult) → IsOk v
       → Finishes (CopyRuns reads writes) x l v
       → Finishes (CopyRuns ample (WithoutFailure writes)) x l v
   ok_no_failure x l v ok h =

@@ -14,6 +14,7 @@ use Rattle.lite_write.specs.PollSteps.{WritesSome}
 use Rattle.lite_write.specs.WriteAll.{HandsMarks, WritesAll}
 use Rattle.lite_write.specs.declared.write_all.WriteAllFuture.{WriteAllFuture}
 
+-- the value of a write of all bytes: nothing, or an error
 abbrev pub WriteAllResult : Type 0
 WriteAllResult = Result (Unit {0}) Error
 
