@@ -31,14 +31,16 @@ spends_follows x y z [] m h k = rw (← h) k
 spends_follows (a ∷ x) y z (ReadMark.byte b ∷ l) m h k = (h.0, spends_follows x y z l m h.1 k)
 spends_follows x y z (ReadMark.fault kind ∷ l) m h k = spends_follows x y z l m h k
 spends_follows x y z (ReadMark.end ∷ l) m h k = (h.0, spends_follows x y z l m h.1 k)
-spends_follows _ y z _ m h k = absurd assumption
+spends_follows [] y z (ReadMark.byte b ∷ l) m h k = absurd h
+spends_follows x y z (ReadMark.pending ∷ l) m h k = absurd h
 
 spends_no_wait : (x y : List ℕ) (l : List ReadMark) → SpendsBytes x l y → NoPendingRead l
 spends_no_wait x y [] h = tt
 spends_no_wait (a ∷ x) y (ReadMark.byte b ∷ l) h = spends_no_wait x y l h.1
 spends_no_wait x y (ReadMark.fault kind ∷ l) h = spends_no_wait x y l h
 spends_no_wait x y (ReadMark.end ∷ l) h = spends_no_wait x y l h.1
-spends_no_wait _ y _ h = absurd assumption
+spends_no_wait [] y (ReadMark.byte b ∷ l) h = absurd h
+spends_no_wait x y (ReadMark.pending ∷ l) h = absurd h
 
 -- runs from what is known, of which none waits
 module _ {M : Type 0} {NoWait : List M → Type 0} {run : Runs M (List ℕ)} (none : NoWait [])
@@ -57,7 +59,8 @@ module _ {M : Type 0} {NoWait : List M → Type 0} {run : Runs M (List ℕ)} (no
       → WhereKnown NoWait run x (l ++ m) z
   known_follows None y z l m h k = both l m h (known_no_wait y z m k)
   known_follows (Some xs) (Some ys) (Some zs) l m h k = laws.follows xs ys zs l m h k
-  known_follows _ _ _ l m h k = absurd assumption
+  known_follows (Some xs) None z l m h k = absurd h
+  known_follows (Some xs) (Some ys) None l m h k = absurd k
 
   module _ {S : Type 0} (known : S → Option (List ℕ)) where
     known_laws : MarkLaws (λ x l y. WhereKnown NoWait run (known x) l (known y))
@@ -100,7 +103,9 @@ spends_told x y [] h n = ap bytes h
 spends_told (a ∷ x) y (ReadMark.byte b ∷ l) h n = (ap ReadMark.byte h.0, spends_told x y l h.1 n)
 spends_told [] y (ReadMark.end ∷ l) h n = (refl, spends_told [] y l h.1 n)
 spends_told (a ∷ x) y (ReadMark.end ∷ l) h n = absurd (cc h.0)
-spends_told _ y _ h n = absurd assumption
+spends_told [] y (ReadMark.byte b ∷ l) h n = absurd h
+spends_told x y (ReadMark.pending ∷ l) h n = absurd h
+spends_told x y (ReadMark.fault kind ∷ l) h n = absurd n
 
 known_one_tale : (x x' y z : Option (List ℕ)) (l m : List ReadMark) → SameKnown x x' → SpendsWell x l y
     → SpendsWell x' m z
@@ -108,7 +113,9 @@ known_one_tale : (x x' y z : Option (List ℕ)) (l m : List ReadMark) → SameKn
 known_one_tale (Some xs) (Some ys) (Some y) (Some z) l m e h k =
     told_one_tale (bytes xs) (bytes ys) (bytes y) (bytes z) l m (rw e) (spends_told xs y l h.0 h.1)
     (spends_told ys z m k.0 k.1)
-known_one_tale _ _ _ _ l m e h k = absurd assumption
+known_one_tale (Some xs) (Some ys) None z l m e h k = absurd h.0
+known_one_tale (Some xs) (Some ys) (Some y) None l m e h k = absurd k.0
+known_one_tale _ _ y z l m e h k = absurd e
 
 -- two readers of which the same bytes are known tell one tale, where no read failed
 pub spends_steady : {S : Type 0} (remaining : S → Option (List ℕ))
@@ -135,7 +142,9 @@ one_contents : (x y p q : Option (List ℕ)) (l m : List WriteMark) → SameKnow
 one_contents (Some xs) (Some ys) (Some ps) (Some qs) l m e h k same =
     let one : ps ≡ qs = rw (grows_all _ xs ps l h, grows_all _ ys qs m k, e, same) in
     (one, one)
-one_contents _ _ _ _ l m e h k same = absurd assumption
+one_contents (Some xs) (Some ys) None q l m e h k same = absurd h
+one_contents (Some xs) (Some ys) (Some ps) None l m e h k same = absurd k
+one_contents _ _ p q l m e h k same = absurd e
 
 -- the same bytes are known to be there, and are so after the same bytes
 pub gains_steady : {S : Type 0} (contents : S → Option (List ℕ))
@@ -159,7 +168,8 @@ spends_moved (r ∷ room) [] ys none = (none refl (omega arith), refl)
 keeps_trans : (x y z : Option (List ℕ)) → Keeps x y → Keeps y z → Keeps x z
 keeps_trans None y z h k = tt
 keeps_trans (Some xs) (Some ys) (Some zs) h k = k ∙ h
-keeps_trans _ _ _ h k = absurd assumption
+keeps_trans (Some xs) None z h k = absurd h
+keeps_trans (Some xs) (Some ys) None h k = absurd k
 
 pub read_spends : (x y z : Option (List ℕ)) (r : Result ℕ Error) (buf : List ℕ) → Keeps x y → ReadsAtMost r buf
     → ReadConsumes y z r buf
@@ -170,8 +180,9 @@ read_spends (Some xs) (Some ys) (Some zs) (Ok n) buf k b h =
     subst (λ t. SpendsBytes t (moved buf (take n buf)) zs) (sym h.0 ∙ k)
     (spends_moved buf (take n buf) zs (λ none room. h.1 (b.1 ∙ ap length none) room))
 read_spends (Some xs) (Some ys) (Some zs) (Err e) buf k b h = h ∙ k
-read_spends _ _ _ (Ok n) buf k b h = absurd assumption
-read_spends _ _ _ (Err e) buf k b h = absurd assumption
+read_spends (Some xs) None z r buf k b h = absurd k
+read_spends (Some xs) (Some ys) None (Ok n) buf k b h = absurd h.0
+read_spends (Some xs) (Some ys) None (Err e) buf k b h = absurd h
 
 pub write_gains : (x y z : Option (List ℕ)) (r : Result ℕ Error) (buf : List ℕ) → Keeps x y → WriteAppends y z r buf
     → GainsKnown x (write_marks (Ready r) buf) z
@@ -179,8 +190,9 @@ write_gains None y z (Ok n) buf k h = tt
 write_gains None y z (Err e) buf k h = tt
 write_gains (Some xs) (Some ys) (Some zs) (Ok n) buf k h = rw (h, k)
 write_gains (Some xs) (Some ys) (Some zs) (Err e) buf k h = (tt, h ∙ k)
-write_gains _ _ _ (Ok n) buf k h = absurd assumption
-write_gains _ _ _ (Err e) buf k h = absurd assumption
+write_gains (Some xs) None z r buf k h = absurd k
+write_gains (Some xs) (Some ys) None (Ok n) buf k h = absurd h
+write_gains (Some xs) (Some ys) None (Err e) buf k h = absurd h
 
 pub flush_gains : (x y z : Option (List ℕ)) (r : Result (Unit {0}) Error) → Keeps x y → Keeps y z
     → GainsKnown x (done_marks WriteMark.flushed (Ready r)) z
@@ -188,7 +200,8 @@ flush_gains None y z (Ok u) k h = tt
 flush_gains None y z (Err e) k h = tt
 flush_gains (Some xs) (Some ys) (Some zs) (Ok u) k h = h ∙ k
 flush_gains (Some xs) (Some ys) (Some zs) (Err e) k h = (tt, h ∙ k)
-flush_gains _ _ _ r k h = absurd assumption
+flush_gains (Some xs) None z r k h = absurd k
+flush_gains (Some xs) (Some ys) None r k h = absurd h
 
 -- a close is a flush
 pub close_gains : (x y : Option (List ℕ)) (r : Poll (Result (Unit {0}) Error))

@@ -57,7 +57,8 @@ module _ {R S : Type 0} (first : Runs ReadMark R) (second : Runs ReadMark S) whe
         second_ran = q.follows x.second y.second z.second h.after m h.second_ran k.0;
       }
   follows_at p q true true true x y z l m h k = (q.follows x.second y.second z.second l m h.0 k.0, k.1 ∙ h.1)
-  follows_at p q _ _ _ x y z l m h k = absurd assumption
+  follows_at p q true false c x y z l m h k = absurd h
+  follows_at p q a true false x y z l m h k = absurd k
 
   pub chains_laws : MarkLaws first → MarkLaws second → MarkLaws (ChainsReaders first second)
   chains_laws p q = record {

@@ -1,5 +1,5 @@
 -- The bytes that are to come from what is read through a buffer, up to a limit, and one after the other.
-use Rattle.std.proofs.Common.{◌≡◌, ◌∙◌, ◌<◌, ℕ, suc, Bool, true, false, List, [], ◌∷◌, ◌++◌, take, ap, refl}
+use Rattle.std.proofs.Common.{◌≡◌, ◌∙◌, ◌<◌, ℕ, zero, suc, Bool, true, false, List, [], ◌∷◌, ◌++◌, take, ap, refl}
 use Rattle.lite_io_base.specs.Known.{Known, TellsKnown}
 use Rattle.lite_io_base.specs.Laws.Known.{spends_both, spends_bytes, spends_front, spends_split}
 use Rattle.lite_io_base.specs.Marks.{ReadMark, bytes}
@@ -36,7 +36,8 @@ fits_spends (suc n) rest (ReadMark.byte b ∷ l) xs ys f h =
     (take n h.0, ap (take (suc n)) h.1, fits_spends n rest l h.0 ys f h.2)
 fits_spends (suc n) rest (ReadMark.pending ∷ l) xs ys f h = fits_spends _ rest l xs ys f h
 fits_spends (suc n) rest (ReadMark.end ∷ l) xs ys f h = (ap (take (suc n)) h.0, fits_spends _ rest l xs ys f h.1)
-fits_spends _ rest _ xs ys f h = absurd assumption
+fits_spends zero rest (m ∷ l) xs ys f h = absurd f
+fits_spends (suc n) rest (ReadMark.fault kind ∷ l) xs ys f h = absurd h
 
 ends_spends : (rest : ℕ) (l : List ReadMark) (ys : List ℕ) → LimitEnds rest l
     → TellsKnown (take rest ys) l (take rest ys)

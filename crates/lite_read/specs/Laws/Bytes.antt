@@ -40,7 +40,9 @@ tells_lower (ReadMark.fault k ∷ i) (Pending ∷ l) xs ys h f = Lowers-below l 
 tells_lower (ReadMark.fault k ∷ i) (Ready (Some r) ∷ l) xs ys h f = one_below _ xs ys f
 tells_lower (ReadMark.pending ∷ i) (Pending ∷ l) xs ys h f = tells_lower i l xs ys h.1 f
 tells_lower (ReadMark.end ∷ i) (Ready None ∷ l) xs ys h f = tells_lower i l xs ys h.1 f
-tells_lower _ _ xs ys h f = absurd assumption
+tells_lower [] (a ∷ l) xs ys h f = absurd h
+tells_lower (x ∷ i) [] xs ys h f = absurd h
+tells_lower _ _ xs ys h f = absurd h.0
 
 -- items are bytes and errors
 tells_items : (i : List ReadMark) (l : List (Result ℕ Error)) → TellsEach i (items l) → AllGiven i

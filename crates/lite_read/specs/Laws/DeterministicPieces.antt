@@ -96,7 +96,15 @@ module _ {A : Type 0} {same : A → A → Type 0} {whole final : List ℕ → Re
       (both_made final end xs ys r s e h.0 k.0, h.1 ∙ sym k.1)
   itemised_one Cut.nothing Cut.nothing held None None p q e h k = (tt, h ∙ sym k)
   itemised_one (Cut.failed a) (Cut.failed b) held (Some r) (Some s) p q e h k = rw (h.0, k.0) (e, h.1 ∙ sym k.1)
-  itemised_one _ _ held v w p q e h k = absurd assumption
+  itemised_one (Cut.piece xs) (Cut.piece ys) held None w p q e h k = absurd h
+  itemised_one (Cut.piece xs) (Cut.piece ys) held (Some r) None p q e h k = absurd k
+  itemised_one (Cut.last xs) (Cut.last ys) held None w p q e h k = absurd h
+  itemised_one (Cut.last xs) (Cut.last ys) held (Some r) None p q e h k = absurd k
+  itemised_one Cut.nothing Cut.nothing held (Some r) w p q e h k = absurd h
+  itemised_one Cut.nothing Cut.nothing held None (Some s) p q e h k = absurd k
+  itemised_one (Cut.failed a) (Cut.failed b) held None w p q e h k = absurd h
+  itemised_one (Cut.failed a) (Cut.failed b) held (Some r) None p q e h k = absurd k
+  itemised_one _ _ held v w p q e h k = absurd e
 
   pub items_deterministic : (byte : ℕ) → IsDeterministic (OptionBy (SameOr same)) (pieces byte ⊥ (Itemised whole final))
   items_deterministic byte = pieces_deterministic byte _ itemised_one

@@ -31,7 +31,8 @@ SameText s t = string_bytes s ≡ string_bytes t
 
 pub vec_one : MakesOne SameVec IsVec
 vec_one xs (Ok v) (Ok w) h k = h ∙ sym k
-vec_one xs _ _ h k = absurd assumption
+vec_one xs (Ok v) (Err e) h k = absurd k
+vec_one xs (Err e) r h k = absurd h
 
 pub text_one : MakesOne SameText IsText
 text_one xs (Ok s) (Ok t) h k = h ∙ sym k

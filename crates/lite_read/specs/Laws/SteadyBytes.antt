@@ -48,7 +48,9 @@ said (ReadMark.fault kind ∷ i) (Pending ∷ l) h = inl (h.0, said i l h.1)
 said (ReadMark.fault kind ∷ i) (Ready (Some (Err e)) ∷ l) h =
     inr (record { error = e; is = h.0.0; heard = h.0.1; after = strip l; cut = refl; more = (said i l h.1) })
 said (ReadMark.end ∷ i) (Ready None ∷ l) h = (strip l, refl, said i l h.1)
-said _ _ h = absurd assumption
+said [] (a ∷ l) h = absurd h
+said (m ∷ i) [] h = absurd h
+said _ _ h = absurd h.0
 
 -- two lists of ready answers of bytes are the same, errors by their kinds, as far as both go
 abbrev SameBytes : List ByteItem → List ByteItem → Type 0

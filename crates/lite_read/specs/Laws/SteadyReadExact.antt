@@ -1,5 +1,5 @@
 -- `read_exact` is steady over a steady reader, and calm over a calm one.
-use Rattle.std.proofs.Common.{◌≡◌, ◌∙◌, List, [], ◌∷◌, length, Result, Err, refl, sym, arith}
+use Rattle.std.proofs.Common.{◌≡◌, ◌∙◌, List, [], ◌∷◌, length, Result, Ok, Err, refl, sym, arith}
 use Rattle.std.specs.declared.io.Error.{Error}
 use Rattle.lite_base.specs.Calm.{CalmLaws}
 use Rattle.lite_base.specs.Alike.{Sameness}
@@ -27,7 +27,9 @@ one_value : (g : Filling) (l : List ReadMark) (v w : Result (Unit {0}) Error) �
 one_value g [] v w h k = rw (h.1, k.1)
 one_value g (ReadMark.end ∷ []) (Err e) (Err f) h k = h.1 ∙ sym k.1
 one_value g (ReadMark.fault kind ∷ []) (Err e) (Err f) h k = h.1 ∙ sym k.1
-one_value g _ v w h k = absurd assumption
+one_value g (ReadMark.end ∷ []) (Err e) (Ok u) h k = absurd k
+one_value g (ReadMark.fault kind ∷ []) (Err e) (Ok u) h k = absurd k
+one_value g _ v w h k = absurd h
 
 fills_deterministic : IsDeterministic SameByKind fills
 fills_deterministic =

@@ -27,7 +27,9 @@ one_value : (start : ℕ) (g : List ℕ) (l : List ReadMark) (v w : Result ℕ E
 one_value start g (ReadMark.end ∷ []) (Ok n) (Ok k) h j = omega (arith, h, j)
 one_value start g (ReadMark.fault kind ∷ []) (Err e) (Err f) h k = h ∙ sym k
 one_value start g [] (Err e) w h k = absurd h.0
-one_value start g _ v w h k = absurd assumption
+one_value start g (ReadMark.end ∷ []) (Ok n) (Err f) h k = absurd k
+one_value start g (ReadMark.fault kind ∷ []) (Err e) (Ok n) h k = absurd k
+one_value start g _ v w h k = absurd h
 
 pub appends_deterministic : (start : ℕ) → IsDeterministic SameByKind (appends ⊥ start)
 appends_deterministic start =

@@ -169,7 +169,8 @@ module _ {R W : Type 0} where
     told_at [] a = tt
     told_at (Ok n ∷ []) a = (ok_told n a, refl)
     told_at (Err e ∷ []) a = (err_told e a, refl)
-    told_at _ a = absurd assumption
+    told_at (Ok n ∷ v ∷ given) a = absurd a
+    told_at (Err e ∷ v ∷ given) a = absurd a
 
     all_told : AllTold (strip out) (before_of x) (tale_of x h.told)
     all_told = told_at _ h.copied.value

@@ -73,7 +73,8 @@ module _ {R S : Type 0} {first : Runs ReadMark R} {second : Runs ReadMark S} whe
         (s.steady x.first y.first x'.first y'.first l (k.before ++ ReadMark.end ∷ []) e h.0 (whole y y' m k))))
     one_tale false true true x y x' y' l m e d h k = both_cross x y x' y' l m e d h k
     one_tale true true true x y x' y' l m e d h k = t.steady x.second y.second x'.second y'.second l m d h.0 k.0
-    one_tale true _ _ x y x' y' l m e d h k = absurd assumption
+    one_tale true false c x y x' y' l m e d h k = absurd h
+    one_tale true true false x y x' y' l m e d h k = absurd k
 
     all_ample : none1 × none2 → (a b : Bool) (x y : Chain R S) (l : List ReadMark) → JoinsReaders first second a b x l y
         → JoinsReaders ample1 ample2 a b x l y

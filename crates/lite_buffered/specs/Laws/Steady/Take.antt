@@ -39,7 +39,8 @@ fronts_alike (suc n) r s (ReadMark.byte x ∷ p) (b ∷ q) e d f g h k c =
 fronts_alike (suc n) r s (a ∷ p) (b ∷ q) e d f g h k c =
     let same : WithinLimit (suc n) q s = subst (λ t. WithinLimit (suc n) (t ∷ q) s) (sym c.0) g in
     (c.0, fronts_alike _ r s p q e d f same h k c.1)
-fronts_alike _ r s _ _ _ d f g h k c = absurd assumption
+fronts_alike zero r s [] (b ∷ q) (x ∷ e) d f g h k c = absurd g
+fronts_alike zero r s (a ∷ p) q e d f g h k c = absurd f
 
 ends_no_wait : (rest : ℕ) (l : List ReadMark) → LimitEnds rest l → NoPendingRead l
 ends_no_wait rest [] h = tt
