@@ -16,7 +16,11 @@ waits [] = 0
 waits (Pending ∷ l) = waits l + 1
 waits (Ready x ∷ l) = waits l
 
--- no run of a calm value has a Pending, and each leaves a calm value
-pub record CalmLaws {S A : Type 0} (run : Runs (Poll A) S) (is_calm : S → Type 0) : Type 0 where
-  pub no_pending : (x y : S) (l : List (Poll A)) → is_calm x → run x l y → NoPending l
-  pub calm_on : (x y : S) (l : List (Poll A)) → is_calm x → run x l y → is_calm y
+-- no run of a calm value waits, and each leaves a calm value
+pub record CalmRuns {S A : Type 0} (NoWait : List A → Type 0) (run : Runs A S) (is_calm : S → Type 0) : Type 0 where
+  pub no_pending : (x y : S) (l : List A) → is_calm x → run x l y → NoWait l
+  pub calm_on : (x y : S) (l : List A) → is_calm x → run x l y → is_calm y
+
+-- no run of a calm stream or future has a Pending, and each leaves a calm one
+abbrev pub CalmLaws : {S A : Type 0} → Runs (Poll A) S → (S → Type 0) → Type 0
+CalmLaws = CalmRuns NoPending

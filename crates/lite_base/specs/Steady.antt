@@ -8,6 +8,10 @@ use Rattle.lite_base.specs.FutureLaws.{FutureLaws}
 use Rattle.lite_base.specs.StreamLaws.{RunLaws}
 use Rattle.lite_base.specs.Runs.{Runs}
 
+-- no call asks for memory: each run is ample
+abbrev pub TakesNone : {S A : Type 0} → Runs A S → Runs A S → Type 0
+TakesNone {S} {A} run ample = (x y : S) (l : List A) → run x l y → ample x l y
+
 module _ {S A : Type 0} where
   -- values that are alike have runs that are
   abbrev pub SteadinessBy : (A → A → Type 0) → Runs (Poll A) S → (S → S → Type 0) → Type 0
@@ -16,10 +20,6 @@ module _ {S A : Type 0} where
   -- values that are alike give the same answers, where those are the same that are equal
   abbrev pub Steadiness : Runs (Poll A) S → (S → S → Type 0) → Type 0
   Steadiness = SteadinessBy (λ x y. x ≡ y)
-
-  -- no poll asks for memory: each run is ample
-  abbrev pub TakesNone : Runs (Poll A) S → Runs (Poll A) S → Type 0
-  TakesNone run ample = (x y : S) (l : List (Poll A)) → run x l y → ample x l y
 
 -- what a steady stream's runs meet: the ample ones follow one another too, and give answers that are the same
 pub record SteadyLawsBy {S A : Type 0} (same : Sameness A) (run ample : Runs (Answer A) S) (needs_none : Type 0)

@@ -2,9 +2,11 @@
 -- the ample ones.
 use Rattle.std.specs.Prelude.{List, [], ◌∷◌, ⊤}
 use Rattle.lite_base.specs.Answers.{Comparable}
+use Rattle.lite_base.specs.Calm.{CalmRuns}
 use Rattle.lite_base.specs.Runs.{Runs}
+use Rattle.lite_base.specs.Steady.{TakesNone}
 use Rattle.lite_io_base.specs.Marks.{ReadMark}
-use Rattle.lite_io_base.specs.Runs.{CalmMarks, MarkLaws}
+use Rattle.lite_io_base.specs.Runs.{MarkLaws}
 
 -- the tale without its pendings
 abbrev pub strip_marks : List ReadMark → List ReadMark
@@ -24,17 +26,13 @@ module _ {S : Type 0} where
   OneTale ample alike = (x y x' y' : S) (l m : List ReadMark) → alike x y → ample x l x' → ample y m y'
       → Comparable (strip_marks l) (strip_marks m)
 
-  -- no call asks for memory: each run is ample
-  abbrev pub AllAmple : Runs ReadMark S → Runs ReadMark S → Type 0
-  AllAmple reads ample = (x y : S) (l : List ReadMark) → reads x l y → ample x l y
-
 -- what a steady reader's runs meet: the ample ones follow one another too
 pub record SteadyReadLaws {S : Type 0} (reads ample : Runs ReadMark S) (needs_none : Type 0)
     (alike : S → S → Type 0) : Type 0 where
   pub laws : MarkLaws ample
   pub steady : OneTale ample alike
-  pub found : needs_none → AllAmple reads ample
+  pub found : needs_none → TakesNone reads ample
 
 -- no run of a calm reader has a pending, and each leaves a calm one
 abbrev pub CalmReadLaws : {S : Type 0} → Runs ReadMark S → (S → Type 0) → Type 0
-CalmReadLaws = CalmMarks NoPendingRead
+CalmReadLaws = CalmRuns NoPendingRead

@@ -1,8 +1,8 @@
 -- Writers that leave the same bytes however often they were pending, and writers that are never pending.
 use Rattle.std.specs.Prelude.{◌≡◌, ℕ, List, [], ◌∷◌, ◌++◌, ⊤}
 use Rattle.std.specs.declared.io.ErrorKind.TheVariants.{Interrupted}
+use Rattle.lite_base.specs.Calm.{CalmRuns}
 use Rattle.lite_base.specs.Runs.{Runs}
-use Rattle.lite_io_base.specs.Runs.{CalmMarks}
 use Rattle.lite_io_base.specs.Takings.{WriteMark, bytes_taken}
 
 -- no error but interruptions, which take nothing
@@ -31,4 +31,4 @@ pub record SteadyWriteLaws {S : Type 0} (writes : Runs WriteMark S) (alike : S �
 
 -- no run of a calm writer has a pending, and each leaves a calm one
 abbrev pub CalmWriteLaws : {S : Type 0} → Runs WriteMark S → (S → Type 0) → Type 0
-CalmWriteLaws = CalmMarks NoPendingWrite
+CalmWriteLaws = CalmRuns NoPendingWrite

@@ -12,6 +12,10 @@ use Rattle.lite_stream.specs.Fuse.{AllEnds}
 use Rattle.lite_stream.specs.Through.{Through}
 use Rattle.lite_stream.specs.Relates.{Relates}
 
+-- a list goes out, and then ends
+abbrev pub ThenEnds : {A : Type 0} → List (Answer A) → List (Answer A) → Type 0
+ThenEnds {A} front out = (later : List (Answer A)) × AllEnds later × (out ≡ front ++ later)
+
 module _ {F A R : Type 0} (run : Runs (Poll R) F) where
   -- in rows: beside each of the stream's answers the future was pending; its value has a row of its own
   pub record PendingBeside (f : F) (ins : List (Answer A)) (g : F) : Type 0 where
@@ -26,9 +30,7 @@ module _ {F A R : Type 0} (run : Runs (Poll R) F) where
     pub finishes : Finishes run f told value
     pub rows : length told ≡ length ins + 1
     pub endless : Endless ins
-    pub later : List (Answer A)
-    pub ends : AllEnds later
-    pub joined : out ≡ ins ++ end ∷ later
+    pub goes_out : ThenEnds (ins ++ end ∷ []) out
 
   -- the stream came to its end, beside which the future was still pending, and then there were ends
   pub record StoppedByEnd (f : F) (ins out : List (Answer A)) : Type 0 where
@@ -37,9 +39,7 @@ module _ {F A R : Type 0} (run : Runs (Poll R) F) where
     pub own : List (Answer A)
     pub endless : Endless own
     pub through_end : ins ≡ own ++ end ∷ []
-    pub later : List (Answer A)
-    pub ends : AllEnds later
-    pub joined : out ≡ ins ++ later
+    pub goes_out : ThenEnds ins out
 
   -- by what has become of the future, before and after
   abbrev pub StopsBy : Relates (Stopping F R) A A

@@ -8,7 +8,7 @@ use Rattle.lite_base.specs.Answers.{Answer}
 use Rattle.lite_base.specs.Laws.Segments.{segment_gives, segments_map}
 use Rattle.lite_base.specs.Runs.{Runs}
 use Rattle.lite_io_base.specs.Marks.{ReadMark}
-use Rattle.lite_io_base.specs.Steady.{AllAmple}
+use Rattle.lite_base.specs.Steady.{TakesNone}
 use Rattle.lite_read.specs.Lines.{GivesLines, lines_over}
 use Rattle.lite_read.specs.ReadFold.{AnswerMarks}
 use Rattle.lite_read.specs.NoneRefused.{NoneRefused, NotRefused}
@@ -35,7 +35,7 @@ module _ {A : Type 0} (whole final : List ℕ → Result A Error → Type 0) whe
       segment_gives p q q marks _ _ (λ m last g. (g.0, cuts_found byte m q last g.0 v none g.1 g.2, g.2)) h
 
   module _ {X S K : Type 0} (over : StreamOver X S (List ℕ) K) (byte : K → ℕ) {reads ample : Runs ReadMark S} where
-    flow_found : AllAmple reads ample → (x y : X) (out : List (Answer (Result A Error))) → NoneRefused out
+    flow_found : TakesNone reads ample → (x y : X) (out : List (Answer (Result A Error))) → NoneRefused out
         → Flows over (λ k. pieces (byte k) ⊤ (Itemised whole final)) reads x out y
         → Flows over (λ k. pieces (byte k) ⊥ (Itemised whole final)) ample x out y
     flow_found all x y out none h =
@@ -47,7 +47,7 @@ module _ {A : Type 0} (whole final : List ℕ → Result A Error → Type 0) whe
         record { segmented = record { marks = s.marks; came = came; cut = cut }; stays = h.stays; idle = h.idle }
 
 module _ {R : Type 0} {reads ample : Runs ReadMark R} where
-  pub lines_ample : AllAmple reads ample → (x y : Lines R) (out : List (Answer (Result (String Global) Error)))
+  pub lines_ample : TakesNone reads ample → (x y : Lines R) (out : List (Answer (Result (String Global) Error)))
       → NoneRefused out
       → GivesLines reads ⊤ x out y → GivesLines ample ⊥ x out y
   lines_ample = flow_found (λ xs. IsText _) IsText lines_over (λ u. 10)

@@ -14,7 +14,7 @@ use Rattle.lite_gather.specs.Agreeing.{HoldsSame, HoldsSameBoth, SameCollected, 
 use Rattle.lite_gather.specs.declared.refused.TryCollectError.{TryCollectError}
 use Rattle.lite_gather.specs.declared.refused.TryCollectError.TheVariants.{Source, Memory}
 use Rattle.lite_io_base.specs.Marks.{ReadMark}
-use Rattle.lite_io_base.specs.Steady.{AllAmple}
+use Rattle.lite_base.specs.Steady.{TakesNone}
 use Rattle.lite_laws.specs.Both.{OneValue}
 use Rattle.lite_read.proofs.Ample.{lines_ample}
 use Rattle.lite_read.specs.Lines.{GivesLines}
@@ -81,7 +81,7 @@ pub both_items : {C T : Type 0} (same : Sameness T) (items : C → List T) (c d 
 both_items same items c d h = (same_items same items c.0 d.0 h.0, same_items same items c.1 d.1 h.1)
 
 -- the lines of a reader that asks for no memory, up to a number of them
-module _ {R : Type 0} {reads ample : Runs ReadMark R} (all : AllAmple reads ample) where
+module _ {R : Type 0} {reads ample : Runs ReadMark R} (all : TakesNone reads ample) where
   pub taken_ample : (x y : Take (Lines R)) (i : List (Answer (Result (String Global) Error))) → NoneRefused i
       → Takes (GivesLines reads ⊤) x i y → Takes (GivesLines ample ⊥) x i y
   taken_ample x y i none h =

@@ -10,7 +10,7 @@ use Rattle.lite_base.specs.Answers.{Answer, item}
 use Rattle.lite_base.specs.Calling.{Accepts, Always}
 use Rattle.lite_base.specs.Runs.{Question, Runs}
 use Rattle.lite_io_base.specs.Marks.{ReadMark}
-use Rattle.lite_io_base.specs.Steady.{AllAmple}
+use Rattle.lite_base.specs.Steady.{TakesNone}
 use Rattle.lite_read.proofs.Ample.{lines_ample}
 use Rattle.lite_read.specs.Lines.{GivesLines}
 use Rattle.lite_read.specs.NoneRefused.{NoneRefused, NotRefused}
@@ -38,7 +38,7 @@ rejected_found : (x : Result ℕ Error) → IsTested x false → NotRefused (ite
 rejected_found (Ok n) h = ok_found n
 rejected_found (Err e) h = absurd (cc h)
 
-module _ {R F P : Type 0} {reads ample : Runs ReadMark R} (all : AllAmple reads ample)
+module _ {R F P : Type 0} {reads ample : Runs ReadMark R} (all : TakesNone reads ample)
     (call : Question F (Result (String Global) Error) (Result ℕ Error))
     (test : Question P (Result ℕ Error) Bool)
     (answers : (f g : F) (x : Result (String Global) Error) (y : Result ℕ Error) → call f x y g → IsLength x y)

@@ -27,7 +27,7 @@ use Rattle.lite_gather.specs.declared.refused.TryCollectError.{TryCollectError}
 use Rattle.lite_gather.specs.declared.refused.TryCollectError.TheVariants.{Source, Memory}
 use Rattle.lite_gather.specs.declared.try_collect.TryCollect.{TryCollect}
 use Rattle.lite_io_base.specs.Marks.{ReadMark}
-use Rattle.lite_io_base.specs.Steady.{AllAmple}
+use Rattle.lite_base.specs.Steady.{TakesNone}
 use Rattle.lite_read.specs.Lines.{GivesLines}
 use Rattle.lite_read.specs.NoneRefused.{NoneRefused, NotRefused}
 use Rattle.lite_read.specs.declared.lines.Lines.{Lines}
@@ -57,7 +57,7 @@ waiting_found e h k = cc h
 pub end_found : {A : Type 0} → NotRefused {A = A} (Ready Option.None)
 end_found e h k = cc h
 
-module _ {R : Type 0} {reads ample : Runs ReadMark R} (all : AllAmple reads ample) where
+module _ {R : Type 0} {reads ample : Runs ReadMark R} (all : TakesNone reads ample) where
   module _ {C : Type 0} (holds : C → List (String Global) → Type 0) where
     abbrev Tried : Type 0
     Tried = Result C (TryCollectError C (String Global) Error)

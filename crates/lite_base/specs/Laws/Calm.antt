@@ -2,18 +2,24 @@
 use Rattle.std.proofs.Common.{◌≡◌, ◌≤◌, ◌+◌, List, [], ◌∷◌, ◌++◌, refl, arith}
 use Rattle.futures.specs.declared.task.Poll.{Poll}
 use Rattle.futures.specs.declared.task.Poll.TheVariants.{Ready, Pending}
-use Rattle.lite_base.specs.Calm.{CalmLaws, NoPending, waits}
+use Rattle.lite_base.specs.Calm.{CalmLaws, CalmRuns, NoPending, waits}
 use Rattle.lite_base.specs.Runs.{Runs}
 use denote.MutBor.{MutBor}
 use Rattle.lite_base.specs.Lent.{Lent}
 
-pub lent_calm : {S A : Type 0} {run : Runs (Poll A) S} {is_calm : S → Type 0} → CalmLaws run is_calm
-    → CalmLaws (Lent run) (λ (x : MutBor S). is_calm x.now)
-lent_calm c =
-    record {
-      no_pending = λ x y l k h. c.no_pending x.now y.now l k h.0;
-      calm_on = λ x y l k h. c.calm_on x.now y.now l k h.0;
-    }
+-- one of which a part runs is as calm as that part
+pub calm_part : {A S X : Type 0} {NoWait : List A → Type 0} {run : Runs A S} {outer : Runs A X} {is_calm : S → Type 0}
+    (part : X → S) → ((x y : X) (l : List A) → outer x l y → run (part x) l (part y)) → CalmRuns NoWait run is_calm
+    → CalmRuns NoWait outer (λ x. is_calm (part x))
+calm_part part ran c = record {
+  no_pending = λ x y l k h. c.no_pending _ (part y) l k (ran x y l h);
+  calm_on = λ x y l k h. c.calm_on _ _ l k (ran x y l h);
+}
+
+-- and one behind a reference as what stands there
+pub lent_calm : {A S : Type 0} {NoWait : List A → Type 0} {run : Runs A S} {is_calm : S → Type 0}
+    → CalmRuns NoWait run is_calm → CalmRuns NoWait (Lent run) (λ (x : MutBor S). is_calm x.now)
+lent_calm = calm_part (λ x. x.now) (λ x y l h. h.0)
 
 module _ {A : Type 0} where
   pub no_pending_join : (l m : List (Poll A)) → NoPending l → NoPending m → NoPending (l ++ m)

@@ -18,7 +18,7 @@ lent_steadiness : {S A : Type 0} {same : A → A → Type 0} {ample : Runs (Poll
     → SteadinessBy same ample alike → SteadinessBy same (Lent ample) (λ (x y : MutBor S). alike x.now y.now)
 lent_steadiness s x y e l m x' y' h k = s x.now y.now e l m x'.now y'.now h.0 k.0
 
-lent_takes_none : {S A : Type 0} {run ample : Runs (Poll A) S} → TakesNone run ample → TakesNone (Lent run) (Lent ample)
+pub lent_takes_none : {S A : Type 0} {run ample : Runs A S} → TakesNone run ample → TakesNone (Lent run) (Lent ample)
 lent_takes_none t x y l h = (t x.now y.now l h.0, h.1)
 
 pub lent_steady : {S A : Type 0} {same : Sameness A} {run ample : Runs (Answer A) S} {needs_none : Type 0}

@@ -13,7 +13,8 @@ use Rattle.futures.specs.declared.task.Poll.TheVariants.{Pending, Ready}
 use Rattle.lite_io_base.specs.Kinds.{by_kind}
 use Rattle.lite_io_base.specs.Laws.Grows.{growing_laws, grows_all, grows_no_pending}
 use Rattle.lite_io_base.specs.Marks.{ReadMark, bytes, moved, read_marks}
-use Rattle.lite_io_base.specs.Runs.{CalmMarks, MarkLaws}
+use Rattle.lite_base.specs.Calm.{CalmRuns}
+use Rattle.lite_io_base.specs.Runs.{MarkLaws}
 use Rattle.lite_io_base.specs.Laws.SteadyWrite.{never_waits_both}
 use Rattle.lite_io_base.specs.Laws.Steady.{no_wait_both, no_wait_moved, told_one_tale}
 use Rattle.lite_io_base.specs.Steady.{CalmReadLaws, NoPendingRead, SteadyReadLaws, strip_marks}
@@ -69,7 +70,7 @@ module _ {M : Type 0} {NoWait : List M → Type 0} {run : Runs M (List ℕ)} (no
       follows = λ x y z. known_follows _ _ _;
     }
 
-    known_calm : CalmMarks NoWait (λ x l y. WhereKnown NoWait run (known x) l (known y)) (λ x. Unit {0})
+    known_calm : CalmRuns NoWait (λ x l y. WhereKnown NoWait run (known x) l (known y)) (λ x. Unit {0})
     known_calm = record { no_pending = λ x y l c. known_no_wait _ _ l; calm_on = λ x y l c h. tt }
 
 -- a reader whose bytes to come are known at some values

@@ -7,7 +7,7 @@ use Rattle.lite_base.specs.Runs.{Runs}
 use Rattle.lite_io_base.specs.Counting.{ReadCounting}
 use Rattle.lite_io_base.specs.Falls.{Falls}
 use Rattle.lite_io_base.specs.Known.{Known, TellsKnown}
-use Rattle.lite_io_base.specs.Laws.Lent.{calm_part}
+use Rattle.lite_base.specs.Laws.Calm.{calm_part}
 use Rattle.lite_io_base.specs.Laws.SteadyWrite.{steady_write_part}
 use Rattle.lite_io_base.specs.Marks.{AllGiven, ReadMark, bytes}
 use Rattle.lite_io_base.specs.Runs.{MarkLaws, Shows}

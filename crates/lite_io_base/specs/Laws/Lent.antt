@@ -6,7 +6,7 @@ use Rattle.lite_base.specs.Ranks.{Ranks, ranks_of}
 use Rattle.lite_base.specs.Runs.{Runs}
 use Rattle.lite_io_base.specs.Counting.{ReadCounting}
 use Rattle.lite_io_base.specs.Marks.{ReadMark}
-use Rattle.lite_io_base.specs.Runs.{CalmMarks, MarkLaws}
+use Rattle.lite_io_base.specs.Runs.{MarkLaws}
 use denote.MutBor.{MutBor}
 
 pub lent_laws : {A S : Type 0} {run : Runs A S} → MarkLaws run → MarkLaws (Lent run)
@@ -30,16 +30,3 @@ counting_part part ran c = record {
 pub lent_counting : {S : Type 0} {reads : Runs ReadMark S} {r : Ranks S} → ReadCounting reads r
     → ReadCounting (Lent reads) (ranks_of (λ (m : MutBor S). m.now) r)
 lent_counting = counting_part (λ m. m.now) (λ x y l h. h.0)
-
--- one of which a part runs is as calm as that part
-pub calm_part : {A S X : Type 0} {NoWait : List A → Type 0} {run : Runs A S} {outer : Runs A X} {is_calm : S → Type 0}
-    (part : X → S) → ((x y : X) (l : List A) → outer x l y → run (part x) l (part y)) → CalmMarks NoWait run is_calm
-    → CalmMarks NoWait outer (λ x. is_calm (part x))
-calm_part part ran c = record {
-  no_pending = λ x y l k h. c.no_pending _ (part y) l k (ran x y l h);
-  calm_on = λ x y l k h. c.calm_on _ _ l k (ran x y l h);
-}
-
-pub lent_calm_marks : {A S : Type 0} {NoWait : List A → Type 0} {run : Runs A S} {is_calm : S → Type 0}
-    → CalmMarks NoWait run is_calm → CalmMarks NoWait (Lent run) (λ (x : MutBor S). is_calm x.now)
-lent_calm_marks = calm_part (λ x. x.now) (λ x y l h. h.0)

@@ -8,6 +8,7 @@ use Rattle.lite_io_base.specs.Laws.Told.{told_laws}
 use Rattle.lite_io_base.specs.Told.{TellsScript}
 use denote.MutBor.{MutBor}
 use Rattle.lite_base.specs.Lent.{Lent}
+use Rattle.lite_base.specs.Laws.Steady.{lent_takes_none}
 use Rattle.lite_base.specs.Runs.{Runs}
 use Rattle.lite_io_base.specs.Laws.Lent.{lent_laws}
 use Rattle.lite_io_base.specs.Runs.{MarkLaws}
@@ -26,7 +27,7 @@ module _ {S : Type 0} {reads : Runs ReadMark S} where
       record {
         laws = lent_laws s.laws;
         steady = λ x y x' y' l m e h k. s.steady x.now y.now x'.now y'.now l m e h.0 k.0;
-        found = λ n x y l h. (s.found n x.now y.now l h.0, h.1);
+        found = λ n. lent_takes_none (s.found n);
       }
 
 pub strip_marks-append : (l m : List ReadMark) → strip_marks (l ++ m) ≡ strip_marks l ++ strip_marks m

@@ -15,7 +15,7 @@ use Rattle.lite_base.specs.StreamLaws.{StreamLaws}
 use Rattle.lite_base.specs.Laws.Endless.{endless_join}
 use Rattle.lite_base.specs.Runs.{Hints, Runs}
 use Rattle.lite_merge.specs.Laws.Ends.{ends_before, ends_bounded, ends_calm, ends_lower, no_end_among}
-use Rattle.lite_merge.specs.StopAfterFuture.{PendingBeside, Stops, StopsBy}
+use Rattle.lite_merge.specs.StopAfterFuture.{PendingBeside, Stops, StopsBy, ThenEnds}
 use Rattle.lite_merge.specs.Stopping.{HintsBy, StopHints, stop_parts}
 use Rattle.lite_merge.specs.declared.stop_after_future.StopAfterFuture.{StopAfterFuture}
 use Rattle.lite_merge.specs.declared.stop_after_future.Stopping.TheVariants.{Holding, TakenOut, Stopped}
@@ -60,10 +60,18 @@ module _ {F A R : Type 0} {run : Runs (Poll R) F} (laws : FutureLaws run) where
   stops_stay (Stopped r) g i h = (h.0, h.2)
   stops_stay (Holding f) (Holding g) i h =
       (sym h.2, ap Holding (laws.stays f g (rw (none_told h.0.told (rw (← h.2) at h.0.rows)) at h.0.came)))
-  stops_stay (Holding f) (Stopped (Some value)) i h = absurd (none_out i h.later h.joined)
+  stops_stay (Holding f) (Stopped (Some value)) i h = absurd (none_out i h.goes_out.0 (rw append_assoc at h.goes_out.2))
   stops_stay (Holding f) (Stopped None) i h =
-      absurd (none_out h.own h.later (rw (h.through_end, append_assoc) at h.joined))
+      absurd (none_out h.own h.goes_out.0 (rw (h.through_end, append_assoc) at h.goes_out.2))
   stops_stay (Holding f) TakenOut i h = absurd h
+
+  -- more ends behind
+  ends_on : (i m : List (Answer A)) {o : List (Answer A)} → ThenEnds i o → AllEnds m → ThenEnds i (o ++ m)
+  ends_on i m h d = (h.0 ++ m, all_append (λ a. a ≡ end) h.0 m h.1 d, rw (h.2, append_assoc) refl)
+
+  -- and more before
+  ends_after : (j : List (Answer A)) {i l m : List (Answer A)} → l ≡ i → ThenEnds j m → ThenEnds (i ++ j) (l ++ m)
+  ends_after j e h = (h.0, h.1, rw (e, h.2, append_assoc) refl)
 
   stops_join : (f g k : Stopping F R) (i j l m : List (Answer A)) → StopsBy run f i l g → StopsBy run g j m k
       → StopsBy run f (i ++ j) (l ++ m) k
@@ -79,9 +87,7 @@ module _ {F A R : Type 0} {run : Runs (Poll R) F} (laws : FutureLaws run) where
         finishes = h.finishes;
         rows = h.rows;
         endless = h.endless;
-        later = h.later ++ m;
-        ends = all_append (λ a. a ≡ end) h.later m h.ends d.1;
-        joined = rw (h.joined, append_assoc) refl;
+        goes_out = ends_on _ m h.goes_out d.1;
       }
   stops_join (Holding f) (Stopped None) k i j l m h d =
       rw (d.2, d.0, append-nil)
@@ -91,9 +97,7 @@ module _ {F A R : Type 0} {run : Runs (Poll R) F} (laws : FutureLaws run) where
         own = h.own;
         endless = h.endless;
         through_end = h.through_end;
-        later = h.later ++ m;
-        ends = all_append (λ a. a ≡ end) h.later m h.ends d.1;
-        joined = rw (h.joined, append_assoc) refl;
+        goes_out = ends_on _ m h.goes_out d.1;
       }
   -- before it was stopped
   stops_join (Holding f) (Holding g) (Holding k) i j l m h d =
@@ -104,9 +108,7 @@ module _ {F A R : Type 0} {run : Runs (Poll R) F} (laws : FutureLaws run) where
         finishes = finishes_later laws f g h.0.told d.told value h.0.waiting h.0.came d.finishes;
         rows = omega (arith, h.0.rows, d.rows, length-append h.0.told d.told, length-append i j);
         endless = endless_join i j h.1 d.endless;
-        later = d.later;
-        ends = d.ends;
-        joined = rw (h.2, d.joined, append_assoc) refl;
+        goes_out = rw append_assoc (ends_after _ h.2 d.goes_out);
       }
   stops_join (Holding f) (Holding g) (Stopped None) i j l m h d =
       record {
@@ -115,21 +117,19 @@ module _ {F A R : Type 0} {run : Runs (Poll R) F} (laws : FutureLaws run) where
         own = i ++ d.own;
         endless = endless_join i d.own h.1 d.endless;
         through_end = rw (d.through_end, append_assoc) refl;
-        later = d.later;
-        ends = d.ends;
-        joined = rw (h.2, d.joined, append_assoc) refl;
+        goes_out = ends_after j h.2 d.goes_out;
       }
   stops_join (Holding f) (Holding g) TakenOut i j l m h d = absurd d
   stops_join (Holding f) TakenOut k i j l m h d = absurd h
 
   -- what goes out is what came in, and then ends; where it was stopped by a value the first of them came in its row
-  ends_behind : (f g : Stopping F R) (i o : List (Answer A)) → StopsBy run f i o g → (later : List (Answer A))
-      × AllEnds later × (o ≡ i ++ later)
+  ends_behind : (f g : Stopping F R) (i o : List (Answer A)) → StopsBy run f i o g → ThenEnds i o
   ends_behind TakenOut g i o h = ([], tt, h.0 ∙ sym (append-nil i))
   ends_behind (Stopped r) g i o h = (o, h.1, ap (λ l. l ++ o) (sym h.0))
   ends_behind (Holding f) (Holding g) i o h = ([], tt, h.2 ∙ sym (append-nil i))
-  ends_behind (Holding f) (Stopped (Some value)) i o h = (end ∷ h.later, (refl, h.ends), h.joined)
-  ends_behind (Holding f) (Stopped None) i o h = (h.later, h.ends, h.joined)
+  ends_behind (Holding f) (Stopped (Some value)) i o h =
+      (end ∷ h.goes_out.0, (refl, h.goes_out.1), rw append_assoc at h.goes_out.2)
+  ends_behind (Holding f) (Stopped None) i o h = h.goes_out
   ends_behind (Holding f) TakenOut i o h = absurd h
 
   came_of : (i later : List (Answer A)) (l : List A) → AllEnds later → items l ≡ i ++ later → i ≡ items l

@@ -13,7 +13,8 @@ use Rattle.lite_base.specs.Laws.StreamLaws.{laws_of}
 use Rattle.lite_base.specs.Runs.{NoHint, Runs}
 use Rattle.lite_io_base.specs.Counting.{ReadCounting}
 use Rattle.lite_io_base.specs.Falls.{Falls}
-use Rattle.lite_io_base.specs.Laws.Lent.{calm_part, counting_part}
+use Rattle.lite_base.specs.Laws.Calm.{calm_part}
+use Rattle.lite_io_base.specs.Laws.Lent.{counting_part}
 use Rattle.lite_io_base.specs.Marks.{AllGiven, ReadMark, given}
 use Rattle.lite_io_base.specs.Runs.{MarkLaws}
 use Rattle.lite_io_base.specs.Steady.{CalmReadLaws, SteadyReadLaws}

@@ -6,7 +6,7 @@ use Rattle.lite_base.specs.Answers.{Waiting, strip}
 use Rattle.lite_base.specs.Calm.{CalmLaws, NoPending}
 use Rattle.lite_base.specs.FutureLaws.{FutureLaws}
 use Rattle.lite_base.specs.Runs.{Runs}
-use Rattle.lite_io_base.specs.Runs.{CalmMarks}
+use Rattle.lite_base.specs.Calm.{CalmRuns}
 use Rattle.lite_read.specs.Polled.{PolledByCalls}
 
 module _ {F A : Type 0} (call : F → Poll A → F → Type 0) where
@@ -49,7 +49,7 @@ module _ {F A : Type 0} (call : F → Poll A → F → Type 0) where
   -- where each call leaves marks of a part of the future, and a pending one a mark of waiting
   pub calls_calm : {M S : Type 0} {NoWait : List M → Type 0} {run : Runs M S} {is_calm : S → Type 0} (part : F → S)
       (came : (x y : F) (r : Poll A) → call x r y → (l : List M) × run (part x) l (part y))
-      → ((x y : F) (h : call x Pending y) → NoWait (came x y Pending h).0 → ⊥) → CalmMarks NoWait run is_calm
+      → ((x y : F) (h : call x Pending y) → NoWait (came x y Pending h).0 → ⊥) → CalmRuns NoWait run is_calm
       → CalmLaws (PolledByCalls call) (λ x. is_calm (part x))
   calls_calm part came waits c =
       polled_calm (λ x y k h. let w = came x y Pending h in waits x y h (c.no_pending _ _ w.0 k w.1))

@@ -17,7 +17,8 @@ use Rattle.lite_base.specs.Runs.{Runs}
 use Rattle.lite_io_base.specs.Laws.Steady.{comparable_behind, strip_marks-append}
 use Rattle.lite_io_base.specs.Marks.{ReadMark, bytes}
 use Rattle.lite_io_base.specs.Runs.{MarkLaws}
-use Rattle.lite_io_base.specs.Steady.{AllAmple, CalmReadLaws, NoPendingRead, SteadyReadLaws, strip_marks}
+use Rattle.lite_base.specs.Steady.{TakesNone}
+use Rattle.lite_io_base.specs.Steady.{CalmReadLaws, NoPendingRead, SteadyReadLaws, strip_marks}
 use Rattle.lite_io_base.specs.SteadyWrite.{CalmWriteLaws, NoPendingWrite}
 use Rattle.lite_io_base.specs.Takings.{WriteMark, bytes_taken}
 use Rattle.lite_read.specs.Deterministic.{SameByKind}
@@ -251,7 +252,7 @@ last_no_failure : (v : CopyResult) (fault : List ReadMark) (last : List WriteMar
 last_no_failure (Ok n) fault last after met total ok h = rw ((ok_value after met total n fault last h).1) tt
 last_no_failure (Err e) fault last after met total ok h = cc
 
-module _ {R W : Type 0} {reads ample : Runs ReadMark R} {writes : Runs WriteMark W} (found : AllAmple reads ample) where
+module _ {R W : Type 0} {reads ample : Runs ReadMark R} {writes : Runs WriteMark W} (found : TakesNone reads ample) where
   -- where the value is Ok no write failed
   pub ok_no_failure : (x : CopyFuture R W) (l : List (Poll CopyResult)) (v : CopyResult) → IsOk v
       → Finishes (CopyRuns reads writes) x l v

@@ -26,8 +26,6 @@ returns-in-None-clause-ran g c =
         own = [];
         endless = refl;
         through_end = refl;
-        later = [];
-        ends = tt;
-        joined = refl;
+        goes_out = ([], tt, refl);
       };
     }
