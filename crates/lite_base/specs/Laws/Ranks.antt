@@ -1,6 +1,6 @@
 -- A rank, and what it is to fall with items.
 use Rattle.std.specs.Prelude.{ℕ, List, [], ◌∷◌, refl}
-use Rattle.lite_base.specs.Answers.{Answer, items}
+use Rattle.lite_base.specs.Answers.{Answer}
 use Rattle.lite_base.specs.Ends.{Terminates}
 use Rattle.lite_base.specs.Falling.{ItemRun}
 use Rattle.lite_base.specs.Laws.Falling.{counted_ends}

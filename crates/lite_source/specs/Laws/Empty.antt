@@ -1,7 +1,6 @@
 -- Laws of `empty`.
 use Rattle.std.specs.Prelude.{⊤}
 use Rattle.std.proofs.Common.{◌≡◌, Some, None, refl}
-use Rattle.lite_base.specs.Answers.{end}
 use Rattle.lite_base.specs.Calm.{CalmLaws}
 use Rattle.lite_base.specs.Laws.Calm.{calm_both}
 use Rattle.lite_base.specs.Ranks.{Counting}

@@ -1,6 +1,6 @@
 -- Laws of `iter`.
 use Rattle.std.specs.Prelude.{IfSome}
-use Rattle.std.proofs.Common.{◌≤◌, sym, ℕ, List, [], ◌∷◌, ◌++◌, Option, Some, None, refl, ap, arith, inl}
+use Rattle.std.proofs.Common.{◌≤◌, sym, ℕ, List, [], ◌∷◌, Option, Some, None, refl, ap, arith, inl}
 use Rattle.std.specs.Iterator.{Count, IsFinite, MakesProgress, UpTo, size}
 use Rattle.futures.specs.declared.task.Poll.TheVariants.{Ready, Pending}
 use Rattle.lite_base.specs.Answers.{Answer, before_end, items}

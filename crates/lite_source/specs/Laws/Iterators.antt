@@ -1,7 +1,6 @@
 -- Laws of `iter` where nothing is said of its answers: iterators that go on in one way from values that agree give
 -- streams that are alike.
 use Rattle.std.proofs.Common.{◌≡◌, ◌<◌, ℕ, List, ◌∷◌, Option, Some, None, length, ◌∙◌, refl, ap, sym, arith}
-use denote.Bor.{Bor}
 use Rattle.std.specs.Prelude.{MatchOption}
 use Rattle.std.specs.Array.Iter.{array_into_iter_items, array_steps}
 use Rattle.std.specs.Iterator.{Count}
@@ -16,7 +15,7 @@ use Rattle.std.specs.declared.ops.Range.{Range}
 use Rattle.std.specs.declared.slice.Iter.{Iter as SliceIter}
 use Rattle.std.specs.declared.vec.IntoIter.{IntoIter}
 use Rattle.lite_base.specs.Alike.{Alike}
-use Rattle.lite_source.specs.Iter.{Iterates, Nexts}
+use Rattle.lite_source.specs.Iter.{Iterates}
 use Rattle.lite_source.specs.Laws.Folds.{folds_alike}
 
 pub iter_alike : {I A : Type 0} (can : I → Type 0) (gives : I → Option A → I → Type 0) (remaining : I → Count)

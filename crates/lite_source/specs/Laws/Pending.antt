@@ -1,7 +1,6 @@
 -- Laws of `pending`.
 use Rattle.std.specs.Prelude.{⊤}
 use Rattle.std.proofs.Common.{◌≡◌, Some}
-use Rattle.futures.specs.declared.task.Poll.TheVariants.{Pending}
 use Rattle.lite_base.specs.Ranks.{Counting}
 use Rattle.lite_base.specs.Steady.{Steadiness}
 use Rattle.lite_base.specs.StreamLaws.{StreamLaws}

@@ -6,7 +6,6 @@ use Rattle.lite_base.specs.StreamLaws.{StreamLaws}
 use Rattle.lite_base.specs.Runs.{NoHint, Runs}
 use Rattle.lite_source.specs.TryUnfold.{TryUnfoldsBy, try_item_of, try_seed_of}
 use Rattle.lite_source.specs.Laws.Unfolding.{unfolds_laws}
-use Rattle.lite_source.specs.declared.try_unfold.TryUnfold.{TryUnfold}
 
 module _ {F S V A E : Type 0} (call : Mut F (S × Unit {0}) V) (gives : Runs (Poll (Result (Option (A × S)) E)) V) where
   pub try_unfold_laws : StreamLaws (TryUnfoldsBy call gives) NoHint

@@ -6,7 +6,6 @@ use Rattle.lite_base.specs.StreamLaws.{StreamLaws}
 use Rattle.lite_base.specs.Runs.{NoHint, Runs}
 use Rattle.lite_source.specs.Unfold.{UnfoldsBy, item_of, seed_of}
 use Rattle.lite_source.specs.Laws.Unfolding.{unfolds_laws}
-use Rattle.lite_source.specs.declared.unfold.Unfold.{Unfold}
 
 module _ {F S V A : Type 0} (call : Mut F (S × Unit {0}) V) (gives : Runs (Poll (Option (A × S))) V) where
   pub unfold_laws : StreamLaws (UnfoldsBy call gives) NoHint

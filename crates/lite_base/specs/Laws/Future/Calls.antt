@@ -1,7 +1,7 @@
 -- Laws of a closure that is polled.
 use Rattle.std.specs.Prelude.{⊤}
 use Rattle.std.specs.List.{FoldsTo}
-use Rattle.std.proofs.Common.{List, ◌∷◌, ◌++◌, refl, sym, ap}
+use Rattle.std.proofs.Common.{List, ◌∷◌, refl, sym, ap}
 use Rattle.futures.specs.Poll.{OnPending}
 use Rattle.futures.specs.declared.task.Poll.{Poll}
 use Rattle.futures.specs.declared.task.Poll.TheVariants.{Ready, Pending}
