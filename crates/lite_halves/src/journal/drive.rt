@@ -30,9 +30,7 @@ impl<T: AsyncRead + AsyncWrite + Clone> Journal<T> {
     {
         for call in calls {
             out.reserve(1)?;
-            let Some(answer) = self.make(cx, call) else {
-                return Err(AllocError);
-            };
+            let answer = self.make(cx, call).ok_or(AllocError)?;
             out.push_reserved(answer);
         }
         Ok(())

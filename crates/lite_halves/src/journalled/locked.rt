@@ -2,12 +2,10 @@
 ghost use Rattle.std.specs.Prelude.{◌≡◌, ◌≤◌, length, IfNone, IfOk, IfSome};
 ghost use Rattle.futures.specs.Poll.{IfReady};
 ghost use Rattle.futures.specs.Task.{Keeps};
-ghost use Rattle.lite_halves.specs.Counts.{AddsInside, CountsOn, booked_in, counted_in, got_in, nothing_counted};
-ghost use Rattle.lite_halves.specs.Counts.{reads_in, taken_in, writes_in};
+ghost use Rattle.lite_halves.specs.Counts.{AddsInside, CountsOn, booked_in, counted_in, nothing_counted};
 ghost use Rattle.lite_halves.specs.declared.journalled.tally.Side.TheVariants.{Reading, Writing};
 ghost use Rattle.lite_io_base.specs.Marks.{count_of};
 ghost use Rattle.lite_halves.specs.Entry.{close_note, flush_note, read_note, write_note};
-ghost use Rattle.lite_halves.specs.Journal.{IsSound, Replays};
 
 use super::books::{Blanks, Books, Got, Reads, Taken, Writes};
 use super::tally::{Shares, Side, SideBooks, Tally};
@@ -155,26 +153,19 @@ impl<T: Tale + Takings + Clone, B: Books> Locked<T, B> {
         (reads, writes)
     }
 
-    /// A clone of the journal so far. It has what the two tallies tell.
+    /// A clone of the journal so far, in which the two tallies count what they tell.
     pub(super) fn history(
         &mut self,
         reads: &mut Tally<Reads<B>, Got<B>>,
         writes: &mut Tally<Writes<B>, Taken<B>>,
     ) -> Result<Journal<T>, AllocError>
         ensures same { (reads.new ≡ reads.old) × (writes.new ≡ writes.old) }
-        ensures sound { IfOk result (λ j. IsSound T.reads T.writes T.is_clone j) }
-        ensures replays { IfOk result (λ j. Replays T.reads T.writes T.is_clone j) }
-        ensures reads { IfOk result (λ j. reads_in j.notes ≡ reads.old.calls) }
-        ensures got { IfOk result (λ j. got_in j.notes ≡ reads.old.bytes) }
-        ensures writes { IfOk result (λ j. writes_in j.notes ≡ writes.old.calls) }
-        ensures taken { IfOk result (λ j. taken_in j.notes ≡ writes.old.bytes) }
+        ensures reads { IfOk result (λ j. counted_in Reading j.notes ≡ reads.old) }
+        ensures writes { IfOk result (λ j. counted_in Writing j.notes ≡ writes.old) }
     {
         self.reading.audit(reads);
         self.writing.audit(writes);
-        let told = self.journal.as_ref().unwrap().clone()?;
-        // A look at its entries shows that it is sound.
-        let _entries = told.entries();
-        Ok(told)
+        self.journal.as_ref().unwrap().clone()
     }
 }
 

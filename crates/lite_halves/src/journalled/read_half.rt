@@ -148,9 +148,7 @@ where
     {
         for room in rooms {
             out.reserve(1)?;
-            let Some(answer) = self.make(cx, *room) else {
-                return Err(AllocError);
-            };
+            let answer = self.make(cx, *room).ok_or(AllocError)?;
             out.push_reserved(answer);
         }
         Ok(())

@@ -107,9 +107,7 @@ impl<R: Wait, T: Tale + AsyncWrite + Clone, B: Books> JournalWriteHalf<R, T, B> 
     {
         for call in calls {
             out.reserve(1)?;
-            let Some(answer) = self.make(cx, call) else {
-                return Err(AllocError);
-            };
+            let answer = self.make(cx, call).ok_or(AllocError)?;
             out.push_reserved(answer);
         }
         Ok(())

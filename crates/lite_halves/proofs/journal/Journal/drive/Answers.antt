@@ -10,7 +10,8 @@ loop-call-init g c =
 pub loop-call-preserved : goal.loop-call-preserved
 loop-call-preserved g c = (
   journal_more g.T.Tale.reads g.T.Takings.writes asked_of c.args.calls.now _ _ _ _ _ _ _ _ _ _ c.call-item.result
-      c.loop-call.invariant.0 c.loop-call-test.true (sym c.call-item.is) c.in-Some.ensures.added
+      c.loop-call.invariant.0 c.loop-call-test.true (sym c.call-item.is)
+      (rw c.in_ok-answer.ensures.ok_part at c.make.ensures.added)
       c.in_ok-reserve.ensures.items c.push_reserved.ensures.items,
   λ fact h. c.make.ensures.kept fact (c.loop-call.invariant.1 fact h),
 )
