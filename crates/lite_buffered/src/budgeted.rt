@@ -137,20 +137,13 @@ impl<R: AsyncRead> AsyncRead for Budgeted<R> {
             return self.pause(cx);
         }
         let most = left.min(buf.len());
-        match self.reader.poll_read(cx, &mut buf[..most]) {
-            Poll::Ready(Ok(n)) => {
-                self.left = Some(left - n);
-                Poll::Ready(Ok(n))
-            }
-            Poll::Ready(Err(e)) => {
-                self.left = Some(left - 1);
-                Poll::Ready(Err(e))
-            }
-            Poll::Pending => {
-                self.left = None;
-                Poll::Pending
-            }
-        }
+        let polled = self.reader.poll_read(cx, &mut buf[..most]);
+        self.left = match &polled {
+            Poll::Ready(Ok(n)) => Some(left - *n),
+            Poll::Ready(Err(_)) => Some(left - 1),
+            Poll::Pending => None,
+        };
+        polled
     }
 }
 
@@ -179,20 +172,13 @@ impl<R: AsyncBufRead> Budgeted<R> {
         if allowed == 0 {
             return self.pause(cx);
         }
-        match fill(&mut self.reader, cx) {
-            Poll::Ready(Ok(())) => {
-                self.left = Some(allowed);
-                Poll::Ready(Ok(()))
-            }
-            Poll::Ready(Err(e)) => {
-                self.left = Some(allowed - 1);
-                Poll::Ready(Err(e))
-            }
-            Poll::Pending => {
-                self.left = None;
-                Poll::Pending
-            }
-        }
+        let polled = fill(&mut self.reader, cx);
+        self.left = match &polled {
+            Poll::Ready(Ok(())) => Some(allowed),
+            Poll::Ready(Err(_)) => Some(allowed - 1),
+            Poll::Pending => None,
+        };
+        polled
     }
 }
 
