@@ -8,7 +8,7 @@ use Rattle.lite_io_base.specs.Runs.{MarkLaws}
 use Rattle.std.specs.declared.vec.Vec.{Vec}
 use Rattle.lite_buffered.specs.declared.buf_reader.BufReader.{BufReader}
 use Rattle.lite_buffered.specs.BufReader.{Padded, PassesBuffer, ThroughBuffer, ahead, reader_capacity}
-use Rattle.lite_buffered.specs.Laws.BufReader.{ahead_none, passes_of}
+use Rattle.lite_buffered.specs.Laws.BufReader.{ahead_none, passes_of, through_laws}
 use Rattle.lite_buffered.proofs.Ranges.{length-slice_range, slice_range_none, slice_range_split}
 use Rattle.lite_base.specs.Runs.{Runs}
 
@@ -19,7 +19,7 @@ moved_none [] (x ∷ xs) p q = absurd (omega (arith, q))
 moved_none (b ∷ buf) xs p q = absurd (omega (arith, p))
 
 -- a fill, and then a read of what it lent, is a read
-pub fill_then_read : (shown room : List ℕ) (n : ℕ) → n ≡ min (length shown) (length room) → 0 < length room
+fill_then_read : (shown room : List ℕ) (n : ℕ) → n ≡ min (length shown) (length room) → 0 < length room
     → moved room (take n shown) ≡ filled shown ++ bytes (take n shown)
 fill_then_read shown [] n is some = absurd (omega (arith, some))
 fill_then_read [] (r ∷ room) n is some = let none : n ≡ 0 = omega arith in rw none refl
@@ -84,6 +84,16 @@ module _ {R : Type 0} (reads : Runs ReadMark R) (x y : BufReader R) where
   through_advance laws n inner buf pos end fits =
       through_taken laws (take n (ahead x)) inner (ap (λ (v : Vec ℕ Global). length v.items) buf)
       (advanced n buf pos end fits)
+
+-- a fill, and then a read of the first n bytes of what it lent
+pub fill_then_take : {R : Type 0} {reads : Runs ReadMark R} (laws : MarkLaws reads) (x s y : BufReader R) (n : ℕ)
+    (room : List ℕ) → ThroughBuffer reads x (filled (ahead s)) s → y.inner ≡ s.inner → y.buf ≡ s.buf → y.pos ≡ s.pos + n
+    → y.end ≡ s.end → n ≡ min (length (ahead s)) (length room) → 0 < length room
+    → ThroughBuffer reads x (moved room (take n (ahead s))) y
+fill_then_take {reads = reads} laws x s y n room fills inner buf pos end is some =
+    rw (fill_then_read (ahead s) room n is some)
+    ((through_laws laws).follows x s y (filled (ahead s)) (bytes (take n (ahead s))) fills
+    (through_advance reads s y laws n inner buf pos end (omega (arith, is))))
 
 -- what a fill is shown by
 pub ruleset fill_rules = (through_fill, through_past, slice_range_none)

@@ -2,13 +2,12 @@ use Rattle.std.proofs.Common.{◌≡◌, ◌≤◌, ◌<◌, [], Ok, length, tak
 use Rattle.std.proofs.lemmas.Grind.{common_steps}
 use Rattle.futures.specs.declared.task.Poll.TheVariants.{Ready}
 use Rattle.lite_io_base.specs.Laws.Runs.{reads_front}
-use Rattle.lite_io_base.specs.Marks.{bytes, filled, read_marks}
+use Rattle.lite_io_base.specs.Marks.{filled, read_marks}
 use Rattle.lite_io_base.specs.Runs.{room_in}
 use Rattle.lite_buffered.specs.BufReader.{ThroughBuffer, ahead}
-use Rattle.lite_buffered.specs.Laws.BufReader.{through_laws}
 use Rattle.lite_buffered.proofs.Polling.{polls_filled}
 use Rattle.lite_buffered.proofs.Ranges.{length-slice_range, slice_range_none}
-use Rattle.lite_buffered.proofs.Reading.{fill_then_read, moved_none, through_advance, through_past, through_taken}
+use Rattle.lite_buffered.proofs.Reading.{fill_then_take, moved_none, through_past, through_taken}
 use Rattle.lite_buffered.proofs.buf_reader.BufReaderAsyncRead.poll_read_vectored.Goals as goal
 
 pub returns-then-total-eq0-clause-ran : goal.returns-then-total-eq0-clause-ran
@@ -30,6 +29,7 @@ returns-then-total-len-clause-ran g c =
 pub returns-2-clause-ran : goal.returns-2-clause-ran
 returns-2-clause-ran g c =
     let reads = g.R.Tale.reads in
+    let laws = g.R.Tale.read_laws in
     let x = c.args.self.now in
     let s = c.fill.new.self in
     let y = c.advance.new.self in
@@ -42,10 +42,8 @@ returns-2-clause-ran g c =
     let is : n ≡ min (length (ahead s)) (room_in bufs) = grind (arith, common_steps) in
     let some : 0 < room_in bufs = grind (arith, common_steps) in
     let fits : n ≤ length (ahead s) = omega arith in
-    let taken = through_advance reads s y g.R.Tale.read_laws n e.inner e.buf e.pos e.end fits in
     reads_front (ThroughBuffer reads) x y n (take n (ahead s)) bufs (length-take-le n (ahead s) fits) (omega arith)
-    (λ buf room. rw (fill_then_read (ahead s) buf n (omega arith) (omega arith))
-    ((through_laws g.R.Tale.read_laws).follows x s y (filled (ahead s)) (bytes (take n (ahead s))) fills taken))
+    (λ buf room. fill_then_take laws x s y n buf fills e.inner e.buf e.pos e.end (omega arith) (omega arith))
 
 pub returns-2-clause-once : goal.returns-2-clause-once
 returns-2-clause-once g c =
