@@ -61,6 +61,12 @@ module _ {R : Type 0} (reply : Replying) {xs after : List ℕ} {told : List Read
 ends_later : (l m : List WriteMark) → EndsFlushed m → EndsFlushed (l ++ m)
 ends_later l m h = (l ++ h.0, ap (λ k. l ++ k) h.1 ∙ sym (append_assoc l h.0 (WriteMark.flushed ∷ [])))
 
+-- a flush behind other marks
+pub flush_behind : {E : Type 0} (l m : List WriteMark) (r : Result (Unit {0}) E) → IfOk r (λ _. EndsFlushed m)
+    → IfOk r (λ _. EndsFlushed (l ++ m))
+flush_behind l m (Ok u) h = ends_later l m h
+flush_behind l m (Err e) h = tt
+
 module _ {W : Type 0} {writes : Runs WriteMark W} (laws : MarkLaws writes) (x y z : W) (p : List ℕ)
     (l m : List WriteMark) (before : TakesFront writes x p l y) (all : bytes_taken l ≡ p) (more : writes y m z)
     (none : bytes_taken m ≡ []) where
@@ -70,12 +76,6 @@ module _ {W : Type 0} {writes : Runs WriteMark W} (laws : MarkLaws writes) (x y 
   -- marks without a byte behind all bytes
   pub none_behind : TakesFront writes x p (l ++ m) z × (bytes_taken (l ++ m) ≡ p)
   none_behind = ((laws.follows x y z l m before.0 more, ([], sym (append-nil _ ∙ still_all))), still_all)
-
-  -- a flush behind them
-  pub flush_behind : {E : Type 0} (r : Result (Unit {0}) E) → IfOk r (λ _. EndsFlushed m)
-      → IfOk r (λ _. (bytes_taken (l ++ m) ≡ p) × EndsFlushed (l ++ m))
-  flush_behind (Ok u) h = (still_all, ends_later l m h)
-  flush_behind (Err e) h = tt
 
 -- all that was told so far was answered
 pub record SoFar {S W : Type 0} (reply : Replying) (reads : Runs ReadMark S) (writes : Runs WriteMark W)

@@ -78,7 +78,9 @@ where
     line.clear();
     read_line(on, rt, requests, line)?;
     if take_line(line) {
-        answer_whole(on, rt, requests, replies, service, line)?;
+        // What was answered is handed on where no more of the input is at hand.
+        let flush_now = requests.buffer().is_empty();
+        answer(on, rt, replies, service, line, flush_now)?;
         return Ok(true);
     }
     answer_last(on, rt, replies, service, line)?;
@@ -104,22 +106,6 @@ fn read_line<R: Wait, I: AsyncBufRead + CountedRead>(
     }
 }
 
-/// Answers a line that a newline ended, and flushes where no more of the input is at hand.
-fn answer_whole<R: Wait, I: AsyncBufRead, O: AsyncWrite, L: LineService>(
-    on: &mut BlockOn,
-    rt: &R,
-    requests: &I,
-    replies: &mut O,
-    service: &mut L,
-    line: &mut Vec<u8>,
-) -> Result<(), ServeError>
-    ensures { (took : List WriteMark) × TakesFront O.writes replies.old (L.reply line.old.items) took replies.new
-        × IfOk result (λ _. bytes_taken took ≡ L.reply line.old.items) × IfErr result OfOutput }
-{
-    answer(on, rt, replies, service, line)?;
-    flush_if(on, rt, replies, requests.buffer().is_empty())
-}
-
 /// Answers what stood before an end, if that was something, and flushes.
 fn answer_last<R: Wait, O: AsyncWrite, L: LineService>(
     on: &mut BlockOn,
@@ -130,43 +116,33 @@ fn answer_last<R: Wait, O: AsyncWrite, L: LineService>(
 ) -> Result<(), ServeError>
     ensures { (took : List WriteMark)
         × TakesFront O.writes replies.old (flat_map L.reply (last_piece line.old.items)) took replies.new
-        × IfOk result (λ _. (bytes_taken took ≡ flat_map L.reply (last_piece line.old.items)) × EndsFlushed took)
-        × IfErr result OfOutput }
+        × IfOk result (λ _. bytes_taken took ≡ flat_map L.reply (last_piece line.old.items))
+        × IfOk result (λ _. EndsFlushed took) × IfErr result OfOutput }
 {
     if line.is_empty() {
-        return flush(on, rt, replies);
+        return flush_if(on, rt, replies, true);
     }
-    answer(on, rt, replies, service, line)?;
-    flush(on, rt, replies)
+    answer(on, rt, replies, service, line, true)
 }
 
-/// Answers a line, which becomes the reply.
+/// Answers a line, which becomes the reply, and flushes if that is to be done now.
 fn answer<R: Wait, O: AsyncWrite, L: LineService>(
     on: &mut BlockOn,
     rt: &R,
     replies: &mut O,
     service: &mut L,
     line: &mut Vec<u8>,
+    flush_now: bool,
 ) -> Result<(), ServeError>
     ensures { (took : List WriteMark) × TakesFront O.writes replies.old (L.reply line.old.items) took replies.new
-        × IfOk result (λ _. bytes_taken took ≡ L.reply line.old.items) × IfErr result OfOutput }
+        × IfOk result (λ _. bytes_taken took ≡ L.reply line.old.items)
+        × (flush_now ≡ true → IfOk result (λ _. EndsFlushed took)) × IfErr result OfOutput }
 {
     let Ok(()) = service.answer(line) else {
         return Err(ServeError::Memory);
     };
-    of_output(wait_write_all(on, rt, replies, line))
-}
-
-/// Flushes the replies.
-fn flush<R: Wait, O: AsyncWrite>(
-    on: &mut BlockOn,
-    rt: &R,
-    replies: &mut O,
-) -> Result<(), ServeError>
-    ensures { (took : List WriteMark) × O.writes replies.old took replies.new × (bytes_taken took ≡ [])
-        × IfOk result (λ _. EndsFlushed took) × IfErr result OfOutput }
-{
-    of_output(wait_flush(on, rt, replies))
+    of_output(wait_write_all(on, rt, replies, line))?;
+    flush_if(on, rt, replies, flush_now)
 }
 
 /// What a wait for a call of the output comes to.
@@ -188,12 +164,12 @@ fn flush_if<R: Wait, O: AsyncWrite>(
     now: bool,
 ) -> Result<(), ServeError>
     ensures { (took : List WriteMark) × O.writes replies.old took replies.new × (bytes_taken took ≡ [])
-        × IfErr result OfOutput }
+        × (now ≡ true → IfOk result (λ _. EndsFlushed took)) × IfErr result OfOutput }
 {
     if !now {
         return Ok(());
     }
-    flush(on, rt, replies)
+    of_output(wait_flush(on, rt, replies))
 }
 
 /// Takes the newline off, and one return before it, and says whether there was a newline.

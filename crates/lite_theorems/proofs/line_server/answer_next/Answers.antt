@@ -12,13 +12,13 @@ returns-in_err-read_line-clause-answered g c =
     let wrote = g.O.Takings.write_laws.rests _ in
     rw is (t.0, [], t.1, wrote, replied _ _ _ _ _ xs _ t.2.0 t.2.1 refl (replies g.L.LineService.reply xs, refl) t.2.2)
 
-pub returns-in_err-answer_whole-clause-answered : goal.returns-in_err-answer_whole-clause-answered
-returns-in_err-answer_whole-clause-answered g c =
+pub returns-in_err-answer-clause-answered : goal.returns-in_err-answer-clause-answered
+returns-in_err-answer-clause-answered g c =
     let one = c.in_ok-read_line.ensures.told in
-    let two = c.in_err-answer_whole.ensures in
+    let two = c.in_err-answer.ensures in
     let take = c.take_line.ensures in
-    let is : c.from_residual-in_err-answer_whole.result ≡ Err c.in_err-answer_whole.field-0.0 = search rules in
-    let stops = stops_output [] _ (inl refl) two.3 in
+    let is : c.from_residual-in_err-answer.result ≡ Err c.in_err-answer.field-0.0 = search rules in
+    let stops = stops_output [] _ (inl refl) two.4 in
     let done =
     whole_replied g.L.LineService.reply one.2 take.whole take.last two.0 _ _
     c.if-take_line.true two.1.1 (λ e w. stops) in
@@ -27,7 +27,7 @@ returns-in_err-answer_whole-clause-answered g c =
 pub returns-then-take_line-clause-answered : goal.returns-then-take_line-clause-answered
 returns-then-take_line-clause-answered g c =
     let one = c.in_ok-read_line.ensures.told in
-    let two = c.in_ok-answer_whole.ensures in
+    let two = c.in_ok-answer.ensures in
     let take = c.take_line.ensures in (
       one.0,
       two.0,
@@ -43,7 +43,7 @@ returns-in_err-answer_last-clause-answered g c =
     let two = c.in_err-answer_last.ensures in
     let take = c.take_line.ensures in
     let is : c.from_residual-in_err-answer_last.result ≡ Err c.in_err-answer_last.field-0.0 = search rules in
-    let stops = stops_output (ReadMark.end ∷ []) _ (inr refl) two.3 in
+    let stops = stops_output (ReadMark.end ∷ []) _ (inr refl) two.4 in
     let done =
     last_replied g.L.LineService.reply one.2 take.whole take.last two.0 _ _
     c.if-take_line.false two.1.1 (λ w. stops) in
@@ -59,5 +59,5 @@ returns-clause-answered g c =
       one.1,
       two.1.0,
       last_replied g.L.LineService.reply one.2 take.whole take.last two.0 _ _ c.if-take_line.false two.1.1
-          (λ w. (refl, (two.2.0 ∙ w, two.2.1))),
+          (λ w. (refl, (two.2 ∙ w, two.3))),
     )
