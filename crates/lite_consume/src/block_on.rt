@@ -44,22 +44,8 @@ impl<R, S: fmt::Debug> fmt::Debug for BlockOn<R, S> {
     }
 }
 
-/// What is waited with, which is made where there is none yet.
-fn kept<'a, R>(rt: &R, waiter: &'a mut Option<Waiter>) -> Result<&'a mut Waiter, AllocError>
-where
-    R: Wait + RandomSource + AllocGlobal,
-{
-    if waiter.is_none() {
-        *waiter = Some(Waiter::new(rt)?);
-    }
-    match waiter {
-        Some(waiter) => Ok(waiter),
-        None => unreachable!(),
-    }
-}
-
 impl<R: Wait + RandomSource + AllocGlobal, S: Stream> BlockOn<R, S> {
-    /// What `folder` makes of the items.
+    /// What `folder` makes of the items. What is waited with is made where there is none yet.
     fn ask<F: Folder<S> + Drop>(&mut self, mut folder: F) -> Result<F::Output, AllocError>
         requires polls { S.can_poll self.old.stream }
         requires counts { F.counts self.old.stream }
@@ -68,7 +54,12 @@ impl<R: Wait + RandomSource + AllocGlobal, S: Stream> BlockOn<R, S> {
         ensures gave { IfOk result (λ value. BlockGives F.fold S.run self.old.stream folder value self.new.stream) }
         ensures kept { OnErr result (self.new.stream ≡ self.old.stream) }
     {
-        let waiter = kept(&self.rt, &mut self.waiter)?;
+        // By itself, so that it is known that the rest stays.
+        let waiter = &mut self.waiter;
+        if waiter.is_none() {
+            *waiter = Some(Waiter::new(&self.rt)?);
+        }
+        let waiter = waiter.as_mut().unwrap();
         waiter.wait_for(&self.rt, &mut consume(&mut self.stream, &mut folder))
     }
 
