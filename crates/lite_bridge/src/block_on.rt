@@ -14,7 +14,7 @@ use lite_base::future::block_on::BlockOn as Waiter;
 use lite_io_base::{AsyncBufRead, AsyncRead, AsyncSeek, AsyncWrite};
 use lite_read::make::{read, seek};
 use lite_write::make::{flush, write};
-use std::alloc::{AllocError, AllocGlobal};
+use std::alloc::AllocGlobal;
 use std::io::{BufRead, Read, Seek, SeekFrom, Write};
 use std::random::RandomSource;
 use std::sync::Wait;
@@ -39,21 +39,7 @@ impl<R, T: fmt::Debug> fmt::Debug for BlockOn<R, T> {
     }
 }
 
-// What is waited with, which is made where there is none yet.
-fn kept<'a, R>(rt: &R, waiter: &'a mut Option<Waiter>) -> Result<&'a mut Waiter, AllocError>
-where
-    R: Wait + RandomSource + AllocGlobal,
-{
-    if waiter.is_none() {
-        *waiter = Some(Waiter::new(rt)?);
-    }
-    match waiter {
-        Some(waiter) => Ok(waiter),
-        None => unreachable!(),
-    }
-}
-
-// Waits for the value of the future.
+// Waits for the value of the future. What is waited with is made where there is none yet.
 fn wait_for<R, F, A>(rt: &R, waiter: &mut Option<Waiter>, future: &mut F) -> io::Result<A>
 where
     R: Wait + RandomSource + AllocGlobal,
@@ -61,13 +47,10 @@ where
     requires { F.can_poll future.old }
     ensures { GaveOrRefused F.run future.old result future.new }
 {
-    match kept(rt, waiter) {
-        Ok(waiter) => match waiter.wait_for(rt, future) {
-            Ok(value) => value,
-            Err(e) => Err(e.into()),
-        },
-        Err(e) => Err(e.into()),
+    if waiter.is_none() {
+        *waiter = Some(Waiter::new(rt)?);
     }
+    waiter.as_mut().unwrap().wait_for(rt, future)?
 }
 
 impl<R, T> BlockOn<R, T> {
