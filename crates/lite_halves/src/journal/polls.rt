@@ -77,9 +77,7 @@ impl<T: Tale + AsyncWrite + Clone> Journal<T> {
         ensures fits { length self.new.notes < 2 ^ 64 }
         ensures none { IfNone result (self.new ≡ self.old) }
     {
-        let Ok(offered) = Vec::from_slice(self.alloc, buf) else {
-            return None;
-        };
+        let offered = Vec::from_slice(self.alloc, buf).ok()?;
         self.entries.reserve(1).ok()?;
         let polled = self.stream.poll_write(cx, buf);
         let answer = write_answer(&polled);
