@@ -1,6 +1,6 @@
 -- What is known of the first line from what was seen of it.
-use Rattle.std.proofs.Common.{◌≡◌, ◌≢◌, ℕ, zero, suc, ◌+◌, ◌<◌, ◌≤◌, Bool, true, false, not, ◌&&◌, cond, List, [], ◌∷◌}
-use Rattle.std.proofs.Common.{length, take, drop, get_or, leb, position, Some, None, sym, ap, ◌∙◌, arith}
+use Rattle.std.proofs.Common.{◌≡◌, ◌≢◌, ℕ, zero, suc, ◌+◌, ◌-◌, ◌<◌, ◌≤◌, Bool, true, false, not, ◌&&◌, cond, List, []}
+use Rattle.std.proofs.Common.{◌∷◌, length, take, drop, get_or, leb, position, Some, None, sym, ap, ◌∙◌, arith}
 use Rattle.std.proofs.lemmas.Bool.{and_from, cond-false, cond-true, eq-eqb, le-leb, le-ltb, lt-leb, lt-ltb, ne_eqb}
 use Rattle.std.proofs.lemmas.List.{drop_more, length-drop, length-take, length-take-le, take-append-drop, take_all}
 use Rattle.std.proofs.Math.Dec.{leb-suc-suc}
@@ -9,7 +9,7 @@ use Rattle.std.proofs.lemmas.List.Folds.{list_all-append, prefix_len-append}
 use Rattle.std.proofs.lemmas.List.Sums.{prefix_len-le-length}
 use Rattle.std.specs.Char.{is_ascii}
 use Rattle.std.specs.List.{before_first, list_all, position_or_len, prefix_len}
-use Rattle.lite_read.specs.Scan.{IsPlain, is_newline}
+use Rattle.lite_read.specs.Scan.{IsPlain, LineGoesOn, is_newline}
 
 module _ (p : ℕ → Bool) (d : List ℕ) where
   -- the front passes whole, and so more of the list passes by what follows
@@ -75,13 +75,6 @@ newline_at d place within e =
     let less : position_or_len is_newline d < length d = omega (arith, e, within) in
     sym (cond-true _ _ _ (lt-ltb _ _ less) ∙ ap Some e)
 
-pub no_newline : (d : List ℕ) (at : ℕ) → length d ≤ at → position_or_len is_newline (take at d) ≡ at → at ≤ length d
-    → None ≡ position is_newline d
-no_newline d at all seen room =
-    let e = ap (position_or_len is_newline) (sym (take_all at d all)) ∙ seen in
-    let whole : length d ≤ position_or_len is_newline d = omega (arith, e, all) in
-    sym (cond-false _ _ _ (le-ltb _ _ whole))
-
 -- the next m bytes of the k are ASCII too
 pub ascii_on : (d : List ℕ) (at m k : ℕ) (ascii : Bool) → m ≤ k → at + k ≤ length d
     → ascii ≡ list_all is_ascii (take at d)
@@ -92,20 +85,36 @@ ascii_on d at m k ascii less room e =
     ∙ ap (λ b. list_all is_ascii (take at d) && b) (sym rest)
     ∙ sym (ap (list_all is_ascii) (take-add at m d) ∙ list_all-append is_ascii (take at d) (take m (drop at d)))
 
--- the next n bytes were looked at, and none of them is a newline
-pub seen_on : (d : List ℕ) (at n line run : ℕ) (ascii : Bool) → at + n ≤ length d
-    → position_or_len is_newline (take at d) ≡ at → ascii ≡ list_all is_ascii (take at d)
-    → line ≡ position_or_len is_newline (take n (drop at d)) → n ≤ line → run ≡ prefix_len is_ascii (take n (drop at d))
-    → (position_or_len is_newline (take (at + n) d) ≡ at + n)
-    × ((ascii && leb line run) ≡ list_all is_ascii (take (at + n) d))
-seen_on d at n line run ascii room seen e line_is more run_is =
-    let whole = seen_more d at seen line n room line_is more in
-    (whole.1, rw (whole.0, run_is) (ascii_on d at n n ascii (omega arith) room e))
-
 -- the line ends at this place
-pub line_is : (d : List ℕ) (place : ℕ) → position_or_len is_newline d ≡ place
+pub line_ascii : (d : List ℕ) (place : ℕ) → position_or_len is_newline d ≡ place
     → list_all is_ascii (take place d) ≡ list_all is_ascii (before_first is_newline d)
-line_is d place e = ap (λ n. list_all is_ascii (take n d)) (sym e)
+line_ascii d place e = ap (λ n. list_all is_ascii (take n d)) (sym e)
+
+-- the next n bytes were looked at
+module _ {d : List ℕ} {at n line run : ℕ} {ascii : Bool} (so_far : LineGoesOn at ascii d) (left : n ≤ length d - at)
+    (line_is : line ≡ position_or_len is_newline (take n (drop at d)))
+    (run_is : run ≡ prefix_len is_ascii (take n (drop at d))) where
+  room : at + n ≤ length d
+  room = omega (arith, left, so_far.within)
+
+  -- and a newline is among them
+  pub ends_on : line < n → (Some (at + line) ≡ position is_newline d)
+      × ((ascii && leb line run) ≡ list_all is_ascii (before_first is_newline d))
+  ends_on less =
+      let ends = found d at so_far.line line n room less line_is in (
+        newline_at d (at + line) (omega (arith, room, less)) ends,
+        rw run_is (ascii_on d at line n ascii (omega (arith, less)) room so_far.known) ∙ line_ascii d _ ends,
+      )
+
+  -- and none of them is a newline
+  pub goes_on : n ≤ line → LineGoesOn (at + n) (ascii && leb line run) d
+  goes_on more =
+      let whole = seen_more d at so_far.line line n room line_is more in
+      record {
+        within = room;
+        line = whole.1;
+        known = rw (whole.0, run_is) (ascii_on d at n n ascii (omega arith) room so_far.known);
+      }
 
 -- the next n bytes are plain too
 pub plain_more : (d : List ℕ) (at n : ℕ) → IsPlain at d → IsPlain n (drop at d) → IsPlain (at + n) d
@@ -113,6 +122,6 @@ plain_more d at n front next =
     record {
       within = omega (arith, front.within, next.within, length-drop at d);
       line = run_on (λ b. not (is_newline b)) d at n front.within front.line ∙ ap (λ k. at + k) next.line;
-      ascii = ap (list_all is_ascii) (take-add at n d) ∙ list_all-append is_ascii (take at d) (take n (drop at d))
-          ∙ and_from _ _ front.ascii next.ascii;
+      known = sym (ap (list_all is_ascii) (take-add at n d) ∙ list_all-append is_ascii (take at d) (take n (drop at d))
+          ∙ and_from _ _ (sym front.known) (sym next.known));
     }

@@ -13,8 +13,12 @@ is_newline b = b == 10
 abbrev pub first_set : ℕ → ℕ
 first_set mask = if mask == 0 then 32 else trailing_zeros w64 mask
 
--- there are so many bytes, and of these none is a newline and each is ASCII
-pub record IsPlain (n : ℕ) (bytes : List ℕ) : Type 0 where
+-- there are so many bytes, of these none is a newline, and `ascii` says whether each is ASCII
+pub record LineGoesOn (n : ℕ) (ascii : Bool) (bytes : List ℕ) : Type 0 where
   pub within : n ≤ length bytes
   pub line : position_or_len is_newline (take n bytes) ≡ n
-  pub ascii : list_all is_ascii (take n bytes) ≡ true
+  pub known : ascii ≡ list_all is_ascii (take n bytes)
+
+-- there are so many bytes, and of these none is a newline and each is ASCII
+abbrev pub IsPlain : ℕ → List ℕ → Type 0
+IsPlain n bytes = LineGoesOn n true bytes

@@ -2,7 +2,7 @@
 ghost use Rattle.std.specs.Prelude.{◌≡◌, ◌+◌, ◌≤◌, length, take, drop, position, IsTrue};
 ghost use Rattle.std.specs.Char.{is_ascii};
 ghost use Rattle.std.specs.List.{before_first, list_all, position_or_len, prefix_len};
-ghost use Rattle.lite_read.specs.Scan.{IsPlain, first_set, is_newline};
+ghost use Rattle.lite_read.specs.Scan.{IsPlain, LineGoesOn, first_set, is_newline};
 
 use std::simd::prelude::*;
 
@@ -62,9 +62,7 @@ fn past_plain(bytes: &[u8], mut at: usize) -> usize
 
 // The bytes from `at` on. Before them is no newline, and `ascii` says whether they are ASCII.
 fn scan_rest(bytes: &[u8], at: usize, mut ascii: bool) -> LineScan
-    requires within { at ≤ length bytes.now }
-    requires line { position_or_len is_newline (take at bytes.now) ≡ at }
-    requires ascii { ascii ≡ list_all is_ascii (take at bytes.now) }
+    requires { LineGoesOn at ascii bytes.now }
     ensures newline { result.newline ≡ position is_newline bytes.now }
     ensures ascii { result.ascii ≡ list_all is_ascii (before_first is_newline bytes.now) }
 {

@@ -25,5 +25,5 @@ returns c plain =
     record {
       within = room;
       line = line;
-      ascii = all_below is_ascii (drop at d) 64 64 (omega arith) room ∙ le-leb 64 _ (omega (arith, all));
+      known = sym (all_below is_ascii (drop at d) 64 64 (omega arith) room ∙ le-leb 64 _ (omega (arith, all)));
     }
