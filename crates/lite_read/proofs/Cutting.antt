@@ -96,12 +96,12 @@ module _ {R : Type 0} (byte : ℕ) (may_refuse : Type 0) (becomes : Cut → List
       → AnswerMarks (pieces byte may_refuse becomes) held (ReadMark.pending ∷ []) Pending after
   waits_here held after same = segment_alone held after (ReadMark.pending ∷ []) Pending (refl, tt, same)
 
-module _ {X S M K R : Type 0} (over : StreamOver X S M K) (fold : K → ReadFold M R) (reads : Runs ReadMark S) where
+module _ {X S M K R : Type 0} {over : StreamOver X S M K} {fold : K → ReadFold M R} {reads : Runs ReadMark S} where
   -- one answer
-  pub flow_one : (x y : X) (marks : List ReadMark) (a : Poll R) → reads (over.reader x) marks (over.reader y)
+  pub flow_one : {x y : X} {marks : List ReadMark} {a : Poll R} → reads (over.reader x) marks (over.reader y)
       → AnswerMarks (fold (over.kept x)) (over.held x) marks a (over.held y)
       → over.kept y ≡ over.kept x → Flows over fold reads x (a ∷ []) y
-  flow_one x y marks a came answers same =
+  flow_one {marks} {a} came answers same =
       record {
         segmented = record {
           marks = marks;

@@ -16,44 +16,42 @@ use Rattle.lite_read.proofs.Cutting.{concludes_at, concludes_piece, fill_then, f
 use Rattle.lite_read.proofs.Cutting.{takes_all, waits_here}
 use Rattle.lite_base.specs.Runs.{Runs}
 
-module _ {X S K A : Type 0} (over : StreamOver X S (List ℕ) K) (byte : K → ℕ)
-    (whole final : List ℕ → Result A Error → Type 0) (reads : Runs ReadMark S) (laws : MarkLaws reads)
-    (x y : X) (same : over.kept y ≡ over.kept x) where
+module _ {X S K A : Type 0} {over : StreamOver X S (List ℕ) K} {byte : K → ℕ}
+    {whole final : List ℕ → Result A Error → Type 0} {reads : Runs ReadMark S} (laws : MarkLaws reads)
+    {x y : X} (same : over.kept y ≡ over.kept x) where
   module _ (held : over.held y ≡ over.held x) where
     pub item_waits : reads (over.reader x) (ReadMark.pending ∷ []) (over.reader y)
         → Flows over (λ k. pieces (byte k) ⊤ (Itemised whole final)) reads x (Pending ∷ []) y
     item_waits came =
-        flow_one over (λ k. pieces _ ⊤ (Itemised whole final)) reads x y (ReadMark.pending ∷ []) Pending came
-        (waits_here (byte _) ⊤ (Itemised whole final) _ _ held) same
+        flow_one came (waits_here (byte _) ⊤ (Itemised whole final) _ _ held) same
 
     pub item_fails : (e : Error) → reads (over.reader x) (ReadMark.fault (error_kind e) ∷ []) (over.reader y)
         → Flows over (λ k. pieces (byte k) ⊤ (Itemised whole final)) reads x (Ready (Some (Err e)) ∷ []) y
     item_fails e came =
-        flow_one over (λ k. pieces (byte k) ⊤ (Itemised whole final)) reads x y _ _ came
-        (concludes_at (byte (over.kept x)) ⊤ (Itemised whole final) (over.held x) _ (Cut.failed e) (Some (Err e))
-        (over.held y) (inl refl) (refl, held)) same
+        flow_one came
+        (concludes_at (byte _) ⊤ (Itemised whole final) _ _ (Cut.failed e) (Some _) _ (inl refl) (refl, held)) same
 
     pub item_refused : (e : Error) (mid : S) (shown : List ℕ) → reads (over.reader x) (filled shown) mid
         → 0 < length shown → error_kind e ≡ OutOfMemory → over.reader y ≡ mid
         → Flows over (λ k. pieces (byte k) ⊤ (Itemised whole final)) reads x (Ready (Some (Err e)) ∷ []) y
     item_refused e mid shown fills some is unread =
         let came = fill_then reads laws _ mid _ shown [] some fills (rw unread (laws.rests mid)) in
-        flow_one over (λ k. pieces _ ⊤ (Itemised whole final)) reads x y [] _ came
-        (concludes_at (byte _) ⊤ (Itemised whole final) _ [] (Cut.failed e) (Some _)
-        _ (inr (refl, tt, is)) (refl, held)) same
+        flow_one came
+        (concludes_at (byte _) ⊤ (Itemised whole final) _ [] (Cut.failed e) (Some _) _ (inr (refl, tt, is))
+        (refl, held)) same
 
   module _ (empty : over.held y ≡ []) where
     item_last : (r : Result A Error) → 0 < length (over.held x) → final (over.held x) r
         → reads (over.reader x) (ReadMark.end ∷ []) (over.reader y)
         → Flows over (λ k. pieces (byte k) ⊤ (Itemised whole final)) reads x (Ready (Some r) ∷ []) y
     item_last r some is came =
-        flow_one over (λ k. pieces _ ⊤ (Itemised whole final)) reads x y _ _ came
+        flow_one came
         (concludes_at (byte _) ⊤ (Itemised whole final) _ _ (Cut.last _) _ _ (refl, some, refl) (is, empty)) same
 
     item_ends : over.held x ≡ [] → reads (over.reader x) (ReadMark.end ∷ []) (over.reader y)
         → Flows over (λ k. pieces (byte k) ⊤ (Itemised whole final)) reads x (Ready None ∷ []) y
     item_ends none came =
-        flow_one over (λ k. pieces _ ⊤ (Itemised whole final)) reads x y _ _ came
+        flow_one came
         (concludes_at (byte _) ⊤ (Itemised whole final) _ _ Cut.nothing None _ (refl, none) empty) same
 
     pub item_at_end : (r : Option (Result A Error)) → AtEnd final (over.held x) r
@@ -70,7 +68,7 @@ module _ {X S K A : Type 0} (over : StreamOver X S (List ℕ) K) (byte : K → �
         let at = found_at (byte _) shown k first in
         let came = fill_then reads laws _ mid _ shown (bytes (take _ shown)) (omega (arith, at.0)) fills took in
         let piece = concludes_piece (byte _) ⊤ (Itemised whole final) _ _ _ _ at.1 (is, empty) in
-        flow_one over (λ k. pieces _ ⊤ (Itemised whole final)) reads x y _ _ came (rw at.2 piece) same
+        flow_one came (rw at.2 piece) same
 
   -- what became of the delimiter at k
   pub item_found : (mid : S) (shown : List ℕ) (k : ℕ) (r : Result A Error) → reads (over.reader x) (filled shown) mid
@@ -83,6 +81,10 @@ module _ {X S K A : Type 0} (over : StreamOver X S (List ℕ) K) (byte : K → �
   item_found mid shown k (Err e) fills first ok err =
       item_refused err.2 e mid shown fills (omega (arith, (found_at (byte _) shown k first).0)) err.0 err.1
 
+-- all was taken in
+module _ {X S K A : Type 0} {over : StreamOver X S (List ℕ) K} (byte : K → ℕ)
+    {whole final : List ℕ → Result A Error → Type 0} {reads : Runs ReadMark S} (laws : MarkLaws reads)
+    {x y : X} (same : over.kept y ≡ over.kept x) where
   pub item_more : (mid : S) (shown : List ℕ) → reads (over.reader x) (filled shown) mid
       → IsFirstByte (is_byte (byte (over.kept x))) shown None → 0 < length shown
       → over.held y ≡ over.held x ++ shown → reads mid (bytes shown) (over.reader y)

@@ -86,7 +86,7 @@ module _ {X S M K A : Type 0} (over : StreamOver X S M K) (fold : K → ReadFold
       → Flows over fold reads x l y → P (over.reader y)
   flow_keeps P keeps x y l p h = keeps _ _ h.segmented.marks p h.segmented.came
 
-module _ {X S M K A : Type 0} (over : StreamOver X S M K) (fold : K → ReadFold M (Option A)) {reads : Runs ReadMark S}
+module _ {X S M K A : Type 0} {over : StreamOver X S M K} {fold : K → ReadFold M (Option A)} {reads : Runs ReadMark S}
     (laws : MarkLaws reads) {x z : X} {a : Poll (Option A)} where
   -- an answer after some steps
   pub flow_ran : (y : X) × Reaches (TakesPieceIn over fold reads) x y × Flows over fold reads y (a ∷ []) z

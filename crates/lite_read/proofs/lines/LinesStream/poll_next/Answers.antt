@@ -1,11 +1,9 @@
-use Rattle.std.specs.Prelude.{⊤}
-use Rattle.lite_read.specs.Lines.{lines_over, lining}
 use Rattle.lite_read.specs.Laws.Segments.{flow_on, flow_ran}
 use Rattle.lite_read.proofs.lines.LinesStream.poll_next.Goals as goal
 
 pub returns-clause-ran : goal.returns-clause-ran
-returns-clause-ran g c = flow_ran lines_over (lining ⊤) g.R.Tale.read_laws c.drive.ensures.stepped
+returns-clause-ran g c = flow_ran g.R.Tale.read_laws c.drive.ensures.stepped
 
 pub returns-clause-again : goal.returns-clause-again
 returns-clause-again g c =
-    flow_on lines_over (lining ⊤) g.R.Tale.read_laws g.met.R.CountedRead.counting c.requires c.drive.ensures.stepped
+    flow_on g.R.Tale.read_laws g.met.R.CountedRead.counting c.requires c.drive.ensures.stepped

@@ -2,27 +2,25 @@ use Rattle.std.proofs.Common.{◌≡◌, [], Some, None, Ok, Err, refl, rules}
 use Rattle.std.proofs.lemmas.Grind.{common_steps}
 use Rattle.futures.specs.declared.task.Poll.TheVariants.{Ready, Pending}
 use Rattle.lite_read.proofs.Items.{item_at_end, item_fails, item_found, item_more, item_refused, item_waits}
-use Rattle.lite_read.specs.Split.{IsVec, split_over}
 use Rattle.lite_read.proofs.split.SplitPollSteps.poll_step.Goals as goal
 
 pub returns-in-Pending-clause-stepped : goal.returns-in-Pending-clause-stepped
 returns-in-Pending-clause-stepped g c =
     let is : c.find_byte.result ≡ Pending = search rules in
-    item_waits split_over (λ k. k) IsVec IsVec g.R.Tale.reads g.R.Tale.read_laws _ _ refl refl
+    item_waits g.R.Tale.read_laws refl refl
     (rw is at c.find_byte.ensures.ran)
 
 pub returns-in-Ready-Err-clause-stepped : goal.returns-in-Ready-Err-clause-stepped
 returns-in-Ready-Err-clause-stepped g c =
     let is : c.find_byte.result ≡ Ready (Err c.in-Ready-Err.e) = search rules in
-    item_fails split_over (λ k. k) IsVec IsVec g.R.Tale.reads g.R.Tale.read_laws _ _ refl refl c.in-Ready-Err.e
+    item_fails g.R.Tale.read_laws refl refl c.in-Ready-Err.e
     (rw is at c.find_byte.ensures.ran)
 
 pub returns-in-Ready-Ok-Some-clause-stepped : goal.returns-in-Ready-Ok-Some-clause-stepped
 returns-in-Ready-Ok-Some-clause-stepped g c =
     let is : c.find_byte.result ≡ Ready (Ok (Some c.in-Ready-Ok-Some.at)) = search rules in
     let e = c.cut.ensures in
-    item_found split_over
-    (λ k. k) IsVec IsVec g.R.Tale.reads g.R.Tale.read_laws _ _ e.byte _ _ c.in-Ready-Ok-Some.at c.cut.result
+    item_found g.R.Tale.read_laws e.byte _ _ c.in-Ready-Ok-Some.at c.cut.result
     (rw is at c.find_byte.ensures.ran)
     (rw is at c.find_byte.ensures.found) e.ok e.err
 
@@ -32,20 +30,19 @@ returns-then-is_empty-clause-stepped g c =
     let none : g.R.AsyncBufRead.lent c.find_byte.new.reader ≡ [] = search (rules, common_steps) in
     let fills = rw (is, none) at c.find_byte.ensures.ran in
     let e = c.last.ensures in
-    item_at_end split_over
-    (λ k. k) IsVec IsVec g.R.Tale.reads g.R.Tale.read_laws _ _ e.byte e.empty c.last.result e.value
+    item_at_end g.R.Tale.read_laws e.byte e.empty c.last.result e.value
     (rw e.reader fills)
 
 pub returns-in-Ok-clause-stepped : goal.returns-in-Ok-clause-stepped
 returns-in-Ok-clause-stepped g c =
     let is : c.find_byte.result ≡ Ready (Ok None) = search rules in
     let e = c.in-Ok.ensures in
-    item_more split_over (λ k. k) IsVec IsVec g.R.Tale.reads g.R.Tale.read_laws _ _ e.byte _ _
+    item_more (λ k. k) g.R.Tale.read_laws e.byte _ _
     (rw is at c.find_byte.ensures.ran) (rw is at c.find_byte.ensures.found) (search (rules, common_steps)) e.ok e.taken
 
 pub returns-in-Err-clause-stepped : goal.returns-in-Err-clause-stepped
 returns-in-Err-clause-stepped g c =
     let is : c.find_byte.result ≡ Ready (Ok None) = search rules in
     let e = c.in-Err.ensures in
-    item_refused split_over (λ k. k) IsVec IsVec g.R.Tale.reads g.R.Tale.read_laws _ _ e.byte e.held c.in-Err.e _ _
+    item_refused g.R.Tale.read_laws e.byte e.held c.in-Err.e _ _
     (rw is at c.find_byte.ensures.ran) (search (rules, common_steps)) e.refused e.unread
