@@ -19,7 +19,7 @@ use Rattle.lite_base.specs.Runs.{Runs}
 use Rattle.lite_io_base.specs.Counting.{ReadCounting}
 use Rattle.lite_io_base.specs.Marks.{ReadMark, bytes, moved}
 use Rattle.lite_io_base.specs.Runs.{MarkLaws}
-use Rattle.lite_read.proofs.Filling.{bytes_came, put_front, put_kept, put_len}
+use Rattle.lite_read.proofs.Filling.{Behind, bytes_came, how_long, put_front, put_kept, put_len}
 use Rattle.lite_read.specs.ReadFold.{AnswerMarks, LastMarks}
 use Rattle.lite_read.specs.Appending.{read_front}
 use Rattle.lite_read.specs.Laws.ReadToEnd.{appends_all, grown}
@@ -102,7 +102,7 @@ module _ {R A : Type 0} (m : Type 0) (reads : Runs ReadMark R) where
   pub read_some : (x w : ReadToEndFuture R A) (r : R) (old new : List ℕ) (n room : ℕ)
       → w ≡ record x { buf = record x.buf { now = w.buf.now } } → read_front w ≡ read_front x
       → w.filled ≤ length w.buf.now.items → old ≡ w.buf.now.items
-      → length new ≡ length old - w.filled → n ≤ length new → 0 < n → reads w.reader.now (moved new (take n new)) r
+      → Behind w.filled old new → n ≤ length new → 0 < n → reads w.reader.now (moved new (take n new)) r
       → ReadsSome m reads x (after_read w r (put_mid w.filled (length old - w.filled) old new) (w.filled + n) room)
   read_some x w r old new n room same front_is within is long most some came =
       let v = with_items w.buf.now (put_mid w.filled _ old new) in
@@ -121,7 +121,7 @@ module _ {R A : Type 0} (m : Type 0) (reads : Runs ReadMark R) where
             buf = ap (λ (u : ReadToEndFuture R A). record u.buf { now = v }) same;
             start = ap (λ (u : ReadToEndFuture R A). u.start) same;
           },
-          omega (arith, whole, ap length is, long, most, within),
+          omega (arith, whole, ap length is, how_long w.filled old new long, most, within),
         );
       }
 
@@ -129,7 +129,7 @@ module _ {R A : Type 0} (m : Type 0) (reads : Runs ReadMark R) where
   pub read_none : (x w : ReadToEndFuture R A) (r : R) (old new : List ℕ) (marks : List ReadMark)
       (a : Poll (Result ℕ Error))
       → w ≡ record x { buf = record x.buf { now = w.buf.now } } → read_front w ≡ read_front x
-      → w.filled ≤ length w.buf.now.items → old ≡ w.buf.now.items → length new ≡ length old - w.filled
+      → w.filled ≤ length w.buf.now.items → old ≡ w.buf.now.items → Behind w.filled old new
       → LastMarks (appends m x.start) (read_front x) marks a (read_front x) → reads w.reader.now marks r
       → AnswersUntrimmed m reads x a
       (after_read w r (put_mid w.filled (length old - w.filled) old new) w.filled w.room)

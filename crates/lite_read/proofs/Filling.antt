@@ -2,7 +2,7 @@
 use Rattle.std.proofs.Common.{◌≡◌, ◌∙◌, ◌≤◌, ◌<◌, ◌+◌, ◌-◌, ℕ, List, [], ◌∷◌, ◌++◌, Result, Ok, length, take, drop}
 use Rattle.std.proofs.Common.{refl, ap}
 use Rattle.std.proofs.Common.{sym, subst, arith, append-nil, append_assoc, length-append}
-use Rattle.std.proofs.lemmas.List.{length-take-le, take-append-le, take_all, take_at}
+use Rattle.std.proofs.lemmas.List.{length-take-le, take-append-le, take_at}
 use Rattle.std.proofs.Math.Seq.{take-append-add}
 use Rattle.std.specs.List.{FoldsTo}
 use Rattle.std.specs.Vec.{with_items}
@@ -10,7 +10,7 @@ use Rattle.std.specs.declared.vec.Vec.{Vec}
 use Rattle.std.specs.declared.io.Error.{Error}
 use Rattle.futures.specs.declared.task.Poll.{Poll}
 use Rattle.futures.specs.declared.task.Poll.TheVariants.{Ready}
-use borrow.Rule.Slice.PartMut.{mid_len, post_of, put_mid, same_len_mid}
+use borrow.Rule.Slice.PartMut.{mid_len, mid_of, post_of, put_mid, same_len_mid, take_put}
 use Rattle.lite_io_base.specs.Marks.{ReadMark, bytes, moved}
 use Rattle.lite_read.specs.Filling.{ExactStays, filling_of}
 use Rattle.lite_read.specs.ReadExact.{ReadsExactly, fills}
@@ -45,13 +45,6 @@ front at k n old new room most =
     ∙ take-append-add _ _ n
     ∙ ap (λ l. take at old ++ l) (take-append-le n new (post_of at k old) most)
 
--- it is as it was
-pub front_kept : (at k : ℕ) (old new : List ℕ) → at ≤ length old → take at (put_mid at k old new) ≡ take at old
-front_kept at k old new room =
-    let all = length-take-le at old room in
-    take-append-le at (take at old) _ (omega (arith, all))
-    ∙ take_all at (take at old) (omega (arith, all))
-
 pub moved_none : (room : List ℕ) → 0 < length room → moved room [] ≡ ReadMark.end ∷ []
 moved_none [] some = absurd (omega (arith, some))
 moved_none (b ∷ room) some = refl
@@ -63,9 +56,16 @@ bytes_came reads s r new n most some came =
     let any : 0 < length (take n new) = omega (arith, length-take-le n new most, some) in
     (any, rw (moved_some new _ any) at came)
 
+-- there are as many new bytes as old ones behind the first
+abbrev pub Behind : ℕ → List ℕ → List ℕ → Type 0
+Behind at old new = length new ≡ length (mid_of at (length old - at) old)
+
+pub how_long : (at : ℕ) (old new : List ℕ) → Behind at old new → length new ≡ length old - at
+how_long at old new long = long ∙ mid_len at (length old) old (omega arith)
+
 -- a vector into whose room, behind so many bytes, others were written
 module _ {A : Type 0} (v : Vec ℕ A) (old new : List ℕ) (at : ℕ) (within : at ≤ length v.items) (is : old ≡ v.items)
-    (long : length new ≡ length old - at) where
+    (long : Behind at old new) where
   abbrev written : List ℕ
   written = put_mid at (length old - at) old new
 
@@ -73,8 +73,7 @@ module _ {A : Type 0} (v : Vec ℕ A) (old new : List ℕ) (at : ℕ) (within : 
   inside = omega (arith, within, ap length is)
 
   put_long : length written ≡ length old
-  put_long =
-      same_len_mid at (length old - at) old new (long ∙ sym (mid_len at (length old) old (omega (arith, inside))))
+  put_long = same_len_mid at (length old - at) old new long
 
   put_items : (with_items v written).items ≡ written
   put_items = take_at written (drop _ v.items) v.len (put_long ∙ ap length is ∙ sym v.ok.0)
@@ -90,12 +89,15 @@ module _ {A : Type 0} (v : Vec ℕ A) (old new : List ℕ) (at : ℕ) (within : 
 
   -- or none
   pub put_kept : take at (with_items v written).items ≡ take at v.items
-  put_kept = ap (take at) put_items ∙ front_kept at (length old - at) old new inside ∙ ap (take at) is
+  put_kept = ap (take at) put_items ∙ take_put at (length old - at) old new inside ∙ ap (take at) is
+
+-- something is left to fill
+pub some_left : (at : ℕ) (xs : List ℕ) → at ≤ length xs → (at ≡ length xs → ⊥) → length (take at xs) < length xs
+some_left at xs within less = omega (arith, length-take-le at xs within, within, less)
 
 -- a read of n bytes into what is left
 pub read_more : {R : Type 0} (reads : Runs ReadMark R) (x : ReadExactFuture R) (r : R) (new : List ℕ) (n : ℕ)
-    → x.filled ≤ length x.buf.now
-    → length new ≡ length x.buf.now - x.filled → n ≤ length new → 0 < n
+    → x.filled ≤ length x.buf.now → Behind x.filled x.buf.now new → n ≤ length new → 0 < n
     → reads x.reader.now (moved new (take n new)) r
     → ReadsMore reads x (record {
       reader = record x.reader { now = r };
@@ -107,9 +109,10 @@ read_more reads x r new n within long most some came =
     let at = x.filled in
     let got = length-take-le n new most in
     let all = bytes_came reads x.reader.now r new n most some came in
-    let same = same_len_mid at (length old - at) old new (long ∙ sym (mid_len at (length old) old (omega arith))) in
+    let left = how_long at old new long in
+    let same = same_len_mid at (length old - at) old new long in
     let whole = fills_all (take at old) (length old) (take n new)
-    (omega (arith, length-take-le at old within, got, long, most)) in
+    (omega (arith, length-take-le at old within, got, left, most)) in
     let after = ap (λ l. (l, length old)) (sym (front at (length old - at) n old new within most))
     ∙ ap (λ k. (take (at + n) (put_mid at (length old - at) old new), k)) (sym same) in
     record {
@@ -117,7 +120,7 @@ read_more reads x r new n within long most some came =
       some = all.0;
       came = all.1;
       folds = subst (λ g. FoldsTo fills.takes (take at old, length old) (take n new) g) after whole;
-      stays = record { reader = refl; buf = refl; within = λ w. omega (arith, same, long, most, within) };
+      stays = record { reader = refl; buf = refl; within = λ w. omega (arith, same, left, most, within) };
     }
 
 -- an answer, before which nothing is taken in
@@ -149,7 +152,7 @@ exact_full reads x came full =
 -- a read that moved nothing into what is left
 pub read_none : {R : Type 0} (reads : Runs ReadMark R) (x : ReadExactFuture R) (r : R) (new : List ℕ)
     (marks : List ReadMark) (a : Poll (Result (Unit {0}) Error))
-    → x.filled ≤ length x.buf.now → length new ≡ length x.buf.now - x.filled
+    → x.filled ≤ length x.buf.now → Behind x.filled x.buf.now new
     → LastMarks fills (filling_of x) marks a (filling_of x) → reads x.reader.now marks r
     → ReadsExactly reads x (a ∷ []) (record {
       reader = record x.reader { now = r };
@@ -160,10 +163,9 @@ read_none reads x r new marks a within long last came =
     let old = x.buf.now in
     let at = x.filled in
     let put = put_mid at (length old - at) old new in
-    let same : length put ≡ length old =
-    same_len_mid at (length old - at) old new (long ∙ sym (mid_len at (length old) old (omega arith))) in
+    let same : length put ≡ length old = same_len_mid at (length old - at) old new long in
     let after : (take at put, length put) ≡ (take at old, length old) =
-    ap (λ l. (l, length put)) (front_kept at (length old - at) old new within)
+    ap (λ l. (l, length put)) (take_put at (length old - at) old new within)
     ∙ ap (λ k. (take at old, k)) same in
     exact_one reads x _ marks a (subst (LastMarks fills _ marks a) (sym after) last) came
     (record { reader = refl; buf = refl; within = λ h. omega (arith, same, h) })

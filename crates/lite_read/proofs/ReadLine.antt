@@ -16,7 +16,7 @@ use Rattle.lite_read.specs.Pieces.{Cut}
 use Rattle.lite_read.specs.ReadUntil.{CountsPiece}
 use Rattle.lite_read.specs.Holding.{TextStays}
 use Rattle.lite_read.specs.ReadLine.{LineHolds, line_over, read_line_fold}
-use Rattle.lite_read.specs.Texts.{AppendsText, ValueOf}
+use Rattle.lite_read.specs.Texts.{FinishesText}
 use Rattle.lite_read.specs.TextSteps.{AnswersText, TakesTextIn}
 use Rattle.lite_read.specs.declared.read_line.ReadLineFuture.{ReadLineFuture}
 use Rattle.lite_read.proofs.TextSteps.{text_finished}
@@ -56,15 +56,12 @@ after_fill x r = record { reader = record x.reader { now = r }; text = x.text; b
 module _ {R A : Type 0} {reads : Runs ReadMark R} (laws : MarkLaws reads) (x : ReadLineFuture R A) (mid : R) where
   -- the fill tells how reading ended
   pub filled_last : (y : ReadLineFuture R A) (marks : List ReadMark) (v r : Result ℕ Error)
-      → y.reader ≡ record x.reader { now = mid }
-      → y.text ≡ record x.text { now = y.text.now }
-      → ValueOf x.bytes.items v r → AppendsText x.bytes.items (string_bytes x.text.now) (string_bytes y.text.now)
-      → y.bytes.items ≡ [] → LineHolds y
+      → FinishesText line_over (after_fill x mid) v r y
       → AnswerMarks (read_line_fold ⊤) x.bytes.items marks (Ready v) x.bytes.items → reads x.reader.now marks mid
       → AnswersText line_over (read_line_fold ⊤) reads x (Ready r) y
-  filled_last y marks v r reader after value gains empty holds h came =
+  filled_last y marks v r f h came =
       text_finished line_over _ reads x (after_fill x mid) y
-      (record { reader = refl; text = refl }) refl marks v r reader after value gains empty holds h came
+      (record { reader = refl; text = refl }) refl marks v r f h came
 
   module _ (w : ReadLineFuture R A) (shown : List ℕ) (stays : TextStays line_over (after_fill x mid) w)
       (text : string_bytes w.text.now ≡ string_bytes x.text.now)
@@ -72,11 +69,7 @@ module _ {R A : Type 0} {reads : Runs ReadMark R} (laws : MarkLaws reads) (x : R
     from : TextStays line_over x w
     from = record { reader = stays.reader; text = stays.text }
 
-    module _ (y : ReadLineFuture R A) (v r : Result ℕ Error) (reader : y.reader ≡ w.reader)
-        (after : y.text ≡ record w.text { now = y.text.now })
-        (value : ValueOf w.bytes.items v r)
-        (gains : AppendsText w.bytes.items (string_bytes w.text.now) (string_bytes y.text.now))
-        (empty : y.bytes.items ≡ []) (holds : LineHolds y) where
+    module _ (y : ReadLineFuture R A) (v r : Result ℕ Error) (f : FinishesText line_over w v r y) where
       -- the newline was taken
       pub line_cut : (k : ℕ) → v ≡ Ok (length w.bytes.items) → IsFirstByte (is_byte 10) shown (Some k)
           → w.bytes.items ≡ x.bytes.items ++ take (k + 1) shown
@@ -86,7 +79,7 @@ module _ {R A : Type 0} {reads : Runs ReadMark R} (laws : MarkLaws reads) (x : R
           let came = fill_then reads laws x.reader.now mid w.reader.now shown (bytes (take _ shown))
           (omega (arith, (found_at 10 shown k first).0)) fills took in
           let h = cut_off x.bytes.items shown w.bytes.items k _ first more refl in
-          text_finished line_over _ reads x w y from text _ v r reader after value gains empty holds
+          text_finished line_over _ reads x w y from text _ v r f
           (subst (λ u. AnswerMarks (read_line_fold ⊤) x.bytes.items (bytes (take (k + 1) shown)) (Ready u)
           w.bytes.items) (sym is) h) came
 
@@ -99,7 +92,7 @@ module _ {R A : Type 0} {reads : Runs ReadMark R} (laws : MarkLaws reads) (x : R
           (rw unread (laws.rests mid)) in
           let h = subst (λ u. AnswerMarks (read_line_fold ⊤) x.bytes.items [] (Ready u) x.bytes.items) (sym is)
           (refused x.bytes.items e kind) in
-          text_finished line_over _ reads x w y from text [] v r reader after value gains empty holds
+          text_finished line_over _ reads x w y from text [] v r f
           (subst (λ l. AnswerMarks (read_line_fold ⊤) x.bytes.items [] (Ready v) l) (sym kept) h) came
 
     -- all was taken in

@@ -10,12 +10,12 @@ use denote.MutBor.{MutBor}
 use borrow.Rule.Slice.PartMut.{put_mid}
 use Rattle.futures.specs.declared.task.Poll.TheVariants.{Ready, Pending}
 use Rattle.lite_io_base.specs.Marks.{ReadMark, bytes, moved}
-use Rattle.lite_read.proofs.Filling.{bytes_came, put_front, put_kept, put_len}
+use Rattle.lite_read.proofs.Filling.{Behind, bytes_came, how_long, put_front, put_kept, put_len}
 use Rattle.lite_read.specs.ReadFold.{AnswerMarks}
 use Rattle.lite_read.specs.Laws.ReadToEnd.{appends_all}
 use Rattle.lite_read.specs.Holding.{TextStays}
 use Rattle.lite_read.specs.ReadToString.{StringHolds, all_over, read_to_string_fold, text_front}
-use Rattle.lite_read.specs.Texts.{AppendsText, ValueOf}
+use Rattle.lite_read.specs.Texts.{FinishesText}
 use Rattle.lite_read.specs.TextSteps.{AnswersText, TakesTextIn}
 use Rattle.lite_read.proofs.TextSteps.{text_finished, text_waits}
 use Rattle.lite_read.specs.declared.read_to_string.ReadToStringFuture.{ReadToStringFuture}
@@ -51,7 +51,7 @@ module _ {R A : Type 0} (reads : Runs ReadMark R) where
       → TextStays all_over x w
       → string_bytes w.text.now ≡ string_bytes x.text.now → text_front w ≡ text_front x → StringHolds w
       → old ≡ w.bytes.items
-      → length new ≡ length old - w.filled → n ≤ length new → 0 < n → reads w.reader.now (moved new (take n new)) r
+      → Behind w.filled old new → n ≤ length new → 0 < n → reads w.reader.now (moved new (take n new)) r
       → TakesTextIn all_over (read_to_string_fold ⊤) reads x
       (after_read w r (put_mid w.filled (length old - w.filled) old new) n room)
   read_some x w r old new n room reader stays text front_is holds is long most some came =
@@ -66,7 +66,10 @@ module _ {R A : Type 0} (reads : Runs ReadMark R) where
         stays = (
           record { reader = ap (λ (b : MutBor R). record b { now = r }) reader; text = stays.text },
           text,
-          record { fits = holds.fits; within = omega (arith, whole, ap length is, long, most, holds.within) },
+          record {
+            fits = holds.fits;
+            within = omega (arith, whole, ap length is, how_long w.filled old new long, most, holds.within);
+          },
         );
       }
 
@@ -85,20 +88,17 @@ module _ {R A : Type 0} (reads : Runs ReadMark R) (x w y : ReadToStringFuture R 
     (text : string_bytes w.text.now ≡ string_bytes x.text.now)
     (front_is : text_front w ≡ text_front x) where
   -- what was read goes into the text
-  pub finished : (marks : List ReadMark) (v r : Result ℕ Error) → y.reader ≡ w.reader
-      → y.text ≡ record w.text { now = y.text.now } → ValueOf (text_front w) v r
-      → AppendsText (text_front w) (string_bytes w.text.now) (string_bytes y.text.now) → text_front y ≡ []
-      → StringHolds y
+  pub finished : (marks : List ReadMark) (v r : Result ℕ Error) → FinishesText all_over w v r y
       → AnswerMarks (read_to_string_fold ⊤) (text_front w) marks (Ready v) (text_front w)
       → reads x.reader.now marks w.reader.now → AnswersText all_over (read_to_string_fold ⊤) reads x (Ready r) y
-  finished marks v r reader after value gains empty holds h came =
-      text_finished all_over _ reads x w y stays text marks v r reader after value gains empty holds
+  finished marks v r f h came =
+      text_finished all_over _ reads x w y stays text marks v r f
       (subst (λ l. AnswerMarks (read_to_string_fold ⊤) l marks (Ready v) (text_front w)) front_is h) came
 
 module _ {R A : Type 0} (reads : Runs ReadMark R) (x w : ReadToStringFuture R A) (r : R) (old new : List ℕ)
     (reader : w.reader ≡ x.reader) (stays : TextStays all_over x w)
     (front_is : text_front w ≡ text_front x) (holds : StringHolds w) (is : old ≡ w.bytes.items)
-    (long : length new ≡ length old - w.filled) where
+    (long : Behind w.filled old new) where
   abbrev wrote : ReadToStringFuture R A
   wrote = after_write w r (put_mid w.filled (length old - w.filled) old new)
 
@@ -123,14 +123,11 @@ module _ {R A : Type 0} (reads : Runs ReadMark R) (x w : ReadToStringFuture R A)
 
   -- the reader answered, and what was read goes into the text
   pub answered : (y : ReadToStringFuture R A) (marks : List ReadMark) (v res : Result ℕ Error)
-      → string_bytes w.text.now ≡ string_bytes x.text.now
-      → y.reader ≡ wrote.reader → y.text ≡ record w.text { now = y.text.now } → ValueOf (text_front wrote) v res
-      → AppendsText (text_front wrote) (string_bytes w.text.now) (string_bytes y.text.now) → text_front y ≡ []
-      → StringHolds y
+      → string_bytes w.text.now ≡ string_bytes x.text.now → FinishesText all_over wrote v res y
       → AnswerMarks (read_to_string_fold ⊤) (text_front wrote) marks (Ready v) (text_front wrote)
       → reads w.reader.now marks r → AnswersText all_over (read_to_string_fold ⊤) reads x (Ready res) y
-  answered y marks v res text end after value gains empty held h came =
-      finished reads x wrote y wrote_stays text wrote_front marks v res end after value gains empty held h
+  answered y marks v res text f h came =
+      finished reads x wrote y wrote_stays text wrote_front marks v res f h
       (subst (λ (b : MutBor R). reads b.now marks r) reader came)
 
   pub wrote_long : length (text_front wrote) ≡ w.filled

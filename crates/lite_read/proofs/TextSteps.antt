@@ -15,7 +15,7 @@ use Rattle.lite_read.specs.ReadFold.{AnswerMarks, ReadFold}
 use Rattle.lite_read.specs.Holding.{TextOver, TextStays}
 use Rattle.lite_read.specs.Laws.Texts.{folds_in, stays_join, step_before}
 use Rattle.lite_read.specs.Laws.PollSteps.{goes_again, steps_answer}
-use Rattle.lite_read.specs.Texts.{AppendsText, ReadsText, ValueOf, in_text, reading}
+use Rattle.lite_read.specs.Texts.{AppendsText, FinishesText, ReadsText, ValueOf, in_text, reading}
 use Rattle.lite_read.specs.TextSteps.{AnswersText, TakesTextIn}
 use Rattle.lite_base.specs.Laws.Answers.{up_to_one}
 use Rattle.lite_base.specs.Laws.Segments.{segment_alone, segments_one}
@@ -70,26 +70,19 @@ module _ {X R A : Type 0} (over : TextOver X R A) (fold : ReadFold (List ℕ) (R
     (x w y : X) (stays : TextStays over x w)
     (text : string_bytes (over.text w).now ≡ string_bytes (over.text x).now) where
   -- more was read, and then it goes into the text
-  pub text_finished : (marks : List ReadMark) (v r : Result ℕ Error) → over.reader y ≡ over.reader w
-      → over.text y ≡ record (over.text w) { now = (over.text y).now }
-      → ValueOf (over.read w) v r
-      → AppendsText (over.read w) (string_bytes (over.text w).now) (string_bytes (over.text y).now) → over.read y ≡ []
-      → over.holds y
+  pub text_finished : (marks : List ReadMark) (v r : Result ℕ Error) → FinishesText over w v r y
       → AnswerMarks fold (over.read x) marks (Ready v) (over.read w)
       → reads (over.reader x).now marks (over.reader w).now
       → AnswersText over fold reads x (Ready r) y
-  text_finished marks v r reader after value gains empty holds h came =
+  text_finished marks v r f h came =
       let end : reads (over.reader x).now marks (over.reader y).now =
-      subst (λ (b : MutBor R). reads (over.reader x).now marks b.now) (sym reader) came in
-      let all = stays_join over x w y stays (record {
-        reader = kept_ref _ _ reader;
-        text = after;
-      }) in
+      subst (λ (b : MutBor R). reads (over.reader x).now marks b.now) (sym f.reader) came in
+      let all = stays_join over x w y stays (record { reader = kept_ref _ _ f.reader; text = f.text }) in
       let into : AppendsText (over.read w) (string_bytes (over.text x).now) (string_bytes (over.text y).now) =
-      subst (λ l. AppendsText (over.read w) l (string_bytes (over.text y).now)) text gains in
-      (text_given over fold reads x y all marks v r _ h value into empty end, holds)
+      subst (λ l. AppendsText (over.read w) l (string_bytes (over.text y).now)) text f.gains in
+      (text_given over fold reads x y all marks v r _ h f.value into f.empty end, f.holds)
 
-module _ {X R A : Type 0} (over : TextOver X R A) (fold : ReadFold (List ℕ) (Result ℕ Error)) {reads : Runs ReadMark R}
+module _ {X R A : Type 0} {over : TextOver X R A} {fold : ReadFold (List ℕ) (Result ℕ Error)} {reads : Runs ReadMark R}
     (laws : MarkLaws reads) {x z : X} {a : Poll (Result ℕ Error)} where
   -- an answer after some steps
   pub text_ran : (y : X) × Reaches (TakesTextIn over fold reads) x y × AnswersText over fold reads y a z

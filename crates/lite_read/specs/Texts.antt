@@ -42,3 +42,12 @@ module _ {X R A : Type 0} (over : TextOver X R A) where
   -- a future that reads for its text
   abbrev pub ReadsText : ReadFold (List ℕ) (Result ℕ Error) → Runs ReadMark R → Runs (Poll (Result ℕ Error)) X
   ReadsText fold = Gathers (λ x. (over.reader x).now) reading (λ x. in_text fold) (TextStays over)
+
+  -- what the future x has read, which gave v, goes into its text with the value r, and leaves the future y
+  pub record FinishesText (x : X) (v r : Result ℕ Error) (y : X) : Type 0 where
+    pub holds : over.holds y
+    pub reader : over.reader y ≡ over.reader x
+    pub text : over.text y ≡ record (over.text x) { now = (over.text y).now }
+    pub value : ValueOf (over.read x) v r
+    pub gains : AppendsText (over.read x) (string_bytes (over.text x).now) (string_bytes (over.text y).now)
+    pub empty : over.read y ≡ []

@@ -1,4 +1,4 @@
-ghost use Rattle.std.specs.Prelude.{⊤, ◌≡◌, ◌≤◌, ◌<◌, ◌++◌, ◌+◌, [], Ok, length, take, IfErr, IfOk, string_bytes};
+ghost use Rattle.std.specs.Prelude.{⊤, ◌≡◌, ◌≤◌, ◌<◌, ◌++◌, ◌+◌, Ok, length, take, IfErr, IfOk, string_bytes};
 ghost use Rattle.std.specs.Char.{is_ascii};
 ghost use Rattle.std.specs.IoError.{error_kind};
 ghost use Rattle.std.specs.List.{list_all};
@@ -10,7 +10,7 @@ ghost use Rattle.lite_read.specs.Laws.PollSteps.{takes_given};
 ghost use Rattle.lite_read.specs.Holding.{TextStays};
 ghost use Rattle.lite_read.specs.Laws.Texts.{text_laws};
 ghost use Rattle.lite_read.specs.ReadLine.{LineHolds, ReadsLine, line_over, read_line_fold};
-ghost use Rattle.lite_read.specs.Texts.{AppendsText, ValueOf};
+ghost use Rattle.lite_read.specs.Texts.{FinishesText};
 ghost use Rattle.lite_read.specs.TextSteps.{AnswersText, TakesTextIn};
 
 use crate::find::find_line;
@@ -67,12 +67,7 @@ impl<R: AsyncBufRead, A: Allocator + Copy> ReadLineFuture<'_, R, A> {
     // The value of a line that was read whole.
     fn whole(&mut self) -> io::Result<usize>
         requires { LineHolds self.old }
-        ensures held { LineHolds self.new }
-        ensures reader { self.new.reader ≡ self.old.reader }
-        ensures text { self.new.text ≡ record self.old.text { now = self.new.text.now } }
-        ensures value { ValueOf self.old.bytes.items (Ok (length self.old.bytes.items)) result }
-        ensures gains { AppendsText self.old.bytes.items (string_bytes self.old.text.now) (string_bytes self.new.text.now) }
-        ensures empty { self.new.bytes.items ≡ [] }
+        ensures { FinishesText line_over self.old (Ok (length self.old.bytes.items)) result self.new }
     {
         let amount = self.bytes.len();
         self.finish(Ok(amount))
@@ -82,12 +77,7 @@ impl<R: AsyncBufRead, A: Allocator + Copy> ReadLineFuture<'_, R, A> {
     #[tactic(auto, using(crate::proofs::Texts::all_utf8))]
     fn finish(&mut self, read: io::Result<usize>) -> io::Result<usize>
         requires { LineHolds self.old }
-        ensures held { LineHolds self.new }
-        ensures reader { self.new.reader ≡ self.old.reader }
-        ensures text { self.new.text ≡ record self.old.text { now = self.new.text.now } }
-        ensures value { ValueOf self.old.bytes.items read result }
-        ensures gains { AppendsText self.old.bytes.items (string_bytes self.old.text.now) (string_bytes self.new.text.now) }
-        ensures empty { self.new.bytes.items ≡ [] }
+        ensures { FinishesText line_over self.old read result self.new }
     {
         let value = finish(self.text, &mut self.bytes, read, self.ascii);
         self.ascii = true;

@@ -1,4 +1,4 @@
-ghost use Rattle.std.specs.Prelude.{⊤, ◌≡◌, ◌≤◌, ◌<◌, [], length, take, OnErr, OnOk, string_bytes};
+ghost use Rattle.std.specs.Prelude.{⊤, ◌≡◌, ◌≤◌, ◌<◌, length, take, OnErr, OnOk, string_bytes};
 ghost use Rattle.lite_base.specs.Chain.{OneStep};
 ghost use Rattle.lite_base.specs.Laws.Ends.{Terminates-map};
 ghost use Rattle.lite_io_base.specs.Marks.{bytes};
@@ -6,7 +6,7 @@ ghost use Rattle.lite_read.specs.Laws.PollSteps.{takes_given};
 ghost use Rattle.lite_read.specs.Holding.{TextStays};
 ghost use Rattle.lite_read.specs.Laws.Texts.{text_laws};
 ghost use Rattle.lite_read.specs.ReadToString.{ReadsToString, StringHolds, all_over, read_to_string_fold, text_front};
-ghost use Rattle.lite_read.specs.Texts.{AppendsText, ValueOf};
+ghost use Rattle.lite_read.specs.Texts.{FinishesText};
 ghost use Rattle.lite_read.specs.TextSteps.{AnswersText, TakesTextIn};
 
 use crate::held::{finish, make_room};
@@ -61,12 +61,7 @@ impl<R, A: Allocator + Copy> ReadToStringFuture<'_, R, A> {
     // The value, where reading gave `read`.
     fn finish(&mut self, read: io::Result<usize>) -> io::Result<usize>
         requires { StringHolds self.old }
-        ensures held { StringHolds self.new }
-        ensures reader { self.new.reader ≡ self.old.reader }
-        ensures text { self.new.text ≡ record self.old.text { now = self.new.text.now } }
-        ensures value { ValueOf (text_front self.old) read result }
-        ensures gains { AppendsText (text_front self.old) (string_bytes self.old.text.now) (string_bytes self.new.text.now) }
-        ensures empty { text_front self.new ≡ [] }
+        ensures { FinishesText all_over self.old read result self.new }
     {
         self.bytes.truncate(self.filled);
         self.filled = 0;

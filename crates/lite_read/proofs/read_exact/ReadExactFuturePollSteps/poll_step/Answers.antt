@@ -1,19 +1,16 @@
-use Rattle.std.proofs.Common.{◌≡◌, ◌∙◌, ◌<◌, [], ◌∷◌, Ok, Err, length, take, refl, rules, arith, length-take-le}
-use borrow.Rule.Slice.PartMut.{mid_len}
+use Rattle.std.proofs.Common.{◌≡◌, ◌<◌, [], ◌∷◌, Ok, Err, length, refl, rules, arith, length-take-le}
 use Rattle.futures.specs.declared.task.Poll.TheVariants.{Ready, Pending}
 use Rattle.lite_io_base.specs.Marks.{ReadMark}
-use Rattle.lite_read.proofs.Filling.{exact_full, moved_none, read_more, read_none}
+use Rattle.lite_read.proofs.Filling.{exact_full, how_long, moved_none, read_more, read_none, some_left}
 use Rattle.lite_read.proofs.read_exact.ReadExactFuturePollSteps.poll_step.Goals as goal
 
 pub returns-in-Ready-Ok-clause-stepped : goal.returns-in-Ready-Ok-clause-stepped
 returns-in-Ready-Ok-clause-stepped g c =
     let x = c.args.self.now in
     let e = c.poll_read.ensures in
-    let long = c.poll_read.auto.buf ∙ mid_len x.filled (length x.buf.now) x.buf.now (omega arith) in
-    let most = rw c.in-Ready-Ok.field-0-is at (rw c.in-Ready-Ok.is at e.bound) in
-    let ran = rw c.in-Ready-Ok.field-0-is at (rw c.in-Ready-Ok.is at e.ran) in
-    read_more g.R.Tale.reads x c.poll_read.new.self c.poll_read.new.buf c.in-Ready-Ok.n c.requires long most
-    (omega (arith, c.in-Ready-Ok.n-test)) ran
+    let is : c.poll_read.result ≡ Ready (Ok c.in-Ready-Ok.n) = search rules in
+    read_more g.R.Tale.reads x c.poll_read.new.self c.poll_read.new.buf c.in-Ready-Ok.n c.requires
+    c.poll_read.auto.buf (rw is at e.bound) (omega (arith, c.in-Ready-Ok.n-test)) (rw is at e.ran)
 
 pub returns-then-self-clause-stepped : goal.returns-then-self-clause-stepped
 returns-then-self-clause-stepped g c =
@@ -22,33 +19,26 @@ returns-then-self-clause-stepped g c =
 pub returns-in-Ready-Ok-eq0-clause-stepped : goal.returns-in-Ready-Ok-eq0-clause-stepped
 returns-in-Ready-Ok-eq0-clause-stepped g c =
     let x = c.args.self.now in
-    let long = c.poll_read.auto.buf ∙ mid_len x.filled (length x.buf.now) x.buf.now (omega arith) in
+    let long = how_long x.filled x.buf.now c.poll_read.new.buf c.poll_read.auto.buf in
     let is : c.poll_read.result ≡ Ready (Ok 0) = search rules in
+    let room = some_left x.filled x.buf.now c.requires c.if-self.false in
     let front = length-take-le x.filled x.buf.now c.requires in
-    let room : length (take x.filled x.buf.now) < length x.buf.now =
-    omega (arith, front, c.if-self.false, c.requires) in
     let some : 0 < length c.poll_read.new.buf = omega (arith, long, front, room) in
     read_none g.R.Tale.reads x c.poll_read.new.self c.poll_read.new.buf (ReadMark.end ∷ []) (Ready (Err c.into.result))
-    c.requires long ((room, c.into.ensures), refl)
+    c.requires c.poll_read.auto.buf ((room, c.into.ensures), refl)
     (rw (is, moved_none c.poll_read.new.buf some) at c.poll_read.ensures.ran)
 
 pub returns-in-Ready-Err-clause-stepped : goal.returns-in-Ready-Err-clause-stepped
 returns-in-Ready-Err-clause-stepped g c =
     let x = c.args.self.now in
-    let long = c.poll_read.auto.buf ∙ mid_len x.filled (length x.buf.now) x.buf.now (omega arith) in
     let is : c.poll_read.result ≡ Ready (Err c.in-Ready-Err.e) = search rules in
-    let front = length-take-le x.filled x.buf.now c.requires in
-    let room : length (take x.filled x.buf.now) < length x.buf.now =
-    omega (arith, front, c.if-self.false, c.requires) in
-    read_none g.R.Tale.reads x c.poll_read.new.self c.poll_read.new.buf _ (Ready (Err c.in-Ready-Err.e)) c.requires long
-    ((room, refl), refl) (rw is at c.poll_read.ensures.ran)
+    let room = some_left x.filled x.buf.now c.requires c.if-self.false in
+    read_none g.R.Tale.reads x c.poll_read.new.self c.poll_read.new.buf _ (Ready (Err c.in-Ready-Err.e)) c.requires
+    c.poll_read.auto.buf ((room, refl), refl) (rw is at c.poll_read.ensures.ran)
 
 pub returns-in-Pending-clause-stepped : goal.returns-in-Pending-clause-stepped
 returns-in-Pending-clause-stepped g c =
     let x = c.args.self.now in
-    let long = c.poll_read.auto.buf ∙ mid_len x.filled (length x.buf.now) x.buf.now (omega arith) in
-    let front = length-take-le x.filled x.buf.now c.requires in
-    let room : length (take x.filled x.buf.now) < length x.buf.now =
-    omega (arith, front, c.if-self.false, c.requires) in
-    read_none g.R.Tale.reads x c.poll_read.new.self c.poll_read.new.buf (ReadMark.pending ∷ []) Pending c.requires long
-    (refl, room, refl) (rw c.in-Pending.is at c.poll_read.ensures.ran)
+    let room = some_left x.filled x.buf.now c.requires c.if-self.false in
+    read_none g.R.Tale.reads x c.poll_read.new.self c.poll_read.new.buf (ReadMark.pending ∷ []) Pending c.requires
+    c.poll_read.auto.buf (refl, room, refl) (rw c.in-Pending.is at c.poll_read.ensures.ran)

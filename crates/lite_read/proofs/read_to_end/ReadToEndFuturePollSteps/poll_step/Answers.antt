@@ -1,7 +1,6 @@
-use Rattle.std.proofs.Common.{◌≡◌, ◌∙◌, ◌<◌, ◌+◌, ◌-◌, [], ◌∷◌, Ok, Err, length, ap, refl, rules, arith, length-take-le}
-use borrow.Rule.Slice.PartMut.{mid_len}
+use Rattle.std.proofs.Common.{◌≡◌, ◌<◌, ◌+◌, ◌-◌, [], ◌∷◌, Ok, Err, length, ap, refl, rules, arith, length-take-le}
 use Rattle.lite_read.proofs.Appending.{read_none, read_some, refused}
-use Rattle.lite_read.proofs.Filling.{moved_none}
+use Rattle.lite_read.proofs.Filling.{how_long, moved_none}
 use Rattle.lite_read.specs.Appending.{read_front}
 use Rattle.futures.specs.declared.task.Poll.TheVariants.{Ready, Pending}
 use Rattle.lite_io_base.specs.Marks.{ReadMark}
@@ -9,20 +8,17 @@ use Rattle.lite_read.proofs.read_to_end.ReadToEndFuturePollSteps.poll_step.Goals
 
 pub returns-then-is_err-clause-stepped : goal.returns-then-is_err-clause-stepped
 returns-then-is_err-clause-stepped g c =
-    refused _ g.R.Tale.read_laws c.args.self.now c.make_room.new.self c.into.result tt c.make_room.ensures.same
-    c.make_room.ensures.front c.into.ensures
+    let m = c.make_room.ensures in
+    refused _ g.R.Tale.read_laws c.args.self.now c.make_room.new.self c.into.result tt m.same m.front c.into.ensures
 
 pub returns-in-Ready-Ok-clause-stepped : goal.returns-in-Ready-Ok-clause-stepped
 returns-in-Ready-Ok-clause-stepped g c =
-    let w = c.make_room.new.self in
-    let old = c.deref_mut.result.now in
+    let m = c.make_room.ensures in
     let e = c.poll_read.ensures in
-    let long = c.poll_read.auto.buf ∙ mid_len w.filled (length old) old (omega arith) in
-    let most = rw c.in-Ready-Ok.field-0-is at (rw c.in-Ready-Ok.is at e.bound) in
-    let ran = rw c.in-Ready-Ok.field-0-is at (rw c.in-Ready-Ok.is at e.ran) in
-    read_some _ g.R.Tale.reads c.args.self.now w c.poll_read.new.self old c.poll_read.new.buf c.in-Ready-Ok.n _
-    c.make_room.ensures.same c.make_room.ensures.front c.make_room.ensures.within c.deref_mut.ensures.value long
-    most (omega (arith, c.in-Ready-Ok.n-test)) ran
+    let is : c.poll_read.result ≡ Ready (Ok c.in-Ready-Ok.n) = search rules in
+    read_some _ g.R.Tale.reads c.args.self.now c.make_room.new.self c.poll_read.new.self c.deref_mut.result.now
+    c.poll_read.new.buf c.in-Ready-Ok.n _ m.same m.front m.within c.deref_mut.ensures.value c.poll_read.auto.buf
+    (rw is at e.bound) (omega (arith, c.in-Ready-Ok.n-test)) (rw is at e.ran)
 
 pub returns-in-Ready-Ok-eq0-clause-stepped : goal.returns-in-Ready-Ok-eq0-clause-stepped
 returns-in-Ready-Ok-eq0-clause-stepped g c =
@@ -30,9 +26,9 @@ returns-in-Ready-Ok-eq0-clause-stepped g c =
     let w = c.make_room.new.self in
     let m = c.make_room.ensures in
     let old = c.deref_mut.result.now in
-    let long = c.poll_read.auto.buf ∙ mid_len w.filled (length old) old (omega arith) in
     let is : c.poll_read.result ≡ Ready (Ok 0) = search rules in
     let within : w.filled < length w.buf.now.items = search rules in
+    let long = how_long w.filled old c.poll_read.new.buf c.poll_read.auto.buf in
     let some : 0 < length c.poll_read.new.buf = omega (arith, long, within, ap length c.deref_mut.ensures.value) in
     let front = length-take-le w.filled w.buf.now.items m.within in
     let held = length-take-le x.filled x.buf.now.items c.requires.within in
@@ -40,26 +36,20 @@ returns-in-Ready-Ok-eq0-clause-stepped g c =
     let count : length (read_front x) ≡ x.start + (w.filled - w.start) =
     omega (arith, front, ap length m.front, start, c.requires.started, held) in
     read_none _ g.R.Tale.reads x w c.poll_read.new.self old c.poll_read.new.buf (ReadMark.end ∷ [])
-    (Ready (Ok (w.filled - w.start))) m.same m.front m.within c.deref_mut.ensures.value long (count, refl)
-    (rw (is, moved_none c.poll_read.new.buf some) at c.poll_read.ensures.ran)
+    (Ready (Ok (w.filled - w.start))) m.same m.front m.within c.deref_mut.ensures.value c.poll_read.auto.buf
+    (count, refl) (rw (is, moved_none c.poll_read.new.buf some) at c.poll_read.ensures.ran)
 
 pub returns-in-Ready-Err-clause-stepped : goal.returns-in-Ready-Err-clause-stepped
 returns-in-Ready-Err-clause-stepped g c =
-    let w = c.make_room.new.self in
     let m = c.make_room.ensures in
-    let old = c.deref_mut.result.now in
-    let long = c.poll_read.auto.buf ∙ mid_len w.filled (length old) old (omega arith) in
     let is : c.poll_read.result ≡ Ready (Err c.in-Ready-Err.e) = search rules in
-    read_none _ g.R.Tale.reads c.args.self.now w c.poll_read.new.self old c.poll_read.new.buf _
-    (Ready (Err c.in-Ready-Err.e)) m.same m.front m.within c.deref_mut.ensures.value long (refl, refl)
-    (rw is at c.poll_read.ensures.ran)
+    read_none _ g.R.Tale.reads c.args.self.now c.make_room.new.self c.poll_read.new.self c.deref_mut.result.now
+    c.poll_read.new.buf _ (Ready (Err c.in-Ready-Err.e)) m.same m.front m.within c.deref_mut.ensures.value
+    c.poll_read.auto.buf (refl, refl) (rw is at c.poll_read.ensures.ran)
 
 pub returns-in-Pending-clause-stepped : goal.returns-in-Pending-clause-stepped
 returns-in-Pending-clause-stepped g c =
-    let w = c.make_room.new.self in
     let m = c.make_room.ensures in
-    let old = c.deref_mut.result.now in
-    let long = c.poll_read.auto.buf ∙ mid_len w.filled (length old) old (omega arith) in
-    read_none _ g.R.Tale.reads c.args.self.now w c.poll_read.new.self old c.poll_read.new.buf (ReadMark.pending ∷ [])
-    Pending m.same m.front m.within c.deref_mut.ensures.value long (refl, tt, refl)
-    (rw c.in-Pending.is at c.poll_read.ensures.ran)
+    read_none _ g.R.Tale.reads c.args.self.now c.make_room.new.self c.poll_read.new.self c.deref_mut.result.now
+    c.poll_read.new.buf (ReadMark.pending ∷ []) Pending m.same m.front m.within c.deref_mut.ensures.value
+    c.poll_read.auto.buf (refl, tt, refl) (rw c.in-Pending.is at c.poll_read.ensures.ran)
