@@ -39,31 +39,11 @@ pub fn journal_on(alloc: Global, bytes: &[u8]) -> Result<Journal<Cursor<Vec<u8>>
 pub fn are(entries: &[Entry], calls: &[Call], answers: &[Answer]) -> bool
     ensures { Decides result (AreCalls entries.now calls.now × AreAnswers entries.now answers.now) }
 {
-    have_calls(entries, calls) && have_answers(entries, answers)
-}
-
-fn have_calls(entries: &[Entry], calls: &[Call]) -> bool
-    ensures { Decides result (AreCalls entries.now calls.now) }
-{
-    if entries.len() != calls.len() {
+    if entries.len() != calls.len() || entries.len() != answers.len() {
         return false;
     }
-    for (entry, call) in entries.iter().zip(calls) {
-        if !is_call(&entry.call, call) {
-            return false;
-        }
-    }
-    true
-}
-
-fn have_answers(entries: &[Entry], answers: &[Answer]) -> bool
-    ensures { Decides result (AreAnswers entries.now answers.now) }
-{
-    if entries.len() != answers.len() {
-        return false;
-    }
-    for (entry, answer) in entries.iter().zip(answers) {
-        if !is_answer(&entry.answer, answer) {
+    for (entry, (call, answer)) in entries.iter().zip(calls.iter().zip(answers)) {
+        if !is_call(&entry.call, call) || !is_answer(&entry.answer, answer) {
             return false;
         }
     }
