@@ -22,10 +22,8 @@ named pipe own scripts polls line is h = subst (λ (p : Paired). Prints (Two p) 
 pub returns-in-Chain : goal.returns-in-Chain
 returns-in-Chain c =
     on_ok c.polled.result (λ line h.
-    let first : GivesScript c.args.first.items h.2.firsts h.1.first =
-    rw (← c.script.ensures) (rw c.chain.ensures at h.2.came) in
-    let second : GivesScript c.args.second.items h.2.seconds h.1.second =
-    rw (← c.script-in-Chain.ensures) (rw c.chain.ensures at h.2.then_came) in
+    let first = rw (c.chain.ensures, c.script.ensures) at h.2.came in
+    let second = rw (c.chain.ensures, c.script-in-Chain.ensures) at h.2.then_came in
     let joined : Joins First h.2.firsts h.2.seconds h.0 h.1.part = rw c.chain.ensures at h.2.joined in
     named c.args.pipe Chain _ _ _ c.in-Chain.is
     (record {
@@ -38,10 +36,8 @@ returns-in-Chain c =
 pub returns-in-Or : goal.returns-in-Or
 returns-in-Or c =
     on_ok c.polled-in-Or.result (λ line h.
-    let came : Through GivesScript FusesOn c.args.first.items false h.2.firsts h.1.stream1.stream h.1.stream1.done =
-    rw (← c.script-in-Or.ensures) (rw c.or.ensures at h.2.came) in
-    let then_came : Through GivesScript FusesOn c.args.second.items false h.2.seconds h.1.stream2.stream
-    h.1.stream2.done = rw (← c.script-in-Or-2.ensures) (rw c.or.ensures at h.2.then_came) in
+    let came = rw (c.or.ensures, c.script-in-Or.ensures) at h.2.came in
+    let then_came = rw (c.or.ensures, c.script-in-Or-2.ensures) at h.2.then_came in
     let first = given_fused c.args.first.items h.2.firsts h.1.stream1.stream h.1.stream1.done came in
     let second = given_fused c.args.second.items h.2.seconds h.1.stream2.stream h.1.stream2.done then_came in
     named c.args.pipe Or _ _ _ c.in-Or.is
@@ -55,10 +51,8 @@ returns-in-Or c =
 pub returns-in-Zip : goal.returns-in-Zip
 returns-in-Zip c =
     on_ok c.polled-in-Zip.result (λ line h.
-    let first : GivesScript c.args.first.items h.2.firsts h.1.first =
-    rw (← c.script-in-Zip.ensures) (rw c.zip.ensures at h.2.came) in
-    let second : GivesScript c.args.second.items h.2.seconds h.1.second =
-    rw (← c.script-in-Zip-2.ensures) (rw c.zip.ensures at h.2.then_came) in
+    let first = rw (c.zip.ensures, c.script-in-Zip.ensures) at h.2.came in
+    let second = rw (c.zip.ensures, c.script-in-Zip-2.ensures) at h.2.then_came in
     let paired : Pairs h.2.firsts h.2.seconds h.0 h.1.item_slot = rw c.zip.ensures at h.2.paired in
     named c.args.pipe Zip _ _ _ c.in-Zip.is
     (record {
