@@ -37,13 +37,13 @@ given_last (Pending ∷ l) x u = given_last l x u
 given_last (Ready y ∷ []) x u = absurd (cc u)
 given_last (Ready y ∷ b ∷ l) x u = absurd (cc u)
 
--- what two scripts gave whole are the items of each before its first end
-pub scripts_given : {A : Type 0} (s t u v : List (Answer A)) (firsts seconds all : List A)
-    → GivesWhole Scripts s firsts t → GivesWhole Scripts u seconds v
-    → Interleaves firsts seconds all → Interleaves (items_given s) (items_given u) all
-scripts_given s t u v firsts seconds all h k merged =
-    subst (λ l. Interleaves (items_given s) l all) (script_whole u v seconds k)
-    (subst (λ l. Interleaves l seconds all) (script_whole s t firsts h) merged)
+-- what holds all items of two scripts holds those of each before its first end
+pub both_held : {C A : Type 0} (items : C → List A) {s u t v : List (Answer A)} (c : C)
+    → (firsts seconds all : List A) × GivesWhole Scripts s firsts t × GivesWhole Scripts u seconds v
+    × Interleaves firsts seconds all × (items c ≡ all)
+    → Interleaves (items_given s) (items_given u) (items c)
+both_held items {s} {u} {t} {v} c h =
+    rw (h.6, sym (script_whole s t h.0 h.3), sym (script_whole u v h.1 h.4)) h.5
 
 -- a value that was popped off all answers is the one that was given
 pub given_popped : {A : Type 0} (all l : List (Poll A)) (a : Poll A) (x : A) → all ≡ l ++ a ∷ [] → a ≡ Ready x
