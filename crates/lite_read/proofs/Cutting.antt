@@ -49,11 +49,11 @@ found_none byte shown first =
     subst (Lacks byte) (take_whole shown) (lacks_before byte shown _ (omega arith) first)
 
 -- a fill that lent something left no mark
-pub fill_then : {S : Type 0} (reads : Runs ReadMark S) → MarkLaws reads
-    → (a b c : S) (shown : List ℕ) (l : List ReadMark) → 0 < length shown → reads a (filled shown) b → reads b l c
+pub fill_then : {S : Type 0} {reads : Runs ReadMark S} → MarkLaws reads
+    → {a b c : S} (shown : List ℕ) {l : List ReadMark} → 0 < length shown → reads a (filled shown) b → reads b l c
     → reads a l c
-fill_then reads laws a b c [] l some fills took = absurd (omega (arith, some))
-fill_then reads laws a b c (x ∷ shown) l some fills took = laws.follows a b c [] l fills took
+fill_then laws [] some fills took = absurd (omega (arith, some))
+fill_then laws {a} {b} {c} (x ∷ shown) {l} some fills took = laws.follows a b c [] l fills took
 
 module _ {R : Type 0} (byte : ℕ) (may_refuse : Type 0) (becomes : Cut → List ℕ → R → List ℕ → Type 0) where
   -- bytes before the delimiter are held

@@ -35,7 +35,7 @@ module _ {X S K A : Type 0} {over : StreamOver X S (List ℕ) K} {byte : K → �
         → 0 < length shown → error_kind e ≡ OutOfMemory → over.reader y ≡ mid
         → Flows over (λ k. pieces (byte k) ⊤ (Itemised whole final)) reads x (Ready (Some (Err e)) ∷ []) y
     item_refused e mid shown fills some is unread =
-        let came = fill_then reads laws _ mid _ shown [] some fills (rw unread (laws.rests mid)) in
+        let came = fill_then laws shown some fills (rw unread (laws.rests mid)) in
         flow_one came
         (concludes_at (byte _) ⊤ (Itemised whole final) _ [] (Cut.failed e) (Some _) _ (inr (refl, tt, is))
         (refl, held)) same
@@ -66,7 +66,7 @@ module _ {X S K A : Type 0} {over : StreamOver X S (List ℕ) K} {byte : K → �
         → Flows over (λ k. pieces (byte k) ⊤ (Itemised whole final)) reads x (Ready (Some r) ∷ []) y
     item_cut mid shown k r fills first is took =
         let at = found_at (byte _) shown k first in
-        let came = fill_then reads laws _ mid _ shown (bytes (take _ shown)) (omega (arith, at.0)) fills took in
+        let came = fill_then laws shown (omega (arith, at.0)) fills took in
         let piece = concludes_piece (byte _) ⊤ (Itemised whole final) _ _ _ _ at.1 (is, empty) in
         flow_one came (rw at.2 piece) same
 
@@ -94,7 +94,7 @@ module _ {X S K A : Type 0} {over : StreamOver X S (List ℕ) K} (byte : K → �
       record {
         taken = shown;
         some = some;
-        came = fill_then reads laws _ mid _ shown _ some fills took;
+        came = fill_then laws shown some fills took;
         folds = rw is all;
         stays = same;
       }

@@ -1,6 +1,6 @@
 -- The steps of `read_line`.
-use Rattle.std.proofs.Common.{inl, inr, ◌≡◌, ◌∙◌, ◌<◌, ◌+◌, ℕ, List, [], ◌∷◌, ◌++◌, Some, None, Result, Ok, Err, length}
-use Rattle.std.proofs.Common.{take, refl, ap, sym, subst, arith, append_assoc}
+use Rattle.std.proofs.Common.{◌≡◌, ◌<◌, ◌+◌, ℕ, List, [], ◌++◌, Some, None, Result, Ok, Err, length}
+use Rattle.std.proofs.Common.{take, refl, sym, subst, arith}
 use Rattle.std.specs.IoError.{error_kind}
 use Rattle.std.specs.List.{FoldsTo}
 use Rattle.std.specs.Prelude.{⊤, string_bytes}
@@ -11,8 +11,7 @@ use Rattle.futures.specs.declared.task.Poll.TheVariants.{Ready}
 use Rattle.lite_io_base.specs.Marks.{ReadMark, bytes, filled}
 use Rattle.lite_io_base.specs.Runs.{MarkLaws}
 use Rattle.lite_read.specs.ReadFold.{AnswerMarks}
-use Rattle.lite_read.proofs.Cutting.{concludes_at, concludes_piece, fill_then, found_at, found_none, takes_all}
-use Rattle.lite_read.specs.Pieces.{Cut}
+use Rattle.lite_read.proofs.Cutting.{fill_then, found_at, found_none, takes_all}
 use Rattle.lite_read.specs.ReadUntil.{CountsPiece}
 use Rattle.lite_read.specs.Holding.{TextStays}
 use Rattle.lite_read.specs.ReadLine.{LineHolds, line_over, read_line_fold}
@@ -20,34 +19,8 @@ use Rattle.lite_read.specs.Texts.{FinishesText}
 use Rattle.lite_read.specs.TextSteps.{AnswersText, TakesTextIn}
 use Rattle.lite_read.specs.declared.read_line.ReadLineFuture.{ReadLineFuture}
 use Rattle.lite_read.proofs.TextSteps.{text_finished}
+use Rattle.lite_read.proofs.Until.{cut_off, refused}
 use Rattle.lite_base.specs.Runs.{Runs}
-
--- what reading a line gives, at each of its ends
-pub failed : (held : List ℕ) (e : Error)
-    → AnswerMarks (read_line_fold ⊤) held (ReadMark.fault (error_kind e) ∷ []) (Ready (Err e)) held
-failed held e = concludes_at 10 ⊤ (CountsPiece 10) held _ (Cut.failed e) (Err e) held (inl refl) (refl, refl)
-
-pub refused : (held : List ℕ) (e : Error) → error_kind e ≡ OutOfMemory
-    → AnswerMarks (read_line_fold ⊤) held [] (Ready (Err e)) held
-refused held e is =
-    concludes_at 10 ⊤ (CountsPiece 10) held [] (Cut.failed e) _ held (inr (refl, tt, is)) (refl, refl)
-
-pub ended : (held : List ℕ) (n : ℕ) → n ≡ length held
-    → AnswerMarks (read_line_fold ⊤) held (ReadMark.end ∷ []) (Ready (Ok n)) held
-ended [] n is = concludes_at 10 ⊤ (CountsPiece 10) [] _ Cut.nothing _ [] (refl, refl) (refl, ap Ok is)
-ended (b ∷ held) n is =
-    let some : 0 < length (b ∷ held) = omega arith in
-    concludes_at 10 ⊤ (CountsPiece 10) _ _ (Cut.last _) _ _ (refl, some, refl) (refl, ap Ok is)
-
-cut_off : (held shown all : List ℕ) (k n : ℕ) → IsFirstByte (is_byte 10) shown (Some k)
-    → all ≡ held ++ take (k + 1) shown → n ≡ length all
-    → AnswerMarks (read_line_fold ⊤) held (bytes (take (k + 1) shown)) (Ready (Ok n)) all
-cut_off held shown all k n first is count =
-    let at = found_at 10 shown k first in
-    let whole : all ≡ (held ++ take k shown) ++ 10 ∷ [] = is ∙ ap (λ l. held ++ l) at.2
-    ∙ sym (append_assoc held _ (10 ∷ [])) in
-    let piece = concludes_piece 10 ⊤ (CountsPiece 10) held _ _ all at.1 (whole, ap Ok count) in
-    subst (λ l. AnswerMarks (read_line_fold ⊤) held (bytes l) (Ready (Ok n)) all) (sym at.2) piece
 
 -- the future whose reader was filled
 abbrev pub after_fill : {R A : Type 0} → ReadLineFuture R A → R → ReadLineFuture R A
@@ -76,9 +49,8 @@ module _ {R A : Type 0} {reads : Runs ReadMark R} (laws : MarkLaws reads) (x : R
           → reads mid (bytes (take (k + 1) shown)) w.reader.now
           → AnswersText line_over (read_line_fold ⊤) reads x (Ready r) y
       line_cut k is first more took =
-          let came = fill_then reads laws x.reader.now mid w.reader.now shown (bytes (take _ shown))
-          (omega (arith, (found_at 10 shown k first).0)) fills took in
-          let h = cut_off x.bytes.items shown w.bytes.items k _ first more refl in
+          let came = fill_then laws shown (omega (arith, (found_at 10 shown k first).0)) fills took in
+          let h = cut_off 10 x.bytes.items shown w.bytes.items k _ first more refl in
           text_finished line_over _ reads x w y from text _ v r f
           (subst (λ u. AnswerMarks (read_line_fold ⊤) x.bytes.items (bytes (take (k + 1) shown)) (Ready u)
           w.bytes.items) (sym is) h) came
@@ -88,10 +60,9 @@ module _ {R A : Type 0} {reads : Runs ReadMark R} (laws : MarkLaws reads) (x : R
           → w.bytes.items ≡ x.bytes.items
           → AnswersText line_over (read_line_fold ⊤) reads x (Ready r) y
       line_refused e is kind some unread kept =
-          let came = fill_then reads laws x.reader.now mid w.reader.now shown [] some fills
-          (rw unread (laws.rests mid)) in
+          let came = fill_then laws shown some fills (rw unread (laws.rests mid)) in
           let h = subst (λ u. AnswerMarks (read_line_fold ⊤) x.bytes.items [] (Ready u) x.bytes.items) (sym is)
-          (refused x.bytes.items e kind) in
+          (refused 10 _ _ e kind refl) in
           text_finished line_over _ reads x w y from text [] v r f
           (subst (λ l. AnswerMarks (read_line_fold ⊤) x.bytes.items [] (Ready v) l) (sym kept) h) came
 
@@ -104,7 +75,7 @@ module _ {R A : Type 0} {reads : Runs ReadMark R} (laws : MarkLaws reads) (x : R
         record {
           taken = shown;
           some = some;
-          came = fill_then reads laws x.reader.now mid w.reader.now shown _ some fills took;
+          came = fill_then laws shown some fills took;
           folds = subst (λ l. FoldsTo (read_line_fold ⊤).takes x.bytes.items shown l) (sym more) all;
           stays = (from, text, holds);
         }

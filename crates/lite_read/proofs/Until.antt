@@ -24,7 +24,39 @@ use Rattle.lite_base.specs.Laws.Answers.{up_to_one}
 use Rattle.lite_base.specs.Laws.Segments.{segments_one}
 use Rattle.lite_base.specs.Runs.{Runs}
 
-module _ {R : Type 0} (reads : Runs ReadMark R) (laws : MarkLaws reads) (x y : ReadUntilFuture R)
+-- what reading up to a byte gives, at each of its ends
+module _ (byte : ℕ) where
+  pub failed : (held after : List ℕ) (e : Error) → after ≡ held
+      → AnswerMarks (until byte ⊤) held (ReadMark.fault (error_kind e) ∷ []) (Ready (Err e)) after
+  failed held after e is =
+      concludes_at byte ⊤ (CountsPiece byte) held _ (Cut.failed e) (Err e) after (inl refl) (is, refl)
+
+  pub refused : (held after : List ℕ) (e : Error) → error_kind e ≡ OutOfMemory → after ≡ held
+      → AnswerMarks (until byte ⊤) held [] (Ready (Err e)) after
+  refused held after e kind is =
+      concludes_at byte ⊤ (CountsPiece byte) held [] (Cut.failed e) _ after (inr (refl, tt, kind)) (is, refl)
+
+  pub ended : (held after : List ℕ) (n : ℕ) → after ≡ held → n ≡ length held
+      → AnswerMarks (until byte ⊤) held (ReadMark.end ∷ []) (Ready (Ok n)) after
+  ended [] after n is count =
+      concludes_at byte ⊤ (CountsPiece byte) [] _ Cut.nothing _ after (refl, refl)
+      (is, ap Ok (count ∙ ap length (sym is)))
+  ended (b ∷ held) after n is count =
+      let some : 0 < length (b ∷ held) = omega arith in
+      concludes_at byte ⊤ (CountsPiece byte) _ _ (Cut.last _) _ after (refl, some, refl)
+      (is, ap Ok (count ∙ ap length (sym is)))
+
+  pub cut_off : (held shown all : List ℕ) (k n : ℕ) → IsFirstByte (is_byte byte) shown (Some k)
+      → all ≡ held ++ take (k + 1) shown → n ≡ length all
+      → AnswerMarks (until byte ⊤) held (bytes (take (k + 1) shown)) (Ready (Ok n)) all
+  cut_off held shown all k n first is count =
+      let at = found_at byte shown k first in
+      let whole : all ≡ (held ++ take k shown) ++ byte ∷ [] = is ∙ ap (λ l. held ++ l) at.2
+      ∙ sym (append_assoc held _ (byte ∷ [])) in
+      let piece = concludes_piece byte ⊤ (CountsPiece byte) held _ _ all at.1 (whole, ap Ok count) in
+      subst (λ l. AnswerMarks (until byte ⊤) held (bytes l) (Ready (Ok n)) all) (sym at.2) piece
+
+module _ {R : Type 0} {reads : Runs ReadMark R} (laws : MarkLaws reads) (x y : ReadUntilFuture R)
     (reader : y.reader ≡ record x.reader { now = y.reader.now })
     (buf : y.buf ≡ record x.buf { now = y.buf.now }) (byte : y.byte ≡ x.byte) (start : y.start ≡ x.start)
     (within : x.start ≤ length x.buf.now.items) where
@@ -79,33 +111,19 @@ module _ {R : Type 0} (reads : Runs ReadMark R) (laws : MarkLaws reads) (x y : R
     pub until_fails : (e : Error) → reads x.reader.now (ReadMark.fault (error_kind e) ∷ []) y.reader.now
         → ReadsUntil reads ⊤ x (Ready (Err e) ∷ []) y
     until_fails e came =
-        cut_here _ (Err e) came
-        (λ after is. concludes_at x.byte ⊤ (CountsPiece x.byte) (read_of x) _ (Cut.failed e) (Err e) after (inl refl)
-        (is, refl))
+        cut_here _ (Err e) came (λ after is. failed x.byte _ after e is)
 
     pub until_refused : (e : Error) (mid : R) (shown : List ℕ) → reads x.reader.now (filled shown) mid
         → 0 < length shown → error_kind e ≡ OutOfMemory → y.reader.now ≡ mid
         → ReadsUntil reads ⊤ x (Ready (Err e) ∷ []) y
     until_refused e mid shown fills some is unread =
-        let came = fill_then reads laws x.reader.now mid y.reader.now shown [] some fills
-        (rw unread (laws.rests mid)) in
-        cut_here [] (Err e) came (λ after same. concludes_at x.byte ⊤ (CountsPiece x.byte) _ [] (Cut.failed e) _ after
-        (inr (refl, tt, is)) (same, refl))
-
-    ends_by : (held : List ℕ) (n : ℕ) (after : List ℕ) → after ≡ held → n ≡ length held
-        → AnswerMarks (until x.byte ⊤) held (ReadMark.end ∷ []) (Ready (Ok n)) after
-    ends_by [] n after is count =
-        concludes_at x.byte ⊤ (CountsPiece x.byte) [] _ Cut.nothing _ after (refl, refl)
-        (is, ap Ok (count ∙ ap length (sym is)))
-    ends_by (b ∷ held) n after is count =
-        let some : 0 < length (b ∷ held) = omega arith in
-        concludes_at x.byte ⊤ (CountsPiece x.byte) _ _ (Cut.last _) _ after (refl, some, refl)
-        (is, ap Ok (count ∙ ap length (sym is)))
+        let came = fill_then laws shown some fills (rw unread (laws.rests mid)) in
+        cut_here [] (Err e) came (λ after same. refused x.byte _ after e is same)
 
     pub until_ends : (n : ℕ) → n ≡ length x.buf.now.items - x.start
         → reads x.reader.now (ReadMark.end ∷ []) y.reader.now → ReadsUntil reads ⊤ x (Ready (Ok n) ∷ []) y
     until_ends n count came =
-        cut_here _ _ came (λ after is. ends_by _ n after is (count ∙ sym (length-drop x.start x.buf.now.items)))
+        cut_here _ _ came (λ after is. ended x.byte _ after n is (count ∙ sym (length-drop x.start x.buf.now.items)))
 
   module _ (mid : R) (shown : List ℕ) (fills : reads x.reader.now (filled shown) mid) where
     pub until_found : (k n : ℕ) → IsFirstByte (is_byte x.byte) shown (Some k)
@@ -115,9 +133,7 @@ module _ {R : Type 0} (reads : Runs ReadMark R) (laws : MarkLaws reads) (x y : R
     until_found k n first is took count =
         let at = found_at x.byte shown k first in
         let all = take _ shown in
-        let came = fill_then reads laws x.reader.now mid y.reader.now shown _ (omega (arith, at.0)) fills took in
-        let whole : read_of x ++ all ≡ (read_of x ++ take k shown) ++ x.byte ∷ [] = ap (λ l. read_of x ++ l) at.2
-        ∙ sym (append_assoc _ _ (x.byte ∷ [])) in
+        let came = fill_then laws shown (omega (arith, at.0)) fills took in
         let long : n ≡ length (read_of x ++ all) =
         omega (
           arith,
@@ -128,10 +144,7 @@ module _ {R : Type 0} (reads : Runs ReadMark R) (laws : MarkLaws reads) (x y : R
           length-drop x.start x.buf.now.items,
           within,
         ) in
-        let piece = concludes_piece x.byte ⊤ (CountsPiece x.byte) _ _ _ _ at.1 (whole, ap Ok long) in
-        one all _ _ is came
-        (subst (λ l. AnswerMarks (until x.byte ⊤) (read_of x) (bytes l) (Ready (Ok n)) (read_of x ++ all))
-        (sym at.2) piece)
+        one all _ _ is came (cut_off x.byte (read_of x) shown (read_of x ++ all) k n first refl long)
 
     pub until_more : IsFirstByte (is_byte x.byte) shown None → 0 < length shown
         → y.buf.now.items ≡ x.buf.now.items ++ shown → reads mid (bytes shown) y.reader.now
@@ -141,7 +154,7 @@ module _ {R : Type 0} (reads : Runs ReadMark R) (laws : MarkLaws reads) (x y : R
         record {
           taken = shown;
           some = some;
-          came = fill_then reads laws x.reader.now mid y.reader.now shown _ some fills took;
+          came = fill_then laws shown some fills took;
           folds = rw (read_grown shown is) all;
           stays = stays_grown shown is;
         }

@@ -1,8 +1,5 @@
-use Rattle.std.proofs.Common.{◌≡◌, ℕ, ℤ, List, false, sym, subst}
+use Rattle.std.proofs.Common.{◌≡◌, ℕ, ℤ, List, sym, subst}
 use Rattle.lite_base.specs.Answers.{Answer}
-use Rattle.lite_source.specs.Script.{GivesScript}
-use Rattle.lite_stream.specs.Fuse.{FusesOn}
-use Rattle.lite_stream.specs.Through.{Through}
 use Rattle.lite_reshape.specs.Chain.{Joins}
 use Rattle.lite_reshape.specs.declared.chain.Part.TheVariants.{First}
 use Rattle.lite_merge.specs.Zip.{Pairs}

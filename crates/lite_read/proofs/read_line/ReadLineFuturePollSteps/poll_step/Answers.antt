@@ -2,8 +2,9 @@ use Rattle.std.proofs.Common.{◌≡◌, ◌∙◌, [], Some, None, Ok, Err, tak
 use Rattle.std.proofs.lemmas.Grind.{common_steps}
 use Rattle.futures.specs.declared.task.Poll.TheVariants.{Ready}
 use Rattle.lite_read.proofs.Cutting.{take_whole}
-use Rattle.lite_read.proofs.ReadLine.{ended, failed, filled_last, line_cut, line_more, line_refused}
+use Rattle.lite_read.proofs.ReadLine.{filled_last, line_cut, line_more, line_refused}
 use Rattle.lite_read.proofs.TextSteps.{text_waits}
+use Rattle.lite_read.proofs.Until.{ended, failed}
 use Rattle.lite_read.specs.ReadLine.{line_over, read_line_fold}
 use Rattle.std.specs.Prelude.{⊤}
 use Rattle.lite_read.proofs.read_line.ReadLineFuturePollSteps.poll_step.Goals as goal
@@ -13,7 +14,7 @@ returns-in-Ready-Err-clause-stepped g c =
     let x = c.args.self.now in
     let is : c.find_line.result ≡ Ready (Err c.in-Ready-Err.e) = search rules in
     filled_last g.R.Tale.read_laws x c.find_line.new.reader _ _ _ _ c.finish-in-Ready-Err.ensures
-    (failed x.bytes.items c.in-Ready-Err.e) (rw is at c.find_line.ensures.ran)
+    (failed 10 _ _ c.in-Ready-Err.e refl) (rw is at c.find_line.ensures.ran)
 
 pub returns-then-amount-eq0-clause-stepped : goal.returns-then-amount-eq0-clause-stepped
 returns-then-amount-eq0-clause-stepped g c =
@@ -21,7 +22,7 @@ returns-then-amount-eq0-clause-stepped g c =
     let is : c.find_line.result ≡ Ready (Ok (None, c.in-Ready-Ok-None-default.ascii)) = search rules in
     let none : g.R.AsyncBufRead.lent c.find_line.new.reader ≡ [] = search (rules, common_steps) in
     filled_last g.R.Tale.read_laws x c.find_line.new.reader _ _ _ _ c.whole-then-amount-eq0.ensures
-    (ended x.bytes.items _ refl) (rw (is, none) at c.find_line.ensures.ran)
+    (ended 10 _ _ _ refl refl) (rw (is, none) at c.find_line.ensures.ran)
 
 pub returns-in-Ok-clause-stepped : goal.returns-in-Ok-clause-stepped
 returns-in-Ok-clause-stepped g c =
