@@ -45,7 +45,7 @@ front at k n old new room most =
     ∙ take-append-add _ _ n
     ∙ ap (λ l. take at old ++ l) (take-append-le n new (post_of at k old) most)
 
-pub moved_none : (room : List ℕ) → 0 < length room → moved room [] ≡ ReadMark.end ∷ []
+moved_none : (room : List ℕ) → 0 < length room → moved room [] ≡ ReadMark.end ∷ []
 moved_none [] some = absurd (omega (arith, some))
 moved_none (b ∷ room) some = refl
 
@@ -62,6 +62,11 @@ Behind at old new = length new ≡ length (mid_of at (length old - at) old)
 
 pub how_long : (at : ℕ) (old new : List ℕ) → Behind at old new → length new ≡ length old - at
 how_long at old new long = long ∙ mid_len at (length old) old (omega arith)
+
+-- a read that gave nothing, where there was room, is at an end
+pub ends_behind : (at : ℕ) (old new : List ℕ) {xs : List ℕ} → old ≡ xs → Behind at old new → at < length xs
+    → moved new [] ≡ ReadMark.end ∷ []
+ends_behind at old new is long less = moved_none new (omega (arith, how_long at old new long, ap length is, less))
 
 -- a vector into whose room, behind so many bytes, others were written
 module _ {A : Type 0} (v : Vec ℕ A) (old new : List ℕ) (at : ℕ) (within : at ≤ length v.items) (is : old ≡ v.items)

@@ -1,7 +1,7 @@
-use Rattle.std.proofs.Common.{◌≡◌, ◌<◌, [], ◌∷◌, Ok, Err, length, refl, rules, arith, length-take-le}
+use Rattle.std.proofs.Common.{◌≡◌, ◌<◌, [], ◌∷◌, Ok, Err, length, refl, rules, arith}
 use Rattle.futures.specs.declared.task.Poll.TheVariants.{Ready, Pending}
 use Rattle.lite_io_base.specs.Marks.{ReadMark}
-use Rattle.lite_read.proofs.Filling.{exact_full, how_long, moved_none, read_more, read_none, some_left}
+use Rattle.lite_read.proofs.Filling.{ends_behind, exact_full, read_more, read_none, some_left}
 use Rattle.lite_read.proofs.read_exact.ReadExactFuturePollSteps.poll_step.Goals as goal
 
 pub returns-in-Ready-Ok-clause-stepped : goal.returns-in-Ready-Ok-clause-stepped
@@ -19,14 +19,13 @@ returns-then-self-clause-stepped g c =
 pub returns-in-Ready-Ok-eq0-clause-stepped : goal.returns-in-Ready-Ok-eq0-clause-stepped
 returns-in-Ready-Ok-eq0-clause-stepped g c =
     let x = c.args.self.now in
-    let long = how_long x.filled x.buf.now c.poll_read.new.buf c.poll_read.auto.buf in
     let is : c.poll_read.result ≡ Ready (Ok 0) = search rules in
     let room = some_left x.filled x.buf.now c.requires c.if-self.false in
-    let front = length-take-le x.filled x.buf.now c.requires in
-    let some : 0 < length c.poll_read.new.buf = omega (arith, long, front, room) in
+    let less : x.filled < length x.buf.now = omega (arith, c.requires, c.if-self.false) in
+    let end = ends_behind x.filled x.buf.now c.poll_read.new.buf refl c.poll_read.auto.buf less in
     read_none g.R.Tale.reads x c.poll_read.new.self c.poll_read.new.buf (ReadMark.end ∷ []) (Ready (Err c.into.result))
     c.requires c.poll_read.auto.buf ((room, c.into.ensures), refl)
-    (rw (is, moved_none c.poll_read.new.buf some) at c.poll_read.ensures.ran)
+    (rw (is, end) at c.poll_read.ensures.ran)
 
 pub returns-in-Ready-Err-clause-stepped : goal.returns-in-Ready-Err-clause-stepped
 returns-in-Ready-Err-clause-stepped g c =

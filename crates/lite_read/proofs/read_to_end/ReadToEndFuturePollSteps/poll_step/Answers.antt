@@ -1,6 +1,6 @@
-use Rattle.std.proofs.Common.{◌≡◌, ◌<◌, ◌+◌, ◌-◌, [], ◌∷◌, Ok, Err, length, ap, refl, rules, arith, length-take-le}
+use Rattle.std.proofs.Common.{◌≡◌, ◌+◌, ◌-◌, [], ◌∷◌, Ok, Err, length, ap, refl, rules, arith, length-take-le}
 use Rattle.lite_read.proofs.Appending.{read_none, read_some, refused}
-use Rattle.lite_read.proofs.Filling.{how_long, moved_none}
+use Rattle.lite_read.proofs.Filling.{ends_behind}
 use Rattle.lite_read.specs.Appending.{read_front}
 use Rattle.futures.specs.declared.task.Poll.TheVariants.{Ready, Pending}
 use Rattle.lite_io_base.specs.Marks.{ReadMark}
@@ -26,18 +26,17 @@ returns-in-Ready-Ok-eq0-clause-stepped g c =
     let w = c.make_room.new.self in
     let m = c.make_room.ensures in
     let old = c.deref_mut.result.now in
+    let new = c.poll_read.new in
     let is : c.poll_read.result ≡ Ready (Ok 0) = search rules in
-    let within : w.filled < length w.buf.now.items = search rules in
-    let long = how_long w.filled old c.poll_read.new.buf c.poll_read.auto.buf in
-    let some : 0 < length c.poll_read.new.buf = omega (arith, long, within, ap length c.deref_mut.ensures.value) in
+    let end = ends_behind w.filled old new.buf c.deref_mut.ensures.value c.poll_read.auto.buf (search rules) in
     let front = length-take-le w.filled w.buf.now.items m.within in
     let held = length-take-le x.filled x.buf.now.items c.requires.within in
     let start : w.start ≡ x.start = ap (λ z. z.start) m.same in
     let count : length (read_front x) ≡ x.start + (w.filled - w.start) =
     omega (arith, front, ap length m.front, start, c.requires.started, held) in
-    read_none _ g.R.Tale.reads x w c.poll_read.new.self old c.poll_read.new.buf (ReadMark.end ∷ [])
+    read_none _ g.R.Tale.reads x w new.self old new.buf (ReadMark.end ∷ [])
     (Ready (Ok (w.filled - w.start))) m.same m.front m.within c.deref_mut.ensures.value c.poll_read.auto.buf
-    (count, refl) (rw (is, moved_none c.poll_read.new.buf some) at c.poll_read.ensures.ran)
+    (count, refl) (rw (is, end) at c.poll_read.ensures.ran)
 
 pub returns-in-Ready-Err-clause-stepped : goal.returns-in-Ready-Err-clause-stepped
 returns-in-Ready-Err-clause-stepped g c =

@@ -1,7 +1,7 @@
-use Rattle.std.proofs.Common.{◌≡◌, ◌<◌, Ok, Err, [], length, ap, rules, arith}
+use Rattle.std.proofs.Common.{◌≡◌, Ok, Err, [], rules, arith}
 use Rattle.futures.specs.declared.task.Poll.TheVariants.{Ready}
 use Rattle.lite_read.proofs.Strings.{answered, ended, failed, finished, read_some, refused, waited, wrote_long}
-use Rattle.lite_read.proofs.Filling.{how_long, moved_none}
+use Rattle.lite_read.proofs.Filling.{ends_behind}
 use Rattle.lite_read.specs.ReadToString.{text_front}
 use Rattle.lite_read.proofs.read_to_string.ReadToStringFuturePollSteps.poll_step.Goals as goal
 
@@ -21,14 +21,12 @@ returns-in-Ready-Ok-eq0-clause-stepped g c =
     let old = c.deref_mut.result.now in
     let new = c.poll_read.new in
     let is : c.poll_read.result ≡ Ready (Ok 0) = search rules in
-    let within : w.filled < length w.bytes.items = search rules in
-    let long = how_long w.filled old new.buf c.poll_read.auto.buf in
-    let room : 0 < length new.buf = omega (arith, long, within, ap length c.deref_mut.ensures.value) in
+    let end = ends_behind w.filled old new.buf c.deref_mut.ensures.value c.poll_read.auto.buf (search rules) in
     answered g.R.Tale.reads x w new.self old new.buf m.reader m.stays m.front m.held c.deref_mut.ensures.value
     c.poll_read.auto.buf _ _ _ _ m.text c.finish-in-Ready-Ok-eq0.ensures
     (ended _ _ (wrote_long g.R.Tale.reads x w new.self old new.buf m.reader m.stays m.front m.held
     c.deref_mut.ensures.value c.poll_read.auto.buf))
-    (rw (is, moved_none new.buf room) at c.poll_read.ensures.ran)
+    (rw (is, end) at c.poll_read.ensures.ran)
 
 pub returns-in-Ready-Ok-clause-stepped : goal.returns-in-Ready-Ok-clause-stepped
 returns-in-Ready-Ok-clause-stepped g c =
