@@ -28,13 +28,12 @@ after_fill x r = record { reader = record x.reader { now = r }; text = x.text; b
 
 module _ {R A : Type 0} {reads : Runs ReadMark R} (laws : MarkLaws reads) (x : ReadLineFuture R A) (mid : R) where
   -- the fill tells how reading ended
-  pub filled_last : (y : ReadLineFuture R A) (marks : List ReadMark) (v r : Result ℕ Error)
+  pub filled_last : {y : ReadLineFuture R A} {marks : List ReadMark} {v r : Result ℕ Error}
       → FinishesText line_over (after_fill x mid) v r y
       → AnswerMarks (read_line_fold ⊤) x.bytes.items marks (Ready v) x.bytes.items → reads x.reader.now marks mid
       → AnswersText line_over (read_line_fold ⊤) reads x (Ready r) y
-  filled_last y marks v r f h came =
-      text_finished line_over _ reads x (after_fill x mid) y
-      (record { reader = refl; text = refl }) refl marks v r f h came
+  filled_last f h came =
+      text_finished line_over _ reads x (after_fill x mid) _ (record { reader = refl; text = refl }) refl f h came
 
   module _ (w : ReadLineFuture R A) (shown : List ℕ) (stays : TextStays line_over (after_fill x mid) w)
       (text : string_bytes w.text.now ≡ string_bytes x.text.now)
@@ -42,7 +41,7 @@ module _ {R A : Type 0} {reads : Runs ReadMark R} (laws : MarkLaws reads) (x : R
     from : TextStays line_over x w
     from = record { reader = stays.reader; text = stays.text }
 
-    module _ (y : ReadLineFuture R A) (v r : Result ℕ Error) (f : FinishesText line_over w v r y) where
+    module _ {y : ReadLineFuture R A} {v r : Result ℕ Error} (f : FinishesText line_over w v r y) where
       -- the newline was taken
       pub line_cut : (k : ℕ) → v ≡ Ok (length w.bytes.items) → IsFirstByte (is_byte 10) shown (Some k)
           → w.bytes.items ≡ x.bytes.items ++ take (k + 1) shown
@@ -51,7 +50,7 @@ module _ {R A : Type 0} {reads : Runs ReadMark R} (laws : MarkLaws reads) (x : R
       line_cut k is first more took =
           let came = fill_then laws shown (omega (arith, (found_at 10 shown k first).0)) fills took in
           let h = cut_off 10 x.bytes.items shown w.bytes.items k _ first more refl in
-          text_finished line_over _ reads x w y from text _ v r f
+          text_finished line_over _ reads x w y from text f
           (subst (λ u. AnswerMarks (read_line_fold ⊤) x.bytes.items (bytes (take (k + 1) shown)) (Ready u)
           w.bytes.items) (sym is) h) came
 
@@ -63,7 +62,7 @@ module _ {R A : Type 0} {reads : Runs ReadMark R} (laws : MarkLaws reads) (x : R
           let came = fill_then laws shown some fills (rw unread (laws.rests mid)) in
           let h = subst (λ u. AnswerMarks (read_line_fold ⊤) x.bytes.items [] (Ready u) x.bytes.items) (sym is)
           (refused 10 _ _ e kind refl) in
-          text_finished line_over _ reads x w y from text [] v r f
+          text_finished line_over _ reads x w y from text f
           (subst (λ l. AnswerMarks (read_line_fold ⊤) x.bytes.items [] (Ready v) l) (sym kept) h) came
 
     -- all was taken in

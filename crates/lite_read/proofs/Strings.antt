@@ -88,11 +88,11 @@ module _ {R A : Type 0} (reads : Runs ReadMark R) (x w y : ReadToStringFuture R 
     (text : string_bytes w.text.now ≡ string_bytes x.text.now)
     (front_is : text_front w ≡ text_front x) where
   -- what was read goes into the text
-  pub finished : (marks : List ReadMark) (v r : Result ℕ Error) → FinishesText all_over w v r y
+  pub finished : {marks : List ReadMark} {v r : Result ℕ Error} → FinishesText all_over w v r y
       → AnswerMarks (read_to_string_fold ⊤) (text_front w) marks (Ready v) (text_front w)
       → reads x.reader.now marks w.reader.now → AnswersText all_over (read_to_string_fold ⊤) reads x (Ready r) y
-  finished marks v r f h came =
-      text_finished all_over _ reads x w y stays text marks v r f
+  finished {marks} {v} f h came =
+      text_finished all_over _ reads x w y stays text f
       (subst (λ l. AnswerMarks (read_to_string_fold ⊤) l marks (Ready v) (text_front w)) front_is h) came
 
 module _ {R A : Type 0} (reads : Runs ReadMark R) (x w : ReadToStringFuture R A) (r : R) (old new : List ℕ)
@@ -122,12 +122,12 @@ module _ {R A : Type 0} (reads : Runs ReadMark R) (x w : ReadToStringFuture R A)
   )
 
   -- the reader answered, and what was read goes into the text
-  pub answered : (y : ReadToStringFuture R A) (marks : List ReadMark) (v res : Result ℕ Error)
+  pub answered : {y : ReadToStringFuture R A} {marks : List ReadMark} {v res : Result ℕ Error}
       → string_bytes w.text.now ≡ string_bytes x.text.now → FinishesText all_over wrote v res y
       → AnswerMarks (read_to_string_fold ⊤) (text_front wrote) marks (Ready v) (text_front wrote)
       → reads w.reader.now marks r → AnswersText all_over (read_to_string_fold ⊤) reads x (Ready res) y
-  answered y marks v res text f h came =
-      finished reads x wrote y wrote_stays text wrote_front marks v res f h
+  answered {marks} text f h came =
+      finished reads x wrote _ wrote_stays text wrote_front f h
       (subst (λ (b : MutBor R). reads b.now marks r) reader came)
 
   pub wrote_long : length (text_front wrote) ≡ w.filled

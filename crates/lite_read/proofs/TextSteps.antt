@@ -70,11 +70,11 @@ module _ {X R A : Type 0} (over : TextOver X R A) (fold : ReadFold (List ℕ) (R
     (x w y : X) (stays : TextStays over x w)
     (text : string_bytes (over.text w).now ≡ string_bytes (over.text x).now) where
   -- more was read, and then it goes into the text
-  pub text_finished : (marks : List ReadMark) (v r : Result ℕ Error) → FinishesText over w v r y
+  pub text_finished : {marks : List ReadMark} {v r : Result ℕ Error} → FinishesText over w v r y
       → AnswerMarks fold (over.read x) marks (Ready v) (over.read w)
       → reads (over.reader x).now marks (over.reader w).now
       → AnswersText over fold reads x (Ready r) y
-  text_finished marks v r f h came =
+  text_finished {marks} {v} {r} f h came =
       let end : reads (over.reader x).now marks (over.reader y).now =
       subst (λ (b : MutBor R). reads (over.reader x).now marks b.now) (sym f.reader) came in
       let all = stays_join over x w y stays (record { reader = kept_ref _ _ f.reader; text = f.text }) in

@@ -13,7 +13,7 @@ pub returns-in-Ready-Err-clause-stepped : goal.returns-in-Ready-Err-clause-stepp
 returns-in-Ready-Err-clause-stepped g c =
     let x = c.args.self.now in
     let is : c.find_line.result ≡ Ready (Err c.in-Ready-Err.e) = search rules in
-    filled_last g.R.Tale.read_laws x c.find_line.new.reader _ _ _ _ c.finish-in-Ready-Err.ensures
+    filled_last g.R.Tale.read_laws x c.find_line.new.reader c.finish-in-Ready-Err.ensures
     (failed 10 _ _ c.in-Ready-Err.e refl) (rw is at c.find_line.ensures.ran)
 
 pub returns-then-amount-eq0-clause-stepped : goal.returns-then-amount-eq0-clause-stepped
@@ -21,7 +21,7 @@ returns-then-amount-eq0-clause-stepped g c =
     let x = c.args.self.now in
     let is : c.find_line.result ≡ Ready (Ok (None, c.in-Ready-Ok-None-default.ascii)) = search rules in
     let none : g.R.AsyncBufRead.lent c.find_line.new.reader ≡ [] = search (rules, common_steps) in
-    filled_last g.R.Tale.read_laws x c.find_line.new.reader _ _ _ _ c.whole-then-amount-eq0.ensures
+    filled_last g.R.Tale.read_laws x c.find_line.new.reader c.whole-then-amount-eq0.ensures
     (ended 10 _ _ _ refl refl) (rw (is, none) at c.find_line.ensures.ran)
 
 pub returns-in-Ok-clause-stepped : goal.returns-in-Ok-clause-stepped
@@ -30,7 +30,7 @@ returns-in-Ok-clause-stepped g c =
     let is : c.find_line.result ≡ Ready (Ok (Some line.at, line.ascii)) = search rules in
     let e = c.in-Ok.ensures in
     line_cut g.R.Tale.read_laws c.args.self.now c.find_line.new.reader c.take_in.new.self _ e.stays e.text
-    (rw is at c.find_line.ensures.ran) _ _ _ c.whole.ensures line.at refl
+    (rw is at c.find_line.ensures.ran) c.whole.ensures line.at refl
     (rw is at c.find_line.ensures.found) e.ok e.taken
 
 pub returns-in-Err-clause-stepped : goal.returns-in-Err-clause-stepped
@@ -39,7 +39,7 @@ returns-in-Err-clause-stepped g c =
     let is : c.find_line.result ≡ Ready (Ok (Some line.at, line.ascii)) = search rules in
     let e = c.in-Err.ensures in
     line_refused g.R.Tale.read_laws c.args.self.now c.find_line.new.reader c.take_in.new.self _ e.stays e.text
-    (rw is at c.find_line.ensures.ran) _ _ _ c.finish.ensures c.in-Err.e refl
+    (rw is at c.find_line.ensures.ran) c.finish.ensures c.in-Err.e refl
     e.refused (search (rules, common_steps))
     e.unread e.kept
 
@@ -58,7 +58,7 @@ returns-in-Err-take_in-clause-stepped g c =
     let is : c.find_line.result ≡ Ready (Ok (None, c.in-Ready-Ok-None-default.ascii)) = search rules in
     let e = c.in-Err-take_in.ensures in
     line_refused g.R.Tale.read_laws c.args.self.now c.find_line.new.reader c.take_in-in-Ready-Ok-None-default.new.self
-    _ e.stays e.text (rw is at c.find_line.ensures.ran) _ _ _ c.finish-in-Err-take_in.ensures
+    _ e.stays e.text (rw is at c.find_line.ensures.ran) c.finish-in-Err-take_in.ensures
     c.in-Err-take_in.e refl e.refused (search (rules, common_steps)) e.unread e.kept
 
 pub returns-in-Pending-clause-stepped : goal.returns-in-Pending-clause-stepped

@@ -1,4 +1,4 @@
-use Rattle.std.proofs.Common.{◌≡◌, Ok, Err, [], rules, arith}
+use Rattle.std.proofs.Common.{◌≡◌, Ok, Err, rules, arith}
 use Rattle.futures.specs.declared.task.Poll.TheVariants.{Ready}
 use Rattle.lite_read.proofs.Strings.{answered, ended, failed, finished, read_some, refused, waited, wrote_long}
 use Rattle.lite_read.proofs.Filling.{ends_behind}
@@ -10,7 +10,7 @@ returns-then-is_err-clause-stepped g c =
     let x = c.args.self.now in
     let w = c.make_room.new.self in
     let m = c.make_room.ensures in
-    finished g.R.Tale.reads x w _ m.stays m.text m.front [] _ _ c.finish.ensures
+    finished g.R.Tale.reads x w _ m.stays m.text m.front c.finish.ensures
     (refused (text_front w) c.into.result c.into.ensures) (rw m.reader (g.R.Tale.read_laws.rests x.reader.now))
 
 pub returns-in-Ready-Ok-eq0-clause-stepped : goal.returns-in-Ready-Ok-eq0-clause-stepped
@@ -23,7 +23,7 @@ returns-in-Ready-Ok-eq0-clause-stepped g c =
     let is : c.poll_read.result ≡ Ready (Ok 0) = search rules in
     let end = ends_behind w.filled old new.buf c.deref_mut.ensures.value c.poll_read.auto.buf (search rules) in
     answered g.R.Tale.reads x w new.self old new.buf m.reader m.stays m.front m.held c.deref_mut.ensures.value
-    c.poll_read.auto.buf _ _ _ _ m.text c.finish-in-Ready-Ok-eq0.ensures
+    c.poll_read.auto.buf m.text c.finish-in-Ready-Ok-eq0.ensures
     (ended _ _ (wrote_long g.R.Tale.reads x w new.self old new.buf m.reader m.stays m.front m.held
     c.deref_mut.ensures.value c.poll_read.auto.buf))
     (rw (is, end) at c.poll_read.ensures.ran)
@@ -44,7 +44,7 @@ returns-in-Ready-Err-clause-stepped g c =
     let new = c.poll_read.new in
     let is : c.poll_read.result ≡ Ready (Err c.in-Ready-Err.e) = search rules in
     answered g.R.Tale.reads c.args.self.now c.make_room.new.self new.self c.deref_mut.result.now new.buf m.reader
-    m.stays m.front m.held c.deref_mut.ensures.value c.poll_read.auto.buf _ _ _ _ m.text
+    m.stays m.front m.held c.deref_mut.ensures.value c.poll_read.auto.buf m.text
     c.finish-in-Ready-Err.ensures (failed _ c.in-Ready-Err.e) (rw is at c.poll_read.ensures.ran)
 
 pub returns-in-Pending-clause-stepped : goal.returns-in-Pending-clause-stepped
