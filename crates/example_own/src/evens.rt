@@ -1,7 +1,7 @@
 //! What a caller knows of the items of a stream of its own.
-ghost use Rattle.std.specs.Prelude.{◌≡◌, ◌<◌, ◌==◌, ◌≤◌, ◌%◌, ◌++◌, List, length, IfOk};
+ghost use Rattle.std.specs.Prelude.{◌≡◌, ◌<◌, ◌==◌, ◌≤◌, ◌%◌, IfOk};
 ghost use Rattle.std.specs.List.{filter};
-ghost use Rattle.futures_lite.specs.Answers.{Answer, EachItem};
+ghost use Rattle.futures_lite.specs.Answers.{EachItem, Recorded};
 ghost use Rattle.example_own.specs.Numbers.{numbers_left};
 
 use crate::counter::Counter;
@@ -21,8 +21,7 @@ pub fn even_numbers(
     out: &mut Vec<Poll<Option<u32>>>,
 ) -> Result<(), AllocError>
     requires { counter.end ≤ 100 }
-    ensures { (l : List (Answer _)) × (out.new.items ≡ out.old.items ++ l) × IfOk result (λ _. length l ≡ polls)
-        × EachItem (λ n. (n % 2 ≡ 0) × (n < 100)) l }
+    ensures { Recorded out.old out.new polls result (EachItem (λ n. (n % 2 ≡ 0) × (n < 100))) }
 {
     let mut evens = counter.filter(|n| *n % 2 == 0);
     laws::run(&mut evens, cx, polls, out)

@@ -5,6 +5,7 @@ pub use Rattle.lite_base.specs.Answers.{Answer, item, end, items, strip, Compara
 pub use Rattle.lite_base.specs.Answers.{before_end, Waiting, Gives, UpToValue}
 pub use Rattle.lite_base.specs.Calm.{NoPending, waits}
 pub use Rattle.lite_base.specs.OkRanks.{all_ok}
+pub use Rattle.lite_laws.specs.Recorded.{Recorded}
 pub use Rattle.lite_stream.specs.EachItem.{items_in}
 pub use Rattle.lite_views.specs.Each.{EachItem}
 pub use Rattle.lite_views.specs.Fronts.{Front}

@@ -1,8 +1,9 @@
 //! Nests over two scripts that differ only in where they are pending. The answers of the two runs are the same, pendings
 //! aside, as far as both go. `Err` where memory for an answer is refused: then fewer were appended.
-ghost use Rattle.std.specs.Prelude.{◌≡◌, ◌<◌, ◌++◌, List, length, IfOk, IfErr};
-ghost use Rattle.lite_base.specs.Answers.{Answer, strip};
+ghost use Rattle.std.specs.Prelude.{◌≡◌};
+ghost use Rattle.lite_base.specs.Answers.{strip};
 ghost use Rattle.lite_base.specs.Calm.{NoPending};
+ghost use Rattle.lite_laws.specs.Recorded.{Recorded};
 ghost use Rattle.nests_agree.specs.Both.{Begins, BothAppended};
 
 use crate::both::{TwoRuns, both_appended};
@@ -73,8 +74,7 @@ pub fn none_waits(
     out: &mut Vec<Poll<Option<u8>>>,
 ) -> Result<(), AllocError>
     requires { NoPending script }
-    ensures { (l : List (Answer _)) × (out.new.items ≡ out.old.items ++ l) × NoPending l
-        × IfOk result (λ _. length l ≡ polls) × IfErr result (λ _. length l < polls) }
+    ensures { Recorded out.old out.new polls result NoPending }
 {
     let mixed = map(script, |x: u8| x ^ 1);
     let small = take_while(mixed, |x: &u8| *x < 100);

@@ -1,7 +1,7 @@
 //! Closures that ask something of their items.
-ghost use Rattle.std.specs.Prelude.{◌≡◌, ◌<◌, ◌≤◌, ◌++◌, List, length, IfOk};
+ghost use Rattle.std.specs.Prelude.{◌<◌, ◌≤◌};
 ghost use Rattle.std.specs.List.{AllByRecursion};
-ghost use Rattle.futures_lite.specs.Answers.{Answer, EachItem};
+ghost use Rattle.futures_lite.specs.Answers.{EachItem, Recorded};
 
 use futures_lite::{Context, Poll, StreamExt, laws, stream};
 use std::alloc::AllocError;
@@ -15,8 +15,7 @@ pub fn hundredths(
     out: &mut Vec<Poll<Option<u64>>>,
 ) -> Result<(), AllocError>
     requires { AllByRecursion (λ x. 0 < x) numbers.items }
-    ensures { (l : List (Answer _)) × (out.new.items ≡ out.old.items ++ l) × IfOk result (λ _. length l ≡ polls)
-        × EachItem (λ y. y ≤ 100) l }
+    ensures { Recorded out.old out.new polls result (EachItem (λ y. y ≤ 100)) }
 {
     let mut quotients = stream::iter(numbers).map(
         |x: u64|

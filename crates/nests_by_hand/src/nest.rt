@@ -1,7 +1,7 @@
 //! Three nests over a vector, each polled by hand, and what their contracts say of the answers.
-ghost use Rattle.std.specs.Prelude.{◌≡◌, ◌<◌, ◌*◌, ◌%◌, ◌++◌, List, length, map, take, nat_eq, IfOk};
+ghost use Rattle.std.specs.Prelude.{◌≡◌, ◌<◌, ◌*◌, ◌%◌, ◌++◌, map, take, nat_eq, IfOk};
 ghost use Rattle.std.specs.List.{filter};
-ghost use Rattle.futures_lite.specs.Answers.{Answer, EachItem, Front, items, items_in};
+ghost use Rattle.futures_lite.specs.Answers.{EachItem, Front, Recorded, items, items_in};
 
 use futures_lite::{Context, Poll, StreamExt, laws, stream};
 use std::alloc::AllocError;
@@ -14,8 +14,7 @@ pub fn small_evens(
     polls: usize,
     out: &mut Vec<Poll<Option<u64>>>,
 ) -> Result<(), AllocError>
-    ensures { (l : List (Answer _)) × (out.new.items ≡ out.old.items ++ l) × IfOk result (λ _. length l ≡ polls)
-        × EachItem (λ x. (x % 2 ≡ 0) × (x < 1000)) l }
+    ensures { Recorded out.old out.new polls result (EachItem (λ x. (x % 2 ≡ 0) × (x < 1000))) }
 {
     let tripled = stream::iter(numbers).map(|x| x as u64 * 3);
     let mut small = tripled.filter(|x| *x % 2 == 0 && *x < 1000);
@@ -31,8 +30,8 @@ pub fn first_evens(
     polls: usize,
     out: &mut Vec<Poll<Option<u64>>>,
 ) -> Result<(), AllocError>
-    ensures { (l : List (Answer _)) × (out.new.items ≡ out.old.items ++ l) × IfOk result (λ _. length l ≡ polls)
-        × Front (items_in l) (take count (filter (λ x. nat_eq (x % 2) 0) (map (λ x. x * 3) numbers.items))) }
+    ensures { Recorded out.old out.new polls result
+        (λ l. Front (items_in l) (take count (filter (λ x. nat_eq (x % 2) 0) (map (λ x. x * 3) numbers.items)))) }
 {
     let tripled = stream::iter(numbers).map(|x| x as u64 * 3);
     let mut evens = tripled.filter(|x| *x % 2 == 0).take(count);

@@ -1,6 +1,6 @@
 //! A nest for each family of adapters that joins, flattens or merges, and what is known of each item that comes out of it.
-ghost use Rattle.std.specs.Prelude.{◌≡◌, ◌<◌, ◌++◌, List, length, IfOk};
-ghost use Rattle.futures_lite.specs.Answers.{Answer, EachItem};
+ghost use Rattle.std.specs.Prelude.{◌<◌};
+ghost use Rattle.futures_lite.specs.Answers.{EachItem, Recorded};
 
 use futures_lite::future::ready;
 use futures_lite::stream::Script;
@@ -17,8 +17,7 @@ pub fn joined(
     out: &mut Vec<Poll<Option<u8>>>,
 ) -> Result<(), AllocError>
     requires { EachItem (λ x. x < 10) first × EachItem (λ x. x < 10) second }
-    ensures { (l : List (Answer _)) × (out.new.items ≡ out.old.items ++ l) × IfOk result (λ _. length l ≡ polls)
-        × EachItem (λ x. x < 10) l }
+    ensures { Recorded out.old out.new polls result (EachItem (λ x. x < 10)) }
 {
     let chained = first.chain(second);
     let mut joined = chained.fuse();
@@ -34,8 +33,7 @@ pub fn flattened(
     out: &mut Vec<Poll<Option<u8>>>,
 ) -> Result<(), AllocError>
     requires { EachItem (EachItem (λ x. x < 10)) scripts }
-    ensures { (l : List (Answer _)) × (out.new.items ≡ out.old.items ++ l) × IfOk result (λ _. length l ≡ polls)
-        × EachItem (λ x. x < 10) l }
+    ensures { Recorded out.old out.new polls result (EachItem (λ x. x < 10)) }
 {
     let mut flat = scripts.flatten();
     laws::run(&mut flat, cx, polls, out)
@@ -49,8 +47,7 @@ pub fn digits(
     polls: usize,
     out: &mut Vec<Poll<Option<u8>>>,
 ) -> Result<(), AllocError>
-    ensures { (l : List (Answer _)) × (out.new.items ≡ out.old.items ++ l) × IfOk result (λ _. length l ≡ polls)
-        × EachItem (λ x. x < 10) l }
+    ensures { Recorded out.old out.new polls result (EachItem (λ x. x < 10)) }
 {
     let mut digits = script.then(|x: u8| ready(x % 10));
     laws::run(&mut digits, cx, polls, out)
@@ -66,8 +63,7 @@ pub fn paired(
     out: &mut Vec<Poll<Option<(u8, u8)>>>,
 ) -> Result<(), AllocError>
     requires { EachItem (λ x. x < 10) first × EachItem (λ y. 90 < y) second }
-    ensures { (l : List (Answer _)) × (out.new.items ≡ out.old.items ++ l) × IfOk result (λ _. length l ≡ polls)
-        × EachItem (λ z. (z.0 < 10) × (90 < z.1)) l }
+    ensures { Recorded out.old out.new polls result (EachItem (λ z. (z.0 < 10) × (90 < z.1))) }
 {
     let mut pairs = first.zip(second);
     laws::run(&mut pairs, cx, polls, out)
@@ -83,8 +79,7 @@ pub fn merged(
     out: &mut Vec<Poll<Option<u8>>>,
 ) -> Result<(), AllocError>
     requires { EachItem (λ x. x < 10) first × EachItem (λ x. x < 10) second }
-    ensures { (l : List (Answer _)) × (out.new.items ≡ out.old.items ++ l) × IfOk result (λ _. length l ≡ polls)
-        × EachItem (λ x. x < 10) l }
+    ensures { Recorded out.old out.new polls result (EachItem (λ x. x < 10)) }
 {
     let mut merged = first.or(second);
     laws::run(&mut merged, cx, polls, out)

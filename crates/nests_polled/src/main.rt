@@ -8,18 +8,27 @@ mod shown;
 mod try_count;
 
 use futures::task::{Doorbell, Solo};
+use futures_lite::Context;
 use std::io;
 
 fn main(rt: HostRuntime) -> io::Result<()> {
     let solo = Solo::new(&rt, Doorbell::spinning())?;
+    let mut cx = solo.begin();
+    let ran = show(&rt, &mut cx);
+    cx.cancel();
+    ran
+}
+
+/// Prints what each nest answers, polled in one context.
+fn show(rt: &HostRuntime, cx: &mut Context<'_>) -> io::Result<()> {
     let alloc = rt.alloc();
-    println!(rt; "poll_nest {:?}", shown::nest(alloc, &solo)?)?;
-    println!(rt; "evens {:?}", shown::evens(alloc, &solo)?)?;
-    println!(rt; "hundredths {:?}", shown::hundredths(alloc, &solo)?)?;
-    println!(rt; "poll_count {:?}", shown::count(alloc, &solo)?)?;
-    println!(rt; "joined {:?}", shown::joined(alloc, &solo)?)?;
-    println!(rt; "flattened {:?}", shown::flattened(alloc, &solo)?)?;
-    println!(rt; "digits {:?}", shown::digits(alloc, &solo)?)?;
-    println!(rt; "paired {:?}", shown::paired(alloc, &solo)?)?;
-    println!(rt; "merged {:?}", shown::merged(alloc, &solo)?)
+    println!(rt; "poll_nest {:?}", shown::nest(alloc, cx)?)?;
+    println!(rt; "evens {:?}", shown::evens(alloc, cx)?)?;
+    println!(rt; "hundredths {:?}", shown::hundredths(alloc, cx)?)?;
+    println!(rt; "poll_count {:?}", shown::count(alloc, cx)?)?;
+    println!(rt; "joined {:?}", shown::joined(alloc, cx)?)?;
+    println!(rt; "flattened {:?}", shown::flattened(alloc, cx)?)?;
+    println!(rt; "digits {:?}", shown::digits(alloc, cx)?)?;
+    println!(rt; "paired {:?}", shown::paired(alloc, cx)?)?;
+    println!(rt; "merged {:?}", shown::merged(alloc, cx)?)
 }

@@ -1,7 +1,7 @@
 //! Nests compose: what is known of a nest of adapters is known by the contracts of the traits alone.
-ghost use Rattle.std.specs.Prelude.{◌≡◌, ◌%◌, ◌<◌, ◌≤◌, ◌++◌, ◌∷◌, [], List, length, IfOk};
+ghost use Rattle.std.specs.Prelude.{◌≡◌, ◌%◌, ◌<◌, ◌≤◌, ◌∷◌, []};
 ghost use Rattle.futures.specs.Task.{Keeps};
-ghost use Rattle.futures_lite.specs.Answers.{Answer, EachItem};
+ghost use Rattle.futures_lite.specs.Answers.{EachItem, Recorded};
 ghost use Rattle.lite_base.specs.Registered.{Registered};
 
 use futures_lite::stream::{Counted, Filter, Map, Script};
@@ -36,8 +36,7 @@ pub fn evens(
     polls: usize,
     out: &mut Vec<Poll<Option<u64>>>,
 ) -> Result<(), AllocError>
-    ensures even { (l : List (Answer _)) × (out.new.items ≡ out.old.items ++ l) × IfOk result (λ _. length l ≡ polls)
-        × EachItem (λ x. x % 2 ≡ 0) l }
+    ensures even { Recorded out.old out.new polls result (EachItem (λ x. x % 2 ≡ 0)) }
 {
     let mut place = 0u64;
     let mixed = script.map(move |x: u8| {
@@ -57,8 +56,7 @@ pub fn hundredths(
     out: &mut Vec<Poll<Option<u8>>>,
 ) -> Result<(), AllocError>
     requires { EachItem (λ x. 0 < x) script }
-    ensures { (l : List (Answer _)) × (out.new.items ≡ out.old.items ++ l) × IfOk result (λ _. length l ≡ polls)
-        × EachItem (λ y. 2 ≤ y) l }
+    ensures { Recorded out.old out.new polls result (EachItem (λ y. 2 ≤ y)) }
 {
     let mut quotients = script
         .map(

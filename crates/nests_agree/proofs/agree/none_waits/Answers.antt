@@ -7,4 +7,4 @@ run_calm-requires-clause-calm c = (search rules, (search rules, record { at = λ
 pub returns : goal.returns
 returns c =
     let ran = c.run_calm.ensures.no_pending in
-    (ran.0, ran.1, ran.3, ran.4, ran.5)
+    (ran.0, ran.1, ran.4, ran.5, ran.3)

@@ -22,6 +22,7 @@ returns c =
       ran.0,
       ran.1,
       ran.3,
+      ran.4,
       each_replaced _ _ (λ y. y ≤ 100) (λ p q x y any called. search rules) _ _ ran.2.ins ran.0
           (each_any ran.2.ins) ran.2.related,
     )

@@ -26,4 +26,4 @@ returns c =
     let filtering = ap (λ m. into_iter_items m.stream.stream.iter) c.filter.ensures.parts ∙ mapping in
     let numbers = ap (λ m. into_iter_items m.stream.stream.stream.iter) c.take-evens.ensures.parts ∙ filtering in
     let count = ap (λ m. m.n) c.take-evens.ensures.parts in
-    (ran.0, ran.1, ran.3, rw (numbers, count) at firsts)
+    (ran.0, ran.1, ran.3, ran.4, rw (numbers, count) at firsts)

@@ -31,4 +31,4 @@ returns c =
     (λ p q x v l left any called given. let small : IsDigit v = search rules in
     each_handed _ IsDigit (λ d. d < 10) gives v l left small given)
     _ _ ran.2.ins ran.0 _ (each_any ran.2.ins) related in
-    (ran.0, ran.1, ran.3, digits)
+    (ran.0, ran.1, ran.3, ran.4, digits)

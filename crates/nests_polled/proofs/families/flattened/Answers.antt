@@ -11,4 +11,4 @@ returns c =
     (rw c.flatten-flat.ensures.parts c.requires) ran.2.came in
     let flat = each_flat _ (EachItem (λ x. x < 10)) (λ x. x < 10)
     (λ s t l given told. each_scripted (λ x. x < 10) s l t given told) in
-    (ran.0, ran.1, ran.3, flat ran.2.ins ran.0 _ came (rw c.flatten-flat.ensures.parts at ran.2.related))
+    (ran.0, ran.1, ran.3, ran.4, flat ran.2.ins ran.0 _ came (rw c.flatten-flat.ensures.parts at ran.2.related))

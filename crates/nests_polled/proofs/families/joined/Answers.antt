@@ -12,4 +12,4 @@ returns c =
     let firsts = each_scripted (λ x. x < 10) _ chained.firsts _ (rw fused (rw made c.requires.0)) chained.came in
     let seconds = each_scripted (λ x. x < 10) _ chained.seconds _ (rw fused (rw made c.requires.1)) chained.then_came in
     let both = each_joined (λ x. x < 10) _ _ _ _ ran.2.ins firsts seconds chained.joined in
-    (ran.0, ran.1, ran.3, each_fused (λ x. x < 10) _ _ ran.2.ins ran.0 both ran.2.related)
+    (ran.0, ran.1, ran.3, ran.4, each_fused (λ x. x < 10) _ _ ran.2.ins ran.0 both ran.2.related)

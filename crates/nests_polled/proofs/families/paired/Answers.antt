@@ -15,5 +15,6 @@ returns c =
       ran.0,
       ran.1,
       ran.3,
+      ran.4,
       each_paired (λ x. x < 10) (λ y. 90 < y) zipped.firsts zipped.seconds ran.0 _ firsts seconds paired,
     )
