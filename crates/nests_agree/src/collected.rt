@@ -3,12 +3,12 @@
 ghost use Rattle.lite_gather.specs.Agreeing.{SameCollected, TrySameCollected};
 ghost use Rattle.lite_read.specs.Laws.Marks.{SameText};
 ghost use Rattle.lite_read.specs.Deterministic.{SameByKind, SameOr};
-ghost use Rattle.nests_agree.specs.Lengths.{IsLength, IsTested};
 ghost use Rattle.nests_agree.specs.Lines.{EachFound, WasFound};
 ghost use Rattle.std.specs.IoError.{error_kind};
 ghost use Rattle.std.specs.List.{AllZip};
 ghost use Rattle.std.specs.Prelude.{◌≡◌, IfOk};
 
+use crate::lengths::{is_some, length};
 use lite_gather::make::{collect, try_collect};
 use lite_gather::{Refused, TryCollectError};
 use lite_io_base::{AsyncBufRead, CountedRead, SteadyRead};
@@ -47,8 +47,7 @@ pub fn tried_lines_agree<R, T>(
 where
     R: Wait + RandomSource + AllocGlobal,
     T: AsyncBufRead + CountedRead + SteadyRead + Drop,
-    requires first { T.ranks.counts one }
-    requires second { T.ranks.counts other }
+    requires counts { T.ranks.counts one × T.ranks.counts other }
     requires alike { T.alike one other }
     requires found { T.needs_none }
     ensures { IfOk result (λ values. WasFound values.0 → WasFound values.1
@@ -71,8 +70,7 @@ pub fn gathered_lines_agree<R, T>(
 where
     R: Wait + RandomSource + AllocGlobal,
     T: AsyncBufRead + CountedRead + SteadyRead + Drop,
-    requires first { T.ranks.counts one }
-    requires second { T.ranks.counts other }
+    requires counts { T.ranks.counts one × T.ranks.counts other }
     requires alike { T.alike one other }
     requires found { T.needs_none }
     ensures { IfOk result (λ values. EachFound values.0 → EachFound values.1
@@ -94,29 +92,12 @@ pub fn gathered_lengths_agree<R, T>(
 where
     R: Wait + RandomSource + AllocGlobal,
     T: AsyncBufRead + CountedRead + SteadyRead + Drop,
-    requires first { T.ranks.counts one }
-    requires second { T.ranks.counts other }
+    requires counts { T.ranks.counts one × T.ranks.counts other }
     requires alike { T.alike one other }
     requires found { T.needs_none }
     ensures { IfOk result (λ values. EachFound values.0 → EachFound values.1
         → SameCollected (λ v w. AllZip SameByKind v.items w.items) values.0 values.1) }
 {
-    let length = |line: io::Result<String>| -> io::Result<usize>
-        ensures { IsLength line result }
-    {
-        match line {
-            Ok(text) => Ok(text.as_str().len()),
-            Err(e) => Err(e),
-        }
-    };
-    let is_some = |length: &io::Result<usize>| -> bool
-        ensures { IsTested length.now result }
-    {
-        match length {
-            Ok(n) => *n > 0,
-            Err(_) => true,
-        }
-    };
     let lengths = filter(take(map(lines(one, rt.alloc()), length), most), is_some);
     let more = filter(take(map(lines(other, rt.alloc()), length), most), is_some);
     block_on_both(rt, collect(lengths, rt.alloc()), collect(more, rt.alloc()))

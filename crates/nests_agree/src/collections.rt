@@ -31,8 +31,7 @@ pub fn collects_agree<R, S>(rt: &R, one: S, other: S) -> Result<(Collected, Coll
 where
     R: Wait + RandomSource + AllocGlobal,
     S: SteadyStream<Item = u8> + Counted + Drop,
-    requires first { S.can_poll one }
-    requires second { S.can_poll other }
+    requires can_poll { S.can_poll one × S.can_poll other }
     requires counts { S.ranks.counts one × S.ranks.counts other }
     requires alike { S.alike one other }
     requires found { S.needs_none }
@@ -52,8 +51,7 @@ pub fn tries_agree<R, S>(
 where
     R: Wait + RandomSource + AllocGlobal,
     S: SteadyStream + OkCounted<Ok = u8, Err = char> + Drop,
-    requires first { S.can_poll one }
-    requires second { S.can_poll other }
+    requires can_poll { S.can_poll one × S.can_poll other }
     requires counts { S.ok_ranks.counts one × S.ok_ranks.counts other }
     requires alike { Unmixed S.same (S.alike one other) }
     requires found { S.needs_none }
@@ -70,8 +68,7 @@ pub fn partitions_agree<R, S>(rt: &R, one: S, other: S) -> Result<(Sorted, Sorte
 where
     R: Wait + RandomSource + AllocGlobal,
     S: SteadyStream<Item = u8> + Counted + Drop,
-    requires first { S.can_poll one }
-    requires second { S.can_poll other }
+    requires can_poll { S.can_poll one × S.can_poll other }
     requires counts { S.ranks.counts one × S.ranks.counts other }
     requires alike { S.alike one other }
     requires parity { (x w : ℕ) → SameItem S.same x w → x % 2 ≡ w % 2 }
@@ -90,8 +87,7 @@ pub fn unzips_agree<R, S>(rt: &R, one: S, other: S) -> Result<(Parts, Parts), Al
 where
     R: Wait + RandomSource + AllocGlobal,
     S: SteadyStream<Item = (u8, char)> + Counted + Drop,
-    requires first { S.can_poll one }
-    requires second { S.can_poll other }
+    requires can_poll { S.can_poll one × S.can_poll other }
     requires counts { S.ranks.counts one × S.ranks.counts other }
     requires alike { S.alike one other }
     requires found { S.needs_none }

@@ -10,6 +10,7 @@ pub mod clones;
 pub mod collected;
 pub mod collections;
 pub mod iterators;
+mod lengths;
 pub mod lines;
 pub mod nests;
 pub mod paced;

@@ -1,9 +1,8 @@
 //! Nests over the lines of two readers that are alike. Lines are the same where their texts have the same bytes, or both are
 //! errors of one kind.
-ghost use Rattle.std.specs.Prelude.{length};
 ghost use Rattle.lite_base.specs.Alike.{OptionBy};
 ghost use Rattle.lite_base.specs.Answers.{ComparableBy, strip};
-ghost use Rattle.nests_agree.specs.Lengths.{IsLength, IsTested, WillGiveLength};
+ghost use Rattle.nests_agree.specs.Lengths.{WillGiveLength};
 ghost use Rattle.nests_agree.specs.Lines.{FromLines};
 ghost use Rattle.lite_read.specs.Laws.Marks.{SameText};
 ghost use Rattle.lite_read.specs.NoneRefused.{NoneRefused};
@@ -11,6 +10,7 @@ ghost use Rattle.lite_read.specs.Deterministic.{SameByKind, SameOr};
 ghost use Rattle.nests_agree.specs.Both.{Begins, BothAppended};
 
 use crate::both::{TwoRuns, both_appended};
+use crate::lengths::{is_some, length};
 use lite_base::Context;
 use lite_base::future::Ready;
 use lite_base::future::make::ready;
@@ -34,29 +34,12 @@ pub fn lengths_agree<R>(
 ) -> Result<(), AllocError>
 where
     R: AsyncBufRead + CountedRead + SteadyRead + Drop,
-    requires first { R.ranks.counts one }
-    requires second { R.ranks.counts other }
+    requires counts { R.ranks.counts one × R.ranks.counts other }
     requires alike { R.alike one other }
     ensures { BothAppended
         (λ l m. FromLines R.reads R.ample one other (ComparableBy (OptionBy SameByKind) (strip l) (strip m)))
         runs.old runs.new result }
 {
-    let length = |line: io::Result<String>| -> io::Result<usize>
-        ensures { IsLength line result }
-    {
-        match line {
-            Ok(text) => Ok(text.as_str().len()),
-            Err(e) => Err(e),
-        }
-    };
-    let is_some = |length: &io::Result<usize>| -> bool
-        ensures { IsTested length.now result }
-    {
-        match length {
-            Ok(n) => *n > 0,
-            Err(_) => true,
-        }
-    };
     let mut x = filter(take(map(lines(one, alloc), length), most), is_some);
     let mut y = filter(take(map(lines(other, alloc), length), most), is_some);
     both_appended(&mut x, &mut y, cx, runs)
@@ -75,8 +58,7 @@ pub fn futures_of_lines_agree<R>(
 ) -> Result<(), AllocError>
 where
     R: AsyncBufRead + CountedRead + SteadyRead + Drop,
-    requires first { R.ranks.counts one }
-    requires second { R.ranks.counts other }
+    requires counts { R.ranks.counts one × R.ranks.counts other }
     requires alike { R.alike one other }
     ensures { BothAppended
         (λ l m. FromLines R.reads R.ample one other (Begins l m))
@@ -107,8 +89,7 @@ pub fn lines_agree<R>(
 ) -> Result<(), AllocError>
 where
     R: AsyncBufRead + CountedRead + SteadyRead + Drop,
-    requires first { R.ranks.counts one }
-    requires second { R.ranks.counts other }
+    requires counts { R.ranks.counts one × R.ranks.counts other }
     requires alike { R.alike one other }
     requires found { R.needs_none }
     ensures { BothAppended

@@ -4,6 +4,7 @@ use Rattle.lite_read.specs.Laws.Marks.{SameText}
 use Rattle.lite_read.specs.Deterministic.{SameOr}
 use Rattle.nests_agree.proofs.Appended.{appended_as}
 use Rattle.nests_agree.proofs.Found.{through_from}
+use Rattle.nests_agree.proofs.LinesRead.{lines_read}
 use Rattle.nests_agree.proofs.SameLengths.{same_future}
 use Rattle.nests_agree.specs.Lengths.{WillGiveLength}
 use Rattle.nests_agree.proofs.lines.futures_of_lines_agree.Goals as goal
@@ -24,20 +25,8 @@ returns g c =
     let ran = h.0 in
     let one = ran.first.came in
     let other = ran.second.came in (
-      record {
-        start = c.take-x.result.stream.stream;
-        last = c.both_appended.new.x.stream.stream;
-        lines = one.ins;
-        begun = (search rules, search rules);
-        came = one.came;
-      },
-      record {
-        start = c.take-y.result.stream.stream;
-        last = c.both_appended.new.y.stream.stream;
-        lines = other.ins;
-        begun = (search rules, search rules);
-        came = other.came;
-      },
+      lines_read one.came (search rules) (search rules),
+      lines_read other.came (search rules) (search rules),
       λ a b. ran.found (through_from ran.first (through_from one a)) (through_from ran.second (through_from other b)),
     ))
     c.both_appended.ensures
