@@ -1,26 +1,28 @@
 -- What is told of the parts of a frame, and that a frame has one payload.
-use Rattle.std.proofs.Common.{◌≡◌, ◌≢◌, ◌∙◌, ◌≤◌, ◌<◌, ◌^◌, ℕ, zero, suc, List, [], ◌∷◌, ◌++◌, length, slice_index_or}
+use Rattle.std.proofs.Common.{◌≡◌, ◌∙◌, ◌≤◌, ◌<◌, ◌^◌, ℕ, zero, suc, List, [], ◌∷◌, ◌++◌, length, slice_index_or}
 use Rattle.std.proofs.Common.{Result, Ok, Err, inl, inr, ap, append-nil, append_assoc, arith, refl, subst, sym}
 use Rattle.std.proofs.Math.ListN.{get_or}
 use Rattle.std.proofs.lemmas.List.{map-append}
 use Rattle.std.proofs.lemmas.Nat.{be_bytes_4, from_be_bytes-to_be_bytes_4}
 use Rattle.std.specs.Int.{from_be_bytes, w32}
 use Rattle.std.specs.Prelude.{IfOk}
-use Rattle.futures_lite.specs.Answers.{Comparable, Ready}
+use Rattle.futures_lite.specs.Answers.{Comparable}
 use Rattle.futures_lite.specs.Laws.Taken.{taken_both}
-use Rattle.futures_lite.specs.Marks.{ReadMark, WriteMark, bytes, bytes_taken, read_marks}
+use Rattle.futures_lite.specs.Laws.Told.{told_follow}
+use Rattle.futures_lite.specs.Marks.{ReadMark, WriteMark, bytes, bytes_taken}
+use Rattle.futures_lite.specs.Own.{MarkLaws, Runs}
+use Rattle.futures_lite.specs.Readers.{ToldStripped}
 use Rattle.example_frames.specs.Frames.{FirstTold, FrameTold, HeaderTold, PartTold, StopsPart}
 use Rattle.example_frames.specs.Frames.{frame, header}
 use Rattle.example_frames.specs.declared.fault.FrameError.{FrameError}
 use Rattle.example_frames.specs.declared.fault.FrameError.TheVariants.{Ended, Io, Memory, TooLong}
 
--- a read of something into the room of one byte
-pub first_marks : (n : ℕ) (buf : List ℕ) → length buf ≡ 1 → n ≤ length buf → n ≢ 0
-    → read_marks (Ready (Ok n)) buf ≡ ReadMark.byte (slice_index_or buf 0 0) ∷ []
-first_marks zero buf one within some = absurd (some refl)
-first_marks (suc n) [] one within some = absurd (omega (arith, one))
-first_marks (suc n) (b ∷ buf) one within some =
-    let no_more : n ≡ 0 = omega (arith, one, within) in rw no_more refl
+-- what two calls were told, one after the other
+pub told_after : {R : Type 0} {reads : Runs ReadMark R} → MarkLaws reads → {x y z : R} {P Q T : List ReadMark → Type 0}
+    → ((l m : List ReadMark) → P l → Q m → T (l ++ m)) → (l : List ReadMark) × ToldStripped reads x l y × P l
+    → (m : List ReadMark) × ToldStripped reads y m z × Q m → (k : List ReadMark) × ToldStripped reads x k z × T k
+told_after laws both one two =
+    (one.0 ++ two.0, told_follow laws _ _ _ one.0 two.0 one.1 two.1, both one.0 two.0 one.2 two.2)
 
 -- a part that came short
 pub part_short : (part : List ℕ) (l : List ReadMark) (e : FrameError) (front : List ℕ) (last : List ReadMark)

@@ -1,4 +1,7 @@
 //! Why a frame is not written or not read.
+ghost use Rattle.std.specs.Prelude.{◌≡◌};
+ghost use Rattle.example_frames.specs.declared.fault.FrameError.TheVariants.{Io, Memory};
+
 use std::alloc::AllocError;
 use std::io;
 
@@ -17,12 +20,16 @@ pub enum FrameError {
 }
 
 impl From<AllocError> for FrameError {
+    ghost from_gives = { λ _ error. error ≡ Memory };
+
     fn from(_: AllocError) -> FrameError {
         FrameError::Memory
     }
 }
 
 impl From<io::Error> for FrameError {
+    ghost from_gives = { λ given error. error ≡ Io given };
+
     fn from(error: io::Error) -> FrameError {
         FrameError::Io(error)
     }

@@ -35,9 +35,7 @@ pub fn read_frame<R: Wait, S: AsyncRead>(
     if length > limit {
         return Err(FrameError::TooLong(length as u64));
     }
-    let Ok(mut payload) = vec![in alloc; 0u8; length as usize] else {
-        return Err(FrameError::Memory);
-    };
+    let mut payload = vec![in alloc; 0u8; length as usize]?;
     read_part(on, rt, reader, &mut payload)?;
     Ok(Some(payload))
 }
@@ -67,11 +65,9 @@ fn read_first<R: Wait, S: AsyncRead>(
     ensures { (l : List ReadMark) × ToldStripped S.reads reader.old l reader.new × FirstTold l result }
 {
     let mut first = [0u8; 1];
-    match wait_read(on, rt, reader, &mut first) {
-        Ok(Ok(0)) => Ok(None),
-        Ok(Ok(_)) => Ok(Some(first[0])),
-        Ok(Err(e)) => Err(FrameError::Io(e)),
-        Err(_) => Err(FrameError::Memory),
+    match wait_read(on, rt, reader, &mut first)?? {
+        0 => Ok(None),
+        _ => Ok(Some(first[0])),
     }
 }
 
@@ -86,10 +82,9 @@ fn read_part<R: Wait, S: AsyncRead>(
     ensures small { (i : _) → slice_index_or part.new i 0 < 2 ^ 8 }
     ensures told { (l : List ReadMark) × ToldStripped S.reads reader.old l reader.new × PartTold part.new l result }
 {
-    match wait_read_exact(on, rt, reader, part) {
-        Ok(Ok(())) => Ok(()),
-        Ok(Err(e)) => Err(broken(e)),
-        Err(_) => Err(FrameError::Memory),
+    match wait_read_exact(on, rt, reader, part)? {
+        Ok(()) => Ok(()),
+        Err(e) => Err(broken(e)),
     }
 }
 

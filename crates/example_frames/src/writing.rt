@@ -44,9 +44,6 @@ fn write_part<R: Wait, W: AsyncWrite>(
     ensures { (took : List WriteMark) × TakesFront W.writes writer.old part.now took writer.new
         × IfOk result (λ _. bytes_taken took ≡ part.now) }
 {
-    match wait_write_all(on, rt, writer, part) {
-        Ok(Ok(())) => Ok(()),
-        Ok(Err(e)) => Err(FrameError::Io(e)),
-        Err(_) => Err(FrameError::Memory),
-    }
+    wait_write_all(on, rt, writer, part)??;
+    Ok(())
 }
