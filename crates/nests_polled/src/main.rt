@@ -7,8 +7,7 @@ mod nest;
 mod shown;
 mod try_count;
 
-use futures::task::{Doorbell, Solo};
-use futures_lite::Context;
+use futures_lite::{Context, Doorbell, Solo};
 use std::io;
 
 fn main(rt: HostRuntime) -> io::Result<()> {
