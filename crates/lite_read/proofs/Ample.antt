@@ -14,7 +14,7 @@ use Rattle.lite_read.specs.ReadFold.{AnswerMarks}
 use Rattle.lite_read.specs.NoneRefused.{NoneRefused, NotRefused}
 use Rattle.lite_read.specs.Pieces.{Cut, CutsPiece, Itemised, pieces}
 use Rattle.lite_read.specs.Segments.{Flows, StreamOver}
-use Rattle.lite_read.specs.LineText.{IsText, without_return}
+use Rattle.lite_read.specs.LineText.{IsText}
 use Rattle.lite_read.specs.declared.lines.Lines.{Lines}
 
 module _ {A : Type 0} (whole final : List ℕ → Result A Error → Type 0) where

@@ -2,7 +2,7 @@
 use Rattle.std.proofs.Common.{◌≡◌, List, ◌∷◌, Option, Some, None, refl, arith}
 use Rattle.std.specs.Prelude.{Bool, true, false}
 use Rattle.lite_base.specs.Alike.{OptionBy, SameAnswer, SameItem, Sameness}
-use Rattle.lite_base.specs.Answers.{Answer, strip}
+use Rattle.lite_base.specs.Answers.{strip}
 use Rattle.lite_base.specs.Calling.{Accepts, AgreeFrom, AgreeKeeping, Keeping}
 use Rattle.lite_base.specs.Laws.Alike.{both_items, ends_same, item_answers, same_answer}
 use Rattle.lite_base.specs.Laws.Calling.{MatchesFrom, accepts_matches, agree_from_matches, keeping_matches}

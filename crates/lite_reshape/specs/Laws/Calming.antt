@@ -1,7 +1,7 @@
 -- Adapters that hold something, or have a second stream, over what is never pending.
 use Rattle.std.specs.List.{AllByRecursion}
 use Rattle.std.specs.Prelude.{IfSome}
-use Rattle.std.proofs.Common.{◌≤◌, ◌+◌, arith, List, [], ◌∷◌, ◌++◌, Option, Some, None, inl, inr, refl}
+use Rattle.std.proofs.Common.{◌≤◌, ◌+◌, arith, List, [], ◌∷◌, Option, None, inl, inr, refl}
 use Rattle.lite_base.specs.Answers.{Answer, end}
 use Rattle.lite_base.specs.Calm.{CalmLaws, NoPending, waits}
 use Rattle.lite_base.specs.Laws.Calm.{calm_both, no_pending_front, no_pending_join, no_pending_none, waits_join}

@@ -3,7 +3,7 @@ use Rattle.std.proofs.lemmas.List.{length-replicate}
 use Rattle.std.proofs.Common.{◌≡◌, ◌∙◌, ℕ, ◌+◌, List, [], ◌∷◌, ◌++◌, length, Some, None, inl, inr, refl, ap, sym, subst}
 use Rattle.std.proofs.Common.{arith, length-append, append_assoc, append-nil}
 use Rattle.futures.specs.declared.task.Poll.TheVariants.{Ready, Pending}
-use Rattle.lite_base.specs.Answers.{Answer, Endless, end, item, items}
+use Rattle.lite_base.specs.Answers.{Answer, Endless, items}
 use Rattle.lite_base.specs.Laws.Falling.{AtMost-both, AtMost-length, Below-after, Below-first, Lowers-at_most}
 use Rattle.lite_base.specs.Laws.Endless.{endless_join}
 use Rattle.lite_base.specs.Laws.Hint.{same_hint}

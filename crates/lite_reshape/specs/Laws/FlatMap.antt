@@ -1,10 +1,10 @@
 -- Laws of streams that a function makes.
 use Rattle.std.specs.Fn.{Called, Mut}
 use Rattle.std.specs.List.{AllByRecursion}
-use Rattle.std.proofs.Common.{◌≡◌, List, [], ◌∷◌, ◌++◌, Option, Some, None, refl, subst}
+use Rattle.std.proofs.Common.{◌≡◌, List, [], ◌∷◌, Option, Some, None, refl, subst}
 use Rattle.futures.specs.declared.task.Poll.TheVariants.{Ready}
 use Rattle.lite_base.specs.Alike.{OptionBy, SameItem, Sameness}
-use Rattle.lite_base.specs.Answers.{Answer, item}
+use Rattle.lite_base.specs.Answers.{Answer}
 use Rattle.lite_base.specs.Calm.{CalmLaws}
 use Rattle.lite_base.specs.Laws.Calm.{calm_both}
 use Rattle.lite_base.specs.Ends.{Terminates}
@@ -20,7 +20,7 @@ use Rattle.lite_reshape.specs.Laws.Calming.{flattening_calm}
 use Rattle.lite_reshape.specs.Laws.Flatten.{each_inner_on, flattening, flattening_counting}
 use Rattle.lite_reshape.specs.Laws.SteadyFlatten.{flattening_steady}
 use Rattle.lite_reshape.specs.declared.flat_map.FlatMap.{FlatMap}
-use Rattle.lite_base.specs.Calling.{AgreeFrom, Always, Answering, Calls}
+use Rattle.lite_base.specs.Calling.{AgreeFrom, Always, Calls}
 use Rattle.lite_base.specs.Laws.All.{all_split}
 use Rattle.lite_base.specs.Laws.Items.{OfItem}
 use Rattle.lite_base.specs.Laws.Calling.{agree_from_matches}

@@ -9,8 +9,8 @@ use Rattle.lite_base.specs.Laws.Items.{IsItem, first_item, items_each}
 use Rattle.lite_base.specs.Laws.Segments.{answers_by, answers_given, answers_taken, segments_join}
 use Rattle.lite_base.specs.Rank.{Lowers}
 use Rattle.lite_base.specs.Runs.{Question}
-use Rattle.lite_base.specs.Segments.{OneAnswer, Segment}
-use Rattle.lite_reshape.specs.Leaving.{LeavesOut, Passes, Rejects}
+use Rattle.lite_base.specs.Segments.{Segment}
+use Rattle.lite_reshape.specs.Leaving.{LeavesOut, Passes}
 use Rattle.lite_stream.specs.Laws.Calming.{Calming}
 use Rattle.lite_stream.specs.Laws.Through.{AlsoBefore, Entails, Relating}
 

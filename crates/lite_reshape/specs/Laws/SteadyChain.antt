@@ -3,7 +3,7 @@ use Rattle.std.proofs.Common.{◌≡◌, List, [], ◌∷◌, ◌++◌, Option, 
 use Rattle.futures.specs.declared.task.Poll.TheVariants.{Ready, Pending}
 use Rattle.std.specs.Prelude.{⊤}
 use Rattle.lite_base.specs.Alike.{Either, OptionBy, SameAnswer, Sameness}
-use Rattle.lite_base.specs.Answers.{Answer, ComparableBy, Endless, end, strip}
+use Rattle.lite_base.specs.Answers.{Answer, ComparableBy, Endless, strip}
 use Rattle.lite_base.specs.Steady.{SteadyLawsBy}
 use Rattle.lite_reshape.specs.Chain.{Chains, Joins, is_done, second_after}
 use Rattle.lite_reshape.specs.declared.chain.Part.{Part}

@@ -1,6 +1,5 @@
 -- Items that are replaced by the list of what is made of them, where that gives one item: the same, where it is alike.
 use Rattle.std.specs.List.{AllByRecursion}
-use Rattle.std.specs.Prelude.{⊤}
 use Rattle.std.proofs.Common.{◌≡◌, ◌∙◌, ◌⊎◌, List, [], ◌∷◌, ◌++◌, Option, Some, None, inl, inr, refl, ap}
 use Rattle.lite_base.specs.Alike.{OptionBy, SameAnswer, SameItem, Sameness}
 use Rattle.lite_base.specs.Answers.{Answer, ComparableBy, strip}

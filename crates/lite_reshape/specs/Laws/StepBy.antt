@@ -2,8 +2,8 @@
 use Rattle.std.proofs.Common.{◌≡◌, ◌∙◌, ℕ, ◌+◌, ◌%◌, ◌<◌, ◌≤◌, ◌-◌, List, [], ◌∷◌, ◌++◌, Option, Some, None, refl, ap}
 use Rattle.std.proofs.Common.{subst, sym, append-nil, arith}
 use Rattle.std.proofs.Math.Nat.{add-mod-mod, mod_self, mod-add-mod, mod-eq_of_lt}
-use Rattle.lite_base.specs.Alike.{OptionBy, SameAnswer, Sameness}
-use Rattle.lite_base.specs.Answers.{Answer, before_end, strip}
+use Rattle.lite_base.specs.Alike.{OptionBy, Sameness}
+use Rattle.lite_base.specs.Answers.{Answer, before_end}
 use Rattle.lite_base.specs.Rank.{Lowers}
 use Rattle.lite_base.specs.Laws.Alike.{comparable_nil}
 use Rattle.lite_base.specs.Laws.Calling.{MatchesFrom}

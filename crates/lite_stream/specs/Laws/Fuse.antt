@@ -2,7 +2,7 @@
 use Rattle.std.proofs.Common.{◌≡◌, ◌∙◌, List, [], ◌∷◌, ◌++◌, Some, None, Bool, true, false, refl, inl, inr, ap}
 use Rattle.futures.specs.declared.task.Poll.TheVariants.{Ready, Pending}
 use Rattle.lite_base.specs.Alike.{Sameness}
-use Rattle.lite_base.specs.Answers.{Answer, end, item, until_end}
+use Rattle.lite_base.specs.Answers.{Answer, end, until_end}
 use Rattle.lite_stream.specs.Cutting.{Cuts}
 use Rattle.lite_stream.specs.Fuse.{AllEnds, FusesOn}
 use Rattle.lite_stream.specs.Laws.Agreeing.{AgreeingOver}

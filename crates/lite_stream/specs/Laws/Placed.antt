@@ -2,7 +2,7 @@
 -- alike.
 use Rattle.std.proofs.Common.{◌≡◌, List, [], ◌∷◌, Option, Some, None}
 use Rattle.lite_base.specs.Alike.{OptionBy, SameAnswer, SameItem, Sameness}
-use Rattle.lite_base.specs.Answers.{Answer, ComparableBy, strip}
+use Rattle.lite_base.specs.Answers.{ComparableBy, strip}
 use Rattle.lite_base.specs.Laws.Alike.{answer_items, comparable_as, comparable_nil, ends_same}
 use Rattle.lite_base.specs.Laws.Calling.{MatchesFrom}
 use Rattle.lite_base.specs.Runs.{Question}

@@ -1,7 +1,7 @@
 -- `copy` gives one value wherever its reader and its writer were pending, where no write fails, and is pending only
 -- where one of them is.
 use Rattle.std.specs.Prelude.{⊤, IsOk}
-use Rattle.std.proofs.Common.{◌≡◌, ◌∙◌, ◌+◌, ◌%◌, ◌^◌, ℕ, List, [], ◌∷◌, ◌++◌, Result, Ok, Err, length, refl, ap, sym}
+use Rattle.std.proofs.Common.{◌≡◌, ◌∙◌, ◌+◌, ◌%◌, ◌^◌, ℕ, List, [], ◌∷◌, ◌++◌, Ok, Err, length, refl, ap, sym}
 use Rattle.std.proofs.Common.{arith, append-nil, length-append}
 use Rattle.std.specs.IoError.{error_kind}
 use Rattle.std.specs.declared.io.Error.{Error}
