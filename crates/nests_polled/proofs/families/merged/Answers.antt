@@ -13,4 +13,5 @@ returns c =
     (rw c.or-merged.ensures c.requires.1) merged.then_came.came in
     let firsts = each_fused (λ x. x < 10) _ _ merged.came.ins merged.firsts came merged.came.related in
     let seconds = each_fused (λ x. x < 10) _ _ merged.then_came.ins merged.seconds then_came merged.then_came.related in
-    (ran.0, ran.1, ran.3, ran.4, each_merged (λ x. x < 10) _ merged.firsts merged.seconds ran.0 firsts seconds merged.rows)
+    let both = each_merged (λ x. x < 10) _ merged.firsts merged.seconds ran.0 firsts seconds merged.rows in
+    (ran.0, ran.1, ran.3, ran.4, both)
