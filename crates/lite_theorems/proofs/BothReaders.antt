@@ -17,7 +17,7 @@ use Rattle.lite_read.specs.Laws.SteadyReadToEnd.{appends_deterministic}
 use Rattle.lite_read.specs.ReadToEnd.{Appended, ReadsToEnd, appends}
 use Rattle.lite_read.specs.Deterministic.{SameByKind}
 use Rattle.lite_read.specs.declared.read_to_end.ReadToEndFuture.{ReadToEndFuture}
-use Rattle.lite_theorems.specs.Laws.Told.{WaitedFor, read_folds_once}
+use Rattle.lite_theorems.proofs.Waited.{WaitedFor, read_folds_once}
 use Rattle.lite_theorems.specs.BothReaders.{BothRead, HasReadMemory, ReadsUp}
 
 abbrev ReadResult : Type 0

@@ -23,7 +23,7 @@ use Rattle.lite_write.specs.Hands.{Hands}
 use Rattle.lite_write.specs.WriteAll.{Ended, HandsMarks, HandsOver, WritesAll}
 use Rattle.lite_write.specs.declared.flush.FlushFuture.{FlushFuture}
 use Rattle.lite_write.specs.declared.write_all.WriteAllFuture.{WriteAllFuture}
-use Rattle.lite_theorems.specs.Laws.Told.{WaitedFor}
+use Rattle.lite_theorems.proofs.Waited.{WaitedFor}
 use Rattle.lite_theorems.specs.BothWriters.{BothWritten, FailsBy, FailsWith, FlushedUp, HandedUp, TakesFront, WrittenUp}
 
 abbrev WriteResult : Type 0

@@ -5,4 +5,5 @@ pub mod Limits
 pub mod LinesServed
 pub mod Serving
 pub mod Telling
+pub mod Waited
 pub mod Whole

@@ -252,7 +252,8 @@ last_no_failure : (v : CopyResult) (fault : List ReadMark) (last : List WriteMar
 last_no_failure (Ok n) fault last after met total ok h = rw ((ok_value after met total n fault last h).1) tt
 last_no_failure (Err e) fault last after met total ok h = cc
 
-module _ {R W : Type 0} {reads ample : Runs ReadMark R} {writes : Runs WriteMark W} (found : TakesNone reads ample) where
+module _ {R W : Type 0} {reads ample : Runs ReadMark R} {writes : Runs WriteMark W}
+    (found : TakesNone reads ample) where
   -- where the value is Ok no write failed
   pub ok_no_failure : (x : CopyFuture R W) (l : List (Poll CopyResult)) (v : CopyResult) → IsOk v
       → Finishes (CopyRuns reads writes) x l v

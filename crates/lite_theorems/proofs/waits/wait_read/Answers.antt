@@ -1,5 +1,5 @@
 use Rattle.std.proofs.Common.{rules}
-use Rattle.lite_theorems.specs.Laws.Told.{ToldByRead, read_waited, told_at}
+use Rattle.lite_theorems.proofs.Waited.{ToldByRead, read_waited, told_at}
 use Rattle.lite_theorems.proofs.waits.wait_read.Goals as goal
 
 pub returns : goal.returns

@@ -1,5 +1,5 @@
 use Rattle.std.proofs.Common.{◌∙◌, ap, length, rules, sym}
-use Rattle.lite_theorems.specs.Laws.Told.{ToldByUntil, told_at, until_waited}
+use Rattle.lite_theorems.proofs.Waited.{ToldByUntil, told_at, until_waited}
 use Rattle.lite_theorems.proofs.waits.wait_read_until.Goals as goal
 
 pub returns-clause-told : goal.returns-clause-told
