@@ -116,7 +116,10 @@ module _ {W : Type 0} (writes : Runs WriteMark W) where
         → Buffers writes x (write_marks r xs) y
     passes x y xs Pending t = waits x y t
     passes x y xs (Ready (Err e)) t = fails x y (error_kind e) t
-    passes x y xs (Ready (Ok k)) t =
+    passes x y [] (Ready (Ok k)) t =
+        answered x y (WriteMark.nothing ∷ []) WriteMark.nothing t (λ n. inr (refl, refl, refl))
+    passes x y (b ∷ bs) (Ready (Ok k)) t =
+        let xs = b ∷ bs in
         answered x y (WriteMark.wrote (take k xs) ∷ []) (WriteMark.wrote (take k xs)) t (λ n. inr (refl, refl, refl))
 
     pub then_done : (mark : WriteMark) → ((n : ℕ) → WriterAnswers n [] (mark ∷ []) mark []) → (x m y : BufWriter W)
@@ -161,13 +164,12 @@ module _ {W : Type 0} (writes : Runs WriteMark W) where
         })
 
     -- bytes are held
-    pub room_then_hold : (x m y : BufWriter W) (xs : List ℕ) → MakesRoom writes x (length xs) (Ready (Ok tt)) m
-        → y.inner ≡ m.inner
-        → writer_capacity y ≡ writer_capacity m → unwritten y ≡ unwritten m ++ xs
-        → Buffers writes x (WriteMark.wrote (take (length xs) xs) ∷ []) y
-    room_then_hold x m y xs (inl f) inner capacity more =
-        let whole : take (length xs) xs ≡ xs = take_all (length xs) xs (omega arith) in
-        buffers_one x y f.taken _ (rw inner f.ran) (capacity ∙ f.capacity)
+    holds : (x m y : BufWriter W) (xs : List ℕ) (told : WriteMark)
+        → ((n : ℕ) (left after : List ℕ) → after ≡ left ++ xs → WriterAnswers n left [] told after)
+        → MakesRoom writes x (length xs) (Ready (Ok tt)) m → y.inner ≡ m.inner
+        → writer_capacity y ≡ writer_capacity m → unwritten y ≡ unwritten m ++ xs → Buffers writes x (told ∷ []) y
+    holds x m y xs told answers (inl f) inner capacity more =
+        buffers_one x y f.taken told (rw inner f.ran) (capacity ∙ f.capacity)
         (record {
           drained = f.taken;
           last = [];
@@ -175,11 +177,10 @@ module _ {W : Type 0} (writes : Runs WriteMark W) where
           left = [];
           interruptions = f.empties.0;
           drains = f.empties.1;
-          answers = inl (refl, more ∙ ap (λ l. l ++ xs) f.empties.2 ∙ sym whole);
+          answers = answers f.empties.0 [] (unwritten y) (more ∙ ap (λ l. l ++ xs) f.empties.2);
         })
-    room_then_hold x m y xs (inr (same, is, fits)) inner capacity more =
-        let whole : take (length xs) xs ≡ xs = take_all (length xs) xs (omega arith) in
-        buffers_one x y [] _ (rw (inner, same) (laws.rests x.inner)) (capacity ∙ ap (λ v. writer_capacity v) same)
+    holds x m y xs told answers (inr (same, is, fits)) inner capacity more =
+        buffers_one x y [] told (rw (inner, same) (laws.rests x.inner)) (capacity ∙ ap (λ v. writer_capacity v) same)
         (record {
           drained = [];
           last = [];
@@ -187,5 +188,17 @@ module _ {W : Type 0} (writes : Runs WriteMark W) where
           left = unwritten x;
           interruptions = 0;
           drains = TakesHeld.none;
-          answers = inl (refl, more ∙ ap (λ v. unwritten v ++ xs) same ∙ ap (λ l. unwritten x ++ l) (sym whole));
+          answers = answers 0 (unwritten x) (unwritten y) (more ∙ ap (λ v. unwritten v ++ xs) same);
         })
+
+    pub room_then_hold : (x m y : BufWriter W) (xs : List ℕ) → MakesRoom writes x (length xs) (Ready (Ok tt)) m
+        → y.inner ≡ m.inner
+        → writer_capacity y ≡ writer_capacity m → unwritten y ≡ unwritten m ++ xs
+        → Buffers writes x (write_marks (Ready (Ok (length xs))) xs) y
+    room_then_hold x m y [] made inner capacity more =
+        holds x m y [] WriteMark.nothing (λ n left after h. inl (refl, h ∙ append-nil left)) made inner capacity more
+    room_then_hold x m y (b ∷ bs) made inner capacity more =
+        let xs = b ∷ bs in
+        let whole : take (length xs) xs ≡ xs = take_all (length xs) xs (omega arith) in
+        holds x m y xs (WriteMark.wrote (take (length xs) xs))
+        (λ n left after h. inl (refl, omega (arith, ap length whole), h ∙ ap (λ l. left ++ l) (sym whole))) made inner capacity more

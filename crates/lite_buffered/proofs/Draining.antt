@@ -1,14 +1,15 @@
 -- What a flush of the buffer does.
 use Rattle.std.proofs.Common.{◌≡◌, ◌∙◌, ℕ, ◌+◌, ◌-◌, ◌≤◌, ◌<◌, List, [], ◌∷◌, ◌++◌, length, take, drop, slice_range}
-use Rattle.std.proofs.Common.{refl, sym, ap, subst, arith, length-take-le}
+use Rattle.std.proofs.Common.{inr, refl, sym, ap, subst, arith, length-take-le}
 use Rattle.std.proofs.lemmas.List.{drop-take, drop-append-le, length-take}
 use Rattle.std.specs.Box.{boxed_slice_items}
 use Rattle.std.specs.declared.io.ErrorKind.{ErrorKind}
-use Rattle.std.specs.declared.io.ErrorKind.TheVariants.{Interrupted}
-use Rattle.std.specs.Prelude.{Err}
+use Rattle.std.specs.declared.io.ErrorKind.TheVariants.{Interrupted, WriteZero}
+use Rattle.std.specs.Prelude.{Ok, Err}
 use Rattle.futures.specs.declared.task.Poll.TheVariants.{Ready, Pending}
 use Rattle.lite_io_base.specs.Runs.{MarkLaws}
-use Rattle.lite_io_base.specs.Takings.{WriteMark}
+use Rattle.lite_io_base.specs.Takings.{WriteMark, write_marks}
+use Rattle.lite_io_base.specs.Laws.Runs.{offered_marks}
 use Rattle.lite_buffered.specs.declared.buf_writer.BufWriter.{BufWriter}
 use Rattle.lite_buffered.specs.BufWriter.{FlushesBuffer, IsFault, TakesHeld, WriterAnswers, WriterSegment, unwritten}
 use Rattle.lite_buffered.specs.BufWriter.{writer_capacity}
@@ -60,7 +61,7 @@ module _ {W : Type 0} (writes : Runs WriteMark W) (laws : MarkLaws writes) where
 
   -- some held bytes were taken
   pub drain_some : (x y z : BufWriter W) (n k : ℕ) → Draining writes x y n
-      → writes y.inner (WriteMark.wrote (take k (unwritten y)) ∷ []) z.inner
+      → writes y.inner (write_marks (Ready (Ok k)) (unwritten y)) z.inner
       → 0 < k → k ≤ length (unwritten y) → z.buf ≡ y.buf → z.written ≡ y.written + k → z.len ≡ y.len
       → Draining writes x z 0
   drain_some x y z n k d ran some fits buf written len =
@@ -70,9 +71,10 @@ module _ {W : Type 0} (writes : Runs WriteMark W) (laws : MarkLaws writes) where
       let cut : unwritten y ≡ take k (unwritten y) ++ unwritten z =
       slice_range_split (boxed_slice_items y.buf) y.written y.len k within ∙ ap (λ l. take k (unwritten y) ++ l) next in
       let front = take k (unwritten y) in
+      let took = subst (λ l. writes y.inner l z.inner) (offered_marks k (unwritten y) (omega (arith, some, fits))) ran in
       record {
         taken = d.taken ++ WriteMark.wrote front ∷ [];
-        ran = laws.follows x.inner y.inner z.inner d.taken (WriteMark.wrote front ∷ []) d.ran ran;
+        ran = laws.follows x.inner y.inner z.inner d.taken (WriteMark.wrote front ∷ []) d.ran took;
         drains = TakesHeld.some d.taken front (unwritten z) n
             (subst (λ l. TakesHeld (unwritten x) d.taken l n) cut d.drains)
             (omega (arith, length-take-le k (unwritten y) fits));
@@ -140,3 +142,13 @@ module _ {W : Type 0} (writes : Runs WriteMark W) (laws : MarkLaws writes) where
           omega (arith, length-held y, ap length same),
         );
       }
+
+  -- the inner writer takes none of what it is offered
+  pub drain_zero : (x y z : BufWriter W) (n k : ℕ) (kind : ErrorKind) (w : W) → Draining writes x y n → k ≡ 0
+      → writes y.inner (write_marks (Ready (Ok k)) (unwritten y)) w → z.inner ≡ w → y.written < y.len → kind ≡ WriteZero
+      → writer_capacity z ≡ writer_capacity y → unwritten z ≡ unwritten y → FlushesBuffer writes x (Ready (Err kind)) z
+  drain_zero x y z n k kind w d zero ran inner more is capacity same =
+      let some : 0 < length (unwritten y) = omega (arith, length-held y, more) in
+      let none = offered_marks k (unwritten y) some ∙ ap (λ j. WriteMark.wrote (take j (unwritten y)) ∷ []) zero in
+      drain_fails x y z n (WriteMark.wrote [] ∷ []) kind w d (subst (λ l. writes y.inner l w) none ran) inner more
+      (inr (refl, is, some)) capacity same

@@ -53,7 +53,9 @@ IsFault n left last kind =
 -- of the answer, and what is held then. Flush, close and bytes that pass the buffer come only where nothing is left.
 abbrev pub WriterAnswers : ℕ → List ℕ → List WriteMark → WriteMark → List ℕ → Type 0
 WriterAnswers n left last (WriteMark.wrote xs) after =
-    ((last ≡ []) × (after ≡ left ++ xs)) ⊎ ((last ≡ WriteMark.wrote xs ∷ []) × (left ≡ []) × (after ≡ []))
+    ((last ≡ []) × (0 < length xs) × (after ≡ left ++ xs)) ⊎ ((last ≡ WriteMark.wrote xs ∷ []) × (left ≡ []) × (after ≡ []))
+WriterAnswers n left last WriteMark.nothing after =
+    ((last ≡ []) × (after ≡ left)) ⊎ ((last ≡ WriteMark.nothing ∷ []) × (left ≡ []) × (after ≡ []))
 WriterAnswers n left last WriteMark.pending after = (last ≡ WriteMark.pending ∷ []) × (after ≡ left)
 WriterAnswers n left last (WriteMark.fault kind) after = IsFault n left last kind × (after ≡ left)
 WriterAnswers n left last done after = (last ≡ done ∷ []) × (left ≡ []) × (after ≡ [])

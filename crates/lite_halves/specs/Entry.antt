@@ -119,7 +119,8 @@ read_marks_of n (Told.fault kind) = ReadMark.fault kind ∷ []
 abbrev pub write_marks_of : List ℕ → Told → List WriteMark
 write_marks_of offered Told.pending = WriteMark.pending ∷ []
 write_marks_of offered (Told.got xs) = []
-write_marks_of offered (Told.took n) = WriteMark.wrote (take n offered) ∷ []
+write_marks_of [] (Told.took n) = WriteMark.nothing ∷ []
+write_marks_of (x ∷ xs) (Told.took n) = WriteMark.wrote (take n (x ∷ xs)) ∷ []
 write_marks_of offered Told.done = []
 write_marks_of offered (Told.fault kind) = WriteMark.fault kind ∷ []
 

@@ -79,7 +79,8 @@ module _ {T : Type 0} (reads : Runs ReadMark T) (writes : Runs WriteMark T) wher
 
   -- one write of a front of what is offered, with its entry
   abbrev pub AddsWrite : Chronicle T → Poll (Result ℕ Error) → List ℕ → Chronicle T → Type 0
-  AddsWrite a r offered b = (front : List ℕ) × StandsFirst front offered × AddsOrStays a (write_note r front) b
+  AddsWrite a r offered b = (front : List ℕ) × StandsFirst front offered × (front ≡ [] → offered ≡ [])
+      × AddsOrStays a (write_note r front) b
 
   -- several entries were added, by as many calls of the stream
   pub record AddsAll (a : Chronicle T) (es : List Note) (b : Chronicle T) : Type 0 where

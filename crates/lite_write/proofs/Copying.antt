@@ -12,7 +12,8 @@ use Rattle.lite_buffered.specs.Laws.BufReader.{through_laws}
 use Rattle.lite_buffered.specs.declared.buf_reader.BufReader.{BufReader}
 use Rattle.lite_io_base.specs.Marks.{ReadMark, bytes, filled}
 use Rattle.lite_io_base.specs.Runs.{MarkLaws}
-use Rattle.lite_io_base.specs.Takings.{WriteMark, bytes_taken}
+use Rattle.lite_io_base.specs.Takings.{WriteMark, bytes_taken, write_marks}
+use Rattle.lite_io_base.specs.Laws.Runs.{offered_marks}
 use Rattle.lite_base.specs.Answers.{UpToValue, strip}
 use Rattle.lite_base.specs.Calm.{waits}
 use Rattle.lite_base.specs.Chain.{OneStep}
@@ -127,11 +128,12 @@ module _ {R W : Type 0} (reads : Runs ReadMark R) (writes : Runs WriteMark W) (r
       writer_fails e went = writer_stops (WriteMark.fault (error_kind e)) (Err e) refl refl refl went
 
       pub writer_takes_none : (e : Error) → error_kind e ≡ WriteZero → 0 < length (held_of x)
-          → writes x.writer (WriteMark.wrote [] ∷ []) y.writer
+          → writes x.writer (write_marks (Ready (Ok 0)) (held_of x)) y.writer
           → Moves reads writes x (Ready (Err e) ∷ []) y
       writer_takes_none e is some went =
           let held = subst (λ (r : BufReader R). 0 < length (ahead r)) (sym reader) some in
-          writer_stops (WriteMark.wrote []) (Err e) refl refl (is, held) went
+          let none = subst (λ l. writes x.writer l y.writer) (offered_marks 0 (held_of x) some) went in
+          writer_stops (WriteMark.wrote []) (Err e) refl refl (is, held) none
 
       pub writer_is_flushed : y.phase ≡ Flushing → writes x.writer (WriteMark.flushed ∷ []) y.writer
           → Moves reads writes x (Ready (Ok y.amount) ∷ []) y

@@ -1,5 +1,5 @@
 -- Laws of reads and writes of std.
-use Rattle.std.proofs.Common.{◌≡◌, ◌<◌, ◌∙◌, ℕ, List, [], ◌∷◌, ◌++◌, length, take, ap, arith}
+use Rattle.std.proofs.Common.{◌≡◌, ◌<◌, ◌∙◌, ℕ, zero, suc, append-nil, List, [], ◌∷◌, ◌++◌, length, take, ap, arith}
 use Rattle.std.proofs.Common.{refl, subst, sym}
 use Rattle.std.specs.Prelude.{Option, None, Some, Result, Ok, Err, ⊤}
 use Rattle.std.specs.Io.{ReadsAtMost}
@@ -185,11 +185,17 @@ read_spends (Some xs) None z r buf k b h = absurd k
 read_spends (Some xs) (Some ys) None (Ok n) buf k b h = absurd h.0
 read_spends (Some xs) (Some ys) None (Err e) buf k b h = absurd h
 
+take_none : (n : ℕ) → take {A = ℕ} n [] ≡ []
+take_none zero = refl
+take_none (suc n) = refl
+
 pub write_gains : (x y z : Option (List ℕ)) (r : Result ℕ Error) (buf : List ℕ) → Keeps x y → WriteAppends y z r buf
     → GainsKnown x (write_marks (Ready r) buf) z
-write_gains None y z (Ok n) buf k h = tt
+write_gains None y z (Ok n) [] k h = tt
+write_gains None y z (Ok n) (b ∷ bs) k h = tt
 write_gains None y z (Err e) buf k h = tt
-write_gains (Some xs) (Some ys) (Some zs) (Ok n) buf k h = rw (h, k)
+write_gains (Some xs) (Some ys) (Some zs) (Ok n) [] k h = h ∙ ap (λ l. ys ++ l) (take_none n) ∙ append-nil ys ∙ k
+write_gains (Some xs) (Some ys) (Some zs) (Ok n) (b ∷ bs) k h = rw (h, k)
 write_gains (Some xs) (Some ys) (Some zs) (Err e) buf k h = (tt, h ∙ k)
 write_gains (Some xs) None z r buf k h = absurd k
 write_gains (Some xs) (Some ys) None (Ok n) buf k h = absurd h

@@ -51,6 +51,14 @@ module _ {T : Type 0} (bytes : T → List ℕ) {puts : T → ℕ → List ℕ �
         all = rw (← at) (rw (← same) rest.all);
         place = omega (arith, rest.place, at);
       }
+  puts_all x y (WriteMark.nothing ∷ l) h =
+      let rest = puts_all h.0 y l h.2 in
+      let same = put x.inner x.position [] h.0.inner h.1.0 in
+      let at : h.0.position ≡ x.position = h.1.1 in
+      record {
+        all = rw (← at) (rw (← same) rest.all);
+        place = omega (arith, rest.place, at);
+      }
   puts_all x y (WriteMark.pending ∷ l) h = absurd h.1
   puts_all x y (_ ∷ l) h = rw h.1 at (puts_all h.0 y l h.2)
 

@@ -19,9 +19,11 @@ drains_balance before _ _ _ (TakesHeld.interrupted ms rest n d more few) =
 answers_balance : (n : ℕ) (left after : List ℕ) (last : List WriteMark) (told : WriteMark)
     → WriterAnswers n left last told after
     → left ++ bytes_in told ≡ bytes_taken last ++ after
-answers_balance n left after last (WriteMark.wrote xs) (inl h) = rw (h.0, h.1)
+answers_balance n left after last (WriteMark.wrote xs) (inl h) = rw (h.0, h.2)
 answers_balance n left after last (WriteMark.wrote xs) (inr h) =
     rw (h.0, h.1, h.2) (sym (append-nil (xs ++ []) ∙ append-nil xs))
+answers_balance n left after last WriteMark.nothing (inl h) = rw (h.0, h.1) (append-nil left)
+answers_balance n left after last WriteMark.nothing (inr h) = rw (h.0, h.1, h.2)
 answers_balance n left after last WriteMark.pending h = rw (h.0, h.1) (append-nil left)
 answers_balance n left after last (WriteMark.fault kind) (inl f, h) = rw (f.0, h) (append-nil left)
 answers_balance n left after last (WriteMark.fault kind) (inr f, h) = rw (f.0, h) (append-nil left)

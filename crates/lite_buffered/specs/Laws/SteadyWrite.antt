@@ -26,6 +26,8 @@ answers_no_error : (n : ℕ) (left after : List ℕ) (last : List WriteMark) (to
     → WriterAnswers n left last told after → NoError last
 answers_no_error n left after last (WriteMark.wrote xs) none (inl h) = rw h.0 tt
 answers_no_error n left after last (WriteMark.wrote xs) none (inr h) = rw h.0 tt
+answers_no_error n left after last WriteMark.nothing none (inl h) = rw h.0 tt
+answers_no_error n left after last WriteMark.nothing none (inr h) = rw h.0 tt
 answers_no_error n left after last (WriteMark.fault kind) none (inl f, h) = rw f.0 none
 answers_no_error n left after last (WriteMark.fault kind) none (inr f, h) = rw f.0 tt
 answers_no_error n left after last told none h = rw h.0 tt

@@ -4,7 +4,7 @@ use Rattle.std.specs.Prelude.{Result, Ok, Err}
 use Rattle.std.proofs.lemmas.List.{map-append}
 use Rattle.std.specs.declared.io.Error.{Error}
 use Rattle.futures.specs.declared.task.Poll.{Poll}
-use Rattle.futures.specs.declared.task.Poll.TheVariants.{Ready}
+use Rattle.futures.specs.declared.task.Poll.TheVariants.{Ready, Pending}
 use Rattle.lite_io_base.specs.Parts.{Part}
 use Rattle.lite_io_base.specs.Marks.{moved, read_marks}
 use Rattle.lite_io_base.specs.Takings.{WriteMark, done_marks, write_marks}
@@ -32,7 +32,9 @@ read_note_part r buf = refl
 pub write_note_part : (r : Poll (Result ℕ Error)) (xs : List ℕ)
     → part_of (write_note r xs).asked (write_note r xs).told ≡ Part.writing (write_marks r xs)
 write_note_part (Ready (Err e)) xs = refl
-write_note_part _ xs = refl
+write_note_part (Ready (Ok n)) [] = refl
+write_note_part (Ready (Ok n)) (x ∷ xs) = refl
+write_note_part Pending xs = refl
 
 -- those of a flush or of a close
 pub done_note_part : (mark : WriteMark) (r : Poll (Result (Unit {0}) Error))

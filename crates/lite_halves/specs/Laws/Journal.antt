@@ -129,8 +129,9 @@ module _ {T : Type 0} (reads : Runs ReadMark T) (writes : Runs WriteMark T) wher
     vectored_reads r buf bufs fits h = (buf, fits, h)
 
     pub vectored_writes : (r : Poll (Result ℕ Error)) (front offered : List ℕ) → StandsFirst front offered
-        → AddsOrStays reads writes a (write_note r front) b → AddsWrite reads writes a r offered b
-    vectored_writes r front offered first h = (front, first, h)
+        → (front ≡ [] → offered ≡ []) → AddsOrStays reads writes a (write_note r front) b
+        → AddsWrite reads writes a r offered b
+    vectored_writes r front offered first some h = (front, first, some, h)
 
   pub ruleset reads_rules = (read_adds, reads_refuse, vectored_reads)
 

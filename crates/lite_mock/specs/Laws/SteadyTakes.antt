@@ -1,13 +1,22 @@
 -- A `Takes` leaves what was taken, however often it was pending.
-use Rattle.std.proofs.Common.{◌≡◌, List, [], ◌∷◌, ◌++◌, inl, inr, append-nil, append_assoc}
+use Rattle.std.proofs.Common.{◌≡◌, ◌≤◌, ℕ, zero, suc, List, [], ◌∷◌, ◌++◌, Ok, length, take, inl, inr, refl}
+use Rattle.std.proofs.Common.{append-nil, append_assoc}
+use Rattle.std.specs.Prelude.{◌⊎◌}
+use Rattle.futures.specs.declared.task.Poll.TheVariants.{Ready}
+use Rattle.lite_mock.specs.declared.takes.Order.TheVariants.{AtMost}
 use Rattle.lite_io_base.specs.SteadyWrite.{CalmWriteLaws, SteadyWriteLaws}
-use Rattle.lite_io_base.specs.Takings.{WriteMark, bytes_taken}
+use Rattle.lite_io_base.specs.Takings.{WriteMark, bytes_taken, write_marks}
 use Rattle.lite_mock.specs.Takes.{AllObey, Orders}
 use Rattle.lite_mock.specs.SteadyTakes.{BothOrders, NoPendingOrder}
+
+take_none : (n : ℕ) → take {A = ℕ} n [] ≡ []
+take_none zero = refl
+take_none (suc n) = refl
 
 all_taken : (x y : Orders) (l : List WriteMark) → AllObey x l y → y.taken ≡ x.taken ++ bytes_taken l
 all_taken x y [] h = rw (h, append-nil)
 all_taken x y (WriteMark.wrote xs ∷ l) h = rw (all_taken h.0 y l h.2, h.1.0, append_assoc)
+all_taken x y (WriteMark.nothing ∷ l) h = rw (all_taken h.0 y l h.2, h.1.0)
 all_taken x y (WriteMark.pending ∷ l) h = rw (all_taken h.0 y l h.2, h.1.1)
 all_taken x y (WriteMark.fault kind ∷ l) (z, inl f, h) = rw (all_taken z y l h, f.1)
 all_taken x y (WriteMark.fault kind ∷ l) (z, inr f, h) = rw (all_taken z y l h, f.1)
@@ -17,6 +26,8 @@ none_waits : (x y : Orders) (l : List WriteMark) → NoPendingOrder x.orders →
 none_waits x y [] n h = (tt, rw h n)
 none_waits x y (WriteMark.wrote xs ∷ l) n (z, (t, inl e), h) = none_waits z y l (rw e.1 tt) h
 none_waits x y (WriteMark.wrote xs ∷ l) n (z, (t, inr e), h) = none_waits z y l (rw e.1 at n) h
+none_waits x y (WriteMark.nothing ∷ l) n (z, (t, inl e), h) = none_waits z y l (rw e.1 tt) h
+none_waits x y (WriteMark.nothing ∷ l) n (z, (t, inr e), h) = none_waits z y l (rw e.1 at n) h
 none_waits x y (WriteMark.pending ∷ l) n h = absurd (rw h.1.0 at n)
 none_waits x y (WriteMark.fault kind ∷ l) n (z, inl f, h) = none_waits z y l (rw f.0 at n) h
 none_waits x y (WriteMark.fault kind ∷ l) n (z, inr f, h) = none_waits z y l (rw f.1 n) h
@@ -36,3 +47,11 @@ takes_calm =
       no_pending = λ x y l c h. (none_waits x y l c h).0;
       calm_on = λ x y l c h. (none_waits x y l c h).1;
     }
+
+-- a write that took bytes by an order, or with no order left
+pub takes_some : (x y : Orders) (n : ℕ) (xs : List ℕ) → y.taken ≡ x.taken ++ take n xs
+    → ((x.orders ≡ []) × (y.orders ≡ [])) ⊎ ((k : ℕ) × (x.orders ≡ AtMost k ∷ y.orders) × (length (take n xs) ≤ k))
+    → AllObey x (write_marks (Ready (Ok n)) xs) y
+takes_some x y n [] took (inl none) = (y, (rw took (rw take_none (append-nil x.taken)), inl none), refl)
+takes_some x y n [] took (inr (k, is, fits)) = (y, (rw took (rw take_none (append-nil x.taken)), inr (k, is)), refl)
+takes_some x y n (b ∷ bs) took by = (y, (took, by), refl)

@@ -3,8 +3,8 @@ use Rattle.std.specs.Box.{boxed_slice_items}
 use Rattle.std.specs.IoError.{error_kind}
 use Rattle.std.specs.declared.io.ErrorKind.TheVariants.{Interrupted}
 use Rattle.futures.specs.declared.task.Poll.TheVariants.{Ready}
-use Rattle.lite_buffered.proofs.Draining.{drain_fails, drain_interrupted, drain_none, drain_some, drain_waits}
-use Rattle.lite_buffered.proofs.Draining.{held_same, length-held}
+use Rattle.lite_buffered.proofs.Draining.{drain_fails, drain_interrupted, drain_none, drain_some, drain_waits, drain_zero}
+use Rattle.lite_buffered.proofs.Draining.{held_same}
 use Rattle.lite_buffered.proofs.buf_writer.BufWriter.flush_buf.Goals.{then-eq+else-interruptions-lt-MOST_INTERRUPTIONS}
 use Rattle.lite_buffered.proofs.buf_writer.BufWriter.flush_buf.Goals.{else-eq}
 use Rattle.lite_buffered.proofs.buf_writer.BufWriter.flush_buf.Goals as goal
@@ -17,13 +17,12 @@ returns-in-Ready-Ok-eq0-clause-ran g c =
     let y = c.writes.self in
     let e = c.offer.ensures in
     let s = c.shift.ensures in
-    let ran = rw c.in-Ready-Ok-eq0.field-0-0-test at
-    (rw c.in-Ready-Ok-eq0.field-0-is at (rw c.in-Ready-Ok-eq0.is at e.ran)) in
+    let ran = rw c.in-Ready-Ok-eq0.field-0-is at (rw c.in-Ready-Ok-eq0.is at e.ran) in
     let same = held_same y c.offer.new.self e.buf e.written e.len in
-    drain_fails g.W.Takings.writes g.W.Takings.write_laws c.args.self.now
-    y c.shift.new.self c.writes.interruptions _ (error_kind c.into.result) c.offer.new.self.inner
-    c.writes.invariant.0 ran s.inner c.writes-test.true
-    (inr (refl, c.into.ensures, omega (arith, length-held y, c.writes-test.true)))
+    drain_zero g.W.Takings.writes g.W.Takings.write_laws c.args.self.now
+    y c.shift.new.self c.writes.interruptions c.in-Ready-Ok-eq0.field-0-0 (error_kind c.into.result)
+    c.offer.new.self.inner c.writes.invariant.0 c.in-Ready-Ok-eq0.field-0-0-test ran s.inner c.writes-test.true
+    c.into.ensures
     (s.capacity ∙ ap (λ b. length (boxed_slice_items b)) e.buf) (s.held ∙ same)
 
 pub writes-preserved-in-Ready-Ok : goal.writes-preserved-in-Ready-Ok

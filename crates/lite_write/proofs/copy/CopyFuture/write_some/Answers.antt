@@ -2,6 +2,7 @@ use Rattle.std.proofs.Common.{◌≡◌, ◌<◌, ◌≤◌, ◌+◌, ◌%◌, �
 use Rattle.std.proofs.Common.{rules}
 use Rattle.futures.specs.declared.task.Poll.TheVariants.{Ready}
 use Rattle.lite_buffered.specs.BufReader.{ahead}
+use Rattle.lite_io_base.specs.Laws.Runs.{offered_marks}
 use Rattle.lite_write.proofs.Copying.{writes_more}
 use Rattle.lite_write.proofs.copy.CopyFuture.write_some.Goals as goal
 
@@ -13,7 +14,8 @@ returns-in-Ready-Ok-clause-stepped g c =
     let most : n ≤ length shown = rw (← c.buffer.ensures) (rw is at c.poll_write.ensures.bound) in
     let all : length (take n shown) ≡ n = length-take-le n shown most in
     let some : 0 < length (take n shown) = omega (arith, all, c.in-Ready-Ok.n-test.1) in
-    let went = rw (is, c.buffer.ensures) at c.poll_write.ensures.ran in
+    let offered = rw (is, c.buffer.ensures) at c.poll_write.ensures.ran in
+    let went = rw (offered_marks n shown c.requires.some) at offered in
     let amount = ap (λ k. (c.args.self.now.amount + k) % 2 ^ 64) (sym all) in
     writes_more g.R.Tale.reads g.W.Takings.writes g.R.Tale.read_laws g.W.Takings.write_laws c.args.self.now _
     (take n shown) some c.requires.phase c.requires.phase amount

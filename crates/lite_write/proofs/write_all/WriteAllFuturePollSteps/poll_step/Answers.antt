@@ -2,6 +2,7 @@ use Rattle.std.proofs.Common.{◌≡◌, ◌<◌, [], ◌∷◌, Ok, Err, length
 use Rattle.std.proofs.lemmas.Grind.{common_steps}
 use Rattle.futures.specs.declared.task.Poll.TheVariants.{Ready, Pending}
 use Rattle.lite_io_base.specs.Takings.{WriteMark}
+use Rattle.lite_io_base.specs.Laws.Runs.{offered_marks}
 use Rattle.lite_write.proofs.Handing.{write_one}
 use Rattle.lite_write.proofs.write_all.WriteAllFuturePollSteps.poll_step.Goals as goal
 
@@ -17,7 +18,7 @@ returns-in-Ready-Ok-eq0-clause-stepped g c =
     let is : c.poll_write.result ≡ Ready (Ok 0) = search rules in
     let some : 0 < length c.args.self.now.buf.now = search (rules, common_steps) in
     write_one g.W.Takings.writes c.args.self.now _ (WriteMark.wrote [] ∷ []) (Ready (Err c.into.result))
-    ((some, c.into.ensures), refl) (rw is at c.poll_write.ensures.ran) refl
+    ((some, c.into.ensures), refl) (rw offered_marks at (rw is at c.poll_write.ensures.ran)) refl
 
 pub returns-in-Ready-Err-clause-stepped : goal.returns-in-Ready-Err-clause-stepped
 returns-in-Ready-Err-clause-stepped g c =
