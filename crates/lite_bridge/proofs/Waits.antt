@@ -26,14 +26,14 @@ module _ {F A : Type 0} (call : F → Poll (Result A Error) → F → Type 0) wh
   polled_stays name same (Ready a ∷ ins) x y h = same x y (Ready a) h.0
 
   -- what each poll keeps
-  pub gave_stays : {G : Type 0} (name : F → G) → ((x y : F) (c : Poll (Result A Error)) → call x c y → name y ≡ name x)
-      → (x y : F) (r : Result A Error) → GaveOrRefused (PolledByCalls call) x r y → name y ≡ name x
+  pub gave_stays : {unused G : Type 0} (name : F → G) → ((x y : F) (c : Poll (Result A Error)) → call x c y → name y ≡ name x)
+      → (x y : F) (r : Result A Error) → GaveOrRefused unused (PolledByCalls call) x r y → name y ≡ name x
   gave_stays name same x y r (inl h) = polled_stays name same h.0 x y h.2
   gave_stays name same x y r (inr h) = ap name h.1
 
   -- what the last poll answered, unless no memory was found
-  pub gave_last : (x y : F) (r : Result A Error) → GaveOrRefused (PolledByCalls call) x r y
-      → ((m : F) × call m (Ready r) y) ⊎ (NoMemoryToWait r × (y ≡ x))
+  pub gave_last : {unused : Type 0} (x y : F) (r : Result A Error) → GaveOrRefused unused (PolledByCalls call) x r y
+      → ((m : F) × call m (Ready r) y) ⊎ (NoMemoryToWait unused r × (y ≡ x))
   gave_last x y r (inl h) = inl (polled_last h.0 x y r h.1 h.2)
   gave_last x y r (inr h) = inr h
 
@@ -56,19 +56,19 @@ module _ {F A : Type 0} (call : F → Poll (Result A Error) → F → Type 0) wh
         (0, rw (← g.0) (came x y (Ready a) h.0))
 
     -- what the future's part did
-    pub gave_blocks : (x y : F) (r : Result A Error) → GaveOrRefused (PolledByCalls call) x r y
-        → Blocks run pending (λ c. marks c y) (part x) r (part y)
+    pub gave_blocks : {unused : Type 0} (x y : F) (r : Result A Error) → GaveOrRefused unused (PolledByCalls call) x r y
+        → Blocks unused run pending (λ c. marks c y) (part x) r (part y)
     gave_blocks x y r (inl h) = inl (polled_blocks h.0 x y r h.1 h.2)
     gave_blocks x y r (inr h) = inr (h.0, ap part h.1)
 
-pub refused_reads : (r : Result ℕ Error) (buf : List ℕ) → NoMemoryToWait r → ReadsAtMost r buf
-refused_reads (Ok n) buf h = absurd h
+pub refused_reads : {unused : Type 0} (r : Result ℕ Error) (buf : List ℕ) → NoMemoryToWait unused r → ReadsAtMost r buf
+refused_reads (Ok n) buf h = absurd h.1
 refused_reads (Err e) buf h = tt
 
 pub read_at_most : (r : Result ℕ Error) (buf : List ℕ) → IfOk r (λ n. n ≤ length buf) → ReadsAtMost r buf
 read_at_most (Ok n) buf h = (h, sym (length-take-le n buf h))
 read_at_most (Err e) buf h = tt
 
-pub refused_writes : (r : Result ℕ Error) (buf : List ℕ) → NoMemoryToWait r → WritesAtMost r buf
-refused_writes (Ok n) buf h = absurd h
+pub refused_writes : {unused : Type 0} (r : Result ℕ Error) (buf : List ℕ) → NoMemoryToWait unused r → WritesAtMost r buf
+refused_writes (Ok n) buf h = absurd h.1
 refused_writes (Err e) buf h = tt

@@ -11,19 +11,20 @@ use Rattle.lite_base.specs.Answers.{Gives}
 use Rattle.lite_base.specs.Runs.{Runs}
 use Rattle.lite_io_base.specs.Kinds.{by_kind}
 
--- there was no memory to wait with
-abbrev pub NoMemoryToWait : {A : Type 0} → Result A Error → Type 0
-NoMemoryToWait r = IsErrAnd r (λ e. error_kind e ≡ OutOfMemory)
+-- Nothing was waited for before, and there was no memory for what a wait needs.
+abbrev pub NoMemoryToWait : {A : Type 0} → Type 0 → Result A Error → Type 0
+NoMemoryToWait unused r = unused × IsErrAnd r (λ e. error_kind e ≡ OutOfMemory)
 
--- a future gave r as its value, or no memory was found and it was not polled
-abbrev pub GaveOrRefused : {F A : Type 0} → Runs (Poll (Result A Error)) F → F → Result A Error → F → Type 0
-GaveOrRefused {A = A} run f r g =
-    ((ins : List (Poll (Result A Error))) × Gives ins r × run f ins g) ⊎ (NoMemoryToWait r × (g ≡ f))
+-- a future gave r as its value, or there was no memory for the first wait and it was not polled
+abbrev pub GaveOrRefused : {F A : Type 0} → Type 0 → Runs (Poll (Result A Error)) F → F → Result A Error → F → Type 0
+GaveOrRefused {A = A} unused run f r g =
+    ((ins : List (Poll (Result A Error))) × Gives ins r × run f ins g) ⊎ (NoMemoryToWait unused r × (g ≡ f))
 
--- some pendings, and then the marks of the answer; or no memory was found and nothing was polled
-abbrev pub Blocks : {M A S : Type 0} → Runs M S → M → (Poll (Result A Error) → List M) → S → Result A Error → S → Type 0
-Blocks run pending marks x r y =
-    ((n : ℕ) × run x (replicate n pending ++ marks (Ready r)) y) ⊎ (NoMemoryToWait r × (y ≡ x))
+-- some pendings, and then the marks of the answer; or there was no memory for the first wait and nothing was polled
+abbrev pub Blocks : {M A S : Type 0} → Type 0 → Runs M S → M → (Poll (Result A Error) → List M) → S → Result A Error → S
+    → Type 0
+Blocks unused run pending marks x r y =
+    ((n : ℕ) × run x (replicate n pending ++ marks (Ready r)) y) ⊎ (NoMemoryToWait unused r × (y ≡ x))
 
 -- n seeks to a place, each of them pending
 abbrev pub Awaits : {S : Type 0} → (S → SeekFrom → Poll (Result ℕ ErrorKind) → S → Type 0) → SeekFrom → ℕ → S → S
@@ -31,8 +32,9 @@ abbrev pub Awaits : {S : Type 0} → (S → SeekFrom → Poll (Result ℕ ErrorK
 Awaits seeks to zero x y = y ≡ x
 Awaits {S} seeks to (suc n) x y = (m : S) × seeks x to Pending m × Awaits seeks to n m y
 
--- A seek to a place, pending and then answered so, or no memory was found and nothing was polled.
-abbrev pub SeekBlocks : {S : Type 0} → (S → SeekFrom → Poll (Result ℕ ErrorKind) → S → Type 0) → S → SeekFrom
+-- a seek to a place, pending and then answered so; or there was no memory for the first wait and nothing was polled
+abbrev pub SeekBlocks : {S : Type 0} → Type 0 → (S → SeekFrom → Poll (Result ℕ ErrorKind) → S → Type 0) → S → SeekFrom
     → Result ℕ Error → S → Type 0
-SeekBlocks {S} seeks x to r y = ((n : ℕ) × (last : S) × Awaits seeks to n x last × seeks last to (by_kind (Ready r)) y)
-    ⊎ (NoMemoryToWait r × (y ≡ x))
+SeekBlocks {S} unused seeks x to r y =
+    ((n : ℕ) × (last : S) × Awaits seeks to n x last × seeks last to (by_kind (Ready r)) y)
+    ⊎ (NoMemoryToWait unused r × (y ≡ x))

@@ -6,7 +6,7 @@ ghost use Rattle.std.specs.Io.KnownBytes.{Keeps, ReadConsumes, WriteAppends};
 ghost use Rattle.std.specs.Io.Seek.{SeekMoves};
 ghost use Rattle.lite_io_base.specs.Marks.{ReadMark, bytes, fill_marks, read_marks};
 ghost use Rattle.lite_io_base.specs.Takings.{WriteMark, done_marks, write_marks};
-ghost use Rattle.lite_bridge.specs.Waits.{Blocks, GaveOrRefused, SeekBlocks};
+ghost use Rattle.lite_bridge.specs.Waits.{Blocks, GaveOrRefused, NoMemoryToWait, SeekBlocks};
 
 use crate::filling::Filling;
 use lite_base::Future;
@@ -22,9 +22,9 @@ use std::{fmt, io};
 
 /// Waits on this thread for what is polled, and so reads, writes and seeks by the traits of std.
 ///
-/// Each call waits, by `rt`, until its poll is ready, and may wait for ever. An error of the kind `OutOfMemory` may also say that
-/// there was no memory to wait with: then nothing was polled. Whoever writes flushes before the end, since a drop flushes
-/// nothing. Ported from `src/io.rs`, `BlockOn`.
+/// Each call waits, by `rt`, until its poll is ready, and may wait for ever. The first call that waits allocates what a
+/// wait needs. If that allocation fails, the call returns an error of the kind `OutOfMemory`, and nothing was polled. No
+/// later call allocates. Flush before the end: a drop flushes nothing. Ported from `src/io.rs`, `BlockOn`.
 #[derive(Drop)]
 pub struct BlockOn<R, T> {
     rt: R,
@@ -45,7 +45,8 @@ where
     R: Wait + RandomSource + AllocGlobal,
     F: Future<Output = io::Result<A>>,
     requires { F.can_poll future.old }
-    ensures { GaveOrRefused F.run future.old result future.new }
+    ensures gave { GaveOrRefused (waiter.old ≡ None) F.run future.old result future.new }
+    ensures used { waiter.new ≡ None → NoMemoryToWait (waiter.old ≡ None) result }
 {
     if waiter.is_none() {
         *waiter = Some(Waiter::new(rt)?);
@@ -95,13 +96,14 @@ impl<R, T> BlockOn<R, T> {
 }
 
 impl<R: Wait + RandomSource + AllocGlobal, T: AsyncRead> Read for BlockOn<R, T> {
-    ghost use Rattle.lite_bridge.specs.BlockOn.{io_of};
+    ghost use Rattle.lite_bridge.specs.BlockOn.{IsUnused, io_of};
 
     fn read(&mut self, buf: &mut [u8]) -> io::Result<usize>
         ensures bound { ReadsAtMost result buf.new }
         ensures bytes { ReadConsumes None None result buf.new }
-        ensures ran { Blocks T.reads ReadMark.pending (λ answer. read_marks answer buf.new) (io_of self.old) result
+        ensures ran { Blocks (IsUnused self.old) T.reads ReadMark.pending (λ answer. read_marks answer buf.new) (io_of self.old) result
             (io_of self.new) }
+        ensures used { IsUnused self.new → NoMemoryToWait (IsUnused self.old) result }
     {
         wait_for(&self.rt, &mut self.waiter, &mut read(&mut self.io, buf))
     }
@@ -109,18 +111,19 @@ impl<R: Wait + RandomSource + AllocGlobal, T: AsyncRead> Read for BlockOn<R, T> 
 
 impl<R: Wait + RandomSource + AllocGlobal, T: AsyncBufRead> BufRead for BlockOn<R, T> {
     ghost use Rattle.lite_bridge.specs.contracts.block_on.BlockOn.{the_row};
-    ghost use Rattle.lite_bridge.specs.BlockOn.{io_of};
+    ghost use Rattle.lite_bridge.specs.BlockOn.{IsUnused, io_of};
 
     /// Waits until there are bytes to be lent, or an end, and lends them.
     fn fill_buf(&mut self) -> io::Result<&[u8]>
         ensures front { IfSome None (λ (xs : List ℕ). IfOk result (λ s. StartsWith xs s.now)) }
         ensures end { IfSome None (λ (xs : List ℕ). IfOk result (λ s. length s.now ≡ 0 → xs ≡ [])) }
         ensures* after_borrow { sem 𝓛 (Rests (the_row R.row T.row) self.entry (λ new. FillKeeps None None None result
-            × Blocks T.reads ReadMark.pending (λ answer. fill_marks answer (T.lent (io_of new))) (io_of self.old) result
+            × Blocks (IsUnused self.old) T.reads ReadMark.pending (λ answer. fill_marks answer (T.lent (io_of new))) (io_of self.old) result
             (io_of new)
-            × IfOk result (λ s. s.now ≡ T.lent (io_of new)))) }
+            × IfOk result (λ s. s.now ≡ T.lent (io_of new))
+            × (IsUnused new → NoMemoryToWait (IsUnused self.old) result))) }
         ensures shown { (left : T)
-            × Blocks T.reads ReadMark.pending (λ answer. fill_marks answer (T.lent left))
+            × Blocks (IsUnused self.old) T.reads ReadMark.pending (λ answer. fill_marks answer (T.lent left))
             (io_of self.old) result left × IfOk result (λ s. s.now ≡ T.lent left) }
     {
         let mut filling = Filling { io: &mut self.io };
@@ -135,6 +138,7 @@ impl<R: Wait + RandomSource + AllocGlobal, T: AsyncBufRead> BufRead for BlockOn<
         ensures bytes { DropsConsumable None None None amount }
         ensures ran { T.reads (io_of self.old) (bytes (take amount (T.lent (io_of self.old)))) (io_of self.new) }
         ensures rest { T.lent (io_of self.new) ≡ drop amount (T.lent (io_of self.old)) }
+        ensures used { IsUnused self.new → IsUnused self.old }
     {
         let most = self.io.buffer().len();
         self.io.consume(amount.min(most));
@@ -142,33 +146,36 @@ impl<R: Wait + RandomSource + AllocGlobal, T: AsyncBufRead> BufRead for BlockOn<
 }
 
 impl<R: Wait + RandomSource + AllocGlobal, T: AsyncWrite> Write for BlockOn<R, T> {
-    ghost use Rattle.lite_bridge.specs.BlockOn.{io_of};
+    ghost use Rattle.lite_bridge.specs.BlockOn.{IsUnused, io_of};
 
     fn write(&mut self, buf: &[u8]) -> io::Result<usize>
         ensures bound { WritesAtMost result buf.now }
         ensures bytes { WriteAppends None None result buf.now }
-        ensures ran { Blocks T.writes WriteMark.pending (λ answer. write_marks answer buf.now) (io_of self.old) result
+        ensures ran { Blocks (IsUnused self.old) T.writes WriteMark.pending (λ answer. write_marks answer buf.now) (io_of self.old) result
             (io_of self.new) }
+        ensures used { IsUnused self.new → NoMemoryToWait (IsUnused self.old) result }
     {
         wait_for(&self.rt, &mut self.waiter, &mut write(&mut self.io, buf))
     }
 
     fn flush(&mut self) -> io::Result<()>
         ensures bytes { Keeps None None }
-        ensures ran { Blocks T.writes WriteMark.pending (λ answer. done_marks WriteMark.flushed answer)
+        ensures ran { Blocks (IsUnused self.old) T.writes WriteMark.pending (λ answer. done_marks WriteMark.flushed answer)
             (io_of self.old) result (io_of self.new) }
+        ensures used { IsUnused self.new → NoMemoryToWait (IsUnused self.old) result }
     {
         wait_for(&self.rt, &mut self.waiter, &mut flush(&mut self.io))
     }
 }
 
 impl<R: Wait + RandomSource + AllocGlobal, T: AsyncSeek> Seek for BlockOn<R, T> {
-    ghost use Rattle.lite_bridge.specs.BlockOn.{io_of};
+    ghost use Rattle.lite_bridge.specs.BlockOn.{IsUnused, io_of};
 
     fn seek(&mut self, to: SeekFrom) -> io::Result<u64>
         ensures moves { SeekMoves None None None to result }
         ensures bytes { Keeps None None }
-        ensures ran { SeekBlocks T.seeks (io_of self.old) to result (io_of self.new) }
+        ensures ran { SeekBlocks (IsUnused self.old) T.seeks (io_of self.old) to result (io_of self.new) }
+        ensures used { IsUnused self.new → NoMemoryToWait (IsUnused self.old) result }
     {
         wait_for(&self.rt, &mut self.waiter, &mut seek(&mut self.io, to))
     }

@@ -12,7 +12,8 @@ use Rattle.futures.specs.declared.task.Poll.TheVariants.{Ready, Pending}
 use Rattle.lite_io_base.specs.Runs.{MarkLaws}
 use Rattle.lite_io_base.specs.Takings.{WriteMark, done_marks, write_marks}
 use Rattle.lite_buffered.specs.declared.buf_writer.BufWriter.{BufWriter}
-use Rattle.lite_buffered.specs.BufWriter.{Buffers, FlushesBuffer, MakesRoom, ShownAfter, TakesHeld, WriterAnswers}
+use Rattle.lite_buffered.specs.BufWriter.{Buffers, FlushesBuffer, MakesRoom, PassesOn, ShownAfter, TakesHeld}
+use Rattle.lite_buffered.specs.BufWriter.{WriterAnswers}
 use Rattle.lite_buffered.specs.BufWriter.{WriterSegment, buffered, unwritten, writer_capacity}
 use Rattle.lite_buffered.specs.Laws.BufWriter.{balanced_one}
 use Rattle.lite_buffered.proofs.Ranges.{slice_range_none}
@@ -63,6 +64,19 @@ module _ {W : Type 0} (writes : Runs WriteMark W) where
       → Buffers writes x (WriteMark.fault kind ∷ []) y
   room_fails x y count kind (inl f) = stopped_fails x y kind f
   room_fails x y count kind (inr h) = absurd (cc h.1)
+
+  -- a flush of the buffer that stopped, and the bytes that were to pass it
+  pub stops_waiting : (x y : BufWriter W) (count : ℕ) (xs : List ℕ) → MakesRoom writes x count Pending y
+      → PassesOn writes x xs Pending y
+  stops_waiting x y count xs (inl f) =
+      record { taken = f.taken; between = y.inner; ran = f.ran; passed = inr (f.empties, refl) }
+  stops_waiting x y count xs (inr h) = absurd (cc h.1)
+
+  pub stops_failing : (x y : BufWriter W) (count : ℕ) (xs : List ℕ) (e : Error)
+      → MakesRoom writes x count (Ready (Err (error_kind e))) y → PassesOn writes x xs (Ready (Err e)) y
+  stops_failing x y count xs e (inl f) =
+      record { taken = f.taken; between = y.inner; ran = f.ran; passed = inr (f.empties, refl) }
+  stops_failing x y count xs e (inr h) = absurd (cc h.1)
 
   -- from m, where the flush of the buffer ended, the inner writer left these marks
   record Then (x : BufWriter W) (last : List WriteMark) (y : BufWriter W) : Type 0 where
@@ -162,6 +176,19 @@ module _ {W : Type 0} (writes : Runs WriteMark W) where
           capacity = capacity;
           same = same;
         })
+
+    pub passed_on : (x m y : BufWriter W) (xs : List ℕ) (r : Poll (Result ℕ Error))
+        → MakesRoom writes x (length xs) (Ready (Ok tt)) m
+        → writer_capacity m ≤ length xs → writes m.inner (write_marks r xs) y.inner → unwritten y ≡ unwritten m
+        → PassesOn writes x xs r y
+    passed_on x m y xs r made large ran same =
+        let f = emptied x m (length xs) made large in
+        record {
+          taken = f.taken;
+          between = m.inner;
+          ran = f.ran;
+          passed = inl ((f.empties.0, f.empties.1, same ∙ f.empties.2), ran);
+        }
 
     -- bytes are held
     holds : (x m y : BufWriter W) (xs : List ℕ) (told : WriteMark)

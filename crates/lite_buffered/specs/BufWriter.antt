@@ -2,13 +2,15 @@
 use Rattle.std.specs.Prelude.{◌≡◌, ◌<◌, ◌≤◌, ◌⊎◌, ◌+◌, ℕ, List, [], ◌∷◌, ◌++◌, length, take, slice_range, Result, Ok}
 use Rattle.std.specs.Prelude.{Err}
 use Rattle.std.specs.Box.{boxed_slice_items}
+use Rattle.std.specs.declared.io.Error.{Error}
 use Rattle.std.specs.declared.io.ErrorKind.{ErrorKind}
 use Rattle.std.specs.declared.io.ErrorKind.TheVariants.{Interrupted, WriteZero}
 use Rattle.std.specs.declared.io.traits.SeekFrom.{SeekFrom}
 use Rattle.futures.specs.Task.{Lasting}
 use Rattle.futures.specs.declared.task.Poll.{Poll}
 use Rattle.futures.specs.declared.task.Poll.TheVariants.{Ready, Pending}
-use Rattle.lite_io_base.specs.Takings.{WriteMark, bytes_taken}
+use Rattle.lite_io_base.specs.Kinds.{by_kind}
+use Rattle.lite_io_base.specs.Takings.{WriteMark, bytes_taken, write_marks}
 use Rattle.lite_buffered.specs.declared.buf_writer.BufWriter.{BufWriter}
 use Rattle.lite_base.specs.Runs.{Runs}
 use Rattle.lite_base.specs.Segments.{Segments}
@@ -121,6 +123,16 @@ FitsBuffer w xs = (length (buffered w) + length xs ≤ writer_capacity w) × (le
 -- all of these bytes are put behind what is buffered, and the inner writer is left alone
 abbrev pub BuffersAll : {E W : Type 0} → BufWriter W → List ℕ → Poll (Result ℕ E) → BufWriter W → Type 0
 BuffersAll x xs r y = (r ≡ Ready (Ok (length xs))) × (writer_inner y ≡ writer_inner x) × (buffered y ≡ buffered x ++ xs)
+
+-- A write that passes the buffer: what was held is written first. If that stops, its answer is the answer. Else the
+-- answer is the inner writer's to these bytes, and nothing is held.
+pub record PassesOn {W : Type 0} (writes : Runs WriteMark W) (x : BufWriter W) (xs : List ℕ)
+    (r : Poll (Result ℕ Error)) (y : BufWriter W) : Type 0 where
+  pub taken : List WriteMark
+  pub between : W
+  pub ran : writes x.inner taken between
+  pub passed : (TakesAll (unwritten x) taken (unwritten y) × writes between (write_marks r xs) y.inner)
+      ⊎ (StopsShort (unwritten x) taken (by_kind r) (unwritten y) × (y.inner ≡ between))
 
 -- A seek takes all that was held to the inner writer before it seeks there.
 pub record SeeksAfter {W : Type 0} (writes : Runs WriteMark W)

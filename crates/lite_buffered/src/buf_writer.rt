@@ -235,7 +235,7 @@ impl<W: AsyncWrite> BufWriter<W> {
 }
 
 impl<W: AsyncWrite> AsyncWrite for BufWriter<W> {
-    ghost use Rattle.lite_buffered.specs.BufWriter.{Buffers, BuffersAll, FitsBuffer, ShownAfter, writer_capacity};
+    ghost use Rattle.lite_buffered.specs.BufWriter.{Buffers, BuffersAll, FitsBuffer, PassesOn, ShownAfter, writer_capacity};
     ghost use Rattle.lite_buffered.specs.BufWriter.{writer_inner};
 
     ghost write_registers = { λ w. W.write_registers (writer_inner w) };
@@ -251,6 +251,9 @@ impl<W: AsyncWrite> AsyncWrite for BufWriter<W> {
 
         // What is shorter than the capacity is taken whole.
         ensures whole { length buf.now < writer_capacity self.old → IfReady result (λ r. IfOk r (λ n. n ≡ length buf.now)) }
+
+        // What is not shorter goes to the inner writer, and none of it is held.
+        ensures passes { writer_capacity self.old ≤ length buf.now → PassesOn W.writes self.old buf.now result self.new }
 
         // What there is room for is held, and the inner writer is left alone.
         ensures holds { FitsBuffer self.old buf.now → BuffersAll self.old buf.now result self.new }

@@ -1,5 +1,5 @@
 //! Waits on this thread for a future.
-ghost use Rattle.std.specs.Prelude.{◌≡◌, IfOk, List, OnErr};
+ghost use Rattle.std.specs.Prelude.{◌≡◌, IfOk, IsOk, List, OnErr};
 ghost use Rattle.lite_base.specs.Answers.{Gives};
 ghost use Rattle.futures.specs.declared.task.Poll.{Poll};
 ghost use Rattle.lite_base.specs.Future.Finishes.{Finishes};
@@ -65,14 +65,15 @@ impl BlockOn {
 
     /// Polls `future` on this thread until it is ready, and answers its value. It may wait for ever.
     ///
-    /// It is [`wait_for`](BlockOn::wait_for), after which the future is let go, so it has to be `Drop`.
+    /// It is [`wait_for`](BlockOn::wait_for), after which the future is dropped. It never returns `Err`.
     pub fn block_on<R: Wait, F: Future + Drop>(
         &mut self,
         rt: &R,
         mut future: F,
     ) -> Result<F::Output, AllocError>
         requires { F.can_poll future }
-        ensures { IfOk result (λ value. (ins : List (Poll F.Output)) × Finishes F.run future ins value) }
+        ensures gave { IfOk result (λ value. (ins : List (Poll F.Output)) × Finishes F.run future ins value) }
+        ensures waited { IsOk result }
     {
         self.wait_for(rt, &mut future)
     }
@@ -80,9 +81,8 @@ impl BlockOn {
     /// Polls `future`, which stays with the caller, on this thread until it is ready, and answers its value. It may wait for
     /// ever.
     ///
-    /// Where a poll is pending the thread sleeps until the context of that poll is woken, and sleeps for ever where
-    /// nothing wakes it. `Err` would say that there was no memory to wait with, and that the future was not polled; what a
-    /// wait needs is made with the sleeper, so it does not come.
+    /// After a poll that returns `Pending` the thread sleeps until the context of that poll is woken. If nothing wakes it,
+    /// it sleeps for ever. The call never returns `Err`: what a wait needs was allocated by [`new`](BlockOn::new).
     pub fn wait_for<R: Wait, F: Future>(
         &mut self,
         rt: &R,
@@ -91,6 +91,7 @@ impl BlockOn {
         requires { F.can_poll future.old }
         ensures gave { IfOk result (λ value. (ins : _) × Gives ins value × F.run future.old ins future.new) }
         ensures kept { OnErr result (future.new ≡ future.old) }
+        ensures waited { IsOk result }
     {
         'polls: for _ in rt.forever() {
             let Some(mut cx) = self.queue.next(rt) else {

@@ -2,7 +2,8 @@ use Rattle.std.proofs.Common.{◌≡◌, ◌∙◌, ◌++◌, ◌<◌, ◌≤◌
 use Rattle.std.specs.IoError.{error_kind}
 use Rattle.futures.specs.declared.task.Poll.TheVariants.{Ready, Pending}
 use Rattle.lite_buffered.specs.BufWriter.{writer_capacity}
-use Rattle.lite_buffered.proofs.Answering.{room_capacity, room_fails, room_then_hold, room_then_past, room_waits}
+use Rattle.lite_buffered.proofs.Answering.{passed_on, room_capacity, room_fails, room_then_hold, room_then_past}
+use Rattle.lite_buffered.proofs.Answering.{room_waits, stops_failing, stops_waiting}
 use Rattle.lite_buffered.proofs.Answering.{shown_none}
 use Rattle.lite_buffered.proofs.buf_writer.BufWriterAsyncWrite.poll_write.Goals as goal
 
@@ -31,6 +32,32 @@ returns-2-clause-ran g c =
     let e = c.hold.ensures in
     room_then_hold g.W.Takings.writes g.W.Takings.write_laws c.args.self.now c.make_room.new.self c.hold.new.self
     c.args.buf.now ran e.inner e.capacity e.held
+
+pub returns-clause-passes : goal.returns-clause-passes
+returns-clause-passes g c long =
+    let got : c.make_room.result ≡ Pending = search rules in
+    stops_waiting g.W.Takings.writes c.args.self.now c.make_room.new.self _ c.args.buf.now
+    (rw got at c.make_room.ensures.ran)
+
+pub returns-in-Err-clause-passes : goal.returns-in-Err-clause-passes
+returns-in-Err-clause-passes g c long =
+    let got : c.make_room.result ≡ Ready (Err c.in-Err.e) = search rules in
+    stops_failing g.W.Takings.writes c.args.self.now c.make_room.new.self _ c.args.buf.now c.in-Err.e
+    (rw got at c.make_room.ensures.ran)
+
+pub returns-then-buf-len-clause-passes : goal.returns-then-buf-len-clause-passes
+returns-then-buf-len-clause-passes g c long =
+    let got : c.make_room.result ≡ Ready (Ok c.in-Ok.field-0) = search rules in
+    let ran = rw got at c.make_room.ensures.ran in
+    passed_on g.W.Takings.writes g.W.Takings.write_laws c.args.self.now c.make_room.new.self _
+    c.args.buf.now c.poll_write.result ran (search rules) c.poll_write.ensures.ran refl
+
+pub returns-2-clause-passes : goal.returns-2-clause-passes
+returns-2-clause-passes g c long =
+    let small : length c.args.buf.now < writer_capacity c.make_room.new.self = search rules in
+    let kept : writer_capacity c.make_room.new.self ≡ writer_capacity c.args.self.now =
+    room_capacity g.W.Takings.writes c.args.self.now c.make_room.new.self _ _ c.make_room.ensures.ran in
+    absurd (omega (arith, kept, small, long))
 
 pub returns-clause-shown : goal.returns-clause-shown
 returns-clause-shown g c none =

@@ -1,5 +1,5 @@
 use Rattle.lite_base.specs.Laws.Future.Finishes.{gave_finishes}
 use Rattle.lite_base.proofs.future.block_on.BlockOn.block_on.Goals as goal
 
-pub returns : goal.returns
-returns g c = gave_finishes g.F.Future.run c.args.future c.wait_for.new.future c.wait_for.result c.wait_for.ensures.gave
+pub returns-clause-gave : goal.returns-clause-gave
+returns-clause-gave g c = gave_finishes g.F.Future.run c.args.future c.wait_for.new.future c.wait_for.result c.wait_for.ensures.gave

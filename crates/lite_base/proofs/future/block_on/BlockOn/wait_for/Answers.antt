@@ -15,6 +15,7 @@ returns-in-Ready g c =
         g.met.F.Future.laws.follows _ _ _ _ _ waited.1 waited.2 last,
       );
       kept = tt;
+      waited = refl;
     }
 
 pub polls-preserved : goal.polls-preserved
