@@ -1,6 +1,7 @@
 pub mod Agreeing
 pub mod All
 pub mod Any
+pub mod BlockOn
 pub mod Calls
 pub mod Consume
 pub mod Consuming

@@ -1,4 +1,4 @@
-ghost use Rattle.std.specs.Prelude.{◌≡◌, IfOk, None, OnErr, Some};
+ghost use Rattle.std.specs.Prelude.{◌≡◌, IfOk, None, OnErr, OnOk, Some};
 ghost use Rattle.std.specs.Fn.{CalledAt, TakesAt};
 ghost use Rattle.lite_base.specs.Calling.{Calls};
 ghost use Rattle.lite_consume.specs.Given.{BlockGives, MayCall, MayFold, nothing};
@@ -27,9 +27,10 @@ use std::sync::Wait;
 
 /// A stream whose items are waited for on this thread.
 ///
-/// Made by [`block_on`](crate::make::block_on). Each method waits for one future over the stream, and leaves the stream as that does. `Err` says
-/// that there was no memory to wait with: then the stream was not polled. Ported from `src/stream.rs`, `BlockOn`, which is an
-/// `Iterator`; here the methods are its own, since each may be refused.
+/// Made by [`block_on`](crate::make::block_on). Each method waits for one future over the stream, and leaves the stream as
+/// that does. The first method that is called allocates what a wait needs. If that allocation fails, the method returns
+/// `Err`, and the stream was not polled. No later call allocates, so none returns `Err`. Ported from `src/stream.rs`, `BlockOn`, which is an
+/// `Iterator`; here the methods are its own, since the first may fail.
 #[derive(Drop)]
 pub struct BlockOn<R, S> {
     pub(crate) rt: R,
@@ -45,6 +46,8 @@ impl<R, S: fmt::Debug> fmt::Debug for BlockOn<R, S> {
 }
 
 impl<R: Wait + RandomSource + AllocGlobal, S: Stream> BlockOn<R, S> {
+    ghost use Rattle.lite_consume.specs.BlockOn.{IsUnused};
+
     /// What `folder` makes of the items. What is waited with is made where there is none yet.
     fn ask<F: Folder<S> + Drop>(&mut self, mut folder: F) -> Result<F::Output, AllocError>
         requires polls { S.can_poll self.old.stream }
@@ -53,6 +56,8 @@ impl<R: Wait + RandomSource + AllocGlobal, S: Stream> BlockOn<R, S> {
         requires asks { MayTakeEach S.run F.fold F.can_take self.old.stream folder }
         ensures gave { IfOk result (λ value. BlockGives F.fold S.run self.old.stream folder value self.new.stream) }
         ensures kept { OnErr result (self.new.stream ≡ self.old.stream) }
+        ensures first { OnErr result (IsUnused self.old) }
+        ensures used { OnOk result (IsUnused self.new → ⊥) }
     {
         // By itself, so that it is known that the rest stays.
         let waiter = &mut self.waiter;
@@ -68,6 +73,8 @@ impl<R: Wait + RandomSource + AllocGlobal, S: Stream> BlockOn<R, S> {
         requires polls { S.can_poll self.old.stream }
         ensures gave { IfOk result (λ value. BlockGives nexts S.run self.old.stream nothing value self.new.stream) }
         ensures kept { OnErr result (self.new.stream ≡ self.old.stream) }
+        ensures first { OnErr result (IsUnused self.old) }
+        ensures used { OnOk result (IsUnused self.new → ⊥) }
     {
         self.ask(Next)
     }
@@ -80,6 +87,8 @@ impl<R: Wait + RandomSource + AllocGlobal, S: Stream> BlockOn<R, S> {
         requires polls { S.can_poll self.old.stream }
         ensures gave { IfOk result (λ value. BlockGives nths S.run self.old.stream n value self.new.stream) }
         ensures kept { OnErr result (self.new.stream ≡ self.old.stream) }
+        ensures first { OnErr result (IsUnused self.old) }
+        ensures used { OnOk result (IsUnused self.new → ⊥) }
     {
         self.ask(Nth { n })
     }
@@ -92,7 +101,8 @@ impl<R: Wait + RandomSource + AllocGlobal, S: Stream> BlockOn<R, S> {
         S: Counted<Item: Drop> + Drop,
         requires polls { S.can_poll self.stream }
         requires counts { S.ranks.counts self.stream }
-        ensures { IfOk result (λ value. (left : S) × BlockGives counts S.run self.stream 0 value left) }
+        ensures gave { IfOk result (λ value. (left : S) × BlockGives counts S.run self.stream 0 value left) }
+        ensures first { OnErr result (IsUnused self) }
     {
         self.ask(Count { count: 0 })
     }
@@ -105,7 +115,8 @@ impl<R: Wait + RandomSource + AllocGlobal, S: Stream> BlockOn<R, S> {
         S: Counted<Item: Drop> + Drop,
         requires polls { S.can_poll self.stream }
         requires counts { S.ranks.counts self.stream }
-        ensures { IfOk result (λ value. (left : S) × BlockGives lasts S.run self.stream None value left) }
+        ensures gave { IfOk result (λ value. (left : S) × BlockGives lasts S.run self.stream None value left) }
+        ensures first { OnErr result (IsUnused self) }
     {
         self.ask(Last { last: None })
     }
@@ -121,8 +132,9 @@ impl<R: Wait + RandomSource + AllocGlobal, S: Stream> BlockOn<R, S> {
         requires polls { S.can_poll self.stream }
         requires counts { S.ranks.counts self.stream }
         requires asks { MayTakeEach S.run (folds (CallsBoth F.FnMut)) (MayFold F.FnMut) self.stream (f, Some init) }
-        ensures { IfOk result
+        ensures gave { IfOk result
             (λ value. (left : S) × BlockGives (folds (CallsBoth F.FnMut)) S.run self.stream (f, Some init) value left) }
+        ensures first { OnErr result (IsUnused self) }
     {
         self.ask(Fold { f, acc: Some(init) })
     }
@@ -136,8 +148,9 @@ impl<R: Wait + RandomSource + AllocGlobal, S: Stream> BlockOn<R, S> {
         requires polls { S.can_poll self.stream }
         requires counts { S.ranks.counts self.stream }
         requires asks { MayTakeEach S.run (calls_each (Calls F.FnMut)) (MayCall F.FnMut) self.stream f }
-        ensures { IfOk result
+        ensures gave { IfOk result
             (λ value. (left : S) × BlockGives (calls_each (Calls F.FnMut)) S.run self.stream f value left) }
+        ensures first { OnErr result (IsUnused self) }
     {
         self.ask(ForEach { f })
     }
@@ -154,6 +167,8 @@ impl<R: Wait + RandomSource + AllocGlobal, S: Stream> BlockOn<R, S> {
         ensures gave { IfOk result
             (λ value. BlockGives (alls (Calls P.FnMut)) S.run self.old.stream predicate value self.new.stream) }
         ensures kept { OnErr result (self.new.stream ≡ self.old.stream) }
+        ensures first { OnErr result (IsUnused self.old) }
+        ensures used { OnOk result (IsUnused self.new → ⊥) }
     {
         self.ask(All { predicate })
     }
@@ -170,6 +185,8 @@ impl<R: Wait + RandomSource + AllocGlobal, S: Stream> BlockOn<R, S> {
         ensures gave { IfOk result
             (λ value. BlockGives (anys (Calls P.FnMut)) S.run self.old.stream predicate value self.new.stream) }
         ensures kept { OnErr result (self.new.stream ≡ self.old.stream) }
+        ensures first { OnErr result (IsUnused self.old) }
+        ensures used { OnOk result (IsUnused self.new → ⊥) }
     {
         self.ask(Any { predicate })
     }
@@ -186,6 +203,8 @@ impl<R: Wait + RandomSource + AllocGlobal, S: Stream> BlockOn<R, S> {
         ensures gave { IfOk result
             (λ value. BlockGives (finds (CalledAt P.FnMut)) S.run self.old.stream predicate value self.new.stream) }
         ensures kept { OnErr result (self.new.stream ≡ self.old.stream) }
+        ensures first { OnErr result (IsUnused self.old) }
+        ensures used { OnOk result (IsUnused self.new → ⊥) }
     {
         self.ask(Find { predicate })
     }
@@ -202,6 +221,8 @@ impl<R: Wait + RandomSource + AllocGlobal, S: Stream> BlockOn<R, S> {
         ensures gave { IfOk result
             (λ value. BlockGives (finds_map (Calls F.FnMut)) S.run self.old.stream f value self.new.stream) }
         ensures kept { OnErr result (self.new.stream ≡ self.old.stream) }
+        ensures first { OnErr result (IsUnused self.old) }
+        ensures used { OnOk result (IsUnused self.new → ⊥) }
     {
         self.ask(FindMap { f })
     }
@@ -219,6 +240,8 @@ impl<R: Wait + RandomSource + AllocGlobal, S: Stream> BlockOn<R, S> {
             (λ value. BlockGives (positions (Calls P.FnMut)) S.run self.old.stream
             (predicate, 0) value self.new.stream) }
         ensures kept { OnErr result (self.new.stream ≡ self.old.stream) }
+        ensures first { OnErr result (IsUnused self.old) }
+        ensures used { OnOk result (IsUnused self.new → ⊥) }
     {
         self.ask(Position {
             predicate,

@@ -8,5 +8,5 @@ pub ask-requires-clause-asks : goal.ask-requires-clause-asks
 ask-requires-clause-asks g c =
     each_of (λ m. m.f) (calls_each (Calls g.F.FnMut)) g.S.Stream.run (MayCall g.F.FnMut) _ _ c.requires.asks
 
-pub returns : goal.returns
-returns g c = given_last (λ m. m.f) (calls_each (Calls g.F.FnMut)) g.S.Stream.run _ _ _ _ c.ask.ensures.gave
+pub returns-clause-gave : goal.returns-clause-gave
+returns-clause-gave g c = given_last (λ m. m.f) (calls_each (Calls g.F.FnMut)) g.S.Stream.run _ _ _ _ c.ask.ensures.gave
