@@ -104,7 +104,6 @@ impl Tale for Takes {
 impl AsyncWrite for Takes {
     ghost use Rattle.lite_mock.specs.Takes.{AllObey, answer_of};
 
-    #[tactic(auto, using(crate::specs::Laws::SteadyTakes::takes_some))]
     fn poll_write(&mut self, cx: &mut Context<'_>, buf: &[u8]) -> Poll<io::Result<usize>>
         ensures bound { IfReady result (λ r. IfOk r (λ n. n ≤ length buf.now)) }
         ensures ran { AllObey self.old (write_marks result buf.now) self.new }

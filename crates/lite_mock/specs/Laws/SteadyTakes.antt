@@ -1,17 +1,9 @@
 -- A `Takes` leaves what was taken, however often it was pending.
-use Rattle.std.proofs.Common.{◌≡◌, ◌≤◌, ℕ, zero, suc, List, [], ◌∷◌, ◌++◌, Ok, length, take, inl, inr, refl}
-use Rattle.std.proofs.Common.{append-nil, append_assoc}
-use Rattle.std.specs.Prelude.{◌⊎◌}
-use Rattle.futures.specs.declared.task.Poll.TheVariants.{Ready}
-use Rattle.lite_mock.specs.declared.takes.Order.TheVariants.{AtMost}
+use Rattle.std.proofs.Common.{◌≡◌, List, [], ◌∷◌, ◌++◌, inl, inr, append-nil, append_assoc}
 use Rattle.lite_io_base.specs.SteadyWrite.{CalmWriteLaws, SteadyWriteLaws}
-use Rattle.lite_io_base.specs.Takings.{WriteMark, bytes_taken, write_marks}
+use Rattle.lite_io_base.specs.Takings.{WriteMark, bytes_taken}
 use Rattle.lite_mock.specs.Takes.{AllObey, Orders}
 use Rattle.lite_mock.specs.SteadyTakes.{BothOrders, NoPendingOrder}
-
-take_none : (n : ℕ) → take {A = ℕ} n [] ≡ []
-take_none zero = refl
-take_none (suc n) = refl
 
 all_taken : (x y : Orders) (l : List WriteMark) → AllObey x l y → y.taken ≡ x.taken ++ bytes_taken l
 all_taken x y [] h = rw (h, append-nil)
@@ -47,11 +39,3 @@ takes_calm =
       no_pending = λ x y l c h. (none_waits x y l c h).0;
       calm_on = λ x y l c h. (none_waits x y l c h).1;
     }
-
--- a write that took bytes by an order, or with no order left
-pub takes_some : (x y : Orders) (n : ℕ) (xs : List ℕ) → y.taken ≡ x.taken ++ take n xs
-    → ((x.orders ≡ []) × (y.orders ≡ [])) ⊎ ((k : ℕ) × (x.orders ≡ AtMost k ∷ y.orders) × (length (take n xs) ≤ k))
-    → AllObey x (write_marks (Ready (Ok n)) xs) y
-takes_some x y n [] took (inl none) = (y, (rw took (rw take_none (append-nil x.taken)), inl none), refl)
-takes_some x y n [] took (inr (k, is, fits)) = (y, (rw took (rw take_none (append-nil x.taken)), inr (k, is)), refl)
-takes_some x y n (b ∷ bs) took by = (y, (took, by), refl)
