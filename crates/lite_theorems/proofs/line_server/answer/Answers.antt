@@ -8,7 +8,7 @@ returns-in_default g c = ([], (g.O.Takings.write_laws.rests _, (_, refl)), tt, (
 
 pub returns : goal.returns
 returns g c =
-    let one = c.wait_write_all.ensures in
+    let one = c.wait_write_all.ensures.took in
     let two = c.flush_if.ensures in
     let offered = c.deref.result.now in
     let same : offered ≡ g.L.LineService.reply c.args.line.now.items = search rules in

@@ -8,4 +8,4 @@ returns g c =
     let h = rw c.read.ensures at (read_waited g.T.Tale.read_laws _ _ _ (w.gave, w.kept)) in
     let lent = h.1 in
     let told = told_at (ToldByRead g.T.Tale.reads _ _ _) (search rules) (search rules) h.0 in
-    record { told = told.0; room = told.1; bound = told.2 }
+    record { told = told.0; room = told.1; bound = told.2; waited = w.waited }

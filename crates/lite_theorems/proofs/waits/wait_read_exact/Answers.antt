@@ -9,4 +9,4 @@ returns g c =
     let h = rw c.read_exact.ensures at (exact_waited g.T.Tale.read_laws _ _ _ begun (w.gave, w.kept)) in
     let lent = h.1 in
     let told = told_at (ToldByExact g.T.Tale.reads _ _ _) (search rules) (search rules) h.0 in
-    record { told = told.0; room = told.1 }
+    record { told = told.0; room = told.1; waited = w.waited }

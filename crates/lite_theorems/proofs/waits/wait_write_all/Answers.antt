@@ -2,8 +2,8 @@ use Rattle.std.proofs.Common.{rules}
 use Rattle.lite_theorems.proofs.BothWriters.{hand_up, writer_lent}
 use Rattle.lite_theorems.proofs.waits.wait_write_all.Goals as goal
 
-pub returns : goal.returns
-returns g c =
+pub returns-clause-took : goal.returns-clause-took
+returns-clause-took g c =
     let waited = c.wait_for.ensures in
     let lent = writer_lent g.T.Takings.writes _ _ _ _ _ c.write_all.ensures (waited.gave, waited.kept) in
     hand_up g.T.Takings.writes _ _ _ _ _ c.write_all.ensures (waited.gave, waited.kept) g.T.Takings.write_laws _
