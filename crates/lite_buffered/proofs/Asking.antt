@@ -1,5 +1,5 @@
 -- When a `BufReader` asks its inner reader.
-use Rattle.std.proofs.Common.{◌≡◌, ◌∙◌, ◌<◌, ℕ, List, [], Result, length, sym, subst, arith}
+use Rattle.std.proofs.Common.{◌≡◌, ◌∙◌, ◌<◌, ◌≤◌, ℕ, List, [], Result, length, sym, subst, arith}
 use Rattle.std.specs.declared.io.Error.{Error}
 use Rattle.futures.specs.declared.task.Poll.{Poll}
 use Rattle.lite_io_base.specs.Marks.{ReadMark, read_marks}
@@ -17,7 +17,9 @@ module _ {R : Type 0} (reads : Runs ReadMark R) (room : ℕ) (x y : BufReader R)
   pub asks_one : (r : Poll (Result ℕ Error)) (buf : List ℕ) → length buf ≡ room → ahead x ≡ []
       → reads x.inner (read_marks r buf) y.inner → AsksWhereEmpty reads room x y
   asks_one r buf whole none ran =
-      ((λ _. record { answer = r; buf = buf; whole = whole; ran = ran }), (λ some. some_ahead (ahead x) none some))
+      let fits : length buf ≤ room = omega (arith, whole) in
+      let some : 0 < room → 0 < length buf = λ more. omega (arith, whole, more) in
+      ((λ _. record { answer = r; buf = buf; fits = fits; some = some; ran = ran }), (λ more. some_ahead (ahead x) none more))
 
   -- bytes are taken of what a fill left
   pub asks_filled : (z : BufReader R) (space : ℕ) → AsksWhereEmpty reads space x z → space ≡ room → y.inner ≡ z.inner

@@ -51,19 +51,22 @@ pub record PollsOnce {R : Type 0} (reads : Runs ReadMark R) (most : ℕ) (x y : 
   pub ran : reads x told y
   pub one : OfOneRead most told
 
--- the inner reader gave one answer, to a read into just so much room
-pub record ReadsOnce {R : Type 0} (reads : Runs ReadMark R) (room : ℕ) (x y : R) : Type 0 where
+-- The inner reader gave one answer, to a read into at most so much room, and into some room unless there is none. The
+-- marks do not tell how much room the read had: a read into less room leaves the same marks as a short read.
+pub record ReadsOnce {R : Type 0} (reads : Runs ReadMark R) (most : ℕ) (x y : R) : Type 0 where
   pub answer : Poll (Result ℕ Error)
   pub buf : List ℕ
-  pub whole : length buf ≡ room
+  pub fits : length buf ≤ most
+  pub some : 0 < most → 0 < length buf
   pub ran : reads x (read_marks answer buf) y
 
--- the inner reader is asked once, for so much room, where nothing is ahead, and else not at all
+-- the inner reader is polled once, for at most so many bytes, if nothing is ahead, and else not at all
 abbrev pub AsksWhereEmpty : {R : Type 0} → Runs ReadMark R → ℕ → BufReader R → BufReader R → Type 0
-AsksWhereEmpty reads room x y =
-    (ahead x ≡ [] → ReadsOnce reads room x.inner y.inner) × (0 < length (ahead x) → y.inner ≡ x.inner)
+AsksWhereEmpty reads most x y =
+    (ahead x ≡ [] → ReadsOnce reads most x.inner y.inner) × (0 < length (ahead x) → y.inner ≡ x.inner)
 
--- a read past the buffer: the inner reader gave this answer, and nothing is ahead
+-- a read past the buffer: the inner reader gave this answer, and nothing is ahead (a fill of which all is copied at once
+-- leaves the same)
 abbrev pub ReadsPast : {R : Type 0} → Runs ReadMark R → Runs ReadMark (BufReader R)
 ReadsPast reads x ms y = reads x.inner ms y.inner × (ahead y ≡ [])
 

@@ -214,11 +214,13 @@ impl<R: AsyncRead> AsyncRead for BufReader<R> {
         ensures once { PollsOnce R.reads (max (reader_capacity self.old) (length buf.old)) (reader_inner self.old)
             (reader_inner self.new) }
 
-        // With bytes ahead it is not; with none it is asked for as much as the buffer or `buf` has room for.
+        // If bytes are ahead, it is not polled. If none are, it is polled once, for no more than the larger room. That it
+        // is polled for just as much as the buffer or `buf` has room for, no mark tells: tests do.
         ensures asks { 0 < length buf.old
             → AsksWhereEmpty R.reads (max (reader_capacity self.old) (length buf.old)) self.old self.new }
 
-        // With none ahead, and no less room than the capacity, it reads into `buf` itself.
+        // If none are ahead and there is no less room than the capacity, its answer is the answer. That it reads into
+        // `buf` itself, tests show.
         ensures past { 0 < length buf.old → ahead self.old ≡ [] → reader_capacity self.old ≤ length buf.old
             → ReadsPast R.reads self.old (read_marks result buf.new) self.new }
 
@@ -259,11 +261,11 @@ impl<R: AsyncRead> AsyncRead for BufReader<R> {
         ensures once { PollsOnce R.reads (max (reader_capacity self.old) (room_in bufs.old)) (reader_inner self.old)
             (reader_inner self.new) }
 
-        // With bytes ahead it is not; with none it is asked for as much as the buffer or `bufs` have room for.
+        // If bytes are ahead, it is not polled. If none are, it is polled once, as `poll_read` does.
         ensures asks { 0 < room_in bufs.old
             → AsksWhereEmpty R.reads (max (reader_capacity self.old) (room_in bufs.old)) self.old self.new }
 
-        // With none ahead, and no less room than the capacity, it reads into `bufs` themselves.
+        // If none are ahead and there is no less room than the capacity, its answer is the answer.
         ensures past { 0 < room_in bufs.old → ahead self.old ≡ [] → reader_capacity self.old ≤ room_in bufs.old
             → ReadsInto R.reads (reader_inner self.old) result bufs.old (reader_inner self.new)
             × (ahead self.new ≡ []) }
