@@ -2,3 +2,4 @@ mod always;
 mod collected;
 mod merge;
 mod waking;
+mod whole;
