@@ -10,6 +10,7 @@ mod read_to_end;
 mod readers;
 mod serving;
 mod shown;
+mod shrinking;
 mod told;
 mod waits;
 
