@@ -4,12 +4,12 @@ use Rattle.lite_consume.specs.Consuming.{Fold}
 use Rattle.lite_gather.specs.Gathering.{Kept, Took}
 use Rattle.lite_gather.specs.declared.refused.Refused.{Refused}
 
--- `may_refuse`: whether memory may be refused. None says that the collection was handed out
-module _ {C T : Type 0} (may_refuse : Type 0) (holds : C → List T → Type 0) where
-  -- an item is taken in, or refused, where memory may be, and then it decides
+-- `may_refuse c x`: the collection c may refuse the item x. None says that the collection was handed out
+module _ {C T : Type 0} (may_refuse : C → T → Type 0) (holds : C → List T → Type 0) where
+  -- an item is taken in, or refused by a collection that may refuse it, and then it decides
   abbrev pub Collected : Option C → T → Option (Result C (Refused C T)) → Option C → Type 0
   Collected p x None q = (c d : C) × (p ≡ Some c) × Took holds c x d × (q ≡ Some d)
-  Collected p x (Some r) q = may_refuse × (c d : C) × (p ≡ Some c) × Kept holds c d
+  Collected p x (Some r) q = (c d : C) × (p ≡ Some c) × may_refuse c x × Kept holds c d
       × (r ≡ Err (record { collected = d; item = x })) × (q ≡ None)
 
   -- the value is the collection, or the refusal with what it held

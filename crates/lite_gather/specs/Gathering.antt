@@ -10,3 +10,11 @@ module _ {C T : Type 0} (holds : C → List T → Type 0) where
   -- the collection d is as c
   abbrev pub Kept : C → C → Type 0
   Kept c d = (l : List T) → holds c l → holds d l
+
+-- the collection c has no room for the item x
+abbrev pub LacksRoom : {C T : Type 0} → (C → T → Type 0) → C → T → Type 0
+LacksRoom has_room c x = has_room c x → ⊥
+
+-- no collection may refuse an item
+abbrev pub NeverRefuses : {C T : Type 0} → C → T → Type 0
+NeverRefuses c x = ⊥

@@ -11,12 +11,12 @@ HasMemory (Ok c) = ⊤
 HasMemory (Err (Source e)) = ⊤
 HasMemory (Err (Memory m)) = ⊥
 
--- `may_refuse`: whether memory may be refused. None says that the collection was handed out
-module _ {C T E : Type 0} (may_refuse : Type 0) (holds : C → List T → Type 0) where
+-- `may_refuse c x`: the collection c may refuse what an item holds, x. None says that the collection was handed out
+module _ {C T E : Type 0} (may_refuse : C → T → Type 0) (holds : C → List T → Type 0) where
   -- as Collected of what an Ok item holds; an item that is an error decides
   abbrev pub TryCollected : Option C → Result T E → Option (Result C (TryCollectError C T E)) → Option C → Type 0
   TryCollected p (Ok x) None q = (c d : C) × (p ≡ Some c) × Took holds c x d × (q ≡ Some d)
-  TryCollected p (Ok x) (Some r) q = may_refuse × (c d : C) × (p ≡ Some c) × Kept holds c d
+  TryCollected p (Ok x) (Some r) q = (c d : C) × (p ≡ Some c) × may_refuse c x × Kept holds c d
       × (r ≡ Err (Memory (record { collected = d; item = x }))) × (q ≡ None)
   TryCollected p (Err e) None q = ⊥
   TryCollected p (Err e) (Some r) q = (r ≡ Err (Source e)) × (q ≡ p)

@@ -1,16 +1,18 @@
 ghost use Rattle.std.specs.Prelude.{◌≡◌, []};
-ghost use Rattle.std.specs.BTreeMap.{insert_entry};
+ghost use Rattle.std.specs.BTreeMap.{ContainsKey, insert_entry};
 ghost use Rattle.std.specs.List.{fold};
 
 use crate::gather::Gather;
 use std::alloc::Allocator;
 use std::collections::BTreeMap;
 
-/// A pair is put at its key; a key that is present stays, and its value is replaced.
+/// Puts a pair at its key. A key that is present stays and its value is replaced, which takes no memory.
 impl<K: Ord + Drop, V: Drop, A: Allocator + Clone> Gather<(K, V)> for BTreeMap<K, V, A> {
     type Alloc = A;
 
     ghost holds = { λ c l. c.entries ≡ fold (λ es pair. insert_entry K.cmp es pair.0 pair.1) [] l };
+
+    ghost has_room = { λ c item. ContainsKey K.cmp c item.0 };
 
     fn empty(alloc: A) -> BTreeMap<K, V, A> {
         BTreeMap::new(alloc)

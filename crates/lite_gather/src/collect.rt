@@ -1,7 +1,8 @@
-ghost use Rattle.std.specs.Prelude.{IsSome, ⊤};
+ghost use Rattle.std.specs.Prelude.{IsSome};
 ghost use Rattle.lite_consume.specs.Consuming.{fold_of};
 ghost use Rattle.lite_consume.specs.Laws.Returning.{returns_counted};
 ghost use Rattle.lite_gather.specs.Collect.{collects, collects_open};
+ghost use Rattle.lite_gather.specs.Gathering.{LacksRoom};
 
 use crate::gather::Gather;
 use crate::refused::Refused;
@@ -25,7 +26,7 @@ pub struct Collect<C> {
 impl<S: Counted, C: Gather<S::Item>> Folder<S> for Collect<C> {
     type Output = Result<C, Refused<C, S::Item>>;
 
-    ghost fold = { fold_of (λ f. f.collection) (collects ⊤ C.holds) };
+    ghost fold = { fold_of (λ f. f.collection) (collects (LacksRoom C.has_room) C.holds) };
 
     ghost is_open = { λ f. IsSome f.collection };
 
@@ -47,5 +48,6 @@ impl<S: Counted, C: Gather<S::Item>> Folder<S> for Collect<C> {
         Ok(self.collection.take().unwrap())
     }
 
-    ghost returns = { returns_counted S.counting (λ p q x o h. collects_open ⊤ C.holds p.collection q.collection x h) };
+    ghost returns = { returns_counted S.counting
+        (λ p q x o h. collects_open (LacksRoom C.has_room) C.holds p.collection q.collection x h) };
 }

@@ -1,7 +1,8 @@
-ghost use Rattle.std.specs.Prelude.{◌≡◌, IfErr, IsSome, OnOk, ⊤};
+ghost use Rattle.std.specs.Prelude.{◌≡◌, IfErr, IsSome, OnOk};
 ghost use Rattle.std.specs.Fn.{CalledAt, TakesAt};
 ghost use Rattle.lite_consume.specs.Consuming.{fold_of};
 ghost use Rattle.lite_consume.specs.Laws.Returning.{returns_counted};
+ghost use Rattle.lite_gather.specs.Gathering.{LacksRoom};
 ghost use Rattle.lite_gather.specs.Partition.{Sorted, Unsorted, partitions, partitions_open};
 
 use crate::gather::Gather;
@@ -24,7 +25,8 @@ fn take_one<T, B: Gather<T>>(
 ) -> Result<(), T>
     ensures took { OnOk result (Sorted B.holds is_accepted (accepted.old, rejected.old) item (accepted.new, rejected.new)) }
     ensures kept { IfErr result
-        (λ back. (back ≡ item) × Unsorted B.holds (accepted.old, rejected.old) (accepted.new, rejected.new)) }
+        (λ back. (back ≡ item) × Unsorted B.holds (LacksRoom B.has_room) is_accepted (accepted.old, rejected.old) item
+        (accepted.new, rejected.new)) }
 {
     if is_accepted {
         accepted.take_in(item)
@@ -43,7 +45,7 @@ pub struct Partition<P, B> {
 impl<S: Counted, P: FnMut(&S::Item) -> bool, B: Gather<S::Item>> Folder<S> for Partition<P, B> {
     type Output = Result<(B, B), Refused<(B, B), S::Item>>;
 
-    ghost fold = { fold_of (λ f. (f.predicate, f.res)) (partitions B.holds (CalledAt P.FnMut) ⊤) };
+    ghost fold = { fold_of (λ f. (f.predicate, f.res)) (partitions B.holds (CalledAt P.FnMut) (LacksRoom B.has_room)) };
 
     ghost can_take = { λ f. TakesAt P.FnMut f.predicate };
 
@@ -70,5 +72,6 @@ impl<S: Counted, P: FnMut(&S::Item) -> bool, B: Gather<S::Item>> Folder<S> for P
     }
 
     ghost returns = { returns_counted S.counting
-        (λ p q x o h. partitions_open B.holds (CalledAt P.FnMut) ⊤ (p.predicate, p.res) (q.predicate, q.res) x h) };
+        (λ p q x o h. partitions_open B.holds (CalledAt P.FnMut) (LacksRoom B.has_room) (p.predicate, p.res)
+        (q.predicate, q.res) x h) };
 }

@@ -1,4 +1,4 @@
-/// What `collect` and `partition` hand back where there was no memory for an item.
+/// What `collect` and `partition` hand back if a collection refused an item.
 #[derive(Debug, PartialEq, Eq, Drop)]
 pub struct Refused<C, T> {
     /// What was collected: all items before the one that was refused.
@@ -12,11 +12,11 @@ pub struct Refused<C, T> {
 pub enum TryCollectError<C, T, E> {
     /// An item was this error. What was collected is dropped with the future.
     Source(E),
-    /// There was no memory for what an item held.
+    /// The collection refused what an item held.
     Memory(Refused<C, T>),
 }
 
-/// What `unzip` hands back where there was no memory for a part of an item.
+/// What `unzip` hands back if a collection refused a part of an item.
 #[derive(Debug, PartialEq, Eq, Drop)]
 pub enum UnzipRefused<FA, FB, A, B> {
     /// The first collection refused its part: neither part was taken in.

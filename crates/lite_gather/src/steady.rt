@@ -8,6 +8,7 @@ ghost use Rattle.lite_consume.specs.Laws.Agreeing.{part_steady};
 ghost use Rattle.lite_gather.specs.Agreeing.{HoldsSame, HoldsSameBoth, HoldsSameParts, SameCollected, TrySameCollected};
 ghost use Rattle.lite_gather.specs.Agreeing.{Unmixed};
 ghost use Rattle.lite_gather.specs.Collect.{collects};
+ghost use Rattle.lite_gather.specs.Gathering.{LacksRoom, NeverRefuses};
 ghost use Rattle.lite_gather.specs.Laws.Agreeing.{collect_steady, partition_steady, try_collect_steady, unzip_steady};
 ghost use Rattle.lite_gather.specs.Partition.{partitions};
 ghost use Rattle.lite_gather.specs.TryCollect.{tries_collect};
@@ -22,7 +23,7 @@ use lite_base::{Counted, OkCounted, SteadyStream};
 use lite_consume::SteadyFolder;
 
 impl<S: Counted + SteadyStream, C: Gather<S::Item>> SteadyFolder<S> for Collect<C> {
-    ghost ample = { fold_of (λ f. f.collection) (collects ⊥ C.holds) };
+    ghost ample = { fold_of (λ f. f.collection) (collects NeverRefuses C.holds) };
 
     ghost needs_none = { ⊥ };
 
@@ -30,12 +31,12 @@ impl<S: Counted + SteadyStream, C: Gather<S::Item>> SteadyFolder<S> for Collect<
 
     ghost agree = { λ f g. OptionBy (HoldsSame S.same C.holds) f.collection g.collection };
 
-    ghost steady_fold = { part_steady (λ f. f.collection) (collect_steady S.same C.holds) };
+    ghost steady_fold = { part_steady (λ f. f.collection) (collect_steady S.same C.holds (LacksRoom C.has_room)) };
 }
 
 impl<S: Counted + SteadyStream, P: FnMut(&S::Item) -> bool, B: Gather<S::Item>> SteadyFolder<S>
     for Partition<P, B> {
-    ghost ample = { fold_of (λ f. (f.predicate, f.res)) (partitions B.holds (CalledAt P.FnMut) ⊥) };
+    ghost ample = { fold_of (λ f. (f.predicate, f.res)) (partitions B.holds (CalledAt P.FnMut) NeverRefuses) };
 
     ghost needs_none = { ⊥ };
 
@@ -44,11 +45,12 @@ impl<S: Counted + SteadyStream, P: FnMut(&S::Item) -> bool, B: Gather<S::Item>> 
     ghost agree = { λ f g. AgreeFrom (SameItem S.same) (λ y z. y ≡ z) (CalledAt P.FnMut) f.predicate g.predicate
         × OptionBy (HoldsSameBoth S.same S.same B.holds B.holds) f.res g.res };
 
-    ghost steady_fold = { part_steady (λ f. (f.predicate, f.res)) (partition_steady S.same B.holds (CalledAt P.FnMut)) };
+    ghost steady_fold = { part_steady (λ f. (f.predicate, f.res))
+        (partition_steady S.same B.holds (CalledAt P.FnMut) (LacksRoom B.has_room)) };
 }
 
 impl<S: OkCounted + SteadyStream, C: Gather<S::Ok>> SteadyFolder<S> for TryCollect<C> {
-    ghost ample = { fold_of (λ f. f.items) (tries_collect ⊥ C.holds) };
+    ghost ample = { fold_of (λ f. f.items) (tries_collect NeverRefuses C.holds) };
 
     ghost needs_none = { ⊥ };
 
@@ -56,7 +58,7 @@ impl<S: OkCounted + SteadyStream, C: Gather<S::Ok>> SteadyFolder<S> for TryColle
 
     ghost agree = { λ f g. Unmixed S.same (OptionBy (HoldsSame (SameOk S.same) C.holds) f.items g.items) };
 
-    ghost steady_fold = { part_steady (λ f. f.items) (try_collect_steady S.same C.holds) };
+    ghost steady_fold = { part_steady (λ f. f.items) (try_collect_steady S.same C.holds (LacksRoom C.has_room)) };
 }
 
 impl<
@@ -66,7 +68,7 @@ impl<
     FromA: Gather<A>,
     FromB: Gather<B>,
 > SteadyFolder<S> for Unzip<FromA, FromB> {
-    ghost ample = { fold_of (λ f. f.res) (unzips FromA.holds FromB.holds ⊥) };
+    ghost ample = { fold_of (λ f. f.res) (unzips FromA.holds FromB.holds NeverRefuses NeverRefuses) };
 
     ghost needs_none = { ⊥ };
 
@@ -74,5 +76,6 @@ impl<
 
     ghost agree = { λ f g. OptionBy (HoldsSameParts S.same FromA.holds FromB.holds) f.res g.res };
 
-    ghost steady_fold = { part_steady (λ f. f.res) (unzip_steady FromA.holds FromB.holds S.same) };
+    ghost steady_fold = { part_steady (λ f. f.res)
+        (unzip_steady FromA.holds FromB.holds S.same (LacksRoom FromA.has_room) (LacksRoom FromB.has_room)) };
 }

@@ -13,8 +13,11 @@ impl<A: Allocator> Gather<char> for String<A> {
 
     ghost has_room = { λ c item. string_len c + length (encode_utf8 item) ≤ string_capacity c };
 
+    ghost unallocated = { λ c. string_capacity c ≡ 0 };
+
     fn empty(alloc: A) -> String<A> {
-        String::new(alloc)
+        // `String::new` doesn't tell the capacity. A capacity of 0 is never refused.
+        String::with_capacity(alloc, 0).unwrap()
     }
 
     fn take_in(&mut self, item: char) -> Result<(), char> {

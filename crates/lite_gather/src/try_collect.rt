@@ -1,6 +1,7 @@
-ghost use Rattle.std.specs.Prelude.{IsSome, ⊤};
+ghost use Rattle.std.specs.Prelude.{IsSome};
 ghost use Rattle.lite_consume.specs.Consuming.{fold_of};
 ghost use Rattle.lite_consume.specs.Laws.Returning.{returns_ok};
+ghost use Rattle.lite_gather.specs.Gathering.{LacksRoom};
 ghost use Rattle.lite_gather.specs.TryCollect.{tries_collect, tries_collect_open};
 
 use crate::gather::Gather;
@@ -25,7 +26,7 @@ pub struct TryCollect<C> {
 impl<S: OkCounted, C: Gather<S::Ok>> Folder<S> for TryCollect<C> {
     type Output = Result<C, TryCollectError<C, S::Ok, S::Err>>;
 
-    ghost fold = { fold_of (λ f. f.items) (tries_collect ⊤ C.holds) };
+    ghost fold = { fold_of (λ f. f.items) (tries_collect (LacksRoom C.has_room) C.holds) };
 
     ghost is_open = { λ f. IsSome f.items };
 
@@ -57,5 +58,6 @@ impl<S: OkCounted, C: Gather<S::Ok>> Folder<S> for TryCollect<C> {
         Ok(self.items.take().unwrap())
     }
 
-    ghost returns = { returns_ok S.ok_counting (λ p q e h. h) (λ p q x o h. tries_collect_open ⊤ C.holds p.items q.items x h) };
+    ghost returns = { returns_ok S.ok_counting (λ p q e h. h)
+        (λ p q x o h. tries_collect_open (LacksRoom C.has_room) C.holds p.items q.items x h) };
 }

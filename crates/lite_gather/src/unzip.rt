@@ -1,7 +1,7 @@
-ghost use Rattle.std.specs.Prelude.{◌≡◌, IfErr, IsSome, OnOk, ⊤};
+ghost use Rattle.std.specs.Prelude.{◌≡◌, IfErr, IsSome, OnOk};
 ghost use Rattle.lite_consume.specs.Consuming.{fold_of};
 ghost use Rattle.lite_consume.specs.Laws.Returning.{returns_counted};
-ghost use Rattle.lite_gather.specs.Gathering.{Took};
+ghost use Rattle.lite_gather.specs.Gathering.{LacksRoom, Took};
 ghost use Rattle.lite_gather.specs.Refused.{refused_of};
 ghost use Rattle.lite_gather.specs.Unzip.{RefusedOne, unzips, unzips_open};
 
@@ -44,8 +44,8 @@ fn take_both<A, B, FromA: Gather<A>, FromB: Gather<B>>(
 ) -> Result<(), Part<A, B>>
     ensures took { OnOk result (Took FromA.holds left.old a left.new × Took FromB.holds right.old b right.new) }
     ensures refused { IfErr result
-        (λ part. RefusedOne FromA.holds FromB.holds (left.old, right.old) (a, b)
-        (refused_of part (left.new, right.new))) }
+        (λ part. RefusedOne FromA.holds FromB.holds (LacksRoom FromA.has_room) (LacksRoom FromB.has_room)
+        (left.old, right.old) (a, b) (refused_of part (left.new, right.new))) }
 {
     if let Err(a) = left.take_in(a) {
         return Err(Part::Both(a, b));
@@ -66,7 +66,8 @@ impl<A, B, S: Counted<Item = (A, B)>, FromA: Gather<A>, FromB: Gather<B>> Folder
     for Unzip<FromA, FromB> {
     type Output = Result<(FromA, FromB), UnzipRefused<FromA, FromB, A, B>>;
 
-    ghost fold = { fold_of (λ f. f.res) (unzips FromA.holds FromB.holds ⊤) };
+    ghost fold = { fold_of (λ f. f.res)
+        (unzips FromA.holds FromB.holds (LacksRoom FromA.has_room) (LacksRoom FromB.has_room)) };
 
     ghost is_open = { λ f. IsSome f.res };
 
@@ -93,5 +94,7 @@ impl<A, B, S: Counted<Item = (A, B)>, FromA: Gather<A>, FromB: Gather<B>> Folder
         Ok(self.res.take().unwrap())
     }
 
-    ghost returns = { returns_counted S.counting (λ p q x o h. unzips_open FromA.holds FromB.holds ⊤ p.res q.res x h) };
+    ghost returns = { returns_counted S.counting
+        (λ p q x o h. unzips_open FromA.holds FromB.holds (LacksRoom FromA.has_room) (LacksRoom FromB.has_room)
+        p.res q.res x h) };
 }

@@ -11,6 +11,8 @@ impl<T, A: Allocator> Gather<T> for Vec<T, A> {
 
     ghost has_room = { λ c _. vec_len c < vec_capacity c };
 
+    ghost unallocated = { λ c. vec_capacity c ≡ 0 };
+
     fn empty(alloc: A) -> Vec<T, A> {
         Vec::new(alloc)
     }

@@ -13,8 +13,11 @@ impl<T, A: Allocator> Gather<T> for VecDeque<T, A> {
 
     ghost has_room = { λ c _. deque_len c < deque_capacity c };
 
+    ghost unallocated = { λ c. deque_capacity c ≡ 0 };
+
     fn empty(alloc: A) -> VecDeque<T, A> {
-        VecDeque::new(alloc)
+        // `VecDeque::new` doesn't tell the capacity.
+        VecDeque::from_vec(Vec::new(alloc))
     }
 
     fn take_in(&mut self, item: T) -> Result<(), T> {

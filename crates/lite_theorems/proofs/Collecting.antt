@@ -1,5 +1,5 @@
 -- What `try_collect` makes of the answers of `lines`.
-use Rattle.std.specs.Prelude.{string_bytes, ⊤}
+use Rattle.std.specs.Prelude.{string_bytes}
 use Rattle.std.proofs.Common.{◌≡◌, ◌∙◌, List, [], ◌∷◌, ◌++◌, Option, Some, None, Result, Ok, Err, Global, refl, ap, sym}
 use Rattle.std.proofs.Common.{subst, append-nil, append_assoc}
 use Rattle.std.specs.declared.io.Error.{Error}
@@ -62,9 +62,9 @@ module _ {C : Type 0} (holds : C → List (String Global) → Type 0) where
       let r = h.2 (lines_told [] tale) (subst (λ k. P (lines_told [] k)) (append-nil tale) (each [])) in
       (h.0, r.0, h.1, r.1)
 
-  module _ {N : Type 0} (part : N → Option C) where
+  module _ {N : Type 0} (may_refuse : C → String Global → Type 0) (part : N → Option C) where
     abbrev Collecting : Fold N Text Value
-    Collecting = fold_of part (tries_collect ⊤ holds)
+    Collecting = fold_of part (tries_collect may_refuse holds)
 
     -- of what is still to come, whatever the collection has
     abbrev SaysOn : Value → N → List (Answer Text) → Type 0
@@ -86,7 +86,7 @@ module _ {C : Type 0} (holds : C → List (String Global) → Type 0) where
     decides v p q (Some (Ok text)) d before has =
         rw d.5 (
           [],
-          subst (holds d.2) (sym (append-nil before)) (d.4 before (held_by holds (part p) before d.1 has d.3)),
+          subst (holds d.1) (sym (append-nil before)) (d.4 before (held_by holds (part p) before d.0 has d.2)),
           λ l g. (g.0, g.1),
         )
 

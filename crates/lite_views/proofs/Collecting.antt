@@ -4,7 +4,7 @@ use Rattle.lite_views.specs.Views.{ValueHolds}
 use Rattle.lite_views.proofs.Views.{value_holds}
 use Rattle.lite_views.proofs.Consuming.{WhereSome, where_some}
 use Rattle.std.proofs.Common.{◌≡◌, List, [], ◌∷◌, ◌++◌, map, sym, append_assoc, append-nil}
-use Rattle.std.specs.Prelude.{⊤, Option, Some, None, Result, Ok, Err, IfOk, IfSome}
+use Rattle.std.specs.Prelude.{Option, Some, None, Result, Ok, Err, IfOk, IfSome}
 use Rattle.futures.specs.declared.task.Poll.{Poll}
 use Rattle.futures.specs.declared.task.Poll.TheVariants.{Ready}
 use Rattle.lite_base.specs.Answers.{Answer, Gives, item}
@@ -17,10 +17,10 @@ use Rattle.lite_gather.specs.TryCollect.{tries_collect}
 use Rattle.lite_gather.specs.declared.refused.TryCollectError.{TryCollectError}
 use Rattle.lite_views.specs.OkLists.{AllTaken, OkFits, OkLists}
 
-module _ {C T E Y : Type 0} (holds : C → List T → Type 0) (f : T → Y) where
+module _ {C T E Y : Type 0} (may_refuse : C → T → Type 0) (holds : C → List T → Type 0) (f : T → Y) where
   -- the fold of `try_collect`
   abbrev the_fold : Fold (TryCollect C) (Result T E) (Result C (TryCollectError C T E))
-  the_fold = fold_of (λ (m : TryCollect C). m.items) (tries_collect ⊤ holds)
+  the_fold = fold_of (λ (m : TryCollect C). m.items) (tries_collect may_refuse holds)
 
   -- of what is still to come, where the collection has ts
   abbrev Collects : Result C (TryCollectError C T E) → TryCollect C → List (Answer (Result T E)) → Type 0

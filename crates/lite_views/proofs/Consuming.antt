@@ -26,7 +26,7 @@ use Rattle.std.proofs.Common.{◌≡◌, ◌∙◌, ◌⊎◌, ◌<◌, ◌^◌,
 use Rattle.std.proofs.Common.{ap, sym, arith, append_assoc, append-nil}
 use Rattle.std.proofs.Math.Bool.{not-not}
 use Rattle.std.proofs.Math.Dec.{leb-suc-suc, leb-zero}
-use Rattle.std.specs.Prelude.{⊤, Bool, true, false, cond, not, nat_lt, Option, Some, None, Result, Ok, Err, IfOk}
+use Rattle.std.specs.Prelude.{Bool, true, false, cond, not, nat_lt, Option, Some, None, Result, Ok, Err, IfOk}
 use Rattle.std.specs.Prelude.{IfSome, option_map}
 use Rattle.std.specs.Option.{option_transpose}
 use Rattle.std.specs.Result.{ok_prefix}
@@ -320,11 +320,11 @@ where_some P None h c e = cc
 where_some P (Some d) h c e = let same : d ≡ c = cc e in rw (← same) h
 
 -- `collect`
-pub collect_made : {C T : Type 0} (holds : C → List T → Type 0) (p : Collect C) (xs : List T)
-    → IfSome p.collection (λ c. holds c []) → (v : Result C (Refused C T))
-    → MakesOf (fold_of (λ (m : Collect C). m.collection) (collects ⊤ holds)) p xs v → IfOk v (λ d. holds d xs)
-collect_made {C} holds p xs none v =
-    gathered (fold_of (λ (m : Collect C). m.collection) (collects ⊤ holds))
+pub collect_made : {C T : Type 0} (may_refuse : C → T → Type 0) (holds : C → List T → Type 0) (p : Collect C)
+    (xs : List T) → IfSome p.collection (λ c. holds c []) → (v : Result C (Refused C T))
+    → MakesOf (fold_of (λ (m : Collect C). m.collection) (collects may_refuse holds)) p xs v → IfOk v (λ d. holds d xs)
+collect_made {C} may_refuse holds p xs none v =
+    gathered (fold_of (λ (m : Collect C). m.collection) (collects may_refuse holds))
     (λ p l. WhereSome p.collection (λ c. holds c l))
     (λ v l. IfOk v (λ d. holds d l))
     (λ p q x l s h c e. let same : s.1 ≡ c = (let k = s.4 in cc) in rw (← same) (s.3 l (h s.0 s.2)))
@@ -332,7 +332,7 @@ collect_made {C} holds p xs none v =
     (where_some (λ c. holds c []) p.collection none)
 
 -- `partition`: of the one collection or of the other
-module _ {B F T : Type 0} (holds : B → List T → Type 0)
+module _ {B F T : Type 0} (may_refuse : B → T → Type 0) (holds : B → List T → Type 0)
     (asked : Question F T Bool) (f : F) where
   -- the collection `of`, which takes the items in at which the predicate answers `mine`
   module _ (of : B × B → B) (mine : Bool → Bool) (test : T → Bool)
@@ -341,15 +341,15 @@ module _ {B F T : Type 0} (holds : B → List T → Type 0)
       → holds (of d) (l ++ cond (mine b) (x ∷ []) [])) where
     sorted_made : (p : Partition F B) (xs : List T) → p.predicate ≡ f → WhereSome p.res (λ c. holds (of c) [])
         → (v : Result (B × B) (Refused (B × B) T))
-        → MakesOf (fold_of (λ (m : Partition F B). (m.predicate, m.res)) (partitions holds asked ⊤)) p xs v
+        → MakesOf (fold_of (λ (m : Partition F B). (m.predicate, m.res)) (partitions holds asked may_refuse)) p xs v
         → IfOk v (λ d. holds (of d) (filter test xs))
     sorted_made p xs e none v =
-        gathered (fold_of (λ (m : Partition F B). (m.predicate, m.res)) (partitions holds asked ⊤))
+        gathered (fold_of (λ (m : Partition F B). (m.predicate, m.res)) (partitions holds asked may_refuse))
         (λ p l. (p.predicate ≡ f) × WhereSome p.res (λ c. holds (of c) (filter test l)))
-        (λ v l. IfOk v (λ d. holds (of d) (filter test l))) taken (λ p q x r l xs s h. rw s.7 tt)
+        (λ v l. IfOk v (λ d. holds (of d) (filter test l))) taken (λ p q x r l xs s h. rw s.6 tt)
         (λ p q r l s h. rw s.2 (h.1 s.0 s.1)) p [] xs v (e, none)
       where
-        taken : (p q : Partition F B) (x : T) (l : List T) → Partitioned holds asked ⊤ (p.predicate, p.res) x None
+        taken : (p q : Partition F B) (x : T) (l : List T) → Partitioned holds asked may_refuse (p.predicate, p.res) x None
             (q.predicate, q.res)
             → (p.predicate ≡ f) × WhereSome p.res (λ c. holds (of c) (filter test l))
             → (q.predicate ≡ f) × WhereSome q.res (λ c. holds (of c) (filter test (l ++ x ∷ [])))
@@ -367,7 +367,7 @@ module _ {B F T : Type 0} (holds : B → List T → Type 0)
   -- the items that are accepted
   pub accepted_made : (test : T → Bool) → AnswersAs asked f test → (p : Partition F B) (xs : List T) → p.predicate ≡ f
       → IfSome p.res (λ c. holds c.0 [] × holds c.1 []) → (v : Result (B × B) (Refused (B × B) T))
-      → MakesOf (fold_of (λ (m : Partition F B). (m.predicate, m.res)) (partitions holds asked ⊤)) p xs v
+      → MakesOf (fold_of (λ (m : Partition F B). (m.predicate, m.res)) (partitions holds asked may_refuse)) p xs v
       → IfOk v (λ d. holds d.0 (filter test xs))
   accepted_made test acts p xs e none =
       sorted_made (λ c. c.0) (λ b. b) test acts goes p xs e (λ c k. (where_some _ p.res none c k).0)
@@ -381,7 +381,7 @@ module _ {B F T : Type 0} (holds : B → List T → Type 0)
   pub others_made : (rest : T → Bool) → AnswersAs asked f (λ x. not (rest x)) → (p : Partition F B) (xs : List T)
       → p.predicate ≡ f
       → IfSome p.res (λ c. holds c.0 [] × holds c.1 []) → (v : Result (B × B) (Refused (B × B) T))
-      → MakesOf (fold_of (λ (m : Partition F B). (m.predicate, m.res)) (partitions holds asked ⊤)) p xs v
+      → MakesOf (fold_of (λ (m : Partition F B). (m.predicate, m.res)) (partitions holds asked may_refuse)) p xs v
       → IfOk v (λ d. holds d.1 (filter rest xs))
   others_made rest acts p xs e none =
       sorted_made (λ c. c.1) not rest
@@ -394,19 +394,19 @@ module _ {B F T : Type 0} (holds : B → List T → Type 0)
       goes false x c d l s h = s.0 l h
 
 -- `unzip`
-pub unzip_made : {C D A B : Type 0} (first : C → List A → Type 0) (second : D → List B → Type 0) (p : Unzip C D)
-    (xs : List (A × B)) (none : IfSome p.res (λ c. first c.0 [] × second c.1 []))
+pub unzip_made : {C D A B : Type 0} (first_refuses : C → A → Type 0) (second_refuses : D → B → Type 0)
+    (first : C → List A → Type 0) (second : D → List B → Type 0) (p : Unzip C D) (xs : List (A × B)) (none : IfSome p.res (λ c. first c.0 [] × second c.1 []))
     (v : Result (C × D) (UnzipRefused C D A B))
-    → MakesOf (fold_of (λ (m : Unzip C D). m.res) (unzips first second ⊤)) p xs v
+    → MakesOf (fold_of (λ (m : Unzip C D). m.res) (unzips first second first_refuses second_refuses)) p xs v
     → IfOk v (λ d. first d.0 (map (λ x. x.0) xs) × second d.1 (map (λ x. x.1) xs))
-unzip_made {C} {D} {A} {B} first second p xs none v =
-    gathered (fold_of (λ (m : Unzip C D). m.res) (unzips first second ⊤)) (λ p l. WhereSome p.res (both l))
+unzip_made {C} {D} {A} {B} first_refuses second_refuses first second p xs none v =
+    gathered (fold_of (λ (m : Unzip C D). m.res) (unzips first second first_refuses second_refuses)) (λ p l. WhereSome p.res (both l))
     (λ v l. IfOk v (both l))
     (λ p q x l s h c e.
     let same : s.1 ≡ c = (let k = s.5 in cc) in
     let had = h s.0 s.2 in
     rw (map-append, map-append, ← same) (s.3 (map (λ z. z.0) l) had.0, s.4 (map (λ z. z.1) l) had.1))
-    (λ p q x r l xs s h. rw s.5 tt) (λ p q r l s h. rw s.2 (h s.0 s.1)) p [] xs v (where_some (both []) p.res none)
+    (λ p q x r l xs s h. rw s.4 tt) (λ p q r l s h. rw s.2 (h s.0 s.1)) p [] xs v (where_some (both []) p.res none)
   where
     both : List (A × B) → C × D → Type 0
     both l c = first c.0 (map (λ x. x.0) l) × second c.1 (map (λ x. x.1) l)
@@ -420,11 +420,11 @@ error_behind : {T E : Type 0} (ys : List T) (xs : List (Result T E)) → first_e
 error_behind [] xs = refl
 error_behind (y ∷ ys) xs = error_behind ys xs
 
-pub try_collect_made : {C T E : Type 0} (holds : C → List T → Type 0) (p : TryCollect C) (xs : List (Result T E))
-    (none : IfSome p.items (λ c. holds c [])) (v : Result C (TryCollectError C T E))
-    → MakesOf (fold_of (λ (m : TryCollect C). m.items) (tries_collect ⊤ holds)) p xs v → TriesCollect holds xs v
-try_collect_made {C} {T} {E} holds p xs none v =
-    gathered (fold_of (λ (m : TryCollect C). m.items) (tries_collect ⊤ holds)) Has
+pub try_collect_made : {C T E : Type 0} (may_refuse : C → T → Type 0) (holds : C → List T → Type 0)
+    (p : TryCollect C) (xs : List (Result T E)) (none : IfSome p.items (λ c. holds c [])) (v : Result C (TryCollectError C T E))
+    → MakesOf (fold_of (λ (m : TryCollect C). m.items) (tries_collect may_refuse holds)) p xs v → TriesCollect holds xs v
+try_collect_made {C} {T} {E} may_refuse holds p xs none v =
+    gathered (fold_of (λ (m : TryCollect C). m.items) (tries_collect may_refuse holds)) Has
     (λ v l. TriesCollect holds l v) takes decides closes p [] xs v
     ([], refl, where_some (λ c. holds c []) p.items none)
   where
@@ -432,7 +432,7 @@ try_collect_made {C} {T} {E} holds p xs none v =
     Has p l = (ys : List T) × (l ≡ map Ok ys) × WhereSome p.items (λ c. holds c ys)
 
     takes : (p q : TryCollect C) (x : Result T E) (l : List (Result T E))
-        → TryCollected ⊤ holds p.items x None q.items → Has p l → Has q (l ++ x ∷ [])
+        → TryCollected may_refuse holds p.items x None q.items → Has p l → Has q (l ++ x ∷ [])
     takes p q (Err w) l s h = absurd s
     takes p q (Ok x) l s (ys, e, had) = (
       ys ++ x ∷ [],
@@ -441,12 +441,12 @@ try_collect_made {C} {T} {E} holds p xs none v =
     )
 
     decides : (p q : TryCollect C) (x : Result T E) (r : Result C (TryCollectError C T E)) (l xs : List (Result T E))
-        → TryCollected ⊤ holds p.items x (Some r) q.items → Has p l → TriesCollect holds (l ++ x ∷ xs) r
+        → TryCollected may_refuse holds p.items x (Some r) q.items → Has p l → TriesCollect holds (l ++ x ∷ xs) r
     decides p q (Ok x) r l xs s h = rw s.5 (tt, tt)
     decides p q (Err w) r l xs s (ys, e, had) = rw (s.0, e) (tt, error_behind ys (Err w ∷ xs))
 
     closes : (p q : TryCollect C) (r : Result C (TryCollectError C T E)) (l : List (Result T E))
-        → (tries_collect ⊤ holds).closes p.items r q.items → Has p l → TriesCollect holds l r
+        → (tries_collect may_refuse holds).closes p.items r q.items → Has p l → TriesCollect holds l r
     closes p q r l s (ys, e, had) =
         let whole : ok_prefix l ≡ ys = rw e (values_of E ys) in
         rw (s.2, whole) ((had s.0 s.1, sym e), tt)

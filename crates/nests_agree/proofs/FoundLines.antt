@@ -17,6 +17,7 @@ use Rattle.lite_consume.specs.Laws.Agreeing.{finished_ample, part_within, within
 use Rattle.lite_consume.specs.Laws.Consuming.{consumes_by}
 use Rattle.lite_consume.specs.declared.consume.Consume.{Consume}
 use Rattle.lite_gather.specs.Collect.{collects}
+use Rattle.lite_gather.specs.Gathering.{NeverRefuses}
 use Rattle.lite_gather.proofs.Ample.{FitsGathered, FitsTried, collect_each, collect_within, try_collect_each}
 use Rattle.lite_gather.proofs.Ample.{try_collect_within}
 use Rattle.lite_gather.specs.TryCollect.{tries_collect}
@@ -58,26 +59,26 @@ pub end_found : {A : Type 0} → NotRefused {A = A} (Ready Option.None)
 end_found e h k = cc h
 
 module _ {R : Type 0} {reads ample : Runs ReadMark R} (all : TakesNone reads ample) where
-  module _ {C : Type 0} (holds : C → List (String Global) → Type 0) where
+  module _ {C : Type 0} (may_refuse : C → String Global → Type 0) (holds : C → List (String Global) → Type 0) where
     abbrev Tried : Type 0
     Tried = Result C (TryCollectError C (String Global) Error)
 
-    was_found : (v : Tried) → WasFound v → FitsTried holds NotRefused v × try_values.HasMemory v
+    was_found : (v : Tried) → WasFound v → FitsTried may_refuse holds NotRefused v × try_values.HasMemory v
     was_found (Ok c) f = (tt, tt)
     was_found (Err (Source e)) f = (found_item (Err e) f, tt)
     was_found (Err (Memory m)) f = absurd f
 
     pub tried_found : (z : Consume (Take (Lines R)) (TryCollect C)) (l : List (Poll Tried)) (v : Tried) → WasFound v
-        → Finishes (Folds (Takes (GivesLines reads ⊤)) (fold_of (λ f. f.items) (tries_collect ⊤ holds))) z l v
-        → Finishes (Folds (Takes (GivesLines ample ⊥)) (fold_of (λ f. f.items) (tries_collect ⊥ holds))) z l v
+        → Finishes (Folds (Takes (GivesLines reads ⊤)) (fold_of (λ f. f.items) (tries_collect may_refuse holds))) z l v
+        → Finishes (Folds (Takes (GivesLines ample ⊥)) (fold_of (λ f. f.items) (tries_collect NeverRefuses holds))) z l v
     tried_found z l v m f =
-        let fold = fold_of (λ (p : TryCollect C). p.items) (tries_collect {E = Error} ⊤ holds) in
+        let fold = fold_of (λ (p : TryCollect C). p.items) (tries_collect {E = Error} may_refuse holds) in
         let fits = was_found v m in
         finished_ample NoneRefused (taken_ample all)
-        (part_within (λ p. p.items) (try_collect_within holds)) z l v fits.1
+        (part_within (λ p. p.items) (try_collect_within may_refuse holds)) z l v fits.1
         (λ q i h.
-        try_collect_each holds NotRefused waiting_found end_found ok_found z.folder.items q.items i l v fits.0 f.gives
-        (consumes_by (λ p. p.items) fold (tries_collect ⊤ holds) (within_itself fold tt) z.folder q i l
+        try_collect_each may_refuse holds NotRefused waiting_found end_found ok_found z.folder.items q.items i l v fits.0 f.gives
+        (consumes_by (λ p. p.items) fold (tries_collect may_refuse holds) (within_itself fold tt) z.folder q i l
         (λ r g. tt) h)) f
 
 -- where each answer that came before was found
@@ -86,24 +87,26 @@ module _ {S A : Type 0} {run found : Runs (Answer (Result A Error)) S}
   abbrev Gathered : Type 0
   Gathered = Result (Vec (Result A Error) Global) (Refused (Vec (Result A Error) Global) (Result A Error))
 
-  each_found : (v : Gathered) → EachFound v
-      → FitsGathered (λ (c : Vec (Result A Error) Global) i. c.items ≡ i) NotRefused v × IsOk v
-  each_found (Ok c) f =
-      (λ i e. subst (AllByRecursion (λ (x : Result A Error). NotRefused (item x))) e (each_item c.items f), refl)
-  each_found (Err r) f = absurd f
+  -- what may be refused
+  module _ (may_refuse : Vec (Result A Error) Global → Result A Error → Type 0) where
+    each_found : (v : Gathered) → EachFound v
+        → FitsGathered may_refuse (λ (c : Vec (Result A Error) Global) i. c.items ≡ i) NotRefused v × IsOk v
+    each_found (Ok c) f =
+        (λ i e. subst (AllByRecursion (λ (x : Result A Error). NotRefused (item x))) e (each_item c.items f), refl)
+    each_found (Err r) f = absurd f
 
-  pub gathered_found : (z : Consume S (Collect (Vec (Result A Error) Global))) (l : List (Poll Gathered)) (v : Gathered)
-      → EachFound v
-      → Finishes (Folds run (fold_of (λ f. f.collection) (collects ⊤ (λ c i. c.items ≡ i)))) z l v
-      → Finishes (Folds found (fold_of (λ f. f.collection) (collects ⊥ (λ c i. c.items ≡ i)))) z l v
-  gathered_found z l v m f =
-      let plain = collects {T = Result A Error} ⊤ (λ (c : Vec (Result A Error) Global) i. c.items ≡ i) in
-      let fold = fold_of (λ (p : Collect (Vec (Result A Error) Global)). p.collection) plain in
-      let fits = each_found v m in
-      finished_ample NoneRefused told
-      (part_within (λ p. p.collection) (collect_within (λ c i. c.items ≡ i))) z l v fits.1
-      (λ q i h.
-      collect_each (λ (c : Vec (Result A Error) Global) j. c.items ≡ j) NotRefused waiting_found end_found
-      (λ c. (c.items, refl))
-      z.folder.collection q.collection i l v fits.0 f.gives
-      (consumes_by (λ p. p.collection) fold plain (within_itself fold tt) z.folder q i l (λ r g. tt) h)) f
+    pub gathered_found : (z : Consume S (Collect (Vec (Result A Error) Global))) (l : List (Poll Gathered)) (v : Gathered)
+        → EachFound v
+        → Finishes (Folds run (fold_of (λ f. f.collection) (collects may_refuse (λ c i. c.items ≡ i)))) z l v
+        → Finishes (Folds found (fold_of (λ f. f.collection) (collects NeverRefuses (λ c i. c.items ≡ i)))) z l v
+    gathered_found z l v m f =
+        let plain = collects {T = Result A Error} may_refuse (λ (c : Vec (Result A Error) Global) i. c.items ≡ i) in
+        let fold = fold_of (λ (p : Collect (Vec (Result A Error) Global)). p.collection) plain in
+        let fits = each_found v m in
+        finished_ample NoneRefused told
+        (part_within (λ p. p.collection) (collect_within may_refuse (λ c i. c.items ≡ i))) z l v fits.1
+        (λ q i h.
+        collect_each may_refuse (λ (c : Vec (Result A Error) Global) j. c.items ≡ j) NotRefused waiting_found end_found
+        (λ c. (c.items, refl))
+        z.folder.collection q.collection i l v fits.0 f.gives
+        (consumes_by (λ p. p.collection) fold plain (within_itself fold tt) z.folder q i l (λ r g. tt) h)) f

@@ -1,7 +1,9 @@
 use std::alloc::{Alloc, AllocError};
+use std::io::{self, ErrorKind};
+use std::random::RandomSource;
 use std::sync::Wait;
 
-/// A runtime whose clone is refused, as for want of memory.
+/// A runtime that refuses to be cloned and to give random bytes, as if memory were missing.
 #[derive(Drop)]
 pub struct Refusing<R> {
     /// The runtime behind it.
@@ -17,6 +19,12 @@ impl<R: Drop> Clone for Refusing<R> {
 }
 
 impl<R: Wait> Wait for Refusing<R> {}
+
+impl<R> RandomSource for Refusing<R> {
+    fn fill_bytes(&self, _buf: &mut [u8]) -> io::Result<()> {
+        Err(io::Error::from(ErrorKind::OutOfMemory))
+    }
+}
 
 impl<R: Alloc> Alloc for Refusing<R> {
     type A = R::A;

@@ -2,6 +2,5 @@ mod bell;
 mod counting;
 mod future;
 mod pendings;
-mod refusing;
 mod sleeping;
 mod waiting;

@@ -1,5 +1,5 @@
 -- Collections gather the same of items that are the same, where memory was found.
-use Rattle.std.specs.Prelude.{Result, Ok, Err, Bool, true, false, map, IfSome, IsSome, ⊤}
+use Rattle.std.specs.Prelude.{Result, Ok, Err, Bool, true, false, map, IfSome, IsSome}
 use Rattle.std.proofs.Common.{◌≡◌, List, [], ◌∷◌, ◌++◌, Option, Some, None, subst, sym}
 use Rattle.std.proofs.lemmas.List.{map-append}
 use Rattle.std.proofs.lemmas.List.Elements.{AllZip-push}
@@ -12,10 +12,12 @@ use Rattle.lite_consume.specs.Laws.Matching.{SameAsked, matched}
 use Rattle.lite_gather.specs.Agreeing.{HoldsParts, HoldsSame, HoldsSameBoth, HoldsSameParts, SameCollected}
 use Rattle.lite_gather.specs.Agreeing.{TrySameCollected, Unmixed}
 use Rattle.lite_gather.specs.Collect.{collects}
-use Rattle.lite_gather.specs.Gathering.{Took}
-use Rattle.lite_gather.specs.Partition.{Sorted, partitions}
+use Rattle.lite_gather.specs.Gathering.{NeverRefuses, Took}
+use Rattle.lite_gather.specs.Partition.{Sorted, Unsorted, partitions}
 use Rattle.lite_gather.specs.TryCollect.{tries_collect}
-use Rattle.lite_gather.specs.Unzip.{unzips}
+use Rattle.lite_gather.specs.Unzip.{RefusedOne, unzips}
+use Rattle.lite_gather.specs.declared.refused.UnzipRefused.{UnzipRefused}
+use Rattle.lite_gather.specs.declared.refused.UnzipRefused.TheVariants.{Left, Right}
 
 -- two that are there are the same so
 some_by : {C : Type 0} (same : C → C → Type 0) {q l : Option C} {c d : C} → q ≡ Some c → l ≡ Some d → same c d
@@ -56,15 +58,16 @@ module _ {C T : Type 0} (like : Sameness T) (holds : C → List T → Type 0) wh
   abbrev HoldsLike : C → C → Type 0
   HoldsLike = HoldsSame like holds
 
-  collect_asked : SameAsked (SameItem like) (SameCollected HoldsLike) (collects ⊥ holds) (OptionBy HoldsLike)
+  collect_asked : SameAsked (SameItem like) (SameCollected HoldsLike) (collects NeverRefuses holds)
+      (OptionBy HoldsLike)
   collect_asked p k q l x w None None a e h g =
       some_by HoldsLike h.4 g.4 (took_same like holds x w (there HoldsLike a h.2 g.2) e h.3 g.3)
-  collect_asked p k q l x w None (Some t) a e h g = g.0
-  collect_asked p k q l x w (Some r) u a e h g = absurd h.0
+  collect_asked p k q l x w None (Some t) a e h g = g.3
+  collect_asked p k q l x w (Some r) u a e h g = absurd h.3
 
-  pub collect_steady : FoldSteadyLaws (SameItem like) (collects ⊤ holds) (collects ⊥ holds) ⊥ (OptionBy HoldsLike)
-      (SameCollected HoldsLike)
-  collect_steady =
+  pub collect_steady : (may_refuse : C → T → Type 0) → FoldSteadyLaws (SameItem like) (collects may_refuse holds)
+      (collects NeverRefuses holds) ⊥ (OptionBy HoldsLike) (SameCollected HoldsLike)
+  collect_steady may_refuse =
       record {
         asks = collect_asked;
         closes = λ p k q l r t a h g. ok_by HoldsLike h.2 g.2 (there HoldsLike a h.1 g.1);
@@ -109,28 +112,34 @@ module _ {C T E : Type 0} (like : Sameness (Result T E)) (holds : C → List T �
   Tries p k = Unmixed like (OptionBy HoldsAlike p k)
 
   try_collect_asked : SameAsked (SameItem like) (TrySameCollected HoldsAlike (SameItem (SameErr like)))
-      (tries_collect ⊥ holds) Tries
+      (tries_collect NeverRefuses holds) Tries
   try_collect_asked p k q l (Ok x) (Ok w) None None a e h g =
       let same = there HoldsAlike (unmixed_holds like (OptionBy HoldsAlike p k) a) h.2 g.2 in
       unmixed_on like (OptionBy HoldsAlike p k) (OptionBy HoldsAlike q l) a
       (some_by HoldsAlike h.4 g.4 (took_same (SameOk like) holds x w same (oks_same like x w e) h.3 g.3))
-  try_collect_asked p k q l (Ok x) (Ok w) None (Some t) a e h g = g.0
-  try_collect_asked p k q l (Ok x) (Ok w) (Some r) u a e h g = absurd h.0
+  try_collect_asked p k q l (Ok x) (Ok w) None (Some t) a e h g = g.3
+  try_collect_asked p k q l (Ok x) (Ok w) (Some r) u a e h g = absurd h.3
   try_collect_asked p k q l (Ok x) (Err f) o u a e h g = absurd (not_err like (OptionBy HoldsAlike p k) x f a e)
   try_collect_asked p k q l (Err f) (Ok w) o u a e h g = absurd (not_ok like (OptionBy HoldsAlike p k) w f a e)
   try_collect_asked p k q l (Err f) (Err d) None u a e h g = absurd h
   try_collect_asked p k q l (Err f) (Err d) (Some r) None a e h g = g
   try_collect_asked p k q l (Err f) (Err d) (Some r) (Some t) a e h g = rw (h.0, g.0) (errs_same like f d e)
 
-  pub try_collect_steady : FoldSteadyLaws (SameItem like) (tries_collect ⊤ holds) (tries_collect ⊥ holds) ⊥ Tries
+  pub try_collect_steady : (may_refuse : C → T → Type 0)
+      → FoldSteadyLaws (SameItem like) (tries_collect may_refuse holds) (tries_collect NeverRefuses holds) ⊥ Tries
       (TrySameCollected HoldsAlike (SameItem (SameErr like)))
-  try_collect_steady =
+  try_collect_steady may_refuse =
       record {
         asks = try_collect_asked;
         closes = λ p k q l r t a h g. rw (h.2, g.2)
             (there HoldsAlike (unmixed_holds like (OptionBy HoldsAlike p k) a) h.1 g.1);
         found = absurd;
       }
+
+none_unsorted : {B T : Type 0} (holds : B → List T → Type 0) (b : Bool) (c d : B × B) (x : T)
+    → Unsorted holds NeverRefuses b c x d → ⊥
+none_unsorted holds true c d x u = u.0
+none_unsorted holds false c d x u = u.0
 
 -- by tests that agree
 module _ {B T P : Type 0} (like : Sameness T) (holds : B → List T → Type 0) (test : Question P T Bool) where
@@ -147,17 +156,17 @@ module _ {B T P : Type 0} (like : Sameness T) (holds : B → List T → Type 0) 
   sorted_same true c d c' d' x w s e h g = (took_same like holds x w s.0 e h.0 g.0, rw (h.1, g.1) s.1)
   sorted_same false c d c' d' x w s e h g = (rw (h.1, g.1) s.0, took_same like holds x w s.1 e h.0 g.0)
 
-  partition_asked : SameAsked (SameItem like) (SameCollected HoldBoth) (partitions holds test ⊥) Sorts
+  partition_asked : SameAsked (SameItem like) (SameCollected HoldBoth) (partitions holds test NeverRefuses) Sorts
   partition_asked p k q l x w None None a e h g =
       let t = matched a.0 e h.3 g.3 in
       let both = sorted_same h.0 h.1 g.1 h.2 g.2 x w (there HoldBoth a.1 h.4 g.4) e h.5 (rw t.0 g.5) in
       (t.1, some_by HoldBoth h.6 g.6 both)
-  partition_asked p k q l x w None (Some t) a e h g = g.0
-  partition_asked p k q l x w (Some r) u a e h g = absurd h.0
+  partition_asked p k q l x w None (Some t) a e h g = none_unsorted holds g.0 g.1 g.2 w g.5
+  partition_asked p k q l x w (Some r) u a e h g = absurd (none_unsorted holds h.0 h.1 h.2 x h.5)
 
-  pub partition_steady : FoldSteadyLaws (SameItem like) (partitions holds test ⊤) (partitions holds test ⊥) ⊥ Sorts
-      (SameCollected HoldBoth)
-  partition_steady =
+  pub partition_steady : (may_refuse : B → T → Type 0) → FoldSteadyLaws (SameItem like)
+      (partitions holds test may_refuse) (partitions holds test NeverRefuses) ⊥ Sorts (SameCollected HoldBoth)
+  partition_steady may_refuse =
       record {
         asks = partition_asked;
         closes = λ p k q l r t a h g. ok_by HoldBoth h.2 g.2 (there HoldBoth a.1 h.1 g.1);
@@ -190,22 +199,28 @@ module _ {C D A B : Type 0} (holds_first : C → List A → Type 0) (holds_secon
   no_parts Sameness.equal c d h k g j = (([], h, g), ([], k, j))
   no_parts (Sameness.by same) c d h k g j = ([], [], (h, k), (g, j), tt)
 
+  none_refused : (c : C × D) (x : A × B) (r : UnzipRefused C D A B)
+      → RefusedOne holds_first holds_second NeverRefuses NeverRefuses c x r → ⊥
+  none_refused c x (Left d y) h = h.0
+  none_refused c x (Right d y) h = h.0
+
   module _ (like : Sameness (A × B)) where
     -- two pairs of collections that hold the parts of pairs that are the same
     abbrev SamePairs : C × D → C × D → Type 0
     SamePairs = HoldsSameParts like holds_first holds_second
 
-    unzip_asked : SameAsked (SameItem like) (SameCollected SamePairs) (unzips holds_first holds_second ⊥)
-        (OptionBy SamePairs)
+    unzip_asked : SameAsked (SameItem like) (SameCollected SamePairs)
+        (unzips holds_first holds_second NeverRefuses NeverRefuses) (OptionBy SamePairs)
     unzip_asked p k q l x w None None a e h g =
         some_by SamePairs h.5 g.5
         (parts_same like h.0 g.0 h.1 g.1 x w (there SamePairs a h.2 g.2) e h.3 h.4 g.3 g.4)
-    unzip_asked p k q l x w None (Some t) a e h g = g.0
-    unzip_asked p k q l x w (Some r) u a e h g = absurd h.0
+    unzip_asked p k q l x w None (Some t) a e h g = none_refused g.0 w g.1 g.3
+    unzip_asked p k q l x w (Some r) u a e h g = absurd (none_refused h.0 x h.1 h.3)
 
-    pub unzip_steady : FoldSteadyLaws (SameItem like) (unzips holds_first holds_second ⊤)
-        (unzips holds_first holds_second ⊥) ⊥ (OptionBy SamePairs) (SameCollected SamePairs)
-    unzip_steady =
+    pub unzip_steady : (first_refuses : C → A → Type 0) (second_refuses : D → B → Type 0)
+        → FoldSteadyLaws (SameItem like) (unzips holds_first holds_second first_refuses second_refuses)
+        (unzips holds_first holds_second NeverRefuses NeverRefuses) ⊥ (OptionBy SamePairs) (SameCollected SamePairs)
+    unzip_steady first_refuses second_refuses =
         record {
           asks = unzip_asked;
           closes = λ p k q l r t a h g. ok_by SamePairs h.2 g.2 (there SamePairs a h.1 g.1);

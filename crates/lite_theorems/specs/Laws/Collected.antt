@@ -1,5 +1,5 @@
 -- Where `collect` gives Ok, the stream gave items and pendings and then an end, and the collection holds the items.
-use Rattle.std.specs.Prelude.{IsSome, IfSome, ⊤}
+use Rattle.std.specs.Prelude.{IsSome, IfSome}
 use Rattle.std.proofs.Common.{◌≡◌, List, [], ◌∷◌, ◌++◌, Option, Some, None, Result, Ok, refl, ap, sym, subst}
 use Rattle.std.proofs.Common.{append-nil, append_assoc}
 use Rattle.futures.specs.declared.task.Poll.{Poll}
@@ -28,14 +28,14 @@ pub held_by : {C A : Type 0} (holds : C → List A → Type 0) (o : Option C) (l
     → holds c l
 held_by holds o l c h e = let same : c ≡ h.0 = cc h.1 in rw same h.2
 
-module _ {N C A : Type 0} (holds : C → List A → Type 0) (part : N → Option C) where
+module _ {N C A : Type 0} (may_refuse : C → A → Type 0) (holds : C → List A → Type 0) (part : N → Option C) where
   -- the value of a collection: it, or a refusal
   abbrev CollectResult : Type 0
   CollectResult = Result C (Refused C A)
 
   -- the fold that collects, of a folder that holds the collection in a part of it
   abbrev Gathering : Fold N A CollectResult
-  Gathering = fold_of part (collects ⊤ holds)
+  Gathering = fold_of part (collects may_refuse holds)
 
   -- the stream's answers: items and Pendings, of which the collection holds the items behind those before, and then an
   -- end

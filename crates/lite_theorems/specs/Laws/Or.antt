@@ -1,6 +1,5 @@
 -- Where `collect` of `or` gives Ok, the collection has taken in all that the two streams had.
 use Rattle.lite_base.specs.Future.AtEachOk.{AtEachOk}
-use Rattle.std.specs.Prelude.{⊤}
 use Rattle.std.proofs.Common.{◌≡◌, List, [], Result, subst}
 use Rattle.futures.specs.declared.task.Poll.{Poll}
 use Rattle.lite_base.specs.Answers.{Answer}
@@ -19,16 +18,16 @@ use Rattle.lite_merge.specs.declared.or.Or.{Or}
 
 module _ {S U C A : Type 0} (run : Runs (Answer A) S) (run' : Runs (Answer A) U)
     (stays : (x y : S) → run x [] y → y ≡ x) (stays' : (x y : U) → run' x [] y → y ≡ x)
-    (holds : C → List A → Type 0) where
+    (may_refuse : C → A → Type 0) (holds : C → List A → Type 0) where
   -- what the future of `collect` of `or` answers
   abbrev pub OrCollects : Runs (Poll (Result C (Refused C A))) (Consume (Or S U) (Collect C))
-  OrCollects = Folds (Ors run run') (fold_of (λ (f : Collect C). f.collection) (collects ⊤ holds))
+  OrCollects = Folds (Ors run run') (fold_of (λ (f : Collect C). f.collection) (collects may_refuse holds))
 
   pub or_collected : (x : Consume (Or S U) (Collect C)) (before : List A) → Has holds x.folder.collection before
       → AtEachOk OrCollects x (OrHolds holds run run' before x)
   or_collected x before is out y c h g =
       let w =
-      collected holds (λ (f : Collect C). f.collection) out x.folder y.folder h.ins before c is h.consumed g in
+      collected may_refuse holds (λ (f : Collect C). f.collection) out x.folder y.folder h.ins before c is h.consumed g in
       let came = subst (λ l. Ors run run' x.stream l y.stream) w.cut h.came in
       let whole = merged_whole run run' stays stays' w.body w.no_end came in
       (whole.0, whole.1, items_given w.body, whole.2, whole.3, whole.4, w.held)

@@ -1,7 +1,6 @@
 -- Where `collect` of `race` gives Ok, the collection has taken in all that the two streams had, whatever the words
 -- were.
 use Rattle.lite_base.specs.Future.AtEachOk.{AtEachOk}
-use Rattle.std.specs.Prelude.{⊤}
 use Rattle.std.proofs.Common.{◌≡◌, List, [], ◌∷◌, ◌++◌, Result}
 use Rattle.rand_core.specs.Stream.{Stream}
 use Rattle.futures.specs.declared.task.Poll.{Poll}
@@ -21,10 +20,10 @@ use Rattle.lite_merge.specs.declared.race.Race.{Race}
 
 module _ {S U R C A : Type 0} (run : Runs (Answer A) S) (run' : Runs (Answer A) U) (stream : R → Stream)
     (stays : (x y : S) → run x [] y → y ≡ x) (stays' : (x y : U) → run' x [] y → y ≡ x)
-    (holds : C → List A → Type 0) where
+    (may_refuse : C → A → Type 0) (holds : C → List A → Type 0) where
   -- what the future of `collect` of `race` answers
   abbrev pub RaceCollects : Runs (Poll (Result C (Refused C A))) (Consume (Race S U R) (Collect C))
-  RaceCollects = Folds (RacesOn run run' stream) (fold_of (λ (f : Collect C). f.collection) (collects ⊤ holds))
+  RaceCollects = Folds (RacesOn run run' stream) (fold_of (λ (f : Collect C). f.collection) (collects may_refuse holds))
 
   -- with an answer it drew words
   raced : (x y : Race S U R) (body : List (Answer A)) → RacesOn run run' stream x (body ++ end ∷ []) y
@@ -36,7 +35,7 @@ module _ {S U R C A : Type 0} (run : Runs (Answer A) S) (run' : Runs (Answer A) 
       → AtEachOk RaceCollects x (RaceHolds holds run run' before x)
   race_collected x before is out y c h g =
       let w =
-      collected holds (λ (f : Collect C). f.collection) out x.folder y.folder h.ins before c is h.consumed g in
+      collected may_refuse holds (λ (f : Collect C). f.collection) out x.folder y.folder h.ins before c is h.consumed g in
       let came = raced x.stream y.stream w.body (rw (← w.cut) h.came) in
       let whole = merged_whole run run' stays stays' w.body w.no_end came.merges in
       (whole.0, whole.1, items_given w.body, whole.2, whole.3, whole.4, w.held)

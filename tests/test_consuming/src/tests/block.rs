@@ -1,7 +1,8 @@
-use futures_lite::{Poll, Stream, stream};
+use futures_lite::stream;
+use std::alloc::AllocError;
 use std::cell::Cell;
 use std::test::Fail;
-use test_support::item;
+use test_support::Refusing;
 
 #[test]
 fn next_waits_for_each_item(rt: HostRuntime) -> Result<(), Fail> {
@@ -66,5 +67,31 @@ fn what_stops_at_an_item_leaves_the_rest(rt: HostRuntime) -> Result<(), Fail> {
     let mut numbers = stream::block_on(rt, stream::iter(1u8..4));
     assert_eq!(rt; numbers.any(|x: u8| x > 0), Ok(true));
     assert_eq!(rt; numbers.next(), Ok(Some(2)));
+    Ok(())
+}
+
+#[test]
+fn a_refused_wait_for_the_end_polls_nothing(rt: HostRuntime) -> Result<(), Fail> {
+    let mut numbers = stream::iter(1u8..4);
+    let count = stream::block_on(Refusing { rt }, &mut numbers).count();
+    assert_eq!(rt; count, Err(AllocError));
+    let last = stream::block_on(Refusing { rt }, &mut numbers).last();
+    assert_eq!(rt; last, Err(AllocError));
+    let calls = Cell::new(0u8);
+    let sum = stream::block_on(Refusing { rt }, &mut numbers).fold(
+        0u8,
+        |a: u8, x: u8| {
+            calls.set(calls.get().wrapping_add(1));
+            a.wrapping_add(x)
+        },
+    );
+    assert_eq!(rt; sum, Err(AllocError));
+    let called = stream::block_on(Refusing { rt }, &mut numbers).for_each(|_x: u8| {
+        calls.set(calls.get().wrapping_add(1));
+    });
+    assert_eq!(rt; called, Err(AllocError));
+    assert_eq!(rt; calls.get(), 0);
+    // Each poll of the stream would have taken an item.
+    assert_eq!(rt; stream::block_on(rt, &mut numbers).count(), Ok(3));
     Ok(())
 }

@@ -1,6 +1,5 @@
 use super::bell::Bell;
 use super::counting::Counting;
-use super::refusing::Refusing;
 use futures::task::{Doorbell, Solo, Source};
 use futures_lite::future::{self, BlockOn, Future, FutureExt};
 use futures_lite::{AsyncReadExt, Context, Poll, StreamExt, io as lite, stream};
@@ -12,7 +11,7 @@ use std::sync::atomic::AtomicU64;
 use std::sync::atomic::Ordering::SeqCst;
 use std::test::Fail;
 use std::thread;
-use test_support::is_woken;
+use test_support::{Refusing, is_woken};
 
 /// Whether a poll of the future is pending, and its task is woken once the bell is rung and not before.
 fn is_woken_by<R, F>(rt: &R, mut future: F, bell: &Bell) -> Result<bool, Fail>
@@ -75,7 +74,7 @@ fn wait_for_leaves_the_future_with_its_caller(rt: HostRuntime) -> Result<(), Fai
     assert_eq!(rt; read.as_slice(), b"ab".as_slice());
     let mut yielding = future::yield_now();
     future::wait_for(&rt, &mut yielding)?;
-    let refused = future::wait_for(&Refusing { rt: &rt }, &mut future::ready(7u8));
+    let refused = future::wait_for(&Refusing { rt }, &mut future::ready(7u8));
     assert!(rt; refused.is_err());
     Ok(())
 }
@@ -89,7 +88,7 @@ fn one_sleeper_waits_for_many_futures(rt: HostRuntime) -> Result<(), Fail> {
         let mut lent = future::ready(i);
         assert_eq!(rt; sleeper.wait_for(&rt, &mut lent)?, i);
     }
-    assert!(rt; BlockOn::new(&Refusing { rt: &rt }).is_err());
+    assert!(rt; BlockOn::new(&Refusing { rt }).is_err());
     Ok(())
 }
 
@@ -129,7 +128,7 @@ fn a_refused_block_on_polls_nothing(rt: HostRuntime) -> Result<(), Fail> {
         polls.fetch_add(1, SeqCst);
         Poll::Ready(1u8)
     });
-    let refused = future::block_on(&Refusing { rt: &rt }, future);
+    let refused = future::block_on(&Refusing { rt }, future);
     assert_eq!(rt; refused, Err(AllocError));
     assert_eq!(rt; polls.load(SeqCst), 0);
     Ok(())
@@ -137,7 +136,7 @@ fn a_refused_block_on_polls_nothing(rt: HostRuntime) -> Result<(), Fail> {
 
 #[test]
 fn a_refused_blocking_stream_polls_nothing(rt: HostRuntime) -> Result<(), Fail> {
-    let refusing = Refusing { rt: &rt };
+    let refusing = Refusing { rt };
     let mut numbers = stream::iter(1u8..4);
     let refused = stream::block_on(refusing, &mut numbers).next();
     assert_eq!(rt; refused, Err(AllocError));
@@ -147,7 +146,7 @@ fn a_refused_blocking_stream_polls_nothing(rt: HostRuntime) -> Result<(), Fail> 
 
 #[test]
 fn a_refused_blocking_reader_polls_nothing(rt: HostRuntime) -> Result<(), Fail> {
-    let refusing = Refusing { rt: &rt };
+    let refusing = Refusing { rt };
     let mut bytes = b"ab".as_slice();
     let refused = io::Read::read(&mut lite::BlockOn::new(refusing, &mut bytes), &mut [0u8; 1]);
     assert_eq!(rt; refused.map_err(|e| e.kind()), Err(ErrorKind::OutOfMemory));

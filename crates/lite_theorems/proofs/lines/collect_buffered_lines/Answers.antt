@@ -3,6 +3,7 @@ use Rattle.std.proofs.Common.{◌≡◌, ◌∙◌, ◌<◌, ℕ, List, [], ◌+
 use Rattle.lite_consume.specs.Consume.{Folds}
 use Rattle.lite_consume.specs.Consuming.{fold_of}
 use Rattle.lite_consume.specs.declared.consume.Consume.{Consume}
+use Rattle.lite_gather.specs.Gathering.{LacksRoom}
 use Rattle.lite_gather.specs.TryCollect.{tries_collect}
 use Rattle.lite_gather.specs.declared.try_collect.TryCollect.{TryCollect}
 use Rattle.lite_buffered.specs.BufReader.{PassesBuffer, ThroughBuffer, ahead, reader_capacity}
@@ -23,7 +24,8 @@ use Rattle.lite_theorems.proofs.Telling.{Given, given}
 use Rattle.lite_theorems.proofs.lines.collect_buffered_lines.Goals as goal
 use Rattle.lite_base.specs.Runs.{Runs}
 
-module _ {R C : Type 0} (reads : Runs ReadMark R) (holds : C → List (String Global) → Type 0) where
+module _ {R C : Type 0} (reads : Runs ReadMark R) (may_refuse : C → String Global → Type 0)
+    (holds : C → List (String Global) → Type 0) where
   abbrev Collecting : Type 0
   Collecting = Consume (Lines (Take (BufReader R))) (TryCollect C)
 
@@ -33,7 +35,7 @@ module _ {R C : Type 0} (reads : Runs ReadMark R) (holds : C → List (String Gl
       → Has holds x.folder.items []
       → AtEachValue
       (Folds (GivesLines (TakesMarks (ThroughBuffer reads)) ⊤)
-      (fold_of (λ (f : TryCollect C). f.items) (tries_collect ⊤ holds))) x
+      (fold_of (λ (f : TryCollect C). f.items) (tries_collect may_refuse holds))) x
       (CollectsLines reads holds (ahead reader) (buffered_of reader) limit)
   lines_collected reader limit x inner some bound held has out y v h g =
       let s = h.came.segmented in
@@ -56,7 +58,7 @@ module _ {R C : Type 0} (reads : Runs ReadMark R) (holds : C → List (String Gl
       let same = ap (λ k. lines_told [] (limited limit k ++ more)) told ∙ l.1 in
       subst (Given h.ins) (sym same) (given [] y.stream.held.bytes.items s.marks h.ins cut l.0)
       in
-      let says = says holds (λ (f : TryCollect C). f.items) out x.folder y.folder h.ins [] v has h.consumed g in
+      let says = says holds may_refuse (λ (f : TryCollect C). f.items) out x.folder y.folder h.ins [] v has h.consumed g in
       record {
         tale = b.came;
         later = buffered_of left;
@@ -70,6 +72,6 @@ returns-clause-lines g c =
     let made = c.try_collect.ensures in
     let at = ap (λ s. s.reader) made.stream ∙ c.lines.ensures.reader in
     let held = has g.C.Gather.holds c.try_collect.result.folder.items [] made.«open» made.empty in
-    lines_collected g.R.Tale.reads g.C.Gather.holds c.args.reader c.args.limit c.try_collect.result
+    lines_collected g.R.Tale.reads (LacksRoom g.C.Gather.has_room) g.C.Gather.holds c.args.reader c.args.limit c.try_collect.result
     (ap take_inner at ∙ c.take.ensures.inner) some
     (ap limit_of at ∙ c.take.ensures.limit) (ap (λ s. s.held.bytes.items) made.stream ∙ c.lines.ensures.empty) held

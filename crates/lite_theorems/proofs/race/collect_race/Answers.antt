@@ -1,4 +1,5 @@
 use Rattle.std.specs.Prelude.{[]}
+use Rattle.lite_gather.specs.Gathering.{LacksRoom}
 use Rattle.lite_theorems.specs.Laws.Collected.{has}
 use Rattle.lite_theorems.specs.Laws.Race.{race_collected}
 use Rattle.lite_theorems.proofs.race.collect_race.Goals as goal
@@ -8,5 +9,5 @@ returns-clause-whole g c =
     let made = c.collect.ensures in
     let is = has g.C.Gather.holds _ [] made.«open» made.empty in
     let stays = g.met.S1.Stream.laws.stays in
-    race_collected g.S1.Stream.run g.S2.Stream.run g.R.Rng.stream stays g.met.S2.Stream.laws.stays g.C.Gather.holds
-    c.collect.result [] is
+    race_collected g.S1.Stream.run g.S2.Stream.run g.R.Rng.stream stays g.met.S2.Stream.laws.stays
+    (LacksRoom g.C.Gather.has_room) g.C.Gather.holds c.collect.result [] is

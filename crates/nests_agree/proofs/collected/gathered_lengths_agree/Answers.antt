@@ -23,7 +23,7 @@ pub returns : goal.returns
 returns g c =
     let all = g.met.T.SteadyRead.steady.found c.requires.found in
     both_found _ _ c.collect.result c.collect-2.result
-    (gathered_found (lengths_ample all _ (CalledAt _) (λ f g x y d. search rules) (λ p q x b d. search rules)))
+    (gathered_found (lengths_ample all _ (CalledAt _) (λ f g x y d. search rules) (λ p q x b d. search rules)) _)
     (gathered_as
     (λ v w h.
     all_zip_as (kin_lengths _ (λ f g x y d. search rules)) v.items w.items

@@ -7,7 +7,7 @@ use Rattle.nests_agree.proofs.collected.tried_lines_agree.Goals as goal
 
 pub returns : goal.returns
 returns g c =
-    let found = tried_found (g.met.T.SteadyRead.steady.found c.requires.found) (λ v l. v.items ≡ l) in
+    let found = tried_found (g.met.T.SteadyRead.steady.found c.requires.found) _ (λ v l. v.items ≡ l) in
     both_found _ _ c.try_collect-tried.result c.try_collect-more.result found
     (try_gathered_as
     (same_items (Sameness.by SameText) (λ v. v.items)) _) c.block_on_both.result c.block_on_both.ensures

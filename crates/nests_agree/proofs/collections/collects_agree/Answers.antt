@@ -15,6 +15,6 @@ block_on_both-requires-clause-alike g c = (
 pub returns : goal.returns
 returns g c =
     let found = finished_taking_none (g.met.S.SteadyStream.steady.found c.requires.found)
-    (part_within (λ f. f.collection) (collect_within (λ v l. v.items ≡ l))) in
+    (part_within (λ f. f.collection) (collect_within _ (λ v l. v.items ≡ l))) in
     both_found _ _ c.collect.result c.collect-2.result found
     (gathered_as (same_items g.S.SteadyStream.same (λ v. v.items))) c.block_on_both.result c.block_on_both.ensures

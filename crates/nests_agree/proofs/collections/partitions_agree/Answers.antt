@@ -25,6 +25,6 @@ block_on_both-requires-clause-alike g c = (
 pub returns : goal.returns
 returns g c =
     let found = finished_taking_none (g.met.S.SteadyStream.steady.found c.requires.found)
-    (part_within (λ f. (f.predicate, f.res)) (partition_within (λ v l. v.items ≡ l) _)) in
+    (part_within (λ f. (f.predicate, f.res)) (partition_within _ (λ v l. v.items ≡ l) _)) in
     both_found _ _ c.partition-sorted.result c.partition.result found
     (gathered_as (both_items g.S.SteadyStream.same (λ v. v.items))) c.block_on_both.result c.block_on_both.ensures

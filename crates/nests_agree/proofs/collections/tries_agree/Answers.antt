@@ -18,7 +18,7 @@ block_on_both-requires-clause-alike g c =
 pub returns : goal.returns
 returns g c =
     let found = finished_taking_none (g.met.S.SteadyStream.steady.found c.requires.found)
-    (part_within (λ f. f.items) (try_collect_within (λ v l. v.items ≡ l))) in
+    (part_within (λ f. f.items) (try_collect_within _ (λ v l. v.items ≡ l))) in
     both_found _ _ c.try_collect-tried.result c.try_collect.result found
     (try_gathered_as
     (same_items (SameOk g.S.SteadyStream.same) (λ v. v.items)) _) c.block_on_both.result c.block_on_both.ensures

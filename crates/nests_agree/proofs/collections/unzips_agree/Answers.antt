@@ -17,5 +17,5 @@ block_on_both-requires-clause-alike g c =
 pub returns : goal.returns
 returns g c =
     let found = finished_taking_none (g.met.S.SteadyStream.steady.found c.requires.found)
-    (part_within (λ f. f.res) (unzip_within (λ v l. v.items ≡ l) (λ v l. v.items ≡ l))) in
+    (part_within (λ f. f.res) (unzip_within _ _ (λ v l. v.items ≡ l) (λ v l. v.items ≡ l))) in
     both_found _ _ c.unzip.result c.unzip-2.result found (λ v w h. h) c.block_on_both.result c.block_on_both.ensures

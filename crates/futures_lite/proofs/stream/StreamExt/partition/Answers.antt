@@ -1,16 +1,17 @@
 use Rattle.std.proofs.Common.{refl}
 use Rattle.std.specs.Fn.{CalledAt}
+use Rattle.lite_gather.specs.Gathering.{LacksRoom}
 use Rattle.lite_views.proofs.Consuming.{accepted_made, others_made, value_made}
 use Rattle.futures_lite.proofs.stream.StreamExt.partition.Goals as goal
 
 pub returns-clause-accepted : goal.returns-clause-accepted
 returns-clause-accepted g c test xs lists acts =
     let e = c.partition.ensures in
-    let made = accepted_made g.B.Gather.holds (CalledAt g.P.FnMut) _ test acts in
+    let made = accepted_made (LacksRoom g.B.Gather.has_room) g.B.Gather.holds (CalledAt g.P.FnMut) _ test acts in
     (refl, value_made _ _ _ xs _ (rw e.stream lists) (made _ xs e.predicate e.empty))
 
 pub returns-clause-others : goal.returns-clause-others
 returns-clause-others g c rest xs lists acts =
     let e = c.partition.ensures in
-    let made = others_made g.B.Gather.holds (CalledAt g.P.FnMut) _ rest acts in
+    let made = others_made (LacksRoom g.B.Gather.has_room) g.B.Gather.holds (CalledAt g.P.FnMut) _ rest acts in
     (refl, value_made _ _ _ xs _ (rw e.stream lists) (made _ xs e.predicate e.empty))

@@ -1,8 +1,10 @@
+use Rattle.lite_gather.specs.Gathering.{LacksRoom}
 use Rattle.lite_views.proofs.Consuming.{unzip_made, value_made}
 use Rattle.lite_views.proofs.Views.{seen}
 use Rattle.futures_lite.proofs.stream.StreamExt.unzip.Goals as goal
 
 pub returns-clause-value : goal.returns-clause-value
 returns-clause-value g c xs lists =
-    let made = unzip_made g.FromA.Gather.holds g.FromB.Gather.holds _ xs c.unzip.ensures.empty in
+    let made = unzip_made (LacksRoom g.FromA.Gather.has_room) (LacksRoom g.FromB.Gather.has_room) g.FromA.Gather.holds
+    g.FromB.Gather.holds _ xs c.unzip.ensures.empty in
     (seen _ _, value_made _ _ _ xs _ (rw c.unzip.ensures.stream lists) made)

@@ -17,7 +17,6 @@ returns g c =
     let out = c.unwrap-collected in
     let collected : out.result ≡ (c.take_one-taken.new.accepted, c.take_one-taken.new.rejected) =
     cc (c.take.ensures.value, out.ensures) in (
-      tt,
       c.predicate-is_accepted.result,
       (c.in-Some.accepted, c.in-Some.rejected),
       out.result,

@@ -17,7 +17,6 @@ returns g c =
     let out = c.unwrap-collected in
     let collected : out.result ≡ (c.take_both-taken.new.left, c.take_both-taken.new.right) =
     cc (c.take.ensures.value, out.ensures) in (
-      tt,
       (c.in-Some.left, c.in-Some.right),
       c.with.result,
       c.in-Some.is,
