@@ -1,4 +1,4 @@
-ghost use Rattle.std.specs.Prelude.{⊤, ◌≡◌, ◌≤◌, ◌<◌, ◌++◌, ◌+◌, [], ◌∷◌, None, length, take, IfErr, IfOk};
+ghost use Rattle.std.specs.Prelude.{⊤, ◌≡◌, ◌≤◌, ◌<◌, ◌++◌, ◌+◌, [], ◌∷◌, None, length, take, vec_capacity, IfErr, IfOk};
 ghost use Rattle.std.specs.Char.{is_ascii};
 ghost use Rattle.std.specs.IoError.{error_kind};
 ghost use Rattle.std.specs.List.{list_all};
@@ -44,6 +44,7 @@ impl<R: AsyncBufRead> Lines<R> {
         ensures taken { IfOk result
             (λ u. R.reads self.old.reader (bytes (take (at + 1) (R.lent self.old.reader))) self.new.reader) }
         ensures refused { IfErr result (λ e. error_kind e ≡ OutOfMemory) }
+        ensures full { IfErr result (λ e. vec_capacity self.old.held.bytes < length self.old.held.bytes.items + at) }
         ensures unread { IfErr result (λ e. self.new.reader ≡ self.old.reader) }
         ensures held { IfErr result (λ e. self.new.held.bytes.items ≡ self.old.held.bytes.items) }
     {
@@ -60,6 +61,9 @@ impl<R: AsyncBufRead> Lines<R> {
             (λ u. self.new.held.bytes.items ≡ self.old.held.bytes.items ++ R.lent self.old.reader) }
         ensures taken { IfOk result (λ u. R.reads self.old.reader (bytes (R.lent self.old.reader)) self.new.reader) }
         ensures refused { IfErr result (λ e. error_kind e ≡ OutOfMemory) }
+        ensures full { IfErr result (λ e. vec_capacity self.old.held.bytes
+            < length self.old.held.bytes.items + length (R.lent self.old.reader)) }
+        ensures room { vec_capacity self.old.held.bytes ≤ vec_capacity self.new.held.bytes }
         ensures unread { IfErr result (λ e. self.new.reader ≡ self.old.reader) }
         ensures held { IfErr result (λ e. self.new.held.bytes.items ≡ self.old.held.bytes.items) }
     {

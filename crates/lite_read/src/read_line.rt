@@ -7,7 +7,7 @@ ghost use Rattle.lite_base.specs.Chain.{OneStep};
 ghost use Rattle.lite_base.specs.Laws.Ends.{Terminates-map};
 ghost use Rattle.lite_io_base.specs.Marks.{bytes};
 ghost use Rattle.lite_read.specs.Laws.PollSteps.{takes_given};
-ghost use Rattle.lite_read.specs.Holding.{TextStays};
+ghost use Rattle.lite_read.specs.Holding.{TextStays, room_for};
 ghost use Rattle.lite_read.specs.Laws.Texts.{text_laws};
 ghost use Rattle.lite_read.specs.ReadLine.{LineHolds, ReadsLine, line_over, read_line_fold};
 ghost use Rattle.lite_read.specs.Texts.{FinishesText};
@@ -56,6 +56,9 @@ impl<R: AsyncBufRead, A: Allocator + Copy> ReadLineFuture<'_, R, A> {
             (λ u. R.reads self.old.reader.now
             (bytes (take amount (R.lent self.old.reader.now))) self.new.reader.now) }
         ensures refused { IfErr result (λ e. error_kind e ≡ OutOfMemory) }
+        ensures full { IfErr result (λ e. room_for self.old.text.now self.old.bytes
+            < length self.old.bytes.items + amount) }
+        ensures room { room_for self.old.text.now self.old.bytes ≤ room_for self.new.text.now self.new.bytes }
         ensures unread { IfErr result (λ e. self.new.reader.now ≡ self.old.reader.now) }
         ensures kept { IfErr result (λ e. self.new.bytes.items ≡ self.old.bytes.items) }
     {

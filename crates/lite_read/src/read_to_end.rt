@@ -1,4 +1,4 @@
-ghost use Rattle.std.specs.Prelude.{◌≡◌, ◌≤◌, ◌<◌, length, ⊤, OnOk};
+ghost use Rattle.std.specs.Prelude.{◌≡◌, ◌≤◌, ◌<◌, ◌+◌, max, length, vec_capacity, ⊤, OnErr, OnOk};
 ghost use Rattle.lite_base.specs.Chain.{OneStep};
 ghost use Rattle.lite_read.specs.Appending.{CanAppend, read_front};
 ghost use Rattle.lite_read.specs.Laws.ReadToEnd.{append_laws, some_falls, steps_on};
@@ -39,6 +39,8 @@ impl<R, A: Allocator> ReadToEndFuture<'_, R, A> {
         ensures front { read_front self.new ≡ read_front self.old }
         ensures room { OnOk result (self.new.filled < length self.new.buf.now.items) }
         ensures within { self.new.filled ≤ length self.new.buf.now.items }
+        ensures full { OnErr result (vec_capacity self.old.buf.now < self.old.filled + max 32 self.old.room) }
+        ensures grows { vec_capacity self.old.buf.now ≤ vec_capacity self.new.buf.now }
     {
         if self.filled < self.buf.len() {
             return Ok(());

@@ -1,9 +1,9 @@
-ghost use Rattle.std.specs.Prelude.{⊤, ◌≡◌, ◌≤◌, ◌<◌, length, take, OnErr, OnOk, string_bytes};
+ghost use Rattle.std.specs.Prelude.{⊤, ◌≡◌, ◌≤◌, ◌<◌, ◌+◌, max, length, take, OnErr, OnOk, string_bytes};
 ghost use Rattle.lite_base.specs.Chain.{OneStep};
 ghost use Rattle.lite_base.specs.Laws.Ends.{Terminates-map};
 ghost use Rattle.lite_io_base.specs.Marks.{bytes};
 ghost use Rattle.lite_read.specs.Laws.PollSteps.{takes_given};
-ghost use Rattle.lite_read.specs.Holding.{TextStays};
+ghost use Rattle.lite_read.specs.Holding.{TextStays, room_for};
 ghost use Rattle.lite_read.specs.Laws.Texts.{text_laws};
 ghost use Rattle.lite_read.specs.ReadToString.{ReadsToString, StringHolds, all_over, read_to_string_fold, text_front};
 ghost use Rattle.lite_read.specs.Texts.{FinishesText};
@@ -48,6 +48,8 @@ impl<R, A: Allocator + Copy> ReadToStringFuture<'_, R, A> {
         ensures text { string_bytes self.new.text.now ≡ string_bytes self.old.text.now }
         ensures front { text_front self.new ≡ text_front self.old }
         ensures room { OnOk result (self.new.filled < length self.new.bytes.items) }
+        ensures full { OnErr result (room_for self.old.text.now self.old.bytes < self.old.filled + max 32 self.old.room) }
+        ensures grows { room_for self.old.text.now self.old.bytes ≤ room_for self.new.text.now self.new.bytes }
     {
         if self.filled < self.bytes.len() {
             return Ok(());

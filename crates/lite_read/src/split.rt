@@ -1,4 +1,4 @@
-ghost use Rattle.std.specs.Prelude.{⊤, ◌≡◌, ◌≤◌, ◌<◌, ◌++◌, ◌+◌, Option, None, [], ◌∷◌, length, take, IfErr, IfOk};
+ghost use Rattle.std.specs.Prelude.{⊤, ◌≡◌, ◌≤◌, ◌<◌, ◌++◌, ◌+◌, Option, None, [], ◌∷◌, length, take, vec_capacity, IfErr, IfOk};
 ghost use Rattle.std.specs.IoError.{error_kind};
 ghost use Rattle.std.specs.declared.io.ErrorKind.TheVariants.{OutOfMemory};
 ghost use Rattle.lite_base.specs.Chain.{OneStep};
@@ -41,6 +41,7 @@ impl<R: AsyncBufRead> Split<R> {
         ensures err { IfErr result
             (λ e. (error_kind e ≡ OutOfMemory) × (self.new.reader ≡ self.old.reader)
             × (self.new.held.items ≡ self.old.held.items)) }
+        ensures full { IfErr result (λ e. vec_capacity self.old.held < length self.old.held.items + at) }
         ensures byte { self.new.byte ≡ self.old.byte }
     {
         self.held.reserve_exact(at)?;
@@ -54,6 +55,9 @@ impl<R: AsyncBufRead> Split<R> {
         ensures ok { IfOk result (λ u. self.new.held.items ≡ self.old.held.items ++ R.lent self.old.reader) }
         ensures taken { IfOk result (λ u. R.reads self.old.reader (bytes (R.lent self.old.reader)) self.new.reader) }
         ensures refused { IfErr result (λ e. error_kind e ≡ OutOfMemory) }
+        ensures full { IfErr result (λ e. vec_capacity self.old.held
+            < length self.old.held.items + length (R.lent self.old.reader)) }
+        ensures room { vec_capacity self.old.held ≤ vec_capacity self.new.held }
         ensures unread { IfErr result (λ e. self.new.reader ≡ self.old.reader) }
         ensures held { IfErr result (λ e. self.new.held.items ≡ self.old.held.items) }
         ensures byte { self.new.byte ≡ self.old.byte }
