@@ -21,12 +21,13 @@ room_for text bytes =
     (if vec_len bytes == 0 then max (string_capacity text) (vec_capacity bytes) else vec_capacity bytes)
     else min (string_capacity text - string_len text) (vec_capacity bytes)
 
--- a future of the type X that reads for a text: its reader, its text, what it has read, and what is true of it before
--- each poll
+-- a future of the type X that reads for a text: its reader, its text, what it has read, how a step that goes on leaves
+-- its memory, and what is true of it before each poll
 pub record TextOver (X R A : Type 0) : Type 1 where
   pub reader : X → MutBor R
   pub text : X → MutBor (String A)
   pub read : X → List ℕ
+  pub grows : X → X → Type 0
   pub holds : X → Type 0
 
 -- both references of a future that reads for a text stay

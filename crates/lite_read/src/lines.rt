@@ -9,7 +9,9 @@ ghost use Rattle.lite_base.specs.Runs.{NoHint};
 ghost use Rattle.lite_io_base.specs.Marks.{bytes};
 ghost use Rattle.lite_read.specs.Laws.PollSteps.{takes_given};
 ghost use Rattle.lite_read.specs.Laws.Segments.{flow_laws};
-ghost use Rattle.lite_read.specs.Lines.{GivesLines, lines_over, lining};
+ghost use Rattle.lite_read.specs.Lines.{GivesLines, LineLacksRoom, lines_over, lining};
+ghost use Rattle.futures.specs.Task.{Keeps};
+ghost use Rattle.lite_base.specs.Registered.{Registered};
 ghost use Rattle.lite_read.specs.PieceSteps.{TakesPieceIn};
 
 use crate::find::find_line;
@@ -80,7 +82,8 @@ impl<R: AsyncBufRead + CountedRead> PollSteps for Lines<R> {
 
     ghost can_step = { λ x. R.ranks.counts x.reader };
 
-    ghost step = { OneStep (TakesPieceIn lines_over (lining ⊤) R.reads) (λ x a y. GivesLines R.reads ⊤ x (a ∷ []) y) };
+    ghost step = { OneStep (TakesPieceIn lines_over (lining ⊤) R.reads)
+        (λ x a y. GivesLines R.reads (LineLacksRoom R.lent x y) x (a ∷ []) y) };
 
     ghost step_registers = { λ x. R.registers x.reader };
 
@@ -122,7 +125,16 @@ impl<R: AsyncBufRead + CountedRead> Stream for Lines<R> {
 
     ghost laws = { flow_laws lines_over (lining ⊤) R.read_laws };
 
-    fn poll_next(&mut self, cx: &mut Context<'_>) -> Poll<Option<io::Result<String>>> {
+    fn poll_next(&mut self, cx: &mut Context<'_>) -> Poll<Option<io::Result<String>>>
+        requires { R.ranks.counts self.old.reader }
+        ensures ran { GivesLines R.reads ⊤ self.old (result ∷ []) self.new }
+        ensures again { R.ranks.counts self.new.reader }
+        ensures left { Registered result (R.registers self.new.reader) cx.new }
+        ensures kept { Keeps cx.old cx.new }
+
+        // Memory is refused only if the buffer had no room for the bytes of the line that are there.
+        ensures full { GivesLines R.reads (LineLacksRoom R.lent self.old self.new) self.old (result ∷ []) self.new }
+    {
         drive(self, cx)
     }
 

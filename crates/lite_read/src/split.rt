@@ -8,7 +8,9 @@ ghost use Rattle.lite_io_base.specs.Marks.{bytes};
 ghost use Rattle.lite_read.specs.Laws.PollSteps.{takes_given};
 ghost use Rattle.lite_read.specs.Laws.Segments.{flow_laws};
 ghost use Rattle.lite_read.specs.Pieces.{AtEnd};
-ghost use Rattle.lite_read.specs.Split.{IsVec, Splits, split_over, splitting};
+ghost use Rattle.lite_read.specs.Split.{IsVec, PieceLacksRoom, Splits, split_over, splitting};
+ghost use Rattle.futures.specs.Task.{Keeps};
+ghost use Rattle.lite_base.specs.Registered.{Registered};
 ghost use Rattle.lite_read.specs.PieceSteps.{TakesPieceIn};
 
 use crate::find::find_byte;
@@ -89,7 +91,8 @@ impl<R: AsyncBufRead + CountedRead> PollSteps for Split<R> {
 
     ghost can_step = { λ x. R.ranks.counts x.reader };
 
-    ghost step = { OneStep (TakesPieceIn split_over (splitting ⊤) R.reads) (λ x a y. Splits R.reads ⊤ x (a ∷ []) y) };
+    ghost step = { OneStep (TakesPieceIn split_over (splitting ⊤) R.reads)
+        (λ x a y. Splits R.reads (PieceLacksRoom R.lent x y) x (a ∷ []) y) };
 
     ghost step_registers = { λ x. R.registers x.reader };
 
@@ -128,7 +131,16 @@ impl<R: AsyncBufRead + CountedRead> Stream for Split<R> {
 
     ghost laws = { flow_laws split_over (splitting ⊤) R.read_laws };
 
-    fn poll_next(&mut self, cx: &mut Context<'_>) -> Poll<Option<io::Result<Vec<u8>>>> {
+    fn poll_next(&mut self, cx: &mut Context<'_>) -> Poll<Option<io::Result<Vec<u8>>>>
+        requires { R.ranks.counts self.old.reader }
+        ensures ran { Splits R.reads ⊤ self.old (result ∷ []) self.new }
+        ensures again { R.ranks.counts self.new.reader }
+        ensures left { Registered result (R.registers self.new.reader) cx.new }
+        ensures kept { Keeps cx.old cx.new }
+
+        // Memory is refused only if the buffer had no room for the bytes of the piece that are there.
+        ensures full { Splits R.reads (PieceLacksRoom R.lent self.old self.new) self.old (result ∷ []) self.new }
+    {
         drive(self, cx)
     }
 
