@@ -28,16 +28,16 @@ module _ {A : Type 0} (whole final : List ℕ → Result A Error → Type 0) whe
     cuts_found _ v none c made = c
 
   answer_found : (byte : ℕ) (p q : List ℕ) (marks : List ReadMark) (a : Answer (Result A Error)) → NotRefused a
-      → AnswerMarks (pieces byte ⊤ (Itemised whole final)) p marks a q
-      → AnswerMarks (pieces byte ⊥ (Itemised whole final)) p marks a q
+      → AnswerMarks (pieces byte (λ held. ⊤) (Itemised whole final)) p marks a q
+      → AnswerMarks (pieces byte (λ held. ⊥) (Itemised whole final)) p marks a q
   answer_found byte p q marks Pending none h = segment_gives p q q marks Pending Pending (λ m last g. g) h
   answer_found byte p q marks (Ready v) none h =
       segment_gives p q q marks _ _ (λ m last g. (g.0, cuts_found byte m q last g.0 v none g.1 g.2, g.2)) h
 
   module _ {X S K : Type 0} (over : StreamOver X S (List ℕ) K) (byte : K → ℕ) {reads ample : Runs ReadMark S} where
     flow_found : TakesNone reads ample → (x y : X) (out : List (Answer (Result A Error))) → NoneRefused out
-        → Flows over (λ k. pieces (byte k) ⊤ (Itemised whole final)) reads x out y
-        → Flows over (λ k. pieces (byte k) ⊥ (Itemised whole final)) ample x out y
+        → Flows over (λ k. pieces (byte k) (λ held. ⊤) (Itemised whole final)) reads x out y
+        → Flows over (λ k. pieces (byte k) (λ held. ⊥) (Itemised whole final)) ample x out y
     flow_found all x y out none h =
         let s = h.segmented in
         let came = all _ _ s.marks s.came in

@@ -2,6 +2,7 @@
 use Rattle.std.proofs.Common.{◌≡◌, ◌∙◌, ◌≤◌, ◌<◌, ◌+◌, ◌-◌, ℕ, List, [], ◌∷◌, length, take, Result, Err}
 use Rattle.std.proofs.Common.{refl, ap, sym, subst, arith, length-take-le}
 use Rattle.std.proofs.Math.Seq.{take-length}
+use Rattle.std.specs.Prelude.{⊤, ◌*◌, max, vec_capacity}
 use Rattle.std.specs.IoError.{error_kind}
 use Rattle.std.specs.declared.io.Error.{Error}
 use Rattle.std.specs.declared.io.ErrorKind.TheVariants.{OutOfMemory}
@@ -21,9 +22,12 @@ use Rattle.lite_io_base.specs.Marks.{ReadMark, bytes, moved}
 use Rattle.lite_io_base.specs.Runs.{MarkLaws}
 use Rattle.lite_read.proofs.Filling.{Behind, bytes_came, how_long, put_front, put_kept, put_len}
 use Rattle.lite_read.specs.ReadFold.{AnswerMarks, LastMarks}
-use Rattle.lite_read.specs.Appending.{read_front}
-use Rattle.lite_read.specs.Laws.ReadToEnd.{appends_all, grown}
-use Rattle.lite_read.specs.ReadToEnd.{ReadsToEnd, appends}
+use Rattle.lite_base.specs.Chain.{Reaches}
+use Rattle.lite_read.specs.Laws.PollSteps.{steps_answer}
+use Rattle.lite_read.proofs.Refusals.{appends_weaker, gathers_weaker, takes_alike}
+use Rattle.lite_read.specs.Appending.{ToEndGrows, read_front}
+use Rattle.lite_read.specs.Laws.ReadToEnd.{appends_all, grown, step_before}
+use Rattle.lite_read.specs.ReadToEnd.{ReadsToEnd, ToEndLacksRoom, appends}
 use Rattle.lite_read.specs.PollSteps.{AnswersUntrimmed, ReadsSome}
 use Rattle.lite_read.specs.declared.read_to_end.ReadToEndFuture.{ReadToEndFuture}
 
@@ -103,10 +107,13 @@ module _ {R A : Type 0} (m : Type 0) (reads : Runs ReadMark R) where
       → w ≡ record x { buf = record x.buf { now = w.buf.now } } → read_front w ≡ read_front x
       → w.filled ≤ length w.buf.now.items → old ≡ w.buf.now.items
       → Behind w.filled old new → n ≤ length new → 0 < n → reads w.reader.now (moved new (take n new)) r
+      → vec_capacity x.buf.now ≤ vec_capacity w.buf.now → room ≤ max w.room (2 * n)
       → ReadsSome m reads x (after_read w r (put_mid w.filled (length old - w.filled) old new) (w.filled + n) room)
-  read_some x w r old new n room same front_is within is long most some came =
+  read_some x w r old new n room same front_is within is long most some came grows asked =
       let v = with_items w.buf.now (put_mid w.filled _ old new) in
       let reader : w.reader ≡ x.reader = ap (λ (u : ReadToEndFuture R A). u.reader) same in
+      let filled : w.filled ≡ x.filled = ap (λ (u : ReadToEndFuture R A). u.filled) same in
+      let before : w.room ≡ x.room = ap (λ (u : ReadToEndFuture R A). u.room) same in
       let all = bytes_came reads w.reader.now r new n most some came in
       let more = put_front w.buf.now old new w.filled within is long n most in
       let whole = put_len w.buf.now old new w.filled within is long in
@@ -122,6 +129,11 @@ module _ {R A : Type 0} (m : Type 0) (reads : Runs ReadMark R) where
             start = ap (λ (u : ReadToEndFuture R A). u.start) same;
           },
           omega (arith, whole, ap length is, how_long w.filled old new long, most, within),
+          record {
+            filled = omega (arith, filled);
+            capacity = grows;
+            room = omega (arith, filled, before, asked);
+          },
         );
       }
 
@@ -154,3 +166,27 @@ module _ {R A : Type 0} (m : Type 0) (reads : Runs ReadMark R) where
         };
         idle = λ e. absurd (cc e);
       }
+
+module _ {R A : Type 0} where
+  -- where there was no room after a step that goes on there was none before
+  lacks_sooner : (x y z : ReadToEndFuture R A) → ToEndGrows x y → ToEndLacksRoom y.filled y z
+      → ToEndLacksRoom x.filled x z
+  lacks_sooner x y z h full = (
+    full.0 + (y.filled - x.filled),
+    omega (arith, h.filled, full.1),
+    omega (arith, h.filled, h.capacity, h.room, full.1, full.2),
+  )
+
+  -- an answer after some steps
+  pub to_end_full : {reads : Runs ReadMark R} → MarkLaws reads
+      → {x z : ReadToEndFuture R A} {a : Poll (Result ℕ Error)}
+      → (y : ReadToEndFuture R A) × Reaches (ReadsSome ⊤ reads) x y
+      × AnswersUntrimmed (ToEndLacksRoom y.filled y z) reads y a z
+      → AnswersUntrimmed (ToEndLacksRoom x.filled x z) reads x a z
+  to_end_full {reads} laws =
+      steps_answer {answers = λ x a z. AnswersUntrimmed (ToEndLacksRoom x.filled x z) reads x a z} (λ x y z a t h.
+      let m = ToEndLacksRoom y.filled y z in
+      let n = ToEndLacksRoom x.filled x z in
+      step_before n laws x y z a (takes_alike (λ v p q b h. h) x y t)
+      (gathers_weaker (λ v. appends_weaker v.start (λ g. m) (λ g. n) (λ g. lacks_sooner x y z t.stays.2))
+      y z (a ∷ []) h))

@@ -55,7 +55,7 @@ pub fill_then : {S : Type 0} {reads : Runs ReadMark S} → MarkLaws reads
 fill_then laws [] some fills took = absurd (omega (arith, some))
 fill_then laws {a} {b} {c} (x ∷ shown) {l} some fills took = laws.follows a b c [] l fills took
 
-module _ {R : Type 0} (byte : ℕ) (may_refuse : Type 0) (becomes : Cut → List ℕ → R → List ℕ → Type 0) where
+module _ {R : Type 0} (byte : ℕ) (may_refuse : List ℕ → Type 0) (becomes : Cut → List ℕ → R → List ℕ → Type 0) where
   -- bytes before the delimiter are held
   takes_each : (held xs : List ℕ) → AllByRecursion (λ b. b ≢ byte) xs
       → FoldsTo (pieces byte may_refuse becomes).takes held xs (held ++ xs)
@@ -73,7 +73,7 @@ module _ {R : Type 0} (byte : ℕ) (may_refuse : Type 0) (becomes : Cut → List
 
   -- a cut of what is held
   pub concludes_at : (held : List ℕ) (last : List ReadMark) (cut : Cut) (r : R) (after : List ℕ)
-      → CutsPiece byte may_refuse held last cut → becomes cut held r after
+      → CutsPiece byte (may_refuse held) held last cut → becomes cut held r after
       → AnswerMarks (pieces byte may_refuse becomes) held last (Ready r) after
   concludes_at held last cut r after is becomes_so =
       segment_alone held after last _ (cut, is, becomes_so)

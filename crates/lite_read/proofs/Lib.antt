@@ -1,5 +1,7 @@
 mod Items
+mod Lacking
 mod ReadLine
+mod Refusals
 mod Strings
 mod TextSteps
 mod Until

@@ -3,7 +3,7 @@ use Rattle.std.proofs.Common.{◌≡◌, ◌<◌, ◌+◌, ℕ, List, [], ◌++�
 use Rattle.std.proofs.Common.{take, refl, sym, subst, arith}
 use Rattle.std.specs.IoError.{error_kind}
 use Rattle.std.specs.List.{FoldsTo}
-use Rattle.std.specs.Prelude.{⊤, string_bytes}
+use Rattle.std.specs.Prelude.{string_bytes}
 use Rattle.std.specs.declared.io.Error.{Error}
 use Rattle.std.specs.declared.io.ErrorKind.TheVariants.{OutOfMemory}
 use Rattle.memchr.specs.Find.{IsFirstByte, is_byte}
@@ -18,7 +18,8 @@ use Rattle.lite_read.specs.ReadLine.{LineHolds, line_over, read_line_fold}
 use Rattle.lite_read.specs.Texts.{FinishesText}
 use Rattle.lite_read.specs.TextSteps.{AnswersText, TakesTextIn}
 use Rattle.lite_read.specs.declared.read_line.ReadLineFuture.{ReadLineFuture}
-use Rattle.lite_read.proofs.TextSteps.{text_finished}
+use Rattle.lite_read.proofs.Refusals.{pieces_weaker}
+use Rattle.lite_read.proofs.TextSteps.{ReadsAlike, text_finished}
 use Rattle.lite_read.proofs.Until.{cut_off, refused}
 use Rattle.lite_base.specs.Runs.{Runs}
 
@@ -26,12 +27,13 @@ use Rattle.lite_base.specs.Runs.{Runs}
 abbrev pub after_fill : {R A : Type 0} → ReadLineFuture R A → R → ReadLineFuture R A
 after_fill x r = record { reader = record x.reader { now = r }; text = x.text; bytes = x.bytes; ascii = x.ascii }
 
-module _ {R A : Type 0} {reads : Runs ReadMark R} (laws : MarkLaws reads) (x : ReadLineFuture R A) (mid : R) where
+module _ {R A : Type 0} (m : List ℕ → Type 0) {reads : Runs ReadMark R} (laws : MarkLaws reads)
+    (x : ReadLineFuture R A) (mid : R) where
   -- the fill tells how reading ended
   pub filled_last : {y : ReadLineFuture R A} {marks : List ReadMark} {v r : Result ℕ Error}
       → FinishesText line_over (after_fill x mid) v r y
-      → AnswerMarks (read_line_fold ⊤) x.bytes.items marks (Ready v) x.bytes.items → reads x.reader.now marks mid
-      → AnswersText line_over (read_line_fold ⊤) reads x (Ready r) y
+      → AnswerMarks (read_line_fold m) x.bytes.items marks (Ready v) x.bytes.items → reads x.reader.now marks mid
+      → AnswersText line_over (read_line_fold m) reads x (Ready r) y
   filled_last f h came =
       text_finished line_over _ reads x (after_fill x mid) _ (record { reader = refl; text = refl }) refl f h came
 
@@ -46,35 +48,43 @@ module _ {R A : Type 0} {reads : Runs ReadMark R} (laws : MarkLaws reads) (x : R
       pub line_cut : (k : ℕ) → v ≡ Ok (length w.bytes.items) → IsFirstByte (is_byte 10) shown (Some k)
           → w.bytes.items ≡ x.bytes.items ++ take (k + 1) shown
           → reads mid (bytes (take (k + 1) shown)) w.reader.now
-          → AnswersText line_over (read_line_fold ⊤) reads x (Ready r) y
+          → AnswersText line_over (read_line_fold m) reads x (Ready r) y
       line_cut k is first more took =
           let came = fill_then laws shown (omega (arith, (found_at 10 shown k first).0)) fills took in
           let h = cut_off 10 x.bytes.items shown w.bytes.items k _ first more refl in
           text_finished line_over _ reads x w y from text f
-          (subst (λ u. AnswerMarks (read_line_fold ⊤) x.bytes.items (bytes (take (k + 1) shown)) (Ready u)
+          (subst (λ u. AnswerMarks (read_line_fold m) x.bytes.items (bytes (take (k + 1) shown)) (Ready u)
           w.bytes.items) (sym is) h) came
 
       -- there was no memory
       pub line_refused : (e : Error) → v ≡ Err e → error_kind e ≡ OutOfMemory → 0 < length shown → w.reader.now ≡ mid
-          → w.bytes.items ≡ x.bytes.items
-          → AnswersText line_over (read_line_fold ⊤) reads x (Ready r) y
-      line_refused e is kind some unread kept =
+          → w.bytes.items ≡ x.bytes.items → m x.bytes.items
+          → AnswersText line_over (read_line_fold m) reads x (Ready r) y
+      line_refused e is kind some unread kept full =
           let came = fill_then laws shown some fills (rw unread (laws.rests mid)) in
-          let h = subst (λ u. AnswerMarks (read_line_fold ⊤) x.bytes.items [] (Ready u) x.bytes.items) (sym is)
-          (refused 10 _ _ e kind refl) in
+          let h = subst (λ u. AnswerMarks (read_line_fold m) x.bytes.items [] (Ready u) x.bytes.items) (sym is)
+          (refused 10 _ _ e kind full refl) in
           text_finished line_over _ reads x w y from text f
-          (subst (λ l. AnswerMarks (read_line_fold ⊤) x.bytes.items [] (Ready v) l) (sym kept) h) came
+          (subst (λ l. AnswerMarks (read_line_fold m) x.bytes.items [] (Ready v) l) (sym kept) h) came
 
     -- all was taken in
     pub line_more : IsFirstByte (is_byte 10) shown None → 0 < length shown → w.bytes.items ≡ x.bytes.items ++ shown
         → reads mid (bytes shown) w.reader.now → LineHolds w
-        → TakesTextIn line_over (read_line_fold ⊤) reads x w
-    line_more first some more took holds =
-        let all = takes_all 10 ⊤ (CountsPiece 10) x.bytes.items shown (found_none 10 shown first) in
+        → line_over.grows x w → TakesTextIn line_over (read_line_fold m) reads x w
+    line_more first some more took holds grows =
+        let all = takes_all 10 m (CountsPiece 10) x.bytes.items shown (found_none 10 shown first) in
         record {
           taken = shown;
           some = some;
           came = fill_then laws shown some fills took;
-          folds = subst (λ l. FoldsTo (read_line_fold ⊤).takes x.bytes.items shown l) (sym more) all;
-          stays = (from, text, holds);
+          folds = subst (λ l. FoldsTo (read_line_fold m).takes x.bytes.items shown l) (sym more) all;
+          stays = (from, text, holds, grows);
         }
+
+-- it reads in one way, whatever memory may be refused
+pub line_alike : ReadsAlike read_line_fold
+line_alike =
+    record {
+      weaker = λ m n more. pieces_weaker 10 m n (CountsPiece 10) more;
+      takes = λ m n p q b h. h;
+    }

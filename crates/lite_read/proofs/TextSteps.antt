@@ -1,6 +1,6 @@
 -- Answers of futures that read for a text.
 use Rattle.std.proofs.Common.{◌≡◌, ℕ, List, [], ◌∷◌, Result, refl, subst, sym}
-use Rattle.std.specs.Prelude.{string_bytes}
+use Rattle.std.specs.Prelude.{⊤, string_bytes}
 use Rattle.std.specs.declared.io.Error.{Error}
 use denote.MutBor.{MutBor}
 use Rattle.futures.specs.declared.task.Poll.{Poll}
@@ -12,6 +12,7 @@ use Rattle.lite_io_base.specs.Counting.{ReadCounting}
 use Rattle.lite_io_base.specs.Marks.{ReadMark}
 use Rattle.lite_io_base.specs.Runs.{MarkLaws}
 use Rattle.lite_read.specs.ReadFold.{AnswerMarks, ReadFold}
+use Rattle.lite_read.proofs.Refusals.{Weaker, gathers_weaker, takes_alike, text_weaker}
 use Rattle.lite_read.specs.Holding.{TextOver, TextStays}
 use Rattle.lite_read.specs.Laws.Texts.{folds_in, stays_join, step_before}
 use Rattle.lite_read.specs.Laws.PollSteps.{goes_again, steps_answer}
@@ -82,17 +83,32 @@ module _ {X R A : Type 0} (over : TextOver X R A) (fold : ReadFold (List ℕ) (R
       subst (λ l. AppendsText (over.read w) l (string_bytes (over.text y).now)) text f.gains in
       (text_given over fold reads x y all marks v r _ h f.value into f.empty end, f.holds)
 
-module _ {X R A : Type 0} {over : TextOver X R A} {fold : ReadFold (List ℕ) (Result ℕ Error)} {reads : Runs ReadMark R}
-    (laws : MarkLaws reads) {x z : X} {a : Poll (Result ℕ Error)} where
-  -- an answer after some steps
-  pub text_ran : (y : X) × Reaches (TakesTextIn over fold reads) x y × AnswersText over fold reads y a z
-      → AnswersText over fold reads x a z
-  text_ran = steps_answer (step_before over fold laws)
+-- what is read in one way, whatever memory may be refused
+pub record ReadsAlike (fold : (List ℕ → Type 0) → ReadFold (List ℕ) (Result ℕ Error)) : Type 1 where
+  pub weaker : (m n : List ℕ → Type 0) → ((read : List ℕ) → m read → n read) → Weaker (fold m) (fold n)
+  pub takes : (m n : List ℕ → Type 0) (p q : List ℕ) (b : ℕ) → (fold m).takes p b q → (fold n).takes p b q
 
-  -- after a pending the future can be polled again
-  pub text_on : {r : Ranks R} → ReadCounting reads r → r.counts (over.reader x).now
-      → (y : X) × Reaches (TakesTextIn over fold reads) x y × AnswersText over fold reads y a z
-      → OnPending a (r.counts (over.reader z).now × over.holds z)
-  text_on c k steps =
-      let ran = text_ran steps in
-      goes_again a (c.counts_on _ _ ran.0.folded.marks k ran.0.folded.came, ran.1)
+module _ {X R A : Type 0} {over : TextOver X R A} {fold : (List ℕ → Type 0) → ReadFold (List ℕ) (Result ℕ Error)}
+    {reads : Runs ReadMark R} where
+  pub text_weaker_run : ReadsAlike fold → (m n : List ℕ → Type 0) → ((read : List ℕ) → m read → n read) → (x y : X)
+      (l : List (Poll (Result ℕ Error))) → ReadsText over (fold m) reads x l y → ReadsText over (fold n) reads x l y
+  text_weaker_run alike m n more =
+      gathers_weaker (λ v. text_weaker (fold m) (fold n) (alike.weaker m n more))
+
+  -- an answer after some steps
+  pub text_full : ReadsAlike fold → MarkLaws reads → (m : X → X → List ℕ → Type 0)
+      → ((x y z : X) → over.grows x y → (read : List ℕ) → m y z read → m x z read)
+      → {x z : X} {a : Poll (Result ℕ Error)}
+      → (y : X) × Reaches (TakesTextIn over (fold (λ read. ⊤)) reads) x y × AnswersText over (fold (m y z)) reads y a z
+      → AnswersText over (fold (m x z)) reads x a z
+  text_full alike laws m sooner =
+      steps_answer {answers = λ x a z. AnswersText over (fold (m x z)) reads x a z} (λ x y z a t h.
+      step_before over (fold (m x z)) laws x y z a (takes_alike (λ v. alike.takes (λ read. ⊤) (m x z)) x y t)
+      (text_weaker_run alike (m y z) (m x z) (sooner x y z t.stays.3) y z (a ∷ []) h.0, h.1))
+
+-- after a pending the future can be polled again
+pub text_on : {X R A : Type 0} (over : TextOver X R A) (fold : ReadFold (List ℕ) (Result ℕ Error))
+    {reads : Runs ReadMark R} {r : Ranks R} → ReadCounting reads r → (x z : X) (a : Poll (Result ℕ Error))
+    → r.counts (over.reader x).now → AnswersText over fold reads x a z
+    → OnPending a (r.counts (over.reader z).now × over.holds z)
+text_on over fold c x z a k ran = goes_again a (c.counts_on _ _ ran.0.folded.marks k ran.0.folded.came, ran.1)

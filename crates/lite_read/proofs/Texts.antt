@@ -1,5 +1,5 @@
 -- Lines of ASCII, and where they end.
-use Rattle.std.proofs.Common.{◌≡◌, ◌∙◌, ◌<◌, ◌≤◌, ◌-◌, ◌&&◌, ℕ, Bool, true, false, cond, ltb, List, ◌++◌, Option, Some}
+use Rattle.std.proofs.Common.{◌≡◌, ◌∙◌, ◌<◌, ◌≤◌, ◌&&◌, ℕ, Bool, true, false, cond, ltb, List, ◌++◌, Option, Some}
 use Rattle.std.proofs.Common.{None, length, take, refl, ap, sym, subst, arith, position, All}
 use Rattle.std.proofs.lemmas.List.Elements.{All-take}
 use Rattle.std.proofs.lemmas.Bool.{ltb-false, ltb-true}

@@ -4,7 +4,7 @@ use Rattle.std.proofs.Common.{Err, length, take, drop, refl, ap, sym, subst, ari
 use Rattle.std.proofs.Common.{length-append}
 use Rattle.std.proofs.lemmas.List.{drop-append-le, length-drop, take-append-le}
 use Rattle.std.specs.IoError.{error_kind}
-use Rattle.std.specs.Prelude.{⊤}
+use Rattle.std.specs.Prelude.{⊤, vec_capacity}
 use Rattle.std.specs.declared.io.Error.{Error}
 use Rattle.std.specs.declared.io.ErrorKind.TheVariants.{OutOfMemory}
 use Rattle.futures.specs.declared.task.Poll.{Poll}
@@ -15,51 +15,56 @@ use Rattle.lite_io_base.specs.Runs.{MarkLaws}
 use Rattle.lite_read.specs.ReadFold.{AnswerMarks}
 use Rattle.lite_read.specs.Pieces.{Cut}
 use Rattle.lite_read.specs.UntilVector.{UntilStays, read_of}
-use Rattle.lite_read.specs.ReadUntil.{CountsPiece, ReadsUntil, until}
+use Rattle.lite_read.specs.ReadUntil.{CountsPiece, ReadsUntil, UntilLacksRoom, until, until_where}
 use Rattle.lite_read.specs.PieceSteps.{AppendsMore}
 use Rattle.lite_read.specs.declared.read_until.ReadUntilFuture.{ReadUntilFuture}
 use Rattle.lite_read.proofs.Cutting.{concludes_at, concludes_piece, fill_then, found_at, found_none, takes_all}
 use Rattle.lite_read.proofs.Cutting.{waits_here}
+use Rattle.lite_base.specs.Chain.{Reaches}
+use Rattle.lite_read.specs.Laws.PollSteps.{steps_answer}
+use Rattle.lite_read.specs.Laws.ReadUntil.{step_before}
+use Rattle.lite_read.proofs.Refusals.{gathers_weaker, pieces_weaker, takes_alike}
 use Rattle.lite_base.specs.Laws.Answers.{up_to_one}
 use Rattle.lite_base.specs.Laws.Segments.{segments_one}
 use Rattle.lite_base.specs.Runs.{Runs}
 
 -- what reading up to a byte gives, at each of its ends
-module _ (byte : ℕ) where
+module _ (byte : ℕ) {m : List ℕ → Type 0} where
   pub failed : (held after : List ℕ) (e : Error) → after ≡ held
-      → AnswerMarks (until byte ⊤) held (ReadMark.fault (error_kind e) ∷ []) (Ready (Err e)) after
+      → AnswerMarks (until_where byte m) held (ReadMark.fault (error_kind e) ∷ []) (Ready (Err e)) after
   failed held after e is =
-      concludes_at byte ⊤ (CountsPiece byte) held _ (Cut.failed e) (Err e) after (inl refl) (is, refl)
+      concludes_at byte m (CountsPiece byte) held _ (Cut.failed e) (Err e) after (inl refl) (is, refl)
 
-  pub refused : (held after : List ℕ) (e : Error) → error_kind e ≡ OutOfMemory → after ≡ held
-      → AnswerMarks (until byte ⊤) held [] (Ready (Err e)) after
-  refused held after e kind is =
-      concludes_at byte ⊤ (CountsPiece byte) held [] (Cut.failed e) _ after (inr (refl, tt, kind)) (is, refl)
+  pub refused : (held after : List ℕ) (e : Error) → error_kind e ≡ OutOfMemory → m held → after ≡ held
+      → AnswerMarks (until_where byte m) held [] (Ready (Err e)) after
+  refused held after e kind full is =
+      concludes_at byte m (CountsPiece byte) held [] (Cut.failed e) _ after (inr (refl, full, kind)) (is, refl)
 
   pub ended : (held after : List ℕ) (n : ℕ) → after ≡ held → n ≡ length held
-      → AnswerMarks (until byte ⊤) held (ReadMark.end ∷ []) (Ready (Ok n)) after
+      → AnswerMarks (until_where byte m) held (ReadMark.end ∷ []) (Ready (Ok n)) after
   ended [] after n is count =
-      concludes_at byte ⊤ (CountsPiece byte) [] _ Cut.nothing _ after (refl, refl)
+      concludes_at byte m (CountsPiece byte) [] _ Cut.nothing _ after (refl, refl)
       (is, ap Ok (count ∙ ap length (sym is)))
   ended (b ∷ held) after n is count =
       let some : 0 < length (b ∷ held) = omega arith in
-      concludes_at byte ⊤ (CountsPiece byte) _ _ (Cut.last _) _ after (refl, some, refl)
+      concludes_at byte m (CountsPiece byte) _ _ (Cut.last _) _ after (refl, some, refl)
       (is, ap Ok (count ∙ ap length (sym is)))
 
   pub cut_off : (held shown all : List ℕ) (k n : ℕ) → IsFirstByte (is_byte byte) shown (Some k)
       → all ≡ held ++ take (k + 1) shown → n ≡ length all
-      → AnswerMarks (until byte ⊤) held (bytes (take (k + 1) shown)) (Ready (Ok n)) all
+      → AnswerMarks (until_where byte m) held (bytes (take (k + 1) shown)) (Ready (Ok n)) all
   cut_off held shown all k n first is count =
       let at = found_at byte shown k first in
       let whole : all ≡ (held ++ take k shown) ++ byte ∷ [] = is ∙ ap (λ l. held ++ l) at.2
       ∙ sym (append_assoc held _ (byte ∷ [])) in
-      let piece = concludes_piece byte ⊤ (CountsPiece byte) held _ _ all at.1 (whole, ap Ok count) in
-      subst (λ l. AnswerMarks (until byte ⊤) held (bytes l) (Ready (Ok n)) all) (sym at.2) piece
+      let piece = concludes_piece byte m (CountsPiece byte) held _ _ all at.1 (whole, ap Ok count) in
+      subst (λ l. AnswerMarks (until_where byte m) held (bytes l) (Ready (Ok n)) all) (sym at.2) piece
 
 module _ {R : Type 0} {reads : Runs ReadMark R} (laws : MarkLaws reads) (x y : ReadUntilFuture R)
     (reader : y.reader ≡ record x.reader { now = y.reader.now })
     (buf : y.buf ≡ record x.buf { now = y.buf.now }) (byte : y.byte ≡ x.byte) (start : y.start ≡ x.start)
-    (within : x.start ≤ length x.buf.now.items) where
+    (within : x.start ≤ length x.buf.now.items)
+    (room : vec_capacity x.buf.now ≤ vec_capacity y.buf.now) where
   -- some bytes were appended
   stays_grown : (xs : List ℕ) → y.buf.now.items ≡ x.buf.now.items ++ xs → UntilStays x y
   stays_grown xs e =
@@ -70,15 +75,16 @@ module _ {R : Type 0} {reads : Runs ReadMark R} (laws : MarkLaws reads) (x y : R
         start = start;
         before = ap (take x.start) e ∙ take-append-le x.start x.buf.now.items xs within;
         grows = omega (arith, ap length e, length-append x.buf.now.items xs);
+        room = room;
       }
 
   read_grown : (xs : List ℕ) → y.buf.now.items ≡ x.buf.now.items ++ xs → read_of y ≡ read_of x ++ xs
   read_grown xs e =
       ap (λ n. drop n y.buf.now.items) start ∙ ap (drop x.start) e ∙ drop-append-le x.start x.buf.now.items xs within
 
-  one : (xs : List ℕ) (marks : List ReadMark) (a : Poll (Result ℕ Error)) → y.buf.now.items ≡ x.buf.now.items ++ xs
+  one : {m : Type 0} (xs : List ℕ) (marks : List ReadMark) (a : Poll (Result ℕ Error)) → y.buf.now.items ≡ x.buf.now.items ++ xs
       → reads x.reader.now marks y.reader.now
-      → AnswerMarks (until x.byte ⊤) (read_of x) marks a (read_of x ++ xs) → ReadsUntil reads ⊤ x (a ∷ []) y
+      → AnswerMarks (until x.byte m) (read_of x) marks a (read_of x ++ xs) → ReadsUntil reads m x (a ∷ []) y
   one xs marks a e came answer =
       record {
         folded = record {
@@ -97,39 +103,39 @@ module _ {R : Type 0} {reads : Runs ReadMark R} (laws : MarkLaws reads) (x y : R
     none_more = same ∙ sym (append-nil x.buf.now.items)
 
     -- a cut that adds nothing
-    cut_here : (last : List ReadMark) (a : Result ℕ Error) → reads x.reader.now last y.reader.now
-        → ((after : List ℕ) → after ≡ read_of x → AnswerMarks (until x.byte ⊤) (read_of x) last (Ready a) after)
-        → ReadsUntil reads ⊤ x (Ready a ∷ []) y
+    cut_here : {m : Type 0} (last : List ReadMark) (a : Result ℕ Error) → reads x.reader.now last y.reader.now
+        → ((after : List ℕ) → after ≡ read_of x → AnswerMarks (until x.byte m) (read_of x) last (Ready a) after)
+        → ReadsUntil reads m x (Ready a ∷ []) y
     cut_here last a came answer =
         one [] last _ none_more came (answer (read_of x ++ []) (append-nil _))
 
-    pub until_waits : reads x.reader.now (ReadMark.pending ∷ []) y.reader.now → ReadsUntil reads ⊤ x (Pending ∷ []) y
-    until_waits came =
+    pub until_waits : {m : Type 0} → reads x.reader.now (ReadMark.pending ∷ []) y.reader.now → ReadsUntil reads m x (Pending ∷ []) y
+    until_waits {m} came =
         one [] (ReadMark.pending ∷ []) Pending none_more came
-        (waits_here x.byte ⊤ (CountsPiece x.byte) _ (read_of x ++ []) (append-nil _))
+        (waits_here x.byte (λ held. m) (CountsPiece x.byte) _ (read_of x ++ []) (append-nil _))
 
-    pub until_fails : (e : Error) → reads x.reader.now (ReadMark.fault (error_kind e) ∷ []) y.reader.now
-        → ReadsUntil reads ⊤ x (Ready (Err e) ∷ []) y
+    pub until_fails : {m : Type 0} (e : Error) → reads x.reader.now (ReadMark.fault (error_kind e) ∷ []) y.reader.now
+        → ReadsUntil reads m x (Ready (Err e) ∷ []) y
     until_fails e came =
         cut_here _ (Err e) came (λ after is. failed x.byte _ after e is)
 
-    pub until_refused : (e : Error) (mid : R) (shown : List ℕ) → reads x.reader.now (filled shown) mid
-        → 0 < length shown → error_kind e ≡ OutOfMemory → y.reader.now ≡ mid
-        → ReadsUntil reads ⊤ x (Ready (Err e) ∷ []) y
-    until_refused e mid shown fills some is unread =
+    pub until_refused : {m : Type 0} (e : Error) (mid : R) (shown : List ℕ) → reads x.reader.now (filled shown) mid
+        → 0 < length shown → error_kind e ≡ OutOfMemory → y.reader.now ≡ mid → m
+        → ReadsUntil reads m x (Ready (Err e) ∷ []) y
+    until_refused e mid shown fills some is unread full =
         let came = fill_then laws shown some fills (rw unread (laws.rests mid)) in
-        cut_here [] (Err e) came (λ after same. refused x.byte _ after e is same)
+        cut_here [] (Err e) came (λ after same. refused x.byte _ after e is full same)
 
-    pub until_ends : (n : ℕ) → n ≡ length x.buf.now.items - x.start
-        → reads x.reader.now (ReadMark.end ∷ []) y.reader.now → ReadsUntil reads ⊤ x (Ready (Ok n) ∷ []) y
+    pub until_ends : {m : Type 0} (n : ℕ) → n ≡ length x.buf.now.items - x.start
+        → reads x.reader.now (ReadMark.end ∷ []) y.reader.now → ReadsUntil reads m x (Ready (Ok n) ∷ []) y
     until_ends n count came =
         cut_here _ _ came (λ after is. ended x.byte _ after n is (count ∙ sym (length-drop x.start x.buf.now.items)))
 
   module _ (mid : R) (shown : List ℕ) (fills : reads x.reader.now (filled shown) mid) where
-    pub until_found : (k n : ℕ) → IsFirstByte (is_byte x.byte) shown (Some k)
+    pub until_found : {m : Type 0} (k n : ℕ) → IsFirstByte (is_byte x.byte) shown (Some k)
         → y.buf.now.items ≡ x.buf.now.items ++ take (k + 1) shown
         → reads mid (bytes (take (k + 1) shown)) y.reader.now → n ≡ length y.buf.now.items - x.start
-        → ReadsUntil reads ⊤ x (Ready (Ok n) ∷ []) y
+        → ReadsUntil reads m x (Ready (Ok n) ∷ []) y
     until_found k n first is took count =
         let at = found_at x.byte shown k first in
         let all = take _ shown in
@@ -150,7 +156,7 @@ module _ {R : Type 0} {reads : Runs ReadMark R} (laws : MarkLaws reads) (x y : R
         → y.buf.now.items ≡ x.buf.now.items ++ shown → reads mid (bytes shown) y.reader.now
         → AppendsMore reads ⊤ x y
     until_more first some is took =
-        let all = takes_all x.byte ⊤ (CountsPiece x.byte) _ shown (found_none x.byte shown first) in
+        let all = takes_all x.byte (λ held. ⊤) (CountsPiece x.byte) _ shown (found_none x.byte shown first) in
         record {
           taken = shown;
           some = some;
@@ -158,3 +164,17 @@ module _ {R : Type 0} {reads : Runs ReadMark R} (laws : MarkLaws reads) (x y : R
           folds = rw (read_grown shown is) all;
           stays = stays_grown shown is;
         }
+
+-- an answer after some steps
+pub until_full : {R : Type 0} {reads : Runs ReadMark R} (lent : R → List ℕ) → MarkLaws reads
+    → {x z : ReadUntilFuture R} {a : Poll (Result ℕ Error)} → (y : ReadUntilFuture R) × Reaches (AppendsMore reads ⊤) x y
+    × ReadsUntil reads (UntilLacksRoom lent y z) y (a ∷ []) z
+    → ReadsUntil reads (UntilLacksRoom lent x z) x (a ∷ []) z
+until_full {reads} lent laws =
+    steps_answer {answers = λ x a z. ReadsUntil reads (UntilLacksRoom lent x z) x (a ∷ []) z} (λ x y z a t h.
+    let m = UntilLacksRoom lent y z in
+    let n = UntilLacksRoom lent x z in
+    let sooner : m → n = λ full. let full = rw t.stays.byte at full in omega (arith, t.stays.room, full) in
+    step_before laws x y z a (takes_alike (λ v p q b h. h) x y t)
+    (gathers_weaker (λ v. pieces_weaker v.byte (λ held. m) (λ held. n) (CountsPiece v.byte) (λ held. sooner))
+    y z (a ∷ []) h))

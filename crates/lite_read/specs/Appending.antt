@@ -1,5 +1,5 @@
 -- The vector of `read_to_end`: what was read stands at its front, and room behind it.
-use Rattle.std.specs.Prelude.{◌≡◌, ◌≤◌, ℕ, List, length, take}
+use Rattle.std.specs.Prelude.{◌≡◌, ◌≤◌, ◌-◌, ◌*◌, ℕ, List, length, take, max, vec_capacity}
 use Rattle.lite_read.specs.declared.read_to_end.ReadToEndFuture.{ReadToEndFuture}
 
 module _ {R A : Type 0} where
@@ -12,6 +12,12 @@ module _ {R A : Type 0} where
     pub reader : y.reader ≡ record x.reader { now = y.reader.now }
     pub buf : y.buf ≡ record x.buf { now = y.buf.now }
     pub start : y.start ≡ x.start
+
+  -- the vector is filled further, and has no less room; at most twice as much as was read is asked for at once
+  pub record ToEndGrows (x y : ReadToEndFuture R A) : Type 0 where
+    pub filled : x.filled ≤ y.filled
+    pub capacity : vec_capacity x.buf.now ≤ vec_capacity y.buf.now
+    pub room : y.room ≤ max x.room (2 * (y.filled - x.filled))
 
   -- a step may be made: what was read is in the vector, and the reader's rank counts
   pub record CanAppend (counting : R → Type 0) (x : ReadToEndFuture R A) : Type 0 where

@@ -1,5 +1,6 @@
 -- What a future that reads for a text holds, and what stays.
-use Rattle.std.specs.Prelude.{◌≡◌, ◌≤◌, ◌⊎◌, ◌+◌, ℕ, List, string_capacity, string_len, vec_len}
+use Rattle.std.specs.Prelude.{◌≡◌, ◌≤◌, ◌⊎◌, ◌+◌, ◌-◌, ◌==◌, if◌then◌else◌, ℕ, List, min, max, string_capacity, string_len}
+use Rattle.std.specs.Prelude.{vec_capacity, vec_len}
 use Rattle.std.specs.declared.string.String.{String}
 use Rattle.std.specs.declared.vec.Vec.{Vec}
 use denote.MutBor.{MutBor}
@@ -12,12 +13,21 @@ CanTakeIn text len = (string_len text ≡ 0) ⊎ (string_len text + len ≤ stri
 abbrev pub HasRoomFor : {A : Type 0} → String A → Vec ℕ A → Type 0
 HasRoomFor text bytes = CanTakeIn text (vec_len bytes)
 
--- a future of the type X that reads for a text: its reader, its text, what it has read, and what is true of it before
--- each poll
+-- For how many bytes there is memory: the vector's, and as much behind the text. A text that is empty needs none, and
+-- gives its own for the first bytes.
+abbrev pub room_for : {A : Type 0} → String A → Vec ℕ A → ℕ
+room_for text bytes =
+    if string_len text == 0 then
+    (if vec_len bytes == 0 then max (string_capacity text) (vec_capacity bytes) else vec_capacity bytes)
+    else min (string_capacity text - string_len text) (vec_capacity bytes)
+
+-- a future of the type X that reads for a text: its reader, its text, what it has read, how a step that goes on leaves
+-- its memory, and what is true of it before each poll
 pub record TextOver (X R A : Type 0) : Type 1 where
   pub reader : X → MutBor R
   pub text : X → MutBor (String A)
   pub read : X → List ℕ
+  pub grows : X → X → Type 0
   pub holds : X → Type 0
 
 -- both references of a future that reads for a text stay

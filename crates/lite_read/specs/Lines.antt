@@ -1,6 +1,7 @@
 -- `lines`: the pieces between newlines, 0x0A, as text.
-use Rattle.std.specs.Prelude.{ℕ, List, Option, Result}
+use Rattle.std.specs.Prelude.{◌<◌, ◌+◌, ℕ, List, Option, Result, length, vec_capacity}
 use Rattle.std.proofs.Common.{Global}
+use Rattle.std.specs.List.{before_first}
 use Rattle.std.specs.declared.io.Error.{Error}
 use Rattle.std.specs.declared.string.String.{String}
 use Rattle.lite_base.specs.Answers.{Answer}
@@ -9,18 +10,30 @@ use Rattle.lite_io_base.specs.Marks.{ReadMark}
 use Rattle.lite_read.specs.ReadFold.{ReadFold}
 use Rattle.lite_read.specs.Pieces.{Itemised, pieces}
 use Rattle.lite_read.specs.Segments.{Flows, StreamOver}
+use Rattle.lite_read.specs.Scan.{is_newline}
 use Rattle.lite_read.specs.LineText.{IsText, without_return}
 use Rattle.lite_read.specs.declared.lines.Lines.{Lines}
 
 -- a line before a newline is without its return, and a last line keeps it
 abbrev pub lining : Type 0 → Unit {0} → ReadFold (List ℕ) (Option (Result (String Global) Error))
-lining may_refuse u = pieces 10 may_refuse (Itemised (λ xs. IsText (without_return xs)) IsText)
+lining may_refuse u = pieces 10 (λ held. may_refuse) (Itemised (λ xs. IsText (without_return xs)) IsText)
 
 -- a `lines` holds bytes, and keeps nothing else
 abbrev pub lines_over : {R : Type 0} → StreamOver (Lines R) R (List ℕ) (Unit {0})
-lines_over = record { reader = λ x. x.reader; held = λ x. x.held.bytes.items; kept = λ x. tt }
+lines_over =
+    record {
+      reader = λ x. x.reader;
+      held = λ x. x.held.bytes.items;
+      room = λ x. vec_capacity x.held.bytes;
+      kept = λ x. tt;
+    }
+
+-- the buffer of x has no room for what y holds and what its reader lends before a newline
+abbrev pub LineLacksRoom : {R : Type 0} → (R → List ℕ) → Lines R → Lines R → Type 0
+LineLacksRoom lent x y =
+    vec_capacity x.held.bytes < length y.held.bytes.items + length (before_first is_newline (lent y.reader))
 
 module _ {R : Type 0} (reads : Runs ReadMark R) (may_refuse : Type 0) where
-  -- the reader's marks, cut into lines
+  -- the reader's marks, cut into lines, where memory may be refused if may_refuse is true
   abbrev pub GivesLines : Runs (Answer (Result (String Global) Error)) (Lines R)
   GivesLines = Flows lines_over (lining may_refuse) reads

@@ -1,5 +1,5 @@
 -- The steps of a poll that go on: bytes were taken in.
-use Rattle.std.specs.Prelude.{◌≡◌}
+use Rattle.std.specs.Prelude.{◌≡◌, ◌≤◌}
 use Rattle.lite_io_base.specs.Marks.{ReadMark}
 use Rattle.lite_read.specs.ReadFold.{ReadFold}
 use Rattle.lite_read.specs.PollSteps.{TakesBytes}
@@ -13,7 +13,9 @@ use Rattle.lite_base.specs.Runs.{Runs}
 abbrev pub AppendsMore : {R : Type 0} → Runs ReadMark R → Type 0 → ReadUntilFuture R → ReadUntilFuture R → Type 0
 AppendsMore reads may_refuse = TakesBytes (λ x. x.reader.now) read_of (λ x. until x.byte may_refuse) UntilStays reads
 
--- one step of a poll of `split` or `lines` that goes on: bytes were taken in
+-- one step of a poll of `split` or `lines` that goes on: bytes were taken in, and the buffer has no less room
 abbrev pub TakesPieceIn : {X S M K R : Type 0} → StreamOver X S M K → (K → ReadFold M R) → Runs ReadMark S → X → X
     → Type 0
-TakesPieceIn over fold = TakesBytes over.reader over.held (λ x. fold (over.kept x)) (λ x y. over.kept y ≡ over.kept x)
+TakesPieceIn over fold =
+    TakesBytes over.reader over.held (λ x. fold (over.kept x))
+    (λ x y. (over.kept y ≡ over.kept x) × (over.room x ≤ over.room y))

@@ -34,7 +34,7 @@ module _ {R A : Type 0} (may_refuse : Type 0) (reads : Runs ReadMark R) where
   abbrev pub ReadsSome : ReadToEndFuture R A → ReadToEndFuture R A → Type 0
   ReadsSome =
       TakesBytes (λ x. x.reader.now) read_front (λ x. appends may_refuse x.start)
-      (λ x y. appending.ToEndStays x y × (y.filled ≤ length y.buf.now.items)) reads
+      (λ x y. appending.ToEndStays x y × (y.filled ≤ length y.buf.now.items) × appending.ToEndGrows x y) reads
 
   -- the answer, before the room behind what was read is cut off
   abbrev pub AnswersUntrimmed : ReadToEndFuture R A → Poll (Result ℕ Error) → ReadToEndFuture R A → Type 0

@@ -1,5 +1,6 @@
 -- `read_to_end`: the bytes before the first end are appended.
-use Rattle.std.specs.Prelude.{◌≡◌, ◌+◌, ℕ, List, [], ◌∷◌, ◌++◌, length, Result, Ok, Err, ⊤}
+use Rattle.std.specs.Prelude.{◌≡◌, ◌<◌, ◌+◌, ◌*◌, ℕ, List, [], ◌∷◌, ◌++◌, length, max, Result, Ok, Err, ⊤}
+use Rattle.std.specs.Prelude.{vec_capacity}
 use Rattle.std.specs.IoError.{error_kind}
 use Rattle.std.specs.declared.io.Error.{Error}
 use Rattle.std.specs.declared.io.ErrorKind.TheVariants.{OutOfMemory}
@@ -18,14 +19,27 @@ Appended may_refuse start g (ReadMark.fault kind ∷ []) (Err e) = error_kind e 
 Appended may_refuse start g [] (Err e) = may_refuse × (error_kind e ≡ OutOfMemory)
 Appended may_refuse start g marks r = ⊥
 
--- each byte is appended, up to an end
-abbrev pub appends : Type 0 → ℕ → ReadFold (List ℕ) (Result ℕ Error)
-appends may_refuse start =
+-- each byte is appended, up to an end; memory may be refused where may_refuse is true of what stands there
+abbrev pub appends_where : (List ℕ → Type 0) → ℕ → ReadFold (List ℕ) (Result ℕ Error)
+appends_where may_refuse start =
     record {
       takes = λ g b h. h ≡ g ++ b ∷ [];
       asks = λ g. ⊤;
-      gives = λ g marks r h. Appended may_refuse start g marks r × (h ≡ g);
+      gives = λ g marks r h. Appended (may_refuse g) start g marks r × (h ≡ g);
     }
+
+-- each byte is appended, up to an end; memory may be refused if may_refuse is true
+abbrev pub appends : Type 0 → ℕ → ReadFold (List ℕ) (Result ℕ Error)
+appends may_refuse = appends_where (λ g. may_refuse)
+
+-- how many bytes the next read is given room for at most, after n were read: `room` is what was asked for before
+abbrev pub next_read : ℕ → ℕ → ℕ
+next_read room n = max 32 (max room (2 * n))
+
+-- the vector of x has no room for the bytes that y's is filled with, n more than `from`, and for the next read
+abbrev pub ToEndLacksRoom : {R A : Type 0} → ℕ → ReadToEndFuture R A → ReadToEndFuture R A → Type 0
+ToEndLacksRoom from x y =
+    (n : ℕ) × (y.filled ≡ from + n) × (vec_capacity x.buf.now < y.filled + next_read x.room n)
 
 module _ {R A : Type 0} (may_refuse : Type 0) (reads : Runs ReadMark R) where
   -- a future that appends so to its vector

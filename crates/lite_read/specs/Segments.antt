@@ -1,15 +1,17 @@
 -- What a stream makes of what a reader tells: the marks are cut into segments, one for each answer.
-use Rattle.std.specs.Prelude.{◌≡◌, List, []}
+use Rattle.std.specs.Prelude.{◌≡◌, ℕ, List, []}
 use Rattle.futures.specs.declared.task.Poll.{Poll}
 use Rattle.lite_io_base.specs.Marks.{ReadMark}
 use Rattle.lite_read.specs.ReadFold.{ReadFold}
 pub use Rattle.lite_read.specs.ReadFold.{PieceSegments, Segmented}
 use Rattle.lite_base.specs.Runs.{Runs}
 
--- a stream of the type X over a reader of the type S: what it holds, and what it never changes
+-- a stream of the type X over a reader of the type S: what it holds, for how many bytes its buffer has room, and what
+-- it never changes
 pub record StreamOver (X S M K : Type 0) : Type 0 where
   pub reader : X → S
   pub held : X → M
+  pub room : X → ℕ
   pub kept : X → K
 
 module _ {X S M K R : Type 0} (over : StreamOver X S M K) (fold : K → ReadFold M R) (reads : Runs ReadMark S) where

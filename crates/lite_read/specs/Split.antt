@@ -1,8 +1,10 @@
 -- `split`: the pieces without their delimiters.
-use Rattle.std.specs.Prelude.{◌≡◌, ℕ, List, Option, Result, Ok, Err}
+use Rattle.std.specs.Prelude.{◌≡◌, ◌<◌, ◌+◌, ℕ, List, Option, Result, Ok, Err, length, vec_capacity}
 use Rattle.std.proofs.Common.{Global}
+use Rattle.std.specs.List.{before_first}
 use Rattle.std.specs.declared.io.Error.{Error}
 use Rattle.std.specs.declared.vec.Vec.{Vec}
+use Rattle.memchr.specs.Find.{is_byte}
 use Rattle.lite_base.specs.Answers.{Answer}
 use Rattle.lite_base.specs.Runs.{Runs}
 use Rattle.lite_io_base.specs.Marks.{ReadMark}
@@ -18,13 +20,24 @@ IsVec xs (Err e) = ⊥
 
 -- bytes are taken in up to the delimiter, and become a vector without it
 abbrev pub splitting : Type 0 → ℕ → ReadFold (List ℕ) (Option (Result (Vec ℕ Global) Error))
-splitting may_refuse byte = pieces byte may_refuse (Itemised IsVec IsVec)
+splitting may_refuse byte = pieces byte (λ held. may_refuse) (Itemised IsVec IsVec)
 
 -- a `split` holds bytes, and keeps its delimiter
 abbrev pub split_over : {R : Type 0} → StreamOver (Split R) R (List ℕ) ℕ
-split_over = record { reader = λ x. x.reader; held = λ x. x.held.items; kept = λ x. x.byte }
+split_over =
+    record {
+      reader = λ x. x.reader;
+      held = λ x. x.held.items;
+      room = λ x. vec_capacity x.held;
+      kept = λ x. x.byte;
+    }
+
+-- the buffer of x has no room for what y holds and what its reader lends before a delimiter
+abbrev pub PieceLacksRoom : {R : Type 0} → (R → List ℕ) → Split R → Split R → Type 0
+PieceLacksRoom lent x y =
+    vec_capacity x.held < length y.held.items + length (before_first (is_byte x.byte) (lent y.reader))
 
 module _ {R : Type 0} (reads : Runs ReadMark R) (may_refuse : Type 0) where
-  -- the reader's marks, cut into pieces
+  -- the reader's marks, cut into pieces, where memory may be refused if may_refuse is true
   abbrev pub Splits : Runs (Answer (Result (Vec ℕ Global) Error)) (Split R)
   Splits = Flows split_over (splitting may_refuse) reads

@@ -10,11 +10,12 @@ use Rattle.lite_read.specs.Texts.{ReadsText}
 use Rattle.lite_base.specs.Runs.{Runs}
 
 module _ {X R A : Type 0} (over : TextOver X R A) (fold : ReadFold (List ℕ) (Result ℕ Error)) where
-  -- one that goes on takes bytes in, and leaves the text
+  -- one that goes on takes bytes in, leaves the text, and has no less memory
   abbrev pub TakesTextIn : Runs ReadMark R → X → X → Type 0
   TakesTextIn =
       TakesBytes (λ x. (over.reader x).now) over.read (λ x. fold)
-      (λ x y. TextStays over x y × (string_bytes (over.text y).now ≡ string_bytes (over.text x).now) × over.holds y)
+      (λ x y. TextStays over x y × (string_bytes (over.text y).now ≡ string_bytes (over.text x).now) × over.holds y
+      × over.grows x y)
 
   -- one that answers leaves what is true before each poll
   abbrev pub AnswersText : Runs ReadMark R → X → Poll (Result ℕ Error) → X → Type 0

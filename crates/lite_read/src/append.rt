@@ -1,5 +1,5 @@
 //! What is lent goes to the end of a vector.
-ghost use Rattle.std.specs.Prelude.{◌≡◌, ◌≤◌, ◌++◌, length, take, IfErr, IfOk};
+ghost use Rattle.std.specs.Prelude.{◌≡◌, ◌≤◌, ◌<◌, ◌+◌, ◌++◌, length, take, vec_capacity, IfErr, IfOk};
 ghost use Rattle.std.specs.IoError.{error_kind};
 ghost use Rattle.std.specs.declared.io.ErrorKind.TheVariants.{OutOfMemory};
 ghost use Rattle.lite_io_base.specs.Marks.{bytes};
@@ -7,8 +7,8 @@ ghost use Rattle.lite_io_base.specs.Marks.{bytes};
 use lite_io_base::AsyncBufRead;
 use std::io;
 
-/// Appends the first `amount` bytes that `reader` lends, and takes them. `Err` says that memory was refused; nothing
-/// changes then.
+/// Appends the first `amount` bytes that `reader` lends, and takes them. `Err` says that the vector had no room for them and
+/// memory was refused; nothing changes then but how much room there is.
 pub(crate) fn append<R: AsyncBufRead>(
     reader: &mut R,
     amount: usize,
@@ -18,6 +18,8 @@ pub(crate) fn append<R: AsyncBufRead>(
     ensures ok { IfOk result (λ u. buf.new.items ≡ buf.old.items ++ take amount (R.lent reader.old)) }
     ensures taken { IfOk result (λ u. R.reads reader.old (bytes (take amount (R.lent reader.old))) reader.new) }
     ensures refused { IfErr result (λ e. error_kind e ≡ OutOfMemory) }
+    ensures full { IfErr result (λ e. vec_capacity buf.old < length buf.old.items + amount) }
+    ensures room { vec_capacity buf.old ≤ vec_capacity buf.new }
     ensures unread { IfErr result (λ e. reader.new ≡ reader.old) }
     ensures held { IfErr result (λ e. buf.new.items ≡ buf.old.items) }
 {

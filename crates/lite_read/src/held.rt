@@ -1,10 +1,10 @@
 //! Bytes that are read for a text, which has room for them all or is empty, so that they become part of it without memory.
-ghost use Rattle.std.specs.Prelude.{◌≡◌, ◌≤◌, ◌++◌, [], ◌+◌, true, length, take, IfErr, IfOk, IsUtf8, MatchBool, OnErr};
-ghost use Rattle.std.specs.Prelude.{OnOk, string_bytes, string_capacity, string_len};
+ghost use Rattle.std.specs.Prelude.{◌≡◌, ◌≤◌, ◌<◌, ◌++◌, [], ◌+◌, true, length, take, IfErr, IfOk, IsUtf8, MatchBool, OnErr};
+ghost use Rattle.std.specs.Prelude.{OnOk, string_bytes, string_capacity, string_len, vec_capacity};
 ghost use Rattle.std.specs.IoError.{error_kind};
 ghost use Rattle.std.specs.declared.io.ErrorKind.TheVariants.{OutOfMemory};
 ghost use Rattle.lite_io_base.specs.Marks.{bytes as read_bytes};
-ghost use Rattle.lite_read.specs.Holding.{CanTakeIn, HasRoomFor};
+ghost use Rattle.lite_read.specs.Holding.{CanTakeIn, HasRoomFor, room_for};
 ghost use Rattle.lite_read.specs.Texts.{AppendsText, ValueOf};
 
 use lite_io_base::AsyncBufRead;
@@ -28,6 +28,8 @@ pub(crate) fn take_in<R: AsyncBufRead, A: Allocator + Copy>(
     ensures ok { IfOk result (λ u. bytes.new.items ≡ bytes.old.items ++ take amount (R.lent reader.old)) }
     ensures taken { IfOk result (λ u. R.reads reader.old (read_bytes (take amount (R.lent reader.old))) reader.new) }
     ensures refused { IfErr result (λ e. error_kind e ≡ OutOfMemory) }
+    ensures full { IfErr result (λ e. room_for text.old bytes.old < length bytes.old.items + amount) }
+    ensures room { room_for text.old bytes.old ≤ room_for text.new bytes.new }
     ensures unread { IfErr result (λ e. reader.new ≡ reader.old) }
     ensures kept { IfErr result (λ e. bytes.new.items ≡ bytes.old.items) }
 {
@@ -47,6 +49,8 @@ fn hold<A: Allocator + Copy>(
     ensures text { string_bytes text.new ≡ string_bytes text.old }
     ensures ok { OnOk result (bytes.new.items ≡ bytes.old.items ++ piece.now) }
     ensures err { OnErr result (bytes.new.items ≡ bytes.old.items) }
+    ensures full { OnErr result (room_for text.old bytes.old < length bytes.old.items + length piece.now) }
+    ensures room { room_for text.old bytes.old ≤ room_for text.new bytes.new }
 {
     prepare(text, bytes, bytes.len() + piece.len())?;
     bytes.extend_from_slice(piece)
@@ -65,6 +69,8 @@ pub(crate) fn make_room<A: Allocator + Copy>(
     ensures front { take (length bytes.old.items) bytes.new.items ≡ bytes.old.items }
     ensures ok { OnOk result (length bytes.new.items ≡ len) }
     ensures err { OnErr result (bytes.new.items ≡ bytes.old.items) }
+    ensures full { OnErr result (room_for text.old bytes.old < len) }
+    ensures room { room_for text.old bytes.old ≤ room_for text.new bytes.new }
 {
     prepare(text, bytes, len)?;
     bytes.resize(len, 0)
@@ -81,6 +87,9 @@ fn prepare<A: Allocator + Copy>(
     ensures room { OnOk result (CanTakeIn text.new len) }
     ensures text { string_bytes text.new ≡ string_bytes text.old }
     ensures bytes { bytes.new.items ≡ bytes.old.items }
+    ensures full { OnErr result (room_for text.old bytes.old < len) }
+    ensures within { OnOk result (room_for text.old bytes.old ≤ vec_capacity bytes.new) }
+    ensures kept { room_for text.old bytes.old ≤ room_for text.new bytes.new }
 {
     if !text.is_empty() {
         return text.reserve(len);

@@ -1,4 +1,4 @@
-ghost use Rattle.std.specs.Prelude.{⊤, ◌≡◌, ◌≤◌, ◌<◌, ◌++◌, ◌+◌, [], ◌∷◌, None, length, take, IfErr, IfOk};
+ghost use Rattle.std.specs.Prelude.{⊤, ◌≡◌, ◌≤◌, ◌<◌, ◌++◌, ◌+◌, [], ◌∷◌, None, length, take, vec_capacity, IfErr, IfOk};
 ghost use Rattle.std.specs.Char.{is_ascii};
 ghost use Rattle.std.specs.IoError.{error_kind};
 ghost use Rattle.std.specs.List.{list_all};
@@ -9,7 +9,9 @@ ghost use Rattle.lite_base.specs.Runs.{NoHint};
 ghost use Rattle.lite_io_base.specs.Marks.{bytes};
 ghost use Rattle.lite_read.specs.Laws.PollSteps.{takes_given};
 ghost use Rattle.lite_read.specs.Laws.Segments.{flow_laws};
-ghost use Rattle.lite_read.specs.Lines.{GivesLines, lines_over, lining};
+ghost use Rattle.lite_read.specs.Lines.{GivesLines, LineLacksRoom, lines_over, lining};
+ghost use Rattle.futures.specs.Task.{Keeps};
+ghost use Rattle.lite_base.specs.Registered.{Registered};
 ghost use Rattle.lite_read.specs.PieceSteps.{TakesPieceIn};
 
 use crate::find::find_line;
@@ -44,6 +46,7 @@ impl<R: AsyncBufRead> Lines<R> {
         ensures taken { IfOk result
             (λ u. R.reads self.old.reader (bytes (take (at + 1) (R.lent self.old.reader))) self.new.reader) }
         ensures refused { IfErr result (λ e. error_kind e ≡ OutOfMemory) }
+        ensures full { IfErr result (λ e. vec_capacity self.old.held.bytes < length self.old.held.bytes.items + at) }
         ensures unread { IfErr result (λ e. self.new.reader ≡ self.old.reader) }
         ensures held { IfErr result (λ e. self.new.held.bytes.items ≡ self.old.held.bytes.items) }
     {
@@ -60,6 +63,9 @@ impl<R: AsyncBufRead> Lines<R> {
             (λ u. self.new.held.bytes.items ≡ self.old.held.bytes.items ++ R.lent self.old.reader) }
         ensures taken { IfOk result (λ u. R.reads self.old.reader (bytes (R.lent self.old.reader)) self.new.reader) }
         ensures refused { IfErr result (λ e. error_kind e ≡ OutOfMemory) }
+        ensures full { IfErr result (λ e. vec_capacity self.old.held.bytes
+            < length self.old.held.bytes.items + length (R.lent self.old.reader)) }
+        ensures room { vec_capacity self.old.held.bytes ≤ vec_capacity self.new.held.bytes }
         ensures unread { IfErr result (λ e. self.new.reader ≡ self.old.reader) }
         ensures held { IfErr result (λ e. self.new.held.bytes.items ≡ self.old.held.bytes.items) }
     {
@@ -76,7 +82,8 @@ impl<R: AsyncBufRead + CountedRead> PollSteps for Lines<R> {
 
     ghost can_step = { λ x. R.ranks.counts x.reader };
 
-    ghost step = { OneStep (TakesPieceIn lines_over (lining ⊤) R.reads) (λ x a y. GivesLines R.reads ⊤ x (a ∷ []) y) };
+    ghost step = { OneStep (TakesPieceIn lines_over (lining ⊤) R.reads)
+        (λ x a y. GivesLines R.reads (LineLacksRoom R.lent x y) x (a ∷ []) y) };
 
     ghost step_registers = { λ x. R.registers x.reader };
 
@@ -118,7 +125,16 @@ impl<R: AsyncBufRead + CountedRead> Stream for Lines<R> {
 
     ghost laws = { flow_laws lines_over (lining ⊤) R.read_laws };
 
-    fn poll_next(&mut self, cx: &mut Context<'_>) -> Poll<Option<io::Result<String>>> {
+    fn poll_next(&mut self, cx: &mut Context<'_>) -> Poll<Option<io::Result<String>>>
+        requires { R.ranks.counts self.old.reader }
+        ensures ran { GivesLines R.reads ⊤ self.old (result ∷ []) self.new }
+        ensures again { R.ranks.counts self.new.reader }
+        ensures left { Registered result (R.registers self.new.reader) cx.new }
+        ensures kept { Keeps cx.old cx.new }
+
+        // Memory is refused only if the buffer had no room for the bytes of the line that are there.
+        ensures full { GivesLines R.reads (LineLacksRoom R.lent self.old self.new) self.old (result ∷ []) self.new }
+    {
         drive(self, cx)
     }
 

@@ -1,4 +1,4 @@
-ghost use Rattle.std.specs.Prelude.{⊤, ◌≡◌, ◌≤◌, ◌<◌, ◌++◌, ◌+◌, Ok, length, take, IfErr, IfOk, string_bytes};
+ghost use Rattle.std.specs.Prelude.{⊤, ◌≡◌, ◌≤◌, ◌<◌, ◌++◌, ◌+◌, [], ◌∷◌, Ok, length, take, IfErr, IfOk, string_bytes};
 ghost use Rattle.std.specs.Char.{is_ascii};
 ghost use Rattle.std.specs.IoError.{error_kind};
 ghost use Rattle.std.specs.List.{list_all};
@@ -7,9 +7,12 @@ ghost use Rattle.lite_base.specs.Chain.{OneStep};
 ghost use Rattle.lite_base.specs.Laws.Ends.{Terminates-map};
 ghost use Rattle.lite_io_base.specs.Marks.{bytes};
 ghost use Rattle.lite_read.specs.Laws.PollSteps.{takes_given};
-ghost use Rattle.lite_read.specs.Holding.{TextStays};
+ghost use Rattle.lite_read.specs.Holding.{TextStays, room_for};
 ghost use Rattle.lite_read.specs.Laws.Texts.{text_laws};
-ghost use Rattle.lite_read.specs.ReadLine.{LineHolds, ReadsLine, line_over, read_line_fold};
+ghost use Rattle.futures.specs.Poll.{OnPending};
+ghost use Rattle.futures.specs.Task.{Keeps};
+ghost use Rattle.lite_base.specs.Registered.{Registered};
+ghost use Rattle.lite_read.specs.ReadLine.{LineHolds, LineLacksMemory, ReadsLine, line_over, read_line_fold};
 ghost use Rattle.lite_read.specs.Texts.{FinishesText};
 ghost use Rattle.lite_read.specs.TextSteps.{AnswersText, TakesTextIn};
 
@@ -56,6 +59,9 @@ impl<R: AsyncBufRead, A: Allocator + Copy> ReadLineFuture<'_, R, A> {
             (λ u. R.reads self.old.reader.now
             (bytes (take amount (R.lent self.old.reader.now))) self.new.reader.now) }
         ensures refused { IfErr result (λ e. error_kind e ≡ OutOfMemory) }
+        ensures full { IfErr result (λ e. room_for self.old.text.now self.old.bytes
+            < length self.old.bytes.items + amount) }
+        ensures room { room_for self.old.text.now self.old.bytes ≤ room_for self.new.text.now self.new.bytes }
         ensures unread { IfErr result (λ e. self.new.reader.now ≡ self.old.reader.now) }
         ensures kept { IfErr result (λ e. self.new.bytes.items ≡ self.old.bytes.items) }
     {
@@ -97,8 +103,8 @@ impl<R: AsyncBufRead + CountedRead, A: Allocator + Copy> PollSteps for ReadLineF
 
     ghost can_step = { λ x. R.ranks.counts x.reader.now × LineHolds x };
 
-    ghost step = { OneStep (TakesTextIn line_over (read_line_fold ⊤) R.reads)
-        (AnswersText line_over (read_line_fold ⊤) R.reads) };
+    ghost step = { OneStep (TakesTextIn line_over (read_line_fold (λ _. ⊤)) R.reads)
+        (λ x a y. AnswersText line_over (read_line_fold (LineLacksMemory R.lent x y)) R.reads x a y) };
 
     ghost step_registers = { λ x. R.registers x.reader.now };
 
@@ -133,13 +139,22 @@ impl<R: AsyncBufRead + CountedRead, A: Allocator + Copy> Future for ReadLineFutu
 
     ghost can_poll = { λ x. R.ranks.counts x.reader.now × LineHolds x };
 
-    ghost run = { ReadsLine ⊤ R.reads };
+    ghost run = { ReadsLine (λ _. ⊤) R.reads };
 
     ghost registers = { λ x. R.registers x.reader.now };
 
-    ghost laws = { text_laws line_over (read_line_fold ⊤) R.read_laws };
+    ghost laws = { text_laws line_over (read_line_fold (λ _. ⊤)) R.read_laws };
 
-    fn poll(&mut self, cx: &mut Context<'_>) -> Poll<io::Result<usize>> {
+    fn poll(&mut self, cx: &mut Context<'_>) -> Poll<io::Result<usize>>
+        requires { R.ranks.counts self.old.reader.now × LineHolds self.old }
+        ensures ran { ReadsLine (λ _. ⊤) R.reads self.old (result ∷ []) self.new }
+        ensures again { OnPending result (R.ranks.counts self.new.reader.now × LineHolds self.new) }
+        ensures left { Registered result (R.registers self.new.reader.now) cx.new }
+        ensures kept { Keeps cx.old cx.new }
+
+        // Memory is refused only if there was too little for what was read and what is there up to the newline.
+        ensures full { ReadsLine (LineLacksMemory R.lent self.old self.new) R.reads self.old (result ∷ []) self.new }
+    {
         drive(self, cx)
     }
 }

@@ -1,8 +1,11 @@
-ghost use Rattle.std.specs.Prelude.{◌≡◌, ◌≤◌, ◌<◌, length, ⊤, OnOk};
+ghost use Rattle.std.specs.Prelude.{◌≡◌, ◌≤◌, ◌<◌, ◌+◌, [], ◌∷◌, max, length, vec_capacity, ⊤, OnErr, OnOk};
 ghost use Rattle.lite_base.specs.Chain.{OneStep};
 ghost use Rattle.lite_read.specs.Appending.{CanAppend, read_front};
 ghost use Rattle.lite_read.specs.Laws.ReadToEnd.{append_laws, some_falls, steps_on};
-ghost use Rattle.lite_read.specs.ReadToEnd.{ReadsToEnd};
+ghost use Rattle.futures.specs.Poll.{OnPending};
+ghost use Rattle.futures.specs.Task.{Keeps};
+ghost use Rattle.lite_base.specs.Registered.{Registered};
+ghost use Rattle.lite_read.specs.ReadToEnd.{ReadsToEnd, ToEndLacksRoom};
 ghost use Rattle.lite_read.specs.PollSteps.{AnswersUntrimmed, ReadsSome};
 
 use crate::room::{FIRST_ROOM, next_room};
@@ -39,6 +42,8 @@ impl<R, A: Allocator> ReadToEndFuture<'_, R, A> {
         ensures front { read_front self.new ≡ read_front self.old }
         ensures room { OnOk result (self.new.filled < length self.new.buf.now.items) }
         ensures within { self.new.filled ≤ length self.new.buf.now.items }
+        ensures full { OnErr result (vec_capacity self.old.buf.now < self.old.filled + max 32 self.old.room) }
+        ensures grows { vec_capacity self.old.buf.now ≤ vec_capacity self.new.buf.now }
     {
         if self.filled < self.buf.len() {
             return Ok(());
@@ -55,7 +60,7 @@ impl<R: CountedRead, A: Allocator> PollSteps for ReadToEndFuture<'_, R, A> {
 
     ghost can_step = { CanAppend R.ranks.counts };
 
-    ghost step = { OneStep (ReadsSome ⊤ R.reads) (AnswersUntrimmed ⊤ R.reads) };
+    ghost step = { OneStep (ReadsSome ⊤ R.reads) (λ x a y. AnswersUntrimmed (ToEndLacksRoom x.filled x y) R.reads x a y) };
 
     ghost step_registers = { λ x. R.registers x.reader.now };
 
@@ -91,7 +96,18 @@ impl<R: CountedRead, A: Allocator> Future for ReadToEndFuture<'_, R, A> {
 
     ghost laws = { append_laws ⊤ R.read_laws };
 
-    fn poll(&mut self, cx: &mut Context<'_>) -> Poll<io::Result<usize>> {
+    fn poll(&mut self, cx: &mut Context<'_>) -> Poll<io::Result<usize>>
+        requires { (self.old.start ≤ length self.old.buf.now.items) × R.ranks.counts self.old.reader.now }
+        ensures ran { ReadsToEnd ⊤ R.reads self.old (result ∷ []) self.new }
+        ensures again { OnPending result
+            ((self.new.start ≤ length self.new.buf.now.items) × R.ranks.counts self.new.reader.now) }
+        ensures left { Registered result (R.registers self.new.reader.now) cx.new }
+        ensures kept { Keeps cx.old cx.new }
+
+        // Memory is refused only if the vector had no room for what was read and for the next read.
+        ensures full { ReadsToEnd (ToEndLacksRoom (length self.old.buf.now.items) self.old self.new) R.reads self.old
+            (result ∷ []) self.new }
+    {
         self.filled = self.buf.len();
         let answer = drive(self, cx);
         self.buf.truncate(self.filled);

@@ -1,11 +1,15 @@
-ghost use Rattle.std.specs.Prelude.{⊤, ◌≡◌, ◌≤◌, ◌<◌, length, take, OnErr, OnOk, string_bytes};
+ghost use Rattle.std.specs.Prelude.{⊤, ◌≡◌, ◌≤◌, ◌<◌, ◌+◌, [], ◌∷◌, max, length, take, OnErr, OnOk, string_bytes};
 ghost use Rattle.lite_base.specs.Chain.{OneStep};
 ghost use Rattle.lite_base.specs.Laws.Ends.{Terminates-map};
 ghost use Rattle.lite_io_base.specs.Marks.{bytes};
 ghost use Rattle.lite_read.specs.Laws.PollSteps.{takes_given};
-ghost use Rattle.lite_read.specs.Holding.{TextStays};
+ghost use Rattle.lite_read.specs.Holding.{TextStays, room_for};
 ghost use Rattle.lite_read.specs.Laws.Texts.{text_laws};
-ghost use Rattle.lite_read.specs.ReadToString.{ReadsToString, StringHolds, all_over, read_to_string_fold, text_front};
+ghost use Rattle.futures.specs.Poll.{OnPending};
+ghost use Rattle.futures.specs.Task.{Keeps};
+ghost use Rattle.lite_base.specs.Registered.{Registered};
+ghost use Rattle.lite_read.specs.ReadToString.{ReadsToString, StringHolds, StringLacksMemory, all_over};
+ghost use Rattle.lite_read.specs.ReadToString.{read_to_string_fold, text_front};
 ghost use Rattle.lite_read.specs.Texts.{FinishesText};
 ghost use Rattle.lite_read.specs.TextSteps.{AnswersText, TakesTextIn};
 
@@ -45,9 +49,13 @@ impl<R, A: Allocator + Copy> ReadToStringFuture<'_, R, A> {
         ensures held { StringHolds self.new }
         ensures stays { TextStays all_over self.old self.new }
         ensures reader { self.new.reader ≡ self.old.reader }
+        ensures filled { self.new.filled ≡ self.old.filled }
+        ensures asked { self.new.room ≡ self.old.room }
         ensures text { string_bytes self.new.text.now ≡ string_bytes self.old.text.now }
         ensures front { text_front self.new ≡ text_front self.old }
         ensures room { OnOk result (self.new.filled < length self.new.bytes.items) }
+        ensures full { OnErr result (room_for self.old.text.now self.old.bytes < self.old.filled + max 32 self.old.room) }
+        ensures grows { room_for self.old.text.now self.old.bytes ≤ room_for self.new.text.now self.new.bytes }
     {
         if self.filled < self.bytes.len() {
             return Ok(());
@@ -74,8 +82,8 @@ impl<R: CountedRead, A: Allocator + Copy> PollSteps for ReadToStringFuture<'_, R
 
     ghost can_step = { λ x. R.ranks.counts x.reader.now × StringHolds x };
 
-    ghost step = { OneStep (TakesTextIn all_over (read_to_string_fold ⊤) R.reads)
-        (AnswersText all_over (read_to_string_fold ⊤) R.reads) };
+    ghost step = { OneStep (TakesTextIn all_over (read_to_string_fold (λ _. ⊤)) R.reads)
+        (λ x a y. AnswersText all_over (read_to_string_fold (StringLacksMemory x)) R.reads x a y) };
 
     ghost step_registers = { λ x. R.registers x.reader.now };
 
@@ -105,13 +113,22 @@ impl<R: CountedRead, A: Allocator + Copy> Future for ReadToStringFuture<'_, R, A
 
     ghost can_poll = { λ x. R.ranks.counts x.reader.now × StringHolds x };
 
-    ghost run = { ReadsToString ⊤ R.reads };
+    ghost run = { ReadsToString (λ _. ⊤) R.reads };
 
     ghost registers = { λ x. R.registers x.reader.now };
 
-    ghost laws = { text_laws all_over (read_to_string_fold ⊤) R.read_laws };
+    ghost laws = { text_laws all_over (read_to_string_fold (λ _. ⊤)) R.read_laws };
 
-    fn poll(&mut self, cx: &mut Context<'_>) -> Poll<io::Result<usize>> {
+    fn poll(&mut self, cx: &mut Context<'_>) -> Poll<io::Result<usize>>
+        requires { R.ranks.counts self.old.reader.now × StringHolds self.old }
+        ensures ran { ReadsToString (λ _. ⊤) R.reads self.old (result ∷ []) self.new }
+        ensures again { OnPending result (R.ranks.counts self.new.reader.now × StringHolds self.new) }
+        ensures left { Registered result (R.registers self.new.reader.now) cx.new }
+        ensures kept { Keeps cx.old cx.new }
+
+        // Memory is refused only if there was too little for what was read and for the next read.
+        ensures full { ReadsToString (StringLacksMemory self.old) R.reads self.old (result ∷ []) self.new }
+    {
         drive(self, cx)
     }
 }

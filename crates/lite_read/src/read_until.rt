@@ -4,7 +4,10 @@ ghost use Rattle.lite_base.specs.Laws.Ends.{Terminates-map};
 ghost use Rattle.lite_io_base.specs.Marks.{bytes};
 ghost use Rattle.lite_read.specs.Laws.PollSteps.{takes_given};
 ghost use Rattle.lite_read.specs.Laws.ReadUntil.{stays_within, until_laws};
-ghost use Rattle.lite_read.specs.ReadUntil.{ReadsUntil};
+ghost use Rattle.futures.specs.Poll.{OnPending};
+ghost use Rattle.futures.specs.Task.{Keeps};
+ghost use Rattle.lite_base.specs.Registered.{Registered};
+ghost use Rattle.lite_read.specs.ReadUntil.{ReadsUntil, UntilLacksRoom};
 ghost use Rattle.lite_read.specs.PieceSteps.{AppendsMore};
 
 use crate::append::append;
@@ -33,7 +36,7 @@ impl<R: AsyncBufRead + CountedRead> PollSteps for ReadUntilFuture<'_, R> {
 
     ghost can_step = { λ x. R.ranks.counts x.reader.now × (x.start ≤ length x.buf.now.items) };
 
-    ghost step = { OneStep (AppendsMore R.reads ⊤) (λ x a y. ReadsUntil R.reads ⊤ x (a ∷ []) y) };
+    ghost step = { OneStep (AppendsMore R.reads ⊤) (λ x a y. ReadsUntil R.reads (UntilLacksRoom R.lent x y) x (a ∷ []) y) };
 
     ghost step_registers = { λ x. R.registers x.reader.now };
 
@@ -75,7 +78,17 @@ impl<R: AsyncBufRead + CountedRead> Future for ReadUntilFuture<'_, R> {
 
     ghost laws = { until_laws ⊤ R.read_laws };
 
-    fn poll(&mut self, cx: &mut Context<'_>) -> Poll<io::Result<usize>> {
+    fn poll(&mut self, cx: &mut Context<'_>) -> Poll<io::Result<usize>>
+        requires { R.ranks.counts self.old.reader.now × (self.old.start ≤ length self.old.buf.now.items) }
+        ensures ran { ReadsUntil R.reads ⊤ self.old (result ∷ []) self.new }
+        ensures again { OnPending result
+            (R.ranks.counts self.new.reader.now × (self.new.start ≤ length self.new.buf.now.items)) }
+        ensures left { Registered result (R.registers self.new.reader.now) cx.new }
+        ensures kept { Keeps cx.old cx.new }
+
+        // Memory is refused only if the vector had no room for what is there up to the delimiter.
+        ensures full { ReadsUntil R.reads (UntilLacksRoom R.lent self.old self.new) self.old (result ∷ []) self.new }
+    {
         drive(self, cx)
     }
 }

@@ -1,4 +1,4 @@
-ghost use Rattle.std.specs.Prelude.{⊤, ◌≡◌, ◌≤◌, ◌<◌, ◌++◌, ◌+◌, Option, None, [], ◌∷◌, length, take, IfErr, IfOk};
+ghost use Rattle.std.specs.Prelude.{⊤, ◌≡◌, ◌≤◌, ◌<◌, ◌++◌, ◌+◌, Option, None, [], ◌∷◌, length, take, vec_capacity, IfErr, IfOk};
 ghost use Rattle.std.specs.IoError.{error_kind};
 ghost use Rattle.std.specs.declared.io.ErrorKind.TheVariants.{OutOfMemory};
 ghost use Rattle.lite_base.specs.Chain.{OneStep};
@@ -8,7 +8,9 @@ ghost use Rattle.lite_io_base.specs.Marks.{bytes};
 ghost use Rattle.lite_read.specs.Laws.PollSteps.{takes_given};
 ghost use Rattle.lite_read.specs.Laws.Segments.{flow_laws};
 ghost use Rattle.lite_read.specs.Pieces.{AtEnd};
-ghost use Rattle.lite_read.specs.Split.{IsVec, Splits, split_over, splitting};
+ghost use Rattle.lite_read.specs.Split.{IsVec, PieceLacksRoom, Splits, split_over, splitting};
+ghost use Rattle.futures.specs.Task.{Keeps};
+ghost use Rattle.lite_base.specs.Registered.{Registered};
 ghost use Rattle.lite_read.specs.PieceSteps.{TakesPieceIn};
 
 use crate::find::find_byte;
@@ -41,6 +43,7 @@ impl<R: AsyncBufRead> Split<R> {
         ensures err { IfErr result
             (λ e. (error_kind e ≡ OutOfMemory) × (self.new.reader ≡ self.old.reader)
             × (self.new.held.items ≡ self.old.held.items)) }
+        ensures full { IfErr result (λ e. vec_capacity self.old.held < length self.old.held.items + at) }
         ensures byte { self.new.byte ≡ self.old.byte }
     {
         self.held.reserve_exact(at)?;
@@ -54,6 +57,9 @@ impl<R: AsyncBufRead> Split<R> {
         ensures ok { IfOk result (λ u. self.new.held.items ≡ self.old.held.items ++ R.lent self.old.reader) }
         ensures taken { IfOk result (λ u. R.reads self.old.reader (bytes (R.lent self.old.reader)) self.new.reader) }
         ensures refused { IfErr result (λ e. error_kind e ≡ OutOfMemory) }
+        ensures full { IfErr result (λ e. vec_capacity self.old.held
+            < length self.old.held.items + length (R.lent self.old.reader)) }
+        ensures room { vec_capacity self.old.held ≤ vec_capacity self.new.held }
         ensures unread { IfErr result (λ e. self.new.reader ≡ self.old.reader) }
         ensures held { IfErr result (λ e. self.new.held.items ≡ self.old.held.items) }
         ensures byte { self.new.byte ≡ self.old.byte }
@@ -85,7 +91,8 @@ impl<R: AsyncBufRead + CountedRead> PollSteps for Split<R> {
 
     ghost can_step = { λ x. R.ranks.counts x.reader };
 
-    ghost step = { OneStep (TakesPieceIn split_over (splitting ⊤) R.reads) (λ x a y. Splits R.reads ⊤ x (a ∷ []) y) };
+    ghost step = { OneStep (TakesPieceIn split_over (splitting ⊤) R.reads)
+        (λ x a y. Splits R.reads (PieceLacksRoom R.lent x y) x (a ∷ []) y) };
 
     ghost step_registers = { λ x. R.registers x.reader };
 
@@ -124,7 +131,16 @@ impl<R: AsyncBufRead + CountedRead> Stream for Split<R> {
 
     ghost laws = { flow_laws split_over (splitting ⊤) R.read_laws };
 
-    fn poll_next(&mut self, cx: &mut Context<'_>) -> Poll<Option<io::Result<Vec<u8>>>> {
+    fn poll_next(&mut self, cx: &mut Context<'_>) -> Poll<Option<io::Result<Vec<u8>>>>
+        requires { R.ranks.counts self.old.reader }
+        ensures ran { Splits R.reads ⊤ self.old (result ∷ []) self.new }
+        ensures again { R.ranks.counts self.new.reader }
+        ensures left { Registered result (R.registers self.new.reader) cx.new }
+        ensures kept { Keeps cx.old cx.new }
+
+        // Memory is refused only if the buffer had no room for the bytes of the piece that are there.
+        ensures full { Splits R.reads (PieceLacksRoom R.lent self.old self.new) self.old (result ∷ []) self.new }
+    {
         drive(self, cx)
     }
 

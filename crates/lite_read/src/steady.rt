@@ -113,7 +113,7 @@ impl<R: AsyncBufRead + CountedRead + SteadyRead> SteadyFuture for ReadUntilFutur
 
 impl<R: SteadyRead + AsyncBufRead + CountedRead, A: Allocator + Copy> SteadyFuture
     for ReadLineFuture<'_, R, A> {
-    ghost ample = { ReadsLine ⊥ R.ample };
+    ghost ample = { ReadsLine (λ _. ⊥) R.ample };
 
     ghost needs_none = { ⊥ };
 
@@ -126,7 +126,7 @@ impl<R: SteadyRead + AsyncBufRead + CountedRead, A: Allocator + Copy> SteadyFutu
 
 impl<R: SteadyRead + CountedRead, A: Allocator + Copy> SteadyFuture
     for ReadToStringFuture<'_, R, A> {
-    ghost ample = { ReadsToString ⊥ R.ample };
+    ghost ample = { ReadsToString (λ _. ⊥) R.ample };
 
     ghost needs_none = { ⊥ };
 

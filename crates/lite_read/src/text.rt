@@ -1,5 +1,5 @@
 //! Bytes that become text.
-ghost use Rattle.std.specs.Prelude.{◌≡◌, ◌++◌, [], true, IfErr, IfOk, IsUtf8, OnErr, OnOk};
+ghost use Rattle.std.specs.Prelude.{◌≡◌, ◌≤◌, ◌<◌, ◌+◌, ◌++◌, [], true, length, vec_capacity, IfErr, IfOk, IsUtf8, OnErr, OnOk};
 ghost use Rattle.std.specs.Char.{is_ascii};
 ghost use Rattle.std.specs.IoError.{error_kind};
 ghost use Rattle.std.specs.List.{list_all};
@@ -34,7 +34,10 @@ impl LineBytes {
 
     // Makes room for just so many bytes.
     pub(crate) fn reserve_exact(&mut self, amount: usize) -> Result<(), AllocError>
-        ensures { self.new.bytes.items ≡ self.old.bytes.items }
+        ensures items { self.new.bytes.items ≡ self.old.bytes.items }
+        ensures ok { OnOk result (length self.old.bytes.items + amount ≤ vec_capacity self.new.bytes) }
+        ensures full { OnErr result (vec_capacity self.old.bytes < length self.old.bytes.items + amount) }
+        ensures room { vec_capacity self.old.bytes ≤ vec_capacity self.new.bytes }
     {
         self.bytes.reserve_exact(amount)
     }
@@ -45,6 +48,8 @@ impl LineBytes {
         requires { ascii ≡ list_all is_ascii piece.now }
         ensures ok { OnOk result (self.new.bytes.items ≡ self.old.bytes.items ++ piece.now) }
         ensures err { OnErr result (self.new.bytes.items ≡ self.old.bytes.items) }
+        ensures full { OnErr result (vec_capacity self.old.bytes < length self.old.bytes.items + length piece.now) }
+        ensures room { vec_capacity self.old.bytes ≤ vec_capacity self.new.bytes }
     {
         self.bytes.extend_from_slice(piece)?;
         self.ascii &= ascii;

@@ -52,7 +52,7 @@ module _ {A : Type 0} (at : ℕ) (whole final : List ℕ → Result A Error → 
     (on_whole : (xs : List ℕ) (x : A) → whole xs (Ok x) → f x ≡ h xs)
     (on_final : (xs : List ℕ) (x : A) → final xs (Ok x) → f x ≡ xs) where
   abbrev stream_fold : ReadFold (List ℕ) (Option (Result A Error))
-  stream_fold = pieces at ⊤ (Itemised whole final)
+  stream_fold = pieces at (λ held. ⊤) (Itemised whole final)
 
   abbrev made : List ℕ → List ℕ → List (List ℕ)
   made = pieces_from at h

@@ -25,13 +25,13 @@ below_some zero xs ys some h = absurd (omega (arith, some))
 below_some (suc n) xs ys some h = h
 
 module _ {A : Type 0} (byte : ℕ) (may_refuse : Type 0) (whole final : List ℕ → Result A Error → Type 0) where
-  grown : (p q xs : List ℕ) → FoldsTo (pieces byte may_refuse (Itemised whole final)).takes p xs q
+  grown : (p q xs : List ℕ) → FoldsTo (pieces byte (λ held. may_refuse) (Itemised whole final)).takes p xs q
       → length q ≡ length p + length xs
   grown p q [] h = omega (arith, ap length (sym h))
   grown p q (x ∷ xs) h = omega (arith, grown h.0 q xs h.2, ap length h.1.1, length-append p (x ∷ []))
 
   came_in : {p q : List ℕ} {marks : List ReadMark} {b : Answer (Result A Error)}
-      (s : AnswerMarks (pieces byte may_refuse (Itemised whole final)) p marks b q)
+      (s : AnswerMarks (pieces byte (λ held. may_refuse) (Itemised whole final)) p marks b q)
       → given marks + length p ≡ given s.last + length s.between
   came_in {p} s =
       omega (
@@ -64,7 +64,7 @@ module _ {A : Type 0} (byte : ℕ) (may_refuse : Type 0) (whole final : List ℕ
       × ((xs ys : List ℕ) → Falls n xs ys → Lowers l xs ys)
 
   segments_out : (p q : List ℕ) (marks : List ReadMark) (l : List (Answer A))
-      → PieceSegments (pieces byte may_refuse (Itemised whole final)) p marks (all_ok l) q → GivesOut p marks l q
+      → PieceSegments (pieces byte (λ held. may_refuse) (Itemised whole final)) p marks (all_ok l) q → GivesOut p marks l q
   segments_out p q marks [] h = (0, omega (arith, ap given h.0, ap length h.1), λ xs ys f. f)
   segments_out p q marks (Pending ∷ l) (first, rest, m, cut, a, more) =
       let r = segments_out m q rest l more in
@@ -97,7 +97,7 @@ module _ {X S K A : Type 0} (over : StreamOver X S (List ℕ) K) (byte : K → �
     (whole final : List ℕ → Result A Error → Type 0) {reads : Runs ReadMark S}
     (laws : MarkLaws reads) {r : Ranks S} (counting : ReadCounting reads r) where
   flow_lowers : (x y : X) (l : List (Answer A)) → r.firm (over.reader x)
-      → Flows over (λ k. pieces (byte k) may_refuse (Itemised whole final)) reads x (all_ok l) y
+      → Flows over (λ k. pieces (byte k) (λ held. may_refuse) (Itemised whole final)) reads x (all_ok l) y
       → Lowers l (r.rank (over.reader y) ++ length (over.held y) ∷ [])
       (r.rank (over.reader x) ++ length (over.held x) ∷ [])
   flow_lowers x y l f h =
@@ -108,10 +108,10 @@ module _ {X S K A : Type 0} (over : StreamOver X S (List ℕ) K) (byte : K → �
       (r.rank _) (counting.lowers _ _ s.marks f s.came) out.1)
 
   firm_still : (x y : X) (l : List (Answer (Result A Error))) → r.firm (over.reader x)
-      → Flows over (λ k. pieces (byte k) may_refuse (Itemised whole final)) reads x l y → r.firm (over.reader y)
-  firm_still = flow_keeps over (λ k. pieces _ may_refuse _) laws r.firm counting.firm_on
+      → Flows over (λ k. pieces (byte k) (λ held. may_refuse) (Itemised whole final)) reads x l y → r.firm (over.reader y)
+  firm_still = flow_keeps over (λ k. pieces _ (λ held. may_refuse) _) laws r.firm counting.firm_on
 
-  pub flow_counting : OkCounting (Flows over (λ k. pieces (byte k) may_refuse (Itemised whole final)) reads)
+  pub flow_counting : OkCounting (Flows over (λ k. pieces (byte k) (λ held. may_refuse) (Itemised whole final)) reads)
       (flow_ranks over r)
   flow_counting =
       record {

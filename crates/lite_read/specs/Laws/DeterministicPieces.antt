@@ -44,7 +44,7 @@ cuts_now byte held l (Cut.failed e) (inl h) = rw h (CutsNow.failed e _ refl)
 cuts_now byte held l (Cut.failed e) (inr h) = absurd h.1
 
 given_by : {R : Type 0} (byte : ℕ) (becomes : Cut → List ℕ → R → List ℕ → Type 0) (held : List ℕ) (l : List ReadMark)
-    (cut : Cut) → CutsNow byte held l cut → GivenBy ⊥ (TakenAt (pieces byte ⊥ becomes) held) l
+    (cut : Cut) → CutsNow byte held l cut → GivenBy ⊥ (TakenAt (pieces byte (λ held. ⊥) becomes) held) l
 given_by byte becomes held _ _ (CutsNow.piece b e) = GivenBy.at_mark _ (λ n. n) (λ t. t.3.0 (cc (t.2, e))) tt
 given_by byte becomes held _ _ _ = GivenBy.at_mark _ (λ n. n) (λ t. cc t.2) tt
 
@@ -64,7 +64,7 @@ BecomesOne {R} same becomes = (a b : Cut) (held : List ℕ) (v w : R) (p q : Lis
 
 pub pieces_deterministic : {R : Type 0} {same : R → R → Type 0} (byte : ℕ)
     (becomes : Cut → List ℕ → R → List ℕ → Type 0) → BecomesOne same becomes
-    → IsDeterministic same (pieces byte ⊥ becomes)
+    → IsDeterministic same (pieces byte (λ held. ⊥) becomes)
 pieces_deterministic byte becomes one =
     deterministic_by _ (λ p. ⊥) (λ p q r b h k. h.1 ∙ sym k.1) (λ p r b h n. n)
     (λ p q l v h. given_by byte becomes p l h.0 (cuts_now byte p l h.0 h.1))
@@ -106,7 +106,7 @@ module _ {A : Type 0} {same : A → A → Type 0} {whole final : List ℕ → Re
   itemised_one (Cut.failed a) (Cut.failed b) held (Some r) None p q e h k = absurd k
   itemised_one _ _ held v w p q e h k = absurd e
 
-  pub items_deterministic : (byte : ℕ) → IsDeterministic (OptionBy (SameOr same)) (pieces byte ⊥ (Itemised whole final))
+  pub items_deterministic : (byte : ℕ) → IsDeterministic (OptionBy (SameOr same)) (pieces byte (λ held. ⊥) (Itemised whole final))
   items_deterministic byte = pieces_deterministic byte _ itemised_one
 
 module _ {X S M K : Type 0} (over : StreamOver X S M K) where

@@ -1,5 +1,4 @@
 -- Laws of `read_until`.
-use Rattle.std.specs.Prelude.{⊤}
 use Rattle.std.proofs.Common.{◌∙◌, ◌≤◌, [], ◌∷◌, length, Result, ℕ, refl, ap, arith}
 use Rattle.std.specs.declared.io.Error.{Error}
 use Rattle.futures.specs.declared.task.Poll.{Poll}
@@ -16,7 +15,7 @@ use Rattle.lite_read.specs.declared.read_until.ReadUntilFuture.{ReadUntilFuture}
 
 module _ {R : Type 0} where
   stays_none : (x : ReadUntilFuture R) → UntilStays x x
-  stays_none x = record { reader = refl; buf = refl; byte = refl; start = refl; before = refl; grows = omega arith }
+  stays_none x = record { reader = refl; buf = refl; byte = refl; start = refl; before = refl; grows = omega arith; room = omega arith }
 
   -- what was there at first is there still
   module _ (x y : ReadUntilFuture R) where
@@ -32,6 +31,7 @@ module _ {R : Type 0} where
           start = k.start ∙ h.start;
           before = rw (← h.start) k.before ∙ h.before;
           grows = omega (arith, h.grows, k.grows);
+          room = omega (arith, h.room, k.room);
         }
 
   keeps : (m : Type 0) → KeepLaws (λ (x : ReadUntilFuture R). until x.byte m) UntilStays
@@ -43,6 +43,6 @@ module _ {R : Type 0} where
     until_laws may_refuse = gathers_laws (keeps may_refuse)
 
     -- a step before others
-    pub step_before : MarkLaws reads → (x y z : ReadUntilFuture R) (a : Poll (Result ℕ Error)) → AppendsMore reads ⊤ x y
-        → ReadsUntil reads ⊤ y (a ∷ []) z → ReadsUntil reads ⊤ x (a ∷ []) z
-    step_before laws = gathers_before (keeps ⊤) laws (λ x y k. k)
+    pub step_before : {m : Type 0} → MarkLaws reads → (x y z : ReadUntilFuture R) (a : Poll (Result ℕ Error))
+        → AppendsMore reads m x y → ReadsUntil reads m y (a ∷ []) z → ReadsUntil reads m x (a ∷ []) z
+    step_before {m} laws = gathers_before (keeps m) laws (λ x y k. k)

@@ -59,8 +59,8 @@ module _ {X S M K R : Type 0} (over : StreamOver X S M K) (fold : K → ReadFold
     step_before a t h =
         record {
           segmented =
-              segmented_before _ laws _ _ _ _ _ _ t.taken a t.came t.folds (rw t.stays at h.segmented);
-          stays = h.stays ∙ t.stays;
+              segmented_before _ laws _ _ _ _ _ _ t.taken a t.came t.folds (rw t.stays.0 at h.segmented);
+          stays = h.stays ∙ t.stays.0;
           idle = λ e. cc e;
         }
 

@@ -21,11 +21,11 @@ module _ {X R A : Type 0} (over : TextOver X R A) where
   abbrev pub TextAlike : (R → R → Type 0) → X → X → Type 0
   TextAlike alike x y = alike (over.reader x).now (over.reader y).now × (reading over x ≡ reading over y)
 
-  module _ (fold : Type 0 → ReadFold (List ℕ) (Result ℕ Error)) {reads : Runs ReadMark R} where
-    module _ (deterministic : IsDeterministic SameByKind (fold ⊥)) {ample : Runs ReadMark R} {needs_none : Type 0}
+  module _ (fold : (List ℕ → Type 0) → ReadFold (List ℕ) (Result ℕ Error)) {reads : Runs ReadMark R} where
+    module _ (deterministic : IsDeterministic SameByKind (fold (λ read. ⊥))) {ample : Runs ReadMark R} {needs_none : Type 0}
         {alike : R → R → Type 0} (s : SteadyReadLaws reads ample needs_none alike) where
-      pub text_steady : FutureSteadyLawsBy (Sameness.by SameByKind) (ReadsText over (fold ⊤) reads)
-          (ReadsText over (fold ⊥) ample) ⊥ (TextAlike alike)
+      pub text_steady : FutureSteadyLawsBy (Sameness.by SameByKind) (ReadsText over (fold (λ read. ⊤)) reads)
+          (ReadsText over (fold (λ read. ⊥)) ample) ⊥ (TextAlike alike)
       text_steady = record {
         laws = text_laws over _ s.laws;
         steady = λ x y e. gathers_alike (λ x. text_deterministic _ deterministic) s x y e.0 e.1 refl;
@@ -33,5 +33,5 @@ module _ {X R A : Type 0} (over : TextOver X R A) where
       }
 
     pub text_calm : {is_calm : R → Type 0} → CalmReadLaws reads is_calm
-        → CalmLaws (ReadsText over (fold ⊤) reads) (λ x. is_calm (over.reader x).now)
+        → CalmLaws (ReadsText over (fold (λ read. ⊤)) reads) (λ x. is_calm (over.reader x).now)
     text_calm = gathers_calm

@@ -1,6 +1,8 @@
 use Rattle.std.proofs.Common.{◌≡◌, [], Some, None, Ok, Err, refl, rules}
 use Rattle.std.proofs.lemmas.Grind.{common_steps}
 use Rattle.futures.specs.declared.task.Poll.TheVariants.{Ready, Pending}
+use Rattle.lite_read.proofs.Lacking.{before_found, before_none, lacks_before}
+use Rattle.lite_read.specs.Scan.{is_newline}
 use Rattle.lite_read.proofs.Items.{item_at_end, item_cut, item_fails, item_more, item_refused, item_waits}
 use Rattle.lite_read.proofs.lines.LinesPollSteps.poll_step.Goals as goal
 
@@ -29,6 +31,8 @@ returns-in-Err-clause-stepped g c =
     let e = c.in-Err.ensures in
     item_refused g.R.Tale.read_laws refl e.held c.in-Err.e _ _
     (rw is at c.find_line.ensures.ran) (search (rules, common_steps)) e.refused e.unread
+    (lacks_before is_newline g.R.AsyncBufRead.lent e.unread e.held
+    (before_found 10 _ line.at (rw is at c.find_line.ensures.found)) e.full)
 
 pub returns-then-is_empty-clause-stepped : goal.returns-then-is_empty-clause-stepped
 returns-then-is_empty-clause-stepped g c =
@@ -41,7 +45,7 @@ pub returns-in-Ok-take_in-clause-stepped : goal.returns-in-Ok-take_in-clause-ste
 returns-in-Ok-take_in-clause-stepped g c =
     let is : c.find_line.result ≡ Ready (Ok (None, c.in-Ready-Ok-None-default.ascii)) = search rules in
     let e = c.in-Ok-take_in.ensures in
-    item_more (λ k. 10) g.R.Tale.read_laws refl _ _
+    item_more (λ k. 10) g.R.Tale.read_laws refl e.room _ _
     (rw is at c.find_line.ensures.ran)
     (rw is at c.find_line.ensures.found) (search (rules, common_steps)) e.ok e.taken
 
@@ -51,3 +55,5 @@ returns-in-Err-take_in-clause-stepped g c =
     let e = c.in-Err-take_in.ensures in
     item_refused g.R.Tale.read_laws refl e.held c.in-Err-take_in.e _ _
     (rw is at c.find_line.ensures.ran) (search (rules, common_steps)) e.refused e.unread
+    (lacks_before is_newline g.R.AsyncBufRead.lent e.unread e.held
+    (before_none 10 _ (rw is at c.find_line.ensures.found)) e.full)

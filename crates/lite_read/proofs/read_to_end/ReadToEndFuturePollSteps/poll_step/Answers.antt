@@ -1,4 +1,5 @@
-use Rattle.std.proofs.Common.{◌≡◌, ◌+◌, ◌-◌, [], ◌∷◌, Ok, Err, length, ap, refl, rules, arith, length-take-le}
+use Rattle.std.proofs.Common.{◌≡◌, ◌<◌, ◌+◌, ◌-◌, max, vec_capacity, [], ◌∷◌, Ok, Err, length, ap, refl, rules, arith, length-take-le}
+use Rattle.std.proofs.lemmas.Grind.{common_steps}
 use Rattle.lite_read.proofs.Appending.{read_none, read_some, refused}
 use Rattle.lite_read.proofs.Filling.{ends_behind}
 use Rattle.lite_read.specs.Appending.{read_front}
@@ -9,7 +10,12 @@ use Rattle.lite_read.proofs.read_to_end.ReadToEndFuturePollSteps.poll_step.Goals
 pub returns-then-is_err-clause-stepped : goal.returns-then-is_err-clause-stepped
 returns-then-is_err-clause-stepped g c =
     let m = c.make_room.ensures in
-    refused _ g.R.Tale.read_laws c.args.self.now c.make_room.new.self c.into.result tt m.same m.front c.into.ensures
+    let x = c.args.self.now in
+    let w = c.make_room.new.self in
+    let filled : w.filled ≡ x.filled = ap (λ z. z.filled) m.same in
+    let full : vec_capacity x.buf.now < x.filled + max 32 x.room = search (rules, common_steps) in
+    refused _ g.R.Tale.read_laws x w c.into.result (0, omega (arith, filled), omega (arith, filled, full)) m.same
+    m.front c.into.ensures
 
 pub returns-in-Ready-Ok-clause-stepped : goal.returns-in-Ready-Ok-clause-stepped
 returns-in-Ready-Ok-clause-stepped g c =
@@ -18,7 +24,8 @@ returns-in-Ready-Ok-clause-stepped g c =
     let is : c.poll_read.result ≡ Ready (Ok c.in-Ready-Ok.n) = search rules in
     read_some _ g.R.Tale.reads c.args.self.now c.make_room.new.self c.poll_read.new.self c.deref_mut.result.now
     c.poll_read.new.buf c.in-Ready-Ok.n _ m.same m.front m.within c.deref_mut.ensures.value c.poll_read.auto.buf
-    (rw is at e.bound) (omega (arith, c.in-Ready-Ok.n-test)) (rw is at e.ran)
+    (rw is at e.bound) (omega (arith, c.in-Ready-Ok.n-test)) (rw is at e.ran) m.grows
+    c.next_room-self.ensures.most
 
 pub returns-in-Ready-Ok-eq0-clause-stepped : goal.returns-in-Ready-Ok-eq0-clause-stepped
 returns-in-Ready-Ok-eq0-clause-stepped g c =

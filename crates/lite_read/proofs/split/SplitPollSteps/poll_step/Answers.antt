@@ -1,6 +1,8 @@
 use Rattle.std.proofs.Common.{◌≡◌, [], Some, None, Ok, Err, refl, rules}
 use Rattle.std.proofs.lemmas.Grind.{common_steps}
 use Rattle.futures.specs.declared.task.Poll.TheVariants.{Ready, Pending}
+use Rattle.memchr.specs.Find.{is_byte}
+use Rattle.lite_read.proofs.Lacking.{before_found, before_none, lacks_before}
 use Rattle.lite_read.proofs.Items.{item_at_end, item_fails, item_found, item_more, item_refused, item_waits}
 use Rattle.lite_read.proofs.split.SplitPollSteps.poll_step.Goals as goal
 
@@ -22,7 +24,9 @@ returns-in-Ready-Ok-Some-clause-stepped g c =
     let e = c.cut.ensures in
     item_found g.R.Tale.read_laws e.byte _ _ c.in-Ready-Ok-Some.at c.cut.result
     (rw is at c.find_byte.ensures.ran)
-    (rw is at c.find_byte.ensures.found) e.ok e.err
+    (rw is at c.find_byte.ensures.found) e.ok e.err e.full
+    (λ unread held full. (lacks_before (is_byte c.args.self.now.byte) g.R.AsyncBufRead.lent unread held
+    (before_found c.args.self.now.byte _ c.in-Ready-Ok-Some.at (rw is at c.find_byte.ensures.found)) full))
 
 pub returns-then-is_empty-clause-stepped : goal.returns-then-is_empty-clause-stepped
 returns-then-is_empty-clause-stepped g c =
@@ -37,7 +41,7 @@ pub returns-in-Ok-clause-stepped : goal.returns-in-Ok-clause-stepped
 returns-in-Ok-clause-stepped g c =
     let is : c.find_byte.result ≡ Ready (Ok None) = search rules in
     let e = c.in-Ok.ensures in
-    item_more (λ k. k) g.R.Tale.read_laws e.byte _ _
+    item_more (λ k. k) g.R.Tale.read_laws e.byte e.room _ _
     (rw is at c.find_byte.ensures.ran) (rw is at c.find_byte.ensures.found) (search (rules, common_steps)) e.ok e.taken
 
 pub returns-in-Err-clause-stepped : goal.returns-in-Err-clause-stepped
@@ -46,3 +50,5 @@ returns-in-Err-clause-stepped g c =
     let e = c.in-Err.ensures in
     item_refused g.R.Tale.read_laws e.byte e.held c.in-Err.e _ _
     (rw is at c.find_byte.ensures.ran) (search (rules, common_steps)) e.refused e.unread
+    (lacks_before (is_byte c.args.self.now.byte) g.R.AsyncBufRead.lent e.unread e.held
+    (before_none c.args.self.now.byte _ (rw is at c.find_byte.ensures.found)) e.full)
