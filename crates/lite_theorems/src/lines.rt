@@ -1,5 +1,6 @@
 ghost use Rattle.std.specs.Prelude.{◌≡◌, ◌<◌, [], IfErr, IfOk};
 ghost use Rattle.lite_buffered.specs.BufReader.{ahead, reader_capacity, reader_inner};
+ghost use Rattle.lite_buffered.specs.Take.{take_inner};
 ghost use Rattle.lite_theorems.specs.Lines.{AtEachValue, CollectsLines};
 
 use lite_base::Future;
@@ -39,6 +40,7 @@ where
         (CollectsLines R.reads C.holds [] reader limit)) }
     ensures pollable { IfOk result
         (λ f. R.ranks.counts reader → R.ranks.firm reader → ⟦<CollectLinesFuture<R, C> as Future>⟧.can_poll f) }
+    ensures capacity { IfOk result (λ f. reader_capacity (take_inner f.stream.reader) ≡ 8192) }
     ensures handed_back { IfErr result (λ r. r ≡ reader) }
 {
     let buffered = BufReader::new(alloc, reader)?;
@@ -65,6 +67,7 @@ where
         (CollectsLines R.reads C.holds (ahead reader) (reader_inner reader) limit) }
     ensures pollable { R.ranks.counts (reader_inner reader) → R.ranks.firm (reader_inner reader)
         → ⟦<CollectLinesFuture<R, C> as Future>⟧.can_poll result }
+    ensures reader { take_inner result.stream.reader ≡ reader }
 {
     try_collect(lines(take(reader, limit), alloc), memory)
 }
