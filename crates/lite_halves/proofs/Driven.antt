@@ -6,7 +6,7 @@ use Rattle.std.proofs.lemmas.List.Sums.{sum_by-append}
 use Rattle.lite_io_base.specs.Marks.{ReadMark}
 use Rattle.lite_io_base.specs.Takings.{WriteMark}
 use Rattle.lite_halves.specs.declared.entry.Answer.{Answer}
-use Rattle.lite_halves.specs.Counts.{CountsOn, HalfCounts, count_moved, moved_by}
+use Rattle.lite_halves.specs.Counts.{CountsOn, HalfCounts, Makes, count_moved, moved_by}
 use Rattle.lite_halves.specs.Drive.{pairs}
 use Rattle.lite_halves.specs.Entry.{AllFit, FitsCall, Note, Request, Told, told_in, told_of}
 use Rattle.lite_halves.specs.Journal.{Adds, AddsAll, Chronicle}
@@ -57,24 +57,28 @@ driven_more before out more after answer n d next same pushed = record {
 -- a half's calls with these answers fit, and were counted from a to b
 abbrev pub HalfMade : List Request → HalfCounts → HalfCounts → List Told → Type 0
 HalfMade asked a b told = AllFit (pairs asked told) × (b.calls ≡ a.calls + length told)
-    × (b.bytes ≡ a.bytes + count_moved told)
+    × (b.bytes ≡ a.bytes + count_moved told) × (b.made ≡ a.made ++ pairs asked told)
 
 module _ {C : Type 0} (ask : C → Request) (xs : List C) where
   pub half_none : (a : HalfCounts) (out : List Answer) → Driven (HalfMade (map ask xs) a a) out out 0
-  half_none a out = driven_none out (rw pairs_none tt, sym (add-zero a.calls), sym (add-zero a.bytes))
+  half_none a out = driven_none out (
+    rw pairs_none tt, sym (add-zero a.calls), sym (add-zero a.bytes), rw pairs_none (sym (append-nil a.made))
+  )
 
   -- one call more, of x
   pub half_more : (a b c : HalfCounts) (before out more after : List Answer) (answer : Answer) (n : ℕ) (x d : C)
       → Driven (HalfMade (map ask xs) a b) before out n → n < length xs → get_or xs n d ≡ x
       → FitsCall (ask x) (told_of answer) → CountsOn 1 (moved_by (told_of answer)) b c
+      → Makes b (record { asked = ask x; told = told_of answer }) c
       → more ≡ out → after ≡ more ++ answer ∷ [] → Driven (HalfMade (map ask xs) a c) before after (n + 1)
-  half_more a b c before out more after answer n x d so_far inside is fits counts =
+  half_more a b c before out more after answer n x d so_far inside is fits counts makes =
       let t = told_of answer in
       let made = so_far.made in
       driven_more before out more after answer n so_far (
         rw (pairs_more ask xs so_far.told t x d n so_far.many inside is) (fit_both _ (_ ∷ []) made.0 (fits, tt)),
         omega (arith, counts.0, made.1, length-append so_far.told (t ∷ [])),
         omega (arith, counts.1, made.2, sum_by-append moved_by so_far.told (t ∷ [])),
+        rw (pairs_more ask xs so_far.told t x d n so_far.many inside is, makes, made.3, append_assoc),
       )
 
 module _ {T : Type 0} (reads : Runs ReadMark T) (writes : Runs WriteMark T) {C : Type 0} (ask : C → Request)

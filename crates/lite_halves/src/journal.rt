@@ -1,6 +1,6 @@
 //! The journal: what it holds, and how it is made and looked at.
-ghost use Rattle.std.specs.Prelude.{◌≡◌, [], IfErr, IfOk};
-ghost use Rattle.lite_halves.specs.Entry.{notes_in};
+ghost use Rattle.std.specs.Prelude.{◌≡◌, ◌<◌, List, ◌++◌, ◌∷◌, [], length, IfErr, IfOk};
+ghost use Rattle.lite_halves.specs.Entry.{Note, note_of, notes_in};
 ghost use Rattle.lite_halves.specs.Journal.{IsSound, Replays};
 
 mod drive;
@@ -10,6 +10,7 @@ use crate::entry::Entry;
 use lite_io_base::{Takings, Tale};
 use std::alloc::{AllocError, Global};
 use std::marker::Model;
+use std::snapshot::Snapshot;
 
 /// A stream of bytes that writes down each of its calls: what the stream was when the journal began, the calls since
 /// with their answers, and the stream as it is now.
@@ -75,6 +76,17 @@ impl<T: Tale + Takings + Clone> Journal<T> {
         ensures replays { Replays T.reads T.writes T.is_clone self.now }
     {
         &self.entries
+    }
+
+    /// The entry of the latest call, for contracts alone.
+    pub(crate) fn latest(&self) -> Snapshot<Entry>
+        requires { 0 < length self.now.notes }
+        ensures { (front : List Note) (e : Note) → self.now.notes ≡ front ++ e ∷ [] → note_of result.value ≡ e }
+    {
+        let Some((entry, _)) = self.entries.split_last() else {
+            unreachable!()
+        };
+        Snapshot::of(entry)
     }
 
     /// The stream as it is now. The one that was kept as the start is let go, so the stream has to be `Drop`.
