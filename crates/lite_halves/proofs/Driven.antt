@@ -62,7 +62,10 @@ HalfMade asked a b told = AllFit (pairs asked told) × (b.calls ≡ a.calls + le
 module _ {C : Type 0} (ask : C → Request) (xs : List C) where
   pub half_none : (a : HalfCounts) (out : List Answer) → Driven (HalfMade (map ask xs) a a) out out 0
   half_none a out = driven_none out (
-    rw pairs_none tt, sym (add-zero a.calls), sym (add-zero a.bytes), rw pairs_none (sym (append-nil a.made))
+    rw pairs_none tt,
+    sym (add-zero a.calls),
+    sym (add-zero a.bytes),
+    rw pairs_none (sym (append-nil a.made)),
   )
 
   -- one call more, of x
