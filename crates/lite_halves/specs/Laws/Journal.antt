@@ -21,7 +21,8 @@ use Rattle.lite_halves.specs.Journal.{parts_among}
 use Rattle.lite_halves.specs.Laws.Entry.{done_note_part, fit_both, parts_in-both, read_note_part, write_note_part}
 use Rattle.lite_base.specs.Runs.{Runs}
 
-thins_both : {A : Type 0} (refusal : A) (xs ks ys ls : List A) → Thins refusal xs ks → Thins refusal ys ls
+-- refusals of two runs in order
+pub thins_both : {A : Type 0} (refusal : A) (xs ks ys ls : List A) → Thins refusal xs ks → Thins refusal ys ls
     → Thins refusal (xs ++ ys) (ks ++ ls)
 thins_both {A} refusal [] ks ys ls a b = let P : List A → Type 0 = λ w. Thins refusal ys (w ++ ls) in rw a b
 thins_both refusal (x ∷ xs) ks ys ls a b = elim a [
@@ -30,7 +31,7 @@ thins_both refusal (x ∷ xs) ks ys ls a b = elim a [
 ]
 
 -- marks of which none is a refusal that reached nothing
-thins_none : {A : Type 0} (refusal : A) (ms : List A) → Thins refusal ms ms
+pub thins_none : {A : Type 0} (refusal : A) (ms : List A) → Thins refusal ms ms
 thins_none refusal [] = refl
 thins_none refusal (m ∷ ms) = inl (ms, refl, thins_none refusal ms)
 

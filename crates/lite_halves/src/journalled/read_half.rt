@@ -2,7 +2,9 @@
 ghost use Rattle.std.specs.Prelude.{◌≡◌, ◌≤◌, ◌+◌, ◌%◌, ◌^◌, ◌⊎◌, ◌++◌, ◌∷◌, [], length, map, IfNone, IfOk, IfSome};
 ghost use Rattle.futures.specs.Poll.{IfReady};
 ghost use Rattle.futures.specs.Task.{Keeps};
-ghost use Rattle.lite_io_base.specs.Marks.{count_of, read_marks};
+ghost use Rattle.std.specs.declared.io.ErrorKind.TheVariants.{OutOfMemory};
+ghost use Rattle.lite_io_base.specs.Marks.{ReadMark, count_of, read_marks};
+ghost use Rattle.lite_io_base.specs.Parts.{Part};
 ghost use Rattle.lite_io_base.specs.Runs.{ReadsInto, room_in};
 ghost use Rattle.lite_halves.specs.Counts.{CountsOn, HalfDrives, IsOutOfMemory, Makes, MakesOrStays, MakesRead};
 ghost use Rattle.lite_halves.specs.Counts.{ReadCounts, moved_by, read_bytes_of};
@@ -72,7 +74,7 @@ impl<R, T: Tale + Takings + Clone, B: Books> JournalReadHalf<R, T, B> {
 impl<R, T: Tale + Takings + Clone, B: Books> Tale for JournalReadHalf<R, T, B> {
     ghost reads = { ReadCounts };
 
-    ghost read_laws = { counts_laws read_bytes_of };
+    ghost read_laws = { counts_laws Part.reading (ReadMark.fault OutOfMemory) read_bytes_of };
 }
 
 impl<R: Wait, T: AsyncRead + Takings + Clone, B: Books> AsyncRead for JournalReadHalf<R, T, B> {
@@ -80,7 +82,7 @@ impl<R: Wait, T: AsyncRead + Takings + Clone, B: Books> AsyncRead for JournalRea
     ///
     /// Room for the entry is made first. Where that is refused the answer is `OutOfMemory`: the stream is not called,
     /// there is no entry, and nothing changes.
-    #[tactic(auto, using(crate::specs::Laws::Counts::read_bytes))]
+    #[tactic(auto, using(crate::specs::Laws::Counts::read_half_rules))]
     fn poll_read(&mut self, cx: &mut Context<'_>, buf: &mut [u8]) -> Poll<io::Result<usize>>
         ensures bound { IfReady result (λ r. IfOk r (λ n. n ≤ length buf.new)) }
         ensures ran { ReadCounts self.old (read_marks result buf.new) self.new }

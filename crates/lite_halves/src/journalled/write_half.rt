@@ -4,7 +4,9 @@ ghost use Rattle.std.specs.Io.Slices.{io_slices_bytes};
 ghost use Rattle.futures.specs.Poll.{IfReady};
 ghost use Rattle.futures.specs.Task.{Keeps};
 ghost use Rattle.lite_io_base.specs.Marks.{count_of};
-ghost use Rattle.lite_io_base.specs.Takings.{done_marks, write_marks};
+ghost use Rattle.std.specs.declared.io.ErrorKind.TheVariants.{OutOfMemory};
+ghost use Rattle.lite_io_base.specs.Parts.{Part};
+ghost use Rattle.lite_io_base.specs.Takings.{WriteMark, done_marks, write_marks};
 ghost use Rattle.lite_io_base.specs.Takings.WriteMark.{closed, flushed};
 ghost use Rattle.lite_halves.specs.Counts.{AllWrites, CountsOn, HalfDrives, IsOutOfMemory, IsWrite, Makes, MakesOrStays};
 ghost use Rattle.lite_halves.specs.Counts.{MakesWrite, WriteCounts, moved_by, taken_bytes_of};
@@ -120,9 +122,10 @@ impl<R: Wait, T: Tale + AsyncWrite + Clone, B: Books> JournalWriteHalf<R, T, B> 
 impl<R, T: Tale + Takings + Clone, B: Books> Takings for JournalWriteHalf<R, T, B> {
     ghost writes = { WriteCounts };
 
-    ghost write_laws = { counts_laws taken_bytes_of };
+    ghost write_laws = { counts_laws Part.writing (WriteMark.fault OutOfMemory) taken_bytes_of };
 }
 
+#[tactic(auto, using(crate::specs::Laws::Counts::write_half_rules))]
 impl<R: Wait, T: Tale + AsyncWrite + Clone, B: Books> AsyncWrite for JournalWriteHalf<R, T, B> {
     /// Writes to the stream, and writes the call down with its answer, both under one lock.
     ///
