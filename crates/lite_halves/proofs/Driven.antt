@@ -1,15 +1,16 @@
 -- What a loop over calls has come to: so many were made, and their answers appended.
 use Rattle.std.proofs.Common.{◌≡◌, ◌<◌, ◌+◌, ℕ, List, [], ◌∷◌, ◌++◌, length, map, get_or, refl, sym, ap}
 use Rattle.std.proofs.Common.{append-nil, append_assoc, length-append, add-zero, arith}
-use Rattle.std.proofs.lemmas.List.{map-append}
+use Rattle.std.proofs.lemmas.List.{get_or_default, map-append}
 use Rattle.std.proofs.lemmas.List.Sums.{sum_by-append}
 use Rattle.lite_io_base.specs.Marks.{ReadMark}
 use Rattle.lite_io_base.specs.Takings.{WriteMark}
 use Rattle.lite_halves.specs.declared.entry.Answer.{Answer}
+use Rattle.lite_halves.specs.declared.entry.Call.{Call}
 use Rattle.lite_halves.specs.Counts.{CountsOn, HalfCounts, Makes, count_moved, moved_by}
-use Rattle.lite_halves.specs.Drive.{pairs}
-use Rattle.lite_halves.specs.Entry.{AllFit, FitsCall, Note, Request, Told, told_in, told_of}
-use Rattle.lite_halves.specs.Journal.{Adds, AddsAll, Chronicle}
+use Rattle.lite_halves.specs.Drive.{AsksAt, pairs}
+use Rattle.lite_halves.specs.Entry.{AllFit, FitsCall, Note, Request, Told, asked_of, told_in, told_of}
+use Rattle.lite_halves.specs.Journal.{Adds, AddsAll, AsksMemory, Chronicle}
 use Rattle.lite_halves.specs.Laws.Entry.{fit_both}
 use Rattle.lite_halves.specs.Laws.Journal.{adds_both, adds_none, adds_one}
 use Rattle.lite_base.specs.Runs.{Runs}
@@ -101,3 +102,8 @@ module _ {T : Type 0} (reads : Runs ReadMark T) (writes : Runs WriteMark T) {C :
       driven_more before out more after answer n so_far
       (rw (pairs_more ask xs so_far.told (told_of answer) x d n so_far.many inside is)
       (adds_both reads writes so_far.made (adds_one reads writes adds)))
+
+-- a call that was refused, the n-th, asked for memory
+pub asks_at : {T : Type 0} (j k : Chronicle T) (calls : List Call) (i n : ℕ) (x : Call) → AsksMemory j (asked_of x)
+    → k ≡ j → x ≡ get_or calls i x → i < length calls → n ≡ i → AsksAt k calls n
+asks_at j k calls i n x asks same is inside at = λ d. rw (same, at, get_or_default calls i d x inside, ← is) asks

@@ -20,7 +20,9 @@ use std::thread::Threads;
 
 // How many reads a list has, how many lists are driven, and how often the other half is polled, before the test fails.
 const ROOMS: usize = 64;
+
 const LISTS: u32 = 200;
+
 const POLLS: u32 = 200_000;
 
 /// A runtime that lets other threads go on when it is asked for memory.

@@ -90,13 +90,19 @@ fn a_refused_copy_hands_both_back(rt: HostRuntime) -> Result<(), Fail> {
     let mut copying = match copy(rt.alloc(), reader, writer) {
         Ok(copying) => copying,
         Err((reader, writer)) => {
-            assert_eq!(rt; (reader, writer.as_slice()), (b"ab".as_slice(), b"-".as_slice()));
+            assert_eq!(rt;
+                (reader, writer.as_slice()),
+                (b"ab".as_slice(), b"-".as_slice())
+            );
             let Ok(copying) = copy(rt.alloc(), reader, writer) else {
                 return Err(AllocError.into());
             };
             copying
         }
     };
-    assert_eq!(rt; told(&rt, &mut copying)?, vec![in rt.alloc(); Poll::Ready(Ok(2))]?);
+    assert_eq!(rt;
+        told(&rt, &mut copying)?,
+        vec![in rt.alloc(); Poll::Ready(Ok(2))]?
+    );
     Ok(())
 }
