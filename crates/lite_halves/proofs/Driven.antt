@@ -1,15 +1,16 @@
 -- What a loop over calls has come to: so many were made, and their answers appended.
 use Rattle.std.proofs.Common.{◌≡◌, ◌<◌, ◌+◌, ℕ, List, [], ◌∷◌, ◌++◌, length, map, get_or, refl, sym, ap}
 use Rattle.std.proofs.Common.{append-nil, append_assoc, length-append, add-zero, arith}
-use Rattle.std.proofs.lemmas.List.{map-append}
+use Rattle.std.proofs.lemmas.List.{get_or_default, map-append}
 use Rattle.std.proofs.lemmas.List.Sums.{sum_by-append}
 use Rattle.lite_io_base.specs.Marks.{ReadMark}
 use Rattle.lite_io_base.specs.Takings.{WriteMark}
 use Rattle.lite_halves.specs.declared.entry.Answer.{Answer}
-use Rattle.lite_halves.specs.Counts.{CountsOn, HalfCounts, count_moved, moved_by}
-use Rattle.lite_halves.specs.Drive.{pairs}
-use Rattle.lite_halves.specs.Entry.{AllFit, FitsCall, Note, Request, Told, told_in, told_of}
-use Rattle.lite_halves.specs.Journal.{Adds, AddsAll, Chronicle}
+use Rattle.lite_halves.specs.declared.entry.Call.{Call}
+use Rattle.lite_halves.specs.Counts.{CountsOn, HalfCounts, Makes, count_moved, moved_by}
+use Rattle.lite_halves.specs.Drive.{AsksAt, pairs}
+use Rattle.lite_halves.specs.Entry.{AllFit, FitsCall, Note, Request, Told, asked_of, told_in, told_of}
+use Rattle.lite_halves.specs.Journal.{Adds, AddsAll, AsksMemory, Chronicle}
 use Rattle.lite_halves.specs.Laws.Entry.{fit_both}
 use Rattle.lite_halves.specs.Laws.Journal.{adds_both, adds_none, adds_one}
 use Rattle.lite_base.specs.Runs.{Runs}
@@ -57,24 +58,31 @@ driven_more before out more after answer n d next same pushed = record {
 -- a half's calls with these answers fit, and were counted from a to b
 abbrev pub HalfMade : List Request → HalfCounts → HalfCounts → List Told → Type 0
 HalfMade asked a b told = AllFit (pairs asked told) × (b.calls ≡ a.calls + length told)
-    × (b.bytes ≡ a.bytes + count_moved told)
+    × (b.bytes ≡ a.bytes + count_moved told) × (b.made ≡ a.made ++ pairs asked told)
 
 module _ {C : Type 0} (ask : C → Request) (xs : List C) where
   pub half_none : (a : HalfCounts) (out : List Answer) → Driven (HalfMade (map ask xs) a a) out out 0
-  half_none a out = driven_none out (rw pairs_none tt, sym (add-zero a.calls), sym (add-zero a.bytes))
+  half_none a out = driven_none out (
+    rw pairs_none tt,
+    sym (add-zero a.calls),
+    sym (add-zero a.bytes),
+    rw pairs_none (sym (append-nil a.made)),
+  )
 
   -- one call more, of x
   pub half_more : (a b c : HalfCounts) (before out more after : List Answer) (answer : Answer) (n : ℕ) (x d : C)
       → Driven (HalfMade (map ask xs) a b) before out n → n < length xs → get_or xs n d ≡ x
       → FitsCall (ask x) (told_of answer) → CountsOn 1 (moved_by (told_of answer)) b c
+      → Makes b (record { asked = ask x; told = told_of answer }) c
       → more ≡ out → after ≡ more ++ answer ∷ [] → Driven (HalfMade (map ask xs) a c) before after (n + 1)
-  half_more a b c before out more after answer n x d so_far inside is fits counts =
+  half_more a b c before out more after answer n x d so_far inside is fits counts makes =
       let t = told_of answer in
       let made = so_far.made in
       driven_more before out more after answer n so_far (
         rw (pairs_more ask xs so_far.told t x d n so_far.many inside is) (fit_both _ (_ ∷ []) made.0 (fits, tt)),
         omega (arith, counts.0, made.1, length-append so_far.told (t ∷ [])),
         omega (arith, counts.1, made.2, sum_by-append moved_by so_far.told (t ∷ [])),
+        rw (pairs_more ask xs so_far.told t x d n so_far.many inside is, makes, made.3, append_assoc),
       )
 
 module _ {T : Type 0} (reads : Runs ReadMark T) (writes : Runs WriteMark T) {C : Type 0} (ask : C → Request)
@@ -94,3 +102,8 @@ module _ {T : Type 0} (reads : Runs ReadMark T) (writes : Runs WriteMark T) {C :
       driven_more before out more after answer n so_far
       (rw (pairs_more ask xs so_far.told (told_of answer) x d n so_far.many inside is)
       (adds_both reads writes so_far.made (adds_one reads writes adds)))
+
+-- a call that was refused, the n-th, asked for memory
+pub asks_at : {T : Type 0} (j k : Chronicle T) (calls : List Call) (i n : ℕ) (x : Call) → AsksMemory j (asked_of x)
+    → k ≡ j → x ≡ get_or calls i x → i < length calls → n ≡ i → AsksAt k calls n
+asks_at j k calls i n x asks same is inside at = λ d. rw (same, at, get_or_default calls i d x inside, ← is) asks

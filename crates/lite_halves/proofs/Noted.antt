@@ -1,5 +1,5 @@
 -- A journal with one entry more.
-use Rattle.std.proofs.Common.{◌≡◌, ◌∙◌, List, [], ◌∷◌, ◌++◌, ap, sym, refl, subst}
+use Rattle.std.proofs.Common.{◌≡◌, ◌∙◌, ◌≤◌, ◌+◌, ℕ, List, [], ◌∷◌, ◌++◌, ap, sym, refl, subst}
 use Rattle.std.proofs.lemmas.List.{map-append}
 use Rattle.lite_io_base.specs.Parts.{Part, PartRuns}
 use Rattle.lite_io_base.specs.Marks.{ReadMark}
@@ -20,18 +20,20 @@ notes_in-push es fs gs e n same pushed asked told =
 
 module _ {T : Type 0} (reads : Runs ReadMark T) (writes : Runs WriteMark T) (copies : T → T → Type 0) where
   -- a call that ran by the marks of its entry, which was pushed
-  pub sound_push : {start stream next : T} {es fs gs : List Entry} (e : Entry) (n : Note) {p : Part}
-      → IsSound reads writes copies (record { start = start; notes = notes_in es; stream = stream })
+  pub sound_push : {start stream next : T} {es fs gs : List Entry} {room rest : ℕ} (e : Entry) (n : Note) {p : Part}
+      → IsSound reads writes copies (record { start = start; notes = notes_in es; stream = stream; room = room })
       → fs ≡ es → gs ≡ fs ++ e ∷ [] → asked_of e.call ≡ n.asked → told_of e.answer ≡ n.told → FitsCall n.asked n.told
       → part_of n.asked n.told ≡ p → PartRuns reads writes stream p next
-      → IsSound reads writes copies (record { start = start; notes = notes_in gs; stream = next })
-  sound_push {start} {stream} {next} {es} {fs} {gs} e n sound same pushed asked told fits is ran =
-      let a : Chronicle T = record { start = start; notes = notes_in es; stream = stream } in
-      let b : Chronicle T = record { start = start; notes = notes_in gs; stream = next } in
+      → room ≤ rest + 1
+      → IsSound reads writes copies (record { start = start; notes = notes_in gs; stream = next; room = rest })
+  sound_push {start} {stream} {next} {es} {fs} {gs} {room} {rest} e n sound same pushed asked told fits is ran left =
+      let a : Chronicle T = record { start = start; notes = notes_in es; stream = stream; room = room } in
+      let b : Chronicle T = record { start = start; notes = notes_in gs; stream = next; room = rest } in
       let adds : Adds reads writes a n b = record {
         fits = fits;
         start = refl;
         notes = notes_in-push es fs gs e n same pushed asked told;
         ran = subst (λ w. PartRuns reads writes stream w next) (sym is) ran;
+        room = left;
       } in
       sound_more reads writes copies a b (n ∷ []) sound (adds_one reads writes adds)

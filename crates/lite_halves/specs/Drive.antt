@@ -1,10 +1,11 @@
 -- Calls that are made one after the other until memory is refused.
-use Rattle.std.specs.Prelude.{◌≡◌, ◌<◌, List, [], ◌∷◌, ◌++◌, length, Result, Ok, Err}
+use Rattle.std.specs.Prelude.{◌≡◌, ◌<◌, ℕ, List, [], ◌∷◌, ◌++◌, length, slice_index_or, Result, Ok, Err}
 use Rattle.std.specs.declared.alloc.AllocError.{AllocError}
 use Rattle.lite_io_base.specs.Marks.{ReadMark}
 use Rattle.lite_io_base.specs.Takings.{WriteMark}
-use Rattle.lite_halves.specs.Entry.{Note, Request, Told}
-use Rattle.lite_halves.specs.Journal.{AddsAll, Chronicle}
+use Rattle.lite_halves.specs.declared.entry.Call.{Call}
+use Rattle.lite_halves.specs.Entry.{Note, Request, Told, asked_of}
+use Rattle.lite_halves.specs.Journal.{AddsAll, AsksMemory, Chronicle}
 use Rattle.lite_base.specs.Runs.{Runs}
 
 -- each call with its answer, as far as there are both
@@ -25,3 +26,7 @@ abbrev pub Drives : {T : Type 0} → Runs ReadMark T → Runs WriteMark T → Ch
 Drives reads writes a asked before r b after =
     (told : List Told) × (after ≡ before ++ told) × CallsAnswered r asked told
     × AddsAll reads writes a (pairs asked told) b
+
+-- the call at i asks for memory
+abbrev pub AsksAt : {T : Type 0} → Chronicle T → List Call → ℕ → Type 0
+AsksAt j calls i = (d : Call) → AsksMemory j (asked_of (slice_index_or calls i d))

@@ -29,6 +29,12 @@ pub data Told : Type 0 where
   done : Told
   fault : ErrorKind → Told
 
+-- how many bytes are copied into the entry of a call
+abbrev pub copied : Request → ℕ
+copied (Request.room n) = n
+copied (Request.offer xs) = length xs
+copied asked = 0
+
 -- one call and its answer
 pub record Note : Type 0 where
   pub asked : Request

@@ -1,5 +1,5 @@
 -- A journal: what it began with, what was asked and told since, and what it is now.
-use Rattle.std.specs.Prelude.{◌≡◌, ◌⊎◌, ◌≤◌, ℕ, List, [], ◌∷◌, ◌++◌, length, map, Option, Some, None, Result}
+use Rattle.std.specs.Prelude.{◌≡◌, ◌⊎◌, ◌<◌, ◌≤◌, ℕ, ◌+◌, List, [], ◌∷◌, ◌++◌, length, map, Option, Some, None, Result}
 use Rattle.std.specs.List.{flat_map}
 use Rattle.std.specs.declared.io.Error.{Error}
 use Rattle.std.specs.declared.io.ErrorKind.TheVariants.{OutOfMemory}
@@ -10,14 +10,20 @@ use Rattle.lite_io_base.specs.Marks.{ReadMark}
 use Rattle.lite_io_base.specs.Runs.{StandsFirst, room_in}
 use Rattle.lite_io_base.specs.Steps.{Steps}
 use Rattle.lite_io_base.specs.Takings.{WriteMark}
-use Rattle.lite_halves.specs.Entry.{AllFit, FitsCall, Note, Told, part_of, parts_in, read_note, write_note}
+use Rattle.lite_halves.specs.Entry.{AllFit, FitsCall, Note, Request, Told, copied, part_of, parts_in, read_note}
+use Rattle.lite_halves.specs.Entry.{write_note}
 use Rattle.lite_base.specs.Runs.{Runs}
 
--- what contracts see of a journal
+-- what contracts see of a journal; `room` is how many entries more it can take with no memory asked for
 pub record Chronicle (T : Type 0) : Type 0 where
   pub start : T
   pub notes : List Note
   pub stream : T
+  pub room : ℕ
+
+-- This call asks for memory: the journal has no room for an entry, or bytes are copied into it.
+abbrev pub AsksMemory : {T : Type 0} → Chronicle T → Request → Type 0
+AsksMemory j asked = (j.room ≡ 0) ⊎ (0 < copied asked)
 
 -- each clone equals its original
 abbrev pub ClonesEqual : {T : Type 0} → (T → T → Type 0) → Type 0
@@ -68,10 +74,11 @@ module _ {T : Type 0} (reads : Runs ReadMark T) (writes : Runs WriteMark T) wher
     pub start : b.start ≡ a.start
     pub notes : b.notes ≡ a.notes ++ e ∷ []
     pub ran : PartRuns reads writes a.stream (part_of e.asked e.told) b.stream
+    pub room : a.room ≤ b.room + 1
 
-  -- the call added its entry, or was refused for memory and nothing changed
+  -- the call added its entry, or asked for memory and was refused, and nothing changed
   abbrev pub AddsOrStays : Chronicle T → Note → Chronicle T → Type 0
-  AddsOrStays a e b = Adds a e b ⊎ ((e.told ≡ Told.fault OutOfMemory) × (b ≡ a))
+  AddsOrStays a e b = Adds a e b ⊎ ((e.told ≡ Told.fault OutOfMemory) × (b ≡ a) × AsksMemory a e.asked)
 
   -- one read into no more room than the buffers have, with its entry
   abbrev pub AddsRead : Chronicle T → Poll (Result ℕ Error) → List IoSliceMut → Chronicle T → Type 0
@@ -88,6 +95,7 @@ module _ {T : Type 0} (reads : Runs ReadMark T) (writes : Runs WriteMark T) wher
     pub start : b.start ≡ a.start
     pub notes : b.notes ≡ a.notes ++ es
     pub ran : PartsInOrder reads writes a.stream (parts_in es) b.stream
+    pub room : a.room ≤ b.room + length es
 
   -- What a journal's callers see of one kind of calls: the marks of the entries that were added, all of that kind, and
   -- between them the refusals that reached nothing.

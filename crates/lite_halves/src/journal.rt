@@ -1,6 +1,6 @@
 //! The journal: what it holds, and how it is made and looked at.
-ghost use Rattle.std.specs.Prelude.{◌≡◌, [], IfErr, IfOk};
-ghost use Rattle.lite_halves.specs.Entry.{notes_in};
+ghost use Rattle.std.specs.Prelude.{◌≡◌, ◌<◌, List, ◌++◌, ◌∷◌, [], length, IfErr, IfOk};
+ghost use Rattle.lite_halves.specs.Entry.{Note, note_of, notes_in};
 ghost use Rattle.lite_halves.specs.Journal.{IsSound, Replays};
 
 mod drive;
@@ -10,17 +10,18 @@ use crate::entry::Entry;
 use lite_io_base::{Takings, Tale};
 use std::alloc::{AllocError, Global};
 use std::marker::Model;
+use std::snapshot::Snapshot;
 
 /// A stream of bytes that writes down each of its calls: what the stream was when the journal began, the calls since
 /// with their answers, and the stream as it is now.
 ///
 /// Every journal is sound: each answer is one that its call can be told, and the calls in order lead the stream from
-/// its start to what it is now. A contract sees the start, the entries and the stream. Room for an entry, and for the
-/// bytes that are asked for or offered, is made before the stream is called; where it is refused the answer is an
-/// error of the kind `OutOfMemory`, the stream is not called and nothing changes. An `OutOfMemory` of the stream
-/// itself is an answer like any other: `step_read`, `step_write`, `step_flush` and `step_close` tell the two apart. A
-/// vectored call is one plain call on the first nonempty buffer, with one entry. An entry of a read keeps the bytes
-/// that came. The original has no such type.
+/// its start to what it is now. A contract sees the start, the entries and the stream, and how many entries more there is
+/// room for. Room for an entry, and for the bytes that are asked for or offered, is made before the stream is called. If it
+/// is refused the answer is an error of the kind `OutOfMemory`, the stream is not called and nothing changes. A call that
+/// has room for its entry and copies no byte is never refused. An `OutOfMemory` of the stream itself is an answer like any
+/// other: `step_read`, `step_write`, `step_flush` and `step_close` tell the two apart. A vectored call is one plain call on
+/// the first nonempty buffer, with one entry. An entry of a read keeps the bytes that came. The original has no such type.
 #[derive(Debug, Drop)]
 pub struct Journal<T: Tale + Takings + Clone> {
     start: T,
@@ -30,15 +31,26 @@ pub struct Journal<T: Tale + Takings + Clone> {
 }
 
 impl<T: Tale + Takings + Clone> Model for Journal<T> {
+    ghost use Rattle.std.specs.Prelude.{◌-◌, vec_capacity, vec_len};
     ghost use Rattle.lite_halves.specs.Journal.{Chronicle, IsSound};
     ghost use Rattle.lite_halves.specs.Entry.{notes_in};
 
     ghost Value = { Chronicle T };
 
-    ghost view = { λ j. record { start = j.start; notes = notes_in j.entries.items; stream = j.stream } };
+    ghost view = { λ j. record {
+      start = j.start;
+      notes = notes_in j.entries.items;
+      stream = j.stream;
+      room = vec_capacity j.entries - vec_len j.entries;
+    } };
 
     ghost invariant = { λ j. IsSound T.reads T.writes T.is_clone
-        (record { start = j.start; notes = notes_in j.entries.items; stream = j.stream }) };
+        (record {
+          start = j.start;
+          notes = notes_in j.entries.items;
+          stream = j.stream;
+          room = vec_capacity j.entries - vec_len j.entries;
+        }) };
 }
 
 impl<T: Tale + Takings + Clone> Journal<T> {
@@ -75,6 +87,17 @@ impl<T: Tale + Takings + Clone> Journal<T> {
         ensures replays { Replays T.reads T.writes T.is_clone self.now }
     {
         &self.entries
+    }
+
+    /// The entry of the latest call, for contracts alone.
+    pub(crate) fn latest(&self) -> Snapshot<Entry>
+        requires { 0 < length self.now.notes }
+        ensures { (front : List Note) (e : Note) → self.now.notes ≡ front ++ e ∷ [] → note_of result.value ≡ e }
+    {
+        let Some((entry, _)) = self.entries.split_last() else {
+            unreachable!()
+        };
+        Snapshot::of(entry)
     }
 
     /// The stream as it is now. The one that was kept as the start is let go, so the stream has to be `Drop`.

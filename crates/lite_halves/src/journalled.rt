@@ -1,10 +1,11 @@
 //! A journal in two halves, and what it has written down.
-ghost use Rattle.std.specs.Prelude.{◌≡◌, IfErr, IfOk};
+ghost use Rattle.std.specs.Prelude.{◌≡◌, [], IfErr, IfOk};
 ghost use Rattle.lite_halves.specs.Counts.{got_in, reads_in, taken_in, writes_in};
 ghost use Rattle.lite_halves.specs.Journal.{IsSound, Replays};
 
 mod books;
 mod locked;
+mod made;
 mod read_half;
 mod tally;
 mod write_half;
@@ -34,6 +35,7 @@ where
     B: Books,
     requires { blanks ≡ B.names }
     ensures read { IfOk result (λ r. (r.0.calls ≡ reads_in journal.notes) × (r.0.bytes ≡ got_in journal.notes)) }
+    ensures none_made { IfOk result (λ r. (r.0.made ≡ []) × (r.1.made ≡ [])) }
     ensures write { IfOk result (λ r. (r.1.calls ≡ writes_in journal.notes) × (r.1.bytes ≡ taken_in journal.notes)) }
     ensures err { IfErr result (λ back. back ≡ journal) }
 {

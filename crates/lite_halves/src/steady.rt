@@ -1,9 +1,10 @@
-//! A journal is a reader whose tale does not depend on when it was pending, where its stream is.
-ghost use Rattle.lite_halves.specs.Laws.Steady.{journal_steady};
+//! A journal is a reader whose tale does not depend on when it was pending, and a writer that leaves the same bytes, if its
+//! stream is.
+ghost use Rattle.lite_halves.specs.Laws.Steady.{journal_steady, journal_steady_write};
 ghost use Rattle.lite_halves.specs.Steady.{ReadsAmply};
 
 use crate::Journal;
-use lite_io_base::{SteadyRead, Takings};
+use lite_io_base::{SteadyRead, SteadyWrite, Takings, Tale};
 
 // Where memory was found for each entry.
 impl<T: SteadyRead + Takings + Clone> SteadyRead for Journal<T> {
@@ -14,4 +15,13 @@ impl<T: SteadyRead + Takings + Clone> SteadyRead for Journal<T> {
     ghost alike = { λ a b. T.alike a.stream b.stream };
 
     ghost steady = { journal_steady T.steady };
+}
+
+// An entry that was refused memory is an error, and those are left out.
+impl<T: Tale + SteadyWrite + Clone> SteadyWrite for Journal<T> {
+    ghost alike = { λ a b. T.alike a.stream b.stream };
+
+    ghost below = { λ a. T.below a.stream };
+
+    ghost steady = { journal_steady_write T.write_laws T.steady };
 }

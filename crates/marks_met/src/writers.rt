@@ -6,7 +6,8 @@ ghost use Rattle.lite_buffered.specs.BufReader.{reader_inner as read_from};
 use lite_base::{CalmFuture, SteadyFuture};
 use lite_bridge::{AssertAsync, Cursor};
 use lite_buffered::{Budgeted, BufReader, BufWriter};
-use lite_io_base::{AsyncWrite, CalmWrite, IoSlice, SteadyWrite};
+use lite_halves::Journal;
+use lite_io_base::{AsyncWrite, CalmWrite, IoSlice, SteadyWrite, Tale};
 use lite_mock::Takes;
 use lite_write::{
     CloseFuture, FlushFuture, Sink, WriteAllFuture, WriteFuture, WriteVectoredFuture,
@@ -103,4 +104,15 @@ pub fn budgets_have_marks<W: SteadyWrite + CalmWrite>(x: &W, y: &W, n: usize, m:
     ensures alike { ⟦<Budgeted<W> as SteadyWrite>⟧.alike (record { reader = x.now; budget = n; left = Some n })
         (record { reader = y.now; budget = m; left = Some m }) }
     ensures calm { ⟦<Budgeted<W> as CalmWrite>⟧.is_calm (record { reader = x.now; budget = n; left = Some n }) }
+{}
+
+/// Journals of writers that are alike are alike, and those of calm ones are calm.
+pub fn journals_write_with_marks<W: SteadyWrite + CalmWrite + Tale + Clone>(
+    x: &Journal<W>,
+    y: &Journal<W>,
+)
+    requires alike { W.alike x.now.stream y.now.stream }
+    requires is_calm { W.is_calm x.now.stream }
+    ensures alike { ⟦<Journal<W> as SteadyWrite>⟧.alike x.now y.now }
+    ensures is_calm { ⟦<Journal<W> as CalmWrite>⟧.is_calm x.now }
 {}

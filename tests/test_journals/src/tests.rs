@@ -1,6 +1,8 @@
+mod driven;
 mod gate;
 mod journal;
 mod pipe;
+mod plain;
 mod refused;
 mod replays;
 mod shown;

@@ -1,6 +1,6 @@
 -- Laws of journals.
 use Rattle.std.proofs.Common.{◌≡◌, ◌∙◌, ◌≤◌, ℕ, length, Result, List, [], ◌∷◌, ◌++◌, Option, Some, None, map, refl, sym}
-use Rattle.std.proofs.Common.{ap, append_assoc, append-nil, inl, inr}
+use Rattle.std.proofs.Common.{ap, append_assoc, append-nil, arith, inl, inr, length-append}
 use Rattle.std.proofs.lemmas.List.{map-append}
 use Rattle.std.proofs.lemmas.List.Concat.{flat_map-append}
 use Rattle.std.specs.declared.io.Error.{Error}
@@ -21,7 +21,8 @@ use Rattle.lite_halves.specs.Journal.{parts_among}
 use Rattle.lite_halves.specs.Laws.Entry.{done_note_part, fit_both, parts_in-both, read_note_part, write_note_part}
 use Rattle.lite_base.specs.Runs.{Runs}
 
-thins_both : {A : Type 0} (refusal : A) (xs ks ys ls : List A) → Thins refusal xs ks → Thins refusal ys ls
+-- refusals of two runs in order
+pub thins_both : {A : Type 0} (refusal : A) (xs ks ys ls : List A) → Thins refusal xs ks → Thins refusal ys ls
     → Thins refusal (xs ++ ys) (ks ++ ls)
 thins_both {A} refusal [] ks ys ls a b = let P : List A → Type 0 = λ w. Thins refusal ys (w ++ ls) in rw a b
 thins_both refusal (x ∷ xs) ks ys ls a b = elim a [
@@ -30,7 +31,7 @@ thins_both refusal (x ∷ xs) ks ys ls a b = elim a [
 ]
 
 -- marks of which none is a refusal that reached nothing
-thins_none : {A : Type 0} (refusal : A) (ms : List A) → Thins refusal ms ms
+pub thins_none : {A : Type 0} (refusal : A) (ms : List A) → Thins refusal ms ms
 thins_none refusal [] = refl
 thins_none refusal (m ∷ ms) = inl (ms, refl, thins_none refusal ms)
 
@@ -45,21 +46,23 @@ parts_among-all (p ∷ ps) = rw (parts_among-all ps)
 
 module _ {T : Type 0} (reads : Runs ReadMark T) (writes : Runs WriteMark T) where
   pub adds_none : (c : Chronicle T) → AddsAll reads writes c [] c
-  adds_none c = record { fits = tt; start = refl; notes = sym (append-nil c.notes); ran = refl }
+  adds_none c = record { fits = tt; start = refl; notes = sym (append-nil c.notes); ran = refl; room = omega arith }
 
   pub adds_both : {a b c : Chronicle T} {es fs : List Note} → AddsAll reads writes a es b → AddsAll reads writes b fs c
       → AddsAll reads writes a (es ++ fs) c
-  adds_both p q =
+  adds_both {es = es} {fs = fs} p q =
       record {
         fits = fit_both _ _ p.fits q.fits;
         start = q.start ∙ p.start;
         notes = rw (q.notes, p.notes, append_assoc);
         ran = rw parts_in-both (steps_follow (PartRuns reads writes) _ _ _ _ _ p.ran q.ran);
+        room = omega (arith, p.room, q.room, length-append es fs);
       }
 
   -- one entry is added as several are
   pub adds_one : {a b : Chronicle T} {e : Note} → Adds reads writes a e b → AddsAll reads writes a (e ∷ []) b
-  adds_one {b = b} h = record { fits = (h.fits, tt); start = h.start; notes = h.notes; ran = (b.stream, h.ran, refl) }
+  adds_one {b = b} h =
+      record { fits = (h.fits, tt); start = h.start; notes = h.notes; ran = (b.stream, h.ran, refl); room = h.room }
 
   -- what a journal's callers see of one kind of calls
   module _ {A : Type 0} (part : List A → Part) (refusal : A) where
@@ -174,12 +177,13 @@ module _ {T : Type 0} (reads : Runs ReadMark T) (writes : Runs WriteMark T) wher
     sound_replays j sound equal = rw sound.story.1 (stages_run equal _ _ sound.story.0 sound.story.2)
 
     -- a journal without entries
-    pub sound_new : (start stream : T) → copies stream start → IsSound reads writes copies (record {
+    pub sound_new : (start stream : T) (room : ℕ) → copies stream start → IsSound reads writes copies (record {
       start = start;
       notes = [];
       stream = stream;
+      room = room;
     })
-    sound_new start stream h = record { fits = tt; story = story_from_clone h }
+    sound_new start stream room h = record { fits = tt; story = story_from_clone h }
 
     -- with the entries of more calls
     module _ (a b : Chronicle T) where

@@ -1,14 +1,16 @@
--- A journal is as steady and as calm a reader as its stream.
-use Rattle.std.proofs.Common.{List, [], ◌∷◌, map, inl, inr, subst}
+-- A journal is as steady and as calm a reader, and a writer, as its stream.
+use Rattle.std.proofs.Common.{◌≡◌, ◌∙◌, ℕ, List, [], ◌∷◌, ap, map, inl, inr, subst}
 use Rattle.std.specs.declared.io.ErrorKind.{ErrorKind}
-use Rattle.std.specs.declared.io.ErrorKind.TheVariants.{OutOfMemory}
+use Rattle.std.specs.declared.io.ErrorKind.TheVariants.{Interrupted, OutOfMemory}
 use Rattle.lite_io_base.specs.Laws.Steady.{no_wait_both, no_wait_parts}
+use Rattle.lite_io_base.specs.Laws.SteadyWrite.{never_waits_both, never_waits_parts}
 use Rattle.lite_io_base.specs.Marks.{ReadMark}
 use Rattle.lite_io_base.specs.Parts.{Part, PartsInOrder}
 use Rattle.lite_io_base.specs.Runs.{MarkLaws}
 use Rattle.lite_io_base.specs.Steady.{CalmReadLaws, NoPendingRead, SteadyReadLaws}
+use Rattle.lite_io_base.specs.SteadyWrite.{CalmWriteLaws, NoError, NoPendingWrite, SteadyWriteLaws}
 use Rattle.lite_io_base.specs.Takings.{WriteMark}
-use Rattle.lite_halves.specs.Journal.{Chronicle, JournalReads, Thins, all_in_order}
+use Rattle.lite_halves.specs.Journal.{Chronicle, JournalReads, JournalWrites, Thins, all_in_order}
 use Rattle.lite_halves.specs.Laws.Journal.{journals_laws}
 use Rattle.lite_halves.specs.Steady.{ReadsAmply}
 use Rattle.lite_base.specs.Runs.{Runs}
@@ -62,4 +64,70 @@ module _ {T : Type 0} {reads : Runs ReadMark T} {writes : Runs WriteMark T} wher
         };
         steady = λ a b a' b' l m e h k. s.steady a.stream b.stream a'.stream b'.stream l m e h.1 k.1;
         found = λ n. absurd n;
+      }
+
+-- the same of writing
+refused_no_wait : (kind : ErrorKind) (ms ks : List WriteMark) → Thins (WriteMark.fault kind) ms ks → NoPendingWrite ks
+    → NoPendingWrite ms
+refused_no_wait kind [] ks h n = tt
+refused_no_wait kind (m ∷ ms) ks h n = elim h [
+  | inl w ↦
+      let parts = never_waits_parts (m ∷ []) w.0 (subst NoPendingWrite w.1 n) in
+      never_waits_both (m ∷ []) ms parts.0 (refused_no_wait kind ms w.0 w.2 parts.1)
+  | inr w ↦ rw w.0 (refused_no_wait kind ms ks w.1 n)
+]
+
+no_error_rest : (m : WriteMark) (ms : List WriteMark) → NoError (m ∷ ms) → NoError ms
+no_error_rest (WriteMark.fault kind) ms n = n.1
+no_error_rest _ ms n = n
+
+out_of_memory : OutOfMemory ≡ Interrupted → ⊥
+out_of_memory is = cc
+
+-- where no error is but an interruption, nothing was refused
+none_refused : (ms ks : List WriteMark) → Thins (WriteMark.fault OutOfMemory) ms ks → NoError ms → ks ≡ ms
+none_refused [] ks h n = h
+none_refused (m ∷ ms) ks h n = elim h [
+  | inl w ↦ w.1 ∙ ap (λ l. m ∷ l) (none_refused ms w.0 w.2 (no_error_rest m ms n))
+  | inr w ↦ absurd (out_of_memory (subst (λ v. NoError (v ∷ ms)) w.0 n).0)
+]
+
+module _ {T : Type 0} (reads : Runs ReadMark T) (writes : Runs WriteMark T) (laws : MarkLaws writes) where
+  parts_wrote : (marks : List (List WriteMark)) (x y : T) → PartsInOrder reads writes x (map Part.writing marks) y
+      → writes x (all_in_order marks) y
+  parts_wrote [] x y h = rw h (laws.rests x)
+  parts_wrote (l ∷ ls) x y h = laws.follows x h.0 y l (all_in_order ls) h.1 (parts_wrote ls h.0 y h.2)
+
+  -- what the stream was written by
+  stream_wrote : (a b : Chronicle T) (ms : List WriteMark) (h : JournalWrites reads writes a ms b)
+      → writes a.stream (all_in_order h.marks) b.stream
+  stream_wrote a b ms h =
+      parts_wrote h.marks a.stream b.stream
+      (rw (← h.kind) h.added.ran)
+
+  -- where no error is but an interruption, by the same marks
+  stream_wrote_all : (a b : Chronicle T) (ms : List WriteMark) → JournalWrites reads writes a ms b → NoError ms
+      → writes a.stream ms b.stream
+  stream_wrote_all a b ms h none = rw (none_refused ms (all_in_order h.marks) h.thinned none) at (stream_wrote a b ms h)
+
+module _ {T : Type 0} {reads : Runs ReadMark T} {writes : Runs WriteMark T} where
+  pub journal_calm_write : {is_calm : T → Type 0} → MarkLaws writes → CalmWriteLaws writes is_calm
+      → CalmWriteLaws (JournalWrites reads writes) (λ (j : Chronicle T). is_calm j.stream)
+  journal_calm_write laws c =
+      let ran = stream_wrote reads writes laws in
+      record {
+        no_pending = λ a b ms k h. refused_no_wait OutOfMemory ms (all_in_order h.marks) h.thinned
+            (c.no_pending a.stream b.stream (all_in_order h.marks) k (ran a b ms h));
+        calm_on = λ a b ms k h. c.calm_on a.stream b.stream (all_in_order h.marks) k (ran a b ms h);
+      }
+
+  pub journal_steady_write : {alike : T → T → Type 0} {below : T → List ℕ} → MarkLaws writes
+      → SteadyWriteLaws writes alike below
+      → SteadyWriteLaws (JournalWrites reads writes) (λ (a b : Chronicle T). alike a.stream b.stream)
+      (λ (a : Chronicle T). below a.stream)
+  journal_steady_write laws s =
+      let ran = stream_wrote_all reads writes laws in
+      record {
+        steady = λ a b a' b' l m e h k none no. s.steady a.stream b.stream a'.stream b'.stream l m e
+            (ran a a' l h none) (ran b b' m k no) none no;
       }

@@ -1,9 +1,9 @@
 //! A list of calls, made one after the other.
-ghost use Rattle.std.specs.Prelude.{◌≡◌, IfNone, IfSome};
+ghost use Rattle.std.specs.Prelude.{◌≡◌, ◌≤◌, ◌-◌, ◌⊎◌, vec_capacity, vec_len, IfNone, IfSome, OnErr};
 ghost use Rattle.futures.specs.Task.{Keeps};
-ghost use Rattle.lite_halves.specs.Drive.{Drives};
+ghost use Rattle.lite_halves.specs.Drive.{AsksAt, Drives};
 ghost use Rattle.lite_halves.specs.Entry.{asked_in, asked_of, told_in, told_of};
-ghost use Rattle.lite_halves.specs.Journal.{Adds};
+ghost use Rattle.lite_halves.specs.Journal.{Adds, AsksMemory};
 
 use super::Journal;
 use crate::answers::{buffer_answer, done_answer, write_answer};
@@ -26,6 +26,8 @@ impl<T: AsyncRead + AsyncWrite + Clone> Journal<T> {
     ) -> Result<(), AllocError>
         ensures drives { Drives T.reads T.writes self.old (asked_in calls.now) (told_in out.old.items) result self.new
             (told_in out.new.items) }
+        ensures refused { OnErr result ((vec_capacity out.new ≤ vec_len out.new)
+            ⊎ AsksAt self.new calls.now (vec_len out.new - vec_len out.old)) }
         ensures kept { Keeps cx.old cx.new }
     {
         for call in calls {
@@ -42,11 +44,15 @@ impl<T: AsyncRead + AsyncWrite + Clone> Journal<T> {
             (λ a. Adds T.reads T.writes self.old
             (record { asked = asked_of call.now; told = told_of a }) self.new) }
         ensures none { IfNone result (self.new ≡ self.old) }
+        ensures refused { IfNone result (AsksMemory self.old (asked_of call.now)) }
         ensures kept { Keeps cx.old cx.new }
     {
         match call {
             Call::Read { room } => {
-                let mut buf = vec![in self.alloc; 0; *room].ok()?;
+                let mut buf = Vec::with_capacity(self.alloc, *room).ok()?;
+                let Ok(()) = buf.resize(*room, 0) else {
+                    unreachable!()
+                };
                 let polled = self.step_read(cx, &mut buf)?;
                 Some(buffer_answer(&polled, buf))
             }

@@ -9,8 +9,9 @@ ghost use Rattle.lite_io_base.specs.Parts.{Part};
 ghost use Rattle.lite_io_base.specs.Runs.{ReadsInto, room_in};
 ghost use Rattle.lite_io_base.specs.Takings.{WriteMark, done_marks, write_marks};
 ghost use Rattle.lite_io_base.specs.Takings.WriteMark.{closed, flushed};
-ghost use Rattle.lite_halves.specs.Entry.{close_note, flush_note, read_note, write_note};
-ghost use Rattle.lite_halves.specs.Journal.{Adds, AddsOrStays, AddsRead, AddsWrite, JournalReads, JournalWrites};
+ghost use Rattle.lite_halves.specs.Entry.{Request, close_note, flush_note, read_note, write_note};
+ghost use Rattle.lite_halves.specs.Journal.{Adds, AddsOrStays, AddsRead, AddsWrite, AsksMemory, JournalReads};
+ghost use Rattle.lite_halves.specs.Journal.{JournalWrites};
 ghost use Rattle.lite_halves.specs.Laws.Journal.{journals_laws};
 ghost use Rattle.lite_base.specs.Registered.{Registered};
 
@@ -49,6 +50,7 @@ impl<T: AsyncRead + Takings + Clone> Journal<T> {
         ensures kept { Keeps cx.old cx.new }
         ensures fits { length self.new.notes < 2 ^ 64 }
         ensures none { IfNone result ((self.new ≡ self.old) × (buf.new ≡ buf.old)) }
+        ensures refused { IfNone result (AsksMemory self.old (Request.room (length buf.old))) }
     {
         let room = buf.len();
         let bytes = Vec::with_capacity(self.alloc, room).ok()?;
@@ -76,8 +78,12 @@ impl<T: Tale + AsyncWrite + Clone> Journal<T> {
         ensures kept { Keeps cx.old cx.new }
         ensures fits { length self.new.notes < 2 ^ 64 }
         ensures none { IfNone result (self.new ≡ self.old) }
+        ensures refused { IfNone result (AsksMemory self.old (Request.offer buf.now)) }
     {
-        let offered = Vec::from_slice(self.alloc, buf).ok()?;
+        let mut offered = Vec::with_capacity(self.alloc, buf.len()).ok()?;
+        let Ok(()) = offered.extend_from_slice(buf) else {
+            unreachable!()
+        };
         self.entries.reserve(1).ok()?;
         let polled = self.stream.poll_write(cx, buf);
         let answer = write_answer(&polled);
@@ -93,6 +99,7 @@ impl<T: Tale + AsyncWrite + Clone> Journal<T> {
         ensures kept { Keeps cx.old cx.new }
         ensures fits { length self.new.notes < 2 ^ 64 }
         ensures none { IfNone result (self.new ≡ self.old) }
+        ensures refused { IfNone result (AsksMemory self.old Request.flush) }
     {
         self.entries.reserve(1).ok()?;
         let polled = self.stream.poll_flush(cx);
@@ -109,6 +116,7 @@ impl<T: Tale + AsyncWrite + Clone> Journal<T> {
         ensures kept { Keeps cx.old cx.new }
         ensures fits { length self.new.notes < 2 ^ 64 }
         ensures none { IfNone result (self.new ≡ self.old) }
+        ensures refused { IfNone result (AsksMemory self.old Request.close) }
     {
         self.entries.reserve(1).ok()?;
         let polled = self.stream.poll_close(cx);

@@ -1,8 +1,9 @@
 //! What stands under the lock of two journalled halves.
-ghost use Rattle.std.specs.Prelude.{◌≡◌, ◌≤◌, length, IfNone, IfOk, IfSome};
+ghost use Rattle.std.specs.Prelude.{◌≡◌, ◌≤◌, [], length, IfNone, IfOk, IfSome};
 ghost use Rattle.futures.specs.Poll.{IfReady};
 ghost use Rattle.futures.specs.Task.{Keeps};
-ghost use Rattle.lite_halves.specs.Counts.{AddsInside, CountsOn, booked_in, counted_in, nothing_counted};
+ghost use Rattle.lite_halves.specs.Counts.{AddsInside, CountsOn, Makes, booked_in, counted_in, nothing_counted};
+ghost use Rattle.lite_halves.specs.Counts.{numbers_of};
 ghost use Rattle.lite_halves.specs.declared.journalled.tally.Side.TheVariants.{Reading, Writing};
 ghost use Rattle.lite_io_base.specs.Marks.{count_of};
 ghost use Rattle.lite_halves.specs.Entry.{close_note, flush_note, read_note, write_note};
@@ -38,13 +39,15 @@ impl<T: AsyncRead + Takings + Clone, B: Books> Locked<T, B> {
     ) -> Option<Poll<io::Result<usize>>>
         ensures added { IfSome result (λ r. AddsInside T.reads T.writes self.old.journal (read_note r buf.new) self.new.journal) }
         ensures some { IfSome result (λ r. CountsOn 1 (count_of r) tally.old tally.new) }
+        ensures made { IfSome result (λ r. Makes tally.old (read_note r buf.new) tally.new) }
         ensures none { IfNone result (tally.new ≡ tally.old) }
         ensures bound { IfSome result (λ r. IfReady r (λ a. IfOk a (λ n. n ≤ length buf.new))) }
         ensures kept { Keeps cx.old cx.new }
     {
         self.reading.audit(tally);
         let polled = self.journal.as_mut().unwrap().step_read(cx, buf)?;
-        self.reading.add(tally, 1, count(&polled));
+        let entry = self.journal.as_ref().unwrap().latest();
+        self.reading.count(tally, count(&polled), entry);
         Some(polled)
     }
 }
@@ -61,13 +64,15 @@ impl<T: Tale + AsyncWrite + Clone, B: Books> Locked<T, B> {
         ensures added { IfSome result
             (λ r. AddsInside T.reads T.writes self.old.journal (write_note r buf.now) self.new.journal) }
         ensures some { IfSome result (λ r. CountsOn 1 (count_of r) tally.old tally.new) }
+        ensures made { IfSome result (λ r. Makes tally.old (write_note r buf.now) tally.new) }
         ensures none { IfNone result (tally.new ≡ tally.old) }
         ensures bound { IfSome result (λ r. IfReady r (λ a. IfOk a (λ n. n ≤ length buf.now))) }
         ensures kept { Keeps cx.old cx.new }
     {
         self.writing.audit(tally);
         let polled = self.journal.as_mut().unwrap().step_write(cx, buf)?;
-        self.writing.add(tally, 1, count(&polled));
+        let entry = self.journal.as_ref().unwrap().latest();
+        self.writing.count(tally, count(&polled), entry);
         Some(polled)
     }
 
@@ -79,12 +84,14 @@ impl<T: Tale + AsyncWrite + Clone, B: Books> Locked<T, B> {
     ) -> Option<Poll<io::Result<()>>>
         ensures added { IfSome result (λ r. AddsInside T.reads T.writes self.old.journal (flush_note r) self.new.journal) }
         ensures some { IfSome result (λ r. CountsOn 1 0 tally.old tally.new) }
+        ensures made { IfSome result (λ r. Makes tally.old (flush_note r) tally.new) }
         ensures none { IfNone result (tally.new ≡ tally.old) }
         ensures kept { Keeps cx.old cx.new }
     {
         self.writing.audit(tally);
         let polled = self.journal.as_mut().unwrap().step_flush(cx)?;
-        self.writing.add(tally, 1, 0);
+        let entry = self.journal.as_ref().unwrap().latest();
+        self.writing.count(tally, 0, entry);
         Some(polled)
     }
 
@@ -96,12 +103,14 @@ impl<T: Tale + AsyncWrite + Clone, B: Books> Locked<T, B> {
     ) -> Option<Poll<io::Result<()>>>
         ensures added { IfSome result (λ r. AddsInside T.reads T.writes self.old.journal (close_note r) self.new.journal) }
         ensures some { IfSome result (λ r. CountsOn 1 0 tally.old tally.new) }
+        ensures made { IfSome result (λ r. Makes tally.old (close_note r) tally.new) }
         ensures none { IfNone result (tally.new ≡ tally.old) }
         ensures kept { Keeps cx.old cx.new }
     {
         self.writing.audit(tally);
         let polled = self.journal.as_mut().unwrap().step_close(cx)?;
-        self.writing.add(tally, 1, 0);
+        let entry = self.journal.as_ref().unwrap().latest();
+        self.writing.count(tally, 0, entry);
         Some(polled)
     }
 }
@@ -144,7 +153,8 @@ impl<T: Tale + Takings + Clone, B: Books> Locked<T, B> {
     where
         T: Drop,
         requires { (read_shares ≡ nothing_counted) × (write_shares ≡ nothing_counted) }
-        ensures { (result.0 ≡ counted_in Reading journal.notes) × (result.1 ≡ counted_in Writing journal.notes) }
+        ensures reads { (numbers_of result.0 ≡ counted_in Reading journal.notes) × (result.0.made ≡ []) }
+        ensures writes { (numbers_of result.1 ≡ counted_in Writing journal.notes) × (result.1.made ≡ []) }
     {
         let entries = journal.entries();
         let reads = self.reading.fill(Side::Reading, entries, read_shares);
@@ -160,8 +170,8 @@ impl<T: Tale + Takings + Clone, B: Books> Locked<T, B> {
         writes: &mut Tally<Writes<B>, Taken<B>>,
     ) -> Result<Journal<T>, AllocError>
         ensures same { (reads.new ≡ reads.old) × (writes.new ≡ writes.old) }
-        ensures reads { IfOk result (λ j. counted_in Reading j.notes ≡ reads.old) }
-        ensures writes { IfOk result (λ j. counted_in Writing j.notes ≡ writes.old) }
+        ensures reads { IfOk result (λ j. counted_in Reading j.notes ≡ numbers_of reads.old) }
+        ensures writes { IfOk result (λ j. counted_in Writing j.notes ≡ numbers_of writes.old) }
     {
         self.reading.audit(reads);
         self.writing.audit(writes);

@@ -1,11 +1,14 @@
 //! The journalled half that reads.
-ghost use Rattle.std.specs.Prelude.{◌≡◌, ◌≤◌, ◌+◌, ◌%◌, ◌^◌, ◌⊎◌, ◌∷◌, [], length, map, IfNone, IfOk, IfSome};
+ghost use Rattle.std.specs.Prelude.{◌≡◌, ◌≤◌, ◌+◌, ◌%◌, ◌^◌, ◌⊎◌, ◌++◌, ◌∷◌, [], length, map, IfNone, IfOk, IfSome};
 ghost use Rattle.futures.specs.Poll.{IfReady};
 ghost use Rattle.futures.specs.Task.{Keeps};
-ghost use Rattle.lite_io_base.specs.Marks.{count_of, read_marks};
+ghost use Rattle.std.specs.declared.io.ErrorKind.TheVariants.{OutOfMemory};
+ghost use Rattle.lite_io_base.specs.Marks.{ReadMark, count_of, read_marks};
+ghost use Rattle.lite_io_base.specs.Parts.{Part};
 ghost use Rattle.lite_io_base.specs.Runs.{ReadsInto, room_in};
-ghost use Rattle.lite_halves.specs.Counts.{CountsOn, HalfDrives, IsOutOfMemory, ReadCounts, moved_by, read_bytes_of};
-ghost use Rattle.lite_halves.specs.Entry.{FitsCall, Request, told_in, told_of};
+ghost use Rattle.lite_halves.specs.Counts.{CountsOn, HalfDrives, IsOutOfMemory, Makes, MakesOrStays, MakesRead};
+ghost use Rattle.lite_halves.specs.Counts.{ReadCounts, moved_by, read_bytes_of};
+ghost use Rattle.lite_halves.specs.Entry.{FitsCall, Request, read_note, told_in, told_of};
 ghost use Rattle.lite_halves.specs.Laws.Counts.{counts_laws};
 ghost use Rattle.lite_base.specs.Registered.{Registered};
 
@@ -24,9 +27,10 @@ use std::{fmt, io};
 
 /// The half of a journal that reads. Made by [`split_journalled`](crate::split_journalled).
 ///
-/// Each call locks the journal, and so it may wait. A contract sees the entries of reads in the journal and the bytes in
-/// their answers, those from before the split included; what the stream does between two calls is not known, since the
-/// other half may call it. The original has no such type.
+/// Each call locks the journal, and so it may wait. A contract sees how many entries of reads the journal has and the bytes
+/// in their answers, those from before the split included. It also sees the reads that were made by this half, each with
+/// its answer, in order. What the stream does between two calls is not known, since the other half may call it. The
+/// original has no such type.
 #[derive(Drop)]
 pub struct JournalReadHalf<R, T: Tale + Takings + Clone, B: Books> {
     pub(super) rt: R,
@@ -70,7 +74,7 @@ impl<R, T: Tale + Takings + Clone, B: Books> JournalReadHalf<R, T, B> {
 impl<R, T: Tale + Takings + Clone, B: Books> Tale for JournalReadHalf<R, T, B> {
     ghost reads = { ReadCounts };
 
-    ghost read_laws = { counts_laws read_bytes_of };
+    ghost read_laws = { counts_laws Part.reading (ReadMark.fault OutOfMemory) read_bytes_of };
 }
 
 impl<R: Wait, T: AsyncRead + Takings + Clone, B: Books> AsyncRead for JournalReadHalf<R, T, B> {
@@ -78,11 +82,12 @@ impl<R: Wait, T: AsyncRead + Takings + Clone, B: Books> AsyncRead for JournalRea
     ///
     /// Room for the entry is made first. Where that is refused the answer is `OutOfMemory`: the stream is not called,
     /// there is no entry, and nothing changes.
-    #[tactic(auto, using(crate::specs::Laws::Counts::read_bytes))]
+    #[tactic(auto, using(crate::specs::Laws::Counts::read_half_rules))]
     fn poll_read(&mut self, cx: &mut Context<'_>, buf: &mut [u8]) -> Poll<io::Result<usize>>
         ensures bound { IfReady result (λ r. IfOk r (λ n. n ≤ length buf.new)) }
         ensures ran { ReadCounts self.old (read_marks result buf.new) self.new }
         ensures calls { (self.new.calls ≡ self.old.calls + 1) ⊎ (IsOutOfMemory result × (self.new ≡ self.old)) }
+        ensures entry { MakesOrStays self.old (read_note result buf.new) self.new }
         ensures bytes { self.new.bytes ≡ self.old.bytes + count_of result }
         ensures left { Registered result (λ _. ⊥) cx.new }
         ensures kept { Keeps cx.old cx.new }
@@ -101,6 +106,7 @@ impl<R: Wait, T: AsyncRead + Takings + Clone, B: Books> AsyncRead for JournalRea
         ensures bound { IfReady result (λ r. IfOk r (λ n. n ≤ room_in bufs.old)) }
         ensures ran { ReadsInto ReadCounts self.old result bufs.old self.new }
         ensures calls { (self.new.calls ≡ self.old.calls + 1) ⊎ (IsOutOfMemory result × (self.new ≡ self.old)) }
+        ensures entry { MakesRead self.old result bufs.old self.new }
         ensures bytes { self.new.bytes ≡ self.old.bytes + count_of result }
         ensures left { Registered result (λ _. ⊥) cx.new }
         ensures kept { Keeps cx.old cx.new }
@@ -118,6 +124,7 @@ where
     // One read with its entry. `None`: there was no memory for the entry or the answer, and nothing was called.
     fn make(&mut self, cx: &mut Context<'_>, room: usize) -> Option<Answer>
         ensures some { IfSome result (λ a. CountsOn 1 (moved_by (told_of a)) self.old self.new) }
+        ensures made { IfSome result (λ a. Makes self.old (record { asked = Request.room room; told = told_of a }) self.new) }
         ensures fits { IfSome result (λ a. FitsCall (Request.room room) (told_of a)) }
         ensures none { IfNone result (self.new ≡ self.old) }
         ensures kept { Keeps cx.old cx.new }

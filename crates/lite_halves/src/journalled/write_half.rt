@@ -1,14 +1,16 @@
 //! The journalled half that writes.
-ghost use Rattle.std.specs.Prelude.{◌≡◌, ◌≤◌, ◌+◌, ◌%◌, ◌^◌, ◌⊎◌, ◌∷◌, [], length, IfNone, IfOk, IfSome};
+ghost use Rattle.std.specs.Prelude.{◌≡◌, ◌≤◌, ◌+◌, ◌%◌, ◌^◌, ◌⊎◌, ◌++◌, ◌∷◌, [], length, IfNone, IfOk, IfSome};
 ghost use Rattle.std.specs.Io.Slices.{io_slices_bytes};
 ghost use Rattle.futures.specs.Poll.{IfReady};
 ghost use Rattle.futures.specs.Task.{Keeps};
 ghost use Rattle.lite_io_base.specs.Marks.{count_of};
-ghost use Rattle.lite_io_base.specs.Takings.{done_marks, write_marks};
+ghost use Rattle.std.specs.declared.io.ErrorKind.TheVariants.{OutOfMemory};
+ghost use Rattle.lite_io_base.specs.Parts.{Part};
+ghost use Rattle.lite_io_base.specs.Takings.{WriteMark, done_marks, write_marks};
 ghost use Rattle.lite_io_base.specs.Takings.WriteMark.{closed, flushed};
-ghost use Rattle.lite_halves.specs.Counts.{AllWrites, CountsOn, HalfDrives, IsOutOfMemory, IsWrite, WriteCounts};
-ghost use Rattle.lite_halves.specs.Counts.{moved_by, taken_bytes_of};
-ghost use Rattle.lite_halves.specs.Entry.{FitsCall, asked_in, asked_of, told_in, told_of};
+ghost use Rattle.lite_halves.specs.Counts.{AllWrites, CountsOn, HalfDrives, IsOutOfMemory, IsWrite, Makes, MakesOrStays};
+ghost use Rattle.lite_halves.specs.Counts.{MakesWrite, WriteCounts, moved_by, taken_bytes_of};
+ghost use Rattle.lite_halves.specs.Entry.{FitsCall, asked_in, asked_of, close_note, flush_note, told_in, told_of, write_note};
 ghost use Rattle.lite_halves.specs.Laws.Counts.{counts_laws};
 ghost use Rattle.lite_base.specs.Registered.{Registered};
 
@@ -27,9 +29,10 @@ use std::{fmt, io};
 
 /// The half of a journal that writes. Made by [`split_journalled`](crate::split_journalled).
 ///
-/// Each call locks the journal, and so it may wait. A contract sees the entries of writes, flushes and closes in the
-/// journal and the bytes that were taken, those from before the split included; what the stream does between two calls
-/// is not known, since the other half may call it. The original has no such type.
+/// Each call locks the journal, and so it may wait. A contract sees how many entries of writes, flushes and closes the
+/// journal has and the bytes that were taken, those from before the split included. It also sees the calls that were made
+/// by this half, each with its answer, in order. What the stream does between two calls is not known, since the other half
+/// may call it. The original has no such type.
 #[derive(Drop)]
 pub struct JournalWriteHalf<R, T: Tale + Takings + Clone, B: Books> {
     pub(super) rt: R,
@@ -75,6 +78,8 @@ impl<R: Wait, T: Tale + AsyncWrite + Clone, B: Books> JournalWriteHalf<R, T, B> 
     fn make(&mut self, cx: &mut Context<'_>, call: &Call) -> Option<Answer>
         requires { IsWrite call.now }
         ensures some { IfSome result (λ a. CountsOn 1 (moved_by (told_of a)) self.old self.new) }
+        ensures made { IfSome result
+            (λ a. Makes self.old (record { asked = asked_of call.now; told = told_of a }) self.new) }
         ensures fits { IfSome result (λ a. FitsCall (asked_of call.now) (told_of a)) }
         ensures none { IfNone result (self.new ≡ self.old) }
         ensures kept { Keeps cx.old cx.new }
@@ -117,9 +122,10 @@ impl<R: Wait, T: Tale + AsyncWrite + Clone, B: Books> JournalWriteHalf<R, T, B> 
 impl<R, T: Tale + Takings + Clone, B: Books> Takings for JournalWriteHalf<R, T, B> {
     ghost writes = { WriteCounts };
 
-    ghost write_laws = { counts_laws taken_bytes_of };
+    ghost write_laws = { counts_laws Part.writing (WriteMark.fault OutOfMemory) taken_bytes_of };
 }
 
+#[tactic(auto, using(crate::specs::Laws::Counts::write_half_rules))]
 impl<R: Wait, T: Tale + AsyncWrite + Clone, B: Books> AsyncWrite for JournalWriteHalf<R, T, B> {
     /// Writes to the stream, and writes the call down with its answer, both under one lock.
     ///
@@ -129,6 +135,7 @@ impl<R: Wait, T: Tale + AsyncWrite + Clone, B: Books> AsyncWrite for JournalWrit
         ensures bound { IfReady result (λ r. IfOk r (λ n. n ≤ length buf.now)) }
         ensures ran { WriteCounts self.old (write_marks result buf.now) self.new }
         ensures calls { (self.new.calls ≡ self.old.calls + 1) ⊎ (IsOutOfMemory result × (self.new ≡ self.old)) }
+        ensures entry { MakesOrStays self.old (write_note result buf.now) self.new }
         ensures bytes { self.new.bytes ≡ self.old.bytes + count_of result }
         ensures left { Registered result (λ _. ⊥) cx.new }
         ensures kept { Keeps cx.old cx.new }
@@ -147,6 +154,7 @@ impl<R: Wait, T: Tale + AsyncWrite + Clone, B: Books> AsyncWrite for JournalWrit
         ensures bound { IfReady result (λ r. IfOk r (λ n. n ≤ length (io_slices_bytes bufs.now))) }
         ensures ran { WriteCounts self.old (write_marks result (io_slices_bytes bufs.now)) self.new }
         ensures calls { (self.new.calls ≡ self.old.calls + 1) ⊎ (IsOutOfMemory result × (self.new ≡ self.old)) }
+        ensures entry { MakesWrite self.old result (io_slices_bytes bufs.now) self.new }
         ensures bytes { self.new.bytes ≡ self.old.bytes + count_of result }
         ensures left { Registered result (λ _. ⊥) cx.new }
         ensures kept { Keeps cx.old cx.new }
@@ -157,6 +165,7 @@ impl<R: Wait, T: Tale + AsyncWrite + Clone, B: Books> AsyncWrite for JournalWrit
     fn poll_flush(&mut self, cx: &mut Context<'_>) -> Poll<io::Result<()>>
         ensures ran { WriteCounts self.old (done_marks flushed result) self.new }
         ensures calls { (self.new.calls ≡ self.old.calls + 1) ⊎ (IsOutOfMemory result × (self.new ≡ self.old)) }
+        ensures entry { MakesOrStays self.old (flush_note result) self.new }
         ensures bytes { self.new.bytes ≡ self.old.bytes }
         ensures left { Registered result (λ _. ⊥) cx.new }
         ensures kept { Keeps cx.old cx.new }
@@ -167,6 +176,7 @@ impl<R: Wait, T: Tale + AsyncWrite + Clone, B: Books> AsyncWrite for JournalWrit
     fn poll_close(&mut self, cx: &mut Context<'_>) -> Poll<io::Result<()>>
         ensures ran { WriteCounts self.old (done_marks closed result) self.new }
         ensures calls { (self.new.calls ≡ self.old.calls + 1) ⊎ (IsOutOfMemory result × (self.new ≡ self.old)) }
+        ensures entry { MakesOrStays self.old (close_note result) self.new }
         ensures bytes { self.new.bytes ≡ self.old.bytes }
         ensures left { Registered result (λ _. ⊥) cx.new }
         ensures kept { Keeps cx.old cx.new }

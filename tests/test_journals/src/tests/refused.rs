@@ -1,9 +1,11 @@
 ghost use Rattle.std.specs.Prelude.{◌≡◌};
+ghost use Rattle.lite_io_base.specs.Runs.{Idle};
+ghost use Rattle.lite_io_base.specs.Laws.Runs.{idle_laws};
 
 use futures_lite::Poll;
 use futures_lite::io::{
     self, AsyncRead, AsyncWrite, Blanks, Books, Call, Cursor, ErrorKind, Journal, JournalReadHalf,
-    JournalWriteHalf, history, split_journalled,
+    JournalWriteHalf, Takings, Tale, history, split_journalled,
 };
 use std::alloc::{AllocError, AllocGlobal};
 use std::marker::Brand;
@@ -138,5 +140,40 @@ fn a_refused_split_hands_the_stream_back(rt: HostRuntime) -> Result<(), Fail> {
     };
     assert_eq!(rt; back.position(), 1);
     assert_eq!(rt; back.into_inner().as_slice(), b"xy".as_slice());
+    Ok(())
+}
+
+/// A stream whose clone is refused, as for want of memory.
+#[derive(Drop)]
+struct Single {
+    number: u8,
+}
+
+impl Clone for Single {
+    ghost is_clone = { λ _ _. ⊥ };
+
+    fn clone(&self) -> Result<Single, AllocError> {
+        Err(AllocError)
+    }
+}
+
+impl Tale for Single {
+    ghost reads = { Idle };
+
+    ghost read_laws = { idle_laws };
+}
+
+impl Takings for Single {
+    ghost writes = { Idle };
+
+    ghost write_laws = { idle_laws };
+}
+
+#[test]
+fn a_refused_journal_hands_its_stream_back(rt: HostRuntime) -> Result<(), Fail> {
+    let Err(back) = Journal::new(rt.alloc(), Single { number: 7 }) else {
+        return Err(Fail::from("nothing was refused"));
+    };
+    assert_eq!(rt; back.number, 7);
     Ok(())
 }

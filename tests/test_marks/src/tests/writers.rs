@@ -4,10 +4,11 @@ ghost use Rattle.std.specs.Prelude.{◌≡◌, [], IfOk};
 use lite_base::{CalmFuture, SteadyFuture};
 use lite_bridge::Cursor;
 use lite_buffered::{BufReader, BufWriter};
+use lite_halves::Journal;
 use lite_io_base::{CalmWrite, IoSlice, SteadyWrite};
 use lite_mock::{Marks, Order, Takes};
 use lite_write::make::{close, copy, flush, sink, write, write_all, write_vectored};
-use marks_met::writers::adapters_have_marks;
+use marks_met::writers::{adapters_have_marks, journals_write_with_marks};
 use nests_agree::writes::{copies_agree, writes_agree};
 use std::alloc::AllocError;
 use std::test::Fail;
@@ -47,6 +48,21 @@ fn writers_and_their_futures_are_steady_and_calm(rt: HostRuntime) -> Result<(), 
         return Err(AllocError.into());
     };
     both_future(&copied);
+    Ok(())
+}
+
+#[test]
+fn journals_are_steady_and_calm_writers(rt: HostRuntime) -> Result<(), Fail> {
+    let first: Result<Journal<Cursor<Vec<u8>>>, _> = Journal::new(
+        rt.alloc(),
+        Cursor::new(Vec::new(rt.alloc())),
+    );
+    let second = Journal::new(rt.alloc(), Cursor::new(Vec::new(rt.alloc())));
+    let (Ok(one), Ok(other)) = (first, second) else {
+        return Err(AllocError.into());
+    };
+    both(&one);
+    journals_write_with_marks(&one, &other);
     Ok(())
 }
 

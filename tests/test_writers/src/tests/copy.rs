@@ -81,3 +81,28 @@ fn a_long_text_is_copied_whole(rt: HostRuntime) -> Result<(), Fail> {
     assert!(rt; copied == text);
     Ok(())
 }
+
+// Memory is refused here where the test is run with allocations that fail.
+#[test]
+fn a_refused_copy_hands_both_back(rt: HostRuntime) -> Result<(), Fail> {
+    let reader: &[u8] = b"ab";
+    let writer = Vec::from_slice(rt.alloc(), b"-")?;
+    let mut copying = match copy(rt.alloc(), reader, writer) {
+        Ok(copying) => copying,
+        Err((reader, writer)) => {
+            assert_eq!(rt;
+                (reader, writer.as_slice()),
+                (b"ab".as_slice(), b"-".as_slice())
+            );
+            let Ok(copying) = copy(rt.alloc(), reader, writer) else {
+                return Err(AllocError.into());
+            };
+            copying
+        }
+    };
+    assert_eq!(rt;
+        told(&rt, &mut copying)?,
+        vec![in rt.alloc(); Poll::Ready(Ok(2))]?
+    );
+    Ok(())
+}

@@ -1,11 +1,12 @@
-use Rattle.std.proofs.Common.{sym}
+use Rattle.std.proofs.Common.{arith, inr, sym}
+use Rattle.std.specs.Prelude.{Result, Ok, Err, OnErr}
 use Rattle.lite_halves.specs.Entry.{asked_of}
-use Rattle.lite_halves.proofs.Driven.{journal_more, journal_none}
+use Rattle.lite_halves.proofs.Driven.{asks_at, journal_more, journal_none}
 use Rattle.lite_halves.proofs.journal.Journal.drive.Goals as goal
 
 pub loop-call-init : goal.loop-call-init
 loop-call-init g c =
-    (journal_none g.T.Tale.reads g.T.Takings.writes asked_of c.args.calls.now _ _, λ fact h. h)
+    (journal_none g.T.Tale.reads g.T.Takings.writes asked_of c.args.calls.now _ _, λ fact h. h, omega arith)
 
 pub loop-call-preserved : goal.loop-call-preserved
 loop-call-preserved g c = (
@@ -14,4 +15,15 @@ loop-call-preserved g c = (
       (rw c.in_ok-answer.ensures.ok_part at c.make.ensures.added)
       c.in_ok-reserve.ensures.items c.push_reserved.ensures.items,
   λ fact h. c.make.ensures.kept fact (c.loop-call.invariant.1 fact h),
+  omega arith,
 )
+
+on_any : {A E P : Type 0} (r : Result A E) → P → OnErr r P
+on_any (Ok x) h = tt
+on_any (Err e) h = h
+
+pub returns-in_err-answer-clause-refused : goal.returns-in_err-answer-clause-refused
+returns-in_err-answer-clause-refused g c =
+    let none = c.in_err-answer.ensures.ok_part in
+    on_any _ (inr (asks_at _ _ c.args.calls.now _ _ c.call-item.result (rw none at c.make.ensures.refused)
+    (rw none at c.make.ensures.none) c.call-item.is c.loop-call-test.true (omega arith)))

@@ -1,3 +1,4 @@
+use Rattle.std.proofs.Common.{◌≡◌, ◌+◌, vec_len}
 use Rattle.futures.specs.Task.{Keeps}
 use Rattle.lite_halves.specs.Entry.{asked_of}
 use Rattle.lite_halves.proofs.Driven.{Driven, JournalMade}
@@ -7,3 +8,4 @@ abbrev pub invariant-loop-call : goal.invariant-loop-call
 invariant-loop-call g l =
     Driven (JournalMade g.T.Tale.reads g.T.Takings.writes asked_of l.calls l.initial.self l.self)
     l.initial.out.items l.out.items l.call-index × Keeps l.initial.cx l.cx
+    × (vec_len l.out ≡ vec_len l.initial.out + l.call-index)

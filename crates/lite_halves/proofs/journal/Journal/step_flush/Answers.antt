@@ -1,4 +1,4 @@
-use Rattle.std.proofs.Common.{refl}
+use Rattle.std.proofs.Common.{arith, refl}
 use Rattle.lite_io_base.specs.Takings.{WriteMark}
 use Rattle.lite_halves.specs.Entry.{flush_note}
 use Rattle.lite_halves.specs.Laws.Entry.{done_fits, done_note_part}
@@ -9,4 +9,4 @@ pub invariant_of-self-2 : goal.invariant_of-self-2
 invariant_of-self-2 g c =
     sound_push g.T.Tale.reads g.T.Takings.writes g.T.Clone.is_clone _ (flush_note _) c.self.invariant
     c.reserve.ensures.items c.push_reserved.ensures.items refl c.done_answer-answer.ensures (done_fits _)
-    (done_note_part WriteMark.flushed _) c.poll_flush-polled.ensures.ran
+    (done_note_part WriteMark.flushed _) c.poll_flush-polled.ensures.ran (omega arith)

@@ -11,4 +11,4 @@ invariant_of-self-2 g c =
     sound_push g.T.Tale.reads g.T.Takings.writes g.T.Clone.is_clone _ (read_note r buf) c.self.invariant
     c.reserve.ensures.items c.push_reserved.ensures.items (ap Request.room (omega (arith, c.poll_read-polled.auto.buf)))
     c.read_answer-answer.ensures (read_note_fits r buf c.poll_read-polled.ensures.bound) (read_note_part r buf)
-    c.poll_read-polled.ensures.ran
+    c.poll_read-polled.ensures.ran (omega arith)

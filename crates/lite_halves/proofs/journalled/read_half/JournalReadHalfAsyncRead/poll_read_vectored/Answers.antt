@@ -5,5 +5,5 @@ use Rattle.lite_halves.proofs.journalled.read_half.JournalReadHalfAsyncRead.poll
 pub returns-clause-ran : goal.returns-clause-ran
 returns-clause-ran g c =
     let room = c.first_room.ensures in
-    reads_among ReadCounts _ _ _ _ c.args.bufs.now _ c.poll_read.auto.buf room.within room.some
-    c.poll_read.ensures.bound c.poll_read.ensures.ran
+    reads_among ReadCounts c.args.self.now c.poll_read.new.self _ _ c.args.bufs.now _ c.poll_read.auto.buf room.within
+    room.some c.poll_read.ensures.bound c.poll_read.ensures.ran
