@@ -1,6 +1,7 @@
 -- What is asked about each item: `call p x o q` says that, asked about the item x, it goes from p to q and answers o.
 use Rattle.std.specs.Prelude.{◌≡◌, ⊤, List, [], ◌∷◌, Option, Some, None, Bool, true, false}
 use Rattle.std.specs.Fn.{Mut, Called, CalledWithState}
+use Rattle.std.specs.List.{FoldsTo}
 use denote.Ref.{MutBor}
 use Rattle.lite_base.specs.Alike.{OptionBy, Sameness}
 use Rattle.lite_base.specs.Answers.{ComparableBy}
@@ -9,6 +10,11 @@ use Rattle.lite_base.specs.Runs.{Question}
 -- a call of a function with one argument
 abbrev pub Calls : {F A B : Type 0} → Mut F (A × Unit {0}) B → F → A → B → F → Type 0
 Calls g p x y q = Called g p (x, tt) y q
+
+-- each call of the function, from f on, makes a thing that has the fact
+pub record MakesAlways {F X V : Type 0} (g : Mut F X V) (Fact : V → Type 0) (f : F) : Type 0 where
+  pub at : (xs : List X) (p q : F) (x : X) (v : V) → FoldsTo (λ r y s. (w : V) × Called g r y w s) f xs p
+      → Called g p x v q → Fact v
 
 -- a call at a state, which goes on to the next call
 abbrev pub CallsWith : {F V A B : Type 0} → Mut F (MutBor V × (A × Unit {0})) (B × (MutBor V × Unit {0})) → F × V → A

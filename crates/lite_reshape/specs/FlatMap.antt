@@ -1,13 +1,12 @@
 -- `flat_map`: `flatten` of what the function makes of each item.
-use Rattle.std.specs.Prelude.{◌+◌, ◌++◌, List, Option, IfSome}
-use Rattle.std.specs.Fn.{Called, Mut}
-use Rattle.std.specs.List.{FoldsTo}
+use Rattle.std.specs.Prelude.{◌+◌, ◌++◌, Option, IfSome}
+use Rattle.std.specs.Fn.{Mut}
 use Rattle.lite_base.specs.Answers.{Answer}
 use Rattle.lite_base.specs.Ranks.{Ranks}
 use Rattle.lite_reshape.specs.Flatten.{Flattening}
 use Rattle.lite_reshape.specs.Inner.{CanStepFlat, FlatSteps, inner_rank}
 use Rattle.lite_reshape.specs.declared.flat_map.FlatMap.{FlatMap}
-use Rattle.lite_base.specs.Calling.{Calls}
+use Rattle.lite_base.specs.Calling.{Calls, MakesAlways}
 use Rattle.lite_base.specs.Runs.{Runs}
 use Rattle.lite_stream.specs.Map.{Maps}
 use Rattle.lite_stream.specs.Through.{AdapterParts, Through, parts_of}
@@ -18,11 +17,6 @@ abbrev pub FlatMaps : {S F V A B : Type 0} → Runs (Answer A) S → Mut F (A ×
     → Runs (Answer B) (FlatMap S V F)
 FlatMaps run g run' x l y =
     Through (Maps run (Calls g)) (Flattening run') x.stream x.inner_stream l y.stream y.inner_stream
-
--- each call of the function, from f on, makes a thing that has the fact
-pub record MakesAlways {F X V : Type 0} (g : Mut F X V) (Fact : V → Type 0) (f : F) : Type 0 where
-  pub at : (xs : List X) (p q : F) (x : X) (v : V) → FoldsTo (λ r y s. (w : V) × Called g r y w s) f xs p
-      → Called g p x v q → Fact v
 
 -- what is held has the fact, and so does each thing that the function makes
 abbrev pub EachMade : {F X V : Type 0} → Mut F X V → (V → Type 0) → F → Option V → Type 0

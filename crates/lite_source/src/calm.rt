@@ -14,7 +14,7 @@ ghost use Rattle.lite_source.specs.RepeatWith.{Call};
 ghost use Rattle.lite_source.specs.TryUnfold.{try_item_of, try_seed_of};
 ghost use Rattle.lite_source.specs.Unfold.{item_of, seed_of};
 ghost use Rattle.lite_source.specs.Unfolding.{IfHeldFuture};
-ghost use Rattle.std.specs.Fn.{AlwaysReturns};
+ghost use Rattle.lite_base.specs.Calling.{MakesAlways};
 ghost use Rattle.std.specs.Prelude.{IfSome, ⊤};
 
 use crate::{Empty, Iter, Once, OnceFuture, PollFn, Repeat, RepeatWith, Script, TryUnfold, Unfold};
@@ -74,7 +74,7 @@ where
     F: FnMut(T) -> Fut,
     Fut: CalmFuture<Output = Result<Option<(Item, T)>, E>> + Drop,
 {
-    ghost is_calm = { λ x. AlwaysReturns F.FnMut (λ s v. Fut.is_calm v) x.f × IfHeldFuture x.state Fut.is_calm };
+    ghost is_calm = { λ x. MakesAlways F.FnMut Fut.is_calm x.f × IfHeldFuture x.state Fut.is_calm };
 
     ghost calm = { unfolds_calm F.FnMut Fut.calm try_seed_of try_item_of (λ x. (x.f, x.state)) };
 }
@@ -85,7 +85,7 @@ where
     F: FnMut(T) -> Fut,
     Fut: CalmFuture<Output = Option<(Item, T)>> + Drop,
 {
-    ghost is_calm = { λ x. AlwaysReturns F.FnMut (λ s v. Fut.is_calm v) x.f × IfHeldFuture x.state Fut.is_calm };
+    ghost is_calm = { λ x. MakesAlways F.FnMut Fut.is_calm x.f × IfHeldFuture x.state Fut.is_calm };
 
     ghost calm = { unfolds_calm F.FnMut Fut.calm seed_of item_of (λ x. (x.f, x.state)) };
 }

@@ -1,5 +1,5 @@
 ghost use Rattle.std.specs.Prelude.{None};
-ghost use Rattle.std.specs.Fn.{AlwaysReturns};
+ghost use Rattle.lite_base.specs.Calling.{MakesAlways};
 ghost use Rattle.lite_source.specs.TryUnfold.{TryUnfoldsBy};
 ghost use Rattle.lite_source.specs.Unfolding.{IfHeldFuture, UnfoldRegisters};
 ghost use Rattle.lite_source.specs.Laws.TryUnfold.{try_unfold_laws};
@@ -34,7 +34,7 @@ where
 {
     type Item = Result<Item, E>;
 
-    ghost can_poll = { λ x. F.IsAlwaysCallable x.f × AlwaysReturns F.FnMut (λ s v. Fut.can_poll v) x.f
+    ghost can_poll = { λ x. F.IsAlwaysCallable x.f × MakesAlways F.FnMut Fut.can_poll x.f
         × IfHeldFuture x.state Fut.can_poll };
 
     ghost run = { TryUnfoldsBy F.FnMut Fut.run };

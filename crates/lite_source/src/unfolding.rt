@@ -1,5 +1,5 @@
 ghost use Rattle.std.specs.Prelude.{◌≡◌};
-ghost use Rattle.std.specs.Fn.{AlwaysReturns};
+ghost use Rattle.lite_base.specs.Calling.{MakesAlways};
 ghost use Rattle.futures.specs.Task.{Keeps};
 ghost use Rattle.lite_source.specs.Unfolding.{Holding, IfHeldFuture, UnfoldRegisters, UnfoldStep};
 ghost use Rattle.lite_base.specs.Registered.{Registered};
@@ -46,11 +46,11 @@ impl<T: Drop, Fut: Future + Drop> Unfolding<T, Fut> {
         cx: &mut Context<'_>,
     ) -> Poll<Option<Fut::Output>>
         requires callable { F.IsAlwaysCallable f.old }
-        requires makes { AlwaysReturns F.FnMut (λ s v. Fut.can_poll v) f.old }
+        requires makes { MakesAlways F.FnMut Fut.can_poll f.old }
         requires asked { IfHeldFuture self.old Fut.can_poll }
         ensures ran { UnfoldStep F.FnMut Fut.run f.old self.old result f.new self.new }
         ensures callable { F.IsAlwaysCallable f.new }
-        ensures makes { AlwaysReturns F.FnMut (λ s v. Fut.can_poll v) f.new }
+        ensures makes { MakesAlways F.FnMut Fut.can_poll f.new }
         ensures asked { IfHeldFuture self.new Fut.can_poll }
         ensures left { Registered result (UnfoldRegisters Fut.registers self.new) cx.new }
         ensures kept { Keeps cx.old cx.new }

@@ -1,10 +1,9 @@
 //! Adapters that hold something between polls or have several streams: two that are alike, and a calm one, of each type.
 ghost use Rattle.std.specs.Prelude.{None, Some, false};
 ghost use Rattle.lite_base.specs.Alike.{SameItem};
-ghost use Rattle.lite_base.specs.Calling.{AgreeFrom, Calls};
+ghost use Rattle.lite_base.specs.Calling.{AgreeFrom, Calls, MakesAlways};
 ghost use Rattle.lite_merge.specs.declared.stop_after_future.Stopping.TheVariants.{Holding};
 ghost use Rattle.lite_reshape.specs.Cloned.{EqualClones};
-ghost use Rattle.lite_reshape.specs.FlatMap.{MakesAlways};
 ghost use Rattle.lite_reshape.specs.Inner.{EachInner};
 ghost use Rattle.lite_reshape.specs.declared.chain.Part.TheVariants.{First};
 

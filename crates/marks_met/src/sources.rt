@@ -1,10 +1,9 @@
 //! Sources: two that are alike, and a calm one, of each type.
 ghost use Rattle.futures.specs.declared.task.Poll.TheVariants.{Pending as Waits, Ready};
-ghost use Rattle.std.specs.Fn.{AlwaysReturns};
 ghost use Rattle.std.specs.List.{FoldsTo};
 ghost use Rattle.std.specs.Prelude.{◌∷◌, Some, None, []};
 ghost use Rattle.lite_base.specs.Alike.{Alike, SameItem};
-ghost use Rattle.lite_base.specs.Calling.{AgreeFrom, Calls};
+ghost use Rattle.lite_base.specs.Calling.{AgreeFrom, Calls, MakesAlways};
 ghost use Rattle.lite_base.specs.Future.Calls.{CallAnswers, NeverPends};
 ghost use Rattle.lite_source.specs.Iter.{Iterates};
 ghost use Rattle.lite_source.specs.RepeatWith.{Call};
@@ -88,8 +87,8 @@ where
     G: FnMut(T) -> Fut2,
     requires future { Fut.is_calm x.now }
     requires polls { NeverPends P.FnMut p.now }
-    requires unfolds { AlwaysReturns F.FnMut (λ t v. Fut.is_calm v) f.now }
-    requires tries { AlwaysReturns G.FnMut (λ t v. Fut2.is_calm v) g.now }
+    requires unfolds { MakesAlways F.FnMut Fut.is_calm f.now }
+    requires tries { MakesAlways G.FnMut Fut2.is_calm g.now }
     ensures once_future { ⟦<OnceFuture<Fut> as CalmStream>⟧.is_calm (record { future = Some x.now }) }
     ensures poll_fn { ⟦<PollFn<P> as CalmStream>⟧.is_calm (record { f = p.now }) }
     ensures unfold { ⟦<Unfold<T, F, Fut> as CalmStream>⟧.is_calm (record { f = f.now; state = Holding.Seed t.now }) }

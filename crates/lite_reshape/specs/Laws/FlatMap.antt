@@ -1,7 +1,7 @@
 -- Laws of streams that a function makes.
-use Rattle.std.specs.Fn.{Called, Mut}
+use Rattle.std.specs.Fn.{Mut}
 use Rattle.std.specs.List.{AllByRecursion}
-use Rattle.std.proofs.Common.{◌≡◌, List, [], ◌∷◌, Option, Some, None, refl, subst}
+use Rattle.std.proofs.Common.{◌≡◌, List, ◌∷◌, Option, Some, None, refl, subst}
 use Rattle.futures.specs.declared.task.Poll.TheVariants.{Ready}
 use Rattle.lite_base.specs.Alike.{OptionBy, SameItem, Sameness}
 use Rattle.lite_base.specs.Answers.{Answer}
@@ -14,16 +14,17 @@ use Rattle.lite_base.specs.Laws.Ranks.{counting_ends}
 use Rattle.lite_base.specs.Steady.{SteadyLawsBy}
 use Rattle.lite_base.specs.StreamLaws.{StreamLaws}
 use Rattle.lite_base.specs.Laws.StreamLaws.{runs_of}
-use Rattle.lite_reshape.specs.FlatMap.{EachMade, FlatMaps, MakesAlways, flat_map_parts, flat_map_ranks}
+use Rattle.lite_reshape.specs.FlatMap.{EachMade, FlatMaps, flat_map_parts, flat_map_ranks}
 use Rattle.lite_reshape.specs.Inner.{EachInner}
 use Rattle.lite_reshape.specs.Laws.Calming.{flattening_calm}
 use Rattle.lite_reshape.specs.Laws.Flatten.{each_inner_on, flattening, flattening_counting}
 use Rattle.lite_reshape.specs.Laws.SteadyFlatten.{flattening_steady}
 use Rattle.lite_reshape.specs.declared.flat_map.FlatMap.{FlatMap}
-use Rattle.lite_base.specs.Calling.{AgreeFrom, Always, Calls}
+use Rattle.lite_base.specs.Calling.{AgreeFrom, Always, Calls, MakesAlways}
 use Rattle.lite_base.specs.Laws.All.{all_split}
 use Rattle.lite_base.specs.Laws.Items.{OfItem}
 use Rattle.lite_base.specs.Laws.Calling.{agree_from_matches}
+use Rattle.lite_base.specs.Laws.Promises.{makes_on}
 use Rattle.lite_base.specs.Runs.{Hints, NoHint, Runs}
 use Rattle.lite_stream.specs.Laws.Agreeing.{through_alike, through_steady_over}
 use Rattle.lite_stream.specs.Laws.Calming.{through_calm}
@@ -33,17 +34,6 @@ use Rattle.lite_stream.specs.Laws.Through.{laws_following, laws_hinted, through_
 use Rattle.lite_stream.specs.Map.{Maps, map_parts}
 use Rattle.lite_stream.specs.Pointwise.{Replaces}
 use Rattle.lite_stream.specs.declared.map.Map.{Map}
-
--- what is made has the fact, and the function goes on to make such things
-pub makes_on : {F X V : Type 0} (g : Mut F X V) (Fact : V → Type 0) (f : F) (x : X) (v : V) (h : F)
-    → MakesAlways g Fact f → Called g f x v h
-    → Fact v × MakesAlways g Fact h
-makes_on g Fact f x v h always called = (
-  always.at [] f h x v refl called,
-  record {
-    at = λ xs p q y w folds then_called. always.at (x ∷ xs) p q y w (h, (v, called), folds) then_called;
-  },
-)
 
 module _ {F A V : Type 0} (g : Mut F (A × Unit {0}) V) (Fact : V → Type 0) where
   made_here : (f q : F) (x : A) (y : Option V) → Always (Calls g) f x y q → MakesAlways g Fact f

@@ -19,7 +19,7 @@ use Rattle.lite_base.specs.Laws.Hint.{same_hint}
 use Rattle.lite_base.specs.Steady.{FutureSteadyLawsBy, SteadyLawsBy}
 use Rattle.lite_base.specs.StreamLaws.{StreamLaws}
 use Rattle.lite_reshape.specs.FlatMap.{EachMade}
-use Rattle.lite_reshape.specs.Laws.FlatMap.{makes_on}
+use Rattle.lite_base.specs.Laws.Promises.{makes_on}
 use Rattle.lite_reshape.specs.Laws.Calming.{expanding_calm, through_calm_by}
 use Rattle.lite_reshape.specs.Laws.Expanding.{FollowLaws, GivingOne, expanding_bounded, expanding_following}
 use Rattle.lite_reshape.specs.Laws.SteadyExpanding.{OneMade, expanding_agreeing, expanding_found}

@@ -2,13 +2,13 @@
 use Rattle.std.specs.Prelude.{⊤}
 use Rattle.std.proofs.Common.{inl, inr, ◌≡◌, ◌∙◌, ◌⊎◌, List, [], ◌∷◌, ◌++◌, map, flat_map, Option, Some, None, refl, ap}
 use Rattle.std.proofs.Common.{sym, append-nil}
-use Rattle.std.specs.Fn.{AlwaysReturns, Mut}
+use Rattle.std.specs.Fn.{Mut}
 use Rattle.std.specs.List.{AllByRecursion, FoldsTo}
 use Rattle.futures.specs.declared.task.Poll.{Poll}
 use Rattle.lite_base.specs.Alike.{OptionBy, SameAnswer, SameItem, Sameness}
 use Rattle.lite_base.specs.Answers.{Answer, ComparableBy, Waiting, end, strip}
 use Rattle.lite_base.specs.Calm.{CalmLaws, NoPending}
-use Rattle.lite_base.specs.Calling.{AgreeFrom, Calls}
+use Rattle.lite_base.specs.Calling.{AgreeFrom, Calls, MakesAlways}
 use Rattle.lite_base.specs.Future.Finishes.{Finishes}
 use Rattle.lite_base.specs.Future.Handed.{handed}
 use Rattle.lite_base.specs.FutureLaws.{FutureLaws}
@@ -18,11 +18,11 @@ use Rattle.lite_base.specs.Laws.Calling.{agree_from_matches}
 use Rattle.lite_base.specs.Laws.Calm.{calm_both, no_pending_join}
 use Rattle.lite_base.specs.Laws.Future.Finishes.{finishes_found, finishes_later}
 use Rattle.lite_base.specs.Laws.Future.Handed.{handed_gives, handed_no_pending, handed_waits}
-use Rattle.lite_base.specs.Laws.Promises.{call_promises}
 use Rattle.lite_base.specs.Steady.{FutureSteadyLawsBy, SteadinessBy, SteadyLawsBy, TakesNone}
 use Rattle.lite_base.specs.StreamLaws.{StreamLaws}
 use Rattle.lite_base.specs.Laws.StreamLaws.{runs_of}
 use Rattle.lite_base.specs.Runs.{Hints, Question, Runs}
+use Rattle.lite_base.specs.Laws.Promises.{makes_on}
 use Rattle.lite_source.specs.Laws.Always.{answers_no_pending}
 use Rattle.lite_source.specs.Unfolding.{BothHave, Holding, HoldingsBy, IfHeldFuture, IsCurrent, Leads, PartOf}
 use Rattle.lite_source.specs.Unfolding.{UnfoldAlike, UnfoldPart, Unfolds, comes}
@@ -221,11 +221,11 @@ module _ {F S V O B : Type 0} (call : Mut F (S × Unit {0}) V) {run : Runs (Poll
     (c : CalmLaws run calm) (after : O → Option S) (shown : O → Option B) where
   -- the function makes calm futures, and one that is held is calm
   abbrev Calmly : F → Holding S V → Type 0
-  Calmly p x = AlwaysReturns call (λ s. calm) p × IfHeldFuture x calm
+  Calmly p x = MakesAlways call calm p × IfHeldFuture x calm
 
   current_calm : (p q : F) (x : Holding S V) (v : V) → Calmly p x → IsCurrent call p x q v → calm v
-      × AlwaysReturns call (λ s. calm) q
-  current_calm p q (Holding.Seed s) v k h = call_promises call _ p (s, tt) v q k.0 h
+      × MakesAlways call calm q
+  current_calm p q (Holding.Seed s) v k h = makes_on call calm p (s, tt) v q k.0 h
   current_calm p q (Holding.Asked w) v k h = rw (h.0, h.1) (k.1, k.0)
   current_calm p q Holding.Over v k h = absurd h
 
@@ -257,5 +257,5 @@ module _ {F S V O B : Type 0} (call : Mut F (S × Unit {0}) V) {run : Runs (Poll
 
   pub unfolds_calm : {X : Type 0} (pair : X → F × Holding S V)
       → CalmLaws (λ x l y. Unfolds call run after shown (pair x) l (pair y))
-      (λ x. AlwaysReturns call (λ s. calm) (pair x).0 × IfHeldFuture (pair x).1 calm)
+      (λ x. MakesAlways call calm (pair x).0 × IfHeldFuture (pair x).1 calm)
   unfolds_calm pair = calm_both (λ x y l k h. rw h.2 (parts_calm (pair x) (pair y) h.0 k h.1))
