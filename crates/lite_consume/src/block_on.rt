@@ -46,7 +46,7 @@ impl<R, S: fmt::Debug> fmt::Debug for BlockOn<R, S> {
 }
 
 impl<R: Wait + RandomSource + AllocGlobal, S: Stream> BlockOn<R, S> {
-    ghost use Rattle.lite_consume.specs.BlockOn.{IsUnused};
+    ghost use Rattle.lite_consume.specs.BlockOn.{NeverWaited};
 
     /// What `folder` makes of the items. What is waited with is made where there is none yet.
     fn ask<F: Folder<S> + Drop>(&mut self, mut folder: F) -> Result<F::Output, AllocError>
@@ -56,8 +56,8 @@ impl<R: Wait + RandomSource + AllocGlobal, S: Stream> BlockOn<R, S> {
         requires asks { MayTakeEach S.run F.fold F.can_take self.old.stream folder }
         ensures gave { IfOk result (λ value. BlockGives F.fold S.run self.old.stream folder value self.new.stream) }
         ensures kept { OnErr result (self.new.stream ≡ self.old.stream) }
-        ensures first { OnErr result (IsUnused self.old) }
-        ensures used { OnOk result (IsUnused self.new → ⊥) }
+        ensures first { OnErr result (NeverWaited self.old) }
+        ensures used { OnOk result (NeverWaited self.new → ⊥) }
     {
         // By itself, so that it is known that the rest stays.
         let waiter = &mut self.waiter;
@@ -73,8 +73,8 @@ impl<R: Wait + RandomSource + AllocGlobal, S: Stream> BlockOn<R, S> {
         requires polls { S.can_poll self.old.stream }
         ensures gave { IfOk result (λ value. BlockGives nexts S.run self.old.stream nothing value self.new.stream) }
         ensures kept { OnErr result (self.new.stream ≡ self.old.stream) }
-        ensures first { OnErr result (IsUnused self.old) }
-        ensures used { OnOk result (IsUnused self.new → ⊥) }
+        ensures first { OnErr result (NeverWaited self.old) }
+        ensures used { OnOk result (NeverWaited self.new → ⊥) }
     {
         self.ask(Next)
     }
@@ -87,8 +87,8 @@ impl<R: Wait + RandomSource + AllocGlobal, S: Stream> BlockOn<R, S> {
         requires polls { S.can_poll self.old.stream }
         ensures gave { IfOk result (λ value. BlockGives nths S.run self.old.stream n value self.new.stream) }
         ensures kept { OnErr result (self.new.stream ≡ self.old.stream) }
-        ensures first { OnErr result (IsUnused self.old) }
-        ensures used { OnOk result (IsUnused self.new → ⊥) }
+        ensures first { OnErr result (NeverWaited self.old) }
+        ensures used { OnOk result (NeverWaited self.new → ⊥) }
     {
         self.ask(Nth { n })
     }
@@ -102,7 +102,7 @@ impl<R: Wait + RandomSource + AllocGlobal, S: Stream> BlockOn<R, S> {
         requires polls { S.can_poll self.stream }
         requires counts { S.ranks.counts self.stream }
         ensures gave { IfOk result (λ value. (left : S) × BlockGives counts S.run self.stream 0 value left) }
-        ensures first { OnErr result (IsUnused self) }
+        ensures first { OnErr result (NeverWaited self) }
     {
         self.ask(Count { count: 0 })
     }
@@ -116,7 +116,7 @@ impl<R: Wait + RandomSource + AllocGlobal, S: Stream> BlockOn<R, S> {
         requires polls { S.can_poll self.stream }
         requires counts { S.ranks.counts self.stream }
         ensures gave { IfOk result (λ value. (left : S) × BlockGives lasts S.run self.stream None value left) }
-        ensures first { OnErr result (IsUnused self) }
+        ensures first { OnErr result (NeverWaited self) }
     {
         self.ask(Last { last: None })
     }
@@ -134,7 +134,7 @@ impl<R: Wait + RandomSource + AllocGlobal, S: Stream> BlockOn<R, S> {
         requires asks { MayTakeEach S.run (folds (CallsBoth F.FnMut)) (MayFold F.FnMut) self.stream (f, Some init) }
         ensures gave { IfOk result
             (λ value. (left : S) × BlockGives (folds (CallsBoth F.FnMut)) S.run self.stream (f, Some init) value left) }
-        ensures first { OnErr result (IsUnused self) }
+        ensures first { OnErr result (NeverWaited self) }
     {
         self.ask(Fold { f, acc: Some(init) })
     }
@@ -150,7 +150,7 @@ impl<R: Wait + RandomSource + AllocGlobal, S: Stream> BlockOn<R, S> {
         requires asks { MayTakeEach S.run (calls_each (Calls F.FnMut)) (MayCall F.FnMut) self.stream f }
         ensures gave { IfOk result
             (λ value. (left : S) × BlockGives (calls_each (Calls F.FnMut)) S.run self.stream f value left) }
-        ensures first { OnErr result (IsUnused self) }
+        ensures first { OnErr result (NeverWaited self) }
     {
         self.ask(ForEach { f })
     }
@@ -167,8 +167,8 @@ impl<R: Wait + RandomSource + AllocGlobal, S: Stream> BlockOn<R, S> {
         ensures gave { IfOk result
             (λ value. BlockGives (alls (Calls P.FnMut)) S.run self.old.stream predicate value self.new.stream) }
         ensures kept { OnErr result (self.new.stream ≡ self.old.stream) }
-        ensures first { OnErr result (IsUnused self.old) }
-        ensures used { OnOk result (IsUnused self.new → ⊥) }
+        ensures first { OnErr result (NeverWaited self.old) }
+        ensures used { OnOk result (NeverWaited self.new → ⊥) }
     {
         self.ask(All { predicate })
     }
@@ -185,8 +185,8 @@ impl<R: Wait + RandomSource + AllocGlobal, S: Stream> BlockOn<R, S> {
         ensures gave { IfOk result
             (λ value. BlockGives (anys (Calls P.FnMut)) S.run self.old.stream predicate value self.new.stream) }
         ensures kept { OnErr result (self.new.stream ≡ self.old.stream) }
-        ensures first { OnErr result (IsUnused self.old) }
-        ensures used { OnOk result (IsUnused self.new → ⊥) }
+        ensures first { OnErr result (NeverWaited self.old) }
+        ensures used { OnOk result (NeverWaited self.new → ⊥) }
     {
         self.ask(Any { predicate })
     }
@@ -203,8 +203,8 @@ impl<R: Wait + RandomSource + AllocGlobal, S: Stream> BlockOn<R, S> {
         ensures gave { IfOk result
             (λ value. BlockGives (finds (CalledAt P.FnMut)) S.run self.old.stream predicate value self.new.stream) }
         ensures kept { OnErr result (self.new.stream ≡ self.old.stream) }
-        ensures first { OnErr result (IsUnused self.old) }
-        ensures used { OnOk result (IsUnused self.new → ⊥) }
+        ensures first { OnErr result (NeverWaited self.old) }
+        ensures used { OnOk result (NeverWaited self.new → ⊥) }
     {
         self.ask(Find { predicate })
     }
@@ -221,8 +221,8 @@ impl<R: Wait + RandomSource + AllocGlobal, S: Stream> BlockOn<R, S> {
         ensures gave { IfOk result
             (λ value. BlockGives (finds_map (Calls F.FnMut)) S.run self.old.stream f value self.new.stream) }
         ensures kept { OnErr result (self.new.stream ≡ self.old.stream) }
-        ensures first { OnErr result (IsUnused self.old) }
-        ensures used { OnOk result (IsUnused self.new → ⊥) }
+        ensures first { OnErr result (NeverWaited self.old) }
+        ensures used { OnOk result (NeverWaited self.new → ⊥) }
     {
         self.ask(FindMap { f })
     }
@@ -240,8 +240,8 @@ impl<R: Wait + RandomSource + AllocGlobal, S: Stream> BlockOn<R, S> {
             (λ value. BlockGives (positions (Calls P.FnMut)) S.run self.old.stream
             (predicate, 0) value self.new.stream) }
         ensures kept { OnErr result (self.new.stream ≡ self.old.stream) }
-        ensures first { OnErr result (IsUnused self.old) }
-        ensures used { OnOk result (IsUnused self.new → ⊥) }
+        ensures first { OnErr result (NeverWaited self.old) }
+        ensures used { OnOk result (NeverWaited self.new → ⊥) }
     {
         self.ask(Position {
             predicate,
