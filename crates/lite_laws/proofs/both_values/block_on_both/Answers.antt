@@ -4,8 +4,8 @@ use Rattle.lite_laws.proofs.both_values.block_on_both.Goals as goal
 
 pub returns : goal.returns
 returns g c =
-    let one = c.in_ok-first.ensures in
-    let two = c.in_ok-second.ensures in
+    let one = c.in_ok-first.ensures.gave in
+    let two = c.in_ok-second.ensures.gave in
     let steady = g.met.F.SteadyFuture.steady in
     let same = alike_agrees _ c.args.x c.args.y (steady.steady c.args.x c.args.y c.requires.alike) one.0 two.0 _ _ in
     record {
