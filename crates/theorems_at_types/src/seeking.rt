@@ -1,11 +1,12 @@
 //! Fresh buffered readers over bytes: what they answer to reads and seeks, and that their rank counts on after a seek.
-ghost use Rattle.std.specs.Prelude.{IfOk};
+ghost use Rattle.std.specs.Prelude.{◌<◌, IfOk};
 ghost use Rattle.lite_bridge.specs.Logical.{AnswersAsBare};
 ghost use Rattle.lite_buffered.specs.BufReader.{ahead_ranks};
 ghost use Rattle.lite_buffered.specs.SeeksThrough.{SeeksThrough};
 ghost use Rattle.lite_io_base.specs.SeekKeeps.{SeekKeeps};
 
-use futures_lite::io::{BufReader, Cursor};
+use futures_lite::AsyncSeek;
+use futures_lite::io::{BufReader, BytesLike, CountedRead, Cursor};
 use futures_lite::laws::{answers_as_bare, counts_after_seek};
 use std::alloc::{AllocError, Global};
 
