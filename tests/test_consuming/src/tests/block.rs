@@ -78,13 +78,10 @@ fn a_refused_wait_for_the_end_polls_nothing(rt: HostRuntime) -> Result<(), Fail>
     let last = stream::block_on(Refusing { rt }, &mut numbers).last();
     assert_eq!(rt; last, Err(AllocError));
     let calls = Cell::new(0u8);
-    let sum = stream::block_on(Refusing { rt }, &mut numbers).fold(
-        0u8,
-        |a: u8, x: u8| {
-            calls.set(calls.get().wrapping_add(1));
-            a.wrapping_add(x)
-        },
-    );
+    let sum = stream::block_on(Refusing { rt }, &mut numbers).fold(0u8, |a: u8, x: u8| {
+        calls.set(calls.get().wrapping_add(1));
+        a.wrapping_add(x)
+    });
     assert_eq!(rt; sum, Err(AllocError));
     let called = stream::block_on(Refusing { rt }, &mut numbers).for_each(|_x: u8| {
         calls.set(calls.get().wrapping_add(1));
