@@ -1,3 +1,4 @@
+mod driven;
 mod gate;
 mod journal;
 mod pipe;
