@@ -1,4 +1,4 @@
-"""What a case may answer if one request for memory is refused to it: the answers with all its memory, but for the one call that was refused."""
+"""What a case may answer if one of its requests for memory is refused: as with all its memory, except for the one call that was refused."""
 from cases import keeps_all, without_pendings
 
 REFUSED = "!OutOfMemory"
@@ -24,13 +24,13 @@ def begins(longer, shorter):
 
 
 def is_one_more(plain, harsh):
-    """Whether a stream gives the refusal at one poll, and at the others the same as ever: what it had stays."""
+    """Whether a stream gives the refusal at one poll and the same items as ever at the others: it keeps what it had."""
     places = [n for n, it in enumerate(harsh) if it in (REFUSED, REFUSED_ITEM)]
     return len(harsh) == len(plain) and len(places) == 1 and begins(plain, harsh[: places[0]] + harsh[places[0] + 1 :])
 
 
 def is_read_on(plain, harsh):
-    """Whether of reads, each into an empty vector or text, the one after the refused one gives the rest of what that one gives."""
+    """Whether the read after the refused one gives what that one had not read yet. Each reads into an empty vector or text."""
     read, left, refusals = [], "", 0
     for shown, value in pairs_of(harsh):
         if value == REFUSED:
@@ -44,7 +44,7 @@ def is_read_on(plain, harsh):
 
 
 def is_read_behind(start, plain, harsh):
-    """Whether of reads behind what is there the refused one keeps what it has read, and the one after it gives the rest."""
+    """Whether the refused read keeps what it has read, and the one after it gives the rest. All read behind what is there."""
     shown, left, read, refusals = f"x{start.replace('-', '')}", 0, [], 0
     for value, then in pairs_of(harsh):
         if not then.startswith(shown):
@@ -64,7 +64,7 @@ def is_the_value(plain, harsh):
 
 
 def keeps_copied(plain, harsh):
-    """Whether a copy to a buffered writer ends with the refusal, and what was taken and what is held come in order."""
+    """Whether a copy to a buffered writer ends with the refusal, and what was taken and is held is a beginning of what it copies."""
     has_waited = harsh.count("P") <= plain.count("P")
     plain, harsh = without_pendings(plain), without_pendings(harsh)
     if not has_waited or len(harsh) != 3 or harsh[0] != f"={REFUSED}":
@@ -87,7 +87,7 @@ def without_call(words, n, and_later):
 
 
 def is_left_out(words, plain, harsh, ask):
-    """Whether the answers are those to the case without the call that was refused, and, of a list of calls, without those behind it."""
+    """Whether the answers are those to the case without the call that was refused. A list of calls ends at that call."""
     sign = "refused" if words[2] == "drive" else REFUSED
     if harsh.count(sign) != 1:
         return False
@@ -106,7 +106,7 @@ def is_refusal(words, plain, harsh, ask):
         return is_read_on(plain, harsh)
     if mode.endswith("_onto"):
         return is_read_behind(words[3], plain, harsh)
-    if mode in ("collect", "pieces"):
+    if mode in ("collect", "collectbuf", "pieces"):
         return is_the_value(plain, harsh)
     if mode == "copybuf":
         return keeps_copied(plain, harsh)

@@ -188,13 +188,13 @@ fn unzip_hands_back_what_was_refused(rt: HostRuntime) -> Result<(), Fail> {
     Ok(())
 }
 
-/// What the parts of a pair are answered with, where only so much of the memory for them is left.
+/// The value of `unzip` into two vectors of an arena.
 type Unzipped<'a> = Result<
     (Vec<u8, &'a Bump<Global>>, Vec<u8, &'a Bump<Global>>),
     UnzipRefused<Vec<u8, &'a Bump<Global>>, Vec<u8, &'a Bump<Global>>, u8, u8>,
 >;
 
-/// How many growths of the two parts of (1, 2) memory was found for, each answer being what is handed back then.
+/// How many of the two vectors found memory for their part of (1, 2). `None`: something is lost or changed.
 fn grown(answer: Option<Poll<Unzipped<'_>>>) -> Option<usize> {
     match answer {
         Some(Poll::Ready(Ok((left, right))))
@@ -212,7 +212,7 @@ fn grown(answer: Option<Poll<Unzipped<'_>>>) -> Option<usize> {
 #[test]
 fn unzip_of_two_vectors_keeps_the_first_part_of_a_pair(rt: HostRuntime) -> Result<(), Fail> {
     let mut is_met = [false; 3];
-    // The less is left of the memory, the fewer growths find some.
+    // Each round leaves less memory for the two vectors.
     for filled in 0..17usize {
         let bump = Bump::new(rt.alloc());
         bump.set_allocation_limit(Some(64));
@@ -228,7 +228,7 @@ fn unzip_of_two_vectors_keeps_the_first_part_of_a_pair(rt: HostRuntime) -> Resul
         };
         is_met[growths] = true;
     }
-    // Of one growth the second part was refused, and of two none.
+    // In some round memory was refused to the second vector alone, and in some to neither.
     assert!(rt; is_met[1] && is_met[2]);
     Ok(())
 }

@@ -32,7 +32,7 @@ fn a_refused_line_comes_at_the_next_poll(rt: HostRuntime) -> Result<(), Fail> {
     Ok(())
 }
 
-// So it is here.
+// Memory is refused here too if the test is run with an allocation that fails.
 #[test]
 fn a_refused_growth_of_a_line_is_an_item_before_it(rt: HostRuntime) -> Result<(), Fail> {
     let mut marks = Marks::new(rt.alloc());

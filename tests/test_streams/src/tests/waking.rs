@@ -1,4 +1,4 @@
-//! What wakes a task, of adapters whose items no case can write.
+//! Adapters of references wake no task by themselves. No case can write a reference.
 use futures::task::{Doorbell, Solo, Source};
 use futures_lite::{Context, Poll, Stream, StreamExt, stream};
 use std::alloc::AllocGlobal;
