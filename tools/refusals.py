@@ -13,10 +13,15 @@ def pairs_of(answers):
     return list(zip(answers[::2], answers[1::2]))
 
 
+def polls_of(answers):
+    """Returns how many polls were made: one for each pending and one for each pair. None: half of a pair is missing."""
+    halves = len(without_pendings(answers))
+    return answers.count("P") + halves // 2 if halves % 2 == 0 else None
+
+
 def is_as_long(plain, harsh):
-    """Whether both have as many polls: one for each pending, and one for each pair."""
-    polls, rest = zip(*((len(it) + it.count("P"), len(without_pendings(it)) % 2) for it in (plain, harsh)))
-    return polls[0] == polls[1] and rest == (0, 0)
+    polls = polls_of(harsh)
+    return polls is not None and polls == polls_of(plain)
 
 
 def begins(longer, shorter):
