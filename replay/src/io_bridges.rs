@@ -1,7 +1,7 @@
 //! Cases of bridges to std's traits and from them.
 use crate::io_calls::{goes_on, read_poll, room_of, seek_call, write_poll};
 use crate::io_run::Run;
-use crate::io_words::{bytes_of, place_of};
+use crate::io_words::{bytes_of, kind_of, place_of};
 use crate::readers::{BuildReader, Nest};
 use crate::words::{Fault, Words};
 use futures_lite::io::{
@@ -25,10 +25,12 @@ pub(crate) fn answered(
     Ok(true)
 }
 
-/// Answers so many calls with an interruption, and then each with what was asked. It counts the calls.
+/// Answers so many calls with an interruption, the one after them with its error, where it has one, and then each with what was
+/// asked. It counts the calls.
 #[derive(Drop)]
 struct Stubborn {
     interruptions: usize,
+    error: Option<ErrorKind>,
     calls: usize,
 }
 
@@ -38,6 +40,9 @@ impl Stubborn {
         if self.interruptions > 0 {
             self.interruptions -= 1;
             return Err(ErrorKind::Interrupted.into());
+        }
+        if let Some(kind) = self.error.take() {
+            return Err(kind.into());
         }
         Ok(value)
     }
@@ -58,8 +63,7 @@ impl Read for Stubborn {
 
 impl Write for Stubborn {
     fn write(&mut self, buf: &[u8]) -> io::Result<usize> {
-        self.answer(())?;
-        Ok(buf.len())
+        self.answer(buf.len())
     }
 
     fn flush(&mut self) -> io::Result<()> {
@@ -89,20 +93,28 @@ fn asserted_call<T: Read + Write + Seek>(
     if is_done { Ok(()) } else { Err(Fault::Words) }
 }
 
-/// `stubborn COUNT CALL..`: polls of what is interrupted so often; how often it was called is shown after each, and `interrupt N`
-/// interrupts it again.
+/// `stubborn COUNT CALL..`: polls of what is interrupted so often; how often it was called is shown after each. `interrupt N`
+/// interrupts it again, and `fail KIND` lets it fail behind its interruptions.
 fn stubborn(run: &mut Run<'_, '_>, words: &mut Words<'_>) -> Result<(), Fault> {
     let mut stream = AssertAsync::new(Stubborn {
         interruptions: words.number()?,
+        error: None,
         calls: 0,
     });
     while goes_on(run, words) {
-        if words.first() == "interrupt" {
-            words.take()?;
-            stream.get_mut().interruptions = words.number()?;
-        } else {
-            asserted_call(run, &mut stream, words)?;
-            run.number(stream.get_ref().calls as u64)?;
+        match words.first() {
+            "interrupt" => {
+                words.take()?;
+                stream.get_mut().interruptions = words.number()?;
+            }
+            "fail" => {
+                words.take()?;
+                stream.get_mut().error = Some(kind_of(words.take()?)?);
+            }
+            _ => {
+                asserted_call(run, &mut stream, words)?;
+                run.number(stream.get_ref().calls as u64)?;
+            }
         }
     }
     Ok(())

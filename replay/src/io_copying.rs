@@ -5,7 +5,7 @@ use crate::readers::{BuildReader, Nest};
 use crate::words::{Fault, Words};
 use crate::writers::{Ordered, buf_writer_of, writer_of};
 use futures_lite::AsyncWriteExt;
-use futures_lite::io::{self as lite, AsyncWrite, BufWriter, CountedRead};
+use futures_lite::io::{self as lite, AsyncWrite, BufWriter, CountedRead, Cursor};
 use futures_lite::laws::copy_buffered;
 
 /// Runs a case of one of these modes; `false`: `mode` is none of them.
@@ -19,6 +19,7 @@ pub(crate) fn answered(
         "copies" => copies(run, words)?,
         "copybuf" => copy_to_buffered(run, words)?,
         "copyheld" => copy_held(run, words)?,
+        "copyslice" => copy_to_slice(run, words)?,
         _ => return Ok(false),
     }
     Ok(true)
@@ -78,6 +79,14 @@ fn buffered<R: CountedRead + Drop>(
 fn copy_to_buffered(run: &mut Run<'_, '_>, words: &mut Words<'_>) -> Result<(), Fault> {
     let writer = buf_writer_of(run.alloc, words)?;
     buffered(run, Nest::build(run.alloc, words)?, writer)
+}
+
+/// `copyslice HEX NEST`: one copy to a cursor over these bytes, which are shown at last.
+fn copy_to_slice(run: &mut Run<'_, '_>, words: &mut Words<'_>) -> Result<(), Fault> {
+    let mut bytes = bytes_of(run.alloc, words.take()?)?;
+    let reader = Nest::build(run.alloc, words)?;
+    copy_once(run, reader, Cursor::new(bytes.as_mut_slice()))?;
+    run.bytes(bytes.as_slice())
 }
 
 /// `copyheld HEX CAPACITY WRITER NEST`: a write of these bytes to a buffered writer, and then as `copybuf`.

@@ -9,7 +9,8 @@ use crate::words::{Fault, Words};
 use futures_lite::io::{AsyncBufRead, AsyncRead, BufReader, CountedRead};
 use futures_lite::laws::{CollectLinesFuture, collect_buffered_lines, collect_lines};
 use futures_lite::stream::{Stream, TryCollectError};
-use futures_lite::{AsyncBufReadExt, Poll};
+use futures_lite::{AsyncBufReadExt, Poll, StreamExt};
+use std::io;
 
 /// Runs a case of one of these modes; `false`: `mode` is none of them.
 pub(crate) fn answered(
@@ -24,6 +25,7 @@ pub(crate) fn answered(
         "line_onto" => line_onto(run, words)?,
         "lines" => lines(run, words)?,
         "split" => split(run, words)?,
+        "pieces" => pieces(run, words)?,
         "fill" => fill(run, words)?,
         "mixed" => mixed(run, words)?,
         "lends" => lends(run, words)?,
@@ -115,6 +117,25 @@ fn split(run: &mut Run<'_, '_>, words: &mut Words<'_>) -> Result<(), Fault> {
         item(run, answer)?;
     }
     Ok(())
+}
+
+/// `pieces BYTE LENDER`: the pieces, collected.
+fn pieces(run: &mut Run<'_, '_>, words: &mut Words<'_>) -> Result<(), Fault> {
+    let byte = byte_of(words)?;
+    let pieces = Lender::build(run.alloc, words)?.split(run.alloc, byte);
+    let mut future = pieces.try_collect::<Vec<u8>, io::Error, Vec<Vec<u8>>>(run.alloc);
+    match run.finish(&mut future)? {
+        None => Ok(()),
+        Some(Ok(pieces)) => {
+            run.part("[")?;
+            for piece in &pieces {
+                run.bytes(piece.as_slice())?;
+            }
+            run.word("]")
+        }
+        Some(Err(TryCollectError::Source(e))) => run.kind(e.kind()),
+        Some(Err(TryCollectError::Memory(_))) => Err(Fault::Memory),
+    }
 }
 
 /// `fill MOST LENDER`: polls of a fill, of which at most so many bytes are then taken.

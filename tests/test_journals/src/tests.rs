@@ -1,6 +1,7 @@
 mod driven;
 mod gate;
 mod journal;
+mod listed;
 mod pipe;
 mod plain;
 mod refused;

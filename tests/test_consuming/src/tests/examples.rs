@@ -90,3 +90,22 @@ fn collect_fills_each_collection(rt: HostRuntime) -> Result<(), Fail> {
     assert_eq!(rt; text.as_str(), "ab");
     Ok(())
 }
+
+#[test]
+fn nth_leaves_the_stream_behind_its_item(rt: HostRuntime) -> Result<(), Fail> {
+    let mut numbers = stream::iter(0u8..8);
+    for expected in [Some(2), Some(5), None] {
+        assert_eq!(rt; future::block_on(&rt, numbers.nth(2))?, expected);
+    }
+    Ok(())
+}
+
+#[test]
+fn position_counts_from_where_the_stream_is(rt: HostRuntime) -> Result<(), Fail> {
+    let mut numbers = stream::iter(0u8..6);
+    for (wanted, expected) in [(2u8, Some(2)), (3, Some(0)), (9, None)] {
+        let place = future::block_on(&rt, numbers.position(|x: u8| x == wanted))?;
+        assert_eq!(rt; place, expected);
+    }
+    Ok(())
+}

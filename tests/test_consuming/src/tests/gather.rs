@@ -188,6 +188,51 @@ fn unzip_hands_back_what_was_refused(rt: HostRuntime) -> Result<(), Fail> {
     Ok(())
 }
 
+/// The value of `unzip` into two vectors of an arena.
+type Unzipped<'a> = Result<
+    (Vec<u8, &'a Bump<Global>>, Vec<u8, &'a Bump<Global>>),
+    UnzipRefused<Vec<u8, &'a Bump<Global>>, Vec<u8, &'a Bump<Global>>, u8, u8>,
+>;
+
+/// How many of the two vectors found memory for their part of (1, 2). `None`: something is lost or changed.
+fn grown(answer: Option<Poll<Unzipped<'_>>>) -> Option<usize> {
+    match answer {
+        Some(Poll::Ready(Ok((left, right))))
+            if left.as_slice() == [1].as_slice() && right.as_slice() == [2].as_slice() => Some(2),
+        Some(Poll::Ready(Err(UnzipRefused::Right { collected, item })))
+            if collected.0.as_slice() == [1].as_slice() && collected.1.is_empty() && item == 2 => {
+            Some(1)
+        }
+        Some(Poll::Ready(Err(UnzipRefused::Left { collected, item })))
+            if collected.0.is_empty() && collected.1.is_empty() && item == (1, 2) => { Some(0) }
+        _ => None,
+    }
+}
+
+#[test]
+fn unzip_of_two_vectors_keeps_the_first_part_of_a_pair(rt: HostRuntime) -> Result<(), Fail> {
+    let mut is_met = [false; 3];
+    // Each round leaves less memory for the two vectors.
+    for filled in 0..17usize {
+        let bump = Bump::new(rt.alloc());
+        bump.set_allocation_limit(Some(64));
+        let held = vec![in rt.alloc(); 0u8; 4 * filled]?;
+        if bump.try_alloc_slice_copy(held.as_slice()).is_err() {
+            break;
+        }
+        let mut parts: stream::UnzipFuture<_, Vec<u8, &Bump<Global>>, Vec<u8, &Bump<Global>>> =
+            stream::once((1u8, 2u8)).unzip(&bump);
+        let answer = polled(&rt, &mut parts, 1)?.pop();
+        let Some(growths) = grown(answer) else {
+            return Err(Fail::from("neither taken nor refused memory"));
+        };
+        is_met[growths] = true;
+    }
+    // In some round memory was refused to the second vector alone, and in some to neither.
+    assert!(rt; is_met[1] && is_met[2]);
+    Ok(())
+}
+
 #[test]
 fn unzip_keeps_the_first_part_where_the_second_is_refused(rt: HostRuntime) -> Result<(), Fail> {
     let pairs = stream::iter([(1u8, 2u8), (3, 4)].into_iter());

@@ -1,5 +1,6 @@
 ghost use Rattle.std.specs.Prelude.{IfSome};
 
+use super::counting::Counting;
 use futures::task::{Doorbell, Solo};
 use futures_lite::future::{self, BlockOn, Fuse, Future};
 use futures_lite::{Context, Poll};
@@ -92,6 +93,28 @@ fn a_seeded_race_gives_the_one_value(rt: HostRuntime) -> Result<(), Fail> {
         polled(&rt, &mut first, 1)?.as_slice(),
         [Poll::Ready(1)].as_slice()
     );
+    let mut second = future::race_with_seed(future::pending(), future::ready(2u8), 0x42);
+    assert_eq!(rt;
+        polled(&rt, &mut second, 1)?.as_slice(),
+        [Poll::Ready(2)].as_slice()
+    );
+    Ok(())
+}
+
+#[test]
+fn the_lowest_bit_of_a_word_says_which_of_a_race_is_first(rt: HostRuntime) -> Result<(), Fail> {
+    for word in 1..3u32 {
+        let mut race = future::race(
+            future::ready(1u8),
+            future::ready(2u8),
+            Counting { next: word },
+        );
+        let expected = if word == 1 { 1 } else { 2 };
+        assert_eq!(rt;
+            polled(&rt, &mut race, 1)?.as_slice(),
+            [Poll::Ready(expected)].as_slice()
+        );
+    }
     Ok(())
 }
 

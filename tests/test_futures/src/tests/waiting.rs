@@ -2,8 +2,10 @@ use super::bell::Bell;
 use super::counting::Counting;
 use futures::task::{Doorbell, Solo, Source};
 use futures_lite::future::{self, BlockOn, Future, FutureExt};
+use futures_lite::laws::block_on_both;
 use futures_lite::{AsyncReadExt, Context, Poll, StreamExt, io as lite, stream};
-use std::alloc::{AllocError, AllocGlobal, Global};
+use std::alloc::{Alloc, AllocError, AllocGlobal, Global};
+use std::cell::Cell;
 use std::io::{self, ErrorKind};
 use std::random::RandomSource;
 use std::sync::Wait;
@@ -118,6 +120,64 @@ fn block_on_ends_at_a_wake_of_another_thread(rt: HostRuntime) -> Result<(), Fail
         || bell.ring_when_waited_for(&rt),
     );
     assert_eq!(rt; ended.0?, Ok(()));
+    Ok(())
+}
+
+/// A runtime whose random bytes fail as long as there are failures left, each with this kind.
+#[derive(Drop)]
+struct Failing<R> {
+    rt: R,
+    failures: Cell<u8>,
+    kind: ErrorKind,
+}
+
+impl<R: Wait> Wait for Failing<R> {}
+
+impl<R: RandomSource> RandomSource for Failing<R> {
+    fn fill_bytes(&self, buf: &mut [u8]) -> io::Result<()> {
+        let left = self.failures.get();
+        if left > 0 {
+            self.failures.set(left - 1);
+            return Err(io::Error::from(self.kind));
+        }
+        self.rt.fill_bytes(buf)
+    }
+}
+
+impl<R: Alloc> Alloc for Failing<R> {
+    type A = R::A;
+
+    fn alloc(&self) -> R::A {
+        self.rt.alloc()
+    }
+}
+
+#[test]
+fn block_on_asks_again_for_random_bytes(rt: HostRuntime) -> Result<(), Fail> {
+    let kinds = [
+        ErrorKind::Other,
+        ErrorKind::Interrupted,
+        ErrorKind::TimedOut,
+        ErrorKind::WouldBlock,
+    ];
+    for kind in kinds {
+        let failing = Failing {
+            rt,
+            failures: Cell::new(3),
+            kind,
+        };
+        assert_eq!(rt; future::block_on(&failing, future::ready(7u8))?, 7);
+        assert_eq!(rt; failing.failures.get(), 0);
+    }
+    Ok(())
+}
+
+#[test]
+fn the_first_of_two_is_waited_for_before_the_second(rt: HostRuntime) -> Result<(), Fail> {
+    let calls = AtomicU64::new(0);
+    let count = |_cx: &mut Context<'_>| Poll::Ready(calls.fetch_add(1, SeqCst));
+    let both = block_on_both(&rt, future::poll_fn(count), future::poll_fn(count))?;
+    assert_eq!(rt; both, (0, 1));
     Ok(())
 }
 

@@ -1,5 +1,7 @@
 use super::told::{ok_ranked, take_error, told};
 use lite_bridge::Cursor;
+use lite_buffered::BufReader;
+use lite_mock::Marks;
 use lite_read::make::{lines, split};
 use std::io::ErrorKind;
 use std::test::Fail;
@@ -27,6 +29,23 @@ fn a_refused_line_comes_at_the_next_poll(rt: HostRuntime) -> Result<(), Fail> {
         told.pop();
     }
     assert!(rt; are_lines(told.as_slice(), &["hello", "world"]));
+    Ok(())
+}
+
+// Memory is refused here too if the test is run with an allocation that fails.
+#[test]
+fn a_refused_growth_of_a_line_is_an_item_before_it(rt: HostRuntime) -> Result<(), Fail> {
+    let mut marks = Marks::new(rt.alloc());
+    marks.chunk(b"ab\n")?;
+    let Ok(reader) = BufReader::new(rt.alloc(), marks) else {
+        return Err(Fail::from("no memory for a buffer"));
+    };
+    let mut told = told(&rt, &mut lines(reader, rt.alloc()), 3)?;
+    match take_error(&mut told, ErrorKind::OutOfMemory) {
+        Some(place) => assert_eq!(rt; place, 0),
+        None => assert!(rt; matches!(told.pop(), Some(None))),
+    }
+    assert!(rt; are_lines(told.as_slice(), &["ab"]));
     Ok(())
 }
 

@@ -92,3 +92,23 @@ fn a_seeded_race_gives_each_item_once(rt: HostRuntime) -> Result<(), Fail> {
     assert_eq!(rt; got.as_slice(), [Poll::Ready(6)].as_slice());
     Ok(())
 }
+
+#[test]
+fn a_stream_stops_once_its_future_is_done(rt: HostRuntime) -> Result<(), Fail> {
+    let mut polls = 0u8;
+    let stop = future::poll_fn(move |_cx: &mut Context<'_>| {
+        polls = polls.saturating_add(1);
+        if polls > 5 {
+            Poll::Ready(())
+        } else {
+            Poll::Pending
+        }
+    });
+    let mut numbers = stream::stop_after_future(stream::iter(1u8..11), stop);
+    let got: Vec<u8> = future::block_on(&rt, (&mut numbers).collect(rt.alloc()))??;
+    assert_eq!(rt; got.as_slice(), [1, 2, 3, 4, 5].as_slice());
+    assert!(rt; numbers.is_stopped());
+    assert_eq!(rt; numbers.take_result(), Some(()));
+    assert_eq!(rt; numbers.take_result(), None);
+    Ok(())
+}

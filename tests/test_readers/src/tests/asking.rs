@@ -34,7 +34,7 @@ impl AsyncRead for Asked {
 }
 
 /// A buffered reader over one that was not asked yet.
-fn asked(rt: &HostRuntime, capacity: usize) -> Result<BufReader<Asked>, AllocError> {
+fn unasked(rt: &HostRuntime, capacity: usize) -> Result<BufReader<Asked>, AllocError> {
     let inner = Asked { times: 0, room: 0 };
     BufReader::with_capacity(rt.alloc(), capacity, inner).map_err(|_| AllocError)
 }
@@ -46,7 +46,7 @@ fn is_asked(reader: &BufReader<Asked>, times: usize, room: usize) -> bool {
 
 #[test]
 fn a_fill_asks_once_where_nothing_is_there(rt: HostRuntime) -> Result<(), Fail> {
-    let mut reader = asked(&rt, 4)?;
+    let mut reader = unasked(&rt, 4)?;
     assert!(rt; lends(&rt, &mut reader, b"x")?);
     assert!(rt; is_asked(&reader, 1, 4));
     assert!(rt; lends(&rt, &mut reader, b"x")?);
@@ -59,7 +59,7 @@ fn a_fill_asks_once_where_nothing_is_there(rt: HostRuntime) -> Result<(), Fail> 
 
 #[test]
 fn without_a_capacity_each_fill_asks_for_nothing(rt: HostRuntime) -> Result<(), Fail> {
-    let mut reader = asked(&rt, 0)?;
+    let mut reader = unasked(&rt, 0)?;
     for times in 1..3 {
         assert!(rt; lends(&rt, &mut reader, b"")?);
         assert!(rt; is_asked(&reader, times, 0));
@@ -69,7 +69,7 @@ fn without_a_capacity_each_fill_asks_for_nothing(rt: HostRuntime) -> Result<(), 
 
 #[test]
 fn a_read_with_room_for_a_buffer_passes_it(rt: HostRuntime) -> Result<(), Fail> {
-    let mut reader = asked(&rt, 4)?;
+    let mut reader = unasked(&rt, 4)?;
     assert!(rt; gives(&rt, &mut reader, 5, b"x")?);
     assert!(rt; is_asked(&reader, 1, 5));
     assert!(rt; gives(&rt, &mut reader, 3, b"x")?);

@@ -2,7 +2,7 @@ use super::buf_writer::buffered;
 use lite_base::{Future, Poll};
 use lite_buffered::{BufWriter, Chain};
 use lite_io_base::{AsyncWrite, CountedRead};
-use lite_mock::{Order, Takes};
+use lite_mock::{Marks, Order, Takes};
 use lite_theorems::copy_chain;
 use lite_write::CopyFuture;
 use lite_write::make::copy;
@@ -10,7 +10,7 @@ use std::alloc::AllocError;
 use std::io;
 use std::io::ErrorKind;
 use std::test::Fail;
-use test_support::{by_kind, polled, write};
+use test_support::{by_kind, polled, reads_byte, write};
 
 /// What a poll of a copy answers, its error named by its kind.
 type Copied = Poll<Result<u64, ErrorKind>>;
@@ -104,5 +104,55 @@ fn a_refused_copy_hands_both_back(rt: HostRuntime) -> Result<(), Fail> {
         told(&rt, &mut copying)?,
         vec![in rt.alloc(); Poll::Ready(Ok(2))]?
     );
+    Ok(())
+}
+
+#[test]
+fn a_copy_reads_no_more_after_an_end(rt: HostRuntime) -> Result<(), Fail> {
+    let mut marks = Marks::new(rt.alloc());
+    marks.chunk(b"a")?;
+    marks.end()?;
+    marks.chunk(b"b")?;
+    let mut takes = Takes::new(rt.alloc());
+    takes.order(Order::Wait)?;
+    let mut writer = buffered(&rt, 4, takes)?;
+    let Ok(mut copying) = copy(rt.alloc(), &mut marks, &mut writer) else {
+        return Err(AllocError.into());
+    };
+    let answers = told(&rt, &mut copying)?;
+    drop(copying);
+    assert_eq!(rt;
+        answers,
+        vec![in rt.alloc(); Poll::Pending, Poll::Ready(Ok(1))]?
+    );
+    assert_eq!(rt; writer.get_ref().taken(), b"a".as_slice());
+    assert!(rt; reads_byte(&rt, &mut marks, b'b')?);
+    Ok(())
+}
+
+/// What a copy of `ab` and `cd` to a buffered writer over a vector answers, each behind a pending or not, and the vector.
+fn copied(rt: &HostRuntime, is_late: bool) -> Result<(Vec<Copied>, Vec<u8>), Fail> {
+    let mut parts = [Marks::new(rt.alloc()), Marks::new(rt.alloc())];
+    for (part, bytes) in parts.iter_mut().zip([b"ab", b"cd"]) {
+        if is_late {
+            part.pending()?;
+        }
+        part.chunk(bytes)?;
+    }
+    let [first, second] = parts;
+    let mut writer = buffered(rt, 3, Vec::new(rt.alloc()))?;
+    let answers = told(rt, &mut chaining(rt, first, second, &mut writer)?)?;
+    Ok((answers, writer.into_inner()))
+}
+
+#[test]
+fn two_readers_are_copied_to_a_vector_whenever_they_are_ready(rt: HostRuntime) -> Result<(), Fail> {
+    let (answers, bytes) = copied(&rt, false)?;
+    assert_eq!(rt; answers, vec![in rt.alloc(); Poll::Ready(Ok(4))]?);
+    assert_eq!(rt; bytes.as_slice(), b"abcd".as_slice());
+    let (answers, bytes) = copied(&rt, true)?;
+    let expected = vec![in rt.alloc(); Poll::Pending, Poll::Pending, Poll::Ready(Ok(4))]?;
+    assert_eq!(rt; answers, expected);
+    assert_eq!(rt; bytes.as_slice(), b"abcd".as_slice());
     Ok(())
 }
