@@ -9,6 +9,8 @@ TOP = os.path.dirname(os.path.dirname(os.path.abspath(__file__)))
 # The folders of a crate that its proof reads.
 PARTS = ("src", "specs", "proofs")
 FACADE = "futures_lite"
+# The folder of wrong-bodies/ with those that are proved and that tools/waits refuses by a count.
+COUNTED = "counted"
 # How many seconds a program may run that is tried: on a busy machine, beside others.
 PATIENCE = "600"
 # The crates of tests stand below one folder, with their lines.
