@@ -5,6 +5,7 @@ pub mod conditions;
 pub mod consuming;
 pub mod future_marks;
 pub mod merges;
+pub mod needs;
 pub mod readers;
 pub mod reading;
 pub mod sources;

@@ -1,5 +1,4 @@
 use Rattle.std.proofs.Common.{rules, ◌≡◌, refl, ℕ, Ok, Option, Result, Some}
-use Rattle.std.proofs.lemmas.List.Sorted.{answers_always}
 use Rattle.lite_base.specs.Laws.Calling.{answers_agree}
 use Rattle.lite_base.specs.declared.future.ready.Ready.{Ready}
 use Rattle.marks_met.proofs.Polled.{calls_alike, iterates_alike, polls_alike, polls_no_pending}
@@ -30,9 +29,3 @@ calls_are_alike-requires-clause-tries c =
 
 pub calls_are_calm-requires-clause-polls : goal.calls_are_calm-requires-clause-polls
 calls_are_calm-requires-clause-polls c = polls_no_pending _ (Some 1) (λ p q cx left a d. search rules) _
-
-pub calls_are_calm-requires-clause-unfolds : goal.calls_are_calm-requires-clause-unfolds
-calls_are_calm-requires-clause-unfolds c = answers_always _ _ _ (λ f a r k d. tt)
-
-pub calls_are_calm-requires-clause-tries : goal.calls_are_calm-requires-clause-tries
-calls_are_calm-requires-clause-tries c = answers_always _ _ _ (λ f a r k d. tt)
