@@ -24,11 +24,11 @@ use Rattle.lite_read.proofs.Filling.{Behind, bytes_came, how_long, put_front, pu
 use Rattle.lite_read.specs.ReadFold.{AnswerMarks, LastMarks}
 use Rattle.lite_base.specs.Chain.{Reaches}
 use Rattle.lite_read.specs.Laws.PollSteps.{steps_answer}
-use Rattle.lite_read.proofs.Refusals.{appends_weaker, gathers_weaker, takes_alike}
-use Rattle.lite_read.specs.Appending.{ToEndGrows, read_front}
+use Rattle.lite_read.specs.Laws.Refusals.{appends_weaker, gathers_weaker, takes_alike}
+use Rattle.lite_read.specs.Appending.{ToEndGrows, VectorGrows, read_front}
 use Rattle.lite_read.specs.Laws.ReadToEnd.{appends_all, grown, step_before}
 use Rattle.lite_read.specs.ReadToEnd.{ReadsToEnd, ToEndLacksRoom, appends}
-use Rattle.lite_read.specs.PollSteps.{AnswersUntrimmed, ReadsSome}
+use Rattle.lite_read.specs.PollSteps.{AnswersByRoom, AnswersUntrimmed, ReadsSome}
 use Rattle.lite_read.specs.declared.read_to_end.ReadToEndFuture.{ReadToEndFuture}
 
 module _ {R A : Type 0} (m : Type 0) {reads : Runs ReadMark R} (laws : MarkLaws reads) where
@@ -128,9 +128,9 @@ module _ {R A : Type 0} (m : Type 0) (reads : Runs ReadMark R) where
             buf = ap (λ (u : ReadToEndFuture R A). record u.buf { now = v }) same;
             start = ap (λ (u : ReadToEndFuture R A). u.start) same;
           },
-          omega (arith, whole, ap length is, how_long w.filled old new long, most, within),
           record {
             filled = omega (arith, filled);
+            within = omega (arith, whole, ap length is, how_long w.filled old new long, most, within);
             capacity = grows;
             room = omega (arith, filled, before, asked);
           },
@@ -167,6 +167,32 @@ module _ {R A : Type 0} (m : Type 0) (reads : Runs ReadMark R) where
         idle = λ e. absurd (cc e);
       }
 
+module _ {R A : Type 0} {reads : Runs ReadMark R} (x y : ReadToEndFuture R A) where
+  -- a value
+  pub gives_value : {v : Result ℕ Error} → AnswersUntrimmed (ToEndLacksRoom x.filled x y) reads x (Ready v) y
+      → AnswersByRoom reads x (Ready v) y
+  gives_value h = record { gathered = h; grows = λ w. absurd w }
+
+  -- a pending
+  pub gives_pending : ToEndGrows x y → AnswersUntrimmed (ToEndLacksRoom x.filled x y) reads x Pending y
+      → AnswersByRoom reads x Pending y
+  gives_pending grows h = record { gathered = h; grows = λ w. grows }
+
+-- room was made, and nothing was read into it
+pub room_made : {R A : Type 0} (x w : ReadToEndFuture R A) (r : R) (old new : List ℕ)
+    → w ≡ record x { buf = record x.buf { now = w.buf.now } } → w.filled ≤ length w.buf.now.items
+    → old ≡ w.buf.now.items → Behind w.filled old new → vec_capacity x.buf.now ≤ vec_capacity w.buf.now
+    → ToEndGrows x (after_read w r (put_mid w.filled (length old - w.filled) old new) w.filled w.room)
+room_made {R} {A} x w r old new same within is long grows =
+    let filled = ap (λ (u : ReadToEndFuture R A). u.filled) same in
+    let before = ap (λ (u : ReadToEndFuture R A). u.room) same in
+    record {
+      filled = omega (arith, filled);
+      within = omega (arith, put_len w.buf.now old new w.filled within is long, within);
+      capacity = grows;
+      room = omega (arith, before);
+    }
+
 module _ {R A : Type 0} where
   -- where there was no room after a step that goes on there was none before
   lacks_sooner : (x y z : ReadToEndFuture R A) → ToEndGrows x y → ToEndLacksRoom y.filled y z
@@ -177,16 +203,41 @@ module _ {R A : Type 0} where
     omega (arith, h.filled, h.capacity, h.room, full.1, full.2),
   )
 
+  grows_join : (x y z : ReadToEndFuture R A) → ToEndGrows x y → ToEndGrows y z → ToEndGrows x z
+  grows_join x y z h k =
+      record {
+        filled = omega (arith, h.filled, k.filled);
+        within = k.within;
+        capacity = omega (arith, h.capacity, k.capacity);
+        room = omega (arith, h.filled, k.filled, h.room, k.room);
+      }
+
   -- an answer after some steps
   pub to_end_full : {reads : Runs ReadMark R} → MarkLaws reads
       → {x z : ReadToEndFuture R A} {a : Poll (Result ℕ Error)}
-      → (y : ReadToEndFuture R A) × Reaches (ReadsSome ⊤ reads) x y
-      × AnswersUntrimmed (ToEndLacksRoom y.filled y z) reads y a z
-      → AnswersUntrimmed (ToEndLacksRoom x.filled x z) reads x a z
+      → (y : ReadToEndFuture R A) × Reaches (ReadsSome ⊤ reads) x y × AnswersByRoom reads y a z
+      → AnswersByRoom reads x a z
   to_end_full {reads} laws =
-      steps_answer {answers = λ x a z. AnswersUntrimmed (ToEndLacksRoom x.filled x z) reads x a z} (λ x y z a t h.
+      steps_answer {answers = AnswersByRoom reads} (λ x y z a t h.
       let m = ToEndLacksRoom y.filled y z in
       let n = ToEndLacksRoom x.filled x z in
-      step_before n laws x y z a (takes_alike (λ v p q b h. h) x y t)
-      (gathers_weaker (λ v. appends_weaker v.start (λ g. m) (λ g. n) (λ g. lacks_sooner x y z t.stays.2))
-      y z (a ∷ []) h))
+      record {
+        gathered =
+            step_before n laws x y z a (takes_alike (λ v p q b h. h) x y t)
+            (gathers_weaker (λ v. appends_weaker v.start (λ g. m) (λ g. n) (λ g. lacks_sooner x y z t.stays.1))
+            y z (a ∷ []) h.gathered);
+        grows = λ w. grows_join x y z t.stays.1 (h.grows w);
+      })
+
+-- the vector after a poll that was pending, behind which the room is cut off
+pub vector_grows : {R A : Type 0} (x z : ReadToEndFuture R A) (n : ℕ) (v : Vec ℕ A) → n ≡ length x.buf.now.items
+    → v.items ≡ read_front z → vec_capacity v ≡ vec_capacity z.buf.now → ToEndGrows (record x { filled = n }) z
+    → VectorGrows x (record z { buf = record z.buf { now = v } })
+vector_grows x z n v all cut same h =
+    let long = ap length cut in
+    let front = length-take-le z.filled z.buf.now.items h.within in
+    record {
+      items = omega (arith, long, front, all, h.filled);
+      capacity = omega (arith, same, h.capacity);
+      room = omega (arith, long, front, all, h.filled, h.room);
+    }

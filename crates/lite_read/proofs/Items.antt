@@ -1,6 +1,6 @@
 -- The steps of a stream of the pieces of a reader.
-use Rattle.std.proofs.Common.{inl, inr, ◌≡◌, ◌<◌, ◌≤◌, ◌+◌, ℕ, List, [], ◌∷◌, ◌++◌, Option, Some, None, Result, Ok, Err}
-use Rattle.std.proofs.Common.{length, take, refl, arith}
+use Rattle.std.proofs.Common.{inl, inr, ◌≡◌, ◌<◌, ◌≤◌, ◌+◌, ℕ, List, [], ◌∷◌, ◌++◌, Option, Some, None, Result, Ok}
+use Rattle.std.proofs.Common.{Err, length, take, refl, arith}
 use Rattle.std.specs.IoError.{error_kind}
 use Rattle.std.specs.Prelude.{⊤, IfErr, IfOk}
 use Rattle.std.specs.declared.io.Error.{Error}

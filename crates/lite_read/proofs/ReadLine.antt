@@ -18,8 +18,7 @@ use Rattle.lite_read.specs.ReadLine.{LineHolds, line_over, read_line_fold}
 use Rattle.lite_read.specs.Texts.{FinishesText}
 use Rattle.lite_read.specs.TextSteps.{AnswersText, TakesTextIn}
 use Rattle.lite_read.specs.declared.read_line.ReadLineFuture.{ReadLineFuture}
-use Rattle.lite_read.proofs.Refusals.{pieces_weaker}
-use Rattle.lite_read.proofs.TextSteps.{ReadsAlike, text_finished}
+use Rattle.lite_read.proofs.TextSteps.{text_finished}
 use Rattle.lite_read.proofs.Until.{cut_off, refused}
 use Rattle.lite_base.specs.Runs.{Runs}
 
@@ -80,11 +79,3 @@ module _ {R A : Type 0} (m : List ℕ → Type 0) {reads : Runs ReadMark R} (law
           folds = subst (λ l. FoldsTo (read_line_fold m).takes x.bytes.items shown l) (sym more) all;
           stays = (from, text, holds, grows);
         }
-
--- it reads in one way, whatever memory may be refused
-pub line_alike : ReadsAlike read_line_fold
-line_alike =
-    record {
-      weaker = λ m n more. pieces_weaker 10 m n (CountsPiece 10) more;
-      takes = λ m n p q b h. h;
-    }

@@ -1,128 +1,17 @@
--- Where memory may be refused in fewer cases the same marks are made into the same answers.
-use Rattle.std.proofs.Common.{inl, inr, ◌≡◌, ◌≤◌, ℕ, List, [], ◌∷◌, Result, Err}
-use Rattle.std.specs.List.{FoldsTo}
+-- Streams whose memory may be refused in fewer cases.
+use Rattle.std.proofs.Common.{◌≡◌, ◌≤◌, ℕ, List, [], ◌∷◌}
 use Rattle.std.specs.Prelude.{⊤}
-use Rattle.std.specs.declared.io.Error.{Error}
 use Rattle.futures.specs.declared.task.Poll.{Poll}
-use Rattle.futures.specs.declared.task.Poll.TheVariants.{Ready, Pending}
 use Rattle.lite_base.specs.Chain.{Reaches}
 use Rattle.lite_base.specs.Runs.{Runs}
 use Rattle.lite_io_base.specs.Marks.{ReadMark}
 use Rattle.lite_io_base.specs.Runs.{MarkLaws}
 use Rattle.lite_read.specs.Laws.PollSteps.{steps_answer}
+use Rattle.lite_read.specs.Laws.Refusals.{pieces_weaker, segmented_weaker, takes_alike}
 use Rattle.lite_read.specs.Laws.Segments.{step_before}
-use Rattle.lite_read.specs.Pieces.{Cut, CutsPiece, pieces}
+use Rattle.lite_read.specs.Pieces.{Cut, pieces}
 use Rattle.lite_read.specs.PieceSteps.{TakesPieceIn}
-use Rattle.lite_read.specs.PollSteps.{TakesBytes}
-use Rattle.lite_read.specs.ReadFold.{AnswerMarks, Gathers, LastMarks, PieceSegments, ReadFold, Segmented}
-use Rattle.lite_read.specs.ReadToEnd.{Appended, appends_where}
 use Rattle.lite_read.specs.Segments.{Flows, StreamOver}
-use Rattle.lite_read.specs.Texts.{in_text}
-
--- all that `fold` makes of marks is made of them by `more` too
-pub record Weaker {M R : Type 0} (fold more : ReadFold M R) : Type 0 where
-  pub takes : (p q : M) (b : ℕ) → fold.takes p b q → more.takes p b q
-  pub asks : (p : M) → fold.asks p → more.asks p
-  pub gives : (p q : M) (l : List ReadMark) (v : R) → fold.gives p l v q → more.gives p l v q
-
-folds_map : {M : Type 0} (f g : M → ℕ → M → Type 0) → ((p q : M) (b : ℕ) → f p b q → g p b q) → (p q : M)
-    (xs : List ℕ) → FoldsTo f p xs q → FoldsTo g p xs q
-folds_map f g each p q [] h = h
-folds_map f g each p q (x ∷ xs) h = (h.0, each p h.0 x h.1, folds_map f g each h.0 q xs h.2)
-
-module _ {M R : Type 0} {fold more : ReadFold M R} (w : Weaker fold more) where
-  last_weaker : (p q : M) (l : List ReadMark) (a : Poll R) → LastMarks fold p l a q → LastMarks more p l a q
-  last_weaker p q l Pending h = (h.0, w.asks p h.1, h.2)
-  last_weaker p q l (Ready v) h = w.gives p q l v h
-
-  answer_weaker : (p q : M) (i : List ReadMark) (a : Poll R) → AnswerMarks fold p i a q → AnswerMarks more p i a q
-  answer_weaker p q i a h =
-      record {
-        taken = h.taken;
-        last = h.last;
-        cut = h.cut;
-        between = h.between;
-        folds = folds_map fold.takes more.takes w.takes p h.between h.taken h.folds;
-        given = last_weaker h.between q h.last a h.given;
-      }
-
-  segments_weaker : (p q : M) (i : List ReadMark) (l : List (Poll R)) → PieceSegments fold p i l q
-      → PieceSegments more p i l q
-  segments_weaker p q i [] h = h
-  segments_weaker p q i (a ∷ l) h =
-      (h.0, h.1, h.2, h.3, answer_weaker p h.2 h.0 a h.4, segments_weaker h.2 q h.1 l h.5)
-
-  segmented_weaker : {S : Type 0} (reads : Runs ReadMark S) (s t : S) (p q : M) (l : List (Poll R))
-      → Segmented fold reads s p l t q → Segmented more reads s p l t q
-  segmented_weaker reads s t p q l h =
-      record { marks = h.marks; came = h.came; cut = segments_weaker p q h.marks l h.cut }
-
-module _ {X S M R : Type 0} {reader : X → S} {held : X → M} {fold more : X → ReadFold M R} {Keeps : X → X → Type 0}
-    {reads : Runs ReadMark S} where
-  -- a run of a future
-  pub gathers_weaker : ((x : X) → Weaker (fold x) (more x)) → (x y : X) (l : List (Poll R)) → Gathers reader held fold Keeps reads x l y
-      → Gathers reader held more Keeps reads x l y
-  gathers_weaker w x y l h =
-      record {
-        folded = segmented_weaker (w x) reads _ _ _ _ l h.folded;
-        ends = h.ends;
-        stays = h.stays;
-        idle = h.idle;
-      }
-
-  -- a step that goes on
-  pub takes_alike : ((x : X) (p q : M) (b : ℕ) → (fold x).takes p b q → (more x).takes p b q) → (x y : X)
-      → TakesBytes reader held fold Keeps reads x y → TakesBytes reader held more Keeps reads x y
-  takes_alike each x y t =
-      record {
-        taken = t.taken;
-        some = t.some;
-        came = t.came;
-        folds = folds_map (fold x).takes (more x).takes (each x) _ _ t.taken t.folds;
-        stays = t.stays;
-      }
-
--- what is cut into pieces
-module _ {R : Type 0} (byte : ℕ) (m n : List ℕ → Type 0) (becomes : Cut → List ℕ → R → List ℕ → Type 0)
-    (more : (held : List ℕ) → m held → n held) where
-  cut_weaker : (held : List ℕ) (l : List ReadMark) (cut : Cut) → CutsPiece byte (m held) held l cut
-      → CutsPiece byte (n held) held l cut
-  cut_weaker held l (Cut.failed e) (inl h) = inl h
-  cut_weaker held l (Cut.failed e) (inr h) = inr (h.0, more held h.1, h.2)
-  cut_weaker held l _ h = h
-
-  pub pieces_weaker : Weaker (pieces byte m becomes) (pieces byte n becomes)
-  pieces_weaker =
-      record {
-        takes = λ p q b h. h;
-        asks = λ p h. h;
-        gives = λ p q l v h. (h.0, cut_weaker p l h.0 h.1, h.2);
-      }
-
--- what is appended
-module _ (start : ℕ) (m n : List ℕ → Type 0) (more : (held : List ℕ) → m held → n held) where
-  appended_weaker : (g : List ℕ) (l : List ReadMark) (v : Result ℕ Error) → Appended (m g) start g l v
-      → Appended (n g) start g l v
-  appended_weaker g [] (Err e) h = (more g h.0, h.1)
-  appended_weaker g l v h = h
-
-  pub appends_weaker : Weaker (appends_where m start) (appends_where n start)
-  appends_weaker =
-      record {
-        takes = λ p q b h. h;
-        asks = λ p h. h;
-        gives = λ p q l v h. (appended_weaker p l v h.0, h.1);
-      }
-
--- what goes into a text
-pub text_weaker : (fold more : ReadFold (List ℕ) (Result ℕ Error)) → Weaker fold more
-    → Weaker (in_text fold) (in_text more)
-text_weaker fold more w =
-    record {
-      takes = λ p q b h. (w.takes p.read q.read b h.0, h.1);
-      asks = λ p h. w.asks p.read h;
-      gives = λ p q l v h. (h.0, h.1, w.gives p.read h.1 l h.0 h.2, h.3, h.4, h.5);
-    }
 
 -- a stream of pieces
 module _ {X S K R : Type 0} (over : StreamOver X S (List ℕ) K) (byte : K → ℕ)

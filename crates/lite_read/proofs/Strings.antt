@@ -14,12 +14,11 @@ use Rattle.lite_read.proofs.Filling.{Behind, bytes_came, how_long, put_front, pu
 use Rattle.lite_read.specs.ReadFold.{AnswerMarks}
 use Rattle.lite_read.specs.Laws.ReadToEnd.{appends_all}
 use Rattle.lite_read.specs.Holding.{TextStays, room_for}
-use Rattle.lite_read.specs.ReadToString.{StringGrows, StringHolds, StringLacksMemory, all_over}
+use Rattle.lite_read.specs.ReadToString.{StringHolds, all_over}
 use Rattle.lite_read.specs.ReadToString.{read_to_string_fold, text_front}
 use Rattle.lite_read.specs.Texts.{FinishesText}
 use Rattle.lite_read.specs.TextSteps.{AnswersText, TakesTextIn}
-use Rattle.lite_read.proofs.TextSteps.{ReadsAlike, text_finished, text_waits}
-use Rattle.lite_read.proofs.Refusals.{appends_weaker}
+use Rattle.lite_read.proofs.TextSteps.{text_finished, text_waits}
 use Rattle.lite_read.specs.declared.read_to_string.ReadToStringFuture.{ReadToStringFuture}
 use Rattle.lite_base.specs.Laws.Segments.{segment_alone}
 use Rattle.lite_base.specs.Runs.{Runs}
@@ -94,7 +93,8 @@ after_write w r items =
       room = w.room;
     }
 
-module _ {R A : Type 0} (m : List ℕ → Type 0) (reads : Runs ReadMark R) (x w y : ReadToStringFuture R A) (stays : TextStays all_over x w)
+module _ {R A : Type 0} (m : List ℕ → Type 0) (reads : Runs ReadMark R) (x w y : ReadToStringFuture R A)
+    (stays : TextStays all_over x w)
     (text : string_bytes w.text.now ≡ string_bytes x.text.now)
     (front_is : text_front w ≡ text_front x) where
   -- what was read goes into the text
@@ -105,7 +105,8 @@ module _ {R A : Type 0} (m : List ℕ → Type 0) (reads : Runs ReadMark R) (x w
       text_finished all_over _ reads x w y stays text f
       (subst (λ l. AnswerMarks (read_to_string_fold m) l marks (Ready v) (text_front w)) front_is h) came
 
-module _ {R A : Type 0} (m : List ℕ → Type 0) (reads : Runs ReadMark R) (x w : ReadToStringFuture R A) (r : R) (old new : List ℕ)
+module _ {R A : Type 0} (m : List ℕ → Type 0) (reads : Runs ReadMark R) (x w : ReadToStringFuture R A) (r : R)
+    (old new : List ℕ)
     (reader : w.reader ≡ x.reader) (stays : TextStays all_over x w)
     (front_is : text_front w ≡ text_front x) (holds : StringHolds w) (is : old ≡ w.bytes.items)
     (long : Behind w.filled old new) where
@@ -143,20 +144,3 @@ module _ {R A : Type 0} (m : List ℕ → Type 0) (reads : Runs ReadMark R) (x w
   pub wrote_long : length (text_front wrote) ≡ w.filled
   wrote_long =
       ap length (wrote_front ∙ sym front_is) ∙ length-take-le w.filled w.bytes.items holds.within
-
--- it reads in one way, whatever memory may be refused
-pub string_alike : ReadsAlike read_to_string_fold
-string_alike =
-    record {
-      weaker = λ m n more. appends_weaker 0 m n more;
-      takes = λ m n p q b h. h;
-    }
-
--- where there was too little memory after a step that goes on there was too little before
-pub lacks_sooner : {R A : Type 0} (x y : ReadToStringFuture R A) → StringGrows x y → (read : List ℕ)
-    → StringLacksMemory y read → StringLacksMemory x read
-lacks_sooner x y h read full = (
-  full.0 + (y.filled - x.filled),
-  omega (arith, h.filled, full.1),
-  omega (arith, h.filled, h.memory, h.room, full.1, full.2),
-)

@@ -12,12 +12,12 @@ use Rattle.lite_io_base.specs.Counting.{ReadCounting}
 use Rattle.lite_io_base.specs.Marks.{ReadMark}
 use Rattle.lite_io_base.specs.Runs.{MarkLaws}
 use Rattle.lite_read.specs.ReadFold.{AnswerMarks, ReadFold}
-use Rattle.lite_read.proofs.Refusals.{Weaker, gathers_weaker, takes_alike, text_weaker}
+use Rattle.lite_read.specs.Laws.Refusals.{takes_alike}
 use Rattle.lite_read.specs.Holding.{TextOver, TextStays}
-use Rattle.lite_read.specs.Laws.Texts.{folds_in, stays_join, step_before}
+use Rattle.lite_read.specs.Laws.Texts.{TextRoom, folds_in, stays_join, step_before, text_weaker_run}
 use Rattle.lite_read.specs.Laws.PollSteps.{goes_again, steps_answer}
 use Rattle.lite_read.specs.Texts.{AppendsText, FinishesText, ReadsText, ValueOf, in_text, reading}
-use Rattle.lite_read.specs.TextSteps.{AnswersText, TakesTextIn}
+use Rattle.lite_read.specs.TextSteps.{AnswersText, AnswersTextByRoom, TakesTextIn}
 use Rattle.lite_base.specs.Laws.Answers.{up_to_one}
 use Rattle.lite_base.specs.Laws.Segments.{segment_alone, segments_one}
 use Rattle.lite_base.specs.Runs.{Runs}
@@ -83,32 +83,34 @@ module _ {X R A : Type 0} (over : TextOver X R A) (fold : ReadFold (List ℕ) (R
       subst (λ l. AppendsText (over.read w) l (string_bytes (over.text y).now)) text f.gains in
       (text_given over fold reads x y all marks v r _ h f.value into f.empty end, f.holds)
 
--- what is read in one way, whatever memory may be refused
-pub record ReadsAlike (fold : (List ℕ → Type 0) → ReadFold (List ℕ) (Result ℕ Error)) : Type 1 where
-  pub weaker : (m n : List ℕ → Type 0) → ((read : List ℕ) → m read → n read) → Weaker (fold m) (fold n)
-  pub takes : (m n : List ℕ → Type 0) (p q : List ℕ) (b : ℕ) → (fold m).takes p b q → (fold n).takes p b q
+module _ {X R A : Type 0} (over : TextOver X R A) (fold : (List ℕ → Type 0) → ReadFold (List ℕ) (Result ℕ Error))
+    (lacks : X → X → List ℕ → Type 0) {reads : Runs ReadMark R} where
+  -- a value
+  pub text_value : (x y : X) (v : Result ℕ Error) → AnswersText over (fold (lacks x y)) reads x (Ready v) y
+      → AnswersTextByRoom over fold lacks reads x (Ready v) y
+  text_value x y v h = (record { gathered = h.0; grows = λ w. absurd w }, h.1)
 
-module _ {X R A : Type 0} {over : TextOver X R A} {fold : (List ℕ → Type 0) → ReadFold (List ℕ) (Result ℕ Error)}
-    {reads : Runs ReadMark R} where
-  pub text_weaker_run : ReadsAlike fold → (m n : List ℕ → Type 0) → ((read : List ℕ) → m read → n read) → (x y : X)
-      (l : List (Poll (Result ℕ Error))) → ReadsText over (fold m) reads x l y → ReadsText over (fold n) reads x l y
-  text_weaker_run alike m n more =
-      gathers_weaker (λ v. text_weaker (fold m) (fold n) (alike.weaker m n more))
+  -- a pending
+  pub text_pending : (x y : X) → over.grows x y → AnswersText over (fold (lacks x y)) reads x Pending y
+      → AnswersTextByRoom over fold lacks reads x Pending y
+  text_pending x y grows h = (record { gathered = h.0; grows = λ w. grows }, h.1)
 
   -- an answer after some steps
-  pub text_full : ReadsAlike fold → MarkLaws reads → (m : X → X → List ℕ → Type 0)
-      → ((x y z : X) → over.grows x y → (read : List ℕ) → m y z read → m x z read)
-      → {x z : X} {a : Poll (Result ℕ Error)}
-      → (y : X) × Reaches (TakesTextIn over (fold (λ read. ⊤)) reads) x y × AnswersText over (fold (m y z)) reads y a z
-      → AnswersText over (fold (m x z)) reads x a z
-  text_full alike laws m sooner =
-      steps_answer {answers = λ x a z. AnswersText over (fold (m x z)) reads x a z} (λ x y z a t h.
-      step_before over (fold (m x z)) laws x y z a (takes_alike (λ v. alike.takes (λ read. ⊤) (m x z)) x y t)
-      (text_weaker_run alike (m y z) (m x z) (sooner x y z t.stays.3) y z (a ∷ []) h.0, h.1))
+  pub text_ran : TextRoom over fold lacks → MarkLaws reads → {x z : X} {a : Poll (Result ℕ Error)}
+      → (y : X) × Reaches (TakesTextIn over (fold (λ read. ⊤)) reads) x y
+      × AnswersTextByRoom over fold lacks reads y a z → AnswersTextByRoom over fold lacks reads x a z
+  text_ran r laws =
+      steps_answer {answers = AnswersTextByRoom over fold lacks reads} (λ x y z a t h.
+      let ran =
+      step_before over (fold (lacks x z)) laws x y z a
+      (takes_alike (λ v. r.alike.takes (λ read. ⊤) (lacks x z)) x y t)
+      (text_weaker_run r.alike (lacks y z) (lacks x z) (r.sooner x y z t.stays.3) y z (a ∷ []) h.0.gathered, h.1) in
+      (record { gathered = ran.0; grows = λ w. r.join x y z t.stays.3 (h.0.grows w) }, ran.1))
 
--- after a pending the future can be polled again
-pub text_on : {X R A : Type 0} (over : TextOver X R A) (fold : ReadFold (List ℕ) (Result ℕ Error))
-    {reads : Runs ReadMark R} {r : Ranks R} → ReadCounting reads r → (x z : X) (a : Poll (Result ℕ Error))
-    → r.counts (over.reader x).now → AnswersText over fold reads x a z
-    → OnPending a (r.counts (over.reader z).now × over.holds z)
-text_on over fold c x z a k ran = goes_again a (c.counts_on _ _ ran.0.folded.marks k ran.0.folded.came, ran.1)
+  -- after a pending the future can be polled again
+  pub text_on : {r : Ranks R} → ReadCounting reads r → (x z : X) (a : Poll (Result ℕ Error))
+      → r.counts (over.reader x).now → AnswersTextByRoom over fold lacks reads x a z
+      → OnPending a (r.counts (over.reader z).now × over.holds z)
+  text_on c x z a k ran =
+      let told = ran.0.gathered.folded in
+      goes_again a (c.counts_on _ _ told.marks k told.came, ran.1)

@@ -15,15 +15,15 @@ use Rattle.lite_io_base.specs.Runs.{MarkLaws}
 use Rattle.lite_read.specs.ReadFold.{AnswerMarks}
 use Rattle.lite_read.specs.Pieces.{Cut}
 use Rattle.lite_read.specs.UntilVector.{UntilStays, read_of}
-use Rattle.lite_read.specs.ReadUntil.{CountsPiece, ReadsUntil, UntilLacksRoom, until, until_where}
+use Rattle.lite_read.specs.ReadUntil.{CountsPiece, ReadsUntil, ReadsUntilByRoom, UntilLacksRoom, until, until_where}
 use Rattle.lite_read.specs.PieceSteps.{AppendsMore}
 use Rattle.lite_read.specs.declared.read_until.ReadUntilFuture.{ReadUntilFuture}
 use Rattle.lite_read.proofs.Cutting.{concludes_at, concludes_piece, fill_then, found_at, found_none, takes_all}
 use Rattle.lite_read.proofs.Cutting.{waits_here}
 use Rattle.lite_base.specs.Chain.{Reaches}
 use Rattle.lite_read.specs.Laws.PollSteps.{steps_answer}
-use Rattle.lite_read.specs.Laws.ReadUntil.{step_before}
-use Rattle.lite_read.proofs.Refusals.{gathers_weaker, pieces_weaker, takes_alike}
+use Rattle.lite_read.specs.Laws.ReadUntil.{lacks_sooner, step_before}
+use Rattle.lite_read.specs.Laws.Refusals.{gathers_weaker, pieces_weaker, takes_alike}
 use Rattle.lite_base.specs.Laws.Answers.{up_to_one}
 use Rattle.lite_base.specs.Laws.Segments.{segments_one}
 use Rattle.lite_base.specs.Runs.{Runs}
@@ -82,7 +82,8 @@ module _ {R : Type 0} {reads : Runs ReadMark R} (laws : MarkLaws reads) (x y : R
   read_grown xs e =
       ap (λ n. drop n y.buf.now.items) start ∙ ap (drop x.start) e ∙ drop-append-le x.start x.buf.now.items xs within
 
-  one : {m : Type 0} (xs : List ℕ) (marks : List ReadMark) (a : Poll (Result ℕ Error)) → y.buf.now.items ≡ x.buf.now.items ++ xs
+  one : {m : Type 0} (xs : List ℕ) (marks : List ReadMark) (a : Poll (Result ℕ Error))
+      → y.buf.now.items ≡ x.buf.now.items ++ xs
       → reads x.reader.now marks y.reader.now
       → AnswerMarks (until x.byte m) (read_of x) marks a (read_of x ++ xs) → ReadsUntil reads m x (a ∷ []) y
   one xs marks a e came answer =
@@ -109,7 +110,8 @@ module _ {R : Type 0} {reads : Runs ReadMark R} (laws : MarkLaws reads) (x y : R
     cut_here last a came answer =
         one [] last _ none_more came (answer (read_of x ++ []) (append-nil _))
 
-    pub until_waits : {m : Type 0} → reads x.reader.now (ReadMark.pending ∷ []) y.reader.now → ReadsUntil reads m x (Pending ∷ []) y
+    pub until_waits : {m : Type 0} → reads x.reader.now (ReadMark.pending ∷ []) y.reader.now
+        → ReadsUntil reads m x (Pending ∷ []) y
     until_waits {m} came =
         one [] (ReadMark.pending ∷ []) Pending none_more came
         (waits_here x.byte (λ held. m) (CountsPiece x.byte) _ (read_of x ++ []) (append-nil _))
@@ -167,14 +169,14 @@ module _ {R : Type 0} {reads : Runs ReadMark R} (laws : MarkLaws reads) (x y : R
 
 -- an answer after some steps
 pub until_full : {R : Type 0} {reads : Runs ReadMark R} (lent : R → List ℕ) → MarkLaws reads
-    → {x z : ReadUntilFuture R} {a : Poll (Result ℕ Error)} → (y : ReadUntilFuture R) × Reaches (AppendsMore reads ⊤) x y
-    × ReadsUntil reads (UntilLacksRoom lent y z) y (a ∷ []) z
-    → ReadsUntil reads (UntilLacksRoom lent x z) x (a ∷ []) z
-until_full {reads} lent laws =
-    steps_answer {answers = λ x a z. ReadsUntil reads (UntilLacksRoom lent x z) x (a ∷ []) z} (λ x y z a t h.
+    → {x z : ReadUntilFuture R} {a : Poll (Result ℕ Error)}
+    → (y : ReadUntilFuture R) × Reaches (AppendsMore reads ⊤) x y
+    × ReadsUntil reads (UntilLacksRoom lent y z) y (a ∷ []) z → ReadsUntilByRoom reads lent x (a ∷ []) z
+until_full {reads} lent laws steps =
+    let ran = steps_answer {answers = λ x a z. ReadsUntil reads (UntilLacksRoom lent x z) x (a ∷ []) z} (λ x y z a t h.
     let m = UntilLacksRoom lent y z in
     let n = UntilLacksRoom lent x z in
-    let sooner : m → n = λ full. let full = rw t.stays.byte at full in omega (arith, t.stays.room, full) in
     step_before laws x y z a (takes_alike (λ v p q b h. h) x y t)
-    (gathers_weaker (λ v. pieces_weaker v.byte (λ held. m) (λ held. n) (CountsPiece v.byte) (λ held. sooner))
-    y z (a ∷ []) h))
+    (gathers_weaker (λ v. pieces_weaker v.byte (λ held. m) (λ held. n) (CountsPiece v.byte)
+    (λ held. lacks_sooner lent x y z t.stays)) y z (a ∷ []) h)) steps in
+    record { gathered = ran; grows = λ w. ran.stays.room }

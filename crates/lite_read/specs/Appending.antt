@@ -16,8 +16,15 @@ module _ {R A : Type 0} where
   -- the vector is filled further, and has no less room; at most twice as much as was read is asked for at once
   pub record ToEndGrows (x y : ReadToEndFuture R A) : Type 0 where
     pub filled : x.filled ≤ y.filled
+    pub within : y.filled ≤ length y.buf.now.items
     pub capacity : vec_capacity x.buf.now ≤ vec_capacity y.buf.now
     pub room : y.room ≤ max x.room (2 * (y.filled - x.filled))
+
+  -- the vector holds no fewer bytes, and has no less room; at most twice as much as was read is asked for at once
+  pub record VectorGrows (x y : ReadToEndFuture R A) : Type 0 where
+    pub items : length x.buf.now.items ≤ length y.buf.now.items
+    pub capacity : vec_capacity x.buf.now ≤ vec_capacity y.buf.now
+    pub room : y.room ≤ max x.room (2 * (length y.buf.now.items - length x.buf.now.items))
 
   -- a step may be made: what was read is in the vector, and the reader's rank counts
   pub record CanAppend (counting : R → Type 0) (x : ReadToEndFuture R A) : Type 0 where

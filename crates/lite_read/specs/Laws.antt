@@ -1,3 +1,4 @@
+pub mod ByRoom
 pub mod Bytes
 pub mod CalmRead
 pub mod Counting
@@ -12,6 +13,7 @@ pub mod ReadExact
 pub mod ReadFold
 pub mod ReadToEnd
 pub mod ReadUntil
+pub mod Refusals
 pub mod Segments
 pub mod SteadyBytes
 pub mod SteadyReadExact

@@ -22,14 +22,15 @@ CutsPiece byte may_refuse held marks Cut.nothing = (marks ≡ ReadMark.end ∷ [
 CutsPiece byte may_refuse held marks (Cut.failed e) =
     (marks ≡ ReadMark.fault (error_kind e) ∷ []) ⊎ ((marks ≡ []) × may_refuse × (error_kind e ≡ OutOfMemory))
 
--- Bytes are held up to a cut; `becomes` says what value is made of it, from what is held, and what is held then. Memory
--- may be refused where may_refuse is true of the bytes that are held.
+-- Bytes are held up to a cut; `becomes` says what value is made of it, from what is held, and what is held then.
+-- Memory may be refused where may_refuse is true of the bytes that are held.
 abbrev pub pieces : {R : Type 0} → ℕ → (List ℕ → Type 0) → (Cut → List ℕ → R → List ℕ → Type 0) → ReadFold (List ℕ) R
 pieces byte may_refuse becomes =
     record {
       takes = λ held b more. (b ≢ byte) × (more ≡ held ++ b ∷ []);
       asks = λ held. ⊤;
-      gives = λ held marks r after. (cut : Cut) × CutsPiece byte (may_refuse held) held marks cut × becomes cut held r after;
+      gives = λ held marks r after. (cut : Cut) × CutsPiece byte (may_refuse held) held marks cut
+          × becomes cut held r after;
     }
 
 -- A piece becomes an item, and nothing is held then. So does an error, and what is held stays.

@@ -1,5 +1,5 @@
 -- The steps of a poll that reads: what one takes in that goes on, and how one of `read_to_end` answers.
-use Rattle.std.specs.Prelude.{◌<◌, ◌≤◌, ℕ, List, [], ◌∷◌, length, Result}
+use Rattle.std.specs.Prelude.{◌<◌, ℕ, List, [], ◌∷◌, length, Result}
 use Rattle.std.specs.List.{FoldsTo}
 use Rattle.std.specs.declared.io.Error.{Error}
 use Rattle.futures.specs.declared.task.Poll.{Poll}
@@ -8,9 +8,9 @@ use Rattle.lite_read.specs.Appending as appending
 use Rattle.lite_read.specs.Appending.{read_front}
 use Rattle.lite_read.specs.Filling as filling
 use Rattle.lite_read.specs.Filling.{filling_of}
-use Rattle.lite_read.specs.ReadFold.{Gathers, ReadFold}
+use Rattle.lite_read.specs.ReadFold.{Gathers, GathersByRoom, ReadFold}
 use Rattle.lite_read.specs.ReadExact.{fills}
-use Rattle.lite_read.specs.ReadToEnd.{appends}
+use Rattle.lite_read.specs.ReadToEnd.{ToEndLacksRoom, appends}
 use Rattle.lite_read.specs.declared.read_exact.ReadExactFuture.{ReadExactFuture}
 use Rattle.lite_read.specs.declared.read_to_end.ReadToEndFuture.{ReadToEndFuture}
 use Rattle.lite_base.specs.Runs.{Runs}
@@ -34,9 +34,16 @@ module _ {R A : Type 0} (may_refuse : Type 0) (reads : Runs ReadMark R) where
   abbrev pub ReadsSome : ReadToEndFuture R A → ReadToEndFuture R A → Type 0
   ReadsSome =
       TakesBytes (λ x. x.reader.now) read_front (λ x. appends may_refuse x.start)
-      (λ x y. appending.ToEndStays x y × (y.filled ≤ length y.buf.now.items) × appending.ToEndGrows x y) reads
+      (λ x y. appending.ToEndStays x y × appending.ToEndGrows x y) reads
 
   -- the answer, before the room behind what was read is cut off
   abbrev pub AnswersUntrimmed : ReadToEndFuture R A → Poll (Result ℕ Error) → ReadToEndFuture R A → Type 0
   AnswersUntrimmed x a =
       Gathers (λ x. x.reader.now) read_front (λ x. appends may_refuse x.start) appending.ToEndStays reads x (a ∷ [])
+
+module _ {R A : Type 0} (reads : Runs ReadMark R) where
+  -- the same, where memory is refused only if the vector had no room
+  abbrev pub AnswersByRoom : ReadToEndFuture R A → Poll (Result ℕ Error) → ReadToEndFuture R A → Type 0
+  AnswersByRoom x a =
+      GathersByRoom (λ x. x.reader.now) read_front (λ x y v. appends (ToEndLacksRoom x.filled x y) v.start)
+      appending.ToEndStays appending.ToEndGrows reads x (a ∷ [])

@@ -4,7 +4,7 @@ use Rattle.futures.specs.declared.task.Poll.{Poll}
 use Rattle.futures.specs.declared.task.Poll.TheVariants.{Ready, Pending}
 use Rattle.lite_io_base.specs.Marks.{ReadMark}
 use Rattle.lite_base.specs.Runs.{Question, Runs}
-use Rattle.lite_base.specs.Answers.{UpToValue}
+use Rattle.lite_base.specs.Answers.{UpToValue, Waiting}
 use Rattle.lite_base.specs.Segments.{Segment, Segments, SegmentsToValue}
 
 -- what is made of marks: which bytes are taken in, when more may be asked for, and what the value is
@@ -50,3 +50,11 @@ module _ {X S M R : Type 0} (reader : X → S) (held : X → M) (fold : X → Re
     pub ends : UpToValue out
     pub stays : Keeps x y
     pub idle : out ≡ [] → y ≡ x
+
+module _ {X S M R : Type 0} (reader : X → S) (held : X → M) (fold : X → X → X → ReadFold M R)
+    (Keeps Grows : X → X → Type 0) (reads : Runs ReadMark S) where
+  -- As Gathers, where both ends of the run say what is made of marks, since they say when memory may be refused. While
+  -- there is no value the room for what is held only grows.
+  pub record GathersByRoom (x : X) (out : List (Poll R)) (y : X) : Type 0 where
+    pub gathered : Gathers reader held (fold x y) Keeps reads x out y
+    pub grows : Waiting out → Grows x y

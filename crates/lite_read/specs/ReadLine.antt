@@ -9,7 +9,7 @@ use Rattle.lite_read.specs.BytePieces.{through_first}
 use Rattle.lite_read.specs.ReadUntil.{until_where}
 use Rattle.lite_read.specs.ReadFold.{ReadFold}
 use Rattle.lite_read.specs.Holding.{HasRoomFor, TextOver, room_for}
-use Rattle.lite_read.specs.Texts.{ReadsText}
+use Rattle.lite_read.specs.Texts.{ReadsText, ReadsTextByRoom}
 use Rattle.lite_read.specs.declared.read_line.ReadLineFuture.{ReadLineFuture}
 use Rattle.lite_base.specs.Runs.{Runs}
 
@@ -19,7 +19,8 @@ read_line_fold = until_where 10
 
 -- x has no memory for the bytes that were read and those that y's reader lends up to a newline, with it
 abbrev pub LineLacksMemory : {R A : Type 0} → (R → List ℕ) → ReadLineFuture R A → ReadLineFuture R A → List ℕ → Type 0
-LineLacksMemory lent x y read = room_for x.text.now x.bytes < length read + length (through_first 10 (lent y.reader.now))
+LineLacksMemory lent x y read =
+    room_for x.text.now x.bytes < length read + length (through_first 10 (lent y.reader.now))
 
 -- the text can take in what was read, and it is known whether that is ASCII
 pub record LineHolds {R A : Type 0} (x : ReadLineFuture R A) : Type 0 where
@@ -41,3 +42,8 @@ module _ {R A : Type 0} (may_refuse : List ℕ → Type 0) (reads : Runs ReadMar
   -- the reader's marks, read up to a newline, and what the text gained
   abbrev pub ReadsLine : Runs (Poll (Result ℕ Error)) (ReadLineFuture R A)
   ReadsLine = ReadsText line_over (read_line_fold may_refuse) reads
+
+module _ {R A : Type 0} (lent : R → List ℕ) (reads : Runs ReadMark R) where
+  -- the reader's marks, read up to a newline, where memory is refused only if there was too little
+  abbrev pub ReadsLineByRoom : Runs (Poll (Result ℕ Error)) (ReadLineFuture R A)
+  ReadsLineByRoom = ReadsTextByRoom line_over read_line_fold (LineLacksMemory lent) reads

@@ -6,8 +6,8 @@ use Rattle.std.specs.declared.io.Error.{Error}
 use Rattle.std.specs.declared.io.ErrorKind.TheVariants.{OutOfMemory}
 use Rattle.futures.specs.declared.task.Poll.{Poll}
 use Rattle.lite_io_base.specs.Marks.{ReadMark}
-use Rattle.lite_read.specs.Appending.{ToEndStays}
-use Rattle.lite_read.specs.ReadFold.{Gathers, ReadFold}
+use Rattle.lite_read.specs.Appending.{ToEndStays, VectorGrows}
+use Rattle.lite_read.specs.ReadFold.{Gathers, GathersByRoom, ReadFold}
 use Rattle.lite_read.specs.declared.read_to_end.ReadToEndFuture.{ReadToEndFuture}
 use Rattle.lite_base.specs.Runs.{Runs}
 
@@ -46,3 +46,10 @@ module _ {R A : Type 0} (may_refuse : Type 0) (reads : Runs ReadMark R) where
   abbrev pub ReadsToEnd : Runs (Poll (Result ℕ Error)) (ReadToEndFuture R A)
   ReadsToEnd =
       Gathers (λ x. x.reader.now) (λ x. x.buf.now.items) (λ x. appends may_refuse x.start) ToEndStays reads
+
+module _ {R A : Type 0} (reads : Runs ReadMark R) where
+  -- a future that appends so, where memory is refused only if the vector had no room
+  abbrev pub ReadsToEndByRoom : Runs (Poll (Result ℕ Error)) (ReadToEndFuture R A)
+  ReadsToEndByRoom =
+      GathersByRoom (λ x. x.reader.now) (λ x. x.buf.now.items)
+      (λ x y v. appends (ToEndLacksRoom (length x.buf.now.items) x y) v.start) ToEndStays VectorGrows reads

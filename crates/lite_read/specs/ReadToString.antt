@@ -6,7 +6,7 @@ use Rattle.lite_io_base.specs.Marks.{ReadMark}
 use Rattle.lite_read.specs.ReadFold.{ReadFold}
 use Rattle.lite_read.specs.ReadToEnd.{appends_where, next_read}
 use Rattle.lite_read.specs.Holding.{HasRoomFor, TextOver, room_for}
-use Rattle.lite_read.specs.Texts.{ReadsText}
+use Rattle.lite_read.specs.Texts.{ReadsText, ReadsTextByRoom}
 use Rattle.lite_read.specs.declared.read_to_string.ReadToStringFuture.{ReadToStringFuture}
 use Rattle.lite_base.specs.Runs.{Runs}
 
@@ -49,3 +49,8 @@ module _ {R A : Type 0} (may_refuse : List ℕ → Type 0) (reads : Runs ReadMar
   -- the reader's marks, read up to an end, and what the text gained
   abbrev pub ReadsToString : Runs (Poll (Result ℕ Error)) (ReadToStringFuture R A)
   ReadsToString = ReadsText all_over (read_to_string_fold may_refuse) reads
+
+module _ {R A : Type 0} (reads : Runs ReadMark R) where
+  -- the reader's marks, read up to an end, where memory is refused only if there was too little
+  abbrev pub ReadsStringByRoom : Runs (Poll (Result ℕ Error)) (ReadToStringFuture R A)
+  ReadsStringByRoom = ReadsTextByRoom all_over read_to_string_fold (λ x y. StringLacksMemory x) reads

@@ -1,9 +1,9 @@
 -- `read_until`: a piece with its delimiter goes to the end of a vector.
-use Rattle.std.specs.Prelude.{◌≡◌, ◌<◌, ◌+◌, ℕ, List, [], ◌∷◌, ◌++◌, length, Result, Ok, Err, vec_capacity}
+use Rattle.std.specs.Prelude.{◌≡◌, ◌≤◌, ◌<◌, ◌+◌, ℕ, List, [], ◌∷◌, ◌++◌, length, Result, Ok, Err, vec_capacity}
 use Rattle.std.specs.declared.io.Error.{Error}
 use Rattle.futures.specs.declared.task.Poll.{Poll}
 use Rattle.lite_io_base.specs.Marks.{ReadMark}
-use Rattle.lite_read.specs.ReadFold.{Gathers, ReadFold}
+use Rattle.lite_read.specs.ReadFold.{Gathers, GathersByRoom, ReadFold}
 use Rattle.lite_read.specs.UntilVector.{UntilStays, read_of}
 use Rattle.lite_read.specs.BytePieces.{through_first}
 use Rattle.lite_read.specs.Pieces.{Cut, pieces}
@@ -34,3 +34,10 @@ UntilLacksRoom lent x y =
 -- a future that takes them into its vector
 abbrev pub ReadsUntil : {R : Type 0} → Runs ReadMark R → Type 0 → Runs (Poll (Result ℕ Error)) (ReadUntilFuture R)
 ReadsUntil reads may_refuse = Gathers (λ x. x.reader.now) read_of (λ x. until x.byte may_refuse) UntilStays reads
+
+-- a future that takes them into its vector, where memory is refused only if the vector had no room
+abbrev pub ReadsUntilByRoom : {R : Type 0} → Runs ReadMark R → (R → List ℕ)
+    → Runs (Poll (Result ℕ Error)) (ReadUntilFuture R)
+ReadsUntilByRoom reads lent =
+    GathersByRoom (λ x. x.reader.now) read_of (λ x y v. until v.byte (UntilLacksRoom lent x y)) UntilStays
+    (λ x y. vec_capacity x.buf.now ≤ vec_capacity y.buf.now) reads

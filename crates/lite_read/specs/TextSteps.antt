@@ -6,7 +6,7 @@ use Rattle.lite_io_base.specs.Marks.{ReadMark}
 use Rattle.lite_read.specs.ReadFold.{ReadFold}
 use Rattle.lite_read.specs.PollSteps.{TakesBytes}
 use Rattle.lite_read.specs.Holding.{TextOver, TextStays}
-use Rattle.lite_read.specs.Texts.{ReadsText}
+use Rattle.lite_read.specs.Texts.{ReadsText, ReadsTextByRoom}
 use Rattle.lite_base.specs.Runs.{Runs}
 
 module _ {X R A : Type 0} (over : TextOver X R A) (fold : ReadFold (List ℕ) (Result ℕ Error)) where
@@ -20,3 +20,9 @@ module _ {X R A : Type 0} (over : TextOver X R A) (fold : ReadFold (List ℕ) (R
   -- one that answers leaves what is true before each poll
   abbrev pub AnswersText : Runs ReadMark R → X → Poll (Result ℕ Error) → X → Type 0
   AnswersText reads x a y = ReadsText over fold reads x (a ∷ []) y × over.holds y
+
+module _ {X R A : Type 0} (over : TextOver X R A) (fold : (List ℕ → Type 0) → ReadFold (List ℕ) (Result ℕ Error))
+    (lacks : X → X → List ℕ → Type 0) where
+  -- the same, where memory is refused only if there was too little
+  abbrev pub AnswersTextByRoom : Runs ReadMark R → X → Poll (Result ℕ Error) → X → Type 0
+  AnswersTextByRoom reads x a y = ReadsTextByRoom over fold lacks reads x (a ∷ []) y × over.holds y

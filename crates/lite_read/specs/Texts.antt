@@ -5,7 +5,7 @@ use Rattle.std.specs.declared.io.Error.{Error}
 use Rattle.std.specs.declared.io.ErrorKind.TheVariants.{InvalidData}
 use Rattle.futures.specs.declared.task.Poll.{Poll}
 use Rattle.lite_io_base.specs.Marks.{ReadMark}
-use Rattle.lite_read.specs.ReadFold.{Gathers, ReadFold}
+use Rattle.lite_read.specs.ReadFold.{Gathers, GathersByRoom, ReadFold}
 use Rattle.lite_read.specs.Holding.{TextOver, TextStays}
 use Rattle.lite_base.specs.Runs.{Runs}
 
@@ -42,6 +42,14 @@ module _ {X R A : Type 0} (over : TextOver X R A) where
   -- a future that reads for its text
   abbrev pub ReadsText : ReadFold (List ℕ) (Result ℕ Error) → Runs ReadMark R → Runs (Poll (Result ℕ Error)) X
   ReadsText fold = Gathers (λ x. (over.reader x).now) reading (λ x. in_text fold) (TextStays over)
+
+  -- a future that reads for its text, where memory is refused only if `lacks` is true of both ends of the run and of
+  -- what was read
+  abbrev pub ReadsTextByRoom : ((List ℕ → Type 0) → ReadFold (List ℕ) (Result ℕ Error)) → (X → X → List ℕ → Type 0)
+      → Runs ReadMark R → Runs (Poll (Result ℕ Error)) X
+  ReadsTextByRoom fold lacks =
+      GathersByRoom (λ x. (over.reader x).now) reading (λ x y v. in_text (fold (lacks x y))) (TextStays over)
+      over.grows
 
   -- what the future x has read, which gave v, goes into its text with the value r, and leaves the future y
   pub record FinishesText (x : X) (v r : Result ℕ Error) (y : X) : Type 0 where

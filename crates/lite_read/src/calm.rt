@@ -3,14 +3,10 @@ ghost use Rattle.std.specs.Prelude.{IfSome, ⊤};
 ghost use Rattle.lite_read.specs.Laws.Bytes.{inner_calm};
 ghost use Rattle.lite_read.specs.Laws.CalmRead.{fill_calm, read_calm, vectored_calm};
 ghost use Rattle.lite_read.specs.Laws.SteadyReadExact.{exact_calm};
-ghost use Rattle.lite_read.specs.Laws.SteadyReadToEnd.{to_end_calm};
-ghost use Rattle.lite_read.specs.Laws.Marks.{until_calm};
+ghost use Rattle.lite_read.specs.Laws.ByRoom.{room_calm};
 ghost use Rattle.lite_read.specs.Laws.DeterministicPieces.{flow_calm};
 ghost use Rattle.lite_read.specs.Lines.{lines_over, lining};
 ghost use Rattle.lite_read.specs.Split.{split_over, splitting};
-ghost use Rattle.lite_read.specs.Laws.SteadyTexts.{text_calm};
-ghost use Rattle.lite_read.specs.ReadLine.{line_over, read_line_fold};
-ghost use Rattle.lite_read.specs.ReadToString.{all_over, read_to_string_fold};
 
 use crate::{
     Bytes, FillBuf, Lines, ReadExactFuture, ReadFuture, ReadLineFuture, ReadToEndFuture,
@@ -48,7 +44,7 @@ impl<R: CalmRead> CalmFuture for ReadFuture<'_, R> {
 impl<R: CalmRead + CountedRead, A: Allocator> CalmFuture for ReadToEndFuture<'_, R, A> {
     ghost is_calm = { λ x. R.is_calm x.reader.now };
 
-    ghost calm = { to_end_calm R.calm };
+    ghost calm = { room_calm R.calm };
 }
 
 impl<R: CalmRead> CalmFuture for ReadVectoredFuture<'_, '_, R> {
@@ -72,18 +68,18 @@ impl<R: AsyncBufRead + CountedRead + CalmRead> CalmStream for Split<R> {
 impl<R: AsyncBufRead + CountedRead + CalmRead> CalmFuture for ReadUntilFuture<'_, R> {
     ghost is_calm = { λ x. R.is_calm x.reader.now };
 
-    ghost calm = { until_calm R.calm };
+    ghost calm = { room_calm R.calm };
 }
 
 impl<R: CalmRead + AsyncBufRead + CountedRead, A: Allocator + Copy> CalmFuture
     for ReadLineFuture<'_, R, A> {
     ghost is_calm = { λ x. R.is_calm x.reader.now };
 
-    ghost calm = { text_calm line_over read_line_fold R.calm };
+    ghost calm = { room_calm R.calm };
 }
 
 impl<R: CalmRead + CountedRead, A: Allocator + Copy> CalmFuture for ReadToStringFuture<'_, R, A> {
     ghost is_calm = { λ x. R.is_calm x.reader.now };
 
-    ghost calm = { text_calm all_over read_to_string_fold R.calm };
+    ghost calm = { room_calm R.calm };
 }

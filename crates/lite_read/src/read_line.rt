@@ -1,4 +1,4 @@
-ghost use Rattle.std.specs.Prelude.{⊤, ◌≡◌, ◌≤◌, ◌<◌, ◌++◌, ◌+◌, [], ◌∷◌, Ok, length, take, IfErr, IfOk, string_bytes};
+ghost use Rattle.std.specs.Prelude.{⊤, ◌≡◌, ◌≤◌, ◌<◌, ◌++◌, ◌+◌, Ok, length, take, IfErr, IfOk, string_bytes};
 ghost use Rattle.std.specs.Char.{is_ascii};
 ghost use Rattle.std.specs.IoError.{error_kind};
 ghost use Rattle.std.specs.List.{list_all};
@@ -8,13 +8,10 @@ ghost use Rattle.lite_base.specs.Laws.Ends.{Terminates-map};
 ghost use Rattle.lite_io_base.specs.Marks.{bytes};
 ghost use Rattle.lite_read.specs.Laws.PollSteps.{takes_given};
 ghost use Rattle.lite_read.specs.Holding.{TextStays, room_for};
-ghost use Rattle.lite_read.specs.Laws.Texts.{text_laws};
-ghost use Rattle.futures.specs.Poll.{OnPending};
-ghost use Rattle.futures.specs.Task.{Keeps};
-ghost use Rattle.lite_base.specs.Registered.{Registered};
-ghost use Rattle.lite_read.specs.ReadLine.{LineHolds, LineLacksMemory, ReadsLine, line_over, read_line_fold};
+ghost use Rattle.lite_read.specs.Laws.Texts.{line_room, text_room_laws};
+ghost use Rattle.lite_read.specs.ReadLine.{LineHolds, LineLacksMemory, ReadsLineByRoom, line_over, read_line_fold};
 ghost use Rattle.lite_read.specs.Texts.{FinishesText};
-ghost use Rattle.lite_read.specs.TextSteps.{AnswersText, TakesTextIn};
+ghost use Rattle.lite_read.specs.TextSteps.{AnswersTextByRoom, TakesTextIn};
 
 use crate::find::find_line;
 use crate::held::{finish, take_in};
@@ -104,7 +101,7 @@ impl<R: AsyncBufRead + CountedRead, A: Allocator + Copy> PollSteps for ReadLineF
     ghost can_step = { λ x. R.ranks.counts x.reader.now × LineHolds x };
 
     ghost step = { OneStep (TakesTextIn line_over (read_line_fold (λ _. ⊤)) R.reads)
-        (λ x a y. AnswersText line_over (read_line_fold (LineLacksMemory R.lent x y)) R.reads x a y) };
+        (AnswersTextByRoom line_over read_line_fold (LineLacksMemory R.lent) R.reads) };
 
     ghost step_registers = { λ x. R.registers x.reader.now };
 
@@ -139,22 +136,13 @@ impl<R: AsyncBufRead + CountedRead, A: Allocator + Copy> Future for ReadLineFutu
 
     ghost can_poll = { λ x. R.ranks.counts x.reader.now × LineHolds x };
 
-    ghost run = { ReadsLine (λ _. ⊤) R.reads };
+    ghost run = { ReadsLineByRoom R.lent R.reads };
 
     ghost registers = { λ x. R.registers x.reader.now };
 
-    ghost laws = { text_laws line_over (read_line_fold (λ _. ⊤)) R.read_laws };
+    ghost laws = { text_room_laws (line_room R.lent) R.read_laws };
 
-    fn poll(&mut self, cx: &mut Context<'_>) -> Poll<io::Result<usize>>
-        requires { R.ranks.counts self.old.reader.now × LineHolds self.old }
-        ensures ran { ReadsLine (λ _. ⊤) R.reads self.old (result ∷ []) self.new }
-        ensures again { OnPending result (R.ranks.counts self.new.reader.now × LineHolds self.new) }
-        ensures left { Registered result (R.registers self.new.reader.now) cx.new }
-        ensures kept { Keeps cx.old cx.new }
-
-        // Memory is refused only if there was too little for what was read and what is there up to the newline.
-        ensures full { ReadsLine (LineLacksMemory R.lent self.old self.new) R.reads self.old (result ∷ []) self.new }
-    {
+    fn poll(&mut self, cx: &mut Context<'_>) -> Poll<io::Result<usize>> {
         drive(self, cx)
     }
 }

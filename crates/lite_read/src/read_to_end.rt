@@ -1,12 +1,9 @@
-ghost use Rattle.std.specs.Prelude.{◌≡◌, ◌≤◌, ◌<◌, ◌+◌, [], ◌∷◌, max, length, vec_capacity, ⊤, OnErr, OnOk};
+ghost use Rattle.std.specs.Prelude.{◌≡◌, ◌≤◌, ◌<◌, ◌+◌, max, length, vec_capacity, ⊤, OnErr, OnOk};
 ghost use Rattle.lite_base.specs.Chain.{OneStep};
 ghost use Rattle.lite_read.specs.Appending.{CanAppend, read_front};
-ghost use Rattle.lite_read.specs.Laws.ReadToEnd.{append_laws, some_falls, steps_on};
-ghost use Rattle.futures.specs.Poll.{OnPending};
-ghost use Rattle.futures.specs.Task.{Keeps};
-ghost use Rattle.lite_base.specs.Registered.{Registered};
-ghost use Rattle.lite_read.specs.ReadToEnd.{ReadsToEnd, ToEndLacksRoom};
-ghost use Rattle.lite_read.specs.PollSteps.{AnswersUntrimmed, ReadsSome};
+ghost use Rattle.lite_read.specs.Laws.ReadToEnd.{some_falls, steps_on, to_end_room_laws};
+ghost use Rattle.lite_read.specs.ReadToEnd.{ReadsToEndByRoom};
+ghost use Rattle.lite_read.specs.PollSteps.{AnswersByRoom, ReadsSome};
 
 use crate::room::{FIRST_ROOM, next_room};
 use lite_base::{Context, Future, Poll, PollSteps, drive};
@@ -60,7 +57,7 @@ impl<R: CountedRead, A: Allocator> PollSteps for ReadToEndFuture<'_, R, A> {
 
     ghost can_step = { CanAppend R.ranks.counts };
 
-    ghost step = { OneStep (ReadsSome ⊤ R.reads) (λ x a y. AnswersUntrimmed (ToEndLacksRoom x.filled x y) R.reads x a y) };
+    ghost step = { OneStep (ReadsSome ⊤ R.reads) (AnswersByRoom R.reads) };
 
     ghost step_registers = { λ x. R.registers x.reader.now };
 
@@ -90,24 +87,13 @@ impl<R: CountedRead, A: Allocator> Future for ReadToEndFuture<'_, R, A> {
 
     ghost can_poll = { λ x. (x.start ≤ length x.buf.now.items) × R.ranks.counts x.reader.now };
 
-    ghost run = { ReadsToEnd ⊤ R.reads };
+    ghost run = { ReadsToEndByRoom R.reads };
 
     ghost registers = { λ x. R.registers x.reader.now };
 
-    ghost laws = { append_laws ⊤ R.read_laws };
+    ghost laws = { to_end_room_laws R.read_laws };
 
-    fn poll(&mut self, cx: &mut Context<'_>) -> Poll<io::Result<usize>>
-        requires { (self.old.start ≤ length self.old.buf.now.items) × R.ranks.counts self.old.reader.now }
-        ensures ran { ReadsToEnd ⊤ R.reads self.old (result ∷ []) self.new }
-        ensures again { OnPending result
-            ((self.new.start ≤ length self.new.buf.now.items) × R.ranks.counts self.new.reader.now) }
-        ensures left { Registered result (R.registers self.new.reader.now) cx.new }
-        ensures kept { Keeps cx.old cx.new }
-
-        // Memory is refused only if the vector had no room for what was read and for the next read.
-        ensures full { ReadsToEnd (ToEndLacksRoom (length self.old.buf.now.items) self.old self.new) R.reads self.old
-            (result ∷ []) self.new }
-    {
+    fn poll(&mut self, cx: &mut Context<'_>) -> Poll<io::Result<usize>> {
         self.filled = self.buf.len();
         let answer = drive(self, cx);
         self.buf.truncate(self.filled);

@@ -1,17 +1,14 @@
-ghost use Rattle.std.specs.Prelude.{⊤, ◌≡◌, ◌≤◌, ◌<◌, ◌+◌, [], ◌∷◌, max, length, take, OnErr, OnOk, string_bytes};
+ghost use Rattle.std.specs.Prelude.{⊤, ◌≡◌, ◌≤◌, ◌<◌, ◌+◌, max, length, take, OnErr, OnOk, string_bytes};
 ghost use Rattle.lite_base.specs.Chain.{OneStep};
 ghost use Rattle.lite_base.specs.Laws.Ends.{Terminates-map};
 ghost use Rattle.lite_io_base.specs.Marks.{bytes};
 ghost use Rattle.lite_read.specs.Laws.PollSteps.{takes_given};
 ghost use Rattle.lite_read.specs.Holding.{TextStays, room_for};
-ghost use Rattle.lite_read.specs.Laws.Texts.{text_laws};
-ghost use Rattle.futures.specs.Poll.{OnPending};
-ghost use Rattle.futures.specs.Task.{Keeps};
-ghost use Rattle.lite_base.specs.Registered.{Registered};
-ghost use Rattle.lite_read.specs.ReadToString.{ReadsToString, StringHolds, StringLacksMemory, all_over};
+ghost use Rattle.lite_read.specs.Laws.Texts.{string_room, text_room_laws};
+ghost use Rattle.lite_read.specs.ReadToString.{ReadsStringByRoom, StringHolds, StringLacksMemory, all_over};
 ghost use Rattle.lite_read.specs.ReadToString.{read_to_string_fold, text_front};
 ghost use Rattle.lite_read.specs.Texts.{FinishesText};
-ghost use Rattle.lite_read.specs.TextSteps.{AnswersText, TakesTextIn};
+ghost use Rattle.lite_read.specs.TextSteps.{AnswersTextByRoom, TakesTextIn};
 
 use crate::held::{finish, make_room};
 use crate::room::{FIRST_ROOM, next_room};
@@ -83,7 +80,7 @@ impl<R: CountedRead, A: Allocator + Copy> PollSteps for ReadToStringFuture<'_, R
     ghost can_step = { λ x. R.ranks.counts x.reader.now × StringHolds x };
 
     ghost step = { OneStep (TakesTextIn all_over (read_to_string_fold (λ _. ⊤)) R.reads)
-        (λ x a y. AnswersText all_over (read_to_string_fold (StringLacksMemory x)) R.reads x a y) };
+        (AnswersTextByRoom all_over read_to_string_fold (λ x y. StringLacksMemory x) R.reads) };
 
     ghost step_registers = { λ x. R.registers x.reader.now };
 
@@ -113,22 +110,13 @@ impl<R: CountedRead, A: Allocator + Copy> Future for ReadToStringFuture<'_, R, A
 
     ghost can_poll = { λ x. R.ranks.counts x.reader.now × StringHolds x };
 
-    ghost run = { ReadsToString (λ _. ⊤) R.reads };
+    ghost run = { ReadsStringByRoom R.reads };
 
     ghost registers = { λ x. R.registers x.reader.now };
 
-    ghost laws = { text_laws all_over (read_to_string_fold (λ _. ⊤)) R.read_laws };
+    ghost laws = { text_room_laws string_room R.read_laws };
 
-    fn poll(&mut self, cx: &mut Context<'_>) -> Poll<io::Result<usize>>
-        requires { R.ranks.counts self.old.reader.now × StringHolds self.old }
-        ensures ran { ReadsToString (λ _. ⊤) R.reads self.old (result ∷ []) self.new }
-        ensures again { OnPending result (R.ranks.counts self.new.reader.now × StringHolds self.new) }
-        ensures left { Registered result (R.registers self.new.reader.now) cx.new }
-        ensures kept { Keeps cx.old cx.new }
-
-        // Memory is refused only if there was too little for what was read and for the next read.
-        ensures full { ReadsToString (StringLacksMemory self.old) R.reads self.old (result ∷ []) self.new }
-    {
+    fn poll(&mut self, cx: &mut Context<'_>) -> Poll<io::Result<usize>> {
         drive(self, cx)
     }
 }

@@ -3,11 +3,8 @@ ghost use Rattle.lite_base.specs.Chain.{OneStep};
 ghost use Rattle.lite_base.specs.Laws.Ends.{Terminates-map};
 ghost use Rattle.lite_io_base.specs.Marks.{bytes};
 ghost use Rattle.lite_read.specs.Laws.PollSteps.{takes_given};
-ghost use Rattle.lite_read.specs.Laws.ReadUntil.{stays_within, until_laws};
-ghost use Rattle.futures.specs.Poll.{OnPending};
-ghost use Rattle.futures.specs.Task.{Keeps};
-ghost use Rattle.lite_base.specs.Registered.{Registered};
-ghost use Rattle.lite_read.specs.ReadUntil.{ReadsUntil, UntilLacksRoom};
+ghost use Rattle.lite_read.specs.Laws.ReadUntil.{stays_within, until_room_laws};
+ghost use Rattle.lite_read.specs.ReadUntil.{ReadsUntil, ReadsUntilByRoom, UntilLacksRoom};
 ghost use Rattle.lite_read.specs.PieceSteps.{AppendsMore};
 
 use crate::append::append;
@@ -72,23 +69,13 @@ impl<R: AsyncBufRead + CountedRead> Future for ReadUntilFuture<'_, R> {
 
     ghost can_poll = { λ x. R.ranks.counts x.reader.now × (x.start ≤ length x.buf.now.items) };
 
-    ghost run = { ReadsUntil R.reads ⊤ };
+    ghost run = { ReadsUntilByRoom R.reads R.lent };
 
     ghost registers = { λ x. R.registers x.reader.now };
 
-    ghost laws = { until_laws ⊤ R.read_laws };
+    ghost laws = { until_room_laws R.lent R.read_laws };
 
-    fn poll(&mut self, cx: &mut Context<'_>) -> Poll<io::Result<usize>>
-        requires { R.ranks.counts self.old.reader.now × (self.old.start ≤ length self.old.buf.now.items) }
-        ensures ran { ReadsUntil R.reads ⊤ self.old (result ∷ []) self.new }
-        ensures again { OnPending result
-            (R.ranks.counts self.new.reader.now × (self.new.start ≤ length self.new.buf.now.items)) }
-        ensures left { Registered result (R.registers self.new.reader.now) cx.new }
-        ensures kept { Keeps cx.old cx.new }
-
-        // Memory is refused only if the vector had no room for what is there up to the delimiter.
-        ensures full { ReadsUntil R.reads (UntilLacksRoom R.lent self.old self.new) self.old (result ∷ []) self.new }
-    {
+    fn poll(&mut self, cx: &mut Context<'_>) -> Poll<io::Result<usize>> {
         drive(self, cx)
     }
 }

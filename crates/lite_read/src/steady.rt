@@ -108,7 +108,7 @@ impl<R: AsyncBufRead + CountedRead + SteadyRead> SteadyFuture for ReadUntilFutur
 
     ghost alike = { UntilAlike R.alike };
 
-    ghost steady = { until_steady R.steady };
+    ghost steady = { until_steady R.lent R.steady };
 }
 
 impl<R: SteadyRead + AsyncBufRead + CountedRead, A: Allocator + Copy> SteadyFuture

@@ -63,6 +63,12 @@ read_folds_once fold now p q i (Ready r ∷ l) v h g =
 abbrev pub WaitedFor : {F A E : Type 0} → Runs (Poll A) F → F → Result A E → F → Type 0
 WaitedFor {F} {A} run x r y = IfOk r (λ v. (l : List (Poll A)) × Gives l v × run x l y) × OnErr r (y ≡ x)
 
+-- what is known of waits by some runs is known of waits by more of them
+pub waited_more : {F A E : Type 0} (some all : Runs (Poll A) F) (x y : F) (r : Result A E)
+    → ((l : List (Poll A)) → some x l y → all x l y) → WaitedFor some x r y → WaitedFor all x r y
+waited_more some all x y (Ok v) more h = ((h.0.0, h.0.1, more h.0.0 h.0.2), h.1)
+waited_more some all x y (Err e) more h = h
+
 -- what was told gave the value
 gathers_told : {X S M R : Type 0} {reader : X → S} {held : X → M} {fold : X → ReadFold M R} {Keeps : X → X → Type 0}
     {reads : Runs ReadMark S} {x y : X} {l : List (Poll R)} {v : R} → Gathers reader held fold Keeps reads x l y

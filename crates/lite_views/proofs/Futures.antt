@@ -27,6 +27,13 @@ module _ {F A E : Type 0} (run : Runs (Poll A) F) (f : F) (P : F → Type 0) (Q 
   when_left (Ok v) g h = (left_seen f (Ok v) g, kept h.0.0 g h.0.2, value h.0.0 g v h.0.1 h.0.2)
   when_left (Err e) g h = (left_seen f (Err e) g, rw h.1 here, tt)
 
+-- what is known wherever f was waited for is known where its runs are some of these
+pub when_less : {F A E : Type 0} (some all : Runs (Poll A) F) (f : F) {P : F → Type 0} {Q : F → A → Type 0}
+    → ((g : F) (ins : List (Poll A)) → some f ins g → all f ins g) → WhenLeft E all f P Q → WhenLeft E some f P Q
+unfolding LeftAs
+when_less some all f more w (Ok v) g h = w (Ok v) g ((h.0.0, h.0.1, more g h.0.0 h.0.2), h.1)
+when_less some all f more w (Err e) g h = w (Err e) g h
+
 -- a value was given: some of the bytes that are to come were taken in, and then what is told gave it
 pub record TakenUp {M R : Type 0} (fold : ReadFold M R) (p : M) (bs ys : List ℕ) (v : R) (q : M) : Type 0 where
   pub taken : List ℕ

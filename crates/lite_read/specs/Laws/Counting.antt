@@ -64,7 +64,8 @@ module _ {A : Type 0} (byte : ℕ) (may_refuse : Type 0) (whole final : List ℕ
       × ((xs ys : List ℕ) → Falls n xs ys → Lowers l xs ys)
 
   segments_out : (p q : List ℕ) (marks : List ReadMark) (l : List (Answer A))
-      → PieceSegments (pieces byte (λ held. may_refuse) (Itemised whole final)) p marks (all_ok l) q → GivesOut p marks l q
+      → PieceSegments (pieces byte (λ held. may_refuse) (Itemised whole final)) p marks (all_ok l) q
+      → GivesOut p marks l q
   segments_out p q marks [] h = (0, omega (arith, ap given h.0, ap length h.1), λ xs ys f. f)
   segments_out p q marks (Pending ∷ l) (first, rest, m, cut, a, more) =
       let r = segments_out m q rest l more in
@@ -108,7 +109,8 @@ module _ {X S K A : Type 0} (over : StreamOver X S (List ℕ) K) (byte : K → �
       (r.rank _) (counting.lowers _ _ s.marks f s.came) out.1)
 
   firm_still : (x y : X) (l : List (Answer (Result A Error))) → r.firm (over.reader x)
-      → Flows over (λ k. pieces (byte k) (λ held. may_refuse) (Itemised whole final)) reads x l y → r.firm (over.reader y)
+      → Flows over (λ k. pieces (byte k) (λ held. may_refuse) (Itemised whole final)) reads x l y
+      → r.firm (over.reader y)
   firm_still = flow_keeps over (λ k. pieces _ (λ held. may_refuse) _) laws r.firm counting.firm_on
 
   pub flow_counting : OkCounting (Flows over (λ k. pieces (byte k) (λ held. may_refuse) (Itemised whole final)) reads)

@@ -106,7 +106,8 @@ module _ {A : Type 0} {same : A → A → Type 0} {whole final : List ℕ → Re
   itemised_one (Cut.failed a) (Cut.failed b) held (Some r) None p q e h k = absurd k
   itemised_one _ _ held v w p q e h k = absurd e
 
-  pub items_deterministic : (byte : ℕ) → IsDeterministic (OptionBy (SameOr same)) (pieces byte (λ held. ⊥) (Itemised whole final))
+  pub items_deterministic : (byte : ℕ)
+      → IsDeterministic (OptionBy (SameOr same)) (pieces byte (λ held. ⊥) (Itemised whole final))
   items_deterministic byte = pieces_deterministic byte _ itemised_one
 
 module _ {X S M K : Type 0} (over : StreamOver X S M K) where

@@ -1,22 +1,21 @@
 -- `split`, `lines` and `read_until` do not depend on when their reader was pending, where memory was found.
-use Rattle.std.proofs.Common.{◌≡◌, ◌∙◌, ℕ, [], ◌∷◌, ◌++◌, Ok, Err, Global, length, ap, sym}
+use Rattle.std.proofs.Common.{◌≡◌, ◌∙◌, ℕ, List, [], ◌∷◌, ◌++◌, Ok, Err, Global, length, ap, sym}
 use Rattle.std.proofs.lemmas.Str.{IsUtf8-string_bytes}
-use Rattle.std.specs.Prelude.{string_bytes, ⊤}
+use Rattle.std.specs.Prelude.{string_bytes}
 use Rattle.std.specs.declared.string.String.{String}
 use Rattle.std.specs.declared.vec.Vec.{Vec}
-use Rattle.lite_base.specs.Calm.{CalmLaws}
 use Rattle.lite_base.specs.Alike.{Sameness}
 use Rattle.lite_base.specs.Steady.{FutureSteadyLawsBy}
 use Rattle.lite_base.specs.Runs.{Runs}
 use Rattle.lite_io_base.specs.Marks.{ReadMark}
-use Rattle.lite_io_base.specs.Steady.{CalmReadLaws, SteadyReadLaws}
-use Rattle.lite_read.specs.Laws.Gathers.{gathers_alike, gathers_calm}
+use Rattle.lite_io_base.specs.Steady.{SteadyReadLaws}
+use Rattle.lite_read.specs.Laws.Gathers.{gathers_alike}
 use Rattle.lite_read.specs.Deterministic.{IsDeterministic, SameByKind}
 use Rattle.lite_read.specs.Laws.ReadUntil.{until_laws}
 use Rattle.lite_read.specs.Laws.DeterministicPieces.{BecomesOne, MakesOne, pieces_deterministic}
 use Rattle.lite_read.specs.Pieces.{Cut}
 use Rattle.lite_read.specs.UntilVector.{read_of}
-use Rattle.lite_read.specs.ReadUntil.{CountsPiece, ReadsUntil, until}
+use Rattle.lite_read.specs.ReadUntil.{CountsPiece, ReadsUntil, ReadsUntilByRoom, until}
 use Rattle.lite_read.specs.Split.{IsVec}
 use Rattle.lite_read.specs.LineText.{IsText, without_return}
 use Rattle.lite_read.specs.declared.read_until.ReadUntilFuture.{ReadUntilFuture}
@@ -64,16 +63,13 @@ module _ {R : Type 0} where
   UntilAlike alike x y = alike x.reader.now y.reader.now × (read_of x ≡ read_of y) × (x.byte ≡ y.byte)
 
   module _ {reads : Runs ReadMark R} where
-    pub until_steady : {ample : Runs ReadMark R} {needs_none : Type 0} {alike : R → R → Type 0}
+    pub until_steady : (lent : R → List ℕ) {ample : Runs ReadMark R} {needs_none : Type 0} {alike : R → R → Type 0}
         → SteadyReadLaws reads ample needs_none alike
-        → FutureSteadyLawsBy (Sameness.by SameByKind) (ReadsUntil reads ⊤) (ReadsUntil ample ⊥) ⊥ (UntilAlike alike)
-    until_steady s =
+        → FutureSteadyLawsBy (Sameness.by SameByKind) (ReadsUntilByRoom reads lent) (ReadsUntil ample ⊥) ⊥
+        (UntilAlike alike)
+    until_steady lent s =
         record {
           laws = until_laws ⊥ s.laws;
           steady = λ x y e. gathers_alike (λ x. until_deterministic x.byte) s x y e.0 e.1 (rw (sym e.2));
           found = λ n. absurd n;
         }
-
-    pub until_calm : {is_calm : R → Type 0} → CalmReadLaws reads is_calm
-        → CalmLaws (ReadsUntil reads ⊤) (λ (x : ReadUntilFuture R). is_calm x.reader.now)
-    until_calm = gathers_calm

@@ -1,5 +1,6 @@
 -- Laws of `read_to_end`.
-use Rattle.std.proofs.Common.{◌∙◌, ◌≤◌, ℕ, List, [], ◌∷◌, ◌++◌, length, Result, refl, ap, sym, arith}
+use Rattle.std.specs.Prelude.{⊤}
+use Rattle.std.proofs.Common.{◌∙◌, ◌≤◌, ◌+◌, ◌-◌, ℕ, List, [], ◌∷◌, ◌++◌, length, Result, refl, ap, sym, arith}
 use Rattle.std.proofs.Common.{length-append, append-nil, append_assoc, length-take-le}
 use Rattle.std.specs.List.{FoldsTo}
 use Rattle.std.specs.declared.io.Error.{Error}
@@ -14,10 +15,13 @@ use Rattle.lite_io_base.specs.Laws.Falls.{GivenRun}
 use Rattle.lite_io_base.specs.Marks.{ReadMark}
 use Rattle.lite_io_base.specs.Runs.{MarkLaws}
 use Rattle.lite_read.specs.Laws.Gathers.{KeepLaws, gathers_before, gathers_laws}
-use Rattle.lite_read.specs.Appending.{CanAppend, ToEndStays}
+use Rattle.lite_read.specs.Appending.{CanAppend, ToEndStays, VectorGrows}
 use Rattle.lite_io_base.specs.Laws.Lent.{lent_still}
+use Rattle.lite_read.specs.Laws.ByRoom.{RoomLaws, room_laws}
+use Rattle.lite_read.specs.Laws.Refusals.{appends_weaker, gathers_weaker}
+use Rattle.lite_read.specs.ReadFold.{ReadFold}
 use Rattle.lite_read.specs.Laws.PollSteps.{takes_given}
-use Rattle.lite_read.specs.ReadToEnd.{ReadsToEnd, appends}
+use Rattle.lite_read.specs.ReadToEnd.{ReadsToEnd, ReadsToEndByRoom, ToEndLacksRoom, appends}
 use Rattle.lite_read.specs.PollSteps.{AnswersUntrimmed, ReadsSome}
 use Rattle.lite_read.specs.declared.read_to_end.ReadToEndFuture.{ReadToEndFuture}
 
@@ -64,10 +68,10 @@ module _ {R A : Type 0} where
                 t.stays.0.start,
                 can.started,
                 length-take-le x.filled x.buf.now.items can.within,
-                length-take-le y.filled y.buf.now.items t.stays.1,
+                length-take-le y.filled y.buf.now.items t.stays.1.within,
                 grown m x.start _ _ t.taken t.folds,
               );
-          within = t.stays.1;
+          within = t.stays.1.within;
           counts = c.counts_on x.reader.now y.reader.now _ can.counts t.came;
         }
 
@@ -82,3 +86,42 @@ module _ {R A : Type 0} where
     pub step_before : (x y z : ReadToEndFuture R A) (a : Poll (Result ℕ Error)) → ReadsSome m reads x y
         → AnswersUntrimmed m reads y a z → AnswersUntrimmed m reads x a z
     step_before = gathers_before (keeps m) laws (λ x y k. k.0)
+
+  -- where the vector has no room after a run that was pending it had none before
+  lacks_sooner : (x y z : ReadToEndFuture R A) → VectorGrows x y → ToEndLacksRoom (length y.buf.now.items) y z
+      → ToEndLacksRoom (length x.buf.now.items) x z
+  lacks_sooner x y z h full = (
+    full.0 + (length y.buf.now.items - length x.buf.now.items),
+    omega (arith, h.items, full.1),
+    omega (arith, h.items, h.capacity, h.room, full.1, full.2),
+  )
+
+  abbrev appends_by_room : ReadToEndFuture R A → ReadToEndFuture R A → ReadToEndFuture R A
+      → ReadFold (List ℕ) (Result ℕ Error)
+  appends_by_room x y v = appends (ToEndLacksRoom (length x.buf.now.items) x y) v.start
+
+  to_end_room : RoomLaws appends_by_room ToEndStays VectorGrows
+  to_end_room =
+      record {
+        keeps = λ x y. keeps (ToEndLacksRoom (length x.buf.now.items) x y);
+        none = λ x. record { items = omega arith; capacity = omega arith; room = omega arith };
+        join = λ x y z h k. record {
+          items = omega (arith, h.items, k.items);
+          capacity = omega (arith, h.capacity, k.capacity);
+          room = omega (arith, h.items, k.items, h.room, k.room);
+        };
+        waits = λ x y z v. record { takes = λ p q b h. h; asks = λ p h. h };
+        sooner = λ x y z v s h. appends_weaker v.start (λ g. ToEndLacksRoom (length y.buf.now.items) y z)
+            (λ g. ToEndLacksRoom (length x.buf.now.items) x z) (λ g. lacks_sooner x y z h);
+      }
+
+  module _ {reads : Runs ReadMark R} where
+    pub to_end_room_laws : MarkLaws reads → FutureLaws (ReadsToEndByRoom {A = A} reads)
+    to_end_room_laws = room_laws to_end_room
+
+    -- memory may be refused then
+    pub to_end_any : (x y : ReadToEndFuture R A) (l : List (Poll (Result ℕ Error))) → ReadsToEndByRoom reads x l y
+        → ReadsToEnd ⊤ reads x l y
+    to_end_any x y l h =
+        gathers_weaker (λ v. appends_weaker v.start (λ g. ToEndLacksRoom (length x.buf.now.items) x y) (λ g. ⊤)
+        (λ g full. tt)) x y l h.gathered

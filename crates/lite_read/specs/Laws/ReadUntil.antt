@@ -1,5 +1,6 @@
 -- Laws of `read_until`.
-use Rattle.std.proofs.Common.{◌∙◌, ◌≤◌, [], ◌∷◌, length, Result, ℕ, refl, ap, arith}
+use Rattle.std.specs.Prelude.{⊤}
+use Rattle.std.proofs.Common.{◌∙◌, ◌≤◌, List, [], ◌∷◌, length, Result, ℕ, refl, ap, arith, vec_capacity}
 use Rattle.std.specs.declared.io.Error.{Error}
 use Rattle.futures.specs.declared.task.Poll.{Poll}
 use Rattle.lite_base.specs.FutureLaws.{FutureLaws}
@@ -9,13 +10,24 @@ use Rattle.lite_io_base.specs.Runs.{MarkLaws}
 use Rattle.lite_read.specs.Laws.Gathers.{KeepLaws, gathers_before, gathers_laws}
 use Rattle.lite_io_base.specs.Laws.Lent.{lent_still}
 use Rattle.lite_read.specs.UntilVector.{UntilStays}
-use Rattle.lite_read.specs.ReadUntil.{ReadsUntil, until}
+use Rattle.lite_read.specs.Laws.ByRoom.{RoomLaws, room_laws}
+use Rattle.lite_read.specs.Laws.Refusals.{gathers_weaker, pieces_weaker}
+use Rattle.lite_read.specs.ReadUntil.{CountsPiece, ReadsUntil, ReadsUntilByRoom, UntilLacksRoom, until}
 use Rattle.lite_read.specs.PieceSteps.{AppendsMore}
 use Rattle.lite_read.specs.declared.read_until.ReadUntilFuture.{ReadUntilFuture}
 
 module _ {R : Type 0} where
   stays_none : (x : ReadUntilFuture R) → UntilStays x x
-  stays_none x = record { reader = refl; buf = refl; byte = refl; start = refl; before = refl; grows = omega arith; room = omega arith }
+  stays_none x =
+      record {
+        reader = refl;
+        buf = refl;
+        byte = refl;
+        start = refl;
+        before = refl;
+        grows = omega arith;
+        room = omega arith;
+      }
 
   -- what was there at first is there still
   module _ (x y : ReadUntilFuture R) where
@@ -46,3 +58,31 @@ module _ {R : Type 0} where
     pub step_before : {m : Type 0} → MarkLaws reads → (x y z : ReadUntilFuture R) (a : Poll (Result ℕ Error))
         → AppendsMore reads m x y → ReadsUntil reads m y (a ∷ []) z → ReadsUntil reads m x (a ∷ []) z
     step_before {m} laws = gathers_before (keeps m) laws (λ x y k. k)
+
+  module _ (lent : R → List ℕ) where
+    -- where the vector has no room after a run that was pending it had none before
+    pub lacks_sooner : (x y z : ReadUntilFuture R) → UntilStays x y → UntilLacksRoom lent y z → UntilLacksRoom lent x z
+    lacks_sooner x y z s full = let here = rw s.byte at full in omega (arith, s.room, here)
+
+    until_room : RoomLaws (λ x y v. until v.byte (UntilLacksRoom lent x y)) UntilStays
+        (λ x y. vec_capacity x.buf.now ≤ vec_capacity y.buf.now)
+    until_room =
+        record {
+          keeps = λ x y. keeps (UntilLacksRoom lent x y);
+          none = λ x. omega arith;
+          join = λ x y z h k. omega (arith, h, k);
+          waits = λ x y z v. record { takes = λ p q b h. h; asks = λ p h. h };
+          sooner = λ x y z v s h. pieces_weaker v.byte (λ held. UntilLacksRoom lent y z)
+              (λ held. UntilLacksRoom lent x z) (CountsPiece v.byte) (λ held. lacks_sooner x y z s);
+        }
+
+    module _ {reads : Runs ReadMark R} where
+      pub until_room_laws : MarkLaws reads → FutureLaws (ReadsUntilByRoom reads lent)
+      until_room_laws = room_laws until_room
+
+      -- memory may be refused then
+      pub until_any : (x y : ReadUntilFuture R) (l : List (Poll (Result ℕ Error))) → ReadsUntilByRoom reads lent x l y
+          → ReadsUntil reads ⊤ x l y
+      until_any x y l h =
+          gathers_weaker (λ v. pieces_weaker v.byte (λ held. UntilLacksRoom lent x y) (λ held. ⊤) (CountsPiece v.byte)
+          (λ held full. tt)) x y l h.gathered

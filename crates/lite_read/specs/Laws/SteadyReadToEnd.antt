@@ -1,17 +1,15 @@
 -- `read_to_end` is steady over a steady reader, where memory was found, and calm over a calm one.
-use Rattle.std.specs.Prelude.{⊤}
 use Rattle.std.proofs.Common.{◌≡◌, ◌∙◌, ℕ, List, [], ◌∷◌, Result, Ok, Err, sym, ap, arith}
 use Rattle.std.specs.declared.io.Error.{Error}
-use Rattle.lite_base.specs.Calm.{CalmLaws}
 use Rattle.lite_base.specs.Alike.{Sameness}
 use Rattle.lite_base.specs.Steady.{FutureSteadyLawsBy}
 use Rattle.lite_base.specs.Runs.{Runs}
 use Rattle.lite_io_base.specs.Marks.{ReadMark}
-use Rattle.lite_io_base.specs.Steady.{CalmReadLaws, SteadyReadLaws}
+use Rattle.lite_io_base.specs.Steady.{SteadyReadLaws}
 use Rattle.lite_read.specs.Laws.ReadToEnd.{append_laws}
 use Rattle.lite_read.specs.Laws.Deterministic.{GivenBy, TakenAt, deterministic_by}
-use Rattle.lite_read.specs.Laws.Gathers.{gathers_alike, gathers_calm}
-use Rattle.lite_read.specs.ReadToEnd.{Appended, ReadsToEnd, appends}
+use Rattle.lite_read.specs.Laws.Gathers.{gathers_alike}
+use Rattle.lite_read.specs.ReadToEnd.{Appended, ReadsToEnd, ReadsToEndByRoom, appends}
 use Rattle.lite_read.specs.Deterministic.{IsDeterministic, SameByKind}
 use Rattle.lite_read.specs.declared.read_to_end.ReadToEndFuture.{ReadToEndFuture}
 
@@ -48,14 +46,10 @@ module _ {R A : Type 0} where
   module _ {reads : Runs ReadMark R} where
     module _ {ample : Runs ReadMark R} {needs_none : Type 0} {alike : R → R → Type 0}
         (s : SteadyReadLaws reads ample needs_none alike) where
-      pub to_end_steady : FutureSteadyLawsBy (Sameness.by SameByKind) (ReadsToEnd ⊤ reads) (ReadsToEnd ⊥ ample) ⊥
+      pub to_end_steady : FutureSteadyLawsBy (Sameness.by SameByKind) (ReadsToEndByRoom reads) (ReadsToEnd ⊥ ample) ⊥
           (ToEndAlike alike)
       to_end_steady = record {
         laws = append_laws ⊥ s.laws;
         steady = λ x y e. gathers_alike (λ x. appends_deterministic x.start) s x y e.0 e.1 (ap (appends ⊥) (sym e.2));
         found = λ n. absurd n;
       }
-
-    pub to_end_calm : {is_calm : R → Type 0} → CalmReadLaws reads is_calm
-        → CalmLaws (ReadsToEnd ⊤ reads) (λ (x : ReadToEndFuture R A). is_calm x.reader.now)
-    to_end_calm = gathers_calm

@@ -1,20 +1,18 @@
 -- What reads for a text is steady over a steady reader, where memory was found, and calm over a calm one.
-use Rattle.std.specs.Prelude.{⊤}
 use Rattle.std.proofs.Common.{◌≡◌, ℕ, List, Result, refl}
 use Rattle.std.specs.declared.io.Error.{Error}
-use Rattle.lite_base.specs.Calm.{CalmLaws}
 use Rattle.lite_base.specs.Alike.{Sameness}
 use Rattle.lite_base.specs.Steady.{FutureSteadyLawsBy}
 use Rattle.lite_base.specs.Runs.{Runs}
 use Rattle.lite_io_base.specs.Marks.{ReadMark}
-use Rattle.lite_io_base.specs.Steady.{CalmReadLaws, SteadyReadLaws}
+use Rattle.lite_io_base.specs.Steady.{SteadyReadLaws}
 use Rattle.lite_read.specs.ReadFold.{ReadFold}
-use Rattle.lite_read.specs.Laws.Gathers.{gathers_alike, gathers_calm}
+use Rattle.lite_read.specs.Laws.Gathers.{gathers_alike}
 use Rattle.lite_read.specs.Deterministic.{IsDeterministic, SameByKind}
 use Rattle.lite_read.specs.Holding.{TextOver}
 use Rattle.lite_read.specs.Laws.DeterministicTexts.{text_deterministic}
 use Rattle.lite_read.specs.Laws.Texts.{text_laws}
-use Rattle.lite_read.specs.Texts.{ReadsText, reading}
+use Rattle.lite_read.specs.Texts.{ReadsText, ReadsTextByRoom, reading}
 
 module _ {X R A : Type 0} (over : TextOver X R A) where
   -- two that have read equal bytes, for equal texts, over readers that are alike
@@ -22,16 +20,13 @@ module _ {X R A : Type 0} (over : TextOver X R A) where
   TextAlike alike x y = alike (over.reader x).now (over.reader y).now × (reading over x ≡ reading over y)
 
   module _ (fold : (List ℕ → Type 0) → ReadFold (List ℕ) (Result ℕ Error)) {reads : Runs ReadMark R} where
-    module _ (deterministic : IsDeterministic SameByKind (fold (λ read. ⊥))) {ample : Runs ReadMark R} {needs_none : Type 0}
+    module _ {lacks : X → X → List ℕ → Type 0} (deterministic : IsDeterministic SameByKind (fold (λ read. ⊥)))
+        {ample : Runs ReadMark R} {needs_none : Type 0}
         {alike : R → R → Type 0} (s : SteadyReadLaws reads ample needs_none alike) where
-      pub text_steady : FutureSteadyLawsBy (Sameness.by SameByKind) (ReadsText over (fold (λ read. ⊤)) reads)
+      pub text_steady : FutureSteadyLawsBy (Sameness.by SameByKind) (ReadsTextByRoom over fold lacks reads)
           (ReadsText over (fold (λ read. ⊥)) ample) ⊥ (TextAlike alike)
       text_steady = record {
         laws = text_laws over _ s.laws;
         steady = λ x y e. gathers_alike (λ x. text_deterministic _ deterministic) s x y e.0 e.1 refl;
         found = λ n. absurd n;
       }
-
-    pub text_calm : {is_calm : R → Type 0} → CalmReadLaws reads is_calm
-        → CalmLaws (ReadsText over (fold (λ read. ⊤)) reads) (λ x. is_calm (over.reader x).now)
-    text_calm = gathers_calm

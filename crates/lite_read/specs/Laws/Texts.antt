@@ -1,7 +1,7 @@
 -- Laws of futures that read for a text.
-use Rattle.std.proofs.Common.{◌≡◌, ℕ, List, [], ◌∷◌, Result, refl, ap}
+use Rattle.std.proofs.Common.{◌≡◌, ◌+◌, ◌-◌, ℕ, List, [], ◌∷◌, Result, refl, ap, arith}
 use Rattle.std.specs.List.{FoldsTo}
-use Rattle.std.specs.Prelude.{string_bytes}
+use Rattle.std.specs.Prelude.{⊤, string_bytes}
 use Rattle.std.specs.declared.io.Error.{Error}
 use Rattle.futures.specs.declared.task.Poll.{Poll}
 use Rattle.lite_base.specs.FutureLaws.{FutureLaws}
@@ -12,7 +12,13 @@ use Rattle.lite_read.specs.ReadFold.{ReadFold}
 use Rattle.lite_read.specs.Laws.Gathers.{KeepLaws, gathers_before, gathers_laws}
 use Rattle.lite_io_base.specs.Laws.Lent.{lent_still}
 use Rattle.lite_read.specs.Holding.{TextOver, TextStays}
-use Rattle.lite_read.specs.Texts.{ReadsText, in_text, reading}
+use Rattle.lite_read.specs.Laws.ByRoom.{RoomLaws, room_laws}
+use Rattle.lite_read.specs.Laws.Refusals.{Weaker, appends_weaker, gathers_weaker, pieces_weaker, text_weaker}
+use Rattle.lite_read.specs.ReadLine.{LineLacksMemory, line_over, read_line_fold}
+use Rattle.lite_read.specs.ReadToString.{StringGrows, StringLacksMemory, all_over, read_to_string_fold}
+use Rattle.lite_read.specs.ReadUntil.{CountsPiece}
+use Rattle.lite_read.specs.declared.read_to_string.ReadToStringFuture.{ReadToStringFuture}
+use Rattle.lite_read.specs.Texts.{ReadsText, ReadsTextByRoom, in_text, reading}
 use Rattle.lite_read.specs.TextSteps.{AnswersText, TakesTextIn}
 
 -- bytes that are taken in leave the text
@@ -57,3 +63,97 @@ module _ {X R A : Type 0} (over : TextOver X R A) where
           }) h.0,
           h.1,
         )
+
+-- what is read in one way, whatever memory may be refused
+pub record ReadsAlike (fold : (List ℕ → Type 0) → ReadFold (List ℕ) (Result ℕ Error)) : Type 1 where
+  pub weaker : (m n : List ℕ → Type 0) → ((read : List ℕ) → m read → n read) → Weaker (fold m) (fold n)
+  pub takes : (m n : List ℕ → Type 0) (p q : List ℕ) (b : ℕ) → (fold m).takes p b q → (fold n).takes p b q
+  pub asks : (m n : List ℕ → Type 0) (p : List ℕ) → (fold m).asks p → (fold n).asks p
+
+module _ {X R A : Type 0} {over : TextOver X R A} {fold : (List ℕ → Type 0) → ReadFold (List ℕ) (Result ℕ Error)}
+    {reads : Runs ReadMark R} where
+  pub text_weaker_run : ReadsAlike fold → (m n : List ℕ → Type 0) → ((read : List ℕ) → m read → n read) → (x y : X)
+      (l : List (Poll (Result ℕ Error))) → ReadsText over (fold m) reads x l y → ReadsText over (fold n) reads x l y
+  text_weaker_run alike m n more =
+      gathers_weaker (λ v. text_weaker (fold m) (fold n) (alike.weaker m n more))
+
+-- what a future that reads for its text meets, by which it is known when memory may be refused
+pub record TextRoom {X R A : Type 0} (over : TextOver X R A)
+    (fold : (List ℕ → Type 0) → ReadFold (List ℕ) (Result ℕ Error)) (lacks : X → X → List ℕ → Type 0) : Type 1 where
+  pub alike : ReadsAlike fold
+  pub none : (x : X) → over.grows x x
+  pub join : (x y z : X) → over.grows x y → over.grows y z → over.grows x z
+  pub sooner : (x y z : X) → over.grows x y → (read : List ℕ) → lacks y z read → lacks x z read
+
+module _ {X R A : Type 0} {over : TextOver X R A} {fold : (List ℕ → Type 0) → ReadFold (List ℕ) (Result ℕ Error)}
+    {lacks : X → X → List ℕ → Type 0} (r : TextRoom over fold lacks) where
+  text_room : RoomLaws (λ x y (v : X). in_text (fold (lacks x y))) (TextStays over) over.grows
+  text_room =
+      record {
+        keeps = λ x y. keeps over (fold (lacks x y));
+        none = r.none;
+        join = r.join;
+        waits = λ x y z v. record {
+          takes = λ p q b h. (r.alike.takes (lacks x y) (lacks x z) p.read q.read b h.0, h.1);
+          asks = λ p h. r.alike.asks (lacks x y) (lacks x z) p.read h;
+        };
+        sooner = λ x y z v s h. text_weaker (fold (lacks y z)) (fold (lacks x z))
+            (r.alike.weaker (lacks y z) (lacks x z) (r.sooner x y z h));
+      }
+
+  pub text_room_laws : {reads : Runs ReadMark R} → MarkLaws reads → FutureLaws (ReadsTextByRoom over fold lacks reads)
+  text_room_laws = room_laws text_room
+
+  -- memory may be refused then
+  pub text_any : {reads : Runs ReadMark R} (x y : X) (l : List (Poll (Result ℕ Error)))
+      → ReadsTextByRoom over fold lacks reads x l y
+      → ReadsText over (fold (λ read. ⊤)) reads x l y
+  text_any x y l h = text_weaker_run r.alike (lacks x y) (λ read. ⊤) (λ read full. tt) x y l h.gathered
+
+-- the two folds
+pub line_alike : ReadsAlike read_line_fold
+line_alike =
+    record {
+      weaker = λ m n more. pieces_weaker 10 m n (CountsPiece 10) more;
+      takes = λ m n p q b h. h;
+      asks = λ m n p h. h;
+    }
+
+pub string_alike : ReadsAlike read_to_string_fold
+string_alike =
+    record {
+      weaker = λ m n more. appends_weaker 0 m n more;
+      takes = λ m n p q b h. h;
+      asks = λ m n p h. h;
+    }
+
+module _ {R A : Type 0} where
+  pub line_room : (lent : R → List ℕ) → TextRoom (line_over {A = A}) read_line_fold (LineLacksMemory lent)
+  line_room lent =
+      record {
+        alike = line_alike;
+        none = λ x. omega arith;
+        join = λ x y z h k. omega (arith, h, k);
+        sooner = λ x y z h read full. omega (arith, h, full);
+      }
+
+  string_sooner : (x y : ReadToStringFuture R A) → StringGrows x y → (read : List ℕ)
+      → StringLacksMemory y read → StringLacksMemory x read
+  string_sooner x y h read full = (
+    full.0 + (y.filled - x.filled),
+    omega (arith, h.filled, full.1),
+    omega (arith, h.filled, h.memory, h.room, full.1, full.2),
+  )
+
+  pub string_room : TextRoom (all_over {R = R} {A = A}) read_to_string_fold (λ x y. StringLacksMemory x)
+  string_room =
+      record {
+        alike = string_alike;
+        none = λ x. record { filled = omega arith; memory = omega arith; room = omega arith };
+        join = λ x y z h k. record {
+          filled = omega (arith, h.filled, k.filled);
+          memory = omega (arith, h.memory, k.memory);
+          room = omega (arith, h.filled, k.filled, h.room, k.room);
+        };
+        sooner = λ x y z h. string_sooner x y h;
+      }

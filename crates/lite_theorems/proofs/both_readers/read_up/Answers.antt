@@ -1,5 +1,8 @@
 use Rattle.std.proofs.Common.{rules}
 use Rattle.std.specs.Prelude.{⊤}
+use Rattle.lite_read.specs.Laws.ReadToEnd.{to_end_any}
+use Rattle.lite_read.specs.ReadToEnd.{ReadsToEnd, ReadsToEndByRoom}
+use Rattle.lite_theorems.proofs.Waited.{waited_more}
 use Rattle.lite_theorems.proofs.BothReaders.{lent_on, read_up}
 use Rattle.lite_theorems.proofs.both_readers.read_up.Goals as goal
 
@@ -7,5 +10,7 @@ pub returns-clause-read : goal.returns-clause-read
 returns-clause-read g c =
     let begins = c.read_to_end.ensures in
     let waited = c.wait_for.ensures in
-    let lent = lent_on ⊤ g.T.Tale.reads _ _ _ _ _ begins (waited.gave, waited.kept) in
-    read_up ⊤ g.T.Tale.reads _ _ _ _ _ begins (waited.gave, waited.kept) _ _ (search rules) (search rules)
+    let all = waited_more (ReadsToEndByRoom g.T.Tale.reads) (ReadsToEnd ⊤ g.T.Tale.reads) _ _ _
+    (to_end_any _ _) (waited.gave, waited.kept) in
+    let lent = lent_on ⊤ g.T.Tale.reads _ _ _ _ _ begins all in
+    read_up ⊤ g.T.Tale.reads _ _ _ _ _ begins all _ _ (search rules) (search rules)

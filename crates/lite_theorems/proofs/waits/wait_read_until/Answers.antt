@@ -1,5 +1,8 @@
 use Rattle.std.proofs.Common.{◌∙◌, ap, length, rules, sym}
-use Rattle.lite_theorems.proofs.Waited.{ToldByUntil, told_at, until_waited}
+use Rattle.lite_theorems.proofs.Waited.{ToldByUntil, told_at, until_waited, waited_more}
+use Rattle.lite_read.specs.Laws.ReadUntil.{until_any}
+use Rattle.lite_read.specs.ReadUntil.{ReadsUntil, ReadsUntilByRoom}
+use Rattle.std.specs.Prelude.{⊤}
 use Rattle.lite_theorems.proofs.waits.wait_read_until.Goals as goal
 
 pub returns-clause-told : goal.returns-clause-told
@@ -7,6 +10,8 @@ returns-clause-told g c =
     let w = c.wait_for.ensures in
     let made = c.read_until.ensures in
     let begun = ap (λ z. z.start) made ∙ sym (ap (λ z. length z.buf.now.items) made) in
-    let h = rw c.read_until.ensures at (until_waited g.T.Tale.read_laws _ _ _ begun (w.gave, w.kept)) in
+    let waited = waited_more (ReadsUntilByRoom g.T.Tale.reads g.T.AsyncBufRead.lent) (ReadsUntil g.T.Tale.reads ⊤)
+    _ _ _ (until_any g.T.AsyncBufRead.lent _ _) (w.gave, w.kept) in
+    let h = rw c.read_until.ensures at (until_waited g.T.Tale.read_laws _ _ _ begun waited) in
     let lent = h.1 in
     told_at (ToldByUntil g.T.Tale.reads _ _ _ _) (search rules) (search rules) h.0

@@ -1,4 +1,8 @@
+use Rattle.lite_read.specs.ReadLine.{ReadsLine, ReadsLineByRoom}
+use Rattle.std.specs.Prelude.{⊤}
+use Rattle.lite_read.specs.Laws.Texts.{line_room, text_any}
 use Rattle.lite_read.specs.ReadLine.{line_over}
+use Rattle.lite_views.proofs.Futures.{when_less}
 use Rattle.lite_views.proofs.Texts.{text_left}
 use Rattle.lite_views.proofs.Until.{read_text_line}
 use Rattle.futures_lite.proofs.io.AsyncBufReadExt.read_line.Goals as goal
@@ -7,5 +11,7 @@ pub returns-clause-line : goal.returns-clause-line
 returns-clause-line g c knows =
     let e = c.read_line.ensures in
     rw (← e.text, ← e.reader)
+    (when_less (ReadsLineByRoom g.Self.AsyncBufRead.lent g.Self.Tale.reads)
+    (ReadsLine (λ read. ⊤) g.Self.Tale.reads) _ (λ y l. text_any (line_room g.Self.AsyncBufRead.lent) _ y l)
     (text_left line_over _ g.Self.Tale.reads g.Self.Tale.known _ _ (rw e.reader knows)
-    (λ y v t. read_text_line v _ _ _ _ t e.empty))
+    (λ y v t. read_text_line v _ _ _ _ t e.empty)))

@@ -1,4 +1,8 @@
+use Rattle.lite_read.specs.ReadToString.{ReadsStringByRoom, ReadsToString}
+use Rattle.std.specs.Prelude.{⊤}
+use Rattle.lite_read.specs.Laws.Texts.{string_room, text_any}
 use Rattle.lite_read.specs.ReadToString.{all_over}
+use Rattle.lite_views.proofs.Futures.{when_less}
 use Rattle.lite_views.proofs.Texts.{all_read_text, text_left}
 use Rattle.futures_lite.proofs.io.AsyncReadExt.read_to_string.Goals as goal
 
@@ -6,5 +10,7 @@ pub returns-clause-all : goal.returns-clause-all
 returns-clause-all g c knows =
     let e = c.read_to_string.ensures in
     rw (← e.text, ← e.reader)
+    (when_less (ReadsStringByRoom g.Self.Tale.reads)
+    (ReadsToString (λ read. ⊤) g.Self.Tale.reads) _ (λ y l. text_any string_room _ y l)
     (text_left all_over _ g.Self.Tale.reads g.Self.Tale.known _ _ (rw e.reader knows)
-    (λ y v t. all_read_text v _ _ _ _ t e.empty))
+    (λ y v t. all_read_text v _ _ _ _ t e.empty)))

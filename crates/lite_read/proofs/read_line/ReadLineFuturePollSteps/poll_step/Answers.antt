@@ -1,49 +1,53 @@
-use Rattle.std.proofs.Common.{◌≡◌, ◌∙◌, [], Some, None, Ok, Err, take, refl, rules, ap}
+use Rattle.std.proofs.Common.{◌≡◌, ◌∙◌, le_refl, [], Some, None, Ok, Err, take, refl, rules, ap}
 use Rattle.std.proofs.lemmas.Grind.{common_steps}
 use Rattle.futures.specs.declared.task.Poll.TheVariants.{Ready}
 use Rattle.lite_read.proofs.Lacking.{lacks_through, through_found, through_none}
 use Rattle.lite_read.proofs.Cutting.{take_whole}
 use Rattle.lite_read.proofs.ReadLine.{filled_last, line_cut, line_more, line_refused}
-use Rattle.lite_read.proofs.TextSteps.{text_waits}
+use Rattle.lite_read.proofs.TextSteps.{text_pending, text_value, text_waits}
 use Rattle.lite_read.proofs.Until.{ended, failed}
-use Rattle.lite_read.specs.ReadLine.{line_over, read_line_fold}
+use Rattle.lite_read.specs.ReadLine.{LineLacksMemory, line_over, read_line_fold}
 use Rattle.lite_read.proofs.read_line.ReadLineFuturePollSteps.poll_step.Goals as goal
 
 pub returns-in-Ready-Err-clause-stepped : goal.returns-in-Ready-Err-clause-stepped
 returns-in-Ready-Err-clause-stepped g c =
     let x = c.args.self.now in
     let is : c.find_line.result ≡ Ready (Err c.in-Ready-Err.e) = search rules in
-    filled_last _ g.R.Tale.read_laws x c.find_line.new.reader c.finish-in-Ready-Err.ensures
-    (failed 10 _ _ c.in-Ready-Err.e refl) (rw is at c.find_line.ensures.ran)
+    text_value line_over read_line_fold (LineLacksMemory g.R.AsyncBufRead.lent) _ _ _
+    (filled_last _ g.R.Tale.read_laws x c.find_line.new.reader c.finish-in-Ready-Err.ensures
+    (failed 10 _ _ c.in-Ready-Err.e refl) (rw is at c.find_line.ensures.ran))
 
 pub returns-then-amount-eq0-clause-stepped : goal.returns-then-amount-eq0-clause-stepped
 returns-then-amount-eq0-clause-stepped g c =
     let x = c.args.self.now in
     let is : c.find_line.result ≡ Ready (Ok (None, c.in-Ready-Ok-None-default.ascii)) = search rules in
     let none : g.R.AsyncBufRead.lent c.find_line.new.reader ≡ [] = search (rules, common_steps) in
-    filled_last _ g.R.Tale.read_laws x c.find_line.new.reader c.whole-then-amount-eq0.ensures
-    (ended 10 _ _ _ refl refl) (rw (is, none) at c.find_line.ensures.ran)
+    text_value line_over read_line_fold (LineLacksMemory g.R.AsyncBufRead.lent) _ _ _
+    (filled_last _ g.R.Tale.read_laws x c.find_line.new.reader c.whole-then-amount-eq0.ensures
+    (ended 10 _ _ _ refl refl) (rw (is, none) at c.find_line.ensures.ran))
 
 pub returns-in-Ok-clause-stepped : goal.returns-in-Ok-clause-stepped
 returns-in-Ok-clause-stepped g c =
     let line = c.in-Ready-Ok-Some-default in
     let is : c.find_line.result ≡ Ready (Ok (Some line.at, line.ascii)) = search rules in
     let e = c.in-Ok.ensures in
-    line_cut _ g.R.Tale.read_laws c.args.self.now c.find_line.new.reader c.take_in.new.self _ e.stays e.text
+    text_value line_over read_line_fold (LineLacksMemory g.R.AsyncBufRead.lent) _ _ _
+    (line_cut _ g.R.Tale.read_laws c.args.self.now c.find_line.new.reader c.take_in.new.self _ e.stays e.text
     (rw is at c.find_line.ensures.ran) c.whole.ensures line.at refl
-    (rw is at c.find_line.ensures.found) e.ok e.taken
+    (rw is at c.find_line.ensures.found) e.ok e.taken)
 
 pub returns-in-Err-clause-stepped : goal.returns-in-Err-clause-stepped
 returns-in-Err-clause-stepped g c =
     let line = c.in-Ready-Ok-Some-default in
     let is : c.find_line.result ≡ Ready (Ok (Some line.at, line.ascii)) = search rules in
     let e = c.in-Err.ensures in
-    line_refused _ g.R.Tale.read_laws c.args.self.now c.find_line.new.reader c.take_in.new.self _ e.stays e.text
+    text_value line_over read_line_fold (LineLacksMemory g.R.AsyncBufRead.lent) _ _ _
+    (line_refused _ g.R.Tale.read_laws c.args.self.now c.find_line.new.reader c.take_in.new.self _ e.stays e.text
     (rw is at c.find_line.ensures.ran) c.finish.ensures c.in-Err.e refl
     e.refused (search (rules, common_steps))
     e.unread e.kept
     (lacks_through 10 g.R.AsyncBufRead.lent (ap (λ r. r.now) c.finish.ensures.reader ∙ e.unread) refl
-    (through_found 10 _ line.at (rw is at c.find_line.ensures.found)) e.full)
+    (through_found 10 _ line.at (rw is at c.find_line.ensures.found)) e.full))
 
 pub returns-in-Ok-take_in-clause-stepped : goal.returns-in-Ok-take_in-clause-stepped
 returns-in-Ok-take_in-clause-stepped g c =
@@ -60,15 +64,19 @@ pub returns-in-Err-take_in-clause-stepped : goal.returns-in-Err-take_in-clause-s
 returns-in-Err-take_in-clause-stepped g c =
     let is : c.find_line.result ≡ Ready (Ok (None, c.in-Ready-Ok-None-default.ascii)) = search rules in
     let e = c.in-Err-take_in.ensures in
-    line_refused _ g.R.Tale.read_laws c.args.self.now c.find_line.new.reader c.take_in-in-Ready-Ok-None-default.new.self
+    text_value line_over read_line_fold (LineLacksMemory g.R.AsyncBufRead.lent) _ _ _
+    (line_refused _ g.R.Tale.read_laws c.args.self.now c.find_line.new.reader
+    c.take_in-in-Ready-Ok-None-default.new.self
     _ e.stays e.text (rw is at c.find_line.ensures.ran) c.finish-in-Err-take_in.ensures
     c.in-Err-take_in.e refl e.refused (search (rules, common_steps)) e.unread e.kept
     (lacks_through 10 g.R.AsyncBufRead.lent (ap (λ r. r.now) c.finish-in-Err-take_in.ensures.reader ∙ e.unread) refl
-    (through_none 10 _ (rw is at c.find_line.ensures.found)) (rw c.lent_by-amount.ensures at e.full))
+    (through_none 10 _ (rw is at c.find_line.ensures.found)) (rw c.lent_by-amount.ensures at e.full)))
 
 pub returns-in-Pending-clause-stepped : goal.returns-in-Pending-clause-stepped
-returns-in-Pending-clause-stepped g c = (
-  text_waits line_over (read_line_fold _) g.R.Tale.reads c.args.self.now _ (record { reader = refl; text = refl }) refl
-      refl tt (rw c.in-Pending.is at c.find_line.ensures.ran),
-  record { fits = c.requires.1.fits; known = c.requires.1.known },
-)
+returns-in-Pending-clause-stepped g c =
+    text_pending line_over read_line_fold (LineLacksMemory g.R.AsyncBufRead.lent) _ _ (le_refl _) (
+      text_waits line_over (read_line_fold _) g.R.Tale.reads c.args.self.now _
+          (record { reader = refl; text = refl }) refl
+          refl tt (rw c.in-Pending.is at c.find_line.ensures.ran),
+      record { fits = c.requires.1.fits; known = c.requires.1.known },
+    )

@@ -1,6 +1,7 @@
-use Rattle.std.proofs.Common.{◌≡◌, ◌<◌, ◌+◌, ◌-◌, max, vec_capacity, [], ◌∷◌, Ok, Err, length, ap, refl, rules, arith, length-take-le}
+use Rattle.std.proofs.Common.{◌≡◌, ◌<◌, ◌+◌, ◌-◌, max, vec_capacity, [], ◌∷◌, Ok, Err}
+use Rattle.std.proofs.Common.{length, ap, refl, rules, arith, length-take-le}
 use Rattle.std.proofs.lemmas.Grind.{common_steps}
-use Rattle.lite_read.proofs.Appending.{read_none, read_some, refused}
+use Rattle.lite_read.proofs.Appending.{gives_pending, gives_value, read_none, read_some, refused, room_made}
 use Rattle.lite_read.proofs.Filling.{ends_behind}
 use Rattle.lite_read.specs.Appending.{read_front}
 use Rattle.futures.specs.declared.task.Poll.TheVariants.{Ready, Pending}
@@ -14,8 +15,9 @@ returns-then-is_err-clause-stepped g c =
     let w = c.make_room.new.self in
     let filled : w.filled ≡ x.filled = ap (λ z. z.filled) m.same in
     let full : vec_capacity x.buf.now < x.filled + max 32 x.room = search (rules, common_steps) in
-    refused _ g.R.Tale.read_laws x w c.into.result (0, omega (arith, filled), omega (arith, filled, full)) m.same
-    m.front c.into.ensures
+    gives_value x w
+    (refused _ g.R.Tale.read_laws x w c.into.result (0, omega (arith, filled), omega (arith, filled, full)) m.same
+    m.front c.into.ensures)
 
 pub returns-in-Ready-Ok-clause-stepped : goal.returns-in-Ready-Ok-clause-stepped
 returns-in-Ready-Ok-clause-stepped g c =
@@ -41,21 +43,26 @@ returns-in-Ready-Ok-eq0-clause-stepped g c =
     let start : w.start ≡ x.start = ap (λ z. z.start) m.same in
     let count : length (read_front x) ≡ x.start + (w.filled - w.start) =
     omega (arith, front, ap length m.front, start, c.requires.started, held) in
-    read_none _ g.R.Tale.reads x w new.self old new.buf (ReadMark.end ∷ [])
+    gives_value x _
+    (read_none _ g.R.Tale.reads x w new.self old new.buf (ReadMark.end ∷ [])
     (Ready (Ok (w.filled - w.start))) m.same m.front m.within c.deref_mut.ensures.value c.poll_read.auto.buf
-    (count, refl) (rw (is, end) at c.poll_read.ensures.ran)
+    (count, refl) (rw (is, end) at c.poll_read.ensures.ran))
 
 pub returns-in-Ready-Err-clause-stepped : goal.returns-in-Ready-Err-clause-stepped
 returns-in-Ready-Err-clause-stepped g c =
     let m = c.make_room.ensures in
     let is : c.poll_read.result ≡ Ready (Err c.in-Ready-Err.e) = search rules in
-    read_none _ g.R.Tale.reads c.args.self.now c.make_room.new.self c.poll_read.new.self c.deref_mut.result.now
+    gives_value c.args.self.now _
+    (read_none _ g.R.Tale.reads c.args.self.now c.make_room.new.self c.poll_read.new.self c.deref_mut.result.now
     c.poll_read.new.buf _ (Ready (Err c.in-Ready-Err.e)) m.same m.front m.within c.deref_mut.ensures.value
-    c.poll_read.auto.buf (refl, refl) (rw is at c.poll_read.ensures.ran)
+    c.poll_read.auto.buf (refl, refl) (rw is at c.poll_read.ensures.ran))
 
 pub returns-in-Pending-clause-stepped : goal.returns-in-Pending-clause-stepped
 returns-in-Pending-clause-stepped g c =
     let m = c.make_room.ensures in
-    read_none _ g.R.Tale.reads c.args.self.now c.make_room.new.self c.poll_read.new.self c.deref_mut.result.now
+    gives_pending c.args.self.now _
+    (room_made c.args.self.now c.make_room.new.self c.poll_read.new.self c.deref_mut.result.now c.poll_read.new.buf
+    m.same m.within c.deref_mut.ensures.value c.poll_read.auto.buf m.grows)
+    (read_none _ g.R.Tale.reads c.args.self.now c.make_room.new.self c.poll_read.new.self c.deref_mut.result.now
     c.poll_read.new.buf (ReadMark.pending ∷ []) Pending m.same m.front m.within c.deref_mut.ensures.value
-    c.poll_read.auto.buf (refl, tt, refl) (rw c.in-Pending.is at c.poll_read.ensures.ran)
+    c.poll_read.auto.buf (refl, tt, refl) (rw c.in-Pending.is at c.poll_read.ensures.ran))

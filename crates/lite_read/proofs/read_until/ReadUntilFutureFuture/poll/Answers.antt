@@ -1,21 +1,13 @@
-use Rattle.std.specs.Prelude.{⊤}
 use Rattle.lite_read.specs.Laws.PollSteps.{goes_again}
 use Rattle.lite_read.specs.Laws.ReadUntil.{stays_within}
-use Rattle.lite_read.specs.ReadUntil.{CountsPiece}
-use Rattle.lite_read.proofs.Refusals.{gathers_weaker, pieces_weaker}
 use Rattle.lite_read.proofs.Until.{until_full}
 use Rattle.lite_read.proofs.read_until.ReadUntilFutureFuture.poll.Goals as goal
 
-pub returns-clause-full : goal.returns-clause-full
-returns-clause-full g c = until_full g.R.AsyncBufRead.lent g.R.Tale.read_laws c.drive.ensures.stepped
-
 pub returns-clause-ran : goal.returns-clause-ran
-returns-clause-ran g c =
-    gathers_weaker (λ v. pieces_weaker v.byte _ (λ held. ⊤) (CountsPiece v.byte) (λ held full. tt)) _ _ _
-    (returns-clause-full g c)
+returns-clause-ran g c = until_full g.R.AsyncBufRead.lent g.R.Tale.read_laws c.drive.ensures.stepped
 
 pub returns-clause-again : goal.returns-clause-again
 returns-clause-again g c =
-    let ran = returns-clause-full g c in
+    let ran = (until_full g.R.AsyncBufRead.lent g.R.Tale.read_laws c.drive.ensures.stepped).gathered in
     let counts = g.met.R.CountedRead.counting.counts_on _ _ ran.folded.marks c.requires.0 ran.folded.came in
     goes_again c.drive.result (counts, stays_within _ _ ran.stays c.requires.1)

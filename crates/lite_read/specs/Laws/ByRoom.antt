@@ -1,0 +1,58 @@
+-- Laws of futures whose memory is refused only where there was no room.
+use Rattle.std.proofs.Common.{List, [], ◌∷◌, ◌++◌, refl}
+use Rattle.futures.specs.declared.task.Poll.{Poll}
+use Rattle.futures.specs.declared.task.Poll.TheVariants.{Ready, Pending}
+use Rattle.lite_base.specs.Answers.{Waiting}
+use Rattle.lite_base.specs.Calm.{CalmLaws}
+use Rattle.lite_base.specs.FutureLaws.{FutureLaws}
+use Rattle.lite_base.specs.Laws.Answers.{up_to_once}
+use Rattle.lite_base.specs.Runs.{Runs}
+use Rattle.lite_io_base.specs.Marks.{ReadMark}
+use Rattle.lite_io_base.specs.Runs.{MarkLaws}
+use Rattle.lite_io_base.specs.Steady.{CalmReadLaws}
+use Rattle.lite_read.specs.Laws.Deterministic.{segmented_calm}
+use Rattle.lite_read.specs.Laws.Gathers.{KeepLaws, gathers_laws}
+use Rattle.lite_read.specs.Laws.Refusals.{Waits, Weaker, gathers_waiting, gathers_weaker}
+use Rattle.lite_read.specs.ReadFold.{GathersByRoom, ReadFold}
+
+-- what is made of marks where both ends of a run say when memory may be refused
+pub record RoomLaws {X M R : Type 0} (fold : X → X → X → ReadFold M R) (Keeps Grows : X → X → Type 0) : Type 1 where
+  pub keeps : (x y : X) → KeepLaws (fold x y) Keeps
+  pub none : (x : X) → Grows x x
+  pub join : (x y z : X) → Grows x y → Grows y z → Grows x z
+  -- what is made before there is a value does not hang on the ends
+  pub waits : (x y z v : X) → Waits (fold x y v) (fold x z v)
+  -- what was refused later may be refused from before
+  pub sooner : (x y z v : X) → Keeps x y → Grows x y → Weaker (fold y z v) (fold x z v)
+
+behind_waiting : {A : Type 0} (l m : List (Poll A)) → Waiting (l ++ m) → Waiting m
+behind_waiting [] m w = w
+behind_waiting (Pending ∷ l) m w = behind_waiting l m w
+behind_waiting (Ready x ∷ l) m w = absurd w
+
+module _ {X S M R : Type 0} {reader : X → S} {held : X → M} {fold : X → X → X → ReadFold M R}
+    {Keeps Grows : X → X → Type 0}
+    {reads : Runs ReadMark S} where
+  pub room_laws : RoomLaws fold Keeps Grows → MarkLaws reads
+      → FutureLaws (GathersByRoom reader held fold Keeps Grows reads)
+  room_laws r laws =
+      record {
+        rests = λ x. record { gathered = (gathers_laws (r.keeps x x) laws).rests x; grows = λ w. r.none x };
+        stays = λ x y h. h.gathered.idle refl;
+        follows = λ x y z l m w h k. record {
+          gathered =
+              (gathers_laws (r.keeps x z) laws).follows x y z l m w
+              (gathers_waiting (r.waits x y z) x y l w h.gathered)
+              (gathers_weaker (λ v. r.sooner x y z v h.gathered.stays (h.grows w)) y z m k.gathered);
+          grows = λ v. r.join x y z (h.grows w) (k.grows (behind_waiting l m v));
+        };
+        once = λ x y l h. up_to_once l h.gathered.ends;
+      }
+
+  pub room_calm : {is_calm : S → Type 0} → CalmReadLaws reads is_calm
+      → CalmLaws (GathersByRoom reader held fold Keeps Grows reads) (λ x. is_calm (reader x))
+  room_calm c =
+      record {
+        no_pending = λ x y l k h. (segmented_calm _ _ _ _ _ l c k h.gathered.folded).0;
+        calm_on = λ x y l k h. (segmented_calm _ _ _ _ _ l c k h.gathered.folded).1;
+      }
