@@ -96,6 +96,7 @@ module _ {R A : Type 0} where
     omega (arith, h.items, h.capacity, h.room, full.1, full.2),
   )
 
+  -- from x, a read to the end that may be refused memory only if the vector had no room for what y holds and the next read
   abbrev appends_by_room : ReadToEndFuture R A → ReadToEndFuture R A → ReadToEndFuture R A
       → ReadFold (List ℕ) (Result ℕ Error)
   appends_by_room x y v = appends (ToEndLacksRoom (length x.buf.now.items) x y) v.start
