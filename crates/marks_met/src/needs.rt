@@ -6,9 +6,7 @@ ghost use Rattle.marks_met.specs.Registering.{TellsAll};
 use lite_base::{Counted, Future, SteadyFuture, SteadyStream, Stream};
 use lite_consume::{Consume, Folder, SteadyFolder};
 use lite_merge::{Budgeted, Zip};
-use lite_reshape::{
-    Chain, Filter, FilterMap, FlatMap, Flatten, Skip, SkipWhile, StepBy, Then,
-};
+use lite_reshape::{Chain, Filter, FilterMap, FlatMap, Flatten, Skip, SkipWhile, StepBy, Then};
 use lite_stream::{Copied, Enumerate, Fuse, Inspect, Map, MapWhile, Scan, Take, TakeWhile};
 
 /// Adapters that answer once for each answer of their source.
@@ -100,14 +98,14 @@ where
     F: FnMut(S::Item) -> U,
     G: FnMut(S::Item) -> Fut,
     ensures flat_map { (flat_map.now.inner_stream ≡ Some inner.now
-            → TellsAll (U.registers inner.now) (⟦<FlatMap<S, U, F> as Stream>⟧.registers flat_map.now))
+        → TellsAll (U.registers inner.now) (⟦<FlatMap<S, U, F> as Stream>⟧.registers flat_map.now))
         × (flat_map.now.inner_stream ≡ None
-            → TellsAll (S.registers flat_map.now.stream.stream) (⟦<FlatMap<S, U, F> as Stream>⟧.registers flat_map.now))
+        → TellsAll (S.registers flat_map.now.stream.stream) (⟦<FlatMap<S, U, F> as Stream>⟧.registers flat_map.now))
         × (S.needs_none → U.needs_none → ⟦<FlatMap<S, U, F> as SteadyStream>⟧.needs_none) }
     ensures then { (then.now.future ≡ Some future.now
-            → TellsAll (Fut.registers future.now) (⟦<Then<S, G, Fut> as Stream>⟧.registers then.now))
+        → TellsAll (Fut.registers future.now) (⟦<Then<S, G, Fut> as Stream>⟧.registers then.now))
         × (then.now.future ≡ None
-            → TellsAll (S.registers then.now.stream) (⟦<Then<S, G, Fut> as Stream>⟧.registers then.now))
+        → TellsAll (S.registers then.now.stream) (⟦<Then<S, G, Fut> as Stream>⟧.registers then.now))
         × (S.needs_none → Fut.needs_none → ⟦<Then<S, G, Fut> as SteadyStream>⟧.needs_none) }
 {}
 
@@ -117,9 +115,9 @@ where
     B: SteadyStream + Counted + Drop,
     S: SteadyStream + Counted<Item = B>,
     ensures { (flatten.now.inner_stream ≡ Some inner.now
-            → TellsAll (B.registers inner.now) (⟦<Flatten<S> as Stream>⟧.registers flatten.now))
+        → TellsAll (B.registers inner.now) (⟦<Flatten<S> as Stream>⟧.registers flatten.now))
         × (flatten.now.inner_stream ≡ None
-            → TellsAll (S.registers flatten.now.stream) (⟦<Flatten<S> as Stream>⟧.registers flatten.now))
+        → TellsAll (S.registers flatten.now.stream) (⟦<Flatten<S> as Stream>⟧.registers flatten.now))
         × (S.needs_none → B.needs_none → ⟦<Flatten<S> as SteadyStream>⟧.needs_none) }
 {}
 
