@@ -218,7 +218,7 @@ fn unzip_of_two_vectors_keeps_the_first_part_of_a_pair(rt: HostRuntime) -> Resul
         bump.set_allocation_limit(Some(64));
         let held = vec![in rt.alloc(); 0u8; 4 * filled]?;
         if bump.try_alloc_slice_copy(held.as_slice()).is_err() {
-            break;
+            continue;
         }
         let mut parts: stream::UnzipFuture<_, Vec<u8, &Bump<Global>>, Vec<u8, &Bump<Global>>> =
             stream::once((1u8, 2u8)).unzip(&bump);
@@ -229,8 +229,11 @@ fn unzip_of_two_vectors_keeps_the_first_part_of_a_pair(rt: HostRuntime) -> Resul
         is_met[growths] = true;
     }
     // In some round memory was refused to the second vector alone, and in some to neither.
-    assert!(rt; is_met[1] && is_met[2]);
-    Ok(())
+    if is_met[1] && is_met[2] {
+        Ok(())
+    } else {
+        Err(Fail::from("no such round: other memory was refused"))
+    }
 }
 
 #[test]
