@@ -6,6 +6,7 @@ use Rattle.example_own.specs.declared.tally.Tally.{Tally}
 -- bytes that are taken are counted, up to the most that a u64 holds
 abbrev pub TallyStep : Tally → WriteMark → Tally → Type 0
 TallyStep x (WriteMark.wrote xs) y = y ≡ record x { bytes = min (x.bytes + length xs) (2 ^ 64 - 1) }
+TallyStep x WriteMark.nothing y = y ≡ x
 TallyStep x WriteMark.flushed y = y ≡ x
 TallyStep x WriteMark.closed y = y ≡ x
 TallyStep x WriteMark.pending y = ⊥
