@@ -27,7 +27,7 @@ returns-in-Ready-Ok-clause-stepped g c =
     read_some _ g.R.Tale.reads c.args.self.now c.make_room.new.self c.poll_read.new.self c.deref_mut.result.now
     c.poll_read.new.buf c.in-Ready-Ok.n _ m.same m.front m.within c.deref_mut.ensures.value c.poll_read.auto.buf
     (rw is at e.bound) (omega (arith, c.in-Ready-Ok.n-test)) (rw is at e.ran) m.grows
-    c.next_room-self.ensures.most
+    (omega arith)
 
 pub returns-in-Ready-Ok-eq0-clause-stepped : goal.returns-in-Ready-Ok-eq0-clause-stepped
 returns-in-Ready-Ok-eq0-clause-stepped g c =

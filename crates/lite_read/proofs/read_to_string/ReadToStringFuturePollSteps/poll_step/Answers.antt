@@ -44,7 +44,7 @@ returns-in-Ready-Ok-clause-stepped g c =
     let e = c.poll_read.ensures in
     let is : c.poll_read.result ≡ Ready (Ok c.in-Ready-Ok.n) = search rules in
     read_some _ g.R.Tale.reads c.args.self.now c.make_room.new.self new.self c.deref_mut.result.now new.buf
-    c.in-Ready-Ok.n _ m.reader m.filled m.grows (rw m.asked at c.next_room-self.ensures.most) m.stays m.text m.front
+    c.in-Ready-Ok.n _ m.reader m.filled m.grows (omega (arith, m.asked)) m.stays m.text m.front
     m.held c.deref_mut.ensures.value c.poll_read.auto.buf
     (rw is at e.bound) (omega (arith, c.in-Ready-Ok.n-test)) (rw is at e.ran)
 
