@@ -6,6 +6,7 @@ pub mod consuming;
 pub mod future_marks;
 pub mod merges;
 pub mod needs;
+pub mod needs_futures;
 pub mod readers;
 pub mod reading;
 pub mod sources;
