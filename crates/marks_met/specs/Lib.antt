@@ -1,1 +1,2 @@
 pub mod Registering
+pub mod Unrefused

@@ -7,6 +7,8 @@ pub mod future_marks;
 pub mod merges;
 pub mod needs;
 pub mod needs_futures;
+pub mod needs_merges;
+pub mod needs_sources;
 pub mod readers;
 pub mod reading;
 pub mod sources;
