@@ -1,3 +1,4 @@
 pub mod Held
 pub mod Polled
 pub mod Repeated
+pub mod Unrefused

@@ -6,6 +6,7 @@ pub mod consuming;
 pub mod future_marks;
 pub mod merges;
 pub mod needs;
+pub mod needs_collections;
 pub mod needs_futures;
 pub mod needs_merges;
 pub mod needs_readers;

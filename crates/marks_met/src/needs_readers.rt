@@ -2,18 +2,21 @@
 //! bytes that are there is never pending.
 ghost use Rattle.std.specs.Prelude.{◌≡◌, false, true};
 ghost use Rattle.lite_base.specs.Woken.{HoldsWoken};
+ghost use Rattle.lite_bridge.specs.Known.{NoFault};
 ghost use Rattle.lite_buffered.specs.Budgeted.{budgeted_inner};
 ghost use Rattle.lite_buffered.specs.BufReader.{reader_inner};
 ghost use Rattle.lite_buffered.specs.Chaining.{first_of, has_ended, second_of};
 ghost use Rattle.lite_buffered.specs.Take.{take_inner};
 ghost use Rattle.marks_met.specs.Registering.{TellsAll};
+ghost use Rattle.marks_met.specs.Unrefused.{AmpleWhere};
 
 use lite_base::{SteadyStream, Stream};
-use lite_bridge::{BytesLike, Cursor};
+use lite_bridge::{AssertAsync, BytesLike, Cursor};
 use lite_buffered::{Budgeted, BufReader, Chain, Empty, Repeat, Take};
 use lite_halves::Journal;
-use lite_io_base::{AsyncRead, SteadyRead, Takings};
+use lite_io_base::{AsyncRead, SteadyRead, Takings, Tale};
 use lite_read::Bytes;
+use std::io::Read;
 
 /// Readers of bytes that are there: no call of one asks for memory.
 pub fn readers_alone<'a, T: BytesLike>(
@@ -70,4 +73,9 @@ pub fn bytes_of<R: SteadyRead>(bytes: &Bytes<R>)
 /// A journal of what is read.
 pub fn journalled<R: SteadyRead + Takings + Clone>(journal: &Journal<R>)
     ensures { TellsAll (R.registers journal.now.stream) (⟦<Journal<R> as AsyncRead>⟧.registers journal.now) }
+{}
+
+/// A reader of std: a run in which no read failed is ample.
+pub fn asserted<T: Read>(asserted: &AssertAsync<T>)
+    ensures { AmpleWhere NoFault ⟦<AssertAsync<T> as Tale>⟧.reads ⟦<AssertAsync<T> as SteadyRead>⟧.ample }
 {}

@@ -4,7 +4,7 @@ ghost use Rattle.std.specs.Prelude.{◌≡◌, Some};
 ghost use Rattle.lite_base.specs.Steady.{TakesNone};
 ghost use Rattle.lite_read.specs.NoneRefused.{NoneRefused};
 ghost use Rattle.marks_met.specs.Registering.{TellsAll};
-ghost use Rattle.marks_met.specs.Unrefused.{AmpleWhere};
+ghost use Rattle.marks_met.specs.Unrefused.{AmpleWhere, NoValueRefused};
 
 use lite_base::{Future, SteadyFuture, SteadyStream, Stream};
 use lite_io_base::{AsyncBufRead, AsyncRead, CountedRead, SteadyRead};
@@ -34,7 +34,7 @@ where
         × (R.needs_none → ⟦<ReadExactFuture<'a, R> as SteadyFuture>⟧.needs_none) }
 {}
 
-/// Reads that append to a vector or a string.
+/// Reads that append to a vector or a string: a run without a value of `OutOfMemory` is ample, if each run of the reader is.
 pub fn read_behind<'a, R, A>(
     read_to_end: &ReadToEndFuture<'a, R, A>,
     read_until: &ReadUntilFuture<'a, R>,
@@ -42,7 +42,7 @@ pub fn read_behind<'a, R, A>(
     read_to_string: &ReadToStringFuture<'a, R, A>,
 )
 where
-    R: AsyncBufRead + CountedRead,
+    R: AsyncBufRead + CountedRead + SteadyRead,
     A: Allocator + Copy,
     ensures read_to_end { TellsAll (R.registers read_to_end.now.reader.now)
         (⟦<ReadToEndFuture<'a, R, A> as Future>⟧.registers read_to_end.now) }
@@ -52,6 +52,14 @@ where
         (⟦<ReadLineFuture<'a, R, A> as Future>⟧.registers read_line.now) }
     ensures read_to_string { TellsAll (R.registers read_to_string.now.reader.now)
         (⟦<ReadToStringFuture<'a, R, A> as Future>⟧.registers read_to_string.now) }
+    ensures ample_to_end { TakesNone R.reads R.ample → AmpleWhere NoValueRefused
+        ⟦<ReadToEndFuture<'a, R, A> as Future>⟧.run ⟦<ReadToEndFuture<'a, R, A> as SteadyFuture>⟧.ample }
+    ensures ample_until { TakesNone R.reads R.ample → AmpleWhere NoValueRefused
+        ⟦<ReadUntilFuture<'a, R> as Future>⟧.run ⟦<ReadUntilFuture<'a, R> as SteadyFuture>⟧.ample }
+    ensures ample_line { TakesNone R.reads R.ample → AmpleWhere NoValueRefused
+        ⟦<ReadLineFuture<'a, R, A> as Future>⟧.run ⟦<ReadLineFuture<'a, R, A> as SteadyFuture>⟧.ample }
+    ensures ample_string { TakesNone R.reads R.ample → AmpleWhere NoValueRefused
+        ⟦<ReadToStringFuture<'a, R, A> as Future>⟧.run ⟦<ReadToStringFuture<'a, R, A> as SteadyFuture>⟧.ample }
 {}
 
 /// The lines of a reader, and its pieces: a run without an answer of `OutOfMemory` is ample, if each run of the reader is.
@@ -62,4 +70,6 @@ where
     ensures split { TellsAll (R.registers split.now.reader) (⟦<Split<R> as Stream>⟧.registers split.now) }
     ensures ample_lines { TakesNone R.reads R.ample
         → AmpleWhere NoneRefused ⟦<Lines<R> as Stream>⟧.run ⟦<Lines<R> as SteadyStream>⟧.ample }
+    ensures ample_split { TakesNone R.reads R.ample
+        → AmpleWhere NoneRefused ⟦<Split<R> as Stream>⟧.run ⟦<Split<R> as SteadyStream>⟧.ample }
 {}
