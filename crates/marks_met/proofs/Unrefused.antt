@@ -108,11 +108,12 @@ module _ {A : Type 0} (whole final : List ℕ → Result A Error → Type 0) (by
       segment_gives p q q l (Ready v) (Ready v) (λ m last g. (g.0, item_found m q last g.0 v none g.1 g.2, g.2)) h
 
 pub split_ample : {R : Type 0} {reads ample : Runs ReadMark R} → TakesNone reads ample → (x y : Split R)
-    (out : List (Answer (Result (Vec ℕ Global) Error))) → NoneRefused out → Splits reads ⊤ x out y → Splits ample ⊥ x out y
+    (out : List (Answer (Result (Vec ℕ Global) Error))) → NoneRefused out → Splits reads ⊤ x out y
+    → Splits ample ⊥ x out y
 split_ample all x y out none h =
     let s = h.segmented in
-    let cut = segments_map (AnswerMarks _) (AnswerMarks _) NotRefused (piece_found IsVec IsVec x.byte) _ _ s.marks out none
-    s.cut in
+    let each = piece_found IsVec IsVec x.byte in
+    let cut = segments_map (AnswerMarks _) (AnswerMarks _) NotRefused each _ _ s.marks out none s.cut in
     record {
       segmented = record { marks = s.marks; came = all _ _ s.marks s.came; cut = cut };
       stays = h.stays;

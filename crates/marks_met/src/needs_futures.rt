@@ -47,7 +47,7 @@ where
         × TellsAll (V.registers race.now.future2) (⟦<Race<E, V, G> as Future>⟧.registers race.now) }
 {}
 
-/// A future that is let go once it is ready, and one that is lent.
+/// A future that is dropped once it is ready, and one that is lent.
 pub fn held_futures<'a, E>(fuse: &Fuse<E>, inner: &E, lent: &&'a mut E)
 where
     E: SteadyFuture + Drop,
