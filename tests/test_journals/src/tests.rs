@@ -9,3 +9,4 @@ mod replays;
 mod shown;
 mod steps;
 mod threads;
+mod woken;
