@@ -7,6 +7,7 @@ pub mod future_marks;
 pub mod merges;
 pub mod needs;
 pub mod needs_collections;
+pub mod needs_folders;
 pub mod needs_futures;
 pub mod needs_merges;
 pub mod needs_readers;

@@ -1,6 +1,7 @@
 //! Readers: what a pending has registered, and whether a call asks for memory, follow from what they read. A call of a reader of
 //! bytes that are there is never pending.
 ghost use Rattle.std.specs.Prelude.{◌≡◌, false, true};
+ghost use Rattle.lite_base.specs.Steady.{TakesNone};
 ghost use Rattle.lite_base.specs.Woken.{HoldsWoken};
 ghost use Rattle.lite_bridge.specs.Known.{NoFault};
 ghost use Rattle.lite_buffered.specs.Budgeted.{budgeted_inner};
@@ -70,9 +71,11 @@ pub fn bytes_of<R: SteadyRead>(bytes: &Bytes<R>)
         × (R.needs_none → ⟦<Bytes<R> as SteadyStream>⟧.needs_none) }
 {}
 
-/// A journal of what is read.
+/// A journal of what is read: if its stream ran by the same marks, no call was refused memory, and then its run is ample.
 pub fn journalled<R: SteadyRead + Takings + Clone>(journal: &Journal<R>)
-    ensures { TellsAll (R.registers journal.now.stream) (⟦<Journal<R> as AsyncRead>⟧.registers journal.now) }
+    ensures registers { TellsAll (R.registers journal.now.stream) (⟦<Journal<R> as AsyncRead>⟧.registers journal.now) }
+    ensures ample { TakesNone R.reads R.ample → (a b : _) (marks : _) → ⟦<Journal<R> as Tale>⟧.reads a marks b
+        → R.reads a.stream marks b.stream → ⟦<Journal<R> as SteadyRead>⟧.ample a marks b }
 {}
 
 /// A reader of std: a run in which no read failed is ample.
