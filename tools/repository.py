@@ -1,8 +1,10 @@
 """What the tools share: where the repository is, its crates by the lines of crates.txt, and how a tool stops at bad words."""
 import argparse
+import hashlib
 import os
 import re
 import shutil
+import subprocess
 import sys
 
 TOP = os.path.dirname(os.path.dirname(os.path.abspath(__file__)))
@@ -119,3 +121,30 @@ def lay_program(copy, line):
     """Copies the crates, and the program beside them that the line of crates.txt names as one more; returns its folder in the copy."""
     lay_crates(copy)
     return lay_beside(copy, Crate(line).name, line)
+
+
+def sum_of(crates, name):
+    """The sum of all that a crate's proof reads of this repository."""
+    sum = hashlib.sha256(subprocess.run(["rt", "version"], capture_output=True).stdout)
+    for it in with_below(crates, [name]):
+        sum.update(crates[it].line.encode())
+        for part in PARTS:
+            folder = f"{TOP}/crates/{it}/{part}"
+            for file in files_of(folder):
+                sum.update(file.encode() + b"\0" + open(f"{folder}/{file}", "rb").read())
+    return sum.hexdigest()
+
+
+def made_from(name):
+    """The file with the sum of what the crate's library in out/ was made from, as tools/waits left it."""
+    return f"{TOP}/crates/{name}/out/made_from"
+
+
+def tell_made_from(name, sum):
+    if os.path.isdir(f"{TOP}/crates/{name}/out"):
+        with open(made_from(name), "w", encoding="utf-8") as to:
+            to.write(sum)
+
+
+def is_made_from(name, sum):
+    return os.path.isfile(made_from(name)) and read_text(made_from(name)) == sum

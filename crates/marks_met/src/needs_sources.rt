@@ -52,8 +52,8 @@ where
 
 /// Sources that unfold: the future that is held has registered what it registers.
 pub fn unfolded<T, U, E, F, G, Fut, Fut2>(
-    unfolding: &Unfold<T, F, Fut>,
-    try_unfolding: &TryUnfold<T, G, Fut2>,
+    source: &Unfold<T, F, Fut>,
+    try_source: &TryUnfold<T, G, Fut2>,
     future: &Fut,
     trying: &Fut2,
 )
@@ -63,10 +63,10 @@ where
     Fut2: SteadyFuture<Output = Result<Option<(U, T)>, E>> + Drop,
     F: FnMut(T) -> Fut,
     G: FnMut(T) -> Fut2,
-    ensures unfolding { (unfolding.now.state ≡ Holding.Asked future.now
-        → TellsAll (Fut.registers future.now) (⟦<Unfold<T, F, Fut> as Stream>⟧.registers unfolding.now))
+    ensures source { (source.now.state ≡ Holding.Asked future.now
+        → TellsAll (Fut.registers future.now) (⟦<Unfold<T, F, Fut> as Stream>⟧.registers source.now))
         × (Fut.needs_none → ⟦<Unfold<T, F, Fut> as SteadyStream>⟧.needs_none) }
-    ensures try_unfolding { (try_unfolding.now.state ≡ Holding.Asked trying.now
-        → TellsAll (Fut2.registers trying.now) (⟦<TryUnfold<T, G, Fut2> as Stream>⟧.registers try_unfolding.now))
+    ensures try_source { (try_source.now.state ≡ Holding.Asked trying.now
+        → TellsAll (Fut2.registers trying.now) (⟦<TryUnfold<T, G, Fut2> as Stream>⟧.registers try_source.now))
         × (Fut2.needs_none → ⟦<TryUnfold<T, G, Fut2> as SteadyStream>⟧.needs_none) }
 {}
