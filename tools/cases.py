@@ -1,6 +1,8 @@
 """What the tools share that read cases: their words, and the answers to them."""
 from repository import stop
 
+# What the program of cases prints of words that are no case.
+NO_CASE = "bad words"
 # The words of errors, and all words of a script's marks but chunks.
 ERRORS = ("FO", "FI", "FT", "FM")
 OTHERS = ("P", "E", *ERRORS)

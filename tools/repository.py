@@ -1,5 +1,6 @@
 """What the tools share: where the repository is, its crates by the lines of crates.txt, and how a tool stops at bad words."""
 import argparse
+import functools
 import hashlib
 import os
 import re
@@ -13,8 +14,6 @@ PARTS = ("src", "specs", "proofs")
 FACADE = "futures_lite"
 # The folder of wrong-bodies/ with those that are proved and that tools/waits refuses by a count.
 COUNTED = "counted"
-# How many seconds a program may run that is tried: on a busy machine, beside others.
-PATIENCE = "600"
 # The crates of tests stand below one folder, with their lines.
 TESTS, TEST_LINES = "tests", "tests/lines.txt"
 # The suffixes in a crate of those of a program beside the crates: `rt ci` takes a file of a crate's kind in a crate alone.
@@ -25,6 +24,12 @@ def stop(why):
     """Ends the tool with one line on standard error."""
     print(f"tools/{os.path.basename(sys.argv[0])}: {why}", file=sys.stderr)
     sys.exit(2)
+
+
+def tell_counts(passed, failed):
+    """Prints the last line of a tool of tests, and returns its status."""
+    print(f"{passed} passed, {failed} failed", flush=True)
+    return 1 if failed else 0
 
 
 class Words(argparse.ArgumentParser):
@@ -117,22 +122,35 @@ def lay_beside(copy, folder, line):
     return at
 
 
-def lay_program(copy, line):
-    """Copies the crates, and the program beside them that the line of crates.txt names as one more; returns its folder in the copy."""
-    lay_crates(copy)
-    return lay_beside(copy, Crate(line).name, line)
+@functools.cache
+def toolchain():
+    """The line of the toolchain, as bytes."""
+    return subprocess.run(["rt", "version"], capture_output=True).stdout
+
+
+@functools.cache
+def sum_of_folder(folder):
+    """The sum of the files below a folder, by its path from the top."""
+    found = hashlib.sha256()
+    for file in files_of(f"{TOP}/{folder}"):
+        with open(f"{TOP}/{folder}/{file}", "rb") as read:
+            found.update(f"{file}\0".encode() + read.read())
+    return found.digest()
+
+
+def sum_of_crates(crates, names, parts=PARTS):
+    """The sum of the toolchain, and of these parts of these crates and of those below them."""
+    found = hashlib.sha256(toolchain())
+    for it in with_below(crates, names):
+        found.update(crates[it].line.encode())
+        for part in parts:
+            found.update(sum_of_folder(f"crates/{it}/{part}"))
+    return found.hexdigest()
 
 
 def sum_of(crates, name):
     """The sum of all that a crate's proof reads of this repository."""
-    sum = hashlib.sha256(subprocess.run(["rt", "version"], capture_output=True).stdout)
-    for it in with_below(crates, [name]):
-        sum.update(crates[it].line.encode())
-        for part in PARTS:
-            folder = f"{TOP}/crates/{it}/{part}"
-            for file in files_of(folder):
-                sum.update(file.encode() + b"\0" + open(f"{folder}/{file}", "rb").read())
-    return sum.hexdigest()
+    return sum_of_crates(crates, [name])
 
 
 def made_from(name):

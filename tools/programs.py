@@ -1,0 +1,139 @@
+"""The programs that tools run: each is compiled once, with checks, without a proof and with tools/faults.c, and kept in the user's cache folder.
+
+It is kept by the sum of what it was made from, so that tools that run beside one another, and the next run, share it.
+"""
+import contextlib
+import fcntl
+import hashlib
+import json
+import os
+import re
+import shlex
+import shutil
+import subprocess
+import tempfile
+import time
+from concurrent.futures import ThreadPoolExecutor
+
+from repository import PARTS, TESTS, TEST_LINES, TOP, Crate, crates_in, lay_beside, lay_crates, stop, sum_of_crates, sum_of_folder
+
+FAULTS = f"{TOP}/tools/faults.c"
+# The programs beside the crates, with their lines for crates.txt.
+REPLAY, THROUGHPUT = "replay", "throughput"
+BESIDE = {
+    REPLAY: "replay: futures_lite lite_mock futures itoa rand_core",
+    THROUGHPUT: "throughput may_wait=8: futures_lite futures",
+}
+# A program that no tool ran for so many seconds is removed.
+KEPT_FOR = 3 * 24 * 3600
+# How many seconds a program may run that nothing goes wrong in, on a busy machine.
+PATIENCE = 600
+
+
+class NotBuilt(Exception):
+    """A program was not built; says what the compiler said last."""
+
+
+def place():
+    cache = os.environ.get("XDG_CACHE_HOME") or os.path.expanduser("~/.cache")
+    return f"{cache}/sidzkura-programs"
+
+
+def of_crates():
+    """Returns the names of the crates that are programs."""
+    return [name for name in crates_in(TOP) if os.path.isfile(f"{TOP}/crates/{name}/src/main.rt")]
+
+
+def is_test(name):
+    return name in crates_in(TOP, TEST_LINES)
+
+
+def line_and_folder(name):
+    """Returns a program's line for crates.txt and its folder, from the top."""
+    if name in BESIDE:
+        return BESIDE[name], name
+    return (crates_in(TOP, TEST_LINES)[name].line, f"{TESTS}/{name}") if is_test(name) else (crates_in(TOP)[name].line, f"crates/{name}")
+
+
+def sum_of_program(name):
+    """The sum of all that a program is made from."""
+    line, folder = line_and_folder(name)
+    found = hashlib.sha256(sum_of_crates(crates_in(TOP), Crate(line).below, PARTS[:2]).encode() + line.encode())
+    for part in PARTS[:2]:
+        found.update(sum_of_folder(f"{folder}/{part}"))
+    with open(FAULTS, "rb") as faults:
+        found.update(faults.read())
+    return found.hexdigest()
+
+
+def compile_program(name, kept):
+    """Compiles a program in a copy of the working tree; it leaves itself where it is kept."""
+    with tempfile.TemporaryDirectory(prefix=f"{name}-", dir=place()) as copy:
+        lay_crates(copy)
+        line, folder = line_and_folder(name)
+        at = f"{copy}/crates/{name}" if folder == f"crates/{name}" else lay_beside(copy, folder, line)
+        os.mkdir(f"{at}/c")
+        shutil.copy(FAULTS, f"{at}/c")
+        made = f"{copy}/made"
+        environment = {**os.environ, "RT_ALLOW_C": name, "CFLAGS": f"-Wall -DKEPT={shlex.quote(json.dumps(made))}"}
+        words = ["rt", "try", *["--test"] * is_test(name)]
+        ran = subprocess.run(words, cwd=at, env=environment, stdin=subprocess.DEVNULL, capture_output=True, encoding="utf-8")
+        if not os.path.exists(made):
+            raise NotBuilt(f"{name} was not built:\n{(ran.stdout + ran.stderr)[-3000:]}")
+        os.rename(made, kept)
+
+
+def built(name):
+    """Returns where the program is, once it is compiled. A tool that asks for it meanwhile waits."""
+    os.makedirs(place(), exist_ok=True)
+    kept = f"{place()}/{name}-{sum_of_program(name)}"
+    with open(f"{kept}.lock", "w", encoding="utf-8") as lock:
+        fcntl.flock(lock, fcntl.LOCK_EX)
+        if not os.path.exists(kept):
+            compile_program(name, kept)
+        os.utime(kept)
+    return kept
+
+
+def remove_old():
+    """Removes the programs that no tool ran of late."""
+    with contextlib.suppress(FileNotFoundError):
+        for it in os.scandir(place()):
+            if it.is_file() and it.stat().st_mtime < time.time() - KEPT_FOR:
+                os.remove(it.path)
+
+
+def build(names):
+    """Compiles these programs side by side; returns where each will be, as futures by their names."""
+    remove_old()
+    lanes = ThreadPoolExecutor(len(os.sched_getaffinity(0)))
+    found = {name: lanes.submit(built, name) for name in names}
+    lanes.shutdown(wait=False)
+    return found
+
+
+def environment(program, fault="none:0:0"):
+    """The environment of a run; a fault is as tools/faults.c has it."""
+    return {"FAULT": fault, "TMPDIR": os.path.dirname(program), "ASAN_OPTIONS": "detect_leaks=1"}
+
+
+def run(program, words=(), given=""):
+    """Runs a program in which nothing goes wrong."""
+    how = {"env": environment(program), "input": given, "capture_output": True, "encoding": "utf-8", "errors": "replace"}
+    return subprocess.run([program, *words], timeout=PATIENCE, **how)
+
+
+def tests_in(program):
+    """Returns the names of the tests in a program of tests, which runs one at a time."""
+    return re.findall(r"^(\S+): test$", run(program, ["--list"]).stdout, re.M)
+
+
+def answered(name, words=(), given=""):
+    """Returns the lines that a program prints, and whether it ended well, if not with a line of ours that says so. A program that is not built stops the tool."""
+    try:
+        ran = run(built(name), words, given)
+    except NotBuilt as why:
+        stop(why)
+    if ran.returncode:
+        print(f"{name} ended with status {ran.returncode}:\n{ran.stderr[-3000:]}")
+    return ran.stdout.splitlines(), not ran.returncode
