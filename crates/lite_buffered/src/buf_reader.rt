@@ -361,16 +361,9 @@ impl<R: AsyncSeek> AsyncSeek for BufReader<R> {
     /// them, and then seeks by `offset`. A success drops the bytes that are ahead; a pending and an error keep them,
     /// but for the second of two seeks.
     fn poll_seek(&mut self, cx: &mut Context<'_>, pos: SeekFrom) -> Poll<io::Result<u64>> {
-        let SeekFrom::Current(offset) = pos else {
-            return self.seek_once(cx, pos);
-        };
-        let ahead = (self.end - self.pos) as i64;
-        if let Some(less) = offset.checked_sub(ahead) {
-            return self.seek_once(cx, SeekFrom::Current(less));
-        }
-        match ready!(self.seek_once(cx, SeekFrom::Current(-ahead))) {
-            Ok(_) => self.seek_once(cx, pos),
-            Err(e) => Poll::Ready(Err(e)),
+        match pos {
+            SeekFrom::Current(offset) => self.seek_on(cx, offset),
+            _ => self.seek_once(cx, pos),
         }
     }
 }
@@ -378,7 +371,39 @@ impl<R: AsyncSeek> AsyncSeek for BufReader<R> {
 impl<R: AsyncSeek> BufReader<R> {
     ghost use Rattle.lite_io_base.specs.Kinds.{by_kind};
     ghost use Rattle.lite_buffered.specs.BufReader.{reader_inner};
-    ghost use Rattle.lite_buffered.specs.SeeksThrough.{SeeksOnce};
+    ghost use Rattle.lite_buffered.specs.SeeksThrough.{SeeksOnce, SeeksThrough, SeeksTwice};
+
+    // Seeks from where the bytes come next.
+    #[inline(always)]
+    fn seek_on(&mut self, cx: &mut Context<'_>, offset: i64) -> Poll<io::Result<u64>>
+        ensures sought { SeeksThrough R.seeks self.old (SeekFrom.Current offset) (by_kind result) self.new }
+        ensures left { Registered result (R.seek_registers (reader_inner self.new)) cx.new }
+        ensures kept { Keeps cx.old cx.new }
+    {
+        let ahead = (self.end - self.pos) as i64;
+        if let Some(less) = offset.checked_sub(ahead) {
+            return self.seek_once(cx, SeekFrom::Current(less));
+        }
+        self.seek_twice(cx, SeekFrom::Current(-ahead), SeekFrom::Current(offset))
+    }
+
+    // Seeks the inner reader, and once more if that succeeds.
+    #[inline(always)]
+    fn seek_twice(
+        &mut self,
+        cx: &mut Context<'_>,
+        first: SeekFrom,
+        second: SeekFrom,
+    ) -> Poll<io::Result<u64>>
+        ensures sought { SeeksTwice R.seeks self.old first second (by_kind result) self.new }
+        ensures left { Registered result (R.seek_registers (reader_inner self.new)) cx.new }
+        ensures kept { Keeps cx.old cx.new }
+    {
+        match ready!(self.seek_once(cx, first)) {
+            Ok(_) => self.seek_once(cx, second),
+            Err(e) => Poll::Ready(Err(e)),
+        }
+    }
 
     // Seeks the inner reader, and drops what is ahead if that succeeds.
     fn seek_once(&mut self, cx: &mut Context<'_>, pos: SeekFrom) -> Poll<io::Result<u64>>
