@@ -1,4 +1,4 @@
-ghost use Rattle.std.specs.Prelude.{◌≡◌, ◌+◌, ◌<◌, ◌≤◌, [], Ok, length, max, IfOk, IfErr};
+ghost use Rattle.std.specs.Prelude.{◌≡◌, ◌<◌, ◌≤◌, [], Ok, length, max, min, take, drop, true, false, IfOk, IfErr};
 ghost use Rattle.std.specs.Borrow.{Lends, sem};
 ghost use Rattle.futures.specs.Poll.{IfReady};
 ghost use Rattle.futures.specs.Task.{Keeps};
@@ -104,7 +104,7 @@ impl<R: Drop> BufReader<R> {
 }
 
 impl<R> BufReader<R> {
-    ghost use Rattle.lite_buffered.specs.BufReader.{ahead};
+    ghost use Rattle.lite_buffered.specs.BufReader.{ahead, reader_capacity};
 
     /// The bytes that were read ahead and are not yet taken.
     pub fn buffer(&self) -> &[u8]
@@ -119,15 +119,52 @@ impl<R> BufReader<R> {
         &self.buf[self.pos..self.end]
     }
 
+    // Whether a read into so much room passes the buffer: nothing is ahead, and there is no less room than the capacity.
+    #[inline(always)]
+    fn is_passed(&self, room: usize) -> bool
+        ensures passed { result ≡ true → (ahead self.now ≡ []) × (reader_capacity self.now ≤ room) }
+        ensures used { result ≡ false → ahead self.now ≡ [] → room < reader_capacity self.now }
+    {
+        self.pos == self.end && room >= self.buf.len()
+    }
+
     // Takes the first `amount` bytes of those that are ahead.
+    #[tactic(auto, using(crate::proofs::Ranges::slice_range_advance))]
     fn advance(&mut self, amount: usize)
         requires { amount ≤ length (ahead self.old) }
         ensures inner { self.new.inner ≡ self.old.inner }
-        ensures buf { self.new.buf ≡ self.old.buf }
-        ensures pos { self.new.pos ≡ self.old.pos + amount }
-        ensures end { self.new.end ≡ self.old.end }
+        ensures capacity { reader_capacity self.new ≡ reader_capacity self.old }
+        ensures rest { ahead self.new ≡ drop amount (ahead self.old) }
     {
         self.pos += amount;
+    }
+
+    // Copies what is ahead into `buf` as far as there is room, and takes it.
+    #[inline(always)]
+    #[tactic(auto, using(crate::proofs::Ranges::taken_front))]
+    fn hand_out(&mut self, buf: &mut [u8]) -> usize
+        ensures count { result ≡ min (length (ahead self.old)) (length buf.new) }
+        ensures bytes { take result buf.new ≡ take result (ahead self.old) }
+        ensures inner { self.new.inner ≡ self.old.inner }
+        ensures capacity { reader_capacity self.new ≡ reader_capacity self.old }
+        ensures rest { ahead self.new ≡ drop result (ahead self.old) }
+    {
+        let n = fill_slice(self.show(), buf);
+        self.advance(n);
+        n
+    }
+
+    // Hands out as `hand_out` does, into several buffers.
+    #[inline(always)]
+    fn hand_out_vectored(&mut self, bufs: &mut [IoSliceMut<'_>]) -> usize
+        ensures count { result ≡ min (length (ahead self.old)) (room_in bufs.old) }
+        ensures inner { self.new.inner ≡ self.old.inner }
+        ensures capacity { reader_capacity self.new ≡ reader_capacity self.old }
+        ensures rest { ahead self.new ≡ drop result (ahead self.old) }
+    {
+        let n = fill_slices(self.show(), bufs);
+        self.advance(n);
+        n
     }
 }
 
@@ -153,15 +190,13 @@ impl<R: Takings> Takings for BufReader<R> {
 }
 
 impl<R: AsyncRead> BufReader<R> {
-    ghost use Rattle.lite_buffered.specs.BufReader.{AsksWhereEmpty, PollsOnce, ThroughBuffer, ahead, reader_capacity};
-    ghost use Rattle.lite_buffered.specs.BufReader.{reader_inner};
+    ghost use Rattle.lite_buffered.specs.BufReader.{AsksWhereEmpty, ThroughBuffer, ahead, reader_capacity, reader_inner};
 
     // Reads ahead if nothing is there.
-    #[tactic(auto, using(crate::proofs::Reading::fill_rules, crate::proofs::Polling::polls_rules, crate::proofs::Asking::asks_rules))]
+    #[tactic(auto, using(crate::proofs::Reading::fill_rules, crate::proofs::Asking::asks_rules))]
     fn fill(&mut self, cx: &mut Context<'_>) -> Poll<io::Result<()>>
         ensures ran { ThroughBuffer R.reads self.old (fill_marks result (ahead self.new)) self.new }
         ensures lends { OnlyOkLends result (ahead self.new) }
-        ensures once { PollsOnce R.reads (reader_capacity self.old) self.old.inner self.new.inner }
         ensures asks { AsksWhereEmpty R.reads (reader_capacity self.old) self.old self.new }
         ensures left { Registered result (R.registers (reader_inner self.new)) cx.new }
         ensures kept { Keeps cx.old cx.new }
@@ -171,6 +206,42 @@ impl<R: AsyncRead> BufReader<R> {
         }
         match ready!(self.refill(cx)) {
             Ok(_) => Poll::Ready(Ok(())),
+            Err(e) => Poll::Ready(Err(e)),
+        }
+    }
+
+    // Reads out of the buffer, which is filled if nothing is ahead.
+    #[inline(always)]
+    fn read_ahead(&mut self, cx: &mut Context<'_>, buf: &mut [u8]) -> Poll<io::Result<usize>>
+        requires { 0 < length buf.old }
+        ensures bound { IfReady result (λ r. IfOk r (λ n. n ≤ length buf.new)) }
+        ensures ran { ThroughBuffer R.reads self.old (read_marks result buf.new) self.new }
+        ensures asks { AsksWhereEmpty R.reads (reader_capacity self.old) self.old self.new }
+        ensures left { Registered result (R.registers (reader_inner self.new)) cx.new }
+        ensures kept { Keeps cx.old cx.new }
+    {
+        match ready!(self.fill(cx)) {
+            Ok(()) => Poll::Ready(Ok(self.hand_out(buf))),
+            Err(e) => Poll::Ready(Err(e)),
+        }
+    }
+
+    // Reads as `read_ahead` does, into several buffers.
+    #[inline(always)]
+    fn read_ahead_vectored(
+        &mut self,
+        cx: &mut Context<'_>,
+        bufs: &mut [IoSliceMut<'_>],
+    ) -> Poll<io::Result<usize>>
+        requires { 0 < room_in bufs.old }
+        ensures bound { IfReady result (λ r. IfOk r (λ n. n ≤ room_in bufs.old)) }
+        ensures ran { ReadsInto (ThroughBuffer R.reads) self.old result bufs.old self.new }
+        ensures asks { AsksWhereEmpty R.reads (reader_capacity self.old) self.old self.new }
+        ensures left { Registered result (R.registers (reader_inner self.new)) cx.new }
+        ensures kept { Keeps cx.old cx.new }
+    {
+        match ready!(self.fill(cx)) {
+            Ok(()) => Poll::Ready(Ok(self.hand_out_vectored(bufs))),
             Err(e) => Poll::Ready(Err(e)),
         }
     }
@@ -234,16 +305,10 @@ impl<R: AsyncRead> AsyncRead for BufReader<R> {
         if buf.is_empty() {
             return Poll::Ready(Ok(0));
         }
-        if self.pos == self.end && buf.len() >= self.buf.len() {
+        if self.is_passed(buf.len()) {
             return self.inner.poll_read(cx, buf);
         }
-        match ready!(self.fill(cx)) {
-            Ok(()) => {}
-            Err(e) => return Poll::Ready(Err(e)),
-        }
-        let n = fill_slice(self.show(), buf);
-        self.advance(n);
-        Poll::Ready(Ok(n))
+        self.read_ahead(cx, buf)
     }
 
     #[tactic(auto, using(crate::proofs::Polling::polls_rules, crate::proofs::Asking::asks_rules))]
@@ -281,16 +346,10 @@ impl<R: AsyncRead> AsyncRead for BufReader<R> {
         if total == 0 {
             return Poll::Ready(Ok(0));
         }
-        if self.pos == self.end && total >= self.buf.len() {
+        if self.is_passed(total) {
             return self.inner.poll_read_vectored(cx, bufs);
         }
-        match ready!(self.fill(cx)) {
-            Ok(()) => {}
-            Err(e) => return Poll::Ready(Err(e)),
-        }
-        let n = fill_slices(self.show(), bufs);
-        self.advance(n);
-        Poll::Ready(Ok(n))
+        self.read_ahead_vectored(cx, bufs)
     }
 }
 
@@ -321,7 +380,7 @@ impl<R: AsyncRead> AsyncBufRead for BufReader<R> {
         self.show()
     }
 
-    #[tactic(auto, using(crate::proofs::Ranges::slice_range_advance, crate::proofs::Reading::through_advance))]
+    #[tactic(auto, using(crate::proofs::Reading::through_advance))]
     fn consume(&mut self, amount: usize) {
         self.advance(amount);
     }
