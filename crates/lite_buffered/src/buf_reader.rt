@@ -1,4 +1,4 @@
-ghost use Rattle.std.specs.Prelude.{◌≡◌, ◌<◌, ◌≤◌, [], Ok, length, max, min, take, drop, true, false, IfOk, IfErr};
+ghost use Rattle.std.specs.Prelude.{◌≡◌, ◌<◌, ◌≤◌, [], Ok, length, max, min, take, drop, pos, true, false, IfOk, IfErr};
 ghost use Rattle.std.specs.Borrow.{Lends, sem};
 ghost use Rattle.futures.specs.Poll.{IfReady};
 ghost use Rattle.futures.specs.Task.{Keeps};
@@ -126,6 +126,15 @@ impl<R> BufReader<R> {
         ensures used { result ≡ false → ahead self.now ≡ [] → room < reader_capacity self.now }
     {
         self.pos == self.end && room >= self.buf.len()
+    }
+
+    // How many bytes are ahead, as an offset.
+    #[inline(always)]
+    fn offset_ahead(&self) -> i64
+        ensures count { result ≡ pos (length (ahead self.now)) }
+        ensures small { length (ahead self.now) < 9223372036854775808 }
+    {
+        (self.end - self.pos) as i64
     }
 
     // Takes the first `amount` bytes of those that are ahead.
@@ -439,7 +448,7 @@ impl<R: AsyncSeek> BufReader<R> {
         ensures left { Registered result (R.seek_registers (reader_inner self.new)) cx.new }
         ensures kept { Keeps cx.old cx.new }
     {
-        let ahead = (self.end - self.pos) as i64;
+        let ahead = self.offset_ahead();
         if let Some(less) = offset.checked_sub(ahead) {
             return self.seek_once(cx, SeekFrom::Current(less));
         }
