@@ -2,7 +2,7 @@ ghost use Rattle.std.specs.Prelude.{◌≡◌, ◌<◌, ◌≤◌, [], Ok, lengt
 ghost use Rattle.std.specs.Borrow.{Lends, sem};
 ghost use Rattle.futures.specs.Poll.{IfReady};
 ghost use Rattle.futures.specs.Task.{Keeps};
-ghost use Rattle.lite_io_base.specs.Marks.{count_of, fill_marks, read_marks};
+ghost use Rattle.lite_io_base.specs.Marks.{fill_marks, read_marks};
 ghost use Rattle.lite_io_base.specs.Runs.{OnlyOkLends, ReadsInto, room_in};
 ghost use Rattle.lite_base.specs.Registered.{Registered};
 
@@ -213,8 +213,26 @@ impl<R: AsyncRead> BufReader<R> {
         if self.pos < self.end {
             return Poll::Ready(Ok(()));
         }
-        match ready!(self.refill(cx)) {
-            Ok(_) => Poll::Ready(Ok(())),
+        self.refill(cx)
+    }
+
+    // Reads into the whole buffer, as nothing is ahead.
+    #[tactic(auto, using(crate::proofs::Reading::fill_rules, crate::proofs::Asking::asks_rules))]
+    fn refill(&mut self, cx: &mut Context<'_>) -> Poll<io::Result<()>>
+        requires { ahead self.old ≡ [] }
+        ensures ran { ThroughBuffer R.reads self.old (fill_marks result (ahead self.new)) self.new }
+        ensures lends { OnlyOkLends result (ahead self.new) }
+        ensures asks { AsksWhereEmpty R.reads (reader_capacity self.old) self.old self.new }
+        ensures left { Registered result (R.registers (reader_inner self.new)) cx.new }
+        ensures kept { Keeps cx.old cx.new }
+    {
+        self.pos = 0;
+        self.end = 0;
+        match ready!(self.inner.poll_read(cx, self.buf.as_mut_slice())) {
+            Ok(n) => {
+                self.end = n;
+                Poll::Ready(Ok(()))
+            }
             Err(e) => Poll::Ready(Err(e)),
         }
     }
@@ -253,25 +271,6 @@ impl<R: AsyncRead> BufReader<R> {
             Ok(()) => Poll::Ready(Ok(self.hand_out_vectored(bufs))),
             Err(e) => Poll::Ready(Err(e)),
         }
-    }
-
-    // Reads as much as there is room for into the whole buffer. What was ahead is lost.
-    fn refill(&mut self, cx: &mut Context<'_>) -> Poll<io::Result<usize>>
-        ensures ran { R.reads self.old.inner (read_marks result self.new.buf.items) self.new.inner }
-        ensures bound { IfReady result (λ r. IfOk r (λ n. n ≤ length self.new.buf.items)) }
-        ensures ahead { self.new.pos ≡ 0 }
-        ensures count { self.new.end ≡ count_of result }
-        ensures capacity { length self.new.buf.items ≡ length self.old.buf.items }
-        ensures left { Registered result (R.registers self.new.inner) cx.new }
-        ensures kept { Keeps cx.old cx.new }
-    {
-        self.pos = 0;
-        self.end = 0;
-        let polled = self.inner.poll_read(cx, self.buf.as_mut_slice());
-        if let Poll::Ready(Ok(n)) = &polled {
-            self.end = *n;
-        }
-        polled
     }
 }
 

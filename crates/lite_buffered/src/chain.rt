@@ -233,13 +233,11 @@ fn read_byte<R: AsyncRead>(
     ensures kept { Keeps cx.old cx.new }
 {
     let mut one = [0];
-    match ready!(reader.poll_read(cx, &mut one)) {
-        Ok(n) => {
-            fill_slices(&one[..n], bufs);
-            Poll::Ready(Ok(n))
-        }
-        Err(e) => Poll::Ready(Err(e)),
+    let polled = reader.poll_read(cx, &mut one);
+    if let Poll::Ready(Ok(n)) = &polled {
+        fill_slices(&one[..*n], bufs);
     }
+    polled
 }
 
 impl<R1: AsyncBufRead, R2: AsyncBufRead> Chain<R1, R2> {
