@@ -120,7 +120,6 @@ impl<R1: AsyncRead, R2: AsyncRead> AsyncRead for Chain<R1, R2> {
 
     ghost registers = { ChainReadRegisters R1.registers R2.registers };
 
-    #[tactic(auto, using(crate::proofs::Crossing::crossed, crate::proofs::Ends::no_end_moved))]
     fn poll_read(&mut self, cx: &mut Context<'_>, buf: &mut [u8]) -> Poll<io::Result<usize>>
         ensures bound { IfReady result (λ r. IfOk r (λ n. n ≤ length buf.new)) }
         ensures ran { ChainsReaders R1.reads R2.reads self.old (read_marks result buf.new) self.new }
@@ -133,17 +132,12 @@ impl<R1: AsyncRead, R2: AsyncRead> AsyncRead for Chain<R1, R2> {
         if buf.is_empty() {
             return Poll::Ready(Ok(0));
         }
-        if !self.has_ended {
-            match ready!(self.first.poll_read(cx, buf)) {
-                Ok(0) => self.has_ended = true,
-                Ok(n) => return Poll::Ready(Ok(n)),
-                Err(e) => return Poll::Ready(Err(e)),
-            }
+        if self.has_ended {
+            return self.second.poll_read(cx, buf);
         }
-        self.second.poll_read(cx, buf)
+        self.read_on(cx, buf)
     }
 
-    #[tactic(auto, using(crate::proofs::Crossing::crossed, crate::proofs::Ends::no_end_moved))]
     fn poll_read_vectored(
         &mut self,
         cx: &mut Context<'_>,
@@ -172,7 +166,26 @@ impl<R1: AsyncRead, R2: AsyncRead> Chain<R1, R2> {
     ghost use Rattle.lite_buffered.specs.Chain.{ChainsReaders};
     ghost use Rattle.lite_buffered.specs.Chaining.{ChainReadRegisters, has_ended};
 
-    // Reads the first, and goes on to the second where the first is at its end. `room` is that of the buffers.
+    // Reads the first, and goes on to the second where the first is at its end.
+    #[inline(always)]
+    #[tactic(auto, using(crate::proofs::Crossing::crossed, crate::proofs::Ends::no_end_moved))]
+    fn read_on(&mut self, cx: &mut Context<'_>, buf: &mut [u8]) -> Poll<io::Result<usize>>
+        requires first { has_ended self.old ≡ false }
+        requires some { 0 < length buf.old }
+        ensures bound { IfReady result (λ r. IfOk r (λ n. n ≤ length buf.new)) }
+        ensures ran { ChainsReaders R1.reads R2.reads self.old (read_marks result buf.new) self.new }
+        ensures left { Registered result (ChainReadRegisters R1.registers R2.registers self.new) cx.new }
+        ensures kept { Keeps cx.old cx.new }
+    {
+        match ready!(self.first.poll_read(cx, buf)) {
+            Ok(0) => self.has_ended = true,
+            Ok(n) => return Poll::Ready(Ok(n)),
+            Err(e) => return Poll::Ready(Err(e)),
+        }
+        self.second.poll_read(cx, buf)
+    }
+
+    // Reads as `read_on` does, into several buffers, which have this room.
     #[inline(always)]
     #[tactic(auto, using(crate::proofs::Ends::no_end_moved))]
     fn read_across(
