@@ -1,5 +1,4 @@
 use Rattle.std.proofs.Common.{◌≡◌, ◌≤◌, ◌<◌, Ok, length, take, min, rules, arith, length-take-le}
-use Rattle.std.proofs.lemmas.Grind.{common_steps}
 use Rattle.futures.specs.declared.task.Poll.TheVariants.{Ready}
 use Rattle.lite_io_base.specs.Laws.Runs.{reads_front}
 use Rattle.lite_io_base.specs.Marks.{filled}

@@ -4,7 +4,6 @@ use Rattle.lite_io_base.specs.Marks.{moved}
 use Rattle.std.proofs.lemmas.Grind.{common_steps}
 use Rattle.futures.specs.declared.task.Poll.TheVariants.{Pending, Ready}
 use Rattle.lite_buffered.proofs.Reading.{through_fill, through_past}
-use Rattle.lite_buffered.specs.BufReader.{reader_capacity}
 use Rattle.lite_buffered.proofs.buf_reader.BufReader.refill.Goals as goal
 
 pub returns-clause-ran : goal.returns-clause-ran

@@ -1,5 +1,4 @@
 use Rattle.std.proofs.Common.{◌≡◌, ◌≤◌, ◌<◌, ◌∷◌, [], Ok, refl, rules, arith}
-use Rattle.std.proofs.lemmas.Grind.{common_steps}
 use Rattle.futures.specs.declared.task.Poll.TheVariants.{Ready}
 use Rattle.lite_io_base.specs.Marks.{ReadMark, read_marks}
 use Rattle.lite_io_base.specs.Runs.{room_in}
