@@ -158,7 +158,7 @@ impl<R1: AsyncRead, R2: AsyncRead> AsyncRead for Chain<R1, R2> {
         if self.has_ended {
             return self.second.poll_read_vectored(cx, bufs);
         }
-        self.read_across(cx, bufs, total)
+        self.read_on_vectored(cx, bufs, total)
     }
 }
 
@@ -188,7 +188,7 @@ impl<R1: AsyncRead, R2: AsyncRead> Chain<R1, R2> {
     // Reads as `read_on` does, into several buffers, which have this room.
     #[inline(always)]
     #[tactic(auto, using(crate::proofs::Ends::no_end_moved))]
-    fn read_across(
+    fn read_on_vectored(
         &mut self,
         cx: &mut Context<'_>,
         bufs: &mut [IoSliceMut<'_>],

@@ -3,7 +3,7 @@ use Rattle.futures.specs.declared.task.Poll.TheVariants.{Ready}
 use Rattle.lite_io_base.specs.Marks.{ReadMark, read_marks}
 use Rattle.lite_io_base.specs.Runs.{room_in}
 use Rattle.lite_buffered.proofs.Crossing.{crossed, moved_end}
-use Rattle.lite_buffered.proofs.chain.Chain.read_across.Goals as goal
+use Rattle.lite_buffered.proofs.chain.Chain.read_on_vectored.Goals as goal
 
 pub returns-2-clause-ran : goal.returns-2-clause-ran
 returns-2-clause-ran g c =
