@@ -21,13 +21,14 @@ module _ {R : Type 0} (reads : Runs ReadMark R) (room : ℕ) (x y : BufReader R)
       let some : 0 < room → 0 < length buf = λ more. omega (arith, whole, more) in
       ((λ _. record { answer = r; buf = buf; fits = fits; some = some; ran = ran }), (λ more. some_ahead (ahead x) none more))
 
-  -- bytes are taken of what a fill left
-  pub asks_filled : (z : BufReader R) (space : ℕ) → AsksWhereEmpty reads space x z → space ≡ room → y.inner ≡ z.inner
+  -- a fill asks for as much as the capacity, and nothing where bytes are ahead
+  pub asks_room : (space : ℕ) → (ahead x ≡ [] → space ≡ room) → AsksWhereEmpty reads space x y
       → AsksWhereEmpty reads room x y
-  asks_filled z space h is same = (
-    (λ e. subst (λ v. ReadsOnce reads room x.inner v) (sym same)
-        (subst (λ n. ReadsOnce reads n x.inner z.inner) is (h.0 e))),
-    (λ some. same ∙ h.1 some),
-  )
+  asks_room space is h = ((λ none. subst (λ n. ReadsOnce reads n x.inner y.inner) (is none) (h.0 none)), h.1)
 
-  pub ruleset asks_rules = (asks_none, asks_one, asks_filled)
+  -- bytes are taken of what a fill left
+  pub asks_filled : (z : BufReader R) → AsksWhereEmpty reads room x z → y.inner ≡ z.inner → AsksWhereEmpty reads room x y
+  asks_filled z h same =
+      ((λ none. subst (λ v. ReadsOnce reads room x.inner v) (sym same) (h.0 none)), (λ some. same ∙ h.1 some))
+
+  pub ruleset asks_rules = (asks_none, asks_one, asks_room, asks_filled)

@@ -1,11 +1,11 @@
 -- The poll in which a `Chain` goes on to its second reader.
-use Rattle.std.proofs.Common.{◌≡◌, ◌<◌, ℕ, List, [], ◌∷◌, true, false, refl, length, min, arith, Result, Ok}
+use Rattle.std.proofs.Common.{◌≡◌, ◌<◌, ◌≤◌, ℕ, List, [], ◌∷◌, true, false, refl, length, arith, Result}
 use Rattle.std.specs.declared.io.Error.{Error}
+use Rattle.std.specs.declared.io.slices.IoSliceMut.{IoSliceMut}
 use Rattle.futures.specs.declared.task.Poll.{Poll}
-use Rattle.futures.specs.declared.task.Poll.TheVariants.{Ready}
-use Rattle.lite_io_base.specs.Laws.Runs.{CountsWithin}
-use Rattle.lite_io_base.specs.Marks.{ReadMark, moved}
-use Rattle.lite_io_base.specs.Runs.{MarkLaws}
+use Rattle.lite_io_base.specs.Laws.Runs.{CountsWithin, in_room, within_more}
+use Rattle.lite_io_base.specs.Marks.{ReadMark, moved, read_marks}
+use Rattle.lite_io_base.specs.Runs.{MarkLaws, ReadsInto, room_in}
 use Rattle.lite_buffered.specs.declared.chain.Chain.{Chain}
 use Rattle.lite_buffered.specs.Chain.{ChainsReaders}
 use Rattle.lite_base.specs.Runs.{Runs}
@@ -31,8 +31,10 @@ pub moved_end : (buf : List ℕ) → 0 < length buf → moved buf [] ≡ ReadMar
 moved_end (b ∷ buf) some = refl
 moved_end [] some = absurd (omega (arith, some))
 
--- sums that are cut off at a same number
-pub within_cut : (r : Poll (Result ℕ Error)) (m n most : ℕ) → CountsWithin r m → CountsWithin r most
-    → min m most ≡ min n most → CountsWithin r n
-within_cut (Ready (Ok i)) m n most h k e = omega (arith, h, k, e)
-within_cut r m n most h k e = tt
+-- a read that counts at most so much is one into any buffers that have no less room
+pub reads_wide : {S : Type 0} (run : Runs ReadMark S) (old new : S) (r : Poll (Result ℕ Error)) (buf : List ℕ) (room : ℕ)
+    → 0 < length buf → 0 < room → CountsWithin r (length buf) → CountsWithin r room → run old (read_marks r buf) new
+    → (wide : List IoSliceMut) → room ≤ room_in wide → ReadsInto run old r wide new
+reads_wide run old new r buf room some has within fits ran wide less =
+    let b = in_room r buf (room_in wide) some (omega (arith, has, less)) within (within_more r room _ less fits) in
+    (b.0, b.1, rw b.2 ran)

@@ -1,10 +1,11 @@
 -- A read that polls the inner reader at most once.
-use Rattle.std.proofs.Common.{◌≡◌, ◌≤◌, ℕ, List, [], Result, length, max, refl, sym, subst, inl, inr, arith}
+use Rattle.std.proofs.Common.{◌≡◌, ◌≤◌, ◌<◌, ℕ, List, [], ◌∷◌, Result, length, refl, sym, subst, inl, inr, arith}
 use Rattle.std.specs.declared.io.Error.{Error}
 use Rattle.futures.specs.declared.task.Poll.{Poll}
 use Rattle.lite_io_base.specs.Marks.{ReadMark, read_marks}
 use Rattle.lite_io_base.specs.Runs.{MarkLaws}
-use Rattle.lite_buffered.specs.BufReader.{PollsOnce}
+use Rattle.lite_buffered.specs.BufReader.{AsksWhereEmpty, PollsOnce, ReadsOnce, ahead}
+use Rattle.lite_buffered.specs.declared.buf_reader.BufReader.{BufReader}
 use Rattle.lite_base.specs.Runs.{Runs}
 
 module _ {R : Type 0} (reads : Runs ReadMark R) (most : ℕ) (x y : R) where
@@ -15,21 +16,17 @@ module _ {R : Type 0} (reads : Runs ReadMark R) (most : ℕ) (x y : R) where
       → PollsOnce reads most x y
   polls_one r buf fits ran = record { told = read_marks r buf; ran = ran; one = inr (r, buf, fits, refl) }
 
-  pub polls_within : (fewer : ℕ) → fewer ≤ most → PollsOnce reads fewer x y → PollsOnce reads most x y
-  polls_within fewer within h =
-      record {
-        told = h.told;
-        ran = h.ran;
-        one = elim h.one [
-          | inl none ↦ inl none
-          | inr (r, buf, fits, is) ↦ inr
-              (r, buf, omega (arith, fits, within), is)
-        ];
-      }
+  -- it is asked where nothing of this list is there
+  polls_where : (l : List ℕ) (space : ℕ) → MarkLaws reads → space ≤ most → (l ≡ [] → ReadsOnce reads space x y)
+      → (0 < length l → y ≡ x) → PollsOnce reads most x y
+  polls_where [] space laws within asks rests =
+      let h = asks refl in polls_one h.answer h.buf (omega (arith, h.fits, within)) h.ran
+  polls_where (b ∷ l) space laws within asks rests = polls_none laws (rests (omega arith))
 
--- a read of as much as the buffer has room for
-pub polls_filled : {R : Type 0} (reads : Runs ReadMark R) (capacity room : ℕ) (x y : R) → PollsOnce reads capacity x y
-    → PollsOnce reads (max capacity room) x y
-polls_filled reads capacity room x y h = polls_within reads (max capacity room) x y capacity (omega arith) h
+-- the inner reader is asked where nothing is ahead
+pub polls_asked : {R : Type 0} (reads : Runs ReadMark R) (space most : ℕ) (x y : BufReader R) → MarkLaws reads
+    → space ≤ most → AsksWhereEmpty reads space x y → PollsOnce reads most x.inner y.inner
+polls_asked reads space most x y laws within h =
+    polls_where reads most x.inner y.inner (ahead x) space laws within h.0 h.1
 
-pub ruleset polls_rules = (polls_none, polls_one, polls_filled)
+pub ruleset polls_rules = (polls_none, polls_one, polls_asked)

@@ -1,15 +1,14 @@
 -- What single polls of a `BufReader` do.
-use Rattle.std.proofs.Common.{◌≡◌, ◌∙◌, ℕ, zero, suc, ◌+◌, ◌≤◌, ◌<◌, min, List, [], ◌∷◌, ◌++◌, length, take}
-use Rattle.std.proofs.Common.{slice_range, refl, sym, ap, subst, arith, append-nil, length-take-le, Global}
+use Rattle.std.proofs.Common.{◌≡◌, ◌∙◌, ℕ, zero, suc, ◌≤◌, ◌<◌, min, List, [], ◌∷◌, ◌++◌, length, take}
+use Rattle.std.proofs.Common.{refl, sym, ap, subst, arith, append-nil, length-take-le, take-append-drop, drop}
 use Rattle.std.proofs.Math.Nat.{sub-zero}
 use Rattle.std.proofs.lemmas.List.{map-append}
 use Rattle.lite_io_base.specs.Marks.{ReadMark, bytes, filled, moved}
 use Rattle.lite_io_base.specs.Runs.{MarkLaws}
-use Rattle.std.specs.declared.vec.Vec.{Vec}
 use Rattle.lite_buffered.specs.declared.buf_reader.BufReader.{BufReader}
 use Rattle.lite_buffered.specs.BufReader.{Padded, PassesBuffer, ThroughBuffer, ahead, reader_capacity}
 use Rattle.lite_buffered.specs.Laws.BufReader.{ahead_none, passes_of, through_laws}
-use Rattle.lite_buffered.proofs.Ranges.{length-slice_range, slice_range_none, slice_range_split}
+use Rattle.lite_buffered.proofs.Ranges.{slice_range_none}
 use Rattle.lite_base.specs.Runs.{Runs}
 
 -- nothing is moved into no room
@@ -70,30 +69,22 @@ module _ {R : Type 0} (reads : Runs ReadMark R) (x y : BufReader R) where
       (fill_passes buf (take n buf) (omega (arith, length-take-le n buf fits))) in
       rw shown (record { came = moved buf (take n buf); ran = ran; capacity = same; passes = rw (none, shown) passes })
 
-  advanced : (n : ℕ) → y.buf ≡ x.buf → y.pos ≡ x.pos + n → y.end ≡ x.end → n ≤ length (ahead x)
-      → ahead x ≡ take n (ahead x) ++ ahead y
-  advanced n buf pos end fits =
-      let within : x.pos + n ≤ x.end =
-      omega (arith, length-slice_range x.buf.items x.pos x.end x.in_range.0 x.in_range.1) in
-      let next : ahead y ≡ slice_range x.buf.items (x.pos + n) x.end = rw (buf, pos, end) refl in
-      slice_range_split x.buf.items x.pos x.end n within ∙ ap (λ l. take n (ahead x) ++ l) (sym next)
-
   -- bytes were taken from what is ahead, and nothing else changed
-  pub through_advance : MarkLaws reads → (n : ℕ) → y.inner ≡ x.inner → y.buf ≡ x.buf → y.pos ≡ x.pos + n → y.end ≡ x.end
-      → n ≤ length (ahead x) → ThroughBuffer reads x (bytes (take n (ahead x))) y
-  through_advance laws n inner buf pos end fits =
-      through_taken laws (take n (ahead x)) inner (ap (λ (v : Vec ℕ Global). length v.items) buf)
-      (advanced n buf pos end fits)
+  pub through_advance : MarkLaws reads → (n : ℕ) → y.inner ≡ x.inner → reader_capacity y ≡ reader_capacity x
+      → ahead y ≡ drop n (ahead x) → ThroughBuffer reads x (bytes (take n (ahead x))) y
+  through_advance laws n inner same rest =
+      let cut = sym (take-append-drop n (ahead x)) ∙ ap (λ l. take n (ahead x) ++ l) (sym rest) in
+      through_taken laws (take n (ahead x)) inner same cut
 
 -- a fill, and then a read of the first n bytes of what it lent
 pub fill_then_take : {R : Type 0} {reads : Runs ReadMark R} (laws : MarkLaws reads) (x s y : BufReader R) (n : ℕ)
-    (room : List ℕ) → ThroughBuffer reads x (filled (ahead s)) s → y.inner ≡ s.inner → y.buf ≡ s.buf → y.pos ≡ s.pos + n
-    → y.end ≡ s.end → n ≡ min (length (ahead s)) (length room) → 0 < length room
-    → ThroughBuffer reads x (moved room (take n (ahead s))) y
-fill_then_take {reads = reads} laws x s y n room fills inner buf pos end is some =
+    (room : List ℕ) → ThroughBuffer reads x (filled (ahead s)) s → y.inner ≡ s.inner
+    → reader_capacity y ≡ reader_capacity s → ahead y ≡ drop n (ahead s) → n ≡ min (length (ahead s)) (length room)
+    → 0 < length room → ThroughBuffer reads x (moved room (take n (ahead s))) y
+fill_then_take {reads = reads} laws x s y n room fills inner same rest is some =
     rw (fill_then_read (ahead s) room n is some)
     ((through_laws laws).follows x s y (filled (ahead s)) (bytes (take n (ahead s))) fills
-    (through_advance reads s y laws n inner buf pos end (omega (arith, is))))
+    (through_advance reads s y laws n inner same rest))
 
 -- what a fill is shown by
 pub ruleset fill_rules = (through_fill, through_past, slice_range_none)

@@ -1,8 +1,8 @@
-ghost use Rattle.std.specs.Prelude.{◌≡◌, ◌+◌, ◌<◌, ◌≤◌, [], Ok, length, max, IfOk, IfErr};
+ghost use Rattle.std.specs.Prelude.{◌≡◌, ◌<◌, ◌≤◌, [], Ok, length, max, min, take, drop, pos, true, false, IfOk, IfErr};
 ghost use Rattle.std.specs.Borrow.{Lends, sem};
 ghost use Rattle.futures.specs.Poll.{IfReady};
 ghost use Rattle.futures.specs.Task.{Keeps};
-ghost use Rattle.lite_io_base.specs.Marks.{count_of, fill_marks, read_marks};
+ghost use Rattle.lite_io_base.specs.Marks.{fill_marks, read_marks};
 ghost use Rattle.lite_io_base.specs.Runs.{OnlyOkLends, ReadsInto, room_in};
 ghost use Rattle.lite_base.specs.Registered.{Registered};
 
@@ -104,7 +104,7 @@ impl<R: Drop> BufReader<R> {
 }
 
 impl<R> BufReader<R> {
-    ghost use Rattle.lite_buffered.specs.BufReader.{ahead};
+    ghost use Rattle.lite_buffered.specs.BufReader.{ahead, reader_capacity};
 
     /// The bytes that were read ahead and are not yet taken.
     pub fn buffer(&self) -> &[u8]
@@ -119,15 +119,61 @@ impl<R> BufReader<R> {
         &self.buf[self.pos..self.end]
     }
 
+    // Whether a read into so much room passes the buffer: nothing is ahead, and there is no less room than the capacity.
+    #[inline(always)]
+    fn is_passed(&self, room: usize) -> bool
+        ensures passed { result ≡ true → (ahead self.now ≡ []) × (reader_capacity self.now ≤ room) }
+        ensures used { result ≡ false → ahead self.now ≡ [] → room < reader_capacity self.now }
+    {
+        self.pos == self.end && room >= self.buf.len()
+    }
+
+    // How many bytes are ahead, as an offset.
+    #[inline(always)]
+    fn offset_ahead(&self) -> i64
+        ensures count { result ≡ pos (length (ahead self.now)) }
+        ensures small { length (ahead self.now) < 9223372036854775808 }
+    {
+        (self.end - self.pos) as i64
+    }
+
     // Takes the first `amount` bytes of those that are ahead.
+    #[tactic(auto, using(crate::proofs::Ranges::slice_range_advance))]
     fn advance(&mut self, amount: usize)
         requires { amount ≤ length (ahead self.old) }
         ensures inner { self.new.inner ≡ self.old.inner }
-        ensures buf { self.new.buf ≡ self.old.buf }
-        ensures pos { self.new.pos ≡ self.old.pos + amount }
-        ensures end { self.new.end ≡ self.old.end }
+        ensures capacity { reader_capacity self.new ≡ reader_capacity self.old }
+        ensures rest { ahead self.new ≡ drop amount (ahead self.old) }
     {
         self.pos += amount;
+    }
+
+    // Copies what is ahead into `buf` as far as there is room, and takes it.
+    #[inline(always)]
+    #[tactic(auto, using(crate::proofs::Ranges::taken_front))]
+    fn hand_out(&mut self, buf: &mut [u8]) -> usize
+        ensures count { result ≡ min (length (ahead self.old)) (length buf.new) }
+        ensures bytes { take result buf.new ≡ take result (ahead self.old) }
+        ensures inner { self.new.inner ≡ self.old.inner }
+        ensures capacity { reader_capacity self.new ≡ reader_capacity self.old }
+        ensures rest { ahead self.new ≡ drop result (ahead self.old) }
+    {
+        let n = fill_slice(self.show(), buf);
+        self.advance(n);
+        n
+    }
+
+    // Hands out as `hand_out` does, into several buffers.
+    #[inline(always)]
+    fn hand_out_vectored(&mut self, bufs: &mut [IoSliceMut<'_>]) -> usize
+        ensures count { result ≡ min (length (ahead self.old)) (room_in bufs.old) }
+        ensures inner { self.new.inner ≡ self.old.inner }
+        ensures capacity { reader_capacity self.new ≡ reader_capacity self.old }
+        ensures rest { ahead self.new ≡ drop result (ahead self.old) }
+    {
+        let n = fill_slices(self.show(), bufs);
+        self.advance(n);
+        n
     }
 }
 
@@ -153,15 +199,13 @@ impl<R: Takings> Takings for BufReader<R> {
 }
 
 impl<R: AsyncRead> BufReader<R> {
-    ghost use Rattle.lite_buffered.specs.BufReader.{AsksWhereEmpty, PollsOnce, ThroughBuffer, ahead, reader_capacity};
-    ghost use Rattle.lite_buffered.specs.BufReader.{reader_inner};
+    ghost use Rattle.lite_buffered.specs.BufReader.{AsksWhereEmpty, ThroughBuffer, ahead, reader_capacity, reader_inner};
 
     // Reads ahead if nothing is there.
-    #[tactic(auto, using(crate::proofs::Reading::fill_rules, crate::proofs::Polling::polls_rules, crate::proofs::Asking::asks_rules))]
+    #[tactic(auto, using(crate::proofs::Reading::fill_rules, crate::proofs::Asking::asks_rules))]
     fn fill(&mut self, cx: &mut Context<'_>) -> Poll<io::Result<()>>
         ensures ran { ThroughBuffer R.reads self.old (fill_marks result (ahead self.new)) self.new }
         ensures lends { OnlyOkLends result (ahead self.new) }
-        ensures once { PollsOnce R.reads (reader_capacity self.old) self.old.inner self.new.inner }
         ensures asks { AsksWhereEmpty R.reads (reader_capacity self.old) self.old self.new }
         ensures left { Registered result (R.registers (reader_inner self.new)) cx.new }
         ensures kept { Keeps cx.old cx.new }
@@ -169,29 +213,64 @@ impl<R: AsyncRead> BufReader<R> {
         if self.pos < self.end {
             return Poll::Ready(Ok(()));
         }
-        match ready!(self.refill(cx)) {
-            Ok(_) => Poll::Ready(Ok(())),
-            Err(e) => Poll::Ready(Err(e)),
-        }
+        self.refill(cx)
     }
 
-    // Reads as much as there is room for into the whole buffer. What was ahead is lost.
-    fn refill(&mut self, cx: &mut Context<'_>) -> Poll<io::Result<usize>>
-        ensures ran { R.reads self.old.inner (read_marks result self.new.buf.items) self.new.inner }
-        ensures bound { IfReady result (λ r. IfOk r (λ n. n ≤ length self.new.buf.items)) }
-        ensures ahead { self.new.pos ≡ 0 }
-        ensures count { self.new.end ≡ count_of result }
-        ensures capacity { length self.new.buf.items ≡ length self.old.buf.items }
-        ensures left { Registered result (R.registers self.new.inner) cx.new }
+    // Reads into the whole buffer, as nothing is ahead.
+    #[tactic(auto, using(crate::proofs::Reading::fill_rules, crate::proofs::Asking::asks_rules))]
+    fn refill(&mut self, cx: &mut Context<'_>) -> Poll<io::Result<()>>
+        requires { ahead self.old ≡ [] }
+        ensures ran { ThroughBuffer R.reads self.old (fill_marks result (ahead self.new)) self.new }
+        ensures lends { OnlyOkLends result (ahead self.new) }
+        ensures asks { AsksWhereEmpty R.reads (reader_capacity self.old) self.old self.new }
+        ensures left { Registered result (R.registers (reader_inner self.new)) cx.new }
         ensures kept { Keeps cx.old cx.new }
     {
         self.pos = 0;
         self.end = 0;
-        let polled = self.inner.poll_read(cx, self.buf.as_mut_slice());
-        if let Poll::Ready(Ok(n)) = &polled {
-            self.end = *n;
+        match ready!(self.inner.poll_read(cx, self.buf.as_mut_slice())) {
+            Ok(n) => {
+                self.end = n;
+                Poll::Ready(Ok(()))
+            }
+            Err(e) => Poll::Ready(Err(e)),
         }
-        polled
+    }
+
+    // Reads out of the buffer, which is filled if nothing is ahead.
+    #[inline(always)]
+    fn read_ahead(&mut self, cx: &mut Context<'_>, buf: &mut [u8]) -> Poll<io::Result<usize>>
+        requires { 0 < length buf.old }
+        ensures bound { IfReady result (λ r. IfOk r (λ n. n ≤ length buf.new)) }
+        ensures ran { ThroughBuffer R.reads self.old (read_marks result buf.new) self.new }
+        ensures asks { AsksWhereEmpty R.reads (reader_capacity self.old) self.old self.new }
+        ensures left { Registered result (R.registers (reader_inner self.new)) cx.new }
+        ensures kept { Keeps cx.old cx.new }
+    {
+        match ready!(self.fill(cx)) {
+            Ok(()) => Poll::Ready(Ok(self.hand_out(buf))),
+            Err(e) => Poll::Ready(Err(e)),
+        }
+    }
+
+    // Reads as `read_ahead` does, into several buffers.
+    #[inline(always)]
+    fn read_ahead_vectored(
+        &mut self,
+        cx: &mut Context<'_>,
+        bufs: &mut [IoSliceMut<'_>],
+    ) -> Poll<io::Result<usize>>
+        requires { 0 < room_in bufs.old }
+        ensures bound { IfReady result (λ r. IfOk r (λ n. n ≤ room_in bufs.old)) }
+        ensures ran { ReadsInto (ThroughBuffer R.reads) self.old result bufs.old self.new }
+        ensures asks { AsksWhereEmpty R.reads (reader_capacity self.old) self.old self.new }
+        ensures left { Registered result (R.registers (reader_inner self.new)) cx.new }
+        ensures kept { Keeps cx.old cx.new }
+    {
+        match ready!(self.fill(cx)) {
+            Ok(()) => Poll::Ready(Ok(self.hand_out_vectored(bufs))),
+            Err(e) => Poll::Ready(Err(e)),
+        }
     }
 }
 
@@ -234,16 +313,10 @@ impl<R: AsyncRead> AsyncRead for BufReader<R> {
         if buf.is_empty() {
             return Poll::Ready(Ok(0));
         }
-        if self.pos == self.end && buf.len() >= self.buf.len() {
+        if self.is_passed(buf.len()) {
             return self.inner.poll_read(cx, buf);
         }
-        match ready!(self.fill(cx)) {
-            Ok(()) => {}
-            Err(e) => return Poll::Ready(Err(e)),
-        }
-        let n = fill_slice(self.show(), buf);
-        self.advance(n);
-        Poll::Ready(Ok(n))
+        self.read_ahead(cx, buf)
     }
 
     #[tactic(auto, using(crate::proofs::Polling::polls_rules, crate::proofs::Asking::asks_rules))]
@@ -281,16 +354,10 @@ impl<R: AsyncRead> AsyncRead for BufReader<R> {
         if total == 0 {
             return Poll::Ready(Ok(0));
         }
-        if self.pos == self.end && total >= self.buf.len() {
+        if self.is_passed(total) {
             return self.inner.poll_read_vectored(cx, bufs);
         }
-        match ready!(self.fill(cx)) {
-            Ok(()) => {}
-            Err(e) => return Poll::Ready(Err(e)),
-        }
-        let n = fill_slices(self.show(), bufs);
-        self.advance(n);
-        Poll::Ready(Ok(n))
+        self.read_ahead_vectored(cx, bufs)
     }
 }
 
@@ -321,7 +388,7 @@ impl<R: AsyncRead> AsyncBufRead for BufReader<R> {
         self.show()
     }
 
-    #[tactic(auto, using(crate::proofs::Ranges::slice_range_advance, crate::proofs::Reading::through_advance))]
+    #[tactic(auto, using(crate::proofs::Reading::through_advance))]
     fn consume(&mut self, amount: usize) {
         self.advance(amount);
     }
@@ -361,16 +428,9 @@ impl<R: AsyncSeek> AsyncSeek for BufReader<R> {
     /// them, and then seeks by `offset`. A success drops the bytes that are ahead; a pending and an error keep them,
     /// but for the second of two seeks.
     fn poll_seek(&mut self, cx: &mut Context<'_>, pos: SeekFrom) -> Poll<io::Result<u64>> {
-        let SeekFrom::Current(offset) = pos else {
-            return self.seek_once(cx, pos);
-        };
-        let ahead = (self.end - self.pos) as i64;
-        if let Some(less) = offset.checked_sub(ahead) {
-            return self.seek_once(cx, SeekFrom::Current(less));
-        }
-        match ready!(self.seek_once(cx, SeekFrom::Current(-ahead))) {
-            Ok(_) => self.seek_once(cx, pos),
-            Err(e) => Poll::Ready(Err(e)),
+        match pos {
+            SeekFrom::Current(offset) => self.seek_on(cx, offset),
+            _ => self.seek_once(cx, pos),
         }
     }
 }
@@ -378,7 +438,39 @@ impl<R: AsyncSeek> AsyncSeek for BufReader<R> {
 impl<R: AsyncSeek> BufReader<R> {
     ghost use Rattle.lite_io_base.specs.Kinds.{by_kind};
     ghost use Rattle.lite_buffered.specs.BufReader.{reader_inner};
-    ghost use Rattle.lite_buffered.specs.SeeksThrough.{SeeksOnce};
+    ghost use Rattle.lite_buffered.specs.SeeksThrough.{SeeksOnce, SeeksThrough, SeeksTwice};
+
+    // Seeks from where the bytes come next.
+    #[inline(always)]
+    fn seek_on(&mut self, cx: &mut Context<'_>, offset: i64) -> Poll<io::Result<u64>>
+        ensures sought { SeeksThrough R.seeks self.old (SeekFrom.Current offset) (by_kind result) self.new }
+        ensures left { Registered result (R.seek_registers (reader_inner self.new)) cx.new }
+        ensures kept { Keeps cx.old cx.new }
+    {
+        let ahead = self.offset_ahead();
+        if let Some(less) = offset.checked_sub(ahead) {
+            return self.seek_once(cx, SeekFrom::Current(less));
+        }
+        self.seek_twice(cx, SeekFrom::Current(-ahead), SeekFrom::Current(offset))
+    }
+
+    // Seeks the inner reader, and once more if that succeeds.
+    #[inline(always)]
+    fn seek_twice(
+        &mut self,
+        cx: &mut Context<'_>,
+        first: SeekFrom,
+        second: SeekFrom,
+    ) -> Poll<io::Result<u64>>
+        ensures sought { SeeksTwice R.seeks self.old first second (by_kind result) self.new }
+        ensures left { Registered result (R.seek_registers (reader_inner self.new)) cx.new }
+        ensures kept { Keeps cx.old cx.new }
+    {
+        match ready!(self.seek_once(cx, first)) {
+            Ok(_) => self.seek_once(cx, second),
+            Err(e) => Poll::Ready(Err(e)),
+        }
+    }
 
     // Seeks the inner reader, and drops what is ahead if that succeeds.
     fn seek_once(&mut self, cx: &mut Context<'_>, pos: SeekFrom) -> Poll<io::Result<u64>>

@@ -1,4 +1,5 @@
-ghost use Rattle.std.specs.Prelude.{◌≡◌, ◌≤◌, Ok, length, IfOk, false};
+ghost use Rattle.std.specs.Prelude.{◌≡◌, ◌<◌, ◌≤◌, ℕ, List, Ok, length, min, IfOk, false};
+ghost use Rattle.std.specs.declared.io.slices.IoSliceMut.{IoSliceMut};
 ghost use Rattle.std.specs.Borrow.{Lends, sem};
 ghost use Rattle.futures.specs.Poll.{IfReady};
 ghost use Rattle.futures.specs.Task.{Keeps};
@@ -119,7 +120,6 @@ impl<R1: AsyncRead, R2: AsyncRead> AsyncRead for Chain<R1, R2> {
 
     ghost registers = { ChainReadRegisters R1.registers R2.registers };
 
-    #[tactic(auto, using(crate::proofs::Crossing::crossed, crate::proofs::Ends::no_end_moved))]
     fn poll_read(&mut self, cx: &mut Context<'_>, buf: &mut [u8]) -> Poll<io::Result<usize>>
         ensures bound { IfReady result (λ r. IfOk r (λ n. n ≤ length buf.new)) }
         ensures ran { ChainsReaders R1.reads R2.reads self.old (read_marks result buf.new) self.new }
@@ -132,17 +132,12 @@ impl<R1: AsyncRead, R2: AsyncRead> AsyncRead for Chain<R1, R2> {
         if buf.is_empty() {
             return Poll::Ready(Ok(0));
         }
-        if !self.has_ended {
-            match ready!(self.first.poll_read(cx, buf)) {
-                Ok(0) => self.has_ended = true,
-                Ok(n) => return Poll::Ready(Ok(n)),
-                Err(e) => return Poll::Ready(Err(e)),
-            }
+        if self.has_ended {
+            return self.second.poll_read(cx, buf);
         }
-        self.second.poll_read(cx, buf)
+        self.read_on(cx, buf)
     }
 
-    #[tactic(auto, using(crate::proofs::Crossing::crossed, crate::proofs::Ends::no_end_moved))]
     fn poll_read_vectored(
         &mut self,
         cx: &mut Context<'_>,
@@ -163,25 +158,99 @@ impl<R1: AsyncRead, R2: AsyncRead> AsyncRead for Chain<R1, R2> {
         if self.has_ended {
             return self.second.poll_read_vectored(cx, bufs);
         }
+        self.read_on_vectored(cx, bufs, total)
+    }
+}
+
+impl<R1: AsyncRead, R2: AsyncRead> Chain<R1, R2> {
+    ghost use Rattle.lite_buffered.specs.Chain.{ChainsReaders};
+    ghost use Rattle.lite_buffered.specs.Chaining.{ChainReadRegisters, has_ended};
+
+    // Reads the first, and goes on to the second where the first is at its end.
+    #[inline(always)]
+    #[tactic(auto, using(crate::proofs::Crossing::crossed, crate::proofs::Ends::no_end_moved))]
+    fn read_on(&mut self, cx: &mut Context<'_>, buf: &mut [u8]) -> Poll<io::Result<usize>>
+        requires first { has_ended self.old ≡ false }
+        requires some { 0 < length buf.old }
+        ensures bound { IfReady result (λ r. IfOk r (λ n. n ≤ length buf.new)) }
+        ensures ran { ChainsReaders R1.reads R2.reads self.old (read_marks result buf.new) self.new }
+        ensures left { Registered result (ChainReadRegisters R1.registers R2.registers self.new) cx.new }
+        ensures kept { Keeps cx.old cx.new }
+    {
+        match ready!(self.first.poll_read(cx, buf)) {
+            Ok(0) => self.has_ended = true,
+            Ok(n) => return Poll::Ready(Ok(n)),
+            Err(e) => return Poll::Ready(Err(e)),
+        }
+        self.second.poll_read(cx, buf)
+    }
+
+    // Reads as `read_on` does, into several buffers, which have this room.
+    #[inline(always)]
+    #[tactic(auto, using(crate::proofs::Ends::no_end_moved))]
+    fn read_on_vectored(
+        &mut self,
+        cx: &mut Context<'_>,
+        bufs: &mut [IoSliceMut<'_>],
+        room: usize,
+    ) -> Poll<io::Result<usize>>
+        requires first { has_ended self.old ≡ false }
+        requires some { 0 < room }
+        requires room { room ≡ min (room_in bufs.old) usize.MAX }
+        ensures bound { IfReady result (λ r. IfOk r (λ n. n ≤ room_in bufs.old)) }
+        ensures ran { ReadsInto (ChainsReaders R1.reads R2.reads) self.old result bufs.old self.new }
+        ensures left { Registered result (ChainReadRegisters R1.registers R2.registers self.new) cx.new }
+        ensures kept { Keeps cx.old cx.new }
+    {
         match ready!(self.first.poll_read_vectored(cx, bufs)) {
             Ok(0) => {}
             Ok(count) => return Poll::Ready(Ok(count)),
             Err(e) => return Poll::Ready(Err(e)),
         }
         self.has_ended = true;
-        // No contract says that the first left the buffers' room as it was.
-        if total_room(bufs) == total {
-            return self.second.poll_read_vectored(cx, bufs);
-        }
-        let mut one = [0];
-        match ready!(self.second.poll_read(cx, &mut one)) {
-            Ok(n) => {
-                fill_slices(&one[..n], bufs);
-                Poll::Ready(Ok(n))
-            }
-            Err(e) => Poll::Ready(Err(e)),
-        }
+        read_within(&mut self.second, cx, bufs, room)
     }
+}
+
+// Reads into the buffers if they have this room, and else a byte. Either is a read into any buffers of no less room.
+#[inline(always)]
+fn read_within<R: AsyncRead>(
+    reader: &mut R,
+    cx: &mut Context<'_>,
+    bufs: &mut [IoSliceMut<'_>],
+    room: usize,
+) -> Poll<io::Result<usize>>
+    requires { 0 < room }
+    ensures bound { IfReady result (λ r. IfOk r (λ n. n ≤ room)) }
+    ensures ran { (wide : List IoSliceMut) → room ≤ room_in wide → ReadsInto R.reads reader.old result wide reader.new }
+    ensures left { Registered result (R.registers reader.new) cx.new }
+    ensures kept { Keeps cx.old cx.new }
+{
+    // No contract says that the first left the buffers' room as it was.
+    if total_room(bufs) == room {
+        return reader.poll_read_vectored(cx, bufs);
+    }
+    read_byte(reader, cx, bufs)
+}
+
+// Reads a byte, and puts it into the first of the buffers that has room.
+#[cold]
+fn read_byte<R: AsyncRead>(
+    reader: &mut R,
+    cx: &mut Context<'_>,
+    bufs: &mut [IoSliceMut<'_>],
+) -> Poll<io::Result<usize>>
+    ensures bound { IfReady result (λ r. IfOk r (λ n. n ≤ 1)) }
+    ensures ran { (byte : List ℕ) × (length byte ≡ 1) × R.reads reader.old (read_marks result byte) reader.new }
+    ensures left { Registered result (R.registers reader.new) cx.new }
+    ensures kept { Keeps cx.old cx.new }
+{
+    let mut one = [0];
+    let polled = reader.poll_read(cx, &mut one);
+    if let Poll::Ready(Ok(n)) = &polled {
+        fill_slices(&one[..*n], bufs);
+    }
+    polled
 }
 
 impl<R1: AsyncBufRead, R2: AsyncBufRead> Chain<R1, R2> {
