@@ -1,5 +1,5 @@
 -- A journal with one entry more.
-use Rattle.std.proofs.Common.{◌≡◌, ◌∙◌, ◌≤◌, ◌+◌, ℕ, List, [], ◌∷◌, ◌++◌, ap, sym, refl, subst}
+use Rattle.std.proofs.Common.{◌≡◌, ◌∙◌, ◌≤◌, ◌+◌, ℕ, List, [], ◌∷◌, ◌++◌, ap, arith, sym, refl, subst}
 use Rattle.std.proofs.lemmas.List.{map-append}
 use Rattle.lite_io_base.specs.Parts.{Part, PartRuns}
 use Rattle.lite_io_base.specs.Marks.{ReadMark}
@@ -37,3 +37,17 @@ module _ {T : Type 0} (reads : Runs ReadMark T) (writes : Runs WriteMark T) (cop
         room = left;
       } in
       sound_more reads writes copies a b (n ∷ []) sound (adds_one reads writes adds)
+
+module _ {T : Type 0} (reads : Runs ReadMark T) (writes : Runs WriteMark T) where
+  -- a call that was made once there was room for its entry
+  pub adds_after : (a m b : Chronicle T) (e : Note) → m ≡ record a { room = m.room } → a.room ≤ m.room
+      → Adds reads writes m e b → Adds reads writes a e b
+  adds_after a m b e same more h =
+      let P : T → Type 0 = λ s. PartRuns reads writes s (part_of e.asked e.told) b.stream in
+      record {
+        fits = h.fits;
+        start = h.start ∙ ap (λ (j : Chronicle T). j.start) same;
+        notes = h.notes ∙ ap (λ (j : Chronicle T). j.notes ++ e ∷ []) same;
+        ran = subst P (ap (λ (j : Chronicle T). j.stream) same) h.ran;
+        room = omega (arith, h.room, more);
+      }

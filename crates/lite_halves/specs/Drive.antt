@@ -1,11 +1,12 @@
 -- Calls that are made one after the other until memory is refused.
-use Rattle.std.specs.Prelude.{◌≡◌, ◌<◌, ℕ, List, [], ◌∷◌, ◌++◌, length, slice_index_or, Result, Ok, Err}
+use Rattle.std.specs.Prelude.{◌≡◌, ◌<◌, ℕ, List, [], ◌∷◌, ◌++◌, length, slice_index_or, Option, Some, None, Result, Ok, Err}
 use Rattle.std.specs.declared.alloc.AllocError.{AllocError}
 use Rattle.lite_io_base.specs.Marks.{ReadMark}
 use Rattle.lite_io_base.specs.Takings.{WriteMark}
+use Rattle.lite_halves.specs.declared.entry.Answer.{Answer}
 use Rattle.lite_halves.specs.declared.entry.Call.{Call}
-use Rattle.lite_halves.specs.Entry.{Note, Request, Told, asked_of}
-use Rattle.lite_halves.specs.Journal.{AddsAll, AsksMemory, Chronicle}
+use Rattle.lite_halves.specs.Entry.{Note, Request, Told, asked_of, told_of}
+use Rattle.lite_halves.specs.Journal.{Adds, AddsAll, AsksMemory, Chronicle}
 use Rattle.lite_base.specs.Runs.{Runs}
 
 -- each call with its answer, as far as there are both
@@ -30,3 +31,9 @@ Drives reads writes a asked before r b after =
 -- the call at i asks for memory
 abbrev pub AsksAt : {T : Type 0} → Chronicle T → List Call → ℕ → Type 0
 AsksAt j calls i = (d : Call) → AsksMemory j (asked_of (slice_index_or calls i d))
+
+-- the call was made, with its entry; or it asked for memory, which was refused, and nothing changed
+abbrev pub AddsOrNone : {T : Type 0} → Runs ReadMark T → Runs WriteMark T → Chronicle T → Request → Option Answer
+    → Chronicle T → Type 0
+AddsOrNone reads writes a asked (Some answer) b = Adds reads writes a (record { asked = asked; told = told_of answer }) b
+AddsOrNone reads writes a asked None b = (b ≡ a) × AsksMemory a asked

@@ -1,9 +1,11 @@
 -- A journal: what it began with, what was asked and told since, and what it is now.
-use Rattle.std.specs.Prelude.{◌≡◌, ◌⊎◌, ◌<◌, ◌≤◌, ℕ, ◌+◌, List, [], ◌∷◌, ◌++◌, length, map, Option, Some, None, Result}
+use Rattle.std.specs.Prelude.{◌≡◌, ◌⊎◌, ◌<◌, ◌≤◌, ℕ, ◌+◌, List, [], ◌∷◌, ◌++◌, length, map, Option, Some, None, Result, vec_capacity}
 use Rattle.std.specs.List.{flat_map}
+use Rattle.std.proofs.Common.{Global}
 use Rattle.std.specs.declared.io.Error.{Error}
 use Rattle.std.specs.declared.io.ErrorKind.TheVariants.{OutOfMemory}
 use Rattle.std.specs.declared.io.slices.IoSliceMut.{IoSliceMut}
+use Rattle.std.specs.declared.vec.Vec.{Vec}
 use Rattle.futures.specs.declared.task.Poll.{Poll}
 use Rattle.lite_io_base.specs.Parts.{Part, PartRuns, PartsInOrder}
 use Rattle.lite_io_base.specs.Marks.{ReadMark}
@@ -24,6 +26,13 @@ pub record Chronicle (T : Type 0) : Type 0 where
 -- This call asks for memory: the journal has no room for an entry, or bytes are copied into it.
 abbrev pub AsksMemory : {T : Type 0} → Chronicle T → Request → Type 0
 AsksMemory j asked = (j.room ≡ 0) ⊎ (0 < copied asked)
+
+-- The journal has room for an entry, and there is a vector for so many bytes of it; or memory for these was refused, and
+-- nothing changed.
+abbrev pub MakesRoom : {T : Type 0} → Chronicle T → ℕ → Option (Vec ℕ Global) → Chronicle T → Type 0
+MakesRoom a n (Some v) b =
+    (v.items ≡ []) × (n ≤ vec_capacity v) × (0 < b.room) × (a.room ≤ b.room) × (b ≡ record a { room = b.room })
+MakesRoom a n None b = (b ≡ a) × ((a.room ≡ 0) ⊎ (0 < n))
 
 -- each clone equals its original
 abbrev pub ClonesEqual : {T : Type 0} → (T → T → Type 0) → Type 0

@@ -13,6 +13,7 @@ use Rattle.lite_gather.specs.declared.refused.TryCollectError.{TryCollectError}
 use Rattle.lite_gather.specs.declared.refused.TryCollectError.TheVariants.{Source, Memory}
 use Rattle.lite_io_base.specs.Marks.{ReadMark}
 use Rattle.lite_read.specs.Lines.{GivesLines}
+use Rattle.lite_read.specs.NoneRefused.{NoneRefused}
 use Rattle.lite_read.specs.declared.lines.Lines.{Lines}
 
 -- lines that were read of this reader, from the first line on
@@ -39,6 +40,11 @@ WasFound (Err (Memory m)) = ⊥
 abbrev pub IsFound : {A : Type 0} → Result A Error → Type 0
 IsFound (Ok x) = ⊤
 IsFound (Err e) = error_kind e ≢ OutOfMemory
+
+-- a run of which no answer is a refusal is one in which memory was found
+abbrev pub AmpleUnrefused : {S A : Type 0} → (run ample : Runs (Answer (Result A Error)) S) → Type 0
+AmpleUnrefused {S} {A} run ample =
+    (x y : S) (l : List (Answer (Result A Error))) → NoneRefused l → run x l y → ample x l y
 
 -- nor is any of those that were collected, nor the value
 abbrev pub EachFound : {A E : Type 0} → Result (Vec (Result A Error) Global) E → Type 0

@@ -1,14 +1,16 @@
 //! The lines of two readers that are alike, collected. Wherever either reader was pending, and in whatever pieces its bytes came,
 //! the lines are the same: texts by their bytes, and errors by their kinds. `Err` where there was no memory to sleep on.
+ghost use Rattle.lite_base.specs.Alike.{SameList};
 ghost use Rattle.lite_gather.specs.Agreeing.{SameCollected, TrySameCollected};
 ghost use Rattle.lite_read.specs.Laws.Marks.{SameText};
 ghost use Rattle.lite_read.specs.Deterministic.{SameByKind, SameOr};
-ghost use Rattle.nests_agree.specs.Lines.{EachFound, WasFound};
+ghost use Rattle.nests_agree.specs.Lines.{AmpleUnrefused, EachFound, WasFound};
 ghost use Rattle.std.specs.IoError.{error_kind};
 ghost use Rattle.std.specs.List.{AllZip};
 ghost use Rattle.std.specs.Prelude.{◌≡◌, IfOk};
 
 use crate::lengths::{is_some, length};
+use lite_base::{Counted, SteadyStream};
 use lite_gather::make::{collect, try_collect};
 use lite_gather::{Refused, TryCollectError};
 use lite_io_base::{AsyncBufRead, CountedRead, SteadyRead};
@@ -100,5 +102,24 @@ where
 {
     let lengths = filter(take(map(lines(one, rt.alloc()), length), most), is_some);
     let more = filter(take(map(lines(other, rt.alloc()), length), most), is_some);
-    block_on_both(rt, collect(lengths, rt.alloc()), collect(more, rt.alloc()))
+    gathered_agree(rt, lengths, more)
+}
+
+/// Collects the items of each of two streams that are alike. Where no memory was refused, both hold the same.
+fn gathered_agree<R, S>(
+    rt: &R,
+    one: S,
+    other: S,
+) -> Result<(GatheredLengths, GatheredLengths), AllocError>
+where
+    R: Wait + RandomSource + AllocGlobal,
+    S: SteadyStream<Item = io::Result<usize>> + Counted + Drop,
+    requires can_poll { S.can_poll one × S.can_poll other }
+    requires counts { S.ranks.counts one × S.ranks.counts other }
+    requires alike { S.alike one other }
+    requires found { AmpleUnrefused S.run S.ample }
+    ensures { IfOk result (λ values. EachFound values.0 → EachFound values.1
+        → SameCollected (λ v w. SameList S.same v.items w.items) values.0 values.1) }
+{
+    block_on_both(rt, collect(one, rt.alloc()), collect(other, rt.alloc()))
 }

@@ -40,7 +40,30 @@ where
     let Ok(y) = BufReader::new(rt.alloc(), other) else {
         return Err(AllocError);
     };
-    let mut x = take(chain(x, last), most);
-    let mut y = take(chain(y, last), most);
+    fronts_agree(rt, x, y, last, most, out, out_more)
+}
+
+/// As [`reads_agree`], of readers as they are.
+fn fronts_agree<R, T>(
+    rt: &R,
+    one: T,
+    other: T,
+    last: &[u8],
+    most: u64,
+    out: &mut Vec<u8>,
+    out_more: &mut Vec<u8>,
+) -> Result<(io::Result<usize>, io::Result<usize>), AllocError>
+where
+    R: Wait + RandomSource + AllocGlobal,
+    T: SteadyRead + CountedRead + Drop,
+    requires counts { T.ranks.counts one × T.ranks.counts other }
+    requires alike { T.alike one other }
+    requires found { T.needs_none }
+    ensures { (xs ys : List ℕ) × (out.new.items ≡ out.old.items ++ xs) × (out_more.new.items ≡ out_more.old.items ++ ys)
+        × IfOk result
+        (λ values. HasReadMemory values.0 → HasReadMemory values.1 → SameByKind values.0 values.1 × (xs ≡ ys)) }
+{
+    let mut x = take(chain(one, last), most);
+    let mut y = take(chain(other, last), most);
     read_both(rt, &mut x, &mut y, out, out_more)
 }

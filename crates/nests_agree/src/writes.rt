@@ -59,10 +59,31 @@ where
     let Ok(into_more) = BufWriter::with_capacity(rt.alloc(), 3, writer_more) else {
         return Err(AllocError);
     };
-    let Ok(x) = copy(rt.alloc(), chain(one, last), into) else {
+    chained_agree(rt, one, other, last, into, into_more)
+}
+
+/// As [`copies_agree`], to writers as they are.
+fn chained_agree<R, T, W>(
+    rt: &R,
+    one: T,
+    other: T,
+    last: &[u8],
+    writer: W,
+    writer_more: W,
+) -> Result<(io::Result<u64>, io::Result<u64>), AllocError>
+where
+    R: Wait + RandomSource + AllocGlobal,
+    T: SteadyRead + CountedRead + Drop,
+    W: AsyncWrite + Drop,
+    requires counts { T.ranks.counts one × T.ranks.counts other }
+    requires alike { T.alike one other }
+    requires found { T.needs_none }
+    ensures { IfOk result (λ values. IsOk values.0 → IsOk values.1 → SameByKind values.0 values.1) }
+{
+    let Ok(x) = copy(rt.alloc(), chain(one, last), writer) else {
         return Err(AllocError);
     };
-    let Ok(y) = copy(rt.alloc(), chain(other, last), into_more) else {
+    let Ok(y) = copy(rt.alloc(), chain(other, last), writer_more) else {
         return Err(AllocError);
     };
     block_on_both(rt, x, y)

@@ -1,9 +1,8 @@
 //! A list of calls, made one after the other.
-ghost use Rattle.std.specs.Prelude.{◌≡◌, ◌≤◌, ◌-◌, ◌⊎◌, vec_capacity, vec_len, IfNone, IfSome, OnErr};
+ghost use Rattle.std.specs.Prelude.{◌≡◌, ◌≤◌, ◌-◌, ◌⊎◌, vec_capacity, vec_len, OnErr};
 ghost use Rattle.futures.specs.Task.{Keeps};
-ghost use Rattle.lite_halves.specs.Drive.{AsksAt, Drives};
-ghost use Rattle.lite_halves.specs.Entry.{asked_in, asked_of, told_in, told_of};
-ghost use Rattle.lite_halves.specs.Journal.{Adds, AsksMemory};
+ghost use Rattle.lite_halves.specs.Drive.{AddsOrNone, AsksAt, Drives};
+ghost use Rattle.lite_halves.specs.Entry.{Request, asked_in, asked_of, told_in};
 
 use super::Journal;
 use crate::answers::{buffer_answer, done_answer, write_answer};
@@ -40,25 +39,26 @@ impl<T: AsyncRead + AsyncWrite + Clone> Journal<T> {
 
     /// Makes one call, with its entry. `None`: there was no memory, and nothing was called.
     fn make(&mut self, cx: &mut Context<'_>, call: &Call) -> Option<Answer>
-        ensures added { IfSome result
-            (λ a. Adds T.reads T.writes self.old
-            (record { asked = asked_of call.now; told = told_of a }) self.new) }
-        ensures none { IfNone result (self.new ≡ self.old) }
-        ensures refused { IfNone result (AsksMemory self.old (asked_of call.now)) }
+        ensures made { AddsOrNone T.reads T.writes self.old (asked_of call.now) result self.new }
         ensures kept { Keeps cx.old cx.new }
     {
         match call {
-            Call::Read { room } => {
-                let mut buf = Vec::with_capacity(self.alloc, *room).ok()?;
-                let Ok(()) = buf.resize(*room, 0) else {
-                    unreachable!()
-                };
-                let polled = self.step_read(cx, &mut buf)?;
-                Some(buffer_answer(&polled, buf))
-            }
+            Call::Read { room } => self.make_read(cx, *room),
             Call::Write(bytes) => Some(write_answer(&self.step_write(cx, bytes)?)),
             Call::Flush => Some(done_answer(&self.step_flush(cx)?)),
             Call::Close => Some(done_answer(&self.step_close(cx)?)),
         }
+    }
+
+    fn make_read(&mut self, cx: &mut Context<'_>, room: usize) -> Option<Answer>
+        ensures made { AddsOrNone T.reads T.writes self.old (Request.room room) result self.new }
+        ensures kept { Keeps cx.old cx.new }
+    {
+        let mut buf = Vec::with_capacity(self.alloc, room).ok()?;
+        let Ok(()) = buf.resize(room, 0) else {
+            unreachable!()
+        };
+        let polled = self.step_read(cx, &mut buf)?;
+        Some(buffer_answer(&polled, buf))
     }
 }

@@ -1,5 +1,5 @@
 //! The journal as a reader and a writer.
-ghost use Rattle.std.specs.Prelude.{◌≡◌, ◌≤◌, ◌<◌, ◌+◌, ◌^◌, ◌++◌, ◌∷◌, [], length, IfNone, IfOk, IfSome};
+ghost use Rattle.std.specs.Prelude.{◌≡◌, ◌≤◌, ◌<◌, ◌+◌, ◌^◌, ◌++◌, ◌∷◌, [], length, vec_capacity, IfNone, IfOk, IfSome};
 ghost use Rattle.std.specs.Io.Slices.{io_slices_bytes};
 ghost use Rattle.std.specs.declared.io.ErrorKind.TheVariants.{OutOfMemory};
 ghost use Rattle.futures.specs.Poll.{IfReady};
@@ -11,7 +11,7 @@ ghost use Rattle.lite_io_base.specs.Takings.{WriteMark, done_marks, write_marks}
 ghost use Rattle.lite_io_base.specs.Takings.WriteMark.{closed, flushed};
 ghost use Rattle.lite_halves.specs.Entry.{Request, close_note, flush_note, read_note, write_note};
 ghost use Rattle.lite_halves.specs.Journal.{Adds, AddsOrStays, AddsRead, AddsWrite, AsksMemory, JournalReads};
-ghost use Rattle.lite_halves.specs.Journal.{JournalWrites};
+ghost use Rattle.lite_halves.specs.Journal.{JournalWrites, MakesRoom};
 ghost use Rattle.lite_halves.specs.Laws.Journal.{journals_laws};
 ghost use Rattle.lite_base.specs.Registered.{Registered};
 
@@ -35,10 +35,24 @@ impl<T: Tale + Takings + Clone> Takings for Journal<T> {
     ghost write_laws = { journals_laws T.reads T.writes Part.writing (WriteMark.fault OutOfMemory) };
 }
 
+impl<T: Tale + Takings + Clone> Journal<T> {
+    // Makes room for an entry, and for so many bytes of it.
+    #[inline(always)]
+    fn make_room(&mut self, bytes: usize) -> Option<Vec<u8>>
+        ensures made { MakesRoom self.old bytes result self.new }
+        ensures fits { length self.new.notes < 2 ^ 64 }
+    {
+        let held = Vec::with_capacity(self.alloc, bytes).ok()?;
+        self.entries.reserve(1).ok()?;
+        Some(held)
+    }
+}
+
 impl<T: AsyncRead + Takings + Clone> Journal<T> {
     /// One read with its entry. `None`: there was no memory for the entry, and nothing was called.
     ///
     /// So a refusal is told from an `OutOfMemory` of the stream itself, which `poll_read` answers alike.
+    #[tactic(auto, using(crate::proofs::Noted::adds_after))]
     pub fn step_read(
         &mut self,
         cx: &mut Context<'_>,
@@ -52,14 +66,32 @@ impl<T: AsyncRead + Takings + Clone> Journal<T> {
         ensures none { IfNone result ((self.new ≡ self.old) × (buf.new ≡ buf.old)) }
         ensures refused { IfNone result (AsksMemory self.old (Request.room (length buf.old))) }
     {
+        let bytes = self.make_room(buf.len())?;
+        Some(self.read_noted(cx, buf, bytes))
+    }
+
+    // One read with its entry, whose bytes go into `bytes`.
+    #[inline(always)]
+    fn read_noted(
+        &mut self,
+        cx: &mut Context<'_>,
+        buf: &mut [u8],
+        bytes: Vec<u8>,
+    ) -> Poll<io::Result<usize>>
+        requires room { 0 < self.old.room }
+        requires bytes { (bytes.items ≡ []) × (length buf.old ≤ vec_capacity bytes) }
+        ensures added { Adds T.reads T.writes self.old (read_note result buf.new) self.new }
+        ensures bound { IfReady result (λ r. IfOk r (λ n. n ≤ length buf.new)) }
+        ensures left { Registered result (T.registers self.new.stream) cx.new }
+        ensures kept { Keeps cx.old cx.new }
+        ensures fits { length self.new.notes < 2 ^ 64 }
+    {
         let room = buf.len();
-        let bytes = Vec::with_capacity(self.alloc, room).ok()?;
-        self.entries.reserve(1).ok()?;
         let polled = self.stream.poll_read(cx, buf);
         let answer = read_answer(&polled, bytes, buf);
         let call = Call::Read { room };
         self.entries.push_reserved(Entry { call, answer });
-        Some(polled)
+        polled
     }
 }
 
@@ -67,6 +99,7 @@ impl<T: Tale + AsyncWrite + Clone> Journal<T> {
     /// One write with its entry. `None`: there was no memory for the entry, and nothing was called.
     ///
     /// So a refusal is told from an `OutOfMemory` of the stream itself, as in a flush and a close.
+    #[tactic(auto, using(crate::proofs::Noted::adds_after))]
     pub fn step_write(
         &mut self,
         cx: &mut Context<'_>,
@@ -80,16 +113,34 @@ impl<T: Tale + AsyncWrite + Clone> Journal<T> {
         ensures none { IfNone result (self.new ≡ self.old) }
         ensures refused { IfNone result (AsksMemory self.old (Request.offer buf.now)) }
     {
-        let mut offered = Vec::with_capacity(self.alloc, buf.len()).ok()?;
+        let mut offered = self.make_room(buf.len())?;
         let Ok(()) = offered.extend_from_slice(buf) else {
             unreachable!()
         };
-        self.entries.reserve(1).ok()?;
+        Some(self.write_noted(cx, buf, offered))
+    }
+
+    // One write with its entry, which holds what is offered.
+    #[inline(always)]
+    fn write_noted(
+        &mut self,
+        cx: &mut Context<'_>,
+        buf: &[u8],
+        offered: Vec<u8>,
+    ) -> Poll<io::Result<usize>>
+        requires room { 0 < self.old.room }
+        requires offered { offered.items ≡ buf.now }
+        ensures added { Adds T.reads T.writes self.old (write_note result buf.now) self.new }
+        ensures bound { IfReady result (λ r. IfOk r (λ n. n ≤ length buf.now)) }
+        ensures left { Registered result (T.write_registers self.new.stream) cx.new }
+        ensures kept { Keeps cx.old cx.new }
+        ensures fits { length self.new.notes < 2 ^ 64 }
+    {
         let polled = self.stream.poll_write(cx, buf);
         let answer = write_answer(&polled);
         let call = Call::Write(offered);
         self.entries.push_reserved(Entry { call, answer });
-        Some(polled)
+        polled
     }
 
     /// One flush with its entry. `None`: there was no memory for the entry, and nothing was called.

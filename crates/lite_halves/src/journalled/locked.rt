@@ -1,8 +1,8 @@
 //! What stands under the lock of two journalled halves.
-ghost use Rattle.std.specs.Prelude.{◌≡◌, ◌≤◌, [], length, IfNone, IfOk, IfSome};
+ghost use Rattle.std.specs.Prelude.{◌≡◌, ◌≤◌, [], length, IfOk, IfSome};
 ghost use Rattle.futures.specs.Poll.{IfReady};
 ghost use Rattle.futures.specs.Task.{Keeps};
-ghost use Rattle.lite_halves.specs.Counts.{AddsInside, CountsOn, Makes, booked_in, counted_in, nothing_counted};
+ghost use Rattle.lite_halves.specs.Counts.{AddsInside, CountsCall, booked_in, counted_in, nothing_counted};
 ghost use Rattle.lite_halves.specs.Counts.{numbers_of};
 ghost use Rattle.lite_halves.specs.declared.journalled.tally.Side.TheVariants.{Reading, Writing};
 ghost use Rattle.lite_io_base.specs.Marks.{count_of};
@@ -38,9 +38,7 @@ impl<T: AsyncRead + Takings + Clone, B: Books> Locked<T, B> {
         buf: &mut [u8],
     ) -> Option<Poll<io::Result<usize>>>
         ensures added { IfSome result (λ r. AddsInside T.reads T.writes self.old.journal (read_note r buf.new) self.new.journal) }
-        ensures some { IfSome result (λ r. CountsOn 1 (count_of r) tally.old tally.new) }
-        ensures made { IfSome result (λ r. Makes tally.old (read_note r buf.new) tally.new) }
-        ensures none { IfNone result (tally.new ≡ tally.old) }
+        ensures counted { CountsCall count_of (λ r. read_note r buf.new) tally.old result tally.new }
         ensures bound { IfSome result (λ r. IfReady r (λ a. IfOk a (λ n. n ≤ length buf.new))) }
         ensures kept { Keeps cx.old cx.new }
     {
@@ -63,9 +61,7 @@ impl<T: Tale + AsyncWrite + Clone, B: Books> Locked<T, B> {
     ) -> Option<Poll<io::Result<usize>>>
         ensures added { IfSome result
             (λ r. AddsInside T.reads T.writes self.old.journal (write_note r buf.now) self.new.journal) }
-        ensures some { IfSome result (λ r. CountsOn 1 (count_of r) tally.old tally.new) }
-        ensures made { IfSome result (λ r. Makes tally.old (write_note r buf.now) tally.new) }
-        ensures none { IfNone result (tally.new ≡ tally.old) }
+        ensures counted { CountsCall count_of (λ r. write_note r buf.now) tally.old result tally.new }
         ensures bound { IfSome result (λ r. IfReady r (λ a. IfOk a (λ n. n ≤ length buf.now))) }
         ensures kept { Keeps cx.old cx.new }
     {
@@ -83,9 +79,7 @@ impl<T: Tale + AsyncWrite + Clone, B: Books> Locked<T, B> {
         cx: &mut Context<'_>,
     ) -> Option<Poll<io::Result<()>>>
         ensures added { IfSome result (λ r. AddsInside T.reads T.writes self.old.journal (flush_note r) self.new.journal) }
-        ensures some { IfSome result (λ r. CountsOn 1 0 tally.old tally.new) }
-        ensures made { IfSome result (λ r. Makes tally.old (flush_note r) tally.new) }
-        ensures none { IfNone result (tally.new ≡ tally.old) }
+        ensures counted { CountsCall (λ _. 0) flush_note tally.old result tally.new }
         ensures kept { Keeps cx.old cx.new }
     {
         self.writing.audit(tally);
@@ -102,9 +96,7 @@ impl<T: Tale + AsyncWrite + Clone, B: Books> Locked<T, B> {
         cx: &mut Context<'_>,
     ) -> Option<Poll<io::Result<()>>>
         ensures added { IfSome result (λ r. AddsInside T.reads T.writes self.old.journal (close_note r) self.new.journal) }
-        ensures some { IfSome result (λ r. CountsOn 1 0 tally.old tally.new) }
-        ensures made { IfSome result (λ r. Makes tally.old (close_note r) tally.new) }
-        ensures none { IfNone result (tally.new ≡ tally.old) }
+        ensures counted { CountsCall (λ _. 0) close_note tally.old result tally.new }
         ensures kept { Keeps cx.old cx.new }
     {
         self.writing.audit(tally);

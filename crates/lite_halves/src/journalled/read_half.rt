@@ -1,14 +1,14 @@
 //! The journalled half that reads.
-ghost use Rattle.std.specs.Prelude.{◌≡◌, ◌≤◌, ◌+◌, ◌%◌, ◌^◌, ◌⊎◌, ◌++◌, ◌∷◌, [], length, map, IfNone, IfOk, IfSome};
+ghost use Rattle.std.specs.Prelude.{◌≡◌, ◌≤◌, ◌+◌, ◌%◌, ◌^◌, ◌⊎◌, ◌++◌, ◌∷◌, [], length, map, IfOk};
 ghost use Rattle.futures.specs.Poll.{IfReady};
 ghost use Rattle.futures.specs.Task.{Keeps};
 ghost use Rattle.std.specs.declared.io.ErrorKind.TheVariants.{OutOfMemory};
 ghost use Rattle.lite_io_base.specs.Marks.{ReadMark, count_of, read_marks};
 ghost use Rattle.lite_io_base.specs.Parts.{Part};
 ghost use Rattle.lite_io_base.specs.Runs.{ReadsInto, room_in};
-ghost use Rattle.lite_halves.specs.Counts.{CountsOn, HalfDrives, IsOutOfMemory, Makes, MakesOrStays, MakesRead};
-ghost use Rattle.lite_halves.specs.Counts.{ReadCounts, moved_by, read_bytes_of};
-ghost use Rattle.lite_halves.specs.Entry.{FitsCall, Request, read_note, told_in, told_of};
+ghost use Rattle.lite_halves.specs.Counts.{CountsOrNone, HalfDrives, IsOutOfMemory, MakesOrStays, MakesRead};
+ghost use Rattle.lite_halves.specs.Counts.{ReadCounts, read_bytes_of};
+ghost use Rattle.lite_halves.specs.Entry.{Request, read_note, told_in};
 ghost use Rattle.lite_halves.specs.Laws.Counts.{counts_laws};
 ghost use Rattle.lite_base.specs.Registered.{Registered};
 
@@ -123,10 +123,7 @@ where
 {
     // One read with its entry. `None`: there was no memory for the entry or the answer, and nothing was called.
     fn make(&mut self, cx: &mut Context<'_>, room: usize) -> Option<Answer>
-        ensures some { IfSome result (λ a. CountsOn 1 (moved_by (told_of a)) self.old self.new) }
-        ensures made { IfSome result (λ a. Makes self.old (record { asked = Request.room room; told = told_of a }) self.new) }
-        ensures fits { IfSome result (λ a. FitsCall (Request.room room) (told_of a)) }
-        ensures none { IfNone result (self.new ≡ self.old) }
+        ensures made { CountsOrNone self.old (Request.room room) result self.new }
         ensures kept { Keeps cx.old cx.new }
     {
         let mut buf = vec![in self.rt.alloc(); 0; room].ok()?;

@@ -1,5 +1,5 @@
 //! The journalled half that writes.
-ghost use Rattle.std.specs.Prelude.{◌≡◌, ◌≤◌, ◌+◌, ◌%◌, ◌^◌, ◌⊎◌, ◌++◌, ◌∷◌, [], length, IfNone, IfOk, IfSome};
+ghost use Rattle.std.specs.Prelude.{◌≡◌, ◌≤◌, ◌+◌, ◌%◌, ◌^◌, ◌⊎◌, ◌++◌, ◌∷◌, [], length, IfOk};
 ghost use Rattle.std.specs.Io.Slices.{io_slices_bytes};
 ghost use Rattle.futures.specs.Poll.{IfReady};
 ghost use Rattle.futures.specs.Task.{Keeps};
@@ -8,9 +8,9 @@ ghost use Rattle.std.specs.declared.io.ErrorKind.TheVariants.{OutOfMemory};
 ghost use Rattle.lite_io_base.specs.Parts.{Part};
 ghost use Rattle.lite_io_base.specs.Takings.{WriteMark, done_marks, write_marks};
 ghost use Rattle.lite_io_base.specs.Takings.WriteMark.{closed, flushed};
-ghost use Rattle.lite_halves.specs.Counts.{AllWrites, CountsOn, HalfDrives, IsOutOfMemory, IsWrite, Makes, MakesOrStays};
-ghost use Rattle.lite_halves.specs.Counts.{MakesWrite, WriteCounts, moved_by, taken_bytes_of};
-ghost use Rattle.lite_halves.specs.Entry.{FitsCall, asked_in, asked_of, close_note, flush_note, told_in, told_of, write_note};
+ghost use Rattle.lite_halves.specs.Counts.{AllWrites, CountsOrNone, HalfDrives, IsOutOfMemory, IsWrite, MakesOrStays};
+ghost use Rattle.lite_halves.specs.Counts.{MakesWrite, WriteCounts, taken_bytes_of};
+ghost use Rattle.lite_halves.specs.Entry.{asked_in, asked_of, close_note, flush_note, told_in, write_note};
 ghost use Rattle.lite_halves.specs.Laws.Counts.{counts_laws};
 ghost use Rattle.lite_base.specs.Registered.{Registered};
 
@@ -77,11 +77,7 @@ impl<R: Wait, T: Tale + AsyncWrite + Clone, B: Books> JournalWriteHalf<R, T, B> 
     // One call with its entry. `None`: there was no memory for the entry, and nothing was called.
     fn make(&mut self, cx: &mut Context<'_>, call: &Call) -> Option<Answer>
         requires { IsWrite call.now }
-        ensures some { IfSome result (λ a. CountsOn 1 (moved_by (told_of a)) self.old self.new) }
-        ensures made { IfSome result
-            (λ a. Makes self.old (record { asked = asked_of call.now; told = told_of a }) self.new) }
-        ensures fits { IfSome result (λ a. FitsCall (asked_of call.now) (told_of a)) }
-        ensures none { IfNone result (self.new ≡ self.old) }
+        ensures made { CountsOrNone self.old (asked_of call.now) result self.new }
         ensures kept { Keeps cx.old cx.new }
     {
         let mut locked = self.shared.lock(&self.rt);

@@ -1,17 +1,6 @@
 use Rattle.std.proofs.Common.{[], append-nil, sym}
-use Rattle.std.proofs.lemmas.Result.{IfOk-weaker}
 use Rattle.nests_agree.proofs.reads.reads_agree.Goals as goal
 
 pub returns-in_default-new : goal.returns-in_default-new
 returns-in_default-new g c =
     ([], [], sym (append-nil c.args.out.now.items), sym (append-nil c.args.out_more.now.items), tt)
-
-pub returns : goal.returns
-returns g c =
-    let read = c.read_both.ensures.agree in (
-      read.0,
-      read.1,
-      read.2,
-      read.3,
-      IfOk-weaker c.read_both.result _ _ (λ values both. both.always (c.requires.found, tt)) read.4,
-    )

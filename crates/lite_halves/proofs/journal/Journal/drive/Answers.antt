@@ -12,7 +12,7 @@ pub loop-call-preserved : goal.loop-call-preserved
 loop-call-preserved g c = (
   journal_more g.T.Tale.reads g.T.Takings.writes asked_of c.args.calls.now _ _ _ _ _ _ _ _ _ _ c.call-item.result
       c.loop-call.invariant.0 c.loop-call-test.true (sym c.call-item.is)
-      (rw c.in_ok-answer.ensures.ok_part at c.make.ensures.added)
+      (rw c.in_ok-answer.ensures.ok_part at c.make.ensures.made)
       c.in_ok-reserve.ensures.items c.push_reserved.ensures.items,
   λ fact h. c.make.ensures.kept fact (c.loop-call.invariant.1 fact h),
   omega arith,
@@ -24,6 +24,6 @@ on_any (Err e) h = h
 
 pub returns-in_err-answer-clause-refused : goal.returns-in_err-answer-clause-refused
 returns-in_err-answer-clause-refused g c =
-    let none = c.in_err-answer.ensures.ok_part in
-    on_any _ (inr (asks_at _ _ c.args.calls.now _ _ c.call-item.result (rw none at c.make.ensures.refused)
-    (rw none at c.make.ensures.none) c.call-item.is c.loop-call-test.true (omega arith)))
+    let none = rw c.in_err-answer.ensures.ok_part at c.make.ensures.made in
+    on_any _ (inr (asks_at _ _ c.args.calls.now _ _ c.call-item.result none.1 none.0 c.call-item.is c.loop-call-test.true
+    (omega arith)))
