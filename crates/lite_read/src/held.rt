@@ -7,6 +7,7 @@ ghost use Rattle.lite_io_base.specs.Marks.{bytes as read_bytes};
 ghost use Rattle.lite_read.specs.Holding.{CanTakeIn, HasRoomFor, room_for};
 ghost use Rattle.lite_read.specs.Texts.{AppendsText, ValueOf};
 
+use crate::room::add_zeros;
 use lite_io_base::AsyncBufRead;
 use simdutf8::basic::from_utf8;
 use std::alloc::{AllocError, Allocator};
@@ -73,7 +74,7 @@ pub(crate) fn make_room<A: Allocator + Copy>(
     ensures room { room_for text.old bytes.old ≤ room_for text.new bytes.new }
 {
     prepare(text, bytes, len)?;
-    bytes.resize(len, 0)
+    add_zeros(bytes, len)
 }
 
 // Sees to it that the text can take in `len` bytes. One that is empty takes over their memory, and gives its own for them.
@@ -94,11 +95,22 @@ fn prepare<A: Allocator + Copy>(
     if !text.is_empty() {
         return text.reserve(len);
     }
+    take_memory(text, bytes);
+    Ok(())
+}
+
+// An empty text gives its memory for the first bytes, if that is more than they have.
+#[inline(always)]
+fn take_memory<A: Allocator + Copy>(text: &mut String<A>, bytes: &mut Vec<u8, A>)
+    requires { string_len text.old ≡ 0 }
+    ensures text { string_len text.new ≡ 0 }
+    ensures bytes { bytes.new.items ≡ bytes.old.items }
+    ensures room { room_for text.old bytes.old ≤ vec_capacity bytes.new }
+{
     if bytes.is_empty() && bytes.capacity() < text.capacity() {
         let alloc = *text.allocator();
         *bytes = mem::replace(text, String::new(alloc)).into_bytes();
     }
-    Ok(())
 }
 
 /// The value where reading the bytes gave `read`. They go into the text, if they are text, and none are held then. Where

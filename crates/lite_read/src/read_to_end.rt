@@ -5,7 +5,7 @@ ghost use Rattle.lite_read.specs.Laws.ReadToEnd.{some_falls, steps_on, to_end_ro
 ghost use Rattle.lite_read.specs.ReadToEnd.{ReadsToEndByRoom};
 ghost use Rattle.lite_read.specs.PollSteps.{AnswersByRoom, ReadsSome};
 
-use crate::room::{FIRST_ROOM, next_room};
+use crate::room::{FIRST_ROOM, add_zeros, next_room};
 use lite_base::{Context, Future, Poll, PollSteps, drive};
 use lite_io_base::CountedRead;
 use std::alloc::{AllocError, Allocator, Global};
@@ -46,7 +46,7 @@ impl<R, A: Allocator> ReadToEndFuture<'_, R, A> {
             return Ok(());
         }
         match self.filled.checked_add(self.room.max(FIRST_ROOM)) {
-            Some(len) => self.buf.resize(len, 0),
+            Some(len) => add_zeros(self.buf, len),
             None => Err(AllocError),
         }
     }

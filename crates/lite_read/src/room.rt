@@ -1,5 +1,7 @@
 //! How much room is made for a read.
-ghost use Rattle.std.specs.Prelude.{◌≤◌, ◌*◌, max};
+ghost use Rattle.std.specs.Prelude.{◌≡◌, ◌≤◌, ◌<◌, ◌*◌, length, max, take, vec_capacity, OnErr, OnOk};
+
+use std::alloc::{AllocError, Allocator};
 
 /// How many bytes the first read has room for.
 pub(crate) const FIRST_ROOM: usize = 32;
@@ -14,4 +16,17 @@ pub(crate) fn next_room(room: usize, read: usize, is_full: bool) -> usize
     } else {
         room
     }
+}
+
+/// Adds zeros, so that there are `len` bytes. `Err` says that memory was refused; the bytes stay then.
+#[inline(always)]
+pub(crate) fn add_zeros<A: Allocator>(bytes: &mut Vec<u8, A>, len: usize) -> Result<(), AllocError>
+    requires { length bytes.old.items ≤ len }
+    ensures front { take (length bytes.old.items) bytes.new.items ≡ bytes.old.items }
+    ensures ok { OnOk result (length bytes.new.items ≡ len) }
+    ensures err { OnErr result (bytes.new.items ≡ bytes.old.items) }
+    ensures full { OnErr result (vec_capacity bytes.old < len) }
+    ensures room { vec_capacity bytes.old ≤ vec_capacity bytes.new }
+{
+    bytes.resize(len, 0)
 }

@@ -12,7 +12,7 @@ returns-clause-ran g c =
 pub returns-clause-again : goal.returns-clause-again
 returns-clause-again g c =
     let lent = g.R.AsyncBufRead.lent in
-    text_on line_over read_line_fold (LineLacksMemory lent) g.met.R.CountedRead.counting _ _ c.drive.result
-    c.requires.0
+    text_on line_over read_line_fold (LineLacksMemory lent) g.met.R.CountedRead.counting c.args.self.now c.drive.new.t
+    c.drive.result c.requires.0
     (text_ran line_over read_line_fold (LineLacksMemory lent) (line_room lent) g.R.Tale.read_laws
     c.drive.ensures.stepped)

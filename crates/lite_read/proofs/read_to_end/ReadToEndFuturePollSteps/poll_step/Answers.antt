@@ -13,7 +13,7 @@ returns-then-is_err-clause-stepped g c =
     let m = c.make_room.ensures in
     let x = c.args.self.now in
     let w = c.make_room.new.self in
-    let filled : w.filled ≡ x.filled = ap (λ z. z.filled) m.same in
+    let filled : w.filled ≡ x.filled = λ i. (m.same i).filled in
     let full : vec_capacity x.buf.now < x.filled + max 32 x.room = search (rules, common_steps) in
     gives_value x w
     (refused _ g.R.Tale.read_laws x w c.into.result (0, omega (arith, filled), omega (arith, filled, full)) m.same
@@ -40,7 +40,7 @@ returns-in-Ready-Ok-eq0-clause-stepped g c =
     let end = ends_behind w.filled old new.buf c.deref_mut.ensures.value c.poll_read.auto.buf (search rules) in
     let front = length-take-le w.filled w.buf.now.items m.within in
     let held = length-take-le x.filled x.buf.now.items c.requires.within in
-    let start : w.start ≡ x.start = ap (λ z. z.start) m.same in
+    let start : w.start ≡ x.start = λ i. (m.same i).start in
     let count : length (read_front x) ≡ x.start + (w.filled - w.start) =
     omega (arith, front, ap length m.front, start, c.requires.started, held) in
     gives_value x _

@@ -10,7 +10,7 @@ returns-clause-ran g c =
 
 pub returns-clause-again : goal.returns-clause-again
 returns-clause-again g c =
-    text_on all_over read_to_string_fold (λ x y. StringLacksMemory x) g.met.R.CountedRead.counting _ _
+    text_on all_over read_to_string_fold (λ x y. StringLacksMemory x) g.met.R.CountedRead.counting c.args.self.now c.drive.new.t
     c.drive.result c.requires.0
     (text_ran all_over read_to_string_fold (λ x y. StringLacksMemory x) string_room g.R.Tale.read_laws
     c.drive.ensures.stepped)
