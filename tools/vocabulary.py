@@ -1,4 +1,5 @@
 """The words of the ghost language: the definitions in specs/, each with the comment over it, and the calls whose runs they are."""
+import functools
 import os
 import re
 
@@ -24,6 +25,8 @@ MADE = re.compile(r"^pub fn (?P<name>\w+)[^{;]*?-> (?P<type>[^{]*?)\n?(?:    (?:
 NEW = re.compile(r"^impl\b[^{;]*?\s(?P<type>\w+)(?:<[^{;]*)?\{\n(?:(?!^\}).*\n)*?    pub fn new\(", re.M)
 FUNCTION = re.compile(r"^pub fn (?P<name>\w+)(?P<said>.*?)^\{", re.M | re.S)
 PASSED_ON = re.compile(r"^pub use (?P<path>[\w:]+?)(?:::\{(?P<names>[^}]*)\})?;", re.M | re.S)
+# The module of a crate that passes on what its files import from the crates below.
+USES = "Uses"
 USED = re.compile(r"use Rattle\.(?P<crate>\w+)\.specs\.(?P<module>[\w.]+)\.\{(?P<names>[^}]*)\}")
 
 
@@ -71,9 +74,22 @@ def members():
                     yield trait["name"], found["word"], " ".join(line.strip(" /") for line in above if line.strip().startswith("///"))
 
 
+def used(text):
+    """Yields each ghost name that a text imports, with the crate and the module that it names."""
+    for it in USED.finditer(text):
+        yield from ((name.strip(), (it["crate"], it["module"])) for name in it["names"].split(","))
+
+
+@functools.cache
+def passed_on_in(crate):
+    """Returns where each name is from that a crate's specs/Uses.antt passes on from the crates below."""
+    path = f"{TOP}/crates/{crate}/specs/{USES}.antt"
+    return dict(used(read_text(path))) if os.path.isfile(path) else {}
+
+
 def imported(text):
-    """Returns where each ghost name that a source imports is from: the crate and the module."""
-    return {name.strip(): (it["crate"], it["module"]) for it in USED.finditer(text) for name in it["names"].split(",")}
+    """Returns where each ghost name that a source imports is from: the crate and the module in which it is defined."""
+    return {name: passed_on_in(crate).get(name, (crate, module)) if module == USES else (crate, module) for name, (crate, module) in used(text)}
 
 
 def makers(crate):

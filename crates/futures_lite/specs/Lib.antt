@@ -16,3 +16,4 @@ pub mod Readers
 pub mod Runs
 pub mod Streams
 pub mod Writers
+pub mod Uses

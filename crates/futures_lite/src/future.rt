@@ -1,10 +1,5 @@
 //! Futures: what makes them, and what every future can be combined by.
-ghost use Rattle.std.specs.Prelude.{◌≡◌, IfOk, List, OnErr, Some};
-ghost use Rattle.futures.specs.declared.task.Poll.{Poll};
-ghost use Rattle.lite_base.specs.Answers.{Gives};
-ghost use Rattle.lite_base.specs.Future.Finishes.{Finishes};
-ghost use Rattle.lite_views.specs.Waiting.{LeftAs, LeftSeen};
-ghost use Rattle.lite_views.specs.Views.{HasValue, Seen, Waited};
+ghost use Rattle.futures_lite.specs.Uses.{◌≡◌, IfOk, List, OnErr, Some, Poll, Gives, Finishes, LeftAs, LeftSeen, HasValue, Seen, Waited};
 
 pub use lite_base::Future;
 pub use lite_base::future::block_on::BlockOn;

@@ -1,14 +1,11 @@
 -- A `&mut` that is lent for one call, for a new lifetime within ρ, and comes back at the value that the call left.
-use Rattle.std.proofs.Common.{ℕ, [], ◌∷◌}
+use Rattle.lite_base.specs.Uses.{ℕ, [], ◌∷◌, LentAgain, lends_again, comes_back, RattleType, MutRef}
 use seplogic.Ra.Ura.{Ura}
 use base.Fml.{Fml, Lft, GName, Share, flft, fdead, fres}
 use base.Fraction.{full_share}
 use base.FractionLaws.{common}
 use base.Logic.{SProp, ent, sep, ex, wand, wand_i, apply∗}
 use contract.BorrowLft.{meet_⊑_left}
-use denote.Lend.{LentAgain, lends_again, comes_back}
-use denote.RattleType.{RattleType}
-use denote.Ref.{MutRef}
 use mir.Syntax.{named}
 use mir.Val.{vptr}
 use types.Kit.{‵, raw, ◌⊛◌, later, some, await, updating, show, split, pick, move, use1, use2, use3, now as at_once}

@@ -1,7 +1,5 @@
 -- Runs that differ in when they were pending alone.
-use Rattle.std.specs.Prelude.{◌≡◌, ◌⊎◌, ⊤, List, Option, Some, None, Result, Ok, Err}
-use Rattle.std.specs.List.{AllZip}
-use Rattle.futures.specs.declared.task.Poll.{Poll}
+use Rattle.lite_base.specs.Uses.{◌≡◌, ◌⊎◌, ⊤, List, Option, Some, None, Result, Ok, Err, AllZip, Poll}
 use Rattle.lite_base.specs.Answers.{ComparableBy, strip}
 use Rattle.lite_base.specs.Runs.{Runs}
 

@@ -1,7 +1,5 @@
 -- Streams and futures that are never pending.
-use Rattle.std.specs.Prelude.{⊤, ℕ, ◌+◌, List, [], ◌∷◌}
-use Rattle.futures.specs.declared.task.Poll.{Poll}
-use Rattle.futures.specs.declared.task.Poll.TheVariants.{Ready, Pending}
+use Rattle.lite_base.specs.Uses.{⊤, ℕ, ◌+◌, List, [], ◌∷◌, Poll, Ready, Pending}
 use Rattle.lite_base.specs.Runs.{Runs}
 
 -- no answer is Pending

@@ -1,6 +1,5 @@
 -- What each future's runs meet.
-use Rattle.std.specs.Prelude.{◌≡◌, ◌≤◌, List, [], ◌++◌, length}
-use Rattle.futures.specs.declared.task.Poll.{Poll}
+use Rattle.lite_base.specs.Uses.{◌≡◌, ◌≤◌, List, [], ◌++◌, length, Poll}
 use Rattle.lite_base.specs.Answers.{Waiting, strip}
 use Rattle.lite_base.specs.Runs.{Runs}
 

@@ -20,3 +20,4 @@ pub mod Steady
 pub mod StreamLaws
 pub mod Woken
 pub mod Segments
+pub mod Uses

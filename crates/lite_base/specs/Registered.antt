@@ -1,8 +1,5 @@
 -- What a pending registered in the context that it was polled with.
-use Rattle.futures.specs.Poll.{OnPending}
-use Rattle.futures.specs.Task.{Holds, Lasting}
-use Rattle.futures.specs.declared.task.Poll.{Poll}
-use Rattle.futures.specs.declared.task.context.Context.{Context}
+use Rattle.lite_base.specs.Uses.{OnPending, Holds, Lasting, Poll, Context}
 
 -- where the answer is Pending, the context holds each of these facts
 abbrev pub Registered : {A : Type 0} → Poll A → (Lasting → Type 0) → Context → Type 0

@@ -1,7 +1,5 @@
 -- A source's list is cut into segments, one for each answer that is made of it.
-use Rattle.std.specs.Prelude.{◌≡◌, List, [], ◌∷◌, ◌++◌, map}
-use Rattle.std.specs.List.{FoldsTo}
-use Rattle.futures.specs.declared.task.Poll.{Poll}
+use Rattle.lite_base.specs.Uses.{◌≡◌, List, [], ◌∷◌, ◌++◌, map, FoldsTo, Poll}
 use Rattle.lite_base.specs.Answers.{UpToValue}
 use Rattle.lite_base.specs.Runs.{Question}
 

@@ -1,7 +1,6 @@
 -- Streams and futures whose answers do not depend on when they were pending, where memory was found: the runs in which
 -- it was are the ample ones.
-use Rattle.std.specs.Prelude.{◌≡◌, List}
-use Rattle.futures.specs.declared.task.Poll.{Poll}
+use Rattle.lite_base.specs.Uses.{◌≡◌, List, Poll}
 use Rattle.lite_base.specs.Alike.{AlikeBy, SameAnswer, SameItem, Sameness}
 use Rattle.lite_base.specs.Answers.{Answer}
 use Rattle.lite_base.specs.FutureLaws.{FutureLaws}

@@ -1,6 +1,5 @@
 -- What a context holds to which a poll yielded.
-use Rattle.std.specs.Prelude.{◌≡◌, ◌⊎◌, ℕ}
-use Rattle.futures.specs.Task.{Lasting}
+use Rattle.lite_base.specs.Uses.{◌≡◌, ◌⊎◌, ℕ, Lasting}
 
 -- what a context holds that was woken: the task runs again, and it hears each source
 abbrev pub HoldsWoken : Lasting → Type 0

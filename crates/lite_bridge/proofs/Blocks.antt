@@ -1,27 +1,7 @@
 -- Laws of reads, writes and seeks that wait.
-use Rattle.std.proofs.Common.{◌≡◌, ◌∙◌, ℕ, suc, List, [], ◌∷◌, ap, inl, inr, refl, subst, sym}
-use Rattle.std.specs.Prelude.{◌⊎◌, Err, Ok, Result}
-use Rattle.std.specs.Io.{ReadsAtMost, WritesAtMost}
-use Rattle.std.specs.declared.io.Error.{Error}
-use Rattle.std.specs.declared.io.ErrorKind.{ErrorKind}
-use Rattle.std.specs.declared.io.traits.SeekFrom.{SeekFrom}
-use Rattle.futures.specs.declared.task.Poll.{Poll}
-use Rattle.futures.specs.declared.task.Poll.TheVariants.{Pending, Ready}
-use Rattle.lite_base.specs.Answers.{Gives}
-use Rattle.lite_base.specs.Runs.{Runs}
-use Rattle.lite_io_base.specs.Kinds.{by_kind}
-use Rattle.lite_io_base.specs.Marks.{ReadMark, fill_marks, read_marks}
-use Rattle.lite_io_base.specs.Runs.{MarkLaws}
-use Rattle.lite_io_base.specs.Takings.{WriteMark, done_marks, write_marks}
-use Rattle.lite_read.specs.Polled.{PolledByCalls}
-use Rattle.lite_read.specs.Read.{Reads}
-use Rattle.lite_read.specs.Seek.{Seeks}
-use Rattle.lite_read.specs.declared.read.ReadFuture.{ReadFuture}
-use Rattle.lite_read.specs.declared.seek.SeekFuture.{SeekFuture}
-use Rattle.lite_write.specs.Flush.{Flushes}
-use Rattle.lite_write.specs.Write.{Writes}
-use Rattle.lite_write.specs.declared.flush.FlushFuture.{FlushFuture}
-use Rattle.lite_write.specs.declared.write.WriteFuture.{WriteFuture}
+use Rattle.lite_bridge.specs.Uses.{◌≡◌, ◌∙◌, ℕ, suc, List, [], ◌∷◌, ap, inl, inr, refl, subst, sym, ◌⊎◌, Err, Ok, Result, ReadsAtMost, WritesAtMost, Error}
+use Rattle.lite_bridge.specs.Uses.{ErrorKind, SeekFrom, Poll, Pending, Ready, Gives, Runs, by_kind, ReadMark, fill_marks, read_marks, MarkLaws, WriteMark}
+use Rattle.lite_bridge.specs.Uses.{done_marks, write_marks, PolledByCalls, Reads, Seeks, ReadFuture, SeekFuture, Flushes, Writes, FlushFuture, WriteFuture}
 use Rattle.lite_bridge.specs.Filling.{FillsLent}
 use Rattle.lite_bridge.proofs.Waits.{gave_blocks, gave_last, gave_stays, read_at_most, refused_reads}
 use Rattle.lite_bridge.proofs.Waits.{refused_writes}

@@ -1,12 +1,7 @@
 -- A seek of a buffered reader over a cursor is one of the bare cursor.
-use Rattle.std.proofs.Common.{◌≡◌, ◌∙◌, ◌<◌, ◌^◌, ℕ, pos, ◌-◌, ◌-ℤ◌, List, [], length, take, Option, Some, None, Ok}
-use Rattle.std.proofs.Common.{inl, inr, refl, sym, ap, subst, arith}
-use Rattle.std.specs.declared.io.traits.SeekFrom.{SeekFrom}
-use Rattle.std.specs.declared.io.traits.SeekFrom.TheVariants.{Start, End, Current}
-use Rattle.futures.specs.declared.task.Poll.TheVariants.{Ready}
-use Rattle.lite_buffered.specs.declared.buf_reader.BufReader.{BufReader}
-use Rattle.lite_buffered.specs.BufReader.{ahead, reader_capacity, reader_inner}
-use Rattle.lite_buffered.specs.SeeksThrough.{AheadAfter, IsUnsuccessful, SeekAnswer, SeeksOnce, SeeksThrough}
+use Rattle.lite_bridge.specs.Uses.{◌≡◌, ◌∙◌, ◌<◌, ◌^◌, ℕ, pos, ◌-◌, ◌-ℤ◌, List, [], length, take, Option, Some, None, Ok, inl, inr, refl, sym, ap, subst, arith}
+use Rattle.lite_bridge.specs.Uses.{SeekFrom, Start, End, Current, Ready, BufReader, ahead, reader_capacity, reader_inner, AheadAfter, IsUnsuccessful}
+use Rattle.lite_bridge.specs.Uses.{SeekAnswer, SeeksOnce, SeeksThrough}
 use Rattle.lite_bridge.specs.declared.cursor.Cursor.{Cursor}
 use Rattle.lite_bridge.specs.Cursor.{CursorSeeks, Lands, at_offset, at_place, bytes_left, cursor_inner as value_of}
 use Rattle.lite_bridge.specs.Cursor.{position_of, target}

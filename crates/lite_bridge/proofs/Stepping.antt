@@ -1,16 +1,11 @@
 -- A read of a buffered reader over a cursor is one of the bare cursor.
-use Rattle.std.proofs.Common.{◌≡◌, ◌∙◌, ◌≤◌, ◌<◌, ◌^◌, ℕ, suc, ◌+◌, ◌-◌, List, [], ◌∷◌, ◌++◌, length, take, refl}
-use Rattle.std.proofs.Common.{sym, ap, subst, arith, length-take, length-drop}
-use Rattle.lite_io_base.specs.Laws.Steps.{steps_follow, steps_split}
+use Rattle.lite_bridge.specs.Uses.{◌≡◌, ◌∙◌, ◌≤◌, ◌<◌, ◌^◌, ℕ, suc, ◌+◌, ◌-◌, List, [], ◌∷◌, ◌++◌, length, take, refl, sym, ap, subst, arith, length-take}
+use Rattle.lite_bridge.specs.Uses.{length-drop, steps_follow, steps_split, BufReader, ThroughBuffer, ahead, reader_capacity, reader_inner, passes_some, Runs}
 use Rattle.lite_io_base.specs.Marks.{ReadMark, bytes as marks_of}
-use Rattle.lite_buffered.specs.declared.buf_reader.BufReader.{BufReader}
-use Rattle.lite_buffered.specs.BufReader.{ThroughBuffer, ahead, reader_capacity, reader_inner}
 use Rattle.lite_bridge.specs.declared.cursor.Cursor.{Cursor}
 use Rattle.lite_bridge.specs.Cursor.{CursorReads, ReadStep, at_place, bytes_left, cursor_inner as value_of, position_of}
 use Rattle.lite_bridge.specs.Laws.Cursor.{cursor_taken}
 use Rattle.lite_bridge.specs.Logical.{IsInStep, logical}
-use Rattle.lite_buffered.specs.Laws.BufReader.{passes_some}
-use Rattle.lite_base.specs.Runs.{Runs}
 
 module _ {T : Type 0} (bytes : T → List ℕ) where
   abbrev moves : Runs ReadMark (Cursor T)

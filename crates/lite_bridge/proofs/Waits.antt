@@ -1,15 +1,6 @@
 -- Laws of calls that wait.
-use Rattle.std.proofs.Common.{◌≡◌, ◌≤◌, ◌∙◌, ℕ, suc, List, [], ◌∷◌, ◌++◌, length, length-take-le, ap, inl, inr}
-use Rattle.std.proofs.Common.{sym}
-use Rattle.std.specs.Prelude.{◌⊎◌, Result, Ok, Err, IfOk, replicate}
-use Rattle.std.specs.Io.{ReadsAtMost, WritesAtMost}
-use Rattle.std.specs.declared.io.Error.{Error}
-use Rattle.futures.specs.declared.task.Poll.{Poll}
-use Rattle.futures.specs.declared.task.Poll.TheVariants.{Pending, Ready}
-use Rattle.lite_base.specs.Answers.{Gives}
-use Rattle.lite_base.specs.Runs.{Runs}
-use Rattle.lite_io_base.specs.Runs.{MarkLaws}
-use Rattle.lite_read.specs.Polled.{PolledByCalls}
+use Rattle.lite_bridge.specs.Uses.{◌≡◌, ◌≤◌, ◌∙◌, ℕ, suc, List, [], ◌∷◌, ◌++◌, length, length-take-le, ap, inl, inr, sym, ◌⊎◌, Result, Ok, Err, IfOk, replicate}
+use Rattle.lite_bridge.specs.Uses.{ReadsAtMost, WritesAtMost, Error, Poll, Pending, Ready, Gives, Runs, MarkLaws, PolledByCalls}
 use Rattle.lite_bridge.specs.Waits.{Blocks, GaveOrRefused, NoMemoryToWait}
 
 module _ {F A : Type 0} (call : F → Poll (Result A Error) → F → Type 0) where

@@ -1,16 +1,8 @@
 -- What is polled, as std's traits know it.
-use Rattle.std.specs.Prelude.{◌≡◌, Result, IsErrAnd}
-use Rattle.std.specs.Fn.{Once}
-use Rattle.std.specs.IoError.{error_kind}
-use Rattle.std.specs.declared.io.Error.{Error}
-use Rattle.std.specs.declared.io.ErrorKind.TheVariants.{WouldBlock}
+use Rattle.lite_bridge.specs.Uses.{◌≡◌, Result, IsErrAnd, Once, error_kind, Error, WouldBlock, Lasting, Context, Poll, Ready, Pending, Registered}
 use denote.Ref.{MutBor}
-use Rattle.futures.specs.Task.{Keeps, Lasting}
-use Rattle.futures.specs.declared.task.context.Context.{Context}
-use Rattle.futures.specs.declared.task.Poll.{Poll}
-use Rattle.futures.specs.declared.task.Poll.TheVariants.{Ready, Pending}
+use Rattle.futures.specs.Task.{Keeps}
 use Rattle.lite_bridge.specs.declared.async_as_sync.AsyncAsSync.{AsyncAsSync}
-use Rattle.lite_base.specs.Registered.{Registered}
 
 module _ {A : Type 0} where
   -- an answer is handed on, and a pending is an error

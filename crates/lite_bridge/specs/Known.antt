@@ -1,17 +1,6 @@
 -- What reads and writes of std tell of bytes that are known.
-use Rattle.std.specs.Prelude.{◌≡◌, ℕ, List, [], ◌∷◌, Option, None, Some, Result, ⊤}
-use Rattle.std.specs.Io.KnownBytes.{Keeps}
-use Rattle.std.specs.Io.Seek.{SeekMoves}
-use Rattle.std.specs.declared.io.ErrorKind.{ErrorKind}
-use Rattle.std.specs.declared.io.traits.SeekFrom.{SeekFrom}
-use Rattle.futures.specs.declared.task.Poll.{Poll}
-use Rattle.futures.specs.declared.task.Poll.TheVariants.{Ready, Pending}
-use Rattle.lite_io_base.specs.Grows.{GrowsWhere}
-use Rattle.lite_io_base.specs.Marks.{ReadMark}
-use Rattle.lite_io_base.specs.Steady.{NoPendingRead}
-use Rattle.lite_io_base.specs.SteadyWrite.{NoPendingWrite}
-use Rattle.lite_io_base.specs.Takings.{WriteMark}
-use Rattle.lite_base.specs.Runs.{Runs}
+use Rattle.lite_bridge.specs.Uses.{◌≡◌, ℕ, List, [], ◌∷◌, Option, None, Some, Result, ⊤, Keeps, SeekMoves, ErrorKind, SeekFrom, Poll, Ready, Pending}
+use Rattle.lite_bridge.specs.Uses.{GrowsWhere, ReadMark, NoPendingRead, NoPendingWrite, WriteMark, Runs}
 
 -- reads give the bytes xs in their order, an end only where none is left, and errors anywhere; ys is what is left
 abbrev pub SpendsBytes : Runs ReadMark (List ℕ)

@@ -1,15 +1,6 @@
 -- Calls that wait until a poll is ready.
-use Rattle.std.specs.Prelude.{◌≡◌, ◌⊎◌, ℕ, zero, suc, List, ◌++◌, Result, IsErrAnd, replicate}
-use Rattle.std.specs.IoError.{error_kind}
-use Rattle.std.specs.declared.io.Error.{Error}
-use Rattle.std.specs.declared.io.ErrorKind.{ErrorKind}
-use Rattle.std.specs.declared.io.traits.SeekFrom.{SeekFrom}
-use Rattle.std.specs.declared.io.ErrorKind.TheVariants.{OutOfMemory}
-use Rattle.futures.specs.declared.task.Poll.{Poll}
-use Rattle.futures.specs.declared.task.Poll.TheVariants.{Pending, Ready}
-use Rattle.lite_base.specs.Answers.{Gives}
-use Rattle.lite_base.specs.Runs.{Runs}
-use Rattle.lite_io_base.specs.Kinds.{by_kind}
+use Rattle.lite_bridge.specs.Uses.{◌≡◌, ◌⊎◌, ℕ, zero, suc, List, ◌++◌, Result, IsErrAnd, replicate, error_kind, Error, ErrorKind, SeekFrom, OutOfMemory, Poll}
+use Rattle.lite_bridge.specs.Uses.{Pending, Ready, Gives, Runs, by_kind}
 
 -- Nothing was waited for before, and there was no memory for what a wait needs.
 abbrev pub NoMemoryToWait : {A : Type 0} → Type 0 → Result A Error → Type 0

@@ -1,15 +1,7 @@
-ghost use Rattle.std.specs.Prelude.{◌≡◌, ◌≤◌, [], length, None, IfOk};
-ghost use Rattle.std.specs.Borrow.{Lends, sem};
-ghost use Rattle.std.specs.Io.{ReadsAtMost, WritesAtMost};
+ghost use Rattle.lite_bridge.specs.Uses.{◌≡◌, ◌≤◌, [], length, None, IfOk, Lends, sem, ReadsAtMost, WritesAtMost, SeekMoves, io_slices_bytes, by_kind};
+ghost use Rattle.lite_bridge.specs.Uses.{read_marks, ReadsInto, room_in, done_marks, write_marks, closed, flushed};
 ghost use Rattle.std.specs.Io.KnownBytes.{Keeps as KeepsKnown, ReadConsumes, WriteAppends};
-ghost use Rattle.std.specs.Io.Seek.{SeekMoves};
-ghost use Rattle.std.specs.Io.Slices.{io_slices_bytes};
 ghost use mir.Syntax.{named};
-ghost use Rattle.lite_io_base.specs.Kinds.{by_kind};
-ghost use Rattle.lite_io_base.specs.Marks.{read_marks};
-ghost use Rattle.lite_io_base.specs.Runs.{ReadsInto, room_in};
-ghost use Rattle.lite_io_base.specs.Takings.{done_marks, write_marks};
-ghost use Rattle.lite_io_base.specs.Takings.WriteMark.{closed, flushed};
 ghost use Rattle.lite_bridge.specs.AsyncAsSync.{InTime, PollsWith, SameContext, Synced};
 
 use lite_base::{Context, Poll};

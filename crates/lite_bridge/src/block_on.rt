@@ -1,11 +1,6 @@
-ghost use Rattle.std.specs.Prelude.{◌≡◌, ℕ, List, [], length, None, IfSome, IfOk, drop, take};
-ghost use Rattle.std.specs.Borrow.{Lends, sem};
-ghost use Rattle.std.specs.Io.{ReadsAtMost, StartsWith, WritesAtMost};
-ghost use Rattle.std.specs.Io.BufRead.{DropsConsumable, FillKeeps, Rests};
-ghost use Rattle.std.specs.Io.KnownBytes.{Keeps, ReadConsumes, WriteAppends};
-ghost use Rattle.std.specs.Io.Seek.{SeekMoves};
-ghost use Rattle.lite_io_base.specs.Marks.{ReadMark, bytes, fill_marks, read_marks};
-ghost use Rattle.lite_io_base.specs.Takings.{WriteMark, done_marks, write_marks};
+ghost use Rattle.lite_bridge.specs.Uses.{◌≡◌, ℕ, List, [], length, None, IfSome, IfOk, drop, take, Lends, sem, ReadsAtMost, StartsWith, WritesAtMost};
+ghost use Rattle.lite_bridge.specs.Uses.{DropsConsumable, FillKeeps, Rests, Keeps, ReadConsumes, WriteAppends, SeekMoves, ReadMark, bytes, fill_marks};
+ghost use Rattle.lite_bridge.specs.Uses.{read_marks, WriteMark, done_marks, write_marks};
 ghost use Rattle.lite_bridge.specs.Waits.{Blocks, GaveOrRefused, NoMemoryToWait, SeekBlocks};
 
 use crate::filling::Filling;

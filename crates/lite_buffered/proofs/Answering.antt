@@ -1,24 +1,14 @@
 -- What an answer leaves.
-use Rattle.std.proofs.Common.{◌≡◌, ◌∙◌, ℕ, ◌≤◌, List, [], ◌∷◌, ◌++◌, length, take, inl, inr, refl, sym, ap, subst}
-use Rattle.std.proofs.Common.{arith, take_all, append-nil}
+use Rattle.lite_buffered.specs.Uses.{◌≡◌, ◌∙◌, ℕ, ◌≤◌, List, [], ◌∷◌, ◌++◌, length, take, inl, inr, refl, sym, ap, subst, arith, take_all, append-nil}
+use Rattle.lite_buffered.specs.Uses.{boxed_slice_items, error_kind, Result, Ok, Err, Error, ErrorKind, Poll, Ready, Pending, MarkLaws, WriteMark, done_marks}
+use Rattle.lite_buffered.specs.Uses.{write_marks, segments_one, Runs}
 use Rattle.std.proofs.lemmas.List.{length-take}
-use Rattle.std.specs.Box.{boxed_slice_items}
-use Rattle.std.specs.IoError.{error_kind}
-use Rattle.std.specs.Prelude.{Result, Ok, Err}
-use Rattle.std.specs.declared.io.Error.{Error}
-use Rattle.std.specs.declared.io.ErrorKind.{ErrorKind}
-use Rattle.futures.specs.declared.task.Poll.{Poll}
-use Rattle.futures.specs.declared.task.Poll.TheVariants.{Ready, Pending}
-use Rattle.lite_io_base.specs.Runs.{MarkLaws}
-use Rattle.lite_io_base.specs.Takings.{WriteMark, done_marks, write_marks}
 use Rattle.lite_buffered.specs.declared.buf_writer.BufWriter.{BufWriter}
 use Rattle.lite_buffered.specs.BufWriter.{Buffers, FlushesBuffer, MakesRoom, PassesOn, ShownAfter, TakesHeld}
 use Rattle.lite_buffered.specs.BufWriter.{WriterAnswers}
 use Rattle.lite_buffered.specs.BufWriter.{WriterSegment, buffered, unwritten, writer_capacity}
 use Rattle.lite_buffered.specs.Laws.BufWriter.{balanced_one}
 use Rattle.lite_buffered.proofs.Ranges.{slice_range_none}
-use Rattle.lite_base.specs.Laws.Segments.{segments_one}
-use Rattle.lite_base.specs.Runs.{Runs}
 
 -- nothing is in the buffer
 pub shown_none : {W E : Type 0} (x m y : BufWriter W) (r : Poll (Result ℕ E)) → buffered m ≡ [] → y.buf ≡ m.buf

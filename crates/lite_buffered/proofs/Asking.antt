@@ -1,11 +1,7 @@
 -- When a `BufReader` asks its inner reader.
-use Rattle.std.proofs.Common.{◌≡◌, ◌∙◌, ◌<◌, ◌≤◌, ℕ, List, [], Result, length, sym, subst, arith}
-use Rattle.std.specs.declared.io.Error.{Error}
-use Rattle.futures.specs.declared.task.Poll.{Poll}
-use Rattle.lite_io_base.specs.Marks.{ReadMark, read_marks}
+use Rattle.lite_buffered.specs.Uses.{◌≡◌, ◌∙◌, ◌<◌, ◌≤◌, ℕ, List, [], Result, length, sym, subst, arith, Error, Poll, ReadMark, read_marks, Runs}
 use Rattle.lite_buffered.specs.declared.buf_reader.BufReader.{BufReader}
 use Rattle.lite_buffered.specs.BufReader.{AsksWhereEmpty, ReadsOnce, ahead}
-use Rattle.lite_base.specs.Runs.{Runs}
 
 some_ahead : (l : List ℕ) → l ≡ [] → 0 < length l → {A : Type 0} → A
 some_ahead l e some = absurd (omega (arith, subst (λ k. 0 < length k) e some))

@@ -1,14 +1,8 @@
 -- The poll in which a `Chain` goes on to its second reader.
-use Rattle.std.proofs.Common.{◌≡◌, ◌<◌, ◌≤◌, ℕ, List, [], ◌∷◌, true, false, refl, length, arith, Result}
-use Rattle.std.specs.declared.io.Error.{Error}
-use Rattle.std.specs.declared.io.slices.IoSliceMut.{IoSliceMut}
-use Rattle.futures.specs.declared.task.Poll.{Poll}
-use Rattle.lite_io_base.specs.Laws.Runs.{CountsWithin, in_room, within_more}
-use Rattle.lite_io_base.specs.Marks.{ReadMark, moved, read_marks}
-use Rattle.lite_io_base.specs.Runs.{MarkLaws, ReadsInto, room_in}
+use Rattle.lite_buffered.specs.Uses.{◌≡◌, ◌<◌, ◌≤◌, ℕ, List, [], ◌∷◌, true, false, refl, length, arith, Result, Error, IoSliceMut, Poll, CountsWithin, in_room}
+use Rattle.lite_buffered.specs.Uses.{within_more, ReadMark, moved, read_marks, MarkLaws, ReadsInto, room_in, Runs}
 use Rattle.lite_buffered.specs.declared.chain.Chain.{Chain}
 use Rattle.lite_buffered.specs.Chain.{ChainsReaders}
-use Rattle.lite_base.specs.Runs.{Runs}
 
 module _ {R S : Type 0} (first : Runs ReadMark R) (second : Runs ReadMark S) (x y : Chain R S) (l : List ReadMark) where
   pub crossed : MarkLaws first → x.has_ended ≡ false → y.has_ended ≡ true → first x.first (ReadMark.end ∷ []) y.first

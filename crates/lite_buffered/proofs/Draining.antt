@@ -1,20 +1,12 @@
 -- What a flush of the buffer does.
-use Rattle.std.proofs.Common.{◌≡◌, ◌∙◌, ℕ, ◌+◌, ◌-◌, ◌≤◌, ◌<◌, List, [], ◌∷◌, ◌++◌, length, take, drop, slice_range}
-use Rattle.std.proofs.Common.{inr, refl, sym, ap, subst, arith, length-take-le}
-use Rattle.std.proofs.lemmas.List.{drop-take, drop-append-le, length-take}
-use Rattle.std.specs.Box.{boxed_slice_items}
-use Rattle.std.specs.declared.io.ErrorKind.{ErrorKind}
-use Rattle.std.specs.declared.io.ErrorKind.TheVariants.{Interrupted, WriteZero}
-use Rattle.std.specs.Prelude.{Ok, Err}
-use Rattle.futures.specs.declared.task.Poll.TheVariants.{Ready, Pending}
-use Rattle.lite_io_base.specs.Runs.{MarkLaws}
-use Rattle.lite_io_base.specs.Takings.{WriteMark, write_marks}
-use Rattle.lite_io_base.specs.Laws.Runs.{offered_marks}
+use Rattle.lite_buffered.specs.Uses.{◌≡◌, ◌∙◌, ℕ, ◌+◌, ◌-◌, ◌≤◌, ◌<◌, List, [], ◌∷◌, ◌++◌, length, take, drop, slice_range, inr, refl, sym, ap, subst, arith}
+use Rattle.lite_buffered.specs.Uses.{length-take-le, drop-take, drop-append-le, boxed_slice_items, ErrorKind, Interrupted, WriteZero, Ok, Err, Ready, Pending}
+use Rattle.lite_buffered.specs.Uses.{MarkLaws, WriteMark, write_marks, offered_marks, Runs}
+use Rattle.std.proofs.lemmas.List.{length-take}
 use Rattle.lite_buffered.specs.declared.buf_writer.BufWriter.{BufWriter}
 use Rattle.lite_buffered.specs.BufWriter.{FlushesBuffer, IsFault, TakesHeld, WriterAnswers, WriterSegment, unwritten}
 use Rattle.lite_buffered.specs.BufWriter.{writer_capacity}
 use Rattle.lite_buffered.proofs.Ranges.{length-slice_range, slice_range_split}
-use Rattle.lite_base.specs.Runs.{Runs}
 
 -- a range is the rest of the front
 pub range_of_front : (xs : List ℕ) (i j : ℕ) → i ≤ j → slice_range xs i j ≡ drop i (take j xs)

@@ -1,6 +1,5 @@
 -- Marks without an end.
-use Rattle.std.proofs.Common.{◌<◌, ℕ, List, [], ◌∷◌, length, arith}
-use Rattle.lite_io_base.specs.Marks.{bytes, moved}
+use Rattle.lite_buffered.specs.Uses.{◌<◌, ℕ, List, [], ◌∷◌, length, arith, bytes, moved}
 use Rattle.lite_buffered.specs.Chain.{EndlessMarks}
 
 pub no_end_bytes : (xs : List ℕ) → EndlessMarks (bytes xs)

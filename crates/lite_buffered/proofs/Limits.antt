@@ -1,6 +1,5 @@
 -- Reads within a limit.
-use Rattle.std.proofs.Common.{◌≡◌, ◌≤◌, ◌<◌, ◌-◌, [], ◌∷◌, ℕ, zero, suc, List, length, arith, subst}
-use Rattle.lite_io_base.specs.Marks.{bytes, moved}
+use Rattle.lite_buffered.specs.Uses.{◌≡◌, ◌≤◌, ◌<◌, ◌-◌, [], ◌∷◌, ℕ, zero, suc, List, length, arith, subst, bytes, moved}
 use Rattle.lite_buffered.specs.Take.{WithinLimit}
 
 pub fits_bytes : (limit : ℕ) (xs : List ℕ) → length xs ≤ limit → WithinLimit limit (bytes xs) (limit - length xs)

@@ -1,8 +1,6 @@
 -- Reads within a budget.
-use Rattle.std.proofs.Common.{◌≡◌, ◌≤◌, ◌<◌, ◌+◌, ◌-◌, ◌∙◌, [], ◌∷◌, ℕ, List, length, take, drop, inr, refl, ap}
-use Rattle.std.proofs.Common.{sym, subst, arith, length-take, length-take-le, take-take}
-use Rattle.std.proofs.lemmas.List.{drop-take}
-use Rattle.lite_io_base.specs.Marks.{bytes, moved}
+use Rattle.lite_buffered.specs.Uses.{◌≡◌, ◌≤◌, ◌<◌, ◌+◌, ◌-◌, ◌∙◌, [], ◌∷◌, ℕ, List, length, take, drop, inr, refl, ap, sym, subst, arith, length-take}
+use Rattle.lite_buffered.specs.Uses.{length-take-le, take-take, drop-take, bytes, moved}
 use Rattle.lite_buffered.specs.Budgeted.{PacesMarks}
 
 pub paced_bytes : (budget left : ℕ) (xs : List ℕ) → length xs ≤ left

@@ -1,12 +1,8 @@
 -- A read that polls the inner reader at most once.
-use Rattle.std.proofs.Common.{◌≡◌, ◌≤◌, ◌<◌, ℕ, List, [], ◌∷◌, Result, length, refl, sym, subst, inl, inr, arith}
-use Rattle.std.specs.declared.io.Error.{Error}
-use Rattle.futures.specs.declared.task.Poll.{Poll}
-use Rattle.lite_io_base.specs.Marks.{ReadMark, read_marks}
-use Rattle.lite_io_base.specs.Runs.{MarkLaws}
+use Rattle.lite_buffered.specs.Uses.{◌≡◌, ◌≤◌, ◌<◌, ℕ, List, [], ◌∷◌, Result, length, refl, sym, subst, inl, inr, arith, Error, Poll, ReadMark, read_marks}
+use Rattle.lite_buffered.specs.Uses.{MarkLaws, Runs}
 use Rattle.lite_buffered.specs.BufReader.{AsksWhereEmpty, PollsOnce, ReadsOnce, ahead}
 use Rattle.lite_buffered.specs.declared.buf_reader.BufReader.{BufReader}
-use Rattle.lite_base.specs.Runs.{Runs}
 
 module _ {R : Type 0} (reads : Runs ReadMark R) (most : ℕ) (x y : R) where
   pub polls_none : MarkLaws reads → y ≡ x → PollsOnce reads most x y

@@ -1,15 +1,10 @@
 -- What single polls of a `BufReader` do.
-use Rattle.std.proofs.Common.{◌≡◌, ◌∙◌, ℕ, zero, suc, ◌≤◌, ◌<◌, min, List, [], ◌∷◌, ◌++◌, length, take}
-use Rattle.std.proofs.Common.{refl, sym, ap, subst, arith, append-nil, length-take-le, take-append-drop, drop}
-use Rattle.std.proofs.Math.Nat.{sub-zero}
-use Rattle.std.proofs.lemmas.List.{map-append}
-use Rattle.lite_io_base.specs.Marks.{ReadMark, bytes, filled, moved}
-use Rattle.lite_io_base.specs.Runs.{MarkLaws}
+use Rattle.lite_buffered.specs.Uses.{◌≡◌, ◌∙◌, ℕ, zero, suc, ◌≤◌, ◌<◌, min, List, [], ◌∷◌, ◌++◌, length, take, refl, sym, ap, subst, arith, append-nil}
+use Rattle.lite_buffered.specs.Uses.{length-take-le, take-append-drop, drop, sub-zero, map-append, ReadMark, bytes, filled, moved, MarkLaws, Runs}
 use Rattle.lite_buffered.specs.declared.buf_reader.BufReader.{BufReader}
 use Rattle.lite_buffered.specs.BufReader.{Padded, PassesBuffer, ThroughBuffer, ahead, reader_capacity}
 use Rattle.lite_buffered.specs.Laws.BufReader.{ahead_none, passes_of, through_laws}
 use Rattle.lite_buffered.proofs.Ranges.{slice_range_none}
-use Rattle.lite_base.specs.Runs.{Runs}
 
 -- nothing is moved into no room
 pub moved_none : (buf xs : List ℕ) → length buf ≡ 0 → length xs ≡ 0 → moved buf xs ≡ []

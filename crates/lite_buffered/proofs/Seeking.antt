@@ -1,15 +1,9 @@
 -- What a seek leaves.
-use Rattle.std.proofs.Common.{◌≡◌, ◌∙◌, ℕ, List, [], ◌++◌, inl, inr, refl, sym, ap, append-nil}
-use Rattle.std.specs.Prelude.{Result, Ok, Err}
-use Rattle.std.specs.declared.io.ErrorKind.{ErrorKind}
-use Rattle.std.specs.declared.io.traits.SeekFrom.{SeekFrom}
-use Rattle.futures.specs.declared.task.Poll.{Poll}
-use Rattle.futures.specs.declared.task.Poll.TheVariants.{Ready, Pending}
-use Rattle.lite_io_base.specs.Takings.{WriteMark, bytes_taken}
+use Rattle.lite_buffered.specs.Uses.{◌≡◌, ◌∙◌, ℕ, List, [], ◌++◌, inl, inr, refl, sym, ap, append-nil, Result, Ok, Err, ErrorKind, SeekFrom, Poll, Ready}
+use Rattle.lite_buffered.specs.Uses.{Pending, WriteMark, bytes_taken, Runs}
 use Rattle.lite_buffered.specs.declared.buf_writer.BufWriter.{BufWriter}
 use Rattle.lite_buffered.specs.BufWriter.{Balanced, FlushesBuffer, SeeksAfter, StopsShort, unwritten, writer_capacity}
 use Rattle.lite_buffered.specs.Laws.BufWriter.{drains_balance, segment_balance}
-use Rattle.lite_base.specs.Runs.{Runs}
 
 module _ {W : Type 0} (writes : Runs WriteMark W) (seeks : W → SeekFrom → Poll (Result ℕ ErrorKind) → W → Type 0) where
   -- some of what was held is not taken

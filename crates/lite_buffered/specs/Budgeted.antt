@@ -1,14 +1,6 @@
 -- `with_budget` of a reader: a pending of its own after so many bytes and errors in a row.
-use Rattle.std.specs.Prelude.{◌≡◌, ℕ, ◌-◌, List, [], ◌∷◌, Option, Some, None, take, ⊤}
-use Rattle.std.specs.declared.io.ErrorKind.{ErrorKind}
-use Rattle.std.specs.declared.io.traits.SeekFrom.{SeekFrom}
-use Rattle.std.specs.Prelude.{Result}
-use Rattle.futures.specs.declared.task.Poll.{Poll}
-use Rattle.lite_base.specs.Paces.{Paces}
-use Rattle.lite_base.specs.Ranks.{Ranks}
-use Rattle.lite_base.specs.Runs.{Runs}
-use Rattle.lite_io_base.specs.Marks.{ReadMark}
-use Rattle.lite_io_base.specs.Takings.{WriteMark}
+use Rattle.lite_buffered.specs.Uses.{◌≡◌, ℕ, ◌-◌, List, [], ◌∷◌, Option, Some, None, take, ⊤, ErrorKind, SeekFrom, Result, Poll, Paces, Ranks, Runs, ReadMark}
+use Rattle.lite_buffered.specs.Uses.{WriteMark}
 use Rattle.lite_buffered.specs.declared.budgeted.Budgeted.{Budgeted}
 
 -- the reader that is read

@@ -1,11 +1,6 @@
 -- What passes through a `BufReader`.
-use Rattle.std.specs.Prelude.{◌≡◌, ℕ, zero, suc, ◌+◌, List, [], ◌∷◌, ◌++◌, ◌≤◌, ◌<◌, ◌⊎◌, length, slice_range, Result}
-use Rattle.std.specs.declared.io.Error.{Error}
-use Rattle.futures.specs.declared.task.Poll.{Poll}
-use Rattle.lite_io_base.specs.Marks.{ReadMark, bytes, read_marks}
-use Rattle.lite_io_base.specs.Takings.{WriteMark}
-use Rattle.lite_base.specs.Ranks.{Ranks}
-use Rattle.lite_base.specs.Runs.{Runs}
+use Rattle.lite_buffered.specs.Uses.{◌≡◌, ℕ, zero, suc, ◌+◌, List, [], ◌∷◌, ◌++◌, ◌≤◌, ◌<◌, ◌⊎◌, length, slice_range, Result, Error, Poll, ReadMark, bytes}
+use Rattle.lite_buffered.specs.Uses.{read_marks, WriteMark, Ranks, Runs}
 use Rattle.lite_buffered.specs.declared.buf_reader.BufReader.{BufReader}
 
 -- the bytes that were read ahead

@@ -1,19 +1,8 @@
 -- What passes through a `BufWriter`.
-use Rattle.std.specs.Prelude.{◌≡◌, ◌<◌, ◌≤◌, ◌⊎◌, ◌+◌, ℕ, List, [], ◌∷◌, ◌++◌, length, take, slice_range, Result, Ok}
-use Rattle.std.specs.Prelude.{Err}
-use Rattle.std.specs.Box.{boxed_slice_items}
-use Rattle.std.specs.declared.io.Error.{Error}
-use Rattle.std.specs.declared.io.ErrorKind.{ErrorKind}
-use Rattle.std.specs.declared.io.ErrorKind.TheVariants.{Interrupted, WriteZero}
-use Rattle.std.specs.declared.io.traits.SeekFrom.{SeekFrom}
-use Rattle.futures.specs.Task.{Lasting}
-use Rattle.futures.specs.declared.task.Poll.{Poll}
-use Rattle.futures.specs.declared.task.Poll.TheVariants.{Ready, Pending}
-use Rattle.lite_io_base.specs.Kinds.{by_kind}
-use Rattle.lite_io_base.specs.Takings.{WriteMark, bytes_taken, write_marks}
+use Rattle.lite_buffered.specs.Uses.{◌≡◌, ◌<◌, ◌≤◌, ◌⊎◌, ◌+◌, ℕ, List, [], ◌∷◌, ◌++◌, length, take, slice_range, Result, Ok, Err, boxed_slice_items, Error}
+use Rattle.lite_buffered.specs.Uses.{ErrorKind, Interrupted, WriteZero, SeekFrom, Lasting, Poll, Ready, Pending, by_kind, WriteMark, bytes_taken, write_marks}
+use Rattle.lite_buffered.specs.Uses.{Runs, Segments}
 use Rattle.lite_buffered.specs.declared.buf_writer.BufWriter.{BufWriter}
-use Rattle.lite_base.specs.Runs.{Runs}
-use Rattle.lite_base.specs.Segments.{Segments}
 
 -- the bytes in the buffer
 abbrev pub buffered : {W : Type 0} → BufWriter W → List ℕ

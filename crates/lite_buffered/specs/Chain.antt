@@ -1,8 +1,6 @@
 -- `chain`: one reader up to its end, and then another.
-use Rattle.std.specs.Prelude.{◌≡◌, Bool, true, false, List, [], ◌∷◌, ◌++◌, ⊤}
-use Rattle.lite_io_base.specs.Marks.{ReadMark}
+use Rattle.lite_buffered.specs.Uses.{◌≡◌, Bool, true, false, List, [], ◌∷◌, ◌++◌, ⊤, ReadMark, Runs}
 use Rattle.lite_buffered.specs.declared.chain.Chain.{Chain}
-use Rattle.lite_base.specs.Runs.{Runs}
 
 -- no mark of these is an end
 abbrev pub EndlessMarks : List ReadMark → Type 0

@@ -1,7 +1,5 @@
 -- What else is said of `chain`: its parts, what a pending registers, what it lends, and its rank.
-use Rattle.std.specs.Prelude.{Bool, cond, replicate, ℕ, ◌+◌, List, ◌++◌, MatchBool}
-use Rattle.futures.specs.Task.{Lasting}
-use Rattle.lite_base.specs.Ranks.{Ranks}
+use Rattle.lite_buffered.specs.Uses.{Bool, cond, replicate, ℕ, ◌+◌, List, ◌++◌, MatchBool, Lasting, Ranks}
 use Rattle.lite_buffered.specs.declared.chain.Chain.{Chain}
 
 -- the first reader

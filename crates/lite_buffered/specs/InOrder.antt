@@ -1,11 +1,7 @@
 -- Reads and writes of a `BufReader`, in one order.
-use Rattle.std.specs.Prelude.{◌≡◌, List, [], ◌∷◌, ⊤}
-use Rattle.lite_io_base.specs.Marks.{ReadMark}
-use Rattle.lite_io_base.specs.Parts.{Part, PartsInOrder, reading_of}
-use Rattle.lite_io_base.specs.Takings.{WriteMark}
+use Rattle.lite_buffered.specs.Uses.{◌≡◌, List, [], ◌∷◌, ⊤, ReadMark, Part, PartsInOrder, reading_of, WriteMark, Runs}
 use Rattle.lite_buffered.specs.declared.buf_reader.BufReader.{BufReader}
 use Rattle.lite_buffered.specs.BufReader.{PassesBuffer, Past, ThroughBuffer, ahead, reader_capacity}
-use Rattle.lite_base.specs.Runs.{Runs}
 
 -- two lists of parts with the same writes, and reads at the same places
 abbrev pub SameWrites : List Part → List Part → Type 0

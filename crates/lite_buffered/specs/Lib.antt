@@ -8,3 +8,4 @@ pub mod Laws
 pub mod Repeat
 pub mod SeeksThrough
 pub mod Take
+pub mod Uses

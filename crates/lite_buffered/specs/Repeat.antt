@@ -1,8 +1,6 @@
 -- `repeat`: one byte for ever.
-use Rattle.std.specs.Prelude.{◌≡◌, ℕ, [], ◌∷◌}
-use Rattle.lite_io_base.specs.Marks.{ReadMark}
+use Rattle.lite_buffered.specs.Uses.{◌≡◌, ℕ, [], ◌∷◌, ReadMark, Runs}
 use Rattle.lite_buffered.specs.declared.repeat.Repeat.{Repeat}
-use Rattle.lite_base.specs.Runs.{Runs}
 
 -- the byte that is repeated
 abbrev pub byte_of : Repeat → ℕ

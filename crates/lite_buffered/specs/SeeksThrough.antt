@@ -1,11 +1,6 @@
 -- What a seek of a `BufReader` does, where `seeks` tells what a seek of its inner reader does.
-use Rattle.std.specs.Prelude.{◌≡◌, ◌⊎◌, ℕ, pos, ◌-ℤ◌, List, [], length, Result, Ok, Err, FitsSigned, ⊤}
-use Rattle.std.specs.Int.{w64}
-use Rattle.std.specs.declared.io.ErrorKind.{ErrorKind}
-use Rattle.std.specs.declared.io.traits.SeekFrom.{SeekFrom}
-use Rattle.std.specs.declared.io.traits.SeekFrom.TheVariants.{Start, End, Current}
-use Rattle.futures.specs.declared.task.Poll.{Poll}
-use Rattle.futures.specs.declared.task.Poll.TheVariants.{Ready, Pending}
+use Rattle.lite_buffered.specs.Uses.{◌≡◌, ◌⊎◌, ℕ, pos, ◌-ℤ◌, List, [], length, Result, Ok, Err, FitsSigned, ⊤, w64, ErrorKind, SeekFrom, Start, End, Current}
+use Rattle.lite_buffered.specs.Uses.{Poll, Ready, Pending}
 use Rattle.lite_buffered.specs.declared.buf_reader.BufReader.{BufReader}
 use Rattle.lite_buffered.specs.BufReader.{ahead, reader_capacity}
 

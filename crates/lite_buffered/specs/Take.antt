@@ -1,8 +1,6 @@
 -- `take`: the front of a reader, and then an end for ever.
-use Rattle.std.specs.Prelude.{◌≡◌, ℕ, zero, suc, List, [], ◌∷◌, ◌++◌, ⊤}
-use Rattle.lite_io_base.specs.Marks.{ReadMark}
+use Rattle.lite_buffered.specs.Uses.{◌≡◌, ℕ, zero, suc, List, [], ◌∷◌, ◌++◌, ⊤, ReadMark, Runs}
 use Rattle.lite_buffered.specs.declared.take.Take.{Take}
-use Rattle.lite_base.specs.Runs.{Runs}
 
 -- the reader that is read
 abbrev pub take_inner : {R : Type 0} → Take R → R

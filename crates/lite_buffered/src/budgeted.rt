@@ -1,11 +1,5 @@
-ghost use Rattle.std.specs.Prelude.{◌≡◌, ◌≤◌, ◌<◌, None, Ok, length, IfOk};
-ghost use Rattle.std.specs.Borrow.{Lends, sem};
-ghost use Rattle.futures.specs.Poll.{IfReady};
-ghost use Rattle.futures.specs.Task.{Keeps};
-ghost use Rattle.lite_base.specs.Registered.{Registered};
-ghost use Rattle.lite_base.specs.Woken.{HoldsWoken};
-ghost use Rattle.lite_io_base.specs.Marks.{fill_marks, read_marks};
-ghost use Rattle.lite_io_base.specs.Runs.{OnlyOkLends};
+ghost use Rattle.lite_buffered.specs.Uses.{◌≡◌, ◌≤◌, ◌<◌, None, Ok, length, IfOk, Lends, sem, IfReady, Keeps, Registered, HoldsWoken, fill_marks, read_marks};
+ghost use Rattle.lite_buffered.specs.Uses.{OnlyOkLends};
 
 use lite_base::{Context, Poll, ready};
 use lite_io_base::{

@@ -1,10 +1,5 @@
-ghost use Rattle.std.specs.Prelude.{◌≡◌, ◌<◌, ◌≤◌, [], Ok, length, max, min, take, drop, pos, true, false, IfOk, IfErr};
-ghost use Rattle.std.specs.Borrow.{Lends, sem};
-ghost use Rattle.futures.specs.Poll.{IfReady};
-ghost use Rattle.futures.specs.Task.{Keeps};
-ghost use Rattle.lite_io_base.specs.Marks.{fill_marks, read_marks};
-ghost use Rattle.lite_io_base.specs.Runs.{OnlyOkLends, ReadsInto, room_in};
-ghost use Rattle.lite_base.specs.Registered.{Registered};
+ghost use Rattle.lite_buffered.specs.Uses.{◌≡◌, ◌<◌, ◌≤◌, [], Ok, length, max, min, take, drop, pos, true, false, IfOk, IfErr, Lends, sem, IfReady, Keeps};
+ghost use Rattle.lite_buffered.specs.Uses.{fill_marks, read_marks, OnlyOkLends, ReadsInto, room_in, Registered};
 
 use lite_base::{Context, Poll, ready};
 use lite_io_base::{
@@ -365,7 +360,7 @@ impl<R: AsyncRead> AsyncBufRead for BufReader<R> {
     ghost use Rattle.lite_buffered.specs.BufReader.{AsksWhereEmpty, ThroughBuffer, ahead, reader_capacity, reader_inner};
     ghost use Rattle.lite_buffered.specs.Laws.BufReader.{through_shows};
     ghost use Rattle.lite_buffered.specs.contracts.buf_reader.BufReader.{the_row};
-    ghost use Rattle.lite_io_base.specs.Runs.{Afterwards, Fills};
+    ghost use Rattle.lite_buffered.specs.Uses.{Afterwards, Fills, by_kind};
 
     ghost lent = { ahead };
 
@@ -436,7 +431,6 @@ impl<R: AsyncSeek> AsyncSeek for BufReader<R> {
 }
 
 impl<R: AsyncSeek> BufReader<R> {
-    ghost use Rattle.lite_io_base.specs.Kinds.{by_kind};
     ghost use Rattle.lite_buffered.specs.BufReader.{reader_inner};
     ghost use Rattle.lite_buffered.specs.SeeksThrough.{SeeksOnce, SeeksThrough, SeeksTwice};
 

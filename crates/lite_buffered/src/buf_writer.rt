@@ -1,14 +1,5 @@
-ghost use Rattle.std.specs.Prelude.{◌≡◌, ◌+◌, ◌<◌, ◌≤◌, [], Ok, ◌++◌, length, IfOk, IfErr};
-ghost use Rattle.std.specs.Borrow.{Lends, sem};
-ghost use Rattle.std.specs.Box.{boxed_slice_items};
-ghost use Rattle.futures.specs.Poll.{IfReady};
-ghost use Rattle.futures.specs.Task.{Keeps};
-ghost use Rattle.lite_io_base.specs.Kinds.{by_kind};
-ghost use Rattle.lite_io_base.specs.Laws.Runs.{idle_laws};
-ghost use Rattle.lite_io_base.specs.Runs.{Idle};
-ghost use Rattle.lite_io_base.specs.Takings.{done_marks, write_marks};
-ghost use Rattle.lite_io_base.specs.Takings.WriteMark.{closed, flushed};
-ghost use Rattle.lite_base.specs.Registered.{Registered};
+ghost use Rattle.lite_buffered.specs.Uses.{◌≡◌, ◌+◌, ◌<◌, ◌≤◌, [], Ok, ◌++◌, length, IfOk, IfErr, Lends, sem, boxed_slice_items, IfReady, Keeps, by_kind};
+ghost use Rattle.lite_buffered.specs.Uses.{idle_laws, Idle, done_marks, write_marks, closed, flushed, Registered};
 
 use lite_base::{Context, Poll, ready};
 use lite_io_base::{AsyncSeek, AsyncWrite, Takings, Tale};

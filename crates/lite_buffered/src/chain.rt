@@ -1,12 +1,5 @@
-ghost use Rattle.std.specs.Prelude.{◌≡◌, ◌<◌, ◌≤◌, ℕ, List, Ok, length, min, IfOk, false};
-ghost use Rattle.std.specs.declared.io.slices.IoSliceMut.{IoSliceMut};
-ghost use Rattle.std.specs.Borrow.{Lends, sem};
-ghost use Rattle.futures.specs.Poll.{IfReady};
-ghost use Rattle.futures.specs.Task.{Keeps};
-ghost use Rattle.lite_io_base.specs.Marks.{fill_marks, read_marks};
-ghost use Rattle.lite_io_base.specs.Runs.{Idle, OnlyOkLends, ReadsInto, room_in};
-ghost use Rattle.lite_io_base.specs.Laws.Runs.{idle_laws};
-ghost use Rattle.lite_base.specs.Registered.{Registered};
+ghost use Rattle.lite_buffered.specs.Uses.{◌≡◌, ◌<◌, ◌≤◌, ℕ, List, Ok, length, min, IfOk, false, IoSliceMut, Lends, sem, IfReady, Keeps, fill_marks};
+ghost use Rattle.lite_buffered.specs.Uses.{read_marks, Idle, OnlyOkLends, ReadsInto, room_in, idle_laws, Registered};
 
 use lite_base::{Context, Poll, ready};
 use lite_io_base::{

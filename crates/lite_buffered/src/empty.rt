@@ -1,11 +1,4 @@
-ghost use Rattle.std.specs.Prelude.{[]};
-ghost use Rattle.lite_io_base.specs.Told.{TellsScript};
-ghost use Rattle.lite_io_base.specs.Laws.Known.{told_known};
-ghost use Rattle.lite_io_base.specs.Laws.Told.{told_falls, told_laws};
-ghost use Rattle.lite_base.specs.Ranks.{number_ranks};
-ghost use Rattle.lite_io_base.specs.Laws.Counting.{number_counting};
-ghost use Rattle.lite_io_base.specs.Runs.{Idle};
-ghost use Rattle.lite_io_base.specs.Laws.Runs.{idle_laws};
+ghost use Rattle.lite_buffered.specs.Uses.{[], TellsScript, told_known, told_falls, told_laws, number_ranks, number_counting, Idle, idle_laws};
 
 use lite_base::{Context, Poll};
 use lite_io_base::{AsyncBufRead, AsyncRead, CountedRead, Takings, Tale};

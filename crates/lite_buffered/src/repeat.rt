@@ -1,12 +1,6 @@
-ghost use Rattle.std.specs.Prelude.{◌≡◌, ◌≤◌, Ok, length, IfOk};
-ghost use Rattle.futures.specs.Poll.{IfReady};
-ghost use Rattle.futures.specs.Task.{Keeps};
-ghost use Rattle.lite_io_base.specs.Marks.{read_marks};
+ghost use Rattle.lite_buffered.specs.Uses.{◌≡◌, ◌≤◌, Ok, length, IfOk, IfReady, Keeps, read_marks, Idle, idle_laws, Registered};
 ghost use Rattle.lite_buffered.specs.Repeat.{RepeatsByte, byte_of};
 ghost use Rattle.lite_buffered.specs.Laws.Repeat.{repeats_laws};
-ghost use Rattle.lite_io_base.specs.Runs.{Idle};
-ghost use Rattle.lite_io_base.specs.Laws.Runs.{idle_laws};
-ghost use Rattle.lite_base.specs.Registered.{Registered};
 
 use lite_base::{Context, Poll};
 use lite_io_base::{AsyncRead, Takings, Tale};

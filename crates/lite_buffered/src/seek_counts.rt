@@ -1,4 +1,4 @@
-ghost use Rattle.lite_io_base.specs.SeekKeeps.{SeekKeeps};
+ghost use Rattle.lite_buffered.specs.Uses.{SeekKeeps};
 ghost use Rattle.lite_buffered.specs.BufReader.{ahead_ranks};
 ghost use Rattle.lite_buffered.specs.SeeksThrough.{SeeksThrough};
 

@@ -1,11 +1,5 @@
-ghost use Rattle.std.specs.Prelude.{◌≡◌, ◌≤◌, ◌⊎◌, Ok, length, take, IfOk};
-ghost use Rattle.std.specs.Borrow.{Lends, sem};
-ghost use Rattle.futures.specs.Poll.{IfReady};
-ghost use Rattle.futures.specs.Task.{Keeps};
-ghost use Rattle.lite_io_base.specs.Marks.{read_marks};
-ghost use Rattle.lite_io_base.specs.Runs.{Idle, ReadsInto, room_in};
-ghost use Rattle.lite_io_base.specs.Laws.Runs.{idle_laws};
-ghost use Rattle.lite_base.specs.Registered.{Registered};
+ghost use Rattle.lite_buffered.specs.Uses.{◌≡◌, ◌≤◌, ◌⊎◌, Ok, length, take, IfOk, Lends, sem, IfReady, Keeps, read_marks, Idle, ReadsInto, room_in, idle_laws};
+ghost use Rattle.lite_buffered.specs.Uses.{Registered};
 
 use lite_base::{Context, Poll, ready};
 use lite_io_base::{AsyncBufRead, AsyncRead, CountedRead, Takings, Tale, fill, first_room};
@@ -188,7 +182,7 @@ impl<R: AsyncBufRead> AsyncBufRead for Take<R> {
 }
 
 impl<R: CountedRead> CountedRead for Take<R> {
-    ghost use Rattle.lite_base.specs.Ranks.{ranks_of};
+    ghost use Rattle.lite_buffered.specs.Uses.{ranks_of};
     ghost use Rattle.lite_buffered.specs.Take.{take_inner};
     ghost use Rattle.lite_buffered.specs.Laws.Take.{takes_counting};
 

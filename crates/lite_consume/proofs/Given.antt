@@ -1,18 +1,10 @@
 -- What is given of a part, and of a stream that is lent.
-use Rattle.std.specs.Prelude.{Result, Ok, Err, IfOk}
-use Rattle.std.proofs.Common.{List, [], ◌∷◌}
-use Rattle.std.specs.List.{FoldsTo}
-use Rattle.futures.specs.declared.task.Poll.{Poll}
-use denote.MutBor.{MutBor}
-use Rattle.lite_base.specs.Answers.{Answer, Gives}
-use Rattle.lite_base.specs.Lent.{Lent}
-use Rattle.lite_base.specs.Runs.{Runs}
+use Rattle.lite_consume.specs.Uses.{Result, Ok, Err, IfOk, List, [], ◌∷◌, FoldsTo, Poll, MutBor, Answer, Gives, Lent, Runs, items_in}
 use Rattle.lite_consume.specs.Consume.{Folds}
 use Rattle.lite_consume.specs.Consuming.{Consumes, Fold, TakesIn, fold_of}
 use Rattle.lite_consume.specs.Laws.Agreeing.{within_itself}
 use Rattle.lite_consume.specs.Laws.Consuming.{consumes_by}
 use Rattle.lite_consume.specs.PollSteps.{MayTakeEach}
-use Rattle.lite_stream.specs.EachItem.{items_in}
 use Rattle.lite_consume.specs.declared.consume.Consume.{Consume}
 use Rattle.lite_consume.specs.Given.{BlockGives}
 

@@ -1,12 +1,6 @@
 -- The steps of a poll that consumes a stream make one segment.
-use Rattle.std.proofs.Common.{List, [], ◌∷◌, ◌++◌, Some, None, refl}
-use Rattle.futures.specs.declared.task.Poll.{Poll}
-use Rattle.lite_base.specs.Answers.{Answer, item}
-use Rattle.lite_base.specs.Chain.{NextStep, Reaches}
-use Rattle.lite_base.specs.Laws.Chain.{Reaches-back}
-use Rattle.lite_base.specs.Laws.Answers.{up_to_one}
-use Rattle.lite_base.specs.Laws.Segments.{answers_given, answers_taken}
-use Rattle.lite_base.specs.Runs.{Runs}
+use Rattle.lite_consume.specs.Uses.{List, [], ◌∷◌, ◌++◌, Some, None, refl, Poll, Answer, item, NextStep, Reaches, Reaches-back, up_to_one, answers_given}
+use Rattle.lite_consume.specs.Uses.{answers_taken, Runs}
 use Rattle.lite_consume.specs.Consume.{ConsumePollStep, Folds}
 use Rattle.lite_consume.specs.Consuming.{Consumed, Decides, Fold, TakesIn}
 use Rattle.lite_consume.specs.PollSteps.{ConsumeStep}

@@ -1,6 +1,5 @@
 -- `any`: whether the predicate accepts an item.
-use Rattle.std.specs.Prelude.{Bool, true, false}
-use Rattle.lite_base.specs.Runs.{Question}
+use Rattle.lite_consume.specs.Uses.{Bool, true, false, Question}
 use Rattle.lite_consume.specs.Consuming.{Fold}
 use Rattle.lite_consume.specs.TestedUntil.{tested_until}
 

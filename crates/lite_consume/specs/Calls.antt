@@ -1,5 +1,5 @@
 -- A call of a function with two arguments.
-use Rattle.std.specs.Fn.{Mut, Called}
+use Rattle.lite_consume.specs.Uses.{Mut, Called}
 
 -- a call of a function with two arguments
 abbrev pub CallsBoth : {F A B C : Type 0} → Mut F (A × (B × Unit {0})) C → F → A × B → C → F → Type 0

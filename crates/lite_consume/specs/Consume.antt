@@ -1,9 +1,5 @@
 -- The future that consumes a stream.
-use Rattle.std.specs.Prelude.{Option, Some, None, ⊤}
-use Rattle.futures.specs.declared.task.Poll.{Poll}
-use Rattle.futures.specs.declared.task.Poll.TheVariants.{Ready, Pending}
-use Rattle.lite_base.specs.Answers.{Answer}
-use Rattle.lite_base.specs.Runs.{Runs}
+use Rattle.lite_consume.specs.Uses.{Option, Some, None, ⊤, Poll, Ready, Pending, Answer, Runs}
 use Rattle.lite_consume.specs.Consuming.{Consumed, Fold}
 use Rattle.lite_consume.specs.PollSteps.{ConsumeStep, MayTakeEach}
 use Rattle.lite_consume.specs.declared.consume.Consume.{Consume}

@@ -1,11 +1,6 @@
 -- What a future makes of the items of a stream: they are taken in one after the other, until an end, or until an item
 -- that decides.
-use Rattle.std.specs.Prelude.{◌≡◌, List, Option, Some, None}
-use Rattle.futures.specs.declared.task.Poll.{Poll}
-use Rattle.futures.specs.declared.task.Poll.TheVariants.{Ready, Pending}
-use Rattle.lite_base.specs.Answers.{Answer, item}
-use Rattle.lite_base.specs.Runs.{Question, Runs}
-use Rattle.lite_base.specs.Segments.{OneAnswer, Segment, SegmentsToValue}
+use Rattle.lite_consume.specs.Uses.{◌≡◌, List, Option, Some, None, Poll, Ready, Pending, Answer, item, Question, Runs, OneAnswer, Segment, SegmentsToValue}
 
 -- what is made of items: which are taken in, which decide, and what the value is at an end
 pub record Fold (M A R : Type 0) : Type 1 where

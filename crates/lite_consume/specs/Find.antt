@@ -1,7 +1,6 @@
 -- `find`: the first item that the predicate accepts.
-use Rattle.std.specs.Prelude.{◌≡◌, Option, Some, None, Bool, true, false}
+use Rattle.lite_consume.specs.Uses.{◌≡◌, Option, Some, None, Bool, true, false, Question}
 use Rattle.lite_consume.specs.Consuming.{Fold}
-use Rattle.lite_base.specs.Runs.{Question}
 
 module _ {F A : Type 0} (test : Question F A Bool) where
   -- an item that is rejected is taken in, and one that is accepted decides: it is the value

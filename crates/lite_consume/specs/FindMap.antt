@@ -1,7 +1,6 @@
 -- `find_map`: the first answer of the function that is there.
-use Rattle.std.specs.Prelude.{◌≡◌, Option, Some, None, IsSome}
+use Rattle.lite_consume.specs.Uses.{◌≡◌, Option, Some, None, IsSome, Question}
 use Rattle.lite_consume.specs.Consuming.{Fold}
-use Rattle.lite_base.specs.Runs.{Question}
 
 module _ {F A B : Type 0} (call : Question F A (Option B)) where
   -- an item of which the function makes nothing is taken in, and else what it makes is the value

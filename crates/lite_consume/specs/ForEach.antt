@@ -1,7 +1,6 @@
 -- `for_each`: the function is called with each item.
-use Rattle.std.specs.Prelude.{◌≡◌, None}
+use Rattle.lite_consume.specs.Uses.{◌≡◌, None, Question}
 use Rattle.lite_consume.specs.Consuming.{Fold}
-use Rattle.lite_base.specs.Runs.{Question}
 
 -- each item is taken in by a call; the value says nothing
 abbrev pub calls_each : {F A : Type 0} → Question F A (Unit {0}) → Fold F A (Unit {0})

@@ -1,9 +1,5 @@
 -- What a blocking call gives: the value of a future that consumes the stream.
-use Rattle.std.specs.Prelude.{◌≡◌, List, Option, Some}
-use Rattle.std.specs.Fn.{Mut}
-use Rattle.futures.specs.declared.task.Poll.{Poll}
-use Rattle.lite_base.specs.Answers.{Answer, Gives}
-use Rattle.lite_base.specs.Runs.{Runs}
+use Rattle.lite_consume.specs.Uses.{◌≡◌, List, Option, Some, Mut, Poll, Answer, Gives, Runs}
 use Rattle.lite_consume.specs.Consuming.{Consumed, Fold}
 
 -- from s, with p folded so far, there were some Pendings and then the value, which left t

@@ -22,3 +22,4 @@ pub mod TestedUntil
 pub mod TryFold
 pub mod TryForEach
 pub mod TryNext
+pub mod Uses

@@ -1,10 +1,5 @@
 -- The steps of a poll that consumes a stream: in each the stream is polled once.
-use Rattle.std.specs.Prelude.{List, [], ◌∷◌, Option, Some, None}
-use Rattle.futures.specs.declared.task.Poll.{Poll}
-use Rattle.lite_base.specs.Answers.{Answer, item}
-use Rattle.lite_base.specs.Ends.{Terminates}
-use Rattle.lite_base.specs.Runs.{Runs}
-use Rattle.lite_stream.specs.EachItem.{AtEachItem}
+use Rattle.lite_consume.specs.Uses.{List, [], ◌∷◌, Option, Some, None, Poll, Answer, item, Terminates, Runs, AtEachItem}
 use Rattle.lite_consume.specs.Consuming.{Decides, Fold, TakesIn}
 
 module _ {S M A R : Type 0} (run : Runs (Answer A) S) (fold : Fold M A R) where

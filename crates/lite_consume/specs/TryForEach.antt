@@ -1,7 +1,6 @@
 -- `try_for_each`: the function is called with each item. The first error that it answers decides.
-use Rattle.std.specs.Prelude.{◌≡◌, Option, Some, None, Result, Ok, IsErr}
+use Rattle.lite_consume.specs.Uses.{◌≡◌, Option, Some, None, Result, Ok, IsErr, Question}
 use Rattle.lite_consume.specs.Consuming.{Fold}
-use Rattle.lite_base.specs.Runs.{Question}
 
 module _ {F A E : Type 0} (call : Question F A (Result (Unit {0}) E)) where
   -- an item at which the call is Ok is taken in, and an error decides

@@ -1,6 +1,5 @@
 -- `try_next`: as `next`, with an error outside.
-use Rattle.std.specs.Prelude.{◌≡◌, Option, Some, None, Result, Ok, Err}
-use Rattle.lite_base.specs.Alike.{OptionBy, Sameness}
+use Rattle.lite_consume.specs.Uses.{◌≡◌, Option, Some, None, Result, Ok, Err, OptionBy, Sameness}
 use Rattle.lite_consume.specs.Consuming.{Fold}
 
 -- the first item decides

@@ -1,5 +1,4 @@
-ghost use Rattle.lite_base.specs.Laws.Ends.{Terminates-map};
-ghost use Rattle.lite_base.specs.Laws.StreamLaws.{runs_of};
+ghost use Rattle.lite_consume.specs.Uses.{Terminates-map, runs_of};
 ghost use Rattle.lite_consume.specs.Consume.{CanFold, ConsumePollStep, Folds};
 ghost use Rattle.lite_consume.specs.Laws.Consuming.{consumed_laws};
 

@@ -1,4 +1,4 @@
-ghost use Rattle.std.specs.Fn.{CalledAt, TakesAt};
+ghost use Rattle.lite_consume.specs.Uses.{CalledAt, TakesAt};
 ghost use Rattle.lite_consume.specs.Consuming.{fold_of};
 ghost use Rattle.lite_consume.specs.Find.{finds};
 ghost use Rattle.lite_consume.specs.Laws.Returning.{returns_counted};

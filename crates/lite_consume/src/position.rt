@@ -1,4 +1,4 @@
-ghost use Rattle.lite_base.specs.Calling.{Calls};
+ghost use Rattle.lite_consume.specs.Uses.{Calls};
 ghost use Rattle.lite_consume.specs.Consuming.{fold_of};
 ghost use Rattle.lite_consume.specs.Laws.Returning.{returns_counted};
 ghost use Rattle.lite_consume.specs.Position.{positions};

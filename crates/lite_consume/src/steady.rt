@@ -1,8 +1,5 @@
 //! What is made of a stream's items, where it does not depend on when the stream was pending.
-ghost use Rattle.std.specs.Fn.{CalledAt};
-ghost use Rattle.std.specs.Prelude.{⊤, ◌≡◌};
-ghost use Rattle.lite_base.specs.Alike.{Optional, SameHeld, SameItem};
-ghost use Rattle.lite_base.specs.Calling.{Agree, AgreeFrom, AgreeKeeping, Calls, Keeping};
+ghost use Rattle.lite_consume.specs.Uses.{CalledAt, ⊤, ◌≡◌, Optional, SameHeld, SameItem, Agree, AgreeFrom, AgreeKeeping, Calls, Keeping};
 ghost use Rattle.lite_consume.specs.Calls.{CallsBoth};
 ghost use Rattle.lite_consume.specs.Consume.{Folds};
 ghost use Rattle.lite_consume.specs.Consuming.{fold_of};

@@ -1,14 +1,6 @@
 -- The steps of those that collect in which nothing was refused are those in which memory was found.
-use Rattle.std.specs.Prelude.{◌≡◌, ⊤, List, [], ◌∷◌, ◌++◌, Option, Some, None, Result, Ok, Err, Bool, IfSome, IsOk}
-use Rattle.std.specs.List.{AllByRecursion}
-use Rattle.std.proofs.Common.{subst}
-use Rattle.futures.specs.declared.task.Poll.{Poll}
-use Rattle.futures.specs.declared.task.Poll.TheVariants.{Ready, Pending}
-use Rattle.lite_base.specs.Answers.{Answer, Gives, end, item}
-use Rattle.lite_base.specs.Runs.{Question}
-use Rattle.lite_consume.specs.Agreeing.{WithinWhere}
-use Rattle.lite_consume.specs.Consuming.{Consumes, Decides}
-use Rattle.lite_consume.specs.Laws.Consuming.{each_consumed}
+use Rattle.lite_gather.specs.Uses.{◌≡◌, ⊤, List, [], ◌∷◌, ◌++◌, Option, Some, None, Result, Ok, Err, Bool, IfSome, IsOk, AllByRecursion, subst, Poll, Ready}
+use Rattle.lite_gather.specs.Uses.{Pending, Answer, Gives, end, item, Question, WithinWhere, Consumes, Decides, each_consumed}
 use Rattle.lite_gather.specs.Collect.{Collected, collects}
 use Rattle.lite_gather.specs.Gathering.{NeverRefuses}
 use Rattle.lite_gather.specs.Partition.{partitions}

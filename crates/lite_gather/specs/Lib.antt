@@ -6,3 +6,4 @@ pub mod Partition
 pub mod Refused
 pub mod TryCollect
 pub mod Unzip
+pub mod Uses

@@ -1,9 +1,7 @@
 -- `partition`: one collection takes in the items that the predicate accepts, another those that it rejects.
-use Rattle.std.specs.Prelude.{◌≡◌, List, Option, Some, None, Result, Ok, Err, IsSome, Bool, true, false, refl}
-use Rattle.lite_consume.specs.Consuming.{Fold}
+use Rattle.lite_gather.specs.Uses.{◌≡◌, List, Option, Some, None, Result, Ok, Err, IsSome, Bool, true, false, refl, Fold, Question}
 use Rattle.lite_gather.specs.Gathering.{Kept, Took}
 use Rattle.lite_gather.specs.declared.refused.Refused.{Refused}
-use Rattle.lite_base.specs.Runs.{Question}
 
 module _ {B T : Type 0} (holds : B → List T → Type 0) where
   -- an item that was accepted goes to the first, another to the second

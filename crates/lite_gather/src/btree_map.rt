@@ -1,6 +1,4 @@
-ghost use Rattle.std.specs.Prelude.{◌≡◌, []};
-ghost use Rattle.std.specs.BTreeMap.{ContainsKey, insert_entry};
-ghost use Rattle.std.specs.List.{fold};
+ghost use Rattle.lite_gather.specs.Uses.{◌≡◌, [], ContainsKey, insert_entry, fold};
 
 use crate::gather::Gather;
 use std::alloc::Allocator;

@@ -1,6 +1,4 @@
-ghost use Rattle.std.specs.Prelude.{◌≡◌, IsTrue, []};
-ghost use Rattle.std.specs.BTreeSet.{contains, insert_key};
-ghost use Rattle.std.specs.List.{fold};
+ghost use Rattle.lite_gather.specs.Uses.{◌≡◌, IsTrue, [], contains, insert_key, fold};
 
 use crate::gather::Gather;
 use std::alloc::Allocator;

@@ -1,6 +1,4 @@
-ghost use Rattle.std.specs.Prelude.{IsSome};
-ghost use Rattle.lite_consume.specs.Consuming.{fold_of};
-ghost use Rattle.lite_consume.specs.Laws.Returning.{returns_counted};
+ghost use Rattle.lite_gather.specs.Uses.{IsSome, fold_of, returns_counted};
 ghost use Rattle.lite_gather.specs.Collect.{collects, collects_open};
 ghost use Rattle.lite_gather.specs.Gathering.{LacksRoom};
 

@@ -1,7 +1,4 @@
-ghost use Rattle.std.specs.Prelude.{◌≡◌, IfErr, IsSome, OnOk};
-ghost use Rattle.std.specs.Fn.{CalledAt, TakesAt};
-ghost use Rattle.lite_consume.specs.Consuming.{fold_of};
-ghost use Rattle.lite_consume.specs.Laws.Returning.{returns_counted};
+ghost use Rattle.lite_gather.specs.Uses.{◌≡◌, IfErr, IsSome, OnOk, CalledAt, TakesAt, fold_of, returns_counted};
 ghost use Rattle.lite_gather.specs.Gathering.{LacksRoom};
 ghost use Rattle.lite_gather.specs.Partition.{Sorted, Unsorted, partitions, partitions_open};
 

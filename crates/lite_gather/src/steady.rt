@@ -1,10 +1,5 @@
 //! The collections that don't depend on when the stream was pending.
-ghost use Rattle.std.specs.Fn.{CalledAt};
-ghost use Rattle.std.specs.Prelude.{◌≡◌};
-ghost use Rattle.lite_base.specs.Alike.{OptionBy, SameErr, SameItem, SameOk, Sameness};
-ghost use Rattle.lite_base.specs.Calling.{AgreeFrom};
-ghost use Rattle.lite_consume.specs.Consuming.{fold_of};
-ghost use Rattle.lite_consume.specs.Laws.Agreeing.{part_steady};
+ghost use Rattle.lite_gather.specs.Uses.{CalledAt, ◌≡◌, OptionBy, SameErr, SameItem, SameOk, Sameness, AgreeFrom, fold_of, part_steady};
 ghost use Rattle.lite_gather.specs.Agreeing.{HoldsSame, HoldsSameBoth, HoldsSameParts, SameCollected, TrySameCollected};
 ghost use Rattle.lite_gather.specs.Agreeing.{Unmixed};
 ghost use Rattle.lite_gather.specs.Collect.{collects};

@@ -1,6 +1,4 @@
-ghost use Rattle.std.specs.Prelude.{IsSome};
-ghost use Rattle.lite_consume.specs.Consuming.{fold_of};
-ghost use Rattle.lite_consume.specs.Laws.Returning.{returns_ok};
+ghost use Rattle.lite_gather.specs.Uses.{IsSome, fold_of, returns_ok};
 ghost use Rattle.lite_gather.specs.Gathering.{LacksRoom};
 ghost use Rattle.lite_gather.specs.TryCollect.{tries_collect, tries_collect_open};
 

@@ -1,6 +1,4 @@
-ghost use Rattle.std.specs.Prelude.{◌≡◌, IfErr, IsSome, OnOk};
-ghost use Rattle.lite_consume.specs.Consuming.{fold_of};
-ghost use Rattle.lite_consume.specs.Laws.Returning.{returns_counted};
+ghost use Rattle.lite_gather.specs.Uses.{◌≡◌, IfErr, IsSome, OnOk, fold_of, returns_counted};
 ghost use Rattle.lite_gather.specs.Gathering.{LacksRoom, Took};
 ghost use Rattle.lite_gather.specs.Refused.{refused_of};
 ghost use Rattle.lite_gather.specs.Unzip.{RefusedOne, unzips, unzips_open};

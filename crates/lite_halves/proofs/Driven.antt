@@ -1,10 +1,6 @@
 -- What a loop over calls has come to: so many were made, and their answers appended.
-use Rattle.std.proofs.Common.{◌≡◌, ◌<◌, ◌+◌, ℕ, List, [], ◌∷◌, ◌++◌, length, map, get_or, refl, sym, ap}
-use Rattle.std.proofs.Common.{append-nil, append_assoc, length-append, add-zero, arith}
-use Rattle.std.proofs.lemmas.List.{get_or_default, map-append}
-use Rattle.std.proofs.lemmas.List.Sums.{sum_by-append}
-use Rattle.lite_io_base.specs.Marks.{ReadMark}
-use Rattle.lite_io_base.specs.Takings.{WriteMark}
+use Rattle.lite_halves.specs.Uses.{◌≡◌, ◌<◌, ◌+◌, ℕ, List, [], ◌∷◌, ◌++◌, length, map, get_or, refl, sym, ap, append-nil, append_assoc, length-append, add-zero}
+use Rattle.lite_halves.specs.Uses.{arith, get_or_default, map-append, sum_by-append, ReadMark, WriteMark, Runs}
 use Rattle.lite_halves.specs.declared.entry.Answer.{Answer}
 use Rattle.lite_halves.specs.declared.entry.Call.{Call}
 use Rattle.lite_halves.specs.Counts.{CountsOn, HalfCounts, Makes, count_moved, moved_by}
@@ -13,7 +9,6 @@ use Rattle.lite_halves.specs.Entry.{AllFit, FitsCall, Note, Request, Told, asked
 use Rattle.lite_halves.specs.Journal.{Adds, AddsAll, AsksMemory, Chronicle}
 use Rattle.lite_halves.specs.Laws.Entry.{fit_both}
 use Rattle.lite_halves.specs.Laws.Journal.{adds_both, adds_none, adds_one}
-use Rattle.lite_base.specs.Runs.{Runs}
 
 pairs_none : (xs : List Request) → pairs xs [] ≡ []
 pairs_none [] = refl

@@ -1,14 +1,10 @@
 -- A journal with one entry more.
-use Rattle.std.proofs.Common.{◌≡◌, ◌∙◌, ◌≤◌, ◌+◌, ℕ, List, [], ◌∷◌, ◌++◌, ap, arith, sym, refl, subst}
-use Rattle.std.proofs.lemmas.List.{map-append}
-use Rattle.lite_io_base.specs.Parts.{Part, PartRuns}
-use Rattle.lite_io_base.specs.Marks.{ReadMark}
-use Rattle.lite_io_base.specs.Takings.{WriteMark}
+use Rattle.lite_halves.specs.Uses.{◌≡◌, ◌∙◌, ◌≤◌, ◌+◌, ℕ, List, [], ◌∷◌, ◌++◌, ap, arith, sym, refl, subst, map-append, Part, PartRuns, ReadMark, WriteMark}
+use Rattle.lite_halves.specs.Uses.{Runs}
 use Rattle.lite_halves.specs.declared.entry.Entry.{Entry}
 use Rattle.lite_halves.specs.Entry.{FitsCall, Note, asked_of, note_of, notes_in, part_of, told_of}
 use Rattle.lite_halves.specs.Journal.{Adds, Chronicle, IsSound}
 use Rattle.lite_halves.specs.Laws.Journal.{adds_one, sound_more}
-use Rattle.lite_base.specs.Runs.{Runs}
 
 notes_in-push : (es fs gs : List Entry) (e : Entry) (n : Note) → fs ≡ es → gs ≡ fs ++ e ∷ [] → asked_of e.call ≡ n.asked
     → told_of e.answer ≡ n.told

@@ -1,13 +1,10 @@
 -- Calls that are made one after the other until memory is refused.
-use Rattle.std.specs.Prelude.{◌≡◌, ◌<◌, ℕ, List, [], ◌∷◌, ◌++◌, length, slice_index_or, Option, Some, None, Result, Ok, Err}
-use Rattle.std.specs.declared.alloc.AllocError.{AllocError}
-use Rattle.lite_io_base.specs.Marks.{ReadMark}
-use Rattle.lite_io_base.specs.Takings.{WriteMark}
+use Rattle.lite_halves.specs.Uses.{◌≡◌, ◌<◌, ℕ, List, [], ◌∷◌, ◌++◌, length, slice_index_or, Option, Some, None, Result, Ok, Err, AllocError, ReadMark}
+use Rattle.lite_halves.specs.Uses.{WriteMark, Runs}
 use Rattle.lite_halves.specs.declared.entry.Answer.{Answer}
 use Rattle.lite_halves.specs.declared.entry.Call.{Call}
 use Rattle.lite_halves.specs.Entry.{Note, Request, Told, asked_of, told_of}
 use Rattle.lite_halves.specs.Journal.{Adds, AddsAll, AsksMemory, Chronicle}
-use Rattle.lite_base.specs.Runs.{Runs}
 
 -- each call with its answer, as far as there are both
 abbrev pub pairs : List Request → List Told → List Note

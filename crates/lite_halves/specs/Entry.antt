@@ -1,13 +1,7 @@
 -- What an entry of a journal says, and the marks that it stands for.
-use Rattle.std.specs.Prelude.{ℕ, zero, suc, ◌≤◌, List, [], ◌∷◌, length, map, take, Result, Ok, Err, ⊤}
-use Rattle.std.specs.IoError.{error_kind}
-use Rattle.std.specs.declared.io.Error.{Error}
-use Rattle.std.specs.declared.io.ErrorKind.{ErrorKind}
-use Rattle.futures.specs.declared.task.Poll.{Poll}
+use Rattle.lite_halves.specs.Uses.{ℕ, zero, suc, ◌≤◌, List, [], ◌∷◌, length, map, take, Result, Ok, Err, ⊤, error_kind, Error, ErrorKind, Poll, Part, ReadMark}
+use Rattle.lite_halves.specs.Uses.{bytes, WriteMark}
 use Rattle.futures.specs.declared.task.Poll.TheVariants.{Ready, Pending as Waits}
-use Rattle.lite_io_base.specs.Parts.{Part}
-use Rattle.lite_io_base.specs.Marks.{ReadMark, bytes}
-use Rattle.lite_io_base.specs.Takings.{WriteMark}
 use Rattle.lite_halves.specs.declared.entry.Entry.{Entry}
 use Rattle.lite_halves.specs.declared.entry.Call.{Call}
 use Rattle.lite_halves.specs.declared.entry.Call.TheVariants.{Read, Write, Flush, Close}

@@ -1,20 +1,9 @@
 -- A journal: what it began with, what was asked and told since, and what it is now.
-use Rattle.std.specs.Prelude.{◌≡◌, ◌⊎◌, ◌<◌, ◌≤◌, ℕ, ◌+◌, List, [], ◌∷◌, ◌++◌, length, map, Option, Some, None, Result, vec_capacity}
-use Rattle.std.specs.List.{flat_map}
-use Rattle.std.proofs.Common.{Global}
-use Rattle.std.specs.declared.io.Error.{Error}
-use Rattle.std.specs.declared.io.ErrorKind.TheVariants.{OutOfMemory}
-use Rattle.std.specs.declared.io.slices.IoSliceMut.{IoSliceMut}
-use Rattle.std.specs.declared.vec.Vec.{Vec}
-use Rattle.futures.specs.declared.task.Poll.{Poll}
-use Rattle.lite_io_base.specs.Parts.{Part, PartRuns, PartsInOrder}
-use Rattle.lite_io_base.specs.Marks.{ReadMark}
-use Rattle.lite_io_base.specs.Runs.{StandsFirst, room_in}
-use Rattle.lite_io_base.specs.Steps.{Steps}
-use Rattle.lite_io_base.specs.Takings.{WriteMark}
+use Rattle.lite_halves.specs.Uses.{◌≡◌, ◌⊎◌, ◌<◌, ◌≤◌, ℕ, ◌+◌, List, [], ◌∷◌, ◌++◌, length, map, Option, Some, None, Result, vec_capacity, flat_map, Global}
+use Rattle.lite_halves.specs.Uses.{Error, OutOfMemory, IoSliceMut, Vec, Poll, Part, PartRuns, PartsInOrder, ReadMark, StandsFirst, room_in, Steps, WriteMark}
+use Rattle.lite_halves.specs.Uses.{Runs}
 use Rattle.lite_halves.specs.Entry.{AllFit, FitsCall, Note, Request, Told, copied, part_of, parts_in, read_note}
 use Rattle.lite_halves.specs.Entry.{write_note}
-use Rattle.lite_base.specs.Runs.{Runs}
 
 -- what contracts see of a journal; `room` is how many entries more it can take with no memory asked for
 pub record Chronicle (T : Type 0) : Type 0 where
@@ -29,10 +18,10 @@ AsksMemory j asked = (j.room ≡ 0) ⊎ (0 < copied asked)
 
 -- The journal has room for an entry, and there is a vector for so many bytes of it; or memory for these was refused, and
 -- nothing changed.
-abbrev pub MakesRoom : {T : Type 0} → Chronicle T → ℕ → Option (Vec ℕ Global) → Chronicle T → Type 0
-MakesRoom a n (Some v) b =
+abbrev pub MakesEntryRoom : {T : Type 0} → Chronicle T → ℕ → Option (Vec ℕ Global) → Chronicle T → Type 0
+MakesEntryRoom a n (Some v) b =
     (v.items ≡ []) × (n ≤ vec_capacity v) × (0 < b.room) × (a.room ≤ b.room) × (b ≡ record a { room = b.room })
-MakesRoom a n None b = (b ≡ a) × ((a.room ≡ 0) ⊎ (0 < n))
+MakesEntryRoom a n None b = (b ≡ a) × ((a.room ≡ 0) ⊎ (0 < n))
 
 -- each clone equals its original
 abbrev pub ClonesEqual : {T : Type 0} → (T → T → Type 0) → Type 0

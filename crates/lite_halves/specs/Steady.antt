@@ -1,8 +1,6 @@
 -- The runs of a journal in which no memory was refused.
-use Rattle.lite_io_base.specs.Marks.{ReadMark}
-use Rattle.lite_io_base.specs.Takings.{WriteMark}
+use Rattle.lite_halves.specs.Uses.{ReadMark, WriteMark, Runs}
 use Rattle.lite_halves.specs.Journal.{Chronicle, JournalReads}
-use Rattle.lite_base.specs.Runs.{Runs}
 
 -- each call reached the stream, by an ample run of it
 abbrev pub ReadsAmply : {T : Type 0} → Runs ReadMark T → Runs WriteMark T → Runs ReadMark T

@@ -1,9 +1,8 @@
 -- A call that lends may say more than its trait does of what is there once the borrow ends.
-use Rattle.std.specs.Borrow.{RattleType, MutBor}
-use Rattle.std.specs.Prelude.{⊤}
+use Rattle.lite_io_base.specs.Uses.{RattleType, ⊤, such_by, follows_if}
+use Rattle.std.specs.Borrow.{MutBor}
 use base.Logic.{SProp, all, all_i, emp, emp∗, ent, ex_e, ex_i, sep, snd∗, via, wand, wand_i}
 use borrow.Fn.Refines.{Gives, Turns}
-use denote.Follow.{such_by, follows_if}
 use mathlib.Core.Option.{none}
 use seplogic.Ra.Ura.{Ura}
 use types.Logic.{Logic, sem}

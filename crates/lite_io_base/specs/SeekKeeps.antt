@@ -1,8 +1,5 @@
 -- What holds of a value before and after a seek.
-use Rattle.std.specs.Prelude.{ℕ, Result}
-use Rattle.std.specs.declared.io.ErrorKind.{ErrorKind}
-use Rattle.std.specs.declared.io.traits.SeekFrom.{SeekFrom}
-use Rattle.futures.specs.declared.task.Poll.{Poll}
+use Rattle.lite_io_base.specs.Uses.{ℕ, Result, ErrorKind, SeekFrom, Poll}
 
 -- Each seek keeps P. `seeks` tells what a seek to a place may answer and leave.
 abbrev pub SeekKeeps : {S : Type 0} → (S → SeekFrom → Poll (Result ℕ ErrorKind) → S → Type 0) → (S → Type 0) → Type 0

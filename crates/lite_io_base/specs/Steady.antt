@@ -1,10 +1,6 @@
 -- Readers whose tale does not depend on when they were pending, where memory was found: the runs in which it was are
 -- the ample ones.
-use Rattle.std.specs.Prelude.{List, [], ◌∷◌, ⊤}
-use Rattle.lite_base.specs.Answers.{Comparable}
-use Rattle.lite_base.specs.Calm.{CalmRuns}
-use Rattle.lite_base.specs.Runs.{Runs}
-use Rattle.lite_base.specs.Steady.{TakesNone}
+use Rattle.lite_io_base.specs.Uses.{List, [], ◌∷◌, ⊤, Comparable, CalmRuns, Runs, TakesNone}
 use Rattle.lite_io_base.specs.Marks.{ReadMark}
 use Rattle.lite_io_base.specs.Runs.{MarkLaws}
 

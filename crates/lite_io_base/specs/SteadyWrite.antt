@@ -1,8 +1,5 @@
 -- Writers that leave the same bytes however often they were pending, and writers that are never pending.
-use Rattle.std.specs.Prelude.{◌≡◌, ℕ, List, [], ◌∷◌, ◌++◌, ⊤}
-use Rattle.std.specs.declared.io.ErrorKind.TheVariants.{Interrupted}
-use Rattle.lite_base.specs.Calm.{CalmRuns}
-use Rattle.lite_base.specs.Runs.{Runs}
+use Rattle.lite_io_base.specs.Uses.{◌≡◌, ℕ, List, [], ◌∷◌, ◌++◌, ⊤, Interrupted, CalmRuns, Runs}
 use Rattle.lite_io_base.specs.Takings.{WriteMark, bytes_taken}
 
 -- no error but interruptions, which take nothing

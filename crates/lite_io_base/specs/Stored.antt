@@ -1,7 +1,6 @@
 -- What is known of the bytes that a writer keeps.
-use Rattle.std.specs.Prelude.{◌≡◌, ℕ, List, [], ◌++◌}
+use Rattle.lite_io_base.specs.Uses.{◌≡◌, ℕ, List, [], ◌++◌, Runs}
 use Rattle.lite_io_base.specs.Takings.{WriteMark, bytes_taken}
-use Rattle.lite_base.specs.Runs.{Runs}
 
 -- It speaks of what writing calls do as `told` has it; a clause that takes it asks that what they do is that.
 pub record Stored (S : Type 0) : Type 1 where

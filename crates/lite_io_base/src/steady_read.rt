@@ -1,7 +1,6 @@
-ghost use Rattle.std.specs.Prelude.{⊤};
+ghost use Rattle.lite_io_base.specs.Uses.{⊤, Runs};
 ghost use Rattle.lite_io_base.specs.Marks.{ReadMark};
 ghost use Rattle.lite_io_base.specs.Steady.{SteadyReadLaws};
-ghost use Rattle.lite_base.specs.Runs.{Runs};
 
 use crate::async_read::AsyncRead;
 

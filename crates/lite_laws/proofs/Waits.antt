@@ -1,8 +1,5 @@
 -- What a run leaves whose last answer is Pending.
-use Rattle.std.specs.Prelude.{List, [], ◌∷◌, ◌++◌}
-use Rattle.futures.specs.Poll.{OnPending}
-use Rattle.futures.specs.declared.task.Poll.{Poll}
-use Rattle.futures.specs.declared.task.Poll.TheVariants.{Ready, Pending}
+use Rattle.lite_laws.specs.Uses.{List, [], ◌∷◌, ◌++◌, OnPending, Poll, Ready, Pending}
 use Rattle.lite_laws.specs.Waits.{IfWaits}
 
 pub waits_last : {A : Type 0} (l : List (Poll A)) (a : Poll A) (P : Type 0) → OnPending a P → IfWaits (l ++ a ∷ []) P

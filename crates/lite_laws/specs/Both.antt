@@ -1,10 +1,5 @@
 -- Two runs of streams that are alike, and two of futures.
-use Rattle.std.specs.Prelude.{◌≡◌, ◌⊎◌, ◌<◌, ℕ, List, [], length}
-use Rattle.futures.specs.declared.task.Poll.{Poll}
-use Rattle.lite_base.specs.Alike.{SameAnswer, SameItem, Sameness}
-use Rattle.lite_base.specs.Answers.{Answer, ComparableBy, strip}
-use Rattle.lite_base.specs.Future.Finishes.{Finishes}
-use Rattle.lite_base.specs.Runs.{Runs}
+use Rattle.lite_laws.specs.Uses.{◌≡◌, ◌⊎◌, ◌<◌, ℕ, List, [], length, Poll, SameAnswer, SameItem, Sameness, Answer, ComparableBy, strip, Finishes, Runs}
 
 -- the two ran so, and where memory was found in both, or no poll asks for it, one list of answers begins the other,
 -- Pendings aside, where answers that are the same count as one

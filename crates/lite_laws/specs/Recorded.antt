@@ -1,8 +1,5 @@
 -- What a run leaves in the list to which its answers are appended.
-use Rattle.std.specs.Prelude.{◌≡◌, ◌<◌, ℕ, List, ◌++◌, length, Result, IfOk, IfErr}
-use Rattle.std.specs.declared.vec.Vec.{Vec}
-use Rattle.std.proofs.Common.{Global}
-use Rattle.lite_base.specs.Answers.{Answer}
+use Rattle.lite_laws.specs.Uses.{◌≡◌, ◌<◌, ℕ, List, ◌++◌, length, Result, IfOk, IfErr, Vec, Global, Answer}
 
 -- so many answers were appended where the result is Ok, and else fewer; P holds of their list
 abbrev pub Recorded : {A R E : Type 0} → (before after : Vec (Answer A) Global) → ℕ → Result R E

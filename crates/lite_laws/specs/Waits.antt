@@ -1,9 +1,5 @@
 -- What a run leaves whose last answer is Pending.
-use Rattle.std.specs.Prelude.{⊤, List, [], ◌∷◌}
-use Rattle.futures.specs.Poll.{OnPending}
-use Rattle.futures.specs.Task.{Holds, Lasting}
-use Rattle.futures.specs.declared.task.Poll.{Poll}
-use Rattle.futures.specs.declared.task.context.Context.{Context}
+use Rattle.lite_laws.specs.Uses.{⊤, List, [], ◌∷◌, OnPending, Holds, Lasting, Poll, Context}
 
 -- P holds if the last answer is Pending
 abbrev pub IfWaits : {A : Type 0} → List (Poll A) → Type 0 → Type 0

@@ -1,6 +1,4 @@
-ghost use Rattle.std.specs.Prelude.{◌≡◌, ◌+◌, ◌<◌, ◌⊎◌, ◌++◌, List, length, vec_capacity, vec_len, IfOk, IfErr};
-ghost use Rattle.futures.specs.Task.{Keeps};
-ghost use Rattle.lite_base.specs.Answers.{Answer};
+ghost use Rattle.lite_laws.specs.Uses.{◌≡◌, ◌+◌, ◌<◌, ◌⊎◌, ◌++◌, List, length, vec_capacity, vec_len, IfOk, IfErr, Keeps, Answer};
 ghost use Rattle.lite_laws.specs.Both.{Agreed, Fewer};
 ghost use Rattle.lite_laws.specs.Waits.{HoldsEach, IfWaits};
 

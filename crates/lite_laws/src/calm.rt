@@ -1,7 +1,4 @@
-ghost use Rattle.std.specs.Prelude.{◌≡◌, ◌+◌, ◌<◌, ◌++◌, List, length, vec_capacity, vec_len, IfOk, IfErr};
-ghost use Rattle.futures.specs.Task.{Keeps};
-ghost use Rattle.lite_base.specs.Answers.{Answer};
-ghost use Rattle.lite_base.specs.Calm.{NoPending};
+ghost use Rattle.lite_laws.specs.Uses.{◌≡◌, ◌+◌, ◌<◌, ◌++◌, List, length, vec_capacity, vec_len, IfOk, IfErr, Keeps, Answer, NoPending};
 
 use crate::polls::run;
 use lite_base::{CalmStream, Context, Poll};

@@ -1,12 +1,6 @@
 -- `with_budget`: a pending of its own after so many items in a row.
-use Rattle.std.specs.Prelude.{ℕ, ⊤, [], ◌∷◌}
-use Rattle.futures.specs.declared.task.Poll.TheVariants.{Pending}
-use Rattle.lite_base.specs.Answers.{Answer}
-use Rattle.lite_base.specs.Paces.{Paces, left_behind}
-use Rattle.lite_base.specs.Ranks.{Ranks}
-use Rattle.lite_base.specs.Runs.{Runs}
+use Rattle.lite_merge.specs.Uses.{ℕ, ⊤, [], ◌∷◌, Pending, Answer, Paces, left_behind, Ranks, Runs, AdapterParts, Through, parts_of}
 use Rattle.lite_merge.specs.declared.budgeted.Budgeted.{Budgeted}
-use Rattle.lite_stream.specs.Through.{AdapterParts, Through, parts_of}
 
 -- the source's list, with a pending where the budget is used up: so many items in a row
 abbrev pub Budgets : {S A : Type 0} → Runs (Answer A) S → Runs (Answer A) (Budgeted S)

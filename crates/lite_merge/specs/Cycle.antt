@@ -1,9 +1,6 @@
 -- `cycle`: a stream's list before its first end, and then that of each copy of it, of which the first answer may be an
 -- end.
-use Rattle.std.specs.Prelude.{◌≡◌, List, [], ◌∷◌, ◌++◌, Option, Some, None, IfSome, Result, Ok, Err}
-use Rattle.lite_base.specs.Answers.{Answer, Endless, end, item}
-use Rattle.lite_base.specs.OkRanks.{all_ok}
-use Rattle.lite_base.specs.Runs.{Runs}
+use Rattle.lite_merge.specs.Uses.{◌≡◌, List, [], ◌∷◌, ◌++◌, Option, Some, None, IfSome, Result, Ok, Err, Answer, Endless, end, item, all_ok, Runs}
 use Rattle.lite_merge.specs.declared.cycle.Cycle.{Cycle}
 
 module _ {S A : Type 0} (run : Runs (Answer A) S) where

@@ -1,13 +1,6 @@
 -- `drain`: an end in the place of each Pending.
-use Rattle.std.specs.Prelude.{◌≡◌, List, [], ◌∷◌}
-use denote.MutBor.{MutBor}
-use Rattle.futures.specs.declared.task.Poll.TheVariants.{Ready, Pending}
-use Rattle.lite_base.specs.Answers.{Answer, end}
-use Rattle.lite_base.specs.Lent.{Lent}
-use Rattle.lite_base.specs.Runs.{Runs}
+use Rattle.lite_merge.specs.Uses.{◌≡◌, List, [], ◌∷◌, MutBor, Ready, Pending, Answer, end, Lent, Runs, AdapterParts, Through, parts_of, Relates}
 use Rattle.lite_merge.specs.declared.drain.Drain.{Drain}
-use Rattle.lite_stream.specs.Through.{AdapterParts, Through, parts_of}
-use Rattle.lite_stream.specs.Relates.{Relates}
 
 -- an end for each Pending; an item and an end stay
 abbrev pub with_ends : {A : Type 0} → List (Answer A) → List (Answer A)

@@ -8,3 +8,4 @@ pub mod Race
 pub mod StopAfterFuture
 pub mod Stopping
 pub mod Zip
+pub mod Uses

@@ -1,13 +1,6 @@
 -- Two streams of which each row asks one first, and the other where that one has no item.
-use Rattle.std.specs.Prelude.{◌≡◌, ◌⊎◌, ◌+◌, List, ◌∷◌, ◌++◌, Bool, false, Some, None}
-use Rattle.futures.specs.declared.task.Poll.TheVariants.{Ready, Pending}
-use Rattle.futures.specs.Task.{Lasting}
-use Rattle.lite_base.specs.Answers.{Answer, item}
-use Rattle.lite_base.specs.Ranks.{Ranks}
-use Rattle.lite_base.specs.Rows.{Rows}
-use Rattle.lite_base.specs.Runs.{Runs}
-use Rattle.lite_stream.specs.Fuse.{Fuses}
-use Rattle.lite_stream.specs.declared.fuse.Fuse.{Fuse}
+use Rattle.lite_merge.specs.Uses.{◌≡◌, ◌⊎◌, ◌+◌, List, ◌∷◌, ◌++◌, Bool, false, Some, None, Ready, Pending, Lasting, Answer, item, Ranks, Rows, Runs, Fuses}
+use Rattle.lite_merge.specs.Uses.{Fuse}
 
 -- what goes out of an answer beside one that is pending: an item, and no end
 abbrev pub beside_pending : {A : Type 0} → Answer A → Answer A

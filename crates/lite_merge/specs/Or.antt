@@ -1,8 +1,5 @@
 -- `or`: in each row the first stands first.
-use Rattle.std.specs.Prelude.{map, true}
-use Rattle.lite_base.specs.Answers.{Answer}
-use Rattle.lite_base.specs.Ranks.{Ranks}
-use Rattle.lite_base.specs.Runs.{Runs}
+use Rattle.lite_merge.specs.Uses.{map, true, Answer, Ranks, Runs}
 use Rattle.lite_merge.specs.Merge.{Merges, merge_ranks}
 use Rattle.lite_merge.specs.declared.or.Or.{Or}
 

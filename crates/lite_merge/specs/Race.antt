@@ -1,10 +1,5 @@
 -- `race`: the generator's next word says which of the two stands first in each row.
-use Rattle.std.specs.Prelude.{◌≡◌, ℕ, List, [], ◌∷◌, map}
-use Rattle.rand_core.specs.Stream.{Stream}
-use Rattle.lite_base.specs.Answers.{Answer}
-use Rattle.lite_base.specs.Future.Race.{Words, is_first}
-use Rattle.lite_base.specs.Ranks.{Ranks}
-use Rattle.lite_base.specs.Runs.{Runs}
+use Rattle.lite_merge.specs.Uses.{◌≡◌, ℕ, List, [], ◌∷◌, map, Stream, Answer, Words, is_first, Ranks, Runs}
 use Rattle.lite_merge.specs.Merge.{Merges, merge_ranks}
 use Rattle.lite_merge.specs.declared.race.Race.{Race}
 

@@ -1,16 +1,10 @@
 -- `stop_after_future`: a stream's list beside a future's, up to the future's value or the stream's end, and then ends;
 -- for ever the stream's once the future was taken out.
-use Rattle.std.specs.Prelude.{◌≡◌, ◌+◌, List, [], ◌∷◌, ◌++◌, length, Some, None}
-use Rattle.futures.specs.declared.task.Poll.{Poll}
-use Rattle.lite_base.specs.Answers.{Answer, Endless, Waiting, end}
-use Rattle.lite_base.specs.Future.Finishes.{Finishes}
-use Rattle.lite_base.specs.Runs.{Runs}
+use Rattle.lite_merge.specs.Uses.{◌≡◌, ◌+◌, List, [], ◌∷◌, ◌++◌, length, Some, None, Poll, Answer, Endless, Waiting, end, Finishes, Runs, AllEnds, Through}
+use Rattle.lite_merge.specs.Uses.{Relates}
 use Rattle.lite_merge.specs.declared.stop_after_future.StopAfterFuture.{StopAfterFuture}
 use Rattle.lite_merge.specs.declared.stop_after_future.Stopping.TheVariants.{Holding, TakenOut, Stopped}
 use Rattle.lite_merge.specs.declared.stop_after_future.Stopping.{Stopping}
-use Rattle.lite_stream.specs.Fuse.{AllEnds}
-use Rattle.lite_stream.specs.Through.{Through}
-use Rattle.lite_stream.specs.Relates.{Relates}
 
 -- a list goes out, and then ends
 abbrev pub ThenEnds : {A : Type 0} → List (Answer A) → List (Answer A) → Type 0

@@ -1,12 +1,9 @@
 -- What else is said of `stop_after_future`: what its calls take out, where it may be polled, its hint, and what a
 -- pending registers.
-use Rattle.std.specs.Prelude.{◌≡◌, ◌⊎◌, ℕ, Option, Some, None, IfSome, ⊤}
-use Rattle.futures.specs.Task.{Lasting}
+use Rattle.lite_merge.specs.Uses.{◌≡◌, ◌⊎◌, ℕ, Option, Some, None, IfSome, ⊤, Lasting, AdapterParts, parts_of, Hints}
 use Rattle.lite_merge.specs.declared.stop_after_future.StopAfterFuture.{StopAfterFuture}
 use Rattle.lite_merge.specs.declared.stop_after_future.Stopping.TheVariants.{Holding, TakenOut, Stopped}
 use Rattle.lite_merge.specs.declared.stop_after_future.Stopping.{Stopping}
-use Rattle.lite_stream.specs.Through.{AdapterParts, parts_of}
-use Rattle.lite_base.specs.Runs.{Hints}
 
 -- a `stop_after_future` is its stream, and its future or what became of it
 abbrev pub stop_parts : {S F R : Type 0} → AdapterParts (StopAfterFuture S F R) S (Stopping F R)

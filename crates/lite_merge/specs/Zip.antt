@@ -1,11 +1,6 @@
 -- `zip`: each item of the first waits while the second is pending, and makes a pair with the second's next item.
-use Rattle.std.specs.Prelude.{◌≡◌, ◌⊎◌, ℕ, zero, suc, ◌+◌, List, [], ◌∷◌, Option, Some, None}
-use Rattle.futures.specs.declared.task.Poll.{Poll}
-use Rattle.futures.specs.declared.task.Poll.TheVariants.{Ready, Pending}
-use Rattle.futures.specs.Task.{Lasting}
-use Rattle.lite_base.specs.Answers.{Answer, end, item}
-use Rattle.lite_base.specs.Ranks.{Ranks, held_rank}
-use Rattle.lite_base.specs.Runs.{Runs}
+use Rattle.lite_merge.specs.Uses.{◌≡◌, ◌⊎◌, ℕ, zero, suc, ◌+◌, List, [], ◌∷◌, Option, Some, None, Poll, Ready, Pending, Lasting, Answer, end, item, Ranks}
+use Rattle.lite_merge.specs.Uses.{held_rank, Runs}
 use Rattle.lite_merge.specs.declared.zip.Zip.{Zip}
 
 -- n Pendings, and then l

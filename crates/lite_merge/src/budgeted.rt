@@ -1,7 +1,6 @@
-ghost use Rattle.lite_base.specs.Woken.{HoldsWoken};
+ghost use Rattle.lite_merge.specs.Uses.{HoldsWoken, laws_hinted};
 ghost use Rattle.lite_merge.specs.Budgeted.{Budgets, budget_parts, budget_ranks};
 ghost use Rattle.lite_merge.specs.Laws.Budgeted.{budget_counting, paces_relating};
-ghost use Rattle.lite_stream.specs.Laws.Through.{laws_hinted};
 
 use lite_base::{Context, Counted, Poll, Stream};
 

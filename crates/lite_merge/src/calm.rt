@@ -2,13 +2,12 @@
 ghost use Rattle.lite_merge.specs.Laws.Or.{or_calm};
 ghost use Rattle.lite_merge.specs.Laws.Race.{race_calm};
 ghost use Rattle.lite_merge.specs.Laws.Zip.{zip_calm};
-ghost use Rattle.std.specs.Prelude.{⊤};
+ghost use Rattle.lite_merge.specs.Uses.{⊤, through_calm};
 ghost use Rattle.lite_merge.specs.Cycle.{AllCopies};
 ghost use Rattle.lite_merge.specs.Laws.Cycle.{cycle_calm};
 ghost use Rattle.lite_merge.specs.Laws.Drain.{drain_calm};
 ghost use Rattle.lite_merge.specs.Laws.StopAfterFuture.{stops_calming};
 ghost use Rattle.lite_merge.specs.Stopping.{stop_parts};
-ghost use Rattle.lite_stream.specs.Laws.Calming.{through_calm};
 
 use crate::{Cycle, Drain, Or, Race, StopAfterFuture, Zip};
 use lite_base::{CalmStream, Future, Stream};

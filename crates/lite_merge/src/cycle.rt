@@ -1,10 +1,6 @@
-ghost use Rattle.std.specs.Prelude.{◌≡◌, [], ◌∷◌, IfSome, None, Result, Some};
-ghost use Rattle.std.specs.declared.alloc.AllocError.{AllocError};
-ghost use Rattle.futures.specs.Task.{Keeps};
+ghost use Rattle.lite_merge.specs.Uses.{◌≡◌, [], ◌∷◌, IfSome, None, Result, Some, AllocError, Keeps, Registered, NoHint};
 ghost use Rattle.lite_merge.specs.Cycle.{AllCopies, Cycles, Renews};
 ghost use Rattle.lite_merge.specs.Laws.Cycle.{cycle_laws};
-ghost use Rattle.lite_base.specs.Registered.{Registered};
-ghost use Rattle.lite_base.specs.Runs.{NoHint};
 
 use lite_base::{Context, Poll, Stream, ready};
 use std::alloc::AllocError;

@@ -1,10 +1,6 @@
-ghost use Rattle.std.specs.Prelude.{◌≡◌, ℕ, Option};
-ghost use Rattle.std.specs.Borrow.{Lends, sem};
-ghost use Rattle.lite_base.specs.Laws.Lent.{lent_counting, lent_laws};
-ghost use Rattle.lite_base.specs.Ranks.{ranks_of};
+ghost use Rattle.lite_merge.specs.Uses.{◌≡◌, ℕ, Option, Lends, sem, lent_counting, lent_laws, ranks_of, laws_capped, through_counting};
 ghost use Rattle.lite_merge.specs.Drain.{Drains, drain_parts};
 ghost use Rattle.lite_merge.specs.Laws.Drain.{drained_relating};
-ghost use Rattle.lite_stream.specs.Laws.Through.{laws_capped, through_counting};
 
 use lite_base::{Context, Counted, Poll, Stream};
 
@@ -19,7 +15,7 @@ pub struct Drain<'a, S> {
 
 impl<'a, S> Drain<'a, S> {
     ghost use mir.Syntax.{named};
-    ghost use Rattle.std.specs.Prelude.{[]};
+    ghost use Rattle.lite_merge.specs.Uses.{[]};
     ghost use Rattle.lite_merge.specs.contracts.drain.Drain.{the_row};
 
     /// The lent stream. Ported from `src/stream.rs`, `Drain::get_ref`.

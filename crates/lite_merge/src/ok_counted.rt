@@ -1,18 +1,15 @@
 //! Ranks over `Ok` items, of the adapters whose rank falls with each item.
-ghost use Rattle.lite_base.specs.Laws.OkRanks.{ok_counting};
+ghost use Rattle.lite_merge.specs.Uses.{ok_counting, lent_counting, ranks_of, through_counting};
 ghost use Rattle.lite_merge.specs.Laws.Or.{or_counting};
 ghost use Rattle.lite_merge.specs.Laws.Race.{race_counting};
 ghost use Rattle.lite_merge.specs.Or.{or_ranks};
 ghost use Rattle.lite_merge.specs.Race.{race_ranks};
-ghost use Rattle.lite_base.specs.Laws.Lent.{lent_counting};
-ghost use Rattle.lite_base.specs.Ranks.{ranks_of};
 ghost use Rattle.lite_merge.specs.Budgeted.{budget_ranks};
 ghost use Rattle.lite_merge.specs.Drain.{drain_parts};
 ghost use Rattle.lite_merge.specs.Laws.Budgeted.{budget_counting};
 ghost use Rattle.lite_merge.specs.Laws.Drain.{drained_relating};
 ghost use Rattle.lite_merge.specs.Laws.StopAfterFuture.{stops_relating};
 ghost use Rattle.lite_merge.specs.Stopping.{stop_parts};
-ghost use Rattle.lite_stream.specs.Laws.Through.{through_counting};
 
 use crate::{Budgeted, Drain, Or, Race, StopAfterFuture};
 use lite_base::{Counted, Future, OkCounted, Stream};

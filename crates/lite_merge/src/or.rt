@@ -1,8 +1,7 @@
-ghost use Rattle.std.specs.Prelude.{None};
+ghost use Rattle.lite_merge.specs.Uses.{None, NoHint};
 ghost use Rattle.lite_merge.specs.Laws.Or.{or_counting, or_laws};
 ghost use Rattle.lite_merge.specs.Merge.{MergeRegisters};
 ghost use Rattle.lite_merge.specs.Or.{Ors, or_ranks};
-ghost use Rattle.lite_base.specs.Runs.{NoHint};
 
 use crate::picks::poll_in_order;
 use lite_base::{Context, Counted, Poll, Stream};

@@ -1,10 +1,6 @@
 //! What `or` and `race` share: a poll of two streams in an order.
-ghost use Rattle.std.specs.Prelude.{List, []};
-ghost use Rattle.futures.specs.Task.{Keeps};
-ghost use Rattle.lite_base.specs.Answers.{Answer};
+ghost use Rattle.lite_merge.specs.Uses.{List, [], Keeps, Answer, Fuses, Registered};
 ghost use Rattle.lite_merge.specs.Merge.{MergeRegisters, MergeRow};
-ghost use Rattle.lite_stream.specs.Fuse.{Fuses};
-ghost use Rattle.lite_base.specs.Registered.{Registered};
 
 use lite_base::{Context, Poll, Stream};
 use lite_stream::Fuse;

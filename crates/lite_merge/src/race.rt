@@ -1,8 +1,7 @@
-ghost use Rattle.std.specs.Prelude.{None};
+ghost use Rattle.lite_merge.specs.Uses.{None, NoHint};
 ghost use Rattle.lite_merge.specs.Laws.Race.{race_counting, race_laws};
 ghost use Rattle.lite_merge.specs.Merge.{MergeRegisters};
 ghost use Rattle.lite_merge.specs.Race.{RacesOn, race_ranks};
-ghost use Rattle.lite_base.specs.Runs.{NoHint};
 
 use crate::picks::poll_in_order;
 use lite_base::{Context, Counted, Poll, Stream};

@@ -1,5 +1,5 @@
 //! The adapters whose answers do not depend on when their streams were pending.
-ghost use Rattle.lite_base.specs.Alike.{Pairwise, SameHeld};
+ghost use Rattle.lite_merge.specs.Uses.{Pairwise, SameHeld};
 ghost use Rattle.lite_merge.specs.Budgeted.{Budgets};
 ghost use Rattle.lite_merge.specs.Laws.Budgeted.{budget_steady};
 ghost use Rattle.lite_merge.specs.Laws.SteadyZip.{zip_steady};

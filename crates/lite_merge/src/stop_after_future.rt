@@ -1,10 +1,8 @@
-ghost use Rattle.std.specs.Prelude.{◌≡◌, ◌↔◌, IsSome, IsTrue, None, Some};
-ghost use Rattle.lite_base.specs.Ranks.{ranks_of};
+ghost use Rattle.lite_merge.specs.Uses.{◌≡◌, ◌↔◌, IsSome, IsTrue, None, Some, ranks_of, through_counting};
 ghost use Rattle.lite_merge.specs.Laws.StopAfterFuture.{stop_laws, stops_relating};
 ghost use Rattle.lite_merge.specs.StopAfterFuture.{Stops};
 ghost use Rattle.lite_merge.specs.Stopping.{CanStop, StopHints, StopRegisters, future_of, stop_parts};
 ghost use Rattle.lite_merge.specs.declared.stop_after_future.Stopping.TheVariants.{Stopped};
-ghost use Rattle.lite_stream.specs.Laws.Through.{through_counting};
 
 use lite_base::{Context, Counted, Future, Poll, Stream, ready};
 use std::mem;

@@ -1,10 +1,6 @@
-ghost use Rattle.std.specs.Prelude.{◌≡◌, List, [], ◌∷◌, None};
-ghost use Rattle.futures.specs.Task.{Keeps};
-ghost use Rattle.lite_base.specs.Answers.{Answer};
+ghost use Rattle.lite_merge.specs.Uses.{◌≡◌, List, [], ◌∷◌, None, Keeps, Answer, Registered, NoHint};
 ghost use Rattle.lite_merge.specs.Laws.Zip.{zip_counting, zip_laws};
 ghost use Rattle.lite_merge.specs.Zip.{Pairs, WithHeld, ZipRegisters, Zips, zip_ranks};
-ghost use Rattle.lite_base.specs.Registered.{Registered};
-ghost use Rattle.lite_base.specs.Runs.{NoHint};
 
 use lite_base::{Context, Counted, Poll, Stream, ready};
 

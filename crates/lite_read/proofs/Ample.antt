@@ -1,14 +1,6 @@
 -- Runs of `split` and `lines` without a refusal are runs in which memory was found, where the reader asks for none.
-use Rattle.std.specs.Prelude.{⊤}
-use Rattle.std.proofs.Common.{ℕ, List, Global, Option, Some, None, Result, inl, inr}
-use Rattle.std.specs.declared.io.Error.{Error}
-use Rattle.std.specs.declared.string.String.{String}
-use Rattle.futures.specs.declared.task.Poll.TheVariants.{Ready, Pending}
-use Rattle.lite_base.specs.Answers.{Answer}
-use Rattle.lite_base.specs.Laws.Segments.{segment_gives, segments_map}
-use Rattle.lite_base.specs.Runs.{Runs}
-use Rattle.lite_io_base.specs.Marks.{ReadMark}
-use Rattle.lite_base.specs.Steady.{TakesNone}
+use Rattle.lite_read.specs.Uses.{⊤, ℕ, List, Global, Option, Some, None, Result, inl, inr, Error, String, Ready, Pending, Answer, segment_gives, segments_map}
+use Rattle.lite_read.specs.Uses.{Runs, ReadMark, TakesNone}
 use Rattle.lite_read.specs.Lines.{GivesLines, lines_over}
 use Rattle.lite_read.specs.ReadFold.{AnswerMarks}
 use Rattle.lite_read.specs.NoneRefused.{NoneRefused, NotRefused}

@@ -1,28 +1,11 @@
 -- Steps and polls of `read_to_end`.
-use Rattle.std.proofs.Common.{◌≡◌, ◌∙◌, ◌≤◌, ◌<◌, ◌+◌, ◌-◌, ℕ, List, [], ◌∷◌, length, take, Result, Err}
-use Rattle.std.proofs.Common.{refl, ap, sym, subst, arith, length-take-le}
-use Rattle.std.proofs.Math.Seq.{take-length}
-use Rattle.std.specs.Prelude.{⊤, ◌*◌, max, vec_capacity}
-use Rattle.std.specs.IoError.{error_kind}
-use Rattle.std.specs.declared.io.Error.{Error}
-use Rattle.std.specs.declared.io.ErrorKind.TheVariants.{OutOfMemory}
-use Rattle.std.specs.Vec.{with_items}
-use Rattle.std.specs.declared.vec.Vec.{Vec}
+use Rattle.lite_read.specs.Uses.{◌≡◌, ◌∙◌, ◌≤◌, ◌<◌, ◌+◌, ◌-◌, ℕ, List, [], ◌∷◌, length, take, Result, Err, refl, ap, sym, subst, arith, length-take-le}
+use Rattle.lite_read.specs.Uses.{take-length, ⊤, ◌*◌, max, vec_capacity, error_kind, Error, OutOfMemory, with_items, Vec, OnPending, Poll, Ready, Pending}
+use Rattle.lite_read.specs.Uses.{Ranks, up_to_one, segment_alone, segments_one, Runs, ReadCounting, ReadMark, bytes, moved, MarkLaws, Reaches}
 use denote.MutBor.{MutBor}
 use borrow.Rule.Slice.PartMut.{put_mid}
-use Rattle.futures.specs.Poll.{OnPending}
-use Rattle.futures.specs.declared.task.Poll.{Poll}
-use Rattle.futures.specs.declared.task.Poll.TheVariants.{Ready, Pending}
-use Rattle.lite_base.specs.Ranks.{Ranks}
-use Rattle.lite_base.specs.Laws.Answers.{up_to_one}
-use Rattle.lite_base.specs.Laws.Segments.{segment_alone, segments_one}
-use Rattle.lite_base.specs.Runs.{Runs}
-use Rattle.lite_io_base.specs.Counting.{ReadCounting}
-use Rattle.lite_io_base.specs.Marks.{ReadMark, bytes, moved}
-use Rattle.lite_io_base.specs.Runs.{MarkLaws}
 use Rattle.lite_read.proofs.Filling.{Behind, bytes_came, how_long, put_front, put_kept, put_len}
 use Rattle.lite_read.specs.ReadFold.{AnswerMarks, LastMarks}
-use Rattle.lite_base.specs.Chain.{Reaches}
 use Rattle.lite_read.specs.Laws.PollSteps.{steps_answer}
 use Rattle.lite_read.specs.Laws.Refusals.{appends_weaker, gathers_weaker, takes_alike}
 use Rattle.lite_read.specs.Appending.{ToEndGrows, VectorGrows, read_front}

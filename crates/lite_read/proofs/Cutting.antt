@@ -1,21 +1,11 @@
 -- What a fill, a search and what was consumed say of the cuts.
-use Rattle.std.proofs.Common.{◌≡◌, ◌≢◌, ◌∙◌, ◌<◌, ◌≤◌, ◌+◌, ℕ, List, [], ◌∷◌, ◌++◌, All, Some, None, length, take, refl}
-use Rattle.std.proofs.Common.{ap, sym, subst, true, arith, add-one, get_or, eqb-true, eq-eqb, zero-le, append-nil}
-use Rattle.std.proofs.Common.{append_assoc, length-take-le, get_or-take}
-use Rattle.std.proofs.lemmas.List.{map-append}
-use Rattle.std.proofs.lemmas.List.Elements.{All-from_get_or, recursion_from_All}
-use Rattle.std.proofs.Math.Seq.{take-suc}
-use Rattle.std.specs.List.{AllByRecursion, FoldsTo}
-use Rattle.futures.specs.declared.task.Poll.{Poll}
-use Rattle.futures.specs.declared.task.Poll.TheVariants.{Ready, Pending}
-use Rattle.memchr.specs.Find.{IsFirstByte, is_byte}
-use Rattle.lite_io_base.specs.Marks.{ReadMark, bytes, filled}
-use Rattle.lite_io_base.specs.Runs.{MarkLaws}
+use Rattle.lite_read.specs.Uses.{◌≡◌, ◌≢◌, ◌∙◌, ◌<◌, ◌≤◌, ◌+◌, ℕ, List, [], ◌∷◌, ◌++◌, All, Some, None, length, take, refl, ap, sym, subst, true, arith}
+use Rattle.lite_read.specs.Uses.{add-one, get_or, eqb-true, eq-eqb, zero-le, append-nil, append_assoc, length-take-le, get_or-take, map-append, All-from_get_or}
+use Rattle.lite_read.specs.Uses.{recursion_from_All, take-suc, AllByRecursion, FoldsTo, Poll, Ready, Pending, IsFirstByte, is_byte, ReadMark, bytes, filled}
+use Rattle.lite_read.specs.Uses.{MarkLaws, segment_alone, segments_one, Runs}
 use Rattle.lite_read.specs.ReadFold.{AnswerMarks, ReadFold}
 use Rattle.lite_read.specs.Pieces.{Cut, CutsPiece, pieces}
 use Rattle.lite_read.specs.Segments.{Flows, StreamOver}
-use Rattle.lite_base.specs.Laws.Segments.{segment_alone, segments_one}
-use Rattle.lite_base.specs.Runs.{Runs}
 
 -- bytes other than the delimiter
 abbrev pub Lacks : ℕ → List ℕ → Type 0

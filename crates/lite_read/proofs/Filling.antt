@@ -1,25 +1,14 @@
 -- A read into what is left of a buffer.
-use Rattle.std.proofs.Common.{◌≡◌, ◌∙◌, ◌≤◌, ◌<◌, ◌+◌, ◌-◌, ℕ, List, [], ◌∷◌, ◌++◌, Result, Ok, length, take, drop}
-use Rattle.std.proofs.Common.{refl, ap}
-use Rattle.std.proofs.Common.{sym, subst, arith, append-nil, append_assoc, length-append}
-use Rattle.std.proofs.lemmas.List.{length-take-le, take-append-le, take_at}
-use Rattle.std.proofs.Math.Seq.{take-append-add}
-use Rattle.std.specs.List.{FoldsTo}
-use Rattle.std.specs.Vec.{with_items}
-use Rattle.std.specs.declared.vec.Vec.{Vec}
-use Rattle.std.specs.declared.io.Error.{Error}
-use Rattle.futures.specs.declared.task.Poll.{Poll}
-use Rattle.futures.specs.declared.task.Poll.TheVariants.{Ready}
+use Rattle.lite_read.specs.Uses.{◌≡◌, ◌∙◌, ◌≤◌, ◌<◌, ◌+◌, ◌-◌, ℕ, List, [], ◌∷◌, ◌++◌, Result, Ok, length, take, drop, refl, ap, sym, subst, arith, append-nil}
+use Rattle.lite_read.specs.Uses.{append_assoc, length-append, take-append-le, take_at, take-append-add, FoldsTo, with_items, Vec, Error, Poll, Ready, ReadMark}
+use Rattle.lite_read.specs.Uses.{bytes, moved, up_to_one, segment_alone, segments_one, Runs}
+use Rattle.std.proofs.lemmas.List.{length-take-le}
 use borrow.Rule.Slice.PartMut.{mid_len, mid_of, post_of, put_mid, same_len_mid, take_put}
-use Rattle.lite_io_base.specs.Marks.{ReadMark, bytes, moved}
 use Rattle.lite_read.specs.Filling.{ExactStays, filling_of}
 use Rattle.lite_read.specs.ReadExact.{ReadsExactly, fills}
 use Rattle.lite_read.specs.ReadFold.{AnswerMarks, LastMarks}
 use Rattle.lite_read.specs.PollSteps.{ReadsMore}
 use Rattle.lite_read.specs.declared.read_exact.ReadExactFuture.{ReadExactFuture}
-use Rattle.lite_base.specs.Laws.Answers.{up_to_one}
-use Rattle.lite_base.specs.Laws.Segments.{segment_alone, segments_one}
-use Rattle.lite_base.specs.Runs.{Runs}
 
 pub moved_some : (room xs : List ℕ) → 0 < length xs → moved room xs ≡ bytes xs
 moved_some room [] some = absurd (omega (arith, some))

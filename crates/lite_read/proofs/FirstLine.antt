@@ -1,14 +1,10 @@
 -- What is known of the first line from what was seen of it.
-use Rattle.std.proofs.Common.{◌≡◌, ◌≢◌, ℕ, zero, suc, ◌+◌, ◌-◌, ◌<◌, ◌≤◌, Bool, true, false, not, ◌&&◌, cond, List, []}
-use Rattle.std.proofs.Common.{◌∷◌, length, take, drop, get_or, leb, position, Some, sym, ap, ◌∙◌, arith}
-use Rattle.std.proofs.lemmas.Bool.{and_from, cond-false, cond-true, eq-eqb, le-leb, lt-leb, lt-ltb, ne_eqb}
-use Rattle.std.proofs.lemmas.List.{drop_more, length-drop, length-take, length-take-le, take-append-drop}
-use Rattle.std.proofs.Math.Dec.{leb-suc-suc}
-use Rattle.std.proofs.Math.Seq.{take-add}
-use Rattle.std.proofs.lemmas.List.Folds.{list_all-append, prefix_len-append}
-use Rattle.std.proofs.lemmas.List.Sums.{prefix_len-le-length}
-use Rattle.std.specs.Char.{is_ascii}
-use Rattle.std.specs.List.{before_first, list_all, position_or_len, prefix_len}
+use Rattle.lite_read.specs.Uses.{◌≡◌, ◌≢◌, ℕ, zero, suc, ◌+◌, ◌-◌, ◌<◌, ◌≤◌, Bool, true, false, not, ◌&&◌, cond, List, [], ◌∷◌, length, take, drop, get_or, leb}
+use Rattle.lite_read.specs.Uses.{position, Some, sym, ap, ◌∙◌, arith, and_from, cond-false, cond-true, le-leb, lt-leb, lt-ltb, ne_eqb, drop_more, length-drop}
+use Rattle.lite_read.specs.Uses.{length-take, take-append-drop, leb-suc-suc, take-add, list_all-append, prefix_len-append, prefix_len-le-length, is_ascii}
+use Rattle.lite_read.specs.Uses.{before_first, list_all, position_or_len, prefix_len}
+use Rattle.std.proofs.lemmas.Bool.{eq-eqb}
+use Rattle.std.proofs.lemmas.List.{length-take-le}
 use Rattle.lite_read.specs.Scan.{IsPlain, LineGoesOn, is_newline}
 
 module _ (p : ℕ → Bool) (d : List ℕ) where

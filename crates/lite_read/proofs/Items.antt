@@ -1,20 +1,11 @@
 -- The steps of a stream of the pieces of a reader.
-use Rattle.std.proofs.Common.{inl, inr, ◌≡◌, ◌<◌, ◌≤◌, ◌+◌, ℕ, List, [], ◌∷◌, ◌++◌, Option, Some, None, Result, Ok}
-use Rattle.std.proofs.Common.{Err, length, take, refl, arith}
-use Rattle.std.specs.IoError.{error_kind}
-use Rattle.std.specs.Prelude.{⊤, IfErr, IfOk}
-use Rattle.std.specs.declared.io.Error.{Error}
-use Rattle.std.specs.declared.io.ErrorKind.TheVariants.{OutOfMemory}
-use Rattle.futures.specs.declared.task.Poll.TheVariants.{Ready, Pending}
-use Rattle.memchr.specs.Find.{IsFirstByte, is_byte}
-use Rattle.lite_io_base.specs.Marks.{ReadMark, bytes, filled}
-use Rattle.lite_io_base.specs.Runs.{MarkLaws}
+use Rattle.lite_read.specs.Uses.{inl, inr, ◌≡◌, ◌<◌, ◌≤◌, ◌+◌, ℕ, List, [], ◌∷◌, ◌++◌, Option, Some, None, Result, Ok, Err, length, take, refl, arith}
+use Rattle.lite_read.specs.Uses.{error_kind, ⊤, IfErr, IfOk, Error, OutOfMemory, Ready, Pending, IsFirstByte, is_byte, ReadMark, bytes, filled, MarkLaws, Runs}
 use Rattle.lite_read.specs.Pieces.{AtEnd, Cut, Itemised, pieces}
 use Rattle.lite_read.specs.Segments.{Flows, StreamOver}
 use Rattle.lite_read.specs.PieceSteps.{TakesPieceIn}
 use Rattle.lite_read.proofs.Cutting.{concludes_at, concludes_piece, fill_then, flow_one, found_at, found_none}
 use Rattle.lite_read.proofs.Cutting.{takes_all, waits_here}
-use Rattle.lite_base.specs.Runs.{Runs}
 
 module _ {X S K A : Type 0} {over : StreamOver X S (List ℕ) K} {byte : K → ℕ}
     {whole final : List ℕ → Result A Error → Type 0} {m : List ℕ → Type 0} {reads : Runs ReadMark S}

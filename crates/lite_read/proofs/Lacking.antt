@@ -1,9 +1,6 @@
 -- How many bytes stand before a byte that was looked for.
-use Rattle.std.proofs.Common.{◌≡◌, ◌≢◌, ◌<◌, ◌≤◌, ◌+◌, ◌==◌, ℕ, Bool, true, false, List, [], ◌∷◌, Some, None}
-use Rattle.std.proofs.Common.{length, refl, arith, get_or, eqb-true, eq-eqb, length-take-le, zero, suc}
-use Rattle.std.proofs.lemmas.List.Sums.{position_or_len_is}
-use Rattle.std.specs.List.{before_first}
-use Rattle.memchr.specs.Find.{IsFirstByte, is_byte}
+use Rattle.lite_read.specs.Uses.{◌≡◌, ◌≢◌, ◌<◌, ◌≤◌, ◌+◌, ◌==◌, ℕ, Bool, true, false, List, [], ◌∷◌, Some, None, length, refl, arith, get_or, eqb-true, eq-eqb}
+use Rattle.lite_read.specs.Uses.{length-take-le, zero, suc, position_or_len_is, before_first, IsFirstByte, is_byte}
 use Rattle.lite_read.specs.BytePieces.{through_first}
 
 not_true : (b : Bool) → (b ≡ true → ⊥) → b ≡ false

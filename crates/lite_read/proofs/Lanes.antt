@@ -1,11 +1,7 @@
 -- From the mask of one load to how many of its bytes pass a test.
-use Rattle.std.proofs.Common.{◌≡◌, ℕ, ◌+◌, ◌%◌, ◌^◌, ◌≤◌, Bool, true, false, not, cond, List, map, length, leb, refl}
-use Rattle.std.proofs.Common.{sym, ap, ◌∙◌, arith, inl, inr}
-use Rattle.std.proofs.lemmas.Bool.{cases_lt, le-leb, le-ltb, lt-leb, lt-ltb}
-use Rattle.std.proofs.lemmas.Simd.{map-map, mask_l-mod, length-chunk, first_set_mask_l, leading_from_mask_l}
-use Rattle.std.proofs.lemmas.List.{length-map}
-use Rattle.std.specs.Char.{is_ascii}
-use Rattle.std.specs.List.{prefix_len}
+use Rattle.lite_read.specs.Uses.{◌≡◌, ℕ, ◌+◌, ◌%◌, ◌^◌, ◌≤◌, Bool, true, false, not, cond, List, map, length, leb, refl, sym, ap, ◌∙◌, arith, inl, inr}
+use Rattle.lite_read.specs.Uses.{cases_lt, le-leb, le-ltb, lt-leb, lt-ltb, map-map, mask_l-mod, length-chunk, first_set_mask_l, leading_from_mask_l, length-map}
+use Rattle.lite_read.specs.Uses.{is_ascii, prefix_len}
 use lib.Lanes.{chunk, mask_l, top}
 use Rattle.lite_read.specs.Scan.{first_set}
 

@@ -1,15 +1,6 @@
 -- The steps of `read_line`.
-use Rattle.std.proofs.Common.{◌≡◌, ◌<◌, ◌+◌, ℕ, List, [], ◌++◌, Some, None, Result, Ok, Err, length}
-use Rattle.std.proofs.Common.{take, refl, sym, subst, arith}
-use Rattle.std.specs.IoError.{error_kind}
-use Rattle.std.specs.List.{FoldsTo}
-use Rattle.std.specs.Prelude.{string_bytes}
-use Rattle.std.specs.declared.io.Error.{Error}
-use Rattle.std.specs.declared.io.ErrorKind.TheVariants.{OutOfMemory}
-use Rattle.memchr.specs.Find.{IsFirstByte, is_byte}
-use Rattle.futures.specs.declared.task.Poll.TheVariants.{Ready}
-use Rattle.lite_io_base.specs.Marks.{ReadMark, bytes, filled}
-use Rattle.lite_io_base.specs.Runs.{MarkLaws}
+use Rattle.lite_read.specs.Uses.{◌≡◌, ◌<◌, ◌+◌, ℕ, List, [], ◌++◌, Some, None, Result, Ok, Err, length, take, refl, sym, subst, arith, error_kind, FoldsTo}
+use Rattle.lite_read.specs.Uses.{string_bytes, Error, OutOfMemory, IsFirstByte, is_byte, Ready, ReadMark, bytes, filled, MarkLaws, Runs}
 use Rattle.lite_read.specs.ReadFold.{AnswerMarks}
 use Rattle.lite_read.proofs.Cutting.{fill_then, found_at, found_none, takes_all}
 use Rattle.lite_read.specs.ReadUntil.{CountsPiece}
@@ -20,7 +11,6 @@ use Rattle.lite_read.specs.TextSteps.{AnswersText, TakesTextIn}
 use Rattle.lite_read.specs.declared.read_line.ReadLineFuture.{ReadLineFuture}
 use Rattle.lite_read.proofs.TextSteps.{text_finished}
 use Rattle.lite_read.proofs.Until.{cut_off, refused}
-use Rattle.lite_base.specs.Runs.{Runs}
 
 -- the future whose reader was filled
 abbrev pub after_fill : {R A : Type 0} → ReadLineFuture R A → R → ReadLineFuture R A

@@ -1,11 +1,5 @@
 -- Streams whose memory may be refused in fewer cases.
-use Rattle.std.proofs.Common.{◌≡◌, ◌≤◌, ℕ, List, [], ◌∷◌}
-use Rattle.std.specs.Prelude.{⊤}
-use Rattle.futures.specs.declared.task.Poll.{Poll}
-use Rattle.lite_base.specs.Chain.{Reaches}
-use Rattle.lite_base.specs.Runs.{Runs}
-use Rattle.lite_io_base.specs.Marks.{ReadMark}
-use Rattle.lite_io_base.specs.Runs.{MarkLaws}
+use Rattle.lite_read.specs.Uses.{◌≡◌, ◌≤◌, ℕ, List, [], ◌∷◌, ⊤, Poll, Reaches, Runs, ReadMark, MarkLaws}
 use Rattle.lite_read.specs.Laws.PollSteps.{steps_answer}
 use Rattle.lite_read.specs.Laws.Refusals.{pieces_weaker, segmented_weaker, takes_alike}
 use Rattle.lite_read.specs.Laws.Segments.{step_before}

@@ -1,15 +1,9 @@
 -- The steps of `read_to_string`.
-use Rattle.std.proofs.Common.{◌≡◌, ◌∙◌, ◌≤◌, ◌<◌, ◌+◌, ◌-◌, ℕ, List, [], ◌∷◌, length, take, Result, Ok, Err}
-use Rattle.std.proofs.Common.{refl, ap, sym, subst, arith, length-take-le}
-use Rattle.std.specs.IoError.{error_kind}
-use Rattle.std.specs.Prelude.{⊤, ◌*◌, max, string_bytes}
-use Rattle.std.specs.Vec.{with_items}
-use Rattle.std.specs.declared.io.Error.{Error}
-use Rattle.std.specs.declared.io.ErrorKind.TheVariants.{OutOfMemory}
+use Rattle.lite_read.specs.Uses.{◌≡◌, ◌∙◌, ◌≤◌, ◌<◌, ◌+◌, ◌-◌, ℕ, List, [], ◌∷◌, length, take, Result, Ok, Err, refl, ap, sym, subst, arith, length-take-le}
+use Rattle.lite_read.specs.Uses.{error_kind, ⊤, ◌*◌, max, string_bytes, with_items, Error, OutOfMemory, Ready, Pending, ReadMark, bytes, moved, segment_alone}
+use Rattle.lite_read.specs.Uses.{Runs}
 use denote.MutBor.{MutBor}
 use borrow.Rule.Slice.PartMut.{put_mid}
-use Rattle.futures.specs.declared.task.Poll.TheVariants.{Ready, Pending}
-use Rattle.lite_io_base.specs.Marks.{ReadMark, bytes, moved}
 use Rattle.lite_read.proofs.Filling.{Behind, bytes_came, how_long, put_front, put_kept, put_len}
 use Rattle.lite_read.specs.ReadFold.{AnswerMarks}
 use Rattle.lite_read.specs.Laws.ReadToEnd.{appends_all}
@@ -20,8 +14,6 @@ use Rattle.lite_read.specs.Texts.{FinishesText}
 use Rattle.lite_read.specs.TextSteps.{AnswersText, TakesTextIn}
 use Rattle.lite_read.proofs.TextSteps.{text_finished, text_waits}
 use Rattle.lite_read.specs.declared.read_to_string.ReadToStringFuture.{ReadToStringFuture}
-use Rattle.lite_base.specs.Laws.Segments.{segment_alone}
-use Rattle.lite_base.specs.Runs.{Runs}
 
 -- what reading up to an end gives
 module _ {m : List ℕ → Type 0} where

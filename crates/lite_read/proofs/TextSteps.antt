@@ -1,16 +1,7 @@
 -- Answers of futures that read for a text.
-use Rattle.std.proofs.Common.{◌≡◌, ℕ, List, [], ◌∷◌, Result, refl, subst, sym}
-use Rattle.std.specs.Prelude.{⊤, string_bytes}
-use Rattle.std.specs.declared.io.Error.{Error}
+use Rattle.lite_read.specs.Uses.{◌≡◌, ℕ, List, [], ◌∷◌, Result, refl, subst, sym, ⊤, string_bytes, Error, Poll, Ready, Pending, OnPending, Reaches, Ranks}
+use Rattle.lite_read.specs.Uses.{ReadCounting, ReadMark, MarkLaws, up_to_one, segment_alone, segments_one, Runs}
 use denote.MutBor.{MutBor}
-use Rattle.futures.specs.declared.task.Poll.{Poll}
-use Rattle.futures.specs.declared.task.Poll.TheVariants.{Ready, Pending}
-use Rattle.futures.specs.Poll.{OnPending}
-use Rattle.lite_base.specs.Chain.{Reaches}
-use Rattle.lite_base.specs.Ranks.{Ranks}
-use Rattle.lite_io_base.specs.Counting.{ReadCounting}
-use Rattle.lite_io_base.specs.Marks.{ReadMark}
-use Rattle.lite_io_base.specs.Runs.{MarkLaws}
 use Rattle.lite_read.specs.ReadFold.{AnswerMarks, ReadFold}
 use Rattle.lite_read.specs.Laws.Refusals.{takes_alike}
 use Rattle.lite_read.specs.Holding.{TextOver, TextStays}
@@ -18,9 +9,6 @@ use Rattle.lite_read.specs.Laws.Texts.{TextRoom, folds_in, stays_join, step_befo
 use Rattle.lite_read.specs.Laws.PollSteps.{goes_again, steps_answer}
 use Rattle.lite_read.specs.Texts.{AppendsText, FinishesText, ReadsText, ValueOf, in_text, reading}
 use Rattle.lite_read.specs.TextSteps.{AnswersText, AnswersTextByRoom, TakesTextIn}
-use Rattle.lite_base.specs.Laws.Answers.{up_to_one}
-use Rattle.lite_base.specs.Laws.Segments.{segment_alone, segments_one}
-use Rattle.lite_base.specs.Runs.{Runs}
 
 module _ {X R A : Type 0} (over : TextOver X R A) (fold : ReadFold (List ℕ) (Result ℕ Error)) (reads : Runs ReadMark R)
     (x y : X) (stays : TextStays over x y) where

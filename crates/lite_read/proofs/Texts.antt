@@ -1,17 +1,8 @@
 -- Lines of ASCII, and where they end.
-use Rattle.std.proofs.Common.{◌≡◌, ◌∙◌, ◌<◌, ◌≤◌, ◌&&◌, ℕ, Bool, true, false, cond, ltb, List, ◌++◌, Option, Some}
-use Rattle.std.proofs.Common.{None, length, take, refl, ap, sym, subst, arith, position, All}
-use Rattle.std.proofs.lemmas.List.Elements.{All-take}
-use Rattle.std.proofs.lemmas.Bool.{ltb-false, ltb-true}
-use Rattle.std.proofs.lemmas.List.{take_all}
-use Rattle.std.proofs.lemmas.List.Folds.{list_all-append}
-use Rattle.std.proofs.lemmas.List.Sums.{AllPass-from_list_all, fails_before_first, passes_at_first}
-use Rattle.std.proofs.lemmas.Str.{IsUtf8-from_ascii}
-use Rattle.std.proofs.lemmas.Str.Ascii.{IsAscii-from_all}
-use Rattle.std.specs.Char.{is_ascii}
-use Rattle.std.specs.List.{before_first, list_all, position_or_len}
-use Rattle.std.specs.Prelude.{IsUtf8}
-use Rattle.memchr.specs.Find.{IsFirstByte, is_byte}
+use Rattle.lite_read.specs.Uses.{◌≡◌, ◌∙◌, ◌<◌, ◌≤◌, ◌&&◌, ℕ, Bool, true, false, cond, ltb, List, ◌++◌, Option, Some, None, length, take, refl, ap, sym, subst}
+use Rattle.lite_read.specs.Uses.{arith, position, All, All-take, ltb-false, ltb-true, take_all, list_all-append, AllPass-from_list_all, fails_before_first}
+use Rattle.lite_read.specs.Uses.{passes_at_first, IsUtf8-from_ascii, IsAscii-from_all, is_ascii, before_first, list_all, position_or_len, IsUtf8, IsFirstByte}
+use Rattle.lite_read.specs.Uses.{is_byte}
 use Rattle.lite_read.specs.Scan.{is_newline}
 use Rattle.lite_read.specs.Find.{up_to}
 use Rattle.lite_read.specs.LineText.{without_return}

@@ -1,17 +1,8 @@
 -- The steps of `read_until`.
-use Rattle.std.proofs.Common.{◌≡◌, ◌∙◌, ◌<◌, ◌≤◌, ◌+◌, ◌-◌, inl, inr, ℕ, List, [], ◌∷◌, ◌++◌, Some, None, Result, Ok}
-use Rattle.std.proofs.Common.{Err, length, take, drop, refl, ap, sym, subst, arith, append-nil, append_assoc}
-use Rattle.std.proofs.Common.{length-append}
-use Rattle.std.proofs.lemmas.List.{drop-append-le, length-drop, take-append-le}
-use Rattle.std.specs.IoError.{error_kind}
-use Rattle.std.specs.Prelude.{⊤, vec_capacity}
-use Rattle.std.specs.declared.io.Error.{Error}
-use Rattle.std.specs.declared.io.ErrorKind.TheVariants.{OutOfMemory}
-use Rattle.futures.specs.declared.task.Poll.{Poll}
-use Rattle.futures.specs.declared.task.Poll.TheVariants.{Ready, Pending}
-use Rattle.memchr.specs.Find.{IsFirstByte, is_byte}
-use Rattle.lite_io_base.specs.Marks.{ReadMark, bytes, filled}
-use Rattle.lite_io_base.specs.Runs.{MarkLaws}
+use Rattle.lite_read.specs.Uses.{◌≡◌, ◌∙◌, ◌<◌, ◌≤◌, ◌+◌, ◌-◌, inl, inr, ℕ, List, [], ◌∷◌, ◌++◌, Some, None, Result, Ok, Err, length, take, drop, refl, ap, sym}
+use Rattle.lite_read.specs.Uses.{subst, arith, append-nil, append_assoc, length-append, drop-append-le, length-drop, take-append-le, error_kind, ⊤}
+use Rattle.lite_read.specs.Uses.{vec_capacity, Error, OutOfMemory, Poll, Ready, Pending, IsFirstByte, is_byte, ReadMark, bytes, filled, MarkLaws, Reaches}
+use Rattle.lite_read.specs.Uses.{up_to_one, segments_one, Runs}
 use Rattle.lite_read.specs.ReadFold.{AnswerMarks}
 use Rattle.lite_read.specs.Pieces.{Cut}
 use Rattle.lite_read.specs.UntilVector.{UntilStays, read_of}
@@ -20,13 +11,9 @@ use Rattle.lite_read.specs.PieceSteps.{AppendsMore}
 use Rattle.lite_read.specs.declared.read_until.ReadUntilFuture.{ReadUntilFuture}
 use Rattle.lite_read.proofs.Cutting.{concludes_at, concludes_piece, fill_then, found_at, found_none, takes_all}
 use Rattle.lite_read.proofs.Cutting.{waits_here}
-use Rattle.lite_base.specs.Chain.{Reaches}
 use Rattle.lite_read.specs.Laws.PollSteps.{steps_answer}
 use Rattle.lite_read.specs.Laws.ReadUntil.{lacks_sooner, step_before}
 use Rattle.lite_read.specs.Laws.Refusals.{gathers_weaker, pieces_weaker, takes_alike}
-use Rattle.lite_base.specs.Laws.Answers.{up_to_one}
-use Rattle.lite_base.specs.Laws.Segments.{segments_one}
-use Rattle.lite_base.specs.Runs.{Runs}
 
 -- what reading up to a byte gives, at each of its ends
 module _ (byte : ℕ) {m : List ℕ → Type 0} where

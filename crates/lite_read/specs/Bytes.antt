@@ -1,12 +1,5 @@
 -- `bytes`: a reader's marks, one by one.
-use Rattle.std.specs.Prelude.{◌≡◌, ℕ, List, [], ◌∷◌, ⊤, Some, None, Result, Ok, Err}
-use Rattle.std.specs.IoError.{error_kind}
-use Rattle.std.specs.declared.io.Error.{Error}
-use Rattle.std.specs.declared.io.ErrorKind.TheVariants.{Interrupted}
-use Rattle.futures.specs.declared.task.Poll.TheVariants.{Ready, Pending}
-use Rattle.lite_base.specs.Answers.{Answer}
-use Rattle.lite_base.specs.Runs.{Runs}
-use Rattle.lite_io_base.specs.Marks.{ReadMark}
+use Rattle.lite_read.specs.Uses.{◌≡◌, ℕ, List, [], ◌∷◌, ⊤, Some, None, Result, Ok, Err, error_kind, Error, Interrupted, Ready, Pending, Answer, Runs, ReadMark}
 use Rattle.lite_read.specs.declared.bytes.Bytes.{Bytes}
 
 -- A byte is an item, an end an end, and a pending `Pending`. An error is an item too, but an `Interrupted` one is

@@ -1,11 +1,5 @@
 -- Folds of marks whose values hang on the marks alone.
-use Rattle.std.specs.Prelude.{◌≡◌, ℕ, List, [], ◌∷◌, ◌++◌, Result, Ok, Err}
-use Rattle.std.specs.IoError.{error_kind}
-use Rattle.std.specs.List.{FoldsTo}
-use Rattle.std.specs.declared.io.Error.{Error}
-use Rattle.lite_base.specs.Answers.{Comparable}
-use Rattle.lite_io_base.specs.Marks.{ReadMark, bytes}
-use Rattle.lite_io_base.specs.Steady.{NoPendingRead}
+use Rattle.lite_read.specs.Uses.{◌≡◌, ℕ, List, [], ◌∷◌, ◌++◌, Result, Ok, Err, error_kind, FoldsTo, Error, Comparable, ReadMark, bytes, NoPendingRead}
 use Rattle.lite_read.specs.ReadFold.{ReadFold}
 
 -- values that are the same, or errors of one kind

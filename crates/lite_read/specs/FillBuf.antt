@@ -1,13 +1,7 @@
 -- `fill_buf`: one fill a poll, and the bytes that were lent.
-use Rattle.std.specs.Prelude.{◌≡◌, ℕ, List, Option, Some, None, Result, Ok, Err}
-use Rattle.std.specs.Borrow.{Bor, MutBor}
-use Rattle.std.specs.declared.io.Error.{Error}
-use Rattle.futures.specs.declared.task.Poll.{Poll}
-use Rattle.futures.specs.declared.task.Poll.TheVariants.{Ready, Pending}
-use Rattle.lite_io_base.specs.Marks.{ReadMark, fill_marks}
-use Rattle.lite_io_base.specs.Runs.{LendsFront}
+use Rattle.lite_read.specs.Uses.{◌≡◌, ℕ, List, Option, Some, None, Result, Ok, Err, Bor, MutBor, Error, Poll, Ready, Pending, ReadMark, fill_marks, LendsFront}
+use Rattle.lite_read.specs.Uses.{Runs}
 use Rattle.lite_read.specs.declared.fill_buf.FillBuf.{FillBuf}
-use Rattle.lite_base.specs.Runs.{Runs}
 
 -- the future holds its reader, but where it has lent the reader's bytes
 abbrev pub held_after : {A S : Type 0} → Poll (Result A Error) → S → Option S

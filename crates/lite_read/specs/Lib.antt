@@ -29,3 +29,4 @@ pub mod Split
 pub mod TextSteps
 pub mod Texts
 pub mod UntilVector
+pub mod Uses

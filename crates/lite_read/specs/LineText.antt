@@ -1,11 +1,6 @@
 -- Bytes as text.
-use Rattle.std.specs.Prelude.{◌≡◌, ◌-◌, ◌==◌, if◌then◌else◌, ℕ, List, length, take, slice_index, string_bytes, IsUtf8}
-use Rattle.std.specs.Prelude.{Result, Ok, Err}
-use Rattle.std.proofs.Common.{Global}
-use Rattle.std.specs.IoError.{error_kind}
-use Rattle.std.specs.declared.io.Error.{Error}
-use Rattle.std.specs.declared.io.ErrorKind.TheVariants.{InvalidData}
-use Rattle.std.specs.declared.string.String.{String}
+use Rattle.lite_read.specs.Uses.{◌≡◌, ◌-◌, ◌==◌, if◌then◌else◌, ℕ, List, length, take, slice_index, string_bytes, IsUtf8, Result, Ok, Err, Global, error_kind}
+use Rattle.lite_read.specs.Uses.{Error, InvalidData, String}
 
 -- without its last byte, where that is a return, 0x0D
 abbrev pub without_return : List ℕ → List ℕ

@@ -1,12 +1,5 @@
 -- `lines`: the pieces between newlines, 0x0A, as text.
-use Rattle.std.specs.Prelude.{◌<◌, ◌+◌, ℕ, List, Option, Result, length, vec_capacity}
-use Rattle.std.proofs.Common.{Global}
-use Rattle.std.specs.List.{before_first}
-use Rattle.std.specs.declared.io.Error.{Error}
-use Rattle.std.specs.declared.string.String.{String}
-use Rattle.lite_base.specs.Answers.{Answer}
-use Rattle.lite_base.specs.Runs.{Runs}
-use Rattle.lite_io_base.specs.Marks.{ReadMark}
+use Rattle.lite_read.specs.Uses.{◌<◌, ◌+◌, ℕ, List, Option, Result, length, vec_capacity, Global, before_first, Error, String, Answer, Runs, ReadMark}
 use Rattle.lite_read.specs.ReadFold.{ReadFold}
 use Rattle.lite_read.specs.Pieces.{Itemised, pieces}
 use Rattle.lite_read.specs.Segments.{Flows, StreamOver}

@@ -1,10 +1,5 @@
 -- Answers among which there is no refusal of memory.
-use Rattle.std.specs.Prelude.{◌≡◌, ◌≢◌, List, Result, Err}
-use Rattle.std.specs.IoError.{error_kind}
-use Rattle.std.specs.List.{AllByRecursion}
-use Rattle.std.specs.declared.io.Error.{Error}
-use Rattle.std.specs.declared.io.ErrorKind.TheVariants.{OutOfMemory}
-use Rattle.lite_base.specs.Answers.{Answer, item}
+use Rattle.lite_read.specs.Uses.{◌≡◌, ◌≢◌, List, Result, Err, error_kind, AllByRecursion, Error, OutOfMemory, Answer, item}
 
 -- a refusal is an error of the kind OutOfMemory
 abbrev pub NotRefused : {A : Type 0} → Answer (Result A Error) → Type 0

@@ -1,13 +1,11 @@
 -- The steps of a poll that go on: bytes were taken in.
-use Rattle.std.specs.Prelude.{◌≡◌, ◌≤◌}
-use Rattle.lite_io_base.specs.Marks.{ReadMark}
+use Rattle.lite_read.specs.Uses.{◌≡◌, ◌≤◌, ReadMark, Runs}
 use Rattle.lite_read.specs.ReadFold.{ReadFold}
 use Rattle.lite_read.specs.PollSteps.{TakesBytes}
 use Rattle.lite_read.specs.UntilVector.{UntilStays, read_of}
 use Rattle.lite_read.specs.ReadUntil.{until}
 use Rattle.lite_read.specs.Segments.{StreamOver}
 use Rattle.lite_read.specs.declared.read_until.ReadUntilFuture.{ReadUntilFuture}
-use Rattle.lite_base.specs.Runs.{Runs}
 
 -- one step of a poll of `read_until` that goes on: bytes were taken in
 abbrev pub AppendsMore : {R : Type 0} → Runs ReadMark R → Type 0 → ReadUntilFuture R → ReadUntilFuture R → Type 0

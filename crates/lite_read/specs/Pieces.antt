@@ -1,9 +1,6 @@
 -- How the bytes of a reader are cut into pieces: at each delimiter, and at an end.
-use Rattle.std.specs.Prelude.{◌≡◌, ◌≢◌, ◌<◌, ◌⊎◌, ⊤, ℕ, List, [], ◌∷◌, ◌++◌, length, Option, Some, None, Result, Err}
-use Rattle.std.specs.IoError.{error_kind}
-use Rattle.std.specs.declared.io.Error.{Error}
-use Rattle.std.specs.declared.io.ErrorKind.TheVariants.{OutOfMemory}
-use Rattle.lite_io_base.specs.Marks.{ReadMark}
+use Rattle.lite_read.specs.Uses.{◌≡◌, ◌≢◌, ◌<◌, ◌⊎◌, ⊤, ℕ, List, [], ◌∷◌, ◌++◌, length, Option, Some, None, Result, Err, error_kind, Error, OutOfMemory}
+use Rattle.lite_read.specs.Uses.{ReadMark}
 use Rattle.lite_read.specs.ReadFold.{ReadFold}
 
 -- the bytes before a delimiter; those before an end; an end with nothing before it; an error, which cuts nothing

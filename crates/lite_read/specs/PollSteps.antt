@@ -1,9 +1,5 @@
 -- The steps of a poll that reads: what one takes in that goes on, and how one of `read_to_end` answers.
-use Rattle.std.specs.Prelude.{◌<◌, ℕ, List, [], ◌∷◌, length, Result}
-use Rattle.std.specs.List.{FoldsTo}
-use Rattle.std.specs.declared.io.Error.{Error}
-use Rattle.futures.specs.declared.task.Poll.{Poll}
-use Rattle.lite_io_base.specs.Marks.{ReadMark, bytes}
+use Rattle.lite_read.specs.Uses.{◌<◌, ℕ, List, [], ◌∷◌, length, Result, FoldsTo, Error, Poll, ReadMark, bytes, Runs}
 use Rattle.lite_read.specs.Appending as appending
 use Rattle.lite_read.specs.Appending.{read_front}
 use Rattle.lite_read.specs.Filling as filling
@@ -13,7 +9,6 @@ use Rattle.lite_read.specs.ReadExact.{fills}
 use Rattle.lite_read.specs.ReadToEnd.{ToEndLacksRoom, appends}
 use Rattle.lite_read.specs.declared.read_exact.ReadExactFuture.{ReadExactFuture}
 use Rattle.lite_read.specs.declared.read_to_end.ReadToEndFuture.{ReadToEndFuture}
-use Rattle.lite_base.specs.Runs.{Runs}
 
 module _ {X S M R : Type 0} (reader : X → S) (held : X → M) (fold : X → ReadFold M R) (Keeps : X → X → Type 0)
     (reads : Runs ReadMark S) where

@@ -1,8 +1,5 @@
 -- A future each poll of which is one call: it is pending where the call is, and its value is the call's.
-use Rattle.std.specs.Prelude.{◌≡◌, [], ◌∷◌}
-use Rattle.futures.specs.declared.task.Poll.{Poll}
-use Rattle.futures.specs.declared.task.Poll.TheVariants.{Ready, Pending}
-use Rattle.lite_base.specs.Runs.{Runs}
+use Rattle.lite_read.specs.Uses.{◌≡◌, [], ◌∷◌, Poll, Ready, Pending, Runs}
 
 -- the calls answered so, one after the other; the first value is the last answer
 abbrev pub PolledByCalls : {F A : Type 0} → (F → Poll A → F → Type 0) → Runs (Poll A) F

@@ -1,11 +1,6 @@
 -- `read`: one read into a buffer.
-use Rattle.std.specs.Prelude.{◌≡◌, ◌≤◌, ℕ, length, Result, IfOk}
-use Rattle.std.specs.declared.io.Error.{Error}
-use Rattle.futures.specs.Poll.{IfReady}
-use Rattle.futures.specs.declared.task.Poll.{Poll}
-use Rattle.lite_io_base.specs.Marks.{ReadMark, read_marks}
+use Rattle.lite_read.specs.Uses.{◌≡◌, ◌≤◌, ℕ, length, Result, IfOk, Error, IfReady, Poll, ReadMark, read_marks, Runs}
 use Rattle.lite_read.specs.declared.read.ReadFuture.{ReadFuture}
-use Rattle.lite_base.specs.Runs.{Runs}
 
 -- the reader ran by the marks of the answer; both references stay, and the buffer has its length
 pub record Reads {R : Type 0} (reads : Runs ReadMark R) (x : ReadFuture R) (c : Poll (Result ℕ Error))

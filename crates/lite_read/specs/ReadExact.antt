@@ -1,14 +1,8 @@
 -- `read_exact`: bytes are taken in up to as many as there is room for.
-use Rattle.std.specs.Prelude.{◌≡◌, ◌<◌, List, [], ◌∷◌, ◌++◌, length, Result, Ok, Err}
-use Rattle.std.specs.IoError.{error_kind}
-use Rattle.std.specs.declared.io.Error.{Error}
-use Rattle.std.specs.declared.io.ErrorKind.TheVariants.{UnexpectedEof}
-use Rattle.futures.specs.declared.task.Poll.{Poll}
-use Rattle.lite_io_base.specs.Marks.{ReadMark}
+use Rattle.lite_read.specs.Uses.{◌≡◌, ◌<◌, List, [], ◌∷◌, ◌++◌, length, Result, Ok, Err, error_kind, Error, UnexpectedEof, Poll, ReadMark, Runs}
 use Rattle.lite_read.specs.Filling.{ExactStays, Filling, filling_of}
 use Rattle.lite_read.specs.ReadFold.{Gathers, ReadFold}
 use Rattle.lite_read.specs.declared.read_exact.ReadExactFuture.{ReadExactFuture}
-use Rattle.lite_base.specs.Runs.{Runs}
 
 -- not all that there is room for was read
 abbrev pub HasRoom : Filling → Type 0

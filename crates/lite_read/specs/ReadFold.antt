@@ -1,11 +1,5 @@
 -- What a future makes of what a reader tells: its bytes are taken in one after the other, until there is a value.
-use Rattle.std.specs.Prelude.{◌≡◌, ℕ, List, [], ◌∷◌}
-use Rattle.futures.specs.declared.task.Poll.{Poll}
-use Rattle.futures.specs.declared.task.Poll.TheVariants.{Ready, Pending}
-use Rattle.lite_io_base.specs.Marks.{ReadMark}
-use Rattle.lite_base.specs.Runs.{Question, Runs}
-use Rattle.lite_base.specs.Answers.{UpToValue, Waiting}
-use Rattle.lite_base.specs.Segments.{Segment, Segments, SegmentsToValue}
+use Rattle.lite_read.specs.Uses.{◌≡◌, ℕ, List, [], ◌∷◌, Poll, Ready, Pending, ReadMark, Question, Runs, UpToValue, Waiting, Segment, Segments, SegmentsToValue}
 
 -- what is made of marks: which bytes are taken in, when more may be asked for, and what the value is
 pub record ReadFold (M R : Type 0) : Type 1 where

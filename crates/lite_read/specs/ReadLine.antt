@@ -1,17 +1,11 @@
 -- `read_line`: what `read_until` reads up to a newline, 0x0A, goes to the end of a text.
-use Rattle.std.specs.Prelude.{◌≡◌, ◌≤◌, ◌<◌, ◌+◌, ℕ, List, Result, length}
-use Rattle.std.specs.Char.{is_ascii}
-use Rattle.std.specs.List.{list_all}
-use Rattle.std.specs.declared.io.Error.{Error}
-use Rattle.futures.specs.declared.task.Poll.{Poll}
-use Rattle.lite_io_base.specs.Marks.{ReadMark}
+use Rattle.lite_read.specs.Uses.{◌≡◌, ◌≤◌, ◌<◌, ◌+◌, ℕ, List, Result, length, is_ascii, list_all, Error, Poll, ReadMark, Runs}
 use Rattle.lite_read.specs.BytePieces.{through_first}
 use Rattle.lite_read.specs.ReadUntil.{until_where}
 use Rattle.lite_read.specs.ReadFold.{ReadFold}
 use Rattle.lite_read.specs.Holding.{HasRoomFor, TextOver, room_for}
 use Rattle.lite_read.specs.Texts.{ReadsText, ReadsTextByRoom}
 use Rattle.lite_read.specs.declared.read_line.ReadLineFuture.{ReadLineFuture}
-use Rattle.lite_base.specs.Runs.{Runs}
 
 -- bytes are taken in up to a newline, with it; memory may be refused where may_refuse is true of those taken in
 abbrev pub read_line_fold : (List ℕ → Type 0) → ReadFold (List ℕ) (Result ℕ Error)

@@ -1,15 +1,9 @@
 -- `read_to_end`: the bytes before the first end are appended.
-use Rattle.std.specs.Prelude.{◌≡◌, ◌<◌, ◌+◌, ◌*◌, ℕ, List, [], ◌∷◌, ◌++◌, length, max, Result, Ok, Err, ⊤}
-use Rattle.std.specs.Prelude.{vec_capacity}
-use Rattle.std.specs.IoError.{error_kind}
-use Rattle.std.specs.declared.io.Error.{Error}
-use Rattle.std.specs.declared.io.ErrorKind.TheVariants.{OutOfMemory}
-use Rattle.futures.specs.declared.task.Poll.{Poll}
-use Rattle.lite_io_base.specs.Marks.{ReadMark}
+use Rattle.lite_read.specs.Uses.{◌≡◌, ◌<◌, ◌+◌, ◌*◌, ℕ, List, [], ◌∷◌, ◌++◌, length, max, Result, Ok, Err, ⊤, vec_capacity, error_kind, Error, OutOfMemory}
+use Rattle.lite_read.specs.Uses.{Poll, ReadMark, Runs}
 use Rattle.lite_read.specs.Appending.{ToEndStays, VectorGrows}
 use Rattle.lite_read.specs.ReadFold.{Gathers, GathersByRoom, ReadFold}
 use Rattle.lite_read.specs.declared.read_to_end.ReadToEndFuture.{ReadToEndFuture}
-use Rattle.lite_base.specs.Runs.{Runs}
 
 -- how many bytes were appended to the first `start`, at an end; an error's kind; or a refusal of memory, where one may
 -- come

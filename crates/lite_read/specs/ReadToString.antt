@@ -1,14 +1,10 @@
 -- `read_to_string`: what `read_to_end` reads goes to the end of a text.
-use Rattle.std.specs.Prelude.{◌≡◌, ◌≤◌, ◌<◌, ◌+◌, ◌-◌, ◌*◌, ℕ, List, length, max, take, Result}
-use Rattle.std.specs.declared.io.Error.{Error}
-use Rattle.futures.specs.declared.task.Poll.{Poll}
-use Rattle.lite_io_base.specs.Marks.{ReadMark}
+use Rattle.lite_read.specs.Uses.{◌≡◌, ◌≤◌, ◌<◌, ◌+◌, ◌-◌, ◌*◌, ℕ, List, length, max, take, Result, Error, Poll, ReadMark, Runs}
 use Rattle.lite_read.specs.ReadFold.{ReadFold}
 use Rattle.lite_read.specs.ReadToEnd.{appends_where, next_read}
 use Rattle.lite_read.specs.Holding.{HasRoomFor, TextOver, room_for}
 use Rattle.lite_read.specs.Texts.{ReadsText, ReadsTextByRoom}
 use Rattle.lite_read.specs.declared.read_to_string.ReadToStringFuture.{ReadToStringFuture}
-use Rattle.lite_base.specs.Runs.{Runs}
 
 -- bytes are taken in up to an end; memory may be refused where may_refuse is true of those taken in
 abbrev pub read_to_string_fold : (List ℕ → Type 0) → ReadFold (List ℕ) (Result ℕ Error)

@@ -1,14 +1,10 @@
 -- `read_until`: a piece with its delimiter goes to the end of a vector.
-use Rattle.std.specs.Prelude.{◌≡◌, ◌≤◌, ◌<◌, ◌+◌, ℕ, List, [], ◌∷◌, ◌++◌, length, Result, Ok, Err, vec_capacity}
-use Rattle.std.specs.declared.io.Error.{Error}
-use Rattle.futures.specs.declared.task.Poll.{Poll}
-use Rattle.lite_io_base.specs.Marks.{ReadMark}
+use Rattle.lite_read.specs.Uses.{◌≡◌, ◌≤◌, ◌<◌, ◌+◌, ℕ, List, [], ◌∷◌, ◌++◌, length, Result, Ok, Err, vec_capacity, Error, Poll, ReadMark, Runs}
 use Rattle.lite_read.specs.ReadFold.{Gathers, GathersByRoom, ReadFold}
 use Rattle.lite_read.specs.UntilVector.{UntilStays, read_of}
 use Rattle.lite_read.specs.BytePieces.{through_first}
 use Rattle.lite_read.specs.Pieces.{Cut, pieces}
 use Rattle.lite_read.specs.declared.read_until.ReadUntilFuture.{ReadUntilFuture}
-use Rattle.lite_base.specs.Runs.{Runs}
 
 -- What is held after a cut stays in the vector: a piece with its delimiter, or what stood before an end, and the value
 -- is how many bytes that is; or what was held before an error.

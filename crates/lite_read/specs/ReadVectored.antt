@@ -1,14 +1,6 @@
 -- `read_vectored`: one read into buffers.
-use Rattle.std.specs.Prelude.{◌≡◌, ◌≤◌, ℕ, List, length, Some, Result, IfOk}
-use Rattle.std.specs.Borrow.{MutBor}
-use Rattle.std.specs.declared.io.Error.{Error}
-use Rattle.std.specs.declared.io.slices.IoSliceMut.{IoSliceMut}
-use Rattle.futures.specs.Poll.{IfReady}
-use Rattle.futures.specs.declared.task.Poll.{Poll}
-use Rattle.lite_io_base.specs.Marks.{ReadMark}
-use Rattle.lite_io_base.specs.Runs.{ReadsInto, room_in}
+use Rattle.lite_read.specs.Uses.{◌≡◌, ◌≤◌, ℕ, List, length, Some, Result, IfOk, MutBor, Error, IoSliceMut, IfReady, Poll, ReadMark, ReadsInto, room_in, Runs}
 use Rattle.lite_read.specs.declared.read_vectored.ReadVectoredFuture.{ReadVectoredFuture}
-use Rattle.lite_base.specs.Runs.{Runs}
 
 -- The reader read as into one buffer that has the room of them all. Both references stay, and so does the number of
 -- buffers.

@@ -1,10 +1,5 @@
 -- `seek`: one seek.
-use Rattle.std.specs.Prelude.{◌≡◌, ℕ, Result}
-use Rattle.std.specs.declared.io.Error.{Error}
-use Rattle.std.specs.declared.io.ErrorKind.{ErrorKind}
-use Rattle.std.specs.declared.io.traits.SeekFrom.{SeekFrom}
-use Rattle.futures.specs.declared.task.Poll.{Poll}
-use Rattle.lite_io_base.specs.Kinds.{by_kind}
+use Rattle.lite_read.specs.Uses.{◌≡◌, ℕ, Result, Error, ErrorKind, SeekFrom, Poll, by_kind}
 use Rattle.lite_read.specs.declared.seek.SeekFuture.{SeekFuture}
 
 -- the seeker answered the seek; the reference and the place stay

@@ -1,10 +1,7 @@
 -- What a stream makes of what a reader tells: the marks are cut into segments, one for each answer.
-use Rattle.std.specs.Prelude.{◌≡◌, ℕ, List, []}
-use Rattle.futures.specs.declared.task.Poll.{Poll}
-use Rattle.lite_io_base.specs.Marks.{ReadMark}
+use Rattle.lite_read.specs.Uses.{◌≡◌, ℕ, List, [], Poll, ReadMark, Runs}
 use Rattle.lite_read.specs.ReadFold.{ReadFold}
 pub use Rattle.lite_read.specs.ReadFold.{PieceSegments, Segmented}
-use Rattle.lite_base.specs.Runs.{Runs}
 
 -- a stream of the type X over a reader of the type S: what it holds, for how many bytes its buffer has room, and what
 -- it never changes

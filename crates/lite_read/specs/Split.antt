@@ -1,13 +1,6 @@
 -- `split`: the pieces without their delimiters.
-use Rattle.std.specs.Prelude.{◌≡◌, ◌<◌, ◌+◌, ℕ, List, Option, Result, Ok, Err, length, vec_capacity}
-use Rattle.std.proofs.Common.{Global}
-use Rattle.std.specs.List.{before_first}
-use Rattle.std.specs.declared.io.Error.{Error}
-use Rattle.std.specs.declared.vec.Vec.{Vec}
-use Rattle.memchr.specs.Find.{is_byte}
-use Rattle.lite_base.specs.Answers.{Answer}
-use Rattle.lite_base.specs.Runs.{Runs}
-use Rattle.lite_io_base.specs.Marks.{ReadMark}
+use Rattle.lite_read.specs.Uses.{◌≡◌, ◌<◌, ◌+◌, ℕ, List, Option, Result, Ok, Err, length, vec_capacity, Global, before_first, Error, Vec, is_byte, Answer, Runs}
+use Rattle.lite_read.specs.Uses.{ReadMark}
 use Rattle.lite_read.specs.ReadFold.{ReadFold}
 use Rattle.lite_read.specs.Pieces.{Itemised, pieces}
 use Rattle.lite_read.specs.Segments.{Flows, StreamOver}

@@ -1,13 +1,9 @@
 -- The steps of a poll that reads for a text.
-use Rattle.std.specs.Prelude.{◌≡◌, ℕ, List, [], ◌∷◌, Result, string_bytes}
-use Rattle.std.specs.declared.io.Error.{Error}
-use Rattle.futures.specs.declared.task.Poll.{Poll}
-use Rattle.lite_io_base.specs.Marks.{ReadMark}
+use Rattle.lite_read.specs.Uses.{◌≡◌, ℕ, List, [], ◌∷◌, Result, string_bytes, Error, Poll, ReadMark, Runs}
 use Rattle.lite_read.specs.ReadFold.{ReadFold}
 use Rattle.lite_read.specs.PollSteps.{TakesBytes}
 use Rattle.lite_read.specs.Holding.{TextOver, TextStays}
 use Rattle.lite_read.specs.Texts.{ReadsText, ReadsTextByRoom}
-use Rattle.lite_base.specs.Runs.{Runs}
 
 module _ {X R A : Type 0} (over : TextOver X R A) (fold : ReadFold (List ℕ) (Result ℕ Error)) where
   -- one that goes on takes bytes in, leaves the text, and has no less memory

@@ -1,13 +1,7 @@
 -- Bytes that are read for a text, and what the text gains.
-use Rattle.std.specs.Prelude.{◌≡◌, ◌⊎◌, ℕ, List, [], ◌++◌, Result, Ok, Err, IsUtf8, string_bytes}
-use Rattle.std.specs.IoError.{error_kind}
-use Rattle.std.specs.declared.io.Error.{Error}
-use Rattle.std.specs.declared.io.ErrorKind.TheVariants.{InvalidData}
-use Rattle.futures.specs.declared.task.Poll.{Poll}
-use Rattle.lite_io_base.specs.Marks.{ReadMark}
+use Rattle.lite_read.specs.Uses.{◌≡◌, ◌⊎◌, ℕ, List, [], ◌++◌, Result, Ok, Err, IsUtf8, string_bytes, error_kind, Error, InvalidData, Poll, ReadMark, Runs}
 use Rattle.lite_read.specs.ReadFold.{Gathers, GathersByRoom, ReadFold}
 use Rattle.lite_read.specs.Holding.{TextOver, TextStays}
-use Rattle.lite_base.specs.Runs.{Runs}
 
 -- the bytes are appended to the text where they are UTF-8, and else dropped
 abbrev pub AppendsText : Runs ℕ (List ℕ)

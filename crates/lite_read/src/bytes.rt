@@ -1,9 +1,4 @@
-ghost use Rattle.std.specs.Prelude.{None};
-ghost use Rattle.lite_base.specs.Ranks.{ranks_of};
-ghost use Rattle.lite_base.specs.Runs.{NoHint};
-ghost use Rattle.lite_io_base.specs.Laws.Runs.{idle_laws};
-ghost use Rattle.lite_io_base.specs.Runs.{Idle};
-ghost use Rattle.lite_base.specs.Woken.{HoldsWoken};
+ghost use Rattle.lite_read.specs.Uses.{None, ranks_of, NoHint, idle_laws, Idle, HoldsWoken};
 ghost use Rattle.lite_read.specs.Bytes.{TellsBytes};
 ghost use Rattle.lite_read.specs.Laws.Bytes.{bytes_counting, bytes_laws, inner_counting, inner_laws};
 
@@ -58,7 +53,7 @@ impl<R: CountedRead> Counted for Bytes<R> {
 }
 
 impl<R: CountedRead> OkCounted for Bytes<R> {
-    ghost use Rattle.lite_base.specs.Laws.OkRanks.{ok_counting};
+    ghost use Rattle.lite_read.specs.Uses.{ok_counting};
 
     type Ok = u8;
 

@@ -1,13 +1,6 @@
 //! Fills that look at what is there, and lend nothing.
-ghost use Rattle.std.specs.Prelude.{◌≡◌, ◌+◌, ◌<◌, ◌^◌, IfOk, IfSome};
-ghost use Rattle.std.specs.Char.{is_ascii};
-ghost use Rattle.std.specs.List.{list_all};
-ghost use Rattle.futures.specs.Poll.{IfReady};
-ghost use Rattle.futures.specs.Task.{Keeps};
-ghost use Rattle.lite_io_base.specs.Marks.{fill_marks};
+ghost use Rattle.lite_read.specs.Uses.{◌≡◌, ◌+◌, ◌<◌, ◌^◌, IfOk, IfSome, is_ascii, list_all, IfReady, Keeps, fill_marks, IsFirstByte, is_byte, Registered};
 ghost use Rattle.lite_read.specs.Find.{up_to};
-ghost use Rattle.memchr.specs.Find.{IsFirstByte, is_byte};
-ghost use Rattle.lite_base.specs.Registered.{Registered};
 
 use crate::{LineScan, scan_line};
 use lite_base::{Context, Poll};

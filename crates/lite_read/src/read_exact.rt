@@ -1,6 +1,4 @@
-ghost use Rattle.std.specs.Prelude.{◌≤◌, ◌-◌, [], ◌∷◌, length};
-ghost use Rattle.lite_base.specs.Chain.{OneStep};
-ghost use Rattle.lite_base.specs.Laws.Ends.{Terminates-count};
+ghost use Rattle.lite_read.specs.Uses.{◌≤◌, ◌-◌, [], ◌∷◌, length, OneStep, Terminates-count};
 ghost use Rattle.lite_read.specs.Laws.ReadExact.{exact_laws, room_falls};
 ghost use Rattle.lite_read.specs.ReadExact.{ReadsExactly};
 ghost use Rattle.lite_read.specs.PollSteps.{ReadsMore};

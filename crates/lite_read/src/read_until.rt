@@ -1,7 +1,4 @@
-ghost use Rattle.std.specs.Prelude.{⊤, ◌≤◌, [], ◌∷◌, length};
-ghost use Rattle.lite_base.specs.Chain.{OneStep};
-ghost use Rattle.lite_base.specs.Laws.Ends.{Terminates-map};
-ghost use Rattle.lite_io_base.specs.Marks.{bytes};
+ghost use Rattle.lite_read.specs.Uses.{⊤, ◌≤◌, [], ◌∷◌, length, OneStep, Terminates-map, bytes};
 ghost use Rattle.lite_read.specs.Laws.PollSteps.{takes_given};
 ghost use Rattle.lite_read.specs.Laws.ReadUntil.{stays_within, until_room_laws};
 ghost use Rattle.lite_read.specs.ReadUntil.{ReadsUntil, ReadsUntilByRoom, UntilLacksRoom};

@@ -1,16 +1,9 @@
-ghost use Rattle.std.specs.Prelude.{⊤, ◌≡◌, ◌≤◌, ◌<◌, ◌++◌, ◌+◌, Option, None, [], ◌∷◌, length, take, vec_capacity, IfErr, IfOk};
-ghost use Rattle.std.specs.IoError.{error_kind};
-ghost use Rattle.std.specs.declared.io.ErrorKind.TheVariants.{OutOfMemory};
-ghost use Rattle.lite_base.specs.Chain.{OneStep};
-ghost use Rattle.lite_base.specs.Laws.Ends.{Terminates-map};
-ghost use Rattle.lite_base.specs.Runs.{NoHint};
-ghost use Rattle.lite_io_base.specs.Marks.{bytes};
+ghost use Rattle.lite_read.specs.Uses.{⊤, ◌≡◌, ◌≤◌, ◌<◌, ◌++◌, ◌+◌, Option, None, [], ◌∷◌, length, take, vec_capacity, IfErr, IfOk, error_kind, OutOfMemory};
+ghost use Rattle.lite_read.specs.Uses.{OneStep, Terminates-map, NoHint, bytes, Keeps, Registered};
 ghost use Rattle.lite_read.specs.Laws.PollSteps.{takes_given};
 ghost use Rattle.lite_read.specs.Laws.Segments.{flow_laws};
 ghost use Rattle.lite_read.specs.Pieces.{AtEnd};
 ghost use Rattle.lite_read.specs.Split.{IsVec, PieceLacksRoom, Splits, split_over, splitting};
-ghost use Rattle.futures.specs.Task.{Keeps};
-ghost use Rattle.lite_base.specs.Registered.{Registered};
 ghost use Rattle.lite_read.specs.PieceSteps.{TakesPieceIn};
 
 use crate::find::find_byte;

@@ -1,5 +1,5 @@
 //! The futures and streams whose answers do not depend on when their reader was pending.
-ghost use Rattle.lite_base.specs.Alike.{Sameness};
+ghost use Rattle.lite_read.specs.Uses.{Sameness, ⊤};
 ghost use Rattle.lite_read.specs.Bytes.{TellsBytes};
 ghost use Rattle.lite_read.specs.Laws.Bytes.{inner_steady};
 ghost use Rattle.lite_read.specs.Laws.SteadyBytes.{bytes_steady};
@@ -14,7 +14,6 @@ ghost use Rattle.lite_read.specs.Laws.DeterministicPieces.{FlowAlike, flow_stead
 ghost use Rattle.lite_read.specs.Lines.{GivesLines, lines_over, lining};
 ghost use Rattle.lite_read.specs.ReadUntil.{ReadsUntil};
 ghost use Rattle.lite_read.specs.Split.{Splits, split_over, splitting};
-ghost use Rattle.std.specs.Prelude.{⊤};
 ghost use Rattle.lite_read.specs.Laws.SteadyTexts.{TextAlike, text_steady};
 ghost use Rattle.lite_read.specs.ReadLine.{ReadsLine, line_over, read_line_fold};
 ghost use Rattle.lite_read.specs.ReadToString.{ReadsToString, all_over, read_to_string_fold};

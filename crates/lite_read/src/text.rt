@@ -1,9 +1,6 @@
 //! Bytes that become text.
-ghost use Rattle.std.specs.Prelude.{◌≡◌, ◌≤◌, ◌<◌, ◌+◌, ◌++◌, [], true, length, vec_capacity, IfErr, IfOk, IsUtf8, OnErr, OnOk};
-ghost use Rattle.std.specs.Char.{is_ascii};
-ghost use Rattle.std.specs.IoError.{error_kind};
-ghost use Rattle.std.specs.List.{list_all};
-ghost use Rattle.std.specs.declared.io.ErrorKind.TheVariants.{OutOfMemory};
+ghost use Rattle.lite_read.specs.Uses.{◌≡◌, ◌≤◌, ◌<◌, ◌+◌, ◌++◌, [], true, length, vec_capacity, IfErr, IfOk, IsUtf8, OnErr, OnOk, is_ascii, error_kind};
+ghost use Rattle.lite_read.specs.Uses.{list_all, OutOfMemory};
 ghost use Rattle.lite_read.specs.Pieces.{AtEnd};
 ghost use Rattle.lite_read.specs.LineText.{IsText, without_return};
 

@@ -1,16 +1,7 @@
 -- The steps of a poll that leaves items out make one segment.
-use Rattle.std.proofs.Common.{List, [], ◌∷◌, ◌++◌, Option, Some, None, refl}
-use Rattle.lite_base.specs.Answers.{Answer, item}
-use Rattle.lite_base.specs.Chain.{NextStep, Reaches}
-use Rattle.lite_base.specs.Laws.Chain.{Reaches-back}
-use Rattle.lite_base.specs.Laws.Segments.{answers_given, answers_taken}
-use Rattle.lite_base.specs.Ranks.{Counting, Ranks}
-use Rattle.lite_base.specs.Runs.{Hints, Question, Runs}
-use Rattle.lite_base.specs.StreamLaws.{StreamLaws}
+use Rattle.lite_reshape.specs.Uses.{List, [], ◌∷◌, ◌++◌, Option, Some, None, refl, Answer, item, NextStep, Reaches, Reaches-back, answers_given, answers_taken}
+use Rattle.lite_reshape.specs.Uses.{Counting, Ranks, Hints, Question, Runs, StreamLaws, AtEachItem, each_asked, Through}
 use Rattle.lite_reshape.specs.Leaving.{LeaveStep, LeavesOut, Passes, Rejects, Sifts}
-use Rattle.lite_stream.specs.EachItem.{AtEachItem}
-use Rattle.lite_stream.specs.Laws.EachItem.{each_asked}
-use Rattle.lite_stream.specs.Through.{Through}
 
 module _ {S F A B : Type 0} (call : Question F A (Option B)) (run : Runs (Answer A) S) where
   -- the last step of a poll

@@ -1,13 +1,9 @@
 -- `chain`: the first stream's answers before its first end, then the second's before its first end, and then an end for
 -- ever.
-use Rattle.std.specs.Prelude.{◌≡◌, ◌⊎◌, List, [], ◌∷◌, ◌++◌, Some, None}
-use Rattle.futures.specs.declared.task.Poll.TheVariants.{Ready, Pending}
-use Rattle.lite_base.specs.Answers.{Answer, Endless, end}
-use Rattle.lite_base.specs.Runs.{Runs}
+use Rattle.lite_reshape.specs.Uses.{◌≡◌, ◌⊎◌, List, [], ◌∷◌, ◌++◌, Some, None, Ready, Pending, Answer, Endless, end, Runs, Cuts}
 use Rattle.lite_reshape.specs.declared.chain.Chain.{Chain}
 use Rattle.lite_reshape.specs.declared.chain.Part.TheVariants.{First, Second, Done}
 use Rattle.lite_reshape.specs.declared.chain.Part.{Part}
-use Rattle.lite_stream.specs.Cutting.{Cuts}
 
 -- both streams came to their ends
 abbrev pub is_done : Part → Type 0

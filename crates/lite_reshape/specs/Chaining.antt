@@ -1,14 +1,9 @@
 -- What else is said of `chain`: one poll of its second stream, what a pending registers, and its ranks.
-use Rattle.std.specs.Prelude.{ℕ, ◌+◌, List, [], ◌∷◌, ◌++◌, length, replicate}
-use Rattle.futures.specs.Task.{Lasting}
-use Rattle.lite_base.specs.Answers.{Answer}
-use Rattle.lite_base.specs.Ranks.{Ranks}
-use Rattle.lite_base.specs.Runs.{Runs}
+use Rattle.lite_reshape.specs.Uses.{ℕ, ◌+◌, List, [], ◌∷◌, ◌++◌, length, replicate, Lasting, Answer, Ranks, Runs, Cuts}
 use Rattle.lite_reshape.specs.Chain.{is_done, second_after}
 use Rattle.lite_reshape.specs.declared.chain.Chain.{Chain}
 use Rattle.lite_reshape.specs.declared.chain.Part.TheVariants.{First, Second, Done}
 use Rattle.lite_reshape.specs.declared.chain.Part.{Part}
-use Rattle.lite_stream.specs.Cutting.{Cuts}
 
 -- the second stream, which has not ended, was asked for one answer
 abbrev pub SecondAnswers : {S U A : Type 0} → Runs (Answer A) U → Chain S U → Answer A → Chain S U → Type 0

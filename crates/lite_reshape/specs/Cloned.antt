@@ -1,14 +1,9 @@
 -- `cloned`: each reference is replaced by the refusals of its clone, each an Err item, and then the clone as an Ok
 -- item.
-use Rattle.std.specs.Prelude.{◌≡◌, ⊤, List, [], ◌∷◌, ◌++◌, Option, Some, None, Result, Ok, Err}
-use Rattle.std.specs.List.{AllByRecursion}
-use denote.Ref.{Bor}
-use Rattle.lite_base.specs.Alike.{MadeOf, OptionBy, Sameness}
-use Rattle.lite_base.specs.Answers.{Answer, item}
-use Rattle.lite_base.specs.Runs.{Runs}
+use Rattle.lite_reshape.specs.Uses.{◌≡◌, ⊤, List, [], ◌∷◌, ◌++◌, Option, Some, None, Result, Ok, Err, AllByRecursion, Bor, MadeOf, OptionBy, Sameness, Answer}
+use Rattle.lite_reshape.specs.Uses.{item, Runs, AdapterParts, Through, parts_of}
 use Rattle.lite_reshape.specs.Expanding.{Expanding}
 use Rattle.lite_reshape.specs.declared.cloned.Cloned.{Cloned}
-use Rattle.lite_stream.specs.Through.{AdapterParts, Through, parts_of}
 
 -- the reference that comes in is what is held
 abbrev pub Refers : {R : Type 0} → Unit {0} → R → R → Unit {0} → Type 0

@@ -1,11 +1,6 @@
 -- `filter`: the items that the predicate rejects are left out.
-use Rattle.std.specs.Prelude.{Bool}
-use Rattle.lite_base.specs.Answers.{Answer}
-use Rattle.lite_base.specs.Ranks.{Ranks}
-use Rattle.lite_base.specs.Calling.{Accepts}
-use Rattle.lite_base.specs.Runs.{Question, Runs}
+use Rattle.lite_reshape.specs.Uses.{Bool, Answer, Ranks, Accepts, Question, Runs, AdapterParts, Through, parts_of}
 use Rattle.lite_reshape.specs.Leaving.{LeavesOut}
-use Rattle.lite_stream.specs.Through.{AdapterParts, Through, parts_of}
 use Rattle.lite_reshape.specs.declared.filter.Filter.{Filter}
 
 -- a poll may be made: the source may be polled, its rank counts, and the predicate may be asked about each item of it

@@ -1,10 +1,6 @@
 -- `filter_map`: what the function answers to the items, without those to which it answers None.
-use Rattle.std.specs.Prelude.{Option}
-use Rattle.lite_base.specs.Answers.{Answer}
-use Rattle.lite_base.specs.Ranks.{Ranks}
-use Rattle.lite_base.specs.Runs.{Question, Runs}
+use Rattle.lite_reshape.specs.Uses.{Option, Answer, Ranks, Question, Runs, AdapterParts, Through, parts_of}
 use Rattle.lite_reshape.specs.Leaving.{LeavesOut}
-use Rattle.lite_stream.specs.Through.{AdapterParts, Through, parts_of}
 use Rattle.lite_reshape.specs.declared.filter_map.FilterMap.{FilterMap}
 
 -- a poll may be made: the source may be polled, its rank counts, and the function may be called with each item of it

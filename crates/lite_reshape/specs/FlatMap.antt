@@ -1,16 +1,8 @@
 -- `flat_map`: `flatten` of what the function makes of each item.
-use Rattle.std.specs.Prelude.{◌+◌, ◌++◌, Option, IfSome}
-use Rattle.std.specs.Fn.{Mut}
-use Rattle.lite_base.specs.Answers.{Answer}
-use Rattle.lite_base.specs.Ranks.{Ranks}
+use Rattle.lite_reshape.specs.Uses.{◌+◌, ◌++◌, Option, IfSome, Mut, Answer, Ranks, Calls, MakesAlways, Runs, Maps, AdapterParts, Through, parts_of, Map}
 use Rattle.lite_reshape.specs.Flatten.{Flattening}
 use Rattle.lite_reshape.specs.Inner.{CanStepFlat, FlatSteps, inner_rank}
 use Rattle.lite_reshape.specs.declared.flat_map.FlatMap.{FlatMap}
-use Rattle.lite_base.specs.Calling.{Calls, MakesAlways}
-use Rattle.lite_base.specs.Runs.{Runs}
-use Rattle.lite_stream.specs.Map.{Maps}
-use Rattle.lite_stream.specs.Through.{AdapterParts, Through, parts_of}
-use Rattle.lite_stream.specs.declared.map.Map.{Map}
 
 -- the streams that the function makes are flattened
 abbrev pub FlatMaps : {S F V A B : Type 0} → Runs (Answer A) S → Mut F (A × Unit {0}) V → Runs (Answer B) V

@@ -1,11 +1,6 @@
 -- `flatten`: each item is a stream, and is replaced by the answers of that stream before its first end.
-use Rattle.std.specs.Prelude.{◌≡◌, ◌⊎◌, List, [], ◌∷◌, ◌++◌, Option, Some, None}
-use Rattle.futures.specs.declared.task.Poll.TheVariants.{Ready, Pending}
-use Rattle.lite_base.specs.Answers.{Answer, Endless, end}
-use Rattle.lite_base.specs.Runs.{Runs}
+use Rattle.lite_reshape.specs.Uses.{◌≡◌, ◌⊎◌, List, [], ◌∷◌, ◌++◌, Option, Some, None, Ready, Pending, Answer, Endless, end, Runs, Through, Relates}
 use Rattle.lite_reshape.specs.declared.flatten.Flatten.{Flatten}
-use Rattle.lite_stream.specs.Through.{Through}
-use Rattle.lite_stream.specs.Relates.{Relates}
 
 module _ {B A : Type 0} (run : Runs (Answer A) B) where
   -- the inner stream b is held to the last: no more comes in, and all answers are its own, before its first end

@@ -1,13 +1,9 @@
 -- What else is said of an outer stream and the inner one that is held: a step of a poll, where a poll may be made, and
 -- the ranks.
-use Rattle.std.specs.Prelude.{◌≡◌, ◌⊎◌, ℕ, ◌+◌, List, [], ◌∷◌, ◌++◌, Option, Some, None, IfSome, replicate}
-use Rattle.lite_base.specs.Answers.{Answer, end, item}
-use Rattle.lite_base.specs.Chain.{OneStep}
-use Rattle.lite_base.specs.Ranks.{Ranks}
-use Rattle.lite_base.specs.Runs.{Runs}
+use Rattle.lite_reshape.specs.Uses.{◌≡◌, ◌⊎◌, ℕ, ◌+◌, List, [], ◌∷◌, ◌++◌, Option, Some, None, IfSome, replicate, Answer, end, item, OneStep, Ranks, Runs}
+use Rattle.lite_reshape.specs.Uses.{AdapterParts, parts_of}
 use Rattle.lite_reshape.specs.Flatten.{Flattening}
 use Rattle.lite_reshape.specs.declared.flatten.Flatten.{Flatten}
-use Rattle.lite_stream.specs.Through.{AdapterParts, parts_of}
 
 -- a `flatten` is its outer stream, and the inner one that it holds
 abbrev pub flatten_parts : {S B : Type 0} → AdapterParts (Flatten S B) S (Option B)

@@ -1,10 +1,5 @@
 -- Some items are left out.
-use Rattle.std.specs.Prelude.{◌≡◌, [], ◌∷◌, Option, Some, None}
-use Rattle.futures.specs.declared.task.Poll.TheVariants.{Ready, Pending}
-use Rattle.lite_base.specs.Answers.{Answer, end, item}
-use Rattle.lite_base.specs.Runs.{Question, Runs}
-use Rattle.lite_base.specs.Segments.{OneAnswer, Segment, Segments}
-use Rattle.lite_stream.specs.Relates.{Relates}
+use Rattle.lite_reshape.specs.Uses.{◌≡◌, [], ◌∷◌, Option, Some, None, Ready, Pending, Answer, end, item, Question, Runs, OneAnswer, Segment, Segments, Relates}
 
 -- `call p x o q`: asked about the item x, it goes from p to q; an item is kept where the answer o is Some, and rejected
 -- where it is None

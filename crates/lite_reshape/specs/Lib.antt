@@ -14,3 +14,4 @@ pub mod Skip
 pub mod SkipWhile
 pub mod StepBy
 pub mod Then
+pub mod Uses

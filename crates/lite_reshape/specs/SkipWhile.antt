@@ -1,13 +1,7 @@
 -- `skip_while`: the items before the first one that the predicate rejects are left out.
-use Rattle.std.specs.Prelude.{◌≡◌, Option, Some, None, Bool, true, false, IfSome}
-use Rattle.std.specs.Fn.{Mut, CalledAt, TakesAt}
-use denote.Ref.{Bor}
-use Rattle.lite_base.specs.Answers.{Answer}
-use Rattle.lite_base.specs.Ranks.{Ranks}
-use Rattle.lite_base.specs.Runs.{Question, Runs}
+use Rattle.lite_reshape.specs.Uses.{◌≡◌, Option, Some, None, Bool, true, false, IfSome, Mut, CalledAt, TakesAt, Bor, Answer, Ranks, Question, Runs, AtEachItem}
+use Rattle.lite_reshape.specs.Uses.{AdapterParts, Through, parts_of}
 use Rattle.lite_reshape.specs.Leaving.{LeavesOut}
-use Rattle.lite_stream.specs.EachItem.{AtEachItem}
-use Rattle.lite_stream.specs.Through.{AdapterParts, Through, parts_of}
 use Rattle.lite_reshape.specs.declared.skip_while.SkipWhile.{SkipWhile}
 
 -- the predicate is asked until an item is kept, and then it is gone and each item is kept

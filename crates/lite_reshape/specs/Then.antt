@@ -1,16 +1,8 @@
 -- `then`: each item is replaced by the list of the future that the function makes of it, its value as an item.
-use Rattle.std.specs.Prelude.{◌≡◌, ℕ, ◌+◌, ◌-◌, ◌^◌, min, List, [], Option, Some, None, IfSome, cond, nat_lt}
-use Rattle.std.specs.Fn.{Mut, Called}
-use Rattle.futures.specs.declared.task.Poll.{Poll}
-use Rattle.lite_base.specs.Answers.{Answer}
-use Rattle.lite_base.specs.Future.Handed.{handed}
-use Rattle.lite_base.specs.Future.Spent.{Spends}
+use Rattle.lite_reshape.specs.Uses.{◌≡◌, ℕ, ◌+◌, ◌-◌, ◌^◌, min, List, [], Option, Some, None, IfSome, cond, nat_lt, Mut, Called, Poll, Answer, handed, Spends}
+use Rattle.lite_reshape.specs.Uses.{Calls, Question, Runs, AtEachItem, AdapterParts, Through, parts_of}
 use Rattle.lite_reshape.specs.Expanding.{Expanding}
 use Rattle.lite_reshape.specs.declared.then.Then.{Then}
-use Rattle.lite_base.specs.Calling.{Calls}
-use Rattle.lite_base.specs.Runs.{Question, Runs}
-use Rattle.lite_stream.specs.EachItem.{AtEachItem}
-use Rattle.lite_stream.specs.Through.{AdapterParts, Through, parts_of}
 
 -- the future's list, its value as an item, and nothing after that
 abbrev pub HandsOut : {V B : Type 0} → Runs (Poll B) V → V → List (Answer B) → Option V → Type 0

@@ -1,7 +1,5 @@
 //! Which values are never pending: those whose source is not.
-ghost use Rattle.std.specs.Fn.{CalledAt};
-ghost use Rattle.lite_base.specs.Calling.{Accepts, Calls};
-ghost use Rattle.lite_stream.specs.Laws.Calming.{through_calm};
+ghost use Rattle.lite_reshape.specs.Uses.{CalledAt, Accepts, Calls, through_calm};
 ghost use Rattle.lite_reshape.specs.Filter.{filter_parts};
 ghost use Rattle.lite_reshape.specs.FilterMap.{filter_map_parts};
 ghost use Rattle.lite_reshape.specs.Skip.{Skips, skip_parts};

@@ -1,11 +1,8 @@
-ghost use Rattle.std.specs.Prelude.{◌≡◌, None};
-ghost use Rattle.futures.specs.Task.{Keeps};
+ghost use Rattle.lite_reshape.specs.Uses.{◌≡◌, None, Keeps, Registered, NoHint};
 ghost use Rattle.lite_reshape.specs.Chain.{Chains};
 ghost use Rattle.lite_reshape.specs.Chaining.{ChainRegisters, SecondAnswers, chain_ranks};
 ghost use Rattle.lite_reshape.specs.declared.chain.Part.TheVariants.{Second};
 ghost use Rattle.lite_reshape.specs.Laws.Chain.{chain_counting, chain_laws};
-ghost use Rattle.lite_base.specs.Registered.{Registered};
-ghost use Rattle.lite_base.specs.Runs.{NoHint};
 
 use lite_base::{Context, Counted, Poll, Stream, ready};
 

@@ -1,13 +1,7 @@
-ghost use Rattle.lite_base.specs.Ranks.{ranks_of};
-ghost use Rattle.std.specs.Prelude.{Option, ℕ, ◌≡◌, []};
-ghost use Rattle.std.specs.Fn.{CalledAt};
-ghost use Rattle.lite_base.specs.Laws.Ends.{Terminates-map};
-ghost use Rattle.lite_stream.specs.EachItem.{MayShowEach};
-ghost use Rattle.lite_base.specs.Calling.{Accepts};
+ghost use Rattle.lite_reshape.specs.Uses.{ranks_of, Option, ℕ, ◌≡◌, [], CalledAt, Terminates-map, MayShowEach, Accepts, laws_capped, through_counting};
 ghost use Rattle.lite_reshape.specs.Filter.{CanFilter, Filters, filter_parts};
 ghost use Rattle.lite_reshape.specs.Leaving.{Sifts};
 ghost use Rattle.lite_reshape.specs.Laws.Leaving.{leaves_relating};
-ghost use Rattle.lite_stream.specs.Laws.Through.{laws_capped, through_counting};
 
 use lite_base::{Context, Counted, Poll, PollSteps, Stream, drive};
 

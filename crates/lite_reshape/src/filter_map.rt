@@ -1,13 +1,7 @@
-ghost use Rattle.lite_base.specs.Ranks.{ranks_of};
-ghost use Rattle.std.specs.Prelude.{[], None};
-ghost use Rattle.lite_base.specs.Laws.Ends.{Terminates-map};
-ghost use Rattle.lite_stream.specs.EachItem.{MayCallEach};
-ghost use Rattle.lite_base.specs.Calling.{Calls};
-ghost use Rattle.lite_base.specs.Runs.{NoHint};
+ghost use Rattle.lite_reshape.specs.Uses.{ranks_of, [], None, Terminates-map, MayCallEach, Calls, NoHint, laws_unhinted, through_counting};
 ghost use Rattle.lite_reshape.specs.FilterMap.{CanFilterMap, FilterMaps, filter_map_parts};
 ghost use Rattle.lite_reshape.specs.Leaving.{Sifts};
 ghost use Rattle.lite_reshape.specs.Laws.Leaving.{leaves_relating};
-ghost use Rattle.lite_stream.specs.Laws.Through.{laws_unhinted, through_counting};
 
 use lite_base::{Context, Counted, Poll, PollSteps, Stream, drive};
 

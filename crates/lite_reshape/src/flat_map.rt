@@ -1,12 +1,9 @@
-ghost use Rattle.std.specs.Prelude.{None};
+ghost use Rattle.lite_reshape.specs.Uses.{None, Calls, NoHint, Maps};
 ghost use Rattle.lite_reshape.specs.FlatMap.{CanFlatMap, CanStepMap, FlatMapSteps, FlatMaps, flat_map_parts};
 ghost use Rattle.lite_reshape.specs.FlatMap.{flat_map_ranks};
 ghost use Rattle.lite_reshape.specs.HeldRegisters.{HeldRegisters};
 ghost use Rattle.lite_reshape.specs.Laws.FlatMap.{flat_map_counting, flat_map_laws, made_end};
 ghost use Rattle.lite_reshape.specs.Laws.Flatten.{flat_ends};
-ghost use Rattle.lite_base.specs.Calling.{Calls};
-ghost use Rattle.lite_base.specs.Runs.{NoHint};
-ghost use Rattle.lite_stream.specs.Map.{Maps};
 
 use crate::inner::poll_part;
 use lite_base::{Context, Counted, Poll, PollSteps, Stream, drive};

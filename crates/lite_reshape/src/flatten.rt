@@ -1,11 +1,8 @@
-ghost use Rattle.std.specs.Prelude.{None};
-ghost use Rattle.lite_base.specs.Laws.StreamLaws.{runs_of};
-ghost use Rattle.lite_base.specs.Runs.{NoHint};
+ghost use Rattle.lite_reshape.specs.Uses.{None, runs_of, NoHint, laws_following};
 ghost use Rattle.lite_reshape.specs.Flatten.{Flattens};
 ghost use Rattle.lite_reshape.specs.Inner.{CanStepFlat, FlatSteps, flatten_parts, flattening_ranks};
 ghost use Rattle.lite_reshape.specs.HeldRegisters.{HeldRegisters};
 ghost use Rattle.lite_reshape.specs.Laws.Flatten.{flat_ends, flattening, flattening_counting};
-ghost use Rattle.lite_stream.specs.Laws.Through.{laws_following};
 
 use crate::inner::poll_part;
 use lite_base::{Context, Counted, Poll, PollSteps, Stream, drive};

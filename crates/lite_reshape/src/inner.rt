@@ -1,9 +1,7 @@
 //! What `flatten` and `flat_map` share: a step over an outer stream and the inner stream that is held.
-ghost use Rattle.std.specs.Prelude.{◌≡◌, IfSome, None};
-ghost use Rattle.futures.specs.Task.{Keeps};
+ghost use Rattle.lite_reshape.specs.Uses.{◌≡◌, IfSome, None, Keeps, Registered};
 ghost use Rattle.lite_reshape.specs.Inner.{CanFlatten, FlatStep};
 ghost use Rattle.lite_reshape.specs.HeldRegisters.{HeldRegisters};
-ghost use Rattle.lite_base.specs.Registered.{Registered};
 
 use lite_base::{Context, Counted, Poll, Stream};
 

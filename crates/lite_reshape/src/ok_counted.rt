@@ -1,9 +1,5 @@
 //! Ranks over `Ok` items, of the adapters whose rank falls with each item.
-ghost use Rattle.std.specs.Fn.{CalledAt};
-ghost use Rattle.lite_base.specs.Laws.OkRanks.{ok_counting};
-ghost use Rattle.lite_base.specs.Ranks.{ranks_of};
-ghost use Rattle.lite_base.specs.Calling.{Accepts, Calls};
-ghost use Rattle.lite_stream.specs.Laws.Through.{through_counting};
+ghost use Rattle.lite_reshape.specs.Uses.{CalledAt, ok_counting, ranks_of, Accepts, Calls, through_counting};
 ghost use Rattle.lite_reshape.specs.Filter.{filter_parts};
 ghost use Rattle.lite_reshape.specs.FilterMap.{filter_map_parts};
 ghost use Rattle.lite_reshape.specs.Skip.{Skips, skip_parts};

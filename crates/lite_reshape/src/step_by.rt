@@ -1,12 +1,8 @@
-ghost use Rattle.lite_base.specs.Ranks.{ranks_of};
-ghost use Rattle.std.specs.Prelude.{None};
-ghost use Rattle.lite_base.specs.Laws.Ends.{Terminates-count};
-ghost use Rattle.lite_base.specs.Runs.{NoHint};
+ghost use Rattle.lite_reshape.specs.Uses.{ranks_of, None, Terminates-count, NoHint, laws_unhinted, through_counting};
 ghost use Rattle.lite_reshape.specs.StepBy.{CanStep, StepsBy, step_by_parts};
 ghost use Rattle.lite_reshape.specs.Laws.Counting.{one_less};
 ghost use Rattle.lite_reshape.specs.Leaving.{Sifts};
 ghost use Rattle.lite_reshape.specs.Laws.StepBy.{Countdown, steps_relating};
-ghost use Rattle.lite_stream.specs.Laws.Through.{laws_unhinted, through_counting};
 
 use lite_base::{Context, Counted, Poll, PollSteps, Stream, drive};
 

@@ -1,9 +1,8 @@
-ghost use Rattle.std.specs.Prelude.{Option, ℕ, ◌≡◌};
+ghost use Rattle.lite_reshape.specs.Uses.{Option, ℕ, ◌≡◌, Calls};
 ghost use Rattle.lite_reshape.specs.HeldRegisters.{HeldRegisters};
 ghost use Rattle.lite_reshape.specs.Laws.Expanding.{held_counting, held_ranks};
 ghost use Rattle.lite_reshape.specs.Laws.Then.{hands_one, then_laws};
 ghost use Rattle.lite_reshape.specs.Then.{CanThen, MakesEach, Thens, then_hint, then_parts};
-ghost use Rattle.lite_base.specs.Calling.{Calls};
 
 use lite_base::{Context, Counted, Future, Poll, Stream, ready};
 

@@ -1,9 +1,5 @@
 -- A source that never changes.
-use Rattle.std.specs.Prelude.{◌≡◌, ⊤, []}
-use Rattle.std.specs.List.{AllByRecursion}
-use Rattle.lite_base.specs.Answers.{Answer}
-use Rattle.lite_base.specs.Ranks.{Ranks}
-use Rattle.lite_base.specs.Runs.{Runs}
+use Rattle.lite_source.specs.Uses.{◌≡◌, ⊤, [], AllByRecursion, Answer, Ranks, Runs}
 
 -- each answer is one of those that it may give, and it stays as it is
 abbrev pub Unchanging : {S A : Type 0} → (S → Answer A → Type 0) → Runs (Answer A) S

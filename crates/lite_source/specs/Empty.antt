@@ -1,7 +1,5 @@
 -- `empty`: each answer is an end.
-use Rattle.std.specs.Prelude.{◌≡◌}
-use Rattle.lite_base.specs.Answers.{Answer, end}
-use Rattle.lite_base.specs.Runs.{Runs}
+use Rattle.lite_source.specs.Uses.{◌≡◌, Answer, end, Runs}
 use Rattle.lite_source.specs.Always.{Unchanging}
 
 -- each answer is an end

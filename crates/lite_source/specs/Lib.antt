@@ -11,3 +11,4 @@ pub mod Script
 pub mod TryUnfold
 pub mod Unfold
 pub mod Unfolding
+pub mod Uses

@@ -1,8 +1,5 @@
 -- `once`: its item, and then an end for ever.
-use Rattle.std.specs.Prelude.{◌∷◌, List, [], Option, Some, None, length}
-use Rattle.lite_base.specs.Answers.{Answer, item}
-use Rattle.lite_base.specs.Ranks.{Ranks, number_ranks}
-use Rattle.lite_base.specs.Runs.{Runs}
+use Rattle.lite_source.specs.Uses.{◌∷◌, List, [], Option, Some, None, length, Answer, item, Ranks, number_ranks, Runs}
 use Rattle.lite_source.specs.Script.{GivesScript}
 use Rattle.lite_source.specs.declared.once.Once.{Once}
 

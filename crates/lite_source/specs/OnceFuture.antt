@@ -1,13 +1,5 @@
 -- `once_future`: the future's list, its value as an item, and then an end for ever.
-use Rattle.std.specs.Prelude.{◌≡◌, Some}
-use Rattle.std.specs.List.{AllByRecursion}
-use Rattle.std.specs.Option.{option_len}
-use Rattle.futures.specs.declared.task.Poll.{Poll}
-use Rattle.lite_base.specs.Answers.{Answer, end}
-use Rattle.lite_base.specs.Future.Spent.{Spends}
-use Rattle.lite_base.specs.Ranks.{Ranks, number_ranks}
-use Rattle.lite_base.specs.Future.Handed.{handed}
-use Rattle.lite_base.specs.Runs.{Runs}
+use Rattle.lite_source.specs.Uses.{◌≡◌, Some, AllByRecursion, option_len, Poll, Answer, end, Spends, Ranks, number_ranks, handed, Runs}
 use Rattle.lite_source.specs.declared.once_future.OnceFuture.{OnceFuture}
 
 -- the future's list, its value as an item, and then an end for ever

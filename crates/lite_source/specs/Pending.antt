@@ -1,8 +1,5 @@
 -- `pending`: each answer is Pending.
-use Rattle.std.specs.Prelude.{◌≡◌}
-use Rattle.futures.specs.declared.task.Poll.TheVariants.{Pending}
-use Rattle.lite_base.specs.Answers.{Answer}
-use Rattle.lite_base.specs.Runs.{Runs}
+use Rattle.lite_source.specs.Uses.{◌≡◌, Pending, Answer, Runs}
 use Rattle.lite_source.specs.Always.{Unchanging}
 
 -- each answer is Pending

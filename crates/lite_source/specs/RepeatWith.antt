@@ -1,9 +1,5 @@
 -- `repeat_with`: the answers of its function, one call a poll, each an item.
-use Rattle.std.specs.Prelude.{◌≡◌}
-use Rattle.std.specs.List.{FoldsTo}
-use Rattle.std.specs.Fn.{Mut, Called}
-use Rattle.lite_base.specs.Answers.{Answer, item}
-use Rattle.lite_base.specs.Runs.{Runs}
+use Rattle.lite_source.specs.Uses.{◌≡◌, FoldsTo, Mut, Called, Answer, item, Runs}
 
 module _ {F A : Type 0} (g : Mut F (Unit {0}) A) where
   -- a call, and its answer as an item

@@ -1,9 +1,5 @@
 -- `try_unfold`: as `unfold`, through Ok; an Err goes out as an item, and then it ends for ever.
-use Rattle.std.specs.Prelude.{Option, Some, None, Result, Ok, Err}
-use Rattle.std.specs.Fn.{Mut}
-use Rattle.futures.specs.declared.task.Poll.{Poll}
-use Rattle.lite_base.specs.Answers.{Answer}
-use Rattle.lite_base.specs.Runs.{Runs}
+use Rattle.lite_source.specs.Uses.{Option, Some, None, Result, Ok, Err, Mut, Poll, Answer, Runs}
 use Rattle.lite_source.specs.Unfold.{seed_of}
 use Rattle.lite_source.specs.Unfolding.{Unfolds}
 use Rattle.lite_source.specs.declared.try_unfold.TryUnfold.{TryUnfold}

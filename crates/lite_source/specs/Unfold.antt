@@ -1,10 +1,6 @@
 -- `unfold`: the lists of its futures. A value Some((x, s)) goes out as the item x, and the next future is made of s;
 -- None is an end, and then it ends for ever.
-use Rattle.std.specs.Prelude.{Option, Some, None}
-use Rattle.std.specs.Fn.{Mut}
-use Rattle.futures.specs.declared.task.Poll.{Poll}
-use Rattle.lite_base.specs.Answers.{Answer}
-use Rattle.lite_base.specs.Runs.{Runs}
+use Rattle.lite_source.specs.Uses.{Option, Some, None, Mut, Poll, Answer, Runs}
 use Rattle.lite_source.specs.Unfolding.{Unfolds}
 use Rattle.lite_source.specs.declared.unfold.Unfold.{Unfold}
 

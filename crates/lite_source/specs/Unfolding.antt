@@ -1,18 +1,8 @@
 -- What `unfold` and `try_unfold` share: a function makes a future of each seed, and the future's value says what goes
 -- out, and which seed comes next.
-use Rattle.std.specs.Prelude.{◌≡◌, ◌⊎◌, ⊤, List, [], ◌∷◌, map, flat_map, Option, Some, None}
-use Rattle.std.specs.Fn.{Mut, Called}
-use Rattle.std.specs.List.{FoldsTo}
-use Rattle.futures.specs.declared.task.Poll.{Poll}
-use Rattle.futures.specs.declared.task.Poll.TheVariants.{Ready, Pending}
-use Rattle.futures.specs.Task.{Lasting}
-use Rattle.lite_base.specs.Alike.{MadeOf, OptionBy, SameItem, Sameness}
-use Rattle.lite_base.specs.Answers.{Answer, Waiting}
-use Rattle.lite_base.specs.Calling.{AgreeBy, AgreeFrom}
-use Rattle.lite_base.specs.Future.Finishes.{Finishes}
+use Rattle.lite_source.specs.Uses.{◌≡◌, ◌⊎◌, ⊤, List, [], ◌∷◌, map, flat_map, Option, Some, None, Mut, Called, FoldsTo, Poll, Ready, Pending, Lasting, MadeOf}
+use Rattle.lite_source.specs.Uses.{OptionBy, SameItem, Sameness, Answer, Waiting, AgreeBy, AgreeFrom, Finishes, handed, Question, Runs}
 use Rattle.lite_source.specs.Empty.{GivesEnds}
-use Rattle.lite_base.specs.Future.Handed.{handed}
-use Rattle.lite_base.specs.Runs.{Question, Runs}
 
 -- what the next future is made of, or the future that is held, or nothing: it is over
 pub data Holding (S V : Type 0) : Type 0 where

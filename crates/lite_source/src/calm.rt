@@ -1,6 +1,5 @@
 //! The sources of which some values, or all, are never pending.
-ghost use Rattle.lite_base.specs.Calm.{NoPending};
-ghost use Rattle.lite_base.specs.Future.Calls.{NeverPends};
+ghost use Rattle.lite_source.specs.Uses.{NoPending, NeverPends, MakesAlways, IfSome, ⊤};
 ghost use Rattle.lite_source.specs.Iter.{Nexts};
 ghost use Rattle.lite_source.specs.Laws.Empty.{empty_calm};
 ghost use Rattle.lite_source.specs.Laws.Folds.{folds_calm};
@@ -14,8 +13,6 @@ ghost use Rattle.lite_source.specs.RepeatWith.{Call};
 ghost use Rattle.lite_source.specs.TryUnfold.{try_item_of, try_seed_of};
 ghost use Rattle.lite_source.specs.Unfold.{item_of, seed_of};
 ghost use Rattle.lite_source.specs.Unfolding.{IfHeldFuture};
-ghost use Rattle.lite_base.specs.Calling.{MakesAlways};
-ghost use Rattle.std.specs.Prelude.{IfSome, ⊤};
 
 use crate::{Empty, Iter, Once, OnceFuture, PollFn, Repeat, RepeatWith, Script, TryUnfold, Unfold};
 use lite_base::{CalmFuture, CalmStream, Context, Poll};

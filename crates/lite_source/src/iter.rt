@@ -1,4 +1,4 @@
-ghost use Rattle.lite_base.specs.Laws.OkRanks.{ok_counting};
+ghost use Rattle.lite_source.specs.Uses.{ok_counting};
 ghost use Rattle.lite_source.specs.Iter.{AlwaysNext, IterHints, Iterates, iter_ranks};
 ghost use Rattle.lite_source.specs.Laws.Iter.{iter_counting, iter_laws};
 

@@ -1,5 +1,4 @@
-ghost use Rattle.std.specs.Prelude.{◌≡◌, Some, length};
-ghost use Rattle.lite_base.specs.Laws.OkRanks.{ok_counting};
+ghost use Rattle.lite_source.specs.Uses.{◌≡◌, Some, length, ok_counting};
 ghost use Rattle.lite_source.specs.Laws.Once.{once_counting, once_laws};
 ghost use Rattle.lite_source.specs.Once.{GivesOnce, once_left, once_ranks};
 

@@ -1,6 +1,4 @@
-ghost use Rattle.std.specs.Prelude.{◌≡◌, IfSome, None, Some};
-ghost use Rattle.lite_base.specs.Laws.OkRanks.{ok_counting};
-ghost use Rattle.lite_base.specs.Runs.{NoHint};
+ghost use Rattle.lite_source.specs.Uses.{◌≡◌, IfSome, None, Some, ok_counting, NoHint};
 ghost use Rattle.lite_source.specs.Laws.OnceFuture.{once_future_counting, once_future_laws};
 ghost use Rattle.lite_source.specs.OnceFuture.{GivesFuture, once_future_ranks};
 

@@ -1,8 +1,4 @@
-ghost use Rattle.std.specs.Prelude.{⊤, None};
-ghost use Rattle.std.specs.List.{FoldsTo};
-ghost use Rattle.std.proofs.Common.{ap};
-ghost use Rattle.lite_base.specs.Future.Calls.{AlwaysObeys, CallAnswers, CallRegisters};
-ghost use Rattle.lite_base.specs.Runs.{NoHint};
+ghost use Rattle.lite_source.specs.Uses.{⊤, None, FoldsTo, ap, AlwaysObeys, CallAnswers, CallRegisters, NoHint};
 ghost use Rattle.lite_source.specs.Laws.Folds.{folds_laws};
 
 use lite_base::{Context, Poll, Stream};

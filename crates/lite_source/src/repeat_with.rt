@@ -1,5 +1,4 @@
-ghost use Rattle.std.specs.Prelude.{◌≡◌, ◌-◌, ◌^◌, None};
-ghost use Rattle.std.proofs.Common.{ap};
+ghost use Rattle.lite_source.specs.Uses.{◌≡◌, ◌-◌, ◌^◌, None, ap};
 ghost use Rattle.lite_source.specs.Laws.Folds.{folds_laws};
 ghost use Rattle.lite_source.specs.RepeatWith.{Call, RepeatsWith};
 

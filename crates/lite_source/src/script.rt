@@ -1,9 +1,4 @@
-ghost use Rattle.std.specs.Prelude.{◌≡◌, IfOk, List, None, length};
-ghost use Rattle.std.specs.List.{AllZip};
-ghost use Rattle.lite_base.specs.Laws.OkRanks.{ok_counting};
-ghost use Rattle.lite_base.specs.Ranks.{number_ranks};
-ghost use Rattle.lite_base.specs.Laws.Ranks.{number_counting};
-ghost use Rattle.lite_base.specs.Runs.{NoHint};
+ghost use Rattle.lite_source.specs.Uses.{◌≡◌, IfOk, List, None, length, AllZip, ok_counting, number_ranks, number_counting, NoHint};
 ghost use Rattle.lite_source.specs.Laws.Script.{gives_lowers, script_laws};
 ghost use Rattle.lite_source.specs.Script.{GivesScript, IsCloneBy};
 
@@ -21,8 +16,7 @@ pub struct Script<T> {
 }
 
 impl<T> Model for Script<T> {
-    ghost use Rattle.std.specs.Prelude.{List};
-    ghost use Rattle.lite_base.specs.Answers.{Answer};
+    ghost use Rattle.lite_source.specs.Uses.{List, Answer};
 
     ghost Value = { List (Answer T) };
 

@@ -1,9 +1,5 @@
 //! The sources whose answers do not depend on when they were pending.
-ghost use Rattle.lite_base.specs.Alike.{Alike, OptionBy};
-ghost use Rattle.lite_base.specs.Answers.{strip};
-ghost use Rattle.lite_base.specs.Calling.{Calls};
-ghost use Rattle.lite_base.specs.Future.Calls.{CallAnswers};
-ghost use Rattle.lite_base.specs.Laws.Steady.{steady_always};
+ghost use Rattle.lite_source.specs.Uses.{Alike, OptionBy, strip, Calls, CallAnswers, steady_always, FoldsTo, ap, ⊤, ◌≡◌};
 ghost use Rattle.lite_source.specs.Empty.{GivesEnds};
 ghost use Rattle.lite_source.specs.Iter.{Iterates, Nexts};
 ghost use Rattle.lite_source.specs.Laws.Empty.{empty_laws, empty_steady};
@@ -25,9 +21,6 @@ ghost use Rattle.lite_source.specs.Script.{GivesScript};
 ghost use Rattle.lite_source.specs.TryUnfold.{TryUnfoldsBy, try_item_of, try_seed_of};
 ghost use Rattle.lite_source.specs.Unfold.{UnfoldsBy, item_of, seed_of};
 ghost use Rattle.lite_source.specs.Unfolding.{PartOf, UnfoldAlike};
-ghost use Rattle.std.specs.List.{FoldsTo};
-ghost use Rattle.std.proofs.Common.{ap};
-ghost use Rattle.std.specs.Prelude.{⊤, ◌≡◌};
 
 use crate::{
     Empty, Iter, Once, OnceFuture, Pending, PollFn, Repeat, RepeatWith, Script, TryUnfold, Unfold,

@@ -1,9 +1,7 @@
-ghost use Rattle.std.specs.Prelude.{None};
-ghost use Rattle.lite_base.specs.Calling.{MakesAlways};
+ghost use Rattle.lite_source.specs.Uses.{None, MakesAlways, NoHint};
 ghost use Rattle.lite_source.specs.TryUnfold.{TryUnfoldsBy};
 ghost use Rattle.lite_source.specs.Unfolding.{IfHeldFuture, UnfoldRegisters};
 ghost use Rattle.lite_source.specs.Laws.TryUnfold.{try_unfold_laws};
-ghost use Rattle.lite_base.specs.Runs.{NoHint};
 
 use crate::unfolding::Unfolding;
 use lite_base::{Context, Future, Poll, Stream, ready};

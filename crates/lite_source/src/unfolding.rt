@@ -1,8 +1,5 @@
-ghost use Rattle.std.specs.Prelude.{◌≡◌};
-ghost use Rattle.lite_base.specs.Calling.{MakesAlways};
-ghost use Rattle.futures.specs.Task.{Keeps};
+ghost use Rattle.lite_source.specs.Uses.{◌≡◌, MakesAlways, Keeps, Registered};
 ghost use Rattle.lite_source.specs.Unfolding.{Holding, IfHeldFuture, UnfoldRegisters, UnfoldStep};
-ghost use Rattle.lite_base.specs.Registered.{Registered};
 
 use lite_base::{Context, Future, Poll, ready};
 use std::fmt;

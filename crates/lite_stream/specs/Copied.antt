@@ -1,9 +1,5 @@
 -- `copied`: each reference is replaced by what it refers to.
-use Rattle.std.specs.Prelude.{◌≡◌}
-use denote.Ref.{Bor}
-use Rattle.lite_base.specs.Alike.{MadeOf, Sameness}
-use Rattle.lite_base.specs.Answers.{Answer}
-use Rattle.lite_base.specs.Runs.{Runs}
+use Rattle.lite_stream.specs.Uses.{◌≡◌, Bor, MadeOf, Sameness, Answer, Runs}
 use Rattle.lite_stream.specs.Pointwise.{Replaces}
 use Rattle.lite_stream.specs.Through.{AdapterParts, Through, parts_of}
 use Rattle.lite_stream.specs.declared.copied.Copied.{Copied}

@@ -1,12 +1,6 @@
 -- What holds of each item that a source may still give.
-use Rattle.std.specs.Prelude.{List, [], ◌∷◌, ◌++◌, Some, None}
-use Rattle.std.specs.Fn.{Mut, CalledAt, TakesAt, TakesWithState}
-use Rattle.std.specs.List.{FoldsTo}
-use denote.Ref.{Bor, MutBor}
-use Rattle.futures.specs.declared.task.Poll.TheVariants.{Ready, Pending}
-use Rattle.lite_base.specs.Answers.{Answer, item}
-use Rattle.lite_base.specs.Calling.{Calls, CallsWith}
-use Rattle.lite_base.specs.Runs.{Question, Runs}
+use Rattle.lite_stream.specs.Uses.{List, [], ◌∷◌, ◌++◌, Some, None, Mut, CalledAt, TakesAt, TakesWithState, FoldsTo, Bor, MutBor, Ready, Pending, Answer, item}
+use Rattle.lite_stream.specs.Uses.{Calls, CallsWith, Question, Runs}
 
 -- the items among the answers
 abbrev pub items_in : {A : Type 0} → List (Answer A) → List A

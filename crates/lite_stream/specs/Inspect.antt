@@ -1,7 +1,5 @@
 -- `inspect`: each item is shown to the function, and goes out as it is.
-use Rattle.std.specs.Prelude.{◌≡◌}
-use Rattle.lite_base.specs.Answers.{Answer}
-use Rattle.lite_base.specs.Runs.{Question, Runs}
+use Rattle.lite_stream.specs.Uses.{◌≡◌, Answer, Question, Runs}
 use Rattle.lite_stream.specs.Pointwise.{Replaces}
 use Rattle.lite_stream.specs.Through.{AdapterParts, Through, parts_of}
 use Rattle.lite_stream.specs.declared.inspect.Inspect.{Inspect}

@@ -13,3 +13,4 @@ pub mod Scan
 pub mod Take
 pub mod TakeWhile
 pub mod Through
+pub mod Uses

@@ -1,6 +1,5 @@
 -- The type of what an adapter of one source says.
-use Rattle.std.specs.Prelude.{List}
-use Rattle.lite_base.specs.Answers.{Answer}
+use Rattle.lite_stream.specs.Uses.{List, Answer}
 
 -- where an F was held these answers came in and those went out, and now another F is held
 abbrev pub Relates : Type 0 → Type 0 → Type 0 → Type 1

@@ -1,7 +1,5 @@
 -- `scan`: as `map_while`, with a state that the function is lent at each call.
-use Rattle.std.specs.Prelude.{Option}
-use Rattle.lite_base.specs.Answers.{Answer}
-use Rattle.lite_base.specs.Runs.{Runs}
+use Rattle.lite_stream.specs.Uses.{Option, Answer, Runs}
 use Rattle.lite_stream.specs.Pointwise.{Exchanges}
 use Rattle.lite_stream.specs.Through.{AdapterParts, Through, parts_of}
 use Rattle.lite_stream.specs.declared.scan.Scan.{Scan}

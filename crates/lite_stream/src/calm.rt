@@ -1,5 +1,5 @@
 //! The adapters that are never pending over a stream that never is.
-ghost use Rattle.lite_base.specs.Calling.{Accepts, Calls, CallsWith};
+ghost use Rattle.lite_stream.specs.Uses.{Accepts, Calls, CallsWith, CalledAt};
 ghost use Rattle.lite_stream.specs.Copied.{CopiesItem, copied_parts};
 ghost use Rattle.lite_stream.specs.Enumerate.{Numbers, enumerate_parts};
 ghost use Rattle.lite_stream.specs.Fuse.{fuse_parts};
@@ -13,7 +13,6 @@ ghost use Rattle.lite_stream.specs.MapWhile.{map_while_parts};
 ghost use Rattle.lite_stream.specs.Scan.{scan_parts};
 ghost use Rattle.lite_stream.specs.Take.{is_none_left, left_after, take_parts};
 ghost use Rattle.lite_stream.specs.TakeWhile.{take_while_parts};
-ghost use Rattle.std.specs.Fn.{CalledAt};
 
 use crate::{Copied, Enumerate, Fuse, Inspect, Map, MapWhile, Scan, Take, TakeWhile};
 use lite_base::CalmStream;

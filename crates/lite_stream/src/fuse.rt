@@ -1,6 +1,4 @@
-ghost use Rattle.lite_base.specs.Ranks.{ranks_of};
-ghost use Rattle.lite_base.specs.Runs.{NoHint};
-ghost use Rattle.std.specs.Prelude.{None};
+ghost use Rattle.lite_stream.specs.Uses.{ranks_of, NoHint, None};
 ghost use Rattle.lite_stream.specs.Fuse.{Fuses, fuse_parts};
 ghost use Rattle.lite_stream.specs.Laws.Fuse.{fuses_relating};
 ghost use Rattle.lite_stream.specs.Laws.Through.{laws_unhinted, through_counting};

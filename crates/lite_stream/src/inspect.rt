@@ -1,7 +1,4 @@
-ghost use Rattle.lite_base.specs.Ranks.{ranks_of};
-ghost use Rattle.lite_base.specs.Runs.{NoHint};
-ghost use Rattle.std.specs.Prelude.{None};
-ghost use Rattle.std.specs.Fn.{CalledAt};
+ghost use Rattle.lite_stream.specs.Uses.{ranks_of, NoHint, None, CalledAt};
 ghost use Rattle.lite_stream.specs.EachItem.{MayShowEach};
 ghost use Rattle.lite_stream.specs.Inspect.{Inspects, ShowsItem, inspect_parts};
 ghost use Rattle.lite_stream.specs.Laws.Pointwise.{replaces_relating};

@@ -1,5 +1,5 @@
 //! What makes the adapters.
-ghost use Rattle.std.specs.Prelude.{◌≡◌, false};
+ghost use Rattle.lite_stream.specs.Uses.{◌≡◌, false};
 
 use crate::copied::Copied;
 use crate::enumerate::Enumerate;

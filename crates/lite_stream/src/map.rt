@@ -1,6 +1,5 @@
-ghost use Rattle.lite_base.specs.Ranks.{ranks_of};
+ghost use Rattle.lite_stream.specs.Uses.{ranks_of, Calls};
 ghost use Rattle.lite_stream.specs.EachItem.{MayCallEach};
-ghost use Rattle.lite_base.specs.Calling.{Calls};
 ghost use Rattle.lite_stream.specs.Map.{Maps, map_parts};
 ghost use Rattle.lite_stream.specs.Laws.Pointwise.{replaces_relating};
 ghost use Rattle.lite_stream.specs.Laws.Through.{laws_hinted, through_counting};

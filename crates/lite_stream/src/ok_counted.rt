@@ -1,9 +1,5 @@
 //! Ranks over `Ok` items, of the adapters whose rank falls with each item.
-ghost use Rattle.std.specs.Fn.{CalledAt};
-ghost use Rattle.lite_base.specs.Laws.OkRanks.{ok_counting};
-ghost use Rattle.lite_base.specs.Ranks.{number_ranks, ranks_of};
-ghost use Rattle.lite_base.specs.Laws.Ranks.{number_counting};
-ghost use Rattle.lite_base.specs.Calling.{Accepts, Calls, CallsWith};
+ghost use Rattle.lite_stream.specs.Uses.{CalledAt, ok_counting, number_ranks, ranks_of, number_counting, Accepts, Calls, CallsWith};
 ghost use Rattle.lite_stream.specs.Copied.{CopiesItem, copied_parts};
 ghost use Rattle.lite_stream.specs.Fuse.{fuse_parts};
 ghost use Rattle.lite_stream.specs.Inspect.{ShowsItem, inspect_parts};

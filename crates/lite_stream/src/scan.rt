@@ -1,7 +1,4 @@
-ghost use Rattle.lite_base.specs.Ranks.{ranks_of};
-ghost use Rattle.std.specs.Prelude.{None};
-ghost use Rattle.lite_base.specs.Calling.{CallsWith};
-ghost use Rattle.lite_base.specs.Runs.{NoHint};
+ghost use Rattle.lite_stream.specs.Uses.{ranks_of, None, CallsWith, NoHint};
 ghost use Rattle.lite_stream.specs.EachItem.{MayCallEachWith};
 ghost use Rattle.lite_stream.specs.Scan.{Scans, scan_parts};
 ghost use Rattle.lite_stream.specs.Laws.Pointwise.{exchanges_relating};

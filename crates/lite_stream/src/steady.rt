@@ -1,7 +1,6 @@
 //! The adapters whose answers do not depend on when their stream was pending.
-ghost use Rattle.lite_base.specs.Alike.{Pairwise, SameItem, Sameness};
-ghost use Rattle.lite_base.specs.Calling.{Accepts, AgreeFrom, AgreeKeeping, AgreeOver, Answering, Calls, CallsWith};
-ghost use Rattle.lite_base.specs.Calling.{Keeping};
+ghost use Rattle.lite_stream.specs.Uses.{Pairwise, SameItem, Sameness, Accepts, AgreeFrom, AgreeKeeping, AgreeOver, Answering, Calls, CallsWith, Keeping};
+ghost use Rattle.lite_stream.specs.Uses.{CalledAt, ⊤, ◌≡◌};
 ghost use Rattle.lite_stream.specs.Copied.{CopiesAll, CopiesItem, Referred, copied_parts};
 ghost use Rattle.lite_stream.specs.Enumerate.{Enumerates, Numbers, enumerate_parts};
 ghost use Rattle.lite_stream.specs.Fuse.{Fuses, fuse_parts};
@@ -19,8 +18,6 @@ ghost use Rattle.lite_stream.specs.MapWhile.{MapsWhile, map_while_parts};
 ghost use Rattle.lite_stream.specs.Scan.{Scans, scan_parts};
 ghost use Rattle.lite_stream.specs.Take.{Takes, is_none_left, left_after, take_parts};
 ghost use Rattle.lite_stream.specs.TakeWhile.{TakesWhile, take_while_parts};
-ghost use Rattle.std.specs.Fn.{CalledAt};
-ghost use Rattle.std.specs.Prelude.{⊤, ◌≡◌};
 
 use crate::{Copied, Enumerate, Fuse, Inspect, Map, MapWhile, Scan, Take, TakeWhile};
 use lite_base::SteadyStream;

@@ -1,7 +1,4 @@
-ghost use Rattle.lite_base.specs.Ranks.{number_ranks};
-ghost use Rattle.lite_base.specs.Laws.Ranks.{number_counting};
-ghost use Rattle.lite_base.specs.Runs.{NoHint};
-ghost use Rattle.std.specs.Prelude.{None};
+ghost use Rattle.lite_stream.specs.Uses.{number_ranks, number_counting, NoHint, None};
 ghost use Rattle.lite_stream.specs.Take.{Takes, is_none_left, left_after, take_parts};
 ghost use Rattle.lite_stream.specs.Laws.Cutting.{cuts_relating};
 ghost use Rattle.lite_stream.specs.Laws.Take.{takes_lowers};

@@ -1,9 +1,5 @@
-ghost use Rattle.lite_base.specs.Ranks.{ranks_of};
-ghost use Rattle.std.specs.Prelude.{None};
-ghost use Rattle.std.specs.Fn.{CalledAt};
+ghost use Rattle.lite_stream.specs.Uses.{ranks_of, None, CalledAt, Accepts, NoHint};
 ghost use Rattle.lite_stream.specs.EachItem.{MayShowEach};
-ghost use Rattle.lite_base.specs.Calling.{Accepts};
-ghost use Rattle.lite_base.specs.Runs.{NoHint};
 ghost use Rattle.lite_stream.specs.TakeWhile.{TakesWhile, take_while_parts};
 ghost use Rattle.lite_stream.specs.Laws.Pointwise.{exchanges_relating};
 ghost use Rattle.lite_stream.specs.Laws.Through.{laws_unhinted, through_counting};

@@ -1,22 +1,8 @@
 -- A reader that is read up to a value, pendings aside; and two that are alike.
-use Rattle.std.specs.Prelude.{⊤, IfErr, IfOk}
-use Rattle.std.proofs.Common.{◌≡◌, ◌∙◌, ℕ, List, [], ◌∷◌, ◌++◌, length, Result, Ok, Err, refl, sym, ap, subst, arith}
-use Rattle.std.proofs.Common.{append_assoc, append-nil, length-append}
-use Rattle.std.specs.List.{FoldsTo}
-use Rattle.std.specs.declared.io.Error.{Error}
-use Rattle.std.specs.declared.vec.Vec.{Vec}
-use denote.MutBor.{MutBor}
-use Rattle.futures.specs.declared.task.Poll.{Poll}
-use Rattle.lite_base.specs.Answers.{Comparable, Gives}
-use Rattle.lite_base.specs.Runs.{Runs}
-use Rattle.lite_io_base.specs.Laws.Steady.{comparable_swapped}
-use Rattle.lite_io_base.specs.Marks.{ReadMark, bytes}
-use Rattle.lite_io_base.specs.Steady.{NoPendingRead, SteadyReadLaws, strip_marks}
-use Rattle.lite_read.specs.Appending.{ToEndStays}
-use Rattle.lite_read.specs.Laws.SteadyReadToEnd.{appends_deterministic}
-use Rattle.lite_read.specs.ReadToEnd.{Appended, ReadsToEnd, appends}
-use Rattle.lite_read.specs.Deterministic.{SameByKind}
-use Rattle.lite_read.specs.declared.read_to_end.ReadToEndFuture.{ReadToEndFuture}
+use Rattle.lite_theorems.specs.Uses.{⊤, IfErr, IfOk, ◌≡◌, ◌∙◌, ℕ, List, [], ◌∷◌, ◌++◌, length, Result, Ok, Err, refl, sym, ap, subst, arith, append_assoc}
+use Rattle.lite_theorems.specs.Uses.{append-nil, length-append, FoldsTo, Error, Vec, MutBor, Poll, Comparable, Gives, Runs, comparable_swapped, ReadMark, bytes}
+use Rattle.lite_theorems.specs.Uses.{NoPendingRead, SteadyReadLaws, strip_marks, ToEndStays, appends_deterministic, Appended, ReadsToEnd, appends, SameByKind}
+use Rattle.lite_theorems.specs.Uses.{ReadToEndFuture}
 use Rattle.lite_theorems.proofs.Waited.{WaitedFor, read_folds_once}
 use Rattle.lite_theorems.specs.BothReaders.{BothRead, HasReadMemory, ReadsUp}
 

@@ -1,28 +1,9 @@
 -- A writer that is handed some bytes and then flushed, and two that are alike.
-use Rattle.std.specs.Prelude.{IfErr, IfOk, IsOk}
-use Rattle.std.proofs.Common.{◌≡◌, ◌∙◌, ℕ, List, [], ◌∷◌, ◌++◌, Result, Ok, Err, inl, inr, refl, sym, ap, subst, arith}
-use Rattle.std.proofs.Common.{append_assoc, append-nil, map}
-use Rattle.std.specs.IoError.{error_kind}
-use Rattle.std.specs.List.{FoldsTo}
-use Rattle.std.specs.declared.io.Error.{Error}
-use denote.Ref.{Bor, MutBor}
-use Rattle.futures.specs.declared.task.Poll.{Poll}
-use Rattle.futures.specs.declared.task.Poll.TheVariants.{Ready, Pending}
-use Rattle.lite_base.specs.Answers.{Gives}
-use Rattle.lite_base.specs.Laws.Segments.{segment_front, to_value_last}
-use Rattle.lite_base.specs.Runs.{Runs}
-use Rattle.lite_io_base.specs.Runs.{MarkLaws, StandsFirst}
-use Rattle.lite_io_base.specs.SteadyWrite.{NoError, SteadyWriteLaws}
-use Rattle.lite_io_base.specs.Takings.{WriteMark, bytes_taken}
-use Rattle.lite_io_base.specs.Laws.Takings.{taken_both}
-use Rattle.lite_read.specs.Polled.{PolledByCalls}
-use Rattle.lite_write.specs.Flush.{Flushes}
-use Rattle.lite_write.specs.Laws.SteadyWriteAll.{no_failure_both}
-use Rattle.lite_write.specs.SteadyWriteAll.{NoFailure}
-use Rattle.lite_write.specs.Hands.{Hands}
-use Rattle.lite_write.specs.WriteAll.{Ended, HandsMarks, HandsOver, WritesAll}
-use Rattle.lite_write.specs.declared.flush.FlushFuture.{FlushFuture}
-use Rattle.lite_write.specs.declared.write_all.WriteAllFuture.{WriteAllFuture}
+use Rattle.lite_theorems.specs.Uses.{IfErr, IfOk, IsOk, ◌≡◌, ◌∙◌, ℕ, List, [], ◌∷◌, ◌++◌, Result, Ok, Err, inl, inr, refl, sym, ap, subst, arith, append_assoc}
+use Rattle.lite_theorems.specs.Uses.{append-nil, map, error_kind, FoldsTo, Error, Bor, Poll, Ready, Pending, Gives, segment_front, to_value_last, Runs}
+use Rattle.lite_theorems.specs.Uses.{MarkLaws, StandsFirst, NoError, SteadyWriteLaws, WriteMark, bytes_taken, taken_both, PolledByCalls, Flushes}
+use Rattle.lite_theorems.specs.Uses.{no_failure_both, NoFailure, Hands, Ended, HandsMarks, HandsOver, WritesAll, FlushFuture, WriteAllFuture}
+use denote.Ref.{MutBor}
 use Rattle.lite_theorems.proofs.Waited.{WaitedFor}
 use Rattle.lite_theorems.specs.BothWriters.{BothWritten, FailsBy, FailsWith, FlushedUp, HandedUp, TakesFront, WrittenUp}
 

@@ -1,18 +1,7 @@
 -- What `try_collect` makes of the answers of `lines`.
-use Rattle.std.specs.Prelude.{string_bytes}
-use Rattle.std.proofs.Common.{◌≡◌, ◌∙◌, List, [], ◌∷◌, ◌++◌, Option, Some, None, Result, Ok, Err, Global, refl, ap, sym}
-use Rattle.std.proofs.Common.{subst, append-nil, append_assoc}
-use Rattle.std.specs.declared.io.Error.{Error}
-use Rattle.std.specs.declared.string.String.{String}
-use Rattle.futures.specs.declared.task.Poll.{Poll}
-use Rattle.futures.specs.declared.task.Poll.TheVariants.{Ready}
-use Rattle.lite_base.specs.Answers.{Answer, Gives, item}
-use Rattle.lite_consume.specs.Consuming.{Consumes, Decides, Fold, TakesIn, fold_of}
-use Rattle.lite_consume.specs.Laws.Consuming.{consumes_steps}
-use Rattle.lite_gather.specs.TryCollect.{tries_collect}
-use Rattle.lite_gather.specs.declared.refused.TryCollectError.{TryCollectError}
-use Rattle.lite_gather.specs.declared.refused.TryCollectError.TheVariants.{Source, Memory}
-use Rattle.lite_io_base.specs.Marks.{ReadMark}
+use Rattle.lite_theorems.specs.Uses.{string_bytes, ◌≡◌, ◌∙◌, List, [], ◌∷◌, ◌++◌, Option, Some, None, Result, Ok, Err, Global, refl, ap, sym, subst, append-nil}
+use Rattle.lite_theorems.specs.Uses.{append_assoc, Error, String, Poll, Ready, Answer, Gives, item, Consumes, Decides, Fold, TakesIn, fold_of, consumes_steps}
+use Rattle.lite_theorems.specs.Uses.{tries_collect, TryCollectError, Source, Memory, ReadMark}
 use Rattle.lite_theorems.specs.Laws.Collected.{Has, held_by}
 use Rattle.lite_theorems.specs.Lines.{CollectsOf, Line, StandsFor, as_lines, lines_told}
 use Rattle.lite_theorems.proofs.Telling.{Given, Text}

@@ -1,8 +1,6 @@
 -- The lines of what a reader tells through a limit and a buffer.
-use Rattle.std.proofs.Common.{◌≡◌, ◌∙◌, ℕ, zero, suc, arith, List, [], ◌∷◌, ◌++◌, refl, ap, sym, append_assoc}
-use Rattle.std.proofs.Common.{append-nil}
-use Rattle.lite_buffered.specs.Take.{LimitEnds, WithinLimit}
-use Rattle.lite_io_base.specs.Marks.{ReadMark}
+use Rattle.lite_theorems.specs.Uses.{◌≡◌, ◌∙◌, ℕ, zero, suc, arith, List, [], ◌∷◌, ◌++◌, refl, ap, sym, append_assoc, append-nil, LimitEnds, WithinLimit}
+use Rattle.lite_theorems.specs.Uses.{ReadMark}
 use Rattle.lite_theorems.specs.Lines.{limited, lines_told}
 
 -- marks that fit

@@ -1,13 +1,6 @@
 -- The lines of bytes that come piece by piece, and the replies to them.
-use Rattle.std.proofs.Common.{◌≡◌, ◌∙◌, ℕ, Bool, true, false, List, [], ◌∷◌, ◌++◌, inl, inr, ap}
-use Rattle.std.proofs.Common.{append-nil, append_assoc}
-use Rattle.std.proofs.Common.{Ok, refl, sym}
-use Rattle.std.proofs.lemmas.Bool.{ne_eqb}
-use Rattle.std.proofs.lemmas.Grind.{flat_map-append}
-use Rattle.std.specs.Prelude.{◌==◌, flat_map}
-use Rattle.lite_read.specs.BytePieces.{byte_lines, last_piece, pieces_from}
-use Rattle.lite_read.specs.LineText.{without_return}
-use Rattle.lite_io_base.specs.Marks.{ReadMark, bytes}
+use Rattle.lite_theorems.specs.Uses.{◌≡◌, ◌∙◌, ℕ, Bool, true, false, List, [], ◌∷◌, ◌++◌, inl, inr, ap, append-nil, append_assoc, Ok, refl, sym, ne_eqb}
+use Rattle.lite_theorems.specs.Uses.{flat_map-append, ◌==◌, flat_map, byte_lines, last_piece, pieces_from, without_return, ReadMark, bytes}
 use Rattle.lite_theorems.specs.Told.{EndsAtFirst, Without}
 use Rattle.lite_theorems.specs.Serving.{PieceIn, Replying, replies}
 

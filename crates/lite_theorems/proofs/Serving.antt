@@ -1,19 +1,10 @@
 -- What was told and written so far, and what comes behind it.
-use Rattle.std.proofs.Common.{◌≡◌, ◌⊎◌, ◌∙◌, ℕ, Bool, true, false, List, [], ◌∷◌, ◌++◌, Result, Ok, Err, ap}
-use Rattle.std.proofs.Common.{refl, sym, subst}
-use Rattle.std.proofs.Common.{append-nil, append_assoc}
-use Rattle.std.proofs.lemmas.List.{map-append}
-use Rattle.std.specs.Prelude.{IfOk, flat_map}
+use Rattle.lite_theorems.specs.Uses.{◌≡◌, ◌⊎◌, ◌∙◌, ℕ, Bool, true, false, List, [], ◌∷◌, ◌++◌, Result, Ok, Err, ap, refl, sym, subst, append-nil, append_assoc}
+use Rattle.lite_theorems.specs.Uses.{map-append, IfOk, flat_map, ReadMark, bytes, WriteMark, bytes_taken, Runs, MarkLaws, StandsFirst, last_piece}
+use Rattle.lite_theorems.specs.Uses.{without_return, EndsFlushed}
 use Rattle.lite_theorems.specs.Laws.Taken.{taken_both}
 use Rattle.lite_theorems.specs.Laws.Told.{told_follow, told_none}
-use Rattle.lite_io_base.specs.Marks.{ReadMark, bytes}
-use Rattle.lite_io_base.specs.Takings.{WriteMark, bytes_taken}
-use Rattle.lite_base.specs.Runs.{Runs}
-use Rattle.lite_io_base.specs.Runs.{MarkLaws, StandsFirst}
-use Rattle.lite_read.specs.BytePieces.{last_piece}
-use Rattle.lite_read.specs.LineText.{without_return}
 use Rattle.lite_theorems.specs.Told.{EndsAtFirst, ToldStripped, Without}
-use Rattle.lite_io_base.specs.SteadyWrite.{EndsFlushed}
 use Rattle.lite_theorems.specs.BothWriters.{TakesFront}
 use Rattle.lite_theorems.specs.Serving.{LineEnds, OfOutput, PieceIn, Replied, Replying, ServingEnds}
 use Rattle.lite_theorems.specs.Serving.{StopsServing, replies}

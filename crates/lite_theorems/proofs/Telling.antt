@@ -1,20 +1,7 @@
 -- What the answers of `lines` say of the lines that are told.
-use Rattle.std.specs.Prelude.{⊤, string_bytes}
-use Rattle.std.proofs.Common.{◌≡◌, ◌≢◌, ◌==◌, ◌∙◌, inl, inr, ℕ, List, [], ◌∷◌, ◌++◌, Option, Some, None, Result, Ok}
-use Rattle.std.proofs.Common.{Err, Global, Bool, true, false, arith, eqb-true, refl, ap, sym, subst, append_assoc}
-use Rattle.std.specs.IoError.{error_kind}
-use Rattle.std.specs.List.{FoldsTo}
-use Rattle.std.specs.declared.io.Error.{Error}
-use Rattle.std.specs.declared.io.ErrorKind.TheVariants.{OutOfMemory}
-use Rattle.std.specs.declared.string.String.{String}
-use Rattle.futures.specs.declared.task.Poll.TheVariants.{Ready, Pending}
-use Rattle.lite_base.specs.Answers.{Answer}
-use Rattle.lite_base.specs.Laws.Segments.{segment_front}
-use Rattle.lite_io_base.specs.Marks.{ReadMark, bytes}
-use Rattle.lite_read.specs.Lines.{lining}
-use Rattle.lite_read.specs.Pieces.{Cut}
-use Rattle.lite_read.specs.Segments.{PieceSegments}
-use Rattle.lite_read.specs.LineText.{IsText, without_return}
+use Rattle.lite_theorems.specs.Uses.{⊤, string_bytes, ◌≡◌, ◌≢◌, ◌==◌, ◌∙◌, inl, inr, ℕ, List, [], ◌∷◌, ◌++◌, Option, Some, None, Result, Ok, Err, Global, Bool}
+use Rattle.lite_theorems.specs.Uses.{true, false, arith, eqb-true, refl, ap, sym, subst, append_assoc, error_kind, FoldsTo, Error, OutOfMemory, String, Ready}
+use Rattle.lite_theorems.specs.Uses.{Pending, Answer, segment_front, ReadMark, bytes, lining, Cut, PieceSegments, IsText, without_return}
 use Rattle.lite_theorems.specs.Lines.{Line, StandsFor, lines_told}
 
 abbrev pub Text : Type 0

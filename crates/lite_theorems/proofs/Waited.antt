@@ -1,34 +1,10 @@
 -- What a reader tells while a call of it is waited for, pendings aside.
-use Rattle.std.specs.Prelude.{⊤, IfErr, IfOk, OnErr}
-use Rattle.std.proofs.Common.{◌≡◌, ◌∙◌, ◌≤◌, ℕ, List, [], ◌∷◌, ◌++◌, length, take, drop, Result, Ok, Err, inl, inr}
-use Rattle.std.proofs.Common.{ap, append-nil, append_assoc, arith, refl, subst, sym, take-append-drop}
-use Rattle.std.proofs.Math.Seq.{drop-length, take-length}
-use Rattle.std.proofs.lemmas.List.{length-take, map-append, take_all}
-use Rattle.std.specs.List.{FoldsTo}
-use Rattle.std.specs.declared.io.Error.{Error}
-use denote.MutBor.{MutBor}
-use Rattle.futures.specs.declared.task.Poll.{Poll}
-use Rattle.futures.specs.declared.task.Poll.TheVariants.{Ready, Pending}
-use Rattle.lite_base.specs.Answers.{Gives}
-use Rattle.lite_base.specs.Laws.Segments.{segment_before, segment_front, to_value_last}
-use Rattle.lite_base.specs.Runs.{Runs}
-use Rattle.lite_io_base.specs.Laws.Steady.{no_wait_moved, stripped_no_pending}
-use Rattle.lite_io_base.specs.Marks.{ReadMark, bytes, read_marks}
-use Rattle.lite_io_base.specs.Runs.{MarkLaws}
-use Rattle.lite_io_base.specs.Steady.{NoPendingRead, strip_marks}
-use Rattle.lite_read.specs.Filling.{Filling, filling_of}
-use Rattle.lite_read.specs.Laws.Deterministic.{past_pending, past_value}
-use Rattle.lite_read.specs.Laws.ReadExact.{filled_by}
-use Rattle.lite_read.specs.Pieces.{Cut, CutsPiece}
-use Rattle.lite_read.specs.Polled.{PolledByCalls}
-use Rattle.lite_read.specs.Read.{Reads}
-use Rattle.lite_read.specs.ReadExact.{Fulfils, ReadsExactly, fills}
-use Rattle.lite_read.specs.ReadFold.{AnswerMarks, Gathers, ReadFold, ReadFolds}
-use Rattle.lite_read.specs.ReadUntil.{CountsPiece, ReadsUntil, until}
-use Rattle.lite_read.specs.UntilVector.{read_of}
-use Rattle.lite_read.specs.declared.read.ReadFuture.{ReadFuture}
-use Rattle.lite_read.specs.declared.read_exact.ReadExactFuture.{ReadExactFuture}
-use Rattle.lite_read.specs.declared.read_until.ReadUntilFuture.{ReadUntilFuture}
+use Rattle.lite_theorems.specs.Uses.{⊤, IfErr, IfOk, OnErr, ◌≡◌, ◌∙◌, ◌≤◌, ℕ, List, [], ◌∷◌, ◌++◌, length, take, drop, Result, Ok, Err, inl, inr, ap}
+use Rattle.lite_theorems.specs.Uses.{append-nil, append_assoc, arith, refl, subst, sym, take-append-drop, drop-length, take-length, length-take, map-append}
+use Rattle.lite_theorems.specs.Uses.{take_all, FoldsTo, Error, MutBor, Poll, Ready, Pending, Gives, segment_before, segment_front, to_value_last, Runs}
+use Rattle.lite_theorems.specs.Uses.{no_wait_moved, stripped_no_pending, ReadMark, bytes, read_marks, MarkLaws, NoPendingRead, strip_marks, Filling, filling_of}
+use Rattle.lite_theorems.specs.Uses.{past_pending, past_value, filled_by, Cut, CutsPiece, PolledByCalls, Reads, Fulfils, ReadsExactly, fills, AnswerMarks}
+use Rattle.lite_theorems.specs.Uses.{Gathers, ReadFold, ReadFolds, CountsPiece, ReadsUntil, until, read_of, ReadFuture, ReadExactFuture, ReadUntilFuture}
 use Rattle.lite_theorems.specs.Laws.Told.{told_follow, told_none}
 use Rattle.lite_theorems.specs.Told.{FillsUp, PieceTold, EndsShort, ToldStripped, Without}
 

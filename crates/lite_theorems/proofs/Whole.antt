@@ -1,31 +1,10 @@
 -- What comes of a copy, a chain and a buffered writer.
-use Rattle.lite_base.specs.Future.AtEachOk.{AtEachOk}
-use Rattle.std.proofs.Common.{◌≡◌, ◌∙◌, ◌+◌, ◌%◌, ◌^◌, ℕ, false, List, [], ◌∷◌, ◌++◌, Result, Ok, Err, IfOk, length}
-use Rattle.std.proofs.Common.{refl, ap, sym, subst, arith, append-nil}
-use Rattle.std.specs.declared.io.Error.{Error}
-use Rattle.futures.specs.declared.task.Poll.{Poll}
-use Rattle.lite_base.specs.Answers.{Gives}
-use Rattle.lite_base.specs.Laws.Alike.{gives_strip}
-use Rattle.lite_base.specs.Lent.{Lent}
-use Rattle.lite_base.specs.Runs.{Runs}
-use Rattle.lite_buffered.specs.BufWriter.{Buffers, unwritten, writer_inner}
-use Rattle.lite_buffered.specs.Laws.SteadyWrite.{segments_flushed}
-use Rattle.lite_buffered.specs.declared.buf_writer.BufWriter.{BufWriter}
-use Rattle.lite_buffered.specs.Chain.{ChainsReaders}
-use Rattle.lite_buffered.specs.Chaining.{first_of, has_ended, second_of}
-use Rattle.lite_buffered.specs.declared.chain.Chain.{Chain}
-use Rattle.lite_io_base.specs.Marks.{ReadMark}
-use Rattle.lite_io_base.specs.Runs.{MarkLaws}
-use Rattle.lite_io_base.specs.Takings.{WriteMark, bytes_taken}
+use Rattle.lite_theorems.specs.Uses.{AtEachOk, ◌≡◌, ◌∙◌, ◌+◌, ◌%◌, ◌^◌, ℕ, false, List, [], ◌∷◌, ◌++◌, Result, Ok, Err, IfOk, length, refl, ap, sym, subst}
+use Rattle.lite_theorems.specs.Uses.{arith, append-nil, Error, Poll, Gives, gives_strip, Lent, Runs, Buffers, unwritten, writer_inner, segments_flushed}
+use Rattle.lite_theorems.specs.Uses.{BufWriter, ChainsReaders, first_of, has_ended, second_of, Chain, ReadMark, MarkLaws, WriteMark, bytes_taken, CopyRuns}
+use Rattle.lite_theorems.specs.Uses.{CopyValue, ok_value, told_both, taken_both, bytes_told, NothingCopied, held_of, met_in, source_of, CopyFuture, MutBor}
 use Rattle.lite_theorems.specs.Chained.{CopiesBoth, CopiesWhole, TakesWhole, TellsRest, TellsWhole}
-use Rattle.lite_write.specs.Copy.{CopyRuns, CopyValue}
 use Rattle.lite_theorems.specs.Laws.Chained.{tells_both}
-use Rattle.lite_write.specs.Laws.Copy.{ok_value, told_both}
-use Rattle.lite_io_base.specs.Laws.Takings.{taken_both}
-use Rattle.lite_write.specs.MarkLists.{bytes_told}
-use Rattle.lite_write.specs.Parts.{NothingCopied, held_of, met_in, source_of}
-use Rattle.lite_write.specs.declared.copy.CopyFuture.{CopyFuture}
-use denote.MutBor.{MutBor}
 
 -- a buffered writer that took some bytes and then was flushed
 buffered_whole : {W : Type 0} (writes : Runs WriteMark W) (x y : BufWriter W) (out : List WriteMark)

@@ -1,9 +1,5 @@
 -- Nothing is said of what a value answers: all lists of answers are allowed that the laws allow.
-use Rattle.std.specs.Prelude.{⊤}
-use Rattle.std.specs.List.{FoldsTo}
-use Rattle.futures.specs.declared.task.Poll.{Poll}
-use Rattle.lite_base.specs.Answers.{Answer}
-use Rattle.lite_base.specs.Runs.{Runs}
+use Rattle.lite_theorems.specs.Uses.{⊤, FoldsTo, Poll, Answer, Runs}
 use Rattle.lite_theorems.specs.Futures.{StepsToValue}
 
 -- any answers of a stream, where no answer keeps the value

@@ -1,13 +1,6 @@
 -- A reader that was read up to a value, and two that are alike.
-use Rattle.std.specs.Prelude.{◌≡◌, ◌++◌, ℕ, List, Result, Ok, Err, ⊤}
-use Rattle.std.specs.IoError.{error_kind}
-use Rattle.std.specs.declared.io.Error.{Error}
-use Rattle.std.specs.declared.io.ErrorKind.TheVariants.{OutOfMemory}
-use Rattle.lite_io_base.specs.Marks.{ReadMark, bytes}
-use Rattle.lite_io_base.specs.Steady.{strip_marks}
-use Rattle.lite_read.specs.ReadToEnd.{Appended}
-use Rattle.lite_read.specs.Deterministic.{SameByKind}
-use Rattle.lite_base.specs.Runs.{Runs}
+use Rattle.lite_theorems.specs.Uses.{◌≡◌, ◌++◌, ℕ, List, Result, Ok, Err, ⊤, error_kind, Error, OutOfMemory, ReadMark, bytes, strip_marks, Appended, SameByKind}
+use Rattle.lite_theorems.specs.Uses.{Runs}
 
 -- pendings aside, the reader told these bytes, and then the end or the error of which the value comes; or the value is
 -- a refusal of memory, where one may come

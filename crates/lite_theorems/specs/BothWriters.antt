@@ -1,13 +1,6 @@
 -- A writer that was handed some bytes and then flushed, and two that are alike.
-use Rattle.std.specs.Prelude.{◌≡◌, ◌⊎◌, ℕ, List, [], ◌∷◌, ◌++◌, Result, Ok, Err, IsOk}
-use Rattle.std.specs.IoError.{error_kind}
-use Rattle.std.specs.declared.io.Error.{Error}
-use Rattle.std.specs.declared.io.ErrorKind.TheVariants.{WriteZero}
-use Rattle.lite_io_base.specs.Runs.{StandsFirst}
-use Rattle.lite_io_base.specs.SteadyWrite.{EndsFlushed}
-use Rattle.lite_io_base.specs.Takings.{WriteMark, bytes_taken}
-use Rattle.lite_write.specs.SteadyWriteAll.{NoFailure}
-use Rattle.lite_base.specs.Runs.{Runs}
+use Rattle.lite_theorems.specs.Uses.{◌≡◌, ◌⊎◌, ℕ, List, [], ◌∷◌, ◌++◌, Result, Ok, Err, IsOk, error_kind, Error, WriteZero, StandsFirst, EndsFlushed, WriteMark}
+use Rattle.lite_theorems.specs.Uses.{bytes_taken, NoFailure, Runs}
 
 -- behind these marks came this error, or a write that took nothing
 abbrev pub FailsBy : List WriteMark → List WriteMark → Error → Type 0

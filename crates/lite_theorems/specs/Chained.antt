@@ -1,16 +1,6 @@
 -- A copy to a buffered writer, also of two readers, one after the other.
-use Rattle.std.specs.Prelude.{◌≡◌, ◌%◌, ◌^◌, ℕ, Bool, true, false, List, [], ◌∷◌, ◌++◌, length}
-use Rattle.lite_base.specs.Runs.{Runs}
-use Rattle.lite_buffered.specs.BufWriter.{unwritten, writer_inner}
-use Rattle.lite_buffered.specs.declared.buf_writer.BufWriter.{BufWriter}
-use Rattle.lite_buffered.specs.Chaining.{first_of, has_ended, second_of}
-use Rattle.lite_buffered.specs.declared.chain.Chain.{Chain}
-use Rattle.lite_io_base.specs.Marks.{ReadMark}
-use Rattle.lite_io_base.specs.Takings.{WriteMark, bytes_taken}
-use Rattle.lite_write.specs.MarkLists.{BytesAlone, bytes_told}
-use Rattle.lite_write.specs.Parts.{source_of}
-use Rattle.lite_write.specs.declared.copy.CopyFuture.{CopyFuture}
-use denote.MutBor.{MutBor}
+use Rattle.lite_theorems.specs.Uses.{◌≡◌, ◌%◌, ◌^◌, ℕ, Bool, true, false, List, [], ◌∷◌, ◌++◌, length, Runs, unwritten, writer_inner, BufWriter, first_of}
+use Rattle.lite_theorems.specs.Uses.{has_ended, second_of, Chain, ReadMark, WriteMark, bytes_taken, BytesAlone, bytes_told, source_of, CopyFuture, MutBor}
 
 -- the reader told these bytes, with pendings among them, and then its first end
 pub record TellsWhole {R : Type 0} (reads : Runs ReadMark R) (x : R) (xs : List ℕ) (y : R) : Type 0 where

@@ -1,12 +1,5 @@
 -- A future by steps.
-use Rattle.std.specs.List.{FoldsTo}
-use Rattle.std.proofs.Common.{refl, sym}
-use Rattle.futures.specs.declared.task.Poll.{Poll}
-use Rattle.lite_base.specs.Answers.{UpToValue}
-use Rattle.lite_base.specs.FutureLaws.{FutureLaws}
-use Rattle.lite_base.specs.Laws.Answers.{up_to_once, waiting_up_to}
-use Rattle.lite_base.specs.Laws.Calls.{folds_follow}
-use Rattle.lite_base.specs.Runs.{Runs}
+use Rattle.lite_theorems.specs.Uses.{FoldsTo, refl, sym, Poll, UpToValue, FutureLaws, up_to_once, waiting_up_to, folds_follow, Runs}
 
 -- `step` is what one poll may answer and leave
 module _ {F A : Type 0} (step : F → Poll A → F → Type 0) where

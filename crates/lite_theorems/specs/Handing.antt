@@ -1,7 +1,5 @@
 -- A reader over another, which hands on what that one reads: each byte as what is made of it, each other mark as it is.
-use Rattle.std.proofs.Common.{◌≡◌, ℕ, List, map}
-use Rattle.lite_base.specs.Runs.{Runs}
-use Rattle.lite_io_base.specs.Marks.{ReadMark}
+use Rattle.lite_theorems.specs.Uses.{◌≡◌, ℕ, List, map, Runs, ReadMark}
 
 -- the mark, and where it is a byte what f makes of that
 abbrev pub each_byte : (ℕ → ℕ) → ReadMark → ReadMark

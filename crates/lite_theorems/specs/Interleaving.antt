@@ -1,12 +1,6 @@
 -- Interleavings of two lists, and collections that hold one of all items of two streams.
-use Rattle.std.specs.Prelude.{◌≡◌, ◌⊎◌, List, [], ◌∷◌, ◌++◌, Bool, true, false, map, Some, None}
-use Rattle.futures.specs.declared.task.Poll.TheVariants.{Ready, Pending}
-use Rattle.lite_base.specs.Answers.{Answer, end, strip}
-use Rattle.lite_base.specs.Runs.{Runs}
-use Rattle.lite_consume.specs.declared.consume.Consume.{Consume}
-use Rattle.lite_merge.specs.declared.or.Or.{Or}
-use Rattle.lite_merge.specs.declared.race.Race.{Race}
-use Rattle.lite_stream.specs.declared.fuse.Fuse.{Fuse}
+use Rattle.lite_theorems.specs.Uses.{◌≡◌, ◌⊎◌, List, [], ◌∷◌, ◌++◌, Bool, true, false, map, Some, None, Ready, Pending, Answer, end, strip, Runs, Consume, Or}
+use Rattle.lite_theorems.specs.Uses.{Race, Fuse}
 
 -- `all` is empty where both lists are, and else begins with the head of one of them, before an interleaving of what is
 -- left

@@ -12,3 +12,4 @@ pub mod Reading
 pub mod Serving
 pub mod Streams
 pub mod Told
+pub mod Uses

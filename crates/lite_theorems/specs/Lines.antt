@@ -1,19 +1,7 @@
 -- What a collection of the lines of a reader's first bytes holds, as a function of what the reader tells.
-use Rattle.std.specs.Prelude.{◌≡◌, ◌==◌, ◌⊎◌, if◌then◌else◌, ℕ, zero, suc, List, [], ◌∷◌, ◌++◌, map, string_bytes}
-use Rattle.std.specs.Prelude.{IsUtf8, Result, Ok, Err}
-use Rattle.std.proofs.Common.{Global}
-use Rattle.std.specs.IoError.{error_kind}
-use Rattle.std.specs.declared.io.Error.{Error}
-use Rattle.std.specs.declared.io.ErrorKind.{ErrorKind}
-use Rattle.std.specs.declared.io.ErrorKind.TheVariants.{InvalidData, OutOfMemory}
-use Rattle.std.specs.declared.string.String.{String}
-use Rattle.futures.specs.declared.task.Poll.{Poll}
-use Rattle.lite_base.specs.Answers.{Gives}
-use Rattle.lite_base.specs.Runs.{Runs}
-use Rattle.lite_gather.specs.declared.refused.TryCollectError.{TryCollectError}
-use Rattle.lite_gather.specs.declared.refused.TryCollectError.TheVariants.{Source, Memory}
-use Rattle.lite_io_base.specs.Marks.{ReadMark, bytes}
-use Rattle.lite_read.specs.LineText.{without_return}
+use Rattle.lite_theorems.specs.Uses.{◌≡◌, ◌==◌, ◌⊎◌, if◌then◌else◌, ℕ, zero, suc, List, [], ◌∷◌, ◌++◌, map, string_bytes, IsUtf8, Result, Ok, Err, Global}
+use Rattle.lite_theorems.specs.Uses.{error_kind, Error, ErrorKind, InvalidData, OutOfMemory, String, Poll, Gives, Runs, TryCollectError, Source, Memory}
+use Rattle.lite_theorems.specs.Uses.{ReadMark, bytes, without_return}
 
 -- a line, or an error in its place
 abbrev pub Line : Type 0

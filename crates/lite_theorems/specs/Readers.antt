@@ -1,7 +1,5 @@
 -- A reader by steps: each mark is a step, in the run `Steps step`.
-use Rattle.std.proofs.Common.{◌<◌, ◌≤◌, ℕ}
-use Rattle.std.specs.declared.io.ErrorKind.{ErrorKind}
-use Rattle.lite_io_base.specs.Marks.{ReadMark}
+use Rattle.lite_theorems.specs.Uses.{◌<◌, ◌≤◌, ℕ, ErrorKind, ReadMark}
 
 -- `step` is what one mark may leave
 module _ {S : Type 0} (step : S → ReadMark → S → Type 0) where

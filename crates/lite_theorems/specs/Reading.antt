@@ -1,6 +1,5 @@
 -- A reader by steps that reads many bytes at once, of those that are left: each is one step.
-use Rattle.std.proofs.Common.{◌≡◌, ◌+◌, ℕ, List, [], ◌∷◌, drop}
-use Rattle.lite_io_base.specs.Marks.{ReadMark}
+use Rattle.lite_theorems.specs.Uses.{◌≡◌, ◌+◌, ℕ, List, [], ◌∷◌, drop, ReadMark}
 
 -- `left` are the bytes that are to come, and `further x n` is x where n more of them were read
 module _ {S : Type 0} (step : S → ReadMark → S → Type 0) (left : S → List ℕ) (further : S → ℕ → S) where

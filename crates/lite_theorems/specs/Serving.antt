@@ -1,12 +1,6 @@
 -- What is answered to lines, and what a server of lines was told and wrote.
-use Rattle.std.specs.Prelude.{◌≡◌, ◌⊎◌, ℕ, Bool, true, false, List, [], ◌∷◌, ◌++◌, flat_map, ⊤, Result, Ok, Err}
-use Rattle.std.specs.IoError.{error_kind}
-use Rattle.std.specs.declared.io.ErrorKind.TheVariants.{OutOfMemory}
-use Rattle.lite_io_base.specs.Marks.{ReadMark, bytes}
-use Rattle.lite_io_base.specs.Runs.{StandsFirst}
-use Rattle.lite_io_base.specs.SteadyWrite.{EndsFlushed}
-use Rattle.lite_io_base.specs.Takings.{WriteMark, bytes_taken}
-use Rattle.lite_read.specs.BytePieces.{byte_lines}
+use Rattle.lite_theorems.specs.Uses.{◌≡◌, ◌⊎◌, ℕ, Bool, true, false, List, [], ◌∷◌, ◌++◌, flat_map, ⊤, Result, Ok, Err, error_kind, OutOfMemory, ReadMark}
+use Rattle.lite_theorems.specs.Uses.{bytes, StandsFirst, EndsFlushed, WriteMark, bytes_taken, byte_lines}
 use Rattle.lite_theorems.specs.Told.{EndsAtFirst, Without}
 use Rattle.lite_theorems.specs.declared.serve_error.ServeError.{ServeError}
 use Rattle.lite_theorems.specs.declared.serve_error.ServeError.TheVariants.{Input, Memory, Output}

@@ -1,8 +1,5 @@
 -- A stream by steps: each poll is a step, in the run `FoldsTo step`.
-use Rattle.std.proofs.Common.{◌≡◌, ◌<◌, ◌≤◌, ℕ, Some}
-use Rattle.futures.specs.declared.task.Poll.TheVariants.{Pending}
-use Rattle.lite_base.specs.Answers.{Answer, end, item}
-use Rattle.lite_base.specs.Runs.{Hints}
+use Rattle.lite_theorems.specs.Uses.{◌≡◌, ◌<◌, ◌≤◌, ℕ, Some, Pending, Answer, end, item, Hints}
 
 -- the hint is this number, as the least and as the most
 abbrev pub HintsAt : {S : Type 0} → (S → ℕ) → Hints S

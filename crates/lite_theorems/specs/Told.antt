@@ -1,12 +1,6 @@
 -- What a reader told while a call of it was waited for, pendings aside.
-use Rattle.std.specs.Prelude.{◌≡◌, ◌≢◌, ◌<◌, ◌⊎◌, ℕ, List, [], ◌∷◌, ◌++◌, length, Result, Ok, Err}
-use Rattle.std.specs.IoError.{error_kind}
-use Rattle.std.specs.List.{AllByRecursion}
-use Rattle.std.specs.declared.io.Error.{Error}
-use Rattle.std.specs.declared.io.ErrorKind.TheVariants.{OutOfMemory, UnexpectedEof}
-use Rattle.lite_base.specs.Runs.{Runs}
-use Rattle.lite_io_base.specs.Marks.{ReadMark, bytes}
-use Rattle.lite_io_base.specs.Steady.{strip_marks}
+use Rattle.lite_theorems.specs.Uses.{◌≡◌, ◌≢◌, ◌<◌, ◌⊎◌, ℕ, List, [], ◌∷◌, ◌++◌, length, Result, Ok, Err, error_kind, AllByRecursion, Error, OutOfMemory}
+use Rattle.lite_theorems.specs.Uses.{UnexpectedEof, Runs, ReadMark, bytes, strip_marks}
 
 -- pendings aside, the reader told just this
 abbrev pub ToldStripped : {R : Type 0} → Runs ReadMark R → Runs ReadMark R

@@ -1,5 +1,4 @@
-ghost use Rattle.std.specs.Prelude.{◌≡◌, [], List, IfOk};
-ghost use Rattle.lite_io_base.specs.Takings.{WriteMark, bytes_taken};
+ghost use Rattle.lite_theorems.specs.Uses.{◌≡◌, [], List, IfOk, WriteMark, bytes_taken};
 ghost use Rattle.lite_theorems.specs.BothWriters.{BothWritten, FlushedUp, HandedUp, TakesFront, WrittenUp};
 
 use crate::waits::{wait_flush, wait_write_all};

@@ -1,13 +1,7 @@
 //! What comes through a copy to a buffered writer, also of a chain, by the contracts of the traits alone.
-ghost use Rattle.lite_base.specs.Future.AtEachOk.{AtEachOk};
-ghost use Rattle.std.specs.Prelude.{◌≡◌, IfOk, false};
-ghost use Rattle.lite_base.specs.Lent.{Lent};
-ghost use Rattle.lite_buffered.specs.BufWriter.{Buffers};
+ghost use Rattle.lite_theorems.specs.Uses.{AtEachOk, ◌≡◌, IfOk, false, Lent, Buffers, CopyRuns, NothingCopied, source_of, ChainsReaders, first_of, has_ended};
+ghost use Rattle.lite_theorems.specs.Uses.{second_of};
 ghost use Rattle.lite_theorems.specs.Chained.{CopiesBoth, CopiesWhole};
-ghost use Rattle.lite_write.specs.Copy.{CopyRuns};
-ghost use Rattle.lite_write.specs.Parts.{NothingCopied, source_of};
-ghost use Rattle.lite_buffered.specs.Chain.{ChainsReaders};
-ghost use Rattle.lite_buffered.specs.Chaining.{first_of, has_ended, second_of};
 
 use lite_buffered::make::chain;
 use lite_buffered::{BufWriter, Chain};

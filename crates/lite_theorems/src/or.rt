@@ -1,5 +1,4 @@
-ghost use Rattle.lite_base.specs.Future.AtEachOk.{AtEachOk};
-ghost use Rattle.std.specs.Prelude.{◌≡◌, [], IfSome, IsSome, false};
+ghost use Rattle.lite_theorems.specs.Uses.{AtEachOk, ◌≡◌, [], IfSome, IsSome, false};
 ghost use Rattle.lite_theorems.specs.Interleaving.{OrHolds};
 
 use lite_base::{Counted, Future};

@@ -1,45 +1,14 @@
 -- The items of an adapter, by those of its source.
 use Rattle.lite_views.proofs.Streams.{not_equal}
-use Rattle.lite_reshape.specs.declared.step_by.StepBy.{StepBy}
-use Rattle.lite_reshape.specs.declared.skip.Skip.{Skip}
-use Rattle.lite_stream.specs.declared.fuse.Fuse.{Fuse}
-use Rattle.lite_stream.specs.declared.copied.Copied.{Copied}
-use Rattle.lite_stream.specs.declared.inspect.Inspect.{Inspect}
-use Rattle.lite_stream.specs.declared.enumerate.Enumerate.{Enumerate}
-use Rattle.std.proofs.Common.{◌≡◌, ◌≤◌, ◌<◌, ◌==◌, ◌∙◌, ℕ, zero, suc, ◌-◌, ◌+◌, ◌%◌, ◌^◌, Bor, List, [], ◌∷◌, ◌++◌}
-use Rattle.std.proofs.Common.{length, map, take, drop, inl, inr, refl, ap, replicate, sym, subst, arith}
-use Rattle.std.proofs.Common.{add-one, append-nil}
-use Rattle.std.proofs.lemmas.List.{length-map}
-use Rattle.std.proofs.lemmas.List.FromFn.{length-enumerate_from}
-use Rattle.std.proofs.Math.Nat.{mod-add-mod, mod-eq_of_lt, zero-mod}
-use Rattle.std.specs.Prelude.{⊤, Bool, true, false, cond, Option, Some, None}
-use Rattle.std.specs.List.{cons_option, enumerate_from, filter, filter_map, prefix_len, take_while, zip}
-use Rattle.futures.specs.declared.task.Poll.TheVariants.{Ready, Pending}
-use Rattle.lite_base.specs.Answers.{Answer, Endless, end, item}
-use Rattle.lite_base.specs.Calling.{Accepts, Always}
-use Rattle.lite_base.specs.Paces.{Paces, left_behind}
-use Rattle.lite_base.specs.Runs.{Question, Runs}
-use Rattle.lite_stream.specs.Copied.{CopiesItem, CopiesAll, copied_parts}
-use Rattle.lite_stream.specs.Cutting.{Cuts}
-use Rattle.lite_stream.specs.Enumerate.{Numbers, Enumerates, enumerate_parts}
-use Rattle.lite_stream.specs.Fuse.{FusesOn, Fuses, fuse_parts}
-use Rattle.lite_stream.specs.Inspect.{ShowsItem, Inspects, inspect_parts}
-use Rattle.lite_stream.specs.Pointwise.{Exchanges}
-use Rattle.lite_stream.specs.Take.{Takes, is_none_left, left_after, take_parts}
-use Rattle.lite_stream.specs.declared.take.Take.{Take}
-use Rattle.lite_reshape.specs.Laws.Leaving.{leaves_steps}
-use Rattle.lite_reshape.specs.Leaving.{LeavesOut}
-use Rattle.lite_reshape.specs.Skip.{Skips, SkipsFirst, skip_parts}
-use Rattle.lite_reshape.specs.SkipWhile.{SkipsUntil}
-use Rattle.lite_reshape.specs.StepBy.{Numbered, StepsOn, StepsBy, step_by_parts}
-use Rattle.lite_reshape.specs.Chain.{Chains, Joins, is_done, second_after}
-use Rattle.lite_reshape.specs.declared.chain.Chain.{Chain}
-use Rattle.lite_reshape.specs.declared.chain.Part.{Part}
-use Rattle.lite_reshape.specs.declared.chain.Part.TheVariants.{First, Second}
-use Rattle.lite_merge.specs.Budgeted.{Budgets, budget_parts}
-use Rattle.lite_merge.specs.Zip.{Pairs, Zips, pendings}
-use Rattle.lite_merge.specs.declared.budgeted.Budgeted.{Budgeted}
-use Rattle.lite_merge.specs.declared.zip.Zip.{Zip}
+use Rattle.lite_views.specs.Uses.{StepBy, Skip, Fuse, Copied, Inspect, Enumerate, ◌≡◌, ◌≤◌, ◌<◌, ◌==◌, ◌∙◌, ℕ, zero, suc, ◌-◌, ◌+◌, ◌%◌, ◌^◌, List, [], ◌∷◌}
+use Rattle.lite_views.specs.Uses.{◌++◌, length, map, take, drop, inl, inr, refl, ap, replicate, sym, subst, arith, add-one, append-nil, length-map}
+use Rattle.lite_views.specs.Uses.{length-enumerate_from, mod-add-mod, mod-eq_of_lt, zero-mod, ⊤, Bool, true, false, cond, Option, Some, None, cons_option}
+use Rattle.lite_views.specs.Uses.{enumerate_from, filter, filter_map, prefix_len, take_while, zip, Ready, Pending, Answer, Endless, end, item, Accepts, Always}
+use Rattle.lite_views.specs.Uses.{Paces, left_behind, Question, Runs, CopiesItem, CopiesAll, copied_parts, Cuts, Numbers, Enumerates, enumerate_parts, FusesOn}
+use Rattle.lite_views.specs.Uses.{Fuses, fuse_parts, ShowsItem, Inspects, inspect_parts, Exchanges, Takes, is_none_left, left_after, take_parts, Take}
+use Rattle.lite_views.specs.Uses.{leaves_steps, LeavesOut, Skips, SkipsFirst, skip_parts, SkipsUntil, Numbered, StepsOn, StepsBy, step_by_parts, Chains, Joins}
+use Rattle.lite_views.specs.Uses.{is_done, second_after, Chain, Part, First, Second, Budgets, budget_parts, Pairs, Zips, pendings, Budgeted, Zip}
+use Rattle.std.proofs.Common.{Bor}
 use Rattle.lite_views.proofs.Views.{AnswersAs, Carries, answered, listed, listed_through}
 use Rattle.lite_views.specs.Lists.{cons_while, map_while, scan, step_from}
 use Rattle.lite_views.specs.Views.{EachIs, Fits, GoesOn, Lists, ListsAs}

@@ -1,11 +1,6 @@
 -- A closure that calls leave as it is may be asked about each item, where it may be asked about those of the list.
-use Rattle.std.proofs.Common.{◌≡◌, List, [], ◌∷◌, ◌++◌, refl, sym, subst}
-use Rattle.std.specs.List.{AllByRecursion, FoldsTo}
-use Rattle.std.specs.Prelude.{Some}
-use Rattle.futures.specs.declared.task.Poll.TheVariants.{Ready}
-use Rattle.lite_base.specs.Answers.{Answer, item}
-use Rattle.lite_base.specs.Runs.{Question, Runs}
-use Rattle.lite_stream.specs.EachItem.{AtEachItem, items_in}
+use Rattle.lite_views.specs.Uses.{◌≡◌, List, [], ◌∷◌, ◌++◌, refl, sym, subst, AllByRecursion, FoldsTo, Some, Ready, Answer, item, Question, Runs, AtEachItem}
+use Rattle.lite_views.specs.Uses.{items_in}
 use Rattle.lite_views.specs.Fronts.{Front}
 
 last_all : {A : Type 0} (P : A → Type 0) (ins : List (Answer A)) (x : A) (rest : List A)

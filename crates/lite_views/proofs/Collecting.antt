@@ -1,20 +1,10 @@
 -- The value of `try_collect`, by what the Ok items of the stream hold.
-use Rattle.lite_gather.specs.declared.try_collect.TryCollect.{TryCollect}
+use Rattle.lite_views.specs.Uses.{TryCollect, ◌≡◌, List, [], ◌∷◌, ◌++◌, map, sym, append_assoc, append-nil, Option, Some, None, Result, Ok, Err, IfOk, IfSome}
+use Rattle.lite_views.specs.Uses.{Poll, Ready, Answer, Gives, item, Runs, Folds, Consumes, Decides, Fold, TakesIn, fold_of, consumes_steps, Consume}
+use Rattle.lite_views.specs.Uses.{tries_collect, TryCollectError}
 use Rattle.lite_views.specs.Views.{ValueHolds}
 use Rattle.lite_views.proofs.Views.{value_holds}
 use Rattle.lite_views.proofs.Consuming.{WhereSome, where_some}
-use Rattle.std.proofs.Common.{◌≡◌, List, [], ◌∷◌, ◌++◌, map, sym, append_assoc, append-nil}
-use Rattle.std.specs.Prelude.{Option, Some, None, Result, Ok, Err, IfOk, IfSome}
-use Rattle.futures.specs.declared.task.Poll.{Poll}
-use Rattle.futures.specs.declared.task.Poll.TheVariants.{Ready}
-use Rattle.lite_base.specs.Answers.{Answer, Gives, item}
-use Rattle.lite_base.specs.Runs.{Runs}
-use Rattle.lite_consume.specs.Consume.{Folds}
-use Rattle.lite_consume.specs.Consuming.{Consumes, Decides, Fold, TakesIn, fold_of}
-use Rattle.lite_consume.specs.Laws.Consuming.{consumes_steps}
-use Rattle.lite_consume.specs.declared.consume.Consume.{Consume}
-use Rattle.lite_gather.specs.TryCollect.{tries_collect}
-use Rattle.lite_gather.specs.declared.refused.TryCollectError.{TryCollectError}
 use Rattle.lite_views.specs.OkLists.{AllTaken, OkFits, OkLists}
 
 module _ {C T E Y : Type 0} (may_refuse : C → T → Type 0) (holds : C → List T → Type 0) (f : T → Y) where

@@ -1,65 +1,16 @@
 -- The value of a future that consumes a stream, by the items of the stream.
-use Rattle.lite_gather.specs.declared.unzip.Unzip.{Unzip}
-use Rattle.lite_gather.specs.declared.partition.Partition.{Partition}
-use Rattle.lite_gather.specs.declared.try_collect.TryCollect.{TryCollect}
-use Rattle.lite_gather.specs.declared.collect.Collect.{Collect}
-use Rattle.lite_consume.specs.declared.position.Position.{Position}
-use Rattle.lite_consume.specs.declared.find.Find.{Find}
-use Rattle.lite_consume.specs.declared.any.Any.{Any}
-use Rattle.lite_consume.specs.declared.all.All.{All}
-use Rattle.lite_consume.specs.declared.try_for_each.TryForEach.{TryForEach}
-use Rattle.lite_consume.specs.declared.find_map.FindMap.{FindMap}
-use Rattle.lite_consume.specs.declared.try_fold.TryFold.{TryFold}
+use Rattle.lite_views.specs.Uses.{Unzip, Partition, TryCollect, Collect, Position, Find, Any, All, TryForEach, FindMap, TryFold, filter-append, map-append}
+use Rattle.lite_views.specs.Uses.{Lent, MutBor, TryNext, Last, Nth, Next, ◌≡◌, ◌∙◌, ◌⊎◌, ◌<◌, ◌^◌, ℕ, suc, ◌+◌, List, [], ◌∷◌, ◌++◌, length, map, inl, inr}
+use Rattle.lite_views.specs.Uses.{refl, ap, sym, arith, append_assoc, append-nil, not-not, leb-suc-suc, leb-zero, Bool, true, false, cond, not, nat_lt, Option}
+use Rattle.lite_views.specs.Uses.{Some, None, Result, Ok, Err, IfOk, IfSome, option_map, option_transpose, ok_prefix, filter, filter_map, fold, last_or}
+use Rattle.lite_views.specs.Uses.{list_all, list_any, find, position, position_or_len, slice_get, Poll, Ready, Answer, Gives, item, Question, Runs, alls, anys}
+use Rattle.lite_views.specs.Uses.{Folds, Consumes, Decides, Fold, TakesIn, fold_of, counts, finds, finds_map, folds, lasts, consumes_steps, nexts, nths}
+use Rattle.lite_views.specs.Uses.{positions, tries_fold, tries_each, tries_next, Consume, collects, Sorted, partitions, Partitioned, tries_collect}
+use Rattle.lite_views.specs.Uses.{TryCollected, unzips, Refused, TryCollectError, UnzipRefused}
 use Rattle.lite_consume.specs.declared.fold.Fold.{Fold as FoldFolder}
-use Rattle.std.proofs.lemmas.List.Elements.{filter-append}
-use Rattle.std.proofs.lemmas.List.{map-append}
-use Rattle.lite_base.specs.Lent.{Lent}
-use denote.MutBor.{MutBor}
-use Rattle.lite_consume.specs.declared.try_next.TryNext.{TryNext}
-use Rattle.lite_consume.specs.declared.last.Last.{Last}
-use Rattle.lite_consume.specs.declared.nth.Nth.{Nth}
-use Rattle.lite_consume.specs.declared.next.Next.{Next}
 use Rattle.lite_consume.specs.declared.count.Count.{Count}
 use Rattle.lite_views.specs.Futures.{CountRuns, LastRuns, NthRuns}
 use Rattle.lite_views.proofs.Views.{AnswersAs, answered, lent_lists, value_holds}
-use Rattle.std.proofs.Common.{◌≡◌, ◌∙◌, ◌⊎◌, ◌<◌, ◌^◌, ℕ, suc, ◌+◌, List, [], ◌∷◌, ◌++◌, length, map, inl, inr, refl}
-use Rattle.std.proofs.Common.{ap, sym, arith, append_assoc, append-nil}
-use Rattle.std.proofs.Math.Bool.{not-not}
-use Rattle.std.proofs.Math.Dec.{leb-suc-suc, leb-zero}
-use Rattle.std.specs.Prelude.{Bool, true, false, cond, not, nat_lt, Option, Some, None, Result, Ok, Err, IfOk}
-use Rattle.std.specs.Prelude.{IfSome, option_map}
-use Rattle.std.specs.Option.{option_transpose}
-use Rattle.std.specs.Result.{ok_prefix}
-use Rattle.std.specs.List.{filter, filter_map, fold, last_or, list_all, list_any, find, position, position_or_len}
-use Rattle.std.specs.List.{slice_get}
-use Rattle.futures.specs.declared.task.Poll.{Poll}
-use Rattle.futures.specs.declared.task.Poll.TheVariants.{Ready}
-use Rattle.lite_base.specs.Answers.{Answer, Gives, item}
-use Rattle.lite_base.specs.Runs.{Question, Runs}
-use Rattle.lite_consume.specs.All.{alls}
-use Rattle.lite_consume.specs.Any.{anys}
-use Rattle.lite_consume.specs.Consume.{Folds}
-use Rattle.lite_consume.specs.Consuming.{Consumes, Decides, Fold, TakesIn, fold_of}
-use Rattle.lite_consume.specs.Count.{counts}
-use Rattle.lite_consume.specs.Find.{finds}
-use Rattle.lite_consume.specs.FindMap.{finds_map}
-use Rattle.lite_consume.specs.Fold.{folds}
-use Rattle.lite_consume.specs.Last.{lasts}
-use Rattle.lite_consume.specs.Laws.Consuming.{consumes_steps}
-use Rattle.lite_consume.specs.Next.{nexts}
-use Rattle.lite_consume.specs.Nth.{nths}
-use Rattle.lite_consume.specs.Position.{positions}
-use Rattle.lite_consume.specs.TryFold.{tries_fold}
-use Rattle.lite_consume.specs.TryForEach.{tries_each}
-use Rattle.lite_consume.specs.TryNext.{tries_next}
-use Rattle.lite_consume.specs.declared.consume.Consume.{Consume}
-use Rattle.lite_gather.specs.Collect.{collects}
-use Rattle.lite_gather.specs.Partition.{Sorted, partitions, Partitioned}
-use Rattle.lite_gather.specs.TryCollect.{tries_collect, TryCollected}
-use Rattle.lite_gather.specs.Unzip.{unzips}
-use Rattle.lite_gather.specs.declared.refused.Refused.{Refused}
-use Rattle.lite_gather.specs.declared.refused.TryCollectError.{TryCollectError}
-use Rattle.lite_gather.specs.declared.refused.UnzipRefused.{UnzipRefused}
 use Rattle.lite_views.specs.Trying.{first_error, try_fold, TriesCollect}
 use Rattle.lite_views.specs.Views.{Fits, Lists, ValueHolds, ValueIs}
 

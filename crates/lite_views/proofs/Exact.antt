@@ -1,14 +1,6 @@
 -- `read_exact` of a reader of which it is known what bytes are to come.
-use Rattle.std.proofs.lemmas.List.{take_all, length-take}
-use Rattle.std.proofs.Math.Seq.{take-append_seam, drop-append_seam}
-use Rattle.std.proofs.Common.{◌≡◌, ◌∙◌, ℕ, List, [], ◌∷◌, length, take, drop, ap, sym, arith}
-use Rattle.std.specs.Prelude.{Result, Ok, Err, IfOk}
-use Rattle.std.specs.declared.io.Error.{Error}
-use Rattle.lite_io_base.specs.Known.{TellsKnown}
-use Rattle.lite_io_base.specs.Marks.{ReadMark}
-use Rattle.lite_read.specs.Filling.{Filling}
-use Rattle.lite_read.specs.Laws.ReadExact.{filled_by}
-use Rattle.lite_read.specs.ReadExact.{Fulfils, fills}
+use Rattle.lite_views.specs.Uses.{take_all, length-take, take-append_seam, drop-append_seam, ◌≡◌, ◌∙◌, ℕ, List, [], ◌∷◌, length, take, drop, ap, sym, arith}
+use Rattle.lite_views.specs.Uses.{Result, Ok, Err, IfOk, Error, TellsKnown, ReadMark, Filling, filled_by, Fulfils, fills}
 use Rattle.lite_views.proofs.Futures.{TakenUp}
 
 module _ (p : Filling) (bs ys : List ℕ) where

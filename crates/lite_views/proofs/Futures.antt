@@ -1,20 +1,7 @@
 -- The futures that read from a reader of which it is known what bytes are to come.
-use Rattle.std.proofs.Common.{◌≡◌, ◌+◌, ℕ, List, [], ◌∷◌, ◌++◌, length, ap, sym, subst, arith, append_assoc}
-use Rattle.std.proofs.Common.{append-nil, length-append}
-use Rattle.std.specs.Prelude.{⊤, Result, Ok, Err, IfOk}
-use Rattle.std.specs.List.{FoldsTo}
-use Rattle.std.specs.declared.io.Error.{Error}
-use Rattle.futures.specs.declared.task.Poll.{Poll}
-use Rattle.futures.specs.declared.task.Poll.TheVariants.{Ready, Pending}
-use Rattle.lite_base.specs.Answers.{Gives}
-use Rattle.lite_base.specs.Laws.Calls.{folds_follow}
-use Rattle.lite_base.specs.Laws.Segments.{to_value_last}
-use Rattle.lite_base.specs.Runs.{Runs}
-use Rattle.lite_io_base.specs.Known.{TellsKnown, Known, Knows}
-use Rattle.lite_io_base.specs.Laws.Known.{spends_bytes, spends_split, knows_spends}
-use Rattle.lite_io_base.specs.Marks.{ReadMark, bytes}
-use Rattle.lite_read.specs.ReadFold.{AnswerMarks, ReadFold, ReadFolds, Gathers}
-use Rattle.lite_read.specs.ReadToEnd.{Appended, appends}
+use Rattle.lite_views.specs.Uses.{◌≡◌, ◌+◌, ℕ, List, [], ◌∷◌, ◌++◌, length, ap, sym, subst, arith, append_assoc, append-nil, length-append, ⊤, Result, Ok, Err}
+use Rattle.lite_views.specs.Uses.{IfOk, FoldsTo, Error, Poll, Ready, Pending, Gives, folds_follow, to_value_last, Runs, TellsKnown, Known, Knows, spends_bytes}
+use Rattle.lite_views.specs.Uses.{spends_split, knows_spends, ReadMark, bytes, AnswerMarks, ReadFold, ReadFolds, Gathers, Appended, appends}
 use Rattle.lite_views.specs.Waiting.{LeftAs, WhenLeft}
 use Rattle.lite_views.proofs.Waiting.{left_seen}
 

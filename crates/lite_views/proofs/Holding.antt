@@ -1,24 +1,8 @@
 -- The items of an adapter that holds what was made of an item: `then`, `cloned`, `flatten` and `flat_map`.
 use Rattle.lite_base.specs.declared.future.ready.Ready.{Ready as ReadyFuture}
-use Rattle.std.proofs.Common.{◌≡◌, List, [], ◌∷◌, ◌++◌, map, inl, inr, refl, ap, sym, subst, append-nil}
-use Rattle.std.specs.Prelude.{⊤, Option, Some, None, Result, Ok, flat_map}
-use Rattle.std.specs.Fn.{Called, Mut}
-use Rattle.std.specs.List.{AllByRecursion}
-use denote.Ref.{Bor}
-use Rattle.futures.specs.declared.task.Poll.{Poll}
-use Rattle.futures.specs.declared.task.Poll.TheVariants.{Ready, Pending}
-use Rattle.lite_base.specs.Answers.{Answer, Gives, Waiting, end}
-use Rattle.lite_base.specs.Calling.{Always, Calls}
-use Rattle.lite_base.specs.Future.Handed.{handed}
-use Rattle.lite_base.specs.Future.Ready.{GivesHeld}
-use Rattle.lite_base.specs.Runs.{Question, Runs}
-use Rattle.lite_reshape.specs.Cloned.{Clones, IsCloneRefusal, Refers}
-use Rattle.lite_reshape.specs.Flatten.{Flat, Flattening}
-use Rattle.lite_reshape.specs.FlatMap.{FlatMaps}
-use Rattle.lite_reshape.specs.declared.flat_map.FlatMap.{FlatMap}
-use Rattle.lite_reshape.specs.Expanding.{Expanding, Expands}
-use Rattle.lite_reshape.specs.Then.{HandsOut}
-use Rattle.lite_stream.specs.Pointwise.{Exchanges}
+use Rattle.lite_views.specs.Uses.{◌≡◌, List, [], ◌∷◌, ◌++◌, map, inl, inr, refl, ap, sym, subst, append-nil, ⊤, Option, Some, None, Result, Ok, flat_map}
+use Rattle.lite_views.specs.Uses.{Called, Mut, AllByRecursion, Bor, Poll, Ready, Pending, Answer, Gives, Waiting, end, Always, Calls, handed, GivesHeld}
+use Rattle.lite_views.specs.Uses.{Question, Runs, Clones, IsCloneRefusal, Refers, Flat, Flattening, FlatMaps, FlatMap, Expanding, Expands, HandsOut, Exchanges}
 use Rattle.lite_views.proofs.Adapting.{continued_fits, endless_fits}
 use Rattle.lite_views.proofs.Views.{Carries, listed}
 use Rattle.lite_views.specs.Views.{Fits, HasValue, Lists, ListsAs}

@@ -1,34 +1,13 @@
 -- The items of a source.
-use Rattle.std.proofs.lemmas.List.FromFn.{length-range_with_len}
-use Rattle.lite_source.specs.Once.{GivesOnce, once_left}
-use Rattle.std.proofs.Common.{◌≡◌, ◌+◌, ◌-◌, ◌∙◌, ℕ, suc, List, [], ◌∷◌, length, refl, ap, sym}
-use Rattle.std.proofs.Common.{arith}
-use Rattle.std.specs.Array.Iter.{array_into_iter_items, array_steps}
-use Rattle.std.specs.Iterator.{Count, at_most}
-use Rattle.std.specs.Iterator.Adapters.{copied_steps}
-use Rattle.std.specs.List.{AllByRecursion, range_with_len}
-use Rattle.std.specs.Prelude.{Option, Some, None, Result, Ok, Err, ⊤}
-use Rattle.std.specs.Range.{range_steps}
-use Rattle.std.specs.Slice.Iter.{iter_steps}
-use Rattle.std.specs.Vec.Iter.{into_iter_items, into_iter_len, into_iter_steps}
-use Rattle.std.specs.declared.alloc.Global.{Global}
+use Rattle.lite_views.specs.Uses.{length-range_with_len, GivesOnce, once_left, ◌≡◌, ◌+◌, ◌-◌, ◌∙◌, ℕ, suc, List, [], ◌∷◌, length, refl, ap, sym, arith}
+use Rattle.lite_views.specs.Uses.{array_into_iter_items, array_steps, Count, at_most, copied_steps, AllByRecursion, range_with_len, Option, Some, None, Result}
+use Rattle.lite_views.specs.Uses.{Ok, Err, ⊤, range_steps, iter_steps, into_iter_items, into_iter_len, into_iter_steps, Global, Range, IntoIter, Ready, Pending}
+use Rattle.lite_views.specs.Uses.{Answer, end, until_end, slice_items, Unchanging, Iterates, IsCloned, Repeats, GivesScript, Iter, Repeat, items_in}
 use Rattle.std.specs.declared.array.IntoIter.{IntoIter as ArrayIter}
 use Rattle.std.specs.declared.iter.Copied.{Copied}
-use Rattle.std.specs.declared.ops.Range.{Range}
 use Rattle.std.specs.declared.slice.Iter.{Iter as SliceIter}
-use Rattle.std.specs.declared.vec.IntoIter.{IntoIter}
-use Rattle.futures.specs.declared.task.Poll.TheVariants.{Ready, Pending}
-use Rattle.lite_base.specs.Answers.{Answer, end, until_end}
 use Rattle.lite_views.specs.Fronts.{Front}
 use Rattle.lite_views.specs.Laws.Sources.{iterated_front}
-use Rattle.lite_source.specs.Laws.Iterators.{slice_items}
-use Rattle.lite_source.specs.Always.{Unchanging}
-use Rattle.lite_source.specs.Iter.{Iterates}
-use Rattle.lite_source.specs.Repeat.{IsCloned, Repeats}
-use Rattle.lite_source.specs.Script.{GivesScript}
-use Rattle.lite_source.specs.declared.iter.Iter.{Iter}
-use Rattle.lite_source.specs.declared.repeat.Repeat.{Repeat}
-use Rattle.lite_stream.specs.EachItem.{items_in}
 use Rattle.lite_views.specs.Iterators.{GivesAll, IterRuns}
 use Rattle.lite_views.specs.Views.{EachIs, Fits, Fronts, ListsAs, Seen, GoesOn}
 use Rattle.lite_views.proofs.Views.{seen, listed}

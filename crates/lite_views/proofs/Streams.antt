@@ -1,26 +1,12 @@
 -- The streams over a reader of which it is known what bytes are to come.
 use Rattle.lite_views.proofs.OkLists.{ok_seen}
 use Rattle.lite_views.proofs.Views.{listed}
-use Rattle.lite_read.specs.declared.bytes.Bytes.{Bytes}
-use Rattle.std.proofs.Common.{◌≡◌, ◌∙◌, ◌<◌, ◌≢◌, ℕ, List, [], ◌∷◌, ◌++◌, length, map, inl, inr, refl, ap, subst}
-use Rattle.std.proofs.Common.{arith}
-use Rattle.std.proofs.lemmas.Bool.Decides.{eqb_tells}
-use Rattle.std.specs.Prelude.{◌==◌, ⊤, true, false, Option, Some, None, Result, Ok, Err}
-use Rattle.std.specs.List.{FoldsTo}
-use Rattle.std.specs.declared.io.Error.{Error}
-use Rattle.futures.specs.declared.task.Poll.TheVariants.{Ready, Pending}
-use Rattle.lite_base.specs.Answers.{Answer}
-use Rattle.lite_base.specs.Runs.{Runs}
-use Rattle.lite_io_base.specs.Known.{TellsKnown, Known, Knows}
-use Rattle.lite_io_base.specs.Laws.Known.{spends_bytes, spends_split, knows_spends}
-use Rattle.lite_io_base.specs.Marks.{ReadMark, bytes}
-use Rattle.lite_read.specs.Pieces.{Cut, CutsPiece, Itemised, pieces}
-use Rattle.lite_read.specs.Segments.{PieceSegments, Flows, StreamOver}
-use Rattle.lite_read.specs.Bytes.{TellsEach, TellsBytes}
-use Rattle.lite_read.specs.ReadFold.{AnswerMarks, ReadFold}
+use Rattle.lite_views.specs.Uses.{Bytes, ◌≡◌, ◌∙◌, ◌<◌, ◌≢◌, ℕ, List, [], ◌∷◌, ◌++◌, length, map, inl, inr, refl, ap, subst, arith, eqb_tells, ◌==◌, ⊤, true}
+use Rattle.lite_views.specs.Uses.{false, Option, Some, None, Result, Ok, Err, FoldsTo, Error, Ready, Pending, Answer, Runs, TellsKnown, Known, Knows}
+use Rattle.lite_views.specs.Uses.{spends_bytes, spends_split, knows_spends, ReadMark, bytes, Cut, CutsPiece, Itemised, pieces, PieceSegments, Flows, StreamOver}
+use Rattle.lite_views.specs.Uses.{TellsEach, TellsBytes, AnswerMarks, ReadFold, last_piece, pieces_from}
 use Rattle.lite_views.specs.Views.{Fits, ListsAs}
 use Rattle.lite_views.specs.OkLists.{OkFits, OkLists, OkListsAs}
-use Rattle.lite_read.specs.BytePieces.{last_piece, pieces_from}
 
 -- `bytes`
 bytes_fit : (marks : List ReadMark) (out : List (Answer (Result ℕ Error))) (bs ys : List ℕ) → TellsEach marks out

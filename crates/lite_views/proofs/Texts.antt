@@ -1,16 +1,7 @@
 -- The futures that read a text from a reader of which it is known what bytes are to come.
-use Rattle.lite_io_base.specs.Marks.{ReadMark}
+use Rattle.lite_views.specs.Uses.{ReadMark, TextOver, TextStays, Runs, Known, Knows, ◌≡◌, ◌∙◌, ℕ, List, [], ◌∷◌, ◌++◌, length, inl, inr, ap, sym, arith, refl}
+use Rattle.lite_views.specs.Uses.{⊤, Result, Ok, Err, IfOk, FoldsTo, Error, ReadFold, appends, AppendsText, Reading, ValueOf, in_text, reading, ReadsText}
 use Rattle.lite_views.specs.Waiting.{WhenLeft}
-use Rattle.lite_read.specs.Holding.{TextOver, TextStays}
-use Rattle.lite_base.specs.Runs.{Runs}
-use Rattle.lite_io_base.specs.Known.{Known, Knows}
-use Rattle.std.proofs.Common.{◌≡◌, ◌∙◌, ℕ, List, [], ◌∷◌, ◌++◌, length, inl, inr, ap, sym, arith, refl}
-use Rattle.std.specs.Prelude.{⊤, Result, Ok, Err, IfOk}
-use Rattle.std.specs.List.{FoldsTo}
-use Rattle.std.specs.declared.io.Error.{Error}
-use Rattle.lite_read.specs.ReadFold.{ReadFold}
-use Rattle.lite_read.specs.ReadToEnd.{appends}
-use Rattle.lite_read.specs.Texts.{AppendsText, Reading, ValueOf, in_text, reading, ReadsText}
 use Rattle.lite_views.proofs.Futures.{TakenUp, all_appended, gathered_left}
 
 module _ (fold : ReadFold (List ℕ) (Result ℕ Error)) where

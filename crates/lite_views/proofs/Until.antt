@@ -1,19 +1,10 @@
 -- `read_until` and `read_line` of a reader of which it is known what bytes are to come.
-use Rattle.std.proofs.Math.Seq.{take-length, drop-length}
-use Rattle.std.proofs.Common.{◌≡◌, ◌∙◌, ℕ, List, [], ◌∷◌, ◌++◌, length, take, drop, refl, ap, sym, append_assoc}
-use Rattle.std.proofs.Common.{append-nil, take-append-drop}
-use Rattle.std.specs.Prelude.{⊤, Result, Ok, Err, IfOk}
-use Rattle.std.specs.List.{FoldsTo}
-use Rattle.std.specs.declared.io.Error.{Error}
-use Rattle.lite_io_base.specs.Known.{TellsKnown}
-use Rattle.lite_io_base.specs.Marks.{ReadMark}
-use Rattle.lite_read.specs.Pieces.{Cut, CutsPiece}
-use Rattle.lite_read.specs.ReadUntil.{CountsPiece, until}
-use Rattle.lite_read.specs.Texts.{Reading, in_text}
+use Rattle.lite_views.specs.Uses.{take-length, drop-length, ◌≡◌, ◌∙◌, ℕ, List, [], ◌∷◌, ◌++◌, length, take, drop, refl, ap, sym, append_assoc, append-nil}
+use Rattle.lite_views.specs.Uses.{take-append-drop, ⊤, Result, Ok, Err, IfOk, FoldsTo, Error, TellsKnown, ReadMark, Cut, CutsPiece, CountsPiece, until, Reading}
+use Rattle.lite_views.specs.Uses.{in_text, behind, through_first}
 use Rattle.lite_views.proofs.Futures.{TakenUp}
 use Rattle.lite_views.proofs.Streams.{equal, not_equal}
 use Rattle.lite_views.proofs.Texts.{under_text}
-use Rattle.lite_read.specs.BytePieces.{behind, through_first}
 
 module _ (at : ℕ) where
   taken_until : (xs p q rest : List ℕ) → FoldsTo (until at ⊤).takes p xs q

@@ -1,15 +1,6 @@
 -- The list of the items of a stream, and the value of a future.
-use Rattle.std.proofs.Common.{sym}
-use Rattle.std.specs.Prelude.{◌≡◌, List, Ok, Err, refl}
-use denote.MutBor.{MutBor}
-use Rattle.futures.specs.declared.task.Poll.{Poll}
-use Rattle.lite_base.specs.Answers.{Answer}
-use Rattle.lite_base.specs.Future.Finishes.{Finishes}
-use Rattle.lite_base.specs.Lent.{Lent}
-use Rattle.lite_base.specs.Runs.{Question, Runs}
-use Rattle.lite_stream.specs.Through.{AdapterParts, Adapts}
+use Rattle.lite_views.specs.Uses.{sym, ◌≡◌, List, Ok, Err, refl, MutBor, Poll, Answer, Finishes, Lent, Question, Runs, AdapterParts, Adapts, Relates}
 use Rattle.lite_views.specs.Views.{Fits, Lists, ListsAs, Seen, ValueHolds, Waited}
-use Rattle.lite_stream.specs.Relates.{Relates}
 
 pub seen : {X Y : Type 0} (x : X) (y : Y) → Seen x y
 unfolding Seen

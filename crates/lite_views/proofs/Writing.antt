@@ -1,28 +1,9 @@
 -- The futures that write to a writer of which it is known what it keeps.
-use Rattle.lite_write.specs.declared.write_all.WriteAllFuture.{WriteAllFuture}
-use Rattle.std.proofs.Common.{◌≡◌, ◌∙◌, ◌+◌, ◌%◌, ◌^◌, ℕ, List, [], ◌∷◌, ◌++◌, length, map, refl, ap, sym, arith}
-use Rattle.std.proofs.Common.{append_assoc, append-nil}
-use Rattle.std.specs.Prelude.{⊤, Result, Ok, Err, IfOk}
-use Rattle.std.specs.List.{FoldsTo}
-use Rattle.std.specs.declared.io.Error.{Error}
-use Rattle.futures.specs.declared.task.Poll.{Poll}
-use Rattle.futures.specs.declared.task.Poll.TheVariants.{Ready, Pending}
-use Rattle.lite_base.specs.Answers.{Gives, strip}
-use Rattle.lite_base.specs.Laws.Segments.{segment_front, to_value_last}
-use Rattle.lite_base.specs.Runs.{Runs}
-use Rattle.lite_write.specs.Copy.{CopyRuns, CopyValue, Moves}
-use Rattle.lite_write.specs.Parts.{NothingCopied, held_of, met_in, source_of}
-use Rattle.lite_write.specs.declared.copy.CopyFuture.{CopyFuture}
-use Rattle.lite_write.specs.MarkLists.{BytesAlone, bytes_told}
-use Rattle.lite_io_base.specs.Known.{Known, Knows, TellsKnown}
-use Rattle.lite_io_base.specs.Laws.Known.{knows_spends}
-use Rattle.lite_io_base.specs.Stored.{Stored, Stores}
-use Rattle.lite_io_base.specs.Laws.Stored.{stores_kept}
-use Rattle.lite_io_base.specs.Marks.{ReadMark}
-use Rattle.lite_io_base.specs.Takings.{WriteMark, bytes_taken}
-use Rattle.lite_io_base.specs.Laws.Takings.{taken_both}
-use Rattle.lite_write.specs.Hands.{Hands}
-use Rattle.lite_write.specs.WriteAll.{Ended, HandsMarks, HandsOver, WritesAll}
+use Rattle.lite_views.specs.Uses.{WriteAllFuture, ◌≡◌, ◌∙◌, ◌+◌, ◌%◌, ◌^◌, ℕ, List, [], ◌∷◌, ◌++◌, length, map, refl, ap, sym, arith, append_assoc, append-nil}
+use Rattle.lite_views.specs.Uses.{⊤, Result, Ok, Err, IfOk, FoldsTo, Error, Poll, Ready, Pending, Gives, strip, segment_front, to_value_last, Runs, CopyRuns}
+use Rattle.lite_views.specs.Uses.{CopyValue, Moves, NothingCopied, held_of, met_in, source_of, CopyFuture, BytesAlone, bytes_told, Known, Knows, TellsKnown}
+use Rattle.lite_views.specs.Uses.{knows_spends, Stored, Stores, stores_kept, ReadMark, WriteMark, bytes_taken, taken_both, Hands, Ended, HandsMarks, HandsOver}
+use Rattle.lite_views.specs.Uses.{WritesAll}
 use Rattle.lite_views.proofs.Futures.{when_left}
 use Rattle.lite_views.specs.Waiting.{WhenLeft}
 

@@ -1,28 +1,9 @@
 -- The runs of the futures that the facade names, in the words of their folders, so that a clause asks no bound for
 -- them.
-use Rattle.std.specs.Prelude.{ℕ, Bool, List, Option, Result}
-use Rattle.std.specs.Fn.{Mut}
-use denote.MutBor.{MutBor}
-use Rattle.futures.specs.declared.task.Poll.{Poll}
-use Rattle.lite_base.specs.Answers.{Answer}
-use Rattle.lite_base.specs.Lent.{Lent}
-use Rattle.lite_base.specs.Runs.{Question, Runs}
-use Rattle.lite_consume.specs.Calls.{CallsBoth}
-use Rattle.lite_consume.specs.Consume.{Folds}
-use Rattle.lite_consume.specs.Consuming.{fold_of}
-use Rattle.lite_consume.specs.Count.{counts}
-use Rattle.lite_consume.specs.Find.{finds}
-use Rattle.lite_consume.specs.Fold.{folds}
-use Rattle.lite_consume.specs.Last.{lasts}
-use Rattle.lite_consume.specs.Nth.{nths}
-use Rattle.lite_consume.specs.TryFold.{tries_fold}
-use Rattle.lite_consume.specs.declared.consume.Consume.{Consume}
+use Rattle.lite_views.specs.Uses.{ℕ, Bool, List, Option, Result, Mut, MutBor, Poll, Answer, Lent, Question, Runs, CallsBoth, Folds, fold_of, counts, finds}
+use Rattle.lite_views.specs.Uses.{folds, lasts, nths, tries_fold, Consume, Find, Last, Nth, TryFold}
 use Rattle.lite_consume.specs.declared.count.Count.{Count}
-use Rattle.lite_consume.specs.declared.find.Find.{Find}
 use Rattle.lite_consume.specs.declared.fold.Fold.{Fold}
-use Rattle.lite_consume.specs.declared.last.Last.{Last}
-use Rattle.lite_consume.specs.declared.nth.Nth.{Nth}
-use Rattle.lite_consume.specs.declared.try_fold.TryFold.{TryFold}
 
 -- the run of the future of `count`
 abbrev pub CountRuns : {S A : Type 0} → Runs (Answer A) S → Runs (Poll ℕ) (Consume S Count)

@@ -1,10 +1,5 @@
 -- What `iter` gives over an iterator of std, by a list.
-use Rattle.std.specs.Prelude.{⊤, List, Option}
-use Rattle.std.specs.Iterator.{Count}
-use Rattle.lite_base.specs.Answers.{Answer}
-use Rattle.lite_base.specs.Runs.{Runs}
-use Rattle.lite_source.specs.Iter.{Iterates}
-use Rattle.lite_source.specs.declared.iter.Iter.{Iter}
+use Rattle.lite_views.specs.Uses.{⊤, List, Option, Count, Answer, Runs, Iterates, Iter}
 use Rattle.lite_views.specs.Views.{Fronts, ListsAs}
 
 module _ {I A : Type 0} (steps : I → Option A → I → Type 0) (remaining : I → Count) where

@@ -9,3 +9,4 @@ pub mod OkLists
 pub mod Trying
 pub mod Views
 pub mod Waiting
+pub mod Uses

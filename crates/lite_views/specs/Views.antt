@@ -1,13 +1,6 @@
 -- The list of the items of a stream, and the value of a future.
-use Rattle.std.specs.Prelude.{◌≡◌, ⊤, List, [], ◌∷◌, Some, None, Result, IfOk}
-use Rattle.std.specs.declared.alloc.AllocError.{AllocError}
-use Rattle.futures.specs.declared.task.Poll.{Poll}
-use Rattle.futures.specs.declared.task.Poll.TheVariants.{Ready, Pending}
-use Rattle.lite_base.specs.Answers.{Answer}
-use Rattle.lite_base.specs.Future.Finishes.{Finishes}
-use Rattle.lite_base.specs.Runs.{Runs}
+use Rattle.lite_views.specs.Uses.{◌≡◌, ⊤, List, [], ◌∷◌, Some, None, Result, IfOk, AllocError, Poll, Ready, Pending, Answer, Finishes, Runs, items_in}
 use Rattle.lite_views.specs.Fronts.{Front}
-use Rattle.lite_stream.specs.EachItem.{items_in}
 
 -- the answers, up to their first end, give the items in order from the front on; the end comes behind the last.
 -- Pendings count for nothing

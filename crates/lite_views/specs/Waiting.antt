@@ -1,8 +1,5 @@
 -- What a future that was lent to a wait has become.
-use Rattle.std.specs.Prelude.{◌≡◌, ⊤, List, Result, IfOk, IfErr}
-use Rattle.futures.specs.declared.task.Poll.{Poll}
-use Rattle.lite_base.specs.Answers.{Gives}
-use Rattle.lite_base.specs.Runs.{Runs}
+use Rattle.lite_views.specs.Uses.{◌≡◌, ⊤, List, Result, IfOk, IfErr, Poll, Gives, Runs}
 
 -- the future f was waited for, and is g: polled until the value where r is Ok, and not polled else
 unfoldable pub LeftAs : {F A E : Type 0} → Runs (Poll A) F → F → Result A E → F → Type 0

@@ -1,24 +1,8 @@
 -- The steps of `copy`.
-use Rattle.std.proofs.Common.{◌≡◌, ◌∙◌, ◌<◌, ◌+◌, ◌%◌, ◌^◌, ℕ, List, [], ◌∷◌, ◌++◌, Option, Some, None}
-use Rattle.std.proofs.Common.{Result, Ok, Err, length, refl, ap, sym, subst, arith, append-nil}
-use Rattle.std.specs.IoError.{error_kind}
-use Rattle.std.specs.declared.io.Error.{Error}
-use Rattle.std.specs.declared.io.ErrorKind.TheVariants.{WriteZero}
-use Rattle.futures.specs.declared.task.Poll.{Poll}
-use Rattle.futures.specs.declared.task.Poll.TheVariants.{Ready, Pending}
-use Rattle.lite_buffered.specs.Laws.BufReader.{passes_some}
-use Rattle.lite_buffered.specs.BufReader.{ThroughBuffer, ahead, reader_capacity}
-use Rattle.lite_buffered.specs.Laws.BufReader.{through_laws}
-use Rattle.lite_buffered.specs.declared.buf_reader.BufReader.{BufReader}
-use Rattle.lite_io_base.specs.Marks.{ReadMark, bytes, filled}
-use Rattle.lite_io_base.specs.Runs.{MarkLaws}
-use Rattle.lite_io_base.specs.Takings.{WriteMark, bytes_taken, write_marks}
-use Rattle.lite_io_base.specs.Laws.Runs.{offered_marks}
-use Rattle.lite_base.specs.Answers.{UpToValue, strip}
-use Rattle.lite_base.specs.Calm.{waits}
-use Rattle.lite_base.specs.Chain.{OneStep}
-use Rattle.lite_base.specs.Laws.Answers.{up_to_one}
-use Rattle.lite_base.specs.Runs.{Runs}
+use Rattle.lite_write.specs.Uses.{◌≡◌, ◌∙◌, ◌<◌, ◌+◌, ◌%◌, ◌^◌, ℕ, List, [], ◌∷◌, ◌++◌, Option, Some, None, Result, Ok, Err, length, refl, ap, sym, subst}
+use Rattle.lite_write.specs.Uses.{arith, append-nil, error_kind, Error, WriteZero, Poll, Ready, Pending, passes_some, ThroughBuffer, ahead, reader_capacity}
+use Rattle.lite_write.specs.Uses.{through_laws, BufReader, ReadMark, bytes, filled, MarkLaws, WriteMark, bytes_taken, write_marks, offered_marks, UpToValue}
+use Rattle.lite_write.specs.Uses.{strip, waits, OneStep, up_to_one, Runs}
 use Rattle.lite_write.specs.Copy.{CopyValue, Moves}
 use Rattle.lite_write.specs.Copying.{CopiesSome}
 use Rattle.lite_write.specs.MarkLists.{BytesAlone, TakesUpTo, TellsUpTo, bytes_told, waits_taken, waits_told}

@@ -1,9 +1,5 @@
 -- One answer of `write_all`.
-use Rattle.std.proofs.Common.{◌≡◌, List, [], ◌∷◌}
-use Rattle.futures.specs.declared.task.Poll.{Poll}
-use Rattle.lite_base.specs.Laws.Segments.{segment_alone, to_value_one}
-use Rattle.lite_base.specs.Runs.{Runs}
-use Rattle.lite_io_base.specs.Takings.{WriteMark}
+use Rattle.lite_write.specs.Uses.{◌≡◌, List, [], ◌∷◌, Poll, segment_alone, to_value_one, Runs, WriteMark}
 use Rattle.lite_write.specs.Laws.WriteAll.{WriteAllResult}
 use Rattle.lite_write.specs.WriteAll.{HandsMarks, LastTaken, WritesAll}
 use Rattle.lite_write.specs.declared.write_all.WriteAllFuture.{WriteAllFuture}

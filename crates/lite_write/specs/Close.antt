@@ -1,10 +1,6 @@
 -- `close`: the close of a writer.
-use Rattle.std.specs.Prelude.{◌≡◌, Result}
-use Rattle.std.specs.declared.io.Error.{Error}
-use Rattle.futures.specs.declared.task.Poll.{Poll}
-use Rattle.lite_io_base.specs.Takings.{WriteMark, done_marks}
+use Rattle.lite_write.specs.Uses.{◌≡◌, Result, Error, Poll, WriteMark, done_marks, Runs}
 use Rattle.lite_write.specs.declared.close.CloseFuture.{CloseFuture}
-use Rattle.lite_base.specs.Runs.{Runs}
 
 -- the writer ran by the mark of the answer; the reference stays
 pub record Closes {W : Type 0} (writes : Runs WriteMark W) (x : CloseFuture W) (c : Poll (Result (Unit {0}) Error))

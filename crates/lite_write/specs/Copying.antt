@@ -1,15 +1,10 @@
 -- What else is said of `copy`: what a pending registers, and a step that goes on.
-use Rattle.std.specs.Prelude.{◌≡◌, ◌<◌, ℕ, List, [], length}
-use Rattle.futures.specs.Task.{Lasting}
-use Rattle.lite_buffered.specs.BufReader.{ThroughBuffer}
-use Rattle.lite_io_base.specs.Marks.{ReadMark, bytes}
-use Rattle.lite_io_base.specs.Takings.{WriteMark}
+use Rattle.lite_write.specs.Uses.{◌≡◌, ◌<◌, ℕ, List, [], length, Lasting, ThroughBuffer, ReadMark, bytes, WriteMark, Runs}
 use Rattle.lite_write.specs.Copy.{Moves}
 use Rattle.lite_write.specs.Parts.{held_of, source_of}
 use Rattle.lite_write.specs.declared.copy.CopyFuture.{CopyFuture}
 use Rattle.lite_write.specs.declared.copy.Phase.{Phase}
 use Rattle.lite_write.specs.declared.copy.Phase.TheVariants.{Copying, Flushing}
-use Rattle.lite_base.specs.Runs.{Runs}
 
 -- what a pending registered: what the reader did where nothing is left to be written, and else the writer
 abbrev pub RegistersIn : Phase → List ℕ → Type 0 → Type 0 → Type 0

@@ -1,10 +1,6 @@
 -- `flush`: one flush.
-use Rattle.std.specs.Prelude.{◌≡◌, Result}
-use Rattle.std.specs.declared.io.Error.{Error}
-use Rattle.futures.specs.declared.task.Poll.{Poll}
-use Rattle.lite_io_base.specs.Takings.{WriteMark, done_marks}
+use Rattle.lite_write.specs.Uses.{◌≡◌, Result, Error, Poll, WriteMark, done_marks, Runs}
 use Rattle.lite_write.specs.declared.flush.FlushFuture.{FlushFuture}
-use Rattle.lite_base.specs.Runs.{Runs}
 
 -- the writer ran by the mark of the answer; the reference stays
 pub record Flushes {W : Type 0} (writes : Runs WriteMark W) (x : FlushFuture W) (c : Poll (Result (Unit {0}) Error))

@@ -12,3 +12,4 @@ pub mod SteadyWriteAll
 pub mod Write
 pub mod WriteAll
 pub mod WriteVectored
+pub mod Uses

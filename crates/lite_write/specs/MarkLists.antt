@@ -1,8 +1,5 @@
 -- Words on lists of marks: of what a reader told, and of what a writer took.
-use Rattle.std.specs.Prelude.{◌≡◌, ◌<◌, ⊤, Bool, true, false, ℕ, List, [], ◌∷◌, ◌++◌, flat_map, length}
-use Rattle.std.specs.List.{filter}
-use Rattle.lite_io_base.specs.Marks.{ReadMark}
-use Rattle.lite_io_base.specs.Takings.{WriteMark}
+use Rattle.lite_write.specs.Uses.{◌≡◌, ◌<◌, ⊤, Bool, true, false, ℕ, List, [], ◌∷◌, ◌++◌, flat_map, length, filter, ReadMark, WriteMark}
 
 -- the byte of a mark, if it has one
 abbrev pub byte_in : ReadMark → List ℕ

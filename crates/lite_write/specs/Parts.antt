@@ -1,7 +1,5 @@
 -- The parts of a copy's future.
-use Rattle.std.specs.Prelude.{◌≡◌, ℕ, List, [], ◌∷◌}
-use Rattle.lite_buffered.specs.BufReader.{ahead, reader_inner}
-use Rattle.lite_io_base.specs.Marks.{ReadMark}
+use Rattle.lite_write.specs.Uses.{◌≡◌, ℕ, List, [], ◌∷◌, ahead, reader_inner, ReadMark}
 use Rattle.lite_write.specs.declared.copy.CopyFuture.{CopyFuture}
 use Rattle.lite_write.specs.declared.copy.Phase.{Phase}
 use Rattle.lite_write.specs.declared.copy.Phase.TheVariants.{Copying, Flushing}

@@ -1,8 +1,6 @@
 -- The steps of `write_all`: one that goes on is a write that took some bytes.
-use Rattle.std.specs.Prelude.{◌≡◌, ◌<◌, ℕ, List, [], ◌∷◌, ◌++◌, length}
-use Rattle.lite_io_base.specs.Takings.{WriteMark}
+use Rattle.lite_write.specs.Uses.{◌≡◌, ◌<◌, ℕ, List, [], ◌∷◌, ◌++◌, length, WriteMark, Runs}
 use Rattle.lite_write.specs.declared.write_all.WriteAllFuture.{WriteAllFuture}
-use Rattle.lite_base.specs.Runs.{Runs}
 
 -- one step of a poll of `write_all` that goes on: a write took some bytes
 pub record WritesSome {W : Type 0} (writes : Runs WriteMark W) (x y : WriteAllFuture W) : Type 0 where

@@ -1,8 +1,6 @@
 -- `sink`: all is taken, and none is kept.
-use Rattle.std.specs.Prelude.{◌≡◌, [], ◌∷◌}
-use Rattle.lite_io_base.specs.Takings.{WriteMark}
+use Rattle.lite_write.specs.Uses.{◌≡◌, [], ◌∷◌, WriteMark, Runs}
 use Rattle.lite_write.specs.declared.sink.Sink.{Sink}
-use Rattle.lite_base.specs.Runs.{Runs}
 
 -- no mark is a pending or an error
 abbrev pub Sinks : Runs WriteMark Sink

@@ -1,7 +1,5 @@
 -- The runs of a writer in which each write takes something.
-use Rattle.std.specs.Prelude.{List, [], ◌∷◌, ⊤}
-use Rattle.lite_io_base.specs.Takings.{WriteMark}
-use Rattle.lite_base.specs.Runs.{Runs}
+use Rattle.lite_write.specs.Uses.{List, [], ◌∷◌, ⊤, WriteMark, Runs}
 
 -- no error, and no write took nothing
 abbrev pub NoFailure : List WriteMark → Type 0

@@ -1,11 +1,6 @@
 -- `write`: one write of some bytes.
-use Rattle.std.specs.Prelude.{◌≡◌, ◌≤◌, ℕ, length, Result, IfOk}
-use Rattle.std.specs.declared.io.Error.{Error}
-use Rattle.futures.specs.Poll.{IfReady}
-use Rattle.futures.specs.declared.task.Poll.{Poll}
-use Rattle.lite_io_base.specs.Takings.{WriteMark, write_marks}
+use Rattle.lite_write.specs.Uses.{◌≡◌, ◌≤◌, ℕ, length, Result, IfOk, Error, IfReady, Poll, WriteMark, write_marks, Runs}
 use Rattle.lite_write.specs.declared.write.WriteFuture.{WriteFuture}
-use Rattle.lite_base.specs.Runs.{Runs}
 
 -- the writer ran by the marks of the answer; the reference and the bytes stay
 pub record Writes {W : Type 0} (writes : Runs WriteMark W) (x : WriteFuture W) (c : Poll (Result ℕ Error))

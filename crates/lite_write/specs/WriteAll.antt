@@ -1,15 +1,8 @@
 -- `write_all`: some bytes are handed to a writer, from the front, until all are taken.
-use Rattle.std.specs.Prelude.{◌≡◌, ◌<◌, ℕ, List, [], ◌∷◌, length, Result, Ok, Err}
-use Rattle.std.specs.IoError.{error_kind}
-use Rattle.std.specs.declared.io.Error.{Error}
-use Rattle.std.specs.declared.io.ErrorKind.TheVariants.{WriteZero}
-use Rattle.futures.specs.declared.task.Poll.{Poll}
-use Rattle.futures.specs.declared.task.Poll.TheVariants.{Ready, Pending}
-use Rattle.lite_io_base.specs.Takings.{WriteMark}
+use Rattle.lite_write.specs.Uses.{◌≡◌, ◌<◌, ℕ, List, [], ◌∷◌, length, Result, Ok, Err, error_kind, Error, WriteZero, Poll, Ready, Pending, WriteMark, Question}
+use Rattle.lite_write.specs.Uses.{Runs, Segment, SegmentsToValue}
 use Rattle.lite_write.specs.Hands.{Hands}
 use Rattle.lite_write.specs.declared.write_all.WriteAllFuture.{WriteAllFuture}
-use Rattle.lite_base.specs.Runs.{Question, Runs}
-use Rattle.lite_base.specs.Segments.{Segment, SegmentsToValue}
 
 -- all are taken; a write took none; an error
 abbrev pub Ended : List ℕ → List WriteMark → Result (Unit {0}) Error → Type 0

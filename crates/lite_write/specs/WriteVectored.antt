@@ -1,12 +1,6 @@
 -- `write_vectored`: one write of the bytes of some buffers.
-use Rattle.std.specs.Prelude.{◌≡◌, ◌≤◌, ℕ, length, Result, IfOk}
-use Rattle.std.specs.Io.Slices.{io_slices_bytes}
-use Rattle.std.specs.declared.io.Error.{Error}
-use Rattle.futures.specs.Poll.{IfReady}
-use Rattle.futures.specs.declared.task.Poll.{Poll}
-use Rattle.lite_io_base.specs.Takings.{WriteMark, write_marks}
+use Rattle.lite_write.specs.Uses.{◌≡◌, ◌≤◌, ℕ, length, Result, IfOk, io_slices_bytes, Error, IfReady, Poll, WriteMark, write_marks, Runs}
 use Rattle.lite_write.specs.declared.write_vectored.WriteVectoredFuture.{WriteVectoredFuture}
-use Rattle.lite_base.specs.Runs.{Runs}
 
 -- the writer ran by the marks of the answer, which was offered the bytes of all; the reference and the buffers stay
 pub record WritesVectored {W : Type 0} (writes : Runs WriteMark W) (x : WriteVectoredFuture W)

@@ -1,14 +1,6 @@
-ghost use Rattle.std.specs.Prelude.{◌≡◌, ◌<◌, ◌↔◌, ◌^◌, [], ◌∷◌, length, IfOk, IfSome, IsTrue};
-ghost use Rattle.futures.specs.Poll.{IfReady};
-ghost use Rattle.futures.specs.Task.{Keeps};
-ghost use Rattle.lite_base.specs.Laws.Ends.{Terminates-map};
+ghost use Rattle.lite_write.specs.Uses.{◌≡◌, ◌<◌, ◌↔◌, ◌^◌, [], ◌∷◌, length, IfOk, IfSome, IsTrue, IfReady, Keeps, Terminates-map, ahead, reader_capacity};
+ghost use Rattle.lite_write.specs.Uses.{reader_inner, through_counting, counting_ends, fill_marks, OnlyOkLends, Registered};
 ghost use Rattle.lite_write.specs.declared.copy.Phase.TheVariants.{Copying, Flushing};
-ghost use Rattle.lite_buffered.specs.BufReader.{ahead, reader_capacity, reader_inner};
-ghost use Rattle.lite_buffered.specs.Laws.BufReader.{through_counting};
-ghost use Rattle.lite_io_base.specs.Laws.Counting.{counting_ends};
-ghost use Rattle.lite_io_base.specs.Marks.{fill_marks};
-ghost use Rattle.lite_io_base.specs.Runs.{OnlyOkLends};
-ghost use Rattle.lite_base.specs.Registered.{Registered};
 
 use lite_base::{Context, Future, Poll, PollSteps, drive};
 use lite_buffered::BufReader;
@@ -61,7 +53,7 @@ fn fill<R: AsyncBufRead>(reader: &mut R, cx: &mut Context<'_>) -> Poll<io::Resul
 }
 
 impl<R: AsyncRead, W: AsyncWrite> CopyFuture<R, W> {
-    ghost use Rattle.lite_base.specs.Chain.{OneStep};
+    ghost use Rattle.lite_write.specs.Uses.{OneStep};
     ghost use Rattle.lite_write.specs.Copy.{Moves};
     ghost use Rattle.lite_write.specs.Copying.{CopiesSome, CopyRegisters};
 
@@ -105,7 +97,6 @@ impl<R: AsyncRead, W: AsyncWrite> CopyFuture<R, W> {
 }
 
 impl<R: CountedRead, W: AsyncWrite> PollSteps for CopyFuture<R, W> {
-    ghost use Rattle.lite_base.specs.Chain.{OneStep};
     ghost use Rattle.lite_write.specs.Copy.{Moves};
     ghost use Rattle.lite_write.specs.Copying.{CopiesSome, CopyRegisters};
     ghost use Rattle.lite_write.specs.Laws.Copy.{some_given};

@@ -1,7 +1,6 @@
 //! What makes the futures, and the writer that takes all.
-ghost use Rattle.std.specs.Prelude.{◌≡◌, IfErr, IfOk};
+ghost use Rattle.lite_write.specs.Uses.{◌≡◌, IfErr, IfOk, reader_capacity};
 ghost use Rattle.lite_write.specs.Parts.{NothingCopied, source_of};
-ghost use Rattle.lite_buffered.specs.BufReader.{reader_capacity};
 
 use crate::close::CloseFuture;
 use crate::copy::{CopyFuture, Phase};

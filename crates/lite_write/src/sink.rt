@@ -1,13 +1,6 @@
-ghost use Rattle.std.specs.Prelude.{◌≡◌, ◌<◌, ◌≤◌, [], Ok, length, IfOk, ⊤};
-ghost use Rattle.std.specs.Io.Slices.{io_slices_bytes};
-ghost use Rattle.futures.specs.Poll.{IfReady};
-ghost use Rattle.futures.specs.Task.{Keeps};
-ghost use Rattle.lite_io_base.specs.Laws.Runs.{idle_laws};
-ghost use Rattle.lite_io_base.specs.Runs.{Idle};
-ghost use Rattle.lite_io_base.specs.Takings.{write_marks};
+ghost use Rattle.lite_write.specs.Uses.{◌≡◌, ◌<◌, ◌≤◌, [], Ok, length, IfOk, ⊤, io_slices_bytes, IfReady, Keeps, idle_laws, Idle, write_marks, Registered};
 ghost use Rattle.lite_write.specs.Laws.Sink.{sinks_calm, sinks_laws, sinks_steady};
 ghost use Rattle.lite_write.specs.Sink.{Sinks};
-ghost use Rattle.lite_base.specs.Registered.{Registered};
 
 use lite_base::{Context, Poll};
 use lite_io_base::{AsyncWrite, CalmWrite, SteadyWrite, Takings, Tale, first_nonempty};

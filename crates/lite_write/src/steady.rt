@@ -1,16 +1,13 @@
 //! The futures whose value does not depend on when their writer was pending: where each write took something, and none failed.
-ghost use Rattle.std.specs.Prelude.{⊤};
-ghost use Rattle.lite_read.specs.Polled.{PolledByCalls};
+ghost use Rattle.lite_write.specs.Uses.{⊤, PolledByCalls, Sameness, SameByKind};
 ghost use Rattle.lite_write.specs.Close.{Closes};
 ghost use Rattle.lite_write.specs.Flush.{Flushes};
 ghost use Rattle.lite_write.specs.Laws.SteadyDone.{close_steady, flush_steady};
 ghost use Rattle.lite_write.specs.Laws.SteadyWriteAll.{all_steady};
 ghost use Rattle.lite_write.specs.SteadyWriteAll.{NoneFails, WithoutFailure};
 ghost use Rattle.lite_write.specs.WriteAll.{WritesAll};
-ghost use Rattle.lite_base.specs.Alike.{Sameness};
 ghost use Rattle.lite_write.specs.Copy.{CopyRuns};
 ghost use Rattle.lite_write.specs.Laws.SteadyCopy.{CopyAlike, copy_steady};
-ghost use Rattle.lite_read.specs.Deterministic.{SameByKind};
 
 use crate::{CloseFuture, CopyFuture, FlushFuture, WriteAllFuture};
 use lite_base::SteadyFuture;

@@ -1,6 +1,4 @@
-ghost use Rattle.std.specs.Prelude.{[], ◌∷◌, length, ⊤};
-ghost use Rattle.lite_base.specs.Chain.{OneStep};
-ghost use Rattle.lite_base.specs.Laws.Ends.{Terminates-count};
+ghost use Rattle.lite_write.specs.Uses.{[], ◌∷◌, length, ⊤, OneStep, Terminates-count};
 ghost use Rattle.lite_write.specs.Laws.WriteAll.{all_laws, left_falls};
 ghost use Rattle.lite_write.specs.PollSteps.{WritesSome};
 ghost use Rattle.lite_write.specs.WriteAll.{WritesAll};

@@ -1,6 +1,5 @@
 -- What holds wherever a future gives an Ok.
-use Rattle.std.specs.Prelude.{List, Result, Ok}
-use Rattle.futures.specs.declared.task.Poll.{Poll}
+use Rattle.lite_base.specs.Uses.{List, Result, Ok, Poll}
 use Rattle.lite_base.specs.Answers.{Gives}
 use Rattle.lite_base.specs.Runs.{Runs}
 

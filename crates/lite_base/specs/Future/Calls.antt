@@ -1,12 +1,6 @@
 -- A closure that is polled as a future is: it is called with a context, and answers.
-use Rattle.std.specs.Prelude.{List}
-use Rattle.std.specs.List.{FoldsTo}
-use Rattle.std.specs.Fn.{Mut, Called}
+use Rattle.lite_base.specs.Uses.{List, FoldsTo, Mut, Called, Poll, Pending, Context, Holds, Keeps, Lasting}
 use denote.Ref.{MutBor}
-use Rattle.futures.specs.declared.task.Poll.{Poll}
-use Rattle.futures.specs.declared.task.Poll.TheVariants.{Pending}
-use Rattle.futures.specs.declared.task.context.Context.{Context}
-use Rattle.futures.specs.Task.{Holds, Keeps, Lasting}
 use Rattle.lite_base.specs.Answers.{UpToValue}
 use Rattle.lite_base.specs.Calm.{NoPending}
 use Rattle.lite_base.specs.Runs.{Runs}

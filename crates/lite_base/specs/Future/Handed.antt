@@ -1,7 +1,5 @@
 -- What a stream answers that polls a future.
-use Rattle.std.specs.Prelude.{Option}
-use Rattle.futures.specs.declared.task.Poll.{Poll}
-use Rattle.futures.specs.declared.task.Poll.TheVariants.{Ready, Pending}
+use Rattle.lite_base.specs.Uses.{Option, Poll, Ready, Pending}
 use Rattle.lite_base.specs.Answers.{Answer}
 
 -- a Pending stays, and of the future's value goes out what is `shown`: an item, or an end

@@ -1,6 +1,5 @@
 -- `or`: the first row with a value, where the first future's stands first.
-use Rattle.std.specs.Prelude.{map, true}
-use Rattle.futures.specs.declared.task.Poll.{Poll}
+use Rattle.lite_base.specs.Uses.{map, true, Poll}
 use Rattle.lite_base.specs.Future.Picks.{Picks}
 use Rattle.lite_base.specs.declared.future.or.Or.{Or}
 use Rattle.lite_base.specs.Runs.{Runs}

@@ -1,7 +1,5 @@
 -- Two futures of which each poll asks one first, and the other only where that one is pending.
-use Rattle.std.specs.Prelude.{◌≡◌, List, [], ◌∷◌, Bool}
-use Rattle.futures.specs.declared.task.Poll.{Poll}
-use Rattle.futures.specs.declared.task.Poll.TheVariants.{Ready, Pending}
+use Rattle.lite_base.specs.Uses.{◌≡◌, List, [], ◌∷◌, Bool, Poll, Ready, Pending}
 use Rattle.lite_base.specs.Answers.{UpToValue}
 use Rattle.lite_base.specs.Rows.{Rows}
 use Rattle.lite_base.specs.Runs.{Runs}

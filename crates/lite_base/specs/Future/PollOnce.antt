@@ -1,7 +1,5 @@
 -- `poll_once`: one value, which tells the first answer.
-use Rattle.std.specs.Prelude.{◌≡◌, [], ◌∷◌, Option, Some, None}
-use Rattle.futures.specs.declared.task.Poll.{Poll}
-use Rattle.futures.specs.declared.task.Poll.TheVariants.{Ready, Pending}
+use Rattle.lite_base.specs.Uses.{◌≡◌, [], ◌∷◌, Option, Some, None, Poll, Ready, Pending}
 use Rattle.lite_base.specs.declared.future.poll_once.PollOnce.{PollOnce}
 use Rattle.lite_base.specs.Runs.{Runs}
 

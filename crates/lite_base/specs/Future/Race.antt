@@ -1,8 +1,5 @@
 -- `race`: as `or`, where the generator's next word says which of the two stands first in each row.
-use Rattle.std.specs.Prelude.{◌≡◌, ◌%◌, ◌==◌, ℕ, List, [], ◌∷◌, map, Bool}
-use Rattle.std.specs.List.{FoldsTo}
-use Rattle.rand_core.specs.Stream.{Stream, next_u32}
-use Rattle.futures.specs.declared.task.Poll.{Poll}
+use Rattle.lite_base.specs.Uses.{◌≡◌, ◌%◌, ◌==◌, ℕ, List, [], ◌∷◌, map, Bool, FoldsTo, Stream, next_u32, Poll}
 use Rattle.lite_base.specs.Future.Picks.{Picks}
 use Rattle.lite_base.specs.declared.future.race.Race.{Race}
 use Rattle.lite_base.specs.Runs.{Runs}

@@ -1,9 +1,5 @@
 -- Futures that are alike, by their values.
-use Rattle.std.proofs.Common.{◌≡◌, inl, inr, ◌≤◌, List, [], ◌∷◌, length, Option, Some, None, ap, refl, subst, sym}
-use Rattle.std.proofs.Common.{arith}
-use Rattle.futures.specs.declared.task.Poll.{Poll}
-use Rattle.futures.specs.declared.task.Poll.TheVariants.{Ready, Pending}
-use Rattle.std.specs.Prelude.{⊤, ◌⊎◌}
+use Rattle.lite_base.specs.Uses.{◌≡◌, inl, inr, ◌≤◌, List, [], ◌∷◌, length, Option, Some, None, ap, refl, subst, sym, arith, Poll, Ready, Pending, ⊤, ◌⊎◌}
 use Rattle.lite_base.specs.Alike.{AlikeBy, Either, MadeOf, OptionBy, Optional, Pairwise, SameAnswer, SameHeld, SameItem}
 use Rattle.lite_base.specs.Alike.{Sameness}
 use Rattle.lite_base.specs.Answers.{ComparableBy, Gives, UpToValue, strip}

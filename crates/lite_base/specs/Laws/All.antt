@@ -1,7 +1,5 @@
 -- Lists each of whose elements meets a condition.
-use Rattle.std.proofs.Common.{List, [], ◌∷◌, ◌++◌}
-use Rattle.std.specs.List.{AllByRecursion}
-use Rattle.std.specs.Prelude.{⊤}
+use Rattle.lite_base.specs.Uses.{List, [], ◌∷◌, ◌++◌, AllByRecursion, ⊤}
 
 module _ {A : Type 0} (may : A → Type 0) where
   pub all_append : (l m : List A) → AllByRecursion may l → AllByRecursion may m → AllByRecursion may (l ++ m)

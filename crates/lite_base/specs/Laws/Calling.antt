@@ -1,6 +1,5 @@
 -- Laws of closures that agree.
-use Rattle.std.specs.Prelude.{⊤, Bool, true, false}
-use Rattle.std.proofs.Common.{◌≡◌, ◌∙◌, List, [], ◌∷◌, Option, Some, None, refl, subst, sym}
+use Rattle.lite_base.specs.Uses.{⊤, Bool, true, false, ◌≡◌, ◌∙◌, List, [], ◌∷◌, Option, Some, None, refl, subst, sym}
 use Rattle.lite_base.specs.Alike.{OptionBy, SameAnswer, SameItem, Sameness}
 use Rattle.lite_base.specs.Answers.{ComparableBy}
 use Rattle.lite_base.specs.Laws.Alike.{comparable_as, ends_same, same_answer}

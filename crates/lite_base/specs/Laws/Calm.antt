@@ -1,10 +1,7 @@
 -- Lists without a Pending.
-use Rattle.std.proofs.Common.{◌≡◌, ◌≤◌, ◌+◌, List, [], ◌∷◌, ◌++◌, refl, arith}
-use Rattle.futures.specs.declared.task.Poll.{Poll}
-use Rattle.futures.specs.declared.task.Poll.TheVariants.{Ready, Pending}
+use Rattle.lite_base.specs.Uses.{◌≡◌, ◌≤◌, ◌+◌, List, [], ◌∷◌, ◌++◌, refl, arith, Poll, Ready, Pending, MutBor}
 use Rattle.lite_base.specs.Calm.{CalmLaws, CalmRuns, NoPending, waits}
 use Rattle.lite_base.specs.Runs.{Runs}
-use denote.MutBor.{MutBor}
 use Rattle.lite_base.specs.Lent.{Lent}
 
 -- one of which a part runs is as calm as that part

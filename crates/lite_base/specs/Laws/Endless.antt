@@ -1,6 +1,5 @@
 -- Lists of answers without an end.
-use Rattle.std.proofs.Common.{List, [], ◌∷◌, ◌++◌, Some, None, ap}
-use Rattle.futures.specs.declared.task.Poll.TheVariants.{Ready, Pending}
+use Rattle.lite_base.specs.Uses.{List, [], ◌∷◌, ◌++◌, Some, None, ap, Ready, Pending}
 use Rattle.lite_base.specs.Answers.{Answer, Endless, item}
 
 module _ {A : Type 0} where

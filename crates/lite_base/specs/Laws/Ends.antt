@@ -1,6 +1,5 @@
 -- Chains of steps that are finite.
-use Rattle.std.specs.Prelude.{ℕ, ◌<◌, ◌≡◌, refl}
-use Rattle.std.proofs.Common.{sym, subst}
+use Rattle.lite_base.specs.Uses.{ℕ, ◌<◌, ◌≡◌, refl, sym, subst}
 use mathlib.Core.WellFounded.{Acc, WellFounded}
 use lib.WfN.{lt-wf_rel}
 use Rattle.lite_base.specs.Chain.{After, Reaches}

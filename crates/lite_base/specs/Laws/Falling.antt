@@ -1,9 +1,7 @@
 -- What a falling rank gives.
-use Rattle.std.specs.Prelude.{◌≡◌, ℕ, zero, suc, ◌<◌, ◌≤◌, List, [], ◌∷◌, ◌++◌, length, Some, refl}
-use Rattle.std.proofs.Common.{inl, inr, sym, ap, subst, ◌∙◌, arith, length-append}
-use Rattle.futures.specs.declared.task.Poll.TheVariants.{Ready, Pending}
+use Rattle.lite_base.specs.Uses.{◌≡◌, ℕ, zero, suc, ◌<◌, ◌≤◌, List, [], ◌∷◌, ◌++◌, length, Some, refl, inl, inr, sym, ap, subst, ◌∙◌, arith, length-append}
+use Rattle.lite_base.specs.Uses.{Ready, Pending, eq-or-lt_of_le}
 use mathlib.Core.WellFounded.{Acc, WellFounded}
-use Rattle.std.proofs.Math.Nat.{eq-or-lt_of_le}
 use lib.Measure.{by_dom}
 use lib.WfN.{lt-wf_rel}
 use Rattle.lite_base.specs.Answers.{Answer, Waiting, items}

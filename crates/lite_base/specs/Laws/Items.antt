@@ -1,6 +1,5 @@
 -- Answers that are all items.
-use Rattle.std.proofs.Common.{◌≡◌, ◌<◌, List, [], ◌∷◌, ◌++◌, refl, ap, arith}
-use Rattle.std.specs.List.{AllByRecursion}
+use Rattle.lite_base.specs.Uses.{◌≡◌, ◌<◌, List, [], ◌∷◌, ◌++◌, refl, ap, arith, AllByRecursion}
 use Rattle.lite_base.specs.Answers.{Answer, before_end, item, items}
 
 module _ {A : Type 0} where

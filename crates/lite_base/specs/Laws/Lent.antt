@@ -1,8 +1,5 @@
 -- A stream or a future that is lent: what is behind the reference runs, and the reference stays.
-use Rattle.std.specs.Prelude.{◌≡◌, []}
-use Rattle.std.proofs.Common.{◌∙◌, ap, refl}
-use denote.MutBor.{MutBor}
-use Rattle.futures.specs.declared.task.Poll.{Poll}
+use Rattle.lite_base.specs.Uses.{◌≡◌, [], ◌∙◌, ap, refl, MutBor, Poll}
 use Rattle.lite_base.specs.Answers.{Answer}
 use Rattle.lite_base.specs.FutureLaws.{FutureLaws}
 use Rattle.lite_base.specs.Ranks.{Counting, Ranks, ranks_of}

@@ -1,8 +1,5 @@
 -- A rank that falls with each Ok item.
-use Rattle.std.specs.Prelude.{◌≡◌, ℕ, List, [], ◌∷◌, map, None, Result, Ok, refl}
-use Rattle.std.proofs.Common.{ap, subst}
-use Rattle.futures.specs.declared.task.Poll.TheVariants.{Ready, Pending}
-use denote.MutBor.{MutBor}
+use Rattle.lite_base.specs.Uses.{◌≡◌, ℕ, List, [], ◌∷◌, map, None, Result, Ok, refl, ap, subst, Ready, Pending, MutBor}
 use Rattle.lite_base.specs.Answers.{Answer, item, items}
 use Rattle.lite_base.specs.Ends.{Terminates}
 use Rattle.lite_base.specs.Laws.Falling.{ranked_ends}

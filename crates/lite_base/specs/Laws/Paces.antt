@@ -1,7 +1,5 @@
 -- Laws of what is paced.
-use Rattle.std.proofs.Common.{◌≡◌, ℕ, ◌≤◌, ◌+◌, ◌-◌, List, [], ◌∷◌, ◌++◌, Some, None, inl, inr, ap, subst}
-use Rattle.std.proofs.Common.{arith, length}
-use Rattle.futures.specs.declared.task.Poll.TheVariants.{Ready, Pending}
+use Rattle.lite_base.specs.Uses.{◌≡◌, ℕ, ◌≤◌, ◌+◌, ◌-◌, List, [], ◌∷◌, ◌++◌, Some, None, inl, inr, ap, subst, arith, length, Ready, Pending}
 use Rattle.lite_base.specs.Answers.{Answer, before_end, items, strip}
 use Rattle.lite_base.specs.Paces.{Paces, left_behind}
 use Rattle.lite_base.specs.Rank.{Lowers}

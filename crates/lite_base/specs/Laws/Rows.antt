@@ -1,6 +1,5 @@
 -- Laws of two lists that are read row by row.
-use Rattle.std.proofs.Common.{◌≡◌, ◌%◌, ℕ, List, [], ◌∷◌, ◌++◌, map, Bool, true, false, refl, eq-eqb}
-use Rattle.std.proofs.lemmas.Bool.{ne_eqb}
+use Rattle.lite_base.specs.Uses.{◌≡◌, ◌%◌, ℕ, List, [], ◌∷◌, ◌++◌, map, Bool, true, false, refl, eq-eqb, ne_eqb}
 use Rattle.lite_base.specs.Future.Race.{is_first}
 use Rattle.lite_base.specs.Rows.{Rows}
 

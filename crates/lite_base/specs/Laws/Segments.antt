@@ -1,9 +1,6 @@
 -- Laws of lists that are cut into segments.
-use Rattle.std.proofs.Common.{◌≡◌, ◌∙◌, List, [], ◌∷◌, ◌++◌, ap, append-nil, append_assoc, map, refl, subst, sym}
-use Rattle.std.proofs.lemmas.List.{map-append}
-use Rattle.std.specs.List.{AllByRecursion, FoldsTo}
-use Rattle.futures.specs.declared.task.Poll.{Poll}
-use Rattle.futures.specs.declared.task.Poll.TheVariants.{Ready}
+use Rattle.lite_base.specs.Uses.{◌≡◌, ◌∙◌, List, [], ◌∷◌, ◌++◌, ap, append-nil, append_assoc, map, refl, subst, sym, map-append, AllByRecursion, FoldsTo, Poll}
+use Rattle.lite_base.specs.Uses.{Ready}
 use Rattle.lite_base.specs.Answers.{Waiting}
 use Rattle.lite_base.specs.Laws.Answers.{up_to_one, waiting_up_to}
 use Rattle.lite_base.specs.Laws.Calls.{folds_follow}

@@ -1,7 +1,6 @@
 //! Waits on this thread for a future.
-ghost use Rattle.std.specs.Prelude.{◌≡◌, IfOk, IsOk, List, OnErr};
+ghost use Rattle.lite_base.specs.Uses.{◌≡◌, IfOk, IsOk, List, OnErr, Poll};
 ghost use Rattle.lite_base.specs.Answers.{Gives};
-ghost use Rattle.futures.specs.declared.task.Poll.{Poll};
 ghost use Rattle.lite_base.specs.Future.Finishes.{Finishes};
 
 use super::Future;

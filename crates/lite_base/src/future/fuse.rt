@@ -1,5 +1,4 @@
-ghost use Rattle.std.specs.Prelude.{◌≡◌, ◌∷◌, [], IfSome, Some};
-ghost use Rattle.futures.specs.Task.{Keeps};
+ghost use Rattle.lite_base.specs.Uses.{◌≡◌, ◌∷◌, [], IfSome, Some, Keeps};
 ghost use Rattle.lite_base.specs.Future.Fuse.{FutureFuses};
 ghost use Rattle.lite_base.specs.Laws.Future.Fuse.{fuses_laws};
 ghost use Rattle.lite_base.specs.Registered.{Registered};

@@ -1,7 +1,4 @@
-ghost use Rattle.std.specs.Prelude.{◌⊎◌, List, []};
-ghost use Rattle.futures.specs.Poll.{OnPending};
-ghost use Rattle.futures.specs.Task.{Keeps};
-ghost use Rattle.futures.specs.declared.task.Poll.{Poll};
+ghost use Rattle.lite_base.specs.Uses.{◌⊎◌, List, [], OnPending, Keeps, Poll};
 ghost use Rattle.lite_base.specs.Future.Picks.{PickRow};
 ghost use Rattle.lite_base.specs.Registered.{Registered};
 

@@ -1,4 +1,4 @@
-ghost use Rattle.futures.specs.declared.task.Poll.{Poll};
+ghost use Rattle.lite_base.specs.Uses.{Poll, ⊤, ◌≡◌};
 ghost use Rattle.lite_base.specs.Alike.{Alike, OptionBy, Pairwise, Sameness};
 ghost use Rattle.lite_base.specs.Answers.{Waiting};
 ghost use Rattle.lite_base.specs.Future.Calls.{Polled};
@@ -15,7 +15,6 @@ ghost use Rattle.lite_base.specs.Laws.Future.YieldNow.{yields_steady};
 ghost use Rattle.lite_base.specs.Laws.Future.Zip.{zips_steady};
 ghost use Rattle.lite_base.specs.Steady.{FutureSteadyLawsBy};
 ghost use Rattle.lite_base.specs.Runs.{Runs};
-ghost use Rattle.std.specs.Prelude.{⊤, ◌≡◌};
 
 use super::{Fuse, Future, Pending, PollFn, Ready, YieldNow, Zip};
 use crate::{Context, Poll};

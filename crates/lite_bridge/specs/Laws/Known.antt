@@ -1,13 +1,7 @@
 -- The bytes that are to come from a cursor: those from its position on. And those that one keeps that stands at their
 -- end.
-use Rattle.std.proofs.lemmas.List.{drop_all, take_all}
-use Rattle.std.proofs.Common.{◌≡◌, ◌∙◌, ℕ, ◌+◌, ◌-◌, List, [], ◌∷◌, ◌++◌, length}
-use Rattle.std.proofs.Common.{ap, sym, arith, append-nil, length-append}
-use Rattle.std.specs.Prelude.{⊤}
-use Rattle.lite_io_base.specs.Known.{Known}
-use Rattle.lite_io_base.specs.Laws.Known.{told_spends}
-use Rattle.lite_io_base.specs.Stored.{Stored}
-use Rattle.lite_io_base.specs.Takings.{WriteMark, bytes_taken}
+use Rattle.lite_bridge.specs.Uses.{drop_all, take_all, ◌≡◌, ◌∙◌, ℕ, ◌+◌, ◌-◌, List, [], ◌∷◌, ◌++◌, length, ap, sym, arith, append-nil, length-append, ⊤, Known}
+use Rattle.lite_bridge.specs.Uses.{told_spends, Stored, WriteMark, bytes_taken}
 use Rattle.lite_bridge.specs.Cursor.{CursorReads, CursorWrites, bytes_left}
 use Rattle.lite_bridge.specs.Laws.Cursor.{cursor_told}
 use Rattle.lite_bridge.specs.Laws.SteadyWrite.{puts_all}

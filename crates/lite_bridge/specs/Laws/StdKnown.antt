@@ -1,28 +1,9 @@
 -- Laws of reads and writes of std.
-use Rattle.std.proofs.Common.{◌≡◌, ◌<◌, ◌∙◌, ℕ, zero, suc, append-nil, List, [], ◌∷◌, ◌++◌, length, take, ap, arith}
-use Rattle.std.proofs.Common.{refl, subst, sym}
-use Rattle.std.specs.Prelude.{Option, None, Some, Result, Ok, Err, ⊤}
-use Rattle.std.specs.Io.{ReadsAtMost}
-use Rattle.std.specs.Io.KnownBytes.{Keeps, ReadConsumes, WriteAppends}
-use Rattle.std.specs.Io.Seek.{IsSeekTarget, SeekMoves, StaysAt}
-use Rattle.std.specs.declared.io.Error.{Error}
-use Rattle.std.specs.declared.io.traits.SeekFrom.{SeekFrom}
-use Rattle.std.specs.declared.io.traits.SeekFrom.TheVariants.{End}
-use Rattle.futures.specs.declared.task.Poll.{Poll}
-use Rattle.futures.specs.declared.task.Poll.TheVariants.{Pending, Ready}
-use Rattle.lite_io_base.specs.Kinds.{by_kind}
-use Rattle.lite_io_base.specs.Laws.Grows.{growing_laws, grows_all, grows_no_pending}
-use Rattle.lite_io_base.specs.Marks.{ReadMark, bytes, moved, read_marks}
-use Rattle.lite_base.specs.Calm.{CalmRuns}
-use Rattle.lite_io_base.specs.Runs.{MarkLaws}
-use Rattle.lite_io_base.specs.Laws.SteadyWrite.{never_waits_both}
-use Rattle.lite_io_base.specs.Laws.Steady.{no_wait_both, no_wait_moved, told_one_tale}
-use Rattle.lite_io_base.specs.Steady.{CalmReadLaws, NoPendingRead, SteadyReadLaws, strip_marks}
-use Rattle.lite_io_base.specs.SteadyWrite.{CalmWriteLaws, SteadyWriteLaws}
-use Rattle.lite_io_base.specs.Takings.{WriteMark, bytes_taken, done_marks, write_marks}
-use Rattle.lite_io_base.specs.Told.{TellsScript}
-use Rattle.lite_base.specs.Answers.{Comparable}
-use Rattle.lite_base.specs.Runs.{Runs}
+use Rattle.lite_bridge.specs.Uses.{◌≡◌, ◌<◌, ◌∙◌, ℕ, zero, suc, append-nil, List, [], ◌∷◌, ◌++◌, length, take, ap, arith, refl, subst, sym, Option, None, Some}
+use Rattle.lite_bridge.specs.Uses.{Result, Ok, Err, ⊤, ReadsAtMost, Keeps, ReadConsumes, WriteAppends, IsSeekTarget, SeekMoves, StaysAt, Error, SeekFrom, End}
+use Rattle.lite_bridge.specs.Uses.{Poll, Pending, Ready, by_kind, growing_laws, grows_all, grows_no_pending, ReadMark, bytes, moved, read_marks, CalmRuns}
+use Rattle.lite_bridge.specs.Uses.{MarkLaws, never_waits_both, no_wait_both, no_wait_moved, told_one_tale, CalmReadLaws, NoPendingRead, SteadyReadLaws}
+use Rattle.lite_bridge.specs.Uses.{strip_marks, CalmWriteLaws, SteadyWriteLaws, WriteMark, bytes_taken, done_marks, write_marks, TellsScript, Comparable, Runs}
 use Rattle.lite_bridge.specs.Known.{GainsKnown, MovesKnown, NoFault, SameKnown, SpendsBytes, SpendsKnown}
 use Rattle.lite_bridge.specs.Known.{SpendsWell, WhereKnown, known_bytes}
 

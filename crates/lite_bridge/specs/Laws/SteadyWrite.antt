@@ -1,16 +1,11 @@
 -- Cursors over equal bytes, at one place, leave equal bytes, and none is ever pending.
-use Rattle.std.proofs.Common.{◌≡◌, ◌∙◌, ◌+◌, ℕ, List, [], ◌∷◌, length, ap, sym, arith, add-zero, length-append}
-use Rattle.std.proofs.Common.{Global}
-use Rattle.std.specs.Prelude.{⊤}
-use Rattle.lite_io_base.specs.SteadyWrite.{CalmWriteLaws, NoPendingWrite, SteadyWriteLaws}
-use Rattle.lite_io_base.specs.Takings.{WriteMark, bytes_taken}
+use Rattle.lite_bridge.specs.Uses.{◌≡◌, ◌∙◌, ◌+◌, ℕ, List, [], ◌∷◌, length, ap, sym, arith, add-zero, length-append, Global, ⊤, CalmWriteLaws, NoPendingWrite}
+use Rattle.lite_bridge.specs.Uses.{SteadyWriteLaws, WriteMark, bytes_taken, Vec, MutBor}
 use Rattle.lite_bridge.specs.declared.cursor.Cursor.{Cursor}
 use Rattle.lite_bridge.specs.Cursor.{CursorWrites}
 use Rattle.lite_bridge.specs.Laws.Put.{puts_more}
 use Rattle.lite_bridge.specs.Overwrites.{CursorWritesLent}
 use Rattle.lite_bridge.specs.Put.{Puts, PutsVec, PutsVecLent, VecStays, VecStaysLent}
-use Rattle.std.specs.declared.vec.Vec.{Vec}
-use denote.MutBor.{MutBor}
 
 -- equal bytes, at one place
 abbrev pub SamePlace : {T : Type 0} → (T → List ℕ) → Cursor T → Cursor T → Type 0

@@ -1,19 +1,7 @@
 -- Laws of a reader with a budget.
-use Rattle.std.proofs.Common.{◌≡◌, ◌∙◌, ◌+◌, ◌-◌, ℕ, zero, suc, List, [], ◌∷◌, ◌++◌, Option, Some, None, inl, inr}
-use Rattle.std.proofs.Common.{refl, ap, length, take, subst, sym, arith}
-use Rattle.lite_base.specs.Answers.{Comparable}
-use Rattle.lite_base.specs.Laws.Paces.{paces_follow}
-use Rattle.lite_base.specs.Runs.{Runs}
-use Rattle.lite_io_base.specs.Counting.{ReadCounting}
-use Rattle.lite_io_base.specs.Falls.{Falls}
-use Rattle.lite_io_base.specs.Known.{Known, TellsKnown}
-use Rattle.lite_base.specs.Laws.Calm.{calm_part}
-use Rattle.lite_io_base.specs.Laws.SteadyWrite.{steady_write_part}
-use Rattle.lite_io_base.specs.Marks.{AllGiven, ReadMark, bytes}
-use Rattle.lite_io_base.specs.Runs.{MarkLaws, Shows}
-use Rattle.lite_io_base.specs.Steady.{SteadyReadLaws, strip_marks}
-use Rattle.lite_io_base.specs.SteadyWrite.{CalmWriteLaws, SteadyWriteLaws}
-use Rattle.lite_io_base.specs.Takings.{WriteMark}
+use Rattle.lite_buffered.specs.Uses.{◌≡◌, ◌∙◌, ◌+◌, ◌-◌, ℕ, zero, suc, List, [], ◌∷◌, ◌++◌, Option, Some, None, inl, inr, refl, ap, length, take, subst, sym}
+use Rattle.lite_buffered.specs.Uses.{arith, Comparable, paces_follow, Runs, ReadCounting, Falls, Known, TellsKnown, calm_part, steady_write_part, AllGiven}
+use Rattle.lite_buffered.specs.Uses.{ReadMark, bytes, MarkLaws, Shows, SteadyReadLaws, strip_marks, CalmWriteLaws, SteadyWriteLaws, WriteMark}
 use Rattle.lite_buffered.specs.Budgeted.{BudgetsMarks, PacesMarks, WritesWithin, budgeted_lent, budgeted_ranks}
 use Rattle.lite_buffered.specs.Budgeted.{left_behind_mark, left_noted, lent_noted}
 use Rattle.lite_buffered.specs.declared.budgeted.Budgeted.{Budgeted}

@@ -1,14 +1,6 @@
-use Rattle.std.proofs.Common.{◌≡◌, ◌∙◌, ◌<◌, ℕ, zero, suc, ◌+◌, ◌-◌, List, [], ◌∷◌, ◌++◌, length, refl, sym, ap}
-use Rattle.std.proofs.Common.{arith, append_assoc, append-nil, length-append}
-use Rattle.lite_base.specs.Answers.{Comparable}
-use Rattle.lite_base.specs.Ranks.{Ranks}
-use Rattle.lite_base.specs.Runs.{Runs}
-use Rattle.lite_io_base.specs.Counting.{ReadCounting}
-use Rattle.lite_io_base.specs.Takings.{WriteMark}
-use Rattle.lite_io_base.specs.Laws.Falls.{falls_held}
-use Rattle.lite_io_base.specs.Laws.Marks.{bytes_given, given-append, given-bytes, given_all, given_both, given_parts}
-use Rattle.lite_io_base.specs.Marks.{AllGiven, ReadMark, bytes, given}
-use Rattle.lite_io_base.specs.Runs.{MarkLaws, Shows}
+use Rattle.lite_buffered.specs.Uses.{◌≡◌, ◌∙◌, ◌<◌, ℕ, zero, suc, ◌+◌, ◌-◌, List, [], ◌∷◌, ◌++◌, length, refl, sym, ap, arith, append_assoc, append-nil}
+use Rattle.lite_buffered.specs.Uses.{length-append, Comparable, Ranks, Runs, ReadCounting, WriteMark, falls_held, bytes_given, given-append, given-bytes}
+use Rattle.lite_buffered.specs.Uses.{given_all, given_both, given_parts, AllGiven, ReadMark, bytes, given, MarkLaws, Shows}
 use Rattle.lite_buffered.specs.declared.buf_reader.BufReader.{BufReader}
 use Rattle.lite_buffered.specs.BufReader.{Padded, PassesBuffer, Past, ThroughBuffer, ahead, ahead_ranks}
 use Rattle.lite_buffered.specs.BufReader.{reader_capacity}

@@ -1,11 +1,7 @@
 -- Laws of `BufWriter`.
-use Rattle.std.proofs.Common.{◌≡◌, ◌∙◌, ℕ, List, [], ◌∷◌, ◌++◌, inl, inr, refl, sym, ap, append_assoc, append-nil}
-use Rattle.lite_io_base.specs.Laws.Takings.{taken_both}
-use Rattle.lite_io_base.specs.Runs.{MarkLaws}
-use Rattle.lite_io_base.specs.Takings.{WriteMark, bytes_in, bytes_taken}
+use Rattle.lite_buffered.specs.Uses.{◌≡◌, ◌∙◌, ℕ, List, [], ◌∷◌, ◌++◌, inl, inr, refl, sym, ap, append_assoc, append-nil, taken_both, MarkLaws, WriteMark}
+use Rattle.lite_buffered.specs.Uses.{bytes_in, bytes_taken, segments_join, Runs}
 use Rattle.lite_buffered.specs.BufWriter.{Balanced, Buffers, TakesHeld, WriterAnswers, WriterSegment}
-use Rattle.lite_base.specs.Laws.Segments.{segments_join}
-use Rattle.lite_base.specs.Runs.{Runs}
 
 -- what was held is what was taken and what is left
 pub drains_balance : (before rest : List ℕ) (taken : List WriteMark) (n : ℕ) → TakesHeld before taken rest n

@@ -1,16 +1,6 @@
-use Rattle.std.proofs.Common.{◌≡◌, ◌∙◌, ℕ, Bool, true, false, cond, replicate, ◌+◌, List, [], ◌∷◌, ◌++◌, length, refl}
-use Rattle.std.proofs.Common.{ap, append_assoc, add-zero, zero-add, inl, length-append}
-use Rattle.std.specs.Prelude.{⊤}
-use Rattle.std.proofs.lemmas.List.{length-replicate}
-use Rattle.lite_io_base.specs.Falls.{Falls}
-use Rattle.lite_io_base.specs.Laws.Falls.{falls_both, falls_to_zeros}
-use Rattle.lite_base.specs.Answers.{Comparable}
-use Rattle.lite_io_base.specs.Marks.{AllGiven, ReadMark, bytes, given}
-use Rattle.lite_io_base.specs.Laws.Marks.{given-append, given_parts}
-use Rattle.lite_io_base.specs.Counting.{ReadCounting}
-use Rattle.lite_base.specs.Ranks.{Ranks}
-use Rattle.lite_base.specs.Runs.{Runs}
-use Rattle.lite_io_base.specs.Runs.{MarkLaws, Shows}
+use Rattle.lite_buffered.specs.Uses.{◌≡◌, ◌∙◌, ℕ, Bool, true, false, cond, replicate, ◌+◌, List, [], ◌∷◌, ◌++◌, length, refl, ap, append_assoc, add-zero}
+use Rattle.lite_buffered.specs.Uses.{zero-add, inl, length-append, ⊤, length-replicate, Falls, falls_both, falls_to_zeros, Comparable, AllGiven, ReadMark}
+use Rattle.lite_buffered.specs.Uses.{bytes, given, given-append, given_parts, ReadCounting, Ranks, Runs, MarkLaws, Shows}
 use Rattle.lite_buffered.specs.declared.chain.Chain.{Chain}
 use Rattle.lite_buffered.specs.Chain.{ChainsReaders, EndlessMarks, JoinsReaders}
 use Rattle.lite_buffered.specs.Chaining.{chain_read_ranks}

@@ -1,12 +1,8 @@
-use Rattle.std.proofs.Common.{[], ◌∷◌, refl, append-nil}
-use Rattle.lite_io_base.specs.Marks.{ReadMark, bytes}
-use Rattle.lite_io_base.specs.Parts.{Part}
-use Rattle.lite_io_base.specs.Takings.{WriteMark}
+use Rattle.lite_buffered.specs.Uses.{[], ◌∷◌, refl, append-nil, ReadMark, bytes, Part, WriteMark, Runs}
 use Rattle.lite_buffered.specs.declared.buf_reader.BufReader.{BufReader}
 use Rattle.lite_buffered.specs.BufReader.{ahead}
 use Rattle.lite_buffered.specs.InOrder.{KeepsOrder}
 use Rattle.lite_buffered.specs.Laws.BufReader.{ahead_none, passes_both, passes_of}
-use Rattle.lite_base.specs.Runs.{Runs}
 
 module _ {R : Type 0} (reads : Runs ReadMark R) (writes : Runs WriteMark R) where
   pub in_order : (x : BufReader R) → KeepsOrder reads writes x

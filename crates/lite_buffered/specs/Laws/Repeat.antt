@@ -1,6 +1,4 @@
-use Rattle.std.proofs.Common.{List, [], ◌∷◌, ◌++◌, refl}
-use Rattle.lite_io_base.specs.Marks.{ReadMark}
-use Rattle.lite_io_base.specs.Runs.{MarkLaws}
+use Rattle.lite_buffered.specs.Uses.{List, [], ◌∷◌, ◌++◌, refl, ReadMark, MarkLaws}
 use Rattle.lite_buffered.specs.declared.repeat.Repeat.{Repeat}
 use Rattle.lite_buffered.specs.Repeat.{RepeatsByte}
 

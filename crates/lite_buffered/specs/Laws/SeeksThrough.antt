@@ -1,7 +1,4 @@
-use Rattle.std.specs.declared.io.traits.SeekFrom.{SeekFrom}
-use Rattle.std.specs.declared.io.traits.SeekFrom.TheVariants.{Current}
-use Rattle.std.proofs.Common.{inl, inr}
-use Rattle.lite_io_base.specs.SeekKeeps.{SeekKeeps}
+use Rattle.lite_buffered.specs.Uses.{SeekFrom, Current, inl, inr, SeekKeeps}
 use Rattle.lite_buffered.specs.declared.buf_reader.BufReader.{BufReader}
 use Rattle.lite_buffered.specs.BufReader.{reader_inner}
 use Rattle.lite_buffered.specs.SeeksThrough.{SeekAnswer, SeeksOnce, SeeksThrough, SeeksTwice}

@@ -1,12 +1,8 @@
 -- A buffered writer leaves what its inner writer leaves.
-use Rattle.std.proofs.Common.{◌≡◌, ◌∙◌, ℕ, List, [], ◌∷◌, ◌++◌, inl, inr, refl, sym, ap, subst, append_assoc}
-use Rattle.std.proofs.Common.{append-nil}
-use Rattle.lite_io_base.specs.Laws.SteadyWrite.{never_waits_parts}
-use Rattle.lite_io_base.specs.SteadyWrite.{CalmWriteLaws, EndsFlushed, NoError, NoPendingWrite, SteadyWriteLaws}
-use Rattle.lite_io_base.specs.Takings.{WriteMark, bytes_taken}
+use Rattle.lite_buffered.specs.Uses.{◌≡◌, ◌∙◌, ℕ, List, [], ◌∷◌, ◌++◌, inl, inr, refl, sym, ap, subst, append_assoc, append-nil, never_waits_parts}
+use Rattle.lite_buffered.specs.Uses.{CalmWriteLaws, EndsFlushed, NoError, NoPendingWrite, SteadyWriteLaws, WriteMark, bytes_taken, Runs}
 use Rattle.lite_buffered.specs.declared.buf_writer.BufWriter.{BufWriter}
 use Rattle.lite_buffered.specs.BufWriter.{Buffers, TakesHeld, WriterAnswers, WriterSegment, WriterSegments, unwritten}
-use Rattle.lite_base.specs.Runs.{Runs}
 
 no_error_both : (l m : List WriteMark) → NoError l → NoError m → NoError (l ++ m)
 no_error_both [] m a b = b

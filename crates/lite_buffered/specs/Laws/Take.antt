@@ -1,13 +1,6 @@
-use Rattle.std.proofs.Common.{◌≡◌, ◌∙◌, ℕ, zero, suc, List, [], ◌∷◌, ◌++◌, take, refl, sym, ap, subst, arith}
-use Rattle.std.proofs.Common.{append_assoc, append-nil}
-use Rattle.lite_base.specs.Answers.{Comparable}
-use Rattle.lite_base.specs.Ranks.{Ranks, ranks_of}
-use Rattle.lite_base.specs.Runs.{Runs}
-use Rattle.lite_io_base.specs.Counting.{ReadCounting}
-use Rattle.lite_io_base.specs.Laws.Marks.{given-append, given_parts}
-use Rattle.lite_io_base.specs.Laws.Steady.{comparable_none}
-use Rattle.lite_io_base.specs.Marks.{AllGiven, ReadMark, bytes, given}
-use Rattle.lite_io_base.specs.Runs.{MarkLaws, Shows}
+use Rattle.lite_buffered.specs.Uses.{◌≡◌, ◌∙◌, ℕ, zero, suc, List, [], ◌∷◌, ◌++◌, take, refl, sym, ap, subst, arith, append_assoc, append-nil, Comparable}
+use Rattle.lite_buffered.specs.Uses.{Ranks, ranks_of, Runs, ReadCounting, given-append, given_parts, comparable_none, AllGiven, ReadMark, bytes, given}
+use Rattle.lite_buffered.specs.Uses.{MarkLaws, Shows}
 use Rattle.lite_buffered.specs.declared.take.Take.{Take}
 use Rattle.lite_buffered.specs.Take.{LimitEnds, TakesMarks, WithinLimit}
 

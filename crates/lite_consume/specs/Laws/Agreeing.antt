@@ -1,14 +1,7 @@
 -- Laws of what is made of a stream's items: it does not depend on when the stream was pending.
-use Rattle.std.proofs.Common.{◌≡◌, ◌⊎◌, List, [], ◌∷◌, Option, Some, None, inl, inr, refl, subst}
-use Rattle.std.specs.Prelude.{⊤}
-use Rattle.futures.specs.declared.task.Poll.{Poll}
-use Rattle.futures.specs.declared.task.Poll.TheVariants.{Ready}
-use Rattle.lite_base.specs.Alike.{SameAnswer, SameItem, Sameness}
-use Rattle.lite_base.specs.Answers.{Answer, ComparableBy, Gives, strip}
-use Rattle.lite_base.specs.Future.Finishes.{Finishes}
-use Rattle.lite_base.specs.Laws.Alike.{both_items, comparable_nil, gives_strip, item_same}
-use Rattle.lite_base.specs.Steady.{FutureSteadyLawsBy, SteadyLawsBy, TakesNone}
-use Rattle.lite_base.specs.Runs.{Runs}
+use Rattle.lite_consume.specs.Uses.{◌≡◌, ◌⊎◌, List, [], ◌∷◌, Option, Some, None, inl, inr, refl, subst, ⊤, Poll, Ready, SameAnswer, SameItem, Sameness, Answer}
+use Rattle.lite_consume.specs.Uses.{ComparableBy, Gives, strip, Finishes, both_items, comparable_nil, gives_strip, item_same, FutureSteadyLawsBy, SteadyLawsBy}
+use Rattle.lite_consume.specs.Uses.{TakesNone, Runs}
 use Rattle.lite_consume.specs.Agreeing.{FoldSteadyLaws, Within, WithinWhere}
 use Rattle.lite_consume.specs.Consume.{Folds}
 use Rattle.lite_consume.specs.Consuming.{Consumes, Decides, Fold, fold_of}

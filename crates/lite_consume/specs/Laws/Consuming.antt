@@ -1,16 +1,7 @@
 -- Laws of what is made of a stream's items.
-use Rattle.std.proofs.Common.{◌≡◌, Option, Some, None, List, [], ◌∷◌, ◌++◌, refl}
-use Rattle.std.specs.List.{AllByRecursion}
-use Rattle.futures.specs.declared.task.Poll.{Poll}
-use Rattle.futures.specs.declared.task.Poll.TheVariants.{Ready, Pending}
-use Rattle.lite_base.specs.Answers.{Answer, Gives, UpToValue, item}
-use Rattle.lite_base.specs.Calm.{CalmLaws, NoPending}
-use Rattle.lite_base.specs.FutureLaws.{FutureLaws}
-use Rattle.lite_base.specs.Laws.Answers.{up_to_once}
-use Rattle.lite_base.specs.Laws.Segments.{answers_by, answers_given, answers_taken, to_value_join}
-use Rattle.lite_base.specs.StreamLaws.{RunLaws}
-use Rattle.lite_base.specs.Runs.{Runs}
-use Rattle.lite_base.specs.Segments.{OneAnswer, Segment}
+use Rattle.lite_consume.specs.Uses.{◌≡◌, Option, Some, None, List, [], ◌∷◌, ◌++◌, refl, AllByRecursion, Poll, Ready, Pending, Answer, Gives, UpToValue, item}
+use Rattle.lite_consume.specs.Uses.{CalmLaws, NoPending, FutureLaws, up_to_once, answers_by, answers_given, answers_taken, to_value_join, RunLaws, Runs}
+use Rattle.lite_consume.specs.Uses.{OneAnswer, Segment}
 use Rattle.lite_consume.specs.Agreeing.{WithinWhere}
 use Rattle.lite_consume.specs.Consume.{Folds}
 use Rattle.lite_consume.specs.Consuming.{Consumes, Decides, Fold, TakesIn, fold_of}

@@ -1,15 +1,6 @@
 -- That a poll which takes in items returns.
-use Rattle.std.proofs.Common.{◌≡◌, ℕ, ◌+◌, ◌<◌, [], arith}
-use Rattle.std.specs.Prelude.{⊤, Result, Ok, Err}
-use denote.MutBor.{MutBor}
-use Rattle.lite_base.specs.Answers.{Answer}
-use Rattle.lite_base.specs.Laws.Ends.{Terminates-count, Terminates-map}
-use Rattle.lite_base.specs.Lent.{Lent}
-use Rattle.lite_base.specs.OkRanks.{OkCounting, OkRun}
-use Rattle.lite_base.specs.Laws.OkRanks.{ok_counting_ends}
-use Rattle.lite_base.specs.Ranks.{Counting, Ranks}
-use Rattle.lite_base.specs.Laws.Ranks.{counting_ends}
-use Rattle.lite_base.specs.Runs.{Runs}
+use Rattle.lite_consume.specs.Uses.{◌≡◌, ℕ, ◌+◌, ◌<◌, [], arith, ⊤, Result, Ok, Err, MutBor, Answer, Terminates-count, Terminates-map, Lent, OkCounting, OkRun}
+use Rattle.lite_consume.specs.Uses.{ok_counting_ends, Counting, Ranks, counting_ends, Runs}
 use Rattle.lite_consume.specs.Consuming.{Fold, TakesIn, fold_of}
 use Rattle.lite_consume.specs.PollSteps.{Returns, TakesItem}
 

@@ -1,14 +1,7 @@
 -- Collections gather the same of items that are the same, where memory was found.
-use Rattle.std.specs.Prelude.{Result, Ok, Err, Bool, true, false, map, IfSome, IsSome}
-use Rattle.std.proofs.Common.{◌≡◌, List, [], ◌∷◌, ◌++◌, Option, Some, None, subst, sym}
-use Rattle.std.proofs.lemmas.List.{map-append}
-use Rattle.std.proofs.lemmas.List.Elements.{AllZip-push}
-use Rattle.lite_base.specs.Alike.{OptionBy, SameErr, SameItem, SameOk, Sameness}
-use Rattle.lite_base.specs.Calling.{AgreeFrom}
-use Rattle.lite_base.specs.Laws.Alike.{option_by}
-use Rattle.lite_base.specs.Runs.{Question}
-use Rattle.lite_consume.specs.Agreeing.{FoldSteadyLaws}
-use Rattle.lite_consume.specs.Laws.Matching.{SameAsked, matched}
+use Rattle.lite_gather.specs.Uses.{Result, Ok, Err, Bool, true, false, map, IfSome, IsSome, ◌≡◌, List, [], ◌∷◌, ◌++◌, Option, Some, None, subst, sym}
+use Rattle.lite_gather.specs.Uses.{map-append, AllZip-push, OptionBy, SameErr, SameItem, SameOk, Sameness, AgreeFrom, option_by, Question, FoldSteadyLaws}
+use Rattle.lite_gather.specs.Uses.{SameAsked, matched}
 use Rattle.lite_gather.specs.Agreeing.{HoldsParts, HoldsSame, HoldsSameBoth, HoldsSameParts, SameCollected}
 use Rattle.lite_gather.specs.Agreeing.{TrySameCollected, Unmixed}
 use Rattle.lite_gather.specs.Collect.{collects}

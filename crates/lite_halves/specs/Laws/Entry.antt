@@ -1,14 +1,6 @@
 -- Laws of entries and their marks.
-use Rattle.std.proofs.Common.{◌≡◌, ℕ, List, [], ◌∷◌, ◌++◌, length, take, refl, arith, length-take-le, ap}
-use Rattle.std.specs.Prelude.{Result, Ok, Err}
-use Rattle.std.proofs.lemmas.List.{map-append}
-use Rattle.std.specs.declared.io.Error.{Error}
-use Rattle.futures.specs.declared.task.Poll.{Poll}
-use Rattle.futures.specs.declared.task.Poll.TheVariants.{Ready, Pending}
-use Rattle.lite_io_base.specs.Parts.{Part}
-use Rattle.lite_io_base.specs.Marks.{moved, read_marks}
-use Rattle.lite_io_base.specs.Takings.{WriteMark, done_marks, write_marks}
-use Rattle.lite_io_base.specs.Laws.Runs.{CountsWithin}
+use Rattle.lite_halves.specs.Uses.{◌≡◌, ℕ, List, [], ◌∷◌, ◌++◌, length, take, refl, arith, length-take-le, ap, Result, Ok, Err, map-append, Error, Poll, Ready}
+use Rattle.lite_halves.specs.Uses.{Pending, Part, moved, read_marks, WriteMark, done_marks, write_marks, CountsWithin}
 use Rattle.lite_halves.specs.Entry.{AllFit, FitsCall, FitsDone, Note, done_marks_of, met, part_of, parts_in, read_note}
 use Rattle.lite_halves.specs.Entry.{told_of_done, write_note}
 

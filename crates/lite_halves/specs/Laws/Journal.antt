@@ -1,25 +1,13 @@
 -- Laws of journals.
-use Rattle.std.proofs.Common.{◌≡◌, ◌∙◌, ◌≤◌, ℕ, length, Result, List, [], ◌∷◌, ◌++◌, Option, Some, None, map, refl, sym}
-use Rattle.std.proofs.Common.{ap, append_assoc, append-nil, arith, inl, inr, length-append}
-use Rattle.std.proofs.lemmas.List.{map-append}
-use Rattle.std.proofs.lemmas.List.Concat.{flat_map-append}
-use Rattle.std.specs.declared.io.Error.{Error}
-use Rattle.std.specs.declared.io.slices.IoSliceMut.{IoSliceMut}
-use Rattle.futures.specs.declared.task.Poll.{Poll}
-use Rattle.std.specs.declared.io.ErrorKind.{ErrorKind}
-use Rattle.std.specs.declared.io.ErrorKind.TheVariants.{OutOfMemory}
-use Rattle.lite_io_base.specs.Parts.{Part, PartRuns, PartsInOrder}
-use Rattle.lite_io_base.specs.Laws.Steps.{steps_follow}
-use Rattle.lite_io_base.specs.Marks.{ReadMark, read_marks}
-use Rattle.lite_io_base.specs.Runs.{MarkLaws, StandsFirst, room_in}
-use Rattle.lite_io_base.specs.Steps.{Steps}
-use Rattle.lite_io_base.specs.Takings.{WriteMark, done_marks, write_marks}
+use Rattle.lite_halves.specs.Uses.{◌≡◌, ◌∙◌, ◌≤◌, ℕ, length, Result, List, [], ◌∷◌, ◌++◌, Option, Some, None, map, refl, sym, ap, append_assoc, append-nil}
+use Rattle.lite_halves.specs.Uses.{arith, inl, inr, length-append, map-append, flat_map-append, Error, IoSliceMut, Poll, ErrorKind, OutOfMemory, Part, PartRuns}
+use Rattle.lite_halves.specs.Uses.{PartsInOrder, steps_follow, ReadMark, read_marks, MarkLaws, StandsFirst, room_in, Steps, WriteMark, done_marks, write_marks}
+use Rattle.lite_halves.specs.Uses.{Runs}
 use Rattle.lite_halves.specs.Entry.{Note, close_note, flush_note, part_of, parts_in, read_note, write_note}
 use Rattle.lite_halves.specs.Journal.{Adds, AddsAll, AddsOrStays, AddsRead, AddsWrite, Chronicle, ClonesEqual, IsSound}
 use Rattle.lite_halves.specs.Journal.{JournalReads, JournalWrites, Journals, Replays, Stage, Story, Thins}
 use Rattle.lite_halves.specs.Journal.{parts_among}
 use Rattle.lite_halves.specs.Laws.Entry.{done_note_part, fit_both, parts_in-both, read_note_part, write_note_part}
-use Rattle.lite_base.specs.Runs.{Runs}
 
 -- refusals of two runs in order
 pub thins_both : {A : Type 0} (refusal : A) (xs ks ys ls : List A) → Thins refusal xs ks → Thins refusal ys ls

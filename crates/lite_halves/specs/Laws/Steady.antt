@@ -1,19 +1,10 @@
 -- A journal is as steady and as calm a reader, and a writer, as its stream.
-use Rattle.std.proofs.Common.{◌≡◌, ◌∙◌, ℕ, List, [], ◌∷◌, ap, map, inl, inr, subst}
-use Rattle.std.specs.declared.io.ErrorKind.{ErrorKind}
-use Rattle.std.specs.declared.io.ErrorKind.TheVariants.{Interrupted, OutOfMemory}
-use Rattle.lite_io_base.specs.Laws.Steady.{no_wait_both, no_wait_parts}
-use Rattle.lite_io_base.specs.Laws.SteadyWrite.{never_waits_both, never_waits_parts}
-use Rattle.lite_io_base.specs.Marks.{ReadMark}
-use Rattle.lite_io_base.specs.Parts.{Part, PartsInOrder}
-use Rattle.lite_io_base.specs.Runs.{MarkLaws}
-use Rattle.lite_io_base.specs.Steady.{CalmReadLaws, NoPendingRead, SteadyReadLaws}
-use Rattle.lite_io_base.specs.SteadyWrite.{CalmWriteLaws, NoError, NoPendingWrite, SteadyWriteLaws}
-use Rattle.lite_io_base.specs.Takings.{WriteMark}
+use Rattle.lite_halves.specs.Uses.{◌≡◌, ◌∙◌, ℕ, List, [], ◌∷◌, ap, map, inl, inr, subst, ErrorKind, Interrupted, OutOfMemory, no_wait_both, no_wait_parts}
+use Rattle.lite_halves.specs.Uses.{never_waits_both, never_waits_parts, ReadMark, Part, PartsInOrder, MarkLaws, CalmReadLaws, NoPendingRead, SteadyReadLaws}
+use Rattle.lite_halves.specs.Uses.{CalmWriteLaws, NoError, NoPendingWrite, SteadyWriteLaws, WriteMark, Runs}
 use Rattle.lite_halves.specs.Journal.{Chronicle, JournalReads, JournalWrites, Thins, all_in_order}
 use Rattle.lite_halves.specs.Laws.Journal.{journals_laws}
 use Rattle.lite_halves.specs.Steady.{ReadsAmply}
-use Rattle.lite_base.specs.Runs.{Runs}
 
 -- a refusal is no pending
 thins_no_wait : (kind : ErrorKind) (ms ks : List ReadMark) → Thins (ReadMark.fault kind) ms ks → NoPendingRead ks

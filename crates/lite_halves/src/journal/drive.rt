@@ -1,6 +1,5 @@
 //! A list of calls, made one after the other.
-ghost use Rattle.std.specs.Prelude.{◌≡◌, ◌≤◌, ◌-◌, ◌⊎◌, vec_capacity, vec_len, OnErr};
-ghost use Rattle.futures.specs.Task.{Keeps};
+ghost use Rattle.lite_halves.specs.Uses.{◌≡◌, ◌≤◌, ◌-◌, ◌⊎◌, vec_capacity, vec_len, OnErr, Keeps};
 ghost use Rattle.lite_halves.specs.Drive.{AddsOrNone, AsksAt, Drives};
 ghost use Rattle.lite_halves.specs.Entry.{Request, asked_in, asked_of, told_in};
 

@@ -1,19 +1,11 @@
 //! The journal as a reader and a writer.
-ghost use Rattle.std.specs.Prelude.{◌≡◌, ◌≤◌, ◌<◌, ◌+◌, ◌^◌, ◌++◌, ◌∷◌, [], length, vec_capacity, IfNone, IfOk, IfSome};
-ghost use Rattle.std.specs.Io.Slices.{io_slices_bytes};
-ghost use Rattle.std.specs.declared.io.ErrorKind.TheVariants.{OutOfMemory};
-ghost use Rattle.futures.specs.Poll.{IfReady};
-ghost use Rattle.futures.specs.Task.{Keeps};
-ghost use Rattle.lite_io_base.specs.Marks.{ReadMark, read_marks};
-ghost use Rattle.lite_io_base.specs.Parts.{Part};
-ghost use Rattle.lite_io_base.specs.Runs.{ReadsInto, room_in};
-ghost use Rattle.lite_io_base.specs.Takings.{WriteMark, done_marks, write_marks};
-ghost use Rattle.lite_io_base.specs.Takings.WriteMark.{closed, flushed};
+ghost use Rattle.lite_halves.specs.Uses.{◌≡◌, ◌≤◌, ◌<◌, ◌+◌, ◌^◌, ◌++◌, ◌∷◌, [], length, vec_capacity, IfNone, IfOk, IfSome, io_slices_bytes, OutOfMemory};
+ghost use Rattle.lite_halves.specs.Uses.{IfReady, Keeps, ReadMark, read_marks, Part, ReadsInto, room_in, WriteMark, done_marks, write_marks, closed, flushed};
+ghost use Rattle.lite_halves.specs.Uses.{Registered};
 ghost use Rattle.lite_halves.specs.Entry.{Request, close_note, flush_note, read_note, write_note};
 ghost use Rattle.lite_halves.specs.Journal.{Adds, AddsOrStays, AddsRead, AddsWrite, AsksMemory, JournalReads};
-ghost use Rattle.lite_halves.specs.Journal.{JournalWrites, MakesRoom};
+ghost use Rattle.lite_halves.specs.Journal.{JournalWrites, MakesEntryRoom};
 ghost use Rattle.lite_halves.specs.Laws.Journal.{journals_laws};
-ghost use Rattle.lite_base.specs.Registered.{Registered};
 
 use super::Journal;
 use crate::answers::{done_answer, or_refused, read_answer, write_answer};
@@ -39,7 +31,7 @@ impl<T: Tale + Takings + Clone> Journal<T> {
     // Makes room for an entry, and for so many bytes of it.
     #[inline(always)]
     fn make_room(&mut self, bytes: usize) -> Option<Vec<u8>>
-        ensures made { MakesRoom self.old bytes result self.new }
+        ensures made { MakesEntryRoom self.old bytes result self.new }
         ensures fits { length self.new.notes < 2 ^ 64 }
     {
         let held = Vec::with_capacity(self.alloc, bytes).ok()?;

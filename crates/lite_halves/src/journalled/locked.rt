@@ -1,11 +1,8 @@
 //! What stands under the lock of two journalled halves.
-ghost use Rattle.std.specs.Prelude.{◌≡◌, ◌≤◌, [], length, IfOk, IfSome};
-ghost use Rattle.futures.specs.Poll.{IfReady};
-ghost use Rattle.futures.specs.Task.{Keeps};
+ghost use Rattle.lite_halves.specs.Uses.{◌≡◌, ◌≤◌, [], length, IfOk, IfSome, IfReady, Keeps, count_of};
 ghost use Rattle.lite_halves.specs.Counts.{AddsInside, CountsCall, booked_in, counted_in, nothing_counted};
 ghost use Rattle.lite_halves.specs.Counts.{numbers_of};
 ghost use Rattle.lite_halves.specs.declared.journalled.tally.Side.TheVariants.{Reading, Writing};
-ghost use Rattle.lite_io_base.specs.Marks.{count_of};
 ghost use Rattle.lite_halves.specs.Entry.{close_note, flush_note, read_note, write_note};
 
 use super::books::{Blanks, Books, Got, Reads, Taken, Writes};

@@ -1,16 +1,10 @@
 //! The journalled half that reads.
-ghost use Rattle.std.specs.Prelude.{◌≡◌, ◌≤◌, ◌+◌, ◌%◌, ◌^◌, ◌⊎◌, ◌++◌, ◌∷◌, [], length, map, IfOk};
-ghost use Rattle.futures.specs.Poll.{IfReady};
-ghost use Rattle.futures.specs.Task.{Keeps};
-ghost use Rattle.std.specs.declared.io.ErrorKind.TheVariants.{OutOfMemory};
-ghost use Rattle.lite_io_base.specs.Marks.{ReadMark, count_of, read_marks};
-ghost use Rattle.lite_io_base.specs.Parts.{Part};
-ghost use Rattle.lite_io_base.specs.Runs.{ReadsInto, room_in};
+ghost use Rattle.lite_halves.specs.Uses.{◌≡◌, ◌≤◌, ◌+◌, ◌%◌, ◌^◌, ◌⊎◌, ◌++◌, ◌∷◌, [], length, map, IfOk, IfReady, Keeps, OutOfMemory, ReadMark, count_of};
+ghost use Rattle.lite_halves.specs.Uses.{read_marks, Part, ReadsInto, room_in, Registered};
 ghost use Rattle.lite_halves.specs.Counts.{CountsOrNone, HalfDrives, IsOutOfMemory, MakesOrStays, MakesRead};
 ghost use Rattle.lite_halves.specs.Counts.{ReadCounts, read_bytes_of};
 ghost use Rattle.lite_halves.specs.Entry.{Request, read_note, told_in};
 ghost use Rattle.lite_halves.specs.Laws.Counts.{counts_laws};
-ghost use Rattle.lite_base.specs.Registered.{Registered};
 
 use super::books::{Books, Got, Reads};
 use super::locked::Locked;

@@ -1,18 +1,10 @@
 //! The journalled half that writes.
-ghost use Rattle.std.specs.Prelude.{◌≡◌, ◌≤◌, ◌+◌, ◌%◌, ◌^◌, ◌⊎◌, ◌++◌, ◌∷◌, [], length, IfOk};
-ghost use Rattle.std.specs.Io.Slices.{io_slices_bytes};
-ghost use Rattle.futures.specs.Poll.{IfReady};
-ghost use Rattle.futures.specs.Task.{Keeps};
-ghost use Rattle.lite_io_base.specs.Marks.{count_of};
-ghost use Rattle.std.specs.declared.io.ErrorKind.TheVariants.{OutOfMemory};
-ghost use Rattle.lite_io_base.specs.Parts.{Part};
-ghost use Rattle.lite_io_base.specs.Takings.{WriteMark, done_marks, write_marks};
-ghost use Rattle.lite_io_base.specs.Takings.WriteMark.{closed, flushed};
+ghost use Rattle.lite_halves.specs.Uses.{◌≡◌, ◌≤◌, ◌+◌, ◌%◌, ◌^◌, ◌⊎◌, ◌++◌, ◌∷◌, [], length, IfOk, io_slices_bytes, IfReady, Keeps, count_of, OutOfMemory};
+ghost use Rattle.lite_halves.specs.Uses.{Part, WriteMark, done_marks, write_marks, closed, flushed, Registered};
 ghost use Rattle.lite_halves.specs.Counts.{AllWrites, CountsOrNone, HalfDrives, IsOutOfMemory, IsWrite, MakesOrStays};
 ghost use Rattle.lite_halves.specs.Counts.{MakesWrite, WriteCounts, taken_bytes_of};
 ghost use Rattle.lite_halves.specs.Entry.{asked_in, asked_of, close_note, flush_note, told_in, write_note};
 ghost use Rattle.lite_halves.specs.Laws.Counts.{counts_laws};
-ghost use Rattle.lite_base.specs.Registered.{Registered};
 
 use super::books::{Books, Taken, Writes};
 use super::locked::Locked;

@@ -1,12 +1,8 @@
 -- Laws of the bytes that are to come.
-use Rattle.std.proofs.Common.{◌≡◌, ◌∙◌, ℕ, List, [], ◌∷◌, ◌++◌, ap, refl, sym}
-use Rattle.std.specs.Prelude.{⊤}
-use denote.MutBor.{MutBor}
-use Rattle.lite_base.specs.Lent.{Lent}
+use Rattle.lite_io_base.specs.Uses.{◌≡◌, ◌∙◌, ℕ, List, [], ◌∷◌, ◌++◌, ap, refl, sym, ⊤, MutBor, Lent, Runs}
 use Rattle.lite_io_base.specs.Known.{Known, TellsKnown, Knows}
 use Rattle.lite_io_base.specs.Marks.{ReadMark, bytes}
 use Rattle.lite_io_base.specs.Told.{TellsScript}
-use Rattle.lite_base.specs.Runs.{Runs}
 
 -- from what is known of x, what it tells spends
 pub knows_spends : {S : Type 0} (reads : Runs ReadMark S) (known : Known S) (x y : S) (l : List ReadMark)

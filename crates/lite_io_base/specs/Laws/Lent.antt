@@ -1,13 +1,9 @@
 -- What is behind a reference.
-use Rattle.std.proofs.Common.{List, refl}
-use Rattle.lite_base.specs.Lent.{Lent}
+use Rattle.lite_io_base.specs.Uses.{List, refl, Lent, Ranks, ranks_of, Runs, MutBor}
 pub use Rattle.lite_base.specs.Laws.Lent.{lent_still}
-use Rattle.lite_base.specs.Ranks.{Ranks, ranks_of}
-use Rattle.lite_base.specs.Runs.{Runs}
 use Rattle.lite_io_base.specs.Counting.{ReadCounting}
 use Rattle.lite_io_base.specs.Marks.{ReadMark}
 use Rattle.lite_io_base.specs.Runs.{MarkLaws}
-use denote.MutBor.{MutBor}
 
 pub lent_laws : {A S : Type 0} {run : Runs A S} → MarkLaws run → MarkLaws (Lent run)
 lent_laws laws = record {

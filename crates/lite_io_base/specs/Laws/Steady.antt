@@ -1,15 +1,9 @@
 -- Laws of tales without their pendings.
-use Rattle.std.specs.Prelude.{⊤, List, [], ◌∷◌}
-use Rattle.std.proofs.Common.{◌≡◌, ℕ, ◌++◌, ap, refl, sym}
-use Rattle.lite_base.specs.Answers.{Comparable}
+use Rattle.lite_io_base.specs.Uses.{⊤, List, [], ◌∷◌, ◌≡◌, ℕ, ◌++◌, ap, refl, sym, Comparable, MutBor, Lent, lent_takes_none, Runs}
 use Rattle.lite_io_base.specs.Marks.{ReadMark, bytes, moved}
 use Rattle.lite_io_base.specs.Steady.{CalmReadLaws, NoPendingRead, SteadyReadLaws, strip_marks, OneTale}
 use Rattle.lite_io_base.specs.Laws.Told.{told_laws}
 use Rattle.lite_io_base.specs.Told.{TellsScript}
-use denote.MutBor.{MutBor}
-use Rattle.lite_base.specs.Lent.{Lent}
-use Rattle.lite_base.specs.Laws.Steady.{lent_takes_none}
-use Rattle.lite_base.specs.Runs.{Runs}
 use Rattle.lite_io_base.specs.Laws.Lent.{lent_laws}
 use Rattle.lite_io_base.specs.Runs.{MarkLaws}
 

@@ -1,8 +1,5 @@
 -- Writers that leave the same bytes however often they were pending, and marks without a pending.
-use Rattle.std.specs.Prelude.{ℕ, List, [], ◌∷◌, ◌++◌}
-use denote.MutBor.{MutBor}
-use Rattle.lite_base.specs.Lent.{Lent}
-use Rattle.lite_base.specs.Runs.{Runs}
+use Rattle.lite_io_base.specs.Uses.{ℕ, List, [], ◌∷◌, ◌++◌, MutBor, Lent, Runs}
 use Rattle.lite_io_base.specs.Takings.{WriteMark}
 use Rattle.lite_io_base.specs.SteadyWrite.{NoPendingWrite, SteadyWriteLaws}
 

@@ -1,13 +1,9 @@
 -- What a vector keeps, and what is behind a reference.
-use Rattle.std.proofs.Common.{◌≡◌, ℕ, List, ◌++◌}
-use Rattle.std.specs.Prelude.{⊤}
-use denote.MutBor.{MutBor}
-use Rattle.lite_base.specs.Lent.{Lent}
+use Rattle.lite_io_base.specs.Uses.{◌≡◌, ℕ, List, ◌++◌, ⊤, MutBor, Lent, Runs}
 use Rattle.lite_io_base.specs.Grows.{Grows, IsRefusal}
 use Rattle.lite_io_base.specs.Laws.Grows.{grows_all}
 use Rattle.lite_io_base.specs.Stored.{Stored, Stores}
 use Rattle.lite_io_base.specs.Takings.{WriteMark, bytes_taken}
-use Rattle.lite_base.specs.Runs.{Runs}
 
 pub stores_kept : {S : Type 0} (writes : Runs WriteMark S) (stored : Stored S) (x y : S) (l : List WriteMark)
     → Stores writes stored x → writes x l y

@@ -1,18 +1,8 @@
 -- Laws of a stream with a budget.
-use Rattle.std.proofs.Common.{◌∷◌, inl, refl, arith}
-use Rattle.std.specs.Prelude.{⊤}
-use Rattle.futures.specs.declared.task.Poll.TheVariants.{Pending}
-use Rattle.lite_base.specs.Alike.{Sameness}
-use Rattle.lite_base.specs.Answers.{Answer}
-use Rattle.lite_base.specs.Laws.Paces.{paced_bounded, paced_items, paced_lowers, paced_strip, paces_follow}
-use Rattle.lite_base.specs.Paces.{Paces, left_behind}
-use Rattle.lite_base.specs.Ranks.{Counting}
-use Rattle.lite_base.specs.Runs.{Runs}
-use Rattle.lite_base.specs.Steady.{SteadyLawsBy}
+use Rattle.lite_merge.specs.Uses.{◌∷◌, inl, refl, arith, ⊤, Pending, Sameness, Answer, paced_bounded, paced_items, paced_lowers, paced_strip, paces_follow}
+use Rattle.lite_merge.specs.Uses.{Paces, left_behind, Counting, Runs, SteadyLawsBy, through_alike, Relating, through_runs}
 use Rattle.lite_merge.specs.Budgeted.{Budgets, budget_parts, budget_ranks}
 use Rattle.lite_merge.specs.declared.budgeted.Budgeted.{Budgeted}
-use Rattle.lite_stream.specs.Laws.Agreeing.{through_alike}
-use Rattle.lite_stream.specs.Laws.Through.{Relating, through_runs}
 
 pub paces_relating : {A : Type 0} → Relating (Paces {X = Answer A} Pending left_behind)
 paces_relating =

@@ -1,16 +1,8 @@
 -- Laws of `cycle`.
-use Rattle.std.specs.Prelude.{IfSome, Result, Ok, Err}
-use Rattle.std.proofs.Common.{◌≡◌, ◌∙◌, List, [], ◌∷◌, ◌++◌, Option, Some, None, refl, append_assoc}
-use Rattle.futures.specs.declared.task.Poll.TheVariants.{Ready, Pending}
-use Rattle.lite_base.specs.Answers.{Answer, Endless, end}
-use Rattle.lite_base.specs.Calm.{CalmLaws, NoPending}
-use Rattle.lite_base.specs.Laws.Calm.{calm_both, no_pending_front, no_pending_join}
-use Rattle.lite_base.specs.Laws.Hint.{same_hint}
-use Rattle.lite_base.specs.OkRanks.{all_ok}
-use Rattle.lite_base.specs.StreamLaws.{StreamLaws}
+use Rattle.lite_merge.specs.Uses.{IfSome, Result, Ok, Err, ◌≡◌, ◌∙◌, List, [], ◌∷◌, ◌++◌, Option, Some, None, refl, append_assoc, Ready, Pending, Answer}
+use Rattle.lite_merge.specs.Uses.{Endless, end, CalmLaws, NoPending, calm_both, no_pending_front, no_pending_join, same_hint, all_ok, StreamLaws, endless_join}
+use Rattle.lite_merge.specs.Uses.{Hints, NoHint, Runs}
 use Rattle.lite_merge.specs.Cycle.{AllCopies, Cycles, Lap, LapOver, Laps, Renews}
-use Rattle.lite_base.specs.Laws.Endless.{endless_join}
-use Rattle.lite_base.specs.Runs.{Hints, NoHint, Runs}
 
 module _ {A : Type 0} (E : Type 0) where
   all_ok_join : (i j : List (Answer A)) → all_ok {E = E} (i ++ j) ≡ all_ok i ++ all_ok j

@@ -1,12 +1,7 @@
 -- Laws of `drain`.
-use Rattle.std.proofs.Common.{◌≡◌, ℕ, ◌≤◌, List, [], ◌∷◌, ◌++◌, Some, None, refl, arith}
-use Rattle.futures.specs.declared.task.Poll.TheVariants.{Ready, Pending}
-use Rattle.lite_base.specs.Answers.{Answer, before_end, items}
-use Rattle.lite_base.specs.Calm.{CalmLaws, NoPending}
-use Rattle.lite_base.specs.Rank.{Lowers}
-use Rattle.lite_base.specs.Runs.{Runs}
+use Rattle.lite_merge.specs.Uses.{◌≡◌, ℕ, ◌≤◌, List, [], ◌∷◌, ◌++◌, Some, None, refl, arith, Ready, Pending, Answer, before_end, items, CalmLaws, NoPending}
+use Rattle.lite_merge.specs.Uses.{Lowers, Runs, Relating}
 use Rattle.lite_merge.specs.Drain.{Drained, Drains, with_ends}
-use Rattle.lite_stream.specs.Laws.Through.{Relating}
 
 module _ {A : Type 0} where
   drained_join : (i j : List (Answer A)) → with_ends (i ++ j) ≡ with_ends i ++ with_ends j

@@ -1,10 +1,6 @@
 -- Laws of answers that are all ends.
-use Rattle.std.proofs.Common.{◌≡◌, ◌≤◌, ℕ, List, [], ◌∷◌, ◌++◌, Some, None, arith}
-use Rattle.futures.specs.declared.task.Poll.TheVariants.{Ready, Pending}
-use Rattle.lite_base.specs.Answers.{Answer, before_end, end, items}
-use Rattle.lite_base.specs.Calm.{waits}
-use Rattle.lite_base.specs.Rank.{AtMost, Lowers}
-use Rattle.lite_stream.specs.Fuse.{AllEnds}
+use Rattle.lite_merge.specs.Uses.{◌≡◌, ◌≤◌, ℕ, List, [], ◌∷◌, ◌++◌, Some, None, arith, Ready, Pending, Answer, before_end, end, items, waits, AtMost, Lowers}
+use Rattle.lite_merge.specs.Uses.{AllEnds}
 
 module _ {A : Type 0} where
   pub ends_before : (l : List (Answer A)) → AllEnds l → before_end l ≤ 0

@@ -1,22 +1,9 @@
 -- Laws of two streams of which each row asks one first.
-use Rattle.std.proofs.Common.{◌≡◌, ◌∙◌, ℕ, ◌+◌, List, [], ◌∷◌, ◌++◌, length, map, Bool, true, Some, None, inl}
-use Rattle.std.proofs.Common.{refl, ap, sym, arith, length-append}
-use Rattle.futures.specs.declared.task.Poll.TheVariants.{Ready, Pending}
-use Rattle.lite_base.specs.Answers.{Answer, item, items}
-use Rattle.lite_base.specs.Calm.{CalmLaws, NoPending}
-use Rattle.lite_base.specs.Laws.Falling.{AtMost-both, AtMost-length, Below-after, Below-first, Lowers-at_most}
-use Rattle.lite_base.specs.Laws.Calm.{no_pending_join}
-use Rattle.lite_base.specs.Laws.Rows.{rows_by, rows_follow}
-use Rattle.lite_base.specs.Rank.{AtMost, Below, Lowers}
-use Rattle.lite_base.specs.Ranks.{Counting, Ranks}
-use Rattle.lite_base.specs.StreamLaws.{StreamLaws}
-use Rattle.lite_base.specs.Runs.{Hints, NoHint, Runs}
+use Rattle.lite_merge.specs.Uses.{◌≡◌, ◌∙◌, ℕ, ◌+◌, List, [], ◌∷◌, ◌++◌, length, map, Bool, true, Some, None, inl, refl, ap, sym, arith, length-append, Ready}
+use Rattle.lite_merge.specs.Uses.{Pending, Answer, item, items, CalmLaws, NoPending, AtMost-both, AtMost-length, Below-after, Below-first, Lowers-at_most}
+use Rattle.lite_merge.specs.Uses.{no_pending_join, rows_by, rows_follow, AtMost, Below, Lowers, Counting, Ranks, StreamLaws, Hints, NoHint, Runs, Fuses}
+use Rattle.lite_merge.specs.Uses.{fuse_parts, through_calm, fuses_calming, fuses_relating, laws_unhinted, through_counting, Fuse}
 use Rattle.lite_merge.specs.Merge.{MergeRow, MergeRows, Merges, beside_pending}
-use Rattle.lite_stream.specs.Fuse.{Fuses, fuse_parts}
-use Rattle.lite_stream.specs.Laws.Calming.{through_calm}
-use Rattle.lite_stream.specs.Laws.Fuse.{fuses_calming, fuses_relating}
-use Rattle.lite_stream.specs.Laws.Through.{laws_unhinted, through_counting}
-use Rattle.lite_stream.specs.declared.fuse.Fuse.{Fuse}
 
 module _ {A : Type 0} where
   row_more : (i j : List (Answer A)) (c : Answer A) (i' j' k h : List (Answer A)) → MergeRow i j c i' j'

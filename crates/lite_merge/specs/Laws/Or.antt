@@ -1,14 +1,6 @@
 -- Laws of `or`.
-use Rattle.std.proofs.Common.{[], None, refl}
-use Rattle.std.proofs.lemmas.List.{map-append}
-use Rattle.lite_base.specs.Answers.{Answer}
-use Rattle.lite_base.specs.Calm.{CalmLaws}
-use Rattle.lite_base.specs.Laws.Calm.{calm_both}
-use Rattle.lite_base.specs.Laws.Hint.{same_hint}
-use Rattle.lite_base.specs.Laws.Rows.{rows_empty}
-use Rattle.lite_base.specs.Ranks.{Counting, Ranks}
-use Rattle.lite_base.specs.StreamLaws.{StreamLaws}
-use Rattle.lite_base.specs.Runs.{Hints, NoHint, Runs}
+use Rattle.lite_merge.specs.Uses.{[], None, refl, map-append, Answer, CalmLaws, calm_both, same_hint, rows_empty, Counting, Ranks, StreamLaws, Hints, NoHint}
+use Rattle.lite_merge.specs.Uses.{Runs}
 use Rattle.lite_merge.specs.Laws.Merge.{first_falls, fused_laws, merges_calm, merges_follow, merges_keep, merges_lower}
 use Rattle.lite_merge.specs.Laws.Merge.{merges_sized}
 use Rattle.lite_merge.specs.Merge.{MergeRow}

@@ -1,16 +1,6 @@
 -- Laws of `race`.
-use Rattle.std.proofs.Common.{◌≡◌, List, [], ◌∷◌, ◌++◌, None, refl, inl, append-nil}
-use Rattle.std.proofs.lemmas.List.{map-append}
-use Rattle.rand_core.specs.Stream.{Stream, next_u32}
-use Rattle.lite_base.specs.Answers.{Answer, items}
-use Rattle.lite_base.specs.Calm.{CalmLaws, NoPending}
-use Rattle.lite_base.specs.Laws.Calls.{folds_follow}
-use Rattle.lite_base.specs.Laws.Calm.{calm_both}
-use Rattle.lite_base.specs.Laws.Hint.{same_hint}
-use Rattle.lite_base.specs.Rank.{Lowers}
-use Rattle.lite_base.specs.Ranks.{Counting, Ranks}
-use Rattle.lite_base.specs.StreamLaws.{StreamLaws}
-use Rattle.lite_base.specs.Runs.{Hints, NoHint, Runs}
+use Rattle.lite_merge.specs.Uses.{◌≡◌, List, [], ◌∷◌, ◌++◌, None, refl, inl, append-nil, map-append, Stream, next_u32, Answer, items, CalmLaws, NoPending}
+use Rattle.lite_merge.specs.Uses.{folds_follow, calm_both, same_hint, Lowers, Counting, Ranks, StreamLaws, Hints, NoHint, Runs}
 use Rattle.lite_merge.specs.Laws.Merge.{merges_calm, merges_follow, merges_keep, merges_lower, merges_sized}
 use Rattle.lite_merge.specs.Race.{RacesOn, race_ranks}
 use Rattle.lite_merge.specs.declared.race.Race.{Race}

@@ -1,12 +1,6 @@
 -- Two streams whose items are paired, by what each of them answers.
-use Rattle.std.proofs.Common.{◌≡◌, ℕ, zero, suc, List, [], ◌∷◌, Option, Some, None, refl}
-use Rattle.futures.specs.declared.task.Poll.{Poll}
-use Rattle.lite_base.specs.Alike.{Pairwise, SameAnswer, SameHeld, SameItem, Sameness}
-use Rattle.lite_base.specs.Answers.{Answer, ComparableBy, strip}
-use Rattle.lite_base.specs.Laws.Alike.{both_items, comparable_nil, ends_same, held_same, item_same, pairs_same}
-use Rattle.lite_base.specs.Laws.Alike.{same_answer}
-use Rattle.lite_base.specs.Steady.{SteadyLawsBy}
-use Rattle.lite_base.specs.Runs.{Runs}
+use Rattle.lite_merge.specs.Uses.{◌≡◌, ℕ, zero, suc, List, [], ◌∷◌, Option, Some, None, refl, Poll, Pairwise, SameAnswer, SameHeld, SameItem, Sameness, Answer}
+use Rattle.lite_merge.specs.Uses.{ComparableBy, strip, both_items, comparable_nil, ends_same, held_same, item_same, pairs_same, same_answer, SteadyLawsBy, Runs}
 use Rattle.lite_merge.specs.Laws.Zip.{pairing_by, zip_runs}
 use Rattle.lite_merge.specs.Zip.{Pairing, Zips, pair_with, pendings}
 use Rattle.lite_merge.specs.declared.zip.Zip.{Zip}

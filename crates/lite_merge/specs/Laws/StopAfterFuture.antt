@@ -1,28 +1,14 @@
 -- Laws of `stop_after_future`.
-use Rattle.std.specs.Prelude.{IfSome}
-use Rattle.std.proofs.Common.{◌≡◌, ◌∙◌, ℕ, ◌≤◌, List, [], ◌∷◌, ◌++◌, length, length-append, Option, Some, None, refl}
-use Rattle.std.proofs.Common.{ap, sym, arith, append_assoc}
+use Rattle.lite_merge.specs.Uses.{IfSome, ◌≡◌, ◌∙◌, ℕ, ◌≤◌, List, [], ◌∷◌, ◌++◌, length, length-append, Option, Some, None, refl, ap, sym, arith, append_assoc}
+use Rattle.lite_merge.specs.Uses.{Poll, Pending, Answer, before_end, end, items, FutureLaws, all_append, waiting_waiting, finishes_later, same_hint, StreamLaws}
+use Rattle.lite_merge.specs.Uses.{endless_join, Hints, Runs, AllEnds, Calming, Relating, laws_capped}
 use Rattle.std.proofs.lemmas.List.{append-nil}
-use Rattle.futures.specs.declared.task.Poll.{Poll}
-use Rattle.futures.specs.declared.task.Poll.TheVariants.{Pending}
-use Rattle.lite_base.specs.Answers.{Answer, before_end, end, items}
-use Rattle.lite_base.specs.FutureLaws.{FutureLaws}
-use Rattle.lite_base.specs.Laws.All.{all_append}
-use Rattle.lite_base.specs.Laws.Answers.{waiting_waiting}
-use Rattle.lite_base.specs.Laws.Future.Finishes.{finishes_later}
-use Rattle.lite_base.specs.Laws.Hint.{same_hint}
-use Rattle.lite_base.specs.StreamLaws.{StreamLaws}
-use Rattle.lite_base.specs.Laws.Endless.{endless_join}
-use Rattle.lite_base.specs.Runs.{Hints, Runs}
 use Rattle.lite_merge.specs.Laws.Ends.{ends_before, ends_bounded, ends_calm, ends_lower, no_end_among}
 use Rattle.lite_merge.specs.StopAfterFuture.{PendingBeside, Stops, StopsBy, ThenEnds}
 use Rattle.lite_merge.specs.Stopping.{HintsBy, StopHints, stop_parts}
 use Rattle.lite_merge.specs.declared.stop_after_future.StopAfterFuture.{StopAfterFuture}
 use Rattle.lite_merge.specs.declared.stop_after_future.Stopping.TheVariants.{Holding, TakenOut, Stopped}
 use Rattle.lite_merge.specs.declared.stop_after_future.Stopping.{Stopping}
-use Rattle.lite_stream.specs.Fuse.{AllEnds}
-use Rattle.lite_stream.specs.Laws.Calming.{Calming}
-use Rattle.lite_stream.specs.Laws.Through.{Relating, laws_capped}
 
 -- one poll, in which the future was pending
 pub beside_one : {F A R : Type 0} (run : Runs (Poll R) F) (f g : F) (a : Answer A) → run f (Pending ∷ []) g

@@ -1,22 +1,9 @@
 -- Laws of two streams whose items are paired.
-use Rattle.std.proofs.Common.{◌≡◌, ◌∙◌, ℕ, zero, suc, ◌+◌, ◌≤◌, List, [], ◌∷◌, ◌++◌, Option, Some, None, inl, inr, refl}
-use Rattle.std.proofs.Common.{ap, arith}
-use Rattle.std.specs.List.{AllByRecursion}
-use Rattle.futures.specs.declared.task.Poll.{Poll}
-use Rattle.futures.specs.declared.task.Poll.TheVariants.{Ready, Pending}
-use Rattle.lite_base.specs.Answers.{Answer, end, item, items}
-use Rattle.lite_base.specs.Calm.{CalmLaws, waits}
-use Rattle.lite_base.specs.Laws.Falling.{Lowers-at_most, Lowers-below}
-use Rattle.lite_base.specs.Laws.Hint.{same_hint}
-use Rattle.lite_base.specs.Laws.Items.{IsItem, items_each}
-use Rattle.lite_base.specs.Rank.{AtMost, Lowers}
-use Rattle.lite_base.specs.Ranks.{Counting, Ranks, count_held, held_rank}
-use Rattle.lite_base.specs.StreamLaws.{RunLaws, StreamLaws}
-use Rattle.lite_base.specs.Laws.StreamLaws.{laws_of, runs_of}
-use Rattle.lite_base.specs.Runs.{Hints, NoHint, Runs}
+use Rattle.lite_merge.specs.Uses.{◌≡◌, ◌∙◌, ℕ, zero, suc, ◌+◌, ◌≤◌, List, [], ◌∷◌, ◌++◌, Option, Some, None, inl, inr, refl, ap, arith, AllByRecursion, Poll}
+use Rattle.lite_merge.specs.Uses.{Ready, Pending, Answer, end, item, items, CalmLaws, waits, Lowers-at_most, Lowers-below, same_hint, IsItem, items_each}
+use Rattle.lite_merge.specs.Uses.{AtMost, Lowers, Counting, Ranks, count_held, held_rank, RunLaws, StreamLaws, laws_of, runs_of, Hints, NoHint, Runs, calm_two}
+use Rattle.lite_merge.specs.Uses.{held_falls, held_first, held_less, held_level, held_sized}
 use Rattle.lite_merge.specs.Zip.{Pairing, Pairs, WithHeld, Zips, pair_with, pendings, zip_ranks}
-use Rattle.lite_stream.specs.Laws.Calming.{calm_two}
-use Rattle.lite_stream.specs.Laws.Held.{held_falls, held_first, held_less, held_level, held_sized}
 
 module _ {C : Type 0} where
   pendings_join : (n : ℕ) (l m : List (Poll C)) → pendings n l ++ m ≡ pendings n (l ++ m)

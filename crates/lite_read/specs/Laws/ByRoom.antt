@@ -1,15 +1,6 @@
 -- Laws of futures whose memory is refused only where there was no room.
-use Rattle.std.proofs.Common.{List, [], ◌∷◌, ◌++◌, refl}
-use Rattle.futures.specs.declared.task.Poll.{Poll}
-use Rattle.futures.specs.declared.task.Poll.TheVariants.{Ready, Pending}
-use Rattle.lite_base.specs.Answers.{Waiting}
-use Rattle.lite_base.specs.Calm.{CalmLaws}
-use Rattle.lite_base.specs.FutureLaws.{FutureLaws}
-use Rattle.lite_base.specs.Laws.Answers.{up_to_once}
-use Rattle.lite_base.specs.Runs.{Runs}
-use Rattle.lite_io_base.specs.Marks.{ReadMark}
-use Rattle.lite_io_base.specs.Runs.{MarkLaws}
-use Rattle.lite_io_base.specs.Steady.{CalmReadLaws}
+use Rattle.lite_read.specs.Uses.{List, [], ◌∷◌, ◌++◌, refl, Poll, Ready, Pending, Waiting, CalmLaws, FutureLaws, up_to_once, Runs, ReadMark, MarkLaws}
+use Rattle.lite_read.specs.Uses.{CalmReadLaws}
 use Rattle.lite_read.specs.Laws.Deterministic.{segmented_calm}
 use Rattle.lite_read.specs.Laws.Gathers.{KeepLaws, gathers_laws}
 use Rattle.lite_read.specs.Laws.Refusals.{Waits, Weaker, gathers_waiting, gathers_weaker}

@@ -1,23 +1,7 @@
 -- Laws of `bytes`.
-use Rattle.std.proofs.Common.{◌≡◌, ℕ, suc, ◌+◌, List, [], ◌∷◌, ◌++◌, length, Some, None, Result, refl, ap, subst}
-use Rattle.std.proofs.Common.{add-one}
-use Rattle.std.specs.declared.io.Error.{Error}
-use Rattle.futures.specs.declared.task.Poll.TheVariants.{Ready, Pending}
-use Rattle.lite_base.specs.Answers.{Answer, items}
-use Rattle.lite_base.specs.Laws.Falling.{Lowers-below}
-use Rattle.lite_base.specs.Laws.Hint.{same_hint}
-use Rattle.lite_base.specs.Rank.{Below, Lowers}
-use Rattle.lite_base.specs.Ranks.{Counting, Ranks, ranks_of}
-use Rattle.lite_base.specs.StreamLaws.{StreamLaws}
-use Rattle.lite_base.specs.Laws.StreamLaws.{laws_of}
-use Rattle.lite_base.specs.Runs.{NoHint, Runs}
-use Rattle.lite_io_base.specs.Counting.{ReadCounting}
-use Rattle.lite_io_base.specs.Falls.{Falls}
-use Rattle.lite_base.specs.Laws.Calm.{calm_part}
-use Rattle.lite_io_base.specs.Laws.Lent.{counting_part}
-use Rattle.lite_io_base.specs.Marks.{AllGiven, ReadMark, given}
-use Rattle.lite_io_base.specs.Runs.{MarkLaws}
-use Rattle.lite_io_base.specs.Steady.{CalmReadLaws, SteadyReadLaws}
+use Rattle.lite_read.specs.Uses.{◌≡◌, ℕ, suc, ◌+◌, List, [], ◌∷◌, ◌++◌, length, Some, None, Result, refl, ap, subst, add-one, Error, Ready, Pending, Answer}
+use Rattle.lite_read.specs.Uses.{items, Lowers-below, same_hint, Below, Lowers, Counting, Ranks, ranks_of, StreamLaws, laws_of, NoHint, Runs, ReadCounting}
+use Rattle.lite_read.specs.Uses.{Falls, calm_part, counting_part, AllGiven, ReadMark, given, MarkLaws, CalmReadLaws, SteadyReadLaws}
 use Rattle.lite_read.specs.Bytes.{TellsBytes, TellsEach}
 use Rattle.lite_read.specs.Laws.PollSteps.{idle_join}
 use Rattle.lite_read.specs.declared.bytes.Bytes.{Bytes}

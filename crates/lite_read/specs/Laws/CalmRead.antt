@@ -1,13 +1,6 @@
 -- One read and one fill are calm over a calm reader.
-use Rattle.std.proofs.Common.{ℕ, List, Result, subst, sym}
-use Rattle.std.specs.Prelude.{IfSome, Option, Ok, Err}
-use Rattle.std.specs.Borrow.{Bor, MutBor}
-use Rattle.std.specs.declared.io.Error.{Error}
-use Rattle.futures.specs.declared.task.Poll.TheVariants.{Ready, Pending}
-use Rattle.lite_base.specs.Calm.{CalmLaws}
-use Rattle.lite_base.specs.Runs.{Runs}
-use Rattle.lite_io_base.specs.Marks.{ReadMark, fill_marks}
-use Rattle.lite_io_base.specs.Steady.{CalmReadLaws}
+use Rattle.lite_read.specs.Uses.{ℕ, List, Result, subst, sym, IfSome, Option, Ok, Err, Bor, MutBor, Error, Ready, Pending, CalmLaws, Runs, ReadMark, fill_marks}
+use Rattle.lite_read.specs.Uses.{CalmReadLaws}
 use Rattle.lite_read.specs.FillBuf.{FillsOnce, held_after}
 use Rattle.lite_read.specs.Laws.Polled.{calls_calm, polled_calm}
 use Rattle.lite_read.specs.Polled.{PolledByCalls}

@@ -1,20 +1,7 @@
 -- What streams of pieces do to a rank.
-use Rattle.std.proofs.Common.{◌≡◌, ◌∙◌, ◌<◌, ◌+◌, ℕ, zero, suc, List, [], ◌∷◌, ◌++◌, length, Some, None, Result, Ok, ap}
-use Rattle.std.proofs.Common.{sym, arith, length-append}
-use Rattle.std.specs.List.{FoldsTo}
-use Rattle.std.specs.declared.io.Error.{Error}
-use Rattle.futures.specs.declared.task.Poll.TheVariants.{Ready, Pending}
-use Rattle.lite_base.specs.Answers.{Answer, items}
-use Rattle.lite_base.specs.OkRanks.{OkCounting, all_ok}
-use Rattle.lite_base.specs.Rank.{Below, Lowers}
-use Rattle.lite_base.specs.Ranks.{Ranks}
-use Rattle.lite_base.specs.Runs.{Runs}
-use Rattle.lite_io_base.specs.Counting.{ReadCounting}
-use Rattle.lite_io_base.specs.Falls.{Falls}
-use Rattle.lite_io_base.specs.Laws.Falls.{falls_held}
-use Rattle.lite_io_base.specs.Laws.Marks.{given-append, given-bytes}
-use Rattle.lite_io_base.specs.Marks.{ReadMark, bytes, given}
-use Rattle.lite_io_base.specs.Runs.{MarkLaws}
+use Rattle.lite_read.specs.Uses.{◌≡◌, ◌∙◌, ◌<◌, ◌+◌, ℕ, zero, suc, List, [], ◌∷◌, ◌++◌, length, Some, None, Result, Ok, ap, sym, arith, length-append, FoldsTo}
+use Rattle.lite_read.specs.Uses.{Error, Ready, Pending, Answer, items, OkCounting, all_ok, Below, Lowers, Ranks, Runs, ReadCounting, Falls, falls_held}
+use Rattle.lite_read.specs.Uses.{given-append, given-bytes, ReadMark, bytes, given, MarkLaws}
 use Rattle.lite_read.specs.Pieces.{Cut, CutsPiece, Itemised, pieces}
 use Rattle.lite_read.specs.Laws.Segments.{flow_keeps}
 use Rattle.lite_read.specs.ReadFold.{AnswerMarks}

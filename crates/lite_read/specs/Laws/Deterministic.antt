@@ -1,20 +1,9 @@
 -- What is gathered of one tale is the same wherever its pendings stand.
-use Rattle.std.proofs.Common.{◌≡◌, ℕ, List, [], ◌∷◌, ◌++◌, refl, subst, append_assoc}
-use Rattle.std.proofs.lemmas.List.{map-append}
-use Rattle.std.specs.List.{FoldsTo}
-use Rattle.futures.specs.declared.task.Poll.{Poll}
-use Rattle.futures.specs.declared.task.Poll.TheVariants.{Ready, Pending}
-use Rattle.lite_base.specs.Answers.{Comparable, ComparableBy, strip}
-use Rattle.lite_base.specs.Calm.{NoPending}
-use Rattle.lite_base.specs.Runs.{Runs}
-use Rattle.lite_base.specs.Segments.{Segments}
-use Rattle.lite_io_base.specs.Laws.Steady.{comparable_fronts, comparable_rest, comparable_swapped, no_wait_parts}
-use Rattle.lite_io_base.specs.Laws.Steady.{strip_marks-append, strip_marks-bytes, stripped_no_pending}
-use Rattle.lite_io_base.specs.Marks.{ReadMark, bytes}
-use Rattle.lite_io_base.specs.Steady.{CalmReadLaws, NoPendingRead, SteadyReadLaws, strip_marks}
+use Rattle.lite_read.specs.Uses.{◌≡◌, ℕ, List, [], ◌∷◌, ◌++◌, refl, subst, append_assoc, map-append, FoldsTo, Poll, Ready, Pending, Comparable, ComparableBy}
+use Rattle.lite_read.specs.Uses.{strip, NoPending, Runs, Segments, comparable_fronts, comparable_rest, comparable_swapped, no_wait_parts, strip_marks-append}
+use Rattle.lite_read.specs.Uses.{strip_marks-bytes, stripped_no_pending, ReadMark, bytes, CalmReadLaws, NoPendingRead, SteadyReadLaws, strip_marks}
+use Rattle.lite_read.specs.Uses.{folds_follow, segment_front}
 use Rattle.lite_read.specs.ReadFold.{AnswerMarks, ReadFold, Segmented}
-use Rattle.lite_base.specs.Laws.Calls.{folds_follow}
-use Rattle.lite_base.specs.Laws.Segments.{segment_front}
 use Rattle.lite_read.specs.Deterministic.{IsDeterministic, TaleValues}
 
 -- some bytes, and then a pending

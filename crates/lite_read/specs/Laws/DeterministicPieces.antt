@@ -1,17 +1,6 @@
 -- What is cut out of one tale is the same wherever its pendings stand.
-use Rattle.std.specs.Prelude.{⊤}
-use Rattle.std.proofs.Common.{◌≡◌, ◌<◌, ◌∙◌, ℕ, List, [], ◌∷◌, Option, Some, None, Result, inl, inr, length, refl}
-use Rattle.std.proofs.Common.{ap, sym, arith}
-use Rattle.std.specs.IoError.{error_kind}
-use Rattle.std.specs.declared.io.Error.{Error}
-use Rattle.std.specs.declared.io.ErrorKind.{ErrorKind}
-use Rattle.lite_base.specs.Alike.{OptionBy, Sameness}
-use Rattle.lite_base.specs.Calm.{CalmLaws}
-use Rattle.lite_base.specs.Steady.{SteadyLawsBy}
-use Rattle.lite_base.specs.Laws.StreamLaws.{runs_of}
-use Rattle.lite_base.specs.Runs.{Runs}
-use Rattle.lite_io_base.specs.Marks.{ReadMark}
-use Rattle.lite_io_base.specs.Steady.{CalmReadLaws, SteadyReadLaws}
+use Rattle.lite_read.specs.Uses.{⊤, ◌≡◌, ◌<◌, ◌∙◌, ℕ, List, [], ◌∷◌, Option, Some, None, Result, inl, inr, length, refl, ap, sym, arith, error_kind, Error}
+use Rattle.lite_read.specs.Uses.{ErrorKind, OptionBy, Sameness, CalmLaws, SteadyLawsBy, runs_of, Runs, ReadMark, CalmReadLaws, SteadyReadLaws}
 use Rattle.lite_read.specs.ReadFold.{ReadFold}
 use Rattle.lite_read.specs.Laws.Deterministic.{GivenBy, TakenAt, deterministic_by, segmented_alike, segmented_calm}
 use Rattle.lite_read.specs.Deterministic.{IsDeterministic, SameOr}

@@ -1,8 +1,5 @@
 -- What is read of one tale for a text is the same wherever its pendings stand.
-use Rattle.std.proofs.Common.{inl, inr, ◌≡◌, ◌∙◌, ℕ, List, Result, Ok, Err, sym, ap}
-use Rattle.std.specs.declared.io.Error.{Error}
-use Rattle.lite_base.specs.Answers.{Comparable}
-use Rattle.lite_io_base.specs.Marks.{ReadMark}
+use Rattle.lite_read.specs.Uses.{inl, inr, ◌≡◌, ◌∙◌, ℕ, List, Result, Ok, Err, sym, ap, Error, Comparable, ReadMark}
 use Rattle.lite_read.specs.ReadFold.{ReadFold}
 use Rattle.lite_read.specs.Deterministic.{IsDeterministic, SameByKind}
 use Rattle.lite_read.specs.Texts.{AppendsText, Reading, ValueOf, in_text}

@@ -1,14 +1,6 @@
 -- Laws of futures over a reader.
-use Rattle.std.proofs.Common.{◌≡◌, List, [], ◌∷◌, refl}
-use Rattle.futures.specs.declared.task.Poll.{Poll}
-use Rattle.lite_base.specs.Answers.{ComparableBy, strip}
-use Rattle.lite_base.specs.Calm.{CalmLaws}
-use Rattle.lite_base.specs.FutureLaws.{FutureLaws}
-use Rattle.lite_base.specs.Laws.Answers.{up_to_once, waiting_up_to}
-use Rattle.lite_base.specs.Runs.{Runs}
-use Rattle.lite_io_base.specs.Marks.{ReadMark}
-use Rattle.lite_io_base.specs.Runs.{MarkLaws}
-use Rattle.lite_io_base.specs.Steady.{CalmReadLaws, SteadyReadLaws}
+use Rattle.lite_read.specs.Uses.{◌≡◌, List, [], ◌∷◌, refl, Poll, ComparableBy, strip, CalmLaws, FutureLaws, up_to_once, waiting_up_to, Runs, ReadMark, MarkLaws}
+use Rattle.lite_read.specs.Uses.{CalmReadLaws, SteadyReadLaws}
 use Rattle.lite_read.specs.Deterministic.{IsDeterministic}
 use Rattle.lite_read.specs.Laws.Deterministic.{segmented_alike, segmented_calm}
 use Rattle.lite_read.specs.Laws.PollSteps.{idle_join}

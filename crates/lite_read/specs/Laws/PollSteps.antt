@@ -1,14 +1,6 @@
 -- Laws of steps, and of what stays through polls.
-use Rattle.std.proofs.Common.{◌≡◌, ◌∙◌, ◌<◌, ℕ, List, [], ◌∷◌, ◌++◌, length, refl, arith}
-use Rattle.futures.specs.Poll.{OnPending}
-use Rattle.futures.specs.declared.task.Poll.{Poll}
-use Rattle.futures.specs.declared.task.Poll.TheVariants.{Ready, Pending}
-use Rattle.lite_base.specs.Chain.{Reaches}
-use Rattle.lite_base.specs.Laws.Chain.{Reaches-back}
-use Rattle.lite_base.specs.Runs.{Runs}
-use Rattle.lite_io_base.specs.Laws.Falls.{GivenRun}
-use Rattle.lite_io_base.specs.Laws.Marks.{bytes_given}
-use Rattle.lite_io_base.specs.Marks.{ReadMark, bytes}
+use Rattle.lite_read.specs.Uses.{◌≡◌, ◌∙◌, ◌<◌, ℕ, List, [], ◌∷◌, ◌++◌, length, refl, arith, OnPending, Poll, Ready, Pending, Reaches, Reaches-back, Runs}
+use Rattle.lite_read.specs.Uses.{GivenRun, bytes_given, ReadMark, bytes}
 use Rattle.lite_read.specs.ReadFold.{ReadFold}
 use Rattle.lite_read.specs.PollSteps.{TakesBytes}
 

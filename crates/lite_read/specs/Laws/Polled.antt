@@ -1,12 +1,6 @@
 -- Laws of futures each poll of which is one call.
-use Rattle.std.proofs.Common.{◌≤◌, List, [], ◌∷◌, ◌++◌, length, refl, arith}
-use Rattle.futures.specs.declared.task.Poll.{Poll}
-use Rattle.futures.specs.declared.task.Poll.TheVariants.{Ready, Pending}
-use Rattle.lite_base.specs.Answers.{Waiting, strip}
-use Rattle.lite_base.specs.Calm.{CalmLaws, NoPending}
-use Rattle.lite_base.specs.FutureLaws.{FutureLaws}
-use Rattle.lite_base.specs.Runs.{Runs}
-use Rattle.lite_base.specs.Calm.{CalmRuns}
+use Rattle.lite_read.specs.Uses.{◌≤◌, List, [], ◌∷◌, ◌++◌, length, refl, arith, Poll, Ready, Pending, Waiting, strip, CalmLaws, NoPending, FutureLaws, Runs}
+use Rattle.lite_read.specs.Uses.{CalmRuns}
 use Rattle.lite_read.specs.Polled.{PolledByCalls}
 
 module _ {F A : Type 0} (call : F → Poll A → F → Type 0) where

@@ -1,17 +1,8 @@
 -- Laws of `read_exact`.
-use Rattle.std.proofs.Common.{◌≡◌, ◌∙◌, ◌<◌, ◌-◌, ℕ, List, [], ◌∷◌, length, Result, refl, ap, arith}
-use Rattle.std.proofs.Common.{◌++◌, append-nil, append_assoc, length-append}
-use Rattle.std.proofs.lemmas.List.{length-take}
-use Rattle.std.specs.List.{FoldsTo}
-use Rattle.std.specs.declared.io.Error.{Error}
-use Rattle.futures.specs.declared.task.Poll.{Poll}
-use Rattle.lite_base.specs.FutureLaws.{FutureLaws}
-use Rattle.lite_base.specs.Runs.{Runs}
-use Rattle.lite_io_base.specs.Marks.{ReadMark}
-use Rattle.lite_io_base.specs.Runs.{MarkLaws}
+use Rattle.lite_read.specs.Uses.{◌≡◌, ◌∙◌, ◌<◌, ◌-◌, ℕ, List, [], ◌∷◌, length, Result, refl, ap, arith, ◌++◌, append-nil, append_assoc, length-append}
+use Rattle.lite_read.specs.Uses.{length-take, FoldsTo, Error, Poll, FutureLaws, Runs, ReadMark, MarkLaws, lent_still}
 use Rattle.lite_read.specs.Laws.Gathers.{KeepLaws, gathers_before, gathers_laws}
 use Rattle.lite_read.specs.Filling.{ExactStays, Filling, filling_of}
-use Rattle.lite_io_base.specs.Laws.Lent.{lent_still}
 use Rattle.lite_read.specs.ReadExact.{ReadsExactly, fills}
 use Rattle.lite_read.specs.PollSteps.{ReadsMore}
 use Rattle.lite_read.specs.declared.read_exact.ReadExactFuture.{ReadExactFuture}

@@ -1,10 +1,5 @@
 -- Laws of what is made of the marks of a reader.
-use Rattle.std.proofs.Common.{ℕ, List, ◌∷◌, ◌++◌}
-use Rattle.std.specs.List.{FoldsTo}
-use Rattle.futures.specs.declared.task.Poll.{Poll}
-use Rattle.lite_base.specs.Laws.Segments.{segment_before, segments_before}
-use Rattle.lite_base.specs.Segments.{Segments}
-use Rattle.lite_io_base.specs.Marks.{ReadMark, bytes}
+use Rattle.lite_read.specs.Uses.{ℕ, List, ◌∷◌, ◌++◌, FoldsTo, Poll, segment_before, segments_before, Segments, ReadMark, bytes}
 use Rattle.lite_read.specs.ReadFold.{AnswerMarks, ReadFold}
 
 module _ {M R : Type 0} (fold : ReadFold M R) where

@@ -1,22 +1,9 @@
 -- Laws of `read_to_end`.
-use Rattle.std.specs.Prelude.{⊤}
-use Rattle.std.proofs.Common.{◌∙◌, ◌≤◌, ◌+◌, ◌-◌, ℕ, List, [], ◌∷◌, ◌++◌, length, Result, refl, ap, sym, arith}
-use Rattle.std.proofs.Common.{length-append, append-nil, append_assoc, length-take-le}
-use Rattle.std.specs.List.{FoldsTo}
-use Rattle.std.specs.declared.io.Error.{Error}
-use Rattle.futures.specs.declared.task.Poll.{Poll}
-use Rattle.lite_base.specs.Ends.{Terminates}
-use Rattle.lite_base.specs.Laws.Ends.{Terminates-map}
-use Rattle.lite_base.specs.FutureLaws.{FutureLaws}
-use Rattle.lite_base.specs.Ranks.{Ranks}
-use Rattle.lite_base.specs.Runs.{Runs}
-use Rattle.lite_io_base.specs.Counting.{ReadCounting}
-use Rattle.lite_io_base.specs.Laws.Falls.{GivenRun}
-use Rattle.lite_io_base.specs.Marks.{ReadMark}
-use Rattle.lite_io_base.specs.Runs.{MarkLaws}
+use Rattle.lite_read.specs.Uses.{⊤, ◌∙◌, ◌≤◌, ◌+◌, ◌-◌, ℕ, List, [], ◌∷◌, ◌++◌, length, Result, refl, ap, sym, arith, length-append, append-nil, append_assoc}
+use Rattle.lite_read.specs.Uses.{length-take-le, FoldsTo, Error, Poll, Terminates, Terminates-map, FutureLaws, Ranks, Runs, ReadCounting, GivenRun, ReadMark}
+use Rattle.lite_read.specs.Uses.{MarkLaws, lent_still}
 use Rattle.lite_read.specs.Laws.Gathers.{KeepLaws, gathers_before, gathers_laws}
 use Rattle.lite_read.specs.Appending.{CanAppend, ToEndStays, VectorGrows}
-use Rattle.lite_io_base.specs.Laws.Lent.{lent_still}
 use Rattle.lite_read.specs.Laws.ByRoom.{RoomLaws, room_laws}
 use Rattle.lite_read.specs.Laws.Refusals.{appends_weaker, gathers_weaker}
 use Rattle.lite_read.specs.ReadFold.{ReadFold}

@@ -1,14 +1,7 @@
 -- Laws of `read_until`.
-use Rattle.std.specs.Prelude.{⊤}
-use Rattle.std.proofs.Common.{◌∙◌, ◌≤◌, List, [], ◌∷◌, length, Result, ℕ, refl, ap, arith, vec_capacity}
-use Rattle.std.specs.declared.io.Error.{Error}
-use Rattle.futures.specs.declared.task.Poll.{Poll}
-use Rattle.lite_base.specs.FutureLaws.{FutureLaws}
-use Rattle.lite_base.specs.Runs.{Runs}
-use Rattle.lite_io_base.specs.Marks.{ReadMark}
-use Rattle.lite_io_base.specs.Runs.{MarkLaws}
+use Rattle.lite_read.specs.Uses.{⊤, ◌∙◌, ◌≤◌, List, [], ◌∷◌, length, Result, ℕ, refl, ap, arith, vec_capacity, Error, Poll, FutureLaws, Runs, ReadMark}
+use Rattle.lite_read.specs.Uses.{MarkLaws, lent_still}
 use Rattle.lite_read.specs.Laws.Gathers.{KeepLaws, gathers_before, gathers_laws}
-use Rattle.lite_io_base.specs.Laws.Lent.{lent_still}
 use Rattle.lite_read.specs.UntilVector.{UntilStays}
 use Rattle.lite_read.specs.Laws.ByRoom.{RoomLaws, room_laws}
 use Rattle.lite_read.specs.Laws.Refusals.{gathers_weaker, pieces_weaker}

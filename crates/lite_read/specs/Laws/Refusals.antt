@@ -1,12 +1,5 @@
 -- Where memory may be refused in fewer cases the same marks are made into the same answers.
-use Rattle.std.proofs.Common.{inl, inr, ℕ, List, [], ◌∷◌, Result, Err}
-use Rattle.std.specs.List.{FoldsTo}
-use Rattle.std.specs.declared.io.Error.{Error}
-use Rattle.futures.specs.declared.task.Poll.{Poll}
-use Rattle.futures.specs.declared.task.Poll.TheVariants.{Ready, Pending}
-use Rattle.lite_base.specs.Answers.{Waiting}
-use Rattle.lite_base.specs.Runs.{Runs}
-use Rattle.lite_io_base.specs.Marks.{ReadMark}
+use Rattle.lite_read.specs.Uses.{inl, inr, ℕ, List, [], ◌∷◌, Result, Err, FoldsTo, Error, Poll, Ready, Pending, Waiting, Runs, ReadMark}
 use Rattle.lite_read.specs.Pieces.{Cut, CutsPiece, pieces}
 use Rattle.lite_read.specs.PollSteps.{TakesBytes}
 use Rattle.lite_read.specs.ReadFold.{AnswerMarks, Gathers, LastMarks, PieceSegments, ReadFold, Segmented}

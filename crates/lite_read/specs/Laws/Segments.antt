@@ -1,15 +1,6 @@
 -- Laws of streams over what a reader tells.
-use Rattle.std.proofs.Common.{◌∙◌, ℕ, List, [], ◌∷◌, ◌++◌, Option, refl}
-use Rattle.std.specs.List.{FoldsTo}
-use Rattle.futures.specs.declared.task.Poll.{Poll}
-use Rattle.lite_base.specs.Chain.{Reaches}
-use Rattle.lite_base.specs.Laws.Segments.{segments_join}
-use Rattle.lite_base.specs.StreamLaws.{StreamLaws}
-use Rattle.lite_base.specs.Runs.{NoHint, Runs}
-use Rattle.lite_base.specs.Ranks.{Ranks}
-use Rattle.lite_io_base.specs.Counting.{ReadCounting}
-use Rattle.lite_io_base.specs.Marks.{ReadMark, bytes}
-use Rattle.lite_io_base.specs.Runs.{MarkLaws}
+use Rattle.lite_read.specs.Uses.{◌∙◌, ℕ, List, [], ◌∷◌, ◌++◌, Option, refl, FoldsTo, Poll, Reaches, segments_join, StreamLaws, NoHint, Runs, Ranks}
+use Rattle.lite_read.specs.Uses.{ReadCounting, ReadMark, bytes, MarkLaws}
 use Rattle.lite_read.specs.ReadFold.{ReadFold}
 use Rattle.lite_read.specs.Laws.ReadFold.{answers_before}
 use Rattle.lite_read.specs.Laws.PollSteps.{idle_join, steps_answer}

@@ -1,19 +1,7 @@
 -- `bytes` is steady over a steady reader.
-use Rattle.std.proofs.Common.{◌≡◌, ◌∙◌, ◌⊎◌, ℕ, List, [], ◌∷◌, Option, Some, None, Result, Ok, Err, inl, inr, refl, sym}
-use Rattle.std.proofs.Common.{subst}
-use Rattle.std.specs.IoError.{error_kind}
-use Rattle.std.specs.declared.io.Error.{Error}
-use Rattle.std.specs.declared.io.ErrorKind.{ErrorKind}
-use Rattle.std.specs.declared.io.ErrorKind.TheVariants.{Interrupted}
-use Rattle.futures.specs.declared.task.Poll.TheVariants.{Ready, Pending}
-use Rattle.lite_base.specs.Alike.{OptionBy, Sameness}
-use Rattle.lite_base.specs.Answers.{Answer, Comparable, ComparableBy, strip}
-use Rattle.lite_base.specs.Laws.Alike.{comparable_nil}
-use Rattle.lite_base.specs.Steady.{SteadyLawsBy}
-use Rattle.lite_base.specs.Laws.StreamLaws.{runs_of}
-use Rattle.lite_base.specs.Runs.{Runs}
-use Rattle.lite_io_base.specs.Marks.{ReadMark}
-use Rattle.lite_io_base.specs.Steady.{SteadyReadLaws, strip_marks}
+use Rattle.lite_read.specs.Uses.{◌≡◌, ◌∙◌, ◌⊎◌, ℕ, List, [], ◌∷◌, Option, Some, None, Result, Ok, Err, inl, inr, refl, sym, subst, error_kind, Error, ErrorKind}
+use Rattle.lite_read.specs.Uses.{Interrupted, Ready, Pending, OptionBy, Sameness, Answer, Comparable, ComparableBy, strip, comparable_nil, SteadyLawsBy}
+use Rattle.lite_read.specs.Uses.{runs_of, Runs, ReadMark, SteadyReadLaws, strip_marks}
 use Rattle.lite_read.specs.Bytes.{TellsBytes, TellsEach}
 use Rattle.lite_read.specs.Laws.Bytes.{bytes_laws}
 use Rattle.lite_read.specs.Deterministic.{SameByKind}

@@ -1,12 +1,6 @@
 -- `read_exact` is steady over a steady reader, and calm over a calm one.
-use Rattle.std.proofs.Common.{◌≡◌, ◌∙◌, List, [], ◌∷◌, length, Result, Ok, Err, refl, sym, arith}
-use Rattle.std.specs.declared.io.Error.{Error}
-use Rattle.lite_base.specs.Calm.{CalmLaws}
-use Rattle.lite_base.specs.Alike.{Sameness}
-use Rattle.lite_base.specs.Steady.{FutureSteadyLawsBy}
-use Rattle.lite_base.specs.Runs.{Runs}
-use Rattle.lite_io_base.specs.Marks.{ReadMark}
-use Rattle.lite_io_base.specs.Steady.{CalmReadLaws, SteadyReadLaws}
+use Rattle.lite_read.specs.Uses.{◌≡◌, ◌∙◌, List, [], ◌∷◌, length, Result, Ok, Err, refl, sym, arith, Error, CalmLaws, Sameness, FutureSteadyLawsBy, Runs}
+use Rattle.lite_read.specs.Uses.{ReadMark, CalmReadLaws, SteadyReadLaws}
 use Rattle.lite_read.specs.Laws.ReadExact.{exact_laws}
 use Rattle.lite_read.specs.Laws.Deterministic.{GivenBy, TakenAt, deterministic_by}
 use Rattle.lite_read.specs.Laws.Gathers.{gathers_alike, gathers_calm}

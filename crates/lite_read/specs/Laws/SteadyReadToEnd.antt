@@ -1,11 +1,6 @@
 -- `read_to_end` is steady over a steady reader, where memory was found, and calm over a calm one.
-use Rattle.std.proofs.Common.{◌≡◌, ◌∙◌, ℕ, List, [], ◌∷◌, Result, Ok, Err, sym, ap, arith}
-use Rattle.std.specs.declared.io.Error.{Error}
-use Rattle.lite_base.specs.Alike.{Sameness}
-use Rattle.lite_base.specs.Steady.{FutureSteadyLawsBy}
-use Rattle.lite_base.specs.Runs.{Runs}
-use Rattle.lite_io_base.specs.Marks.{ReadMark}
-use Rattle.lite_io_base.specs.Steady.{SteadyReadLaws}
+use Rattle.lite_read.specs.Uses.{◌≡◌, ◌∙◌, ℕ, List, [], ◌∷◌, Result, Ok, Err, sym, ap, arith, Error, Sameness, FutureSteadyLawsBy, Runs, ReadMark}
+use Rattle.lite_read.specs.Uses.{SteadyReadLaws}
 use Rattle.lite_read.specs.Laws.ReadToEnd.{append_laws}
 use Rattle.lite_read.specs.Laws.Deterministic.{GivenBy, TakenAt, deterministic_by}
 use Rattle.lite_read.specs.Laws.Gathers.{gathers_alike}

@@ -1,11 +1,5 @@
 -- What reads for a text is steady over a steady reader, where memory was found, and calm over a calm one.
-use Rattle.std.proofs.Common.{◌≡◌, ℕ, List, Result, refl}
-use Rattle.std.specs.declared.io.Error.{Error}
-use Rattle.lite_base.specs.Alike.{Sameness}
-use Rattle.lite_base.specs.Steady.{FutureSteadyLawsBy}
-use Rattle.lite_base.specs.Runs.{Runs}
-use Rattle.lite_io_base.specs.Marks.{ReadMark}
-use Rattle.lite_io_base.specs.Steady.{SteadyReadLaws}
+use Rattle.lite_read.specs.Uses.{◌≡◌, ℕ, List, Result, refl, Error, Sameness, FutureSteadyLawsBy, Runs, ReadMark, SteadyReadLaws}
 use Rattle.lite_read.specs.ReadFold.{ReadFold}
 use Rattle.lite_read.specs.Laws.Gathers.{gathers_alike}
 use Rattle.lite_read.specs.Deterministic.{IsDeterministic, SameByKind}

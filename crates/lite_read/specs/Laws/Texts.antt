@@ -1,16 +1,8 @@
 -- Laws of futures that read for a text.
-use Rattle.std.proofs.Common.{◌≡◌, ◌+◌, ◌-◌, ℕ, List, [], ◌∷◌, Result, refl, ap, arith}
-use Rattle.std.specs.List.{FoldsTo}
-use Rattle.std.specs.Prelude.{⊤, string_bytes}
-use Rattle.std.specs.declared.io.Error.{Error}
-use Rattle.futures.specs.declared.task.Poll.{Poll}
-use Rattle.lite_base.specs.FutureLaws.{FutureLaws}
-use Rattle.lite_base.specs.Runs.{Runs}
-use Rattle.lite_io_base.specs.Marks.{ReadMark}
-use Rattle.lite_io_base.specs.Runs.{MarkLaws}
+use Rattle.lite_read.specs.Uses.{◌≡◌, ◌+◌, ◌-◌, ℕ, List, [], ◌∷◌, Result, refl, ap, arith, FoldsTo, ⊤, string_bytes, Error, Poll, FutureLaws, Runs, ReadMark}
+use Rattle.lite_read.specs.Uses.{MarkLaws, lent_still}
 use Rattle.lite_read.specs.ReadFold.{ReadFold}
 use Rattle.lite_read.specs.Laws.Gathers.{KeepLaws, gathers_before, gathers_laws}
-use Rattle.lite_io_base.specs.Laws.Lent.{lent_still}
 use Rattle.lite_read.specs.Holding.{TextOver, TextStays}
 use Rattle.lite_read.specs.Laws.ByRoom.{RoomLaws, room_laws}
 use Rattle.lite_read.specs.Laws.Refusals.{Weaker, appends_weaker, gathers_weaker, pieces_weaker, text_weaker}

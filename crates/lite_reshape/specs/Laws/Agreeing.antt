@@ -1,15 +1,7 @@
 -- Laws of what leaves items out: its answers do not depend on when its source was pending.
-use Rattle.std.proofs.Common.{◌≡◌, List, ◌∷◌, Option, Some, None, refl, arith}
-use Rattle.std.specs.Prelude.{Bool, true, false}
-use Rattle.lite_base.specs.Alike.{OptionBy, SameAnswer, SameItem, Sameness}
-use Rattle.lite_base.specs.Answers.{strip}
-use Rattle.lite_base.specs.Calling.{Accepts, AgreeFrom, AgreeKeeping, Keeping}
-use Rattle.lite_base.specs.Laws.Alike.{both_items, ends_same, item_answers, same_answer}
-use Rattle.lite_base.specs.Laws.Calling.{MatchesFrom, accepts_matches, agree_from_matches, keeping_matches}
-use Rattle.lite_base.specs.Runs.{Question}
-use Rattle.lite_stream.specs.Laws.Agreeing.{AgreeingOver}
-use Rattle.lite_stream.specs.Laws.Placed.{AlikeInPlace, Placed, placed_agreeing}
-use Rattle.lite_stream.specs.Laws.Through.{Entails}
+use Rattle.lite_reshape.specs.Uses.{◌≡◌, List, ◌∷◌, Option, Some, None, refl, arith, Bool, true, false, OptionBy, SameAnswer, SameItem, Sameness, strip}
+use Rattle.lite_reshape.specs.Uses.{Accepts, AgreeFrom, AgreeKeeping, Keeping, both_items, ends_same, item_answers, same_answer, MatchesFrom, accepts_matches}
+use Rattle.lite_reshape.specs.Uses.{agree_from_matches, keeping_matches, Question, AgreeingOver, AlikeInPlace, Placed, placed_agreeing, Entails}
 use Rattle.lite_reshape.specs.Laws.Leaving.{leaves_steps}
 use Rattle.lite_reshape.specs.Leaving.{LeavesOut}
 use Rattle.lite_reshape.specs.Skip.{Skips}

@@ -1,8 +1,5 @@
 -- Lists of answers of which some stand before others.
-use Rattle.std.proofs.Common.{◌≡◌, ℕ, List, [], ◌∷◌, ◌++◌, Some, sym}
-use Rattle.futures.specs.declared.task.Poll.TheVariants.{Ready}
-use Rattle.lite_base.specs.Answers.{Answer, items}
-use Rattle.lite_base.specs.Rank.{Below, Lowers}
+use Rattle.lite_reshape.specs.Uses.{◌≡◌, ℕ, List, [], ◌∷◌, ◌++◌, Some, sym, Ready, Answer, items, Below, Lowers}
 
 module _ {A : Type 0} where
   -- what follows among items are items

@@ -1,12 +1,7 @@
 -- Adapters that hold something, or have a second stream, over what is never pending.
-use Rattle.std.specs.List.{AllByRecursion}
-use Rattle.std.specs.Prelude.{IfSome}
-use Rattle.std.proofs.Common.{◌≤◌, ◌+◌, arith, List, [], ◌∷◌, Option, None, inl, inr, refl}
-use Rattle.lite_base.specs.Answers.{Answer, end}
-use Rattle.lite_base.specs.Calm.{CalmLaws, NoPending, waits}
-use Rattle.lite_base.specs.Laws.Calm.{calm_both, no_pending_front, no_pending_join, no_pending_none, waits_join}
-use Rattle.lite_base.specs.Laws.Items.{OfItem}
-use Rattle.lite_base.specs.Runs.{Hints, Question, Runs}
+use Rattle.lite_reshape.specs.Uses.{AllByRecursion, IfSome, ◌≤◌, ◌+◌, arith, List, [], ◌∷◌, Option, None, inl, inr, refl, Answer, end, CalmLaws, NoPending}
+use Rattle.lite_reshape.specs.Uses.{waits, calm_both, no_pending_front, no_pending_join, no_pending_none, waits_join, OfItem, Hints, Question, Runs, Calming}
+use Rattle.lite_reshape.specs.Uses.{calm_two, cuts_calming, StreamLaws, Entails, AdapterParts, Adapts, Relates}
 use Rattle.lite_reshape.specs.Chain.{Chains, Joins, is_done, second_after}
 use Rattle.lite_reshape.specs.Flatten.{Flattening}
 use Rattle.lite_reshape.specs.Inner.{EachInner}
@@ -15,12 +10,6 @@ use Rattle.lite_reshape.specs.Laws.Flatten.{each_inner_on, flattening_by, have_c
 use Rattle.lite_reshape.specs.Expanding.{Expanding}
 use Rattle.lite_reshape.specs.declared.chain.Part.TheVariants.{First, Second, Done}
 use Rattle.lite_reshape.specs.declared.chain.Part.{Part}
-use Rattle.lite_stream.specs.Laws.Calming.{Calming, calm_two}
-use Rattle.lite_stream.specs.Laws.Cutting.{cuts_calming}
-use Rattle.lite_base.specs.StreamLaws.{StreamLaws}
-use Rattle.lite_stream.specs.Laws.Through.{Entails}
-use Rattle.lite_stream.specs.Through.{AdapterParts, Adapts}
-use Rattle.lite_stream.specs.Relates.{Relates}
 
 module _ {A : Type 0} where
   joins_waits : (f g : Part) (i j l : List (Answer A)) → Joins f i j l g → waits l ≤ waits i + waits j

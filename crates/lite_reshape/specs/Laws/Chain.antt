@@ -1,26 +1,14 @@
 -- Laws of two streams that are chained.
-use Rattle.std.proofs.lemmas.List.{length-replicate}
-use Rattle.std.proofs.Common.{◌≡◌, ◌∙◌, ℕ, ◌+◌, List, [], ◌∷◌, ◌++◌, length, Some, None, inl, inr, refl, ap, sym, subst}
-use Rattle.std.proofs.Common.{arith, length-append, append_assoc, append-nil}
-use Rattle.futures.specs.declared.task.Poll.TheVariants.{Ready, Pending}
-use Rattle.lite_base.specs.Answers.{Answer, Endless, items}
-use Rattle.lite_base.specs.Laws.Falling.{AtMost-both, AtMost-length, Below-after, Below-first, Lowers-at_most}
-use Rattle.lite_base.specs.Laws.Endless.{endless_join}
-use Rattle.lite_base.specs.Laws.Hint.{same_hint}
-use Rattle.lite_base.specs.Rank.{AtMost, Below, Lowers}
-use Rattle.lite_base.specs.Ranks.{Counting, Ranks}
-use Rattle.lite_base.specs.StreamLaws.{RunLaws, StreamLaws}
-use Rattle.lite_base.specs.Laws.StreamLaws.{laws_of, runs_of}
-use Rattle.lite_base.specs.Runs.{Hints, NoHint, Runs}
+use Rattle.lite_reshape.specs.Uses.{length-replicate, ◌≡◌, ◌∙◌, ℕ, ◌+◌, List, [], ◌∷◌, ◌++◌, length, Some, None, inl, inr, refl, ap, sym, subst, arith}
+use Rattle.lite_reshape.specs.Uses.{length-append, append_assoc, append-nil, Ready, Pending, Answer, Endless, items, AtMost-both, AtMost-length, Below-after}
+use Rattle.lite_reshape.specs.Uses.{Below-first, Lowers-at_most, endless_join, same_hint, AtMost, Below, Lowers, Counting, Ranks, RunLaws, StreamLaws, laws_of}
+use Rattle.lite_reshape.specs.Uses.{runs_of, Hints, NoHint, Runs, Cuts, cuts_relating, cuts_steps, at_most_below, lowers_after}
 use Rattle.lite_reshape.specs.Chain.{Chains, CrossesOver, Joins, is_done, second_after}
 use Rattle.lite_reshape.specs.Chaining.{chain_rank, chain_ranks, second_rank, zeros}
 use Rattle.lite_reshape.specs.Laws.Before.{items_after, not_empty, own_lowers}
 use Rattle.lite_reshape.specs.Laws.Zeros.{zeros_least}
 use Rattle.lite_reshape.specs.declared.chain.Part.TheVariants.{First, Second, Done}
 use Rattle.lite_reshape.specs.declared.chain.Part.{Part}
-use Rattle.lite_stream.specs.Cutting.{Cuts}
-use Rattle.lite_stream.specs.Laws.Cutting.{cuts_relating, cuts_steps}
-use Rattle.lite_stream.specs.Laws.Lower.{at_most_below, lowers_after}
 
 zeros_length : (xs : List ℕ) → length (zeros xs) ≡ length xs
 zeros_length xs = length-replicate _ 0

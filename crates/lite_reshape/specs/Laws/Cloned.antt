@@ -1,21 +1,8 @@
 -- Laws of references that are replaced by clones.
-use Rattle.std.specs.List.{AllByRecursion}
-use Rattle.std.specs.Prelude.{⊤, Result, Ok}
-use Rattle.std.proofs.Common.{◌≡◌, ◌∙◌, List, [], ◌∷◌, ◌++◌, Option, Some, None, refl, ap, sym}
-use Rattle.std.proofs.Common.{append_assoc}
-use Rattle.futures.specs.declared.task.Poll.TheVariants.{Ready, Pending}
-use denote.Ref.{Bor}
-use Rattle.lite_base.specs.Alike.{OptionBy, SameAnswer, Sameness}
-use Rattle.lite_base.specs.Answers.{Answer, Gives, Waiting, item, items}
-use Rattle.lite_base.specs.Calm.{NoPending}
-use Rattle.lite_base.specs.Laws.All.{all_any, all_append, all_split}
-use Rattle.lite_base.specs.Laws.Calm.{no_pending_join}
-use Rattle.lite_base.specs.OkRanks.{OkCounting, all_ok}
-use Rattle.lite_base.specs.Laws.OkRanks.{ok_counting}
-use Rattle.lite_base.specs.Ranks.{Counting, Ranks}
-use Rattle.lite_base.specs.Steady.{SteadinessBy, SteadyLawsBy, TakesNone}
-use Rattle.lite_base.specs.StreamLaws.{StreamLaws}
-use Rattle.lite_base.specs.Runs.{Hints, NoHint, Runs}
+use Rattle.lite_reshape.specs.Uses.{AllByRecursion, ⊤, Result, Ok, ◌≡◌, ◌∙◌, List, [], ◌∷◌, ◌++◌, Option, Some, None, refl, ap, sym, append_assoc, Ready}
+use Rattle.lite_reshape.specs.Uses.{Pending, Bor, OptionBy, SameAnswer, Sameness, Answer, Gives, Waiting, item, items, NoPending, all_any, all_append}
+use Rattle.lite_reshape.specs.Uses.{all_split, no_pending_join, OkCounting, all_ok, ok_counting, Counting, Ranks, SteadinessBy, SteadyLawsBy, TakesNone}
+use Rattle.lite_reshape.specs.Uses.{StreamLaws, Hints, NoHint, Runs, through_alike, Calming, laws_following, through_runs}
 use Rattle.lite_reshape.specs.Cloned.{AlikeCloned, ClonedFrom, Clones, ClonesAll, ClonesUnrefused, EqualClones}
 use Rattle.lite_reshape.specs.Cloned.{IsCloneRefusal, NoCloneRefused, NotCloneRefused, Refers, Refuses, cloned_parts}
 use Rattle.lite_reshape.specs.Laws.Before.{not_empty}
@@ -26,9 +13,6 @@ use Rattle.lite_reshape.specs.Laws.SteadyExpanding.{expanding_found_where}
 use Rattle.lite_reshape.specs.declared.cloned.Cloned.{Cloned}
 use Rattle.lite_reshape.specs.Expanding.{Expanding}
 use Rattle.lite_reshape.specs.Laws.Replacing.{refers_match}
-use Rattle.lite_stream.specs.Laws.Agreeing.{through_alike}
-use Rattle.lite_stream.specs.Laws.Calming.{Calming}
-use Rattle.lite_stream.specs.Laws.Through.{laws_following, through_runs}
 
 module _ {T E : Type 0} (is_clone : T → T → Type 0) (is_infallible : T → Type 0) where
   clones_join : (x y : Bor T) (next : Option (Bor T)) (l m : List (Answer (Result T E)))

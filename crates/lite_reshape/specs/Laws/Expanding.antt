@@ -1,20 +1,10 @@
 -- Laws of items that are replaced by the list of what is made of them.
-use Rattle.std.proofs.Common.{◌≡◌, ◌∙◌, ℕ, ◌+◌, ◌≤◌, List, [], ◌∷◌, ◌++◌, Option, Some, None, inl, inr, refl, ap, sym}
-use Rattle.std.proofs.Common.{arith, append_assoc}
-use Rattle.std.specs.List.{AllByRecursion}
-use Rattle.futures.specs.declared.task.Poll.TheVariants.{Ready, Pending}
-use Rattle.lite_base.specs.Answers.{Answer, Gives, Waiting, before_end, end, item, items}
-use Rattle.lite_base.specs.Laws.All.{all_split}
-use Rattle.lite_base.specs.Laws.Falling.{Lowers-at_most, Lowers-below, waiting_lowers}
-use Rattle.lite_base.specs.Laws.Items.{IsItem, items_each}
-use Rattle.lite_base.specs.Rank.{Below, Lowers}
-use Rattle.lite_base.specs.Ranks.{Counting, Ranks, count_held, held_rank}
-use Rattle.lite_base.specs.StreamLaws.{StreamLaws}
-use Rattle.lite_base.specs.Runs.{Hints, Question, Runs}
+use Rattle.lite_reshape.specs.Uses.{◌≡◌, ◌∙◌, ℕ, ◌+◌, ◌≤◌, List, [], ◌∷◌, ◌++◌, Option, Some, None, inl, inr, refl, ap, sym, arith, append_assoc}
+use Rattle.lite_reshape.specs.Uses.{AllByRecursion, Ready, Pending, Answer, Gives, Waiting, before_end, end, item, items, all_split, Lowers-at_most}
+use Rattle.lite_reshape.specs.Uses.{Lowers-below, waiting_lowers, IsItem, items_each, Below, Lowers, Counting, Ranks, count_held, held_rank, StreamLaws, Hints}
+use Rattle.lite_reshape.specs.Uses.{Question, Runs, held_falls, held_first, held_less, held_level, held_sized, AlsoBefore, Entails, Following, AdapterParts}
+use Rattle.lite_reshape.specs.Uses.{Adapts, Through}
 use Rattle.lite_reshape.specs.Expanding.{Expanding, Expands}
-use Rattle.lite_stream.specs.Laws.Held.{held_falls, held_first, held_less, held_level, held_sized}
-use Rattle.lite_stream.specs.Laws.Through.{AlsoBefore, Entails, Following}
-use Rattle.lite_stream.specs.Through.{AdapterParts, Adapts, Through}
 
 -- what the lists of what is made of an item have to meet, that runs may follow one another
 pub record FollowLaws {V B : Type 0} (gives : V → List (Answer B) → Option V → Type 0) : Type 0 where

@@ -1,39 +1,15 @@
 -- Laws of streams that a function makes.
-use Rattle.std.specs.Fn.{Mut}
-use Rattle.std.specs.List.{AllByRecursion}
-use Rattle.std.proofs.Common.{◌≡◌, List, ◌∷◌, Option, Some, None, refl, subst}
-use Rattle.futures.specs.declared.task.Poll.TheVariants.{Ready}
-use Rattle.lite_base.specs.Alike.{OptionBy, SameItem, Sameness}
-use Rattle.lite_base.specs.Answers.{Answer}
-use Rattle.lite_base.specs.Calm.{CalmLaws}
-use Rattle.lite_base.specs.Laws.Calm.{calm_both}
-use Rattle.lite_base.specs.Ends.{Terminates}
-use Rattle.lite_base.specs.Falling.{ItemRun}
-use Rattle.lite_base.specs.Ranks.{Counting, Ranks, ranks_of}
-use Rattle.lite_base.specs.Laws.Ranks.{counting_ends}
-use Rattle.lite_base.specs.Steady.{SteadyLawsBy}
-use Rattle.lite_base.specs.StreamLaws.{StreamLaws}
-use Rattle.lite_base.specs.Laws.StreamLaws.{runs_of}
+use Rattle.lite_reshape.specs.Uses.{Mut, AllByRecursion, ◌≡◌, List, ◌∷◌, Option, Some, None, refl, subst, Ready, OptionBy, SameItem, Sameness, Answer, CalmLaws}
+use Rattle.lite_reshape.specs.Uses.{calm_both, Terminates, ItemRun, Counting, Ranks, ranks_of, counting_ends, SteadyLawsBy, StreamLaws, runs_of, AgreeFrom}
+use Rattle.lite_reshape.specs.Uses.{Always, Calls, MakesAlways, all_split, OfItem, agree_from_matches, makes_on, Hints, NoHint, Runs, through_alike}
+use Rattle.lite_reshape.specs.Uses.{through_steady_over, through_calm, exchanges_steps, replaces_calming, replaces_agreeing, replaces_answering}
+use Rattle.lite_reshape.specs.Uses.{replaces_relating, laws_following, laws_hinted, through_counting, Maps, map_parts, Replaces, Map}
 use Rattle.lite_reshape.specs.FlatMap.{EachMade, FlatMaps, flat_map_parts, flat_map_ranks}
 use Rattle.lite_reshape.specs.Inner.{EachInner}
 use Rattle.lite_reshape.specs.Laws.Calming.{flattening_calm}
 use Rattle.lite_reshape.specs.Laws.Flatten.{each_inner_on, flattening, flattening_counting}
 use Rattle.lite_reshape.specs.Laws.SteadyFlatten.{flattening_steady}
 use Rattle.lite_reshape.specs.declared.flat_map.FlatMap.{FlatMap}
-use Rattle.lite_base.specs.Calling.{AgreeFrom, Always, Calls, MakesAlways}
-use Rattle.lite_base.specs.Laws.All.{all_split}
-use Rattle.lite_base.specs.Laws.Items.{OfItem}
-use Rattle.lite_base.specs.Laws.Calling.{agree_from_matches}
-use Rattle.lite_base.specs.Laws.Promises.{makes_on}
-use Rattle.lite_base.specs.Runs.{Hints, NoHint, Runs}
-use Rattle.lite_stream.specs.Laws.Agreeing.{through_alike, through_steady_over}
-use Rattle.lite_stream.specs.Laws.Calming.{through_calm}
-use Rattle.lite_stream.specs.Laws.Pointwise.{exchanges_steps, replaces_calming, replaces_agreeing, replaces_answering}
-use Rattle.lite_stream.specs.Laws.Pointwise.{replaces_relating}
-use Rattle.lite_stream.specs.Laws.Through.{laws_following, laws_hinted, through_counting}
-use Rattle.lite_stream.specs.Map.{Maps, map_parts}
-use Rattle.lite_stream.specs.Pointwise.{Replaces}
-use Rattle.lite_stream.specs.declared.map.Map.{Map}
 
 module _ {F A V : Type 0} (g : Mut F (A × Unit {0}) V) (Fact : V → Type 0) where
   made_here : (f q : F) (x : A) (y : Option V) → Always (Calls g) f x y q → MakesAlways g Fact f

@@ -1,32 +1,14 @@
 -- Laws of a stream of streams that is flattened.
-use Rattle.std.specs.Prelude.{IfSome, replicate}
-use Rattle.std.proofs.Common.{◌≡◌, ◌∙◌, ℕ, List, [], ◌∷◌, ◌++◌, length, Option, Some, None, inl, inr, refl}
-use Rattle.std.proofs.Common.{ap, sym, arith, length-append, append_assoc}
-use Rattle.std.proofs.lemmas.List.{length-replicate}
-use Rattle.std.specs.List.{AllByRecursion}
-use Rattle.futures.specs.declared.task.Poll.TheVariants.{Ready, Pending}
-use Rattle.lite_base.specs.Answers.{Answer, Endless, end, item, items}
-use Rattle.lite_base.specs.Chain.{NextStep, Reaches}
-use Rattle.lite_base.specs.Laws.All.{all_split}
-use Rattle.lite_base.specs.Laws.Chain.{Reaches-back}
-use Rattle.lite_base.specs.Ends.{Terminates}
-use Rattle.lite_base.specs.Laws.Ends.{Terminates-map}
-use Rattle.lite_base.specs.Falling.{ItemRun}
-use Rattle.lite_base.specs.Laws.Falling.{AtMost-both, Below-after, Below-first, Below-then, Lowers-at_most}
-use Rattle.lite_base.specs.Laws.Falling.{Lowers-below}
-use Rattle.lite_base.specs.Laws.Endless.{endless_join}
-use Rattle.lite_base.specs.Laws.Items.{IsItem, OfItem, each_items, each_of, items_each}
-use Rattle.lite_base.specs.Rank.{Below, Lowers}
-use Rattle.lite_base.specs.Ranks.{Counting, Ranks}
-use Rattle.lite_base.specs.StreamLaws.{RunLaws, StreamLaws}
-use Rattle.lite_base.specs.Runs.{Hints, Runs}
+use Rattle.lite_reshape.specs.Uses.{IfSome, replicate, ◌≡◌, ◌∙◌, ℕ, List, [], ◌∷◌, ◌++◌, length, Option, Some, None, inl, inr, refl, ap, sym, arith}
+use Rattle.lite_reshape.specs.Uses.{length-append, append_assoc, length-replicate, AllByRecursion, Ready, Pending, Answer, Endless, end, item, items, NextStep}
+use Rattle.lite_reshape.specs.Uses.{Reaches, all_split, Reaches-back, Terminates, Terminates-map, ItemRun, AtMost-both, Below-after, Below-first, Below-then}
+use Rattle.lite_reshape.specs.Uses.{Lowers-at_most, Lowers-below, endless_join, IsItem, OfItem, each_items, each_of, items_each, Below, Lowers, Counting, Ranks}
+use Rattle.lite_reshape.specs.Uses.{RunLaws, StreamLaws, Hints, Runs, at_most_below, lowers_after, lowers_at_most, Entails, Following, AdapterParts, Adapts}
+use Rattle.lite_reshape.specs.Uses.{Through}
 use Rattle.lite_reshape.specs.Flatten.{Flat, Flattening}
 use Rattle.lite_reshape.specs.Inner.{EachInner, FlatStep, FlatSteps, GivesOne, TakesNext, flattening_ranks, inner_rank}
 use Rattle.lite_reshape.specs.Laws.Before.{not_empty, own_lowers}
 use Rattle.lite_reshape.specs.Laws.Zeros.{zeros_least}
-use Rattle.lite_stream.specs.Laws.Lower.{at_most_below, lowers_after, lowers_at_most}
-use Rattle.lite_stream.specs.Laws.Through.{Entails, Following}
-use Rattle.lite_stream.specs.Through.{AdapterParts, Adapts, Through}
 
 -- by induction on what comes in, as expanding_by: of an inner stream that is held, to the last or until it is done
 module _ {B A : Type 0} (run : Runs (Answer A) B) (last : Option B)

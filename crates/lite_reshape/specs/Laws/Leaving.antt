@@ -1,18 +1,8 @@
 -- Laws of answers of which some are left out.
-use Rattle.std.proofs.Common.{ℕ, ◌≤◌, List, [], ◌∷◌, Option, Some, None, refl, arith}
-use Rattle.std.specs.List.{AllByRecursion}
-use Rattle.futures.specs.declared.task.Poll.TheVariants.{Ready, Pending}
-use Rattle.lite_base.specs.Answers.{Answer, before_end, end, item, items}
-use Rattle.lite_base.specs.Calm.{waits}
-use Rattle.lite_base.specs.Laws.Falling.{Lowers-below}
-use Rattle.lite_base.specs.Laws.Items.{IsItem, first_item, items_each}
-use Rattle.lite_base.specs.Laws.Segments.{answers_by, answers_given, answers_taken, segments_join}
-use Rattle.lite_base.specs.Rank.{Lowers}
-use Rattle.lite_base.specs.Runs.{Question}
-use Rattle.lite_base.specs.Segments.{Segment}
+use Rattle.lite_reshape.specs.Uses.{ℕ, ◌≤◌, List, [], ◌∷◌, Option, Some, None, refl, arith, AllByRecursion, Ready, Pending, Answer, before_end, end, item}
+use Rattle.lite_reshape.specs.Uses.{items, waits, Lowers-below, IsItem, first_item, items_each, answers_by, answers_given, answers_taken, segments_join, Lowers}
+use Rattle.lite_reshape.specs.Uses.{Question, Segment, Calming, AlsoBefore, Entails, Relating}
 use Rattle.lite_reshape.specs.Leaving.{LeavesOut, Passes}
-use Rattle.lite_stream.specs.Laws.Calming.{Calming}
-use Rattle.lite_stream.specs.Laws.Through.{AlsoBefore, Entails, Relating}
 
 -- what holds of each answer that goes out, and of each item that is rejected, holds of each answer that came in
 pub leaves_each : {F A B : Type 0} (call : Question F A (Option B)) (P : Answer A → Type 0) (Q : Answer B → Type 0)

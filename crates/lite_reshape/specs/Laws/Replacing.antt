@@ -1,12 +1,6 @@
 -- What is made of items that are alike.
-use Rattle.std.specs.List.{AllByRecursion}
-use Rattle.std.specs.Prelude.{⊤}
-use Rattle.std.proofs.Common.{List, ◌∷◌, Option, Some, None, refl}
-use Rattle.futures.specs.declared.task.Poll.TheVariants.{Ready, Pending}
-use Rattle.lite_base.specs.Alike.{OptionBy}
-use Rattle.lite_base.specs.Answers.{Answer, ComparableBy, strip}
-use Rattle.lite_base.specs.Laws.Calling.{MatchesFrom}
-use Rattle.lite_base.specs.Laws.Items.{OfItem}
+use Rattle.lite_reshape.specs.Uses.{AllByRecursion, ⊤, List, ◌∷◌, Option, Some, None, refl, Ready, Pending, OptionBy, Answer, ComparableBy, strip, MatchesFrom}
+use Rattle.lite_reshape.specs.Uses.{OfItem}
 use Rattle.lite_reshape.specs.Cloned.{Refers}
 
 -- items each of which is the same as those that it is like

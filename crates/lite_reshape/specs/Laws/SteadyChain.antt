@@ -1,17 +1,11 @@
 -- Two streams that are chained, by what each of them answers.
-use Rattle.std.proofs.Common.{◌≡◌, List, [], ◌∷◌, ◌++◌, Option, Some, None, inl, inr, refl, append-nil}
-use Rattle.futures.specs.declared.task.Poll.TheVariants.{Ready, Pending}
-use Rattle.std.specs.Prelude.{⊤}
-use Rattle.lite_base.specs.Alike.{Either, OptionBy, SameAnswer, Sameness}
-use Rattle.lite_base.specs.Answers.{Answer, ComparableBy, Endless, strip}
-use Rattle.lite_base.specs.Steady.{SteadyLawsBy}
+use Rattle.lite_reshape.specs.Uses.{◌≡◌, List, [], ◌∷◌, ◌++◌, Option, Some, None, inl, inr, refl, append-nil, Ready, Pending, ⊤, Either, OptionBy, SameAnswer}
+use Rattle.lite_reshape.specs.Uses.{Sameness, Answer, ComparableBy, Endless, strip, SteadyLawsBy, both_items, comparable_nil, either_first, either_second}
+use Rattle.lite_reshape.specs.Uses.{ends_same, Runs, CutsStripped, cut_same, cuts_stripped}
 use Rattle.lite_reshape.specs.Chain.{Chains, Joins, is_done, second_after}
 use Rattle.lite_reshape.specs.declared.chain.Part.{Part}
 use Rattle.lite_reshape.specs.declared.chain.Part.TheVariants.{First, Second, Done}
-use Rattle.lite_base.specs.Laws.Alike.{both_items, comparable_nil, either_first, either_second, ends_same}
-use Rattle.lite_base.specs.Runs.{Runs}
 use Rattle.lite_reshape.specs.Laws.Chain.{chain_runs}
-use Rattle.lite_stream.specs.Laws.Cutting.{CutsStripped, cut_same, cuts_stripped}
 
 module _ {A : Type 0} where
   -- as Joins, where nothing is pending

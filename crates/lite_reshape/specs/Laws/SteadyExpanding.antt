@@ -1,19 +1,9 @@
 -- Items that are replaced by the list of what is made of them, where that gives one item: the same, where it is alike.
-use Rattle.std.specs.List.{AllByRecursion}
-use Rattle.std.proofs.Common.{◌≡◌, ◌∙◌, ◌⊎◌, List, [], ◌∷◌, ◌++◌, Option, Some, None, inl, inr, refl, ap}
-use Rattle.lite_base.specs.Alike.{OptionBy, SameAnswer, SameItem, Sameness}
-use Rattle.lite_base.specs.Answers.{Answer, ComparableBy, strip}
-use Rattle.lite_base.specs.Laws.Answers.{strip_join, waiting_strip}
-use Rattle.lite_base.specs.Laws.Alike.{comparable_as, gives_strip, same_answer}
-use Rattle.lite_base.specs.Laws.All.{all_any, all_split}
+use Rattle.lite_reshape.specs.Uses.{AllByRecursion, ◌≡◌, ◌∙◌, ◌⊎◌, List, [], ◌∷◌, ◌++◌, Option, Some, None, inl, inr, refl, ap, OptionBy, SameAnswer, SameItem}
+use Rattle.lite_reshape.specs.Uses.{Sameness, Answer, ComparableBy, strip, strip_join, waiting_strip, comparable_as, gives_strip, same_answer, all_any}
+use Rattle.lite_reshape.specs.Uses.{all_split, PlacedFrom, placed_from_same, answer_items, MatchesFrom, Question, AgreeingOver, Entails}
 use Rattle.lite_reshape.specs.Laws.Expanding.{GivingOne, expanding_by}
-use Rattle.lite_stream.specs.Laws.Placed.{PlacedFrom, placed_from_same}
 use Rattle.lite_reshape.specs.Expanding.{Expanding}
-use Rattle.lite_base.specs.Laws.Alike.{answer_items}
-use Rattle.lite_base.specs.Laws.Calling.{MatchesFrom}
-use Rattle.lite_base.specs.Runs.{Question}
-use Rattle.lite_stream.specs.Laws.Agreeing.{AgreeingOver}
-use Rattle.lite_stream.specs.Laws.Through.{Entails}
 
 module _ {V B : Type 0} {gives : V → List (Answer B) → Option V → Type 0} (one : GivingOne gives) where
   -- alike things are done with items that are the same

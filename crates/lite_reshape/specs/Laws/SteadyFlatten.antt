@@ -1,23 +1,13 @@
 -- Streams one after the other: what goes out, Pendings aside, is the same where they are alike.
-use Rattle.std.specs.Prelude.{⊤}
-use Rattle.std.proofs.Common.{◌≡◌, ◌⊎◌, List, [], ◌∷◌, ◌++◌, Option, Some, None, inl, inr, refl}
-use Rattle.futures.specs.declared.task.Poll.TheVariants.{Ready}
-use Rattle.lite_base.specs.Alike.{AlikeBy, OptionBy, SameAnswer, SameItem, Sameness}
-use Rattle.lite_base.specs.Answers.{Answer, ComparableBy, Endless, end, strip}
-use Rattle.lite_base.specs.Steady.{SteadinessBy, SteadyLawsBy, TakesNone}
+use Rattle.lite_reshape.specs.Uses.{⊤, ◌≡◌, ◌⊎◌, List, [], ◌∷◌, ◌++◌, Option, Some, None, inl, inr, refl, Ready, AlikeBy, OptionBy, SameAnswer, SameItem}
+use Rattle.lite_reshape.specs.Uses.{Sameness, Answer, ComparableBy, Endless, end, strip, SteadinessBy, SteadyLawsBy, TakesNone, PlacedFrom, placed_from_same}
+use Rattle.lite_reshape.specs.Uses.{strip_join, both_items, comparable_as, comparable_nil, answer_items, RunLaws, Runs, Entails, through_runs, AdapterParts}
+use Rattle.lite_reshape.specs.Uses.{Adapts}
 use Rattle.lite_reshape.specs.Cloned.{Refers}
 use Rattle.lite_reshape.specs.Flatten.{Flattening}
 use Rattle.lite_reshape.specs.Inner.{EachInner}
 use Rattle.lite_reshape.specs.Laws.Replacing.{items_same, refers_match}
-use Rattle.lite_stream.specs.Laws.Placed.{PlacedFrom, placed_from_same}
-use Rattle.lite_base.specs.Laws.Answers.{strip_join}
-use Rattle.lite_base.specs.Laws.Alike.{both_items, comparable_as, comparable_nil}
-use Rattle.lite_base.specs.Laws.Alike.{answer_items}
-use Rattle.lite_base.specs.StreamLaws.{RunLaws}
-use Rattle.lite_base.specs.Runs.{Runs}
 use Rattle.lite_reshape.specs.Laws.Flatten.{flattening, flattening_by, have_come}
-use Rattle.lite_stream.specs.Laws.Through.{Entails, through_runs}
-use Rattle.lite_stream.specs.Through.{AdapterParts, Adapts}
 
 module _ {A : Type 0} where
   -- among ready answers: each is an item

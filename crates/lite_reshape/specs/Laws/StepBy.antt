@@ -1,17 +1,7 @@
 -- Laws of `step_by`. What is counted down says which number comes next.
-use Rattle.std.proofs.Common.{◌≡◌, ◌∙◌, ℕ, ◌+◌, ◌%◌, ◌<◌, ◌≤◌, ◌-◌, List, [], ◌∷◌, ◌++◌, Option, Some, None, refl, ap}
-use Rattle.std.proofs.Common.{subst, sym, append-nil, arith}
-use Rattle.std.proofs.Math.Nat.{add-mod-mod, mod_self, mod-add-mod, mod-eq_of_lt}
-use Rattle.lite_base.specs.Alike.{OptionBy, Sameness}
-use Rattle.lite_base.specs.Answers.{Answer, before_end}
-use Rattle.lite_base.specs.Rank.{Lowers}
-use Rattle.lite_base.specs.Laws.Alike.{comparable_nil}
-use Rattle.lite_base.specs.Laws.Calling.{MatchesFrom}
-use Rattle.lite_base.specs.Runs.{Runs}
-use Rattle.lite_stream.specs.Laws.Agreeing.{AgreeingOver}
-use Rattle.lite_stream.specs.Laws.Calming.{Calming}
-use Rattle.lite_stream.specs.Laws.Through.{Relating}
-use Rattle.lite_stream.specs.Through.{Through}
+use Rattle.lite_reshape.specs.Uses.{◌≡◌, ◌∙◌, ℕ, ◌+◌, ◌%◌, ◌<◌, ◌≤◌, ◌-◌, List, [], ◌∷◌, ◌++◌, Option, Some, None, refl, ap, subst, sym, append-nil, arith}
+use Rattle.lite_reshape.specs.Uses.{add-mod-mod, mod_self, mod-add-mod, mod-eq_of_lt, OptionBy, Sameness, Answer, before_end, Lowers, comparable_nil}
+use Rattle.lite_reshape.specs.Uses.{MatchesFrom, Runs, AgreeingOver, Calming, Relating, Through}
 use Rattle.lite_reshape.specs.Laws.Agreeing.{leaves_showing}
 use Rattle.lite_reshape.specs.Laws.Leaving.{leaves_as, leaves_calming, leaves_relating}
 use Rattle.lite_reshape.specs.Leaving.{LeavesOut}

@@ -1,35 +1,15 @@
 -- Laws of items that are replaced by the lists of futures.
-use Rattle.std.specs.Prelude.{IfSome, cond, nat_lt}
-use Rattle.std.specs.Fn.{Mut}
-use Rattle.std.proofs.Common.{◌≡◌, ℕ, ◌+◌, ◌-◌, ◌^◌, ◌≤◌, List, [], ◌∷◌, ◌++◌, Option, Some, None, Bool, true, false}
-use Rattle.std.proofs.Common.{map, refl, arith}
-use Rattle.futures.specs.declared.task.Poll.{Poll}
-use Rattle.futures.specs.declared.task.Poll.TheVariants.{Ready, Pending}
-use Rattle.lite_base.specs.Ranks.{count_held}
-use Rattle.lite_base.specs.Alike.{OptionBy, SameItem, Sameness}
-use Rattle.lite_base.specs.Answers.{Answer, Gives, item}
-use Rattle.lite_base.specs.Calm.{CalmLaws, NoPending}
-use Rattle.lite_base.specs.Future.Handed.{handed}
-use Rattle.lite_base.specs.FutureLaws.{FutureLaws}
-use Rattle.lite_base.specs.Laws.Alike.{alike_agrees}
-use Rattle.lite_base.specs.Laws.Calm.{no_pending_join}
-use Rattle.lite_base.specs.Laws.Future.Handed.{handed_no_pending, handed_waiting}
-use Rattle.lite_base.specs.Laws.Future.Spent.{shown_gives, spends_follow, spends_found, spends_rest, spends_stay}
-use Rattle.lite_base.specs.Laws.Hint.{same_hint}
-use Rattle.lite_base.specs.Steady.{FutureSteadyLawsBy, SteadyLawsBy}
-use Rattle.lite_base.specs.StreamLaws.{StreamLaws}
+use Rattle.lite_reshape.specs.Uses.{IfSome, cond, nat_lt, Mut, ◌≡◌, ℕ, ◌+◌, ◌-◌, ◌^◌, ◌≤◌, List, [], ◌∷◌, ◌++◌, Option, Some, None, Bool, true, false, map}
+use Rattle.lite_reshape.specs.Uses.{refl, arith, Poll, Ready, Pending, count_held, OptionBy, SameItem, Sameness, Answer, Gives, item, CalmLaws, NoPending}
+use Rattle.lite_reshape.specs.Uses.{handed, FutureLaws, alike_agrees, no_pending_join, handed_no_pending, handed_waiting, shown_gives, spends_follow}
+use Rattle.lite_reshape.specs.Uses.{spends_found, spends_rest, spends_stay, same_hint, FutureSteadyLawsBy, SteadyLawsBy, StreamLaws, makes_on, AgreeFrom, Calls}
+use Rattle.lite_reshape.specs.Uses.{agree_from_matches, Hints, Question, Runs, through_steady_by, bounded_by, laws_bounded}
 use Rattle.lite_reshape.specs.FlatMap.{EachMade}
-use Rattle.lite_base.specs.Laws.Promises.{makes_on}
 use Rattle.lite_reshape.specs.Laws.Calming.{expanding_calm, through_calm_by}
 use Rattle.lite_reshape.specs.Laws.Expanding.{FollowLaws, GivingOne, expanding_bounded, expanding_following}
 use Rattle.lite_reshape.specs.Laws.SteadyExpanding.{OneMade, expanding_agreeing, expanding_found}
 use Rattle.lite_reshape.specs.Then.{HandsOut, Thens, one_more_at_most, then_hint, then_parts}
 use Rattle.lite_reshape.specs.declared.then.Then.{Then}
-use Rattle.lite_base.specs.Calling.{AgreeFrom, Calls}
-use Rattle.lite_base.specs.Laws.Calling.{agree_from_matches}
-use Rattle.lite_base.specs.Runs.{Hints, Question, Runs}
-use Rattle.lite_stream.specs.Laws.Agreeing.{through_steady_by}
-use Rattle.lite_stream.specs.Laws.Through.{bounded_by, laws_bounded}
 
 module _ {B : Type 0} where
   one_handed : (l : List (Poll B)) (x : B) → Gives l x → Gives (map (handed Some) l ++ []) (Some x)

@@ -1,8 +1,5 @@
 -- No list of its length is below one of zeros.
-use Rattle.std.specs.Prelude.{replicate}
-use Rattle.std.proofs.Common.{◌≡◌, ◌∙◌, ℕ, zero, suc, List, [], ◌∷◌, length, inl, inr, refl, ap, arith}
-use Rattle.std.proofs.lemmas.List.{length-replicate}
-use Rattle.lite_base.specs.Rank.{AtMost}
+use Rattle.lite_reshape.specs.Uses.{replicate, ◌≡◌, ◌∙◌, ℕ, zero, suc, List, [], ◌∷◌, length, inl, inr, refl, ap, arith, length-replicate, AtMost}
 
 pub zeros_least : (n : ℕ) (ys : List ℕ) → length ys ≡ n → AtMost (replicate n 0) ys
 zeros_least zero [] e = inl refl

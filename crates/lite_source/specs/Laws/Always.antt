@@ -1,15 +1,6 @@
 -- Laws of sources that never change.
-use Rattle.std.proofs.Common.{◌≡◌, ◌≤◌, ◌∙◌, ℕ, List, [], ◌∷◌, ◌++◌, Option, Some, refl, inl, arith}
-use Rattle.std.specs.Prelude.{IfSome}
-use Rattle.std.specs.List.{AllByRecursion}
-use Rattle.futures.specs.declared.task.Poll.TheVariants.{Ready, Pending}
-use Rattle.lite_base.specs.Answers.{Answer, ComparableBy, before_end, item, strip}
-use Rattle.lite_base.specs.Calm.{NoPending}
-use Rattle.lite_base.specs.Laws.All.{all_append}
-use Rattle.lite_base.specs.Laws.Hint.{same_hint}
-use Rattle.lite_base.specs.Rank.{AtMost, Lowers}
-use Rattle.lite_base.specs.Ranks.{Counting}
-use Rattle.lite_base.specs.StreamLaws.{StreamLaws}
+use Rattle.lite_source.specs.Uses.{◌≡◌, ◌≤◌, ◌∙◌, ℕ, List, [], ◌∷◌, ◌++◌, Option, Some, refl, inl, arith, IfSome, AllByRecursion, Ready, Pending, Answer}
+use Rattle.lite_source.specs.Uses.{ComparableBy, before_end, item, strip, NoPending, all_append, same_hint, AtMost, Lowers, Counting, StreamLaws}
 use Rattle.lite_source.specs.Always.{Unchanging, no_ranks}
 
 module _ {A : Type 0} (may : Answer A → Type 0) where

@@ -1,11 +1,5 @@
 -- Laws of `empty`.
-use Rattle.std.specs.Prelude.{⊤}
-use Rattle.std.proofs.Common.{◌≡◌, Some, None, refl}
-use Rattle.lite_base.specs.Calm.{CalmLaws}
-use Rattle.lite_base.specs.Laws.Calm.{calm_both}
-use Rattle.lite_base.specs.Ranks.{Counting}
-use Rattle.lite_base.specs.Steady.{Steadiness}
-use Rattle.lite_base.specs.StreamLaws.{StreamLaws}
+use Rattle.lite_source.specs.Uses.{⊤, ◌≡◌, Some, None, refl, CalmLaws, calm_both, Counting, Steadiness, StreamLaws}
 use Rattle.lite_source.specs.Always.{no_ranks}
 use Rattle.lite_source.specs.Empty.{GivesEnds}
 use Rattle.lite_source.specs.Laws.Always.{answers_no_pending, answers_same, itemless_counting, itemless_laws}

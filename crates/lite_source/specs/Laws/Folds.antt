@@ -1,17 +1,6 @@
 -- Laws of sources that make one call a poll.
-use Rattle.std.specs.Prelude.{⊤}
-use Rattle.std.proofs.Common.{◌≡◌, ℕ, List, [], ◌∷◌, Option, None, refl, sym}
-use Rattle.std.specs.List.{FoldsTo}
-use Rattle.futures.specs.declared.task.Poll.TheVariants.{Ready, Pending}
-use Rattle.lite_base.specs.Alike.{Alike}
-use Rattle.lite_base.specs.Answers.{Answer, Comparable, strip}
-use Rattle.lite_base.specs.Calm.{CalmLaws, NoPending}
-use Rattle.lite_base.specs.Laws.Calm.{calm_both}
-use Rattle.lite_base.specs.Laws.Calls.{folds_follow}
-use Rattle.lite_base.specs.Laws.Hint.{same_hint}
-use Rattle.lite_base.specs.Steady.{SteadyLaws}
-use Rattle.lite_base.specs.Laws.Steady.{steady_always}
-use Rattle.lite_base.specs.StreamLaws.{StreamLaws}
+use Rattle.lite_source.specs.Uses.{⊤, ◌≡◌, ℕ, List, [], ◌∷◌, Option, None, refl, sym, FoldsTo, Ready, Pending, Alike, Answer, Comparable, strip, CalmLaws}
+use Rattle.lite_source.specs.Uses.{NoPending, calm_both, folds_follow, same_hint, SteadyLaws, steady_always, StreamLaws}
 
 -- `part` of the source is what changes, by `next` at each poll, and all that it holds
 module _ {S P A : Type 0} (part : S → P) (next : P → Answer A → P → Type 0)

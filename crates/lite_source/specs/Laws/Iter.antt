@@ -1,14 +1,7 @@
 -- Laws of `iter`.
-use Rattle.std.specs.Prelude.{IfSome}
-use Rattle.std.proofs.Common.{◌≤◌, sym, ℕ, List, [], ◌∷◌, Option, Some, None, refl, ap, arith, inl}
-use Rattle.std.specs.Iterator.{Count, IsFinite, MakesProgress, UpTo, size}
-use Rattle.futures.specs.declared.task.Poll.TheVariants.{Ready, Pending}
-use Rattle.lite_base.specs.Answers.{Answer, before_end, items}
-use Rattle.lite_base.specs.Laws.Falling.{Below-one, Lowers-at_most, at_most_one}
-use Rattle.lite_base.specs.Laws.Calls.{folds_follow}
-use Rattle.lite_base.specs.Rank.{Below, Lowers}
-use Rattle.lite_base.specs.Ranks.{Counting}
-use Rattle.lite_base.specs.StreamLaws.{StreamLaws}
+use Rattle.lite_source.specs.Uses.{IfSome, ◌≤◌, sym, ℕ, List, [], ◌∷◌, Option, Some, None, refl, ap, arith, inl, Count, IsFinite, MakesProgress, UpTo, size}
+use Rattle.lite_source.specs.Uses.{Ready, Pending, Answer, before_end, items, Below-one, Lowers-at_most, at_most_one, folds_follow, Below, Lowers, Counting}
+use Rattle.lite_source.specs.Uses.{StreamLaws}
 use Rattle.lite_source.specs.Iter.{AlwaysNext, IterHints, Iterates, NeverRaised, Nexts, iter_ranks}
 use Rattle.lite_source.specs.declared.iter.Iter.{Iter}
 

@@ -1,20 +1,10 @@
 -- Laws of `iter` where nothing is said of its answers: iterators that go on in one way from values that agree give
 -- streams that are alike.
-use Rattle.std.proofs.Common.{◌≡◌, ◌<◌, ℕ, List, ◌∷◌, Option, Some, None, length, ◌∙◌, refl, ap, sym, arith}
-use Rattle.std.specs.Prelude.{MatchOption}
-use Rattle.std.specs.Array.Iter.{array_into_iter_items, array_steps}
-use Rattle.std.specs.Iterator.{Count}
-use Rattle.std.specs.Iterator.Adapters.{copied_source, copied_steps}
-use Rattle.std.specs.Option.{option_copied}
-use Rattle.std.specs.Range.{range_steps}
-use Rattle.std.specs.Slice.Iter.{iter_rest, iter_steps}
-use Rattle.std.specs.Vec.Iter.{into_iter_items, into_iter_len, into_iter_steps}
+use Rattle.lite_source.specs.Uses.{◌≡◌, ◌<◌, ℕ, List, ◌∷◌, Option, Some, None, length, ◌∙◌, refl, ap, sym, arith, MatchOption, array_into_iter_items}
+use Rattle.lite_source.specs.Uses.{array_steps, Count, copied_source, copied_steps, option_copied, range_steps, iter_rest, iter_steps, into_iter_items}
+use Rattle.lite_source.specs.Uses.{into_iter_len, into_iter_steps, Copied, Range, IntoIter, Alike}
 use Rattle.std.specs.declared.array.IntoIter.{IntoIter as ArrayIter}
-use Rattle.std.specs.declared.iter.Copied.{Copied}
-use Rattle.std.specs.declared.ops.Range.{Range}
 use Rattle.std.specs.declared.slice.Iter.{Iter as SliceIter}
-use Rattle.std.specs.declared.vec.IntoIter.{IntoIter}
-use Rattle.lite_base.specs.Alike.{Alike}
 use Rattle.lite_source.specs.Iter.{Iterates}
 use Rattle.lite_source.specs.Laws.Folds.{folds_alike}
 

@@ -1,13 +1,6 @@
 -- Laws of `once`.
-use Rattle.std.specs.Prelude.{⊤}
-use Rattle.std.proofs.Common.{◌≡◌, length, Option, Some, None, refl}
-use Rattle.lite_base.specs.Calm.{CalmLaws, NoPending}
-use Rattle.lite_base.specs.Laws.Calm.{calm_both}
-use Rattle.lite_base.specs.Laws.Hint.{same_hint}
-use Rattle.lite_base.specs.Ranks.{Counting}
-use Rattle.lite_base.specs.Laws.Ranks.{number_counting}
-use Rattle.lite_base.specs.Steady.{Steadiness}
-use Rattle.lite_base.specs.StreamLaws.{StreamLaws}
+use Rattle.lite_source.specs.Uses.{⊤, ◌≡◌, length, Option, Some, None, refl, CalmLaws, NoPending, calm_both, same_hint, Counting, number_counting, Steadiness}
+use Rattle.lite_source.specs.Uses.{StreamLaws}
 use Rattle.lite_source.specs.Once.{GivesOnce, once_left, once_ranks}
 use Rattle.lite_source.specs.Laws.Script.{gives_bounded, gives_calm, gives_follow, gives_lowers, gives_steady}
 

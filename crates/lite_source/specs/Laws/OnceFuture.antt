@@ -1,29 +1,9 @@
 -- Laws of `once_future`.
-use Rattle.std.specs.Prelude.{IfSome}
-use Rattle.std.proofs.Common.{◌≡◌, ◌∙◌, List, [], ◌∷◌, map, refl, Option, Some, None, ap, arith, inl}
-use Rattle.std.specs.List.{AllByRecursion}
-use Rattle.std.specs.Option.{option_len}
-use Rattle.futures.specs.declared.task.Poll.{Poll}
-use Rattle.lite_base.specs.Alike.{OptionBy, SameAnswer, SameItem, Sameness}
-use Rattle.lite_base.specs.Answers.{Answer, ComparableBy, end, strip}
-use Rattle.lite_base.specs.Calm.{CalmLaws, NoPending}
-use Rattle.lite_base.specs.Laws.Falling.{Lowers-below, waiting_lowers}
-use Rattle.lite_base.specs.Future.Spent.{Spends}
-use Rattle.lite_base.specs.FutureLaws.{FutureLaws}
-use Rattle.lite_base.specs.Laws.Alike.{alike_agrees, comparable_nil, ends_same, same_answer}
-use Rattle.lite_base.specs.Laws.All.{all_append}
-use Rattle.lite_base.specs.Laws.Calm.{calm_both, no_pending_join}
-use Rattle.lite_base.specs.Laws.Future.Handed.{handed_gives, handed_no_pending, handed_waiting, handed_waits}
-use Rattle.lite_base.specs.Laws.Future.Spent.{spends_found, spends_follow, spends_rest, spends_stay}
-use Rattle.lite_base.specs.Laws.Hint.{same_hint}
-use Rattle.lite_base.specs.Rank.{Lowers}
-use Rattle.lite_base.specs.Ranks.{Counting}
-use Rattle.lite_base.specs.Laws.Ranks.{number_counting}
-use Rattle.lite_base.specs.Steady.{FutureSteadyLawsBy, SteadinessBy, SteadyLawsBy}
-use Rattle.lite_base.specs.StreamLaws.{StreamLaws}
-use Rattle.lite_base.specs.Laws.StreamLaws.{runs_of}
-use Rattle.lite_base.specs.Future.Handed.{handed}
-use Rattle.lite_base.specs.Runs.{NoHint, Runs}
+use Rattle.lite_source.specs.Uses.{IfSome, ◌≡◌, ◌∙◌, List, [], ◌∷◌, map, refl, Option, Some, None, ap, arith, inl, AllByRecursion, option_len, Poll, OptionBy}
+use Rattle.lite_source.specs.Uses.{SameAnswer, SameItem, Sameness, Answer, ComparableBy, end, strip, CalmLaws, NoPending, Lowers-below, waiting_lowers, Spends}
+use Rattle.lite_source.specs.Uses.{FutureLaws, alike_agrees, comparable_nil, ends_same, same_answer, all_append, calm_both, no_pending_join, handed_gives}
+use Rattle.lite_source.specs.Uses.{handed_no_pending, handed_waiting, handed_waits, spends_found, spends_follow, spends_rest, spends_stay, same_hint, Lowers}
+use Rattle.lite_source.specs.Uses.{Counting, number_counting, FutureSteadyLawsBy, SteadinessBy, SteadyLawsBy, StreamLaws, runs_of, handed, NoHint, Runs}
 use Rattle.lite_source.specs.OnceFuture.{GivesFuture, once_future_ranks}
 use Rattle.lite_source.specs.Laws.Always.{answers_no_pending, answers_same, no_items_lower}
 

@@ -1,9 +1,5 @@
 -- Laws of `pending`.
-use Rattle.std.specs.Prelude.{⊤}
-use Rattle.std.proofs.Common.{◌≡◌, Some}
-use Rattle.lite_base.specs.Ranks.{Counting}
-use Rattle.lite_base.specs.Steady.{Steadiness}
-use Rattle.lite_base.specs.StreamLaws.{StreamLaws}
+use Rattle.lite_source.specs.Uses.{⊤, ◌≡◌, Some, Counting, Steadiness, StreamLaws}
 use Rattle.lite_source.specs.Always.{no_ranks}
 use Rattle.lite_source.specs.Pending.{GivesPendings}
 use Rattle.lite_source.specs.Laws.Always.{itemless_counting, itemless_laws, pendings_strip}

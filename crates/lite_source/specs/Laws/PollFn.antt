@@ -1,11 +1,5 @@
 -- Laws of `poll_fn`.
-use Rattle.std.proofs.Common.{List, Option}
-use Rattle.std.specs.List.{FoldsTo}
-use Rattle.lite_base.specs.Answers.{Answer}
-use Rattle.lite_base.specs.Calm.{CalmLaws}
-use Rattle.lite_base.specs.Laws.Calm.{calm_both}
-use Rattle.lite_base.specs.Future.Calls.{CallAnswers, NeverPends, Poller}
-use Rattle.lite_base.specs.Laws.Future.Calls.{never_pends_on}
+use Rattle.lite_source.specs.Uses.{List, Option, FoldsTo, Answer, CalmLaws, calm_both, CallAnswers, NeverPends, Poller, never_pends_on}
 use Rattle.lite_source.specs.declared.poll_fn.PollFn.{PollFn}
 
 -- where its function is never pending

@@ -1,14 +1,6 @@
 -- Laws of `repeat`.
-use Rattle.std.specs.Prelude.{⊤, Result, Ok, Err}
-use Rattle.std.proofs.Common.{◌≡◌, ℕ, List, [], ◌∷◌, Some, None, ap}
-use Rattle.std.specs.List.{AllByRecursion}
-use Rattle.futures.specs.declared.task.Poll.TheVariants.{Ready, Pending}
-use Rattle.lite_base.specs.Answers.{Answer, Comparable, strip}
-use Rattle.lite_base.specs.Calm.{CalmLaws, NoPending}
-use Rattle.lite_base.specs.Laws.Calm.{calm_both}
-use Rattle.lite_base.specs.Steady.{SteadyLaws}
-use Rattle.lite_base.specs.StreamLaws.{StreamLaws}
-use Rattle.lite_base.specs.Laws.StreamLaws.{runs_of}
+use Rattle.lite_source.specs.Uses.{⊤, Result, Ok, Err, ◌≡◌, ℕ, List, [], ◌∷◌, Some, None, ap, AllByRecursion, Ready, Pending, Answer, Comparable, strip}
+use Rattle.lite_source.specs.Uses.{CalmLaws, NoPending, calm_both, SteadyLaws, StreamLaws, runs_of}
 use Rattle.lite_source.specs.Repeat.{IsCloned, Repeats, SameClones}
 use Rattle.lite_source.specs.Laws.Always.{always_laws}
 

@@ -1,17 +1,7 @@
 -- Laws of `script`, and of other sources whose answers to come are a list.
-use Rattle.std.specs.Prelude.{⊤}
-use Rattle.std.proofs.Common.{◌≡◌, ◌∙◌, ◌≤◌, List, [], ◌∷◌, ◌++◌, length, Option, Some, None, refl, sym, inl}
-use Rattle.std.proofs.Common.{arith}
-use Rattle.futures.specs.declared.task.Poll.TheVariants.{Ready, Pending}
-use Rattle.lite_base.specs.Answers.{Answer, Comparable, before_end, strip}
-use Rattle.lite_base.specs.Calm.{CalmLaws, NoPending}
-use Rattle.lite_base.specs.Laws.Falling.{Below-one, Lowers-at_most, Lowers-below}
-use Rattle.lite_base.specs.Rank.{Lowers}
-use Rattle.lite_base.specs.Laws.Calm.{calm_both}
-use Rattle.lite_base.specs.Laws.Hint.{same_hint}
-use Rattle.lite_base.specs.Steady.{Steadiness}
-use Rattle.lite_base.specs.StreamLaws.{StreamLaws}
-use Rattle.lite_base.specs.Runs.{NoHint}
+use Rattle.lite_source.specs.Uses.{⊤, ◌≡◌, ◌∙◌, ◌≤◌, List, [], ◌∷◌, ◌++◌, length, Option, Some, None, refl, sym, inl, arith, Ready, Pending, Answer, Comparable}
+use Rattle.lite_source.specs.Uses.{before_end, strip, CalmLaws, NoPending, Below-one, Lowers-at_most, Lowers-below, Lowers, calm_both, same_hint, Steadiness}
+use Rattle.lite_source.specs.Uses.{StreamLaws, NoHint}
 use Rattle.lite_source.specs.Script.{GivesScript}
 
 module _ {A : Type 0} where

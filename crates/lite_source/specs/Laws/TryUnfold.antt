@@ -1,9 +1,5 @@
 -- Laws of `try_unfold`.
-use Rattle.std.proofs.Common.{Option, Result}
-use Rattle.std.specs.Fn.{Mut}
-use Rattle.futures.specs.declared.task.Poll.{Poll}
-use Rattle.lite_base.specs.StreamLaws.{StreamLaws}
-use Rattle.lite_base.specs.Runs.{NoHint, Runs}
+use Rattle.lite_source.specs.Uses.{Option, Result, Mut, Poll, StreamLaws, NoHint, Runs}
 use Rattle.lite_source.specs.TryUnfold.{TryUnfoldsBy, try_item_of, try_seed_of}
 use Rattle.lite_source.specs.Laws.Unfolding.{unfolds_laws}
 

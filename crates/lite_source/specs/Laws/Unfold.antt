@@ -1,9 +1,5 @@
 -- Laws of `unfold`.
-use Rattle.std.proofs.Common.{Option}
-use Rattle.std.specs.Fn.{Mut}
-use Rattle.futures.specs.declared.task.Poll.{Poll}
-use Rattle.lite_base.specs.StreamLaws.{StreamLaws}
-use Rattle.lite_base.specs.Runs.{NoHint, Runs}
+use Rattle.lite_source.specs.Uses.{Option, Mut, Poll, StreamLaws, NoHint, Runs}
 use Rattle.lite_source.specs.Unfold.{UnfoldsBy, item_of, seed_of}
 use Rattle.lite_source.specs.Laws.Unfolding.{unfolds_laws}
 

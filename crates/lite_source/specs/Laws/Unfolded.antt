@@ -1,28 +1,10 @@
 -- What `unfold` and `try_unfold` answer, Pendings aside: the same from futures that are alike.
-use Rattle.std.specs.Prelude.{⊤}
-use Rattle.std.proofs.Common.{inl, inr, ◌≡◌, ◌∙◌, ◌⊎◌, List, [], ◌∷◌, ◌++◌, map, flat_map, Option, Some, None, refl, ap}
-use Rattle.std.proofs.Common.{sym, append-nil}
-use Rattle.std.specs.Fn.{Mut}
-use Rattle.std.specs.List.{AllByRecursion, FoldsTo}
-use Rattle.futures.specs.declared.task.Poll.{Poll}
-use Rattle.lite_base.specs.Alike.{OptionBy, SameAnswer, SameItem, Sameness}
-use Rattle.lite_base.specs.Answers.{Answer, ComparableBy, Waiting, end, strip}
-use Rattle.lite_base.specs.Calm.{CalmLaws, NoPending}
-use Rattle.lite_base.specs.Calling.{AgreeFrom, Calls, MakesAlways}
-use Rattle.lite_base.specs.Future.Finishes.{Finishes}
-use Rattle.lite_base.specs.Future.Handed.{handed}
-use Rattle.lite_base.specs.FutureLaws.{FutureLaws}
-use Rattle.lite_base.specs.Laws.Alike.{alike_agrees, equal_options}
-use Rattle.lite_base.specs.Laws.Answers.{strip_join}
-use Rattle.lite_base.specs.Laws.Calling.{agree_from_matches}
-use Rattle.lite_base.specs.Laws.Calm.{calm_both, no_pending_join}
-use Rattle.lite_base.specs.Laws.Future.Finishes.{finishes_found, finishes_later}
-use Rattle.lite_base.specs.Laws.Future.Handed.{handed_gives, handed_no_pending, handed_waits}
-use Rattle.lite_base.specs.Steady.{FutureSteadyLawsBy, SteadinessBy, SteadyLawsBy, TakesNone}
-use Rattle.lite_base.specs.StreamLaws.{StreamLaws}
-use Rattle.lite_base.specs.Laws.StreamLaws.{runs_of}
-use Rattle.lite_base.specs.Runs.{Hints, Question, Runs}
-use Rattle.lite_base.specs.Laws.Promises.{makes_on}
+use Rattle.lite_source.specs.Uses.{⊤, inl, inr, ◌≡◌, ◌∙◌, ◌⊎◌, List, [], ◌∷◌, ◌++◌, map, flat_map, Option, Some, None, refl, ap, sym, append-nil, Mut}
+use Rattle.lite_source.specs.Uses.{AllByRecursion, FoldsTo, Poll, OptionBy, SameAnswer, SameItem, Sameness, Answer, ComparableBy, Waiting, end, strip, CalmLaws}
+use Rattle.lite_source.specs.Uses.{NoPending, AgreeFrom, Calls, MakesAlways, Finishes, handed, FutureLaws, alike_agrees, equal_options, strip_join}
+use Rattle.lite_source.specs.Uses.{agree_from_matches, calm_both, no_pending_join, finishes_found, finishes_later, handed_gives, handed_no_pending}
+use Rattle.lite_source.specs.Uses.{handed_waits, FutureSteadyLawsBy, SteadinessBy, SteadyLawsBy, TakesNone, StreamLaws, runs_of, Hints, Question, Runs}
+use Rattle.lite_source.specs.Uses.{makes_on}
 use Rattle.lite_source.specs.Laws.Always.{answers_no_pending}
 use Rattle.lite_source.specs.Unfolding.{BothHave, Holding, HoldingsBy, IfHeldFuture, IsCurrent, Leads, PartOf}
 use Rattle.lite_source.specs.Unfolding.{UnfoldAlike, UnfoldPart, Unfolds, comes}

@@ -1,15 +1,7 @@
 -- Laws of what `unfold` and `try_unfold` share.
-use Rattle.std.proofs.Common.{inl, inr, ◌≡◌, List, [], ◌∷◌, ◌++◌, Option, Some, None, refl, sym}
-use Rattle.std.proofs.lemmas.Grind.{flat_map-append}
-use Rattle.std.specs.Fn.{Mut}
-use Rattle.std.specs.List.{FoldsTo, flat_map}
-use Rattle.futures.specs.declared.task.Poll.{Poll}
-use Rattle.futures.specs.declared.task.Poll.TheVariants.{Ready, Pending}
-use Rattle.lite_base.specs.Answers.{Answer, end}
-use Rattle.lite_base.specs.Laws.Calls.{folds_follow}
-use Rattle.lite_base.specs.Laws.Hint.{same_hint}
-use Rattle.lite_base.specs.StreamLaws.{StreamLaws}
-use Rattle.lite_base.specs.Runs.{NoHint, Runs}
+use Rattle.lite_source.specs.Uses.{inl, inr, ◌≡◌, List, [], ◌∷◌, ◌++◌, Option, Some, None, refl, sym, flat_map-append, Mut, FoldsTo, Poll, Ready, Pending}
+use Rattle.lite_source.specs.Uses.{Answer, end, folds_follow, same_hint, StreamLaws, NoHint, Runs}
+use Rattle.std.specs.List.{flat_map}
 use Rattle.lite_source.specs.Unfolding.{Holding, UnfoldPart, UnfoldStep, Unfolds, comes}
 
 module _ {F S V O B : Type 0} (call : Mut F (S × Unit {0}) V) (gives : Runs (Poll O) V) (after : O → Option S)

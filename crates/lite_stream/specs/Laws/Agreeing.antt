@@ -1,9 +1,5 @@
 -- Laws of adapters of one source whose answers do not depend on when it was pending.
-use Rattle.std.proofs.Common.{List, Option}
-use Rattle.lite_base.specs.Alike.{AlikeBy, SameAnswer, Sameness}
-use Rattle.lite_base.specs.Answers.{Answer, ComparableBy, strip}
-use Rattle.lite_base.specs.Steady.{SteadyLawsBy}
-use Rattle.lite_base.specs.Runs.{Runs}
+use Rattle.lite_stream.specs.Uses.{List, Option, AlikeBy, SameAnswer, Sameness, Answer, ComparableBy, strip, SteadyLawsBy, Runs}
 use Rattle.lite_stream.specs.Laws.Through.{Entails, Following, through_runs}
 use Rattle.lite_stream.specs.Through.{AdapterParts, Adapts}
 use Rattle.lite_stream.specs.Relates.{Relates}

@@ -1,9 +1,5 @@
 -- Adapters of one source that make up no Pending.
-use Rattle.std.proofs.Common.{◌≤◌, ◌+◌, List, arith}
-use Rattle.lite_base.specs.Answers.{Answer}
-use Rattle.lite_base.specs.Calm.{CalmLaws, waits}
-use Rattle.lite_base.specs.Laws.Calm.{calm_both, none_no_pending, no_pending_none}
-use Rattle.lite_base.specs.Runs.{Runs}
+use Rattle.lite_stream.specs.Uses.{◌≤◌, ◌+◌, List, arith, Answer, CalmLaws, waits, calm_both, none_no_pending, no_pending_none, Runs}
 use Rattle.lite_stream.specs.Laws.Through.{Entails}
 use Rattle.lite_stream.specs.Through.{AdapterParts, Adapts}
 use Rattle.lite_stream.specs.Relates.{Relates}

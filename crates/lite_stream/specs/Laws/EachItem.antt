@@ -1,9 +1,5 @@
 -- Laws of what holds of each item that a source may still give.
-use Rattle.std.proofs.Common.{◌≡◌, List, [], ◌∷◌, ◌++◌, refl}
-use Rattle.futures.specs.declared.task.Poll.TheVariants.{Pending}
-use Rattle.lite_base.specs.Answers.{Answer, end, item}
-use Rattle.lite_base.specs.Runs.{Hints, Question, Runs}
-use Rattle.lite_base.specs.StreamLaws.{StreamLaws}
+use Rattle.lite_stream.specs.Uses.{◌≡◌, List, [], ◌∷◌, ◌++◌, refl, Pending, Answer, end, item, Hints, Question, Runs, StreamLaws}
 use Rattle.lite_stream.specs.EachItem.{AtEachItem}
 
 -- of the item that was answered

@@ -1,8 +1,6 @@
 -- Laws of `fuse`: it cuts the answers off once an end was met.
-use Rattle.std.proofs.Common.{◌≡◌, ◌∙◌, List, [], ◌∷◌, ◌++◌, Some, None, Bool, true, false, refl, inl, inr, ap}
-use Rattle.futures.specs.declared.task.Poll.TheVariants.{Ready, Pending}
-use Rattle.lite_base.specs.Alike.{Sameness}
-use Rattle.lite_base.specs.Answers.{Answer, end, until_end}
+use Rattle.lite_stream.specs.Uses.{◌≡◌, ◌∙◌, List, [], ◌∷◌, ◌++◌, Some, None, Bool, true, false, refl, inl, inr, ap, Ready, Pending, Sameness, Answer, end}
+use Rattle.lite_stream.specs.Uses.{until_end}
 use Rattle.lite_stream.specs.Cutting.{Cuts}
 use Rattle.lite_stream.specs.Fuse.{AllEnds, FusesOn}
 use Rattle.lite_stream.specs.Laws.Agreeing.{AgreeingOver}

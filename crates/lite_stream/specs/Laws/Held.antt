@@ -1,12 +1,6 @@
 -- A rank, and then a place that counts what is held.
-use Rattle.std.proofs.Common.{◌≡◌, ◌∙◌, ℕ, ◌+◌, List, [], ◌∷◌, length, Option, Some, None, inl, refl, ap, arith}
-use Rattle.std.proofs.Common.{length-append}
-use Rattle.std.specs.List.{AllByRecursion}
-use Rattle.lite_base.specs.Answers.{Answer, items}
-use Rattle.lite_base.specs.Laws.Falling.{AtMost-both, Below-after, Below-first}
-use Rattle.lite_base.specs.Laws.Items.{IsItem, each_items}
-use Rattle.lite_base.specs.Rank.{AtMost, Below}
-use Rattle.lite_base.specs.Ranks.{count_held, held_rank}
+use Rattle.lite_stream.specs.Uses.{◌≡◌, ◌∙◌, ℕ, ◌+◌, List, [], ◌∷◌, length, Option, Some, None, inl, refl, ap, arith, length-append, AllByRecursion, Answer}
+use Rattle.lite_stream.specs.Uses.{items, AtMost-both, Below-after, Below-first, IsItem, each_items, AtMost, Below, count_held, held_rank}
 use Rattle.lite_stream.specs.Laws.Lower.{at_most_below}
 
 module _ {V : Type 0} where

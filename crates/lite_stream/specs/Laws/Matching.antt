@@ -1,14 +1,8 @@
 -- What is asked about each item where no closure's answer goes out.
-use Rattle.std.specs.Prelude.{⊤}
-use Rattle.std.proofs.Common.{◌≡◌, ◌∙◌, sym}
-use denote.Ref.{Bor}
-use Rattle.lite_base.specs.Alike.{Pairwise, SameItem, Sameness}
-use Rattle.lite_base.specs.Laws.Alike.{made_same, pairs_same}
+use Rattle.lite_stream.specs.Uses.{⊤, ◌≡◌, ◌∙◌, sym, Bor, Pairwise, SameItem, Sameness, made_same, pairs_same, MatchesFrom, Question}
 use Rattle.lite_stream.specs.Copied.{CopiesItem, Referred}
 use Rattle.lite_stream.specs.Enumerate.{Numbers}
 use Rattle.lite_stream.specs.Inspect.{ShowsItem}
-use Rattle.lite_base.specs.Laws.Calling.{MatchesFrom}
-use Rattle.lite_base.specs.Runs.{Question}
 
 module _ {A : Type 0} where
   -- from one number on

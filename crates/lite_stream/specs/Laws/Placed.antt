@@ -1,11 +1,7 @@
 -- Where something stands in the place of each item: what goes out, Pendings aside, is the same from things that are
 -- alike.
-use Rattle.std.proofs.Common.{◌≡◌, List, [], ◌∷◌, Option, Some, None}
-use Rattle.lite_base.specs.Alike.{OptionBy, SameAnswer, SameItem, Sameness}
-use Rattle.lite_base.specs.Answers.{ComparableBy, strip}
-use Rattle.lite_base.specs.Laws.Alike.{answer_items, comparable_as, comparable_nil, ends_same}
-use Rattle.lite_base.specs.Laws.Calling.{MatchesFrom}
-use Rattle.lite_base.specs.Runs.{Question}
+use Rattle.lite_stream.specs.Uses.{◌≡◌, List, [], ◌∷◌, Option, Some, None, OptionBy, SameAnswer, SameItem, Sameness, ComparableBy, strip, answer_items}
+use Rattle.lite_stream.specs.Uses.{comparable_as, comparable_nil, ends_same, MatchesFrom, Question}
 use Rattle.lite_stream.specs.Laws.Agreeing.{AgreeingOver}
 use Rattle.lite_stream.specs.Laws.Through.{Entails}
 use Rattle.lite_stream.specs.Relates.{Relates}

@@ -1,12 +1,5 @@
 -- Nothing is said of what a value answers: all lists of answers are allowed that the laws allow.
-use Rattle.std.specs.Prelude.{⊤}
-use Rattle.lite_base.specs.FutureLaws.{FutureLaws}
-use Rattle.lite_base.specs.StreamLaws.{StreamLaws}
-use Rattle.lite_base.specs.Runs.{NoHint}
-use Rattle.lite_io_base.specs.Runs.{Anything, MarkLaws}
-use Rattle.lite_io_base.specs.Laws.Runs.{anything_laws}
-use Rattle.lite_io_base.specs.Marks.{ReadMark}
-use Rattle.lite_io_base.specs.Takings.{WriteMark}
+use Rattle.lite_theorems.specs.Uses.{⊤, FutureLaws, StreamLaws, NoHint, Anything, MarkLaws, anything_laws, ReadMark, WriteMark}
 use Rattle.lite_theorems.specs.Futures.{future_by_steps}
 use Rattle.lite_theorems.specs.Laws.Streams.{stream_by_steps}
 use Rattle.lite_theorems.specs.Anything.{AnyAnswers, AnyValue}

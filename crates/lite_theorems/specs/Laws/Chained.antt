@@ -1,14 +1,7 @@
 -- What a chain tells up to its end is what its two readers told up to theirs.
-use Rattle.std.proofs.Common.{◌≡◌, ◌∙◌, ℕ, Bool, true, false, List, [], ◌∷◌, ◌++◌, refl, ap, sym, subst}
-use Rattle.lite_buffered.specs.Chain.{ChainsReaders, EndlessMarks, JoinsReaders, ReadsAcross}
-use Rattle.lite_buffered.specs.Chaining.{first_of, has_ended, second_of}
-use Rattle.lite_buffered.specs.declared.chain.Chain.{Chain}
-use Rattle.lite_io_base.specs.Marks.{ReadMark}
-use Rattle.lite_io_base.specs.Runs.{MarkLaws}
+use Rattle.lite_theorems.specs.Uses.{◌≡◌, ◌∙◌, ℕ, Bool, true, false, List, [], ◌∷◌, ◌++◌, refl, ap, sym, subst, ChainsReaders, EndlessMarks, JoinsReaders}
+use Rattle.lite_theorems.specs.Uses.{ReadsAcross, first_of, has_ended, second_of, Chain, ReadMark, MarkLaws, BytesAlone, bytes_told, told_both, Runs}
 use Rattle.lite_theorems.specs.Chained.{TellsBoth, TellsRest, TellsWhole}
-use Rattle.lite_write.specs.MarkLists.{BytesAlone, bytes_told}
-use Rattle.lite_write.specs.Laws.Copy.{told_both}
-use Rattle.lite_base.specs.Runs.{Runs}
 
 goes_parts : (l m : List ReadMark) → BytesAlone (l ++ m) → BytesAlone l × BytesAlone m
 goes_parts [] m h = (tt, h)

@@ -1,14 +1,6 @@
 -- Where `collect` gives Ok, the stream gave items and pendings and then an end, and the collection holds the items.
-use Rattle.std.specs.Prelude.{IsSome, IfSome}
-use Rattle.std.proofs.Common.{◌≡◌, List, [], ◌∷◌, ◌++◌, Option, Some, None, Result, Ok, refl, ap, sym, subst}
-use Rattle.std.proofs.Common.{append-nil, append_assoc}
-use Rattle.futures.specs.declared.task.Poll.{Poll}
-use Rattle.futures.specs.declared.task.Poll.TheVariants.{Ready, Pending}
-use Rattle.lite_base.specs.Answers.{Answer, Gives, end, item}
-use Rattle.lite_consume.specs.Consuming.{Consumes, Decides, Fold, fold_of}
-use Rattle.lite_consume.specs.Laws.Consuming.{consumes_steps}
-use Rattle.lite_gather.specs.Collect.{collects}
-use Rattle.lite_gather.specs.declared.refused.Refused.{Refused}
+use Rattle.lite_theorems.specs.Uses.{IsSome, IfSome, ◌≡◌, List, [], ◌∷◌, ◌++◌, Option, Some, None, Result, Ok, refl, ap, sym, subst, append-nil, append_assoc}
+use Rattle.lite_theorems.specs.Uses.{Poll, Ready, Pending, Answer, Gives, end, item, Consumes, Decides, Fold, fold_of, consumes_steps, collects, Refused}
 use Rattle.lite_theorems.specs.Interleaving.{items_given}
 use Rattle.lite_theorems.specs.Laws.Rows.{WithoutEnd}
 

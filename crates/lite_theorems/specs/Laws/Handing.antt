@@ -1,14 +1,7 @@
 -- A reader over another, which hands on what that one reads: each byte as what is made of it, each other mark as it is.
-use Rattle.std.proofs.Common.{◌≡◌, ◌∙◌, ◌≤◌, ℕ, List, [], ◌∷◌, ◌++◌, length, map, take, drop, refl, ap, sym, subst}
-use Rattle.std.proofs.Common.{arith, length-append, length-drop, length-take-le}
-use Rattle.std.proofs.Math.Seq.{take-append_seam}
-use Rattle.std.proofs.lemmas.List.{length-map, map-append}
-use Rattle.lite_base.specs.Ranks.{Ranks, ranks_of}
-use Rattle.lite_base.specs.Runs.{Runs}
-use Rattle.lite_io_base.specs.Counting.{ReadCounting}
-use Rattle.lite_io_base.specs.Falls.{Falls}
-use Rattle.lite_io_base.specs.Marks.{AllGiven, ReadMark, bytes, given, moved}
-use Rattle.lite_io_base.specs.Runs.{MarkLaws}
+use Rattle.lite_theorems.specs.Uses.{◌≡◌, ◌∙◌, ◌≤◌, ℕ, List, [], ◌∷◌, ◌++◌, length, map, take, drop, refl, ap, sym, subst, arith, length-append, length-drop}
+use Rattle.lite_theorems.specs.Uses.{length-take-le, take-append_seam, length-map, map-append, Ranks, ranks_of, Runs, ReadCounting, Falls, AllGiven, ReadMark}
+use Rattle.lite_theorems.specs.Uses.{bytes, given, moved, MarkLaws}
 use Rattle.lite_theorems.specs.Handing.{HandsOn, each_byte}
 
 module _ {M R : Type 0} {part : M → R} {f : ℕ → ℕ} {reads : Runs ReadMark R} where

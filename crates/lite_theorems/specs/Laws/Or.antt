@@ -1,20 +1,8 @@
 -- Where `collect` of `or` gives Ok, the collection has taken in all that the two streams had.
-use Rattle.lite_base.specs.Future.AtEachOk.{AtEachOk}
-use Rattle.std.proofs.Common.{◌≡◌, List, [], Result, subst}
-use Rattle.futures.specs.declared.task.Poll.{Poll}
-use Rattle.lite_base.specs.Answers.{Answer}
-use Rattle.lite_base.specs.Runs.{Runs}
-use Rattle.lite_consume.specs.Consume.{Folds}
-use Rattle.lite_consume.specs.Consuming.{fold_of}
-use Rattle.lite_consume.specs.declared.consume.Consume.{Consume}
-use Rattle.lite_gather.specs.Collect.{collects}
-use Rattle.lite_gather.specs.declared.collect.Collect.{Collect}
-use Rattle.lite_gather.specs.declared.refused.Refused.{Refused}
+use Rattle.lite_theorems.specs.Uses.{AtEachOk, ◌≡◌, List, [], Result, subst, Poll, Answer, Runs, Folds, fold_of, Consume, collects, Collect, Refused, Ors, Or}
 use Rattle.lite_theorems.specs.Interleaving.{OrHolds, items_given}
 use Rattle.lite_theorems.specs.Laws.Collected.{Has, collected}
 use Rattle.lite_theorems.specs.Laws.Rows.{merged_whole}
-use Rattle.lite_merge.specs.Or.{Ors}
-use Rattle.lite_merge.specs.declared.or.Or.{Or}
 
 module _ {S U C A : Type 0} (run : Runs (Answer A) S) (run' : Runs (Answer A) U)
     (stays : (x y : S) → run x [] y → y ≡ x) (stays' : (x y : U) → run' x [] y → y ≡ x)

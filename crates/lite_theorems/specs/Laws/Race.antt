@@ -1,22 +1,10 @@
 -- Where `collect` of `race` gives Ok, the collection has taken in all that the two streams had, whatever the words
 -- were.
-use Rattle.lite_base.specs.Future.AtEachOk.{AtEachOk}
-use Rattle.std.proofs.Common.{◌≡◌, List, [], ◌∷◌, ◌++◌, Result}
-use Rattle.rand_core.specs.Stream.{Stream}
-use Rattle.futures.specs.declared.task.Poll.{Poll}
-use Rattle.lite_base.specs.Answers.{Answer, end}
-use Rattle.lite_base.specs.Runs.{Runs}
-use Rattle.lite_consume.specs.Consume.{Folds}
-use Rattle.lite_consume.specs.Consuming.{fold_of}
-use Rattle.lite_consume.specs.declared.consume.Consume.{Consume}
-use Rattle.lite_gather.specs.Collect.{collects}
-use Rattle.lite_gather.specs.declared.collect.Collect.{Collect}
-use Rattle.lite_gather.specs.declared.refused.Refused.{Refused}
+use Rattle.lite_theorems.specs.Uses.{AtEachOk, ◌≡◌, List, [], ◌∷◌, ◌++◌, Result, Stream, Poll, Answer, end, Runs, Folds, fold_of, Consume, collects, Collect}
+use Rattle.lite_theorems.specs.Uses.{Refused, Races, RacesOn, Race}
 use Rattle.lite_theorems.specs.Interleaving.{RaceHolds, items_given}
 use Rattle.lite_theorems.specs.Laws.Collected.{Has, collected}
 use Rattle.lite_theorems.specs.Laws.Rows.{merged_whole}
-use Rattle.lite_merge.specs.Race.{Races, RacesOn}
-use Rattle.lite_merge.specs.declared.race.Race.{Race}
 
 module _ {S U R C A : Type 0} (run : Runs (Answer A) S) (run' : Runs (Answer A) U) (stream : R → Stream)
     (stays : (x y : S) → run x [] y → y ≡ x) (stays' : (x y : U) → run' x [] y → y ≡ x)

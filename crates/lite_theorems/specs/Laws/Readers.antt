@@ -1,15 +1,6 @@
 -- A reader by steps: each mark is a step, in the run `Steps step`.
-use Rattle.std.proofs.Common.{◌<◌, ◌≤◌, ◌+◌, ℕ, List, [], ◌∷◌, arith}
-use Rattle.lite_base.specs.Laws.Falling.{Below-one, at_most_one}
-use Rattle.lite_base.specs.Ranks.{number_ranks}
-use Rattle.lite_io_base.specs.Counting.{ReadCounting}
-use Rattle.lite_io_base.specs.Laws.Counting.{number_counting}
-use Rattle.lite_io_base.specs.Falls.{Falls}
-use Rattle.lite_io_base.specs.Laws.Falls.{falls_at_most, falls_of_below}
-use Rattle.lite_io_base.specs.Laws.Steps.{steps_laws}
-use Rattle.lite_io_base.specs.Marks.{ReadMark, given}
-use Rattle.lite_io_base.specs.Runs.{MarkLaws}
-use Rattle.lite_io_base.specs.Steps.{Steps}
+use Rattle.lite_theorems.specs.Uses.{◌<◌, ◌≤◌, ◌+◌, ℕ, List, [], ◌∷◌, arith, Below-one, at_most_one, number_ranks, ReadCounting, number_counting, Falls}
+use Rattle.lite_theorems.specs.Uses.{falls_at_most, falls_of_below, steps_laws, ReadMark, given, MarkLaws, Steps}
 use Rattle.lite_theorems.specs.Readers.{MarksLower}
 
 -- `step` is what one mark may leave

@@ -1,9 +1,6 @@
 -- A reader by steps that reads many bytes at once, of those that are left: each is one step.
-use Rattle.std.proofs.Common.{◌≡◌, ◌∙◌, ◌<◌, ◌≤◌, ℕ, zero, suc, List, [], ◌∷◌, ◌++◌, length, min, take, drop, refl}
-use Rattle.std.proofs.Common.{sym, ap, subst, arith, length-take-le, slice_set, take-append-drop}
-use Rattle.std.proofs.lemmas.Grind.{common_steps}
-use Rattle.lite_io_base.specs.Marks.{ReadMark, bytes, moved}
-use Rattle.lite_io_base.specs.Steps.{Steps}
+use Rattle.lite_theorems.specs.Uses.{◌≡◌, ◌∙◌, ◌<◌, ◌≤◌, ℕ, zero, suc, List, [], ◌∷◌, ◌++◌, length, min, take, drop, refl, sym, ap, subst, arith}
+use Rattle.lite_theorems.specs.Uses.{length-take-le, slice_set, take-append-drop, common_steps, ReadMark, bytes, moved, Steps}
 use Rattle.lite_theorems.specs.Readers.{MarksLower}
 use Rattle.lite_theorems.specs.Reading.{FrontLaws, FrontStep, ReadsLeft}
 

@@ -1,13 +1,7 @@
 -- The items that go out of rows are an interleaving of those of the two lists.
-use Rattle.std.specs.Prelude.{◌⊎◌, ⊤, true, false, Some, None}
-use Rattle.std.proofs.Common.{◌≡◌, ◌∙◌, Bool, List, [], ◌∷◌, ◌++◌, map, inl, inr, refl, ap, sym, subst}
-use Rattle.futures.specs.declared.task.Poll.TheVariants.{Ready, Pending}
-use Rattle.lite_base.specs.Answers.{Answer, end, strip, until_end}
-use Rattle.lite_base.specs.Runs.{Runs}
+use Rattle.lite_theorems.specs.Uses.{◌⊎◌, ⊤, true, false, Some, None, ◌≡◌, ◌∙◌, Bool, List, [], ◌∷◌, ◌++◌, map, inl, inr, refl, ap, sym, subst, Ready, Pending}
+use Rattle.lite_theorems.specs.Uses.{Answer, end, strip, until_end, Runs, MergeRow, MergeRows, Merges, beside_pending, AllEnds, FusesOn, Fuse}
 use Rattle.lite_theorems.specs.Interleaving.{EndsWith, GivesRest, Interleaves, items_given}
-use Rattle.lite_merge.specs.Merge.{MergeRow, MergeRows, Merges, beside_pending}
-use Rattle.lite_stream.specs.Fuse.{AllEnds, FusesOn}
-use Rattle.lite_stream.specs.declared.fuse.Fuse.{Fuse}
 
 module _ {A : Type 0} where
   -- an answer is an end

@@ -1,17 +1,7 @@
 -- A stream by steps: each poll is a step, in the run `FoldsTo step`.
-use Rattle.std.specs.List.{FoldsTo}
-use Rattle.std.proofs.Common.{◌≤◌, ℕ, List, [], ◌∷◌, Some, None, arith, refl, sym}
-use Rattle.futures.specs.declared.task.Poll.TheVariants.{Ready, Pending}
-use Rattle.lite_base.specs.Answers.{Answer, before_end}
-use Rattle.lite_base.specs.Laws.Falling.{Below-one, Lowers-at_most, at_most_one}
-use Rattle.lite_base.specs.Laws.Calls.{folds_follow}
-use Rattle.lite_base.specs.Laws.Hint.{same_hint}
-use Rattle.lite_base.specs.Rank.{Lowers}
-use Rattle.lite_base.specs.Ranks.{Counting, number_ranks}
+use Rattle.lite_theorems.specs.Uses.{FoldsTo, ◌≤◌, ℕ, List, [], ◌∷◌, Some, None, arith, refl, sym, Ready, Pending, Answer, before_end, Below-one}
+use Rattle.lite_theorems.specs.Uses.{Lowers-at_most, at_most_one, folds_follow, same_hint, Lowers, Counting, number_ranks, RunLaws, StreamLaws, laws_of, NoHint}
 use Rattle.lite_base.specs.Laws.Ranks.{number_counting}
-use Rattle.lite_base.specs.StreamLaws.{RunLaws, StreamLaws}
-use Rattle.lite_base.specs.Laws.StreamLaws.{laws_of}
-use Rattle.lite_base.specs.Runs.{NoHint}
 use Rattle.lite_theorems.specs.Streams.{HintsAt, ItemsLower}
 
 -- `step` is what one poll may answer and leave

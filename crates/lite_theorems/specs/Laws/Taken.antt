@@ -1,8 +1,5 @@
 -- What a writer takes while calls of it are waited for, one after the other.
-use Rattle.std.proofs.Common.{◌≡◌, ◌∙◌, ℕ, List, ◌++◌, ap, append_assoc, sym}
-use Rattle.lite_base.specs.Runs.{Runs}
-use Rattle.lite_io_base.specs.Runs.{MarkLaws}
-use Rattle.lite_io_base.specs.Takings.{WriteMark, bytes_taken}
+use Rattle.lite_theorems.specs.Uses.{◌≡◌, ◌∙◌, ℕ, List, ◌++◌, ap, append_assoc, sym, Runs, MarkLaws, WriteMark, bytes_taken}
 pub use Rattle.lite_io_base.specs.Laws.Takings.{taken_both}
 use Rattle.lite_theorems.specs.BothWriters.{TakesFront}
 

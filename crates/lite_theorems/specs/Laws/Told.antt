@@ -1,9 +1,5 @@
 -- What a reader tells, call after call, pendings aside.
-use Rattle.std.proofs.Common.{◌≡◌, List, [], ◌++◌, refl}
-use Rattle.lite_base.specs.Runs.{Runs}
-use Rattle.lite_io_base.specs.Laws.Steady.{strip_marks-append}
-use Rattle.lite_io_base.specs.Marks.{ReadMark}
-use Rattle.lite_io_base.specs.Runs.{MarkLaws}
+use Rattle.lite_theorems.specs.Uses.{◌≡◌, List, [], ◌++◌, refl, Runs, strip_marks-append, ReadMark, MarkLaws}
 use Rattle.lite_theorems.specs.Told.{ToldStripped}
 
 module _ {R : Type 0} {reads : Runs ReadMark R} (laws : MarkLaws reads) where

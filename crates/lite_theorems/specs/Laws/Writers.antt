@@ -1,8 +1,5 @@
 -- A writer by steps: each mark is a step, in the run `Steps step`.
-use Rattle.lite_io_base.specs.Laws.Steps.{steps_laws}
-use Rattle.lite_io_base.specs.Runs.{MarkLaws}
-use Rattle.lite_io_base.specs.Steps.{Steps}
-use Rattle.lite_io_base.specs.Takings.{WriteMark}
+use Rattle.lite_theorems.specs.Uses.{steps_laws, MarkLaws, Steps, WriteMark}
 
 -- `step` is what one mark may leave
 module _ {S : Type 0} (step : S → WriteMark → S → Type 0) where

@@ -1,28 +1,8 @@
 -- Each item that comes out has a fact, where each that goes in has one: a lemma for each family of adapters.
-use Rattle.std.proofs.Common.{◌≡◌, ℕ, zero, suc, List, [], ◌∷◌, ◌++◌, inl, inr, map, refl}
-use Rattle.std.specs.Fn.{CalledAt, Mut}
-use Rattle.std.specs.Prelude.{⊤, Bool, true, false, Option, Some, None}
-use denote.Ref.{Bor}
-use Rattle.futures.specs.declared.task.Poll.{Poll}
-use Rattle.futures.specs.declared.task.Poll.TheVariants.{Ready, Pending}
-use Rattle.lite_base.specs.Answers.{Answer, Gives, Waiting, end, item}
-use Rattle.lite_base.specs.Calling.{Accepts, Always}
-use Rattle.lite_base.specs.Future.Finishes.{Finishes}
-use Rattle.lite_base.specs.Future.Handed.{handed}
-use Rattle.lite_base.specs.Runs.{Question, Runs}
-use Rattle.lite_stream.specs.Cutting.{Cuts}
-use Rattle.lite_stream.specs.Fuse.{AllEnds, FusesOn}
-use Rattle.lite_stream.specs.Pointwise.{Exchanges, Replaces}
-use Rattle.lite_reshape.specs.Laws.Leaving.{leaves_steps}
-use Rattle.lite_reshape.specs.Leaving.{LeavesOut}
-use Rattle.lite_reshape.specs.Chain.{Joins, is_done, second_after}
-use Rattle.lite_reshape.specs.Flatten.{Flat}
-use Rattle.lite_reshape.specs.Expanding.{Expands}
-use Rattle.lite_reshape.specs.Then.{HandsOut}
-use Rattle.lite_reshape.specs.declared.chain.Part.{Part}
-use Rattle.lite_reshape.specs.declared.chain.Part.TheVariants.{First, Second, Done}
-use Rattle.lite_merge.specs.Merge.{MergeRow, MergeRows}
-use Rattle.lite_merge.specs.Zip.{Pairs, pendings}
+use Rattle.lite_views.specs.Uses.{◌≡◌, ℕ, zero, suc, List, [], ◌∷◌, ◌++◌, inl, inr, map, refl, CalledAt, Mut, ⊤, Bool, true, false, Option, Some, None, Bor}
+use Rattle.lite_views.specs.Uses.{Poll, Ready, Pending, Answer, Gives, Waiting, end, item, Accepts, Always, Finishes, handed, Question, Runs, Cuts, AllEnds}
+use Rattle.lite_views.specs.Uses.{FusesOn, Exchanges, Replaces, leaves_steps, LeavesOut, Joins, is_done, second_after, Flat, Expands, HandsOut, Part, First}
+use Rattle.lite_views.specs.Uses.{Second, Done, MergeRow, MergeRows, Pairs, pendings}
 use Rattle.lite_views.specs.Each.{EachItem}
 
 module _ {A : Type 0} (P : A → Type 0) where

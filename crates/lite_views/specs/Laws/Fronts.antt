@@ -1,9 +1,5 @@
 -- Laws of what stands first in a list.
-use Rattle.std.proofs.lemmas.List.{map-append}
-use Rattle.std.proofs.Common.{◌≤◌, ℕ, zero, suc, List, [], ◌∷◌, ◌∙◌, length, map, take, refl, ap, arith}
-use Rattle.std.specs.Prelude.{Bool}
-use Rattle.std.specs.List.{filter}
-use Rattle.std.proofs.lemmas.List.Elements.{filter-append}
+use Rattle.lite_views.specs.Uses.{map-append, ◌≤◌, ℕ, zero, suc, List, [], ◌∷◌, ◌∙◌, length, map, take, refl, ap, arith, Bool, filter, filter-append}
 use Rattle.lite_views.specs.Fronts.{Front}
 
 pub front_map : {A B : Type 0} (f : A → B) (xs ys : List A) → Front xs ys → Front (map f xs) (map f ys)

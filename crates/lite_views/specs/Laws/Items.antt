@@ -1,19 +1,7 @@
 -- Which items come out: each adapter of a function of its own has a plain function of lists.
-use Rattle.std.proofs.Common.{◌≡◌, ◌≤◌, ℕ, suc, ◌-◌, List, [], ◌∷◌, length, map, take, refl, ap, inl}
-use Rattle.std.proofs.Common.{inr, arith}
-use Rattle.std.specs.List.{filter}
-use Rattle.std.specs.Prelude.{Bool, true, false, Option, Some, None, Result, Ok, Err, IfOk}
-use Rattle.futures.specs.declared.task.Poll.TheVariants.{Ready, Pending}
-use Rattle.lite_base.specs.Answers.{Answer, end, item, items}
-use Rattle.lite_base.specs.Calling.{Always}
-use Rattle.lite_base.specs.Runs.{Question}
-use Rattle.lite_stream.specs.Cutting.{Cuts}
-use Rattle.lite_stream.specs.EachItem.{items_in}
-use Rattle.lite_stream.specs.Laws.Pointwise.{exchanges_steps}
-use Rattle.lite_stream.specs.Pointwise.{Replaces}
-use Rattle.lite_stream.specs.Take.{is_none_left, left_after}
-use Rattle.lite_reshape.specs.Laws.Leaving.{leaves_steps}
-use Rattle.lite_reshape.specs.Leaving.{LeavesOut}
+use Rattle.lite_views.specs.Uses.{◌≡◌, ◌≤◌, ℕ, suc, ◌-◌, List, [], ◌∷◌, length, map, take, refl, ap, inl, inr, arith, filter, Bool, true, false, Option, Some}
+use Rattle.lite_views.specs.Uses.{None, Result, Ok, Err, IfOk, Ready, Pending, Answer, end, item, items, Always, Question, Cuts, items_in, exchanges_steps}
+use Rattle.lite_views.specs.Uses.{Replaces, is_none_left, left_after, leaves_steps, LeavesOut}
 use Rattle.lite_views.specs.Fronts.{Front}
 use Rattle.lite_views.specs.Laws.Fronts.{front_filter, front_map, front_take}
 

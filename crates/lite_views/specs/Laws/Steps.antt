@@ -1,10 +1,5 @@
 -- What values by steps give: the value of a future, and the items of a stream.
-use Rattle.std.proofs.Common.{◌≡◌, List, [], ◌∷◌, Some, None, refl, subst, sym}
-use Rattle.std.specs.List.{FoldsTo}
-use Rattle.std.specs.Prelude.{Ok, Err}
-use Rattle.futures.specs.declared.task.Poll.{Poll}
-use Rattle.futures.specs.declared.task.Poll.TheVariants.{Ready, Pending}
-use Rattle.lite_base.specs.Answers.{Answer, Gives, UpToValue, end, item}
+use Rattle.lite_views.specs.Uses.{◌≡◌, List, [], ◌∷◌, Some, None, refl, subst, sym, FoldsTo, Ok, Err, Poll, Ready, Pending, Answer, Gives, UpToValue, end, item}
 use Rattle.lite_views.specs.Views.{Fits, Lists, Seen, ValueHolds, Waited}
 
 -- a future: P of what it is and of the value that it gives holds at the answer with the value, and before each Pending

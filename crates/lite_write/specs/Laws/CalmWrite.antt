@@ -1,10 +1,5 @@
 -- One write, one flush and one close are calm over a calm writer.
-use Rattle.lite_base.specs.Calm.{CalmLaws}
-use Rattle.lite_base.specs.Runs.{Runs}
-use Rattle.lite_io_base.specs.SteadyWrite.{CalmWriteLaws}
-use Rattle.lite_io_base.specs.Takings.{WriteMark}
-use Rattle.lite_read.specs.Laws.Polled.{calls_calm}
-use Rattle.lite_read.specs.Polled.{PolledByCalls}
+use Rattle.lite_write.specs.Uses.{CalmLaws, Runs, CalmWriteLaws, WriteMark, calls_calm, PolledByCalls}
 use Rattle.lite_write.specs.Close.{Closes}
 use Rattle.lite_write.specs.Flush.{Flushes}
 use Rattle.lite_write.specs.Write.{Writes}

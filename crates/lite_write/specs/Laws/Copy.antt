@@ -1,26 +1,8 @@
 -- Laws of `copy`.
-use Rattle.std.proofs.Common.{◌≡◌, ◌∙◌, ◌<◌, ◌+◌, ◌%◌, ◌^◌, ℕ, Bool, List, [], ◌∷◌, ◌++◌, length, Result, Ok, refl, ap}
-use Rattle.std.proofs.Common.{arith, append-nil, append_assoc, length-append}
-use Rattle.std.proofs.Math.Nat.{mod-add-mod}
-use Rattle.std.proofs.lemmas.Grind.{flat_map-append}
-use Rattle.std.proofs.lemmas.List.Elements.{filter-append}
-use Rattle.std.specs.List.{filter}
-use Rattle.std.specs.declared.io.Error.{Error}
-use Rattle.futures.specs.declared.task.Poll.{Poll}
-use Rattle.lite_base.specs.Answers.{Waiting, strip}
-use Rattle.lite_base.specs.Chain.{Reaches}
-use Rattle.lite_base.specs.Laws.Chain.{Reaches-back}
-use Rattle.lite_base.specs.FutureLaws.{FutureLaws}
-use Rattle.lite_base.specs.Laws.Answers.{strip_join, up_to_once, waiting_strip, waiting_up_to}
-use Rattle.lite_base.specs.Laws.Calm.{waits_join}
-use Rattle.lite_base.specs.Runs.{Runs}
-use Rattle.lite_buffered.specs.BufReader.{ThroughBuffer}
-use Rattle.lite_io_base.specs.Laws.Falls.{GivenRun}
-use Rattle.lite_io_base.specs.Marks.{ReadMark}
-use Rattle.lite_io_base.specs.Runs.{MarkLaws}
-use Rattle.lite_io_base.specs.Takings.{WriteMark, bytes_taken}
-use Rattle.lite_io_base.specs.Laws.Takings.{taken_both}
-use Rattle.lite_read.specs.Laws.PollSteps.{given_of, idle_join}
+use Rattle.lite_write.specs.Uses.{◌≡◌, ◌∙◌, ◌<◌, ◌+◌, ◌%◌, ◌^◌, ℕ, Bool, List, [], ◌∷◌, ◌++◌, length, Result, Ok, refl, ap, arith, append-nil, append_assoc}
+use Rattle.lite_write.specs.Uses.{length-append, mod-add-mod, flat_map-append, filter-append, filter, Error, Poll, Waiting, strip, Reaches, Reaches-back}
+use Rattle.lite_write.specs.Uses.{FutureLaws, strip_join, up_to_once, waiting_strip, waiting_up_to, waits_join, Runs, ThroughBuffer, GivenRun, ReadMark}
+use Rattle.lite_write.specs.Uses.{MarkLaws, WriteMark, bytes_taken, taken_both, given_of, idle_join}
 use Rattle.lite_write.specs.Copy.{Copied, CopyRuns, CopyValue, Moves}
 use Rattle.lite_write.specs.Copying.{CopiesSome}
 use Rattle.lite_write.specs.MarkLists.{BytesAlone, TakesSome, TakesUpTo, TellsUpTo, byte_in, bytes_told, is_taken_wait}

@@ -1,9 +1,5 @@
 -- Laws of `sink`.
-use Rattle.std.proofs.Common.{List, [], ◌∷◌, ◌++◌, refl}
-use Rattle.std.specs.Prelude.{⊤}
-use Rattle.lite_io_base.specs.Runs.{MarkLaws}
-use Rattle.lite_io_base.specs.SteadyWrite.{CalmWriteLaws, NoPendingWrite, SteadyWriteLaws}
-use Rattle.lite_io_base.specs.Takings.{WriteMark}
+use Rattle.lite_write.specs.Uses.{List, [], ◌∷◌, ◌++◌, refl, ⊤, MarkLaws, CalmWriteLaws, NoPendingWrite, SteadyWriteLaws, WriteMark}
 use Rattle.lite_write.specs.Sink.{Sinks}
 use Rattle.lite_write.specs.declared.sink.Sink.{Sink}
 

@@ -1,27 +1,9 @@
 -- `copy` gives one value wherever its reader and its writer were pending, where no write fails, and is pending only
 -- where one of them is.
-use Rattle.std.specs.Prelude.{⊤, IsOk}
-use Rattle.std.proofs.Common.{◌≡◌, ◌∙◌, ◌+◌, ◌%◌, ◌^◌, ℕ, List, [], ◌∷◌, ◌++◌, Ok, Err, length, refl, ap, sym}
-use Rattle.std.proofs.Common.{arith, append-nil, length-append}
-use Rattle.std.specs.IoError.{error_kind}
-use Rattle.std.specs.declared.io.Error.{Error}
-use Rattle.futures.specs.declared.task.Poll.{Poll}
-use Rattle.lite_base.specs.Answers.{Comparable, ComparableBy, strip}
-use Rattle.lite_base.specs.Calm.{CalmLaws}
-use Rattle.lite_base.specs.Future.Finishes.{Finishes}
-use Rattle.lite_base.specs.Laws.Alike.{gives_strip}
-use Rattle.lite_base.specs.Laws.Calm.{none_no_pending}
-use Rattle.lite_base.specs.Alike.{Sameness}
-use Rattle.lite_base.specs.Steady.{FutureSteadyLawsBy}
-use Rattle.lite_base.specs.Runs.{Runs}
-use Rattle.lite_io_base.specs.Laws.Steady.{comparable_behind, strip_marks-append}
-use Rattle.lite_io_base.specs.Marks.{ReadMark, bytes}
-use Rattle.lite_io_base.specs.Runs.{MarkLaws}
-use Rattle.lite_base.specs.Steady.{TakesNone}
-use Rattle.lite_io_base.specs.Steady.{CalmReadLaws, NoPendingRead, SteadyReadLaws, strip_marks}
-use Rattle.lite_io_base.specs.SteadyWrite.{CalmWriteLaws, NoPendingWrite}
-use Rattle.lite_io_base.specs.Takings.{WriteMark, bytes_taken}
-use Rattle.lite_read.specs.Deterministic.{SameByKind}
+use Rattle.lite_write.specs.Uses.{⊤, IsOk, ◌≡◌, ◌∙◌, ◌+◌, ◌%◌, ◌^◌, ℕ, List, [], ◌∷◌, ◌++◌, Ok, Err, length, refl, ap, sym, arith, append-nil, length-append}
+use Rattle.lite_write.specs.Uses.{error_kind, Error, Poll, Comparable, ComparableBy, strip, CalmLaws, Finishes, gives_strip, none_no_pending, Sameness}
+use Rattle.lite_write.specs.Uses.{FutureSteadyLawsBy, Runs, comparable_behind, strip_marks-append, ReadMark, bytes, MarkLaws, TakesNone, CalmReadLaws}
+use Rattle.lite_write.specs.Uses.{NoPendingRead, SteadyReadLaws, strip_marks, CalmWriteLaws, NoPendingWrite, WriteMark, bytes_taken, SameByKind}
 use Rattle.lite_write.specs.Laws.SteadyWriteAll.{without_failure_laws, no_failure_both, no_failure_last}
 use Rattle.lite_write.specs.SteadyWriteAll.{NoFailure, NoneFails, WithoutFailure}
 use Rattle.lite_write.specs.Copy.{CopyRuns, CopyValue, Moves}

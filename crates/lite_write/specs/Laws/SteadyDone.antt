@@ -1,14 +1,6 @@
 -- `flush` and `close` give Ok, where their writer does not fail.
-use Rattle.std.proofs.Common.{◌≡◌, List, [], ◌∷◌, Ok, Err, refl}
-use Rattle.std.specs.Prelude.{⊤}
-use Rattle.futures.specs.declared.task.Poll.{Poll}
-use Rattle.futures.specs.declared.task.Poll.TheVariants.{Ready, Pending}
-use Rattle.lite_base.specs.Answers.{strip}
-use Rattle.lite_base.specs.Steady.{FutureSteadyLaws}
-use Rattle.lite_base.specs.Runs.{Runs}
-use Rattle.lite_io_base.specs.Takings.{WriteMark, done_marks}
-use Rattle.lite_read.specs.Laws.Polled.{polled_laws}
-use Rattle.lite_read.specs.Polled.{PolledByCalls}
+use Rattle.lite_write.specs.Uses.{◌≡◌, List, [], ◌∷◌, Ok, Err, refl, ⊤, Poll, Ready, Pending, strip, FutureSteadyLaws, Runs, WriteMark, done_marks, polled_laws}
+use Rattle.lite_write.specs.Uses.{PolledByCalls}
 use Rattle.lite_write.specs.Close.{Closes}
 use Rattle.lite_write.specs.Flush.{Flushes}
 use Rattle.lite_write.specs.Laws.SteadyWriteAll.{AllOk, all_ok_same}

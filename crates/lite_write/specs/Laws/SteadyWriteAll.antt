@@ -1,17 +1,6 @@
 -- `write_all` gives Ok in the end, where no write fails, and is pending only where its writer is.
-use Rattle.std.proofs.Common.{◌≡◌, ℕ, List, [], ◌∷◌, ◌++◌, Ok, map, refl, subst}
-use Rattle.std.specs.Prelude.{⊤}
-use Rattle.futures.specs.declared.task.Poll.{Poll}
-use Rattle.futures.specs.declared.task.Poll.TheVariants.{Ready, Pending}
-use Rattle.lite_base.specs.Answers.{ComparableBy, strip}
-use Rattle.lite_base.specs.Calm.{CalmLaws, NoPending}
-use Rattle.lite_base.specs.Laws.Segments.{to_value_last}
-use Rattle.lite_base.specs.Steady.{FutureSteadyLaws}
-use Rattle.lite_base.specs.Runs.{Runs}
-use Rattle.lite_io_base.specs.Runs.{MarkLaws}
-use Rattle.lite_io_base.specs.Laws.SteadyWrite.{never_waits_parts}
-use Rattle.lite_io_base.specs.SteadyWrite.{CalmWriteLaws, NoPendingWrite}
-use Rattle.lite_io_base.specs.Takings.{WriteMark}
+use Rattle.lite_write.specs.Uses.{◌≡◌, ℕ, List, [], ◌∷◌, ◌++◌, Ok, map, refl, subst, ⊤, Poll, Ready, Pending, ComparableBy, strip, CalmLaws, NoPending}
+use Rattle.lite_write.specs.Uses.{to_value_last, FutureSteadyLaws, Runs, MarkLaws, never_waits_parts, CalmWriteLaws, NoPendingWrite, WriteMark}
 use Rattle.lite_write.specs.Laws.WriteAll.{WriteAllResult, all_laws}
 use Rattle.lite_write.specs.SteadyWriteAll.{NoFailure, NoneFails, WithoutFailure}
 use Rattle.lite_write.specs.WriteAll.{Ended, HandsMarks, HandsOver, WritesAll}

@@ -1,15 +1,6 @@
 -- Laws of `write_all`.
-use Rattle.std.proofs.Common.{◌∙◌, ◌<◌, [], ◌∷◌, ◌++◌, length, Result, refl, ap, arith, length-append}
-use Rattle.std.specs.declared.io.Error.{Error}
-use Rattle.futures.specs.declared.task.Poll.{Poll}
-use Rattle.lite_base.specs.FutureLaws.{FutureLaws}
-use Rattle.lite_base.specs.Laws.Answers.{up_to_once}
-use Rattle.lite_base.specs.Laws.Segments.{segment_before, segments_before, to_value_join}
-use Rattle.lite_base.specs.Runs.{Runs}
-use Rattle.lite_io_base.specs.Runs.{MarkLaws}
-use Rattle.lite_io_base.specs.Takings.{WriteMark}
-use Rattle.lite_io_base.specs.Laws.Lent.{lent_still}
-use Rattle.lite_read.specs.Laws.PollSteps.{idle_join}
+use Rattle.lite_write.specs.Uses.{◌∙◌, ◌<◌, [], ◌∷◌, ◌++◌, length, Result, refl, ap, arith, length-append, Error, Poll, FutureLaws, up_to_once, segment_before}
+use Rattle.lite_write.specs.Uses.{segments_before, to_value_join, Runs, MarkLaws, WriteMark, lent_still, idle_join}
 use Rattle.lite_write.specs.PollSteps.{WritesSome}
 use Rattle.lite_write.specs.WriteAll.{HandsMarks, WritesAll}
 use Rattle.lite_write.specs.declared.write_all.WriteAllFuture.{WriteAllFuture}

@@ -1,5 +1,4 @@
-use Rattle.lite_views.specs.Views.{Waited}
-use Rattle.lite_views.proofs.Views.{seen}
+use Rattle.futures_lite.specs.Uses.{Waited, seen}
 use Rattle.futures_lite.proofs.future.block_on.Goals as goal
 
 pub returns-clause-waited : goal.returns-clause-waited

@@ -1,8 +1,4 @@
-use Rattle.std.proofs.Common.{length, subst}
-use Rattle.std.specs.Array.Iter.{array_into_iter_items, array_steps}
-use Rattle.std.specs.Iterator.{at_most}
-use Rattle.lite_views.specs.Iterators.{GivesAll}
-use Rattle.lite_views.proofs.SourceLists.{array_gives}
+use Rattle.futures_lite.specs.Uses.{length, subst, array_into_iter_items, array_steps, at_most, GivesAll, array_gives}
 use Rattle.futures_lite.proofs.stream.iter_array.Goals as goal
 
 pub returns : goal.returns

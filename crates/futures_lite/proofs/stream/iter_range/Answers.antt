@@ -1,5 +1,4 @@
-use Rattle.std.proofs.Common.{◌≡◌, ◌-◌, refl}
-use Rattle.lite_views.proofs.SourceLists.{range_gives}
+use Rattle.futures_lite.specs.Uses.{◌≡◌, ◌-◌, refl, range_gives}
 use Rattle.futures_lite.proofs.stream.iter_range.Goals as goal
 
 pub returns-clause-lists : goal.returns-clause-lists

@@ -1,9 +1,4 @@
-use Rattle.std.proofs.Common.{◌∙◌, ap, length, subst}
-use Rattle.std.specs.Iterator.{at_most}
-use Rattle.std.specs.Iterator.Adapters.{copied_source, copied_steps}
-use Rattle.std.specs.Slice.Iter.{iter_rest, iter_steps}
-use Rattle.lite_views.specs.Iterators.{GivesAll}
-use Rattle.lite_views.proofs.SourceLists.{slice_gives}
+use Rattle.futures_lite.specs.Uses.{◌∙◌, ap, length, subst, at_most, copied_source, copied_steps, iter_rest, iter_steps, GivesAll, slice_gives}
 use Rattle.futures_lite.proofs.stream.iter_slice.Goals as goal
 
 pub returns : goal.returns

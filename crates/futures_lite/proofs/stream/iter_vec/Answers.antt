@@ -1,8 +1,4 @@
-use Rattle.std.proofs.Common.{◌∙◌, ap, length, subst, sym}
-use Rattle.std.specs.Vec.Iter.{into_iter_steps, into_iter_len}
-use Rattle.std.specs.Iterator.{at_most}
-use Rattle.lite_views.specs.Iterators.{GivesAll}
-use Rattle.lite_views.proofs.SourceLists.{vec_gives}
+use Rattle.futures_lite.specs.Uses.{◌∙◌, ap, length, subst, sym, into_iter_steps, into_iter_len, at_most, GivesAll, vec_gives}
 use Rattle.futures_lite.proofs.stream.iter_vec.Goals as goal
 
 pub returns : goal.returns

@@ -1,4 +1,4 @@
-use Rattle.lite_views.proofs.SourceLists.{once_fronts, once_lists}
+use Rattle.futures_lite.specs.Uses.{once_fronts, once_lists}
 use Rattle.futures_lite.proofs.stream.once.Goals as goal
 
 pub returns-clause-lists : goal.returns-clause-lists

@@ -1,9 +1,8 @@
 -- The walk of `drive_into` by hand: its loop ends by the order of the steps, which is no number. Each step lends the
 -- three references to `step_into`.
-use Rattle.std.proofs.Common.{None, Some, Option, Bool, true, false, IsSome, IfSome, MatchOption, ◌≡◌, ℕ, List, [], ◌∷◌}
-use Rattle.std.proofs.Common.{refl, ap, subst}
-use Rattle.std.proofs.raw_atomic.Walks.{proved, leaves}
-use Rattle.futures.specs.Task.{Keeps}
+use Rattle.lite_base.specs.Uses.{None, Some, Option, Bool, true, false, IsSome, IfSome, MatchOption, ◌≡◌, ℕ, List, [], ◌∷◌, refl, ap, subst, proved, leaves}
+use Rattle.lite_base.specs.Uses.{Keeps, mem, bounded, param, RattleType, mut_vals, mut_Tells, plain, heard, nothing, only, calls_at, Clauses, Ended, triple_of}
+use Rattle.lite_base.specs.Uses.{Contract, Triple, Stays, stay_ref, walk_of, Goes-ref}
 use Rattle.futures.specs.contracts.task.Poll as PollRow
 use Rattle.futures.specs.contracts.task.context.Context as ContextRow
 use Rattle.std.specs.contracts.option.Option as OptionRow
@@ -26,17 +25,6 @@ use contract.BorrowLft.{◌⊑◌, ⊑_refl, ⊑_trans, meet_⊑_right}
 use contract.Lifetimes.{AllOutlive, Lfts, Shares}
 use contract.Monad.{Fun, fact, fact_i}
 use contract.Running.{tables, tables_of}
-use denote.Memory.{mem}
-use denote.Param.{bounded, param}
-use denote.RattleType.{RattleType}
-use denote.Ref.{mut_vals, mut_Tells}
-use denote.Signature.{plain}
-use denote.Steps.{heard, nothing, only}
-use denote.Triple.Call.{calls_at}
-use denote.Triple.Clauses.{Clauses, Ended}
-use denote.Triple.Spec.{triple_of}
-use denote.Triple.Statement.{Contract, Triple}
-use denote.Triple.Walked.{Stays, stay_ref, walk_of, Goes-ref}
 use mathlib.Core.WellFounded.InvImage
 use mir.MapTy.{inst_fn}
 use mir.Syntax.{Args, Body, Callee, Dict, Fn, a_type, block, dcons, dnil, loop, named, return, seq}

@@ -1,10 +1,5 @@
 -- Laws of a closure that is polled.
-use Rattle.std.specs.Prelude.{⊤}
-use Rattle.std.specs.List.{FoldsTo}
-use Rattle.std.proofs.Common.{List, ◌∷◌, refl, sym, ap}
-use Rattle.futures.specs.Poll.{OnPending}
-use Rattle.futures.specs.declared.task.Poll.{Poll}
-use Rattle.futures.specs.declared.task.Poll.TheVariants.{Ready, Pending}
+use Rattle.lite_base.specs.Uses.{⊤, FoldsTo, List, ◌∷◌, refl, sym, ap, OnPending, Poll, Ready, Pending}
 use Rattle.lite_base.specs.Alike.{Alike}
 use Rattle.lite_base.specs.Answers.{Waiting}
 use Rattle.lite_base.specs.Calm.{CalmLaws}

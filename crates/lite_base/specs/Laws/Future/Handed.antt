@@ -1,7 +1,5 @@
 -- Laws of what a stream answers that polls a future.
-use Rattle.std.proofs.Common.{◌≡◌, List, [], ◌∷◌, ◌++◌, map, Option}
-use Rattle.futures.specs.declared.task.Poll.{Poll}
-use Rattle.futures.specs.declared.task.Poll.TheVariants.{Ready, Pending}
+use Rattle.lite_base.specs.Uses.{◌≡◌, List, [], ◌∷◌, ◌++◌, map, Option, Poll, Ready, Pending}
 use Rattle.lite_base.specs.Answers.{Answer, Gives, Waiting, strip}
 use Rattle.lite_base.specs.Calm.{NoPending}
 use Rattle.lite_base.specs.Future.Handed.{handed}

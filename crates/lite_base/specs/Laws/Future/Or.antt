@@ -1,7 +1,5 @@
 -- Laws of `or`.
-use Rattle.std.specs.Prelude.{◌⊎◌}
-use Rattle.std.proofs.lemmas.List.{map-append}
-use Rattle.futures.specs.declared.task.Poll.{Poll}
+use Rattle.lite_base.specs.Uses.{◌⊎◌, map-append, Poll}
 use Rattle.lite_base.specs.Calm.{CalmLaws}
 use Rattle.lite_base.specs.Future.Or.{FutureOrs}
 use Rattle.lite_base.specs.FutureLaws.{FutureLaws}

@@ -1,7 +1,5 @@
 -- Laws of `pending`.
-use Rattle.std.specs.Prelude.{⊤}
-use Rattle.std.proofs.Common.{◌≡◌, ◌∙◌, List, refl}
-use Rattle.futures.specs.declared.task.Poll.{Poll}
+use Rattle.lite_base.specs.Uses.{⊤, ◌≡◌, ◌∙◌, List, refl, Poll}
 use Rattle.lite_base.specs.Answers.{Waiting}
 use Rattle.lite_base.specs.FutureLaws.{FutureLaws}
 use Rattle.lite_base.specs.Laws.Answers.{waiting_once, waiting_strip, waiting_waiting}

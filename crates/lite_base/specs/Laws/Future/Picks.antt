@@ -1,8 +1,5 @@
 -- Laws of two futures of which one is asked first.
-use Rattle.std.specs.Prelude.{◌⊎◌}
-use Rattle.std.proofs.Common.{◌≡◌, List, [], ◌∷◌, ◌++◌, Bool, refl, subst, ap, inl, inr}
-use Rattle.futures.specs.declared.task.Poll.{Poll}
-use Rattle.futures.specs.declared.task.Poll.TheVariants.{Ready, Pending}
+use Rattle.lite_base.specs.Uses.{◌⊎◌, ◌≡◌, List, [], ◌∷◌, ◌++◌, Bool, refl, subst, ap, inl, inr, Poll, Ready, Pending}
 use Rattle.lite_base.specs.Answers.{Waiting}
 use Rattle.lite_base.specs.Calm.{CalmLaws, NoPending}
 use Rattle.lite_base.specs.Future.Picks.{PickRow, PickRows, Picks}

@@ -1,9 +1,5 @@
 -- Laws of `race`.
-use Rattle.std.specs.Prelude.{◌⊎◌}
-use Rattle.std.proofs.Common.{◌≤◌, List, [], ◌∷◌, ◌++◌, length, refl, subst, sym, append-nil, arith}
-use Rattle.std.proofs.lemmas.List.{map-append}
-use Rattle.rand_core.specs.Stream.{Stream}
-use Rattle.futures.specs.declared.task.Poll.{Poll}
+use Rattle.lite_base.specs.Uses.{◌⊎◌, ◌≤◌, List, [], ◌∷◌, ◌++◌, length, refl, subst, sym, append-nil, arith, map-append, Stream, Poll}
 use Rattle.lite_base.specs.Answers.{Waiting, strip}
 use Rattle.lite_base.specs.Calm.{CalmLaws, NoPending}
 use Rattle.lite_base.specs.Future.Race.{FutureRacesOn, is_first}

@@ -1,7 +1,5 @@
 -- Laws of a future that is held until its value.
-use Rattle.std.proofs.Common.{◌≡◌, List, [], ◌∷◌, ◌++◌, map, refl, Option, Some, None, append_assoc, ap}
-use Rattle.std.proofs.lemmas.List.{map-append}
-use Rattle.futures.specs.declared.task.Poll.{Poll}
+use Rattle.lite_base.specs.Uses.{◌≡◌, List, [], ◌∷◌, ◌++◌, map, refl, Option, Some, None, append_assoc, ap, map-append, Poll}
 use Rattle.lite_base.specs.Answers.{Gives}
 use Rattle.lite_base.specs.Future.Spent.{Spends}
 use Rattle.lite_base.specs.FutureLaws.{FutureLaws}

@@ -1,8 +1,5 @@
 -- Laws of `try_zip`.
-use Rattle.std.specs.Prelude.{Result, Ok}
-use Rattle.std.proofs.Common.{◌≡◌, ◌∙◌, ◌≤◌, ℕ, List, [], ◌∷◌, ◌++◌, length, subst, sym, inl, inr, arith, length-append}
-use Rattle.futures.specs.declared.task.Poll.{Poll}
-use Rattle.futures.specs.declared.task.Poll.TheVariants.{Ready, Pending}
+use Rattle.lite_base.specs.Uses.{Result, Ok, ◌≡◌, ◌∙◌, ◌≤◌, ℕ, List, [], ◌∷◌, ◌++◌, length, subst, sym, inl, inr, arith, length-append, Poll, Ready, Pending}
 use Rattle.lite_base.specs.Answers.{Gives, Waiting, strip}
 use Rattle.lite_base.specs.Calm.{CalmLaws, NoPending}
 use Rattle.lite_base.specs.Future.Half.{IfAsked, Stands}

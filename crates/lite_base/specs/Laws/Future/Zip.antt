@@ -1,5 +1,5 @@
 -- Laws of `zip`.
-use Rattle.futures.specs.declared.task.Poll.{Poll}
+use Rattle.lite_base.specs.Uses.{Poll}
 use Rattle.lite_base.specs.Alike.{Pairwise, SameItem, Sameness}
 use Rattle.lite_base.specs.Calm.{CalmLaws}
 use Rattle.lite_base.specs.Future.Half.{HalvesBy, IfAsked}

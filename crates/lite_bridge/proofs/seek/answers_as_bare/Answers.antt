@@ -1,7 +1,4 @@
-use Rattle.std.proofs.Common.{ℕ, List, [], ◌∷◌, subst, sym, ap}
-use Rattle.lite_buffered.specs.declared.buf_reader.BufReader.{BufReader}
-use Rattle.lite_buffered.specs.BufReader.{ThroughBuffer}
-use Rattle.lite_buffered.specs.SeeksThrough.{SeeksThrough}
+use Rattle.lite_bridge.specs.Uses.{ℕ, List, [], ◌∷◌, subst, sym, ap, BufReader, ThroughBuffer, SeeksThrough}
 use Rattle.lite_bridge.specs.declared.cursor.Cursor.{Cursor}
 use Rattle.lite_bridge.specs.Cursor.{CursorReads, CursorSeeks}
 use Rattle.lite_bridge.specs.Calls.{Event, RunsEvents}

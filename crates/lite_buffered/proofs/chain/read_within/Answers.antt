@@ -1,5 +1,4 @@
-use Rattle.std.proofs.Common.{◌<◌, length, rules, sym, subst, arith}
-use Rattle.lite_io_base.specs.Laws.Runs.{CountsWithin}
+use Rattle.lite_buffered.specs.Uses.{◌<◌, length, rules, sym, subst, arith, CountsWithin}
 use Rattle.lite_buffered.proofs.Crossing.{reads_wide}
 use Rattle.lite_buffered.proofs.chain.read_within.Goals as goal
 

@@ -1,10 +1,5 @@
 -- A `BufReader` as a writer is as steady and as calm as what it writes to.
-use Rattle.std.specs.Prelude.{ℕ, List}
-use Rattle.lite_base.specs.Runs.{Runs}
-use Rattle.lite_base.specs.Laws.Calm.{calm_part}
-use Rattle.lite_io_base.specs.Laws.SteadyWrite.{steady_write_part}
-use Rattle.lite_io_base.specs.SteadyWrite.{CalmWriteLaws, SteadyWriteLaws}
-use Rattle.lite_io_base.specs.Takings.{WriteMark}
+use Rattle.lite_buffered.specs.Uses.{ℕ, List, Runs, calm_part, steady_write_part, CalmWriteLaws, SteadyWriteLaws, WriteMark}
 use Rattle.lite_buffered.specs.BufReader.{Past}
 use Rattle.lite_buffered.specs.declared.buf_reader.BufReader.{BufReader}
 

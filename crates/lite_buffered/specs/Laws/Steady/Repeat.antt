@@ -1,10 +1,6 @@
 -- `repeat` tells one tale, and is never pending.
-use Rattle.std.proofs.Common.{◌≡◌, ◌∙◌, List, [], ◌∷◌, ap, sym}
-use Rattle.std.specs.Prelude.{⊤}
-use Rattle.lite_base.specs.Answers.{Comparable}
-use Rattle.lite_io_base.specs.Laws.Steady.{comparable_stripped, steady_read_always}
-use Rattle.lite_io_base.specs.Marks.{ReadMark}
-use Rattle.lite_io_base.specs.Steady.{CalmReadLaws, NoPendingRead, SteadyReadLaws}
+use Rattle.lite_buffered.specs.Uses.{◌≡◌, ◌∙◌, List, [], ◌∷◌, ap, sym, ⊤, Comparable, comparable_stripped, steady_read_always, ReadMark, CalmReadLaws}
+use Rattle.lite_buffered.specs.Uses.{NoPendingRead, SteadyReadLaws}
 use Rattle.lite_buffered.specs.declared.repeat.Repeat.{Repeat}
 use Rattle.lite_buffered.specs.Laws.Repeat.{repeats_laws}
 use Rattle.lite_buffered.specs.Repeat.{RepeatsByte}

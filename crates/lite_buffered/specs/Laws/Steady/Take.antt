@@ -1,10 +1,6 @@
 -- `take` tells one tale where its reader does, and is never pending where its reader isn't.
-use Rattle.std.proofs.Common.{◌≡◌, ◌∙◌, ℕ, zero, suc, List, [], ◌∷◌, ◌++◌, refl, sym, subst, arith}
-use Rattle.lite_base.specs.Answers.{Comparable}
-use Rattle.lite_base.specs.Runs.{Runs}
-use Rattle.lite_io_base.specs.Laws.Steady.{comparable_none, no_wait_both, strip_marks-append}
-use Rattle.lite_io_base.specs.Marks.{ReadMark}
-use Rattle.lite_io_base.specs.Steady.{CalmReadLaws, NoPendingRead, SteadyReadLaws, strip_marks}
+use Rattle.lite_buffered.specs.Uses.{◌≡◌, ◌∙◌, ℕ, zero, suc, List, [], ◌∷◌, ◌++◌, refl, sym, subst, arith, Comparable, Runs, comparable_none, no_wait_both}
+use Rattle.lite_buffered.specs.Uses.{strip_marks-append, ReadMark, CalmReadLaws, NoPendingRead, SteadyReadLaws, strip_marks}
 use Rattle.lite_buffered.specs.declared.take.Take.{Take}
 use Rattle.lite_buffered.specs.Laws.Take.{takes_laws}
 use Rattle.lite_buffered.specs.Take.{LimitEnds, TakesMarks, WithinLimit}

@@ -1,6 +1,5 @@
 -- No buffer so far has a byte.
-use Rattle.std.proofs.Common.{◌≡◌, [], take}
-use Rattle.std.specs.Io.Slices.{io_slices_bytes}
+use Rattle.lite_io_base.specs.Uses.{◌≡◌, [], take, io_slices_bytes}
 use Rattle.lite_io_base.proofs.slices.first_nonempty.Given as goal
 
 abbrev pub invariant-loop-buf : goal.invariant-loop-buf

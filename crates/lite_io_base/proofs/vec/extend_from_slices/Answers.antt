@@ -1,7 +1,5 @@
 -- A buffer and those before it are no longer than all.
-use Rattle.std.proofs.Common.{◌≡◌, ℕ, ◌≤◌, ◌<◌, ◌+◌, ◌++◌, List, length, take, get_or, ap, arith, length-append}
-use Rattle.std.specs.Io.Slices.{io_slice_bytes, io_slices_bytes}
-use Rattle.std.specs.declared.io.slices.IoSlice.{IoSlice}
+use Rattle.lite_io_base.specs.Uses.{◌≡◌, ℕ, ◌≤◌, ◌<◌, ◌+◌, ◌++◌, List, length, take, get_or, ap, arith, length-append, io_slice_bytes, io_slices_bytes, IoSlice}
 use Rattle.lite_io_base.specs.Laws.Runs.{slices_cut}
 use Rattle.lite_io_base.proofs.vec.extend_from_slices.Goals as goal
 

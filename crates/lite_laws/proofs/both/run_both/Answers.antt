@@ -1,5 +1,4 @@
-use Rattle.std.proofs.Common.{rules, IfOk, IfErr, Result, Ok, Err, [], inl, inr, refl}
-use Rattle.std.proofs.lemmas.Result.{IfErr-at_err, on_err_weaker}
+use Rattle.lite_laws.specs.Uses.{rules, IfOk, IfErr, Result, Ok, Err, [], inl, inr, refl, IfErr-at_err, on_err_weaker}
 use Rattle.lite_laws.proofs.Waits.{waits_on}
 use Rattle.lite_laws.proofs.both.run_both.Goals as goal
 

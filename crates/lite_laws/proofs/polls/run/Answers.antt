@@ -1,5 +1,4 @@
-use Rattle.std.proofs.Common.{rules, arith, ◌∙◌, ◌+◌, [], ◌∷◌, ◌++◌, ap, append_assoc, length-append}
-use Rattle.std.proofs.lemmas.Grind.{common_steps}
+use Rattle.lite_laws.specs.Uses.{rules, arith, ◌∙◌, ◌+◌, [], ◌∷◌, ◌++◌, ap, append_assoc, length-append, common_steps}
 use Rattle.lite_laws.proofs.Waits.{waits_last}
 use Rattle.lite_laws.proofs.polls.run.Goals as goal
 

@@ -1,5 +1,4 @@
-use Rattle.std.proofs.Common.{◌≡◌, [], ◌∷◌, refl}
-use Rattle.lite_base.specs.Answers.{item}
+use Rattle.lite_merge.specs.Uses.{◌≡◌, [], ◌∷◌, refl, item}
 use Rattle.lite_merge.specs.Laws.Merge.{fused_laws}
 use Rattle.lite_merge.proofs.picks.poll_in_order.Goals as goal
 

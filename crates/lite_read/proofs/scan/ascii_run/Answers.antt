@@ -1,6 +1,4 @@
-use Rattle.std.proofs.Common.{leb, cond, ap, ◌∙◌, arith, refl}
-use Rattle.std.proofs.lemmas.Simd.{zip2_splat_left, length-chunk}
-use Rattle.std.specs.List.{prefix_len}
+use Rattle.lite_read.specs.Uses.{leb, cond, ap, ◌∙◌, arith, refl, zip2_splat_left, length-chunk, prefix_len}
 use lib.Lanes.{chunk}
 use Rattle.lite_read.proofs.Lanes.{below_128, run_of}
 use Rattle.lite_read.proofs.scan.ascii_run.Goals as goal

@@ -1,9 +1,6 @@
-use Rattle.std.proofs.Common.{◌≡◌, ◌∙◌, ◌==◌, ◌≤◌, ℕ, ap, arith, cond, drop, leb, length, sym}
-use Rattle.std.proofs.lemmas.Bool.{and_parts, eqb-true, le-leb}
-use Rattle.std.proofs.lemmas.List.{length-drop}
-use Rattle.std.proofs.lemmas.Simd.{zip2_splat, zip2_splat_left, length-chunk}
-use Rattle.std.specs.Char.{is_ascii}
-use Rattle.std.specs.List.{prefix_len}
+use Rattle.lite_read.specs.Uses.{◌≡◌, ◌∙◌, ◌==◌, ◌≤◌, ℕ, ap, arith, cond, drop, leb, length, sym, and_parts, le-leb, length-drop, zip2_splat, zip2_splat_left}
+use Rattle.lite_read.specs.Uses.{length-chunk, is_ascii, prefix_len}
+use Rattle.std.proofs.lemmas.Bool.{eqb-true}
 use lib.Lanes.{chunk}
 use Rattle.lite_read.proofs.FirstLine.{all_below}
 use Rattle.lite_read.proofs.Lanes.{below_128, none_of}

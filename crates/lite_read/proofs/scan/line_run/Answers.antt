@@ -1,5 +1,4 @@
-use Rattle.std.proofs.lemmas.Simd.{zip2_splat, length-chunk}
-use Rattle.std.proofs.Common.{◌==◌, ◌∙◌, arith, refl}
+use Rattle.lite_read.specs.Uses.{zip2_splat, length-chunk, ◌==◌, ◌∙◌, arith, refl}
 use lib.Lanes.{chunk}
 use Rattle.lite_read.proofs.Lanes.{run_of}
 use Rattle.lite_read.proofs.scan.line_run.Goals as goal

@@ -1,4 +1,4 @@
-use Rattle.std.proofs.Common.{arith}
+use Rattle.lite_read.specs.Uses.{arith}
 use Rattle.lite_read.proofs.FirstLine.{plain_more}
 use Rattle.lite_read.proofs.scan.past_plain.Goals as goal
 

@@ -1,4 +1,4 @@
-use Rattle.std.proofs.Common.{arith}
+use Rattle.lite_read.specs.Uses.{arith}
 use Rattle.lite_read.proofs.FirstLine.{ends_on, goes_on}
 use Rattle.lite_read.proofs.scan.scan_line.Goals as goal
 

@@ -1,4 +1,4 @@
-use Rattle.std.proofs.Common.{◌∙◌}
+use Rattle.lite_read.specs.Uses.{◌∙◌}
 use Rattle.lite_read.proofs.FirstLine.{found_next, line_ascii, newline_at}
 use Rattle.lite_read.proofs.scan.scan_rest.Goals as goal
 

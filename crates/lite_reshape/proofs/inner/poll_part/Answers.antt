@@ -1,5 +1,4 @@
-use Rattle.std.proofs.Common.{◌≡◌}
-use Rattle.lite_base.specs.Answers.{end}
+use Rattle.lite_reshape.specs.Uses.{◌≡◌, end}
 use Rattle.lite_reshape.specs.Laws.Flatten.{ended_step}
 use Rattle.lite_reshape.proofs.inner.poll_part.Goals as goal
 

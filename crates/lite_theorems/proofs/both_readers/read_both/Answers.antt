@@ -1,4 +1,4 @@
-use Rattle.std.proofs.Common.{rules, [], append-nil, sym}
+use Rattle.lite_theorems.specs.Uses.{rules, [], append-nil, sym}
 use Rattle.lite_theorems.proofs.BothReaders.{both_read}
 use Rattle.lite_theorems.proofs.both_readers.read_both.Goals as goal
 

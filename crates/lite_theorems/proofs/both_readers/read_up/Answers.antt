@@ -1,7 +1,4 @@
-use Rattle.std.proofs.Common.{rules}
-use Rattle.std.specs.Prelude.{⊤}
-use Rattle.lite_read.specs.Laws.ReadToEnd.{to_end_any}
-use Rattle.lite_read.specs.ReadToEnd.{ReadsToEnd, ReadsToEndByRoom}
+use Rattle.lite_theorems.specs.Uses.{rules, ⊤, to_end_any, ReadsToEnd, ReadsToEndByRoom}
 use Rattle.lite_theorems.proofs.Waited.{waited_more}
 use Rattle.lite_theorems.proofs.BothReaders.{lent_on, read_up}
 use Rattle.lite_theorems.proofs.both_readers.read_up.Goals as goal

@@ -1,4 +1,4 @@
-use Rattle.std.proofs.Common.{subst}
+use Rattle.lite_theorems.specs.Uses.{subst}
 use Rattle.lite_theorems.specs.BothWriters.{HandedUp}
 use Rattle.lite_theorems.proofs.BothWriters.{flush_after}
 use Rattle.lite_theorems.proofs.both_writers.write_up.Goals as goal

@@ -1,5 +1,4 @@
-use Rattle.std.proofs.Common.{◌≡◌, ◌++◌, [], refl, rules}
-use Rattle.lite_io_base.specs.Takings.{bytes_taken}
+use Rattle.lite_theorems.specs.Uses.{◌≡◌, ◌++◌, [], refl, rules, bytes_taken}
 use Rattle.lite_theorems.proofs.Serving.{flush_behind, none_behind}
 use Rattle.lite_theorems.proofs.line_server.answer.Goals as goal
 

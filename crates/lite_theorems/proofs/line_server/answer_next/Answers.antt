@@ -1,5 +1,4 @@
-use Rattle.std.proofs.Common.{◌≡◌, ◌∙◌, [], ◌∷◌, Err, inl, inr, refl, rules}
-use Rattle.lite_io_base.specs.Marks.{ReadMark}
+use Rattle.lite_theorems.specs.Uses.{◌≡◌, ◌∙◌, [], ◌∷◌, Err, inl, inr, refl, rules, ReadMark}
 use Rattle.lite_theorems.specs.Serving.{replies}
 use Rattle.lite_theorems.proofs.Serving.{last_replied, replied, stops_output, whole_replied}
 use Rattle.lite_theorems.proofs.line_server.answer_next.Goals as goal

@@ -1,4 +1,4 @@
-use Rattle.std.proofs.Common.{◌≡◌, Err, Ok, false, rules, subst, true}
+use Rattle.lite_theorems.specs.Uses.{◌≡◌, Err, Ok, false, rules, subst, true}
 use Rattle.lite_theorems.specs.Serving.{LineEnds, Replied}
 use Rattle.lite_theorems.proofs.Serving.{served, so_far_none, so_far_on}
 use Rattle.lite_theorems.proofs.line_server.serve_lines.Goals as goal

@@ -1,28 +1,14 @@
-use Rattle.std.specs.Prelude.{⊤}
-use Rattle.std.proofs.Common.{◌≡◌, ◌∙◌, ◌<◌, ℕ, List, [], ◌++◌, ap, subst, sym, String, Global}
-use Rattle.lite_consume.specs.Consume.{Folds}
-use Rattle.lite_consume.specs.Consuming.{fold_of}
-use Rattle.lite_consume.specs.declared.consume.Consume.{Consume}
-use Rattle.lite_gather.specs.Gathering.{LacksRoom}
-use Rattle.lite_gather.specs.TryCollect.{tries_collect}
-use Rattle.lite_gather.specs.declared.try_collect.TryCollect.{TryCollect}
-use Rattle.lite_buffered.specs.BufReader.{PassesBuffer, ThroughBuffer, ahead, reader_capacity}
+use Rattle.lite_theorems.specs.Uses.{⊤, ◌≡◌, ◌∙◌, ◌<◌, ℕ, List, [], ◌++◌, ap, subst, sym, Global, Folds, fold_of, Consume, LacksRoom, tries_collect, TryCollect}
+use Rattle.lite_theorems.specs.Uses.{PassesBuffer, ThroughBuffer, ahead, reader_capacity, TakesMarks, WithinLimit, limit_of, take_inner, BufReader, Take}
+use Rattle.lite_theorems.specs.Uses.{ReadMark, bytes, GivesLines, lining, PieceSegments, Lines, passes_some, Runs}
+use Rattle.std.proofs.Common.{String}
 use Rattle.lite_buffered.specs.BufReader.{reader_inner as buffered_of}
-use Rattle.lite_buffered.specs.Take.{TakesMarks, WithinLimit, limit_of, take_inner}
-use Rattle.lite_buffered.specs.declared.buf_reader.BufReader.{BufReader}
-use Rattle.lite_buffered.specs.declared.take.Take.{Take}
-use Rattle.lite_io_base.specs.Marks.{ReadMark, bytes}
-use Rattle.lite_read.specs.Lines.{GivesLines, lining}
-use Rattle.lite_read.specs.Segments.{PieceSegments}
-use Rattle.lite_read.specs.declared.lines.Lines.{Lines}
 use Rattle.lite_theorems.specs.Lines.{AtEachValue, CollectsLines, limited, lines_told}
 use Rattle.lite_theorems.proofs.Collecting.{collects_so, says}
 use Rattle.lite_theorems.specs.Laws.Collected.{Has, has}
-use Rattle.lite_buffered.specs.Laws.BufReader.{passes_some}
 use Rattle.lite_theorems.proofs.Limits.{told_through}
 use Rattle.lite_theorems.proofs.Telling.{Given, given}
 use Rattle.lite_theorems.proofs.lines.collect_buffered_lines.Goals as goal
-use Rattle.lite_base.specs.Runs.{Runs}
 
 module _ {R C : Type 0} (reads : Runs ReadMark R) (may_refuse : C → String Global → Type 0)
     (holds : C → List (String Global) → Type 0) where

@@ -1,4 +1,4 @@
-use Rattle.std.proofs.Common.{arith}
+use Rattle.lite_theorems.specs.Uses.{arith}
 use Rattle.lite_theorems.proofs.lines.collect_lines.Goals as goal
 
 pub returns-clause-lines : goal.returns-clause-lines

@@ -1,4 +1,4 @@
-use Rattle.std.proofs.Common.{rules}
+use Rattle.lite_theorems.specs.Uses.{rules}
 use Rattle.lite_theorems.proofs.BothWriters.{flush_lent, flush_up}
 use Rattle.lite_theorems.proofs.waits.wait_flush.Goals as goal
 

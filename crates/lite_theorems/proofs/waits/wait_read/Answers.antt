@@ -1,4 +1,4 @@
-use Rattle.std.proofs.Common.{rules}
+use Rattle.lite_theorems.specs.Uses.{rules}
 use Rattle.lite_theorems.proofs.Waited.{ToldByRead, read_waited, told_at}
 use Rattle.lite_theorems.proofs.waits.wait_read.Goals as goal
 

@@ -1,4 +1,4 @@
-use Rattle.std.proofs.Common.{ap, rules}
+use Rattle.lite_theorems.specs.Uses.{ap, rules}
 use Rattle.lite_theorems.proofs.Waited.{ToldByExact, exact_waited, told_at}
 use Rattle.lite_theorems.proofs.waits.wait_read_exact.Goals as goal
 

@@ -1,8 +1,5 @@
-use Rattle.std.proofs.Common.{◌∙◌, ap, length, rules, sym}
+use Rattle.lite_theorems.specs.Uses.{◌∙◌, ap, length, rules, sym, until_any, ReadsUntil, ReadsUntilByRoom, ⊤}
 use Rattle.lite_theorems.proofs.Waited.{ToldByUntil, told_at, until_waited, waited_more}
-use Rattle.lite_read.specs.Laws.ReadUntil.{until_any}
-use Rattle.lite_read.specs.ReadUntil.{ReadsUntil, ReadsUntilByRoom}
-use Rattle.std.specs.Prelude.{⊤}
 use Rattle.lite_theorems.proofs.waits.wait_read_until.Goals as goal
 
 pub returns-clause-told : goal.returns-clause-told

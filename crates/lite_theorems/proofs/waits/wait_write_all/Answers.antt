@@ -1,4 +1,4 @@
-use Rattle.std.proofs.Common.{rules}
+use Rattle.lite_theorems.specs.Uses.{rules}
 use Rattle.lite_theorems.proofs.BothWriters.{hand_up, writer_lent}
 use Rattle.lite_theorems.proofs.waits.wait_write_all.Goals as goal
 

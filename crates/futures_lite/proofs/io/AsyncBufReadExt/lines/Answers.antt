@@ -1,8 +1,4 @@
-use Rattle.std.proofs.Common.{refl}
-use Rattle.std.specs.Prelude.{string_bytes}
-use Rattle.lite_read.specs.LineText.{without_return}
-use Rattle.lite_read.specs.Lines.{lines_over}
-use Rattle.lite_views.proofs.Streams.{pieces_listed}
+use Rattle.futures_lite.specs.Uses.{refl, string_bytes, without_return, lines_over, pieces_listed}
 use Rattle.futures_lite.proofs.io.AsyncBufReadExt.lines.Goals as goal
 
 pub returns-clause-read : goal.returns-clause-read

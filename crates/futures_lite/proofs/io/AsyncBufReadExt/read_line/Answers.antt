@@ -1,10 +1,4 @@
-use Rattle.lite_read.specs.ReadLine.{ReadsLine, ReadsLineByRoom}
-use Rattle.std.specs.Prelude.{⊤}
-use Rattle.lite_read.specs.Laws.Texts.{line_room, text_any}
-use Rattle.lite_read.specs.ReadLine.{line_over}
-use Rattle.lite_views.proofs.Futures.{when_less}
-use Rattle.lite_views.proofs.Texts.{text_left}
-use Rattle.lite_views.proofs.Until.{read_text_line}
+use Rattle.futures_lite.specs.Uses.{ReadsLine, ReadsLineByRoom, ⊤, line_room, text_any, line_over, when_less, text_left, read_text_line}
 use Rattle.futures_lite.proofs.io.AsyncBufReadExt.read_line.Goals as goal
 
 pub returns-clause-line : goal.returns-clause-line

@@ -1,6 +1,4 @@
-use Rattle.std.proofs.Common.{refl}
-use Rattle.lite_read.specs.Split.{split_over}
-use Rattle.lite_views.proofs.Streams.{pieces_listed}
+use Rattle.futures_lite.specs.Uses.{refl, split_over, pieces_listed}
 use Rattle.futures_lite.proofs.io.AsyncBufReadExt.split.Goals as goal
 
 pub returns-clause-read : goal.returns-clause-read

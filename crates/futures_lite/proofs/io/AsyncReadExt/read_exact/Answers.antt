@@ -1,6 +1,4 @@
-use Rattle.std.proofs.Common.{refl}
-use Rattle.lite_views.proofs.Exact.{exactly_read}
-use Rattle.lite_views.proofs.Futures.{gathered_left}
+use Rattle.futures_lite.specs.Uses.{refl, exactly_read, gathered_left}
 use Rattle.futures_lite.proofs.io.AsyncReadExt.read_exact.Goals as goal
 
 pub returns-clause-first : goal.returns-clause-first

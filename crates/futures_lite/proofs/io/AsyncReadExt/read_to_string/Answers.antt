@@ -1,9 +1,4 @@
-use Rattle.lite_read.specs.ReadToString.{ReadsStringByRoom, ReadsToString}
-use Rattle.std.specs.Prelude.{⊤}
-use Rattle.lite_read.specs.Laws.Texts.{string_room, text_any}
-use Rattle.lite_read.specs.ReadToString.{all_over}
-use Rattle.lite_views.proofs.Futures.{when_less}
-use Rattle.lite_views.proofs.Texts.{all_read_text, text_left}
+use Rattle.futures_lite.specs.Uses.{ReadsStringByRoom, ReadsToString, ⊤, string_room, text_any, all_over, when_less, all_read_text, text_left}
 use Rattle.futures_lite.proofs.io.AsyncReadExt.read_to_string.Goals as goal
 
 pub returns-clause-all : goal.returns-clause-all

@@ -1,7 +1,4 @@
-use Rattle.std.proofs.Common.{refl}
-use Rattle.lite_base.specs.Calling.{Calls}
-use Rattle.lite_views.proofs.Consuming.{any_made, only_made}
-use Rattle.lite_views.proofs.Views.{lent_lists}
+use Rattle.futures_lite.specs.Uses.{refl, Calls, any_made, only_made, lent_lists}
 use Rattle.futures_lite.proofs.stream.StreamExt.any.Goals as goal
 
 pub returns-clause-value : goal.returns-clause-value

@@ -1,6 +1,4 @@
-use Rattle.lite_reshape.specs.Cloned.{cloned_parts}
-use Rattle.lite_views.proofs.Holding.{cloned_fits}
-use Rattle.lite_views.proofs.Views.{listed_through}
+use Rattle.futures_lite.specs.Uses.{cloned_parts, cloned_fits, listed_through}
 use Rattle.futures_lite.proofs.stream.StreamExt.cloned.Goals as goal
 
 pub returns-clause-lists : goal.returns-clause-lists

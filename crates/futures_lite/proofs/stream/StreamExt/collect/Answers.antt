@@ -1,6 +1,4 @@
-use Rattle.lite_gather.specs.Gathering.{LacksRoom}
-use Rattle.lite_views.proofs.Consuming.{collect_made, value_made}
-use Rattle.lite_views.proofs.Views.{seen}
+use Rattle.futures_lite.specs.Uses.{LacksRoom, collect_made, value_made, seen}
 use Rattle.futures_lite.proofs.stream.StreamExt.collect.Goals as goal
 
 pub returns-clause-value : goal.returns-clause-value

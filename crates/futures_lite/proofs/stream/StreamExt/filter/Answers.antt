@@ -1,7 +1,4 @@
-use Rattle.std.specs.Fn.{CalledAt}
-use Rattle.lite_reshape.specs.Filter.{filter_parts}
-use Rattle.lite_views.proofs.Adapting.{filter_fewer, filtered_fits}
-use Rattle.lite_views.proofs.Views.{listed_through}
+use Rattle.futures_lite.specs.Uses.{CalledAt, filter_parts, filter_fewer, filtered_fits, listed_through}
 use Rattle.futures_lite.proofs.stream.StreamExt.filter.Goals as goal
 
 pub returns-clause-lists : goal.returns-clause-lists

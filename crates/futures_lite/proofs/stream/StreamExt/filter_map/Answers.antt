@@ -1,6 +1,4 @@
-use Rattle.lite_reshape.specs.FilterMap.{filter_map_parts}
-use Rattle.lite_views.proofs.Adapting.{filter_map_fewer, filter_mapped_fits}
-use Rattle.lite_views.proofs.Views.{listed_through}
+use Rattle.futures_lite.specs.Uses.{filter_map_parts, filter_map_fewer, filter_mapped_fits, listed_through}
 use Rattle.futures_lite.proofs.stream.StreamExt.filter_map.Goals as goal
 
 pub returns-clause-lists : goal.returns-clause-lists

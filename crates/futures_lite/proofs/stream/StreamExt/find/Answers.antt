@@ -1,7 +1,4 @@
-use Rattle.std.proofs.Common.{refl}
-use Rattle.std.specs.Fn.{CalledAt}
-use Rattle.lite_views.proofs.Consuming.{find_made, only_made}
-use Rattle.lite_views.proofs.Views.{lent_lists}
+use Rattle.futures_lite.specs.Uses.{refl, CalledAt, find_made, only_made, lent_lists}
 use Rattle.futures_lite.proofs.stream.StreamExt.find.Goals as goal
 
 pub returns-clause-value : goal.returns-clause-value

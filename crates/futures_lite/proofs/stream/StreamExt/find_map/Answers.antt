@@ -1,7 +1,4 @@
-use Rattle.std.proofs.Common.{refl}
-use Rattle.lite_base.specs.Calling.{Calls}
-use Rattle.lite_views.proofs.Consuming.{find_map_made, only_made}
-use Rattle.lite_views.proofs.Views.{lent_lists}
+use Rattle.futures_lite.specs.Uses.{refl, Calls, find_map_made, only_made, lent_lists}
 use Rattle.futures_lite.proofs.stream.StreamExt.find_map.Goals as goal
 
 pub returns-clause-value : goal.returns-clause-value

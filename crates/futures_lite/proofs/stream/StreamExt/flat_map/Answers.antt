@@ -1,5 +1,4 @@
-use Rattle.std.proofs.Common.{refl}
-use Rattle.lite_views.proofs.Holding.{flat_mapped_lists}
+use Rattle.futures_lite.specs.Uses.{refl, flat_mapped_lists}
 use Rattle.futures_lite.proofs.stream.StreamExt.flat_map.Goals as goal
 
 pub returns-clause-lists : goal.returns-clause-lists

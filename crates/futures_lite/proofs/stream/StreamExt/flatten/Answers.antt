@@ -1,6 +1,4 @@
-use Rattle.lite_reshape.specs.Inner.{flatten_parts}
-use Rattle.lite_views.proofs.Holding.{flattened_fits}
-use Rattle.lite_views.proofs.Views.{listed_through}
+use Rattle.futures_lite.specs.Uses.{flatten_parts, flattened_fits, listed_through}
 use Rattle.futures_lite.proofs.stream.StreamExt.flatten.Goals as goal
 
 pub returns-clause-lists : goal.returns-clause-lists

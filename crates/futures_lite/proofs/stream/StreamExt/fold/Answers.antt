@@ -1,6 +1,4 @@
-use Rattle.std.proofs.Common.{refl}
-use Rattle.lite_consume.specs.Calls.{CallsBoth}
-use Rattle.lite_views.proofs.Consuming.{fold_made, only_made}
+use Rattle.futures_lite.specs.Uses.{refl, CallsBoth, fold_made, only_made}
 use Rattle.futures_lite.proofs.stream.StreamExt.fold.Goals as goal
 
 pub returns-clause-value : goal.returns-clause-value

@@ -1,5 +1,4 @@
-use Rattle.std.specs.Fn.{CalledAt}
-use Rattle.lite_views.proofs.Adapting.{shown_lists}
+use Rattle.futures_lite.specs.Uses.{CalledAt, shown_lists}
 use Rattle.futures_lite.proofs.stream.StreamExt.inspect.Goals as goal
 
 pub returns-clause-lists : goal.returns-clause-lists

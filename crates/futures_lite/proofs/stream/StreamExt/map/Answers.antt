@@ -1,9 +1,4 @@
-use Rattle.lite_base.specs.Calling.{Calls}
-use Rattle.lite_stream.specs.Map.{map_parts}
-use Rattle.lite_views.proofs.Adapting.{mapped_fits}
-use Rattle.lite_views.proofs.Asking.{may_ask}
-use Rattle.lite_views.proofs.Views.{listed_through, seen}
-use Rattle.lite_views.specs.Views.{Fronts}
+use Rattle.futures_lite.specs.Uses.{Calls, map_parts, mapped_fits, may_ask, listed_through, seen, Fronts}
 use Rattle.futures_lite.proofs.stream.StreamExt.map.Goals as goal
 
 pub returns-clause-lists : goal.returns-clause-lists

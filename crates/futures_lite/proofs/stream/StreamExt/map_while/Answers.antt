@@ -1,6 +1,4 @@
-use Rattle.lite_stream.specs.MapWhile.{map_while_parts}
-use Rattle.lite_views.proofs.Adapting.{map_while_fewer, mapped_while_fits}
-use Rattle.lite_views.proofs.Views.{listed_through}
+use Rattle.futures_lite.specs.Uses.{map_while_parts, map_while_fewer, mapped_while_fits, listed_through}
 use Rattle.futures_lite.proofs.stream.StreamExt.map_while.Goals as goal
 
 pub returns-clause-lists : goal.returns-clause-lists

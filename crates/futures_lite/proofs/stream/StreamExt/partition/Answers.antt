@@ -1,7 +1,4 @@
-use Rattle.std.proofs.Common.{refl}
-use Rattle.std.specs.Fn.{CalledAt}
-use Rattle.lite_gather.specs.Gathering.{LacksRoom}
-use Rattle.lite_views.proofs.Consuming.{accepted_made, others_made, value_made}
+use Rattle.futures_lite.specs.Uses.{refl, CalledAt, LacksRoom, accepted_made, others_made, value_made}
 use Rattle.futures_lite.proofs.stream.StreamExt.partition.Goals as goal
 
 pub returns-clause-accepted : goal.returns-clause-accepted

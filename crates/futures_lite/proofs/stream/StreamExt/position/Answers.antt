@@ -1,7 +1,4 @@
-use Rattle.std.proofs.Common.{refl}
-use Rattle.lite_base.specs.Calling.{Calls}
-use Rattle.lite_views.proofs.Consuming.{only_made, position_made}
-use Rattle.lite_views.proofs.Views.{lent_lists}
+use Rattle.futures_lite.specs.Uses.{refl, Calls, only_made, position_made, lent_lists}
 use Rattle.futures_lite.proofs.stream.StreamExt.position.Goals as goal
 
 pub returns-clause-value : goal.returns-clause-value

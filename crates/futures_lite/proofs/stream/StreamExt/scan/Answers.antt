@@ -1,6 +1,4 @@
-use Rattle.lite_stream.specs.Scan.{scan_parts}
-use Rattle.lite_views.proofs.Adapting.{scan_fewer, scanned_fits}
-use Rattle.lite_views.proofs.Views.{listed_through}
+use Rattle.futures_lite.specs.Uses.{scan_parts, scan_fewer, scanned_fits, listed_through}
 use Rattle.futures_lite.proofs.stream.StreamExt.scan.Goals as goal
 
 pub returns-clause-lists : goal.returns-clause-lists

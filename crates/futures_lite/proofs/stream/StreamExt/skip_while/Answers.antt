@@ -1,7 +1,4 @@
-use Rattle.std.specs.Fn.{CalledAt}
-use Rattle.lite_reshape.specs.SkipWhile.{skip_while_parts}
-use Rattle.lite_views.proofs.Adapting.{skipped_while_fits}
-use Rattle.lite_views.proofs.Views.{listed_through}
+use Rattle.futures_lite.specs.Uses.{CalledAt, skip_while_parts, skipped_while_fits, listed_through}
 use Rattle.futures_lite.proofs.stream.StreamExt.skip_while.Goals as goal
 
 pub returns-clause-lists : goal.returns-clause-lists

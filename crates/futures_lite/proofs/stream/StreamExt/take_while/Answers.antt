@@ -1,7 +1,4 @@
-use Rattle.std.specs.Fn.{CalledAt}
-use Rattle.lite_stream.specs.TakeWhile.{take_while_parts}
-use Rattle.lite_views.proofs.Adapting.{taken_while_fits}
-use Rattle.lite_views.proofs.Views.{listed_through}
+use Rattle.futures_lite.specs.Uses.{CalledAt, take_while_parts, taken_while_fits, listed_through}
 use Rattle.futures_lite.proofs.stream.StreamExt.take_while.Goals as goal
 
 pub returns-clause-lists : goal.returns-clause-lists

@@ -1,6 +1,4 @@
-use Rattle.lite_reshape.specs.Then.{then_parts}
-use Rattle.lite_views.proofs.Holding.{awaited_fits}
-use Rattle.lite_views.proofs.Views.{listed_through}
+use Rattle.futures_lite.specs.Uses.{then_parts, awaited_fits, listed_through}
 use Rattle.futures_lite.proofs.stream.StreamExt.then.Goals as goal
 
 pub returns-clause-lists : goal.returns-clause-lists

@@ -1,8 +1,4 @@
-use Rattle.lite_gather.specs.Gathering.{LacksRoom}
-use Rattle.lite_views.proofs.Collecting.{all_collected}
-use Rattle.lite_views.proofs.Consuming.{try_collect_made, value_made}
-use Rattle.lite_views.proofs.OkLists.{ok_seen}
-use Rattle.lite_views.proofs.Views.{seen}
+use Rattle.futures_lite.specs.Uses.{LacksRoom, all_collected, try_collect_made, value_made, ok_seen, seen}
 use Rattle.futures_lite.proofs.stream.StreamExt.try_collect.Goals as goal
 
 pub returns-clause-value : goal.returns-clause-value

@@ -1,7 +1,4 @@
-use Rattle.std.proofs.Common.{refl}
-use Rattle.lite_consume.specs.Calls.{CallsBoth}
-use Rattle.lite_views.proofs.Consuming.{only_made, try_fold_made}
-use Rattle.lite_views.proofs.Views.{lent_lists}
+use Rattle.futures_lite.specs.Uses.{refl, CallsBoth, only_made, try_fold_made, lent_lists}
 use Rattle.futures_lite.proofs.stream.StreamExt.try_fold.Goals as goal
 
 pub returns-clause-value : goal.returns-clause-value

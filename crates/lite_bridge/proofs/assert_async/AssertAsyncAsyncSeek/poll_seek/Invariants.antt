@@ -1,5 +1,4 @@
-use Rattle.std.specs.Io.KnownBytes.{Keeps}
-use Rattle.std.specs.Io.Seek.{StaysAt}
+use Rattle.lite_bridge.specs.Uses.{Keeps, StaysAt}
 use Rattle.lite_bridge.proofs.assert_async.AssertAsyncAsyncSeek.poll_seek.Given as goal
 
 abbrev pub invariant-loop : goal.invariant-loop

@@ -1,4 +1,4 @@
-use Rattle.std.specs.Io.KnownBytes.{Keeps}
+use Rattle.lite_bridge.specs.Uses.{Keeps}
 use Rattle.lite_bridge.proofs.assert_async.AssertAsyncAsyncWrite.poll_write_vectored.Given as goal
 
 abbrev pub invariant-loop : goal.invariant-loop

@@ -1,4 +1,4 @@
-use Rattle.std.proofs.Common.{◌∙◌, ap, sym}
+use Rattle.lite_bridge.specs.Uses.{◌∙◌, ap, sym}
 use Rattle.lite_bridge.proofs.Blocks.{flush_blocks, flushed_stays}
 use Rattle.lite_bridge.proofs.block_on.BlockOnWrite.flush.Goals as goal
 

@@ -1,4 +1,4 @@
-use Rattle.std.proofs.Common.{◌∙◌, ap, sym}
+use Rattle.lite_bridge.specs.Uses.{◌∙◌, ap, sym}
 use Rattle.lite_bridge.proofs.Blocks.{write_blocks, write_within, writer_stays}
 use Rattle.lite_bridge.proofs.block_on.BlockOnWrite.write.Goals as goal
 

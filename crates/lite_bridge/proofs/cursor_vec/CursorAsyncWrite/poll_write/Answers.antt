@@ -1,9 +1,6 @@
-use Rattle.std.proofs.Common.{◌≡◌, ◌+◌, ℕ, List, [], ◌∷◌, Ok, length, refl, subst, sym, arith}
-use Rattle.futures.specs.declared.task.Poll.TheVariants.{Ready}
-use Rattle.lite_io_base.specs.Takings.{WriteMark, write_marks}
+use Rattle.lite_bridge.specs.Uses.{◌≡◌, ◌+◌, ℕ, List, [], ◌∷◌, Ok, length, refl, subst, sym, arith, Ready, WriteMark, write_marks, take-length}
 use Rattle.lite_bridge.specs.declared.cursor.Cursor.{Cursor}
 use Rattle.lite_bridge.specs.Cursor.{CursorWrites}
-use Rattle.std.proofs.Math.Seq.{take-length}
 use Rattle.lite_bridge.proofs.cursor_vec.CursorAsyncWrite.poll_write.Goals as goal
 
 module _ {T : Type 0} (puts : T → ℕ → List ℕ → T → Type 0) (refuses : T → T → Type 0) where

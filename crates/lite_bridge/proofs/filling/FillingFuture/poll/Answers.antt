@@ -1,4 +1,4 @@
-use Rattle.std.proofs.Common.{refl}
+use Rattle.lite_bridge.specs.Uses.{refl}
 use Rattle.lite_bridge.proofs.Fills.{filled_once}
 use Rattle.lite_bridge.proofs.filling.FillingFuture.poll.Goals as goal
 

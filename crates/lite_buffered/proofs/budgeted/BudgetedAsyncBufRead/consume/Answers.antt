@@ -1,5 +1,4 @@
-use Rattle.std.proofs.Common.{◌∙◌, ◌≤◌, ◌-◌, ap, length, take}
-use Rattle.lite_io_base.specs.Marks.{bytes}
+use Rattle.lite_buffered.specs.Uses.{◌∙◌, ◌≤◌, ◌-◌, ap, length, take, bytes}
 use Rattle.lite_buffered.proofs.Pacing.{consumed_bytes, consumed_rest}
 use Rattle.lite_buffered.proofs.budgeted.BudgetedAsyncBufRead.consume.Goals as goal
 

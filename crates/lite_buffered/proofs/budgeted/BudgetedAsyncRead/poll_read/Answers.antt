@@ -1,8 +1,5 @@
-use Rattle.std.proofs.Common.{◌≡◌, ◌≤◌, ◌<◌, ◌-◌, Ok, length, take, drop, rules, arith, length-take-le, subst}
-use Rattle.std.proofs.lemmas.Grind.{common_steps}
-use Rattle.futures.specs.declared.task.Poll.TheVariants.{Ready}
-use Rattle.lite_io_base.specs.Laws.Runs.{read_marks_room}
-use Rattle.lite_io_base.specs.Marks.{moved}
+use Rattle.lite_buffered.specs.Uses.{◌≡◌, ◌≤◌, ◌<◌, ◌-◌, Ok, length, take, drop, rules, arith, length-take-le, subst, common_steps, Ready, read_marks_room}
+use Rattle.lite_buffered.specs.Uses.{moved}
 use Rattle.lite_buffered.specs.Budgeted.{PacesMarks}
 use Rattle.lite_buffered.proofs.Pacing.{paced_moved}
 use Rattle.lite_buffered.proofs.budgeted.BudgetedAsyncRead.poll_read.Goals.{in-Pending, in-Ready-Err, in-Ready-Ok}

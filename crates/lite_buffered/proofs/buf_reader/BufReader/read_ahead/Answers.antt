@@ -1,7 +1,4 @@
-use Rattle.std.proofs.Common.{◌≡◌, ◌<◌, Ok, length, arith, rules}
-use Rattle.std.proofs.lemmas.Grind.{common_steps}
-use Rattle.futures.specs.declared.task.Poll.TheVariants.{Ready}
-use Rattle.lite_io_base.specs.Marks.{filled}
+use Rattle.lite_buffered.specs.Uses.{◌≡◌, ◌<◌, Ok, length, arith, rules, common_steps, Ready, filled}
 use Rattle.lite_buffered.specs.BufReader.{ThroughBuffer, ahead}
 use Rattle.lite_buffered.proofs.Reading.{fill_then_take}
 use Rattle.lite_buffered.proofs.buf_reader.BufReader.read_ahead.Goals as goal

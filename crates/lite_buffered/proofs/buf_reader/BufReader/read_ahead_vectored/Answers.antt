@@ -1,8 +1,4 @@
-use Rattle.std.proofs.Common.{◌≡◌, ◌≤◌, ◌<◌, Ok, length, take, min, rules, arith, length-take-le}
-use Rattle.futures.specs.declared.task.Poll.TheVariants.{Ready}
-use Rattle.lite_io_base.specs.Laws.Runs.{reads_front}
-use Rattle.lite_io_base.specs.Marks.{filled}
-use Rattle.lite_io_base.specs.Runs.{room_in}
+use Rattle.lite_buffered.specs.Uses.{◌≡◌, ◌≤◌, ◌<◌, Ok, length, take, min, rules, arith, length-take-le, Ready, reads_front, filled, room_in}
 use Rattle.lite_buffered.specs.BufReader.{ThroughBuffer, ahead}
 use Rattle.lite_buffered.proofs.Reading.{fill_then_take}
 use Rattle.lite_buffered.proofs.buf_reader.BufReader.read_ahead_vectored.Goals as goal

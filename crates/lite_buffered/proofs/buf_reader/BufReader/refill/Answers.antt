@@ -1,8 +1,4 @@
-use Rattle.std.proofs.Common.{◌≡◌, ◌≤◌, Ok, Err, length, take, ap, refl, rules, subst, sym, arith}
-use Rattle.std.specs.Vec.{with_items}
-use Rattle.lite_io_base.specs.Marks.{moved}
-use Rattle.std.proofs.lemmas.Grind.{common_steps}
-use Rattle.futures.specs.declared.task.Poll.TheVariants.{Pending, Ready}
+use Rattle.lite_buffered.specs.Uses.{◌≡◌, ◌≤◌, Ok, Err, length, take, ap, refl, rules, subst, sym, arith, with_items, moved, common_steps, Pending, Ready}
 use Rattle.lite_buffered.proofs.Reading.{through_fill, through_past}
 use Rattle.lite_buffered.proofs.buf_reader.BufReader.refill.Goals as goal
 

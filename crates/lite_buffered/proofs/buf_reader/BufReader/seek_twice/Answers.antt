@@ -1,6 +1,4 @@
-use Rattle.std.proofs.Common.{◌≡◌, Ok, rules, ap, inl}
-use Rattle.futures.specs.declared.task.Poll.TheVariants.{Ready}
-use Rattle.lite_io_base.specs.Kinds.{by_kind}
+use Rattle.lite_buffered.specs.Uses.{◌≡◌, Ok, rules, ap, inl, Ready, by_kind}
 use Rattle.lite_buffered.proofs.buf_reader.BufReader.seek_twice.Goals as goal
 
 pub returns-in-Ok-clause-sought : goal.returns-in-Ok-clause-sought

@@ -1,6 +1,4 @@
-use Rattle.std.proofs.Common.{◌≡◌, [], length, refl, arith}
-use Rattle.std.proofs.lemmas.Grind.{common_steps}
-use Rattle.lite_io_base.specs.Marks.{read_marks}
+use Rattle.lite_buffered.specs.Uses.{◌≡◌, [], length, refl, arith, common_steps, read_marks}
 use Rattle.lite_buffered.specs.BufReader.{ahead}
 use Rattle.lite_buffered.proofs.Polling.{polls_asked}
 use Rattle.lite_buffered.proofs.Reading.{moved_none, through_past, through_taken}

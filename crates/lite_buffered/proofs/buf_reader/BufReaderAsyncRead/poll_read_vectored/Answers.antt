@@ -1,8 +1,4 @@
-use Rattle.std.proofs.Common.{◌≡◌, [], refl, arith}
-use Rattle.std.proofs.lemmas.Grind.{common_steps}
-use Rattle.lite_io_base.specs.Laws.Runs.{reads_front}
-use Rattle.lite_io_base.specs.Marks.{read_marks}
-use Rattle.lite_io_base.specs.Runs.{room_in}
+use Rattle.lite_buffered.specs.Uses.{◌≡◌, [], refl, arith, common_steps, reads_front, read_marks, room_in}
 use Rattle.lite_buffered.specs.BufReader.{ThroughBuffer, ahead}
 use Rattle.lite_buffered.proofs.Polling.{polls_asked}
 use Rattle.lite_buffered.proofs.Reading.{moved_none, through_past, through_taken}

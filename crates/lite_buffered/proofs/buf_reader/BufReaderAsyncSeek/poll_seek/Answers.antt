@@ -1,4 +1,4 @@
-use Rattle.std.proofs.Common.{rules}
+use Rattle.lite_buffered.specs.Uses.{rules}
 use Rattle.lite_buffered.proofs.Offsets.{to_z_offset}
 use Rattle.lite_buffered.proofs.buf_reader.BufReaderAsyncSeek.poll_seek.Goals as goal
 

@@ -1,8 +1,4 @@
-use Rattle.std.proofs.Common.{◌≡◌, ◌∙◌, ◌+◌, length, Err, inl, inr, refl, ap, rules, arith}
-use Rattle.std.specs.Box.{boxed_slice_items}
-use Rattle.std.specs.IoError.{error_kind}
-use Rattle.std.specs.declared.io.ErrorKind.TheVariants.{Interrupted}
-use Rattle.futures.specs.declared.task.Poll.TheVariants.{Ready}
+use Rattle.lite_buffered.specs.Uses.{◌≡◌, ◌∙◌, ◌+◌, length, Err, inl, inr, refl, ap, rules, arith, boxed_slice_items, error_kind, Interrupted, Ready}
 use Rattle.lite_buffered.proofs.Draining.{drain_fails, drain_interrupted, drain_none, drain_some, drain_waits, drain_zero}
 use Rattle.lite_buffered.proofs.Draining.{held_same}
 use Rattle.lite_buffered.proofs.buf_writer.BufWriter.flush_buf.Goals.{then-eq+else-interruptions-lt-MOST_INTERRUPTIONS}

@@ -1,5 +1,4 @@
-use Rattle.std.proofs.Common.{◌+◌, ◌-◌, ◌*◌}
-use Rattle.futures.specs.Task.{Keeps}
+use Rattle.lite_buffered.specs.Uses.{◌+◌, ◌-◌, ◌*◌, Keeps}
 use Rattle.lite_buffered.proofs.Draining.{Draining}
 use Rattle.lite_buffered.proofs.buf_writer.BufWriter.flush_buf.Given as goal
 

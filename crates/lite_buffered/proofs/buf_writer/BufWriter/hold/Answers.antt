@@ -1,6 +1,4 @@
-use Rattle.std.proofs.Common.{arith}
-use Rattle.std.proofs.lemmas.Grind.{common_steps}
-use Rattle.std.specs.Box.{boxed_slice_items}
+use Rattle.lite_buffered.specs.Uses.{arith, common_steps, boxed_slice_items}
 use Rattle.lite_buffered.proofs.Draining.{range_more}
 use Rattle.lite_buffered.proofs.buf_writer.BufWriter.hold.Goals as goal
 

@@ -1,7 +1,4 @@
-use Rattle.std.proofs.Common.{◌≡◌, Ok, Err, rules, refl}
-use Rattle.std.specs.IoError.{error_kind}
-use Rattle.futures.specs.declared.task.Poll.TheVariants.{Ready, Pending}
-use Rattle.lite_io_base.specs.Kinds.{by_kind}
+use Rattle.lite_buffered.specs.Uses.{◌≡◌, Ok, Err, rules, refl, error_kind, Ready, Pending, by_kind}
 use Rattle.lite_buffered.proofs.Seeking.{seek_fails, seek_follows, seek_waits}
 use Rattle.lite_buffered.proofs.buf_writer.BufWriterAsyncSeek.poll_seek.Goals as goal
 

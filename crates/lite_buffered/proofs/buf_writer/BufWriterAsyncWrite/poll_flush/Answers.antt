@@ -1,6 +1,4 @@
-use Rattle.std.proofs.Common.{◌≡◌, Ok, rules, refl}
-use Rattle.futures.specs.declared.task.Poll.TheVariants.{Ready}
-use Rattle.lite_io_base.specs.Takings.{WriteMark}
+use Rattle.lite_buffered.specs.Uses.{◌≡◌, Ok, rules, refl, Ready, WriteMark}
 use Rattle.lite_buffered.proofs.Answering.{then_done}
 use Rattle.lite_buffered.proofs.buf_writer.BufWriterAsyncWrite.poll_flush.Goals as goal
 

@@ -1,7 +1,4 @@
-use Rattle.std.proofs.Common.{◌≡◌, ◌≤◌, ◌<◌, ◌∷◌, [], Ok, refl, rules, arith}
-use Rattle.futures.specs.declared.task.Poll.TheVariants.{Ready}
-use Rattle.lite_io_base.specs.Marks.{ReadMark, read_marks}
-use Rattle.lite_io_base.specs.Runs.{room_in}
+use Rattle.lite_buffered.specs.Uses.{◌≡◌, ◌≤◌, ◌<◌, ◌∷◌, [], Ok, refl, rules, arith, Ready, ReadMark, read_marks, room_in}
 use Rattle.lite_buffered.proofs.Crossing.{crossed, moved_end}
 use Rattle.lite_buffered.proofs.chain.Chain.read_on_vectored.Goals as goal
 

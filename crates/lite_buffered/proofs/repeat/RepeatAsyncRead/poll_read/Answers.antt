@@ -1,5 +1,4 @@
-use Rattle.std.proofs.Common.{◌≡◌, ℕ, zero, suc, length, replicate, refl, take_all, le_refl}
-use Rattle.lite_io_base.specs.Marks.{bytes, moved}
+use Rattle.lite_buffered.specs.Uses.{◌≡◌, ℕ, zero, suc, length, replicate, refl, take_all, le_refl, bytes, moved}
 use Rattle.lite_buffered.specs.declared.repeat.Repeat.{Repeat}
 use Rattle.lite_buffered.specs.Repeat.{RepeatsByte}
 use Rattle.lite_buffered.proofs.repeat.RepeatAsyncRead.poll_read.Goals as goal

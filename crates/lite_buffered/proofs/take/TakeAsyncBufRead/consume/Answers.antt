@@ -1,7 +1,5 @@
-use Rattle.std.proofs.Common.{◌≡◌, ◌≤◌, ◌+◌, ◌-◌, ◌∙◌, [], length, take, drop, sym, ap, subst, arith, append-nil}
-use Rattle.std.proofs.Common.{length-take, length-take-le, take-take}
-use Rattle.std.proofs.lemmas.List.{drop-take}
-use Rattle.lite_io_base.specs.Marks.{bytes}
+use Rattle.lite_buffered.specs.Uses.{◌≡◌, ◌≤◌, ◌+◌, ◌-◌, ◌∙◌, [], length, take, drop, sym, ap, subst, arith, append-nil, length-take, length-take-le, take-take}
+use Rattle.lite_buffered.specs.Uses.{drop-take, bytes}
 use Rattle.lite_buffered.specs.Take.{WithinLimit}
 use Rattle.lite_buffered.proofs.Limits.{fits_bytes}
 use Rattle.lite_buffered.proofs.take.TakeAsyncBufRead.consume.Goals as goal

@@ -1,9 +1,5 @@
-use Rattle.std.proofs.Common.{◌≡◌, ◌≤◌, ◌<◌, ◌-◌, [], Ok, length, take, drop, rules, arith, sym, ◌∙◌, append-nil}
-use Rattle.std.proofs.Common.{length-take-le, subst}
-use Rattle.std.proofs.lemmas.Grind.{common_steps}
-use Rattle.futures.specs.declared.task.Poll.TheVariants.{Ready}
-use Rattle.lite_io_base.specs.Laws.Runs.{read_marks_room}
-use Rattle.lite_io_base.specs.Marks.{moved}
+use Rattle.lite_buffered.specs.Uses.{◌≡◌, ◌≤◌, ◌<◌, ◌-◌, [], Ok, length, take, drop, rules, arith, sym, ◌∙◌, append-nil, length-take-le, subst, common_steps}
+use Rattle.lite_buffered.specs.Uses.{Ready, read_marks_room, moved}
 use Rattle.lite_buffered.specs.Take.{WithinLimit}
 use Rattle.lite_buffered.proofs.Limits.{fits_moved}
 use Rattle.lite_buffered.proofs.take.TakeAsyncRead.poll_read.Goals as goal

@@ -1,4 +1,4 @@
-use Rattle.lite_base.specs.Calling.{Calls}
+use Rattle.lite_consume.specs.Uses.{Calls}
 use Rattle.lite_consume.specs.Given.{MayCall}
 use Rattle.lite_consume.proofs.Given.{each_of, given}
 use Rattle.lite_consume.specs.Any.{anys}

@@ -1,4 +1,4 @@
-use Rattle.std.specs.Fn.{CalledAt, TakesAt}
+use Rattle.lite_consume.specs.Uses.{CalledAt, TakesAt}
 use Rattle.lite_consume.proofs.Given.{each_of, given}
 use Rattle.lite_consume.specs.Find.{finds}
 use Rattle.lite_consume.proofs.block_on.BlockOn.find.Goals as goal

@@ -1,4 +1,4 @@
-use Rattle.std.proofs.Common.{◌∙◌, ap, refl, sym}
+use Rattle.lite_gather.specs.Uses.{◌∙◌, ap, refl, sym}
 use Rattle.lite_gather.proofs.partition.PartitionFolder.close.Goals as goal
 
 pub returns : goal.returns

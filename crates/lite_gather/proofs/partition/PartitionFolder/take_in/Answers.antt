@@ -1,4 +1,4 @@
-use Rattle.std.proofs.Common.{◌≡◌, Err, ap, refl}
+use Rattle.lite_gather.specs.Uses.{◌≡◌, Err, ap, refl}
 use Rattle.lite_gather.proofs.partition.PartitionFolder.take_in.Goals as goal
 
 pub returns-in-Ok : goal.returns-in-Ok

@@ -1,4 +1,4 @@
-use Rattle.std.proofs.Common.{◌∙◌, refl, sym}
+use Rattle.lite_gather.specs.Uses.{◌∙◌, refl, sym}
 use Rattle.lite_gather.proofs.unzip.UnzipFolder.close.Goals as goal
 
 pub returns : goal.returns

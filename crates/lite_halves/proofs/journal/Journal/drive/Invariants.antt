@@ -1,5 +1,4 @@
-use Rattle.std.proofs.Common.{◌≡◌, ◌+◌, vec_len}
-use Rattle.futures.specs.Task.{Keeps}
+use Rattle.lite_halves.specs.Uses.{◌≡◌, ◌+◌, vec_len, Keeps}
 use Rattle.lite_halves.specs.Entry.{asked_of}
 use Rattle.lite_halves.proofs.Driven.{Driven, JournalMade}
 use Rattle.lite_halves.proofs.journal.Journal.drive.Given as goal

@@ -1,5 +1,4 @@
-use Rattle.std.proofs.Common.{arith, refl}
-use Rattle.lite_io_base.specs.Takings.{WriteMark}
+use Rattle.lite_halves.specs.Uses.{arith, refl, WriteMark}
 use Rattle.lite_halves.specs.Entry.{flush_note}
 use Rattle.lite_halves.specs.Laws.Entry.{done_fits, done_note_part}
 use Rattle.lite_halves.proofs.Noted.{sound_push}

@@ -1,4 +1,4 @@
-use Rattle.std.proofs.Common.{◌-◌, vec_capacity, vec_len, ap, arith, refl, rules}
+use Rattle.lite_halves.specs.Uses.{◌-◌, vec_capacity, vec_len, ap, arith, refl, rules}
 use Rattle.lite_halves.specs.Entry.{Request, write_note}
 use Rattle.lite_halves.specs.Laws.Entry.{write_note_fits, write_note_part}
 use Rattle.lite_halves.proofs.Noted.{sound_push}

@@ -1,6 +1,4 @@
-use Rattle.std.proofs.Common.{◌≡◌, Ok, Err, refl}
-use Rattle.futures.specs.declared.task.Poll.TheVariants.{Pending}
-use Rattle.lite_base.specs.Answers.{end, item}
+use Rattle.lite_merge.specs.Uses.{◌≡◌, Ok, Err, refl, Pending, end, item}
 use Rattle.lite_merge.proofs.cycle.Cycle.renew.Goals as goal
 
 pub returns-in-Err-clause-ran : goal.returns-in-Err-clause-ran

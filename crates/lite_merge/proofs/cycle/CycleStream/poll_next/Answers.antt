@@ -1,6 +1,4 @@
-use Rattle.std.proofs.Common.{◌≡◌, [], ◌∷◌, None, Some, refl}
-use Rattle.futures.specs.declared.task.Poll.TheVariants.{Pending}
-use Rattle.lite_base.specs.Answers.{end, item}
+use Rattle.lite_merge.specs.Uses.{◌≡◌, [], ◌∷◌, None, Some, refl, Pending, end, item}
 use Rattle.lite_merge.specs.Laws.Cycle.{lap_one, renewed}
 use Rattle.lite_merge.proofs.cycle.CycleStream.poll_next.Goals as goal
 

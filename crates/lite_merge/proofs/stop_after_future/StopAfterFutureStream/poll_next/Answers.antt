@@ -1,6 +1,4 @@
-use Rattle.std.proofs.Common.{◌≡◌, [], ◌∷◌, refl}
-use Rattle.futures.specs.declared.task.Poll.TheVariants.{Pending}
-use Rattle.lite_base.specs.Answers.{end}
+use Rattle.lite_merge.specs.Uses.{◌≡◌, [], ◌∷◌, refl, Pending, end}
 use Rattle.lite_merge.specs.Laws.StopAfterFuture.{beside_one}
 use Rattle.lite_merge.proofs.stop_after_future.StopAfterFutureStream.poll_next.Goals as goal
 

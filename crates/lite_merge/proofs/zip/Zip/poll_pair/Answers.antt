@@ -1,5 +1,4 @@
-use Rattle.std.proofs.Common.{◌≡◌, [], ◌∷◌, Some, None}
-use Rattle.lite_base.specs.Answers.{end, item}
+use Rattle.lite_merge.specs.Uses.{◌≡◌, [], ◌∷◌, Some, None, end, item}
 use Rattle.lite_merge.specs.Laws.Zip.{ready_pairs}
 use Rattle.lite_merge.proofs.zip.Zip.poll_pair.Goals as goal
 

@@ -1,5 +1,4 @@
-use Rattle.std.proofs.Common.{◌≡◌, [], ◌∷◌, Some, None, refl}
-use Rattle.futures.specs.declared.task.Poll.TheVariants.{Pending}
+use Rattle.lite_merge.specs.Uses.{◌≡◌, [], ◌∷◌, Some, None, refl, Pending}
 use Rattle.lite_merge.proofs.zip.ZipStream.poll_next.Goals as goal
 
 pub returns-in-None-clause-ran : goal.returns-in-None-clause-ran

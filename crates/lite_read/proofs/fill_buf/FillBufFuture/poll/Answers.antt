@@ -1,11 +1,4 @@
-use Rattle.std.proofs.Common.{◌∙◌, List, ℕ, refl, sym}
-use Rattle.std.specs.Prelude.{◌≡◌, Result, Some}
-use Rattle.std.specs.Borrow.{Bor, MutBor}
-use Rattle.std.specs.declared.io.Error.{Error}
-use Rattle.futures.specs.declared.task.Poll.{Poll}
-use Rattle.lite_base.specs.Runs.{Runs}
-use Rattle.lite_io_base.specs.Marks.{ReadMark, fill_marks}
-use Rattle.lite_io_base.specs.Runs.{LendsFront}
+use Rattle.lite_read.specs.Uses.{◌∙◌, List, ℕ, refl, sym, ◌≡◌, Result, Some, Bor, MutBor, Error, Poll, Runs, ReadMark, fill_marks, LendsFront}
 use Rattle.lite_read.specs.FillBuf.{FillsOnce, held_after}
 use Rattle.lite_read.specs.declared.fill_buf.FillBuf.{FillBuf}
 use Rattle.lite_read.proofs.fill_buf.FillBufFuture.poll.Goals as goal

@@ -1,6 +1,4 @@
-use Rattle.std.proofs.Common.{◌≡◌, [], Some, None, Ok, Err, refl, rules}
-use Rattle.std.proofs.lemmas.Grind.{common_steps}
-use Rattle.futures.specs.declared.task.Poll.TheVariants.{Ready, Pending}
+use Rattle.lite_read.specs.Uses.{◌≡◌, [], Some, None, Ok, Err, refl, rules, common_steps, Ready, Pending}
 use Rattle.lite_read.proofs.Lacking.{before_found, before_none, lacks_before}
 use Rattle.lite_read.specs.Scan.{is_newline}
 use Rattle.lite_read.proofs.Items.{item_at_end, item_cut, item_fails, item_more, item_refused, item_waits}

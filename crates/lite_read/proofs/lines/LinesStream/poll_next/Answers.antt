@@ -1,4 +1,4 @@
-use Rattle.std.proofs.Common.{arith}
+use Rattle.lite_read.specs.Uses.{arith}
 use Rattle.lite_read.specs.Laws.Segments.{flow_keeps}
 use Rattle.lite_read.specs.Lines.{LineLacksRoom, lines_over}
 use Rattle.lite_read.proofs.Refusals.{flow_full, flow_weaker}

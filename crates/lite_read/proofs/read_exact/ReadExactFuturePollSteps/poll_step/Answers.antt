@@ -1,6 +1,4 @@
-use Rattle.std.proofs.Common.{◌≡◌, ◌<◌, [], ◌∷◌, Ok, Err, length, refl, rules, arith}
-use Rattle.futures.specs.declared.task.Poll.TheVariants.{Ready, Pending}
-use Rattle.lite_io_base.specs.Marks.{ReadMark}
+use Rattle.lite_read.specs.Uses.{◌≡◌, ◌<◌, [], ◌∷◌, Ok, Err, length, refl, rules, arith, Ready, Pending, ReadMark}
 use Rattle.lite_read.proofs.Filling.{ends_behind, exact_full, read_more, read_none, some_left}
 use Rattle.lite_read.proofs.read_exact.ReadExactFuturePollSteps.poll_step.Goals as goal
 

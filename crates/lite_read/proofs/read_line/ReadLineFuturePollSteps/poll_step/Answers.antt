@@ -1,6 +1,4 @@
-use Rattle.std.proofs.Common.{◌≡◌, ◌∙◌, le_refl, [], Some, None, Ok, Err, take, refl, rules, ap}
-use Rattle.std.proofs.lemmas.Grind.{common_steps}
-use Rattle.futures.specs.declared.task.Poll.TheVariants.{Ready}
+use Rattle.lite_read.specs.Uses.{◌≡◌, ◌∙◌, le_refl, [], Some, None, Ok, Err, take, refl, rules, ap, common_steps, Ready}
 use Rattle.lite_read.proofs.Lacking.{lacks_through, through_found, through_none}
 use Rattle.lite_read.proofs.Cutting.{take_whole}
 use Rattle.lite_read.proofs.ReadLine.{filled_last, line_cut, line_more, line_refused}

@@ -1,4 +1,4 @@
-use Rattle.std.proofs.Common.{◌∙◌}
+use Rattle.lite_read.specs.Uses.{◌∙◌}
 use Rattle.lite_read.proofs.Appending.{cut_off, polls_on, to_end_full, vector_grows}
 use Rattle.lite_read.specs.Laws.Refusals.{appends_weaker, gathers_weaker}
 use Rattle.lite_read.proofs.read_to_end.ReadToEndFutureFuture.poll.Goals as goal

@@ -1,11 +1,8 @@
-use Rattle.std.proofs.Common.{◌≡◌, ◌<◌, ◌+◌, ◌-◌, max, vec_capacity, [], ◌∷◌, Ok, Err}
-use Rattle.std.proofs.Common.{length, ap, refl, rules, arith, length-take-le}
-use Rattle.std.proofs.lemmas.Grind.{common_steps}
+use Rattle.lite_read.specs.Uses.{◌≡◌, ◌<◌, ◌+◌, ◌-◌, max, vec_capacity, [], ◌∷◌, Ok, Err, length, ap, refl, rules, arith, length-take-le, common_steps, Ready}
+use Rattle.lite_read.specs.Uses.{Pending, ReadMark}
 use Rattle.lite_read.proofs.Appending.{gives_pending, gives_value, read_none, read_some, refused, room_made}
 use Rattle.lite_read.proofs.Filling.{ends_behind}
 use Rattle.lite_read.specs.Appending.{read_front}
-use Rattle.futures.specs.declared.task.Poll.TheVariants.{Ready, Pending}
-use Rattle.lite_io_base.specs.Marks.{ReadMark}
 use Rattle.lite_read.proofs.read_to_end.ReadToEndFuturePollSteps.poll_step.Goals as goal
 
 pub returns-then-is_err-clause-stepped : goal.returns-then-is_err-clause-stepped

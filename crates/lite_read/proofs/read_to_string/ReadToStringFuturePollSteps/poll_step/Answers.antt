@@ -1,7 +1,5 @@
-use Rattle.std.proofs.Common.{◌≡◌, ◌<◌, ◌+◌, max, Ok, Err, rules, arith, length-take-le}
-use Rattle.std.proofs.lemmas.Grind.{common_steps}
+use Rattle.lite_read.specs.Uses.{◌≡◌, ◌<◌, ◌+◌, max, Ok, Err, rules, arith, length-take-le, common_steps, Ready}
 use Rattle.lite_read.specs.Holding.{room_for}
-use Rattle.futures.specs.declared.task.Poll.TheVariants.{Ready}
 use Rattle.lite_read.proofs.Strings.{answered, ended, failed, finished, read_some, refused, waited, wrote_long}
 use Rattle.lite_read.proofs.TextSteps.{text_pending, text_value}
 use Rattle.lite_read.proofs.Filling.{ends_behind}

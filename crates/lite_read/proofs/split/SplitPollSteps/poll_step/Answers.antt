@@ -1,7 +1,4 @@
-use Rattle.std.proofs.Common.{◌≡◌, [], Some, None, Ok, Err, refl, rules}
-use Rattle.std.proofs.lemmas.Grind.{common_steps}
-use Rattle.futures.specs.declared.task.Poll.TheVariants.{Ready, Pending}
-use Rattle.memchr.specs.Find.{is_byte}
+use Rattle.lite_read.specs.Uses.{◌≡◌, [], Some, None, Ok, Err, refl, rules, common_steps, Ready, Pending, is_byte}
 use Rattle.lite_read.proofs.Lacking.{before_found, before_none, lacks_before}
 use Rattle.lite_read.proofs.Items.{item_at_end, item_fails, item_found, item_more, item_refused, item_waits}
 use Rattle.lite_read.proofs.split.SplitPollSteps.poll_step.Goals as goal

@@ -1,4 +1,4 @@
-use Rattle.std.proofs.Common.{IsUtf8, sym, subst}
+use Rattle.lite_read.specs.Uses.{IsUtf8, sym, subst}
 use Rattle.lite_read.proofs.Texts.{line_utf8}
 use Rattle.lite_read.proofs.text.LineBytes.whole.Goals as goal
 

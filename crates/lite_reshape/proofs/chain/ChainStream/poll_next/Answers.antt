@@ -1,5 +1,4 @@
-use Rattle.std.proofs.Common.{◌≡◌, [], ◌∷◌, refl, inl}
-use Rattle.lite_base.specs.Answers.{item}
+use Rattle.lite_reshape.specs.Uses.{◌≡◌, [], ◌∷◌, refl, inl, item}
 use Rattle.lite_reshape.proofs.chain.ChainStream.poll_next.Goals as goal
 
 pub returns-in-Some-clause-ran : goal.returns-in-Some-clause-ran

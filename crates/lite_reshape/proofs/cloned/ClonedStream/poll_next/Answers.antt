@@ -1,6 +1,4 @@
-use Rattle.std.proofs.Common.{◌≡◌, refl}
-use Rattle.futures.specs.declared.task.Poll.TheVariants.{Pending}
-use Rattle.lite_base.specs.Answers.{item}
+use Rattle.lite_reshape.specs.Uses.{◌≡◌, refl, Pending, item}
 use Rattle.lite_reshape.specs.Cloned.{Clones, Refers}
 use Rattle.lite_reshape.specs.Laws.Expanding.{made_answers, none_answers}
 use Rattle.lite_reshape.proofs.cloned.ClonedStream.poll_next.Goals as goal

@@ -1,6 +1,4 @@
-use Rattle.std.proofs.Common.{refl}
-use Rattle.std.proofs.lemmas.Fn.{called_at}
-use Rattle.lite_stream.specs.Laws.EachItem.{each_here}
+use Rattle.lite_reshape.specs.Uses.{refl, called_at, each_here}
 use Rattle.lite_reshape.proofs.PollSteps.{steps_on}
 use Rattle.lite_reshape.proofs.filter.FilterPollSteps.poll_step.Goals as goal
 

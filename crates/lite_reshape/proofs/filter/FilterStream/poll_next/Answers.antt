@@ -1,5 +1,4 @@
-use Rattle.std.specs.Fn.{CalledAt}
-use Rattle.lite_base.specs.Calling.{Accepts}
+use Rattle.lite_reshape.specs.Uses.{CalledAt, Accepts}
 use Rattle.lite_reshape.proofs.PollSteps.{sifts_answer}
 use Rattle.lite_reshape.proofs.filter.FilterStream.poll_next.Goals as goal
 

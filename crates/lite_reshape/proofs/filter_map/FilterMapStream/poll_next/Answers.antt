@@ -1,4 +1,4 @@
-use Rattle.lite_base.specs.Calling.{Calls}
+use Rattle.lite_reshape.specs.Uses.{Calls}
 use Rattle.lite_reshape.proofs.PollSteps.{sifts_answer}
 use Rattle.lite_reshape.proofs.filter_map.FilterMapStream.poll_next.Goals as goal
 

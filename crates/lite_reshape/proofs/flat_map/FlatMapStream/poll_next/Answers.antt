@@ -1,11 +1,7 @@
 use Rattle.lite_reshape.specs.FlatMap.{flat_map_parts}
 use Rattle.lite_reshape.specs.Laws.FlatMap.{each_made, made_promises}
-use Rattle.lite_base.specs.Laws.StreamLaws.{runs_of}
+use Rattle.lite_reshape.specs.Uses.{runs_of, Calls, replaces_relating, laws_hinted, Maps, map_parts}
 use Rattle.lite_reshape.specs.Laws.Flatten.{flat_answer}
-use Rattle.lite_base.specs.Calling.{Calls}
-use Rattle.lite_stream.specs.Laws.Pointwise.{replaces_relating}
-use Rattle.lite_stream.specs.Laws.Through.{laws_hinted}
-use Rattle.lite_stream.specs.Map.{Maps, map_parts}
 use Rattle.lite_reshape.proofs.flat_map.FlatMapStream.poll_next.Goals as goal
 
 pub drive-requires : goal.drive-requires

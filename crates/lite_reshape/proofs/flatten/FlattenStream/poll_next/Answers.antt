@@ -1,5 +1,5 @@
 use Rattle.lite_reshape.specs.Inner.{flatten_parts}
-use Rattle.lite_base.specs.Laws.StreamLaws.{runs_of}
+use Rattle.lite_reshape.specs.Uses.{runs_of}
 use Rattle.lite_reshape.specs.Laws.Flatten.{flat_answer}
 use Rattle.lite_reshape.proofs.flatten.FlattenStream.poll_next.Goals as goal
 

@@ -1,7 +1,4 @@
-use Rattle.std.proofs.Common.{refl}
-use Rattle.std.proofs.lemmas.Fn.{called_at}
-use Rattle.std.specs.Prelude.{Some, None}
-use Rattle.lite_stream.specs.Laws.EachItem.{each_here}
+use Rattle.lite_reshape.specs.Uses.{refl, called_at, Some, None, each_here}
 use Rattle.lite_reshape.proofs.PollSteps.{steps_on}
 use Rattle.lite_reshape.proofs.skip_while.SkipWhilePollSteps.poll_step.Goals as goal
 

@@ -1,4 +1,4 @@
-use Rattle.std.specs.Fn.{CalledAt}
+use Rattle.lite_reshape.specs.Uses.{CalledAt}
 use Rattle.lite_reshape.specs.SkipWhile.{SkipsUntil}
 use Rattle.lite_reshape.proofs.PollSteps.{sifts_answer}
 use Rattle.lite_reshape.proofs.skip_while.SkipWhileStream.poll_next.Goals as goal

@@ -1,11 +1,7 @@
-use Rattle.std.proofs.Common.{◌≡◌, Some, None, refl, rules}
-use Rattle.futures.specs.declared.task.Poll.TheVariants.{Ready, Pending}
-use Rattle.lite_base.specs.Answers.{item}
+use Rattle.lite_reshape.specs.Uses.{◌≡◌, Some, None, refl, rules, Ready, Pending, item, Calls, each_asked, each_here}
 use Rattle.lite_reshape.specs.Laws.Expanding.{held_answers, made_answers, none_answers}
 use Rattle.lite_reshape.specs.Laws.Then.{hands_pending, hands_value}
 use Rattle.lite_reshape.specs.Then.{HandsOut}
-use Rattle.lite_base.specs.Calling.{Calls}
-use Rattle.lite_stream.specs.Laws.EachItem.{each_asked, each_here}
 use Rattle.lite_reshape.proofs.then.ThenStream.poll_next.Goals as goal
 
 pub returns-in-Some-clause-ran : goal.returns-in-Some-clause-ran

@@ -1,5 +1,4 @@
-use Rattle.std.proofs.Common.{◌≡◌, [], ◌∷◌, refl, subst}
-use Rattle.futures.specs.declared.task.Poll.TheVariants.{Pending}
+use Rattle.lite_source.specs.Uses.{◌≡◌, [], ◌∷◌, refl, subst, Pending}
 use Rattle.lite_source.proofs.once_future.OnceFutureStream.poll_next.Goals as goal
 
 pub returns-clause-ran : goal.returns-clause-ran

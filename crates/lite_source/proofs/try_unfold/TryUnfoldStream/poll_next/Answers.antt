@@ -1,5 +1,4 @@
-use Rattle.std.proofs.Common.{◌≡◌, Some, None, Ok, Err}
-use Rattle.futures.specs.declared.task.Poll.TheVariants.{Ready}
+use Rattle.lite_source.specs.Uses.{◌≡◌, Some, None, Ok, Err, Ready}
 use Rattle.lite_source.specs.TryUnfold.{try_item_of, try_seed_of}
 use Rattle.lite_source.specs.Laws.Unfolding.{unfolds_value}
 use Rattle.lite_source.proofs.try_unfold.TryUnfoldStream.poll_next.Goals as goal

@@ -1,5 +1,4 @@
-use Rattle.std.proofs.Common.{◌≡◌, Some, None}
-use Rattle.futures.specs.declared.task.Poll.TheVariants.{Ready}
+use Rattle.lite_source.specs.Uses.{◌≡◌, Some, None, Ready}
 use Rattle.lite_source.specs.Unfold.{item_of, seed_of}
 use Rattle.lite_source.specs.Laws.Unfolding.{unfolds_value}
 use Rattle.lite_source.proofs.unfold.UnfoldStream.poll_next.Goals as goal

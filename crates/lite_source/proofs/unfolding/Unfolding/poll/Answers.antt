@@ -1,5 +1,4 @@
-use Rattle.std.proofs.Common.{rules}
-use Rattle.lite_base.specs.Laws.Promises.{makes_on}
+use Rattle.lite_source.specs.Uses.{rules, makes_on}
 use Rattle.lite_source.proofs.unfolding.Unfolding.poll.Goals as goal
 use Rattle.lite_source.proofs.unfolding.Unfolding.poll.Goals.{in-Some+in-Some-1, in-Some+in-None-1, in_default}
 

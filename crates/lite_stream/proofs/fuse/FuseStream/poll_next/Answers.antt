@@ -1,5 +1,4 @@
-use Rattle.std.proofs.Common.{rules, ◌≡◌, [], ◌∷◌, refl}
-use Rattle.lite_base.specs.Answers.{end}
+use Rattle.lite_stream.specs.Uses.{rules, ◌≡◌, [], ◌∷◌, refl, end}
 use Rattle.lite_stream.proofs.fuse.FuseStream.poll_next.Goals as goal
 
 pub returns-in-None-clause-ran : goal.returns-in-None-clause-ran

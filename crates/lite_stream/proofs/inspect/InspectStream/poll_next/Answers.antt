@@ -1,7 +1,4 @@
-use Rattle.std.proofs.Common.{Some, refl, rules}
-use Rattle.std.proofs.lemmas.Fn.{called_at}
-use Rattle.std.specs.Fn.{CalledAt}
-use Rattle.lite_base.specs.Calling.{Always}
+use Rattle.lite_stream.specs.Uses.{Some, refl, rules, called_at, CalledAt, Always}
 use Rattle.lite_stream.specs.Inspect.{ShowsItem}
 use Rattle.lite_stream.specs.Laws.Pointwise.{exchanged}
 use Rattle.lite_stream.specs.Laws.EachItem.{each_again, each_here}

@@ -1,5 +1,4 @@
-use Rattle.std.proofs.Common.{refl, rules}
-use Rattle.lite_base.specs.Calling.{CallsWith}
+use Rattle.lite_stream.specs.Uses.{refl, rules, CallsWith}
 use Rattle.lite_stream.specs.Laws.Pointwise.{exchanged}
 use Rattle.lite_stream.specs.Laws.EachItem.{each_again, each_here}
 use Rattle.lite_stream.proofs.scan.ScanStream.poll_next.Goals as goal

@@ -1,5 +1,4 @@
-use Rattle.std.proofs.Common.{◌≡◌, Ok, refl, rules}
-use Rattle.futures.specs.declared.task.Poll.TheVariants.{Ready}
+use Rattle.lite_write.specs.Uses.{◌≡◌, Ok, refl, rules, Ready}
 use Rattle.lite_write.proofs.Copying.{writer_is_flushed}
 use Rattle.lite_write.proofs.copy.CopyFuture.flush.Goals as goal
 

@@ -1,8 +1,4 @@
-use Rattle.std.proofs.Common.{◌≡◌, ◌<◌, ◌≤◌, ◌+◌, ◌%◌, ◌^◌, Ok, length, take, length-take-le, ap, sym, arith}
-use Rattle.std.proofs.Common.{rules}
-use Rattle.futures.specs.declared.task.Poll.TheVariants.{Ready}
-use Rattle.lite_buffered.specs.BufReader.{ahead}
-use Rattle.lite_io_base.specs.Laws.Runs.{offered_marks}
+use Rattle.lite_write.specs.Uses.{◌≡◌, ◌<◌, ◌≤◌, ◌+◌, ◌%◌, ◌^◌, Ok, length, take, length-take-le, ap, sym, arith, rules, Ready, ahead, offered_marks}
 use Rattle.lite_write.proofs.Copying.{writes_more}
 use Rattle.lite_write.proofs.copy.CopyFuture.write_some.Goals as goal
 

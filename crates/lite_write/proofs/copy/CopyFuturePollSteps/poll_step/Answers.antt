@@ -1,7 +1,4 @@
-use Rattle.std.proofs.Common.{◌≡◌, ◌<◌, [], ◌∷◌, Ok, true, false, length, refl, rules}
-use Rattle.std.proofs.lemmas.Grind.{common_steps}
-use Rattle.futures.specs.declared.task.Poll.TheVariants.{Ready}
-use Rattle.lite_buffered.specs.BufReader.{ahead}
+use Rattle.lite_write.specs.Uses.{◌≡◌, ◌<◌, [], ◌∷◌, Ok, true, false, length, refl, rules, common_steps, Ready, ahead}
 use Rattle.lite_write.specs.Laws.Copy.{moves_both}
 use Rattle.lite_write.proofs.Copying.{is_copying, reader_ends, then_steps}
 use Rattle.lite_write.proofs.copy.CopyFuturePollSteps.poll_step.Goals as goal

@@ -1,5 +1,4 @@
-use Rattle.std.proofs.Common.{refl}
-use Rattle.lite_read.specs.Laws.Polled.{polled_one}
+use Rattle.lite_write.specs.Uses.{refl, polled_one}
 use Rattle.lite_write.specs.Flush.{Flushes}
 use Rattle.lite_write.proofs.flush.FlushFutureFuture.poll.Goals as goal
 

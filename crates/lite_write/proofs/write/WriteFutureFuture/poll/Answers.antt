@@ -1,5 +1,4 @@
-use Rattle.std.proofs.Common.{refl}
-use Rattle.lite_read.specs.Laws.Polled.{polled_one}
+use Rattle.lite_write.specs.Uses.{refl, polled_one}
 use Rattle.lite_write.specs.Write.{Writes}
 use Rattle.lite_write.proofs.write.WriteFutureFuture.poll.Goals as goal
 

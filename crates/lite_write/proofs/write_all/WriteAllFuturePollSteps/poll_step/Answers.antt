@@ -1,8 +1,4 @@
-use Rattle.std.proofs.Common.{◌≡◌, ◌<◌, [], ◌∷◌, Ok, Err, length, refl, rules}
-use Rattle.std.proofs.lemmas.Grind.{common_steps}
-use Rattle.futures.specs.declared.task.Poll.TheVariants.{Ready, Pending}
-use Rattle.lite_io_base.specs.Takings.{WriteMark}
-use Rattle.lite_io_base.specs.Laws.Runs.{offered_marks}
+use Rattle.lite_write.specs.Uses.{◌≡◌, ◌<◌, [], ◌∷◌, Ok, Err, length, refl, rules, common_steps, Ready, Pending, WriteMark, offered_marks}
 use Rattle.lite_write.proofs.Handing.{write_one}
 use Rattle.lite_write.proofs.write_all.WriteAllFuturePollSteps.poll_step.Goals as goal
 

@@ -1,5 +1,4 @@
-use Rattle.std.proofs.Common.{rules, ◌≡◌, [], ◌∷◌, ◌++◌, refl}
-use Rattle.futures.specs.declared.task.Poll.TheVariants.{Ready, Pending}
+use Rattle.lite_base.specs.Uses.{rules, ◌≡◌, [], ◌∷◌, ◌++◌, refl, Ready, Pending}
 use Rattle.lite_base.specs.Laws.Answers.{waiting_gives, waiting_waiting}
 use Rattle.lite_base.proofs.future.block_on.BlockOn.wait_for.Goals as goal
 

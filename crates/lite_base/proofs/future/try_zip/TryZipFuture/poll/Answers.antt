@@ -1,5 +1,4 @@
-use Rattle.std.proofs.Common.{[], ◌∷◌, refl, Ok, Err, inl, inr, arith}
-use Rattle.futures.specs.declared.task.Poll.TheVariants.{Ready}
+use Rattle.lite_base.specs.Uses.{[], ◌∷◌, refl, Ok, Err, inl, inr, arith, Ready}
 use Rattle.lite_base.specs.Future.TryZip.{try_pair}
 use Rattle.lite_base.specs.Laws.Future.Half.{stands_rest}
 use Rattle.lite_base.specs.Laws.Future.Together.{together_row}

@@ -1,4 +1,4 @@
-use Rattle.lite_io_base.specs.Laws.Runs.{reads_among}
+use Rattle.lite_halves.specs.Uses.{reads_among}
 use Rattle.lite_halves.specs.Journal.{JournalReads}
 use Rattle.lite_halves.proofs.journal.polls.JournalAsyncRead.poll_read_vectored.Goals as goal
 

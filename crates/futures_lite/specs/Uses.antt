@@ -1,0 +1,92 @@
+-- What the files of this crate take from the crates below. Each file has one list of it; a name that two modules have is imported from its own.
+pub use Rattle.futures.specs.declared.task.Poll.{Poll}
+pub use Rattle.lite_base.specs.Answers.{Gives, until_end}
+pub use Rattle.lite_base.specs.Calling.{Calls}
+pub use Rattle.lite_base.specs.Future.Finishes.{Finishes}
+pub use Rattle.lite_buffered.specs.Budgeted.{budget_of, budgeted_inner, left_of}
+pub use Rattle.lite_buffered.specs.BufReader.{reader_capacity}
+pub use Rattle.lite_buffered.specs.Chaining.{first_of, has_ended, second_of}
+pub use Rattle.lite_buffered.specs.Take.{limit_of, take_inner}
+pub use Rattle.lite_consume.specs.Calls.{CallsBoth}
+pub use Rattle.lite_gather.specs.Gathering.{LacksRoom}
+pub use Rattle.lite_io_base.specs.Known.{Knows}
+pub use Rattle.lite_io_base.specs.Stored.{Stores}
+pub use Rattle.lite_merge.specs.Budgeted.{Budgets}
+pub use Rattle.lite_merge.specs.Cycle.{CycleOf}
+pub use Rattle.lite_merge.specs.Zip.{Zips}
+pub use Rattle.lite_read.specs.BytePieces.{behind, byte_lines, byte_pieces, through_first}
+pub use Rattle.lite_read.specs.Bytes.{TellsBytes}
+pub use Rattle.lite_read.specs.Laws.ReadToEnd.{to_end_any}
+pub use Rattle.lite_read.specs.Laws.ReadUntil.{until_any}
+pub use Rattle.lite_read.specs.Laws.Texts.{line_room, string_room, text_any}
+pub use Rattle.lite_read.specs.LineText.{without_return}
+pub use Rattle.lite_read.specs.Lines.{GivesLines, lines_over}
+pub use Rattle.lite_read.specs.ReadExact.{ReadsExactly}
+pub use Rattle.lite_read.specs.ReadLine.{LineHolds, ReadsLine, ReadsLineByRoom, line_over}
+pub use Rattle.lite_read.specs.ReadToEnd.{ReadsToEnd, ReadsToEndByRoom}
+pub use Rattle.lite_read.specs.ReadToString.{ReadsStringByRoom, ReadsToString, StringHolds, all_over, text_front}
+pub use Rattle.lite_read.specs.ReadUntil.{ReadsUntil, ReadsUntilByRoom}
+pub use Rattle.lite_read.specs.Split.{Splits, split_over}
+pub use Rattle.lite_reshape.specs.Cloned.{cloned_parts}
+pub use Rattle.lite_reshape.specs.Filter.{Filters, filter_parts}
+pub use Rattle.lite_reshape.specs.FilterMap.{filter_map_parts}
+pub use Rattle.lite_reshape.specs.FlatMap.{FlatMaps}
+pub use Rattle.lite_reshape.specs.Flatten.{Flattens}
+pub use Rattle.lite_reshape.specs.Inner.{flatten_parts}
+pub use Rattle.lite_reshape.specs.Skip.{SkipsFirst}
+pub use Rattle.lite_reshape.specs.SkipWhile.{SkipsWhile, skip_while_parts}
+pub use Rattle.lite_reshape.specs.StepBy.{StepsBy}
+pub use Rattle.lite_reshape.specs.Then.{Thens, then_parts}
+pub use Rattle.lite_reshape.specs.declared.chain.Part.TheVariants.{First}
+pub use Rattle.lite_stream.specs.EachItem.{MayCallEach, items_in}
+pub use Rattle.lite_stream.specs.Fuse.{Fuses}
+pub use Rattle.lite_stream.specs.Inspect.{Inspects}
+pub use Rattle.lite_stream.specs.Map.{map_parts}
+pub use Rattle.lite_stream.specs.MapWhile.{map_while_parts}
+pub use Rattle.lite_stream.specs.Scan.{scan_parts}
+pub use Rattle.lite_stream.specs.Take.{Takes}
+pub use Rattle.lite_stream.specs.TakeWhile.{TakesWhile, take_while_parts}
+pub use Rattle.lite_views.proofs.Adapting.{filter_fewer, filter_map_fewer, filter_mapped_fits, filtered_fits, map_while_fewer, mapped_fits, mapped_while_fits}
+pub use Rattle.lite_views.proofs.Adapting.{scan_fewer, scanned_fits, shown_lists, skipped_while_fits, taken_while_fits}
+pub use Rattle.lite_views.proofs.Asking.{may_ask}
+pub use Rattle.lite_views.proofs.Collecting.{all_collected}
+pub use Rattle.lite_views.proofs.Consuming.{accepted_made, all_made, any_made, collect_made, find_made, find_map_made, fold_made, only_made, others_made}
+pub use Rattle.lite_views.proofs.Consuming.{position_made, try_collect_made, try_fold_made, try_for_each_made, unzip_made, value_made}
+pub use Rattle.lite_views.proofs.Exact.{exactly_read}
+pub use Rattle.lite_views.proofs.Futures.{all_read, gathered_left, when_less}
+pub use Rattle.lite_views.proofs.Holding.{awaited_fits, cloned_fits, flat_mapped_lists, flattened_fits}
+pub use Rattle.lite_views.proofs.OkLists.{ok_seen}
+pub use Rattle.lite_views.proofs.SourceLists.{array_gives, empty_lists, once_fronts, once_lists, range_gives, repeated_on, slice_gives, vec_gives}
+pub use Rattle.lite_views.proofs.Streams.{bytes_lists, pieces_listed}
+pub use Rattle.lite_views.proofs.Texts.{all_read_text, text_left}
+pub use Rattle.lite_views.proofs.Until.{read_piece, read_text_line}
+pub use Rattle.lite_views.proofs.Views.{lent_lists, listed_through, seen}
+pub use Rattle.lite_views.proofs.Waiting.{left_seen}
+pub use Rattle.lite_views.proofs.Writing.{copy_left, on_each, written_left}
+pub use Rattle.lite_views.specs.Acting.{ActsAsOnState}
+pub use Rattle.lite_views.specs.Futures.{CountRuns, FindRuns, FoldRuns, LastRuns, NthRuns, TryFoldRuns}
+pub use Rattle.lite_views.specs.Iterators.{GivesAll}
+pub use Rattle.lite_views.specs.Lists.{map_while, scan, step_from}
+pub use Rattle.lite_views.specs.OkLists.{AllTaken, OkLists, OkListsAs, OkSeen}
+pub use Rattle.lite_views.specs.Trying.{TriesCollect, first_error, try_fold}
+pub use Rattle.lite_views.specs.Views.{Fronts, FrontsAs, GoesOn, HasValue, Lists, ListsAs, Seen, ValueHolds, ValueIs, Waited}
+pub use Rattle.lite_views.specs.Waiting.{LeftAs, LeftSeen, WhenLeft}
+pub use Rattle.lite_write.specs.Copy.{CopyRuns}
+pub use Rattle.lite_write.specs.Parts.{NothingCopied, source_of}
+pub use Rattle.lite_write.specs.WriteAll.{WritesAll}
+pub use Rattle.std.proofs.Common.{ap, arith, refl, rules, subst, sym, ◌∙◌}
+pub use Rattle.std.proofs.lemmas.Grind.{common_steps}
+pub use Rattle.std.specs.Array.Iter.{array_into_iter_items, array_steps}
+pub use Rattle.std.specs.Fn.{Called, CalledAt}
+pub use Rattle.std.specs.Iterator.{ActsAs, ActsAsAt, ActsAsOnTwo, at_most}
+pub use Rattle.std.specs.Iterator.Adapters.{copied_source, copied_steps}
+pub use Rattle.std.specs.Iterator.Runs.{CallKeepsClosure}
+pub use Rattle.std.specs.List.{AllByRecursion, enumerate_from, filter, filter_map, find, fold, last_or, list_all, list_any, position, prefix_len}
+pub use Rattle.std.specs.List.{range_with_len, slice_get, zip}
+pub use Rattle.std.specs.Option.{option_transpose}
+pub use Rattle.std.specs.Prelude.{Bool, IfErr, IfOk, IfSome, IsSome, List, MatchResult, None, Ok, OnErr, Option, Result, Some, [], drop, false, flat_map}
+pub use Rattle.std.specs.Prelude.{length, map, not, replicate, string_bytes, take, ℕ, ⊤, ◌%◌, ◌++◌, ◌-◌, ◌<◌, ◌^◌, ◌∷◌, ◌≡◌, ◌≤◌}
+pub use Rattle.std.specs.Slice.Iter.{iter_rest, iter_steps}
+pub use Rattle.std.specs.Vec.Iter.{into_iter_len, into_iter_steps}
+pub use Rattle.std.specs.declared.alloc.AllocError.{AllocError}
+pub use denote.Ref.{Bor}
