@@ -67,10 +67,13 @@ pub use Rattle.lite_views.specs.Acting.{ActsAsOnState}
 pub use Rattle.lite_views.specs.Futures.{CountRuns, FindRuns, FoldRuns, LastRuns, NthRuns, TryFoldRuns}
 pub use Rattle.lite_views.specs.Iterators.{GivesAll}
 pub use Rattle.lite_views.specs.Lists.{map_while, scan, step_from}
-pub use Rattle.lite_views.specs.OkLists.{AllTaken, OkLists, OkListsAs, OkSeen}
+pub use Rattle.lite_views.specs.OkLists.{AllTaken, OkListsAs}
+unfoldable pub use Rattle.lite_views.specs.OkLists.{OkLists, OkSeen}
 pub use Rattle.lite_views.specs.Trying.{TriesCollect, first_error, try_fold}
-pub use Rattle.lite_views.specs.Views.{Fronts, FrontsAs, GoesOn, HasValue, Lists, ListsAs, Seen, ValueHolds, ValueIs, Waited}
-pub use Rattle.lite_views.specs.Waiting.{LeftAs, LeftSeen, WhenLeft}
+pub use Rattle.lite_views.specs.Views.{FrontsAs, ListsAs, ValueHolds, ValueIs}
+unfoldable pub use Rattle.lite_views.specs.Views.{Fronts, GoesOn, HasValue, Lists, Seen, Waited}
+pub use Rattle.lite_views.specs.Waiting.{WhenLeft}
+unfoldable pub use Rattle.lite_views.specs.Waiting.{LeftAs, LeftSeen}
 pub use Rattle.lite_write.specs.Copy.{CopyRuns}
 pub use Rattle.lite_write.specs.Parts.{NothingCopied, source_of}
 pub use Rattle.lite_write.specs.WriteAll.{WritesAll}

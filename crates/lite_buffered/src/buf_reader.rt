@@ -360,7 +360,7 @@ impl<R: AsyncRead> AsyncBufRead for BufReader<R> {
     ghost use Rattle.lite_buffered.specs.BufReader.{AsksWhereEmpty, ThroughBuffer, ahead, reader_capacity, reader_inner};
     ghost use Rattle.lite_buffered.specs.Laws.BufReader.{through_shows};
     ghost use Rattle.lite_buffered.specs.contracts.buf_reader.BufReader.{the_row};
-    ghost use Rattle.lite_buffered.specs.Uses.{Afterwards, Fills, by_kind};
+    ghost use Rattle.lite_buffered.specs.Uses.{Afterwards, Fills};
 
     ghost lent = { ahead };
 
@@ -431,6 +431,7 @@ impl<R: AsyncSeek> AsyncSeek for BufReader<R> {
 }
 
 impl<R: AsyncSeek> BufReader<R> {
+    ghost use Rattle.lite_buffered.specs.Uses.{by_kind};
     ghost use Rattle.lite_buffered.specs.BufReader.{reader_inner};
     ghost use Rattle.lite_buffered.specs.SeeksThrough.{SeeksOnce, SeeksThrough, SeeksTwice};
 

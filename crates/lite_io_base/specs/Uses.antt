@@ -36,6 +36,7 @@ pub use Rattle.std.specs.declared.io.ErrorKind.TheVariants.{Interrupted, OutOfMe
 pub use Rattle.std.specs.declared.io.slices.IoSlice.{IoSlice}
 pub use Rattle.std.specs.declared.io.slices.IoSliceMut.{IoSliceMut}
 pub use Rattle.std.specs.declared.io.traits.SeekFrom.{SeekFrom}
-pub use denote.Follow.{follows_if, such_by}
+pub use denote.Follow.{follows_if}
+unfoldable pub use denote.Follow.{such_by}
 pub use denote.MutBor.{MutBor}
 pub use denote.Slice.{ShrSlice}

@@ -97,6 +97,7 @@ impl<R: AsyncRead, W: AsyncWrite> CopyFuture<R, W> {
 }
 
 impl<R: CountedRead, W: AsyncWrite> PollSteps for CopyFuture<R, W> {
+    ghost use Rattle.lite_write.specs.Uses.{OneStep};
     ghost use Rattle.lite_write.specs.Copy.{Moves};
     ghost use Rattle.lite_write.specs.Copying.{CopiesSome, CopyRegisters};
     ghost use Rattle.lite_write.specs.Laws.Copy.{some_given};
