@@ -4,7 +4,6 @@ use Rattle.lite_buffered.specs.Uses.{length-take-le, take-append-drop, drop, sub
 use Rattle.lite_buffered.specs.declared.buf_reader.BufReader.{BufReader}
 use Rattle.lite_buffered.specs.BufReader.{Padded, PassesBuffer, ThroughBuffer, ahead, reader_capacity}
 use Rattle.lite_buffered.specs.Laws.BufReader.{ahead_none, passes_of, through_laws}
-use Rattle.lite_buffered.proofs.Ranges.{slice_range_none}
 
 -- nothing is moved into no room
 pub moved_none : (buf xs : List ℕ) → length buf ≡ 0 → length xs ≡ 0 → moved buf xs ≡ []
@@ -19,6 +18,10 @@ fill_then_read shown [] n is some = absurd (omega (arith, some))
 fill_then_read [] (r ∷ room) n is some = let none : n ≡ 0 = omega arith in rw none refl
 fill_then_read (x ∷ shown) (r ∷ room) zero is some = absurd (omega arith)
 fill_then_read (x ∷ shown) (r ∷ room) (suc n) is some = refl
+
+filled_some : (shown : List ℕ) → 0 < length shown → filled shown ≡ []
+filled_some [] some = absurd (omega (arith, some))
+filled_some (x ∷ shown) some = refl
 
 -- what a fill read is ahead
 pub fill_passes : (buf xs : List ℕ) → length xs ≤ length buf
@@ -71,6 +74,11 @@ module _ {R : Type 0} (reads : Runs ReadMark R) (x y : BufReader R) where
       let cut = sym (take-append-drop n (ahead x)) ∙ ap (λ l. take n (ahead x) ++ l) (sym rest) in
       through_taken laws (take n (ahead x)) inner same cut
 
+-- a fill where bytes are ahead
+pub through_rest : {R : Type 0} (reads : Runs ReadMark R) (x : BufReader R) → MarkLaws reads → 0 < length (ahead x)
+    → ThroughBuffer reads x (filled (ahead x)) x
+through_rest reads x laws some = rw (filled_some (ahead x) some) ((through_laws laws).rests x)
+
 -- a fill, and then a read of the first n bytes of what it lent
 pub fill_then_take : {R : Type 0} {reads : Runs ReadMark R} (laws : MarkLaws reads) (x s y : BufReader R) (n : ℕ)
     (room : List ℕ) → ThroughBuffer reads x (filled (ahead s)) s → y.inner ≡ s.inner
@@ -80,6 +88,3 @@ fill_then_take {reads = reads} laws x s y n room fills inner same rest is some =
     rw (fill_then_read (ahead s) room n is some)
     ((through_laws laws).follows x s y (filled (ahead s)) (bytes (take n (ahead s))) fills
     (through_advance reads s y laws n inner same rest))
-
--- what a fill is shown by
-pub ruleset fill_rules = (through_fill, through_past, slice_range_none)

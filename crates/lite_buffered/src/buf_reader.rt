@@ -197,7 +197,6 @@ impl<R: AsyncRead> BufReader<R> {
     ghost use Rattle.lite_buffered.specs.BufReader.{AsksWhereEmpty, ThroughBuffer, ahead, reader_capacity, reader_inner};
 
     // Reads ahead if nothing is there.
-    #[tactic(auto, using(crate::proofs::Reading::fill_rules, crate::proofs::Asking::asks_rules))]
     fn fill(&mut self, cx: &mut Context<'_>) -> Poll<io::Result<()>>
         ensures ran { ThroughBuffer R.reads self.old (fill_marks result (ahead self.new)) self.new }
         ensures lends { OnlyOkLends result (ahead self.new) }
@@ -212,7 +211,6 @@ impl<R: AsyncRead> BufReader<R> {
     }
 
     // Reads into the whole buffer, as nothing is ahead.
-    #[tactic(auto, using(crate::proofs::Reading::fill_rules, crate::proofs::Asking::asks_rules))]
     fn refill(&mut self, cx: &mut Context<'_>) -> Poll<io::Result<()>>
         requires { ahead self.old ≡ [] }
         ensures ran { ThroughBuffer R.reads self.old (fill_marks result (ahead self.new)) self.new }
