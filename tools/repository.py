@@ -89,6 +89,11 @@ def link(source, to):
         shutil.copy2(source, to)
 
 
+def link_kept(source, to):
+    """Copies a file of what a check kept. A checked module is never written again, so a second name is enough."""
+    return link(source, to) if source.endswith(".oantt") else shutil.copy2(source, to)
+
+
 def hand_on(name, place, to):
     """Gives what is built of the crate in one place to another, where `rt` takes it by the sum of what it was made from."""
     built, there = (f"{it}/crates/{name}/out/rlib" for it in (place, to))
