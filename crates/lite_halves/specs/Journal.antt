@@ -18,10 +18,10 @@ AsksMemory j asked = (j.room ≡ 0) ⊎ (0 < copied asked)
 
 -- The journal has room for an entry, and there is a vector for so many bytes of it; or memory for these was refused, and
 -- nothing changed.
-abbrev pub MakesEntryRoom : {T : Type 0} → Chronicle T → ℕ → Option (Vec ℕ Global) → Chronicle T → Type 0
-MakesEntryRoom a n (Some v) b =
+abbrev pub EntryRoom : {T : Type 0} → Chronicle T → ℕ → Option (Vec ℕ Global) → Chronicle T → Type 0
+EntryRoom a n (Some v) b =
     (v.items ≡ []) × (n ≤ vec_capacity v) × (0 < b.room) × (a.room ≤ b.room) × (b ≡ record a { room = b.room })
-MakesEntryRoom a n None b = (b ≡ a) × ((a.room ≡ 0) ⊎ (0 < n))
+EntryRoom a n None b = (b ≡ a) × ((a.room ≡ 0) ⊎ (0 < n))
 
 -- each clone equals its original
 abbrev pub ClonesEqual : {T : Type 0} → (T → T → Type 0) → Type 0

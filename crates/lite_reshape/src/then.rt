@@ -1,8 +1,8 @@
-ghost use Rattle.lite_reshape.specs.Uses.{Option, ℕ, ◌≡◌, Calls};
+ghost use Rattle.lite_reshape.specs.Uses.{Option, None, ℕ, ◌≡◌, ◌∷◌, [], IfSome, Keeps, Registered, Calls};
 ghost use Rattle.lite_reshape.specs.HeldRegisters.{HeldRegisters};
 ghost use Rattle.lite_reshape.specs.Laws.Expanding.{held_counting, held_ranks};
 ghost use Rattle.lite_reshape.specs.Laws.Then.{hands_one, then_laws};
-ghost use Rattle.lite_reshape.specs.Then.{CanThen, MakesEach, Thens, then_hint, then_parts};
+ghost use Rattle.lite_reshape.specs.Then.{CanThen, HandsOut, MakesEach, Thens, then_hint, then_parts};
 
 use lite_base::{Context, Counted, Future, Poll, Stream, ready};
 
@@ -15,6 +15,29 @@ pub struct Then<S, F, Fut> {
     pub(crate) stream: S,
     pub(crate) future: Option<Fut>,
     pub(crate) f: F,
+}
+
+impl<S: Stream, F, Fut: Future + Drop> Then<S, F, Fut> {
+    // Polls a future that was just made, and holds it where it is pending.
+    #[inline(always)]
+    #[tactic(auto, using(crate::specs::Laws::Then::hands_rules))]
+    fn poll_made(&mut self, mut future: Fut, cx: &mut Context<'_>) -> Poll<Option<Fut::Output>>
+        requires free { self.old.future ≡ None }
+        requires can_poll { Fut.can_poll future }
+        ensures given { HandsOut Fut.run future (result ∷ []) self.new.future }
+        ensures same { self.new ≡ record self.old { future = self.new.future } }
+        ensures again { IfSome self.new.future Fut.can_poll }
+        ensures left { Registered result (HeldRegisters S.registers Fut.registers self.new.stream self.new.future) cx.new }
+        ensures kept { Keeps cx.old cx.new }
+    {
+        match future.poll(cx) {
+            Poll::Ready(value) => Poll::Ready(Some(value)),
+            Poll::Pending => {
+                self.future = Some(future);
+                Poll::Pending
+            }
+        }
+    }
 }
 
 impl<S: Stream, F: FnMut(S::Item) -> Fut, Fut: Future + Drop> Stream for Then<S, F, Fut> {
@@ -40,14 +63,8 @@ impl<S: Stream, F: FnMut(S::Item) -> Fut, Fut: Future + Drop> Stream for Then<S,
             }
             None => match ready!(self.stream.poll_next(cx)) {
                 Some(item) => {
-                    let mut future = (self.f)(item);
-                    match future.poll(cx) {
-                        Poll::Ready(value) => Poll::Ready(Some(value)),
-                        Poll::Pending => {
-                            self.future = Some(future);
-                            Poll::Pending
-                        }
-                    }
+                    let future = (self.f)(item);
+                    self.poll_made(future, cx)
                 }
                 None => Poll::Ready(None),
             },

@@ -23,6 +23,11 @@ module _ {S V : Type 0} where
   IfHeldFuture (Holding.Seed s) P = ⊤
   IfHeldFuture Holding.Over P = ⊤
 
+  -- no future is still to be made
+  abbrev pub IsMade : Holding S V → Type 0
+  IsMade (Holding.Seed s) = ⊥
+  IsMade x = ⊤
+
   -- seeds that are the same, or futures that are alike, or nothing
   abbrev pub HoldingsBy : (S → S → Type 0) → (V → V → Type 0) → Holding S V → Holding S V → Type 0
   HoldingsBy same alike (Holding.Seed s) (Holding.Seed t) = same s t
@@ -63,10 +68,24 @@ module _ {F S V : Type 0} (call : Mut F (S × Unit {0}) V) where
   IsCurrent p (Holding.Asked w) q v = (v ≡ w) × (q ≡ p)
   IsCurrent p Holding.Over q v = ⊥
 
+  -- what is held once the future was made, if there is a seed
+  abbrev pub Current : F → Holding S V → F → Holding S V → Type 0
+  Current p x q (Holding.Asked v) = IsCurrent p x q v
+  Current p x q (Holding.Seed s) = ⊥
+  Current p x q Holding.Over = (x ≡ Holding.Over) × (q ≡ p)
+
 -- what comes after a value: the next seed, or the end
 abbrev pub comes : {S V : Type 0} → Option S → Holding S V
 comes None = Holding.Over
 comes (Some s) = Holding.Seed s
+
+module _ {S V O : Type 0} (gives : Runs (Poll O) V) where
+  -- one poll of what is held; a value leaves nothing, and None comes where there is no future
+  abbrev pub HeldStep : Holding S V → Poll (Option O) → Holding S V → Type 0
+  HeldStep (Holding.Asked v) Pending next = (w : V) × gives v (Pending ∷ []) w × (next ≡ Holding.Asked w)
+  HeldStep (Holding.Asked v) (Ready (Some o)) next = Finishes gives v (Ready o ∷ []) o × (next ≡ Holding.Over)
+  HeldStep Holding.Over (Ready None) next = next ≡ Holding.Over
+  HeldStep x a next = ⊥
 
 module _ {F S V O : Type 0} (call : Mut F (S × Unit {0}) V) (gives : Runs (Poll O) V) where
   -- one poll of the future; a value leaves nothing, and None comes where there is no future

@@ -1,5 +1,5 @@
 ghost use Rattle.lite_source.specs.Uses.{◌≡◌, MakesAlways, Keeps, Registered};
-ghost use Rattle.lite_source.specs.Unfolding.{Holding, IfHeldFuture, UnfoldRegisters, UnfoldStep};
+ghost use Rattle.lite_source.specs.Unfolding.{Current, HeldStep, Holding, IfHeldFuture, IsMade, UnfoldRegisters, UnfoldStep};
 
 use lite_base::{Context, Future, Poll, ready};
 use std::fmt;
@@ -52,9 +52,36 @@ impl<T: Drop, Fut: Future + Drop> Unfolding<T, Fut> {
         ensures left { Registered result (UnfoldRegisters Fut.registers self.new) cx.new }
         ensures kept { Keeps cx.old cx.new }
     {
+        self.make_future(f);
+        self.poll_future(cx)
+    }
+
+    // Makes the future of the seed, if there is one.
+    #[inline(always)]
+    fn make_future<F: FnMut(T) -> Fut>(&mut self, f: &mut F)
+        requires callable { F.IsAlwaysCallable f.old }
+        requires makes { MakesAlways F.FnMut Fut.can_poll f.old }
+        requires asked { IfHeldFuture self.old Fut.can_poll }
+        ensures current { Current F.FnMut f.old self.old f.new self.new }
+        ensures callable { F.IsAlwaysCallable f.new }
+        ensures makes { MakesAlways F.FnMut Fut.can_poll f.new }
+        ensures asked { IfHeldFuture self.new Fut.can_poll }
+    {
         if let Some(seed) = self.seed.take() {
             self.future = Some(f(seed));
         }
+    }
+
+    // Polls the future that is held, and lets it go once it is ready.
+    #[inline(always)]
+    fn poll_future(&mut self, cx: &mut Context<'_>) -> Poll<Option<Fut::Output>>
+        requires made { IsMade self.old }
+        requires asked { IfHeldFuture self.old Fut.can_poll }
+        ensures ran { HeldStep Fut.run self.old result self.new }
+        ensures asked { IfHeldFuture self.new Fut.can_poll }
+        ensures left { Registered result (UnfoldRegisters Fut.registers self.new) cx.new }
+        ensures kept { Keeps cx.old cx.new }
+    {
         let Some(future) = &mut self.future else {
             return Poll::Ready(None);
         };

@@ -1,5 +1,5 @@
 //! A list of calls, made one after the other.
-ghost use Rattle.lite_halves.specs.Uses.{◌≡◌, ◌≤◌, ◌-◌, ◌⊎◌, vec_capacity, vec_len, OnErr, Keeps};
+ghost use Rattle.lite_halves.specs.Uses.{◌≡◌, ◌≤◌, ◌<◌, ◌-◌, ◌⊎◌, length, vec_capacity, vec_len, IfNone, IfSome, OnErr, Keeps};
 ghost use Rattle.lite_halves.specs.Drive.{AddsOrNone, AsksAt, Drives};
 ghost use Rattle.lite_halves.specs.Entry.{Request, asked_in, asked_of, told_in};
 
@@ -8,7 +8,7 @@ use crate::answers::{buffer_answer, done_answer, write_answer};
 use crate::entry::{Answer, Call};
 use lite_base::Context;
 use lite_io_base::{AsyncRead, AsyncWrite};
-use std::alloc::AllocError;
+use std::alloc::{AllocError, Global};
 
 impl<T: AsyncRead + AsyncWrite + Clone> Journal<T> {
     /// Makes the calls one after the other, each with its entry, and appends what each was told to `out`.
@@ -53,11 +53,20 @@ impl<T: AsyncRead + AsyncWrite + Clone> Journal<T> {
         ensures made { AddsOrNone T.reads T.writes self.old (Request.room room) result self.new }
         ensures kept { Keeps cx.old cx.new }
     {
-        let mut buf = Vec::with_capacity(self.alloc, room).ok()?;
-        let Ok(()) = buf.resize(room, 0) else {
-            unreachable!()
-        };
+        let mut buf = zeros(self.alloc, room)?;
         let polled = self.step_read(cx, &mut buf)?;
         Some(buffer_answer(&polled, buf))
     }
+}
+
+// So many zeros. `None`: there was no memory for them.
+fn zeros(alloc: Global, amount: usize) -> Option<Vec<u8>>
+    ensures some { IfSome result (λ v. length v.items ≡ amount) }
+    ensures none { IfNone result (0 < amount) }
+{
+    let mut zeros = Vec::with_capacity(alloc, amount).ok()?;
+    let Ok(()) = zeros.resize(amount, 0) else {
+        unreachable!()
+    };
+    Some(zeros)
 }

@@ -4,7 +4,7 @@ ghost use Rattle.lite_halves.specs.Uses.{IfReady, Keeps, ReadMark, read_marks, P
 ghost use Rattle.lite_halves.specs.Uses.{Registered};
 ghost use Rattle.lite_halves.specs.Entry.{Request, close_note, flush_note, read_note, write_note};
 ghost use Rattle.lite_halves.specs.Journal.{Adds, AddsOrStays, AddsRead, AddsWrite, AsksMemory, JournalReads};
-ghost use Rattle.lite_halves.specs.Journal.{JournalWrites, MakesEntryRoom};
+ghost use Rattle.lite_halves.specs.Journal.{JournalWrites, EntryRoom};
 ghost use Rattle.lite_halves.specs.Laws.Journal.{journals_laws};
 
 use super::Journal;
@@ -31,7 +31,7 @@ impl<T: Tale + Takings + Clone> Journal<T> {
     // Makes room for an entry, and for so many bytes of it.
     #[inline(always)]
     fn make_room(&mut self, bytes: usize) -> Option<Vec<u8>>
-        ensures made { MakesEntryRoom self.old bytes result self.new }
+        ensures made { EntryRoom self.old bytes result self.new }
         ensures fits { length self.new.notes < 2 ^ 64 }
     {
         let held = Vec::with_capacity(self.alloc, bytes).ok()?;

@@ -1,13 +1,13 @@
 //! What stands under the lock of two journalled halves.
 ghost use Rattle.lite_halves.specs.Uses.{◌≡◌, ◌≤◌, [], length, IfOk, IfSome, IfReady, Keeps, count_of};
-ghost use Rattle.lite_halves.specs.Counts.{AddsInside, CountsCall, booked_in, counted_in, nothing_counted};
+ghost use Rattle.lite_halves.specs.Counts.{AddsInside, CountsCall, CountsOrNone, IsWrite, booked_in, counted_in, nothing_counted};
 ghost use Rattle.lite_halves.specs.Counts.{numbers_of};
 ghost use Rattle.lite_halves.specs.declared.journalled.tally.Side.TheVariants.{Reading, Writing};
-ghost use Rattle.lite_halves.specs.Entry.{close_note, flush_note, read_note, write_note};
+ghost use Rattle.lite_halves.specs.Entry.{Request, asked_of, close_note, flush_note, read_note, write_note};
 
 use super::books::{Blanks, Books, Got, Reads, Taken, Writes};
 use super::tally::{Shares, Side, SideBooks, Tally};
-use crate::Journal;
+use crate::{Answer, Call, Journal, buffer_answer, done_answer, write_answer};
 use lite_base::{Context, Poll};
 use lite_io_base::{AsyncRead, AsyncWrite, Takings, Tale};
 use std::alloc::AllocError;
@@ -44,6 +44,20 @@ impl<T: AsyncRead + Takings + Clone, B: Books> Locked<T, B> {
         let entry = self.journal.as_ref().unwrap().latest();
         self.reading.count(tally, count(&polled), entry);
         Some(polled)
+    }
+
+    /// One read into the whole of `buf`, with its entry. `None`: there was no memory for the entry, and nothing was called.
+    pub(super) fn make_read(
+        &mut self,
+        tally: &mut Tally<Reads<B>, Got<B>>,
+        cx: &mut Context<'_>,
+        mut buf: Vec<u8>,
+    ) -> Option<Answer>
+        ensures made { CountsOrNone tally.old (Request.room (length buf.items)) result tally.new }
+        ensures kept { Keeps cx.old cx.new }
+    {
+        let polled = self.read(tally, cx, &mut buf)?;
+        Some(buffer_answer(&polled, buf))
     }
 }
 
@@ -101,6 +115,25 @@ impl<T: Tale + AsyncWrite + Clone, B: Books> Locked<T, B> {
         let entry = self.journal.as_ref().unwrap().latest();
         self.writing.count(tally, 0, entry);
         Some(polled)
+    }
+
+    /// One call that is no read, with its entry. `None`: there was no memory for the entry, and nothing was called.
+    pub(super) fn make(
+        &mut self,
+        tally: &mut Tally<Writes<B>, Taken<B>>,
+        cx: &mut Context<'_>,
+        call: &Call,
+    ) -> Option<Answer>
+        requires { IsWrite call.now }
+        ensures made { CountsOrNone tally.old (asked_of call.now) result tally.new }
+        ensures kept { Keeps cx.old cx.new }
+    {
+        match call {
+            Call::Read { .. } => unreachable!(),
+            Call::Write(bytes) => Some(write_answer(&self.write(tally, cx, bytes)?)),
+            Call::Flush => Some(done_answer(&self.flush(tally, cx)?)),
+            Call::Close => Some(done_answer(&self.close(tally, cx)?)),
+        }
     }
 }
 

@@ -9,8 +9,8 @@ ghost use Rattle.lite_halves.specs.Laws.Counts.{counts_laws};
 use super::books::{Books, Got, Reads};
 use super::locked::Locked;
 use super::tally::Tally;
+use crate::Answer;
 use crate::answers::or_refused;
-use crate::{Answer, buffer_answer};
 use lite_base::{Context, Poll};
 use lite_io_base::{AsyncRead, Takings, Tale, first_room};
 use std::alloc::{AllocError, AllocGlobal};
@@ -120,12 +120,9 @@ where
         ensures made { CountsOrNone self.old (Request.room room) result self.new }
         ensures kept { Keeps cx.old cx.new }
     {
-        let mut buf = vec![in self.rt.alloc(); 0; room].ok()?;
-        let polled = self
-            .shared
-            .lock(&self.rt)
-            .read(&mut self.tally, cx, &mut buf)?;
-        Some(buffer_answer(&polled, buf))
+        let buf = vec![in self.rt.alloc(); 0; room].ok()?;
+        let mut locked = self.shared.lock(&self.rt);
+        locked.make_read(&mut self.tally, cx, buf)
     }
 
     /// Reads into so many bytes of room, one read for each of `rooms`, and appends what each was told to `out`. The

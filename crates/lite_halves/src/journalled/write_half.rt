@@ -10,7 +10,7 @@ use super::books::{Books, Taken, Writes};
 use super::locked::Locked;
 use super::tally::Tally;
 use crate::answers::or_refused;
-use crate::{Answer, Call, done_answer, write_answer};
+use crate::{Answer, Call};
 use lite_base::{Context, Poll};
 use lite_io_base::{AsyncWrite, Takings, Tale, first_nonempty};
 use std::alloc::AllocError;
@@ -72,14 +72,7 @@ impl<R: Wait, T: Tale + AsyncWrite + Clone, B: Books> JournalWriteHalf<R, T, B> 
         ensures made { CountsOrNone self.old (asked_of call.now) result self.new }
         ensures kept { Keeps cx.old cx.new }
     {
-        let mut locked = self.shared.lock(&self.rt);
-        let tally = &mut self.tally;
-        match call {
-            Call::Read { .. } => unreachable!(),
-            Call::Write(bytes) => Some(write_answer(&locked.write(tally, cx, bytes)?)),
-            Call::Flush => Some(done_answer(&locked.flush(tally, cx)?)),
-            Call::Close => Some(done_answer(&locked.close(tally, cx)?)),
-        }
+        self.shared.lock(&self.rt).make(&mut self.tally, cx, call)
     }
 
     /// Makes the calls one after the other, and appends what each was told to `out`. No call may be a read. The journal

@@ -51,6 +51,8 @@ module _ {V B : Type 0} (run : Runs (Poll B) V) {v w : V} {a : Poll B} where
         joined = refl;
       }
 
+pub ruleset hands_rules = (hands_pending, hands_value)
+
 bounded_if : (b : Bool) (k n : ℕ) → k ≤ n + 1 → IfSome (cond b (Some (n + 1)) None) (λ most. k ≤ most)
 bounded_if true k n h = h
 bounded_if false k n h = tt

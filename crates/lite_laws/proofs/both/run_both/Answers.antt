@@ -1,4 +1,5 @@
 use Rattle.lite_laws.specs.Uses.{rules, IfOk, IfErr, Result, Ok, Err, [], inl, inr, refl, IfErr-at_err, on_err_weaker}
+use Rattle.lite_laws.specs.Waits.{HoldsEach}
 use Rattle.lite_laws.proofs.Waits.{waits_on}
 use Rattle.lite_laws.proofs.both.run_both.Goals as goal
 
@@ -49,7 +50,9 @@ returns-clause-agree g c =
         always = λ n. same (steady.found n _ _ _ one.2) (steady.found n _ _ _ two.2);
       },
       both_ok _ c.run-2.result (search rules) two.3,
-      waits_on _ one.0 (λ left fact h. c.run-2.ensures.kept fact (left fact h)) one.5,
+      waits_on {P = HoldsEach (g.S.Stream.registers c.run.new.s) c.run.new.cx}
+          (HoldsEach (g.S.Stream.registers c.run.new.s) c.run-2.new.cx) one.0
+          (λ left fact h. c.run-2.ensures.kept fact (left fact h)) one.5,
       two.5,
       on_err_weaker c.run-2.result (λ few. inr (search rules, few)) two.4,
     )

@@ -6,5 +6,5 @@ pub returns-in-Ready-None-clause-stepped : goal.returns-in-Ready-None-clause-ste
 returns-in-Ready-None-clause-stepped g c =
     let is : c.poll_next.result ≡ end = cc in
     rw c.in-Some.is
-    (ended_step g.B.Stream.run g.S.Stream.run _ _ _ c.poll_outer.result _
+    (ended_step g.B.Stream.run g.S.Stream.run _ _ _ c.poll_outer.result (c.poll_outer.new.stream, c.poll_outer.new.inner_stream)
     (rw is at c.poll_next.ensures.ran) c.poll_outer.ensures.stepped)

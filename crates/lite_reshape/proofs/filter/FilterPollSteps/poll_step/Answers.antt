@@ -11,7 +11,8 @@ pub returns-then-predicate-clause-stepped : goal.returns-then-predicate-clause-s
 returns-then-predicate-clause-stepped g c =
     let ran = rw c.in-Ready-Some.field-0-is at c.in-Ready-Some.ensures.ran in
     let called = called_at g.P.FnMut c.predicate.ensures c.if-predicate.true in (
-      steps_on g.met.S.Stream.laws g.met.S.Counted.counting c.requires ran called c.poll_next.ensures.again,
+      steps_on g.met.S.Stream.laws g.met.S.Counted.counting {R = g.S.Stream.can_poll c.poll_next.new.self} c.requires ran
+          called c.poll_next.ensures.again,
       (_, ran, (_, refl, (refl, called))),
     )
 
@@ -19,6 +20,7 @@ pub returns-else-predicate-clause-stepped : goal.returns-else-predicate-clause-s
 returns-else-predicate-clause-stepped g c =
     let ran = rw c.in-Ready-Some.field-0-is at c.in-Ready-Some.ensures.ran in
     let called = called_at g.P.FnMut c.predicate.ensures c.if-predicate.false in (
-      steps_on g.met.S.Stream.laws g.met.S.Counted.counting c.requires ran called c.poll_next.ensures.again,
+      steps_on g.met.S.Stream.laws g.met.S.Counted.counting {R = g.S.Stream.can_poll c.poll_next.new.self} c.requires ran
+          called c.poll_next.ensures.again,
       (c.in-Ready-Some.item, ran, called),
     )

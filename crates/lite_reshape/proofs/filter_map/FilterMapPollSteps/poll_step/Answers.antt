@@ -10,14 +10,16 @@ f-requires g c =
 pub returns-in_err-value-in-Ready-Some-clause-stepped : goal.returns-in_err-value-in-Ready-Some-clause-stepped
 returns-in_err-value-in-Ready-Some-clause-stepped g c =
     let ran = rw c.in-Ready-Some.field-0-is at c.in-Ready-Some.ensures.ran in (
-      steps_on g.met.S.Stream.laws g.met.S.Counted.counting c.requires ran c.f.ensures c.poll_next.ensures.again,
+      steps_on g.met.S.Stream.laws g.met.S.Counted.counting {R = g.S.Stream.can_poll c.poll_next.new.self} c.requires ran
+          c.f.ensures c.poll_next.ensures.again,
       rw c.from_residual.ensures (c.in-Ready-Some.item, ran, c.in_err-value-in-Ready-Some.ensures),
     )
 
 pub returns-in_ok-value-in-Ready-Some-clause-stepped : goal.returns-in_ok-value-in-Ready-Some-clause-stepped
 returns-in_ok-value-in-Ready-Some-clause-stepped g c =
     let ran = rw c.in-Ready-Some.field-0-is at c.in-Ready-Some.ensures.ran in (
-      steps_on g.met.S.Stream.laws g.met.S.Counted.counting c.requires ran c.f.ensures c.poll_next.ensures.again,
+      steps_on g.met.S.Stream.laws g.met.S.Counted.counting {R = g.S.Stream.can_poll c.poll_next.new.self} c.requires ran
+          c.f.ensures c.poll_next.ensures.again,
       (_, ran, (_, refl, c.in_ok-value-in-Ready-Some.ensures)),
     )
 

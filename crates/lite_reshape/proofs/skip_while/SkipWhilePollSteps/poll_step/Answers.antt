@@ -13,7 +13,8 @@ returns-then-predicate-clause-stepped g c =
     let ran = rw c.in-Ready-Some.field-0-is at c.in-Ready-Some.ensures.ran in
     let called = called_at g.P.FnMut c.predicate.ensures c.if-predicate.true in
     let can = rw c.in-Some.is at c.requires in (
-      steps_on {o = None} g.met.S.Stream.laws g.met.S.Counted.counting can ran (_, refl, called)
+      steps_on {o = None} g.met.S.Stream.laws g.met.S.Counted.counting {R = g.S.Stream.can_poll c.poll_next.new.self} can
+          ran (_, refl, called)
           c.poll_next.ensures.again,
       (c.in-Ready-Some.item, ran, rw c.in-Some.is (c.predicate.new.self, refl, called)),
     )
@@ -23,7 +24,8 @@ returns-else-predicate-clause-stepped g c =
     let ran = rw c.in-Ready-Some.field-0-is at c.in-Ready-Some.ensures.ran in
     let called = called_at g.P.FnMut c.predicate.ensures c.if-predicate.false in
     let can = rw c.in-Some.is at c.requires in (
-      steps_on {o = Some c.in-Ready-Some.item} g.met.S.Stream.laws g.met.S.Counted.counting can ran
+      steps_on {o = Some c.in-Ready-Some.item} g.met.S.Stream.laws g.met.S.Counted.counting
+          {R = g.S.Stream.can_poll c.poll_next.new.self} can ran
           (c.predicate.new.self, refl, refl, called) c.poll_next.ensures.again,
       (_, ran, (c.in-Ready-Some.item, refl, rw c.in-Some.is (c.predicate.new.self, refl, refl, called))),
     )
@@ -31,7 +33,8 @@ returns-else-predicate-clause-stepped g c =
 pub returns-in-None-clause-stepped : goal.returns-in-None-clause-stepped
 returns-in-None-clause-stepped g c =
     let ran = rw c.in-Ready-Some.field-0-is at c.in-Ready-Some.ensures.ran in (
-      steps_on {o = Some c.in-Ready-Some.item} g.met.S.Stream.laws g.met.S.Counted.counting c.requires ran
+      steps_on {o = Some c.in-Ready-Some.item} g.met.S.Stream.laws g.met.S.Counted.counting
+          {R = g.S.Stream.can_poll c.poll_next.new.self} c.requires ran
           (rw c.in-None.is (refl, refl)) c.poll_next.ensures.again,
       (_, ran, (c.in-Ready-Some.item, refl, rw c.in-None.is (refl, refl))),
     )

@@ -1,4 +1,4 @@
-use Rattle.lite_reshape.specs.Uses.{◌≡◌, Some, None, refl, rules, Ready, Pending, item, Calls, each_asked, each_here}
+use Rattle.lite_reshape.specs.Uses.{◌≡◌, Some, None, rules, Ready, Pending, item, Calls, each_asked, each_here}
 use Rattle.lite_reshape.specs.Laws.Expanding.{held_answers, made_answers, none_answers}
 use Rattle.lite_reshape.specs.Laws.Then.{hands_pending, hands_value}
 use Rattle.lite_reshape.specs.Then.{HandsOut}
@@ -25,33 +25,22 @@ returns-in-None-clause-ran g c =
     let is : c.poll_next.result ≡ Pending = cc in
     none_answers g.S.Stream.run (Calls g.F.FnMut) (HandsOut g.Fut.Future.run) c.in-None.is is c.poll_next.ensures.ran
 
-pub returns-in-Ready-clause-ran : goal.returns-in-Ready-clause-ran
-returns-in-Ready-clause-ran g c =
+pub returns-in-Some-ready-clause-ran : goal.returns-in-Some-ready-clause-ran
+returns-in-Some-ready-clause-ran g c =
     let is : c.poll_next.result ≡ item c.in-Some-ready.item = cc in
-    rw c.in-None.is
-    (made_answers g.S.Stream.run (Calls g.F.FnMut) (HandsOut g.Fut.Future.run) refl is c.poll_next.ensures.ran
-    c.f-future.ensures (hands_value g.Fut.Future.run refl c.in-Ready.ensures.ran))
-
-pub returns-in-Pending-clause-ran : goal.returns-in-Pending-clause-ran
-returns-in-Pending-clause-ran g c =
-    let is : c.poll_next.result ≡ item c.in-Some-ready.item = cc in
-    made_answers g.S.Stream.run (Calls g.F.FnMut) (HandsOut g.Fut.Future.run) c.in-None.is is c.poll_next.ensures.ran
-    c.f-future.ensures (hands_pending g.Fut.Future.run refl c.in-Pending.ensures.ran)
+    rw c.poll_made.ensures.same
+    (made_answers g.S.Stream.run (Calls g.F.FnMut) (HandsOut g.Fut.Future.run) {left = c.poll_made.new.self.future}
+    c.in-None.is is c.poll_next.ensures.ran c.f-future.ensures c.poll_made.ensures.given)
 
 pub f-future-requires : goal.f-future-requires
 f-future-requires g c = (each_here c.requires.1 c.poll_next.ensures.ran (search rules)).0
 
-pub poll-requires-in-Some-ready : goal.poll-requires-in-Some-ready
-poll-requires-in-Some-ready g c =
+pub poll_made-requires-clause-can_poll : goal.poll_made-requires-clause-can_poll
+poll_made-requires-clause-can_poll g c =
     let is : c.poll_next.result ≡ item c.in-Some-ready.item = cc in
     (each_here c.requires.1 c.poll_next.ensures.ran is).1 _ _ c.f-future.ensures
 
-pub returns-in-Ready-clause-again : goal.returns-in-Ready-clause-again
-returns-in-Ready-clause-again g c =
+pub returns-in-Some-ready-clause-again : goal.returns-in-Some-ready-clause-again
+returns-in-Some-ready-clause-again g c =
     let asked = each_asked g.met.S.Stream.laws c.requires.1 c.poll_next.ensures.ran (search rules) in
-    (c.poll_next.ensures.again, asked c.f-future.ensures, c.requires.2)
-
-pub returns-in-Pending-clause-again : goal.returns-in-Pending-clause-again
-returns-in-Pending-clause-again g c =
-    let asked = each_asked g.met.S.Stream.laws c.requires.1 c.poll_next.ensures.ran (search rules) in
-    (c.poll_next.ensures.again, asked c.f-future.ensures, c.in-Pending.ensures.again)
+    rw c.poll_made.ensures.same (c.poll_next.ensures.again, asked c.f-future.ensures, c.poll_made.ensures.again)
