@@ -6,7 +6,7 @@ import re
 from repository import FACADE, TOP, crates_in, files_of, read_text, with_below
 
 # (a definition is told from a lemma by its first word)
-DEFINED = re.compile(r"^ *(?:pub )?(abbrev|unfoldable|record|data) (?:pub )?(?:record |data )?(?!use )(?P<word>[^\s:({]+)")
+DEFINED = re.compile(r"^ *(?!unfoldable pub use)(?:pub )?(abbrev|unfoldable|record|data) (?:pub )?(?:record |data )?(?P<word>[^\s:({]+)")
 MEMBER = re.compile(r"^    ghost (?P<word>\w+): \{(?P<type>.*)\}", re.M)
 TRAIT = re.compile(r"^pub trait (?P<name>\w+).*?^}", re.M | re.S)
 # What says the runs of a type, by the trait whose calls they are of.
