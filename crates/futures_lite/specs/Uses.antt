@@ -1,4 +1,4 @@
--- What the files of this crate take from the crates below. Each file has one list of it; a name that two modules have is imported from its own.
+-- What this crate's files take from other crates. The prelude, and a name that two modules have, are imported from where they are.
 pub use Rattle.futures.specs.declared.task.Poll.{Poll}
 pub use Rattle.lite_base.specs.Answers.{Gives, until_end}
 pub use Rattle.lite_base.specs.Calling.{Calls}
@@ -87,8 +87,6 @@ pub use Rattle.std.specs.Iterator.Runs.{CallKeepsClosure}
 pub use Rattle.std.specs.List.{AllByRecursion, enumerate_from, filter, filter_map, find, fold, last_or, list_all, list_any, position, prefix_len}
 pub use Rattle.std.specs.List.{range_with_len, slice_get, zip}
 pub use Rattle.std.specs.Option.{option_transpose}
-pub use Rattle.std.specs.Prelude.{Bool, IfErr, IfOk, IfSome, IsSome, List, MatchResult, None, Ok, OnErr, Option, Result, Some, [], drop, false, flat_map}
-pub use Rattle.std.specs.Prelude.{length, map, not, replicate, string_bytes, take, ℕ, ⊤, ◌%◌, ◌++◌, ◌-◌, ◌<◌, ◌^◌, ◌∷◌, ◌≡◌, ◌≤◌}
 pub use Rattle.std.specs.Slice.Iter.{iter_rest, iter_steps}
 pub use Rattle.std.specs.Vec.Iter.{into_iter_len, into_iter_steps}
 pub use Rattle.std.specs.declared.alloc.AllocError.{AllocError}

@@ -1,5 +1,6 @@
 //! Futures: what makes them, and what every future can be combined by.
-ghost use Rattle.futures_lite.specs.Uses.{◌≡◌, IfOk, List, OnErr, Some, Poll, Gives, Finishes, LeftAs, LeftSeen, HasValue, Seen, Waited};
+ghost use Rattle.std.specs.Prelude.{◌≡◌, IfOk, List, OnErr, Some};
+ghost use Rattle.futures_lite.specs.Uses.{Poll, Gives, Finishes, LeftAs, LeftSeen, HasValue, Seen, Waited};
 
 pub use lite_base::Future;
 pub use lite_base::future::block_on::BlockOn;

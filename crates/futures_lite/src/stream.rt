@@ -1,12 +1,12 @@
 //! Streams: sources, and what every stream can be adapted by.
-ghost use Rattle.futures_lite.specs.Uses.{◌≡◌, ℕ, ◌-◌, ◌<◌, ◌≤◌, ◌^◌, ◌++◌, ◌∷◌, [], List, Bool, IfOk, IfSome, IsSome, MatchResult, None, Ok, Option, Result};
-ghost use Rattle.futures_lite.specs.Uses.{Some, drop, false, flat_map, length, map, not, replicate, take, AllByRecursion, enumerate_from, filter, filter_map};
-ghost use Rattle.futures_lite.specs.Uses.{find, fold, last_or, list_all, list_any, position, prefix_len, range_with_len, slice_get, zip, ActsAs, ActsAsAt};
-ghost use Rattle.futures_lite.specs.Uses.{ActsAsOnTwo, CallKeepsClosure, Called, CalledAt, AllocError, Bor, until_end, Calls, MayCallEach, items_in, Filters};
-ghost use Rattle.futures_lite.specs.Uses.{SkipsFirst, SkipsWhile, StepsBy, Fuses, Inspects, Takes, TakesWhile, Zips, ActsAsOnState, map_while, scan, step_from};
-ghost use Rattle.futures_lite.specs.Uses.{Fronts, FrontsAs, GoesOn, HasValue, Lists, ListsAs, Seen, ValueHolds, ValueIs, CountRuns, FindRuns, FoldRuns};
-ghost use Rattle.futures_lite.specs.Uses.{LastRuns, NthRuns, TryFoldRuns, TriesCollect, first_error, try_fold, option_transpose, AllTaken, OkLists, OkSeen};
-ghost use Rattle.futures_lite.specs.Uses.{Budgets, CycleOf, FlatMaps, Flattens, Thens, First};
+ghost use Rattle.std.specs.Prelude.{◌≡◌, ℕ, ◌-◌, ◌<◌, ◌≤◌, ◌^◌, ◌++◌, ◌∷◌, [], List, Bool, IfOk, IfSome, IsSome, MatchResult, None, Ok, Option, Result, Some};
+ghost use Rattle.std.specs.Prelude.{drop, false, flat_map, length, map, not, replicate, take};
+ghost use Rattle.futures_lite.specs.Uses.{AllByRecursion, enumerate_from, filter, filter_map, find, fold, last_or, list_all, list_any, position, prefix_len};
+ghost use Rattle.futures_lite.specs.Uses.{range_with_len, slice_get, zip, ActsAs, ActsAsAt, ActsAsOnTwo, CallKeepsClosure, Called, CalledAt, AllocError, Bor};
+ghost use Rattle.futures_lite.specs.Uses.{until_end, Calls, MayCallEach, items_in, Filters, SkipsFirst, SkipsWhile, StepsBy, Fuses, Inspects, Takes};
+ghost use Rattle.futures_lite.specs.Uses.{TakesWhile, Zips, ActsAsOnState, map_while, scan, step_from, Fronts, FrontsAs, GoesOn, HasValue, Lists, ListsAs};
+ghost use Rattle.futures_lite.specs.Uses.{Seen, ValueHolds, ValueIs, CountRuns, FindRuns, FoldRuns, LastRuns, NthRuns, TryFoldRuns, TriesCollect, first_error};
+ghost use Rattle.futures_lite.specs.Uses.{try_fold, option_transpose, AllTaken, OkLists, OkSeen, Budgets, CycleOf, FlatMaps, Flattens, Thens, First};
 
 use lite_base::{Future, Poll};
 pub use lite_base::{Counted, OkCounted, Stream};

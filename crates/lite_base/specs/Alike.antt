@@ -1,5 +1,6 @@
 -- Runs that differ in when they were pending alone.
-use Rattle.lite_base.specs.Uses.{◌≡◌, ◌⊎◌, ⊤, List, Option, Some, None, Result, Ok, Err, AllZip, Poll}
+use Rattle.std.specs.Prelude.{◌≡◌, ◌⊎◌, ⊤, List, Option, Some, None, Result, Ok, Err}
+use Rattle.lite_base.specs.Uses.{AllZip, Poll}
 use Rattle.lite_base.specs.Answers.{ComparableBy, strip}
 use Rattle.lite_base.specs.Runs.{Runs}
 

@@ -1,5 +1,6 @@
 -- What is asked about each item: `call p x o q` says that, asked about the item x, it goes from p to q and answers o.
-use Rattle.lite_base.specs.Uses.{◌≡◌, ⊤, List, [], ◌∷◌, Option, Some, None, Bool, true, false, Mut, Called, CalledWithState, FoldsTo}
+use Rattle.std.specs.Prelude.{◌≡◌, ⊤, List, [], ◌∷◌, Option, Some, None, Bool, true, false}
+use Rattle.lite_base.specs.Uses.{Mut, Called, CalledWithState, FoldsTo}
 use denote.Ref.{MutBor}
 use Rattle.lite_base.specs.Alike.{OptionBy, Sameness}
 use Rattle.lite_base.specs.Answers.{ComparableBy}

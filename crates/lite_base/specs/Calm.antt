@@ -1,5 +1,6 @@
 -- Streams and futures that are never pending.
-use Rattle.lite_base.specs.Uses.{⊤, ℕ, ◌+◌, List, [], ◌∷◌, Poll, Ready, Pending}
+use Rattle.std.specs.Prelude.{⊤, ℕ, ◌+◌, List, [], ◌∷◌}
+use Rattle.lite_base.specs.Uses.{Poll, Ready, Pending}
 use Rattle.lite_base.specs.Runs.{Runs}
 
 -- no answer is Pending

@@ -1,5 +1,6 @@
 -- What each future's runs meet.
-use Rattle.lite_base.specs.Uses.{◌≡◌, ◌≤◌, List, [], ◌++◌, length, Poll}
+use Rattle.std.specs.Prelude.{◌≡◌, ◌≤◌, List, [], ◌++◌, length}
+use Rattle.lite_base.specs.Uses.{Poll}
 use Rattle.lite_base.specs.Answers.{Waiting, strip}
 use Rattle.lite_base.specs.Runs.{Runs}
 

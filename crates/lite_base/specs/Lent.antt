@@ -1,5 +1,6 @@
 -- A stream or a future that is lent: what is behind the reference runs, and the reference stays.
-use Rattle.lite_base.specs.Uses.{◌≡◌, MutBor}
+use Rattle.std.specs.Prelude.{◌≡◌}
+use Rattle.lite_base.specs.Uses.{MutBor}
 use Rattle.lite_base.specs.Runs.{Runs}
 
 -- what is behind the reference ran, and the reference stays

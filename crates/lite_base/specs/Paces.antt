@@ -1,5 +1,6 @@
 -- What comes in goes out, with a pause wherever a budget of things in a row is used up.
-use Rattle.lite_base.specs.Uses.{◌≡◌, ◌⊎◌, ℕ, ◌-◌, List, [], ◌∷◌, Some, None, Ready, Pending}
+use Rattle.std.specs.Prelude.{◌≡◌, ◌⊎◌, ℕ, ◌-◌, List, [], ◌∷◌, Some, None}
+use Rattle.lite_base.specs.Uses.{Ready, Pending}
 use Rattle.lite_base.specs.Answers.{Answer}
 
 -- Each thing goes out as it came in, while something is left of the budget, the first number; where nothing is, the

@@ -1,5 +1,5 @@
 -- Two lists that are read row by row.
-use Rattle.lite_base.specs.Uses.{◌≡◌, List, [], ◌∷◌, Bool, true, false}
+use Rattle.std.specs.Prelude.{◌≡◌, List, [], ◌∷◌, Bool, true, false}
 
 -- each row names the order: true, where the first stands first; `row i j c i' j'` gives c from the fronts of i and j,
 -- where i stands first, and leaves i' and j'

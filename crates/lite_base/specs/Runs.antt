@@ -1,5 +1,5 @@
 -- The types of what is said of a value of the type S: runs, hints, and questions that are put to it.
-use Rattle.lite_base.specs.Uses.{◌≡◌, ℕ, List, Option, None}
+use Rattle.std.specs.Prelude.{◌≡◌, ℕ, List, Option, None}
 
 -- from one value, these answers in order, to another value
 abbrev pub Runs : Type 0 → Type 0 → Type 1

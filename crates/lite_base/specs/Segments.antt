@@ -1,5 +1,6 @@
 -- A source's list is cut into segments, one for each answer that is made of it.
-use Rattle.lite_base.specs.Uses.{◌≡◌, List, [], ◌∷◌, ◌++◌, map, FoldsTo, Poll}
+use Rattle.std.specs.Prelude.{◌≡◌, List, [], ◌∷◌, ◌++◌, map}
+use Rattle.lite_base.specs.Uses.{FoldsTo, Poll}
 use Rattle.lite_base.specs.Answers.{UpToValue}
 use Rattle.lite_base.specs.Runs.{Question}
 

@@ -1,6 +1,7 @@
 -- Streams and futures whose answers do not depend on when they were pending, where memory was found: the runs in which
 -- it was are the ample ones.
-use Rattle.lite_base.specs.Uses.{◌≡◌, List, Poll}
+use Rattle.std.specs.Prelude.{◌≡◌, List}
+use Rattle.lite_base.specs.Uses.{Poll}
 use Rattle.lite_base.specs.Alike.{AlikeBy, SameAnswer, SameItem, Sameness}
 use Rattle.lite_base.specs.Answers.{Answer}
 use Rattle.lite_base.specs.FutureLaws.{FutureLaws}

@@ -1,4 +1,4 @@
--- What the files of this crate take from the crates below. Each file has one list of it; a name that two modules have is imported from its own.
+-- What this crate's files take from other crates. The prelude, and a name that two modules have, are imported from where they are.
 pub use Rattle.futures.specs.Poll.{OnPending}
 pub use Rattle.futures.specs.Task.{Holds, Keeps, Lasting}
 pub use Rattle.futures.specs.declared.task.Poll.{Poll}
@@ -12,8 +12,6 @@ pub use Rattle.std.proofs.lemmas.List.{map-append, map-id}
 pub use Rattle.std.proofs.raw_atomic.Walks.{leaves, proved}
 pub use Rattle.std.specs.Fn.{Called, CalledWithState, Mut}
 pub use Rattle.std.specs.List.{AllByRecursion, AllZip, FoldsTo}
-pub use Rattle.std.specs.Prelude.{Bool, Err, IfErr, IfOk, IfSome, IsOk, IsSome, List, MatchOption, None, Ok, OnErr, Option, Result, Some, [], false, length}
-pub use Rattle.std.specs.Prelude.{map, refl, suc, true, zero, ℕ, ⊤, ◌%◌, ◌++◌, ◌+◌, ◌-◌, ◌<◌, ◌==◌, ◌∷◌, ◌≡◌, ◌≤◌, ◌⊎◌}
 pub use denote.Lend.{LentAgain, comes_back, lends_again}
 pub use denote.Memory.{mem}
 pub use denote.MutBor.{MutBor}

@@ -1,5 +1,6 @@
 -- What a context holds to which a poll yielded.
-use Rattle.lite_base.specs.Uses.{◌≡◌, ◌⊎◌, ℕ, Lasting}
+use Rattle.std.specs.Prelude.{◌≡◌, ◌⊎◌, ℕ}
+use Rattle.lite_base.specs.Uses.{Lasting}
 
 -- what a context holds that was woken: the task runs again, and it hears each source
 abbrev pub HoldsWoken : Lasting → Type 0

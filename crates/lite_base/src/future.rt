@@ -1,5 +1,6 @@
 //! Futures: the trait, what makes futures, and how two of them are combined.
-ghost use Rattle.lite_base.specs.Uses.{[], ◌∷◌, ⊤, OnPending, Keeps, Lasting, Poll};
+ghost use Rattle.std.specs.Prelude.{[], ◌∷◌, ⊤};
+ghost use Rattle.lite_base.specs.Uses.{OnPending, Keeps, Lasting, Poll};
 ghost use Rattle.lite_base.specs.FutureLaws.{FutureLaws};
 ghost use Rattle.lite_base.specs.Runs.{Runs};
 ghost use Rattle.lite_base.specs.Registered.{Registered};

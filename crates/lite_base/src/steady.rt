@@ -1,4 +1,4 @@
-ghost use Rattle.lite_base.specs.Uses.{⊤};
+ghost use Rattle.std.specs.Prelude.{⊤};
 ghost use Rattle.lite_base.specs.Alike.{Sameness};
 ghost use Rattle.lite_base.specs.Answers.{Answer};
 ghost use Rattle.lite_base.specs.Steady.{SteadyLawsBy};

@@ -1,7 +1,8 @@
 -- Laws of reads, writes and seeks that wait.
-use Rattle.lite_bridge.specs.Uses.{◌≡◌, ◌∙◌, ℕ, suc, List, [], ◌∷◌, ap, inl, inr, refl, subst, sym, ◌⊎◌, Err, Ok, Result, ReadsAtMost, WritesAtMost, Error}
-use Rattle.lite_bridge.specs.Uses.{ErrorKind, SeekFrom, Poll, Pending, Ready, Gives, Runs, by_kind, ReadMark, fill_marks, read_marks, MarkLaws, WriteMark}
-use Rattle.lite_bridge.specs.Uses.{done_marks, write_marks, PolledByCalls, Reads, Seeks, ReadFuture, SeekFuture, Flushes, Writes, FlushFuture, WriteFuture}
+use Rattle.std.specs.Prelude.{◌≡◌, ℕ, suc, List, [], ◌∷◌, ◌⊎◌, Err, Ok, Result}
+use Rattle.lite_bridge.specs.Uses.{◌∙◌, ap, inl, inr, refl, subst, sym, ReadsAtMost, WritesAtMost, Error, ErrorKind, SeekFrom, Poll, Pending, Ready, Gives}
+use Rattle.lite_bridge.specs.Uses.{Runs, by_kind, ReadMark, fill_marks, read_marks, MarkLaws, WriteMark, done_marks, write_marks, PolledByCalls, Reads, Seeks}
+use Rattle.lite_bridge.specs.Uses.{ReadFuture, SeekFuture, Flushes, Writes, FlushFuture, WriteFuture}
 use Rattle.lite_bridge.specs.Filling.{FillsLent}
 use Rattle.lite_bridge.proofs.Waits.{gave_blocks, gave_last, gave_stays, read_at_most, refused_reads}
 use Rattle.lite_bridge.proofs.Waits.{refused_writes}

@@ -1,5 +1,6 @@
 -- Laws of fills.
-use Rattle.lite_bridge.specs.Uses.{◌≡◌, ℕ, List, [], ◌∷◌, Result, Error, Poll, ReadMark, fill_marks, polled_one, PolledByCalls, Runs}
+use Rattle.std.specs.Prelude.{◌≡◌, ℕ, List, [], ◌∷◌, Result}
+use Rattle.lite_bridge.specs.Uses.{Error, Poll, ReadMark, fill_marks, polled_one, PolledByCalls, Runs}
 use Rattle.lite_bridge.specs.Filling.{FillsLent}
 use Rattle.lite_bridge.specs.declared.filling.Filling.{Filling}
 

@@ -1,6 +1,7 @@
 -- Laws of calls that wait.
-use Rattle.lite_bridge.specs.Uses.{◌≡◌, ◌≤◌, ◌∙◌, ℕ, suc, List, [], ◌∷◌, ◌++◌, length, length-take-le, ap, inl, inr, sym, ◌⊎◌, Result, Ok, Err, IfOk, replicate}
-use Rattle.lite_bridge.specs.Uses.{ReadsAtMost, WritesAtMost, Error, Poll, Pending, Ready, Gives, Runs, MarkLaws, PolledByCalls}
+use Rattle.std.specs.Prelude.{◌≡◌, ◌≤◌, ℕ, suc, List, [], ◌∷◌, ◌++◌, length, ◌⊎◌, Result, Ok, Err, IfOk, replicate}
+use Rattle.lite_bridge.specs.Uses.{◌∙◌, length-take-le, ap, inl, inr, sym, ReadsAtMost, WritesAtMost, Error, Poll, Pending, Ready, Gives, Runs, MarkLaws}
+use Rattle.lite_bridge.specs.Uses.{PolledByCalls}
 use Rattle.lite_bridge.specs.Waits.{Blocks, GaveOrRefused, NoMemoryToWait}
 
 module _ {F A : Type 0} (call : F → Poll (Result A Error) → F → Type 0) where

@@ -1,5 +1,6 @@
 -- What is polled, as std's traits know it.
-use Rattle.lite_bridge.specs.Uses.{◌≡◌, Result, IsErrAnd, Once, error_kind, Error, WouldBlock, Lasting, Context, Poll, Ready, Pending, Registered}
+use Rattle.std.specs.Prelude.{◌≡◌, Result, IsErrAnd}
+use Rattle.lite_bridge.specs.Uses.{Once, error_kind, Error, WouldBlock, Lasting, Context, Poll, Ready, Pending, Registered}
 use denote.Ref.{MutBor}
 use Rattle.futures.specs.Task.{Keeps}
 use Rattle.lite_bridge.specs.declared.async_as_sync.AsyncAsSync.{AsyncAsSync}

@@ -1,5 +1,5 @@
 -- What is in a `BlockOn`.
-use Rattle.lite_bridge.specs.Uses.{◌≡◌, None}
+use Rattle.std.specs.Prelude.{◌≡◌, None}
 use Rattle.lite_bridge.specs.declared.block_on.BlockOn.{BlockOn}
 
 -- the reader or writer in it

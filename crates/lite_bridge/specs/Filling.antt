@@ -1,5 +1,6 @@
 -- A fill that lends nothing.
-use Rattle.lite_bridge.specs.Uses.{◌≡◌, ℕ, List, Result, Error, Poll, ReadMark, fill_marks, Runs}
+use Rattle.std.specs.Prelude.{◌≡◌, ℕ, List, Result}
+use Rattle.lite_bridge.specs.Uses.{Error, Poll, ReadMark, fill_marks, Runs}
 use Rattle.lite_bridge.specs.declared.filling.Filling.{Filling}
 
 -- the reader ran by the marks of a fill; the reference stays

@@ -1,6 +1,7 @@
 -- What reads and writes of std tell of bytes that are known.
-use Rattle.lite_bridge.specs.Uses.{◌≡◌, ℕ, List, [], ◌∷◌, Option, None, Some, Result, ⊤, Keeps, SeekMoves, ErrorKind, SeekFrom, Poll, Ready, Pending}
-use Rattle.lite_bridge.specs.Uses.{GrowsWhere, ReadMark, NoPendingRead, NoPendingWrite, WriteMark, Runs}
+use Rattle.std.specs.Prelude.{◌≡◌, ℕ, List, [], ◌∷◌, Option, None, Some, Result, ⊤}
+use Rattle.lite_bridge.specs.Uses.{Keeps, SeekMoves, ErrorKind, SeekFrom, Poll, Ready, Pending, GrowsWhere, ReadMark, NoPendingRead, NoPendingWrite, WriteMark}
+use Rattle.lite_bridge.specs.Uses.{Runs}
 
 -- reads give the bytes xs in their order, an end only where none is left, and errors anywhere; ys is what is left
 abbrev pub SpendsBytes : Runs ReadMark (List ℕ)

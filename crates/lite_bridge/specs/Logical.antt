@@ -1,5 +1,6 @@
 -- A buffered reader over a cursor, seen as the bare cursor at its logical position.
-use Rattle.lite_bridge.specs.Uses.{◌≡◌, ◌≤◌, ◌<◌, ◌^◌, ℕ, ◌-◌, List, length, take, BufReader, ThroughBuffer, ahead, reader_capacity, reader_inner, SeeksThrough}
+use Rattle.std.specs.Prelude.{◌≡◌, ◌≤◌, ◌<◌, ◌^◌, ℕ, ◌-◌, List, length, take}
+use Rattle.lite_bridge.specs.Uses.{BufReader, ThroughBuffer, ahead, reader_capacity, reader_inner, SeeksThrough}
 use Rattle.lite_bridge.specs.declared.cursor.Cursor.{Cursor}
 use Rattle.lite_bridge.specs.Cursor.{CursorReads, CursorSeeks, at_place, bytes_left, cursor_inner as value_of}
 use Rattle.lite_bridge.specs.Cursor.{position_of}

@@ -1,4 +1,4 @@
--- What the files of this crate take from the crates below. Each file has one list of it; a name that two modules have is imported from its own.
+-- What this crate's files take from other crates. The prelude, and a name that two modules have, are imported from where they are.
 pub use Rattle.futures.specs.Poll.{IfReady}
 pub use Rattle.futures.specs.Task.{Lasting}
 pub use Rattle.futures.specs.declared.task.Poll.{Poll}
@@ -46,7 +46,7 @@ pub use Rattle.lite_write.specs.Write.{Writes}
 pub use Rattle.lite_write.specs.declared.flush.FlushFuture.{FlushFuture}
 pub use Rattle.lite_write.specs.declared.write.WriteFuture.{WriteFuture}
 pub use Rattle.std.proofs.Common.{Bool, Global, add-zero, ap, append-nil, append_assoc, arith, cond, drop-drop, false, get_or, inl, inr, length-append}
-pub use Rattle.std.proofs.Common.{length-drop, length-take, length-take-le, refl, rules, subst, sym, take-append-drop, true, ◌-ℤ◌, ◌∙◌}
+pub use Rattle.std.proofs.Common.{length-drop, length-take, length-take-le, refl, rules, subst, sym, take-append-drop, true, ◌∙◌}
 pub use Rattle.std.proofs.Math.Seq.{drop-append-add, take-append-add, take-append_seam, take-length}
 pub use Rattle.std.proofs.lemmas.Bool.{cases_lt, le-leb, lt-leb, lt-ltb, ltb-true}
 pub use Rattle.std.proofs.lemmas.Grind.{common_steps}
@@ -60,8 +60,6 @@ pub use Rattle.std.specs.Io.KnownBytes.{Keeps, ReadConsumes, WriteAppends}
 pub use Rattle.std.specs.Io.Seek.{IsSeekTarget, SeekMoves, StaysAt}
 pub use Rattle.std.specs.Io.Slices.{io_slice_bytes, io_slices_bytes}
 pub use Rattle.std.specs.IoError.{error_kind}
-pub use Rattle.std.specs.Prelude.{Err, IfOk, IfSome, IsErrAnd, List, None, Ok, OnErr, OnOk, Option, Result, Some, [], drop, if◌then◌else◌, length, min, nat_le}
-pub use Rattle.std.specs.Prelude.{nat_lt, negsuc, pos, replicate, suc, take, vec_capacity, zero, ℕ, ℤ, ⊤, ◌++◌, ◌+◌, ◌-◌, ◌<◌, ◌^◌, ◌∷◌, ◌≡◌, ◌≤◌, ◌⊎◌}
 pub use Rattle.std.specs.declared.io.Error.{Error}
 pub use Rattle.std.specs.declared.io.ErrorKind.{ErrorKind}
 pub use Rattle.std.specs.declared.io.ErrorKind.TheVariants.{InvalidInput, OutOfMemory, WouldBlock}

@@ -1,6 +1,6 @@
 -- Calls that wait until a poll is ready.
-use Rattle.lite_bridge.specs.Uses.{◌≡◌, ◌⊎◌, ℕ, zero, suc, List, ◌++◌, Result, IsErrAnd, replicate, error_kind, Error, ErrorKind, SeekFrom, OutOfMemory, Poll}
-use Rattle.lite_bridge.specs.Uses.{Pending, Ready, Gives, Runs, by_kind}
+use Rattle.std.specs.Prelude.{◌≡◌, ◌⊎◌, ℕ, zero, suc, List, ◌++◌, Result, IsErrAnd, replicate}
+use Rattle.lite_bridge.specs.Uses.{error_kind, Error, ErrorKind, SeekFrom, OutOfMemory, Poll, Pending, Ready, Gives, Runs, by_kind}
 
 -- Nothing was waited for before, and there was no memory for what a wait needs.
 abbrev pub NoMemoryToWait : {A : Type 0} → Type 0 → Result A Error → Type 0

@@ -1,5 +1,6 @@
-ghost use Rattle.lite_bridge.specs.Uses.{◌≡◌, ◌≤◌, [], length, None, IfOk, Lends, sem, ReadsAtMost, WritesAtMost, SeekMoves, io_slices_bytes, by_kind};
-ghost use Rattle.lite_bridge.specs.Uses.{read_marks, ReadsInto, room_in, done_marks, write_marks, closed, flushed};
+ghost use Rattle.std.specs.Prelude.{◌≡◌, ◌≤◌, [], length, None, IfOk};
+ghost use Rattle.lite_bridge.specs.Uses.{Lends, sem, ReadsAtMost, WritesAtMost, SeekMoves, io_slices_bytes, by_kind, read_marks, ReadsInto, room_in};
+ghost use Rattle.lite_bridge.specs.Uses.{done_marks, write_marks, closed, flushed};
 ghost use Rattle.std.specs.Io.KnownBytes.{Keeps as KeepsKnown, ReadConsumes, WriteAppends};
 ghost use mir.Syntax.{named};
 ghost use Rattle.lite_bridge.specs.AsyncAsSync.{InTime, PollsWith, SameContext, Synced};

@@ -1,6 +1,6 @@
-ghost use Rattle.lite_bridge.specs.Uses.{◌≡◌, ℕ, List, [], length, None, IfSome, IfOk, drop, take, Lends, sem, ReadsAtMost, StartsWith, WritesAtMost};
-ghost use Rattle.lite_bridge.specs.Uses.{DropsConsumable, FillKeeps, Rests, Keeps, ReadConsumes, WriteAppends, SeekMoves, ReadMark, bytes, fill_marks};
-ghost use Rattle.lite_bridge.specs.Uses.{read_marks, WriteMark, done_marks, write_marks};
+ghost use Rattle.std.specs.Prelude.{◌≡◌, ℕ, List, [], length, None, IfSome, IfOk, drop, take};
+ghost use Rattle.lite_bridge.specs.Uses.{Lends, sem, ReadsAtMost, StartsWith, WritesAtMost, DropsConsumable, FillKeeps, Rests, Keeps, ReadConsumes};
+ghost use Rattle.lite_bridge.specs.Uses.{WriteAppends, SeekMoves, ReadMark, bytes, fill_marks, read_marks, WriteMark, done_marks, write_marks};
 ghost use Rattle.lite_bridge.specs.Waits.{Blocks, GaveOrRefused, NoMemoryToWait, SeekBlocks};
 
 use crate::filling::Filling;

@@ -1,5 +1,5 @@
 //! The cursors that leave the same bytes where the same are taken, and are never pending.
-ghost use Rattle.lite_bridge.specs.Uses.{⊤};
+ghost use Rattle.std.specs.Prelude.{⊤};
 ghost use Rattle.lite_bridge.specs.Laws.SteadyWrite.{lent_vec_calm_write, lent_vec_steady_write, slice_calm_write};
 ghost use Rattle.lite_bridge.specs.Laws.SteadyWrite.{SamePlace, slice_steady_write};
 ghost use Rattle.lite_bridge.specs.Laws.SteadyWrite.{vec_calm_write, vec_steady_write};

@@ -1,7 +1,7 @@
 -- What an answer leaves.
-use Rattle.lite_buffered.specs.Uses.{◌≡◌, ◌∙◌, ℕ, ◌≤◌, List, [], ◌∷◌, ◌++◌, length, take, inl, inr, refl, sym, ap, subst, arith, take_all, append-nil}
-use Rattle.lite_buffered.specs.Uses.{boxed_slice_items, error_kind, Result, Ok, Err, Error, ErrorKind, Poll, Ready, Pending, MarkLaws, WriteMark, done_marks}
-use Rattle.lite_buffered.specs.Uses.{write_marks, segments_one, Runs}
+use Rattle.std.specs.Prelude.{◌≡◌, ℕ, ◌≤◌, List, [], ◌∷◌, ◌++◌, length, take, Result, Ok, Err}
+use Rattle.lite_buffered.specs.Uses.{◌∙◌, inl, inr, refl, sym, ap, subst, arith, take_all, append-nil, boxed_slice_items, error_kind, Error, ErrorKind, Poll}
+use Rattle.lite_buffered.specs.Uses.{Ready, Pending, MarkLaws, WriteMark, done_marks, write_marks, segments_one, Runs}
 use Rattle.std.proofs.lemmas.List.{length-take}
 use Rattle.lite_buffered.specs.declared.buf_writer.BufWriter.{BufWriter}
 use Rattle.lite_buffered.specs.BufWriter.{Buffers, FlushesBuffer, MakesRoom, PassesOn, ShownAfter, TakesHeld}

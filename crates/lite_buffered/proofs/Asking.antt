@@ -1,5 +1,6 @@
 -- When a `BufReader` asks its inner reader.
-use Rattle.lite_buffered.specs.Uses.{◌≡◌, ◌∙◌, ◌<◌, ◌≤◌, ℕ, List, [], Result, length, sym, subst, arith, Error, Poll, ReadMark, read_marks, Runs}
+use Rattle.std.specs.Prelude.{◌≡◌, ◌<◌, ◌≤◌, ℕ, List, [], Result, length}
+use Rattle.lite_buffered.specs.Uses.{◌∙◌, sym, subst, arith, Error, Poll, ReadMark, read_marks, Runs}
 use Rattle.lite_buffered.specs.declared.buf_reader.BufReader.{BufReader}
 use Rattle.lite_buffered.specs.BufReader.{AsksWhereEmpty, ReadsOnce, ahead}
 

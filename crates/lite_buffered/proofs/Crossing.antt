@@ -1,6 +1,7 @@
 -- The poll in which a `Chain` goes on to its second reader.
-use Rattle.lite_buffered.specs.Uses.{◌≡◌, ◌<◌, ◌≤◌, ℕ, List, [], ◌∷◌, true, false, refl, length, arith, Result, Error, IoSliceMut, Poll, CountsWithin, in_room}
-use Rattle.lite_buffered.specs.Uses.{within_more, ReadMark, moved, read_marks, MarkLaws, ReadsInto, room_in, Runs}
+use Rattle.std.specs.Prelude.{◌≡◌, ◌<◌, ◌≤◌, ℕ, List, [], ◌∷◌, true, false, length, Result}
+use Rattle.lite_buffered.specs.Uses.{refl, arith, Error, IoSliceMut, Poll, CountsWithin, in_room, within_more, ReadMark, moved, read_marks, MarkLaws, ReadsInto}
+use Rattle.lite_buffered.specs.Uses.{room_in, Runs}
 use Rattle.lite_buffered.specs.declared.chain.Chain.{Chain}
 use Rattle.lite_buffered.specs.Chain.{ChainsReaders}
 

@@ -1,7 +1,7 @@
 -- What a flush of the buffer does.
-use Rattle.lite_buffered.specs.Uses.{◌≡◌, ◌∙◌, ℕ, ◌+◌, ◌-◌, ◌≤◌, ◌<◌, List, [], ◌∷◌, ◌++◌, length, take, drop, slice_range, inr, refl, sym, ap, subst, arith}
-use Rattle.lite_buffered.specs.Uses.{length-take-le, drop-take, drop-append-le, boxed_slice_items, ErrorKind, Interrupted, WriteZero, Ok, Err, Ready, Pending}
-use Rattle.lite_buffered.specs.Uses.{MarkLaws, WriteMark, write_marks, offered_marks, Runs}
+use Rattle.std.specs.Prelude.{◌≡◌, ℕ, ◌+◌, ◌-◌, ◌≤◌, ◌<◌, List, [], ◌∷◌, ◌++◌, length, take, drop, slice_range, Ok, Err}
+use Rattle.lite_buffered.specs.Uses.{◌∙◌, inr, refl, sym, ap, subst, arith, length-take-le, drop-take, drop-append-le, boxed_slice_items, ErrorKind}
+use Rattle.lite_buffered.specs.Uses.{Interrupted, WriteZero, Ready, Pending, MarkLaws, WriteMark, write_marks, offered_marks, Runs}
 use Rattle.std.proofs.lemmas.List.{length-take}
 use Rattle.lite_buffered.specs.declared.buf_writer.BufWriter.{BufWriter}
 use Rattle.lite_buffered.specs.BufWriter.{FlushesBuffer, IsFault, TakesHeld, WriterAnswers, WriterSegment, unwritten}

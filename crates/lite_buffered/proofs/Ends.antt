@@ -1,5 +1,6 @@
 -- Marks without an end.
-use Rattle.lite_buffered.specs.Uses.{◌<◌, ℕ, List, [], ◌∷◌, length, arith, bytes, moved}
+use Rattle.std.specs.Prelude.{◌<◌, ℕ, List, [], ◌∷◌, length}
+use Rattle.lite_buffered.specs.Uses.{arith, bytes, moved}
 use Rattle.lite_buffered.specs.Chain.{EndlessMarks}
 
 pub no_end_bytes : (xs : List ℕ) → EndlessMarks (bytes xs)

@@ -1,5 +1,6 @@
 -- Reads within a limit.
-use Rattle.lite_buffered.specs.Uses.{◌≡◌, ◌≤◌, ◌<◌, ◌-◌, [], ◌∷◌, ℕ, zero, suc, List, length, arith, subst, bytes, moved}
+use Rattle.std.specs.Prelude.{◌≡◌, ◌≤◌, ◌<◌, ◌-◌, [], ◌∷◌, ℕ, zero, suc, List, length}
+use Rattle.lite_buffered.specs.Uses.{arith, subst, bytes, moved}
 use Rattle.lite_buffered.specs.Take.{WithinLimit}
 
 pub fits_bytes : (limit : ℕ) (xs : List ℕ) → length xs ≤ limit → WithinLimit limit (bytes xs) (limit - length xs)

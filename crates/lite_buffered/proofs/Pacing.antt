@@ -1,6 +1,6 @@
 -- Reads within a budget.
-use Rattle.lite_buffered.specs.Uses.{◌≡◌, ◌≤◌, ◌<◌, ◌+◌, ◌-◌, ◌∙◌, [], ◌∷◌, ℕ, List, length, take, drop, inr, refl, ap, sym, subst, arith, length-take}
-use Rattle.lite_buffered.specs.Uses.{length-take-le, take-take, drop-take, bytes, moved}
+use Rattle.std.specs.Prelude.{◌≡◌, ◌≤◌, ◌<◌, ◌+◌, ◌-◌, [], ◌∷◌, ℕ, List, length, take, drop}
+use Rattle.lite_buffered.specs.Uses.{◌∙◌, inr, refl, ap, sym, subst, arith, length-take, length-take-le, take-take, drop-take, bytes, moved}
 use Rattle.lite_buffered.specs.Budgeted.{PacesMarks}
 
 pub paced_bytes : (budget left : ℕ) (xs : List ℕ) → length xs ≤ left

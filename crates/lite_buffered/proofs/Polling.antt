@@ -1,6 +1,6 @@
 -- A read that polls the inner reader at most once.
-use Rattle.lite_buffered.specs.Uses.{◌≡◌, ◌≤◌, ◌<◌, ℕ, List, [], ◌∷◌, Result, length, refl, sym, subst, inl, inr, arith, Error, Poll, ReadMark, read_marks}
-use Rattle.lite_buffered.specs.Uses.{MarkLaws, Runs}
+use Rattle.std.specs.Prelude.{◌≡◌, ◌≤◌, ◌<◌, ℕ, List, [], ◌∷◌, Result, length}
+use Rattle.lite_buffered.specs.Uses.{refl, sym, subst, inl, inr, arith, Error, Poll, ReadMark, read_marks, MarkLaws, Runs}
 use Rattle.lite_buffered.specs.BufReader.{AsksWhereEmpty, PollsOnce, ReadsOnce, ahead}
 use Rattle.lite_buffered.specs.declared.buf_reader.BufReader.{BufReader}
 

@@ -1,6 +1,7 @@
 -- What single polls of a `BufReader` do.
-use Rattle.lite_buffered.specs.Uses.{◌≡◌, ◌∙◌, ℕ, zero, suc, ◌≤◌, ◌<◌, min, List, [], ◌∷◌, ◌++◌, length, take, refl, sym, ap, subst, arith, append-nil}
-use Rattle.lite_buffered.specs.Uses.{length-take-le, take-append-drop, drop, sub-zero, map-append, ReadMark, bytes, filled, moved, MarkLaws, Runs}
+use Rattle.std.specs.Prelude.{◌≡◌, ℕ, zero, suc, ◌≤◌, ◌<◌, min, List, [], ◌∷◌, ◌++◌, length, take, drop}
+use Rattle.lite_buffered.specs.Uses.{◌∙◌, refl, sym, ap, subst, arith, append-nil, length-take-le, take-append-drop, sub-zero, map-append, ReadMark, bytes}
+use Rattle.lite_buffered.specs.Uses.{filled, moved, MarkLaws, Runs}
 use Rattle.lite_buffered.specs.declared.buf_reader.BufReader.{BufReader}
 use Rattle.lite_buffered.specs.BufReader.{Padded, PassesBuffer, ThroughBuffer, ahead, reader_capacity}
 use Rattle.lite_buffered.specs.Laws.BufReader.{ahead_none, passes_of, through_laws}

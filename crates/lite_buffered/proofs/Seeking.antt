@@ -1,6 +1,6 @@
 -- What a seek leaves.
-use Rattle.lite_buffered.specs.Uses.{◌≡◌, ◌∙◌, ℕ, List, [], ◌++◌, inl, inr, refl, sym, ap, append-nil, Result, Ok, Err, ErrorKind, SeekFrom, Poll, Ready}
-use Rattle.lite_buffered.specs.Uses.{Pending, WriteMark, bytes_taken, Runs}
+use Rattle.std.specs.Prelude.{◌≡◌, ℕ, List, [], ◌++◌, Result, Ok, Err}
+use Rattle.lite_buffered.specs.Uses.{◌∙◌, inl, inr, refl, sym, ap, append-nil, ErrorKind, SeekFrom, Poll, Ready, Pending, WriteMark, bytes_taken, Runs}
 use Rattle.lite_buffered.specs.declared.buf_writer.BufWriter.{BufWriter}
 use Rattle.lite_buffered.specs.BufWriter.{Balanced, FlushesBuffer, SeeksAfter, StopsShort, unwritten, writer_capacity}
 use Rattle.lite_buffered.specs.Laws.BufWriter.{drains_balance, segment_balance}

@@ -1,6 +1,6 @@
 -- `with_budget` of a reader: a pending of its own after so many bytes and errors in a row.
-use Rattle.lite_buffered.specs.Uses.{◌≡◌, ℕ, ◌-◌, List, [], ◌∷◌, Option, Some, None, take, ⊤, ErrorKind, SeekFrom, Result, Poll, Paces, Ranks, Runs, ReadMark}
-use Rattle.lite_buffered.specs.Uses.{WriteMark}
+use Rattle.std.specs.Prelude.{◌≡◌, ℕ, ◌-◌, List, [], ◌∷◌, Option, Some, None, take, ⊤, Result}
+use Rattle.lite_buffered.specs.Uses.{ErrorKind, SeekFrom, Poll, Paces, Ranks, Runs, ReadMark, WriteMark}
 use Rattle.lite_buffered.specs.declared.budgeted.Budgeted.{Budgeted}
 
 -- the reader that is read

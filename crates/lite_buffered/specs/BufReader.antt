@@ -1,6 +1,6 @@
 -- What passes through a `BufReader`.
-use Rattle.lite_buffered.specs.Uses.{◌≡◌, ℕ, zero, suc, ◌+◌, List, [], ◌∷◌, ◌++◌, ◌≤◌, ◌<◌, ◌⊎◌, length, slice_range, Result, Error, Poll, ReadMark, bytes}
-use Rattle.lite_buffered.specs.Uses.{read_marks, WriteMark, Ranks, Runs}
+use Rattle.std.specs.Prelude.{◌≡◌, ℕ, zero, suc, ◌+◌, List, [], ◌∷◌, ◌++◌, ◌≤◌, ◌<◌, ◌⊎◌, length, slice_range, Result}
+use Rattle.lite_buffered.specs.Uses.{Error, Poll, ReadMark, bytes, read_marks, WriteMark, Ranks, Runs}
 use Rattle.lite_buffered.specs.declared.buf_reader.BufReader.{BufReader}
 
 -- the bytes that were read ahead

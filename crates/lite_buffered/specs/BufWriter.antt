@@ -1,7 +1,7 @@
 -- What passes through a `BufWriter`.
-use Rattle.lite_buffered.specs.Uses.{◌≡◌, ◌<◌, ◌≤◌, ◌⊎◌, ◌+◌, ℕ, List, [], ◌∷◌, ◌++◌, length, take, slice_range, Result, Ok, Err, boxed_slice_items, Error}
-use Rattle.lite_buffered.specs.Uses.{ErrorKind, Interrupted, WriteZero, SeekFrom, Lasting, Poll, Ready, Pending, by_kind, WriteMark, bytes_taken, write_marks}
-use Rattle.lite_buffered.specs.Uses.{Runs, Segments}
+use Rattle.std.specs.Prelude.{◌≡◌, ◌<◌, ◌≤◌, ◌⊎◌, ◌+◌, ℕ, List, [], ◌∷◌, ◌++◌, length, take, slice_range, Result, Ok, Err}
+use Rattle.lite_buffered.specs.Uses.{boxed_slice_items, Error, ErrorKind, Interrupted, WriteZero, SeekFrom, Lasting, Poll, Ready, Pending, by_kind, WriteMark}
+use Rattle.lite_buffered.specs.Uses.{bytes_taken, write_marks, Runs, Segments}
 use Rattle.lite_buffered.specs.declared.buf_writer.BufWriter.{BufWriter}
 
 -- the bytes in the buffer

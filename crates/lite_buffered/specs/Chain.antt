@@ -1,5 +1,6 @@
 -- `chain`: one reader up to its end, and then another.
-use Rattle.lite_buffered.specs.Uses.{◌≡◌, Bool, true, false, List, [], ◌∷◌, ◌++◌, ⊤, ReadMark, Runs}
+use Rattle.std.specs.Prelude.{◌≡◌, Bool, true, false, List, [], ◌∷◌, ◌++◌, ⊤}
+use Rattle.lite_buffered.specs.Uses.{ReadMark, Runs}
 use Rattle.lite_buffered.specs.declared.chain.Chain.{Chain}
 
 -- no mark of these is an end

@@ -1,5 +1,6 @@
 -- What else is said of `chain`: its parts, what a pending registers, what it lends, and its rank.
-use Rattle.lite_buffered.specs.Uses.{Bool, cond, replicate, ℕ, ◌+◌, List, ◌++◌, MatchBool, Lasting, Ranks}
+use Rattle.std.specs.Prelude.{Bool, cond, replicate, ℕ, ◌+◌, List, ◌++◌, MatchBool}
+use Rattle.lite_buffered.specs.Uses.{Lasting, Ranks}
 use Rattle.lite_buffered.specs.declared.chain.Chain.{Chain}
 
 -- the first reader

@@ -1,5 +1,6 @@
 -- Reads and writes of a `BufReader`, in one order.
-use Rattle.lite_buffered.specs.Uses.{◌≡◌, List, [], ◌∷◌, ⊤, ReadMark, Part, PartsInOrder, reading_of, WriteMark, Runs}
+use Rattle.std.specs.Prelude.{◌≡◌, List, [], ◌∷◌, ⊤}
+use Rattle.lite_buffered.specs.Uses.{ReadMark, Part, PartsInOrder, reading_of, WriteMark, Runs}
 use Rattle.lite_buffered.specs.declared.buf_reader.BufReader.{BufReader}
 use Rattle.lite_buffered.specs.BufReader.{PassesBuffer, Past, ThroughBuffer, ahead, reader_capacity}
 

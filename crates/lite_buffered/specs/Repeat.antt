@@ -1,5 +1,6 @@
 -- `repeat`: one byte for ever.
-use Rattle.lite_buffered.specs.Uses.{◌≡◌, ℕ, [], ◌∷◌, ReadMark, Runs}
+use Rattle.std.specs.Prelude.{◌≡◌, ℕ, [], ◌∷◌}
+use Rattle.lite_buffered.specs.Uses.{ReadMark, Runs}
 use Rattle.lite_buffered.specs.declared.repeat.Repeat.{Repeat}
 
 -- the byte that is repeated

@@ -1,6 +1,6 @@
 -- What a seek of a `BufReader` does, where `seeks` tells what a seek of its inner reader does.
-use Rattle.lite_buffered.specs.Uses.{◌≡◌, ◌⊎◌, ℕ, pos, ◌-ℤ◌, List, [], length, Result, Ok, Err, FitsSigned, ⊤, w64, ErrorKind, SeekFrom, Start, End, Current}
-use Rattle.lite_buffered.specs.Uses.{Poll, Ready, Pending}
+use Rattle.std.specs.Prelude.{◌≡◌, ◌⊎◌, ℕ, pos, ◌-ℤ◌, List, [], length, Result, Ok, Err, FitsSigned, ⊤}
+use Rattle.lite_buffered.specs.Uses.{w64, ErrorKind, SeekFrom, Start, End, Current, Poll, Ready, Pending}
 use Rattle.lite_buffered.specs.declared.buf_reader.BufReader.{BufReader}
 use Rattle.lite_buffered.specs.BufReader.{ahead, reader_capacity}
 

@@ -1,5 +1,6 @@
 -- `take`: the front of a reader, and then an end for ever.
-use Rattle.lite_buffered.specs.Uses.{◌≡◌, ℕ, zero, suc, List, [], ◌∷◌, ◌++◌, ⊤, ReadMark, Runs}
+use Rattle.std.specs.Prelude.{◌≡◌, ℕ, zero, suc, List, [], ◌∷◌, ◌++◌, ⊤}
+use Rattle.lite_buffered.specs.Uses.{ReadMark, Runs}
 use Rattle.lite_buffered.specs.declared.take.Take.{Take}
 
 -- the reader that is read

@@ -1,4 +1,4 @@
--- What the files of this crate take from the crates below. Each file has one list of it; a name that two modules have is imported from its own.
+-- What this crate's files take from other crates. The prelude, and a name that two modules have, are imported from where they are.
 pub use Rattle.futures.specs.Poll.{IfReady}
 pub use Rattle.futures.specs.Task.{Keeps, Lasting}
 pub use Rattle.futures.specs.declared.task.Poll.{Poll}
@@ -38,7 +38,7 @@ pub use Rattle.lite_io_base.specs.Takings.{WriteMark, bytes_in, bytes_taken, don
 pub use Rattle.lite_io_base.specs.Takings.WriteMark.{closed, flushed}
 pub use Rattle.lite_io_base.specs.Told.{TellsScript}
 pub use Rattle.std.proofs.Common.{add-zero, ap, append-nil, append_assoc, arith, drop-drop, inl, inr, le_refl, length-append, length-drop, length-take}
-pub use Rattle.std.proofs.Common.{length-take-le, refl, rules, subst, sym, take-append-drop, take-take, take_all, zero-add, ℤ, ◌*◌, ◌∙◌}
+pub use Rattle.std.proofs.Common.{length-take-le, refl, rules, subst, sym, take-append-drop, take-take, take_all, zero-add, ℤ, ◌∙◌}
 pub use Rattle.std.proofs.Math.Nat.{sub-zero}
 pub use Rattle.std.proofs.lemmas.Grind.{common_steps}
 pub use Rattle.std.proofs.lemmas.Int.{to_z-of_z}
@@ -47,8 +47,6 @@ pub use Rattle.std.specs.Borrow.{Lends, sem}
 pub use Rattle.std.specs.Box.{boxed_slice_items}
 pub use Rattle.std.specs.Int.{w64}
 pub use Rattle.std.specs.IoError.{error_kind}
-pub use Rattle.std.specs.Prelude.{Bool, Err, FitsSigned, IfErr, IfOk, List, MatchBool, None, Ok, Option, Result, Some, [], cond, drop, false, length, max, min}
-pub use Rattle.std.specs.Prelude.{pos, replicate, slice_range, suc, take, true, zero, ℕ, ⊤, ◌++◌, ◌+◌, ◌-ℤ◌, ◌-◌, ◌<◌, ◌∷◌, ◌≡◌, ◌≤◌, ◌⊎◌}
 pub use Rattle.std.specs.Vec.{with_items}
 pub use Rattle.std.specs.declared.io.Error.{Error}
 pub use Rattle.std.specs.declared.io.ErrorKind.{ErrorKind}

@@ -1,5 +1,5 @@
-ghost use Rattle.lite_buffered.specs.Uses.{◌≡◌, ◌≤◌, ◌<◌, None, Ok, length, IfOk, Lends, sem, IfReady, Keeps, Registered, HoldsWoken, fill_marks, read_marks};
-ghost use Rattle.lite_buffered.specs.Uses.{OnlyOkLends};
+ghost use Rattle.std.specs.Prelude.{◌≡◌, ◌≤◌, ◌<◌, None, Ok, length, IfOk};
+ghost use Rattle.lite_buffered.specs.Uses.{Lends, sem, IfReady, Keeps, Registered, HoldsWoken, fill_marks, read_marks, OnlyOkLends};
 
 use lite_base::{Context, Poll, ready};
 use lite_io_base::{

@@ -1,5 +1,5 @@
-ghost use Rattle.lite_buffered.specs.Uses.{◌≡◌, ◌<◌, ◌≤◌, [], Ok, length, max, min, take, drop, pos, true, false, IfOk, IfErr, Lends, sem, IfReady, Keeps};
-ghost use Rattle.lite_buffered.specs.Uses.{fill_marks, read_marks, OnlyOkLends, ReadsInto, room_in, Registered};
+ghost use Rattle.std.specs.Prelude.{◌≡◌, ◌<◌, ◌≤◌, [], Ok, length, max, min, take, drop, pos, true, false, IfOk, IfErr};
+ghost use Rattle.lite_buffered.specs.Uses.{Lends, sem, IfReady, Keeps, fill_marks, read_marks, OnlyOkLends, ReadsInto, room_in, Registered};
 
 use lite_base::{Context, Poll, ready};
 use lite_io_base::{

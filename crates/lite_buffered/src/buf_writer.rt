@@ -1,5 +1,6 @@
-ghost use Rattle.lite_buffered.specs.Uses.{◌≡◌, ◌+◌, ◌<◌, ◌≤◌, [], Ok, ◌++◌, length, IfOk, IfErr, Lends, sem, boxed_slice_items, IfReady, Keeps, by_kind};
-ghost use Rattle.lite_buffered.specs.Uses.{idle_laws, Idle, done_marks, write_marks, closed, flushed, Registered};
+ghost use Rattle.std.specs.Prelude.{◌≡◌, ◌+◌, ◌<◌, ◌≤◌, [], Ok, ◌++◌, length, IfOk, IfErr};
+ghost use Rattle.lite_buffered.specs.Uses.{Lends, sem, boxed_slice_items, IfReady, Keeps, by_kind, idle_laws, Idle, done_marks, write_marks, closed, flushed};
+ghost use Rattle.lite_buffered.specs.Uses.{Registered};
 
 use lite_base::{Context, Poll, ready};
 use lite_io_base::{AsyncSeek, AsyncWrite, Takings, Tale};

@@ -5,7 +5,8 @@ ghost use Rattle.lite_buffered.specs.Laws.Steady.Chain.{chain_calm};
 ghost use Rattle.lite_buffered.specs.Laws.Steady.Past.{past_calm};
 ghost use Rattle.lite_buffered.specs.Laws.Steady.Repeat.{repeat_calm};
 ghost use Rattle.lite_buffered.specs.Laws.Steady.Take.{take_calm};
-ghost use Rattle.lite_buffered.specs.Uses.{told_calm, ⊤, []};
+ghost use Rattle.std.specs.Prelude.{⊤, []};
+ghost use Rattle.lite_buffered.specs.Uses.{told_calm};
 
 use crate::{Budgeted, BufReader, Chain, Empty, Repeat, Take};
 use lite_io_base::{CalmRead, CalmWrite};

@@ -1,5 +1,6 @@
-ghost use Rattle.lite_buffered.specs.Uses.{◌≡◌, ◌<◌, ◌≤◌, ℕ, List, Ok, length, min, IfOk, false, IoSliceMut, Lends, sem, IfReady, Keeps, fill_marks};
-ghost use Rattle.lite_buffered.specs.Uses.{read_marks, Idle, OnlyOkLends, ReadsInto, room_in, idle_laws, Registered};
+ghost use Rattle.std.specs.Prelude.{◌≡◌, ◌<◌, ◌≤◌, ℕ, List, Ok, length, min, IfOk, false};
+ghost use Rattle.lite_buffered.specs.Uses.{IoSliceMut, Lends, sem, IfReady, Keeps, fill_marks, read_marks, Idle, OnlyOkLends, ReadsInto, room_in, idle_laws};
+ghost use Rattle.lite_buffered.specs.Uses.{Registered};
 
 use lite_base::{Context, Poll, ready};
 use lite_io_base::{

@@ -1,4 +1,5 @@
-ghost use Rattle.lite_buffered.specs.Uses.{[], TellsScript, told_known, told_falls, told_laws, number_ranks, number_counting, Idle, idle_laws};
+ghost use Rattle.std.specs.Prelude.{[]};
+ghost use Rattle.lite_buffered.specs.Uses.{TellsScript, told_known, told_falls, told_laws, number_ranks, number_counting, Idle, idle_laws};
 
 use lite_base::{Context, Poll};
 use lite_io_base::{AsyncBufRead, AsyncRead, CountedRead, Takings, Tale};

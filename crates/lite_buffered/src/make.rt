@@ -1,5 +1,5 @@
 //! What makes the readers.
-ghost use Rattle.lite_buffered.specs.Uses.{◌≡◌, ◌<◌, false};
+ghost use Rattle.std.specs.Prelude.{◌≡◌, ◌<◌, false};
 ghost use Rattle.lite_buffered.specs.Budgeted.{budget_of, budgeted_inner, left_of};
 ghost use Rattle.lite_buffered.specs.Chaining.{first_of, has_ended, second_of};
 ghost use Rattle.lite_buffered.specs.Repeat.{byte_of};

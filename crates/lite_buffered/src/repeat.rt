@@ -1,4 +1,5 @@
-ghost use Rattle.lite_buffered.specs.Uses.{◌≡◌, ◌≤◌, Ok, length, IfOk, IfReady, Keeps, read_marks, Idle, idle_laws, Registered};
+ghost use Rattle.std.specs.Prelude.{◌≡◌, ◌≤◌, Ok, length, IfOk};
+ghost use Rattle.lite_buffered.specs.Uses.{IfReady, Keeps, read_marks, Idle, idle_laws, Registered};
 ghost use Rattle.lite_buffered.specs.Repeat.{RepeatsByte, byte_of};
 ghost use Rattle.lite_buffered.specs.Laws.Repeat.{repeats_laws};
 

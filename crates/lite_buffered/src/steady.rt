@@ -10,7 +10,8 @@ ghost use Rattle.lite_buffered.specs.Laws.Steady.Repeat.{repeat_steady};
 ghost use Rattle.lite_buffered.specs.Laws.Steady.Take.{LimitAlike, take_steady};
 ghost use Rattle.lite_buffered.specs.Repeat.{RepeatsByte};
 ghost use Rattle.lite_buffered.specs.Take.{TakesMarks};
-ghost use Rattle.lite_buffered.specs.Uses.{told_steady, strip_marks, TellsScript, ◌≡◌, []};
+ghost use Rattle.std.specs.Prelude.{◌≡◌, []};
+ghost use Rattle.lite_buffered.specs.Uses.{told_steady, strip_marks, TellsScript};
 
 use crate::{Budgeted, BufReader, Chain, Empty, Repeat, Take};
 use lite_io_base::{SteadyRead, SteadyWrite};

@@ -1,5 +1,5 @@
-ghost use Rattle.lite_buffered.specs.Uses.{◌≡◌, ◌≤◌, ◌⊎◌, Ok, length, take, IfOk, Lends, sem, IfReady, Keeps, read_marks, Idle, ReadsInto, room_in, idle_laws};
-ghost use Rattle.lite_buffered.specs.Uses.{Registered};
+ghost use Rattle.std.specs.Prelude.{◌≡◌, ◌≤◌, ◌⊎◌, Ok, length, take, IfOk};
+ghost use Rattle.lite_buffered.specs.Uses.{Lends, sem, IfReady, Keeps, read_marks, Idle, ReadsInto, room_in, idle_laws, Registered};
 
 use lite_base::{Context, Poll, ready};
 use lite_io_base::{AsyncBufRead, AsyncRead, CountedRead, Takings, Tale, fill, first_room};

@@ -1,5 +1,6 @@
 -- What is given of a part, and of a stream that is lent.
-use Rattle.lite_consume.specs.Uses.{Result, Ok, Err, IfOk, List, [], ◌∷◌, FoldsTo, Poll, MutBor, Answer, Gives, Lent, Runs, items_in}
+use Rattle.std.specs.Prelude.{Result, Ok, Err, IfOk, List, [], ◌∷◌}
+use Rattle.lite_consume.specs.Uses.{FoldsTo, Poll, MutBor, Answer, Gives, Lent, Runs, items_in}
 use Rattle.lite_consume.specs.Consume.{Folds}
 use Rattle.lite_consume.specs.Consuming.{Consumes, Fold, TakesIn, fold_of}
 use Rattle.lite_consume.specs.Laws.Agreeing.{within_itself}

@@ -1,6 +1,7 @@
 -- The steps of a poll that consumes a stream make one segment.
-use Rattle.lite_consume.specs.Uses.{List, [], ◌∷◌, ◌++◌, Some, None, refl, Poll, Answer, item, NextStep, Reaches, Reaches-back, up_to_one, answers_given}
-use Rattle.lite_consume.specs.Uses.{answers_taken, Runs}
+use Rattle.std.specs.Prelude.{List, [], ◌∷◌, Some, None, refl}
+use Rattle.std.proofs.Common.{◌++◌}
+use Rattle.lite_consume.specs.Uses.{Poll, Answer, item, NextStep, Reaches, Reaches-back, up_to_one, answers_given, answers_taken, Runs}
 use Rattle.lite_consume.specs.Consume.{ConsumePollStep, Folds}
 use Rattle.lite_consume.specs.Consuming.{Consumed, Decides, Fold, TakesIn}
 use Rattle.lite_consume.specs.PollSteps.{ConsumeStep}

@@ -1,5 +1,5 @@
 -- Folds that make the same of the same items.
-use Rattle.lite_consume.specs.Uses.{⊤, Option, Some, None, IfSome}
+use Rattle.std.specs.Prelude.{⊤, Option, Some, None, IfSome}
 use Rattle.lite_consume.specs.Consuming.{Fold}
 
 -- two folds took the item in, and this holds, or both decided, and the values are the same

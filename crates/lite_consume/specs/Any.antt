@@ -1,5 +1,6 @@
 -- `any`: whether the predicate accepts an item.
-use Rattle.lite_consume.specs.Uses.{Bool, true, false, Question}
+use Rattle.std.specs.Prelude.{Bool, true, false}
+use Rattle.lite_consume.specs.Uses.{Question}
 use Rattle.lite_consume.specs.Consuming.{Fold}
 use Rattle.lite_consume.specs.TestedUntil.{tested_until}
 

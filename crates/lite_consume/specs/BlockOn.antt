@@ -1,5 +1,5 @@
 -- Whether a `BlockOn` has waited.
-use Rattle.lite_consume.specs.Uses.{◌≡◌, None}
+use Rattle.std.specs.Prelude.{◌≡◌, None}
 use Rattle.lite_consume.specs.declared.block_on.BlockOn.{BlockOn}
 
 -- nothing was waited for yet, so what a wait needs is still to be allocated

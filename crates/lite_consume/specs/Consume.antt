@@ -1,5 +1,6 @@
 -- The future that consumes a stream.
-use Rattle.lite_consume.specs.Uses.{Option, Some, None, ⊤, Poll, Ready, Pending, Answer, Runs}
+use Rattle.std.specs.Prelude.{Option, Some, None, ⊤}
+use Rattle.lite_consume.specs.Uses.{Poll, Ready, Pending, Answer, Runs}
 use Rattle.lite_consume.specs.Consuming.{Consumed, Fold}
 use Rattle.lite_consume.specs.PollSteps.{ConsumeStep, MayTakeEach}
 use Rattle.lite_consume.specs.declared.consume.Consume.{Consume}

@@ -1,6 +1,7 @@
 -- What a future makes of the items of a stream: they are taken in one after the other, until an end, or until an item
 -- that decides.
-use Rattle.lite_consume.specs.Uses.{◌≡◌, List, Option, Some, None, Poll, Ready, Pending, Answer, item, Question, Runs, OneAnswer, Segment, SegmentsToValue}
+use Rattle.std.specs.Prelude.{◌≡◌, List, Option, Some, None}
+use Rattle.lite_consume.specs.Uses.{Poll, Ready, Pending, Answer, item, Question, Runs, OneAnswer, Segment, SegmentsToValue}
 
 -- what is made of items: which are taken in, which decide, and what the value is at an end
 pub record Fold (M A R : Type 0) : Type 1 where

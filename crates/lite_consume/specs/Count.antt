@@ -1,5 +1,5 @@
 -- `count`: the number of the items, in 64 bits.
-use Rattle.lite_consume.specs.Uses.{◌≡◌, ℕ, ◌+◌, ◌%◌, ◌^◌, None}
+use Rattle.std.specs.Prelude.{◌≡◌, ℕ, ◌+◌, ◌%◌, ◌^◌, None}
 use Rattle.lite_consume.specs.Consuming.{Fold}
 
 -- each item counts one; the value is how many there were

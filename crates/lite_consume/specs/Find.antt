@@ -1,5 +1,6 @@
 -- `find`: the first item that the predicate accepts.
-use Rattle.lite_consume.specs.Uses.{◌≡◌, Option, Some, None, Bool, true, false, Question}
+use Rattle.std.specs.Prelude.{◌≡◌, Option, Some, None, Bool, true, false}
+use Rattle.lite_consume.specs.Uses.{Question}
 use Rattle.lite_consume.specs.Consuming.{Fold}
 
 module _ {F A : Type 0} (test : Question F A Bool) where

@@ -1,5 +1,6 @@
 -- `find_map`: the first answer of the function that is there.
-use Rattle.lite_consume.specs.Uses.{◌≡◌, Option, Some, None, IsSome, Question}
+use Rattle.std.specs.Prelude.{◌≡◌, Option, Some, None, IsSome}
+use Rattle.lite_consume.specs.Uses.{Question}
 use Rattle.lite_consume.specs.Consuming.{Fold}
 
 module _ {F A B : Type 0} (call : Question F A (Option B)) where

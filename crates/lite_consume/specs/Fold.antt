@@ -1,6 +1,6 @@
 -- `fold`: the function makes of what was folded and of the item what is folded next. The value is what was folded at
 -- the end.
-use Rattle.lite_consume.specs.Uses.{◌≡◌, Option, Some, None, IsSome, refl}
+use Rattle.std.specs.Prelude.{◌≡◌, Option, Some, None, IsSome, refl}
 use Rattle.lite_consume.specs.Consuming.{Fold}
 
 -- beside the function stands what was folded; None says that it was handed out

@@ -1,5 +1,6 @@
 -- `for_each`: the function is called with each item.
-use Rattle.lite_consume.specs.Uses.{◌≡◌, None, Question}
+use Rattle.std.specs.Prelude.{◌≡◌, None}
+use Rattle.lite_consume.specs.Uses.{Question}
 use Rattle.lite_consume.specs.Consuming.{Fold}
 
 -- each item is taken in by a call; the value says nothing

@@ -1,5 +1,6 @@
 -- What a blocking call gives: the value of a future that consumes the stream.
-use Rattle.lite_consume.specs.Uses.{◌≡◌, List, Option, Some, Mut, Poll, Answer, Gives, Runs}
+use Rattle.std.specs.Prelude.{◌≡◌, List, Option, Some}
+use Rattle.lite_consume.specs.Uses.{Mut, Poll, Answer, Gives, Runs}
 use Rattle.lite_consume.specs.Consuming.{Consumed, Fold}
 
 -- from s, with p folded so far, there were some Pendings and then the value, which left t

@@ -1,5 +1,6 @@
 -- What is made of items that are the same by a relation: what folds give that were equal before any item came.
-use Rattle.lite_consume.specs.Uses.{◌≡◌, ◌⊎◌, Some, Sameness, AgreeKeeping, Kin, KinAnswers}
+use Rattle.std.specs.Prelude.{◌≡◌, ◌⊎◌, Some}
+use Rattle.lite_consume.specs.Uses.{Sameness, AgreeKeeping, Kin, KinAnswers}
 use Rattle.lite_consume.specs.Consuming.{Fold}
 
 -- folds that are kin give these values: at an end, or at items that are alike

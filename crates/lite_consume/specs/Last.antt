@@ -1,5 +1,5 @@
 -- `last`: the last item before the end.
-use Rattle.lite_consume.specs.Uses.{◌≡◌, Option, Some, None}
+use Rattle.std.specs.Prelude.{◌≡◌, Option, Some, None}
 use Rattle.lite_consume.specs.Consuming.{Fold}
 
 -- the value is the last item, if there was one

@@ -1,5 +1,5 @@
 -- `next`: the next item, or that there is none.
-use Rattle.lite_consume.specs.Uses.{◌≡◌, Option, Some, None}
+use Rattle.std.specs.Prelude.{◌≡◌, Option, Some, None}
 use Rattle.lite_consume.specs.Consuming.{Fold}
 
 -- the first item decides

@@ -1,5 +1,5 @@
 -- `nth`: the item with the number n, counted from 0.
-use Rattle.lite_consume.specs.Uses.{◌≡◌, ℕ, ◌+◌, Option, Some, None}
+use Rattle.std.specs.Prelude.{◌≡◌, ℕ, ◌+◌, Option, Some, None}
 use Rattle.lite_consume.specs.Consuming.{Fold}
 
 -- n items are taken in, and the one after them decides

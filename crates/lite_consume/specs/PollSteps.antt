@@ -1,5 +1,6 @@
 -- The steps of a poll that consumes a stream: in each the stream is polled once.
-use Rattle.lite_consume.specs.Uses.{List, [], ◌∷◌, Option, Some, None, Poll, Answer, item, Terminates, Runs, AtEachItem}
+use Rattle.std.specs.Prelude.{List, [], ◌∷◌, Option, Some, None}
+use Rattle.lite_consume.specs.Uses.{Poll, Answer, item, Terminates, Runs, AtEachItem}
 use Rattle.lite_consume.specs.Consuming.{Decides, Fold, TakesIn}
 
 module _ {S M A R : Type 0} (run : Runs (Answer A) S) (fold : Fold M A R) where

@@ -1,5 +1,6 @@
 -- `position`: the number of the first item that the predicate accepts, counted from 0 in 64 bits.
-use Rattle.lite_consume.specs.Uses.{◌≡◌, ℕ, ◌+◌, ◌%◌, ◌^◌, Option, Some, None, Bool, true, false, Question}
+use Rattle.std.specs.Prelude.{◌≡◌, ℕ, ◌+◌, ◌%◌, ◌^◌, Option, Some, None, Bool, true, false}
+use Rattle.lite_consume.specs.Uses.{Question}
 use Rattle.lite_consume.specs.Consuming.{Fold}
 
 module _ {F A : Type 0} (test : Question F A Bool) where

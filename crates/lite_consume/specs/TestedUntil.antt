@@ -1,5 +1,6 @@
 -- Items are tested until one decides, as `all` and `any` do.
-use Rattle.lite_consume.specs.Uses.{◌≡◌, Option, Some, None, Bool, Question}
+use Rattle.std.specs.Prelude.{◌≡◌, Option, Some, None, Bool}
+use Rattle.lite_consume.specs.Uses.{Question}
 use Rattle.lite_consume.specs.Consuming.{Fold}
 
 module _ {F A : Type 0} (test : Question F A Bool) (goes_on decides : Bool) where

@@ -1,6 +1,6 @@
 -- `try_fold`: as `fold` of what the Ok items hold. The first error, an item's or one that the function answers,
 -- decides.
-use Rattle.lite_consume.specs.Uses.{◌≡◌, Option, Some, None, Result, Ok, Err, IsSome, refl}
+use Rattle.std.specs.Prelude.{◌≡◌, Option, Some, None, Result, Ok, Err, IsSome, refl}
 use Rattle.lite_consume.specs.Consuming.{Fold}
 
 -- beside the function stands what was folded; None says that it was handed out

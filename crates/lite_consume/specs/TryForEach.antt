@@ -1,5 +1,6 @@
 -- `try_for_each`: the function is called with each item. The first error that it answers decides.
-use Rattle.lite_consume.specs.Uses.{◌≡◌, Option, Some, None, Result, Ok, IsErr, Question}
+use Rattle.std.specs.Prelude.{◌≡◌, Option, Some, None, Result, Ok, IsErr}
+use Rattle.lite_consume.specs.Uses.{Question}
 use Rattle.lite_consume.specs.Consuming.{Fold}
 
 module _ {F A E : Type 0} (call : Question F A (Result (Unit {0}) E)) where

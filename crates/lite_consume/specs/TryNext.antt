@@ -1,5 +1,6 @@
 -- `try_next`: as `next`, with an error outside.
-use Rattle.lite_consume.specs.Uses.{◌≡◌, Option, Some, None, Result, Ok, Err, OptionBy, Sameness}
+use Rattle.std.specs.Prelude.{◌≡◌, Option, Some, None, Result, Ok, Err}
+use Rattle.lite_consume.specs.Uses.{OptionBy, Sameness}
 use Rattle.lite_consume.specs.Consuming.{Fold}
 
 -- the first item decides

@@ -1,4 +1,4 @@
--- What the files of this crate take from the crates below. Each file has one list of it; a name that two modules have is imported from its own.
+-- What this crate's files take from other crates. The prelude, and a name that two modules have, are imported from where they are.
 pub use Rattle.futures.specs.declared.task.Poll.{Poll}
 pub use Rattle.futures.specs.declared.task.Poll.TheVariants.{Pending, Ready}
 pub use Rattle.lite_base.specs.Alike.{OptionBy, Optional, SameAnswer, SameHeld, SameItem, Sameness}
@@ -27,9 +27,7 @@ pub use Rattle.lite_base.specs.Steady.{FutureSteadyLawsBy, SteadyLawsBy, TakesNo
 pub use Rattle.lite_base.specs.StreamLaws.{RunLaws}
 pub use Rattle.lite_stream.specs.EachItem.{AtEachItem, items_in}
 pub use Rattle.lite_stream.specs.Laws.EachItem.{each_asked, each_here, each_pending}
-pub use Rattle.std.proofs.Common.{ap, arith, inl, inr, subst, sym, ◌++◌, ◌<◌, ◌∙◌}
+pub use Rattle.std.proofs.Common.{ap, arith, inl, inr, subst, sym, ◌∙◌}
 pub use Rattle.std.specs.Fn.{Called, CalledAt, Mut, TakesAt}
 pub use Rattle.std.specs.List.{AllByRecursion, FoldsTo}
-pub use Rattle.std.specs.Prelude.{Bool, Err, IfOk, IfSome, IsErr, IsSome, List, MatchOption, None, Ok, OnErr, OnOk, Option, Result, Some, [], false, refl, true}
-pub use Rattle.std.specs.Prelude.{ℕ, ⊤, ◌%◌, ◌+◌, ◌^◌, ◌∷◌, ◌≡◌, ◌⊎◌}
 pub use denote.MutBor.{MutBor}

@@ -1,4 +1,5 @@
-ghost use Rattle.lite_consume.specs.Uses.{◌≡◌, IfOk, None, OnErr, OnOk, Some, CalledAt, TakesAt, Calls};
+ghost use Rattle.std.specs.Prelude.{◌≡◌, IfOk, None, OnErr, OnOk, Some};
+ghost use Rattle.lite_consume.specs.Uses.{CalledAt, TakesAt, Calls};
 ghost use Rattle.lite_consume.specs.Given.{BlockGives, MayCall, MayFold, nothing};
 ghost use Rattle.lite_consume.specs.All.{alls};
 ghost use Rattle.lite_consume.specs.Any.{anys};

@@ -1,4 +1,5 @@
-ghost use Rattle.lite_consume.specs.Uses.{⊤, Some, MatchOption, SameItem, Sameness};
+ghost use Rattle.std.specs.Prelude.{⊤, Some, MatchOption};
+ghost use Rattle.lite_consume.specs.Uses.{SameItem, Sameness};
 ghost use Rattle.lite_consume.specs.Agreeing.{FoldSteadyLaws};
 ghost use Rattle.lite_consume.specs.Consuming.{Fold};
 ghost use Rattle.lite_consume.specs.PollSteps.{Returns};

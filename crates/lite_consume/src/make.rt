@@ -1,5 +1,5 @@
 //! What makes the futures.
-ghost use Rattle.lite_consume.specs.Uses.{◌≡◌, None, Some};
+ghost use Rattle.std.specs.Prelude.{◌≡◌, None, Some};
 
 use crate::all::{All, AllFuture};
 use crate::any::{Any, AnyFuture};

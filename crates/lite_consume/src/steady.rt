@@ -1,5 +1,6 @@
 //! What is made of a stream's items, where it does not depend on when the stream was pending.
-ghost use Rattle.lite_consume.specs.Uses.{CalledAt, ⊤, ◌≡◌, Optional, SameHeld, SameItem, Agree, AgreeFrom, AgreeKeeping, Calls, Keeping};
+ghost use Rattle.std.specs.Prelude.{⊤, ◌≡◌};
+ghost use Rattle.lite_consume.specs.Uses.{CalledAt, Optional, SameHeld, SameItem, Agree, AgreeFrom, AgreeKeeping, Calls, Keeping};
 ghost use Rattle.lite_consume.specs.Calls.{CallsBoth};
 ghost use Rattle.lite_consume.specs.Consume.{Folds};
 ghost use Rattle.lite_consume.specs.Consuming.{fold_of};

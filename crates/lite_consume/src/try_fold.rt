@@ -1,4 +1,4 @@
-ghost use Rattle.lite_consume.specs.Uses.{◌≡◌, IsSome, Ok, Some};
+ghost use Rattle.std.specs.Prelude.{◌≡◌, IsSome, Ok, Some};
 ghost use Rattle.lite_consume.specs.Calls.{CallsBoth};
 ghost use Rattle.lite_consume.specs.Consuming.{fold_of};
 ghost use Rattle.lite_consume.specs.Laws.Returning.{returns_ok};

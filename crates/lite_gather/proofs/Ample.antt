@@ -1,6 +1,7 @@
 -- The steps of those that collect in which nothing was refused are those in which memory was found.
-use Rattle.lite_gather.specs.Uses.{◌≡◌, ⊤, List, [], ◌∷◌, ◌++◌, Option, Some, None, Result, Ok, Err, Bool, IfSome, IsOk, AllByRecursion, subst, Poll, Ready}
-use Rattle.lite_gather.specs.Uses.{Pending, Answer, Gives, end, item, Question, WithinWhere, Consumes, Decides, each_consumed}
+use Rattle.std.specs.Prelude.{◌≡◌, ⊤, List, [], ◌∷◌, ◌++◌, Option, Some, None, Result, Ok, Err, Bool, IfSome, IsOk}
+use Rattle.lite_gather.specs.Uses.{AllByRecursion, subst, Poll, Ready, Pending, Answer, Gives, end, item, Question, WithinWhere, Consumes, Decides}
+use Rattle.lite_gather.specs.Uses.{each_consumed}
 use Rattle.lite_gather.specs.Collect.{Collected, collects}
 use Rattle.lite_gather.specs.Gathering.{NeverRefuses}
 use Rattle.lite_gather.specs.Partition.{partitions}

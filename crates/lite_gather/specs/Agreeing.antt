@@ -1,6 +1,7 @@
 -- Which collections, and which values of those who gather them, are the same: those that hold one list, or lists that
 -- are the same item by item.
-use Rattle.lite_gather.specs.Uses.{List, map, Result, Ok, Err, AllZip, Sameness}
+use Rattle.std.specs.Prelude.{List, map, Result, Ok, Err}
+use Rattle.lite_gather.specs.Uses.{AllZip, Sameness}
 use Rattle.lite_gather.specs.declared.refused.TryCollectError.{TryCollectError}
 use Rattle.lite_gather.specs.declared.refused.TryCollectError.TheVariants.{Source}
 

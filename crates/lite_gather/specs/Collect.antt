@@ -1,5 +1,6 @@
 -- `collect`: a collection takes in the items, and is the value at the end. An item that it refuses decides.
-use Rattle.lite_gather.specs.Uses.{◌≡◌, List, Option, Some, None, Result, Ok, Err, IsSome, refl, Fold}
+use Rattle.std.specs.Prelude.{◌≡◌, List, Option, Some, None, Result, Ok, Err, IsSome, refl}
+use Rattle.lite_gather.specs.Uses.{Fold}
 use Rattle.lite_gather.specs.Gathering.{Kept, Took}
 use Rattle.lite_gather.specs.declared.refused.Refused.{Refused}
 

@@ -1,6 +1,6 @@
 -- Collections, which contracts see as what they took in: `holds c l` says that c is what comes of taking in the items l
 -- in order.
-use Rattle.lite_gather.specs.Uses.{List, [], ◌∷◌, ◌++◌}
+use Rattle.std.specs.Prelude.{List, [], ◌∷◌, ◌++◌}
 
 module _ {C T : Type 0} (holds : C → List T → Type 0) where
   -- d is c with the item x taken in

@@ -1,5 +1,6 @@
 -- `partition`: one collection takes in the items that the predicate accepts, another those that it rejects.
-use Rattle.lite_gather.specs.Uses.{◌≡◌, List, Option, Some, None, Result, Ok, Err, IsSome, Bool, true, false, refl, Fold, Question}
+use Rattle.std.specs.Prelude.{◌≡◌, List, Option, Some, None, Result, Ok, Err, IsSome, Bool, true, false, refl}
+use Rattle.lite_gather.specs.Uses.{Fold, Question}
 use Rattle.lite_gather.specs.Gathering.{Kept, Took}
 use Rattle.lite_gather.specs.declared.refused.Refused.{Refused}
 

@@ -1,5 +1,6 @@
 -- `try_collect`: as `collect` of what the Ok items hold. The first error among the items decides.
-use Rattle.lite_gather.specs.Uses.{◌≡◌, ⊤, List, Option, Some, None, Result, Ok, Err, IsSome, refl, Fold}
+use Rattle.std.specs.Prelude.{◌≡◌, ⊤, List, Option, Some, None, Result, Ok, Err, IsSome, refl}
+use Rattle.lite_gather.specs.Uses.{Fold}
 use Rattle.lite_gather.specs.Gathering.{Kept, Took}
 use Rattle.lite_gather.specs.declared.refused.TryCollectError.{TryCollectError}
 use Rattle.lite_gather.specs.declared.refused.TryCollectError.TheVariants.{Source, Memory}

@@ -1,5 +1,6 @@
 -- `unzip`: one collection takes in the first parts of the items, another the second parts.
-use Rattle.lite_gather.specs.Uses.{◌≡◌, List, Option, Some, None, Result, Ok, Err, IsSome, refl, Fold}
+use Rattle.std.specs.Prelude.{◌≡◌, List, Option, Some, None, Result, Ok, Err, IsSome, refl}
+use Rattle.lite_gather.specs.Uses.{Fold}
 use Rattle.lite_gather.specs.Gathering.{Kept, Took}
 use Rattle.lite_gather.specs.declared.refused.UnzipRefused.{UnzipRefused}
 use Rattle.lite_gather.specs.declared.refused.UnzipRefused.TheVariants.{Left, Right}

@@ -1,4 +1,4 @@
--- What the files of this crate take from the crates below. Each file has one list of it; a name that two modules have is imported from its own.
+-- What this crate's files take from other crates. The prelude, and a name that two modules have, are imported from where they are.
 pub use Rattle.futures.specs.declared.task.Poll.{Poll}
 pub use Rattle.futures.specs.declared.task.Poll.TheVariants.{Pending, Ready}
 pub use Rattle.lite_base.specs.Alike.{OptionBy, SameErr, SameItem, SameOk, Sameness}
@@ -20,6 +20,4 @@ pub use Rattle.std.specs.BTreeSet.{contains, insert_key}
 pub use Rattle.std.specs.Char.{encode_utf8}
 pub use Rattle.std.specs.Fn.{CalledAt, TakesAt}
 pub use Rattle.std.specs.List.{AllByRecursion, AllZip, flat_map, fold}
-pub use Rattle.std.specs.Prelude.{Bool, Err, IfErr, IfSome, IsOk, IsSome, IsTrue, List, None, Ok, OnOk, Option, Result, Some, [], false, length, map, refl}
-pub use Rattle.std.specs.Prelude.{string_bytes, string_capacity, string_len, true, vec_capacity, vec_len, ⊤, ◌++◌, ◌+◌, ◌<◌, ◌∷◌, ◌≡◌, ◌≤◌}
 pub use Rattle.std.specs.VecDeque.{deque_capacity, deque_len}

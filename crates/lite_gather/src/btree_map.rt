@@ -1,4 +1,5 @@
-ghost use Rattle.lite_gather.specs.Uses.{◌≡◌, [], ContainsKey, insert_entry, fold};
+ghost use Rattle.std.specs.Prelude.{◌≡◌, []};
+ghost use Rattle.lite_gather.specs.Uses.{ContainsKey, insert_entry, fold};
 
 use crate::gather::Gather;
 use std::alloc::Allocator;

@@ -1,4 +1,5 @@
-ghost use Rattle.lite_gather.specs.Uses.{◌≡◌, IsTrue, [], contains, insert_key, fold};
+ghost use Rattle.std.specs.Prelude.{◌≡◌, IsTrue, []};
+ghost use Rattle.lite_gather.specs.Uses.{contains, insert_key, fold};
 
 use crate::gather::Gather;
 use std::alloc::Allocator;

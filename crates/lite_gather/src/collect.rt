@@ -1,4 +1,5 @@
-ghost use Rattle.lite_gather.specs.Uses.{IsSome, fold_of, returns_counted};
+ghost use Rattle.std.specs.Prelude.{IsSome};
+ghost use Rattle.lite_gather.specs.Uses.{fold_of, returns_counted};
 ghost use Rattle.lite_gather.specs.Collect.{collects, collects_open};
 ghost use Rattle.lite_gather.specs.Gathering.{LacksRoom};
 

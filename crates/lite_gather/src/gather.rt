@@ -1,4 +1,4 @@
-ghost use Rattle.lite_gather.specs.Uses.{◌≡◌, IfErr, IsOk, List, OnOk, [], ⊤};
+ghost use Rattle.std.specs.Prelude.{◌≡◌, IfErr, IsOk, List, OnOk, [], ⊤};
 ghost use Rattle.lite_gather.specs.Gathering.{Kept, Took};
 
 /// A collection that takes in items one after the other, each of which it may refuse for want of memory.

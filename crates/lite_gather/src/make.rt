@@ -1,5 +1,5 @@
 //! What makes the futures.
-ghost use Rattle.lite_gather.specs.Uses.{◌≡◌, [], IsSome, IfSome};
+ghost use Rattle.std.specs.Prelude.{◌≡◌, [], IsSome, IfSome};
 
 use crate::collect::{Collect, CollectFuture};
 use crate::gather::Gather;

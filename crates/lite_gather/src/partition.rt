@@ -1,4 +1,5 @@
-ghost use Rattle.lite_gather.specs.Uses.{◌≡◌, IfErr, IsSome, OnOk, CalledAt, TakesAt, fold_of, returns_counted};
+ghost use Rattle.std.specs.Prelude.{◌≡◌, IfErr, IsSome, OnOk};
+ghost use Rattle.lite_gather.specs.Uses.{CalledAt, TakesAt, fold_of, returns_counted};
 ghost use Rattle.lite_gather.specs.Gathering.{LacksRoom};
 ghost use Rattle.lite_gather.specs.Partition.{Sorted, Unsorted, partitions, partitions_open};
 

@@ -1,5 +1,6 @@
 //! The collections that don't depend on when the stream was pending.
-ghost use Rattle.lite_gather.specs.Uses.{CalledAt, ◌≡◌, OptionBy, SameErr, SameItem, SameOk, Sameness, AgreeFrom, fold_of, part_steady};
+ghost use Rattle.std.specs.Prelude.{◌≡◌};
+ghost use Rattle.lite_gather.specs.Uses.{CalledAt, OptionBy, SameErr, SameItem, SameOk, Sameness, AgreeFrom, fold_of, part_steady};
 ghost use Rattle.lite_gather.specs.Agreeing.{HoldsSame, HoldsSameBoth, HoldsSameParts, SameCollected, TrySameCollected};
 ghost use Rattle.lite_gather.specs.Agreeing.{Unmixed};
 ghost use Rattle.lite_gather.specs.Collect.{collects};

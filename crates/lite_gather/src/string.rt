@@ -1,4 +1,5 @@
-ghost use Rattle.lite_gather.specs.Uses.{◌≡◌, ◌≤◌, ◌+◌, length, string_bytes, string_capacity, string_len, encode_utf8, flat_map};
+ghost use Rattle.std.specs.Prelude.{◌≡◌, ◌≤◌, ◌+◌, length, string_bytes, string_capacity, string_len};
+ghost use Rattle.lite_gather.specs.Uses.{encode_utf8, flat_map};
 
 use crate::gather::Gather;
 use std::alloc::Allocator;

@@ -1,4 +1,5 @@
-ghost use Rattle.lite_gather.specs.Uses.{IsSome, fold_of, returns_ok};
+ghost use Rattle.std.specs.Prelude.{IsSome};
+ghost use Rattle.lite_gather.specs.Uses.{fold_of, returns_ok};
 ghost use Rattle.lite_gather.specs.Gathering.{LacksRoom};
 ghost use Rattle.lite_gather.specs.TryCollect.{tries_collect, tries_collect_open};
 

@@ -1,4 +1,5 @@
-ghost use Rattle.lite_gather.specs.Uses.{◌≡◌, IfErr, IsSome, OnOk, fold_of, returns_counted};
+ghost use Rattle.std.specs.Prelude.{◌≡◌, IfErr, IsSome, OnOk};
+ghost use Rattle.lite_gather.specs.Uses.{fold_of, returns_counted};
 ghost use Rattle.lite_gather.specs.Gathering.{LacksRoom, Took};
 ghost use Rattle.lite_gather.specs.Refused.{refused_of};
 ghost use Rattle.lite_gather.specs.Unzip.{RefusedOne, unzips, unzips_open};

@@ -1,4 +1,4 @@
-ghost use Rattle.lite_gather.specs.Uses.{◌≡◌, ◌<◌, vec_capacity, vec_len};
+ghost use Rattle.std.specs.Prelude.{◌≡◌, ◌<◌, vec_capacity, vec_len};
 
 use crate::gather::Gather;
 use std::alloc::Allocator;

@@ -1,5 +1,6 @@
 -- A clone of an entry says what the entry says.
-use Rattle.lite_halves.specs.Uses.{◌≡◌, List, [], ◌∷◌, ap, refl, AllZip, each_same}
+use Rattle.std.specs.Prelude.{◌≡◌, List, [], ◌∷◌}
+use Rattle.lite_halves.specs.Uses.{ap, refl, AllZip, each_same}
 use Rattle.lite_halves.specs.declared.entry.Entry.{Entry}
 use Rattle.lite_halves.specs.declared.entry.Call.{Call}
 use Rattle.lite_halves.specs.declared.entry.Call.TheVariants.{Read, Write, Flush, Close}

@@ -1,6 +1,6 @@
 -- A journal with one entry more.
-use Rattle.lite_halves.specs.Uses.{◌≡◌, ◌∙◌, ◌≤◌, ◌+◌, ℕ, List, [], ◌∷◌, ◌++◌, ap, arith, sym, refl, subst, map-append, Part, PartRuns, ReadMark, WriteMark}
-use Rattle.lite_halves.specs.Uses.{Runs}
+use Rattle.std.specs.Prelude.{◌≡◌, ◌≤◌, ◌+◌, ℕ, List, [], ◌∷◌, ◌++◌}
+use Rattle.lite_halves.specs.Uses.{◌∙◌, ap, arith, sym, refl, subst, map-append, Part, PartRuns, ReadMark, WriteMark, Runs}
 use Rattle.lite_halves.specs.declared.entry.Entry.{Entry}
 use Rattle.lite_halves.specs.Entry.{FitsCall, Note, asked_of, note_of, notes_in, part_of, told_of}
 use Rattle.lite_halves.specs.Journal.{Adds, Chronicle, IsSound}

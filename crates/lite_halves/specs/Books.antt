@@ -1,5 +1,5 @@
 -- Which ledgers count a split.
-use Rattle.lite_halves.specs.Uses.{ℕ}
+use Rattle.std.specs.Prelude.{ℕ}
 
 -- the names of the ledgers of the calls and of the bytes of each half
 pub record Names : Type 0 where

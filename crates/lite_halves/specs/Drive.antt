@@ -1,6 +1,6 @@
 -- Calls that are made one after the other until memory is refused.
-use Rattle.lite_halves.specs.Uses.{◌≡◌, ◌<◌, ℕ, List, [], ◌∷◌, ◌++◌, length, slice_index_or, Option, Some, None, Result, Ok, Err, AllocError, ReadMark}
-use Rattle.lite_halves.specs.Uses.{WriteMark, Runs}
+use Rattle.std.specs.Prelude.{◌≡◌, ◌<◌, ℕ, List, [], ◌∷◌, ◌++◌, length, slice_index_or, Option, Some, None, Result, Ok, Err}
+use Rattle.lite_halves.specs.Uses.{AllocError, ReadMark, WriteMark, Runs}
 use Rattle.lite_halves.specs.declared.entry.Answer.{Answer}
 use Rattle.lite_halves.specs.declared.entry.Call.{Call}
 use Rattle.lite_halves.specs.Entry.{Note, Request, Told, asked_of, told_of}

@@ -1,6 +1,6 @@
 -- What an entry of a journal says, and the marks that it stands for.
-use Rattle.lite_halves.specs.Uses.{ℕ, zero, suc, ◌≤◌, List, [], ◌∷◌, length, map, take, Result, Ok, Err, ⊤, error_kind, Error, ErrorKind, Poll, Part, ReadMark}
-use Rattle.lite_halves.specs.Uses.{bytes, WriteMark}
+use Rattle.std.specs.Prelude.{ℕ, zero, suc, ◌≤◌, List, [], ◌∷◌, length, map, take, Result, Ok, Err, ⊤}
+use Rattle.lite_halves.specs.Uses.{error_kind, Error, ErrorKind, Poll, Part, ReadMark, bytes, WriteMark}
 use Rattle.futures.specs.declared.task.Poll.TheVariants.{Ready, Pending as Waits}
 use Rattle.lite_halves.specs.declared.entry.Entry.{Entry}
 use Rattle.lite_halves.specs.declared.entry.Call.{Call}

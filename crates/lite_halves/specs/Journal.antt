@@ -1,7 +1,7 @@
 -- A journal: what it began with, what was asked and told since, and what it is now.
-use Rattle.lite_halves.specs.Uses.{◌≡◌, ◌⊎◌, ◌<◌, ◌≤◌, ℕ, ◌+◌, List, [], ◌∷◌, ◌++◌, length, map, Option, Some, None, Result, vec_capacity, flat_map, Global}
-use Rattle.lite_halves.specs.Uses.{Error, OutOfMemory, IoSliceMut, Vec, Poll, Part, PartRuns, PartsInOrder, ReadMark, StandsFirst, room_in, Steps, WriteMark}
-use Rattle.lite_halves.specs.Uses.{Runs}
+use Rattle.std.specs.Prelude.{◌≡◌, ◌⊎◌, ◌<◌, ◌≤◌, ℕ, ◌+◌, List, [], ◌∷◌, ◌++◌, length, map, Option, Some, None, Result, vec_capacity}
+use Rattle.lite_halves.specs.Uses.{flat_map, Global, Error, OutOfMemory, IoSliceMut, Vec, Poll, Part, PartRuns, PartsInOrder, ReadMark, StandsFirst, room_in}
+use Rattle.lite_halves.specs.Uses.{Steps, WriteMark, Runs}
 use Rattle.lite_halves.specs.Entry.{AllFit, FitsCall, Note, Request, Told, copied, part_of, parts_in, read_note}
 use Rattle.lite_halves.specs.Entry.{write_note}
 

@@ -1,5 +1,5 @@
 -- The calls that a half made.
-use Rattle.lite_halves.specs.Uses.{List, [], ◌∷◌, ◌++◌}
+use Rattle.std.specs.Prelude.{List, [], ◌∷◌, ◌++◌}
 use Rattle.lite_halves.specs.Entry.{Note, note_of}
 use Rattle.lite_halves.specs.declared.journalled.made.Link.{Link}
 use Rattle.lite_halves.specs.declared.journalled.made.Link.TheVariants.{Nothing, More}

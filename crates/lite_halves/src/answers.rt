@@ -1,5 +1,6 @@
 //! Answers of polls, as they are written down.
-ghost use Rattle.lite_halves.specs.Uses.{◌≡◌, ◌≤◌, [], length, vec_capacity, IfOk, MatchOption, IfReady};
+ghost use Rattle.std.specs.Prelude.{◌≡◌, ◌≤◌, [], length, vec_capacity, IfOk, MatchOption};
+ghost use Rattle.lite_halves.specs.Uses.{IfReady};
 ghost use Rattle.lite_halves.specs.Counts.{IsOutOfMemory};
 ghost use Rattle.lite_halves.specs.Entry.{told_of, told_of_done, told_of_read, told_of_write};
 

@@ -1,5 +1,5 @@
 //! The journal: what it holds, and how it is made and looked at.
-ghost use Rattle.lite_halves.specs.Uses.{◌≡◌, ◌<◌, List, ◌++◌, ◌∷◌, [], length, IfErr, IfOk};
+ghost use Rattle.std.specs.Prelude.{◌≡◌, ◌<◌, List, ◌++◌, ◌∷◌, [], length, IfErr, IfOk};
 ghost use Rattle.lite_halves.specs.Entry.{Note, note_of, notes_in};
 ghost use Rattle.lite_halves.specs.Journal.{IsSound, Replays};
 
@@ -31,7 +31,7 @@ pub struct Journal<T: Tale + Takings + Clone> {
 }
 
 impl<T: Tale + Takings + Clone> Model for Journal<T> {
-    ghost use Rattle.lite_halves.specs.Uses.{◌-◌, vec_capacity, vec_len};
+    ghost use Rattle.std.specs.Prelude.{◌-◌, vec_capacity, vec_len};
     ghost use Rattle.lite_halves.specs.Journal.{Chronicle, IsSound};
     ghost use Rattle.lite_halves.specs.Entry.{notes_in};
 

@@ -1,5 +1,5 @@
 //! A journal in two halves, and what it has written down.
-ghost use Rattle.lite_halves.specs.Uses.{◌≡◌, [], IfErr, IfOk};
+ghost use Rattle.std.specs.Prelude.{◌≡◌, [], IfErr, IfOk};
 ghost use Rattle.lite_halves.specs.Counts.{got_in, reads_in, taken_in, writes_in};
 ghost use Rattle.lite_halves.specs.Journal.{IsSound, Replays};
 

@@ -1,5 +1,6 @@
 -- What is known of the bytes that a reader is to give.
-use Rattle.lite_io_base.specs.Uses.{◌≡◌, ℕ, List, [], ◌∷◌, Runs}
+use Rattle.std.specs.Prelude.{◌≡◌, ℕ, List, [], ◌∷◌}
+use Rattle.lite_io_base.specs.Uses.{Runs}
 use Rattle.lite_io_base.specs.Marks.{ReadMark}
 
 -- Where the bytes xs are to come, these marks come, and ys are left: bytes from the front on, pendings anywhere, an end

@@ -1,5 +1,6 @@
 -- What holds of a value before and after a seek.
-use Rattle.lite_io_base.specs.Uses.{ℕ, Result, ErrorKind, SeekFrom, Poll}
+use Rattle.std.specs.Prelude.{ℕ, Result}
+use Rattle.lite_io_base.specs.Uses.{ErrorKind, SeekFrom, Poll}
 
 -- Each seek keeps P. `seeks` tells what a seek to a place may answer and leave.
 abbrev pub SeekKeeps : {S : Type 0} → (S → SeekFrom → Poll (Result ℕ ErrorKind) → S → Type 0) → (S → Type 0) → Type 0

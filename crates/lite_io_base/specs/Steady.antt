@@ -1,6 +1,7 @@
 -- Readers whose tale does not depend on when they were pending, where memory was found: the runs in which it was are
 -- the ample ones.
-use Rattle.lite_io_base.specs.Uses.{List, [], ◌∷◌, ⊤, Comparable, CalmRuns, Runs, TakesNone}
+use Rattle.std.specs.Prelude.{List, [], ◌∷◌, ⊤}
+use Rattle.lite_io_base.specs.Uses.{Comparable, CalmRuns, Runs, TakesNone}
 use Rattle.lite_io_base.specs.Marks.{ReadMark}
 use Rattle.lite_io_base.specs.Runs.{MarkLaws}
 

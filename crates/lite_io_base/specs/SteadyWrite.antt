@@ -1,5 +1,6 @@
 -- Writers that leave the same bytes however often they were pending, and writers that are never pending.
-use Rattle.lite_io_base.specs.Uses.{◌≡◌, ℕ, List, [], ◌∷◌, ◌++◌, ⊤, Interrupted, CalmRuns, Runs}
+use Rattle.std.specs.Prelude.{◌≡◌, ℕ, List, [], ◌∷◌, ◌++◌, ⊤}
+use Rattle.lite_io_base.specs.Uses.{Interrupted, CalmRuns, Runs}
 use Rattle.lite_io_base.specs.Takings.{WriteMark, bytes_taken}
 
 -- no error but interruptions, which take nothing

@@ -1,5 +1,6 @@
 -- What is known of the bytes that a writer keeps.
-use Rattle.lite_io_base.specs.Uses.{◌≡◌, ℕ, List, [], ◌++◌, Runs}
+use Rattle.std.specs.Prelude.{◌≡◌, ℕ, List, [], ◌++◌}
+use Rattle.lite_io_base.specs.Uses.{Runs}
 use Rattle.lite_io_base.specs.Takings.{WriteMark, bytes_taken}
 
 -- It speaks of what writing calls do as `told` has it; a clause that takes it asks that what they do is that.

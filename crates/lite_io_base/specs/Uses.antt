@@ -1,4 +1,4 @@
--- What the files of this crate take from the crates below. Each file has one list of it; a name that two modules have is imported from its own.
+-- What this crate's files take from other crates. The prelude, and a name that two modules have, are imported from where they are.
 pub use Rattle.futures.specs.Poll.{IfReady}
 pub use Rattle.futures.specs.Task.{Keeps, Lasting}
 pub use Rattle.futures.specs.declared.task.Poll.{Poll}
@@ -16,7 +16,7 @@ pub use Rattle.lite_base.specs.Registered.{Registered}
 pub use Rattle.lite_base.specs.Runs.{Runs}
 pub use Rattle.lite_base.specs.Steady.{TakesNone}
 pub use Rattle.std.proofs.Common.{add-one, ap, append-nil, append_assoc, arith, inl, inr, length-append, length-drop, length-set, length-take, length-take-le}
-pub use Rattle.std.proofs.Common.{replicate, set, subst, sym, take-append-drop, take_all, zero-add, ◌-◌, ◌∙◌}
+pub use Rattle.std.proofs.Common.{replicate, set, subst, sym, take-append-drop, take_all, zero-add, ◌∙◌}
 pub use Rattle.std.proofs.Math.Path.{path_j}
 pub use Rattle.std.proofs.Math.Seq.{drop-cons, take-append_seam, take-suc}
 pub use Rattle.std.proofs.lemmas.Grind.{common_steps}
@@ -27,8 +27,6 @@ pub use Rattle.std.specs.Borrow.{Bor, Fml, RattleType, follows_so, sem}
 pub use Rattle.std.specs.DynBox.{dyn_box_with}
 pub use Rattle.std.specs.Io.Slices.{io_slice_bytes, io_slice_mut_bytes, io_slices_bytes}
 pub use Rattle.std.specs.IoError.{error_kind}
-pub use Rattle.std.specs.Prelude.{Err, IfNone, IfOk, IfSome, List, Ok, OnErr, OnOk, Result, [], drop, flat_map, get_or, length, map, min, refl, suc, take}
-pub use Rattle.std.specs.Prelude.{vec_capacity, vec_len, zero, ℕ, ⊤, ◌++◌, ◌+◌, ◌<◌, ◌∷◌, ◌≡◌, ◌≤◌}
 pub use Rattle.std.specs.declared.dyn_box.DynBox.{DynBox}
 pub use Rattle.std.specs.declared.io.Error.{Error}
 pub use Rattle.std.specs.declared.io.ErrorKind.{ErrorKind}

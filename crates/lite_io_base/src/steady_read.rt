@@ -1,4 +1,5 @@
-ghost use Rattle.lite_io_base.specs.Uses.{⊤, Runs};
+ghost use Rattle.std.specs.Prelude.{⊤};
+ghost use Rattle.lite_io_base.specs.Uses.{Runs};
 ghost use Rattle.lite_io_base.specs.Marks.{ReadMark};
 ghost use Rattle.lite_io_base.specs.Steady.{SteadyReadLaws};
 

@@ -1,4 +1,4 @@
-ghost use Rattle.lite_io_base.specs.Uses.{ℕ, List};
+ghost use Rattle.std.specs.Prelude.{ℕ, List};
 ghost use Rattle.lite_io_base.specs.SteadyWrite.{SteadyWriteLaws};
 
 use crate::async_write::AsyncWrite;

@@ -1,5 +1,6 @@
 -- What a run leaves whose last answer is Pending.
-use Rattle.lite_laws.specs.Uses.{List, [], ◌∷◌, ◌++◌, OnPending, Poll, Ready, Pending}
+use Rattle.std.specs.Prelude.{List, [], ◌∷◌, ◌++◌}
+use Rattle.lite_laws.specs.Uses.{OnPending, Poll, Ready, Pending}
 use Rattle.lite_laws.specs.Waits.{IfWaits}
 
 pub waits_last : {A : Type 0} (l : List (Poll A)) (a : Poll A) (P : Type 0) → OnPending a P → IfWaits (l ++ a ∷ []) P

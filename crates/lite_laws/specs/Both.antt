@@ -1,5 +1,6 @@
 -- Two runs of streams that are alike, and two of futures.
-use Rattle.lite_laws.specs.Uses.{◌≡◌, ◌⊎◌, ◌<◌, ℕ, List, [], length, Poll, SameAnswer, SameItem, Sameness, Answer, ComparableBy, strip, Finishes, Runs}
+use Rattle.std.specs.Prelude.{◌≡◌, ◌⊎◌, ◌<◌, ℕ, List, [], length}
+use Rattle.lite_laws.specs.Uses.{Poll, SameAnswer, SameItem, Sameness, Answer, ComparableBy, strip, Finishes, Runs}
 
 -- the two ran so, and where memory was found in both, or no poll asks for it, one list of answers begins the other,
 -- Pendings aside, where answers that are the same count as one

@@ -1,5 +1,6 @@
 -- What a run leaves in the list to which its answers are appended.
-use Rattle.lite_laws.specs.Uses.{◌≡◌, ◌<◌, ℕ, List, ◌++◌, length, Result, IfOk, IfErr, Vec, Global, Answer}
+use Rattle.std.specs.Prelude.{◌≡◌, ◌<◌, ℕ, List, ◌++◌, length, Result, IfOk, IfErr}
+use Rattle.lite_laws.specs.Uses.{Vec, Global, Answer}
 
 -- so many answers were appended where the result is Ok, and else fewer; P holds of their list
 abbrev pub Recorded : {A R E : Type 0} → (before after : Vec (Answer A) Global) → ℕ → Result R E

@@ -1,4 +1,4 @@
--- What the files of this crate take from the crates below. Each file has one list of it; a name that two modules have is imported from its own.
+-- What this crate's files take from other crates. The prelude, and a name that two modules have, are imported from where they are.
 pub use Rattle.futures.specs.Poll.{OnPending}
 pub use Rattle.futures.specs.Task.{Holds, Keeps, Lasting}
 pub use Rattle.futures.specs.declared.task.Poll.{Poll}
@@ -11,8 +11,7 @@ pub use Rattle.lite_base.specs.Future.Finishes.{Finishes}
 pub use Rattle.lite_base.specs.Laws.Alike.{alike_agrees}
 pub use Rattle.lite_base.specs.Laws.Future.Finishes.{finishes_found}
 pub use Rattle.lite_base.specs.Runs.{Runs}
-pub use Rattle.std.proofs.Common.{Err, Global, Ok, ap, append_assoc, arith, inl, inr, length-append, refl, rules, ◌∙◌, ◌≤◌}
+pub use Rattle.std.proofs.Common.{Err, Global, Ok, ap, append_assoc, arith, inl, inr, length-append, refl, rules, ◌∙◌}
 pub use Rattle.std.proofs.lemmas.Grind.{common_steps}
 pub use Rattle.std.proofs.lemmas.Result.{IfErr-at_err, on_err_weaker}
-pub use Rattle.std.specs.Prelude.{IfErr, IfOk, List, Result, [], length, vec_capacity, vec_len, ℕ, ⊤, ◌++◌, ◌+◌, ◌<◌, ◌∷◌, ◌≡◌, ◌⊎◌}
 pub use Rattle.std.specs.declared.vec.Vec.{Vec}

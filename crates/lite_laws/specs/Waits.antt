@@ -1,5 +1,6 @@
 -- What a run leaves whose last answer is Pending.
-use Rattle.lite_laws.specs.Uses.{⊤, List, [], ◌∷◌, OnPending, Holds, Lasting, Poll, Context}
+use Rattle.std.specs.Prelude.{⊤, List, [], ◌∷◌}
+use Rattle.lite_laws.specs.Uses.{OnPending, Holds, Lasting, Poll, Context}
 
 -- P holds if the last answer is Pending
 abbrev pub IfWaits : {A : Type 0} → List (Poll A) → Type 0 → Type 0

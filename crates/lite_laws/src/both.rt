@@ -1,4 +1,5 @@
-ghost use Rattle.lite_laws.specs.Uses.{◌≡◌, ◌+◌, ◌<◌, ◌⊎◌, ◌++◌, List, length, vec_capacity, vec_len, IfOk, IfErr, Keeps, Answer};
+ghost use Rattle.std.specs.Prelude.{◌≡◌, ◌+◌, ◌<◌, ◌⊎◌, ◌++◌, List, length, vec_capacity, vec_len, IfOk, IfErr};
+ghost use Rattle.lite_laws.specs.Uses.{Keeps, Answer};
 ghost use Rattle.lite_laws.specs.Both.{Agreed, Fewer};
 ghost use Rattle.lite_laws.specs.Waits.{HoldsEach, IfWaits};
 

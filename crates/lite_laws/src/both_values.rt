@@ -1,4 +1,4 @@
-ghost use Rattle.lite_laws.specs.Uses.{IfOk};
+ghost use Rattle.std.specs.Prelude.{IfOk};
 ghost use Rattle.lite_laws.specs.Both.{OneValue};
 
 use lite_base::SteadyFuture;

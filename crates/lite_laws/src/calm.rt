@@ -1,4 +1,5 @@
-ghost use Rattle.lite_laws.specs.Uses.{◌≡◌, ◌+◌, ◌<◌, ◌++◌, List, length, vec_capacity, vec_len, IfOk, IfErr, Keeps, Answer, NoPending};
+ghost use Rattle.std.specs.Prelude.{◌≡◌, ◌+◌, ◌<◌, ◌++◌, List, length, vec_capacity, vec_len, IfOk, IfErr};
+ghost use Rattle.lite_laws.specs.Uses.{Keeps, Answer, NoPending};
 
 use crate::polls::run;
 use lite_base::{CalmStream, Context, Poll};

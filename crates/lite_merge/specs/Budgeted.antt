@@ -1,5 +1,6 @@
 -- `with_budget`: a pending of its own after so many items in a row.
-use Rattle.lite_merge.specs.Uses.{ℕ, ⊤, [], ◌∷◌, Pending, Answer, Paces, left_behind, Ranks, Runs, AdapterParts, Through, parts_of}
+use Rattle.std.specs.Prelude.{ℕ, ⊤, [], ◌∷◌}
+use Rattle.lite_merge.specs.Uses.{Pending, Answer, Paces, left_behind, Ranks, Runs, AdapterParts, Through, parts_of}
 use Rattle.lite_merge.specs.declared.budgeted.Budgeted.{Budgeted}
 
 -- the source's list, with a pending where the budget is used up: so many items in a row

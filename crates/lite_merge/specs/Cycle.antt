@@ -1,6 +1,7 @@
 -- `cycle`: a stream's list before its first end, and then that of each copy of it, of which the first answer may be an
 -- end.
-use Rattle.lite_merge.specs.Uses.{◌≡◌, List, [], ◌∷◌, ◌++◌, Option, Some, None, IfSome, Result, Ok, Err, Answer, Endless, end, item, all_ok, Runs}
+use Rattle.std.specs.Prelude.{◌≡◌, List, [], ◌∷◌, ◌++◌, Option, Some, None, IfSome, Result, Ok, Err}
+use Rattle.lite_merge.specs.Uses.{Answer, Endless, end, item, all_ok, Runs}
 use Rattle.lite_merge.specs.declared.cycle.Cycle.{Cycle}
 
 module _ {S A : Type 0} (run : Runs (Answer A) S) where

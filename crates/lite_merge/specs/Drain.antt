@@ -1,5 +1,6 @@
 -- `drain`: an end in the place of each Pending.
-use Rattle.lite_merge.specs.Uses.{◌≡◌, List, [], ◌∷◌, MutBor, Ready, Pending, Answer, end, Lent, Runs, AdapterParts, Through, parts_of, Relates}
+use Rattle.std.specs.Prelude.{◌≡◌, List, [], ◌∷◌}
+use Rattle.lite_merge.specs.Uses.{MutBor, Ready, Pending, Answer, end, Lent, Runs, AdapterParts, Through, parts_of, Relates}
 use Rattle.lite_merge.specs.declared.drain.Drain.{Drain}
 
 -- an end for each Pending; an item and an end stay

@@ -1,6 +1,6 @@
 -- Two streams of which each row asks one first, and the other where that one has no item.
-use Rattle.lite_merge.specs.Uses.{◌≡◌, ◌⊎◌, ◌+◌, List, ◌∷◌, ◌++◌, Bool, false, Some, None, Ready, Pending, Lasting, Answer, item, Ranks, Rows, Runs, Fuses}
-use Rattle.lite_merge.specs.Uses.{Fuse}
+use Rattle.std.specs.Prelude.{◌≡◌, ◌⊎◌, ◌+◌, List, ◌∷◌, ◌++◌, Bool, false, Some, None}
+use Rattle.lite_merge.specs.Uses.{Ready, Pending, Lasting, Answer, item, Ranks, Rows, Runs, Fuses, Fuse}
 
 -- what goes out of an answer beside one that is pending: an item, and no end
 abbrev pub beside_pending : {A : Type 0} → Answer A → Answer A

@@ -1,5 +1,6 @@
 -- `or`: in each row the first stands first.
-use Rattle.lite_merge.specs.Uses.{map, true, Answer, Ranks, Runs}
+use Rattle.std.specs.Prelude.{map, true}
+use Rattle.lite_merge.specs.Uses.{Answer, Ranks, Runs}
 use Rattle.lite_merge.specs.Merge.{Merges, merge_ranks}
 use Rattle.lite_merge.specs.declared.or.Or.{Or}
 

@@ -1,5 +1,6 @@
 -- `race`: the generator's next word says which of the two stands first in each row.
-use Rattle.lite_merge.specs.Uses.{◌≡◌, ℕ, List, [], ◌∷◌, map, Stream, Answer, Words, is_first, Ranks, Runs}
+use Rattle.std.specs.Prelude.{◌≡◌, ℕ, List, [], ◌∷◌, map}
+use Rattle.lite_merge.specs.Uses.{Stream, Answer, Words, is_first, Ranks, Runs}
 use Rattle.lite_merge.specs.Merge.{Merges, merge_ranks}
 use Rattle.lite_merge.specs.declared.race.Race.{Race}
 

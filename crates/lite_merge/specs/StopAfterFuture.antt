@@ -1,7 +1,7 @@
 -- `stop_after_future`: a stream's list beside a future's, up to the future's value or the stream's end, and then ends;
 -- for ever the stream's once the future was taken out.
-use Rattle.lite_merge.specs.Uses.{◌≡◌, ◌+◌, List, [], ◌∷◌, ◌++◌, length, Some, None, Poll, Answer, Endless, Waiting, end, Finishes, Runs, AllEnds, Through}
-use Rattle.lite_merge.specs.Uses.{Relates}
+use Rattle.std.specs.Prelude.{◌≡◌, ◌+◌, List, [], ◌∷◌, ◌++◌, length, Some, None}
+use Rattle.lite_merge.specs.Uses.{Poll, Answer, Endless, Waiting, end, Finishes, Runs, AllEnds, Through, Relates}
 use Rattle.lite_merge.specs.declared.stop_after_future.StopAfterFuture.{StopAfterFuture}
 use Rattle.lite_merge.specs.declared.stop_after_future.Stopping.TheVariants.{Holding, TakenOut, Stopped}
 use Rattle.lite_merge.specs.declared.stop_after_future.Stopping.{Stopping}

@@ -1,6 +1,7 @@
 -- What else is said of `stop_after_future`: what its calls take out, where it may be polled, its hint, and what a
 -- pending registers.
-use Rattle.lite_merge.specs.Uses.{◌≡◌, ◌⊎◌, ℕ, Option, Some, None, IfSome, ⊤, Lasting, AdapterParts, parts_of, Hints}
+use Rattle.std.specs.Prelude.{◌≡◌, ◌⊎◌, ℕ, Option, Some, None, IfSome, ⊤}
+use Rattle.lite_merge.specs.Uses.{Lasting, AdapterParts, parts_of, Hints}
 use Rattle.lite_merge.specs.declared.stop_after_future.StopAfterFuture.{StopAfterFuture}
 use Rattle.lite_merge.specs.declared.stop_after_future.Stopping.TheVariants.{Holding, TakenOut, Stopped}
 use Rattle.lite_merge.specs.declared.stop_after_future.Stopping.{Stopping}

@@ -1,4 +1,4 @@
--- What the files of this crate take from the crates below. Each file has one list of it; a name that two modules have is imported from its own.
+-- What this crate's files take from other crates. The prelude, and a name that two modules have, are imported from where they are.
 pub use Rattle.futures.specs.Task.{Keeps, Lasting}
 pub use Rattle.futures.specs.declared.task.Poll.{Poll}
 pub use Rattle.futures.specs.declared.task.Poll.TheVariants.{Pending, Ready}
@@ -44,11 +44,9 @@ pub use Rattle.lite_stream.specs.Relates.{Relates}
 pub use Rattle.lite_stream.specs.Through.{AdapterParts, Through, parts_of}
 pub use Rattle.lite_stream.specs.declared.fuse.Fuse.{Fuse}
 pub use Rattle.rand_core.specs.Stream.{Stream, next_u32}
-pub use Rattle.std.proofs.Common.{ap, append-nil, append_assoc, arith, inl, inr, length-append, refl, sym, ◌∙◌, ◌≤◌}
+pub use Rattle.std.proofs.Common.{ap, append-nil, append_assoc, arith, inl, inr, length-append, refl, sym, ◌∙◌}
 pub use Rattle.std.proofs.lemmas.List.{map-append}
 pub use Rattle.std.specs.Borrow.{Lends, sem}
 pub use Rattle.std.specs.List.{AllByRecursion}
-pub use Rattle.std.specs.Prelude.{Bool, Err, IfSome, IsSome, IsTrue, List, MatchResult, None, Ok, Option, Result, Some, [], false, length, map, suc, true, zero}
-pub use Rattle.std.specs.Prelude.{ℕ, ⊤, ◌++◌, ◌+◌, ◌<◌, ◌↔◌, ◌∷◌, ◌≡◌, ◌⊎◌}
 pub use Rattle.std.specs.declared.alloc.AllocError.{AllocError}
 pub use denote.MutBor.{MutBor}

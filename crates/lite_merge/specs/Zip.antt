@@ -1,6 +1,6 @@
 -- `zip`: each item of the first waits while the second is pending, and makes a pair with the second's next item.
-use Rattle.lite_merge.specs.Uses.{◌≡◌, ◌⊎◌, ℕ, zero, suc, ◌+◌, List, [], ◌∷◌, Option, Some, None, Poll, Ready, Pending, Lasting, Answer, end, item, Ranks}
-use Rattle.lite_merge.specs.Uses.{held_rank, Runs}
+use Rattle.std.specs.Prelude.{◌≡◌, ◌⊎◌, ℕ, zero, suc, ◌+◌, List, [], ◌∷◌, Option, Some, None}
+use Rattle.lite_merge.specs.Uses.{Poll, Ready, Pending, Lasting, Answer, end, item, Ranks, held_rank, Runs}
 use Rattle.lite_merge.specs.declared.zip.Zip.{Zip}
 
 -- n Pendings, and then l

@@ -2,7 +2,8 @@
 ghost use Rattle.lite_merge.specs.Laws.Or.{or_calm};
 ghost use Rattle.lite_merge.specs.Laws.Race.{race_calm};
 ghost use Rattle.lite_merge.specs.Laws.Zip.{zip_calm};
-ghost use Rattle.lite_merge.specs.Uses.{⊤, through_calm};
+ghost use Rattle.std.specs.Prelude.{⊤};
+ghost use Rattle.lite_merge.specs.Uses.{through_calm};
 ghost use Rattle.lite_merge.specs.Cycle.{AllCopies};
 ghost use Rattle.lite_merge.specs.Laws.Cycle.{cycle_calm};
 ghost use Rattle.lite_merge.specs.Laws.Drain.{drain_calm};

@@ -1,4 +1,5 @@
-ghost use Rattle.lite_merge.specs.Uses.{◌≡◌, [], ◌∷◌, IfSome, None, Result, Some, AllocError, Keeps, Registered, NoHint};
+ghost use Rattle.std.specs.Prelude.{◌≡◌, [], ◌∷◌, IfSome, None, Result, Some};
+ghost use Rattle.lite_merge.specs.Uses.{AllocError, Keeps, Registered, NoHint};
 ghost use Rattle.lite_merge.specs.Cycle.{AllCopies, Cycles, Renews};
 ghost use Rattle.lite_merge.specs.Laws.Cycle.{cycle_laws};
 

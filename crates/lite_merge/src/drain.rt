@@ -1,4 +1,5 @@
-ghost use Rattle.lite_merge.specs.Uses.{◌≡◌, ℕ, Option, Lends, sem, lent_counting, lent_laws, ranks_of, laws_capped, through_counting};
+ghost use Rattle.std.specs.Prelude.{◌≡◌, ℕ, Option};
+ghost use Rattle.lite_merge.specs.Uses.{Lends, sem, lent_counting, lent_laws, ranks_of, laws_capped, through_counting};
 ghost use Rattle.lite_merge.specs.Drain.{Drains, drain_parts};
 ghost use Rattle.lite_merge.specs.Laws.Drain.{drained_relating};
 
@@ -15,7 +16,7 @@ pub struct Drain<'a, S> {
 
 impl<'a, S> Drain<'a, S> {
     ghost use mir.Syntax.{named};
-    ghost use Rattle.lite_merge.specs.Uses.{[]};
+    ghost use Rattle.std.specs.Prelude.{[]};
     ghost use Rattle.lite_merge.specs.contracts.drain.Drain.{the_row};
 
     /// The lent stream. Ported from `src/stream.rs`, `Drain::get_ref`.

@@ -1,5 +1,5 @@
 //! What makes the adapters.
-ghost use Rattle.lite_merge.specs.Uses.{◌≡◌, ◌<◌, None, false, MatchResult};
+ghost use Rattle.std.specs.Prelude.{◌≡◌, ◌<◌, None, false, MatchResult};
 ghost use Rattle.lite_merge.specs.Cycle.{CycleOf};
 ghost use Rattle.lite_merge.specs.declared.stop_after_future.Stopping.TheVariants.{Holding};
 

@@ -1,4 +1,5 @@
-ghost use Rattle.lite_merge.specs.Uses.{None, NoHint};
+ghost use Rattle.std.specs.Prelude.{None};
+ghost use Rattle.lite_merge.specs.Uses.{NoHint};
 ghost use Rattle.lite_merge.specs.Laws.Or.{or_counting, or_laws};
 ghost use Rattle.lite_merge.specs.Merge.{MergeRegisters};
 ghost use Rattle.lite_merge.specs.Or.{Ors, or_ranks};

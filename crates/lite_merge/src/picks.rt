@@ -1,5 +1,6 @@
 //! What `or` and `race` share: a poll of two streams in an order.
-ghost use Rattle.lite_merge.specs.Uses.{List, [], Keeps, Answer, Fuses, Registered};
+ghost use Rattle.std.specs.Prelude.{List, []};
+ghost use Rattle.lite_merge.specs.Uses.{Keeps, Answer, Fuses, Registered};
 ghost use Rattle.lite_merge.specs.Merge.{MergeRegisters, MergeRow};
 
 use lite_base::{Context, Poll, Stream};

@@ -1,4 +1,5 @@
-ghost use Rattle.lite_merge.specs.Uses.{None, NoHint};
+ghost use Rattle.std.specs.Prelude.{None};
+ghost use Rattle.lite_merge.specs.Uses.{NoHint};
 ghost use Rattle.lite_merge.specs.Laws.Race.{race_counting, race_laws};
 ghost use Rattle.lite_merge.specs.Merge.{MergeRegisters};
 ghost use Rattle.lite_merge.specs.Race.{RacesOn, race_ranks};

@@ -1,4 +1,5 @@
-ghost use Rattle.lite_merge.specs.Uses.{◌≡◌, ◌↔◌, IsSome, IsTrue, None, Some, ranks_of, through_counting};
+ghost use Rattle.std.specs.Prelude.{◌≡◌, ◌↔◌, IsSome, IsTrue, None, Some};
+ghost use Rattle.lite_merge.specs.Uses.{ranks_of, through_counting};
 ghost use Rattle.lite_merge.specs.Laws.StopAfterFuture.{stop_laws, stops_relating};
 ghost use Rattle.lite_merge.specs.StopAfterFuture.{Stops};
 ghost use Rattle.lite_merge.specs.Stopping.{CanStop, StopHints, StopRegisters, future_of, stop_parts};

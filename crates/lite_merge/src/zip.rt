@@ -1,4 +1,5 @@
-ghost use Rattle.lite_merge.specs.Uses.{◌≡◌, List, [], ◌∷◌, None, Keeps, Answer, Registered, NoHint};
+ghost use Rattle.std.specs.Prelude.{◌≡◌, List, [], ◌∷◌, None};
+ghost use Rattle.lite_merge.specs.Uses.{Keeps, Answer, Registered, NoHint};
 ghost use Rattle.lite_merge.specs.Laws.Zip.{zip_counting, zip_laws};
 ghost use Rattle.lite_merge.specs.Zip.{Pairs, WithHeld, ZipRegisters, Zips, zip_ranks};
 

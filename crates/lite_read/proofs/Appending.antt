@@ -1,7 +1,8 @@
 -- Steps and polls of `read_to_end`.
-use Rattle.lite_read.specs.Uses.{◌≡◌, ◌∙◌, ◌≤◌, ◌<◌, ◌+◌, ◌-◌, ℕ, List, [], ◌∷◌, length, take, Result, Err, refl, ap, sym, subst, arith, length-take-le}
-use Rattle.lite_read.specs.Uses.{take-length, ⊤, ◌*◌, max, vec_capacity, error_kind, Error, OutOfMemory, with_items, Vec, OnPending, Poll, Ready, Pending}
-use Rattle.lite_read.specs.Uses.{Ranks, up_to_one, segment_alone, segments_one, Runs, ReadCounting, ReadMark, bytes, moved, MarkLaws, Reaches}
+use Rattle.std.specs.Prelude.{◌≡◌, ◌≤◌, ◌<◌, ◌+◌, ◌-◌, ℕ, List, [], ◌∷◌, length, take, Result, Err, ⊤, ◌*◌, max, vec_capacity}
+use Rattle.lite_read.specs.Uses.{◌∙◌, refl, ap, sym, subst, arith, length-take-le, take-length, error_kind, Error, OutOfMemory, with_items, Vec, OnPending}
+use Rattle.lite_read.specs.Uses.{Poll, Ready, Pending, Ranks, up_to_one, segment_alone, segments_one, Runs, ReadCounting, ReadMark, bytes, moved, MarkLaws}
+use Rattle.lite_read.specs.Uses.{Reaches}
 use denote.MutBor.{MutBor}
 use borrow.Rule.Slice.PartMut.{put_mid}
 use Rattle.lite_read.proofs.Filling.{Behind, bytes_came, how_long, put_front, put_kept, put_len}

@@ -1,8 +1,8 @@
 -- What a fill, a search and what was consumed say of the cuts.
-use Rattle.lite_read.specs.Uses.{◌≡◌, ◌≢◌, ◌∙◌, ◌<◌, ◌≤◌, ◌+◌, ℕ, List, [], ◌∷◌, ◌++◌, All, Some, None, length, take, refl, ap, sym, subst, true, arith}
-use Rattle.lite_read.specs.Uses.{add-one, get_or, eqb-true, eq-eqb, zero-le, append-nil, append_assoc, length-take-le, get_or-take, map-append, All-from_get_or}
-use Rattle.lite_read.specs.Uses.{recursion_from_All, take-suc, AllByRecursion, FoldsTo, Poll, Ready, Pending, IsFirstByte, is_byte, ReadMark, bytes, filled}
-use Rattle.lite_read.specs.Uses.{MarkLaws, segment_alone, segments_one, Runs}
+use Rattle.std.specs.Prelude.{◌≡◌, ◌≢◌, ◌<◌, ◌≤◌, ◌+◌, ℕ, List, [], ◌∷◌, ◌++◌, Some, None, length, take, true}
+use Rattle.lite_read.specs.Uses.{◌∙◌, All, refl, ap, sym, subst, arith, add-one, get_or, eqb-true, eq-eqb, zero-le, append-nil, append_assoc, length-take-le}
+use Rattle.lite_read.specs.Uses.{get_or-take, map-append, All-from_get_or, recursion_from_All, take-suc, AllByRecursion, FoldsTo, Poll, Ready, Pending}
+use Rattle.lite_read.specs.Uses.{IsFirstByte, is_byte, ReadMark, bytes, filled, MarkLaws, segment_alone, segments_one, Runs}
 use Rattle.lite_read.specs.ReadFold.{AnswerMarks, ReadFold}
 use Rattle.lite_read.specs.Pieces.{Cut, CutsPiece, pieces}
 use Rattle.lite_read.specs.Segments.{Flows, StreamOver}

@@ -1,8 +1,9 @@
 -- What is known of the first line from what was seen of it.
-use Rattle.lite_read.specs.Uses.{◌≡◌, ◌≢◌, ℕ, zero, suc, ◌+◌, ◌-◌, ◌<◌, ◌≤◌, Bool, true, false, not, ◌&&◌, cond, List, [], ◌∷◌, length, take, drop, get_or, leb}
-use Rattle.lite_read.specs.Uses.{position, Some, sym, ap, ◌∙◌, arith, and_from, cond-false, cond-true, le-leb, lt-leb, lt-ltb, ne_eqb, drop_more, length-drop}
-use Rattle.lite_read.specs.Uses.{length-take, take-append-drop, leb-suc-suc, take-add, list_all-append, prefix_len-append, prefix_len-le-length, is_ascii}
-use Rattle.lite_read.specs.Uses.{before_first, list_all, position_or_len, prefix_len}
+use Rattle.std.specs.Prelude.{◌≡◌, ◌≢◌, ℕ, ◌+◌, ◌-◌, ◌<◌, ◌≤◌, Bool, true, List, [], ◌∷◌, length, take, drop, position, Some}
+use Rattle.std.proofs.Common.{◌&&◌}
+use Rattle.lite_read.specs.Uses.{zero, suc, false, not, cond, get_or, leb, sym, ap, ◌∙◌, arith, and_from, cond-false, cond-true, le-leb, lt-leb, lt-ltb, ne_eqb}
+use Rattle.lite_read.specs.Uses.{drop_more, length-drop, length-take, take-append-drop, leb-suc-suc, take-add, list_all-append, prefix_len-append}
+use Rattle.lite_read.specs.Uses.{prefix_len-le-length, is_ascii, before_first, list_all, position_or_len, prefix_len}
 use Rattle.std.proofs.lemmas.Bool.{eq-eqb}
 use Rattle.std.proofs.lemmas.List.{length-take-le}
 use Rattle.lite_read.specs.Scan.{IsPlain, LineGoesOn, is_newline}

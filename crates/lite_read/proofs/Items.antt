@@ -1,6 +1,7 @@
 -- The steps of a stream of the pieces of a reader.
-use Rattle.lite_read.specs.Uses.{inl, inr, ◌≡◌, ◌<◌, ◌≤◌, ◌+◌, ℕ, List, [], ◌∷◌, ◌++◌, Option, Some, None, Result, Ok, Err, length, take, refl, arith}
-use Rattle.lite_read.specs.Uses.{error_kind, ⊤, IfErr, IfOk, Error, OutOfMemory, Ready, Pending, IsFirstByte, is_byte, ReadMark, bytes, filled, MarkLaws, Runs}
+use Rattle.std.specs.Prelude.{◌≡◌, ◌<◌, ◌≤◌, ◌+◌, ℕ, List, [], ◌∷◌, ◌++◌, Option, Some, None, Result, Ok, Err, length, take, ⊤, IfErr, IfOk}
+use Rattle.lite_read.specs.Uses.{inl, inr, refl, arith, error_kind, Error, OutOfMemory, Ready, Pending, IsFirstByte, is_byte, ReadMark, bytes, filled, MarkLaws}
+use Rattle.lite_read.specs.Uses.{Runs}
 use Rattle.lite_read.specs.Pieces.{AtEnd, Cut, Itemised, pieces}
 use Rattle.lite_read.specs.Segments.{Flows, StreamOver}
 use Rattle.lite_read.specs.PieceSteps.{TakesPieceIn}

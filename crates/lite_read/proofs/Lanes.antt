@@ -1,7 +1,8 @@
 -- From the mask of one load to how many of its bytes pass a test.
-use Rattle.lite_read.specs.Uses.{◌≡◌, ℕ, ◌+◌, ◌%◌, ◌^◌, ◌≤◌, Bool, true, false, not, cond, List, map, length, leb, refl, sym, ap, ◌∙◌, arith, inl, inr}
-use Rattle.lite_read.specs.Uses.{cases_lt, le-leb, le-ltb, lt-leb, lt-ltb, map-map, mask_l-mod, length-chunk, first_set_mask_l, leading_from_mask_l, length-map}
-use Rattle.lite_read.specs.Uses.{is_ascii, prefix_len}
+use Rattle.std.specs.Prelude.{◌≡◌, ℕ, ◌+◌, ◌^◌, ◌≤◌, Bool, true, List, length}
+use Rattle.std.proofs.Common.{◌%◌}
+use Rattle.lite_read.specs.Uses.{false, not, cond, map, leb, refl, sym, ap, ◌∙◌, arith, inl, inr, cases_lt, le-leb, le-ltb, lt-leb, lt-ltb, map-map, mask_l-mod}
+use Rattle.lite_read.specs.Uses.{length-chunk, first_set_mask_l, leading_from_mask_l, length-map, is_ascii, prefix_len}
 use lib.Lanes.{chunk, mask_l, top}
 use Rattle.lite_read.specs.Scan.{first_set}
 

@@ -1,6 +1,7 @@
 -- The steps of `read_line`.
-use Rattle.lite_read.specs.Uses.{◌≡◌, ◌<◌, ◌+◌, ℕ, List, [], ◌++◌, Some, None, Result, Ok, Err, length, take, refl, sym, subst, arith, error_kind, FoldsTo}
-use Rattle.lite_read.specs.Uses.{string_bytes, Error, OutOfMemory, IsFirstByte, is_byte, Ready, ReadMark, bytes, filled, MarkLaws, Runs}
+use Rattle.std.specs.Prelude.{◌≡◌, ◌<◌, ◌+◌, ℕ, List, [], ◌++◌, Some, None, Result, Ok, Err, length, take, string_bytes}
+use Rattle.lite_read.specs.Uses.{refl, sym, subst, arith, error_kind, FoldsTo, Error, OutOfMemory, IsFirstByte, is_byte, Ready, ReadMark, bytes, filled}
+use Rattle.lite_read.specs.Uses.{MarkLaws, Runs}
 use Rattle.lite_read.specs.ReadFold.{AnswerMarks}
 use Rattle.lite_read.proofs.Cutting.{fill_then, found_at, found_none, takes_all}
 use Rattle.lite_read.specs.ReadUntil.{CountsPiece}

@@ -1,5 +1,6 @@
 -- Streams whose memory may be refused in fewer cases.
-use Rattle.lite_read.specs.Uses.{◌≡◌, ◌≤◌, ℕ, List, [], ◌∷◌, ⊤, Poll, Reaches, Runs, ReadMark, MarkLaws}
+use Rattle.std.specs.Prelude.{◌≡◌, ◌≤◌, ℕ, List, [], ◌∷◌, ⊤}
+use Rattle.lite_read.specs.Uses.{Poll, Reaches, Runs, ReadMark, MarkLaws}
 use Rattle.lite_read.specs.Laws.PollSteps.{steps_answer}
 use Rattle.lite_read.specs.Laws.Refusals.{pieces_weaker, segmented_weaker, takes_alike}
 use Rattle.lite_read.specs.Laws.Segments.{step_before}

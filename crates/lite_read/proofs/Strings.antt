@@ -1,7 +1,7 @@
 -- The steps of `read_to_string`.
-use Rattle.lite_read.specs.Uses.{◌≡◌, ◌∙◌, ◌≤◌, ◌<◌, ◌+◌, ◌-◌, ℕ, List, [], ◌∷◌, length, take, Result, Ok, Err, refl, ap, sym, subst, arith, length-take-le}
-use Rattle.lite_read.specs.Uses.{error_kind, ⊤, ◌*◌, max, string_bytes, with_items, Error, OutOfMemory, Ready, Pending, ReadMark, bytes, moved, segment_alone}
-use Rattle.lite_read.specs.Uses.{Runs}
+use Rattle.std.specs.Prelude.{◌≡◌, ◌≤◌, ◌<◌, ◌+◌, ◌-◌, ℕ, List, [], ◌∷◌, length, take, Result, Ok, Err, ⊤, ◌*◌, max, string_bytes}
+use Rattle.lite_read.specs.Uses.{◌∙◌, refl, ap, sym, subst, arith, length-take-le, error_kind, with_items, Error, OutOfMemory, Ready, Pending, ReadMark, bytes}
+use Rattle.lite_read.specs.Uses.{moved, segment_alone, Runs}
 use denote.MutBor.{MutBor}
 use borrow.Rule.Slice.PartMut.{put_mid}
 use Rattle.lite_read.proofs.Filling.{Behind, bytes_came, how_long, put_front, put_kept, put_len}

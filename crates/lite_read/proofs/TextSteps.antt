@@ -1,6 +1,7 @@
 -- Answers of futures that read for a text.
-use Rattle.lite_read.specs.Uses.{◌≡◌, ℕ, List, [], ◌∷◌, Result, refl, subst, sym, ⊤, string_bytes, Error, Poll, Ready, Pending, OnPending, Reaches, Ranks}
-use Rattle.lite_read.specs.Uses.{ReadCounting, ReadMark, MarkLaws, up_to_one, segment_alone, segments_one, Runs}
+use Rattle.std.specs.Prelude.{◌≡◌, ℕ, List, [], ◌∷◌, Result, ⊤, string_bytes}
+use Rattle.lite_read.specs.Uses.{refl, subst, sym, Error, Poll, Ready, Pending, OnPending, Reaches, Ranks, ReadCounting, ReadMark, MarkLaws, up_to_one}
+use Rattle.lite_read.specs.Uses.{segment_alone, segments_one, Runs}
 use denote.MutBor.{MutBor}
 use Rattle.lite_read.specs.ReadFold.{AnswerMarks, ReadFold}
 use Rattle.lite_read.specs.Laws.Refusals.{takes_alike}

@@ -1,8 +1,9 @@
 -- Lines of ASCII, and where they end.
-use Rattle.lite_read.specs.Uses.{◌≡◌, ◌∙◌, ◌<◌, ◌≤◌, ◌&&◌, ℕ, Bool, true, false, cond, ltb, List, ◌++◌, Option, Some, None, length, take, refl, ap, sym, subst}
-use Rattle.lite_read.specs.Uses.{arith, position, All, All-take, ltb-false, ltb-true, take_all, list_all-append, AllPass-from_list_all, fails_before_first}
-use Rattle.lite_read.specs.Uses.{passes_at_first, IsUtf8-from_ascii, IsAscii-from_all, is_ascii, before_first, list_all, position_or_len, IsUtf8, IsFirstByte}
-use Rattle.lite_read.specs.Uses.{is_byte}
+use Rattle.std.specs.Prelude.{◌≡◌, ◌<◌, ◌≤◌, ℕ, Bool, true, List, ◌++◌, Option, Some, None, length, take, position, IsUtf8}
+use Rattle.std.proofs.Common.{◌&&◌}
+use Rattle.lite_read.specs.Uses.{◌∙◌, false, cond, ltb, refl, ap, sym, subst, arith, All, All-take, ltb-false, ltb-true, take_all, list_all-append}
+use Rattle.lite_read.specs.Uses.{AllPass-from_list_all, fails_before_first, passes_at_first, IsUtf8-from_ascii, IsAscii-from_all, is_ascii, before_first}
+use Rattle.lite_read.specs.Uses.{list_all, position_or_len, IsFirstByte, is_byte}
 use Rattle.lite_read.specs.Scan.{is_newline}
 use Rattle.lite_read.specs.Find.{up_to}
 use Rattle.lite_read.specs.LineText.{without_return}

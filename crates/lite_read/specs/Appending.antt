@@ -1,5 +1,5 @@
 -- The vector of `read_to_end`: what was read stands at its front, and room behind it.
-use Rattle.lite_read.specs.Uses.{◌≡◌, ◌≤◌, ◌-◌, ◌*◌, ℕ, List, length, take, max, vec_capacity}
+use Rattle.std.specs.Prelude.{◌≡◌, ◌≤◌, ◌-◌, ◌*◌, ℕ, List, length, take, max, vec_capacity}
 use Rattle.lite_read.specs.declared.read_to_end.ReadToEndFuture.{ReadToEndFuture}
 
 module _ {R A : Type 0} where

@@ -1,5 +1,5 @@
 -- The pieces and the lines of bytes.
-use Rattle.lite_read.specs.Uses.{◌==◌, if◌then◌else◌, ℕ, List, [], ◌∷◌, ◌++◌}
+use Rattle.std.specs.Prelude.{◌==◌, if◌then◌else◌, ℕ, List, [], ◌∷◌, ◌++◌}
 use Rattle.lite_read.specs.LineText.{without_return}
 
 -- what is left at the end is a piece, if it is something

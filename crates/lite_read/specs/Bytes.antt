@@ -1,5 +1,6 @@
 -- `bytes`: a reader's marks, one by one.
-use Rattle.lite_read.specs.Uses.{◌≡◌, ℕ, List, [], ◌∷◌, ⊤, Some, None, Result, Ok, Err, error_kind, Error, Interrupted, Ready, Pending, Answer, Runs, ReadMark}
+use Rattle.std.specs.Prelude.{◌≡◌, ℕ, List, [], ◌∷◌, ⊤, Some, None, Result, Ok, Err}
+use Rattle.lite_read.specs.Uses.{error_kind, Error, Interrupted, Ready, Pending, Answer, Runs, ReadMark}
 use Rattle.lite_read.specs.declared.bytes.Bytes.{Bytes}
 
 -- A byte is an item, an end an end, and a pending `Pending`. An error is an item too, but an `Interrupted` one is

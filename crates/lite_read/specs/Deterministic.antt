@@ -1,5 +1,6 @@
 -- Folds of marks whose values hang on the marks alone.
-use Rattle.lite_read.specs.Uses.{◌≡◌, ℕ, List, [], ◌∷◌, ◌++◌, Result, Ok, Err, error_kind, FoldsTo, Error, Comparable, ReadMark, bytes, NoPendingRead}
+use Rattle.std.specs.Prelude.{◌≡◌, ℕ, List, [], ◌∷◌, ◌++◌, Result, Ok, Err}
+use Rattle.lite_read.specs.Uses.{error_kind, FoldsTo, Error, Comparable, ReadMark, bytes, NoPendingRead}
 use Rattle.lite_read.specs.ReadFold.{ReadFold}
 
 -- values that are the same, or errors of one kind

@@ -1,6 +1,6 @@
 -- `fill_buf`: one fill a poll, and the bytes that were lent.
-use Rattle.lite_read.specs.Uses.{◌≡◌, ℕ, List, Option, Some, None, Result, Ok, Err, Bor, MutBor, Error, Poll, Ready, Pending, ReadMark, fill_marks, LendsFront}
-use Rattle.lite_read.specs.Uses.{Runs}
+use Rattle.std.specs.Prelude.{◌≡◌, ℕ, List, Option, Some, None, Result, Ok, Err}
+use Rattle.lite_read.specs.Uses.{Bor, MutBor, Error, Poll, Ready, Pending, ReadMark, fill_marks, LendsFront, Runs}
 use Rattle.lite_read.specs.declared.fill_buf.FillBuf.{FillBuf}
 
 -- the future holds its reader, but where it has lent the reader's bytes

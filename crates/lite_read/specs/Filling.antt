@@ -1,5 +1,5 @@
 -- The buffer of `read_exact`: how far it is filled, and what stays.
-use Rattle.lite_read.specs.Uses.{◌≡◌, ◌≤◌, ℕ, List, length, take}
+use Rattle.std.specs.Prelude.{◌≡◌, ◌≤◌, ℕ, List, length, take}
 use Rattle.lite_read.specs.declared.read_exact.ReadExactFuture.{ReadExactFuture}
 
 -- the bytes that were read so far, and how many there is room for

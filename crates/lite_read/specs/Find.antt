@@ -1,5 +1,5 @@
 -- What stands before a place that was found.
-use Rattle.lite_read.specs.Uses.{ℕ, List, take, Option, Some, None}
+use Rattle.std.specs.Prelude.{ℕ, List, take, Option, Some, None}
 
 -- the bytes before this place, or all where there is none
 abbrev pub up_to : Option ℕ → List ℕ → List ℕ

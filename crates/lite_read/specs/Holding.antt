@@ -1,6 +1,6 @@
 -- What a future that reads for a text holds, and what stays.
-use Rattle.lite_read.specs.Uses.{◌≡◌, ◌≤◌, ◌⊎◌, ◌+◌, ◌-◌, ◌==◌, if◌then◌else◌, ℕ, List, min, max, string_capacity, string_len, vec_capacity, vec_len, String}
-use Rattle.lite_read.specs.Uses.{Vec}
+use Rattle.std.specs.Prelude.{◌≡◌, ◌≤◌, ◌⊎◌, ◌+◌, ◌-◌, ◌==◌, if◌then◌else◌, ℕ, List, min, max, string_capacity, string_len, vec_capacity, vec_len}
+use Rattle.lite_read.specs.Uses.{String, Vec}
 use denote.MutBor.{MutBor}
 
 -- so many bytes can become part of the text without memory: it has room for them, or is empty, and takes theirs

@@ -1,6 +1,6 @@
 -- Bytes as text.
-use Rattle.lite_read.specs.Uses.{◌≡◌, ◌-◌, ◌==◌, if◌then◌else◌, ℕ, List, length, take, slice_index, string_bytes, IsUtf8, Result, Ok, Err, Global, error_kind}
-use Rattle.lite_read.specs.Uses.{Error, InvalidData, String}
+use Rattle.std.specs.Prelude.{◌≡◌, ◌-◌, ◌==◌, if◌then◌else◌, ℕ, List, length, take, slice_index, string_bytes, IsUtf8, Result, Ok, Err}
+use Rattle.lite_read.specs.Uses.{Global, error_kind, Error, InvalidData, String}
 
 -- without its last byte, where that is a return, 0x0D
 abbrev pub without_return : List ℕ → List ℕ

@@ -1,5 +1,6 @@
 -- `lines`: the pieces between newlines, 0x0A, as text.
-use Rattle.lite_read.specs.Uses.{◌<◌, ◌+◌, ℕ, List, Option, Result, length, vec_capacity, Global, before_first, Error, String, Answer, Runs, ReadMark}
+use Rattle.std.specs.Prelude.{◌<◌, ◌+◌, ℕ, List, Option, Result, length, vec_capacity}
+use Rattle.lite_read.specs.Uses.{Global, before_first, Error, String, Answer, Runs, ReadMark}
 use Rattle.lite_read.specs.ReadFold.{ReadFold}
 use Rattle.lite_read.specs.Pieces.{Itemised, pieces}
 use Rattle.lite_read.specs.Segments.{Flows, StreamOver}

@@ -1,5 +1,6 @@
 -- Answers among which there is no refusal of memory.
-use Rattle.lite_read.specs.Uses.{◌≡◌, ◌≢◌, List, Result, Err, error_kind, AllByRecursion, Error, OutOfMemory, Answer, item}
+use Rattle.std.specs.Prelude.{◌≡◌, ◌≢◌, List, Result, Err}
+use Rattle.lite_read.specs.Uses.{error_kind, AllByRecursion, Error, OutOfMemory, Answer, item}
 
 -- a refusal is an error of the kind OutOfMemory
 abbrev pub NotRefused : {A : Type 0} → Answer (Result A Error) → Type 0

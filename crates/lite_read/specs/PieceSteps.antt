@@ -1,5 +1,6 @@
 -- The steps of a poll that go on: bytes were taken in.
-use Rattle.lite_read.specs.Uses.{◌≡◌, ◌≤◌, ReadMark, Runs}
+use Rattle.std.specs.Prelude.{◌≡◌, ◌≤◌}
+use Rattle.lite_read.specs.Uses.{ReadMark, Runs}
 use Rattle.lite_read.specs.ReadFold.{ReadFold}
 use Rattle.lite_read.specs.PollSteps.{TakesBytes}
 use Rattle.lite_read.specs.UntilVector.{UntilStays, read_of}

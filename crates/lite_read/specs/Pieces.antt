@@ -1,6 +1,6 @@
 -- How the bytes of a reader are cut into pieces: at each delimiter, and at an end.
-use Rattle.lite_read.specs.Uses.{◌≡◌, ◌≢◌, ◌<◌, ◌⊎◌, ⊤, ℕ, List, [], ◌∷◌, ◌++◌, length, Option, Some, None, Result, Err, error_kind, Error, OutOfMemory}
-use Rattle.lite_read.specs.Uses.{ReadMark}
+use Rattle.std.specs.Prelude.{◌≡◌, ◌≢◌, ◌<◌, ◌⊎◌, ⊤, ℕ, List, [], ◌∷◌, ◌++◌, length, Option, Some, None, Result, Err}
+use Rattle.lite_read.specs.Uses.{error_kind, Error, OutOfMemory, ReadMark}
 use Rattle.lite_read.specs.ReadFold.{ReadFold}
 
 -- the bytes before a delimiter; those before an end; an end with nothing before it; an error, which cuts nothing

@@ -1,5 +1,6 @@
 -- The steps of a poll that reads: what one takes in that goes on, and how one of `read_to_end` answers.
-use Rattle.lite_read.specs.Uses.{◌<◌, ℕ, List, [], ◌∷◌, length, Result, FoldsTo, Error, Poll, ReadMark, bytes, Runs}
+use Rattle.std.specs.Prelude.{◌<◌, ℕ, List, [], ◌∷◌, length, Result}
+use Rattle.lite_read.specs.Uses.{FoldsTo, Error, Poll, ReadMark, bytes, Runs}
 use Rattle.lite_read.specs.Appending as appending
 use Rattle.lite_read.specs.Appending.{read_front}
 use Rattle.lite_read.specs.Filling as filling

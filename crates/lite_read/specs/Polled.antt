@@ -1,5 +1,6 @@
 -- A future each poll of which is one call: it is pending where the call is, and its value is the call's.
-use Rattle.lite_read.specs.Uses.{◌≡◌, [], ◌∷◌, Poll, Ready, Pending, Runs}
+use Rattle.std.specs.Prelude.{◌≡◌, [], ◌∷◌}
+use Rattle.lite_read.specs.Uses.{Poll, Ready, Pending, Runs}
 
 -- the calls answered so, one after the other; the first value is the last answer
 abbrev pub PolledByCalls : {F A : Type 0} → (F → Poll A → F → Type 0) → Runs (Poll A) F

@@ -1,5 +1,6 @@
 -- `read`: one read into a buffer.
-use Rattle.lite_read.specs.Uses.{◌≡◌, ◌≤◌, ℕ, length, Result, IfOk, Error, IfReady, Poll, ReadMark, read_marks, Runs}
+use Rattle.std.specs.Prelude.{◌≡◌, ◌≤◌, ℕ, length, Result, IfOk}
+use Rattle.lite_read.specs.Uses.{Error, IfReady, Poll, ReadMark, read_marks, Runs}
 use Rattle.lite_read.specs.declared.read.ReadFuture.{ReadFuture}
 
 -- the reader ran by the marks of the answer; both references stay, and the buffer has its length

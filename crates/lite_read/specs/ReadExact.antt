@@ -1,5 +1,6 @@
 -- `read_exact`: bytes are taken in up to as many as there is room for.
-use Rattle.lite_read.specs.Uses.{◌≡◌, ◌<◌, List, [], ◌∷◌, ◌++◌, length, Result, Ok, Err, error_kind, Error, UnexpectedEof, Poll, ReadMark, Runs}
+use Rattle.std.specs.Prelude.{◌≡◌, ◌<◌, List, [], ◌∷◌, ◌++◌, length, Result, Ok, Err}
+use Rattle.lite_read.specs.Uses.{error_kind, Error, UnexpectedEof, Poll, ReadMark, Runs}
 use Rattle.lite_read.specs.Filling.{ExactStays, Filling, filling_of}
 use Rattle.lite_read.specs.ReadFold.{Gathers, ReadFold}
 use Rattle.lite_read.specs.declared.read_exact.ReadExactFuture.{ReadExactFuture}

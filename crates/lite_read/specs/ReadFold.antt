@@ -1,5 +1,6 @@
 -- What a future makes of what a reader tells: its bytes are taken in one after the other, until there is a value.
-use Rattle.lite_read.specs.Uses.{◌≡◌, ℕ, List, [], ◌∷◌, Poll, Ready, Pending, ReadMark, Question, Runs, UpToValue, Waiting, Segment, Segments, SegmentsToValue}
+use Rattle.std.specs.Prelude.{◌≡◌, ℕ, List, [], ◌∷◌}
+use Rattle.lite_read.specs.Uses.{Poll, Ready, Pending, ReadMark, Question, Runs, UpToValue, Waiting, Segment, Segments, SegmentsToValue}
 
 -- what is made of marks: which bytes are taken in, when more may be asked for, and what the value is
 pub record ReadFold (M R : Type 0) : Type 1 where

@@ -1,5 +1,6 @@
 -- `read_line`: what `read_until` reads up to a newline, 0x0A, goes to the end of a text.
-use Rattle.lite_read.specs.Uses.{◌≡◌, ◌≤◌, ◌<◌, ◌+◌, ℕ, List, Result, length, is_ascii, list_all, Error, Poll, ReadMark, Runs}
+use Rattle.std.specs.Prelude.{◌≡◌, ◌≤◌, ◌<◌, ◌+◌, ℕ, List, Result, length}
+use Rattle.lite_read.specs.Uses.{is_ascii, list_all, Error, Poll, ReadMark, Runs}
 use Rattle.lite_read.specs.BytePieces.{through_first}
 use Rattle.lite_read.specs.ReadUntil.{until_where}
 use Rattle.lite_read.specs.ReadFold.{ReadFold}

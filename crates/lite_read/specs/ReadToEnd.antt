@@ -1,6 +1,6 @@
 -- `read_to_end`: the bytes before the first end are appended.
-use Rattle.lite_read.specs.Uses.{◌≡◌, ◌<◌, ◌+◌, ◌*◌, ℕ, List, [], ◌∷◌, ◌++◌, length, max, Result, Ok, Err, ⊤, vec_capacity, error_kind, Error, OutOfMemory}
-use Rattle.lite_read.specs.Uses.{Poll, ReadMark, Runs}
+use Rattle.std.specs.Prelude.{◌≡◌, ◌<◌, ◌+◌, ◌*◌, ℕ, List, [], ◌∷◌, ◌++◌, length, max, Result, Ok, Err, ⊤, vec_capacity}
+use Rattle.lite_read.specs.Uses.{error_kind, Error, OutOfMemory, Poll, ReadMark, Runs}
 use Rattle.lite_read.specs.Appending.{ToEndStays, VectorGrows}
 use Rattle.lite_read.specs.ReadFold.{Gathers, GathersByRoom, ReadFold}
 use Rattle.lite_read.specs.declared.read_to_end.ReadToEndFuture.{ReadToEndFuture}

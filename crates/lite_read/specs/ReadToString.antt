@@ -1,5 +1,6 @@
 -- `read_to_string`: what `read_to_end` reads goes to the end of a text.
-use Rattle.lite_read.specs.Uses.{◌≡◌, ◌≤◌, ◌<◌, ◌+◌, ◌-◌, ◌*◌, ℕ, List, length, max, take, Result, Error, Poll, ReadMark, Runs}
+use Rattle.std.specs.Prelude.{◌≡◌, ◌≤◌, ◌<◌, ◌+◌, ◌-◌, ◌*◌, ℕ, List, length, max, take, Result}
+use Rattle.lite_read.specs.Uses.{Error, Poll, ReadMark, Runs}
 use Rattle.lite_read.specs.ReadFold.{ReadFold}
 use Rattle.lite_read.specs.ReadToEnd.{appends_where, next_read}
 use Rattle.lite_read.specs.Holding.{HasRoomFor, TextOver, room_for}

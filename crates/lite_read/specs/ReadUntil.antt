@@ -1,5 +1,6 @@
 -- `read_until`: a piece with its delimiter goes to the end of a vector.
-use Rattle.lite_read.specs.Uses.{◌≡◌, ◌≤◌, ◌<◌, ◌+◌, ℕ, List, [], ◌∷◌, ◌++◌, length, Result, Ok, Err, vec_capacity, Error, Poll, ReadMark, Runs}
+use Rattle.std.specs.Prelude.{◌≡◌, ◌≤◌, ◌<◌, ◌+◌, ℕ, List, [], ◌∷◌, ◌++◌, length, Result, Ok, Err, vec_capacity}
+use Rattle.lite_read.specs.Uses.{Error, Poll, ReadMark, Runs}
 use Rattle.lite_read.specs.ReadFold.{Gathers, GathersByRoom, ReadFold}
 use Rattle.lite_read.specs.UntilVector.{UntilStays, read_of}
 use Rattle.lite_read.specs.BytePieces.{through_first}

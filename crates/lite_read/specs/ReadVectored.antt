@@ -1,5 +1,6 @@
 -- `read_vectored`: one read into buffers.
-use Rattle.lite_read.specs.Uses.{◌≡◌, ◌≤◌, ℕ, List, length, Some, Result, IfOk, MutBor, Error, IoSliceMut, IfReady, Poll, ReadMark, ReadsInto, room_in, Runs}
+use Rattle.std.specs.Prelude.{◌≡◌, ◌≤◌, ℕ, List, length, Some, Result, IfOk}
+use Rattle.lite_read.specs.Uses.{MutBor, Error, IoSliceMut, IfReady, Poll, ReadMark, ReadsInto, room_in, Runs}
 use Rattle.lite_read.specs.declared.read_vectored.ReadVectoredFuture.{ReadVectoredFuture}
 
 -- The reader read as into one buffer that has the room of them all. Both references stay, and so does the number of

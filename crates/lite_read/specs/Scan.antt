@@ -1,6 +1,7 @@
 -- The first line of some bytes: `position is_newline bytes` is where it ends, `before_first is_newline bytes` is the
 -- line.
-use Rattle.lite_read.specs.Uses.{ℕ, Bool, true, List, length, take, ◌==◌, ◌≡◌, ◌≤◌, if◌then◌else◌, is_ascii, list_all, position_or_len, w64, trailing_zeros}
+use Rattle.std.specs.Prelude.{ℕ, Bool, true, List, length, take, ◌==◌, ◌≡◌, ◌≤◌, if◌then◌else◌}
+use Rattle.lite_read.specs.Uses.{is_ascii, list_all, position_or_len, w64, trailing_zeros}
 
 -- the byte is a newline, 0x0A
 abbrev pub is_newline : ℕ → Bool

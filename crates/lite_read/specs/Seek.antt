@@ -1,5 +1,6 @@
 -- `seek`: one seek.
-use Rattle.lite_read.specs.Uses.{◌≡◌, ℕ, Result, Error, ErrorKind, SeekFrom, Poll, by_kind}
+use Rattle.std.specs.Prelude.{◌≡◌, ℕ, Result}
+use Rattle.lite_read.specs.Uses.{Error, ErrorKind, SeekFrom, Poll, by_kind}
 use Rattle.lite_read.specs.declared.seek.SeekFuture.{SeekFuture}
 
 -- the seeker answered the seek; the reference and the place stay

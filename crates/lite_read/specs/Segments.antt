@@ -1,5 +1,6 @@
 -- What a stream makes of what a reader tells: the marks are cut into segments, one for each answer.
-use Rattle.lite_read.specs.Uses.{◌≡◌, ℕ, List, [], Poll, ReadMark, Runs}
+use Rattle.std.specs.Prelude.{◌≡◌, ℕ, List, []}
+use Rattle.lite_read.specs.Uses.{Poll, ReadMark, Runs}
 use Rattle.lite_read.specs.ReadFold.{ReadFold}
 pub use Rattle.lite_read.specs.ReadFold.{PieceSegments, Segmented}
 

@@ -1,6 +1,6 @@
 -- `split`: the pieces without their delimiters.
-use Rattle.lite_read.specs.Uses.{◌≡◌, ◌<◌, ◌+◌, ℕ, List, Option, Result, Ok, Err, length, vec_capacity, Global, before_first, Error, Vec, is_byte, Answer, Runs}
-use Rattle.lite_read.specs.Uses.{ReadMark}
+use Rattle.std.specs.Prelude.{◌≡◌, ◌<◌, ◌+◌, ℕ, List, Option, Result, Ok, Err, length, vec_capacity}
+use Rattle.lite_read.specs.Uses.{Global, before_first, Error, Vec, is_byte, Answer, Runs, ReadMark}
 use Rattle.lite_read.specs.ReadFold.{ReadFold}
 use Rattle.lite_read.specs.Pieces.{Itemised, pieces}
 use Rattle.lite_read.specs.Segments.{Flows, StreamOver}

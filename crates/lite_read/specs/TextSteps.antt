@@ -1,5 +1,6 @@
 -- The steps of a poll that reads for a text.
-use Rattle.lite_read.specs.Uses.{◌≡◌, ℕ, List, [], ◌∷◌, Result, string_bytes, Error, Poll, ReadMark, Runs}
+use Rattle.std.specs.Prelude.{◌≡◌, ℕ, List, [], ◌∷◌, Result, string_bytes}
+use Rattle.lite_read.specs.Uses.{Error, Poll, ReadMark, Runs}
 use Rattle.lite_read.specs.ReadFold.{ReadFold}
 use Rattle.lite_read.specs.PollSteps.{TakesBytes}
 use Rattle.lite_read.specs.Holding.{TextOver, TextStays}

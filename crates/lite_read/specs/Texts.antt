@@ -1,5 +1,6 @@
 -- Bytes that are read for a text, and what the text gains.
-use Rattle.lite_read.specs.Uses.{◌≡◌, ◌⊎◌, ℕ, List, [], ◌++◌, Result, Ok, Err, IsUtf8, string_bytes, error_kind, Error, InvalidData, Poll, ReadMark, Runs}
+use Rattle.std.specs.Prelude.{◌≡◌, ◌⊎◌, ℕ, List, [], ◌++◌, Result, Ok, Err, IsUtf8, string_bytes}
+use Rattle.lite_read.specs.Uses.{error_kind, Error, InvalidData, Poll, ReadMark, Runs}
 use Rattle.lite_read.specs.ReadFold.{Gathers, GathersByRoom, ReadFold}
 use Rattle.lite_read.specs.Holding.{TextOver, TextStays}
 

@@ -1,5 +1,5 @@
 -- The vector of `read_until`: what stood there before stays, and what is read goes behind it.
-use Rattle.lite_read.specs.Uses.{◌≡◌, ◌≤◌, ℕ, List, length, take, drop, vec_capacity}
+use Rattle.std.specs.Prelude.{◌≡◌, ◌≤◌, ℕ, List, length, take, drop, vec_capacity}
 use Rattle.lite_read.specs.declared.read_until.ReadUntilFuture.{ReadUntilFuture}
 
 -- what was read so far

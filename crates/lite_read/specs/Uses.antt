@@ -1,4 +1,4 @@
--- What the files of this crate take from the crates below. Each file has one list of it; a name that two modules have is imported from its own.
+-- What this crate's files take from other crates. The prelude, and a name that two modules have, are imported from where they are.
 pub use Rattle.futures.specs.Poll.{IfReady, OnPending}
 pub use Rattle.futures.specs.Task.{Keeps}
 pub use Rattle.futures.specs.declared.task.Poll.{Poll}
@@ -44,7 +44,7 @@ pub use Rattle.lite_io_base.specs.Runs.{Idle, LendsFront, MarkLaws, ReadsInto, r
 pub use Rattle.lite_io_base.specs.Steady.{CalmReadLaws, NoPendingRead, SteadyReadLaws, strip_marks}
 pub use Rattle.memchr.specs.Find.{IsFirstByte, is_byte}
 pub use Rattle.std.proofs.Common.{All, Global, add-one, ap, append-nil, append_assoc, arith, cond, eq-eqb, eqb-true, false, get_or, get_or-take, inl, inr}
-pub use Rattle.std.proofs.Common.{le_refl, leb, length-append, length-take-le, ltb, map, not, refl, rules, subst, suc, sym, zero, zero-le, ◌%◌, ◌&&◌, ◌∙◌}
+pub use Rattle.std.proofs.Common.{le_refl, leb, length-append, length-take-le, ltb, map, not, refl, rules, subst, suc, sym, zero, zero-le, ◌∙◌}
 pub use Rattle.std.proofs.Math.Dec.{leb-suc-suc}
 pub use Rattle.std.proofs.Math.Seq.{take-add, take-append-add, take-length, take-suc}
 pub use Rattle.std.proofs.lemmas.Bool.{and_from, and_parts, cases_lt, cond-false, cond-true, le-leb, le-ltb, lt-leb, lt-ltb, ltb-false, ltb-true, ne_eqb}
@@ -62,9 +62,6 @@ pub use Rattle.std.specs.Char.{is_ascii}
 pub use Rattle.std.specs.Int.{trailing_zeros, w64}
 pub use Rattle.std.specs.IoError.{error_kind}
 pub use Rattle.std.specs.List.{AllByRecursion, FoldsTo, before_first, list_all, position_or_len, prefix_len}
-pub use Rattle.std.specs.Prelude.{Bool, Err, IfErr, IfOk, IfSome, IsSome, IsTrue, IsUtf8, List, MatchBool, None, Ok, OnErr, OnOk, Option, Result, Some, []}
-pub use Rattle.std.specs.Prelude.{drop, if◌then◌else◌, length, max, min, position, slice_index, string_bytes, string_capacity, string_len, take, true}
-pub use Rattle.std.specs.Prelude.{vec_capacity, vec_len, ℕ, ⊤, ◌*◌, ◌++◌, ◌+◌, ◌-◌, ◌<◌, ◌==◌, ◌^◌, ◌∷◌, ◌≡◌, ◌≢◌, ◌≤◌, ◌⊎◌}
 pub use Rattle.std.specs.Vec.{with_items}
 pub use Rattle.std.specs.declared.io.Error.{Error}
 pub use Rattle.std.specs.declared.io.ErrorKind.{ErrorKind}

@@ -1,5 +1,6 @@
 //! What is lent goes to the end of a vector.
-ghost use Rattle.lite_read.specs.Uses.{◌≡◌, ◌≤◌, ◌<◌, ◌+◌, ◌++◌, length, take, vec_capacity, IfErr, IfOk, error_kind, OutOfMemory, bytes};
+ghost use Rattle.std.specs.Prelude.{◌≡◌, ◌≤◌, ◌<◌, ◌+◌, ◌++◌, length, take, vec_capacity, IfErr, IfOk};
+ghost use Rattle.lite_read.specs.Uses.{error_kind, OutOfMemory, bytes};
 
 use lite_io_base::AsyncBufRead;
 use std::io;

@@ -1,4 +1,5 @@
-ghost use Rattle.lite_read.specs.Uses.{None, ranks_of, NoHint, idle_laws, Idle, HoldsWoken};
+ghost use Rattle.std.specs.Prelude.{None};
+ghost use Rattle.lite_read.specs.Uses.{ranks_of, NoHint, idle_laws, Idle, HoldsWoken};
 ghost use Rattle.lite_read.specs.Bytes.{TellsBytes};
 ghost use Rattle.lite_read.specs.Laws.Bytes.{bytes_counting, bytes_laws, inner_counting, inner_laws};
 

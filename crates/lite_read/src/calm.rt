@@ -1,5 +1,5 @@
 //! The futures that are never pending where their reader isn't.
-ghost use Rattle.lite_read.specs.Uses.{IfSome, ⊤};
+ghost use Rattle.std.specs.Prelude.{IfSome, ⊤};
 ghost use Rattle.lite_read.specs.Laws.Bytes.{inner_calm};
 ghost use Rattle.lite_read.specs.Laws.CalmRead.{fill_calm, read_calm, vectored_calm};
 ghost use Rattle.lite_read.specs.Laws.SteadyReadExact.{exact_calm};

@@ -1,4 +1,4 @@
-ghost use Rattle.lite_read.specs.Uses.{◌≡◌, IsSome, IfSome};
+ghost use Rattle.std.specs.Prelude.{◌≡◌, IsSome, IfSome};
 ghost use Rattle.lite_read.specs.FillBuf.{FillsOnce};
 ghost use Rattle.lite_read.specs.Laws.Polled.{polled_laws};
 ghost use Rattle.lite_read.specs.Polled.{PolledByCalls};

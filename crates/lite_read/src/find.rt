@@ -1,5 +1,6 @@
 //! Fills that look at what is there, and lend nothing.
-ghost use Rattle.lite_read.specs.Uses.{◌≡◌, ◌+◌, ◌<◌, ◌^◌, IfOk, IfSome, is_ascii, list_all, IfReady, Keeps, fill_marks, IsFirstByte, is_byte, Registered};
+ghost use Rattle.std.specs.Prelude.{◌≡◌, ◌+◌, ◌<◌, ◌^◌, IfOk, IfSome};
+ghost use Rattle.lite_read.specs.Uses.{is_ascii, list_all, IfReady, Keeps, fill_marks, IsFirstByte, is_byte, Registered};
 ghost use Rattle.lite_read.specs.Find.{up_to};
 
 use crate::{LineScan, scan_line};

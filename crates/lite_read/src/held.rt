@@ -1,6 +1,7 @@
 //! Bytes that are read for a text, which has room for them all or is empty, so that they become part of it without memory.
-ghost use Rattle.lite_read.specs.Uses.{◌≡◌, ◌≤◌, ◌<◌, ◌++◌, [], ◌+◌, true, length, take, IfErr, IfOk, IsUtf8, MatchBool, OnErr, OnOk, string_bytes};
-ghost use Rattle.lite_read.specs.Uses.{string_capacity, string_len, vec_capacity, error_kind, OutOfMemory};
+ghost use Rattle.std.specs.Prelude.{◌≡◌, ◌≤◌, ◌<◌, ◌++◌, [], ◌+◌, true, length, take, IfErr, IfOk, IsUtf8, MatchBool, OnErr, OnOk, string_bytes};
+ghost use Rattle.std.specs.Prelude.{string_capacity, string_len, vec_capacity};
+ghost use Rattle.lite_read.specs.Uses.{error_kind, OutOfMemory};
 ghost use Rattle.lite_io_base.specs.Marks.{bytes as read_bytes};
 ghost use Rattle.lite_read.specs.Holding.{CanTakeIn, HasRoomFor, room_for};
 ghost use Rattle.lite_read.specs.Texts.{AppendsText, ValueOf};

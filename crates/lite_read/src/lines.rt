@@ -1,5 +1,5 @@
-ghost use Rattle.lite_read.specs.Uses.{⊤, ◌≡◌, ◌≤◌, ◌<◌, ◌++◌, ◌+◌, [], ◌∷◌, None, length, take, vec_capacity, IfErr, IfOk, is_ascii, error_kind, list_all};
-ghost use Rattle.lite_read.specs.Uses.{OutOfMemory, OneStep, Terminates-map, NoHint, bytes, Keeps, Registered};
+ghost use Rattle.std.specs.Prelude.{⊤, ◌≡◌, ◌≤◌, ◌<◌, ◌++◌, ◌+◌, [], ◌∷◌, None, length, take, vec_capacity, IfErr, IfOk};
+ghost use Rattle.lite_read.specs.Uses.{is_ascii, error_kind, list_all, OutOfMemory, OneStep, Terminates-map, NoHint, bytes, Keeps, Registered};
 ghost use Rattle.lite_read.specs.Laws.PollSteps.{takes_given};
 ghost use Rattle.lite_read.specs.Laws.Segments.{flow_laws};
 ghost use Rattle.lite_read.specs.Lines.{GivesLines, LineLacksRoom, lines_over, lining};

@@ -1,5 +1,5 @@
 //! What makes the futures.
-ghost use Rattle.lite_read.specs.Uses.{◌≡◌, length, Some, []};
+ghost use Rattle.std.specs.Prelude.{◌≡◌, length, Some, []};
 ghost use Rattle.lite_read.specs.ReadLine.{LineHolds};
 ghost use Rattle.lite_read.specs.ReadToString.{StringHolds as AllHolds, text_front};
 

@@ -1,5 +1,5 @@
 //! Ranks over `Ok` items. Memory may be refused as often as it is asked for, so no rank falls with each item.
-ghost use Rattle.lite_read.specs.Uses.{⊤};
+ghost use Rattle.std.specs.Prelude.{⊤};
 ghost use Rattle.lite_read.specs.Laws.Counting.{flow_counting, flow_ranks};
 ghost use Rattle.lite_read.specs.Lines.{lines_over};
 ghost use Rattle.lite_read.specs.Split.{IsVec, split_over};

@@ -1,4 +1,5 @@
-ghost use Rattle.lite_read.specs.Uses.{◌≤◌, ◌-◌, [], ◌∷◌, length, OneStep, Terminates-count};
+ghost use Rattle.std.specs.Prelude.{◌≤◌, ◌-◌, [], ◌∷◌, length};
+ghost use Rattle.lite_read.specs.Uses.{OneStep, Terminates-count};
 ghost use Rattle.lite_read.specs.Laws.ReadExact.{exact_laws, room_falls};
 ghost use Rattle.lite_read.specs.ReadExact.{ReadsExactly};
 ghost use Rattle.lite_read.specs.PollSteps.{ReadsMore};

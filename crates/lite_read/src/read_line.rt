@@ -1,5 +1,5 @@
-ghost use Rattle.lite_read.specs.Uses.{⊤, ◌≡◌, ◌≤◌, ◌<◌, ◌++◌, ◌+◌, Ok, length, take, IfErr, IfOk, string_bytes, is_ascii, error_kind, list_all, OutOfMemory};
-ghost use Rattle.lite_read.specs.Uses.{OneStep, Terminates-map, bytes};
+ghost use Rattle.std.specs.Prelude.{⊤, ◌≡◌, ◌≤◌, ◌<◌, ◌++◌, ◌+◌, Ok, length, take, IfErr, IfOk, string_bytes};
+ghost use Rattle.lite_read.specs.Uses.{is_ascii, error_kind, list_all, OutOfMemory, OneStep, Terminates-map, bytes};
 ghost use Rattle.lite_read.specs.Laws.PollSteps.{takes_given};
 ghost use Rattle.lite_read.specs.Holding.{TextStays, room_for};
 ghost use Rattle.lite_read.specs.Laws.Texts.{line_room, text_room_laws};

@@ -1,4 +1,5 @@
-ghost use Rattle.lite_read.specs.Uses.{◌≡◌, ◌≤◌, ◌<◌, ◌+◌, max, length, vec_capacity, ⊤, OnErr, OnOk, OneStep};
+ghost use Rattle.std.specs.Prelude.{◌≡◌, ◌≤◌, ◌<◌, ◌+◌, max, length, vec_capacity, ⊤, OnErr, OnOk};
+ghost use Rattle.lite_read.specs.Uses.{OneStep};
 ghost use Rattle.lite_read.specs.Appending.{CanAppend, read_front};
 ghost use Rattle.lite_read.specs.Laws.ReadToEnd.{some_falls, steps_on, to_end_room_laws};
 ghost use Rattle.lite_read.specs.ReadToEnd.{ReadsToEndByRoom};

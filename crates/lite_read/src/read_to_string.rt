@@ -1,4 +1,5 @@
-ghost use Rattle.lite_read.specs.Uses.{⊤, ◌≡◌, ◌≤◌, ◌<◌, ◌+◌, max, length, take, OnErr, OnOk, string_bytes, OneStep, Terminates-map, bytes};
+ghost use Rattle.std.specs.Prelude.{⊤, ◌≡◌, ◌≤◌, ◌<◌, ◌+◌, max, length, take, OnErr, OnOk, string_bytes};
+ghost use Rattle.lite_read.specs.Uses.{OneStep, Terminates-map, bytes};
 ghost use Rattle.lite_read.specs.Laws.PollSteps.{takes_given};
 ghost use Rattle.lite_read.specs.Holding.{TextStays, room_for};
 ghost use Rattle.lite_read.specs.Laws.Texts.{string_room, text_room_laws};

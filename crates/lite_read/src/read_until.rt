@@ -1,4 +1,5 @@
-ghost use Rattle.lite_read.specs.Uses.{⊤, ◌≤◌, [], ◌∷◌, length, OneStep, Terminates-map, bytes};
+ghost use Rattle.std.specs.Prelude.{⊤, ◌≤◌, [], ◌∷◌, length};
+ghost use Rattle.lite_read.specs.Uses.{OneStep, Terminates-map, bytes};
 ghost use Rattle.lite_read.specs.Laws.PollSteps.{takes_given};
 ghost use Rattle.lite_read.specs.Laws.ReadUntil.{stays_within, until_room_laws};
 ghost use Rattle.lite_read.specs.ReadUntil.{ReadsUntil, ReadsUntilByRoom, UntilLacksRoom};

@@ -1,4 +1,4 @@
-ghost use Rattle.lite_read.specs.Uses.{IsSome};
+ghost use Rattle.std.specs.Prelude.{IsSome};
 ghost use Rattle.lite_read.specs.Laws.Polled.{polled_laws};
 ghost use Rattle.lite_read.specs.Polled.{PolledByCalls};
 ghost use Rattle.lite_read.specs.ReadVectored.{ReadsVectored};

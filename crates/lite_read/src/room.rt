@@ -1,5 +1,5 @@
 //! How much room is made for a read.
-ghost use Rattle.lite_read.specs.Uses.{◌≡◌, ◌≤◌, ◌<◌, ◌*◌, length, max, take, vec_capacity, OnErr, OnOk};
+ghost use Rattle.std.specs.Prelude.{◌≡◌, ◌≤◌, ◌<◌, ◌*◌, length, max, take, vec_capacity, OnErr, OnOk};
 
 use std::alloc::{AllocError, Allocator};
 

@@ -1,5 +1,6 @@
 //! Where a line ends.
-ghost use Rattle.lite_read.specs.Uses.{◌≡◌, ◌+◌, ◌≤◌, length, take, drop, position, IsTrue, is_ascii, before_first, list_all, position_or_len, prefix_len};
+ghost use Rattle.std.specs.Prelude.{◌≡◌, ◌+◌, ◌≤◌, length, take, drop, position, IsTrue};
+ghost use Rattle.lite_read.specs.Uses.{is_ascii, before_first, list_all, position_or_len, prefix_len};
 ghost use Rattle.lite_read.specs.Scan.{IsPlain, LineGoesOn, first_set, is_newline};
 
 use std::simd::prelude::*;

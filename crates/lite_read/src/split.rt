@@ -1,5 +1,5 @@
-ghost use Rattle.lite_read.specs.Uses.{⊤, ◌≡◌, ◌≤◌, ◌<◌, ◌++◌, ◌+◌, Option, None, [], ◌∷◌, length, take, vec_capacity, IfErr, IfOk, error_kind, OutOfMemory};
-ghost use Rattle.lite_read.specs.Uses.{OneStep, Terminates-map, NoHint, bytes, Keeps, Registered};
+ghost use Rattle.std.specs.Prelude.{⊤, ◌≡◌, ◌≤◌, ◌<◌, ◌++◌, ◌+◌, Option, None, [], ◌∷◌, length, take, vec_capacity, IfErr, IfOk};
+ghost use Rattle.lite_read.specs.Uses.{error_kind, OutOfMemory, OneStep, Terminates-map, NoHint, bytes, Keeps, Registered};
 ghost use Rattle.lite_read.specs.Laws.PollSteps.{takes_given};
 ghost use Rattle.lite_read.specs.Laws.Segments.{flow_laws};
 ghost use Rattle.lite_read.specs.Pieces.{AtEnd};

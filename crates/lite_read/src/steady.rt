@@ -1,5 +1,6 @@
 //! The futures and streams whose answers do not depend on when their reader was pending.
-ghost use Rattle.lite_read.specs.Uses.{Sameness, ⊤};
+ghost use Rattle.std.specs.Prelude.{⊤};
+ghost use Rattle.lite_read.specs.Uses.{Sameness};
 ghost use Rattle.lite_read.specs.Bytes.{TellsBytes};
 ghost use Rattle.lite_read.specs.Laws.Bytes.{inner_steady};
 ghost use Rattle.lite_read.specs.Laws.SteadyBytes.{bytes_steady};

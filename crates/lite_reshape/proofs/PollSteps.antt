@@ -1,6 +1,7 @@
 -- The steps of a poll that leaves items out make one segment.
-use Rattle.lite_reshape.specs.Uses.{List, [], ◌∷◌, ◌++◌, Option, Some, None, refl, Answer, item, NextStep, Reaches, Reaches-back, answers_given, answers_taken}
-use Rattle.lite_reshape.specs.Uses.{Counting, Ranks, Hints, Question, Runs, StreamLaws, AtEachItem, each_asked, Through}
+use Rattle.std.specs.Prelude.{List, [], ◌∷◌, ◌++◌, Option, Some, None}
+use Rattle.lite_reshape.specs.Uses.{refl, Answer, item, NextStep, Reaches, Reaches-back, answers_given, answers_taken, Counting, Ranks, Hints, Question, Runs}
+use Rattle.lite_reshape.specs.Uses.{StreamLaws, AtEachItem, each_asked, Through}
 use Rattle.lite_reshape.specs.Leaving.{LeaveStep, LeavesOut, Passes, Rejects, Sifts}
 
 module _ {S F A B : Type 0} (call : Question F A (Option B)) (run : Runs (Answer A) S) where

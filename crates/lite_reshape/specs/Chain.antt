@@ -1,6 +1,7 @@
 -- `chain`: the first stream's answers before its first end, then the second's before its first end, and then an end for
 -- ever.
-use Rattle.lite_reshape.specs.Uses.{◌≡◌, ◌⊎◌, List, [], ◌∷◌, ◌++◌, Some, None, Ready, Pending, Answer, Endless, end, Runs, Cuts}
+use Rattle.std.specs.Prelude.{◌≡◌, ◌⊎◌, List, [], ◌∷◌, ◌++◌, Some, None}
+use Rattle.lite_reshape.specs.Uses.{Ready, Pending, Answer, Endless, end, Runs, Cuts}
 use Rattle.lite_reshape.specs.declared.chain.Chain.{Chain}
 use Rattle.lite_reshape.specs.declared.chain.Part.TheVariants.{First, Second, Done}
 use Rattle.lite_reshape.specs.declared.chain.Part.{Part}

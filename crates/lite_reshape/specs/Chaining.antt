@@ -1,5 +1,6 @@
 -- What else is said of `chain`: one poll of its second stream, what a pending registers, and its ranks.
-use Rattle.lite_reshape.specs.Uses.{ℕ, ◌+◌, List, [], ◌∷◌, ◌++◌, length, replicate, Lasting, Answer, Ranks, Runs, Cuts}
+use Rattle.std.specs.Prelude.{ℕ, ◌+◌, List, [], ◌∷◌, ◌++◌, length, replicate}
+use Rattle.lite_reshape.specs.Uses.{Lasting, Answer, Ranks, Runs, Cuts}
 use Rattle.lite_reshape.specs.Chain.{is_done, second_after}
 use Rattle.lite_reshape.specs.declared.chain.Chain.{Chain}
 use Rattle.lite_reshape.specs.declared.chain.Part.TheVariants.{First, Second, Done}

@@ -1,7 +1,7 @@
 -- `cloned`: each reference is replaced by the refusals of its clone, each an Err item, and then the clone as an Ok
 -- item.
-use Rattle.lite_reshape.specs.Uses.{◌≡◌, ⊤, List, [], ◌∷◌, ◌++◌, Option, Some, None, Result, Ok, Err, AllByRecursion, Bor, MadeOf, OptionBy, Sameness, Answer}
-use Rattle.lite_reshape.specs.Uses.{item, Runs, AdapterParts, Through, parts_of}
+use Rattle.std.specs.Prelude.{◌≡◌, ⊤, List, [], ◌∷◌, ◌++◌, Option, Some, None, Result, Ok, Err}
+use Rattle.lite_reshape.specs.Uses.{AllByRecursion, Bor, MadeOf, OptionBy, Sameness, Answer, item, Runs, AdapterParts, Through, parts_of}
 use Rattle.lite_reshape.specs.Expanding.{Expanding}
 use Rattle.lite_reshape.specs.declared.cloned.Cloned.{Cloned}
 

@@ -1,5 +1,6 @@
 -- Each item is replaced by the list of what is made of it.
-use Rattle.lite_reshape.specs.Uses.{◌≡◌, ◌⊎◌, List, [], ◌∷◌, ◌++◌, Option, Some, None, Ready, Pending, Answer, end, Question, Relates}
+use Rattle.std.specs.Prelude.{◌≡◌, ◌⊎◌, List, [], ◌∷◌, ◌++◌, Option, Some, None}
+use Rattle.lite_reshape.specs.Uses.{Ready, Pending, Answer, end, Question, Relates}
 
 -- `call p x v q`: asked about the item x, it goes from p to q and makes v;
 -- `gives v out left`: v gave these answers in order, and then `left` is left of it, or it is done

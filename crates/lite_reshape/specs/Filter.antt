@@ -1,5 +1,6 @@
 -- `filter`: the items that the predicate rejects are left out.
-use Rattle.lite_reshape.specs.Uses.{Bool, Answer, Ranks, Accepts, Question, Runs, AdapterParts, Through, parts_of}
+use Rattle.std.specs.Prelude.{Bool}
+use Rattle.lite_reshape.specs.Uses.{Answer, Ranks, Accepts, Question, Runs, AdapterParts, Through, parts_of}
 use Rattle.lite_reshape.specs.Leaving.{LeavesOut}
 use Rattle.lite_reshape.specs.declared.filter.Filter.{Filter}
 

@@ -1,5 +1,6 @@
 -- `filter_map`: what the function answers to the items, without those to which it answers None.
-use Rattle.lite_reshape.specs.Uses.{Option, Answer, Ranks, Question, Runs, AdapterParts, Through, parts_of}
+use Rattle.std.specs.Prelude.{Option}
+use Rattle.lite_reshape.specs.Uses.{Answer, Ranks, Question, Runs, AdapterParts, Through, parts_of}
 use Rattle.lite_reshape.specs.Leaving.{LeavesOut}
 use Rattle.lite_reshape.specs.declared.filter_map.FilterMap.{FilterMap}
 

@@ -1,5 +1,6 @@
 -- `flat_map`: `flatten` of what the function makes of each item.
-use Rattle.lite_reshape.specs.Uses.{◌+◌, ◌++◌, Option, IfSome, Mut, Answer, Ranks, Calls, MakesAlways, Runs, Maps, AdapterParts, Through, parts_of, Map}
+use Rattle.std.specs.Prelude.{◌+◌, ◌++◌, Option, IfSome}
+use Rattle.lite_reshape.specs.Uses.{Mut, Answer, Ranks, Calls, MakesAlways, Runs, Maps, AdapterParts, Through, parts_of, Map}
 use Rattle.lite_reshape.specs.Flatten.{Flattening}
 use Rattle.lite_reshape.specs.Inner.{CanStepFlat, FlatSteps, inner_rank}
 use Rattle.lite_reshape.specs.declared.flat_map.FlatMap.{FlatMap}

@@ -1,5 +1,6 @@
 -- `flatten`: each item is a stream, and is replaced by the answers of that stream before its first end.
-use Rattle.lite_reshape.specs.Uses.{◌≡◌, ◌⊎◌, List, [], ◌∷◌, ◌++◌, Option, Some, None, Ready, Pending, Answer, Endless, end, Runs, Through, Relates}
+use Rattle.std.specs.Prelude.{◌≡◌, ◌⊎◌, List, [], ◌∷◌, ◌++◌, Option, Some, None}
+use Rattle.lite_reshape.specs.Uses.{Ready, Pending, Answer, Endless, end, Runs, Through, Relates}
 use Rattle.lite_reshape.specs.declared.flatten.Flatten.{Flatten}
 
 module _ {B A : Type 0} (run : Runs (Answer A) B) where

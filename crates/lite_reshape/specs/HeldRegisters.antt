@@ -1,5 +1,6 @@
 -- What a pending registered: what is held did, or else the source.
-use Rattle.lite_reshape.specs.Uses.{Option, Some, None, Lasting}
+use Rattle.std.specs.Prelude.{Option, Some, None}
+use Rattle.lite_reshape.specs.Uses.{Lasting}
 
 -- what a pending registered: what is held did, and else the source
 abbrev pub HeldRegisters : {S V : Type 0} → (S → Lasting → Type 0) → (V → Lasting → Type 0) → S → Option V → Lasting

@@ -1,7 +1,7 @@
 -- What else is said of an outer stream and the inner one that is held: a step of a poll, where a poll may be made, and
 -- the ranks.
-use Rattle.lite_reshape.specs.Uses.{◌≡◌, ◌⊎◌, ℕ, ◌+◌, List, [], ◌∷◌, ◌++◌, Option, Some, None, IfSome, replicate, Answer, end, item, OneStep, Ranks, Runs}
-use Rattle.lite_reshape.specs.Uses.{AdapterParts, parts_of}
+use Rattle.std.specs.Prelude.{◌≡◌, ◌⊎◌, ℕ, ◌+◌, List, [], ◌∷◌, ◌++◌, Option, Some, None, IfSome, replicate}
+use Rattle.lite_reshape.specs.Uses.{Answer, end, item, OneStep, Ranks, Runs, AdapterParts, parts_of}
 use Rattle.lite_reshape.specs.Flatten.{Flattening}
 use Rattle.lite_reshape.specs.declared.flatten.Flatten.{Flatten}
 

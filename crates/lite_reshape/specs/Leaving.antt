@@ -1,5 +1,6 @@
 -- Some items are left out.
-use Rattle.lite_reshape.specs.Uses.{◌≡◌, [], ◌∷◌, Option, Some, None, Ready, Pending, Answer, end, item, Question, Runs, OneAnswer, Segment, Segments, Relates}
+use Rattle.std.specs.Prelude.{◌≡◌, [], ◌∷◌, Option, Some, None}
+use Rattle.lite_reshape.specs.Uses.{Ready, Pending, Answer, end, item, Question, Runs, OneAnswer, Segment, Segments, Relates}
 
 -- `call p x o q`: asked about the item x, it goes from p to q; an item is kept where the answer o is Some, and rejected
 -- where it is None

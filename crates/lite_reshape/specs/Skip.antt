@@ -1,5 +1,6 @@
 -- `skip`: the first n items are left out.
-use Rattle.lite_reshape.specs.Uses.{◌≡◌, ℕ, ◌+◌, Option, Some, None, Answer, Runs, AdapterParts, Through, parts_of}
+use Rattle.std.specs.Prelude.{◌≡◌, ℕ, ◌+◌, Option, Some, None}
+use Rattle.lite_reshape.specs.Uses.{Answer, Runs, AdapterParts, Through, parts_of}
 use Rattle.lite_reshape.specs.Leaving.{LeavesOut}
 use Rattle.lite_reshape.specs.declared.skip.Skip.{Skip}
 

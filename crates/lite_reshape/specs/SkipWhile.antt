@@ -1,6 +1,6 @@
 -- `skip_while`: the items before the first one that the predicate rejects are left out.
-use Rattle.lite_reshape.specs.Uses.{◌≡◌, Option, Some, None, Bool, true, false, IfSome, Mut, CalledAt, TakesAt, Bor, Answer, Ranks, Question, Runs, AtEachItem}
-use Rattle.lite_reshape.specs.Uses.{AdapterParts, Through, parts_of}
+use Rattle.std.specs.Prelude.{◌≡◌, Option, Some, None, Bool, true, false, IfSome}
+use Rattle.lite_reshape.specs.Uses.{Mut, CalledAt, TakesAt, Bor, Answer, Ranks, Question, Runs, AtEachItem, AdapterParts, Through, parts_of}
 use Rattle.lite_reshape.specs.Leaving.{LeavesOut}
 use Rattle.lite_reshape.specs.declared.skip_while.SkipWhile.{SkipWhile}
 

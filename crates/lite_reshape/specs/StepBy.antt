@@ -1,6 +1,7 @@
 -- `step_by`: the items that come in have numbers, which run on across ends, and those whose number is a multiple of the
 -- step are kept.
-use Rattle.lite_reshape.specs.Uses.{◌≡◌, ℕ, ◌+◌, ◌%◌, ◌<◌, List, [], ◌∷◌, Option, Some, None, Answer, Runs, AdapterParts, Through, parts_of}
+use Rattle.std.specs.Prelude.{◌≡◌, ℕ, ◌+◌, ◌%◌, ◌<◌, List, [], ◌∷◌, Option, Some, None}
+use Rattle.lite_reshape.specs.Uses.{Answer, Runs, AdapterParts, Through, parts_of}
 use Rattle.lite_reshape.specs.Leaving.{LeavesOut}
 use Rattle.lite_reshape.specs.declared.step_by.StepBy.{StepBy}
 

@@ -1,6 +1,6 @@
 -- `then`: each item is replaced by the list of the future that the function makes of it, its value as an item.
-use Rattle.lite_reshape.specs.Uses.{◌≡◌, ℕ, ◌+◌, ◌-◌, ◌^◌, min, List, [], Option, Some, None, IfSome, cond, nat_lt, Mut, Called, Poll, Answer, handed, Spends}
-use Rattle.lite_reshape.specs.Uses.{Calls, Question, Runs, AtEachItem, AdapterParts, Through, parts_of}
+use Rattle.std.specs.Prelude.{◌≡◌, ℕ, ◌+◌, ◌-◌, ◌^◌, min, List, [], Option, Some, None, IfSome, cond, nat_lt}
+use Rattle.lite_reshape.specs.Uses.{Mut, Called, Poll, Answer, handed, Spends, Calls, Question, Runs, AtEachItem, AdapterParts, Through, parts_of}
 use Rattle.lite_reshape.specs.Expanding.{Expanding}
 use Rattle.lite_reshape.specs.declared.then.Then.{Then}
 

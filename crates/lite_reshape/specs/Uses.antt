@@ -1,4 +1,4 @@
--- What the files of this crate take from the crates below. Each file has one list of it; a name that two modules have is imported from its own.
+-- What this crate's files take from other crates. The prelude, and a name that two modules have, are imported from where they are.
 pub use Rattle.futures.specs.Task.{Keeps, Lasting}
 pub use Rattle.futures.specs.declared.task.Poll.{Poll}
 pub use Rattle.futures.specs.declared.task.Poll.TheVariants.{Pending, Ready}
@@ -56,12 +56,10 @@ pub use Rattle.lite_stream.specs.Pointwise.{Replaces}
 pub use Rattle.lite_stream.specs.Relates.{Relates}
 pub use Rattle.lite_stream.specs.Through.{AdapterParts, Adapts, Through, parts_of}
 pub use Rattle.lite_stream.specs.declared.map.Map.{Map}
-pub use Rattle.std.proofs.Common.{ap, append-nil, append_assoc, arith, inl, inr, length-append, map, refl, rules, subst, suc, sym, zero, ◌∙◌, ◌≤◌}
+pub use Rattle.std.proofs.Common.{ap, append-nil, append_assoc, arith, inl, inr, length-append, map, refl, rules, subst, suc, sym, zero, ◌∙◌}
 pub use Rattle.std.proofs.Math.Nat.{add-mod-mod, mod-add-mod, mod-eq_of_lt, mod_self}
 pub use Rattle.std.proofs.lemmas.Fn.{called_at}
 pub use Rattle.std.proofs.lemmas.List.{length-replicate}
 pub use Rattle.std.specs.Fn.{Called, CalledAt, Mut, TakesAt}
 pub use Rattle.std.specs.List.{AllByRecursion}
-pub use Rattle.std.specs.Prelude.{Bool, Err, IfSome, List, None, Ok, Option, Result, Some, [], cond, false, length, min, nat_lt, replicate, true, ℕ, ⊤, ◌%◌}
-pub use Rattle.std.specs.Prelude.{◌++◌, ◌+◌, ◌-◌, ◌<◌, ◌^◌, ◌∷◌, ◌≡◌, ◌⊎◌}
 pub use denote.Ref.{Bor}

@@ -1,4 +1,5 @@
-ghost use Rattle.lite_reshape.specs.Uses.{◌≡◌, None, Keeps, Registered, NoHint};
+ghost use Rattle.std.specs.Prelude.{◌≡◌, None};
+ghost use Rattle.lite_reshape.specs.Uses.{Keeps, Registered, NoHint};
 ghost use Rattle.lite_reshape.specs.Chain.{Chains};
 ghost use Rattle.lite_reshape.specs.Chaining.{ChainRegisters, SecondAnswers, chain_ranks};
 ghost use Rattle.lite_reshape.specs.declared.chain.Part.TheVariants.{Second};

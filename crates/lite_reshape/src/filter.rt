@@ -1,4 +1,5 @@
-ghost use Rattle.lite_reshape.specs.Uses.{ranks_of, Option, ℕ, ◌≡◌, [], CalledAt, Terminates-map, MayShowEach, Accepts, laws_capped, through_counting};
+ghost use Rattle.std.specs.Prelude.{Option, ℕ, ◌≡◌, []};
+ghost use Rattle.lite_reshape.specs.Uses.{ranks_of, CalledAt, Terminates-map, MayShowEach, Accepts, laws_capped, through_counting};
 ghost use Rattle.lite_reshape.specs.Filter.{CanFilter, Filters, filter_parts};
 ghost use Rattle.lite_reshape.specs.Leaving.{Sifts};
 ghost use Rattle.lite_reshape.specs.Laws.Leaving.{leaves_relating};

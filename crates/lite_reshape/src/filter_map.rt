@@ -1,4 +1,5 @@
-ghost use Rattle.lite_reshape.specs.Uses.{ranks_of, [], None, Terminates-map, MayCallEach, Calls, NoHint, laws_unhinted, through_counting};
+ghost use Rattle.std.specs.Prelude.{[], None};
+ghost use Rattle.lite_reshape.specs.Uses.{ranks_of, Terminates-map, MayCallEach, Calls, NoHint, laws_unhinted, through_counting};
 ghost use Rattle.lite_reshape.specs.FilterMap.{CanFilterMap, FilterMaps, filter_map_parts};
 ghost use Rattle.lite_reshape.specs.Leaving.{Sifts};
 ghost use Rattle.lite_reshape.specs.Laws.Leaving.{leaves_relating};

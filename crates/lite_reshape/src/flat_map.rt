@@ -1,4 +1,5 @@
-ghost use Rattle.lite_reshape.specs.Uses.{None, Calls, NoHint, Maps};
+ghost use Rattle.std.specs.Prelude.{None};
+ghost use Rattle.lite_reshape.specs.Uses.{Calls, NoHint, Maps};
 ghost use Rattle.lite_reshape.specs.FlatMap.{CanFlatMap, CanStepMap, FlatMapSteps, FlatMaps, flat_map_parts};
 ghost use Rattle.lite_reshape.specs.FlatMap.{flat_map_ranks};
 ghost use Rattle.lite_reshape.specs.HeldRegisters.{HeldRegisters};

@@ -1,4 +1,5 @@
-ghost use Rattle.lite_reshape.specs.Uses.{None, runs_of, NoHint, laws_following};
+ghost use Rattle.std.specs.Prelude.{None};
+ghost use Rattle.lite_reshape.specs.Uses.{runs_of, NoHint, laws_following};
 ghost use Rattle.lite_reshape.specs.Flatten.{Flattens};
 ghost use Rattle.lite_reshape.specs.Inner.{CanStepFlat, FlatSteps, flatten_parts, flattening_ranks};
 ghost use Rattle.lite_reshape.specs.HeldRegisters.{HeldRegisters};

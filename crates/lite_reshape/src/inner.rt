@@ -1,5 +1,6 @@
 //! What `flatten` and `flat_map` share: a step over an outer stream and the inner stream that is held.
-ghost use Rattle.lite_reshape.specs.Uses.{◌≡◌, IfSome, None, Keeps, Registered};
+ghost use Rattle.std.specs.Prelude.{◌≡◌, IfSome, None};
+ghost use Rattle.lite_reshape.specs.Uses.{Keeps, Registered};
 ghost use Rattle.lite_reshape.specs.Inner.{CanFlatten, FlatStep};
 ghost use Rattle.lite_reshape.specs.HeldRegisters.{HeldRegisters};
 

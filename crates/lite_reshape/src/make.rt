@@ -1,5 +1,5 @@
 //! What makes the adapters.
-ghost use Rattle.lite_reshape.specs.Uses.{◌≡◌, ◌<◌, Some, None};
+ghost use Rattle.std.specs.Prelude.{◌≡◌, ◌<◌, Some, None};
 ghost use Rattle.lite_reshape.specs.declared.chain.Part.TheVariants.{First};
 
 use crate::chain::{Chain, Part};

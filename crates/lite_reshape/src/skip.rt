@@ -1,4 +1,5 @@
-ghost use Rattle.lite_reshape.specs.Uses.{ranks_of, None, Terminates-count, NoHint, laws_unhinted, through_counting};
+ghost use Rattle.std.specs.Prelude.{None};
+ghost use Rattle.lite_reshape.specs.Uses.{ranks_of, Terminates-count, NoHint, laws_unhinted, through_counting};
 ghost use Rattle.lite_reshape.specs.Skip.{Skips, SkipsFirst, skip_parts};
 ghost use Rattle.lite_reshape.specs.Laws.Counting.{one_less};
 ghost use Rattle.lite_reshape.specs.Leaving.{Sifts};

@@ -1,4 +1,5 @@
-ghost use Rattle.lite_reshape.specs.Uses.{ranks_of, [], None, CalledAt, Terminates-map, NoHint, laws_unhinted, through_counting};
+ghost use Rattle.std.specs.Prelude.{[], None};
+ghost use Rattle.lite_reshape.specs.Uses.{ranks_of, CalledAt, Terminates-map, NoHint, laws_unhinted, through_counting};
 ghost use Rattle.lite_reshape.specs.SkipWhile.{CanSkip, MayAskUntil, SkipsUntil, SkipsWhile, skip_while_parts};
 ghost use Rattle.lite_reshape.specs.Leaving.{Sifts};
 ghost use Rattle.lite_reshape.specs.Laws.Leaving.{leaves_relating};

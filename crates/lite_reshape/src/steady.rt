@@ -1,6 +1,6 @@
 //! Which values give the same answers, whenever they are pending.
-ghost use Rattle.lite_reshape.specs.Uses.{◌≡◌, CalledAt, OptionBy, SameItem, AlikeBy, Either, Accepts, AgreeFrom, AgreeKeeping, Calls, Keeping};
-ghost use Rattle.lite_reshape.specs.Uses.{through_steady_over};
+ghost use Rattle.std.specs.Prelude.{◌≡◌};
+ghost use Rattle.lite_reshape.specs.Uses.{CalledAt, OptionBy, SameItem, AlikeBy, Either, Accepts, AgreeFrom, AgreeKeeping, Calls, Keeping, through_steady_over};
 ghost use Rattle.lite_reshape.specs.Filter.{Filters, filter_parts};
 ghost use Rattle.lite_reshape.specs.FilterMap.{FilterMaps, filter_map_parts};
 ghost use Rattle.lite_reshape.specs.Skip.{Skips, SkipsFirst, skip_parts};

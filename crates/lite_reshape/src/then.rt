@@ -1,4 +1,5 @@
-ghost use Rattle.lite_reshape.specs.Uses.{Option, None, ℕ, ◌≡◌, ◌∷◌, [], IfSome, Keeps, Registered, Calls};
+ghost use Rattle.std.specs.Prelude.{Option, None, ℕ, ◌≡◌, ◌∷◌, [], IfSome};
+ghost use Rattle.lite_reshape.specs.Uses.{Keeps, Registered, Calls};
 ghost use Rattle.lite_reshape.specs.HeldRegisters.{HeldRegisters};
 ghost use Rattle.lite_reshape.specs.Laws.Expanding.{held_counting, held_ranks};
 ghost use Rattle.lite_reshape.specs.Laws.Then.{hands_one, then_laws};

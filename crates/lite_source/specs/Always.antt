@@ -1,5 +1,6 @@
 -- A source that never changes.
-use Rattle.lite_source.specs.Uses.{◌≡◌, ⊤, [], AllByRecursion, Answer, Ranks, Runs}
+use Rattle.std.specs.Prelude.{◌≡◌, ⊤, []}
+use Rattle.lite_source.specs.Uses.{AllByRecursion, Answer, Ranks, Runs}
 
 -- each answer is one of those that it may give, and it stays as it is
 abbrev pub Unchanging : {S A : Type 0} → (S → Answer A → Type 0) → Runs (Answer A) S

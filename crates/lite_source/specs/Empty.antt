@@ -1,5 +1,6 @@
 -- `empty`: each answer is an end.
-use Rattle.lite_source.specs.Uses.{◌≡◌, Answer, end, Runs}
+use Rattle.std.specs.Prelude.{◌≡◌}
+use Rattle.lite_source.specs.Uses.{Answer, end, Runs}
 use Rattle.lite_source.specs.Always.{Unchanging}
 
 -- each answer is an end

@@ -1,5 +1,6 @@
 -- `once`: its item, and then an end for ever.
-use Rattle.lite_source.specs.Uses.{◌∷◌, List, [], Option, Some, None, length, Answer, item, Ranks, number_ranks, Runs}
+use Rattle.std.specs.Prelude.{◌∷◌, List, [], Option, Some, None, length}
+use Rattle.lite_source.specs.Uses.{Answer, item, Ranks, number_ranks, Runs}
 use Rattle.lite_source.specs.Script.{GivesScript}
 use Rattle.lite_source.specs.declared.once.Once.{Once}
 

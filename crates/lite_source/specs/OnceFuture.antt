@@ -1,5 +1,6 @@
 -- `once_future`: the future's list, its value as an item, and then an end for ever.
-use Rattle.lite_source.specs.Uses.{◌≡◌, Some, AllByRecursion, option_len, Poll, Answer, end, Spends, Ranks, number_ranks, handed, Runs}
+use Rattle.std.specs.Prelude.{◌≡◌, Some}
+use Rattle.lite_source.specs.Uses.{AllByRecursion, option_len, Poll, Answer, end, Spends, Ranks, number_ranks, handed, Runs}
 use Rattle.lite_source.specs.declared.once_future.OnceFuture.{OnceFuture}
 
 -- the future's list, its value as an item, and then an end for ever

@@ -1,5 +1,6 @@
 -- `pending`: each answer is Pending.
-use Rattle.lite_source.specs.Uses.{◌≡◌, Pending, Answer, Runs}
+use Rattle.std.specs.Prelude.{◌≡◌}
+use Rattle.lite_source.specs.Uses.{Pending, Answer, Runs}
 use Rattle.lite_source.specs.Always.{Unchanging}
 
 -- each answer is Pending

@@ -1,5 +1,6 @@
 -- `repeat`: each answer is an item, a clone of its own item or a refusal of one that may be refused.
-use Rattle.lite_source.specs.Uses.{◌≡◌, Some, None, Result, MatchResult, Ready, Pending, Answer, Runs}
+use Rattle.std.specs.Prelude.{◌≡◌, Some, None, Result, MatchResult}
+use Rattle.lite_source.specs.Uses.{Ready, Pending, Answer, Runs}
 use Rattle.lite_source.specs.Always.{Unchanging}
 use Rattle.lite_source.specs.declared.repeat.Repeat.{Repeat}
 

@@ -1,5 +1,6 @@
 -- `repeat_with`: the answers of its function, one call a poll, each an item.
-use Rattle.lite_source.specs.Uses.{◌≡◌, FoldsTo, Mut, Called, Answer, item, Runs}
+use Rattle.std.specs.Prelude.{◌≡◌}
+use Rattle.lite_source.specs.Uses.{FoldsTo, Mut, Called, Answer, item, Runs}
 
 module _ {F A : Type 0} (g : Mut F (Unit {0}) A) where
   -- a call, and its answer as an item

@@ -1,5 +1,6 @@
 -- `try_unfold`: as `unfold`, through Ok; an Err goes out as an item, and then it ends for ever.
-use Rattle.lite_source.specs.Uses.{Option, Some, None, Result, Ok, Err, Mut, Poll, Answer, Runs}
+use Rattle.std.specs.Prelude.{Option, Some, None, Result, Ok, Err}
+use Rattle.lite_source.specs.Uses.{Mut, Poll, Answer, Runs}
 use Rattle.lite_source.specs.Unfold.{seed_of}
 use Rattle.lite_source.specs.Unfolding.{Unfolds}
 use Rattle.lite_source.specs.declared.try_unfold.TryUnfold.{TryUnfold}

@@ -1,6 +1,7 @@
 -- `unfold`: the lists of its futures. A value Some((x, s)) goes out as the item x, and the next future is made of s;
 -- None is an end, and then it ends for ever.
-use Rattle.lite_source.specs.Uses.{Option, Some, None, Mut, Poll, Answer, Runs}
+use Rattle.std.specs.Prelude.{Option, Some, None}
+use Rattle.lite_source.specs.Uses.{Mut, Poll, Answer, Runs}
 use Rattle.lite_source.specs.Unfolding.{Unfolds}
 use Rattle.lite_source.specs.declared.unfold.Unfold.{Unfold}
 

@@ -1,7 +1,8 @@
 -- What `unfold` and `try_unfold` share: a function makes a future of each seed, and the future's value says what goes
 -- out, and which seed comes next.
-use Rattle.lite_source.specs.Uses.{◌≡◌, ◌⊎◌, ⊤, List, [], ◌∷◌, map, flat_map, Option, Some, None, Mut, Called, FoldsTo, Poll, Ready, Pending, Lasting, MadeOf}
-use Rattle.lite_source.specs.Uses.{OptionBy, SameItem, Sameness, Answer, Waiting, AgreeBy, AgreeFrom, Finishes, handed, Question, Runs}
+use Rattle.std.specs.Prelude.{◌≡◌, ◌⊎◌, ⊤, List, [], ◌∷◌, map, flat_map, Option, Some, None}
+use Rattle.lite_source.specs.Uses.{Mut, Called, FoldsTo, Poll, Ready, Pending, Lasting, MadeOf, OptionBy, SameItem, Sameness, Answer, Waiting, AgreeBy}
+use Rattle.lite_source.specs.Uses.{AgreeFrom, Finishes, handed, Question, Runs}
 use Rattle.lite_source.specs.Empty.{GivesEnds}
 
 -- what the next future is made of, or the future that is held, or nothing: it is over

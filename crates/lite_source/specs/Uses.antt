@@ -1,4 +1,4 @@
--- What the files of this crate take from the crates below. Each file has one list of it; a name that two modules have is imported from its own.
+-- What this crate's files take from other crates. The prelude, and a name that two modules have, are imported from where they are.
 pub use Rattle.futures.specs.Task.{Keeps, Lasting}
 pub use Rattle.futures.specs.declared.task.Poll.{Poll}
 pub use Rattle.futures.specs.declared.task.Poll.TheVariants.{Pending, Ready}
@@ -34,7 +34,7 @@ pub use Rattle.lite_base.specs.Registered.{Registered}
 pub use Rattle.lite_base.specs.Runs.{Hints, NoHint, Question, Runs}
 pub use Rattle.lite_base.specs.Steady.{FutureSteadyLawsBy, Steadiness, SteadinessBy, SteadyLaws, SteadyLawsBy, TakesNone}
 pub use Rattle.lite_base.specs.StreamLaws.{StreamLaws}
-pub use Rattle.std.proofs.Common.{ap, append-nil, append_assoc, arith, inl, inr, refl, rules, subst, sym, ℕ, ◌<◌, ◌∙◌}
+pub use Rattle.std.proofs.Common.{ap, append-nil, append_assoc, arith, inl, inr, refl, rules, subst, sym, ℕ, ◌∙◌}
 pub use Rattle.std.proofs.lemmas.Grind.{flat_map-append}
 pub use Rattle.std.proofs.lemmas.List.{nil_from_length}
 pub use Rattle.std.proofs.lemmas.Slice.Zip.{all_zipped_more}
@@ -45,8 +45,6 @@ pub use Rattle.std.specs.Iterator.Adapters.{copied_source, copied_steps}
 pub use Rattle.std.specs.Iterator.SizeHint.{IsWithinCount}
 pub use Rattle.std.specs.List.{AllByRecursion, AllZip, FoldsTo}
 pub use Rattle.std.specs.Option.{option_copied, option_len}
-pub use Rattle.std.specs.Prelude.{Err, IfOk, IfSome, List, MatchOption, MatchResult, None, Ok, Option, Result, Some, [], flat_map, length, map, ⊤, ◌++◌, ◌-◌}
-pub use Rattle.std.specs.Prelude.{◌^◌, ◌∷◌, ◌≡◌, ◌≤◌, ◌⊎◌}
 pub use Rattle.std.specs.Range.{range_steps}
 pub use Rattle.std.specs.Slice.Iter.{iter_rest, iter_steps}
 pub use Rattle.std.specs.Vec.Iter.{into_iter_items, into_iter_len, into_iter_steps}

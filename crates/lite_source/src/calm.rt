@@ -1,5 +1,6 @@
 //! The sources of which some values, or all, are never pending.
-ghost use Rattle.lite_source.specs.Uses.{NoPending, NeverPends, MakesAlways, IfSome, ⊤};
+ghost use Rattle.std.specs.Prelude.{IfSome, ⊤};
+ghost use Rattle.lite_source.specs.Uses.{NoPending, NeverPends, MakesAlways};
 ghost use Rattle.lite_source.specs.Iter.{Nexts};
 ghost use Rattle.lite_source.specs.Laws.Empty.{empty_calm};
 ghost use Rattle.lite_source.specs.Laws.Folds.{folds_calm};

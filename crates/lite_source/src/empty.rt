@@ -1,4 +1,5 @@
-ghost use Rattle.lite_source.specs.Uses.{◌≡◌, Some, ok_counting};
+ghost use Rattle.std.specs.Prelude.{◌≡◌, Some};
+ghost use Rattle.lite_source.specs.Uses.{ok_counting};
 ghost use Rattle.lite_source.specs.Always.{no_ranks};
 ghost use Rattle.lite_source.specs.Empty.{GivesEnds};
 ghost use Rattle.lite_source.specs.Laws.Empty.{empty_counting, empty_laws};

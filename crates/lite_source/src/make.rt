@@ -1,5 +1,5 @@
 //! What makes the sources.
-ghost use Rattle.lite_source.specs.Uses.{◌≡◌, Some};
+ghost use Rattle.std.specs.Prelude.{◌≡◌, Some};
 ghost use Rattle.lite_source.specs.Unfolding.{Holding};
 
 use crate::empty::Empty;

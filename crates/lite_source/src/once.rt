@@ -1,4 +1,5 @@
-ghost use Rattle.lite_source.specs.Uses.{◌≡◌, Some, length, ok_counting};
+ghost use Rattle.std.specs.Prelude.{◌≡◌, Some, length};
+ghost use Rattle.lite_source.specs.Uses.{ok_counting};
 ghost use Rattle.lite_source.specs.Laws.Once.{once_counting, once_laws};
 ghost use Rattle.lite_source.specs.Once.{GivesOnce, once_left, once_ranks};
 

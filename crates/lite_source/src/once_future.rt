@@ -1,4 +1,5 @@
-ghost use Rattle.lite_source.specs.Uses.{◌≡◌, IfSome, None, Some, ok_counting, NoHint};
+ghost use Rattle.std.specs.Prelude.{◌≡◌, IfSome, None, Some};
+ghost use Rattle.lite_source.specs.Uses.{ok_counting, NoHint};
 ghost use Rattle.lite_source.specs.Laws.OnceFuture.{once_future_counting, once_future_laws};
 ghost use Rattle.lite_source.specs.OnceFuture.{GivesFuture, once_future_ranks};
 

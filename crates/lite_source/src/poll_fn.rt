@@ -1,4 +1,5 @@
-ghost use Rattle.lite_source.specs.Uses.{⊤, None, FoldsTo, ap, AlwaysObeys, CallAnswers, CallRegisters, NoHint};
+ghost use Rattle.std.specs.Prelude.{⊤, None};
+ghost use Rattle.lite_source.specs.Uses.{FoldsTo, ap, AlwaysObeys, CallAnswers, CallRegisters, NoHint};
 ghost use Rattle.lite_source.specs.Laws.Folds.{folds_laws};
 
 use lite_base::{Context, Poll, Stream};

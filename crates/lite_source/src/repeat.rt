@@ -1,4 +1,4 @@
-ghost use Rattle.lite_source.specs.Uses.{◌-◌, ◌^◌, ◌≡◌, None};
+ghost use Rattle.std.specs.Prelude.{◌-◌, ◌^◌, ◌≡◌, None};
 ghost use Rattle.lite_source.specs.Laws.Repeat.{repeat_laws};
 ghost use Rattle.lite_source.specs.Repeat.{Repeats};
 

@@ -1,4 +1,5 @@
-ghost use Rattle.lite_source.specs.Uses.{◌≡◌, ◌-◌, ◌^◌, None, ap};
+ghost use Rattle.std.specs.Prelude.{◌≡◌, ◌-◌, ◌^◌, None};
+ghost use Rattle.lite_source.specs.Uses.{ap};
 ghost use Rattle.lite_source.specs.Laws.Folds.{folds_laws};
 ghost use Rattle.lite_source.specs.RepeatWith.{Call, RepeatsWith};
 

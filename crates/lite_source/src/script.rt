@@ -1,4 +1,5 @@
-ghost use Rattle.lite_source.specs.Uses.{◌≡◌, IfOk, List, None, length, AllZip, ok_counting, number_ranks, number_counting, NoHint};
+ghost use Rattle.std.specs.Prelude.{◌≡◌, IfOk, List, None, length};
+ghost use Rattle.lite_source.specs.Uses.{AllZip, ok_counting, number_ranks, number_counting, NoHint};
 ghost use Rattle.lite_source.specs.Laws.Script.{gives_lowers, script_laws};
 ghost use Rattle.lite_source.specs.Script.{GivesScript, IsCloneBy};
 
@@ -16,7 +17,8 @@ pub struct Script<T> {
 }
 
 impl<T> Model for Script<T> {
-    ghost use Rattle.lite_source.specs.Uses.{List, Answer};
+    ghost use Rattle.std.specs.Prelude.{List};
+    ghost use Rattle.lite_source.specs.Uses.{Answer};
 
     ghost Value = { List (Answer T) };
 

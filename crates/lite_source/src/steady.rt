@@ -1,5 +1,6 @@
 //! The sources whose answers do not depend on when they were pending.
-ghost use Rattle.lite_source.specs.Uses.{Alike, OptionBy, strip, Calls, CallAnswers, steady_always, FoldsTo, ap, ⊤, ◌≡◌};
+ghost use Rattle.std.specs.Prelude.{⊤, ◌≡◌};
+ghost use Rattle.lite_source.specs.Uses.{Alike, OptionBy, strip, Calls, CallAnswers, steady_always, FoldsTo, ap};
 ghost use Rattle.lite_source.specs.Empty.{GivesEnds};
 ghost use Rattle.lite_source.specs.Iter.{Iterates, Nexts};
 ghost use Rattle.lite_source.specs.Laws.Empty.{empty_laws, empty_steady};

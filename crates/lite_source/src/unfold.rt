@@ -1,4 +1,5 @@
-ghost use Rattle.lite_source.specs.Uses.{None, MakesAlways, NoHint};
+ghost use Rattle.std.specs.Prelude.{None};
+ghost use Rattle.lite_source.specs.Uses.{MakesAlways, NoHint};
 ghost use Rattle.lite_source.specs.Unfold.{UnfoldsBy};
 ghost use Rattle.lite_source.specs.Unfolding.{IfHeldFuture, UnfoldRegisters};
 ghost use Rattle.lite_source.specs.Laws.Unfold.{unfold_laws};

@@ -1,4 +1,5 @@
-ghost use Rattle.lite_source.specs.Uses.{◌≡◌, MakesAlways, Keeps, Registered};
+ghost use Rattle.std.specs.Prelude.{◌≡◌};
+ghost use Rattle.lite_source.specs.Uses.{MakesAlways, Keeps, Registered};
 ghost use Rattle.lite_source.specs.Unfolding.{Current, HeldStep, Holding, IfHeldFuture, IsMade, UnfoldRegisters, UnfoldStep};
 
 use lite_base::{Context, Future, Poll, ready};

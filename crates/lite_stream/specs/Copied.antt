@@ -1,5 +1,6 @@
 -- `copied`: each reference is replaced by what it refers to.
-use Rattle.lite_stream.specs.Uses.{◌≡◌, Bor, MadeOf, Sameness, Answer, Runs}
+use Rattle.std.specs.Prelude.{◌≡◌}
+use Rattle.lite_stream.specs.Uses.{Bor, MadeOf, Sameness, Answer, Runs}
 use Rattle.lite_stream.specs.Pointwise.{Replaces}
 use Rattle.lite_stream.specs.Through.{AdapterParts, Through, parts_of}
 use Rattle.lite_stream.specs.declared.copied.Copied.{Copied}

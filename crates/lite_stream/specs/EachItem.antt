@@ -1,6 +1,6 @@
 -- What holds of each item that a source may still give.
-use Rattle.lite_stream.specs.Uses.{List, [], ◌∷◌, ◌++◌, Some, None, Mut, CalledAt, TakesAt, TakesWithState, FoldsTo, Bor, MutBor, Ready, Pending, Answer, item}
-use Rattle.lite_stream.specs.Uses.{Calls, CallsWith, Question, Runs}
+use Rattle.std.specs.Prelude.{List, [], ◌∷◌, ◌++◌, Some, None}
+use Rattle.lite_stream.specs.Uses.{Mut, CalledAt, TakesAt, TakesWithState, FoldsTo, Bor, MutBor, Ready, Pending, Answer, item, Calls, CallsWith, Question, Runs}
 
 -- the items among the answers
 abbrev pub items_in : {A : Type 0} → List (Answer A) → List A

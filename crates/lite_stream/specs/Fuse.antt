@@ -1,5 +1,6 @@
 -- `fuse`: the answers through the first end, and then an end for ever.
-use Rattle.lite_stream.specs.Uses.{◌≡◌, List, [], ◌∷◌, ◌++◌, Bool, true, false, AllByRecursion, Answer, end, until_end, Runs}
+use Rattle.std.specs.Prelude.{◌≡◌, List, [], ◌∷◌, ◌++◌, Bool, true, false}
+use Rattle.lite_stream.specs.Uses.{AllByRecursion, Answer, end, until_end, Runs}
 use Rattle.lite_stream.specs.Through.{AdapterParts, Through, parts_of}
 use Rattle.lite_stream.specs.declared.fuse.Fuse.{Fuse}
 use Rattle.lite_stream.specs.Relates.{Relates}

@@ -1,5 +1,6 @@
 -- `inspect`: each item is shown to the function, and goes out as it is.
-use Rattle.lite_stream.specs.Uses.{◌≡◌, Answer, Question, Runs}
+use Rattle.std.specs.Prelude.{◌≡◌}
+use Rattle.lite_stream.specs.Uses.{Answer, Question, Runs}
 use Rattle.lite_stream.specs.Pointwise.{Replaces}
 use Rattle.lite_stream.specs.Through.{AdapterParts, Through, parts_of}
 use Rattle.lite_stream.specs.declared.inspect.Inspect.{Inspect}

@@ -1,5 +1,6 @@
 -- `map_while`: each item is replaced by what the function answers to it, and by an end where that is None.
-use Rattle.lite_stream.specs.Uses.{Option, Answer, Question, Runs}
+use Rattle.std.specs.Prelude.{Option}
+use Rattle.lite_stream.specs.Uses.{Answer, Question, Runs}
 use Rattle.lite_stream.specs.Pointwise.{Exchanges}
 use Rattle.lite_stream.specs.Through.{AdapterParts, Through, parts_of}
 use Rattle.lite_stream.specs.declared.map_while.MapWhile.{MapWhile}

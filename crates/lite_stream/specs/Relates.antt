@@ -1,5 +1,6 @@
 -- The type of what an adapter of one source says.
-use Rattle.lite_stream.specs.Uses.{List, Answer}
+use Rattle.std.specs.Prelude.{List}
+use Rattle.lite_stream.specs.Uses.{Answer}
 
 -- where an F was held these answers came in and those went out, and now another F is held
 abbrev pub Relates : Type 0 → Type 0 → Type 0 → Type 1

@@ -1,5 +1,6 @@
 -- `scan`: as `map_while`, with a state that the function is lent at each call.
-use Rattle.lite_stream.specs.Uses.{Option, Answer, Runs}
+use Rattle.std.specs.Prelude.{Option}
+use Rattle.lite_stream.specs.Uses.{Answer, Runs}
 use Rattle.lite_stream.specs.Pointwise.{Exchanges}
 use Rattle.lite_stream.specs.Through.{AdapterParts, Through, parts_of}
 use Rattle.lite_stream.specs.declared.scan.Scan.{Scan}

@@ -1,4 +1,4 @@
--- What the files of this crate take from the crates below. Each file has one list of it; a name that two modules have is imported from its own.
+-- What this crate's files take from other crates. The prelude, and a name that two modules have, are imported from where they are.
 pub use Rattle.futures.specs.declared.task.Poll.TheVariants.{Pending, Ready}
 pub use Rattle.lite_base.specs.Alike.{AlikeBy, MadeOf, OptionBy, Pairwise, SameAnswer, SameItem, Sameness}
 pub use Rattle.lite_base.specs.Answers.{Answer, ComparableBy, before_end, end, item, items, strip, until_end}
@@ -18,9 +18,8 @@ pub use Rattle.lite_base.specs.Ranks.{Counting, Ranks, count_held, held_rank, nu
 pub use Rattle.lite_base.specs.Runs.{Hints, NoHint, Question, Runs}
 pub use Rattle.lite_base.specs.Steady.{SteadyLawsBy}
 pub use Rattle.lite_base.specs.StreamLaws.{RunLaws, StreamLaws}
-pub use Rattle.std.proofs.Common.{ap, arith, inl, inr, length, length-append, refl, rules, subst, sym, ◌∙◌, ◌≤◌}
+pub use Rattle.std.proofs.Common.{ap, arith, inl, inr, length, length-append, refl, rules, subst, sym, ◌∙◌}
 pub use Rattle.std.proofs.lemmas.Fn.{called_at}
 pub use Rattle.std.specs.Fn.{CalledAt, Mut, TakesAt, TakesWithState}
 pub use Rattle.std.specs.List.{AllByRecursion, FoldsTo}
-pub use Rattle.std.specs.Prelude.{Bool, IfSome, List, None, Option, Some, [], false, true, ℕ, ⊤, ◌%◌, ◌++◌, ◌+◌, ◌-◌, ◌^◌, ◌∷◌, ◌≡◌, ◌⊎◌}
 pub use denote.Ref.{Bor, MutBor}

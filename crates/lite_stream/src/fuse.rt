@@ -1,4 +1,5 @@
-ghost use Rattle.lite_stream.specs.Uses.{ranks_of, NoHint, None};
+ghost use Rattle.std.specs.Prelude.{None};
+ghost use Rattle.lite_stream.specs.Uses.{ranks_of, NoHint};
 ghost use Rattle.lite_stream.specs.Fuse.{Fuses, fuse_parts};
 ghost use Rattle.lite_stream.specs.Laws.Fuse.{fuses_relating};
 ghost use Rattle.lite_stream.specs.Laws.Through.{laws_unhinted, through_counting};

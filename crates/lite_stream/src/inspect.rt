@@ -1,4 +1,5 @@
-ghost use Rattle.lite_stream.specs.Uses.{ranks_of, NoHint, None, CalledAt};
+ghost use Rattle.std.specs.Prelude.{None};
+ghost use Rattle.lite_stream.specs.Uses.{ranks_of, NoHint, CalledAt};
 ghost use Rattle.lite_stream.specs.EachItem.{MayShowEach};
 ghost use Rattle.lite_stream.specs.Inspect.{Inspects, ShowsItem, inspect_parts};
 ghost use Rattle.lite_stream.specs.Laws.Pointwise.{replaces_relating};

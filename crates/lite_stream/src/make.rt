@@ -1,5 +1,5 @@
 //! What makes the adapters.
-ghost use Rattle.lite_stream.specs.Uses.{◌≡◌, false};
+ghost use Rattle.std.specs.Prelude.{◌≡◌, false};
 
 use crate::copied::Copied;
 use crate::enumerate::Enumerate;

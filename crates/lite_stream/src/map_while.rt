@@ -1,4 +1,5 @@
-ghost use Rattle.lite_stream.specs.Uses.{ranks_of, None, Calls, NoHint};
+ghost use Rattle.std.specs.Prelude.{None};
+ghost use Rattle.lite_stream.specs.Uses.{ranks_of, Calls, NoHint};
 ghost use Rattle.lite_stream.specs.EachItem.{MayCallEach};
 ghost use Rattle.lite_stream.specs.MapWhile.{MapsWhile, map_while_parts};
 ghost use Rattle.lite_stream.specs.Laws.Pointwise.{exchanges_relating};

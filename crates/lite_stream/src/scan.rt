@@ -1,4 +1,5 @@
-ghost use Rattle.lite_stream.specs.Uses.{ranks_of, None, CallsWith, NoHint};
+ghost use Rattle.std.specs.Prelude.{None};
+ghost use Rattle.lite_stream.specs.Uses.{ranks_of, CallsWith, NoHint};
 ghost use Rattle.lite_stream.specs.EachItem.{MayCallEachWith};
 ghost use Rattle.lite_stream.specs.Scan.{Scans, scan_parts};
 ghost use Rattle.lite_stream.specs.Laws.Pointwise.{exchanges_relating};

@@ -1,6 +1,7 @@
 //! The adapters whose answers do not depend on when their stream was pending.
+ghost use Rattle.std.specs.Prelude.{⊤, ◌≡◌};
 ghost use Rattle.lite_stream.specs.Uses.{Pairwise, SameItem, Sameness, Accepts, AgreeFrom, AgreeKeeping, AgreeOver, Answering, Calls, CallsWith, Keeping};
-ghost use Rattle.lite_stream.specs.Uses.{CalledAt, ⊤, ◌≡◌};
+ghost use Rattle.lite_stream.specs.Uses.{CalledAt};
 ghost use Rattle.lite_stream.specs.Copied.{CopiesAll, CopiesItem, Referred, copied_parts};
 ghost use Rattle.lite_stream.specs.Enumerate.{Enumerates, Numbers, enumerate_parts};
 ghost use Rattle.lite_stream.specs.Fuse.{Fuses, fuse_parts};

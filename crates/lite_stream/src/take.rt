@@ -1,4 +1,5 @@
-ghost use Rattle.lite_stream.specs.Uses.{number_ranks, number_counting, NoHint, None};
+ghost use Rattle.std.specs.Prelude.{None};
+ghost use Rattle.lite_stream.specs.Uses.{number_ranks, number_counting, NoHint};
 ghost use Rattle.lite_stream.specs.Take.{Takes, is_none_left, left_after, take_parts};
 ghost use Rattle.lite_stream.specs.Laws.Cutting.{cuts_relating};
 ghost use Rattle.lite_stream.specs.Laws.Take.{takes_lowers};

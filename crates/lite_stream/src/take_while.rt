@@ -1,4 +1,5 @@
-ghost use Rattle.lite_stream.specs.Uses.{ranks_of, None, CalledAt, Accepts, NoHint};
+ghost use Rattle.std.specs.Prelude.{None};
+ghost use Rattle.lite_stream.specs.Uses.{ranks_of, CalledAt, Accepts, NoHint};
 ghost use Rattle.lite_stream.specs.EachItem.{MayShowEach};
 ghost use Rattle.lite_stream.specs.TakeWhile.{TakesWhile, take_while_parts};
 ghost use Rattle.lite_stream.specs.Laws.Pointwise.{exchanges_relating};

@@ -1,8 +1,8 @@
 -- A reader that is read up to a value, pendings aside; and two that are alike.
-use Rattle.lite_theorems.specs.Uses.{⊤, IfErr, IfOk, ◌≡◌, ◌∙◌, ℕ, List, [], ◌∷◌, ◌++◌, length, Result, Ok, Err, refl, sym, ap, subst, arith, append_assoc}
-use Rattle.lite_theorems.specs.Uses.{append-nil, length-append, FoldsTo, Error, Vec, MutBor, Poll, Comparable, Gives, Runs, comparable_swapped, ReadMark, bytes}
-use Rattle.lite_theorems.specs.Uses.{NoPendingRead, SteadyReadLaws, strip_marks, ToEndStays, appends_deterministic, Appended, ReadsToEnd, appends, SameByKind}
-use Rattle.lite_theorems.specs.Uses.{ReadToEndFuture}
+use Rattle.std.specs.Prelude.{⊤, IfErr, IfOk, ◌≡◌, ℕ, List, [], ◌∷◌, ◌++◌, length, Result, Ok, Err}
+use Rattle.lite_theorems.specs.Uses.{◌∙◌, refl, sym, ap, subst, arith, append_assoc, append-nil, length-append, FoldsTo, Error, Vec, MutBor, Poll, Comparable}
+use Rattle.lite_theorems.specs.Uses.{Gives, Runs, comparable_swapped, ReadMark, bytes, NoPendingRead, SteadyReadLaws, strip_marks, ToEndStays}
+use Rattle.lite_theorems.specs.Uses.{appends_deterministic, Appended, ReadsToEnd, appends, SameByKind, ReadToEndFuture}
 use Rattle.lite_theorems.proofs.Waited.{WaitedFor, read_folds_once}
 use Rattle.lite_theorems.specs.BothReaders.{BothRead, HasReadMemory, ReadsUp}
 

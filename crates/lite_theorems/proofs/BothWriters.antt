@@ -1,8 +1,9 @@
 -- A writer that is handed some bytes and then flushed, and two that are alike.
-use Rattle.lite_theorems.specs.Uses.{IfErr, IfOk, IsOk, ◌≡◌, ◌∙◌, ℕ, List, [], ◌∷◌, ◌++◌, Result, Ok, Err, inl, inr, refl, sym, ap, subst, arith, append_assoc}
-use Rattle.lite_theorems.specs.Uses.{append-nil, map, error_kind, FoldsTo, Error, Bor, Poll, Ready, Pending, Gives, segment_front, to_value_last, Runs}
-use Rattle.lite_theorems.specs.Uses.{MarkLaws, StandsFirst, NoError, SteadyWriteLaws, WriteMark, bytes_taken, taken_both, PolledByCalls, Flushes}
-use Rattle.lite_theorems.specs.Uses.{no_failure_both, NoFailure, Hands, Ended, HandsMarks, HandsOver, WritesAll, FlushFuture, WriteAllFuture}
+use Rattle.std.specs.Prelude.{IfErr, IfOk, IsOk, ◌≡◌, ℕ, List, [], ◌∷◌, ◌++◌, Result, Ok, Err, map}
+use Rattle.lite_theorems.specs.Uses.{◌∙◌, inl, inr, refl, sym, ap, subst, arith, append_assoc, append-nil, error_kind, FoldsTo, Error, Bor, Poll, Ready}
+use Rattle.lite_theorems.specs.Uses.{Pending, Gives, segment_front, to_value_last, Runs, MarkLaws, StandsFirst, NoError, SteadyWriteLaws, WriteMark}
+use Rattle.lite_theorems.specs.Uses.{bytes_taken, taken_both, PolledByCalls, Flushes, no_failure_both, NoFailure, Hands, Ended, HandsMarks, HandsOver}
+use Rattle.lite_theorems.specs.Uses.{WritesAll, FlushFuture, WriteAllFuture}
 use denote.Ref.{MutBor}
 use Rattle.lite_theorems.proofs.Waited.{WaitedFor}
 use Rattle.lite_theorems.specs.BothWriters.{BothWritten, FailsBy, FailsWith, FlushedUp, HandedUp, TakesFront, WrittenUp}

@@ -1,6 +1,6 @@
 -- The lines of what a reader tells through a limit and a buffer.
-use Rattle.lite_theorems.specs.Uses.{◌≡◌, ◌∙◌, ℕ, zero, suc, arith, List, [], ◌∷◌, ◌++◌, refl, ap, sym, append_assoc, append-nil, LimitEnds, WithinLimit}
-use Rattle.lite_theorems.specs.Uses.{ReadMark}
+use Rattle.std.specs.Prelude.{◌≡◌, ℕ, zero, suc, List, [], ◌∷◌, ◌++◌}
+use Rattle.lite_theorems.specs.Uses.{◌∙◌, arith, refl, ap, sym, append_assoc, append-nil, LimitEnds, WithinLimit, ReadMark}
 use Rattle.lite_theorems.specs.Lines.{limited, lines_told}
 
 -- marks that fit

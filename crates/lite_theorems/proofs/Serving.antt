@@ -1,7 +1,7 @@
 -- What was told and written so far, and what comes behind it.
-use Rattle.lite_theorems.specs.Uses.{◌≡◌, ◌⊎◌, ◌∙◌, ℕ, Bool, true, false, List, [], ◌∷◌, ◌++◌, Result, Ok, Err, ap, refl, sym, subst, append-nil, append_assoc}
-use Rattle.lite_theorems.specs.Uses.{map-append, IfOk, flat_map, ReadMark, bytes, WriteMark, bytes_taken, Runs, MarkLaws, StandsFirst, last_piece}
-use Rattle.lite_theorems.specs.Uses.{without_return, EndsFlushed}
+use Rattle.std.specs.Prelude.{◌≡◌, ◌⊎◌, ℕ, Bool, true, false, List, [], ◌∷◌, ◌++◌, Result, Ok, Err, IfOk, flat_map}
+use Rattle.lite_theorems.specs.Uses.{◌∙◌, ap, refl, sym, subst, append-nil, append_assoc, map-append, ReadMark, bytes, WriteMark, bytes_taken, Runs, MarkLaws}
+use Rattle.lite_theorems.specs.Uses.{StandsFirst, last_piece, without_return, EndsFlushed}
 use Rattle.lite_theorems.specs.Laws.Taken.{taken_both}
 use Rattle.lite_theorems.specs.Laws.Told.{told_follow, told_none}
 use Rattle.lite_theorems.specs.Told.{EndsAtFirst, ToldStripped, Without}

@@ -1,7 +1,8 @@
 -- What the answers of `lines` say of the lines that are told.
-use Rattle.lite_theorems.specs.Uses.{⊤, string_bytes, ◌≡◌, ◌≢◌, ◌==◌, ◌∙◌, inl, inr, ℕ, List, [], ◌∷◌, ◌++◌, Option, Some, None, Result, Ok, Err, Global, Bool}
-use Rattle.lite_theorems.specs.Uses.{true, false, arith, eqb-true, refl, ap, sym, subst, append_assoc, error_kind, FoldsTo, Error, OutOfMemory, String, Ready}
-use Rattle.lite_theorems.specs.Uses.{Pending, Answer, segment_front, ReadMark, bytes, lining, Cut, PieceSegments, IsText, without_return}
+use Rattle.std.specs.Prelude.{⊤, string_bytes, ◌≡◌, ◌≢◌, ◌==◌, ℕ, List, [], ◌∷◌, ◌++◌, Some, None, Result, Ok, Err, Bool, true, false}
+use Rattle.lite_theorems.specs.Uses.{◌∙◌, inl, inr, Option, Global, arith, eqb-true, refl, ap, sym, subst, append_assoc, error_kind, FoldsTo, Error}
+use Rattle.lite_theorems.specs.Uses.{OutOfMemory, String, Ready, Pending, Answer, segment_front, ReadMark, bytes, lining, Cut, PieceSegments, IsText}
+use Rattle.lite_theorems.specs.Uses.{without_return}
 use Rattle.lite_theorems.specs.Lines.{Line, StandsFor, lines_told}
 
 abbrev pub Text : Type 0

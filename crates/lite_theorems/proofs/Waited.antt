@@ -1,10 +1,11 @@
 -- What a reader tells while a call of it is waited for, pendings aside.
-use Rattle.lite_theorems.specs.Uses.{⊤, IfErr, IfOk, OnErr, ◌≡◌, ◌∙◌, ◌≤◌, ℕ, List, [], ◌∷◌, ◌++◌, length, take, drop, Result, Ok, Err, inl, inr, ap}
-use Rattle.lite_theorems.specs.Uses.{append-nil, append_assoc, arith, refl, subst, sym, take-append-drop, drop-length, take-length, length-take, map-append}
-use Rattle.lite_theorems.specs.Uses.{take_all, FoldsTo, Error, MutBor, Poll, Ready, Pending, Gives, segment_before, segment_front, to_value_last, Runs}
-use Rattle.lite_theorems.specs.Uses.{no_wait_moved, stripped_no_pending, ReadMark, bytes, read_marks, MarkLaws, NoPendingRead, strip_marks, Filling, filling_of}
-use Rattle.lite_theorems.specs.Uses.{past_pending, past_value, filled_by, Cut, CutsPiece, PolledByCalls, Reads, Fulfils, ReadsExactly, fills, AnswerMarks}
-use Rattle.lite_theorems.specs.Uses.{Gathers, ReadFold, ReadFolds, CountsPiece, ReadsUntil, until, read_of, ReadFuture, ReadExactFuture, ReadUntilFuture}
+use Rattle.std.specs.Prelude.{⊤, IfErr, IfOk, OnErr, ◌≡◌, ◌≤◌, ℕ, List, [], ◌∷◌, ◌++◌, length, Result, Ok, Err}
+use Rattle.lite_theorems.specs.Uses.{◌∙◌, take, drop, inl, inr, ap, append-nil, append_assoc, arith, refl, subst, sym, take-append-drop, drop-length}
+use Rattle.lite_theorems.specs.Uses.{take-length, length-take, map-append, take_all, FoldsTo, Error, MutBor, Poll, Ready, Pending, Gives, segment_before}
+use Rattle.lite_theorems.specs.Uses.{segment_front, to_value_last, Runs, no_wait_moved, stripped_no_pending, ReadMark, bytes, read_marks, MarkLaws}
+use Rattle.lite_theorems.specs.Uses.{NoPendingRead, strip_marks, Filling, filling_of, past_pending, past_value, filled_by, Cut, CutsPiece, PolledByCalls, Reads}
+use Rattle.lite_theorems.specs.Uses.{Fulfils, ReadsExactly, fills, AnswerMarks, Gathers, ReadFold, ReadFolds, CountsPiece, ReadsUntil, until, read_of}
+use Rattle.lite_theorems.specs.Uses.{ReadFuture, ReadExactFuture, ReadUntilFuture}
 use Rattle.lite_theorems.specs.Laws.Told.{told_follow, told_none}
 use Rattle.lite_theorems.specs.Told.{FillsUp, PieceTold, EndsShort, ToldStripped, Without}
 

@@ -1,8 +1,10 @@
 -- What comes of a copy, a chain and a buffered writer.
-use Rattle.lite_theorems.specs.Uses.{AtEachOk, ◌≡◌, ◌∙◌, ◌+◌, ◌%◌, ◌^◌, ℕ, false, List, [], ◌∷◌, ◌++◌, Result, Ok, Err, IfOk, length, refl, ap, sym, subst}
-use Rattle.lite_theorems.specs.Uses.{arith, append-nil, Error, Poll, Gives, gives_strip, Lent, Runs, Buffers, unwritten, writer_inner, segments_flushed}
-use Rattle.lite_theorems.specs.Uses.{BufWriter, ChainsReaders, first_of, has_ended, second_of, Chain, ReadMark, MarkLaws, WriteMark, bytes_taken, CopyRuns}
-use Rattle.lite_theorems.specs.Uses.{CopyValue, ok_value, told_both, taken_both, bytes_told, NothingCopied, held_of, met_in, source_of, CopyFuture, MutBor}
+use Rattle.std.specs.Prelude.{◌≡◌, ◌%◌, ◌^◌, ℕ, false, List, [], ◌∷◌, ◌++◌, Result, Ok, Err, IfOk, length}
+use Rattle.std.proofs.Common.{◌+◌}
+use Rattle.lite_theorems.specs.Uses.{AtEachOk, ◌∙◌, refl, ap, sym, subst, arith, append-nil, Error, Poll, Gives, gives_strip, Lent, Runs, Buffers, unwritten}
+use Rattle.lite_theorems.specs.Uses.{writer_inner, segments_flushed, BufWriter, ChainsReaders, first_of, has_ended, second_of, Chain, ReadMark, MarkLaws}
+use Rattle.lite_theorems.specs.Uses.{WriteMark, bytes_taken, CopyRuns, CopyValue, ok_value, told_both, taken_both, bytes_told, NothingCopied, held_of, met_in}
+use Rattle.lite_theorems.specs.Uses.{source_of, CopyFuture, MutBor}
 use Rattle.lite_theorems.specs.Chained.{CopiesBoth, CopiesWhole, TakesWhole, TellsRest, TellsWhole}
 use Rattle.lite_theorems.specs.Laws.Chained.{tells_both}
 

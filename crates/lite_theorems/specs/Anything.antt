@@ -1,5 +1,6 @@
 -- Nothing is said of what a value answers: all lists of answers are allowed that the laws allow.
-use Rattle.lite_theorems.specs.Uses.{⊤, FoldsTo, Poll, Answer, Runs}
+use Rattle.std.specs.Prelude.{⊤}
+use Rattle.lite_theorems.specs.Uses.{FoldsTo, Poll, Answer, Runs}
 use Rattle.lite_theorems.specs.Futures.{StepsToValue}
 
 -- any answers of a stream, where no answer keeps the value

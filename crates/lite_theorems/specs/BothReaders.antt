@@ -1,6 +1,6 @@
 -- A reader that was read up to a value, and two that are alike.
-use Rattle.lite_theorems.specs.Uses.{◌≡◌, ◌++◌, ℕ, List, Result, Ok, Err, ⊤, error_kind, Error, OutOfMemory, ReadMark, bytes, strip_marks, Appended, SameByKind}
-use Rattle.lite_theorems.specs.Uses.{Runs}
+use Rattle.std.specs.Prelude.{◌≡◌, ◌++◌, ℕ, List, Result, Ok, Err, ⊤}
+use Rattle.lite_theorems.specs.Uses.{error_kind, Error, OutOfMemory, ReadMark, bytes, strip_marks, Appended, SameByKind, Runs}
 
 -- pendings aside, the reader told these bytes, and then the end or the error of which the value comes; or the value is
 -- a refusal of memory, where one may come

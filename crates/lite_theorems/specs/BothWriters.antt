@@ -1,6 +1,6 @@
 -- A writer that was handed some bytes and then flushed, and two that are alike.
-use Rattle.lite_theorems.specs.Uses.{◌≡◌, ◌⊎◌, ℕ, List, [], ◌∷◌, ◌++◌, Result, Ok, Err, IsOk, error_kind, Error, WriteZero, StandsFirst, EndsFlushed, WriteMark}
-use Rattle.lite_theorems.specs.Uses.{bytes_taken, NoFailure, Runs}
+use Rattle.std.specs.Prelude.{◌≡◌, ◌⊎◌, ℕ, List, [], ◌∷◌, ◌++◌, Result, Ok, Err, IsOk}
+use Rattle.lite_theorems.specs.Uses.{error_kind, Error, WriteZero, StandsFirst, EndsFlushed, WriteMark, bytes_taken, NoFailure, Runs}
 
 -- behind these marks came this error, or a write that took nothing
 abbrev pub FailsBy : List WriteMark → List WriteMark → Error → Type 0

@@ -1,6 +1,7 @@
 -- A copy to a buffered writer, also of two readers, one after the other.
-use Rattle.lite_theorems.specs.Uses.{◌≡◌, ◌%◌, ◌^◌, ℕ, Bool, true, false, List, [], ◌∷◌, ◌++◌, length, Runs, unwritten, writer_inner, BufWriter, first_of}
-use Rattle.lite_theorems.specs.Uses.{has_ended, second_of, Chain, ReadMark, WriteMark, bytes_taken, BytesAlone, bytes_told, source_of, CopyFuture, MutBor}
+use Rattle.std.specs.Prelude.{◌≡◌, ◌%◌, ◌^◌, ℕ, Bool, true, false, List, [], ◌∷◌, ◌++◌, length}
+use Rattle.lite_theorems.specs.Uses.{Runs, unwritten, writer_inner, BufWriter, first_of, has_ended, second_of, Chain, ReadMark, WriteMark, bytes_taken}
+use Rattle.lite_theorems.specs.Uses.{BytesAlone, bytes_told, source_of, CopyFuture, MutBor}
 
 -- the reader told these bytes, with pendings among them, and then its first end
 pub record TellsWhole {R : Type 0} (reads : Runs ReadMark R) (x : R) (xs : List ℕ) (y : R) : Type 0 where

@@ -1,5 +1,6 @@
 -- A reader over another, which hands on what that one reads: each byte as what is made of it, each other mark as it is.
-use Rattle.lite_theorems.specs.Uses.{◌≡◌, ℕ, List, map, Runs, ReadMark}
+use Rattle.std.specs.Prelude.{◌≡◌, ℕ, List, map}
+use Rattle.lite_theorems.specs.Uses.{Runs, ReadMark}
 
 -- the mark, and where it is a byte what f makes of that
 abbrev pub each_byte : (ℕ → ℕ) → ReadMark → ReadMark

@@ -1,6 +1,6 @@
 -- Interleavings of two lists, and collections that hold one of all items of two streams.
-use Rattle.lite_theorems.specs.Uses.{◌≡◌, ◌⊎◌, List, [], ◌∷◌, ◌++◌, Bool, true, false, map, Some, None, Ready, Pending, Answer, end, strip, Runs, Consume, Or}
-use Rattle.lite_theorems.specs.Uses.{Race, Fuse}
+use Rattle.std.specs.Prelude.{◌≡◌, ◌⊎◌, List, [], ◌∷◌, ◌++◌, Bool, true, false, map, Some, None}
+use Rattle.lite_theorems.specs.Uses.{Ready, Pending, Answer, end, strip, Runs, Consume, Or, Race, Fuse}
 
 -- `all` is empty where both lists are, and else begins with the head of one of them, before an interleaving of what is
 -- left

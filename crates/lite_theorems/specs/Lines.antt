@@ -1,6 +1,6 @@
 -- What a collection of the lines of a reader's first bytes holds, as a function of what the reader tells.
-use Rattle.lite_theorems.specs.Uses.{◌≡◌, ◌==◌, ◌⊎◌, if◌then◌else◌, ℕ, zero, suc, List, [], ◌∷◌, ◌++◌, map, string_bytes, IsUtf8, Result, Ok, Err, Global}
-use Rattle.lite_theorems.specs.Uses.{error_kind, Error, ErrorKind, InvalidData, OutOfMemory, String, Poll, Gives, Runs, TryCollectError, Source, Memory}
+use Rattle.std.specs.Prelude.{◌≡◌, ◌==◌, ◌⊎◌, if◌then◌else◌, ℕ, zero, suc, List, [], ◌∷◌, ◌++◌, map, string_bytes, IsUtf8, Result, Ok, Err}
+use Rattle.lite_theorems.specs.Uses.{Global, error_kind, Error, ErrorKind, InvalidData, OutOfMemory, String, Poll, Gives, Runs, TryCollectError, Source, Memory}
 use Rattle.lite_theorems.specs.Uses.{ReadMark, bytes, without_return}
 
 -- a line, or an error in its place

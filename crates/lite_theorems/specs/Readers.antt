@@ -1,5 +1,6 @@
 -- A reader by steps: each mark is a step, in the run `Steps step`.
-use Rattle.lite_theorems.specs.Uses.{◌<◌, ◌≤◌, ℕ, ErrorKind, ReadMark}
+use Rattle.std.specs.Prelude.{◌<◌, ◌≤◌, ℕ}
+use Rattle.lite_theorems.specs.Uses.{ErrorKind, ReadMark}
 
 -- `step` is what one mark may leave
 module _ {S : Type 0} (step : S → ReadMark → S → Type 0) where

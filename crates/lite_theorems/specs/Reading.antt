@@ -1,5 +1,7 @@
 -- A reader by steps that reads many bytes at once, of those that are left: each is one step.
-use Rattle.lite_theorems.specs.Uses.{◌≡◌, ◌+◌, ℕ, List, [], ◌∷◌, drop, ReadMark}
+use Rattle.std.specs.Prelude.{◌≡◌, ℕ, List, [], ◌∷◌}
+use Rattle.std.proofs.Common.{◌+◌}
+use Rattle.lite_theorems.specs.Uses.{drop, ReadMark}
 
 -- `left` are the bytes that are to come, and `further x n` is x where n more of them were read
 module _ {S : Type 0} (step : S → ReadMark → S → Type 0) (left : S → List ℕ) (further : S → ℕ → S) where

@@ -1,6 +1,6 @@
 -- What is answered to lines, and what a server of lines was told and wrote.
-use Rattle.lite_theorems.specs.Uses.{◌≡◌, ◌⊎◌, ℕ, Bool, true, false, List, [], ◌∷◌, ◌++◌, flat_map, ⊤, Result, Ok, Err, error_kind, OutOfMemory, ReadMark}
-use Rattle.lite_theorems.specs.Uses.{bytes, StandsFirst, EndsFlushed, WriteMark, bytes_taken, byte_lines}
+use Rattle.std.specs.Prelude.{◌≡◌, ◌⊎◌, ℕ, Bool, true, false, List, [], ◌∷◌, ◌++◌, flat_map, ⊤, Result, Ok, Err}
+use Rattle.lite_theorems.specs.Uses.{error_kind, OutOfMemory, ReadMark, bytes, StandsFirst, EndsFlushed, WriteMark, bytes_taken, byte_lines}
 use Rattle.lite_theorems.specs.Told.{EndsAtFirst, Without}
 use Rattle.lite_theorems.specs.declared.serve_error.ServeError.{ServeError}
 use Rattle.lite_theorems.specs.declared.serve_error.ServeError.TheVariants.{Input, Memory, Output}

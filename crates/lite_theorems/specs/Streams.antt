@@ -1,5 +1,6 @@
 -- A stream by steps: each poll is a step, in the run `FoldsTo step`.
-use Rattle.lite_theorems.specs.Uses.{◌≡◌, ◌<◌, ◌≤◌, ℕ, Some, Pending, Answer, end, item, Hints}
+use Rattle.std.specs.Prelude.{◌≡◌, ◌<◌, ◌≤◌, ℕ, Some}
+use Rattle.lite_theorems.specs.Uses.{Pending, Answer, end, item, Hints}
 
 -- the hint is this number, as the least and as the most
 abbrev pub HintsAt : {S : Type 0} → (S → ℕ) → Hints S

@@ -1,6 +1,6 @@
 -- What a reader told while a call of it was waited for, pendings aside.
-use Rattle.lite_theorems.specs.Uses.{◌≡◌, ◌≢◌, ◌<◌, ◌⊎◌, ℕ, List, [], ◌∷◌, ◌++◌, length, Result, Ok, Err, error_kind, AllByRecursion, Error, OutOfMemory}
-use Rattle.lite_theorems.specs.Uses.{UnexpectedEof, Runs, ReadMark, bytes, strip_marks}
+use Rattle.std.specs.Prelude.{◌≡◌, ◌≢◌, ◌<◌, ◌⊎◌, ℕ, List, [], ◌∷◌, ◌++◌, length, Result, Ok, Err}
+use Rattle.lite_theorems.specs.Uses.{error_kind, AllByRecursion, Error, OutOfMemory, UnexpectedEof, Runs, ReadMark, bytes, strip_marks}
 
 -- pendings aside, the reader told just this
 abbrev pub ToldStripped : {R : Type 0} → Runs ReadMark R → Runs ReadMark R

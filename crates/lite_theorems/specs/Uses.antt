@@ -1,4 +1,4 @@
--- What the files of this crate take from the crates below. Each file has one list of it; a name that two modules have is imported from its own.
+-- What this crate's files take from other crates. The prelude, and a name that two modules have, are imported from where they are.
 pub use Rattle.futures.specs.declared.task.Poll.{Poll}
 pub use Rattle.futures.specs.declared.task.Poll.TheVariants.{Pending, Ready}
 pub use Rattle.lite_base.specs.Answers.{Answer, Comparable, Gives, UpToValue, before_end, end, item, strip, until_end}
@@ -99,15 +99,13 @@ pub use Rattle.lite_write.specs.declared.flush.FlushFuture.{FlushFuture}
 pub use Rattle.lite_write.specs.declared.write_all.WriteAllFuture.{WriteAllFuture}
 pub use Rattle.rand_core.specs.Stream.{Stream}
 pub use Rattle.std.proofs.Common.{Global, Option, ap, append-nil, append_assoc, arith, drop, eqb-true, inl, inr, length-append, length-drop, length-take-le}
-pub use Rattle.std.proofs.Common.{min, refl, rules, slice_set, subst, sym, take, take-append-drop, ◌+◌, ◌∙◌}
+pub use Rattle.std.proofs.Common.{min, refl, rules, slice_set, subst, sym, take, take-append-drop, ◌∙◌}
 pub use Rattle.std.proofs.Math.Seq.{drop-length, take-append_seam, take-length}
 pub use Rattle.std.proofs.lemmas.Bool.{ne_eqb}
 pub use Rattle.std.proofs.lemmas.Grind.{common_steps, flat_map-append}
 pub use Rattle.std.proofs.lemmas.List.{length-map, length-take, map-append, take_all}
 pub use Rattle.std.specs.IoError.{error_kind}
 pub use Rattle.std.specs.List.{AllByRecursion, FoldsTo}
-pub use Rattle.std.specs.Prelude.{Bool, Err, IfErr, IfOk, IfSome, IsOk, IsSome, IsUtf8, List, None, Ok, OnErr, Result, Some, [], false, flat_map, if◌then◌else◌}
-pub use Rattle.std.specs.Prelude.{length, map, string_bytes, suc, true, zero, ℕ, ⊤, ◌%◌, ◌++◌, ◌<◌, ◌==◌, ◌^◌, ◌∷◌, ◌≡◌, ◌≢◌, ◌≤◌, ◌⊎◌}
 pub use Rattle.std.specs.declared.io.Error.{Error}
 pub use Rattle.std.specs.declared.io.ErrorKind.{ErrorKind}
 pub use Rattle.std.specs.declared.io.ErrorKind.TheVariants.{InvalidData, OutOfMemory, UnexpectedEof, WriteZero}

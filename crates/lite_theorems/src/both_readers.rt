@@ -1,4 +1,4 @@
-ghost use Rattle.lite_theorems.specs.Uses.{◌≡◌, ◌++◌, [], ℕ, List, IfErr, IfOk, ⊤};
+ghost use Rattle.std.specs.Prelude.{◌≡◌, ◌++◌, [], ℕ, List, IfErr, IfOk, ⊤};
 ghost use Rattle.lite_theorems.specs.BothReaders.{BothRead, ReadsUp};
 
 use lite_base::future::block_on::BlockOn;

@@ -1,4 +1,5 @@
-ghost use Rattle.lite_theorems.specs.Uses.{◌≡◌, [], List, IfOk, WriteMark, bytes_taken};
+ghost use Rattle.std.specs.Prelude.{◌≡◌, [], List, IfOk};
+ghost use Rattle.lite_theorems.specs.Uses.{WriteMark, bytes_taken};
 ghost use Rattle.lite_theorems.specs.BothWriters.{BothWritten, FlushedUp, HandedUp, TakesFront, WrittenUp};
 
 use crate::waits::{wait_flush, wait_write_all};

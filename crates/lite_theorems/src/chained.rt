@@ -1,6 +1,6 @@
 //! What comes through a copy to a buffered writer, also of a chain, by the contracts of the traits alone.
-ghost use Rattle.lite_theorems.specs.Uses.{AtEachOk, ◌≡◌, IfOk, false, Lent, Buffers, CopyRuns, NothingCopied, source_of, ChainsReaders, first_of, has_ended};
-ghost use Rattle.lite_theorems.specs.Uses.{second_of};
+ghost use Rattle.std.specs.Prelude.{◌≡◌, IfOk, false};
+ghost use Rattle.lite_theorems.specs.Uses.{AtEachOk, Lent, Buffers, CopyRuns, NothingCopied, source_of, ChainsReaders, first_of, has_ended, second_of};
 ghost use Rattle.lite_theorems.specs.Chained.{CopiesBoth, CopiesWhole};
 
 use lite_buffered::make::chain;

@@ -1,6 +1,6 @@
 //! Each line of a reader is answered to a writer.
-ghost use Rattle.lite_theorems.specs.Uses.{◌≡◌, ◌++◌, ◌∷◌, [], List, Ok, IfErr, IfOk, false, flat_map, true, ReadMark, EndsFlushed, WriteMark, bytes_taken};
-ghost use Rattle.lite_theorems.specs.Uses.{last_piece, without_return};
+ghost use Rattle.std.specs.Prelude.{◌≡◌, ◌++◌, ◌∷◌, [], List, Ok, IfErr, IfOk, false, flat_map, true};
+ghost use Rattle.lite_theorems.specs.Uses.{ReadMark, EndsFlushed, WriteMark, bytes_taken, last_piece, without_return};
 ghost use Rattle.lite_theorems.specs.BothWriters.{TakesFront};
 ghost use Rattle.lite_theorems.specs.Serving.{LineEnds, OfOutput, PieceIn, Replied, Replying, ServingEnds};
 ghost use Rattle.lite_theorems.specs.Told.{ToldStripped, Without};

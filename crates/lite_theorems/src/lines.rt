@@ -1,4 +1,5 @@
-ghost use Rattle.lite_theorems.specs.Uses.{◌≡◌, ◌<◌, [], IfErr, IfOk, ahead, reader_capacity, reader_inner, take_inner};
+ghost use Rattle.std.specs.Prelude.{◌≡◌, ◌<◌, [], IfErr, IfOk};
+ghost use Rattle.lite_theorems.specs.Uses.{ahead, reader_capacity, reader_inner, take_inner};
 ghost use Rattle.lite_theorems.specs.Lines.{AtEachValue, CollectsLines};
 
 use lite_base::Future;

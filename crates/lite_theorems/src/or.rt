@@ -1,4 +1,5 @@
-ghost use Rattle.lite_theorems.specs.Uses.{AtEachOk, ◌≡◌, [], IfSome, IsSome, false};
+ghost use Rattle.std.specs.Prelude.{◌≡◌, [], IfSome, IsSome, false};
+ghost use Rattle.lite_theorems.specs.Uses.{AtEachOk};
 ghost use Rattle.lite_theorems.specs.Interleaving.{OrHolds};
 
 use lite_base::{Counted, Future};

@@ -1,5 +1,6 @@
 //! Waits for one call of a reader or a writer: what was told or taken until the value, by the contracts of the traits alone.
-ghost use Rattle.lite_theorems.specs.Uses.{◌≡◌, ◌≤◌, ◌++◌, [], ℕ, List, Ok, IfErr, IfOk, IsOk, length, Ready, ReadMark, read_marks, WriteMark, bytes_taken};
+ghost use Rattle.std.specs.Prelude.{◌≡◌, ◌≤◌, ◌++◌, [], ℕ, List, Ok, IfErr, IfOk, IsOk, length};
+ghost use Rattle.lite_theorems.specs.Uses.{Ready, ReadMark, read_marks, WriteMark, bytes_taken};
 ghost use Rattle.lite_theorems.specs.BothWriters.{FlushedUp, HandedUp, TakesFront};
 ghost use Rattle.lite_theorems.specs.Told.{FillsUp, PieceTold, ToldStripped};
 

@@ -1,8 +1,9 @@
 -- The items of an adapter, by those of its source.
 use Rattle.lite_views.proofs.Streams.{not_equal}
-use Rattle.lite_views.specs.Uses.{StepBy, Skip, Fuse, Copied, Inspect, Enumerate, ◌≡◌, ◌≤◌, ◌<◌, ◌==◌, ◌∙◌, ℕ, zero, suc, ◌-◌, ◌+◌, ◌%◌, ◌^◌, List, [], ◌∷◌}
-use Rattle.lite_views.specs.Uses.{◌++◌, length, map, take, drop, inl, inr, refl, ap, replicate, sym, subst, arith, add-one, append-nil, length-map}
-use Rattle.lite_views.specs.Uses.{length-enumerate_from, mod-add-mod, mod-eq_of_lt, zero-mod, ⊤, Bool, true, false, cond, Option, Some, None, cons_option}
+use Rattle.std.specs.Prelude.{◌≡◌, ◌==◌, ℕ, ◌%◌, List, [], ◌∷◌, ◌++◌, map, refl, ⊤, Bool, true, false, cond, Option, Some, None}
+use Rattle.std.proofs.Common.{◌≤◌, ◌<◌, ◌-◌, ◌+◌, ◌^◌}
+use Rattle.lite_views.specs.Uses.{StepBy, Skip, Fuse, Copied, Inspect, Enumerate, ◌∙◌, zero, suc, length, take, drop, inl, inr, ap, replicate, sym, subst}
+use Rattle.lite_views.specs.Uses.{arith, add-one, append-nil, length-map, length-enumerate_from, mod-add-mod, mod-eq_of_lt, zero-mod, cons_option}
 use Rattle.lite_views.specs.Uses.{enumerate_from, filter, filter_map, prefix_len, take_while, zip, Ready, Pending, Answer, Endless, end, item, Accepts, Always}
 use Rattle.lite_views.specs.Uses.{Paces, left_behind, Question, Runs, CopiesItem, CopiesAll, copied_parts, Cuts, Numbers, Enumerates, enumerate_parts, FusesOn}
 use Rattle.lite_views.specs.Uses.{Fuses, fuse_parts, ShowsItem, Inspects, inspect_parts, Exchanges, Takes, is_none_left, left_after, take_parts, Take}

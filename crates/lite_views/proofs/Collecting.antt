@@ -1,7 +1,7 @@
 -- The value of `try_collect`, by what the Ok items of the stream hold.
-use Rattle.lite_views.specs.Uses.{TryCollect, ◌≡◌, List, [], ◌∷◌, ◌++◌, map, sym, append_assoc, append-nil, Option, Some, None, Result, Ok, Err, IfOk, IfSome}
-use Rattle.lite_views.specs.Uses.{Poll, Ready, Answer, Gives, item, Runs, Folds, Consumes, Decides, Fold, TakesIn, fold_of, consumes_steps, Consume}
-use Rattle.lite_views.specs.Uses.{tries_collect, TryCollectError}
+use Rattle.std.specs.Prelude.{◌≡◌, List, [], ◌∷◌, ◌++◌, map, Option, Some, None, Result, Ok, Err, IfOk, IfSome}
+use Rattle.lite_views.specs.Uses.{TryCollect, sym, append_assoc, append-nil, Poll, Ready, Answer, Gives, item, Runs, Folds, Consumes, Decides, Fold, TakesIn}
+use Rattle.lite_views.specs.Uses.{fold_of, consumes_steps, Consume, tries_collect, TryCollectError}
 use Rattle.lite_views.specs.Views.{ValueHolds}
 use Rattle.lite_views.proofs.Views.{value_holds}
 use Rattle.lite_views.proofs.Consuming.{WhereSome, where_some}

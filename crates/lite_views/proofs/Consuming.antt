@@ -1,12 +1,14 @@
 -- The value of a future that consumes a stream, by the items of the stream.
+use Rattle.std.specs.Prelude.{◌≡◌, ℕ, List, [], ◌∷◌, ◌++◌, map, refl, Bool, true, false, cond, not, nat_lt, Option, Some, None, Result, Ok, Err, IfOk, IfSome}
+use Rattle.std.specs.Prelude.{option_map}
+use Rattle.std.proofs.Common.{◌⊎◌, ◌<◌, ◌^◌, ◌+◌}
 use Rattle.lite_views.specs.Uses.{Unzip, Partition, TryCollect, Collect, Position, Find, Any, All, TryForEach, FindMap, TryFold, filter-append, map-append}
-use Rattle.lite_views.specs.Uses.{Lent, MutBor, TryNext, Last, Nth, Next, ◌≡◌, ◌∙◌, ◌⊎◌, ◌<◌, ◌^◌, ℕ, suc, ◌+◌, List, [], ◌∷◌, ◌++◌, length, map, inl, inr}
-use Rattle.lite_views.specs.Uses.{refl, ap, sym, arith, append_assoc, append-nil, not-not, leb-suc-suc, leb-zero, Bool, true, false, cond, not, nat_lt, Option}
-use Rattle.lite_views.specs.Uses.{Some, None, Result, Ok, Err, IfOk, IfSome, option_map, option_transpose, ok_prefix, filter, filter_map, fold, last_or}
-use Rattle.lite_views.specs.Uses.{list_all, list_any, find, position, position_or_len, slice_get, Poll, Ready, Answer, Gives, item, Question, Runs, alls, anys}
-use Rattle.lite_views.specs.Uses.{Folds, Consumes, Decides, Fold, TakesIn, fold_of, counts, finds, finds_map, folds, lasts, consumes_steps, nexts, nths}
-use Rattle.lite_views.specs.Uses.{positions, tries_fold, tries_each, tries_next, Consume, collects, Sorted, partitions, Partitioned, tries_collect}
-use Rattle.lite_views.specs.Uses.{TryCollected, unzips, Refused, TryCollectError, UnzipRefused}
+use Rattle.lite_views.specs.Uses.{Lent, MutBor, TryNext, Last, Nth, Next, ◌∙◌, suc, length, inl, inr, ap, sym, arith, append_assoc, append-nil, not-not}
+use Rattle.lite_views.specs.Uses.{leb-suc-suc, leb-zero, option_transpose, ok_prefix, filter, filter_map, fold, last_or, list_all, list_any, find, position}
+use Rattle.lite_views.specs.Uses.{position_or_len, slice_get, Poll, Ready, Answer, Gives, item, Question, Runs, alls, anys, Folds, Consumes, Decides, Fold}
+use Rattle.lite_views.specs.Uses.{TakesIn, fold_of, counts, finds, finds_map, folds, lasts, consumes_steps, nexts, nths, positions, tries_fold, tries_each}
+use Rattle.lite_views.specs.Uses.{tries_next, Consume, collects, Sorted, partitions, Partitioned, tries_collect, TryCollected, unzips, Refused, TryCollectError}
+use Rattle.lite_views.specs.Uses.{UnzipRefused}
 use Rattle.lite_consume.specs.declared.fold.Fold.{Fold as FoldFolder}
 use Rattle.lite_consume.specs.declared.count.Count.{Count}
 use Rattle.lite_views.specs.Futures.{CountRuns, LastRuns, NthRuns}

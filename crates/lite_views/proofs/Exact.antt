@@ -1,6 +1,7 @@
 -- `read_exact` of a reader of which it is known what bytes are to come.
-use Rattle.lite_views.specs.Uses.{take_all, length-take, take-append_seam, drop-append_seam, ◌≡◌, ◌∙◌, ℕ, List, [], ◌∷◌, length, take, drop, ap, sym, arith}
-use Rattle.lite_views.specs.Uses.{Result, Ok, Err, IfOk, Error, TellsKnown, ReadMark, Filling, filled_by, Fulfils, fills}
+use Rattle.std.specs.Prelude.{◌≡◌, ℕ, List, [], ◌∷◌, Result, Ok, Err, IfOk}
+use Rattle.lite_views.specs.Uses.{take_all, length-take, take-append_seam, drop-append_seam, ◌∙◌, length, take, drop, ap, sym, arith, Error, TellsKnown}
+use Rattle.lite_views.specs.Uses.{ReadMark, Filling, filled_by, Fulfils, fills}
 use Rattle.lite_views.proofs.Futures.{TakenUp}
 
 module _ (p : Filling) (bs ys : List ℕ) where

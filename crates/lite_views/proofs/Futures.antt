@@ -1,7 +1,9 @@
 -- The futures that read from a reader of which it is known what bytes are to come.
-use Rattle.lite_views.specs.Uses.{◌≡◌, ◌+◌, ℕ, List, [], ◌∷◌, ◌++◌, length, ap, sym, subst, arith, append_assoc, append-nil, length-append, ⊤, Result, Ok, Err}
-use Rattle.lite_views.specs.Uses.{IfOk, FoldsTo, Error, Poll, Ready, Pending, Gives, folds_follow, to_value_last, Runs, TellsKnown, Known, Knows, spends_bytes}
-use Rattle.lite_views.specs.Uses.{spends_split, knows_spends, ReadMark, bytes, AnswerMarks, ReadFold, ReadFolds, Gathers, Appended, appends}
+use Rattle.std.specs.Prelude.{◌≡◌, ℕ, List, [], ◌∷◌, ◌++◌, ⊤, Result, Ok, Err, IfOk}
+use Rattle.std.proofs.Common.{◌+◌}
+use Rattle.lite_views.specs.Uses.{length, ap, sym, subst, arith, append_assoc, append-nil, length-append, FoldsTo, Error, Poll, Ready, Pending, Gives}
+use Rattle.lite_views.specs.Uses.{folds_follow, to_value_last, Runs, TellsKnown, Known, Knows, spends_bytes, spends_split, knows_spends, ReadMark, bytes}
+use Rattle.lite_views.specs.Uses.{AnswerMarks, ReadFold, ReadFolds, Gathers, Appended, appends}
 use Rattle.lite_views.specs.Waiting.{LeftAs, WhenLeft}
 use Rattle.lite_views.proofs.Waiting.{left_seen}
 

@@ -1,8 +1,9 @@
 -- The items of an adapter that holds what was made of an item: `then`, `cloned`, `flatten` and `flat_map`.
 use Rattle.lite_base.specs.declared.future.ready.Ready.{Ready as ReadyFuture}
-use Rattle.lite_views.specs.Uses.{◌≡◌, List, [], ◌∷◌, ◌++◌, map, inl, inr, refl, ap, sym, subst, append-nil, ⊤, Option, Some, None, Result, Ok, flat_map}
-use Rattle.lite_views.specs.Uses.{Called, Mut, AllByRecursion, Bor, Poll, Ready, Pending, Answer, Gives, Waiting, end, Always, Calls, handed, GivesHeld}
-use Rattle.lite_views.specs.Uses.{Question, Runs, Clones, IsCloneRefusal, Refers, Flat, Flattening, FlatMaps, FlatMap, Expanding, Expands, HandsOut, Exchanges}
+use Rattle.std.specs.Prelude.{◌≡◌, List, [], ◌∷◌, ◌++◌, map, refl, ⊤, Option, Some, None, Result, Ok, flat_map}
+use Rattle.lite_views.specs.Uses.{inl, inr, ap, sym, subst, append-nil, Called, Mut, AllByRecursion, Bor, Poll, Ready, Pending, Answer, Gives, Waiting, end}
+use Rattle.lite_views.specs.Uses.{Always, Calls, handed, GivesHeld, Question, Runs, Clones, IsCloneRefusal, Refers, Flat, Flattening, FlatMaps, FlatMap}
+use Rattle.lite_views.specs.Uses.{Expanding, Expands, HandsOut, Exchanges}
 use Rattle.lite_views.proofs.Adapting.{continued_fits, endless_fits}
 use Rattle.lite_views.proofs.Views.{Carries, listed}
 use Rattle.lite_views.specs.Views.{Fits, HasValue, Lists, ListsAs}

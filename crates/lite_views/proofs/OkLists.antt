@@ -1,5 +1,5 @@
 -- What the Ok items of a stream hold, up to its first error.
-use Rattle.lite_views.specs.Uses.{List}
+use Rattle.std.specs.Prelude.{List}
 use Rattle.lite_views.specs.OkLists.{OkSeen}
 
 pub ok_seen : {S T Y : Type 0} (s : S) (f : T → Y) (xs : List Y) → OkSeen s f xs

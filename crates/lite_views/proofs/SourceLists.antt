@@ -1,8 +1,10 @@
 -- The items of a source.
-use Rattle.lite_views.specs.Uses.{length-range_with_len, GivesOnce, once_left, ◌≡◌, ◌+◌, ◌-◌, ◌∙◌, ℕ, suc, List, [], ◌∷◌, length, refl, ap, sym, arith}
-use Rattle.lite_views.specs.Uses.{array_into_iter_items, array_steps, Count, at_most, copied_steps, AllByRecursion, range_with_len, Option, Some, None, Result}
-use Rattle.lite_views.specs.Uses.{Ok, Err, ⊤, range_steps, iter_steps, into_iter_items, into_iter_len, into_iter_steps, Global, Range, IntoIter, Ready, Pending}
-use Rattle.lite_views.specs.Uses.{Answer, end, until_end, slice_items, Unchanging, Iterates, IsCloned, Repeats, GivesScript, Iter, Repeat, items_in}
+use Rattle.std.specs.Prelude.{◌≡◌, ℕ, List, [], ◌∷◌, refl, Option, Some, None, Result, Ok, Err, ⊤}
+use Rattle.std.proofs.Common.{◌+◌, ◌-◌}
+use Rattle.lite_views.specs.Uses.{length-range_with_len, GivesOnce, once_left, ◌∙◌, suc, length, ap, sym, arith, array_into_iter_items, array_steps, Count}
+use Rattle.lite_views.specs.Uses.{at_most, copied_steps, AllByRecursion, range_with_len, range_steps, iter_steps, into_iter_items, into_iter_len}
+use Rattle.lite_views.specs.Uses.{into_iter_steps, Global, Range, IntoIter, Ready, Pending, Answer, end, until_end, slice_items, Unchanging, Iterates, IsCloned}
+use Rattle.lite_views.specs.Uses.{Repeats, GivesScript, Iter, Repeat, items_in}
 use Rattle.std.specs.declared.array.IntoIter.{IntoIter as ArrayIter}
 use Rattle.std.specs.declared.iter.Copied.{Copied}
 use Rattle.std.specs.declared.slice.Iter.{Iter as SliceIter}

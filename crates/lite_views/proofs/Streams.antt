@@ -1,10 +1,11 @@
 -- The streams over a reader of which it is known what bytes are to come.
 use Rattle.lite_views.proofs.OkLists.{ok_seen}
 use Rattle.lite_views.proofs.Views.{listed}
-use Rattle.lite_views.specs.Uses.{Bytes, ◌≡◌, ◌∙◌, ◌<◌, ◌≢◌, ℕ, List, [], ◌∷◌, ◌++◌, length, map, inl, inr, refl, ap, subst, arith, eqb_tells, ◌==◌, ⊤, true}
-use Rattle.lite_views.specs.Uses.{false, Option, Some, None, Result, Ok, Err, FoldsTo, Error, Ready, Pending, Answer, Runs, TellsKnown, Known, Knows}
-use Rattle.lite_views.specs.Uses.{spends_bytes, spends_split, knows_spends, ReadMark, bytes, Cut, CutsPiece, Itemised, pieces, PieceSegments, Flows, StreamOver}
-use Rattle.lite_views.specs.Uses.{TellsEach, TellsBytes, AnswerMarks, ReadFold, last_piece, pieces_from}
+use Rattle.std.specs.Prelude.{◌≡◌, ℕ, List, [], ◌∷◌, ◌++◌, map, refl, ◌==◌, ⊤, true, false, Option, Some, None, Result, Ok, Err}
+use Rattle.std.proofs.Common.{◌<◌, ◌≢◌}
+use Rattle.lite_views.specs.Uses.{Bytes, ◌∙◌, length, inl, inr, ap, subst, arith, eqb_tells, FoldsTo, Error, Ready, Pending, Answer, Runs, TellsKnown, Known}
+use Rattle.lite_views.specs.Uses.{Knows, spends_bytes, spends_split, knows_spends, ReadMark, bytes, Cut, CutsPiece, Itemised, pieces, PieceSegments, Flows}
+use Rattle.lite_views.specs.Uses.{StreamOver, TellsEach, TellsBytes, AnswerMarks, ReadFold, last_piece, pieces_from}
 use Rattle.lite_views.specs.Views.{Fits, ListsAs}
 use Rattle.lite_views.specs.OkLists.{OkFits, OkLists, OkListsAs}
 

@@ -1,6 +1,7 @@
 -- The futures that read a text from a reader of which it is known what bytes are to come.
-use Rattle.lite_views.specs.Uses.{ReadMark, TextOver, TextStays, Runs, Known, Knows, ◌≡◌, ◌∙◌, ℕ, List, [], ◌∷◌, ◌++◌, length, inl, inr, ap, sym, arith, refl}
-use Rattle.lite_views.specs.Uses.{⊤, Result, Ok, Err, IfOk, FoldsTo, Error, ReadFold, appends, AppendsText, Reading, ValueOf, in_text, reading, ReadsText}
+use Rattle.std.specs.Prelude.{◌≡◌, ℕ, List, [], ◌∷◌, ◌++◌, refl, ⊤, Result, Ok, Err, IfOk}
+use Rattle.lite_views.specs.Uses.{ReadMark, TextOver, TextStays, Runs, Known, Knows, ◌∙◌, length, inl, inr, ap, sym, arith, FoldsTo, Error, ReadFold, appends}
+use Rattle.lite_views.specs.Uses.{AppendsText, Reading, ValueOf, in_text, reading, ReadsText}
 use Rattle.lite_views.specs.Waiting.{WhenLeft}
 use Rattle.lite_views.proofs.Futures.{TakenUp, all_appended, gathered_left}
 

@@ -1,5 +1,6 @@
 -- The list of the items of a stream, and the value of a future.
-use Rattle.lite_views.specs.Uses.{sym, ◌≡◌, List, Ok, Err, refl, MutBor, Poll, Answer, Finishes, Lent, Question, Runs, AdapterParts, Adapts, Relates}
+use Rattle.std.specs.Prelude.{◌≡◌, List, Ok, Err, refl}
+use Rattle.lite_views.specs.Uses.{sym, MutBor, Poll, Answer, Finishes, Lent, Question, Runs, AdapterParts, Adapts, Relates}
 use Rattle.lite_views.specs.Views.{Fits, Lists, ListsAs, Seen, ValueHolds, Waited}
 
 pub seen : {X Y : Type 0} (x : X) (y : Y) → Seen x y

@@ -1,9 +1,10 @@
 -- The futures that write to a writer of which it is known what it keeps.
-use Rattle.lite_views.specs.Uses.{WriteAllFuture, ◌≡◌, ◌∙◌, ◌+◌, ◌%◌, ◌^◌, ℕ, List, [], ◌∷◌, ◌++◌, length, map, refl, ap, sym, arith, append_assoc, append-nil}
-use Rattle.lite_views.specs.Uses.{⊤, Result, Ok, Err, IfOk, FoldsTo, Error, Poll, Ready, Pending, Gives, strip, segment_front, to_value_last, Runs, CopyRuns}
-use Rattle.lite_views.specs.Uses.{CopyValue, Moves, NothingCopied, held_of, met_in, source_of, CopyFuture, BytesAlone, bytes_told, Known, Knows, TellsKnown}
-use Rattle.lite_views.specs.Uses.{knows_spends, Stored, Stores, stores_kept, ReadMark, WriteMark, bytes_taken, taken_both, Hands, Ended, HandsMarks, HandsOver}
-use Rattle.lite_views.specs.Uses.{WritesAll}
+use Rattle.std.specs.Prelude.{◌≡◌, ◌%◌, ℕ, List, [], ◌∷◌, ◌++◌, map, refl, ⊤, Result, Ok, Err, IfOk}
+use Rattle.std.proofs.Common.{◌+◌, ◌^◌}
+use Rattle.lite_views.specs.Uses.{WriteAllFuture, ◌∙◌, length, ap, sym, arith, append_assoc, append-nil, FoldsTo, Error, Poll, Ready, Pending, Gives, strip}
+use Rattle.lite_views.specs.Uses.{segment_front, to_value_last, Runs, CopyRuns, CopyValue, Moves, NothingCopied, held_of, met_in, source_of, CopyFuture}
+use Rattle.lite_views.specs.Uses.{BytesAlone, bytes_told, Known, Knows, TellsKnown, knows_spends, Stored, Stores, stores_kept, ReadMark, WriteMark, bytes_taken}
+use Rattle.lite_views.specs.Uses.{taken_both, Hands, Ended, HandsMarks, HandsOver, WritesAll}
 use Rattle.lite_views.proofs.Futures.{when_left}
 use Rattle.lite_views.specs.Waiting.{WhenLeft}
 

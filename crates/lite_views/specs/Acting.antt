@@ -1,5 +1,6 @@
 -- What closures do, where std has no word for it.
-use Rattle.lite_views.specs.Uses.{◌≡◌, Mut, CalledWithState}
+use Rattle.std.specs.Prelude.{◌≡◌}
+use Rattle.lite_views.specs.Uses.{Mut, CalledWithState}
 use denote.Ref.{MutBor}
 
 -- of a state and an item each call of f gives what h gives, leaves the state that h gives, and leaves f as it was

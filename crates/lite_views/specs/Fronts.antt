@@ -1,5 +1,5 @@
 -- What stands first in a list.
-use Rattle.lite_views.specs.Uses.{◌≡◌, List, ◌++◌}
+use Rattle.std.specs.Prelude.{◌≡◌, List, ◌++◌}
 
 -- ys begins with xs
 abbrev pub Front : {A : Type 0} → List A → List A → Type 0

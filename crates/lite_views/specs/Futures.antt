@@ -1,7 +1,8 @@
 -- The runs of the futures that the facade names, in the words of their folders, so that a clause asks no bound for
 -- them.
-use Rattle.lite_views.specs.Uses.{ℕ, Bool, List, Option, Result, Mut, MutBor, Poll, Answer, Lent, Question, Runs, CallsBoth, Folds, fold_of, counts, finds}
-use Rattle.lite_views.specs.Uses.{folds, lasts, nths, tries_fold, Consume, Find, Last, Nth, TryFold}
+use Rattle.std.specs.Prelude.{ℕ, Bool, List, Option, Result}
+use Rattle.lite_views.specs.Uses.{Mut, MutBor, Poll, Answer, Lent, Question, Runs, CallsBoth, Folds, fold_of, counts, finds, folds, lasts, nths, tries_fold}
+use Rattle.lite_views.specs.Uses.{Consume, Find, Last, Nth, TryFold}
 use Rattle.lite_consume.specs.declared.count.Count.{Count}
 use Rattle.lite_consume.specs.declared.fold.Fold.{Fold}
 

@@ -1,5 +1,6 @@
 -- What `iter` gives over an iterator of std, by a list.
-use Rattle.lite_views.specs.Uses.{⊤, List, Option, Count, Answer, Runs, Iterates, Iter}
+use Rattle.std.specs.Prelude.{⊤, List, Option}
+use Rattle.lite_views.specs.Uses.{Count, Answer, Runs, Iterates, Iter}
 use Rattle.lite_views.specs.Views.{Fronts, ListsAs}
 
 module _ {I A : Type 0} (steps : I → Option A → I → Type 0) (remaining : I → Count) where

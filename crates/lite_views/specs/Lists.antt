@@ -1,5 +1,6 @@
 -- Functions of lists for which std has no word.
-use Rattle.lite_views.specs.Uses.{◌==◌, ◌%◌, ℕ, List, [], ◌∷◌, Option, Some, None, map, enumerate_from, filter}
+use Rattle.std.specs.Prelude.{◌==◌, ◌%◌, ℕ, List, [], ◌∷◌, Option, Some, None, map}
+use Rattle.lite_views.specs.Uses.{enumerate_from, filter}
 
 -- the list goes on where there is an item, and is over where there is none
 abbrev pub cons_while : {X : Type 0} → Option X → List X → List X

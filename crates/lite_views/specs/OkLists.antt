@@ -1,5 +1,6 @@
 -- What the Ok items of a stream hold, up to its first error.
-use Rattle.lite_views.specs.Uses.{◌≡◌, ⊤, List, [], ◌∷◌, Some, None, Result, Ok, Err, IfOk, map, Ready, Pending, Answer, Runs}
+use Rattle.std.specs.Prelude.{◌≡◌, ⊤, List, [], ◌∷◌, Some, None, Result, Ok, Err, IfOk, map}
+use Rattle.lite_views.specs.Uses.{Ready, Pending, Answer, Runs}
 
 -- Up to the first error, f of what the items hold are xs in order, from the front on; an end comes behind the last.
 abbrev pub OkFits : {T E Y : Type 0} → (T → Y) → List (Answer (Result T E)) → List Y → Type 0

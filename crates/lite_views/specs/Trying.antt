@@ -1,5 +1,6 @@
 -- What is made of a list of Results, up to the first error.
-use Rattle.lite_views.specs.Uses.{◌≡◌, ⊤, List, [], ◌∷◌, Result, Ok, Err, IfOk, IfErr, map, ok_prefix, TryCollectError, Source, Memory}
+use Rattle.std.specs.Prelude.{◌≡◌, ⊤, List, [], ◌∷◌, Result, Ok, Err, IfOk, IfErr, map}
+use Rattle.lite_views.specs.Uses.{ok_prefix, TryCollectError, Source, Memory}
 
 -- what k makes of the value, or the error
 abbrev pub and_then : {T U E : Type 0} → Result T E → (T → Result U E) → Result U E

@@ -1,4 +1,4 @@
--- What the files of this crate take from the crates below. Each file has one list of it; a name that two modules have is imported from its own.
+-- What this crate's files take from other crates. The prelude, and a name that two modules have, are imported from where they are.
 pub use Rattle.futures.specs.declared.task.Poll.{Poll}
 pub use Rattle.futures.specs.declared.task.Poll.TheVariants.{Pending, Ready}
 pub use Rattle.lite_base.specs.Answers.{Answer, Endless, Gives, UpToValue, Waiting, end, item, items, strip, until_end}
@@ -127,7 +127,7 @@ pub use Rattle.lite_write.specs.WriteAll.{Ended, HandsMarks, HandsOver, WritesAl
 pub use Rattle.lite_write.specs.declared.copy.CopyFuture.{CopyFuture}
 pub use Rattle.lite_write.specs.declared.write_all.WriteAllFuture.{WriteAllFuture}
 pub use Rattle.std.proofs.Common.{add-one, ap, append-nil, append_assoc, arith, drop, inl, inr, length, length-append, replicate, subst, suc, sym, take}
-pub use Rattle.std.proofs.Common.{take-append-drop, zero, ◌+◌, ◌-◌, ◌<◌, ◌^◌, ◌∙◌, ◌≢◌, ◌≤◌, ◌⊎◌}
+pub use Rattle.std.proofs.Common.{take-append-drop, zero, ◌∙◌}
 pub use Rattle.std.proofs.Math.Bool.{not-not}
 pub use Rattle.std.proofs.Math.Dec.{leb-suc-suc, leb-zero}
 pub use Rattle.std.proofs.Math.Nat.{mod-add-mod, mod-eq_of_lt, zero-mod}
@@ -143,8 +143,6 @@ pub use Rattle.std.specs.Iterator.Adapters.{copied_steps}
 pub use Rattle.std.specs.List.{AllByRecursion, FoldsTo, cons_option, enumerate_from, filter, filter_map, find, fold, last_or, list_all, list_any, position}
 pub use Rattle.std.specs.List.{position_or_len, prefix_len, range_with_len, slice_get, take_while, zip}
 pub use Rattle.std.specs.Option.{option_transpose}
-pub use Rattle.std.specs.Prelude.{Bool, Err, IfErr, IfOk, IfSome, List, None, Ok, Option, Result, Some, [], cond, false, flat_map, map, nat_lt, not, option_map}
-pub use Rattle.std.specs.Prelude.{refl, true, ℕ, ⊤, ◌%◌, ◌++◌, ◌==◌, ◌∷◌, ◌≡◌}
 pub use Rattle.std.specs.Range.{range_steps}
 pub use Rattle.std.specs.Result.{ok_prefix}
 pub use Rattle.std.specs.Slice.Iter.{iter_steps}

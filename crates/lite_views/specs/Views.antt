@@ -1,5 +1,6 @@
 -- The list of the items of a stream, and the value of a future.
-use Rattle.lite_views.specs.Uses.{◌≡◌, ⊤, List, [], ◌∷◌, Some, None, Result, IfOk, AllocError, Poll, Ready, Pending, Answer, Finishes, Runs, items_in}
+use Rattle.std.specs.Prelude.{◌≡◌, ⊤, List, [], ◌∷◌, Some, None, Result, IfOk}
+use Rattle.lite_views.specs.Uses.{AllocError, Poll, Ready, Pending, Answer, Finishes, Runs, items_in}
 use Rattle.lite_views.specs.Fronts.{Front}
 
 -- the answers, up to their first end, give the items in order from the front on; the end comes behind the last.

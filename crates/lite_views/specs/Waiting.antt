@@ -1,5 +1,6 @@
 -- What a future that was lent to a wait has become.
-use Rattle.lite_views.specs.Uses.{◌≡◌, ⊤, List, Result, IfOk, IfErr, Poll, Gives, Runs}
+use Rattle.std.specs.Prelude.{◌≡◌, ⊤, List, Result, IfOk, IfErr}
+use Rattle.lite_views.specs.Uses.{Poll, Gives, Runs}
 
 -- the future f was waited for, and is g: polled until the value where r is Ok, and not polled else
 unfoldable pub LeftAs : {F A E : Type 0} → Runs (Poll A) F → F → Result A E → F → Type 0

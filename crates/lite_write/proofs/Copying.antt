@@ -1,8 +1,8 @@
 -- The steps of `copy`.
-use Rattle.lite_write.specs.Uses.{◌≡◌, ◌∙◌, ◌<◌, ◌+◌, ◌%◌, ◌^◌, ℕ, List, [], ◌∷◌, ◌++◌, Option, Some, None, Result, Ok, Err, length, refl, ap, sym, subst}
-use Rattle.lite_write.specs.Uses.{arith, append-nil, error_kind, Error, WriteZero, Poll, Ready, Pending, passes_some, ThroughBuffer, ahead, reader_capacity}
-use Rattle.lite_write.specs.Uses.{through_laws, BufReader, ReadMark, bytes, filled, MarkLaws, WriteMark, bytes_taken, write_marks, offered_marks, UpToValue}
-use Rattle.lite_write.specs.Uses.{strip, waits, OneStep, up_to_one, Runs}
+use Rattle.std.specs.Prelude.{◌≡◌, ◌<◌, ◌+◌, ◌%◌, ◌^◌, ℕ, List, [], ◌∷◌, ◌++◌, Result, Ok, Err, length}
+use Rattle.lite_write.specs.Uses.{◌∙◌, Option, Some, None, refl, ap, sym, subst, arith, append-nil, error_kind, Error, WriteZero, Poll, Ready, Pending}
+use Rattle.lite_write.specs.Uses.{passes_some, ThroughBuffer, ahead, reader_capacity, through_laws, BufReader, ReadMark, bytes, filled, MarkLaws, WriteMark}
+use Rattle.lite_write.specs.Uses.{bytes_taken, write_marks, offered_marks, UpToValue, strip, waits, OneStep, up_to_one, Runs}
 use Rattle.lite_write.specs.Copy.{CopyValue, Moves}
 use Rattle.lite_write.specs.Copying.{CopiesSome}
 use Rattle.lite_write.specs.MarkLists.{BytesAlone, TakesUpTo, TellsUpTo, bytes_told, waits_taken, waits_told}

@@ -1,5 +1,6 @@
 -- `close`: the close of a writer.
-use Rattle.lite_write.specs.Uses.{◌≡◌, Result, Error, Poll, WriteMark, done_marks, Runs}
+use Rattle.std.specs.Prelude.{◌≡◌, Result}
+use Rattle.lite_write.specs.Uses.{Error, Poll, WriteMark, done_marks, Runs}
 use Rattle.lite_write.specs.declared.close.CloseFuture.{CloseFuture}
 
 -- the writer ran by the mark of the answer; the reference stays

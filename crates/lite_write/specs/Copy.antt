@@ -1,6 +1,6 @@
 -- `copy`: what a reader tells before its first end goes to a writer, which is then flushed.
-use Rattle.lite_write.specs.Uses.{◌≡◌, ◌<◌, ◌+◌, ◌%◌, ◌^◌, ⊤, ℕ, List, [], ◌∷◌, ◌++◌, length, Result, Ok, Err, error_kind, Error, WriteZero, Poll, UpToValue}
-use Rattle.lite_write.specs.Uses.{strip, waits, Runs, ReadMark, WriteMark, bytes_taken}
+use Rattle.std.specs.Prelude.{◌≡◌, ◌<◌, ◌+◌, ◌%◌, ◌^◌, ⊤, ℕ, List, [], ◌∷◌, ◌++◌, length, Result, Ok, Err}
+use Rattle.lite_write.specs.Uses.{error_kind, Error, WriteZero, Poll, UpToValue, strip, waits, Runs, ReadMark, WriteMark, bytes_taken}
 use Rattle.lite_write.specs.MarkLists.{TakesUpTo, TellsUpTo, bytes_told, waits_taken, waits_told}
 use Rattle.lite_write.specs.Parts.{held_of, met_in, source_of}
 use Rattle.lite_write.specs.declared.copy.CopyFuture.{CopyFuture}

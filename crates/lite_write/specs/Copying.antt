@@ -1,5 +1,6 @@
 -- What else is said of `copy`: what a pending registers, and a step that goes on.
-use Rattle.lite_write.specs.Uses.{◌≡◌, ◌<◌, ℕ, List, [], length, Lasting, ThroughBuffer, ReadMark, bytes, WriteMark, Runs}
+use Rattle.std.specs.Prelude.{◌≡◌, ◌<◌, ℕ, List, [], length}
+use Rattle.lite_write.specs.Uses.{Lasting, ThroughBuffer, ReadMark, bytes, WriteMark, Runs}
 use Rattle.lite_write.specs.Copy.{Moves}
 use Rattle.lite_write.specs.Parts.{held_of, source_of}
 use Rattle.lite_write.specs.declared.copy.CopyFuture.{CopyFuture}

@@ -1,5 +1,6 @@
 -- `flush`: one flush.
-use Rattle.lite_write.specs.Uses.{◌≡◌, Result, Error, Poll, WriteMark, done_marks, Runs}
+use Rattle.std.specs.Prelude.{◌≡◌, Result}
+use Rattle.lite_write.specs.Uses.{Error, Poll, WriteMark, done_marks, Runs}
 use Rattle.lite_write.specs.declared.flush.FlushFuture.{FlushFuture}
 
 -- the writer ran by the mark of the answer; the reference stays

@@ -1,5 +1,5 @@
 -- Bytes that are handed to a writer, from the front.
-use Rattle.lite_write.specs.Uses.{◌≡◌, ◌<◌, ℕ, List, ◌++◌, length}
+use Rattle.std.specs.Prelude.{◌≡◌, ◌<◌, ℕ, List, ◌++◌, length}
 
 -- some of the bytes are taken, from the front, and these are left
 abbrev pub Hands : List ℕ → List ℕ → List ℕ → Type 0

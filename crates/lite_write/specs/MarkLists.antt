@@ -1,5 +1,6 @@
 -- Words on lists of marks: of what a reader told, and of what a writer took.
-use Rattle.lite_write.specs.Uses.{◌≡◌, ◌<◌, ⊤, Bool, true, false, ℕ, List, [], ◌∷◌, ◌++◌, flat_map, length, filter, ReadMark, WriteMark}
+use Rattle.std.specs.Prelude.{◌≡◌, ◌<◌, ⊤, Bool, true, false, ℕ, List, [], ◌∷◌, ◌++◌, flat_map, length}
+use Rattle.lite_write.specs.Uses.{filter, ReadMark, WriteMark}
 
 -- the byte of a mark, if it has one
 abbrev pub byte_in : ReadMark → List ℕ

@@ -1,5 +1,6 @@
 -- The parts of a copy's future.
-use Rattle.lite_write.specs.Uses.{◌≡◌, ℕ, List, [], ◌∷◌, ahead, reader_inner, ReadMark}
+use Rattle.std.specs.Prelude.{◌≡◌, ℕ, List, [], ◌∷◌}
+use Rattle.lite_write.specs.Uses.{ahead, reader_inner, ReadMark}
 use Rattle.lite_write.specs.declared.copy.CopyFuture.{CopyFuture}
 use Rattle.lite_write.specs.declared.copy.Phase.{Phase}
 use Rattle.lite_write.specs.declared.copy.Phase.TheVariants.{Copying, Flushing}

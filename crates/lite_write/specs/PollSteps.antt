@@ -1,5 +1,6 @@
 -- The steps of `write_all`: one that goes on is a write that took some bytes.
-use Rattle.lite_write.specs.Uses.{◌≡◌, ◌<◌, ℕ, List, [], ◌∷◌, ◌++◌, length, WriteMark, Runs}
+use Rattle.std.specs.Prelude.{◌≡◌, ◌<◌, ℕ, List, [], ◌∷◌, ◌++◌, length}
+use Rattle.lite_write.specs.Uses.{WriteMark, Runs}
 use Rattle.lite_write.specs.declared.write_all.WriteAllFuture.{WriteAllFuture}
 
 -- one step of a poll of `write_all` that goes on: a write took some bytes

@@ -1,5 +1,6 @@
 -- `sink`: all is taken, and none is kept.
-use Rattle.lite_write.specs.Uses.{◌≡◌, [], ◌∷◌, WriteMark, Runs}
+use Rattle.std.specs.Prelude.{◌≡◌, [], ◌∷◌}
+use Rattle.lite_write.specs.Uses.{WriteMark, Runs}
 use Rattle.lite_write.specs.declared.sink.Sink.{Sink}
 
 -- no mark is a pending or an error

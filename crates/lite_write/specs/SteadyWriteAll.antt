@@ -1,5 +1,6 @@
 -- The runs of a writer in which each write takes something.
-use Rattle.lite_write.specs.Uses.{List, [], ◌∷◌, ⊤, WriteMark, Runs}
+use Rattle.std.specs.Prelude.{List, [], ◌∷◌, ⊤}
+use Rattle.lite_write.specs.Uses.{WriteMark, Runs}
 
 -- no error, and no write took nothing
 abbrev pub NoFailure : List WriteMark → Type 0

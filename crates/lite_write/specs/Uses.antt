@@ -1,4 +1,4 @@
--- What the files of this crate take from the crates below. Each file has one list of it; a name that two modules have is imported from its own.
+-- What this crate's files take from other crates. The prelude, and a name that two modules have, are imported from where they are.
 pub use Rattle.futures.specs.Poll.{IfReady}
 pub use Rattle.futures.specs.Task.{Keeps, Lasting}
 pub use Rattle.futures.specs.declared.task.Poll.{Poll}
@@ -46,7 +46,5 @@ pub use Rattle.std.proofs.lemmas.List.Elements.{filter-append}
 pub use Rattle.std.specs.Io.Slices.{io_slices_bytes}
 pub use Rattle.std.specs.IoError.{error_kind}
 pub use Rattle.std.specs.List.{filter}
-pub use Rattle.std.specs.Prelude.{Bool, Err, IfErr, IfOk, IfSome, IsOk, IsTrue, List, Ok, Result, [], false, flat_map, length, true, ℕ, ⊤, ◌%◌, ◌++◌, ◌+◌, ◌<◌}
-pub use Rattle.std.specs.Prelude.{◌^◌, ◌↔◌, ◌∷◌, ◌≡◌, ◌≤◌}
 pub use Rattle.std.specs.declared.io.Error.{Error}
 pub use Rattle.std.specs.declared.io.ErrorKind.TheVariants.{WriteZero}

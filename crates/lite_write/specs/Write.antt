@@ -1,5 +1,6 @@
 -- `write`: one write of some bytes.
-use Rattle.lite_write.specs.Uses.{◌≡◌, ◌≤◌, ℕ, length, Result, IfOk, Error, IfReady, Poll, WriteMark, write_marks, Runs}
+use Rattle.std.specs.Prelude.{◌≡◌, ◌≤◌, ℕ, length, Result, IfOk}
+use Rattle.lite_write.specs.Uses.{Error, IfReady, Poll, WriteMark, write_marks, Runs}
 use Rattle.lite_write.specs.declared.write.WriteFuture.{WriteFuture}
 
 -- the writer ran by the marks of the answer; the reference and the bytes stay

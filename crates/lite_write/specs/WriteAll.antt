@@ -1,6 +1,6 @@
 -- `write_all`: some bytes are handed to a writer, from the front, until all are taken.
-use Rattle.lite_write.specs.Uses.{◌≡◌, ◌<◌, ℕ, List, [], ◌∷◌, length, Result, Ok, Err, error_kind, Error, WriteZero, Poll, Ready, Pending, WriteMark, Question}
-use Rattle.lite_write.specs.Uses.{Runs, Segment, SegmentsToValue}
+use Rattle.std.specs.Prelude.{◌≡◌, ◌<◌, ℕ, List, [], ◌∷◌, length, Result, Ok, Err}
+use Rattle.lite_write.specs.Uses.{error_kind, Error, WriteZero, Poll, Ready, Pending, WriteMark, Question, Runs, Segment, SegmentsToValue}
 use Rattle.lite_write.specs.Hands.{Hands}
 use Rattle.lite_write.specs.declared.write_all.WriteAllFuture.{WriteAllFuture}
 

@@ -1,5 +1,6 @@
 -- `write_vectored`: one write of the bytes of some buffers.
-use Rattle.lite_write.specs.Uses.{◌≡◌, ◌≤◌, ℕ, length, Result, IfOk, io_slices_bytes, Error, IfReady, Poll, WriteMark, write_marks, Runs}
+use Rattle.std.specs.Prelude.{◌≡◌, ◌≤◌, ℕ, length, Result, IfOk}
+use Rattle.lite_write.specs.Uses.{io_slices_bytes, Error, IfReady, Poll, WriteMark, write_marks, Runs}
 use Rattle.lite_write.specs.declared.write_vectored.WriteVectoredFuture.{WriteVectoredFuture}
 
 -- the writer ran by the marks of the answer, which was offered the bytes of all; the reference and the buffers stay

@@ -1,5 +1,6 @@
-ghost use Rattle.lite_write.specs.Uses.{◌≡◌, ◌<◌, ◌↔◌, ◌^◌, [], ◌∷◌, length, IfOk, IfSome, IsTrue, IfReady, Keeps, Terminates-map, ahead, reader_capacity};
-ghost use Rattle.lite_write.specs.Uses.{reader_inner, through_counting, counting_ends, fill_marks, OnlyOkLends, Registered};
+ghost use Rattle.std.specs.Prelude.{◌≡◌, ◌<◌, ◌↔◌, ◌^◌, [], ◌∷◌, length, IfOk, IfSome, IsTrue};
+ghost use Rattle.lite_write.specs.Uses.{IfReady, Keeps, Terminates-map, ahead, reader_capacity, reader_inner, through_counting, counting_ends, fill_marks};
+ghost use Rattle.lite_write.specs.Uses.{OnlyOkLends, Registered};
 ghost use Rattle.lite_write.specs.declared.copy.Phase.TheVariants.{Copying, Flushing};
 
 use lite_base::{Context, Future, Poll, PollSteps, drive};

@@ -1,5 +1,6 @@
 //! What makes the futures, and the writer that takes all.
-ghost use Rattle.lite_write.specs.Uses.{◌≡◌, IfErr, IfOk, reader_capacity};
+ghost use Rattle.std.specs.Prelude.{◌≡◌, IfErr, IfOk};
+ghost use Rattle.lite_write.specs.Uses.{reader_capacity};
 ghost use Rattle.lite_write.specs.Parts.{NothingCopied, source_of};
 
 use crate::close::CloseFuture;

@@ -1,4 +1,5 @@
-ghost use Rattle.lite_write.specs.Uses.{◌≡◌, ◌<◌, ◌≤◌, [], Ok, length, IfOk, ⊤, io_slices_bytes, IfReady, Keeps, idle_laws, Idle, write_marks, Registered};
+ghost use Rattle.std.specs.Prelude.{◌≡◌, ◌<◌, ◌≤◌, [], Ok, length, IfOk, ⊤};
+ghost use Rattle.lite_write.specs.Uses.{io_slices_bytes, IfReady, Keeps, idle_laws, Idle, write_marks, Registered};
 ghost use Rattle.lite_write.specs.Laws.Sink.{sinks_calm, sinks_laws, sinks_steady};
 ghost use Rattle.lite_write.specs.Sink.{Sinks};
 

@@ -1,5 +1,6 @@
 //! The futures whose value does not depend on when their writer was pending: where each write took something, and none failed.
-ghost use Rattle.lite_write.specs.Uses.{⊤, PolledByCalls, Sameness, SameByKind};
+ghost use Rattle.std.specs.Prelude.{⊤};
+ghost use Rattle.lite_write.specs.Uses.{PolledByCalls, Sameness, SameByKind};
 ghost use Rattle.lite_write.specs.Close.{Closes};
 ghost use Rattle.lite_write.specs.Flush.{Flushes};
 ghost use Rattle.lite_write.specs.Laws.SteadyDone.{close_steady, flush_steady};

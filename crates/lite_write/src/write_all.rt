@@ -1,4 +1,5 @@
-ghost use Rattle.lite_write.specs.Uses.{[], ◌∷◌, length, ⊤, OneStep, Terminates-count};
+ghost use Rattle.std.specs.Prelude.{[], ◌∷◌, length, ⊤};
+ghost use Rattle.lite_write.specs.Uses.{OneStep, Terminates-count};
 ghost use Rattle.lite_write.specs.Laws.WriteAll.{all_laws, left_falls};
 ghost use Rattle.lite_write.specs.PollSteps.{WritesSome};
 ghost use Rattle.lite_write.specs.WriteAll.{WritesAll};

@@ -1,5 +1,6 @@
 -- What holds wherever a future gives an Ok.
-use Rattle.lite_base.specs.Uses.{List, Result, Ok, Poll}
+use Rattle.std.specs.Prelude.{List, Result, Ok}
+use Rattle.lite_base.specs.Uses.{Poll}
 use Rattle.lite_base.specs.Answers.{Gives}
 use Rattle.lite_base.specs.Runs.{Runs}
 

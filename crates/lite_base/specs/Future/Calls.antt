@@ -1,5 +1,6 @@
 -- A closure that is polled as a future is: it is called with a context, and answers.
-use Rattle.lite_base.specs.Uses.{List, FoldsTo, Mut, Called, Poll, Pending, Context, Holds, Keeps, Lasting}
+use Rattle.std.specs.Prelude.{List}
+use Rattle.lite_base.specs.Uses.{FoldsTo, Mut, Called, Poll, Pending, Context, Holds, Keeps, Lasting}
 use denote.Ref.{MutBor}
 use Rattle.lite_base.specs.Answers.{UpToValue}
 use Rattle.lite_base.specs.Calm.{NoPending}

@@ -1,5 +1,6 @@
 -- What a stream answers that polls a future.
-use Rattle.lite_base.specs.Uses.{Option, Poll, Ready, Pending}
+use Rattle.std.specs.Prelude.{Option}
+use Rattle.lite_base.specs.Uses.{Poll, Ready, Pending}
 use Rattle.lite_base.specs.Answers.{Answer}
 
 -- a Pending stays, and of the future's value goes out what is `shown`: an item, or an end

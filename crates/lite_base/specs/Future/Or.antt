@@ -1,5 +1,6 @@
 -- `or`: the first row with a value, where the first future's stands first.
-use Rattle.lite_base.specs.Uses.{map, true, Poll}
+use Rattle.std.specs.Prelude.{map, true}
+use Rattle.lite_base.specs.Uses.{Poll}
 use Rattle.lite_base.specs.Future.Picks.{Picks}
 use Rattle.lite_base.specs.declared.future.or.Or.{Or}
 use Rattle.lite_base.specs.Runs.{Runs}

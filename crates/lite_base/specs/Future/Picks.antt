@@ -1,5 +1,6 @@
 -- Two futures of which each poll asks one first, and the other only where that one is pending.
-use Rattle.lite_base.specs.Uses.{◌≡◌, List, [], ◌∷◌, Bool, Poll, Ready, Pending}
+use Rattle.std.specs.Prelude.{◌≡◌, List, [], ◌∷◌, Bool}
+use Rattle.lite_base.specs.Uses.{Poll, Ready, Pending}
 use Rattle.lite_base.specs.Answers.{UpToValue}
 use Rattle.lite_base.specs.Rows.{Rows}
 use Rattle.lite_base.specs.Runs.{Runs}

@@ -1,5 +1,6 @@
 -- `poll_once`: one value, which tells the first answer.
-use Rattle.lite_base.specs.Uses.{◌≡◌, [], ◌∷◌, Option, Some, None, Poll, Ready, Pending}
+use Rattle.std.specs.Prelude.{◌≡◌, [], ◌∷◌, Option, Some, None}
+use Rattle.lite_base.specs.Uses.{Poll, Ready, Pending}
 use Rattle.lite_base.specs.declared.future.poll_once.PollOnce.{PollOnce}
 use Rattle.lite_base.specs.Runs.{Runs}
 

@@ -1,5 +1,6 @@
 -- `race`: as `or`, where the generator's next word says which of the two stands first in each row.
-use Rattle.lite_base.specs.Uses.{◌≡◌, ◌%◌, ◌==◌, ℕ, List, [], ◌∷◌, map, Bool, FoldsTo, Stream, next_u32, Poll}
+use Rattle.std.specs.Prelude.{◌≡◌, ◌%◌, ◌==◌, ℕ, List, [], ◌∷◌, map, Bool}
+use Rattle.lite_base.specs.Uses.{FoldsTo, Stream, next_u32, Poll}
 use Rattle.lite_base.specs.Future.Picks.{Picks}
 use Rattle.lite_base.specs.declared.future.race.Race.{Race}
 use Rattle.lite_base.specs.Runs.{Runs}

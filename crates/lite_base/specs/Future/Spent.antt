@@ -1,5 +1,6 @@
 -- A future that is held until its value, and what goes out after that.
-use Rattle.lite_base.specs.Uses.{◌≡◌, List, ◌++◌, map, Option, Some, None, Poll}
+use Rattle.std.specs.Prelude.{◌≡◌, List, ◌++◌, map, Option, Some, None}
+use Rattle.lite_base.specs.Uses.{Poll}
 use Rattle.lite_base.specs.Answers.{Waiting}
 use Rattle.lite_base.specs.Future.Finishes.{Finishes}
 use Rattle.lite_base.specs.Runs.{Runs}

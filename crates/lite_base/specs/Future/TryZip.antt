@@ -1,5 +1,6 @@
 -- `try_zip`: as `zip`, until the first row with an error, and there that error.
-use Rattle.lite_base.specs.Uses.{◌≡◌, ◌+◌, ◌⊎◌, ℕ, List, length, Result, Ok, Err, Poll}
+use Rattle.std.specs.Prelude.{◌≡◌, ◌+◌, ◌⊎◌, ℕ, List, length, Result, Ok, Err}
+use Rattle.lite_base.specs.Uses.{Poll}
 use Rattle.lite_base.specs.Answers.{Gives}
 use Rattle.lite_base.specs.Future.Half.{Stands}
 use Rattle.lite_base.specs.Future.Together.{Together}

@@ -1,5 +1,6 @@
 -- Futures that are alike, by their values.
-use Rattle.lite_base.specs.Uses.{◌≡◌, inl, inr, ◌≤◌, List, [], ◌∷◌, length, Option, Some, None, ap, refl, subst, sym, arith, Poll, Ready, Pending, ⊤, ◌⊎◌}
+use Rattle.std.specs.Prelude.{◌≡◌, ◌≤◌, List, [], ◌∷◌, length, Option, Some, None, refl, ⊤, ◌⊎◌}
+use Rattle.lite_base.specs.Uses.{inl, inr, ap, subst, sym, arith, Poll, Ready, Pending}
 use Rattle.lite_base.specs.Alike.{AlikeBy, Either, MadeOf, OptionBy, Optional, Pairwise, SameAnswer, SameHeld, SameItem}
 use Rattle.lite_base.specs.Alike.{Sameness}
 use Rattle.lite_base.specs.Answers.{ComparableBy, Gives, UpToValue, strip}

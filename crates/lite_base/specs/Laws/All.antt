@@ -1,5 +1,6 @@
 -- Lists each of whose elements meets a condition.
-use Rattle.lite_base.specs.Uses.{List, [], ◌∷◌, ◌++◌, AllByRecursion, ⊤}
+use Rattle.std.specs.Prelude.{List, [], ◌∷◌, ◌++◌, ⊤}
+use Rattle.lite_base.specs.Uses.{AllByRecursion}
 
 module _ {A : Type 0} (may : A → Type 0) where
   pub all_append : (l m : List A) → AllByRecursion may l → AllByRecursion may m → AllByRecursion may (l ++ m)

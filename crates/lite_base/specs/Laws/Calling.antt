@@ -1,5 +1,6 @@
 -- Laws of closures that agree.
-use Rattle.lite_base.specs.Uses.{⊤, Bool, true, false, ◌≡◌, ◌∙◌, List, [], ◌∷◌, Option, Some, None, refl, subst, sym}
+use Rattle.std.specs.Prelude.{⊤, Bool, true, false, ◌≡◌, List, [], ◌∷◌, Option, Some, None, refl}
+use Rattle.lite_base.specs.Uses.{◌∙◌, subst, sym}
 use Rattle.lite_base.specs.Alike.{OptionBy, SameAnswer, SameItem, Sameness}
 use Rattle.lite_base.specs.Answers.{ComparableBy}
 use Rattle.lite_base.specs.Laws.Alike.{comparable_as, ends_same, same_answer}

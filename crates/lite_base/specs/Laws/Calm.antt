@@ -1,5 +1,6 @@
 -- Lists without a Pending.
-use Rattle.lite_base.specs.Uses.{◌≡◌, ◌≤◌, ◌+◌, List, [], ◌∷◌, ◌++◌, refl, arith, Poll, Ready, Pending, MutBor}
+use Rattle.std.specs.Prelude.{◌≡◌, ◌≤◌, ◌+◌, List, [], ◌∷◌, ◌++◌, refl}
+use Rattle.lite_base.specs.Uses.{arith, Poll, Ready, Pending, MutBor}
 use Rattle.lite_base.specs.Calm.{CalmLaws, CalmRuns, NoPending, waits}
 use Rattle.lite_base.specs.Runs.{Runs}
 use Rattle.lite_base.specs.Lent.{Lent}

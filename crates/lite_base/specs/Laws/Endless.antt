@@ -1,5 +1,6 @@
 -- Lists of answers without an end.
-use Rattle.lite_base.specs.Uses.{List, [], ◌∷◌, ◌++◌, Some, None, ap, Ready, Pending}
+use Rattle.std.specs.Prelude.{List, [], ◌∷◌, ◌++◌, Some, None}
+use Rattle.lite_base.specs.Uses.{ap, Ready, Pending}
 use Rattle.lite_base.specs.Answers.{Answer, Endless, item}
 
 module _ {A : Type 0} where

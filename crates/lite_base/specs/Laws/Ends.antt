@@ -1,5 +1,6 @@
 -- Chains of steps that are finite.
-use Rattle.lite_base.specs.Uses.{ℕ, ◌<◌, ◌≡◌, refl, sym, subst}
+use Rattle.std.specs.Prelude.{ℕ, ◌<◌, ◌≡◌, refl}
+use Rattle.lite_base.specs.Uses.{sym, subst}
 use mathlib.Core.WellFounded.{Acc, WellFounded}
 use lib.WfN.{lt-wf_rel}
 use Rattle.lite_base.specs.Chain.{After, Reaches}

@@ -1,6 +1,6 @@
 -- What a falling rank gives.
-use Rattle.lite_base.specs.Uses.{◌≡◌, ℕ, zero, suc, ◌<◌, ◌≤◌, List, [], ◌∷◌, ◌++◌, length, Some, refl, inl, inr, sym, ap, subst, ◌∙◌, arith, length-append}
-use Rattle.lite_base.specs.Uses.{Ready, Pending, eq-or-lt_of_le}
+use Rattle.std.specs.Prelude.{◌≡◌, ℕ, zero, suc, ◌<◌, ◌≤◌, List, [], ◌∷◌, ◌++◌, length, Some, refl}
+use Rattle.lite_base.specs.Uses.{inl, inr, sym, ap, subst, ◌∙◌, arith, length-append, Ready, Pending, eq-or-lt_of_le}
 use mathlib.Core.WellFounded.{Acc, WellFounded}
 use lib.Measure.{by_dom}
 use lib.WfN.{lt-wf_rel}

@@ -1,5 +1,6 @@
 -- Answers that are all items.
-use Rattle.lite_base.specs.Uses.{◌≡◌, ◌<◌, List, [], ◌∷◌, ◌++◌, refl, ap, arith, AllByRecursion}
+use Rattle.std.specs.Prelude.{◌≡◌, ◌<◌, List, [], ◌∷◌, ◌++◌, refl}
+use Rattle.lite_base.specs.Uses.{ap, arith, AllByRecursion}
 use Rattle.lite_base.specs.Answers.{Answer, before_end, item, items}
 
 module _ {A : Type 0} where

@@ -1,5 +1,6 @@
 -- A stream or a future that is lent: what is behind the reference runs, and the reference stays.
-use Rattle.lite_base.specs.Uses.{◌≡◌, [], ◌∙◌, ap, refl, MutBor, Poll}
+use Rattle.std.specs.Prelude.{◌≡◌, [], refl}
+use Rattle.lite_base.specs.Uses.{◌∙◌, ap, MutBor, Poll}
 use Rattle.lite_base.specs.Answers.{Answer}
 use Rattle.lite_base.specs.FutureLaws.{FutureLaws}
 use Rattle.lite_base.specs.Ranks.{Counting, Ranks, ranks_of}

@@ -1,5 +1,6 @@
 -- A rank that falls with each Ok item.
-use Rattle.lite_base.specs.Uses.{◌≡◌, ℕ, List, [], ◌∷◌, map, None, Result, Ok, refl, ap, subst, Ready, Pending, MutBor}
+use Rattle.std.specs.Prelude.{◌≡◌, ℕ, List, [], ◌∷◌, map, None, Result, Ok, refl}
+use Rattle.lite_base.specs.Uses.{ap, subst, Ready, Pending, MutBor}
 use Rattle.lite_base.specs.Answers.{Answer, item, items}
 use Rattle.lite_base.specs.Ends.{Terminates}
 use Rattle.lite_base.specs.Laws.Falling.{ranked_ends}

@@ -1,5 +1,6 @@
 -- Laws of what is paced.
-use Rattle.lite_base.specs.Uses.{◌≡◌, ℕ, ◌≤◌, ◌+◌, ◌-◌, List, [], ◌∷◌, ◌++◌, Some, None, inl, inr, ap, subst, arith, length, Ready, Pending}
+use Rattle.std.specs.Prelude.{◌≡◌, ℕ, ◌≤◌, ◌+◌, ◌-◌, List, [], ◌∷◌, ◌++◌, Some, None, length}
+use Rattle.lite_base.specs.Uses.{inl, inr, ap, subst, arith, Ready, Pending}
 use Rattle.lite_base.specs.Answers.{Answer, before_end, items, strip}
 use Rattle.lite_base.specs.Paces.{Paces, left_behind}
 use Rattle.lite_base.specs.Rank.{Lowers}

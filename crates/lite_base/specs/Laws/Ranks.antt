@@ -1,5 +1,5 @@
 -- A rank, and what it is to fall with items.
-use Rattle.lite_base.specs.Uses.{ℕ, List, [], ◌∷◌, refl}
+use Rattle.std.specs.Prelude.{ℕ, List, [], ◌∷◌, refl}
 use Rattle.lite_base.specs.Answers.{Answer}
 use Rattle.lite_base.specs.Ends.{Terminates}
 use Rattle.lite_base.specs.Falling.{ItemRun}

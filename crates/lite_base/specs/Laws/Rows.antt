@@ -1,5 +1,6 @@
 -- Laws of two lists that are read row by row.
-use Rattle.lite_base.specs.Uses.{◌≡◌, ◌%◌, ℕ, List, [], ◌∷◌, ◌++◌, map, Bool, true, false, refl, eq-eqb, ne_eqb}
+use Rattle.std.specs.Prelude.{◌≡◌, ◌%◌, ℕ, List, [], ◌∷◌, ◌++◌, map, Bool, true, false, refl}
+use Rattle.lite_base.specs.Uses.{eq-eqb, ne_eqb}
 use Rattle.lite_base.specs.Future.Race.{is_first}
 use Rattle.lite_base.specs.Rows.{Rows}
 

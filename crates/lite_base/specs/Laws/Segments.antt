@@ -1,6 +1,6 @@
 -- Laws of lists that are cut into segments.
-use Rattle.lite_base.specs.Uses.{◌≡◌, ◌∙◌, List, [], ◌∷◌, ◌++◌, ap, append-nil, append_assoc, map, refl, subst, sym, map-append, AllByRecursion, FoldsTo, Poll}
-use Rattle.lite_base.specs.Uses.{Ready}
+use Rattle.std.specs.Prelude.{◌≡◌, List, [], ◌∷◌, ◌++◌, map, refl}
+use Rattle.lite_base.specs.Uses.{◌∙◌, ap, append-nil, append_assoc, subst, sym, map-append, AllByRecursion, FoldsTo, Poll, Ready}
 use Rattle.lite_base.specs.Answers.{Waiting}
 use Rattle.lite_base.specs.Laws.Answers.{up_to_one, waiting_up_to}
 use Rattle.lite_base.specs.Laws.Calls.{folds_follow}

@@ -1,6 +1,7 @@
 -- Streams and futures whose answers do not depend on when they were pending, where memory was found: the runs in which
 -- it was are the ample ones.
-use Rattle.lite_base.specs.Uses.{⊤, MutBor, Poll}
+use Rattle.std.specs.Prelude.{⊤}
+use Rattle.lite_base.specs.Uses.{MutBor, Poll}
 use Rattle.lite_base.specs.Alike.{Sameness}
 use Rattle.lite_base.specs.Answers.{Answer}
 use Rattle.lite_base.specs.FutureLaws.{FutureLaws}

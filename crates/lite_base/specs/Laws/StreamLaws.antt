@@ -1,5 +1,5 @@
 -- What each stream's runs meet.
-use Rattle.lite_base.specs.Uses.{◌≤◌, ℕ, List, Option, IfSome}
+use Rattle.std.specs.Prelude.{◌≤◌, ℕ, List, Option, IfSome}
 use Rattle.lite_base.specs.Answers.{Answer, before_end}
 use Rattle.lite_base.specs.Runs.{Hints, Runs}
 use Rattle.lite_base.specs.StreamLaws.{RunLaws, StreamLaws}

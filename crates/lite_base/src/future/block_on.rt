@@ -1,5 +1,6 @@
 //! Waits on this thread for a future.
-ghost use Rattle.lite_base.specs.Uses.{◌≡◌, IfOk, IsOk, List, OnErr, Poll};
+ghost use Rattle.std.specs.Prelude.{◌≡◌, IfOk, IsOk, List, OnErr};
+ghost use Rattle.lite_base.specs.Uses.{Poll};
 ghost use Rattle.lite_base.specs.Answers.{Gives};
 ghost use Rattle.lite_base.specs.Future.Finishes.{Finishes};
 

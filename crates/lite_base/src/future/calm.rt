@@ -9,7 +9,7 @@ ghost use Rattle.lite_base.specs.Laws.Future.Ready.{held_calm};
 ghost use Rattle.lite_base.specs.Laws.Future.TryZip.{try_zips_calm};
 ghost use Rattle.lite_base.specs.Laws.Future.YieldNow.{yields_calm};
 ghost use Rattle.lite_base.specs.Laws.Future.Zip.{zips_calm};
-ghost use Rattle.lite_base.specs.Uses.{true, ⊤, ◌≡◌, ◌⊎◌};
+ghost use Rattle.std.specs.Prelude.{true, ⊤, ◌≡◌, ◌⊎◌};
 
 use super::{Future, Or, PollFn, PollOnce, Race, Ready, TryZip, YieldNow, Zip};
 use crate::{Context, Poll};

@@ -1,4 +1,5 @@
-ghost use Rattle.lite_base.specs.Uses.{◌≡◌, ◌∷◌, [], IfSome, Some, Keeps};
+ghost use Rattle.std.specs.Prelude.{◌≡◌, ◌∷◌, [], IfSome, Some};
+ghost use Rattle.lite_base.specs.Uses.{Keeps};
 ghost use Rattle.lite_base.specs.Future.Fuse.{FutureFuses};
 ghost use Rattle.lite_base.specs.Laws.Future.Fuse.{fuses_laws};
 ghost use Rattle.lite_base.specs.Registered.{Registered};

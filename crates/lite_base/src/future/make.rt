@@ -1,5 +1,5 @@
 //! What makes the futures.
-ghost use Rattle.lite_base.specs.Uses.{◌≡◌, None, Result, Some, false};
+ghost use Rattle.std.specs.Prelude.{◌≡◌, None, Result, Some, false};
 ghost use Rattle.lite_base.specs.declared.future.half.Half.TheVariants.{Asked};
 
 use super::half::Half;

@@ -1,4 +1,4 @@
-ghost use Rattle.lite_base.specs.Uses.{◌⊎◌};
+ghost use Rattle.std.specs.Prelude.{◌⊎◌};
 ghost use Rattle.lite_base.specs.Future.Or.{FutureOrs};
 ghost use Rattle.lite_base.specs.Laws.Future.Or.{ors_laws};
 

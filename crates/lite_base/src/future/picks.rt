@@ -1,4 +1,5 @@
-ghost use Rattle.lite_base.specs.Uses.{◌⊎◌, List, [], OnPending, Keeps, Poll};
+ghost use Rattle.std.specs.Prelude.{◌⊎◌, List, []};
+ghost use Rattle.lite_base.specs.Uses.{OnPending, Keeps, Poll};
 ghost use Rattle.lite_base.specs.Future.Picks.{PickRow};
 ghost use Rattle.lite_base.specs.Registered.{Registered};
 

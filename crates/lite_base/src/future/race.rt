@@ -1,4 +1,4 @@
-ghost use Rattle.lite_base.specs.Uses.{◌⊎◌};
+ghost use Rattle.std.specs.Prelude.{◌⊎◌};
 ghost use Rattle.lite_base.specs.Future.Race.{FutureRacesOn};
 ghost use Rattle.lite_base.specs.Laws.Future.Race.{races_laws};
 

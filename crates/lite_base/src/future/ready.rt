@@ -1,4 +1,4 @@
-ghost use Rattle.lite_base.specs.Uses.{IsSome};
+ghost use Rattle.std.specs.Prelude.{IsSome};
 ghost use Rattle.lite_base.specs.Future.Ready.{GivesHeld};
 ghost use Rattle.lite_base.specs.Laws.Future.Ready.{held_laws};
 

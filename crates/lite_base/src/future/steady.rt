@@ -1,4 +1,5 @@
-ghost use Rattle.lite_base.specs.Uses.{Poll, ⊤, ◌≡◌};
+ghost use Rattle.std.specs.Prelude.{⊤, ◌≡◌};
+ghost use Rattle.lite_base.specs.Uses.{Poll};
 ghost use Rattle.lite_base.specs.Alike.{Alike, OptionBy, Pairwise, Sameness};
 ghost use Rattle.lite_base.specs.Answers.{Waiting};
 ghost use Rattle.lite_base.specs.Future.Calls.{Polled};

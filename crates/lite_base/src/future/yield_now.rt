@@ -1,4 +1,4 @@
-ghost use Rattle.lite_base.specs.Uses.{true};
+ghost use Rattle.std.specs.Prelude.{true};
 ghost use Rattle.lite_base.specs.Future.YieldNow.{YieldsOnce};
 ghost use Rattle.lite_base.specs.Laws.Future.YieldNow.{yields_laws};
 ghost use Rattle.lite_base.specs.Woken.{HoldsWoken};

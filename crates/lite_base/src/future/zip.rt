@@ -1,4 +1,4 @@
-ghost use Rattle.lite_base.specs.Uses.{◌⊎◌};
+ghost use Rattle.std.specs.Prelude.{◌⊎◌};
 ghost use Rattle.lite_base.specs.Future.Half.{CanAsk, IsAskedAnd};
 ghost use Rattle.lite_base.specs.Future.Zip.{FutureZips};
 ghost use Rattle.lite_base.specs.Laws.Future.Zip.{zips_laws};

@@ -1,7 +1,7 @@
 -- The bytes that are to come from a cursor: those from its position on. And those that one keeps that stands at their
 -- end.
-use Rattle.lite_bridge.specs.Uses.{drop_all, take_all, ◌≡◌, ◌∙◌, ℕ, ◌+◌, ◌-◌, List, [], ◌∷◌, ◌++◌, length, ap, sym, arith, append-nil, length-append, ⊤, Known}
-use Rattle.lite_bridge.specs.Uses.{told_spends, Stored, WriteMark, bytes_taken}
+use Rattle.std.specs.Prelude.{◌≡◌, ℕ, ◌+◌, ◌-◌, List, [], ◌∷◌, ◌++◌, length, ⊤}
+use Rattle.lite_bridge.specs.Uses.{drop_all, take_all, ◌∙◌, ap, sym, arith, append-nil, length-append, Known, told_spends, Stored, WriteMark, bytes_taken}
 use Rattle.lite_bridge.specs.Cursor.{CursorReads, CursorWrites, bytes_left}
 use Rattle.lite_bridge.specs.Laws.Cursor.{cursor_told}
 use Rattle.lite_bridge.specs.Laws.SteadyWrite.{puts_all}

@@ -1,9 +1,10 @@
 -- Laws of reads and writes of std.
-use Rattle.lite_bridge.specs.Uses.{◌≡◌, ◌<◌, ◌∙◌, ℕ, zero, suc, append-nil, List, [], ◌∷◌, ◌++◌, length, take, ap, arith, refl, subst, sym, Option, None, Some}
-use Rattle.lite_bridge.specs.Uses.{Result, Ok, Err, ⊤, ReadsAtMost, Keeps, ReadConsumes, WriteAppends, IsSeekTarget, SeekMoves, StaysAt, Error, SeekFrom, End}
-use Rattle.lite_bridge.specs.Uses.{Poll, Pending, Ready, by_kind, growing_laws, grows_all, grows_no_pending, ReadMark, bytes, moved, read_marks, CalmRuns}
-use Rattle.lite_bridge.specs.Uses.{MarkLaws, never_waits_both, no_wait_both, no_wait_moved, told_one_tale, CalmReadLaws, NoPendingRead, SteadyReadLaws}
-use Rattle.lite_bridge.specs.Uses.{strip_marks, CalmWriteLaws, SteadyWriteLaws, WriteMark, bytes_taken, done_marks, write_marks, TellsScript, Comparable, Runs}
+use Rattle.std.specs.Prelude.{◌≡◌, ◌<◌, ℕ, zero, suc, List, [], ◌∷◌, ◌++◌, length, take, Option, None, Some, Result, Ok, Err, ⊤}
+use Rattle.lite_bridge.specs.Uses.{◌∙◌, append-nil, ap, arith, refl, subst, sym, ReadsAtMost, Keeps, ReadConsumes, WriteAppends, IsSeekTarget, SeekMoves}
+use Rattle.lite_bridge.specs.Uses.{StaysAt, Error, SeekFrom, End, Poll, Pending, Ready, by_kind, growing_laws, grows_all, grows_no_pending, ReadMark, bytes}
+use Rattle.lite_bridge.specs.Uses.{moved, read_marks, CalmRuns, MarkLaws, never_waits_both, no_wait_both, no_wait_moved, told_one_tale, CalmReadLaws}
+use Rattle.lite_bridge.specs.Uses.{NoPendingRead, SteadyReadLaws, strip_marks, CalmWriteLaws, SteadyWriteLaws, WriteMark, bytes_taken, done_marks, write_marks}
+use Rattle.lite_bridge.specs.Uses.{TellsScript, Comparable, Runs}
 use Rattle.lite_bridge.specs.Known.{GainsKnown, MovesKnown, NoFault, SameKnown, SpendsBytes, SpendsKnown}
 use Rattle.lite_bridge.specs.Known.{SpendsWell, WhereKnown, known_bytes}
 

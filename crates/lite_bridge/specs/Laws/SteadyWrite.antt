@@ -1,6 +1,7 @@
 -- Cursors over equal bytes, at one place, leave equal bytes, and none is ever pending.
-use Rattle.lite_bridge.specs.Uses.{◌≡◌, ◌∙◌, ◌+◌, ℕ, List, [], ◌∷◌, length, ap, sym, arith, add-zero, length-append, Global, ⊤, CalmWriteLaws, NoPendingWrite}
-use Rattle.lite_bridge.specs.Uses.{SteadyWriteLaws, WriteMark, bytes_taken, Vec, MutBor}
+use Rattle.std.specs.Prelude.{◌≡◌, ◌+◌, ℕ, List, [], ◌∷◌, length, ⊤}
+use Rattle.lite_bridge.specs.Uses.{◌∙◌, ap, sym, arith, add-zero, length-append, Global, CalmWriteLaws, NoPendingWrite, SteadyWriteLaws, WriteMark, bytes_taken}
+use Rattle.lite_bridge.specs.Uses.{Vec, MutBor}
 use Rattle.lite_bridge.specs.declared.cursor.Cursor.{Cursor}
 use Rattle.lite_bridge.specs.Cursor.{CursorWrites}
 use Rattle.lite_bridge.specs.Laws.Put.{puts_more}

@@ -1,6 +1,7 @@
-use Rattle.lite_buffered.specs.Uses.{◌≡◌, ◌∙◌, ◌<◌, ℕ, zero, suc, ◌+◌, ◌-◌, List, [], ◌∷◌, ◌++◌, length, refl, sym, ap, arith, append_assoc, append-nil}
-use Rattle.lite_buffered.specs.Uses.{length-append, Comparable, Ranks, Runs, ReadCounting, WriteMark, falls_held, bytes_given, given-append, given-bytes}
-use Rattle.lite_buffered.specs.Uses.{given_all, given_both, given_parts, AllGiven, ReadMark, bytes, given, MarkLaws, Shows}
+use Rattle.std.specs.Prelude.{◌≡◌, ◌<◌, ℕ, zero, suc, ◌+◌, ◌-◌, List, [], ◌∷◌, ◌++◌, length}
+use Rattle.lite_buffered.specs.Uses.{◌∙◌, refl, sym, ap, arith, append_assoc, append-nil, length-append, Comparable, Ranks, Runs, ReadCounting, WriteMark}
+use Rattle.lite_buffered.specs.Uses.{falls_held, bytes_given, given-append, given-bytes, given_all, given_both, given_parts, AllGiven, ReadMark, bytes, given}
+use Rattle.lite_buffered.specs.Uses.{MarkLaws, Shows}
 use Rattle.lite_buffered.specs.declared.buf_reader.BufReader.{BufReader}
 use Rattle.lite_buffered.specs.BufReader.{Padded, PassesBuffer, Past, ThroughBuffer, ahead, ahead_ranks}
 use Rattle.lite_buffered.specs.BufReader.{reader_capacity}

@@ -1,6 +1,7 @@
 -- Laws of `BufWriter`.
-use Rattle.lite_buffered.specs.Uses.{◌≡◌, ◌∙◌, ℕ, List, [], ◌∷◌, ◌++◌, inl, inr, refl, sym, ap, append_assoc, append-nil, taken_both, MarkLaws, WriteMark}
-use Rattle.lite_buffered.specs.Uses.{bytes_in, bytes_taken, segments_join, Runs}
+use Rattle.std.specs.Prelude.{◌≡◌, ℕ, List, [], ◌∷◌, ◌++◌}
+use Rattle.lite_buffered.specs.Uses.{◌∙◌, inl, inr, refl, sym, ap, append_assoc, append-nil, taken_both, MarkLaws, WriteMark, bytes_in, bytes_taken}
+use Rattle.lite_buffered.specs.Uses.{segments_join, Runs}
 use Rattle.lite_buffered.specs.BufWriter.{Balanced, Buffers, TakesHeld, WriterAnswers, WriterSegment}
 
 -- what was held is what was taken and what is left

@@ -1,6 +1,6 @@
-use Rattle.lite_buffered.specs.Uses.{◌≡◌, ◌∙◌, ℕ, Bool, true, false, cond, replicate, ◌+◌, List, [], ◌∷◌, ◌++◌, length, refl, ap, append_assoc, add-zero}
-use Rattle.lite_buffered.specs.Uses.{zero-add, inl, length-append, ⊤, length-replicate, Falls, falls_both, falls_to_zeros, Comparable, AllGiven, ReadMark}
-use Rattle.lite_buffered.specs.Uses.{bytes, given, given-append, given_parts, ReadCounting, Ranks, Runs, MarkLaws, Shows}
+use Rattle.std.specs.Prelude.{◌≡◌, ℕ, Bool, true, false, cond, replicate, ◌+◌, List, [], ◌∷◌, ◌++◌, length, ⊤}
+use Rattle.lite_buffered.specs.Uses.{◌∙◌, refl, ap, append_assoc, add-zero, zero-add, inl, length-append, length-replicate, Falls, falls_both, falls_to_zeros}
+use Rattle.lite_buffered.specs.Uses.{Comparable, AllGiven, ReadMark, bytes, given, given-append, given_parts, ReadCounting, Ranks, Runs, MarkLaws, Shows}
 use Rattle.lite_buffered.specs.declared.chain.Chain.{Chain}
 use Rattle.lite_buffered.specs.Chain.{ChainsReaders, EndlessMarks, JoinsReaders}
 use Rattle.lite_buffered.specs.Chaining.{chain_read_ranks}

@@ -1,4 +1,5 @@
-use Rattle.lite_buffered.specs.Uses.{[], ◌∷◌, refl, append-nil, ReadMark, bytes, Part, WriteMark, Runs}
+use Rattle.std.specs.Prelude.{[], ◌∷◌}
+use Rattle.lite_buffered.specs.Uses.{refl, append-nil, ReadMark, bytes, Part, WriteMark, Runs}
 use Rattle.lite_buffered.specs.declared.buf_reader.BufReader.{BufReader}
 use Rattle.lite_buffered.specs.BufReader.{ahead}
 use Rattle.lite_buffered.specs.InOrder.{KeepsOrder}

@@ -1,6 +1,6 @@
 -- The bytes that are to come from what is read through a buffer, up to a limit, and one after the other.
-use Rattle.lite_buffered.specs.Uses.{◌≡◌, ◌∙◌, ◌<◌, ℕ, zero, suc, Bool, true, false, List, [], ◌∷◌, ◌++◌, take, ap, refl, Known, TellsKnown, spends_both}
-use Rattle.lite_buffered.specs.Uses.{spends_bytes, spends_front, spends_split, ReadMark, bytes}
+use Rattle.std.specs.Prelude.{◌≡◌, ◌<◌, ℕ, zero, suc, Bool, true, false, List, [], ◌∷◌, ◌++◌, take}
+use Rattle.lite_buffered.specs.Uses.{◌∙◌, ap, refl, Known, TellsKnown, spends_both, spends_bytes, spends_front, spends_split, ReadMark, bytes}
 use Rattle.lite_buffered.specs.Laws.BufReader.{passes_some}
 use Rattle.lite_buffered.specs.BufReader.{ThroughBuffer, ahead, reader_capacity, reader_inner}
 use Rattle.lite_buffered.specs.Chain.{ChainsReaders, EndlessMarks, JoinsReaders}

@@ -1,4 +1,5 @@
-use Rattle.lite_buffered.specs.Uses.{List, [], ◌∷◌, ◌++◌, refl, ReadMark, MarkLaws}
+use Rattle.std.specs.Prelude.{List, [], ◌∷◌, ◌++◌}
+use Rattle.lite_buffered.specs.Uses.{refl, ReadMark, MarkLaws}
 use Rattle.lite_buffered.specs.declared.repeat.Repeat.{Repeat}
 use Rattle.lite_buffered.specs.Repeat.{RepeatsByte}
 

@@ -1,6 +1,7 @@
 -- A buffered writer leaves what its inner writer leaves.
-use Rattle.lite_buffered.specs.Uses.{◌≡◌, ◌∙◌, ℕ, List, [], ◌∷◌, ◌++◌, inl, inr, refl, sym, ap, subst, append_assoc, append-nil, never_waits_parts}
-use Rattle.lite_buffered.specs.Uses.{CalmWriteLaws, EndsFlushed, NoError, NoPendingWrite, SteadyWriteLaws, WriteMark, bytes_taken, Runs}
+use Rattle.std.specs.Prelude.{◌≡◌, ℕ, List, [], ◌∷◌, ◌++◌}
+use Rattle.lite_buffered.specs.Uses.{◌∙◌, inl, inr, refl, sym, ap, subst, append_assoc, append-nil, never_waits_parts, CalmWriteLaws, EndsFlushed, NoError}
+use Rattle.lite_buffered.specs.Uses.{NoPendingWrite, SteadyWriteLaws, WriteMark, bytes_taken, Runs}
 use Rattle.lite_buffered.specs.declared.buf_writer.BufWriter.{BufWriter}
 use Rattle.lite_buffered.specs.BufWriter.{Buffers, TakesHeld, WriterAnswers, WriterSegment, WriterSegments, unwritten}
 

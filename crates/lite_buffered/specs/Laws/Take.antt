@@ -1,6 +1,6 @@
-use Rattle.lite_buffered.specs.Uses.{◌≡◌, ◌∙◌, ℕ, zero, suc, List, [], ◌∷◌, ◌++◌, take, refl, sym, ap, subst, arith, append_assoc, append-nil, Comparable}
-use Rattle.lite_buffered.specs.Uses.{Ranks, ranks_of, Runs, ReadCounting, given-append, given_parts, comparable_none, AllGiven, ReadMark, bytes, given}
-use Rattle.lite_buffered.specs.Uses.{MarkLaws, Shows}
+use Rattle.std.specs.Prelude.{◌≡◌, ℕ, zero, suc, List, [], ◌∷◌, ◌++◌, take}
+use Rattle.lite_buffered.specs.Uses.{◌∙◌, refl, sym, ap, subst, arith, append_assoc, append-nil, Comparable, Ranks, ranks_of, Runs, ReadCounting, given-append}
+use Rattle.lite_buffered.specs.Uses.{given_parts, comparable_none, AllGiven, ReadMark, bytes, given, MarkLaws, Shows}
 use Rattle.lite_buffered.specs.declared.take.Take.{Take}
 use Rattle.lite_buffered.specs.Take.{LimitEnds, TakesMarks, WithinLimit}
 

@@ -1,7 +1,7 @@
 -- Laws of what is made of a stream's items: it does not depend on when the stream was pending.
-use Rattle.lite_consume.specs.Uses.{◌≡◌, ◌⊎◌, List, [], ◌∷◌, Option, Some, None, inl, inr, refl, subst, ⊤, Poll, Ready, SameAnswer, SameItem, Sameness, Answer}
-use Rattle.lite_consume.specs.Uses.{ComparableBy, Gives, strip, Finishes, both_items, comparable_nil, gives_strip, item_same, FutureSteadyLawsBy, SteadyLawsBy}
-use Rattle.lite_consume.specs.Uses.{TakesNone, Runs}
+use Rattle.std.specs.Prelude.{◌≡◌, ◌⊎◌, List, [], ◌∷◌, Option, Some, None, refl, ⊤}
+use Rattle.lite_consume.specs.Uses.{inl, inr, subst, Poll, Ready, SameAnswer, SameItem, Sameness, Answer, ComparableBy, Gives, strip, Finishes, both_items}
+use Rattle.lite_consume.specs.Uses.{comparable_nil, gives_strip, item_same, FutureSteadyLawsBy, SteadyLawsBy, TakesNone, Runs}
 use Rattle.lite_consume.specs.Agreeing.{FoldSteadyLaws, Within, WithinWhere}
 use Rattle.lite_consume.specs.Consume.{Folds}
 use Rattle.lite_consume.specs.Consuming.{Consumes, Decides, Fold, fold_of}

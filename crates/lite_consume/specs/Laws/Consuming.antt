@@ -1,7 +1,8 @@
 -- Laws of what is made of a stream's items.
-use Rattle.lite_consume.specs.Uses.{◌≡◌, Option, Some, None, List, [], ◌∷◌, ◌++◌, refl, AllByRecursion, Poll, Ready, Pending, Answer, Gives, UpToValue, item}
-use Rattle.lite_consume.specs.Uses.{CalmLaws, NoPending, FutureLaws, up_to_once, answers_by, answers_given, answers_taken, to_value_join, RunLaws, Runs}
-use Rattle.lite_consume.specs.Uses.{OneAnswer, Segment}
+use Rattle.std.specs.Prelude.{◌≡◌, Option, Some, None, List, [], ◌∷◌, refl}
+use Rattle.std.proofs.Common.{◌++◌}
+use Rattle.lite_consume.specs.Uses.{AllByRecursion, Poll, Ready, Pending, Answer, Gives, UpToValue, item, CalmLaws, NoPending, FutureLaws, up_to_once}
+use Rattle.lite_consume.specs.Uses.{answers_by, answers_given, answers_taken, to_value_join, RunLaws, Runs, OneAnswer, Segment}
 use Rattle.lite_consume.specs.Agreeing.{WithinWhere}
 use Rattle.lite_consume.specs.Consume.{Folds}
 use Rattle.lite_consume.specs.Consuming.{Consumes, Decides, Fold, TakesIn, fold_of}

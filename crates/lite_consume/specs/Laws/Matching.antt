@@ -1,8 +1,8 @@
 -- Which values of each fold agree: by closures that do, and by numbers and items that are the same.
-use Rattle.lite_consume.specs.Uses.{⊤, Result, Ok, Err, IsErr, IsSome, Bool, true, false, ◌≡◌, ◌∙◌, Option, Some, None, inl, inr, refl, ap, subst, sym, arith}
-use Rattle.lite_consume.specs.Uses.{OptionBy, Optional, SameAnswer, SameHeld, SameItem, Sameness, Agree, AgreeFrom, AgreeKeeping, Keeping, Kin, KinAnswers}
-use Rattle.lite_consume.specs.Uses.{both_items, ends_same, held_same, optional_same, same_answer, same_held, agree_from_matches, keeping_from, keeping_matches}
-use Rattle.lite_consume.specs.Uses.{kin_matches, Question}
+use Rattle.std.specs.Prelude.{⊤, Result, Ok, Err, IsErr, IsSome, Bool, true, false, ◌≡◌, Option, Some, None, refl}
+use Rattle.lite_consume.specs.Uses.{◌∙◌, inl, inr, ap, subst, sym, arith, OptionBy, Optional, SameAnswer, SameHeld, SameItem, Sameness, Agree, AgreeFrom}
+use Rattle.lite_consume.specs.Uses.{AgreeKeeping, Keeping, Kin, KinAnswers, both_items, ends_same, held_same, optional_same, same_answer, same_held}
+use Rattle.lite_consume.specs.Uses.{agree_from_matches, keeping_from, keeping_matches, kin_matches, Question}
 use Rattle.lite_consume.specs.Agreeing.{FoldSteadyLaws, SameDecision}
 use Rattle.lite_consume.specs.All.{alls}
 use Rattle.lite_consume.specs.Any.{anys}

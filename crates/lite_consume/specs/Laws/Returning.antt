@@ -1,6 +1,8 @@
 -- That a poll which takes in items returns.
-use Rattle.lite_consume.specs.Uses.{◌≡◌, ℕ, ◌+◌, ◌<◌, [], arith, ⊤, Result, Ok, Err, MutBor, Answer, Terminates-count, Terminates-map, Lent, OkCounting, OkRun}
-use Rattle.lite_consume.specs.Uses.{ok_counting_ends, Counting, Ranks, counting_ends, Runs}
+use Rattle.std.specs.Prelude.{◌≡◌, ℕ, ◌+◌, [], ⊤, Result, Ok, Err}
+use Rattle.std.proofs.Common.{◌<◌}
+use Rattle.lite_consume.specs.Uses.{arith, MutBor, Answer, Terminates-count, Terminates-map, Lent, OkCounting, OkRun, ok_counting_ends, Counting, Ranks}
+use Rattle.lite_consume.specs.Uses.{counting_ends, Runs}
 use Rattle.lite_consume.specs.Consuming.{Fold, TakesIn, fold_of}
 use Rattle.lite_consume.specs.PollSteps.{Returns, TakesItem}
 

@@ -1,5 +1,5 @@
 -- `try_next`: as `next`, with an error outside.
-use Rattle.lite_consume.specs.Uses.{None, Result}
+use Rattle.std.specs.Prelude.{None, Result}
 use Rattle.lite_consume.specs.TryNext.{TryNextItem}
 
 -- no item is taken in

@@ -1,7 +1,7 @@
 -- Collections gather the same of items that are the same, where memory was found.
-use Rattle.lite_gather.specs.Uses.{Result, Ok, Err, Bool, true, false, map, IfSome, IsSome, ◌≡◌, List, [], ◌∷◌, ◌++◌, Option, Some, None, subst, sym}
-use Rattle.lite_gather.specs.Uses.{map-append, AllZip-push, OptionBy, SameErr, SameItem, SameOk, Sameness, AgreeFrom, option_by, Question, FoldSteadyLaws}
-use Rattle.lite_gather.specs.Uses.{SameAsked, matched}
+use Rattle.std.specs.Prelude.{Result, Ok, Err, Bool, true, false, map, IfSome, IsSome, ◌≡◌, List, [], ◌∷◌, ◌++◌, Option, Some, None}
+use Rattle.lite_gather.specs.Uses.{subst, sym, map-append, AllZip-push, OptionBy, SameErr, SameItem, SameOk, Sameness, AgreeFrom, option_by, Question}
+use Rattle.lite_gather.specs.Uses.{FoldSteadyLaws, SameAsked, matched}
 use Rattle.lite_gather.specs.Agreeing.{HoldsParts, HoldsSame, HoldsSameBoth, HoldsSameParts, SameCollected}
 use Rattle.lite_gather.specs.Agreeing.{TrySameCollected, Unmixed}
 use Rattle.lite_gather.specs.Collect.{collects}

@@ -1,6 +1,7 @@
 -- Laws of entries and their marks.
-use Rattle.lite_halves.specs.Uses.{◌≡◌, ℕ, List, [], ◌∷◌, ◌++◌, length, take, refl, arith, length-take-le, ap, Result, Ok, Err, map-append, Error, Poll, Ready}
-use Rattle.lite_halves.specs.Uses.{Pending, Part, moved, read_marks, WriteMark, done_marks, write_marks, CountsWithin}
+use Rattle.std.specs.Prelude.{◌≡◌, ℕ, List, [], ◌∷◌, ◌++◌, length, take, Result, Ok, Err}
+use Rattle.lite_halves.specs.Uses.{refl, arith, length-take-le, ap, map-append, Error, Poll, Ready, Pending, Part, moved, read_marks, WriteMark, done_marks}
+use Rattle.lite_halves.specs.Uses.{write_marks, CountsWithin}
 use Rattle.lite_halves.specs.Entry.{AllFit, FitsCall, FitsDone, Note, done_marks_of, met, part_of, parts_in, read_note}
 use Rattle.lite_halves.specs.Entry.{told_of_done, write_note}
 

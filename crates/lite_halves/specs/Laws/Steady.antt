@@ -1,7 +1,8 @@
 -- A journal is as steady and as calm a reader, and a writer, as its stream.
-use Rattle.lite_halves.specs.Uses.{◌≡◌, ◌∙◌, ℕ, List, [], ◌∷◌, ap, map, inl, inr, subst, ErrorKind, Interrupted, OutOfMemory, no_wait_both, no_wait_parts}
-use Rattle.lite_halves.specs.Uses.{never_waits_both, never_waits_parts, ReadMark, Part, PartsInOrder, MarkLaws, CalmReadLaws, NoPendingRead, SteadyReadLaws}
-use Rattle.lite_halves.specs.Uses.{CalmWriteLaws, NoError, NoPendingWrite, SteadyWriteLaws, WriteMark, Runs}
+use Rattle.std.specs.Prelude.{◌≡◌, ℕ, List, [], ◌∷◌, map}
+use Rattle.lite_halves.specs.Uses.{◌∙◌, ap, inl, inr, subst, ErrorKind, Interrupted, OutOfMemory, no_wait_both, no_wait_parts, never_waits_both}
+use Rattle.lite_halves.specs.Uses.{never_waits_parts, ReadMark, Part, PartsInOrder, MarkLaws, CalmReadLaws, NoPendingRead, SteadyReadLaws, CalmWriteLaws}
+use Rattle.lite_halves.specs.Uses.{NoError, NoPendingWrite, SteadyWriteLaws, WriteMark, Runs}
 use Rattle.lite_halves.specs.Journal.{Chronicle, JournalReads, JournalWrites, Thins, all_in_order}
 use Rattle.lite_halves.specs.Laws.Journal.{journals_laws}
 use Rattle.lite_halves.specs.Steady.{ReadsAmply}

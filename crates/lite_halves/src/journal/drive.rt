@@ -1,5 +1,6 @@
 //! A list of calls, made one after the other.
-ghost use Rattle.lite_halves.specs.Uses.{◌≡◌, ◌≤◌, ◌<◌, ◌-◌, ◌⊎◌, length, vec_capacity, vec_len, IfNone, IfSome, OnErr, Keeps};
+ghost use Rattle.std.specs.Prelude.{◌≡◌, ◌≤◌, ◌<◌, ◌-◌, ◌⊎◌, length, vec_capacity, vec_len, IfNone, IfSome, OnErr};
+ghost use Rattle.lite_halves.specs.Uses.{Keeps};
 ghost use Rattle.lite_halves.specs.Drive.{AddsOrNone, AsksAt, Drives};
 ghost use Rattle.lite_halves.specs.Entry.{Request, asked_in, asked_of, told_in};
 

@@ -1,7 +1,7 @@
 //! The journal as a reader and a writer.
-ghost use Rattle.lite_halves.specs.Uses.{◌≡◌, ◌≤◌, ◌<◌, ◌+◌, ◌^◌, ◌++◌, ◌∷◌, [], length, vec_capacity, IfNone, IfOk, IfSome, io_slices_bytes, OutOfMemory};
-ghost use Rattle.lite_halves.specs.Uses.{IfReady, Keeps, ReadMark, read_marks, Part, ReadsInto, room_in, WriteMark, done_marks, write_marks, closed, flushed};
-ghost use Rattle.lite_halves.specs.Uses.{Registered};
+ghost use Rattle.std.specs.Prelude.{◌≡◌, ◌≤◌, ◌<◌, ◌+◌, ◌^◌, ◌++◌, ◌∷◌, [], length, vec_capacity, IfNone, IfOk, IfSome};
+ghost use Rattle.lite_halves.specs.Uses.{io_slices_bytes, OutOfMemory, IfReady, Keeps, ReadMark, read_marks, Part, ReadsInto, room_in, WriteMark, done_marks};
+ghost use Rattle.lite_halves.specs.Uses.{write_marks, closed, flushed, Registered};
 ghost use Rattle.lite_halves.specs.Entry.{Request, close_note, flush_note, read_note, write_note};
 ghost use Rattle.lite_halves.specs.Journal.{Adds, AddsOrStays, AddsRead, AddsWrite, AsksMemory, JournalReads};
 ghost use Rattle.lite_halves.specs.Journal.{JournalWrites, EntryRoom};

@@ -29,7 +29,7 @@ pub struct Blanks {
 }
 
 impl Model for Blanks {
-    ghost use Rattle.lite_halves.specs.Uses.{◌≡◌};
+    ghost use Rattle.std.specs.Prelude.{◌≡◌};
     ghost use Rattle.lite_halves.specs.Books.{Names};
 
     ghost Value = { Names };

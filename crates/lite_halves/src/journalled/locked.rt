@@ -1,5 +1,6 @@
 //! What stands under the lock of two journalled halves.
-ghost use Rattle.lite_halves.specs.Uses.{◌≡◌, ◌≤◌, [], length, IfOk, IfSome, IfReady, Keeps, count_of};
+ghost use Rattle.std.specs.Prelude.{◌≡◌, ◌≤◌, [], length, IfOk, IfSome};
+ghost use Rattle.lite_halves.specs.Uses.{IfReady, Keeps, count_of};
 ghost use Rattle.lite_halves.specs.Counts.{AddsInside, CountsCall, CountsOrNone, IsWrite, booked_in, counted_in, nothing_counted};
 ghost use Rattle.lite_halves.specs.Counts.{numbers_of};
 ghost use Rattle.lite_halves.specs.declared.journalled.tally.Side.TheVariants.{Reading, Writing};

@@ -1,5 +1,5 @@
 //! The calls that a half made, as contracts see them.
-ghost use Rattle.lite_halves.specs.Uses.{◌≡◌, ◌++◌, ◌∷◌, []};
+ghost use Rattle.std.specs.Prelude.{◌≡◌, ◌++◌, ◌∷◌, []};
 ghost use Rattle.lite_halves.specs.Entry.{note_of};
 
 use crate::Entry;
@@ -22,7 +22,8 @@ enum Link {
 }
 
 impl Model for Made {
-    ghost use Rattle.lite_halves.specs.Uses.{List, length, arith, length-append};
+    ghost use Rattle.std.specs.Prelude.{List, length};
+    ghost use Rattle.lite_halves.specs.Uses.{arith, length-append};
     ghost use Rattle.lite_halves.specs.Entry.{Note};
 
     ghost Value = { List Note };

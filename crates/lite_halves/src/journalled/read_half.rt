@@ -1,6 +1,6 @@
 //! The journalled half that reads.
-ghost use Rattle.lite_halves.specs.Uses.{◌≡◌, ◌≤◌, ◌+◌, ◌%◌, ◌^◌, ◌⊎◌, ◌++◌, ◌∷◌, [], length, map, IfOk, IfReady, Keeps, OutOfMemory, ReadMark, count_of};
-ghost use Rattle.lite_halves.specs.Uses.{read_marks, Part, ReadsInto, room_in, Registered};
+ghost use Rattle.std.specs.Prelude.{◌≡◌, ◌≤◌, ◌+◌, ◌%◌, ◌^◌, ◌⊎◌, ◌++◌, ◌∷◌, [], length, map, IfOk};
+ghost use Rattle.lite_halves.specs.Uses.{IfReady, Keeps, OutOfMemory, ReadMark, count_of, read_marks, Part, ReadsInto, room_in, Registered};
 ghost use Rattle.lite_halves.specs.Counts.{CountsOrNone, HalfDrives, IsOutOfMemory, MakesOrStays, MakesRead};
 ghost use Rattle.lite_halves.specs.Counts.{ReadCounts, read_bytes_of};
 ghost use Rattle.lite_halves.specs.Entry.{Request, read_note, told_in};

@@ -1,6 +1,7 @@
 //! The journalled half that writes.
-ghost use Rattle.lite_halves.specs.Uses.{◌≡◌, ◌≤◌, ◌+◌, ◌%◌, ◌^◌, ◌⊎◌, ◌++◌, ◌∷◌, [], length, IfOk, io_slices_bytes, IfReady, Keeps, count_of, OutOfMemory};
-ghost use Rattle.lite_halves.specs.Uses.{Part, WriteMark, done_marks, write_marks, closed, flushed, Registered};
+ghost use Rattle.std.specs.Prelude.{◌≡◌, ◌≤◌, ◌+◌, ◌%◌, ◌^◌, ◌⊎◌, ◌++◌, ◌∷◌, [], length, IfOk};
+ghost use Rattle.lite_halves.specs.Uses.{io_slices_bytes, IfReady, Keeps, count_of, OutOfMemory, Part, WriteMark, done_marks, write_marks, closed, flushed};
+ghost use Rattle.lite_halves.specs.Uses.{Registered};
 ghost use Rattle.lite_halves.specs.Counts.{AllWrites, CountsOrNone, HalfDrives, IsOutOfMemory, IsWrite, MakesOrStays};
 ghost use Rattle.lite_halves.specs.Counts.{MakesWrite, WriteCounts, taken_bytes_of};
 ghost use Rattle.lite_halves.specs.Entry.{asked_in, asked_of, close_note, flush_note, told_in, write_note};

@@ -1,5 +1,6 @@
 -- What the rank of a counted reader meets.
-use Rattle.lite_io_base.specs.Uses.{ℕ, List, [], ◌∷◌, refl, Terminates, Ranks, number_ranks, Runs}
+use Rattle.std.specs.Prelude.{ℕ, List, [], ◌∷◌, refl}
+use Rattle.lite_io_base.specs.Uses.{Terminates, Ranks, number_ranks, Runs}
 use Rattle.lite_io_base.specs.Falls.{Falls}
 use Rattle.lite_io_base.specs.Laws.Falls.{GivenRun, counted_ends}
 use Rattle.lite_io_base.specs.Laws.Marks.{given_all}

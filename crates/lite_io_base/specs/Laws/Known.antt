@@ -1,5 +1,6 @@
 -- Laws of the bytes that are to come.
-use Rattle.lite_io_base.specs.Uses.{◌≡◌, ◌∙◌, ℕ, List, [], ◌∷◌, ◌++◌, ap, refl, sym, ⊤, MutBor, Lent, Runs}
+use Rattle.std.specs.Prelude.{◌≡◌, ℕ, List, [], ◌∷◌, ◌++◌, refl, ⊤}
+use Rattle.lite_io_base.specs.Uses.{◌∙◌, ap, sym, MutBor, Lent, Runs}
 use Rattle.lite_io_base.specs.Known.{Known, TellsKnown, Knows}
 use Rattle.lite_io_base.specs.Marks.{ReadMark, bytes}
 use Rattle.lite_io_base.specs.Told.{TellsScript}

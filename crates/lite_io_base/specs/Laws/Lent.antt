@@ -1,5 +1,6 @@
 -- What is behind a reference.
-use Rattle.lite_io_base.specs.Uses.{List, refl, Lent, Ranks, ranks_of, Runs, MutBor}
+use Rattle.std.specs.Prelude.{List, refl}
+use Rattle.lite_io_base.specs.Uses.{Lent, Ranks, ranks_of, Runs, MutBor}
 pub use Rattle.lite_base.specs.Laws.Lent.{lent_still}
 use Rattle.lite_io_base.specs.Counting.{ReadCounting}
 use Rattle.lite_io_base.specs.Marks.{ReadMark}

@@ -1,5 +1,6 @@
 -- Laws of tales without their pendings.
-use Rattle.lite_io_base.specs.Uses.{⊤, List, [], ◌∷◌, ◌≡◌, ℕ, ◌++◌, ap, refl, sym, Comparable, MutBor, Lent, lent_takes_none, Runs}
+use Rattle.std.specs.Prelude.{⊤, List, [], ◌∷◌, ◌≡◌, ℕ, ◌++◌, refl}
+use Rattle.lite_io_base.specs.Uses.{ap, sym, Comparable, MutBor, Lent, lent_takes_none, Runs}
 use Rattle.lite_io_base.specs.Marks.{ReadMark, bytes, moved}
 use Rattle.lite_io_base.specs.Steady.{CalmReadLaws, NoPendingRead, SteadyReadLaws, strip_marks, OneTale}
 use Rattle.lite_io_base.specs.Laws.Told.{told_laws}

@@ -1,5 +1,6 @@
 -- Writers that leave the same bytes however often they were pending, and marks without a pending.
-use Rattle.lite_io_base.specs.Uses.{ℕ, List, [], ◌∷◌, ◌++◌, MutBor, Lent, Runs}
+use Rattle.std.specs.Prelude.{ℕ, List, [], ◌∷◌, ◌++◌}
+use Rattle.lite_io_base.specs.Uses.{MutBor, Lent, Runs}
 use Rattle.lite_io_base.specs.Takings.{WriteMark}
 use Rattle.lite_io_base.specs.SteadyWrite.{NoPendingWrite, SteadyWriteLaws}
 

@@ -1,5 +1,6 @@
 -- What a vector keeps, and what is behind a reference.
-use Rattle.lite_io_base.specs.Uses.{◌≡◌, ℕ, List, ◌++◌, ⊤, MutBor, Lent, Runs}
+use Rattle.std.specs.Prelude.{◌≡◌, ℕ, List, ◌++◌, ⊤}
+use Rattle.lite_io_base.specs.Uses.{MutBor, Lent, Runs}
 use Rattle.lite_io_base.specs.Grows.{Grows, IsRefusal}
 use Rattle.lite_io_base.specs.Laws.Grows.{grows_all}
 use Rattle.lite_io_base.specs.Stored.{Stored, Stores}

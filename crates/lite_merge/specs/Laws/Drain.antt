@@ -1,6 +1,7 @@
 -- Laws of `drain`.
-use Rattle.lite_merge.specs.Uses.{◌≡◌, ℕ, ◌≤◌, List, [], ◌∷◌, ◌++◌, Some, None, refl, arith, Ready, Pending, Answer, before_end, items, CalmLaws, NoPending}
-use Rattle.lite_merge.specs.Uses.{Lowers, Runs, Relating}
+use Rattle.std.specs.Prelude.{◌≡◌, ℕ, List, [], ◌∷◌, ◌++◌, Some, None}
+use Rattle.std.proofs.Common.{◌≤◌}
+use Rattle.lite_merge.specs.Uses.{refl, arith, Ready, Pending, Answer, before_end, items, CalmLaws, NoPending, Lowers, Runs, Relating}
 use Rattle.lite_merge.specs.Drain.{Drained, Drains, with_ends}
 
 module _ {A : Type 0} where

@@ -1,6 +1,7 @@
 -- Laws of answers that are all ends.
-use Rattle.lite_merge.specs.Uses.{◌≡◌, ◌≤◌, ℕ, List, [], ◌∷◌, ◌++◌, Some, None, arith, Ready, Pending, Answer, before_end, end, items, waits, AtMost, Lowers}
-use Rattle.lite_merge.specs.Uses.{AllEnds}
+use Rattle.std.specs.Prelude.{◌≡◌, ℕ, List, [], ◌∷◌, ◌++◌, Some, None}
+use Rattle.std.proofs.Common.{◌≤◌}
+use Rattle.lite_merge.specs.Uses.{arith, Ready, Pending, Answer, before_end, end, items, waits, AtMost, Lowers, AllEnds}
 
 module _ {A : Type 0} where
   pub ends_before : (l : List (Answer A)) → AllEnds l → before_end l ≤ 0

@@ -1,8 +1,9 @@
 -- Laws of two streams of which each row asks one first.
-use Rattle.lite_merge.specs.Uses.{◌≡◌, ◌∙◌, ℕ, ◌+◌, List, [], ◌∷◌, ◌++◌, length, map, Bool, true, Some, None, inl, refl, ap, sym, arith, length-append, Ready}
-use Rattle.lite_merge.specs.Uses.{Pending, Answer, item, items, CalmLaws, NoPending, AtMost-both, AtMost-length, Below-after, Below-first, Lowers-at_most}
-use Rattle.lite_merge.specs.Uses.{no_pending_join, rows_by, rows_follow, AtMost, Below, Lowers, Counting, Ranks, StreamLaws, Hints, NoHint, Runs, Fuses}
-use Rattle.lite_merge.specs.Uses.{fuse_parts, through_calm, fuses_calming, fuses_relating, laws_unhinted, through_counting, Fuse}
+use Rattle.std.specs.Prelude.{◌≡◌, ℕ, ◌+◌, List, [], ◌∷◌, ◌++◌, length, map, Bool, true, Some, None}
+use Rattle.lite_merge.specs.Uses.{◌∙◌, inl, refl, ap, sym, arith, length-append, Ready, Pending, Answer, item, items, CalmLaws, NoPending, AtMost-both}
+use Rattle.lite_merge.specs.Uses.{AtMost-length, Below-after, Below-first, Lowers-at_most, no_pending_join, rows_by, rows_follow, AtMost, Below, Lowers}
+use Rattle.lite_merge.specs.Uses.{Counting, Ranks, StreamLaws, Hints, NoHint, Runs, Fuses, fuse_parts, through_calm, fuses_calming, fuses_relating}
+use Rattle.lite_merge.specs.Uses.{laws_unhinted, through_counting, Fuse}
 use Rattle.lite_merge.specs.Merge.{MergeRow, MergeRows, Merges, beside_pending}
 
 module _ {A : Type 0} where

@@ -1,6 +1,7 @@
 -- Laws of `race`.
-use Rattle.lite_merge.specs.Uses.{◌≡◌, List, [], ◌∷◌, ◌++◌, None, refl, inl, append-nil, map-append, Stream, next_u32, Answer, items, CalmLaws, NoPending}
-use Rattle.lite_merge.specs.Uses.{folds_follow, calm_both, same_hint, Lowers, Counting, Ranks, StreamLaws, Hints, NoHint, Runs}
+use Rattle.std.specs.Prelude.{◌≡◌, List, [], ◌∷◌, ◌++◌, None}
+use Rattle.lite_merge.specs.Uses.{refl, inl, append-nil, map-append, Stream, next_u32, Answer, items, CalmLaws, NoPending, folds_follow, calm_both, same_hint}
+use Rattle.lite_merge.specs.Uses.{Lowers, Counting, Ranks, StreamLaws, Hints, NoHint, Runs}
 use Rattle.lite_merge.specs.Laws.Merge.{merges_calm, merges_follow, merges_keep, merges_lower, merges_sized}
 use Rattle.lite_merge.specs.Race.{RacesOn, race_ranks}
 use Rattle.lite_merge.specs.declared.race.Race.{Race}

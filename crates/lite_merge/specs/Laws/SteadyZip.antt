@@ -1,6 +1,7 @@
 -- Two streams whose items are paired, by what each of them answers.
-use Rattle.lite_merge.specs.Uses.{◌≡◌, ℕ, zero, suc, List, [], ◌∷◌, Option, Some, None, refl, Poll, Pairwise, SameAnswer, SameHeld, SameItem, Sameness, Answer}
-use Rattle.lite_merge.specs.Uses.{ComparableBy, strip, both_items, comparable_nil, ends_same, held_same, item_same, pairs_same, same_answer, SteadyLawsBy, Runs}
+use Rattle.std.specs.Prelude.{◌≡◌, ℕ, zero, suc, List, [], ◌∷◌, Option, Some, None}
+use Rattle.lite_merge.specs.Uses.{refl, Poll, Pairwise, SameAnswer, SameHeld, SameItem, Sameness, Answer, ComparableBy, strip, both_items, comparable_nil}
+use Rattle.lite_merge.specs.Uses.{ends_same, held_same, item_same, pairs_same, same_answer, SteadyLawsBy, Runs}
 use Rattle.lite_merge.specs.Laws.Zip.{pairing_by, zip_runs}
 use Rattle.lite_merge.specs.Zip.{Pairing, Zips, pair_with, pendings}
 use Rattle.lite_merge.specs.declared.zip.Zip.{Zip}

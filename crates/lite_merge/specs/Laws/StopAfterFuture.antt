@@ -1,7 +1,8 @@
 -- Laws of `stop_after_future`.
-use Rattle.lite_merge.specs.Uses.{IfSome, ◌≡◌, ◌∙◌, ℕ, ◌≤◌, List, [], ◌∷◌, ◌++◌, length, length-append, Option, Some, None, refl, ap, sym, arith, append_assoc}
-use Rattle.lite_merge.specs.Uses.{Poll, Pending, Answer, before_end, end, items, FutureLaws, all_append, waiting_waiting, finishes_later, same_hint, StreamLaws}
-use Rattle.lite_merge.specs.Uses.{endless_join, Hints, Runs, AllEnds, Calming, Relating, laws_capped}
+use Rattle.std.specs.Prelude.{IfSome, ◌≡◌, ℕ, List, [], ◌∷◌, ◌++◌, length, Option, Some, None}
+use Rattle.std.proofs.Common.{◌≤◌}
+use Rattle.lite_merge.specs.Uses.{◌∙◌, length-append, refl, ap, sym, arith, append_assoc, Poll, Pending, Answer, before_end, end, items, FutureLaws, all_append}
+use Rattle.lite_merge.specs.Uses.{waiting_waiting, finishes_later, same_hint, StreamLaws, endless_join, Hints, Runs, AllEnds, Calming, Relating, laws_capped}
 use Rattle.std.proofs.lemmas.List.{append-nil}
 use Rattle.lite_merge.specs.Laws.Ends.{ends_before, ends_bounded, ends_calm, ends_lower, no_end_among}
 use Rattle.lite_merge.specs.StopAfterFuture.{PendingBeside, Stops, StopsBy, ThenEnds}

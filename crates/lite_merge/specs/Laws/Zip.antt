@@ -1,8 +1,9 @@
 -- Laws of two streams whose items are paired.
-use Rattle.lite_merge.specs.Uses.{◌≡◌, ◌∙◌, ℕ, zero, suc, ◌+◌, ◌≤◌, List, [], ◌∷◌, ◌++◌, Option, Some, None, inl, inr, refl, ap, arith, AllByRecursion, Poll}
-use Rattle.lite_merge.specs.Uses.{Ready, Pending, Answer, end, item, items, CalmLaws, waits, Lowers-at_most, Lowers-below, same_hint, IsItem, items_each}
-use Rattle.lite_merge.specs.Uses.{AtMost, Lowers, Counting, Ranks, count_held, held_rank, RunLaws, StreamLaws, laws_of, runs_of, Hints, NoHint, Runs, calm_two}
-use Rattle.lite_merge.specs.Uses.{held_falls, held_first, held_less, held_level, held_sized}
+use Rattle.std.specs.Prelude.{◌≡◌, ℕ, zero, suc, ◌+◌, List, [], ◌∷◌, ◌++◌, Option, Some, None}
+use Rattle.std.proofs.Common.{◌≤◌}
+use Rattle.lite_merge.specs.Uses.{◌∙◌, inl, inr, refl, ap, arith, AllByRecursion, Poll, Ready, Pending, Answer, end, item, items, CalmLaws, waits}
+use Rattle.lite_merge.specs.Uses.{Lowers-at_most, Lowers-below, same_hint, IsItem, items_each, AtMost, Lowers, Counting, Ranks, count_held, held_rank, RunLaws}
+use Rattle.lite_merge.specs.Uses.{StreamLaws, laws_of, runs_of, Hints, NoHint, Runs, calm_two, held_falls, held_first, held_less, held_level, held_sized}
 use Rattle.lite_merge.specs.Zip.{Pairing, Pairs, WithHeld, Zips, pair_with, pendings, zip_ranks}
 
 module _ {C : Type 0} where

@@ -1,6 +1,6 @@
 -- Laws of futures whose memory is refused only where there was no room.
-use Rattle.lite_read.specs.Uses.{List, [], ◌∷◌, ◌++◌, refl, Poll, Ready, Pending, Waiting, CalmLaws, FutureLaws, up_to_once, Runs, ReadMark, MarkLaws}
-use Rattle.lite_read.specs.Uses.{CalmReadLaws}
+use Rattle.std.specs.Prelude.{List, [], ◌∷◌, ◌++◌}
+use Rattle.lite_read.specs.Uses.{refl, Poll, Ready, Pending, Waiting, CalmLaws, FutureLaws, up_to_once, Runs, ReadMark, MarkLaws, CalmReadLaws}
 use Rattle.lite_read.specs.Laws.Deterministic.{segmented_calm}
 use Rattle.lite_read.specs.Laws.Gathers.{KeepLaws, gathers_laws}
 use Rattle.lite_read.specs.Laws.Refusals.{Waits, Weaker, gathers_waiting, gathers_weaker}

@@ -1,7 +1,8 @@
 -- Laws of `bytes`.
-use Rattle.lite_read.specs.Uses.{◌≡◌, ℕ, suc, ◌+◌, List, [], ◌∷◌, ◌++◌, length, Some, None, Result, refl, ap, subst, add-one, Error, Ready, Pending, Answer}
-use Rattle.lite_read.specs.Uses.{items, Lowers-below, same_hint, Below, Lowers, Counting, Ranks, ranks_of, StreamLaws, laws_of, NoHint, Runs, ReadCounting}
-use Rattle.lite_read.specs.Uses.{Falls, calm_part, counting_part, AllGiven, ReadMark, given, MarkLaws, CalmReadLaws, SteadyReadLaws}
+use Rattle.std.specs.Prelude.{◌≡◌, ℕ, ◌+◌, List, [], ◌∷◌, ◌++◌, length, Some, None, Result}
+use Rattle.lite_read.specs.Uses.{suc, refl, ap, subst, add-one, Error, Ready, Pending, Answer, items, Lowers-below, same_hint, Below, Lowers, Counting, Ranks}
+use Rattle.lite_read.specs.Uses.{ranks_of, StreamLaws, laws_of, NoHint, Runs, ReadCounting, Falls, calm_part, counting_part, AllGiven, ReadMark, given}
+use Rattle.lite_read.specs.Uses.{MarkLaws, CalmReadLaws, SteadyReadLaws}
 use Rattle.lite_read.specs.Bytes.{TellsBytes, TellsEach}
 use Rattle.lite_read.specs.Laws.PollSteps.{idle_join}
 use Rattle.lite_read.specs.declared.bytes.Bytes.{Bytes}

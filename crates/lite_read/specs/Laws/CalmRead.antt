@@ -1,6 +1,6 @@
 -- One read and one fill are calm over a calm reader.
-use Rattle.lite_read.specs.Uses.{ℕ, List, Result, subst, sym, IfSome, Option, Ok, Err, Bor, MutBor, Error, Ready, Pending, CalmLaws, Runs, ReadMark, fill_marks}
-use Rattle.lite_read.specs.Uses.{CalmReadLaws}
+use Rattle.std.specs.Prelude.{ℕ, List, Result, IfSome, Option, Ok, Err}
+use Rattle.lite_read.specs.Uses.{subst, sym, Bor, MutBor, Error, Ready, Pending, CalmLaws, Runs, ReadMark, fill_marks, CalmReadLaws}
 use Rattle.lite_read.specs.FillBuf.{FillsOnce, held_after}
 use Rattle.lite_read.specs.Laws.Polled.{calls_calm, polled_calm}
 use Rattle.lite_read.specs.Polled.{PolledByCalls}

@@ -1,7 +1,7 @@
 -- What streams of pieces do to a rank.
-use Rattle.lite_read.specs.Uses.{◌≡◌, ◌∙◌, ◌<◌, ◌+◌, ℕ, zero, suc, List, [], ◌∷◌, ◌++◌, length, Some, None, Result, Ok, ap, sym, arith, length-append, FoldsTo}
-use Rattle.lite_read.specs.Uses.{Error, Ready, Pending, Answer, items, OkCounting, all_ok, Below, Lowers, Ranks, Runs, ReadCounting, Falls, falls_held}
-use Rattle.lite_read.specs.Uses.{given-append, given-bytes, ReadMark, bytes, given, MarkLaws}
+use Rattle.std.specs.Prelude.{◌≡◌, ◌<◌, ◌+◌, ℕ, List, [], ◌∷◌, ◌++◌, length, Some, None, Result, Ok}
+use Rattle.lite_read.specs.Uses.{◌∙◌, zero, suc, ap, sym, arith, length-append, FoldsTo, Error, Ready, Pending, Answer, items, OkCounting, all_ok, Below}
+use Rattle.lite_read.specs.Uses.{Lowers, Ranks, Runs, ReadCounting, Falls, falls_held, given-append, given-bytes, ReadMark, bytes, given, MarkLaws}
 use Rattle.lite_read.specs.Pieces.{Cut, CutsPiece, Itemised, pieces}
 use Rattle.lite_read.specs.Laws.Segments.{flow_keeps}
 use Rattle.lite_read.specs.ReadFold.{AnswerMarks}

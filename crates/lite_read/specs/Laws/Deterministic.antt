@@ -1,8 +1,8 @@
 -- What is gathered of one tale is the same wherever its pendings stand.
-use Rattle.lite_read.specs.Uses.{◌≡◌, ℕ, List, [], ◌∷◌, ◌++◌, refl, subst, append_assoc, map-append, FoldsTo, Poll, Ready, Pending, Comparable, ComparableBy}
-use Rattle.lite_read.specs.Uses.{strip, NoPending, Runs, Segments, comparable_fronts, comparable_rest, comparable_swapped, no_wait_parts, strip_marks-append}
-use Rattle.lite_read.specs.Uses.{strip_marks-bytes, stripped_no_pending, ReadMark, bytes, CalmReadLaws, NoPendingRead, SteadyReadLaws, strip_marks}
-use Rattle.lite_read.specs.Uses.{folds_follow, segment_front}
+use Rattle.std.specs.Prelude.{◌≡◌, ℕ, List, [], ◌∷◌, ◌++◌}
+use Rattle.lite_read.specs.Uses.{refl, subst, append_assoc, map-append, FoldsTo, Poll, Ready, Pending, Comparable, ComparableBy, strip, NoPending, Runs}
+use Rattle.lite_read.specs.Uses.{Segments, comparable_fronts, comparable_rest, comparable_swapped, no_wait_parts, strip_marks-append, strip_marks-bytes}
+use Rattle.lite_read.specs.Uses.{stripped_no_pending, ReadMark, bytes, CalmReadLaws, NoPendingRead, SteadyReadLaws, strip_marks, folds_follow, segment_front}
 use Rattle.lite_read.specs.ReadFold.{AnswerMarks, ReadFold, Segmented}
 use Rattle.lite_read.specs.Deterministic.{IsDeterministic, TaleValues}
 

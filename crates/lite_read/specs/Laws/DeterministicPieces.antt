@@ -1,6 +1,7 @@
 -- What is cut out of one tale is the same wherever its pendings stand.
-use Rattle.lite_read.specs.Uses.{⊤, ◌≡◌, ◌<◌, ◌∙◌, ℕ, List, [], ◌∷◌, Option, Some, None, Result, inl, inr, length, refl, ap, sym, arith, error_kind, Error}
-use Rattle.lite_read.specs.Uses.{ErrorKind, OptionBy, Sameness, CalmLaws, SteadyLawsBy, runs_of, Runs, ReadMark, CalmReadLaws, SteadyReadLaws}
+use Rattle.std.specs.Prelude.{⊤, ◌≡◌, ◌<◌, ℕ, List, [], ◌∷◌, Option, Some, None, Result, length}
+use Rattle.lite_read.specs.Uses.{◌∙◌, inl, inr, refl, ap, sym, arith, error_kind, Error, ErrorKind, OptionBy, Sameness, CalmLaws, SteadyLawsBy, runs_of, Runs}
+use Rattle.lite_read.specs.Uses.{ReadMark, CalmReadLaws, SteadyReadLaws}
 use Rattle.lite_read.specs.ReadFold.{ReadFold}
 use Rattle.lite_read.specs.Laws.Deterministic.{GivenBy, TakenAt, deterministic_by, segmented_alike, segmented_calm}
 use Rattle.lite_read.specs.Deterministic.{IsDeterministic, SameOr}

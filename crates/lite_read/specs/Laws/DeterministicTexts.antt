@@ -1,5 +1,6 @@
 -- What is read of one tale for a text is the same wherever its pendings stand.
-use Rattle.lite_read.specs.Uses.{inl, inr, ◌≡◌, ◌∙◌, ℕ, List, Result, Ok, Err, sym, ap, Error, Comparable, ReadMark}
+use Rattle.std.specs.Prelude.{◌≡◌, ℕ, List, Result, Ok, Err}
+use Rattle.lite_read.specs.Uses.{inl, inr, ◌∙◌, sym, ap, Error, Comparable, ReadMark}
 use Rattle.lite_read.specs.ReadFold.{ReadFold}
 use Rattle.lite_read.specs.Deterministic.{IsDeterministic, SameByKind}
 use Rattle.lite_read.specs.Texts.{AppendsText, Reading, ValueOf, in_text}

@@ -1,6 +1,7 @@
 -- Laws of futures over a reader.
-use Rattle.lite_read.specs.Uses.{◌≡◌, List, [], ◌∷◌, refl, Poll, ComparableBy, strip, CalmLaws, FutureLaws, up_to_once, waiting_up_to, Runs, ReadMark, MarkLaws}
-use Rattle.lite_read.specs.Uses.{CalmReadLaws, SteadyReadLaws}
+use Rattle.std.specs.Prelude.{◌≡◌, List, [], ◌∷◌}
+use Rattle.lite_read.specs.Uses.{refl, Poll, ComparableBy, strip, CalmLaws, FutureLaws, up_to_once, waiting_up_to, Runs, ReadMark, MarkLaws, CalmReadLaws}
+use Rattle.lite_read.specs.Uses.{SteadyReadLaws}
 use Rattle.lite_read.specs.Deterministic.{IsDeterministic}
 use Rattle.lite_read.specs.Laws.Deterministic.{segmented_alike, segmented_calm}
 use Rattle.lite_read.specs.Laws.PollSteps.{idle_join}

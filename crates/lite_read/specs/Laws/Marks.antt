@@ -1,6 +1,6 @@
 -- `split`, `lines` and `read_until` do not depend on when their reader was pending, where memory was found.
-use Rattle.lite_read.specs.Uses.{◌≡◌, ◌∙◌, ℕ, List, [], ◌∷◌, ◌++◌, Ok, Err, Global, length, ap, sym, IsUtf8-string_bytes, string_bytes, String, Vec, Sameness}
-use Rattle.lite_read.specs.Uses.{FutureSteadyLawsBy, Runs, ReadMark, SteadyReadLaws}
+use Rattle.std.specs.Prelude.{◌≡◌, ℕ, List, [], ◌∷◌, ◌++◌, Ok, Err, length, string_bytes}
+use Rattle.lite_read.specs.Uses.{◌∙◌, Global, ap, sym, IsUtf8-string_bytes, String, Vec, Sameness, FutureSteadyLawsBy, Runs, ReadMark, SteadyReadLaws}
 use Rattle.lite_read.specs.Laws.Gathers.{gathers_alike}
 use Rattle.lite_read.specs.Deterministic.{IsDeterministic, SameByKind}
 use Rattle.lite_read.specs.Laws.ReadUntil.{until_laws}

@@ -1,6 +1,6 @@
 -- Laws of steps, and of what stays through polls.
-use Rattle.lite_read.specs.Uses.{◌≡◌, ◌∙◌, ◌<◌, ℕ, List, [], ◌∷◌, ◌++◌, length, refl, arith, OnPending, Poll, Ready, Pending, Reaches, Reaches-back, Runs}
-use Rattle.lite_read.specs.Uses.{GivenRun, bytes_given, ReadMark, bytes}
+use Rattle.std.specs.Prelude.{◌≡◌, ◌<◌, ℕ, List, [], ◌∷◌, ◌++◌, length}
+use Rattle.lite_read.specs.Uses.{◌∙◌, refl, arith, OnPending, Poll, Ready, Pending, Reaches, Reaches-back, Runs, GivenRun, bytes_given, ReadMark, bytes}
 use Rattle.lite_read.specs.ReadFold.{ReadFold}
 use Rattle.lite_read.specs.PollSteps.{TakesBytes}
 

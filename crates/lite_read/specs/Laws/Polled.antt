@@ -1,6 +1,6 @@
 -- Laws of futures each poll of which is one call.
-use Rattle.lite_read.specs.Uses.{◌≤◌, List, [], ◌∷◌, ◌++◌, length, refl, arith, Poll, Ready, Pending, Waiting, strip, CalmLaws, NoPending, FutureLaws, Runs}
-use Rattle.lite_read.specs.Uses.{CalmRuns}
+use Rattle.std.specs.Prelude.{◌≤◌, List, [], ◌∷◌, ◌++◌, length}
+use Rattle.lite_read.specs.Uses.{refl, arith, Poll, Ready, Pending, Waiting, strip, CalmLaws, NoPending, FutureLaws, Runs, CalmRuns}
 use Rattle.lite_read.specs.Polled.{PolledByCalls}
 
 module _ {F A : Type 0} (call : F → Poll A → F → Type 0) where

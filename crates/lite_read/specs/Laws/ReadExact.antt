@@ -1,6 +1,7 @@
 -- Laws of `read_exact`.
-use Rattle.lite_read.specs.Uses.{◌≡◌, ◌∙◌, ◌<◌, ◌-◌, ℕ, List, [], ◌∷◌, length, Result, refl, ap, arith, ◌++◌, append-nil, append_assoc, length-append}
-use Rattle.lite_read.specs.Uses.{length-take, FoldsTo, Error, Poll, FutureLaws, Runs, ReadMark, MarkLaws, lent_still}
+use Rattle.std.specs.Prelude.{◌≡◌, ◌<◌, ◌-◌, ℕ, List, [], ◌∷◌, length, Result, ◌++◌}
+use Rattle.lite_read.specs.Uses.{◌∙◌, refl, ap, arith, append-nil, append_assoc, length-append, length-take, FoldsTo, Error, Poll, FutureLaws, Runs, ReadMark}
+use Rattle.lite_read.specs.Uses.{MarkLaws, lent_still}
 use Rattle.lite_read.specs.Laws.Gathers.{KeepLaws, gathers_before, gathers_laws}
 use Rattle.lite_read.specs.Filling.{ExactStays, Filling, filling_of}
 use Rattle.lite_read.specs.ReadExact.{ReadsExactly, fills}

@@ -1,5 +1,6 @@
 -- Laws of what is made of the marks of a reader.
-use Rattle.lite_read.specs.Uses.{ℕ, List, ◌∷◌, ◌++◌, FoldsTo, Poll, segment_before, segments_before, Segments, ReadMark, bytes}
+use Rattle.std.specs.Prelude.{ℕ, List, ◌∷◌, ◌++◌}
+use Rattle.lite_read.specs.Uses.{FoldsTo, Poll, segment_before, segments_before, Segments, ReadMark, bytes}
 use Rattle.lite_read.specs.ReadFold.{AnswerMarks, ReadFold}
 
 module _ {M R : Type 0} (fold : ReadFold M R) where

@@ -1,7 +1,7 @@
 -- Laws of `read_to_end`.
-use Rattle.lite_read.specs.Uses.{⊤, ◌∙◌, ◌≤◌, ◌+◌, ◌-◌, ℕ, List, [], ◌∷◌, ◌++◌, length, Result, refl, ap, sym, arith, length-append, append-nil, append_assoc}
-use Rattle.lite_read.specs.Uses.{length-take-le, FoldsTo, Error, Poll, Terminates, Terminates-map, FutureLaws, Ranks, Runs, ReadCounting, GivenRun, ReadMark}
-use Rattle.lite_read.specs.Uses.{MarkLaws, lent_still}
+use Rattle.std.specs.Prelude.{⊤, ◌≤◌, ◌+◌, ◌-◌, ℕ, List, [], ◌∷◌, ◌++◌, length, Result}
+use Rattle.lite_read.specs.Uses.{◌∙◌, refl, ap, sym, arith, length-append, append-nil, append_assoc, length-take-le, FoldsTo, Error, Poll, Terminates}
+use Rattle.lite_read.specs.Uses.{Terminates-map, FutureLaws, Ranks, Runs, ReadCounting, GivenRun, ReadMark, MarkLaws, lent_still}
 use Rattle.lite_read.specs.Laws.Gathers.{KeepLaws, gathers_before, gathers_laws}
 use Rattle.lite_read.specs.Appending.{CanAppend, ToEndStays, VectorGrows}
 use Rattle.lite_read.specs.Laws.ByRoom.{RoomLaws, room_laws}

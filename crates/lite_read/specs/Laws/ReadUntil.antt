@@ -1,6 +1,6 @@
 -- Laws of `read_until`.
-use Rattle.lite_read.specs.Uses.{⊤, ◌∙◌, ◌≤◌, List, [], ◌∷◌, length, Result, ℕ, refl, ap, arith, vec_capacity, Error, Poll, FutureLaws, Runs, ReadMark}
-use Rattle.lite_read.specs.Uses.{MarkLaws, lent_still}
+use Rattle.std.specs.Prelude.{⊤, ◌≤◌, List, [], ◌∷◌, length, Result, ℕ, vec_capacity}
+use Rattle.lite_read.specs.Uses.{◌∙◌, refl, ap, arith, Error, Poll, FutureLaws, Runs, ReadMark, MarkLaws, lent_still}
 use Rattle.lite_read.specs.Laws.Gathers.{KeepLaws, gathers_before, gathers_laws}
 use Rattle.lite_read.specs.UntilVector.{UntilStays}
 use Rattle.lite_read.specs.Laws.ByRoom.{RoomLaws, room_laws}

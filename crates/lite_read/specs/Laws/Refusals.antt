@@ -1,5 +1,6 @@
 -- Where memory may be refused in fewer cases the same marks are made into the same answers.
-use Rattle.lite_read.specs.Uses.{inl, inr, ℕ, List, [], ◌∷◌, Result, Err, FoldsTo, Error, Poll, Ready, Pending, Waiting, Runs, ReadMark}
+use Rattle.std.specs.Prelude.{ℕ, List, [], ◌∷◌, Result, Err}
+use Rattle.lite_read.specs.Uses.{inl, inr, FoldsTo, Error, Poll, Ready, Pending, Waiting, Runs, ReadMark}
 use Rattle.lite_read.specs.Pieces.{Cut, CutsPiece, pieces}
 use Rattle.lite_read.specs.PollSteps.{TakesBytes}
 use Rattle.lite_read.specs.ReadFold.{AnswerMarks, Gathers, LastMarks, PieceSegments, ReadFold, Segmented}

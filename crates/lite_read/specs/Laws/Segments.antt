@@ -1,6 +1,6 @@
 -- Laws of streams over what a reader tells.
-use Rattle.lite_read.specs.Uses.{◌∙◌, ℕ, List, [], ◌∷◌, ◌++◌, Option, refl, FoldsTo, Poll, Reaches, segments_join, StreamLaws, NoHint, Runs, Ranks}
-use Rattle.lite_read.specs.Uses.{ReadCounting, ReadMark, bytes, MarkLaws}
+use Rattle.std.specs.Prelude.{ℕ, List, [], ◌∷◌, ◌++◌, Option}
+use Rattle.lite_read.specs.Uses.{◌∙◌, refl, FoldsTo, Poll, Reaches, segments_join, StreamLaws, NoHint, Runs, Ranks, ReadCounting, ReadMark, bytes, MarkLaws}
 use Rattle.lite_read.specs.ReadFold.{ReadFold}
 use Rattle.lite_read.specs.Laws.ReadFold.{answers_before}
 use Rattle.lite_read.specs.Laws.PollSteps.{idle_join, steps_answer}

@@ -1,7 +1,7 @@
 -- `bytes` is steady over a steady reader.
-use Rattle.lite_read.specs.Uses.{◌≡◌, ◌∙◌, ◌⊎◌, ℕ, List, [], ◌∷◌, Option, Some, None, Result, Ok, Err, inl, inr, refl, sym, subst, error_kind, Error, ErrorKind}
-use Rattle.lite_read.specs.Uses.{Interrupted, Ready, Pending, OptionBy, Sameness, Answer, Comparable, ComparableBy, strip, comparable_nil, SteadyLawsBy}
-use Rattle.lite_read.specs.Uses.{runs_of, Runs, ReadMark, SteadyReadLaws, strip_marks}
+use Rattle.std.specs.Prelude.{◌≡◌, ◌⊎◌, ℕ, List, [], ◌∷◌, Option, Some, None, Result, Ok, Err}
+use Rattle.lite_read.specs.Uses.{◌∙◌, inl, inr, refl, sym, subst, error_kind, Error, ErrorKind, Interrupted, Ready, Pending, OptionBy, Sameness, Answer}
+use Rattle.lite_read.specs.Uses.{Comparable, ComparableBy, strip, comparable_nil, SteadyLawsBy, runs_of, Runs, ReadMark, SteadyReadLaws, strip_marks}
 use Rattle.lite_read.specs.Bytes.{TellsBytes, TellsEach}
 use Rattle.lite_read.specs.Laws.Bytes.{bytes_laws}
 use Rattle.lite_read.specs.Deterministic.{SameByKind}

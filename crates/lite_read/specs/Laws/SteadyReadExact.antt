@@ -1,6 +1,6 @@
 -- `read_exact` is steady over a steady reader, and calm over a calm one.
-use Rattle.lite_read.specs.Uses.{◌≡◌, ◌∙◌, List, [], ◌∷◌, length, Result, Ok, Err, refl, sym, arith, Error, CalmLaws, Sameness, FutureSteadyLawsBy, Runs}
-use Rattle.lite_read.specs.Uses.{ReadMark, CalmReadLaws, SteadyReadLaws}
+use Rattle.std.specs.Prelude.{◌≡◌, List, [], ◌∷◌, length, Result, Ok, Err}
+use Rattle.lite_read.specs.Uses.{◌∙◌, refl, sym, arith, Error, CalmLaws, Sameness, FutureSteadyLawsBy, Runs, ReadMark, CalmReadLaws, SteadyReadLaws}
 use Rattle.lite_read.specs.Laws.ReadExact.{exact_laws}
 use Rattle.lite_read.specs.Laws.Deterministic.{GivenBy, TakenAt, deterministic_by}
 use Rattle.lite_read.specs.Laws.Gathers.{gathers_alike, gathers_calm}

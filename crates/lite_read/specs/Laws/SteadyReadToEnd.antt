@@ -1,6 +1,6 @@
 -- `read_to_end` is steady over a steady reader, where memory was found, and calm over a calm one.
-use Rattle.lite_read.specs.Uses.{◌≡◌, ◌∙◌, ℕ, List, [], ◌∷◌, Result, Ok, Err, sym, ap, arith, Error, Sameness, FutureSteadyLawsBy, Runs, ReadMark}
-use Rattle.lite_read.specs.Uses.{SteadyReadLaws}
+use Rattle.std.specs.Prelude.{◌≡◌, ℕ, List, [], ◌∷◌, Result, Ok, Err}
+use Rattle.lite_read.specs.Uses.{◌∙◌, sym, ap, arith, Error, Sameness, FutureSteadyLawsBy, Runs, ReadMark, SteadyReadLaws}
 use Rattle.lite_read.specs.Laws.ReadToEnd.{append_laws}
 use Rattle.lite_read.specs.Laws.Deterministic.{GivenBy, TakenAt, deterministic_by}
 use Rattle.lite_read.specs.Laws.Gathers.{gathers_alike}

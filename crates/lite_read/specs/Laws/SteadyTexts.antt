@@ -1,5 +1,6 @@
 -- What reads for a text is steady over a steady reader, where memory was found, and calm over a calm one.
-use Rattle.lite_read.specs.Uses.{◌≡◌, ℕ, List, Result, refl, Error, Sameness, FutureSteadyLawsBy, Runs, ReadMark, SteadyReadLaws}
+use Rattle.std.specs.Prelude.{◌≡◌, ℕ, List, Result}
+use Rattle.lite_read.specs.Uses.{refl, Error, Sameness, FutureSteadyLawsBy, Runs, ReadMark, SteadyReadLaws}
 use Rattle.lite_read.specs.ReadFold.{ReadFold}
 use Rattle.lite_read.specs.Laws.Gathers.{gathers_alike}
 use Rattle.lite_read.specs.Deterministic.{IsDeterministic, SameByKind}

@@ -1,6 +1,6 @@
 -- Laws of futures that read for a text.
-use Rattle.lite_read.specs.Uses.{◌≡◌, ◌+◌, ◌-◌, ℕ, List, [], ◌∷◌, Result, refl, ap, arith, FoldsTo, ⊤, string_bytes, Error, Poll, FutureLaws, Runs, ReadMark}
-use Rattle.lite_read.specs.Uses.{MarkLaws, lent_still}
+use Rattle.std.specs.Prelude.{◌≡◌, ◌+◌, ◌-◌, ℕ, List, [], ◌∷◌, Result, ⊤, string_bytes}
+use Rattle.lite_read.specs.Uses.{refl, ap, arith, FoldsTo, Error, Poll, FutureLaws, Runs, ReadMark, MarkLaws, lent_still}
 use Rattle.lite_read.specs.ReadFold.{ReadFold}
 use Rattle.lite_read.specs.Laws.Gathers.{KeepLaws, gathers_before, gathers_laws}
 use Rattle.lite_read.specs.Holding.{TextOver, TextStays}

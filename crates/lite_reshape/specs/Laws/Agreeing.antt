@@ -1,7 +1,8 @@
 -- Laws of what leaves items out: its answers do not depend on when its source was pending.
-use Rattle.lite_reshape.specs.Uses.{◌≡◌, List, ◌∷◌, Option, Some, None, refl, arith, Bool, true, false, OptionBy, SameAnswer, SameItem, Sameness, strip}
-use Rattle.lite_reshape.specs.Uses.{Accepts, AgreeFrom, AgreeKeeping, Keeping, both_items, ends_same, item_answers, same_answer, MatchesFrom, accepts_matches}
-use Rattle.lite_reshape.specs.Uses.{agree_from_matches, keeping_matches, Question, AgreeingOver, AlikeInPlace, Placed, placed_agreeing, Entails}
+use Rattle.std.specs.Prelude.{◌≡◌, List, ◌∷◌, Option, Some, None, Bool, true, false}
+use Rattle.lite_reshape.specs.Uses.{refl, arith, OptionBy, SameAnswer, SameItem, Sameness, strip, Accepts, AgreeFrom, AgreeKeeping, Keeping, both_items}
+use Rattle.lite_reshape.specs.Uses.{ends_same, item_answers, same_answer, MatchesFrom, accepts_matches, agree_from_matches, keeping_matches, Question}
+use Rattle.lite_reshape.specs.Uses.{AgreeingOver, AlikeInPlace, Placed, placed_agreeing, Entails}
 use Rattle.lite_reshape.specs.Laws.Leaving.{leaves_steps}
 use Rattle.lite_reshape.specs.Leaving.{LeavesOut}
 use Rattle.lite_reshape.specs.Skip.{Skips}

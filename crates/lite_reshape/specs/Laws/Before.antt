@@ -1,5 +1,6 @@
 -- Lists of answers of which some stand before others.
-use Rattle.lite_reshape.specs.Uses.{◌≡◌, ℕ, List, [], ◌∷◌, ◌++◌, Some, sym, Ready, Answer, items, Below, Lowers}
+use Rattle.std.specs.Prelude.{◌≡◌, ℕ, List, [], ◌∷◌, ◌++◌, Some}
+use Rattle.lite_reshape.specs.Uses.{sym, Ready, Answer, items, Below, Lowers}
 
 module _ {A : Type 0} where
   -- what follows among items are items

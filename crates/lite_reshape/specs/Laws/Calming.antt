@@ -1,7 +1,9 @@
 -- Adapters that hold something, or have a second stream, over what is never pending.
-use Rattle.lite_reshape.specs.Uses.{AllByRecursion, IfSome, ◌≤◌, ◌+◌, arith, List, [], ◌∷◌, Option, None, inl, inr, refl, Answer, end, CalmLaws, NoPending}
-use Rattle.lite_reshape.specs.Uses.{waits, calm_both, no_pending_front, no_pending_join, no_pending_none, waits_join, OfItem, Hints, Question, Runs, Calming}
-use Rattle.lite_reshape.specs.Uses.{calm_two, cuts_calming, StreamLaws, Entails, AdapterParts, Adapts, Relates}
+use Rattle.std.specs.Prelude.{IfSome, ◌+◌, List, [], ◌∷◌, Option, None}
+use Rattle.std.proofs.Common.{◌≤◌}
+use Rattle.lite_reshape.specs.Uses.{AllByRecursion, arith, inl, inr, refl, Answer, end, CalmLaws, NoPending, waits, calm_both, no_pending_front}
+use Rattle.lite_reshape.specs.Uses.{no_pending_join, no_pending_none, waits_join, OfItem, Hints, Question, Runs, Calming, calm_two, cuts_calming, StreamLaws}
+use Rattle.lite_reshape.specs.Uses.{Entails, AdapterParts, Adapts, Relates}
 use Rattle.lite_reshape.specs.Chain.{Chains, Joins, is_done, second_after}
 use Rattle.lite_reshape.specs.Flatten.{Flattening}
 use Rattle.lite_reshape.specs.Inner.{EachInner}

@@ -1,8 +1,9 @@
 -- Laws of references that are replaced by clones.
-use Rattle.lite_reshape.specs.Uses.{AllByRecursion, ⊤, Result, Ok, ◌≡◌, ◌∙◌, List, [], ◌∷◌, ◌++◌, Option, Some, None, refl, ap, sym, append_assoc, Ready}
-use Rattle.lite_reshape.specs.Uses.{Pending, Bor, OptionBy, SameAnswer, Sameness, Answer, Gives, Waiting, item, items, NoPending, all_any, all_append}
-use Rattle.lite_reshape.specs.Uses.{all_split, no_pending_join, OkCounting, all_ok, ok_counting, Counting, Ranks, SteadinessBy, SteadyLawsBy, TakesNone}
-use Rattle.lite_reshape.specs.Uses.{StreamLaws, Hints, NoHint, Runs, through_alike, Calming, laws_following, through_runs}
+use Rattle.std.specs.Prelude.{⊤, Result, Ok, ◌≡◌, List, [], ◌∷◌, ◌++◌, Option, Some, None}
+use Rattle.lite_reshape.specs.Uses.{AllByRecursion, ◌∙◌, refl, ap, sym, append_assoc, Ready, Pending, Bor, OptionBy, SameAnswer, Sameness, Answer, Gives}
+use Rattle.lite_reshape.specs.Uses.{Waiting, item, items, NoPending, all_any, all_append, all_split, no_pending_join, OkCounting, all_ok, ok_counting, Counting}
+use Rattle.lite_reshape.specs.Uses.{Ranks, SteadinessBy, SteadyLawsBy, TakesNone, StreamLaws, Hints, NoHint, Runs, through_alike, Calming, laws_following}
+use Rattle.lite_reshape.specs.Uses.{through_runs}
 use Rattle.lite_reshape.specs.Cloned.{AlikeCloned, ClonedFrom, Clones, ClonesAll, ClonesUnrefused, EqualClones}
 use Rattle.lite_reshape.specs.Cloned.{IsCloneRefusal, NoCloneRefused, NotCloneRefused, Refers, Refuses, cloned_parts}
 use Rattle.lite_reshape.specs.Laws.Before.{not_empty}

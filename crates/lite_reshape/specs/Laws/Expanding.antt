@@ -1,9 +1,10 @@
 -- Laws of items that are replaced by the list of what is made of them.
-use Rattle.lite_reshape.specs.Uses.{◌≡◌, ◌∙◌, ℕ, ◌+◌, ◌≤◌, List, [], ◌∷◌, ◌++◌, Option, Some, None, inl, inr, refl, ap, sym, arith, append_assoc}
-use Rattle.lite_reshape.specs.Uses.{AllByRecursion, Ready, Pending, Answer, Gives, Waiting, before_end, end, item, items, all_split, Lowers-at_most}
-use Rattle.lite_reshape.specs.Uses.{Lowers-below, waiting_lowers, IsItem, items_each, Below, Lowers, Counting, Ranks, count_held, held_rank, StreamLaws, Hints}
-use Rattle.lite_reshape.specs.Uses.{Question, Runs, held_falls, held_first, held_less, held_level, held_sized, AlsoBefore, Entails, Following, AdapterParts}
-use Rattle.lite_reshape.specs.Uses.{Adapts, Through}
+use Rattle.std.specs.Prelude.{◌≡◌, ℕ, ◌+◌, List, [], ◌∷◌, ◌++◌, Option, Some, None}
+use Rattle.std.proofs.Common.{◌≤◌}
+use Rattle.lite_reshape.specs.Uses.{◌∙◌, inl, inr, refl, ap, sym, arith, append_assoc, AllByRecursion, Ready, Pending, Answer, Gives, Waiting, before_end, end}
+use Rattle.lite_reshape.specs.Uses.{item, items, all_split, Lowers-at_most, Lowers-below, waiting_lowers, IsItem, items_each, Below, Lowers, Counting, Ranks}
+use Rattle.lite_reshape.specs.Uses.{count_held, held_rank, StreamLaws, Hints, Question, Runs, held_falls, held_first, held_less, held_level, held_sized}
+use Rattle.lite_reshape.specs.Uses.{AlsoBefore, Entails, Following, AdapterParts, Adapts, Through}
 use Rattle.lite_reshape.specs.Expanding.{Expanding, Expands}
 
 -- what the lists of what is made of an item have to meet, that runs may follow one another

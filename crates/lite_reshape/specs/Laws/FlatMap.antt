@@ -1,9 +1,10 @@
 -- Laws of streams that a function makes.
-use Rattle.lite_reshape.specs.Uses.{Mut, AllByRecursion, ◌≡◌, List, ◌∷◌, Option, Some, None, refl, subst, Ready, OptionBy, SameItem, Sameness, Answer, CalmLaws}
-use Rattle.lite_reshape.specs.Uses.{calm_both, Terminates, ItemRun, Counting, Ranks, ranks_of, counting_ends, SteadyLawsBy, StreamLaws, runs_of, AgreeFrom}
-use Rattle.lite_reshape.specs.Uses.{Always, Calls, MakesAlways, all_split, OfItem, agree_from_matches, makes_on, Hints, NoHint, Runs, through_alike}
-use Rattle.lite_reshape.specs.Uses.{through_steady_over, through_calm, exchanges_steps, replaces_calming, replaces_agreeing, replaces_answering}
-use Rattle.lite_reshape.specs.Uses.{replaces_relating, laws_following, laws_hinted, through_counting, Maps, map_parts, Replaces, Map}
+use Rattle.std.specs.Prelude.{◌≡◌, List, ◌∷◌, Option, Some, None}
+use Rattle.lite_reshape.specs.Uses.{Mut, AllByRecursion, refl, subst, Ready, OptionBy, SameItem, Sameness, Answer, CalmLaws, calm_both, Terminates, ItemRun}
+use Rattle.lite_reshape.specs.Uses.{Counting, Ranks, ranks_of, counting_ends, SteadyLawsBy, StreamLaws, runs_of, AgreeFrom, Always, Calls, MakesAlways}
+use Rattle.lite_reshape.specs.Uses.{all_split, OfItem, agree_from_matches, makes_on, Hints, NoHint, Runs, through_alike, through_steady_over, through_calm}
+use Rattle.lite_reshape.specs.Uses.{exchanges_steps, replaces_calming, replaces_agreeing, replaces_answering, replaces_relating, laws_following, laws_hinted}
+use Rattle.lite_reshape.specs.Uses.{through_counting, Maps, map_parts, Replaces, Map}
 use Rattle.lite_reshape.specs.FlatMap.{EachMade, FlatMaps, flat_map_parts, flat_map_ranks}
 use Rattle.lite_reshape.specs.Inner.{EachInner}
 use Rattle.lite_reshape.specs.Laws.Calming.{flattening_calm}

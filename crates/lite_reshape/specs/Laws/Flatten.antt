@@ -1,10 +1,10 @@
 -- Laws of a stream of streams that is flattened.
-use Rattle.lite_reshape.specs.Uses.{IfSome, replicate, ◌≡◌, ◌∙◌, ℕ, List, [], ◌∷◌, ◌++◌, length, Option, Some, None, inl, inr, refl, ap, sym, arith}
-use Rattle.lite_reshape.specs.Uses.{length-append, append_assoc, length-replicate, AllByRecursion, Ready, Pending, Answer, Endless, end, item, items, NextStep}
-use Rattle.lite_reshape.specs.Uses.{Reaches, all_split, Reaches-back, Terminates, Terminates-map, ItemRun, AtMost-both, Below-after, Below-first, Below-then}
-use Rattle.lite_reshape.specs.Uses.{Lowers-at_most, Lowers-below, endless_join, IsItem, OfItem, each_items, each_of, items_each, Below, Lowers, Counting, Ranks}
-use Rattle.lite_reshape.specs.Uses.{RunLaws, StreamLaws, Hints, Runs, at_most_below, lowers_after, lowers_at_most, Entails, Following, AdapterParts, Adapts}
-use Rattle.lite_reshape.specs.Uses.{Through}
+use Rattle.std.specs.Prelude.{IfSome, replicate, ◌≡◌, ℕ, List, [], ◌∷◌, ◌++◌, length, Option, Some, None}
+use Rattle.lite_reshape.specs.Uses.{◌∙◌, inl, inr, refl, ap, sym, arith, length-append, append_assoc, length-replicate, AllByRecursion, Ready, Pending, Answer}
+use Rattle.lite_reshape.specs.Uses.{Endless, end, item, items, NextStep, Reaches, all_split, Reaches-back, Terminates, Terminates-map, ItemRun, AtMost-both}
+use Rattle.lite_reshape.specs.Uses.{Below-after, Below-first, Below-then, Lowers-at_most, Lowers-below, endless_join, IsItem, OfItem, each_items, each_of}
+use Rattle.lite_reshape.specs.Uses.{items_each, Below, Lowers, Counting, Ranks, RunLaws, StreamLaws, Hints, Runs, at_most_below, lowers_after, lowers_at_most}
+use Rattle.lite_reshape.specs.Uses.{Entails, Following, AdapterParts, Adapts, Through}
 use Rattle.lite_reshape.specs.Flatten.{Flat, Flattening}
 use Rattle.lite_reshape.specs.Inner.{EachInner, FlatStep, FlatSteps, GivesOne, TakesNext, flattening_ranks, inner_rank}
 use Rattle.lite_reshape.specs.Laws.Before.{not_empty, own_lowers}

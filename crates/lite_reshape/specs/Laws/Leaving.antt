@@ -1,7 +1,9 @@
 -- Laws of answers of which some are left out.
-use Rattle.lite_reshape.specs.Uses.{ℕ, ◌≤◌, List, [], ◌∷◌, Option, Some, None, refl, arith, AllByRecursion, Ready, Pending, Answer, before_end, end, item}
-use Rattle.lite_reshape.specs.Uses.{items, waits, Lowers-below, IsItem, first_item, items_each, answers_by, answers_given, answers_taken, segments_join, Lowers}
-use Rattle.lite_reshape.specs.Uses.{Question, Segment, Calming, AlsoBefore, Entails, Relating}
+use Rattle.std.specs.Prelude.{ℕ, List, [], ◌∷◌, Option, Some, None}
+use Rattle.std.proofs.Common.{◌≤◌}
+use Rattle.lite_reshape.specs.Uses.{refl, arith, AllByRecursion, Ready, Pending, Answer, before_end, end, item, items, waits, Lowers-below, IsItem, first_item}
+use Rattle.lite_reshape.specs.Uses.{items_each, answers_by, answers_given, answers_taken, segments_join, Lowers, Question, Segment, Calming, AlsoBefore}
+use Rattle.lite_reshape.specs.Uses.{Entails, Relating}
 use Rattle.lite_reshape.specs.Leaving.{LeavesOut, Passes}
 
 -- what holds of each answer that goes out, and of each item that is rejected, holds of each answer that came in

@@ -1,6 +1,6 @@
 -- What is made of items that are alike.
-use Rattle.lite_reshape.specs.Uses.{AllByRecursion, ⊤, List, ◌∷◌, Option, Some, None, refl, Ready, Pending, OptionBy, Answer, ComparableBy, strip, MatchesFrom}
-use Rattle.lite_reshape.specs.Uses.{OfItem}
+use Rattle.std.specs.Prelude.{⊤, List, ◌∷◌, Option, Some, None}
+use Rattle.lite_reshape.specs.Uses.{AllByRecursion, refl, Ready, Pending, OptionBy, Answer, ComparableBy, strip, MatchesFrom, OfItem}
 use Rattle.lite_reshape.specs.Cloned.{Refers}
 
 -- items each of which is the same as those that it is like

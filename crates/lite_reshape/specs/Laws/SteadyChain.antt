@@ -1,7 +1,8 @@
 -- Two streams that are chained, by what each of them answers.
-use Rattle.lite_reshape.specs.Uses.{◌≡◌, List, [], ◌∷◌, ◌++◌, Option, Some, None, inl, inr, refl, append-nil, Ready, Pending, ⊤, Either, OptionBy, SameAnswer}
-use Rattle.lite_reshape.specs.Uses.{Sameness, Answer, ComparableBy, Endless, strip, SteadyLawsBy, both_items, comparable_nil, either_first, either_second}
-use Rattle.lite_reshape.specs.Uses.{ends_same, Runs, CutsStripped, cut_same, cuts_stripped}
+use Rattle.std.specs.Prelude.{◌≡◌, List, [], ◌∷◌, ◌++◌, Option, Some, None, ⊤}
+use Rattle.lite_reshape.specs.Uses.{inl, inr, refl, append-nil, Ready, Pending, Either, OptionBy, SameAnswer, Sameness, Answer, ComparableBy, Endless, strip}
+use Rattle.lite_reshape.specs.Uses.{SteadyLawsBy, both_items, comparable_nil, either_first, either_second, ends_same, Runs, CutsStripped, cut_same}
+use Rattle.lite_reshape.specs.Uses.{cuts_stripped}
 use Rattle.lite_reshape.specs.Chain.{Chains, Joins, is_done, second_after}
 use Rattle.lite_reshape.specs.declared.chain.Part.{Part}
 use Rattle.lite_reshape.specs.declared.chain.Part.TheVariants.{First, Second, Done}

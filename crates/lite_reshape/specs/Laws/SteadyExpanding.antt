@@ -1,7 +1,8 @@
 -- Items that are replaced by the list of what is made of them, where that gives one item: the same, where it is alike.
-use Rattle.lite_reshape.specs.Uses.{AllByRecursion, ◌≡◌, ◌∙◌, ◌⊎◌, List, [], ◌∷◌, ◌++◌, Option, Some, None, inl, inr, refl, ap, OptionBy, SameAnswer, SameItem}
-use Rattle.lite_reshape.specs.Uses.{Sameness, Answer, ComparableBy, strip, strip_join, waiting_strip, comparable_as, gives_strip, same_answer, all_any}
-use Rattle.lite_reshape.specs.Uses.{all_split, PlacedFrom, placed_from_same, answer_items, MatchesFrom, Question, AgreeingOver, Entails}
+use Rattle.std.specs.Prelude.{◌≡◌, ◌⊎◌, List, [], ◌∷◌, ◌++◌, Option, Some, None}
+use Rattle.lite_reshape.specs.Uses.{AllByRecursion, ◌∙◌, inl, inr, refl, ap, OptionBy, SameAnswer, SameItem, Sameness, Answer, ComparableBy, strip, strip_join}
+use Rattle.lite_reshape.specs.Uses.{waiting_strip, comparable_as, gives_strip, same_answer, all_any, all_split, PlacedFrom, placed_from_same, answer_items}
+use Rattle.lite_reshape.specs.Uses.{MatchesFrom, Question, AgreeingOver, Entails}
 use Rattle.lite_reshape.specs.Laws.Expanding.{GivingOne, expanding_by}
 use Rattle.lite_reshape.specs.Expanding.{Expanding}
 

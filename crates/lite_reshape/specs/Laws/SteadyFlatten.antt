@@ -1,8 +1,8 @@
 -- Streams one after the other: what goes out, Pendings aside, is the same where they are alike.
-use Rattle.lite_reshape.specs.Uses.{⊤, ◌≡◌, ◌⊎◌, List, [], ◌∷◌, ◌++◌, Option, Some, None, inl, inr, refl, Ready, AlikeBy, OptionBy, SameAnswer, SameItem}
-use Rattle.lite_reshape.specs.Uses.{Sameness, Answer, ComparableBy, Endless, end, strip, SteadinessBy, SteadyLawsBy, TakesNone, PlacedFrom, placed_from_same}
-use Rattle.lite_reshape.specs.Uses.{strip_join, both_items, comparable_as, comparable_nil, answer_items, RunLaws, Runs, Entails, through_runs, AdapterParts}
-use Rattle.lite_reshape.specs.Uses.{Adapts}
+use Rattle.std.specs.Prelude.{⊤, ◌≡◌, ◌⊎◌, List, [], ◌∷◌, ◌++◌, Option, Some, None}
+use Rattle.lite_reshape.specs.Uses.{inl, inr, refl, Ready, AlikeBy, OptionBy, SameAnswer, SameItem, Sameness, Answer, ComparableBy, Endless, end, strip}
+use Rattle.lite_reshape.specs.Uses.{SteadinessBy, SteadyLawsBy, TakesNone, PlacedFrom, placed_from_same, strip_join, both_items, comparable_as, comparable_nil}
+use Rattle.lite_reshape.specs.Uses.{answer_items, RunLaws, Runs, Entails, through_runs, AdapterParts, Adapts}
 use Rattle.lite_reshape.specs.Cloned.{Refers}
 use Rattle.lite_reshape.specs.Flatten.{Flattening}
 use Rattle.lite_reshape.specs.Inner.{EachInner}

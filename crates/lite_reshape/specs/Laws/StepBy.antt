@@ -1,7 +1,8 @@
 -- Laws of `step_by`. What is counted down says which number comes next.
-use Rattle.lite_reshape.specs.Uses.{◌≡◌, ◌∙◌, ℕ, ◌+◌, ◌%◌, ◌<◌, ◌≤◌, ◌-◌, List, [], ◌∷◌, ◌++◌, Option, Some, None, refl, ap, subst, sym, append-nil, arith}
-use Rattle.lite_reshape.specs.Uses.{add-mod-mod, mod_self, mod-add-mod, mod-eq_of_lt, OptionBy, Sameness, Answer, before_end, Lowers, comparable_nil}
-use Rattle.lite_reshape.specs.Uses.{MatchesFrom, Runs, AgreeingOver, Calming, Relating, Through}
+use Rattle.std.specs.Prelude.{◌≡◌, ℕ, ◌+◌, ◌%◌, ◌<◌, ◌-◌, List, [], ◌∷◌, ◌++◌, Option, Some, None}
+use Rattle.std.proofs.Common.{◌≤◌}
+use Rattle.lite_reshape.specs.Uses.{◌∙◌, refl, ap, subst, sym, append-nil, arith, add-mod-mod, mod_self, mod-add-mod, mod-eq_of_lt, OptionBy, Sameness, Answer}
+use Rattle.lite_reshape.specs.Uses.{before_end, Lowers, comparable_nil, MatchesFrom, Runs, AgreeingOver, Calming, Relating, Through}
 use Rattle.lite_reshape.specs.Laws.Agreeing.{leaves_showing}
 use Rattle.lite_reshape.specs.Laws.Leaving.{leaves_as, leaves_calming, leaves_relating}
 use Rattle.lite_reshape.specs.Leaving.{LeavesOut}

@@ -1,7 +1,8 @@
 -- Laws of items that are replaced by the lists of futures.
-use Rattle.lite_reshape.specs.Uses.{IfSome, cond, nat_lt, Mut, ◌≡◌, ℕ, ◌+◌, ◌-◌, ◌^◌, ◌≤◌, List, [], ◌∷◌, ◌++◌, Option, Some, None, Bool, true, false, map}
-use Rattle.lite_reshape.specs.Uses.{refl, arith, Poll, Ready, Pending, count_held, OptionBy, SameItem, Sameness, Answer, Gives, item, CalmLaws, NoPending}
-use Rattle.lite_reshape.specs.Uses.{handed, FutureLaws, alike_agrees, no_pending_join, handed_no_pending, handed_waiting, shown_gives, spends_follow}
+use Rattle.std.specs.Prelude.{IfSome, cond, nat_lt, ◌≡◌, ℕ, ◌+◌, ◌-◌, ◌^◌, List, [], ◌∷◌, ◌++◌, Option, Some, None, Bool, true, false}
+use Rattle.std.proofs.Common.{◌≤◌}
+use Rattle.lite_reshape.specs.Uses.{Mut, map, refl, arith, Poll, Ready, Pending, count_held, OptionBy, SameItem, Sameness, Answer, Gives, item, CalmLaws}
+use Rattle.lite_reshape.specs.Uses.{NoPending, handed, FutureLaws, alike_agrees, no_pending_join, handed_no_pending, handed_waiting, shown_gives, spends_follow}
 use Rattle.lite_reshape.specs.Uses.{spends_found, spends_rest, spends_stay, same_hint, FutureSteadyLawsBy, SteadyLawsBy, StreamLaws, makes_on, AgreeFrom, Calls}
 use Rattle.lite_reshape.specs.Uses.{agree_from_matches, Hints, Question, Runs, through_steady_by, bounded_by, laws_bounded}
 use Rattle.lite_reshape.specs.FlatMap.{EachMade}

@@ -1,5 +1,6 @@
 -- No list of its length is below one of zeros.
-use Rattle.lite_reshape.specs.Uses.{replicate, ◌≡◌, ◌∙◌, ℕ, zero, suc, List, [], ◌∷◌, length, inl, inr, refl, ap, arith, length-replicate, AtMost}
+use Rattle.std.specs.Prelude.{replicate, ◌≡◌, ℕ, List, [], ◌∷◌, length}
+use Rattle.lite_reshape.specs.Uses.{◌∙◌, zero, suc, inl, inr, refl, ap, arith, length-replicate, AtMost}
 
 pub zeros_least : (n : ℕ) (ys : List ℕ) → length ys ≡ n → AtMost (replicate n 0) ys
 zeros_least zero [] e = inl refl

@@ -1,6 +1,7 @@
 -- Laws of sources that never change.
-use Rattle.lite_source.specs.Uses.{◌≡◌, ◌≤◌, ◌∙◌, ℕ, List, [], ◌∷◌, ◌++◌, Option, Some, refl, inl, arith, IfSome, AllByRecursion, Ready, Pending, Answer}
-use Rattle.lite_source.specs.Uses.{ComparableBy, before_end, item, strip, NoPending, all_append, same_hint, AtMost, Lowers, Counting, StreamLaws}
+use Rattle.std.specs.Prelude.{◌≡◌, ◌≤◌, List, [], ◌∷◌, ◌++◌, Option, Some, IfSome}
+use Rattle.lite_source.specs.Uses.{◌∙◌, ℕ, refl, inl, arith, AllByRecursion, Ready, Pending, Answer, ComparableBy, before_end, item, strip, NoPending}
+use Rattle.lite_source.specs.Uses.{all_append, same_hint, AtMost, Lowers, Counting, StreamLaws}
 use Rattle.lite_source.specs.Always.{Unchanging, no_ranks}
 
 module _ {A : Type 0} (may : Answer A → Type 0) where

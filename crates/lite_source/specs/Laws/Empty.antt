@@ -1,5 +1,6 @@
 -- Laws of `empty`.
-use Rattle.lite_source.specs.Uses.{⊤, ◌≡◌, Some, None, refl, CalmLaws, calm_both, Counting, Steadiness, StreamLaws}
+use Rattle.std.specs.Prelude.{⊤, ◌≡◌, Some, None}
+use Rattle.lite_source.specs.Uses.{refl, CalmLaws, calm_both, Counting, Steadiness, StreamLaws}
 use Rattle.lite_source.specs.Always.{no_ranks}
 use Rattle.lite_source.specs.Empty.{GivesEnds}
 use Rattle.lite_source.specs.Laws.Always.{answers_no_pending, answers_same, itemless_counting, itemless_laws}

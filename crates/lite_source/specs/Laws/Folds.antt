@@ -1,6 +1,7 @@
 -- Laws of sources that make one call a poll.
-use Rattle.lite_source.specs.Uses.{⊤, ◌≡◌, ℕ, List, [], ◌∷◌, Option, None, refl, sym, FoldsTo, Ready, Pending, Alike, Answer, Comparable, strip, CalmLaws}
-use Rattle.lite_source.specs.Uses.{NoPending, calm_both, folds_follow, same_hint, SteadyLaws, steady_always, StreamLaws}
+use Rattle.std.specs.Prelude.{⊤, ◌≡◌, List, [], ◌∷◌, Option, None}
+use Rattle.lite_source.specs.Uses.{ℕ, refl, sym, FoldsTo, Ready, Pending, Alike, Answer, Comparable, strip, CalmLaws, NoPending, calm_both, folds_follow}
+use Rattle.lite_source.specs.Uses.{same_hint, SteadyLaws, steady_always, StreamLaws}
 
 -- `part` of the source is what changes, by `next` at each poll, and all that it holds
 module _ {S P A : Type 0} (part : S → P) (next : P → Answer A → P → Type 0)

@@ -1,7 +1,7 @@
 -- Laws of `iter`.
-use Rattle.lite_source.specs.Uses.{IfSome, ◌≤◌, sym, ℕ, List, [], ◌∷◌, Option, Some, None, refl, ap, arith, inl, Count, IsFinite, MakesProgress, UpTo, size}
-use Rattle.lite_source.specs.Uses.{Ready, Pending, Answer, before_end, items, Below-one, Lowers-at_most, at_most_one, folds_follow, Below, Lowers, Counting}
-use Rattle.lite_source.specs.Uses.{StreamLaws}
+use Rattle.std.specs.Prelude.{IfSome, ◌≤◌, List, [], ◌∷◌, Option, Some, None}
+use Rattle.lite_source.specs.Uses.{sym, ℕ, refl, ap, arith, inl, Count, IsFinite, MakesProgress, UpTo, size, Ready, Pending, Answer, before_end, items}
+use Rattle.lite_source.specs.Uses.{Below-one, Lowers-at_most, at_most_one, folds_follow, Below, Lowers, Counting, StreamLaws}
 use Rattle.lite_source.specs.Iter.{AlwaysNext, IterHints, Iterates, NeverRaised, Nexts, iter_ranks}
 use Rattle.lite_source.specs.declared.iter.Iter.{Iter}
 

@@ -1,8 +1,9 @@
 -- Laws of `iter` where nothing is said of its answers: iterators that go on in one way from values that agree give
 -- streams that are alike.
-use Rattle.lite_source.specs.Uses.{◌≡◌, ◌<◌, ℕ, List, ◌∷◌, Option, Some, None, length, ◌∙◌, refl, ap, sym, arith, MatchOption, array_into_iter_items}
-use Rattle.lite_source.specs.Uses.{array_steps, Count, copied_source, copied_steps, option_copied, range_steps, iter_rest, iter_steps, into_iter_items}
-use Rattle.lite_source.specs.Uses.{into_iter_len, into_iter_steps, Copied, Range, IntoIter, Alike}
+use Rattle.std.specs.Prelude.{◌≡◌, List, ◌∷◌, Option, Some, None, length, MatchOption}
+use Rattle.std.proofs.Common.{◌<◌}
+use Rattle.lite_source.specs.Uses.{ℕ, ◌∙◌, refl, ap, sym, arith, array_into_iter_items, array_steps, Count, copied_source, copied_steps, option_copied}
+use Rattle.lite_source.specs.Uses.{range_steps, iter_rest, iter_steps, into_iter_items, into_iter_len, into_iter_steps, Copied, Range, IntoIter, Alike}
 use Rattle.std.specs.declared.array.IntoIter.{IntoIter as ArrayIter}
 use Rattle.std.specs.declared.slice.Iter.{Iter as SliceIter}
 use Rattle.lite_source.specs.Iter.{Iterates}

@@ -1,6 +1,6 @@
 -- Laws of `once`.
-use Rattle.lite_source.specs.Uses.{⊤, ◌≡◌, length, Option, Some, None, refl, CalmLaws, NoPending, calm_both, same_hint, Counting, number_counting, Steadiness}
-use Rattle.lite_source.specs.Uses.{StreamLaws}
+use Rattle.std.specs.Prelude.{⊤, ◌≡◌, length, Option, Some, None}
+use Rattle.lite_source.specs.Uses.{refl, CalmLaws, NoPending, calm_both, same_hint, Counting, number_counting, Steadiness, StreamLaws}
 use Rattle.lite_source.specs.Once.{GivesOnce, once_left, once_ranks}
 use Rattle.lite_source.specs.Laws.Script.{gives_bounded, gives_calm, gives_follow, gives_lowers, gives_steady}
 

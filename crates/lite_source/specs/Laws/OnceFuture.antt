@@ -1,9 +1,10 @@
 -- Laws of `once_future`.
-use Rattle.lite_source.specs.Uses.{IfSome, ◌≡◌, ◌∙◌, List, [], ◌∷◌, map, refl, Option, Some, None, ap, arith, inl, AllByRecursion, option_len, Poll, OptionBy}
-use Rattle.lite_source.specs.Uses.{SameAnswer, SameItem, Sameness, Answer, ComparableBy, end, strip, CalmLaws, NoPending, Lowers-below, waiting_lowers, Spends}
-use Rattle.lite_source.specs.Uses.{FutureLaws, alike_agrees, comparable_nil, ends_same, same_answer, all_append, calm_both, no_pending_join, handed_gives}
-use Rattle.lite_source.specs.Uses.{handed_no_pending, handed_waiting, handed_waits, spends_found, spends_follow, spends_rest, spends_stay, same_hint, Lowers}
-use Rattle.lite_source.specs.Uses.{Counting, number_counting, FutureSteadyLawsBy, SteadinessBy, SteadyLawsBy, StreamLaws, runs_of, handed, NoHint, Runs}
+use Rattle.std.specs.Prelude.{IfSome, ◌≡◌, List, [], ◌∷◌, map, Option, Some, None}
+use Rattle.lite_source.specs.Uses.{◌∙◌, refl, ap, arith, inl, AllByRecursion, option_len, Poll, OptionBy, SameAnswer, SameItem, Sameness, Answer, ComparableBy}
+use Rattle.lite_source.specs.Uses.{end, strip, CalmLaws, NoPending, Lowers-below, waiting_lowers, Spends, FutureLaws, alike_agrees, comparable_nil, ends_same}
+use Rattle.lite_source.specs.Uses.{same_answer, all_append, calm_both, no_pending_join, handed_gives, handed_no_pending, handed_waiting, handed_waits}
+use Rattle.lite_source.specs.Uses.{spends_found, spends_follow, spends_rest, spends_stay, same_hint, Lowers, Counting, number_counting, FutureSteadyLawsBy}
+use Rattle.lite_source.specs.Uses.{SteadinessBy, SteadyLawsBy, StreamLaws, runs_of, handed, NoHint, Runs}
 use Rattle.lite_source.specs.OnceFuture.{GivesFuture, once_future_ranks}
 use Rattle.lite_source.specs.Laws.Always.{answers_no_pending, answers_same, no_items_lower}
 

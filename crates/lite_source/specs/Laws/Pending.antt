@@ -1,5 +1,6 @@
 -- Laws of `pending`.
-use Rattle.lite_source.specs.Uses.{⊤, ◌≡◌, Some, Counting, Steadiness, StreamLaws}
+use Rattle.std.specs.Prelude.{⊤, ◌≡◌, Some}
+use Rattle.lite_source.specs.Uses.{Counting, Steadiness, StreamLaws}
 use Rattle.lite_source.specs.Always.{no_ranks}
 use Rattle.lite_source.specs.Pending.{GivesPendings}
 use Rattle.lite_source.specs.Laws.Always.{itemless_counting, itemless_laws, pendings_strip}

@@ -1,5 +1,6 @@
 -- Laws of `poll_fn`.
-use Rattle.lite_source.specs.Uses.{List, Option, FoldsTo, Answer, CalmLaws, calm_both, CallAnswers, NeverPends, Poller, never_pends_on}
+use Rattle.std.specs.Prelude.{List, Option}
+use Rattle.lite_source.specs.Uses.{FoldsTo, Answer, CalmLaws, calm_both, CallAnswers, NeverPends, Poller, never_pends_on}
 use Rattle.lite_source.specs.declared.poll_fn.PollFn.{PollFn}
 
 -- where its function is never pending

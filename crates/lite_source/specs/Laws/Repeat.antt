@@ -1,6 +1,7 @@
 -- Laws of `repeat`.
-use Rattle.lite_source.specs.Uses.{⊤, Result, Ok, Err, ◌≡◌, ℕ, List, [], ◌∷◌, Some, None, ap, AllByRecursion, Ready, Pending, Answer, Comparable, strip}
-use Rattle.lite_source.specs.Uses.{CalmLaws, NoPending, calm_both, SteadyLaws, StreamLaws, runs_of}
+use Rattle.std.specs.Prelude.{⊤, Result, Ok, Err, ◌≡◌, List, [], ◌∷◌, Some, None}
+use Rattle.lite_source.specs.Uses.{ℕ, ap, AllByRecursion, Ready, Pending, Answer, Comparable, strip, CalmLaws, NoPending, calm_both, SteadyLaws, StreamLaws}
+use Rattle.lite_source.specs.Uses.{runs_of}
 use Rattle.lite_source.specs.Repeat.{IsCloned, Repeats, SameClones}
 use Rattle.lite_source.specs.Laws.Always.{always_laws}
 

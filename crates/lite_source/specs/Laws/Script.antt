@@ -1,7 +1,7 @@
 -- Laws of `script`, and of other sources whose answers to come are a list.
-use Rattle.lite_source.specs.Uses.{⊤, ◌≡◌, ◌∙◌, ◌≤◌, List, [], ◌∷◌, ◌++◌, length, Option, Some, None, refl, sym, inl, arith, Ready, Pending, Answer, Comparable}
-use Rattle.lite_source.specs.Uses.{before_end, strip, CalmLaws, NoPending, Below-one, Lowers-at_most, Lowers-below, Lowers, calm_both, same_hint, Steadiness}
-use Rattle.lite_source.specs.Uses.{StreamLaws, NoHint}
+use Rattle.std.specs.Prelude.{⊤, ◌≡◌, ◌≤◌, List, [], ◌∷◌, ◌++◌, length, Option, Some, None}
+use Rattle.lite_source.specs.Uses.{◌∙◌, refl, sym, inl, arith, Ready, Pending, Answer, Comparable, before_end, strip, CalmLaws, NoPending, Below-one}
+use Rattle.lite_source.specs.Uses.{Lowers-at_most, Lowers-below, Lowers, calm_both, same_hint, Steadiness, StreamLaws, NoHint}
 use Rattle.lite_source.specs.Script.{GivesScript}
 
 module _ {A : Type 0} where

@@ -1,5 +1,6 @@
 -- Laws of `try_unfold`.
-use Rattle.lite_source.specs.Uses.{Option, Result, Mut, Poll, StreamLaws, NoHint, Runs}
+use Rattle.std.specs.Prelude.{Option, Result}
+use Rattle.lite_source.specs.Uses.{Mut, Poll, StreamLaws, NoHint, Runs}
 use Rattle.lite_source.specs.TryUnfold.{TryUnfoldsBy, try_item_of, try_seed_of}
 use Rattle.lite_source.specs.Laws.Unfolding.{unfolds_laws}
 

@@ -1,5 +1,6 @@
 -- Laws of `unfold`.
-use Rattle.lite_source.specs.Uses.{Option, Mut, Poll, StreamLaws, NoHint, Runs}
+use Rattle.std.specs.Prelude.{Option}
+use Rattle.lite_source.specs.Uses.{Mut, Poll, StreamLaws, NoHint, Runs}
 use Rattle.lite_source.specs.Unfold.{UnfoldsBy, item_of, seed_of}
 use Rattle.lite_source.specs.Laws.Unfolding.{unfolds_laws}
 

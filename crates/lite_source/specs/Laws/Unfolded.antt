@@ -1,10 +1,10 @@
 -- What `unfold` and `try_unfold` answer, Pendings aside: the same from futures that are alike.
-use Rattle.lite_source.specs.Uses.{⊤, inl, inr, ◌≡◌, ◌∙◌, ◌⊎◌, List, [], ◌∷◌, ◌++◌, map, flat_map, Option, Some, None, refl, ap, sym, append-nil, Mut}
-use Rattle.lite_source.specs.Uses.{AllByRecursion, FoldsTo, Poll, OptionBy, SameAnswer, SameItem, Sameness, Answer, ComparableBy, Waiting, end, strip, CalmLaws}
-use Rattle.lite_source.specs.Uses.{NoPending, AgreeFrom, Calls, MakesAlways, Finishes, handed, FutureLaws, alike_agrees, equal_options, strip_join}
-use Rattle.lite_source.specs.Uses.{agree_from_matches, calm_both, no_pending_join, finishes_found, finishes_later, handed_gives, handed_no_pending}
-use Rattle.lite_source.specs.Uses.{handed_waits, FutureSteadyLawsBy, SteadinessBy, SteadyLawsBy, TakesNone, StreamLaws, runs_of, Hints, Question, Runs}
-use Rattle.lite_source.specs.Uses.{makes_on}
+use Rattle.std.specs.Prelude.{⊤, ◌≡◌, ◌⊎◌, List, [], ◌∷◌, ◌++◌, map, flat_map, Option, Some, None}
+use Rattle.lite_source.specs.Uses.{inl, inr, ◌∙◌, refl, ap, sym, append-nil, Mut, AllByRecursion, FoldsTo, Poll, OptionBy, SameAnswer, SameItem, Sameness}
+use Rattle.lite_source.specs.Uses.{Answer, ComparableBy, Waiting, end, strip, CalmLaws, NoPending, AgreeFrom, Calls, MakesAlways, Finishes, handed, FutureLaws}
+use Rattle.lite_source.specs.Uses.{alike_agrees, equal_options, strip_join, agree_from_matches, calm_both, no_pending_join, finishes_found, finishes_later}
+use Rattle.lite_source.specs.Uses.{handed_gives, handed_no_pending, handed_waits, FutureSteadyLawsBy, SteadinessBy, SteadyLawsBy, TakesNone, StreamLaws}
+use Rattle.lite_source.specs.Uses.{runs_of, Hints, Question, Runs, makes_on}
 use Rattle.lite_source.specs.Laws.Always.{answers_no_pending}
 use Rattle.lite_source.specs.Unfolding.{BothHave, Holding, HoldingsBy, IfHeldFuture, IsCurrent, Leads, PartOf}
 use Rattle.lite_source.specs.Unfolding.{UnfoldAlike, UnfoldPart, Unfolds, comes}

@@ -1,6 +1,7 @@
 -- Laws of what `unfold` and `try_unfold` share.
-use Rattle.lite_source.specs.Uses.{inl, inr, ◌≡◌, List, [], ◌∷◌, ◌++◌, Option, Some, None, refl, sym, flat_map-append, Mut, FoldsTo, Poll, Ready, Pending}
-use Rattle.lite_source.specs.Uses.{Answer, end, folds_follow, same_hint, StreamLaws, NoHint, Runs}
+use Rattle.std.specs.Prelude.{◌≡◌, List, [], ◌∷◌, ◌++◌, Option, Some, None}
+use Rattle.lite_source.specs.Uses.{inl, inr, refl, sym, flat_map-append, Mut, FoldsTo, Poll, Ready, Pending, Answer, end, folds_follow, same_hint, StreamLaws}
+use Rattle.lite_source.specs.Uses.{NoHint, Runs}
 use Rattle.std.specs.List.{flat_map}
 use Rattle.lite_source.specs.Unfolding.{Holding, UnfoldPart, UnfoldStep, Unfolds, comes}
 

@@ -1,5 +1,6 @@
 -- Laws of adapters of one source whose answers do not depend on when it was pending.
-use Rattle.lite_stream.specs.Uses.{List, Option, AlikeBy, SameAnswer, Sameness, Answer, ComparableBy, strip, SteadyLawsBy, Runs}
+use Rattle.std.specs.Prelude.{List, Option}
+use Rattle.lite_stream.specs.Uses.{AlikeBy, SameAnswer, Sameness, Answer, ComparableBy, strip, SteadyLawsBy, Runs}
 use Rattle.lite_stream.specs.Laws.Through.{Entails, Following, through_runs}
 use Rattle.lite_stream.specs.Through.{AdapterParts, Adapts}
 use Rattle.lite_stream.specs.Relates.{Relates}

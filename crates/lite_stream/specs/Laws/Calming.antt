@@ -1,5 +1,7 @@
 -- Adapters of one source that make up no Pending.
-use Rattle.lite_stream.specs.Uses.{◌≤◌, ◌+◌, List, arith, Answer, CalmLaws, waits, calm_both, none_no_pending, no_pending_none, Runs}
+use Rattle.std.specs.Prelude.{◌+◌, List}
+use Rattle.std.proofs.Common.{◌≤◌}
+use Rattle.lite_stream.specs.Uses.{arith, Answer, CalmLaws, waits, calm_both, none_no_pending, no_pending_none, Runs}
 use Rattle.lite_stream.specs.Laws.Through.{Entails}
 use Rattle.lite_stream.specs.Through.{AdapterParts, Adapts}
 use Rattle.lite_stream.specs.Relates.{Relates}

@@ -1,5 +1,6 @@
 -- Laws of what holds of each item that a source may still give.
-use Rattle.lite_stream.specs.Uses.{◌≡◌, List, [], ◌∷◌, ◌++◌, refl, Pending, Answer, end, item, Hints, Question, Runs, StreamLaws}
+use Rattle.std.specs.Prelude.{◌≡◌, List, [], ◌∷◌, ◌++◌}
+use Rattle.lite_stream.specs.Uses.{refl, Pending, Answer, end, item, Hints, Question, Runs, StreamLaws}
 use Rattle.lite_stream.specs.EachItem.{AtEachItem}
 
 -- of the item that was answered

@@ -1,6 +1,6 @@
 -- Laws of `fuse`: it cuts the answers off once an end was met.
-use Rattle.lite_stream.specs.Uses.{◌≡◌, ◌∙◌, List, [], ◌∷◌, ◌++◌, Some, None, Bool, true, false, refl, inl, inr, ap, Ready, Pending, Sameness, Answer, end}
-use Rattle.lite_stream.specs.Uses.{until_end}
+use Rattle.std.specs.Prelude.{◌≡◌, List, [], ◌∷◌, ◌++◌, Some, None, Bool, true, false}
+use Rattle.lite_stream.specs.Uses.{◌∙◌, refl, inl, inr, ap, Ready, Pending, Sameness, Answer, end, until_end}
 use Rattle.lite_stream.specs.Cutting.{Cuts}
 use Rattle.lite_stream.specs.Fuse.{AllEnds, FusesOn}
 use Rattle.lite_stream.specs.Laws.Agreeing.{AgreeingOver}

@@ -1,6 +1,7 @@
 -- A rank, and then a place that counts what is held.
-use Rattle.lite_stream.specs.Uses.{◌≡◌, ◌∙◌, ℕ, ◌+◌, List, [], ◌∷◌, length, Option, Some, None, inl, refl, ap, arith, length-append, AllByRecursion, Answer}
-use Rattle.lite_stream.specs.Uses.{items, AtMost-both, Below-after, Below-first, IsItem, each_items, AtMost, Below, count_held, held_rank}
+use Rattle.std.specs.Prelude.{◌≡◌, ℕ, ◌+◌, List, [], ◌∷◌, Option, Some, None}
+use Rattle.lite_stream.specs.Uses.{◌∙◌, length, inl, refl, ap, arith, length-append, AllByRecursion, Answer, items, AtMost-both, Below-after, Below-first}
+use Rattle.lite_stream.specs.Uses.{IsItem, each_items, AtMost, Below, count_held, held_rank}
 use Rattle.lite_stream.specs.Laws.Lower.{at_most_below}
 
 module _ {V : Type 0} where

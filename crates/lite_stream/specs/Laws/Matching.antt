@@ -1,5 +1,6 @@
 -- What is asked about each item where no closure's answer goes out.
-use Rattle.lite_stream.specs.Uses.{⊤, ◌≡◌, ◌∙◌, sym, Bor, Pairwise, SameItem, Sameness, made_same, pairs_same, MatchesFrom, Question}
+use Rattle.std.specs.Prelude.{⊤, ◌≡◌}
+use Rattle.lite_stream.specs.Uses.{◌∙◌, sym, Bor, Pairwise, SameItem, Sameness, made_same, pairs_same, MatchesFrom, Question}
 use Rattle.lite_stream.specs.Copied.{CopiesItem, Referred}
 use Rattle.lite_stream.specs.Enumerate.{Numbers}
 use Rattle.lite_stream.specs.Inspect.{ShowsItem}

@@ -1,7 +1,8 @@
 -- Where something stands in the place of each item: what goes out, Pendings aside, is the same from things that are
 -- alike.
-use Rattle.lite_stream.specs.Uses.{◌≡◌, List, [], ◌∷◌, Option, Some, None, OptionBy, SameAnswer, SameItem, Sameness, ComparableBy, strip, answer_items}
-use Rattle.lite_stream.specs.Uses.{comparable_as, comparable_nil, ends_same, MatchesFrom, Question}
+use Rattle.std.specs.Prelude.{◌≡◌, List, [], ◌∷◌, Option, Some, None}
+use Rattle.lite_stream.specs.Uses.{OptionBy, SameAnswer, SameItem, Sameness, ComparableBy, strip, answer_items, comparable_as, comparable_nil, ends_same}
+use Rattle.lite_stream.specs.Uses.{MatchesFrom, Question}
 use Rattle.lite_stream.specs.Laws.Agreeing.{AgreeingOver}
 use Rattle.lite_stream.specs.Laws.Through.{Entails}
 use Rattle.lite_stream.specs.Relates.{Relates}

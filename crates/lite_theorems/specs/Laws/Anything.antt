@@ -1,5 +1,6 @@
 -- Nothing is said of what a value answers: all lists of answers are allowed that the laws allow.
-use Rattle.lite_theorems.specs.Uses.{⊤, FutureLaws, StreamLaws, NoHint, Anything, MarkLaws, anything_laws, ReadMark, WriteMark}
+use Rattle.std.specs.Prelude.{⊤}
+use Rattle.lite_theorems.specs.Uses.{FutureLaws, StreamLaws, NoHint, Anything, MarkLaws, anything_laws, ReadMark, WriteMark}
 use Rattle.lite_theorems.specs.Futures.{future_by_steps}
 use Rattle.lite_theorems.specs.Laws.Streams.{stream_by_steps}
 use Rattle.lite_theorems.specs.Anything.{AnyAnswers, AnyValue}

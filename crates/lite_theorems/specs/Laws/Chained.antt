@@ -1,6 +1,7 @@
 -- What a chain tells up to its end is what its two readers told up to theirs.
-use Rattle.lite_theorems.specs.Uses.{◌≡◌, ◌∙◌, ℕ, Bool, true, false, List, [], ◌∷◌, ◌++◌, refl, ap, sym, subst, ChainsReaders, EndlessMarks, JoinsReaders}
-use Rattle.lite_theorems.specs.Uses.{ReadsAcross, first_of, has_ended, second_of, Chain, ReadMark, MarkLaws, BytesAlone, bytes_told, told_both, Runs}
+use Rattle.std.specs.Prelude.{◌≡◌, ℕ, Bool, true, false, List, [], ◌∷◌, ◌++◌}
+use Rattle.lite_theorems.specs.Uses.{◌∙◌, refl, ap, sym, subst, ChainsReaders, EndlessMarks, JoinsReaders, ReadsAcross, first_of, has_ended, second_of, Chain}
+use Rattle.lite_theorems.specs.Uses.{ReadMark, MarkLaws, BytesAlone, bytes_told, told_both, Runs}
 use Rattle.lite_theorems.specs.Chained.{TellsBoth, TellsRest, TellsWhole}
 
 goes_parts : (l m : List ReadMark) → BytesAlone (l ++ m) → BytesAlone l × BytesAlone m

@@ -1,6 +1,7 @@
 -- Where `collect` gives Ok, the stream gave items and pendings and then an end, and the collection holds the items.
-use Rattle.lite_theorems.specs.Uses.{IsSome, IfSome, ◌≡◌, List, [], ◌∷◌, ◌++◌, Option, Some, None, Result, Ok, refl, ap, sym, subst, append-nil, append_assoc}
-use Rattle.lite_theorems.specs.Uses.{Poll, Ready, Pending, Answer, Gives, end, item, Consumes, Decides, Fold, fold_of, consumes_steps, collects, Refused}
+use Rattle.std.specs.Prelude.{IsSome, IfSome, ◌≡◌, List, [], ◌∷◌, ◌++◌, Some, None, Result, Ok}
+use Rattle.lite_theorems.specs.Uses.{Option, refl, ap, sym, subst, append-nil, append_assoc, Poll, Ready, Pending, Answer, Gives, end, item, Consumes, Decides}
+use Rattle.lite_theorems.specs.Uses.{Fold, fold_of, consumes_steps, collects, Refused}
 use Rattle.lite_theorems.specs.Interleaving.{items_given}
 use Rattle.lite_theorems.specs.Laws.Rows.{WithoutEnd}
 

@@ -1,7 +1,7 @@
 -- A reader over another, which hands on what that one reads: each byte as what is made of it, each other mark as it is.
-use Rattle.lite_theorems.specs.Uses.{◌≡◌, ◌∙◌, ◌≤◌, ℕ, List, [], ◌∷◌, ◌++◌, length, map, take, drop, refl, ap, sym, subst, arith, length-append, length-drop}
-use Rattle.lite_theorems.specs.Uses.{length-take-le, take-append_seam, length-map, map-append, Ranks, ranks_of, Runs, ReadCounting, Falls, AllGiven, ReadMark}
-use Rattle.lite_theorems.specs.Uses.{bytes, given, moved, MarkLaws}
+use Rattle.std.specs.Prelude.{◌≡◌, ◌≤◌, ℕ, List, [], ◌∷◌, ◌++◌, length, map}
+use Rattle.lite_theorems.specs.Uses.{◌∙◌, take, drop, refl, ap, sym, subst, arith, length-append, length-drop, length-take-le, take-append_seam, length-map}
+use Rattle.lite_theorems.specs.Uses.{map-append, Ranks, ranks_of, Runs, ReadCounting, Falls, AllGiven, ReadMark, bytes, given, moved, MarkLaws}
 use Rattle.lite_theorems.specs.Handing.{HandsOn, each_byte}
 
 module _ {M R : Type 0} {part : M → R} {f : ℕ → ℕ} {reads : Runs ReadMark R} where

@@ -1,5 +1,6 @@
 -- Where `collect` of `or` gives Ok, the collection has taken in all that the two streams had.
-use Rattle.lite_theorems.specs.Uses.{AtEachOk, ◌≡◌, List, [], Result, subst, Poll, Answer, Runs, Folds, fold_of, Consume, collects, Collect, Refused, Ors, Or}
+use Rattle.std.specs.Prelude.{◌≡◌, List, [], Result}
+use Rattle.lite_theorems.specs.Uses.{AtEachOk, subst, Poll, Answer, Runs, Folds, fold_of, Consume, collects, Collect, Refused, Ors, Or}
 use Rattle.lite_theorems.specs.Interleaving.{OrHolds, items_given}
 use Rattle.lite_theorems.specs.Laws.Collected.{Has, collected}
 use Rattle.lite_theorems.specs.Laws.Rows.{merged_whole}

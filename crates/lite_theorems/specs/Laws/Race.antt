@@ -1,7 +1,7 @@
 -- Where `collect` of `race` gives Ok, the collection has taken in all that the two streams had, whatever the words
 -- were.
-use Rattle.lite_theorems.specs.Uses.{AtEachOk, ◌≡◌, List, [], ◌∷◌, ◌++◌, Result, Stream, Poll, Answer, end, Runs, Folds, fold_of, Consume, collects, Collect}
-use Rattle.lite_theorems.specs.Uses.{Refused, Races, RacesOn, Race}
+use Rattle.std.specs.Prelude.{◌≡◌, List, [], ◌∷◌, ◌++◌, Result}
+use Rattle.lite_theorems.specs.Uses.{AtEachOk, Stream, Poll, Answer, end, Runs, Folds, fold_of, Consume, collects, Collect, Refused, Races, RacesOn, Race}
 use Rattle.lite_theorems.specs.Interleaving.{RaceHolds, items_given}
 use Rattle.lite_theorems.specs.Laws.Collected.{Has, collected}
 use Rattle.lite_theorems.specs.Laws.Rows.{merged_whole}

@@ -1,6 +1,8 @@
 -- A reader by steps: each mark is a step, in the run `Steps step`.
-use Rattle.lite_theorems.specs.Uses.{◌<◌, ◌≤◌, ◌+◌, ℕ, List, [], ◌∷◌, arith, Below-one, at_most_one, number_ranks, ReadCounting, number_counting, Falls}
-use Rattle.lite_theorems.specs.Uses.{falls_at_most, falls_of_below, steps_laws, ReadMark, given, MarkLaws, Steps}
+use Rattle.std.specs.Prelude.{◌<◌, ◌≤◌, ℕ, List, [], ◌∷◌}
+use Rattle.std.proofs.Common.{◌+◌}
+use Rattle.lite_theorems.specs.Uses.{arith, Below-one, at_most_one, number_ranks, ReadCounting, number_counting, Falls, falls_at_most, falls_of_below}
+use Rattle.lite_theorems.specs.Uses.{steps_laws, ReadMark, given, MarkLaws, Steps}
 use Rattle.lite_theorems.specs.Readers.{MarksLower}
 
 -- `step` is what one mark may leave

@@ -1,6 +1,7 @@
 -- A reader by steps that reads many bytes at once, of those that are left: each is one step.
-use Rattle.lite_theorems.specs.Uses.{◌≡◌, ◌∙◌, ◌<◌, ◌≤◌, ℕ, zero, suc, List, [], ◌∷◌, ◌++◌, length, min, take, drop, refl, sym, ap, subst, arith}
-use Rattle.lite_theorems.specs.Uses.{length-take-le, slice_set, take-append-drop, common_steps, ReadMark, bytes, moved, Steps}
+use Rattle.std.specs.Prelude.{◌≡◌, ◌<◌, ◌≤◌, ℕ, zero, suc, List, [], ◌∷◌, ◌++◌, length}
+use Rattle.lite_theorems.specs.Uses.{◌∙◌, min, take, drop, refl, sym, ap, subst, arith, length-take-le, slice_set, take-append-drop, common_steps, ReadMark}
+use Rattle.lite_theorems.specs.Uses.{bytes, moved, Steps}
 use Rattle.lite_theorems.specs.Readers.{MarksLower}
 use Rattle.lite_theorems.specs.Reading.{FrontLaws, FrontStep, ReadsLeft}
 

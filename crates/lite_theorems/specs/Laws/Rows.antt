@@ -1,6 +1,7 @@
 -- The items that go out of rows are an interleaving of those of the two lists.
-use Rattle.lite_theorems.specs.Uses.{◌⊎◌, ⊤, true, false, Some, None, ◌≡◌, ◌∙◌, Bool, List, [], ◌∷◌, ◌++◌, map, inl, inr, refl, ap, sym, subst, Ready, Pending}
-use Rattle.lite_theorems.specs.Uses.{Answer, end, strip, until_end, Runs, MergeRow, MergeRows, Merges, beside_pending, AllEnds, FusesOn, Fuse}
+use Rattle.std.specs.Prelude.{◌⊎◌, ⊤, true, false, Some, None, ◌≡◌, Bool, List, [], ◌∷◌, ◌++◌, map}
+use Rattle.lite_theorems.specs.Uses.{◌∙◌, inl, inr, refl, ap, sym, subst, Ready, Pending, Answer, end, strip, until_end, Runs, MergeRow, MergeRows, Merges}
+use Rattle.lite_theorems.specs.Uses.{beside_pending, AllEnds, FusesOn, Fuse}
 use Rattle.lite_theorems.specs.Interleaving.{EndsWith, GivesRest, Interleaves, items_given}
 
 module _ {A : Type 0} where

@@ -1,6 +1,7 @@
 -- A stream by steps: each poll is a step, in the run `FoldsTo step`.
-use Rattle.lite_theorems.specs.Uses.{FoldsTo, ◌≤◌, ℕ, List, [], ◌∷◌, Some, None, arith, refl, sym, Ready, Pending, Answer, before_end, Below-one}
-use Rattle.lite_theorems.specs.Uses.{Lowers-at_most, at_most_one, folds_follow, same_hint, Lowers, Counting, number_ranks, RunLaws, StreamLaws, laws_of, NoHint}
+use Rattle.std.specs.Prelude.{◌≤◌, ℕ, List, [], ◌∷◌, Some, None}
+use Rattle.lite_theorems.specs.Uses.{FoldsTo, arith, refl, sym, Ready, Pending, Answer, before_end, Below-one, Lowers-at_most, at_most_one, folds_follow}
+use Rattle.lite_theorems.specs.Uses.{same_hint, Lowers, Counting, number_ranks, RunLaws, StreamLaws, laws_of, NoHint}
 use Rattle.lite_base.specs.Laws.Ranks.{number_counting}
 use Rattle.lite_theorems.specs.Streams.{HintsAt, ItemsLower}
 

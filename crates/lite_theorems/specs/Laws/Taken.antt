@@ -1,5 +1,6 @@
 -- What a writer takes while calls of it are waited for, one after the other.
-use Rattle.lite_theorems.specs.Uses.{◌≡◌, ◌∙◌, ℕ, List, ◌++◌, ap, append_assoc, sym, Runs, MarkLaws, WriteMark, bytes_taken}
+use Rattle.std.specs.Prelude.{◌≡◌, ℕ, List, ◌++◌}
+use Rattle.lite_theorems.specs.Uses.{◌∙◌, ap, append_assoc, sym, Runs, MarkLaws, WriteMark, bytes_taken}
 pub use Rattle.lite_io_base.specs.Laws.Takings.{taken_both}
 use Rattle.lite_theorems.specs.BothWriters.{TakesFront}
 

@@ -1,5 +1,6 @@
 -- What a reader tells, call after call, pendings aside.
-use Rattle.lite_theorems.specs.Uses.{◌≡◌, List, [], ◌++◌, refl, Runs, strip_marks-append, ReadMark, MarkLaws}
+use Rattle.std.specs.Prelude.{◌≡◌, List, [], ◌++◌}
+use Rattle.lite_theorems.specs.Uses.{refl, Runs, strip_marks-append, ReadMark, MarkLaws}
 use Rattle.lite_theorems.specs.Told.{ToldStripped}
 
 module _ {R : Type 0} {reads : Runs ReadMark R} (laws : MarkLaws reads) where

@@ -1,8 +1,8 @@
 -- Each item that comes out has a fact, where each that goes in has one: a lemma for each family of adapters.
-use Rattle.lite_views.specs.Uses.{◌≡◌, ℕ, zero, suc, List, [], ◌∷◌, ◌++◌, inl, inr, map, refl, CalledAt, Mut, ⊤, Bool, true, false, Option, Some, None, Bor}
-use Rattle.lite_views.specs.Uses.{Poll, Ready, Pending, Answer, Gives, Waiting, end, item, Accepts, Always, Finishes, handed, Question, Runs, Cuts, AllEnds}
-use Rattle.lite_views.specs.Uses.{FusesOn, Exchanges, Replaces, leaves_steps, LeavesOut, Joins, is_done, second_after, Flat, Expands, HandsOut, Part, First}
-use Rattle.lite_views.specs.Uses.{Second, Done, MergeRow, MergeRows, Pairs, pendings}
+use Rattle.std.specs.Prelude.{◌≡◌, ℕ, List, [], ◌∷◌, ◌++◌, map, refl, ⊤, Bool, true, false, Option, Some, None}
+use Rattle.lite_views.specs.Uses.{zero, suc, inl, inr, CalledAt, Mut, Bor, Poll, Ready, Pending, Answer, Gives, Waiting, end, item, Accepts, Always, Finishes}
+use Rattle.lite_views.specs.Uses.{handed, Question, Runs, Cuts, AllEnds, FusesOn, Exchanges, Replaces, leaves_steps, LeavesOut, Joins, is_done, second_after}
+use Rattle.lite_views.specs.Uses.{Flat, Expands, HandsOut, Part, First, Second, Done, MergeRow, MergeRows, Pairs, pendings}
 use Rattle.lite_views.specs.Each.{EachItem}
 
 module _ {A : Type 0} (P : A → Type 0) where

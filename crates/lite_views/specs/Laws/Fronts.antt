@@ -1,5 +1,7 @@
 -- Laws of what stands first in a list.
-use Rattle.lite_views.specs.Uses.{map-append, ◌≤◌, ℕ, zero, suc, List, [], ◌∷◌, ◌∙◌, length, map, take, refl, ap, arith, Bool, filter, filter-append}
+use Rattle.std.specs.Prelude.{ℕ, List, [], ◌∷◌, map, refl, Bool}
+use Rattle.std.proofs.Common.{◌≤◌}
+use Rattle.lite_views.specs.Uses.{map-append, zero, suc, ◌∙◌, length, take, ap, arith, filter, filter-append}
 use Rattle.lite_views.specs.Fronts.{Front}
 
 pub front_map : {A B : Type 0} (f : A → B) (xs ys : List A) → Front xs ys → Front (map f xs) (map f ys)

@@ -1,7 +1,8 @@
 -- Which items come out: each adapter of a function of its own has a plain function of lists.
-use Rattle.lite_views.specs.Uses.{◌≡◌, ◌≤◌, ℕ, suc, ◌-◌, List, [], ◌∷◌, length, map, take, refl, ap, inl, inr, arith, filter, Bool, true, false, Option, Some}
-use Rattle.lite_views.specs.Uses.{None, Result, Ok, Err, IfOk, Ready, Pending, Answer, end, item, items, Always, Question, Cuts, items_in, exchanges_steps}
-use Rattle.lite_views.specs.Uses.{Replaces, is_none_left, left_after, leaves_steps, LeavesOut}
+use Rattle.std.specs.Prelude.{◌≡◌, ℕ, List, [], ◌∷◌, map, refl, Bool, true, false, Option, Some, None, Result, Ok, Err, IfOk}
+use Rattle.std.proofs.Common.{◌≤◌, ◌-◌}
+use Rattle.lite_views.specs.Uses.{suc, length, take, ap, inl, inr, arith, filter, Ready, Pending, Answer, end, item, items, Always, Question, Cuts, items_in}
+use Rattle.lite_views.specs.Uses.{exchanges_steps, Replaces, is_none_left, left_after, leaves_steps, LeavesOut}
 use Rattle.lite_views.specs.Fronts.{Front}
 use Rattle.lite_views.specs.Laws.Fronts.{front_filter, front_map, front_take}
 

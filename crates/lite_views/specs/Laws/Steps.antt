@@ -1,5 +1,6 @@
 -- What values by steps give: the value of a future, and the items of a stream.
-use Rattle.lite_views.specs.Uses.{◌≡◌, List, [], ◌∷◌, Some, None, refl, subst, sym, FoldsTo, Ok, Err, Poll, Ready, Pending, Answer, Gives, UpToValue, end, item}
+use Rattle.std.specs.Prelude.{◌≡◌, List, [], ◌∷◌, Some, None, refl, Ok, Err}
+use Rattle.lite_views.specs.Uses.{subst, sym, FoldsTo, Poll, Ready, Pending, Answer, Gives, UpToValue, end, item}
 use Rattle.lite_views.specs.Views.{Fits, Lists, Seen, ValueHolds, Waited}
 
 -- a future: P of what it is and of the value that it gives holds at the answer with the value, and before each Pending

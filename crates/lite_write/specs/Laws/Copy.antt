@@ -1,8 +1,8 @@
 -- Laws of `copy`.
-use Rattle.lite_write.specs.Uses.{◌≡◌, ◌∙◌, ◌<◌, ◌+◌, ◌%◌, ◌^◌, ℕ, Bool, List, [], ◌∷◌, ◌++◌, length, Result, Ok, refl, ap, arith, append-nil, append_assoc}
-use Rattle.lite_write.specs.Uses.{length-append, mod-add-mod, flat_map-append, filter-append, filter, Error, Poll, Waiting, strip, Reaches, Reaches-back}
-use Rattle.lite_write.specs.Uses.{FutureLaws, strip_join, up_to_once, waiting_strip, waiting_up_to, waits_join, Runs, ThroughBuffer, GivenRun, ReadMark}
-use Rattle.lite_write.specs.Uses.{MarkLaws, WriteMark, bytes_taken, taken_both, given_of, idle_join}
+use Rattle.std.specs.Prelude.{◌≡◌, ◌<◌, ◌+◌, ◌%◌, ◌^◌, ℕ, Bool, List, [], ◌∷◌, ◌++◌, length, Result, Ok}
+use Rattle.lite_write.specs.Uses.{◌∙◌, refl, ap, arith, append-nil, append_assoc, length-append, mod-add-mod, flat_map-append, filter-append, filter, Error}
+use Rattle.lite_write.specs.Uses.{Poll, Waiting, strip, Reaches, Reaches-back, FutureLaws, strip_join, up_to_once, waiting_strip, waiting_up_to, waits_join}
+use Rattle.lite_write.specs.Uses.{Runs, ThroughBuffer, GivenRun, ReadMark, MarkLaws, WriteMark, bytes_taken, taken_both, given_of, idle_join}
 use Rattle.lite_write.specs.Copy.{Copied, CopyRuns, CopyValue, Moves}
 use Rattle.lite_write.specs.Copying.{CopiesSome}
 use Rattle.lite_write.specs.MarkLists.{BytesAlone, TakesSome, TakesUpTo, TellsUpTo, byte_in, bytes_told, is_taken_wait}

@@ -1,5 +1,6 @@
 -- Laws of `sink`.
-use Rattle.lite_write.specs.Uses.{List, [], ◌∷◌, ◌++◌, refl, ⊤, MarkLaws, CalmWriteLaws, NoPendingWrite, SteadyWriteLaws, WriteMark}
+use Rattle.std.specs.Prelude.{List, [], ◌∷◌, ◌++◌, ⊤}
+use Rattle.lite_write.specs.Uses.{refl, MarkLaws, CalmWriteLaws, NoPendingWrite, SteadyWriteLaws, WriteMark}
 use Rattle.lite_write.specs.Sink.{Sinks}
 use Rattle.lite_write.specs.declared.sink.Sink.{Sink}
 

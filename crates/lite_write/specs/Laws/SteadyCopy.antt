@@ -1,9 +1,10 @@
 -- `copy` gives one value wherever its reader and its writer were pending, where no write fails, and is pending only
 -- where one of them is.
-use Rattle.lite_write.specs.Uses.{⊤, IsOk, ◌≡◌, ◌∙◌, ◌+◌, ◌%◌, ◌^◌, ℕ, List, [], ◌∷◌, ◌++◌, Ok, Err, length, refl, ap, sym, arith, append-nil, length-append}
-use Rattle.lite_write.specs.Uses.{error_kind, Error, Poll, Comparable, ComparableBy, strip, CalmLaws, Finishes, gives_strip, none_no_pending, Sameness}
-use Rattle.lite_write.specs.Uses.{FutureSteadyLawsBy, Runs, comparable_behind, strip_marks-append, ReadMark, bytes, MarkLaws, TakesNone, CalmReadLaws}
-use Rattle.lite_write.specs.Uses.{NoPendingRead, SteadyReadLaws, strip_marks, CalmWriteLaws, NoPendingWrite, WriteMark, bytes_taken, SameByKind}
+use Rattle.std.specs.Prelude.{⊤, IsOk, ◌≡◌, ◌+◌, ◌%◌, ◌^◌, ℕ, List, [], ◌∷◌, ◌++◌, Ok, Err, length}
+use Rattle.lite_write.specs.Uses.{◌∙◌, refl, ap, sym, arith, append-nil, length-append, error_kind, Error, Poll, Comparable, ComparableBy, strip, CalmLaws}
+use Rattle.lite_write.specs.Uses.{Finishes, gives_strip, none_no_pending, Sameness, FutureSteadyLawsBy, Runs, comparable_behind, strip_marks-append, ReadMark}
+use Rattle.lite_write.specs.Uses.{bytes, MarkLaws, TakesNone, CalmReadLaws, NoPendingRead, SteadyReadLaws, strip_marks, CalmWriteLaws, NoPendingWrite}
+use Rattle.lite_write.specs.Uses.{WriteMark, bytes_taken, SameByKind}
 use Rattle.lite_write.specs.Laws.SteadyWriteAll.{without_failure_laws, no_failure_both, no_failure_last}
 use Rattle.lite_write.specs.SteadyWriteAll.{NoFailure, NoneFails, WithoutFailure}
 use Rattle.lite_write.specs.Copy.{CopyRuns, CopyValue, Moves}

@@ -1,6 +1,6 @@
 -- `flush` and `close` give Ok, where their writer does not fail.
-use Rattle.lite_write.specs.Uses.{◌≡◌, List, [], ◌∷◌, Ok, Err, refl, ⊤, Poll, Ready, Pending, strip, FutureSteadyLaws, Runs, WriteMark, done_marks, polled_laws}
-use Rattle.lite_write.specs.Uses.{PolledByCalls}
+use Rattle.std.specs.Prelude.{◌≡◌, List, [], ◌∷◌, Ok, Err, ⊤}
+use Rattle.lite_write.specs.Uses.{refl, Poll, Ready, Pending, strip, FutureSteadyLaws, Runs, WriteMark, done_marks, polled_laws, PolledByCalls}
 use Rattle.lite_write.specs.Close.{Closes}
 use Rattle.lite_write.specs.Flush.{Flushes}
 use Rattle.lite_write.specs.Laws.SteadyWriteAll.{AllOk, all_ok_same}

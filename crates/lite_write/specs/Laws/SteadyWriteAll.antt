@@ -1,6 +1,7 @@
 -- `write_all` gives Ok in the end, where no write fails, and is pending only where its writer is.
-use Rattle.lite_write.specs.Uses.{◌≡◌, ℕ, List, [], ◌∷◌, ◌++◌, Ok, map, refl, subst, ⊤, Poll, Ready, Pending, ComparableBy, strip, CalmLaws, NoPending}
-use Rattle.lite_write.specs.Uses.{to_value_last, FutureSteadyLaws, Runs, MarkLaws, never_waits_parts, CalmWriteLaws, NoPendingWrite, WriteMark}
+use Rattle.std.specs.Prelude.{◌≡◌, ℕ, List, [], ◌∷◌, ◌++◌, Ok, ⊤}
+use Rattle.lite_write.specs.Uses.{map, refl, subst, Poll, Ready, Pending, ComparableBy, strip, CalmLaws, NoPending, to_value_last, FutureSteadyLaws, Runs}
+use Rattle.lite_write.specs.Uses.{MarkLaws, never_waits_parts, CalmWriteLaws, NoPendingWrite, WriteMark}
 use Rattle.lite_write.specs.Laws.WriteAll.{WriteAllResult, all_laws}
 use Rattle.lite_write.specs.SteadyWriteAll.{NoFailure, NoneFails, WithoutFailure}
 use Rattle.lite_write.specs.WriteAll.{Ended, HandsMarks, HandsOver, WritesAll}

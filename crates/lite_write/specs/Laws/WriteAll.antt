@@ -1,6 +1,7 @@
 -- Laws of `write_all`.
-use Rattle.lite_write.specs.Uses.{◌∙◌, ◌<◌, [], ◌∷◌, ◌++◌, length, Result, refl, ap, arith, length-append, Error, Poll, FutureLaws, up_to_once, segment_before}
-use Rattle.lite_write.specs.Uses.{segments_before, to_value_join, Runs, MarkLaws, WriteMark, lent_still, idle_join}
+use Rattle.std.specs.Prelude.{◌<◌, [], ◌∷◌, ◌++◌, length, Result}
+use Rattle.lite_write.specs.Uses.{◌∙◌, refl, ap, arith, length-append, Error, Poll, FutureLaws, up_to_once, segment_before, segments_before, to_value_join}
+use Rattle.lite_write.specs.Uses.{Runs, MarkLaws, WriteMark, lent_still, idle_join}
 use Rattle.lite_write.specs.PollSteps.{WritesSome}
 use Rattle.lite_write.specs.WriteAll.{HandsMarks, WritesAll}
 use Rattle.lite_write.specs.declared.write_all.WriteAllFuture.{WriteAllFuture}

@@ -1,4 +1,5 @@
-use Rattle.futures_lite.specs.Uses.{length, subst, array_into_iter_items, array_steps, at_most, GivesAll, array_gives}
+use Rattle.std.specs.Prelude.{length}
+use Rattle.futures_lite.specs.Uses.{subst, array_into_iter_items, array_steps, at_most, GivesAll, array_gives}
 use Rattle.futures_lite.proofs.stream.iter_array.Goals as goal
 
 pub returns : goal.returns

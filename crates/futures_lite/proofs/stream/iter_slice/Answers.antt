@@ -1,4 +1,5 @@
-use Rattle.futures_lite.specs.Uses.{◌∙◌, ap, length, subst, at_most, copied_source, copied_steps, iter_rest, iter_steps, GivesAll, slice_gives}
+use Rattle.std.specs.Prelude.{length}
+use Rattle.futures_lite.specs.Uses.{◌∙◌, ap, subst, at_most, copied_source, copied_steps, iter_rest, iter_steps, GivesAll, slice_gives}
 use Rattle.futures_lite.proofs.stream.iter_slice.Goals as goal
 
 pub returns : goal.returns

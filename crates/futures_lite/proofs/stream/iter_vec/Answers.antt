@@ -1,4 +1,5 @@
-use Rattle.futures_lite.specs.Uses.{◌∙◌, ap, length, subst, sym, into_iter_steps, into_iter_len, at_most, GivesAll, vec_gives}
+use Rattle.std.specs.Prelude.{length}
+use Rattle.futures_lite.specs.Uses.{◌∙◌, ap, subst, sym, into_iter_steps, into_iter_len, at_most, GivesAll, vec_gives}
 use Rattle.futures_lite.proofs.stream.iter_vec.Goals as goal
 
 pub returns : goal.returns

@@ -1,8 +1,8 @@
 -- The walk of `drive_into` by hand: its loop ends by the order of the steps, which is no number. Each step lends the
 -- three references to `step_into`.
-use Rattle.lite_base.specs.Uses.{None, Some, Option, Bool, true, false, IsSome, IfSome, MatchOption, ◌≡◌, ℕ, List, [], ◌∷◌, refl, ap, subst, proved, leaves}
-use Rattle.lite_base.specs.Uses.{Keeps, mem, bounded, param, RattleType, mut_vals, mut_Tells, plain, heard, nothing, only, calls_at, Clauses, Ended, triple_of}
-use Rattle.lite_base.specs.Uses.{Contract, Triple, Stays, stay_ref, walk_of, Goes-ref}
+use Rattle.std.specs.Prelude.{None, Some, Option, Bool, true, false, IsSome, IfSome, MatchOption, ◌≡◌, ℕ, List, [], ◌∷◌, refl}
+use Rattle.lite_base.specs.Uses.{ap, subst, proved, leaves, Keeps, mem, bounded, param, RattleType, mut_vals, mut_Tells, plain, heard, nothing, only, calls_at}
+use Rattle.lite_base.specs.Uses.{Clauses, Ended, triple_of, Contract, Triple, Stays, stay_ref, walk_of, Goes-ref}
 use Rattle.futures.specs.contracts.task.Poll as PollRow
 use Rattle.futures.specs.contracts.task.context.Context as ContextRow
 use Rattle.std.specs.contracts.option.Option as OptionRow

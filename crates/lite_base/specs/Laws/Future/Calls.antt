@@ -1,5 +1,6 @@
 -- Laws of a closure that is polled.
-use Rattle.lite_base.specs.Uses.{⊤, FoldsTo, List, ◌∷◌, refl, sym, ap, OnPending, Poll, Ready, Pending}
+use Rattle.std.specs.Prelude.{⊤, List, ◌∷◌, refl}
+use Rattle.lite_base.specs.Uses.{FoldsTo, sym, ap, OnPending, Poll, Ready, Pending}
 use Rattle.lite_base.specs.Alike.{Alike}
 use Rattle.lite_base.specs.Answers.{Waiting}
 use Rattle.lite_base.specs.Calm.{CalmLaws}

@@ -1,5 +1,6 @@
 -- Laws of what a stream answers that polls a future.
-use Rattle.lite_base.specs.Uses.{◌≡◌, List, [], ◌∷◌, ◌++◌, map, Option, Poll, Ready, Pending}
+use Rattle.std.specs.Prelude.{◌≡◌, List, [], ◌∷◌, ◌++◌, map, Option}
+use Rattle.lite_base.specs.Uses.{Poll, Ready, Pending}
 use Rattle.lite_base.specs.Answers.{Answer, Gives, Waiting, strip}
 use Rattle.lite_base.specs.Calm.{NoPending}
 use Rattle.lite_base.specs.Future.Handed.{handed}

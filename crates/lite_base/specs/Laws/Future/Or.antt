@@ -1,5 +1,6 @@
 -- Laws of `or`.
-use Rattle.lite_base.specs.Uses.{◌⊎◌, map-append, Poll}
+use Rattle.std.specs.Prelude.{◌⊎◌}
+use Rattle.lite_base.specs.Uses.{map-append, Poll}
 use Rattle.lite_base.specs.Calm.{CalmLaws}
 use Rattle.lite_base.specs.Future.Or.{FutureOrs}
 use Rattle.lite_base.specs.FutureLaws.{FutureLaws}

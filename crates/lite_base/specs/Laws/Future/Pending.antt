@@ -1,5 +1,6 @@
 -- Laws of `pending`.
-use Rattle.lite_base.specs.Uses.{⊤, ◌≡◌, ◌∙◌, List, refl, Poll}
+use Rattle.std.specs.Prelude.{⊤, ◌≡◌, List, refl}
+use Rattle.lite_base.specs.Uses.{◌∙◌, Poll}
 use Rattle.lite_base.specs.Answers.{Waiting}
 use Rattle.lite_base.specs.FutureLaws.{FutureLaws}
 use Rattle.lite_base.specs.Laws.Answers.{waiting_once, waiting_strip, waiting_waiting}

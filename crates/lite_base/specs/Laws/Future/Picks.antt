@@ -1,5 +1,6 @@
 -- Laws of two futures of which one is asked first.
-use Rattle.lite_base.specs.Uses.{◌⊎◌, ◌≡◌, List, [], ◌∷◌, ◌++◌, Bool, refl, subst, ap, inl, inr, Poll, Ready, Pending}
+use Rattle.std.specs.Prelude.{◌⊎◌, ◌≡◌, List, [], ◌∷◌, ◌++◌, Bool, refl}
+use Rattle.lite_base.specs.Uses.{subst, ap, inl, inr, Poll, Ready, Pending}
 use Rattle.lite_base.specs.Answers.{Waiting}
 use Rattle.lite_base.specs.Calm.{CalmLaws, NoPending}
 use Rattle.lite_base.specs.Future.Picks.{PickRow, PickRows, Picks}

@@ -1,5 +1,6 @@
 -- Laws of `poll_once`.
-use Rattle.lite_base.specs.Uses.{⊤, ◌≤◌, List, [], ◌∷◌, ◌++◌, length, Option, refl, subst, arith, Poll, Ready, Pending}
+use Rattle.std.specs.Prelude.{⊤, ◌≤◌, List, [], ◌∷◌, ◌++◌, length, Option, refl}
+use Rattle.lite_base.specs.Uses.{subst, arith, Poll, Ready, Pending}
 use Rattle.lite_base.specs.Answers.{Waiting, strip}
 use Rattle.lite_base.specs.Calm.{CalmLaws, NoPending}
 use Rattle.lite_base.specs.Laws.Calm.{calm_both}

@@ -1,5 +1,6 @@
 -- Laws of `race`.
-use Rattle.lite_base.specs.Uses.{◌⊎◌, ◌≤◌, List, [], ◌∷◌, ◌++◌, length, refl, subst, sym, append-nil, arith, map-append, Stream, Poll}
+use Rattle.std.specs.Prelude.{◌⊎◌, ◌≤◌, List, [], ◌∷◌, ◌++◌, length, refl}
+use Rattle.lite_base.specs.Uses.{subst, sym, append-nil, arith, map-append, Stream, Poll}
 use Rattle.lite_base.specs.Answers.{Waiting, strip}
 use Rattle.lite_base.specs.Calm.{CalmLaws, NoPending}
 use Rattle.lite_base.specs.Future.Race.{FutureRacesOn, is_first}

@@ -1,5 +1,6 @@
 -- Laws of a future that is held until its value.
-use Rattle.lite_base.specs.Uses.{◌≡◌, List, [], ◌∷◌, ◌++◌, map, refl, Option, Some, None, append_assoc, ap, map-append, Poll}
+use Rattle.std.specs.Prelude.{◌≡◌, List, [], ◌∷◌, ◌++◌, map, refl, Option, Some, None}
+use Rattle.lite_base.specs.Uses.{append_assoc, ap, map-append, Poll}
 use Rattle.lite_base.specs.Answers.{Gives}
 use Rattle.lite_base.specs.Future.Spent.{Spends}
 use Rattle.lite_base.specs.FutureLaws.{FutureLaws}

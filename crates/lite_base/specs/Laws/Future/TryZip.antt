@@ -1,5 +1,6 @@
 -- Laws of `try_zip`.
-use Rattle.lite_base.specs.Uses.{Result, Ok, ◌≡◌, ◌∙◌, ◌≤◌, ℕ, List, [], ◌∷◌, ◌++◌, length, subst, sym, inl, inr, arith, length-append, Poll, Ready, Pending}
+use Rattle.std.specs.Prelude.{Result, Ok, ◌≡◌, ◌≤◌, ℕ, List, [], ◌∷◌, ◌++◌, length}
+use Rattle.lite_base.specs.Uses.{◌∙◌, subst, sym, inl, inr, arith, length-append, Poll, Ready, Pending}
 use Rattle.lite_base.specs.Answers.{Gives, Waiting, strip}
 use Rattle.lite_base.specs.Calm.{CalmLaws, NoPending}
 use Rattle.lite_base.specs.Future.Half.{IfAsked, Stands}

@@ -1,4 +1,5 @@
-use Rattle.lite_bridge.specs.Uses.{ℕ, List, [], ◌∷◌, subst, sym, ap, BufReader, ThroughBuffer, SeeksThrough}
+use Rattle.std.specs.Prelude.{ℕ, List, [], ◌∷◌}
+use Rattle.lite_bridge.specs.Uses.{subst, sym, ap, BufReader, ThroughBuffer, SeeksThrough}
 use Rattle.lite_bridge.specs.declared.cursor.Cursor.{Cursor}
 use Rattle.lite_bridge.specs.Cursor.{CursorReads, CursorSeeks}
 use Rattle.lite_bridge.specs.Calls.{Event, RunsEvents}

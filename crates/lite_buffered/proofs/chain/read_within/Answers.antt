@@ -1,4 +1,5 @@
-use Rattle.lite_buffered.specs.Uses.{◌<◌, length, rules, sym, subst, arith, CountsWithin}
+use Rattle.std.specs.Prelude.{◌<◌, length}
+use Rattle.lite_buffered.specs.Uses.{rules, sym, subst, arith, CountsWithin}
 use Rattle.lite_buffered.proofs.Crossing.{reads_wide}
 use Rattle.lite_buffered.proofs.chain.read_within.Goals as goal
 

@@ -1,6 +1,7 @@
 -- A `BufReader` with some capacity tells one tale where its reader does; it is never pending where its reader isn't.
-use Rattle.lite_buffered.specs.Uses.{◌≡◌, ◌<◌, ℕ, zero, suc, List, ◌++◌, Comparable, Runs, comparable_behind, comparable_fronts, no_wait_both, no_wait_bytes}
-use Rattle.lite_buffered.specs.Uses.{no_wait_parts, strip_marks-append, ReadMark, bytes, CalmReadLaws, NoPendingRead, SteadyReadLaws, strip_marks}
+use Rattle.std.specs.Prelude.{◌≡◌, ◌<◌, ℕ, zero, suc, List, ◌++◌}
+use Rattle.lite_buffered.specs.Uses.{Comparable, Runs, comparable_behind, comparable_fronts, no_wait_both, no_wait_bytes, no_wait_parts, strip_marks-append}
+use Rattle.lite_buffered.specs.Uses.{ReadMark, bytes, CalmReadLaws, NoPendingRead, SteadyReadLaws, strip_marks}
 use Rattle.lite_buffered.specs.declared.buf_reader.BufReader.{BufReader}
 use Rattle.lite_buffered.specs.BufReader.{Padded, PassesBuffer, ThroughBuffer, ahead, reader_capacity}
 use Rattle.lite_buffered.specs.Laws.BufReader.{passes_some, through_laws}

@@ -1,6 +1,7 @@
 -- `chain` tells one tale where both of its readers do, and is never pending where neither is.
-use Rattle.lite_buffered.specs.Uses.{◌≡◌, Bool, true, false, List, [], ◌∷◌, ◌++◌, refl, sym, Comparable, Runs, comparable_behind, comparable_none}
-use Rattle.lite_buffered.specs.Uses.{comparable_swapped, no_wait_both, strip_marks-append, ReadMark, CalmReadLaws, NoPendingRead, SteadyReadLaws, strip_marks}
+use Rattle.std.specs.Prelude.{◌≡◌, Bool, true, false, List, [], ◌∷◌, ◌++◌}
+use Rattle.lite_buffered.specs.Uses.{refl, sym, Comparable, Runs, comparable_behind, comparable_none, comparable_swapped, no_wait_both, strip_marks-append}
+use Rattle.lite_buffered.specs.Uses.{ReadMark, CalmReadLaws, NoPendingRead, SteadyReadLaws, strip_marks}
 use Rattle.lite_buffered.specs.declared.chain.Chain.{Chain}
 use Rattle.lite_buffered.specs.Chain.{ChainsReaders, EndlessMarks, JoinsReaders, ReadsAcross}
 use Rattle.lite_buffered.specs.Laws.Chain.{chains_keep, chains_laws}

@@ -1,5 +1,6 @@
 -- A `BufReader` as a writer is as steady and as calm as what it writes to.
-use Rattle.lite_buffered.specs.Uses.{ℕ, List, Runs, calm_part, steady_write_part, CalmWriteLaws, SteadyWriteLaws, WriteMark}
+use Rattle.std.specs.Prelude.{ℕ, List}
+use Rattle.lite_buffered.specs.Uses.{Runs, calm_part, steady_write_part, CalmWriteLaws, SteadyWriteLaws, WriteMark}
 use Rattle.lite_buffered.specs.BufReader.{Past}
 use Rattle.lite_buffered.specs.declared.buf_reader.BufReader.{BufReader}
 

@@ -1,6 +1,6 @@
 -- `repeat` tells one tale, and is never pending.
-use Rattle.lite_buffered.specs.Uses.{◌≡◌, ◌∙◌, List, [], ◌∷◌, ap, sym, ⊤, Comparable, comparable_stripped, steady_read_always, ReadMark, CalmReadLaws}
-use Rattle.lite_buffered.specs.Uses.{NoPendingRead, SteadyReadLaws}
+use Rattle.std.specs.Prelude.{◌≡◌, List, [], ◌∷◌, ⊤}
+use Rattle.lite_buffered.specs.Uses.{◌∙◌, ap, sym, Comparable, comparable_stripped, steady_read_always, ReadMark, CalmReadLaws, NoPendingRead, SteadyReadLaws}
 use Rattle.lite_buffered.specs.declared.repeat.Repeat.{Repeat}
 use Rattle.lite_buffered.specs.Laws.Repeat.{repeats_laws}
 use Rattle.lite_buffered.specs.Repeat.{RepeatsByte}

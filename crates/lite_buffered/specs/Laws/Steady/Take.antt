@@ -1,6 +1,7 @@
 -- `take` tells one tale where its reader does, and is never pending where its reader isn't.
-use Rattle.lite_buffered.specs.Uses.{◌≡◌, ◌∙◌, ℕ, zero, suc, List, [], ◌∷◌, ◌++◌, refl, sym, subst, arith, Comparable, Runs, comparable_none, no_wait_both}
-use Rattle.lite_buffered.specs.Uses.{strip_marks-append, ReadMark, CalmReadLaws, NoPendingRead, SteadyReadLaws, strip_marks}
+use Rattle.std.specs.Prelude.{◌≡◌, ℕ, zero, suc, List, [], ◌∷◌, ◌++◌}
+use Rattle.lite_buffered.specs.Uses.{◌∙◌, refl, sym, subst, arith, Comparable, Runs, comparable_none, no_wait_both, strip_marks-append, ReadMark, CalmReadLaws}
+use Rattle.lite_buffered.specs.Uses.{NoPendingRead, SteadyReadLaws, strip_marks}
 use Rattle.lite_buffered.specs.declared.take.Take.{Take}
 use Rattle.lite_buffered.specs.Laws.Take.{takes_laws}
 use Rattle.lite_buffered.specs.Take.{LimitEnds, TakesMarks, WithinLimit}

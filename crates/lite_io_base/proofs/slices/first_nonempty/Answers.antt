@@ -1,4 +1,5 @@
-use Rattle.lite_io_base.specs.Uses.{◌++◌, ap, sym, ◌∙◌}
+use Rattle.std.specs.Prelude.{◌++◌}
+use Rattle.lite_io_base.specs.Uses.{ap, sym, ◌∙◌}
 use Rattle.lite_io_base.specs.Laws.Runs.{slices_at}
 use Rattle.lite_io_base.proofs.slices.first_nonempty.Goals as goal
 

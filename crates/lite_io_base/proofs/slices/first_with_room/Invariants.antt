@@ -1,5 +1,5 @@
 -- No buffer so far has room.
-use Rattle.lite_io_base.specs.Uses.{◌≡◌, take}
+use Rattle.std.specs.Prelude.{◌≡◌, take}
 use Rattle.lite_io_base.specs.Runs.{room_in}
 use Rattle.lite_io_base.proofs.slices.first_with_room.Given as goal
 

@@ -1,5 +1,6 @@
 -- A buffer and those before it are no longer than all.
-use Rattle.lite_io_base.specs.Uses.{◌≡◌, ℕ, ◌≤◌, ◌<◌, ◌+◌, ◌++◌, List, length, take, get_or, ap, arith, length-append, io_slice_bytes, io_slices_bytes, IoSlice}
+use Rattle.std.specs.Prelude.{◌≡◌, ℕ, ◌≤◌, ◌<◌, ◌+◌, ◌++◌, List, length, take, get_or}
+use Rattle.lite_io_base.specs.Uses.{ap, arith, length-append, io_slice_bytes, io_slices_bytes, IoSlice}
 use Rattle.lite_io_base.specs.Laws.Runs.{slices_cut}
 use Rattle.lite_io_base.proofs.vec.extend_from_slices.Goals as goal
 

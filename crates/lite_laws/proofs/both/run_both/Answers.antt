@@ -1,4 +1,5 @@
-use Rattle.lite_laws.specs.Uses.{rules, IfOk, IfErr, Result, Ok, Err, [], inl, inr, refl, IfErr-at_err, on_err_weaker}
+use Rattle.std.specs.Prelude.{IfOk, IfErr, Result, []}
+use Rattle.lite_laws.specs.Uses.{rules, Ok, Err, inl, inr, refl, IfErr-at_err, on_err_weaker}
 use Rattle.lite_laws.specs.Waits.{HoldsEach}
 use Rattle.lite_laws.proofs.Waits.{waits_on}
 use Rattle.lite_laws.proofs.both.run_both.Goals as goal

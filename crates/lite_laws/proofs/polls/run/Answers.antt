@@ -1,4 +1,5 @@
-use Rattle.lite_laws.specs.Uses.{rules, arith, ◌∙◌, ◌+◌, [], ◌∷◌, ◌++◌, ap, append_assoc, length-append, common_steps}
+use Rattle.std.specs.Prelude.{◌+◌, [], ◌∷◌, ◌++◌}
+use Rattle.lite_laws.specs.Uses.{rules, arith, ◌∙◌, ap, append_assoc, length-append, common_steps}
 use Rattle.lite_laws.proofs.Waits.{waits_last}
 use Rattle.lite_laws.proofs.polls.run.Goals as goal
 

@@ -1,4 +1,5 @@
-use Rattle.lite_merge.specs.Uses.{◌≡◌, [], ◌∷◌, refl, item}
+use Rattle.std.specs.Prelude.{◌≡◌, [], ◌∷◌}
+use Rattle.lite_merge.specs.Uses.{refl, item}
 use Rattle.lite_merge.specs.Laws.Merge.{fused_laws}
 use Rattle.lite_merge.proofs.picks.poll_in_order.Goals as goal
 

@@ -1,5 +1,6 @@
-use Rattle.lite_read.specs.Uses.{◌≡◌, ◌∙◌, ◌==◌, ◌≤◌, ℕ, ap, arith, cond, drop, leb, length, sym, and_parts, le-leb, length-drop, zip2_splat, zip2_splat_left}
-use Rattle.lite_read.specs.Uses.{length-chunk, is_ascii, prefix_len}
+use Rattle.std.specs.Prelude.{◌≡◌, ◌==◌, ◌≤◌, ℕ, drop, length}
+use Rattle.lite_read.specs.Uses.{◌∙◌, ap, arith, cond, leb, sym, and_parts, le-leb, length-drop, zip2_splat, zip2_splat_left, length-chunk, is_ascii}
+use Rattle.lite_read.specs.Uses.{prefix_len}
 use Rattle.std.proofs.lemmas.Bool.{eqb-true}
 use lib.Lanes.{chunk}
 use Rattle.lite_read.proofs.FirstLine.{all_below}

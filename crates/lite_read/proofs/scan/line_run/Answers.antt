@@ -1,4 +1,5 @@
-use Rattle.lite_read.specs.Uses.{zip2_splat, length-chunk, ◌==◌, ◌∙◌, arith, refl}
+use Rattle.std.specs.Prelude.{◌==◌}
+use Rattle.lite_read.specs.Uses.{zip2_splat, length-chunk, ◌∙◌, arith, refl}
 use lib.Lanes.{chunk}
 use Rattle.lite_read.proofs.Lanes.{run_of}
 use Rattle.lite_read.proofs.scan.line_run.Goals as goal

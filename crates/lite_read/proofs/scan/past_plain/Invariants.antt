@@ -1,4 +1,4 @@
-use Rattle.lite_read.specs.Uses.{◌-◌, ◌≤◌, length}
+use Rattle.std.specs.Prelude.{◌-◌, ◌≤◌, length}
 use Rattle.lite_read.specs.Scan.{IsPlain}
 use Rattle.lite_read.proofs.scan.past_plain.Given as goal
 

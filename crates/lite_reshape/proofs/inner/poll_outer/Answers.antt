@@ -1,4 +1,4 @@
-use Rattle.lite_reshape.specs.Uses.{[]}
+use Rattle.std.specs.Prelude.{[]}
 use Rattle.lite_reshape.specs.Laws.Flatten.{to_come}
 use Rattle.lite_reshape.proofs.inner.poll_outer.Goals as goal
 

@@ -1,4 +1,5 @@
-use Rattle.lite_reshape.specs.Uses.{◌≡◌, end}
+use Rattle.std.specs.Prelude.{◌≡◌}
+use Rattle.lite_reshape.specs.Uses.{end}
 use Rattle.lite_reshape.specs.Laws.Flatten.{ended_step}
 use Rattle.lite_reshape.proofs.inner.poll_part.Goals as goal
 

@@ -1,4 +1,5 @@
-use Rattle.lite_theorems.specs.Uses.{rules, [], append-nil, sym}
+use Rattle.std.specs.Prelude.{[]}
+use Rattle.lite_theorems.specs.Uses.{rules, append-nil, sym}
 use Rattle.lite_theorems.proofs.BothReaders.{both_read}
 use Rattle.lite_theorems.proofs.both_readers.read_both.Goals as goal
 

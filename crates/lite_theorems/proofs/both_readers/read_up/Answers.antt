@@ -1,4 +1,5 @@
-use Rattle.lite_theorems.specs.Uses.{rules, ⊤, to_end_any, ReadsToEnd, ReadsToEndByRoom}
+use Rattle.std.specs.Prelude.{⊤}
+use Rattle.lite_theorems.specs.Uses.{rules, to_end_any, ReadsToEnd, ReadsToEndByRoom}
 use Rattle.lite_theorems.proofs.Waited.{waited_more}
 use Rattle.lite_theorems.proofs.BothReaders.{lent_on, read_up}
 use Rattle.lite_theorems.proofs.both_readers.read_up.Goals as goal

@@ -1,4 +1,5 @@
-use Rattle.lite_theorems.specs.Uses.{rules, [], refl}
+use Rattle.std.specs.Prelude.{[]}
+use Rattle.lite_theorems.specs.Uses.{rules, refl}
 use Rattle.lite_theorems.proofs.BothWriters.{both_written}
 use Rattle.lite_theorems.proofs.both_writers.write_both.Goals as goal
 

@@ -1,4 +1,5 @@
-use Rattle.lite_theorems.specs.Uses.{◌≡◌, ◌++◌, [], refl, rules, bytes_taken}
+use Rattle.std.specs.Prelude.{◌≡◌, ◌++◌, []}
+use Rattle.lite_theorems.specs.Uses.{refl, rules, bytes_taken}
 use Rattle.lite_theorems.proofs.Serving.{flush_behind, none_behind}
 use Rattle.lite_theorems.proofs.line_server.answer.Goals as goal
 

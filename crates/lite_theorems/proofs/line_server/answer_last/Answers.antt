@@ -1,4 +1,5 @@
-use Rattle.lite_theorems.specs.Uses.{◌≡◌, refl, rules, flat_map, last_piece}
+use Rattle.std.specs.Prelude.{◌≡◌, flat_map}
+use Rattle.lite_theorems.specs.Uses.{refl, rules, last_piece}
 use Rattle.lite_theorems.proofs.LinesServed.{last_reply}
 use Rattle.lite_theorems.proofs.line_server.answer_last.Goals as goal
 

@@ -1,4 +1,5 @@
-use Rattle.lite_theorems.specs.Uses.{◌≡◌, ◌∙◌, [], ◌∷◌, Err, inl, inr, refl, rules, ReadMark}
+use Rattle.std.specs.Prelude.{◌≡◌, [], ◌∷◌, Err}
+use Rattle.lite_theorems.specs.Uses.{◌∙◌, inl, inr, refl, rules, ReadMark}
 use Rattle.lite_theorems.specs.Serving.{replies}
 use Rattle.lite_theorems.proofs.Serving.{last_replied, replied, stops_output, whole_replied}
 use Rattle.lite_theorems.proofs.line_server.answer_next.Goals as goal

@@ -1,4 +1,5 @@
-use Rattle.lite_theorems.specs.Uses.{[], refl, rules}
+use Rattle.std.specs.Prelude.{[]}
+use Rattle.lite_theorems.specs.Uses.{refl, rules}
 use Rattle.lite_theorems.proofs.line_server.flush_if.Goals as goal
 
 pub returns-then-not-now : goal.returns-then-not-now

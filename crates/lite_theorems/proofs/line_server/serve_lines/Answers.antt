@@ -1,4 +1,5 @@
-use Rattle.lite_theorems.specs.Uses.{◌≡◌, Err, Ok, false, rules, subst, true}
+use Rattle.std.specs.Prelude.{◌≡◌, Err, Ok, false, true}
+use Rattle.lite_theorems.specs.Uses.{rules, subst}
 use Rattle.lite_theorems.specs.Serving.{LineEnds, Replied}
 use Rattle.lite_theorems.proofs.Serving.{served, so_far_none, so_far_on}
 use Rattle.lite_theorems.proofs.line_server.serve_lines.Goals as goal

@@ -1,6 +1,7 @@
-use Rattle.lite_theorems.specs.Uses.{⊤, ◌≡◌, ◌∙◌, ◌<◌, ℕ, List, [], ◌++◌, ap, subst, sym, Global, Folds, fold_of, Consume, LacksRoom, tries_collect, TryCollect}
-use Rattle.lite_theorems.specs.Uses.{PassesBuffer, ThroughBuffer, ahead, reader_capacity, TakesMarks, WithinLimit, limit_of, take_inner, BufReader, Take}
-use Rattle.lite_theorems.specs.Uses.{ReadMark, bytes, GivesLines, lining, PieceSegments, Lines, passes_some, Runs}
+use Rattle.std.specs.Prelude.{⊤, ◌≡◌, ◌<◌, ℕ, List, [], ◌++◌}
+use Rattle.lite_theorems.specs.Uses.{◌∙◌, ap, subst, sym, Global, Folds, fold_of, Consume, LacksRoom, tries_collect, TryCollect, PassesBuffer, ThroughBuffer}
+use Rattle.lite_theorems.specs.Uses.{ahead, reader_capacity, TakesMarks, WithinLimit, limit_of, take_inner, BufReader, Take, ReadMark, bytes, GivesLines}
+use Rattle.lite_theorems.specs.Uses.{lining, PieceSegments, Lines, passes_some, Runs}
 use Rattle.std.proofs.Common.{String}
 use Rattle.lite_buffered.specs.BufReader.{reader_inner as buffered_of}
 use Rattle.lite_theorems.specs.Lines.{AtEachValue, CollectsLines, limited, lines_told}

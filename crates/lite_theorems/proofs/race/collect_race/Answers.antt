@@ -1,4 +1,5 @@
-use Rattle.lite_theorems.specs.Uses.{[], LacksRoom}
+use Rattle.std.specs.Prelude.{[]}
+use Rattle.lite_theorems.specs.Uses.{LacksRoom}
 use Rattle.lite_theorems.specs.Laws.Collected.{has}
 use Rattle.lite_theorems.specs.Laws.Race.{race_collected}
 use Rattle.lite_theorems.proofs.race.collect_race.Goals as goal

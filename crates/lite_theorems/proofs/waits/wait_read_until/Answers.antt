@@ -1,4 +1,5 @@
-use Rattle.lite_theorems.specs.Uses.{◌∙◌, ap, length, rules, sym, until_any, ReadsUntil, ReadsUntilByRoom, ⊤}
+use Rattle.std.specs.Prelude.{length, ⊤}
+use Rattle.lite_theorems.specs.Uses.{◌∙◌, ap, rules, sym, until_any, ReadsUntil, ReadsUntilByRoom}
 use Rattle.lite_theorems.proofs.Waited.{ToldByUntil, told_at, until_waited, waited_more}
 use Rattle.lite_theorems.proofs.waits.wait_read_until.Goals as goal
 

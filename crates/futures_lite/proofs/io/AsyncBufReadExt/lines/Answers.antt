@@ -1,4 +1,5 @@
-use Rattle.futures_lite.specs.Uses.{refl, string_bytes, without_return, lines_over, pieces_listed}
+use Rattle.std.specs.Prelude.{string_bytes}
+use Rattle.futures_lite.specs.Uses.{refl, without_return, lines_over, pieces_listed}
 use Rattle.futures_lite.proofs.io.AsyncBufReadExt.lines.Goals as goal
 
 pub returns-clause-read : goal.returns-clause-read

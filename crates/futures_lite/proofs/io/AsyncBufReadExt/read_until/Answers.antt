@@ -1,4 +1,5 @@
-use Rattle.futures_lite.specs.Uses.{ReadsUntil, ReadsUntilByRoom, ⊤, refl, until_any, gathered_left, when_less, read_piece}
+use Rattle.std.specs.Prelude.{⊤}
+use Rattle.futures_lite.specs.Uses.{ReadsUntil, ReadsUntilByRoom, refl, until_any, gathered_left, when_less, read_piece}
 use Rattle.futures_lite.proofs.io.AsyncBufReadExt.read_until.Goals as goal
 
 pub returns-clause-piece : goal.returns-clause-piece

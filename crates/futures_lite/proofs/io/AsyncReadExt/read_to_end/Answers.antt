@@ -1,4 +1,5 @@
-use Rattle.futures_lite.specs.Uses.{ReadsToEnd, ReadsToEndByRoom, ⊤, refl, to_end_any, all_read, gathered_left, when_less}
+use Rattle.std.specs.Prelude.{⊤}
+use Rattle.futures_lite.specs.Uses.{ReadsToEnd, ReadsToEndByRoom, refl, to_end_any, all_read, gathered_left, when_less}
 use Rattle.futures_lite.proofs.io.AsyncReadExt.read_to_end.Goals as goal
 
 pub returns-clause-all : goal.returns-clause-all

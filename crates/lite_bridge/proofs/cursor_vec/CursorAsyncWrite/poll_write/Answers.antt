@@ -1,4 +1,5 @@
-use Rattle.lite_bridge.specs.Uses.{◌≡◌, ◌+◌, ℕ, List, [], ◌∷◌, Ok, length, refl, subst, sym, arith, Ready, WriteMark, write_marks, take-length}
+use Rattle.std.specs.Prelude.{◌≡◌, ◌+◌, ℕ, List, [], ◌∷◌, Ok, length}
+use Rattle.lite_bridge.specs.Uses.{refl, subst, sym, arith, Ready, WriteMark, write_marks, take-length}
 use Rattle.lite_bridge.specs.declared.cursor.Cursor.{Cursor}
 use Rattle.lite_bridge.specs.Cursor.{CursorWrites}
 use Rattle.lite_bridge.proofs.cursor_vec.CursorAsyncWrite.poll_write.Goals as goal

@@ -1,4 +1,5 @@
-use Rattle.lite_buffered.specs.Uses.{◌∙◌, ◌≤◌, ◌-◌, ap, length, take, bytes}
+use Rattle.std.specs.Prelude.{◌≤◌, ◌-◌, length, take}
+use Rattle.lite_buffered.specs.Uses.{◌∙◌, ap, bytes}
 use Rattle.lite_buffered.proofs.Pacing.{consumed_bytes, consumed_rest}
 use Rattle.lite_buffered.proofs.budgeted.BudgetedAsyncBufRead.consume.Goals as goal
 

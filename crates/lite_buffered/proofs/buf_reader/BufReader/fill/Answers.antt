@@ -1,4 +1,5 @@
-use Rattle.lite_buffered.specs.Uses.{◌<◌, length, refl, arith}
+use Rattle.std.specs.Prelude.{◌<◌, length}
+use Rattle.lite_buffered.specs.Uses.{refl, arith}
 use Rattle.lite_buffered.specs.BufReader.{ahead}
 use Rattle.lite_buffered.proofs.Asking.{asks_none}
 use Rattle.lite_buffered.proofs.Ranges.{length-slice_range, slice_range_none}

@@ -1,4 +1,5 @@
-use Rattle.lite_buffered.specs.Uses.{◌≡◌, ◌<◌, Ok, length, arith, rules, common_steps, Ready, filled}
+use Rattle.std.specs.Prelude.{◌≡◌, ◌<◌, Ok, length}
+use Rattle.lite_buffered.specs.Uses.{arith, rules, common_steps, Ready, filled}
 use Rattle.lite_buffered.specs.BufReader.{ThroughBuffer, ahead}
 use Rattle.lite_buffered.proofs.Reading.{fill_then_take}
 use Rattle.lite_buffered.proofs.buf_reader.BufReader.read_ahead.Goals as goal

@@ -1,4 +1,5 @@
-use Rattle.lite_buffered.specs.Uses.{◌≡◌, ◌≤◌, ◌<◌, Ok, length, take, min, rules, arith, length-take-le, Ready, reads_front, filled, room_in}
+use Rattle.std.specs.Prelude.{◌≡◌, ◌≤◌, ◌<◌, Ok, length, take, min}
+use Rattle.lite_buffered.specs.Uses.{rules, arith, length-take-le, Ready, reads_front, filled, room_in}
 use Rattle.lite_buffered.specs.BufReader.{ThroughBuffer, ahead}
 use Rattle.lite_buffered.proofs.Reading.{fill_then_take}
 use Rattle.lite_buffered.proofs.buf_reader.BufReader.read_ahead_vectored.Goals as goal

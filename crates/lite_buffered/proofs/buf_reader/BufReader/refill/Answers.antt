@@ -1,4 +1,5 @@
-use Rattle.lite_buffered.specs.Uses.{◌≡◌, ◌≤◌, Ok, Err, length, take, ap, refl, rules, subst, sym, arith, with_items, moved, common_steps, Pending, Ready}
+use Rattle.std.specs.Prelude.{◌≡◌, ◌≤◌, Ok, Err, length, take}
+use Rattle.lite_buffered.specs.Uses.{ap, refl, rules, subst, sym, arith, with_items, moved, common_steps, Pending, Ready}
 use Rattle.lite_buffered.proofs.Reading.{through_fill, through_past}
 use Rattle.lite_buffered.proofs.buf_reader.BufReader.refill.Goals as goal
 

@@ -1,4 +1,5 @@
-use Rattle.lite_buffered.specs.Uses.{◌≡◌, Ok, rules, ap, inl, Ready, by_kind}
+use Rattle.std.specs.Prelude.{◌≡◌, Ok}
+use Rattle.lite_buffered.specs.Uses.{rules, ap, inl, Ready, by_kind}
 use Rattle.lite_buffered.proofs.buf_reader.BufReader.seek_twice.Goals as goal
 
 pub returns-in-Ok-clause-sought : goal.returns-in-Ok-clause-sought

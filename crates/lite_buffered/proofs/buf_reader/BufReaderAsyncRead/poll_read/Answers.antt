@@ -1,4 +1,5 @@
-use Rattle.lite_buffered.specs.Uses.{◌≡◌, [], length, refl, arith, common_steps, read_marks}
+use Rattle.std.specs.Prelude.{◌≡◌, [], length}
+use Rattle.lite_buffered.specs.Uses.{refl, arith, common_steps, read_marks}
 use Rattle.lite_buffered.specs.BufReader.{ahead}
 use Rattle.lite_buffered.proofs.Polling.{polls_asked}
 use Rattle.lite_buffered.proofs.Reading.{moved_none, through_past, through_taken}

@@ -1,4 +1,5 @@
-use Rattle.lite_buffered.specs.Uses.{◌≡◌, [], refl, arith, common_steps, reads_front, read_marks, room_in}
+use Rattle.std.specs.Prelude.{◌≡◌, []}
+use Rattle.lite_buffered.specs.Uses.{refl, arith, common_steps, reads_front, read_marks, room_in}
 use Rattle.lite_buffered.specs.BufReader.{ThroughBuffer, ahead}
 use Rattle.lite_buffered.proofs.Polling.{polls_asked}
 use Rattle.lite_buffered.proofs.Reading.{moved_none, through_past, through_taken}

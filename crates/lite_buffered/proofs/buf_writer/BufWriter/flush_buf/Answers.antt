@@ -1,4 +1,5 @@
-use Rattle.lite_buffered.specs.Uses.{◌≡◌, ◌∙◌, ◌+◌, length, Err, inl, inr, refl, ap, rules, arith, boxed_slice_items, error_kind, Interrupted, Ready}
+use Rattle.std.specs.Prelude.{◌≡◌, ◌+◌, length, Err}
+use Rattle.lite_buffered.specs.Uses.{◌∙◌, inl, inr, refl, ap, rules, arith, boxed_slice_items, error_kind, Interrupted, Ready}
 use Rattle.lite_buffered.proofs.Draining.{drain_fails, drain_interrupted, drain_none, drain_some, drain_waits, drain_zero}
 use Rattle.lite_buffered.proofs.Draining.{held_same}
 use Rattle.lite_buffered.proofs.buf_writer.BufWriter.flush_buf.Goals.{then-eq+else-interruptions-lt-MOST_INTERRUPTIONS}

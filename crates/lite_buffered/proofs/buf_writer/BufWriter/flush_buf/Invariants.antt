@@ -1,4 +1,6 @@
-use Rattle.lite_buffered.specs.Uses.{◌+◌, ◌-◌, ◌*◌, Keeps}
+use Rattle.std.specs.Prelude.{◌+◌, ◌-◌}
+use Rattle.std.proofs.Common.{◌*◌}
+use Rattle.lite_buffered.specs.Uses.{Keeps}
 use Rattle.lite_buffered.proofs.Draining.{Draining}
 use Rattle.lite_buffered.proofs.buf_writer.BufWriter.flush_buf.Given as goal
 

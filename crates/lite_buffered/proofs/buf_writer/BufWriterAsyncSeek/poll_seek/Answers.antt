@@ -1,4 +1,5 @@
-use Rattle.lite_buffered.specs.Uses.{◌≡◌, Ok, Err, rules, refl, error_kind, Ready, Pending, by_kind}
+use Rattle.std.specs.Prelude.{◌≡◌, Ok, Err}
+use Rattle.lite_buffered.specs.Uses.{rules, refl, error_kind, Ready, Pending, by_kind}
 use Rattle.lite_buffered.proofs.Seeking.{seek_fails, seek_follows, seek_waits}
 use Rattle.lite_buffered.proofs.buf_writer.BufWriterAsyncSeek.poll_seek.Goals as goal
 

@@ -1,4 +1,5 @@
-use Rattle.lite_buffered.specs.Uses.{◌≡◌, Ok, rules, refl, Ready, WriteMark}
+use Rattle.std.specs.Prelude.{◌≡◌, Ok}
+use Rattle.lite_buffered.specs.Uses.{rules, refl, Ready, WriteMark}
 use Rattle.lite_buffered.proofs.Answering.{then_done}
 use Rattle.lite_buffered.proofs.buf_writer.BufWriterAsyncWrite.poll_close.Goals as goal
 

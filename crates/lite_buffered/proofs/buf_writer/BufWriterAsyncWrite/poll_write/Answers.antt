@@ -1,4 +1,5 @@
-use Rattle.lite_buffered.specs.Uses.{◌≡◌, ◌∙◌, ◌++◌, ◌<◌, ◌≤◌, length, Ok, Err, rules, refl, sym, ap, arith, error_kind, Ready, Pending}
+use Rattle.std.specs.Prelude.{◌≡◌, ◌++◌, ◌<◌, ◌≤◌, length, Ok, Err}
+use Rattle.lite_buffered.specs.Uses.{◌∙◌, rules, refl, sym, ap, arith, error_kind, Ready, Pending}
 use Rattle.lite_buffered.specs.BufWriter.{writer_capacity}
 use Rattle.lite_buffered.proofs.Answering.{passed_on, room_capacity, room_fails, room_then_hold, room_then_past}
 use Rattle.lite_buffered.proofs.Answering.{room_waits, stops_failing, stops_waiting}

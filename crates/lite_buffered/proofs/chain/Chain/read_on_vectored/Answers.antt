@@ -1,4 +1,5 @@
-use Rattle.lite_buffered.specs.Uses.{◌≡◌, ◌≤◌, ◌<◌, ◌∷◌, [], Ok, refl, rules, arith, Ready, ReadMark, read_marks, room_in}
+use Rattle.std.specs.Prelude.{◌≡◌, ◌≤◌, ◌<◌, ◌∷◌, [], Ok}
+use Rattle.lite_buffered.specs.Uses.{refl, rules, arith, Ready, ReadMark, read_marks, room_in}
 use Rattle.lite_buffered.proofs.Crossing.{crossed, moved_end}
 use Rattle.lite_buffered.proofs.chain.Chain.read_on_vectored.Goals as goal
 

@@ -1,5 +1,5 @@
-use Rattle.lite_buffered.specs.Uses.{◌≡◌, ◌≤◌, ◌<◌, ◌-◌, [], Ok, length, take, drop, rules, arith, sym, ◌∙◌, append-nil, length-take-le, subst, common_steps}
-use Rattle.lite_buffered.specs.Uses.{Ready, read_marks_room, moved}
+use Rattle.std.specs.Prelude.{◌≡◌, ◌≤◌, ◌<◌, ◌-◌, [], Ok, length, take, drop}
+use Rattle.lite_buffered.specs.Uses.{rules, arith, sym, ◌∙◌, append-nil, length-take-le, subst, common_steps, Ready, read_marks_room, moved}
 use Rattle.lite_buffered.specs.Take.{WithinLimit}
 use Rattle.lite_buffered.proofs.Limits.{fits_moved}
 use Rattle.lite_buffered.proofs.take.TakeAsyncRead.poll_read.Goals as goal

@@ -1,4 +1,5 @@
-use Rattle.lite_consume.specs.Uses.{refl, each_asked, each_here, each_pending}
+use Rattle.std.specs.Prelude.{refl}
+use Rattle.lite_consume.specs.Uses.{each_asked, each_here, each_pending}
 use Rattle.lite_consume.proofs.consume.ConsumePollSteps.poll_step.Goals as goal
 
 pub take_in-requires-clause-takes : goal.take_in-requires-clause-takes

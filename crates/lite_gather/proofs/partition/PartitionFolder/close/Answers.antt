@@ -1,4 +1,5 @@
-use Rattle.lite_gather.specs.Uses.{◌∙◌, ap, refl, sym}
+use Rattle.std.specs.Prelude.{refl}
+use Rattle.lite_gather.specs.Uses.{◌∙◌, ap, sym}
 use Rattle.lite_gather.proofs.partition.PartitionFolder.close.Goals as goal
 
 pub returns : goal.returns

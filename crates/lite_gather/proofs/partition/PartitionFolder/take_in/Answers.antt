@@ -1,4 +1,5 @@
-use Rattle.lite_gather.specs.Uses.{◌≡◌, Err, ap, refl}
+use Rattle.std.specs.Prelude.{◌≡◌, Err, refl}
+use Rattle.lite_gather.specs.Uses.{ap}
 use Rattle.lite_gather.proofs.partition.PartitionFolder.take_in.Goals as goal
 
 pub returns-in-Ok : goal.returns-in-Ok

@@ -1,4 +1,5 @@
-use Rattle.lite_gather.specs.Uses.{◌∙◌, refl, sym}
+use Rattle.std.specs.Prelude.{refl}
+use Rattle.lite_gather.specs.Uses.{◌∙◌, sym}
 use Rattle.lite_gather.proofs.unzip.UnzipFolder.close.Goals as goal
 
 pub returns : goal.returns

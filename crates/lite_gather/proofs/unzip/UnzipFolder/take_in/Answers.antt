@@ -1,4 +1,4 @@
-use Rattle.lite_gather.specs.Uses.{◌≡◌, refl}
+use Rattle.std.specs.Prelude.{◌≡◌, refl}
 use Rattle.lite_gather.proofs.unzip.UnzipFolder.take_in.Goals as goal
 
 pub returns-in-Ok : goal.returns-in-Ok

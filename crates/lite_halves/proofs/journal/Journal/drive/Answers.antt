@@ -1,4 +1,5 @@
-use Rattle.lite_halves.specs.Uses.{arith, inr, sym, Result, Ok, Err, OnErr}
+use Rattle.std.specs.Prelude.{Result, Ok, Err, OnErr}
+use Rattle.lite_halves.specs.Uses.{arith, inr, sym}
 use Rattle.lite_halves.specs.Entry.{asked_of}
 use Rattle.lite_halves.proofs.Driven.{asks_at, journal_more, journal_none}
 use Rattle.lite_halves.proofs.journal.Journal.drive.Goals as goal

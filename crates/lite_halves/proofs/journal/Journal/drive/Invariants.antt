@@ -1,4 +1,5 @@
-use Rattle.lite_halves.specs.Uses.{◌≡◌, ◌+◌, vec_len, Keeps}
+use Rattle.std.specs.Prelude.{◌≡◌, ◌+◌, vec_len}
+use Rattle.lite_halves.specs.Uses.{Keeps}
 use Rattle.lite_halves.specs.Entry.{asked_of}
 use Rattle.lite_halves.proofs.Driven.{Driven, JournalMade}
 use Rattle.lite_halves.proofs.journal.Journal.drive.Given as goal

@@ -1,4 +1,5 @@
-use Rattle.lite_halves.specs.Uses.{◌-◌, vec_capacity, vec_len, ap, arith, refl}
+use Rattle.std.specs.Prelude.{◌-◌, vec_capacity, vec_len}
+use Rattle.lite_halves.specs.Uses.{ap, arith, refl}
 use Rattle.lite_halves.specs.Entry.{Request, read_note}
 use Rattle.lite_halves.specs.Laws.Entry.{read_note_fits, read_note_part}
 use Rattle.lite_halves.proofs.Noted.{sound_push}

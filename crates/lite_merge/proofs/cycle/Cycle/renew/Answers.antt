@@ -1,4 +1,5 @@
-use Rattle.lite_merge.specs.Uses.{◌≡◌, Ok, Err, refl, Pending, end, item}
+use Rattle.std.specs.Prelude.{◌≡◌, Ok, Err}
+use Rattle.lite_merge.specs.Uses.{refl, Pending, end, item}
 use Rattle.lite_merge.proofs.cycle.Cycle.renew.Goals as goal
 
 pub returns-in-Err-clause-ran : goal.returns-in-Err-clause-ran

@@ -1,4 +1,5 @@
-use Rattle.lite_merge.specs.Uses.{◌≡◌, [], ◌∷◌, None, Some, refl, Pending, end, item}
+use Rattle.std.specs.Prelude.{◌≡◌, [], ◌∷◌, None, Some}
+use Rattle.lite_merge.specs.Uses.{refl, Pending, end, item}
 use Rattle.lite_merge.specs.Laws.Cycle.{lap_one, renewed}
 use Rattle.lite_merge.proofs.cycle.CycleStream.poll_next.Goals as goal
 

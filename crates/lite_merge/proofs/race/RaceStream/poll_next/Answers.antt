@@ -1,4 +1,5 @@
-use Rattle.lite_merge.specs.Uses.{[], ◌∷◌, refl, drawn_first, drawn_second}
+use Rattle.std.specs.Prelude.{[], ◌∷◌}
+use Rattle.lite_merge.specs.Uses.{refl, drawn_first, drawn_second}
 use Rattle.lite_merge.specs.Merge.{MergeRow}
 use Rattle.lite_merge.proofs.race.RaceStream.poll_next.Goals as goal
 

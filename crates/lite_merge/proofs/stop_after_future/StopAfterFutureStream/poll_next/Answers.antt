@@ -1,4 +1,5 @@
-use Rattle.lite_merge.specs.Uses.{◌≡◌, [], ◌∷◌, refl, Pending, end}
+use Rattle.std.specs.Prelude.{◌≡◌, [], ◌∷◌}
+use Rattle.lite_merge.specs.Uses.{refl, Pending, end}
 use Rattle.lite_merge.specs.Laws.StopAfterFuture.{beside_one}
 use Rattle.lite_merge.proofs.stop_after_future.StopAfterFutureStream.poll_next.Goals as goal
 

@@ -1,4 +1,5 @@
-use Rattle.lite_merge.specs.Uses.{◌≡◌, [], ◌∷◌, Some, None, end, item}
+use Rattle.std.specs.Prelude.{◌≡◌, [], ◌∷◌, Some, None}
+use Rattle.lite_merge.specs.Uses.{end, item}
 use Rattle.lite_merge.specs.Laws.Zip.{ready_pairs}
 use Rattle.lite_merge.proofs.zip.Zip.poll_pair.Goals as goal
 

@@ -1,4 +1,5 @@
-use Rattle.lite_merge.specs.Uses.{◌≡◌, [], ◌∷◌, Some, None, refl, Pending}
+use Rattle.std.specs.Prelude.{◌≡◌, [], ◌∷◌, Some, None}
+use Rattle.lite_merge.specs.Uses.{refl, Pending}
 use Rattle.lite_merge.proofs.zip.ZipStream.poll_next.Goals as goal
 
 pub returns-in-None-clause-ran : goal.returns-in-None-clause-ran

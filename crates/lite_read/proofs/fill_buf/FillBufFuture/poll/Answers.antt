@@ -1,4 +1,5 @@
-use Rattle.lite_read.specs.Uses.{◌∙◌, List, ℕ, refl, sym, ◌≡◌, Result, Some, Bor, MutBor, Error, Poll, Runs, ReadMark, fill_marks, LendsFront}
+use Rattle.std.specs.Prelude.{List, ℕ, ◌≡◌, Result, Some}
+use Rattle.lite_read.specs.Uses.{◌∙◌, refl, sym, Bor, MutBor, Error, Poll, Runs, ReadMark, fill_marks, LendsFront}
 use Rattle.lite_read.specs.FillBuf.{FillsOnce, held_after}
 use Rattle.lite_read.specs.declared.fill_buf.FillBuf.{FillBuf}
 use Rattle.lite_read.proofs.fill_buf.FillBufFuture.poll.Goals as goal

@@ -1,4 +1,5 @@
-use Rattle.lite_read.specs.Uses.{◌≡◌, [], Some, None, Ok, Err, refl, rules, common_steps, Ready, Pending}
+use Rattle.std.specs.Prelude.{◌≡◌, [], Some, None, Ok, Err}
+use Rattle.lite_read.specs.Uses.{refl, rules, common_steps, Ready, Pending}
 use Rattle.lite_read.proofs.Lacking.{before_found, before_none, lacks_before}
 use Rattle.lite_read.specs.Scan.{is_newline}
 use Rattle.lite_read.proofs.Items.{item_at_end, item_cut, item_fails, item_more, item_refused, item_waits}

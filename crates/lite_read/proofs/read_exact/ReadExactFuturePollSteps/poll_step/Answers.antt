@@ -1,4 +1,5 @@
-use Rattle.lite_read.specs.Uses.{◌≡◌, ◌<◌, [], ◌∷◌, Ok, Err, length, refl, rules, arith, Ready, Pending, ReadMark}
+use Rattle.std.specs.Prelude.{◌≡◌, ◌<◌, [], ◌∷◌, Ok, Err, length}
+use Rattle.lite_read.specs.Uses.{refl, rules, arith, Ready, Pending, ReadMark}
 use Rattle.lite_read.proofs.Filling.{ends_behind, exact_full, read_more, read_none, some_left}
 use Rattle.lite_read.proofs.read_exact.ReadExactFuturePollSteps.poll_step.Goals as goal
 

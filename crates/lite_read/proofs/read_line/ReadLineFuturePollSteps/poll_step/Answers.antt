@@ -1,4 +1,5 @@
-use Rattle.lite_read.specs.Uses.{◌≡◌, ◌∙◌, le_refl, [], Some, None, Ok, Err, take, refl, rules, ap, common_steps, Ready}
+use Rattle.std.specs.Prelude.{◌≡◌, [], Some, None, Ok, Err, take}
+use Rattle.lite_read.specs.Uses.{◌∙◌, le_refl, refl, rules, ap, common_steps, Ready}
 use Rattle.lite_read.proofs.Lacking.{lacks_through, through_found, through_none}
 use Rattle.lite_read.proofs.Cutting.{take_whole}
 use Rattle.lite_read.proofs.ReadLine.{filled_last, line_cut, line_more, line_refused}

@@ -1,5 +1,5 @@
-use Rattle.lite_read.specs.Uses.{◌≡◌, ◌<◌, ◌+◌, ◌-◌, max, vec_capacity, [], ◌∷◌, Ok, Err, length, ap, refl, rules, arith, length-take-le, common_steps, Ready}
-use Rattle.lite_read.specs.Uses.{Pending, ReadMark}
+use Rattle.std.specs.Prelude.{◌≡◌, ◌<◌, ◌+◌, ◌-◌, max, vec_capacity, [], ◌∷◌, Ok, Err, length}
+use Rattle.lite_read.specs.Uses.{ap, refl, rules, arith, length-take-le, common_steps, Ready, Pending, ReadMark}
 use Rattle.lite_read.proofs.Appending.{gives_pending, gives_value, read_none, read_some, refused, room_made}
 use Rattle.lite_read.proofs.Filling.{ends_behind}
 use Rattle.lite_read.specs.Appending.{read_front}

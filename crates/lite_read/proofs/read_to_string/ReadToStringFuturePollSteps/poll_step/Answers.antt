@@ -1,4 +1,5 @@
-use Rattle.lite_read.specs.Uses.{◌≡◌, ◌<◌, ◌+◌, max, Ok, Err, rules, arith, length-take-le, common_steps, Ready}
+use Rattle.std.specs.Prelude.{◌≡◌, ◌<◌, ◌+◌, max, Ok, Err}
+use Rattle.lite_read.specs.Uses.{rules, arith, length-take-le, common_steps, Ready}
 use Rattle.lite_read.specs.Holding.{room_for}
 use Rattle.lite_read.proofs.Strings.{answered, ended, failed, finished, read_some, refused, waited, wrote_long}
 use Rattle.lite_read.proofs.TextSteps.{text_pending, text_value}

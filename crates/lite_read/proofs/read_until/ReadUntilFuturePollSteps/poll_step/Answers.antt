@@ -1,4 +1,5 @@
-use Rattle.lite_read.specs.Uses.{◌≡◌, ◌∙◌, ◌-◌, le_refl, [], Some, None, Ok, Err, length, take, refl, rules, ap, common_steps, Ready}
+use Rattle.std.specs.Prelude.{◌≡◌, ◌-◌, [], Some, None, Ok, Err, length, take}
+use Rattle.lite_read.specs.Uses.{◌∙◌, le_refl, refl, rules, ap, common_steps, Ready}
 use Rattle.lite_read.proofs.Lacking.{lacks_through, through_found, through_none}
 use Rattle.lite_read.proofs.Cutting.{take_whole}
 use Rattle.lite_read.proofs.Until.{until_ends, until_fails, until_found, until_more, until_refused, until_waits}

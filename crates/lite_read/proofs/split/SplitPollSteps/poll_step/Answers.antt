@@ -1,4 +1,5 @@
-use Rattle.lite_read.specs.Uses.{◌≡◌, [], Some, None, Ok, Err, refl, rules, common_steps, Ready, Pending, is_byte}
+use Rattle.std.specs.Prelude.{◌≡◌, [], Some, None, Ok, Err}
+use Rattle.lite_read.specs.Uses.{refl, rules, common_steps, Ready, Pending, is_byte}
 use Rattle.lite_read.proofs.Lacking.{before_found, before_none, lacks_before}
 use Rattle.lite_read.proofs.Items.{item_at_end, item_fails, item_found, item_more, item_refused, item_waits}
 use Rattle.lite_read.proofs.split.SplitPollSteps.poll_step.Goals as goal

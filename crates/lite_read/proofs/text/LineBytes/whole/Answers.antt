@@ -1,4 +1,5 @@
-use Rattle.lite_read.specs.Uses.{IsUtf8, sym, subst}
+use Rattle.std.specs.Prelude.{IsUtf8}
+use Rattle.lite_read.specs.Uses.{sym, subst}
 use Rattle.lite_read.proofs.Texts.{line_utf8}
 use Rattle.lite_read.proofs.text.LineBytes.whole.Goals as goal
 

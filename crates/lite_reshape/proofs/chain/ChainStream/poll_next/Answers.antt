@@ -1,4 +1,5 @@
-use Rattle.lite_reshape.specs.Uses.{◌≡◌, [], ◌∷◌, refl, inl, item}
+use Rattle.std.specs.Prelude.{◌≡◌, [], ◌∷◌}
+use Rattle.lite_reshape.specs.Uses.{refl, inl, item}
 use Rattle.lite_reshape.proofs.chain.ChainStream.poll_next.Goals as goal
 
 pub returns-in-Some-clause-ran : goal.returns-in-Some-clause-ran

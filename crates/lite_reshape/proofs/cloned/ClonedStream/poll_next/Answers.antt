@@ -1,4 +1,5 @@
-use Rattle.lite_reshape.specs.Uses.{◌≡◌, refl, Pending, item}
+use Rattle.std.specs.Prelude.{◌≡◌}
+use Rattle.lite_reshape.specs.Uses.{refl, Pending, item}
 use Rattle.lite_reshape.specs.Cloned.{Clones, Refers}
 use Rattle.lite_reshape.specs.Laws.Expanding.{made_answers, none_answers}
 use Rattle.lite_reshape.proofs.cloned.ClonedStream.poll_next.Goals as goal

@@ -1,4 +1,5 @@
-use Rattle.lite_reshape.specs.Uses.{refl, called_at, Some, None, each_here}
+use Rattle.std.specs.Prelude.{Some, None}
+use Rattle.lite_reshape.specs.Uses.{refl, called_at, each_here}
 use Rattle.lite_reshape.proofs.PollSteps.{steps_on}
 use Rattle.lite_reshape.proofs.skip_while.SkipWhilePollSteps.poll_step.Goals as goal
 

@@ -1,4 +1,5 @@
-use Rattle.lite_reshape.specs.Uses.{◌≡◌, Some, None, rules, Ready, Pending, item, Calls, each_asked, each_here}
+use Rattle.std.specs.Prelude.{◌≡◌, Some, None}
+use Rattle.lite_reshape.specs.Uses.{rules, Ready, Pending, item, Calls, each_asked, each_here}
 use Rattle.lite_reshape.specs.Laws.Expanding.{held_answers, made_answers, none_answers}
 use Rattle.lite_reshape.specs.Laws.Then.{hands_pending, hands_value}
 use Rattle.lite_reshape.specs.Then.{HandsOut}

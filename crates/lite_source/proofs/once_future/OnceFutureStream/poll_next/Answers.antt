@@ -1,4 +1,5 @@
-use Rattle.lite_source.specs.Uses.{◌≡◌, [], ◌∷◌, refl, subst, Pending}
+use Rattle.std.specs.Prelude.{◌≡◌, [], ◌∷◌}
+use Rattle.lite_source.specs.Uses.{refl, subst, Pending}
 use Rattle.lite_source.proofs.once_future.OnceFutureStream.poll_next.Goals as goal
 
 pub returns-clause-ran : goal.returns-clause-ran

@@ -1,4 +1,5 @@
-use Rattle.lite_source.specs.Uses.{[], refl, obeys_on}
+use Rattle.std.specs.Prelude.{[]}
+use Rattle.lite_source.specs.Uses.{refl, obeys_on}
 use Rattle.lite_source.proofs.poll_fn.PollFnStream.poll_next.Goals as goal
 
 pub f-requires : goal.f-requires

@@ -1,4 +1,5 @@
-use Rattle.lite_source.specs.Uses.{◌≡◌, Some, None, Ok, Err, Ready}
+use Rattle.std.specs.Prelude.{◌≡◌, Some, None, Ok, Err}
+use Rattle.lite_source.specs.Uses.{Ready}
 use Rattle.lite_source.specs.TryUnfold.{try_item_of, try_seed_of}
 use Rattle.lite_source.specs.Laws.Unfolding.{unfolds_value}
 use Rattle.lite_source.proofs.try_unfold.TryUnfoldStream.poll_next.Goals as goal

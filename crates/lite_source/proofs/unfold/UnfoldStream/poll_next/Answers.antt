@@ -1,4 +1,5 @@
-use Rattle.lite_source.specs.Uses.{◌≡◌, Some, None, Ready}
+use Rattle.std.specs.Prelude.{◌≡◌, Some, None}
+use Rattle.lite_source.specs.Uses.{Ready}
 use Rattle.lite_source.specs.Unfold.{item_of, seed_of}
 use Rattle.lite_source.specs.Laws.Unfolding.{unfolds_value}
 use Rattle.lite_source.proofs.unfold.UnfoldStream.poll_next.Goals as goal

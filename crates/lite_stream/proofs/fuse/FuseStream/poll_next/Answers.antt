@@ -1,4 +1,5 @@
-use Rattle.lite_stream.specs.Uses.{rules, ◌≡◌, [], ◌∷◌, refl, end}
+use Rattle.std.specs.Prelude.{◌≡◌, [], ◌∷◌}
+use Rattle.lite_stream.specs.Uses.{rules, refl, end}
 use Rattle.lite_stream.proofs.fuse.FuseStream.poll_next.Goals as goal
 
 pub returns-in-None-clause-ran : goal.returns-in-None-clause-ran

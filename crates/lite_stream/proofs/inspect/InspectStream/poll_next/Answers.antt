@@ -1,4 +1,5 @@
-use Rattle.lite_stream.specs.Uses.{Some, refl, rules, called_at, CalledAt, Always}
+use Rattle.std.specs.Prelude.{Some}
+use Rattle.lite_stream.specs.Uses.{refl, rules, called_at, CalledAt, Always}
 use Rattle.lite_stream.specs.Inspect.{ShowsItem}
 use Rattle.lite_stream.specs.Laws.Pointwise.{exchanged}
 use Rattle.lite_stream.specs.Laws.EachItem.{each_again, each_here}

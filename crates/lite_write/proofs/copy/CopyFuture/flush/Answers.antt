@@ -1,4 +1,5 @@
-use Rattle.lite_write.specs.Uses.{◌≡◌, Ok, refl, rules, Ready}
+use Rattle.std.specs.Prelude.{◌≡◌, Ok}
+use Rattle.lite_write.specs.Uses.{refl, rules, Ready}
 use Rattle.lite_write.proofs.Copying.{writer_is_flushed}
 use Rattle.lite_write.proofs.copy.CopyFuture.flush.Goals as goal
 

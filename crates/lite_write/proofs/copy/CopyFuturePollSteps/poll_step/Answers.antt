@@ -1,4 +1,5 @@
-use Rattle.lite_write.specs.Uses.{◌≡◌, ◌<◌, [], ◌∷◌, Ok, true, false, length, refl, rules, common_steps, Ready, ahead}
+use Rattle.std.specs.Prelude.{◌≡◌, ◌<◌, [], ◌∷◌, Ok, true, false, length}
+use Rattle.lite_write.specs.Uses.{refl, rules, common_steps, Ready, ahead}
 use Rattle.lite_write.specs.Laws.Copy.{moves_both}
 use Rattle.lite_write.proofs.Copying.{is_copying, reader_ends, then_steps}
 use Rattle.lite_write.proofs.copy.CopyFuturePollSteps.poll_step.Goals as goal

@@ -1,4 +1,5 @@
-use Rattle.lite_write.specs.Uses.{◌≡◌, ◌<◌, [], ◌∷◌, Ok, Err, length, refl, rules, common_steps, Ready, Pending, WriteMark, offered_marks}
+use Rattle.std.specs.Prelude.{◌≡◌, ◌<◌, [], ◌∷◌, Ok, Err, length}
+use Rattle.lite_write.specs.Uses.{refl, rules, common_steps, Ready, Pending, WriteMark, offered_marks}
 use Rattle.lite_write.proofs.Handing.{write_one}
 use Rattle.lite_write.proofs.write_all.WriteAllFuturePollSteps.poll_step.Goals as goal
 

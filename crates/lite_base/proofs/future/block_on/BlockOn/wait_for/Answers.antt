@@ -1,4 +1,5 @@
-use Rattle.lite_base.specs.Uses.{rules, ◌≡◌, [], ◌∷◌, ◌++◌, refl, Ready, Pending}
+use Rattle.std.specs.Prelude.{◌≡◌, [], ◌∷◌, ◌++◌, refl}
+use Rattle.lite_base.specs.Uses.{rules, Ready, Pending}
 use Rattle.lite_base.specs.Laws.Answers.{waiting_gives, waiting_waiting}
 use Rattle.lite_base.proofs.future.block_on.BlockOn.wait_for.Goals as goal
 

@@ -1,4 +1,4 @@
-use Rattle.lite_base.specs.Uses.{[], refl}
+use Rattle.std.specs.Prelude.{[], refl}
 use Rattle.lite_base.specs.Laws.Answers.{up_to_one}
 use Rattle.lite_base.specs.Laws.Future.Calls.{obeys_until}
 use Rattle.lite_base.proofs.future.poll_fn.PollFnFuture.poll.Goals as goal

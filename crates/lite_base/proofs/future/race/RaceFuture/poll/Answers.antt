@@ -1,4 +1,4 @@
-use Rattle.lite_base.specs.Uses.{[], ◌∷◌, refl}
+use Rattle.std.specs.Prelude.{[], ◌∷◌, refl}
 use Rattle.lite_base.specs.Future.Picks.{PickRow}
 use Rattle.lite_base.specs.Laws.Answers.{up_to_one}
 use Rattle.lite_base.specs.Laws.Rows.{drawn_first, drawn_second}

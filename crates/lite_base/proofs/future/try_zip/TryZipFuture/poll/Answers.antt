@@ -1,4 +1,5 @@
-use Rattle.lite_base.specs.Uses.{[], ◌∷◌, refl, Ok, Err, inl, inr, arith, Ready}
+use Rattle.std.specs.Prelude.{[], ◌∷◌, refl, Ok, Err}
+use Rattle.lite_base.specs.Uses.{inl, inr, arith, Ready}
 use Rattle.lite_base.specs.Future.TryZip.{try_pair}
 use Rattle.lite_base.specs.Laws.Future.Half.{stands_rest}
 use Rattle.lite_base.specs.Laws.Future.Together.{together_row}

@@ -1,4 +1,4 @@
-use Rattle.lite_halves.specs.Uses.{◌≡◌, ◌≤◌, [], take}
+use Rattle.std.specs.Prelude.{◌≡◌, ◌≤◌, [], take}
 use Rattle.lite_halves.specs.Counts.{counted_in, numbers_of}
 use Rattle.lite_halves.specs.Entry.{notes_in}
 use Rattle.lite_halves.proofs.journalled.tally.SideBooks.fill.Given as goal
