@@ -83,6 +83,21 @@ def compile_program(name, kept):
         os.rename(made, kept)
 
 
+@contextlib.contextmanager
+def slot():
+    """Waits until fewer programs are being compiled than there are processors, by all tools together."""
+    with contextlib.ExitStack() as held:
+        while True:
+            for number in range(len(os.sched_getaffinity(0))):
+                lock = held.enter_context(open(f"{place()}/slot-{number}", "w", encoding="utf-8"))
+                with contextlib.suppress(BlockingIOError):
+                    fcntl.flock(lock, fcntl.LOCK_EX | fcntl.LOCK_NB)
+                    yield
+                    return
+            held.close()
+            time.sleep(0.2)
+
+
 def built(name):
     """Returns where the program is, once it is compiled. A tool that asks for it meanwhile waits."""
     os.makedirs(place(), exist_ok=True)
@@ -90,7 +105,8 @@ def built(name):
     with open(f"{kept}.lock", "w", encoding="utf-8") as lock:
         fcntl.flock(lock, fcntl.LOCK_EX)
         if not os.path.exists(kept):
-            compile_program(name, kept)
+            with slot():
+                compile_program(name, kept)
         os.utime(kept)
     return kept
 
