@@ -39,11 +39,6 @@ def place():
     return f"{cache}/sidzkura-programs"
 
 
-def of_crates():
-    """Returns the names of the crates that are programs."""
-    return [name for name in crates_in(TOP) if os.path.isfile(f"{TOP}/crates/{name}/src/main.rt")]
-
-
 def is_test(name):
     return name in crates_in(TOP, TEST_LINES)
 
