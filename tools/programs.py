@@ -15,7 +15,8 @@ import tempfile
 import time
 from concurrent.futures import ThreadPoolExecutor
 
-from repository import PARTS, TESTS, TEST_LINES, TOP, Crate, crates_in, lay_beside, lay_crates, stop, sum_of_crates, sum_of_folder
+import examples
+from repository import PARTS, TESTS, TEST_LINES, TOP, Crate, crates_in, lay_beside, lay_crates, lay_texts, stop, sum_of_crates, sum_of_folder
 
 FAULTS = f"{TOP}/tools/faults.c"
 # The programs beside the crates, with their lines for crates.txt.
@@ -40,11 +41,13 @@ def place():
 
 
 def is_test(name):
-    return name in crates_in(TOP, TEST_LINES)
+    return name == examples.NAME or name in crates_in(TOP, TEST_LINES)
 
 
 def line_and_folder(name):
-    """Returns a program's line for crates.txt and its folder, from the top."""
+    """Returns a program's line for crates.txt and its folder, from the top; the examples have none."""
+    if name == examples.NAME:
+        return examples.LINE, None
     if name in BESIDE:
         return BESIDE[name], name
     return (crates_in(TOP, TEST_LINES)[name].line, f"{TESTS}/{name}") if is_test(name) else (crates_in(TOP)[name].line, f"crates/{name}")
@@ -54,8 +57,10 @@ def sum_of_program(name):
     """The sum of all that a program is made from."""
     line, folder = line_and_folder(name)
     found = hashlib.sha256(sum_of_crates(crates_in(TOP), Crate(line).below, PARTS[:2]).encode() + line.encode())
-    for part in PARTS[:2]:
+    for part in PARTS[:2] if folder else ():
         found.update(sum_of_folder(f"{folder}/{part}"))
+    if not folder:
+        found.update("".join(examples.tests().values()).encode())
     with open(FAULTS, "rb") as faults:
         found.update(faults.read())
     return found.hexdigest()
@@ -66,7 +71,10 @@ def compile_program(name, kept):
     with tempfile.TemporaryDirectory(prefix=f"{name}-", dir=place()) as copy:
         lay_crates(copy)
         line, folder = line_and_folder(name)
-        at = f"{copy}/crates/{name}" if folder == f"crates/{name}" else lay_beside(copy, folder, line)
+        if not folder:
+            at = lay_texts(copy, examples.tests(), line)
+        else:
+            at = f"{copy}/crates/{name}" if folder == f"crates/{name}" else lay_beside(copy, folder, line)
         os.mkdir(f"{at}/c")
         shutil.copy(FAULTS, f"{at}/c")
         made = f"{copy}/made"

@@ -1,185 +1,85 @@
-"""The pages of docs/api: for each public item its signature, what its comment says, its contract, its marks and an example."""
-import glob
-import os
+"""The pages of docs/api: for each public item its signature, its comment, an example, its contract and a picture, by its module and its title."""
+import functools
 import re
 import textwrap
 
-from repository import FACADE, TOP, files_of, read_text
-from vocabulary import PASSED_ON, libraries
+import pictures
+from repository import TOP, read_text
+from sources import MODULES, PARAMETERS, Sources
+from vocabulary import PLAIN, cited, definitions, imported, libraries
 
-MODULES = ("future", "stream", "io", "laws")
-HEAD = re.compile(r"(?P<indent> *)(?P<public>pub |final )?(?:const )?(?P<kind>fn|struct|enum|trait|type) (?P<name>\w+)")
-BLOCK = re.compile(r"impl\b(?P<types>.*)|pub trait (?P<trait>\w+)")
-CLAUSE = re.compile(r" +(requires|ensures)\b")
 ROW = re.compile(r"^\|( .*)\|$", re.M)
-# What is no call, though it has an item's name.
-NO_CALL = re.compile(r"\s*(?://|#\[|(?:pub |final )*(?:fn|struct|enum|trait|type|impl|use) |ghost |requires |ensures )")
+IMPL = re.compile(r"^impl\b(?P<types>[^{]*?)\s(?P<trait>\w+)(?:<[^{]*?>)? for (?P<type>\w+)", re.M)
 WIDTH = 140
-# Where examples are looked for, in this order.
-PLACES = (
-    "crates/example_*/src/*.rt",
-    "crates/linecount/src/*.rt",
-    "tests/*/src/**/*.rs",
-    "replay/src/*.rs",
-    *(f"crates/{it}/src/*.rt" for it in ("nests_by_hand", "nests_polled", "nests_agree", "theorems_at_types", "test_support", "marks_met")),
+TRAITS = "Traits"
+# The groups of a page, with where the code of their items stands; the longest path decides.
+GROUPS = {
+    "future": {
+        "Waiting on this thread": ("lite_base/src/future/block_on.rt",),
+        "Making a future": ("lite_base/src/future",),
+        "Combining futures": tuple(f"lite_base/src/future/{it}.rt" for it in ("or", "race", "zip", "try_zip")),
+    },
+    "stream": {
+        "Sources": ("lite_source",),
+        "Adapters": ("lite_stream", "lite_reshape"),
+        "Merging and stopping": ("lite_merge",),
+        "Consuming": ("lite_consume",),
+        "Collecting": ("lite_gather",),
+        "Waiting on this thread": ("lite_consume/src/block_on.rt",),
+    },
+    "io": {
+        "Readers and writers": ("lite_buffered", "lite_io_base"),
+        "Reading": ("lite_read",),
+        "Writing": ("lite_write",),
+        "Bridges to std": ("lite_bridge",),
+        "Halves and journals": ("lite_halves",),
+    },
+    "laws": {
+        "Recording runs": ("lite_laws",),
+        "Calls that carry a theorem": ("lite_theorems",),
+        "Laws as calls": ("lite_base", "lite_bridge", "lite_buffered", "lite_io_base"),
+    },
+}
+# The tables of marks in docs/TABLES.md, by the trait that their types have.
+KINDS = ("AsyncRead", "AsyncWrite", "Stream", "Future")
+ABOUT_EXAMPLES = (
+    "An example is the body of a function `fn example(rt: HostRuntime) -> Result<(), Fail>`: `rt` is the runtime that `main` is given, and `?` returns"
+    " an allocation failure or an I/O error. `tools/tests` runs each of them."
 )
-# How many lines an example has at most.
-LONGEST = 5
 
 
-class Item:
-    """A public item: what it is called, where it stands, and what is said of it."""
-
-    def __init__(self, path, owner, kind, name, comment, head, said):
-        self.path, self.owner, self.kind, self.name = path, owner, kind, name
-        self.says = "\n".join(comment)
-        self.head = re.sub(r"^(?:pub |final )| where$|,$", "", re.sub(r",? where$", "", " ".join(" ".join(head).split())))
-        made = re.search(r"Made by \[`(?:\w+::)*(\w+)`\]", self.says)
-        self.made_by, self.kind_of_owner = made and made[1], None
-        self.asks, self.gives = ([it for it in clauses(said) if it.startswith(word)] for word in ("requires", "ensures"))
-        # The variants of an enum, with their comments.
-        self.variants = []
-
-    @property
-    def does_nothing(self):
-        return self.says.startswith("Does nothing.")
-
-    @property
-    def title(self):
-        return f"{self.owner}::{self.name}" if self.owner else self.name
+def wrapped(text):
+    return "\n".join(textwrap.wrap(" ".join(text.split()), WIDTH, break_long_words=False, break_on_hyphens=False))
 
 
-def clauses(lines):
-    """Returns the clauses of a contract, each with its lines."""
-    found = []
-    for line in lines:
-        if CLAUSE.match(line):
-            found.append([line])
-        elif found and line.strip() and not line.lstrip().startswith("//"):
-            found[-1].append(line)
-    return [textwrap.dedent("\n".join(it)).strip() for it in found]
+def plain(comment):
+    """Returns a comment without its links, which name sources that are not here."""
+    return re.sub(r"\[(`[^`]*`)\](?:\([^)]*\))?", r"\1", comment)
 
 
-def owner_of(line):
-    """Returns the type or the trait whose functions stand in the block that a line opens; None where they are of a trait's impl."""
-    found = BLOCK.match(line)
-    if not found or re.search(r"\bfor\b", line):
-        return None
-    # (the parameters of an impl may hold arguments of their own)
-    bare = re.sub(r"^<(?:[^<>]|<(?:[^<>]|<[^<>]*>)*>)*>", "", found["types"] or "").strip()
-    return found["trait"] or re.match(r"\w*", bare)[0]
+def laid_out(comment):
+    """Returns a comment as it stands on a page. What is no paragraph, such as a list or code, stays as it is."""
+    parts = re.split(r"\n\n+", plain(comment))
+    return "\n\n".join(f"**{it.removeprefix('# ')}**" if it.startswith("# ") else it if re.match(r"[-*|`\d]", it) else wrapped(it) for it in parts)
 
 
-def items_in(path):
-    """Yields the public items of a source, and the public functions of its types and traits."""
-    lines = read_text(f"{TOP}/{path}").splitlines()
-    owner, comment, at = None, [], 0
-    while at < len(lines):
-        line = lines[at]
-        found = HEAD.match(line)
-        if BLOCK.match(line):
-            owner = owner_of(line)
-        if line.strip().startswith("///"):
-            comment.append(line.strip().removeprefix("///").strip())
-        elif found:
-            end = at
-            while not re.search(r"(?:[{;]|\{\})$", lines[end]):
-                end += 1
-            told = [re.sub(r"(?:[{;]|\{\})$", "", it) for it in lines[at : end + 1]]
-            first = next((number for number, it in enumerate(told) if CLAUSE.match(it)), len(told))
-            inner = len(found["indent"]) == 4
-            if found["public"] and not inner or inner and owner and (found["public"] or owner_is_trait(lines, at)):
-                item = Item(path, owner if inner else None, found["kind"], found["name"], comment, told[:first], told[first:])
-                if item.kind == "enum":
-                    item.variants = lines[end + 1 : lines.index("}", end)]
-                yield item
-            comment, at = [], end
-        elif not line.strip().startswith("#["):
-            comment = []
-        at += 1
+def first_sentence(comment):
+    found = re.match(r"(.*?[.:])(?:\s|$)", " ".join(plain(comment).split()) + " ")
+    return found[1].rstrip(":") if found else ""
 
 
-def owner_is_trait(lines, at):
-    return next(it for it in reversed(lines[:at]) if re.match(r"impl\b|pub trait ", it)).startswith("pub trait")
+def heading(item):
+    return f"{'method' if item.owner and item.kind == 'fn' else item.kind} `{item.title}`"
 
 
-def passed_on(text):
-    """Yields the crate, the module and the name of each item that a module of the facade passes on."""
-    for found in PASSED_ON.finditer(text):
-        path = found["path"].split("::")
-        for name in [it.strip() for it in found["names"].split(",")] if found["names"] else [path.pop()]:
-            if name:
-                yield path[0], path[-1], name
+def linked(item, text):
+    """Returns a link within a page to an item's entry."""
+    return f"[{text}](#{re.sub(r'[^a-z0-9_-]', '', heading(item).lower().replace(' ', '-'))})"
 
 
-def items_of(module, everything):
-    """Returns the public items of a module of the facade, with the functions of their types and traits."""
-    path = f"crates/{FACADE}/src/{module}.rt"
-    found = [it for it in everything if it.path == path]
-    for crate, inner, name in passed_on(read_text(f"{TOP}/{path}")):
-        same = [it for it in everything if it.name == name and not it.owner and it.path.startswith(f"crates/{crate}/")]
-        near = [it for it in same if f"/{inner}.rt" in it.path or f"/{inner}/" in it.path and it.kind != "fn"]
-        found += (near or same)[:1]
-    homes = {it.name: it.path.split("/")[1] for it in found if it.kind != "fn"}
-    owners, here = {it.name: it for it in found if it.kind != "fn"}, {it.title for it in found}
-    found += [it for it in everything if it.owner in homes and it.path.split("/")[1] == homes[it.owner] and it.title not in here]
-    for it in found:
-        if it.owner in owners:
-            it.kind_of_owner, it.made_by = owners[it.owner].kind, owners[it.owner].made_by
-    return sorted(found, key=lambda it: (it.title.lower(), it.title))
-
-
-def statement(lines, at):
-    """Returns the statement that has this line, where it is not too long."""
-    start, end = at, at
-    while start and not re.search(r"[;{}]$|^\s*//|^$|\]$", lines[start - 1]):
-        start -= 1
-    while end + 1 < len(lines) and not re.search(r"[;{]$|^\s*\}$", lines[end]):
-        end += 1
-    # (a value at the end of a block has no semicolon)
-    end -= end > at and lines[end].strip() == "}"
-    return lines[start : end + 1] if end - start < LONGEST else None
-
-
-def called(item, module, text):
-    """Returns what a call of an item looks like in a source, and None where the source can't name it."""
-    if item.kind != "fn":
-        return rf"\b{item.name}\b"
-    is_method = "self" in item.head.partition(")")[0]
-    if is_method and item.kind_of_owner == "trait":
-        return rf"\.{item.name}(?:::<[^;]*>)?\("
-    if item.owner:
-        near = re.search(rf"\b{item.owner}\b" + (rf"|(?:\b{module}::|\.){item.made_by}\(" if item.made_by else ""), text)
-        return (rf"\.{item.name}\(" if is_method else rf"\b{item.owner}::{item.name}\(") if near else None
-    in_scope = re.search(rf"\b(?:{module}|make|lite_\w+)::(?:\{{[^}}]*\b{item.name}\b|{item.name}\b(?!\())", text)
-    return rf"(?<![.\w:]){item.name}(?:::<[^;]*>)?\(" if in_scope else rf"\b{module}::{item.name}(?:::<[^;]*>)?\("
-
-
-def example(item, module, texts):
-    """Returns a statement of a program or a test that calls an item, and the source that it stands in."""
-    for path, text in texts:
-        call, lines = called(item, module, text), text.splitlines()
-        for at, line in enumerate(lines):
-            if not call or not re.search(call, line) or NO_CALL.match(line):
-                continue
-            found = statement(lines, at)
-            if found and not NO_CALL.match(found[0]):
-                return path, textwrap.dedent("\n".join(found))
-            if item.kind == "trait":
-                return path, line.strip()
-    return None
-
-
-def case_of(item, cases):
-    """Returns the shortest case that has an item's word, and the file that it stands in."""
-    found = [(len(line), line, path) for path, line in cases if item.kind == "fn" and item.name in line.partition(" => ")[0].split()]
-    return min(found)[1:] if found else None
-
-
-def words_of(item, rows):
-    """Returns the words of docs/DEFINITIONS.md for the names that a contract says."""
-    said = set(re.findall(r"[A-Z][\w']+", " ".join(item.gives)))
-    return [words for words, names in rows if said & names][:2]
+def listed(item):
+    """Returns an item's line in the contents."""
+    return f"- {linked(item, f'`{item.title}`')}{': ' if item.says else ''}{first_sentence(item.says)}"
 
 
 def rows_in(table):
@@ -187,88 +87,103 @@ def rows_in(table):
     return [[cell.strip() for cell in re.split(r" \|", it)] for it in ROW.findall(table)]
 
 
-def rows_of_words():
-    """Returns the rows of docs/DEFINITIONS.md: what each says, and the names that it says it of."""
-    rows = rows_in(read_text(f"{TOP}/docs/DEFINITIONS.md"))
-    # (in some tables the names stand behind the words)
-    told = [([*cells, names.partition("`")[0].strip(" :")], names) for *cells, names in rows]
-    return [(": ".join(filter(None, words)), set(re.findall(r"`([A-Z][\w']+)`", names))) for words, names in told]
-
-
-def rows_of_marks():
-    """Returns the rows of the tables of marks, by the type: each as one line."""
-    found = {}
-    told = read_text(f"{TOP}/docs/TABLES.md").partition("## Which marks a type carries")[2].partition("## Cases")[0]
-    for table in told.split("\n### ")[1:]:
-        head, *rows = rows_in(table)
-        for row in rows:
-            found.setdefault(row[0].strip("`"), []).append("; ".join(f"{name}: {cell}" for name, cell in zip(head[1:], row[1:])))
-    return found
-
-
-def rows_of_polls():
-    """Returns what the polls of what a call makes ask, by the module and the call."""
-    told = read_text(f"{TOP}/docs/TABLES.md").partition("## What a poll asks")[2].partition("## What no list says")[0]
-    found = {}
-    for module, table in zip(("stream", "io"), re.findall(r"(?:^\|.*\n)+", told, re.M)):
-        for names, asked, _, counts in rows_in(table)[1:]:
-            said = f"{asked}." + (f" Its rank counts where: {counts}." if counts else "")
-            found |= {(module, name): said for name in re.findall(r"`(?:io::)?(\w+)`", names)}
-    return found
-
-
-def wrapped(text):
-    return "\n".join(textwrap.wrap(" ".join(text.split()), WIDTH, break_long_words=False, break_on_hyphens=False))
-
-
-def paragraphs(comment):
-    """Returns a comment as it stands on a page: its links name sources that are not here."""
-    plain = re.sub(r"\[(`[^`]*`)\](?:\([^)]*\))?", r"\1", comment)
-    return "\n\n".join(wrapped(it) for it in plain.split("\n\n"))
-
-
 class Reference:
     """What the pages are made of."""
 
-    def __init__(self):
-        paths = [f"crates/{crate}/src/{file}" for crate in libraries() for file in files_of(f"{TOP}/crates/{crate}/src")]
-        self.everything = [item for path in paths for item in items_in(path)]
-        programs = [it for place in PLACES for it in sorted(glob.glob(place, root_dir=TOP, recursive=True))]
-        self.texts = [(it, read_text(f"{TOP}/{it}")) for it in programs]
-        files = [it for it in sorted(glob.glob("cases/*.txt", root_dir=TOP)) if "original" not in it]
-        self.cases = [(it, line) for it in files for line in read_text(f"{TOP}/{it}").splitlines() if " => " in line]
-        self.words, self.marks, self.polls = rows_of_words(), rows_of_marks(), rows_of_polls()
+    def __init__(self, sources=None):
+        self.sources = sources or Sources()
+        self.words = {(it.crate, it.module, it.name): it for crate in libraries() for it in definitions(crate)}
+        self.pictures = pictures.by_item()
+        # The type that has a trait, by the trait and its name: no two of one name have one trait.
+        self.impls = {}
+        for source in self.sources.by_module.values():
+            for found in IMPL.finditer(source.text):
+                self.impls.setdefault((found["trait"], found["type"]), self.sources.resolve(source, found["type"]))
 
-    def shown(self, item, module):
-        """Returns an item's examples: a statement of a program, of a type one that makes it, and a case."""
-        found = []
-        makers = [it for it in self.everything if it.kind == "fn" and item.kind != "fn" and it.name == item.made_by]
-        methods = [it for it in self.everything if it.owner == item.name and item.kind == "trait"]
-        of_code = next(filter(None, (example(it, module, self.texts) for it in (item, *makers, *methods))), None)
-        if of_code:
-            found.append(f"Example, of [{of_code[0]}](../../{of_code[0]}):\n\n```text\n{of_code[1]}\n```")
-        case = case_of(item, self.cases)
-        if case:
-            found.append(f"Case, of [{case[1]}](../../{case[1]}): `{case[0]}`")
-        return found
+    @functools.cache
+    def names_in(self, path):
+        """Returns where the ghost names of a source are from."""
+        return imported(self.sources.by_path[path].text)
+
+    def made_by(self, item):
+        """Returns the item that a call's result is made of."""
+        source = self.sources.by_path[item.path]
+        found = re.search(r"\) -> (.*?)(?: where |$)", item.head)
+        named = (self.sources.resolve(source, name) for name in re.findall(r"\w+", found[1] if found else ""))
+        return next((it for it in named if it and it.kind not in ("trait", "fn")), None)
+
+    def group(self, item, module):
+        """Returns the group of an item on its module's page."""
+        is_of_any = (item.owner or item).name.endswith("Ext")
+        if item.kind == "trait" or item.owner and item.owner.kind == "trait" and not is_of_any:
+            return TRAITS
+        made = self.made_by(item) if item.kind == "fn" and (not item.owner or is_of_any) else None
+        for at in filter(None, (made, item.owner, item)):
+            there = [(len(place), name) for name, places in GROUPS[module].items() for place in places if at.path.startswith(f"crates/{place}")]
+            if there:
+                return max(there)[1]
+        return next(iter(GROUPS[module]))
+
+    def groups(self, module):
+        """Returns the items of a module's page by their groups: calls before types, each type with its methods."""
+        items = sorted(self.sources.items_of(module).values(), key=lambda it: (is_type(it.owner or it), it.title.lower(), it.title))
+        return {name: [it for it in items if self.group(it, module) == name] for name in (TRAITS, *GROUPS[module])}
+
+    def words_of(self, item):
+        """Yields the definitions that an item's contract names."""
+        names = dict.fromkeys(cited_in(item, self.names_in(item.path)))
+        yield from (self.words[it] for it in names if it in self.words and it[1] not in PLAIN)
 
     def entry(self, item, module):
         """Returns the part of a page that is an item's."""
         head = textwrap.fill(item.head, WIDTH, subsequent_indent="    ")
-        parts = [f"### `{item.title}`", "```text\n" + "\n".join([f"{head} {{", *item.variants, "}"] if item.variants else [head]) + "\n```"]
-        parts += [paragraphs(item.says)] if item.says else []
-        parts += [wrapped(f"In words: {it}") for it in words_of(item, self.words)]
-        for name, said in (("Asks", item.asks), ("Contract", item.gives)):
-            parts += [f"{name}:\n\n```text\n" + "\n".join(said) + "\n```"] if said else []
-        polled = self.polls.get((module, item.name)) if item.kind_of_owner != "struct" else None
-        parts += [wrapped(f"A poll of it asks: {polled}")] if polled else []
-        parts += [wrapped(f"Marks: {it}.") for it in self.marks.get(item.name, []) if item.kind in ("struct", "enum")]
-        return "\n\n".join([*parts, *self.shown(item, module), f"Code: [{item.path}](../../{item.path})."])
+        parts = [f"### {heading(item)}", code([f"{head} {{", *item.variants, "}"] if item.variants else [head])]
+        parts += [laid_out(item.says)] if item.says else []
+        parts += [f"Example:\n\n{code([it], 'rust')}" for it in item.examples]
+        picture = self.pictures.get(f"{module}::{item.title}")
+        parts += [f"Polled so (`P` is `Pending`, `E` the end of the stream):\n\n{code(picture.lines())}\n\nThe same [as a picture](../{picture.file})."] if picture else []
+        parts += [f"Contract:\n\n{code([*item.asks, *item.gives])}"] if item.asks or item.gives else []
+        words = [f"- `{it.name}` ([{it.module}](../../{it.path})): {it.says}" for it in self.words_of(item)]
+        parts += ["\n".join(words)] if words else []
+        return "\n\n".join([*parts, f"Code: [{item.path}](../../{item.path})."])
+
+    def marks(self, module):
+        """Yields the tables of the marks of a module's types, each row with its type's entry."""
+        items = {id(it): it for it in self.sources.items_of(module).values()}
+        told = read_text(f"{TOP}/docs/TABLES.md").partition("## Which marks a type carries")[2].partition("## Cases")[0]
+        for head, *rows in map(rows_in, told.split("\n### ")[1:]):
+            found = [(self.impls.get((head[0].strip("`"), re.match(r"\w*", row[0].strip("`"))[0])), row) for row in rows]
+            here = [[linked(it, row[0]), *row[1:]] for it, row in found if id(it) in items]
+            if here:
+                yield "\n".join(f"| {' | '.join(row)} |" for row in [head, ["---"] * len(head), *here])
+
+    def page(self, module):
+        source = self.sources.by_module["futures_lite", (module,)]
+        parts = [f"# `futures_lite::{module}`", source.text.splitlines()[0].removeprefix("//! "), ABOUT_EXAMPLES, "## Contents"]
+        groups = {name: items for name, items in self.groups(module).items() if items}
+        for name, items in groups.items():
+            parts.append("\n".join([f"**{name}**\n", *map(listed, items)]))
+        for name, items in groups.items():
+            parts += [f"## {name}", *(self.entry(it, module) for it in items)]
+        marks = list(self.marks(module))
+        about = "What the marks mean, and the rows of types of std, stand in [TABLES](../TABLES.md#which-marks-a-type-carries)."
+        return "\n\n".join([*parts, *(["## Marks", about, *marks] if marks else [])]) + "\n"
 
     def pages(self):
-        """Yields the path of each page, its text, and the items that have no example."""
-        for module in MODULES:
-            found = items_of(module, self.everything)
-            head = read_text(f"{TOP}/crates/{FACADE}/src/{module}.rt").splitlines()[0].removeprefix("//! ")
-            text = "\n\n".join([f"# `futures_lite::{module}`", head, *(self.entry(it, module) for it in found)])
-            yield f"docs/api/{module}.md", f"{text}\n", [it for it in found if not self.shown(it, module) and not it.does_nothing], found
+        """Yields the path of each page and each picture, and its text."""
+        for module in filter(self.sources.items_of, MODULES):
+            yield f"docs/api/{module}.md", self.page(module)
+        for picture in self.pictures.values():
+            yield f"docs/{picture.file}", picture.svg()
+
+
+def is_type(item):
+    return item.kind in ("struct", "enum", "type")
+
+
+def cited_in(item, names):
+    return list(cited(" ".join(re.findall(r"[\w'-]+", " ".join([*item.asks, *item.gives]))), names))
+
+
+def code(lines, language="text"):
+    return f"```{language}\n" + "\n".join(lines) + "\n```"

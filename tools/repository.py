@@ -114,17 +114,23 @@ def lay_crates(copy):
         hand_on(name, TOP, copy)
 
 
-def lay_beside(copy, folder, line):
-    """Copies a crate that stands beside the others, by its line for crates.txt, into the copy; returns its folder there."""
+def lay_texts(copy, texts, line):
+    """Writes a crate that stands beside the others, by its line for crates.txt and its files, into the copy; returns its folder there."""
     at = f"{copy}/crates/{Crate(line).name}"
-    for file in files_of(f"{TOP}/{folder}"):
+    for file, text in texts.items():
         stem, suffix = os.path.splitext(file)
-        to = f"{at}/{stem}{IN_A_CRATE[suffix]}"
+        to = f"{at}/{stem}{IN_A_CRATE.get(suffix, suffix)}"
         os.makedirs(os.path.dirname(to), exist_ok=True)
-        shutil.copy(f"{TOP}/{folder}/{file}", to)
+        with open(to, "w", encoding="utf-8") as write:
+            write.write(text)
     with open(f"{copy}/crates.txt", "a", encoding="utf-8") as lines:
         lines.write(f"{line}\n")
     return at
+
+
+def lay_beside(copy, folder, line):
+    """Copies a crate that stands beside the others, by its line for crates.txt, into the copy; returns its folder there."""
+    return lay_texts(copy, {file: read_text(f"{TOP}/{folder}/{file}") for file in files_of(f"{TOP}/{folder}")}, line)
 
 
 @functools.cache

@@ -1,5 +1,6 @@
 """The words of the ghost language: the definitions in specs/, each with the comment over it, and the calls whose runs they are."""
 import functools
+import itertools
 import os
 import re
 
@@ -212,10 +213,25 @@ def rows_of_calls():
         ]
 
 
-def rows_of_words():
-    words = sorted((it for crate in libraries() for it in definitions(crate)), key=lambda it: (it.name.lower(), it.name))
-    for word in words:
-        yield [f"`{word.name}`", word.says.replace("|", "\\|"), link(word.path, f"{word.crate} {word.module.replace('.', '/')}")]
+def head_of(path):
+    """Returns what a file of specs/ says of itself in its first lines."""
+    lines = itertools.takewhile(lambda it: it.startswith("--"), read_text(f"{TOP}/{path}").splitlines())
+    return " ".join(line.lstrip(" -") for line in lines)
+
+
+def about_crate(crate):
+    """Returns what a crate says of itself in its first paragraph."""
+    lines = itertools.takewhile(lambda it: it.startswith("//! "), read_text(f"{TOP}/crates/{crate}/src/lib.rt").splitlines())
+    return " ".join(line.removeprefix("//! ") for line in lines)
+
+
+def words_of(crate):
+    """Yields the part of the glossary that is a crate's: the definitions of each file of its specs/, with the comments over them."""
+    for module, words in itertools.groupby(definitions(crate), key=lambda it: it.module):
+        words = list(words)
+        yield f"**{link(words[0].path, module.replace('.', '/'))}**: {head_of(words[0].path)}\n"
+        yield from (f"- `{it.name}`: {it.says}" for it in words)
+        yield ""
 
 
 def table(head, rows):
@@ -227,8 +243,9 @@ def glossary():
     """Returns what docs/GLOSSARY.md has to be: its head as it stands, and the tables."""
     head = read_text(f"{TOP}/docs/GLOSSARY.md").partition(HEAD_ENDS)[0]
     calls_told = table(["Call", "Kind", "Code", "Definition", "Laws"], sorted(rows_of_calls()))
-    words_told = table(["Word", "Says", "Stands in"], rows_of_words())
-    return f"{head}{HEAD_ENDS}\n{calls_told}\n## Words\n\n{words_told}"
+    told = {crate: "\n".join(words_of(crate)) for crate in libraries()}
+    words_told = "\n".join(f"## `{crate}`\n\n{about_crate(crate)}\n\n{words}" for crate, words in told.items() if words)
+    return f"{head}{HEAD_ENDS}\n{calls_told}\n{words_told.rstrip()}\n"
 
 
 def faults():

@@ -1,4 +1,5 @@
 //! What is printed of a case.
+use crate::heard::Counts;
 use futures_lite::{Context, Future, Poll, Stream};
 use std::alloc::AllocError;
 
@@ -102,6 +103,24 @@ impl Answers {
         for _ in 0..self.polls {
             self.polled(stream, cx)?;
             self.hint(stream)?;
+        }
+        Ok(())
+    }
+
+    /// Polls a stream as often as there are polls left, with the counts of the scripts' polls after each.
+    pub(crate) fn drive_with_counts<S: Stream<Item = i64>>(
+        &mut self,
+        stream: &mut S,
+        cx: &mut Context<'_>,
+        counts: &Counts,
+    ) -> Result<(), AllocError> {
+        for _ in 0..self.polls {
+            self.polled(stream, cx)?;
+            self.text.push_str("(")?;
+            for count in counts.each() {
+                self.size(count)?;
+            }
+            self.text.push_str(")")?;
         }
         Ok(())
     }

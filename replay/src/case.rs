@@ -2,6 +2,7 @@
 use crate::answers::Answers;
 pub(crate) use crate::answers::finish;
 use crate::consuming::Consumer;
+use crate::heard::Counts;
 use crate::kid::Kid;
 use crate::layer::Layer;
 use crate::leaf::{Build, Leaf};
@@ -11,7 +12,7 @@ use crate::trying::Trial;
 use crate::words::{Fault, Words};
 use crate::{future_nest, io_case, wakes};
 use futures::task::Solo;
-use futures_lite::Context;
+use futures_lite::{Context, StreamExt};
 use std::alloc::{AllocGlobal, Global};
 use std::sync::Wait;
 
@@ -40,6 +41,7 @@ pub(crate) fn answered<R: Wait + AllocGlobal + Copy + Drop>(
         "fused" => future_nest::fused(alloc, cx, words, &mut answers)?,
         "wakes" => wakes::of_stream(alloc, solo, words, &mut answers)?,
         "wakes_future" => wakes::of_future(alloc, solo, words, &mut answers)?,
+        "polls" => with_counts(alloc, cx, words, &mut answers)?,
         "rest" => of_lent_nest(alloc, cx, words, &mut answers)?,
         mode => of_nest(mode, alloc, cx, words, &mut answers)?,
     }
@@ -70,6 +72,30 @@ fn of_nest(
         Some(trial) => trial.answered(Nest::build(alloc, words)?, cx, answers),
         None => Err(Fault::Words),
     }
+}
+
+/// Polls a nest or `drain` of it, and tells behind each answer how often each script was polled so far.
+fn with_counts(
+    alloc: Global,
+    cx: &mut Context<'_>,
+    words: &mut Words<'_>,
+    answers: &mut Answers,
+) -> Result<(), Fault> {
+    words.counts = Some(Counts::new(alloc)?);
+    let is_drained = words.first() == "drain";
+    if is_drained {
+        words.take()?;
+    }
+    let mut nest = Nest::build(alloc, words)?;
+    let Some(counts) = &words.counts else {
+        return Err(Fault::Words);
+    };
+    if is_drained {
+        answers.drive_with_counts(&mut nest.drain(), cx, counts)?;
+    } else {
+        answers.drive_with_counts(&mut nest, cx, counts)?;
+    }
+    Ok(())
 }
 
 /// A future that takes its stream is lent it, and what is left of the stream is polled after the value.

@@ -3,6 +3,7 @@ ghost use Rattle.futures_lite.specs.Own.{AnyAnswers, NoHint, anything_stream};
 
 use crate::bursts::{Bell, Later, TryStep, UnfoldStep};
 use crate::closures::{later, try_unfolding, unfolding};
+use crate::heard::Heard;
 use crate::trying::either;
 use crate::words::{Fault, Words, answers_of, numbers_of};
 use futures_lite::stream::{
@@ -29,6 +30,7 @@ fn eleven() -> i64 {
 #[derive(Drop)]
 pub(crate) enum Leaf {
     Script(Script<i64>),
+    Heard(Heard),
     Bell(Bell<Script<i64>>),
     Iter(Iter<IntoIter<i64>>),
     Once(Once<i64>),
@@ -70,6 +72,7 @@ impl Stream for Leaf {
     fn poll_next(&mut self, cx: &mut Context<'_>) -> Poll<Option<i64>> {
         match self {
             Leaf::Script(s) => s.poll_next(cx),
+            Leaf::Heard(s) => s.poll_next(cx),
             Leaf::Bell(s) => s.poll_next(cx),
             Leaf::Iter(s) => s.poll_next(cx),
             Leaf::Once(s) => s.poll_next(cx),
@@ -98,6 +101,7 @@ impl Stream for Leaf {
     fn size_hint(&self) -> (usize, Option<usize>) {
         match self {
             Leaf::Script(s) => s.size_hint(),
+            Leaf::Heard(s) => s.size_hint(),
             Leaf::Bell(s) => s.size_hint(),
             Leaf::Iter(s) => s.size_hint(),
             Leaf::Once(s) => s.size_hint(),
@@ -137,7 +141,11 @@ fn script_of(alloc: Global, words: &mut Words<'_>) -> Result<Script<i64>, Fault>
 impl Build for Leaf {
     fn build(alloc: Global, words: &mut Words<'_>) -> Result<Leaf, Fault> {
         if words.first().starts_with("S:") {
-            return Ok(Leaf::Script(script_of(alloc, words)?));
+            let script = script_of(alloc, words)?;
+            return Ok(match &mut words.counts {
+                Some(counts) => Leaf::Heard(counts.heard(script)?),
+                None => Leaf::Script(script),
+            });
         }
         let word = words.take()?;
         if let Some(numbers) = word.strip_prefix("I:") {

@@ -8,6 +8,7 @@ mod case;
 mod closures;
 mod consuming;
 mod future_nest;
+mod heard;
 mod io_bridges;
 mod io_calls;
 mod io_case;
@@ -52,6 +53,7 @@ fn main(rt: HostRuntime) -> io::Result<()> {
             &other,
             &mut Words {
                 words: words.as_slice(),
+                counts: None,
             },
         );
         cx.cancel();

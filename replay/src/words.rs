@@ -1,4 +1,5 @@
 //! The words of a case, taken one after the other.
+use crate::heard::Counts;
 use futures_lite::Poll;
 use std::alloc::{AllocError, Global};
 
@@ -27,6 +28,8 @@ impl<T: Drop> From<std::alloc::AllocFailed<T>> for Fault {
 #[derive(Drop)]
 pub(crate) struct Words<'a> {
     pub(crate) words: &'a [&'a str],
+    /// How often each script is polled, where the mode tells it.
+    pub(crate) counts: Option<Counts>,
 }
 
 impl<'a> Words<'a> {
