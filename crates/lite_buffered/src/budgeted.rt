@@ -8,13 +8,16 @@ use lite_io_base::{
 use std::io;
 use std::io::{IoSlice, SeekFrom};
 
-/// A reader that is pending once more after so many bytes and errors in a row, so that whoever reads it can turn to another
-/// task.
+/// A reader that returns `Pending` after so many bytes and errors in a row, so that another task can run.
 ///
-/// Made by [`with_budget`](crate::make::with_budget). It tells what its reader does, in order. After as many bytes and errors
-/// as its budget without a pending between them it wakes its context and is pending once, in a call that does not ask its
-/// reader. Its rank, over any reader, is how many may come before that. It writes and seeks as its reader does, and lends
-/// what that lends, as far as the budget goes. The original has no such type.
+/// Returned by [`with_budget`](crate::make::with_budget). It gives what its inner reader gives, in the same
+/// order. After as many bytes and errors as its budget, with no `Pending` between them, it wakes the task and
+/// returns `Pending` once. It does not poll the inner reader in that call. So it is
+/// [`CountedRead`](lite_io_base::CountedRead) over any reader; its rank is how many bytes and errors are left
+/// before that.
+///
+/// It writes and seeks as its inner reader does. Its buffer is that of the inner reader, up to what is left
+/// of the budget.
 #[derive(Debug, Drop)]
 pub struct Budgeted<R> {
     reader: R,
@@ -40,14 +43,39 @@ impl<R> Budgeted<R> {
         }
     }
 
-    /// The inner reader.
+    /// Borrows the inner reader.
+    ///
+    /// # Examples
+    ///
+    /// ```
+    /// use futures_lite::{AsyncReadExt, future};
+    ///
+    /// let mut reader = b"hello".as_slice().with_budget(2);
+    /// future::block_on(&rt, reader.read(&mut [0; 8]))??;
+    /// assert_eq!(rt; *reader.get_ref(), b"llo".as_slice());
+    /// ```
     pub fn get_ref(&self) -> &R
         ensures { result.now ≡ budgeted_inner self.now }
     {
         &self.reader
     }
 
-    /// The inner reader, to be changed. What it reads meanwhile doesn't count.
+    /// Borrows the inner reader mutably. What is read from it this way does not count towards the budget.
+    ///
+    /// # Examples
+    ///
+    /// ```
+    /// use futures_lite::{AsyncReadExt, future};
+    ///
+    /// let mut reader = b"hello".as_slice().with_budget(2);
+    /// let mut buf = [b'-'; 2];
+    /// future::block_on(&rt, reader.get_mut().read(&mut buf))??;
+    ///
+    /// // The budget is whole: this read is ready at once.
+    /// let ready = future::block_on(&rt, future::poll_once(reader.read(&mut buf)))?;
+    /// assert!(rt; ready.is_some());
+    /// assert_eq!(rt; buf, *b"ll");
+    /// ```
     pub fn get_mut(&mut self) -> &mut R
         ensures value { result.now ≡ budgeted_inner self.old }
         ensures* writes_back { sem 𝓛 (Lends (the_row R.row) R.row self.entry result
@@ -56,7 +84,17 @@ impl<R> Budgeted<R> {
         &mut self.reader
     }
 
-    /// The inner reader.
+    /// Returns the inner reader.
+    ///
+    /// # Examples
+    ///
+    /// ```
+    /// use futures_lite::{AsyncReadExt, future};
+    ///
+    /// let mut reader = b"hello".as_slice().with_budget(2);
+    /// future::block_on(&rt, reader.read(&mut [0; 8]))??;
+    /// assert_eq!(rt; reader.into_inner(), b"llo".as_slice());
+    /// ```
     pub fn into_inner(self) -> R
         ensures { result ≡ budgeted_inner self }
     {

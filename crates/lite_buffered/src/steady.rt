@@ -1,4 +1,4 @@
-//! The readers whose tale does not depend on when they were pending, and the writer that leaves the same bytes.
+//! The buffered types whose bytes, errors and ends do not depend on when they return `Pending`.
 ghost use Rattle.lite_buffered.specs.BufReader.{ThroughBuffer};
 ghost use Rattle.lite_buffered.specs.Budgeted.{BudgetsMarks};
 ghost use Rattle.lite_buffered.specs.Chain.{ChainsReaders};
