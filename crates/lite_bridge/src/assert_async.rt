@@ -142,7 +142,7 @@ impl<T: Read> CalmRead for AssertAsync<T> {
     ghost calm = { spends_calm (λ x. T.remaining (handle_of x)) };
 }
 
-// Two of which the same bytes are known, where no read fails: std doesn't say when an error comes.
+// For two values of which the same bytes are known, if no read fails: std does not say when an error comes.
 impl<T: Read> SteadyRead for AssertAsync<T> {
     ghost use Rattle.lite_bridge.specs.AssertAsync.{handle_of};
 

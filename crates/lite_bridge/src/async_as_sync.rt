@@ -51,7 +51,7 @@ impl<T: fmt::Debug> fmt::Debug for AsyncAsSync<'_, '_, T> {
     }
 }
 
-// The answer, where a pending is an error.
+// Returns the result of a poll; `Pending` becomes an error.
 fn in_time<A>(answer: Poll<io::Result<A>>) -> io::Result<A>
     ensures { InTime answer result }
 {

@@ -49,7 +49,7 @@ impl<R, T: fmt::Debug> fmt::Debug for BlockOn<R, T> {
     }
 }
 
-// Waits for the value of the future. What is waited with is made where there is none yet.
+// Waits for the value of the future. It makes the waiter if there is none yet.
 fn wait_for<R, F, A>(rt: &R, waiter: &mut Option<Waiter>, future: &mut F) -> io::Result<A>
 where
     R: Wait + RandomSource + AllocGlobal,

@@ -22,8 +22,8 @@ use std::io::{IoSlice, SeekFrom};
 pub struct Budgeted<R> {
     reader: R,
     budget: usize,
-    // How many bytes and errors may come before it is pending by itself. `None` is all of the budget, behind a pending, where
-    // nothing is lent.
+    // How many bytes and errors may come before it returns `Pending` by itself. `None` after a `Pending`: the
+    // budget is whole, and the buffer shown is empty.
     left: Option<usize>,
 }
 
@@ -101,7 +101,7 @@ impl<R> Budgeted<R> {
         self.reader
     }
 
-    // Is pending by itself; behind it all of the budget is there anew.
+    // Wakes the task and returns `Pending`. After it the budget is whole again.
     fn pause<T>(&mut self, cx: &mut Context<'_>) -> Poll<T>
         ensures answer { result ≡ Poll.Pending }
         ensures anew { self.new ≡ record self.old { left = None } }
@@ -157,7 +157,7 @@ impl<R: AsyncRead> AsyncRead for Budgeted<R> {
         // Without room nothing is polled.
         ensures idle { length buf.old ≡ 0 → (result ≡ Poll.Ready (Ok 0)) × (self.new ≡ self.old) }
 
-        // Where the budget is used up its reader is not asked.
+        // If the budget is used up, the inner reader is not polled.
         ensures pauses { 0 < length buf.old → left_of self.old ≡ 0
             → (result ≡ Poll.Pending) × (budgeted_inner self.new ≡ budgeted_inner self.old) }
     {
@@ -193,7 +193,7 @@ impl<R: AsyncBufRead> Budgeted<R> {
         &all[..most]
     }
 
-    // Fills the reader, or is pending where the budget is used up.
+    // Fills the buffer of the reader, or returns `Pending` if the budget is used up.
     fn fill(&mut self, cx: &mut Context<'_>) -> Poll<io::Result<()>>
         ensures ran { BudgetsMarks R.reads self.old (fill_marks result (budgeted_lent R.lent self.new)) self.new }
         ensures lends { OnlyOkLends result (budgeted_lent R.lent self.new) }

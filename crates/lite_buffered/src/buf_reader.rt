@@ -39,7 +39,7 @@ const DEFAULT_CAPACITY: usize = 8192;
 #[derive(Drop)]
 pub struct BufReader<R> {
     inner: R,
-    // As long as the capacity. What was read and not yet taken is at pos..end.
+    // As long as the capacity. What was read and not yet consumed is at pos..end.
     buf: Vec<u8>,
     pos: usize,
     end: usize,
@@ -218,7 +218,8 @@ impl<R> BufReader<R> {
         &self.buf[self.pos..self.end]
     }
 
-    // Whether a read into so much room passes the buffer: nothing is ahead, and there is no less room than the capacity.
+    // Whether a read into so much room bypasses the buffer: nothing is ahead, and the room is at least the
+    // capacity.
     #[inline(always)]
     fn is_passed(&self, room: usize) -> bool
         ensures passed { result ≡ true → (ahead self.now ≡ []) × (reader_capacity self.now ≤ room) }
@@ -377,7 +378,7 @@ impl<R: AsyncRead> AsyncRead for BufReader<R> {
 
     ghost registers = { λ r. R.registers (reader_inner r) };
 
-    // A call would hand its answer, which is large, through memory.
+    // Inline, because a call would return its large result through memory.
     #[inline(always)]
     #[tactic(auto, using(crate::proofs::Polling::polls_rules, crate::proofs::Asking::asks_rules))]
     fn poll_read(&mut self, cx: &mut Context<'_>, buf: &mut [u8]) -> Poll<io::Result<usize>>
@@ -390,13 +391,13 @@ impl<R: AsyncRead> AsyncRead for BufReader<R> {
         ensures once { PollsOnce R.reads (max (reader_capacity self.old) (length buf.old)) (reader_inner self.old)
             (reader_inner self.new) }
 
-        // If bytes are ahead, it is not polled. If none are, it is polled once, for no more than the larger room. That it
-        // is polled for just as much as the buffer or `buf` has room for, no mark tells: tests do.
+        // If bytes are ahead, it is not polled. If none are, it is polled once, for at most the larger room.
+        // No contract says that the room is exactly that of the buffer or of `buf`: tests do.
         ensures asks { 0 < length buf.old
             → AsksWhereEmpty R.reads (max (reader_capacity self.old) (length buf.old)) self.old self.new }
 
-        // If none are ahead and there is no less room than the capacity, its answer is the answer. That it reads into
-        // `buf` itself, tests show.
+        // If none are ahead and the room is at least the capacity, its result is returned. Tests show that it
+        // reads into `buf` itself.
         ensures past { 0 < length buf.old → ahead self.old ≡ [] → reader_capacity self.old ≤ length buf.old
             → ReadsPast R.reads self.old (read_marks result buf.new) self.new }
 
@@ -435,7 +436,7 @@ impl<R: AsyncRead> AsyncRead for BufReader<R> {
         ensures asks { 0 < room_in bufs.old
             → AsksWhereEmpty R.reads (max (reader_capacity self.old) (room_in bufs.old)) self.old self.new }
 
-        // If none are ahead and there is no less room than the capacity, its answer is the answer.
+        // If none are ahead and the room is at least the capacity, its result is returned.
         ensures past { 0 < room_in bufs.old → ahead self.old ≡ [] → reader_capacity self.old ≤ room_in bufs.old
             → ReadsInto R.reads (reader_inner self.old) result bufs.old (reader_inner self.new)
             × (ahead self.new ≡ []) }
@@ -539,7 +540,7 @@ impl<R: AsyncSeek> BufReader<R> {
     ghost use Rattle.lite_buffered.specs.BufReader.{reader_inner};
     ghost use Rattle.lite_buffered.specs.SeeksThrough.{SeeksOnce, SeeksThrough, SeeksTwice};
 
-    // Seeks from where the bytes come next.
+    // Seeks from the position of the byte that is read next.
     #[inline(always)]
     fn seek_on(&mut self, cx: &mut Context<'_>, offset: i64) -> Poll<io::Result<u64>>
         ensures sought { SeeksThrough R.seeks self.old (SeekFrom.Current offset) (by_kind result) self.new }

@@ -228,7 +228,7 @@ impl<R1: AsyncRead, R2: AsyncRead> Chain<R1, R2> {
     ghost use Rattle.lite_buffered.specs.Chain.{ChainsReaders};
     ghost use Rattle.lite_buffered.specs.Chaining.{ChainReadRegisters, has_ended};
 
-    // Reads the first, and goes on to the second where the first is at its end.
+    // Reads the first reader, and then the second if the first is at end of file.
     #[inline(always)]
     #[tactic(auto, using(crate::proofs::Crossing::crossed, crate::proofs::Ends::no_end_moved))]
     fn read_on(&mut self, cx: &mut Context<'_>, buf: &mut [u8]) -> Poll<io::Result<usize>>
@@ -274,7 +274,8 @@ impl<R1: AsyncRead, R2: AsyncRead> Chain<R1, R2> {
     }
 }
 
-// Reads into the buffers if they have this room, and else a byte. Either is a read into any buffers of no less room.
+// Reads into the buffers if they have this room, and else one byte. Either is a read into any buffers with at
+// least this room.
 #[inline(always)]
 fn read_within<R: AsyncRead>(
     reader: &mut R,
@@ -319,7 +320,7 @@ impl<R1: AsyncBufRead, R2: AsyncBufRead> Chain<R1, R2> {
     ghost use Rattle.lite_buffered.specs.Chain.{ChainsReaders};
     ghost use Rattle.lite_buffered.specs.Chaining.{ChainReadRegisters, chain_shown};
 
-    // Fills the reader that is read, and goes on to the second where the first is at its end.
+    // Fills the buffer of the current reader, and then that of the second if the first is at end of file.
     #[tactic(auto, using(crate::proofs::Crossing::crossed))]
     fn fill(&mut self, cx: &mut Context<'_>) -> Poll<io::Result<()>>
         ensures ran { ChainsReaders R1.reads R2.reads self.old

@@ -16,7 +16,7 @@ ghost use Rattle.lite_buffered.specs.Uses.{told_steady, strip_marks, TellsScript
 use crate::{Budgeted, BufReader, Chain, Empty, Repeat, Take};
 use lite_io_base::{SteadyRead, SteadyWrite};
 
-// Where it has some capacity: without one a fill looks like an end.
+// If its capacity is above 0: without one, a fill looks like end of file.
 impl<R: SteadyRead> SteadyRead for BufReader<R> {
     ghost ample = { ThroughBuffer R.ample };
 

@@ -147,7 +147,7 @@ impl<R: AsyncRead> AsyncRead for Take<R> {
         ensures left { Registered result (R.registers (take_inner self.new)) cx.new }
         ensures kept { Keeps cx.old cx.new }
 
-        // Without room, and where the limit is used up, nothing is polled.
+        // Without room, and if the limit is used up, nothing is polled.
         ensures idle { (length buf.old ≡ 0) ⊎ (limit_of self.old ≡ 0) → (result ≡ Poll.Ready (Ok 0)) × (self.new ≡ self.old) }
     {
         let most = self.limit.min(buf.len() as u64) as usize;
@@ -174,7 +174,7 @@ impl<R: AsyncRead> AsyncRead for Take<R> {
         ensures left { Registered result (R.registers (take_inner self.new)) cx.new }
         ensures kept { Keeps cx.old cx.new }
 
-        // Without room, and where the limit is used up, nothing is polled.
+        // Without room, and if the limit is used up, nothing is polled.
         ensures idle { (room_in bufs.old ≡ 0) ⊎ (limit_of self.old ≡ 0) → (result ≡ Poll.Ready (Ok 0)) × (self.new ≡ self.old) }
     {
         self.poll_read(cx, first_room(bufs))
@@ -224,7 +224,7 @@ impl<R: AsyncBufRead> AsyncBufRead for Take<R> {
     }
 
     fn consume(&mut self, amount: usize) {
-        // At the limit the inner reader is asked nothing.
+        // At the limit the inner reader is not called.
         if amount == 0 {
             return;
         }

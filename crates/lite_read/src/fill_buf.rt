@@ -15,7 +15,7 @@ use std::io;
 /// be polled again, and the reader is as the error left it.
 #[derive(Debug, Drop)]
 pub struct FillBuf<'a, R> {
-    // None once its bytes are lent.
+    // None once a slice of its bytes was returned.
     pub(crate) reader: Option<&'a mut R>,
 }
 
@@ -48,7 +48,7 @@ impl<'a, R: AsyncBufRead> Future for FillBuf<'a, R> {
     }
 }
 
-// What the reader has to lend, for as long as it was borrowed.
+// Returns a slice of the buffer that lives as long as the borrow of the reader.
 fn shown<'a, R: AsyncBufRead>(reader: &'a R) -> &'a [u8]
     ensures { result.now ≡ R.lent reader.now }
 {

@@ -38,7 +38,8 @@ pub struct ReadLineFuture<'a, R, A: Allocator = Global> {
 }
 
 impl<R: AsyncBufRead, A: Allocator + Copy> ReadLineFuture<'_, R, A> {
-    // Takes in the first `amount` bytes that are there, and it is known whether they are ASCII.
+    // Adds the first `amount` bytes of the buffer of the reader, of which `ascii` says whether they are
+    // ASCII.
     #[tactic(auto, using(crate::proofs::Texts::ascii_more))]
     fn take_in(&mut self, amount: usize, ascii: bool) -> io::Result<()>
         requires held { LineHolds self.old }
@@ -73,7 +74,7 @@ impl<R: AsyncBufRead, A: Allocator + Copy> ReadLineFuture<'_, R, A> {
         self.finish(Ok(amount))
     }
 
-    // The value of a line whose bytes are held, where reading them gave `read`.
+    // Returns the value for a line whose bytes are held, given what reading returned.
     #[tactic(auto, using(crate::proofs::Texts::all_utf8))]
     fn finish(&mut self, read: io::Result<usize>) -> io::Result<usize>
         requires { LineHolds self.old }
@@ -85,7 +86,7 @@ impl<R: AsyncBufRead, A: Allocator + Copy> ReadLineFuture<'_, R, A> {
     }
 }
 
-// How many bytes a reader lends.
+// Returns how many bytes are in the buffer of a reader.
 fn lent_by<R: AsyncBufRead>(reader: &R) -> usize
     ensures { result ≡ length (R.lent reader.now) }
 {

@@ -27,7 +27,7 @@ pub struct ReadToEndFuture<'a, R, A: Allocator = Global> {
     pub(crate) buf: &'a mut Vec<u8, A>,
     // How long the vector was.
     pub(crate) start: usize,
-    // How much of the vector was there or was read. What stands behind it is room.
+    // How much of the vector was there before or was read. The rest is room.
     pub(crate) filled: usize,
     // How much room is made at once, if that is more than the first.
     pub(crate) room: usize,

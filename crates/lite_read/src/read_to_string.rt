@@ -64,7 +64,7 @@ impl<R, A: Allocator + Copy> ReadToStringFuture<'_, R, A> {
         }
     }
 
-    // The value, where reading gave `read`.
+    // Returns the value, given what reading returned.
     fn finish(&mut self, read: io::Result<usize>) -> io::Result<usize>
         requires { StringHolds self.old }
         ensures { FinishesText all_over self.old read result self.new }

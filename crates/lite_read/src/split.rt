@@ -29,7 +29,7 @@ pub struct Split<R> {
 }
 
 impl<R: AsyncBufRead> Split<R> {
-    // The piece that ends at the delimiter at `at`, which is taken with it.
+    // Returns the piece before the delimiter at `at`, and consumes both.
     fn cut(&mut self, at: usize) -> io::Result<Vec<u8>>
         requires { at < length (R.lent self.old.reader) }
         ensures ok { IfOk result (λ v. IsVec (self.old.held.items ++ take at (R.lent self.old.reader)) result
@@ -66,7 +66,7 @@ impl<R: AsyncBufRead> Split<R> {
         Ok(())
     }
 
-    // What is held at an end, if it is something.
+    // Returns what is held at end of file, if there is something.
     fn last(&mut self) -> Option<io::Result<Vec<u8>>>
         ensures value { AtEnd IsVec self.old.held.items result }
         ensures empty { self.new.held.items ≡ [] }
