@@ -178,8 +178,7 @@ impl<'r, 'ctx, T> AsyncAsSync<'r, 'ctx, T> {
 
     /// Writes the bytes of the buffers by one poll, as `write` writes those of one.
     ///
-    /// `Write::write_vectored` of std writes one buffer after another, each by a call of its own, and cannot
-    /// be overridden.
+    /// `Write::write_vectored` of std writes one buffer after another, and cannot be overridden.
     ///
     /// # Examples
     ///
