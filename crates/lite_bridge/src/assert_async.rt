@@ -12,10 +12,24 @@ use lite_io_base::{
 use std::io;
 use std::io::{ErrorKind, IoSlice, Read, Seek, SeekFrom, Write};
 
-/// Asserts that what reads, writes and seeks by the traits of std does so without blocking, and polls it.
+/// Wraps a value that has the I/O traits of std, asserts that its calls never block, and makes them by polls.
 ///
-/// A call is one of std's, and again after an interruption, 16 times in a row at most; the 17th is the answer. No
-/// poll is pending. Ported from `src/io.rs`, `AssertAsync`.
+/// Each poll makes one call of std. After an error of the kind `Interrupted` it makes the call again, up to
+/// 16 times in a row. A 17th interruption is returned. No poll returns `Pending`.
+///
+/// # Examples
+///
+/// ```
+/// use futures_lite::io::AssertAsync;
+/// use futures_lite::{AsyncWriteExt, future};
+/// use std::io::Cursor;
+///
+/// // The cursor of std, which is written to by std's `Write`.
+/// let mut room = [b'-'; 3];
+/// let mut writer = AssertAsync::new(Cursor::new(&mut room[..]));
+/// assert_eq!(rt; future::block_on(&rt, writer.write(b"hello"))??, 3);
+/// assert_eq!(rt; room, *b"hel");
+/// ```
 #[derive(Clone, Copy, PartialEq, Eq, PartialOrd, Ord, Hash, Debug, Drop)]
 pub struct AssertAsync<T> {
     inner: T,
@@ -25,21 +39,57 @@ impl<T> AssertAsync<T> {
     ghost use Rattle.lite_bridge.specs.contracts.assert_async.AssertAsync.{the_row};
     ghost use Rattle.lite_bridge.specs.AssertAsync.{handle_of};
 
-    /// Polls `io`.
+    /// Returns a wrapper that makes the calls of `io` by polls.
+    ///
+    /// # Examples
+    ///
+    /// ```
+    /// use futures_lite::io::AssertAsync;
+    /// use futures_lite::{AsyncReadExt, future};
+    ///
+    /// let mut reader = AssertAsync::new(b"hello".as_slice());
+    /// let mut buf = [b'-'; 8];
+    /// assert_eq!(rt; future::block_on(&rt, reader.read(&mut buf))??, 5);
+    /// assert_eq!(rt; buf, *b"hello---");
+    /// ```
     pub fn new(io: T) -> AssertAsync<T>
         ensures { handle_of result ≡ io }
     {
         AssertAsync { inner: io }
     }
 
-    /// The inner handle.
+    /// Borrows the inner value.
+    ///
+    /// # Examples
+    ///
+    /// ```
+    /// use futures_lite::io::AssertAsync;
+    /// use futures_lite::{AsyncReadExt, future};
+    ///
+    /// let mut reader = AssertAsync::new(b"hello".as_slice());
+    /// future::block_on(&rt, reader.read(&mut [0; 3]))??;
+    /// assert_eq!(rt; *reader.get_ref(), b"lo".as_slice());
+    /// ```
     pub fn get_ref(&self) -> &T
         ensures { result.now ≡ handle_of self.now }
     {
         &self.inner
     }
 
-    /// The inner handle, to be changed.
+    /// Borrows the inner value mutably.
+    ///
+    /// # Examples
+    ///
+    /// ```
+    /// use futures_lite::io::AssertAsync;
+    /// use futures_lite::{AsyncReadExt, future};
+    ///
+    /// let mut reader = AssertAsync::new(b"hello".as_slice());
+    /// *reader.get_mut() = b"world".as_slice();
+    /// let mut buf = [0; 5];
+    /// future::block_on(&rt, reader.read(&mut buf))??;
+    /// assert_eq!(rt; buf, *b"world");
+    /// ```
     pub fn get_mut(&mut self) -> &mut T
         ensures value { result.now ≡ handle_of self.old }
         ensures* writes_back { sem 𝓛 (Lends (the_row T.row) T.row self.entry result
@@ -48,7 +98,18 @@ impl<T> AssertAsync<T> {
         &mut self.inner
     }
 
-    /// The inner handle.
+    /// Returns the inner value.
+    ///
+    /// # Examples
+    ///
+    /// ```
+    /// use futures_lite::io::AssertAsync;
+    /// use futures_lite::{AsyncReadExt, future};
+    ///
+    /// let mut reader = AssertAsync::new(b"hello".as_slice());
+    /// future::block_on(&rt, reader.read(&mut [0; 3]))??;
+    /// assert_eq!(rt; reader.into_inner(), b"lo".as_slice());
+    /// ```
     pub fn into_inner(self) -> T
         ensures { result ≡ handle_of self }
     {
@@ -66,7 +127,7 @@ impl<T: Read> Tale for AssertAsync<T> {
 
 #[tactic(auto, using(crate::specs::Laws::StdKnown::read_spends))]
 impl<T: Read> AsyncRead for AssertAsync<T> {
-    /// Reads once, and again after an interruption, up to 16 times in a row.
+    /// Reads once. After an interruption it reads again, up to 16 times in a row.
     fn poll_read(&mut self, _cx: &mut Context<'_>, buf: &mut [u8]) -> Poll<io::Result<usize>> {
         insist!(self.inner.read(buf))
     }
@@ -81,7 +142,7 @@ impl<T: Read> CalmRead for AssertAsync<T> {
     ghost calm = { spends_calm (λ x. T.remaining (handle_of x)) };
 }
 
-// Two of which the same bytes are known, where no read fails: std doesn't say when an error comes.
+// For two values of which the same bytes are known, if no read fails: std does not say when an error comes.
 impl<T: Read> SteadyRead for AssertAsync<T> {
     ghost use Rattle.lite_bridge.specs.AssertAsync.{handle_of};
 
@@ -120,7 +181,7 @@ impl<T: Write> AsyncWrite for AssertAsync<T> {
         insist!(self.inner.flush())
     }
 
-    /// Flushes: std's writers have no close.
+    /// Flushes: the writers of std have no close.
     fn poll_close(&mut self, cx: &mut Context<'_>) -> Poll<io::Result<()>> {
         self.poll_flush(cx)
     }

@@ -10,16 +10,36 @@ use lite_io_base::{AsyncRead, AsyncSeek, AsyncWrite};
 use std::io::{ErrorKind, IoSlice, IoSliceMut, Read, Seek, SeekFrom, Write};
 use std::{fmt, io};
 
-/// What is polled, with the context of a poll, as std's traits know it: a pending is an error of the kind `WouldBlock`.
+/// Wraps a value that is polled, with the context of a poll, as one that has the I/O traits of std.
 ///
-/// It lives within one poll. Whoever calls it there answers `Poll::Pending` to such an error: the context is seen to as by
-/// a pending call. Ported from `src/io.rs`, `AsyncAsSync`.
+/// `Pending` becomes an error of the kind `WouldBlock`. The wrapper lives within one poll. After such an
+/// error, return `Poll::Pending` from that poll: the task is registered in the context as by the pending
+/// call.
+///
+/// # Examples
+///
+/// ```
+/// use futures_lite::io::{AsyncAsSync, Cursor};
+/// use futures_lite::{Poll, future};
+/// use std::io::{Seek, SeekFrom, Write};
+///
+/// let mut cursor = Cursor::new(Vec::from_slice(rt.alloc(), b"hello")?);
+/// let writing = future::poll_fn(|cx| {
+///     let mut io = AsyncAsSync::new(cx, &mut cursor);
+///     match io.seek(SeekFrom::Start(4)) {
+///         Ok(_) => Poll::Ready(io.write(b" yes")),
+///         Err(e) => Poll::Ready(Err(e)),
+///     }
+/// });
+/// assert_eq!(rt; future::block_on(&rt, writing)??, 4);
+/// assert_eq!(rt; cursor.get_ref().as_slice(), b"hell yes".as_slice());
+/// ```
 #[derive(Drop)]
 pub struct AsyncAsSync<'r, 'ctx, T> {
     /// The context of the poll.
     pub context: &'r mut Context<'ctx>,
 
-    /// What is polled.
+    /// The value that is polled.
     pub inner: T,
 }
 
@@ -31,7 +51,7 @@ impl<T: fmt::Debug> fmt::Debug for AsyncAsSync<'_, '_, T> {
     }
 }
 
-// The answer, where a pending is an error.
+// Returns the result of a poll; `Pending` becomes an error.
 fn in_time<A>(answer: Poll<io::Result<A>>) -> io::Result<A>
     ensures { InTime answer result }
 {
@@ -44,14 +64,46 @@ fn in_time<A>(answer: Poll<io::Result<A>>) -> io::Result<A>
 impl<'r, 'ctx, T> AsyncAsSync<'r, 'ctx, T> {
     ghost use Rattle.lite_bridge.specs.contracts.async_as_sync.AsyncAsSync.{the_row};
 
-    /// Polls `inner` with `context`.
+    /// Returns a wrapper that polls `inner` with `context`.
+    ///
+    /// # Examples
+    ///
+    /// ```
+    /// use futures_lite::io::{AsyncAsSync, ErrorKind};
+    /// use futures_lite::{AsyncReadExt, Poll, future};
+    /// use std::io::Read;
+    ///
+    /// let mut reader = b"hello".as_slice().with_budget(3);
+    /// let mut buf = [b'-'; 4];
+    /// let read = future::poll_fn(|cx| Poll::Ready(AsyncAsSync::new(cx, &mut reader).read(&mut buf)));
+    /// assert_eq!(rt; future::block_on(&rt, read)??, 3);
+    ///
+    /// // Now the reader is pending once.
+    /// let read = future::poll_fn(|cx| Poll::Ready(AsyncAsSync::new(cx, &mut reader).read(&mut buf)));
+    /// assert!(rt; future::block_on(&rt, read)?.is_err_and(|e| e.kind() == ErrorKind::WouldBlock));
+    /// assert_eq!(rt; buf, *b"hel-");
+    /// ```
     pub fn new(context: &'r mut Context<'ctx>, inner: T) -> AsyncAsSync<'r, 'ctx, T>
         ensures { result ≡ record { context = context.entry; inner = inner } }
     {
         AsyncAsSync { context, inner }
     }
 
-    /// Closes `inner`. A pending is an error of the kind `WouldBlock`, and any other answer is handed on.
+    /// Closes `inner`. `Pending` becomes an error of the kind `WouldBlock`; every other result is passed on.
+    ///
+    /// # Examples
+    ///
+    /// ```
+    /// use futures_lite::io::{AsyncAsSync, BufWriter};
+    /// use futures_lite::{AsyncWriteExt, Poll, future};
+    /// use std::alloc::AllocError;
+    ///
+    /// let mut writer = BufWriter::new(rt.alloc(), Vec::new(rt.alloc())).map_err(|_| AllocError)?;
+    /// future::block_on(&rt, writer.write_all(b"hello"))??;
+    /// let closing = future::poll_fn(|cx| Poll::Ready(AsyncAsSync::new(cx, &mut writer).close()));
+    /// future::block_on(&rt, closing)??;
+    /// assert_eq!(rt; writer.get_ref().as_slice(), b"hello".as_slice());
+    /// ```
     pub fn close(&mut self) -> io::Result<()>
     where
         T: AsyncWrite,
@@ -62,8 +114,27 @@ impl<'r, 'ctx, T> AsyncAsSync<'r, 'ctx, T> {
         in_time(self.inner.poll_close(self.context))
     }
 
-    /// Calls `f` with `inner` and the context. A pending is an error of the kind `WouldBlock`, and any other answer is handed
-    /// on.
+    /// Calls `f` with `inner` and the context, and returns its result.
+    ///
+    /// `Pending` becomes an error of the kind `WouldBlock`; every other result is passed on. `f` must be
+    /// callable with any arguments.
+    ///
+    /// # Examples
+    ///
+    /// ```
+    /// use futures_lite::io::{AsyncAsSync, AsyncRead};
+    /// use futures_lite::{Context, Poll, future};
+    ///
+    /// let mut reader = b"hello".as_slice();
+    /// let reading = future::poll_fn(|cx| {
+    ///     let mut io = AsyncAsSync::new(cx, &mut reader);
+    ///     Poll::Ready(io.poll_with(|reader: &mut &mut &[u8], cx: &mut Context<'_>| {
+    ///         reader.poll_read(cx, &mut [0; 3])
+    ///     }))
+    /// });
+    /// assert_eq!(rt; future::block_on(&rt, reading)??, 3);
+    /// assert_eq!(rt; reader, b"lo".as_slice());
+    /// ```
     pub fn poll_with<A, F>(&mut self, f: F) -> io::Result<A>
     where
         F: FnOnce(&mut T, &mut Context<'_>) -> Poll<io::Result<A>>,
@@ -73,8 +144,27 @@ impl<'r, 'ctx, T> AsyncAsSync<'r, 'ctx, T> {
         in_time(f(&mut self.inner, self.context))
     }
 
-    /// Reads into the buffers by one poll, as `read` reads into one. `Read::read_vectored` is `final` in std, and reads into the
-    /// first buffer that has room.
+    /// Reads into the buffers by one poll, as `read` reads into one.
+    ///
+    /// `Read::read_vectored` of std reads only into the first buffer that is not empty, and cannot be
+    /// overridden.
+    ///
+    /// # Examples
+    ///
+    /// ```
+    /// use futures_lite::io::{AsyncAsSync, IoSliceMut};
+    /// use futures_lite::{Poll, future};
+    ///
+    /// let mut reader = b"hello".as_slice();
+    /// let (mut first, mut second) = ([b'-'; 2], [b'-'; 2]);
+    /// let mut bufs = [IoSliceMut::new(&mut first), IoSliceMut::new(&mut second)];
+    /// let reading = future::poll_fn(|cx| {
+    ///     Poll::Ready(AsyncAsSync::new(cx, &mut reader).read_vectored(&mut bufs))
+    /// });
+    /// assert_eq!(rt; future::block_on(&rt, reading)??, 4);
+    /// assert_eq!(rt; first, *b"he");
+    /// assert_eq!(rt; second, *b"ll");
+    /// ```
     pub fn read_vectored(&mut self, bufs: &mut [IoSliceMut<'_>]) -> io::Result<usize>
     where
         T: AsyncRead,
@@ -86,8 +176,24 @@ impl<'r, 'ctx, T> AsyncAsSync<'r, 'ctx, T> {
         in_time(self.inner.poll_read_vectored(self.context, bufs))
     }
 
-    /// Writes the bytes of the buffers by one poll, as `write` writes those of one. `Write::write_vectored` is `final` in std,
-    /// and writes the buffers in turn.
+    /// Writes the bytes of the buffers by one poll, as `write` writes those of one.
+    ///
+    /// `Write::write_vectored` of std writes one buffer after another, and cannot be overridden.
+    ///
+    /// # Examples
+    ///
+    /// ```
+    /// use futures_lite::io::{AsyncAsSync, IoSlice};
+    /// use futures_lite::{Poll, future};
+    ///
+    /// let mut writer = Vec::new(rt.alloc());
+    /// let bufs = [IoSlice::new(b"hello, "), IoSlice::new(b"world")];
+    /// let writing = future::poll_fn(|cx| {
+    ///     Poll::Ready(AsyncAsSync::new(cx, &mut writer).write_vectored(&bufs))
+    /// });
+    /// assert_eq!(rt; future::block_on(&rt, writing)??, 12);
+    /// assert_eq!(rt; writer.as_slice(), b"hello, world".as_slice());
+    /// ```
     pub fn write_vectored(&mut self, bufs: &[IoSlice<'_>]) -> io::Result<usize>
     where
         T: AsyncWrite,
@@ -100,14 +206,49 @@ impl<'r, 'ctx, T> AsyncAsSync<'r, 'ctx, T> {
         in_time(self.inner.poll_write_vectored(self.context, bufs))
     }
 
-    /// What is polled. Ported from `src/io.rs`, `Borrow::borrow` of `AsyncAsSync`: std has no `Borrow` here.
+    /// Borrows the inner value. Unlike in futures-lite, this is a method of the type, not of std's `Borrow`.
+    ///
+    /// # Examples
+    ///
+    /// ```
+    /// use futures_lite::io::{AsyncAsSync, Cursor};
+    /// use futures_lite::{Poll, future};
+    /// use std::io::{Seek, SeekFrom};
+    ///
+    /// let position = future::poll_fn(|cx| {
+    ///     let mut io = AsyncAsSync::new(cx, Cursor::new(b"hello".as_slice()));
+    ///     match io.seek(SeekFrom::End(-1)) {
+    ///         Ok(_) => Poll::Ready(Some(io.borrow().position())),
+    ///         Err(_) => Poll::Ready(None),
+    ///     }
+    /// });
+    /// assert_eq!(rt; future::block_on(&rt, position)?, Some(4));
+    /// ```
     pub fn borrow(&self) -> &T
         ensures { result.now ≡ self.now.inner }
     {
         &self.inner
     }
 
-    /// What is polled, to be changed. Ported from `src/io.rs`, `BorrowMut::borrow_mut` of `AsyncAsSync`.
+    /// Borrows the inner value mutably. Unlike in futures-lite, this is a method of the type, not of std's
+    /// `BorrowMut`.
+    ///
+    /// # Examples
+    ///
+    /// ```
+    /// use futures_lite::io::{AsyncAsSync, Cursor};
+    /// use futures_lite::{Poll, future};
+    /// use std::io::Read;
+    ///
+    /// let mut buf = [b'-'; 3];
+    /// let reading = future::poll_fn(|cx| {
+    ///     let mut io = AsyncAsSync::new(cx, Cursor::new(b"hello".as_slice()));
+    ///     io.borrow_mut().set_position(3);
+    ///     Poll::Ready(io.read(&mut buf))
+    /// });
+    /// assert_eq!(rt; future::block_on(&rt, reading)??, 2);
+    /// assert_eq!(rt; buf, *b"lo-");
+    /// ```
     pub fn borrow_mut(&mut self) -> &mut T
         ensures value { result.now ≡ self.old.inner }
         ensures* writes_back { sem 𝓛 (Lends

@@ -15,11 +15,26 @@ use std::random::RandomSource;
 use std::sync::Wait;
 use std::{fmt, io};
 
-/// Waits on this thread for what is polled, and so reads, writes and seeks by the traits of std.
+/// Wraps a value that is polled as one that has the I/O traits of std: each call blocks the thread until its
+/// poll is ready.
 ///
-/// Each call waits, by `rt`, until its poll is ready, and may wait for ever. The first call that waits allocates what a
-/// wait needs. If that allocation fails, the call returns an error of the kind `OutOfMemory`, and nothing was polled. No
-/// later call allocates. Flush before the end: a drop flushes nothing. Ported from `src/io.rs`, `BlockOn`.
+/// Each call waits by `rt`, and may wait for ever. The first call that waits allocates what a wait needs; no
+/// later call allocates. If that allocation fails, the call returns an error of the kind `OutOfMemory` and
+/// polls nothing. A drop flushes nothing, so flush before it.
+///
+/// # Examples
+///
+/// ```
+/// use futures_lite::io::{BlockOn, Cursor};
+/// use std::io::{Read, Seek, SeekFrom, Write};
+///
+/// let mut io = BlockOn::new(rt, Cursor::new(Vec::new(rt.alloc())));
+/// io.write_all(b"hello")?;
+/// io.seek(SeekFrom::Start(3))?;
+/// let mut buf = [b'-'; 3];
+/// assert_eq!(rt; io.read(&mut buf)?, 2);
+/// assert_eq!(rt; buf, *b"lo-");
+/// ```
 #[derive(Drop)]
 pub struct BlockOn<R, T> {
     rt: R,
@@ -34,7 +49,7 @@ impl<R, T: fmt::Debug> fmt::Debug for BlockOn<R, T> {
     }
 }
 
-// Waits for the value of the future. What is waited with is made where there is none yet.
+// Waits for the value of the future. It makes the waiter if there is none yet.
 fn wait_for<R, F, A>(rt: &R, waiter: &mut Option<Waiter>, future: &mut F) -> io::Result<A>
 where
     R: Wait + RandomSource + AllocGlobal,
@@ -53,7 +68,24 @@ impl<R, T> BlockOn<R, T> {
     ghost use Rattle.lite_bridge.specs.contracts.block_on.BlockOn.{the_row};
     ghost use Rattle.lite_bridge.specs.BlockOn.{io_of};
 
-    /// Waits by `rt` for `io`. Nothing is allocated before the first call that waits.
+    /// Returns a wrapper whose calls wait by `rt` for `io`. Nothing is allocated before the first call that
+    /// waits.
+    ///
+    /// # Examples
+    ///
+    /// ```
+    /// use futures_lite::AsyncReadExt;
+    /// use futures_lite::io::BlockOn;
+    /// use std::io::Read;
+    ///
+    /// let mut io = BlockOn::new(rt, b"hello".as_slice().with_budget(2));
+    /// let mut buf = [b'-'; 8];
+    /// assert_eq!(rt; io.read(&mut buf)?, 2);
+    ///
+    /// // The budget is used up, so the first poll is pending. The call waits.
+    /// assert_eq!(rt; io.read(&mut buf)?, 2);
+    /// assert_eq!(rt; buf, *b"ll------");
+    /// ```
     pub fn new(rt: R, io: T) -> BlockOn<R, T>
         ensures { io_of result ≡ io }
     {
@@ -64,14 +96,38 @@ impl<R, T> BlockOn<R, T> {
         }
     }
 
-    /// What is waited for.
+    /// Borrows the inner value.
+    ///
+    /// # Examples
+    ///
+    /// ```
+    /// use futures_lite::io::BlockOn;
+    /// use std::io::Read;
+    ///
+    /// let mut io = BlockOn::new(rt, b"hello".as_slice());
+    /// io.read(&mut [0; 3])?;
+    /// assert_eq!(rt; *io.get_ref(), b"lo".as_slice());
+    /// ```
     pub fn get_ref(&self) -> &T
         ensures { result.now ≡ io_of self.now }
     {
         &self.io
     }
 
-    /// What is waited for, to be changed.
+    /// Borrows the inner value mutably.
+    ///
+    /// # Examples
+    ///
+    /// ```
+    /// use futures_lite::io::{BlockOn, Cursor};
+    /// use std::io::Read;
+    ///
+    /// let mut io = BlockOn::new(rt, Cursor::new(b"hello".as_slice()));
+    /// io.get_mut().set_position(3);
+    /// let mut buf = [b'-'; 3];
+    /// assert_eq!(rt; io.read(&mut buf)?, 2);
+    /// assert_eq!(rt; buf, *b"lo-");
+    /// ```
     pub fn get_mut(&mut self) -> &mut T
         ensures value { result.now ≡ io_of self.old }
         ensures* writes_back { sem 𝓛 (Lends (the_row R.row T.row) T.row self.entry result
@@ -80,7 +136,18 @@ impl<R, T> BlockOn<R, T> {
         &mut self.io
     }
 
-    /// What is waited for. `rt` is let go, so it has to be `Drop`.
+    /// Returns the inner value, and drops `rt`, which must be `Drop`.
+    ///
+    /// # Examples
+    ///
+    /// ```
+    /// use futures_lite::io::BlockOn;
+    /// use std::io::Write;
+    ///
+    /// let mut io = BlockOn::new(rt, Vec::new(rt.alloc()));
+    /// io.write_all(b"hello")?;
+    /// assert_eq!(rt; io.into_inner().as_slice(), b"hello".as_slice());
+    /// ```
     pub fn into_inner(self) -> T
     where
         R: Drop,
@@ -108,7 +175,7 @@ impl<R: Wait + RandomSource + AllocGlobal, T: AsyncBufRead> BufRead for BlockOn<
     ghost use Rattle.lite_bridge.specs.contracts.block_on.BlockOn.{the_row};
     ghost use Rattle.lite_bridge.specs.BlockOn.{IsUnused, io_of};
 
-    /// Waits until there are bytes to be lent, or an end, and lends them.
+    /// Waits until there are bytes in the buffer, or an end of file, and returns a slice of them.
     fn fill_buf(&mut self) -> io::Result<&[u8]>
         ensures front { IfSome None (λ (xs : List ℕ). IfOk result (λ s. StartsWith xs s.now)) }
         ensures end { IfSome None (λ (xs : List ℕ). IfOk result (λ s. length s.now ≡ 0 → xs ≡ [])) }
@@ -128,7 +195,7 @@ impl<R: Wait + RandomSource + AllocGlobal, T: AsyncBufRead> BufRead for BlockOn<
         }
     }
 
-    /// Waits for nothing. Of more bytes than are there to be lent, those are taken.
+    /// Consumes the first `amount` bytes of the buffer, or all of them if there are fewer. It does not wait.
     fn consume(&mut self, amount: usize)
         ensures bytes { DropsConsumable None None None amount }
         ensures ran { T.reads (io_of self.old) (bytes (take amount (T.lent (io_of self.old)))) (io_of self.new) }

@@ -5,7 +5,8 @@ use lite_base::{Context, Future, Poll};
 use lite_io_base::{AsyncBufRead, fill};
 use std::io;
 
-/// The future of a fill that lends nothing, so that what was filled can be lent after it.
+/// A future that fills the buffer of a reader and returns no slice of it, so that it can be borrowed
+/// afterwards.
 #[derive(Drop)]
 pub(crate) struct Filling<'a, T> {
     pub(crate) io: &'a mut T,

@@ -1,12 +1,11 @@
 //! Calls that are made again after an interruption.
 
-/// How many interruptions in a row are passed over.
+/// How many interruptions in a row are retried after.
 pub(crate) const MOST_INTERRUPTIONS: usize = 16;
 
-/// Answers from the function that it stands in: makes the call, and makes it again after an error of the kind
-/// `Interrupted`, up to 16 times in a row. A 17th interruption is the answer, and so is any other error.
-///
-/// Ported from `src/io.rs`, `assert_async_wrapio`, which has no bound.
+/// Returns from the enclosing function: makes the call, and makes it again after an error of the kind
+/// `Interrupted`, up to 16 times in a row. A 17th interruption is returned, and so is any other error. Unlike
+/// in futures-lite, there is this bound.
 macro_rules! insist {
     ($call:expr) => {{
         for _ in 0..MOST_INTERRUPTIONS {

@@ -1,14 +1,15 @@
-//! What a buffered reader over a cursor answers to reads and seeks.
+//! What a buffered reader over a cursor returns from reads and seeks.
 ghost use Rattle.lite_bridge.specs.Logical.{AnswersAsBare, IsInStep};
 
 use crate::{BytesLike, Cursor};
 use lite_buffered::BufReader;
 
-/// Does nothing. Its contract says that a buffered reader over a cursor, of a capacity of 1 byte or more, that is used by
-/// reads and seeks only answers as the bare cursor does at the logical position, which is the inner position less the
-/// bytes that are ahead: the same bytes and ends, and the same answers and errors of seeks, for each list of calls.
+/// Does nothing. Its contract says that a buffered reader over a cursor gives the same results as the cursor
+/// alone.
 ///
-/// The original has no such call.
+/// That is so for each list of reads and seeks, if nothing else is called and the capacity is at least 1
+/// byte. The cursor alone is at the logical position, which is the inner position less the number of bytes in
+/// the buffer. Bytes, ends of file, and the results and errors of seeks are the same.
 pub fn answers_as_bare<T: BytesLike>(_reader: &BufReader<Cursor<T>>)
     requires { IsInStep T.bytes _reader.now }
     ensures { AnswersAsBare T.bytes _reader.now }

@@ -1,4 +1,4 @@
-//! The cursors that leave the same bytes where the same are taken, and are never pending.
+//! The cursors that leave the same bytes if the same bytes are written, and that never return `Pending`.
 ghost use Rattle.std.specs.Prelude.{⊤};
 ghost use Rattle.lite_bridge.specs.Laws.SteadyWrite.{lent_vec_calm_write, lent_vec_steady_write, slice_calm_write};
 ghost use Rattle.lite_bridge.specs.Laws.SteadyWrite.{SamePlace, slice_steady_write};

@@ -8,19 +8,22 @@ use lite_io_base::{
 use std::io;
 use std::io::{IoSlice, SeekFrom};
 
-/// A reader that is pending once more after so many bytes and errors in a row, so that whoever reads it can turn to another
-/// task.
+/// A reader that returns `Pending` after so many bytes and errors in a row, so that another task can run.
 ///
-/// Made by [`with_budget`](crate::make::with_budget). It tells what its reader does, in order. After as many bytes and errors
-/// as its budget without a pending between them it wakes its context and is pending once, in a call that does not ask its
-/// reader. Its rank, over any reader, is how many may come before that. It writes and seeks as its reader does, and lends
-/// what that lends, as far as the budget goes. The original has no such type.
+/// Returned by [`with_budget`](crate::make::with_budget). It gives what its inner reader gives, in the same
+/// order. After as many bytes and errors as its budget, with no `Pending` between them, it wakes the task and
+/// returns `Pending` once. It does not poll the inner reader in that call. So it is
+/// [`CountedRead`](lite_io_base::CountedRead) over any reader; its rank is how many bytes and errors are left
+/// before that.
+///
+/// It writes and seeks as its inner reader does. Its buffer is that of the inner reader, up to what is left
+/// of the budget.
 #[derive(Debug, Drop)]
 pub struct Budgeted<R> {
     reader: R,
     budget: usize,
-    // How many bytes and errors may come before it is pending by itself. `None` is all of the budget, behind a pending, where
-    // nothing is lent.
+    // How many bytes and errors may come before it returns `Pending` by itself. `None` after a `Pending`: the
+    // budget is whole, and the buffer shown is empty.
     left: Option<usize>,
 }
 
@@ -40,14 +43,39 @@ impl<R> Budgeted<R> {
         }
     }
 
-    /// The inner reader.
+    /// Borrows the inner reader.
+    ///
+    /// # Examples
+    ///
+    /// ```
+    /// use futures_lite::{AsyncReadExt, future};
+    ///
+    /// let mut reader = b"hello".as_slice().with_budget(2);
+    /// future::block_on(&rt, reader.read(&mut [0; 8]))??;
+    /// assert_eq!(rt; *reader.get_ref(), b"llo".as_slice());
+    /// ```
     pub fn get_ref(&self) -> &R
         ensures { result.now ≡ budgeted_inner self.now }
     {
         &self.reader
     }
 
-    /// The inner reader, to be changed. What it reads meanwhile doesn't count.
+    /// Borrows the inner reader mutably. What is read from it this way does not count towards the budget.
+    ///
+    /// # Examples
+    ///
+    /// ```
+    /// use futures_lite::{AsyncReadExt, future};
+    ///
+    /// let mut reader = b"hello".as_slice().with_budget(2);
+    /// let mut buf = [b'-'; 2];
+    /// future::block_on(&rt, reader.get_mut().read(&mut buf))??;
+    ///
+    /// // The budget is whole: this read is ready at once.
+    /// let ready = future::block_on(&rt, future::poll_once(reader.read(&mut buf)))?;
+    /// assert!(rt; ready.is_some());
+    /// assert_eq!(rt; buf, *b"ll");
+    /// ```
     pub fn get_mut(&mut self) -> &mut R
         ensures value { result.now ≡ budgeted_inner self.old }
         ensures* writes_back { sem 𝓛 (Lends (the_row R.row) R.row self.entry result
@@ -56,14 +84,24 @@ impl<R> Budgeted<R> {
         &mut self.reader
     }
 
-    /// The inner reader.
+    /// Returns the inner reader.
+    ///
+    /// # Examples
+    ///
+    /// ```
+    /// use futures_lite::{AsyncReadExt, future};
+    ///
+    /// let mut reader = b"hello".as_slice().with_budget(2);
+    /// future::block_on(&rt, reader.read(&mut [0; 8]))??;
+    /// assert_eq!(rt; reader.into_inner(), b"llo".as_slice());
+    /// ```
     pub fn into_inner(self) -> R
         ensures { result ≡ budgeted_inner self }
     {
         self.reader
     }
 
-    // Is pending by itself; behind it all of the budget is there anew.
+    // Wakes the task and returns `Pending`. After it the budget is whole again.
     fn pause<T>(&mut self, cx: &mut Context<'_>) -> Poll<T>
         ensures answer { result ≡ Poll.Pending }
         ensures anew { self.new ≡ record self.old { left = None } }
@@ -119,7 +157,7 @@ impl<R: AsyncRead> AsyncRead for Budgeted<R> {
         // Without room nothing is polled.
         ensures idle { length buf.old ≡ 0 → (result ≡ Poll.Ready (Ok 0)) × (self.new ≡ self.old) }
 
-        // Where the budget is used up its reader is not asked.
+        // If the budget is used up, the inner reader is not polled.
         ensures pauses { 0 < length buf.old → left_of self.old ≡ 0
             → (result ≡ Poll.Pending) × (budgeted_inner self.new ≡ budgeted_inner self.old) }
     {
@@ -155,7 +193,7 @@ impl<R: AsyncBufRead> Budgeted<R> {
         &all[..most]
     }
 
-    // Fills the reader, or is pending where the budget is used up.
+    // Fills the buffer of the reader, or returns `Pending` if the budget is used up.
     fn fill(&mut self, cx: &mut Context<'_>) -> Poll<io::Result<()>>
         ensures ran { BudgetsMarks R.reads self.old (fill_marks result (budgeted_lent R.lent self.new)) self.new }
         ensures lends { OnlyOkLends result (budgeted_lent R.lent self.new) }

@@ -10,20 +10,36 @@ use std::alloc::Global;
 use std::io::{IoSliceMut, SeekFrom};
 use std::{fmt, io};
 
-/// The capacity of a buffer, in bytes, where none is named.
+/// The default capacity of a buffer, in bytes.
 const DEFAULT_CAPACITY: usize = 8192;
 
-/// Reads ahead into a buffer, so that small reads do not each reach the inner reader.
+/// A reader that reads ahead into a buffer, so that small reads do not each poll the inner reader.
 ///
-/// The buffer is made once, and no call of the reader takes memory after that. A read into at least as much room as
-/// the capacity, with nothing buffered, passes through; else the buffer is filled where it is empty, and copied from.
-/// With a capacity of 0 a read, a vectored one too, goes to the inner reader, and a fill asks it for 0 bytes. Writes
-/// and seeks reach the inner value past what is buffered. What is buffered is lost by `into_inner` and by a drop.
-/// Ported from `src/io.rs`, `BufReader`.
+/// The buffer is allocated once; no later call of the reader allocates. A read into at least as much room as
+/// the capacity bypasses the buffer if it is empty. Every other read fills the buffer if it is empty, and
+/// copies from it. With a capacity of 0 every read goes to the inner reader, also a vectored one, and filling
+/// the buffer reads 0 bytes.
+///
+/// Writes and seeks go to the inner value, not through the buffer. `into_inner` and a drop lose what is in
+/// the buffer.
+///
+/// # Examples
+///
+/// ```
+/// use futures_lite::io::BufReader;
+/// use futures_lite::{AsyncBufReadExt, future};
+/// use std::alloc::AllocError;
+///
+/// let mut reader = BufReader::new(rt.alloc(), b"hello\nhi".as_slice()).map_err(|_| AllocError)?;
+/// let mut line = String::new(rt.alloc());
+/// future::block_on(&rt, reader.read_line(&mut line))??;
+/// assert_eq!(rt; line.as_str(), "hello\n");
+/// assert_eq!(rt; reader.buffer(), b"hi".as_slice());
+/// ```
 #[derive(Drop)]
 pub struct BufReader<R> {
     inner: R,
-    // As long as the capacity. What was read and not yet taken is at pos..end.
+    // As long as the capacity. What was read and not yet consumed is at pos..end.
     buf: Vec<u8>,
     pos: usize,
     end: usize,
@@ -44,8 +60,23 @@ impl<R: Drop> BufReader<R> {
     ghost use Rattle.lite_buffered.specs.contracts.buf_reader.BufReader.{the_row};
     ghost use Rattle.lite_buffered.specs.BufReader.{ahead, reader_capacity, reader_inner};
 
-    /// A reader with a buffer of 8192 bytes. `Err` hands `inner` back, where there was no memory for the buffer.
-    /// `inner` has to be `Drop`.
+    /// Returns a reader over `inner` with a buffer of 8192 bytes.
+    ///
+    /// It returns `Err(inner)` if the buffer cannot be allocated. `inner` must be `Drop`.
+    ///
+    /// # Examples
+    ///
+    /// ```
+    /// use futures_lite::io::BufReader;
+    /// use futures_lite::{AsyncReadExt, future};
+    /// use std::alloc::AllocError;
+    ///
+    /// let mut reader = BufReader::new(rt.alloc(), b"hello".as_slice()).map_err(|_| AllocError)?;
+    /// let mut buf = [0; 2];
+    /// future::block_on(&rt, reader.read(&mut buf))??;
+    /// assert_eq!(rt; buf, *b"he");
+    /// assert_eq!(rt; reader.buffer(), b"llo".as_slice());
+    /// ```
     pub fn new(alloc: Global, inner: R) -> Result<BufReader<R>, R>
         ensures inner { IfOk result (λ r. reader_inner r ≡ inner) }
         ensures empty { IfOk result (λ r. ahead r ≡ []) }
@@ -55,8 +86,26 @@ impl<R: Drop> BufReader<R> {
         BufReader::with_capacity(alloc, DEFAULT_CAPACITY, inner)
     }
 
-    /// A reader with a buffer of `capacity` bytes, with none of them used. `Err` hands `inner` back, where there was no
-    /// memory for the buffer. With a capacity of 0 each read goes to `inner`, and nothing is lent. `inner` has to be `Drop`.
+    /// Returns a reader over `inner` with an empty buffer of `capacity` bytes.
+    ///
+    /// It returns `Err(inner)` if the buffer cannot be allocated. With a capacity of 0 each read goes to
+    /// `inner`, and the buffer is always empty. `inner` must be `Drop`.
+    ///
+    /// # Examples
+    ///
+    /// ```
+    /// use futures_lite::io::BufReader;
+    /// use futures_lite::{AsyncReadExt, future};
+    /// use std::alloc::AllocError;
+    ///
+    /// let input: &[u8] = b"hello";
+    /// let mut reader = BufReader::with_capacity(rt.alloc(), 3, input).map_err(|_| AllocError)?;
+    /// future::block_on(&rt, reader.read(&mut [0; 1]))??;
+    /// assert_eq!(rt; reader.buffer(), b"el".as_slice());
+    ///
+    /// // No memory can hold such a buffer.
+    /// assert!(rt; BufReader::with_capacity(rt.alloc(), usize::MAX, input).is_err());
+    /// ```
     pub fn with_capacity(alloc: Global, capacity: usize, inner: R) -> Result<BufReader<R>, R>
         ensures inner { IfOk result (λ r. reader_inner r ≡ inner) }
         ensures empty { IfOk result (λ r. ahead r ≡ []) }
@@ -74,14 +123,43 @@ impl<R: Drop> BufReader<R> {
         }
     }
 
-    /// The inner reader, which has to be `Drop`.
+    /// Borrows the inner reader. It must be `Drop`.
+    ///
+    /// # Examples
+    ///
+    /// ```
+    /// use futures_lite::io::BufReader;
+    /// use futures_lite::{AsyncReadExt, future};
+    /// use std::alloc::AllocError;
+    ///
+    /// let input: &[u8] = b"hello";
+    /// let mut reader = BufReader::with_capacity(rt.alloc(), 3, input).map_err(|_| AllocError)?;
+    /// future::block_on(&rt, reader.read(&mut [0; 1]))??;
+    /// assert_eq!(rt; *reader.get_ref(), b"lo".as_slice());
+    /// ```
     pub fn get_ref(&self) -> &R
         ensures { result.now ≡ reader_inner self.now }
     {
         &self.inner
     }
 
-    /// The inner reader, to be changed. What it reads meanwhile is not buffered. It has to be `Drop`.
+    /// Borrows the inner reader mutably. What is read from it this way is not buffered. It must be `Drop`.
+    ///
+    /// # Examples
+    ///
+    /// ```
+    /// use futures_lite::io::BufReader;
+    /// use futures_lite::{AsyncReadExt, future};
+    /// use std::alloc::AllocError;
+    ///
+    /// let input: &[u8] = b"hello";
+    /// let mut reader = BufReader::with_capacity(rt.alloc(), 3, input).map_err(|_| AllocError)?;
+    /// future::block_on(&rt, reader.read(&mut [0; 1]))??;
+    /// let mut buf = [0; 2];
+    /// future::block_on(&rt, reader.get_mut().read(&mut buf))??;
+    /// assert_eq!(rt; buf, *b"lo");
+    /// assert_eq!(rt; reader.buffer(), b"el".as_slice());
+    /// ```
     pub fn get_mut(&mut self) -> &mut R
         ensures value { result.now ≡ reader_inner self.old }
         ensures* writes_back { sem 𝓛 (Lends (the_row R.row) R.row self.entry result
@@ -90,7 +168,20 @@ impl<R: Drop> BufReader<R> {
         &mut self.inner
     }
 
-    /// The inner reader, which has to be `Drop`. The bytes that were read ahead are lost.
+    /// Returns the inner reader. The bytes in the buffer are lost. The inner reader must be `Drop`.
+    ///
+    /// # Examples
+    ///
+    /// ```
+    /// use futures_lite::io::BufReader;
+    /// use futures_lite::{AsyncReadExt, future};
+    /// use std::alloc::AllocError;
+    ///
+    /// let input: &[u8] = b"hello";
+    /// let mut reader = BufReader::with_capacity(rt.alloc(), 3, input).map_err(|_| AllocError)?;
+    /// future::block_on(&rt, reader.read(&mut [0; 1]))??;
+    /// assert_eq!(rt; reader.into_inner(), b"lo".as_slice());
+    /// ```
     pub fn into_inner(self) -> R
         ensures { result ≡ reader_inner self }
     {
@@ -101,7 +192,20 @@ impl<R: Drop> BufReader<R> {
 impl<R> BufReader<R> {
     ghost use Rattle.lite_buffered.specs.BufReader.{ahead, reader_capacity};
 
-    /// The bytes that were read ahead and are not yet taken.
+    /// Returns a slice of the bytes that were read ahead and not yet consumed.
+    ///
+    /// # Examples
+    ///
+    /// ```
+    /// use futures_lite::io::BufReader;
+    /// use futures_lite::{AsyncReadExt, future};
+    /// use std::alloc::AllocError;
+    ///
+    /// let mut reader = BufReader::new(rt.alloc(), b"hello".as_slice()).map_err(|_| AllocError)?;
+    /// assert!(rt; reader.buffer().is_empty());
+    /// future::block_on(&rt, reader.read(&mut [0; 2]))??;
+    /// assert_eq!(rt; reader.buffer(), b"llo".as_slice());
+    /// ```
     pub fn buffer(&self) -> &[u8]
         ensures { result.now ≡ ahead self.now }
     {
@@ -114,7 +218,8 @@ impl<R> BufReader<R> {
         &self.buf[self.pos..self.end]
     }
 
-    // Whether a read into so much room passes the buffer: nothing is ahead, and there is no less room than the capacity.
+    // Whether a read into so much room bypasses the buffer: nothing is ahead, and the room is at least the
+    // capacity.
     #[inline(always)]
     fn is_passed(&self, room: usize) -> bool
         ensures passed { result ≡ true → (ahead self.now ≡ []) × (reader_capacity self.now ≤ room) }
@@ -273,7 +378,7 @@ impl<R: AsyncRead> AsyncRead for BufReader<R> {
 
     ghost registers = { λ r. R.registers (reader_inner r) };
 
-    // A call would hand its answer, which is large, through memory.
+    // Inline, because a call would return its large result through memory.
     #[inline(always)]
     #[tactic(auto, using(crate::proofs::Polling::polls_rules, crate::proofs::Asking::asks_rules))]
     fn poll_read(&mut self, cx: &mut Context<'_>, buf: &mut [u8]) -> Poll<io::Result<usize>>
@@ -286,13 +391,13 @@ impl<R: AsyncRead> AsyncRead for BufReader<R> {
         ensures once { PollsOnce R.reads (max (reader_capacity self.old) (length buf.old)) (reader_inner self.old)
             (reader_inner self.new) }
 
-        // If bytes are ahead, it is not polled. If none are, it is polled once, for no more than the larger room. That it
-        // is polled for just as much as the buffer or `buf` has room for, no mark tells: tests do.
+        // If bytes are ahead, it is not polled. If none are, it is polled once, for at most the larger room.
+        // No contract says that the room is exactly that of the buffer or of `buf`: tests do.
         ensures asks { 0 < length buf.old
             → AsksWhereEmpty R.reads (max (reader_capacity self.old) (length buf.old)) self.old self.new }
 
-        // If none are ahead and there is no less room than the capacity, its answer is the answer. That it reads into
-        // `buf` itself, tests show.
+        // If none are ahead and the room is at least the capacity, its result is returned. Tests show that it
+        // reads into `buf` itself.
         ensures past { 0 < length buf.old → ahead self.old ≡ [] → reader_capacity self.old ≤ length buf.old
             → ReadsPast R.reads self.old (read_marks result buf.new) self.new }
 
@@ -331,7 +436,7 @@ impl<R: AsyncRead> AsyncRead for BufReader<R> {
         ensures asks { 0 < room_in bufs.old
             → AsksWhereEmpty R.reads (max (reader_capacity self.old) (room_in bufs.old)) self.old self.new }
 
-        // If none are ahead and there is no less room than the capacity, its answer is the answer.
+        // If none are ahead and the room is at least the capacity, its result is returned.
         ensures past { 0 < room_in bufs.old → ahead self.old ≡ [] → reader_capacity self.old ≤ room_in bufs.old
             → ReadsInto R.reads (reader_inner self.old) result bufs.old (reader_inner self.new)
             × (ahead self.new ≡ []) }
@@ -392,17 +497,17 @@ impl<R: AsyncWrite> AsyncWrite for BufReader<R> {
 
     ghost write_registers = { λ r. R.write_registers (reader_inner r) };
 
-    /// Writes to the inner writer, past what is ahead.
+    /// Writes to the inner writer. The buffer does not change.
     fn poll_write(&mut self, cx: &mut Context<'_>, buf: &[u8]) -> Poll<io::Result<usize>> {
         self.inner.poll_write(cx, buf)
     }
 
-    /// Flushes the inner writer. What is ahead stays.
+    /// Flushes the inner writer. The buffer does not change.
     fn poll_flush(&mut self, cx: &mut Context<'_>) -> Poll<io::Result<()>> {
         self.inner.poll_flush(cx)
     }
 
-    /// Closes the inner writer. What is ahead can still be read.
+    /// Closes the inner writer. What is in the buffer can still be read.
     fn poll_close(&mut self, cx: &mut Context<'_>) -> Poll<io::Result<()>> {
         self.inner.poll_close(cx)
     }
@@ -416,10 +521,12 @@ impl<R: AsyncSeek> AsyncSeek for BufReader<R> {
 
     ghost seek_registers = { λ r. R.seek_registers (reader_inner r) };
 
-    /// Seeks the inner reader. The position is that of the bytes that come next, so a seek from where it is counts from
-    /// there: by `offset` less the bytes that are ahead. Where that is no `i64`, it seeks back by those bytes, drops
-    /// them, and then seeks by `offset`. A success drops the bytes that are ahead; a pending and an error keep them,
-    /// but for the second of two seeks.
+    /// Seeks the inner reader. The position is that of the byte that is read next.
+    ///
+    /// So a seek from the current position by `offset` seeks the inner reader by `offset` less the number of
+    /// bytes in the buffer. If that is not an `i64`, it seeks back by the bytes in the buffer, drops them,
+    /// and then seeks by `offset`. A success drops the bytes in the buffer. `Pending` and an error keep them,
+    /// except from the second of two seeks.
     fn poll_seek(&mut self, cx: &mut Context<'_>, pos: SeekFrom) -> Poll<io::Result<u64>> {
         match pos {
             SeekFrom::Current(offset) => self.seek_on(cx, offset),
@@ -433,7 +540,7 @@ impl<R: AsyncSeek> BufReader<R> {
     ghost use Rattle.lite_buffered.specs.BufReader.{reader_inner};
     ghost use Rattle.lite_buffered.specs.SeeksThrough.{SeeksOnce, SeeksThrough, SeeksTwice};
 
-    // Seeks from where the bytes come next.
+    // Seeks from the position of the byte that is read next.
     #[inline(always)]
     fn seek_on(&mut self, cx: &mut Context<'_>, offset: i64) -> Poll<io::Result<u64>>
         ensures sought { SeeksThrough R.seeks self.old (SeekFrom.Current offset) (by_kind result) self.new }

@@ -9,21 +9,38 @@ use std::boxed::BoxedSlice;
 use std::io::{ErrorKind, SeekFrom};
 use std::{fmt, io};
 
-/// The capacity of a buffer, in bytes, where none is named.
+/// The default capacity of a buffer, in bytes.
 const DEFAULT_CAPACITY: usize = 8192;
 
-/// How many interruptions in a row a flush of the buffer passes over.
+/// How many interruptions in a row a flush of the buffer retries after.
 const MOST_INTERRUPTIONS: usize = 16;
 
-/// Keeps written bytes in a buffer, so that small writes do not each reach the inner writer.
+/// A writer that collects written bytes in a buffer, so that small writes do not each poll the inner writer.
 ///
-/// What is held is written before each flush, close and seek, and before a write that the buffer has no room for. Where
-/// the inner writer takes none of it, that is an error of the kind `WriteZero`; after an `Interrupted` it is called again,
-/// up to 16 times in a row. After an error and after a pending, what was not taken is still held, and the call may be made
-/// again.
+/// The buffer is written out before each flush, close and seek, and before a write that it has no room for.
+/// If the inner writer takes no bytes then, that is an error of the kind `WriteZero`. After an `Interrupted`
+/// it is polled again, up to 16 times in a row. After `Pending` and after an error, the bytes that were not
+/// taken are still in the buffer, and the call may be made again.
 ///
-/// The buffer is made once, and no call of the writer takes memory after that. What is held is lost by `into_inner` and
-/// by a drop: flush it before. Ported from `src/io.rs`, `BufWriter`.
+/// The buffer is allocated once; no later call of the writer allocates. `into_inner` and a drop lose what is
+/// in the buffer, so flush it before.
+///
+/// # Examples
+///
+/// ```
+/// use futures_lite::io::BufWriter;
+/// use futures_lite::{AsyncWriteExt, future};
+/// use std::alloc::AllocError;
+///
+/// let mut output = Vec::new(rt.alloc());
+/// let mut writer = BufWriter::new(rt.alloc(), &mut output).map_err(|_| AllocError)?;
+/// future::block_on(&rt, writer.write_all(b"hello, "))??;
+/// future::block_on(&rt, writer.write_all(b"world"))??;
+/// assert!(rt; writer.get_ref().is_empty());
+/// future::block_on(&rt, writer.flush())??;
+/// drop(writer);
+/// assert_eq!(rt; output.as_slice(), b"hello, world".as_slice());
+/// ```
 #[derive(Drop)]
 pub struct BufWriter<W> {
     inner: W,
@@ -47,8 +64,22 @@ impl<W: Drop> BufWriter<W> {
     ghost use Rattle.lite_buffered.specs.contracts.buf_writer.BufWriter.{the_row};
     ghost use Rattle.lite_buffered.specs.BufWriter.{buffered, unwritten, writer_capacity, writer_inner};
 
-    /// A writer with a buffer of 8192 bytes. `Err` hands `inner` back, where there was no memory for the buffer.
-    /// `inner` has to be `Drop`.
+    /// Returns a writer to `inner` with a buffer of 8192 bytes.
+    ///
+    /// It returns `Err(inner)` if the buffer cannot be allocated. `inner` must be `Drop`.
+    ///
+    /// # Examples
+    ///
+    /// ```
+    /// use futures_lite::io::BufWriter;
+    /// use futures_lite::{AsyncWriteExt, future};
+    /// use std::alloc::AllocError;
+    ///
+    /// let mut writer = BufWriter::new(rt.alloc(), Vec::new(rt.alloc())).map_err(|_| AllocError)?;
+    /// future::block_on(&rt, writer.write_all(b"hello"))??;
+    /// assert!(rt; writer.get_ref().is_empty());
+    /// assert_eq!(rt; writer.buffer(), b"hello".as_slice());
+    /// ```
     pub fn new(alloc: Global, inner: W) -> Result<BufWriter<W>, W>
         ensures inner { IfOk result (λ w. writer_inner w ≡ inner) }
         ensures empty { IfOk result (λ w. buffered w ≡ []) }
@@ -58,8 +89,27 @@ impl<W: Drop> BufWriter<W> {
         BufWriter::with_capacity(alloc, DEFAULT_CAPACITY, inner)
     }
 
-    /// A writer with a buffer of `capacity` bytes, with none of them used. `Err` hands `inner` back, where there was no
-    /// memory for the buffer. With a capacity of 0 each write goes to `inner`, and nothing is held. `inner` has to be `Drop`.
+    /// Returns a writer to `inner` with an empty buffer of `capacity` bytes.
+    ///
+    /// It returns `Err(inner)` if the buffer cannot be allocated. With a capacity of 0 each write goes to
+    /// `inner`, and the buffer is always empty. `inner` must be `Drop`.
+    ///
+    /// # Examples
+    ///
+    /// ```
+    /// use futures_lite::io::BufWriter;
+    /// use futures_lite::{AsyncWriteExt, future};
+    /// use std::alloc::AllocError;
+    ///
+    /// let output = Vec::new(rt.alloc());
+    /// let mut writer = BufWriter::with_capacity(rt.alloc(), 3, output).map_err(|_| AllocError)?;
+    /// future::block_on(&rt, writer.write_all(b"he"))??;
+    ///
+    /// // There is no room for two more bytes, so the first two are written out.
+    /// future::block_on(&rt, writer.write_all(b"ll"))??;
+    /// assert_eq!(rt; writer.get_ref().as_slice(), b"he".as_slice());
+    /// assert_eq!(rt; writer.buffer(), b"ll".as_slice());
+    /// ```
     pub fn with_capacity(alloc: Global, capacity: usize, inner: W) -> Result<BufWriter<W>, W>
         ensures inner { IfOk result (λ w. writer_inner w ≡ inner) }
         ensures empty { IfOk result (λ w. buffered w ≡ []) }
@@ -77,14 +127,42 @@ impl<W: Drop> BufWriter<W> {
         }
     }
 
-    /// The inner writer, which has to be `Drop`.
+    /// Borrows the inner writer. It must be `Drop`.
+    ///
+    /// # Examples
+    ///
+    /// ```
+    /// use futures_lite::io::BufWriter;
+    /// use futures_lite::{AsyncWriteExt, future};
+    /// use std::alloc::AllocError;
+    ///
+    /// let mut writer = BufWriter::new(rt.alloc(), Vec::new(rt.alloc())).map_err(|_| AllocError)?;
+    /// future::block_on(&rt, writer.write_all(b"hello"))??;
+    /// future::block_on(&rt, writer.flush())??;
+    /// assert_eq!(rt; writer.get_ref().as_slice(), b"hello".as_slice());
+    /// ```
     pub fn get_ref(&self) -> &W
         ensures { result.now ≡ writer_inner self.now }
     {
         &self.inner
     }
 
-    /// The inner writer, to be changed. What is written to it passes what is held. It has to be `Drop`.
+    /// Borrows the inner writer mutably. What is written to it this way goes ahead of what is in the buffer.
+    /// It must be `Drop`.
+    ///
+    /// # Examples
+    ///
+    /// ```
+    /// use futures_lite::io::BufWriter;
+    /// use futures_lite::{AsyncWriteExt, future};
+    /// use std::alloc::AllocError;
+    ///
+    /// let mut writer = BufWriter::new(rt.alloc(), Vec::new(rt.alloc())).map_err(|_| AllocError)?;
+    /// future::block_on(&rt, writer.write_all(b"world"))??;
+    /// writer.get_mut().extend_from_slice(b"hello, ")?;
+    /// future::block_on(&rt, writer.flush())??;
+    /// assert_eq!(rt; writer.get_ref().as_slice(), b"hello, world".as_slice());
+    /// ```
     pub fn get_mut(&mut self) -> &mut W
         ensures value { result.now ≡ writer_inner self.old }
         ensures* writes_back { sem 𝓛 (Lends (the_row W.row) W.row self.entry result
@@ -93,7 +171,22 @@ impl<W: Drop> BufWriter<W> {
         &mut self.inner
     }
 
-    /// The inner writer, which has to be `Drop`. Nothing is written: what is held is lost.
+    /// Returns the inner writer, and writes nothing to it: the bytes in the buffer are lost. The inner writer
+    /// must be `Drop`.
+    ///
+    /// # Examples
+    ///
+    /// ```
+    /// use futures_lite::io::BufWriter;
+    /// use futures_lite::{AsyncWriteExt, future};
+    /// use std::alloc::AllocError;
+    ///
+    /// let mut writer = BufWriter::new(rt.alloc(), Vec::new(rt.alloc())).map_err(|_| AllocError)?;
+    /// future::block_on(&rt, writer.write_all(b"hello, "))??;
+    /// future::block_on(&rt, writer.flush())??;
+    /// future::block_on(&rt, writer.write_all(b"world"))??;
+    /// assert_eq!(rt; writer.into_inner().as_slice(), b"hello, ".as_slice());
+    /// ```
     pub fn into_inner(self) -> W
         ensures { result ≡ writer_inner self }
     {
@@ -104,7 +197,22 @@ impl<W: Drop> BufWriter<W> {
 impl<W> BufWriter<W> {
     ghost use Rattle.lite_buffered.specs.BufWriter.{buffered, unwritten, writer_capacity, writer_inner};
 
-    /// The bytes in the buffer. While a flush is pending, those that the inner writer took already stand first.
+    /// Returns a slice of the bytes in the buffer. While a flush is pending, it begins with those that the
+    /// inner writer has already taken.
+    ///
+    /// # Examples
+    ///
+    /// ```
+    /// use futures_lite::io::BufWriter;
+    /// use futures_lite::{AsyncWriteExt, future};
+    /// use std::alloc::AllocError;
+    ///
+    /// let mut writer = BufWriter::new(rt.alloc(), Vec::new(rt.alloc())).map_err(|_| AllocError)?;
+    /// future::block_on(&rt, writer.write_all(b"hello"))??;
+    /// assert_eq!(rt; writer.buffer(), b"hello".as_slice());
+    /// future::block_on(&rt, writer.flush())??;
+    /// assert!(rt; writer.buffer().is_empty());
+    /// ```
     pub fn buffer(&self) -> &[u8]
         ensures { result.now ≡ buffered self.now }
     {
@@ -232,9 +340,9 @@ impl<W: AsyncWrite> AsyncWrite for BufWriter<W> {
 
     ghost write_registers = { λ w. W.write_registers (writer_inner w) };
 
-    /// Holds the bytes of `buf`, or offers them to the inner writer where there are as many as the capacity. Where the
-    /// buffer has no room for them behind what is there, it is flushed first; while that is pending, and where it fails,
-    /// none of `buf` is taken.
+    /// Copies `buf` to the buffer, or writes it to the inner writer if it is at least as long as the
+    /// capacity. If the buffer has too little room left, it is written out first. While that is pending, and
+    /// if it fails, no byte of `buf` is taken.
     fn poll_write(&mut self, cx: &mut Context<'_>, buf: &[u8]) -> Poll<io::Result<usize>>
         ensures bound { IfReady result (λ r. IfOk r (λ n. n ≤ length buf.now)) }
         ensures ran { Buffers W.writes self.old (write_marks result buf.now) self.new }
@@ -262,8 +370,8 @@ impl<W: AsyncWrite> AsyncWrite for BufWriter<W> {
         Poll::Ready(Ok(buf.len()))
     }
 
-    /// Writes what is held to the inner writer, and then flushes that. While the former is pending, and where it fails,
-    /// there is no flush.
+    /// Writes the buffer out to the inner writer, and then flushes that. While the former is pending, and if
+    /// it fails, there is no flush.
     #[tactic(auto, using(crate::proofs::Answering::stopped_waits, crate::proofs::Answering::stopped_fails))]
     fn poll_flush(&mut self, cx: &mut Context<'_>) -> Poll<io::Result<()>>
         ensures ran { Buffers W.writes self.old (done_marks flushed result) self.new }
@@ -277,8 +385,8 @@ impl<W: AsyncWrite> AsyncWrite for BufWriter<W> {
         }
     }
 
-    /// Writes what is held to the inner writer, and then closes that. While the former is pending, and where it fails,
-    /// there is no close.
+    /// Writes the buffer out to the inner writer, and then closes that. While the former is pending, and if
+    /// it fails, there is no close.
     #[tactic(auto, using(crate::proofs::Answering::stopped_waits, crate::proofs::Answering::stopped_fails))]
     fn poll_close(&mut self, cx: &mut Context<'_>) -> Poll<io::Result<()>>
         ensures ran { Buffers W.writes self.old (done_marks closed result) self.new }
@@ -300,8 +408,8 @@ impl<W: AsyncWrite + AsyncSeek> AsyncSeek for BufWriter<W> {
 
     ghost seek_registers = { SeekRegisters W.write_registers W.seek_registers };
 
-    /// Writes what is held to the inner writer, and then seeks that. While the former is pending, and where it fails,
-    /// there is no seek.
+    /// Writes the buffer out to the inner writer, and then seeks that. While the former is pending, and if it
+    /// fails, there is no seek.
     fn poll_seek(&mut self, cx: &mut Context<'_>, pos: SeekFrom) -> Poll<io::Result<u64>>
         ensures sought { SeeksAfter W.writes W.seeks self.old pos (by_kind result) self.new }
         ensures shown { ShownAfter result self.old self.new }

@@ -1,4 +1,4 @@
-//! The readers that are never pending where what they read from isn't, and the writer that isn't where what it writes to isn't.
+//! The buffered types that never return `Pending` if what they read from, or write to, never does.
 ghost use Rattle.lite_buffered.specs.Laws.Budgeted.{within_calm};
 ghost use Rattle.lite_buffered.specs.Laws.Steady.BufReader.{buf_reader_calm};
 ghost use Rattle.lite_buffered.specs.Laws.Steady.Chain.{chain_calm};

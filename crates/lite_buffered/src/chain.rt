@@ -9,10 +9,10 @@ use lite_io_base::{
 use std::io::IoSliceMut;
 use std::{fmt, io};
 
-/// What one reader gives up to its end, and then what another gives.
+/// A reader over the bytes of one reader, followed by those of another.
 ///
-/// A read goes on to the second reader in the poll that met the end of the first, which is asked no more after that.
-/// Made by [`chain`](crate::make::chain). Ported from `src/io.rs`, `Chain`.
+/// Returned by [`chain`](crate::make::chain). The second reader is polled in the same call in which the first
+/// one ends. After that the first one is not polled.
 #[derive(Drop)]
 pub struct Chain<R1, R2> {
     first: R1,
@@ -45,7 +45,19 @@ impl<R1, R2> Chain<R1, R2> {
         }
     }
 
-    /// Both readers.
+    /// Borrows both readers.
+    ///
+    /// # Examples
+    ///
+    /// ```
+    /// use futures_lite::AsyncReadExt;
+    ///
+    /// let (hello, world): (&[u8], &[u8]) = (b"hello", b"world");
+    /// let reader = AsyncReadExt::chain(hello, world);
+    /// let (first, second) = reader.get_ref();
+    /// assert_eq!(rt; *first, b"hello".as_slice());
+    /// assert_eq!(rt; *second, b"world".as_slice());
+    /// ```
     pub fn get_ref(&self) -> (&R1, &R2)
         ensures first { result.0.now ≡ first_of self.now }
         ensures second { result.1.now ≡ second_of self.now }
@@ -53,8 +65,25 @@ impl<R1, R2> Chain<R1, R2> {
         (&self.first, &self.second)
     }
 
-    /// Both readers, to be changed. What they read meanwhile doesn't count. No contract says what the chain then has:
-    /// `first_mut` and `second_mut` tell it of one.
+    /// Borrows both readers mutably. What is read from them this way is missing from the chain.
+    ///
+    /// The contract does not say what the chain holds afterwards. `first_mut` and `second_mut` do, each for
+    /// one reader.
+    ///
+    /// # Examples
+    ///
+    /// ```
+    /// use futures_lite::{AsyncReadExt, future};
+    ///
+    /// let (hello, world): (&[u8], &[u8]) = (b"hello", b"world");
+    /// let mut reader = AsyncReadExt::chain(hello, world);
+    /// let (first, second) = reader.get_mut();
+    /// future::block_on(&rt, first.read(&mut [0; 3]))??;
+    /// future::block_on(&rt, second.read(&mut [0; 4]))??;
+    /// let mut buf = Vec::new(rt.alloc());
+    /// future::block_on(&rt, reader.read_to_end(&mut buf))??;
+    /// assert_eq!(rt; buf.as_slice(), b"lod".as_slice());
+    /// ```
     pub fn get_mut(&mut self) -> (&mut R1, &mut R2)
         ensures first { result.0.now ≡ first_of self.old }
         ensures second { result.1.now ≡ second_of self.old }
@@ -62,7 +91,20 @@ impl<R1, R2> Chain<R1, R2> {
         (&mut self.first, &mut self.second)
     }
 
-    /// The first reader, to be changed. What it reads meanwhile doesn't count. The original has no such call.
+    /// Borrows the first reader mutably. What is read from it this way is missing from the chain.
+    ///
+    /// # Examples
+    ///
+    /// ```
+    /// use futures_lite::{AsyncReadExt, future};
+    ///
+    /// let (hello, world): (&[u8], &[u8]) = (b"hello", b"world");
+    /// let mut reader = AsyncReadExt::chain(hello, world);
+    /// future::block_on(&rt, reader.first_mut().read(&mut [0; 3]))??;
+    /// let mut buf = Vec::new(rt.alloc());
+    /// future::block_on(&rt, reader.read_to_end(&mut buf))??;
+    /// assert_eq!(rt; buf.as_slice(), b"loworld".as_slice());
+    /// ```
     pub fn first_mut(&mut self) -> &mut R1
         ensures value { result.now ≡ first_of self.old }
         ensures* writes_back { sem 𝓛 (Lends (the_row R1.row R2.row) R1.row self.entry result
@@ -71,7 +113,20 @@ impl<R1, R2> Chain<R1, R2> {
         &mut self.first
     }
 
-    /// The second reader, to be changed, as `first_mut` gives the first. The original has no such call.
+    /// Borrows the second reader mutably. What is read from it this way is missing from the chain.
+    ///
+    /// # Examples
+    ///
+    /// ```
+    /// use futures_lite::{AsyncReadExt, future};
+    ///
+    /// let (hello, world): (&[u8], &[u8]) = (b"hello", b"world");
+    /// let mut reader = AsyncReadExt::chain(hello, world);
+    /// future::block_on(&rt, reader.second_mut().read(&mut [0; 3]))??;
+    /// let mut buf = Vec::new(rt.alloc());
+    /// future::block_on(&rt, reader.read_to_end(&mut buf))??;
+    /// assert_eq!(rt; buf.as_slice(), b"hellold".as_slice());
+    /// ```
     pub fn second_mut(&mut self) -> &mut R2
         ensures value { result.now ≡ second_of self.old }
         ensures* writes_back { sem 𝓛 (Lends (the_row R1.row R2.row) R2.row self.entry result
@@ -80,7 +135,20 @@ impl<R1, R2> Chain<R1, R2> {
         &mut self.second
     }
 
-    /// Both readers.
+    /// Returns both readers.
+    ///
+    /// # Examples
+    ///
+    /// ```
+    /// use futures_lite::{AsyncReadExt, future};
+    ///
+    /// let (hello, world): (&[u8], &[u8]) = (b"hello", b"world");
+    /// let mut reader = AsyncReadExt::chain(hello, world);
+    /// future::block_on(&rt, reader.read(&mut [0; 3]))??;
+    /// let (first, second) = reader.into_inner();
+    /// assert_eq!(rt; first, b"lo".as_slice());
+    /// assert_eq!(rt; second, b"world".as_slice());
+    /// ```
     pub fn into_inner(self) -> (R1, R2)
         ensures first { result.0 ≡ first_of self }
         ensures second { result.1 ≡ second_of self }
@@ -160,7 +228,7 @@ impl<R1: AsyncRead, R2: AsyncRead> Chain<R1, R2> {
     ghost use Rattle.lite_buffered.specs.Chain.{ChainsReaders};
     ghost use Rattle.lite_buffered.specs.Chaining.{ChainReadRegisters, has_ended};
 
-    // Reads the first, and goes on to the second where the first is at its end.
+    // Reads the first reader, and then the second if the first is at end of file.
     #[inline(always)]
     #[tactic(auto, using(crate::proofs::Crossing::crossed, crate::proofs::Ends::no_end_moved))]
     fn read_on(&mut self, cx: &mut Context<'_>, buf: &mut [u8]) -> Poll<io::Result<usize>>
@@ -206,7 +274,8 @@ impl<R1: AsyncRead, R2: AsyncRead> Chain<R1, R2> {
     }
 }
 
-// Reads into the buffers if they have this room, and else a byte. Either is a read into any buffers of no less room.
+// Reads into the buffers if they have this room, and else one byte. Either is a read into any buffers with at
+// least this room.
 #[inline(always)]
 fn read_within<R: AsyncRead>(
     reader: &mut R,
@@ -251,7 +320,7 @@ impl<R1: AsyncBufRead, R2: AsyncBufRead> Chain<R1, R2> {
     ghost use Rattle.lite_buffered.specs.Chain.{ChainsReaders};
     ghost use Rattle.lite_buffered.specs.Chaining.{ChainReadRegisters, chain_shown};
 
-    // Fills the reader that is read, and goes on to the second where the first is at its end.
+    // Fills the buffer of the current reader, and then that of the second if the first is at end of file.
     #[tactic(auto, using(crate::proofs::Crossing::crossed))]
     fn fill(&mut self, cx: &mut Context<'_>) -> Poll<io::Result<()>>
         ensures ran { ChainsReaders R1.reads R2.reads self.old

@@ -5,9 +5,9 @@ use lite_base::{Context, Poll};
 use lite_io_base::{AsyncBufRead, AsyncRead, CountedRead, Takings, Tale};
 use std::{fmt, io};
 
-/// A reader that is at its end, for ever.
+/// A reader that is always at end of file.
 ///
-/// Made by [`empty`](crate::make::empty). Ported from `src/io.rs`, `Empty`.
+/// Returned by [`empty`](crate::make::empty).
 #[derive(Clone, Copy)]
 pub struct Empty {}
 

@@ -1,4 +1,4 @@
-//! Buffered reading and writing, and readers over other readers.
+//! Buffered readers and writers, and readers over other readers.
 #![tactic(auto)]
 
 mod budgeted;

@@ -1,4 +1,4 @@
-//! What makes the readers.
+//! The functions that make the readers.
 ghost use Rattle.std.specs.Prelude.{◌≡◌, ◌<◌, false};
 ghost use Rattle.lite_buffered.specs.Budgeted.{budget_of, budgeted_inner, left_of};
 ghost use Rattle.lite_buffered.specs.Chaining.{first_of, has_ended, second_of};
@@ -11,21 +11,41 @@ use crate::empty::Empty;
 use crate::repeat::Repeat;
 use crate::take::Take;
 
-/// A reader that is at its end.
+/// Returns a reader that is at end of file.
+///
+/// # Examples
+///
+/// ```
+/// use futures_lite::{AsyncReadExt, future, io};
+///
+/// let mut buf = Vec::new(rt.alloc());
+/// assert_eq!(rt; future::block_on(&rt, io::empty().read_to_end(&mut buf))??, 0);
+/// assert!(rt; buf.is_empty());
+/// ```
 pub fn empty() -> Empty
     ensures { result ≡ record {} }
 {
     Empty::new()
 }
 
-/// A reader that gives `byte` for ever.
+/// Returns a reader that gives `byte` for ever.
+///
+/// # Examples
+///
+/// ```
+/// use futures_lite::{AsyncReadExt, future, io};
+///
+/// let mut buf = [0; 3];
+/// future::block_on(&rt, io::repeat(7).read_exact(&mut buf))??;
+/// assert_eq!(rt; buf, [7, 7, 7]);
+/// ```
 pub fn repeat(byte: u8) -> Repeat
     ensures { byte_of result ≡ byte }
 {
     Repeat::new(byte)
 }
 
-/// The first `limit` bytes of `reader`.
+/// Returns a reader over the first `limit` bytes of `reader`.
 pub fn take<R>(reader: R, limit: u64) -> Take<R>
     ensures inner { take_inner result ≡ reader }
     ensures limit { limit_of result ≡ limit }
@@ -33,7 +53,7 @@ pub fn take<R>(reader: R, limit: u64) -> Take<R>
     Take::new(reader, limit)
 }
 
-/// What `first` gives up to its end, and then what `second` gives.
+/// Returns a reader over the bytes of `first`, followed by those of `second`.
 pub fn chain<R1, R2>(first: R1, second: R2) -> Chain<R1, R2>
     ensures first { first_of result ≡ first }
     ensures second { second_of result ≡ second }
@@ -42,7 +62,8 @@ pub fn chain<R1, R2>(first: R1, second: R2) -> Chain<R1, R2>
     Chain::new(first, second)
 }
 
-/// What `reader` tells, with a pending after `budget` bytes and errors in a row, which is above 0; it wakes its context then.
+/// Returns a reader that reads `reader` and returns `Pending` after every `budget` bytes, which must be more
+/// than 0.
 pub fn with_budget<R>(reader: R, budget: usize) -> Budgeted<R>
     requires { 0 < budget }
     ensures inner { budgeted_inner result ≡ reader }

@@ -7,9 +7,9 @@ use lite_base::{Context, Poll};
 use lite_io_base::{AsyncRead, Takings, Tale};
 use std::io;
 
-/// A reader that gives one byte for ever, as much of it as there is room for.
+/// A reader that gives one byte for ever: each read fills its whole buffer.
 ///
-/// Made by [`repeat`](crate::make::repeat). Ported from `src/io.rs`, `Repeat`.
+/// Returned by [`repeat`](crate::make::repeat).
 #[derive(Clone, Copy, Debug)]
 pub struct Repeat {
     byte: u8,

@@ -5,10 +5,10 @@ ghost use Rattle.lite_buffered.specs.SeeksThrough.{SeeksThrough};
 use crate::buf_reader::BufReader;
 use lite_io_base::{AsyncSeek, CountedRead};
 
-/// Does nothing. Its contract says that the rank of a buffered reader counts on after a seek, and is as firm, where that
-/// of its inner reader does. So a poll that goes on over bytes may be made after a seek too.
+/// Does nothing. Its contract says that a buffered reader is still `CountedRead` after a seek, with a rank
+/// that counts and is as firm as before, if that is true of its inner reader.
 ///
-/// The original has no such call.
+/// So a call that consumes many bytes in one poll may be made after a seek, too.
 #[tactic(auto, using(crate::specs::Laws::SeeksThrough::seeks_keep))]
 pub fn counts_after_seek<R: CountedRead + AsyncSeek>(_reader: &BufReader<R>)
     requires counts { SeekKeeps R.seeks R.ranks.counts }

@@ -1,4 +1,4 @@
-//! The readers whose tale does not depend on when they were pending, and the writer that leaves the same bytes.
+//! The buffered types whose bytes, errors and ends do not depend on when they return `Pending`.
 ghost use Rattle.lite_buffered.specs.BufReader.{ThroughBuffer};
 ghost use Rattle.lite_buffered.specs.Budgeted.{BudgetsMarks};
 ghost use Rattle.lite_buffered.specs.Chain.{ChainsReaders};
@@ -16,7 +16,7 @@ ghost use Rattle.lite_buffered.specs.Uses.{told_steady, strip_marks, TellsScript
 use crate::{Budgeted, BufReader, Chain, Empty, Repeat, Take};
 use lite_io_base::{SteadyRead, SteadyWrite};
 
-// Where it has some capacity: without one a fill looks like an end.
+// If its capacity is above 0: without one, a fill looks like end of file.
 impl<R: SteadyRead> SteadyRead for BufReader<R> {
     ghost ample = { ThroughBuffer R.ample };
 

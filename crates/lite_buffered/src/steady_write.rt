@@ -1,4 +1,4 @@
-//! A buffered writer leaves the bytes that its inner writer leaves, and is pending only where that is.
+//! A buffered writer leaves the bytes that its inner writer leaves, and returns `Pending` only if that does.
 ghost use Rattle.lite_buffered.specs.Laws.SteadyWrite.{HeldAlike, buf_writer_calm, buf_writer_steady};
 
 use crate::buf_writer::BufWriter;

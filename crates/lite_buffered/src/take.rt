@@ -6,10 +6,9 @@ use lite_io_base::{AsyncBufRead, AsyncRead, CountedRead, Takings, Tale, fill, fi
 use std::io;
 use std::io::IoSliceMut;
 
-/// The first bytes of a reader, as many as a limit allows, and then an end for ever.
+/// A reader over the first bytes of another reader, up to a limit, and then at end of file for ever.
 ///
-/// Where the limit is used up the inner reader is asked no more. Made by [`take`](crate::make::take). Ported from
-/// `src/io.rs`, `Take`.
+/// Returned by [`take`](crate::make::take). Once the limit is used up, the inner reader is not polled.
 #[derive(Debug, Drop)]
 pub struct Take<R> {
     inner: R,
@@ -27,7 +26,17 @@ impl<R> Take<R> {
         Take { inner, limit }
     }
 
-    /// How many bytes may still be read.
+    /// Returns how many bytes may still be read.
+    ///
+    /// # Examples
+    ///
+    /// ```
+    /// use futures_lite::{AsyncReadExt, future};
+    ///
+    /// let mut reader = AsyncReadExt::take(b"hello".as_slice(), 4);
+    /// future::block_on(&rt, reader.read(&mut [0; 3]))??;
+    /// assert_eq!(rt; reader.limit(), 1);
+    /// ```
     pub fn limit(&self) -> u64
         ensures { result ≡ limit_of self.now }
     {
@@ -35,20 +44,53 @@ impl<R> Take<R> {
     }
 
     /// Sets how many bytes may still be read.
+    ///
+    /// # Examples
+    ///
+    /// ```
+    /// use futures_lite::{AsyncReadExt, future};
+    ///
+    /// let mut reader = AsyncReadExt::take(b"hello".as_slice(), 4);
+    /// reader.set_limit(2);
+    /// let mut buf = Vec::new(rt.alloc());
+    /// future::block_on(&rt, reader.read_to_end(&mut buf))??;
+    /// assert_eq!(rt; buf.as_slice(), b"he".as_slice());
+    /// ```
     pub fn set_limit(&mut self, limit: u64)
         ensures { self.new ≡ record self.old { limit = limit } }
     {
         self.limit = limit;
     }
 
-    /// The inner reader.
+    /// Borrows the inner reader.
+    ///
+    /// # Examples
+    ///
+    /// ```
+    /// use futures_lite::{AsyncReadExt, future};
+    ///
+    /// let mut reader = AsyncReadExt::take(b"hello".as_slice(), 4);
+    /// future::block_on(&rt, reader.read(&mut [0; 3]))??;
+    /// assert_eq!(rt; *reader.get_ref(), b"lo".as_slice());
+    /// ```
     pub fn get_ref(&self) -> &R
         ensures { result.now ≡ take_inner self.now }
     {
         &self.inner
     }
 
-    /// The inner reader, to be changed. What it reads meanwhile doesn't count.
+    /// Borrows the inner reader mutably. What is read from it this way does not count towards the limit.
+    ///
+    /// # Examples
+    ///
+    /// ```
+    /// use futures_lite::{AsyncReadExt, future};
+    ///
+    /// let mut reader = AsyncReadExt::take(b"hello".as_slice(), 4);
+    /// future::block_on(&rt, reader.get_mut().read(&mut [0; 3]))??;
+    /// assert_eq!(rt; reader.limit(), 4);
+    /// assert_eq!(rt; reader.into_inner(), b"lo".as_slice());
+    /// ```
     pub fn get_mut(&mut self) -> &mut R
         ensures value { result.now ≡ take_inner self.old }
         ensures* writes_back { sem 𝓛 (Lends (the_row R.row) R.row self.entry result
@@ -57,7 +99,17 @@ impl<R> Take<R> {
         &mut self.inner
     }
 
-    /// The inner reader.
+    /// Returns the inner reader.
+    ///
+    /// # Examples
+    ///
+    /// ```
+    /// use futures_lite::{AsyncReadExt, future};
+    ///
+    /// let mut reader = AsyncReadExt::take(b"hello".as_slice(), 2);
+    /// future::block_on(&rt, reader.read(&mut [0; 4]))??;
+    /// assert_eq!(rt; reader.into_inner(), b"llo".as_slice());
+    /// ```
     pub fn into_inner(self) -> R
         ensures { result ≡ take_inner self }
     {
@@ -95,7 +147,7 @@ impl<R: AsyncRead> AsyncRead for Take<R> {
         ensures left { Registered result (R.registers (take_inner self.new)) cx.new }
         ensures kept { Keeps cx.old cx.new }
 
-        // Without room, and where the limit is used up, nothing is polled.
+        // Without room, and if the limit is used up, nothing is polled.
         ensures idle { (length buf.old ≡ 0) ⊎ (limit_of self.old ≡ 0) → (result ≡ Poll.Ready (Ok 0)) × (self.new ≡ self.old) }
     {
         let most = self.limit.min(buf.len() as u64) as usize;
@@ -122,7 +174,7 @@ impl<R: AsyncRead> AsyncRead for Take<R> {
         ensures left { Registered result (R.registers (take_inner self.new)) cx.new }
         ensures kept { Keeps cx.old cx.new }
 
-        // Without room, and where the limit is used up, nothing is polled.
+        // Without room, and if the limit is used up, nothing is polled.
         ensures idle { (room_in bufs.old ≡ 0) ⊎ (limit_of self.old ≡ 0) → (result ≡ Poll.Ready (Ok 0)) × (self.new ≡ self.old) }
     {
         self.poll_read(cx, first_room(bufs))
@@ -139,7 +191,7 @@ impl<R: AsyncBufRead> Take<R> {
     }
 }
 
-/// At most so many of some bytes, from the first on.
+/// Returns the first `limit` bytes of a slice, or all of them if there are fewer.
 fn first_bytes(all: &[u8], limit: u64) -> &[u8]
     ensures { result.now ≡ take limit all.now }
 {
@@ -172,7 +224,7 @@ impl<R: AsyncBufRead> AsyncBufRead for Take<R> {
     }
 
     fn consume(&mut self, amount: usize) {
-        // At the limit the inner reader is asked nothing.
+        // At the limit the inner reader is not called.
         if amount == 0 {
             return;
         }

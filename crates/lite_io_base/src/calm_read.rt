@@ -2,11 +2,9 @@ ghost use Rattle.lite_io_base.specs.Steady.{CalmReadLaws};
 
 use crate::async_read::AsyncRead;
 
-/// A reader of which some values, the calm ones, are never pending.
-///
-/// The original has no such trait.
+/// A reader with states from which it never returns `Pending`.
 pub trait CalmRead: AsyncRead {
-    /// The values that are never pending, from now on.
+    /// The values that never return `Pending` from now on.
     ghost is_calm: { Self → Type 0 };
 
     /// Does nothing. The trait is its law.

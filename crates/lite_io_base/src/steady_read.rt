@@ -5,17 +5,16 @@ ghost use Rattle.lite_io_base.specs.Steady.{SteadyReadLaws};
 
 use crate::async_read::AsyncRead;
 
-/// A reader whose tale does not depend on when it was pending, where memory was found.
-///
-/// The original has no such trait: it is a law, which its documentation leaves unsaid.
+/// A reader that gives the same bytes, errors and ends whenever it returns `Pending`, if no memory is
+/// refused.
 pub trait SteadyRead: AsyncRead {
     /// The runs in which no memory was refused.
     ghost ample: { Runs ReadMark Self };
 
-    /// That no call asks for memory; then each run is ample.
+    /// That no call allocates; then each run is ample.
     ghost needs_none: { Type 0 } = { ⊤ };
 
-    /// The values whose tales are the same, pendings aside.
+    /// The values that have the same specification, apart from `Pending`.
     ghost alike: { Self → Self → Type 0 };
 
     /// Does nothing. The trait is its law.

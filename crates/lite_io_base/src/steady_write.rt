@@ -3,14 +3,13 @@ ghost use Rattle.lite_io_base.specs.SteadyWrite.{SteadyWriteLaws};
 
 use crate::async_write::AsyncWrite;
 
-/// A writer that leaves the same bytes however often it was pending, where no writer below answers an error.
-///
-/// The original has no such trait: it is a law, which its documentation leaves unsaid.
+/// A writer that leaves the same bytes however often it returns `Pending`, if no inner writer returns an
+/// error.
 pub trait SteadyWrite: AsyncWrite {
-    /// The values that leave the same bytes below, where the same are taken.
+    /// The values that leave the same bytes in the innermost writer, if the same bytes are written.
     ghost alike: { Self → Self → Type 0 };
 
-    /// The bytes that are there once all is flushed: those of the last writer below.
+    /// The bytes that are in the innermost writer once everything is flushed.
     ghost below: { Self → List ℕ };
 
     /// Does nothing. The trait is its law.

@@ -1,12 +1,13 @@
-//! What is lent goes to the end of a vector.
+//! Moves bytes from the buffer of a reader to the end of a vector.
 ghost use Rattle.std.specs.Prelude.{◌≡◌, ◌≤◌, ◌<◌, ◌+◌, ◌++◌, length, take, vec_capacity, IfErr, IfOk};
 ghost use Rattle.lite_read.specs.Uses.{error_kind, OutOfMemory, bytes};
 
 use lite_io_base::AsyncBufRead;
 use std::io;
 
-/// Appends the first `amount` bytes that `reader` lends, and takes them. `Err` says that the vector had no room for them and
-/// memory was refused; nothing changes then but how much room there is.
+/// Appends the first `amount` bytes of the buffer of `reader` to the vector, and consumes them. It returns
+/// `Err` if the vector has no room for them and memory is refused. Nothing but the capacity of the vector
+/// changes then.
 pub(crate) fn append<R: AsyncBufRead>(
     reader: &mut R,
     amount: usize,

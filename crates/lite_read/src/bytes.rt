@@ -8,11 +8,12 @@ use lite_io_base::{AsyncRead, CountedRead, Takings, Tale};
 use std::io;
 use std::io::{ErrorKind, IoSliceMut};
 
-/// The bytes of a reader, one by one.
+/// A stream of the bytes of a reader.
 ///
-/// Made by [`bytes`](crate::make::bytes). Each poll is one read of one byte. An error of the reader is an item, after which
-/// it may be polled again; one of the kind `Interrupted` is none, but wakes the context and is pending. It ends where the
-/// reader does. It can be read from as its reader can. Ported from `src/io.rs`, `Bytes`.
+/// Returned by [`bytes`](crate::make::bytes). Each poll reads one byte. An error of the reader is an `Err`
+/// item, after which the stream may be polled again. An error of the kind `Interrupted` is not an item: it
+/// wakes the task and returns `Pending`. The stream ends when the reader does. It is a reader too, which
+/// reads as the inner reader does. Size hint: `(0, None)`.
 #[derive(Debug, Drop)]
 pub struct Bytes<R> {
     pub(crate) inner: R,

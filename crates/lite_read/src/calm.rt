@@ -1,4 +1,4 @@
-//! The futures that are never pending where their reader isn't.
+//! The futures that never return `Pending` if their reader never does.
 ghost use Rattle.std.specs.Prelude.{IfSome, ⊤};
 ghost use Rattle.lite_read.specs.Laws.Bytes.{inner_calm};
 ghost use Rattle.lite_read.specs.Laws.CalmRead.{fill_calm, read_calm, vectored_calm};

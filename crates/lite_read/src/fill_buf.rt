@@ -7,14 +7,15 @@ use lite_base::{Context, Future, Poll};
 use lite_io_base::{AsyncBufRead, fill};
 use std::io;
 
-/// The future of the bytes that come next, which the reader lends.
+/// A future that returns a slice of the next bytes of a reader.
 ///
-/// Made by [`fill_buf`](crate::make::fill_buf). Each poll is one fill of the reader. The value is the bytes, none of them
-/// taken and none where the reader is at an end, or the reader's error. After bytes it holds no reader, and is not polled
-/// again. After an error it holds the reader as the error left it, and may be polled again. Ported from `src/io.rs`, `FillBuf`.
+/// Returned by [`fill_buf`](crate::make::fill_buf). Each poll fills the buffer of the reader once. The value
+/// is the bytes, of which none is consumed, or the error of the reader. An empty slice means end of file. Do
+/// not poll the future again after a value `Ok`: it no longer borrows the reader then. After an error it may
+/// be polled again, and the reader is as the error left it.
 #[derive(Debug, Drop)]
 pub struct FillBuf<'a, R> {
-    // None once its bytes are lent.
+    // None once a slice of its bytes was returned.
     pub(crate) reader: Option<&'a mut R>,
 }
 
@@ -47,7 +48,7 @@ impl<'a, R: AsyncBufRead> Future for FillBuf<'a, R> {
     }
 }
 
-// What the reader has to lend, for as long as it was borrowed.
+// Returns a slice of the buffer that lives as long as the borrow of the reader.
 fn shown<'a, R: AsyncBufRead>(reader: &'a R) -> &'a [u8]
     ensures { result.now ≡ R.lent reader.now }
 {

@@ -1,4 +1,4 @@
-//! Fills that look at what is there, and lend nothing.
+//! Searches in the buffer of a reader.
 ghost use Rattle.std.specs.Prelude.{◌≡◌, ◌+◌, ◌<◌, ◌^◌, IfOk, IfSome};
 ghost use Rattle.lite_read.specs.Uses.{is_ascii, list_all, IfReady, Keeps, fill_marks, IsFirstByte, is_byte, Registered};
 ghost use Rattle.lite_read.specs.Find.{up_to};
@@ -9,8 +9,8 @@ use lite_io_base::AsyncBufRead;
 use memchr::memchr;
 use std::io;
 
-/// Fills a reader, and answers where `byte` first stands in what its `buffer` then shows.
-// An answer of I/O has about a hundred bytes, which a call would write and read again.
+/// Fills the buffer of a reader, and returns the position of the first `byte` in it.
+// Inline, because a call would write a result of about a hundred bytes to memory, and read it again.
 #[inline(always)]
 pub(crate) fn find_byte<R: AsyncBufRead>(
     reader: &mut R,
@@ -30,8 +30,8 @@ pub(crate) fn find_byte<R: AsyncBufRead>(
     }
 }
 
-/// Fills a reader, and answers where the first newline stands in what its `buffer` then shows, and whether what stands
-/// before it, or all of it, is ASCII.
+/// Fills the buffer of a reader, and returns the position of the first newline in it, and whether the bytes
+/// before it are ASCII. If there is no newline, it returns whether all bytes of the buffer are ASCII.
 #[tactic(auto, using(crate::proofs::Texts::first_newline, crate::proofs::Texts::line_ascii))]
 pub fn find_line<R: AsyncBufRead>(
     reader: &mut R,

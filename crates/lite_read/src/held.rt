@@ -1,4 +1,5 @@
-//! Bytes that are read for a text, which has room for them all or is empty, so that they become part of it without memory.
+//! Bytes that are read for a text. The text has room for them all, or is empty, so they are added to it
+//! without allocating.
 ghost use Rattle.std.specs.Prelude.{◌≡◌, ◌≤◌, ◌<◌, ◌++◌, [], ◌+◌, true, length, take, IfErr, IfOk, IsUtf8, MatchBool, OnErr, OnOk, string_bytes};
 ghost use Rattle.std.specs.Prelude.{string_capacity, string_len, vec_capacity};
 ghost use Rattle.lite_read.specs.Uses.{error_kind, OutOfMemory};
@@ -13,8 +14,8 @@ use std::alloc::{AllocError, Allocator};
 use std::io::ErrorKind;
 use std::{io, mem, str};
 
-/// Adds the first `amount` bytes that `reader` lends, and takes them. `Err` says that memory was refused; nothing changes
-/// then, but how much room there is.
+/// Adds the first `amount` bytes of the buffer of `reader` to `bytes`, and consumes them. It returns `Err` if
+/// memory is refused. Nothing but capacities changes then.
 pub(crate) fn take_in<R: AsyncBufRead, A: Allocator + Copy>(
     reader: &mut R,
     amount: usize,
@@ -56,7 +57,7 @@ fn hold<A: Allocator + Copy>(
     bytes.extend_from_slice(piece)
 }
 
-/// Makes room, so that there are `len` bytes. `Err` says that memory was refused; the bytes stay then.
+/// Extends `bytes` to the length `len`. It returns `Err` if memory is refused; the bytes are unchanged then.
 pub(crate) fn make_room<A: Allocator + Copy>(
     text: &mut String<A>,
     bytes: &mut Vec<u8, A>,
@@ -76,7 +77,8 @@ pub(crate) fn make_room<A: Allocator + Copy>(
     add_zeros(bytes, len)
 }
 
-// Sees to it that the text can take in `len` bytes. One that is empty takes over their memory, and gives its own for them.
+// Makes room for `len` bytes in the text. An empty text hands its memory to the bytes instead, and takes
+// theirs over later.
 fn prepare<A: Allocator + Copy>(
     text: &mut String<A>,
     bytes: &mut Vec<u8, A>,
@@ -112,8 +114,8 @@ fn take_memory<A: Allocator + Copy>(text: &mut String<A>, bytes: &mut Vec<u8, A>
     }
 }
 
-/// The value where reading the bytes gave `read`. They go into the text, if they are text, and none are held then. Where
-/// they are known as UTF-8 they are not checked.
+/// Returns the value of the future, given what reading returned. It moves the bytes to the text if they are
+/// UTF-8, and drops them if not. If `known` says that they are UTF-8, it does not check them.
 pub(crate) fn finish<A: Allocator + Copy>(
     text: &mut String<A>,
     bytes: &mut Vec<u8, A>,
@@ -138,8 +140,8 @@ pub(crate) fn finish<A: Allocator + Copy>(
     }
 }
 
-// Adds the bytes to the text, and answers whether they are UTF-8. If not, they are not added. A text that was empty has
-// their memory then.
+// Adds the bytes to the text if they are UTF-8, and returns whether they are. An empty text takes over their
+// memory.
 fn add_text<A: Allocator + Copy>(text: &mut String<A>, bytes: &mut Vec<u8, A>, known: bool) -> bool
     requires fits { HasRoomFor text.old bytes.old }
     requires known { known ≡ true → IsUtf8 bytes.old.items }

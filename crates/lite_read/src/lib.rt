@@ -1,4 +1,4 @@
-//! Futures of reading and seeking; what cuts the bytes of a reader into pieces and lines, and what is read as text.
+//! Futures of reading and seeking, and streams of the bytes, pieces and lines of a reader.
 #![tactic(auto)]
 
 mod append;

@@ -12,13 +12,15 @@ use lite_io_base::{AsyncBufRead, CountedRead};
 use std::alloc::Global;
 use std::io;
 
-/// The stream of the lines of a reader.
+/// A stream of the lines of a reader.
 ///
-/// Made by [`lines`](crate::make::lines). An item is `Ok` with the text before a newline (0x0A), without a return (0x0D) at
-/// its end, or before an end if there is some, and that keeps its return. It is an `Err` of the kind `InvalidData` where the
-/// line isn't UTF-8, and the next poll goes on behind that line; or one with an error of the reader, or of the kind
-/// `OutOfMemory` where memory was refused. These two cut nothing: the bytes before them stay, and the next poll goes on
-/// with them. Ported from `src/io.rs`, `Lines`.
+/// Returned by [`lines`](crate::make::lines). An item is `Ok` with the text before a newline (0x0A), without
+/// a carriage return (0x0D) at its end. The text before end of file is a line too, unless it is empty; it
+/// keeps its carriage return. Size hint: `(0, None)`.
+///
+/// An item is an error of the kind `InvalidData` if a line is not UTF-8; the next poll continues after that
+/// line. It is the error of the reader if there is one, or an error of the kind `OutOfMemory` if memory is
+/// refused. After these two the bytes before them are kept, and the next poll continues the line.
 #[derive(Debug, Drop)]
 pub struct Lines<R> {
     pub(crate) reader: R,

@@ -1,4 +1,4 @@
-//! What makes the futures.
+//! The functions that make the futures and streams.
 ghost use Rattle.std.specs.Prelude.{◌≡◌, length, Some, []};
 ghost use Rattle.lite_read.specs.ReadLine.{LineHolds};
 ghost use Rattle.lite_read.specs.ReadToString.{StringHolds as AllHolds, text_front};
@@ -19,14 +19,14 @@ use crate::text::LineBytes;
 use std::alloc::{Allocator, Global};
 use std::io::{IoSliceMut, SeekFrom};
 
-/// The bytes of a reader, one by one. Ported from `src/io.rs`, `AsyncReadExt::bytes`.
+/// Returns a stream of the bytes of `reader`.
 pub fn bytes<R>(reader: R) -> Bytes<R>
     ensures { result ≡ record { inner = reader } }
 {
     Bytes { inner: reader }
 }
 
-/// The future of the bytes that come next, which the reader lends. Ported from `src/io.rs`, `AsyncBufReadExt::fill_buf`.
+/// Returns a future that returns a slice of the next bytes of `reader`.
 pub fn fill_buf<R>(reader: &mut R) -> FillBuf<'_, R>
     ensures { result ≡ record { reader = Some reader.entry } }
 {
@@ -35,14 +35,14 @@ pub fn fill_buf<R>(reader: &mut R) -> FillBuf<'_, R>
     }
 }
 
-/// The future of one read into `buf`. Ported from `src/io.rs`, `AsyncReadExt::read`.
+/// Returns a future that reads once into `buf`.
 pub fn read<'a, R>(reader: &'a mut R, buf: &'a mut [u8]) -> ReadFuture<'a, R>
     ensures { result ≡ record { reader = reader.entry; buf = buf.entry } }
 {
     ReadFuture { reader, buf }
 }
 
-/// The future of reads that fill `buf`. Ported from `src/io.rs`, `AsyncReadExt::read_exact`.
+/// Returns a future that reads until `buf` is full.
 pub fn read_exact<'a, R>(reader: &'a mut R, buf: &'a mut [u8]) -> ReadExactFuture<'a, R>
     ensures { result ≡ record { reader = reader.entry; buf = buf.entry; filled = 0 } }
 {
@@ -53,8 +53,7 @@ pub fn read_exact<'a, R>(reader: &'a mut R, buf: &'a mut [u8]) -> ReadExactFutur
     }
 }
 
-/// The future of reads up to an end, whose bytes are appended to `buf`. Ported from `src/io.rs`,
-/// `AsyncReadExt::read_to_end`.
+/// Returns a future that appends everything up to end of file to `buf`.
 pub fn read_to_end<'a, R, A: Allocator>(
     reader: &'a mut R,
     buf: &'a mut Vec<u8, A>,
@@ -72,7 +71,7 @@ pub fn read_to_end<'a, R, A: Allocator>(
     }
 }
 
-/// The future of one read into `bufs`. Ported from `src/io.rs`, `AsyncReadExt::read_vectored`.
+/// Returns a future that reads once into `bufs`.
 pub fn read_vectored<'a, 'b, R>(
     reader: &'a mut R,
     bufs: &'a mut [IoSliceMut<'b>],
@@ -85,15 +84,14 @@ pub fn read_vectored<'a, 'b, R>(
     }
 }
 
-/// The future of one seek to `pos`. Ported from `src/io.rs`, `AsyncSeekExt::seek`.
+/// Returns a future that seeks once to `pos`.
 pub fn seek<S>(seeker: &mut S, pos: SeekFrom) -> SeekFuture<'_, S>
     ensures { result ≡ record { seeker = seeker.entry; pos = pos } }
 {
     SeekFuture { seeker, pos }
 }
 
-/// The stream of the pieces of `reader` between bytes that are `byte`. Its pieces take their memory from `alloc`.
-/// Ported from `src/io.rs`, `AsyncBufReadExt::split`.
+/// Returns a stream of the pieces of `reader` between bytes equal to `byte`, allocated from `alloc`.
 pub fn split<R>(reader: R, alloc: Global, byte: u8) -> Split<R>
     ensures reader { result.reader ≡ reader }
     ensures byte { result.byte ≡ byte }
@@ -107,8 +105,7 @@ pub fn split<R>(reader: R, alloc: Global, byte: u8) -> Split<R>
     }
 }
 
-/// The stream of the lines of `reader`. They take their memory from `alloc`. Ported from `src/io.rs`,
-/// `AsyncBufReadExt::lines`.
+/// Returns a stream of the lines of `reader`, allocated from `alloc`.
 pub fn lines<R>(reader: R, alloc: Global) -> Lines<R>
     ensures reader { result.reader ≡ reader }
     ensures empty { result.held.bytes.items ≡ [] }
@@ -120,8 +117,7 @@ pub fn lines<R>(reader: R, alloc: Global) -> Lines<R>
     }
 }
 
-/// The future of reads of `reader` that are appended to `buf`, up to a byte that is `byte`. Ported from `src/io.rs`,
-/// `AsyncBufReadExt::read_until`.
+/// Returns a future that appends the bytes up to and including the first `byte` to `buf`.
 pub fn read_until<'a, R>(
     reader: &'a mut R,
     byte: u8,
@@ -138,8 +134,7 @@ pub fn read_until<'a, R>(
     }
 }
 
-/// The future of one line of `reader`, which is appended to `text`. Its memory comes from the text's allocator. Ported from
-/// `src/io.rs`, `AsyncBufReadExt::read_line`.
+/// Returns a future that appends one line to `text`. It allocates from the allocator of `text`.
 pub fn read_line<'a, R, A: Allocator + Copy>(
     reader: &'a mut R,
     text: &'a mut String<A>,
@@ -158,8 +153,8 @@ pub fn read_line<'a, R, A: Allocator + Copy>(
     }
 }
 
-/// The future of reads of `reader` up to an end, which are appended to `text`. Its memory comes from the text's allocator.
-/// Ported from `src/io.rs`, `AsyncReadExt::read_to_string`.
+/// Returns a future that appends everything up to end of file to `text`. It allocates from the allocator of
+/// `text`.
 pub fn read_to_string<'a, R, A: Allocator + Copy>(
     reader: &'a mut R,
     text: &'a mut String<A>,

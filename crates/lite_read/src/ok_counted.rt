@@ -1,4 +1,4 @@
-//! Ranks over `Ok` items. Memory may be refused as often as it is asked for, so no rank falls with each item.
+//! Ranks over `Ok` items only: memory may be refused in every poll, so `Err` items lower no rank.
 ghost use Rattle.std.specs.Prelude.{⊤};
 ghost use Rattle.lite_read.specs.Laws.Counting.{flow_counting, flow_ranks};
 ghost use Rattle.lite_read.specs.Lines.{lines_over};

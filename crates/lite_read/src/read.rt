@@ -6,11 +6,10 @@ use lite_base::{Context, Future, Poll};
 use lite_io_base::AsyncRead;
 use std::io;
 
-/// The future of one read into a buffer.
+/// A future that reads once into a buffer.
 ///
-/// Made by [`read`](crate::make::read). Each poll is one read of the reader. The value is how many bytes, at most the
-/// buffer's length, stand at its front, where 0 into some room is an end, or the reader's error. Ported from `src/io.rs`,
-/// `ReadFuture`.
+/// Returned by [`read`](crate::make::read). Each poll reads once. The value is the number of bytes at the
+/// front of the buffer, or the error of the reader. 0 means end of file, unless the buffer is empty.
 #[derive(Debug, Drop)]
 pub struct ReadFuture<'a, R> {
     pub(crate) reader: &'a mut R,

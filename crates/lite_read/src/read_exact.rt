@@ -9,11 +9,11 @@ use lite_io_base::AsyncRead;
 use std::io;
 use std::io::ErrorKind;
 
-/// The future of reads that fill a buffer.
+/// A future that reads until a buffer is full.
 ///
-/// Made by [`read_exact`](crate::make::read_exact). Where the buffer is full nothing is read. The value is `Ok` where it is
-/// full, an `UnexpectedEof` where the reader ended before, and else the reader's error; what was read stands at the front
-/// of the buffer then. Ported from `src/io.rs`, `ReadExactFuture`.
+/// Returned by [`read_exact`](crate::make::read_exact). Once the buffer is full it reads nothing. The value
+/// is `Ok` then. It is an error of the kind `UnexpectedEof` if the reader ends earlier, and otherwise the
+/// error of the reader. After either, the bytes read so far are at the front of the buffer.
 #[derive(Debug, Drop)]
 pub struct ReadExactFuture<'a, R> {
     pub(crate) reader: &'a mut R,

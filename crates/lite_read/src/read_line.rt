@@ -14,16 +14,19 @@ use lite_io_base::{AsyncBufRead, CountedRead};
 use std::alloc::{Allocator, Global};
 use std::io;
 
-/// The future of one line, which is appended to a text.
+/// A future that appends one line of a reader to a text.
 ///
-/// Made by [`read_line`](crate::make::read_line). The value is `Ok` with the number of bytes that were read, the newline
-/// (0x0A) among them if there was one, and 0 at an end before any: the text ends with them then. It is an `Err` of the kind
-/// `InvalidData` where these bytes are not UTF-8, and they are dropped then; or one with an error of the reader, or of the
-/// kind `OutOfMemory` where memory was refused. What was read before these two is appended to the text if it is UTF-8, and
-/// else dropped; a piece for which there was no memory is not read. No byte past the newline is read. While a poll is
-/// pending the text is as it was. The bytes are read into the memory of an empty text, or into more, which is its own once it
-/// has the bytes; so a text that is emptied before each line takes more memory only for a longer line. Ported from
-/// `src/io.rs`, `ReadLineFuture`.
+/// Returned by [`read_line`](crate::make::read_line). The value is the number of bytes appended, including
+/// the newline (0x0A) if there is one. It is 0 if the reader is at end of file. No byte after the newline is
+/// read. While a poll is pending, the text is unchanged.
+///
+/// The value is an error of the kind `InvalidData` if the bytes are not UTF-8; they are dropped then. It is
+/// the error of the reader if there is one, or an error of the kind `OutOfMemory` if memory is refused. After
+/// these two, the bytes read so far are appended if they are UTF-8, and dropped if not. Bytes refused for
+/// lack of memory are not read.
+///
+/// The bytes are read into the memory of the text if that is empty, or into more memory, which the text takes
+/// over. So a text that is cleared before each line allocates only for a longer line.
 #[derive(Debug, Drop)]
 pub struct ReadLineFuture<'a, R, A: Allocator = Global> {
     pub(crate) reader: &'a mut R,
@@ -35,7 +38,8 @@ pub struct ReadLineFuture<'a, R, A: Allocator = Global> {
 }
 
 impl<R: AsyncBufRead, A: Allocator + Copy> ReadLineFuture<'_, R, A> {
-    // Takes in the first `amount` bytes that are there, and it is known whether they are ASCII.
+    // Adds the first `amount` bytes of the buffer of the reader, of which `ascii` says whether they are
+    // ASCII.
     #[tactic(auto, using(crate::proofs::Texts::ascii_more))]
     fn take_in(&mut self, amount: usize, ascii: bool) -> io::Result<()>
         requires held { LineHolds self.old }
@@ -70,7 +74,7 @@ impl<R: AsyncBufRead, A: Allocator + Copy> ReadLineFuture<'_, R, A> {
         self.finish(Ok(amount))
     }
 
-    // The value of a line whose bytes are held, where reading them gave `read`.
+    // Returns the value for a line whose bytes are held, given what reading returned.
     #[tactic(auto, using(crate::proofs::Texts::all_utf8))]
     fn finish(&mut self, read: io::Result<usize>) -> io::Result<usize>
         requires { LineHolds self.old }
@@ -82,7 +86,7 @@ impl<R: AsyncBufRead, A: Allocator + Copy> ReadLineFuture<'_, R, A> {
     }
 }
 
-// How many bytes a reader lends.
+// Returns how many bytes are in the buffer of a reader.
 fn lent_by<R: AsyncBufRead>(reader: &R) -> usize
     ensures { result ≡ length (R.lent reader.now) }
 {

@@ -12,20 +12,22 @@ use std::alloc::{AllocError, Allocator, Global};
 use std::io;
 use std::io::ErrorKind;
 
-/// The future of reads up to an end, whose bytes are appended to a vector.
+/// A future that appends everything up to end of file to a vector.
 ///
-/// Made by [`read_to_end`](crate::make::read_to_end). The value is how many bytes were appended, the reader's error, or an
-/// error of the kind `OutOfMemory` where there was no memory for more; what was read is appended in each case, and when a
-/// poll is pending. Room is made before each read, so that a refusal loses nothing, and is cut off before each answer.
-/// Of the room of a poll each byte is zeroed once: there are 32 at first, and twice as many as the largest read that left
-/// no room. Ported from `src/io.rs`, `ReadToEndFuture`.
+/// Returned by [`read_to_end`](crate::make::read_to_end). The value is the number of bytes appended. It is
+/// the error of the reader if there is one, or an error of the kind `OutOfMemory` if memory is refused. In
+/// each case, and while a poll is pending, everything read so far is in the vector.
+///
+/// Room is made before each read, so no byte that was read is lost for lack of memory. It is truncated before
+/// each poll returns. There are 32 bytes at first, and then twice the largest read that filled its room.
+/// Within a poll each byte of that room is zeroed once.
 #[derive(Debug, Drop)]
 pub struct ReadToEndFuture<'a, R, A: Allocator = Global> {
     pub(crate) reader: &'a mut R,
     pub(crate) buf: &'a mut Vec<u8, A>,
     // How long the vector was.
     pub(crate) start: usize,
-    // How much of the vector was there or was read. What stands behind it is room.
+    // How much of the vector was there before or was read. The rest is room.
     pub(crate) filled: usize,
     // How much room is made at once, if that is more than the first.
     pub(crate) room: usize,

@@ -16,15 +16,18 @@ use std::alloc::{AllocError, Allocator, Global};
 use std::io;
 use std::io::ErrorKind;
 
-/// The future of reads up to an end, whose bytes are appended to a text.
+/// A future that appends everything up to end of file to a text.
 ///
-/// Made by [`read_to_string`](crate::make::read_to_string). The value is `Ok` with the number of bytes that were read: the
-/// text ends with them then. It is an `Err` of the kind `InvalidData` where they are not UTF-8, and they are dropped then; or
-/// one with an error of the reader, or of the kind `OutOfMemory` where memory was refused. What was read before these two is
-/// appended to the text if it is UTF-8, and else dropped. Room is made before each read, in the text too, so that a refusal
-/// loses nothing; no byte of it is zeroed twice. While a poll is pending the text is as it was. An empty text needs no room:
-/// the bytes are read into its memory, or into more, which is its own once it has the bytes. Ported from `src/io.rs`,
-/// `ReadToStringFuture`.
+/// Returned by [`read_to_string`](crate::make::read_to_string). The value is the number of bytes appended.
+/// While a poll is pending, the text is unchanged.
+///
+/// The value is an error of the kind `InvalidData` if the bytes are not UTF-8; they are dropped then. It is
+/// the error of the reader if there is one, or an error of the kind `OutOfMemory` if memory is refused. After
+/// these two, the bytes read so far are appended if they are UTF-8, and dropped if not.
+///
+/// Room is made before each read, in the text too, so no byte that was read is lost for lack of memory. No
+/// byte of it is zeroed twice. An empty text needs no room: the bytes are read into its memory, or into more
+/// memory, which the text takes over.
 #[derive(Debug, Drop)]
 pub struct ReadToStringFuture<'a, R, A: Allocator = Global> {
     pub(crate) reader: &'a mut R,
@@ -61,7 +64,7 @@ impl<R, A: Allocator + Copy> ReadToStringFuture<'_, R, A> {
         }
     }
 
-    // The value, where reading gave `read`.
+    // Returns the value, given what reading returned.
     fn finish(&mut self, read: io::Result<usize>) -> io::Result<usize>
         requires { StringHolds self.old }
         ensures { FinishesText all_over self.old read result self.new }

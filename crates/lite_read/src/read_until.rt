@@ -11,12 +11,12 @@ use lite_base::{Context, Future, Poll, PollSteps, drive};
 use lite_io_base::{AsyncBufRead, CountedRead};
 use std::io;
 
-/// The future of reads up to a delimiter, or to an end.
+/// A future that appends the bytes up to and including a delimiter, or up to end of file, to a vector.
 ///
-/// Made by [`read_until`](crate::make::read_until). The value is `Ok` with the number of bytes that were appended to the
-/// vector, the delimiter among them, and 0 at an end before any; or `Err` with an error of the reader, or of the kind
-/// `OutOfMemory` where memory was refused. What was read before an error stays in the vector, and what was not appended is
-/// not read. Ported from `src/io.rs`, `ReadUntilFuture`.
+/// Returned by [`read_until`](crate::make::read_until). The value is the number of bytes appended, including
+/// the delimiter. It is 0 if the reader is at end of file. It is the error of the reader if there is one, or
+/// an error of the kind `OutOfMemory` if memory is refused. The bytes read before an error are in the vector.
+/// Bytes that were not appended are not read.
 #[derive(Debug, Drop)]
 pub struct ReadUntilFuture<'a, R> {
     pub(crate) reader: &'a mut R,

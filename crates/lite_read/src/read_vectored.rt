@@ -8,11 +8,11 @@ use lite_io_base::AsyncRead;
 use std::io::IoSliceMut;
 use std::{io, mem};
 
-/// The future of one read into buffers.
+/// A future that reads once into several buffers.
 ///
-/// Made by [`read_vectored`](crate::make::read_vectored). Each poll is one vectored read of the reader. The value is how
-/// many bytes were read into the buffers, at most as many as they have room for, where 0 into some room is an end, or the
-/// reader's error. Ported from `src/io.rs`, `ReadVectoredFuture`.
+/// Returned by [`read_vectored`](crate::make::read_vectored). Each poll is one vectored read. The value is
+/// the number of bytes read into the buffers, or the error of the reader. 0 means end of file, unless the
+/// buffers have no room.
 #[derive(Debug, Drop)]
 pub struct ReadVectoredFuture<'a, 'b, R> {
     pub(crate) reader: &'a mut R,

@@ -6,7 +6,8 @@ use std::alloc::{AllocError, Allocator};
 /// How many bytes the first read has room for.
 pub(crate) const FIRST_ROOM: usize = 32;
 
-/// How much room is made at once next, after a read of so many bytes: twice as many, if it left no room and that is more.
+/// Returns how much room is made next, after a read of `read` bytes: twice as many, if it filled its room and
+/// if that is more than before.
 pub(crate) fn next_room(room: usize, read: usize, is_full: bool) -> usize
     ensures least { room ≤ result }
     ensures most { result ≤ max room (2 * read) }
@@ -18,7 +19,8 @@ pub(crate) fn next_room(room: usize, read: usize, is_full: bool) -> usize
     }
 }
 
-/// Adds zeros, so that there are `len` bytes. `Err` says that memory was refused; the bytes stay then.
+/// Extends `bytes` with zeros to the length `len`. It returns `Err` if memory is refused; the bytes are
+/// unchanged then.
 #[inline(always)]
 pub(crate) fn add_zeros<A: Allocator>(bytes: &mut Vec<u8, A>, len: usize) -> Result<(), AllocError>
     requires { length bytes.old.items ≤ len }

@@ -1,4 +1,4 @@
-//! Where a line ends.
+//! The search for the end of a line.
 ghost use Rattle.std.specs.Prelude.{◌≡◌, ◌+◌, ◌≤◌, length, take, drop, position, IsTrue};
 ghost use Rattle.lite_read.specs.Uses.{is_ascii, before_first, list_all, position_or_len, prefix_len};
 ghost use Rattle.lite_read.specs.Scan.{IsPlain, LineGoesOn, first_set, is_newline};
@@ -13,17 +13,43 @@ const LANES: usize = 32;
 /// How many of a long line are.
 const LONG: usize = 64;
 
-/// Where the first line of some bytes ends, and whether it is ASCII.
+/// The position of the first newline in a slice, and whether the line before it is ASCII.
+///
+/// It is what [`scan_line`] returns.
+///
+/// # Examples
+///
+/// ```
+/// use futures_lite::io::{LineScan, scan_line};
+///
+/// let LineScan { newline, ascii } = scan_line(b"hello\nhi");
+/// assert_eq!(rt; newline, Some(5));
+/// assert!(rt; ascii);
+/// ```
 #[derive(Clone, Copy, Debug, PartialEq, Eq)]
 pub struct LineScan {
-    /// The place of the first newline, 0x0A. `None` says that there is none.
+    /// The position of the first newline (0x0A), or `None` if there is none.
     pub newline: Option<usize>,
-    /// Whether each byte before it (each byte, where there is none) is below 0x80.
+    /// Whether each byte before the newline is below 0x80. If there is no newline, whether each byte is.
     pub ascii: bool,
 }
 
-/// Looks for the first newline, and for bytes before it that are not ASCII. Takes no memory, and looks at no byte past the
-/// 32 that hold the newline. The original has no such call.
+/// Returns the position of the first newline (0x0A) in `bytes`, and whether all bytes before it are ASCII.
+///
+/// It does not allocate. It reads at most 63 bytes after the newline.
+///
+/// # Examples
+///
+/// ```
+/// use futures_lite::io::scan_line;
+///
+/// let line = scan_line(b"na\xc3\xafve\nhi");
+/// assert_eq!(rt; line.newline, Some(6));
+/// assert!(rt; !line.ascii);
+/// let last = scan_line(b"hi");
+/// assert_eq!(rt; last.newline, None);
+/// assert!(rt; last.ascii);
+/// ```
 pub fn scan_line(bytes: &[u8]) -> LineScan
     ensures newline { result.newline ≡ position is_newline bytes.now }
     ensures ascii { result.ascii ≡ list_all is_ascii (before_first is_newline bytes.now) }

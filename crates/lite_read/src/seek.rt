@@ -7,10 +7,10 @@ use lite_io_base::AsyncSeek;
 use std::io;
 use std::io::SeekFrom;
 
-/// The future of one seek.
+/// A future that seeks once.
 ///
-/// Made by [`seek`](crate::make::seek). Each poll is one seek of the seeker. The value is the new position, in bytes from the
-/// start, or the seeker's error. Ported from `src/io.rs`, `SeekFuture`.
+/// Returned by [`seek`](crate::make::seek). Each poll seeks once. The value is the new position, in bytes
+/// from the start, or the error of the seek.
 #[derive(Debug, Drop)]
 pub struct SeekFuture<'a, S> {
     pub(crate) seeker: &'a mut S,

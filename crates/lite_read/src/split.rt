@@ -12,11 +12,13 @@ use lite_io_base::{AsyncBufRead, CountedRead};
 use std::alloc::Global;
 use std::{io, mem};
 
-/// The stream of the pieces between delimiters.
+/// A stream of the pieces of a reader between delimiters.
 ///
-/// Made by [`split`](crate::make::split). An item is `Ok` with the bytes before a delimiter, or before an end if there are
-/// some; or `Err` with an error of the reader, or of the kind `OutOfMemory` where memory was refused. An error cuts
-/// nothing: the bytes before it stay, and the next poll goes on with them. Ported from `src/io.rs`, `Split`.
+/// Returned by [`split`](crate::make::split). An item is `Ok` with the bytes before a delimiter. The bytes
+/// before end of file are an item too, unless there are none. Size hint: `(0, None)`.
+///
+/// An item is the error of the reader if there is one, or an error of the kind `OutOfMemory` if memory is
+/// refused. After an error the bytes before it are kept, and the next poll continues the piece.
 #[derive(Debug, Drop)]
 pub struct Split<R> {
     pub(crate) reader: R,
@@ -27,7 +29,7 @@ pub struct Split<R> {
 }
 
 impl<R: AsyncBufRead> Split<R> {
-    // The piece that ends at the delimiter at `at`, which is taken with it.
+    // Returns the piece before the delimiter at `at`, and consumes both.
     fn cut(&mut self, at: usize) -> io::Result<Vec<u8>>
         requires { at < length (R.lent self.old.reader) }
         ensures ok { IfOk result (λ v. IsVec (self.old.held.items ++ take at (R.lent self.old.reader)) result
@@ -64,7 +66,7 @@ impl<R: AsyncBufRead> Split<R> {
         Ok(())
     }
 
-    // What is held at an end, if it is something.
+    // Returns what is held at end of file, if there is something.
     fn last(&mut self) -> Option<io::Result<Vec<u8>>>
         ensures value { AtEnd IsVec self.old.held.items result }
         ensures empty { self.new.held.items ≡ [] }

@@ -1,4 +1,4 @@
-//! The futures and streams whose answers do not depend on when their reader was pending.
+//! The futures and streams whose results do not depend on when their reader returned `Pending`.
 ghost use Rattle.std.specs.Prelude.{⊤};
 ghost use Rattle.lite_read.specs.Uses.{Sameness};
 ghost use Rattle.lite_read.specs.Bytes.{TellsBytes};

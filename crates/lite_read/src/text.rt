@@ -64,7 +64,7 @@ impl LineBytes {
         text_of(bytes, ascii)
     }
 
-    // The text of a line that ended at an end, if there is something of it. Nothing is held then.
+    // Returns the text of a last line without a newline, if there is one. Nothing is held then.
     #[tactic(auto, using(crate::proofs::Texts::all_utf8))]
     pub(crate) fn last(&mut self, alloc: Global) -> Option<io::Result<String>>
         ensures text { AtEnd IsText self.old.bytes.items result }

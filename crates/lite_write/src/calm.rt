@@ -1,4 +1,4 @@
-//! The futures that are never pending where their writer isn't.
+//! The futures that never return `Pending` if their writer never does.
 ghost use Rattle.lite_write.specs.Laws.CalmWrite.{close_calm, flush_calm, vectored_calm, write_calm};
 ghost use Rattle.lite_write.specs.Laws.SteadyWriteAll.{all_calm};
 ghost use Rattle.lite_write.specs.Laws.SteadyCopy.{copy_calm};

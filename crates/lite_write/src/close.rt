@@ -5,10 +5,10 @@ use lite_base::{Context, Future, Poll};
 use lite_io_base::AsyncWrite;
 use std::io;
 
-/// The future of the close of a writer.
+/// A future that closes a writer.
 ///
-/// Made by [`close`](crate::make::close). Each poll is one `poll_close` of the writer. The value is `Ok`, or the writer's error.
-/// Ported from `src/io.rs`, `CloseFuture`.
+/// Returned by [`close`](crate::make::close). Each poll is one call of `poll_close`. The value is `Ok`, or
+/// the error of the writer.
 #[derive(Debug, Drop)]
 pub struct CloseFuture<'a, W> {
     pub(crate) writer: &'a mut W,

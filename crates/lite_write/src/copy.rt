@@ -17,15 +17,16 @@ pub(crate) enum Phase {
     Flushing,
 }
 
-/// The future of a copy of what a reader gives, up to its first end, to a writer, which is then flushed.
+/// A future that copies everything from a reader, up to its first end of file, to a writer, and then flushes
+/// the writer.
 ///
-/// Made by [`copy`](crate::make::copy). The value is how many bytes were written, all that the reader gave before its
-/// end; after `u64::MAX` comes 0. Or it is an error of the reader, of a write or of the flush, or one of the kind
-/// `WriteZero` where a write took none. After an error what was written stays written, and what was read and not written
-/// is lost with the future.
+/// Returned by [`copy`](crate::make::copy). The value is the number of bytes written. After `u64::MAX` the
+/// count wraps to 0. The value is an error of the reader, of a write or of the flush if there is one. It is
+/// an error of the kind `WriteZero` if a write takes no bytes. After an error what was written stays written.
+/// Bytes that were read but not written are lost with the future.
 ///
-/// The reader is asked only where nothing is left to be written, and no more after its end: where the flush is pending, the
-/// next poll flushes again. No poll takes memory. Ported from `src/io.rs`, `CopyFuture`.
+/// The reader is polled only if nothing is left to be written, and never after its end of file: if the flush
+/// is pending, the next poll flushes again. No poll allocates.
 #[derive(Debug, Drop)]
 pub struct CopyFuture<R, W> {
     pub(crate) reader: BufReader<R>,
@@ -38,7 +39,7 @@ pub struct CopyFuture<R, W> {
     ghost drained: { phase ≡ Flushing → ahead reader ≡ [] },
 }
 
-/// Fills a reader, and answers whether it then lends nothing.
+/// Fills the buffer of a reader, and returns whether it is empty then.
 fn fill<R: AsyncBufRead>(reader: &mut R, cx: &mut Context<'_>) -> Poll<io::Result<bool>>
     ensures ran { R.reads reader.old (fill_marks result (R.lent reader.new)) reader.new }
     ensures empty { IfReady result (λ r. IfOk r (λ empty. IsTrue empty ↔ R.lent reader.new ≡ [])) }

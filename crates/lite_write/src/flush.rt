@@ -5,10 +5,10 @@ use lite_base::{Context, Future, Poll};
 use lite_io_base::AsyncWrite;
 use std::io;
 
-/// The future of one flush of a writer.
+/// A future that flushes a writer once.
 ///
-/// Made by [`flush`](crate::make::flush). Each poll is one `poll_flush` of the writer. The value is `Ok`, or the writer's error.
-/// Ported from `src/io.rs`, `FlushFuture`.
+/// Returned by [`flush`](crate::make::flush). Each poll is one call of `poll_flush`. The value is `Ok`, or
+/// the error of the writer.
 #[derive(Debug, Drop)]
 pub struct FlushFuture<'a, W> {
     pub(crate) writer: &'a mut W,

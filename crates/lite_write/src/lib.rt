@@ -1,4 +1,4 @@
-//! Futures of writing, the writer that takes all, and what a reader gives, written to a writer.
+//! Futures of writing, flushing, closing and copying, and a writer that drops its bytes.
 #![tactic(auto)]
 
 mod calm;

@@ -1,4 +1,4 @@
-//! What makes the futures, and the writer that takes all.
+//! The functions that make the futures, and the writer that drops its bytes.
 ghost use Rattle.std.specs.Prelude.{◌≡◌, IfErr, IfOk};
 ghost use Rattle.lite_write.specs.Uses.{reader_capacity};
 ghost use Rattle.lite_write.specs.Parts.{NothingCopied, source_of};
@@ -14,40 +14,49 @@ use lite_buffered::BufReader;
 use std::alloc::Global;
 use std::io::IoSlice;
 
-/// The future of the close of `writer`. Ported from `src/io.rs`, `AsyncWriteExt::close`.
+/// Returns a future that closes `writer`.
 pub fn close<W>(writer: &mut W) -> CloseFuture<'_, W>
     ensures { result ≡ record { writer = writer.entry } }
 {
     CloseFuture { writer }
 }
 
-/// The future of one flush of `writer`. Ported from `src/io.rs`, `AsyncWriteExt::flush`.
+/// Returns a future that flushes `writer` once.
 pub fn flush<W>(writer: &mut W) -> FlushFuture<'_, W>
     ensures { result ≡ record { writer = writer.entry } }
 {
     FlushFuture { writer }
 }
 
-/// The writer that takes all. Ported from `src/io.rs`, `sink`.
+/// Returns a writer that takes all bytes and drops them.
+///
+/// # Examples
+///
+/// ```
+/// use futures_lite::{AsyncWriteExt, future, io};
+///
+/// let mut sink = io::sink();
+/// assert_eq!(rt; future::block_on(&rt, sink.write(b"hello"))??, 5);
+/// ```
 pub fn sink() -> Sink {
     Sink {}
 }
 
-/// The future of one write of `buf`. Ported from `src/io.rs`, `AsyncWriteExt::write`.
+/// Returns a future that writes `buf` once.
 pub fn write<'a, W>(writer: &'a mut W, buf: &'a [u8]) -> WriteFuture<'a, W>
     ensures { result ≡ record { writer = writer.entry; buf = buf.entry } }
 {
     WriteFuture { writer, buf }
 }
 
-/// The future of writes of all of `buf`. Ported from `src/io.rs`, `AsyncWriteExt::write_all`.
+/// Returns a future that writes until all of `buf` is taken.
 pub fn write_all<'a, W>(writer: &'a mut W, buf: &'a [u8]) -> WriteAllFuture<'a, W>
     ensures { result ≡ record { writer = writer.entry; buf = buf.entry } }
 {
     WriteAllFuture { writer, buf }
 }
 
-/// The future of one write of the bytes of `bufs`. Ported from `src/io.rs`, `AsyncWriteExt::write_vectored`.
+/// Returns a future that writes the bytes of `bufs` once.
 pub fn write_vectored<'a, W>(
     writer: &'a mut W,
     bufs: &'a [IoSlice<'a>],
@@ -57,8 +66,8 @@ pub fn write_vectored<'a, W>(
     WriteVectoredFuture { writer, bufs }
 }
 
-/// The future of a copy of what `reader` gives, up to its first end, to `writer`, through a buffer of 8192 bytes. `Err`
-/// hands both back, where there was no memory for the buffer. Both have to be `Drop`. Ported from `src/io.rs`, `copy`.
+/// Returns a future that copies everything from `reader` to `writer`, or `Err` if its buffer cannot be
+/// allocated.
 pub fn copy<R: Drop, W: Drop>(
     alloc: Global,
     reader: R,

@@ -8,9 +8,9 @@ use lite_io_base::{AsyncWrite, CalmWrite, SteadyWrite, Takings, Tale, first_none
 use std::io;
 use std::io::IoSlice;
 
-/// A writer that takes all that is offered, and keeps none of it.
+/// A writer that takes all bytes and drops them.
 ///
-/// Made by [`sink`](crate::make::sink). Ported from `src/io.rs`, `Sink`.
+/// Returned by [`sink`](crate::make::sink).
 #[derive(Clone, Copy, Debug)]
 pub struct Sink {}
 
@@ -39,7 +39,7 @@ impl AsyncWrite for Sink {
         Poll::Ready(Ok(buf.len()))
     }
 
-    /// Takes the first of the buffers that has bytes, whole.
+    /// Takes all of the first buffer that is not empty.
     fn poll_write_vectored(
         &mut self,
         cx: &mut Context<'_>,

@@ -1,4 +1,5 @@
-//! The futures whose value does not depend on when their writer was pending: where each write took something, and none failed.
+//! The futures whose value does not depend on when their writer returned `Pending`, if each write takes some
+//! bytes and none fails.
 ghost use Rattle.std.specs.Prelude.{⊤};
 ghost use Rattle.lite_write.specs.Uses.{PolledByCalls, Sameness, SameByKind};
 ghost use Rattle.lite_write.specs.Close.{Closes};
@@ -44,7 +45,7 @@ impl<W: AsyncWrite> SteadyFuture for WriteAllFuture<'_, W> {
     ghost steady = { all_steady W.write_laws };
 }
 
-// Where each write took something, and none failed.
+// If each write takes some bytes and none fails.
 impl<R: CountedRead + SteadyRead, W: AsyncWrite> SteadyFuture for CopyFuture<R, W> {
     ghost ample = { CopyRuns R.ample (WithoutFailure W.writes) };
 

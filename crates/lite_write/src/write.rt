@@ -5,10 +5,10 @@ use lite_base::{Context, Future, Poll};
 use lite_io_base::AsyncWrite;
 use std::io;
 
-/// The future of one write of bytes.
+/// A future that writes once.
 ///
-/// Made by [`write`](crate::make::write). Each poll is one write to the writer. The value is how many of the bytes, from
-/// the front, were taken, or the writer's error, after which none was. Ported from `src/io.rs`, `WriteFuture`.
+/// Returned by [`write`](crate::make::write). Each poll writes once. The value is the number of bytes that
+/// were taken, from the front of the buffer, or the error of the writer. After an error none was taken.
 #[derive(Debug, Drop)]
 pub struct WriteFuture<'a, W> {
     pub(crate) writer: &'a mut W,

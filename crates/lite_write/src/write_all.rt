@@ -9,11 +9,11 @@ use lite_io_base::AsyncWrite;
 use std::io;
 use std::io::ErrorKind;
 
-/// The future of writes that go on until all bytes are taken.
+/// A future that writes until all bytes of a buffer are taken.
 ///
-/// Made by [`write_all`](crate::make::write_all). Where no byte is left nothing is written. The value is `Ok` once all are
-/// taken, an error of the kind `WriteZero` where a write took none, and else the writer's error; what was taken stays
-/// taken. Ported from `src/io.rs`, `WriteAllFuture`.
+/// Returned by [`write_all`](crate::make::write_all). If no byte is left, it writes nothing. The value is
+/// `Ok` once all bytes are taken. It is an error of the kind `WriteZero` if a write takes no bytes, and
+/// otherwise the error of the writer. What was taken stays taken.
 #[derive(Debug, Drop)]
 pub struct WriteAllFuture<'a, W> {
     pub(crate) writer: &'a mut W,

@@ -6,11 +6,11 @@ use lite_io_base::AsyncWrite;
 use std::io;
 use std::io::IoSlice;
 
-/// The future of one write of the bytes of several buffers.
+/// A future that writes the bytes of several buffers once.
 ///
-/// Made by [`write_vectored`](crate::make::write_vectored). Each poll is one vectored write to the writer. The value is
-/// how many of the bytes, one buffer after another, were taken, or the writer's error, after which none was. Ported from
-/// `src/io.rs`, `WriteVectoredFuture`.
+/// Returned by [`write_vectored`](crate::make::write_vectored). Each poll is one vectored write. The value is
+/// the number of bytes that were taken, one buffer after another, or the error of the writer. After an error
+/// none was taken.
 #[derive(Debug, Drop)]
 pub struct WriteVectoredFuture<'a, W> {
     pub(crate) writer: &'a mut W,
