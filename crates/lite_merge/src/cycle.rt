@@ -6,14 +6,15 @@ ghost use Rattle.lite_merge.specs.Laws.Cycle.{cycle_laws};
 use lite_base::{Context, Poll, Stream, ready};
 use std::alloc::AllocError;
 
-/// The items of a stream over and over.
+/// A stream that yields the items of another stream over and over.
 ///
-/// Made by [`cycle`](crate::make::cycle), which keeps a copy of the stream as it was handed in. `Ok` is an item. At an end a
-/// copy of that one is made, and polled once in the same poll; what it answers goes out whatever it is. So the cycle of a
-/// stream without items answers an end, and the next poll asks the same copy.
-/// `Err(AllocError)` is a copy that was refused for want of memory; the next poll asks for it again, without polling the
-/// stream that has ended. A copy is what the stream's own `Clone` may give. Ported from `src/stream.rs`, `Cycle`, whose
-/// copies are not refused.
+/// Returned by [`cycle`](crate::make::cycle), which keeps a clone of the stream as it was passed. When the
+/// stream ends, it clones that one and returns the clone's first result in the same poll, even if that is an
+/// end. So the cycle of an empty stream returns an end, and the next poll polls the same clone.
+///
+/// An item is `Ok`. `Err(AllocError)` means that a clone was refused for want of memory. The next poll tries
+/// again, without polling the stream that has ended. A clone is what the stream's own `Clone` returns. Unlike
+/// futures-lite, where a clone is never refused.
 #[derive(Clone, Debug, Drop)]
 pub struct Cycle<S> {
     pub(crate) original: S,

@@ -7,7 +7,7 @@ ghost use Rattle.lite_reshape.specs.Laws.Chain.{chain_counting, chain_laws};
 
 use lite_base::{Context, Counted, Poll, Stream, ready};
 
-/// Which stream is asked next.
+/// Which stream is polled next.
 #[derive(Clone, Copy, Debug)]
 pub(crate) enum Part {
     First,
@@ -15,10 +15,10 @@ pub(crate) enum Part {
     Done,
 }
 
-/// The items of a stream, and after its end those of another.
+/// A stream that yields the items of one stream, and after its end those of another.
 ///
-/// Made by [`chain`](crate::make::chain). The second stream is asked in the poll that met the first one's end. Neither
-/// is polled after its end, and then this stream ends for ever. Ported from `src/stream.rs`, `Chain`.
+/// Returned by [`chain`](crate::make::chain). The second stream is polled in the same call in which the first
+/// one ends. Neither is polled after its end. When both have ended, this stream ends for ever.
 #[derive(Clone, Debug, Drop)]
 pub struct Chain<S, U> {
     pub(crate) first: S,

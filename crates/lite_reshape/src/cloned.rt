@@ -7,11 +7,11 @@ ghost use Rattle.lite_reshape.specs.Laws.Expanding.{held_ranks};
 use lite_base::{Context, Counted, OkCounted, Poll, Stream, ready};
 use std::alloc::AllocError;
 
-/// What the references of a stream refer to, cloned.
+/// A stream that yields clones of the references that another stream yields.
 ///
-/// Made by [`cloned`](crate::make::cloned). An item is the clone, or `Err(AllocError)` where it was refused for want
-/// of memory; then the reference is kept, and the next poll asks for the same clone again without polling the stream.
-/// A clone that cannot fail is not refused. Ported from `src/stream.rs`, `Cloned`, whose clones are not refused.
+/// Returned by [`cloned`](crate::make::cloned). An item is `Ok` with a clone, or `Err(AllocError)` if the
+/// clone was refused for want of memory. In that case the reference is kept. The next poll tries the same
+/// clone again, without polling the other stream. A clone that cannot fail is never refused.
 #[derive(Clone, Debug, Drop)]
 pub struct Cloned<S: Stream> {
     pub(crate) stream: S,

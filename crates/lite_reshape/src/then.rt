@@ -7,10 +7,10 @@ ghost use Rattle.lite_reshape.specs.Then.{CanThen, HandsOut, MakesEach, Thens, t
 
 use lite_base::{Context, Counted, Future, Poll, Stream, ready};
 
-/// The values of the futures that a function makes of the items of a stream.
+/// A stream that yields the values of the futures that a function returns for the items of another stream.
 ///
-/// Made by [`then`](crate::make::then). A future is polled in the poll that made it; while it is pending it is held, and
-/// the stream is not polled. Ported from `src/stream.rs`, `Then`.
+/// Returned by [`then`](crate::make::then). A future is polled in the call that made it. While it is pending
+/// it is kept, and the other stream is not polled.
 #[derive(Debug, Drop)]
 pub struct Then<S, F, Fut> {
     pub(crate) stream: S,
