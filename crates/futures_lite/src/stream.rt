@@ -640,7 +640,7 @@ pub trait StreamExt: Stream {
     /// end, and not after it. The result ends when both have ended. It returns `Pending` if there is no item
     /// and one of them has not ended.
     ///
-    /// The result is `Counted` if both streams are; its rank counts if both have firm ranks (`ranks.firm`).
+    /// The result is `Counted` if both streams are; its `ranks.counts` then requires `ranks.firm` of both.
     /// Unlike futures-lite, the generator is an argument. Size hint: `(0, None)`.
     ///
     /// # Examples
@@ -672,9 +672,9 @@ pub trait StreamExt: Stream {
     /// Returns a stream that yields the items of this stream over and over.
     ///
     /// It keeps a clone of this stream as it is now. When the stream ends, it clones that one and returns the
-    /// clone's first result in the same poll, even if that is an end. So an empty stream yields an end each
-    /// time. Unlike futures-lite, an item is a `Result`, because a clone may be refused. Size hint:
-    /// `(0, None)`.
+    /// clone's first result in the same poll, even if that is an end. So the cycle of an empty stream returns
+    /// `Ready(None)` at each poll. Unlike futures-lite, an item is a `Result`, because a clone may be
+    /// refused. Size hint: `(0, None)`.
     ///
     /// # Errors
     ///
@@ -869,7 +869,8 @@ pub trait StreamExt: Stream {
 
     /// Returns a stream that yields pairs of a number and an item; the numbers count from 0.
     ///
-    /// The numbers continue across `Pending` and ends. After `usize::MAX` comes 0. Size hint: `(0, None)`.
+    /// The numbers continue across `Pending` and ends. After `usize::MAX` comes 0; unlike in futures-lite,
+    /// nothing panics. Size hint: `(0, None)`.
     ///
     /// # Examples
     ///

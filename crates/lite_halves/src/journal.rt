@@ -14,10 +14,10 @@ use std::snapshot::Snapshot;
 
 /// A stream of bytes that records each of its calls.
 ///
-/// A journal has a clone of the stream as it was at the start, an entry for each call since then with its
-/// answer, and the stream as it is now. Every journal is sound: each answer is one that its call can return,
-/// and the calls in order lead the stream from its start to what it is now. A contract sees the start, the
-/// entries and the stream, and how many more entries there is room for.
+/// A journal has a clone of the stream as it was at the start, and the stream as it is now. It has an entry
+/// for each call since the start, with its answer. Every journal is sound: each answer is one that its call
+/// can return. The calls in order lead the stream from its start to what it is now. A contract sees the
+/// start, the entries and the stream, and how many more entries there is room for.
 ///
 /// Room for an entry, and for the bytes that are read or written, is made before the stream is called. If it
 /// is refused, the call returns an error of the kind `OutOfMemory`. The stream is not called then, and

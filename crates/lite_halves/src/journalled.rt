@@ -81,7 +81,7 @@ where
         return Err(journal);
     };
     let (locked, read_shares, write_shares) = Locked::open(blanks);
-    // The journal is put in last, so that a refusal hands it back.
+    // The journal is put in last, so that it can be returned after a refusal.
     let Ok(shared) = Arc::new(rt.alloc(), Mutex::new(locked)) else {
         return Err(journal);
     };
@@ -147,7 +147,7 @@ pub fn history<R: Wait, T: Tale + Takings + Clone, B: Books>(
 {
     let mut locked = read.shared.lock(&read.rt);
     let told = locked.history(&mut read.tally, &mut write.tally)?;
-    // A look at its entries shows that it is sound.
+    // The contract of `entries` proves that it is sound.
     let _entries = told.entries();
     Ok(told)
 }

@@ -8,13 +8,13 @@ use lite_base::{Context, Counted, Poll, Stream};
 ///
 /// Returned by [`with_budget`](crate::make::with_budget). It returns the results of another stream, in order.
 /// After as many items as its budget without a `Pending` between them, it wakes the task and returns
-/// `Pending` once. That poll does not poll the other stream. It is `Counted` over any stream: its rank is the
-/// number of items that may come before that.
+/// `Pending` once. That poll does not poll the other stream. It is `Counted` over any stream: `ranks` counts
+/// the items that may come before that.
 #[derive(Clone, Debug, Drop)]
 pub struct Budgeted<S> {
     pub(crate) stream: S,
     pub(crate) budget: usize,
-    // How many items may come before it is pending by itself.
+    // How many items may come before it returns `Pending` by itself.
     pub(crate) left: usize,
 }
 

@@ -10,21 +10,21 @@ use std::alloc::AllocError;
 ///
 /// Returned by [`cycle`](crate::make::cycle), which keeps a clone of the stream as it was passed. When the
 /// stream ends, it clones that one and returns the clone's first result in the same poll, even if that is an
-/// end. So the cycle of an empty stream returns an end, and the next poll polls the same clone.
+/// end. So the cycle of an empty stream returns `Ready(None)`, and the next poll polls the same clone.
 ///
 /// An item is `Ok`. `Err(AllocError)` means that a clone was refused for want of memory. The next poll tries
-/// again, without polling the stream that has ended. A clone is what the stream's own `Clone` returns. Unlike
-/// futures-lite, where a clone is never refused.
+/// again, without polling the stream that has ended. A clone is what the stream's own `Clone` returns. In
+/// futures-lite a clone is never refused, so its items are not `Result`s.
 #[derive(Clone, Debug, Drop)]
 pub struct Cycle<S> {
     pub(crate) original: S,
 
-    // None where the stream has ended, and its copy was refused.
+    // None if the stream has ended and its clone was refused.
     pub(crate) stream: Option<S>,
 }
 
 impl<S: Stream + Clone> Cycle<S> {
-    // Asks for a copy, and goes on with it: its first answer goes out, or its refusal.
+    // Makes a clone and continues with it: returns its first result, or the refusal.
     fn renew(&mut self, cx: &mut Context<'_>) -> Poll<Option<Result<S::Item, AllocError>>>
         requires { (copy : S) → S.is_clone self.old.original copy → S.can_poll copy }
         ensures ran { (asked : Result S AllocError)

@@ -109,7 +109,7 @@ impl<S, Fut: Future> StopAfterFuture<S, Fut> {
 }
 
 impl<S, Fut: Future + Drop> StopAfterFuture<S, Fut> {
-    // Lets the future go that is held, and keeps what it gave.
+    // Drops the future, and keeps its value, if there is one.
     fn stop(&mut self, value: Option<Fut::Output>)
         requires { IsSome (future_of self.old.future) }
         ensures { self.new ≡ record self.old { future = Stopped value } }

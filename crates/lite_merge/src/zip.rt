@@ -18,7 +18,7 @@ pub struct Zip<A: Stream, B> {
 }
 
 impl<A: Stream<Item: Drop>, B: Stream> Zip<A, B> {
-    // Asks the second stream for what makes a pair with `item`.
+    // Polls the second stream for the second part of the pair that `item` begins.
     fn poll_pair(&mut self, item: A::Item, cx: &mut Context<'_>) -> Poll<Option<(A::Item, B::Item)>>
         requires empty { self.old.item_slot ≡ None }
         requires can_poll { B.can_poll self.old.second }

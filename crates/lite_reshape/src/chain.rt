@@ -27,7 +27,7 @@ pub struct Chain<S, U> {
 }
 
 impl<S: Stream, U: Stream<Item = S::Item>> Chain<S, U> {
-    // Asks the second stream, once it is its turn.
+    // Polls the second stream, when it is its turn.
     fn poll_second(&mut self, cx: &mut Context<'_>) -> Poll<Option<S::Item>>
         requires turn { self.old.part ≡ Second }
         requires can_poll { U.can_poll self.old.second }

@@ -18,7 +18,7 @@ pub struct Cloned<S: Stream> {
     pub(crate) held: Option<S::Item>,
 }
 
-// Asks for a clone, and holds the reference where it is refused.
+// Makes a clone, and keeps the reference if it is refused.
 #[tactic(auto, using(crate::specs::Laws::Cloned::gives_copy))]
 fn try_clone<'a, T: Clone>(
     item: &'a T,

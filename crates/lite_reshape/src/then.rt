@@ -19,7 +19,7 @@ pub struct Then<S, F, Fut> {
 }
 
 impl<S: Stream, F, Fut: Future + Drop> Then<S, F, Fut> {
-    // Polls a future that was just made, and holds it where it is pending.
+    // Polls a future that was just made, and keeps it if it is pending.
     #[inline(always)]
     #[tactic(auto, using(crate::specs::Laws::Then::hands_rules))]
     fn poll_made(&mut self, mut future: Fut, cx: &mut Context<'_>) -> Poll<Option<Fut::Output>>

@@ -10,8 +10,8 @@ use lite_base::{Context, Counted, Poll, Stream, ready};
 /// A stream that yields the first items of another stream, and then ends for ever.
 ///
 /// Returned by [`take`](crate::make::take). Once all these items are yielded, or the other stream has ended,
-/// that is not polled. It is `Counted` over any stream: its rank is the number of items that it may still
-/// yield.
+/// that is not polled. It is `Counted` over any stream, because it yields a limited number of items: `ranks`
+/// counts those that are left.
 #[derive(Clone, Debug, Drop)]
 pub struct Take<S> {
     pub(crate) stream: S,

@@ -86,7 +86,7 @@ impl<T: AsyncRead + AsyncWrite + Clone> Journal<T> {
     }
 }
 
-// So many zeros. `None`: there was no memory for them.
+// Returns `amount` zeros, or `None` if the memory for them was refused.
 fn zeros(alloc: Global, amount: usize) -> Option<Vec<u8>>
     ensures some { IfSome result (λ v. length v.items ≡ amount) }
     ensures none { IfNone result (0 < amount) }

@@ -28,7 +28,7 @@ impl<T: Tale + Takings + Clone> Takings for Journal<T> {
 }
 
 impl<T: Tale + Takings + Clone> Journal<T> {
-    // Makes room for an entry, and for so many bytes of it.
+    // Makes room for an entry, and for `bytes` bytes of it.
     #[inline(always)]
     fn make_room(&mut self, bytes: usize) -> Option<Vec<u8>>
         ensures made { EntryRoom self.old bytes result self.new }
@@ -85,7 +85,7 @@ impl<T: AsyncRead + Takings + Clone> Journal<T> {
         Some(self.read_noted(cx, buf, bytes))
     }
 
-    // One read with its entry, whose bytes go into `bytes`.
+    // Reads once and adds the entry, whose bytes go into `bytes`.
     #[inline(always)]
     fn read_noted(
         &mut self,
@@ -155,7 +155,7 @@ impl<T: Tale + AsyncWrite + Clone> Journal<T> {
         Some(self.write_noted(cx, buf, offered))
     }
 
-    // One write with its entry, which holds what is offered.
+    // Writes once and adds the entry, which has the offered bytes.
     #[inline(always)]
     fn write_noted(
         &mut self,

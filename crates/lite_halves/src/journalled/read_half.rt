@@ -169,7 +169,8 @@ where
     T: AsyncRead + Takings + Clone,
     B: Books,
 {
-    // One read with its entry. `None`: there was no memory for the entry or the answer, and nothing was called.
+    // Reads once, with an entry. `None` means that the memory for the entry or the answer was refused, and
+    // nothing was called.
     fn make(&mut self, cx: &mut Context<'_>, room: usize) -> Option<Answer>
         ensures made { CountsOrNone self.old (Request.room room) result self.new }
         ensures kept { Keeps cx.old cx.new }

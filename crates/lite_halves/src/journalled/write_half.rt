@@ -116,7 +116,8 @@ impl<R, T: Tale + Takings + Clone, B: Books> JournalWriteHalf<R, T, B> {
 }
 
 impl<R: Wait, T: Tale + AsyncWrite + Clone, B: Books> JournalWriteHalf<R, T, B> {
-    // One call with its entry. `None`: there was no memory for the entry, and nothing was called.
+    // Makes one call, with its entry. `None` means that the memory for the entry was refused, and nothing was
+    // called.
     fn make(&mut self, cx: &mut Context<'_>, call: &Call) -> Option<Answer>
         requires { IsWrite call.now }
         ensures made { CountsOrNone self.old (asked_of call.now) result self.new }
