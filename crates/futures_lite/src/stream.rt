@@ -1018,8 +1018,9 @@ pub trait StreamExt: Stream {
     /// Returns a future that folds the `Ok` values of the items into one value, up to the first error.
     ///
     /// `f` gets the value so far, at first `init`, and the value of each item. The future's value is the one
-    /// at the end of the stream, or the first error, of an item or returned by `f`. The folded value must be
-    /// `Drop`. Do not poll the future again after it has returned its value.
+    /// at the end of the stream, or the first error, of an item or returned by `f`. One poll may consume many
+    /// `Ok` items, so this stream must be `OkCounted`. The folded value must be `Drop`. Do not poll the
+    /// future again after it has returned its value.
     ///
     /// # Examples
     ///
@@ -1277,7 +1278,8 @@ pub trait StreamExt: Stream {
     ///
     /// # Errors
     ///
-    /// If there is no memory for an item, the value is [`Refused`]: what was collected before, and that item.
+    /// If the collection has no memory for an item, the value is [`Refused`]: what was collected before, and
+    /// that item.
     ///
     /// # Examples
     ///
@@ -1304,14 +1306,14 @@ pub trait StreamExt: Stream {
 
     /// Returns a future that collects the `Ok` values of the items, up to the end or the first error.
     ///
-    /// The collection takes its memory from `alloc`. Do not poll the future again after it has returned its
-    /// value.
+    /// The collection takes its memory from `alloc`. One poll may consume many `Ok` items, so this stream
+    /// must be `OkCounted`. Do not poll the future again after it has returned its value.
     ///
     /// # Errors
     ///
     /// - `TryCollectError::Source`: an item is this error. What was collected is dropped with the future.
-    /// - `TryCollectError::Memory`: there is no memory for the value of an item. It has what was collected,
-    ///   and that value.
+    /// - `TryCollectError::Memory`: the collection has no memory for the value of an item. It has what was
+    ///   collected, and that value.
     ///
     /// # Examples
     ///
@@ -1352,8 +1354,8 @@ pub trait StreamExt: Stream {
     ///
     /// # Errors
     ///
-    /// If there is no memory for an item, the value is [`Refused`]: both collections as they were before, and
-    /// that item.
+    /// If a collection has no memory for an item, the value is [`Refused`]: both collections as they were
+    /// before, and that item.
     ///
     /// # Examples
     ///
@@ -1399,8 +1401,7 @@ pub trait StreamExt: Stream {
     /// - `UnzipRefused::Left`: the first collection has no memory for its part. It has both collections, and
     ///   both parts.
     /// - `UnzipRefused::Right`: the second collection has no memory for its part. It has both collections,
-    ///   the first with its
-    /// - part of the item, and the second part.
+    ///   the first with its part of the item, and the second part.
     ///
     /// # Examples
     ///
