@@ -31,8 +31,8 @@ use std::snapshot::Snapshot;
 /// # Examples
 ///
 /// ```
-/// use futures_lite::io::{AsyncReadExt, AsyncWriteExt, Call, Cursor, Journal};
 /// use futures_lite::future;
+/// use futures_lite::io::{AsyncReadExt, AsyncWriteExt, Call, Cursor, Journal};
 /// use std::alloc::AllocError;
 ///
 /// let cursor = Cursor::new(Vec::from_slice(rt.alloc(), b"ab")?);
@@ -119,8 +119,8 @@ impl<T: Tale + Takings + Clone> Journal<T> {
     /// # Examples
     ///
     /// ```
-    /// use futures_lite::io::{AsyncReadExt, Cursor, Journal};
     /// use futures_lite::future;
+    /// use futures_lite::io::{AsyncReadExt, Cursor, Journal};
     /// use std::alloc::AllocError;
     ///
     /// let cursor = Cursor::new(Vec::from_slice(rt.alloc(), b"ab")?);
@@ -142,8 +142,8 @@ impl<T: Tale + Takings + Clone> Journal<T> {
     /// # Examples
     ///
     /// ```
-    /// use futures_lite::io::{AsyncWriteExt, Answer, Call, Cursor, Journal};
     /// use futures_lite::future;
+    /// use futures_lite::io::{Answer, AsyncWriteExt, Call, Cursor, Journal};
     /// use std::alloc::AllocError;
     ///
     /// let Ok(mut journal) = Journal::new(rt.alloc(), Cursor::new(Vec::new(rt.alloc()))) else {
@@ -183,8 +183,8 @@ impl<T: Tale + Takings + Clone> Journal<T> {
     /// # Examples
     ///
     /// ```
-    /// use futures_lite::io::{AsyncWriteExt, Cursor, Journal};
     /// use futures_lite::future;
+    /// use futures_lite::io::{AsyncWriteExt, Cursor, Journal};
     /// use std::alloc::AllocError;
     ///
     /// let Ok(mut journal) = Journal::new(rt.alloc(), Cursor::new(Vec::new(rt.alloc()))) else {
