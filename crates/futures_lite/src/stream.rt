@@ -1,4 +1,4 @@
-//! Streams: sources, and what every stream can be adapted by.
+//! Streams: sources, and the methods that adapt and consume every stream.
 ghost use Rattle.std.specs.Prelude.{◌≡◌, ℕ, ◌-◌, ◌<◌, ◌≤◌, ◌^◌, ◌++◌, ◌∷◌, [], List, Bool, IfOk, IfSome, IsSome, MatchResult, None, Ok, Option, Result, Some};
 ghost use Rattle.std.specs.Prelude.{drop, false, flat_map, length, map, not, replicate, take};
 ghost use Rattle.futures_lite.specs.Uses.{AllByRecursion, enumerate_from, filter, filter_map, find, fold, last_or, list_all, list_any, position, prefix_len};
@@ -35,7 +35,18 @@ use rand_core::Rng;
 use std::ops::Range;
 use std::{array, iter as iterators, slice, vec};
 
-/// A stream that ends at each poll; its hint is (0, Some(0)). Ported from `src/stream.rs`, `empty`.
+/// Returns an empty stream: every poll returns `Ready(None)`.
+///
+/// Size hint: `(0, Some(0))`.
+///
+/// # Examples
+///
+/// ```
+/// use futures_lite::{StreamExt, future, stream};
+///
+/// let mut nothing = stream::empty::<u8>();
+/// assert_eq!(rt; future::block_on(&rt, nothing.next())?, None);
+/// ```
 pub fn empty<T>() -> Empty<T>
     ensures made { result ≡ record { item = record {} } }
     ensures lists { ListsAs {A = T} ⟦<Empty<T> as Stream>⟧.run result [] }
@@ -43,8 +54,20 @@ pub fn empty<T>() -> Empty<T>
     lite_source::make::empty()
 }
 
-/// The stream of the items of a vector: `iter`, with its items by a list. What was not asked for is let go with the
-/// stream, so the items have to be `Drop`.
+/// Returns a stream of the items of a vector.
+///
+/// Like [`iter`], for a `Vec`; its contract also gives the list of items. Items that were not polled are
+/// dropped with the stream, so the items must be `Drop`.
+///
+/// # Examples
+///
+/// ```
+/// use futures_lite::{StreamExt, future, stream};
+///
+/// let words = stream::iter_vec(vec![in rt.alloc(); "a", "bc", "def"]?);
+/// let lengths = words.map(|word: &str| word.len()).collect::<Vec<_>>(rt.alloc());
+/// assert_eq!(rt; future::block_on(&rt, lengths)??.as_slice(), [1, 2, 3].as_slice());
+/// ```
 pub fn iter_vec<T: Drop>(items: Vec<T>) -> Iter<vec::IntoIter<T>>
     ensures fronts { Fronts ⟦<Iter<vec::IntoIter<T>> as Stream>⟧.run result items.items }
     ensures small { length items.items < 2 ^ 64 }
@@ -53,7 +76,19 @@ pub fn iter_vec<T: Drop>(items: Vec<T>) -> Iter<vec::IntoIter<T>>
     iter(items)
 }
 
-/// The stream of copies of the items of a slice, by `iter`, with its items by a list.
+/// Returns a stream of copies of the items of a slice.
+///
+/// Like [`iter`], for a slice; its contract also gives the list of items.
+///
+/// # Examples
+///
+/// ```
+/// use futures_lite::{StreamExt, future, stream};
+///
+/// let prices = [3u32, 5];
+/// let total = stream::iter_slice(&prices).fold(0, |sum: u32, price: u32| sum + price);
+/// assert_eq!(rt; future::block_on(&rt, total)?, prices[0] + prices[1]);
+/// ```
 pub fn iter_slice<'a, T: Copy>(items: &'a [T]) -> Iter<iterators::Copied<slice::Iter<'a, T>>>
     ensures fronts { Fronts ⟦<Iter<iterators::Copied<slice::Iter<'a, T>>> as Stream>⟧.run result items.now }
     ensures small { length items.now < 2 ^ 64 }
@@ -62,8 +97,21 @@ pub fn iter_slice<'a, T: Copy>(items: &'a [T]) -> Iter<iterators::Copied<slice::
     iter(items.iter().copied())
 }
 
-/// The stream of the items of an array: `iter`, with its items by a list. The items have to be `Drop`, as in
-/// `iter_vec`.
+/// Returns a stream of the items of an array.
+///
+/// Like [`iter`], for an array; its contract also gives the list of items. Items that were not polled are
+/// dropped with the stream, so the items must be `Drop`.
+///
+/// # Examples
+///
+/// ```
+/// use futures_lite::{StreamExt, future, stream};
+///
+/// let mut letters = stream::iter_array(['a', 'b']);
+/// assert_eq!(rt; future::block_on(&rt, letters.next())?, Some('a'));
+/// assert_eq!(rt; future::block_on(&rt, letters.next())?, Some('b'));
+/// assert_eq!(rt; future::block_on(&rt, letters.next())?, None);
+/// ```
 pub fn iter_array<T: Drop, const N: usize>(items: [T; N]) -> Iter<array::IntoIter<T, N>>
     ensures fronts { Fronts ⟦<Iter<array::IntoIter<T, N>> as Stream>⟧.run result items }
     ensures lists { ListsAs ⟦<Iter<array::IntoIter<T, N>> as Stream>⟧.run result items }
@@ -71,7 +119,18 @@ pub fn iter_array<T: Drop, const N: usize>(items: [T; N]) -> Iter<array::IntoIte
     iter(items)
 }
 
-/// The stream of the numbers of a range: `iter`, with its items by a list.
+/// Returns a stream of the numbers of a range.
+///
+/// Like [`iter`], for a `Range<usize>`; its contract also gives the list of items.
+///
+/// # Examples
+///
+/// ```
+/// use futures_lite::{StreamExt, future, stream};
+///
+/// let numbers = stream::iter_range(2..5).collect::<Vec<_>>(rt.alloc());
+/// assert_eq!(rt; future::block_on(&rt, numbers)??.as_slice(), [2, 3, 4].as_slice());
+/// ```
 pub fn iter_range(items: Range<usize>) -> Iter<Range<usize>>
     ensures fronts { (n : ℕ) → items.end - items.start ≡ n
         → FrontsAs ⟦<Iter<Range<usize>> as Stream>⟧.run result (range_with_len items.start n) }
@@ -81,8 +140,19 @@ pub fn iter_range(items: Range<usize>) -> Iter<Range<usize>>
     iter(items)
 }
 
-/// A stream that gives `t`, and then ends for ever. Its hint is (1, Some(1)), and then (0, Some(0)). Ported from
-/// `src/stream.rs`, `once`.
+/// Returns a stream that yields `t`, and then ends for ever.
+///
+/// Size hint: `(1, Some(1))`, and after the item `(0, Some(0))`.
+///
+/// # Examples
+///
+/// ```
+/// use futures_lite::{StreamExt, future, stream};
+///
+/// let mut one = stream::once(7u8);
+/// assert_eq!(rt; future::block_on(&rt, one.next())?, Some(7));
+/// assert_eq!(rt; future::block_on(&rt, one.next())?, None);
+/// ```
 pub fn once<T>(t: T) -> Once<T>
     ensures made { result ≡ record { value = Some t } }
     ensures lists { ListsAs ⟦<Once<T> as Stream>⟧.run result (t ∷ []) }
@@ -91,9 +161,20 @@ pub fn once<T>(t: T) -> Once<T>
     lite_source::make::once(t)
 }
 
-/// A stream that gives clones of `item` as `Ok` items, one a poll, for ever. A clone that is refused for want of
-/// memory is the item `Err(AllocError)`, and the next poll tries again. Its hint is (usize::MAX, None). Ported from
-/// `src/stream.rs`, `repeat`.
+/// Returns a stream that yields clones of `item` for ever, one a poll.
+///
+/// Unlike futures-lite, a clone may be refused for want of memory, so each item is a `Result`. `Ok` is a
+/// clone. `Err(AllocError)` means that the clone was refused; the next poll tries again. Size hint:
+/// `(usize::MAX, None)`.
+///
+/// # Examples
+///
+/// ```
+/// use futures_lite::{StreamExt, future, stream};
+///
+/// let sevens = stream::repeat(7u8).take(2).collect::<Vec<_>>(rt.alloc());
+/// assert_eq!(rt; future::block_on(&rt, sevens)??.as_slice(), [Ok(7), Ok(7)].as_slice());
+/// ```
 pub fn repeat<T: Clone>(item: T) -> Repeat<T>
     ensures made { result ≡ record { item = item } }
     ensures on { T.is_infallible item → ((y : T) → T.is_clone item y → y ≡ item)
@@ -102,10 +183,21 @@ pub fn repeat<T: Clone>(item: T) -> Repeat<T>
     lite_source::make::repeat(item)
 }
 
-/// A stream that gives these answers, one a poll and in order, and then ends for ever. A poll takes no memory. Its
-/// hint is (0, None).
+/// Returns a stream that returns these poll results in order, one a poll, and then ends for ever.
 ///
-/// The original has no such call.
+/// A `Pending` in the list does not wake the task. A poll allocates nothing. Size hint: `(0, None)`.
+///
+/// # Examples
+///
+/// ```
+/// use futures_lite::{Poll, StreamExt, future, stream};
+///
+/// let results = vec![in rt.alloc(); Poll::Pending, Poll::Ready(Some(7u8))]?;
+/// let mut scripted = stream::script(results);
+/// assert_eq!(rt; future::block_on(&rt, future::poll_once(scripted.next()))?, None);
+/// assert_eq!(rt; future::block_on(&rt, future::poll_once(scripted.next()))?, Some(Some(7)));
+/// assert_eq!(rt; future::block_on(&rt, future::poll_once(scripted.next()))?, Some(None));
+/// ```
 #[tactic(auto, using(lite_views::proofs::SourceLists::script_lists, lite_views::proofs::SourceLists::script_fronts))]
 pub fn script<T>(answers: Vec<Poll<Option<T>>>) -> Script<T>
     ensures made { result ≡ answers.items }
@@ -115,15 +207,38 @@ pub fn script<T>(answers: Vec<Poll<Option<T>>>) -> Script<T>
     lite_source::make::script(answers)
 }
 
-/// What every stream can be adapted and consumed by. Ported from `src/stream.rs`, `StreamExt`.
+/// The methods that every stream has: adapters, and futures that consume a stream.
 ///
-/// A closure is called only with items of the stream, once for each and in order. A future that consumes a stream
-/// takes in items within one poll, until one decides, the stream is pending, or it ends; so the stream's rank has to
-/// count, but where the method says that it takes any stream. What was taken in is kept across pendings. Those that
-/// are lent the stream leave it behind the last answer that they asked for.
+/// A closure is called only with items of the stream, once for each item and in order.
+///
+/// The future of a consuming method polls the stream until an item decides its value, the stream returns
+/// `Pending`, or it ends. One poll may consume many items, so the stream must be `Counted`, unless the method
+/// says that it accepts any stream. What was consumed is kept across `Pending`. Methods taking `&mut self`
+/// leave the stream after the last item they polled.
+///
+/// # Examples
+///
+/// ```
+/// use futures_lite::{StreamExt, future, stream};
+///
+/// let squares = stream::iter(1u32..=6).filter(|n: &u32| *n % 2 == 0).map(|n: u32| n * n);
+/// let sum = squares.fold(0, |sum: u32, n: u32| sum + n);
+/// assert_eq!(rt; future::block_on(&rt, sum)?, 56);
+/// ```
 pub trait StreamExt: Stream {
-    /// The stream of what `f` answers to each item; a pending and an end stay. `f` is called once for each item, in
-    /// order. The hint is this stream's.
+    /// Returns a stream that yields `f(item)` for each item.
+    ///
+    /// `f` is called once for each item, in order. `Pending` and the end of this stream pass through. Size
+    /// hint: that of this stream.
+    ///
+    /// # Examples
+    ///
+    /// ```
+    /// use futures_lite::{StreamExt, future, stream};
+    ///
+    /// let tens = stream::iter(1u8..=3).map(|x: u8| x * 10).collect::<Vec<_>>(rt.alloc());
+    /// assert_eq!(rt; future::block_on(&rt, tens)??.as_slice(), [10, 20, 30].as_slice());
+    /// ```
     final fn map<U, F>(self, f: F) -> Map<Self, F>
     where
         Self: Sized,
@@ -138,9 +253,20 @@ pub trait StreamExt: Stream {
         make::map(self, f)
     }
 
-    /// The stream of the items that `predicate` accepts, which is called once for each item, in order. A poll goes on
-    /// over rejected items until there is an accepted one, a pending or an end, so the stream's rank has to count. It
-    /// lets those go, so they have to be `Drop`. The hint is 0, and this stream's upper bound.
+    /// Returns a stream that yields the items for which `predicate` returns true.
+    ///
+    /// `predicate` is called once for each item, in order. One poll may skip many items, so this stream must
+    /// be `Counted`. Skipped items are dropped, so the items must be `Drop`. Size hint: `(0, upper)`, with
+    /// the upper bound of this stream.
+    ///
+    /// # Examples
+    ///
+    /// ```
+    /// use futures_lite::{StreamExt, future, stream};
+    ///
+    /// let evens = stream::iter(1u8..=5).filter(|x: &u8| *x % 2 == 0).collect::<Vec<_>>(rt.alloc());
+    /// assert_eq!(rt; future::block_on(&rt, evens)??.as_slice(), [2, 4].as_slice());
+    /// ```
     final fn filter<P>(self, predicate: P) -> Filter<Self, P>
     where
         Self: Counted + Sized,
@@ -153,10 +279,23 @@ pub trait StreamExt: Stream {
         lite_reshape::make::filter(self, predicate)
     }
 
-    /// The stream of the items of the streams that `f` makes of the items, one after the other. A poll goes on over
-    /// inner streams that end, and this stream is polled only while no inner stream is held; so its rank has to
-    /// count, and where that of the inner streams does too, so does the whole. An inner stream that ended is let go,
-    /// so they have to be `Drop`. The hint says nothing.
+    /// Returns a stream that calls `f` with each item, and yields the items of the streams that `f` returns,
+    /// one stream after the other.
+    ///
+    /// While there is an inner stream, this stream is not polled. When an inner stream ends it is dropped, so
+    /// it must be `Drop`. This stream is then polled for the next one in the same call. One poll may go
+    /// through many inner streams, so this stream must be `Counted`. The result is `Counted` if the inner
+    /// streams are. Size hint: `(0, None)`.
+    ///
+    /// # Examples
+    ///
+    /// ```
+    /// use futures_lite::{StreamExt, future, stream};
+    ///
+    /// let counts = stream::iter(0u8..=3).flat_map(|n: u8| stream::iter(0..n));
+    /// let got = future::block_on(&rt, counts.collect::<Vec<_>>(rt.alloc()))??;
+    /// assert_eq!(rt; got.as_slice(), [0, 0, 1, 0, 1, 2].as_slice());
+    /// ```
     final fn flat_map<U, F>(self, f: F) -> FlatMap<Self, U, F>
     where
         Self: Counted + Sized,
@@ -171,10 +310,23 @@ pub trait StreamExt: Stream {
         lite_reshape::make::flat_map(self, f)
     }
 
-    /// The stream of the items of the streams that are the items, one after the other. A poll goes on over inner
-    /// streams that end, and this stream is polled only while no inner stream is held; so its rank has to count, and
-    /// where that of the inner streams does too, so does the whole. An inner stream that ended is let go, so they have
-    /// to be `Drop`. The hint says nothing.
+    /// Returns a stream that yields the items of the streams that this stream yields, one stream after the
+    /// other.
+    ///
+    /// While there is an inner stream, this stream is not polled. When an inner stream ends it is dropped, so
+    /// it must be `Drop`. This stream is then polled for the next one in the same call. One poll may go
+    /// through many inner streams, so this stream must be `Counted`. The result is `Counted` if the inner
+    /// streams are. Size hint: `(0, None)`.
+    ///
+    /// # Examples
+    ///
+    /// ```
+    /// use futures_lite::{StreamExt, future, stream};
+    ///
+    /// let parts = stream::iter_array([stream::iter(1u8..3), stream::iter(5u8..7)]);
+    /// let got = future::block_on(&rt, parts.flatten().collect::<Vec<_>>(rt.alloc()))??;
+    /// assert_eq!(rt; got.as_slice(), [1, 2, 5, 6].as_slice());
+    /// ```
     final fn flatten(self) -> Flatten<Self>
     where
         Self: Counted + Sized,
@@ -187,10 +339,22 @@ pub trait StreamExt: Stream {
         lite_reshape::make::flatten(self)
     }
 
-    /// The stream of the values of the futures that `f` makes of the items. A future is polled in the poll that made
-    /// it; while it is pending it is held, and this stream is not polled. A future is let go with its value, so they
-    /// have to be `Drop`. The hint is this stream's, and while a future is held one more in both places: at `usize::MAX`
-    /// the lower one stays, and there is no upper one.
+    /// Returns a stream that calls `f` with each item, and yields the values of the futures that `f` returns.
+    ///
+    /// A future is polled in the call that made it. While it is pending it is kept, and this stream is not
+    /// polled. A future is dropped after its value, so it must be `Drop`. Size hint: that of this stream,
+    /// plus one while a future is in flight. The lower bound saturates at `usize::MAX`; an upper bound that
+    /// would exceed it becomes `None`.
+    ///
+    /// # Examples
+    ///
+    /// ```
+    /// use futures_lite::{StreamExt, future, stream};
+    ///
+    /// let doubled = stream::iter(1u8..=3).then(|x: u8| future::ready(x * 2));
+    /// let got = future::block_on(&rt, doubled.collect::<Vec<_>>(rt.alloc()))??;
+    /// assert_eq!(rt; got.as_slice(), [2, 4, 6].as_slice());
+    /// ```
     final fn then<F, Fut>(self, f: F) -> Then<Self, F, Fut>
     where
         Self: Sized,
@@ -205,8 +369,21 @@ pub trait StreamExt: Stream {
         lite_reshape::make::then(self, f)
     }
 
-    /// The stream of what `f` answers to the items, without each `None`; it is called once for each item, in order. A
-    /// poll goes on over rejected items, so the stream's rank has to count. The hint says nothing.
+    /// Returns a stream that calls `f` with each item, and yields the values for which `f` returns `Some`.
+    ///
+    /// `f` is called once for each item, in order. One poll may skip many items, so this stream must be
+    /// `Counted`. Size hint: `(0, None)`.
+    ///
+    /// # Examples
+    ///
+    /// ```
+    /// use futures_lite::{StreamExt, future, stream};
+    ///
+    /// let words = stream::iter_array(["1", "lol", "3", "NaN", "5"]);
+    /// let numbers = words.filter_map(|word: &str| word.parse::<u32>().ok());
+    /// let got = future::block_on(&rt, numbers.collect::<Vec<_>>(rt.alloc()))??;
+    /// assert_eq!(rt; got.as_slice(), [1, 3, 5].as_slice());
+    /// ```
     final fn filter_map<T, F>(self, f: F) -> FilterMap<Self, F>
     where
         Self: Counted + Sized,
@@ -219,8 +396,19 @@ pub trait StreamExt: Stream {
         lite_reshape::make::filter_map(self, f)
     }
 
-    /// The stream of the first `n` items, which ends for ever after the last of them, or after the first end, and
-    /// then never polls this stream; with 0 it never does. The hint says nothing.
+    /// Returns a stream that yields the first `n` items, and then ends for ever.
+    ///
+    /// If this stream ends sooner, the result ends for ever too. After its end, and if `n` is 0, this stream
+    /// is not polled. Size hint: `(0, None)`.
+    ///
+    /// # Examples
+    ///
+    /// ```
+    /// use futures_lite::{StreamExt, future, stream};
+    ///
+    /// let firsts = stream::iter(1u8..=9).take(2).collect::<Vec<_>>(rt.alloc());
+    /// assert_eq!(rt; future::block_on(&rt, firsts)??.as_slice(), [1, 2].as_slice());
+    /// ```
     #[tactic(auto, using(lite_views::proofs::Adapting::taken_lists, lite_views::proofs::Adapting::repeated_lists))]
     final fn take(self, n: usize) -> Take<Self>
     where
@@ -232,8 +420,23 @@ pub trait StreamExt: Stream {
         make::take(self, n)
     }
 
-    /// The stream of the items, with an end in the place of each one that `predicate` rejects, which is let go, so that
-    /// the items have to be `Drop`. Polled again after that end it goes on. The hint says nothing.
+    /// Returns a stream that yields the items while `predicate` returns true, and ends at the first item for
+    /// which it returns false.
+    ///
+    /// That item is dropped, so the items must be `Drop`. The end is not for ever: the next poll polls this
+    /// stream again. Size hint: `(0, None)`.
+    ///
+    /// # Examples
+    ///
+    /// ```
+    /// use futures_lite::{StreamExt, future, stream};
+    ///
+    /// let mut small = stream::iter_array([1u8, 7, 2]).take_while(|x: &u8| *x < 5);
+    /// assert_eq!(rt; future::block_on(&rt, small.next())?, Some(1));
+    /// assert_eq!(rt; future::block_on(&rt, small.next())?, None);
+    /// // The 7 is dropped; a poll after the end continues with the 2.
+    /// assert_eq!(rt; future::block_on(&rt, small.next())?, Some(2));
+    /// ```
     final fn take_while<P>(self, predicate: P) -> TakeWhile<Self, P>
     where
         Self: Sized,
@@ -245,8 +448,21 @@ pub trait StreamExt: Stream {
         make::take_while(self, predicate)
     }
 
-    /// The stream of what `f` answers to each item, with an end in the place of each `None`. Polled again after that
-    /// end it goes on. The hint says nothing.
+    /// Returns a stream that calls `f` with each item and yields the values, and ends when `f` returns
+    /// `None`.
+    ///
+    /// The end is not for ever: the next poll polls this stream again. Size hint: `(0, None)`.
+    ///
+    /// # Examples
+    ///
+    /// ```
+    /// use futures_lite::{StreamExt, future, stream};
+    ///
+    /// let mut below = stream::iter_array([1u8, 0, 5]).map_while(|x: u8| x.checked_sub(1));
+    /// assert_eq!(rt; future::block_on(&rt, below.next())?, Some(0));
+    /// assert_eq!(rt; future::block_on(&rt, below.next())?, None);
+    /// assert_eq!(rt; future::block_on(&rt, below.next())?, Some(4));
+    /// ```
     final fn map_while<B, F>(self, f: F) -> MapWhile<Self, F>
     where
         Self: Sized,
@@ -259,8 +475,19 @@ pub trait StreamExt: Stream {
         make::map_while(self, f)
     }
 
-    /// The stream of the items without the first `n`. A poll goes on over those, and lets them go, so the items have
-    /// to be `Drop`. The hint says nothing.
+    /// Returns a stream that skips the first `n` items, and yields the others.
+    ///
+    /// One poll may skip up to `n` items. Skipped items are dropped, so the items must be `Drop`. Size hint:
+    /// `(0, None)`.
+    ///
+    /// # Examples
+    ///
+    /// ```
+    /// use futures_lite::{StreamExt, future, stream};
+    ///
+    /// let rest = stream::iter(1u8..=5).skip(3).collect::<Vec<_>>(rt.alloc());
+    /// assert_eq!(rt; future::block_on(&rt, rest)??.as_slice(), [4, 5].as_slice());
+    /// ```
     #[tactic(auto, using(lite_views::proofs::Adapting::skipped_lists))]
     final fn skip(self, n: usize) -> Skip<Self>
     where
@@ -271,9 +498,22 @@ pub trait StreamExt: Stream {
         lite_reshape::make::skip(self, n)
     }
 
-    /// The stream of the items from the first one that `predicate` rejects, which is asked no more after it. A poll
-    /// goes on over the items before it, so the stream's rank has to count. It lets those go, and then the predicate,
-    /// so all of them have to be `Drop`. The hint says nothing.
+    /// Returns a stream that skips items while `predicate` returns true, and yields the first other item and
+    /// all after it.
+    ///
+    /// At the first item that it yields, `predicate` is dropped and no longer called. One poll may skip many
+    /// items, so this stream must be `Counted`. Skipped items are dropped, so the items and `predicate` must
+    /// be `Drop`. Size hint: `(0, None)`.
+    ///
+    /// # Examples
+    ///
+    /// ```
+    /// use futures_lite::{StreamExt, future, stream};
+    ///
+    /// let rest = stream::iter_array([-2i32, -1, 3, -4]).skip_while(|x: &i32| *x < 0);
+    /// let got = future::block_on(&rt, rest.collect::<Vec<_>>(rt.alloc()))??;
+    /// assert_eq!(rt; got.as_slice(), [3, -4].as_slice());
+    /// ```
     final fn skip_while<P>(self, predicate: P) -> SkipWhile<Self, P>
     where
         Self: Counted + Sized,
@@ -285,8 +525,20 @@ pub trait StreamExt: Stream {
         lite_reshape::make::skip_while(self, predicate)
     }
 
-    /// The stream of the items whose numbers, counted from 0, are multiples of `step`, which is above 0. A poll goes
-    /// on over the items between, and lets them go, so the items have to be `Drop`. The hint says nothing.
+    /// Returns a stream that yields the first item, and then each `step`-th item after it.
+    ///
+    /// Items are numbered from 0; the multiples of `step` are yielded. `step` must be greater than 0. The
+    /// numbers continue across `Pending` and ends. One poll may skip up to `step - 1` items. Skipped items
+    /// are dropped, so the items must be `Drop`. Size hint: `(0, None)`.
+    ///
+    /// # Examples
+    ///
+    /// ```
+    /// use futures_lite::{StreamExt, future, stream};
+    ///
+    /// let thirds = stream::iter(0u8..8).step_by(3).collect::<Vec<_>>(rt.alloc());
+    /// assert_eq!(rt; future::block_on(&rt, thirds)??.as_slice(), [0, 3, 6].as_slice());
+    /// ```
     #[tactic(auto, using(lite_views::proofs::Adapting::stepped_lists, lite_views::proofs::Adapting::step_fewer))]
     final fn step_by(self, step: usize) -> StepBy<Self>
     where
@@ -299,8 +551,20 @@ pub trait StreamExt: Stream {
         lite_reshape::make::step_by(self, step)
     }
 
-    /// The stream of the items, and after its end those of `other`, which is asked in the poll that met this end.
-    /// Neither is polled after its end. The hint says nothing.
+    /// Returns a stream that yields the items of this stream, and after its end those of `other`.
+    ///
+    /// Polls `other` in the same call in which this stream ends. Neither is polled after its end. Size hint:
+    /// `(0, None)`.
+    ///
+    /// # Examples
+    ///
+    /// ```
+    /// use futures_lite::{StreamExt, future, stream};
+    ///
+    /// let joined = stream::iter(1u8..3).chain(stream::once(9));
+    /// let got = future::block_on(&rt, joined.collect::<Vec<_>>(rt.alloc()))??;
+    /// assert_eq!(rt; got.as_slice(), [1, 2, 9].as_slice());
+    /// ```
     #[tactic(auto, using(lite_views::proofs::Adapting::joined_lists))]
     final fn chain<U>(self, other: U) -> Chain<Self, U>
     where
@@ -313,10 +577,22 @@ pub trait StreamExt: Stream {
         lite_reshape::make::chain(self, other)
     }
 
-    /// The stream of the pairs of the items and those of `other`. An item is held while `other` is pending, and this
-    /// stream is not polled meanwhile; where `other` ends it is let go, so this stream's items have to be `Drop`, and an
-    /// end goes out. A pending and an end of this stream go out too. It is not fused: polled after an end it goes on.
-    /// The hint says nothing.
+    /// Returns a stream that yields pairs: an item of this stream, and an item of `other`.
+    ///
+    /// An item is kept while `other` is pending; until then this stream is not polled. If `other` ends, the
+    /// kept item is dropped and the result ends, so this stream's items must be `Drop`. `Pending` and the end
+    /// of this stream pass through. The result is not fused: a poll after an end polls the streams again.
+    /// Size hint: `(0, None)`.
+    ///
+    /// # Examples
+    ///
+    /// ```
+    /// use futures_lite::{StreamExt, future, stream};
+    ///
+    /// let pairs = stream::iter(1u8..=9).zip(stream::iter_array(['a', 'b']));
+    /// let got = future::block_on(&rt, pairs.collect::<Vec<_>>(rt.alloc()))??;
+    /// assert_eq!(rt; got.as_slice(), [(1, 'a'), (2, 'b')].as_slice());
+    /// ```
     #[tactic(auto, using(lite_views::proofs::Adapting::paired_lists))]
     final fn zip<U>(self, other: U) -> Zip<Self, U>
     where
@@ -329,9 +605,22 @@ pub trait StreamExt: Stream {
         lite_merge::make::zip(self, other)
     }
 
-    /// The stream of the items and those of `other` as they come: in each poll this stream is polled first, and
-    /// `other` only where it has no item. Each is polled up to its first end, and never again; it ends where both
-    /// have ended, and is pending where they have no item and have not. The hint says nothing.
+    /// Returns a stream that yields the items of both streams as they come, with this stream first.
+    ///
+    /// Each poll polls this stream, and then `other` if that has no item. Each stream is polled up to its
+    /// first end, and not after it. The result ends when both have ended. It returns `Pending` if there is no
+    /// item and one of them has not ended. Size hint: `(0, None)`.
+    ///
+    /// # Examples
+    ///
+    /// ```
+    /// use futures_lite::{StreamExt, future, stream};
+    ///
+    /// let mut first_ready = stream::pending::<u8>().or(stream::once(1));
+    /// assert_eq!(rt; future::block_on(&rt, first_ready.next())?, Some(1));
+    /// let both = stream::once(1u8).or(stream::once(2)).collect::<Vec<_>>(rt.alloc());
+    /// assert_eq!(rt; future::block_on(&rt, both)??.as_slice(), [1, 2].as_slice());
+    /// ```
     final fn or<S>(self, other: S) -> Or<Self, S>
     where
         Self: Sized,
@@ -344,10 +633,28 @@ pub trait StreamExt: Stream {
         lite_merge::make::or(self, other)
     }
 
-    /// The stream of the items and those of `other` as they come: in each poll the generator's next word says by its
-    /// lowest bit which is polled first, 1 this stream; the other is polled only where that has no item. Each is
-    /// polled up to its first end, and never again; it ends where both have ended, and is pending where they have no
-    /// item and have not. The rank counts over two firm ranks. The hint says nothing.
+    /// Returns a stream that yields the items of both streams as they come, with neither preferred.
+    ///
+    /// Each poll takes a word from `rng`. If its lowest bit is 1 this stream is polled first, otherwise
+    /// `other`. The other one is polled only if the first has no item. Each stream is polled up to its first
+    /// end, and not after it. The result ends when both have ended. It returns `Pending` if there is no item
+    /// and one of them has not ended.
+    ///
+    /// The result is `Counted` if both streams are; its `ranks.counts` then requires `ranks.firm` of both.
+    /// Unlike futures-lite, the generator is an argument. Size hint: `(0, None)`.
+    ///
+    /// # Examples
+    ///
+    /// ```
+    /// use futures_lite::{StreamExt, future, stream};
+    /// use rand_core::SeedableRng;
+    /// use rand_pcg::Pcg32;
+    /// use std::collections::BTreeSet;
+    ///
+    /// let merged = stream::iter(0u8..3).race(stream::iter(7u8..9), Pcg32::seed_from_u64(1));
+    /// let got = future::block_on(&rt, merged.collect::<BTreeSet<_>>(rt.alloc()))??;
+    /// assert!(rt; got.iter().copied().eq([0, 1, 2, 7, 8].into_iter()));
+    /// ```
     final fn race<S, R>(self, other: S, rng: R) -> Race<Self, S, R>
     where
         Self: Sized,
@@ -362,11 +669,31 @@ pub trait StreamExt: Stream {
         lite_merge::make::race(self, other, rng)
     }
 
-    /// The stream of the items over and over, by copies of this stream as it is now, or this stream itself, unpolled,
-    /// where memory for the first copy was refused. The items are `Ok`. At an end a fresh copy is made and polled
-    /// once in the same poll, and its answer goes out whatever it is, for an empty stream an end. A copy that is
-    /// refused is the item `Err(AllocError)`, and the next poll tries it again without polling the stream. The hint
-    /// says nothing.
+    /// Returns a stream that yields the items of this stream over and over.
+    ///
+    /// It keeps a clone of this stream as it is now. When the stream ends, it clones that one and returns the
+    /// clone's first result in the same poll, even if that is an end. So the cycle of an empty stream returns
+    /// `Ready(None)` at each poll. Unlike futures-lite, an item is a `Result`, because a clone may be
+    /// refused. Size hint: `(0, None)`.
+    ///
+    /// # Errors
+    ///
+    /// `Err` returns this stream, not polled: the memory for the first clone was refused. The item
+    /// `Err(AllocError)` means that a later clone was refused. The next poll tries again, without polling the
+    /// stream that has ended.
+    ///
+    /// # Examples
+    ///
+    /// ```
+    /// use futures_lite::{StreamExt, future, stream};
+    /// use std::alloc::AllocError;
+    ///
+    /// let Ok(round) = stream::iter(1u8..3).cycle() else {
+    ///     return Err(AllocError.into());
+    /// };
+    /// let got = future::block_on(&rt, round.take(3).collect::<Vec<_>>(rt.alloc()))??;
+    /// assert_eq!(rt; got.as_slice(), [Ok(1), Ok(2), Ok(1)].as_slice());
+    /// ```
     final fn cycle(self) -> Result<Cycle<Self>, Self>
     where
         Self: Clone + Sized,
@@ -376,8 +703,24 @@ pub trait StreamExt: Stream {
         lite_merge::make::cycle(self)
     }
 
-    /// The stream that ends wherever this one is pending, and goes on when it is polled again. The hint is 0, and
-    /// this stream's upper bound.
+    /// Returns a stream that yields the items of this stream that are ready, and ends whenever this stream is
+    /// pending.
+    ///
+    /// The end is not for ever: the next poll polls this stream again. Size hint: `(0, upper)`, with the
+    /// upper bound of this stream.
+    ///
+    /// # Examples
+    ///
+    /// ```
+    /// use futures_lite::{Poll, StreamExt, future, stream};
+    ///
+    /// let results = vec![in rt.alloc(); Poll::Ready(Some(1u8)), Poll::Pending, Poll::Ready(Some(2))]?;
+    /// let mut source = stream::script(results);
+    /// let mut ready = source.drain();
+    /// assert_eq!(rt; future::block_on(&rt, ready.next())?, Some(1));
+    /// assert_eq!(rt; future::block_on(&rt, ready.next())?, None);
+    /// assert_eq!(rt; future::block_on(&rt, ready.next())?, Some(2));
+    /// ```
     final fn drain(&mut self) -> Drain<'_, Self>
     where
         Self: Sized,
@@ -386,9 +729,23 @@ pub trait StreamExt: Stream {
         lite_merge::make::drain(self)
     }
 
-    /// The stream of the same answers that is pending once more after `items` items in a row, which is above 0: it wakes
-    /// its context then, and the next poll goes on. So whoever polls it can turn to another task, and its rank counts,
-    /// whatever this stream is. The hint is this stream's. The original has no such call.
+    /// Returns a stream of the same items that returns `Pending` once after `items` items in a row, and wakes
+    /// the task then.
+    ///
+    /// So another task can run in between. The next poll continues with this stream. `items` must be greater
+    /// than 0. A `Pending` of this stream starts the count again. The result is `Counted`, whatever this
+    /// stream is. Size hint: that of this stream.
+    ///
+    /// # Examples
+    ///
+    /// ```
+    /// use futures_lite::{StreamExt, future, stream};
+    ///
+    /// let mut paced = stream::iter(1u8..=3).with_budget(2);
+    /// for expected in [Some(Some(1)), Some(Some(2)), None, Some(Some(3))] {
+    ///     assert_eq!(rt; future::block_on(&rt, future::poll_once(paced.next()))?, expected);
+    /// }
+    /// ```
     #[tactic(auto, using(lite_views::proofs::Adapting::paced_lists))]
     final fn with_budget(self, items: usize) -> Budgeted<Self>
     where
@@ -400,8 +757,23 @@ pub trait StreamExt: Stream {
         lite_merge::make::with_budget(self, items)
     }
 
-    /// The stream of clones of what the items refer to, as `Ok` items. A clone that is refused is the item
-    /// `Err(AllocError)`, and the next poll tries it again without polling this stream. The hint says nothing.
+    /// Returns a stream that yields clones of the items, which are references.
+    ///
+    /// Unlike futures-lite, a clone may be refused for want of memory, so each item is a `Result`. `Ok` is a
+    /// clone. `Err(AllocError)` means that the clone was refused. The next poll tries it again, without
+    /// polling this stream. The result is `OkCounted` if this stream is `Counted`. Size hint: `(0, None)`.
+    ///
+    /// # Examples
+    ///
+    /// ```
+    /// use futures_lite::{StreamExt, future, stream};
+    ///
+    /// let numbers = [1u8, 2];
+    /// let mut clones = stream::iter(numbers.iter()).cloned();
+    /// assert_eq!(rt; future::block_on(&rt, clones.next())?, Some(Ok(1)));
+    /// assert_eq!(rt; future::block_on(&rt, clones.next())?, Some(Ok(2)));
+    /// assert_eq!(rt; future::block_on(&rt, clones.next())?, None);
+    /// ```
     final fn cloned<'a, T: 'a>(self) -> Cloned<Self>
     where
         Self: Stream<Item = &'a T> + Sized,
@@ -414,7 +786,19 @@ pub trait StreamExt: Stream {
         lite_reshape::make::cloned(self)
     }
 
-    /// The stream of copies of what the items refer to. The hint says nothing.
+    /// Returns a stream that yields copies of the items, which are references.
+    ///
+    /// Size hint: `(0, None)`.
+    ///
+    /// # Examples
+    ///
+    /// ```
+    /// use futures_lite::{StreamExt, future, stream};
+    ///
+    /// let numbers = [1u8, 2];
+    /// let copies = stream::iter(numbers.iter()).copied().collect::<Vec<_>>(rt.alloc());
+    /// assert_eq!(rt; future::block_on(&rt, copies)??.as_slice(), numbers.as_slice());
+    /// ```
     #[tactic(auto, using(lite_views::proofs::Adapting::copied_lists))]
     final fn copied<'a, T: 'a>(self) -> Copied<Self>
     where
@@ -427,9 +811,24 @@ pub trait StreamExt: Stream {
         make::copied(self)
     }
 
-    /// The stream of what `f` answers to a state, which is `initial_state` at first and goes from call to call, and
-    /// each item, with an end in the place of each `None`. Polled again after that end it goes on. The hint says
-    /// nothing.
+    /// Returns a stream that calls `f` with a state and each item and yields the values, and ends when `f`
+    /// returns `None`.
+    ///
+    /// The state starts as `initial_state`; each call gets it as the call before left it. The end is not for
+    /// ever: the next poll polls this stream again. Size hint: `(0, None)`.
+    ///
+    /// # Examples
+    ///
+    /// ```
+    /// use futures_lite::{StreamExt, future, stream};
+    ///
+    /// let sums = stream::iter(1u32..=9).scan(0u32, |sum: &mut u32, x: u32| {
+    ///     *sum += x;
+    ///     if *sum < 10 { Some(*sum) } else { None }
+    /// });
+    /// let got = future::block_on(&rt, sums.collect::<Vec<_>>(rt.alloc()))??;
+    /// assert_eq!(rt; got.as_slice(), [1, 3, 6].as_slice());
+    /// ```
     final fn scan<St, B, F>(self, initial_state: St, f: F) -> Scan<Self, St, F>
     where
         Self: Sized,
@@ -443,7 +842,21 @@ pub trait StreamExt: Stream {
         make::scan(self, initial_state, f)
     }
 
-    /// The stream until its first end, and then an end for ever; it is not polled again then. The hint says nothing.
+    /// Returns a stream that yields the items up to the first end, and then ends for ever.
+    ///
+    /// After that end this stream is not polled. Size hint: `(0, None)`.
+    ///
+    /// # Examples
+    ///
+    /// ```
+    /// use futures_lite::{Poll, StreamExt, future, stream};
+    ///
+    /// let results = vec![in rt.alloc(); Poll::Ready(Some(1u8)), Poll::Ready(None), Poll::Ready(Some(2))]?;
+    /// let mut fused = stream::script(results).fuse();
+    /// assert_eq!(rt; future::block_on(&rt, fused.next())?, Some(1));
+    /// assert_eq!(rt; future::block_on(&rt, fused.next())?, None);
+    /// assert_eq!(rt; future::block_on(&rt, fused.next())?, None);
+    /// ```
     #[tactic(auto, using(lite_views::proofs::Adapting::fused_lists))]
     final fn fuse(self) -> Fuse<Self>
     where
@@ -454,8 +867,19 @@ pub trait StreamExt: Stream {
         make::fuse(self)
     }
 
-    /// The stream of the items, each paired with its number, from 0 on, across pendings and ends. After `usize::MAX`
-    /// comes 0. The hint says nothing.
+    /// Returns a stream that yields pairs of a number and an item; the numbers count from 0.
+    ///
+    /// The numbers continue across `Pending` and ends. After `usize::MAX` comes 0; unlike in futures-lite,
+    /// nothing panics. Size hint: `(0, None)`.
+    ///
+    /// # Examples
+    ///
+    /// ```
+    /// use futures_lite::{StreamExt, future, stream};
+    ///
+    /// let numbered = stream::iter_array(['a', 'b']).enumerate().collect::<Vec<_>>(rt.alloc());
+    /// assert_eq!(rt; future::block_on(&rt, numbered)??.as_slice(), [(0, 'a'), (1, 'b')].as_slice());
+    /// ```
     #[tactic(auto, using(lite_views::proofs::Adapting::enumerated_lists))]
     final fn enumerate(self) -> Enumerate<Self>
     where
@@ -467,7 +891,21 @@ pub trait StreamExt: Stream {
         make::enumerate(self)
     }
 
-    /// The stream of the items, each of which is shown to `f` once before it goes out. The hint says nothing.
+    /// Returns a stream that calls `f` with a reference to each item, and then yields the item.
+    ///
+    /// Size hint: `(0, None)`.
+    ///
+    /// # Examples
+    ///
+    /// ```
+    /// use futures_lite::{StreamExt, future, stream};
+    /// use std::cell::Cell;
+    ///
+    /// let seen = Cell::new(0u8);
+    /// let mut items = stream::iter(5u8..8).inspect(|x: &u8| seen.set(*x));
+    /// assert_eq!(rt; future::block_on(&rt, items.next())?, Some(5));
+    /// assert_eq!(rt; seen.get(), 5);
+    /// ```
     final fn inspect<F>(self, f: F) -> Inspect<Self, F>
     where
         Self: Sized,
@@ -478,7 +916,20 @@ pub trait StreamExt: Stream {
         make::inspect(self, f)
     }
 
-    /// The future of the next item, and `None` where the stream ends. It takes any stream, and polls it once a poll.
+    /// Returns a future of the next item, or of `None` if the stream ends.
+    ///
+    /// It accepts any stream, and polls it once in each poll.
+    ///
+    /// # Examples
+    ///
+    /// ```
+    /// use futures_lite::{StreamExt, future, stream};
+    ///
+    /// let mut numbers = stream::iter(1u8..3);
+    /// assert_eq!(rt; future::block_on(&rt, numbers.next())?, Some(1));
+    /// assert_eq!(rt; future::block_on(&rt, numbers.next())?, Some(2));
+    /// assert_eq!(rt; future::block_on(&rt, numbers.next())?, None);
+    /// ```
     #[tactic(auto, using(lite_views::proofs::Consuming::next_value))]
     final fn next<'a>(&'a mut self) -> NextFuture<'a, Self>
     where
@@ -490,8 +941,21 @@ pub trait StreamExt: Stream {
         lite_consume::make::next(self)
     }
 
-    /// The future of what the next item holds, or its error, and `Ok(None)` where the stream ends. It takes any stream of
-    /// Results, and polls it once a poll.
+    /// Returns a future of the value of the next item, for a stream of `Result`s.
+    ///
+    /// The value is `Ok(Some(value))` for an `Ok` item, the error for an `Err` item, and `Ok(None)` if the
+    /// stream ends. It accepts any stream of `Result`s, and polls it once in each poll.
+    ///
+    /// # Examples
+    ///
+    /// ```
+    /// use futures_lite::{StreamExt, future, stream};
+    ///
+    /// let mut results = stream::iter_array([Ok(1u8), Err("error")]);
+    /// assert_eq!(rt; future::block_on(&rt, results.try_next())?, Ok(Some(1)));
+    /// assert_eq!(rt; future::block_on(&rt, results.try_next())?, Err("error"));
+    /// assert_eq!(rt; future::block_on(&rt, results.try_next())?, Ok(None));
+    /// ```
     #[tactic(auto, using(lite_views::proofs::Consuming::try_next_value))]
     final fn try_next<'a, T, E>(&'a mut self) -> TryNextFuture<'a, Self>
     where
@@ -503,8 +967,18 @@ pub trait StreamExt: Stream {
         lite_consume::make::try_next(self)
     }
 
-    /// The future of how many items there are before the end. After `usize::MAX` comes 0. It lets the items go, so they
-    /// have to be `Drop`.
+    /// Returns a future of the number of items before the end.
+    ///
+    /// After `usize::MAX` it continues at 0. The items are dropped, so they must be `Drop`.
+    ///
+    /// # Examples
+    ///
+    /// ```
+    /// use futures_lite::{StreamExt, future, stream};
+    ///
+    /// let evens = stream::iter(1u8..=7).filter(|x: &u8| *x % 2 == 0);
+    /// assert_eq!(rt; future::block_on(&rt, evens.count())?, 3);
+    /// ```
     #[tactic(auto, using(lite_views::proofs::Consuming::counted_value))]
     final fn count(self) -> CountFuture<Self>
     where
@@ -516,8 +990,20 @@ pub trait StreamExt: Stream {
         lite_consume::make::count(self)
     }
 
-    /// The future of what `f` makes of `init` and of the items before the end, one after the other. What it makes has
-    /// to be `Drop`. It is not polled again after its value.
+    /// Returns a future that folds the items into one value: `f` gets the value so far, at first `init`, and
+    /// each item, and returns the next value.
+    ///
+    /// The future's value is the one at the end of the stream. The value must be `Drop`. Do not poll the
+    /// future again after it has returned its value.
+    ///
+    /// # Examples
+    ///
+    /// ```
+    /// use futures_lite::{StreamExt, future, stream};
+    ///
+    /// let number = stream::iter(1u32..=3).fold(0u32, |number: u32, digit: u32| number * 10 + digit);
+    /// assert_eq!(rt; future::block_on(&rt, number)?, 123);
+    /// ```
     final fn fold<T, F>(self, init: T, f: F) -> FoldFuture<Self, F, T>
     where
         Self: Counted + Sized,
@@ -529,9 +1015,24 @@ pub trait StreamExt: Stream {
         lite_consume::make::fold(self, init, f)
     }
 
-    /// The future of what `f` makes of `init` and of what the items hold, one after the other, up to the end or the
-    /// first error, an item's or one that `f` answers. What it makes has to be `Drop`. It is not polled again after its
-    /// value.
+    /// Returns a future that folds the `Ok` values of the items into one value, up to the first error.
+    ///
+    /// `f` gets the value so far, at first `init`, and the value of each item. The future's value is the one
+    /// at the end of the stream, or the first error, of an item or returned by `f`. One poll may consume many
+    /// `Ok` items, so this stream must be `OkCounted`. The folded value must be `Drop`. Do not poll the
+    /// future again after it has returned its value.
+    ///
+    /// # Examples
+    ///
+    /// ```
+    /// use futures_lite::{StreamExt, future, stream};
+    ///
+    /// let mut results = stream::iter_array([Ok(1u32), Ok(2), Err("no number"), Ok(4)]);
+    /// let sum = results.try_fold(0u32, |sum: u32, x: u32| Ok(sum + x));
+    /// assert_eq!(rt; future::block_on(&rt, sum)?, Err("no number"));
+    /// // The stream is left after the error.
+    /// assert_eq!(rt; future::block_on(&rt, results.next())?, Some(Ok(4)));
+    /// ```
     final fn try_fold<T, E, F, B>(&mut self, init: B, f: F) -> TryFoldFuture<'_, Self, F, B>
     where
         Self: OkCounted<Ok = T, Err = E> + Sized,
@@ -543,8 +1044,20 @@ pub trait StreamExt: Stream {
         lite_consume::make::try_fold(self, init, f)
     }
 
-    /// The future of the item with the number `n`, counted from 0, and `None` where the stream ends before it. It takes any
-    /// stream, and lets the items before that one go, so they have to be `Drop`.
+    /// Returns a future of the item number `n`, counted from 0, or of `None` if the stream ends before it.
+    ///
+    /// It accepts any stream. The items before that one are dropped, so the items must be `Drop`.
+    ///
+    /// # Examples
+    ///
+    /// ```
+    /// use futures_lite::{StreamExt, future, stream};
+    ///
+    /// let mut numbers = stream::iter(0u8..4);
+    /// assert_eq!(rt; future::block_on(&rt, numbers.nth(2))?, Some(2));
+    /// assert_eq!(rt; future::block_on(&rt, numbers.nth(0))?, Some(3));
+    /// assert_eq!(rt; future::block_on(&rt, numbers.nth(0))?, None);
+    /// ```
     #[tactic(auto, using(lite_views::proofs::Consuming::nth_value))]
     final fn nth(&mut self, n: usize) -> NthFuture<'_, Self>
     where
@@ -555,8 +1068,18 @@ pub trait StreamExt: Stream {
         lite_consume::make::nth(self, n)
     }
 
-    /// The future of the last item before the end, and `None` where there is none. It lets the others go, so the items
-    /// have to be `Drop`.
+    /// Returns a future of the last item before the end, or of `None` if there is no item.
+    ///
+    /// The other items are dropped, so the items must be `Drop`.
+    ///
+    /// # Examples
+    ///
+    /// ```
+    /// use futures_lite::{StreamExt, future, stream};
+    ///
+    /// assert_eq!(rt; future::block_on(&rt, stream::iter(1u8..=4).last())?, Some(4));
+    /// assert_eq!(rt; future::block_on(&rt, stream::empty::<u8>().last())?, None);
+    /// ```
     #[tactic(auto, using(lite_views::proofs::Consuming::last_value))]
     final fn last(self) -> LastFuture<Self>
     where
@@ -567,8 +1090,21 @@ pub trait StreamExt: Stream {
         lite_consume::make::last(self)
     }
 
-    /// The future of the first item that `predicate` accepts, and `None` where the stream ends before it. It lets the
-    /// items before that one go, so they have to be `Drop`.
+    /// Returns a future of the first item for which `predicate` returns true, or of `None` if the stream ends
+    /// before one.
+    ///
+    /// The items before it are dropped, so the items must be `Drop`.
+    ///
+    /// # Examples
+    ///
+    /// ```
+    /// use futures_lite::{StreamExt, future, stream};
+    ///
+    /// let mut numbers = stream::iter_array([3u8, 8, 5]);
+    /// let even = numbers.find(|x: &u8| *x % 2 == 0);
+    /// assert_eq!(rt; future::block_on(&rt, even)?, Some(8));
+    /// assert_eq!(rt; future::block_on(&rt, numbers.next())?, Some(5));
+    /// ```
     final fn find<P>(&mut self, predicate: P) -> FindFuture<'_, Self, P>
     where
         Self: Counted + Sized,
@@ -581,7 +1117,19 @@ pub trait StreamExt: Stream {
         lite_consume::make::find(self, predicate)
     }
 
-    /// The future of the first answer of `f` to the items that is not `None`, and `None` where the stream ends before it.
+    /// Returns a future that calls `f` with the items, and returns the first value that is not `None`.
+    ///
+    /// The future's value is `None` if the stream ends before one.
+    ///
+    /// # Examples
+    ///
+    /// ```
+    /// use futures_lite::{StreamExt, future, stream};
+    ///
+    /// let mut words = stream::iter_array(["lol", "NaN", "2", "5"]);
+    /// let number = words.find_map(|word: &str| word.parse::<u32>().ok());
+    /// assert_eq!(rt; future::block_on(&rt, number)?, Some(2));
+    /// ```
     final fn find_map<'a, F, B>(&'a mut self, f: F) -> FindMapFuture<'a, Self, F>
     where
         Self: Counted + Sized,
@@ -593,8 +1141,21 @@ pub trait StreamExt: Stream {
         lite_consume::make::find_map(self, f)
     }
 
-    /// The future of the number of the first item that `predicate` accepts, counted from 0 at the first item that
-    /// this future asks for, and `None` where the stream ends before it. After `usize::MAX` comes 0.
+    /// Returns a future of the number of the first item for which `predicate` returns true, or of `None` if
+    /// the stream ends before one.
+    ///
+    /// The first item that this future polls has the number 0. After `usize::MAX` comes 0.
+    ///
+    /// # Examples
+    ///
+    /// ```
+    /// use futures_lite::{StreamExt, future, stream};
+    ///
+    /// let mut numbers = stream::iter(5u8..9);
+    /// assert_eq!(rt; future::block_on(&rt, numbers.position(|x: u8| x == 7))?, Some(2));
+    /// // It counts from the item after the one that was found.
+    /// assert_eq!(rt; future::block_on(&rt, numbers.position(|x: u8| x == 8))?, Some(0));
+    /// ```
     final fn position<'a, P>(&'a mut self, predicate: P) -> PositionFuture<'a, Self, P>
     where
         Self: Counted + Sized,
@@ -607,8 +1168,20 @@ pub trait StreamExt: Stream {
         lite_consume::make::position(self, predicate)
     }
 
-    /// The future of whether `predicate` accepts each item; the first one that it rejects decides, and of no item it
-    /// is true.
+    /// Returns a future of whether `predicate` returns true for every item.
+    ///
+    /// The first item for which it returns false decides. The value is true if there is no item.
+    ///
+    /// # Examples
+    ///
+    /// ```
+    /// use futures_lite::{StreamExt, future, stream};
+    ///
+    /// let mut numbers = stream::iter(1u8..=9);
+    /// assert!(rt; !future::block_on(&rt, numbers.all(|x: u8| x < 3))?);
+    /// // The stream is left after the 3, which decided.
+    /// assert!(rt; future::block_on(&rt, numbers.all(|x: u8| x > 3))?);
+    /// ```
     final fn all<'a, P>(&'a mut self, predicate: P) -> AllFuture<'a, Self, P>
     where
         Self: Counted + Sized,
@@ -621,8 +1194,20 @@ pub trait StreamExt: Stream {
         lite_consume::make::all(self, predicate)
     }
 
-    /// The future of whether `predicate` accepts an item; the first one that it accepts decides, and of no item it is
-    /// false.
+    /// Returns a future of whether `predicate` returns true for an item.
+    ///
+    /// The first item for which it returns true decides. The value is false if there is no item.
+    ///
+    /// # Examples
+    ///
+    /// ```
+    /// use futures_lite::{StreamExt, future, stream};
+    ///
+    /// let mut numbers = stream::iter(1u8..=9);
+    /// assert!(rt; future::block_on(&rt, numbers.any(|x: u8| x == 3))?);
+    /// // The stream is left after the 3, which decided.
+    /// assert!(rt; !future::block_on(&rt, numbers.any(|x: u8| x == 3))?);
+    /// ```
     final fn any<'a, P>(&'a mut self, predicate: P) -> AnyFuture<'a, Self, P>
     where
         Self: Counted + Sized,
@@ -635,7 +1220,19 @@ pub trait StreamExt: Stream {
         lite_consume::make::any(self, predicate)
     }
 
-    /// The future that calls `f` with each item before the end.
+    /// Returns a future that calls `f` with each item before the end.
+    ///
+    /// # Examples
+    ///
+    /// ```
+    /// use futures_lite::{StreamExt, future, stream};
+    /// use std::cell::Cell;
+    ///
+    /// let sum = Cell::new(0u32);
+    /// let added = stream::iter(1u32..=4).for_each(|x: u32| sum.set(sum.get() + x));
+    /// future::block_on(&rt, added)?;
+    /// assert_eq!(rt; sum.get(), 10);
+    /// ```
     final fn for_each<F>(self, f: F) -> ForEachFuture<Self, F>
     where
         Self: Counted + Sized,
@@ -645,7 +1242,20 @@ pub trait StreamExt: Stream {
         lite_consume::make::for_each(self, f)
     }
 
-    /// The future that calls `f` with each item, up to the end or the first error that `f` answers, which is the value.
+    /// Returns a future that calls `f` with each item, up to the end or the first error.
+    ///
+    /// The future's value is the first error that `f` returns, or `Ok(())` at the end.
+    ///
+    /// # Examples
+    ///
+    /// ```
+    /// use futures_lite::{StreamExt, future, stream};
+    ///
+    /// let mut numbers = stream::iter(1u8..=5);
+    /// let checked = numbers.try_for_each(|x: u8| if x < 3 { Ok(()) } else { Err(x) });
+    /// assert_eq!(rt; future::block_on(&rt, checked)?, Err(3));
+    /// assert_eq!(rt; future::block_on(&rt, numbers.next())?, Some(4));
+    /// ```
     final fn try_for_each<'a, F, E>(&'a mut self, f: F) -> TryForEachFuture<'a, Self, F>
     where
         Self: Counted + Sized,
@@ -658,11 +1268,28 @@ pub trait StreamExt: Stream {
         lite_consume::make::try_for_each(self, f)
     }
 
-    /// The future of a collection of the items before the end, which takes its memory from `alloc`. Where it has no
-    /// room for an item the value is `Refused`: what was collected, and that item. A vector and a deque take items in
-    /// at the back, a `String` characters at its end, a `BTreeMap` pairs, whose keys stay and whose values are
-    /// replaced where the key is there, and a `BTreeSet` keeps an item that is there; keys, values and items of these two
-    /// have to be `Drop`. It is not polled again after its value.
+    /// Returns a future that collects the items before the end into a collection, which takes its memory from
+    /// `alloc`.
+    ///
+    /// A `Vec` and a `VecDeque` append items at the back, and a `String` appends characters. A `BTreeMap`
+    /// collects pairs: for a key that it has, the old key stays and the value is replaced. A `BTreeSet` keeps
+    /// the item that it has. Keys, values and items of these two must be `Drop`. Do not poll the future again
+    /// after it has returned its value.
+    ///
+    /// # Errors
+    ///
+    /// If the collection has no memory for an item, the value is [`Refused`]: what was collected before, and
+    /// that item.
+    ///
+    /// # Examples
+    ///
+    /// ```
+    /// use futures_lite::{StreamExt, future, stream};
+    ///
+    /// let letters = stream::iter_array(['a', 'b', 'c']);
+    /// let text = future::block_on(&rt, letters.collect::<String>(rt.alloc()))??;
+    /// assert_eq!(rt; text.as_str(), "abc");
+    /// ```
     final fn collect<C>(self, alloc: C::Alloc) -> CollectFuture<Self, C>
     where
         Self: Counted + Sized,
@@ -677,10 +1304,30 @@ pub trait StreamExt: Stream {
         lite_gather::make::collect(self, alloc)
     }
 
-    /// The future of a collection of what the items hold, up to the end or the first error among them, which is the
-    /// value, as `TryCollectError::Source`. It takes its memory from `alloc`; where it has no room for what an item
-    /// holds the value is `TryCollectError::Memory`: what was collected, and that. It is not polled again after its
-    /// value.
+    /// Returns a future that collects the `Ok` values of the items, up to the end or the first error.
+    ///
+    /// The collection takes its memory from `alloc`. One poll may consume many `Ok` items, so this stream
+    /// must be `OkCounted`. Do not poll the future again after it has returned its value.
+    ///
+    /// # Errors
+    ///
+    /// - `TryCollectError::Source`: an item is this error. What was collected is dropped with the future.
+    /// - `TryCollectError::Memory`: the collection has no memory for the value of an item. It has what was
+    ///   collected, and that value.
+    ///
+    /// # Examples
+    ///
+    /// ```
+    /// use futures_lite::stream::TryCollectError;
+    /// use futures_lite::{StreamExt, future, stream};
+    ///
+    /// let good = stream::iter_array([Ok::<u8, u8>(1), Ok(2)]);
+    /// let all = future::block_on(&rt, good.try_collect::<u8, u8, Vec<u8>>(rt.alloc()))??;
+    /// assert_eq!(rt; all.as_slice(), [1, 2].as_slice());
+    /// let bad = stream::iter_array([Ok(1u8), Err(7u8), Ok(3)]);
+    /// let failed = future::block_on(&rt, bad.try_collect::<u8, u8, Vec<u8>>(rt.alloc()))?;
+    /// assert!(rt; matches!(failed, Err(TryCollectError::Source(7))));
+    /// ```
     final fn try_collect<T, E, C>(self, alloc: C::Alloc) -> TryCollectFuture<Self, C>
     where
         Self: OkCounted<Ok = T, Err = E> + Sized,
@@ -699,9 +1346,28 @@ pub trait StreamExt: Stream {
         lite_gather::make::try_collect(self, alloc)
     }
 
-    /// The future of two collections: of the items that `predicate` accepts, and of the others. Both take their
-    /// memory from `alloc`; where one refuses an item, the value is what was collected, with that item. It is not
-    /// polled again after its value.
+    /// Returns a future that collects the items into two collections: those for which `predicate` returns
+    /// true, and the others.
+    ///
+    /// Both collections take their memory from `alloc`. Do not poll the future again after it has returned
+    /// its value.
+    ///
+    /// # Errors
+    ///
+    /// If a collection has no memory for an item, the value is [`Refused`]: both collections as they were
+    /// before, and that item.
+    ///
+    /// # Examples
+    ///
+    /// ```
+    /// use futures_lite::{StreamExt, future, stream};
+    ///
+    /// let numbers = stream::iter(1u8..=5);
+    /// let parted = numbers.partition::<Vec<u8>, _>(rt.alloc(), |x: &u8| *x % 2 == 0);
+    /// let (evens, odds) = future::block_on(&rt, parted)??;
+    /// assert_eq!(rt; evens.as_slice(), [2, 4].as_slice());
+    /// assert_eq!(rt; odds.as_slice(), [1, 3, 5].as_slice());
+    /// ```
     final fn partition<B, P>(self, alloc: B::Alloc, predicate: P) -> PartitionFuture<Self, P, B>
     where
         Self: Counted + Sized,
@@ -724,10 +1390,30 @@ pub trait StreamExt: Stream {
         lite_gather::make::partition(self, alloc, predicate)
     }
 
-    /// The future of two collections: of the first and of the second parts of the items. Both take their memory from
-    /// `alloc`. Where the first refuses its part the value is `UnzipRefused::Left`: both collections and both parts;
-    /// where the second does, `UnzipRefused::Right`: both, the first with its part, and the second part. It is not
-    /// polled again after its value.
+    /// Returns a future that collects pairs into two collections: of the first parts, and of the second
+    /// parts.
+    ///
+    /// Both collections take their memory from `alloc`. Do not poll the future again after it has returned
+    /// its value.
+    ///
+    /// # Errors
+    ///
+    /// - `UnzipRefused::Left`: the first collection has no memory for its part. It has both collections, and
+    ///   both parts.
+    /// - `UnzipRefused::Right`: the second collection has no memory for its part. It has both collections,
+    ///   the first with its part of the item, and the second part.
+    ///
+    /// # Examples
+    ///
+    /// ```
+    /// use futures_lite::{StreamExt, future, stream};
+    ///
+    /// let pairs = stream::iter_array([(1u8, 'a'), (2, 'b')]);
+    /// let parted = pairs.unzip::<u8, char, Vec<u8>, String>(rt.alloc());
+    /// let (numbers, letters) = future::block_on(&rt, parted)??;
+    /// assert_eq!(rt; numbers.as_slice(), [1, 2].as_slice());
+    /// assert_eq!(rt; letters.as_str(), "ab");
+    /// ```
     final fn unzip<A, B, FromA, FromB>(self, alloc: FromA::Alloc) -> UnzipFuture<Self, FromA, FromB>
     where
         Self: Counted<Item = (A, B)> + Sized,

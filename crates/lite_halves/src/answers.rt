@@ -1,4 +1,4 @@
-//! Answers of polls, as they are written down.
+//! Answers of polls, as an entry records them.
 ghost use Rattle.std.specs.Prelude.{◌≡◌, ◌≤◌, [], length, vec_capacity, IfOk, MatchOption};
 ghost use Rattle.lite_halves.specs.Uses.{IfReady};
 ghost use Rattle.lite_halves.specs.Counts.{IsOutOfMemory};
@@ -9,7 +9,7 @@ use lite_base::Poll;
 use std::io;
 use std::io::ErrorKind;
 
-/// What a read into the whole of `buf` was told: `buf` cut to what was read.
+/// Returns the answer of a read into the whole of `buf`, with `buf` cut to what was read.
 pub fn buffer_answer(polled: &Poll<io::Result<usize>>, mut buf: Vec<u8>) -> Answer
     requires { IfReady polled.now (λ r. IfOk r (λ n. n ≤ length buf.items)) }
     ensures { told_of result ≡ told_of_read polled.now buf.items }
@@ -25,7 +25,8 @@ pub fn buffer_answer(polled: &Poll<io::Result<usize>>, mut buf: Vec<u8>) -> Answ
     }
 }
 
-/// The answer of a read, its bytes in room that was made before; the room that is left over is given back.
+/// Returns the answer of a read, with its bytes in `bytes`, which has the room; the unused room is given
+/// back.
 pub(crate) fn read_answer(
     polled: &Poll<io::Result<usize>>,
     mut bytes: Vec<u8>,
@@ -49,7 +50,7 @@ pub(crate) fn read_answer(
     }
 }
 
-/// What a write was told.
+/// Returns the answer of a write.
 pub fn write_answer(polled: &Poll<io::Result<usize>>) -> Answer
     ensures { told_of result ≡ told_of_write polled.now }
 {
@@ -60,7 +61,7 @@ pub fn write_answer(polled: &Poll<io::Result<usize>>) -> Answer
     }
 }
 
-/// What a flush or a close was told.
+/// Returns the answer of a flush or of a close.
 pub fn done_answer(polled: &Poll<io::Result<()>>) -> Answer
     ensures { told_of result ≡ told_of_done polled.now }
 {
@@ -71,7 +72,7 @@ pub fn done_answer(polled: &Poll<io::Result<()>>) -> Answer
     }
 }
 
-/// The answer, or that memory was refused where there is none.
+/// Returns the result of the poll, or an error of the kind `OutOfMemory` for `None`.
 pub(crate) fn or_refused<T>(polled: Option<Poll<io::Result<T>>>) -> Poll<io::Result<T>>
     ensures { MatchOption polled (IsOutOfMemory result) (λ answer. result ≡ answer) }
 {

@@ -1,4 +1,4 @@
-//! A journal is never pending where its stream isn't.
+//! A journal never returns `Pending` if its stream never does.
 ghost use Rattle.lite_halves.specs.Laws.Steady.{journal_calm, journal_calm_write};
 
 use crate::Journal;

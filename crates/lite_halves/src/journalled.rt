@@ -1,4 +1,4 @@
-//! A journal in two halves, and what it has written down.
+//! A journal in two halves, and its history.
 ghost use Rattle.std.specs.Prelude.{◌≡◌, [], IfErr, IfOk};
 ghost use Rattle.lite_halves.specs.Counts.{got_in, reads_in, taken_in, writes_in};
 ghost use Rattle.lite_halves.specs.Journal.{IsSound, Replays};
@@ -19,11 +19,49 @@ use std::alloc::{AllocError, AllocGlobal};
 use std::sync::{Arc, Mutex, Wait};
 pub use write_half::JournalWriteHalf;
 
-/// Two halves of a journal, which may be used in two threads. Each tells the entries of its kind that the journal has.
+/// Splits a journal into a half that reads and a half that writes, which may be used in two threads.
 ///
-/// `B` names the ledgers of the calls and of the bytes of both halves; so halves of two splits do not go together. `Err`
-/// hands the journal back: there was no memory for what the halves share; the blanks are spent. The halves keep `rt` for
-/// their calls, which may wait; this call does not. `rt` and the stream have to be `Drop`. The original has no such call.
+/// Each half counts the entries of its kind that the journal has, including those from before the split. `B`
+/// names the counters of the calls and of the bytes of both halves, so halves of two splits cannot be mixed.
+/// `blanks` must be the counters that `B` names.
+///
+/// Each call of a half locks the journal, so it may wait. The halves keep `rt` for that. This call does not
+/// wait. `rt` and the stream must be `Drop`.
+///
+/// # Errors
+///
+/// `Err` returns the journal: the memory for what the halves share was refused. `blanks` is dropped.
+///
+/// # Examples
+///
+/// ```
+/// use futures_lite::future;
+/// use futures_lite::io::{AsyncWriteExt, Blanks, Books, Cursor, Journal, split_journalled};
+/// use std::alloc::{AllocError, AllocGlobal};
+/// use std::marker::Brand;
+/// use std::process::Abort;
+/// use std::random::RandomSource;
+/// use std::sync::Wait;
+///
+/// fn writes<R, B>(rt: R, journal: Journal<Cursor<Vec<u8>>>, blanks: Blanks) -> Result<(), Fail>
+/// where
+///     R: Wait + Abort + RandomSource + AllocGlobal + Copy,
+///     B: Books,
+/// {
+///     let halves = split_journalled::<R, Cursor<Vec<u8>>, B>(rt, journal, blanks);
+///     let Ok((reader, mut writer)) = halves else {
+///         return Err(AllocError.into());
+///     };
+///     future::block_on(&rt, writer.write(b"ab"))??;
+///     assert_eq!(rt; (reader.calls(), writer.calls(), writer.bytes()), (0, 1, 2));
+///     Ok(())
+/// }
+///
+/// let Ok(journal) = Journal::new(rt.alloc(), Cursor::new(Vec::new(rt.alloc()))) else {
+///     return Err(AllocError.into());
+/// };
+/// writes::<HostRuntime, Brand>(rt, journal, Blanks::new())?;
+/// ```
 pub fn split_journalled<R, T, B>(
     rt: R,
     journal: Journal<T>,
@@ -43,7 +81,7 @@ where
         return Err(journal);
     };
     let (locked, read_shares, write_shares) = Locked::open(blanks);
-    // The journal is put in last, so that a refusal hands it back.
+    // The journal is put in last, so that it can be returned after a refusal.
     let Ok(shared) = Arc::new(rt.alloc(), Mutex::new(locked)) else {
         return Err(journal);
     };
@@ -64,11 +102,37 @@ where
     Ok((read, write))
 }
 
-/// A clone of the journal so far, whose entries are as many, and moved as many bytes, as the two halves tell, whatever
-/// threads they were used in.
+/// Returns a clone of the journal so far.
 ///
-/// `Err`: there was no memory for the clone, and nothing changes. It locks the journal, and so it may wait. The original
-/// has no such call.
+/// It has as many entries, and they moved as many bytes, as the two halves count, whatever threads they were
+/// used in. This call locks the journal, so it may wait.
+///
+/// # Errors
+///
+/// `Err(AllocError)` means that the memory for the clone was refused. Nothing changes.
+///
+/// # Examples
+///
+/// ```
+/// use futures_lite::future;
+/// use futures_lite::io::{AsyncWriteExt, Blanks, Call, Cursor, Journal, history, split_journalled};
+/// use std::alloc::AllocError;
+/// use std::marker::Brand;
+///
+/// type Bytes = Cursor<Vec<u8>>;
+///
+/// let Ok(journal) = Journal::new(rt.alloc(), Cursor::new(Vec::new(rt.alloc()))) else {
+///     return Err(AllocError.into());
+/// };
+/// let halves = split_journalled::<HostRuntime, Bytes, Brand>(rt, journal, Blanks::new());
+/// let Ok((mut reader, mut writer)) = halves else {
+///     return Err(AllocError.into());
+/// };
+/// future::block_on(&rt, writer.flush())??;
+/// let so_far = history(&mut reader, &mut writer)?;
+/// assert_eq!(rt; so_far.entries().len(), 1);
+/// assert_eq!(rt; so_far.entries()[0].call, Call::Flush);
+/// ```
 pub fn history<R: Wait, T: Tale + Takings + Clone, B: Books>(
     read: &mut JournalReadHalf<R, T, B>,
     write: &mut JournalWriteHalf<R, T, B>,
@@ -83,7 +147,7 @@ pub fn history<R: Wait, T: Tale + Takings + Clone, B: Books>(
 {
     let mut locked = read.shared.lock(&read.rt);
     let told = locked.history(&mut read.tally, &mut write.tally)?;
-    // A look at its entries shows that it is sound.
+    // The contract of `entries` proves that it is sound.
     let _entries = told.entries();
     Ok(told)
 }

@@ -1,5 +1,5 @@
-//! A journal is a reader whose tale does not depend on when it was pending, and a writer that leaves the same bytes, if its
-//! stream is.
+//! A journal yields the same bytes whenever its stream was pending, and leaves the same bytes, if its stream
+//! does.
 ghost use Rattle.lite_halves.specs.Laws.Steady.{journal_steady, journal_steady_write};
 ghost use Rattle.lite_halves.specs.Steady.{ReadsAmply};
 

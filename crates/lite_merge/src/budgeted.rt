@@ -4,16 +4,17 @@ ghost use Rattle.lite_merge.specs.Laws.Budgeted.{budget_counting, paces_relating
 
 use lite_base::{Context, Counted, Poll, Stream};
 
-/// A stream that is pending once more after so many items in a row, so that whoever polls it can turn to another task.
+/// A stream that returns `Pending` once after a number of items in a row, so that another task can run.
 ///
-/// Made by [`with_budget`](crate::make::with_budget). It gives the answers of its stream, in order. After as many items
-/// as its budget without a pending between them it wakes its context and is pending once, in a poll that does not ask its
-/// stream. Its rank, over any stream, is how many items may come before that. The original has no such adapter.
+/// Returned by [`with_budget`](crate::make::with_budget). It returns the results of another stream, in order.
+/// After as many items as its budget without a `Pending` between them, it wakes the task and returns
+/// `Pending` once. That poll does not poll the other stream. It is `Counted` over any stream: `ranks` counts
+/// the items that may come before that.
 #[derive(Clone, Debug, Drop)]
 pub struct Budgeted<S> {
     pub(crate) stream: S,
     pub(crate) budget: usize,
-    // How many items may come before it is pending by itself.
+    // How many items may come before it returns `Pending` by itself.
     pub(crate) left: usize,
 }
 

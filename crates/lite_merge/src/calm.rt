@@ -1,4 +1,4 @@
-//! The adapters that are never pending over streams that never are.
+//! Which adapters never return `Pending` if their streams never do.
 ghost use Rattle.lite_merge.specs.Laws.Or.{or_calm};
 ghost use Rattle.lite_merge.specs.Laws.Race.{race_calm};
 ghost use Rattle.lite_merge.specs.Laws.Zip.{zip_calm};

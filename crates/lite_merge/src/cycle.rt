@@ -6,24 +6,25 @@ ghost use Rattle.lite_merge.specs.Laws.Cycle.{cycle_laws};
 use lite_base::{Context, Poll, Stream, ready};
 use std::alloc::AllocError;
 
-/// The items of a stream over and over.
+/// A stream that yields the items of another stream over and over.
 ///
-/// Made by [`cycle`](crate::make::cycle), which keeps a copy of the stream as it was handed in. `Ok` is an item. At an end a
-/// copy of that one is made, and polled once in the same poll; what it answers goes out whatever it is. So the cycle of a
-/// stream without items answers an end, and the next poll asks the same copy.
-/// `Err(AllocError)` is a copy that was refused for want of memory; the next poll asks for it again, without polling the
-/// stream that has ended. A copy is what the stream's own `Clone` may give. Ported from `src/stream.rs`, `Cycle`, whose
-/// copies are not refused.
+/// Returned by [`cycle`](crate::make::cycle), which keeps a clone of the stream as it was passed. When the
+/// stream ends, it clones that one and returns the clone's first result in the same poll, even if that is an
+/// end. So the cycle of an empty stream returns `Ready(None)`, and the next poll polls the same clone.
+///
+/// An item is `Ok`. `Err(AllocError)` means that a clone was refused for want of memory. The next poll tries
+/// again, without polling the stream that has ended. A clone is what the stream's own `Clone` returns. In
+/// futures-lite a clone is never refused, so its items are not `Result`s.
 #[derive(Clone, Debug, Drop)]
 pub struct Cycle<S> {
     pub(crate) original: S,
 
-    // None where the stream has ended, and its copy was refused.
+    // None if the stream has ended and its clone was refused.
     pub(crate) stream: Option<S>,
 }
 
 impl<S: Stream + Clone> Cycle<S> {
-    // Asks for a copy, and goes on with it: its first answer goes out, or its refusal.
+    // Makes a clone and continues with it: returns its first result, or the refusal.
     fn renew(&mut self, cx: &mut Context<'_>) -> Poll<Option<Result<S::Item, AllocError>>>
         requires { (copy : S) → S.is_clone self.old.original copy → S.can_poll copy }
         ensures ran { (asked : Result S AllocError)

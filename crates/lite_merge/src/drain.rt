@@ -5,10 +5,10 @@ ghost use Rattle.lite_merge.specs.Laws.Drain.{drained_relating};
 
 use lite_base::{Context, Counted, Poll, Stream};
 
-/// A stream that ends wherever the stream that it is lent is pending.
+/// A stream that borrows another stream, and ends whenever that is pending.
 ///
-/// Made by [`drain`](crate::make::drain). It is never pending: an end stands for a pending or for an end of the lent
-/// stream, which goes on when it is polled again. Ported from `src/stream.rs`, `Drain`.
+/// Returned by [`drain`](crate::make::drain). It never returns `Pending`: its end means that the borrowed
+/// stream is pending or has ended. The next poll polls the borrowed stream again.
 #[derive(Debug, Drop)]
 pub struct Drain<'a, S> {
     pub(crate) stream: &'a mut S,
@@ -19,14 +19,35 @@ impl<'a, S> Drain<'a, S> {
     ghost use Rattle.std.specs.Prelude.{[]};
     ghost use Rattle.lite_merge.specs.contracts.drain.Drain.{the_row};
 
-    /// The lent stream. Ported from `src/stream.rs`, `Drain::get_ref`.
+    /// Returns a reference to the borrowed stream.
+    ///
+    /// # Examples
+    ///
+    /// ```
+    /// use futures_lite::{Stream, StreamExt, stream};
+    ///
+    /// let mut numbers = stream::iter(0u8..4);
+    /// let ready = numbers.drain();
+    /// assert_eq!(rt; ready.get_ref().size_hint(), (4, Some(4)));
+    /// ```
     pub fn get_ref(&self) -> &S
         ensures { result.now ≡ self.now.stream.now }
     {
         self.stream
     }
 
-    /// The lent stream, to be polled or changed. Ported from `src/stream.rs`, `Drain::get_mut`.
+    /// Returns a mutable reference to the borrowed stream, which may be polled or changed.
+    ///
+    /// # Examples
+    ///
+    /// ```
+    /// use futures_lite::{StreamExt, future, stream};
+    ///
+    /// let mut numbers = stream::iter(0u8..4);
+    /// let mut ready = numbers.drain();
+    /// assert_eq!(rt; future::block_on(&rt, ready.get_mut().nth(2))?, Some(2));
+    /// assert_eq!(rt; future::block_on(&rt, ready.next())?, Some(3));
+    /// ```
     pub fn get_mut(&mut self) -> &mut S
         ensures value { result.now ≡ self.old.stream.now }
         ensures* writes_back { sem 𝓛 (Lends (the_row (record { mir = named 1; lft = [] }) S.row) S.row self.entry result
@@ -35,7 +56,19 @@ impl<'a, S> Drain<'a, S> {
         self.stream
     }
 
-    /// The lent stream itself. Ported from `src/stream.rs`, `Drain::into_inner`.
+    /// Returns the mutable reference to the borrowed stream.
+    ///
+    /// # Examples
+    ///
+    /// ```
+    /// use futures_lite::{StreamExt, future, stream};
+    ///
+    /// let mut numbers = stream::iter(0u8..4);
+    /// let mut ready = numbers.drain();
+    /// assert_eq!(rt; future::block_on(&rt, ready.next())?, Some(0));
+    /// let rest = ready.into_inner();
+    /// assert_eq!(rt; future::block_on(&rt, rest.next())?, Some(1));
+    /// ```
     pub fn into_inner(self) -> &'a mut S
         ensures { result ≡ self.entry.stream }
     {

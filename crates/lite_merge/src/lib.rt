@@ -1,4 +1,5 @@
-//! Adapters that merge two streams, or a stream and a future, start one anew, or change where it is pending.
+//! Adapters that merge two streams, or a stream and a future; that repeat a stream; or that change when it is
+//! pending.
 #![tactic(auto)]
 
 mod budgeted;

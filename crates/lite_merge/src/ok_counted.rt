@@ -1,4 +1,4 @@
-//! Ranks over `Ok` items, of the adapters whose rank falls with each item.
+//! Which adapters are `OkCounted`, because each item lowers their rank.
 ghost use Rattle.lite_merge.specs.Uses.{ok_counting, lent_counting, ranks_of, through_counting};
 ghost use Rattle.lite_merge.specs.Laws.Or.{or_counting};
 ghost use Rattle.lite_merge.specs.Laws.Race.{race_counting};

@@ -8,11 +8,11 @@ use crate::picks::poll_in_order;
 use lite_base::{Context, Counted, Poll, Stream};
 use lite_stream::Fuse;
 
-/// The items of two streams as they come, the first stream's before the second's where both have one.
+/// A stream that yields the items of two streams as they come, the first stream's items first.
 ///
-/// Made by [`or`](crate::make::or). The second stream is polled only where the first gave no item. A stream that has ended
-/// is not polled any more. A poll without an item is an end where both streams have ended, and then this stream ends for
-/// ever; else it is pending. Ported from `src/stream.rs`, `Or`.
+/// Returned by [`or`](crate::make::or). The second stream is polled only if the first has no item. A stream
+/// that has ended is not polled. A poll without an item returns an end if both streams have ended, and then
+/// this stream ends for ever. Otherwise it returns `Pending`.
 #[derive(Clone, Debug, Drop)]
 pub struct Or<S1, S2> {
     pub(crate) stream1: Fuse<S1>,

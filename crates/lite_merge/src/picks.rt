@@ -1,4 +1,4 @@
-//! What `or` and `race` share: a poll of two streams in an order.
+//! What `or` and `race` share: a poll of two streams in a given order.
 ghost use Rattle.std.specs.Prelude.{List, []};
 ghost use Rattle.lite_merge.specs.Uses.{Keeps, Answer, Fuses, Registered};
 ghost use Rattle.lite_merge.specs.Merge.{MergeRegisters, MergeRow};
@@ -6,7 +6,7 @@ ghost use Rattle.lite_merge.specs.Merge.{MergeRegisters, MergeRow};
 use lite_base::{Context, Poll, Stream};
 use lite_stream::Fuse;
 
-/// Polls `first`, and `second` only where that gave no item.
+/// Polls `first`, and then `second` if that has no item.
 pub(crate) fn poll_in_order<S, U>(
     first: &mut Fuse<S>,
     second: &mut Fuse<U>,

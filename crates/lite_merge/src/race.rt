@@ -9,13 +9,13 @@ use lite_base::{Context, Counted, Poll, Stream};
 use lite_stream::Fuse;
 use rand_core::Rng;
 
-/// The items of two streams as they come, with no preference where both have one.
+/// A stream that yields the items of two streams as they come, with neither preferred.
 ///
-/// Made by [`race`](crate::make::race) and [`race_with_seed`](crate::make::race_with_seed). Each poll takes one word of
-/// the generator by `next_u32`. Where its lowest bit is 1 the first stream is polled first, and else the second; the other
-/// is polled only where that one gave no item. A stream that has ended is not polled any more. A poll without an item is an
-/// end where both streams have ended, and then this stream ends for ever; else it is pending. Ported from
-/// `src/stream.rs`, `Race`.
+/// Returned by [`race`](crate::make::race) and [`race_with_seed`](crate::make::race_with_seed). Each poll
+/// takes one word from the generator by `next_u32`. If its lowest bit is 1 the first stream is polled first,
+/// otherwise the second. The other one is polled only if that one has no item. A stream that has ended is not
+/// polled. A poll without an item returns an end if both streams have ended, and then this stream ends for
+/// ever. Otherwise it returns `Pending`.
 #[derive(Clone, Debug, Drop)]
 pub struct Race<S1, S2, R> {
     pub(crate) stream1: Fuse<S1>,

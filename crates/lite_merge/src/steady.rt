@@ -1,4 +1,4 @@
-//! The adapters whose answers do not depend on when their streams were pending.
+//! Which adapters yield the same whenever their streams were pending.
 ghost use Rattle.lite_merge.specs.Uses.{Pairwise, SameHeld};
 ghost use Rattle.lite_merge.specs.Budgeted.{Budgets};
 ghost use Rattle.lite_merge.specs.Laws.Budgeted.{budget_steady};

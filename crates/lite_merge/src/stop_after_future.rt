@@ -16,11 +16,12 @@ pub(crate) enum Stopping<Fut, T> {
     Stopped(Option<T>),
 }
 
-/// The items of a stream until a future has its value or the stream ends, and then an end for ever.
+/// A stream that yields the items of another stream until a future is ready, and then ends for ever.
 ///
-/// Made by [`stop_after_future`](crate::make::stop_after_future). Each poll polls the future first, while it is held; where
-/// it has its value the stream is not polled, and an end goes out. At the stream's end the future is dropped. Once the
-/// future was taken out, the stream is passed through for ever. Ported from `src/stream.rs`, `StopAfterFuture`.
+/// Returned by [`stop_after_future`](crate::make::stop_after_future). Each poll polls the future first. When
+/// the future is ready, the other stream is not polled, and this stream ends. When the other stream ends, the
+/// future is dropped. Once the future was taken out by `take_future`, the results of the other stream pass
+/// through.
 #[derive(Debug, Drop)]
 pub struct StopAfterFuture<S, Fut: Future> {
     pub(crate) stream: S,
@@ -30,9 +31,24 @@ pub struct StopAfterFuture<S, Fut: Future> {
 impl<S, Fut: Future> StopAfterFuture<S, Fut> {
     ghost use Rattle.lite_merge.specs.Stopping.{IsStopped, result_of, without_future, without_result};
 
-    /// Takes the future out, if it is held. `Some` is the future, and from then on the stream is passed through. `None`
-    /// changes nothing: the stream was stopped, or the future was taken out before. Ported from `src/stream.rs`,
-    /// `StopAfterFuture::take_future`.
+    /// Takes the future out, and returns it.
+    ///
+    /// The results of the other stream then pass through for ever. Returns `None`, and changes nothing, if
+    /// the stream has stopped, or if the future was taken out before.
+    ///
+    /// # Examples
+    ///
+    /// ```
+    /// use futures_lite::{StreamExt, future, stream};
+    ///
+    /// let mut ticks = stream::stop_after_future(stream::iter(0u8..2), future::ready('x'));
+    /// let Some(taken) = ticks.take_future() else {
+    ///     return Err(Fail::from("the future is taken out"));
+    /// };
+    /// assert_eq!(rt; future::block_on(&rt, taken)?, 'x');
+    /// assert_eq!(rt; future::block_on(&rt, ticks.next())?, Some(0));
+    /// assert!(rt; ticks.take_future().is_none());
+    /// ```
     pub fn take_future(&mut self) -> Option<Fut>
         ensures taken { result ≡ future_of self.old.future }
         ensures left { self.new ≡ record self.old { future = without_future self.old.future } }
@@ -46,9 +62,22 @@ impl<S, Fut: Future> StopAfterFuture<S, Fut> {
         }
     }
 
-    /// Takes the future's value out, if the future stopped the stream. `None` changes nothing: the stream is not
-    /// stopped, was stopped by its own end, or the value was taken out before. Ported from `src/stream.rs`,
-    /// `StopAfterFuture::take_result`.
+    /// Takes the value of the future out, and returns it.
+    ///
+    /// Returns `None`, and changes nothing, if the stream has not stopped, if it stopped because the other
+    /// stream ended, or if the value was taken out before.
+    ///
+    /// # Examples
+    ///
+    /// ```
+    /// use futures_lite::{StreamExt, future, stream};
+    ///
+    /// let mut ticks = stream::stop_after_future(stream::iter(0u8..2), future::ready('x'));
+    /// assert_eq!(rt; ticks.take_result(), None);
+    /// assert_eq!(rt; future::block_on(&rt, ticks.next())?, None);
+    /// assert_eq!(rt; ticks.take_result(), Some('x'));
+    /// assert_eq!(rt; ticks.take_result(), None);
+    /// ```
     pub fn take_result(&mut self) -> Option<Fut::Output>
         ensures taken { result ≡ result_of self.old.future }
         ensures left { self.new ≡ record self.old { future = without_result self.old.future } }
@@ -59,8 +88,19 @@ impl<S, Fut: Future> StopAfterFuture<S, Fut> {
         }
     }
 
-    /// Whether the stream was stopped, by the future's value or by its own end. Ported from `src/stream.rs`,
-    /// `StopAfterFuture::is_stopped`.
+    /// Returns whether the stream has stopped, because the future was ready or because the other stream
+    /// ended.
+    ///
+    /// # Examples
+    ///
+    /// ```
+    /// use futures_lite::{StreamExt, future, stream};
+    ///
+    /// let mut ticks = stream::stop_after_future(stream::iter(0u8..2), future::ready(()));
+    /// assert!(rt; !ticks.is_stopped());
+    /// assert_eq!(rt; future::block_on(&rt, ticks.next())?, None);
+    /// assert!(rt; ticks.is_stopped());
+    /// ```
     pub fn is_stopped(&self) -> bool
         ensures { IsTrue result ↔ IsStopped self.now.future }
     {
@@ -69,7 +109,7 @@ impl<S, Fut: Future> StopAfterFuture<S, Fut> {
 }
 
 impl<S, Fut: Future + Drop> StopAfterFuture<S, Fut> {
-    // Lets the future go that is held, and keeps what it gave.
+    // Drops the future, and keeps its value, if there is one.
     fn stop(&mut self, value: Option<Fut::Output>)
         requires { IsSome (future_of self.old.future) }
         ensures { self.new ≡ record self.old { future = Stopped value } }

@@ -5,12 +5,11 @@ ghost use Rattle.lite_merge.specs.Zip.{Pairs, WithHeld, ZipRegisters, Zips, zip_
 
 use lite_base::{Context, Counted, Poll, Stream, ready};
 
-/// The pairs of the items of two streams.
+/// A stream that yields pairs of the items of two streams.
 ///
-/// Made by [`zip`](crate::make::zip). An item of the first stream is held until the second stream has answered with an
-/// item, which makes the pair, or with an end, with which the held item is let go. While an item is held the first stream is
-/// not polled. An end of either stream goes out; polled again, this stream goes on as the two do. Ported from
-/// `src/stream.rs`, `Zip`.
+/// Returned by [`zip`](crate::make::zip). An item of the first stream is kept until the second stream yields
+/// an item, which makes the pair, or ends, which drops the kept item. While an item is kept the first stream
+/// is not polled. The end of either stream passes through. A poll after it polls the two streams again.
 #[derive(Clone, Debug, Drop)]
 pub struct Zip<A: Stream, B> {
     pub(crate) item_slot: Option<A::Item>,
@@ -19,7 +18,7 @@ pub struct Zip<A: Stream, B> {
 }
 
 impl<A: Stream<Item: Drop>, B: Stream> Zip<A, B> {
-    // Asks the second stream for what makes a pair with `item`.
+    // Polls the second stream for the second part of the pair that `item` begins.
     fn poll_pair(&mut self, item: A::Item, cx: &mut Context<'_>) -> Poll<Option<(A::Item, B::Item)>>
         requires empty { self.old.item_slot ≡ None }
         requires can_poll { B.can_poll self.old.second }

@@ -7,7 +7,7 @@ ghost use Rattle.lite_reshape.specs.Laws.Chain.{chain_counting, chain_laws};
 
 use lite_base::{Context, Counted, Poll, Stream, ready};
 
-/// Which stream is asked next.
+/// Which stream is polled next.
 #[derive(Clone, Copy, Debug)]
 pub(crate) enum Part {
     First,
@@ -15,10 +15,10 @@ pub(crate) enum Part {
     Done,
 }
 
-/// The items of a stream, and after its end those of another.
+/// A stream that yields the items of one stream, and after its end those of another.
 ///
-/// Made by [`chain`](crate::make::chain). The second stream is asked in the poll that met the first one's end. Neither
-/// is polled after its end, and then this stream ends for ever. Ported from `src/stream.rs`, `Chain`.
+/// Returned by [`chain`](crate::make::chain). The second stream is polled in the same call in which the first
+/// one ends. Neither is polled after its end. When both have ended, this stream ends for ever.
 #[derive(Clone, Debug, Drop)]
 pub struct Chain<S, U> {
     pub(crate) first: S,
@@ -27,7 +27,7 @@ pub struct Chain<S, U> {
 }
 
 impl<S: Stream, U: Stream<Item = S::Item>> Chain<S, U> {
-    // Asks the second stream, once it is its turn.
+    // Polls the second stream, when it is its turn.
     fn poll_second(&mut self, cx: &mut Context<'_>) -> Poll<Option<S::Item>>
         requires turn { self.old.part ≡ Second }
         requires can_poll { U.can_poll self.old.second }

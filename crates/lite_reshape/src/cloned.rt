@@ -7,18 +7,18 @@ ghost use Rattle.lite_reshape.specs.Laws.Expanding.{held_ranks};
 use lite_base::{Context, Counted, OkCounted, Poll, Stream, ready};
 use std::alloc::AllocError;
 
-/// What the references of a stream refer to, cloned.
+/// A stream that yields clones of the references that another stream yields.
 ///
-/// Made by [`cloned`](crate::make::cloned). An item is the clone, or `Err(AllocError)` where it was refused for want
-/// of memory; then the reference is kept, and the next poll asks for the same clone again without polling the stream.
-/// A clone that cannot fail is not refused. Ported from `src/stream.rs`, `Cloned`, whose clones are not refused.
+/// Returned by [`cloned`](crate::make::cloned). An item is `Ok` with a clone, or `Err(AllocError)` if the
+/// clone was refused for want of memory. In that case the reference is kept. The next poll tries the same
+/// clone again, without polling the other stream. A clone that cannot fail is never refused.
 #[derive(Clone, Debug, Drop)]
 pub struct Cloned<S: Stream> {
     pub(crate) stream: S,
     pub(crate) held: Option<S::Item>,
 }
 
-// Asks for a clone, and holds the reference where it is refused.
+// Makes a clone, and keeps the reference if it is refused.
 #[tactic(auto, using(crate::specs::Laws::Cloned::gives_copy))]
 fn try_clone<'a, T: Clone>(
     item: &'a T,

@@ -6,10 +6,10 @@ ghost use Rattle.lite_reshape.specs.Laws.Leaving.{leaves_relating};
 
 use lite_base::{Context, Counted, Poll, PollSteps, Stream, drive};
 
-/// The items of a stream that a predicate accepts.
+/// A stream that yields the items of another stream for which a predicate returns true.
 ///
-/// Made by [`filter`](crate::make::filter). A poll goes on over rejected items until there is an accepted one, a
-/// pending or an end, so the stream's rank has to count. Ported from `src/stream.rs`, `Filter`.
+/// Returned by [`filter`](crate::make::filter). One poll may skip many items, up to a kept one, `Pending` or
+/// an end. So the other stream must be `Counted`.
 #[derive(Debug, Drop)]
 pub struct Filter<S, P> {
     pub(crate) stream: S,

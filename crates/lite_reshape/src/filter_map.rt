@@ -6,10 +6,11 @@ ghost use Rattle.lite_reshape.specs.Laws.Leaving.{leaves_relating};
 
 use lite_base::{Context, Counted, Poll, PollSteps, Stream, drive};
 
-/// What a function answers to the items of a stream, without those to which it answers `None`.
+/// A stream that yields the values for which a function, called with the items of another stream, returns
+/// `Some`.
 ///
-/// Made by [`filter_map`](crate::make::filter_map). A poll goes on over rejected items until there is a kept one, a
-/// pending or an end, so the stream's rank has to count. Ported from `src/stream.rs`, `FilterMap`.
+/// Returned by [`filter_map`](crate::make::filter_map). One poll may skip many items, up to a kept one,
+/// `Pending` or an end. So the other stream must be `Counted`.
 #[derive(Debug, Drop)]
 pub struct FilterMap<S, F> {
     pub(crate) stream: S,

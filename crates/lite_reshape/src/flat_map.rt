@@ -10,13 +10,12 @@ use crate::inner::poll_part;
 use lite_base::{Context, Counted, Poll, PollSteps, Stream, drive};
 use lite_stream::Map;
 
-/// The items of the streams that a function makes of the items of a stream, one after the other.
+/// A stream that yields the items of the streams that a function returns for the items of another stream.
 ///
-/// Pendings go out as they come, and ends of the stream too; the end of an inner stream is left out, and the stream is asked
-/// for the next one in the same poll. While an inner stream is held the stream is not polled.
-///
-/// Made by [`flat_map`](crate::make::flat_map). It gives what [`Flatten`](crate::Flatten) gives of a
-/// [`Map`](lite_stream::Map). Ported from `src/stream.rs`, `FlatMap`.
+/// Returned by [`flat_map`](crate::make::flat_map). `Pending` passes through, and so does the end of the
+/// outer stream. The end of an inner stream does not: the outer stream is polled for the next one in the same
+/// call. While there is an inner stream, the outer one is not polled. It yields what
+/// [`Flatten`](crate::Flatten) yields over a [`Map`](lite_stream::Map).
 #[derive(Debug, Drop)]
 pub struct FlatMap<S, U, F> {
     pub(crate) stream: Map<S, F>,

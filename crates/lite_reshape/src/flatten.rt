@@ -8,11 +8,11 @@ ghost use Rattle.lite_reshape.specs.Laws.Flatten.{flat_ends, flattening, flatten
 use crate::inner::poll_part;
 use lite_base::{Context, Counted, Poll, PollSteps, Stream, drive};
 
-/// The items of the streams that a stream gives, one after the other.
+/// A stream that yields the items of the streams that another stream yields, one stream after the other.
 ///
-/// Made by [`flatten`](crate::make::flatten). An inner stream is polled until its first end, and then let go; the next
-/// one is asked for in the same poll. A poll goes on over inner streams that end, so the outer stream's rank has to
-/// count. An end of the outer stream goes out. Ported from `src/stream.rs`, `Flatten`.
+/// Returned by [`flatten`](crate::make::flatten). An inner stream is polled up to its first end, and then
+/// dropped. The outer stream is polled for the next one in the same call. One poll may go through many inner
+/// streams, so the outer stream must be `Counted`. The end of the outer stream passes through.
 #[derive(Clone, Debug, Drop)]
 pub struct Flatten<S: Stream> {
     pub(crate) stream: S,

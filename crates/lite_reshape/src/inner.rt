@@ -1,4 +1,4 @@
-//! What `flatten` and `flat_map` share: a step over an outer stream and the inner stream that is held.
+//! What `flatten` and `flat_map` share: a step over an outer stream and the current inner stream.
 ghost use Rattle.std.specs.Prelude.{◌≡◌, IfSome, None};
 ghost use Rattle.lite_reshape.specs.Uses.{Keeps, Registered};
 ghost use Rattle.lite_reshape.specs.Inner.{CanFlatten, FlatStep};
@@ -6,8 +6,8 @@ ghost use Rattle.lite_reshape.specs.HeldRegisters.{HeldRegisters};
 
 use lite_base::{Context, Counted, Poll, Stream};
 
-// Polls the inner stream that is held, and the outer one where none is held or it has ended. `None` says that the poll
-// goes on: an inner stream has come.
+// Polls the inner stream, and the outer one if there is no inner stream or it has ended. `None` means that
+// the poll continues, because the outer stream yielded an inner stream.
 #[inline]
 pub(crate) fn poll_part<B: Stream + Drop, S: Counted<Item = B>>(
     stream: &mut S,
@@ -34,7 +34,7 @@ pub(crate) fn poll_part<B: Stream + Drop, S: Counted<Item = B>>(
     }
 }
 
-// Polls the outer stream. `None` says that an inner stream has come.
+// Polls the outer stream. `None` means that it yielded an inner stream.
 #[inline]
 fn poll_outer<B: Stream + Drop, S: Counted<Item = B>>(
     stream: &mut S,

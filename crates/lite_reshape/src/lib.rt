@@ -1,5 +1,6 @@
-//! Adapters that answer more or less often than their source: those that leave items out, and those that hold something between
-//! polls, or have a second stream.
+//! Adapters that return more or fewer results than their source.
+//!
+//! Some leave items out; others keep something between polls, or have a second stream.
 #![tactic(auto)]
 
 mod calm;

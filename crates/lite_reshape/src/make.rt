@@ -1,4 +1,4 @@
-//! What makes the adapters.
+//! Functions that make the adapters.
 ghost use Rattle.std.specs.Prelude.{◌≡◌, ◌<◌, Some, None};
 ghost use Rattle.lite_reshape.specs.declared.chain.Part.TheVariants.{First};
 
@@ -15,32 +15,29 @@ use crate::then::Then;
 use lite_base::Stream;
 use lite_stream::make::map;
 
-/// The stream of the items of `stream` that `predicate` accepts.
-/// Ported from `src/stream.rs`, `StreamExt::filter`.
+/// Returns a stream that yields the items of `stream` for which `predicate` returns true.
 pub fn filter<S, P>(stream: S, predicate: P) -> Filter<S, P>
     ensures { result ≡ record { stream = stream; predicate = predicate } }
 {
     Filter { stream, predicate }
 }
 
-/// The stream of what `f` answers to each item of `stream`, without each `None`.
-/// Ported from `src/stream.rs`, `StreamExt::filter_map`.
+/// Returns a stream that calls `f` with each item of `stream`, and yields the values for which `f` returns
+/// `Some`.
 pub fn filter_map<S, F>(stream: S, f: F) -> FilterMap<S, F>
     ensures { result ≡ record { stream = stream; f = f } }
 {
     FilterMap { stream, f }
 }
 
-/// The stream of the items of `stream` without the first `n`.
-/// Ported from `src/stream.rs`, `StreamExt::skip`.
+/// Returns a stream that skips the first `n` items of `stream`, and yields the others.
 pub fn skip<S>(stream: S, n: usize) -> Skip<S>
     ensures { result ≡ record { stream = stream; n = n } }
 {
     Skip { stream, n }
 }
 
-/// The stream of the items of `stream` from the first one that `predicate` rejects.
-/// Ported from `src/stream.rs`, `StreamExt::skip_while`.
+/// Returns a stream that skips items of `stream` while `predicate` returns true, and yields the others.
 pub fn skip_while<S, P>(stream: S, predicate: P) -> SkipWhile<S, P>
     ensures { result ≡ record { stream = stream; predicate = Some predicate } }
 {
@@ -50,8 +47,8 @@ pub fn skip_while<S, P>(stream: S, predicate: P) -> SkipWhile<S, P>
     }
 }
 
-/// The stream of the items of `stream` whose numbers, counted from 0, are multiples of `step`, which is above 0.
-/// Ported from `src/stream.rs`, `StreamExt::step_by`.
+/// Returns a stream that yields the first item of `stream` and each `step`-th after it; `step` must be
+/// greater than 0.
 pub fn step_by<S>(stream: S, step: usize) -> StepBy<S>
     requires { 0 < step }
     ensures { result ≡ record { stream = stream; step = step; i = 0 } }
@@ -59,8 +56,7 @@ pub fn step_by<S>(stream: S, step: usize) -> StepBy<S>
     StepBy { stream, step, i: 0 }
 }
 
-/// The stream of the items of `first`, and after its end those of `second`.
-/// Ported from `src/stream.rs`, `StreamExt::chain`.
+/// Returns a stream that yields the items of `first`, and after its end those of `second`.
 pub fn chain<S, U>(first: S, second: U) -> Chain<S, U>
     ensures { result ≡ record { first = first; second = second; part = First } }
 {
@@ -71,8 +67,8 @@ pub fn chain<S, U>(first: S, second: U) -> Chain<S, U>
     }
 }
 
-/// The stream of the values of the futures that `f` makes of the items of `stream`.
-/// Ported from `src/stream.rs`, `StreamExt::then`.
+/// Returns a stream that calls `f` with each item of `stream`, and yields the values of the futures that `f`
+/// returns.
 pub fn then<S, F, Fut>(stream: S, f: F) -> Then<S, F, Fut>
     ensures { result ≡ record { stream = stream; future = None; f = f } }
 {
@@ -83,8 +79,7 @@ pub fn then<S, F, Fut>(stream: S, f: F) -> Then<S, F, Fut>
     }
 }
 
-/// The stream of the items of the streams that `stream` gives, one after the other.
-/// Ported from `src/stream.rs`, `StreamExt::flatten`.
+/// Returns a stream that yields the items of the streams that `stream` yields, one stream after the other.
 pub fn flatten<S: Stream>(stream: S) -> Flatten<S>
     ensures { result ≡ record { stream = stream; inner_stream = None } }
 {
@@ -94,8 +89,8 @@ pub fn flatten<S: Stream>(stream: S) -> Flatten<S>
     }
 }
 
-/// The stream of the items of the streams that `f` makes of the items of `stream`, one after the other.
-/// Ported from `src/stream.rs`, `StreamExt::flat_map`.
+/// Returns a stream that calls `f` with each item of `stream`, and yields the items of the streams that `f`
+/// returns.
 pub fn flat_map<S, U, F>(stream: S, f: F) -> FlatMap<S, U, F>
     ensures { result ≡ record { stream = record { stream = stream; f = f }; inner_stream = None } }
 {
@@ -105,8 +100,7 @@ pub fn flat_map<S, U, F>(stream: S, f: F) -> FlatMap<S, U, F>
     }
 }
 
-/// The stream of clones of what the items of `stream` refer to.
-/// Ported from `src/stream.rs`, `StreamExt::cloned`.
+/// Returns a stream that yields clones of the items of `stream`, which are references.
 pub fn cloned<S: Stream>(stream: S) -> Cloned<S>
     ensures { result ≡ record { stream = stream; held = None } }
 {

@@ -1,4 +1,4 @@
-//! Ranks over `Ok` items, of the adapters whose rank falls with each item.
+//! Which adapters are `OkCounted`, because each item lowers their rank.
 ghost use Rattle.lite_reshape.specs.Uses.{CalledAt, ok_counting, ranks_of, Accepts, Calls, through_counting};
 ghost use Rattle.lite_reshape.specs.Filter.{filter_parts};
 ghost use Rattle.lite_reshape.specs.FilterMap.{filter_map_parts};

@@ -7,11 +7,10 @@ ghost use Rattle.lite_reshape.specs.Laws.Leaving.{leaves_relating};
 
 use lite_base::{Context, Counted, Poll, PollSteps, Stream, drive};
 
-/// The items of a stream without the first ones.
+/// A stream that skips the first items of another stream, and yields the others.
 ///
-/// Made by [`skip`](crate::make::skip). A poll goes on over items that are left out until there is another item, a
-/// pending or an end; how many are still to be left out is counted across pendings and ends. Ported from
-/// `src/stream.rs`, `Skip`.
+/// Returned by [`skip`](crate::make::skip). One poll may skip many items, up to another item, `Pending` or an
+/// end. The number of items that are still to be skipped is kept across `Pending` and ends.
 #[derive(Clone, Debug, Drop)]
 pub struct Skip<S> {
     pub(crate) stream: S,

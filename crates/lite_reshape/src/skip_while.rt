@@ -6,11 +6,12 @@ ghost use Rattle.lite_reshape.specs.Laws.Leaving.{leaves_relating};
 
 use lite_base::{Context, Counted, Poll, PollSteps, Stream, drive};
 
-/// The items of a stream from the first one that a predicate rejects.
+/// A stream that skips the first items of another stream while a predicate returns true, and yields the
+/// others.
 ///
-/// Made by [`skip_while`](crate::make::skip_while). At the first item that goes out the predicate is dropped, and is
-/// not asked again. A poll goes on over items that are left out until there is another one, a pending or an end, so
-/// the stream's rank has to count. Ported from `src/stream.rs`, `SkipWhile`.
+/// Returned by [`skip_while`](crate::make::skip_while). At the first item that is yielded the predicate is
+/// dropped, and no longer called. One poll may skip many items, up to another item, `Pending` or an end. So
+/// the other stream must be `Counted`.
 #[derive(Debug, Drop)]
 pub struct SkipWhile<S, P> {
     pub(crate) stream: S,

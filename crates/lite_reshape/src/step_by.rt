@@ -7,10 +7,11 @@ ghost use Rattle.lite_reshape.specs.Laws.StepBy.{Countdown, steps_relating};
 
 use lite_base::{Context, Counted, Poll, PollSteps, Stream, drive};
 
-/// The items of a stream whose numbers, counted from 0, are multiples of a step.
+/// A stream that yields the first item of another stream, and each item after it whose number is a multiple
+/// of a step.
 ///
-/// Made by [`step_by`](crate::make::step_by). A poll goes on over items that are left out until there is a kept one, a
-/// pending or an end; the numbers run on across pendings and ends. Ported from `src/stream.rs`, `StepBy`.
+/// Returned by [`step_by`](crate::make::step_by). One poll may skip many items, up to a kept one, `Pending`
+/// or an end. The numbers continue across `Pending` and ends.
 #[derive(Clone, Debug, Drop)]
 pub struct StepBy<S> {
     pub(crate) stream: S,

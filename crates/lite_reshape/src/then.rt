@@ -7,10 +7,10 @@ ghost use Rattle.lite_reshape.specs.Then.{CanThen, HandsOut, MakesEach, Thens, t
 
 use lite_base::{Context, Counted, Future, Poll, Stream, ready};
 
-/// The values of the futures that a function makes of the items of a stream.
+/// A stream that yields the values of the futures that a function returns for the items of another stream.
 ///
-/// Made by [`then`](crate::make::then). A future is polled in the poll that made it; while it is pending it is held, and
-/// the stream is not polled. Ported from `src/stream.rs`, `Then`.
+/// Returned by [`then`](crate::make::then). A future is polled in the call that made it. While it is pending
+/// it is kept, and the other stream is not polled.
 #[derive(Debug, Drop)]
 pub struct Then<S, F, Fut> {
     pub(crate) stream: S,
@@ -19,7 +19,7 @@ pub struct Then<S, F, Fut> {
 }
 
 impl<S: Stream, F, Fut: Future + Drop> Then<S, F, Fut> {
-    // Polls a future that was just made, and holds it where it is pending.
+    // Polls a future that was just made, and keeps it if it is pending.
     #[inline(always)]
     #[tactic(auto, using(crate::specs::Laws::Then::hands_rules))]
     fn poll_made(&mut self, mut future: Fut, cx: &mut Context<'_>) -> Poll<Option<Fut::Output>>

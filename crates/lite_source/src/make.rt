@@ -17,7 +17,7 @@ use crate::unfolding::Unfolding;
 use lite_base::{Context, Future, Poll};
 use std::marker::PhantomData;
 
-/// A stream that ends at each poll. Ported from `src/stream.rs`, `empty`.
+/// Returns an empty stream.
 pub fn empty<T>() -> Empty<T>
     ensures { result ≡ record { item = record {} } }
 {
@@ -35,7 +35,7 @@ pub fn iter<I: IntoIterator>(iter: I) -> Iter<I::IntoIter>
     }
 }
 
-/// A stream that gives `t`, and then ends for ever. Ported from `src/stream.rs`, `once`.
+/// Returns a stream that yields `t`, and then ends for ever.
 pub fn once<T>(t: T) -> Once<T>
     ensures { result ≡ record { value = Some t } }
 {
@@ -70,8 +70,8 @@ where
     PollFn { f }
 }
 
-/// A stream that gives clones of `item`, one a poll, for ever. A clone that is refused for want of memory is the item
-/// `Err(AllocError)`. Ported from `src/stream.rs`, `repeat`.
+/// Returns a stream that yields clones of `item` for ever, each one `Ok`, or `Err(AllocError)` if it is
+/// refused.
 pub fn repeat<T: Clone>(item: T) -> Repeat<T>
     ensures { result ≡ record { item = item } }
 {
@@ -88,9 +88,7 @@ where
     RepeatWith { f: repeater }
 }
 
-/// A stream that gives these answers, one a poll and in order, and then ends for ever. A poll takes no memory.
-///
-/// The original has no such call.
+/// Returns a stream that returns these poll results in order, and then ends for ever.
 pub fn script<T>(answers: Vec<Poll<Option<T>>>) -> Script<T>
     ensures { result ≡ answers.items }
 {

@@ -1,4 +1,4 @@
-//! The adapters that are never pending over a stream that never is.
+//! Which adapters never return `Pending` if their stream never does.
 ghost use Rattle.lite_stream.specs.Uses.{Accepts, Calls, CallsWith, CalledAt};
 ghost use Rattle.lite_stream.specs.Copied.{CopiesItem, copied_parts};
 ghost use Rattle.lite_stream.specs.Enumerate.{Numbers, enumerate_parts};

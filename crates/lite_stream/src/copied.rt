@@ -6,9 +6,9 @@ ghost use Rattle.lite_stream.specs.Laws.Through.{laws_unhinted, through_counting
 
 use lite_base::{Context, Counted, Poll, Stream, ready};
 
-/// What the references of a stream refer to, copied.
+/// A stream that yields copies of the references that another stream yields.
 ///
-/// Made by [`copied`](crate::make::copied). Ported from `src/stream.rs`, `Copied`.
+/// Returned by [`copied`](crate::make::copied).
 #[derive(Clone, Debug, Drop)]
 pub struct Copied<S> {
     pub(crate) stream: S,

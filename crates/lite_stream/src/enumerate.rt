@@ -6,11 +6,10 @@ ghost use Rattle.lite_stream.specs.Laws.Through.{laws_unhinted, through_counting
 
 use lite_base::{Context, Counted, Poll, Stream, ready};
 
-/// The items of a stream, each paired with its number.
+/// A stream that yields the items of another stream, each paired with its number.
 ///
-/// Made by [`enumerate`](crate::make::enumerate). The numbers are 0, 1, 2 and so on; they run on across pendings and
-/// ends, and after `usize::MAX` comes 0. Ported from `src/stream.rs`, `Enumerate`, which panics there in a build that
-/// checks for overflow.
+/// Returned by [`enumerate`](crate::make::enumerate). The numbers are 0, 1, 2 and so on; they continue across
+/// `Pending` and ends. After `usize::MAX` comes 0. Unlike futures-lite, it never panics at an overflow.
 #[derive(Clone, Debug, Drop)]
 pub struct Enumerate<S> {
     pub(crate) stream: S,

@@ -6,10 +6,9 @@ ghost use Rattle.lite_stream.specs.Laws.Through.{laws_unhinted, through_counting
 
 use lite_base::{Context, Counted, Poll, Stream, ready};
 
-/// A stream that ends for ever once it has ended.
+/// A stream that ends for ever once another stream has ended.
 ///
-/// Made by [`fuse`](crate::make::fuse). After its first end the stream is not polled any more. Ported from
-/// `src/stream.rs`, `Fuse`.
+/// Returned by [`fuse`](crate::make::fuse). After its first end the other stream is not polled.
 #[derive(Clone, Debug, Drop)]
 pub struct Fuse<S> {
     pub(crate) stream: S,

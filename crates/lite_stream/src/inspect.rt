@@ -7,9 +7,9 @@ ghost use Rattle.lite_stream.specs.Laws.Through.{laws_unhinted, through_counting
 
 use lite_base::{Context, Counted, Poll, Stream, ready};
 
-/// The items of a stream, each of which is shown to a function before it goes out.
+/// A stream that calls a function with a reference to each item of another stream, and then yields the item.
 ///
-/// Made by [`inspect`](crate::make::inspect). Ported from `src/stream.rs`, `Inspect`.
+/// Returned by [`inspect`](crate::make::inspect).
 #[derive(Debug, Drop)]
 pub struct Inspect<S, F> {
     pub(crate) stream: S,

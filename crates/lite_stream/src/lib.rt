@@ -1,4 +1,4 @@
-//! Adapters of one stream that answer once for each answer of it, or cut it off.
+//! Adapters of one stream that return one result for each result of it, or cut it off.
 #![tactic(auto)]
 
 mod calm;

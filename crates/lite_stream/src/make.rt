@@ -1,4 +1,4 @@
-//! What makes the adapters.
+//! Functions that make the adapters.
 ghost use Rattle.std.specs.Prelude.{◌≡◌, false};
 
 use crate::copied::Copied;
@@ -11,48 +11,42 @@ use crate::scan::Scan;
 use crate::take::Take;
 use crate::take_while::TakeWhile;
 
-/// The stream of what `f` answers to each item of `stream`.
-/// Ported from `src/stream.rs`, `StreamExt::map`.
+/// Returns a stream that yields `f(item)` for each item of `stream`.
 pub fn map<S, F>(stream: S, f: F) -> Map<S, F>
     ensures { result ≡ record { stream = stream; f = f } }
 {
     Map { stream, f }
 }
 
-/// The stream of the items of `stream`, each paired with its number, from 0 on.
-/// Ported from `src/stream.rs`, `StreamExt::enumerate`.
+/// Returns a stream that yields pairs of a number, counted from 0, and an item of `stream`.
 pub fn enumerate<S>(stream: S) -> Enumerate<S>
     ensures { result ≡ record { stream = stream; i = 0 } }
 {
     Enumerate { stream, i: 0 }
 }
 
-/// The stream of the items of `stream`, each of which is shown to `f`.
-/// Ported from `src/stream.rs`, `StreamExt::inspect`.
+/// Returns a stream that calls `f` with a reference to each item of `stream`, and then yields the item.
 pub fn inspect<S, F>(stream: S, f: F) -> Inspect<S, F>
     ensures { result ≡ record { stream = stream; f = f } }
 {
     Inspect { stream, f }
 }
 
-/// The stream of copies of what the items of `stream` refer to.
-/// Ported from `src/stream.rs`, `StreamExt::copied`.
+/// Returns a stream that yields copies of the items of `stream`, which are references.
 pub fn copied<S>(stream: S) -> Copied<S>
     ensures { result ≡ record { stream = stream } }
 {
     Copied { stream }
 }
 
-/// The stream of the first `n` items of `stream`.
-/// Ported from `src/stream.rs`, `StreamExt::take`.
+/// Returns a stream that yields the first `n` items of `stream`.
 pub fn take<S>(stream: S, n: usize) -> Take<S>
     ensures { result ≡ record { stream = stream; n = n } }
 {
     Take { stream, n }
 }
 
-/// The stream of the items of `stream` until its first end.
-/// Ported from `src/stream.rs`, `StreamExt::fuse`.
+/// Returns a stream that yields the items of `stream` up to its first end, and then ends for ever.
 pub fn fuse<S>(stream: S) -> Fuse<S>
     ensures { result ≡ record { stream = stream; done = false } }
 {
@@ -62,25 +56,23 @@ pub fn fuse<S>(stream: S) -> Fuse<S>
     }
 }
 
-/// The stream of the items of `stream`, with an end in the place of each one that `predicate` rejects.
-/// Ported from `src/stream.rs`, `StreamExt::take_while`.
+/// Returns a stream that yields the items of `stream`, and ends at each item for which `predicate` returns
+/// false.
 pub fn take_while<S, P>(stream: S, predicate: P) -> TakeWhile<S, P>
     ensures { result ≡ record { stream = stream; predicate = predicate } }
 {
     TakeWhile { stream, predicate }
 }
 
-/// The stream of what `f` answers to each item of `stream`, with an end in the place of each `None`.
-/// Ported from `src/stream.rs`, `StreamExt::map_while`.
+/// Returns a stream that calls `f` with each item of `stream` and yields the values, and ends at each `None`.
 pub fn map_while<S, F>(stream: S, f: F) -> MapWhile<S, F>
     ensures { result ≡ record { stream = stream; f = f } }
 {
     MapWhile { stream, f }
 }
 
-/// The stream of what `f` answers to a state, which is `initial_state` at first, and each item of `stream`, with an
-/// end in the place of each `None`.
-/// Ported from `src/stream.rs`, `StreamExt::scan`.
+/// Returns a stream that calls `f` with a state and each item of `stream` and yields the values, and ends at
+/// each `None`.
 pub fn scan<S, St, F>(stream: S, initial_state: St, f: F) -> Scan<S, St, F>
     ensures { result ≡ record { stream = stream; state = initial_state; f = f } }
 {

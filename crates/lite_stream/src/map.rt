@@ -6,10 +6,9 @@ ghost use Rattle.lite_stream.specs.Laws.Through.{laws_hinted, through_counting};
 
 use lite_base::{Context, Counted, Poll, Stream, ready};
 
-/// What a function answers to each item of a stream.
+/// A stream that yields what a function returns for each item of another stream.
 ///
-/// Made by [`map`](crate::make::map). A pending and an end of the stream go out as they are. Ported from
-/// `src/stream.rs`, `Map`.
+/// Returned by [`map`](crate::make::map). `Pending` and the end of the other stream pass through.
 #[derive(Debug, Drop)]
 pub struct Map<S, F> {
     pub(crate) stream: S,

@@ -7,10 +7,11 @@ ghost use Rattle.lite_stream.specs.Laws.Through.{laws_unhinted, through_counting
 
 use lite_base::{Context, Counted, Poll, Stream, ready};
 
-/// What a function answers to each item of a stream, and an end in the place of each `None`.
+/// A stream that yields the values that a function returns for the items of another stream, and ends at each
+/// `None`.
 ///
-/// Made by [`map_while`](crate::make::map_while). That end is not for ever: polled again it goes on with the stream's
-/// next answer. Ported from `src/stream.rs`, `MapWhile`.
+/// Returned by [`map_while`](crate::make::map_while). That end is not for ever: the next poll polls the other
+/// stream again.
 #[derive(Debug, Drop)]
 pub struct MapWhile<S, F> {
     pub(crate) stream: S,

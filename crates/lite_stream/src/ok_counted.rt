@@ -1,4 +1,4 @@
-//! Ranks over `Ok` items, of the adapters whose rank falls with each item.
+//! Which adapters are `OkCounted`, because each item lowers their rank.
 ghost use Rattle.lite_stream.specs.Uses.{CalledAt, ok_counting, number_ranks, ranks_of, number_counting, Accepts, Calls, CallsWith};
 ghost use Rattle.lite_stream.specs.Copied.{CopiesItem, copied_parts};
 ghost use Rattle.lite_stream.specs.Fuse.{fuse_parts};

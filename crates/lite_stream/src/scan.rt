@@ -7,10 +7,10 @@ ghost use Rattle.lite_stream.specs.Laws.Through.{laws_unhinted, through_counting
 
 use lite_base::{Context, Counted, Poll, Stream, ready};
 
-/// What a function answers to a state and each item of a stream, and an end in the place of each `None`.
+/// A stream that calls a function with a state and each item of another stream, and ends at each `None`.
 ///
-/// Made by [`scan`](crate::make::scan). The state goes from call to call. An end in the place of an item is not for
-/// ever: polled again it goes on with the stream's next answer. Ported from `src/stream.rs`, `Scan`.
+/// Returned by [`scan`](crate::make::scan). The state is kept from call to call. That end is not for ever:
+/// the next poll polls the other stream again.
 #[derive(Debug, Drop)]
 pub struct Scan<S, St, F> {
     pub(crate) stream: S,

@@ -1,4 +1,4 @@
-//! The adapters whose answers do not depend on when their stream was pending.
+//! Which adapters yield the same whenever their stream was pending.
 ghost use Rattle.std.specs.Prelude.{⊤, ◌≡◌};
 ghost use Rattle.lite_stream.specs.Uses.{Pairwise, SameItem, Sameness, Accepts, AgreeFrom, AgreeKeeping, AgreeOver, Answering, Calls, CallsWith, Keeping};
 ghost use Rattle.lite_stream.specs.Uses.{CalledAt};

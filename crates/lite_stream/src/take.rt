@@ -7,10 +7,11 @@ ghost use Rattle.lite_stream.specs.Laws.Through.{laws_unhinted};
 
 use lite_base::{Context, Counted, Poll, Stream, ready};
 
-/// The first items of a stream, and then an end for ever.
+/// A stream that yields the first items of another stream, and then ends for ever.
 ///
-/// Made by [`take`](crate::make::take). With no item left to take the stream is not polled, and an end of the stream
-/// leaves none. Its rank, over any stream, is the number of items left to take. Ported from `src/stream.rs`, `Take`.
+/// Returned by [`take`](crate::make::take). Once all these items are yielded, or the other stream has ended,
+/// that is not polled. It is `Counted` over any stream, because it yields a limited number of items: `ranks`
+/// counts those that are left.
 #[derive(Clone, Debug, Drop)]
 pub struct Take<S> {
     pub(crate) stream: S,

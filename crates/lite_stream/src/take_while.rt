@@ -7,10 +7,11 @@ ghost use Rattle.lite_stream.specs.Laws.Through.{laws_unhinted, through_counting
 
 use lite_base::{Context, Counted, Poll, Stream, ready};
 
-/// The items of a stream while a predicate accepts them, and an end in the place of each one that it rejects.
+/// A stream that yields the items of another stream, and ends at each item for which a predicate returns
+/// false.
 ///
-/// Made by [`take_while`](crate::make::take_while). A rejected item is lost. That end is not for ever: polled again it
-/// goes on with the stream's next answer. Ported from `src/stream.rs`, `TakeWhile`.
+/// Returned by [`take_while`](crate::make::take_while). That item is dropped. That end is not for ever: the
+/// next poll polls the other stream again.
 #[derive(Debug, Drop)]
 pub struct TakeWhile<S, P> {
     pub(crate) stream: S,

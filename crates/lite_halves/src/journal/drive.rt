@@ -12,11 +12,37 @@ use lite_io_base::{AsyncRead, AsyncWrite};
 use std::alloc::{AllocError, Global};
 
 impl<T: AsyncRead + AsyncWrite + Clone> Journal<T> {
-    /// Makes the calls one after the other, each with its entry, and appends what each was told to `out`.
+    /// Makes the calls one after the other, each with its entry, and appends their answers to `out`.
     ///
-    /// `Err`: there was no memory for the next call's entry or answer. The calls before it stand in the journal and
-    /// their answers in `out`; the refused one reached neither the stream nor the journal. An error of the stream
-    /// itself, `OutOfMemory` too, is an answer, after which the calls go on.
+    /// An error of the stream itself, `OutOfMemory` too, is an answer; the calls continue after it.
+    ///
+    /// # Errors
+    ///
+    /// `Err(AllocError)` means that the memory for the next call's entry or answer was refused. The calls
+    /// before it are in the journal, and their answers in `out`. The refused call reached neither the stream
+    /// nor the journal.
+    ///
+    /// # Examples
+    ///
+    /// ```
+    /// use futures_lite::io::{Answer, Call, Cursor, Journal};
+    /// use futures_lite::{Context, Poll, future};
+    /// use std::alloc::AllocError;
+    ///
+    /// let cursor = Cursor::new(Vec::from_slice(rt.alloc(), b"ab")?);
+    /// let Ok(mut journal) = Journal::new(rt.alloc(), cursor) else {
+    ///     return Err(AllocError.into());
+    /// };
+    /// let calls = [Call::Read { room: 1 }, Call::Write(vec![in rt.alloc(); b'x']?), Call::Close];
+    /// let mut answers = Vec::new(rt.alloc());
+    /// let driven = future::poll_fn(|cx: &mut Context<'_>| {
+    ///     Poll::Ready(journal.drive(cx, &calls, &mut answers))
+    /// });
+    /// future::block_on(&rt, driven)??;
+    /// let expected = [Answer::Read(vec![in rt.alloc(); b'a']?), Answer::Wrote(1), Answer::Done];
+    /// assert_eq!(rt; answers.as_slice(), expected.as_slice());
+    /// assert_eq!(rt; journal.entries().len(), 3);
+    /// ```
     pub fn drive(
         &mut self,
         cx: &mut Context<'_>,
@@ -37,7 +63,7 @@ impl<T: AsyncRead + AsyncWrite + Clone> Journal<T> {
         Ok(())
     }
 
-    /// Makes one call, with its entry. `None`: there was no memory, and nothing was called.
+    /// Makes one call, with its entry. `None` means that the memory was refused, and nothing was called.
     fn make(&mut self, cx: &mut Context<'_>, call: &Call) -> Option<Answer>
         ensures made { AddsOrNone T.reads T.writes self.old (asked_of call.now) result self.new }
         ensures kept { Keeps cx.old cx.new }
@@ -60,7 +86,7 @@ impl<T: AsyncRead + AsyncWrite + Clone> Journal<T> {
     }
 }
 
-// So many zeros. `None`: there was no memory for them.
+// Returns `amount` zeros, or `None` if the memory for them was refused.
 fn zeros(alloc: Global, amount: usize) -> Option<Vec<u8>>
     ensures some { IfSome result (λ v. length v.items ≡ amount) }
     ensures none { IfNone result (0 < amount) }

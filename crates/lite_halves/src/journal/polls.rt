@@ -28,7 +28,7 @@ impl<T: Tale + Takings + Clone> Takings for Journal<T> {
 }
 
 impl<T: Tale + Takings + Clone> Journal<T> {
-    // Makes room for an entry, and for so many bytes of it.
+    // Makes room for an entry, and for `bytes` bytes of it.
     #[inline(always)]
     fn make_room(&mut self, bytes: usize) -> Option<Vec<u8>>
         ensures made { EntryRoom self.old bytes result self.new }
@@ -41,9 +41,32 @@ impl<T: Tale + Takings + Clone> Journal<T> {
 }
 
 impl<T: AsyncRead + Takings + Clone> Journal<T> {
-    /// One read with its entry. `None`: there was no memory for the entry, and nothing was called.
+    /// Reads once, and records the call with its answer.
     ///
-    /// So a refusal is told from an `OutOfMemory` of the stream itself, which `poll_read` answers alike.
+    /// Returns `None` if the memory for the entry was refused. The stream is not called then, and nothing
+    /// changes. So this case differs from an `OutOfMemory` of the stream itself; `poll_read` returns the same
+    /// error for both.
+    ///
+    /// # Examples
+    ///
+    /// ```
+    /// use futures_lite::io::{Cursor, Journal};
+    /// use futures_lite::{Context, Poll, future};
+    /// use std::alloc::AllocError;
+    ///
+    /// let cursor = Cursor::new(Vec::from_slice(rt.alloc(), b"ab")?);
+    /// let Ok(mut journal) = Journal::new(rt.alloc(), cursor) else {
+    ///     return Err(AllocError.into());
+    /// };
+    /// let mut buf = [0u8; 4];
+    /// let step = future::poll_fn(|cx: &mut Context<'_>| Poll::Ready(journal.step_read(cx, &mut buf)));
+    /// let Some(polled) = future::block_on(&rt, step)? else {
+    ///     return Err(AllocError.into());
+    /// };
+    /// assert!(rt; matches!(polled, Poll::Ready(Ok(2))));
+    /// assert!(rt; buf.starts_with(b"ab"));
+    /// assert_eq!(rt; journal.entries().len(), 1);
+    /// ```
     #[tactic(auto, using(crate::proofs::Noted::adds_after))]
     pub fn step_read(
         &mut self,
@@ -62,7 +85,7 @@ impl<T: AsyncRead + Takings + Clone> Journal<T> {
         Some(self.read_noted(cx, buf, bytes))
     }
 
-    // One read with its entry, whose bytes go into `bytes`.
+    // Reads once and adds the entry, whose bytes go into `bytes`.
     #[inline(always)]
     fn read_noted(
         &mut self,
@@ -88,9 +111,29 @@ impl<T: AsyncRead + Takings + Clone> Journal<T> {
 }
 
 impl<T: Tale + AsyncWrite + Clone> Journal<T> {
-    /// One write with its entry. `None`: there was no memory for the entry, and nothing was called.
+    /// Writes once, and records the call with its answer.
     ///
-    /// So a refusal is told from an `OutOfMemory` of the stream itself, as in a flush and a close.
+    /// Returns `None` if the memory for the entry was refused. The stream is not called then, and nothing
+    /// changes. So this case differs from an `OutOfMemory` of the stream itself; `poll_write` returns the
+    /// same error for both.
+    ///
+    /// # Examples
+    ///
+    /// ```
+    /// use futures_lite::io::{Call, Cursor, Journal};
+    /// use futures_lite::{Context, Poll, future};
+    /// use std::alloc::AllocError;
+    ///
+    /// let Ok(mut journal) = Journal::new(rt.alloc(), Cursor::new(Vec::new(rt.alloc()))) else {
+    ///     return Err(AllocError.into());
+    /// };
+    /// let step = future::poll_fn(|cx: &mut Context<'_>| Poll::Ready(journal.step_write(cx, b"ab")));
+    /// let Some(polled) = future::block_on(&rt, step)? else {
+    ///     return Err(AllocError.into());
+    /// };
+    /// assert!(rt; matches!(polled, Poll::Ready(Ok(2))));
+    /// assert_eq!(rt; journal.entries()[0].call, Call::Write(Vec::from_slice(rt.alloc(), b"ab")?));
+    /// ```
     #[tactic(auto, using(crate::proofs::Noted::adds_after))]
     pub fn step_write(
         &mut self,
@@ -112,7 +155,7 @@ impl<T: Tale + AsyncWrite + Clone> Journal<T> {
         Some(self.write_noted(cx, buf, offered))
     }
 
-    // One write with its entry, which holds what is offered.
+    // Writes once and adds the entry, which has the offered bytes.
     #[inline(always)]
     fn write_noted(
         &mut self,
@@ -135,7 +178,28 @@ impl<T: Tale + AsyncWrite + Clone> Journal<T> {
         polled
     }
 
-    /// One flush with its entry. `None`: there was no memory for the entry, and nothing was called.
+    /// Flushes once, and records the call with its answer.
+    ///
+    /// Returns `None` if the memory for the entry was refused. The stream is not called then, and nothing
+    /// changes.
+    ///
+    /// # Examples
+    ///
+    /// ```
+    /// use futures_lite::io::{Call, Cursor, Journal};
+    /// use futures_lite::{Context, Poll, future};
+    /// use std::alloc::AllocError;
+    ///
+    /// let Ok(mut journal) = Journal::new(rt.alloc(), Cursor::new(Vec::new(rt.alloc()))) else {
+    ///     return Err(AllocError.into());
+    /// };
+    /// let step = future::poll_fn(|cx: &mut Context<'_>| Poll::Ready(journal.step_flush(cx)));
+    /// let Some(polled) = future::block_on(&rt, step)? else {
+    ///     return Err(AllocError.into());
+    /// };
+    /// assert!(rt; matches!(polled, Poll::Ready(Ok(()))));
+    /// assert_eq!(rt; journal.entries()[0].call, Call::Flush);
+    /// ```
     pub fn step_flush(&mut self, cx: &mut Context<'_>) -> Option<Poll<io::Result<()>>>
         ensures added { IfSome result (λ r. Adds T.reads T.writes self.old (flush_note r) self.new) }
         ensures left { IfSome result (λ r. Registered r (T.write_registers self.new.stream) cx.new) }
@@ -152,7 +216,28 @@ impl<T: Tale + AsyncWrite + Clone> Journal<T> {
         Some(polled)
     }
 
-    /// One close with its entry. `None`: there was no memory for the entry, and nothing was called.
+    /// Closes once, and records the call with its answer.
+    ///
+    /// Returns `None` if the memory for the entry was refused. The stream is not called then, and nothing
+    /// changes.
+    ///
+    /// # Examples
+    ///
+    /// ```
+    /// use futures_lite::io::{Call, Cursor, Journal};
+    /// use futures_lite::{Context, Poll, future};
+    /// use std::alloc::AllocError;
+    ///
+    /// let Ok(mut journal) = Journal::new(rt.alloc(), Cursor::new(Vec::new(rt.alloc()))) else {
+    ///     return Err(AllocError.into());
+    /// };
+    /// let step = future::poll_fn(|cx: &mut Context<'_>| Poll::Ready(journal.step_close(cx)));
+    /// let Some(polled) = future::block_on(&rt, step)? else {
+    ///     return Err(AllocError.into());
+    /// };
+    /// assert!(rt; matches!(polled, Poll::Ready(Ok(()))));
+    /// assert_eq!(rt; journal.entries()[0].call, Call::Close);
+    /// ```
     pub fn step_close(&mut self, cx: &mut Context<'_>) -> Option<Poll<io::Result<()>>>
         ensures added { IfSome result (λ r. Adds T.reads T.writes self.old (close_note r) self.new) }
         ensures left { IfSome result (λ r. Registered r (T.write_registers self.new.stream) cx.new) }
@@ -174,10 +259,10 @@ impl<T: Tale + AsyncWrite + Clone> Journal<T> {
 impl<T: AsyncRead + Takings + Clone> AsyncRead for Journal<T> {
     ghost registers = { λ j. T.registers j.stream };
 
-    /// Reads from the stream, and writes the call down with its answer.
+    /// Reads from the stream, and records the call with its answer.
     ///
-    /// Room for the entry and for as many bytes as `buf` has is made first. Where that is refused the answer is
-    /// `OutOfMemory`: the stream is not called, there is no entry, and nothing changes.
+    /// Room for the entry and for as many bytes as `buf` has is made first. If it is refused, this returns an
+    /// error of the kind `OutOfMemory`: the stream is not called, there is no entry, and nothing changes.
     fn poll_read(&mut self, cx: &mut Context<'_>, buf: &mut [u8]) -> Poll<io::Result<usize>>
         ensures bound { IfReady result (λ r. IfOk r (λ n. n ≤ length buf.new)) }
         ensures ran { JournalReads T.reads T.writes self.old (read_marks result buf.new) self.new }
@@ -188,8 +273,9 @@ impl<T: AsyncRead + Takings + Clone> AsyncRead for Journal<T> {
         or_refused(self.step_read(cx, buf))
     }
 
-    /// Reads as `poll_read` does into the first buffer that has room, or into an empty one if none has: one call with
-    /// one entry.
+    /// Reads as `poll_read` does into the first buffer that has room, or into an empty one if none has.
+    ///
+    /// This is one call with one entry.
     #[tactic(auto, using(crate::specs::Laws::Journal::reads_rules, lite_io_base::specs::Laws::Runs::within_more))]
     fn poll_read_vectored(
         &mut self,
@@ -210,10 +296,11 @@ impl<T: AsyncRead + Takings + Clone> AsyncRead for Journal<T> {
 impl<T: Tale + AsyncWrite + Clone> AsyncWrite for Journal<T> {
     ghost write_registers = { λ j. T.write_registers j.stream };
 
-    /// Writes to the stream, and writes the call down with its answer.
+    /// Writes to the stream, and records the call with its answer.
     ///
-    /// Room for the entry and a copy of `buf` is made first. Where that is refused the answer is `OutOfMemory`: the
-    /// stream is not called, there is no entry, and nothing changes. So it is with a flush and a close.
+    /// Room for the entry and a copy of `buf` is made first. If it is refused, this returns an error of the
+    /// kind `OutOfMemory`: the stream is not called, there is no entry, and nothing changes. The same is true
+    /// of a flush and of a close.
     fn poll_write(&mut self, cx: &mut Context<'_>, buf: &[u8]) -> Poll<io::Result<usize>>
         ensures bound { IfReady result (λ r. IfOk r (λ n. n ≤ length buf.now)) }
         ensures ran { JournalWrites T.reads T.writes self.old (write_marks result buf.now) self.new }
@@ -224,8 +311,9 @@ impl<T: Tale + AsyncWrite + Clone> AsyncWrite for Journal<T> {
         or_refused(self.step_write(cx, buf))
     }
 
-    /// Writes as `poll_write` does the first buffer that has a byte, or an empty one if none has: one call with one
-    /// entry.
+    /// Writes as `poll_write` does the first buffer that has a byte, or an empty one if none has.
+    ///
+    /// This is one call with one entry.
     fn poll_write_vectored(
         &mut self,
         cx: &mut Context<'_>,

@@ -1,14 +1,14 @@
-//! The four ledgers that count a split.
+//! The four counters of a split.
 ghost use Rattle.lite_halves.specs.Books.{Names};
 
 use std::marker::{Brand, Model, PhantomData};
 use std::sync::ledger::{Blank, Ledger};
 
-/// The books of a split: one type that names its four ledgers.
+/// Type-level names of the four counters of one split.
 ///
-/// A function that splits is generic in it, `B: Books`, or `B: Books + Send + Sync` where a half goes to another thread, and
-/// asks `blanks ≡ B.names`. It is called with `Brand` for it, and the proof of that call picks the names:
-/// `record { names = a.blanks }`. The original has no such trait.
+/// A function that splits is generic in it: `B: Books`, or `B: Books + Send + Sync` if a half goes to another
+/// thread. Its contract requires `blanks ≡ B.names`. Anyone who calls it passes `Brand` for `B`, and the
+/// proof of that call picks the names: `record { names = a.blanks }`.
 pub trait Books {
     ghost names: { Names };
 }
@@ -17,9 +17,28 @@ impl Books for Brand {
     ghost names = { record { reads = 0; got = 0; writes = 0; taken = 0 } };
 }
 
-/// Four new ledgers that no books name yet, of one part each: of the calls and the bytes of each half.
+/// Four new counters that no [`Books`] name yet: of the calls and of the bytes of each half.
 ///
-/// A ledger is a token of std's that takes no bytes. A contract sees the names of the four. The original has no such type.
+/// A counter is a ledger of std with one part, a token that takes no bytes. A contract sees the names of the
+/// four.
+///
+/// # Examples
+///
+/// ```
+/// use futures_lite::io::{Blanks, Cursor, Journal, split_journalled};
+/// use std::alloc::AllocError;
+/// use std::marker::Brand;
+///
+/// let Ok(journal) = Journal::new(rt.alloc(), Cursor::new(Vec::new(rt.alloc()))) else {
+///     return Err(AllocError.into());
+/// };
+/// let blanks = Blanks::new();
+/// let halves = split_journalled::<HostRuntime, Cursor<Vec<u8>>, Brand>(rt, journal, blanks);
+/// let Ok((reader, writer)) = halves else {
+///     return Err(AllocError.into());
+/// };
+/// assert_eq!(rt; (reader.calls(), writer.calls()), (0, 0));
+/// ```
 #[derive(Drop)]
 pub struct Blanks {
     pub(super) reads: Blank,
@@ -40,7 +59,27 @@ impl Model for Blanks {
 }
 
 impl Blanks {
-    /// Four new ledgers.
+    /// Returns four new counters.
+    ///
+    /// # Examples
+    ///
+    /// ```
+    /// use futures_lite::io::{Blanks, Cursor, Journal, split_journalled};
+    /// use std::alloc::AllocError;
+    /// use std::marker::Brand;
+    ///
+    /// type Bytes = Cursor<Vec<u8>>;
+    ///
+    /// // Each split needs new ones.
+    /// for text in [b"a", b"b"] {
+    ///     let cursor = Cursor::new(Vec::from_slice(rt.alloc(), text)?);
+    ///     let Ok(journal) = Journal::new(rt.alloc(), cursor) else {
+    ///         return Err(AllocError.into());
+    ///     };
+    ///     let halves = split_journalled::<HostRuntime, Bytes, Brand>(rt, journal, Blanks::new());
+    ///     assert!(rt; halves.is_ok());
+    /// }
+    /// ```
     pub fn new() -> Blanks {
         Blanks {
             reads: Blank::new(1),
@@ -62,7 +101,7 @@ impl<B: Books> Ledger for Reads<B> {
     ghost parts = { 1 };
 }
 
-/// The ledger of the bytes that it was told.
+/// The ledger of the bytes that it read.
 pub(super) struct Got<B: Books> {
     of: PhantomData<B>,
 }
@@ -84,7 +123,7 @@ impl<B: Books> Ledger for Writes<B> {
     ghost parts = { 1 };
 }
 
-/// The ledger of the bytes that were taken from it.
+/// The ledger of the bytes that it wrote.
 pub(super) struct Taken<B: Books> {
     of: PhantomData<B>,
 }

@@ -1,4 +1,4 @@
-//! What stands under the lock of two journalled halves.
+//! What the lock of two journalled halves protects.
 ghost use Rattle.std.specs.Prelude.{◌≡◌, ◌≤◌, [], length, IfOk, IfSome};
 ghost use Rattle.lite_halves.specs.Uses.{IfReady, Keeps, count_of};
 ghost use Rattle.lite_halves.specs.Counts.{AddsInside, CountsCall, CountsOrNone, IsWrite, booked_in, counted_in, nothing_counted};
@@ -14,9 +14,10 @@ use lite_io_base::{AsyncRead, AsyncWrite, Takings, Tale};
 use std::alloc::AllocError;
 use std::io;
 
-/// A journal beside the books of its two sides. Each step is one call of the stream together with its entry.
+/// A journal, and the books of its two sides. Each step is one call of the stream together with its entry.
 ///
-/// The journal is put in after the lock is made. Each book of calls has one for it, so who has a tally finds it there.
+/// The journal is put in after the lock is made. Each book of calls counts one for it, so anyone who has a
+/// tally finds it there.
 #[derive(Drop)]
 pub(super) struct Locked<T: Tale + Takings + Clone, B: Books> {
     journal: Option<Journal<T>>,
@@ -28,7 +29,7 @@ pub(super) struct Locked<T: Tale + Takings + Clone, B: Books> {
 
 #[tactic(auto, using(crate::proofs::Fits::call_fits))]
 impl<T: AsyncRead + Takings + Clone, B: Books> Locked<T, B> {
-    /// One read with its entry. `None`: there was no memory for the entry, and nothing was called.
+    /// Reads once, with an entry. `None` means that the memory for it was refused, and nothing was called.
     pub(super) fn read(
         &mut self,
         tally: &mut Tally<Reads<B>, Got<B>>,
@@ -47,7 +48,8 @@ impl<T: AsyncRead + Takings + Clone, B: Books> Locked<T, B> {
         Some(polled)
     }
 
-    /// One read into the whole of `buf`, with its entry. `None`: there was no memory for the entry, and nothing was called.
+    /// Reads once into the whole of `buf`, with an entry. `None` means that the memory for it was refused,
+    /// and nothing was called.
     pub(super) fn make_read(
         &mut self,
         tally: &mut Tally<Reads<B>, Got<B>>,
@@ -64,7 +66,7 @@ impl<T: AsyncRead + Takings + Clone, B: Books> Locked<T, B> {
 
 #[tactic(auto, using(crate::proofs::Fits::call_fits))]
 impl<T: Tale + AsyncWrite + Clone, B: Books> Locked<T, B> {
-    /// One write with its entry. `None`: there was no memory for the entry, and nothing was called.
+    /// Writes once, with an entry. `None` means that the memory for it was refused, and nothing was called.
     pub(super) fn write(
         &mut self,
         tally: &mut Tally<Writes<B>, Taken<B>>,
@@ -84,7 +86,7 @@ impl<T: Tale + AsyncWrite + Clone, B: Books> Locked<T, B> {
         Some(polled)
     }
 
-    /// One flush with its entry. `None`: there was no memory for the entry, and nothing was called.
+    /// Flushes once, with an entry. `None` means that the memory for it was refused, and nothing was called.
     pub(super) fn flush(
         &mut self,
         tally: &mut Tally<Writes<B>, Taken<B>>,
@@ -101,7 +103,7 @@ impl<T: Tale + AsyncWrite + Clone, B: Books> Locked<T, B> {
         Some(polled)
     }
 
-    /// One close with its entry. `None`: there was no memory for the entry, and nothing was called.
+    /// Closes once, with an entry. `None` means that the memory for it was refused, and nothing was called.
     pub(super) fn close(
         &mut self,
         tally: &mut Tally<Writes<B>, Taken<B>>,
@@ -118,7 +120,8 @@ impl<T: Tale + AsyncWrite + Clone, B: Books> Locked<T, B> {
         Some(polled)
     }
 
-    /// One call that is no read, with its entry. `None`: there was no memory for the entry, and nothing was called.
+    /// Makes one call, which is not a read, with an entry. `None` means that the memory for it was refused,
+    /// and nothing was called.
     pub(super) fn make(
         &mut self,
         tally: &mut Tally<Writes<B>, Taken<B>>,
@@ -139,7 +142,7 @@ impl<T: Tale + AsyncWrite + Clone, B: Books> Locked<T, B> {
 }
 
 impl<T: Tale + Takings + Clone, B: Books> Locked<T, B> {
-    /// No journal yet, and all shares of its four ledgers.
+    /// Returns a place without a journal yet, and all shares of its four ledgers.
     pub(super) fn open(
         blanks: Blanks,
     ) -> (
@@ -166,7 +169,7 @@ impl<T: Tale + Takings + Clone, B: Books> Locked<T, B> {
         (locked, read_shares, write_shares)
     }
 
-    /// Puts in a journal, and tells what it has written down so far of each side.
+    /// Puts in a journal, and returns the counts of its entries for each side.
     pub(super) fn fill(
         &mut self,
         journal: Journal<T>,
@@ -186,7 +189,7 @@ impl<T: Tale + Takings + Clone, B: Books> Locked<T, B> {
         (reads, writes)
     }
 
-    /// A clone of the journal so far, in which the two tallies count what they tell.
+    /// Returns a clone of the journal so far, with as many calls and bytes as the two tallies count.
     pub(super) fn history(
         &mut self,
         reads: &mut Tally<Reads<B>, Got<B>>,
@@ -202,7 +205,7 @@ impl<T: Tale + Takings + Clone, B: Books> Locked<T, B> {
     }
 }
 
-// How many bytes an answer counts.
+// Returns how many bytes the call moved.
 fn count(polled: &Poll<io::Result<usize>>) -> u64
     ensures { result ≡ count_of polled.now }
 {

@@ -6,7 +6,7 @@ use crate::Entry;
 use std::marker::Model;
 use std::snapshot::Snapshot;
 
-/// The calls that a half made, in order, each with its answer. Contracts alone see them: it takes one byte.
+/// The calls that a half made, in order, each with its answer. Only contracts see them; it takes one byte.
 #[cycle(made)]
 #[derive(Drop)]
 pub(super) struct Made {
@@ -38,7 +38,7 @@ impl Model for Made {
 }
 
 impl Made {
-    /// No calls.
+    /// Returns no calls.
     pub(super) fn new() -> Made
         ensures { result ≡ [] }
     {
@@ -47,7 +47,7 @@ impl Made {
         }
     }
 
-    /// These calls, and then that of the entry.
+    /// Returns these calls, and then that of the entry.
     pub(super) fn more(&self, entry: Snapshot<Entry>) -> Made
         ensures { result ≡ self.now ++ note_of entry.value ∷ [] }
     {

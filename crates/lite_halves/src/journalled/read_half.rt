@@ -1,4 +1,4 @@
-//! The journalled half that reads.
+//! The half of a journal that reads.
 ghost use Rattle.std.specs.Prelude.{◌≡◌, ◌≤◌, ◌+◌, ◌%◌, ◌^◌, ◌⊎◌, ◌++◌, ◌∷◌, [], length, map, IfOk};
 ghost use Rattle.lite_halves.specs.Uses.{IfReady, Keeps, OutOfMemory, ReadMark, count_of, read_marks, Part, ReadsInto, room_in, Registered};
 ghost use Rattle.lite_halves.specs.Counts.{CountsOrNone, HalfDrives, IsOutOfMemory, MakesOrStays, MakesRead};
@@ -19,12 +19,12 @@ use std::marker::Model;
 use std::sync::{Arc, Mutex, Wait};
 use std::{fmt, io};
 
-/// The half of a journal that reads. Made by [`split_journalled`](crate::split_journalled).
+/// The half of a journal that reads.
 ///
-/// Each call locks the journal, and so it may wait. A contract sees how many entries of reads the journal has and the bytes
-/// in their answers, those from before the split included. It also sees the reads that were made by this half, each with
-/// its answer, in order. What the stream does between two calls is not known, since the other half may call it. The
-/// original has no such type.
+/// Returned by [`split_journalled`](crate::split_journalled). Each call locks the journal, so it may wait. A
+/// contract sees how many entries of reads the journal has, and how many bytes they read; those from before
+/// the split are included. It also sees the reads that this half made, each with its answer, in order. What
+/// the stream does between two calls is not known, because the other half may call it.
 #[derive(Drop)]
 pub struct JournalReadHalf<R, T: Tale + Takings + Clone, B: Books> {
     pub(super) rt: R,
@@ -50,14 +50,67 @@ impl<R, T: Tale + Takings + Clone, B: Books> Model for JournalReadHalf<R, T, B> 
 }
 
 impl<R, T: Tale + Takings + Clone, B: Books> JournalReadHalf<R, T, B> {
-    /// How many reads the journal has an entry of. It doesn't wait.
+    /// Returns how many entries of reads the journal has.
+    ///
+    /// It does not wait.
+    ///
+    /// # Examples
+    ///
+    /// ```
+    /// use futures_lite::future;
+    /// use futures_lite::io::{AsyncReadExt, Blanks, Cursor, Journal, split_journalled};
+    /// use std::alloc::AllocError;
+    /// use std::marker::Brand;
+    ///
+    /// type Bytes = Cursor<Vec<u8>>;
+    ///
+    /// let cursor = Cursor::new(Vec::from_slice(rt.alloc(), b"ab")?);
+    /// let Ok(mut journal) = Journal::new(rt.alloc(), cursor) else {
+    ///     return Err(AllocError.into());
+    /// };
+    /// future::block_on(&rt, journal.read(&mut [0u8]))??;
+    /// let halves = split_journalled::<HostRuntime, Bytes, Brand>(rt, journal, Blanks::new());
+    /// let Ok((mut reader, _writer)) = halves else {
+    ///     return Err(AllocError.into());
+    /// };
+    /// assert_eq!(rt; reader.calls(), 1);
+    /// future::block_on(&rt, reader.read(&mut [0u8]))??;
+    /// assert_eq!(rt; reader.calls(), 2);
+    /// ```
     pub fn calls(&self) -> u64
         ensures { result ≡ self.now.calls }
     {
         self.tally.calls()
     }
 
-    /// How many bytes those reads were told, modulo 2^64. It doesn't wait.
+    /// Returns how many bytes these reads have read, modulo 2^64.
+    ///
+    /// It does not wait. If `AsyncReadExt` is in scope, `reader.bytes()` calls the method of that trait. Call
+    /// this one as `JournalReadHalf::bytes(&reader)` then.
+    ///
+    /// # Examples
+    ///
+    /// ```
+    /// use futures_lite::future;
+    /// use futures_lite::io::{
+    ///     AsyncReadExt, Blanks, Cursor, Journal, JournalReadHalf, split_journalled,
+    /// };
+    /// use std::alloc::AllocError;
+    /// use std::marker::Brand;
+    ///
+    /// type Bytes = Cursor<Vec<u8>>;
+    ///
+    /// let cursor = Cursor::new(Vec::from_slice(rt.alloc(), b"abc")?);
+    /// let Ok(journal) = Journal::new(rt.alloc(), cursor) else {
+    ///     return Err(AllocError.into());
+    /// };
+    /// let halves = split_journalled::<HostRuntime, Bytes, Brand>(rt, journal, Blanks::new());
+    /// let Ok((mut reader, _writer)) = halves else {
+    ///     return Err(AllocError.into());
+    /// };
+    /// future::block_on(&rt, reader.read(&mut [0u8; 2]))??;
+    /// assert_eq!(rt; JournalReadHalf::bytes(&reader), 2);
+    /// ```
     pub fn bytes(&self) -> u64
         ensures { result ≡ self.now.bytes % 2 ^ 64 }
     {
@@ -72,10 +125,10 @@ impl<R, T: Tale + Takings + Clone, B: Books> Tale for JournalReadHalf<R, T, B> {
 }
 
 impl<R: Wait, T: AsyncRead + Takings + Clone, B: Books> AsyncRead for JournalReadHalf<R, T, B> {
-    /// Reads from the stream, and writes the call down with its answer, both under one lock.
+    /// Reads from the stream, and records the call with its answer, both under one lock.
     ///
-    /// Room for the entry is made first. Where that is refused the answer is `OutOfMemory`: the stream is not called,
-    /// there is no entry, and nothing changes.
+    /// Room for the entry is made first. If it is refused, this returns an error of the kind `OutOfMemory`:
+    /// the stream is not called, there is no entry, and nothing changes.
     #[tactic(auto, using(crate::specs::Laws::Counts::read_half_rules))]
     fn poll_read(&mut self, cx: &mut Context<'_>, buf: &mut [u8]) -> Poll<io::Result<usize>>
         ensures bound { IfReady result (λ r. IfOk r (λ n. n ≤ length buf.new)) }
@@ -89,8 +142,9 @@ impl<R: Wait, T: AsyncRead + Takings + Clone, B: Books> AsyncRead for JournalRea
         or_refused(self.shared.lock(&self.rt).read(&mut self.tally, cx, buf))
     }
 
-    /// Reads as `poll_read` does into the first buffer that has room, or into an empty one if none has: one call with
-    /// one entry.
+    /// Reads as `poll_read` does into the first buffer that has room, or into an empty one if none has.
+    ///
+    /// This is one call with one entry.
     #[tactic(auto, using(lite_io_base::specs::Laws::Runs::within_more))]
     fn poll_read_vectored(
         &mut self,
@@ -115,7 +169,8 @@ where
     T: AsyncRead + Takings + Clone,
     B: Books,
 {
-    // One read with its entry. `None`: there was no memory for the entry or the answer, and nothing was called.
+    // Reads once, with an entry. `None` means that the memory for the entry or the answer was refused, and
+    // nothing was called.
     fn make(&mut self, cx: &mut Context<'_>, room: usize) -> Option<Answer>
         ensures made { CountsOrNone self.old (Request.room room) result self.new }
         ensures kept { Keeps cx.old cx.new }
@@ -125,12 +180,43 @@ where
         locked.make_read(&mut self.tally, cx, buf)
     }
 
-    /// Reads into so many bytes of room, one read for each of `rooms`, and appends what each was told to `out`. The
-    /// journal is locked once for each read, so the other half's calls may come between.
+    /// Makes one read for each number of `rooms`, with room for that many bytes, and appends the answers to
+    /// `out`.
     ///
-    /// `Err`: there was no memory for the next read's entry or answer. The answers so far stand in `out`; the refused
-    /// read reached neither the stream nor the journal. An error of the stream itself, `OutOfMemory` too, is an
-    /// answer, after which the reads go on.
+    /// The journal is locked once for each read, so calls of the other half may come between. An error of the
+    /// stream itself, `OutOfMemory` too, is an answer; the reads continue after it.
+    ///
+    /// # Errors
+    ///
+    /// `Err(AllocError)` means that the memory for the next read's entry or answer was refused. The answers
+    /// before it are in `out`. The refused read reached neither the stream nor the journal.
+    ///
+    /// # Examples
+    ///
+    /// ```
+    /// use futures_lite::io::{Answer, Blanks, Cursor, Journal, split_journalled};
+    /// use futures_lite::{Context, Poll, future};
+    /// use std::alloc::AllocError;
+    /// use std::marker::Brand;
+    ///
+    /// type Bytes = Cursor<Vec<u8>>;
+    ///
+    /// let cursor = Cursor::new(Vec::from_slice(rt.alloc(), b"abc")?);
+    /// let Ok(journal) = Journal::new(rt.alloc(), cursor) else {
+    ///     return Err(AllocError.into());
+    /// };
+    /// let halves = split_journalled::<HostRuntime, Bytes, Brand>(rt, journal, Blanks::new());
+    /// let Ok((mut reader, _writer)) = halves else {
+    ///     return Err(AllocError.into());
+    /// };
+    /// let mut answers = Vec::new(rt.alloc());
+    /// let driven = future::poll_fn(|cx: &mut Context<'_>| {
+    ///     Poll::Ready(reader.drive(cx, &[1, 9], &mut answers))
+    /// });
+    /// future::block_on(&rt, driven)??;
+    /// assert_eq!(rt; answers[0], Answer::Read(vec![in rt.alloc(); b'a']?));
+    /// assert_eq!(rt; answers[1], Answer::Read(vec![in rt.alloc(); b'b', b'c']?));
+    /// ```
     pub fn drive(
         &mut self,
         cx: &mut Context<'_>,

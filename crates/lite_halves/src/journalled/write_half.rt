@@ -1,4 +1,4 @@
-//! The journalled half that writes.
+//! The half of a journal that writes.
 ghost use Rattle.std.specs.Prelude.{◌≡◌, ◌≤◌, ◌+◌, ◌%◌, ◌^◌, ◌⊎◌, ◌++◌, ◌∷◌, [], length, IfOk};
 ghost use Rattle.lite_halves.specs.Uses.{io_slices_bytes, IfReady, Keeps, count_of, OutOfMemory, Part, WriteMark, done_marks, write_marks, closed, flushed};
 ghost use Rattle.lite_halves.specs.Uses.{Registered};
@@ -20,12 +20,13 @@ use std::marker::Model;
 use std::sync::{Arc, Mutex, Wait};
 use std::{fmt, io};
 
-/// The half of a journal that writes. Made by [`split_journalled`](crate::split_journalled).
+/// The half of a journal that writes.
 ///
-/// Each call locks the journal, and so it may wait. A contract sees how many entries of writes, flushes and closes the
-/// journal has and the bytes that were taken, those from before the split included. It also sees the calls that were made
-/// by this half, each with its answer, in order. What the stream does between two calls is not known, since the other half
-/// may call it. The original has no such type.
+/// Returned by [`split_journalled`](crate::split_journalled). Each call locks the journal, so it may wait. A
+/// contract sees how many entries of writes, flushes and closes the journal has, and how many bytes were
+/// written; those from before the split are included. It also sees the calls that this half made, each with
+/// its answer, in order. What the stream does between two calls is not known, because the other half may call
+/// it.
 #[derive(Drop)]
 pub struct JournalWriteHalf<R, T: Tale + Takings + Clone, B: Books> {
     pub(super) rt: R,
@@ -51,14 +52,62 @@ impl<R, T: Tale + Takings + Clone, B: Books> Model for JournalWriteHalf<R, T, B>
 }
 
 impl<R, T: Tale + Takings + Clone, B: Books> JournalWriteHalf<R, T, B> {
-    /// How many writes, flushes and closes the journal has an entry of. It doesn't wait.
+    /// Returns how many entries of writes, flushes and closes the journal has.
+    ///
+    /// It does not wait.
+    ///
+    /// # Examples
+    ///
+    /// ```
+    /// use futures_lite::future;
+    /// use futures_lite::io::{AsyncWriteExt, Blanks, Cursor, Journal, split_journalled};
+    /// use std::alloc::AllocError;
+    /// use std::marker::Brand;
+    ///
+    /// type Bytes = Cursor<Vec<u8>>;
+    ///
+    /// let Ok(journal) = Journal::new(rt.alloc(), Cursor::new(Vec::new(rt.alloc()))) else {
+    ///     return Err(AllocError.into());
+    /// };
+    /// let halves = split_journalled::<HostRuntime, Bytes, Brand>(rt, journal, Blanks::new());
+    /// let Ok((_reader, mut writer)) = halves else {
+    ///     return Err(AllocError.into());
+    /// };
+    /// future::block_on(&rt, writer.write(b"ab"))??;
+    /// future::block_on(&rt, writer.flush())??;
+    /// assert_eq!(rt; writer.calls(), 2);
+    /// ```
     pub fn calls(&self) -> u64
         ensures { result ≡ self.now.calls }
     {
         self.tally.calls()
     }
 
-    /// How many bytes of those writes were taken, modulo 2^64. It doesn't wait.
+    /// Returns how many bytes these writes have written, modulo 2^64.
+    ///
+    /// It does not wait.
+    ///
+    /// # Examples
+    ///
+    /// ```
+    /// use futures_lite::future;
+    /// use futures_lite::io::{AsyncWriteExt, Blanks, Cursor, Journal, split_journalled};
+    /// use std::alloc::AllocError;
+    /// use std::marker::Brand;
+    ///
+    /// type Bytes = Cursor<Vec<u8>>;
+    ///
+    /// let Ok(journal) = Journal::new(rt.alloc(), Cursor::new(Vec::new(rt.alloc()))) else {
+    ///     return Err(AllocError.into());
+    /// };
+    /// let halves = split_journalled::<HostRuntime, Bytes, Brand>(rt, journal, Blanks::new());
+    /// let Ok((_reader, mut writer)) = halves else {
+    ///     return Err(AllocError.into());
+    /// };
+    /// future::block_on(&rt, writer.write(b"ab"))??;
+    /// future::block_on(&rt, writer.write(b"cde"))??;
+    /// assert_eq!(rt; writer.bytes(), 5);
+    /// ```
     pub fn bytes(&self) -> u64
         ensures { result ≡ self.now.bytes % 2 ^ 64 }
     {
@@ -67,7 +116,8 @@ impl<R, T: Tale + Takings + Clone, B: Books> JournalWriteHalf<R, T, B> {
 }
 
 impl<R: Wait, T: Tale + AsyncWrite + Clone, B: Books> JournalWriteHalf<R, T, B> {
-    // One call with its entry. `None`: there was no memory for the entry, and nothing was called.
+    // Makes one call, with its entry. `None` means that the memory for the entry was refused, and nothing was
+    // called.
     fn make(&mut self, cx: &mut Context<'_>, call: &Call) -> Option<Answer>
         requires { IsWrite call.now }
         ensures made { CountsOrNone self.old (asked_of call.now) result self.new }
@@ -76,12 +126,41 @@ impl<R: Wait, T: Tale + AsyncWrite + Clone, B: Books> JournalWriteHalf<R, T, B> 
         self.shared.lock(&self.rt).make(&mut self.tally, cx, call)
     }
 
-    /// Makes the calls one after the other, and appends what each was told to `out`. No call may be a read. The journal
-    /// is locked once for each call, so the other half's calls may come between.
+    /// Makes the calls one after the other, and appends their answers to `out`.
     ///
-    /// `Err`: there was no memory for the next call's entry or answer. The answers so far stand in `out`; the refused
-    /// call reached neither the stream nor the journal. An error of the stream itself, `OutOfMemory` too, is an
-    /// answer, after which the calls go on.
+    /// No call may be a read. The journal is locked once for each call, so calls of the other half may come
+    /// between. An error of the stream itself, `OutOfMemory` too, is an answer; the calls continue after it.
+    ///
+    /// # Errors
+    ///
+    /// `Err(AllocError)` means that the memory for the next call's entry or answer was refused. The answers
+    /// before it are in `out`. The refused call reached neither the stream nor the journal.
+    ///
+    /// # Examples
+    ///
+    /// ```
+    /// use futures_lite::io::{Answer, Blanks, Call, Cursor, Journal, split_journalled};
+    /// use futures_lite::{Context, Poll, future};
+    /// use std::alloc::AllocError;
+    /// use std::marker::Brand;
+    ///
+    /// type Bytes = Cursor<Vec<u8>>;
+    ///
+    /// let Ok(journal) = Journal::new(rt.alloc(), Cursor::new(Vec::new(rt.alloc()))) else {
+    ///     return Err(AllocError.into());
+    /// };
+    /// let halves = split_journalled::<HostRuntime, Bytes, Brand>(rt, journal, Blanks::new());
+    /// let Ok((_reader, mut writer)) = halves else {
+    ///     return Err(AllocError.into());
+    /// };
+    /// let calls = [Call::Write(vec![in rt.alloc(); b'a', b'b']?), Call::Close];
+    /// let mut answers = Vec::new(rt.alloc());
+    /// let driven = future::poll_fn(|cx: &mut Context<'_>| {
+    ///     Poll::Ready(writer.drive(cx, &calls, &mut answers))
+    /// });
+    /// future::block_on(&rt, driven)??;
+    /// assert_eq!(rt; answers.as_slice(), [Answer::Wrote(2), Answer::Done].as_slice());
+    /// ```
     pub fn drive(
         &mut self,
         cx: &mut Context<'_>,
@@ -109,10 +188,11 @@ impl<R, T: Tale + Takings + Clone, B: Books> Takings for JournalWriteHalf<R, T, 
 
 #[tactic(auto, using(crate::specs::Laws::Counts::write_half_rules))]
 impl<R: Wait, T: Tale + AsyncWrite + Clone, B: Books> AsyncWrite for JournalWriteHalf<R, T, B> {
-    /// Writes to the stream, and writes the call down with its answer, both under one lock.
+    /// Writes to the stream, and records the call with its answer, both under one lock.
     ///
-    /// Room for the entry and a copy of `buf` is made first. Where that is refused the answer is `OutOfMemory`: the
-    /// stream is not called, there is no entry, and nothing changes. So it is with a flush and a close.
+    /// Room for the entry and a copy of `buf` is made first. If it is refused, this returns an error of the
+    /// kind `OutOfMemory`: the stream is not called, there is no entry, and nothing changes. The same is true
+    /// of a flush and of a close.
     fn poll_write(&mut self, cx: &mut Context<'_>, buf: &[u8]) -> Poll<io::Result<usize>>
         ensures bound { IfReady result (λ r. IfOk r (λ n. n ≤ length buf.now)) }
         ensures ran { WriteCounts self.old (write_marks result buf.now) self.new }
@@ -125,8 +205,9 @@ impl<R: Wait, T: Tale + AsyncWrite + Clone, B: Books> AsyncWrite for JournalWrit
         or_refused(self.shared.lock(&self.rt).write(&mut self.tally, cx, buf))
     }
 
-    /// Writes as `poll_write` does the first buffer that has a byte, or an empty one if none has: one call with one
-    /// entry.
+    /// Writes as `poll_write` does the first buffer that has a byte, or an empty one if none has.
+    ///
+    /// This is one call with one entry.
     #[tactic(auto, using(lite_io_base::specs::Laws::Runs::write_front, lite_io_base::specs::Laws::Runs::within_front))]
     fn poll_write_vectored(
         &mut self,
