@@ -1,0 +1,55 @@
+"""The public names of futures-lite's modules, from tools/original.txt, each with what differs here, as the tables of docs/FROM-FUTURES-LITE.md.
+
+A line is `MODULE::TITLE`, or `MODULE::TITLE: NOTE`, with what differs or why it is not here. An item that is here is found by its name.
+"""
+import re
+
+from reference import linked
+from repository import TOP, read_text
+from sources import Sources
+
+PAGE = "docs/FROM-FUTURES-LITE.md"
+LINE = re.compile(r"(?P<module>future|stream|io)::(?P<title>\w+(?:::\w+)?)(?:: (?P<note>.*))?")
+PLAIN = "the same, with `&mut self` in place of `Pin<&mut Self>`"
+
+
+def lines():
+    """Yields the module, the title and the note of each line; of a line that is none, it."""
+    for line in read_text(f"{TOP}/tools/original.txt").splitlines():
+        if line and not line.startswith("#"):
+            found = LINE.fullmatch(line)
+            yield (found["module"], found["title"], found["note"]) if found else (None, line, None)
+
+
+def row(item, module, title, note):
+    here = linked(item, f"`{title}`").replace("](#", f"](api/{module}.md#") if item else "-"
+    return f"| `{title}` | {here} | {note or ''} |"
+
+
+def tables():
+    """Returns the table of each module, by the name of its marker."""
+    sources, found = Sources(), {}
+    for module, title, note in lines():
+        if module:
+            found.setdefault(module, []).append(row(sources.items_of(module).get(title), module, title, note))
+    return {module: "\n".join(["\n\n| futures-lite | Here | What differs |", "|---|---|---|", *rows]) + "\n\n" for module, rows in found.items()}
+
+
+def added():
+    """Returns the items of each module that futures-lite has not, by the name of their marker."""
+    sources, there = Sources(), {(module, title) for module, title, _ in lines()}
+    found = {}
+    for module in ("future", "stream", "io"):
+        items = [it for title, it in sources.items_of(module).items() if not it.owner and (module, title) not in there]
+        found[f"{module} added"] = ", ".join(linked(it, f"`{it.title}`").replace("](#", f"](api/{module}.md#") for it in items)
+    return found
+
+
+def faults():
+    """Yields each line that is none, and each name that is not here without a note that says why."""
+    sources = Sources()
+    for module, title, note in lines():
+        if not module:
+            yield "tools/original.txt", f"this is no line of it: {title}"
+        elif not note and title not in sources.items_of(module):
+            yield "tools/original.txt", f"`{module}::{title}` is not here, and no note says why"
