@@ -20,9 +20,7 @@ ghost use Rattle.lite_base.specs.Runs.{Runs};
 use super::{Fuse, Future, Pending, PollFn, Ready, YieldNow, Zip};
 use crate::{Context, Poll};
 
-/// A future whose value does not depend on when it was pending, where memory was found.
-///
-/// The original has no such trait: it is a law, which its documentation leaves unsaid.
+/// A future whose value does not depend on when it was pending, unless memory was refused.
 pub trait SteadyFuture: Future {
     /// The runs in which no memory was refused.
     ghost ample: { Runs (Poll Self.Output) Self };
@@ -30,13 +28,13 @@ pub trait SteadyFuture: Future {
     /// That no poll asks for memory; then each run is ample.
     ghost needs_none: { Type 0 } = { ⊤ };
 
-    /// When two values that it gives are the same: where they are equal, if its type says nothing else.
+    /// When two values that it returns are the same. By default they are if they are equal.
     ghost same: { Sameness Self.Output } = { Sameness.equal };
 
     /// The futures whose values are the same.
     ghost alike: { Self → Self → Type 0 };
 
-    /// Does nothing. The trait is its law.
+    /// Does nothing. The trait exists for its law.
     fn is_steady_future(&self) {}
 
     ghost steady: { FutureSteadyLawsBy same Self.run ample needs_none alike };
