@@ -1,4 +1,4 @@
-//! Each line of a reader is answered to a writer.
+//! A server that answers each line of a reader with a reply to a writer.
 ghost use Rattle.std.specs.Prelude.{◌≡◌, ◌++◌, ◌∷◌, [], List, Ok, IfErr, IfOk, false, flat_map, true};
 ghost use Rattle.lite_theorems.specs.Uses.{ReadMark, EndsFlushed, WriteMark, bytes_taken, last_piece, without_return};
 ghost use Rattle.lite_theorems.specs.BothWriters.{TakesFront};
@@ -13,20 +13,76 @@ use std::alloc::{AllocError, AllocGlobal};
 use std::io;
 use std::sync::Wait;
 
-/// What is answered to a line: what [`serve_lines`] asks for. The original has no such trait.
+/// The replies that [`serve_lines`] writes: one for each line.
 pub trait LineService {
-    /// The reply to a line, which is without its newline and its return.
+    /// The reply to a line. The line has no newline, and no carriage return before it.
     ghost reply: { Replying };
 
-    /// Makes the reply to a line in its place. `Err` says that memory for it was refused; the line may be anything then.
+    /// Replaces a line with the reply to it. `Err` means that memory for the reply was refused; the line may
+    /// be anything then.
+    ///
+    /// # Examples
+    ///
+    /// ```
+    /// use futures_lite::laws::LineService;
+    /// use std::alloc::AllocError;
+    ///
+    /// #[derive(Drop)]
+    /// struct Echo;
+    ///
+    /// impl LineService for Echo {
+    ///     ghost use Rattle.std.specs.Prelude.{◌++◌, ◌∷◌, []};
+    ///
+    ///     ghost reply = { λ line. line ++ 33 ∷ 10 ∷ [] };
+    ///
+    ///     fn answer(&mut self, line: &mut Vec<u8>) -> Result<(), AllocError> {
+    ///         line.extend_from_slice(b"!\n")
+    ///     }
+    /// }
+    ///
+    /// let mut line = Vec::from_slice(rt.alloc(), b"hello")?;
+    /// Echo.answer(&mut line)?;
+    /// assert_eq!(rt; line.as_slice(), b"hello!\n".as_slice());
+    /// ```
     fn answer(&mut self, line: &mut Vec<u8>) -> Result<(), AllocError>
         ensures { IfOk result (λ _. line.new.items ≡ reply line.old.items) };
 }
 
-/// Answers each line of `requests` to `replies`, up to the first end, in order, on this thread, by `on`. Where it gives `Ok`,
-/// what was written is the replies to the lines of what was read, none lost and none twice, and is flushed; else a front of
-/// those, and the error says why it stopped. It flushes where no more of the input is at hand, too. It may wait for ever. The
-/// original has no such call.
+/// Answers each line of `requests` with a reply to `replies`, in order, up to the first end of file.
+///
+/// It blocks this thread, by `on`, and may wait for ever. If it returns `Ok`, it has written the replies to
+/// all lines, none lost and none twice, and has flushed them. Otherwise it has written a front of those, and
+/// the error says why it stopped. It also flushes when no more input is buffered.
+///
+/// The caller guarantees that the rank of the reader counts.
+///
+/// # Examples
+///
+/// ```
+/// use futures_lite::future::BlockOn;
+/// use futures_lite::laws::{LineService, serve_lines};
+/// use std::alloc::AllocError;
+///
+/// #[derive(Drop)]
+/// struct Echo;
+///
+/// impl LineService for Echo {
+///     ghost use Rattle.std.specs.Prelude.{◌++◌, ◌∷◌, []};
+///
+///     ghost reply = { λ line. line ++ 33 ∷ 10 ∷ [] };
+///
+///     fn answer(&mut self, line: &mut Vec<u8>) -> Result<(), AllocError> {
+///         line.extend_from_slice(b"!\n")
+///     }
+/// }
+///
+/// let mut on = BlockOn::new(&rt)?;
+/// let mut requests = b"one\r\ntwo".as_slice();
+/// let mut replies = Vec::new(rt.alloc());
+/// let served = serve_lines(&mut on, &rt, &mut requests, &mut replies, &mut Echo);
+/// assert!(rt; served.is_ok());
+/// assert_eq!(rt; replies.as_slice(), b"one!\ntwo!\n".as_slice());
+/// ```
 pub fn serve_lines<R, I, O, L>(
     on: &mut BlockOn,
     rt: &R,
