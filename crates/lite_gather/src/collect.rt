@@ -9,14 +9,14 @@ use lite_base::Counted;
 use lite_consume::{Consume, Folder};
 use std::mem;
 
-/// The collection of the items of a stream.
+/// A future that collects the items of a stream.
 ///
-/// Made by [`collect`](crate::make::collect). What was taken in is kept across pendings. The value is the collection, or
-/// what it was with the item that it refused; after either the future may not be polled. Ported from `src/stream.rs`,
-/// `CollectFuture`.
+/// Returned by [`collect`](crate::make::collect). What was collected is kept while the stream is pending. The
+/// value is the collection, or a [`Refused`] with the items so far and the item that the collection refused.
+/// Do not poll the future after either.
 pub type CollectFuture<S, C> = Consume<S, Collect<C>>;
 
-/// Takes each item into the collection.
+/// Adds each item to the collection.
 #[derive(Debug, Drop)]
 pub struct Collect<C> {
     pub(crate) collection: Option<C>,

@@ -15,7 +15,7 @@ use std::alloc::AllocError;
 /// is equality by default.
 ///
 /// If the last result of a run is `Pending`, the context holds what that stream registered. On `Ok` all
-/// answers were appended. `AllocError` means that there was no room for one more result. Then either the
+/// results were appended. `AllocError` means that there was no room for one more result. Then either the
 /// first list is short, and the second stream was not polled, or the second list alone is short. It does not
 /// occur if both lists have room. Each stream can be polled again afterwards.
 ///
