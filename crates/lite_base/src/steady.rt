@@ -11,7 +11,7 @@ pub trait SteadyStream: Stream {
     /// The runs in which no memory was refused.
     ghost ample: { Runs (Answer Self.Item) Self };
 
-    /// That no poll asks for memory; then each run is ample.
+    /// No poll allocates. Then each run is ample.
     ghost needs_none: { Type 0 } = { ⊤ };
 
     /// When two items are the same. By default they are if they are equal.

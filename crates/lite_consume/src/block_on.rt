@@ -27,7 +27,7 @@ use std::sync::Wait;
 /// A stream whose items are waited for on this thread.
 ///
 /// Returned by [`block_on`](crate::make::block_on). Each method blocks the thread until one future over the
-/// stream is ready, and leaves the stream as that future does.
+/// stream is ready, and leaves the stream in the state in which that future leaves it.
 ///
 /// The first method that is called allocates what a wait needs. If that fails, the method returns `Err`, and
 /// the stream was not polled. No later call allocates, so no later call returns `Err`. Unlike that of
@@ -49,7 +49,7 @@ impl<R, S: fmt::Debug> fmt::Debug for BlockOn<R, S> {
 impl<R: Wait + RandomSource + AllocGlobal, S: Stream> BlockOn<R, S> {
     ghost use Rattle.lite_consume.specs.BlockOn.{NeverWaited};
 
-    /// What `folder` makes of the items. What is waited with is made where there is none yet.
+    /// Waits for what `folder` makes of the items. If there is no `waiter` yet, the call makes one.
     fn ask<F: Folder<S> + Drop>(&mut self, mut folder: F) -> Result<F::Output, AllocError>
         requires polls { S.can_poll self.old.stream }
         requires counts { F.counts self.old.stream }
@@ -125,7 +125,8 @@ impl<R: Wait + RandomSource + AllocGlobal, S: Stream> BlockOn<R, S> {
     ///
     /// It drops the items, the stream and the runtime, so they have to be `Drop`. It may wait for ever. `Err`
     /// means an allocation failure, in the first call only. The stream must be `Counted`, because one poll
-    /// may consume many items. The caller guarantees that its rank counts, and that it may be polled.
+    /// may consume many items. The caller guarantees that `ranks.counts` holds for it, and that it may be
+    /// polled.
     ///
     /// # Examples
     ///
@@ -151,7 +152,8 @@ impl<R: Wait + RandomSource + AllocGlobal, S: Stream> BlockOn<R, S> {
     ///
     /// It drops the other items, the stream and the runtime, so they have to be `Drop`. It may wait for ever.
     /// `Err` means an allocation failure, in the first call only. The stream must be `Counted`, because one
-    /// poll may consume many items. The caller guarantees that its rank counts, and that it may be polled.
+    /// poll may consume many items. The caller guarantees that `ranks.counts` holds for it, and that it may
+    /// be polled.
     ///
     /// # Examples
     ///
@@ -177,8 +179,8 @@ impl<R: Wait + RandomSource + AllocGlobal, S: Stream> BlockOn<R, S> {
     ///
     /// `f`, the accumulator, the stream and the runtime have to be `Drop`. It may wait for ever. `Err` means
     /// an allocation failure, in the first call only. The stream must be `Counted`, because one poll may
-    /// consume many items. The caller guarantees that its rank counts, that it may be polled, and that `f`
-    /// may be called with each item.
+    /// consume many items. The caller guarantees that `ranks.counts` holds for it, that it may be polled, and
+    /// that `f` may be called with each item.
     ///
     /// # Examples
     ///
@@ -209,8 +211,8 @@ impl<R: Wait + RandomSource + AllocGlobal, S: Stream> BlockOn<R, S> {
     ///
     /// `f`, the stream and the runtime have to be `Drop`. It may wait for ever. `Err` means an allocation
     /// failure, in the first call only. The stream must be `Counted`, because one poll may consume many
-    /// items. The caller guarantees that its rank counts, that it may be polled, and that `f` may be called
-    /// with each item.
+    /// items. The caller guarantees that `ranks.counts` holds for it, that it may be polled, and that `f` may
+    /// be called with each item.
     ///
     /// # Examples
     ///
@@ -243,8 +245,8 @@ impl<R: Wait + RandomSource + AllocGlobal, S: Stream> BlockOn<R, S> {
     ///
     /// The stream is left after the item that decided. `predicate` has to be `Drop`. It may wait for ever.
     /// `Err` means an allocation failure, in the first call only. The stream must be `Counted`, because one
-    /// poll may consume many items. The caller guarantees that its rank counts, that it may be polled, and
-    /// that `predicate` may be called with each item.
+    /// poll may consume many items. The caller guarantees that `ranks.counts` holds for it, that it may be
+    /// polled, and that `predicate` may be called with each item.
     ///
     /// # Examples
     ///
@@ -276,8 +278,8 @@ impl<R: Wait + RandomSource + AllocGlobal, S: Stream> BlockOn<R, S> {
     ///
     /// The stream is left after the item that decided. `predicate` has to be `Drop`. It may wait for ever.
     /// `Err` means an allocation failure, in the first call only. The stream must be `Counted`, because one
-    /// poll may consume many items. The caller guarantees that its rank counts, that it may be polled, and
-    /// that `predicate` may be called with each item.
+    /// poll may consume many items. The caller guarantees that `ranks.counts` holds for it, that it may be
+    /// polled, and that `predicate` may be called with each item.
     ///
     /// # Examples
     ///
@@ -310,7 +312,8 @@ impl<R: Wait + RandomSource + AllocGlobal, S: Stream> BlockOn<R, S> {
     /// The items before that one are dropped, so they have to be `Drop`, and so has `predicate`. The stream
     /// is left after that item. It may wait for ever. `Err` means an allocation failure, in the first call
     /// only. The stream must be `Counted`, because one poll may consume many items. The caller guarantees
-    /// that its rank counts, that it may be polled, and that `predicate` may be called with each item.
+    /// that `ranks.counts` holds for it, that it may be polled, and that `predicate` may be called with each
+    /// item.
     ///
     /// # Examples
     ///
@@ -342,8 +345,8 @@ impl<R: Wait + RandomSource + AllocGlobal, S: Stream> BlockOn<R, S> {
     ///
     /// The stream is left after that item. `f` has to be `Drop`. It may wait for ever. `Err` means an
     /// allocation failure, in the first call only. The stream must be `Counted`, because one poll may consume
-    /// many items. The caller guarantees that its rank counts, that it may be polled, and that `f` may be
-    /// called with each item.
+    /// many items. The caller guarantees that `ranks.counts` holds for it, that it may be polled, and that
+    /// `f` may be called with each item.
     ///
     /// # Examples
     ///
@@ -377,8 +380,8 @@ impl<R: Wait + RandomSource + AllocGlobal, S: Stream> BlockOn<R, S> {
     /// The index counts from 0, at the next item of the stream, and modulo 2^64. The stream is left after
     /// that item. `predicate` has to be `Drop`. It may wait for ever. `Err` means an allocation failure, in
     /// the first call only. The stream must be `Counted`, because one poll may consume many items. The caller
-    /// guarantees that its rank counts, that it may be polled, and that `predicate` may be called with each
-    /// item.
+    /// guarantees that `ranks.counts` holds for it, that it may be polled, and that `predicate` may be called
+    /// with each item.
     ///
     /// # Examples
     ///

@@ -23,8 +23,8 @@ pub trait Folder<S: Stream> {
     /// The values that have not returned their value yet.
     ghost is_open: { Self → Type 0 } = { λ _. ⊤ };
 
-    /// The streams whose items may be consumed: those whose rank counts, if the folder may consume any number
-    /// of items.
+    /// The streams whose items may be consumed. If the folder may consume any number of them, `ranks.counts`
+    /// has to hold.
     ghost counts: { S → Type 0 } = { λ _. ⊤ };
 
     /// Consumes an item. `Some(value)` means that the item decides; `value` is what the future resolves to.
@@ -124,7 +124,7 @@ pub trait SteadyFolder<S: SteadyStream>: Folder<S> {
     /// The steps in which no memory was refused.
     ghost ample: { Fold Self S.Item Self.Output };
 
-    /// That no step asks for memory; then each is ample.
+    /// No step allocates. Then each is ample.
     ghost needs_none: { Type 0 } = { ⊤ };
 
     /// When two values are the same. By default they are if they are equal.

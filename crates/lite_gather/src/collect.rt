@@ -32,7 +32,7 @@ impl<S: Counted, C: Gather<S::Item>> Folder<S> for Collect<C> {
     ghost counts = { S.ranks.counts };
 
     fn take_in(&mut self, item: S::Item) -> Option<Result<C, Refused<C, S::Item>>> {
-        // It is taken out meanwhile, since one that grows lends its address, and with it that of the whole future.
+        // It is moved out meanwhile, because one that grows takes its own address, and with it the future's.
         let mut collected = self.collection.take().unwrap();
         match collected.take_in(item) {
             Ok(()) => match mem::replace(&mut self.collection, Some(collected)) {

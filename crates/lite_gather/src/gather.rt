@@ -4,7 +4,7 @@ ghost use Rattle.lite_gather.specs.Gathering.{Kept, Took};
 /// A collection that takes items one after the other, each of which it may refuse for lack of memory.
 ///
 /// Contracts see a collection as the list of the items that it took so far. Unlike futures-lite, which
-/// collects through `Default` and `Extend`, an item that finds no memory is returned.
+/// collects through `Default` and `Extend`, a collection here returns an item if it finds no memory for it.
 ///
 /// A collection of your own may refuse an item for a reason of its own. Then `Refused`,
 /// `TryCollectError::Memory` and `UnzipRefused` mean that it refused the item, and not that memory was
@@ -13,7 +13,7 @@ pub trait Gather<T> {
     /// The type of the allocator that it gets its memory from.
     type Alloc;
 
-    /// The collection is what it is after it took these items in order.
+    /// The collection that results from adding these items to an empty one, in order.
     ghost holds: { Self → List T → Type 0 };
 
     /// It has room for the item, so it may not refuse it. If an impl does not define this, it is never known.

@@ -153,7 +153,7 @@ where
     RepeatWith { f: repeater }
 }
 
-/// Returns a stream whose polls return these answers in order, and after them `Ready(None)`.
+/// Returns a stream whose polls return `answers` in order, and after them `Ready(None)`.
 pub fn script<T>(answers: Vec<Poll<Option<T>>>) -> Script<T>
     ensures { result ≡ answers.items }
 {

@@ -8,9 +8,9 @@ use std::alloc::AllocError;
 use std::collections::VecDeque;
 use std::marker::Model;
 
-/// A stream whose polls return given answers in order, and after them `Ready(None)` for ever.
+/// A stream whose polls return given results in order, and after them `Ready(None)` for ever.
 ///
-/// Returned by [`script`](crate::make::script). A contract sees it as the list of the answers that are left.
+/// Returned by [`script`](crate::make::script). A contract sees it as the list of the results that are left.
 #[derive(Debug, Drop)]
 pub struct Script<T> {
     answers: VecDeque<Poll<Option<T>>>,

@@ -73,7 +73,7 @@ impl<T: Drop, Fut: Future + Drop> Unfolding<T, Fut> {
         }
     }
 
-    // Polls the future that is held, and lets it go once it is ready.
+    // Polls the future that is held, and drops it once it is ready.
     #[inline(always)]
     fn poll_future(&mut self, cx: &mut Context<'_>) -> Poll<Option<Fut::Output>>
         requires made { IsMade self.old }

@@ -12,9 +12,9 @@ use std::sync::Wait;
 /// Blocks this thread until two readers, one after the other, were read up to an end of file or an error.
 ///
 /// The bytes of each are appended to a list of its own. The caller guarantees that the two are alike, as
-/// [`SteadyRead`] defines it, and that the rank of each counts. Then both lists get the same bytes, also
-/// those before an error, unless memory was refused. The two values are the same too; errors are compared by
-/// their kinds.
+/// [`SteadyRead`] defines it, and that `ranks.counts` holds for each. Then both lists get the same bytes,
+/// also those before an error, unless memory was refused. The two values are the same too; errors are
+/// compared by their kinds.
 ///
 /// The values are those of [`read_to_end`]: how many bytes were appended, or the reader's error. An error of
 /// the kind `OutOfMemory` means that there was no memory for more bytes. The call may wait for ever. Each

@@ -18,9 +18,9 @@ use std::alloc::Global;
 /// `writer` holds nothing any more. How many polls that took, and when the two were pending, does not matter.
 /// The value is the number of copied bytes, modulo 2^64.
 ///
-/// The future may be polled if the rank of the reader counts. If `reader` is a chain, in whatever state, the
-/// bytes are what was left of each of its readers (the lemma `tells_both`). `Err` means that the buffer could
-/// not be allocated, and returns both arguments.
+/// The future may be polled if `ranks.counts` holds for the reader. If `reader` is a chain, in whatever
+/// state, the bytes are what was left of each of its readers (the lemma `tells_both`). `Err` means that the
+/// buffer could not be allocated, and returns both arguments.
 ///
 /// # Examples
 ///
@@ -61,8 +61,8 @@ where
 /// was flushed, and `writer` holds nothing any more. How many polls that took, and when the three were
 /// pending, does not matter. The value is the number of copied bytes, modulo 2^64.
 ///
-/// The future may be polled if the ranks of the two readers count. `Err` means that the buffer could not be
-/// allocated, and returns the chain and the writer.
+/// The future may be polled if `ranks.counts` holds for both readers. `Err` means that the buffer could not
+/// be allocated, and returns the chain and the writer.
 ///
 /// # Examples
 ///

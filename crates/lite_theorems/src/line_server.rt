@@ -54,7 +54,7 @@ pub trait LineService {
 /// all lines, none lost and none twice, and has flushed them. Otherwise it has written a front of those, and
 /// the error says why it stopped. It also flushes when no more input is buffered.
 ///
-/// The caller guarantees that the rank of the reader counts.
+/// The caller guarantees that `ranks.counts` holds for the reader.
 ///
 /// # Examples
 ///
@@ -108,7 +108,7 @@ where
     unreachable!()
 }
 
-/// Answers the next line, if there is one; says whether a newline ended it.
+/// Answers the next line, if there is one. Returns whether a newline ended it.
 fn answer_next<R, I, O, L>(
     on: &mut BlockOn,
     rt: &R,
@@ -130,7 +130,7 @@ where
     line.clear();
     read_line(on, rt, requests, line)?;
     if take_line(line) {
-        // What was answered is handed on where no more of the input is at hand.
+        // The replies are flushed if no more of the input is buffered.
         let flush_now = requests.buffer().is_empty();
         answer(on, rt, replies, service, line, flush_now)?;
         return Ok(true);
@@ -139,7 +139,7 @@ where
     Ok(false)
 }
 
-/// Reads a line with its newline, or what stands before an end.
+/// Reads a line with its newline, or the bytes before an end of file.
 fn read_line<R: Wait, I: AsyncBufRead + CountedRead>(
     on: &mut BlockOn,
     rt: &R,
@@ -158,7 +158,7 @@ fn read_line<R: Wait, I: AsyncBufRead + CountedRead>(
     }
 }
 
-/// Answers what stood before an end, if that was something, and flushes.
+/// Answers the bytes before an end of file, if there are any, and flushes.
 fn answer_last<R: Wait, O: AsyncWrite, L: LineService>(
     on: &mut BlockOn,
     rt: &R,
@@ -177,7 +177,7 @@ fn answer_last<R: Wait, O: AsyncWrite, L: LineService>(
     answer(on, rt, replies, service, line, true)
 }
 
-/// Answers a line, which becomes the reply, and flushes if that is to be done now.
+/// Replaces a line with its reply, writes that, and flushes if `flush_now`.
 fn answer<R: Wait, O: AsyncWrite, L: LineService>(
     on: &mut BlockOn,
     rt: &R,
@@ -197,7 +197,7 @@ fn answer<R: Wait, O: AsyncWrite, L: LineService>(
     flush_if(on, rt, replies, flush_now)
 }
 
-/// What a wait for a call of the output comes to.
+/// Returns the error of a wait for a call of the output.
 fn of_output(waited: Result<io::Result<()>, AllocError>) -> Result<(), ServeError>
     ensures { IfOk result (λ _. waited ≡ Ok (Ok tt)) × IfErr result OfOutput }
 {
@@ -208,7 +208,7 @@ fn of_output(waited: Result<io::Result<()>, AllocError>) -> Result<(), ServeErro
     }
 }
 
-/// Flushes the replies, if that is to be done now.
+/// Flushes the replies if `now`.
 fn flush_if<R: Wait, O: AsyncWrite>(
     on: &mut BlockOn,
     rt: &R,
@@ -224,7 +224,7 @@ fn flush_if<R: Wait, O: AsyncWrite>(
     of_output(wait_flush(on, rt, replies))
 }
 
-/// Takes the newline off, and one return before it, and says whether there was a newline.
+/// Removes the newline, and one carriage return before it. Returns whether there was a newline.
 fn take_line(piece: &mut Vec<u8>) -> bool
     ensures whole { (before : _) → piece.old.items ≡ before ++ 10 ∷ []
         → (result ≡ true) × (piece.new.items ≡ without_return before) }
@@ -239,7 +239,7 @@ fn take_line(piece: &mut Vec<u8>) -> bool
     true
 }
 
-/// Takes a return at the end off.
+/// Removes a carriage return at the end.
 fn drop_return(line: &mut Vec<u8>)
     ensures { line.new.items ≡ without_return line.old.items }
 {

@@ -29,8 +29,8 @@ pub type CollectLinesFuture<R, C> = TryCollectFuture<Lines<Take<BufReader<R>>>, 
 /// for the line was refused. `Err(Memory(refused))` has the collection of the lines before, and the line that
 /// it refused.
 ///
-/// The future may be polled if the rank of the reader counts and is firm. If the call itself returns `Err`,
-/// the buffer could not be allocated, and that is the reader.
+/// The future may be polled if `ranks.counts` and `ranks.firm` hold for the reader. If the call itself
+/// returns `Err`, the buffer could not be allocated, and that is the reader.
 ///
 /// # Examples
 ///
@@ -74,7 +74,7 @@ where
 /// `take` of `reader`. Its value is that of [`collect_lines`].
 ///
 /// Nothing is known for a buffered reader of capacity 0, because each of its fills looks like an end of file.
-/// The future may be polled if the rank of the inner reader counts and is firm.
+/// The future may be polled if `ranks.counts` and `ranks.firm` hold for the inner reader.
 ///
 /// # Examples
 ///

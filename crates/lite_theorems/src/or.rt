@@ -16,8 +16,8 @@ use lite_merge::make::or;
 /// is added, and the items of each stream keep their order. How many polls that took, and when the two were
 /// pending, does not matter.
 ///
-/// The future may be polled if the ranks of the two streams count. Its `Err` has what was collected, and the
-/// item that the collection refused.
+/// The future may be polled if `ranks.counts` holds for both streams. Its `Err` has what was collected, and
+/// the item that the collection refused.
 ///
 /// # Examples
 ///

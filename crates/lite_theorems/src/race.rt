@@ -17,8 +17,8 @@ use rand_core::Rng;
 /// is added, and the items of each stream keep their order. How many polls that took, when the two were
 /// pending, and what the words were does not matter.
 ///
-/// The future may be polled if the ranks of the two streams are firm. Its `Err` has what was collected, and
-/// the item that the collection refused.
+/// The future may be polled if `ranks.firm` holds for both streams. Its `Err` has what was collected, and the
+/// item that the collection refused.
 ///
 /// # Examples
 ///

@@ -1,5 +1,5 @@
-//! Waits for one call of a reader or a writer. The contracts say which events the reader produced, or what
-//! the writer accepted, by the contracts of the traits alone.
+//! Blocking waits for one call of a reader or a writer. Their contracts follow from those of the traits
+//! alone. They say which events the reader produced, or which bytes the writer accepted.
 ghost use Rattle.std.specs.Prelude.{◌≡◌, ◌≤◌, ◌++◌, [], ℕ, List, Ok, IfErr, IfOk, IsOk, length};
 ghost use Rattle.lite_theorems.specs.Uses.{Ready, ReadMark, read_marks, WriteMark, bytes_taken};
 ghost use Rattle.lite_theorems.specs.BothWriters.{FlushedUp, HandedUp, TakesFront};
@@ -87,7 +87,7 @@ pub fn wait_read_exact<R: Wait, T: AsyncRead>(
 ///
 /// The value is that of [`read_until`]. The reader produced exactly the bytes that were appended, and then
 /// the end of file or the error, if there was one. The call may wait for ever. It never returns `Err` itself.
-/// The caller guarantees that the rank of the reader counts.
+/// The caller guarantees that `ranks.counts` holds for the reader.
 ///
 /// # Examples
 ///
@@ -152,8 +152,8 @@ pub fn wait_write_all<R: Wait, T: AsyncWrite>(
 
 /// Blocks this thread, by `on`, until the writer was flushed, and returns the value.
 ///
-/// The value is that of [`flush`]. The flush writes no further byte. The call may wait for ever. It never
-/// returns `Err` itself.
+/// The value is that of [`flush`]. The writer accepts no byte. The call may wait for ever. It never returns
+/// `Err` itself.
 ///
 /// # Examples
 ///

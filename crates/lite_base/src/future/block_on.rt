@@ -157,8 +157,8 @@ impl BlockOn {
     }
 }
 
-/// A queue with a random name of its own. `Err` is want of memory alone: where there are no random bytes, they are
-/// asked for again, for as long as there are none.
+/// Returns a queue with a random name of its own. `Err` is an allocation failure. The call retries until the
+/// system supplies random bytes.
 fn named_queue<R>(rt: &R) -> Result<Queue, AllocError>
 where
     R: Wait + RandomSource + AllocGlobal,

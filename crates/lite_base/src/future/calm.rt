@@ -45,7 +45,7 @@ impl<F: Future> CalmFuture for PollOnce<F> {
     ghost calm = { tells_calm F.run };
 }
 
-// As `or`, whichever is asked first.
+// As `or`, whichever is polled first.
 impl<F1, F2, G> CalmFuture for Race<F1, F2, G>
 where
     F1: CalmFuture,

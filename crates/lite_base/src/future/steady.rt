@@ -25,7 +25,7 @@ pub trait SteadyFuture: Future {
     /// The runs in which no memory was refused.
     ghost ample: { Runs (Poll Self.Output) Self };
 
-    /// That no poll asks for memory; then each run is ample.
+    /// No poll allocates. Then each run is ample.
     ghost needs_none: { Type 0 } = { ⊤ };
 
     /// When two values that it returns are the same. By default they are if they are equal.
@@ -60,7 +60,7 @@ impl<T> SteadyFuture for Pending<T> {
     ghost steady = { waits_steady };
 }
 
-// A function is its own source: it is alike to one whose answers are the same, pendings aside.
+// A closure is its own source. Two are alike if they return the same, apart from `Pending`.
 impl<T, F: FnMut(&mut Context<'_>) -> Poll<T>> SteadyFuture for PollFn<F> {
     ghost ample = { λ x l y. Polled F.FnMut x.f l y.f };
 
