@@ -122,8 +122,8 @@ pub trait FutureExt: Future {
     /// chooses.
     ///
     /// Each poll draws one word of `rng`. If its lowest bit is 1, `self` is polled first, otherwise `other`.
-    /// The second of the two is polled only if the first returned `Pending`. Unlike futures-lite, the caller
-    /// supplies the generator.
+    /// The other is polled only if that one returned `Pending`. Unlike futures-lite, the caller supplies the
+    /// generator.
     ///
     /// # Examples
     ///

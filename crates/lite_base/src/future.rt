@@ -41,6 +41,40 @@ pub use zip::Zip;
 ///
 /// A contract describes the whole list of poll results: any number of `Pending`, and at most one value.
 /// Unlike `std::future::Future`, it is polled without `Pin`.
+///
+/// # Examples
+///
+/// A future of your own. Its contract says nothing of the value.
+///
+/// ```
+/// use futures_lite::{Context, Future, Poll, future};
+///
+/// #[derive(Drop)]
+/// struct Later {
+///     left: u8,
+///     value: u32,
+/// }
+///
+/// impl Future for Later {
+///     type Output = u32;
+///
+///     ghost use Rattle.futures_lite.specs.Own.{AnyValue, anything_future};
+///
+///     ghost run = { AnyValue };
+///
+///     ghost laws = { anything_future };
+///
+///     fn poll(&mut self, cx: &mut Context<'_>) -> Poll<u32> {
+///         if self.left == 0 {
+///             return Poll::Ready(self.value);
+///         }
+///         self.left -= 1;
+///         cx.yield_now()
+///     }
+/// }
+///
+/// assert_eq!(rt; future::block_on(&rt, Later { left: 2, value: 7 })?, 7);
+/// ```
 pub trait Future {
     /// The type of the value.
     type Output;

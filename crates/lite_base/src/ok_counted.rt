@@ -10,7 +10,8 @@ use crate::stream::Stream;
 ///
 /// Futures that may consume many `Ok` items within one poll require it, because it guarantees that the poll
 /// returns. Each `Ok` item lowers a rank, as in [`Counted`](crate::Counted). Every `Counted` stream of
-/// `Result`s is one. So is a stream that yields `Err` at every poll, as if each clone is refused.
+/// `Result`s is one. So is a stream that yields `Err` at every poll, for example because each clone is
+/// refused.
 pub trait OkCounted: Stream<Item = Result<Self::Ok, Self::Err>> {
     /// The type of the value in an `Ok` item.
     type Ok;

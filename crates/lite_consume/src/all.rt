@@ -17,7 +17,7 @@ pub type AllFuture<'a, S, P> = Consume<&'a mut S, All<P>>;
 /// Calls the predicate with each item. The first one for which it returns false decides.
 #[derive(Debug, Drop)]
 pub struct All<P> {
-    /// What each item is tested by.
+    /// The predicate that is called with each item.
     pub predicate: P,
 }
 

@@ -17,7 +17,7 @@ pub type AnyFuture<'a, S, P> = Consume<&'a mut S, Any<P>>;
 /// Calls the predicate with each item. The first one for which it returns true decides.
 #[derive(Debug, Drop)]
 pub struct Any<P> {
-    /// What each item is tested by.
+    /// The predicate that is called with each item.
     pub predicate: P,
 }
 

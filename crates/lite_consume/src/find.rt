@@ -16,7 +16,7 @@ pub type FindFuture<'a, S, P> = Consume<&'a mut S, Find<P>>;
 /// Calls the predicate with each item. The first one for which it returns true decides.
 #[derive(Debug, Drop)]
 pub struct Find<P> {
-    /// What each item is tested by.
+    /// The predicate that is called with each item.
     pub predicate: P,
 }
 

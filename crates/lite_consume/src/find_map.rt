@@ -16,7 +16,7 @@ pub type FindMapFuture<'a, S, F> = Consume<&'a mut S, FindMap<F>>;
 /// Calls the closure with each item. Its first result that is not `None` decides.
 #[derive(Debug, Drop)]
 pub struct FindMap<F> {
-    /// What is called with each item.
+    /// The closure that is called with each item.
     pub f: F,
 }
 

@@ -15,7 +15,7 @@ pub type ForEachFuture<S, F> = Consume<S, ForEach<F>>;
 /// Calls the closure with each item.
 #[derive(Debug, Drop)]
 pub struct ForEach<F> {
-    /// What is called with each item.
+    /// The closure that is called with each item.
     pub f: F,
 }
 

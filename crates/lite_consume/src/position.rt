@@ -18,9 +18,9 @@ pub type PositionFuture<'a, S, P> = Consume<&'a mut S, Position<P>>;
 /// Calls the predicate with each item. The first one for which it returns true decides.
 #[derive(Debug, Drop)]
 pub struct Position<P> {
-    /// What each item is tested by.
+    /// The predicate that is called with each item.
     pub predicate: P,
-    /// The number of the next item.
+    /// The index of the next item.
     pub index: usize,
 }
 

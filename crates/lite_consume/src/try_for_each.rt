@@ -17,7 +17,7 @@ pub type TryForEachFuture<'a, S, F> = Consume<&'a mut S, TryForEach<F>>;
 /// Calls the closure with each item. Its first error decides.
 #[derive(Debug, Drop)]
 pub struct TryForEach<F> {
-    /// What is called with each item.
+    /// The closure that is called with each item.
     pub f: F,
 }
 

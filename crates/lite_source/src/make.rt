@@ -203,7 +203,7 @@ where
 ///
 /// A poll may call `f` once, and polls the future in the same poll. Size hint: `(0, None)`. The caller
 /// guarantees that `f` may always be called, and makes futures that may be polled. The seeds and the futures
-/// have to be `Drop`. Unlike that of futures-lite, the stream may be polled after its end.
+/// have to be `Drop`. The stream may be polled after its end; that of futures-lite panics then.
 ///
 /// # Examples
 ///

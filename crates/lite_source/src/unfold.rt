@@ -11,8 +11,8 @@ use std::fmt;
 /// A stream that yields items made by futures. Each future also returns the next seed.
 ///
 /// Returned by [`unfold`](crate::make::unfold). A future is polled in the poll that made it, and is kept
-/// while it is pending. `None` of a future ends the stream for ever. Unlike that of futures-lite, the stream
-/// may be polled after its end.
+/// while it is pending. `None` of a future ends the stream for ever. The stream may be polled after its end;
+/// that of futures-lite panics then.
 #[derive(Drop)]
 pub struct Unfold<T, F, Fut> {
     pub(crate) f: F,

@@ -25,9 +25,8 @@ pub type CollectLinesFuture<R, C> = TryCollectFuture<Lines<Take<BufReader<R>>>, 
 /// How the bytes are cut, and when the reader is pending, does not matter.
 ///
 /// `Err(Source(error))` means that the lines before it are texts, and the next is not. The error is the
-/// reader's, or of the kind `InvalidData` if the line is not UTF-8, or of the kind `OutOfMemory` if memory
-/// for the line was refused. `Err(Memory(refused))` has the collection of the lines before, and the line that
-/// it refused.
+/// reader's, or of the kind `InvalidData` (the line is not UTF-8), or `OutOfMemory` (memory for the line was
+/// refused). `Err(Memory(refused))` has the collection of the lines before, and the line that it refused.
 ///
 /// The future may be polled if `ranks.counts` and `ranks.firm` hold for the reader. If the call itself
 /// returns `Err`, the buffer could not be allocated, and that is the reader.

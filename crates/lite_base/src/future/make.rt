@@ -182,8 +182,8 @@ where
 /// Returns a future that resolves to the value of the future that is ready first. If both are, `rng` chooses.
 ///
 /// Each poll draws one word of `rng`. If its lowest bit is 1, `future1` is polled first, otherwise `future2`.
-/// The second of the two is polled only if the first returned `Pending`. Unlike futures-lite, the caller
-/// supplies the generator.
+/// The other is polled only if that one returned `Pending`. Unlike futures-lite, the caller supplies the
+/// generator.
 ///
 /// # Examples
 ///
