@@ -1,4 +1,4 @@
-//! Futures: what makes them, and what every future can be combined by.
+//! Functions that make futures, and the extension methods of every future.
 ghost use Rattle.std.specs.Prelude.{◌≡◌, IfOk, List, OnErr, Some};
 ghost use Rattle.futures_lite.specs.Uses.{Poll, Gives, Finishes, LeftAs, LeftSeen, HasValue, Seen, Waited};
 
@@ -15,7 +15,15 @@ use std::alloc::{AllocError, AllocGlobal};
 use std::random::RandomSource;
 use std::sync::Wait;
 
-/// A future that is ready with `value` at the first poll. Ported from `core::future::ready`.
+/// Returns a future that is ready with `value` at the first poll. Do not poll it after that.
+///
+/// # Examples
+///
+/// ```
+/// use futures_lite::future;
+///
+/// assert_eq!(rt; future::block_on(&rt, future::ready(7u8))?, 7);
+/// ```
 #[tactic(auto, using(lite_views::proofs::Holding::ready_value))]
 pub fn ready<T>(value: T) -> Ready<T>
     ensures parts { result ≡ record { value = Some value } }
@@ -24,10 +32,22 @@ pub fn ready<T>(value: T) -> Ready<T>
     lite_base::future::make::ready(value)
 }
 
-/// Waits on this thread for a future, and answers its value. It may wait for ever, and a sleep costs the processor
-/// nothing. `AllocError`: the queue that it sleeps on was refused for memory, and the future was not polled. Who
-/// waits often holds a [`BlockOn`], which makes the queue once. The future is let go, so it has to be `Drop`; `wait_for`
-/// leaves it with its caller.
+/// Blocks this thread until `future` is ready, and returns its value.
+///
+/// The thread sleeps between polls, so a wait costs no processor time. It may wait for ever. The call drops
+/// `future`, so that has to be `Drop`; [`wait_for`] leaves the future with its caller. For repeated use keep
+/// a [`BlockOn`], which allocates once. The caller guarantees that `future` may be polled.
+///
+/// `AllocError` means that the queue to sleep on could not be allocated. The future was not polled then.
+///
+/// # Examples
+///
+/// ```
+/// use futures_lite::future;
+///
+/// let both = future::zip(future::yield_now(), future::ready(7u8));
+/// assert_eq!(rt; future::block_on(&rt, both)?, ((), 7));
+/// ```
 pub fn block_on<R, F>(rt: &R, future: F) -> Result<F::Output, AllocError>
 where
     R: Wait + RandomSource + AllocGlobal,
@@ -39,11 +59,26 @@ where
     lite_base::future::block_on::block_on(rt, future)
 }
 
-/// Waits on this thread for a future that stays with the caller, and answers its value. It may wait for ever.
+/// Blocks this thread until `future` is ready, and returns its value. The future stays with the caller.
 ///
-/// It is [`BlockOn::wait_for`] over a `BlockOn` of its own: `Err` says that there was no memory for that, and the future was not
-/// polled. What the future has behind a `&mut` is then known, where `block_on` lets the future go: wait so for `read_to_end` and
-/// the like. The original has no such call, and polls a `&mut` of a future.
+/// It may wait for ever. The contract also says in which state the future is left. So use this call when the
+/// future borrows something by `&mut` that the caller needs afterwards, as the future of `read_to_end` does.
+/// [`block_on`] drops the future. The caller guarantees that `future` may be polled.
+///
+/// The call is [`BlockOn::wait_for`] over a `BlockOn` of its own. `AllocError` means that this could not be
+/// allocated. The future was not polled then, and is unchanged.
+///
+/// # Examples
+///
+/// ```
+/// use futures_lite::{AsyncReadExt, future};
+///
+/// let mut bytes = Vec::new(rt.alloc());
+/// let mut reader = b"ab".as_slice();
+/// let mut reading = reader.read_to_end(&mut bytes);
+/// assert_eq!(rt; future::wait_for(&rt, &mut reading)??, 2);
+/// assert_eq!(rt; bytes.as_slice(), b"ab".as_slice());
+/// ```
 pub fn wait_for<R, F>(rt: &R, future: &mut F) -> Result<F::Output, AllocError>
 where
     R: Wait + RandomSource + AllocGlobal,
@@ -56,10 +91,24 @@ where
     BlockOn::new(rt)?.wait_for(rt, future)
 }
 
-/// What every future can be combined by. Ported from `src/future.rs`, `FutureExt`.
+/// Extension methods for [`Future`].
 pub trait FutureExt: Future {
-    /// A future of the value that is there first, and of this one's where both are: `other` is polled only where this
-    /// one was pending.
+    /// Returns a future that resolves to the value of the future that is ready first. It prefers `self` if
+    /// both are.
+    ///
+    /// Each poll polls `self`, and then `other` only if `self` returned `Pending`.
+    ///
+    /// # Examples
+    ///
+    /// ```
+    /// use futures_lite::{FutureExt, future};
+    ///
+    /// let both = future::ready(1u8).or(future::ready(2));
+    /// assert_eq!(rt; future::block_on(&rt, both)?, 1);
+    ///
+    /// let second = future::pending().or(future::ready(2u8));
+    /// assert_eq!(rt; future::block_on(&rt, second)?, 2);
+    /// ```
     final fn or<F>(self, other: F) -> Or<Self, F>
     where
         Self: Sized,
@@ -69,9 +118,24 @@ pub trait FutureExt: Future {
         or(self, other)
     }
 
-    /// A future of the value that is there first; where both are, the generator chooses: its next word, one a poll,
-    /// says by the lowest bit which is polled first, 1 this one; the other is polled only if that was pending. The
-    /// original takes a generator of the thread.
+    /// Returns a future that resolves to the value of the future that is ready first. If both are, `rng`
+    /// chooses.
+    ///
+    /// Each poll draws one word of `rng`. If its lowest bit is 1, `self` is polled first, otherwise `other`.
+    /// The other is polled only if that one returned `Pending`. Unlike futures-lite, the caller supplies the
+    /// generator.
+    ///
+    /// # Examples
+    ///
+    /// ```
+    /// use futures_lite::{FutureExt, future};
+    /// use rand_core::SeedableRng;
+    /// use rand_pcg::Pcg32;
+    ///
+    /// let rng = Pcg32::seed_from_u64(7);
+    /// let second = future::pending().race(future::ready(2u8), rng);
+    /// assert_eq!(rt; future::block_on(&rt, second)?, 2);
+    /// ```
     final fn race<F, G>(self, other: F, rng: G) -> Race<Self, F, G>
     where
         Self: Sized,

@@ -1,4 +1,4 @@
-//! Runs that are recorded, laws that a call states, and the marks: traits that are laws of a type.
+//! Functions whose contracts state laws over whole runs, and traits that are laws of a type.
 
 pub use lite_base::{CalmFuture, CalmStream, SteadyFuture, SteadyStream};
 pub use lite_bridge::answers_as_bare;

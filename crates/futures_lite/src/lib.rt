@@ -1,7 +1,8 @@
 //! Combinators for futures, streams and byte I/O: the library as its users see it.
 //!
-//! `future`, `stream` and `io` have futures, streams, readers and writers by the original's names, `laws` the recorded run; the
-//! traits stand here too, and `prelude` brings them all.
+//! The modules `future`, `stream` and `io` have the futures, streams, readers and writers, under the names of
+//! futures-lite. `laws` has functions that record runs, and laws. The traits are exported here too, and
+//! `prelude` exports them all.
 #![tactic(auto)]
 
 pub mod future;

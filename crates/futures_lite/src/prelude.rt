@@ -1,4 +1,4 @@
-//! The traits, and what they are extended by.
+//! All traits, with their extension traits.
 
 pub use crate::future::FutureExt;
 pub use crate::io::{

@@ -2,14 +2,12 @@ ghost use Rattle.lite_base.specs.Calm.{CalmLaws};
 
 use crate::stream::Stream;
 
-/// A stream of which some values, the calm ones, are never pending.
-///
-/// The original has no such trait.
+/// A stream with states from which it never returns `Pending`.
 pub trait CalmStream: Stream {
-    /// The values that are never pending, from now on.
+    /// The values that never return `Pending`, from now on.
     ghost is_calm: { Self → Type 0 };
 
-    /// Does nothing. The trait is its law.
+    /// Does nothing. The trait exists for its law.
     fn is_calm_stream(&self) {}
 
     ghost calm: { CalmLaws Self.run is_calm };

@@ -1,4 +1,4 @@
-//! Futures: the trait, what makes futures, and how two of them are combined.
+//! The trait of futures, functions that make futures, and combinators of two futures.
 ghost use Rattle.std.specs.Prelude.{[], ◌∷◌, ⊤};
 ghost use Rattle.lite_base.specs.Uses.{OnPending, Keeps, Lasting, Poll};
 ghost use Rattle.lite_base.specs.FutureLaws.{FutureLaws};
@@ -37,24 +37,80 @@ pub use try_zip::TryZip;
 pub use yield_now::YieldNow;
 pub use zip::Zip;
 
-/// A value that may not be there yet, and is asked for by polls.
+/// A computation that may not be done yet, and returns its value when polled.
 ///
-/// What a future answers is a relation over whole lists: some `Pending`, and at most one value.
-/// Ported from `std::future::Future`, without `Pin`.
+/// A contract describes the whole list of poll results: any number of `Pending`, and at most one value.
+/// Unlike `std::future::Future`, it is polled without `Pin`.
+///
+/// # Examples
+///
+/// A future of your own. Its contract says nothing of the value.
+///
+/// ```
+/// use futures_lite::{Context, Future, Poll, future};
+///
+/// #[derive(Drop)]
+/// struct Later {
+///     left: u8,
+///     value: u32,
+/// }
+///
+/// impl Future for Later {
+///     type Output = u32;
+///
+///     ghost use Rattle.futures_lite.specs.Own.{AnyValue, anything_future};
+///
+///     ghost run = { AnyValue };
+///
+///     ghost laws = { anything_future };
+///
+///     fn poll(&mut self, cx: &mut Context<'_>) -> Poll<u32> {
+///         if self.left == 0 {
+///             return Poll::Ready(self.value);
+///         }
+///         self.left -= 1;
+///         cx.yield_now()
+///     }
+/// }
+///
+/// assert_eq!(rt; future::block_on(&rt, Later { left: 2, value: 7 })?, 7);
+/// ```
 pub trait Future {
+    /// The type of the value.
     type Output;
 
-    /// The values that may be polled: those that have not answered ready before, and whose closures may be called.
+    /// The values that may be polled: those that have not returned `Ready` before, and whose closures may be
+    /// called.
     ghost can_poll: { Self → Type 0 } = { λ _. ⊤ };
 
-    /// From the first value, polls gave these answers in order, and left the second value.
+    /// From the first value, polls returned these results in order, and left the second value.
     ghost run: { Runs (Poll Self.Output) Self };
 
-    /// What a poll that left this value, and was pending, has registered in its context.
+    /// What a poll that returned `Pending` and left this value has registered in its context.
     ghost registers: { Self → Lasting → Type 0 } = { λ _ _. ⊥ };
 
-    /// Asks for the value. `Poll::Pending` says that it is not there yet, and the future may be polled again;
-    /// `Poll::Ready` hands the value out, after which the future may not be polled, unless its type says more.
+    /// Polls the future for its value.
+    ///
+    /// `Poll::Pending` means that the value is not there yet; the future may be polled again. `Poll::Ready`
+    /// holds the value. Do not poll the future after that, unless its type says that this is allowed. What
+    /// `cx` holds stays there.
+    ///
+    /// # Examples
+    ///
+    /// ```
+    /// use futures_lite::{Doorbell, Future, Poll, Solo, future};
+    ///
+    /// let solo = Solo::new(&rt, Doorbell::spinning())?;
+    /// let mut yielding = future::yield_now();
+    ///
+    /// let mut cx = solo.begin();
+    /// let first = yielding.poll(&mut cx);
+    /// let second = yielding.poll(&mut cx);
+    /// cx.cancel();
+    ///
+    /// assert_eq!(rt; first, Poll::Pending);
+    /// assert_eq!(rt; second, Poll::Ready(()));
+    /// ```
     fn poll(&mut self, cx: &mut Context<'_>) -> Poll<Self::Output>
         requires { can_poll self.old }
         ensures ran { run self.old (result ∷ []) self.new }

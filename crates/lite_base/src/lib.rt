@@ -1,5 +1,5 @@
-//! What the other crates stand on: lists of answers, ranks, the traits of futures and streams, the futures, and
-//! the one loop without a count.
+//! What the other crates build on: the traits of futures and streams, ranks, the futures, and the one loop
+//! without a count.
 #![tactic(auto)]
 
 mod calm;

@@ -5,23 +5,25 @@ ghost use Rattle.lite_base.specs.Ranks.{Ranks};
 
 use crate::stream::Stream;
 
-/// A stream of Results whose rank falls with each `Ok` item, so that no chain of `Ok` items is endless.
+/// A stream of `Result`s that cannot yield `Ok` items for ever without an `Err`, a `Pending` or an end
+/// between them.
 ///
-/// A poll that goes on over `Ok` items until there is an answer asks for such a source, and so it returns. Each
-/// [`Counted`](crate::Counted) stream of Results is one; so are streams that answer `Err` as often as they are asked, as
-/// a clone that is refused. The original has no such trait.
+/// Futures that may consume many `Ok` items within one poll require it, because it guarantees that the poll
+/// returns. Each `Ok` item lowers a rank, as in [`Counted`](crate::Counted). Every `Counted` stream of
+/// `Result`s is one. So is a stream that yields `Err` at every poll, for example because each clone is
+/// refused.
 pub trait OkCounted: Stream<Item = Result<Self::Ok, Self::Err>> {
-    /// What an item holds that is `Ok`.
+    /// The type of the value in an `Ok` item.
     type Ok;
 
-    /// What an item holds that is an error.
+    /// The type of the error in an `Err` item.
     type Err;
 
-    /// The rank, and the values at which it counts and at which it is firm. Each poll keeps both.
+    /// The rank, the values at which it counts, and those at which it is firm. Each poll keeps both.
     ghost ok_ranks: { Ranks Self };
 
-    /// Does nothing. The trait is its laws; a trait without a function cannot be implemented for a type that holds
-    /// a closure.
+    /// Does nothing. The trait exists for its laws. A trait without a function cannot be implemented for a
+    /// type that holds a closure.
     fn is_ok_counted(&self) {}
 
     ghost ok_counting: { OkCounting Self.run ok_ranks };

@@ -7,37 +7,39 @@ ghost use Rattle.lite_base.specs.Registered.{Registered};
 use futures::task::{Context, Poll};
 use std::mem;
 
-/// A poll that is made of steps: each goes on, or answers.
+/// A poll that is made of steps. Each step returns a poll result, or `None` to make another step.
 ///
-/// It is how a poll loops without a count: a type says what one step does and why no chain of steps is endless, and
-/// [`drive`] makes the steps. The original has no such trait.
+/// It is how a poll loops without a count. A type defines what one step does, and why no chain of steps is
+/// endless. [`drive`] makes the steps.
 pub trait PollSteps {
+    /// The type of the value in a `Ready` result.
     type Output;
 
-    /// One step, and its answer. With `None` the poll goes on.
+    /// One step, and what it returned. After `None` there is another step.
     ghost step: { Self → Option (Poll Self.Output) → Self → Type 0 };
 
     /// The values at which a step may be made.
     ghost can_step: { Self → Type 0 };
 
-    /// What a step that left this value, and was pending, has registered in its context.
+    /// What a step that returned `Pending` and left this value has registered in its context.
     ghost step_registers: { Self → Lasting → Type 0 } = { λ _ _. ⊥ };
 
-    /// Makes one step. `None` says that the poll goes on, `Some` is its answer.
+    /// Makes one step. `Some(result)` is the result of the poll; after `None` another step has to be made.
     fn poll_step(&mut self, cx: &mut Context<'_>) -> Option<Poll<Self::Output>>
         requires { can_step self.old }
         ensures stepped { step self.old result self.new }
         ensures left { IfSome result (λ answer. Registered answer (step_registers self.new) cx.new) }
         ensures kept { Keeps cx.old cx.new };
 
-    /// After a step that goes on another may be made.
+    /// After a step that returned `None` another may be made.
     ghost goes_on: { (x y : Self) → can_step x → step x None y → can_step y };
 
-    /// No chain of steps that go on is endless.
+    /// No chain of steps that return `None` is endless.
     ghost finite: { (x : Self) → can_step x → Terminates (NextStep step) x };
 }
 
-/// Makes steps until one answers, and hands its answer on. It is the one loop of the library that has no count.
+/// Makes steps until one returns a poll result, and returns that. It is the one loop of the library that has
+/// no count.
 #[inline]
 pub fn drive<T: PollSteps>(t: &mut T, cx: &mut Context<'_>) -> Poll<T::Output>
     requires { T.can_step t.old }
@@ -53,7 +55,7 @@ pub fn drive<T: PollSteps>(t: &mut T, cx: &mut Context<'_>) -> Poll<T::Output>
     }
 }
 
-/// Makes steps until one answers, and puts its answer into `out`.
+/// Makes steps until one returns a poll result, and puts that into `out`.
 #[inline]
 fn drive_into<T: PollSteps>(t: &mut T, cx: &mut Context<'_>, out: &mut Option<Poll<T::Output>>)
     requires step { T.can_step t.old }
@@ -70,7 +72,7 @@ fn drive_into<T: PollSteps>(t: &mut T, cx: &mut Context<'_>, out: &mut Option<Po
     }
 }
 
-/// Makes one step, and puts its answer into `out`, if there is one.
+/// Makes one step, and puts its poll result into `out`, if there is one.
 #[inline]
 fn step_into<T: PollSteps>(
     t: &mut T,

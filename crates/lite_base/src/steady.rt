@@ -6,23 +6,21 @@ ghost use Rattle.lite_base.specs.Runs.{Runs};
 
 use crate::stream::Stream;
 
-/// A stream whose answers do not depend on when it was pending, where memory was found.
-///
-/// The original has no such trait: it is a law, which its documentation leaves unsaid.
+/// A stream whose items and ends do not depend on when it was pending, unless memory was refused.
 pub trait SteadyStream: Stream {
     /// The runs in which no memory was refused.
     ghost ample: { Runs (Answer Self.Item) Self };
 
-    /// That no poll asks for memory; then each run is ample.
+    /// No poll allocates. Then each run is ample.
     ghost needs_none: { Type 0 } = { ⊤ };
 
-    /// When two items are the same: where they are equal, if its type says nothing else.
+    /// When two items are the same. By default they are if they are equal.
     ghost same: { Sameness Self.Item } = { Sameness.equal };
 
-    /// The values whose answers are the same, pendings aside.
+    /// The values that yield the same, apart from `Pending`.
     ghost alike: { Self → Self → Type 0 };
 
-    /// Does nothing. The trait is its law.
+    /// Does nothing. The trait exists for its law.
     fn is_steady(&self) {}
 
     ghost steady: { SteadyLawsBy same Self.run ample needs_none alike };

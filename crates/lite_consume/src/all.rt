@@ -7,16 +7,17 @@ use crate::consume::Consume;
 use crate::folder::Folder;
 use lite_base::Counted;
 
-/// Whether a predicate accepts each item of a stream; it does where there is none.
+/// A future that resolves to whether a predicate returns true for each item of a stream. It is true if there
+/// is no item.
 ///
-/// Made by [`all`](crate::make::all). The first item that the predicate rejects decides, and the stream goes on behind it.
-/// Ported from `src/stream.rs`, `AllFuture`.
+/// Returned by [`all`](crate::make::all). The first item for which the predicate returns false decides. The
+/// stream is left after that item.
 pub type AllFuture<'a, S, P> = Consume<&'a mut S, All<P>>;
 
-/// Asks the predicate about each item, and decides at the first that it rejects.
+/// Calls the predicate with each item. The first one for which it returns false decides.
 #[derive(Debug, Drop)]
 pub struct All<P> {
-    /// What each item is tested by.
+    /// The predicate that is called with each item.
     pub predicate: P,
 }
 

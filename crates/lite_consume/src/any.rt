@@ -7,16 +7,17 @@ use crate::consume::Consume;
 use crate::folder::Folder;
 use lite_base::Counted;
 
-/// Whether a predicate accepts an item of a stream; it does not where there is none.
+/// A future that resolves to whether a predicate returns true for an item of a stream. It is false if there
+/// is no item.
 ///
-/// Made by [`any`](crate::make::any). The first item that the predicate accepts decides, and the stream goes on behind it.
-/// Ported from `src/stream.rs`, `AnyFuture`.
+/// Returned by [`any`](crate::make::any). The first item for which the predicate returns true decides. The
+/// stream is left after that item.
 pub type AnyFuture<'a, S, P> = Consume<&'a mut S, Any<P>>;
 
-/// Asks the predicate about each item, and decides at the first that it accepts.
+/// Calls the predicate with each item. The first one for which it returns true decides.
 #[derive(Debug, Drop)]
 pub struct Any<P> {
-    /// What each item is tested by.
+    /// The predicate that is called with each item.
     pub predicate: P,
 }
 

@@ -26,10 +26,12 @@ use std::sync::Wait;
 
 /// A stream whose items are waited for on this thread.
 ///
-/// Made by [`block_on`](crate::make::block_on). Each method waits for one future over the stream, and leaves the stream as
-/// that does. The first method that is called allocates what a wait needs. If that allocation fails, the method returns
-/// `Err`, and the stream was not polled. No later call allocates, so none returns `Err`. Ported from `src/stream.rs`, `BlockOn`, which is an
-/// `Iterator`; here the methods are its own, since the first may fail.
+/// Returned by [`block_on`](crate::make::block_on). Each method blocks the thread until one future over the
+/// stream is ready, and leaves the stream in the state in which that future leaves it.
+///
+/// The first method that is called allocates what a wait needs. If that fails, the method returns `Err`, and
+/// the stream was not polled. No later call allocates, so no later call returns `Err`. Unlike that of
+/// futures-lite, the type is no `Iterator`, because the first call may fail.
 #[derive(Drop)]
 pub struct BlockOn<R, S> {
     pub(crate) rt: R,
@@ -47,7 +49,7 @@ impl<R, S: fmt::Debug> fmt::Debug for BlockOn<R, S> {
 impl<R: Wait + RandomSource + AllocGlobal, S: Stream> BlockOn<R, S> {
     ghost use Rattle.lite_consume.specs.BlockOn.{NeverWaited};
 
-    /// What `folder` makes of the items. What is waited with is made where there is none yet.
+    /// Waits for what `folder` makes of the items. If there is no `waiter` yet, the call makes one.
     fn ask<F: Folder<S> + Drop>(&mut self, mut folder: F) -> Result<F::Output, AllocError>
         requires polls { S.can_poll self.old.stream }
         requires counts { F.counts self.old.stream }
@@ -67,7 +69,20 @@ impl<R: Wait + RandomSource + AllocGlobal, S: Stream> BlockOn<R, S> {
         waiter.wait_for(&self.rt, &mut consume(&mut self.stream, &mut folder))
     }
 
-    /// The next item, and `None` where the stream ends. It may wait for ever.
+    /// Blocks until the stream yields an item, and returns it, or returns `None` at an end.
+    ///
+    /// It may wait for ever. `Err` means an allocation failure, in the first call only. The caller guarantees
+    /// that the stream may be polled.
+    ///
+    /// # Examples
+    ///
+    /// ```
+    /// use futures_lite::stream;
+    ///
+    /// let mut seven = stream::block_on(rt, stream::once(7u8));
+    /// assert_eq!(rt; seven.next()?, Some(7));
+    /// assert_eq!(rt; seven.next()?, None);
+    /// ```
     pub fn next(&mut self) -> Result<Option<S::Item>, AllocError>
         requires polls { S.can_poll self.old.stream }
         ensures gave { IfOk result (λ value. BlockGives nexts S.run self.old.stream nothing value self.new.stream) }
@@ -78,8 +93,22 @@ impl<R: Wait + RandomSource + AllocGlobal, S: Stream> BlockOn<R, S> {
         self.ask(Next)
     }
 
-    /// The item with the number `n`, counted from 0, and `None` where the stream ends before it. It may wait for ever. The
-    /// items before that one are let go, so they have to be `Drop`.
+    /// Blocks until the stream yields the item with the index `n`, counted from 0, and returns it.
+    ///
+    /// It returns `None` if the stream ends before. The items before that one are dropped, so they have to be
+    /// `Drop`. It may wait for ever. `Err` means an allocation failure, in the first call only. The caller
+    /// guarantees that the stream may be polled.
+    ///
+    /// # Examples
+    ///
+    /// ```
+    /// use futures_lite::stream;
+    ///
+    /// let mut numbers = stream::block_on(rt, stream::iter(1u8..4));
+    /// assert_eq!(rt; numbers.nth(1)?, Some(2));
+    /// assert_eq!(rt; numbers.nth(0)?, Some(3));
+    /// assert_eq!(rt; numbers.nth(0)?, None);
+    /// ```
     pub fn nth(&mut self, n: usize) -> Result<Option<S::Item>, AllocError>
     where
         S: Stream<Item: Drop>,
@@ -92,8 +121,21 @@ impl<R: Wait + RandomSource + AllocGlobal, S: Stream> BlockOn<R, S> {
         self.ask(Nth { n })
     }
 
-    /// How many items there are before the end. After `usize::MAX` comes 0. It may wait for ever. The items, the stream and
-    /// the runtime are let go, so they have to be `Drop`.
+    /// Blocks until the stream ends, and returns the number of its items, modulo 2^64.
+    ///
+    /// It drops the items, the stream and the runtime, so they have to be `Drop`. It may wait for ever. `Err`
+    /// means an allocation failure, in the first call only. The stream must be `Counted`, because one poll
+    /// may consume many items. The caller guarantees that `ranks.counts` holds for it, and that it may be
+    /// polled.
+    ///
+    /// # Examples
+    ///
+    /// ```
+    /// use futures_lite::stream;
+    ///
+    /// let numbers = stream::block_on(rt, stream::iter(1u8..4));
+    /// assert_eq!(rt; numbers.count()?, 3);
+    /// ```
     pub fn count(mut self) -> Result<usize, AllocError>
     where
         R: Drop,
@@ -106,8 +148,21 @@ impl<R: Wait + RandomSource + AllocGlobal, S: Stream> BlockOn<R, S> {
         self.ask(Count { count: 0 })
     }
 
-    /// The last item before the end, and `None` where there is none. It may wait for ever. The other items, the stream and
-    /// the runtime are let go, so they have to be `Drop`.
+    /// Blocks until the stream ends, and returns its last item, or `None` if there is none.
+    ///
+    /// It drops the other items, the stream and the runtime, so they have to be `Drop`. It may wait for ever.
+    /// `Err` means an allocation failure, in the first call only. The stream must be `Counted`, because one
+    /// poll may consume many items. The caller guarantees that `ranks.counts` holds for it, and that it may
+    /// be polled.
+    ///
+    /// # Examples
+    ///
+    /// ```
+    /// use futures_lite::stream;
+    ///
+    /// let numbers = stream::block_on(rt, stream::iter(1u8..4));
+    /// assert_eq!(rt; numbers.last()?, Some(3));
+    /// ```
     pub fn last(mut self) -> Result<Option<S::Item>, AllocError>
     where
         R: Drop,
@@ -120,8 +175,22 @@ impl<R: Wait + RandomSource + AllocGlobal, S: Stream> BlockOn<R, S> {
         self.ask(Last { last: None })
     }
 
-    /// What `f` makes of `init` and of the items before the end, one after the other. It may wait for ever. `f`, what it
-    /// makes, the stream and the runtime have to be `Drop`.
+    /// Blocks until the stream ends, and returns its items folded into `init` by `f`, one after the other.
+    ///
+    /// `f`, the accumulator, the stream and the runtime have to be `Drop`. It may wait for ever. `Err` means
+    /// an allocation failure, in the first call only. The stream must be `Counted`, because one poll may
+    /// consume many items. The caller guarantees that `ranks.counts` holds for it, that it may be polled, and
+    /// that `f` may be called with each item.
+    ///
+    /// # Examples
+    ///
+    /// ```
+    /// use futures_lite::stream;
+    ///
+    /// let numbers = stream::block_on(rt, stream::iter(1u32..4));
+    /// let digits = numbers.fold(0, |digits: u32, x: u32| digits * 10 + x)?;
+    /// assert_eq!(rt; digits, 123);
+    /// ```
     pub fn fold<T, F>(mut self, init: T, f: F) -> Result<T, AllocError>
     where
         R: Drop,
@@ -138,7 +207,24 @@ impl<R: Wait + RandomSource + AllocGlobal, S: Stream> BlockOn<R, S> {
         self.ask(Fold { f, acc: Some(init) })
     }
 
-    /// Calls `f` with each item before the end. It may wait for ever. `f`, the stream and the runtime have to be `Drop`.
+    /// Blocks until the stream ends, and calls `f` with each item.
+    ///
+    /// `f`, the stream and the runtime have to be `Drop`. It may wait for ever. `Err` means an allocation
+    /// failure, in the first call only. The stream must be `Counted`, because one poll may consume many
+    /// items. The caller guarantees that `ranks.counts` holds for it, that it may be polled, and that `f` may
+    /// be called with each item.
+    ///
+    /// # Examples
+    ///
+    /// ```
+    /// use futures_lite::stream;
+    /// use std::cell::Cell;
+    ///
+    /// let sum = Cell::new(0u8);
+    /// let numbers = stream::block_on(rt, stream::iter(1u8..4));
+    /// numbers.for_each(|x: u8| sum.set(sum.get() + x))?;
+    /// assert_eq!(rt; sum.get(), 6);
+    /// ```
     pub fn for_each<F>(mut self, f: F) -> Result<(), AllocError>
     where
         R: Drop,
@@ -154,8 +240,23 @@ impl<R: Wait + RandomSource + AllocGlobal, S: Stream> BlockOn<R, S> {
         self.ask(ForEach { f })
     }
 
-    /// Whether `predicate` accepts each item; the first one that it rejects decides. It may wait for ever.
-    /// `predicate` has to be `Drop`.
+    /// Blocks until `predicate` returns false for an item, or the stream ends. Returns whether it was true
+    /// for each item.
+    ///
+    /// The stream is left after the item that decided. `predicate` has to be `Drop`. It may wait for ever.
+    /// `Err` means an allocation failure, in the first call only. The stream must be `Counted`, because one
+    /// poll may consume many items. The caller guarantees that `ranks.counts` holds for it, that it may be
+    /// polled, and that `predicate` may be called with each item.
+    ///
+    /// # Examples
+    ///
+    /// ```
+    /// use futures_lite::stream;
+    ///
+    /// let mut numbers = stream::block_on(rt, stream::iter(1u8..4));
+    /// assert_eq!(rt; numbers.all(|x: u8| x < 2)?, false);
+    /// assert_eq!(rt; numbers.next()?, Some(3));
+    /// ```
     pub fn all<P>(&mut self, predicate: P) -> Result<bool, AllocError>
     where
         S: Counted,
@@ -172,8 +273,23 @@ impl<R: Wait + RandomSource + AllocGlobal, S: Stream> BlockOn<R, S> {
         self.ask(All { predicate })
     }
 
-    /// Whether `predicate` accepts an item; the first one that it accepts decides. It may wait for ever.
-    /// `predicate` has to be `Drop`.
+    /// Blocks until `predicate` returns true for an item, or the stream ends. Returns whether it was true for
+    /// an item.
+    ///
+    /// The stream is left after the item that decided. `predicate` has to be `Drop`. It may wait for ever.
+    /// `Err` means an allocation failure, in the first call only. The stream must be `Counted`, because one
+    /// poll may consume many items. The caller guarantees that `ranks.counts` holds for it, that it may be
+    /// polled, and that `predicate` may be called with each item.
+    ///
+    /// # Examples
+    ///
+    /// ```
+    /// use futures_lite::stream;
+    ///
+    /// let mut numbers = stream::block_on(rt, stream::iter(1u8..4));
+    /// assert_eq!(rt; numbers.any(|x: u8| x == 2)?, true);
+    /// assert_eq!(rt; numbers.next()?, Some(3));
+    /// ```
     pub fn any<P>(&mut self, predicate: P) -> Result<bool, AllocError>
     where
         S: Counted,
@@ -190,8 +306,24 @@ impl<R: Wait + RandomSource + AllocGlobal, S: Stream> BlockOn<R, S> {
         self.ask(Any { predicate })
     }
 
-    /// The first item that `predicate` accepts, and `None` where the stream ends before it. It may wait for ever. The items
-    /// before that one are let go, so they have to be `Drop`, and so has `predicate`.
+    /// Blocks until `predicate` returns true for an item, and returns that item, or `None` if the stream ends
+    /// before.
+    ///
+    /// The items before that one are dropped, so they have to be `Drop`, and so has `predicate`. The stream
+    /// is left after that item. It may wait for ever. `Err` means an allocation failure, in the first call
+    /// only. The stream must be `Counted`, because one poll may consume many items. The caller guarantees
+    /// that `ranks.counts` holds for it, that it may be polled, and that `predicate` may be called with each
+    /// item.
+    ///
+    /// # Examples
+    ///
+    /// ```
+    /// use futures_lite::stream;
+    ///
+    /// let mut numbers = stream::block_on(rt, stream::iter(1u8..4));
+    /// assert_eq!(rt; numbers.find(|x: &u8| *x % 2 == 0)?, Some(2));
+    /// assert_eq!(rt; numbers.find(|x: &u8| *x % 2 == 0)?, None);
+    /// ```
     pub fn find<P>(&mut self, predicate: P) -> Result<Option<S::Item>, AllocError>
     where
         S: Counted<Item: Drop>,
@@ -208,8 +340,24 @@ impl<R: Wait + RandomSource + AllocGlobal, S: Stream> BlockOn<R, S> {
         self.ask(Find { predicate })
     }
 
-    /// The first answer of `f` to the items that is not `None`, and `None` where the stream ends before it. It may wait for
-    /// ever. `f` has to be `Drop`.
+    /// Blocks until `f` returns `Some(value)` for an item, and returns that, or `None` if the stream ends
+    /// before.
+    ///
+    /// The stream is left after that item. `f` has to be `Drop`. It may wait for ever. `Err` means an
+    /// allocation failure, in the first call only. The stream must be `Counted`, because one poll may consume
+    /// many items. The caller guarantees that `ranks.counts` holds for it, that it may be polled, and that
+    /// `f` may be called with each item.
+    ///
+    /// # Examples
+    ///
+    /// ```
+    /// use futures_lite::stream;
+    ///
+    /// let mut numbers = stream::block_on(rt, stream::iter(1u8..4));
+    /// let double = numbers.find_map(|x: u8| if x == 2 { Some(x * 2) } else { None });
+    /// assert_eq!(rt; double?, Some(4));
+    /// assert_eq!(rt; numbers.next()?, Some(3));
+    /// ```
     pub fn find_map<F, B>(&mut self, f: F) -> Result<Option<B>, AllocError>
     where
         S: Counted,
@@ -226,8 +374,25 @@ impl<R: Wait + RandomSource + AllocGlobal, S: Stream> BlockOn<R, S> {
         self.ask(FindMap { f })
     }
 
-    /// The number of the first item that `predicate` accepts, counted from 0, and `None` where the stream ends before it.
-    /// After `usize::MAX` comes 0. It may wait for ever. `predicate` has to be `Drop`.
+    /// Blocks until `predicate` returns true for an item, and returns its index, or `None` if the stream ends
+    /// before.
+    ///
+    /// The index counts from 0, at the next item of the stream, and modulo 2^64. The stream is left after
+    /// that item. `predicate` has to be `Drop`. It may wait for ever. `Err` means an allocation failure, in
+    /// the first call only. The stream must be `Counted`, because one poll may consume many items. The caller
+    /// guarantees that `ranks.counts` holds for it, that it may be polled, and that `predicate` may be called
+    /// with each item.
+    ///
+    /// # Examples
+    ///
+    /// ```
+    /// use futures_lite::stream;
+    ///
+    /// let mut numbers = stream::block_on(rt, stream::iter(1u8..4));
+    /// assert_eq!(rt; numbers.position(|x: u8| x == 2)?, Some(1));
+    /// assert_eq!(rt; numbers.position(|x: u8| x == 3)?, Some(0));
+    /// assert_eq!(rt; numbers.position(|x: u8| x == 4)?, None);
+    /// ```
     pub fn position<P>(&mut self, predicate: P) -> Result<Option<usize>, AllocError>
     where
         S: Counted,
@@ -248,7 +413,18 @@ impl<R: Wait + RandomSource + AllocGlobal, S: Stream> BlockOn<R, S> {
         })
     }
 
-    /// How many items are left before the first end, as the stream hints.
+    /// Returns the size hint of the stream: bounds on the number of items before its first end.
+    ///
+    /// # Examples
+    ///
+    /// ```
+    /// use futures_lite::stream;
+    ///
+    /// let mut numbers = stream::block_on(rt, stream::iter(1u8..4));
+    /// assert_eq!(rt; numbers.size_hint(), (3, Some(3)));
+    /// assert_eq!(rt; numbers.next()?, Some(1));
+    /// assert_eq!(rt; numbers.size_hint(), (2, Some(2)));
+    /// ```
     pub fn size_hint(&self) -> (usize, Option<usize>)
         ensures { S.hints self.now.stream result }
     {

@@ -5,11 +5,22 @@ ghost use Rattle.lite_consume.specs.Laws.Consuming.{consumed_laws};
 use crate::folder::Folder;
 use lite_base::{Context, Future, Poll, PollSteps, Stream, drive};
 
-/// The value that is made of the items of a stream.
+/// A future that resolves to what a [`Folder`] makes of the items of a stream.
 ///
-/// A poll takes in items until one decides, or the stream is pending or ends; what was taken in is kept across pendings.
-/// After the value the stream stands behind the item that decided, or behind its end. The futures of the original that
-/// consume a stream are this one over what they make of the items.
+/// One poll consumes items until one decides, or the stream is pending, or it ends. What was made of the
+/// items so far is kept while the stream is pending. After the value, the stream is left after the item that
+/// decided, or after its end. All futures that consume a stream, such as `CountFuture`, are this type with a
+/// folder of their own.
+///
+/// # Examples
+///
+/// ```
+/// use futures_lite::stream::{self, Consume};
+/// use futures_lite::{StreamExt, future};
+///
+/// let counting: Consume<_, _> = stream::iter(1u8..4).count();
+/// assert_eq!(rt; future::block_on(&rt, counting)?, 3);
+/// ```
 #[derive(Debug, Drop)]
 pub struct Consume<S, F> {
     pub(crate) stream: S,

@@ -6,15 +6,15 @@ use crate::consume::Consume;
 use crate::folder::Folder;
 use lite_base::Counted;
 
-/// How many items a stream has, up to its end, in 64 bits.
+/// A future that resolves to the number of items of a stream up to its end, modulo 2^64.
 ///
-/// Made by [`count`](crate::make::count). Ported from `src/stream.rs`, `CountFuture`.
+/// Returned by [`count`](crate::make::count).
 pub type CountFuture<S> = Consume<S, Count>;
 
-/// Counts the items that it takes in.
+/// Counts the items.
 #[derive(Debug, Drop)]
 pub struct Count {
-    /// How many items were taken in, in 64 bits.
+    /// How many items were counted, modulo 2^64.
     pub count: usize,
 }
 

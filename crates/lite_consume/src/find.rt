@@ -7,16 +7,16 @@ use crate::consume::Consume;
 use crate::folder::Folder;
 use lite_base::Counted;
 
-/// The first item of a stream that a predicate accepts, and `None` where the stream ends before it.
+/// A future that resolves to the first item of a stream for which a predicate returns true, or to `None` at
+/// an end.
 ///
-/// Made by [`find`](crate::make::find). After the value the stream goes on behind that item. Ported from `src/stream.rs`,
-/// `FindFuture`.
+/// Returned by [`find`](crate::make::find). The stream is left after that item.
 pub type FindFuture<'a, S, P> = Consume<&'a mut S, Find<P>>;
 
-/// Asks the predicate about each item, and decides at the first that it accepts.
+/// Calls the predicate with each item. The first one for which it returns true decides.
 #[derive(Debug, Drop)]
 pub struct Find<P> {
-    /// What each item is tested by.
+    /// The predicate that is called with each item.
     pub predicate: P,
 }
 

@@ -7,16 +7,16 @@ use crate::consume::Consume;
 use crate::folder::Folder;
 use lite_base::Counted;
 
-/// The first answer of a function to the items of a stream that is not `None`, and `None` where the stream ends before it.
+/// A future that resolves to the first result of a closure on the items of a stream that is not `None`, or to
+/// `None` at an end.
 ///
-/// Made by [`find_map`](crate::make::find_map). After the value the stream goes on behind that item. Ported from
-/// `src/stream.rs`, `FindMapFuture`.
+/// Returned by [`find_map`](crate::make::find_map). The stream is left after that item.
 pub type FindMapFuture<'a, S, F> = Consume<&'a mut S, FindMap<F>>;
 
-/// Calls the function with each item, and decides at its first answer that is not `None`.
+/// Calls the closure with each item. Its first result that is not `None` decides.
 #[derive(Debug, Drop)]
 pub struct FindMap<F> {
-    /// What is called with each item.
+    /// The closure that is called with each item.
     pub f: F,
 }
 

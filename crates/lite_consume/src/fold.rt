@@ -8,18 +8,18 @@ use crate::consume::Consume;
 use crate::folder::Folder;
 use lite_base::Counted;
 
-/// What a function makes of a start and of the items of a stream, one after the other.
+/// A future that folds the items of a stream, one after the other, into an accumulator.
 ///
-/// Made by [`fold`](crate::make::fold). What was folded is kept across pendings; the value is handed out at the end, after
-/// which the future may not be polled. Ported from `src/stream.rs`, `FoldFuture`.
+/// Returned by [`fold`](crate::make::fold). The accumulator is kept while the stream is pending. It is the
+/// value at the end. Do not poll the future after that.
 pub type FoldFuture<S, F, T> = Consume<S, Fold<F, T>>;
 
-/// Calls the function with what was folded and each item; the answer is folded next.
+/// Calls the closure with the accumulator and each item. The result is the next accumulator.
 #[derive(Debug, Drop)]
 pub struct Fold<F, T> {
-    /// What is called with what was folded and each item.
+    /// The closure that is called with the accumulator and each item.
     pub f: F,
-    /// What was folded so far; `None` says that it was handed out.
+    /// The accumulator; `None` after it was returned.
     pub acc: Option<T>,
 }
 

@@ -6,32 +6,110 @@ ghost use Rattle.lite_consume.specs.PollSteps.{Returns};
 
 use lite_base::{SteadyStream, Stream};
 
-/// What a future makes of the items of the stream `S`: they are taken in one after the other, until the stream ends or an
-/// item decides.
+/// Consumes the items of a stream of the type `S`, one after the other, until the stream ends or an item
+/// decides.
 ///
-/// [`Consume`](crate::Consume) is the future that asks it. The original has no such trait: each of its futures has a loop.
+/// [`Consume`](crate::Consume) is the future that calls it.
 pub trait Folder<S: Stream> {
+    /// The type of the value.
     type Output;
 
     /// What is made of the items.
     ghost fold: { Fold Self S.Item Self.Output };
 
-    /// The items that may be taken in.
+    /// The items that may be consumed.
     ghost can_take: { Self → S.Item → Type 0 } = { λ _ _. ⊤ };
 
-    /// The values that have not given theirs yet.
+    /// The values that have not returned their value yet.
     ghost is_open: { Self → Type 0 } = { λ _. ⊤ };
 
-    /// The streams whose items may be taken in: those whose rank counts, where items are taken in without a count.
+    /// The streams whose items may be consumed. If the folder may consume any number of them, `ranks.counts`
+    /// has to hold.
     ghost counts: { S → Type 0 } = { λ _. ⊤ };
 
-    /// Takes in an item. `Some` says that the item decides, and what the value is.
+    /// Consumes an item. `Some(value)` means that the item decides; `value` is what the future resolves to.
+    ///
+    /// The caller guarantees that the folder has not returned its value yet, and that it may consume this
+    /// item.
+    ///
+    /// # Examples
+    ///
+    /// ```
+    /// use futures_lite::stream::{Folder, Iter};
+    /// use std::ops::Range;
+    ///
+    /// /// The sum of the numbers up to the first 0.
+    /// #[derive(Drop)]
+    /// struct Sum {
+    ///     sum: u32,
+    /// }
+    ///
+    /// // The `?` are for the definition of the sum, and for the proof that a poll returns.
+    /// impl Folder<Iter<Range<u32>>> for Sum {
+    ///     type Output = u32;
+    ///
+    ///     ghost fold = { ? };
+    ///
+    ///     fn take_in(&mut self, item: u32) -> Option<u32> {
+    ///         self.sum += item;
+    ///         if item == 0 { Some(self.sum) } else { None }
+    ///     }
+    ///
+    ///     fn close(&mut self) -> u32 {
+    ///         self.sum
+    ///     }
+    ///
+    ///     ghost returns = { ? };
+    /// }
+    ///
+    /// let mut folder = Sum { sum: 0 };
+    /// assert_eq!(rt; folder.take_in(5), None);
+    /// assert_eq!(rt; folder.take_in(0), Some(5));
+    /// ```
     fn take_in(&mut self, item: S::Item) -> Option<Self::Output>
         requires open { is_open self.old }
         requires takes { can_take self.old item }
         ensures { fold.asks self.old item result self.new };
 
-    /// The value at an end.
+    /// Returns the value at an end of the stream.
+    ///
+    /// The caller guarantees that the folder has not returned its value yet.
+    ///
+    /// # Examples
+    ///
+    /// ```
+    /// use futures_lite::stream::{Folder, Iter};
+    /// use std::ops::Range;
+    ///
+    /// /// The number of items.
+    /// #[derive(Drop)]
+    /// struct Tally {
+    ///     count: u32,
+    /// }
+    ///
+    /// // The `?` are for the definition of the count, and for the proof that a poll returns.
+    /// impl Folder<Iter<Range<u32>>> for Tally {
+    ///     type Output = u32;
+    ///
+    ///     ghost fold = { ? };
+    ///
+    ///     fn take_in(&mut self, _item: u32) -> Option<u32> {
+    ///         self.count += 1;
+    ///         None
+    ///     }
+    ///
+    ///     fn close(&mut self) -> u32 {
+    ///         self.count
+    ///     }
+    ///
+    ///     ghost returns = { ? };
+    /// }
+    ///
+    /// let mut folder = Tally { count: 0 };
+    /// assert_eq!(rt; folder.take_in(5), None);
+    /// assert_eq!(rt; folder.take_in(0), None);
+    /// assert_eq!(rt; folder.close(), 2);
+    /// ```
     fn close(&mut self) -> Self::Output
         requires { is_open self.old }
         ensures { fold.closes self.old result self.new };
@@ -39,23 +117,23 @@ pub trait Folder<S: Stream> {
     ghost returns: { Returns S.run fold counts is_open };
 }
 
-/// What makes the same of items that are the same for the stream, where memory was found.
+/// A [`Folder`] whose value depends only on the items, unless memory was refused.
 ///
-/// Its future over a steady stream is a steady one. The original has no such trait.
+/// Its future over a `SteadyStream` is a `SteadyFuture`. Items are compared with the stream's `same`.
 pub trait SteadyFolder<S: SteadyStream>: Folder<S> {
     /// The steps in which no memory was refused.
     ghost ample: { Fold Self S.Item Self.Output };
 
-    /// That no step asks for memory; then each is ample.
+    /// No step allocates. Then each is ample.
     ghost needs_none: { Type 0 } = { ⊤ };
 
-    /// When two values that it gives are the same: where they are equal, if its type says nothing else.
+    /// When two values are the same. By default they are if they are equal.
     ghost same: { Sameness Self.Output } = { Sameness.equal };
 
     /// The folders that make the same of items that are the same.
     ghost agree: { Self → Self → Type 0 };
 
-    /// Does nothing. The trait is its law.
+    /// Does nothing. The trait exists for its law.
     fn is_steady_folder(&self) {}
 
     ghost steady_fold: { FoldSteadyLaws (SameItem S.same) Self.fold ample needs_none agree (SameItem same) };

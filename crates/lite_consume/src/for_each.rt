@@ -7,15 +7,15 @@ use crate::consume::Consume;
 use crate::folder::Folder;
 use lite_base::Counted;
 
-/// Calls a function with each item of a stream, up to its end.
+/// A future that calls a closure with each item of a stream, up to its end.
 ///
-/// Made by [`for_each`](crate::make::for_each). Ported from `src/stream.rs`, `ForEachFuture`.
+/// Returned by [`for_each`](crate::make::for_each).
 pub type ForEachFuture<S, F> = Consume<S, ForEach<F>>;
 
-/// Calls the function with each item.
+/// Calls the closure with each item.
 #[derive(Debug, Drop)]
 pub struct ForEach<F> {
-    /// What is called with each item.
+    /// The closure that is called with each item.
     pub f: F,
 }
 

@@ -6,15 +6,15 @@ use crate::consume::Consume;
 use crate::folder::Folder;
 use lite_base::{Counted, Stream};
 
-/// The last item of a stream before its end, and `None` where there is none.
+/// A future that resolves to the last item of a stream before its end, or to `None` if there is none.
 ///
-/// Made by [`last`](crate::make::last). Ported from `src/stream.rs`, `LastFuture`.
+/// Returned by [`last`](crate::make::last).
 pub type LastFuture<S> = Consume<S, Last<<S as Stream>::Item>>;
 
-/// Keeps the item that it took in last.
+/// Keeps the latest item.
 #[derive(Debug, Drop)]
 pub struct Last<T> {
-    /// The last item that was taken in, and `None` where none was.
+    /// The latest item, or `None` before the first.
     pub last: Option<T>,
 }
 

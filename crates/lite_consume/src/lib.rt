@@ -1,5 +1,5 @@
-//! Futures that consume a stream: what they make of its items, and the one future that asks it; a stream that is waited for on this
-//! thread.
+//! Futures that consume a stream, and blocking calls over a stream. A `Folder` says what such a future makes
+//! of the items, and `Consume` is the future that polls the stream.
 #![tactic(auto)]
 
 mod all;

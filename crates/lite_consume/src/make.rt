@@ -1,4 +1,4 @@
-//! What makes the futures.
+//! Functions that make the futures.
 ghost use Rattle.std.specs.Prelude.{◌≡◌, None, Some};
 
 use crate::all::{All, AllFuture};
@@ -19,50 +19,49 @@ use crate::try_for_each::{TryForEach, TryForEachFuture};
 use crate::try_next::{TryNext, TryNextFuture};
 use lite_base::Stream;
 
-/// The future of what `folder` makes of the items of `stream`. The original has no such function.
+/// Returns a future that resolves to what `folder` makes of the items of `stream`.
 pub fn consume<S, F>(stream: S, folder: F) -> Consume<S, F>
     ensures { result ≡ record { stream = stream; folder = folder } }
 {
     Consume { stream, folder }
 }
 
-/// Returns a future of whether `predicate` returns true for every item of `stream`.
+/// Returns a future that resolves to whether `predicate` returns true for each item of `stream`.
 pub fn all<S, P>(stream: &mut S, predicate: P) -> AllFuture<'_, S, P>
     ensures { result ≡ record { stream = stream.entry; folder = record { predicate = predicate } } }
 {
     consume(stream, All { predicate })
 }
 
-/// Returns a future of whether `predicate` returns true for an item of `stream`.
+/// Returns a future that resolves to whether `predicate` returns true for an item of `stream`.
 pub fn any<S, P>(stream: &mut S, predicate: P) -> AnyFuture<'_, S, P>
     ensures { result ≡ record { stream = stream.entry; folder = record { predicate = predicate } } }
 {
     consume(stream, Any { predicate })
 }
 
-/// Returns a future of the number of items of `stream`.
+/// Returns a future that resolves to the number of items of `stream`.
 pub fn count<S>(stream: S) -> CountFuture<S>
     ensures { result ≡ record { stream = stream; folder = record { count = 0 } } }
 {
     consume(stream, Count { count: 0 })
 }
 
-/// Returns a future of the first item of `stream` for which `predicate` returns true.
+/// Returns a future that resolves to the first item of `stream` for which `predicate` returns true.
 pub fn find<S, P>(stream: &mut S, predicate: P) -> FindFuture<'_, S, P>
     ensures { result ≡ record { stream = stream.entry; folder = record { predicate = predicate } } }
 {
     consume(stream, Find { predicate })
 }
 
-/// Returns a future that calls `f` with the items of `stream`, and returns the first value that is not
-/// `None`.
+/// Returns a future that resolves to the first result of `f` on the items of `stream` that is not `None`.
 pub fn find_map<S, F>(stream: &mut S, f: F) -> FindMapFuture<'_, S, F>
     ensures { result ≡ record { stream = stream.entry; folder = record { f = f } } }
 {
     consume(stream, FindMap { f })
 }
 
-/// Returns a future that folds the items of `stream` into one value with `f`, starting with `init`.
+/// Returns a future that folds the items of `stream` into `init` by `f`.
 pub fn fold<S, F, T>(stream: S, init: T, f: F) -> FoldFuture<S, F, T>
     ensures { result ≡ record { stream = stream; folder = record { f = f; acc = Some init } } }
 {
@@ -76,29 +75,29 @@ pub fn for_each<S, F>(stream: S, f: F) -> ForEachFuture<S, F>
     consume(stream, ForEach { f })
 }
 
-/// Returns a future of the last item of `stream`.
+/// Returns a future that resolves to the last item of `stream`.
 pub fn last<S: Stream>(stream: S) -> LastFuture<S>
     ensures { result ≡ record { stream = stream; folder = record { last = None } } }
 {
     consume(stream, Last { last: None })
 }
 
-/// Returns a future of the next item of `stream`.
+/// Returns a future that resolves to the next item of `stream`.
 pub fn next<S>(stream: &mut S) -> NextFuture<'_, S>
     ensures { result ≡ record { stream = stream.entry; folder = record {} } }
 {
     consume(stream, Next)
 }
 
-/// Returns a future of the item of `stream` with the number `n`, counted from 0.
+/// Returns a future that resolves to the item of `stream` with the index `n`, counted from 0.
 pub fn nth<S>(stream: &mut S, n: usize) -> NthFuture<'_, S>
     ensures { result ≡ record { stream = stream.entry; folder = record { n = n } } }
 {
     consume(stream, Nth { n })
 }
 
-/// Returns a future of the number, counted from 0, of the first item of `stream` for which `predicate`
-/// returns true.
+/// Returns a future that resolves to the index of the first item of `stream` for which `predicate` returns
+/// true.
 pub fn position<S, P>(stream: &mut S, predicate: P) -> PositionFuture<'_, S, P>
     ensures { result ≡ record { stream = stream.entry; folder = record { predicate = predicate; index = 0 } } }
 {
@@ -111,8 +110,8 @@ pub fn position<S, P>(stream: &mut S, predicate: P) -> PositionFuture<'_, S, P>
     )
 }
 
-/// Returns a future that folds the `Ok` values of the items of `stream` with `f`, starting with `init`, up to
-/// the first error.
+/// Returns a future that folds the values in the `Ok` items of `stream` into `init` by `f`, up to the first
+/// error.
 pub fn try_fold<S, F, B>(stream: &mut S, init: B, f: F) -> TryFoldFuture<'_, S, F, B>
     ensures { result ≡ record { stream = stream.entry; folder = record { f = f; acc = Some init } } }
 {
@@ -126,14 +125,24 @@ pub fn try_for_each<S, F>(stream: &mut S, f: F) -> TryForEachFuture<'_, S, F>
     consume(stream, TryForEach { f })
 }
 
-/// Returns a future of the value of the next item of `stream`, which is a `Result`.
+/// Returns a future that resolves to the value in the next item of `stream`, or to its error.
 pub fn try_next<S>(stream: &mut S) -> TryNextFuture<'_, S>
     ensures { result ≡ record { stream = stream.entry; folder = record {} } }
 {
     consume(stream, TryNext)
 }
 
-/// Waits on this thread, by `rt`, for the items of `stream`. Ported from `src/stream.rs`, `block_on`.
+/// Returns a [`BlockOn`], whose methods block this thread, by `rt`, until `stream` yields what they need.
+///
+/// # Examples
+///
+/// ```
+/// use futures_lite::stream;
+///
+/// let mut numbers = stream::block_on(rt, stream::iter(1u8..4));
+/// assert_eq!(rt; numbers.next()?, Some(1));
+/// assert_eq!(rt; numbers.count()?, 2);
+/// ```
 pub fn block_on<R, S>(rt: R, stream: S) -> BlockOn<R, S>
     ensures { result ≡ record { rt = rt; stream = stream; waiter = None } }
 {

@@ -5,9 +5,9 @@ use crate::consume::Consume;
 use crate::folder::Folder;
 use lite_base::Stream;
 
-/// The next item of a stream, and `None` where it ends.
+/// A future that resolves to the next item of a stream, or to `None` at an end.
 ///
-/// Made by [`next`](crate::make::next). A poll polls the stream once. Ported from `src/stream.rs`, `NextFuture`.
+/// Returned by [`next`](crate::make::next). Each poll polls the stream once.
 pub type NextFuture<'a, S> = Consume<&'a mut S, Next>;
 
 /// Decides at the first item.

@@ -6,16 +6,17 @@ use crate::consume::Consume;
 use crate::folder::Folder;
 use lite_base::Stream;
 
-/// The item of a stream with a given number, counted from 0, and `None` where the stream ends before it.
+/// A future that resolves to the item of a stream with a given index, counted from 0, or to `None` at an end
+/// before it.
 ///
-/// Made by [`nth`](crate::make::nth). How many items are still to be left out is kept across pendings. After the value the
-/// stream goes on behind that item. Ported from `src/stream.rs`, `NthFuture`.
+/// Returned by [`nth`](crate::make::nth). The number of items to skip is kept while the stream is pending.
+/// The stream is left after that item.
 pub type NthFuture<'a, S> = Consume<&'a mut S, Nth>;
 
-/// Takes in `n` items, and decides at the one after them.
+/// Skips `n` items. The next one decides.
 #[derive(Debug, Drop)]
 pub struct Nth {
-    /// How many items are still to be left out.
+    /// How many items are still to be skipped.
     pub n: usize,
 }
 

@@ -7,19 +7,20 @@ use crate::consume::Consume;
 use crate::folder::Folder;
 use lite_base::Counted;
 
-/// The number of the first item of a stream that a predicate accepts, counted from 0 in 64 bits, and `None` where the
-/// stream ends before it.
+/// A future that resolves to the index of the first item of a stream for which a predicate returns true, or
+/// to `None` at an end.
 ///
-/// Made by [`position`](crate::make::position). It counts from its own start, across pendings. After the value the stream
-/// goes on behind that item. Ported from `src/stream.rs`, `PositionFuture`.
+/// Returned by [`position`](crate::make::position). The index counts from 0, at the first item that this
+/// future polls, and modulo 2^64. The count is kept while the stream is pending. The stream is left after
+/// that item.
 pub type PositionFuture<'a, S, P> = Consume<&'a mut S, Position<P>>;
 
-/// Asks the predicate about each item, and decides at the first that it accepts.
+/// Calls the predicate with each item. The first one for which it returns true decides.
 #[derive(Debug, Drop)]
 pub struct Position<P> {
-    /// What each item is tested by.
+    /// The predicate that is called with each item.
     pub predicate: P,
-    /// The number of the next item.
+    /// The index of the next item.
     pub index: usize,
 }
 

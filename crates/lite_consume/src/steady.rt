@@ -1,4 +1,4 @@
-//! What is made of a stream's items, where it does not depend on when the stream was pending.
+//! The folders whose value does not depend on when the stream was pending.
 ghost use Rattle.std.specs.Prelude.{⊤, ◌≡◌};
 ghost use Rattle.lite_consume.specs.Uses.{CalledAt, Optional, SameHeld, SameItem, Agree, AgreeFrom, AgreeKeeping, Calls, Keeping};
 ghost use Rattle.lite_consume.specs.Calls.{CallsBoth};

@@ -8,18 +8,19 @@ use crate::consume::Consume;
 use crate::folder::Folder;
 use lite_base::OkCounted;
 
-/// What a function makes of a start and of what the items of a stream hold, one after the other, up to the first error.
+/// A future that folds the values in the `Ok` items of a stream into an accumulator, up to the first error.
 ///
-/// Made by [`try_fold`](crate::make::try_fold). An error among the items, or one that the function answers, is the value,
-/// and the stream goes on behind that item. Ported from `src/stream.rs`, `TryFoldFuture`.
+/// Returned by [`try_fold`](crate::make::try_fold). An `Err` item, or an error that the closure returns, is
+/// the value. The stream is then left after that item.
 pub type TryFoldFuture<'a, S, F, B> = Consume<&'a mut S, TryFold<F, B>>;
 
-/// Calls the function with what was folded and what each item holds; the answer is folded next, or decides as an error.
+/// Calls the closure with the accumulator and the value in each item. The result is the next accumulator, or
+/// an error that decides.
 #[derive(Debug, Drop)]
 pub struct TryFold<F, B> {
-    /// What is called with what was folded and what each item holds.
+    /// The closure that is called with the accumulator and the value in each item.
     pub f: F,
-    /// What was folded so far; `None` says that it was handed out.
+    /// The accumulator; `None` after it was returned.
     pub acc: Option<B>,
 }
 

@@ -7,16 +7,17 @@ use crate::consume::Consume;
 use crate::folder::Folder;
 use lite_base::Counted;
 
-/// Calls a function with each item of a stream, up to its end or the first error that the function answers.
+/// A future that calls a closure with each item of a stream, up to its end or the first error that the
+/// closure returns.
 ///
-/// Made by [`try_for_each`](crate::make::try_for_each). The value is that error, or `Ok(())` at the end; after an error the
-/// stream goes on behind that item. Ported from `src/stream.rs`, `TryForEachFuture`.
+/// Returned by [`try_for_each`](crate::make::try_for_each). The value is that error, or `Ok(())` at the end.
+/// After an error the stream is left after that item.
 pub type TryForEachFuture<'a, S, F> = Consume<&'a mut S, TryForEach<F>>;
 
-/// Calls the function with each item, and decides at the first error.
+/// Calls the closure with each item. Its first error decides.
 #[derive(Debug, Drop)]
 pub struct TryForEach<F> {
-    /// What is called with each item.
+    /// The closure that is called with each item.
     pub f: F,
 }
 

@@ -6,13 +6,13 @@ use crate::consume::Consume;
 use crate::folder::Folder;
 use lite_base::Stream;
 
-/// What the next item of a stream holds, and `Ok(None)` where it ends; an error among the items is the value's.
+/// A future that resolves to the value in the next item of a stream, to its error, or to `Ok(None)` at an
+/// end.
 ///
-/// Made by [`try_next`](crate::make::try_next). A poll polls the stream once. Ported from `src/stream.rs`,
-/// `TryNextFuture`.
+/// Returned by [`try_next`](crate::make::try_next). Each poll polls the stream once.
 pub type TryNextFuture<'a, S> = Consume<&'a mut S, TryNext>;
 
-/// Decides at the first item, an error or not.
+/// Decides at the first item, which may be an error.
 #[derive(Debug, Drop)]
 pub struct TryNext;
 

@@ -9,14 +9,14 @@ use lite_base::Counted;
 use lite_consume::{Consume, Folder};
 use std::mem;
 
-/// The collection of the items of a stream.
+/// A future that collects the items of a stream.
 ///
-/// Made by [`collect`](crate::make::collect). What was taken in is kept across pendings. The value is the collection, or
-/// what it was with the item that it refused; after either the future may not be polled. Ported from `src/stream.rs`,
-/// `CollectFuture`.
+/// Returned by [`collect`](crate::make::collect). What was collected is kept while the stream is pending. The
+/// value is the collection, or a [`Refused`] with the items so far and the item that the collection refused.
+/// Do not poll the future after either.
 pub type CollectFuture<S, C> = Consume<S, Collect<C>>;
 
-/// Takes each item into the collection.
+/// Adds each item to the collection.
 #[derive(Debug, Drop)]
 pub struct Collect<C> {
     pub(crate) collection: Option<C>,
@@ -32,7 +32,7 @@ impl<S: Counted, C: Gather<S::Item>> Folder<S> for Collect<C> {
     ghost counts = { S.ranks.counts };
 
     fn take_in(&mut self, item: S::Item) -> Option<Result<C, Refused<C, S::Item>>> {
-        // It is taken out meanwhile, since one that grows lends its address, and with it that of the whole future.
+        // It is moved out meanwhile, because one that grows takes its own address, and with it the future's.
         let mut collected = self.collection.take().unwrap();
         match collected.take_in(item) {
             Ok(()) => match mem::replace(&mut self.collection, Some(collected)) {

@@ -1,4 +1,4 @@
-//! Collections that take in the items of a stream, and the futures that give them.
+//! Collections that take the items of a stream, and the futures that return them.
 #![tactic(auto)]
 
 mod btree_map;

@@ -1,4 +1,4 @@
-//! What makes the futures.
+//! Functions that make the futures.
 ghost use Rattle.std.specs.Prelude.{◌≡◌, [], IsSome, IfSome};
 
 use crate::collect::{Collect, CollectFuture};
@@ -10,8 +10,7 @@ use lite_base::Stream;
 use lite_consume::Consume;
 use lite_consume::make::consume;
 
-/// Returns a future that collects the items of `stream` into a collection, which takes its memory from
-/// `alloc`.
+/// Returns a future that collects the items of `stream` into a collection that allocates from `alloc`.
 pub fn collect<S: Stream, C: Gather<S::Item>>(stream: S, alloc: C::Alloc) -> CollectFuture<S, C>
     ensures stream { result.stream ≡ stream }
     ensures open { IsSome result.folder.collection }
@@ -21,7 +20,8 @@ pub fn collect<S: Stream, C: Gather<S::Item>>(stream: S, alloc: C::Alloc) -> Col
     consume(stream, Collect { collection })
 }
 
-/// Returns a future that collects the `Ok` values of the items of `stream`, up to the first error.
+/// Returns a future that collects the values in the `Ok` items of `stream`, up to the first error. The
+/// collection allocates from `alloc`.
 pub fn try_collect<T, E, S: Stream<Item = Result<T, E>>, C: Gather<T>>(
     stream: S,
     alloc: C::Alloc,
@@ -34,8 +34,8 @@ pub fn try_collect<T, E, S: Stream<Item = Result<T, E>>, C: Gather<T>>(
     consume(stream, TryCollect { items })
 }
 
-/// Returns a future that collects the items of `stream` into two: those for which `predicate` returns true,
-/// and the others.
+/// Returns a future that collects the items of `stream` for which `predicate` returns true, and the others.
+/// Both collections allocate from `alloc`.
 pub fn partition<S: Stream, P, B: Gather<S::Item, Alloc: Copy>>(
     stream: S,
     alloc: B::Alloc,
@@ -50,8 +50,8 @@ pub fn partition<S: Stream, P, B: Gather<S::Item, Alloc: Copy>>(
     consume(stream, Partition { predicate, res })
 }
 
-/// Returns a future that collects the first and the second parts of the items of `stream` into two
-/// collections.
+/// Returns a future that collects the first and the second parts of the items of `stream`. Both collections
+/// allocate from `alloc`.
 pub fn unzip<A, B, S, FromA, FromB>(stream: S, alloc: FromA::Alloc) -> UnzipFuture<S, FromA, FromB>
 where
     S: Stream<Item = (A, B)>,

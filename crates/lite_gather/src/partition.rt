@@ -8,11 +8,11 @@ use crate::refused::Refused;
 use lite_base::Counted;
 use lite_consume::{Consume, Folder};
 
-/// The collection of the items of a stream that a predicate accepts, and that of those that it rejects.
+/// A future that collects the items of a stream for which a predicate returns true, and the others.
 ///
-/// Made by [`partition`](crate::make::partition). What was taken in is kept across pendings. The value is both collections,
-/// or what they were with the item that was refused; after either the future may not be polled. Ported from
-/// `src/stream.rs`, `PartitionFuture`.
+/// Returned by [`partition`](crate::make::partition). What was collected is kept while the stream is pending.
+/// The value is both collections, or a [`Refused`] with them and the item that one of them refused. Do not
+/// poll the future after either.
 pub type PartitionFuture<S, P, B> = Consume<S, Partition<P, B>>;
 
 fn take_one<T, B: Gather<T>>(
@@ -33,7 +33,7 @@ fn take_one<T, B: Gather<T>>(
     }
 }
 
-/// Takes each item into the one collection or the other.
+/// Adds each item to one of the two collections.
 #[derive(Debug, Drop)]
 pub struct Partition<P, B> {
     pub(crate) predicate: P,

@@ -9,14 +9,14 @@ use lite_base::OkCounted;
 use lite_consume::{Consume, Folder};
 use std::mem;
 
-/// The collection of what the items of a stream hold, up to the first error.
+/// A future that collects the values in the `Ok` items of a stream, up to the first error.
 ///
-/// Made by [`try_collect`](crate::make::try_collect). What was taken in is kept across pendings. The value is the
-/// collection, the first error among the items, or what the collection was with what it refused; after any of them the
-/// future may not be polled. Ported from `src/stream.rs`, `TryCollectFuture`.
+/// Returned by [`try_collect`](crate::make::try_collect). What was collected is kept while the stream is
+/// pending. The value is the collection, the first error among the items, or what was collected with the
+/// value that the collection refused. Do not poll the future after any of them.
 pub type TryCollectFuture<S, C> = Consume<S, TryCollect<C>>;
 
-/// Takes what each item holds into the collection, and decides at the first error.
+/// Adds the value in each item to the collection. The first error decides.
 #[derive(Debug, Drop)]
 pub struct TryCollect<C> {
     pub(crate) items: Option<C>,

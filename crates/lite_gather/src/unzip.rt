@@ -9,13 +9,14 @@ use crate::refused::UnzipRefused;
 use lite_base::Counted;
 use lite_consume::{Consume, Folder};
 
-/// The collections of the first and of the second parts of the items of a stream.
+/// A future that collects the first and the second parts of the items of a stream.
 ///
-/// Made by [`unzip`](crate::make::unzip). What was taken in is kept across pendings. The value is both collections, or what
-/// they were with what was refused; after either the future may not be polled. Ported from `src/stream.rs`, `UnzipFuture`.
+/// Returned by [`unzip`](crate::make::unzip). What was collected is kept while the stream is pending. The
+/// value is both collections, or an [`UnzipRefused`] with them and what was refused. Do not poll the future
+/// after either.
 pub type UnzipFuture<S, FromA, FromB> = Consume<S, Unzip<FromA, FromB>>;
 
-/// What was refused of an item: both its parts, since the first was, or the second alone.
+/// What was refused of an item: both parts if the first was refused, or the second alone.
 enum Part<A, B> {
     Both(A, B),
     Second(B),
@@ -55,7 +56,7 @@ fn take_both<A, B, FromA: Gather<A>, FromB: Gather<B>>(
     }
 }
 
-/// Takes the first part of each item into one collection, and the second into another.
+/// Adds the first part of each item to one collection, and the second part to another.
 #[derive(Debug, Drop)]
 pub struct Unzip<FromA, FromB> {
     pub(crate) res: Option<(FromA, FromB)>,

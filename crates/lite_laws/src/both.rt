@@ -7,14 +7,36 @@ use crate::polls::run;
 use lite_base::{Context, Poll, SteadyStream};
 use std::alloc::AllocError;
 
-/// Polls two streams that are alike, the first `polls` times and the second `more` times, and appends what each answers
-/// to a list of its own. Pendings aside, one of the two lists of answers begins the other, as long as memory was found:
-/// up to what is the same for the stream, which is equality where it says nothing else.
+/// Polls two streams, and appends what each returns to a list of its own.
 ///
-/// Where the last answer of a run is pending, the context holds what that stream leaves in it. On `Ok` exactly so many
-/// answers were appended. `AllocError` says that there was no room for one more: of the first stream fewer were appended,
-/// and the second was not polled, or of the second alone fewer were; so it does not come where both lists have room. Each
-/// can be polled on from where it stands. The original has no such call.
+/// The first is polled `polls` times, and the second `more` times. The caller guarantees that the two are
+/// alike, as [`SteadyStream`] defines it, and that both may be polled. Then one of the two lists begins the
+/// other, apart from `Pending`, unless memory was refused. Items are compared with the stream's `same`, which
+/// is equality by default.
+///
+/// If the last result of a run is `Pending`, the context holds what that stream registered. On `Ok` all
+/// results were appended. `AllocError` means that there was no room for one more result. Then either the
+/// first list is short, and the second stream was not polled, or the second list alone is short. It does not
+/// occur if both lists have room. Each stream can be polled again afterwards.
+///
+/// # Examples
+///
+/// ```
+/// use futures_lite::{Doorbell, Poll, Solo, laws, stream};
+///
+/// let mut plain = stream::script(vec![in rt.alloc(); Poll::Ready(Some(1u8))]?);
+/// let mut late = stream::script(vec![in rt.alloc(); Poll::Pending, Poll::Ready(Some(1u8))]?);
+/// let solo = Solo::new(&rt, Doorbell::spinning())?;
+/// let (mut first, mut second) = (Vec::new(rt.alloc()), Vec::new(rt.alloc()));
+///
+/// let mut cx = solo.begin();
+/// let ran = laws::run_both(&mut plain, &mut late, &mut cx, 2, 2, &mut first, &mut second);
+/// cx.cancel();
+///
+/// ran?;
+/// assert_eq!(rt; first.as_slice(), [Poll::Ready(Some(1)), Poll::Ready(None)].as_slice());
+/// assert_eq!(rt; second.as_slice(), [Poll::Pending, Poll::Ready(Some(1))].as_slice());
+/// ```
 pub fn run_both<S: SteadyStream>(
     x: &mut S,
     y: &mut S,

@@ -7,11 +7,26 @@ use std::alloc::{AllocError, AllocGlobal};
 use std::random::RandomSource;
 use std::sync::Wait;
 
-/// Waits on this thread for two futures that are alike, one after the other, and answers their values. They are the same,
-/// as long as memory was found.
+/// Blocks this thread until two futures are ready, one after the other, and returns their values.
 ///
-/// It may wait for ever. `Err` says that there was no memory for what the thread sleeps on: then the second future was
-/// not polled, and the first not or up to its value. The original has no such call.
+/// The caller guarantees that the two are alike, as [`SteadyFuture`] defines it, and that both may be polled.
+/// Then the values are the same, unless memory was refused.
+///
+/// The call may wait for ever. `AllocError` means that what the thread sleeps on could not be allocated. Then
+/// the second future was not polled, and the first either not at all or up to its value.
+///
+/// # Examples
+///
+/// ```
+/// use futures_lite::{future, laws};
+///
+/// let mut started = future::yield_now();
+/// assert_eq!(rt; future::block_on(&rt, future::poll_once(&mut started))?, None);
+///
+/// let first = future::zip(started, future::ready(7u8));
+/// let second = future::zip(future::yield_now(), future::ready(7u8));
+/// assert_eq!(rt; laws::block_on_both(&rt, first, second)?, (((), 7), ((), 7)));
+/// ```
 pub fn block_on_both<R, F>(rt: &R, x: F, y: F) -> Result<(F::Output, F::Output), AllocError>
 where
     R: Wait + RandomSource + AllocGlobal,

@@ -5,9 +5,28 @@ use crate::polls::run;
 use lite_base::{CalmStream, Context, Poll};
 use std::alloc::AllocError;
 
-/// Polls a calm stream `polls` times and appends each answer to `out`: none is pending, and the stream is calm on.
+/// Polls a stream `polls` times and appends each result to `out`. None of them is `Pending`.
 ///
-/// `Ok` and `AllocError` are those of [`run`](crate::run). The original has no such call.
+/// The caller guarantees that the stream is in a calm state, as [`CalmStream`] defines it, and may be polled.
+/// It is in a calm state afterwards. `Ok` and `AllocError` are those of [`run`](crate::run).
+///
+/// # Examples
+///
+/// ```
+/// use futures_lite::{Doorbell, Poll, Solo, laws, stream};
+///
+/// let mut numbers = stream::iter(1u8..3);
+/// let solo = Solo::new(&rt, Doorbell::spinning())?;
+/// let mut answers = Vec::new(rt.alloc());
+///
+/// let mut cx = solo.begin();
+/// let ran = laws::run_calm(&mut numbers, &mut cx, 3, &mut answers);
+/// cx.cancel();
+///
+/// ran?;
+/// let expected = [Poll::Ready(Some(1)), Poll::Ready(Some(2)), Poll::Ready(None)];
+/// assert_eq!(rt; answers.as_slice(), expected.as_slice());
+/// ```
 pub fn run_calm<S: CalmStream>(
     s: &mut S,
     cx: &mut Context<'_>,

@@ -7,9 +7,9 @@ ghost use Rattle.lite_source.specs.Laws.Empty.{empty_counting, empty_laws};
 use lite_base::{Context, Counted, OkCounted, Poll, Stream};
 use std::marker::PhantomData;
 
-/// Ends for ever.
+/// An empty stream: every poll returns `Ready(None)`.
 ///
-/// Made by [`empty`](crate::make::empty). Ported from `src/stream.rs`, `Empty`.
+/// Returned by [`empty`](crate::make::empty).
 #[derive(Clone, Debug, Drop)]
 pub struct Empty<T> {
     pub(crate) item: PhantomData<T>,

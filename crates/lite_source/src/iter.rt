@@ -4,10 +4,10 @@ ghost use Rattle.lite_source.specs.Laws.Iter.{iter_counting, iter_laws};
 
 use lite_base::{Context, Counted, OkCounted, Poll, Stream};
 
-/// Gives what an iterator answers, one call of `next` a poll.
+/// A stream of the items of an iterator. Each poll calls `next` once.
 ///
-/// Made by [`iter`](crate::make::iter). It is never pending, and its hint is the iterator's. Polled after an end it asks
-/// the iterator again. Ported from `src/stream.rs`, `Iter`.
+/// Returned by [`iter`](crate::make::iter). It never returns `Pending`. A poll after an end calls `next`
+/// again. Size hint: the iterator's.
 #[derive(Clone, Debug, Drop)]
 pub struct Iter<I> {
     pub(crate) iter: I,

@@ -1,4 +1,4 @@
-//! Sources: streams that give answers of their own.
+//! Sources: streams that read from no other stream.
 #![tactic(auto)]
 
 mod calm;

@@ -5,9 +5,9 @@ ghost use Rattle.lite_source.specs.Once.{GivesOnce, once_left, once_ranks};
 
 use lite_base::{Context, Counted, OkCounted, Poll, Stream};
 
-/// Gives one item, and then ends for ever.
+/// A stream that yields one item, and then is at an end for ever.
 ///
-/// Made by [`once`](crate::make::once). Ported from `src/stream.rs`, `Once`.
+/// Returned by [`once`](crate::make::once).
 #[derive(Clone, Debug, Drop)]
 pub struct Once<T> {
     pub(crate) value: Option<T>,

@@ -5,10 +5,10 @@ ghost use Rattle.lite_source.specs.OnceFuture.{GivesFuture, once_future_ranks};
 
 use lite_base::{Context, Counted, Future, OkCounted, Poll, Stream, ready};
 
-/// Gives the value of a future, and then ends for ever.
+/// A stream that yields the value of a future, and then is at an end for ever.
 ///
-/// Made by [`once_future`](crate::make::once_future). It is pending while the future is, and lets the future go in the
-/// poll that gives its value. Ported from `src/stream.rs`, `OnceFuture`.
+/// Returned by [`once_future`](crate::make::once_future). It returns `Pending` while the future does, and
+/// drops the future in the poll that yields its value.
 #[derive(Debug, Drop)]
 pub struct OnceFuture<F> {
     pub(crate) future: Option<F>,

@@ -7,9 +7,9 @@ ghost use Rattle.lite_source.specs.Pending.{GivesPendings};
 use lite_base::{Context, Counted, OkCounted, Poll, Stream};
 use std::marker::PhantomData;
 
-/// Is pending for ever. It does not see to being polled again.
+/// A stream that is pending for ever. A poll wakes nothing.
 ///
-/// Made by [`pending`](crate::make::pending). Ported from `src/stream.rs`, `Pending`.
+/// Returned by [`pending`](crate::make::pending).
 #[derive(Clone, Debug, Drop)]
 pub struct Pending<T> {
     pub(crate) item: PhantomData<T>,

@@ -5,9 +5,9 @@ ghost use Rattle.lite_source.specs.Laws.Folds.{folds_laws};
 use lite_base::{Context, Poll, Stream};
 use std::fmt;
 
-/// Calls a function at each poll, and hands on what it answers.
+/// A stream that calls a closure at each poll, and returns the result.
 ///
-/// Made by [`poll_fn`](crate::make::poll_fn). Ported from `src/stream.rs`, `PollFn`.
+/// Returned by [`poll_fn`](crate::make::poll_fn).
 #[derive(Drop)]
 pub struct PollFn<F> {
     pub(crate) f: F,

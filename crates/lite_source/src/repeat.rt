@@ -5,11 +5,11 @@ ghost use Rattle.lite_source.specs.Repeat.{Repeats};
 use lite_base::{Context, Poll, Stream};
 use std::alloc::AllocError;
 
-/// Gives clones of one item, one a poll, and never ends.
+/// A stream that yields clones of one item, one a poll, and never ends.
 ///
-/// Made by [`repeat`](crate::make::repeat). Each `Ok` item is what the item's own `Clone` may give. `Err(AllocError)` is a
-/// clone that was refused for want of memory; it comes only where a clone may be refused, and the next poll asks for the
-/// clone again. Ported from `src/stream.rs`, `Repeat`, whose clones are not refused.
+/// Returned by [`repeat`](crate::make::repeat). An `Ok` item is a clone of the item. `Err(AllocError)` means
+/// that the clone was refused for lack of memory, and the next poll clones again. It is yielded only if a
+/// clone may be refused. Unlike that of futures-lite, each item is a `Result`.
 #[derive(Clone, Debug, Drop)]
 pub struct Repeat<T> {
     pub(crate) item: T,

@@ -5,9 +5,9 @@ ghost use Rattle.lite_source.specs.RepeatWith.{Call, RepeatsWith};
 
 use lite_base::{Context, Poll, Stream};
 
-/// Gives what a function answers, one call a poll, and never ends.
+/// A stream that yields what a closure returns, one call a poll, and never ends.
 ///
-/// Made by [`repeat_with`](crate::make::repeat_with). Ported from `src/stream.rs`, `RepeatWith`.
+/// Returned by [`repeat_with`](crate::make::repeat_with).
 #[derive(Debug, Drop)]
 pub struct RepeatWith<F> {
     pub(crate) f: F,

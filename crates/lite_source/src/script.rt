@@ -8,9 +8,9 @@ use std::alloc::AllocError;
 use std::collections::VecDeque;
 use std::marker::Model;
 
-/// Gives its answers in order, and then ends for ever. A contract sees it as the list of answers that are left.
+/// A stream whose polls return given results in order, and after them `Ready(None)` for ever.
 ///
-/// Made by [`script`](crate::make::script). The original has no such type.
+/// Returned by [`script`](crate::make::script). A contract sees it as the list of the results that are left.
 #[derive(Debug, Drop)]
 pub struct Script<T> {
     answers: VecDeque<Poll<Option<T>>>,

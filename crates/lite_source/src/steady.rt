@@ -1,4 +1,4 @@
-//! The sources whose answers do not depend on when they were pending.
+//! The sources whose items and ends do not depend on when they were pending.
 ghost use Rattle.std.specs.Prelude.{⊤, ◌≡◌};
 ghost use Rattle.lite_source.specs.Uses.{Alike, OptionBy, strip, Calls, CallAnswers, steady_always, FoldsTo, ap};
 ghost use Rattle.lite_source.specs.Empty.{GivesEnds};

@@ -8,11 +8,12 @@ use crate::unfolding::Unfolding;
 use lite_base::{Context, Future, Poll, Stream, ready};
 use std::fmt;
 
-/// Gives the items that the futures of a function make, each of the seed that the one before it left, up to an error.
+/// A stream that yields items made by futures, up to the first error. Each future also returns the next
+/// state.
 ///
-/// Made by [`try_unfold`](crate::make::try_unfold). A future is polled in the poll that made it, and is held while it is
-/// pending. An `Ok(None)` of a future is an end, an `Err(e)` goes out as an item, and after either it ends for ever.
-/// Ported from `src/stream.rs`, `TryUnfold`.
+/// Returned by [`try_unfold`](crate::make::try_unfold). A future is polled in the poll that made it, and is
+/// kept while it is pending. `Ok(None)` of a future ends the stream. `Err(e)` is yielded as an item. After
+/// either the stream is at an end for ever.
 #[derive(Drop)]
 pub struct TryUnfold<T, F, Fut> {
     pub(crate) f: F,

@@ -8,11 +8,11 @@ use crate::unfolding::Unfolding;
 use lite_base::{Context, Future, Poll, Stream, ready};
 use std::fmt;
 
-/// Gives the items that the futures of a function make, each of the seed that the one before it left.
+/// A stream that yields items made by futures. Each future also returns the next seed.
 ///
-/// Made by [`unfold`](crate::make::unfold). A future is polled in the poll that made it, and is held while it is pending.
-/// A `None` of a future is an end, and then it ends for ever. Ported from `src/stream.rs`, `Unfold`, which panics where
-/// it is polled after its end.
+/// Returned by [`unfold`](crate::make::unfold). A future is polled in the poll that made it, and is kept
+/// while it is pending. `None` of a future ends the stream for ever. The stream may be polled after its end;
+/// that of futures-lite panics then.
 #[derive(Drop)]
 pub struct Unfold<T, F, Fut> {
     pub(crate) f: F,

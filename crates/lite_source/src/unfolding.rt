@@ -6,8 +6,8 @@ use lite_base::{Context, Future, Poll, ready};
 use std::fmt;
 use std::marker::Model;
 
-/// What an unfolding stream holds between two polls: what the next future is made of, a future that was pending, or
-/// nothing, and then it ends for ever.
+/// What an unfolding stream holds between two polls: the seed of the next future, a future that was pending,
+/// or nothing. With nothing the stream is at an end for ever.
 #[derive(Drop)]
 pub struct Unfolding<T, Fut> {
     // Each has a place of its own, so that a poll moves neither; a future that is held beside a seed is of no account.
@@ -24,7 +24,7 @@ impl<T, Fut> Model for Unfolding<T, Fut> {
 }
 
 impl<T, Fut> Unfolding<T, Fut> {
-    /// The next future is made of `seed`.
+    /// Returns the state before the first future, which is made of `seed`.
     pub(crate) fn new(seed: T) -> Unfolding<T, Fut>
         ensures { result ≡ Holding.Seed seed }
     {
@@ -36,8 +36,8 @@ impl<T, Fut> Unfolding<T, Fut> {
 }
 
 impl<T: Drop, Fut: Future + Drop> Unfolding<T, Fut> {
-    /// Polls the future, which `f` makes where there is a seed, and lets it go once it is ready. `Ready(None)` says that
-    /// there is none.
+    /// Polls the future, and drops it once it is ready. If there is a seed, `f` makes the future first.
+    /// `Ready(None)` means that there is neither.
     pub(crate) fn poll<F: FnMut(T) -> Fut>(
         &mut self,
         f: &mut F,
@@ -73,7 +73,7 @@ impl<T: Drop, Fut: Future + Drop> Unfolding<T, Fut> {
         }
     }
 
-    // Polls the future that is held, and lets it go once it is ready.
+    // Polls the future that is held, and drops it once it is ready.
     #[inline(always)]
     fn poll_future(&mut self, cx: &mut Context<'_>) -> Poll<Option<Fut::Output>>
         requires made { IsMade self.old }
@@ -91,7 +91,7 @@ impl<T: Drop, Fut: Future + Drop> Unfolding<T, Fut> {
         Poll::Ready(Some(value))
     }
 
-    /// Goes on from `seed`.
+    /// Keeps `seed` for the next future.
     pub(crate) fn go_on(&mut self, seed: T)
         ensures { self.new ≡ Holding.Seed seed }
     {
@@ -100,7 +100,7 @@ impl<T: Drop, Fut: Future + Drop> Unfolding<T, Fut> {
 }
 
 impl<T: fmt::Debug, Fut: fmt::Debug> Unfolding<T, Fut> {
-    /// Shows what is held, in a struct of this name, by the names of the original.
+    /// Writes the state as a struct of this name, with the field names of futures-lite.
     pub(crate) fn show<W: fmt::Write>(&self, name: &str, f: &mut fmt::Formatter<W>) -> fmt::Result {
         f.debug_struct(name)
             .field("state", &self.seed)

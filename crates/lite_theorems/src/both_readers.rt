@@ -9,14 +9,37 @@ use std::io;
 use std::random::RandomSource;
 use std::sync::Wait;
 
-/// Waits on this thread until each of two readers that are alike was read up to its first end or an error, one after the
-/// other, and appends the bytes of each to a list of its own. Both give one value, errors by their kinds, and the same bytes,
-/// also those before an error, as long as memory was found.
+/// Blocks this thread until two readers, one after the other, were read up to an end of file or an error.
 ///
-/// The values are those of [`read_to_end`]: how many bytes were appended, the reader's error, or one of the kind `OutOfMemory`
-/// where there was no memory for more bytes. It may wait for ever. `Err` says that there was no memory for what the thread
-/// sleeps on: then the second reader was not read, and the first not or up to its value. Each can be read on from where it
-/// stands. The original has no such call.
+/// The bytes of each are appended to a list of its own. The caller guarantees that the two are alike, as
+/// [`SteadyRead`] defines it, and that `ranks.counts` holds for each. Then both lists get the same bytes,
+/// also those before an error, unless memory was refused. The two values are the same too; errors are
+/// compared by their kinds.
+///
+/// The values are those of [`read_to_end`]: how many bytes were appended, or the reader's error. An error of
+/// the kind `OutOfMemory` means that there was no memory for more bytes. The call may wait for ever. Each
+/// reader can be read again afterwards.
+///
+/// `AllocError` means that what the thread sleeps on could not be allocated. Then the second reader was not
+/// read, and the first either not at all or up to its value.
+///
+/// # Examples
+///
+/// ```
+/// use futures_lite::{io, laws};
+///
+/// let Ok(mut small) = io::BufReader::with_capacity(rt.alloc(), 2, b"abcde".as_slice()) else {
+///     return Err(Fail::from("no memory"));
+/// };
+/// let Ok(mut large) = io::BufReader::new(rt.alloc(), b"abcde".as_slice()) else {
+///     return Err(Fail::from("no memory"));
+/// };
+/// let (mut first, mut second) = (Vec::new(rt.alloc()), Vec::new(rt.alloc()));
+/// let values = laws::read_both(&rt, &mut small, &mut large, &mut first, &mut second)?;
+/// assert_eq!(rt; (values.0?, values.1?), (5, 5));
+/// assert_eq!(rt; first.as_slice(), b"abcde".as_slice());
+/// assert_eq!(rt; second.as_slice(), b"abcde".as_slice());
+/// ```
 pub fn read_both<R, T>(
     rt: &R,
     x: &mut T,

@@ -10,13 +10,34 @@ use std::io;
 use std::random::RandomSource;
 use std::sync::Wait;
 
-/// Waits on this thread until each of two writers that are alike took all of `bytes` and was then flushed, or failed, one
-/// after the other. Where both values are `Ok`, the same bytes are below the two, wherever each was pending and however the
-/// bytes were cut up on the way, and the writers are alike again.
+/// Blocks this thread until two writers, one after the other, wrote all of `bytes` and were flushed, or
+/// failed.
 ///
-/// A value is that of [`write_all`](lite_write::make::write_all), and where that is `Ok` the one of the flush. Where it is an error, a front of the bytes
-/// was taken, and nothing is said of what is below. It may wait for ever. `Err` says that there was no memory for what the
-/// thread sleeps on: then each took a front of the bytes, or none. The original has no such call.
+/// The caller guarantees that the two are alike, as [`SteadyWrite`] defines it. If both values are `Ok`, the
+/// same bytes are below the two, and the writers are alike again. When each was pending, and how the bytes
+/// were cut on the way, does not matter.
+///
+/// A value is that of [`write_all`](lite_write::make::write_all), and if that is `Ok`, the one of the flush.
+/// If it is an error, the writer accepted a front of the bytes, and nothing is known of what is below. The
+/// call may wait for ever. `AllocError` means that what the thread sleeps on could not be allocated. Then
+/// each writer accepted a front of the bytes, or none.
+///
+/// # Examples
+///
+/// ```
+/// use futures_lite::{io, laws};
+///
+/// let Ok(mut small) = io::BufWriter::with_capacity(rt.alloc(), 2, Vec::new(rt.alloc())) else {
+///     return Err(Fail::from("no memory"));
+/// };
+/// let Ok(mut large) = io::BufWriter::new(rt.alloc(), Vec::new(rt.alloc())) else {
+///     return Err(Fail::from("no memory"));
+/// };
+/// let values = laws::write_both(&rt, &mut small, &mut large, b"abcde")?;
+/// assert!(rt; values.0.is_ok() && values.1.is_ok());
+/// assert_eq!(rt; small.into_inner().as_slice(), b"abcde".as_slice());
+/// assert_eq!(rt; large.into_inner().as_slice(), b"abcde".as_slice());
+/// ```
 pub fn write_both<R, T>(
     rt: &R,
     x: &mut T,

@@ -1,4 +1,5 @@
-//! What comes through a copy to a buffered writer, also of a chain, by the contracts of the traits alone.
+//! What a copy to a buffered writer writes, also from a chain of readers, by the contracts of the traits
+//! alone.
 ghost use Rattle.std.specs.Prelude.{◌≡◌, IfOk, false};
 ghost use Rattle.lite_theorems.specs.Uses.{AtEachOk, Lent, Buffers, CopyRuns, NothingCopied, source_of, ChainsReaders, first_of, has_ended, second_of};
 ghost use Rattle.lite_theorems.specs.Chained.{CopiesBoth, CopiesWhole};
@@ -10,13 +11,31 @@ use lite_write::CopyFuture;
 use lite_write::make::copy;
 use std::alloc::Global;
 
-/// The future of a copy of what `reader` gives up to its first end, to `writer`. Where it gives `Ok`, in however many polls and
-/// wherever the two were pending, the inner writer took what `writer` held before and then exactly those bytes, in their order,
-/// and was flushed; nothing is held any more, and the value is how many were copied, in 64 bits.
+/// Returns a future that copies `reader` up to its first end of file to `writer`.
 ///
-/// It is the future that [`copy`] makes; it may be polled where the rank of the reader counts. `Err` is that of `copy`: there was
-/// no memory for its buffer. The reader may be a chain at any point of its life, or one of chains: what it told is then what was
-/// left of each of its readers (the lemma `tells_both`). The original has no such call.
+/// It is the future that [`copy`] returns; its contract says more. If it resolves to `Ok`, the inner writer
+/// got what `writer` held before, and then exactly the bytes of the reader, in order. It was flushed, and
+/// `writer` holds nothing any more. How many polls that took, and when the two were pending, does not matter.
+/// The value is the number of copied bytes, modulo 2^64.
+///
+/// The future may be polled if `ranks.counts` holds for the reader. If `reader` is a chain, in whatever
+/// state, the bytes are what was left of each of its readers (the lemma `tells_both`). `Err` means that the
+/// buffer could not be allocated, and returns both arguments.
+///
+/// # Examples
+///
+/// ```
+/// use futures_lite::{future, io, laws};
+///
+/// let Ok(mut writer) = io::BufWriter::new(rt.alloc(), Vec::new(rt.alloc())) else {
+///     return Err(Fail::from("no memory"));
+/// };
+/// let Ok(copying) = laws::copy_buffered(rt.alloc(), b"abc".as_slice(), &mut writer) else {
+///     return Err(Fail::from("no memory"));
+/// };
+/// assert_eq!(rt; future::block_on(&rt, copying)??, 3);
+/// assert_eq!(rt; writer.into_inner().as_slice(), b"abc".as_slice());
+/// ```
 pub fn copy_buffered<'a, R, W>(
     alloc: Global,
     reader: R,
@@ -35,13 +54,30 @@ where
     copy(alloc, reader, writer)
 }
 
-/// The future of a copy of what `first` gives up to its first end, and then `second` up to its own, to `writer`. Where it
-/// gives `Ok`, in however many polls and wherever the three were pending, the inner writer took what `writer` held before
-/// and then exactly those bytes, in their order, and was flushed; nothing is held any more, and the value is how many were
-/// copied, in 64 bits.
+/// Returns a future that copies `first`, and then `second`, each up to its first end of file, to `writer`.
 ///
-/// It is the future that [`copy`] makes of `chain`; it may be polled where the ranks of the two readers count. `Err` is that
-/// of `copy`: there was no memory for its buffer. The original has no such call.
+/// It is the future that [`copy`] returns for `chain`; its contract says more. If it resolves to `Ok`, the
+/// inner writer got what `writer` held before, and then exactly the bytes of the two readers, in order. It
+/// was flushed, and `writer` holds nothing any more. How many polls that took, and when the three were
+/// pending, does not matter. The value is the number of copied bytes, modulo 2^64.
+///
+/// The future may be polled if `ranks.counts` holds for both readers. `Err` means that the buffer could not
+/// be allocated, and returns the chain and the writer.
+///
+/// # Examples
+///
+/// ```
+/// use futures_lite::{future, io, laws};
+///
+/// let Ok(mut writer) = io::BufWriter::new(rt.alloc(), Vec::new(rt.alloc())) else {
+///     return Err(Fail::from("no memory"));
+/// };
+/// let Ok(copying) = laws::copy_chain(rt.alloc(), b"ab".as_slice(), b"cd".as_slice(), &mut writer) else {
+///     return Err(Fail::from("no memory"));
+/// };
+/// assert_eq!(rt; future::block_on(&rt, copying)??, 4);
+/// assert_eq!(rt; writer.into_inner().as_slice(), b"abcd".as_slice());
+/// ```
 pub fn copy_chain<'a, R1, R2, W>(
     alloc: Global,
     first: R1,

@@ -1,5 +1,8 @@
-//! What nests of combinators come to: each theorem is the contract of a function that builds the nest, or that does nothing. And the
-//! laws of own futures, streams, readers and writers whose calls go by steps, in `specs/`, a line each.
+//! Theorems on nests of combinators. Each is the contract of a function that builds the nest, or that does
+//! nothing.
+//!
+//! `specs/` also has the laws of futures, streams, readers and writers of a user's own whose calls go by
+//! steps, a line each.
 #![tactic(auto)]
 
 mod both_readers;

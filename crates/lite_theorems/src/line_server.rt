@@ -1,4 +1,4 @@
-//! Each line of a reader is answered to a writer.
+//! A server that answers each line of a reader with a reply to a writer.
 ghost use Rattle.std.specs.Prelude.{◌≡◌, ◌++◌, ◌∷◌, [], List, Ok, IfErr, IfOk, false, flat_map, true};
 ghost use Rattle.lite_theorems.specs.Uses.{ReadMark, EndsFlushed, WriteMark, bytes_taken, last_piece, without_return};
 ghost use Rattle.lite_theorems.specs.BothWriters.{TakesFront};
@@ -13,20 +13,76 @@ use std::alloc::{AllocError, AllocGlobal};
 use std::io;
 use std::sync::Wait;
 
-/// What is answered to a line: what [`serve_lines`] asks for. The original has no such trait.
+/// The replies that [`serve_lines`] writes: one for each line.
 pub trait LineService {
-    /// The reply to a line, which is without its newline and its return.
+    /// The reply to a line. The line has no newline, and no carriage return before it.
     ghost reply: { Replying };
 
-    /// Makes the reply to a line in its place. `Err` says that memory for it was refused; the line may be anything then.
+    /// Replaces a line with the reply to it. `Err` means that memory for the reply was refused; the line may
+    /// be anything then.
+    ///
+    /// # Examples
+    ///
+    /// ```
+    /// use futures_lite::laws::LineService;
+    /// use std::alloc::AllocError;
+    ///
+    /// #[derive(Drop)]
+    /// struct Echo;
+    ///
+    /// impl LineService for Echo {
+    ///     ghost use Rattle.std.specs.Prelude.{◌++◌, ◌∷◌, []};
+    ///
+    ///     ghost reply = { λ line. line ++ 33 ∷ 10 ∷ [] };
+    ///
+    ///     fn answer(&mut self, line: &mut Vec<u8>) -> Result<(), AllocError> {
+    ///         line.extend_from_slice(b"!\n")
+    ///     }
+    /// }
+    ///
+    /// let mut line = Vec::from_slice(rt.alloc(), b"hello")?;
+    /// Echo.answer(&mut line)?;
+    /// assert_eq!(rt; line.as_slice(), b"hello!\n".as_slice());
+    /// ```
     fn answer(&mut self, line: &mut Vec<u8>) -> Result<(), AllocError>
         ensures { IfOk result (λ _. line.new.items ≡ reply line.old.items) };
 }
 
-/// Answers each line of `requests` to `replies`, up to the first end, in order, on this thread, by `on`. Where it gives `Ok`,
-/// what was written is the replies to the lines of what was read, none lost and none twice, and is flushed; else a front of
-/// those, and the error says why it stopped. It flushes where no more of the input is at hand, too. It may wait for ever. The
-/// original has no such call.
+/// Answers each line of `requests` with a reply to `replies`, in order, up to the first end of file.
+///
+/// It blocks this thread, by `on`, and may wait for ever. If it returns `Ok`, it has written the replies to
+/// all lines, none lost and none twice, and has flushed them. Otherwise it has written a front of those, and
+/// the error says why it stopped. It also flushes when no more input is buffered.
+///
+/// The caller guarantees that `ranks.counts` holds for the reader.
+///
+/// # Examples
+///
+/// ```
+/// use futures_lite::future::BlockOn;
+/// use futures_lite::laws::{LineService, serve_lines};
+/// use std::alloc::AllocError;
+///
+/// #[derive(Drop)]
+/// struct Echo;
+///
+/// impl LineService for Echo {
+///     ghost use Rattle.std.specs.Prelude.{◌++◌, ◌∷◌, []};
+///
+///     ghost reply = { λ line. line ++ 33 ∷ 10 ∷ [] };
+///
+///     fn answer(&mut self, line: &mut Vec<u8>) -> Result<(), AllocError> {
+///         line.extend_from_slice(b"!\n")
+///     }
+/// }
+///
+/// let mut on = BlockOn::new(&rt)?;
+/// let mut requests = b"one\r\ntwo".as_slice();
+/// let mut replies = Vec::new(rt.alloc());
+/// let served = serve_lines(&mut on, &rt, &mut requests, &mut replies, &mut Echo);
+/// assert!(rt; served.is_ok());
+/// assert_eq!(rt; replies.as_slice(), b"one!\ntwo!\n".as_slice());
+/// ```
 pub fn serve_lines<R, I, O, L>(
     on: &mut BlockOn,
     rt: &R,
@@ -52,7 +108,7 @@ where
     unreachable!()
 }
 
-/// Answers the next line, if there is one; says whether a newline ended it.
+/// Answers the next line, if there is one. Returns whether a newline ended it.
 fn answer_next<R, I, O, L>(
     on: &mut BlockOn,
     rt: &R,
@@ -74,7 +130,7 @@ where
     line.clear();
     read_line(on, rt, requests, line)?;
     if take_line(line) {
-        // What was answered is handed on where no more of the input is at hand.
+        // The replies are flushed if no more of the input is buffered.
         let flush_now = requests.buffer().is_empty();
         answer(on, rt, replies, service, line, flush_now)?;
         return Ok(true);
@@ -83,7 +139,7 @@ where
     Ok(false)
 }
 
-/// Reads a line with its newline, or what stands before an end.
+/// Reads a line with its newline, or the bytes before an end of file.
 fn read_line<R: Wait, I: AsyncBufRead + CountedRead>(
     on: &mut BlockOn,
     rt: &R,
@@ -102,7 +158,7 @@ fn read_line<R: Wait, I: AsyncBufRead + CountedRead>(
     }
 }
 
-/// Answers what stood before an end, if that was something, and flushes.
+/// Answers the bytes before an end of file, if there are any, and flushes.
 fn answer_last<R: Wait, O: AsyncWrite, L: LineService>(
     on: &mut BlockOn,
     rt: &R,
@@ -121,7 +177,7 @@ fn answer_last<R: Wait, O: AsyncWrite, L: LineService>(
     answer(on, rt, replies, service, line, true)
 }
 
-/// Answers a line, which becomes the reply, and flushes if that is to be done now.
+/// Replaces a line with its reply, writes that, and flushes if `flush_now`.
 fn answer<R: Wait, O: AsyncWrite, L: LineService>(
     on: &mut BlockOn,
     rt: &R,
@@ -141,7 +197,7 @@ fn answer<R: Wait, O: AsyncWrite, L: LineService>(
     flush_if(on, rt, replies, flush_now)
 }
 
-/// What a wait for a call of the output comes to.
+/// Returns the error of a wait for a call of the output.
 fn of_output(waited: Result<io::Result<()>, AllocError>) -> Result<(), ServeError>
     ensures { IfOk result (λ _. waited ≡ Ok (Ok tt)) × IfErr result OfOutput }
 {
@@ -152,7 +208,7 @@ fn of_output(waited: Result<io::Result<()>, AllocError>) -> Result<(), ServeErro
     }
 }
 
-/// Flushes the replies, if that is to be done now.
+/// Flushes the replies if `now`.
 fn flush_if<R: Wait, O: AsyncWrite>(
     on: &mut BlockOn,
     rt: &R,
@@ -168,7 +224,7 @@ fn flush_if<R: Wait, O: AsyncWrite>(
     of_output(wait_flush(on, rt, replies))
 }
 
-/// Takes the newline off, and one return before it, and says whether there was a newline.
+/// Removes the newline, and one carriage return before it. Returns whether there was a newline.
 fn take_line(piece: &mut Vec<u8>) -> bool
     ensures whole { (before : _) → piece.old.items ≡ before ++ 10 ∷ []
         → (result ≡ true) × (piece.new.items ≡ without_return before) }
@@ -183,7 +239,7 @@ fn take_line(piece: &mut Vec<u8>) -> bool
     true
 }
 
-/// Takes a return at the end off.
+/// Removes a carriage return at the end.
 fn drop_return(line: &mut Vec<u8>)
     ensures { line.new.items ≡ without_return line.old.items }
 {

@@ -12,19 +12,39 @@ use lite_read::Lines;
 use lite_read::make::lines;
 use std::alloc::Global;
 
-/// The future of a collection of the lines of the front of a reader, which is read through a buffer. Made by [`collect_lines`] and
-/// [`collect_buffered_lines`](crate::collect_buffered_lines).
+/// A future that collects the lines of the front of a reader, which is read through a buffer.
+///
+/// Returned by [`collect_lines`] and [`collect_buffered_lines`](crate::collect_buffered_lines).
 pub type CollectLinesFuture<R, C> = TryCollectFuture<Lines<Take<BufReader<R>>>, C>;
 
-/// The future of a collection of the lines of the first `limit` bytes of `reader`, which takes its memory from `memory`. The
-/// reader is read through a buffer of 8192 bytes. `Err` hands it back where there was no memory for the buffer.
+/// Returns a future that collects the lines of the first `limit` bytes of `reader`.
 ///
-/// It is the future that `try_collect` makes of `lines` of `take` of a `BufReader`. However the reader's bytes come in pieces
-/// and wherever it is pending, the collection then holds the text of each line of those bytes in order, and the last one,
-/// though no newline may end it. Where it gives `Err(Source(error))` the lines before that are texts, and the next is an error
-/// of the reader of that kind, or no UTF-8, of the kind `InvalidData`; or memory for a line was refused, `OutOfMemory`. At
-/// `Err(Memory(refused))` the collection that comes back holds the lines before the one that it refused, which comes back too.
-/// The future may be polled where the reader's rank counts and is firm. The original has no such call.
+/// It is the future of `try_collect` of `lines` of `take` of a `BufReader`; its contract says more. The
+/// collection allocates from `memory`, and the reader is read through a buffer of 8192 bytes. The collection
+/// then has the text of each line of those bytes, in order. The last line counts even if no newline ends it.
+/// How the bytes are cut, and when the reader is pending, does not matter.
+///
+/// `Err(Source(error))` means that the lines before it are texts, and the next is not. The error is the
+/// reader's, or of the kind `InvalidData` (the line is not UTF-8), or `OutOfMemory` (memory for the line was
+/// refused). `Err(Memory(refused))` has the collection of the lines before, and the line that it refused.
+///
+/// The future may be polled if `ranks.counts` and `ranks.firm` hold for the reader. If the call itself
+/// returns `Err`, the buffer could not be allocated, and that is the reader.
+///
+/// # Examples
+///
+/// ```
+/// use futures_lite::{future, laws};
+///
+/// let text = b"one\ntwo\nthree".as_slice();
+/// let Ok(collecting) = laws::collect_lines::<_, Vec<String>>(rt.alloc(), text, 9, rt.alloc()) else {
+///     return Err(Fail::from("no memory"));
+/// };
+/// let lines = future::block_on(&rt, collecting)??;
+/// assert_eq!(rt; lines.len(), 3);
+/// assert_eq!(rt; lines[1].as_str(), "two");
+/// assert_eq!(rt; lines[2].as_str(), "t");
+/// ```
 pub fn collect_lines<R, C>(
     alloc: Global,
     reader: R,
@@ -46,12 +66,32 @@ where
     Ok(collect_buffered_lines(alloc, buffered, limit, memory))
 }
 
-/// The future of a collection of the lines of the first `limit` bytes of a buffered reader as it is: of what it has read ahead, and
-/// then of what its inner reader tells. It takes its memory from `memory`, and that of a line from `alloc`.
+/// Returns a future that collects the lines of the first `limit` bytes of a buffered reader.
 ///
-/// It is the future that `try_collect` makes of `lines` of `take` of `reader`, and its value is that of [`collect_lines`]. Nothing
-/// is said of a buffered reader of capacity 0, each fill of which looks like an end. The future may be polled where the rank of the
-/// inner reader counts and is firm. The original has no such call.
+/// The bytes are those that `reader` has buffered, and then those of its inner reader. The collection
+/// allocates from `memory`, and each line from `alloc`. The future is that of `try_collect` of `lines` of
+/// `take` of `reader`. Its value is that of [`collect_lines`].
+///
+/// Nothing is known for a buffered reader of capacity 0, because each of its fills looks like an end of file.
+/// The future may be polled if `ranks.counts` and `ranks.firm` hold for the inner reader.
+///
+/// # Examples
+///
+/// ```
+/// use futures_lite::{AsyncReadExt, future, io, laws};
+///
+/// let Ok(mut reader) = io::BufReader::new(rt.alloc(), b"-one\ntwo\nthree".as_slice()) else {
+///     return Err(Fail::from("no memory"));
+/// };
+/// let mut first = [0u8; 1];
+/// future::block_on(&rt, reader.read_exact(&mut first))??;
+///
+/// let collecting = laws::collect_buffered_lines::<_, Vec<String>>(rt.alloc(), reader, 6, rt.alloc());
+/// let lines = future::block_on(&rt, collecting)??;
+/// assert_eq!(rt; lines.len(), 2);
+/// assert_eq!(rt; lines[0].as_str(), "one");
+/// assert_eq!(rt; lines[1].as_str(), "tw");
+/// ```
 pub fn collect_buffered_lines<R, C>(
     alloc: Global,
     reader: BufReader<R>,

@@ -8,13 +8,26 @@ use lite_gather::{CollectFuture, Gather};
 use lite_merge::Or;
 use lite_merge::make::or;
 
-/// The future of a collection of the items of `first` and `second` as `or` merges them, which takes its memory from
-/// `alloc`. Where it gives `Ok`, in however many polls and wherever the two were pending, the collection holds an
-/// interleaving of all items that the two gave before their first ends: none is lost, none is made up, and those of each
-/// stream keep their order.
+/// Returns a future that collects the items of `first` and `second`, merged by `or`. The collection allocates
+/// from `alloc`.
 ///
-/// It is the future that `collect` makes of `or`, which has no item yet; it may be polled where the ranks of the two count.
-/// `Err` is that of `collect`: what was collected, and the item that it refused. The original has no such call.
+/// It is the future that `collect` returns for `or`; its contract says more. If it resolves to `Ok`, the
+/// collection is an interleaving of all items that the two yield before their first ends. None is lost, none
+/// is added, and the items of each stream keep their order. How many polls that took, and when the two were
+/// pending, does not matter.
+///
+/// The future may be polled if `ranks.counts` holds for both streams. Its `Err` has what was collected, and
+/// the item that the collection refused.
+///
+/// # Examples
+///
+/// ```
+/// use futures_lite::{future, laws, stream};
+///
+/// let collecting = laws::collect_or::<_, _, Vec<u8>>(stream::iter(1u8..3), stream::once(7u8), rt.alloc());
+/// let merged = future::block_on(&rt, collecting)??;
+/// assert_eq!(rt; merged.as_slice(), [1, 2, 7].as_slice());
+/// ```
 pub fn collect_or<S1, S2, C>(first: S1, second: S2, alloc: C::Alloc) -> CollectFuture<Or<S1, S2>, C>
 where
     S1: Counted,

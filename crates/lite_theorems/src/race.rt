@@ -9,13 +9,32 @@ use lite_merge::Race;
 use lite_merge::make::race;
 use rand_core::Rng;
 
-/// The future of a collection of the items of `first` and `second` as `race` merges them by the words of `rng`, which
-/// takes its memory from `alloc`. Where it gives `Ok`, in however many polls, wherever the two were pending and whatever
-/// the words were, the collection holds an interleaving of all items that the two gave before their first ends: none is
-/// lost, none is made up, and those of each stream keep their order.
+/// Returns a future that collects the items of `first` and `second`, merged by `race` with the words of
+/// `rng`. The collection allocates from `alloc`.
 ///
-/// It is the future that `collect` makes of `race`, which has no item yet; it may be polled where the ranks of the two are
-/// firm. `Err` is that of `collect`: what was collected, and the item that it refused. The original has no such call.
+/// It is the future that `collect` returns for `race`; its contract says more. If it resolves to `Ok`, the
+/// collection is an interleaving of all items that the two yield before their first ends. None is lost, none
+/// is added, and the items of each stream keep their order. How many polls that took, when the two were
+/// pending, and what the words were does not matter.
+///
+/// The future may be polled if `ranks.firm` holds for both streams. Its `Err` has what was collected, and the
+/// item that the collection refused.
+///
+/// # Examples
+///
+/// ```
+/// use futures_lite::{future, laws, stream};
+/// use rand_core::SeedableRng;
+/// use rand_pcg::Pcg32;
+///
+/// let (small, large) = (stream::iter(1u8..4), stream::iter(11u8..14));
+/// let rng = Pcg32::seed_from_u64(7);
+/// let collecting = laws::collect_race::<_, _, _, Vec<u8>>(small, large, rng, rt.alloc());
+/// let merged = future::block_on(&rt, collecting)??;
+/// assert_eq!(rt; merged.len(), 6);
+/// assert!(rt; merged.iter().copied().filter(|x: &u8| *x < 10).eq(1u8..4));
+/// assert!(rt; merged.iter().copied().filter(|x: &u8| *x > 10).eq(11u8..14));
+/// ```
 pub fn collect_race<S1, S2, R, C>(
     first: S1,
     second: S2,

@@ -1,4 +1,5 @@
-//! Waits for one call of a reader or a writer: what was told or taken until the value, by the contracts of the traits alone.
+//! Blocking waits for one call of a reader or a writer. Their contracts follow from those of the traits
+//! alone. They say which events the reader produced, or which bytes the writer accepted.
 ghost use Rattle.std.specs.Prelude.{◌≡◌, ◌≤◌, ◌++◌, [], ℕ, List, Ok, IfErr, IfOk, IsOk, length};
 ghost use Rattle.lite_theorems.specs.Uses.{Ready, ReadMark, read_marks, WriteMark, bytes_taken};
 ghost use Rattle.lite_theorems.specs.BothWriters.{FlushedUp, HandedUp, TakesFront};
@@ -12,8 +13,24 @@ use std::alloc::AllocError;
 use std::io;
 use std::sync::Wait;
 
-/// Waits on this thread, by `on`, for one read into `buf`. The value is that of [`read`]; the reader told its marks and
-/// pendings. It may wait for ever. It never returns `Err`. The original has no such call.
+/// Blocks this thread, by `on`, until one read into `buf` is done, and returns its value.
+///
+/// The value is that of [`read`]. The reader produced the events of that value, and pendings. The call may
+/// wait for ever. It never returns `Err` itself.
+///
+/// # Examples
+///
+/// ```
+/// use futures_lite::future::BlockOn;
+/// use futures_lite::laws::wait_read;
+///
+/// let mut on = BlockOn::new(&rt)?;
+/// let mut reader = b"abc".as_slice();
+/// let mut buf = [0u8; 2];
+/// assert_eq!(rt; wait_read(&mut on, &rt, &mut reader, &mut buf)??, 2);
+/// assert_eq!(rt; buf, *b"ab");
+/// assert_eq!(rt; wait_read(&mut on, &rt, &mut reader, &mut buf)??, 1);
+/// ```
 pub fn wait_read<R: Wait, T: AsyncRead>(
     on: &mut BlockOn,
     rt: &R,
@@ -29,9 +46,28 @@ pub fn wait_read<R: Wait, T: AsyncRead>(
     on.wait_for(rt, &mut read(reader, buf))
 }
 
-/// Waits on this thread, by `on`, until `buf` is full. The value is that of [`read_exact`]; where it is `Ok` the reader told
-/// just the bytes of the buffer, and else fewer and then an end or the error. It may wait for ever. It never
-/// returns `Err`. The original has no such call.
+/// Blocks this thread, by `on`, until `buf` is full, and returns the value.
+///
+/// The value is that of [`read_exact`]. If it is `Ok`, the reader produced exactly the bytes of the buffer.
+/// Otherwise it produced fewer, and then an end of file or the error. The call may wait for ever. It never
+/// returns `Err` itself.
+///
+/// # Examples
+///
+/// ```
+/// use futures_lite::future::BlockOn;
+/// use futures_lite::laws::wait_read_exact;
+/// use std::io::ErrorKind;
+///
+/// let mut on = BlockOn::new(&rt)?;
+/// let mut reader = b"abc".as_slice();
+/// let mut buf = [0u8; 2];
+/// wait_read_exact(&mut on, &rt, &mut reader, &mut buf)??;
+/// assert_eq!(rt; buf, *b"ab");
+///
+/// let short = wait_read_exact(&mut on, &rt, &mut reader, &mut buf)?;
+/// assert_eq!(rt; short.map_err(|e| e.kind()), Err(ErrorKind::UnexpectedEof));
+/// ```
 pub fn wait_read_exact<R: Wait, T: AsyncRead>(
     on: &mut BlockOn,
     rt: &R,
@@ -46,9 +82,26 @@ pub fn wait_read_exact<R: Wait, T: AsyncRead>(
     on.wait_for(rt, &mut read_exact(reader, buf))
 }
 
-/// Waits on this thread, by `on`, until a piece up to a byte that is `byte`, or up to an end, was appended to `buf`. The value
-/// is that of [`read_until`]; the reader told just the bytes that were appended, and then the end or the error, where there
-/// was one. It may wait for ever. It never returns `Err`. The original has no such call.
+/// Blocks this thread, by `on`, until a piece that ends in `byte`, or at an end of file, was appended to
+/// `buf`.
+///
+/// The value is that of [`read_until`]. The reader produced exactly the bytes that were appended, and then
+/// the end of file or the error, if there was one. The call may wait for ever. It never returns `Err` itself.
+/// The caller guarantees that `ranks.counts` holds for the reader.
+///
+/// # Examples
+///
+/// ```
+/// use futures_lite::future::BlockOn;
+/// use futures_lite::laws::wait_read_until;
+///
+/// let mut on = BlockOn::new(&rt)?;
+/// let mut reader = b"ab\nc".as_slice();
+/// let mut piece = Vec::new(rt.alloc());
+/// assert_eq!(rt; wait_read_until(&mut on, &rt, &mut reader, b'\n', &mut piece)??, 3);
+/// assert_eq!(rt; wait_read_until(&mut on, &rt, &mut reader, b'\n', &mut piece)??, 1);
+/// assert_eq!(rt; piece.as_slice(), b"ab\nc".as_slice());
+/// ```
 pub fn wait_read_until<R: Wait, T: AsyncBufRead + CountedRead>(
     on: &mut BlockOn,
     rt: &R,
@@ -66,9 +119,24 @@ pub fn wait_read_until<R: Wait, T: AsyncBufRead + CountedRead>(
     on.wait_for(rt, &mut read_until(reader, byte, buf))
 }
 
-/// Waits on this thread, by `on`, until the writer took all of `bytes`. The value is that of [`write_all`]; where it is `Ok`
-/// just these bytes were taken, and else a front of them, and then the error. It may wait for ever. It never
-/// returns `Err`. The original has no such call.
+/// Blocks this thread, by `on`, until the writer has accepted all of `bytes`, and returns the value.
+///
+/// The value is that of [`write_all`]. If it is `Ok`, the writer accepted exactly these bytes. Otherwise it
+/// accepted a front of them, and then returned the error. The call may wait for ever. It never returns `Err`
+/// itself.
+///
+/// # Examples
+///
+/// ```
+/// use futures_lite::future::BlockOn;
+/// use futures_lite::laws::wait_write_all;
+///
+/// let mut on = BlockOn::new(&rt)?;
+/// let mut written = Vec::new(rt.alloc());
+/// wait_write_all(&mut on, &rt, &mut written, b"ab")??;
+/// wait_write_all(&mut on, &rt, &mut written, b"c")??;
+/// assert_eq!(rt; written.as_slice(), b"abc".as_slice());
+/// ```
 pub fn wait_write_all<R: Wait, T: AsyncWrite>(
     on: &mut BlockOn,
     rt: &R,
@@ -82,8 +150,28 @@ pub fn wait_write_all<R: Wait, T: AsyncWrite>(
     on.wait_for(rt, &mut write_all(writer, bytes))
 }
 
-/// Waits on this thread, by `on`, until the writer was flushed. The value is that of [`flush`]; no byte was taken. It may wait
-/// for ever. It never returns `Err`. The original has no such call.
+/// Blocks this thread, by `on`, until the writer was flushed, and returns the value.
+///
+/// The value is that of [`flush`]. The writer accepts no byte. The call may wait for ever. It never returns
+/// `Err` itself.
+///
+/// # Examples
+///
+/// ```
+/// use futures_lite::future::BlockOn;
+/// use futures_lite::io::BufWriter;
+/// use futures_lite::laws::{wait_flush, wait_write_all};
+///
+/// let mut on = BlockOn::new(&rt)?;
+/// let mut written = Vec::new(rt.alloc());
+/// let Ok(mut writer) = BufWriter::new(rt.alloc(), &mut written) else {
+///     return Err(Fail::from("no memory"));
+/// };
+/// wait_write_all(&mut on, &rt, &mut writer, b"abc")??;
+/// wait_flush(&mut on, &rt, &mut writer)??;
+/// drop(writer);
+/// assert_eq!(rt; written.as_slice(), b"abc".as_slice());
+/// ```
 pub fn wait_flush<R: Wait, T: AsyncWrite>(
     on: &mut BlockOn,
     rt: &R,

@@ -1,4 +1,4 @@
-//! Waits on this thread for a future.
+//! Blocking waits for a future.
 ghost use Rattle.std.specs.Prelude.{◌≡◌, IfOk, IsOk, List, OnErr};
 ghost use Rattle.lite_base.specs.Uses.{Poll};
 ghost use Rattle.lite_base.specs.Answers.{Gives};
@@ -13,11 +13,7 @@ use std::io::ErrorKind;
 use std::random::RandomSource;
 use std::sync::Wait;
 
-/// Polls `future` on this thread until it is ready, and answers its value. It may wait for ever.
-///
-/// It is [`BlockOn::block_on`] over a `BlockOn` of its own: `Err` says that there was no memory for that, and the future
-/// was not polled. The future is let go, so it has to be `Drop`. Whoever waits often keeps a [`BlockOn`], and saves making
-/// one at each call. Ported from `src/future.rs`, `block_on`, which keeps what it sleeps on for each thread.
+/// Blocks this thread until `future` is ready, and returns its value.
 pub fn block_on<R, F>(rt: &R, future: F) -> Result<F::Output, AllocError>
 where
     R: Wait + RandomSource + AllocGlobal,
@@ -28,9 +24,22 @@ where
     BlockOn::new(rt)?.block_on(rt, future)
 }
 
-/// What a thread sleeps on while it waits for a future. It serves any number of futures, one after another.
+/// What a thread sleeps on while it waits for a future.
 ///
-/// The original has no such type: its `block_on` keeps this for each thread, where there are no thread-local values here.
+/// It serves any number of futures, one after another. It allocates when it is made, and not for each wait.
+/// Unlike futures-lite, which caches this for each thread, the caller keeps it.
+///
+/// # Examples
+///
+/// ```
+/// use futures_lite::future::{self, BlockOn};
+///
+/// let mut on = BlockOn::new(&rt)?;
+/// for number in 0..3u8 {
+///     on.block_on(&rt, future::yield_now())?;
+///     assert_eq!(rt; on.block_on(&rt, future::ready(number))?, number);
+/// }
+/// ```
 #[derive(Drop)]
 pub struct BlockOn {
     // It has one task, which is queued between two calls. A queue that gets its first task rings its doorbell, and a ring
@@ -48,8 +57,19 @@ impl fmt::Debug for BlockOn {
 }
 
 impl BlockOn {
-    /// Makes what a thread sleeps on. `Err` is want of memory alone. While the system gives no random bytes, of which it
-    /// is named, they are asked for again, so a source that always fails is asked for ever.
+    /// Returns a `BlockOn`, and allocates all that its waits need.
+    ///
+    /// It needs random bytes for the queue's name, and retries until the system supplies them. If the system
+    /// never does, the call never returns. `AllocError` is an allocation failure.
+    ///
+    /// # Examples
+    ///
+    /// ```
+    /// use futures_lite::future::{self, BlockOn};
+    ///
+    /// let mut on = BlockOn::new(&rt)?;
+    /// assert_eq!(rt; on.block_on(&rt, future::ready(7u8))?, 7);
+    /// ```
     pub fn new<R>(rt: &R) -> Result<BlockOn, AllocError>
     where
         R: Wait + RandomSource + AllocGlobal,
@@ -63,9 +83,20 @@ impl BlockOn {
         })
     }
 
-    /// Polls `future` on this thread until it is ready, and answers its value. It may wait for ever.
+    /// Blocks this thread until `future` is ready, and returns its value.
     ///
-    /// It is [`wait_for`](BlockOn::wait_for), after which the future is dropped. It never returns `Err`.
+    /// It may wait for ever. The call is [`wait_for`](BlockOn::wait_for), and drops the future afterwards. It
+    /// never returns `Err`. The caller guarantees that `future` may be polled.
+    ///
+    /// # Examples
+    ///
+    /// ```
+    /// use futures_lite::future::{self, BlockOn};
+    ///
+    /// let mut on = BlockOn::new(&rt)?;
+    /// let both = future::zip(future::yield_now(), future::ready(7u8));
+    /// assert_eq!(rt; on.block_on(&rt, both)?, ((), 7));
+    /// ```
     pub fn block_on<R: Wait, F: Future + Drop>(
         &mut self,
         rt: &R,
@@ -78,11 +109,22 @@ impl BlockOn {
         self.wait_for(rt, &mut future)
     }
 
-    /// Polls `future`, which stays with the caller, on this thread until it is ready, and answers its value. It may wait for
-    /// ever.
+    /// Blocks this thread until `future` is ready, and returns its value. The future stays with the caller.
     ///
-    /// After a poll that returns `Pending` the thread sleeps until the context of that poll is woken. If nothing wakes it,
-    /// it sleeps for ever. The call never returns `Err`: what a wait needs was allocated by [`new`](BlockOn::new).
+    /// After a poll that returns `Pending` the thread sleeps until the context of that poll is woken. If
+    /// nothing wakes it, it sleeps for ever. The call never returns `Err`, because [`new`](BlockOn::new)
+    /// allocated what a wait needs. The caller guarantees that `future` may be polled.
+    ///
+    /// # Examples
+    ///
+    /// ```
+    /// use futures_lite::future::{self, BlockOn};
+    ///
+    /// let mut on = BlockOn::new(&rt)?;
+    /// let mut fused = future::fuse(future::ready(7u8));
+    /// assert_eq!(rt; on.wait_for(&rt, &mut fused)?, 7);
+    /// assert_eq!(rt; on.block_on(&rt, future::poll_once(fused))?, None);
+    /// ```
     pub fn wait_for<R: Wait, F: Future>(
         &mut self,
         rt: &R,
@@ -115,8 +157,8 @@ impl BlockOn {
     }
 }
 
-/// A queue with a random name of its own. `Err` is want of memory alone: where there are no random bytes, they are
-/// asked for again, for as long as there are none.
+/// Returns a queue with a random name of its own. `Err` is an allocation failure. The call retries until the
+/// system supplies random bytes.
 fn named_queue<R>(rt: &R) -> Result<Queue, AllocError>
 where
     R: Wait + RandomSource + AllocGlobal,

@@ -15,14 +15,12 @@ use super::{Future, Or, PollFn, PollOnce, Race, Ready, TryZip, YieldNow, Zip};
 use crate::{Context, Poll};
 use rand_core::Rng;
 
-/// A future of which some values, the calm ones, are never pending.
-///
-/// The original has no such trait.
+/// A future with states from which it never returns `Pending`.
 pub trait CalmFuture: Future {
-    /// The values that are never pending, from now on.
+    /// The values that never return `Pending`, from now on.
     ghost is_calm: { Self → Type 0 };
 
-    /// Does nothing. The trait is its law.
+    /// Does nothing. The trait exists for its law.
     fn is_calm_future(&self) {}
 
     ghost calm: { CalmLaws Self.run is_calm };
@@ -47,7 +45,7 @@ impl<F: Future> CalmFuture for PollOnce<F> {
     ghost calm = { tells_calm F.run };
 }
 
-// As `or`, whichever is asked first.
+// As `or`, whichever is polled first.
 impl<F1, F2, G> CalmFuture for Race<F1, F2, G>
 where
     F1: CalmFuture,

@@ -7,9 +7,10 @@ ghost use Rattle.lite_base.specs.Registered.{Registered};
 use super::Future;
 use crate::{Context, Poll};
 
-/// Lets its future go in the poll that answers ready, and is pending for ever after that.
+/// A future that drops its inner future in the poll that returns the value, and returns `Pending` for ever
+/// after that.
 ///
-/// Made by [`fuse`](super::make::fuse). It may be polled after its value too. Ported from `src/future.rs`, `Fuse`.
+/// Returned by [`fuse`](super::make::fuse). It may be polled after its value too.
 #[derive(Debug, Drop)]
 pub struct Fuse<F> {
     pub(crate) inner: Option<F>,

@@ -1,4 +1,4 @@
-//! What makes the futures.
+//! Functions that make futures.
 ghost use Rattle.std.specs.Prelude.{◌≡◌, None, Result, Some, false};
 ghost use Rattle.lite_base.specs.declared.future.half.Half.TheVariants.{Asked};
 
@@ -9,14 +9,23 @@ use rand_core::{Rng, SeedableRng};
 use rand_pcg::Pcg32;
 use std::marker::PhantomData;
 
-/// A future that is ready with `value` at the first poll. Ported from `core::future::ready`.
+/// Returns a future that is ready with `value` at the first poll.
 pub fn ready<T>(value: T) -> Ready<T>
     ensures { result ≡ record { value = Some value } }
 {
     Ready { value: Some(value) }
 }
 
-/// A future that is never ready, and may be polled for ever. Ported from `core::future::pending`.
+/// Returns a future that is never ready. Every poll returns `Pending`, and wakes nothing.
+///
+/// # Examples
+///
+/// ```
+/// use futures_lite::future;
+///
+/// let never = future::pending::<u8>();
+/// assert_eq!(rt; future::block_on(&rt, future::poll_once(never))?, None);
+/// ```
 pub fn pending<T>() -> Pending<T>
     ensures { result ≡ record { marker = record {} } }
 {
@@ -25,8 +34,22 @@ pub fn pending<T>() -> Pending<T>
     }
 }
 
-/// A future that calls `f` at each poll, and hands on what it answers. A poll asks that `f` may be called with any
-/// context, and keeps what the context holds. Ported from `src/future.rs`, `poll_fn`.
+/// Returns a future that calls `f` at each poll, and returns the result.
+///
+/// The caller guarantees that `f` may be called with any context, and keeps what the context holds.
+///
+/// # Examples
+///
+/// ```
+/// use futures_lite::{Context, Poll, future};
+///
+/// let mut polls = 0u8;
+/// let third = future::poll_fn(|cx: &mut Context<'_>| {
+///     polls = polls.wrapping_add(1);
+///     if polls < 3 { cx.yield_now() } else { Poll::Ready(polls) }
+/// });
+/// assert_eq!(rt; future::block_on(&rt, third)?, 3);
+/// ```
 pub fn poll_fn<T, F>(f: F) -> PollFn<F>
 where
     F: FnMut(&mut Context<'_>) -> Poll<T>,
@@ -35,25 +58,59 @@ where
     PollFn { f }
 }
 
-/// A future that wakes its context and is pending once, and then ready; it may be polled after that too. Ported from
-/// `src/future.rs`, `yield_now`.
+/// Returns a future that returns `Pending` once, and then is ready.
+///
+/// The first poll wakes its context, so the task is polled again. The future may also be polled after it was
+/// ready.
+///
+/// # Examples
+///
+/// ```
+/// use futures_lite::future;
+///
+/// let mut yielding = future::yield_now();
+/// assert_eq!(rt; future::block_on(&rt, future::poll_once(&mut yielding))?, None);
+/// assert_eq!(rt; future::block_on(&rt, future::poll_once(&mut yielding))?, Some(()));
+/// ```
 pub fn yield_now() -> YieldNow
     ensures { result ≡ record { yielded = false } }
 {
     YieldNow { yielded: false }
 }
 
-/// A future that polls `f` once, and is ready with what it answered: `Some` of the value, or `None` where it was
-/// pending. It may be polled again only where `f` may, as after its `None`. Ported from `src/future.rs`, `poll_once`.
+/// Returns a future that polls `f` once, and is ready with the result.
+///
+/// The value is `Some(value)` if `f` was ready, and `None` if it returned `Pending`. The future may be polled
+/// again only if `f` may, as after a `None`.
+///
+/// # Examples
+///
+/// ```
+/// use futures_lite::future;
+///
+/// assert_eq!(rt; future::block_on(&rt, future::poll_once(future::ready(7u8)))?, Some(7));
+/// assert_eq!(rt; future::block_on(&rt, future::poll_once(future::pending::<u8>()))?, None);
+/// ```
 pub fn poll_once<F: Future>(f: F) -> PollOnce<F>
     ensures { result ≡ record { f = f } }
 {
     PollOnce { f }
 }
 
-/// A future of both values, once both are there. Each poll polls each unfinished future once, the first before the
-/// second. A future is let go with its value, so the futures and the values have to be `Drop`. Ported from
-/// `src/future.rs`, `zip`.
+/// Returns a future that resolves to the pair of both values, once both futures are ready.
+///
+/// Each poll polls each future that is not ready yet once, the first before the second. A future is dropped
+/// when its value is there. The futures and the values have to be `Drop`.
+///
+/// # Examples
+///
+/// ```
+/// use futures_lite::future;
+///
+/// let mut both = future::zip(future::yield_now(), future::ready(2u8));
+/// assert_eq!(rt; future::block_on(&rt, future::poll_once(&mut both))?, None);
+/// assert_eq!(rt; future::block_on(&rt, both)?, ((), 2));
+/// ```
 pub fn zip<F1, F2>(future1: F1, future2: F2) -> Zip<F1, F2>
 where
     F1: Future<Output: Drop>,
@@ -67,9 +124,23 @@ where
     }
 }
 
-/// A future of both values, once both are there, or of the first error that is met. Each poll polls each unfinished
-/// future once, the first before the second, which is not polled beside an error of the first. The futures and the
-/// values have to be `Drop`. Ported from `src/future.rs`, `try_zip`.
+/// Returns a future that resolves to the pair of both values, or to the first error.
+///
+/// Each poll polls each future that is not ready yet once, the first before the second. If the first future
+/// fails, the second is not polled in that poll. The futures and the values have to be `Drop`.
+///
+/// # Examples
+///
+/// ```
+/// use futures_lite::future;
+///
+/// let both = future::try_zip(future::ready(Ok::<u8, &str>(1)), future::ready(Ok::<u8, &str>(2)));
+/// assert_eq!(rt; future::block_on(&rt, both)?, Ok((1, 2)));
+///
+/// let second = future::ready(Err::<u8, &str>("full"));
+/// let failed = future::try_zip(future::pending::<Result<u8, &str>>(), second);
+/// assert_eq!(rt; future::block_on(&rt, failed)?, Err("full"));
+/// ```
 pub fn try_zip<T1, T2, E, F1, F2>(future1: F1, future2: F2) -> TryZip<F1, T1, F2, T2>
 where
     F1: Future<Output = Result<T1, E>>,
@@ -83,8 +154,22 @@ where
     }
 }
 
-/// A future of the value that is there first, and of the first future's where both are: the second is polled only
-/// where the first was pending. Ported from `src/future.rs`, `or`.
+/// Returns a future that resolves to the value of the future that is ready first. It prefers `future1` if
+/// both are.
+///
+/// Each poll polls `future1`, and then `future2` only if `future1` returned `Pending`.
+///
+/// # Examples
+///
+/// ```
+/// use futures_lite::future;
+///
+/// let both = future::or(future::ready(1u8), future::ready(2));
+/// assert_eq!(rt; future::block_on(&rt, both)?, 1);
+///
+/// let second = future::or(future::pending(), future::ready(2u8));
+/// assert_eq!(rt; future::block_on(&rt, second)?, 2);
+/// ```
 pub fn or<T, F1, F2>(future1: F1, future2: F2) -> Or<F1, F2>
 where
     F1: Future<Output = T>,
@@ -94,9 +179,23 @@ where
     Or { future1, future2 }
 }
 
-/// A future of the value that is there first; where both are, the generator chooses: its next word, one a poll, says
-/// by the lowest bit which is polled first, 1 the first; the other is polled only if that was pending. Ported from
-/// `src/future.rs`, `race`, which has a generator of the thread.
+/// Returns a future that resolves to the value of the future that is ready first. If both are, `rng` chooses.
+///
+/// Each poll draws one word of `rng`. If its lowest bit is 1, `future1` is polled first, otherwise `future2`.
+/// The other is polled only if that one returned `Pending`. Unlike futures-lite, the caller supplies the
+/// generator.
+///
+/// # Examples
+///
+/// ```
+/// use futures_lite::future;
+/// use rand_core::SeedableRng;
+/// use rand_pcg::Pcg32;
+///
+/// let rng = Pcg32::seed_from_u64(7);
+/// let second = future::race(future::pending(), future::ready(2u8), rng);
+/// assert_eq!(rt; future::block_on(&rt, second)?, 2);
+/// ```
 pub fn race<T, F1, F2, G>(future1: F1, future2: F2, rng: G) -> Race<F1, F2, G>
 where
     F1: Future<Output = T>,
@@ -111,8 +210,22 @@ where
     }
 }
 
-/// As [`race`], with a generator that is made from `seed`. Ported from `src/future.rs`, `race_with_seed`; the bits
-/// that a seed gives are those of `Pcg32`.
+/// Returns a future like that of [`race`], with a generator made from `seed`.
+///
+/// The generator is a `Pcg32`, so its bits differ from those of futures-lite for the same seed.
+///
+/// # Examples
+///
+/// ```
+/// use futures_lite::future;
+///
+/// let mut firsts = 0u32;
+/// for seed in 0..50u64 {
+///     let winner = future::race_with_seed(future::ready(1u32), future::ready(0), seed);
+///     firsts = firsts.wrapping_add(future::block_on(&rt, winner)?);
+/// }
+/// assert!(rt; firsts > 0 && firsts < 50);
+/// ```
 pub fn race_with_seed<T, F1, F2>(future1: F1, future2: F2, seed: u64) -> Race<F1, F2, Pcg32>
 where
     F1: Future<Output = T>,
@@ -126,8 +239,20 @@ where
     race(future1, future2, Pcg32::seed_from_u64(seed))
 }
 
-/// A future that lets `future` go in the poll that gives its value, so it has to be `Drop`, and is pending for ever after
-/// that. Ported from `src/future.rs`, `fuse`.
+/// Returns a future that resolves to the value of `future`, and may be polled for ever after that.
+///
+/// It drops `future` in the poll that returns the value, so `future` has to be `Drop`. All later polls return
+/// `Pending`.
+///
+/// # Examples
+///
+/// ```
+/// use futures_lite::future;
+///
+/// let mut fused = future::fuse(future::ready(7u8));
+/// assert_eq!(rt; future::block_on(&rt, future::poll_once(&mut fused))?, Some(7));
+/// assert_eq!(rt; future::block_on(&rt, future::poll_once(&mut fused))?, None);
+/// ```
 pub fn fuse<F: Future>(future: F) -> Fuse<F>
     ensures { result ≡ record { inner = Some future } }
 {

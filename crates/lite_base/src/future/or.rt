@@ -6,10 +6,11 @@ use super::Future;
 use super::picks::poll_in_order;
 use crate::{Context, Poll};
 
-/// The value of the future that is ready first, and of the first future where both are.
+/// A future that resolves to the value of whichever of two futures is ready first. It prefers the first if
+/// both are.
 ///
-/// Made by [`or`](super::make::or). The second future is polled only where the first was pending. Ported from
-/// `src/future.rs`, `Or`.
+/// Returned by [`or`](super::make::or). Each poll polls the second future only if the first returned
+/// `Pending`.
 #[derive(Debug, Drop)]
 pub struct Or<F1, F2> {
     pub(crate) future1: F1,

@@ -7,10 +7,10 @@ use crate::{Context, Poll};
 use std::alloc::AllocError;
 use std::marker::PhantomData;
 
-/// Is never ready, and may always be polled again.
+/// A future that is never ready, and may always be polled again.
 ///
-/// Made by [`pending`](super::make::pending). A poll leaves nothing in its context. Ported from
-/// `core::future::Pending`, which `src/future.rs` re-exports.
+/// Returned by [`pending`](super::make::pending). A poll registers nothing in its context, so nothing wakes
+/// the task.
 #[derive(Debug, Drop)]
 pub struct Pending<T> {
     pub(crate) marker: PhantomData<T>,

@@ -6,7 +6,7 @@ ghost use Rattle.lite_base.specs.Registered.{Registered};
 use super::Future;
 use crate::{Context, Poll};
 
-/// Polls `first`, and `second` only where that was pending.
+/// Polls `first`, and then `second` if `first` returned `Pending`.
 pub(crate) fn poll_in_order<F, G>(
     first: &mut F,
     second: &mut G,

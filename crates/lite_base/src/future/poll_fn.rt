@@ -6,9 +6,9 @@ use super::Future;
 use crate::{Context, Poll};
 use std::fmt;
 
-/// Calls a function at each poll, and hands on what it answers.
+/// A future that calls a closure at each poll, and returns the result.
 ///
-/// Made by [`poll_fn`](super::make::poll_fn). Ported from `src/future.rs`, `PollFn`.
+/// Returned by [`poll_fn`](super::make::poll_fn).
 #[derive(Drop)]
 pub struct PollFn<F> {
     pub(crate) f: F,

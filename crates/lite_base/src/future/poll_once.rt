@@ -5,9 +5,10 @@ use super::Future;
 use crate::{Context, Poll};
 use std::fmt;
 
-/// Polls a future once, and is ready with what it answered: `Some` of its value, or `None` where it was pending.
+/// A future that polls another once, and is ready with the result.
 ///
-/// Made by [`poll_once`](super::make::poll_once). Ported from `src/future.rs`, `PollOnce`.
+/// Returned by [`poll_once`](super::make::poll_once). The value is `Some(value)` if the other future was
+/// ready, and `None` if it returned `Pending`.
 #[derive(Drop)]
 pub struct PollOnce<F> {
     pub(crate) f: F,

@@ -7,11 +7,12 @@ use super::picks::poll_in_order;
 use crate::{Context, Poll};
 use rand_core::Rng;
 
-/// The value of the future that is ready first, with no preference where both are.
+/// A future that resolves to the value of whichever of two futures is ready first, with no preference if both
+/// are.
 ///
-/// Made by [`race`](super::make::race) and [`race_with_seed`](super::make::race_with_seed). Each poll takes one
-/// word of the generator by `next_u32`. Where its lowest bit is 1 the first future is polled first, and else the
-/// second; the other is polled only where that one was pending. Ported from `src/future.rs`, `Race`.
+/// Returned by [`race`](super::make::race) and [`race_with_seed`](super::make::race_with_seed). Each poll
+/// draws one word of the generator by `next_u32`. If its lowest bit is 1, the first future is polled first,
+/// otherwise the second. The other is polled only if that one returned `Pending`.
 #[derive(Debug, Drop)]
 pub struct Race<F1, F2, G> {
     pub(crate) future1: F1,

@@ -5,10 +5,9 @@ ghost use Rattle.lite_base.specs.Laws.Future.Ready.{held_laws};
 use super::Future;
 use crate::{Context, Poll};
 
-/// Gives a value at the first poll.
+/// A future that is ready at the first poll.
 ///
-/// Made by [`ready`](super::make::ready). A poll asks that the value is still there. Ported from
-/// `core::future::Ready`, which `src/future.rs` re-exports.
+/// Returned by [`ready`](super::make::ready). It may be polled only while it holds its value.
 #[derive(Clone, Debug, Drop)]
 pub struct Ready<T> {
     pub(crate) value: Option<T>,

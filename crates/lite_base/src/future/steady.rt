@@ -20,23 +20,21 @@ ghost use Rattle.lite_base.specs.Runs.{Runs};
 use super::{Fuse, Future, Pending, PollFn, Ready, YieldNow, Zip};
 use crate::{Context, Poll};
 
-/// A future whose value does not depend on when it was pending, where memory was found.
-///
-/// The original has no such trait: it is a law, which its documentation leaves unsaid.
+/// A future whose value does not depend on when it was pending, unless memory was refused.
 pub trait SteadyFuture: Future {
     /// The runs in which no memory was refused.
     ghost ample: { Runs (Poll Self.Output) Self };
 
-    /// That no poll asks for memory; then each run is ample.
+    /// No poll allocates. Then each run is ample.
     ghost needs_none: { Type 0 } = { ⊤ };
 
-    /// When two values that it gives are the same: where they are equal, if its type says nothing else.
+    /// When two values that it returns are the same. By default they are if they are equal.
     ghost same: { Sameness Self.Output } = { Sameness.equal };
 
     /// The futures whose values are the same.
     ghost alike: { Self → Self → Type 0 };
 
-    /// Does nothing. The trait is its law.
+    /// Does nothing. The trait exists for its law.
     fn is_steady_future(&self) {}
 
     ghost steady: { FutureSteadyLawsBy same Self.run ample needs_none alike };
@@ -62,7 +60,7 @@ impl<T> SteadyFuture for Pending<T> {
     ghost steady = { waits_steady };
 }
 
-// A function is its own source: it is alike to one whose answers are the same, pendings aside.
+// A closure is its own source. Two are alike if they return the same, apart from `Pending`.
 impl<T, F: FnMut(&mut Context<'_>) -> Poll<T>> SteadyFuture for PollFn<F> {
     ghost ample = { λ x l y. Polled F.FnMut x.f l y.f };
 

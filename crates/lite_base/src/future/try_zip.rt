@@ -7,11 +7,11 @@ use super::Future;
 use super::half::{Half, take_both, try_ask};
 use crate::{Context, Poll};
 
-/// The values of two futures, once both are there, or the first error.
+/// A future that resolves to the values of two futures, or to the first error.
 ///
-/// Made by [`try_zip`](super::make::try_zip). Each poll polls each future that has no value yet, the first before
-/// the second, and the second only where the first did not fail in that poll. A future is let go in the poll that
-/// gives its value; after an error both are kept as they are. Ported from `src/future.rs`, `TryZip`.
+/// Returned by [`try_zip`](super::make::try_zip). Each poll polls each future that has no value yet, the
+/// first before the second. It does not poll the second if the first failed in that poll. A future is dropped
+/// in the poll that returns its value. After an error both stay as they are.
 #[derive(Debug, Drop)]
 pub struct TryZip<F1, T1, F2, T2> {
     pub(crate) first: Half<F1, T1>,

@@ -6,9 +6,9 @@ ghost use Rattle.lite_base.specs.Woken.{HoldsWoken};
 use super::Future;
 use crate::{Context, Poll};
 
-/// Wakes its context and is pending once, and is then ready.
+/// A future that wakes its context and returns `Pending` once, and then is ready.
 ///
-/// Made by [`yield_now`](super::make::yield_now). Ported from `src/future.rs`, `YieldNow`.
+/// Returned by [`yield_now`](super::make::yield_now).
 #[derive(Debug, Drop)]
 pub struct YieldNow {
     pub(crate) yielded: bool,

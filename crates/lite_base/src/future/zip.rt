@@ -7,10 +7,10 @@ use super::Future;
 use super::half::{Half, ask, take_both};
 use crate::{Context, Poll};
 
-/// The values of two futures, once both are there.
+/// A future that resolves to the values of two futures, once both are ready.
 ///
-/// Made by [`zip`](super::make::zip). Each poll polls each future that has no value yet, the first before the
-/// second, and lets a future go in the poll that gives its value. Ported from `src/future.rs`, `Zip`.
+/// Returned by [`zip`](super::make::zip). Each poll polls each future that has no value yet, the first before
+/// the second. A future is dropped in the poll that returns its value.
 #[derive(Debug, Drop)]
 pub struct Zip<F1: Future<Output: Drop>, F2: Future<Output: Drop>> {
     pub(crate) first: Half<F1, F1::Output>,
