@@ -85,7 +85,7 @@ where
     F: Future,
     requires { F.can_poll future.old }
     ensures gave { IfOk result (λ value. (ins : _) × Gives ins value × F.run future.old ins future.new) }
-    ensures kept { OnErr result (future.new ≡ future.old) }
+    ensures unchanged { OnErr result (future.new ≡ future.old) }
     ensures left { LeftSeen future.old result future.new × LeftAs F.run future.old result future.new }
 {
     BlockOn::new(rt)?.wait_for(rt, future)

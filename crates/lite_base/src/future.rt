@@ -115,8 +115,8 @@ pub trait Future {
         requires { can_poll self.old }
         ensures ran { run self.old (result ∷ []) self.new }
         ensures again { OnPending result (can_poll self.new) }
-        ensures left { Registered result (registers self.new) cx.new }
-        ensures kept { Keeps cx.old cx.new };
+        ensures registered { Registered result (registers self.new) cx.new }
+        ensures context { Keeps cx.old cx.new };
 
     ghost laws: { FutureLaws run };
 }

@@ -28,8 +28,8 @@ pub trait PollSteps {
     fn poll_step(&mut self, cx: &mut Context<'_>) -> Option<Poll<Self::Output>>
         requires { can_step self.old }
         ensures stepped { step self.old result self.new }
-        ensures left { IfSome result (λ answer. Registered answer (step_registers self.new) cx.new) }
-        ensures kept { Keeps cx.old cx.new };
+        ensures registered { IfSome result (λ answer. Registered answer (step_registers self.new) cx.new) }
+        ensures context { Keeps cx.old cx.new };
 
     /// After a step that returned `None` another may be made.
     ghost goes_on: { (x y : Self) → can_step x → step x None y → can_step y };
@@ -44,8 +44,8 @@ pub trait PollSteps {
 pub fn drive<T: PollSteps>(t: &mut T, cx: &mut Context<'_>) -> Poll<T::Output>
     requires { T.can_step t.old }
     ensures stepped { (mid : T) × Reaches (NextStep T.step) t.old mid × T.step mid (Some result) t.new }
-    ensures left { Registered result (T.step_registers t.new) cx.new }
-    ensures kept { Keeps cx.old cx.new }
+    ensures registered { Registered result (T.step_registers t.new) cx.new }
+    ensures context { Keeps cx.old cx.new }
 {
     let mut out = None;
     drive_into(t, cx, &mut out);
@@ -62,8 +62,8 @@ fn drive_into<T: PollSteps>(t: &mut T, cx: &mut Context<'_>, out: &mut Option<Po
     requires empty { out.old ≡ None }
     ensures told { IsSome out.new }
     ensures stepped { IfSome out.new (λ answer. (mid : T) × Reaches (NextStep T.step) t.old mid × T.step mid (Some answer) t.new) }
-    ensures left { IfSome out.new (λ answer. Registered answer (T.step_registers t.new) cx.new) }
-    ensures kept { Keeps cx.old cx.new }
+    ensures registered { IfSome out.new (λ answer. Registered answer (T.step_registers t.new) cx.new) }
+    ensures context { Keeps cx.old cx.new }
 {
     loop {
         if step_into(t, cx, out) {
@@ -83,8 +83,8 @@ fn step_into<T: PollSteps>(
     requires empty { out.old ≡ None }
     ensures stepped { T.step t.old out.new t.new }
     ensures told { MatchOption out.new (result ≡ false) (λ _. result ≡ true) }
-    ensures left { IfSome out.new (λ answer. Registered answer (T.step_registers t.new) cx.new) }
-    ensures kept { Keeps cx.old cx.new }
+    ensures registered { IfSome out.new (λ answer. Registered answer (T.step_registers t.new) cx.new) }
+    ensures context { Keeps cx.old cx.new }
 {
     let Some(answer) = t.poll_step(cx) else {
         return false;

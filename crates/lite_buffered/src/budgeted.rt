@@ -105,8 +105,8 @@ impl<R> Budgeted<R> {
     fn pause<T>(&mut self, cx: &mut Context<'_>) -> Poll<T>
         ensures answer { result ≡ Poll.Pending }
         ensures anew { self.new ≡ record self.old { left = None } }
-        ensures left { Registered result HoldsWoken cx.new }
-        ensures kept { Keeps cx.old cx.new }
+        ensures registered { Registered result HoldsWoken cx.new }
+        ensures context { Keeps cx.old cx.new }
     {
         self.left = None;
         cx.yield_now()
@@ -151,8 +151,8 @@ impl<R: AsyncRead> AsyncRead for Budgeted<R> {
     fn poll_read(&mut self, cx: &mut Context<'_>, buf: &mut [u8]) -> Poll<io::Result<usize>>
         ensures bound { IfReady result (λ r. IfOk r (λ n. n ≤ length buf.new)) }
         ensures ran { BudgetsMarks R.reads self.old (read_marks result buf.new) self.new }
-        ensures left { Registered result (λ fact. R.registers (budgeted_inner self.new) fact × HoldsWoken fact) cx.new }
-        ensures kept { Keeps cx.old cx.new }
+        ensures registered { Registered result (λ fact. R.registers (budgeted_inner self.new) fact × HoldsWoken fact) cx.new }
+        ensures context { Keeps cx.old cx.new }
 
         // Without room nothing is polled.
         ensures idle { length buf.old ≡ 0 → (result ≡ Poll.Ready (Ok 0)) × (self.new ≡ self.old) }
@@ -197,8 +197,8 @@ impl<R: AsyncBufRead> Budgeted<R> {
     fn fill(&mut self, cx: &mut Context<'_>) -> Poll<io::Result<()>>
         ensures ran { BudgetsMarks R.reads self.old (fill_marks result (budgeted_lent R.lent self.new)) self.new }
         ensures lends { OnlyOkLends result (budgeted_lent R.lent self.new) }
-        ensures left { Registered result (λ fact. R.registers (budgeted_inner self.new) fact × HoldsWoken fact) cx.new }
-        ensures kept { Keeps cx.old cx.new }
+        ensures registered { Registered result (λ fact. R.registers (budgeted_inner self.new) fact × HoldsWoken fact) cx.new }
+        ensures context { Keeps cx.old cx.new }
     {
         let allowed = self.allowed();
         if allowed == 0 {

@@ -306,8 +306,8 @@ impl<R: AsyncRead> BufReader<R> {
         ensures ran { ThroughBuffer R.reads self.old (fill_marks result (ahead self.new)) self.new }
         ensures lends { OnlyOkLends result (ahead self.new) }
         ensures asks { AsksWhereEmpty R.reads (reader_capacity self.old) self.old self.new }
-        ensures left { Registered result (R.registers (reader_inner self.new)) cx.new }
-        ensures kept { Keeps cx.old cx.new }
+        ensures registered { Registered result (R.registers (reader_inner self.new)) cx.new }
+        ensures context { Keeps cx.old cx.new }
     {
         if self.pos < self.end {
             return Poll::Ready(Ok(()));
@@ -321,8 +321,8 @@ impl<R: AsyncRead> BufReader<R> {
         ensures ran { ThroughBuffer R.reads self.old (fill_marks result (ahead self.new)) self.new }
         ensures lends { OnlyOkLends result (ahead self.new) }
         ensures asks { AsksWhereEmpty R.reads (reader_capacity self.old) self.old self.new }
-        ensures left { Registered result (R.registers (reader_inner self.new)) cx.new }
-        ensures kept { Keeps cx.old cx.new }
+        ensures registered { Registered result (R.registers (reader_inner self.new)) cx.new }
+        ensures context { Keeps cx.old cx.new }
     {
         self.pos = 0;
         self.end = 0;
@@ -342,8 +342,8 @@ impl<R: AsyncRead> BufReader<R> {
         ensures bound { IfReady result (λ r. IfOk r (λ n. n ≤ length buf.new)) }
         ensures ran { ThroughBuffer R.reads self.old (read_marks result buf.new) self.new }
         ensures asks { AsksWhereEmpty R.reads (reader_capacity self.old) self.old self.new }
-        ensures left { Registered result (R.registers (reader_inner self.new)) cx.new }
-        ensures kept { Keeps cx.old cx.new }
+        ensures registered { Registered result (R.registers (reader_inner self.new)) cx.new }
+        ensures context { Keeps cx.old cx.new }
     {
         match ready!(self.fill(cx)) {
             Ok(()) => Poll::Ready(Ok(self.hand_out(buf))),
@@ -362,8 +362,8 @@ impl<R: AsyncRead> BufReader<R> {
         ensures bound { IfReady result (λ r. IfOk r (λ n. n ≤ room_in bufs.old)) }
         ensures ran { ReadsInto (ThroughBuffer R.reads) self.old result bufs.old self.new }
         ensures asks { AsksWhereEmpty R.reads (reader_capacity self.old) self.old self.new }
-        ensures left { Registered result (R.registers (reader_inner self.new)) cx.new }
-        ensures kept { Keeps cx.old cx.new }
+        ensures registered { Registered result (R.registers (reader_inner self.new)) cx.new }
+        ensures context { Keeps cx.old cx.new }
     {
         match ready!(self.fill(cx)) {
             Ok(()) => Poll::Ready(Ok(self.hand_out_vectored(bufs))),
@@ -384,8 +384,8 @@ impl<R: AsyncRead> AsyncRead for BufReader<R> {
     fn poll_read(&mut self, cx: &mut Context<'_>, buf: &mut [u8]) -> Poll<io::Result<usize>>
         ensures bound { IfReady result (λ r. IfOk r (λ n. n ≤ length buf.new)) }
         ensures ran { ThroughBuffer R.reads self.old (read_marks result buf.new) self.new }
-        ensures left { Registered result (R.registers (reader_inner self.new)) cx.new }
-        ensures kept { Keeps cx.old cx.new }
+        ensures registered { Registered result (R.registers (reader_inner self.new)) cx.new }
+        ensures context { Keeps cx.old cx.new }
 
         // The inner reader is polled at most once.
         ensures once { PollsOnce R.reads (max (reader_capacity self.old) (length buf.old)) (reader_inner self.old)
@@ -425,8 +425,8 @@ impl<R: AsyncRead> AsyncRead for BufReader<R> {
     ) -> Poll<io::Result<usize>>
         ensures bound { IfReady result (λ r. IfOk r (λ n. n ≤ room_in bufs.old)) }
         ensures ran { ReadsInto (ThroughBuffer R.reads) self.old result bufs.old self.new }
-        ensures left { Registered result (R.registers (reader_inner self.new)) cx.new }
-        ensures kept { Keeps cx.old cx.new }
+        ensures registered { Registered result (R.registers (reader_inner self.new)) cx.new }
+        ensures context { Keeps cx.old cx.new }
 
         // The inner reader is polled at most once.
         ensures once { PollsOnce R.reads (max (reader_capacity self.old) (room_in bufs.old)) (reader_inner self.old)
@@ -474,7 +474,7 @@ impl<R: AsyncRead> AsyncBufRead for BufReader<R> {
             (λ new. Fills (ThroughBuffer R.reads) ahead self.old result new
             × Registered result (R.registers (reader_inner new)) cx.new
             × AsksWhereEmpty R.reads (reader_capacity self.old) self.old new)) }
-        ensures kept { Keeps cx.old cx.new }
+        ensures context { Keeps cx.old cx.new }
     {
         match ready!(self.fill(cx)) {
             Ok(()) => Poll::Ready(Ok(self.show())),
@@ -544,8 +544,8 @@ impl<R: AsyncSeek> BufReader<R> {
     #[inline(always)]
     fn seek_on(&mut self, cx: &mut Context<'_>, offset: i64) -> Poll<io::Result<u64>>
         ensures sought { SeeksThrough R.seeks self.old (SeekFrom.Current offset) (by_kind result) self.new }
-        ensures left { Registered result (R.seek_registers (reader_inner self.new)) cx.new }
-        ensures kept { Keeps cx.old cx.new }
+        ensures registered { Registered result (R.seek_registers (reader_inner self.new)) cx.new }
+        ensures context { Keeps cx.old cx.new }
     {
         let ahead = self.offset_ahead();
         if let Some(less) = offset.checked_sub(ahead) {
@@ -563,8 +563,8 @@ impl<R: AsyncSeek> BufReader<R> {
         second: SeekFrom,
     ) -> Poll<io::Result<u64>>
         ensures sought { SeeksTwice R.seeks self.old first second (by_kind result) self.new }
-        ensures left { Registered result (R.seek_registers (reader_inner self.new)) cx.new }
-        ensures kept { Keeps cx.old cx.new }
+        ensures registered { Registered result (R.seek_registers (reader_inner self.new)) cx.new }
+        ensures context { Keeps cx.old cx.new }
     {
         match ready!(self.seek_once(cx, first)) {
             Ok(_) => self.seek_once(cx, second),
@@ -575,8 +575,8 @@ impl<R: AsyncSeek> BufReader<R> {
     // Seeks the inner reader, and drops what is ahead if that succeeds.
     fn seek_once(&mut self, cx: &mut Context<'_>, pos: SeekFrom) -> Poll<io::Result<u64>>
         ensures sought { SeeksOnce R.seeks self.old pos (by_kind result) self.new }
-        ensures left { Registered result (R.seek_registers (reader_inner self.new)) cx.new }
-        ensures kept { Keeps cx.old cx.new }
+        ensures registered { Registered result (R.seek_registers (reader_inner self.new)) cx.new }
+        ensures context { Keeps cx.old cx.new }
     {
         match ready!(self.inner.poll_seek(cx, pos)) {
             Ok(n) => {

@@ -269,8 +269,8 @@ impl<W: AsyncWrite> BufWriter<W> {
     fn flush_buf(&mut self, cx: &mut Context<'_>) -> Poll<io::Result<()>>
         ensures ran { FlushesBuffer W.writes self.old (by_kind result) self.new }
         ensures shown { ShownAfter result self.old self.new }
-        ensures left { Registered result (W.write_registers (writer_inner self.new)) cx.new }
-        ensures kept { Keeps cx.old cx.new }
+        ensures registered { Registered result (W.write_registers (writer_inner self.new)) cx.new }
+        ensures context { Keeps cx.old cx.new }
     {
         let mut interruptions = 0;
         'writes: while self.written < self.len {
@@ -306,8 +306,8 @@ impl<W: AsyncWrite> BufWriter<W> {
         ensures buf { self.new.buf ≡ self.old.buf }
         ensures written { self.new.written ≡ self.old.written }
         ensures len { self.new.len ≡ self.old.len }
-        ensures left { Registered result (W.write_registers self.new.inner) cx.new }
-        ensures kept { Keeps cx.old cx.new }
+        ensures registered { Registered result (W.write_registers self.new.inner) cx.new }
+        ensures context { Keeps cx.old cx.new }
     {
         self.inner.poll_write(cx, &self.buf[self.written..self.len])
     }
@@ -324,8 +324,8 @@ impl<W: AsyncWrite> BufWriter<W> {
             → ShownAfter result self.old self.new }
         ensures idle { length (buffered self.old) + count ≤ writer_capacity self.old → (self.new ≡ self.old)
             × (result ≡ Poll.Ready (Ok tt)) }
-        ensures left { Registered result (W.write_registers (writer_inner self.new)) cx.new }
-        ensures kept { Keeps cx.old cx.new }
+        ensures registered { Registered result (W.write_registers (writer_inner self.new)) cx.new }
+        ensures context { Keeps cx.old cx.new }
     {
         if count <= self.buf.len() - self.len {
             return Poll::Ready(Ok(()));
@@ -346,8 +346,8 @@ impl<W: AsyncWrite> AsyncWrite for BufWriter<W> {
     fn poll_write(&mut self, cx: &mut Context<'_>, buf: &[u8]) -> Poll<io::Result<usize>>
         ensures bound { IfReady result (λ r. IfOk r (λ n. n ≤ length buf.now)) }
         ensures ran { Buffers W.writes self.old (write_marks result buf.now) self.new }
-        ensures left { Registered result (W.write_registers (writer_inner self.new)) cx.new }
-        ensures kept { Keeps cx.old cx.new }
+        ensures registered { Registered result (W.write_registers (writer_inner self.new)) cx.new }
+        ensures context { Keeps cx.old cx.new }
 
         // What is shorter than the capacity is taken whole.
         ensures whole { length buf.now < writer_capacity self.old → IfReady result (λ r. IfOk r (λ n. n ≡ length buf.now)) }
@@ -376,8 +376,8 @@ impl<W: AsyncWrite> AsyncWrite for BufWriter<W> {
     fn poll_flush(&mut self, cx: &mut Context<'_>) -> Poll<io::Result<()>>
         ensures ran { Buffers W.writes self.old (done_marks flushed result) self.new }
         ensures shown { ShownAfter result self.old self.new }
-        ensures left { Registered result (W.write_registers (writer_inner self.new)) cx.new }
-        ensures kept { Keeps cx.old cx.new }
+        ensures registered { Registered result (W.write_registers (writer_inner self.new)) cx.new }
+        ensures context { Keeps cx.old cx.new }
     {
         match ready!(self.flush_buf(cx)) {
             Ok(()) => self.inner.poll_flush(cx),
@@ -391,8 +391,8 @@ impl<W: AsyncWrite> AsyncWrite for BufWriter<W> {
     fn poll_close(&mut self, cx: &mut Context<'_>) -> Poll<io::Result<()>>
         ensures ran { Buffers W.writes self.old (done_marks closed result) self.new }
         ensures shown { ShownAfter result self.old self.new }
-        ensures left { Registered result (W.write_registers (writer_inner self.new)) cx.new }
-        ensures kept { Keeps cx.old cx.new }
+        ensures registered { Registered result (W.write_registers (writer_inner self.new)) cx.new }
+        ensures context { Keeps cx.old cx.new }
     {
         match ready!(self.flush_buf(cx)) {
             Ok(()) => self.inner.poll_close(cx),
@@ -413,8 +413,8 @@ impl<W: AsyncWrite + AsyncSeek> AsyncSeek for BufWriter<W> {
     fn poll_seek(&mut self, cx: &mut Context<'_>, pos: SeekFrom) -> Poll<io::Result<u64>>
         ensures sought { SeeksAfter W.writes W.seeks self.old pos (by_kind result) self.new }
         ensures shown { ShownAfter result self.old self.new }
-        ensures left { Registered result (SeekRegisters W.write_registers W.seek_registers self.new) cx.new }
-        ensures kept { Keeps cx.old cx.new }
+        ensures registered { Registered result (SeekRegisters W.write_registers W.seek_registers self.new) cx.new }
+        ensures context { Keeps cx.old cx.new }
     {
         if let Err(e) = ready!(self.flush_buf(cx)) {
             return Poll::Ready(Err(e));

@@ -185,8 +185,8 @@ impl<R1: AsyncRead, R2: AsyncRead> AsyncRead for Chain<R1, R2> {
     fn poll_read(&mut self, cx: &mut Context<'_>, buf: &mut [u8]) -> Poll<io::Result<usize>>
         ensures bound { IfReady result (λ r. IfOk r (λ n. n ≤ length buf.new)) }
         ensures ran { ChainsReaders R1.reads R2.reads self.old (read_marks result buf.new) self.new }
-        ensures left { Registered result (ChainReadRegisters R1.registers R2.registers self.new) cx.new }
-        ensures kept { Keeps cx.old cx.new }
+        ensures registered { Registered result (ChainReadRegisters R1.registers R2.registers self.new) cx.new }
+        ensures context { Keeps cx.old cx.new }
 
         // Without room nothing is polled.
         ensures idle { length buf.old ≡ 0 → (result ≡ Poll.Ready (Ok 0)) × (self.new ≡ self.old) }
@@ -207,8 +207,8 @@ impl<R1: AsyncRead, R2: AsyncRead> AsyncRead for Chain<R1, R2> {
     ) -> Poll<io::Result<usize>>
         ensures bound { IfReady result (λ r. IfOk r (λ n. n ≤ room_in bufs.old)) }
         ensures ran { ReadsInto (ChainsReaders R1.reads R2.reads) self.old result bufs.old self.new }
-        ensures left { Registered result (ChainReadRegisters R1.registers R2.registers self.new) cx.new }
-        ensures kept { Keeps cx.old cx.new }
+        ensures registered { Registered result (ChainReadRegisters R1.registers R2.registers self.new) cx.new }
+        ensures context { Keeps cx.old cx.new }
 
         // Without room nothing is polled.
         ensures idle { room_in bufs.old ≡ 0 → (result ≡ Poll.Ready (Ok 0)) × (self.new ≡ self.old) }
@@ -236,8 +236,8 @@ impl<R1: AsyncRead, R2: AsyncRead> Chain<R1, R2> {
         requires some { 0 < length buf.old }
         ensures bound { IfReady result (λ r. IfOk r (λ n. n ≤ length buf.new)) }
         ensures ran { ChainsReaders R1.reads R2.reads self.old (read_marks result buf.new) self.new }
-        ensures left { Registered result (ChainReadRegisters R1.registers R2.registers self.new) cx.new }
-        ensures kept { Keeps cx.old cx.new }
+        ensures registered { Registered result (ChainReadRegisters R1.registers R2.registers self.new) cx.new }
+        ensures context { Keeps cx.old cx.new }
     {
         match ready!(self.first.poll_read(cx, buf)) {
             Ok(0) => self.has_ended = true,
@@ -261,8 +261,8 @@ impl<R1: AsyncRead, R2: AsyncRead> Chain<R1, R2> {
         requires room { room ≡ min (room_in bufs.old) usize.MAX }
         ensures bound { IfReady result (λ r. IfOk r (λ n. n ≤ room_in bufs.old)) }
         ensures ran { ReadsInto (ChainsReaders R1.reads R2.reads) self.old result bufs.old self.new }
-        ensures left { Registered result (ChainReadRegisters R1.registers R2.registers self.new) cx.new }
-        ensures kept { Keeps cx.old cx.new }
+        ensures registered { Registered result (ChainReadRegisters R1.registers R2.registers self.new) cx.new }
+        ensures context { Keeps cx.old cx.new }
     {
         match ready!(self.first.poll_read_vectored(cx, bufs)) {
             Ok(0) => {}
@@ -286,8 +286,8 @@ fn read_within<R: AsyncRead>(
     requires { 0 < room }
     ensures bound { IfReady result (λ r. IfOk r (λ n. n ≤ room)) }
     ensures ran { (wide : List IoSliceMut) → room ≤ room_in wide → ReadsInto R.reads reader.old result wide reader.new }
-    ensures left { Registered result (R.registers reader.new) cx.new }
-    ensures kept { Keeps cx.old cx.new }
+    ensures registered { Registered result (R.registers reader.new) cx.new }
+    ensures context { Keeps cx.old cx.new }
 {
     // No contract says that the first left the buffers' room as it was.
     if total_room(bufs) == room {
@@ -305,8 +305,8 @@ fn read_byte<R: AsyncRead>(
 ) -> Poll<io::Result<usize>>
     ensures bound { IfReady result (λ r. IfOk r (λ n. n ≤ 1)) }
     ensures ran { (byte : List ℕ) × (length byte ≡ 1) × R.reads reader.old (read_marks result byte) reader.new }
-    ensures left { Registered result (R.registers reader.new) cx.new }
-    ensures kept { Keeps cx.old cx.new }
+    ensures registered { Registered result (R.registers reader.new) cx.new }
+    ensures context { Keeps cx.old cx.new }
 {
     let mut one = [0];
     let polled = reader.poll_read(cx, &mut one);
@@ -326,8 +326,8 @@ impl<R1: AsyncBufRead, R2: AsyncBufRead> Chain<R1, R2> {
         ensures ran { ChainsReaders R1.reads R2.reads self.old
             (fill_marks result (chain_shown R1.lent R2.lent self.new)) self.new }
         ensures lends { OnlyOkLends result (chain_shown R1.lent R2.lent self.new) }
-        ensures left { Registered result (ChainReadRegisters R1.registers R2.registers self.new) cx.new }
-        ensures kept { Keeps cx.old cx.new }
+        ensures registered { Registered result (ChainReadRegisters R1.registers R2.registers self.new) cx.new }
+        ensures context { Keeps cx.old cx.new }
     {
         if !self.has_ended {
             match ready!(fill(&mut self.first, cx)) {

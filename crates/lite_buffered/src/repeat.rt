@@ -41,8 +41,8 @@ impl AsyncRead for Repeat {
         ensures bound { IfReady result (λ r. IfOk r (λ n. n ≤ length buf.new)) }
         ensures ran { RepeatsByte self.old (read_marks result buf.new) self.new }
         ensures full { result ≡ Poll.Ready (Ok (length buf.old)) }
-        ensures left { Registered result (λ _. ⊥) _cx.new }
-        ensures kept { Keeps _cx.old _cx.new }
+        ensures registered { Registered result (λ _. ⊥) _cx.new }
+        ensures context { Keeps _cx.old _cx.new }
     {
         buf.fill(self.byte);
         Poll::Ready(Ok(buf.len()))

@@ -144,8 +144,8 @@ impl<R: AsyncRead> AsyncRead for Take<R> {
     fn poll_read(&mut self, cx: &mut Context<'_>, buf: &mut [u8]) -> Poll<io::Result<usize>>
         ensures bound { IfReady result (λ r. IfOk r (λ n. n ≤ length buf.new)) }
         ensures ran { TakesMarks R.reads self.old (read_marks result buf.new) self.new }
-        ensures left { Registered result (R.registers (take_inner self.new)) cx.new }
-        ensures kept { Keeps cx.old cx.new }
+        ensures registered { Registered result (R.registers (take_inner self.new)) cx.new }
+        ensures context { Keeps cx.old cx.new }
 
         // Without room, and if the limit is used up, nothing is polled.
         ensures idle { (length buf.old ≡ 0) ⊎ (limit_of self.old ≡ 0) → (result ≡ Poll.Ready (Ok 0)) × (self.new ≡ self.old) }
@@ -171,8 +171,8 @@ impl<R: AsyncRead> AsyncRead for Take<R> {
     ) -> Poll<io::Result<usize>>
         ensures bound { IfReady result (λ r. IfOk r (λ n. n ≤ room_in bufs.old)) }
         ensures ran { ReadsInto (TakesMarks R.reads) self.old result bufs.old self.new }
-        ensures left { Registered result (R.registers (take_inner self.new)) cx.new }
-        ensures kept { Keeps cx.old cx.new }
+        ensures registered { Registered result (R.registers (take_inner self.new)) cx.new }
+        ensures context { Keeps cx.old cx.new }
 
         // Without room, and if the limit is used up, nothing is polled.
         ensures idle { (room_in bufs.old ≡ 0) ⊎ (limit_of self.old ≡ 0) → (result ≡ Poll.Ready (Ok 0)) × (self.new ≡ self.old) }

@@ -53,5 +53,5 @@ pub trait Gather<T> {
     fn take_in(&mut self, item: T) -> Result<(), T>
         ensures took { OnOk result (Took holds self.old item self.new) }
         ensures fits { has_room self.old item → IsOk result }
-        ensures kept { IfErr result (λ back. (back ≡ item) × Kept holds self.old self.new) };
+        ensures unchanged { IfErr result (λ back. (back ≡ item) × Kept holds self.old self.new) };
 }

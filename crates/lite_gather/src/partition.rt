@@ -22,7 +22,7 @@ fn take_one<T, B: Gather<T>>(
     item: T,
 ) -> Result<(), T>
     ensures took { OnOk result (Sorted B.holds is_accepted (accepted.old, rejected.old) item (accepted.new, rejected.new)) }
-    ensures kept { IfErr result
+    ensures unchanged { IfErr result
         (λ back. (back ≡ item) × Unsorted B.holds (LacksRoom B.has_room) is_accepted (accepted.old, rejected.old) item
         (accepted.new, rejected.new)) }
 {

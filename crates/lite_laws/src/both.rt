@@ -59,7 +59,7 @@ pub fn run_both<S: SteadyStream>(
         (λ _. (vec_capacity out.old < vec_len out.old + polls)
         ⊎ (vec_capacity out_more.old < vec_len out_more.old + more)) }
     ensures again { S.can_poll x.new × S.can_poll y.new }
-    ensures kept { Keeps cx.old cx.new }
+    ensures context { Keeps cx.old cx.new }
 {
     run(x, cx, polls, out)?;
     run(y, cx, more, out_more)

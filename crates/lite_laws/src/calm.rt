@@ -39,7 +39,7 @@ pub fn run_calm<S: CalmStream>(
         × IfOk result (λ _. length l ≡ polls) × IfErr result (λ _. length l < polls) }
     ensures full { IfErr result (λ _. vec_capacity out.old < vec_len out.old + polls) }
     ensures again { S.can_poll s.new × S.is_calm s.new }
-    ensures kept { Keeps cx.old cx.new }
+    ensures context { Keeps cx.old cx.new }
 {
     run(s, cx, polls, out)
 }

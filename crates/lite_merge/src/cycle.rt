@@ -31,8 +31,8 @@ impl<S: Stream + Clone> Cycle<S> {
             × Renews S.run S.is_clone S.is_infallible self.old.original asked (result ∷ []) self.new.stream }
         ensures original { self.new.original ≡ self.old.original }
         ensures again { IfSome self.new.stream S.can_poll }
-        ensures left { Registered result (λ fact. (s : S) × (self.new.stream ≡ Some s) × S.registers s fact) cx.new }
-        ensures kept { Keeps cx.old cx.new }
+        ensures registered { Registered result (λ fact. (s : S) × (self.new.stream ≡ Some s) × S.registers s fact) cx.new }
+        ensures context { Keeps cx.old cx.new }
     {
         let mut copy = match self.original.clone() {
             Ok(copy) => copy,

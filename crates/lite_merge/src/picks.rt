@@ -21,8 +21,8 @@ where
         × MergeRow i j result [] [] }
     ensures first_again { S.can_poll first.new.stream }
     ensures second_again { U.can_poll second.new.stream }
-    ensures left { Registered result (MergeRegisters S.registers U.registers first.new second.new) cx.new }
-    ensures kept { Keeps cx.old cx.new }
+    ensures registered { Registered result (MergeRegisters S.registers U.registers first.new second.new) cx.new }
+    ensures context { Keeps cx.old cx.new }
 {
     match first.poll_next(cx) {
         Poll::Ready(Some(item)) => Poll::Ready(Some(item)),

@@ -26,9 +26,9 @@ impl<A: Stream<Item: Drop>, B: Stream> Zip<A, B> {
             × WithHeld item [] (Pairs []) seconds (result ∷ []) self.new.item_slot }
         ensures first { self.new.first ≡ self.old.first }
         ensures again { B.can_poll self.new.second }
-        ensures left { Registered result
+        ensures registered { Registered result
             (ZipRegisters A.registers B.registers self.new.item_slot self.new.first self.new.second) cx.new }
-        ensures kept { Keeps cx.old cx.new }
+        ensures context { Keeps cx.old cx.new }
     {
         match self.second.poll_next(cx) {
             Poll::Ready(Some(other)) => Poll::Ready(Some((item, other))),

@@ -109,8 +109,8 @@ impl AsyncWrite for Takes {
         ensures ran { AllObey self.old (write_marks result buf.now) self.new }
         ensures order { (by_kind result ≡ answer_of self.old.orders buf.now)
             ⊎ (by_kind result ≡ Poll.Ready (Err ErrorKind.OutOfMemory)) }
-        ensures left { Registered result (λ _. ⊥) cx.new }
-        ensures kept { Keeps cx.old cx.new }
+        ensures registered { Registered result (λ _. ⊥) cx.new }
+        ensures context { Keeps cx.old cx.new }
     {
         let order = self.orders.get(self.next).copied();
         let most = match order {
@@ -137,8 +137,8 @@ impl AsyncWrite for Takes {
     fn poll_flush(&mut self, _cx: &mut Context<'_>) -> Poll<io::Result<()>>
         ensures ran { AllObey self.old (done_marks flushed result) self.new }
         ensures done { result ≡ Poll.Ready (Ok tt) }
-        ensures left { Registered result (λ _. ⊥) _cx.new }
-        ensures kept { Keeps _cx.old _cx.new }
+        ensures registered { Registered result (λ _. ⊥) _cx.new }
+        ensures context { Keeps _cx.old _cx.new }
     {
         // What was taken is in place already.
         Poll::Ready(Ok(()))
@@ -147,8 +147,8 @@ impl AsyncWrite for Takes {
     fn poll_close(&mut self, _cx: &mut Context<'_>) -> Poll<io::Result<()>>
         ensures ran { AllObey self.old (done_marks closed result) self.new }
         ensures done { result ≡ Poll.Ready (Ok tt) }
-        ensures left { Registered result (λ _. ⊥) _cx.new }
-        ensures kept { Keeps _cx.old _cx.new }
+        ensures registered { Registered result (λ _. ⊥) _cx.new }
+        ensures context { Keeps _cx.old _cx.new }
     {
         // It can be written to as before.
         Poll::Ready(Ok(()))

@@ -19,9 +19,9 @@ pub(crate) fn find_byte<R: AsyncBufRead>(
 ) -> Poll<io::Result<Option<usize>>>
     ensures ran { R.reads reader.old (fill_marks result (R.lent reader.new)) reader.new }
     ensures found { IfReady result (λ r. IfOk r (λ at. IsFirstByte (is_byte byte) (R.lent reader.new) at)) }
-    ensures fits { IfReady result (λ r. IfOk r (λ at. IfSome at (λ k. k + 1 < 2 ^ 64))) }
-    ensures left { Registered result (R.registers reader.new) cx.new }
-    ensures kept { Keeps cx.old cx.new }
+    ensures small { IfReady result (λ r. IfOk r (λ at. IfSome at (λ k. k + 1 < 2 ^ 64))) }
+    ensures registered { Registered result (R.registers reader.new) cx.new }
+    ensures context { Keeps cx.old cx.new }
 {
     match reader.poll_fill_buf(cx) {
         Poll::Ready(Ok(available)) => Poll::Ready(Ok(memchr(byte, available))),
@@ -39,10 +39,10 @@ pub fn find_line<R: AsyncBufRead>(
 ) -> Poll<io::Result<(Option<usize>, bool)>>
     ensures ran { R.reads reader.old (fill_marks result (R.lent reader.new)) reader.new }
     ensures found { IfReady result (λ r. IfOk r (λ line. IsFirstByte (is_byte 10) (R.lent reader.new) line.0)) }
-    ensures fits { IfReady result (λ r. IfOk r (λ line. IfSome line.0 (λ k. k + 1 < 2 ^ 64))) }
+    ensures small { IfReady result (λ r. IfOk r (λ line. IfSome line.0 (λ k. k + 1 < 2 ^ 64))) }
     ensures ascii { IfReady result (λ r. IfOk r (λ line. line.1 ≡ list_all is_ascii (up_to line.0 (R.lent reader.new)))) }
-    ensures left { Registered result (R.registers reader.new) cx.new }
-    ensures kept { Keeps cx.old cx.new }
+    ensures registered { Registered result (R.registers reader.new) cx.new }
+    ensures context { Keeps cx.old cx.new }
 {
     match reader.poll_fill_buf(cx) {
         Poll::Ready(Ok(available)) => {

@@ -22,9 +22,9 @@ pub(crate) fn take_in<R: AsyncBufRead, A: Allocator + Copy>(
     text: &mut String<A>,
     bytes: &mut Vec<u8, A>,
 ) -> io::Result<()>
-    requires fits { HasRoomFor text.old bytes.old }
+    requires has_room { HasRoomFor text.old bytes.old }
     requires within { amount ≤ length (R.lent reader.old) }
-    ensures fits { HasRoomFor text.new bytes.new }
+    ensures has_room { HasRoomFor text.new bytes.new }
     ensures text { string_bytes text.new ≡ string_bytes text.old }
     ensures ok { IfOk result (λ u. bytes.new.items ≡ bytes.old.items ++ take amount (R.lent reader.old)) }
     ensures taken { IfOk result (λ u. R.reads reader.old (read_bytes (take amount (R.lent reader.old))) reader.new) }
@@ -32,7 +32,7 @@ pub(crate) fn take_in<R: AsyncBufRead, A: Allocator + Copy>(
     ensures full { IfErr result (λ e. room_for text.old bytes.old < length bytes.old.items + amount) }
     ensures room { room_for text.old bytes.old ≤ room_for text.new bytes.new }
     ensures unread { IfErr result (λ e. reader.new ≡ reader.old) }
-    ensures kept { IfErr result (λ e. bytes.new.items ≡ bytes.old.items) }
+    ensures unchanged { IfErr result (λ e. bytes.new.items ≡ bytes.old.items) }
 {
     hold(text, bytes, &reader.buffer()[..amount])?;
     reader.consume(amount);
@@ -46,7 +46,7 @@ fn hold<A: Allocator + Copy>(
     piece: &[u8],
 ) -> Result<(), AllocError>
     requires { HasRoomFor text.old bytes.old }
-    ensures fits { HasRoomFor text.new bytes.new }
+    ensures has_room { HasRoomFor text.new bytes.new }
     ensures text { string_bytes text.new ≡ string_bytes text.old }
     ensures ok { OnOk result (bytes.new.items ≡ bytes.old.items ++ piece.now) }
     ensures err { OnErr result (bytes.new.items ≡ bytes.old.items) }
@@ -63,9 +63,9 @@ pub(crate) fn make_room<A: Allocator + Copy>(
     bytes: &mut Vec<u8, A>,
     len: usize,
 ) -> Result<(), AllocError>
-    requires fits { HasRoomFor text.old bytes.old }
+    requires has_room { HasRoomFor text.old bytes.old }
     requires more { length bytes.old.items ≤ len }
-    ensures fits { HasRoomFor text.new bytes.new }
+    ensures has_room { HasRoomFor text.new bytes.new }
     ensures text { string_bytes text.new ≡ string_bytes text.old }
     ensures front { take (length bytes.old.items) bytes.new.items ≡ bytes.old.items }
     ensures ok { OnOk result (length bytes.new.items ≡ len) }
@@ -85,13 +85,13 @@ fn prepare<A: Allocator + Copy>(
     len: usize,
 ) -> Result<(), AllocError>
     requires { HasRoomFor text.old bytes.old }
-    ensures fits { HasRoomFor text.new bytes.new }
+    ensures has_room { HasRoomFor text.new bytes.new }
     ensures room { OnOk result (CanTakeIn text.new len) }
     ensures text { string_bytes text.new ≡ string_bytes text.old }
     ensures bytes { bytes.new.items ≡ bytes.old.items }
     ensures full { OnErr result (room_for text.old bytes.old < len) }
     ensures within { OnOk result (room_for text.old bytes.old ≤ vec_capacity bytes.new) }
-    ensures kept { room_for text.old bytes.old ≤ room_for text.new bytes.new }
+    ensures grows { room_for text.old bytes.old ≤ room_for text.new bytes.new }
 {
     if !text.is_empty() {
         return text.reserve(len);
@@ -122,9 +122,9 @@ pub(crate) fn finish<A: Allocator + Copy>(
     read: io::Result<usize>,
     known: bool,
 ) -> io::Result<usize>
-    requires fits { HasRoomFor text.old bytes.old }
+    requires has_room { HasRoomFor text.old bytes.old }
     requires known { known ≡ true → IsUtf8 bytes.old.items }
-    ensures fits { HasRoomFor text.new bytes.new }
+    ensures has_room { HasRoomFor text.new bytes.new }
     ensures value { ValueOf bytes.old.items read result }
     ensures gains { AppendsText bytes.old.items (string_bytes text.old) (string_bytes text.new) }
     ensures empty { bytes.new.items ≡ [] }
@@ -143,7 +143,7 @@ pub(crate) fn finish<A: Allocator + Copy>(
 // Adds the bytes to the text if they are UTF-8, and returns whether they are. An empty text takes over their
 // memory.
 fn add_text<A: Allocator + Copy>(text: &mut String<A>, bytes: &mut Vec<u8, A>, known: bool) -> bool
-    requires fits { HasRoomFor text.old bytes.old }
+    requires has_room { HasRoomFor text.old bytes.old }
     requires known { known ≡ true → IsUtf8 bytes.old.items }
     ensures gains { AppendsText bytes.old.items (string_bytes text.old) (string_bytes text.new) }
     ensures value { MatchBool result (IsUtf8 bytes.old.items) (¬ IsUtf8 bytes.old.items) }
@@ -161,7 +161,7 @@ fn add_text<A: Allocator + Copy>(text: &mut String<A>, bytes: &mut Vec<u8, A>, k
 }
 
 fn append_text<A: Allocator>(text: &mut String<A>, bytes: &[u8])
-    requires fits { string_len text.old + length bytes.now ≤ string_capacity text.old }
+    requires has_room { string_len text.old + length bytes.now ≤ string_capacity text.old }
     requires utf8 { IsUtf8 bytes.now }
     ensures { string_bytes text.new ≡ string_bytes text.old ++ bytes.now }
 {

@@ -122,8 +122,8 @@ impl<R: AsyncBufRead + CountedRead> Stream for Lines<R> {
         requires { R.ranks.counts self.old.reader }
         ensures ran { GivesLines R.reads ⊤ self.old (result ∷ []) self.new }
         ensures again { R.ranks.counts self.new.reader }
-        ensures left { Registered result (R.registers self.new.reader) cx.new }
-        ensures kept { Keeps cx.old cx.new }
+        ensures registered { Registered result (R.registers self.new.reader) cx.new }
+        ensures context { Keeps cx.old cx.new }
 
         // Memory is refused only if the buffer had no room for the bytes of the line that are there.
         ensures full { GivesLines R.reads (LineLacksRoom R.lent self.old self.new) self.old (result ∷ []) self.new }

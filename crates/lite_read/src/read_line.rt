@@ -58,7 +58,7 @@ impl<R: AsyncBufRead, A: Allocator + Copy> ReadLineFuture<'_, R, A> {
             < length self.old.bytes.items + amount) }
         ensures room { room_for self.old.text.now self.old.bytes ≤ room_for self.new.text.now self.new.bytes }
         ensures unread { IfErr result (λ e. self.new.reader.now ≡ self.old.reader.now) }
-        ensures kept { IfErr result (λ e. self.new.bytes.items ≡ self.old.bytes.items) }
+        ensures unchanged { IfErr result (λ e. self.new.bytes.items ≡ self.old.bytes.items) }
     {
         take_in(self.reader, amount, self.text, &mut self.bytes)?;
         self.ascii &= ascii;

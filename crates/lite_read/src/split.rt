@@ -130,8 +130,8 @@ impl<R: AsyncBufRead + CountedRead> Stream for Split<R> {
         requires { R.ranks.counts self.old.reader }
         ensures ran { Splits R.reads ⊤ self.old (result ∷ []) self.new }
         ensures again { R.ranks.counts self.new.reader }
-        ensures left { Registered result (R.registers self.new.reader) cx.new }
-        ensures kept { Keeps cx.old cx.new }
+        ensures registered { Registered result (R.registers self.new.reader) cx.new }
+        ensures context { Keeps cx.old cx.new }
 
         // Memory is refused only if the buffer had no room for the bytes of the piece that are there.
         ensures full { Splits R.reads (PieceLacksRoom R.lent self.old self.new) self.old (result ∷ []) self.new }

@@ -34,8 +34,8 @@ impl<S: Stream, U: Stream<Item = S::Item>> Chain<S, U> {
         ensures asked { SecondAnswers U.run self.old result self.new }
         ensures first { self.new.first ≡ self.old.first }
         ensures again { U.can_poll self.new.second }
-        ensures left { Registered result (ChainRegisters S.registers U.registers self.new) cx.new }
-        ensures kept { Keeps cx.old cx.new }
+        ensures registered { Registered result (ChainRegisters S.registers U.registers self.new) cx.new }
+        ensures context { Keeps cx.old cx.new }
     {
         match ready!(self.second.poll_next(cx)) {
             Some(item) => Poll::Ready(Some(item)),

@@ -17,9 +17,9 @@ pub(crate) fn poll_part<B: Stream + Drop, S: Counted<Item = B>>(
     requires { CanFlatten S.run S.can_poll S.ranks.counts B.can_poll stream.old inner_stream.old }
     ensures stepped { FlatStep B.run S.run (stream.old, inner_stream.old) result (stream.new, inner_stream.new) }
     ensures again { CanFlatten S.run S.can_poll S.ranks.counts B.can_poll stream.new inner_stream.new }
-    ensures left { IfSome result
+    ensures registered { IfSome result
         (λ answer. Registered answer (HeldRegisters S.registers B.registers stream.new inner_stream.new) cx.new) }
-    ensures kept { Keeps cx.old cx.new }
+    ensures context { Keeps cx.old cx.new }
 {
     match inner_stream {
         Some(inner) => match inner.poll_next(cx) {
@@ -45,9 +45,9 @@ fn poll_outer<B: Stream + Drop, S: Counted<Item = B>>(
     requires empty { inner_stream.old ≡ None }
     ensures stepped { FlatStep B.run S.run (stream.old, None) result (stream.new, inner_stream.new) }
     ensures again { CanFlatten S.run S.can_poll S.ranks.counts B.can_poll stream.new inner_stream.new }
-    ensures left { IfSome result
+    ensures registered { IfSome result
         (λ answer. Registered answer (HeldRegisters S.registers B.registers stream.new inner_stream.new) cx.new) }
-    ensures kept { Keeps cx.old cx.new }
+    ensures context { Keeps cx.old cx.new }
 {
     match stream.poll_next(cx) {
         Poll::Ready(Some(inner)) => {

@@ -28,8 +28,8 @@ impl<S: Stream, F, Fut: Future + Drop> Then<S, F, Fut> {
         ensures given { HandsOut Fut.run future (result ∷ []) self.new.future }
         ensures same { self.new ≡ record self.old { future = self.new.future } }
         ensures again { IfSome self.new.future Fut.can_poll }
-        ensures left { Registered result (HeldRegisters S.registers Fut.registers self.new.stream self.new.future) cx.new }
-        ensures kept { Keeps cx.old cx.new }
+        ensures registered { Registered result (HeldRegisters S.registers Fut.registers self.new.stream self.new.future) cx.new }
+        ensures context { Keeps cx.old cx.new }
     {
         match future.poll(cx) {
             Poll::Ready(value) => Poll::Ready(Some(value)),

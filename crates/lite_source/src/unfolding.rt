@@ -50,8 +50,8 @@ impl<T: Drop, Fut: Future + Drop> Unfolding<T, Fut> {
         ensures callable { F.IsAlwaysCallable f.new }
         ensures makes { MakesAlways F.FnMut Fut.can_poll f.new }
         ensures asked { IfHeldFuture self.new Fut.can_poll }
-        ensures left { Registered result (UnfoldRegisters Fut.registers self.new) cx.new }
-        ensures kept { Keeps cx.old cx.new }
+        ensures registered { Registered result (UnfoldRegisters Fut.registers self.new) cx.new }
+        ensures context { Keeps cx.old cx.new }
     {
         self.make_future(f);
         self.poll_future(cx)
@@ -80,8 +80,8 @@ impl<T: Drop, Fut: Future + Drop> Unfolding<T, Fut> {
         requires asked { IfHeldFuture self.old Fut.can_poll }
         ensures ran { HeldStep Fut.run self.old result self.new }
         ensures asked { IfHeldFuture self.new Fut.can_poll }
-        ensures left { Registered result (UnfoldRegisters Fut.registers self.new) cx.new }
-        ensures kept { Keeps cx.old cx.new }
+        ensures registered { Registered result (UnfoldRegisters Fut.registers self.new) cx.new }
+        ensures context { Keeps cx.old cx.new }
     {
         let Some(future) = &mut self.future else {
             return Poll::Ready(None);

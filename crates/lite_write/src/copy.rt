@@ -44,8 +44,8 @@ fn fill<R: AsyncBufRead>(reader: &mut R, cx: &mut Context<'_>) -> Poll<io::Resul
     ensures ran { R.reads reader.old (fill_marks result (R.lent reader.new)) reader.new }
     ensures empty { IfReady result (λ r. IfOk r (λ empty. IsTrue empty ↔ R.lent reader.new ≡ [])) }
     ensures lends { OnlyOkLends result (R.lent reader.new) }
-    ensures left { Registered result (R.registers reader.new) cx.new }
-    ensures kept { Keeps cx.old cx.new }
+    ensures registered { Registered result (R.registers reader.new) cx.new }
+    ensures context { Keeps cx.old cx.new }
 {
     match reader.poll_fill_buf(cx) {
         Poll::Ready(Ok(bytes)) => Poll::Ready(Ok(bytes.is_empty())),
@@ -66,9 +66,9 @@ impl<R: AsyncRead, W: AsyncWrite> CopyFuture<R, W> {
         requires some { 0 < length (ahead self.old.reader) }
         ensures stepped { OneStep (CopiesSome R.reads W.writes)
             (λ x a y. Moves R.reads W.writes x (a ∷ []) y) self.old result self.new }
-        ensures left { IfSome result
+        ensures registered { IfSome result
             (λ answer. Registered answer (CopyRegisters R.registers W.write_registers self.new) cx.new) }
-        ensures kept { Keeps cx.old cx.new }
+        ensures context { Keeps cx.old cx.new }
     {
         match self.writer.poll_write(cx, self.reader.buffer()) {
             Poll::Ready(Ok(0)) => Some(Poll::Ready(Err(ErrorKind::WriteZero.into()))),
@@ -87,8 +87,8 @@ impl<R: AsyncRead, W: AsyncWrite> CopyFuture<R, W> {
     fn flush(&mut self, cx: &mut Context<'_>) -> Poll<io::Result<u64>>
         requires phase { self.old.phase ≡ Flushing }
         ensures ran { Moves R.reads W.writes self.old (result ∷ []) self.new }
-        ensures left { Registered result (CopyRegisters R.registers W.write_registers self.new) cx.new }
-        ensures kept { Keeps cx.old cx.new }
+        ensures registered { Registered result (CopyRegisters R.registers W.write_registers self.new) cx.new }
+        ensures context { Keeps cx.old cx.new }
     {
         match self.writer.poll_flush(cx) {
             Poll::Ready(Ok(())) => Poll::Ready(Ok(self.amount)),

@@ -33,8 +33,8 @@ impl AsyncWrite for Sink {
         ensures bound { IfReady result (λ r. IfOk r (λ n. n ≤ length buf.now)) }
         ensures ran { Sinks self.old (write_marks result buf.now) self.new }
         ensures all { result ≡ Poll.Ready (Ok (length buf.now)) }
-        ensures left { Registered result (λ _. ⊥) _cx.new }
-        ensures kept { Keeps _cx.old _cx.new }
+        ensures registered { Registered result (λ _. ⊥) _cx.new }
+        ensures context { Keeps _cx.old _cx.new }
     {
         Poll::Ready(Ok(buf.len()))
     }
@@ -48,8 +48,8 @@ impl AsyncWrite for Sink {
         ensures bound { IfReady result (λ r. IfOk r (λ n. n ≤ length (io_slices_bytes bufs.now))) }
         ensures ran { Sinks self.old (write_marks result (io_slices_bytes bufs.now)) self.new }
         ensures some { 0 < length (io_slices_bytes bufs.now) → IfReady result (λ r. IfOk r (λ n. 0 < n)) }
-        ensures left { Registered result (λ _. ⊥) cx.new }
-        ensures kept { Keeps cx.old cx.new }
+        ensures registered { Registered result (λ _. ⊥) cx.new }
+        ensures context { Keeps cx.old cx.new }
     {
         self.poll_write(cx, first_nonempty(bufs))
     }

@@ -22,8 +22,8 @@ where
     requires { ⟦<Filter<Map<S, F>, P> as Stream>⟧.can_poll nest.old }
     ensures ran { ⟦<Filter<Map<S, F>, P> as Stream>⟧.run nest.old (result ∷ []) nest.new }
     ensures again { ⟦<Filter<Map<S, F>, P> as Stream>⟧.can_poll nest.new }
-    ensures left { Registered result (⟦<Filter<Map<S, F>, P> as Stream>⟧.registers nest.new) cx.new }
-    ensures kept { Keeps cx.old cx.new }
+    ensures registered { Registered result (⟦<Filter<Map<S, F>, P> as Stream>⟧.registers nest.new) cx.new }
+    ensures context { Keeps cx.old cx.new }
 {
     nest.poll_next(cx)
 }

@@ -58,7 +58,7 @@ pub fn poll_count<S: OkCounted<Ok: Drop>>(
     requires counts { S.ok_ranks.counts count.old.stream }
     ensures counted { CountsUntil S.run count.old result count.new }
     ensures again { S.can_poll count.new.stream × S.ok_ranks.counts count.new.stream }
-    ensures kept { Keeps cx.old cx.new }
+    ensures context { Keeps cx.old cx.new }
 {
     drive(count, cx)
 }

@@ -132,7 +132,7 @@ impl BlockOn {
     ) -> Result<F::Output, AllocError>
         requires { F.can_poll future.old }
         ensures gave { IfOk result (λ value. (ins : _) × Gives ins value × F.run future.old ins future.new) }
-        ensures kept { OnErr result (future.new ≡ future.old) }
+        ensures unchanged { OnErr result (future.new ≡ future.old) }
         ensures waited { IsOk result }
     {
         'polls: for _ in rt.forever() {

@@ -31,8 +31,8 @@ impl<F: Future + Drop> Future for Fuse<F> {
         requires { IfSome self.old.inner F.can_poll }
         ensures ran { FutureFuses F.run self.old (result ∷ []) self.new }
         ensures again { IfSome self.new.inner F.can_poll }
-        ensures left { Registered result (λ fact. (f : F) × (self.new.inner ≡ Some f) × F.registers f fact) cx.new }
-        ensures kept { Keeps cx.old cx.new }
+        ensures registered { Registered result (λ fact. (f : F) × (self.new.inner ≡ Some f) × F.registers f fact) cx.new }
+        ensures context { Keeps cx.old cx.new }
     {
         let Some(future) = &mut self.inner else {
             return Poll::Pending;

@@ -20,8 +20,8 @@ where
     ensures row { (i j : List (Poll F.Output)) × F.run first.old i first.new × G.run second.old j second.new
         × PickRow i j result [] [] }
     ensures again { OnPending result (F.can_poll first.new × G.can_poll second.new) }
-    ensures left { Registered result (λ fact. F.registers first.new fact ⊎ G.registers second.new fact) cx.new }
-    ensures kept { Keeps cx.old cx.new }
+    ensures registered { Registered result (λ fact. F.registers first.new fact ⊎ G.registers second.new fact) cx.new }
+    ensures context { Keeps cx.old cx.new }
 {
     match first.poll(cx) {
         Poll::Ready(x) => Poll::Ready(x),

@@ -53,7 +53,7 @@ impl<T: AsyncRead + AsyncWrite + Clone> Journal<T> {
             (told_in out.new.items) }
         ensures refused { OnErr result ((vec_capacity out.new ≤ vec_len out.new)
             ⊎ AsksAt self.new calls.now (vec_len out.new - vec_len out.old)) }
-        ensures kept { Keeps cx.old cx.new }
+        ensures context { Keeps cx.old cx.new }
     {
         for call in calls {
             out.reserve(1)?;
@@ -66,7 +66,7 @@ impl<T: AsyncRead + AsyncWrite + Clone> Journal<T> {
     /// Makes one call, with its entry. `None` means that the memory was refused, and nothing was called.
     fn make(&mut self, cx: &mut Context<'_>, call: &Call) -> Option<Answer>
         ensures made { AddsOrNone T.reads T.writes self.old (asked_of call.now) result self.new }
-        ensures kept { Keeps cx.old cx.new }
+        ensures context { Keeps cx.old cx.new }
     {
         match call {
             Call::Read { room } => self.make_read(cx, *room),
@@ -78,7 +78,7 @@ impl<T: AsyncRead + AsyncWrite + Clone> Journal<T> {
 
     fn make_read(&mut self, cx: &mut Context<'_>, room: usize) -> Option<Answer>
         ensures made { AddsOrNone T.reads T.writes self.old (Request.room room) result self.new }
-        ensures kept { Keeps cx.old cx.new }
+        ensures context { Keeps cx.old cx.new }
     {
         let mut buf = zeros(self.alloc, room)?;
         let polled = self.step_read(cx, &mut buf)?;

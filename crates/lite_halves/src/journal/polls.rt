@@ -32,7 +32,7 @@ impl<T: Tale + Takings + Clone> Journal<T> {
     #[inline(always)]
     fn make_room(&mut self, bytes: usize) -> Option<Vec<u8>>
         ensures made { EntryRoom self.old bytes result self.new }
-        ensures fits { length self.new.notes < 2 ^ 64 }
+        ensures small { length self.new.notes < 2 ^ 64 }
     {
         let held = Vec::with_capacity(self.alloc, bytes).ok()?;
         self.entries.reserve(1).ok()?;
@@ -75,9 +75,9 @@ impl<T: AsyncRead + Takings + Clone> Journal<T> {
     ) -> Option<Poll<io::Result<usize>>>
         ensures added { IfSome result (λ r. Adds T.reads T.writes self.old (read_note r buf.new) self.new) }
         ensures bound { IfSome result (λ r. IfReady r (λ a. IfOk a (λ n. n ≤ length buf.new))) }
-        ensures left { IfSome result (λ r. Registered r (T.registers self.new.stream) cx.new) }
-        ensures kept { Keeps cx.old cx.new }
-        ensures fits { length self.new.notes < 2 ^ 64 }
+        ensures registered { IfSome result (λ r. Registered r (T.registers self.new.stream) cx.new) }
+        ensures context { Keeps cx.old cx.new }
+        ensures small { length self.new.notes < 2 ^ 64 }
         ensures none { IfNone result ((self.new ≡ self.old) × (buf.new ≡ buf.old)) }
         ensures refused { IfNone result (AsksMemory self.old (Request.room (length buf.old))) }
     {
@@ -97,9 +97,9 @@ impl<T: AsyncRead + Takings + Clone> Journal<T> {
         requires bytes { (bytes.items ≡ []) × (length buf.old ≤ vec_capacity bytes) }
         ensures added { Adds T.reads T.writes self.old (read_note result buf.new) self.new }
         ensures bound { IfReady result (λ r. IfOk r (λ n. n ≤ length buf.new)) }
-        ensures left { Registered result (T.registers self.new.stream) cx.new }
-        ensures kept { Keeps cx.old cx.new }
-        ensures fits { length self.new.notes < 2 ^ 64 }
+        ensures registered { Registered result (T.registers self.new.stream) cx.new }
+        ensures context { Keeps cx.old cx.new }
+        ensures small { length self.new.notes < 2 ^ 64 }
     {
         let room = buf.len();
         let polled = self.stream.poll_read(cx, buf);
@@ -142,9 +142,9 @@ impl<T: Tale + AsyncWrite + Clone> Journal<T> {
     ) -> Option<Poll<io::Result<usize>>>
         ensures added { IfSome result (λ r. Adds T.reads T.writes self.old (write_note r buf.now) self.new) }
         ensures bound { IfSome result (λ r. IfReady r (λ a. IfOk a (λ n. n ≤ length buf.now))) }
-        ensures left { IfSome result (λ r. Registered r (T.write_registers self.new.stream) cx.new) }
-        ensures kept { Keeps cx.old cx.new }
-        ensures fits { length self.new.notes < 2 ^ 64 }
+        ensures registered { IfSome result (λ r. Registered r (T.write_registers self.new.stream) cx.new) }
+        ensures context { Keeps cx.old cx.new }
+        ensures small { length self.new.notes < 2 ^ 64 }
         ensures none { IfNone result (self.new ≡ self.old) }
         ensures refused { IfNone result (AsksMemory self.old (Request.offer buf.now)) }
     {
@@ -167,9 +167,9 @@ impl<T: Tale + AsyncWrite + Clone> Journal<T> {
         requires offered { offered.items ≡ buf.now }
         ensures added { Adds T.reads T.writes self.old (write_note result buf.now) self.new }
         ensures bound { IfReady result (λ r. IfOk r (λ n. n ≤ length buf.now)) }
-        ensures left { Registered result (T.write_registers self.new.stream) cx.new }
-        ensures kept { Keeps cx.old cx.new }
-        ensures fits { length self.new.notes < 2 ^ 64 }
+        ensures registered { Registered result (T.write_registers self.new.stream) cx.new }
+        ensures context { Keeps cx.old cx.new }
+        ensures small { length self.new.notes < 2 ^ 64 }
     {
         let polled = self.stream.poll_write(cx, buf);
         let answer = write_answer(&polled);
@@ -202,9 +202,9 @@ impl<T: Tale + AsyncWrite + Clone> Journal<T> {
     /// ```
     pub fn step_flush(&mut self, cx: &mut Context<'_>) -> Option<Poll<io::Result<()>>>
         ensures added { IfSome result (λ r. Adds T.reads T.writes self.old (flush_note r) self.new) }
-        ensures left { IfSome result (λ r. Registered r (T.write_registers self.new.stream) cx.new) }
-        ensures kept { Keeps cx.old cx.new }
-        ensures fits { length self.new.notes < 2 ^ 64 }
+        ensures registered { IfSome result (λ r. Registered r (T.write_registers self.new.stream) cx.new) }
+        ensures context { Keeps cx.old cx.new }
+        ensures small { length self.new.notes < 2 ^ 64 }
         ensures none { IfNone result (self.new ≡ self.old) }
         ensures refused { IfNone result (AsksMemory self.old Request.flush) }
     {
@@ -240,9 +240,9 @@ impl<T: Tale + AsyncWrite + Clone> Journal<T> {
     /// ```
     pub fn step_close(&mut self, cx: &mut Context<'_>) -> Option<Poll<io::Result<()>>>
         ensures added { IfSome result (λ r. Adds T.reads T.writes self.old (close_note r) self.new) }
-        ensures left { IfSome result (λ r. Registered r (T.write_registers self.new.stream) cx.new) }
-        ensures kept { Keeps cx.old cx.new }
-        ensures fits { length self.new.notes < 2 ^ 64 }
+        ensures registered { IfSome result (λ r. Registered r (T.write_registers self.new.stream) cx.new) }
+        ensures context { Keeps cx.old cx.new }
+        ensures small { length self.new.notes < 2 ^ 64 }
         ensures none { IfNone result (self.new ≡ self.old) }
         ensures refused { IfNone result (AsksMemory self.old Request.close) }
     {
@@ -267,8 +267,8 @@ impl<T: AsyncRead + Takings + Clone> AsyncRead for Journal<T> {
         ensures bound { IfReady result (λ r. IfOk r (λ n. n ≤ length buf.new)) }
         ensures ran { JournalReads T.reads T.writes self.old (read_marks result buf.new) self.new }
         ensures entry { AddsOrStays T.reads T.writes self.old (read_note result buf.new) self.new }
-        ensures left { Registered result (T.registers self.new.stream) cx.new }
-        ensures kept { Keeps cx.old cx.new }
+        ensures registered { Registered result (T.registers self.new.stream) cx.new }
+        ensures context { Keeps cx.old cx.new }
     {
         or_refused(self.step_read(cx, buf))
     }
@@ -285,8 +285,8 @@ impl<T: AsyncRead + Takings + Clone> AsyncRead for Journal<T> {
         ensures bound { IfReady result (λ r. IfOk r (λ n. n ≤ room_in bufs.old)) }
         ensures ran { ReadsInto (JournalReads T.reads T.writes) self.old result bufs.old self.new }
         ensures entry { AddsRead T.reads T.writes self.old result bufs.old self.new }
-        ensures left { Registered result (T.registers self.new.stream) cx.new }
-        ensures kept { Keeps cx.old cx.new }
+        ensures registered { Registered result (T.registers self.new.stream) cx.new }
+        ensures context { Keeps cx.old cx.new }
     {
         self.poll_read(cx, first_room(bufs))
     }
@@ -305,8 +305,8 @@ impl<T: Tale + AsyncWrite + Clone> AsyncWrite for Journal<T> {
         ensures bound { IfReady result (λ r. IfOk r (λ n. n ≤ length buf.now)) }
         ensures ran { JournalWrites T.reads T.writes self.old (write_marks result buf.now) self.new }
         ensures entry { AddsOrStays T.reads T.writes self.old (write_note result buf.now) self.new }
-        ensures left { Registered result (T.write_registers self.new.stream) cx.new }
-        ensures kept { Keeps cx.old cx.new }
+        ensures registered { Registered result (T.write_registers self.new.stream) cx.new }
+        ensures context { Keeps cx.old cx.new }
     {
         or_refused(self.step_write(cx, buf))
     }
@@ -322,8 +322,8 @@ impl<T: Tale + AsyncWrite + Clone> AsyncWrite for Journal<T> {
         ensures bound { IfReady result (λ r. IfOk r (λ n. n ≤ length (io_slices_bytes bufs.now))) }
         ensures ran { JournalWrites T.reads T.writes self.old (write_marks result (io_slices_bytes bufs.now)) self.new }
         ensures entry { AddsWrite T.reads T.writes self.old result (io_slices_bytes bufs.now) self.new }
-        ensures left { Registered result (T.write_registers self.new.stream) cx.new }
-        ensures kept { Keeps cx.old cx.new }
+        ensures registered { Registered result (T.write_registers self.new.stream) cx.new }
+        ensures context { Keeps cx.old cx.new }
     {
         self.poll_write(cx, first_nonempty(bufs))
     }
@@ -331,8 +331,8 @@ impl<T: Tale + AsyncWrite + Clone> AsyncWrite for Journal<T> {
     fn poll_flush(&mut self, cx: &mut Context<'_>) -> Poll<io::Result<()>>
         ensures ran { JournalWrites T.reads T.writes self.old (done_marks flushed result) self.new }
         ensures entry { AddsOrStays T.reads T.writes self.old (flush_note result) self.new }
-        ensures left { Registered result (T.write_registers self.new.stream) cx.new }
-        ensures kept { Keeps cx.old cx.new }
+        ensures registered { Registered result (T.write_registers self.new.stream) cx.new }
+        ensures context { Keeps cx.old cx.new }
     {
         or_refused(self.step_flush(cx))
     }
@@ -340,8 +340,8 @@ impl<T: Tale + AsyncWrite + Clone> AsyncWrite for Journal<T> {
     fn poll_close(&mut self, cx: &mut Context<'_>) -> Poll<io::Result<()>>
         ensures ran { JournalWrites T.reads T.writes self.old (done_marks closed result) self.new }
         ensures entry { AddsOrStays T.reads T.writes self.old (close_note result) self.new }
-        ensures left { Registered result (T.write_registers self.new.stream) cx.new }
-        ensures kept { Keeps cx.old cx.new }
+        ensures registered { Registered result (T.write_registers self.new.stream) cx.new }
+        ensures context { Keeps cx.old cx.new }
     {
         or_refused(self.step_close(cx))
     }

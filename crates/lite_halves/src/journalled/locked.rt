@@ -39,7 +39,7 @@ impl<T: AsyncRead + Takings + Clone, B: Books> Locked<T, B> {
         ensures added { IfSome result (λ r. AddsInside T.reads T.writes self.old.journal (read_note r buf.new) self.new.journal) }
         ensures counted { CountsCall count_of (λ r. read_note r buf.new) tally.old result tally.new }
         ensures bound { IfSome result (λ r. IfReady r (λ a. IfOk a (λ n. n ≤ length buf.new))) }
-        ensures kept { Keeps cx.old cx.new }
+        ensures context { Keeps cx.old cx.new }
     {
         self.reading.audit(tally);
         let polled = self.journal.as_mut().unwrap().step_read(cx, buf)?;
@@ -57,7 +57,7 @@ impl<T: AsyncRead + Takings + Clone, B: Books> Locked<T, B> {
         mut buf: Vec<u8>,
     ) -> Option<Answer>
         ensures made { CountsOrNone tally.old (Request.room (length buf.items)) result tally.new }
-        ensures kept { Keeps cx.old cx.new }
+        ensures context { Keeps cx.old cx.new }
     {
         let polled = self.read(tally, cx, &mut buf)?;
         Some(buffer_answer(&polled, buf))
@@ -77,7 +77,7 @@ impl<T: Tale + AsyncWrite + Clone, B: Books> Locked<T, B> {
             (λ r. AddsInside T.reads T.writes self.old.journal (write_note r buf.now) self.new.journal) }
         ensures counted { CountsCall count_of (λ r. write_note r buf.now) tally.old result tally.new }
         ensures bound { IfSome result (λ r. IfReady r (λ a. IfOk a (λ n. n ≤ length buf.now))) }
-        ensures kept { Keeps cx.old cx.new }
+        ensures context { Keeps cx.old cx.new }
     {
         self.writing.audit(tally);
         let polled = self.journal.as_mut().unwrap().step_write(cx, buf)?;
@@ -94,7 +94,7 @@ impl<T: Tale + AsyncWrite + Clone, B: Books> Locked<T, B> {
     ) -> Option<Poll<io::Result<()>>>
         ensures added { IfSome result (λ r. AddsInside T.reads T.writes self.old.journal (flush_note r) self.new.journal) }
         ensures counted { CountsCall (λ _. 0) flush_note tally.old result tally.new }
-        ensures kept { Keeps cx.old cx.new }
+        ensures context { Keeps cx.old cx.new }
     {
         self.writing.audit(tally);
         let polled = self.journal.as_mut().unwrap().step_flush(cx)?;
@@ -111,7 +111,7 @@ impl<T: Tale + AsyncWrite + Clone, B: Books> Locked<T, B> {
     ) -> Option<Poll<io::Result<()>>>
         ensures added { IfSome result (λ r. AddsInside T.reads T.writes self.old.journal (close_note r) self.new.journal) }
         ensures counted { CountsCall (λ _. 0) close_note tally.old result tally.new }
-        ensures kept { Keeps cx.old cx.new }
+        ensures context { Keeps cx.old cx.new }
     {
         self.writing.audit(tally);
         let polled = self.journal.as_mut().unwrap().step_close(cx)?;
@@ -130,7 +130,7 @@ impl<T: Tale + AsyncWrite + Clone, B: Books> Locked<T, B> {
     ) -> Option<Answer>
         requires { IsWrite call.now }
         ensures made { CountsOrNone tally.old (asked_of call.now) result tally.new }
-        ensures kept { Keeps cx.old cx.new }
+        ensures context { Keeps cx.old cx.new }
     {
         match call {
             Call::Read { .. } => unreachable!(),

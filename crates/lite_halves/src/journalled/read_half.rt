@@ -136,8 +136,8 @@ impl<R: Wait, T: AsyncRead + Takings + Clone, B: Books> AsyncRead for JournalRea
         ensures calls { (self.new.calls ≡ self.old.calls + 1) ⊎ (IsOutOfMemory result × (self.new ≡ self.old)) }
         ensures entry { MakesOrStays self.old (read_note result buf.new) self.new }
         ensures bytes { self.new.bytes ≡ self.old.bytes + count_of result }
-        ensures left { Registered result (λ _. ⊥) cx.new }
-        ensures kept { Keeps cx.old cx.new }
+        ensures registered { Registered result (λ _. ⊥) cx.new }
+        ensures context { Keeps cx.old cx.new }
     {
         or_refused(self.shared.lock(&self.rt).read(&mut self.tally, cx, buf))
     }
@@ -156,8 +156,8 @@ impl<R: Wait, T: AsyncRead + Takings + Clone, B: Books> AsyncRead for JournalRea
         ensures calls { (self.new.calls ≡ self.old.calls + 1) ⊎ (IsOutOfMemory result × (self.new ≡ self.old)) }
         ensures entry { MakesRead self.old result bufs.old self.new }
         ensures bytes { self.new.bytes ≡ self.old.bytes + count_of result }
-        ensures left { Registered result (λ _. ⊥) cx.new }
-        ensures kept { Keeps cx.old cx.new }
+        ensures registered { Registered result (λ _. ⊥) cx.new }
+        ensures context { Keeps cx.old cx.new }
     {
         self.poll_read(cx, first_room(bufs))
     }
@@ -173,7 +173,7 @@ where
     // nothing was called.
     fn make(&mut self, cx: &mut Context<'_>, room: usize) -> Option<Answer>
         ensures made { CountsOrNone self.old (Request.room room) result self.new }
-        ensures kept { Keeps cx.old cx.new }
+        ensures context { Keeps cx.old cx.new }
     {
         let buf = vec![in self.rt.alloc(); 0; room].ok()?;
         let mut locked = self.shared.lock(&self.rt);
@@ -225,7 +225,7 @@ where
     ) -> Result<(), AllocError>
         ensures drives { HalfDrives (map Request.room rooms.now) (told_in out.old.items) result self.old self.new
             (told_in out.new.items) }
-        ensures kept { Keeps cx.old cx.new }
+        ensures context { Keeps cx.old cx.new }
     {
         for room in rooms {
             out.reserve(1)?;

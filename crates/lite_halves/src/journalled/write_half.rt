@@ -121,7 +121,7 @@ impl<R: Wait, T: Tale + AsyncWrite + Clone, B: Books> JournalWriteHalf<R, T, B> 
     fn make(&mut self, cx: &mut Context<'_>, call: &Call) -> Option<Answer>
         requires { IsWrite call.now }
         ensures made { CountsOrNone self.old (asked_of call.now) result self.new }
-        ensures kept { Keeps cx.old cx.new }
+        ensures context { Keeps cx.old cx.new }
     {
         self.shared.lock(&self.rt).make(&mut self.tally, cx, call)
     }
@@ -169,7 +169,7 @@ impl<R: Wait, T: Tale + AsyncWrite + Clone, B: Books> JournalWriteHalf<R, T, B> 
     ) -> Result<(), AllocError>
         requires { AllWrites calls.now }
         ensures drives { HalfDrives (asked_in calls.now) (told_in out.old.items) result self.old self.new (told_in out.new.items) }
-        ensures kept { Keeps cx.old cx.new }
+        ensures context { Keeps cx.old cx.new }
     {
         for call in calls {
             out.reserve(1)?;
@@ -199,8 +199,8 @@ impl<R: Wait, T: Tale + AsyncWrite + Clone, B: Books> AsyncWrite for JournalWrit
         ensures calls { (self.new.calls ≡ self.old.calls + 1) ⊎ (IsOutOfMemory result × (self.new ≡ self.old)) }
         ensures entry { MakesOrStays self.old (write_note result buf.now) self.new }
         ensures bytes { self.new.bytes ≡ self.old.bytes + count_of result }
-        ensures left { Registered result (λ _. ⊥) cx.new }
-        ensures kept { Keeps cx.old cx.new }
+        ensures registered { Registered result (λ _. ⊥) cx.new }
+        ensures context { Keeps cx.old cx.new }
     {
         or_refused(self.shared.lock(&self.rt).write(&mut self.tally, cx, buf))
     }
@@ -219,8 +219,8 @@ impl<R: Wait, T: Tale + AsyncWrite + Clone, B: Books> AsyncWrite for JournalWrit
         ensures calls { (self.new.calls ≡ self.old.calls + 1) ⊎ (IsOutOfMemory result × (self.new ≡ self.old)) }
         ensures entry { MakesWrite self.old result (io_slices_bytes bufs.now) self.new }
         ensures bytes { self.new.bytes ≡ self.old.bytes + count_of result }
-        ensures left { Registered result (λ _. ⊥) cx.new }
-        ensures kept { Keeps cx.old cx.new }
+        ensures registered { Registered result (λ _. ⊥) cx.new }
+        ensures context { Keeps cx.old cx.new }
     {
         self.poll_write(cx, first_nonempty(bufs))
     }
@@ -230,8 +230,8 @@ impl<R: Wait, T: Tale + AsyncWrite + Clone, B: Books> AsyncWrite for JournalWrit
         ensures calls { (self.new.calls ≡ self.old.calls + 1) ⊎ (IsOutOfMemory result × (self.new ≡ self.old)) }
         ensures entry { MakesOrStays self.old (flush_note result) self.new }
         ensures bytes { self.new.bytes ≡ self.old.bytes }
-        ensures left { Registered result (λ _. ⊥) cx.new }
-        ensures kept { Keeps cx.old cx.new }
+        ensures registered { Registered result (λ _. ⊥) cx.new }
+        ensures context { Keeps cx.old cx.new }
     {
         or_refused(self.shared.lock(&self.rt).flush(&mut self.tally, cx))
     }
@@ -241,8 +241,8 @@ impl<R: Wait, T: Tale + AsyncWrite + Clone, B: Books> AsyncWrite for JournalWrit
         ensures calls { (self.new.calls ≡ self.old.calls + 1) ⊎ (IsOutOfMemory result × (self.new ≡ self.old)) }
         ensures entry { MakesOrStays self.old (close_note result) self.new }
         ensures bytes { self.new.bytes ≡ self.old.bytes }
-        ensures left { Registered result (λ _. ⊥) cx.new }
-        ensures kept { Keeps cx.old cx.new }
+        ensures registered { Registered result (λ _. ⊥) cx.new }
+        ensures context { Keeps cx.old cx.new }
     {
         or_refused(self.shared.lock(&self.rt).close(&mut self.tally, cx))
     }

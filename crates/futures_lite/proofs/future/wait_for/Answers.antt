@@ -3,7 +3,7 @@ use Rattle.futures_lite.proofs.future.wait_for.Goals as goal
 
 pub returns-clause-left : goal.returns-clause-left
 unfolding LeftAs
-returns-clause-left g c = (left_seen _ _ _, (c.wait_for.ensures.gave, c.wait_for.ensures.kept))
+returns-clause-left g c = (left_seen _ _ _, (c.wait_for.ensures.gave, c.wait_for.ensures.unchanged))
 
 pub returns-in_err-new-clause-left : goal.returns-in_err-new-clause-left
 unfolding LeftAs

@@ -53,7 +53,7 @@ returns-clause-agree g c =
       both_ok _ c.run-2.result (search rules) two.3,
       waits_on {P = HoldsEach (g.S.Stream.registers c.run.new.s) c.run.new.cx}
           (HoldsEach (g.S.Stream.registers c.run.new.s) c.run-2.new.cx) one.0
-          (λ left fact h. c.run-2.ensures.kept fact (left fact h)) one.5,
+          (λ left fact h. c.run-2.ensures.context fact (left fact h)) one.5,
       two.5,
       on_err_weaker c.run-2.result (λ few. inr (search rules, few)) two.4,
     )

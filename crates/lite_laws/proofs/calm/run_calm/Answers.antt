@@ -8,5 +8,5 @@ returns g c =
       no_pending = (ran.0, ran.1, ran.2, calm.no_pending _ _ ran.0 c.requires.calm ran.2, ran.3, ran.4);
       full = c.run.ensures.full;
       again = (c.run.ensures.again, calm.calm_on _ _ ran.0 c.requires.calm ran.2);
-      kept = c.run.ensures.kept;
+      context = c.run.ensures.context;
     }

@@ -16,6 +16,6 @@ loop-preserved g c =
         rw (c.push_reserved.ensures.items, c.reserve.ensures.items, ran.1, append_assoc),
         g.met.S.Stream.laws.follows _ _ _ ran.0 last ran.2 c.poll_next.ensures.ran,
         length-append ran.0 last ∙ ap (λ k. k + 1) ran.3,
-        waits_last ran.0 c.poll_next.result _ c.poll_next.ensures.left,
+        waits_last ran.0 c.poll_next.result _ c.poll_next.ensures.registered,
       );
     }

@@ -32,7 +32,7 @@ writes-preserved-in-Ready-Ok g c =
       drain_some g.W.Takings.writes g.W.Takings.write_laws c.args.self.now
           y _ c.writes.interruptions n c.writes.invariant.0 ran (omega (arith, c.in-Ready-Ok.n-test)) most
           e.buf (ap (λ k. k + n) e.written) e.len,
-      λ fact holds. e.kept fact (c.writes.invariant.1 fact holds),
+      λ fact holds. e.context fact (c.writes.invariant.1 fact holds),
     )
 
 pub writes-preserved : goal.writes-preserved
@@ -44,7 +44,7 @@ writes-preserved g c =
       drain_interrupted g.W.Takings.writes g.W.Takings.write_laws c.args.self.now
           y c.offer.new.self c.writes.interruptions c.writes.invariant.0 ran c.writes-test.true
           c.if-interruptions-lt-MOST_INTERRUPTIONS.true e.buf e.written e.len,
-      λ fact holds. e.kept fact (c.writes.invariant.1 fact holds),
+      λ fact holds. e.context fact (c.writes.invariant.1 fact holds),
     )
 
 pub returns-in-Ready-Err-2-clause-ran : goal.returns-in-Ready-Err-2-clause-ran

@@ -23,7 +23,7 @@ returns g c =
       out.result,
       record { shown = _; shows = refl; called = c.predicate-is_accepted.ensures },
       c.in-Some.is,
-      rw collected c.in-Err.ensures.kept.1,
-      ap (λ x. Err (record { collected = out.result; item = x })) c.in-Err.ensures.kept.0,
+      rw collected c.in-Err.ensures.unchanged.1,
+      ap (λ x. Err (record { collected = out.result; item = x })) c.in-Err.ensures.unchanged.0,
       c.take.ensures.after,
     )

@@ -14,7 +14,7 @@ loop-call-preserved g c = (
       c.loop-call.invariant.0 c.loop-call-test.true (sym c.call-item.is)
       (rw c.in_ok-answer.ensures.ok_part at c.make.ensures.made)
       c.in_ok-reserve.ensures.items c.push_reserved.ensures.items,
-  λ fact h. c.make.ensures.kept fact (c.loop-call.invariant.1 fact h),
+  λ fact h. c.make.ensures.context fact (c.loop-call.invariant.1 fact h),
   omega arith,
 )
 

@@ -44,7 +44,7 @@ returns-in-Err-clause-stepped g c =
     (line_refused _ g.R.Tale.read_laws c.args.self.now c.find_line.new.reader c.take_in.new.self _ e.stays e.text
     (rw is at c.find_line.ensures.ran) c.finish.ensures c.in-Err.e refl
     e.refused (search (rules, common_steps))
-    e.unread e.kept
+    e.unread e.unchanged
     (lacks_through 10 g.R.AsyncBufRead.lent (ap (λ r. r.now) c.finish.ensures.reader ∙ e.unread) refl
     (through_found 10 _ line.at (rw is at c.find_line.ensures.found)) e.full))
 
@@ -67,7 +67,7 @@ returns-in-Err-take_in-clause-stepped g c =
     (line_refused _ g.R.Tale.read_laws c.args.self.now c.find_line.new.reader
     c.take_in-in-Ready-Ok-None-default.new.self
     _ e.stays e.text (rw is at c.find_line.ensures.ran) c.finish-in-Err-take_in.ensures
-    c.in-Err-take_in.e refl e.refused (search (rules, common_steps)) e.unread e.kept
+    c.in-Err-take_in.e refl e.refused (search (rules, common_steps)) e.unread e.unchanged
     (lacks_through 10 g.R.AsyncBufRead.lent (ap (λ r. r.now) c.finish-in-Err-take_in.ensures.reader ∙ e.unread) refl
     (through_none 10 _ (rw is at c.find_line.ensures.found)) (rw c.lent_by-amount.ensures at e.full)))
 

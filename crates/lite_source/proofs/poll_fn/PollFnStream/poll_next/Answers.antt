@@ -11,5 +11,5 @@ returns-clause-ran g c = (_, (_, _, c.f.ensures), refl)
 pub returns-clause-again : goal.returns-clause-again
 returns-clause-again g c = obeys_on g.F.FnMut _ _ _ c.f.result (λ l w. w) c.requires (_, _, c.f.ensures)
 
-pub returns-clause-kept : goal.returns-clause-kept
-returns-clause-kept g c = (c.requires.at [] _ tt refl _).1 _ _ _ c.f.ensures
+pub returns-clause-context : goal.returns-clause-context
+returns-clause-context g c = (c.requires.at [] _ tt refl _).1 _ _ _ c.f.ensures

@@ -14,7 +14,7 @@ returns-in-Ready g c =
         waiting_gives waited.0 _ _ waited.1 (refl, refl),
         g.met.F.Future.laws.follows _ _ _ _ _ waited.1 waited.2 last,
       );
-      kept = tt;
+      unchanged = tt;
       waited = refl;
     }
 
