@@ -35,8 +35,8 @@ GainsBytes = GrowsWhere (λ _. ⊤)
 abbrev pub GainsKnown : Runs WriteMark (Option (List ℕ))
 GainsKnown = WhereKnown NoPendingWrite GainsBytes
 
--- A seek of a std seeker is never pending. It moves a known position to the one it returns, an error leaves a known
--- position where it was, and known bytes stay.
+-- A seek of a std seeker is never pending. At `Ok` a known position moves to the target of the seek, which is returned.
+-- An error leaves a known position unchanged. Known bytes stay.
 abbrev pub MovesKnown : Option ℕ → Option ℕ → Option (List ℕ) → Option (List ℕ) → SeekFrom → Poll (Result ℕ ErrorKind)
     → Type 0
 MovesKnown old new bytes after pos (Ready r) = SeekMoves old new bytes pos r × Keeps bytes after
@@ -52,7 +52,8 @@ NoFault (_ ∷ l) = NoFault l
 abbrev pub SpendsWell : Runs ReadMark (Option (List ℕ))
 SpendsWell old l new = SpendsKnown old l new × NoFault l
 
--- The bytes of two values are both known, and equal.
+-- The bytes of two values are both known, and equal. Two readers or writers of std behind `AssertAsync` are alike if
+-- this holds.
 abbrev pub SameKnown : Option (List ℕ) → Option (List ℕ) → Type 0
 SameKnown None other = ⊥
 SameKnown (Some xs) None = ⊥

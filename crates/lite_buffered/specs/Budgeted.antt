@@ -20,8 +20,8 @@ left_noted budget (Some n) = n
 abbrev pub left_of : {R : Type 0} → Budgeted R → ℕ
 left_of x = left_noted x.budget x.left
 
--- The bytes that `fill_buf` may return: at most as many as the budget noted. Nothing is noted after a `Pending`, and
--- then none.
+-- The bytes that `fill_buf` may return: at most as many as the budget that is noted. After a `Pending` none is noted,
+-- and no byte is returned.
 abbrev pub lent_noted : Option ℕ → List ℕ → List ℕ
 lent_noted None bytes = []
 lent_noted (Some n) bytes = take n bytes

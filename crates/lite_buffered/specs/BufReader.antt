@@ -62,8 +62,9 @@ abbrev pub AsksWhereEmpty : {R : Type 0} → Runs ReadMark R → ℕ → BufRead
 AsksWhereEmpty reads most x y =
     (ahead x ≡ [] → ReadsOnce reads most x.inner y.inner) × (0 < length (ahead x) → y.inner ≡ x.inner)
 
--- A read that bypasses the buffer: the inner reader read into the caller's room, and no byte is ahead. A fill whose
--- bytes are all copied at once leaves the same.
+-- A read that bypasses the buffer: the inner reader read into the caller's room, and no byte is ahead. This is how a
+-- read runs if no byte is ahead and the room is at least the capacity. A fill whose bytes are all copied at once leaves
+-- the same.
 abbrev pub ReadsPast : {R : Type 0} → Runs ReadMark R → Runs ReadMark (BufReader R)
 ReadsPast reads x ms y = reads x.inner ms y.inner × (ahead y ≡ [])
 

@@ -1,4 +1,4 @@
--- What each seek keeps true of a value.
+-- What each seek keeps true of a value. A seek leaves no mark.
 use Rattle.std.specs.Prelude.{ℕ, Result}
 use Rattle.lite_io_base.specs.Uses.{ErrorKind, SeekFrom, Poll}
 

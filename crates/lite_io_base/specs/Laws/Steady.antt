@@ -116,7 +116,7 @@ told_no_wait [] x (a ∷ l) n h = rw h.0 (told_no_wait [] x l tt h.1)
 told_no_wait (ReadMark.pending ∷ t) x (a ∷ l) n h = absurd n
 told_no_wait (_ ∷ t) x (a ∷ l) n h = rw h.0 (told_no_wait t x l n h.1)
 
--- Values whose marks are fixed in advance.
+-- Values whose marks are fixed in advance. Two are alike if their marks to come, without `Pending`s, are equal.
 module _ {S : Type 0} where
   module _ (marks : S → List ReadMark) where
     pub told_steady : SteadyReadLaws (λ x l y. TellsScript (marks x) l (marks y))
@@ -131,7 +131,7 @@ module _ {S : Type 0} where
           calm_on = λ x y l n h. (told_no_wait _ _ l n h).1;
         }
 
-  -- Slices, whose marks are their bytes.
+  -- Slices, whose marks are their bytes. Two are alike if their bytes are equal.
   module _ (held : S → List ℕ) where
     pub slice_steady : SteadyReadLaws (λ x l y. TellsScript (bytes (held x)) l (bytes (held y)))
         (λ x l y. TellsScript (bytes (held x)) l (bytes (held y))) ⊤ (λ x y. held x ≡ held y)
