@@ -1,4 +1,4 @@
--- What is polled, as std's traits know it.
+-- How polled calls appear under std's blocking traits.
 use Rattle.std.specs.Prelude.{◌≡◌, Result, IsErrAnd}
 use Rattle.lite_bridge.specs.Uses.{Once, error_kind, Error, WouldBlock, Lasting, Context, Poll, Ready, Pending, Registered}
 use denote.Ref.{MutBor}
@@ -6,12 +6,14 @@ use Rattle.futures.specs.Task.{Keeps}
 use Rattle.lite_bridge.specs.declared.async_as_sync.AsyncAsSync.{AsyncAsSync}
 
 module _ {A : Type 0} where
-  -- an answer is handed on, and a pending is an error
+  -- The result `r` of std's trait for a poll result: a ready one is returned as it is, and `Pending` is a `WouldBlock`
+  -- error.
   abbrev pub InTime : Poll (Result A Error) → Result A Error → Type 0
   InTime (Ready answer) r = r ≡ answer
   InTime Pending r = IsErrAnd r (λ e. error_kind e ≡ WouldBlock)
 
-  -- a poll, of which `ran` tells, answered so; a pending one has seen in the context to what it `registers`
+  -- One poll, which `ran` describes, returned `r` under std's trait. If it was pending, the context has registered what
+  -- `registers` says.
   pub record Synced (ran : Poll (Result A Error) → Type 0) (registers : Lasting → Type 0) (cx : Context)
       (r : Result A Error) : Type 0 where
     pub answer : Poll (Result A Error)
@@ -19,11 +21,13 @@ module _ {A : Type 0} where
     pub left : Registered answer (registers) cx
     pub in_time : InTime answer r
 
--- a reference to a context is the same, and keeps what it holds
+-- Two mutable references refer to the same context, and that context keeps what it holds.
 abbrev pub SameContext : MutBor Context → MutBor Context → Type 0
 SameContext old new = (new ≡ record old { now = new.now }) × Keeps old.now new.now
 
--- a call of f with references to what is polled and to the context answered so
+-- The function `f` was called with mutable references to the inner value and to the context, and returned `r` under
+-- std's trait. The values that it left behind the references are those that `y` holds, and the reference to the context
+-- is the same.
 pub record PollsWith {F T A : Type 0}
     (g : Once F (MutBor T × (MutBor Context × Unit {0}))
     (Poll (Result A Error) × (MutBor T × (MutBor Context × Unit {0})))) (f : F) (x y : AsyncAsSync T)

@@ -1,4 +1,4 @@
--- A buffered reader over a cursor, seen as the bare cursor at its logical position.
+-- A `BufReader` over a cursor, viewed as the bare cursor at its logical position.
 use Rattle.std.specs.Prelude.{◌≡◌, ◌≤◌, ◌<◌, ◌^◌, ℕ, ◌-◌, List, length, take}
 use Rattle.lite_bridge.specs.Uses.{BufReader, ThroughBuffer, ahead, reader_capacity, reader_inner, SeeksThrough}
 use Rattle.lite_bridge.specs.declared.cursor.Cursor.{Cursor}
@@ -6,12 +6,12 @@ use Rattle.lite_bridge.specs.Cursor.{CursorReads, CursorSeeks, at_place, bytes_l
 use Rattle.lite_bridge.specs.Cursor.{position_of}
 use Rattle.lite_bridge.specs.Calls.{Event, RunsEvents}
 
--- the cursor, as many bytes back as are ahead
+-- The inner cursor, moved back by the number of bytes ahead in the buffer.
 abbrev pub logical : {T : Type 0} → BufReader (Cursor T) → Cursor T
 logical r = at_place (reader_inner r) (position_of (reader_inner r) - length (ahead r))
 
--- There is a buffer, and the bytes that are ahead are those before the inner position. It holds of a fresh reader whose
--- capacity is 1 or more.
+-- The buffer has some capacity, and the bytes ahead are those before the inner position. This holds of a fresh
+-- `BufReader` whose capacity is at least 1. Position and size are `u64`s.
 pub record IsInStep {T : Type 0} (bytes : T → List ℕ) (r : BufReader (Cursor T)) : Type 0 where
   pub buffered : 0 < reader_capacity r
   pub behind : length (ahead r) ≤ position_of (reader_inner r)
@@ -19,8 +19,8 @@ pub record IsInStep {T : Type 0} (bytes : T → List ℕ) (r : BufReader (Cursor
   pub place : position_of (reader_inner r) < 2 ^ 64
   pub size : length (bytes (value_of (reader_inner r))) < 2 ^ 64
 
--- However reads and seeks follow one another on r, what they are told is what they are told on the bare cursor at the
--- logical position, and there they leave it.
+-- However reads and seeks of `r` follow one another, each has the outcome that it has on the bare cursor at the logical
+-- position. They leave that cursor at the logical position of what they leave of `r`.
 abbrev pub AnswersAsBare : {T : Type 0} → (T → List ℕ) → BufReader (Cursor T) → Type 0
 AnswersAsBare {T} bytes r =
     (calls : List Event) (last : BufReader (Cursor T))

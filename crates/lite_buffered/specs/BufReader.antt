@@ -1,33 +1,35 @@
--- What passes through a `BufReader`.
+-- How bytes pass through the buffer of a `BufReader`.
 use Rattle.std.specs.Prelude.{◌≡◌, ℕ, zero, suc, ◌+◌, List, [], ◌∷◌, ◌++◌, ◌≤◌, ◌<◌, ◌⊎◌, length, slice_range, Result}
 use Rattle.lite_buffered.specs.Uses.{Error, Poll, ReadMark, bytes, read_marks, WriteMark, Ranks, Runs}
 use Rattle.lite_buffered.specs.declared.buf_reader.BufReader.{BufReader}
 
--- the bytes that were read ahead
+-- The bytes ahead: those in the buffer that were read from the inner reader and not yet consumed.
 abbrev pub ahead : {R : Type 0} → BufReader R → List ℕ
 ahead r = slice_range r.buf.items r.pos r.end
 
--- the reader that the buffer is filled from
+-- The inner reader, from which the buffer is filled.
 abbrev pub reader_inner : {R : Type 0} → BufReader R → R
 reader_inner r = r.inner
 
--- how many bytes the buffer has room for
+-- The capacity of the buffer.
 abbrev pub reader_capacity : {R : Type 0} → BufReader R → ℕ
 reader_capacity r = length r.buf.items
 
--- the same marks, with ends put among them
+-- The second list is the first with ends of file inserted anywhere.
 pub data Padded : List ReadMark → List ReadMark → Type 0 where
   none : Padded [] []
   same : (m : ReadMark) (l k : List ReadMark) → Padded l k → Padded (m ∷ l) (m ∷ k)
   more : (l k : List ReadMark) → Padded l k → Padded l (ReadMark.end ∷ k)
 
--- What was ahead and then came in is what went out and then is ahead. Without any capacity nothing is ever ahead, and a
--- fill, which lends nothing, looks like an end.
+-- The bytes ahead before, followed by the inner reader's marks (`came`), are the marks passed on (`out`), followed by
+-- the bytes ahead after. With capacity 0, no bytes are ever ahead. Then a fill returns an empty slice, which looks like
+-- end of file, so `out` may have more ends than `came`.
 abbrev pub PassesBuffer : ℕ → List ℕ → List ReadMark → List ReadMark → List ℕ → Type 0
 PassesBuffer zero before came out after = (before ≡ []) × (after ≡ []) × Padded came out
 PassesBuffer (suc n) before came out after = bytes before ++ came ≡ out ++ bytes after
 
--- the inner reader ran, and what it told passed through the buffer
+-- The run of a `BufReader`: the inner reader ran, and its marks passed through the buffer (`PassesBuffer`). The
+-- capacity stays.
 pub record ThroughBuffer {R : Type 0} (reads : Runs ReadMark R) (x : BufReader R) (ms : List ReadMark)
     (y : BufReader R) : Type 0 where
   pub came : List ReadMark
@@ -35,19 +37,19 @@ pub record ThroughBuffer {R : Type 0} (reads : Runs ReadMark R) (x : BufReader R
   pub capacity : reader_capacity y ≡ reader_capacity x
   pub passes : PassesBuffer (reader_capacity x) (ahead x) came ms (ahead y)
 
--- no mark, or those of one answer to a read into at most so much room
+-- No mark, or the marks of one read into a buffer of at most `most` bytes.
 abbrev pub OfOneRead : ℕ → List ReadMark → Type 0
 OfOneRead most told =
     (told ≡ []) ⊎ ((r : Poll (Result ℕ Error)) × (buf : List ℕ) × (length buf ≤ most) × (told ≡ read_marks r buf))
 
--- the inner reader gave at most one answer, to a read into at most so much room
+-- The inner reader is read at most once, into at most `most` bytes of room.
 pub record PollsOnce {R : Type 0} (reads : Runs ReadMark R) (most : ℕ) (x y : R) : Type 0 where
   pub told : List ReadMark
   pub ran : reads x told y
   pub one : OfOneRead most told
 
--- The inner reader gave one answer, to a read into at most so much room, and into some room unless there is none. The
--- marks do not tell how much room the read had: a read into less room leaves the same marks as a short read.
+-- The inner reader is read once, into at most `most` bytes of room, and into some room unless `most` is 0. The marks do
+-- not show how much room the read had, because a read into less room leaves the same marks as a short read.
 pub record ReadsOnce {R : Type 0} (reads : Runs ReadMark R) (most : ℕ) (x y : R) : Type 0 where
   pub answer : Poll (Result ℕ Error)
   pub buf : List ℕ
@@ -55,21 +57,22 @@ pub record ReadsOnce {R : Type 0} (reads : Runs ReadMark R) (most : ℕ) (x y : 
   pub some : 0 < most → 0 < length buf
   pub ran : reads x (read_marks answer buf) y
 
--- the inner reader is polled once, for at most so many bytes, if nothing is ahead, and else not at all
+-- If no byte is ahead, the inner reader is polled once, for at most `most` bytes. If some are, it is not polled.
 abbrev pub AsksWhereEmpty : {R : Type 0} → Runs ReadMark R → ℕ → BufReader R → BufReader R → Type 0
 AsksWhereEmpty reads most x y =
     (ahead x ≡ [] → ReadsOnce reads most x.inner y.inner) × (0 < length (ahead x) → y.inner ≡ x.inner)
 
--- a read past the buffer: the inner reader gave this answer, and nothing is ahead (a fill of which all is copied at once
--- leaves the same)
+-- A read that bypasses the buffer: the inner reader read into the caller's room, and no byte is ahead. This is how a
+-- read runs if no byte is ahead and the room is at least the capacity. A fill whose bytes are all copied at once leaves
+-- the same.
 abbrev pub ReadsPast : {R : Type 0} → Runs ReadMark R → Runs ReadMark (BufReader R)
 ReadsPast reads x ms y = reads x.inner ms y.inner × (ahead y ≡ [])
 
--- what is written goes past the buffer
+-- The run of writes: they go directly to the inner value, and the buffer stays as it is.
 abbrev pub Past : {R : Type 0} → Runs WriteMark R → Runs WriteMark (BufReader R)
 Past writes x ms y = writes x.inner ms y.inner × (reader_capacity y ≡ reader_capacity x) × (ahead y ≡ ahead x)
 
--- the rank of the inner reader, and then how much is ahead
+-- The rank of a `BufReader`: the inner reader's rank, followed by the number of bytes ahead.
 abbrev pub ahead_ranks : {R : Type 0} → Ranks R → Ranks (BufReader R)
 ahead_ranks r =
     record {

@@ -1,30 +1,31 @@
--- What else is said of `chain`: its parts, what a pending registers, what it lends, and its rank.
+-- The parts of a `chain`, what a pending read registers, what the chain has buffered, and its rank.
 use Rattle.std.specs.Prelude.{Bool, cond, replicate, ℕ, ◌+◌, List, ◌++◌, MatchBool}
 use Rattle.lite_buffered.specs.Uses.{Lasting, Ranks}
 use Rattle.lite_buffered.specs.declared.chain.Chain.{Chain}
 
--- the first reader
+-- The first reader.
 abbrev pub first_of : {R S : Type 0} → Chain R S → R
 first_of x = x.first
 
--- the second reader
+-- The second reader.
 abbrev pub second_of : {R S : Type 0} → Chain R S → S
 second_of x = x.second
 
--- the end of the first was met
+-- The first reader has reached end of file.
 abbrev pub has_ended : {R S : Type 0} → Chain R S → Bool
 has_ended x = x.has_ended
 
--- what a pending registers in its context: what the reader does that is read
+-- What a pending read registers in its context: what the current reader registers. That is the second one once the
+-- first has ended.
 abbrev pub ChainReadRegisters : {R S : Type 0} → (R → Lasting → Type 0) → (S → Lasting → Type 0) → Chain R S → Lasting
     → Type 0
 ChainReadRegisters first second x fact = MatchBool x.has_ended (second x.second fact) (first x.first fact)
 
--- what is there to be lent: that of the reader that is read
+-- The bytes that a chain has buffered: those of the current reader.
 abbrev pub chain_shown : {R S : Type 0} → (R → List ℕ) → (S → List ℕ) → Chain R S → List ℕ
 chain_shown first second x = cond x.has_ended (second x.second) (first x.first)
 
--- the rank of the first, which counts nothing once it has ended, and then that of the second
+-- The rank of a chain: the first reader's rank, or zeros once it has ended, followed by the second reader's rank.
 abbrev pub chain_read_ranks : {R S : Type 0} → Ranks R → Ranks S → Ranks (Chain R S)
 chain_read_ranks r s =
     record {

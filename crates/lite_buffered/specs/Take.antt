@@ -1,30 +1,30 @@
--- `take`: the front of a reader, and then an end for ever.
+-- `take`: the first bytes of a reader, and then end of file forever.
 use Rattle.std.specs.Prelude.{◌≡◌, ℕ, zero, suc, List, [], ◌∷◌, ◌++◌, ⊤}
 use Rattle.lite_buffered.specs.Uses.{ReadMark, Runs}
 use Rattle.lite_buffered.specs.declared.take.Take.{Take}
 
--- the reader that is read
+-- The reader that is read.
 abbrev pub take_inner : {R : Type 0} → Take R → R
 take_inner x = x.inner
 
--- how many bytes may still be read
+-- How many more bytes may be read.
 abbrev pub limit_of : {R : Type 0} → Take R → ℕ
 limit_of x = x.limit
 
--- each of these marks comes while the limit isn't used up, of which each byte uses one; this is what is left
+-- The marks come while the limit is not used up. Each byte uses one of the limit, and `rest` is left.
 abbrev pub WithinLimit : Runs ReadMark ℕ
 WithinLimit limit [] rest = rest ≡ limit
 WithinLimit zero (m ∷ ms) rest = ⊥
 WithinLimit (suc n) (ReadMark.byte b ∷ ms) rest = WithinLimit n ms rest
 WithinLimit (suc n) (_ ∷ ms) rest = WithinLimit (suc n) ms rest
 
--- ends alone, and only if the limit is used up
+-- The marks are ends of file. If any comes, the limit is used up.
 abbrev pub LimitEnds : ℕ → List ReadMark → Type 0
 LimitEnds rest [] = ⊤
 LimitEnds rest (m ∷ ms) = (rest ≡ 0) × (m ≡ ReadMark.end) × LimitEnds rest ms
 
--- The inner reader's marks through the limit's last byte, and then ends. Where the limit is used up the inner reader is
--- asked no more.
+-- The run of `take`: the inner reader's marks through the limit's last byte, and then ends of file. Once the limit is
+-- 0, the inner reader is not polled, and nothing changes.
 pub record TakesMarks {R : Type 0} (reads : Runs ReadMark R) (x : Take R) (ms : List ReadMark)
     (y : Take R) : Type 0 where
   pub front : List ReadMark

@@ -1,10 +1,10 @@
--- `bytes`: a reader's marks, one by one.
+-- The `bytes` stream: each mark of its reader becomes one poll result.
 use Rattle.std.specs.Prelude.{◌≡◌, ℕ, List, [], ◌∷◌, ⊤, Some, None, Result, Ok, Err}
 use Rattle.lite_read.specs.Uses.{error_kind, Error, Interrupted, Ready, Pending, Answer, Runs, ReadMark}
 use Rattle.lite_read.specs.declared.bytes.Bytes.{Bytes}
 
--- A byte is an item, an end an end, and a pending `Pending`. An error is an item too, but an `Interrupted` one is
--- `Pending`.
+-- The poll result that one mark of the reader becomes. A byte is an item, end of file is the end of the stream, and
+-- `Pending` is `Pending`. An error is an item, except that an `Interrupted` one is `Pending`.
 abbrev pub TellsMark : ReadMark → Answer (Result ℕ Error) → Type 0
 TellsMark (ReadMark.byte b) (Ready (Some (Ok x))) = x ≡ b
 TellsMark (ReadMark.fault kind) (Ready (Some (Err e))) = (error_kind e ≡ kind) × (kind ≡ Interrupted → ⊥)
@@ -13,13 +13,14 @@ TellsMark ReadMark.pending Pending = ⊤
 TellsMark ReadMark.end (Ready None) = ⊤
 TellsMark m a = ⊥
 
--- each answer tells one mark
+-- Two lists have one length, and each mark becomes the poll result at its place.
 abbrev pub TellsEach : List ReadMark → List (Answer (Result ℕ Error)) → Type 0
 TellsEach [] [] = ⊤
 TellsEach (m ∷ ms) (a ∷ l) = TellsMark m a × TellsEach ms l
 TellsEach ms l = ⊥
 
--- the reader left some marks, and each answer tells one; no answer leaves all as it is
+-- The run of `bytes`: its reader produced some marks, and each became one poll result. Without a poll the stream is
+-- unchanged.
 pub record TellsBytes {R : Type 0} (reads : Runs ReadMark R) (x : Bytes R) (out : List (Answer (Result ℕ Error)))
     (y : Bytes R) : Type 0 where
   pub marks : List ReadMark

@@ -1,4 +1,4 @@
--- `lines`: the pieces between newlines, 0x0A, as text.
+-- The `lines` stream: the text between newlines, 0x0A.
 use Rattle.std.specs.Prelude.{◌<◌, ◌+◌, ℕ, List, Option, Result, length, vec_capacity}
 use Rattle.lite_read.specs.Uses.{Global, before_first, Error, String, Answer, Runs, ReadMark}
 use Rattle.lite_read.specs.ReadFold.{ReadFold}
@@ -8,11 +8,12 @@ use Rattle.lite_read.specs.Scan.{is_newline}
 use Rattle.lite_read.specs.LineText.{IsText, without_return}
 use Rattle.lite_read.specs.declared.lines.Lines.{Lines}
 
--- a line before a newline is without its return, and a last line keeps it
+-- The fold of `lines`: bytes up to a newline become a line without one 0x0D at its end, and bytes up to end of file a
+-- line as they are. An allocation may fail if `may_refuse` is true.
 abbrev pub lining : Type 0 → Unit {0} → ReadFold (List ℕ) (Option (Result (String Global) Error))
 lining may_refuse u = pieces 10 (λ held. may_refuse) (Itemised (λ xs. IsText (without_return xs)) IsText)
 
--- a `lines` holds bytes, and keeps nothing else
+-- A view of `lines` as a stream over a reader: it holds the bytes of the line read so far, and no settings.
 abbrev pub lines_over : {R : Type 0} → StreamOver (Lines R) R (List ℕ) (Unit {0})
 lines_over =
     record {
@@ -22,12 +23,14 @@ lines_over =
       kept = λ x. tt;
     }
 
--- the buffer of x has no room for what y holds and what its reader lends before a newline
+-- The buffer of `x` is too small for the bytes that `y` holds and those that `y`'s reader has buffered before a
+-- newline.
 abbrev pub LineLacksRoom : {R : Type 0} → (R → List ℕ) → Lines R → Lines R → Type 0
 LineLacksRoom lent x y =
     vec_capacity x.held.bytes < length y.held.bytes.items + length (before_first is_newline (lent y.reader))
 
 module _ {R : Type 0} (reads : Runs ReadMark R) (may_refuse : Type 0) where
-  -- the reader's marks, cut into lines, where memory may be refused if may_refuse is true
+  -- The run of `lines`: the reader's marks are cut into lines, errors and ends, one for each poll result. An allocation
+  -- may fail if `may_refuse` is true.
   abbrev pub GivesLines : Runs (Answer (Result (String Global) Error)) (Lines R)
   GivesLines = Flows lines_over (lining may_refuse) reads

@@ -1,11 +1,11 @@
--- Answers among which there is no refusal of memory.
+-- Lists of poll results in which no allocation failed.
 use Rattle.std.specs.Prelude.{◌≡◌, ◌≢◌, List, Result, Err}
 use Rattle.lite_read.specs.Uses.{error_kind, AllByRecursion, Error, OutOfMemory, Answer, item}
 
--- a refusal is an error of the kind OutOfMemory
+-- This poll result is not an error of the kind `OutOfMemory`.
 abbrev pub NotRefused : {A : Type 0} → Answer (Result A Error) → Type 0
 NotRefused a = (e : Error) → a ≡ item (Err e) → error_kind e ≢ OutOfMemory
 
--- no answer of the list is a refusal
+-- No poll result of the list is an error of the kind `OutOfMemory`.
 abbrev pub NoneRefused : {A : Type 0} → List (Answer (Result A Error)) → Type 0
 NoneRefused = AllByRecursion NotRefused

@@ -1,9 +1,10 @@
--- `read`: one read into a buffer.
+-- The `read` future: each poll reads once into a buffer.
 use Rattle.std.specs.Prelude.{◌≡◌, ◌≤◌, ℕ, length, Result, IfOk}
 use Rattle.lite_read.specs.Uses.{Error, IfReady, Poll, ReadMark, read_marks, Runs}
 use Rattle.lite_read.specs.declared.read.ReadFuture.{ReadFuture}
 
--- the reader ran by the marks of the answer; both references stay, and the buffer has its length
+-- One poll of `read`: the reader ran by the marks of this result, which counts at most the buffer's length. The future
+-- keeps both references, and the buffer its length.
 pub record Reads {R : Type 0} (reads : Runs ReadMark R) (x : ReadFuture R) (c : Poll (Result ℕ Error))
     (y : ReadFuture R) : Type 0 where
   pub came : reads x.reader.now (read_marks c y.buf.now) y.reader.now

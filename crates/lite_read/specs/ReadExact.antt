@@ -1,22 +1,23 @@
--- `read_exact`: bytes are taken in up to as many as there is room for.
+-- The `read_exact` future: bytes are read until the buffer is full.
 use Rattle.std.specs.Prelude.{◌≡◌, ◌<◌, List, [], ◌∷◌, ◌++◌, length, Result, Ok, Err}
 use Rattle.lite_read.specs.Uses.{error_kind, Error, UnexpectedEof, Poll, ReadMark, Runs}
 use Rattle.lite_read.specs.Filling.{ExactStays, Filling, filling_of}
 use Rattle.lite_read.specs.ReadFold.{Gathers, ReadFold}
 use Rattle.lite_read.specs.declared.read_exact.ReadExactFuture.{ReadExactFuture}
 
--- not all that there is room for was read
+-- The buffer is not full yet.
 abbrev pub HasRoom : Filling → Type 0
 HasRoom g = length g.0 < g.1
 
--- full, at an end, at an error
+-- The value of `read_exact`, and the marks that produce it. It is `Ok` once the buffer is full, without another mark.
+-- Before that, end of file is an `UnexpectedEof` error, and an error of the reader is the value.
 abbrev pub Fulfils : Filling → List ReadMark → Result (Unit {0}) Error → Type 0
 Fulfils g [] r = (length g.0 ≡ g.1) × (r ≡ Ok tt)
 Fulfils g (ReadMark.end ∷ []) (Err e) = HasRoom g × (error_kind e ≡ UnexpectedEof)
 Fulfils g (ReadMark.fault kind ∷ []) (Err e) = HasRoom g × (error_kind e ≡ kind)
 Fulfils g marks r = ⊥
 
--- bytes are taken in up to as many as there is room for
+-- The fold of `read_exact`: bytes are consumed while the buffer has room.
 abbrev pub fills : ReadFold Filling (Result (Unit {0}) Error)
 fills =
     record {
@@ -25,6 +26,6 @@ fills =
       gives = λ g marks r h. Fulfils g marks r × (h ≡ g);
     }
 
--- a future that fills its buffer so
+-- The run of `read_exact`: the reader's marks are gathered into its buffer by `fills`.
 abbrev pub ReadsExactly : {R : Type 0} → Runs ReadMark R → Runs (Poll (Result (Unit {0}) Error)) (ReadExactFuture R)
 ReadsExactly = Gathers (λ x. x.reader.now) filling_of (λ x. fills) ExactStays

@@ -1,4 +1,4 @@
--- `read_line`: what `read_until` reads up to a newline, 0x0A, goes to the end of a text.
+-- The `read_line` future: it reads as `read_until` does up to a newline, 0x0A, and appends the bytes to a `String`.
 use Rattle.std.specs.Prelude.{◌≡◌, ◌≤◌, ◌<◌, ◌+◌, ℕ, List, Result, length}
 use Rattle.lite_read.specs.Uses.{is_ascii, list_all, Error, Poll, ReadMark, Runs}
 use Rattle.lite_read.specs.BytePieces.{through_first}
@@ -8,21 +8,23 @@ use Rattle.lite_read.specs.Holding.{HasRoomFor, TextOver, room_for}
 use Rattle.lite_read.specs.Texts.{ReadsText, ReadsTextByRoom}
 use Rattle.lite_read.specs.declared.read_line.ReadLineFuture.{ReadLineFuture}
 
--- bytes are taken in up to a newline, with it; memory may be refused where may_refuse is true of those taken in
+-- The fold of `read_line`: bytes are consumed through a newline. An allocation may fail if `may_refuse` is true of the
+-- bytes read.
 abbrev pub read_line_fold : (List ℕ → Type 0) → ReadFold (List ℕ) (Result ℕ Error)
 read_line_fold = until_where 10
 
--- x has no memory for the bytes that were read and those that y's reader lends up to a newline, with it
+-- The memory of `x` is too small for the bytes `read` and those that `y`'s reader has buffered through a newline.
 abbrev pub LineLacksMemory : {R A : Type 0} → (R → List ℕ) → ReadLineFuture R A → ReadLineFuture R A → List ℕ → Type 0
 LineLacksMemory lent x y read =
     room_for x.text.now x.bytes < length read + length (through_first 10 (lent y.reader.now))
 
--- the text can take in what was read, and it is known whether that is ASCII
+-- What is true before each poll of `read_line`: the bytes read so far fit into the text, and `ascii` says whether all
+-- of them are ASCII.
 pub record LineHolds {R A : Type 0} (x : ReadLineFuture R A) : Type 0 where
   pub fits : HasRoomFor x.text.now x.bytes
   pub known : x.ascii ≡ list_all is_ascii x.bytes.items
 
--- a `read_line` has read these bytes
+-- A view of `read_line` as a future that reads into a text.
 abbrev pub line_over : {R A : Type 0} → TextOver (ReadLineFuture R A) R A
 line_over =
     record {
@@ -34,11 +36,12 @@ line_over =
     }
 
 module _ {R A : Type 0} (may_refuse : List ℕ → Type 0) (reads : Runs ReadMark R) where
-  -- the reader's marks, read up to a newline, and what the text gained
+  -- The run of `read_line`: the reader's marks are read through a newline, and the text gains the bytes with the value.
+  -- An allocation may fail if `may_refuse` is true of the bytes read.
   abbrev pub ReadsLine : Runs (Poll (Result ℕ Error)) (ReadLineFuture R A)
   ReadsLine = ReadsText line_over (read_line_fold may_refuse) reads
 
 module _ {R A : Type 0} (lent : R → List ℕ) (reads : Runs ReadMark R) where
-  -- the reader's marks, read up to a newline, where memory is refused only if there was too little
+  -- The run of `read_line`, in which an allocation fails only if the memory was too small (`LineLacksMemory`).
   abbrev pub ReadsLineByRoom : Runs (Poll (Result ℕ Error)) (ReadLineFuture R A)
   ReadsLineByRoom = ReadsTextByRoom line_over read_line_fold (LineLacksMemory lent) reads

@@ -1,10 +1,10 @@
--- `read_vectored`: one read into buffers.
+-- The `read_vectored` future: each poll reads once into several buffers.
 use Rattle.std.specs.Prelude.{◌≡◌, ◌≤◌, ℕ, List, length, Some, Result, IfOk}
 use Rattle.lite_read.specs.Uses.{MutBor, Error, IoSliceMut, IfReady, Poll, ReadMark, ReadsInto, room_in, Runs}
 use Rattle.lite_read.specs.declared.read_vectored.ReadVectoredFuture.{ReadVectoredFuture}
 
--- The reader read as into one buffer that has the room of them all. Both references stay, and so does the number of
--- buffers.
+-- One poll of `read_vectored`: the reader ran as in a read into one buffer with the room of all buffers together, and
+-- an `Ok` counts at most that room. The future keeps both references, and the number of buffers.
 pub record ReadsVectored {R : Type 0} (reads : Runs ReadMark R) (x : ReadVectoredFuture R) (c : Poll (Result ℕ Error))
     (y : ReadVectoredFuture R) : Type 0 where
   pub bufs : MutBor (List IoSliceMut)

@@ -1,25 +1,27 @@
--- Bytes that are read for a text, and what the text gains.
+-- Bytes that are read for a `String`, and what the `String` gains.
 use Rattle.std.specs.Prelude.{◌≡◌, ◌⊎◌, ℕ, List, [], ◌++◌, Result, Ok, Err, IsUtf8, string_bytes}
 use Rattle.lite_read.specs.Uses.{error_kind, Error, InvalidData, Poll, ReadMark, Runs}
 use Rattle.lite_read.specs.ReadFold.{Gathers, GathersByRoom, ReadFold}
 use Rattle.lite_read.specs.Holding.{TextOver, TextStays}
 
--- the bytes are appended to the text where they are UTF-8, and else dropped
+-- The bytes `xs` are appended to the text if they are UTF-8, and dropped otherwise.
 abbrev pub AppendsText : Runs ℕ (List ℕ)
 AppendsText xs before after = (IsUtf8 xs × (after ≡ before ++ xs)) ⊎ ((¬ IsUtf8 xs) × (after ≡ before))
 
--- the value where reading the bytes gave the one before: how many there are is no value of bytes that are not UTF-8
+-- The value of reading a text, from the value of reading its bytes `xs`. A number of bytes stays if they are UTF-8, and
+-- else becomes an `InvalidData` error. An error stays.
 abbrev pub ValueOf : List ℕ → Result ℕ Error → Result ℕ Error → Type 0
 ValueOf xs (Ok n) (Ok m) = IsUtf8 xs × (m ≡ n)
 ValueOf xs (Ok n) (Err e) = (¬ IsUtf8 xs) × (error_kind e ≡ InvalidData)
 ValueOf xs (Err e) r = r ≡ Err e
 
--- what was read for a text, and the text
+-- The bytes read so far, which are not in the text yet, and the bytes of the text.
 pub record Reading : Type 0 where
   pub read : List ℕ
   pub text : List ℕ
 
--- bytes are read as `fold` says, and go into the text with the value
+-- The fold of a read into a text: bytes are read as `fold` does, and the value moves them into the text. Until then the
+-- text is unchanged.
 abbrev pub in_text : ReadFold (List ℕ) (Result ℕ Error) → ReadFold Reading (Result ℕ Error)
 in_text fold =
     record {
@@ -30,23 +32,24 @@ in_text fold =
     }
 
 module _ {X R A : Type 0} (over : TextOver X R A) where
-  -- what a future has read for its text, and the text
+  -- The bytes that a future has read so far, and the bytes of its text.
   abbrev pub reading : X → Reading
   reading x = record { read = over.read x; text = string_bytes (over.text x).now }
 
-  -- a future that reads for its text
+  -- The run of a future that reads into its text by `fold`.
   abbrev pub ReadsText : ReadFold (List ℕ) (Result ℕ Error) → Runs ReadMark R → Runs (Poll (Result ℕ Error)) X
   ReadsText fold = Gathers (λ x. (over.reader x).now) reading (λ x. in_text fold) (TextStays over)
 
-  -- a future that reads for its text, where memory is refused only if `lacks` is true of both ends of the run and of
-  -- what was read
+  -- The run of a future that reads into its text, in which an allocation fails only if `lacks` is true of both values
+  -- of the run and of the bytes read.
   abbrev pub ReadsTextByRoom : ((List ℕ → Type 0) → ReadFold (List ℕ) (Result ℕ Error)) → (X → X → List ℕ → Type 0)
       → Runs ReadMark R → Runs (Poll (Result ℕ Error)) X
   ReadsTextByRoom fold lacks =
       GathersByRoom (λ x. (over.reader x).now) reading (λ x y v. in_text (fold (lacks x y))) (TextStays over)
       over.grows
 
-  -- what the future x has read, which gave v, goes into its text with the value r, and leaves the future y
+  -- The future `x` ends with the value `r`, and leaves `y`. `v` is the value of reading the bytes. They are appended to
+  -- the text if they are UTF-8, and the future holds none afterwards. Both references stay.
   pub record FinishesText (x : X) (v r : Result ℕ Error) (y : X) : Type 0 where
     pub holds : over.holds y
     pub reader : over.reader y ≡ over.reader x

@@ -1,13 +1,13 @@
--- `copy`: what a reader tells before its first end goes to a writer, which is then flushed.
+-- The `copy` future: the bytes of a reader before its first end of file are written to a writer, which is then flushed.
 use Rattle.std.specs.Prelude.{◌≡◌, ◌<◌, ◌+◌, ◌%◌, ◌^◌, ⊤, ℕ, List, [], ◌∷◌, ◌++◌, length, Result, Ok, Err}
 use Rattle.lite_write.specs.Uses.{error_kind, Error, WriteZero, Poll, UpToValue, strip, waits, Runs, ReadMark, WriteMark, bytes_taken}
 use Rattle.lite_write.specs.MarkLists.{TakesUpTo, TellsUpTo, bytes_told, waits_taken, waits_told}
 use Rattle.lite_write.specs.Parts.{held_of, met_in, source_of}
 use Rattle.lite_write.specs.declared.copy.CopyFuture.{CopyFuture}
 
--- The value, if there is one, beside the reader's error and the writer's last mark: how many bytes were taken, where
--- the end was met, all was written and then flushed; or an error of the writer, of a write that took none of some
--- bytes, or of the reader.
+-- The value of a `copy`, if it has one (`given`). It is `Ok` of `total`, the number of bytes written, if the reader's
+-- end was met, every byte was written, and the last mark is a flush. Otherwise it is the error of the reader, the error
+-- of the writer, or `WriteZero` after a write that took none of some bytes.
 abbrev pub CopyValue : (given : List (Result ℕ Error)) (failed : List ReadMark) (last : List WriteMark) (after : List ℕ)
     (met : List ReadMark) (total : ℕ) → Type 0
 CopyValue [] [] [] after met total = ⊤
@@ -18,10 +18,10 @@ CopyValue (Err e ∷ []) [] (WriteMark.wrote [] ∷ []) after met total = (error
 CopyValue (Err e ∷ []) (ReadMark.fault kind ∷ []) [] after met total = (kind ≡ error_kind e) × (met ≡ [])
 CopyValue given failed last after met total = ⊥
 
--- What was read and not yet written, and what the reader told, is what the writer took and what is then read and not
--- yet written. The end that was met, if it was, and what the reader told are bytes and pendings, and then the end that
--- is met, or an error: after an end it told nothing. Each pending of the answers is one of the two, and the value is
--- the last answer.
+-- What a copy does over some polls. The bytes held `before`, followed by those the reader produced, are those that the
+-- writer took, followed by the bytes held `after`. The reader produces bytes and `Pending`s, and then an end of file or
+-- an error, if any. After an end of file, which `met` remembers, it is not read. Each `Pending` of the copy is one of
+-- the reader or of the writer. The value is the last poll result.
 pub record Copied (before : List ℕ) (met told : List ReadMark) (took : List WriteMark)
     (out : List (Poll (Result ℕ Error))) (after : List ℕ)
     (met' : List ReadMark) (total : ℕ) : Type 0 where
@@ -35,7 +35,8 @@ pub record Copied (before : List ℕ) (met told : List ReadMark) (took : List Wr
   pub value : CopyValue (strip out) failed last after met' total
 
 module _ {R W : Type 0} (reads : Runs ReadMark R) (writes : Runs WriteMark W) where
-  -- the reader and the writer ran, and what the one told the other took
+  -- The reader and the writer ran, and what the one produced the other took (`Copied`). `amount` grew by the number of
+  -- bytes that the writer took, modulo 2^64.
   pub record Moves (x : CopyFuture R W) (out : List (Poll (Result ℕ Error))) (y : CopyFuture R W) : Type 0 where
     pub told : List ReadMark
     pub took : List WriteMark
@@ -44,7 +45,7 @@ module _ {R W : Type 0} (reads : Runs ReadMark R) (writes : Runs WriteMark W) wh
     pub copied : Copied (held_of x) (met_in x.phase) told took out (held_of y) (met_in y.phase) y.amount
     pub counted : y.amount ≡ (x.amount + length (bytes_taken took)) % 2 ^ 64
 
-  -- a copy: from what was read to what the writer took, up to its value; no answer leaves all as it is
+  -- The run of `copy`, up to its value (`Moves`). Without a poll the future is unchanged.
   pub record CopyRuns (x : CopyFuture R W) (out : List (Poll (Result ℕ Error))) (y : CopyFuture R W) : Type 0 where
     pub moves : Moves x out y
     pub idle : out ≡ [] → y ≡ x

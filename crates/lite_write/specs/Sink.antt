@@ -1,9 +1,9 @@
--- `sink`: all is taken, and none is kept.
+-- `sink`: a writer that takes all bytes and keeps none.
 use Rattle.std.specs.Prelude.{◌≡◌, [], ◌∷◌}
 use Rattle.lite_write.specs.Uses.{WriteMark, Runs}
 use Rattle.lite_write.specs.declared.sink.Sink.{Sink}
 
--- no mark is a pending or an error
+-- The run of a `sink`: no mark is a `Pending` or an error, and it never changes.
 abbrev pub Sinks : Runs WriteMark Sink
 Sinks x [] y = y ≡ x
 Sinks x (WriteMark.pending ∷ l) y = ⊥

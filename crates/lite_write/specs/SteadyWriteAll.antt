@@ -1,18 +1,18 @@
--- The runs of a writer in which each write takes something.
+-- The runs of a writer in which no write fails and each takes at least one byte.
 use Rattle.std.specs.Prelude.{List, [], ◌∷◌, ⊤}
 use Rattle.lite_write.specs.Uses.{WriteMark, Runs}
 
--- no error, and no write took nothing
+-- No mark is an error, and no write took zero bytes of some. Then `write_all` returns `Ok` in the end.
 abbrev pub NoFailure : List WriteMark → Type 0
 NoFailure [] = ⊤
 NoFailure (WriteMark.wrote [] ∷ l) = ⊥
 NoFailure (WriteMark.fault kind ∷ l) = ⊥
 NoFailure (_ ∷ l) = NoFailure l
 
--- the writer's runs in which no write fails or takes nothing
+-- The writer's runs without such a failure.
 abbrev pub WithoutFailure : {W : Type 0} → Runs WriteMark W → Runs WriteMark W
 WithoutFailure writes x l y = writes x l y × NoFailure l
 
--- no write fails, and each takes something
+-- No run of the writer has such a failure.
 abbrev pub NoneFails : {W : Type 0} → Runs WriteMark W → Type 0
 NoneFails {W} writes = (x y : W) (l : List WriteMark) → writes x l y → NoFailure l

@@ -1,31 +1,33 @@
--- `write_all`: some bytes are handed to a writer, from the front, until all are taken.
+-- The `write_all` future: bytes are passed to a writer from the front, until it has taken all.
 use Rattle.std.specs.Prelude.{◌≡◌, ◌<◌, ℕ, List, [], ◌∷◌, length, Result, Ok, Err}
 use Rattle.lite_write.specs.Uses.{error_kind, Error, WriteZero, Poll, Ready, Pending, WriteMark, Question, Runs, Segment, SegmentsToValue}
 use Rattle.lite_write.specs.Hands.{Hands}
 use Rattle.lite_write.specs.declared.write_all.WriteAllFuture.{WriteAllFuture}
 
--- all are taken; a write took none; an error
+-- The value of `write_all`, and the marks that produce it. It is `Ok` if no byte is left, without another mark. With
+-- bytes left, a write that took none is a `WriteZero` error, and an error of the writer is the value.
 abbrev pub Ended : List ℕ → List WriteMark → Result (Unit {0}) Error → Type 0
 Ended left [] r = (left ≡ []) × (r ≡ Ok tt)
 Ended left (WriteMark.wrote [] ∷ []) (Err e) = (0 < length left) × (error_kind e ≡ WriteZero)
 Ended left (WriteMark.fault kind ∷ []) (Err e) = (0 < length left) × (error_kind e ≡ kind)
 Ended left marks r = ⊥
 
--- the last marks of an answer: a pending, where some are left, or what gives the value
+-- The last marks of one poll: a `Pending` while bytes are left, or the marks that produce the value.
 abbrev pub LastTaken : Question (List ℕ) (List WriteMark) (Poll (Result (Unit {0}) Error))
 LastTaken left marks Pending after = (marks ≡ WriteMark.pending ∷ []) × (0 < length left) × (after ≡ left)
 LastTaken left marks (Ready r) after = Ended left marks r × (after ≡ left)
 
--- the marks of one answer: some bytes are taken, and then come the last
+-- The marks of one poll: writes that each take some bytes, and then the last marks (`LastTaken`).
 abbrev pub HandsMarks : Question (List ℕ) (List WriteMark) (Poll (Result (Unit {0}) Error))
 HandsMarks = Segment WriteMark.wrote Hands LastTaken
 
--- those of each answer, up to a value
+-- The marks of all polls, cut into one segment for each poll, up to a value.
 abbrev pub HandsOver : List ℕ → List WriteMark → List (Poll (Result (Unit {0}) Error)) → List ℕ → Type 0
 HandsOver = SegmentsToValue HandsMarks
 
 module _ {W : Type 0} (writes : Runs WriteMark W) where
-  -- no answer leaves all as it is
+  -- The run of `write_all`: the writer's marks are cut into segments, one for each poll. The future keeps its
+  -- reference. Without a poll it is unchanged.
   pub record WritesAll (x : WriteAllFuture W) (out : List (Poll (Result (Unit {0}) Error)))
       (y : WriteAllFuture W) : Type 0 where
     pub marks : List WriteMark

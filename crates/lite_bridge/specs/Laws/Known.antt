@@ -1,5 +1,5 @@
--- The bytes that are to come from a cursor: those from its position on. And those that one keeps that stands at their
--- end.
+-- The bytes known to come from a cursor, which are those from its position on. And those that a cursor at their end
+-- keeps as a writer.
 use Rattle.std.specs.Prelude.{◌≡◌, ℕ, ◌+◌, ◌-◌, List, [], ◌∷◌, ◌++◌, length, ⊤}
 use Rattle.lite_bridge.specs.Uses.{drop_all, take_all, ◌∙◌, ap, sym, arith, append-nil, length-append, Known, told_spends, Stored, WriteMark, bytes_taken}
 use Rattle.lite_bridge.specs.Cursor.{CursorReads, CursorWrites, bytes_left}
@@ -9,7 +9,7 @@ use Rattle.lite_bridge.specs.Put.{Puts}
 use Rattle.lite_bridge.specs.declared.cursor.Cursor.{Cursor}
 
 module _ {T : Type 0} (bytes : T → List ℕ) where
-  -- what is known of a cursor: the bytes from its position on are left
+  -- What is known of a cursor as a reader: the bytes from its position on.
   abbrev pub cursor_known : Known (Cursor T)
   cursor_known =
       record {
@@ -19,7 +19,7 @@ module _ {T : Type 0} (bytes : T → List ℕ) where
         tells = λ x y l k h. (tt, told_spends (bytes_left bytes x) (bytes_left bytes y) l (cursor_told bytes x y l h));
       }
 
--- what stands at the end of a list, put there
+-- Bytes that are put at the end of a list are appended to it.
 put_behind : (xs new ys : List ℕ) (at : ℕ) → at ≡ length xs → Puts xs at new ys → ys ≡ xs ++ new
 put_behind xs [] ys at e h = h ∙ sym (append-nil xs)
 put_behind xs (b ∷ new) ys at e h =
@@ -28,12 +28,12 @@ put_behind xs (b ∷ new) ys at e h =
     h ∙ rw (take_all at xs (omega (arith, e)), none, behind) (simp append-nil)
 
 module _ {T : Type 0} (bytes : T → List ℕ) (puts : T → ℕ → List ℕ → T → Type 0) (refuses : T → T → Type 0) where
-  -- a write puts the bytes at its place, and one that was refused changes none
+  -- A write puts the bytes at its position, as `Puts` says, and one whose allocation failed changes no byte.
   abbrev pub PutsBytes : Type 0
   PutsBytes = ((x y : T) (at : ℕ) (new : List ℕ) → puts x at new y → Puts (bytes x) at new (bytes y))
       × ((x y : T) → refuses x y → bytes y ≡ bytes x)
 
-  -- the position is behind the last byte
+  -- The cursor's position is behind its last byte.
   abbrev pub CursorAtEnd : Cursor T → Type 0
   CursorAtEnd x = x.position ≡ length (bytes x.inner)
 
@@ -45,7 +45,7 @@ module _ {T : Type 0} (bytes : T → List ℕ) (puts : T → ℕ → List ℕ �
       let all = put_behind _ _ _ x.position at p.all in
       (omega (arith, p.place, at, ap length all, length-append (bytes x.inner) (bytes_taken l)), all)
 
-  -- a cursor that stands at the end of its bytes
+  -- What is known of a cursor as a writer: if it is at the end of its bytes, it keeps them, and appends what it takes.
   abbrev pub cursor_stored : Stored (Cursor T)
   cursor_stored = record {
     told = CursorWrites puts refuses;

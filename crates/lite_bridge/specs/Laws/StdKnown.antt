@@ -1,4 +1,4 @@
--- Laws of reads and writes of std.
+-- Laws of std readers and writers.
 use Rattle.std.specs.Prelude.{◌≡◌, ◌<◌, ℕ, zero, suc, List, [], ◌∷◌, ◌++◌, length, take, Option, None, Some, Result, Ok, Err, ⊤}
 use Rattle.lite_bridge.specs.Uses.{◌∙◌, append-nil, ap, arith, refl, subst, sym, ReadsAtMost, Keeps, ReadConsumes, WriteAppends, IsSeekTarget, SeekMoves}
 use Rattle.lite_bridge.specs.Uses.{StaysAt, Error, SeekFrom, End, Poll, Pending, Ready, by_kind, growing_laws, grows_all, grows_no_pending, ReadMark, bytes}
@@ -25,7 +25,7 @@ spends_no_wait x y (ReadMark.end ∷ l) h = spends_no_wait x y l h.1
 spends_no_wait [] y (ReadMark.byte b ∷ l) h = absurd h
 spends_no_wait x y (ReadMark.pending ∷ l) h = absurd h
 
--- runs from what is known, of which none waits
+-- Runs from known bytes, of which none has a `Pending`.
 module _ {M : Type 0} {NoWait : List M → Type 0} {run : Runs M (List ℕ)} (none : NoWait [])
     (both : (l m : List M) → NoWait l → NoWait m → NoWait (l ++ m)) (laws : MarkLaws run)
     (waits : (xs ys : List ℕ) (l : List M) → run xs l ys → NoWait l) where
@@ -55,22 +55,22 @@ module _ {M : Type 0} {NoWait : List M → Type 0} {run : Runs M (List ℕ)} (no
     known_calm : CalmRuns NoWait (λ x l y. WhereKnown NoWait run (known x) l (known y)) (λ x. Unit {0})
     known_calm = record { no_pending = λ x y l c. known_no_wait _ _ l; calm_on = λ x y l c h. tt }
 
--- a reader whose bytes to come are known at some values
+-- A reader whose bytes to come are known at some values meets the laws of runs.
 pub spends_laws : {S : Type 0} (remaining : S → Option (List ℕ))
     → MarkLaws (λ x l y. SpendsKnown (remaining x) l (remaining y))
 spends_laws = known_laws tt no_wait_both (record { rests = λ xs. refl; follows = spends_follows }) spends_no_wait
 
--- it is never pending
+-- Such a reader is never pending.
 pub spends_calm : {S : Type 0} (remaining : S → Option (List ℕ))
     → CalmReadLaws (λ (x : S) l y. SpendsKnown (remaining x) l (remaining y)) (λ x. Unit {0})
 spends_calm = known_calm tt no_wait_both (record { rests = λ xs. refl; follows = spends_follows }) spends_no_wait
 
--- a writer whose bytes are known at some values
+-- A writer whose bytes are known at some values meets the laws of runs.
 pub gains_laws : {S : Type 0} (contents : S → Option (List ℕ))
     → MarkLaws (λ x l y. GainsKnown (contents x) l (contents y))
 gains_laws = known_laws tt never_waits_both (growing_laws (λ _. ⊤)) (grows_no_pending (λ _. ⊤))
 
--- it is never pending
+-- Such a writer is never pending.
 pub gains_calm : {S : Type 0} (contents : S → Option (List ℕ))
     → CalmWriteLaws (λ (x : S) l y. GainsKnown (contents x) l (contents y)) (λ x. Unit {0})
 gains_calm = known_calm tt never_waits_both (growing_laws (λ _. ⊤)) (grows_no_pending (λ _. ⊤))
@@ -80,7 +80,7 @@ no_fault_both [] m h k = k
 no_fault_both (ReadMark.fault kind ∷ l) m h k = absurd h
 no_fault_both (_ ∷ l) m h k = no_fault_both l m h k
 
--- where no read failed, the bytes are told in their order
+-- If no read failed, the known bytes come in order.
 spends_told : (x y : List ℕ) (l : List ReadMark) → SpendsBytes x l y → NoFault l → TellsScript (bytes x) l (bytes y)
 spends_told x y [] h n = ap bytes h
 spends_told (a ∷ x) y (ReadMark.byte b ∷ l) h n = (ap ReadMark.byte h.0, spends_told x y l h.1 n)
@@ -100,7 +100,7 @@ known_one_tale (Some xs) (Some ys) None z l m e h k = absurd h.0
 known_one_tale (Some xs) (Some ys) (Some y) None l m e h k = absurd k.0
 known_one_tale _ _ y z l m e h k = absurd e
 
--- two readers of which the same bytes are known tell one tale, where no read failed
+-- If no read failed, two readers of which the same bytes are known have one tale.
 pub spends_steady : {S : Type 0} (remaining : S → Option (List ℕ))
     → SteadyReadLaws (λ (x : S) l y. SpendsKnown (remaining x) l (remaining y))
     (λ x l y. SpendsWell (remaining x) l (remaining y)) ⊥
@@ -116,7 +116,7 @@ spends_steady remaining =
       found = λ n. absurd n;
     }
 
--- two writers whose contents are both known and the same, or both unknown
+-- Two writers have the same bytes, and these are known of both.
 abbrev OneContents : Option (List ℕ) → Option (List ℕ) → Type 0
 OneContents x y = (known_bytes x ≡ known_bytes y) × SameKnown x y
 
@@ -129,7 +129,7 @@ one_contents (Some xs) (Some ys) None q l m e h k same = absurd h
 one_contents (Some xs) (Some ys) (Some ps) None l m e h k same = absurd k
 one_contents _ _ p q l m e h k same = absurd e
 
--- the same bytes are known to be there, and are so after the same bytes
+-- Two writers of which the same bytes are known keep the same bytes after they took the same.
 pub gains_steady : {S : Type 0} (contents : S → Option (List ℕ))
     → SteadyWriteLaws (λ (x : S) l y. GainsKnown (contents x) l (contents y))
     (λ x y. SameKnown (contents x) (contents y)) (λ x. known_bytes (contents x))
@@ -138,7 +138,7 @@ gains_steady contents =
       steady = λ x y x' y' l m e h k a b f g same. one_contents _ _ _ _ l m e h k same;
     }
 
--- Calls of std's traits, after calls that failed and so kept what is known.
+-- Calls of std's traits, after calls that failed and so changed nothing that is known.
 spends_front : (xs ys : List ℕ) → SpendsBytes (xs ++ ys) (bytes xs) ys
 spends_front [] ys = refl
 spends_front (x ∷ xs) ys = (refl, spends_front xs ys)
@@ -192,7 +192,7 @@ flush_gains (Some xs) (Some ys) (Some zs) (Err e) k h = (tt, h ∙ k)
 flush_gains (Some xs) None z r k h = absurd k
 flush_gains (Some xs) (Some ys) None r k h = absurd h
 
--- a close is a flush
+-- A close changes as much as a flush.
 pub close_gains : (x y : Option (List ℕ)) (r : Poll (Result (Unit {0}) Error))
     → GainsKnown x (done_marks WriteMark.flushed r) y
     → GainsKnown x (done_marks WriteMark.closed r) y

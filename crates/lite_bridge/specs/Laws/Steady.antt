@@ -1,4 +1,4 @@
--- Cursors over equal bytes tell one tale, and none is ever pending.
+-- Cursors at positions with equal bytes left have one tale, and none is ever pending.
 use Rattle.std.specs.Prelude.{◌≡◌, ℕ, List, ⊤}
 use Rattle.lite_bridge.specs.Uses.{ap, no_wait_bytes, told_no_wait, told_one_tale, steady_read_always, steps_laws, CalmReadLaws, SteadyReadLaws, strip_marks}
 use Rattle.lite_io_base.specs.Marks.{bytes as marks_of}

@@ -1,4 +1,4 @@
--- Cursors over equal bytes, at one place, leave equal bytes, and none is ever pending.
+-- Cursors over equal bytes, at one position, leave equal bytes, and none is ever pending.
 use Rattle.std.specs.Prelude.{◌≡◌, ◌+◌, ℕ, List, [], ◌∷◌, length, ⊤}
 use Rattle.lite_bridge.specs.Uses.{◌∙◌, ap, sym, arith, add-zero, length-append, Global, CalmWriteLaws, NoPendingWrite, SteadyWriteLaws, WriteMark, bytes_taken}
 use Rattle.lite_bridge.specs.Uses.{Vec, MutBor}
@@ -8,11 +8,11 @@ use Rattle.lite_bridge.specs.Laws.Put.{puts_more}
 use Rattle.lite_bridge.specs.Overwrites.{CursorWritesLent}
 use Rattle.lite_bridge.specs.Put.{Puts, PutsVec, PutsVecLent, VecStays, VecStaysLent}
 
--- equal bytes, at one place
+-- Two cursors have equal bytes and one position.
 abbrev pub SamePlace : {T : Type 0} → (T → List ℕ) → Cursor T → Cursor T → Type 0
 SamePlace bytes x y = (bytes x.inner ≡ bytes y.inner) × (x.position ≡ y.position)
 
--- what a write leaves is one
+-- A write has only one outcome.
 puts_one : (a b c : List ℕ) (at : ℕ) (xs : List ℕ) → Puts a at xs b → Puts a at xs c → b ≡ c
 puts_one a b c at [] h k = h ∙ sym k
 puts_one a b c at (x ∷ xs) h k = h ∙ sym k
@@ -20,7 +20,7 @@ puts_one a b c at (x ∷ xs) h k = h ∙ sym k
 module _ {T : Type 0} (bytes : T → List ℕ) {puts : T → ℕ → List ℕ → T → Type 0} {refuses : T → T → Type 0}
     (put : (x : T) (at : ℕ) (xs : List ℕ) (y : T) → puts x at xs y → Puts (bytes x) at xs (bytes y))
     (stays : (x y : T) → refuses x y → bytes y ≡ bytes x) where
-  -- all that was taken is put where the cursor stood
+  -- All bytes taken are put at the position that the cursor `x` had, and the position of `y` is behind them.
   pub record PutsAll (x : Cursor T) (taken : List ℕ) (y : Cursor T) : Type 0 where
     pub all : Puts (bytes x.inner) x.position taken (bytes y.inner)
     pub place : y.position ≡ x.position + length taken
@@ -77,21 +77,21 @@ module _ {T : Type 0} (bytes : T → List ℕ) {puts : T → ℕ → List ℕ �
   pub cursor_calm_write : CalmWriteLaws (CursorWrites puts refuses) (λ x. ⊤)
   cursor_calm_write = record { no_pending = λ x y l c h. no_pending x y l h; calm_on = λ x y l c h. tt }
 
--- over a slice behind a reference
+-- A cursor over a slice behind a mutable reference is steady.
 pub slice_steady_write : SteadyWriteLaws CursorWritesLent (SamePlace (λ s. s.now)) (λ x. x.inner.now)
 slice_steady_write = cursor_steady_write (λ (s : MutBor _). s.now) (λ x at xs y h. h.0) (λ x y h. absurd h)
 
 pub slice_calm_write : CalmWriteLaws CursorWritesLent (λ x. ⊤)
 slice_calm_write = cursor_calm_write (λ (s : MutBor _). s.now) (λ x at xs y h. h.0) (λ x y h. absurd h)
 
--- over a vector
+-- A cursor over a vector is steady.
 pub vec_steady_write : SteadyWriteLaws (CursorWrites PutsVec VecStays) (SamePlace (λ v. v.items)) (λ x. x.inner.items)
 vec_steady_write = cursor_steady_write (λ (v : Vec ℕ Global). v.items) (λ x at xs y h. h) (λ x y h. h)
 
 pub vec_calm_write : CalmWriteLaws (CursorWrites PutsVec VecStays) (λ x. ⊤)
 vec_calm_write = cursor_calm_write (λ (v : Vec ℕ Global). v.items) (λ x at xs y h. h) (λ x y h. h)
 
--- over a vector behind a reference
+-- A cursor over a vector behind a mutable reference is steady.
 pub lent_vec_steady_write : SteadyWriteLaws (CursorWrites PutsVecLent VecStaysLent) (SamePlace (λ v. v.now.items))
     (λ x. x.inner.now.items)
 lent_vec_steady_write =

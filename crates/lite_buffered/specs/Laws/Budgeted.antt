@@ -7,7 +7,7 @@ use Rattle.lite_buffered.specs.Budgeted.{BudgetsMarks, PacesMarks, WritesWithin,
 use Rattle.lite_buffered.specs.Budgeted.{left_behind_mark, left_noted, lent_noted}
 use Rattle.lite_buffered.specs.declared.budgeted.Budgeted.{Budgeted}
 
--- what may be lent of what came in is the front of what goes out
+-- The bytes that may be shown of the inner reader's are the first to be passed on.
 paced_shows : (p q : ℕ × ℕ) (lent : List ℕ) (i o : List ReadMark) → PacesMarks p i o q → Comparable (bytes lent) i
     → Comparable (bytes (take p.1 lent)) o
 paced_shows (budget, suc n) q (b ∷ lent) i (m ∷ o) (inl h) c = absurd (omega (arith, h.0))
@@ -18,7 +18,7 @@ paced_shows (budget, suc n) q (b ∷ lent) i (m ∷ o) (inr h) c =
     (e.0, paced_shows (budget, n) q lent h.1 o (subst (λ k. PacesMarks (budget, k) h.1 o q) one rest) e.1)
 paced_shows p q lent i o h c = tt
 
--- bytes and errors alone use as many of the budget
+-- Marks of only bytes and errors use as much of the budget.
 paced_falls : (p q : ℕ × ℕ) (i o : List ReadMark) → PacesMarks p i o q → AllGiven o → q.1 + length o ≡ p.1
 paced_falls p q i [] h g = rw h.1 (omega arith)
 paced_falls p q i (m ∷ o) (inl h) g = absurd (subst (λ a. AllGiven (a ∷ [])) h.1 (g.0, tt)).0
@@ -26,7 +26,7 @@ paced_falls p q i (ReadMark.pending ∷ o) (inr h) g = absurd g.0
 paced_falls p q i (ReadMark.end ∷ o) (inr h) g = absurd g.0
 paced_falls p q i (_ ∷ o) (inr h) g = let e = paced_falls (p.0, p.1 - 1) q h.1 o h.3 g.1 in omega (arith, e, h.0)
 
--- pendings aside, what goes out came in
+-- Without `Pending`s, the marks passed on are those that came in.
 paced_tale : (p q : ℕ × ℕ) (i o : List ReadMark) → PacesMarks p i o q → strip_marks o ≡ strip_marks i
 paced_tale p q i [] h = rw h.0
 paced_tale p q i (m ∷ o) (inl h) = rw h.1 (paced_tale (p.0, p.0) q i o h.2)
@@ -46,7 +46,7 @@ paced_spends p q i (ReadMark.fault kind ∷ o) xs ys (inr h) k = absurd (rw h.2 
 paced_spends p q i (ReadMark.end ∷ o) xs ys (inr h) k =
     let e = rw h.2 at k in (e.0, paced_spends p q h.1 o xs ys h.3 e.1)
 
--- the bytes of its reader
+-- What is known of a reader with a budget: the bytes of its inner reader.
 abbrev pub budgets_known : {R : Type 0} → Known R → Known (Budgeted R)
 budgets_known k = record {
   told = BudgetsMarks k.told;
@@ -89,7 +89,7 @@ module _ {R : Type 0} {reads : Runs ReadMark R} where
       falls_by zero a b e = inl (let same : a ≡ b = omega (arith, e) in rw same)
       falls_by (suc n) a b e = inl (omega (arith, e), refl)
 
-  -- whatever the two budgets are
+  -- Such readers are alike if their inner readers are, whatever their budgets are.
   pub budgets_steady : {ample : Runs ReadMark R} {needs_none : Type 0} {alike : R → R → Type 0}
       → SteadyReadLaws reads ample needs_none alike
       → SteadyReadLaws (BudgetsMarks reads) (BudgetsMarks ample) needs_none
@@ -106,7 +106,7 @@ module _ {R : Type 0} {reads : Runs ReadMark R} where
         };
       }
 
--- What is written goes to the inner writer.
+-- Writes go to the inner writer.
 module _ {R : Type 0} {writes : Runs WriteMark R} where
   pub within_laws : MarkLaws writes → MarkLaws (WritesWithin writes)
   within_laws laws = record {

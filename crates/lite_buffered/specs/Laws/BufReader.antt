@@ -1,3 +1,4 @@
+-- Laws of a `BufReader` as a reader.
 use Rattle.std.specs.Prelude.{◌≡◌, ◌<◌, ℕ, zero, suc, ◌+◌, ◌-◌, List, [], ◌∷◌, ◌++◌, length}
 use Rattle.lite_buffered.specs.Uses.{◌∙◌, refl, sym, ap, arith, append_assoc, append-nil, length-append, Comparable, Ranks, Runs, ReadCounting, WriteMark}
 use Rattle.lite_buffered.specs.Uses.{falls_held, bytes_given, given-append, given-bytes, given_all, given_both, given_parts, AllGiven, ReadMark, bytes, given}
@@ -28,7 +29,7 @@ padded_all_given _ _ Padded.none g = tt
 padded_all_given _ _ (Padded.same a l k p) g = (g.0, padded_all_given l k p g.1)
 padded_all_given _ _ (Padded.more l k p) g = absurd g.0
 
--- the equation, and nothing ahead where there is no capacity
+-- `PassesBuffer` follows from its equation, if no byte is ahead when the capacity is 0.
 pub passes_of : (n : ℕ) (p : List ℕ) (came out : List ReadMark) (q : List ℕ) → bytes p ++ came ≡ out ++ bytes q
     → (n ≡ 0 → (p ≡ []) × (q ≡ [])) → PassesBuffer n p came out q
 passes_of zero p came out q e none =
@@ -36,7 +37,7 @@ passes_of zero p came out q e none =
     (both.0, both.1, rw (← (rw (both.0, both.1, append-nil) at e)) (padded_same came))
 passes_of (suc n) p came out q e none = e
 
--- with some capacity
+-- With some capacity, `PassesBuffer` is its equation.
 pub passes_some : (n : ℕ) (p : List ℕ) (came out : List ReadMark) (q : List ℕ) → 0 < n → PassesBuffer n p came out q
     → bytes p ++ came ≡ out ++ bytes q
 passes_some zero p came out q some h = absurd (omega (arith, some))
@@ -48,7 +49,7 @@ passes_both zero p q r came out more next a b = (a.0, b.1, padded_both came out 
 passes_both (suc n) p q r came out more next a b =
     rw (← append_assoc, a, append_assoc, b, append_assoc)
 
--- as many bytes and errors come out as were ahead and came in, less those ahead now
+-- The bytes and errors passed on, and the bytes ahead after, are as many as those that came in and those ahead before.
 passes_given : (n : ℕ) (p q : List ℕ) (came out : List ReadMark) → PassesBuffer n p came out q
     → given came + length p ≡ given out + length q
 passes_given zero p q came out h = let e = padded_given came out h.2 in rw (h.0, h.1) (ap (λ k. k + 0) e)
@@ -71,7 +72,7 @@ passes_front : (n : ℕ) (p q : List ℕ) (came out : List ReadMark) → PassesB
 passes_front zero p q came out h = rw h.0 tt
 passes_front (suc n) p q came out h = front _ came out _ h
 
--- without a buffer nothing is ahead
+-- With capacity 0, no byte is ahead.
 pub ahead_none : {R : Type 0} (x : BufReader R) → reader_capacity x ≡ 0 → ahead x ≡ []
 ahead_none x none = let nothing : x.end - x.pos ≡ 0 = omega arith in rw nothing
 

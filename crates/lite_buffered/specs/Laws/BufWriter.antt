@@ -4,7 +4,7 @@ use Rattle.lite_buffered.specs.Uses.{◌∙◌, inl, inr, refl, sym, ap, append_
 use Rattle.lite_buffered.specs.Uses.{segments_join, Runs}
 use Rattle.lite_buffered.specs.BufWriter.{Balanced, Buffers, TakesHeld, WriterAnswers, WriterSegment}
 
--- what was held is what was taken and what is left
+-- The bytes held before are those that the inner writer took, followed by those left.
 pub drains_balance : (before rest : List ℕ) (taken : List WriteMark) (n : ℕ) → TakesHeld before taken rest n
     → before ≡ bytes_taken taken ++ rest
 drains_balance before _ _ _ TakesHeld.none = refl
@@ -39,7 +39,7 @@ segment_balance before after taken told s =
       append_assoc,
     )
 
--- no byte is lost over one run and the next
+-- If no byte is lost in two runs, none is lost in both together.
 balanced_both : (a b c : List ℕ) (taken more out next : List WriteMark) → Balanced a out taken b
     → Balanced b next more c
     → Balanced a (out ++ next) (taken ++ more) c

@@ -1,3 +1,4 @@
+-- Laws of `chain`.
 use Rattle.std.specs.Prelude.{◌≡◌, ℕ, Bool, true, false, cond, replicate, ◌+◌, List, [], ◌∷◌, ◌++◌, length, ⊤}
 use Rattle.lite_buffered.specs.Uses.{◌∙◌, refl, ap, append_assoc, add-zero, zero-add, inl, length-append, length-replicate, Falls, falls_both, falls_to_zeros}
 use Rattle.lite_buffered.specs.Uses.{Comparable, AllGiven, ReadMark, bytes, given, given-append, given_parts, ReadCounting, Ranks, Runs, MarkLaws, Shows}
@@ -56,7 +57,7 @@ module _ {R S : Type 0} (first : Runs ReadMark R) (second : Runs ReadMark S) whe
     follows = λ x y z. follows_at p q x.has_ended y.has_ended z.has_ended x y z;
   }
 
-  -- what is lent stands before an end
+  -- The bytes that a reader has buffered come before its end of file.
   before_end : (xs : List ℕ) (before after : List ReadMark) → Comparable (bytes xs) (before ++ ReadMark.end ∷ [])
       → Comparable (bytes xs) (before ++ after)
   before_end [] before after h = tt
@@ -78,7 +79,7 @@ module _ {R S : Type 0} (first : Runs ReadMark R) (second : Runs ReadMark S) whe
         → Shows (ChainsReaders first second) (λ x. cond x.has_ended (lent2 x.second) (lent1 x.first))
     chains_show f p q x y l = show_at f p q x.has_ended y.has_ended x y l
 
-  -- what each reader keeps, both keep
+  -- What each reader's runs keep true, the chain's runs keep true of both.
   module _ (P : R → Type 0) (Q : S → Type 0) (kept1 : (x y : R) (l : List ReadMark) → P x → first x l y → P y)
       (kept2 : (x y : S) (l : List ReadMark) → Q x → second x l y → Q y) where
     keep_at : (a b : Bool) (x y : Chain R S) (l : List ReadMark) → P x.first × Q x.second
@@ -96,7 +97,7 @@ module _ {R S : Type 0} (first : Runs ReadMark R) (second : Runs ReadMark S) whe
         → P y.first × Q y.second
     chains_keep x y l = keep_at x.has_ended y.has_ended x y l
 
-  -- `size` counts marks of the kind `All`; it adds up over parts, and the ranks of both readers fall by it
+  -- The ranks of both readers fall by `size`, which counts marks of the kind `All` and is additive.
   module _ (width : ℕ) (rank1 : R → List ℕ) (rank2 : S → List ℕ) (sized : (x : R) → length (rank1 x) ≡ width)
       (All : List ReadMark → Type 0) (size : List ReadMark → ℕ)
       (parts : (l m : List ReadMark) → All (l ++ m) → All l × All m)

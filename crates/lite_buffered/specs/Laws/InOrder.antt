@@ -1,3 +1,4 @@
+-- Reads and writes of a `BufReader` keep their order.
 use Rattle.std.specs.Prelude.{[], ◌∷◌}
 use Rattle.lite_buffered.specs.Uses.{refl, append-nil, ReadMark, bytes, Part, WriteMark, Runs}
 use Rattle.lite_buffered.specs.declared.buf_reader.BufReader.{BufReader}

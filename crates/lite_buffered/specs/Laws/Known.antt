@@ -1,4 +1,4 @@
--- The bytes that are to come from what is read through a buffer, up to a limit, and one after the other.
+-- The bytes known to come from a `BufReader`, a `take` and a `chain`.
 use Rattle.std.specs.Prelude.{◌≡◌, ◌<◌, ℕ, zero, suc, Bool, true, false, List, [], ◌∷◌, ◌++◌, take}
 use Rattle.lite_buffered.specs.Uses.{◌∙◌, ap, refl, Known, TellsKnown, spends_both, spends_bytes, spends_front, spends_split, ReadMark, bytes}
 use Rattle.lite_buffered.specs.Laws.BufReader.{passes_some}
@@ -18,7 +18,7 @@ through_spends k x y l know h =
     let cut = spends_split _ _ l (bytes (ahead y)) (rw (passes_some _ _ h.came l _ know.0 h.passes) at all) in
     ((rw h.capacity know.0, on.0), rw (← (spends_bytes (ahead y) cut.0 _ cut.2)) cut.1)
 
--- what was read ahead, and then what the inner reader is to give
+-- What is known of a `BufReader` with some capacity: the bytes ahead, followed by those known of the inner reader.
 abbrev pub through_known : {R : Type 0} → Known R → Known (BufReader R)
 through_known k = record {
   told = ThroughBuffer k.told;
@@ -53,7 +53,7 @@ takes_spends k x y l know h =
     let whole = spends_both _ _ _ h.front h.ends front (ends_spends y.limit h.ends _ h.used_up) in
     (on.0, rw h.cut whole)
 
--- the first bytes
+-- What is known of a `take`: the first of the inner reader's known bytes, up to the limit.
 abbrev pub takes_known : {R : Type 0} → Known R → Known (Take R)
 takes_known k = record {
   told = TakesMarks k.told;
@@ -71,11 +71,11 @@ before_end (ReadMark.fault kind ∷ l) xs ys zs n h = absurd h
 before_end (ReadMark.end ∷ l) xs ys zs n h = absurd (n.0 refl)
 
 module _ {R S : Type 0} (k : Known R) (j : Known S) where
-  -- nothing is left of the first, once it has ended
+  -- The bytes of both readers are known, and if the first has ended, none of its bytes is left.
   abbrev pub ChainKnows : Chain R S → Type 0
   ChainKnows x = k.knows x.first × j.knows x.second × (x.has_ended ≡ true → k.left x.first ≡ [])
 
-  -- what is left of two readers, one after the other
+  -- The bytes to come from a chain: those of the first reader, followed by those of the second.
   abbrev pub chain_left : Chain R S → List ℕ
   chain_left x = k.left x.first ++ j.left x.second
 
@@ -104,7 +104,7 @@ module _ {R S : Type 0} (k : Known R) (j : Known S) where
       → ChainKnows y × TellsKnown (chain_left x) l (chain_left y)
   chains_spends x y l know h = joins_spends x.has_ended y.has_ended x y l refl refl know h
 
-  -- one's bytes, and then the other's
+  -- What is known of a chain: the bytes of the first reader, followed by those of the second.
   abbrev pub chains_known : Known (Chain R S)
   chains_known =
       record {

@@ -1,3 +1,4 @@
+-- Laws of `repeat`.
 use Rattle.std.specs.Prelude.{List, [], ◌∷◌, ◌++◌}
 use Rattle.lite_buffered.specs.Uses.{refl, ReadMark, MarkLaws}
 use Rattle.lite_buffered.specs.declared.repeat.Repeat.{Repeat}

@@ -1,3 +1,4 @@
+-- Laws of seeks of a `BufReader`.
 use Rattle.lite_buffered.specs.Uses.{SeekFrom, Current, inl, inr, SeekKeeps}
 use Rattle.lite_buffered.specs.declared.buf_reader.BufReader.{BufReader}
 use Rattle.lite_buffered.specs.BufReader.{reader_inner}
@@ -15,7 +16,7 @@ module _ {R : Type 0} (seeks : R → SeekFrom → SeekAnswer → R → Type 0) (
       keeps m.inner y.inner second r (keeps x.inner m.inner first _ p a.sought) b.sought
   twice x y first second r p (inr (a, refused)) = once x y first r p a
 
-  -- what each seek of the inner reader keeps, each seek of a buffered one keeps
+  -- What each seek of the inner reader keeps true of it, each seek of the `BufReader` keeps true of its inner reader.
   pub seeks_keep : SeekKeeps (SeeksThrough seeks) (λ x. P (reader_inner x))
   seeks_keep x y (Current offset) r p (inl h) = once x y _ r p h.1
   seeks_keep x y (Current offset) r p (inr h) = twice x y _ _ r p h.1

@@ -1,4 +1,4 @@
--- A buffered writer leaves what its inner writer leaves.
+-- A `BufWriter` is steady over a steady writer, and calm over a calm one.
 use Rattle.std.specs.Prelude.{◌≡◌, ℕ, List, [], ◌∷◌, ◌++◌}
 use Rattle.lite_buffered.specs.Uses.{◌∙◌, inl, inr, refl, sym, ap, subst, append_assoc, append-nil, never_waits_parts, CalmWriteLaws, EndsFlushed, NoError}
 use Rattle.lite_buffered.specs.Uses.{NoPendingWrite, SteadyWriteLaws, WriteMark, bytes_taken, Runs}
@@ -10,7 +10,7 @@ no_error_both [] m a b = b
 no_error_both (WriteMark.fault kind ∷ l) m a b = (a.0, no_error_both l m a.1 b)
 no_error_both (c ∷ l) m a b = no_error_both l m a b
 
--- while held bytes are written an error is an interruption
+-- While held bytes are written, the only errors are interruptions.
 drains_no_error : (before rest : List ℕ) (taken : List WriteMark) (n : ℕ) → TakesHeld before taken rest n
     → NoError taken
 drains_no_error before _ _ _ TakesHeld.none = tt
@@ -47,7 +47,7 @@ segments_no_error before after taken (told ∷ out) none h =
     rw h.3 (no_error_both h.0 h.1 (segment_no_error before h.2 h.0 told each.0 h.4)
     (segments_no_error h.2 after h.1 out each.1 h.5))
 
--- where a flush comes last, the inner writer's comes last, and nothing is held then
+-- If a flush comes last, the inner writer's last mark is a flush, and no byte is held.
 pub segments_flushed : (before after : List ℕ) (taken out : List WriteMark)
     → WriterSegments before taken (out ++ WriteMark.flushed ∷ []) after → EndsFlushed taken × (after ≡ [])
 segments_flushed before after taken [] h =
@@ -74,7 +74,8 @@ segments_no_pending before after taken (told ∷ out) a h =
     (segments_no_pending h.2 after h.1 out parts.1 h.5) s.answers
 
 module _ {W : Type 0} (writes : Runs WriteMark W) where
-  -- what the inner writer took, where a flush came last
+  -- The inner writer's run if a flush came last: it ended in a flush without an error, and took the bytes held and all
+  -- that were accepted. No byte is held.
   record Flushed (x : BufWriter W) (l : List WriteMark) (y : BufWriter W) : Type 0 where
     pub taken : List WriteMark
     pub ran : writes x.inner taken y.inner
@@ -96,7 +97,7 @@ module _ {W : Type 0} (writes : Runs WriteMark W) where
         empty = last.1;
       }
 
--- they hold the same, over writers that are alike
+-- Two `BufWriter`s hold equal bytes, over writers that are alike.
 abbrev pub HeldAlike : {W : Type 0} → (W → W → Type 0) → BufWriter W → BufWriter W → Type 0
 HeldAlike alike x y = (unwritten x ≡ unwritten y) × alike x.inner y.inner
 

@@ -1,3 +1,4 @@
+-- Laws of `take`.
 use Rattle.std.specs.Prelude.{◌≡◌, ℕ, zero, suc, List, [], ◌∷◌, ◌++◌, take}
 use Rattle.lite_buffered.specs.Uses.{◌∙◌, refl, sym, ap, subst, arith, append_assoc, append-nil, Comparable, Ranks, ranks_of, Runs, ReadCounting, given-append}
 use Rattle.lite_buffered.specs.Uses.{given_parts, comparable_none, AllGiven, ReadMark, bytes, given, MarkLaws, Shows}
@@ -23,12 +24,12 @@ ends_given : (c : ℕ) (l : List ReadMark) → LimitEnds c l → given l ≡ 0
 ends_given c [] h = refl
 ends_given c (e ∷ l) h = rw h.1 (ends_given c l h.2)
 
--- where bytes and errors alone stand, no end does
+-- Ends of file that are only bytes and errors are none.
 ends_gone : (c : ℕ) (l : List ReadMark) → LimitEnds c l → AllGiven l → l ≡ []
 ends_gone c [] h g = refl
 ends_gone c (e ∷ l) h g = absurd (subst (λ m. AllGiven (m ∷ [])) h.1 (g.0, tt)).0
 
--- what is lent of a front, with the ends behind it
+-- Bytes shown of the inner reader's agree with its marks through the limit and the ends behind them.
 fits_show : (limit rest : ℕ) (lent : List ℕ) (front ends : List ReadMark) → WithinLimit limit front rest
     → LimitEnds rest ends → Comparable (bytes lent) front → Comparable (bytes (take limit lent)) (front ++ ends)
 fits_show limit rest lent [] [] f e h = comparable_none (bytes _)
@@ -42,7 +43,7 @@ module _ {R : Type 0} {reads : Runs ReadMark R} where
   still : (x y z : Take R) (l m : List ReadMark) → TakesMarks reads x l y → TakesMarks reads y m z → x.limit ≡ 0 → z ≡ x
   still x y z l m a b none = b.still (ap (λ (t : Take R). t.limit) (a.still none) ∙ none) ∙ a.still none
 
-  -- ends come where the limit is used up, so that none of the reader's marks follows them
+  -- Ends of file come once the limit is used up, so none of the inner reader's marks follows them.
   joined : (x y z : Take R) (l m : List ReadMark) (a : TakesMarks reads x l y) (b : TakesMarks reads y m z)
       (e : List ReadMark) → a.ends ≡ e
       → (l ++ m ≡ (a.front ++ b.front) ++ (a.ends ++ b.ends)) × LimitEnds z.limit (a.ends ++ b.ends)

@@ -1,4 +1,4 @@
--- What the rank of a counted reader meets.
+-- What follows from the laws of a counted reader's rank.
 use Rattle.std.specs.Prelude.{ℕ, List, [], ◌∷◌, refl}
 use Rattle.lite_io_base.specs.Uses.{Terminates, Ranks, number_ranks, Runs}
 use Rattle.lite_io_base.specs.Falls.{Falls}
@@ -8,11 +8,11 @@ use Rattle.lite_io_base.specs.Marks.{ReadMark, given}
 use Rattle.lite_io_base.specs.Counting.{ReadCounting}
 
 module _ {S : Type 0} {reads : Runs ReadMark S} where
-  -- from a value that counts, no chain of runs of bytes and errors is endless
+  -- From a value whose rank counts, no chain of runs of bytes and errors is endless.
   pub counting_ends : {r : Ranks S} → ReadCounting reads r → (x : S) → r.counts x → Terminates (GivenRun reads) x
   counting_ends {r} c = counted_ends reads r.counts r.rank c.counts_on c.falls
 
-  -- each byte and each error lowers the number, and nothing raises it
+  -- A reader is counted if each byte and each error lowers a number, and nothing raises it.
   pub number_counting : {number : S → ℕ}
       → ((x y : S) (l : List ReadMark) → reads x l y → Falls (given l) (number y ∷ []) (number x ∷ []))
       → ReadCounting reads (number_ranks number)

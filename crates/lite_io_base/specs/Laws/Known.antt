@@ -1,11 +1,11 @@
--- Laws of the bytes that are to come.
+-- Laws of the bytes that are known to come.
 use Rattle.std.specs.Prelude.{◌≡◌, ℕ, List, [], ◌∷◌, ◌++◌, refl, ⊤}
 use Rattle.lite_io_base.specs.Uses.{◌∙◌, ap, sym, MutBor, Lent, Runs}
 use Rattle.lite_io_base.specs.Known.{Known, TellsKnown, Knows}
 use Rattle.lite_io_base.specs.Marks.{ReadMark, bytes}
 use Rattle.lite_io_base.specs.Told.{TellsScript}
 
--- from what is known of x, what it tells spends
+-- Each run from a value whose bytes are known consumes these bytes from the front.
 pub knows_spends : {S : Type 0} (reads : Runs ReadMark S) (known : Known S) (x y : S) (l : List ReadMark)
     → Knows reads known x → reads x l y
     → TellsKnown (known.left x) l (known.left y)
@@ -27,12 +27,12 @@ spends_split xs zs (ReadMark.pending ∷ l) m h = spends_split xs zs l m h
 spends_split xs zs (ReadMark.fault kind ∷ l) m h = absurd h
 spends_split xs zs (ReadMark.end ∷ l) m h = let r = spends_split xs zs l m h.1 in (r.0, (h.0, r.1), r.2)
 
--- bytes from the front
+-- Bytes come from the front.
 pub spends_front : (xs ys : List ℕ) → TellsKnown (xs ++ ys) (bytes xs) ys
 spends_front [] ys = refl
 spends_front (x ∷ xs) ys = (xs ++ ys, refl, spends_front xs ys)
 
--- and nothing else are bytes
+-- Marks that are all bytes are a prefix of the bytes to come.
 pub spends_bytes : (bs xs ys : List ℕ) → TellsKnown xs (bytes bs) ys → xs ≡ bs ++ ys
 spends_bytes [] xs ys h = sym h
 spends_bytes (b ∷ bs) xs ys h = h.1 ∙ ap (λ v. b ∷ v) (spends_bytes bs h.0 ys h.2)
@@ -48,7 +48,7 @@ told_spends [] ys (ReadMark.end ∷ l) h = (refl, told_spends [] ys l h.1)
 told_spends (x ∷ xs) ys (ReadMark.byte b ∷ l) h = let e = h.0 in (xs, cc, told_spends xs ys l h.1)
 told_spends _ ys (_ ∷ l) h = cc
 
--- a value that tells its bytes, and then ends for ever
+-- What is known of a value that produces the bytes it holds, and then end of file forever.
 abbrev pub told_known : {S : Type 0} (held : S → List ℕ) → Known S
 told_known held = record {
   told = λ x l y. TellsScript (bytes (held x)) l (bytes (held y));
@@ -57,7 +57,7 @@ told_known held = record {
   tells = λ x y l k h. (tt, told_spends (held x) (held y) l h);
 }
 
--- what is known of a reader that is lent is what is known of the reader
+-- What is known of a mutable reference to a reader: the same as of the reader.
 abbrev pub lent_known : {S : Type 0} → Known S → Known (MutBor S)
 lent_known {S} k = record {
   told = Lent k.told;

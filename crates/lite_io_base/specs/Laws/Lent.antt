@@ -1,4 +1,4 @@
--- What is behind a reference.
+-- Laws of readers behind a mutable reference, and of readers of which a part runs.
 use Rattle.std.specs.Prelude.{List, refl}
 use Rattle.lite_io_base.specs.Uses.{Lent, Ranks, ranks_of, Runs, MutBor}
 pub use Rattle.lite_base.specs.Laws.Lent.{lent_still}
@@ -12,7 +12,7 @@ lent_laws laws = record {
   follows = λ x y z l m h k. (laws.follows x.now y.now z.now l m h.0 k.0, lent_still x y z h.1 k.1);
 }
 
--- one of which a part runs counts as that part does
+-- A reader that runs as a part of it does is counted by that part's rank.
 pub counting_part : {S X : Type 0} {reads : Runs ReadMark S} {outer : Runs ReadMark X} {r : Ranks S} (part : X → S)
     → ((x y : X) (l : List ReadMark) → outer x l y → reads (part x) l (part y)) → ReadCounting reads r
     → ReadCounting outer (ranks_of part r)

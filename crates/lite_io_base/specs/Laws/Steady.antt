@@ -1,4 +1,4 @@
--- Laws of tales without their pendings.
+-- Laws of tales without their `Pending`s.
 use Rattle.std.specs.Prelude.{⊤, List, [], ◌∷◌, ◌≡◌, ℕ, ◌++◌, refl}
 use Rattle.lite_io_base.specs.Uses.{ap, sym, Comparable, MutBor, Lent, lent_takes_none, Runs}
 use Rattle.lite_io_base.specs.Marks.{ReadMark, bytes, moved}
@@ -8,12 +8,12 @@ use Rattle.lite_io_base.specs.Told.{TellsScript}
 use Rattle.lite_io_base.specs.Laws.Lent.{lent_laws}
 use Rattle.lite_io_base.specs.Runs.{MarkLaws}
 
--- where no call asks for memory
+-- A reader that never allocates is steady if readers that are alike have one tale in all runs.
 pub steady_read_always : {S : Type 0} {reads : Runs ReadMark S} {alike : S → S → Type 0} → MarkLaws reads
     → OneTale reads alike → SteadyReadLaws reads reads ⊤ alike
 steady_read_always laws s = record { laws = laws; steady = s; found = λ n x y l h. h }
 
--- behind a reference
+-- The same laws hold behind a mutable reference.
 module _ {S : Type 0} {reads : Runs ReadMark S} where
   pub lent_steady_read : {ample : Runs ReadMark S} {needs_none : Type 0} {alike : S → S → Type 0}
       → SteadyReadLaws reads ample needs_none alike
@@ -39,24 +39,24 @@ comparable_swapped [] m c = comparable_none m
 comparable_swapped (a ∷ l) [] c = tt
 comparable_swapped (a ∷ l) (b ∷ m) c = (sym c.0, comparable_swapped l m c.1)
 
--- what begins one another begins one another without its pendings
+-- If one tale is a prefix of another, it still is without their `Pending`s.
 pub comparable_stripped : (l m : List ReadMark) → Comparable l m → Comparable (strip_marks l) (strip_marks m)
 comparable_stripped [] m c = tt
 comparable_stripped (a ∷ l) [] c = comparable_none (strip_marks (a ∷ l))
 comparable_stripped (ReadMark.pending ∷ l) (a ∷ m) c = rw (← c.0) (comparable_stripped l m c.1)
 comparable_stripped (_ ∷ l) (a ∷ m) c = rw (← c.0) (refl, comparable_stripped l m c.1)
 
--- the fronts of lists that begin one another
+-- If one of two lists is a prefix of the other, so it is with their first parts.
 pub comparable_fronts : (l k m n : List ReadMark) → Comparable (l ++ k) (m ++ n) → Comparable l m
 comparable_fronts (a ∷ l) k (b ∷ m) n c = (c.0, comparable_fronts l k m n c.1)
 comparable_fronts _ k _ n c = tt
 
--- and what stands behind one front
+-- The same holds of what follows one common first part.
 pub comparable_rest : (p l m : List ReadMark) → Comparable (p ++ l) (p ++ m) → Comparable l m
 comparable_rest [] l m c = c
 comparable_rest (a ∷ p) l m c = comparable_rest p l m c.1
 
--- one front before both
+-- The same holds of lists behind one common first part.
 pub comparable_behind : (p l m : List ReadMark) → Comparable l m → Comparable (p ++ l) (p ++ m)
 comparable_behind [] l m c = c
 comparable_behind (a ∷ p) l m c = (refl, comparable_behind p l m c)
@@ -65,7 +65,7 @@ pub strip_marks-bytes : (xs : List ℕ) → strip_marks (bytes xs) ≡ bytes xs
 strip_marks-bytes [] = refl
 strip_marks-bytes (x ∷ xs) = rw (strip_marks-bytes xs)
 
--- where there is no pending nothing is left out
+-- A tale without a `Pending` is unchanged without its `Pending`s.
 pub stripped_no_pending : (l : List ReadMark) → NoPendingRead l → strip_marks l ≡ l
 stripped_no_pending [] h = refl
 stripped_no_pending (ReadMark.pending ∷ l) h = absurd h
@@ -90,7 +90,7 @@ no_wait_moved room (x ∷ xs) = no_wait_bytes xs
 no_wait_moved (r ∷ room) [] = tt
 no_wait_moved [] [] = tt
 
--- what is known from the start
+-- Two runs of a fixed tale: one is a prefix of the other.
 told_comparable : (t x y l m : List ReadMark) → TellsScript t l x → TellsScript t m y → Comparable l m
 told_comparable [] x y (a ∷ l) (b ∷ m) h k = (cc (h.0, k.0), told_comparable [] x y l m h.1 k.1)
 told_comparable (c ∷ t) x y (a ∷ l) (b ∷ m) h k = (cc (h.0, k.0), told_comparable t x y l m h.1 k.1)
@@ -103,20 +103,20 @@ told_stripped [] y (a ∷ l) h = rw h.0 (refl, told_stripped [] y l h.1)
 told_stripped (ReadMark.pending ∷ x) y (a ∷ l) h = rw h.0 (told_stripped x y l h.1)
 told_stripped (_ ∷ x) y (a ∷ l) h = rw h.0 (refl, told_stripped x y l h.1)
 
--- two that know the same, pendings aside, tell the same
+-- Two fixed tales that are equal without their `Pending`s lead to runs that are one tale without them.
 pub told_one_tale : (t u x y l m : List ReadMark) → strip_marks t ≡ strip_marks u → TellsScript t l x
     → TellsScript u m y → Comparable (strip_marks l) (strip_marks m)
 told_one_tale t u x y l m same h k =
     told_comparable _ _ (strip_marks y) _ _ (rw same at (told_stripped t x l h)) (told_stripped u y m k)
 
--- no pending to come, then none came
+-- If a fixed tale has no `Pending`, neither its run nor what is left has one.
 pub told_no_wait : (t x l : List ReadMark) → NoPendingRead t → TellsScript t l x → NoPendingRead l × NoPendingRead x
 told_no_wait t x [] n h = (tt, rw h n)
 told_no_wait [] x (a ∷ l) n h = rw h.0 (told_no_wait [] x l tt h.1)
 told_no_wait (ReadMark.pending ∷ t) x (a ∷ l) n h = absurd n
 told_no_wait (_ ∷ t) x (a ∷ l) n h = rw h.0 (told_no_wait t x l n h.1)
 
--- values whose marks are known from the start
+-- Values whose marks are fixed in advance. Two are alike if their marks to come, without `Pending`s, are equal.
 module _ {S : Type 0} where
   module _ (marks : S → List ReadMark) where
     pub told_steady : SteadyReadLaws (λ x l y. TellsScript (marks x) l (marks y))
@@ -131,7 +131,7 @@ module _ {S : Type 0} where
           calm_on = λ x y l n h. (told_no_wait _ _ l n h).1;
         }
 
-  -- slices, whose marks are their bytes
+  -- Slices, whose marks are their bytes. Two are alike if their bytes are equal.
   module _ (held : S → List ℕ) where
     pub slice_steady : SteadyReadLaws (λ x l y. TellsScript (bytes (held x)) l (bytes (held y)))
         (λ x l y. TellsScript (bytes (held x)) l (bytes (held y))) ⊤ (λ x y. held x ≡ held y)

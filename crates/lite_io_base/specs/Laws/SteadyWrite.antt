@@ -1,10 +1,10 @@
--- Writers that leave the same bytes however often they were pending, and marks without a pending.
+-- Laws of steady writers, and of marks without a `Pending`.
 use Rattle.std.specs.Prelude.{ℕ, List, [], ◌∷◌, ◌++◌}
 use Rattle.lite_io_base.specs.Uses.{MutBor, Lent, Runs}
 use Rattle.lite_io_base.specs.Takings.{WriteMark}
 use Rattle.lite_io_base.specs.SteadyWrite.{NoPendingWrite, SteadyWriteLaws}
 
--- one of which a part runs is as steady as that part
+-- A writer that runs as a part of it does is steady if that part is.
 pub steady_write_part : {S X : Type 0} {writes : Runs WriteMark S} {outer : Runs WriteMark X} {alike : S → S → Type 0}
     {below : S → List ℕ} (part : X → S)
     → ((x y : X) (l : List WriteMark) → outer x l y → writes (part x) l (part y)) → SteadyWriteLaws writes alike below

@@ -1,4 +1,4 @@
--- What a vector keeps, and what is behind a reference.
+-- What a vector stores, and what a writer behind a mutable reference stores.
 use Rattle.std.specs.Prelude.{◌≡◌, ℕ, List, ◌++◌, ⊤}
 use Rattle.lite_io_base.specs.Uses.{MutBor, Lent, Runs}
 use Rattle.lite_io_base.specs.Grows.{Grows, IsRefusal}
@@ -11,7 +11,7 @@ pub stores_kept : {S : Type 0} (writes : Runs WriteMark S) (stored : Stored S) (
     → stored.kept y ≡ stored.kept x ++ bytes_taken l
 stores_kept writes stored x y l k h = (stored.tells x y l k.0 (k.1 l y h)).1
 
--- a value that keeps what it takes behind what it holds
+-- A value that appends the bytes it takes to those that it holds.
 abbrev pub grows_stored : {S : Type 0} (held : S → List ℕ) → Stored S
 grows_stored held = record {
   told = λ x l y. Grows (held x) l (held y);
@@ -20,7 +20,7 @@ grows_stored held = record {
   tells = λ x y l k h. (tt, grows_all IsRefusal (held x) (held y) l h);
 }
 
--- what a writer that is lent stores is what the writer stores
+-- What is known of a mutable reference to a writer: the same as of the writer.
 abbrev pub lent_stored : {S : Type 0} → Stored S → Stored (MutBor S)
 lent_stored {S} k = record {
   told = Lent k.told;

@@ -1,4 +1,4 @@
--- Laws of what writers take.
+-- Laws of the bytes that writers take.
 use Rattle.std.specs.Prelude.{◌≡◌, List, ◌++◌}
 use Rattle.std.proofs.lemmas.Grind.{flat_map-append}
 use Rattle.lite_io_base.specs.Takings.{WriteMark, bytes_in, bytes_taken}

@@ -1,4 +1,4 @@
--- Laws of futures whose memory is refused only where there was no room.
+-- Laws of futures over a reader in which an allocation fails only if room was lacking.
 use Rattle.std.specs.Prelude.{List, [], ◌∷◌, ◌++◌}
 use Rattle.lite_read.specs.Uses.{refl, Poll, Ready, Pending, Waiting, CalmLaws, FutureLaws, up_to_once, Runs, ReadMark, MarkLaws, CalmReadLaws}
 use Rattle.lite_read.specs.Laws.Deterministic.{segmented_calm}
@@ -6,14 +6,15 @@ use Rattle.lite_read.specs.Laws.Gathers.{KeepLaws, gathers_laws}
 use Rattle.lite_read.specs.Laws.Refusals.{Waits, Weaker, gathers_waiting, gathers_weaker}
 use Rattle.lite_read.specs.ReadFold.{GathersByRoom, ReadFold}
 
--- what is made of marks where both ends of a run say when memory may be refused
+-- What the laws of a `GathersByRoom` need. Each fold meets `KeepLaws`, `Grows` is reflexive and transitive, and the
+-- fold depends on both values of a run only in when an allocation may fail.
 pub record RoomLaws {X M R : Type 0} (fold : X → X → X → ReadFold M R) (Keeps Grows : X → X → Type 0) : Type 1 where
   pub keeps : (x y : X) → KeepLaws (fold x y) Keeps
   pub none : (x : X) → Grows x x
   pub join : (x y z : X) → Grows x y → Grows y z → Grows x z
-  -- what is made before there is a value does not hang on the ends
+  -- What the fold does before there is a value does not depend on the values of the run.
   pub waits : (x y z v : X) → Waits (fold x y v) (fold x z v)
-  -- what was refused later may be refused from before
+  -- An allocation that may fail in a later part of a run may fail in the whole run.
   pub sooner : (x y z v : X) → Keeps x y → Grows x y → Weaker (fold y z v) (fold x z v)
 
 behind_waiting : {A : Type 0} (l m : List (Poll A)) → Waiting (l ++ m) → Waiting m

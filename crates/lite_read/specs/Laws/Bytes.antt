@@ -13,11 +13,11 @@ tells_join [] j [] m h k = k
 tells_join (x ∷ i) j (a ∷ l) m h k = (h.0, tells_join i j l m h.1 k)
 tells_join _ j _ m h k = absurd h
 
--- as many as one byte or error lower the rank
+-- A fall by at least one byte or error lowers the rank.
 one_below : (n : ℕ) (xs ys : List ℕ) → Falls (n + 1) xs ys → Below xs ys
 one_below n xs ys h = rw (add-one n) at h
 
--- what the marks do to a rank, the answers do
+-- The poll results of `bytes` lower a rank as its reader's marks do.
 tells_lower : (i : List ReadMark) (l : List (Answer (Result ℕ Error))) (xs ys : List ℕ) → TellsEach i l
     → Falls (given i) xs ys → Lowers l xs ys
 tells_lower [] [] xs ys h f = f
@@ -30,7 +30,7 @@ tells_lower [] (a ∷ l) xs ys h f = absurd h
 tells_lower (x ∷ i) [] xs ys h f = absurd h
 tells_lower _ _ xs ys h f = absurd h.0
 
--- items are bytes and errors
+-- The marks behind a list of items are all bytes and errors, one for each item.
 tells_items : (i : List ReadMark) (l : List (Result ℕ Error)) → TellsEach i (items l) → AllGiven i
     × (length i ≡ length l)
 tells_items [] [] h = (tt, refl)
@@ -67,7 +67,7 @@ module _ {R : Type 0} {reads : Runs ReadMark R} where
         lowers = λ x y l k h. tells_lower h.marks l _ _ h.told (c.lowers x.inner y.inner h.marks k h.came);
       }
 
-  -- it is read as its reader is
+  -- A `bytes` runs as its reader does: the laws of the reader hold of it.
   pub inner_laws : MarkLaws reads → MarkLaws (λ (x : Bytes R) l (y : Bytes R). reads x.inner l y.inner)
   inner_laws laws = record { rests = λ x. laws.rests x.inner; follows = λ x y z. laws.follows x.inner y.inner z.inner }
 

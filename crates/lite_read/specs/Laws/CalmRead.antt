@@ -1,4 +1,4 @@
--- One read and one fill are calm over a calm reader.
+-- The futures of one read or one fill, `read`, `read_vectored` and `fill_buf`, are never pending over a calm reader.
 use Rattle.std.specs.Prelude.{ℕ, List, Result, IfSome, Option, Ok, Err}
 use Rattle.lite_read.specs.Uses.{subst, sym, Bor, MutBor, Error, Ready, Pending, CalmLaws, Runs, ReadMark, fill_marks, CalmReadLaws}
 use Rattle.lite_read.specs.FillBuf.{FillsOnce, held_after}
@@ -10,7 +10,7 @@ use Rattle.lite_read.specs.declared.fill_buf.FillBuf.{FillBuf}
 use Rattle.lite_read.specs.declared.read.ReadFuture.{ReadFuture}
 use Rattle.lite_read.specs.declared.read_vectored.ReadVectoredFuture.{ReadVectoredFuture}
 
--- what a future of `fill_buf` holds is calm
+-- The reader that a `fill_buf` future holds, if it holds one, is calm.
 abbrev HeldCalm : {R : Type 0} → (R → Type 0) → Option (MutBor R) → Type 0
 HeldCalm is_calm held = IfSome held (λ r. is_calm r.now)
 

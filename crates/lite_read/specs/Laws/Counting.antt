@@ -1,4 +1,4 @@
--- What streams of pieces do to a rank.
+-- How `split` and `lines` lower a rank.
 use Rattle.std.specs.Prelude.{◌≡◌, ◌<◌, ◌+◌, ℕ, List, [], ◌∷◌, ◌++◌, length, Some, None, Result, Ok}
 use Rattle.lite_read.specs.Uses.{◌∙◌, zero, suc, ap, sym, arith, length-append, FoldsTo, Error, Ready, Pending, Answer, items, OkCounting, all_ok, Below}
 use Rattle.lite_read.specs.Uses.{Lowers, Ranks, Runs, ReadCounting, Falls, falls_held, given-append, given-bytes, ReadMark, bytes, given, MarkLaws}
@@ -29,7 +29,8 @@ module _ {A : Type 0} (byte : ℕ) (may_refuse : Type 0) (whole final : List ℕ
         grown p s.between s.taken s.folds,
       )
 
-  -- bytes that came in and those that were held are given out or held
+  -- At each poll result, the bytes and errors that the reader produced and the bytes held before are yielded or still
+  -- held.
   module _ (held : List ℕ) where
     piece_out : (last : List ReadMark) (cut : Cut) (x : A) (after : List ℕ) → CutsPiece byte may_refuse held last cut
         → Itemised whole final cut held (Some (Ok x)) after → (n : ℕ) × (0 < n)
@@ -45,7 +46,8 @@ module _ {A : Type 0} (byte : ℕ) (may_refuse : Type 0) (whole final : List ℕ
     end_out last Cut.nothing after c i = omega (arith, ap length i, ap given c.0, ap length c.1)
     end_out last _ after c i = absurd i
 
-  -- what is given out of what came in, and what that does to a rank
+  -- From `p` bytes held to `q`, the items `l` account for `n` of the bytes and errors among `marks` and of the bytes
+  -- held. A rank that falls by `n` is lowered by these items.
   abbrev GivesOut : List ℕ → List ReadMark → List (Answer A) → List ℕ → Type 0
   GivesOut p marks l q = (n : ℕ) × (given marks + length p ≡ n + length q)
       × ((xs ys : List ℕ) → Falls n xs ys → Lowers l xs ys)
@@ -71,7 +73,7 @@ module _ {A : Type 0} (byte : ℕ) (may_refuse : Type 0) (whole final : List ℕ
         λ xs ys f. below_some _ xs ys (omega (arith, e.1)) f,
       )
 
--- the rank of the reader, and then how much is held
+-- The rank of `split` and `lines` over `Ok` items: the reader's rank, followed by the number of bytes held.
 abbrev pub flow_ranks : {X S K : Type 0} → StreamOver X S (List ℕ) K → Ranks S → Ranks X
 flow_ranks over r =
     record {

@@ -1,4 +1,4 @@
--- What is gathered of one tale is the same wherever its pendings stand.
+-- The values that a deterministic fold makes of a tale do not depend on its `Pending`s.
 use Rattle.std.specs.Prelude.{◌≡◌, ℕ, List, [], ◌∷◌, ◌++◌}
 use Rattle.lite_read.specs.Uses.{refl, subst, append_assoc, map-append, FoldsTo, Poll, Ready, Pending, Comparable, ComparableBy, strip, NoPending, Runs}
 use Rattle.lite_read.specs.Uses.{Segments, comparable_fronts, comparable_rest, comparable_swapped, no_wait_parts, strip_marks-append, strip_marks-bytes}
@@ -6,12 +6,13 @@ use Rattle.lite_read.specs.Uses.{stripped_no_pending, ReadMark, bytes, CalmReadL
 use Rattle.lite_read.specs.ReadFold.{AnswerMarks, ReadFold, Segmented}
 use Rattle.lite_read.specs.Deterministic.{IsDeterministic, TaleValues}
 
--- some bytes, and then a pending
+-- If the marks are some bytes and then a `Pending`, the marks without `Pending`s begin with these bytes, and the rest
+-- follows.
 pub past_pending : (marks rest : List ReadMark) (xs : List ℕ) → marks ≡ bytes xs ++ ReadMark.pending ∷ rest
     → strip_marks marks ≡ bytes xs ++ strip_marks rest
 past_pending marks rest xs cut = rw (cut, strip_marks-append, strip_marks-bytes)
 
--- some bytes, and then marks that are no pending
+-- If the marks are some bytes and then marks without a `Pending`, the marks without `Pending`s begin with all of these.
 pub past_value : (marks last rest : List ReadMark) (xs : List ℕ) → NoPendingRead last
     → marks ≡ bytes xs ++ (last ++ rest)
     → strip_marks marks ≡ bytes xs ++ (last ++ strip_marks rest)
@@ -23,7 +24,7 @@ comparable_front (a ∷ l) k (b ∷ m) c = (c.0, comparable_front l k m c.1)
 comparable_front _ k _ c = tt
 
 module _ {M R : Type 0} (fold : ReadFold M R) where
-  -- bytes that are taken in before
+  -- Bytes consumed before a tale do not change its values.
   tale_values_behind : (p m : M) (xs : List ℕ) (t : List ReadMark) (vs : List R) → FoldsTo fold.takes p xs m
       → TaleValues fold m t vs
       → TaleValues fold p (bytes xs ++ t) vs
@@ -34,7 +35,7 @@ module _ {M R : Type 0} (fold : ReadFold M R) where
       (TaleValues.next p n q (xs ++ ys) last rest v vs (folds_follow fold.takes p m n xs ys f g) h s)
 
   module _ {same : R → R → Type 0} (s : IsDeterministic same fold) where
-    -- the values of segments
+    -- The values of segments are those of their marks without `Pending`s.
     segments_values : (p q : M) (i : List ReadMark) (l : List (Poll R)) → Segments (AnswerMarks fold) p i l q
         → TaleValues fold p (strip_marks i) (strip l)
     segments_values p q i [] h = rw h.0 (TaleValues.held p p [] refl)
@@ -49,7 +50,7 @@ module _ {M R : Type 0} (fold : ReadFold M R) where
         rw (past_value i c.last h.1 c.taken (s.at_once c.between h.2 c.last r c.given) cut)
         (TaleValues.next p c.between h.2 c.taken c.last _ r _ c.folds c.given (segments_values h.2 q h.1 l h.5))
 
-    -- the first values of tales that begin one another
+    -- If one of two tales is a prefix of the other, their first values are the same, and so are the states after them.
     aligned : (p x y q r : M) (xs ys : List ℕ) (l m k n : List ReadMark) (v w : R) → FoldsTo fold.takes p xs x
         → FoldsTo fold.takes p ys y
         → fold.gives x l v q → fold.gives y m w r → Comparable (bytes xs ++ (l ++ k)) (bytes ys ++ (m ++ n)) → same v w
@@ -66,7 +67,7 @@ module _ {M R : Type 0} (fold : ReadFold M R) where
         let way = s.one_way p g.0 f.0 b (rw byte g.1) f.1 in
         aligned f.0 x y q r xs ys l m k n v w f.2 (rw (← way) g.2) h j c.1
 
-    -- tales that begin one another give the same values
+    -- If one of two tales is a prefix of the other, their values are the same as far as both go.
     tale_values_alike : (p : M) (t u : List ReadMark) (vs ws : List R) → TaleValues fold p t vs
         → TaleValues fold p u ws → Comparable t u → ComparableBy same vs ws
     tale_values_alike p _ _ _ _ (TaleValues.next _ m q xs last rest v vs f h a)
@@ -78,7 +79,7 @@ module _ {M R : Type 0} (fold : ReadFold M R) where
         )
     tale_values_alike p _ _ _ _ _ _ c = tt
 
-    -- what is made of readers that are alike
+    -- Readers that are alike are made into values that are the same, as far as both go.
     module _ {S : Type 0} {reads ample : Runs ReadMark S} {needs_none : Type 0} {alike : S → S → Type 0}
         (laws : SteadyReadLaws reads ample needs_none alike) where
       module _ (x y x' y' : S) (p q r : M) where
@@ -89,7 +90,7 @@ module _ {M R : Type 0} (fold : ReadFold M R) where
             (segments_values p q h.marks l h.cut) (segments_values p r k.marks m k.cut)
             (laws.steady x y x' y' h.marks k.marks e h.came k.came)
 
-  -- where no pending is told none is answered
+  -- If no mark is a `Pending`, no poll result is one.
   pub segments_no_pending : (p q : M) (i : List ReadMark) (l : List (Poll R)) → NoPendingRead i
       → Segments (AnswerMarks fold) p i l q → NoPending l
   segments_no_pending p q i [] n h = tt
@@ -101,14 +102,15 @@ module _ {M R : Type 0} (fold : ReadFold M R) where
   segments_no_pending p q i (Ready v ∷ l) n h =
       segments_no_pending h.2 q h.1 l (no_wait_parts h.0 h.1 (subst NoPendingRead h.3 n)).1 h.5
 
-  -- over a calm reader, which stays so
+  -- Over a calm reader no poll result is `Pending`, and the reader stays calm.
   pub segmented_calm : {S : Type 0} {reads : Runs ReadMark S} {is_calm : S → Type 0} (x y : S) (p q : M)
       (l : List (Poll R)) → CalmReadLaws reads is_calm → is_calm x → Segmented fold reads x p l y q
       → NoPending l × is_calm y
   segmented_calm x y p q l c k h =
       (segments_no_pending p q h.marks l (c.no_pending x y h.marks k h.came) h.cut, c.calm_on x y h.marks k h.came)
 
--- the marks by which a value is given: none, where all is there, or one that is no pending and is not taken in
+-- The marks that produce a value: none if `All` holds, which says that everything is there, or else one mark that is
+-- not a `Pending` and is not consumed.
 pub data GivenBy (All : Type 0) (Taken : ReadMark → Type 0) : List ReadMark → Type 0 where
   at_none : All → GivenBy All Taken []
   at_mark : (m : ReadMark) → (All → ⊥) → (Taken m → ⊥) → NoPendingRead (m ∷ []) → GivenBy All Taken (m ∷ [])
@@ -130,11 +132,12 @@ module _ {All : Type 0} {Taken : ReadMark → Type 0} where
   same_marks (GivenBy.at_mark m more other now) (GivenBy.at_mark n _ _ _) c = rw c.0
 
 module _ {M R : Type 0} (fold : ReadFold M R) where
-  -- a byte's mark, where it is taken in
+  -- The mark is a byte that the fold consumes in the state `p`.
   abbrev pub TakenAt : M → ReadMark → Type 0
   TakenAt p m = (b : ℕ) × (r : M) × (m ≡ ReadMark.byte b) × fold.takes p b r
 
-  -- each value is given so, and by the same marks the same
+  -- A fold is deterministic if each value is produced as `GivenBy` says, and equal marks produce values that are the
+  -- same.
   pub deterministic_by : {same : R → R → Type 0} (All : M → Type 0)
       → ((p q r : M) (b : ℕ) → fold.takes p b q → fold.takes p b r → q ≡ r)
       → ((p r : M) (b : ℕ) → fold.takes p b r → All p → ⊥)

@@ -1,4 +1,4 @@
--- What is cut out of one tale is the same wherever its pendings stand.
+-- The pieces that are cut out of a tale do not depend on its `Pending`s.
 use Rattle.std.specs.Prelude.{⊤, ◌≡◌, ◌<◌, ℕ, List, [], ◌∷◌, Option, Some, None, Result, length}
 use Rattle.lite_read.specs.Uses.{◌∙◌, inl, inr, refl, ap, sym, arith, error_kind, Error, ErrorKind, OptionBy, Sameness, CalmLaws, SteadyLawsBy, runs_of, Runs}
 use Rattle.lite_read.specs.Uses.{ReadMark, CalmReadLaws, SteadyReadLaws}
@@ -9,7 +9,7 @@ use Rattle.lite_read.specs.Laws.Segments.{flow_laws}
 use Rattle.lite_read.specs.Pieces.{Cut, CutsPiece, Itemised, pieces}
 use Rattle.lite_read.specs.Segments.{Flows, StreamOver}
 
--- cuts of one kind, and of the same bytes
+-- Two cuts are of one kind, and of equal bytes, or both are errors of one kind.
 abbrev pub SameCut : Cut → Cut → Type 0
 SameCut (Cut.piece xs) (Cut.piece ys) = xs ≡ ys
 SameCut (Cut.last xs) (Cut.last ys) = xs ≡ ys
@@ -17,7 +17,8 @@ SameCut Cut.nothing Cut.nothing = ⊤
 SameCut (Cut.failed e) (Cut.failed f) = error_kind e ≡ error_kind f
 SameCut a b = ⊥
 
--- the four ways in which what is held is cut, where memory is found
+-- The four ways in which the bytes held are cut if no allocation fails: a delimiter, end of file with some bytes held,
+-- end of file with none, or an error of the reader.
 data CutsNow (byte : ℕ) (held : List ℕ) : List ReadMark → Cut → Type 0 where
   piece : (b : ℕ) → b ≡ byte → CutsNow byte held (ReadMark.byte b ∷ []) (Cut.piece held)
   last : 0 < length held → CutsNow byte held (ReadMark.end ∷ []) (Cut.last held)
@@ -47,7 +48,7 @@ one_cut byte held _ _ _ (CutsNow.failed e kind h) (CutsNow.failed f _ k) = h ∙
 one_cut byte held _ _ _ (CutsNow.last some) (CutsNow.nothing none) = absurd (omega (arith, ap length none))
 one_cut byte held _ _ _ (CutsNow.nothing none) (CutsNow.last some) = absurd (omega (arith, ap length none))
 
--- one value is made of one cut, and one list is held then
+-- Cuts that are the same become values that `same` relates, and leave equal bytes held.
 abbrev pub BecomesOne : {R : Type 0} → (R → R → Type 0) → (Cut → List ℕ → R → List ℕ → Type 0) → Type 0
 BecomesOne {R} same becomes = (a b : Cut) (held : List ℕ) (v w : R) (p q : List ℕ) → SameCut a b → becomes a held v p
     → becomes b held w q → same v w × (p ≡ q)
@@ -61,17 +62,18 @@ pieces_deterministic byte becomes one =
     (λ p q r l v w h k.
     one h.0 k.0 p v w q r (one_cut byte p l h.0 k.0 (cuts_now byte p l h.0 h.1) (cuts_now byte p l k.0 k.1)) h.2 k.2)
 
--- what becomes of the bytes of a line is one
+-- The results that `makes` allows for the same bytes are the same: both `Ok` with values that `same` relates, or both
+-- errors of one kind.
 abbrev pub MakesOne : {A : Type 0} → (A → A → Type 0) → (List ℕ → Result A Error → Type 0) → Type 0
 MakesOne {A} same makes = (xs : List ℕ) (r s : Result A Error) → makes xs r → makes xs s → SameOr same r s
 
 module _ {A : Type 0} {same : A → A → Type 0} {whole final : List ℕ → Result A Error → Type 0}
     (one : MakesOne same whole) (end : MakesOne same final) where
-  -- what one ready answer of a stream of pieces is: a piece, an error or an end
+  -- What a poll result of a stream of pieces holds if it is ready: a piece, an error, or `None` at the end.
   abbrev PieceItem : Type 0
   PieceItem = Option (Result A Error)
 
-  -- of a cut and the bytes before it the answer, and the bytes that are held then
+  -- The item that a cut becomes, with the bytes held before and after it.
   abbrev PieceMade : Cut → List ℕ → PieceItem → List ℕ → Type 0
   PieceMade = Itemised whole final
 
@@ -101,7 +103,7 @@ module _ {A : Type 0} {same : A → A → Type 0} {whole final : List ℕ → Re
   items_deterministic byte = pieces_deterministic byte _ itemised_one
 
 module _ {X S M K : Type 0} (over : StreamOver X S M K) where
-  -- they hold the same, and keep the same, over readers that are alike
+  -- Two streams of pieces hold equal bytes and have equal settings, over readers that are alike.
   abbrev pub FlowAlike : (S → S → Type 0) → X → X → Type 0
   FlowAlike alike x y =
       alike (over.reader x) (over.reader y) × (over.held x ≡ over.held y) × (over.kept x ≡ over.kept y)

@@ -1,11 +1,11 @@
--- What is read of one tale for a text is the same wherever its pendings stand.
+-- A text that is read from a tale does not depend on its `Pending`s.
 use Rattle.std.specs.Prelude.{◌≡◌, ℕ, List, Result, Ok, Err}
 use Rattle.lite_read.specs.Uses.{inl, inr, ◌∙◌, sym, ap, Error, Comparable, ReadMark}
 use Rattle.lite_read.specs.ReadFold.{ReadFold}
 use Rattle.lite_read.specs.Deterministic.{IsDeterministic, SameByKind}
 use Rattle.lite_read.specs.Texts.{AppendsText, Reading, ValueOf, in_text}
 
--- equal bytes that give one value give one in text
+-- Two reads of equal bytes with the same value have the same value as reads of a text.
 value_same : (xs : List ℕ) (a b v w : Result ℕ Error) → SameByKind a b → ValueOf xs a v → ValueOf xs b w
     → SameByKind v w
 value_same xs (Ok n) (Ok m) (Ok v) (Ok w) s h k = h.1 ∙ s ∙ sym k.1

@@ -9,7 +9,8 @@ use Rattle.lite_read.specs.Laws.Segments.{segmented_before, segmented_follow, se
 use Rattle.lite_read.specs.PollSteps.{TakesBytes}
 use Rattle.lite_read.specs.ReadFold.{Gathers, ReadFold}
 
--- what is kept through runs, and with it what is made of marks
+-- What the laws of a `Gathers` need: `Keeps` is reflexive and transitive, and values that it relates have the same
+-- fold.
 pub record KeepLaws {X M R : Type 0} (fold : X → ReadFold M R) (Keeps : X → X → Type 0) : Type 1 where
   pub none : (x : X) → Keeps x x
   pub join : (x y z : X) → Keeps x y → Keeps y z → Keeps x z
@@ -37,7 +38,7 @@ module _ {X S M R : Type 0} {reader : X → S} {held : X → M} {fold : X → Re
           once = λ x y l h. up_to_once l h.ends;
         }
 
-  -- a step before an answer
+  -- A step that does not yet return, followed by a poll result, is one run with that result.
   pub gathers_before : {Steps : X → X → Type 0} → KeepLaws fold Keeps → MarkLaws reads
       → ((x y : X) → Steps x y → Keeps x y)
       → (x y z : X) (a : Poll R) → TakesBytes reader held fold Steps reads x y
@@ -52,7 +53,7 @@ module _ {X S M R : Type 0} {reader : X → S} {held : X → M} {fold : X → Re
         idle = λ e. cc e;
       }
 
-  -- two that hold the same, and make the same of marks, over readers that are alike
+  -- Two futures with equal bytes held and the same fold, over readers that are alike, have the same value.
   pub gathers_alike : {same : R → R → Type 0} {ample : Runs ReadMark S} {needs_none : Type 0} {alike : S → S → Type 0}
       → ((x : X) → IsDeterministic same (fold x)) → SteadyReadLaws reads ample needs_none alike
       → (x y : X) → alike (reader x) (reader y) → held x ≡ held y → fold y ≡ fold x

@@ -1,4 +1,5 @@
--- `split`, `lines` and `read_until` do not depend on when their reader was pending, where memory was found.
+-- The results of `split`, `lines` and `read_until` do not depend on when their reader was pending, if no allocation
+-- failed.
 use Rattle.std.specs.Prelude.{◌≡◌, ℕ, List, [], ◌∷◌, ◌++◌, Ok, Err, length, string_bytes}
 use Rattle.lite_read.specs.Uses.{◌∙◌, Global, ap, sym, IsUtf8-string_bytes, String, Vec, Sameness, FutureSteadyLawsBy, Runs, ReadMark, SteadyReadLaws}
 use Rattle.lite_read.specs.Laws.Gathers.{gathers_alike}
@@ -12,11 +13,11 @@ use Rattle.lite_read.specs.Split.{IsVec}
 use Rattle.lite_read.specs.LineText.{IsText, without_return}
 use Rattle.lite_read.specs.declared.read_until.ReadUntilFuture.{ReadUntilFuture}
 
--- vectors of the same bytes, and texts
+-- Two vectors have equal bytes.
 abbrev pub SameVec : Vec ℕ Global → Vec ℕ Global → Type 0
 SameVec v w = v.items ≡ w.items
 
--- two texts of the same bytes
+-- Two texts have equal bytes.
 abbrev pub SameText : String Global → String Global → Type 0
 SameText s t = string_bytes s ≡ string_bytes t
 
@@ -50,7 +51,7 @@ module _ (byte : ℕ) where
   until_deterministic = pieces_deterministic byte _ (counted_one)
 
 module _ {R : Type 0} where
-  -- they read to the same byte, and have read the same, over readers that are alike
+  -- Two `read_until` futures have read equal bytes and have one delimiter, over readers that are alike.
   abbrev pub UntilAlike : (R → R → Type 0) → ReadUntilFuture R → ReadUntilFuture R → Type 0
   UntilAlike alike x y = alike x.reader.now y.reader.now × (read_of x ≡ read_of y) × (x.byte ≡ y.byte)
 

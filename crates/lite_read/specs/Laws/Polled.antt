@@ -18,12 +18,12 @@ module _ {F A : Type 0} (call : F → Poll A → F → Type 0) where
   pub polled_laws : FutureLaws (PolledByCalls call)
   polled_laws = record { rests = λ x. refl; stays = λ x y h. h; follows = polled_follows; once = polled_once }
 
-  -- one poll
+  -- One call is a run of one poll.
   pub polled_one : {x y : F} {c : Poll A} → call x c y → PolledByCalls call x (c ∷ []) y
   polled_one {c = Pending} h = (_, h, refl)
   polled_one {c = Ready r} h = (h, refl)
 
-  -- where no call of a calm value is pending, and each leaves a calm one
+  -- If no call on a calm value is pending, and each leaves a calm value, then the future is calm.
   module _ {is_calm : F → Type 0} (never : (x y : F) → is_calm x → call x Pending y → ⊥)
       (calm_on : (x y : F) (r : A) → is_calm x → call x (Ready r) y → is_calm y) where
     module _ (x y : F) where
@@ -40,7 +40,7 @@ module _ {F A : Type 0} (call : F → Poll A → F → Type 0) where
     pub polled_calm : CalmLaws (PolledByCalls call) is_calm
     polled_calm = record { no_pending = no_pending; calm_on = still_calm }
 
-  -- where each call leaves marks of a part of the future, and a pending one a mark of waiting
+  -- A future is calm if its calls run a calm part of it, and a pending call would leave a mark of waiting there.
   pub calls_calm : {M S : Type 0} {NoWait : List M → Type 0} {run : Runs M S} {is_calm : S → Type 0} (part : F → S)
       (came : (x y : F) (r : Poll A) → call x r y → (l : List M) × run (part x) l (part y))
       → ((x y : F) (h : call x Pending y) → NoWait (came x y Pending h).0 → ⊥) → CalmRuns NoWait run is_calm

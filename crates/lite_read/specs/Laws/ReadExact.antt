@@ -8,7 +8,7 @@ use Rattle.lite_read.specs.ReadExact.{ReadsExactly, fills}
 use Rattle.lite_read.specs.PollSteps.{ReadsMore}
 use Rattle.lite_read.specs.declared.read_exact.ReadExactFuture.{ReadExactFuture}
 
--- bytes that were taken in were filled in
+-- The bytes consumed are those appended to the filled part, and the buffer's length stays.
 pub filled_by : (xs : List ℕ) (p q : Filling) → FoldsTo fills.takes p xs q → (q.0 ≡ p.0 ++ xs) × (q.1 ≡ p.1)
 filled_by [] p q h = rw (← h, append-nil) (refl, refl)
 filled_by (x ∷ xs) p q h =
@@ -38,13 +38,13 @@ module _ {R : Type 0} where
     pub exact_laws : FutureLaws (ReadsExactly reads)
     exact_laws = gathers_laws keeps laws
 
-    -- a step before others
+    -- A step that does not yet return, followed by a poll result, is one run with that result.
     pub step_before : (x y z : ReadExactFuture R) (a : Poll (Result (Unit {0}) Error)) → ReadsMore reads x y
         → ReadsExactly reads y (a ∷ []) z
         → ReadsExactly reads x (a ∷ []) z
     step_before = gathers_before keeps laws (λ x y k. k)
 
-  -- the room that is left falls
+  -- Each step leaves less room in the buffer.
   pub room_falls : {reads : Runs ReadMark R} (x y : ReadExactFuture R) → ReadsMore reads x y
       → length y.buf.now - y.filled < length x.buf.now - x.filled
   room_falls x y t =

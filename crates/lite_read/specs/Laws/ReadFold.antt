@@ -1,10 +1,10 @@
--- Laws of what is made of the marks of a reader.
+-- Laws of folds over the marks of a reader.
 use Rattle.std.specs.Prelude.{ℕ, List, ◌∷◌, ◌++◌}
 use Rattle.lite_read.specs.Uses.{FoldsTo, Poll, segment_before, segments_before, Segments, ReadMark, bytes}
 use Rattle.lite_read.specs.ReadFold.{AnswerMarks, ReadFold}
 
 module _ {M R : Type 0} (fold : ReadFold M R) where
-  -- bytes that are taken in before
+  -- Bytes consumed before the first segment can be merged into it.
   pub answers_before : (p m q : M) (xs : List ℕ) (i : List ReadMark) (a : Poll R) (l : List (Poll R))
       → FoldsTo fold.takes p xs m → Segments (AnswerMarks fold) m i (a ∷ l) q
       → Segments (AnswerMarks fold) p (bytes xs ++ i) (a ∷ l) q

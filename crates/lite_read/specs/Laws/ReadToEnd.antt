@@ -12,7 +12,7 @@ use Rattle.lite_read.specs.ReadToEnd.{ReadsToEnd, ReadsToEndByRoom, ToEndLacksRo
 use Rattle.lite_read.specs.PollSteps.{AnswersUntrimmed, ReadsSome}
 use Rattle.lite_read.specs.declared.read_to_end.ReadToEndFuture.{ReadToEndFuture}
 
--- all bytes are appended
+-- The fold of `read_to_end` can append any bytes.
 pub appends_all : (m : Type 0) (start : ℕ) (g xs : List ℕ) → FoldsTo (appends m start).takes g xs (g ++ xs)
 appends_all m start g [] = sym (append-nil g)
 appends_all m start g (x ∷ xs) = (
@@ -37,7 +37,7 @@ module _ {R A : Type 0} where
         start = k.start ∙ h.start;
       }
 
-  -- each step that goes on lowers the reader's rank
+  -- If the reader's runs of bytes and errors terminate, so do the steps of a poll of `read_to_end`.
   pub some_falls : {m : Type 0} {reads : Runs ReadMark R} (counts : R → Type 0)
       → ((s : R) → counts s → Terminates (GivenRun reads) s) → (x : ReadToEndFuture R A)
       → CanAppend counts x → Terminates (ReadsSome m reads) x
@@ -69,12 +69,12 @@ module _ {R A : Type 0} where
     pub append_laws : FutureLaws (ReadsToEnd {A = A} m reads)
     append_laws = gathers_laws (keeps m) laws
 
-    -- a step before others
+    -- A step that does not yet return, followed by a poll result, is one run with that result.
     pub step_before : (x y z : ReadToEndFuture R A) (a : Poll (Result ℕ Error)) → ReadsSome m reads x y
         → AnswersUntrimmed m reads y a z → AnswersUntrimmed m reads x a z
     step_before = gathers_before (keeps m) laws (λ x y k. k.0)
 
-  -- where the vector has no room after a run that was pending it had none before
+  -- A vector that lacks room after a run that was pending lacked it before that run.
   lacks_sooner : (x y z : ReadToEndFuture R A) → VectorGrows x y → ToEndLacksRoom (length y.buf.now.items) y z
       → ToEndLacksRoom (length x.buf.now.items) x z
   lacks_sooner x y z h full = (
@@ -83,7 +83,8 @@ module _ {R A : Type 0} where
     omega (arith, h.items, h.capacity, h.room, full.1, full.2),
   )
 
-  -- from x, a read to the end that may be refused memory only if the vector had no room for what y holds and the next read
+  -- The fold of `read_to_end` in a run from `x` to `y`. An allocation may fail only if the vector of `x` is too small
+  -- for the bytes of `y` and the next read.
   abbrev appends_by_room : ReadToEndFuture R A → ReadToEndFuture R A → ReadToEndFuture R A
       → ReadFold (List ℕ) (Result ℕ Error)
   appends_by_room x y v = appends (ToEndLacksRoom (length x.buf.now.items) x y) v.start
@@ -107,7 +108,7 @@ module _ {R A : Type 0} where
     pub to_end_room_laws : MarkLaws reads → FutureLaws (ReadsToEndByRoom {A = A} reads)
     to_end_room_laws = room_laws to_end_room
 
-    -- memory may be refused then
+    -- A run in which an allocation fails only if the vector lacked room is one in which it may fail at any time.
     pub to_end_any : (x y : ReadToEndFuture R A) (l : List (Poll (Result ℕ Error))) → ReadsToEndByRoom reads x l y
         → ReadsToEnd ⊤ reads x l y
     to_end_any x y l h =

@@ -22,7 +22,7 @@ module _ {R : Type 0} where
         room = omega arith;
       }
 
-  -- what was there at first is there still
+  -- The bytes that were in the vector before are still in it.
   module _ (x y : ReadUntilFuture R) where
     pub stays_within : UntilStays x y → x.start ≤ length x.buf.now.items → y.start ≤ length y.buf.now.items
     stays_within h within = omega arith
@@ -43,17 +43,17 @@ module _ {R : Type 0} where
   keeps m = record { none = stays_none; join = stays_join; same = λ x y k. ap (λ b. until b m) k.byte }
 
   module _ {reads : Runs ReadMark R} where
-    -- whether memory may be refused or not
+    -- The laws of `read_until`, whether an allocation may fail or not.
     pub until_laws : (may_refuse : Type 0) → MarkLaws reads → FutureLaws (ReadsUntil reads may_refuse)
     until_laws may_refuse = gathers_laws (keeps may_refuse)
 
-    -- a step before others
+    -- A step that does not yet return, followed by a poll result, is one run with that result.
     pub step_before : {m : Type 0} → MarkLaws reads → (x y z : ReadUntilFuture R) (a : Poll (Result ℕ Error))
         → AppendsMore reads m x y → ReadsUntil reads m y (a ∷ []) z → ReadsUntil reads m x (a ∷ []) z
     step_before {m} laws = gathers_before (keeps m) laws (λ x y k. k)
 
   module _ (lent : R → List ℕ) where
-    -- where the vector has no room after a run that was pending it had none before
+    -- A vector that lacks room after a run that was pending lacked it before that run.
     pub lacks_sooner : (x y z : ReadUntilFuture R) → UntilStays x y → UntilLacksRoom lent y z → UntilLacksRoom lent x z
     lacks_sooner x y z s full = let here = rw s.byte at full in omega (arith, s.room, here)
 
@@ -73,7 +73,7 @@ module _ {R : Type 0} where
       pub until_room_laws : MarkLaws reads → FutureLaws (ReadsUntilByRoom reads lent)
       until_room_laws = room_laws until_room
 
-      -- memory may be refused then
+      -- A run in which an allocation fails only if the vector lacked room is one in which it may fail at any time.
       pub until_any : (x y : ReadUntilFuture R) (l : List (Poll (Result ℕ Error))) → ReadsUntilByRoom reads lent x l y
           → ReadsUntil reads ⊤ x l y
       until_any x y l h =

@@ -1,4 +1,4 @@
--- Where memory may be refused in fewer cases the same marks are made into the same answers.
+-- A fold that lets allocations fail in more cases makes at least the same results.
 use Rattle.std.specs.Prelude.{ℕ, List, [], ◌∷◌, Result, Err}
 use Rattle.lite_read.specs.Uses.{inl, inr, FoldsTo, Error, Poll, Ready, Pending, Waiting, Runs, ReadMark}
 use Rattle.lite_read.specs.Pieces.{Cut, CutsPiece, pieces}
@@ -7,13 +7,13 @@ use Rattle.lite_read.specs.ReadFold.{AnswerMarks, Gathers, LastMarks, PieceSegme
 use Rattle.lite_read.specs.ReadToEnd.{Appended, appends_where}
 use Rattle.lite_read.specs.Texts.{in_text}
 
--- all that `fold` makes of marks is made of them by `more` too
+-- `more` allows everything that `fold` allows: the bytes consumed, the reads, and the values.
 pub record Weaker {M R : Type 0} (fold more : ReadFold M R) : Type 0 where
   pub takes : (p q : M) (b : ℕ) → fold.takes p b q → more.takes p b q
   pub asks : (p : M) → fold.asks p → more.asks p
   pub gives : (p q : M) (l : List ReadMark) (v : R) → fold.gives p l v q → more.gives p l v q
 
--- all that `fold` takes in is taken in by `more` too, before there is a value
+-- `more` consumes each byte that `fold` consumes, and reads on whenever `fold` does. Nothing is said of values.
 pub record Waits {M R : Type 0} (fold more : ReadFold M R) : Type 0 where
   pub takes : (p q : M) (b : ℕ) → fold.takes p b q → more.takes p b q
   pub asks : (p : M) → fold.asks p → more.asks p
@@ -50,7 +50,7 @@ module _ {M R : Type 0} {fold more : ReadFold M R} (w : Weaker fold more) where
   segmented_weaker reads s t p q l h =
       record { marks = h.marks; came = h.came; cut = segments_weaker p q h.marks l h.cut }
 
--- answers that are all pending
+-- Poll results that are all `Pending` are also those of `more`.
 module _ {M R : Type 0} {fold more : ReadFold M R} (w : Waits fold more) where
   waiting_alike : (p q : M) (i : List ReadMark) (l : List (Poll R)) → Waiting l → PieceSegments fold p i l q
       → PieceSegments more p i l q
@@ -75,7 +75,7 @@ module _ {M R : Type 0} {fold more : ReadFold M R} (w : Waits fold more) where
 
 module _ {X S M R : Type 0} {reader : X → S} {held : X → M} {fold more : X → ReadFold M R} {Keeps : X → X → Type 0}
     {reads : Runs ReadMark S} where
-  -- a run of a future
+  -- Each run of a future by `fold` is one by `more`.
   pub gathers_weaker : ((x : X) → Weaker (fold x) (more x)) → (x y : X) (l : List (Poll R))
       → Gathers reader held fold Keeps reads x l y → Gathers reader held more Keeps reads x l y
   gathers_weaker w x y l h =
@@ -86,7 +86,7 @@ module _ {X S M R : Type 0} {reader : X → S} {held : X → M} {fold more : X �
         idle = h.idle;
       }
 
-  -- one that was pending throughout
+  -- Each run by `fold` that is pending throughout is one by `more`.
   pub gathers_waiting : ((x : X) → Waits (fold x) (more x)) → (x y : X) (l : List (Poll R)) → Waiting l
       → Gathers reader held fold Keeps reads x l y → Gathers reader held more Keeps reads x l y
   gathers_waiting w x y l v h =
@@ -97,7 +97,7 @@ module _ {X S M R : Type 0} {reader : X → S} {held : X → M} {fold more : X �
         idle = h.idle;
       }
 
-  -- a step that goes on
+  -- Each step that does not yet return is also one by `more`.
   pub takes_alike : ((x : X) (p q : M) (b : ℕ) → (fold x).takes p b q → (more x).takes p b q) → (x y : X)
       → TakesBytes reader held fold Keeps reads x y → TakesBytes reader held more Keeps reads x y
   takes_alike each x y t =
@@ -109,7 +109,7 @@ module _ {X S M R : Type 0} {reader : X → S} {held : X → M} {fold more : X �
         stays = t.stays;
       }
 
--- what is cut into pieces
+-- A fold of pieces allows more if its allocations may fail in more cases.
 module _ {R : Type 0} (byte : ℕ) (m n : List ℕ → Type 0) (becomes : Cut → List ℕ → R → List ℕ → Type 0)
     (more : (held : List ℕ) → m held → n held) where
   cut_weaker : (held : List ℕ) (l : List ReadMark) (cut : Cut) → CutsPiece byte (m held) held l cut
@@ -126,7 +126,7 @@ module _ {R : Type 0} (byte : ℕ) (m n : List ℕ → Type 0) (becomes : Cut �
         gives = λ p q l v h. (h.0, cut_weaker p l h.0 h.1, h.2);
       }
 
--- what is appended
+-- A fold that appends allows more if its allocations may fail in more cases.
 module _ (start : ℕ) (m n : List ℕ → Type 0) (more : (held : List ℕ) → m held → n held) where
   appended_weaker : (g : List ℕ) (l : List ReadMark) (v : Result ℕ Error) → Appended (m g) start g l v
       → Appended (n g) start g l v
@@ -141,7 +141,7 @@ module _ (start : ℕ) (m n : List ℕ → Type 0) (more : (held : List ℕ) →
         gives = λ p q l v h. (appended_weaker p l v h.0, h.1);
       }
 
--- what goes into a text
+-- If `more` allows everything that `fold` allows, the same holds of their reads into a text.
 pub text_weaker : (fold more : ReadFold (List ℕ) (Result ℕ Error)) → Weaker fold more
     → Weaker (in_text fold) (in_text more)
 text_weaker fold more w =

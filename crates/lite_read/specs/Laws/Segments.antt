@@ -1,4 +1,4 @@
--- Laws of streams over what a reader tells.
+-- Laws of streams over a reader.
 use Rattle.std.specs.Prelude.{ℕ, List, [], ◌∷◌, ◌++◌, Option}
 use Rattle.lite_read.specs.Uses.{◌∙◌, refl, FoldsTo, Poll, Reaches, segments_join, StreamLaws, NoHint, Runs, Ranks, ReadCounting, ReadMark, bytes, MarkLaws}
 use Rattle.lite_read.specs.ReadFold.{ReadFold}
@@ -44,7 +44,7 @@ module _ {X S M K R : Type 0} (over : StreamOver X S M K) (fold : K → ReadFold
           idle = idle_join x y z l m h.idle k.idle;
         }
 
-    -- a step before others
+    -- A step that does not yet return, followed by a poll result, is one run with that result.
     pub step_before : (a : Poll R) → TakesPieceIn over fold reads x y → Flows over fold reads y (a ∷ []) z
         → Flows over fold reads x (a ∷ []) z
     step_before a t h =
@@ -57,7 +57,7 @@ module _ {X S M K R : Type 0} (over : StreamOver X S M K) (fold : K → ReadFold
 
 module _ {X S M K A : Type 0} (over : StreamOver X S M K) (fold : K → ReadFold M (Option A)) {reads : Runs ReadMark S}
     (laws : MarkLaws reads) where
-  -- a stream whose hint is no bound
+  -- The laws of such a stream, whose size hint is `(0, None)`.
   pub flow_laws : StreamLaws (Flows over fold reads) NoHint
   flow_laws =
       record {
@@ -71,7 +71,7 @@ module _ {X S M K A : Type 0} (over : StreamOver X S M K) (fold : K → ReadFold
         bounded = λ x y hint l allowed h. rw allowed tt;
       }
 
-  -- what holds of a reader through its runs holds after a run of the stream
+  -- What each run of the reader keeps true of it is true after a run of the stream.
   pub flow_keeps : (P : S → Type 0) → ((s t : S) (l : List ReadMark) → P s → reads s l t → P t)
       → (x y : X) (l : List (Poll (Option A))) → P (over.reader x)
       → Flows over fold reads x l y → P (over.reader y)
@@ -79,12 +79,12 @@ module _ {X S M K A : Type 0} (over : StreamOver X S M K) (fold : K → ReadFold
 
 module _ {X S M K A : Type 0} {over : StreamOver X S M K} {fold : K → ReadFold M (Option A)} {reads : Runs ReadMark S}
     (laws : MarkLaws reads) {x z : X} {a : Poll (Option A)} where
-  -- an answer after some steps
+  -- Steps that do not yet return, followed by a poll result, are one run with that result.
   pub flow_ran : (y : X) × Reaches (TakesPieceIn over fold reads) x y × Flows over fold reads y (a ∷ []) z
       → Flows over fold reads x (a ∷ []) z
   flow_ran = steps_answer (step_before over fold laws)
 
-  -- leaves a reader that counts
+  -- They leave a reader whose rank counts.
   pub flow_on : {r : Ranks S} → ReadCounting reads r → r.counts (over.reader x)
       → (y : X) × Reaches (TakesPieceIn over fold reads) x y × Flows over fold reads y (a ∷ []) z
       → r.counts (over.reader z)

@@ -1,4 +1,4 @@
--- `bytes` is steady over a steady reader.
+-- `bytes` is steady over a steady reader: its results do not depend on when the reader was pending.
 use Rattle.std.specs.Prelude.{◌≡◌, ◌⊎◌, ℕ, List, [], ◌∷◌, Option, Some, None, Result, Ok, Err}
 use Rattle.lite_read.specs.Uses.{◌∙◌, inl, inr, refl, sym, subst, error_kind, Error, ErrorKind, Interrupted, Ready, Pending, OptionBy, Sameness, Answer}
 use Rattle.lite_read.specs.Uses.{Comparable, ComparableBy, strip, comparable_nil, SteadyLawsBy, runs_of, Runs, ReadMark, SteadyReadLaws, strip_marks}
@@ -7,11 +7,11 @@ use Rattle.lite_read.specs.Laws.Bytes.{bytes_laws}
 use Rattle.lite_read.specs.Deterministic.{SameByKind}
 use Rattle.lite_read.specs.declared.bytes.Bytes.{Bytes}
 
--- what one ready answer of a stream of bytes is: a byte, an error or an end
+-- What a poll result of `bytes` holds if it is ready: a byte, an error, or `None` at the end.
 abbrev ByteItem : Type 0
 ByteItem = Option (Result ℕ Error)
 
--- an error of this kind is an item, and others stand behind it
+-- The list begins with an error of this kind, which is not `Interrupted`, and `rest` is true of the items after it.
 record FailsHere (kind : ErrorKind) (rest : List ByteItem → Type 0) (l : List ByteItem) : Type 0 where
   pub error : Error
   pub is : error_kind error ≡ kind
@@ -20,7 +20,8 @@ record FailsHere (kind : ErrorKind) (rest : List ByteItem → Type 0) (l : List 
   pub cut : l ≡ Some (Err error) ∷ after
   pub more : rest after
 
--- the answers of a tale without pendings: each mark is one, but an interruption is none
+-- The results of `bytes` over a tale without `Pending`s: each mark is one result, except that an interruption, which is
+-- `Pending`, is none.
 abbrev TaleAnswers : List ReadMark → List ByteItem → Type 0
 TaleAnswers [] l = l ≡ []
 TaleAnswers (ReadMark.byte b ∷ ms) l = (after : List ByteItem) × (l ≡ Some (Ok b) ∷ after) × TaleAnswers ms after
@@ -40,11 +41,11 @@ said [] (a ∷ l) h = absurd h
 said (m ∷ i) [] h = absurd h
 said _ _ h = absurd h.0
 
--- two lists of ready answers of bytes are the same, errors by their kinds, as far as both go
+-- One of two lists of results of `bytes` is a prefix of the other, with errors compared by their kinds.
 abbrev SameBytes : List ByteItem → List ByteItem → Type 0
 SameBytes = ComparableBy (OptionBy SameByKind)
 
--- an error comes first in both tales, where the rest of both says the same
+-- If both tales begin with one error, the results are the same when those of the rest are.
 module _ (kind : ErrorKind) (i j : List ReadMark) (l m : List ByteItem) where
   both_fail : TaleAnswers (ReadMark.fault kind ∷ i) l → TaleAnswers (ReadMark.fault kind ∷ j) m
       → ((l m : List ByteItem) → TaleAnswers i l → TaleAnswers j m → SameBytes l m) → SameBytes l m
@@ -53,7 +54,7 @@ module _ (kind : ErrorKind) (i j : List ReadMark) (l m : List ByteItem) where
   both_fail (inr h) (inl k) rest = absurd (h.heard k.0)
   both_fail (inr h) (inr k) rest = rw (h.cut, k.cut) (h.is ∙ sym k.is, rest h.after k.after h.more k.more)
 
--- two tales that begin one another say the same
+-- If one of two tales is a prefix of the other, their results are the same as far as both go.
 say_same : (i j : List ReadMark) (l m : List ByteItem) → TaleAnswers i l → TaleAnswers j m → Comparable i j
     → SameBytes l m
 say_same [] j l m h k c = rw h tt

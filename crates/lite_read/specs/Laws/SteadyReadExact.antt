@@ -30,7 +30,7 @@ fills_deterministic =
     deterministic_by fills (λ g. length g.0 ≡ g.1) (λ p q r b h k. h.1 ∙ sym k.1) (λ p r b h full. omega arith)
     (λ p q l v h. given_by p l v h.0) (λ p q r l v w h k. (one_value p l v w h.0 k.0, h.1 ∙ sym k.1))
 
--- two that have gathered the same, over readers that are alike
+-- Two `read_exact` futures have read equal bytes, into buffers of one length, over readers that are alike.
 abbrev pub ExactAlike : {R : Type 0} → (R → R → Type 0) → ReadExactFuture R → ReadExactFuture R → Type 0
 ExactAlike alike x y = alike x.reader.now y.reader.now × (filling_of x ≡ filling_of y)
 

@@ -1,4 +1,4 @@
--- `read_to_end` is steady over a steady reader, where memory was found, and calm over a calm one.
+-- `read_to_end` is steady over a steady reader if no allocation fails, and calm over a calm one.
 use Rattle.std.specs.Prelude.{◌≡◌, ℕ, List, [], ◌∷◌, Result, Ok, Err}
 use Rattle.lite_read.specs.Uses.{◌∙◌, sym, ap, arith, Error, Sameness, FutureSteadyLawsBy, Runs, ReadMark, SteadyReadLaws}
 use Rattle.lite_read.specs.Laws.ReadToEnd.{append_laws}
@@ -30,11 +30,11 @@ appends_deterministic start =
     (λ p q r l v w h k. (one_value start p l v w h.0 k.0, h.1 ∙ sym k.1))
 
 module _ {R A : Type 0} where
-  -- the bytes that stand in the vector
+  -- All bytes in the vector of a `read_to_end` future.
   abbrev bytes_held : ReadToEndFuture R A → List ℕ
   bytes_held x = x.buf.now.items
 
-  -- two over equal bytes that began at one place, over readers that are alike
+  -- Two `read_to_end` futures have equal bytes in their vectors and one `start`, over readers that are alike.
   abbrev pub ToEndAlike : (R → R → Type 0) → ReadToEndFuture R A → ReadToEndFuture R A → Type 0
   ToEndAlike alike x y = alike x.reader.now y.reader.now × (bytes_held x ≡ bytes_held y) × (x.start ≡ y.start)
 

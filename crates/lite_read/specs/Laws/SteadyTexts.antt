@@ -1,4 +1,4 @@
--- What reads for a text is steady over a steady reader, where memory was found, and calm over a calm one.
+-- The futures that read into a text are steady over a steady reader if no allocation fails, and calm over a calm one.
 use Rattle.std.specs.Prelude.{◌≡◌, ℕ, List, Result}
 use Rattle.lite_read.specs.Uses.{refl, Error, Sameness, FutureSteadyLawsBy, Runs, ReadMark, SteadyReadLaws}
 use Rattle.lite_read.specs.ReadFold.{ReadFold}
@@ -10,7 +10,7 @@ use Rattle.lite_read.specs.Laws.Texts.{text_laws}
 use Rattle.lite_read.specs.Texts.{ReadsText, ReadsTextByRoom, reading}
 
 module _ {X R A : Type 0} (over : TextOver X R A) where
-  -- two that have read equal bytes, for equal texts, over readers that are alike
+  -- Two futures have read equal bytes, for texts with equal bytes, over readers that are alike.
   abbrev pub TextAlike : (R → R → Type 0) → X → X → Type 0
   TextAlike alike x y = alike (over.reader x).now (over.reader y).now × (reading over x ≡ reading over y)
 

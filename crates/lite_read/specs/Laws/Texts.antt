@@ -1,4 +1,4 @@
--- Laws of futures that read for a text.
+-- Laws of futures that read into a text.
 use Rattle.std.specs.Prelude.{◌≡◌, ◌+◌, ◌-◌, ℕ, List, [], ◌∷◌, Result, ⊤, string_bytes}
 use Rattle.lite_read.specs.Uses.{refl, ap, arith, FoldsTo, Error, Poll, FutureLaws, Runs, ReadMark, MarkLaws, lent_still}
 use Rattle.lite_read.specs.ReadFold.{ReadFold}
@@ -13,7 +13,7 @@ use Rattle.lite_read.specs.declared.read_to_string.ReadToStringFuture.{ReadToStr
 use Rattle.lite_read.specs.Texts.{ReadsText, ReadsTextByRoom, in_text, reading}
 use Rattle.lite_read.specs.TextSteps.{AnswersText, TakesTextIn}
 
--- bytes that are taken in leave the text
+-- Bytes that the fold consumes leave the text unchanged.
 pub folds_in : (fold : ReadFold (List ℕ) (Result ℕ Error)) (text p q xs : List ℕ) → FoldsTo fold.takes p xs q
     → FoldsTo (in_text fold).takes (record { read = p; text = text }) xs (record { read = q; text = text })
 folds_in fold text p q [] h = rw h
@@ -37,7 +37,7 @@ module _ {X R A : Type 0} (over : TextOver X R A) where
     pub text_laws : FutureLaws (ReadsText over fold reads)
     text_laws = gathers_laws (keeps fold) laws
 
-    -- a step before others
+    -- A step that does not yet return, followed by a poll result, is one run with that result.
     pub step_before : (x y z : X) (a : Poll (Result ℕ Error)) → TakesTextIn over fold reads x y
         → AnswersText over fold reads y a z
         → AnswersText over fold reads x a z
@@ -56,7 +56,7 @@ module _ {X R A : Type 0} (over : TextOver X R A) where
           h.1,
         )
 
--- what is read in one way, whatever memory may be refused
+-- A family of folds, one for each condition under which an allocation may fail, that differ in nothing else.
 pub record ReadsAlike (fold : (List ℕ → Type 0) → ReadFold (List ℕ) (Result ℕ Error)) : Type 1 where
   pub weaker : (m n : List ℕ → Type 0) → ((read : List ℕ) → m read → n read) → Weaker (fold m) (fold n)
   pub takes : (m n : List ℕ → Type 0) (p q : List ℕ) (b : ℕ) → (fold m).takes p b q → (fold n).takes p b q
@@ -69,7 +69,8 @@ module _ {X R A : Type 0} {over : TextOver X R A} {fold : (List ℕ → Type 0) 
   text_weaker_run alike m n more =
       gathers_weaker (λ v. text_weaker (fold m) (fold n) (alike.weaker m n more))
 
--- what a future that reads for its text meets, by which it is known when memory may be refused
+-- What the laws of a read into a text need if an allocation fails only when room was lacking. The folds differ only in
+-- that, `grows` is reflexive and transitive, and room that is lacking later was lacking before.
 pub record TextRoom {X R A : Type 0} (over : TextOver X R A)
     (fold : (List ℕ → Type 0) → ReadFold (List ℕ) (Result ℕ Error)) (lacks : X → X → List ℕ → Type 0) : Type 1 where
   pub alike : ReadsAlike fold
@@ -96,13 +97,13 @@ module _ {X R A : Type 0} {over : TextOver X R A} {fold : (List ℕ → Type 0) 
   pub text_room_laws : {reads : Runs ReadMark R} → MarkLaws reads → FutureLaws (ReadsTextByRoom over fold lacks reads)
   text_room_laws = room_laws text_room
 
-  -- memory may be refused then
+  -- A run in which an allocation fails only if room was lacking is one in which it may fail at any time.
   pub text_any : {reads : Runs ReadMark R} (x y : X) (l : List (Poll (Result ℕ Error)))
       → ReadsTextByRoom over fold lacks reads x l y
       → ReadsText over (fold (λ read. ⊤)) reads x l y
   text_any x y l h = text_weaker_run r.alike (lacks x y) (λ read. ⊤) (λ read full. tt) x y l h.gathered
 
--- the two folds
+-- The folds of `read_line` and `read_to_string` are such families.
 pub line_alike : ReadsAlike read_line_fold
 line_alike =
     record {

@@ -1,4 +1,4 @@
--- One write, one flush and one close are calm over a calm writer.
+-- The futures of one write, one flush and one close are calm over a calm writer.
 use Rattle.lite_write.specs.Uses.{CalmLaws, Runs, CalmWriteLaws, WriteMark, calls_calm, PolledByCalls}
 use Rattle.lite_write.specs.Close.{Closes}
 use Rattle.lite_write.specs.Flush.{Flushes}

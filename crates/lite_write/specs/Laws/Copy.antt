@@ -9,7 +9,7 @@ use Rattle.lite_write.specs.MarkLists.{BytesAlone, TakesSome, TakesUpTo, TellsUp
 use Rattle.lite_write.specs.MarkLists.{is_told_wait}
 use Rattle.lite_write.specs.declared.copy.CopyFuture.{CopyFuture}
 
--- the value of a copy: how many bytes, or an error
+-- The value of a `copy`: the number of bytes, or an error.
 abbrev pub CopyResult : Type 0
 CopyResult = Result ℕ Error
 
@@ -57,7 +57,7 @@ copied_none p a n =
       value = tt;
     }
 
--- what comes after answers that were all Pending
+-- What a copy does after polls that were all pending joins with them.
 module _ (p q r : List ℕ) (a b c : List ReadMark) (i j : List ReadMark) (s t : List WriteMark)
     (l m : List (Poll CopyResult)) (n k : ℕ) (w : Waiting l)
     (h : Copied p a i s l q b n) (g : Copied q b j t m r c k) where
@@ -155,7 +155,7 @@ module _ {R W : Type 0} where
           once = λ x y l h. up_to_once l h.moves.copied.once;
         }
 
-    -- the steps of a poll
+    -- Steps that do not yet return, followed by a poll result, are one run with that result.
     pub copy_answer : (x y z : CopyFuture R W) (a : Poll CopyResult) → Reaches (CopiesSome reads writes) x y
         → Moves reads writes y (a ∷ []) z
         → CopyRuns reads writes x (a ∷ []) z
@@ -165,7 +165,7 @@ module _ {R W : Type 0} where
         goes last in
         record { moves = all; idle = λ e. cc e }
 
-  -- a step that goes on took bytes from the buffer
+  -- A step that does not yet return consumes bytes from the buffer.
   pub some_given : {reads : Runs ReadMark R} {writes : Runs WriteMark W} (x y : CopyFuture R W)
       → CopiesSome reads writes x y
       → GivenRun (ThroughBuffer reads) x.reader y.reader

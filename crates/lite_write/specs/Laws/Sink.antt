@@ -21,7 +21,7 @@ module _ (x y : Sink) where
   no_pending (WriteMark.fault kind ∷ l) h = absurd h
   no_pending (_ ∷ l) h = no_pending l h
 
--- nothing is kept
+-- A sink keeps no byte.
 pub sinks_steady : SteadyWriteLaws Sinks (λ x y. ⊤) (λ x. [])
 sinks_steady = record { steady = λ x y x' y' l m e h k a b f g same. (refl, tt) }
 

@@ -1,5 +1,5 @@
--- `copy` gives one value wherever its reader and its writer were pending, where no write fails, and is pending only
--- where one of them is.
+-- The value of `copy` does not depend on when its reader and its writer were pending, if no write fails. It is pending
+-- only when one of them is.
 use Rattle.std.specs.Prelude.{⊤, IsOk, ◌≡◌, ◌+◌, ◌%◌, ◌^◌, ℕ, List, [], ◌∷◌, ◌++◌, Ok, Err, length}
 use Rattle.lite_write.specs.Uses.{◌∙◌, refl, ap, sym, arith, append-nil, length-append, error_kind, Error, Poll, Comparable, ComparableBy, strip, CalmLaws}
 use Rattle.lite_write.specs.Uses.{Finishes, gives_strip, none_no_pending, Sameness, FutureSteadyLawsBy, Runs, comparable_behind, strip_marks-append, ReadMark}
@@ -15,14 +15,14 @@ use Rattle.lite_write.specs.declared.copy.CopyFuture.{CopyFuture}
 use Rattle.lite_write.specs.declared.copy.Phase.{Phase}
 use Rattle.lite_write.specs.declared.copy.Phase.TheVariants.{Copying, Flushing}
 
--- bytes and pendings, without the pendings
+-- Bytes and `Pending`s, without the `Pending`s, are the bytes.
 goes_stripped : (l : List ReadMark) → BytesAlone l → strip_marks l ≡ bytes (bytes_told l)
 goes_stripped [] g = refl
 goes_stripped (ReadMark.byte b ∷ l) g = rw (goes_stripped l g)
 goes_stripped (ReadMark.pending ∷ l) g = goes_stripped l g
 goes_stripped (_ ∷ l) g = absurd g
 
--- the mark at which the value stops: an end, or an error
+-- The reader's mark that produces a value: end of file for `Ok`, and the error for `Err`.
 abbrev stop_of : CopyResult → ReadMark
 stop_of (Ok n) = ReadMark.end
 stop_of (Err e) = ReadMark.fault (error_kind e)
@@ -31,7 +31,7 @@ stops_not : (v : CopyResult) (x : ℕ) → stop_of v ≡ ReadMark.byte x → ⊥
 stops_not (Ok n) x e = cc
 stops_not (Err e) x h = cc
 
--- two tales of some bytes and then a stop, of which one begins the other
+-- If two tales are bytes and then such a mark, and one is a prefix of the other, they are equal.
 one_stop : (v w : CopyResult) (xs ys : List ℕ)
     → Comparable (bytes xs ++ stop_of v ∷ []) (bytes ys ++ stop_of w ∷ []) → (xs ≡ ys) × (stop_of v ≡ stop_of w)
 one_stop v w [] [] c = (refl, c.0)
@@ -42,12 +42,12 @@ one_stop v w (x ∷ xs) (y ∷ ys) c =
     let same : x ≡ y = cc c.0 in
     (rw (same, rest.0), rest.1)
 
--- how many bytes a value of Ok counts
+-- An `Ok` value counts the bytes read before and the bytes `xs`, modulo 2^64. Of an error nothing is said.
 abbrev OkCounts : CopyResult → ℕ → List ℕ → Type 0
 OkCounts (Ok n) held xs = n ≡ (held + length xs) % 2 ^ 64
 OkCounts (Err e) held xs = ⊤
 
--- what the value says of the tale: all bytes up to its stop
+-- The tale without its `Pending`s is some bytes and then the mark of this value, and an `Ok` counts these bytes.
 abbrev TaleOfValue : CopyResult → ℕ → List ReadMark → Type 0
 TaleOfValue v held tale = (xs : List ℕ) × (strip_marks tale ≡ bytes xs ++ stop_of v ∷ []) × OkCounts v held xs
 
@@ -66,7 +66,7 @@ no_bytes : (phase : Phase) → bytes_told (met_in phase) ≡ []
 no_bytes Copying = refl
 no_bytes Flushing = refl
 
--- the one value, if there is one, says so
+-- At most one value is given, and `TaleOfValue` holds of it.
 abbrev AllTold : List CopyResult → ℕ → List ReadMark → Type 0
 AllTold [] held tale = ⊤
 AllTold (v ∷ l) held tale = TaleOfValue v held tale × (l ≡ [])
@@ -76,7 +76,7 @@ stopped : (read tale : List ReadMark) (v : CopyResult) → BytesAlone read → t
 stopped read tale (Ok n) on cut = rw (cut, strip_marks-append, goes_stripped read on)
 stopped read tale (Err e) on cut = rw (cut, strip_marks-append, goes_stripped read on)
 
--- an error where no write failed is one of the reader
+-- If no write failed, an error is one of the reader.
 reader_failed : (e : Error) (fault : List ReadMark) (last : List WriteMark) (after : List ℕ) (met : List ReadMark)
     (total : ℕ) → NoFailure last
     → CopyValue (Err e ∷ []) fault last after met total → (fault ≡ ReadMark.fault (error_kind e) ∷ []) × (met ≡ [])
@@ -96,27 +96,28 @@ taken_no_pending (WriteMark.pending ∷ l) n = absurd n
 taken_no_pending (_ ∷ l) n = taken_no_pending l n
 
 module _ {R W : Type 0} where
-  -- they hold the same, met an end or not, and counted the same, over readers that are alike
+  -- Two copies have equal bytes read and not yet written, equal amounts, and both have met end of file or neither has,
+  -- over readers that are alike.
   abbrev pub CopyAlike : (R → R → Type 0) → CopyFuture R W → CopyFuture R W → Type 0
   CopyAlike alike x y = alike (source_of x) (source_of y) × (held_of x ≡ held_of y) × (met_in x.phase ≡ met_in y.phase)
       × (x.amount ≡ y.amount)
 
-  -- what the reader told in all: an end that was met before, and then this
+  -- The reader's whole tale: the end of file if it was met before, and then these marks.
   abbrev tale_of : CopyFuture R W → List ReadMark → List ReadMark
   tale_of x told = met_in x.phase ++ told
 
-  -- how many bytes were read before: those that were written and those that are held
+  -- How many bytes were read before: those written and those still held.
   abbrev before_of : CopyFuture R W → ℕ
   before_of x = x.amount + length (held_of x)
 
   module _ {reads : Runs ReadMark R} {writes : Runs WriteMark W} (x y : CopyFuture R W)
       (out : List (Poll CopyResult))
       (h : Moves reads (WithoutFailure writes) x out y) where
-    -- what the reader told
+    -- The bytes and `Pending`s of the reader.
     abbrev read : List ReadMark
     read = h.copied.reading.read
 
-    -- all that was told is held, or was taken
+    -- If no byte is held, the writer took all bytes held before and all that the reader produced.
     taken_all : held_of y ≡ [] → read ++ (met_in y.phase ++ h.copied.failed) ≡ read ++ ReadMark.end ∷ []
         → bytes_taken h.took ≡ held_of x ++ bytes_told read
     taken_all empty end =
@@ -165,7 +166,7 @@ all_same : (l m : List CopyResult) (held : ℕ) (i j : List ReadMark) → AllTol
 all_same (v ∷ l) (w ∷ m) held i j h g c = rw h.1 (same_told v w held i j h.0 g.0 c, tt)
 all_same _ _ held i j h g c = tt
 
--- what is copied of other runs by the same marks
+-- What a copy does holds for other relations of the reader and the writer that allow the same marks.
 moves_by : {R W : Type 0} {reads ample : Runs ReadMark R} {writes wins : Runs WriteMark W} {x y : CopyFuture R W}
     {out : List (Poll CopyResult)} (m : Moves reads writes x out y) → ample (source_of x) m.told (source_of y)
     → wins x.writer m.took y.writer → Moves ample wins x out y
@@ -228,7 +229,7 @@ takes_without_failure (WriteMark.wrote (x ∷ xs) ∷ l) h = takes_without_failu
 takes_without_failure (WriteMark.pending ∷ l) h = takes_without_failure l h
 takes_without_failure (_ ∷ l) h = absurd h
 
--- where the value is Ok, a flush came last
+-- If the value is `Ok`, the last mark is a flush, so it is no failure.
 last_no_failure : (v : CopyResult) (fault : List ReadMark) (last : List WriteMark) (after : List ℕ)
     (met : List ReadMark) (total : ℕ) → IsOk v
     → CopyValue (v ∷ []) fault last after met total → NoFailure last
@@ -237,7 +238,7 @@ last_no_failure (Err e) fault last after met total ok h = cc
 
 module _ {R W : Type 0} {reads ample : Runs ReadMark R} {writes : Runs WriteMark W}
     (found : TakesNone reads ample) where
-  -- where the value is Ok no write failed
+  -- If the value is `Ok`, no write failed.
   pub ok_no_failure : (x : CopyFuture R W) (l : List (Poll CopyResult)) (v : CopyResult) → IsOk v
       → Finishes (CopyRuns reads writes) x l v
       → Finishes (CopyRuns ample (WithoutFailure writes)) x l v

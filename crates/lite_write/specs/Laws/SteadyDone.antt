@@ -1,4 +1,4 @@
--- `flush` and `close` give Ok, where their writer does not fail.
+-- `flush` and `close` return `Ok` if their writer does not fail.
 use Rattle.std.specs.Prelude.{◌≡◌, List, [], ◌∷◌, Ok, Err, ⊤}
 use Rattle.lite_write.specs.Uses.{refl, Poll, Ready, Pending, strip, FutureSteadyLaws, Runs, WriteMark, done_marks, polled_laws, PolledByCalls}
 use Rattle.lite_write.specs.Close.{Closes}
@@ -7,7 +7,7 @@ use Rattle.lite_write.specs.Laws.SteadyWriteAll.{AllOk, all_ok_same}
 use Rattle.lite_write.specs.Laws.WriteAll.{WriteAllResult}
 use Rattle.lite_write.specs.SteadyWriteAll.{NoFailure, NoneFails, WithoutFailure}
 
--- futures each poll of which is one call, of which those that prosper give Ok
+-- A future each poll of which is one call returns `Ok` if its calls without failure do.
 module _ {F : Type 0} (call without_failure : F → Poll WriteAllResult → F → Type 0) where
   values_ok : ((x y : F) (r : WriteAllResult) → without_failure x (Ready r) y → r ≡ Ok tt)
       → (x y : F) (l : List (Poll WriteAllResult)) → PolledByCalls without_failure x l y → AllOk (strip l)

@@ -1,4 +1,4 @@
--- `write_all` gives Ok in the end, where no write fails, and is pending only where its writer is.
+-- `write_all` returns `Ok` in the end if no write fails, and is pending only when its writer is.
 use Rattle.std.specs.Prelude.{◌≡◌, ℕ, List, [], ◌∷◌, ◌++◌, Ok, ⊤}
 use Rattle.lite_write.specs.Uses.{map, refl, subst, Poll, Ready, Pending, ComparableBy, strip, CalmLaws, NoPending, to_value_last, FutureSteadyLaws, Runs}
 use Rattle.lite_write.specs.Uses.{MarkLaws, never_waits_parts, CalmWriteLaws, NoPendingWrite, WriteMark}
@@ -13,7 +13,7 @@ no_failure_both (WriteMark.wrote [] ∷ l) m a b = absurd a
 no_failure_both (WriteMark.fault kind ∷ l) m a b = absurd a
 no_failure_both (_ ∷ l) m a b = no_failure_both l m a b
 
--- what stands behind
+-- If a list of marks has no failure, the marks at its end have none.
 pub no_failure_last : (l m : List WriteMark) → NoFailure (l ++ m) → NoFailure m
 no_failure_last [] m a = a
 no_failure_last (WriteMark.wrote [] ∷ l) m a = absurd a
@@ -27,7 +27,7 @@ without_failure_laws laws =
       follows = λ x y z l m h k. (laws.follows x y z l m h.0 k.0, no_failure_both l m h.1 k.1);
     }
 
--- no answer but Ok
+-- Each value is `Ok`.
 abbrev pub AllOk : List WriteAllResult → Type 0
 AllOk [] = ⊤
 AllOk (v ∷ l) = (v ≡ Ok tt) × AllOk l

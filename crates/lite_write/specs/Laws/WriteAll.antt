@@ -6,7 +6,7 @@ use Rattle.lite_write.specs.PollSteps.{WritesSome}
 use Rattle.lite_write.specs.WriteAll.{HandsMarks, WritesAll}
 use Rattle.lite_write.specs.declared.write_all.WriteAllFuture.{WriteAllFuture}
 
--- the value of a write of all bytes: nothing, or an error
+-- The value of `write_all`: `Ok` of nothing, or an error.
 abbrev pub WriteAllResult : Type 0
 WriteAllResult = Result (Unit {0}) Error
 
@@ -33,7 +33,7 @@ module _ {W : Type 0} where
           once = λ x y l h. up_to_once l h.handed.1;
         }
 
-    -- a step before others
+    -- A step that does not yet return, followed by a poll result, is one run with that result.
     pub step_before : (x y z : WriteAllFuture W) (a : Poll WriteAllResult) → WritesSome writes x y
         → WritesAll writes y (a ∷ []) z → WritesAll writes x (a ∷ []) z
     step_before x y z a t h =
@@ -51,7 +51,7 @@ module _ {W : Type 0} where
           idle = λ e. cc e;
         }
 
-  -- what is left falls
+  -- Each step leaves fewer bytes to be written.
   pub left_falls : {writes : Runs WriteMark W} (x y : WriteAllFuture W) → WritesSome writes x y
       → length y.buf.now < length x.buf.now
   left_falls x y t = omega (arith, ap length t.front ∙ length-append t.taken y.buf.now, t.some)

@@ -1,4 +1,4 @@
--- A `BufReader` with some capacity tells one tale where its reader does; it is never pending where its reader isn't.
+-- A `BufReader` with some capacity is steady over a steady reader, and calm over a calm one.
 use Rattle.std.specs.Prelude.{◌≡◌, ◌<◌, ℕ, zero, suc, List, ◌++◌}
 use Rattle.lite_buffered.specs.Uses.{Comparable, Runs, comparable_behind, comparable_fronts, no_wait_both, no_wait_bytes, no_wait_parts, strip_marks-append}
 use Rattle.lite_buffered.specs.Uses.{ReadMark, bytes, CalmReadLaws, NoPendingRead, SteadyReadLaws, strip_marks}
@@ -6,7 +6,8 @@ use Rattle.lite_buffered.specs.declared.buf_reader.BufReader.{BufReader}
 use Rattle.lite_buffered.specs.BufReader.{Padded, PassesBuffer, ThroughBuffer, ahead, reader_capacity}
 use Rattle.lite_buffered.specs.Laws.BufReader.{passes_some, through_laws}
 
--- with some capacity, pendings aside, what was ahead and what came in are what went out and what is ahead
+-- With some capacity, and without `Pending`s, the bytes ahead and the marks that came in are those passed on and the
+-- bytes ahead after.
 passes_apart : (n : ℕ) (p q : List ℕ) (came out : List ReadMark) → 0 < n → PassesBuffer n p came out q
     → strip_marks (bytes p) ++ strip_marks came ≡ strip_marks out ++ strip_marks (bytes q)
 passes_apart n p q came out some h =
@@ -24,7 +25,8 @@ passes_no_wait zero p q came out h w = padded_no_wait came out h.2 w
 passes_no_wait (suc n) p q came out h w =
     (no_wait_parts out (bytes q) (rw (← h) (no_wait_both (bytes p) came (no_wait_bytes p) w))).0
 
--- two with some capacity and the same bytes ahead, over readers that are alike
+-- Two `BufReader`s with some capacity have equal bytes ahead, over readers that are alike. With capacity 0, a fill
+-- looks like end of file, and so they would not be alike.
 abbrev pub AheadAlike : {R : Type 0} → (R → R → Type 0) → BufReader R → BufReader R → Type 0
 AheadAlike alike x y = (0 < reader_capacity x) × (0 < reader_capacity y) × (ahead x ≡ ahead y) × alike x.inner y.inner
 

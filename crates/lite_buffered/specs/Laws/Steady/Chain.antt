@@ -1,4 +1,4 @@
--- `chain` tells one tale where both of its readers do, and is never pending where neither is.
+-- `chain` is steady over steady readers, and calm over calm ones.
 use Rattle.std.specs.Prelude.{◌≡◌, Bool, true, false, List, [], ◌∷◌, ◌++◌}
 use Rattle.lite_buffered.specs.Uses.{refl, sym, Comparable, Runs, comparable_behind, comparable_none, comparable_swapped, no_wait_both, strip_marks-append}
 use Rattle.lite_buffered.specs.Uses.{ReadMark, CalmReadLaws, NoPendingRead, SteadyReadLaws, strip_marks}
@@ -12,13 +12,13 @@ stripped_no_end (ReadMark.pending ∷ l) h = stripped_no_end l h.1
 stripped_no_end (ReadMark.end ∷ l) h = absurd (h.0 refl)
 stripped_no_end (a ∷ l) h = (h.0, stripped_no_end l h.1)
 
--- what has no end stands before the end
+-- Marks without an end of file that agree with a list up to its end come before that end.
 past_end : (p q k : List ReadMark) → EndlessMarks q → Comparable (p ++ ReadMark.end ∷ []) q → Comparable (p ++ k) q
 past_end p [] k n c = comparable_none _
 past_end [] (b ∷ q) k n c = absurd (n.0 (sym c.0))
 past_end (a ∷ p) (b ∷ q) k n c = (c.0, past_end p q k n.1 c.1)
 
--- one end, one front
+-- If two lists without an end of file, each followed by one, agree, they are equal.
 same_end : (p q : List ReadMark) → EndlessMarks p → EndlessMarks q
     → Comparable (p ++ ReadMark.end ∷ []) (q ++ ReadMark.end ∷ []) → p ≡ q
 same_end [] [] n o c = refl
@@ -26,7 +26,7 @@ same_end [] (b ∷ q) n o c = absurd (o.0 (sym c.0))
 same_end (a ∷ p) [] n o c = absurd (n.0 c.0)
 same_end (a ∷ p) (b ∷ q) n o c = rw (c.0, same_end p q n.1 o.1 c.1)
 
--- two that are at one place, over readers that are alike
+-- Two chains have both ended their first reader or neither has, over readers that are alike.
 abbrev pub PlaceAlike : {R S : Type 0} → (R → R → Type 0) → (S → S → Type 0) → Chain R S → Chain R S → Type 0
 PlaceAlike alike1 alike2 x y = (x.has_ended ≡ y.has_ended) × alike1 x.first y.first × alike2 x.second y.second
 
@@ -34,12 +34,12 @@ module _ {R S : Type 0} {first : Runs ReadMark R} {second : Runs ReadMark S} whe
   module _ {ample1 : Runs ReadMark R} {ample2 : Runs ReadMark S} {none1 none2 : Type 0} {alike1 : R → R → Type 0}
       {alike2 : S → S → Type 0}
       (s : SteadyReadLaws first ample1 none1 alike1) (t : SteadyReadLaws second ample2 none2 alike2) where
-    -- what the first tells with its end
+    -- The first reader's marks together with its end of file are one run of it.
     whole : (x y : Chain R S) (l : List ReadMark) (h : ReadsAcross ample1 ample2 x l y)
         → ample1 x.first (h.before ++ ReadMark.end ∷ []) y.first
     whole x y l h = s.laws.follows x.first h.between y.first h.before (ReadMark.end ∷ []) h.first_ran h.first_ended
 
-    -- the second's marks come after an end, and so after what has none
+    -- The second reader's marks come after an end of file, and so after marks that have none.
     past_cut : (x x' : Chain R S) (l m : List ReadMark) (h : ReadsAcross ample1 ample2 x l x') → EndlessMarks m
         → Comparable (strip_marks (h.before ++ ReadMark.end ∷ [])) (strip_marks m)
         → Comparable (strip_marks l) (strip_marks m)

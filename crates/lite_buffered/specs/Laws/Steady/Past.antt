@@ -1,4 +1,4 @@
--- A `BufReader` as a writer is as steady and as calm as what it writes to.
+-- A `BufReader` is as steady and as calm a writer as its inner value.
 use Rattle.std.specs.Prelude.{ℕ, List}
 use Rattle.lite_buffered.specs.Uses.{Runs, calm_part, steady_write_part, CalmWriteLaws, SteadyWriteLaws, WriteMark}
 use Rattle.lite_buffered.specs.BufReader.{Past}

@@ -1,4 +1,4 @@
--- `repeat` tells one tale, and is never pending.
+-- `repeat` is steady and calm.
 use Rattle.std.specs.Prelude.{◌≡◌, List, [], ◌∷◌, ⊤}
 use Rattle.lite_buffered.specs.Uses.{◌∙◌, ap, sym, Comparable, comparable_stripped, steady_read_always, ReadMark, CalmReadLaws, NoPendingRead, SteadyReadLaws}
 use Rattle.lite_buffered.specs.declared.repeat.Repeat.{Repeat}

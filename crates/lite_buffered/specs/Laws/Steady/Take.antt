@@ -1,4 +1,4 @@
--- `take` tells one tale where its reader does, and is never pending where its reader isn't.
+-- `take` is steady over a steady reader, and calm over a calm one.
 use Rattle.std.specs.Prelude.{◌≡◌, ℕ, zero, suc, List, [], ◌∷◌, ◌++◌}
 use Rattle.lite_buffered.specs.Uses.{◌∙◌, refl, sym, subst, arith, Comparable, Runs, comparable_none, no_wait_both, strip_marks-append, ReadMark, CalmReadLaws}
 use Rattle.lite_buffered.specs.Uses.{NoPendingRead, SteadyReadLaws, strip_marks}
@@ -20,7 +20,7 @@ ends_alike : (r s : ℕ) (e d : List ReadMark) → LimitEnds r e → LimitEnds s
 ends_alike r s (a ∷ e) (b ∷ d) h k = (h.1 ∙ sym k.1, ends_alike r s e d h.2 k.2)
 ends_alike r s e d h k = tt
 
--- two fronts through one limit, with the ends behind them
+-- Marks that agree through one limit still agree with the ends of file behind them.
 fronts_alike : (n r s : ℕ) (p q e d : List ReadMark) → WithinLimit n p r → WithinLimit n q s → LimitEnds r e
     → LimitEnds s d → Comparable p q → Comparable (p ++ e) (q ++ d)
 fronts_alike n r s [] [] e d f g h k c = ends_alike r s e d h k
@@ -43,7 +43,7 @@ ends_no_wait : (rest : ℕ) (l : List ReadMark) → LimitEnds rest l → NoPendi
 ends_no_wait rest [] h = tt
 ends_no_wait rest (m ∷ l) h = rw h.1 (ends_no_wait rest l h.2)
 
--- two with one limit, over readers that are alike
+-- Two `take`s have one limit left, over readers that are alike.
 abbrev pub LimitAlike : {R : Type 0} → (R → R → Type 0) → Take R → Take R → Type 0
 LimitAlike alike x y = alike x.inner y.inner × (x.limit ≡ y.limit)
 
