@@ -21,7 +21,7 @@ pub trait SteadyStream: Stream {
     ghost alike: { Self → Self → Type 0 };
 
     /// Does nothing. The trait exists for its law.
-    fn is_steady(&self) {}
+    fn is_steady_stream(&self) {}
 
     ghost steady: { SteadyLawsBy same Self.run ample needs_none alike };
 }

@@ -18,6 +18,6 @@ use futures_lite::io::CountedRead;
 
 /// Asks for a rank by the bound alone, and hands the reader back.
 fn ranked<R: CountedRead>(reader: R) -> R {
-    reader.is_counted();
+    reader.is_counted_read();
     reader
 }

@@ -12,7 +12,7 @@ use lite_stream::make as stream;
 use std::test::Fail;
 
 fn steady<S: SteadyStream>(stream: &S) {
-    stream.is_steady();
+    stream.is_steady_stream();
 }
 
 fn calm<S: CalmStream>(stream: &S) {

@@ -7,7 +7,7 @@ use std::alloc::AllocError;
 use std::test::Fail;
 
 fn steady<S: SteadyStream>(stream: &S) {
-    stream.is_steady();
+    stream.is_steady_stream();
 }
 
 /// Asks for both marks of a stream.
