@@ -31,6 +31,8 @@ GROUPS = {
         "Readers and writers": ("lite_buffered", "lite_io_base"),
         "Reading": ("lite_read",),
         "Writing": ("lite_write",),
+        "Waiting for one call": ("lite_theorems/src/waits.rt",),
+        "Serving lines": ("lite_theorems/src/line_server.rt", "lite_theorems/src/serve_error.rt"),
         "Bridges to std": ("lite_bridge",),
         "Halves and journals": ("lite_halves",),
     },

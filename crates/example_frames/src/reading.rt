@@ -9,7 +9,7 @@ ghost use Rattle.example_frames.specs.Frames.{PartTold, StopsPart, frame};
 use crate::fault::FrameError;
 use futures_lite::AsyncRead;
 use futures_lite::future::BlockOn;
-use futures_lite::laws::{wait_read, wait_read_exact};
+use futures_lite::io::{wait_read, wait_read_exact};
 use std::alloc::Global;
 use std::io;
 use std::io::ErrorKind;

@@ -8,7 +8,7 @@ ghost use Rattle.example_frames.specs.declared.fault.FrameError.TheVariants.{Too
 use crate::fault::FrameError;
 use futures_lite::AsyncWrite;
 use futures_lite::future::BlockOn;
-use futures_lite::laws::wait_write_all;
+use futures_lite::io::wait_write_all;
 use std::alloc::AllocError;
 use std::io;
 use std::sync::Wait;

@@ -4,7 +4,7 @@ ghost use Rattle.std.specs.Char.{is_ascii_alphabetic};
 ghost use Rattle.std.specs.List.{list_all};
 ghost use Rattle.example_line_server.specs.Replies.{reply};
 
-use futures_lite::laws::LineService;
+use futures_lite::io::LineService;
 use std::alloc::AllocError;
 
 /// Says of each line whether it is a word.

@@ -9,7 +9,7 @@ use crate::number::number;
 use crate::sums::Sums;
 use crate::text::Text;
 use futures_lite::future::{BlockOn, block_on};
-use futures_lite::laws::{wait_flush, wait_write_all};
+use futures_lite::io::{wait_flush, wait_write_all};
 use futures_lite::stream::{OkCounted, TryCollectError, iter_vec};
 use futures_lite::{AsyncWrite, StreamExt};
 use std::alloc::AllocGlobal;

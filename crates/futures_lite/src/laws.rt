@@ -6,7 +6,6 @@ pub use lite_buffered::{counts_after_seek, keeps_order};
 pub use lite_io_base::{CalmRead, CalmWrite, SteadyRead, SteadyWrite};
 pub use lite_laws::{block_on_both, run, run_both, run_calm};
 pub use lite_theorems::{
-    CollectLinesFuture, LineService, ServeError, collect_buffered_lines, collect_lines, collect_or,
-    collect_race, copy_buffered, copy_chain, read_both, serve_lines, wait_flush, wait_read,
-    wait_read_exact, wait_read_until, wait_write_all, write_both,
+    CollectLinesFuture, collect_buffered_lines, collect_lines, collect_or, collect_race,
+    copy_buffered, copy_chain, read_both, write_both,
 };

@@ -24,7 +24,7 @@ pub trait LineService {
     /// # Examples
     ///
     /// ```
-    /// use futures_lite::laws::LineService;
+    /// use futures_lite::io::LineService;
     /// use std::alloc::AllocError;
     ///
     /// #[derive(Drop)]
@@ -60,7 +60,7 @@ pub trait LineService {
 ///
 /// ```
 /// use futures_lite::future::BlockOn;
-/// use futures_lite::laws::{LineService, serve_lines};
+/// use futures_lite::io::{LineService, serve_lines};
 /// use std::alloc::AllocError;
 ///
 /// #[derive(Drop)]

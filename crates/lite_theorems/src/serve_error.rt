@@ -8,7 +8,7 @@ use std::io;
 /// ```
 /// use futures_lite::future::BlockOn;
 /// use futures_lite::io::Cursor;
-/// use futures_lite::laws::{LineService, ServeError, serve_lines};
+/// use futures_lite::io::{LineService, ServeError, serve_lines};
 /// use std::alloc::AllocError;
 /// use std::io::ErrorKind;
 ///

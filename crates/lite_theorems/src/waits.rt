@@ -22,7 +22,7 @@ use std::sync::Wait;
 ///
 /// ```
 /// use futures_lite::future::BlockOn;
-/// use futures_lite::laws::wait_read;
+/// use futures_lite::io::wait_read;
 ///
 /// let mut on = BlockOn::new(&rt)?;
 /// let mut reader = b"abc".as_slice();
@@ -56,7 +56,7 @@ pub fn wait_read<R: Wait, T: AsyncRead>(
 ///
 /// ```
 /// use futures_lite::future::BlockOn;
-/// use futures_lite::laws::wait_read_exact;
+/// use futures_lite::io::wait_read_exact;
 /// use std::io::ErrorKind;
 ///
 /// let mut on = BlockOn::new(&rt)?;
@@ -93,7 +93,7 @@ pub fn wait_read_exact<R: Wait, T: AsyncRead>(
 ///
 /// ```
 /// use futures_lite::future::BlockOn;
-/// use futures_lite::laws::wait_read_until;
+/// use futures_lite::io::wait_read_until;
 ///
 /// let mut on = BlockOn::new(&rt)?;
 /// let mut reader = b"ab\nc".as_slice();
@@ -129,7 +129,7 @@ pub fn wait_read_until<R: Wait, T: AsyncBufRead + CountedRead>(
 ///
 /// ```
 /// use futures_lite::future::BlockOn;
-/// use futures_lite::laws::wait_write_all;
+/// use futures_lite::io::wait_write_all;
 ///
 /// let mut on = BlockOn::new(&rt)?;
 /// let mut written = Vec::new(rt.alloc());
@@ -160,7 +160,7 @@ pub fn wait_write_all<R: Wait, T: AsyncWrite>(
 /// ```
 /// use futures_lite::future::BlockOn;
 /// use futures_lite::io::BufWriter;
-/// use futures_lite::laws::{wait_flush, wait_write_all};
+/// use futures_lite::io::{wait_flush, wait_write_all};
 ///
 /// let mut on = BlockOn::new(&rt)?;
 /// let mut written = Vec::new(rt.alloc());
