@@ -1,7 +1,6 @@
 -- Copies from a reader to a writer: the bytes that were told and taken, and where pendings and errors stand.
 pub use Rattle.lite_base.specs.Future.AtEachOk.{AtEachOk}
-pub use Rattle.lite_write.specs.Copy.{Copied, CopyValue}
-pub use Rattle.lite_write.specs.Copying.{RegistersIn}
+pub use Rattle.lite_write.specs.Copy.{Copied, CopyValue, RegistersIn}
 pub use Rattle.lite_write.specs.MarkLists.{bytes_told, waits_told, waits_taken}
 pub use Rattle.lite_write.specs.Parts.{NothingCopied}
 pub use Rattle.lite_theorems.specs.Chained.{CopiesBoth, CopiesWhole, TakesWhole, TellsBoth, TellsRest, TellsWhole}

@@ -9,7 +9,6 @@ pub use Rattle.lite_io_base.specs.Steady.{CalmReadLaws, NoPendingRead, OneTale, 
 pub use Rattle.lite_buffered.specs.BufReader
 pub use Rattle.lite_buffered.specs.Budgeted
 pub use Rattle.lite_buffered.specs.Chain
-pub use Rattle.lite_buffered.specs.Chaining
 pub use Rattle.lite_buffered.specs.Repeat
 pub use Rattle.lite_buffered.specs.Take
 pub use Rattle.lite_bridge.specs.Cursor

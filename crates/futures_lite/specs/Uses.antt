@@ -5,7 +5,7 @@ pub use Rattle.lite_base.specs.Calling.{Calls}
 pub use Rattle.lite_base.specs.Future.Finishes.{Finishes}
 pub use Rattle.lite_buffered.specs.Budgeted.{budget_of, budgeted_inner, left_of}
 pub use Rattle.lite_buffered.specs.BufReader.{reader_capacity}
-pub use Rattle.lite_buffered.specs.Chaining.{first_of, has_ended, second_of}
+pub use Rattle.lite_buffered.specs.Chain.{first_of, has_ended, second_of}
 pub use Rattle.lite_buffered.specs.Take.{limit_of, take_inner}
 pub use Rattle.lite_consume.specs.Calls.{CallsBoth}
 pub use Rattle.lite_gather.specs.Gathering.{LacksRoom}

@@ -2,7 +2,6 @@ pub mod BufReader
 pub mod BufWriter
 pub mod Budgeted
 pub mod Chain
-pub mod Chaining
 pub mod InOrder
 pub mod Laws
 pub mod Repeat

@@ -31,7 +31,7 @@ impl<R1: fmt::Debug, R2: fmt::Debug> fmt::Debug for Chain<R1, R2> {
 
 impl<R1, R2> Chain<R1, R2> {
     ghost use Rattle.lite_buffered.specs.contracts.chain.Chain.{the_row};
-    ghost use Rattle.lite_buffered.specs.Chaining.{first_of, has_ended, second_of};
+    ghost use Rattle.lite_buffered.specs.Chain.{first_of, has_ended, second_of};
 
     pub(crate) fn new(first: R1, second: R2) -> Chain<R1, R2>
         ensures first { first_of result ≡ first }
@@ -177,8 +177,7 @@ impl<R1, R2> Takings for Chain<R1, R2> {
 }
 
 impl<R1: AsyncRead, R2: AsyncRead> AsyncRead for Chain<R1, R2> {
-    ghost use Rattle.lite_buffered.specs.Chain.{ChainsReaders};
-    ghost use Rattle.lite_buffered.specs.Chaining.{ChainReadRegisters};
+    ghost use Rattle.lite_buffered.specs.Chain.{ChainsReaders, ChainReadRegisters};
 
     ghost registers = { ChainReadRegisters R1.registers R2.registers };
 
@@ -225,8 +224,7 @@ impl<R1: AsyncRead, R2: AsyncRead> AsyncRead for Chain<R1, R2> {
 }
 
 impl<R1: AsyncRead, R2: AsyncRead> Chain<R1, R2> {
-    ghost use Rattle.lite_buffered.specs.Chain.{ChainsReaders};
-    ghost use Rattle.lite_buffered.specs.Chaining.{ChainReadRegisters, has_ended};
+    ghost use Rattle.lite_buffered.specs.Chain.{ChainsReaders, ChainReadRegisters, has_ended};
 
     // Reads the first reader, and then the second if the first is at end of file.
     #[inline(always)]
@@ -317,8 +315,7 @@ fn read_byte<R: AsyncRead>(
 }
 
 impl<R1: AsyncBufRead, R2: AsyncBufRead> Chain<R1, R2> {
-    ghost use Rattle.lite_buffered.specs.Chain.{ChainsReaders};
-    ghost use Rattle.lite_buffered.specs.Chaining.{ChainReadRegisters, chain_shown};
+    ghost use Rattle.lite_buffered.specs.Chain.{ChainsReaders, ChainReadRegisters, chain_shown};
 
     // Fills the buffer of the current reader, and then that of the second if the first is at end of file.
     #[tactic(auto, using(crate::proofs::Crossing::crossed))]
@@ -355,7 +352,7 @@ impl<R1: AsyncBufRead, R2: AsyncBufRead> Chain<R1, R2> {
 }
 
 impl<R1: AsyncBufRead, R2: AsyncBufRead> AsyncBufRead for Chain<R1, R2> {
-    ghost use Rattle.lite_buffered.specs.Chaining.{chain_shown};
+    ghost use Rattle.lite_buffered.specs.Chain.{chain_shown};
     ghost use Rattle.lite_buffered.specs.Laws.Chain.{chains_show};
 
     ghost lent = { chain_shown R1.lent R2.lent };
@@ -384,7 +381,7 @@ impl<R1: AsyncBufRead, R2: AsyncBufRead> AsyncBufRead for Chain<R1, R2> {
 }
 
 impl<R1: CountedRead, R2: CountedRead> CountedRead for Chain<R1, R2> {
-    ghost use Rattle.lite_buffered.specs.Chaining.{chain_read_ranks};
+    ghost use Rattle.lite_buffered.specs.Chain.{chain_read_ranks};
     ghost use Rattle.lite_buffered.specs.Laws.Chain.{chains_counting};
 
     ghost ranks = { chain_read_ranks R1.ranks R2.ranks };

@@ -1,7 +1,7 @@
 //! The functions that make the readers.
 ghost use Rattle.std.specs.Prelude.{◌≡◌, ◌<◌, false};
 ghost use Rattle.lite_buffered.specs.Budgeted.{budget_of, budgeted_inner, left_of};
-ghost use Rattle.lite_buffered.specs.Chaining.{first_of, has_ended, second_of};
+ghost use Rattle.lite_buffered.specs.Chain.{first_of, has_ended, second_of};
 ghost use Rattle.lite_buffered.specs.Repeat.{byte_of};
 ghost use Rattle.lite_buffered.specs.Take.{limit_of, take_inner};
 

@@ -18,8 +18,7 @@ pub use Rattle.lite_base.specs.Runs.{Hints, NoHint, Runs}
 pub use Rattle.lite_base.specs.StreamLaws.{RunLaws, StreamLaws}
 pub use Rattle.lite_buffered.specs.BufReader.{PassesBuffer, ThroughBuffer, ahead, reader_capacity, reader_inner}
 pub use Rattle.lite_buffered.specs.BufWriter.{Buffers, unwritten, writer_inner}
-pub use Rattle.lite_buffered.specs.Chain.{ChainsReaders, EndlessMarks, JoinsReaders, ReadsAcross}
-pub use Rattle.lite_buffered.specs.Chaining.{first_of, has_ended, second_of}
+pub use Rattle.lite_buffered.specs.Chain.{ChainsReaders, EndlessMarks, JoinsReaders, ReadsAcross, first_of, has_ended, second_of}
 pub use Rattle.lite_buffered.specs.Laws.BufReader.{passes_some}
 pub use Rattle.lite_buffered.specs.Laws.SteadyWrite.{segments_flushed}
 pub use Rattle.lite_buffered.specs.Take.{LimitEnds, TakesMarks, WithinLimit, limit_of, take_inner}

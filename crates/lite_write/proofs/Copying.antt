@@ -3,8 +3,7 @@ use Rattle.std.specs.Prelude.{◌≡◌, ◌<◌, ◌+◌, ◌%◌, ◌^◌, ℕ
 use Rattle.lite_write.specs.Uses.{◌∙◌, Option, Some, None, refl, ap, sym, subst, arith, append-nil, error_kind, Error, WriteZero, Poll, Ready, Pending}
 use Rattle.lite_write.specs.Uses.{passes_some, ThroughBuffer, ahead, reader_capacity, through_laws, BufReader, ReadMark, bytes, filled, MarkLaws, WriteMark}
 use Rattle.lite_write.specs.Uses.{bytes_taken, write_marks, offered_marks, UpToValue, strip, waits, OneStep, up_to_one, Runs}
-use Rattle.lite_write.specs.Copy.{CopyValue, Moves}
-use Rattle.lite_write.specs.Copying.{CopiesSome}
+use Rattle.lite_write.specs.Copy.{CopyValue, Moves, CopiesSome}
 use Rattle.lite_write.specs.MarkLists.{BytesAlone, TakesUpTo, TellsUpTo, bytes_told, waits_taken, waits_told}
 use Rattle.lite_write.specs.Parts.{held_of, met_in, source_of}
 use Rattle.lite_write.specs.Laws.Copy.{counted_none, moves_both}

@@ -1,9 +1,12 @@
 -- The `copy` future: the bytes of a reader before its first end of file are written to a writer, which is then flushed.
 use Rattle.std.specs.Prelude.{◌≡◌, ◌<◌, ◌+◌, ◌%◌, ◌^◌, ⊤, ℕ, List, [], ◌∷◌, ◌++◌, length, Result, Ok, Err}
 use Rattle.lite_write.specs.Uses.{error_kind, Error, WriteZero, Poll, UpToValue, strip, waits, Runs, ReadMark, WriteMark, bytes_taken}
+use Rattle.lite_write.specs.Uses.{Lasting, ThroughBuffer, bytes}
 use Rattle.lite_write.specs.MarkLists.{TakesUpTo, TellsUpTo, bytes_told, waits_taken, waits_told}
 use Rattle.lite_write.specs.Parts.{held_of, met_in, source_of}
 use Rattle.lite_write.specs.declared.copy.CopyFuture.{CopyFuture}
+use Rattle.lite_write.specs.declared.copy.Phase.{Phase}
+use Rattle.lite_write.specs.declared.copy.Phase.TheVariants.{Copying, Flushing}
 
 -- The value of a `copy`, if it has one (`given`). It is `Ok` of `total`, the number of bytes written, if the reader's
 -- end was met, every byte was written, and the last mark is a flush. Otherwise it is the error of the reader, the error
@@ -49,3 +52,24 @@ module _ {R W : Type 0} (reads : Runs ReadMark R) (writes : Runs WriteMark W) wh
   pub record CopyRuns (x : CopyFuture R W) (out : List (Poll (Result ℕ Error))) (y : CopyFuture R W) : Type 0 where
     pub moves : Moves x out y
     pub idle : out ≡ [] → y ≡ x
+
+-- Which of the two registers in the context when a `copy` is pending: the reader if no byte is left to be written, and
+-- otherwise the writer. While the copy flushes, it is the writer.
+abbrev pub RegistersIn : Phase → List ℕ → Type 0 → Type 0 → Type 0
+RegistersIn Copying held reader writer = (held ≡ [] → reader) × (0 < length held → writer)
+RegistersIn Flushing held reader writer = writer
+
+module _ {R W : Type 0} where
+  -- What a pending `copy` registers in its context: what the reader registers if no byte is left to be written, and
+  -- otherwise what the writer registers.
+  abbrev pub CopyRegisters : (R → Lasting → Type 0) → (W → Lasting → Type 0) → CopyFuture R W → Lasting → Type 0
+  CopyRegisters reads_leave writes_leave x fact =
+      RegistersIn x.phase (held_of x) (reads_leave (source_of x) fact) (writes_leave x.writer fact)
+
+  -- One step within a poll of `copy` that does not yet return: the writer takes some bytes, and these are consumed from
+  -- the buffer.
+  pub record CopiesSome (reads : Runs ReadMark R) (writes : Runs WriteMark W) (x y : CopyFuture R W) : Type 0 where
+    pub moves : Moves reads writes x [] y
+    pub taken : List ℕ
+    pub some : 0 < length taken
+    pub given : ThroughBuffer reads x.reader (bytes taken) y.reader

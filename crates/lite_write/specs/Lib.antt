@@ -1,6 +1,5 @@
 pub mod Close
 pub mod Copy
-pub mod Copying
 pub mod Flush
 pub mod Hands
 pub mod Laws

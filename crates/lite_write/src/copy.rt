@@ -56,8 +56,7 @@ fn fill<R: AsyncBufRead>(reader: &mut R, cx: &mut Context<'_>) -> Poll<io::Resul
 
 impl<R: AsyncRead, W: AsyncWrite> CopyFuture<R, W> {
     ghost use Rattle.lite_write.specs.Uses.{OneStep};
-    ghost use Rattle.lite_write.specs.Copy.{Moves};
-    ghost use Rattle.lite_write.specs.Copying.{CopiesSome, CopyRegisters};
+    ghost use Rattle.lite_write.specs.Copy.{CopiesSome, CopyRegisters, Moves};
 
     // Offers what is buffered to the writer, and takes what was written from the buffer.
     #[tactic(auto, using(crate::proofs::Copying::writer_waits, crate::proofs::Copying::writer_fails, crate::proofs::Copying::writer_takes_none))]
@@ -100,8 +99,7 @@ impl<R: AsyncRead, W: AsyncWrite> CopyFuture<R, W> {
 
 impl<R: CountedRead, W: AsyncWrite> PollSteps for CopyFuture<R, W> {
     ghost use Rattle.lite_write.specs.Uses.{OneStep};
-    ghost use Rattle.lite_write.specs.Copy.{Moves};
-    ghost use Rattle.lite_write.specs.Copying.{CopiesSome, CopyRegisters};
+    ghost use Rattle.lite_write.specs.Copy.{CopiesSome, CopyRegisters, Moves};
     ghost use Rattle.lite_write.specs.Laws.Copy.{some_given};
 
     type Output = io::Result<u64>;
@@ -134,8 +132,7 @@ impl<R: CountedRead, W: AsyncWrite> PollSteps for CopyFuture<R, W> {
 }
 
 impl<R: CountedRead, W: AsyncWrite> Future for CopyFuture<R, W> {
-    ghost use Rattle.lite_write.specs.Copy.{CopyRuns};
-    ghost use Rattle.lite_write.specs.Copying.{CopyRegisters};
+    ghost use Rattle.lite_write.specs.Copy.{CopyRegisters, CopyRuns};
     ghost use Rattle.lite_write.specs.Laws.Copy.{copies_laws};
 
     type Output = io::Result<u64>;

@@ -6,7 +6,7 @@ ghost use Rattle.lite_base.specs.Woken.{HoldsWoken};
 ghost use Rattle.lite_bridge.specs.Known.{NoFault};
 ghost use Rattle.lite_buffered.specs.Budgeted.{budgeted_inner};
 ghost use Rattle.lite_buffered.specs.BufReader.{reader_inner};
-ghost use Rattle.lite_buffered.specs.Chaining.{first_of, has_ended, second_of};
+ghost use Rattle.lite_buffered.specs.Chain.{first_of, has_ended, second_of};
 ghost use Rattle.lite_buffered.specs.Take.{take_inner};
 ghost use Rattle.marks_met.specs.Registering.{TellsAll};
 ghost use Rattle.marks_met.specs.Unrefused.{AmpleWhere};

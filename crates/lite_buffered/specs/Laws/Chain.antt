@@ -3,8 +3,7 @@ use Rattle.std.specs.Prelude.{◌≡◌, ℕ, Bool, true, false, cond, replicate
 use Rattle.lite_buffered.specs.Uses.{◌∙◌, refl, ap, append_assoc, add-zero, zero-add, inl, length-append, length-replicate, Falls, falls_both, falls_to_zeros}
 use Rattle.lite_buffered.specs.Uses.{Comparable, AllGiven, ReadMark, bytes, given, given-append, given_parts, ReadCounting, Ranks, Runs, MarkLaws, Shows}
 use Rattle.lite_buffered.specs.declared.chain.Chain.{Chain}
-use Rattle.lite_buffered.specs.Chain.{ChainsReaders, EndlessMarks, JoinsReaders}
-use Rattle.lite_buffered.specs.Chaining.{chain_read_ranks}
+use Rattle.lite_buffered.specs.Chain.{ChainsReaders, EndlessMarks, JoinsReaders, chain_read_ranks}
 
 no_end_both : (l m : List ReadMark) → EndlessMarks l → EndlessMarks m → EndlessMarks (l ++ m)
 no_end_both [] m h k = k

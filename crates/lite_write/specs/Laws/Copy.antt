@@ -3,8 +3,7 @@ use Rattle.std.specs.Prelude.{◌≡◌, ◌<◌, ◌+◌, ◌%◌, ◌^◌, ℕ
 use Rattle.lite_write.specs.Uses.{◌∙◌, refl, ap, arith, append-nil, append_assoc, length-append, mod-add-mod, flat_map-append, filter-append, filter, Error}
 use Rattle.lite_write.specs.Uses.{Poll, Waiting, strip, Reaches, Reaches-back, FutureLaws, strip_join, up_to_once, waiting_strip, waiting_up_to, waits_join}
 use Rattle.lite_write.specs.Uses.{Runs, ThroughBuffer, GivenRun, ReadMark, MarkLaws, WriteMark, bytes_taken, taken_both, given_of, idle_join}
-use Rattle.lite_write.specs.Copy.{Copied, CopyRuns, CopyValue, Moves}
-use Rattle.lite_write.specs.Copying.{CopiesSome}
+use Rattle.lite_write.specs.Copy.{Copied, CopyRuns, CopyValue, Moves, CopiesSome}
 use Rattle.lite_write.specs.MarkLists.{BytesAlone, TakesSome, TakesUpTo, TellsUpTo, byte_in, bytes_told, is_taken_wait}
 use Rattle.lite_write.specs.MarkLists.{is_told_wait}
 use Rattle.lite_write.specs.declared.copy.CopyFuture.{CopyFuture}
