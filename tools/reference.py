@@ -6,11 +6,10 @@ import textwrap
 import pictures
 from repository import TOP, read_text
 from sources import MODULES, PARAMETERS, Sources
-from vocabulary import PLAIN, cited, definitions, imported, libraries
+from vocabulary import PLAIN, WIDTH, bullet, cited, definitions, imported, libraries, wrapped
 
 ROW = re.compile(r"^\|( .*)\|$", re.M)
 IMPL = re.compile(r"^impl\b(?P<types>[^{]*?)\s(?P<trait>\w+)(?:<[^{]*?>)? for (?P<type>\w+)", re.M)
-WIDTH = 140
 TRAITS = "Traits"
 # The groups of a page, with where the code of their items stands; the longest path decides.
 GROUPS = {
@@ -50,10 +49,6 @@ ABOUT_EXAMPLES = (
 )
 
 
-def wrapped(text):
-    return "\n".join(textwrap.wrap(" ".join(text.split()), WIDTH, break_long_words=False, break_on_hyphens=False))
-
-
 def plain(comment):
     """Returns a comment without its links, which name sources that are not here."""
     return re.sub(r"\[(`[^`]*`)\](?:\([^)]*\))?", r"\1", comment)
@@ -81,7 +76,7 @@ def linked(item, text):
 
 def listed(item):
     """Returns an item's line in the contents."""
-    return f"- {linked(item, f'`{item.title}`')}{': ' if item.says else ''}{first_sentence(item.says)}"
+    return bullet(f"{linked(item, f'`{item.title}`')}{': ' if item.says else ''}{first_sentence(item.says)}")
 
 
 def rows_in(table):
@@ -145,7 +140,7 @@ class Reference:
         picture = self.pictures.get(f"{module}::{item.title}")
         parts += [f"Polled so (`P` is `Pending`, `E` the end of the stream):\n\n{code(picture.lines())}\n\nThe same [as a picture](../{picture.file})."] if picture else []
         parts += [f"Contract:\n\n{code([*item.asks, *item.gives])}"] if item.asks or item.gives else []
-        words = [f"- `{it.name}` ([{it.module}](../../{it.path})): {it.says}" for it in self.words_of(item)]
+        words = [bullet(f"`{it.name}` ([{it.module}](../../{it.path})): {it.says}") for it in self.words_of(item)]
         parts += ["\n".join(words)] if words else []
         return "\n\n".join([*parts, f"Code: [{item.path}](../../{item.path})."])
 
@@ -161,14 +156,14 @@ class Reference:
 
     def page(self, module):
         source = self.sources.by_module["futures_lite", (module,)]
-        parts = [f"# `futures_lite::{module}`", source.text.splitlines()[0].removeprefix("//! "), ABOUT_EXAMPLES, "## Contents"]
+        parts = [f"# `futures_lite::{module}`", source.text.splitlines()[0].removeprefix("//! "), wrapped(ABOUT_EXAMPLES), "## Contents"]
         groups = {name: items for name, items in self.groups(module).items() if items}
         for name, items in groups.items():
             parts.append("\n".join([f"**{name}**\n", *map(listed, items)]))
         for name, items in groups.items():
             parts += [f"## {name}", *(self.entry(it, module) for it in items)]
         marks = list(self.marks(module))
-        about = "What the marks mean, and the rows of types of std, stand in [TABLES](../TABLES.md#which-marks-a-type-carries)."
+        about = "[TABLES](../TABLES.md#which-marks-a-type-carries) says what the marks mean, and has the rows of std's types."
         return "\n\n".join([*parts, *(["## Marks", about, *marks] if marks else [])]) + "\n"
 
     def pages(self):

@@ -9,7 +9,7 @@ ENTRY = re.compile(r"^### (?P<kind>\w+) `(?P<title>[\w:]+)`\n(?P<text>.*?)(?=^##
 CODE = re.compile(r"^Code: \[(crates/[\w/.]+)\]", re.M)
 EXAMPLE = re.compile(r"^Example:\n\n```rust\n(.*?)^```$", re.M | re.S)
 CONTRACT = re.compile(r"^Contract:\n\n```text\n(.*?)^```$", re.M | re.S)
-DEFINITION = re.compile(r"^- `(?P<name>[^`]+)` \(\[(?P<module>[^\]]+)\]\(\.\./\.\./(?P<path>[^)]+)\)\): ?(?P<says>.*)$", re.M)
+DEFINITION = re.compile(r"^- `(?P<name>[^`]+)`\s\(\[(?P<module>[^\]]+)\]\(\.\./\.\./(?P<path>[^)]+)\)\):\s?(?P<says>.*(?:\n  .*)*)$", re.M)
 MARK = re.compile(r"^\| \[`?(?P<type>\w+)[^\]]*\]\(#(?P<anchor>[\w-]+)\) \|", re.M)
 MADE_BY = re.compile(r"(?:Made|Returned) by `(?:\w+::)*(\w+)`")
 
@@ -74,7 +74,7 @@ class Entry:
         uses = f"{TOP}/crates/{self.path.split('/')[1]}/specs/Uses.antt"
         imports = self.code + (read_text(uses) if os.path.isfile(uses) else "")
         named = rf"use Rattle\.{crate}\.specs\.{re.escape(module)}\.\{{[^}}]*(?<![\w'-]){name}(?![\w'-])"
-        return comment == found["says"] and re.search(rf"(?<![\w'-]){name}(?![\w'-])", self.contract) and re.search(named, imports)
+        return comment == " ".join(found["says"].split()) and re.search(rf"(?<![\w'-]){name}(?![\w'-])", self.contract) and re.search(named, imports)
 
 
 def faults():

@@ -3,9 +3,12 @@ import functools
 import itertools
 import os
 import re
+import textwrap
 
 from repository import FACADE, TOP, crates_in, files_of, read_text, with_below
 
+# How many columns a line of a document has at most.
+WIDTH = 120
 # (a definition is told from a lemma by its first word)
 DEFINED = re.compile(r"^ *(?!unfoldable pub use)(?:pub )?(abbrev|unfoldable|record|data) (?:pub )?(?:record |data )?(?P<word>[^\s:({]+)")
 MEMBER = re.compile(r"^    ghost (?P<word>\w+): \{(?P<type>.*)\}", re.M)
@@ -29,6 +32,15 @@ PASSED_ON = re.compile(r"^pub use (?P<path>[\w:]+?)(?:::\{(?P<names>[^}]*)\})?;"
 # The module of a crate that passes on what its files import from the crates below.
 USES = "Uses"
 USED = re.compile(r"use Rattle\.(?P<crate>\w+)\.specs\.(?P<module>[\w.]+)\.\{(?P<names>[^}]*)\}")
+
+
+def wrapped(text, indent=""):
+    """Returns a paragraph, in lines that are not too long; the later ones begin with the indent."""
+    return "\n".join(textwrap.wrap(" ".join(text.split()), WIDTH, subsequent_indent=indent, break_long_words=False, break_on_hyphens=False))
+
+
+def bullet(text):
+    return wrapped(f"- {text}", "  ")
 
 
 class Word:
@@ -229,8 +241,9 @@ def words_of(crate):
     """Yields the part of the glossary that is a crate's: the definitions of each file of its specs/, with the comments over them."""
     for module, words in itertools.groupby(definitions(crate), key=lambda it: it.module):
         words = list(words)
-        yield f"**{link(words[0].path, module.replace('.', '/'))}**: {head_of(words[0].path)}\n"
-        yield from (f"- `{it.name}`: {it.says}" for it in words)
+        about = head_of(words[0].path)
+        yield wrapped(f"**{link(words[0].path, module.replace('.', '/'))}**{': ' if about else ''}{about}") + "\n"
+        yield from (bullet(f"`{it.name}`: {it.says}") for it in words)
         yield ""
 
 
@@ -244,7 +257,7 @@ def glossary():
     head = read_text(f"{TOP}/docs/GLOSSARY.md").partition(HEAD_ENDS)[0]
     calls_told = table(["Call", "Kind", "Code", "Definition", "Laws"], sorted(rows_of_calls()))
     told = {crate: "\n".join(words_of(crate)) for crate in libraries()}
-    words_told = "\n".join(f"## `{crate}`\n\n{about_crate(crate)}\n\n{words}" for crate, words in told.items() if words)
+    words_told = "\n".join(f"## `{crate}`\n\n{wrapped(about_crate(crate))}\n\n{words}" for crate, words in told.items() if words)
     return f"{head}{HEAD_ENDS}\n{calls_told}\n{words_told.rstrip()}\n"
 
 
