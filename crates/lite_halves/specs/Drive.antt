@@ -12,7 +12,7 @@ pairs [] ts = []
 pairs (a ∷ rest) [] = []
 pairs (a ∷ rest) (t ∷ ts) = record { asked = a; told = t } ∷ pairs rest ts
 
--- If the method returns `Ok`, all calls have results. After an allocation failure only the first ones do.
+-- If the value is `Ok`, all calls have results. After an allocation failure fewer have.
 abbrev pub CallsAnswered : Result (Unit {0}) AllocError → List Request → List Told → Type 0
 CallsAnswered (Ok u) asked told = length told ≡ length asked
 CallsAnswered (Err e) asked told = length told < length asked

@@ -58,9 +58,8 @@ module _ {T : Type 0} (reads : Runs ReadMark T) (writes : Runs WriteMark T) wher
     abbrev pub Story : Runs Part T
     Story x ps y = (stages : List (Option Part)) × (ps ≡ parts_among stages) × Steps Stage x stages y
 
-    -- A journal is sound. Each result is one that its call may have. A story leads from the start to the stream as it
-    -- is now, by the marks of the entries. A clone may replace its original in it, because the start is kept as a
-    -- clone.
+    -- A journal is sound. Each result is one that its call may have. By the marks of the entries a story leads from the
+    -- start to the stream as it is now. A clone may replace its original in it, because the start is kept as a clone.
     pub record IsSound (j : Chronicle T) : Type 0 where
       pub fits : AllFit j.notes
       pub story : Story j.start (parts_in j.notes) j.stream

@@ -2,8 +2,9 @@
 use Rattle.std.specs.Prelude.{◌≡◌, ◌⊎◌, ◌<◌, ℕ, List, [], length}
 use Rattle.lite_laws.specs.Uses.{Poll, SameAnswer, SameItem, Sameness, Answer, ComparableBy, strip, Finishes, Runs}
 
--- Two streams ran so, from `x` and from `y`. If no allocation failed in either run, or no poll allocates, one list of
--- results is a prefix of the other. `Pending`s are left out, and results that are the same by `same` count as equal.
+-- Two streams return the results `l` and `m`, from `x` and from `y`. If no allocation failed in either run, or no poll
+-- allocates, one list is a prefix of the other. `Pending`s are left out, and results that are the same by `same` count
+-- as equal.
 pub record Agreed {S A : Type 0} (same : Sameness A) (run ample : Runs (Answer A) S) (needs_none : Type 0) (x : S)
     (l : List (Answer A)) (x' y : S) (m : List (Answer A)) (y' : S) : Type 0 where
   pub first : run x l x'
@@ -11,8 +12,8 @@ pub record Agreed {S A : Type 0} (same : Sameness A) (run ample : Runs (Answer A
   pub found : ample x l x' → ample y m y' → ComparableBy (SameAnswer same) (strip l) (strip m)
   pub always : needs_none → ComparableBy (SameAnswer same) (strip l) (strip m)
 
--- Two futures ran so, and returned the values `v` and `w`. If no allocation failed in either run, or no poll allocates,
--- the values are the same.
+-- Two futures, polled to the end from `x` and from `y`, return the values `v` and `w`. If no allocation failed in
+-- either run, or no poll allocates, the values are the same.
 pub record OneValue {F A : Type 0} (same : Sameness A) (run ample : Runs (Poll A) F) (needs_none : Type 0) (x : F)
     (v : A) (y : F) (w : A) : Type 0 where
   pub ins : List (Poll A)

@@ -8,6 +8,6 @@ IfWaits [] P = ⊤
 IfWaits (a ∷ []) P = OnPending a P
 IfWaits (a ∷ b ∷ l) P = IfWaits (b ∷ l) P
 
--- The context holds each of these facts.
+-- The context holds each of these facts, such as those that a value registers in it when its poll returns `Pending`.
 abbrev pub HoldsEach : (Lasting → Type 0) → Context → Type 0
 HoldsEach facts cx = (fact : Lasting) → facts fact → Holds cx fact

@@ -4,7 +4,7 @@ use Rattle.lite_merge.specs.Uses.{Pending, Answer, Paces, left_behind, Ranks, Ru
 use Rattle.lite_merge.specs.declared.budgeted.Budgeted.{Budgeted}
 
 -- The source's results, with one more `Pending` whenever the budget of items in a row is used up. After each `Pending`
--- the whole budget is there again.
+-- the whole budget is available again.
 abbrev pub Budgets : {S A : Type 0} → Runs (Answer A) S → Runs (Answer A) (Budgeted S)
 Budgets run x l y = Through run (Paces Pending left_behind) x.stream (x.budget, x.left) l y.stream (y.budget, y.left)
 

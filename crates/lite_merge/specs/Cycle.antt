@@ -5,13 +5,14 @@ use Rattle.lite_merge.specs.Uses.{Answer, Endless, end, item, all_ok, Runs}
 use Rattle.lite_merge.specs.declared.cycle.Cycle.{Cycle}
 
 module _ {S A : Type 0} (run : Runs (Answer A) S) where
-  -- A part of a stream's results before its next end. While no clone could be made, there is no stream and no result.
+  -- A part of a stream's results before its next end. After an allocation failure there is no stream, and so no result.
   abbrev pub Lap : Runs (Answer A) (Option S)
   Lap (Some s) own (Some t) = run s own t × Endless own
   Lap None own None = own ≡ []
   Lap x own y = ⊥
 
-  -- A stream's results before its next end, which it has reached. If no clone could be made, there are none.
+  -- All of a stream's results before its next end, which it has reached. After an allocation failure there is no
+  -- stream, and so no result.
   abbrev pub LapOver : Option S → List (Answer A) → Type 0
   LapOver (Some s) own = (t : S) × run s (own ++ end ∷ []) t × Endless own
   LapOver None own = own ≡ []
@@ -29,8 +30,8 @@ module _ {S A E : Type 0} (run : Runs (Answer A) S) where
     Renews (Ok copy) out s = is_clone original copy × BeginsCopy copy out s
     Renews (Err e) out s = ¬ (is_infallible original) × (out ≡ item (Err e) ∷ []) × (s ≡ None)
 
-    -- A lap that is over, and what came of cloning the original. The end of the lap is one result with the one after
-    -- it. `Rest` says what follows.
+    -- A lap that is over, and what came of cloning the original. The poll that meets the end of the lap returns the
+    -- result after it. `Rest` says what follows.
     pub record LapThen (asked : Result S E) (Rest : Option S → List (Answer (Result A E)) → Type 0) (x : Option S)
         (out : List (Answer (Result A E))) : Type 0 where
       pub own : List (Answer A)
@@ -42,7 +43,7 @@ module _ {S A E : Type 0} (run : Runs (Answer A) S) where
       pub goes_on : Rest next rest
       pub joined : out ≡ all_ok own ++ (anew ++ rest)
 
-    -- Lap by lap. The list has the result of cloning the original for each lap that is over.
+    -- The results, lap by lap. The first list has, for each lap that is over, what came of cloning the original.
     abbrev pub Laps : List (Result S E) → Runs (Answer (Result A E)) (Option S)
     Laps [] x out y = (own : List (Answer A)) × Lap run x own y × (out ≡ all_ok own)
     Laps (asked ∷ more) x out y = LapThen asked (λ s rest. Laps more s rest y) x out

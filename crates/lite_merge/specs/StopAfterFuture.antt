@@ -11,15 +11,15 @@ abbrev pub ThenEnds : {A : Type 0} → List (Answer A) → List (Answer A) → T
 ThenEnds {A} front out = (later : List (Answer A)) × AllEnds later × (out ≡ front ++ later)
 
 module _ {F A R : Type 0} (run : Runs (Poll R) F) where
-  -- Each of the stream's results came with a poll of the future that returned `Pending`.
+  -- The future is polled once for each of the stream's results, and returned `Pending` each time.
   pub record PendingBeside (f : F) (ins : List (Answer A)) (g : F) : Type 0 where
     pub told : List (Poll R)
     pub waiting : Waiting told
     pub came : run f told g
     pub rows : length told ≡ length ins
 
-  -- The future returned its value in the poll after the stream's results, and that poll returned the end of the stream.
-  -- Later polls did too.
+  -- The future returned its value in the poll after the stream's last result, and the stream was not polled then. That
+  -- poll and every later one returned the end of the stream.
   pub record StoppedByValue (f : F) (ins out : List (Answer A)) (value : R) : Type 0 where
     pub told : List (Poll R)
     pub finishes : Finishes run f told value

@@ -32,8 +32,8 @@ module _ {A B : Type 0} where
       → List (Answer B) → List (Answer (A × B)) → Option A → Type 0
   WithHeld x is follows js out last = SecondPending x is js out last ⊎ Paired x follows js out last
 
-  -- The results of the first stream's list and the second's, with nothing held at first. An item of the first is one
-  -- result with the second's `Pending`s and the pair after it.
+  -- The results of the first stream's list and the second's, with nothing held at first. `Pending` and the end of the
+  -- first stream are passed on. An item of the first has no result of its own, because the same poll polls the second.
   abbrev pub Pairs : List (Answer A) → List (Answer B) → List (Answer (A × B)) → Option A → Type 0
   Pairs [] js out last = (js ≡ []) × (out ≡ []) × (last ≡ None)
   Pairs (a ∷ is) js [] last = ⊥
@@ -46,8 +46,9 @@ module _ {A B : Type 0} where
   Pairing None is js out last = Pairs is js out last
   Pairing (Some x) is js out last = WithHeld x is (Pairs is) js out last
 
--- Both streams return some results, and the pairs made of them are returned. `Pending` and the end of the first stream
--- are passed on.
+-- Both streams return some results, and the adapter's results are made of them. The first stream's `Pending` and end
+-- are passed on. Each of its items is replaced by the second's `Pending`s, and then by the pair with the second's item
+-- or by the end of the stream.
 pub record Zips {S U A B : Type 0} (run : Runs (Answer A) S) (run' : Runs (Answer B) U)
     (x : Zip S U A) (out : List (Answer (A × B))) (y : Zip S U A) : Type 0 where
   pub firsts : List (Answer A)

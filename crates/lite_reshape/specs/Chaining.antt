@@ -6,7 +6,7 @@ use Rattle.lite_reshape.specs.declared.chain.Chain.{Chain}
 use Rattle.lite_reshape.specs.declared.chain.Part.TheVariants.{First, Second, Done}
 use Rattle.lite_reshape.specs.declared.chain.Part.{Part}
 
--- The second stream, which has not ended, is polled for one result `a`.
+-- The second stream, which has not ended, is polled, and the `chain` returns its result `a`.
 abbrev pub SecondAnswers : {S U A : Type 0} → Runs (Answer A) U → Chain S U → Answer A → Chain S U → Type 0
 SecondAnswers {A = A} run x a y =
     (seconds : List (Answer A)) × run x.second seconds y.second

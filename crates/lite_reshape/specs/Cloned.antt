@@ -19,7 +19,7 @@ module _ {T E : Type 0} (is_clone : T → T → Type 0) (is_infallible : T → T
   Refuses x out = AllByRecursion (IsCloneRefusal x) out
 
   -- The results made of one reference: allocation failures, and finally a clone as an `Ok` item. While the reference is
-  -- still held only allocation failures have been returned. What a clone may be, `is_clone` says.
+  -- still held only allocation failures have been returned. `is_clone` says what a clone may be.
   abbrev pub Clones : Bor T → List (Answer (Result T E)) → Option (Bor T) → Type 0
   Clones x out (Some y) = Refuses x out × (y ≡ x)
   Clones x out None = (refused : List (Answer (Result T E))) × (copy : T) × Refuses x refused × is_clone x.now copy
@@ -48,8 +48,8 @@ module _ {T E : Type 0} where
 abbrev pub EqualClones : {T : Type 0} → (T → T → Type 0) → Type 0
 EqualClones {T} is_clone = (x y z : T) → is_clone x y → is_clone x z → y ≡ z
 
--- When two `Ok` items of `cloned` are the same: if they are clones of what two references that are the same by `like`
--- refer to. If `like` is equality, so is the result.
+-- Two `Ok` items of `cloned` are the same if they are clones of what two references that are the same by `like` refer
+-- to. If `like` is equality, this is equality too.
 abbrev pub ClonedFrom : {T E : Type 0} → Sameness (Bor T) → (T → T → Type 0) → Sameness (Result T E)
 ClonedFrom {T} like is_clone = MadeOf like (λ r v. (copy : T) × is_clone r.now copy × (v ≡ Ok copy))
 

@@ -16,8 +16,8 @@ module _ {B A : Type 0} (run : Runs (Answer A) B) where
       × (c : B) × run b (own ++ end ∷ []) c × follows (a ∷ rest) last
 
   -- The outer stream's results `ins`, when no inner stream is held at first. `Pending` and the end of the stream are
-  -- passed on, and each item is replaced by that inner stream's results. An inner stream's end is one result with the
-  -- one after it.
+  -- passed on, and each item is replaced by that inner stream's results. The poll that meets an inner stream's end
+  -- returns the result after it.
   abbrev pub Flat : List (Answer B) → List (Answer A) → Option B → Type 0
   Flat [] [] last = last ≡ None
   Flat [] (a ∷ out) last = ⊥

@@ -28,7 +28,8 @@ StepsOn p ins (b ∷ out) q =
 abbrev pub CanStep : {S : Type 0} → (S → Type 0) → StepBy S → Type 0
 CanStep can_poll x = can_poll x.stream × (x.i < x.step)
 
--- The source's results without the items whose number is not a multiple of the step.
+-- The source's results without the items whose number is not a multiple of the step. The numbers run on across
+-- `Pending`s and ends of stream.
 abbrev pub StepsBy : {S A : Type 0} → Runs (Answer A) S → Runs (Answer A) (StepBy S)
 StepsBy run x l y = Through run StepsOn x.stream (x.step, x.i) l y.stream (y.step, y.i)
 

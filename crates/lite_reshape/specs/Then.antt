@@ -4,7 +4,7 @@ use Rattle.lite_reshape.specs.Uses.{Mut, Called, Poll, Answer, handed, Spends, C
 use Rattle.lite_reshape.specs.Expanding.{Expanding}
 use Rattle.lite_reshape.specs.declared.then.Then.{Then}
 
--- The poll results of a future, its value as an item. It is held until that value, and is gone after it.
+-- The poll results of a future, its value as an item. The future is held until that value, and is gone after it.
 abbrev pub HandsOut : {V B : Type 0} → Runs (Poll B) V → V → List (Answer B) → Option V → Type 0
 HandsOut run v out left = Spends run (handed Some) (λ after. after ≡ []) (Some v) out left
 

@@ -10,7 +10,7 @@ module _ {A : Type 0} where
   once_left None = []
   once_left (Some x) = item x ∷ []
 
-  -- The item, and then the end of the stream at every poll.
+  -- The item that it holds, at the first poll, and then the end of the stream at every poll.
   abbrev pub GivesOnce : Runs (Answer A) (Once A)
   GivesOnce x l y = GivesScript (once_left x.value) l (once_left y.value)
 

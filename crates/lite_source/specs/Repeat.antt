@@ -16,6 +16,7 @@ module _ {A E : Type 0} (is_clone : A → A → Type 0) (is_infallible : A → T
   IsCloned own (Ready None) = ⊥
   IsCloned own Pending = ⊥
 
-  -- Every result is a clone of the item as `Ok`, or an allocation failure as `Err`.
+  -- Every result is an item: a clone of the stream's item as `Ok`, or an allocation failure as `Err`. The failure
+  -- occurs only if cloning the item may fail.
   abbrev pub Repeats : Runs (Answer (Result A E)) (Repeat A)
   Repeats = Unchanging (λ x. IsCloned x.item)

@@ -18,8 +18,9 @@ abbrev pub try_seed_of : {A S E : Type 0} → Result (Option (A × S)) E → Opt
 try_seed_of (Ok o) = seed_of o
 try_seed_of (Err e) = None
 
--- The poll results of the futures that `try_unfold` makes, one after the other. An `Err` is yielded as an item and ends
--- it for good.
+-- The poll results of the futures that `try_unfold` makes, one after the other. A value `Ok(Some((item, seed)))` is
+-- yielded as `Ok(item)`, and the next future is made of the seed. `Ok(None)` ends the stream for good. An `Err` is
+-- yielded as an item, and then the stream ends for good.
 abbrev pub TryUnfoldsBy : {F S V A E : Type 0} → Mut F (S × Unit {0}) V → Runs (Poll (Result (Option (A × S)) E)) V
     → Runs (Answer (Result A E)) (TryUnfold S F V)
 TryUnfoldsBy call gives x out y = Unfolds call gives try_seed_of try_item_of (x.f, x.state) out (y.f, y.state)

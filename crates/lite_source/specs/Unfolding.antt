@@ -37,8 +37,8 @@ module _ {S V : Type 0} where
   HoldingsBy same alike Holding.Over Holding.Over = ⊤
   HoldingsBy same alike x y = ⊥
 
--- When two parts of values are the same, as a value's item or its seed: if they come from values that are. If `same` is
--- equality, so is the result.
+-- Two parts of values, such as items or seeds, are the same if they are parts of values that are the same. If `same` is
+-- equality, this is equality too.
 abbrev pub PartOf : {O B : Type 0} → Sameness O → (O → Option B) → Sameness B
 PartOf same part = MadeOf same (λ o b. part o ≡ Some b)
 
@@ -84,7 +84,7 @@ comes None = Holding.Over
 comes (Some s) = Holding.Seed s
 
 module _ {S V O : Type 0} (gives : Runs (Poll O) V) where
-  -- One poll of the future that is held. After a value nothing is held. If nothing is held the result is `None`.
+  -- One poll of the future that is held. After a value nothing is held. If it is over, the result is `Ready(None)`.
   abbrev pub HeldStep : Holding S V → Poll (Option O) → Holding S V → Type 0
   HeldStep (Holding.Asked v) Pending next = (w : V) × gives v (Pending ∷ []) w × (next ≡ Holding.Asked w)
   HeldStep (Holding.Asked v) (Ready (Some o)) next = Finishes gives v (Ready o ∷ []) o × (next ≡ Holding.Over)
@@ -92,8 +92,8 @@ module _ {S V O : Type 0} (gives : Runs (Poll O) V) where
   HeldStep x a next = ⊥
 
 module _ {F S V O : Type 0} (call : Mut F (S × Unit {0}) V) (gives : Runs (Poll O) V) where
-  -- One poll of the future, which is made of the seed if needed. After a value nothing is held. If it is over the
-  -- result is `None`.
+  -- One poll of the future, which is made of the seed first if none is held. After a value nothing is held. If it is
+  -- over, the result is `Ready(None)`.
   abbrev pub UnfoldStep : F → Holding S V → Poll (Option O) → F → Holding S V → Type 0
   UnfoldStep p x Pending q next =
       (v w : V) × IsCurrent call p x q v × gives v (Pending ∷ []) w × (next ≡ Holding.Asked w)
@@ -114,7 +114,8 @@ module _ {F S V O : Type 0} (call : Mut F (S × Unit {0}) V) (gives : Runs (Poll
         ((v : V) × (ins : List (Poll O)) × IsCurrent call p x q v × Leads v ins next × (out ≡ map (handed shown) ins))
         ⊎ ((x ≡ Holding.Over) × (q ≡ p) × GivesEnds Holding.Over out next)
 
-    -- The parts one after the other, each with at least one result.
+    -- The poll results of the futures one after the other, each with at least one result: the items of their values,
+    -- and finally the ends of the stream.
     abbrev pub Unfolds : F × Holding S V → List (Answer B) → F × Holding S V → Type 0
     Unfolds x out y = (parts : List (Answer B × List (Answer B)))
         × FoldsTo (λ s part t. UnfoldPart s.0 s.1 (part.0 ∷ part.1) t.0 t.1) x parts y

@@ -10,8 +10,8 @@ use Rattle.lite_stream.specs.declared.copied.Copied.{Copied}
 abbrev pub CopiesItem : {A : Type 0} → Unit {0} → Bor A → A → Unit {0} → Type 0
 CopiesItem p x y q = y ≡ x.now
 
--- When two items of `copied` are the same: if two references that are the same by `like` refer to them. If `like` is
--- equality, so is the result.
+-- Two items of `copied` are the same if two references that are the same by `like` refer to them. If `like` is
+-- equality, this is equality too.
 abbrev pub Referred : {A : Type 0} → Sameness (Bor A) → Sameness A
 Referred like = MadeOf like (λ r v. v ≡ r.now)
 

@@ -9,8 +9,8 @@ items_in (Pending ∷ l) = items_in l
 items_in (Ready None ∷ l) = items_in l
 items_in (Ready (Some x) ∷ l) = x ∷ items_in l
 
--- `P` holds of each item that a run from `s` may yield and of the state that the closure `f` then has. In that state it
--- was called, as `call` says, with every item before that one.
+-- `P` holds of each item that a run from `s` may yield, together with the closure's state at that point. That state is
+-- `f` after calls, as `call` says, with the items before.
 pub record AtEachItem {S F A O : Type 0} (run : Runs (Answer A) S) (call : Question F A O) (P : F → A → Type 0) (s : S)
     (f : F) : Type 0 where
   pub at : (ins : List (Answer A)) (x : A) (t : S) (p : F) → run s (ins ++ item x ∷ []) t
@@ -20,12 +20,13 @@ pub record AtEachItem {S F A O : Type 0} (run : Runs (Answer A) S) (call : Quest
 abbrev pub MayCallEach : {S F A B : Type 0} → Runs (Answer A) S → Mut F (A × Unit {0}) B → S → F → Type 0
 MayCallEach run g = AtEachItem run (Calls g) (λ p x. g.pre p (x, tt))
 
--- The function may be called with a reference to each item that the source may still yield, after the items before.
+-- The function may be called with a reference to each item that the source may still yield, after it was called with
+-- the items before.
 abbrev pub MayShowEach : {S F A B : Type 0} → Runs (Answer A) S → Mut F (Bor A × Unit {0}) B → S → F → Type 0
 MayShowEach run g = AtEachItem run (CalledAt g) (TakesAt g)
 
--- The function may be called with each item that the source may still yield and with a state. The state goes from one
--- call to the next.
+-- The function may be called with a state and each item that the source may still yield, after it was called with the
+-- items before. The state goes from one call to the next.
 abbrev pub MayCallEachWith : {S F V A B : Type 0} → Runs (Answer A) S
     → Mut F (MutBor V × (A × Unit {0})) (B × (MutBor V × Unit {0})) → S → F × V → Type 0
 MayCallEachWith run g = AtEachItem run (CallsWith g) (λ p. TakesWithState g p.0 p.1)

@@ -6,8 +6,8 @@ use Rattle.lite_stream.specs.Pointwise.{Exchanges}
 use Rattle.lite_stream.specs.Through.{AdapterParts, Through, parts_of}
 use Rattle.lite_stream.specs.declared.map_while.MapWhile.{MapWhile}
 
--- The source's results, each item replaced by `Ready` of what the function returns. A `None` from the function thus is
--- an end of the stream.
+-- The source's results, each item replaced by `Ready` of what the function returns: an item for `Some`, and the end of
+-- the stream for `None`. Later polls go on with the source.
 abbrev pub MapsWhile : {S F A B : Type 0} → Runs (Answer A) S → Question F A (Option B) → Runs (Answer B) (MapWhile S F)
 MapsWhile run call x l y = Through run (Exchanges call) x.stream x.f l y.stream y.f
 

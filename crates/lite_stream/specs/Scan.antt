@@ -5,8 +5,8 @@ use Rattle.lite_stream.specs.Pointwise.{Exchanges}
 use Rattle.lite_stream.specs.Through.{AdapterParts, Through, parts_of}
 use Rattle.lite_stream.specs.declared.scan.Scan.{Scan}
 
--- The source's results, each item replaced by `Ready` of what the function returns for the state and the item. A `None`
--- from the function thus is an end of the stream. The state goes from one call to the next.
+-- The source's results, each item replaced by `Ready` of what the function returns for the state and the item: an item
+-- for `Some`, and the end of the stream for `None`. The state goes from one call to the next.
 abbrev pub Scans : {S V F A B : Type 0} → Runs (Answer A) S → (F × V → A → Option B → F × V → Type 0)
     → Runs (Answer B) (Scan S V F)
 Scans run call x l y = Through run (Exchanges call) x.stream (x.f, x.state) l y.stream (y.f, y.state)

@@ -6,7 +6,7 @@ use Rattle.lite_stream.specs.Laws.Through.{Entails}
 use Rattle.lite_stream.specs.Through.{AdapterParts, Adapts}
 use Rattle.lite_stream.specs.Relates.{Relates}
 
--- The results hold no more `Pending`s than the source's results.
+-- The adapter adds no `Pending` of its own: its results hold no more `Pending`s than the source's results.
 abbrev pub Calming : {F A B : Type 0} → Relates F A B → Type 0
 Calming relates = Entails relates (λ f i o g. waits o ≤ waits i)
 

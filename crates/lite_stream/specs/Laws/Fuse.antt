@@ -18,7 +18,7 @@ is_end (Ready (Some x)) = false
 abbrev pub is_over_after : Bool → Type 0
 is_over_after ended = ended ≡ true
 
--- Whether this result is the end of the stream. It does not matter what was there before.
+-- Whether this result is the end of the stream, whatever was before.
 abbrev pub ended_after : {A : Type 0} → Answer A → Bool → Bool
 ended_after b before = is_end b
 

@@ -16,7 +16,7 @@ module _ {F A V B : Type 0} (call : Question F A V)
   Placed f (None ∷ ins) out = (more : List (Option B)) × (out ≡ None ∷ more) × Placed f ins more
   Placed f (Some x ∷ ins) out = (v : V) × (g : F) × call f x v g × InPlace v (Placed g ins) out
 
-  -- The same with a value that the adapter holds: what is made of it comes first.
+  -- The same as `Placed` with a value that the adapter may hold at first: what is made of it comes first.
   abbrev pub PlacedFrom : F → Option V → List (Option A) → List (Option B) → Type 0
   PlacedFrom f None ins out = Placed f ins out
   PlacedFrom f (Some v) ins out = InPlace v (Placed f ins) out
