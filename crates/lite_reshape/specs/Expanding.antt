@@ -1,20 +1,22 @@
--- Each item is replaced by the list of what is made of it.
+-- Adapters that replace each item by a list of results. Such an adapter holds the value that is made of the current
+-- item.
 use Rattle.std.specs.Prelude.{◌≡◌, ◌⊎◌, List, [], ◌∷◌, ◌++◌, Option, Some, None}
 use Rattle.lite_reshape.specs.Uses.{Ready, Pending, Answer, end, Question, Relates}
 
--- `call p x v q`: asked about the item x, it goes from p to q and makes v;
--- `gives v out left`: v gave these answers in order, and then `left` is left of it, or it is done
+-- `call p x v q`: the call with the item `x` makes `v`, and takes the closure from `p` to `q`. `gives v out left`: `v`
+-- yielded the results `out`, and `left` remains of it, or nothing if it is done.
 module _ {F A V B : Type 0} (call : Question F A V) (gives : V → List (Answer B) → Option V → Type 0) where
-  -- v is held to the last, and all answers are its own
+  -- The value `v` is still held at the end of the run: all results are made by it, and the source is not polled.
   abbrev pub StillHeld : F → V → List (Answer A) → List (Answer B) → F → Option V → Type 0
   StillHeld p v ins out q last = (ins ≡ []) × (q ≡ p) × (w : V) × gives v out (Some w) × (last ≡ Some w)
 
-  -- the answers of v until it was done, and then those that follow
+  -- The results of `v` until it is done, and then those that follow.
   abbrev pub HeldDone : V → (List (Answer B) → F → Option V → Type 0) → List (Answer B) → F → Option V → Type 0
   HeldDone v follows out q last =
       (own : List (Answer B)) × (rest : List (Answer B)) × (out ≡ own ++ rest) × gives v own None × follows rest q last
 
-  -- each item is replaced by the answers of what is made of it, with nothing held at first; a Pending and an end stay
+  -- The adapter holds nothing at first. Each item of the source is replaced by the results of what is made of it.
+  -- `Pending` and the end of the stream are passed on.
   abbrev pub Expands : F → List (Answer A) → List (Answer B) → F → Option V → Type 0
   Expands p [] [] q last = (q ≡ p) × (last ≡ None)
   Expands p [] (b ∷ out) q last = ⊥
@@ -25,7 +27,8 @@ module _ {F A V B : Type 0} (call : Question F A V) (gives : V → List (Answer 
       (v : V) × (r : F) × call p x v r
       × (StillHeld r v ins (b ∷ out) q last ⊎ HeldDone v (Expands r ins) (b ∷ out) q last)
 
-  -- what is held stands before what comes in
+  -- Each item is replaced by the list of what is made of it. The results of a value that the adapter holds come before
+  -- those of further items.
   abbrev pub Expanding : Relates (F × Option V) A B
   Expanding (p, None) ins out t = Expands p ins out t.0 t.1
   Expanding (p, Some v) ins out t = StillHeld p v ins out t.0 t.1 ⊎ HeldDone v (Expands p ins) out t.0 t.1

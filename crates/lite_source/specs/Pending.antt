@@ -1,8 +1,8 @@
--- `pending`: each answer is Pending.
+-- `pending`: every poll returns `Pending`.
 use Rattle.std.specs.Prelude.{◌≡◌}
 use Rattle.lite_source.specs.Uses.{Pending, Answer, Runs}
 use Rattle.lite_source.specs.Always.{Unchanging}
 
--- each answer is Pending
+-- Every result is `Pending`.
 abbrev pub GivesPendings : {S A : Type 0} → Runs (Answer A) S
 GivesPendings = Unchanging (λ _ a. a ≡ Pending)

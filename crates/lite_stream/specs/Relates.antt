@@ -1,7 +1,8 @@
--- The type of what an adapter of one source says.
+-- The type of the relations that specify an adapter over one source.
 use Rattle.std.specs.Prelude.{List}
 use Rattle.lite_stream.specs.Uses.{Answer}
 
--- where an F was held these answers came in and those went out, and now another F is held
+-- `relates f ins out g`: an adapter in the state `f` received `ins` from its source, returned `out`, and is now in the
+-- state `g`. The state is what the adapter holds besides its source.
 abbrev pub Relates : Type 0 → Type 0 → Type 0 → Type 1
 Relates F A B = F → List (Answer A) → List (Answer B) → F → Type 0

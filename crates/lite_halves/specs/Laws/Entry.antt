@@ -1,4 +1,4 @@
--- Laws of entries and their marks.
+-- Laws about entries of a journal and their marks.
 use Rattle.std.specs.Prelude.{◌≡◌, ℕ, List, [], ◌∷◌, ◌++◌, length, take, Result, Ok, Err}
 use Rattle.lite_halves.specs.Uses.{refl, arith, length-take-le, ap, map-append, Error, Poll, Ready, Pending, Part, moved, read_marks, WriteMark, done_marks}
 use Rattle.lite_halves.specs.Uses.{write_marks, CountsWithin}
@@ -16,7 +16,7 @@ met_moved : (buf xs : List ℕ) → met (length buf) xs ≡ moved buf xs
 met_moved [] [] = refl
 met_moved _ _ = refl
 
--- the marks of an entry are those of its call's answer
+-- The marks of an entry are those of its call's result.
 pub read_note_part : (r : Poll (Result ℕ Error)) (buf : List ℕ)
     → part_of (read_note r buf).asked (read_note r buf).told ≡ Part.reading (read_marks r buf)
 read_note_part (Ready (Ok n)) buf = ap Part.reading (met_moved buf (take n buf))
@@ -29,13 +29,13 @@ write_note_part (Ready (Ok n)) [] = refl
 write_note_part (Ready (Ok n)) (x ∷ xs) = refl
 write_note_part Pending xs = refl
 
--- those of a flush or of a close
+-- The same, of a flush or a close.
 pub done_note_part : (mark : WriteMark) (r : Poll (Result (Unit {0}) Error))
     → Part.writing (done_marks_of mark (told_of_done r)) ≡ Part.writing (done_marks mark r)
 done_note_part mark (Ready (Err e)) = refl
 done_note_part mark _ = refl
 
--- the answer fits its call
+-- The result is one that its call may have.
 pub read_note_fits : (r : Poll (Result ℕ Error)) (buf : List ℕ) → CountsWithin r (length buf)
     → FitsCall (read_note r buf).asked (read_note r buf).told
 read_note_fits (Ready (Ok n)) buf within = omega (arith, within, length-take-le n buf within)

@@ -1,4 +1,4 @@
--- Laws of journals.
+-- Laws about journals.
 use Rattle.std.specs.Prelude.{◌≡◌, ◌≤◌, ℕ, length, Result, List, [], ◌∷◌, ◌++◌, Option, Some, None, map}
 use Rattle.lite_halves.specs.Uses.{◌∙◌, refl, sym, ap, append_assoc, append-nil, arith, inl, inr, length-append, map-append, flat_map-append, Error, IoSliceMut}
 use Rattle.lite_halves.specs.Uses.{Poll, ErrorKind, OutOfMemory, Part, PartRuns, PartsInOrder, steps_follow, ReadMark, read_marks, MarkLaws, StandsFirst}
@@ -9,7 +9,7 @@ use Rattle.lite_halves.specs.Journal.{JournalReads, JournalWrites, Journals, Rep
 use Rattle.lite_halves.specs.Journal.{parts_among}
 use Rattle.lite_halves.specs.Laws.Entry.{done_note_part, fit_both, parts_in-both, read_note_part, write_note_part}
 
--- refusals of two runs in order
+-- Allocation failures may be left out of two lists of marks that follow each other.
 pub thins_both : {A : Type 0} (refusal : A) (xs ks ys ls : List A) → Thins refusal xs ks → Thins refusal ys ls
     → Thins refusal (xs ++ ys) (ks ++ ls)
 thins_both {A} refusal [] ks ys ls a b = let P : List A → Type 0 = λ w. Thins refusal ys (w ++ ls) in rw a b
@@ -18,7 +18,7 @@ thins_both refusal (x ∷ xs) ks ys ls a b = elim a [
   | inr w ↦ inr (w.0, thins_both refusal xs ks ys ls w.1 b)
 ]
 
--- marks of which none is a refusal that reached nothing
+-- A list stays as it is if no allocation failure is left out.
 pub thins_none : {A : Type 0} (refusal : A) (ms : List A) → Thins refusal ms ms
 thins_none refusal [] = refl
 thins_none refusal (m ∷ ms) = inl (ms, refl, thins_none refusal ms)
@@ -47,12 +47,12 @@ module _ {T : Type 0} (reads : Runs ReadMark T) (writes : Runs WriteMark T) wher
         room = omega (arith, p.room, q.room, length-append es fs);
       }
 
-  -- one entry is added as several are
+  -- One entry is added like several are.
   pub adds_one : {a b : Chronicle T} {e : Note} → Adds reads writes a e b → AddsAll reads writes a (e ∷ []) b
   adds_one {b = b} h =
       record { fits = (h.fits, tt); start = h.start; notes = h.notes; ran = (b.stream, h.ran, refl); room = h.room }
 
-  -- what a journal's callers see of one kind of calls
+  -- What callers see of one kind of calls.
   module _ {A : Type 0} (part : List A → Part) (refusal : A) where
     journals_follow : (a b c : Chronicle T) (l m : List A) → Journals reads writes part refusal a l b
         → Journals reads writes part refusal b m c → Journals reads writes part refusal a (l ++ m) c
@@ -71,7 +71,7 @@ module _ {T : Type 0} (reads : Runs ReadMark T) (writes : Runs WriteMark T) wher
       follows = journals_follow;
     }
 
-    -- of a call that added its entry
+    -- What callers see of a call that added its entry.
     journals_add : {a b : Chronicle T} {e : Note} {ms : List A} → part_of e.asked e.told ≡ part ms
         → Adds reads writes a e b → Journals reads writes part refusal a ms b
     journals_add {e = e} {ms = ms} is h =
@@ -83,7 +83,7 @@ module _ {T : Type 0} (reads : Runs ReadMark T) (writes : Runs WriteMark T) wher
           thinned = rw append-nil (thins_none refusal ms);
         }
 
-    -- and of one that was refused
+    -- What callers see of a call whose allocation failed.
     journals_refuse : {a b : Chronicle T} {m : A} → m ≡ refusal → b ≡ a
         → Journals reads writes part refusal a (m ∷ []) b
     journals_refuse {a} refused same =
@@ -160,11 +160,11 @@ module _ {T : Type 0} (reads : Runs ReadMark T) (writes : Runs WriteMark T) wher
         let same : h.0 ≡ x = elim (h.1) [ inl to ↦ equal x h.0 to | inr from ↦ sym (equal h.0 x from) ] in
         rw (← same) (stages_run equal h.0 y ps h.2)
 
-    -- a sound journal is a run from its start, where each clone equals its original
+    -- A sound journal is a run from its start, if every clone equals its original.
     pub sound_replays : (j : Chronicle T) → IsSound reads writes copies j → Replays reads writes copies j
     sound_replays j sound equal = rw sound.story.1 (stages_run equal _ _ sound.story.0 sound.story.2)
 
-    -- a journal without entries
+    -- A journal without entries is sound.
     pub sound_new : (start stream : T) (room : ℕ) → copies stream start → IsSound reads writes copies (record {
       start = start;
       notes = [];
@@ -173,7 +173,7 @@ module _ {T : Type 0} (reads : Runs ReadMark T) (writes : Runs WriteMark T) wher
     })
     sound_new start stream room h = record { fits = tt; story = story_from_clone h }
 
-    -- with the entries of more calls
+    -- A journal is sound after further calls.
     module _ (a b : Chronicle T) where
       pub sound_more : (es : List Note) → IsSound reads writes copies a → AddsAll reads writes a es b
           → IsSound reads writes copies b
@@ -185,7 +185,7 @@ module _ {T : Type 0} (reads : Runs ReadMark T) (writes : Runs WriteMark T) wher
                 (story_follows sound.story (story_of_parts (parts_in es) adds.ran));
           }
 
-      -- of which all is cloned
+      -- A journal is sound if all of it is cloned.
       pub sound_clone : IsSound reads writes copies a → copies a.start b.start → copies a.stream b.stream
           → b.notes ≡ a.notes → IsSound reads writes copies b
       sound_clone sound from to same =

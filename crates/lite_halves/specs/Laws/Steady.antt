@@ -1,4 +1,4 @@
--- A journal is as steady and as calm a reader, and a writer, as its stream.
+-- Laws about the steadiness and calmness of journals: these follow their stream, both in reading and in writing.
 use Rattle.std.specs.Prelude.{◌≡◌, ℕ, List, [], ◌∷◌, map}
 use Rattle.lite_halves.specs.Uses.{◌∙◌, ap, inl, inr, subst, ErrorKind, Interrupted, OutOfMemory, no_wait_both, no_wait_parts, never_waits_both}
 use Rattle.lite_halves.specs.Uses.{never_waits_parts, ReadMark, Part, PartsInOrder, MarkLaws, CalmReadLaws, NoPendingRead, SteadyReadLaws, CalmWriteLaws}
@@ -7,7 +7,7 @@ use Rattle.lite_halves.specs.Journal.{Chronicle, JournalReads, JournalWrites, Th
 use Rattle.lite_halves.specs.Laws.Journal.{journals_laws}
 use Rattle.lite_halves.specs.Steady.{ReadsAmply}
 
--- a refusal is no pending
+-- An allocation failure is no `Pending`.
 thins_no_wait : (kind : ErrorKind) (ms ks : List ReadMark) → Thins (ReadMark.fault kind) ms ks → NoPendingRead ks
     → NoPendingRead ms
 thins_no_wait kind [] ks h n = tt
@@ -24,7 +24,7 @@ module _ {T : Type 0} (reads : Runs ReadMark T) (writes : Runs WriteMark T) (law
   parts_read [] x y h = rw h (laws.rests x)
   parts_read (l ∷ ls) x y h = laws.follows x h.0 y l (all_in_order ls) h.1 (parts_read ls h.0 y h.2)
 
-  -- what the stream was read by
+  -- What the stream was read by.
   stream_read : (a b : Chronicle T) (ms : List ReadMark) (h : JournalReads reads writes a ms b)
       → reads a.stream (all_in_order h.marks) b.stream
   stream_read a b ms h =
@@ -58,7 +58,7 @@ module _ {T : Type 0} {reads : Runs ReadMark T} {writes : Runs WriteMark T} wher
         found = λ n. absurd n;
       }
 
--- the same of writing
+-- The same, of writing.
 refused_no_wait : (kind : ErrorKind) (ms ks : List WriteMark) → Thins (WriteMark.fault kind) ms ks → NoPendingWrite ks
     → NoPendingWrite ms
 refused_no_wait kind [] ks h n = tt
@@ -76,7 +76,7 @@ no_error_rest _ ms n = n
 out_of_memory : OutOfMemory ≡ Interrupted → ⊥
 out_of_memory is = cc
 
--- where no error is but an interruption, nothing was refused
+-- If every error is an interruption, no allocation failed.
 none_refused : (ms ks : List WriteMark) → Thins (WriteMark.fault OutOfMemory) ms ks → NoError ms → ks ≡ ms
 none_refused [] ks h n = h
 none_refused (m ∷ ms) ks h n = elim h [
@@ -90,14 +90,14 @@ module _ {T : Type 0} (reads : Runs ReadMark T) (writes : Runs WriteMark T) (law
   parts_wrote [] x y h = rw h (laws.rests x)
   parts_wrote (l ∷ ls) x y h = laws.follows x h.0 y l (all_in_order ls) h.1 (parts_wrote ls h.0 y h.2)
 
-  -- what the stream was written by
+  -- What the stream was written by.
   stream_wrote : (a b : Chronicle T) (ms : List WriteMark) (h : JournalWrites reads writes a ms b)
       → writes a.stream (all_in_order h.marks) b.stream
   stream_wrote a b ms h =
       parts_wrote h.marks a.stream b.stream
       (rw (← h.kind) h.added.ran)
 
-  -- where no error is but an interruption, by the same marks
+  -- If every error is an interruption, the stream was written by the same marks.
   stream_wrote_all : (a b : Chronicle T) (ms : List WriteMark) → JournalWrites reads writes a ms b → NoError ms
       → writes a.stream ms b.stream
   stream_wrote_all a b ms h none = rw (none_refused ms (all_in_order h.marks) h.thinned none) at (stream_wrote a b ms h)

@@ -1,4 +1,4 @@
--- Laws of a stream with a budget.
+-- Laws about a stream with a budget.
 use Rattle.std.specs.Prelude.{◌∷◌, ⊤}
 use Rattle.lite_merge.specs.Uses.{inl, refl, arith, Pending, Sameness, Answer, paced_bounded, paced_items, paced_lowers, paced_strip, paces_follow, Paces}
 use Rattle.lite_merge.specs.Uses.{left_behind, Counting, Runs, SteadyLawsBy, through_alike, Relating, through_runs}
@@ -27,7 +27,7 @@ budget_counting =
       lowers = λ x y l k h. absurd k;
     }
 
--- whatever the two budgets are
+-- Two such streams are alike, whatever their budgets are.
 pub budget_steady : {S A : Type 0} {run ample : Runs (Answer A) S} {needs_none : Type 0} {alike : S → S → Type 0}
     (like : Sameness A) → SteadyLawsBy like run ample needs_none alike
     → SteadyLawsBy like (Budgets run) (Budgets ample) needs_none (λ (x y : Budgeted S). alike x.stream y.stream)

@@ -1,4 +1,4 @@
--- Laws of `cycle`.
+-- Laws about `cycle`.
 use Rattle.std.specs.Prelude.{IfSome, Result, Ok, Err, ◌≡◌, List, [], ◌∷◌, ◌++◌, Option, Some, None}
 use Rattle.lite_merge.specs.Uses.{◌∙◌, refl, append_assoc, Ready, Pending, Answer, Endless, end, CalmLaws, NoPending, calm_both, no_pending_front}
 use Rattle.lite_merge.specs.Uses.{no_pending_join, same_hint, all_ok, StreamLaws, endless_join, Hints, NoHint, Runs}
@@ -54,12 +54,12 @@ module _ {S A : Type 0} {run : Runs (Answer A) S} {hints : Hints S} (laws : Stre
 module _ {S A E : Type 0} (is_clone : S → S → Type 0) (is_infallible : S → Type 0) {run : Runs (Answer A) S}
     {hints : Hints S} (laws : StreamLaws run hints) where
   module _ (original : S) where
-    -- one poll, of a stream that gave an item or was pending
+    -- One poll of a stream that yielded an item or was pending.
     pub lap_one : (s t : S) (a : Answer A) → run s (a ∷ []) t → Endless (a ∷ [])
         → Laps run is_clone is_infallible original [] (Some s) (all_ok {E = E} (a ∷ [])) (Some t)
     lap_one s t a came endless = (a ∷ [], (came, endless), refl)
 
-    -- and one that met an end, or a copy that is still to be made
+    -- One poll at an end of the stream, or while a clone is still to be made.
     pub renewed : (x : Option S) (asked : Result S E) (b : Answer (Result A E)) (y : Option S) → LapOver run x []
         → Renews run is_clone is_infallible original asked (b ∷ []) y
         → Laps run is_clone is_infallible original (asked ∷ []) x (b ∷ []) y
@@ -86,7 +86,7 @@ module _ {S A E : Type 0} (is_clone : S → S → Type 0) (is_infallible : S →
     laps_stay (r ∷ asked) x y h =
         absurd (none_after (all_ok h.own) h.anew h.rest (renews_some r h.anew h.next h.renews) h.joined)
 
-    -- after a part of the first lap
+    -- More results after a part of the first lap.
     laps_after : (asked : List (Result S E)) (x y z : Option S) (own : List (Answer A))
         (out : List (Answer (Result A E))) → Lap run x own y → Laps run is_clone is_infallible original asked y out z
         → Laps run is_clone is_infallible original asked x (all_ok own ++ out) z
@@ -165,7 +165,7 @@ module _ {S A E : Type 0} (is_clone : S → S → Type 0) (is_infallible : S →
           after.1,
         )
 
-  -- where the stream and each copy are calm
+  -- A `cycle` is calm, if the stream and each clone of it are.
   pub cycle_calm : CalmLaws (Cycles {E = E} run is_clone is_infallible) (AllCopies is_calm is_clone)
   cycle_calm =
       calm_both (λ x y l k h.

@@ -1,4 +1,4 @@
--- Laws of `drain`.
+-- Laws about `drain`.
 use Rattle.std.specs.Prelude.{◌≡◌, ℕ, List, [], ◌∷◌, ◌++◌, Some, None}
 use Rattle.std.proofs.Common.{◌≤◌}
 use Rattle.lite_merge.specs.Uses.{refl, arith, Ready, Pending, Answer, before_end, items, CalmLaws, NoPending, Lowers, Runs, Relating}
@@ -15,7 +15,7 @@ module _ {A : Type 0} where
   drained_none (Pending ∷ i) e = cc
   drained_none (Ready o ∷ i) e = cc
 
-  -- an end goes out where a Pending came in, so no more items stand before the first end
+  -- An end replaces each `Pending`, so no more items come before the first end.
   drained_bounded : (i : List (Answer A)) → before_end (with_ends i) ≤ before_end i
   drained_bounded (Ready (Some x) ∷ i) = omega (arith, drained_bounded i)
   drained_bounded i = omega arith
@@ -55,6 +55,6 @@ module _ {A : Type 0} where
   drained_no_pending (Pending ∷ i) = drained_no_pending i
   drained_no_pending (Ready o ∷ i) = drained_no_pending i
 
--- it is never pending, whatever its stream is
+-- A `drain` is never pending, whatever its stream is.
 pub drain_calm : {S A : Type 0} (run : Runs (Answer A) S) → CalmLaws (Drains run) (λ m. Unit {0})
 drain_calm run = record { no_pending = λ x y l k h. rw h.related (drained_no_pending h.ins); calm_on = λ x y l k h. tt }

@@ -1,4 +1,4 @@
--- Laws of answers that are all ends.
+-- Laws about results that are all ends of stream.
 use Rattle.std.specs.Prelude.{◌≡◌, ℕ, List, [], ◌∷◌, ◌++◌, Some, None}
 use Rattle.std.proofs.Common.{◌≤◌}
 use Rattle.lite_merge.specs.Uses.{arith, Ready, Pending, Answer, before_end, end, items, waits, AtMost, Lowers, AllEnds}
@@ -8,7 +8,7 @@ module _ {A : Type 0} where
   ends_before [] h = omega arith
   ends_before (a ∷ l) h = rw h.0 (omega arith)
 
-  -- ends that follow make no items
+  -- Ends that follow other results yield no items.
   pub ends_bounded : (i l : List (Answer A)) → AllEnds l → before_end (i ++ l) ≤ before_end i
   ends_bounded [] l h = ends_before l h
   ends_bounded (Pending ∷ i) l h = ends_bounded i l h
@@ -28,13 +28,13 @@ module _ {A : Type 0} where
   ends_waits [] h = omega arith
   ends_waits (a ∷ l) h = rw h.0 (ends_waits l h.1)
 
-  -- nor Pendings
+  -- Ends that follow other results add no `Pending`.
   pub ends_calm : (i l : List (Answer A)) → AllEnds l → waits (i ++ l) ≤ waits i
   ends_calm [] l h = ends_waits l h
   ends_calm (Pending ∷ i) l h = omega (arith, ends_calm i l h)
   ends_calm (Ready x ∷ i) l h = ends_calm i l h
 
-  -- items have no end among them
+  -- A list of items holds no end of stream.
   pub no_end_among : (i j : List (Answer A)) (l : List A) → items l ≡ i ++ end ∷ j → ⊥
   no_end_among [] j [] e = cc
   no_end_among (a ∷ i) j (x ∷ l) e = no_end_among i j l (cc e)

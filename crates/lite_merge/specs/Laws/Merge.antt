@@ -1,4 +1,4 @@
--- Laws of two streams of which each row asks one first.
+-- Laws about two streams that are merged row by row.
 use Rattle.std.specs.Prelude.{◌≡◌, ℕ, ◌+◌, List, [], ◌∷◌, ◌++◌, length, map, Bool, true, Some, None}
 use Rattle.lite_merge.specs.Uses.{◌∙◌, inl, refl, ap, sym, arith, length-append, Ready, Pending, Answer, item, items, CalmLaws, NoPending, AtMost-both}
 use Rattle.lite_merge.specs.Uses.{AtMost-length, Below-after, Below-first, Lowers-at_most, no_pending_join, rows_by, rows_follow, AtMost, Below, Lowers}
@@ -13,7 +13,7 @@ module _ {A : Type 0} where
   row_more (a ∷ i) (b ∷ j) c i' j' k h r = (r.0, ap (λ l. l ++ k) r.1, ap (λ l. l ++ h) r.2)
   row_more i j c i' j' k h r = absurd r
 
-  -- where neither list has a Pending, no row has
+  -- If neither list holds a `Pending`, no row returns one.
   row_calm : (i j : List (Answer A)) (c : Answer A) (i' j' : List (Answer A)) → MergeRow i j c i' j' → NoPending i
       → NoPending j → NoPending (c ∷ []) × NoPending i' × NoPending j'
   row_calm (Ready (Some x) ∷ i) j c i' j' r p q = (rw r.0 tt, rw r.1 p, rw r.2 q)
@@ -29,7 +29,7 @@ module _ {A : Type 0} where
       (λ i j c i' j' l r k p q. let d = row_calm i j c i' j' r p q in no_pending_join (c ∷ []) l d.0 (k d.1 d.2))
       (λ i j c i' j' l r k p q. let d = row_calm j i c j' i' r q p in no_pending_join (c ∷ []) l d.0 (k d.2 d.1))
 
-  -- ranks that the items of either lower
+  -- Ranks that are lower after an item of either stream.
   module _ (zs ws xs us ys vs : List ℕ) (one : Below xs us → AtMost ys vs → Below zs ws)
       (other : AtMost xs us → Below ys vs → Below zs ws) where
     beside_lowers : (b : Answer A) (out : List (Answer A)) → Lowers (b ∷ out) zs ws
@@ -53,7 +53,7 @@ module _ {A : Type 0} where
         rw r.0 (beside_lowers b out asked)
     row_lowers i j c i' j' out r rest h k = absurd r
 
-  -- in a row of an item where the first stands first, the second gave an item or nothing
+  -- In a row with an item, when the first stream is polled first, the second yielded an item or was not polled.
   row_item : (i j : List (Answer A)) (y : A) (i' j' : List (Answer A)) (l s : List A) → MergeRow i j (item y) i' j'
       → j' ≡ items s → (s ≡ [] → i' ≡ items l) → (t : List A) × (j ≡ items t) × (t ≡ [] → i ≡ items (y ∷ l))
   row_item (Ready (Some x) ∷ i) j y i' j' l s r e rest =
@@ -66,8 +66,8 @@ module _ {A : Type 0} where
       (z ∷ s, (let d = r.2 in cc), λ none. cc none)
   row_item i j y i' j' l s r e rest = absurd r
 
-  -- in rows of items where the first stands first, the second gave items alone, and where it gave none all are the
-  -- first's
+  -- If all results are items and the first stream is polled first, the second yielded only items. If it yielded none,
+  -- all are the first's.
   first_items : (i j : List (Answer A)) (l : List A) → MergeRows (map (λ _. true) (items l)) i j (items l)
       → (s : List A) × (j ≡ items s) × (s ≡ [] → i ≡ items l)
   first_items i j [] r = ([], r.1, λ none. r.0)
@@ -75,7 +75,7 @@ module _ {A : Type 0} where
       let e = first_items r.0 r.1 l r.3 in
       row_item i j y r.0 r.1 l e.0 r.2 e.1 e.2
 
--- the laws of a stream that is asked through its first end
+-- The laws of a stream that is not polled after its first end.
 pub fused_laws : {S A : Type 0} {run : Runs (Answer A) S} {hints : Hints S} → StreamLaws run hints
     → StreamLaws (Fuses run) NoHint
 fused_laws s = laws_unhinted fuse_parts s fuses_relating
@@ -93,7 +93,7 @@ module _ {S U A : Type 0} {run : Runs (Answer A) S} {run' : Runs (Answer A) U} {
         rows = rows_follow MergeRow row_more o p h.firsts h.seconds k.firsts k.seconds l m h.rows k.rows;
       }
 
--- where both are calm
+-- Two calm streams that are merged are calm.
 pub merges_calm : {S U A : Type 0} {run : Runs (Answer A) S} {run' : Runs (Answer A) U} {is_calm : S → Type 0}
     {is_calm' : U → Type 0} → CalmLaws run is_calm → CalmLaws run' is_calm'
     → {o : List Bool} {x t : Fuse S} {y v : Fuse U} {out : List (Answer A)} → is_calm x.stream × is_calm' y.stream
@@ -129,7 +129,7 @@ module _ {S U A : Type 0} {run : Runs (Answer A) S} {run' : Runs (Answer A) U} {
       ((through_counting fuse_parts c fuses_relating).lowers x t h.firsts k.0 h.came)
       ((through_counting fuse_parts d fuses_relating).lowers y v h.seconds k.1 h.then_came)
 
-  -- where the first stands first in each row
+  -- The rank falls if the first stream is polled first in each row.
   pub first_falls : {hints' : Hints U} → StreamLaws run' hints' → {x t : Fuse S} {y v : Fuse U} (a : A) (more : List A)
       → r.counts x.stream × r'.counts y.stream
       → Merges run run' (map (λ _. true) (items (a ∷ more))) x y (items (a ∷ more)) t v
@@ -147,7 +147,7 @@ module _ {S U A : Type 0} {run : Runs (Answer A) S} {run' : Runs (Answer A) U} {
           ((through_counting fuse_parts d fuses_relating).falls y v z s k.1 (rw e at h.then_came))
           (c.sized t.stream ∙ sym (c.sized x.stream))
 
--- what each run keeps
+-- A fact that each stream keeps is kept by merging.
 pub merges_keep : {S U A : Type 0} {run : Runs (Answer A) S} {run' : Runs (Answer A) U} {P : S → Type 0}
     {Q : U → Type 0} → ((x y : S) (l : List (Answer A)) → P x → run x l y → P y)
     → ((x y : U) (l : List (Answer A)) → Q x → run' x l y → Q y)

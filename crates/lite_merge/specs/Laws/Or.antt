@@ -1,4 +1,4 @@
--- Laws of `or`.
+-- Laws about `or`.
 use Rattle.std.specs.Prelude.{[], None}
 use Rattle.lite_merge.specs.Uses.{refl, map-append, Answer, CalmLaws, calm_both, same_hint, rows_empty, Counting, Ranks, StreamLaws, Hints, NoHint, Runs}
 use Rattle.lite_merge.specs.Laws.Merge.{first_falls, fused_laws, merges_calm, merges_follow, merges_keep, merges_lower}
@@ -29,7 +29,7 @@ module _ {S U A : Type 0} {run : Runs (Answer A) S} {run' : Runs (Answer A) U} w
         bounded = λ x y hint l e h. same_hint hint (0, None) l e tt;
       }
 
-  -- where both are calm
+  -- An `or` of two calm streams is calm.
   pub or_calm : {is_calm : S → Type 0} {is_calm' : U → Type 0} → CalmLaws run is_calm → CalmLaws run' is_calm'
       → CalmLaws (Ors run run') (λ (x : Or S U). is_calm x.stream1.stream × is_calm' x.stream2.stream)
   or_calm c d = calm_both (λ x y l. merges_calm c d)

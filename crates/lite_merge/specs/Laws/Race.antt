@@ -1,4 +1,4 @@
--- Laws of `race`.
+-- Laws about `race`.
 use Rattle.std.specs.Prelude.{◌≡◌, List, [], ◌∷◌, ◌++◌, None}
 use Rattle.lite_merge.specs.Uses.{refl, inl, append-nil, map-append, Stream, next_u32, Answer, items, CalmLaws, NoPending, folds_follow, calm_both, same_hint}
 use Rattle.lite_merge.specs.Uses.{Lowers, Counting, Ranks, StreamLaws, Hints, NoHint, Runs}
@@ -36,7 +36,7 @@ module _ {S U R A : Type 0} {run : Runs (Answer A) S} {run' : Runs (Answer A) U}
     calm_run x y [] k h = rw h (tt, k)
     calm_run x y (a ∷ l) k h = merges_calm c d k h.merges
 
-    -- where both are calm
+    -- A `race` of two calm streams is calm.
     pub race_calm : CalmLaws (RacesOn run run' stream)
         (λ (x : Race S U R). is_calm x.stream1.stream × is_calm' x.stream2.stream)
     race_calm = calm_both calm_run

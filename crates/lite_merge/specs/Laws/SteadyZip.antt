@@ -1,4 +1,4 @@
--- Two streams whose items are paired, by what each of them answers.
+-- The steadiness of two streams whose items are paired.
 use Rattle.std.specs.Prelude.{◌≡◌, ℕ, zero, suc, List, [], ◌∷◌, Option, Some, None}
 use Rattle.lite_merge.specs.Uses.{refl, Poll, Pairwise, SameAnswer, SameHeld, SameItem, Sameness, Answer, ComparableBy, strip, both_items, comparable_nil}
 use Rattle.lite_merge.specs.Uses.{ends_same, held_same, item_same, pairs_same, same_answer, SteadyLawsBy, Runs}
@@ -10,13 +10,13 @@ strip_pendings : {C : Type 0} (n : ℕ) (l : List (Poll C)) → strip (pendings 
 strip_pendings zero l = refl
 strip_pendings (suc n) l = strip_pendings n l
 
--- an item that is held stands before the others
+-- An item that is held comes before the others.
 abbrev held_before : {A : Type 0} → Option A → List (Option A) → List (Option A)
 held_before None is = is
 held_before (Some x) is = Some x ∷ is
 
 module _ {A B : Type 0} where
-  -- the pair, or the end
+  -- The pair, or the end of the stream.
   abbrev with_other : A → Option B → Option (A × B)
   with_other x None = None
   with_other x (Some y) = Some (x, y)
@@ -25,7 +25,7 @@ module _ {A B : Type 0} where
   strip_pair x None l = refl
   strip_pair x (Some y) l = refl
 
-  -- as Pairs, where nothing is pending
+  -- The same as `Pairs`, for lists of results without their `Pending`s.
   abbrev Matched : List (Option A) → List (Option B) → List (Option (A × B)) → Type 0
   Matched [] js out = out ≡ []
   Matched (None ∷ is) js out = (more : List (Option (A × B))) × (out ≡ None ∷ more) × Matched is js more
@@ -42,7 +42,7 @@ module _ {A B : Type 0} where
       (λ i j l r. (strip l, refl, r)) (λ x i j b l r. r) f
 
   module _ (same : Sameness A) (other : Sameness B) where
-    -- the pairs of two runs are the same, as far as both go
+    -- The pairs of two runs are the same, as far as both go.
     abbrev Out : List (Option (A × B)) → List (Option (A × B)) → Type 0
     Out = ComparableBy (SameAnswer (Pairwise same other))
 
@@ -78,7 +78,7 @@ module _ {A B : Type 0} where
 
 module _ {S U A B : Type 0} {run ample : Runs (Answer A) S} {run' ample' : Runs (Answer B) U} {none none' : Type 0}
     {alike : S → S → Type 0} {alike' : U → U → Type 0} (same : Sameness A) (other : Sameness B) where
-  -- where they hold the same
+  -- Two such streams are alike, if what they hold is the same.
   pub zip_steady : SteadyLawsBy same run ample none alike → SteadyLawsBy other run' ample' none' alike'
       → SteadyLawsBy (Pairwise same other) (Zips run run') (Zips ample ample') (none × none')
       (λ (x y : Zip S U A). alike x.first y.first × alike' x.second y.second

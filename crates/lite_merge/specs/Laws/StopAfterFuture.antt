@@ -1,4 +1,4 @@
--- Laws of `stop_after_future`.
+-- Laws about `stop_after_future`.
 use Rattle.std.specs.Prelude.{IfSome, ◌≡◌, ℕ, List, [], ◌∷◌, ◌++◌, length, Option, Some, None}
 use Rattle.std.proofs.Common.{◌≤◌}
 use Rattle.lite_merge.specs.Uses.{◌∙◌, length-append, refl, ap, sym, arith, append_assoc, Poll, Pending, Answer, before_end, end, items, FutureLaws, all_append}
@@ -11,7 +11,7 @@ use Rattle.lite_merge.specs.declared.stop_after_future.StopAfterFuture.{StopAfte
 use Rattle.lite_merge.specs.declared.stop_after_future.Stopping.TheVariants.{Holding, TakenOut, Stopped}
 use Rattle.lite_merge.specs.declared.stop_after_future.Stopping.{Stopping}
 
--- one poll, in which the future was pending
+-- One poll in which the future was pending.
 pub beside_one : {F A R : Type 0} (run : Runs (Poll R) F) (f g : F) (a : Answer A) → run f (Pending ∷ []) g
     → PendingBeside run f (a ∷ []) g
 beside_one run f g a came = record { told = Pending ∷ []; waiting = tt; came = came; rows = refl }
@@ -52,11 +52,11 @@ module _ {F A R : Type 0} {run : Runs (Poll R) F} (laws : FutureLaws run) where
       absurd (none_out h.own h.goes_out.0 (rw (h.through_end, append_assoc) at h.goes_out.2))
   stops_stay (Holding f) TakenOut i h = absurd h
 
-  -- more ends behind
+  -- More ends may follow.
   ends_on : (i m : List (Answer A)) {o : List (Answer A)} → ThenEnds i o → AllEnds m → ThenEnds i (o ++ m)
   ends_on i m h d = (h.0 ++ m, all_append (λ a. a ≡ end) h.0 m h.1 d, rw (h.2, append_assoc) refl)
 
-  -- and more before
+  -- More results may come first.
   ends_after : (j : List (Answer A)) {i l m : List (Answer A)} → l ≡ i → ThenEnds j m → ThenEnds (i ++ j) (l ++ m)
   ends_after j e h = (h.0, h.1, rw (e, h.2, append_assoc) refl)
 
@@ -66,7 +66,7 @@ module _ {F A R : Type 0} {run : Runs (Poll R) F} (laws : FutureLaws run) where
   stops_join (Stopped r) g k i j l m h d =
       let e = rw h.2 at d in
       (rw (h.0, e.0), all_append (λ a. a ≡ end) l m h.1 e.1, e.2)
-  -- after it was stopped
+  -- A run after the stream was stopped.
   stops_join (Holding f) (Stopped (Some value)) k i j l m h d =
       rw (d.2, d.0, append-nil)
       record {
@@ -86,7 +86,7 @@ module _ {F A R : Type 0} {run : Runs (Poll R) F} (laws : FutureLaws run) where
         through_end = h.through_end;
         goes_out = ends_on _ m h.goes_out d.1;
       }
-  -- before it was stopped
+  -- A run before the stream was stopped.
   stops_join (Holding f) (Holding g) (Holding k) i j l m h d =
       (beside_join f g k i j h.0 d.0, endless_join i j h.1 d.1, rw (h.2, d.2))
   stops_join (Holding f) (Holding g) (Stopped (Some value)) i j l m h d =
@@ -109,7 +109,8 @@ module _ {F A R : Type 0} {run : Runs (Poll R) F} (laws : FutureLaws run) where
   stops_join (Holding f) (Holding g) TakenOut i j l m h d = absurd d
   stops_join (Holding f) TakenOut k i j l m h d = absurd h
 
-  -- what goes out is what came in, and then ends; where it was stopped by a value the first of them came in its row
+  -- The results are the source's results, and then ends of stream. If the value stopped the stream, the poll that
+  -- returned it returned the first of these.
   ends_behind : (f g : Stopping F R) (i o : List (Answer A)) → StopsBy run f i o g → ThenEnds i o
   ends_behind TakenOut g i o h = ([], tt, h.0 ∙ sym (append-nil i))
   ends_behind (Stopped r) g i o h = (o, h.1, ap (λ l. l ++ o) (sym h.0))

@@ -1,4 +1,4 @@
--- Laws of two streams whose items are paired.
+-- Laws about two streams whose items are paired.
 use Rattle.std.specs.Prelude.{◌≡◌, ℕ, zero, suc, ◌+◌, List, [], ◌∷◌, ◌++◌, Option, Some, None}
 use Rattle.std.proofs.Common.{◌≤◌}
 use Rattle.lite_merge.specs.Uses.{◌∙◌, inl, inr, refl, ap, arith, AllByRecursion, Poll, Ready, Pending, Answer, end, item, items, CalmLaws, waits}
@@ -30,7 +30,7 @@ module _ {C : Type 0} where
   not_items zero y l e = cc
   not_items (suc n) y l e = cc
 
-  -- no Pending stands among items
+  -- A list of items holds no `Pending`.
   items_rest : (n : ℕ) (z : Answer C) (r : List (Answer C)) → AllByRecursion IsItem (pendings n (z ∷ r))
       → AllByRecursion IsItem r
   items_rest zero z r h = h.1
@@ -48,7 +48,8 @@ pairing_starts : {A : Type 0} (B : Type 0) (f : Option A) → Pairing {B = B} f 
 pairing_starts B None = (refl, refl, refl)
 pairing_starts B (Some x) = inl (0, refl, refl, refl, refl)
 
--- by induction on what comes in: of nothing; of what is held, to the last or until it is paired; of each answer
+-- Induction on the two lists: nothing happens, the item that is held waits or is paired, or the first stream returns a
+-- result.
 module _ {A B : Type 0} (g : Option A)
     (P : Option A → List (Answer A) → List (Answer B) → List (Answer (A × B)) → Type 0)
     (nothing : g ≡ None → P None [] [] [])
@@ -80,7 +81,7 @@ module _ {A B : Type 0} (g : Option A)
   pairing_by (Some x) i j l c = held_by x i j l (pairs_by i) c
 
 module _ {A B : Type 0} where
-  -- what is held may wait in two parts
+  -- The item that is held may wait in two parts of a run.
   module _ (x : A) (k : List (Answer A)) (n : ℕ) (s : List (Answer B)) (m : List (Answer (A × B))) (h : Option A) where
     begun : Pairing (Some x) k s m h → Pairing (Some x) k (pendings n [] ++ s) (pendings n [] ++ m) h
     begun (inl c) =
@@ -112,14 +113,14 @@ module _ {A B : Type 0} where
   pub ready_pairs : (x : A) (b : Option B) → WithHeld x [] (Pairs []) (Ready b ∷ []) (pair_with x b ∷ []) None
   ready_pairs x b = inr (0, b, [], [], refl, refl, (refl, refl, refl))
 
-  -- where items came out and nothing came in, they came of what was held
+  -- If items were returned and the first stream was not polled, they came of the item that was held.
   alone : (f g : Option A) (j : List (Answer B)) (y : A × B) (l : List (A × B)) → Pairing f [] j (items (y ∷ l)) g
       → (g ≡ None) × (v : A) × (f ≡ Some v)
   alone None g j y l c = cc
   alone (Some x) g j y l (inl c) = absurd (not_items c.0 y l c.3)
   alone (Some x) g j y l (inr c) = (c.6.2, x, refl)
 
-  -- a pair is no Pending
+  -- A pair is no `Pending`.
   pair_no_pending : (x : A) (b : Option B) (l : List (Answer (A × B))) → waits (pair_with x b ∷ l) ≡ waits l
   pair_no_pending x None l = refl
   pair_no_pending x (Some y) l = refl
@@ -181,7 +182,7 @@ module _ {S U A B : Type 0} {run : Runs (Answer A) S} {run' : Runs (Answer B) U}
             (λ b before e. c.falls x.first y.first b before k (rw e at h.came))
             (λ e. ap r.rank (s.stays x.first y.first (rw e at h.came)))
             (λ e. alone x.item_slot y.item_slot h.seconds a more (rw e at h.paired))
-            -- where items came out, only items came in
+            -- If all results are items, so are the first stream's results.
             (pairing_by y.item_slot (λ f i j l. AllByRecursion IsItem l → AllByRecursion IsItem i) (λ e h. tt)
             (λ v n e h. tt) (λ v i n b j l r h. r (items_rest n (pair_with v b) l h)) (λ i j l r h. let e = h.0.1 in cc)
             (λ i j l r h. let e = h.0.1 in cc) (λ v i j b l r h. ((v, refl), r h)) x.item_slot h.firsts h.seconds
@@ -200,7 +201,7 @@ module _ {S U A B : Type 0} {run : Runs (Answer A) S} {run' : Runs (Answer B) U}
             h.seconds l h.paired (c.lowers x.first y.first h.firsts k h.came);
       }
 
-  -- where both are calm
+  -- A `zip` of two calm streams is calm.
   pub zip_calm : {is_calm : S → Type 0} {is_calm' : U → Type 0} → CalmLaws run is_calm → CalmLaws run' is_calm'
       → CalmLaws (Zips run run') (λ x. is_calm x.first × is_calm' x.second)
   zip_calm s u =

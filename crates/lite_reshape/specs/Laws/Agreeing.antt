@@ -1,4 +1,5 @@
--- Laws of what leaves items out: its answers do not depend on when its source was pending.
+-- Laws about adapters that leave items out: their results, `Pending`s aside, do not depend on when the source was
+-- pending.
 use Rattle.std.specs.Prelude.{◌≡◌, List, ◌∷◌, Option, Some, None, Bool, true, false}
 use Rattle.lite_reshape.specs.Uses.{refl, arith, OptionBy, SameAnswer, SameItem, Sameness, strip, Accepts, AgreeFrom, AgreeKeeping, Keeping, both_items}
 use Rattle.lite_reshape.specs.Uses.{ends_same, item_answers, same_answer, MatchesFrom, accepts_matches, agree_from_matches, keeping_matches, Question}
@@ -8,7 +9,7 @@ use Rattle.lite_reshape.specs.Leaving.{LeavesOut}
 use Rattle.lite_reshape.specs.Skip.{Skips}
 use Rattle.lite_reshape.specs.SkipWhile.{SkipsUntil}
 
--- a kept item goes out, and of a rejected one nothing
+-- A kept item is one result, and a rejected one is none.
 abbrev KeptInPlace : {B : Type 0} → Option B → (List (Option B) → Type 0) → List (Option B) → Type 0
 KeptInPlace None follows out = follows out
 KeptInPlace {B} (Some y) follows out = (more : List (Option B)) × (out ≡ Some y ∷ more) × follows more
@@ -26,17 +27,17 @@ module _ {F A B : Type 0} (call : Question F A (Option B)) where
   keeps_alike same (Some y) None P Q o p e r q rest = absurd (both_items same _ None e)
   keeps_alike same (Some y) (Some z) P Q o p e r q rest = rw (r.1, q.1) (e, rest r.0 q.0 r.2 q.2)
 
-  -- from what agrees, calls at items that are like one another answer what is the same
+  -- From states that agree, calls with items that correspond return what is the same.
   module _ (like : Sameness A) where
     pub leaves_agreeing : (same : Sameness B) {agree : F → F → Type 0}
         → MatchesFrom (SameItem like) (SameAnswer same) call agree → AgreeingOver like same (LeavesOut call) agree
     leaves_agreeing same m = placed_agreeing call KeptInPlace like same m (keeps_alike same) stripped
 
-    -- closures that keep an item, or none
+    -- The case of closures that return an `Option`, of which `Some` is yielded.
     pub leaves_keeping : AgreeingOver like (Keeping like call) (LeavesOut call) (AgreeKeeping like call)
     leaves_keeping = leaves_agreeing _ (keeping_matches like call)
 
--- an item goes out as it came in, or not at all
+-- The case of items that are yielded as the source yields them, or left out.
 module _ {F A : Type 0} where
   pub leaves_showing : (call : Question F A (Option A)) {agree : F → F → Type 0}
       → ((like : A → A → Type 0) → MatchesFrom like (OptionBy like) call agree) → (like : Sameness A)
@@ -45,20 +46,20 @@ module _ {F A : Type 0} where
       leaves_agreeing call like like
       (λ f k g l x w y z a e c d. let s = m _ f k g l x w y z a e c d in (item_answers like y z s.0, s.1))
 
-  -- by a test
+  -- The same, by a test.
   pub leaves_testing : (test : Question F A Bool) (like : Sameness A)
       → AgreeingOver like like (LeavesOut (Accepts test)) (AgreeFrom (SameItem like) (λ y z. y ≡ z) test)
   leaves_testing test like = leaves_agreeing _ like like (accepts_matches like test)
 
--- from one count on
+-- Equal counts skip the same items.
 pub skips_match : {A : Type 0} (like : A → A → Type 0) → MatchesFrom like (OptionBy like) Skips (λ n m. m ≡ n)
 skips_match like n m p q x w (Some y) (Some z) e s a c = (rw (a.1, c.1) s, rw (a.2, c.2))
 skips_match like n m p q x w None None e s a c = omega arith
 skips_match like n m p q x w y z e s a c = omega arith
 
--- from predicates that agree, or none
+-- The case of `skip_while`: the predicates agree, or both are gone.
 module _ {F A : Type 0} (test : Question F A Bool) (like : Sameness A) where
-  -- predicates that agree on items that are the same
+  -- Two predicates return the same for items that are the same.
   abbrev TestsAgree : F → F → Type 0
   TestsAgree = AgreeFrom (SameItem like) (λ y z. y ≡ z) test
 

@@ -1,9 +1,9 @@
--- Lists of answers of which some stand before others.
+-- Laws about lists of results that are appended.
 use Rattle.std.specs.Prelude.{◌≡◌, ℕ, List, [], ◌∷◌, ◌++◌, Some}
 use Rattle.lite_reshape.specs.Uses.{sym, Ready, Answer, items, Below, Lowers}
 
 module _ {A : Type 0} where
-  -- what follows among items are items
+  -- The part of a list of items that comes after a cut consists of items.
   pub items_after : (before after : List (Answer A)) (l : List A) → items l ≡ before ++ after → (m : List A)
       × (after ≡ items m)
   items_after [] after l e = (l, sym e)
@@ -14,7 +14,7 @@ module _ {A : Type 0} where
   not_empty [] a after e = cc
   not_empty (b ∷ before) a after e = cc
 
-  -- an item among the first answers lowers the rank, or else what follows them does
+  -- The rank falls if the first results hold an item, or if the results after them lower it.
   pub own_lowers : (own last after : List (Answer A)) (xs us ys vs : List ℕ) → Lowers (own ++ last) xs us
       → (Lowers last xs us → Lowers after ys vs) → (Below xs us → Below ys vs) → Lowers (own ++ after) ys vs
   own_lowers [] last after xs us ys vs h then below = then h

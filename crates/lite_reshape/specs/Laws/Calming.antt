@@ -1,4 +1,4 @@
--- Adapters that hold something, or have a second stream, over what is never pending.
+-- Laws about adapters with a value that they hold or a second stream, over sources that are never pending.
 use Rattle.std.specs.Prelude.{IfSome, ◌+◌, List, [], ◌∷◌, Option, None}
 use Rattle.std.proofs.Common.{◌≤◌}
 use Rattle.lite_reshape.specs.Uses.{AllByRecursion, arith, inl, inr, refl, Answer, end, CalmLaws, NoPending, waits, calm_both, no_pending_front}
@@ -24,19 +24,20 @@ module _ {A : Type 0} where
   joins_waits Done g i j l r = let e = cuts_calming is_done second_after Done g j l r.1 in omega (arith, e)
 
 module _ {S U A : Type 0} {run : Runs (Answer A) S} {run' : Runs (Answer A) U} where
-  -- where both are calm, the one that is not asked yet too
+  -- A `chain` of two calm streams is calm. That includes the stream that is not polled yet.
   pub chain_calm : {is_calm : S → Type 0} {is_calm' : U → Type 0} → CalmLaws run is_calm → CalmLaws run' is_calm'
       → CalmLaws (Chains run run') (λ x. is_calm x.first × is_calm' x.second)
   chain_calm s u =
       calm_two _ _ s u
       (λ x y l h. (h.firsts, h.seconds, h.came, h.then_came, joins_waits x.part y.part h.firsts h.seconds l h.joined))
 
--- nothing is pending that comes out of answers that are not, where what is held is calm; and what is held then is
+-- If the held value is calm and no source result is `Pending`, no result of the adapter is `Pending` and the value held
+-- after it is calm.
 abbrev pub CalmingBy : {F A B : Type 0} → (F → Type 0) → Relates F A B → Type 0
 CalmingBy {F} {A} {B} held_calm relates = (f g : F) (i : List (Answer A)) (o : List (Answer B)) → held_calm f
     → relates f i o g → NoPending i → NoPending o × held_calm g
 
--- an adapter of one source, where what it holds is calm
+-- An adapter over one source is calm, if its source and the value that it holds are.
 pub through_calm_by : {M S F A B : Type 0} (p : AdapterParts M S F) {run : Runs (Answer A) S}
     {relates : Relates F A B} {is_calm : S → Type 0} {held_calm : F → Type 0}
     → CalmLaws run is_calm → CalmingBy held_calm relates
@@ -48,7 +49,8 @@ through_calm_by p c t =
     (e.0, (c.calm_on _ _ h.ins k.0 h.came, e.1)))
 
 module _ {F A V B : Type 0} (call : Question F A V) (gives : V → List (Answer B) → Option V → Type 0) where
-  -- where what is made of each item is calm, and what is held
+  -- An adapter that replaces each item by a list is calm, if its source, its closure's values and the value that it
+  -- holds are.
   pub expanding_calm : {calm : F → Type 0} {calm_made : V → Type 0}
       → ((f : F) (x : A) (v : V) (g : F) → calm f → call f x v g → calm_made v × calm g)
       → ((v : V) (l : List (Answer B)) (next : Option V) → calm_made v → gives v l next → NoPending l
@@ -64,7 +66,7 @@ module _ {F A V B : Type 0} (call : Question F A V) (gives : V → List (Answer 
       (λ p i o h k n. absurd n) (λ p i o h. h)
       (λ p r x v i b o called h k. h (calls p x v r k.1 called)) s i o c k
 
-  -- where no list of what is made of an item has a Pending
+  -- An adapter adds no `Pending` if no value that is made of an item returns `Pending`.
   pub expanding_calming : ((v : V) (l : List (Answer B)) (next : Option V) → gives v l next → NoPending l)
       → Calming (Expanding call gives)
   expanding_calming no_pending s t =
@@ -84,7 +86,7 @@ module _ {B A : Type 0} {run : Runs (Answer A) B} {calm : B → Type 0} (c : Cal
       (no_pending_front own (end ∷ []) (c.no_pending b d _ k ran)) (h tt each n))
       (λ i l h k each. absurd) (λ i l h k each. h tt each.1) (λ b i a l h k each. h (each.0 b refl) each.1) held
 
-  -- an adapter, where the inner stream that is held is calm, and each that may come
+  -- An adapter that flattens is calm, if its source, the inner stream that it holds and each one that may follow are.
   pub flattening_calm : {M S : Type 0} (p : AdapterParts M S (Option B)) {outer : Runs (Answer B) S}
       {is_calm : S → Type 0} {hints : Hints S} → StreamLaws outer hints → CalmLaws outer is_calm
       → CalmLaws (Adapts p outer (Flattening run))

@@ -1,4 +1,4 @@
--- Laws of two streams that are chained.
+-- Laws about two streams that are chained.
 use Rattle.std.specs.Prelude.{◌≡◌, ℕ, ◌+◌, List, [], ◌∷◌, ◌++◌, length, Some, None}
 use Rattle.lite_reshape.specs.Uses.{length-replicate, ◌∙◌, inl, inr, refl, ap, sym, subst, arith, length-append, append_assoc, append-nil, Ready, Pending}
 use Rattle.lite_reshape.specs.Uses.{Answer, Endless, items, AtMost-both, AtMost-length, Below-after, Below-first, Lowers-at_most, endless_join, same_hint}
@@ -25,7 +25,7 @@ second_below : (g : Part) (xs ys : List ℕ) → Below xs ys → Below (second_r
 second_below Done xs ys h = zeros_below xs ys h
 second_below _ xs ys h = h
 
--- a rank once the first has ended
+-- The rank of a `chain` once the first stream has ended.
 ended_rank : (g : Part) (xs ys : List ℕ) → (g ≡ First → ⊥) → chain_rank g xs ys ≡ zeros xs ++ second_rank g ys
 ended_rank First xs ys n = absurd (n refl)
 ended_rank _ xs ys n = refl
@@ -37,7 +37,7 @@ chain_below Second xs us ys vs h e = Below-first _ us ys vs (zeros_below xs us h
 chain_below Done xs us ys vs h e = Below-first _ us _ vs (zeros_below xs us h) (zeros_length ys ∙ e)
 
 module _ {A : Type 0} where
-  -- the second goes on, and the first is not asked again
+  -- The second stream goes on, and the first is not polled again.
   after_not : (s : Part) (b : Answer A) → (s ≡ First → ⊥) → second_after b s ≡ First → ⊥
   after_not s (Ready None) n e = cc
   after_not s _ n e = n e
@@ -55,7 +55,7 @@ module _ {A : Type 0} where
       (q.0, (cuts_relating is_done second_after).following.joins s Second h j k l m r q.1)
   later s Done h i j k l m n r q = (q.0, (cuts_relating is_done second_after).following.joins s Done h j k l m r q.1)
 
-  -- answers of the first stand before what follows
+  -- Results of the first stream may be put in front of the joined results.
   module _ (h : Part) (i u k m : List (Answer A)) (endless : Endless i) where
     own_before : Joins First u k m h → Joins First (i ++ u) k (i ++ m) h
     own_before (inl q) = inl (endless_join i u endless q.0, q.1, ap (λ n. i ++ n) q.2, q.3)
@@ -101,7 +101,7 @@ module _ {A : Type 0} where
   joins_stay First g i j (inr r) = absurd (not_empty r.own r.next r.later r.joined)
   joins_stay _ g i j r = (r.0, r.1.0, r.1.1)
 
-  -- after the second's end
+  -- After the second stream's end every result is the end of the stream.
   module _ (g : Part) where
     done_lowers : (j l : List (Answer A)) (us vs : List ℕ) → AtMost us vs → Cuts is_done second_after Done j l g
         → (g ≡ Done) × Lowers l us vs
@@ -120,7 +120,7 @@ module _ {A : Type 0} where
         rw e.0 e.1
     second_lowers j (Ready (Some x) ∷ l) xs ys (inr r) h = second_below g xs ys (rw r.2 at h)
 
-  -- what stands after does not rise
+  -- The rank falls as before with numbers behind it that do not rise.
   lowers_first : (l : List (Answer A)) (xs us ys vs : List ℕ) → Lowers l xs us → AtMost ys vs
       → Lowers l (xs ++ ys) (us ++ vs)
   lowers_first [] xs us ys vs h m = AtMost-both xs us ys vs h m
@@ -153,7 +153,7 @@ module _ {A : Type 0} where
       let e = done_lowers g j l _ _ (inl level) r.1 in
       rw e.0 e.1
 
-  -- the second gave the items that went out, and did not end
+  -- If all results are items of the second stream, it has not ended.
   module _ (s g : Part) where
     second_items : (j : List (Answer A)) (l : List A) → Cuts is_done second_after s j (items l) g → (s ≡ Second)
         → g ≡ Second

@@ -1,4 +1,4 @@
--- Laws of references that are replaced by clones.
+-- Laws about references that are replaced by clones.
 use Rattle.std.specs.Prelude.{⊤, Result, Ok, ◌≡◌, List, [], ◌∷◌, ◌++◌, Option, Some, None}
 use Rattle.lite_reshape.specs.Uses.{AllByRecursion, ◌∙◌, refl, ap, sym, append_assoc, Ready, Pending, Bor, OptionBy, SameAnswer, Sameness, Answer, Gives}
 use Rattle.lite_reshape.specs.Uses.{Waiting, item, items, NoPending, all_any, all_append, all_split, no_pending_join, OkCounting, all_ok, ok_counting, Counting}
@@ -46,7 +46,7 @@ module _ {T E : Type 0} (is_clone : T → T → Type 0) (is_infallible : T → T
   cloned_laws laws =
       laws_following cloned_parts laws (expanding_following Refers _ clones_giving)
 
--- one poll in which a clone was made
+-- One poll that returns a clone.
 pub gives_copy : {T E : Type 0} (is_clone : T → T → Type 0) (is_infallible : T → Type 0) (x : Bor T) (copy : T)
     → is_clone x.now copy → Clones {E = E} is_clone is_infallible x (item (Ok copy) ∷ []) None
 gives_copy is_clone is_infallible x copy h = ([], copy, tt, h, refl)
@@ -56,7 +56,7 @@ held_same None None e = tt
 held_same (Some v) (Some w) e = cc
 held_same _ _ e = cc
 
--- where no clone is refused, one item comes of each reference
+-- Without allocation failures each reference leads to one item.
 module _ {T E : Type 0} (is_clone : T → T → Type 0) where
   waits : (x y : Bor T) (l : List (Answer (Result T E))) → Clones is_clone (λ _. ⊤) x l (Some y) → Waiting l
   waits x y [] h = tt
@@ -79,7 +79,7 @@ module _ {T E : Type 0} (is_clone : T → T → Type 0) where
   unfolding clones_one
   clones_made same x y l m e h k = (x, y, e, (h.1, h.3, refl), (k.1, k.3, refl))
 
-  -- by how the references that come in are compared
+  -- Streams of clones are alike, by how the references of their sources are compared.
   cloned_alike : {S : Type 0} {ample : Runs (Answer (Bor T)) S} {alike : S → S → Type 0} (like : Sameness (Bor T))
       → SteadinessBy (SameAnswer like) ample alike
       → SteadinessBy (SameAnswer (ClonedFrom like is_clone)) (ClonesUnrefused {E = E} is_clone ample)
@@ -93,7 +93,7 @@ module _ {T E : Type 0} (is_clone : T → T → Type 0) where
       (expanding_agreeing clones_one Refers (Sameness.by same) (ClonedFrom (Sameness.by same) is_clone)
       (refers_match same) (clones_made same))
 
-  -- among answers that are no refusals
+  -- If `may` rules allocation failures out, lists of such results hold none.
   module _ (is_infallible : T → Type 0) (may : Answer (Result T E) → Type 0)
       (never : (x : Bor T) (a : Answer (Result T E)) → may a → IsCloneRefusal is_clone is_infallible x a → ⊥) where
     module _ (x : Bor T) where
@@ -125,12 +125,12 @@ module _ {T E : Type 0} (is_clone : T → T → Type 0) (is_infallible : T → T
             (tt, y.held) h.ins l all h.related;
       }
 
-  -- a run without a refusal is one in which memory was found, where no poll of the source asks for any
+  -- A run without an allocation failure of a clone is ample, if no poll of the source allocates memory.
   pub cloned_ample : TakesNone run ample → (x y : Cloned S (Bor T)) (l : List (Answer (Result T E))) → NoCloneRefused l
       → ClonesAll is_clone is_infallible run x l y → ClonesUnrefused is_clone ample x l y
   cloned_ample = found_where NotCloneRefused (λ r a ok refused. ok refused.1 refused.2)
 
-  -- no poll asks for memory where no clone does
+  -- No poll allocates memory if neither the source nor a clone does.
   pub cloned_steady : (like : Sameness (Bor T)) {none : Type 0} {alike : S → S → Type 0}
       → SteadyLawsBy like run ample none alike
       → SteadyLawsBy (ClonedFrom like is_clone) (ClonesAll {E = E} is_clone is_infallible run)
@@ -145,13 +145,13 @@ module _ {T E : Type 0} (is_clone : T → T → Type 0) (is_infallible : T → T
             (all_any l) h;
       }
 
--- no answer among Ok items is a refusal
+-- A list of `Ok` items holds no allocation failure.
 ok_not_refused : {T : Type 0} (E : Type 0) (l : List (Answer T)) → NoCloneRefused {E = E} (all_ok l)
 ok_not_refused E [] = tt
 ok_not_refused E (Ready None ∷ l) = (λ e d. cc d, ok_not_refused E l)
 ok_not_refused E (_ ∷ l) = (λ e d. cc d, ok_not_refused E l)
 
--- the rank falls with each clone; a refusal keeps it
+-- The rank falls with each clone, and an allocation failure keeps it.
 pub cloned_ok_counting : {T E : Type 0} (is_clone : T → T → Type 0) (is_infallible : T → Type 0) {S : Type 0}
     {run : Runs (Answer (Bor T)) S} {hints : Hints S} {r : Ranks S} → StreamLaws run hints → Counting run r
     → OkCounting (ClonesAll {E = E} is_clone is_infallible run) (held_ranks cloned_parts r)
@@ -168,7 +168,7 @@ cloned_ok_counting {E} is_clone is_infallible {run} laws c =
       lowers = λ x y l k h. found.lowers x y l k (unrefused x y (all_ok l) (ok_not_refused E l) h);
     }
 
--- a clone is there at once, and so is its refusal
+-- A clone and an allocation failure are returned at once, without a `Pending`.
 module _ {T E : Type 0} (is_clone : T → T → Type 0) (is_infallible : T → Type 0) where
   module _ (x : Bor T) where
     refuses_no_pending : (l : List (Answer (Result T E))) → Refuses is_clone is_infallible x l → NoPending l

@@ -1,4 +1,4 @@
--- Laws of items that are replaced by the list of what is made of them.
+-- Laws about adapters that replace each item by a list of results.
 use Rattle.std.specs.Prelude.{◌≡◌, ℕ, ◌+◌, List, [], ◌∷◌, ◌++◌, Option, Some, None}
 use Rattle.std.proofs.Common.{◌≤◌}
 use Rattle.lite_reshape.specs.Uses.{◌∙◌, inl, inr, refl, ap, sym, arith, append_assoc, AllByRecursion, Ready, Pending, Answer, Gives, Waiting, before_end, end}
@@ -7,21 +7,22 @@ use Rattle.lite_reshape.specs.Uses.{count_held, held_rank, StreamLaws, Hints, Qu
 use Rattle.lite_reshape.specs.Uses.{AlsoBefore, Entails, Following, AdapterParts, Adapts, Through}
 use Rattle.lite_reshape.specs.Expanding.{Expanding, Expands}
 
--- what the lists of what is made of an item have to meet, that runs may follow one another
+-- What the lists made of an item have to meet for runs of the adapter to follow one another.
 pub record FollowLaws {V B : Type 0} (gives : V → List (Answer B) → Option V → Type 0) : Type 0 where
   pub rests : (v : V) → gives v [] (Some v)
   pub stays : (v w : V) → gives v [] (Some w) → w ≡ v
-  -- nothing is done before it answers
+  -- Nothing is done before its first result.
   pub answers : (v : V) → gives v [] None → ⊥
   pub joins : (v w : V) (next : Option V) (l m : List (Answer B)) → gives v l (Some w) → gives w m next
       → gives v (l ++ m) next
 
--- and that one item comes of each, with the last answer
+-- Each item leads to exactly one item, which is the last result of its list.
 pub record GivingOne {V B : Type 0} (gives : V → List (Answer B) → Option V → Type 0) : Type 0 where
   pub waits : (v w : V) (l : List (Answer B)) → gives v l (Some w) → Waiting l
   pub hands : (v : V) (l : List (Answer B)) → gives v l None → (y : B) × Gives l (Some y)
 
--- by induction on what comes in: of nothing; of what is held, to the last or until it is done; of each answer
+-- Induction on the source's results and on the value held: nothing happens, the held value goes on or is done, or the
+-- source returns a result.
 module _ {F A V B : Type 0} (call : Question F A V) (gives : V → List (Answer B) → Option V → Type 0) (t : F × Option V)
     (P : F × Option V → List (Answer A) → List (Answer B) → Type 0)
     (nothing : t.1 ≡ None → P (t.0, None) [] [])
@@ -52,7 +53,7 @@ module _ {F A V B : Type 0} (call : Question F A V) (gives : V → List (Answer 
 
 module _ {F A V B : Type 0} (call : Question F A V) (gives : V → List (Answer B) → Option V → Type 0)
     (g : FollowLaws gives) where
-  -- the list of what is held may be cut
+  -- The list of a held value may be cut in two.
   module _ (t : F × Option V) (p : F) (v w : V) (j : List (Answer A)) (l m : List (Answer B))
       (ran : gives v l (Some w)) where
     begun : Expanding call gives (p, Some w) j m t → Expanding call gives (p, Some v) j (l ++ m) t
@@ -69,7 +70,7 @@ module _ {F A V B : Type 0} (call : Question F A V) (gives : V → List (Answer 
       (λ p v i own rest ran k. inr (own, rest ++ m, append_assoc own rest m, ran, k)) (λ p i l k. (refl, k))
       (λ p i l k. (refl, k)) (λ p r x v i b l called k. (v, r, called, k)) s i l c
 
-  -- what is done has answered, so no part of an empty list is its own
+  -- What is done has returned a result, so it is not the case for an empty list.
   nothing : (v : V) (own rest : List (Answer B)) → [] ≡ own ++ rest → gives v own None → ⊥
   nothing v [] rest e h = g.answers v h
   nothing v (b ∷ own) rest e h = cc
@@ -87,7 +88,7 @@ module _ {F A V B : Type 0} (call : Question F A V) (gives : V → List (Answer 
   pub expanding_following : Following (Expanding call gives)
   expanding_following = record { starts = starts; empty = empty; joins = joins }
 
--- one poll
+-- One poll.
 module _ {S F A V B : Type 0} (run : Runs (Answer A) S) (call : Question F A V)
     (gives : V → List (Answer B) → Option V → Type 0) where
   one_given : (f : F) (v : V) (b : Answer B) (left : Option V) → gives v (b ∷ []) left
@@ -95,12 +96,12 @@ module _ {S F A V B : Type 0} (run : Runs (Answer A) S) (call : Question F A V)
   one_given f v b None given = inr (b ∷ [], [], refl, given, (refl, refl))
   one_given f v b (Some w) given = inl (refl, refl, w, given, refl)
 
-  -- of what is held, where the source is not asked
+  -- One poll of the value that is held. The source is not polled.
   pub held_answers : (s : S) (f : F) (v : V) (b : Answer B) (left : Option V) → run s [] s → gives v (b ∷ []) left
       → Through run (Expanding call gives) s (f, Some v) (b ∷ []) s (f, left)
   held_answers s f v b left came given = record { ins = []; came = came; related = one_given f v b left given }
 
-  -- where nothing is held, of what is made of an item
+  -- One poll that makes a value of the source's item, if none was held.
   pub made_answers : {s t : S} {f g : F} {held left : Option V} {a : Answer A} {x : A} {v : V} {b : Answer B}
       → held ≡ None → a ≡ item x → run s (a ∷ []) t → call f x v g → gives v (b ∷ []) left
       → Through run (Expanding call gives) s (f, held) (b ∷ []) t (g, left)
@@ -108,7 +109,7 @@ module _ {S F A V B : Type 0} (run : Runs (Answer A) S) (call : Question F A V)
       rw none
       (record { ins = item x ∷ []; came = rw is at came; related = (v, g, called, one_given g v b left given) })
 
-  -- of the source, which is pending
+  -- One poll of the source, which is pending.
   pub none_answers : {s t : S} {f : F} {held : Option V} {a : Answer A} → held ≡ None → a ≡ Pending → run s (a ∷ []) t
       → Through run (Expanding call gives) s (f, held) (Pending ∷ []) t (f, held)
   none_answers none is came =
@@ -145,7 +146,7 @@ module _ {F A V B : Type 0} (call : Question F A V) (gives : V → List (Answer 
         (λ p i o k. k) (λ p i o k. k)
         (λ p r x v i b o called k h. Lowers-below (b ∷ o) _ _ (held_first xs us t.1 None h)) s i o
 
-  -- where items came out, only items came in
+  -- If all results are items, so are the source's results.
   expanding_items : Entails (Expanding call gives) (λ s i o t. AllByRecursion IsItem o → AllByRecursion IsItem i)
   expanding_items s t =
       expanding_by call gives t (λ s i o. AllByRecursion IsItem o → AllByRecursion IsItem i) (λ e h. tt)
@@ -153,7 +154,7 @@ module _ {F A V B : Type 0} (call : Question F A V) (gives : V → List (Answer 
       (λ p i o k h. let e = h.0.1 in cc) (λ p i o k h. let e = h.0.1 in cc)
       (λ p r x v i b o called k h. ((x, refl), k h)) s
 
-  -- where nothing came in, they came of what was held
+  -- If the source was not polled and nothing was held, nothing is held.
   none_held : (p : F) (t : F × Option V) (o : List (Answer B)) → Expands call gives p [] o t.0 t.1 → t.1 ≡ None
   none_held p t [] c = c.1
   none_held p t (b ∷ o) c = absurd c
@@ -172,7 +173,7 @@ module _ {F A V B : Type 0} (call : Question F A V) (gives : V → List (Answer 
       (λ e. alone s t y l (rw e at c))
       (expanding_items s t i (items (y ∷ l)) c (items_each (y ∷ l)))
 
--- the source's rank, and then a place that counts what is held
+-- The rank of the source, followed by one number that counts the value held.
 abbrev pub held_ranks : {M S F V : Type 0} → AdapterParts M S (F × Option V) → Ranks S → Ranks M
 held_ranks p r =
     record {

@@ -1,4 +1,4 @@
--- Laws of streams that a function makes.
+-- Laws about `flat_map`, whose function makes streams.
 use Rattle.std.specs.Prelude.{◌≡◌, List, ◌∷◌, Option, Some, None}
 use Rattle.lite_reshape.specs.Uses.{Mut, AllByRecursion, refl, subst, Ready, OptionBy, SameItem, Sameness, Answer, CalmLaws, calm_both, Terminates, ItemRun}
 use Rattle.lite_reshape.specs.Uses.{Counting, Ranks, ranks_of, counting_ends, SteadyLawsBy, StreamLaws, runs_of, AgreeFrom, Always, Calls, MakesAlways}
@@ -20,7 +20,8 @@ module _ {F A V : Type 0} (g : Mut F (A × Unit {0}) V) (Fact : V → Type 0) wh
       let on = makes_on g Fact f (x, tt) w q always called in
       (λ v e. let same : w ≡ v = cc e in subst Fact same on.0, on.1)
 
-  -- what each call promises holds of each item that comes out, and the function goes on to promise it
+  -- A fact about each value that the function makes holds of each stream that it yields, and the function goes on to
+  -- make such values.
   made_has : (f h : F) (i : List (Answer A)) (o : List (Answer V)) → Replaces (Calls g) f i o h → MakesAlways g Fact f
       → AllByRecursion (OfItem Fact) o × MakesAlways g Fact h
   made_has f h =
@@ -64,7 +65,7 @@ module _ {S F A V : Type 0} (g : Mut F (A × Unit {0}) V) {run : Runs (Answer A)
     outer_counting : Counting (Maps run (Calls g)) (ranks_of (λ (m : Map S F). m.stream) r)
     outer_counting = through_counting map_parts c (replaces_relating _)
 
-    -- no chain of items that are made is endless
+    -- No chain of streams that are made of items is endless.
     pub made_end : (x : Map S F) → r.counts x.stream → Terminates (ItemRun (Maps run (Calls g))) x
     made_end = counting_ends (outer_counting)
 
@@ -94,7 +95,7 @@ module _ {S F A V : Type 0} (g : Mut F (A × Unit {0}) V) {run : Runs (Answer A)
 module _ {S F A V B : Type 0} (g : Mut F (A × Unit {0}) V) {run ample : Runs (Answer A) S}
     {run' found : Runs (Answer B) V}
     {none none' : Type 0} {alike : S → S → Type 0} {alike' : V → V → Type 0} where
-  -- by functions that make streams which are alike
+  -- The steadiness of `flat_map`: the functions make streams that are alike of items that are the same.
   pub flat_map_steady : (like : Sameness A) (same : Sameness B) → SteadyLawsBy like run ample none alike
       → SteadyLawsBy same run' found none' alike'
       → SteadyLawsBy same (FlatMaps run g run') (FlatMaps ample g found) (none × none')
@@ -112,7 +113,7 @@ module _ {S F A V B : Type 0} (g : Mut F (A × Unit {0}) V) {run ample : Runs (A
         e.2,
       )) outer.laws outer.found
 
--- by a function that makes calm streams
+-- A `flat_map` is calm, if its source is and its function makes calm streams.
 pub flat_map_calm : {S F A V B : Type 0} (g : Mut F (A × Unit {0}) V) {run : Runs (Answer A) S}
     {run' : Runs (Answer B) V}
     {hints : Hints S} {is_calm : S → Type 0} {calm : V → Type 0}

@@ -1,4 +1,4 @@
--- Laws of a stream of streams that is flattened.
+-- Laws about a stream of streams that is flattened.
 use Rattle.std.specs.Prelude.{IfSome, replicate, ◌≡◌, ℕ, List, [], ◌∷◌, ◌++◌, length, Option, Some, None}
 use Rattle.lite_reshape.specs.Uses.{◌∙◌, inl, inr, refl, ap, sym, arith, length-append, append_assoc, length-replicate, AllByRecursion, Ready, Pending, Answer}
 use Rattle.lite_reshape.specs.Uses.{Endless, end, item, items, NextStep, Reaches, all_split, Reaches-back, Terminates, Terminates-map, ItemRun, AtMost-both}
@@ -10,7 +10,7 @@ use Rattle.lite_reshape.specs.Inner.{EachInner, FlatStep, FlatSteps, GivesOne, T
 use Rattle.lite_reshape.specs.Laws.Before.{not_empty, own_lowers}
 use Rattle.lite_reshape.specs.Laws.Zeros.{zeros_least}
 
--- by induction on what comes in, as expanding_by: of an inner stream that is held, to the last or until it is done
+-- Induction on the outer stream's results and on the inner stream that is held. That one goes on, or it is done.
 module _ {B A : Type 0} (run : Runs (Answer A) B) (last : Option B)
     (P : Option B → List (Answer B) → List (Answer A) → Type 0)
     (nothing : last ≡ None → P None [] [])
@@ -40,7 +40,7 @@ module _ {B A : Type 0} (run : Runs (Answer A) B) (last : Option B)
   flattening_by (Some b) i l h = inner_by b i l (flat_by i) h
 
 module _ {B A : Type 0} {run : Runs (Answer A) B} (laws : RunLaws run) where
-  -- the list of a stream may be cut while it is held
+  -- The results of an inner stream may be cut in two while it is held.
   module _ (b c : B) (h : Option B) (j : List (Answer B)) (l m : List (Answer A)) (endless : Endless l)
       (ran : run b l c) where
     begun : Flattening run (Some c) j m h → Flattening run (Some b) j (l ++ m) h
@@ -81,7 +81,7 @@ module _ {B A : Type 0} {run : Runs (Answer A) B} (laws : RunLaws run) where
   flattening = record { starts = starts; empty = empty; joins = joins }
 
 module _ {S B A : Type 0} (run : Runs (Answer A) B) (outer : Runs (Answer B) S) where
-  -- an inner stream that has ended, before a step where none is held
+  -- An inner stream that has ended may be put before a step at which none is held.
   module _ (s : S) (b c : B) where
     pub ended_step : (r : Option (Answer A)) (y : S × Option B) → run b (end ∷ []) c
         → FlatStep run outer (s, None) r y → FlatStep run outer (s, Some b) r y
@@ -95,7 +95,7 @@ module _ {S B A : Type 0} (run : Runs (Answer A) B) (outer : Runs (Answer B) S) 
       step_answers (inl h) = record { ins = []; came = rw h.0 (laws.rests x.0); related = h.1 }
       step_answers (inr h) = record { ins = h.0 ∷ []; came = h.1; related = h.2 }
 
-    -- an inner stream that has ended, before the one that was taken next
+    -- An inner stream that has ended may be put before the one that is taken next.
     before_taken : (held last : Option B) (b : B) (ins : List (Answer B)) (a : Answer A)
         → IfSome held (λ d. (c : B) × run d (end ∷ []) c)
         → Flattening run (Some b) ins (a ∷ []) last → Flattening run held (item b ∷ ins) (a ∷ []) last
@@ -113,7 +113,7 @@ module _ {S B A : Type 0} (run : Runs (Answer A) B) (outer : Runs (Answer B) S) 
               (rw h.held at m.related);
         }
 
-    -- the steps of a poll of an adapter, which has an outer stream and may hold an inner one
+    -- The steps of one poll of an adapter lead to its result.
     pub flat_answer : {M : Type 0} (p : AdapterParts M S (Option B)) (can_step : M → Type 0) (x y z : M) (a : Answer A)
         → Reaches (NextStep (FlatSteps run outer p can_step)) x y → FlatSteps run outer p can_step y (Some a) z
         → Adapts p outer (Flattening run) x (a ∷ []) z
@@ -122,7 +122,7 @@ module _ {S B A : Type 0} (run : Runs (Answer A) B) (outer : Runs (Answer B) S) 
         (λ v w t. step_before (p.source v, p.held v) (p.source w, p.held w) (p.source z, p.held z) a t.1)
         x y goes (step_answers (p.source y, p.held y) (p.source z, p.held z) a last.1)
 
--- what holds of each inner stream that may come holds of each that may come later
+-- A fact about each inner stream that may follow holds of each that may follow later.
 pub to_come : {S B : Type 0} {outer : Runs (Answer B) S} {Fact : B → Type 0} {hints : Hints S}
     → StreamLaws outer hints → (s t : S) (held : Option B) (i : List (Answer B)) → EachInner outer Fact s held
     → outer s i t
@@ -131,21 +131,21 @@ pub to_come : {S B : Type 0} {outer : Runs (Answer B) S} {Fact : B → Type 0} {
 to_come laws s t held i each came u before after b h =
     each.1 u (i ++ before) after b (rw append_assoc (laws.follows s t u i _ came h))
 
--- and of each that came
+-- The same fact holds of each inner stream that the outer stream has yielded.
 pub have_come : {S B : Type 0} (outer : Runs (Answer B) S) (Fact : B → Type 0) (s t : S) (held : Option B)
     (i : List (Answer B)) → EachInner outer Fact s held → outer s i t → AllByRecursion (OfItem Fact) i
 have_come outer Fact s t held i each came =
     each_of Fact i (λ before after b e. each.1 t before after b (rw e at came))
 
 module _ {S B A : Type 0} (run : Runs (Answer A) B) (outer : Runs (Answer B) S) where
-  -- no chain of steps that go on is endless, if no chain of items of the outer stream is
+  -- No chain of steps is endless, if no chain of items of the outer stream is.
   pub flat_ends : {M : Type 0} (p : AdapterParts M S (Option B)) {can_step : M → Type 0}
       → ((x : M) → can_step x → Terminates (ItemRun outer) (p.source x))
       → (x : M) → can_step x → Terminates (NextStep (FlatSteps run outer p can_step)) x
   flat_ends p ends x c = Terminates-map p.source (λ m n t. (t.1.next, [], t.1.gave)) x (ends x c)
 
   module _ (Fact : B → Type 0) (kept : (b c : B) (l : List (Answer A)) → Fact b → run b l c → Fact c) where
-    -- a fact that runs keep holds of what is held at last
+    -- A fact that runs keep holds of the inner stream that is held at last.
     last_has : Entails (Flattening run) (λ f i l g. IfSome f Fact → AllByRecursion (OfItem Fact) i → IfSome g Fact)
     last_has held last =
         flattening_by run last (λ f i l. IfSome f Fact → AllByRecursion (OfItem Fact) i → IfSome last Fact)
@@ -162,11 +162,11 @@ module _ {S B A : Type 0} (run : Runs (Answer A) B) (outer : Runs (Answer B) S) 
       to_come laws s t held h.ins each h.came,
     )
 
--- ranks
+-- Laws about ranks.
 
 module _ {B A : Type 0} (run : Runs (Answer A) B) (n : ℕ) (rank : B → List ℕ)
     (sized : (b : B) → length (rank b) ≡ n) where
-  -- the rank of the inner stream that is held, or zeros where none is
+  -- The rank of the inner stream that is held, or zeros if none is.
   abbrev Inner : Option B → List ℕ
   Inner = inner_rank n rank
 
@@ -177,7 +177,7 @@ module _ {B A : Type 0} (run : Runs (Answer A) B) (n : ℕ) (rank : B → List �
   same_size : (g f : Option B) → length (Inner g) ≡ length (Inner f)
   same_size g f = inner_sized g ∙ sym (inner_sized f)
 
-  -- where items came out, only items came in
+  -- If all results are items, so are the outer stream's results.
   flattening_items : Entails (Flattening run) (λ f i l g. AllByRecursion IsItem l → AllByRecursion IsItem i)
   flattening_items f g =
       flattening_by run g (λ f i l. AllByRecursion IsItem l → AllByRecursion IsItem i) (λ e h. tt)
@@ -204,7 +204,7 @@ module _ {B A : Type 0} (run : Runs (Answer A) B) (n : ℕ) (rank : B → List �
         at_start ([], e) = alone f e inner (rw e at h)
         at_start (b ∷ before, e) = Below-first xs us (Inner g) (Inner f) (falls b before e) (same_size g f)
 
-  -- the answers of an inner stream that ends, and what follows them
+  -- The rank after an inner stream that has ended and the results that follow.
   ended_lowers : (b c : B) (own rest : List (Answer A)) (xs us : List ℕ) → Lowers (own ++ end ∷ []) (rank c) (rank b)
       → Lowers rest xs (us ++ replicate n 0) → Lowers (own ++ rest) xs (us ++ rank b)
   ended_lowers b c own rest xs us low h =

@@ -1,4 +1,4 @@
--- Laws of answers of which some are left out.
+-- Laws about adapters that leave some items out.
 use Rattle.std.specs.Prelude.{ℕ, List, [], ◌∷◌, Option, Some, None}
 use Rattle.std.proofs.Common.{◌≤◌}
 use Rattle.lite_reshape.specs.Uses.{refl, arith, AllByRecursion, Ready, Pending, Answer, before_end, end, item, items, waits, Lowers-below, IsItem, first_item}
@@ -6,7 +6,7 @@ use Rattle.lite_reshape.specs.Uses.{items_each, answers_by, answers_given, answe
 use Rattle.lite_reshape.specs.Uses.{Entails, Relating}
 use Rattle.lite_reshape.specs.Leaving.{LeavesOut, Passes}
 
--- what holds of each answer that goes out, and of each item that is rejected, holds of each answer that came in
+-- A fact that holds of each result and of each rejected item holds of each result of the source.
 pub leaves_each : {F A B : Type 0} (call : Question F A (Option B)) (P : Answer A → Type 0) (Q : Answer B → Type 0)
     → ((p q : F) (a : Answer A) (b : Answer B) → Passes call p a b q → Q b → P a)
     → ((p q : F) (x : A) → call p x None q → P (item x))
@@ -16,7 +16,8 @@ leaves_each call P Q passed rejected f g i o =
     (λ p m x i b o t h e. (rejected p m x t.rejected, h e)) (λ p m a i b o t h e. (passed p m a b t e.0, h e.1)) f g i o
     (λ e. e)
 
--- by induction on the answers in: an item is rejected, or kept; a Pending and an end go out as they came
+-- Induction on the source's results: an item is rejected or kept, and `Pending` and the end of the stream are passed
+-- on.
 module _ {F A B : Type 0} (call : Question F A (Option B)) (P : F → List (Answer A) → List (Answer B) → Type 0)
     (rejected : (p m : F) (x : A) (i : List (Answer A)) (b : Answer B) (o : List (Answer B)) → call p x None m
     → P m i (b ∷ o) → P p (item x ∷ i) (b ∷ o))
@@ -68,13 +69,13 @@ module _ {F A B : Type 0} (call : Question F A (Option B)) where
             (omega (arith, leaves_bounded f g i (items (y ∷ l)) h));
       }
 
-  -- no Pending is made up
+  -- No `Pending` is added.
   pub leaves_calming : Calming (LeavesOut call)
   leaves_calming f g i o =
       leaves_steps call (λ p i o. waits o ≤ waits i) (λ p m x i b o t h. h) (λ p i o h. omega (arith, h))
       (λ p i o h. h) (λ p m x i y o t h. h) f g i o (omega arith)
 
--- where one question may be asked in place of another, of what goes with what is asked
+-- One way of leaving items out implies another, if their states go on to correspond.
 pub leaves_as : {F G A B : Type 0} (call : Question F A (Option B)) (other : Question G A (Option B))
     (Goes : F → G → Type 0)
     (also : ((p q : F) (n : G) (x : A) (o : Option B) → Goes p n → call p x o q → (m : G) × Goes q m × other n x o m))

@@ -1,4 +1,4 @@
--- Two streams that are chained, by what each of them answers.
+-- The steadiness of `chain`, from that of its two streams.
 use Rattle.std.specs.Prelude.{◌≡◌, List, [], ◌∷◌, ◌++◌, Option, Some, None, ⊤}
 use Rattle.lite_reshape.specs.Uses.{inl, inr, refl, append-nil, Ready, Pending, Either, OptionBy, SameAnswer, Sameness, Answer, ComparableBy, Endless, strip}
 use Rattle.lite_reshape.specs.Uses.{SteadyLawsBy, both_items, comparable_nil, either_first, either_second, ends_same, Runs, CutsStripped, cut_same}
@@ -9,7 +9,7 @@ use Rattle.lite_reshape.specs.declared.chain.Part.TheVariants.{First, Second, Do
 use Rattle.lite_reshape.specs.Laws.Chain.{chain_runs}
 
 module _ {A : Type 0} where
-  -- as Joins, where nothing is pending
+  -- The same as `Joins`, for lists of results without their `Pending`s.
   abbrev JoinsStripped : Part → Runs (Option A) (List (Option A))
   JoinsStripped First [] js out = out ≡ []
   JoinsStripped First (None ∷ is) js out = CutsStripped is_done second_after Second js out
@@ -18,7 +18,7 @@ module _ {A : Type 0} where
   JoinsStripped Second is js out = CutsStripped is_done second_after Second js out
   JoinsStripped Done is js out = CutsStripped is_done second_after Done js out
 
-  -- what the first gave before its end goes out
+  -- The first stream's results before its end come first.
   own_joined : (own rest after : List (Answer A)) (j : List (Option A)) → Endless own
       → JoinsStripped First (strip rest) j (strip after)
       → JoinsStripped First (strip (own ++ rest)) j (strip (own ++ after))
@@ -64,7 +64,7 @@ module _ {A : Type 0} where
 
 module _ {S U A : Type 0} {run ample : Runs (Answer A) S} {run' ample' : Runs (Answer A) U} {none none' : Type 0}
     {alike : S → S → Type 0} {alike' : U → U → Type 0} (same other : Sameness A) where
-  -- from one part on
+  -- Two chains are alike, if their streams are and they are at the same part.
   pub chain_steady : SteadyLawsBy same run ample none alike → SteadyLawsBy other run' ample' none' alike'
       → SteadyLawsBy (Either same other) (Chains run run') (Chains ample ample') (none × none')
       (λ x y. alike x.first y.first × alike' x.second y.second × (y.part ≡ x.part))

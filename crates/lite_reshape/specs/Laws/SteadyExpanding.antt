@@ -1,4 +1,4 @@
--- Items that are replaced by the list of what is made of them, where that gives one item: the same, where it is alike.
+-- The steadiness of adapters that replace each item by a list with exactly one item.
 use Rattle.std.specs.Prelude.{◌≡◌, ◌⊎◌, List, [], ◌∷◌, ◌++◌, Option, Some, None}
 use Rattle.lite_reshape.specs.Uses.{AllByRecursion, ◌∙◌, inl, inr, refl, ap, OptionBy, SameAnswer, SameItem, Sameness, Answer, ComparableBy, strip, strip_join}
 use Rattle.lite_reshape.specs.Uses.{waiting_strip, comparable_as, gives_strip, same_answer, all_any, all_split, PlacedFrom, placed_from_same, answer_items}
@@ -7,13 +7,13 @@ use Rattle.lite_reshape.specs.Laws.Expanding.{GivingOne, expanding_by}
 use Rattle.lite_reshape.specs.Expanding.{Expanding}
 
 module _ {V B : Type 0} {gives : V → List (Answer B) → Option V → Type 0} (one : GivingOne gives) where
-  -- alike things are done with items that are the same
+  -- Values that are alike lead to items that are the same.
   abbrev pub OneMade : Sameness B → (V → V → Type 0) → Type 0
   OneMade same alike =
       (v w : V) (l m : List (Answer B)) → alike v w → (h : gives v l None) (k : gives w m None)
       → SameItem same (one.hands v l h).0 (one.hands w m k).0
 
-  -- v is not done, or its item stands before what follows
+  -- The value `v` is not done, or its item comes before what follows.
   abbrev OneInPlace : V → (List (Option B) → Type 0) → List (Option B) → Type 0
   OneInPlace v follows out =
       (out ≡ []) ⊎
@@ -50,7 +50,7 @@ module _ {V B : Type 0} {gives : V → List (Answer B) → Option V → Type 0} 
               rest r.2 q.2 r.4 q.4,
             )
 
-      -- by a call that makes alike things of items that are like one another
+      -- Two adapters agree, if alike values are made of items that correspond.
       pub expanding_agreeing : AgreeingOver like same (Expanding call gives)
           (λ s t. agree s.0 t.0 × OptionBy alike s.1 t.1)
       expanding_agreeing s t s' t' i j o p a r q c =
@@ -62,8 +62,7 @@ module _ {F A V B : Type 0} (call : Question F A V) {gives gives' : V → List (
   module _ (may : Answer B → Type 0)
       (found : (v : V) (l : List (Answer B)) (next : Option V) → AllByRecursion may l → gives v l next
       → gives' v l next) where
-    -- where each list of what is made of an item is one of another relation too, if its answers are such, what goes out
-    -- is too
+    -- A relation between the lists may be replaced by another, if each list that meets `may` is one of the other too.
     pub expanding_found_where : (s t : F × Option V) (i : List (Answer A)) (o : List (Answer B)) → AllByRecursion may o
         → Expanding call gives s i o t → Expanding call gives' s i o t
     expanding_found_where s t i o all c =
@@ -74,7 +73,7 @@ module _ {F A V B : Type 0} (call : Question F A V) {gives gives' : V → List (
         (λ p i o k all. (refl, k all.1)) (λ p i o k all. (refl, k all.1))
         (λ p r x v i b o called k all. (v, r, called, k all)) s i o c all
 
-  -- and where each list is, whatever its answers
+  -- The same, if it holds for each list.
   pub expanding_found : ((v : V) (l : List (Answer B)) (next : Option V) → gives v l next → gives' v l next)
       → Entails (Expanding call gives) (Expanding call gives')
   expanding_found found s t i o = expanding_found_where _ (λ v l next all. found v l next) s t i o (all_any o)

@@ -1,4 +1,4 @@
--- Streams one after the other: what goes out, Pendings aside, is the same where they are alike.
+-- The steadiness of streams that are flattened.
 use Rattle.std.specs.Prelude.{⊤, ◌≡◌, ◌⊎◌, List, [], ◌∷◌, ◌++◌, Option, Some, None}
 use Rattle.lite_reshape.specs.Uses.{inl, inr, refl, Ready, AlikeBy, OptionBy, SameAnswer, SameItem, Sameness, Answer, ComparableBy, Endless, end, strip}
 use Rattle.lite_reshape.specs.Uses.{SteadinessBy, SteadyLawsBy, TakesNone, PlacedFrom, placed_from_same, strip_join, both_items, comparable_as, comparable_nil}
@@ -10,7 +10,7 @@ use Rattle.lite_reshape.specs.Laws.Replacing.{items_same, refers_match}
 use Rattle.lite_reshape.specs.Laws.Flatten.{flattening, flattening_by, have_come}
 
 module _ {A : Type 0} where
-  -- among ready answers: each is an item
+  -- Each result, `Pending`s left out, is an item.
   abbrev AllItems : List (Option A) → Type 0
   AllItems [] = ⊤
   AllItems (None ∷ l) = ⊥
@@ -48,7 +48,7 @@ module _ {A : Type 0} where
     both_end _ (None ∷ m) k h n o c d = absurd o
 
 module _ {B A : Type 0} (run : Runs (Answer A) B) where
-  -- b goes on, or it has ended and others follow
+  -- The inner stream `b` goes on, or it has ended and other results follow.
   abbrev OwnInPlace : B → (List (Option A) → Type 0) → List (Option A) → Type 0
   OwnInPlace b follows out =
       ((l : List (Answer A)) × (c : B) × run b l c × Endless l × (out ≡ strip l))
@@ -63,7 +63,7 @@ module _ {B A : Type 0} (run : Runs (Answer A) B) where
       (λ i l k. (strip l, refl, k)) (λ b i a l k. (b, tt, refl, k)) held
 
   module _ (same : Sameness A) {alike : B → B → Type 0} (steady : SteadinessBy (SameAnswer same) run alike) where
-    -- two lists of ready answers are the same, as far as both go
+    -- Two lists of results, `Pending`s left out, are the same as far as both go.
     abbrev Go : List (Option A) → List (Option A) → Type 0
     Go = ComparableBy (SameAnswer same)
 
@@ -82,7 +82,7 @@ module _ {B A : Type 0} (run : Runs (Answer A) B) where
           rw (r.5, q.5)
           (both_end same _ _ r.4 q.4 (no_end r.0 r.3) (no_end q.0 q.3) ends (rest r.4 q.4 r.6 q.6))
 
-    -- over outer streams whose items are alike
+    -- Two flattened streams are alike, if the items of their outer streams are.
     flattening_alike : {M S : Type 0} (p : AdapterParts M S (Option B)) (outer : Runs (Answer B) S) (x y : M)
         → AlikeBy (OptionBy alike) outer (p.source x) (p.source y)
         → OptionBy alike (p.held x) (p.held y) → AlikeBy (SameAnswer same) (Adapts p outer (Flattening run)) x y
@@ -92,7 +92,7 @@ module _ {B A : Type 0} (run : Runs (Answer A) B) where
         (a h.ins k.ins _ _ h.came k.came)
         (placed_from _ _ h.ins l h.related) (placed_from _ _ k.ins m k.related)
 
--- where no poll of an inner stream asks for memory
+-- The relation that allows no allocation failure holds, if no poll of an inner stream allocates memory.
 flattening_found : {B A : Type 0} {run ample : Runs (Answer A) B} → TakesNone run ample
     → Entails (Flattening run) (Flattening ample)
 flattening_found {run} {ample} t held last =
@@ -104,7 +104,7 @@ flattening_found {run} {ample} t held last =
 module _ {M S B A : Type 0} (p : AdapterParts M S (Option B)) {outer ample : Runs (Answer B) S}
     {run found : Runs (Answer A) B}
     {none none' : Type 0} {alike : M → M → Type 0} {alike' : B → B → Type 0} where
-  -- an adapter, where what is alike of it has outer streams whose items are alike
+  -- The steadiness of an adapter, if its outer streams' items are alike.
   pub flattening_steady : (same : Sameness A)
       → ((x y : M) → alike x y → AlikeBy (OptionBy alike') ample (p.source x) (p.source y)
       × OptionBy alike' (p.held x) (p.held y))
@@ -122,7 +122,7 @@ module _ {M S B A : Type 0} (p : AdapterParts M S (Option B)) {outer ample : Run
             };
       }
 
--- outer streams that are alike, each item of which is alike to those that it is the same as, have items that are alike
+-- Outer streams that are alike have items that are alike, if each item is alike to those that it is the same as.
 pub inner_alike : {S B : Type 0} (same : Sameness B) (outer : Runs (Answer B) S) (alike : B → B → Type 0) (s t : S)
     (held : Option B)
     → AlikeBy (SameAnswer same) outer s t

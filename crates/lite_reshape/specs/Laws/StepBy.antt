@@ -1,4 +1,4 @@
--- Laws of `step_by`. What is counted down says which number comes next.
+-- Laws about `step_by`. Its count of items to leave out says which number comes next.
 use Rattle.std.specs.Prelude.{◌≡◌, ℕ, ◌+◌, ◌%◌, ◌<◌, ◌-◌, List, [], ◌∷◌, ◌++◌, Option, Some, None}
 use Rattle.std.proofs.Common.{◌≤◌}
 use Rattle.lite_reshape.specs.Uses.{◌∙◌, refl, ap, subst, sym, append-nil, arith, add-mod-mod, mod_self, mod-add-mod, mod-eq_of_lt, OptionBy, Sameness, Answer}
@@ -8,16 +8,16 @@ use Rattle.lite_reshape.specs.Laws.Leaving.{leaves_as, leaves_calming, leaves_re
 use Rattle.lite_reshape.specs.Leaving.{LeavesOut}
 use Rattle.lite_reshape.specs.StepBy.{IsAt, Numbered, StepsOn}
 
--- the step, and how many items are left out before the next one is kept
+-- One item, by the step and the count of items that are still to be left out.
 abbrev pub Countdown : {A : Type 0} → ℕ × ℕ → A → Option A → ℕ × ℕ → Type 0
 Countdown p x None q = (q.0 ≡ p.0) × (p.1 ≡ q.1 + 1)
 Countdown p x (Some y) q = (q.0 ≡ p.0) × (p.1 ≡ 0) × (y ≡ x) × (q.1 + 1 ≡ p.0)
 
--- a multiple of the step changes nothing
+-- A multiple of the step does not change the remainder.
 past_multiple : (s n d : ℕ) → d % s ≡ 0 → (n + d) % s ≡ n % s
 past_multiple s n d e = sym (add-mod-mod n d s) ∙ ap (λ k. (n + k) % s) e ∙ ap (λ k. k % s) ((omega arith))
 
--- not so many more items as the step is no multiple away
+-- A number that is fewer than the step before a multiple of it, and not one itself, is no multiple.
 not_multiple : (s n i : ℕ) → i < s → 0 < i → (n + i) % s ≡ 0 → n % s ≡ 0 → ⊥
 not_multiple s n i less more at here =
     let left : i % s ≡ 0 = sym (past_multiple s i n here) ∙ ap (λ k. k % s) (sym (omega arith)) ∙ at in
@@ -27,15 +27,15 @@ is_at_later : (p : ℕ × ℕ) (n d : ℕ) → d % p.0 ≡ 0 → IsAt p n → Is
 is_at_later p n d e h = (h.0, ap (λ k. k % p.0) (omega arith) ∙ past_multiple p.0 (n + p.1) d e ∙ h.1)
 
 module _ {A : Type 0} (s : ℕ) where
-  -- one item of `step_by`, by how many are still to be left out before the next
+  -- One item, by its number.
   abbrev NumberSteps : ℕ → A → Option A → ℕ → Type 0
   NumberSteps = Numbered s
 
-  -- the same, beside the step, which stays
+  -- One item, by the count of items that are still to be left out. The step stays as it is.
   abbrev CountsItems : ℕ × ℕ → A → Option A → ℕ × ℕ → Type 0
   CountsItems = Countdown
 
-  -- a number that may be that of the next item goes on with what is counted down
+  -- The number and the count go on together.
   module _ (p q : ℕ × ℕ) (n : ℕ) (x : A) where
     counted : (o : Option A) → (p.0 ≡ s) × IsAt p n → CountsItems p x o q → (m : ℕ) × ((q.0 ≡ s) × IsAt q m)
         × NumberSteps n x o m
@@ -70,7 +70,7 @@ module _ {A : Type 0} (s : ℕ) where
       later (Some y) g h =
           (n + 1, omega (arith, g, h.0), (refl, ap (λ k. k % s) g ∙ past_multiple s p d e ∙ h.1, h.2))
 
-    -- all numbers may be later by a multiple of the step
+    -- All numbers may be later by a multiple of the step.
     shifted : (n m : ℕ) (i o : List (Answer A)) → LeavesOut NumberSteps n i o m
         → LeavesOut NumberSteps (n + d) i o (m + d)
     shifted n m i o h =
@@ -78,7 +78,7 @@ module _ {A : Type 0} (s : ℕ) where
         rw k.1 at k.2
 
 module _ {A : Type 0} where
-  -- what comes after some answers goes on with their numbers
+  -- Results that follow others go on with their numbers.
   module _ (p q r : ℕ × ℕ) (i j : List (Answer A)) where
     steps_join : (b c : Answer A) (l m : List (Answer A)) → StepsOn p i (b ∷ l) q → StepsOn q j (c ∷ m) r
         → StepsOn p (i ++ j) (b ∷ l ++ c ∷ m) r
@@ -126,7 +126,7 @@ module _ {A : Type 0} where
         from_items = λ p q i y l h. (leaves_relating _).from_items h.1 h.2 i y l h.5;
       }
 
-  -- one poll that counts down
+  -- One poll that counts down.
   pub stepped : {S : Type 0} (run : Runs (Answer A) S) (x y : S) (p q : ℕ × ℕ) (b : Answer A) → p.1 < p.0
       → Through run (LeavesOut Countdown) x p (b ∷ []) y q → Through run StepsOn x p (b ∷ []) y q
   stepped run x y p q b less h =
@@ -136,7 +136,7 @@ module _ {A : Type 0} where
       (b ∷ []) (refl, at) h.related in
       record { ins = h.ins; came = h.came; related = (e.1.0, p.0 - p.1, e.0, at, e.1.1, e.2) }
 
--- two numbers that are each i less than a multiple of the step differ by multiples of it
+-- Two numbers, each `i` less than a multiple of the step, have the same remainder.
 module _ (s n m : ℕ) where
   same_remainder : (i : ℕ) → (n + i) % s ≡ 0 → (m + i) % s ≡ 0 → n % s ≡ m % s
   same_remainder i h k =
@@ -146,7 +146,7 @@ module _ (s n m : ℕ) where
   next_remainder e = sym (mod-add-mod n s 1) ∙ ap (λ k. (k + 1) % s) e ∙ mod-add-mod m s 1
 
 module _ {A : Type 0} where
-  -- from numbers that differ by multiples of the step, the same items are kept
+  -- Numbers with the same remainder keep the same items.
   module _ (s : ℕ) (like : A → A → Type 0) where
     numbered_match : MatchesFrom like (OptionBy like) (Numbered {A = A} s) (λ n m. n % s ≡ m % s)
     numbered_match n m p q x w None None e h a c = rw (a.0, c.0) (tt, next_remainder s n m e)
@@ -154,7 +154,7 @@ module _ {A : Type 0} where
     numbered_match n m p q x w (Some y) None e h a c = absurd (c.1 (sym e ∙ a.1))
     numbered_match n m p q x w (Some y) (Some z) e h a c = rw (a.0, c.0, a.2, c.2) (h, next_remainder s n m e)
 
-  -- from one step and one count on
+  -- Two streams agree, if their steps and their counts are equal.
   pub steps_agreeing : (like : Sameness A) → AgreeingOver like like (StepsOn {A = A}) (λ p q. (q.0 ≡ p.0) × (q.1 ≡ p.1))
   steps_agreeing like p q r t i j [] l e h k c = tt
   steps_agreeing like p q r t i j (a ∷ o) [] e h k c = comparable_nil _ _
@@ -165,7 +165,7 @@ module _ {A : Type 0} where
       (same_remainder p.0 h.1 k.1 p.1 h.3.1 at) h.5
       (subst (λ z. LeavesOut (Numbered z) k.1 j (b ∷ l) k.2) e.0 k.5) c
 
-  -- no Pending is made up
+  -- No `Pending` is added.
   pub steps_calming : Calming (StepsOn {A = A})
   steps_calming p q i [] h = omega arith
   steps_calming p q i (b ∷ o) h = leaves_calming (Numbered p.0) h.1 h.2 i (b ∷ o) h.5

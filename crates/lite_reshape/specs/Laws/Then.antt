@@ -1,4 +1,4 @@
--- Laws of items that are replaced by the lists of futures.
+-- Laws about `then`, whose items are replaced by the results of futures.
 use Rattle.std.specs.Prelude.{IfSome, cond, nat_lt, ◌≡◌, ℕ, ◌+◌, ◌-◌, ◌^◌, List, [], ◌∷◌, ◌++◌, Option, Some, None, Bool, true, false}
 use Rattle.std.proofs.Common.{◌≤◌}
 use Rattle.lite_reshape.specs.Uses.{Mut, map, refl, arith, Poll, Ready, Pending, count_held, OptionBy, SameItem, Sameness, Answer, Gives, item, CalmLaws}
@@ -36,7 +36,7 @@ module _ {V B : Type 0} {run : Runs (Poll B) V} where
         hands = λ v l h. (h.value, rw (h.joined, h.later) (one_handed h.ins h.value h.finishes.gives));
       }
 
--- one poll of a future
+-- One poll of a future.
 module _ {V B : Type 0} (run : Runs (Poll B) V) {v w : V} {a : Poll B} where
   pub hands_pending : a ≡ Pending → run v (a ∷ []) w → HandsOut run v (Pending ∷ []) (Some w)
   hands_pending is came = (Pending ∷ [], tt, rw is at came, refl)
@@ -86,7 +86,7 @@ module _ {V B : Type 0} (same : Sameness B) {gives found : Runs (Poll B) V} {non
   unfolding hands_one
   hands_alike v w l m a h k = alike_agrees found v w (s.steady v w a) h.ins k.ins h.value k.value h.finishes k.finishes
 
-  -- by functions that make futures which are alike
+  -- The steadiness of `then`: the functions make futures that are alike of items that are the same.
   pub then_steady : {S F A : Type 0} (like : Sameness A) (call : Question F A V) {run ample : Runs (Answer A) S}
       {none' : Type 0} {alike' : S → S → Type 0} → SteadyLawsBy like run ample none' alike'
       → SteadyLawsBy same (Thens run call gives) (Thens ample call found) (none' × none)
@@ -110,7 +110,7 @@ module _ {V B : Type 0} {gives : Runs (Poll B) V} {calm : V → Type 0} (c : Cal
       let ins = handed_no_pending Some h.ins (c.no_pending v h.finishes.last h.ins k h.finishes.came) in
       (rw (h.joined, h.later) (no_pending_join (map _ h.ins) [] ins tt), tt)
 
-  -- by a function that makes calm futures
+  -- A `then` is calm, if its source is and its function makes calm futures.
   pub then_calm : {S F A : Type 0} (g : Mut F (A × Unit {0}) V) {run : Runs (Answer A) S} {is_calm : S → Type 0}
       → CalmLaws run is_calm
       → CalmLaws (Thens run (Calls g) gives) (λ (m : Then S F V). is_calm m.stream × EachMade g calm m.f m.future)

@@ -1,4 +1,4 @@
--- No list of its length is below one of zeros.
+-- No list of the same length is below a list of zeros.
 use Rattle.std.specs.Prelude.{replicate, ◌≡◌, ℕ, List, [], ◌∷◌, length}
 use Rattle.lite_reshape.specs.Uses.{◌∙◌, zero, suc, inl, inr, refl, ap, arith, length-replicate, AtMost}
 

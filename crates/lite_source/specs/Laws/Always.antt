@@ -1,11 +1,11 @@
--- Laws of sources that never change.
+-- Laws about sources that never change.
 use Rattle.std.specs.Prelude.{◌≡◌, ◌≤◌, List, [], ◌∷◌, ◌++◌, Option, Some, IfSome}
 use Rattle.lite_source.specs.Uses.{◌∙◌, ℕ, refl, inl, arith, AllByRecursion, Ready, Pending, Answer, ComparableBy, before_end, item, strip, NoPending}
 use Rattle.lite_source.specs.Uses.{all_append, same_hint, AtMost, Lowers, Counting, StreamLaws}
 use Rattle.lite_source.specs.Always.{Unchanging, no_ranks}
 
 module _ {A : Type 0} (may : Answer A → Type 0) where
-  -- where no item may come
+  -- Such lists hold no items.
   module _ (none : (x : A) → may (item x) → ⊥) where
     no_items : (l : List (Answer A)) → AllByRecursion may l → before_end l ≤ 0
     no_items (Pending ∷ l) h = no_items l h.1
@@ -22,7 +22,7 @@ module _ {S A : Type 0} (may : S → Answer A → Type 0) where
       → Unchanging may x (l ++ m) z
   always_follow x y z l m h k = (all_append (may x) l m h.0 (rw h.1 at k.0), k.1 ∙ h.1)
 
-  -- its hint is `known`, which bounds the items that may come
+  -- The size hint of such a source is `known`, which bounds the items that may come.
   pub always_laws : (known : ℕ × Option ℕ)
       → ((x : S) (l : List (Answer A)) → AllByRecursion (may x) l → IfSome known.1 (λ most. before_end l ≤ most))
       → StreamLaws (Unchanging may) (λ x hint. hint ≡ known)
@@ -34,7 +34,7 @@ module _ {S A : Type 0} (may : S → Answer A → Type 0) where
         bounded = λ x y hint l e h. same_hint hint known l e (bound x l h.0);
       }
 
-  -- where no item may come, the hint is that none does, and there is nothing to count
+  -- If no item may come, the hint is `(0, Some(0))`, and nothing has to be counted.
   module _ (none : (s : S) (x : A) → may s (item x) → ⊥) where
     pub itemless_laws : StreamLaws (Unchanging may) (λ x hint. hint ≡ (0, Some 0))
     itemless_laws = always_laws (0, Some 0) (λ x. no_items (may x) (none x))
@@ -50,7 +50,7 @@ module _ {S A : Type 0} (may : S → Answer A → Type 0) where
         }
 
 module _ {A : Type 0} (b : Option A) where
-  -- lists of one answer, which is the same as itself
+  -- Two lists that hold one result alone are the same, if that result is the same as itself.
   pub answers_same : (same : Option A → Option A → Type 0) → same b b → (l m : List (Answer A))
       → AllByRecursion (λ a. a ≡ Ready b) l
       → AllByRecursion (λ a. a ≡ Ready b) m → ComparableBy same (strip l) (strip m)

@@ -1,4 +1,4 @@
--- Laws of `empty`.
+-- Laws about `empty`.
 use Rattle.std.specs.Prelude.{⊤, ◌≡◌, Some, None}
 use Rattle.lite_source.specs.Uses.{refl, CalmLaws, calm_both, Counting, Steadiness, StreamLaws}
 use Rattle.lite_source.specs.Always.{no_ranks}

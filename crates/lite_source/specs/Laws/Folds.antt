@@ -1,12 +1,12 @@
--- Laws of sources that make one call a poll.
+-- Laws about sources that make one call for each poll.
 use Rattle.std.specs.Prelude.{⊤, ◌≡◌, List, [], ◌∷◌, Option, None}
 use Rattle.lite_source.specs.Uses.{ℕ, refl, sym, FoldsTo, Ready, Pending, Alike, Answer, Comparable, strip, CalmLaws, NoPending, calm_both, folds_follow}
 use Rattle.lite_source.specs.Uses.{same_hint, SteadyLaws, steady_always, StreamLaws}
 
--- `part` of the source is what changes, by `next` at each poll, and all that it holds
+-- `part` of the source is what changes at each poll, and it is all that the source holds. `next` says how.
 module _ {S P A : Type 0} (part : S → P) (next : P → Answer A → P → Type 0)
     (same : (x y : S) → part y ≡ part x → y ≡ x) where
-  -- its hint bounds nothing
+  -- The size hint of such a source bounds no items from above.
   pub folds_laws : (least : ℕ) → StreamLaws (λ x l y. FoldsTo next (part x) l (part y)) (λ x hint. hint ≡ (least, None))
   folds_laws least =
       record {
@@ -16,7 +16,7 @@ module _ {S P A : Type 0} (part : S → P) (next : P → Answer A → P → Type
         bounded = λ x y hint l e h. same_hint hint (least, None) l e tt;
       }
 
-  -- it is its own source: those whose answers are the same are alike
+  -- Such a source is alike to another if its results are the same.
   pub folds_steady : SteadyLaws (λ x l y. FoldsTo next (part x) l (part y))
       (λ x l y. FoldsTo next (part x) l (part y)) ⊤ (λ x y. Alike (FoldsTo next) (part x) (part y))
   folds_steady = steady_always (folds_laws 0) (λ x y e l m x' y'. e l m (part x') (part y'))
@@ -28,12 +28,11 @@ module _ {S P A : Type 0} (part : S → P) (next : P → Answer A → P → Type
     folds_no_pending p q (Pending ∷ l) h = absurd (never p h.0 h.1)
     folds_no_pending p q (Ready r ∷ l) h = folds_no_pending h.0 q l h.2
 
-    -- no call is answered Pending
+    -- No call returns `Pending`.
     pub folds_calm : CalmLaws (λ x l y. FoldsTo next (part x) l (part y)) (λ x. ⊤)
     folds_calm = calm_both (λ x y l k h. (folds_no_pending (part x) (part y) l h, tt))
 
--- by steps: those are alike whose ready answers are the same where they agree, if they agree again after each of these,
--- and a Pending of either keeps what they agree in
+-- Two sources are alike if their results agree step by step. A `Pending` of either has to keep what they agree in.
 pub folds_alike : {P A : Type 0} (next : P → Answer A → P → Type 0) (agree : P → P → Type 0)
     → ((p q r : P) → agree p q → next p Pending r → agree r q)
     → ((p q r : P) → agree p q → next q Pending r → agree p r)

@@ -1,4 +1,4 @@
--- Laws of `iter`.
+-- Laws about `iter`.
 use Rattle.std.specs.Prelude.{IfSome, ◌≤◌, List, [], ◌∷◌, Option, Some, None}
 use Rattle.lite_source.specs.Uses.{sym, ℕ, refl, ap, arith, inl, Count, IsFinite, MakesProgress, UpTo, size, Ready, Pending, Answer, before_end, items}
 use Rattle.lite_source.specs.Uses.{Below-one, Lowers-at_most, at_most_one, folds_follow, Below, Lowers, Counting, StreamLaws}
@@ -11,7 +11,7 @@ up_to None count n h b = tt
 up_to (Some m) count n h b = omega arith
 
 module _ {I A : Type 0} (can : I → Type 0) (gives : I → Option A → I → Type 0) (remaining : I → Count) where
-  -- after a call it may still be called
+  -- After a call `next` may still be called.
   module _ (i j : I) where
     pub always_on : (a : Answer A) → AlwaysNext can gives remaining i → Nexts can gives remaining i a j
         → AlwaysNext can gives remaining j

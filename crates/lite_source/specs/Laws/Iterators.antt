@@ -1,4 +1,4 @@
--- Laws of `iter` where nothing is said of its answers: iterators that go on in one way from values that agree give
+-- Laws about `iter` over iterators of which nothing is known but that they are deterministic. Iterators that agree make
 -- streams that are alike.
 use Rattle.std.specs.Prelude.{◌≡◌, List, ◌∷◌, Option, Some, None, length, MatchOption}
 use Rattle.std.proofs.Common.{◌<◌}
@@ -17,9 +17,9 @@ iter_alike can gives remaining agree step =
     folds_alike _ agree (λ p q r b. absurd) (λ p q r b. absurd)
     (λ p q r s x y b h k. step p q r s x y b h.0 k.0)
 
--- what is left comes off its front, until nothing is
+-- The items come off the front of what is left, until nothing is.
 module _ {I A : Type 0} (left : I → List A) where
-  -- one item comes off the front of what is left, or nothing is left and nothing changes
+  -- One item comes off the front of what is left. Or nothing is left, and nothing changes.
   abbrev FromFront : I → Option A → I → Type 0
   FromFront i r p = MatchOption r ((length (left i) ≡ 0) × (p ≡ i)) (λ x. left i ≡ x ∷ left p)
 
@@ -41,7 +41,7 @@ module _ {A : Type 0} where
       iter_alike can array_steps remaining _
       (front_step array_into_iter_items)
 
-  -- what the references of a slice show
+  -- The items that the references of a slice refer to.
   abbrev pub slice_items : Copied (SliceIter A) → List A
   slice_items i = iter_rest (copied_source i)
 
@@ -57,17 +57,17 @@ module _ {A : Type 0} where
       from_front (Some x) None a b c d = absurd (nothing_comes slice_items j x.now (slice_items p) b.0 (sym e ∙ a))
       from_front (Some x) (Some y) a b c d = (cc (a, b, c, d, e), cc (a, b, e))
 
-  -- the items of slices, by value: of a reference nothing says where it points
+  -- Two iterators over slices are compared by their items, because nothing says where a reference points.
   pub slice_alike : (can : Copied (SliceIter A) → Type 0) (remaining : Copied (SliceIter A) → Count)
       (i j : Copied (SliceIter A)) → slice_items i ≡ slice_items j
       → Alike (Iterates can (copied_steps iter_steps) remaining) i j
   slice_alike can remaining =
       iter_alike can (copied_steps iter_steps) remaining _ shown_step
 
--- one value has one that follows it
+-- A range has one value that follows each value.
 module _ {A : Type 0} (gap : A → A → ℕ) (follows : A → A → Type 0)
     (one : (x y z : A) → follows x y → follows x z → y ≡ z) where
-  -- two ranges of numbers with the same start and the same end
+  -- Two ranges with the same start and the same end.
   abbrev SameEnds : Range A → Range A → Type 0
   SameEnds i j = (i.start ≡ j.start) × (i.end ≡ j.end)
 
@@ -86,7 +86,7 @@ module _ {A : Type 0} (gap : A → A → ℕ) (follows : A → A → Type 0)
   range_alike can remaining i j e d = iter_alike can (range_steps gap follows) remaining SameEnds range_step i j (e, d)
 
 module _ {A Z : Type 0} where
-  -- the same is left of both
+  -- Two `Vec` iterators with the same items left.
   abbrev pub SameLeft : IntoIter A Z → IntoIter A Z → Type 0
   SameLeft i j = (into_iter_len i ≡ into_iter_len j) × (0 < into_iter_len i → into_iter_items i ≡ into_iter_items j)
 

@@ -1,4 +1,4 @@
--- Laws of `once`.
+-- Laws about `once`.
 use Rattle.std.specs.Prelude.{⊤, ◌≡◌, length, Option, Some, None}
 use Rattle.lite_source.specs.Uses.{refl, CalmLaws, NoPending, calm_both, same_hint, Counting, number_counting, Steadiness, StreamLaws}
 use Rattle.lite_source.specs.Once.{GivesOnce, once_left, once_ranks}
@@ -28,7 +28,7 @@ module _ {A : Type 0} where
   held_no_pending None = tt
   held_no_pending (Some x) = tt
 
-  -- with equal items
+  -- Two of them are alike, if their items are equal.
   pub once_steady : Steadiness (GivesOnce {A = A}) (λ x y. y.value ≡ x.value)
   once_steady x y e l m x' y' =
       gives_steady (once_left x.value) (once_left y.value) (rw e) l m (once_left x'.value) (once_left y'.value)

@@ -1,4 +1,4 @@
--- Laws of `once_future`.
+-- Laws about `once_future`.
 use Rattle.std.specs.Prelude.{IfSome, ◌≡◌, List, [], ◌∷◌, map, Option, Some, None}
 use Rattle.lite_source.specs.Uses.{◌∙◌, refl, ap, arith, inl, AllByRecursion, option_len, Poll, OptionBy, SameAnswer, SameItem, Sameness, Answer, ComparableBy}
 use Rattle.lite_source.specs.Uses.{end, strip, CalmLaws, NoPending, Lowers-below, waiting_lowers, Spends, FutureLaws, alike_agrees, comparable_nil, ends_same}
@@ -29,7 +29,7 @@ module _ {F A : Type 0} (run : Runs (Poll A) F) where
   pub once_future_counting : Counting (GivesFuture run) once_future_ranks
   once_future_counting = number_counting (λ x y. spends_lower x.future y.future)
 
--- what a held future answers, and then ends
+-- The future's poll results, and then ends of stream.
 abbrev Handing : {F A : Type 0} → Runs (Poll A) F → Runs (Answer A) (Option F)
 Handing run = Spends run (handed Some) (AllByRecursion (λ a. a ≡ end))
 

@@ -1,4 +1,4 @@
--- Laws of `pending`.
+-- Laws about `pending`.
 use Rattle.std.specs.Prelude.{⊤, ◌≡◌, Some}
 use Rattle.lite_source.specs.Uses.{Counting, Steadiness, StreamLaws}
 use Rattle.lite_source.specs.Always.{no_ranks}

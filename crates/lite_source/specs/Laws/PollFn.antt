@@ -1,9 +1,9 @@
--- Laws of `poll_fn`.
+-- Laws about `poll_fn`.
 use Rattle.std.specs.Prelude.{List, Option}
 use Rattle.lite_source.specs.Uses.{FoldsTo, Answer, CalmLaws, calm_both, CallAnswers, NeverPends, Poller, never_pends_on}
 use Rattle.lite_source.specs.declared.poll_fn.PollFn.{PollFn}
 
--- where its function is never pending
+-- A `poll_fn` is calm, if no call of its function returns `Pending`.
 pub poll_fn_calm : {F A : Type 0} (g : Poller F (Option A))
     → CalmLaws (λ (x : PollFn F) (l : List (Answer A)) (y : PollFn F). FoldsTo (CallAnswers g) x.f l y.f)
     (λ x. NeverPends g x.f)

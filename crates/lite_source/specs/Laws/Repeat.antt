@@ -1,4 +1,4 @@
--- Laws of `repeat`.
+-- Laws about `repeat`.
 use Rattle.std.specs.Prelude.{⊤, Result, Ok, Err, ◌≡◌, List, [], ◌∷◌, Some, None}
 use Rattle.lite_source.specs.Uses.{ℕ, ap, AllByRecursion, Ready, Pending, Answer, Comparable, strip, CalmLaws, NoPending, calm_both, SteadyLaws, StreamLaws}
 use Rattle.lite_source.specs.Uses.{runs_of}
@@ -6,7 +6,7 @@ use Rattle.lite_source.specs.Repeat.{IsCloned, Repeats, SameClones}
 use Rattle.lite_source.specs.Laws.Always.{always_laws}
 
 module _ {A E : Type 0} (is_clone : A → A → Type 0) (is_infallible : A → Type 0) where
-  -- its hint bounds nothing
+  -- The size hint of a `repeat` bounds no items from above.
   pub repeat_laws : (least : ℕ) → StreamLaws (Repeats {E = E} is_clone is_infallible) (λ x hint. hint ≡ (least, None))
   repeat_laws least = always_laws _ (least, None) _
 
@@ -31,7 +31,7 @@ module _ {A E : Type 0} (is_clone : A → A → Type 0) (is_infallible : A → T
         (ap (λ z. Some (Ok z)) (e v w h.0 k.0), clones_same l m h.1 k.1)
     clones_same l m h k = tt
 
-  -- where no clone is refused, those of the same clones
+  -- Without allocation failures, two of them are alike if all clones of one equal all clones of the other.
   pub repeat_steady : SteadyLaws (Repeats {E = E} is_clone is_infallible) (Repeats is_clone (λ _. ⊤))
       ((x : A) → is_infallible x) (λ x y. SameClones is_clone x.item y.item)
   repeat_steady =

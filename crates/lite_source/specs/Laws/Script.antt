@@ -1,4 +1,4 @@
--- Laws of `script`, and of other sources whose answers to come are a list.
+-- Laws about `script`, and about other sources whose results to come are a list.
 use Rattle.std.specs.Prelude.{⊤, ◌≡◌, ◌≤◌, List, [], ◌∷◌, ◌++◌, length, Option, Some, None}
 use Rattle.lite_source.specs.Uses.{◌∙◌, refl, sym, inl, arith, Ready, Pending, Answer, Comparable, before_end, strip, CalmLaws, NoPending, Below-one}
 use Rattle.lite_source.specs.Uses.{Lowers-at_most, Lowers-below, Lowers, calm_both, same_hint, Steadiness, StreamLaws, NoHint}
@@ -32,7 +32,7 @@ module _ {A : Type 0} where
         bounded = λ x y hint l e h. same_hint hint (0, None) l e tt;
       }
 
-  -- these, in order, and then ends
+  -- The results of a list in order, and then ends of stream.
   abbrev Emits : List (Option A) → List (Option A) → Type 0
   Emits s [] = ⊤
   Emits [] (a ∷ l) = (a ≡ None) × Emits [] l
@@ -49,7 +49,7 @@ module _ {A : Type 0} where
   emits_same (c ∷ s) (a ∷ l) (b ∷ m) h k = (h.0 ∙ sym k.0, emits_same s l m h.1 k.1)
   emits_same s l m h k = tt
 
-  -- lists that differ in their Pendings alone
+  -- Two of them are alike, if their lists differ in `Pending`s alone.
   pub gives_steady : Steadiness (GivesScript {A = A}) (λ x y. strip x ≡ strip y)
   gives_steady x y e l m x' y' h k =
       emits_same _ _ _ (gives_emits x x' l h) (rw e (gives_emits y y' m k))
@@ -60,6 +60,6 @@ module _ {A : Type 0} where
   gives_no_pending (Pending ∷ x) y (a ∷ l) k h = absurd k
   gives_no_pending (Ready b ∷ x) y (a ∷ l) k h = rw h.0 (gives_no_pending x y l k h.1)
 
-  -- a list without a Pending
+  -- A list without `Pending`s is calm.
   pub gives_calm : CalmLaws (GivesScript {A = A}) NoPending
   gives_calm = calm_both gives_no_pending

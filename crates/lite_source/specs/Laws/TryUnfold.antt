@@ -1,4 +1,4 @@
--- Laws of `try_unfold`.
+-- Laws about `try_unfold`.
 use Rattle.std.specs.Prelude.{Option, Result}
 use Rattle.lite_source.specs.Uses.{Mut, Poll, StreamLaws, NoHint, Runs}
 use Rattle.lite_source.specs.TryUnfold.{TryUnfoldsBy, try_item_of, try_seed_of}

@@ -1,4 +1,4 @@
--- Laws of `unfold`.
+-- Laws about `unfold`.
 use Rattle.std.specs.Prelude.{Option}
 use Rattle.lite_source.specs.Uses.{Mut, Poll, StreamLaws, NoHint, Runs}
 use Rattle.lite_source.specs.Unfold.{UnfoldsBy, item_of, seed_of}

@@ -1,4 +1,4 @@
--- What `unfold` and `try_unfold` answer, Pendings aside: the same from futures that are alike.
+-- The results of `unfold` and `try_unfold`, `Pending`s aside: the same for futures that are alike.
 use Rattle.std.specs.Prelude.{⊤, ◌≡◌, ◌⊎◌, List, [], ◌∷◌, ◌++◌, map, flat_map, Option, Some, None}
 use Rattle.lite_source.specs.Uses.{inl, inr, ◌∙◌, refl, ap, sym, append-nil, Mut, AllByRecursion, FoldsTo, Poll, OptionBy, SameAnswer, SameItem, Sameness}
 use Rattle.lite_source.specs.Uses.{Answer, ComparableBy, Waiting, end, strip, CalmLaws, NoPending, AgreeFrom, Calls, MakesAlways, Finishes, handed, FutureLaws}
@@ -11,7 +11,7 @@ use Rattle.lite_source.specs.Unfolding.{UnfoldAlike, UnfoldPart, Unfolds, comes}
 
 module _ {F S V O B : Type 0} (call : Mut F (S × Unit {0}) V) (gives : Runs (Poll O) V) (after : O → Option S)
     (shown : O → Option B) where
-  -- the values of futures, one after the other, and after the last of them ends
+  -- The values of futures one after the other, and ends of stream after the last.
   abbrev FutureValues : F → Holding S V → List (Option B) → Type 0
   FutureValues p x [] = ⊤
   FutureValues p x (b ∷ out) =
@@ -19,7 +19,7 @@ module _ {F S V O B : Type 0} (call : Mut F (S × Unit {0}) V) (gives : Runs (Po
       × (b ≡ shown o) × FutureValues q (comes (after o)) out)
       ⊎ ((x ≡ Holding.Over) × (b ≡ None) × FutureValues p Holding.Over out)
 
-  -- some Pendings of a future change nothing of it
+  -- A `Pending` of a future leaves the list of values as it was.
   module _ (laws : FutureLaws gives) (p q : F) (x : Holding S V) (v w : V) (ins : List (Poll O)) where
     waited : (out : List (Option B)) → IsCurrent call p x q v → Waiting ins → gives v ins w
         → FutureValues q (Holding.Asked w) out → FutureValues p x out
@@ -66,7 +66,7 @@ module _ {F S V O B : Type 0} (call : Mut F (S × Unit {0}) V) (gives : Runs (Po
       rw strip_join
       (part_values laws x.0 h.0.0 x.1 h.0.1 _ _ h.1 (unfolds_values laws h.0 y parts h.2))
 
--- by functions that make futures which are alike: `same` of values, `like` of seeds, `shows` of what goes out
+-- The functions make futures that are alike. `same` compares the values, `like` the seeds, and `shows` the results.
 module _ {F S V O B : Type 0} (call : Mut F (S × Unit {0}) V) (ample : Runs (Poll O) V) {alike : V → V → Type 0}
     {same : O → O → Type 0}
     (like : S → S → Type 0) (shows : Option B → Option B → Type 0) (s : SteadinessBy same ample alike)
@@ -80,7 +80,7 @@ module _ {F S V O B : Type 0} (call : Mut F (S × Unit {0}) V) (ample : Runs (Po
     current_alike Holding.Over y v w a e c d = absurd c
     current_alike x y v w a e c d = absurd e
 
-  -- one that is over has no future
+  -- A stream that is over has no current future.
   module _ (p q : F) where
     not_over : (x : Holding S V) (v : V) → HoldingsBy like alike x Holding.Over → IsCurrent call p x q v → ⊥
     not_over Holding.Over v e c = c
@@ -116,7 +116,7 @@ module _ {F S V O B : Type 0} (call : Mut F (S × Unit {0}) V) (ample : Runs (Po
         rw (h.1, g.1) (ends, values_same p k Holding.Over Holding.Over o o' a tt h.2 g.2)
     values_same p k x y o o' a e h g = tt
 
--- parts of values that are the same are, where both values have the part or neither
+-- Parts of values that are the same are the same too, if both values have the part or neither does.
 module _ {O B : Type 0} (same : O → O → Type 0) (part : O → Option B) where
   standing : (o p : O) (x y : Option B) → same o p → part o ≡ x → part p ≡ y → OptionBy (λ _ _. ⊤) x y
       → OptionBy (SameItem (PartOf (Sameness.by same) part)) x y
@@ -128,8 +128,8 @@ module _ {O B : Type 0} (same : O → O → Type 0) (part : O → Option B) wher
       → OptionBy (SameItem (PartOf (Sameness.by same) part)) (part o) (part p)
   parts_same both o p r = standing o p (part o) (part p) r refl refl (both o p r)
 
--- two that unfold are alike from seeds that are the same, by functions that agree from such seeds on, where values that
--- are the same both have an item or neither, and so a seed
+-- Two streams that unfold are alike, from seeds that are the same, if their functions agree from such seeds on. Values
+-- that are the same both have an item or neither does, and the same holds of a seed.
 pub unfold_alike : {F S V O B : Type 0} (same : Sameness O) (alike : V → V → Type 0) (call : Question F S V)
     (after : O → Option S)
     (shown : O → Option B) (x y : F × Holding S V)
@@ -143,7 +143,7 @@ unfold_alike (Sameness.by same) alike call after shown x y a h p q = (a, h, p, q
 module _ {F S V O B : Type 0} (call : Mut F (S × Unit {0}) V) (ample : Runs (Poll O) V) {alike : V → V → Type 0}
     (after : O → Option S)
     (shown : O → Option B) where
-  -- by how the values of the futures are compared
+  -- The case of values that are compared by equality or by a relation.
   unfolds_same : (same : Sameness O) → SteadinessBy (SameItem same) ample alike
       → (x y : F × Holding S V) (o p : List (Option B))
       → UnfoldAlike same alike (Calls call) after shown x y
@@ -158,7 +158,7 @@ module _ {F S V O B : Type 0} (call : Mut F (S × Unit {0}) V) (ample : Runs (Po
       (parts_same same after e.3) (parts_same same shown e.2) tt
       x.0 y.0 x.1 y.1 o p e.0 e.1 h k
 
--- where no poll asks for memory
+-- The case in which no poll allocates memory.
 module _ {F S V O B : Type 0} (call : Mut F (S × Unit {0}) V) {run ample : Runs (Poll O) V}
     (takes : TakesNone run ample) (after : O → Option S) (shown : O → Option B) where
   leads_found : (v : V) (ins : List (Poll O)) (next : Holding S V) → Leads call run after shown v ins next
@@ -180,7 +180,7 @@ module _ {F S V O B : Type 0} (call : Mut F (S × Unit {0}) V) {run ample : Runs
 
 module _ {F S V O B : Type 0} (call : Mut F (S × Unit {0}) V) {run ample : Runs (Poll O) V} {none : Type 0}
     {alike : V → V → Type 0} (after : O → Option S) (shown : O → Option B) where
-  -- a source that holds such a pair
+  -- The steadiness of a source that holds such a pair of function and state.
   pub unfolds_steady : (same : Sameness O) {X : Type 0} (pair : X → F × Holding S V) {hints : Hints X}
       → StreamLaws (λ x l y. Unfolds call ample after shown (pair x) l (pair y)) hints
       → FutureSteadyLawsBy same run ample none alike
@@ -198,10 +198,10 @@ module _ {F S V O B : Type 0} (call : Mut F (S × Unit {0}) V) {run ample : Runs
         found = λ n x y l h. (h.0, parts_found call (s.found n) after shown (pair x) (pair y) h.0 h.1, h.2);
       }
 
--- by a function that makes calm futures
+-- A function that makes calm futures makes a calm source.
 module _ {F S V O B : Type 0} (call : Mut F (S × Unit {0}) V) {run : Runs (Poll O) V} {calm : V → Type 0}
     (c : CalmLaws run calm) (after : O → Option S) (shown : O → Option B) where
-  -- the function makes calm futures, and one that is held is calm
+  -- The function makes calm futures, and one that is held is calm.
   abbrev Calmly : F → Holding S V → Type 0
   Calmly p x = MakesAlways call calm p × IfHeldFuture x calm
 

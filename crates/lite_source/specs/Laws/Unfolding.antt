@@ -1,4 +1,4 @@
--- Laws of what `unfold` and `try_unfold` share.
+-- Laws about what `unfold` and `try_unfold` share.
 use Rattle.std.specs.Prelude.{◌≡◌, List, [], ◌∷◌, ◌++◌, Option, Some, None}
 use Rattle.lite_source.specs.Uses.{inl, inr, refl, sym, flat_map-append, Mut, FoldsTo, Poll, Ready, Pending, Answer, end, folds_follow, same_hint, StreamLaws}
 use Rattle.lite_source.specs.Uses.{NoHint, Runs}
@@ -13,7 +13,7 @@ module _ {F S V O B : Type 0} (call : Mut F (S × Unit {0}) V) (gives : Runs (Po
   stays_by x y [] h e = sym h
   stays_by x y (part ∷ parts) h e = cc
 
-  -- a source that holds such a pair, and nothing else
+  -- The laws of a source that holds such a pair and nothing else.
   pub unfolds_laws : {X : Type 0} (pair : X → F × Holding S V) → ((x y : X) → pair y ≡ pair x → y ≡ x)
       → StreamLaws (λ x l y. Unfolds call gives after shown (pair x) l (pair y)) NoHint
   unfolds_laws pair same =
@@ -28,23 +28,23 @@ module _ {F S V O B : Type 0} (call : Mut F (S × Unit {0}) V) (gives : Runs (Po
         bounded = λ x y hint l e h. same_hint hint (0, None) l e tt;
       }
 
-  -- where the future is pending, so is the source
+  -- If the future is pending, so is the source.
   module _ (p q : F) (x : Holding S V) where
     pub unfolds_wait : (next : Holding S V) → UnfoldStep call gives p x Pending q next
         → Unfolds call gives after shown (p, x) (Pending ∷ []) (q, next)
     unfolds_wait next h =
         ((Pending, []) ∷ [], ((q, next), inl (h.0, Pending ∷ [], h.2, inl (h.1, tt, h.3, h.4), refl), refl), refl)
 
-    -- where it gives its value, what is shown of that goes out
+    -- If the future returns its value, its item is yielded.
     pub unfolds_value : (y next : Holding S V) (o : O) → UnfoldStep call gives p x (Ready (Some o)) q y
         → next ≡ comes (after o) → Unfolds call gives after shown (p, x) (Ready (shown o) ∷ []) (q, next)
     unfolds_value y next o h e =
         ((Ready _, []) ∷ [], ((q, next), inl (h.0, Ready o ∷ [], h.1, inr (o, h.2, e), refl), refl), refl)
 
-    -- and where there is none, it is over
+    -- If no future is left, the stream has ended.
     pub unfolds_over : (next : Holding S V) → UnfoldStep call gives p x (Ready None) q next
         → Unfolds call gives after shown (p, x) (end ∷ []) (q, next)
     unfolds_over next h = ((end, []) ∷ [], ((q, next), inr (h.0, h.1, ((refl, tt), h.2)), refl), refl)
 
-  -- the answers that hand on what the future answers
+  -- The results that a poll of the future leads to.
   pub ruleset unfolds_rules = (unfolds_wait, unfolds_over)

@@ -1,4 +1,4 @@
--- Laws of adapters of one source whose answers do not depend on when it was pending.
+-- Laws about adapters over one source whose results, `Pending`s aside, do not depend on when the source was pending.
 use Rattle.std.specs.Prelude.{List, Option}
 use Rattle.lite_stream.specs.Uses.{AlikeBy, SameAnswer, Sameness, Answer, ComparableBy, strip, SteadyLawsBy, Runs}
 use Rattle.lite_stream.specs.Laws.Through.{Entails, Following, through_runs}
@@ -6,15 +6,15 @@ use Rattle.lite_stream.specs.Through.{AdapterParts, Adapts}
 use Rattle.lite_stream.specs.Relates.{Relates}
 
 module _ {F A B : Type 0} where
-  -- from what agrees, answers that are the same come of answers in that are, Pendings aside
+  -- From states that agree, source results that correspond by `like` lead to adapter results that correspond by `same`.
+  -- `Pending`s are left out of the comparison.
   abbrev pub AgreeingFrom : (Option A → Option A → Type 0) → (Option B → Option B → Type 0)
       → Relates F A B → (F → F → Type 0) → Type 0
   AgreeingFrom like same relates agree =
       (f k g l : F) (i j : List (Answer A)) (o p : List (Answer B)) → agree f k → relates f i o g → relates k j p l
       → ComparableBy like (strip i) (strip j) → ComparableBy same (strip o) (strip p)
 
-  -- an adapter hands on what is the same: where answers are the same by `like` that came in, those that went out are
-  -- by `same`
+  -- From states that agree, source items that are the same by `like` lead to adapter items that are the same by `same`.
   abbrev pub AgreeingOver : Sameness A → Sameness B
       → Relates F A B → (F → F → Type 0) → Type 0
   AgreeingOver like same = AgreeingFrom (SameAnswer like) (SameAnswer same)
@@ -31,7 +31,8 @@ through_alike p x y e a agrees l m x' y' h k =
 module _ {M S F A B : Type 0} (p : AdapterParts M S F) {run ample : Runs (Answer A) S} {needs_none : Type 0}
     {relates : Relates F A B} {alike : S → S → Type 0}
     {agree : F → F → Type 0} where
-  -- an adapter whose answers are others where memory was found
+  -- The steadiness of an adapter whose own relation, `relates'`, also allows allocation failures. Without failures it
+  -- entails `relates`.
   module _ (like : Sameness A) (same : Sameness B) where
     pub through_steady_by : {relates' : Relates F A B} {needs_none' : Type 0}
         → SteadyLawsBy like run ample needs_none alike → Following relates → AgreeingOver like same relates agree
@@ -50,7 +51,7 @@ module _ {M S F A B : Type 0} (p : AdapterParts M S F) {run ample : Runs (Answer
           };
         }
 
-    -- one that takes no memory itself
+    -- The steadiness of an adapter that does not allocate memory itself.
     pub through_steady_over : SteadyLawsBy like run ample needs_none alike → Following relates
         → AgreeingOver like same relates agree
         → SteadyLawsBy same (Adapts p run relates) (Adapts p ample relates) needs_none

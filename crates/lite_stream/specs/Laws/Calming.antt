@@ -1,4 +1,4 @@
--- Adapters of one source that make up no Pending.
+-- Adapters over one source that return `Pending` no more often than the source does.
 use Rattle.std.specs.Prelude.{◌+◌, List}
 use Rattle.std.proofs.Common.{◌≤◌}
 use Rattle.lite_stream.specs.Uses.{arith, Answer, CalmLaws, waits, calm_both, none_no_pending, no_pending_none, Runs}
@@ -6,7 +6,7 @@ use Rattle.lite_stream.specs.Laws.Through.{Entails}
 use Rattle.lite_stream.specs.Through.{AdapterParts, Adapts}
 use Rattle.lite_stream.specs.Relates.{Relates}
 
--- no more Pendings go out than came in
+-- The adapter adds no `Pending` of its own: its results hold no more `Pending`s than the source's results.
 abbrev pub Calming : {F A B : Type 0} → Relates F A B → Type 0
 Calming relates = Entails relates (λ f i o g. waits o ≤ waits i)
 
@@ -19,7 +19,7 @@ through_calm p c t =
     let none = no_pending_none h.ins (c.no_pending _ _ h.ins k h.came) in
     (none_no_pending l (omega (arith, none, t _ _ h.ins l h.related)), c.calm_on _ _ h.ins k h.came))
 
--- a stream of two that are calm, of which no more Pendings go out than came in
+-- A stream over two calm sources is calm, if its results hold no more `Pending`s than both sources' results together.
 pub calm_two : {M S U A B C : Type 0} {run : Runs (Answer A) S} {run' : Runs (Answer B) U} {runs : Runs (Answer C) M}
     (first : M → S) (second : M → U) {is_calm : S → Type 0} {is_calm' : U → Type 0} → CalmLaws run is_calm
     → CalmLaws run' is_calm'

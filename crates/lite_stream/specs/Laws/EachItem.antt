@@ -1,15 +1,15 @@
--- Laws of what holds of each item that a source may still give.
+-- Laws about facts that hold of each item that a source may still yield.
 use Rattle.std.specs.Prelude.{◌≡◌, List, [], ◌∷◌, ◌++◌}
 use Rattle.lite_stream.specs.Uses.{refl, Pending, Answer, end, item, Hints, Question, Runs, StreamLaws}
 use Rattle.lite_stream.specs.EachItem.{AtEachItem}
 
--- of the item that was answered
+-- The fact holds of the item that the source has just yielded.
 module _ {S F A O : Type 0} {run : Runs (Answer A) S} {call : Question F A O} {P : F → A → Type 0} {s t : S}
     {f : F} where
   pub each_here : {a : Answer A} {x : A} → AtEachItem run call P s f → run s (a ∷ []) t → a ≡ item x → P f x
   each_here {x} h came is = h.at [] x t f (rw (← is) came) refl
 
-  -- after it was asked about an item
+  -- The fact goes on to hold after an item, once the closure was called with it.
   module _ {hints : Hints S} {g : F} {a : Answer A} {x : A} {o : O} (laws : StreamLaws run hints) where
     pub each_asked : AtEachItem run call P s f → run s (a ∷ []) t → a ≡ item x → call f x o g
         → AtEachItem run call P t g
@@ -20,14 +20,14 @@ module _ {S F A O : Type 0} {run : Runs (Answer A) S} {call : Question F A O} {P
               (g, (o, called), asked);
         }
 
-    -- beside what else holds then
+    -- The same, together with another fact.
     pub each_again : {Q : Type 0} → AtEachItem run call P s f → run s (a ∷ []) t → a ≡ item x → call f x o g → Q
         → Q × AtEachItem run call P t g
     each_again h came is called again = (again, each_asked h came is called)
 
 module _ {S F A O : Type 0} (run : Runs (Answer A) S) (call : Question F A O) (P : F → A → Type 0)
     (follows : (x y z : S) (l m : List (Answer A)) → run x l y → run y m z → run x (l ++ m) z) where
-  -- after an answer that is no item
+  -- The fact goes on to hold after a `Pending` or an end of stream.
   module _ (s t : S) (f : F) (h : AtEachItem run call P s f) where
     pub each_pending : run s (Pending ∷ []) t → AtEachItem run call P t f
     each_pending came =
@@ -42,5 +42,5 @@ module _ {S F A O : Type 0} (run : Runs (Answer A) S) (call : Question F A O) (P
           at = λ ins x u p more. h.at (end ∷ ins) x u p (follows s t u _ _ came more);
         }
 
--- what each poll that is no item leaves
+-- What still holds after a poll that yields no item.
 pub ruleset each_rules = (each_pending, each_end)

@@ -1,4 +1,4 @@
--- Laws of `fuse`: it cuts the answers off once an end was met.
+-- Laws about `fuse`: it cuts its source's results off at the first end of stream.
 use Rattle.std.specs.Prelude.{◌≡◌, List, [], ◌∷◌, ◌++◌, Some, None, Bool, true, false}
 use Rattle.lite_stream.specs.Uses.{◌∙◌, refl, inl, inr, ap, Ready, Pending, Sameness, Answer, end, until_end}
 use Rattle.lite_stream.specs.Cutting.{Cuts}
@@ -8,17 +8,17 @@ use Rattle.lite_stream.specs.Laws.Calming.{Calming}
 use Rattle.lite_stream.specs.Laws.Cutting.{cuts_agreeing, cuts_calming, cuts_relating}
 use Rattle.lite_stream.specs.Laws.Through.{Relating, relating_by}
 
--- an answer that is an end
+-- Whether the result is the end of the stream.
 abbrev pub is_end : {A : Type 0} → Answer A → Bool
 is_end Pending = false
 is_end (Ready None) = true
 is_end (Ready (Some x)) = false
 
--- it is over once an end was the last answer that came in
+-- It is over if the last result of the source was the end of the stream.
 abbrev pub is_over_after : Bool → Type 0
 is_over_after ended = ended ≡ true
 
--- whether this answer is an end, whatever came before
+-- Whether this result is the end of the stream, whatever was before.
 abbrev pub ended_after : {A : Type 0} → Answer A → Bool → Bool
 ended_after b before = is_end b
 
@@ -30,7 +30,7 @@ pends A true n = absurd (n refl)
 pends A false n = refl
 
 module _ {A : Type 0} where
-  -- before an answer that is no end
+  -- A result that is no end of stream may be put in front of both lists.
   fuses_more : (b : Answer A) (i o : List (Answer A)) (g : Bool)
       → ((l : List (Answer A)) → until_end (b ∷ l) ≡ b ∷ until_end l) → FusesOn false i o g
       → FusesOn false (b ∷ i) (b ∷ o) g
@@ -66,7 +66,7 @@ module _ {A : Type 0} where
   ends_cut i [] g e a d = (e, d)
   ends_cut i (b ∷ o) g e a d = inl (refl, a.0, ends_cut i o g e a.1 d)
 
-  -- the answers before the first end, and those after it
+  -- The source's results through the first end, and the ends after them, are cut off as `Cuts` says.
   own_cut : (i own later : List (Answer A)) → i ≡ own ++ end ∷ [] → until_end own ≡ own → AllEnds later
       → Cuts is_over_after ended_after false i (own ++ end ∷ later) true
   own_cut i [] later e u a = inr (not_ended, [], e, ends_cut [] later true refl a refl)
@@ -74,7 +74,7 @@ module _ {A : Type 0} where
   own_cut i (b ∷ own) later e u a =
       inr (not_ended, own ++ end ∷ [], e, own_cut (own ++ end ∷ []) own later refl (cc u) a)
 
-  -- answers without an end
+  -- Results without an end of stream are passed on as they are.
   all_cut : (i : List (Answer A)) → until_end i ≡ i → Cuts is_over_after ended_after false i i false
   all_cut [] u = (refl, refl)
   all_cut (Ready None ∷ i) u = cc

@@ -1,4 +1,4 @@
--- A rank, and then a place that counts what is held.
+-- Ranks of adapters that hold a value: the source's rank, followed by one number that counts the value held.
 use Rattle.std.specs.Prelude.{◌≡◌, ℕ, ◌+◌, List, [], ◌∷◌, Option, Some, None}
 use Rattle.lite_stream.specs.Uses.{◌∙◌, length, inl, refl, ap, arith, length-append, AllByRecursion, Answer, items, AtMost-both, Below-after, Below-first}
 use Rattle.lite_stream.specs.Uses.{IsItem, each_items, AtMost, Below, count_held, held_rank}
@@ -8,7 +8,7 @@ module _ {V : Type 0} where
   pub held_sized : (xs : List ℕ) (held : Option V) {n : ℕ} → length xs ≡ n → length (held_rank xs held) ≡ n + 1
   held_sized xs held e = length-append xs _ ∙ ap (λ k. k + 1) e
 
-  -- what is held goes
+  -- The rank is lower once the held value is gone.
   held_below : (xs us : List ℕ) (v : V) → AtMost xs us → Below (held_rank {V = V} xs None) (held_rank us (Some v))
   held_below xs us v h = Below-after xs us _ _ h (inl (omega arith, refl))
 
@@ -16,7 +16,7 @@ module _ {V : Type 0} where
   held_less zs us v h =
       at_most_below zs _ _ h (held_below us us v (inl refl))
 
-  -- what stands before is lower
+  -- The rank is lower if the source's rank is.
   module _ (xs us : List ℕ) where
     pub held_first : (g f : Option V) → Below xs us → Below (held_rank xs g) (held_rank us f)
     held_first g f h = Below-first xs us _ _ h refl
@@ -25,7 +25,7 @@ module _ {V : Type 0} where
         → AtMost (held_rank xs w) (held_rank us v)
     held_level v w h e = AtMost-both xs us _ _ h (inl (rw e))
 
-  -- items came in, or nothing did and what was held is gone
+  -- The rank is lower after items of the source, or if the source was not polled and the held value is gone.
   pub held_falls : {A : Type 0} (i : List (Answer A)) (xs us : List ℕ) (g f : Option V)
       → ((a : A) (before : List A) → i ≡ items (a ∷ before) → Below xs us) → (i ≡ [] → xs ≡ us)
       → (i ≡ [] → (g ≡ None) × (v : V) × (f ≡ Some v)) → AllByRecursion IsItem i

@@ -1,5 +1,5 @@
--- Where something stands in the place of each item: what goes out, Pendings aside, is the same from things that are
--- alike.
+-- Adapters that replace each item by a list of results. Alike states and sources lead to the same results, `Pending`s
+-- aside.
 use Rattle.std.specs.Prelude.{◌≡◌, List, [], ◌∷◌, Option, Some, None}
 use Rattle.lite_stream.specs.Uses.{OptionBy, SameAnswer, SameItem, Sameness, ComparableBy, strip, answer_items, comparable_as, comparable_nil, ends_same}
 use Rattle.lite_stream.specs.Uses.{MatchesFrom, Question}
@@ -7,28 +7,28 @@ use Rattle.lite_stream.specs.Laws.Agreeing.{AgreeingOver}
 use Rattle.lite_stream.specs.Laws.Through.{Entails}
 use Rattle.lite_stream.specs.Relates.{Relates}
 
--- `InPlace v follows out`: in the place of v there is `out`, in which v may be followed by what `follows` tells
+-- `InPlace v follows out`: the results `out` begin with those made of `v`, and `follows` holds of the rest.
 module _ {F A V B : Type 0} (call : Question F A V)
     (InPlace : V → (List (Option B) → Type 0) → List (Option B) → Type 0) where
-  -- where nothing is pending: an end stays, and in the place of each item there is what is made of it
+  -- The results without `Pending`s: an end of stream is passed on, and each item is replaced by what is made of it.
   abbrev pub Placed : F → List (Option A) → List (Option B) → Type 0
   Placed f [] out = out ≡ []
   Placed f (None ∷ ins) out = (more : List (Option B)) × (out ≡ None ∷ more) × Placed f ins more
   Placed f (Some x ∷ ins) out = (v : V) × (g : F) × call f x v g × InPlace v (Placed g ins) out
 
-  -- what is held stands before what comes in
+  -- The same as `Placed` with a value that the adapter may hold at first: what is made of it comes first.
   abbrev pub PlacedFrom : F → Option V → List (Option A) → List (Option B) → Type 0
   PlacedFrom f None ins out = Placed f ins out
   PlacedFrom f (Some v) ins out = InPlace v (Placed f ins) out
 
-  -- in the places of things that are alike the same goes out, if it does after them
+  -- Values that are alike lead to results that are the same, as long as the results after them are the same.
   abbrev pub AlikeInPlace : Sameness B → (V → V → Type 0) → Type 1
   AlikeInPlace same alike =
       (v w : V) (P Q : List (Option B) → Type 0) (o p : List (Option B)) → alike v w → InPlace v P o → InPlace w Q p
       → ((o' p' : List (Option B)) → P o' → Q p' → ComparableBy (SameAnswer same) o' p')
       → ComparableBy (SameAnswer same) o p
 
-  -- from what agrees, alike things are made of items that are like one another
+  -- Source items that correspond lead to adapter results that are the same, from states that agree.
   module _ {like : A → A → Type 0} {alike : V → V → Type 0} {agree : F → F → Type 0} (same : Sameness B)
       (made : MatchesFrom like alike call agree) (places : AlikeInPlace same alike) where
     placed_same : (f k : F) (i j : List (Option A)) (o p : List (Option B)) → agree f k
@@ -50,7 +50,7 @@ module _ {F A V B : Type 0} (call : Question F A V)
         places v w _ _ o p e r q (λ o' p'. placed_same f k i j o' p' a c)
     placed_from_same f k _ _ i j o p a h c r q = absurd h
 
-  -- the answers of a family that stand in the places of items
+  -- An adapter that replaces each item by a list of results agrees from states that agree.
   pub placed_agreeing : (like : Sameness A) (same : Sameness B) {alike : V → V → Type 0} {agree : F → F → Type 0}
       {relates : Relates F A B} → MatchesFrom (SameItem like) alike call agree
       → AlikeInPlace same alike
