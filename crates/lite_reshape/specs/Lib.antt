@@ -1,5 +1,4 @@
 pub mod Chain
-pub mod Chaining
 pub mod Cloned
 pub mod Expanding
 pub mod Filter

@@ -1,7 +1,6 @@
 ghost use Rattle.std.specs.Prelude.{◌≡◌, None};
 ghost use Rattle.lite_reshape.specs.Uses.{Keeps, Registered, NoHint};
-ghost use Rattle.lite_reshape.specs.Chain.{Chains};
-ghost use Rattle.lite_reshape.specs.Chaining.{ChainRegisters, SecondAnswers, chain_ranks};
+ghost use Rattle.lite_reshape.specs.Chain.{Chains, ChainRegisters, SecondAnswers, chain_ranks};
 ghost use Rattle.lite_reshape.specs.declared.chain.Part.TheVariants.{Second};
 ghost use Rattle.lite_reshape.specs.Laws.Chain.{chain_counting, chain_laws};
 

@@ -7,7 +7,7 @@ ghost use Rattle.lite_reshape.specs.SkipWhile.{SkipsUntil, skip_while_parts};
 ghost use Rattle.lite_reshape.specs.StepBy.{step_by_parts};
 ghost use Rattle.lite_reshape.specs.Laws.Leaving.{leaves_relating};
 ghost use Rattle.lite_reshape.specs.Laws.StepBy.{steps_relating};
-ghost use Rattle.lite_reshape.specs.Chaining.{chain_ranks};
+ghost use Rattle.lite_reshape.specs.Chain.{chain_ranks};
 ghost use Rattle.lite_reshape.specs.FlatMap.{flat_map_ranks};
 ghost use Rattle.lite_reshape.specs.Inner.{flatten_parts, flattening_ranks};
 ghost use Rattle.lite_reshape.specs.Laws.Chain.{chain_counting};

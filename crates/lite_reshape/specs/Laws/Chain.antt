@@ -4,8 +4,7 @@ use Rattle.lite_reshape.specs.Uses.{length-replicate, ◌∙◌, inl, inr, refl,
 use Rattle.lite_reshape.specs.Uses.{Answer, Endless, items, AtMost-both, AtMost-length, Below-after, Below-first, Lowers-at_most, endless_join, same_hint}
 use Rattle.lite_reshape.specs.Uses.{AtMost, Below, Lowers, Counting, Ranks, RunLaws, StreamLaws, laws_of, runs_of, Hints, NoHint, Runs, Cuts, cuts_relating}
 use Rattle.lite_reshape.specs.Uses.{cuts_steps, at_most_below, lowers_after}
-use Rattle.lite_reshape.specs.Chain.{Chains, CrossesOver, Joins, is_done, second_after}
-use Rattle.lite_reshape.specs.Chaining.{chain_rank, chain_ranks, second_rank, zeros}
+use Rattle.lite_reshape.specs.Chain.{Chains, CrossesOver, Joins, is_done, second_after, chain_rank, chain_ranks, second_rank, zeros}
 use Rattle.lite_reshape.specs.Laws.Before.{items_after, not_empty, own_lowers}
 use Rattle.lite_reshape.specs.Laws.Zeros.{zeros_least}
 use Rattle.lite_reshape.specs.declared.chain.Part.TheVariants.{First, Second, Done}

@@ -1,0 +1,33 @@
+"""The files of docs/ that are generated, whole or in part."""
+import os
+
+import markers
+import originals
+import speed
+import vocabulary
+from reference import Reference
+from repository import TOP, files_of, read_text
+
+# The folders in which every file is generated.
+WHOLE = ("docs/api", "docs/pictures")
+
+
+def files():
+    """Yields the path of each file that has generated text, and what it has to be."""
+    yield from Reference().pages()
+    yield speed.PLOT, speed.plot()
+    yield vocabulary.PAGE, vocabulary.glossary()
+    for page, parts in ((originals.PAGE, {**originals.tables(), **originals.added()}), (speed.PAGE, {"speed": speed.table()})):
+        yield page, markers.filled(read_text(f"{TOP}/{page}"), parts)
+
+
+def faults():
+    """Yields each file that is not what it has to be, and each in the folders that nothing writes."""
+    there = dict(files())
+    for path, text in there.items():
+        if not os.path.isfile(f"{TOP}/{path}") or read_text(f"{TOP}/{path}") != text:
+            yield path, "it is not what tools/documents writes"
+    for folder in WHOLE:
+        for file in files_of(f"{TOP}/{folder}"):
+            if f"{folder}/{file}" not in there:
+                yield f"{folder}/{file}", "tools/documents writes no such file"

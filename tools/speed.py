@@ -1,0 +1,75 @@
+"""The table and the plot of docs/SPEED.md, from throughput/measured.txt.
+
+A line there is a case, its size N, the instructions of a run at N and at 10 N, those that making its bytes takes for each item, and the
+instructions of an item in the two builds of the original, or `-`. `tools/throughput FOLDER --measure` writes all but the last two.
+"""
+import math
+
+from repository import TOP, read_text
+
+PAGE, FILE, PLOT = "docs/SPEED.md", f"{TOP}/throughput/measured.txt", "docs/pictures/speed.svg"
+HEAD = "| Case | N | at N / at 10 N (thousands) | here | original | original, LTO |\n|---|---|---|---|---|---|\n"
+BAR, STEP, LABEL, WIDTH = 6, 18, 170, 420
+# The plot has ratios from the least to the most; what is beyond is drawn at its edge.
+LEAST, MOST = 0.25, 4.0
+
+
+class Row:
+    """What was measured of a case."""
+
+    def __init__(self, line):
+        self.case, size, first, last, made, self.original, self.lto = line.split()
+        self.size, self.first, self.last, self.made = int(size), int(first), int(last), float(made)
+
+    @property
+    def here(self):
+        """The instructions of an item."""
+        return (self.last - self.first) / (9 * self.size) - self.made
+
+    def ratio(self, other):
+        return self.here / float(other) if other != "-" else None
+
+
+def rows():
+    return [Row(it) for it in read_text(FILE).splitlines() if it and not it.startswith("#")]
+
+
+def shown(number):
+    """Returns a number of instructions with the digits that tell."""
+    return f"{number:,.0f}" if number >= 100 else f"{number:.1f}" if number >= 4 else f"{number:.2f}" if number >= 1 else f"{number:.3f}"
+
+
+def table():
+    """Returns the table of the page."""
+    lines = [
+        f"| `{it.case}` | {it.size:,} | {it.first / 1000:,.0f} / {it.last / 1000:,.0f} | {shown(it.here)} | {it.original} | {it.lto} |" for it in rows()
+    ]
+    return "\n\n" + HEAD + "\n".join(lines) + "\n\n"
+
+
+def across(ratio):
+    """Returns how far from the left a ratio stands, by its logarithm."""
+    bounded = min(MOST, max(LEAST, ratio))
+    return LABEL + WIDTH * math.log(bounded / LEAST) / math.log(MOST / LEAST)
+
+
+def plot():
+    """Returns a plot of the instructions here, by those of each build of the original: a bar to the left of 1 is fewer."""
+    measured = [it for it in rows() if it.original != "-"]
+    height = STEP * len(measured) + 60
+    shapes = [
+        f'<svg xmlns="http://www.w3.org/2000/svg" width="{LABEL + WIDTH + 60}" height="{height}" viewBox="0 0 {LABEL + WIDTH + 60} {height}">',
+        "<style>text { font: 12px monospace; fill: #222 } .plain { fill: #225588 } .lto { fill: #e0a040 } line { stroke: #888 }</style>",
+        '<rect width="100%" height="100%" fill="#fff"/>',
+        f'<text x="8" y="16">instructions here / there: <tspan class="plain">release build</tspan>, <tspan class="lto">with LTO</tspan></text>',
+    ]
+    for mark in (0.25, 0.5, 1, 2, 4):
+        x = across(mark)
+        shapes.append(f'<line x1="{x:.1f}" y1="34" x2="{x:.1f}" y2="{height - 8}"/><text x="{x - 8:.1f}" y="30">{mark:g}</text>')
+    for number, it in enumerate(measured):
+        y = 42 + STEP * number
+        shapes.append(f'<text x="8" y="{y + 10}">{it.case}</text>')
+        for offset, kind, other in ((0, "plain", it.original), (BAR, "lto", it.lto)):
+            start, end = sorted((across(1), across(it.ratio(other))))
+            shapes.append(f'<rect class="{kind}" x="{start:.1f}" y="{y + offset}" width="{max(1.5, end - start):.1f}" height="{BAR - 1}"/>')
+    return "\n".join([*shapes, "</svg>", ""])
