@@ -34,9 +34,13 @@ pub fn ready<T>(value: T) -> Ready<T>
 
 /// Blocks this thread until `future` is ready, and returns its value.
 ///
-/// The thread sleeps between polls, so a wait costs no processor time. It may wait for ever. The call drops
-/// `future`, so that has to be `Drop`; [`wait_for`] leaves the future with its caller. For repeated use keep
-/// a [`BlockOn`], which allocates once. The caller guarantees that `future` may be polled.
+/// Between polls the thread yields 60 times, and then sleeps until it is woken. It may wait for ever. A future
+/// that returns `Pending` and wakes nobody, as a [`script`](crate::stream::script) does, blocks it for ever.
+/// The call drops `future`, so that has to be `Drop`; [`wait_for`] leaves the future with its caller. The
+/// caller guarantees that `future` may be polled.
+///
+/// Each call makes a queue to sleep on: two system calls, and seven allocations of 640 bytes in all, in about
+/// 800 ns. A [`BlockOn`] makes the queue once. Each of its calls takes about 60 ns and allocates nothing.
 ///
 /// `AllocError` means that the queue to sleep on could not be allocated. The future was not polled then.
 ///
