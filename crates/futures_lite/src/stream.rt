@@ -185,7 +185,8 @@ pub fn repeat<T: Clone>(item: T) -> Repeat<T>
 
 /// Returns a stream that returns these poll results in order, one a poll, and then ends for ever.
 ///
-/// A `Pending` in the list does not wake the task. A poll allocates nothing. Size hint: `(0, None)`.
+/// A `Pending` in the list does not wake the task, so a `block_on` over it waits for ever. For `Pending`s that
+/// wake the task use [`with_budget`](StreamExt::with_budget). A poll allocates nothing. Size hint: `(0, None)`.
 ///
 /// # Examples
 ///
