@@ -46,9 +46,8 @@ module _ {F A B : Type 0} (like : A → A → Type 0) (same : B → B → Type 0
         matches_agree_from (λ _ _. ⊤)
         (λ f' k' g l x w y z a e c d. (alike x w y z e (answers f' g x y c) (answers k' l w z d), tt)) f k tt
 
-    -- and what kin answer is the same, by such a fact
-    pub kin_answers_by : (y z : B) → KinAnswers like call y z → same y z
     -- So what kin closures return is the same.
+    pub kin_answers_by : (y z : B) → KinAnswers like call y z → same y z
     kin_answers_by y z h = alike h.4 h.5 y z h.7 (answers h.0 h.2 h.4 y h.8) (answers h.1 h.3 h.5 z h.9)
 
   -- A closure agrees with itself if it returns the same for items that are alike, and is then equal. `search rules`
