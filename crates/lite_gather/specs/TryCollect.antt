@@ -5,7 +5,8 @@ use Rattle.lite_gather.specs.Gathering.{Kept, Took}
 use Rattle.lite_gather.specs.declared.refused.TryCollectError.{TryCollectError}
 use Rattle.lite_gather.specs.declared.refused.TryCollectError.TheVariants.{Source, Memory}
 
--- The value is not an allocation failure of the collection.
+-- The value of `try_collect` is not an allocation failure. Values of `collect`, `partition` and `unzip` are none if
+-- they are `Ok`. A run without such a value is ample if its stream's run is (`consumed_ample`).
 abbrev pub HasMemory : {C T E : Type 0} → Result C (TryCollectError C T E) → Type 0
 HasMemory (Ok c) = ⊤
 HasMemory (Err (Source e)) = ⊤
