@@ -8,18 +8,18 @@ use Rattle.futures_lite.specs.Own.{Runs}
 use Rattle.example_executor.specs.declared.either.Either.{Either}
 use Rattle.example_executor.specs.declared.either.Either.TheVariants.{One, Other}
 
--- of the future that it is
+-- `one` or `other` holds of the future that it is.
 abbrev pub OfEither : {A B : Type 0} → (A → Type 0) → (B → Type 0) → Either A B → Type 0
 OfEither one other (One a) = one a
 OfEither one other (Other b) = other b
 
--- what the future that it is has registered
+-- What the future that it is has registered.
 abbrev pub EitherRegisters : {A B : Type 0} → (A → Lasting → Type 0) → (B → Lasting → Type 0) → Either A B → Lasting
     → Type 0
 EitherRegisters one other (One a) fact = one a fact
 EitherRegisters one other (Other b) fact = other b fact
 
--- it answers as that future
+-- The runs are those of the future that it is.
 abbrev pub EitherRuns : {A B O : Type 0} → Runs (Poll O) A → Runs (Poll O) B → Runs (Poll O) (Either A B)
 EitherRuns one other (One a) l (One b) = one a l b
 EitherRuns one other (Other a) l (Other b) = other a l b

@@ -1,4 +1,4 @@
--- The items of a counter that ends at 100 at the latest.
+-- The items of a counter that ends at 100 or before.
 use Rattle.std.specs.List.{FoldsTo}
 use Rattle.std.proofs.Common.{◌≡◌, ◌<◌, ◌≤◌, ◌%◌, ℕ, List, Some, None, arith}
 use Rattle.std.specs.Fn.{CalledAt, Mut}
@@ -12,7 +12,7 @@ use Rattle.futures_lite.specs.Laws.Sources.{each_stepped}
 use Rattle.example_own.specs.Counter.{CounterStep}
 use Rattle.example_own.specs.declared.counter.Counter.{Counter}
 
--- no step moves the end
+-- No step moves the end of the counter.
 keeps : (x y : Counter) (a : Answer ℕ) → x.end ≤ 100 → CounterStep x a y → y.end ≤ 100
 keeps x y Pending low h = absurd h
 keeps x y (Ready (Some n)) low h = rw h.2 low
@@ -25,7 +25,7 @@ pub each_below : (x y : Counter) (l : List (Answer ℕ)) → x.end ≤ 100 → F
     → EachItem (λ n. n < 100) l
 each_below = each_stepped CounterStep (λ x. x.end ≤ 100) (λ n. n < 100) keeps gives
 
--- the even items, where each that comes in is below 100
+-- The even items, if each item of the source is below 100.
 module _ {F : Type 0} (g : Mut F (Bor ℕ × Unit {0}) Bool) (p q : F) (i o : List (Answer ℕ)) where
   pub even_left : ((p q : F) (n : ℕ) → CalledAt g p n true q → n % 2 ≡ 0) → EachItem (λ n. n < 100) i
       → LeavesOut (Accepts (CalledAt g)) p i o q → EachItem (λ n. (n % 2 ≡ 0) × (n < 100)) o

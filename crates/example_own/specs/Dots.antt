@@ -1,18 +1,18 @@
--- What the reads of dots do.
+-- What reading a `Dots` returns.
 use Rattle.std.specs.Prelude.{◌≡◌, ℕ, ◌-◌, ◌<◌}
 use Rattle.std.proofs.Common.{arith}
 use Rattle.futures_lite.specs.Marks.{ReadMark}
 use Rattle.futures_lite.specs.Own.{MarksLower}
 use Rattle.example_own.specs.declared.dots.Dots.{Dots}
 
--- a byte is a dot, and leaves one fewer; an end is met where none are left
+-- A byte is a dot and leaves one fewer, and the end of file comes if none is left.
 abbrev pub DotsStep : Dots → ReadMark → Dots → Type 0
 DotsStep x (ReadMark.byte b) y = (0 < x.left) × (b ≡ 46) × (y ≡ record x { left = x.left - 1 })
 DotsStep x ReadMark.end y = (x.left ≡ 0) × (y ≡ x)
 DotsStep x ReadMark.pending y = ⊥
 DotsStep x (ReadMark.fault kind) y = ⊥
 
--- how many bytes are to come
+-- How many bytes are to come.
 abbrev pub dots_left : Dots → ℕ
 dots_left x = x.left
 

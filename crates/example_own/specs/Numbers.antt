@@ -6,11 +6,11 @@ use Rattle.futures_lite.specs.Own.{lists_by_steps}
 use Rattle.example_own.specs.Counter.{CounterStep}
 use Rattle.example_own.specs.declared.counter.Counter.{Counter}
 
--- the numbers that are to come
+-- The numbers that are to come.
 abbrev pub numbers_left : Counter → List ℕ
 numbers_left x = range_with_len x.next (x.end - x.next)
 
--- they are its items: an item is the first of them, and an end comes where there is none
+-- These are its items: an item is the first of them, and the end of the stream comes if there is none.
 pub counter_lists : (x : Counter) → Lists (FoldsTo CounterStep) x (numbers_left x)
 counter_lists =
     lists_by_steps CounterStep numbers_left (λ x y h. absurd h)

@@ -1,19 +1,19 @@
--- What the reads of a table do.
+-- What reading a `Table` returns.
 use Rattle.std.specs.Prelude.{◌≡◌, ℕ, ◌+◌, List, drop}
 use Rattle.std.proofs.Common.{add-zero, ap, arith, drop-drop, sym}
 use Rattle.futures_lite.specs.Marks.{ReadMark}
 use Rattle.futures_lite.specs.Own.{FrontLaws, FrontStep}
 use Rattle.example_own.specs.declared.table.Table.{Table}
 
--- the bytes that are to come
+-- The bytes that are to come.
 abbrev pub table_left : Table → List ℕ
 table_left x = drop x.at x.bytes.items
 
--- the table with so many more of them read
+-- The table after `n` more bytes were read.
 abbrev pub table_on : Table → ℕ → Table
 table_on x n = record x { at = x.at + n }
 
--- a byte is the first of those that are to come, and an end is met where there is none
+-- A byte is the first of those that are to come, and the end of file comes if there is none.
 abbrev pub TableStep : Table → ReadMark → Table → Type 0
 TableStep = FrontStep table_left table_on
 

@@ -1,5 +1,5 @@
--- What parse answers is the number of the digits; how windows and text go on with a number; texts and their bytes;
--- where nothing was written.
+-- Laws of the pipeline: of numbers and their digits, of windows and one more number, of texts and their bytes, and of a
+-- writer to which nothing was written.
 use Rattle.std.proofs.Common.{◌≡◌, ◌==◌, ℕ, ◌+◌, ◌^◌, ◌%◌, ◌<◌, ◌≤◌, ◌∙◌, ◌&&◌, Bool, true, false, cond, not}
 use Rattle.std.proofs.Common.{List, [], ◌∷◌, ◌++◌, Option, Some, None, String, Global, ap, ap₂, append-nil}
 use Rattle.std.proofs.Common.{arith, filter, flat_map, if◌then◌else◌, length, lt-ltb}
@@ -86,10 +86,10 @@ window_full (a ∷ []) h = absurd (omega arith)
 window_full (a ∷ b ∷ []) h = absurd (omega arith)
 window_full (a ∷ b ∷ c ∷ l) h = ap (λ k. (a + b + c) ∷ k) (window_full l h)
 
--- a number more in the last window
+-- A number is added to the last window.
 pub ruleset window_steps = (full_on, count_on, sum_on, full_full, count_full, sum_full)
 
--- no numbers more
+-- No number follows.
 pub ruleset window_ends = (window_part, window_full)
 
 pub line_more : (l : List ℕ) (x : ℕ) → flat_map sum_line (l ++ x ∷ []) ≡ flat_map sum_line l ++ sum_line x
@@ -100,7 +100,7 @@ numbers_of_texts : (texts : List (String Global))
 numbers_of_texts [] = refl
 numbers_of_texts (t ∷ texts) = rw (numbers_of_texts texts) refl
 
--- the numbers of texts are those of their bytes
+-- The numbers of texts are those of their bytes.
 pub text_evens_are : (texts : List (String Global)) → text_evens texts ≡ even_numbers (map string_bytes texts)
 unfolding text_evens
 text_evens_are texts = ap (filter (λ x. x % 2 == 0)) (numbers_of_texts texts)
@@ -110,7 +110,7 @@ prefix_of_texts : (p : List ℕ → Bool) (texts : List (String Global))
 prefix_of_texts p [] = refl
 prefix_of_texts p (t ∷ texts) = ap (λ n. cond (p (string_bytes t)) (1 + n) 0) (prefix_of_texts p texts)
 
--- and so is the place of the first that is none
+-- So is the place of the first text that is no number.
 pub text_bad_is : (texts : List (String Global)) → text_bad texts ≡ first_bad (map string_bytes texts)
 unfolding text_bad
 text_bad_is texts =
@@ -131,5 +131,5 @@ untouched_writing x y (NotANumber n) h = absurd h
 untouched_writing x y (Output e) h = tt
 untouched_writing x y Memory h = tt
 
--- what a run needs of those
+-- What a run of the pipeline needs of these.
 pub ruleset runs = (text_evens_are, text_bad_is, untouched_same, untouched_writing)

@@ -1,6 +1,6 @@
--- What a pending registered in the context that it was polled with.
+-- What a poll that returned `Pending` has registered in its context, such as that a source will wake the task.
 use Rattle.lite_base.specs.Uses.{OnPending, Holds, Lasting, Poll, Context}
 
--- where the answer is Pending, the context holds each of these facts
+-- If the result is `Pending`, the context `cx` holds each of the facts.
 abbrev pub Registered : {A : Type 0} → Poll A → (Lasting → Type 0) → Context → Type 0
 Registered answer facts cx = OnPending answer ((fact : Lasting) → facts fact → Holds cx fact)

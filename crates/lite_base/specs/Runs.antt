@@ -1,18 +1,21 @@
--- The types of what is said of a value of the type S: runs, hints, and questions that are put to it.
+-- The kinds of relations that specify a value of a type `S`. A run speaks of a whole list of poll results, and a hint
+-- of one call. No definition retells a loop of the code.
 use Rattle.std.specs.Prelude.{◌≡◌, ℕ, List, Option, None}
 
--- from one value, these answers in order, to another value
+-- A run: from the first value, polls return the listed results in order and leave the second value. A type states its
+-- runs in its ghost member `run`, as a stream of your own does. What a value holds between polls comes before the
+-- results of its source.
 abbrev pub Runs : Type 0 → Type 0 → Type 1
 Runs A S = S → List A → S → Type 0
 
--- the hints that a value may answer: at least so many items, and at most so many
+-- The size hints that a value may return: at least so many items, and at most so many or no bound.
 abbrev pub Hints : Type 0 → Type 1
 Hints S = S → ℕ × Option ℕ → Type 0
 
--- asked about an A, an F answers a B, and is then another F
+-- A call with one argument: in one state, with an `A`, it returns a `B` and leaves another state.
 abbrev pub Question : Type 0 → Type 0 → Type 0 → Type 1
 Question F A B = F → A → B → F → Type 0
 
--- the hint says nothing
+-- The size hint is `(0, None)`, which says nothing.
 abbrev pub NoHint : {S : Type 0} → Hints S
 NoHint x hint = hint ≡ (0, None)

@@ -4,6 +4,6 @@ use Rattle.lite_consume.specs.Uses.{Question}
 use Rattle.lite_consume.specs.Consuming.{Fold}
 use Rattle.lite_consume.specs.TestedUntil.{tested_until}
 
--- the first item that is rejected decides: false
+-- The value is false at the first item that the predicate rejects, and true at the end of the stream.
 abbrev pub alls : {F A : Type 0} → Question F A Bool → Fold F A Bool
 alls test = tested_until test true false

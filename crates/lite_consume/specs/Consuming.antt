@@ -1,16 +1,17 @@
--- What a future makes of the items of a stream: they are taken in one after the other, until an end, or until an item
--- that decides.
+-- Futures that consume a stream: items are consumed one after the other, until the end of the stream or until an item
+-- decides the value.
 use Rattle.std.specs.Prelude.{◌≡◌, List, Option, Some, None}
 use Rattle.lite_consume.specs.Uses.{Poll, Ready, Pending, Answer, item, Question, Runs, OneAnswer, Segment, SegmentsToValue}
 
--- what is made of items: which are taken in, which decide, and what the value is at an end
+-- What such a future makes of the items: which items it consumes, which item decides the value, and what the value is
+-- at the end of the stream.
 pub record Fold (M A R : Type 0) : Type 1 where
-  -- asked about an item, it is taken in where the answer is None, and decides the value where it is Some
+  -- With an item, `None` says that the item is consumed, and `Some(value)` that it decides the value.
   pub asks : Question M A (Option R)
-  -- the value at an end
+  -- The value at the end of the stream.
   pub closes : M → R → M → Type 0
 
--- the fold of a part of the state
+-- The fold of one part of a state.
 abbrev pub fold_of : {N M A R : Type 0} → (N → M) → Fold M A R → Fold N A R
 fold_of part fold =
     record {
@@ -19,11 +20,12 @@ fold_of part fold =
     }
 
 module _ {M A R : Type 0} (fold : Fold M A R) where
-  -- the item is taken in
+  -- The fold consumes the item `x`, and goes from `p` to `q`.
   abbrev pub TakesIn : M → A → M → Type 0
   TakesIn p x q = fold.asks p x None q
 
-  -- what goes out at an answer: a Pending at a Pending, and the value at an end, or at an item that decides it
+  -- What the future returns when the stream returns its last result: `Pending` if that is `Pending`, and its value if
+  -- that is the end of the stream or an item that decides.
   abbrev pub Decides : Question M (Answer A) (Poll R)
   Decides p Pending Pending q = q ≡ p
   Decides p Pending (Ready r) q = ⊥
@@ -31,12 +33,12 @@ module _ {M A R : Type 0} (fold : Fold M A R) where
   Decides p (Ready None) (Ready r) q = fold.closes p r q
   Decides p (Ready (Some x)) (Ready r) q = fold.asks p x (Some r) q
 
-  -- the answers in are cut into segments: in each some items are taken in, and at the answer that ends it one goes out;
-  -- the value is the last that does
+  -- The stream's results `ins` are cut into segments, one for each result of the future. In each some items are
+  -- consumed, and then `Decides` says what the future returns. Its value is the last result.
   abbrev pub Consumes : M → List (Answer A) → List (Poll R) → M → Type 0
   Consumes p ins out q = SegmentsToValue (Segment item TakesIn (OneAnswer Decides)) p ins out q
 
-  -- a future that consumes a stream: the stream gave some answers, and they were consumed
+  -- The stream has a run with some results, all of them were consumed, and the stream is left after exactly these.
   pub record Consumed {S : Type 0} (run : Runs (Answer A) S) (s : S) (p : M) (out : List (Poll R)) (t : S)
       (q : M) : Type 0 where
     pub ins : List (Answer A)

@@ -1,9 +1,9 @@
--- A reader that was read up to a value, and two that are alike.
+-- A reader that was read up to its end or an error, and two such readers that are alike.
 use Rattle.std.specs.Prelude.{◌≡◌, ◌++◌, ℕ, List, Result, Ok, Err, ⊤}
 use Rattle.lite_theorems.specs.Uses.{error_kind, Error, OutOfMemory, ReadMark, bytes, strip_marks, Appended, SameByKind, Runs}
 
--- pendings aside, the reader told these bytes, and then the end or the error of which the value comes; or the value is
--- a refusal of memory, where one may come
+-- The reader produced these bytes, with `Pending`s among them. Then came the end of file or the error that is the
+-- value, or the value is an allocation failure, if `may_refuse` allows one.
 pub record ReadsUp {R : Type 0} (may_refuse : Type 0) (reads : Runs ReadMark R) (x : R) (xs : List ℕ)
     (v : Result ℕ Error) (x' : R) : Type 0 where
   pub told : List ReadMark
@@ -12,13 +12,13 @@ pub record ReadsUp {R : Type 0} (may_refuse : Type 0) (reads : Runs ReadMark R) 
   pub cut : strip_marks told ≡ bytes xs ++ last
   pub value : Appended may_refuse 0 xs last v
 
--- the value is no refusal of memory, of a future that reads
+-- The value is not an allocation failure.
 abbrev pub HasReadMemory : Result ℕ Error → Type 0
 HasReadMemory (Ok n) = ⊤
 HasReadMemory (Err e) = error_kind e ≡ OutOfMemory → ⊥
 
--- the two were read so; where memory was found in both, or the readers ask for none and neither value is a refusal,
--- they gave one value and the same bytes
+-- Both readers were read so. They have one value and the same bytes if no allocation failed in either, or if the
+-- readers need no memory and neither value is an allocation failure. Two errors are one value if they are of one kind.
 pub record BothRead {R : Type 0} (reads ample : Runs ReadMark R) (needs_none : Type 0) (x : R) (xs : List ℕ)
     (v : Result ℕ Error) (x' : R)
     (y : R) (ys : List ℕ) (w : Result ℕ Error) (y' : R) : Type 0 where

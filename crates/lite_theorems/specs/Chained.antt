@@ -1,23 +1,23 @@
--- A copy to a buffered writer, also of two readers, one after the other.
+-- A copy from a reader, or from two readers one after the other, to a buffered writer.
 use Rattle.std.specs.Prelude.{◌≡◌, ◌%◌, ◌^◌, ℕ, Bool, true, false, List, [], ◌∷◌, ◌++◌, length}
 use Rattle.lite_theorems.specs.Uses.{Runs, unwritten, writer_inner, BufWriter, first_of, has_ended, second_of, Chain, ReadMark, WriteMark, bytes_taken}
 use Rattle.lite_theorems.specs.Uses.{BytesAlone, bytes_told, source_of, CopyFuture, MutBor}
 
--- the reader told these bytes, with pendings among them, and then its first end
+-- The reader produced the bytes `xs`, with `Pending`s among them, and then its first end of file.
 pub record TellsWhole {R : Type 0} (reads : Runs ReadMark R) (x : R) (xs : List ℕ) (y : R) : Type 0 where
   pub told : List ReadMark
   pub goes_on : BytesAlone told
   pub all : bytes_told told ≡ xs
   pub came : reads x (told ++ ReadMark.end ∷ []) y
 
--- the writer took these bytes, and was flushed after them
+-- The writer took the bytes `xs`, and was flushed after them.
 pub record TakesWhole {W : Type 0} (writes : Runs WriteMark W) (x : W) (xs : List ℕ) (y : W) : Type 0 where
   pub taken : List WriteMark
   pub all : bytes_taken taken ≡ xs
   pub went : writes x (taken ++ WriteMark.flushed ∷ []) y
 
--- The reader told all up to its first end. The inner writer took what was held, and then those bytes, and was flushed.
--- Nothing is held any more, and n is how many bytes were copied, in 64 bits.
+-- The reader produced all its bytes up to its first end of file. The inner writer took what was buffered and then these
+-- bytes, and was flushed. The buffer is empty, and `n` is the number of bytes copied, modulo 2^64.
 pub record CopiesWhole {R W : Type 0} (reads : Runs ReadMark R) (writes : Runs WriteMark W) (r : R) (w : BufWriter W)
     (y : CopyFuture R (MutBor (BufWriter W)))
     (n : ℕ) : Type 0 where
@@ -27,12 +27,12 @@ pub record CopiesWhole {R W : Type 0} (reads : Runs ReadMark R) (writes : Runs W
   pub empty : unwritten y.writer.now ≡ []
   pub count : n ≡ length all % 2 ^ 64
 
--- by whether the reader had ended before: it is read no more and tells nothing, or it tells these bytes whole
+-- If the reader had ended before, it is not read and produces nothing. Otherwise it produces the bytes `xs` whole.
 abbrev pub TellsRest : {R : Type 0} → Bool → Runs ReadMark R → Runs ℕ R
 TellsRest true reads x xs y = (xs ≡ []) × (y ≡ x)
 TellsRest false reads x xs y = TellsWhole reads x xs y
 
--- a chain told these bytes: all that was left of the first reader, and then all of the second
+-- A chain produced the bytes `xs`: all that was left of its first reader, and then all of its second reader.
 pub record TellsBoth {R S : Type 0} (first : Runs ReadMark R) (second : Runs ReadMark S) (x : Chain R S) (xs : List ℕ)
     (y : Chain R S) : Type 0 where
   pub firsts : List ℕ
@@ -41,7 +41,7 @@ pub record TellsBoth {R S : Type 0} (first : Runs ReadMark R) (second : Runs Rea
   pub second_told : TellsWhole second (second_of x) seconds (second_of y)
   pub all : xs ≡ firsts ++ seconds
 
--- as CopiesWhole, of two readers, one after the other
+-- As `CopiesWhole`, from two readers, one after the other.
 pub record CopiesBoth {R S W : Type 0} (first : Runs ReadMark R) (second : Runs ReadMark S) (writes : Runs WriteMark W)
     (r : R) (s : S) (w : BufWriter W)
     (y : CopyFuture (Chain R S) (MutBor (BufWriter W))) (n : ℕ) : Type 0 where

@@ -1,9 +1,9 @@
--- A future by steps.
+-- A future of your own that is specified by a step: what one poll may return and leave. Its laws are `future_by_steps`.
 use Rattle.lite_theorems.specs.Uses.{FoldsTo, refl, sym, Poll, UpToValue, FutureLaws, up_to_once, waiting_up_to, folds_follow, Runs}
 
--- `step` is what one poll may answer and leave
+-- `step` says what one poll may return, and which value it leaves.
 module _ {F A : Type 0} (step : F → Poll A → F → Type 0) where
-  -- each poll is a step, and none comes after a value
+  -- Each poll is a step, and none comes after a value.
   abbrev pub StepsToValue : Runs (Poll A) F
   StepsToValue x l y = UpToValue l × FoldsTo step x l y
 

@@ -1,6 +1,6 @@
--- What stands first in a list.
+-- Prefixes of lists.
 use Rattle.std.specs.Prelude.{◌≡◌, List, ◌++◌}
 
--- ys begins with xs
+-- `xs` is a prefix of `ys`.
 abbrev pub Front : {A : Type 0} → List A → List A → Type 0
 Front {A} xs ys = (rest : List A) × (ys ≡ xs ++ rest)

@@ -1,6 +1,6 @@
--- What a pending has registered.
+-- What a poll that returned `Pending` has registered.
 use Rattle.futures.specs.Task.{Lasting}
 
--- whatever the first tells of a context, the second tells too
+-- Whatever the first says of a context, the second says too.
 abbrev pub TellsAll : (Lasting → Type 0) → (Lasting → Type 0) → Type 0
 TellsAll inner outer = (fact : Lasting) → inner fact → outer fact

@@ -1,4 +1,4 @@
--- Runs in which nothing was refused.
+-- Runs in which no allocation failed.
 use Rattle.std.specs.Prelude.{◌≡◌, ◌≢◌, List, Result, Err}
 use Rattle.std.specs.IoError.{error_kind}
 use Rattle.std.specs.List.{AllByRecursion}
@@ -9,18 +9,18 @@ use Rattle.futures.specs.declared.task.Poll.TheVariants.{Ready}
 use Rattle.lite_base.specs.Answers.{Gives}
 use Rattle.lite_base.specs.Runs.{Runs}
 
--- each run that gave such answers is ample
+-- Every run whose results meet `such` is ample.
 abbrev pub AmpleWhere : {S A : Type 0} → (List A → Type 0) → Runs A S → Runs A S → Type 0
 AmpleWhere {S} {A} such run ample = (x y : S) (l : List A) → such l → run x l y → ample x l y
 
--- the value is no refusal: no error of the kind OutOfMemory
+-- The value is not an error of the kind `OutOfMemory`.
 abbrev pub Unrefused : {A : Type 0} → Result A Error → Type 0
 Unrefused r = (e : Error) → r ≡ Err e → error_kind e ≢ OutOfMemory
 
--- no answer of the list is a value that is a refusal
+-- No result is a value that is an error of the kind `OutOfMemory`.
 abbrev pub NoValueRefused : {A : Type 0} → List (Poll (Result A Error)) → Type 0
 NoValueRefused {A} = AllByRecursion (λ a. (r : Result A Error) → a ≡ Ready r → Unrefused r)
 
--- each value that the answers give is such
+-- If the results end with a value, that meets `such`.
 abbrev pub GivesOnly : {A : Type 0} → (A → Type 0) → List (Poll A) → Type 0
 GivesOnly {A} such l = (value : A) → Gives l value → such value

@@ -4,8 +4,8 @@ use Rattle.lite_base.specs.Answers.{Answer, Comparable, strip}
 use Rattle.lite_laws.specs.Both.{Fewer}
 use Rattle.nests_agree.specs.declared.both.TwoRuns.{TwoRuns}
 
--- to each list the answers of its run were appended, as many as were asked for where the result is Ok, and else fewer;
--- this holds of the two lists of answers
+-- The results of its run were appended to each list, and `agree` holds of the two lists of results. They are as many as
+-- the polls if the value is `Ok`, and fewer otherwise.
 pub record BothAppended {A R E : Type 0} (agree : List (Answer A) → List (Answer A) → Type 0) (before after : TwoRuns A)
     (result : Result R E) : Type 0 where
   pub answers : List (Answer A)
@@ -17,6 +17,6 @@ pub record BothAppended {A R E : Type 0} (agree : List (Answer A) → List (Answ
   pub many : IfOk result (λ _. (length answers ≡ before.polls) × (length more_answers ≡ before.more))
       × IfErr result (λ _. Fewer answers more_answers before.polls before.more)
 
--- Pendings aside, one of the two lists begins the other
+-- One of the two lists is a prefix of the other, if the `Pending`s are left out.
 abbrev pub Begins : {A : Type 0} → List (Answer A) → List (Answer A) → Type 0
 Begins l m = Comparable (strip l) (strip m)

@@ -16,7 +16,7 @@ use Rattle.lite_read.specs.Lines.{GivesLines}
 use Rattle.lite_read.specs.NoneRefused.{NoneRefused}
 use Rattle.lite_read.specs.declared.lines.Lines.{Lines}
 
--- lines that were read of this reader, from the first line on
+-- Lines were read from this reader, from the first line on.
 pub record LinesRead {R : Type 0} (reads : Runs ReadMark R) (reader : R) : Type 0 where
   pub start : Lines R
   pub last : Lines R
@@ -24,29 +24,29 @@ pub record LinesRead {R : Type 0} (reads : Runs ReadMark R) (reader : R) : Type 
   pub begun : (start.reader ≡ reader) × (start.held.bytes.items ≡ [])
   pub came : GivesLines reads ⊤ start lines last
 
--- lines were read of each of the two readers, and that holds where memory was found for all of them
+-- Lines were read from both readers, and `holds` is true if no allocation failed in either run.
 abbrev pub FromLines : {R : Type 0} → (reads ample : Runs ReadMark R) → (one other : R) → Type 0 → Type 0
 FromLines reads ample one other holds =
     (h : LinesRead reads one) × (k : LinesRead reads other)
     × (GivesLines ample ⊥ h.start h.lines h.last → GivesLines ample ⊥ k.start k.lines k.last → holds)
 
--- the value of those who try is no refusal of memory
+-- The value of `try_collect` or another such future is not an allocation failure.
 abbrev pub WasFound : {C T : Type 0} → Result C (TryCollectError C T Error) → Type 0
 WasFound (Ok c) = ⊤
 WasFound (Err (Source e)) = error_kind e ≢ OutOfMemory
 WasFound (Err (Memory m)) = ⊥
 
--- nor is a line
+-- The line is not an allocation failure.
 abbrev pub IsFound : {A : Type 0} → Result A Error → Type 0
 IsFound (Ok x) = ⊤
 IsFound (Err e) = error_kind e ≢ OutOfMemory
 
--- a run of which no answer is a refusal is one in which memory was found
+-- Every run of which no result is an allocation failure is ample.
 abbrev pub AmpleUnrefused : {S A : Type 0} → (run ample : Runs (Answer (Result A Error)) S) → Type 0
 AmpleUnrefused {S} {A} run ample =
     (x y : S) (l : List (Answer (Result A Error))) → NoneRefused l → run x l y → ample x l y
 
--- nor is any of those that were collected, nor the value
+-- None of the lines that were collected is an allocation failure, and neither is the value.
 abbrev pub EachFound : {A E : Type 0} → Result (Vec (Result A Error) Global) E → Type 0
 EachFound (Ok v) = AllByRecursion IsFound v.items
 EachFound (Err e) = ⊥

@@ -1,15 +1,15 @@
--- What the program says of a fault, and the status that it ends with.
+-- What the program prints at a fault, and its exit status.
 use Rattle.std.specs.Prelude.{ℕ, List, codes}
 use Rattle.pollrun.specs.declared.fault.Fault.{Fault}
 use Rattle.pollrun.specs.declared.fault.Fault.TheVariants.{Arguments, Memory, Output}
 
--- the line that is printed
+-- The line that the program prints.
 abbrev pub line_of : Fault → List ℕ
 line_of Arguments = codes "pollrun: bad arguments\n"
 line_of Memory = codes "pollrun: out of memory\n"
 line_of Output = codes "pollrun: output failed\n"
 
--- the status that the program ends with
+-- The exit status of the program.
 abbrev pub status_of : Fault → ℕ
 status_of Arguments = 2
 status_of Memory = 1

@@ -9,17 +9,17 @@ use Rattle.pollrun.specs.declared.request.Job.TheVariants.{One, Two}
 use Rattle.pollrun.specs.declared.request.Pipe.{Pipe}
 use Rattle.pollrun.specs.declared.request.Pipe.TheVariants.{One as OnePipe, Two as TwoPipe}
 
--- the pipe of a job
+-- The pipe of a job.
 abbrev pub pipe_in : Job → Pipe
 pipe_in (One pipe script) = OnePipe pipe
 pipe_in (Two pipe first second) = TwoPipe pipe
 
--- the scripts of a job, in order
+-- The scripts of a job, in order.
 abbrev pub scripts_in : Job → List (List (Answer ℤ))
 scripts_in (One pipe script) = script.items ∷ []
 scripts_in (Two pipe first second) = first.items ∷ second.items ∷ []
 
--- the pipe with the scripts that these words spell
+-- The job has this pipe, and the scripts that these words spell.
 pub record IsJob (pipe : Pipe) (words : List (List ℕ)) (job : Job) : Type 0 where
   pub same_pipe : pipe_in job ≡ pipe
   pub spelled : words ≡ map (spelled_list signed_decimal) (scripts_in job)

@@ -1,4 +1,4 @@
--- Which words are a request, and what they ask for.
+-- Which arguments are a request, and what they ask for.
 use Rattle.std.specs.Prelude.{◌≡◌, ◌≤◌, ⊤, ℕ, ℤ, pos, negsuc, ◌≤ℤ◌, List, ◌∷◌, length, map, All, codes, decimal, Some}
 use Rattle.std.specs.Prelude.{None}
 use Rattle.std.specs.Fmt.{signed_decimal}
@@ -10,23 +10,23 @@ use Rattle.pollrun.specs.declared.request.Paired.TheVariants.{Chain, Or, Zip}
 use Rattle.pollrun.specs.declared.request.Pipe.{Pipe}
 use Rattle.pollrun.specs.declared.request.Pipe.TheVariants.{One, Two}
 
--- a number of at most six digits
+-- The number has at most six digits.
 abbrev pub IsShort : ℤ → Type 0
 IsShort z = (negsuc 999998 ≤ℤ z) × (z ≤ℤ pos 999999)
 
--- an answer that can be asked for: its number, if it has one, is short
+-- The result may be written in a script: if it is a number, that has at most six digits.
 abbrev pub IsWritten : Answer ℤ → Type 0
 IsWritten Pending = ⊤
 IsWritten (Ready None) = ⊤
 IsWritten (Ready (Some z)) = IsShort z
 
--- one to 1000 answers that can be asked for
+-- One to 1000 results that may be written in a script.
 pub record IsScript (answers : List (Answer ℤ)) : Type 0 where
   pub some : 1 ≤ length answers
   pub few : length answers ≤ 1000
   pub each : All IsWritten answers
 
--- the word that names a pipe
+-- The word that names a pipe.
 abbrev pub name_of : Pipe → List ℕ
 name_of (One Plain) = codes "plain"
 name_of (One Double) = codes "double"
@@ -37,12 +37,13 @@ name_of (Two Chain) = codes "chain"
 name_of (Two Or) = codes "or"
 name_of (Two Zip) = codes "zip"
 
--- how many scripts a pipe takes
+-- How many scripts a pipe takes.
 abbrev pub scripts_of : Pipe → ℕ
 scripts_of (One pipe) = 1
 scripts_of (Two pipe) = 2
 
--- the words are a pipe's name, a number of polls up to 1000, and as many scripts as it takes, each in its one spelling
+-- The words are a pipe's name, a number of polls up to 1000, and as many scripts as the pipe takes, each in its one
+-- spelling.
 pub record IsRequest (words : List (List ℕ)) (pipe : Pipe) (polls : ℕ) (scripts : List (List (Answer ℤ))) : Type 0 where
   pub written : words ≡ name_of pipe ∷ decimal polls ∷ map (spelled_list signed_decimal) scripts
   pub few_polls : polls ≤ 1000

@@ -1,4 +1,4 @@
--- What a request is answered.
+-- What the program prints for a request.
 use Rattle.std.specs.Prelude.{◌≡◌, ◌%◌, ◌==◌, ◌++◌, ℕ, ℤ, ◌+ℤ◌, Bool, true, List, [], ◌∷◌, length, map, Option, Some}
 use Rattle.std.specs.Prelude.{None, unsigned_abs}
 use Rattle.std.specs.Fmt.{signed_decimal}
@@ -25,17 +25,17 @@ use Rattle.pollrun.specs.declared.request.Paired.TheVariants.{Chain, Or, Zip}
 use Rattle.pollrun.specs.declared.request.Pipe.{Pipe}
 use Rattle.pollrun.specs.declared.request.Pipe.TheVariants.{One, Two}
 
--- the same answer, its number twice as large
+-- The same result, with its number twice as large.
 abbrev pub doubled : Answer ℤ → Answer ℤ
 doubled Pending = Pending
 doubled (Ready None) = end
 doubled (Ready (Some z)) = item (z +ℤ z)
 
--- the number is even
+-- The number is even.
 abbrev pub is_even : ℤ → Bool
 is_even z = unsigned_abs z % 2 == 0
 
--- what a pipe answers where its script gives the answers `ins`
+-- What a pipe returns if its script has the results `ins`.
 abbrev pub Pipes : Single → List (Answer ℤ) → List (Answer ℤ) → Type 0
 Pipes Plain ins out = out ≡ ins
 Pipes Double ins out = out ≡ map doubled ins
@@ -44,33 +44,33 @@ Pipes Evens ins out =
 Pipes Take2 ins out = (left : ℕ) × Cuts is_none_left left_after 2 ins out left
 Pipes Step2 ins out = (left : ℕ × ℕ) × StepsOn (2, 0) ins out left
 
--- what a pipe's items are: numbers, or pairs of them
+-- The items of a pipe: numbers, or pairs of numbers.
 abbrev pub PipeItem : Pipe → Type 0
 PipeItem (One pipe) = ℤ
 PipeItem (Two Chain) = ℤ
 PipeItem (Two Or) = ℤ
 PipeItem (Two Zip) = ℤ × ℤ
 
--- how an item is printed
+-- How an item is printed.
 abbrev pub text_of : (pipe : Pipe) → PipeItem pipe → List ℕ
 text_of (One pipe) z = signed_decimal z
 text_of (Two Chain) z = signed_decimal z
 text_of (Two Or) z = signed_decimal z
 text_of (Two Zip) pair = pair_text pair
 
--- as much of a script as a pipe reads: `or` asks for nothing after the first end
+-- As much of a script as a pipe reads: `or` reads nothing after the first end of the stream.
 abbrev pub read_by : Paired → List (Answer ℤ) → List (Answer ℤ)
 read_by Chain script = script
 read_by Or script = until_end script
 read_by Zip script = script
 
--- what a pipe answers where what it reads of its two scripts gives the answers `firsts` and `seconds`
+-- What a pipe returns if what it reads of its two scripts has the results `firsts` and `seconds`.
 abbrev pub PipesTwo : (pipe : Paired) → List (Answer ℤ) → List (Answer ℤ) → List (Answer (PipeItem (Two pipe))) → Type 0
 PipesTwo Chain firsts seconds out = (part : Part) × Joins First firsts seconds out part
 PipesTwo Or firsts seconds out = MergeRows (map (λ _. true) out) firsts seconds out
 PipesTwo Zip firsts seconds out = (held : Option ℤ) × Pairs firsts seconds out held
 
--- the pipe over the scripts answers this list
+-- The pipe over the scripts returns this list of results.
 abbrev pub PipeAnswers : (pipe : Pipe) → List (List (Answer ℤ)) → List (Answer (PipeItem pipe)) → Type 0
 PipeAnswers (One pipe) (script ∷ []) out =
     (ins rest : List (Answer ℤ)) × GivesScript script ins rest × Pipes pipe ins out
@@ -80,14 +80,14 @@ PipeAnswers (Two pipe) (first ∷ second ∷ []) out =
     × PipesTwo pipe firsts seconds out
 PipeAnswers pipe scripts out = ⊥
 
--- a line of as many answers of the pipe as there are polls
+-- The line has as many of the pipe's results as there are polls.
 pub record Prints (pipe : Pipe) (scripts : List (List (Answer ℤ))) (polls : ℕ) (line : List ℕ) : Type 0 where
   pub out : List (Answer (PipeItem pipe))
   pub answers : PipeAnswers pipe scripts out
   pub all_polls : length out ≡ polls
   pub spells : line ≡ spelled_list (text_of pipe) out ++ 10 ∷ []
 
--- the words are a request, and what was written is its answers, one for each poll, and a newline
+-- The words are a request, and what was written is its results, one for each poll, and a newline.
 pub record Served (words : List (List ℕ)) (old new : Option (List ℕ)) : Type 0 where
   pub pipe : Pipe
   pub polls : ℕ

@@ -4,7 +4,7 @@ use Rattle.futures.specs.declared.task.Poll.{Poll}
 use Rattle.futures.specs.declared.task.Poll.TheVariants.{Ready, Pending}
 use Rattle.lite_base.specs.Answers.{UpToValue, Waiting}
 
--- as many Pendings, or fewer and then the value
+-- The results are as many `Pending`s as there are polls, or fewer and then the value.
 pub record PolledUpTo {A : Type 0} (polls : ℕ) (l : List (Poll A)) : Type 0 where
   pub value_last : UpToValue l
   pub few : length l ≤ polls
@@ -30,18 +30,18 @@ waiting_length : {A : Type 0} (l : List (Poll A)) → length (l ++ Pending ∷ [
 waiting_length [] = refl
 waiting_length (a ∷ l) = let e = waiting_length l in omega (arith, e)
 
--- one more that is pending
+-- One more poll, which is pending.
 pub pends_more : {A : Type 0} (l : List (Poll A)) (n : ℕ) → Waiting l → length l ≡ n → Waiting (l ++ Pending ∷ [])
     × (length (l ++ Pending ∷ []) ≡ n + 1)
 pends_more l n w e = (waiting_more l w, let d = waiting_length l in omega (arith, d, e))
 
--- the value
+-- One more poll, which returns the value.
 pub ends_polled : {A : Type 0} (l : List (Poll A)) (x : A) (n polls : ℕ) → Waiting l → length l ≡ n → n < polls
     → PolledUpTo polls (l ++ Ready x ∷ [])
 ends_polled l x n polls w e less =
     let v = value_more l x w in
     record { value_last = v.0; few = (let d = v.2 in omega (arith, d, e, less)); all = λ h. absurd (v.1 h) }
 
--- no value so far
+-- No value came so far.
 pub waits_polled : {A : Type 0} (l : List (Poll A)) (polls : ℕ) → Waiting l → length l ≡ polls → PolledUpTo polls l
 waits_polled l polls w e = record { value_last = waiting_value l w; few = omega (arith, e); all = λ h. e }

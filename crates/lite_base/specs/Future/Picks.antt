@@ -1,23 +1,25 @@
--- Two futures of which each poll asks one first, and the other only where that one is pending.
+-- Two futures of which each poll polls one first, and the other only if that one is pending.
 use Rattle.std.specs.Prelude.{◌≡◌, List, [], ◌∷◌, Bool}
 use Rattle.lite_base.specs.Uses.{Poll, Ready, Pending}
 use Rattle.lite_base.specs.Answers.{UpToValue}
 use Rattle.lite_base.specs.Rows.{Rows}
 use Rattle.lite_base.specs.Runs.{Runs}
 
--- one row of two lists: where the first has a value that goes out alone, and else the second's answer; i' and j' are
--- left
+-- One row of the lists `i` and `j`. If `i` begins with a value, that is the row's result `c`, and `j` stays as it is.
+-- Otherwise `c` is the first result of `j`. The lists `i'` and `j'` are left.
 abbrev pub PickRow : {A : Type 0} (i j : List (Poll A)) (c : Poll A) (i' j' : List (Poll A)) → Type 0
 PickRow [] j c i' j' = ⊥
 PickRow (Ready x ∷ i) j c i' j' = (c ≡ Ready x) × (i' ≡ i) × (j' ≡ j)
 PickRow (Pending ∷ i) [] c i' j' = ⊥
 PickRow (Pending ∷ i) (b ∷ j) c i' j' = (c ≡ b) × (i' ≡ i) × (j' ≡ j)
 
--- the two lists are read row by row, in the order that each row names: true, where the first stands first
+-- The lists `i` and `j` are read row by row. For each row `order` says which is read first: the first list if it is
+-- true.
 abbrev pub PickRows : {A : Type 0} (order : List Bool) (i j out : List (Poll A)) → Type 0
 PickRows = Rows PickRow
 
--- the two answered i and j, and what goes out of their rows is out, up to the first value
+-- The two futures returned the results `i` and `j`, and `out` has the result of each of their rows, up to the first
+-- value.
 pub record Picks {F G A : Type 0} (run_first : Runs (Poll A) F) (run_second : Runs (Poll A) G)
     (order : List Bool) (f : F) (g : G) (out : List (Poll A)) (f' : F) (g' : G) : Type 0 where
   pub i : List (Poll A)

@@ -1,13 +1,13 @@
--- A future that is held until its value, and what goes out after that.
+-- A future that is held until its value, and the results after that.
 use Rattle.std.specs.Prelude.{◌≡◌, List, ◌++◌, map, Option, Some, None}
 use Rattle.lite_base.specs.Uses.{Poll}
 use Rattle.lite_base.specs.Answers.{Waiting}
 use Rattle.lite_base.specs.Future.Finishes.{Finishes}
 use Rattle.lite_base.specs.Runs.{Runs}
 
--- each answer of the future goes out as what is `shown` of it, and `Later` are the answers after its value
+-- For each result of the future, `shown` says which result it becomes. `Later` says which results may follow the value.
 module _ {F A B : Type 0} (run : Runs (Poll A) F) (shown : Poll A → Poll B) (Later : List (Poll B) → Type 0) where
-  -- the future gave its list up to its value, and then there were later answers
+  -- The future `f` returned its results up to its value, and then later results followed.
   pub record Spent (f : F) (out : List (Poll B)) : Type 0 where
     pub ins : List (Poll A)
     pub value : A
@@ -16,7 +16,8 @@ module _ {F A B : Type 0} (run : Runs (Poll A) F) (shown : Poll A → Poll B) (L
     pub later : Later after
     pub joined : out ≡ map shown ins ++ after
 
-  -- by whether there is still a future, before and after
+  -- The results, by whether the future is still held before and after them. While it is, they are its `Pending`s. Once
+  -- it is not, they are later results.
   abbrev pub Spends : Runs (Poll B) (Option F)
   Spends None out y = Later out × (y ≡ None)
   Spends (Some f) out (Some g) = (ins : List (Poll A)) × Waiting ins × run f ins g × (out ≡ map shown ins)

@@ -1,4 +1,4 @@
--- `try_zip`: as `zip`, until the first row with an error, and there that error.
+-- `try_zip`: as `zip`, until the first row with an error, which is the result.
 use Rattle.std.specs.Prelude.{◌≡◌, ◌+◌, ◌⊎◌, ℕ, List, length, Result, Ok, Err}
 use Rattle.lite_base.specs.Uses.{Poll}
 use Rattle.lite_base.specs.Answers.{Gives}
@@ -8,14 +8,14 @@ use Rattle.lite_base.specs.declared.future.half.Half.{Half}
 use Rattle.lite_base.specs.declared.future.half.Half.TheVariants.{Asked}
 use Rattle.lite_base.specs.Runs.{Runs}
 
--- the pair of two values, and else the first of the errors
+-- The pair of the two values if both are `Ok`, and otherwise the error, the first one's if both failed.
 abbrev pub try_pair : {A B E : Type 0} → Result A E → Result B E → Result (A × B) E
 try_pair (Ok v) (Ok w) = Ok (v, w)
 try_pair (Ok v) (Err e) = Err e
 try_pair (Err e) b = Err e
 
--- One failed, in the last row, and its error goes out. The other stands in each row, or in each but the last
--- `unasked` rows, and is left as it stands.
+-- One future fails in the last row, and its error is the last result. It is kept as it was left. The other future has
+-- results, or its value, in each row, or in each except the last `unasked` rows.
 pub record Fails {F G A B C E : Type 0} (run : Runs (Poll (Result A E)) F) (run_other : Runs (Poll (Result B E)) G)
     (unasked : ℕ)
     (x : Half F A) (u : Half G B) (out : List (Poll (Result C E))) (y : Half F A) (v : Half G B) : Type 0 where
@@ -32,7 +32,8 @@ pub record Fails {F G A B C E : Type 0} (run : Runs (Poll (Result A E)) F) (run_
   pub asked : length others + unasked ≡ length out
   pub gives : Gives out (Err error)
 
--- no error, or one of the first, beside which the second is not asked, or one of the second
+-- No future fails, and the results are those of `zip`. Or the first one fails, and in that row the second is not
+-- polled. Or the second one fails.
 abbrev pub TryZips : {F G A B E : Type 0} → Runs (Poll (Result A E)) F → Runs (Poll (Result B E)) G
     → Half F A → Half G B → List (Poll (Result (A × B) E)) → Half F A → Half G B → Type 0
 TryZips run_first run_second x u out y v =

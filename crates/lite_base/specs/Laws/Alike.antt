@@ -1,4 +1,4 @@
--- Futures that are alike, by their values.
+-- Laws of futures that are alike, and of items that are the same.
 use Rattle.std.specs.Prelude.{◌≡◌, ◌≤◌, List, [], ◌∷◌, length, Option, Some, None, refl, ⊤, ◌⊎◌}
 use Rattle.lite_base.specs.Uses.{inl, inr, ap, subst, sym, arith, Poll, Ready, Pending}
 use Rattle.lite_base.specs.Alike.{AlikeBy, Either, MadeOf, OptionBy, Optional, Pairwise, SameAnswer, SameHeld, SameItem}
@@ -12,7 +12,7 @@ module _ {A : Type 0} where
   comparable_nil same [] = tt
   comparable_nil same (a ∷ l) = tt
 
-  -- lists of at most one value, by that value
+  -- Lists of at most one value are the same if these values are.
   pub by_value : {same : A → A → Type 0} (i j : List A) → length i ≤ 1 → length j ≤ 1
       → ((v w : A) → i ≡ v ∷ [] → j ≡ w ∷ [] → same v w) → ComparableBy same i j
   by_value (v ∷ []) (w ∷ []) few fewer value = (value v w refl refl, tt)
@@ -30,7 +30,7 @@ module _ {A : Type 0} where
   up_to_gives (Pending ∷ l) v u e = up_to_gives l v u e
   up_to_gives (Ready y ∷ l) v u e = ((cc), u)
 
--- finished runs of the two give values that are the same
+-- If both futures are polled until their values, these are the same by `same`.
 abbrev pub AgreesBy : {F A : Type 0} → (A → A → Type 0) → Runs (Poll A) F → F → F → Type 0
 AgreesBy {F} {A} same run x y = (l m : List (Poll A)) (v w : A) → Finishes run x l v → Finishes run y m w → same v w
 
@@ -40,7 +40,7 @@ alike_agrees {same} run x y e l m v w h k =
     (rw (gives_strip l v h.gives, gives_strip m w k.gives) at (e l m h.last k.last h.came k.came)).0
 
 module _ {A : Type 0} where
-  -- lists that are the same in one way are in a weaker one
+  -- Lists that are the same in one way are the same in a weaker way.
   pub comparable_as : (same want : A → A → Type 0) → ((x y : A) → same x y → want x y) → (l m : List A)
       → ComparableBy same l m → ComparableBy want l m
   comparable_as same want weaker (x ∷ l) (y ∷ m) c = (weaker x y c.0, comparable_as same want weaker l m c.1)
@@ -62,24 +62,24 @@ module _ {A : Type 0} where
   equal_options (Some x) (Some y) e = cc e
   equal_options x y e = absurd (cc e)
 
-  -- answers that are the same, by their items
+  -- Results that are the same are Options whose items are the same.
   pub answer_items : (same : Sameness A) (x y : Option A) → SameAnswer same x y
       → OptionBy (SameItem same) x y
   answer_items Sameness.equal x y e = equal_options x y e
   answer_items (Sameness.by same) x y e = e
 
-  -- and back
+  -- Options whose items are the same are results that are the same.
   pub item_answers : (same : Sameness A) (x y : Option A) → OptionBy (SameItem same) x y
       → SameAnswer same x y
   item_answers Sameness.equal x y e = options_equal x y e
   item_answers (Sameness.by same) x y e = e
 
-  -- two ends are the same
+  -- Two ends of a stream are the same.
   pub ends_same : (same : Sameness A) → SameAnswer same None None
   ends_same Sameness.equal = refl
   ends_same (Sameness.by same) = tt
 
-  -- and an end and an item never are
+  -- An item is never the same as an end of the stream.
   pub both_items : (same : Sameness A) (x y : Option A) → SameAnswer same x y → OptionBy (λ _ _. ⊤) x y
   both_items same x y e = option_as _ _ _ x y (answer_items same x y e)
 
@@ -109,7 +109,7 @@ pub pairs_same : {A B : Type 0} (same : Sameness A) (other : Sameness B) (p q : 
 pairs_same Sameness.equal Sameness.equal p q e d = λ i. (e i, d i)
 pairs_same same other p q e d = (e, d)
 
--- what is made of items that are the same is the same, where of each one thing alone is made
+-- Things made of items that are the same are the same, if only one thing is made of each item.
 pub made_same : {A B : Type 0} (same : Sameness A) (makes : A → B → Type 0)
     → ((x : A) (y z : B) → makes x y → makes x z → y ≡ z)
     → (x w : A) (y z : B) → SameItem same x w → makes x y → makes w z → SameItem (MadeOf same makes) y z
@@ -117,7 +117,8 @@ made_same Sameness.equal makes one x w y z e c d = one x y z c (subst (λ v. mak
 made_same (Sameness.by same) makes one x w y z e c d = (x, w, e, c, d)
 
 module _ {A : Type 0} where
-  -- what is the same in one way is in either's
+  -- If items that are the same in one way are so for one of two sources, results that are the same in that way are so
+  -- for either source.
   either_by : (same other one : Sameness A)
       → ((v w : A) → SameItem one v w → SameItem same v w ⊎ SameItem other v w) → (x y : Option A) → SameAnswer one x y
       → SameAnswer (Either same other) x y

@@ -8,13 +8,14 @@ use Rattle.lite_base.specs.Calling.{Accepts, Agree, AgreeBy, AgreeFrom, AgreeKee
 use Rattle.lite_base.specs.Calling.{Answering, Keeping, Kin, KinAnswers}
 use Rattle.lite_base.specs.Runs.{Question}
 
--- what agrees answers items that are alike the same, and agrees again
+-- Two closures of which `agree` holds return values that are the same for items that are alike, and `agree` holds of
+-- what they are after that.
 abbrev pub MatchesFrom : {F A B : Type 0} → (A → A → Type 0) → (B → B → Type 0) → Question F A B → (F → F → Type 0)
     → Type 0
 MatchesFrom {F} {A} {B} like same call agree =
     (f k g l : F) (x w : A) (y z : B) → agree f k → like x w → call f x y g → call k w z l → same y z × agree g l
 
--- closures that agree do
+-- `AgreeFrom` is such a relation.
 module _ {F A B : Type 0} (like : A → A → Type 0) (same : B → B → Type 0) (call : Question F A B) where
   pub agree_from_matches : MatchesFrom like same call (AgreeFrom like same call)
   agree_from_matches f k g l x w y z a e c d = (
@@ -24,7 +25,7 @@ module _ {F A B : Type 0} (like : A → A → Type 0) (same : B → B → Type 0
     },
   )
 
-  -- and to show that they do, it is enough to name which values agree
+  -- To show that closures agree, it is enough to name such a relation that holds of them.
   module _ (agree : F → F → Type 0) (m : MatchesFrom like same call agree) where
     answered : (xs ws : List A) (ys zs : List B) (f k g l : F) → agree f k → ComparableBy like xs ws
         → Answered call f xs ys g → Answered call k ws zs l → ComparableBy same ys zs
@@ -39,18 +40,18 @@ module _ {F A B : Type 0} (like : A → A → Type 0) (same : B → B → Type 0
 
   module _ (P : A → B → Type 0) (answers : (f g : F) (x : A) (y : B) → call f x y g → P x y)
       (alike : (x w : A) (y z : B) → like x w → P x y → P w z → same y z) where
-    -- a closure of which each answer has P does, where answers with P to items that are alike are the same
+    -- Closures agree if each return value has `P`, and return values with `P` for items that are alike are the same.
     pub answers_agree_from : (f k : F) → AgreeFrom like same call f k
     answers_agree_from f k =
         matches_agree_from (λ _ _. ⊤)
         (λ f' k' g l x w y z a e c d. (alike x w y z e (answers f' g x y c) (answers k' l w z d), tt)) f k tt
 
-    -- and what kin answer is the same, by such a fact
+    -- So what kin closures return is the same.
     pub kin_answers_by : (y z : B) → KinAnswers like call y z → same y z
     kin_answers_by y z h = alike h.4 h.5 y z h.7 (answers h.0 h.2 h.4 y h.8) (answers h.1 h.3 h.5 z h.9)
 
-  -- a closure that answers items which are alike in the same way, and is then one, agrees with itself; `search rules`
-  -- finds that it does, of one whose answers are known
+  -- A closure agrees with itself if it returns the same for items that are alike, and is then equal. `search rules`
+  -- finds this of a closure whose return values are known.
   pub agrees_alone_from : ((f g h : F) (x w : A) (y z : B) → like x w → call f x y g → call f w z h
       → same y z × (h ≡ g)) → (f : F) → AgreeFrom like same call f f
   agrees_alone_from one f =
@@ -63,7 +64,7 @@ module _ {F A B : Type 0} (call : Question F A B) where
   agrees_alone one =
       agrees_alone_from _ _ call (λ f g h x w y z e c d. one f g h x y z c (subst (λ v. call f v z h) (sym e) d))
 
--- closures that agree on items which are alike do on those that are alike in a narrower way
+-- Closures that agree on items which are alike agree on items which are alike in a narrower way.
 pub agree_narrower : {F A B : Type 0} {narrow wide : A → A → Type 0} {same : B → B → Type 0} {call : Question F A B}
     {f k : F} → ((x w : A) → narrow x w → wide x w)
     → AgreeFrom wide same call f k → AgreeFrom narrow same call f k
@@ -72,12 +73,13 @@ agree_narrower {narrow} {wide} less a = record {
 }
 
 module _ {F A B : Type 0} where
-  -- kin do, by what they answer
+  -- Kin closures return values that kin closures return, and stay kin.
   pub kin_matches : (like : A → A → Type 0) (call : Question F A B)
       → MatchesFrom like (KinAnswers like call) call (Kin like call)
   kin_matches like call f k g l x w y z a e c d = ((f, k, g, l, x, w, a, e, c, d), Kin.called f k g l x w y z a e c d)
 
-  -- the same of equal arguments
+  -- Closures agree on equal arguments if each return value has `P`, and return values with `P` for one argument are the
+  -- same.
   pub answers_agree : (same : B → B → Type 0) (call : Question F A B) (P : A → B → Type 0)
       → ((f g : F) (x : A) (y : B) → call f x y g → P x y) → ((x : A) (y z : B) → P x y → P x z → same y z) → (f k : F)
       → AgreeBy same call f k
@@ -85,13 +87,13 @@ module _ {F A B : Type 0} where
       answers_agree_from _ same call P answers
       (λ x w y z e p q. alike x y z p (subst (λ v. P v z) (sym e) q))
 
-  -- a closure that answers what a function does agrees with itself
+  -- Closures that return what one function says agree.
   pub function_agree : (call : Question F A B) (function : A → B)
       → ((f g : F) (x : A) (y : B) → call f x y g → y ≡ function x) → (f k : F) → Agree call f k
   function_agree call function answers =
       answers_agree _ call _ answers (λ x y z p q. p ∙ sym q)
 
--- by how the items that come in are compared
+-- By how the source's items are compared.
 module _ {F A : Type 0} (like : Sameness A) where
   pub always_matches : {B : Type 0} (same : Sameness B) (call : Question F A B) {agree : F → F → Type 0}
       → MatchesFrom (SameItem like) (SameItem same) call agree
@@ -101,7 +103,7 @@ module _ {F A : Type 0} (like : Sameness A) where
   always_matches same call m f k g l x w (Some y) (Some z) a e c d =
       let s = m f k g l x w y z a e c d in (same_answer same y z s.0, s.1)
 
-  -- a test that answers the same keeps items that are alike
+  -- Tests that return the same keep items that are the same.
   pub accepts_matches : (test : Question F A Bool)
       → MatchesFrom (SameItem like) (SameAnswer like) (Accepts test) (AgreeFrom (SameItem like) (λ y z. y ≡ z) test)
   accepts_matches test f k g l x w y z a e = both y z
@@ -117,7 +119,7 @@ module _ {F A : Type 0} (like : Sameness A) where
       both (Some y) (Some z) c d = (rw (c.0, d.0) (same_answer like x w e), (tested true true c.1 d.1).1)
 
 module _ {F A B : Type 0} where
-  -- kin that both keep, or both reject
+  -- Kin closures return values that are the same if both keep an item, or both reject one.
   pub keeping_from : (like : A → A → Type 0) (call : Question F A (Option B))
       → MatchesFrom like (OptionBy (λ y z. KinAnswers like call (Some y) (Some z))) call
       (λ f k. Kin like call f k × AgreeFrom like (OptionBy (λ _ _. ⊤)) call f k)

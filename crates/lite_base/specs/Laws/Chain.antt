@@ -1,3 +1,4 @@
+-- Laws of the steps of a poll that loops.
 use Rattle.lite_base.specs.Chain.{Reaches}
 
 pub Reaches-on : {S : Type 0} {next : S → S → Type 0} {x y z : S} → Reaches next x y → Reaches next y z
@@ -5,7 +6,7 @@ pub Reaches-on : {S : Type 0} {next : S → S → Type 0} {x y z : S} → Reache
 Reaches-on p Reaches.stay = p
 Reaches-on p (Reaches.more q s) = Reaches.more (Reaches-on p q) s
 
--- some steps and one more are one and then some
+-- Some steps and then one more are one step and then some.
 pub Reaches-then : {S : Type 0} {next : S → S → Type 0} (x y z : S) → Reaches next x y → next y z → (m : S) × next x m
     × Reaches next m z
 Reaches-then x y z Reaches.stay s = (z, s, Reaches.stay)
@@ -13,7 +14,7 @@ Reaches-then x y z (Reaches.more {y = w} p r) s =
     let h = Reaches-then x w y p r in
     (h.0, h.1, Reaches.more h.2 s)
 
--- what holds at the end, and before each step if after it, holds at the start
+-- A fact that holds at the end of some steps, and before each step if after it, holds at the start.
 pub Reaches-back : {S : Type 0} {next : S → S → Type 0} (P : S → Type 0) → ((x y : S) → next x y → P y → P x)
     → (x y : S) → Reaches next x y → P y → P x
 Reaches-back P law x y Reaches.stay p = p

@@ -1,4 +1,4 @@
--- Lists of answers without an end.
+-- Laws of lists of results without the end of the stream.
 use Rattle.std.specs.Prelude.{List, [], ◌∷◌, ◌++◌, Some, None}
 use Rattle.lite_base.specs.Uses.{ap, Ready, Pending}
 use Rattle.lite_base.specs.Answers.{Answer, Endless, item}

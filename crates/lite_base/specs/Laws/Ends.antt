@@ -1,4 +1,4 @@
--- Chains of steps that are finite.
+-- Laws of chains of steps that are finite.
 use Rattle.std.specs.Prelude.{ℕ, ◌<◌, ◌≡◌, refl}
 use Rattle.lite_base.specs.Uses.{sym, subst}
 use mathlib.Core.WellFounded.{Acc, WellFounded}
@@ -15,12 +15,12 @@ ends_acc {≺ = ≺} f to a (Acc.intro a' h) x e =
 accessible : {T : Type 0} {next : T → T → Type 0} (t : T) → Terminates next t → Acc (λ u v. next v u) t
 accessible t (Terminates.ends h) = Acc.intro t (λ u s. accessible u (h u s))
 
--- steps that lead to steps of what ends, end
+-- Chains of steps are finite if a function turns each step into a step whose chains are finite.
 pub Terminates-map : {S T : Type 0} {next : S → S → Type 0} {next' : T → T → Type 0} (f : S → T)
     → ((x y : S) → next x y → next' (f x) (f y)) → (x : S) → Terminates next' (f x) → Terminates next x
 Terminates-map {next' = next'} f to x h = ends_acc {≺ = λ u v. next' v u} f to (f x) (accessible (f x) h) x refl
 
--- several steps at once end too
+-- If the chains from `x` are finite, so are chains of several steps at once from every value that it reaches.
 ends_after : {S : Type 0} {next : S → S → Type 0} (x : S) → Terminates next x → (w : S) → Reaches next x w
     → Terminates (After next) w
 ends_after x (Terminates.ends h) w p =
@@ -31,7 +31,7 @@ ends_after x (Terminates.ends h) w p =
 pub Terminates-after : {S : Type 0} {next : S → S → Type 0} (x : S) → Terminates next x → Terminates (After next) x
 Terminates-after x h = ends_after x h x Reaches.stay
 
--- steps that lower a measure end
+-- Chains of steps that lower a measure are finite.
 pub Terminates-by : {S X : Type 0} {next : S → S → Type 0} (≺ : X → X → Type 0) → WellFounded ≺ → (f : S → X)
     → ((x y : S) → next x y → ≺ (f y) (f x)) → (x : S) → Terminates next x
 Terminates-by ≺ wf f to x = ends_acc f to (f x) (wf.apply (f x)) x refl
@@ -40,7 +40,7 @@ pub Terminates-count : {S : Type 0} {next : S → S → Type 0} (f : S → ℕ) 
     → Terminates next x
 Terminates-count = Terminates-by ◌<◌ lt-wf_rel.wf
 
--- it is enough to look at values with a fact that the steps keep
+-- It is enough to consider values with a fact that the steps keep.
 pub Terminates-where : {S : Type 0} {next : S → S → Type 0} (P : S → Type 0) → ((x y : S) → P x → next x y → P y)
     → (x : S) → P x → Terminates (λ y z. P y × next y z) x → Terminates next x
 Terminates-where P keeps x p (Terminates.ends h) =

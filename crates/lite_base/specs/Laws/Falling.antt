@@ -1,4 +1,4 @@
--- What a falling rank gives.
+-- Laws of ranks that fall.
 use Rattle.std.specs.Prelude.{◌≡◌, ℕ, zero, suc, ◌<◌, ◌≤◌, List, [], ◌∷◌, ◌++◌, length, Some, refl}
 use Rattle.lite_base.specs.Uses.{inl, inr, sym, ap, subst, ◌∙◌, arith, length-append, Ready, Pending, eq-or-lt_of_le}
 use mathlib.Core.WellFounded.{Acc, WellFounded}
@@ -33,7 +33,7 @@ Below-trans (x ∷ xs) (y ∷ ys) (z ∷ zs) h k =
     ]
 Below-trans xs ys zs h k = absurd h
 
--- what comes first is lower, and what follows is as long
+-- A list is lower if its first part is lower and what follows is as long.
 pub Below-first : (xs ys us vs : List ℕ) → Below xs ys → length us ≡ length vs → Below (xs ++ us) (ys ++ vs)
 Below-first (x ∷ xs) (y ∷ ys) us vs h e =
     elim h [
@@ -42,7 +42,7 @@ Below-first (x ∷ xs) (y ∷ ys) us vs h e =
     ]
 Below-first xs ys us vs h e = absurd h
 
--- what comes first stays, and what follows is lower
+-- A list is lower if its first part stays and what follows is lower.
 pub Below-then : (xs us vs : List ℕ) → Below us vs → Below (xs ++ us) (xs ++ vs)
 Below-then [] us vs h = h
 Below-then (x ∷ xs) us vs h = inr (refl, Below-then xs us vs h)
@@ -64,7 +64,7 @@ Below-after xs ys us vs h q =
       | inr p ↦ Below-first xs ys us vs p (Below-length us vs q)
     ]
 
--- lists of one number
+-- Lists of one number are compared as their numbers are.
 pub Below-one : {m n k : ℕ} → AtMost (m ∷ []) (n ∷ []) → n < k → Below (m ∷ []) (k ∷ [])
 Below-one {m} {n} (inl e) less = let same : m ≡ n = cc e in inl (omega (arith, same, less), refl)
 Below-one (inr (inl p)) less = inl (omega (arith, p.0, less), refl)
@@ -92,7 +92,8 @@ none_below : (ys : List ℕ) → Below ys [] → Acc Below ys
 none_below [] h = absurd h
 none_below (y ∷ ys) h = absurd h
 
--- what lies below x ∷ xs ends, if each x' ∷ xs' does at a lower x', and each x ∷ xs' at an xs' below xs
+-- No list falls forever from below `x ∷ xs`, if none does from a list with a lower first number, or with the first
+-- number `x` and a lower rest.
 below_cons : (x : ℕ) (xs : List ℕ)
     → ((x' : ℕ) → x' < x → (xs' : List ℕ) → length xs' ≡ length xs → Acc Below (x' ∷ xs'))
     → ((xs' : List ℕ) → Below xs' xs → Acc Below (x ∷ xs')) → (ys : List ℕ) → Below ys (x ∷ xs) → Acc Below ys
@@ -119,7 +120,7 @@ ends (suc n) (x ∷ xs) e = ends_cons n (ends n) x xs (omega (arith, e))
 pub Below-wf : WellFounded Below
 Below-wf = record { apply = λ xs. ends _ xs refl }
 
--- from a value that counts, no chain of steps that lower a rank is endless
+-- From a value that counts, no chain of steps that lower the rank is endless.
 pub ranked_ends : {S : Type 0} (next : S → S → Type 0) (counts : S → Type 0) (rank : S → List ℕ)
     → ((x y : S) → counts x → next x y → counts y) → ((x y : S) → counts x → next x y → Below (rank y) (rank x))
     → (x : S) → counts x → Terminates next x
@@ -130,7 +131,7 @@ module _ {S A : Type 0} (run : Runs (Answer A) S) (counts : S → Type 0) (rank 
     (kept : (x y : S) (l : List (Answer A)) → counts x → run x l y → counts y)
     (falls : (x y : S) (a : A) (more : List A) → counts x → run x (items (a ∷ more)) y
     → Below (rank y) (rank x)) where
-  -- from a value that counts, no chain of runs of items is endless
+  -- From a value that counts, no chain of runs of items is endless.
   pub counted_ends : (x : S) → counts x → Terminates (ItemRun run) x
   counted_ends =
       ranked_ends _ counts rank (λ y z k h. kept y z _ k h.2)

@@ -1,4 +1,4 @@
--- A stream or a future that is lent: what is behind the reference runs, and the reference stays.
+-- Laws of a stream or a future behind a `&mut` reference.
 use Rattle.std.specs.Prelude.{◌≡◌, [], refl}
 use Rattle.lite_base.specs.Uses.{◌∙◌, ap, MutBor, Poll}
 use Rattle.lite_base.specs.Answers.{Answer}
@@ -9,7 +9,7 @@ use Rattle.lite_base.specs.Laws.StreamLaws.{laws_of, runs_of}
 use Rattle.lite_base.specs.Runs.{Hints, Runs}
 use Rattle.lite_base.specs.Lent.{Lent}
 
--- runs of what is behind two references, one after the other
+-- Runs of what two references point to follow one another.
 lent_stays : {S A : Type 0} (run : Runs A S) → ((x y : S) → run x [] y → y ≡ x) → (x y : MutBor S) → Lent run x [] y
     → y ≡ x
 lent_stays {S = S} run stays x y h = h.1 ∙ ap (λ (v : S). record x { now = v }) (stays x.now y.now h.0)

@@ -1,4 +1,4 @@
--- A rank that falls with each Ok item.
+-- Laws of a rank that falls with each `Ok` item.
 use Rattle.std.specs.Prelude.{◌≡◌, ℕ, List, [], ◌∷◌, map, None, Result, Ok, refl}
 use Rattle.lite_base.specs.Uses.{ap, subst, Ready, Pending, MutBor}
 use Rattle.lite_base.specs.Answers.{Answer, item, items}
@@ -21,7 +21,7 @@ ok_lowers E (Ready None ∷ l) xs ys h = ok_lowers E l xs ys h
 ok_lowers E l xs ys h = h
 
 module _ {S T E : Type 0} {run : Runs (Answer (Result T E)) S} {r : Ranks S} where
-  -- a rank that falls with each item falls with each Ok item
+  -- A rank that falls with each item falls with each `Ok` item.
   pub ok_counting : Counting run r → OkCounting run r
   ok_counting c =
       record {
@@ -33,7 +33,7 @@ module _ {S T E : Type 0} {run : Runs (Answer (Result T E)) S} {r : Ranks S} whe
         lowers = λ x y l k h. ok_lowers E l _ _ (c.lowers x y (all_ok l) k h);
       }
 
-  -- from a value that counts, no chain of runs of Ok items is endless
+  -- From a value that counts, no chain of runs of `Ok` items is endless.
   pub ok_counting_ends : OkCounting run r → (x : S) → r.counts x → Terminates (OkRun run) x
   ok_counting_ends c =
       ranked_ends _ r.counts r.rank (λ x y k h. c.counts_on x y _ k h.2)
@@ -49,7 +49,7 @@ module _ {S T E : Type 0} {run : Runs (Answer (Result T E)) S} {r : Ranks S} whe
         lowers = λ x y l k h. c.lowers x.now y.now l k h.0;
       }
 
--- where runs of Ok items are runs of what is in them, by a relation whose rank falls
+-- The rank falls with `Ok` items if runs of `Ok` items are runs of what the items hold, by a relation whose rank falls.
 pub ok_counting_by : {S T E : Type 0} {run : Runs (Answer (Result T E)) S} {oks : Runs (Answer T) S} {r : Ranks S}
     → ((x y : S) (l : List (Answer T)) → run x (all_ok l) y → oks x l y) → Counting oks r
     → ((x y : S) (l : List (Answer (Result T E))) → r.counts x → run x l y → r.counts y)

@@ -1,4 +1,4 @@
--- Laws of what is paced.
+-- Laws of results with pauses.
 use Rattle.std.specs.Prelude.{◌≡◌, ℕ, ◌≤◌, ◌+◌, ◌-◌, List, [], ◌∷◌, ◌++◌, Some, None, length}
 use Rattle.lite_base.specs.Uses.{inl, inr, ap, subst, arith, Ready, Pending}
 use Rattle.lite_base.specs.Answers.{Answer, before_end, items, strip}
@@ -37,7 +37,7 @@ module _ {A : Type 0} where
       paced_lowers p q h.1 o xs ys h.3 (subst (λ l. Lowers l xs ys) h.2 k)
   paced_lowers p q i (Ready (Some x) ∷ o) xs ys (inr h) k = subst (λ l. Lowers l xs ys) h.2 k
 
-  -- items that went out came in, and each uses one of the budget
+  -- Items among the results came from the source, and each uses one of the budget.
   pub paced_items : (p q : ℕ × ℕ) (i : List (Answer A)) (l : List A) → Paces Pending left_behind p i (items l) q
       → (i ≡ items l) × (q.1 + length l ≡ p.1)
   paced_items p q i [] h = (h.0, rw h.1 (omega arith))
@@ -45,7 +45,7 @@ module _ {A : Type 0} where
   paced_items p q i (x ∷ l) (inr h) =
       let e = paced_items (p.0, p.1 - 1) q h.1 l h.3 in (rw (h.2, e.0), omega (arith, e.1, h.0))
 
-  -- the pauses aside the answers are those that came in
+  -- Except for the pauses, the results are those of the source.
   pub paced_strip : (p q : ℕ × ℕ) (i o : List (Answer A)) → Paces Pending left_behind p i o q → strip o ≡ strip i
   paced_strip p q i [] h = rw h.0
   paced_strip p q i (b ∷ o) (inl h) = rw h.1 (paced_strip (p.0, p.0) q i o h.2)

@@ -5,7 +5,7 @@ use Rattle.lite_base.specs.Future.Race.{is_first}
 use Rattle.lite_base.specs.Rows.{Rows}
 
 module _ {A : Type 0} (row : (i j : List A) (c : A) (i' j' : List A) → Type 0) where
-  -- by induction on the rows, in which either may stand first
+  -- By induction on the rows, in which either list may be read first.
   module _ (P : List A → List A → List A → Type 0) (none : P [] [] [])
       (first : (i j : List A) (c : A) (i' j' l : List A) → row i j c i' j' → P i' j' l → P i j (c ∷ l))
       (second : (i j : List A) (c : A) (i' j' l : List A) → row j i c j' i' → P i' j' l → P i j (c ∷ l)) where
@@ -15,7 +15,7 @@ module _ {A : Type 0} (row : (i j : List A) (c : A) (i' j' : List A) → Type 0)
     rows_by (true ∷ o) i j (c ∷ l) r = first i j c r.0 r.1 l r.2 (rows_by o r.0 r.1 l r.3)
     rows_by (false ∷ o) i j (c ∷ l) r = second i j c r.0 r.1 l r.2 (rows_by o r.0 r.1 l r.3)
 
-  -- where more may stand behind a row, rows follow one another
+  -- Rows follow one another, if a row stays a row with more results behind its lists.
   pub rows_follow : ((i j : List A) (c : A) (i' j' k h : List A) → row i j c i' j'
       → row (i ++ k) (j ++ h) c (i' ++ k) (j' ++ h))
       → (o p : List Bool) (i j k h l m : List A) → Rows row o i j l → Rows row p k h m
@@ -31,7 +31,7 @@ module _ {A : Type 0} (row : (i j : List A) (c : A) (i' j' : List A) → Type 0)
   rows_empty [] i j r = (r.0, r.1)
   rows_empty (b ∷ o) i j r = absurd r
 
-  -- one row, in the order that a generator's word names
+  -- One row, in the order that a word of the generator names.
   pub drawn_first : (word : ℕ) {i j : List A} {c : A} → word % 2 ≡ 1 → row i j c [] []
       → Rows row (map is_first (word ∷ [])) i j (c ∷ [])
   drawn_first word odd r = rw (eq-eqb (word % 2) 1 odd) ([], [], r, (refl, refl, refl))

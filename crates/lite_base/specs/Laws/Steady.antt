@@ -1,5 +1,4 @@
--- Streams and futures whose answers do not depend on when they were pending, where memory was found: the runs in which
--- it was are the ample ones.
+-- Laws of streams and futures whose results do not depend on when they were pending, if no allocation failed.
 use Rattle.std.specs.Prelude.{⊤}
 use Rattle.lite_base.specs.Uses.{MutBor, Poll}
 use Rattle.lite_base.specs.Alike.{Sameness}
@@ -40,7 +39,7 @@ lent_future_steady s =
       found = λ n. lent_takes_none (s.found n);
     }
 
--- where no poll asks for memory
+-- If no poll needs memory, every run is ample.
 pub steady_always : {S A : Type 0} {run : Runs (Answer A) S} {hints : Hints S} {alike : S → S → Type 0}
     → StreamLaws run hints → Steadiness run alike → SteadyLaws run run ⊤ alike
 steady_always laws s = record { laws = runs_of laws; steady = s; found = λ n x y l h. h }

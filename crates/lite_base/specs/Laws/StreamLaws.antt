@@ -1,4 +1,4 @@
--- What each stream's runs meet.
+-- Laws of a stream's runs and hints.
 use Rattle.std.specs.Prelude.{◌≤◌, ℕ, List, Option, IfSome}
 use Rattle.lite_base.specs.Answers.{Answer, before_end}
 use Rattle.lite_base.specs.Runs.{Hints, Runs}
@@ -7,7 +7,7 @@ use Rattle.lite_base.specs.StreamLaws.{RunLaws, StreamLaws}
 pub runs_of : {S A : Type 0} {run : Runs (Answer A) S} {hints : Hints S} → StreamLaws run hints → RunLaws run
 runs_of laws = record { rests = laws.rests; stays = laws.stays; follows = laws.follows }
 
--- no run has more items before its first end than a hint allows
+-- No run has more items before the first end of the stream than a size hint allows.
 abbrev pub HintsHold : {S A : Type 0} → Runs (Answer A) S → Hints S → Type 0
 HintsHold {S} {A} run hints =
     (x y : S) (hint : ℕ × Option ℕ) (l : List (Answer A)) → hints x hint → run x l y

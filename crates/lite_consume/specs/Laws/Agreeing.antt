@@ -1,4 +1,4 @@
--- Laws of what is made of a stream's items: it does not depend on when the stream was pending.
+-- Laws of futures that consume a stream: their values do not depend on when the stream was pending.
 use Rattle.std.specs.Prelude.{◌≡◌, ◌⊎◌, List, [], ◌∷◌, Option, Some, None, refl, ⊤}
 use Rattle.lite_consume.specs.Uses.{inl, inr, subst, Poll, Ready, SameAnswer, SameItem, Sameness, Answer, ComparableBy, Gives, strip, Finishes, both_items}
 use Rattle.lite_consume.specs.Uses.{comparable_nil, gives_strip, item_same, FutureSteadyLawsBy, SteadyLawsBy, TakesNone, Runs}
@@ -9,7 +9,7 @@ use Rattle.lite_consume.specs.Laws.Consuming.{consumed_laws, consumes_by, consum
 use Rattle.lite_consume.specs.declared.consume.Consume.{Consume}
 
 module _ {M A R : Type 0} (fold : Fold M A R) where
-  -- as Consumes, where nothing is pending
+  -- As `Consumes`, for results without `Pending`s.
   abbrev ConsumesStripped : M → List (Option A) → List R → Type 0
   ConsumesStripped p [] out = out ≡ []
   ConsumesStripped p (None ∷ ins) out = (r : R) × (q : M) × fold.closes p r q × (out ≡ r ∷ [])
@@ -27,7 +27,7 @@ module _ {M A R : Type 0} (fold : Fold M A R) where
       consumes_steps fold (λ p i l. ConsumesStripped p (strip i) (strip l)) (λ p m x i b l t h. inl (m, t, h))
       (λ p i l h. h) q (λ p. decided p q) p i l refl
 
--- items that come in are compared by `like`
+-- The stream's items are compared by `like`.
 module _ {M A R : Type 0} (like : Sameness A) {fold ample : Fold M A R} {none : Type 0} {agree : M → M → Type 0}
     {same : R → R → Type 0} (f : FoldSteadyLaws (SameItem like) fold ample none agree same) where
   made_same : (p k : M) (i j : List (Option A)) (o u : List R) → agree p k → ComparableBy (SameAnswer like) i j
@@ -46,8 +46,8 @@ module _ {M A R : Type 0} (like : Sameness A) {fold ample : Fold M A R} {none : 
   made_same p k (Some x ∷ i) (Some y ∷ j) o u a c (inr h) (inr g) =
       rw (h.3, g.3) (f.asks p k h.1 g.1 x y (Some h.0) (Some g.0) a (item_same like x y c.0) h.2 g.2, tt)
 
--- If memory was found in each step but those that give another value, and the stream found it wherever its answers were
--- such as came before the value, then it was found in a run that gave no other.
+-- A run in which no allocation failed: if none failed in the steps, except those that return another kind of value, and
+-- none in the stream's run, for results that may come before such a value.
 module _ {S M A R : Type 0} {run found : Runs (Answer A) S} {fold ample : Fold M A R} {may : R → Type 0}
     (Such : List (Answer A) → Type 0)
     (told : (s t : S) (i : List (Answer A)) → Such i → run s i t → found s i t)
@@ -62,7 +62,7 @@ module _ {S M A R : Type 0} {run found : Runs (Answer A) S} {fold ample : Fold M
         consumed = consumes_by (λ p. p) fold ample within x.folder y.folder h.ins l m h.consumed;
       }
 
-  -- one that was polled until its value
+  -- The run of a future that was polled until its value.
   pub finished_ample : (x : Consume S M) (l : List (Poll R)) (value : R) → may value
       → ((q : M) (i : List (Answer A)) → Consumes fold x.folder i l q → Such i)
       → Finishes (Folds run fold) x l value → Finishes (Folds found ample) x l value
@@ -75,7 +75,7 @@ module _ {S M A R : Type 0} {run found : Runs (Answer A) S} {fold ample : Fold M
             (such f.last.folder) f.came;
       }
 
--- where no poll of the stream asks for any
+-- No poll of the stream needs memory.
 module _ {S M A R : Type 0} {run found : Runs (Answer A) S} {fold ample : Fold M A R} where
   pub finished_taking_none : {may : R → Type 0} → TakesNone run found → WithinWhere may fold ample → (x : Consume S M)
       (l : List (Poll R)) (value : R) → may value → Finishes (Folds run fold) x l value
@@ -83,7 +83,7 @@ module _ {S M A R : Type 0} {run found : Runs (Answer A) S} {fold ample : Fold M
   finished_taking_none takes within x l value m =
       finished_ample (λ i. ⊤) (λ s t i u. takes s t i) within x l value m (λ q i h. tt)
 
-  -- over a steady stream, a fold whose values agree
+  -- A future is steady over a steady stream, if the values of its fold agree.
   pub consumed_steady : {none none' : Type 0} {alike : S → S → Type 0} {agree : M → M → Type 0} (like : Sameness A)
       (same : Sameness R) → SteadyLawsBy like run found none alike
       → FoldSteadyLaws (SameItem like) fold ample none' agree (SameItem same)
@@ -101,7 +101,7 @@ module _ {S M A R : Type 0} {run found : Runs (Answer A) S} {fold ample : Fold M
             consumed_ample (λ i. ⊤) (λ v w i u. s.found n.0 v w i) (f.found n.1) x y l (λ r g. tt) (λ i c. tt) h;
       }
 
--- a fold of a part
+-- The fold of one part of a state.
 module _ {N M A R : Type 0} (part : N → M) where
   pub part_within : {may : R → Type 0} {fold ample : Fold M A R} → WithinWhere may fold ample
       → WithinWhere may (fold_of part fold) (fold_of part ample)
@@ -117,6 +117,6 @@ module _ {N M A R : Type 0} (part : N → M) where
         found = λ n. part_within (f.found n);
       }
 
--- each step of a fold is one of its own
+-- Each step of a fold is one of its own steps.
 pub within_itself : {M A R : Type 0} (fold : Fold M A R) → ⊤ → Within fold fold
 within_itself fold n = record { asks = λ p q x o m h. h; closes = λ p q r m h. h }

@@ -1,4 +1,4 @@
--- Laws of what is made of a stream's items.
+-- Laws of futures that consume a stream.
 use Rattle.std.specs.Prelude.{◌≡◌, Option, Some, None, List, [], ◌∷◌, refl}
 use Rattle.std.proofs.Common.{◌++◌}
 use Rattle.lite_consume.specs.Uses.{AllByRecursion, Poll, Ready, Pending, Answer, Gives, UpToValue, item, CalmLaws, NoPending, FutureLaws, up_to_once}
@@ -7,14 +7,14 @@ use Rattle.lite_consume.specs.Agreeing.{WithinWhere}
 use Rattle.lite_consume.specs.Consume.{Folds}
 use Rattle.lite_consume.specs.Consuming.{Consumes, Decides, Fold, TakesIn, fold_of}
 
--- by induction on the answers in: items are taken in, Pendings go out, and at last the value does
+-- By induction on the stream's results: items are consumed, `Pending`s are passed on, and at last comes the value.
 module _ {M A R : Type 0} (fold : Fold M A R) (P : M → List (Answer A) → List (Poll R) → Type 0)
     (taken : (p m : M) (x : A) (i : List (Answer A)) (b : Poll R) (l : List (Poll R)) → TakesIn fold p x m
     → P m i (b ∷ l) → P p (item x ∷ i) (b ∷ l))
     (waits : (p : M) (i : List (Answer A)) (l : List (Poll R)) → P p i l → P p (Pending ∷ i) (Pending ∷ l)) (q : M)
     (settled : (p : M) (o : Option A) (r : R) → Decides fold p (Ready o) (Ready r) q
     → P p (Ready o ∷ []) (Ready r ∷ [])) where
-  -- up to the value; and where nothing goes out, nothing came in
+  -- `P` holds of results up to the value. If the future returned nothing, the stream returned nothing.
   abbrev Holds : M → List (Answer A) → List (Poll R) → Type 0
   Holds p i l = (l ≡ [] → (i ≡ []) × (p ≡ q)) × (UpToValue l → P p i l)
 
@@ -31,8 +31,8 @@ module _ {M A R : Type 0} (fold : Fold M A R) (P : M → List (Answer A) → Lis
       (λ p m x i b l t k. (λ e. cc e, λ u. taken p m x i b l t (k.1 u))) one_given p q i l
       (λ e. (refl, refl), λ u. none) h.0).1 h.1
 
--- What holds of each item that is taken in, and of the answer that decides, holds of each answer that came before a
--- value of that kind: `kept` says of what is folded that it holds of all that was taken in.
+-- What holds of each item that is consumed, and of the result that decides, holds of each result that came before such
+-- a value. `kept` says of a state that it holds of all that was consumed.
 pub each_consumed : {M A R : Type 0} (fold : Fold M A R) (P : Answer A → Type 0) (kept : M → Type 0) (may : R → Type 0)
     → P Pending → ((p q : M) (x : A) → kept q → TakesIn fold p x q → kept p × P (item x))
     → ((p q : M) (o : Option A) (r : R) → may r → Decides fold p (Ready o) (Ready r) q → kept p × P (Ready o))
@@ -44,7 +44,8 @@ each_consumed fold P kept may waits taken decided p q i l v m g h =
     (λ p i l k g. let rest = k g in (rest.0, (waits, rest.1))) q
     (λ p o r d g. let last = decided p q o r (rw g.0 m) d in (last.0, (last.1, tt))) p i l absurd h g
 
--- where each step of the one fold is one of the other, by a part, if the value that it gives is such
+-- Each step of the one fold is a step of the other, by a part of the state, if the value that it returns is of this
+-- kind.
 module _ {N M A R : Type 0} (part : N → M) (fold : Fold N A R) (other : Fold M A R) {may : R → Type 0}
     (within : WithinWhere may fold (fold_of part other)) where
   decides_by : (p q : N) (o : Option A) (r : R) → may r → Decides fold p (Ready o) (Ready r) q
@@ -91,7 +92,7 @@ module _ {S M A R : Type 0} {run : Runs (Answer A) S} (fold : Fold M A R) where
         once = λ x y l h. up_to_once l h.consumed.1;
       }
 
-  -- over a stream that is never pending it is not either, since no Pending is made up
+  -- The future is never pending if its stream never is: no `Pending` is made up.
   pub consumed_calm : {is_calm : S → Type 0} → CalmLaws run is_calm → CalmLaws (Folds run fold) (λ x. is_calm x.stream)
   consumed_calm c =
       record {

@@ -1,4 +1,4 @@
--- Which values of each fold agree: by closures that do, and by numbers and items that are the same.
+-- Which states of each fold agree: closures that agree, and numbers and items that are the same.
 use Rattle.std.specs.Prelude.{⊤, Result, Ok, Err, IsErr, IsSome, Bool, true, false, ◌≡◌, Option, Some, None, refl}
 use Rattle.lite_consume.specs.Uses.{◌∙◌, inl, inr, ap, subst, sym, arith, OptionBy, Optional, SameAnswer, SameHeld, SameItem, Sameness, Agree, AgreeFrom}
 use Rattle.lite_consume.specs.Uses.{AgreeKeeping, Keeping, Kin, KinAnswers, both_items, ends_same, held_same, optional_same, same_answer, same_held}
@@ -23,19 +23,19 @@ use Rattle.lite_consume.specs.TryFold.{tries_fold}
 use Rattle.lite_consume.specs.TryForEach.{tries_each}
 use Rattle.lite_consume.specs.TryNext.{SameNext, TryNextItem, next_item_of, tries_next}
 
--- a fold that takes no memory
+-- The fold needs no memory and meets `FoldSteadyLaws`.
 abbrev Steady : {M A R : Type 0} → (A → A → Type 0) → (R → R → Type 0) → Fold M A R → (M → M → Type 0) → Type 0
 Steady like same fold agree = FoldSteadyLaws like fold fold ⊤ agree same
 
 module _ {M A R : Type 0} (like : A → A → Type 0) (same : R → R → Type 0) (fold : Fold M A R)
     (agree : M → M → Type 0) where
-  -- folds that agree, asked about items that are alike: both go on and agree, or both decide for values that are the
-  -- same
+  -- Folds that agree, asked about items that are alike, both consume them and agree again, or both return values that
+  -- are the same.
   abbrev pub SameAsked : Type 0
   SameAsked = (p k q l : M) (x w : A) (o u : Option R) → agree p k → like x w → fold.asks p x o q → fold.asks k w u l
       → SameDecision same (agree q l) o u
 
-  -- folds that agree close with values that are the same
+  -- At the end of the stream, folds that agree return values that are the same.
   abbrev SameClosed : Type 0
   SameClosed = (p k q l : M) (r t : R) → agree p k → fold.closes p r q → fold.closes k t l → same r t
 
@@ -44,19 +44,19 @@ steady : {M A R : Type 0} {like : A → A → Type 0} {same : R → R → Type 0
     → Steady like same fold agree
 steady {fold = fold} asks closes = record { asks = asks; closes = closes; found = within_itself fold }
 
--- the two are equal
+-- The two are equal.
 abbrev Equal : {R : Type 0} → R → R → Type 0
 Equal r t = r ≡ t
 
--- closures that agree, asked about items that are alike
+-- Closures that agree, called with items that are alike, return the same and agree again.
 pub matched : {F A B : Type 0} {like : A → A → Type 0} {same : B → B → Type 0} {call : Question F A B} {f k g l : F}
     {x w : A} {y z : B} → AgreeFrom like same call f k → like x w → call f x y g → call k w z l
     → same y z × AgreeFrom like same call g l
 matched {like = like} {same = same} {call = call} = agree_from_matches like same call _ _ _ _ _ _ _ _
 
--- by tests that agree
+-- By tests that agree.
 module _ {F A : Type 0} (like : A → A → Type 0) (test : Question F A Bool) where
-  -- tests that agree on items that are alike
+  -- The tests agree on items that are alike.
   abbrev Tests : F → F → Type 0
   Tests = AgreeFrom like Equal test
 
@@ -85,7 +85,7 @@ module _ {F A : Type 0} (like : A → A → Type 0) (test : Question F A Bool) w
   pub position_steady : Steady like Equal (positions test) (AgreeBeside Tests)
   position_steady = steady position_asked (λ p k q l r t a c d. c.0 ∙ sym d.0)
 
--- items that are the same, or none, as values
+-- Items that are the same, or `None`, as values.
 module _ {A : Type 0} (like : Sameness A) where
   both_none : {r t : Option A} → r ≡ None → t ≡ None → SameItem (Optional like) r t
   both_none c d = rw (c, d) (optional_same like None None (ends_same like))
@@ -93,11 +93,11 @@ module _ {A : Type 0} (like : Sameness A) where
   both_some : {x w : A} {r t : Option A} → SameItem like x w → r ≡ Some x → t ≡ Some w → SameItem (Optional like) r t
   both_some {x} {w} e c d = rw (c, d) (optional_same like (Some x) (Some w) (same_answer like x w e))
 
-  -- as SameAsked, of a fold whose value is one of the items, or none
+  -- As `SameAsked`, for a fold whose value is an item or `None`.
   abbrev ItemAsked : {M : Type 0} → Fold M A (Option A) → (M → M → Type 0) → Type 0
   ItemAsked = SameAsked (SameItem like) (SameItem (Optional like))
 
-  -- as Steady, of a fold whose value is one of the items, or none
+  -- As `Steady`, for a fold whose value is an item or `None`.
   abbrev ItemSteady : {M : Type 0} → Fold M A (Option A) → (M → M → Type 0) → Type 0
   ItemSteady = Steady (SameItem like) (SameItem (Optional like))
 
@@ -136,7 +136,7 @@ module _ {A : Type 0} (like : Sameness A) where
       steady {same = SameItem (Optional like)} {fold = lasts} last_asked
       (λ p k q l r t a c d. rw (c, d) (optional_same like p k (held_same like p k a)))
 
-  -- of equal counts
+  -- By counts that are equal.
   count_asked : SameAsked (SameItem like) Equal counts (λ n m. m ≡ n)
   count_asked p k q l x w None None a e c d = rw (c.1, d.1, a)
   count_asked p k q l x w o u a e c d = cc
@@ -170,9 +170,9 @@ module _ {T E : Type 0} where
         steady {same = SameItem (SameNext like)} {fold = tries_next} try_next_asked
         (λ p k q l r t a c d. rw (c, d) (same_items like (Ok None) (Ok None) (ends_same like)))
 
--- by functions that agree
+-- By functions that agree.
 module _ {F A B : Type 0} (like : Sameness A) (call : Question F A (Option B)) where
-  -- what is there is not the same as None
+  -- `None` is not the same as `Some`.
   not_none : (t : Option B) → SameAnswer (Keeping like call) None t → IsSome t → ⊥
   not_none None e h = cc
   not_none (Some y) e h = both_items (Keeping like call) None (Some y) e
@@ -204,9 +204,10 @@ module _ {F A : Type 0} (like : A → A → Type 0) (call : Question F A (Unit {
   pub for_each_steady : Steady like Equal (calls_each call) (AgreeFrom like Equal call)
   for_each_steady = steady for_each_asked (λ p k q l r t a c d. refl)
 
--- where items are the same by a relation: any fold, from kin of which both decide at an item, or none does
+-- If items are compared by a relation, any fold agrees from states that are kin, if both decide at an item or none
+-- does.
 module _ {M A R : Type 0} (like : A → A → Type 0) (fold : Fold M A R) where
-  -- folders that are kin, of which both decide at an item, or none does
+  -- The folds are kin, and at an item both decide or none does.
   abbrev Deciding : M → M → Type 0
   Deciding p k = AgreeDeciding (Sameness.by like) Equal fold p k
 
@@ -236,7 +237,7 @@ module _ {F A E : Type 0} (call : Question F A (Result (Unit {0}) E)) where
   try_for_each_steady Sameness.equal = steady try_for_each_asked (λ p k q l r t a c d. c.0 ∙ sym d.0)
   try_for_each_steady (Sameness.by like) = deciding_steady like (tries_each call)
 
--- where the same was folded so far
+-- By accumulators that are equal.
 folded_same : {F B T R : Type 0} {call : Question F (B × T) R} {p k q l : F} {held kept : Option B} {x w : T} {b c : B}
     {r t : R} → Agree call p k → kept ≡ held → x ≡ w → held ≡ Some b → kept ≡ Some c → call p (b, x) r q
     → call k (c, w) t l → (r ≡ t) × Agree call q l

@@ -1,4 +1,4 @@
--- That a poll which takes in items returns.
+-- Why a poll that consumes items returns.
 use Rattle.std.specs.Prelude.{◌≡◌, ℕ, ◌+◌, [], ⊤, Result, Ok, Err}
 use Rattle.std.proofs.Common.{◌<◌}
 use Rattle.lite_consume.specs.Uses.{arith, MutBor, Answer, Terminates-count, Terminates-map, Lent, OkCounting, OkRun, ok_counting_ends, Counting, Ranks}
@@ -6,12 +6,12 @@ use Rattle.lite_consume.specs.Uses.{counting_ends, Runs}
 use Rattle.lite_consume.specs.Consuming.{Fold, TakesIn, fold_of}
 use Rattle.lite_consume.specs.PollSteps.{Returns, TakesItem}
 
--- a count that goes down
+-- A count that goes down.
 pub one_less : {n m : ℕ} → n ≡ m + 1 → m < n
 one_less e = omega arith
 
 module _ {S M A R : Type 0} {run : Runs (Answer A) S} {fold : Fold M A R} {is_open : M → Type 0} where
-  -- since items lower the stream's rank
+  -- Because items lower the stream's rank.
   pub returns_counted : {r : Ranks S} → Counting run r
       → ((p q : M) (x : A) → is_open p → TakesIn fold p x q → is_open q) → Returns run fold r.counts is_open
   returns_counted c opens =
@@ -21,7 +21,7 @@ module _ {S M A R : Type 0} {run : Runs (Answer A) S} {fold : Fold M A R} {is_op
         opens = opens;
       }
 
-  -- since each item that is taken in lowers a count of its own
+  -- Because each item that is consumed lowers a count of its own.
   pub returns_fewer : (left : M → ℕ) → ((p q : M) (x : A) → TakesIn fold p x q → left q < left p)
       → ((p q : M) (x : A) → is_open p → TakesIn fold p x q → is_open q) → Returns run fold (λ _. ⊤) is_open
   returns_fewer left fewer opens =
@@ -31,13 +31,13 @@ module _ {S M A R : Type 0} {run : Runs (Answer A) S} {fold : Fold M A R} {is_op
         opens = opens;
       }
 
-  -- since no item is taken in
+  -- Because no item is consumed.
   pub returns_none : ((p q : M) (x : A) → TakesIn fold p x q → ⊥) → Returns run fold (λ _. ⊤) is_open
   returns_none none = returns_fewer (λ p. 0) (λ p q x h. absurd (none p q x h)) (λ p q x o h. absurd (none p q x h))
 
 module _ {S M T E R : Type 0} {run : Runs (Answer (Result T E)) S} {fold : Fold M (Result T E) R}
     {is_open : M → Type 0} where
-  -- since Ok items lower the stream's rank, and no other item is taken in
+  -- Because `Ok` items lower the stream's rank, and no other item is consumed.
   pub returns_ok : {r : Ranks S} → OkCounting run r → ((p q : M) (e : E) → TakesIn fold p (Err e) q → ⊥)
       → ((p q : M) (x : Result T E) → is_open p → TakesIn fold p x q → is_open q) → Returns run fold r.counts is_open
   returns_ok c errors opens =
@@ -52,7 +52,7 @@ module _ {S M T E R : Type 0} {run : Runs (Answer (Result T E)) S} {fold : Fold 
       ok_step none v w (Ok x, came, takes) = (x, [], came)
       ok_step none v w (Err e, came, takes) = absurd (none v.1 w.1 e takes)
 
--- a fold that is lent, over a stream that is
+-- The same for a fold behind a reference, over a stream behind a reference.
 pub lent_returns : {S M A R : Type 0} (run : Runs (Answer A) S) (fold : Fold M A R) {counts : S → Type 0}
     {is_open : M → Type 0} → Returns run fold counts is_open
     → Returns (Lent run) (fold_of (λ (p : MutBor M). p.now) fold) (λ s. counts s.now) (λ p. is_open p.now)

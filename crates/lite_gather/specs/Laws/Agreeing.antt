@@ -1,4 +1,4 @@
--- Collections gather the same of items that are the same, where memory was found.
+-- Laws of collections: they gather the same of items that are the same, if no allocation failed.
 use Rattle.std.specs.Prelude.{Result, Ok, Err, Bool, true, false, map, IfSome, IsSome, ◌≡◌, List, [], ◌∷◌, ◌++◌, Option, Some, None}
 use Rattle.lite_gather.specs.Uses.{subst, sym, map-append, AllZip-push, OptionBy, SameErr, SameItem, SameOk, Sameness, AgreeFrom, option_by, Question}
 use Rattle.lite_gather.specs.Uses.{FoldSteadyLaws, SameAsked, matched}
@@ -12,7 +12,7 @@ use Rattle.lite_gather.specs.Unzip.{RefusedOne, unzips}
 use Rattle.lite_gather.specs.declared.refused.UnzipRefused.{UnzipRefused}
 use Rattle.lite_gather.specs.declared.refused.UnzipRefused.TheVariants.{Left, Right}
 
--- two that are there are the same so
+-- Two collections that are there are the same.
 some_by : {C : Type 0} (same : C → C → Type 0) {q l : Option C} {c d : C} → q ≡ Some c → l ≡ Some d → same c d
     → OptionBy same q l
 some_by same e f h = rw (e, f) h
@@ -32,13 +32,13 @@ took_same Sameness.equal holds {d' = d'} x w h e k g =
 took_same (Sameness.by same) holds x w h e k g =
     (h.0 ++ x ∷ [], h.1 ++ w ∷ [], k h.0 h.2, g h.1 h.3, AllZip-push same h.0 h.1 x w h.4 e)
 
--- collections that hold nothing are the same
+-- Collections that hold nothing are the same.
 pub none_held : {C T : Type 0} (like : Sameness T) (holds : C → List T → Type 0) (c d : C) → holds c [] → holds d []
     → HoldsSame like holds c d
 none_held Sameness.equal holds c d h k = ([], h, k)
 none_held (Sameness.by same) holds c d h k = ([], [], h, k, tt)
 
--- and so are two that are there
+-- So are two collections that are there and hold nothing.
 pub both_there : {C : Type 0} {same : C → C → Type 0} {empty : C → Type 0} → ((c d : C) → empty c → empty d → same c d)
     → (p k : Option C) → IsSome p → IsSome k → IfSome p empty → IfSome k empty
     → OptionBy same p k
@@ -47,7 +47,7 @@ both_there none (Some c) None h g e d = cc
 both_there none (Some c) (Some b) h g e d = none c b e d
 
 module _ {C T : Type 0} (like : Sameness T) (holds : C → List T → Type 0) where
-  -- two collections hold items that are the same
+  -- The two collections hold items that are the same.
   abbrev HoldsLike : C → C → Type 0
   HoldsLike = HoldsSame like holds
 
@@ -67,7 +67,7 @@ module _ {C T : Type 0} (like : Sameness T) (holds : C → List T → Type 0) wh
         found = absurd;
       }
 
--- items that are Ok, and errors
+-- Items that are `Ok`, and items that are errors.
 module _ {A E : Type 0} where
   oks_same : (like : Sameness (Result A E)) (x w : A) → SameItem like (Ok x) (Ok w) → SameItem (SameOk like) x w
   oks_same Sameness.equal x w e = cc
@@ -96,11 +96,11 @@ module _ {A E : Type 0} where
   not_ok (Sameness.by same) P x e u h = (u.1 x e).1 h
 
 module _ {C T E : Type 0} (like : Sameness (Result T E)) (holds : C → List T → Type 0) where
-  -- two collections hold what is in Oks that are the same
+  -- The two collections hold what items hold that are `Ok` and the same.
   abbrev HoldsAlike : C → C → Type 0
   HoldsAlike = HoldsSame (SameOk like) holds
 
-  -- two folders of `try_collect`: both hold collections of what is the same, or none does
+  -- Two states of `try_collect` agree: both have collections that hold the same, or neither has one.
   abbrev Tries : Option C → Option C → Type 0
   Tries p k = Unmixed like (OptionBy HoldsAlike p k)
 
@@ -134,13 +134,14 @@ none_unsorted : {B T : Type 0} (holds : B → List T → Type 0) (b : Bool) (c d
 none_unsorted holds true c d x u = u.0
 none_unsorted holds false c d x u = u.0
 
--- by tests that agree
+-- By tests that agree.
 module _ {B T P : Type 0} (like : Sameness T) (holds : B → List T → Type 0) (test : Question P T Bool) where
-  -- two pairs of collections, each part of which holds items that are the same
+  -- The first collections of the two pairs hold items that are the same, and the second ones do.
   abbrev HoldBoth : B × B → B × B → Type 0
   HoldBoth = HoldsSameBoth like like holds holds
 
-  -- two folders of `partition`: their tests agree, and they hold pairs that are the same, or nothing
+  -- Two states of `partition` agree: their tests agree, and both have collections that hold the same, or neither has
+  -- any.
   abbrev Sorts : P × Option (B × B) → P × Option (B × B) → Type 0
   Sorts p k = AgreeFrom (SameItem like) (λ y z. y ≡ z) test p.0 k.0 × OptionBy HoldBoth p.1 k.1
 
@@ -166,7 +167,7 @@ module _ {B T P : Type 0} (like : Sameness T) (holds : B → List T → Type 0) 
         found = absurd;
       }
 
--- the parts of pairs
+-- The parts of pairs.
 module _ {C D A B : Type 0} (holds_first : C → List A → Type 0) (holds_second : D → List B → Type 0) where
   took_parts : (c c' : C × D) (x : A × B) → Took holds_first c.0 x.0 c'.0 → Took holds_second c.1 x.1 c'.1
       → Took (HoldsParts holds_first holds_second) c x c'
@@ -198,7 +199,7 @@ module _ {C D A B : Type 0} (holds_first : C → List A → Type 0) (holds_secon
   none_refused c x (Right d y) h = h.0
 
   module _ (like : Sameness (A × B)) where
-    -- two pairs of collections that hold the parts of pairs that are the same
+    -- The two pairs of collections hold the parts of pairs that are the same.
     abbrev SamePairs : C × D → C × D → Type 0
     SamePairs = HoldsSameParts like holds_first holds_second
 

@@ -1,4 +1,4 @@
--- A `Takes` leaves what was taken, however often it was pending.
+-- Laws of the test writer `Takes`: what it has taken does not depend on when it was pending.
 use Rattle.std.proofs.Common.{◌≡◌, List, [], ◌∷◌, ◌++◌, inl, inr, append-nil, append_assoc}
 use Rattle.lite_io_base.specs.SteadyWrite.{CalmWriteLaws, SteadyWriteLaws}
 use Rattle.lite_io_base.specs.Takings.{WriteMark, bytes_taken}

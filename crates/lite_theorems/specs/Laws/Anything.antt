@@ -1,4 +1,4 @@
--- Nothing is said of what a value answers: all lists of answers are allowed that the laws allow.
+-- Laws of types of your own of which nothing is known.
 use Rattle.std.specs.Prelude.{⊤}
 use Rattle.lite_theorems.specs.Uses.{FutureLaws, StreamLaws, NoHint, Anything, MarkLaws, anything_laws, ReadMark, WriteMark}
 use Rattle.lite_theorems.specs.Futures.{future_by_steps}

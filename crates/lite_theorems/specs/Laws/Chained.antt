@@ -1,4 +1,4 @@
--- What a chain tells up to its end is what its two readers told up to theirs.
+-- Laws of a chain: up to its end of file it produces what its two readers produce up to theirs.
 use Rattle.std.specs.Prelude.{◌≡◌, ℕ, Bool, true, false, List, [], ◌∷◌, ◌++◌}
 use Rattle.lite_theorems.specs.Uses.{◌∙◌, refl, ap, sym, subst, ChainsReaders, EndlessMarks, JoinsReaders, ReadsAcross, first_of, has_ended, second_of, Chain}
 use Rattle.lite_theorems.specs.Uses.{ReadMark, MarkLaws, BytesAlone, bytes_told, told_both, Runs}
@@ -10,12 +10,12 @@ goes_parts (ReadMark.fault kind ∷ l) m h = absurd h
 goes_parts (ReadMark.end ∷ l) m h = absurd h
 goes_parts (_ ∷ l) m h = goes_parts l m h
 
--- a list that ends with an end has one
+-- A list that ends with an end of file has one.
 ends_so : (l : List ReadMark) → EndlessMarks (l ++ ReadMark.end ∷ []) → ⊥
 ends_so [] h = h.0 refl
 ends_so (m ∷ l) h = ends_so l h.1
 
--- what stands before the first end of one reader, and what stands after it
+-- What comes before the first end of file of one reader, and what comes after it.
 cut_at : (read before after : List ReadMark) → read ++ ReadMark.end ∷ [] ≡ before ++ after → EndlessMarks before
     → (rest : List ReadMark) × (read ≡ before ++ rest) × (after ≡ rest ++ ReadMark.end ∷ [])
 cut_at read [] after e h = (read, refl, sym e)
@@ -24,7 +24,7 @@ cut_at (r ∷ read) (m ∷ before) after e h =
     let same : r ≡ m = cc e in let rest = cut_at read before after (cc e) h.1 in (rest.0, cc (same, rest.1), rest.2)
 
 module _ {R S : Type 0} (first : Runs ReadMark R) (second : Runs ReadMark S) (fl : MarkLaws first) where
-  -- what TellsBoth says, by whether the first had ended
+  -- What `TellsBoth` says, by whether the first reader had ended.
   record TellsByEnd (b : Bool) (x : Chain R S) (xs : List ℕ) (y : Chain R S) : Type 0 where
     pub firsts : List ℕ
     pub seconds : List ℕ

@@ -1,37 +1,38 @@
--- Where `collect` gives Ok, the stream gave items and pendings and then an end, and the collection holds the items.
+-- Laws of `collect` that returns `Ok`: the stream yielded items and `Pending`s and then ended, and the collection holds
+-- the items.
 use Rattle.std.specs.Prelude.{IsSome, IfSome, ◌≡◌, List, [], ◌∷◌, ◌++◌, Some, None, Result, Ok}
 use Rattle.lite_theorems.specs.Uses.{Option, refl, ap, sym, subst, append-nil, append_assoc, Poll, Ready, Pending, Answer, Gives, end, item, Consumes, Decides}
 use Rattle.lite_theorems.specs.Uses.{Fold, fold_of, consumes_steps, collects, Refused}
 use Rattle.lite_theorems.specs.Interleaving.{items_given}
 use Rattle.lite_theorems.specs.Laws.Rows.{WithoutEnd}
 
--- there is a collection, and it holds these items
+-- The Option holds a collection, and that holds these items.
 abbrev pub Has : {C A : Type 0} → (C → List A → Type 0) → Option C → List A → Type 0
 Has {C} holds o l = (c : C) × (o ≡ Some c) × holds c l
 
--- a collection that is there, as a contract says it
+-- A collection that the Option holds, as a contract says it.
 pub has : {C A : Type 0} (holds : C → List A → Type 0) (o : Option C) (l : List A) → IsSome o
     → IfSome o (λ c. holds c l) → Has holds o l
 has holds None l s h = cc
 has holds (Some c) l s h = (c, refl, h)
 
--- the one that is there
+-- The collection that the Option holds.
 pub held_by : {C A : Type 0} (holds : C → List A → Type 0) (o : Option C) (l : List A) (c : C) → Has holds o l
     → o ≡ Some c
     → holds c l
 held_by holds o l c h e = let same : c ≡ h.0 = cc h.1 in rw same h.2
 
 module _ {N C A : Type 0} (may_refuse : C → A → Type 0) (holds : C → List A → Type 0) (part : N → Option C) where
-  -- the value of a collection: it, or a refusal
+  -- The value of `collect`: the collection, or an allocation failure.
   abbrev CollectResult : Type 0
   CollectResult = Result C (Refused C A)
 
-  -- the fold that collects, of a folder that holds the collection in a part of it
+  -- The fold of `collect`, over a state that has the collection as a part.
   abbrev Gathering : Fold N A CollectResult
   Gathering = fold_of part (collects may_refuse holds)
 
-  -- the stream's answers: items and Pendings, of which the collection holds the items behind those before, and then an
-  -- end
+  -- The stream returned items and `Pending`s and then the end. The collection holds what it held before and then these
+  -- items.
   pub record Whole (ins : List (Answer A)) (before : List A) (c : C) : Type 0 where
     pub body : List (Answer A)
     pub cut : ins ≡ body ++ end ∷ []

@@ -1,4 +1,4 @@
--- A reader over another, which hands on what that one reads: each byte as what is made of it, each other mark as it is.
+-- Laws of a reader over another reader, which changes the bytes and passes on everything else.
 use Rattle.std.specs.Prelude.{◌≡◌, ◌≤◌, ℕ, List, [], ◌∷◌, ◌++◌, length, map}
 use Rattle.lite_theorems.specs.Uses.{◌∙◌, take, drop, refl, ap, sym, subst, arith, length-append, length-drop, length-take-le, take-append_seam, length-map}
 use Rattle.lite_theorems.specs.Uses.{map-append, Ranks, ranks_of, Runs, ReadCounting, Falls, AllGiven, ReadMark, bytes, given, moved, MarkLaws}
@@ -29,7 +29,7 @@ all_given f (ReadMark.end ∷ l) h = absurd h.0
 all_given f (_ ∷ l) h = (tt, all_given f l h.1)
 
 module _ {M R : Type 0} {part : M → R} {f : ℕ → ℕ} {reads : Runs ReadMark R} {r : Ranks R} where
-  -- the rank of the part
+  -- Its rank is that of the inner reader.
   pub handing_counting : ReadCounting reads r → ReadCounting (HandsOn part f reads) (ranks_of part r)
   handing_counting c =
       record {
@@ -49,7 +49,7 @@ made_bytes : (f : ℕ → ℕ) (xs : List ℕ) → bytes (map f xs) ≡ map (eac
 made_bytes f [] = refl
 made_bytes f (x ∷ xs) = rw (made_bytes f xs)
 
--- the marks of a read whose bytes were changed where they lie, whatever else stands in the room
+-- The marks of a read whose bytes were changed in place, whatever else is in the buffer.
 pub handed_moved : (f : ℕ → ℕ) (xs room other : List ℕ) → length other ≡ length room
     → moved other (map f xs) ≡ map (each_byte f) (moved room xs)
 handed_moved f (x ∷ xs) room other same = made_bytes f (x ∷ xs)
@@ -57,7 +57,7 @@ handed_moved f [] [] [] same = refl
 handed_moved f [] (r ∷ room) (o ∷ other) same = refl
 handed_moved f [] _ _ same = absurd (omega (arith, same))
 
--- a read of what the part read, of which the bytes that came were changed where they lie
+-- A read of the inner reader, after which the bytes that it read were changed in place.
 module _ {M R : Type 0} (part : M → R) (f : ℕ → ℕ) (reads : Runs ReadMark R) (x y : M) (buf out : List ℕ) (n : ℕ) where
   pub hands_read : reads (part x) (moved buf (take n buf)) (part y) → n ≤ length buf → out ≡ map f (take n buf)
       → HandsOn part f reads x (moved (out ++ drop n buf) (take n (out ++ drop n buf))) y

@@ -1,4 +1,4 @@
--- Where `collect` of `or` gives Ok, the collection has taken in all that the two streams had.
+-- Laws of `collect` of `or`: if it returns `Ok`, the collection holds all items of the two streams.
 use Rattle.std.specs.Prelude.{◌≡◌, List, [], Result}
 use Rattle.lite_theorems.specs.Uses.{AtEachOk, subst, Poll, Answer, Runs, Folds, fold_of, Consume, collects, Collect, Refused, Ors, Or}
 use Rattle.lite_theorems.specs.Interleaving.{OrHolds, items_given}
@@ -8,7 +8,7 @@ use Rattle.lite_theorems.specs.Laws.Rows.{merged_whole}
 module _ {S U C A : Type 0} (run : Runs (Answer A) S) (run' : Runs (Answer A) U)
     (stays : (x y : S) → run x [] y → y ≡ x) (stays' : (x y : U) → run' x [] y → y ≡ x)
     (may_refuse : C → A → Type 0) (holds : C → List A → Type 0) where
-  -- what the future of `collect` of `or` answers
+  -- The runs of `collect` of `or`.
   abbrev pub OrCollects : Runs (Poll (Result C (Refused C A))) (Consume (Or S U) (Collect C))
   OrCollects = Folds (Ors run run') (fold_of (λ (f : Collect C). f.collection) (collects may_refuse holds))
 

@@ -1,5 +1,5 @@
--- Where `collect` of `race` gives Ok, the collection has taken in all that the two streams had, whatever the words
--- were.
+-- Laws of `collect` of `race`: if it returns `Ok`, the collection holds all items of the two streams, whatever the
+-- random words were.
 use Rattle.std.specs.Prelude.{◌≡◌, List, [], ◌∷◌, ◌++◌, Result}
 use Rattle.lite_theorems.specs.Uses.{AtEachOk, Stream, Poll, Answer, end, Runs, Folds, fold_of, Consume, collects, Collect, Refused, Races, RacesOn, Race}
 use Rattle.lite_theorems.specs.Interleaving.{RaceHolds, items_given}
@@ -9,11 +9,11 @@ use Rattle.lite_theorems.specs.Laws.Rows.{merged_whole}
 module _ {S U R C A : Type 0} (run : Runs (Answer A) S) (run' : Runs (Answer A) U) (stream : R → Stream)
     (stays : (x y : S) → run x [] y → y ≡ x) (stays' : (x y : U) → run' x [] y → y ≡ x)
     (may_refuse : C → A → Type 0) (holds : C → List A → Type 0) where
-  -- what the future of `collect` of `race` answers
+  -- The runs of `collect` of `race`.
   abbrev pub RaceCollects : Runs (Poll (Result C (Refused C A))) (Consume (Race S U R) (Collect C))
   RaceCollects = Folds (RacesOn run run' stream) (fold_of (λ (f : Collect C). f.collection) (collects may_refuse holds))
 
-  -- with an answer it drew words
+  -- If it returned a result, it drew words.
   raced : (x y : Race S U R) (body : List (Answer A)) → RacesOn run run' stream x (body ++ end ∷ []) y
       → Races run run' stream x (body ++ end ∷ []) y
   raced x y [] h = h

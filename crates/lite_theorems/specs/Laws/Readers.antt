@@ -1,11 +1,11 @@
--- A reader by steps: each mark is a step, in the run `Steps step`.
+-- Laws of a reader that is specified by a step.
 use Rattle.std.specs.Prelude.{◌<◌, ◌≤◌, ℕ, List, [], ◌∷◌}
 use Rattle.std.proofs.Common.{◌+◌}
 use Rattle.lite_theorems.specs.Uses.{arith, Below-one, at_most_one, number_ranks, ReadCounting, number_counting, Falls, falls_at_most, falls_of_below}
 use Rattle.lite_theorems.specs.Uses.{steps_laws, ReadMark, given, MarkLaws, Steps}
 use Rattle.lite_theorems.specs.Readers.{MarksLower}
 
--- `step` is what one mark may leave
+-- `step` says which value one mark may leave.
 module _ {S : Type 0} (step : S → ReadMark → S → Type 0) where
   pub reader_by_steps : MarkLaws (Steps step)
   reader_by_steps = steps_laws step
@@ -28,6 +28,6 @@ module _ {S : Type 0} {step : S → ReadMark → S → Type 0} {number : S → �
       falls_more (given l) (number y) (number h.0) n (falls_from low h.0 y (number h.0) l (omega arith) h.2)
       (omega (arith, low.by_fault x h.0 kind h.1, least))
 
-  -- the rank is the number
+  -- The number is a rank.
   pub reader_counting : MarksLower step number → ReadCounting (Steps step) (number_ranks number)
   reader_counting low = number_counting (λ x y l. falls_from low x y (number x) l (omega arith))

@@ -1,4 +1,4 @@
--- A reader by steps that reads many bytes at once, of those that are left: each is one step.
+-- Laws of a reader that is specified by a step and reads many bytes at once.
 use Rattle.std.specs.Prelude.{◌≡◌, ◌<◌, ◌≤◌, ℕ, zero, suc, List, [], ◌∷◌, ◌++◌, length}
 use Rattle.lite_theorems.specs.Uses.{◌∙◌, min, take, drop, refl, sym, ap, subst, arith, length-take-le, slice_set, take-append-drop, common_steps, ReadMark}
 use Rattle.lite_theorems.specs.Uses.{bytes, moved, Steps}
@@ -31,13 +31,13 @@ module _ {S : Type 0} {step : S → ReadMark → S → Type 0} {left : S → Lis
       (reads_front x (suc n) (omega (arith, ap length e)))
   reads_at x _ [] n e is = let none : n ≡ 0 = omega arith in rw none (reads.none x)
 
-  -- a read that copies as many as are left, and as there is room for
+  -- A read that copies as many bytes as are left, or as the buffer has room for.
   pub reads_into : (x : S) (buf : List ℕ) (n : ℕ) → n ≡ min (length (left x)) (length buf)
       → take n buf ≡ take n (left x)
       → Steps step x (moved buf (take n buf)) (further x n)
   reads_into x buf n few same = rw same (reads_at x (left x) buf n refl few)
 
--- the number of the bytes that are to come falls with each
+-- The number of the bytes that are to come falls with each byte.
 pub front_lowers : {S : Type 0} (left : S → List ℕ) (on : S → ℕ → S)
     → MarksLower (FrontStep left on) (λ x. length (left x))
 front_lowers left on =
@@ -60,16 +60,16 @@ module _ {S : Type 0} {left : S → List ℕ} {on : S → ℕ → S} where
         by_end = λ x e. (e, refl);
       }
 
-  -- a read of the first bytes that are to come, as many as there are and as there is room for
+  -- A read of the first bytes that are to come, as many as there are and as the buffer has room for.
   pub front_read : (x y : S) (buf : List ℕ) (n : ℕ) → FrontLaws left on → n ≡ min (length (left x)) (length buf)
       → take n buf ≡ take n (left x) → y ≡ on x n
       → Steps (FrontStep left on) x (moved buf (take n buf)) y
   front_read x y buf n laws few same is = rw is (reads_into (front_reads laws) x buf n few same)
 
--- such a read, with what a buffer has after its first bytes were put in
+-- Such a read, with what a buffer has after its first bytes were stored.
 pub ruleset front_rules = (front_read, common_steps)
 
--- a read of one byte, which is stored at the front
+-- A read of one byte, which is stored at the front of the buffer.
 pub reads_one : {S : Type 0} (step : S → ReadMark → S → Type 0) (x y : S) (b : ℕ) (buf : List ℕ) → 0 < length buf
     → step x (ReadMark.byte b) y
     → Steps step x (moved (slice_set buf 0 b) (take 1 (slice_set buf 0 b))) y

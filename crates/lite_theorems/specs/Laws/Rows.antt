@@ -1,38 +1,39 @@
--- The items that go out of rows are an interleaving of those of the two lists.
+-- Laws of two streams that are merged: the items yielded are an interleaving of those of the two lists.
 use Rattle.std.specs.Prelude.{◌⊎◌, ⊤, true, false, Some, None, ◌≡◌, Bool, List, [], ◌∷◌, ◌++◌, map}
 use Rattle.lite_theorems.specs.Uses.{◌∙◌, inl, inr, refl, ap, sym, subst, Ready, Pending, Answer, end, strip, until_end, Runs, MergeRow, MergeRows, Merges}
 use Rattle.lite_theorems.specs.Uses.{beside_pending, AllEnds, FusesOn, Fuse}
 use Rattle.lite_theorems.specs.Interleaving.{EndsWith, GivesRest, Interleaves, items_given}
 
 module _ {A : Type 0} where
-  -- an answer is an end
+  -- A result is the end of the stream.
   abbrev pub HasEnd : List (Answer A) → Type 0
   HasEnd [] = ⊥
   HasEnd (Pending ∷ l) = HasEnd l
   HasEnd (Ready None ∷ l) = ⊤
   HasEnd (Ready (Some x) ∷ l) = HasEnd l
 
-  -- no answer is an end
+  -- No result is the end of the stream.
   abbrev pub WithoutEnd : List (Answer A) → Type 0
   WithoutEnd [] = ⊤
   WithoutEnd (Pending ∷ l) = WithoutEnd l
   WithoutEnd (Ready None ∷ l) = ⊥
   WithoutEnd (Ready (Some x) ∷ l) = WithoutEnd l
 
-  -- after an end there are ends alone
+  -- After the first end of the stream, every result is the end of the stream.
   abbrev EndsForEver : List (Answer A) → Type 0
   EndsForEver [] = ⊤
   EndsForEver (Pending ∷ l) = EndsForEver l
   EndsForEver (Ready None ∷ l) = AllEnds l
   EndsForEver (Ready (Some x) ∷ l) = EndsForEver l
 
-  -- what goes out is the next item of one of the two, and an end where neither has one
+  -- The result is the next item of one of the two lists, or it is the end of the stream and neither list has one, or it
+  -- is `Pending`.
   abbrev Taken : Answer A → (l m l' m' : List A) → Type 0
   Taken Pending l m l' m' = (l ≡ l') × (m ≡ m')
   Taken (Ready None) l m l' m' = (l ≡ []) × (m ≡ [])
   Taken (Ready (Some x)) l m l' m' = ((l ≡ x ∷ l') × (m ≡ m')) ⊎ ((l ≡ l') × (m ≡ x ∷ m'))
 
-  -- of a row: what is left of lists that end for ever are such lists, and what was read went out
+  -- One row of lists that end forever: what is left of them are such lists, and the result is what was read.
   record ReadOn (c : Answer A) (i j i' j' : List (Answer A)) : Type 0 where
     pub first_on : EndsForEver i'
     pub second_on : EndsForEver j'
@@ -45,7 +46,7 @@ module _ {A : Type 0} where
   ends_for_ever (Ready None ∷ l) a = (a.1, refl)
   ends_for_ever (_ ∷ l) a = cc
 
-  -- the first has ended
+  -- The first list has ended.
   row_second : (i j : List (Answer A)) (b : Answer A) → AllEnds i → EndsForEver (b ∷ j) → ReadOn b (end ∷ i) (b ∷ j) i j
   row_second i j Pending a k =
       let e = ends_for_ever i a in
@@ -63,7 +64,7 @@ module _ {A : Type 0} where
       let e = ends_for_ever i a in
       record { first_on = e.0; second_on = k; taken = inr (sym e.1, refl); first_end = λ h. tt; second_end = λ h. h }
 
-  -- the first is pending
+  -- The first list is pending.
   row_beside : (i j : List (Answer A)) (b : Answer A) → EndsForEver i → EndsForEver (b ∷ j)
       → ReadOn (beside_pending b) (Pending ∷ i) (b ∷ j) i j
   row_beside i j Pending p q =
@@ -100,7 +101,7 @@ module _ {A : Type 0} where
   row_on (Pending ∷ i) (b ∷ j) c i' j' r p q = rw (r.0, r.1, r.2) (row_beside i j b p q)
   row_on _ _ c i' j' h p q = absurd h
 
-  -- an end goes out where both gave one
+  -- The result is the end of the stream if both lists have it.
   row_end : (i j i' j' : List (Answer A)) → MergeRow i j end i' j' → HasEnd i × HasEnd j
   row_end (Ready None ∷ i) (Ready None ∷ j) i' j' r = (tt, tt)
   row_end (Ready (Some x) ∷ i) j i' j' r = cc
@@ -113,7 +114,7 @@ module _ {A : Type 0} where
   taken_swapped (Ready (Some x)) l m l' m' (inr (e, f)) = inl (f, e)
   taken_swapped _ l m l' m' t = (t.1, t.0)
 
-  -- what went out stands before an interleaving of what is left
+  -- A result comes before an interleaving of what is left.
   interleaves_on : (c : Answer A) (l m l' m' : List A) (body : List (Answer A)) → WithoutEnd (c ∷ body)
       → Taken c l m l' m'
       → Interleaves l' m' (items_given body) → Interleaves l m (items_given (c ∷ body))
@@ -128,7 +129,8 @@ module _ {A : Type 0} where
   no_end_on (Ready None) body n = absurd n
   no_end_on _ body n = n
 
-  -- of rows whose one end stands last
+  -- Rows of which only the last is the end of the stream: both lists have ended, and the items are an interleaving of
+  -- theirs.
   record Merged (i j body : List (Answer A)) : Type 0 where
     pub first_end : HasEnd i
     pub second_end : HasEnd j
@@ -165,13 +167,13 @@ module _ {A : Type 0} where
         interleaved = interleaves_on b _ _ (items_given r.0) (items_given r.1) body n taken rest.interleaved;
       }
 
-  -- before a first end
+  -- A list before a first end of the stream.
   open_list : (l : List (Answer A)) → until_end l ≡ l → EndsForEver l × (HasEnd l → ⊥)
   open_list [] u = (tt, λ h. h)
   open_list (Ready None ∷ l) u = cc
   open_list (_ ∷ l) u = open_list l (cc u)
 
-  -- through a first end, and ends after it
+  -- A list through a first end of the stream, and ends after it.
   ended_list : (own later : List (Answer A)) → until_end own ≡ own → AllEnds later
       → EndsForEver (own ++ end ∷ later) × (strip own ≡ map Some (items_given (own ++ end ∷ later)))
   ended_list [] later u a = (a, refl)
@@ -179,7 +181,7 @@ module _ {A : Type 0} where
   ended_list (Ready None ∷ own) later u a = cc
   ended_list (Ready (Some x) ∷ own) later u a = let e = ended_list own later (cc u) a in (e.0, ap (λ k. Some x ∷ k) e.1)
 
-  -- a fused list ends for ever, and where it ends, what came in are its items and then an end
+  -- A list of a fused stream ends forever. If it ends, the stream yielded its items and then ended.
   fused_list : (i l : List (Answer A)) (g : Bool) → FusesOn false i l g → EndsForEver l
       × (HasEnd l → (own : List (Answer A)) × (i ≡ own ++ end ∷ []) × (strip own ≡ map Some (items_given l)))
   fused_list i l false h =
@@ -188,7 +190,7 @@ module _ {A : Type 0} where
       let e = ended_list h.0 h.1 h.3 h.5 in
       (subst EndsForEver (sym h.4) e.0, λ d. (h.0, h.2, e.1 ∙ ap (λ k. map Some (items_given k)) (sym h.4)))
 
--- a list of a fused stream ends for ever, and where it ends, its items are all that the stream had
+-- A list of a fused stream ends forever. If it ends, its items are all that the stream had.
 fused_rest : {S A : Type 0} (run : Runs (Answer A) S) → ((x y : S) → run x [] y → y ≡ x)
     → (g : Bool) (s t : S) (i l : List (Answer A))
     → (d : Bool) → run s i t → FusesOn g i l d → EndsForEver l × (HasEnd l → EndsWith run g s (items_given l) t)
@@ -200,7 +202,7 @@ fused_rest run stays false s t i l d came h =
 
 module _ {S U A : Type 0} (run : Runs (Answer A) S) (run' : Runs (Answer A) U)
     (stays : (x y : S) → run x [] y → y ≡ x) (stays' : (x y : U) → run' x [] y → y ≡ x) where
-  -- of answers that end once: both streams gave all that they had, and what went out is an interleaving
+  -- If the results end once, both streams yielded all that they had, and the results are an interleaving.
   pub merged_whole : {o : List Bool} {s : Fuse S} {u : Fuse U} (body : List (Answer A)) {t : Fuse S} {v : Fuse U}
       → WithoutEnd body
       → Merges run run' o s u (body ++ end ∷ []) t v

@@ -1,11 +1,11 @@
--- A stream by steps: each poll is a step, in the run `FoldsTo step`.
+-- Laws of a stream that is specified by a step.
 use Rattle.std.specs.Prelude.{◌≤◌, ℕ, List, [], ◌∷◌, Some, None}
 use Rattle.lite_theorems.specs.Uses.{FoldsTo, arith, refl, sym, Ready, Pending, Answer, before_end, Below-one, Lowers-at_most, at_most_one, folds_follow}
 use Rattle.lite_theorems.specs.Uses.{same_hint, Lowers, Counting, number_ranks, RunLaws, StreamLaws, laws_of, NoHint}
 use Rattle.lite_base.specs.Laws.Ranks.{number_counting}
 use Rattle.lite_theorems.specs.Streams.{HintsAt, ItemsLower}
 
--- `step` is what one poll may answer and leave
+-- `step` says what one poll may return, and which value it leaves.
 module _ {S A : Type 0} (step : S → Answer A → S → Type 0) where
   folds_runs : RunLaws (FoldsTo step)
   folds_runs = record { rests = λ x. refl; stays = λ x y h. sym h; follows = folds_follow step }
@@ -25,7 +25,7 @@ module _ {S A : Type 0} {step : S → Answer A → S → Type 0} {number : S →
       Below-one (Lowers-at_most l _ _ (lowers_from low h.0 y (number h.0) l (omega arith) h.2))
       (omega (arith, low.by_item x h.0 a h.1, least))
 
-  -- the rank is the number
+  -- The number is a rank.
   pub stream_counting : ItemsLower step number → Counting (FoldsTo step) (number_ranks number)
   stream_counting low = number_counting (λ x y l. lowers_from low x y (number x) l (omega arith))
 
@@ -34,7 +34,7 @@ module _ {S A : Type 0} {step : S → Answer A → S → Type 0} {number : S →
   fewer_left low x y (Ready (Some a) ∷ l) h = omega (arith, low.by_item x h.0 a h.1, fewer_left low h.0 y l h.2)
   fewer_left low x y _ h = omega arith
 
-  -- the number as the hint
+  -- The number is a size hint.
   pub stream_hinting : ItemsLower step number → StreamLaws (FoldsTo step) (HintsAt number)
   stream_hinting low =
       laws_of (folds_runs step)

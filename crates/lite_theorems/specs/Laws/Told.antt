@@ -1,14 +1,14 @@
--- What a reader tells, call after call, pendings aside.
+-- Laws of what a reader produces in one call after another, without the `Pending`s.
 use Rattle.std.specs.Prelude.{◌≡◌, List, [], ◌++◌}
 use Rattle.lite_theorems.specs.Uses.{refl, Runs, strip_marks-append, ReadMark, MarkLaws}
 use Rattle.lite_theorems.specs.Told.{ToldStripped}
 
 module _ {R : Type 0} {reads : Runs ReadMark R} (laws : MarkLaws reads) where
-  -- with no call nothing is told
+  -- Without a call nothing is produced.
   pub told_none : (x : R) → ToldStripped reads x [] x
   told_none x = ([], laws.rests x, refl)
 
-  -- what is told follows
+  -- What is produced follows what was produced before.
   pub told_follow : (x y z : R) (l m : List ReadMark) → ToldStripped reads x l y → ToldStripped reads y m z
       → ToldStripped reads x (l ++ m) z
   told_follow x y z l m h k =

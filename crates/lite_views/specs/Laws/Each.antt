@@ -1,4 +1,4 @@
--- Each item that comes out has a fact, where each that goes in has one: a lemma for each family of adapters.
+-- Each item that an adapter yields has a fact, if each item of its source has one: a lemma for each family of adapters.
 use Rattle.std.specs.Prelude.{◌≡◌, ℕ, List, [], ◌∷◌, ◌++◌, map, refl, ⊤, Bool, true, false, Option, Some, None}
 use Rattle.lite_views.specs.Uses.{zero, suc, inl, inr, CalledAt, Mut, Bor, Poll, Ready, Pending, Answer, Gives, Waiting, end, item, Accepts, Always, Finishes}
 use Rattle.lite_views.specs.Uses.{handed, Question, Runs, Cuts, AllEnds, FusesOn, Exchanges, Replaces, leaves_steps, LeavesOut, Joins, is_done, second_after}
@@ -34,7 +34,7 @@ module _ {A : Type 0} (P : A → Type 0) where
   each_end [] h = tt
   each_end (b ∷ l) h = rw h.0 (each_end l h.1)
 
--- of each item nothing
+-- Of each item nothing is said.
 pub each_any : {A : Type 0} (l : List (Answer A)) → EachItem (λ (x : A). ⊤) l
 each_any [] = tt
 each_any (Ready (Some x) ∷ l) = (tt, each_any l)
@@ -42,7 +42,7 @@ each_any (_ ∷ l) = each_any l
 
 module _ {F A B : Type 0} (call : Question F A (Option B)) (P : A → Type 0) (Q : B → Type 0)
     (answers : (p q : F) (x : A) (y : B) → P x → call p x (Some y) q → Q y) where
-  -- take_while, map_while, scan
+  -- `take_while`, `map_while` and `scan`.
   pub each_exchanged : (f g : F) (i : List (Answer A)) (o : List (Answer B)) → EachItem P i → Exchanges call f i o g
       → EachItem Q o
   each_exchanged f g [] (b ∷ o) e h = absurd h
@@ -53,34 +53,34 @@ module _ {F A B : Type 0} (call : Question F A (Option B)) (P : A → Type 0) (Q
   each_exchanged f g (_ ∷ i) (b ∷ o) e h = rw h.0 (each_exchanged f g i o e h.1)
   each_exchanged f g _ [] e h = tt
 
-  -- filter, filter_map, skip, skip_while
+  -- `filter`, `filter_map`, `skip` and `skip_while`.
   pub each_left : (f g : F) (i : List (Answer A)) (o : List (Answer B)) → EachItem P i → LeavesOut call f i o g
       → EachItem Q o
   each_left f g i o e h =
       leaves_steps call (λ p i o. EachItem P i → EachItem Q o) (λ p m x i b o t k e. k e.1) (λ p i o k. k)
       (λ p i o k. k) (λ p m x i y o t k e. (answers p m x y e.0 t, k e.1)) f g i o (λ e. tt) h e
 
--- the same, where the calls alone say it
+-- The same, if the calls alone show the fact.
 pub each_kept : {F A B : Type 0} (call : Question F A (Option B)) (Q : B → Type 0)
     → ((p q : F) (x : A) (y : B) → call p x (Some y) q → Q y)
     → (f g : F) (i : List (Answer A)) (o : List (Answer B)) → LeavesOut call f i o g → EachItem Q o
 each_kept call Q answers f g i o =
     each_left call (λ x. ⊤) Q (λ p q x y any. answers p q x y) f g i o (each_any i)
 
--- filter: what its closure accepts
+-- `filter`: what its closure accepts.
 pub each_accepted : {F A : Type 0} (g : Mut F (Bor A × Unit {0}) Bool) (P Q : A → Type 0)
     → ((p q : F) (x : A) → P x → CalledAt g p x true q → Q x)
     → (f h : F) (i o : List (Answer A)) → EachItem P i → LeavesOut (Accepts (CalledAt g)) f i o h → EachItem Q o
 each_accepted g P Q accepts =
     each_left (Accepts (CalledAt g)) P Q (λ p q x y has called. rw called.0 (accepts p q x has called.1))
 
--- map, enumerate, inspect, copied
+-- `map`, `enumerate`, `inspect` and `copied`.
 pub each_replaced : {F A B : Type 0} (call : Question F A B) (P : A → Type 0) (Q : B → Type 0)
     → ((p q : F) (x : A) (y : B) → P x → call p x y q → Q y)
     → (f g : F) (i : List (Answer A)) (o : List (Answer B)) → EachItem P i → Replaces call f i o g → EachItem Q o
 each_replaced call P Q = each_exchanged (Always call) P Q
 
--- take
+-- `take`.
 module _ {F A : Type 0} (is_over : F → Type 0) (after : Answer A → F → F) (P : A → Type 0) where
   pub each_cut : (f g : F) (i o : List (Answer A)) → EachItem P i → Cuts is_over after f i o g → EachItem P o
   each_cut f g i [] e h = tt
@@ -90,7 +90,7 @@ module _ {F A : Type 0} (is_over : F → Type 0) (after : Answer A → F → F) 
       let here = rw h.2 at e in
       each_cons P b h.1 o here (each_cut (after b f) g h.1 o (each_tail P b h.1 here) h.3)
 
--- fuse
+-- `fuse`.
 module _ {A : Type 0} (P : A → Type 0) where
   pub each_fused : (p q : Bool) (i o : List (Answer A)) → EachItem P i → FusesOn p i o q → EachItem P o
   each_fused true q i o e h = each_end P o h.1
@@ -99,7 +99,7 @@ module _ {A : Type 0} (P : A → Type 0) where
       let own = each_front P h.0 (end ∷ []) (rw h.2 at e) in
       rw h.4 (each_join P h.0 (end ∷ h.1) own (each_end P h.1 h.5))
 
-  -- chain
+  -- `chain`.
   pub each_joined : (p q : Part) (i j o : List (Answer A)) → EachItem P i → EachItem P j → Joins p i j o q
       → EachItem P o
   each_joined First q i j o e d (inl h) = rw h.2 e
@@ -110,7 +110,7 @@ module _ {A : Type 0} (P : A → Type 0) where
   each_joined Second q i j o e d h = each_cut is_done second_after P Second q j o d h.1
   each_joined Done q i j o e d h = each_cut is_done second_after P Done q j o d h.1
 
--- flatten, flat_map: R holds of each stream that comes in, and a stream of which it holds gives items with the fact
+-- `flatten` and `flat_map`: `R` holds of each inner stream, and a stream of which it holds yields items with the fact.
 module _ {B A : Type 0} (run : Runs (Answer A) B) (R : B → Type 0) (P : A → Type 0)
     (gives : (b c : B) (l : List (Answer A)) → R b → run b l c → EachItem P l) where
   pub each_flat : (i : List (Answer B)) (o : List (Answer A)) (last : Option B) → EachItem R i → Flat run i o last
@@ -123,7 +123,7 @@ module _ {B A : Type 0} (run : Runs (Answer A) B) (R : B → Type 0) (P : A → 
   each_flat (_ ∷ i) (a ∷ o) last e h = rw h.0 (each_flat i o last e h.1)
   each_flat _ [] last e h = tt
 
--- then, cloned: what is made of an item with the one fact gives items with the other
+-- `then` and `cloned`: what is made of an item with the one fact yields items with the other.
 module _ {F A V B : Type 0} (call : Question F A V) (gives : V → List (Answer B) → Option V → Type 0) (P : A → Type 0)
     (Q : B → Type 0)
     (made : (p q : F) (x : A) (v : V) (l : List (Answer B)) (left : Option V) → P x → call p x v q → gives v l left
@@ -139,7 +139,7 @@ module _ {F A V B : Type 0} (call : Question F A V) (gives : V → List (Answer 
   each_expanding f g (_ ∷ i) (b ∷ o) last e h = rw h.0 (each_expanding f g i o last e h.1)
   each_expanding f g _ [] last e h = tt
 
--- a future that is held hands out pendings and then its value, which has the fact
+-- A future that is held returns `Pending`s and then its value, which has the fact.
 module _ {V B : Type 0} (run : Runs (Poll B) V) (R : V → Type 0) (Q : B → Type 0)
     (finishes : (v : V) (ins : List (Poll B)) (y : B) → R v → Finishes run v ins y → Q y) where
   each_waiting : (ins : List (Poll B)) → Waiting ins → EachItem Q (map (handed Some) ins)
@@ -158,7 +158,7 @@ module _ {V B : Type 0} (run : Runs (Poll B) V) (R : V → Type 0) (Q : B → Ty
       rw h.joined (each_join Q (map (handed Some) h.ins) h.after own (rw h.later tt))
   each_handed v o (Some w) r h = rw h.3 (each_waiting h.0 h.1)
 
--- or, race
+-- `or` and `race`.
 module _ {A : Type 0} (P : A → Type 0) where
   pub each_row : (i j : List (Answer A)) (c : Answer A) (i' j' : List (Answer A)) → EachItem P i → EachItem P j
       → MergeRow i j c i' j' → EachItem P (c ∷ []) × EachItem P i' × EachItem P j'
@@ -180,12 +180,12 @@ module _ {A : Type 0} (P : A → Type 0) where
       let row = each_row j i c h.1 h.0 d e h.2 in
       each_cons P c [] o row.0 (each_merged order h.0 h.1 o row.2 row.1 h.3)
 
-  -- Pendings have no items
+  -- `Pending`s have no items.
   pendings_each : (n : ℕ) (l : List (Answer A)) → EachItem P (pendings n l) ≡ EachItem P l
   pendings_each zero l = refl
   pendings_each (suc n) l = pendings_each n l
 
--- zip: a fact of each item of the first and one of each of the second
+-- `zip`: a fact of each item of the first stream, and one of each item of the second.
 module _ {A B : Type 0} (P : A → Type 0) (Q : B → Type 0) where
   pub each_paired : (i : List (Answer A)) (j : List (Answer B)) (o : List (Answer (A × B))) (last : Option A)
       → EachItem P i → EachItem Q j → Pairs i j o last → EachItem (λ z. P z.0 × Q z.1) o

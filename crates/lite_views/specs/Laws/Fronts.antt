@@ -1,4 +1,4 @@
--- Laws of what stands first in a list.
+-- Laws of prefixes of lists.
 use Rattle.std.specs.Prelude.{ℕ, List, [], ◌∷◌, map, refl, Bool}
 use Rattle.std.proofs.Common.{◌≤◌}
 use Rattle.lite_views.specs.Uses.{map-append, zero, suc, ◌∙◌, length, take, ap, arith, filter, filter-append}
@@ -11,7 +11,7 @@ pub front_filter : {A : Type 0} (test : A → Bool) (xs ys : List A) → Front x
     → Front (filter test xs) (filter test ys)
 front_filter test xs ys h = (filter test h.0, ap (filter test) h.1 ∙ filter-append test xs h.0)
 
--- what is no longer than n stands first in the first n
+-- A prefix that is no longer than `n` is a prefix of the first `n` elements.
 pub front_take : {A : Type 0} (n : ℕ) (xs ys : List A) → length xs ≤ n → Front xs ys → Front xs (take n ys)
 front_take n [] ys short h = (take n ys, refl)
 front_take zero (x ∷ xs) ys short h = absurd (omega (arith, short))

@@ -1,4 +1,4 @@
--- Which items come out: each adapter of a function of its own has a plain function of lists.
+-- Which items adapters yield, as plain functions of the source's items.
 use Rattle.std.specs.Prelude.{◌≡◌, ℕ, List, [], ◌∷◌, map, refl, Bool, true, false, Option, Some, None, Result, Ok, Err, IfOk}
 use Rattle.std.proofs.Common.{◌≤◌, ◌-◌}
 use Rattle.lite_views.specs.Uses.{suc, length, take, ap, inl, inr, arith, filter, Ready, Pending, Answer, end, item, items, Always, Question, Cuts, items_in}
@@ -6,7 +6,7 @@ use Rattle.lite_views.specs.Uses.{exchanges_steps, Replaces, is_none_left, left_
 use Rattle.lite_views.specs.Fronts.{Front}
 use Rattle.lite_views.specs.Laws.Fronts.{front_filter, front_map, front_take}
 
--- map: as many answers, the items by the function
+-- `map`: as many results, with the function applied to the items.
 module _ {F A B : Type 0} (call : Question F A B) where
   pub replaced_length : (p q : F) (i : List (Answer A)) (o : List (Answer B)) → Replaces call p i o q
       → length i ≡ length o
@@ -29,7 +29,7 @@ module _ {F A B : Type 0} (call : Question F A B) where
     replaced_front p q xs i o came h =
         rw (replaced_in p q i o h) (front_map f (items_in i) xs came)
 
-    -- where all answers were items
+    -- If all results were items.
     pub replaced_items : (p q : F) (xs : List A) (o : List (Answer B)) → Replaces call p (items xs) o q
         → o ≡ items (map f xs)
     replaced_items p q [] [] h = refl
@@ -38,7 +38,7 @@ module _ {F A B : Type 0} (call : Question F A B) where
         rw (same, answers p r x y called) (rw (replaced_items r q xs o more))
     replaced_items p q _ _ h = absurd h
 
--- filter: the items that the test accepts
+-- `filter`: the items that the test accepts.
 module _ {F A : Type 0} (call : Question F A (Option A)) (test : A → Bool)
     (keeps : (p q : F) (x y : A) → call p x (Some y) q → (y ≡ x) × (test x ≡ true))
     (rejects : (p q : F) (x : A) → call p x None q → test x ≡ false) where
@@ -56,7 +56,7 @@ module _ {F A : Type 0} (call : Question F A (Option A)) (test : A → Bool)
         → Front (items_in o) (filter test xs)
     left_front xs i o came h = rw (left_in i o h) (front_filter test (items_in i) xs came)
 
--- take: the items that came in, which are as many as were left to be taken at most
+-- `take`: the items of the source, as many as were left to be taken at most.
 module _ {F A : Type 0} (is_over : F → Type 0) (after : Answer A → F → F) where
   pub cut_in : (f g : F) (i o : List (Answer A)) → Cuts is_over after f i o g → items_in o ≡ items_in i
   cut_in f g i [] h = cc
@@ -80,7 +80,7 @@ pub cut_front : {A : Type 0} (n m : ℕ) (xs : List A) (i o : List (Answer A))
 cut_front n m xs i o came h =
     front_take n (items_in o) xs (taken_length n m i o h) (rw (cut_in is_none_left left_after n m i o h) came)
 
--- what a call that went well says, said otherwise
+-- What a successful call says, in other words.
 pub on_ok : {A E P Q : Type 0} (r : Result A E) → (P → Q) → IfOk r (λ _. P) → IfOk r (λ _. Q)
 on_ok (Ok x) to h = to h
 on_ok (Err e) to h = tt

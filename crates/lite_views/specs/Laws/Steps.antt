@@ -1,9 +1,9 @@
--- What values by steps give: the value of a future, and the items of a stream.
+-- What streams and futures yield that are specified by a step.
 use Rattle.std.specs.Prelude.{◌≡◌, List, [], ◌∷◌, Some, None, refl, Ok, Err}
 use Rattle.lite_views.specs.Uses.{subst, sym, FoldsTo, Poll, Ready, Pending, Answer, Gives, UpToValue, end, item}
 use Rattle.lite_views.specs.Views.{Fits, Lists, Seen, ValueHolds, Waited}
 
--- a future: P of what it is and of the value that it gives holds at the answer with the value, and before each Pending
+-- A future: `P` of the future and its value holds at the result with the value, and before each `Pending`.
 module _ {F A : Type 0} (step : F → Poll A → F → Type 0) (P : F → A → Type 0)
     (waits : (x y : F) (v : A) → step x Pending y → P y v → P x v)
     (gives : (x y : F) (v : A) → step x (Ready v) y → P x v) where
@@ -17,7 +17,7 @@ module _ {F A : Type 0} (step : F → Poll A → F → Type 0) (P : F → A → 
   value_by_steps x (Ok v) w = (tt, value_from x w.1.last w.0 v w.1.gives w.1.came.1)
   value_by_steps x (Err e) w = (tt, tt)
 
--- a stream: `left` are the items that are to come, of which a step gives the first, or ends where there is none
+-- A stream: `left` is the items that are to come. A step yields the first of them, or ends the stream if there is none.
 module _ {S A : Type 0} (step : S → Answer A → S → Type 0) (left : S → List A)
     (waits : (x y : S) → step x Pending y → left y ≡ left x)
     (gives : (x y : S) (a : A) → step x (item a) y → left x ≡ a ∷ left y)

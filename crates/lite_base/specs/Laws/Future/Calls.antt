@@ -23,12 +23,12 @@ module _ {F A : Type 0} (g : Poller F A) where
         once = λ x y l h. up_to_once l h.0;
       }
 
-  -- by what its answers are, a function is its own source
+  -- A closure is its own source: its results say which closures are alike.
   pub polled_steady : FutureSteadyLaws (λ (x : PollFn F) (l : List (Poll A)) (y : PollFn F). Polled g x.f l y.f)
       (λ x l y. Polled g x.f l y.f) ⊤ (Alike (λ x l y. Polled g x.f l y.f))
   polled_steady = future_steady_always polled_laws (λ x y e. e)
 
-  -- it is so on
+  -- A closure that never returns `Pending` never does after calls either.
   pub never_pends_on : (f q : F) (l : List (Poll A)) → NeverPends g f → FoldsTo (CallAnswers g) f l q → NeverPends g q
   never_pends_on f q l k h = record {
     at = λ m p d. no_pending_back l m (k.at _ p (folds_follow _ f q p l m h d));
@@ -38,12 +38,12 @@ module _ {F A : Type 0} (g : Poller F A) where
       (λ x. NeverPends g x.f)
   polled_calm = calm_both (λ x y l k h. (k.at l y.f h.1, never_pends_on x.f y.f l k h.1))
 
-  -- after a call whose answer goes on, it still obeys
+  -- A closure obeys after a call too, if its result may come before those that meet `On`.
   pub obeys_on : (On : List (Poll A) → Type 0) (f q : F) (a : Poll A) → ((l : List (Poll A)) → On l → On (a ∷ l))
       → AlwaysObeys g On f → CallAnswers g f a q → AlwaysObeys g On q
   obeys_on On f q a more h c = record { at = λ l p w d. h.at _ p (more l w) (q, c, d) }
 
-  -- until its value
+  -- A closure that obeys until its value obeys after a call that returned no value.
   pub obeys_until : (f q : F) (a : Poll A) → AlwaysObeys g Waiting f → CallAnswers g f a q
       → OnPending a (AlwaysObeys g Waiting q)
   obeys_until f q Pending h c = obeys_on Waiting f q Pending (λ l w. w) h c

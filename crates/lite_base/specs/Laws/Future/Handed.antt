@@ -1,4 +1,4 @@
--- Laws of what a stream answers that polls a future.
+-- Laws of what a stream yields that polls a future.
 use Rattle.std.specs.Prelude.{◌≡◌, List, [], ◌∷◌, ◌++◌, map, Option}
 use Rattle.lite_base.specs.Uses.{Poll, Ready, Pending}
 use Rattle.lite_base.specs.Answers.{Answer, Gives, Waiting, strip}
@@ -7,7 +7,7 @@ use Rattle.lite_base.specs.Future.Handed.{handed}
 use Rattle.lite_base.specs.Laws.Answers.{waiting_strip}
 
 module _ {A B : Type 0} (shown : A → Option B) where
-  -- while it waits nothing else goes out
+  -- While the future is pending, the stream is pending.
   pub handed_waiting : (l : List (Poll A)) → Waiting l → Waiting (map (handed shown) l)
   handed_waiting [] w = tt
   handed_waiting (Pending ∷ l) w = handed_waiting l w
@@ -16,7 +16,7 @@ module _ {A B : Type 0} (shown : A → Option B) where
   pub handed_waits : (l : List (Poll A)) → Waiting l → strip (map (handed shown) l) ≡ []
   handed_waits l w = waiting_strip (map _ l) (handed_waiting l w)
 
-  -- and then what is shown of the value, before what comes later
+  -- After that the stream yields what is shown of the value, before later results.
   pub handed_gives : (l : List (Poll A)) (later : List (Answer B)) (x : A) → Gives l x
       → strip (map (handed shown) l ++ later) ≡ shown x ∷ strip later
   handed_gives [] later x g = absurd g

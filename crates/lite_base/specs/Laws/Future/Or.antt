@@ -1,4 +1,4 @@
--- Laws of `or`.
+-- Laws of `or` of futures.
 use Rattle.std.specs.Prelude.{◌⊎◌}
 use Rattle.lite_base.specs.Uses.{map-append, Poll}
 use Rattle.lite_base.specs.Calm.{CalmLaws}
@@ -21,7 +21,7 @@ module _ {F G A : Type 0} {run_first : Runs (Poll A) F} {run_second : Runs (Poll
         once = λ x y l h. up_to_once l h.ends;
       }
 
-  -- where one of the two is never pending
+  -- `or` is never pending if one of the two futures never is.
   pub ors_calm : {calm_first : F → Type 0} {calm_second : G → Type 0} → CalmLaws run_first calm_first
       → CalmLaws run_second calm_second
       → CalmLaws (FutureOrs run_first run_second) (λ x. calm_first x.future1 ⊎ calm_second x.future2)

@@ -1,4 +1,4 @@
--- Laws of `pending`.
+-- Laws of the future `pending`.
 use Rattle.std.specs.Prelude.{⊤, ◌≡◌, List, refl}
 use Rattle.lite_base.specs.Uses.{◌∙◌, Poll}
 use Rattle.lite_base.specs.Answers.{Waiting}

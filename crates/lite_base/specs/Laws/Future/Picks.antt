@@ -1,4 +1,4 @@
--- Laws of two futures of which one is asked first.
+-- Laws of two futures of which each poll polls one first.
 use Rattle.std.specs.Prelude.{◌⊎◌, ◌≡◌, List, [], ◌∷◌, ◌++◌, Bool, refl}
 use Rattle.lite_base.specs.Uses.{subst, ap, inl, inr, Poll, Ready, Pending}
 use Rattle.lite_base.specs.Answers.{Waiting}
@@ -21,7 +21,7 @@ module _ {A : Type 0} where
   row_more (Pending ∷ i) [] c i' j' k h r = absurd r
   row_more (a ∷ i) j c i' j' k h r = (r.0, ap (λ l. l ++ k) r.1, ap (λ l. l ++ h) r.2)
 
-  -- a row that was pending, before rows that wait
+  -- If a row is pending and so are the rows after it, both lists are.
   row_waits : (i j i' j' : List (Poll A)) → PickRow i j Pending i' j' → Waiting i' → Waiting j' → Waiting i × Waiting j
   row_waits (Ready x ∷ i) j i' j' r w v = absurd (let e = r.0 in cc)
   row_waits (Pending ∷ i) (Ready x ∷ j) i' j' r w v = absurd (let e = r.0 in cc)
@@ -39,7 +39,7 @@ module _ {A : Type 0} where
       waits i j Pending i' j' l r k w = let e = k w in row_waits i j i' j' r e.0 e.1
       waits i j (Ready x) i' j' l r k w = absurd w
 
-  -- where one of the two lists has no Pending, no row has
+  -- A row has no `Pending` if one of the two lists has none.
   row_calm : (i j : List (Poll A)) (c : Poll A) (i' j' : List (Poll A)) → PickRow i j c i' j' → NoPending i
       ⊎ NoPending j → NoPending (c ∷ []) × (NoPending i' ⊎ NoPending j')
   row_calm (Ready x ∷ i) j c i' j' r (inl p) = (rw r.0 tt, inl (rw r.1 p))
@@ -92,7 +92,7 @@ module _ {F G A : Type 0} {run_first : Runs (Poll A) F} {run_second : Runs (Poll
           ends = waiting_up_to l m w k.ends;
         }
 
-  -- where one of the two is never pending, they are not
+  -- The two are never pending if one of them never is.
   pub picks_calm : {calm_first : F → Type 0} {calm_second : G → Type 0} → CalmLaws run_first calm_first
       → CalmLaws run_second calm_second
       → {order : List Bool} {f f' : F} {g g' : G} {out : List (Poll A)} → calm_first f ⊎ calm_second g

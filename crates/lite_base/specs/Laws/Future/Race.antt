@@ -1,4 +1,4 @@
--- Laws of `race`.
+-- Laws of `race` of futures.
 use Rattle.std.specs.Prelude.{◌⊎◌, ◌≤◌, List, [], ◌∷◌, ◌++◌, length, refl}
 use Rattle.lite_base.specs.Uses.{subst, sym, append-nil, arith, map-append, Stream, Poll}
 use Rattle.lite_base.specs.Answers.{Waiting, strip}
@@ -44,7 +44,7 @@ module _ {F G R A : Type 0} {run_first : Runs (Poll A) F} {run_second : Runs (Po
     calm_run x y [] k h = rw h (tt, k)
     calm_run x y (a ∷ l) k h = picks_calm c d k h.picks
 
-    -- where one of the two is never pending
+    -- `race` is never pending if one of the two futures never is.
     pub races_calm : CalmLaws (FutureRacesOn run_first run_second stream)
         (λ x. calm_first x.future1 ⊎ calm_second x.future2)
     races_calm = calm_both calm_run

@@ -30,7 +30,7 @@ module _ {F A B : Type 0} {run : Runs (Poll A) F} (shown : Poll A → Poll B) (L
   spends_stay (Some f) (Some g) h = ap Some (laws.stays f g (rw (shown_none shown h.0 h.3) at h.2))
   spends_stay (Some f) None h = absurd (shown_gives shown h.ins h.after h.value h.joined h.finishes.gives)
 
-  -- of any two runs, the first with its value or without
+  -- Runs follow one another, whether the first has the value or not.
   pub spends_follow : ((l m : List (Poll B)) → Later l → Later m → Later (l ++ m))
       → (x y z : Option F) (l m : List (Poll B)) → Spends run shown Later x l y → Spends run shown Later y m z
       → Spends run shown Later x (l ++ m) z
@@ -63,7 +63,7 @@ module _ {F A B : Type 0} {run : Runs (Poll A) F} (shown : Poll A → Poll B) (L
   )
 
 module _ {F A B : Type 0} {run ample : Runs (Poll A) F} (shown : Poll A → Poll B) (Later : List (Poll B) → Type 0) where
-  -- where no poll asks for memory
+  -- If no poll needs memory, every run is ample.
   pub spends_found : TakesNone run ample → (x y : Option F) (l : List (Poll B)) → Spends run shown Later x l y
       → Spends ample shown Later x l y
   spends_found takes None y l h = h

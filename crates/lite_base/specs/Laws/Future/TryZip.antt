@@ -18,7 +18,7 @@ use Rattle.lite_base.specs.Runs.{Runs}
 
 module _ {F G A B C E : Type 0} {run : Runs (Poll (Result A E)) F} {run_other : Runs (Poll (Result B E)) G}
     {unasked : ℕ} where
-  -- rows without an error, and then a failure
+  -- A failure may follow rows without an error.
   fails_later : FutureLaws run → FutureLaws run_other → {x y z : Half F A} {u v t : Half G B}
       {m : List (Poll (Result C E))} (p : Half F A) (q : Half G B) (i : List (Poll (Result A E)))
       (j : List (Poll (Result B E))) (l : List (Poll (Result C E))) → Waiting l
@@ -88,7 +88,7 @@ module _ {F G A B E : Type 0} {run_first : Runs (Poll (Result A E)) F} {run_seco
           once = λ x y l. try_zips_once;
         }
 
--- a value at the first poll, by a list that is no longer than one
+-- If a list without a `Pending` has a value, a list of the same length that has a value has no `Pending` either.
 gives_no_pending : {A B : Type 0} (i : List (Poll A)) (o : List (Poll B)) (x : A) (y : B) → NoPending i → Gives i x
     → length i ≡ length o → Gives o y → NoPending o
 gives_no_pending [] (b ∷ o) x y p g e h = absurd g
@@ -97,7 +97,7 @@ gives_no_pending (Ready a ∷ i) (Ready b ∷ o) x y p g e h = rw h.1 tt
 gives_no_pending (Ready a ∷ i) (Pending ∷ b ∷ o) x y p g e h = absurd (let d = rw g.1 at e in omega (arith, d))
 gives_no_pending i o x y p g e h = absurd h
 
--- where neither of the two is ever pending
+-- `try_zip` is never pending if neither of the two futures ever is.
 module _ {F G A B E : Type 0} {run_first : Runs (Poll (Result A E)) F} {run_second : Runs (Poll (Result B E)) G}
     {calm_first : F → Type 0} {calm_second : G → Type 0} (c : CalmLaws run_first calm_first)
     (d : CalmLaws run_second calm_second) where

@@ -1,4 +1,4 @@
--- Laws of `zip`.
+-- Laws of `zip` of futures.
 use Rattle.lite_base.specs.Uses.{Poll}
 use Rattle.lite_base.specs.Alike.{Pairwise, SameItem, Sameness}
 use Rattle.lite_base.specs.Calm.{CalmLaws}
@@ -17,7 +17,7 @@ use Rattle.lite_base.specs.declared.future.half.Half.TheVariants.{Asked}
 use Rattle.lite_base.specs.declared.future.zip.Zip.{Zip}
 use Rattle.lite_base.specs.Runs.{Runs}
 
--- `zip` of futures that run so
+-- The runs of `zip` over futures with the given runs.
 abbrev Zipped : {F G A B : Type 0} → Runs (Poll A) F → Runs (Poll B) G → Runs (Poll (A × B)) (Zip F G A B)
 Zipped run_first run_second x l y = FutureZips run_first run_second x.first x.second l y.first y.second
 
