@@ -1,7 +1,7 @@
 -- Streams and futures whose results do not depend on when they were pending, if no allocation failed. Their ample runs
 -- are those in which no allocation failed. The ample runs of an adapter are its runs over ample runs of its sources.
--- `repeat`, `cloned`, `lines`, the futures that collect and others that allocate leave out their own allocation
--- failures.
+-- Those of `repeat`, `cloned`, `lines`, the futures that collect and others that allocate leave out their own
+-- allocation failures too.
 use Rattle.std.specs.Prelude.{◌≡◌, List}
 use Rattle.lite_base.specs.Uses.{Poll}
 use Rattle.lite_base.specs.Alike.{AlikeBy, SameAnswer, SameItem, Sameness}
