@@ -26,7 +26,7 @@ abbrev pub TaskRan : {F A : Type 0} → Runs (Poll A) F → Task F A → Task F 
 TaskRan {F} {A} run x y =
     WhileNone x.value ((l : List (Poll A)) × run x.future l y.future × AnsweredBy y.value l) (y ≡ x)
 
--- Each task ran so.
+-- Each task ran as `TaskRan` says.
 abbrev pub EachRan : {F A : Type 0} → Runs (Poll A) F → List (Task F A) → List (Task F A) → Type 0
 EachRan run [] [] = ⊤
 EachRan run (x ∷ xs) (y ∷ ys) = TaskRan run x y × EachRan run xs ys

@@ -14,7 +14,7 @@ use Rattle.example_frames.specs.declared.fault.FrameError.TheVariants.{Ended, Io
 abbrev pub header : ℕ → List ℕ
 header n = to_be_bytes w32 n
 
--- A payload behind its header.
+-- A header, and then the payload whose length it says.
 abbrev pub frame : List ℕ → List ℕ
 frame payload = header (length payload) ++ payload
 
@@ -32,8 +32,8 @@ BeforePayload limit front = (length front < 4) ⊎ ((n : ℕ) × (front ≡ head
 abbrev pub IsEnd : List ReadMark → Type 0
 IsEnd last = (last ≡ ReadMark.end ∷ []) ⊎ (last ≡ ReadMark.fault UnexpectedEof ∷ [])
 
--- Why no more bytes of a frame came behind these: the end of file within a frame, or the error. If an allocation
--- failed, nothing more was read.
+-- Why no more bytes of a frame came after these: the end of file within a frame, or the error. If an allocation failed,
+-- nothing more was read.
 abbrev pub StopsFrame : List ℕ → List ReadMark → FrameError → Type 0
 StopsFrame front last Ended = (0 < length front) × IsEnd last
 StopsFrame front last (Io e) = last ≡ ReadMark.fault (error_kind e) ∷ []

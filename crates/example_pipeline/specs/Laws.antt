@@ -110,7 +110,7 @@ prefix_of_texts : (p : List ℕ → Bool) (texts : List (String Global))
 prefix_of_texts p [] = refl
 prefix_of_texts p (t ∷ texts) = ap (λ n. cond (p (string_bytes t)) (1 + n) 0) (prefix_of_texts p texts)
 
--- So is the place of the first text that is no number.
+-- The place of the first text that is no number is the same too.
 pub text_bad_is : (texts : List (String Global)) → text_bad texts ≡ first_bad (map string_bytes texts)
 unfolding text_bad
 text_bad_is texts =

@@ -51,8 +51,8 @@ MadeOf Sameness.equal makes = Sameness.equal
 MadeOf {A} (Sameness.by same) makes = Sameness.by (λ y z. (x : A) × (w : A) × same x w × makes x y × makes w z)
 
 module _ {A : Type 0} where
-  -- When Options are the same: both are `None`, or both are `Some` of values that are the same. So the values of
-  -- `next`, `nth`, `last` and `find` are compared.
+  -- When Options are the same: both are `None`, or both are `Some` of values that are the same. The values of `next`,
+  -- `nth`, `last` and `find` are compared in this way.
   abbrev pub Optional : Sameness A → Sameness (Option A)
   Optional Sameness.equal = Sameness.equal
   Optional (Sameness.by same) = Sameness.by (OptionBy same)

@@ -59,7 +59,7 @@ module _ {F A B : Type 0} where
   abbrev pub Agree : Question F A B → F → F → Type 0
   Agree = AgreeBy (λ y z. y ≡ z)
 
-  -- Two closures are kin: they are equal, or calls of kin closures with items that are alike left them.
+  -- Two closures are kin: they are equal, or they are left by calls of kin closures with items that are alike.
   pub data Kin (like : A → A → Type 0) (call : Question F A B) : F → F → Type 0 where
     one : (f : F) → Kin like call f f
     called : (f k g l : F) (x w : A) (y z : B) → Kin like call f k → like x w → call f x y g → call k w z l

@@ -21,7 +21,8 @@ pub record CalmRuns {S A : Type 0} (NoWait : List A → Type 0) (run : Runs A S)
   pub calm_on : (x y : S) (l : List A) → is_calm x → run x l y → is_calm y
 
 -- What a `CalmStream` or a `CalmFuture` promises: no run from a calm value has a `Pending`, and each leaves a calm
--- value. A type of this library is calm if its sources are calm and its closures make calm values. An `or` or `race` is
--- calm if one of its two is.
+-- value. A type of this library is calm if its sources are calm and its closures make calm values. Of the futures `or`
+-- and `race` one calm future is enough. `pending`, `fuse` of futures, `with_budget` and the stream `bytes` return
+-- `Pending` by themselves, so they are not calm.
 abbrev pub CalmLaws : {S A : Type 0} → Runs (Poll A) S → (S → Type 0) → Type 0
 CalmLaws = CalmRuns NoPending

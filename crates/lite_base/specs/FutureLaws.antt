@@ -4,8 +4,8 @@ use Rattle.lite_base.specs.Uses.{Poll}
 use Rattle.lite_base.specs.Answers.{Waiting, strip}
 use Rattle.lite_base.specs.Runs.{Runs}
 
--- The laws of a future's runs: they begin and follow one another as polls do, and no run has two values. Every future
--- states them in its ghost member `laws`.
+-- The laws of a future's runs, which every future states in its ghost member `laws`. Without a poll the future stays as
+-- it is, a run may follow a run that was pending throughout, and no run has two values.
 pub record FutureLaws {F A : Type 0} (run : Runs (Poll A) F) : Type 0 where
   -- Without a poll the future stays as it is.
   pub rests : (x : F) → run x [] x

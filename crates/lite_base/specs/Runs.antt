@@ -1,10 +1,10 @@
 -- The kinds of relations that specify a value of a type `S`. A run speaks of a whole list of poll results, and a hint
--- of one call. No definition retells a loop of the code.
+-- of one call. No definition retells a loop of the code, and one names a field only for what a value holds.
 use Rattle.std.specs.Prelude.{◌≡◌, ℕ, List, Option, None}
 
 -- A run: from the first value, polls return the listed results in order and leave the second value. A type states its
--- runs in its ghost member `run`, as a stream of your own does. What a value holds between polls comes before the
--- results of its source.
+-- runs in its ghost member `run`, as a stream of your own does. A value may return any list of which it has a run. What
+-- a value holds between polls comes before the results of its source.
 abbrev pub Runs : Type 0 → Type 0 → Type 1
 Runs A S = S → List A → S → Type 0
 

@@ -1,7 +1,7 @@
 -- Streams and futures whose results do not depend on when they were pending, if no allocation failed. Their ample runs
--- are those in which no allocation failed. An adapter has the ample runs that its sources' ample runs lead to, without
--- the case of an allocation failure. Only `repeat`, `cloned` and the futures that collect have such a case of their
--- own.
+-- are those in which no allocation failed. The ample runs of an adapter are its runs over ample runs of its sources.
+-- Those of `repeat`, `cloned`, `lines`, the futures that collect and others that allocate leave out their own
+-- allocation failures too.
 use Rattle.std.specs.Prelude.{◌≡◌, List}
 use Rattle.lite_base.specs.Uses.{Poll}
 use Rattle.lite_base.specs.Alike.{AlikeBy, SameAnswer, SameItem, Sameness}
@@ -10,7 +10,7 @@ use Rattle.lite_base.specs.FutureLaws.{FutureLaws}
 use Rattle.lite_base.specs.StreamLaws.{RunLaws}
 use Rattle.lite_base.specs.Runs.{Runs}
 
--- No call asks for memory, so every run is ample.
+-- Every run is ample, as it is if no call asks for memory. Readers say so too.
 abbrev pub TakesNone : {S A : Type 0} → Runs A S → Runs A S → Type 0
 TakesNone {S} {A} run ample = (x y : S) (l : List A) → run x l y → ample x l y
 

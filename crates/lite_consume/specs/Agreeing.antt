@@ -19,7 +19,8 @@ abbrev pub Within : {M A R : Type 0} → Fold M A R → Fold M A R → Type 0
 Within = WithinWhere (λ _. ⊤)
 
 -- Two folds that agree do the same, if no allocation fails. For items that are the same, both consume them and agree
--- again, or both return values that are the same. At the end of the stream both return values that are the same.
+-- again, or both return values that are the same. At the end of the stream both return values that are the same. If no
+-- step needs memory, each is one in which no allocation failed.
 pub record FoldSteadyLaws {M A R : Type 0} (like : A → A → Type 0) (fold ample : Fold M A R) (needs_none : Type 0)
     (agree : M → M → Type 0) (same : R → R → Type 0) : Type 0 where
   -- With items that are the same, after which the folds agree again.

@@ -24,8 +24,8 @@ module _ {M A R : Type 0} (fold : Fold M A R) where
   abbrev pub TakesIn : M → A → M → Type 0
   TakesIn p x q = fold.asks p x None q
 
-  -- What the future returns when the stream returns its last result: `Pending` if that is `Pending`, and its value if
-  -- that is the end of the stream or an item that decides.
+  -- What the future returns at the result of the stream that ends its poll: `Pending` for `Pending`, and its value for
+  -- the end of the stream or an item that decides.
   abbrev pub Decides : Question M (Answer A) (Poll R)
   Decides p Pending Pending q = q ≡ p
   Decides p Pending (Ready r) q = ⊥

@@ -17,8 +17,9 @@ abbrev pub HasReadMemory : Result ℕ Error → Type 0
 HasReadMemory (Ok n) = ⊤
 HasReadMemory (Err e) = error_kind e ≡ OutOfMemory → ⊥
 
--- Both readers were read so. They have one value and the same bytes if no allocation failed in either, or if the
--- readers need no memory and neither value is an allocation failure. Two errors are one value if they are of one kind.
+-- Both readers were read as `ReadsUp` says. They have one value and the same bytes if no allocation failed in either,
+-- or if the readers need no memory and neither value is an allocation failure. Two errors are one value if they are of
+-- one kind.
 pub record BothRead {R : Type 0} (reads ample : Runs ReadMark R) (needs_none : Type 0) (x : R) (xs : List ℕ)
     (v : Result ℕ Error) (x' : R)
     (y : R) (ys : List ℕ) (w : Result ℕ Error) (y' : R) : Type 0 where

@@ -42,10 +42,10 @@ module _ {C S U A : Type 0} (holds : C → List A → Type 0)
       (firsts seconds all : List A) × GivesRest run s firsts t × GivesRest run' u seconds v
       × Interleaves firsts seconds all × holds c (before ++ all)
 
-  -- What `collect` of `or` holds: an interleaving of all items of the two streams, behind what it held before.
+  -- What `collect` of `or` holds: what it held before, and then an interleaving of all items of the two streams.
   abbrev pub OrHolds : {F G : Type 0} → List A → Consume (Or S U) F → Consume (Or S U) G → C → Type 0
   OrHolds before x y = HoldsBoth before x.stream.stream1 x.stream.stream2 y.stream.stream1 y.stream.stream2
 
-  -- What `collect` of `race` holds: an interleaving of all items of the two streams, behind what it held before.
+  -- What `collect` of `race` holds: what it held before, and then an interleaving of all items of the two streams.
   abbrev pub RaceHolds : {F G R : Type 0} → List A → Consume (Race S U R) F → Consume (Race S U R) G → C → Type 0
   RaceHolds before x y = HoldsBoth before x.stream.stream1 x.stream.stream2 y.stream.stream1 y.stream.stream2

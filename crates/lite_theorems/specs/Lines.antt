@@ -8,8 +8,8 @@ abbrev pub Line : Type 0
 Line = Result (List ℕ) ErrorKind
 
 -- The lines of what a reader produced (its tale), with its errors in their places, up to an end of file at which no
--- line is open. A line ends at a newline, 0x0A, and then has no carriage return, or it ends at the end of file and
--- keeps that. `held` is the open line's bytes so far.
+-- line is open. A line ends at a newline, 0x0A, and is without one carriage return before that. Or it ends at the end
+-- of file and keeps the carriage return. `held` is the open line's bytes so far.
 abbrev pub lines_told : (held : List ℕ) → List ReadMark → List Line
 lines_told held [] = []
 lines_told held (ReadMark.byte b ∷ l) =
@@ -19,7 +19,7 @@ lines_told held (ReadMark.fault kind ∷ l) = Err kind ∷ lines_told held l
 lines_told [] (ReadMark.end ∷ l) = []
 lines_told (b ∷ held) (ReadMark.end ∷ l) = Ok (b ∷ held) ∷ lines_told [] l
 
--- What the reader produced through its byte number `n`, and then two ends of file. The first ends an open line, and the
+-- What the reader produced through its `n`-th byte, and then two ends of file. The first ends an open line, and the
 -- second ends all.
 abbrev pub limited : ℕ → List ReadMark → List ReadMark
 limited zero l = ReadMark.end ∷ ReadMark.end ∷ []

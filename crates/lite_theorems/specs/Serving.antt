@@ -13,7 +13,7 @@ Replying = List ℕ → List ℕ
 abbrev pub replies : Replying → List ℕ → List ℕ
 replies reply xs = flat_map reply (byte_lines xs)
 
--- What the server read behind the bytes that it replied to, if it stopped with an error. An error of the input came
+-- What the server read after the bytes that it replied to, if it stopped with an error. An error of the input came
 -- last, or it is an allocation failure. If the output failed or an allocation did, the end of file may have come.
 abbrev pub StopsServing : List ReadMark → ServeError → Type 0
 StopsServing rest (Input e) = (rest ≡ ReadMark.fault (error_kind e) ∷ []) ⊎ ((rest ≡ []) × (error_kind e ≡ OutOfMemory))
@@ -26,8 +26,8 @@ OfOutput (Input e) = ⊥
 OfOutput (Output e) = ⊤
 OfOutput Memory = ⊤
 
--- What reading one line read: `xs` and its newline, or what comes before the end of file. Or the value is an error, and
--- the server stopped behind `xs`.
+-- What reading one line read: `xs` is the line with its newline, or what comes before the end of file. Or the value is
+-- an error, and the server stopped after `xs`.
 abbrev pub PieceIn : List ℕ → List ReadMark → Result (Unit {0}) ServeError → Type 0
 PieceIn xs told (Ok u) =
     (EndsAtFirst 10 xs × (told ≡ bytes xs)) ⊎ (Without 10 xs × (told ≡ bytes xs ++ ReadMark.end ∷ []))

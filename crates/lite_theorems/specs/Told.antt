@@ -35,8 +35,8 @@ pub record EndsAtFirst (at : ℕ) (xs : List ℕ) : Type 0 where
   pub whole : xs ≡ before ++ at ∷ []
 
 -- What `read_until` read when it appended the bytes `xs`: a piece with its delimiter, or bytes without it before the
--- end of file. If the value is an error, the bytes have no delimiter, and the error came behind them or is an
--- allocation failure.
+-- end of file. The value is their number. If it is an error, the bytes have no delimiter, and the error came after them
+-- or is an allocation failure.
 abbrev pub PieceTold : ℕ → List ℕ → List ReadMark → Result ℕ Error → Type 0
 PieceTold at xs told (Ok n) = (n ≡ length xs)
     × ((EndsAtFirst at xs × (told ≡ bytes xs)) ⊎ (Without at xs × (told ≡ bytes xs ++ ReadMark.end ∷ [])))

@@ -52,7 +52,7 @@ ValueIs run f v = (v ≡ v) × ValueHolds AllocError run f (λ w. w ≡ v)
 abbrev pub ListsAs : {S A : Type 0} → Runs (Answer A) S → S → List A → Type 0
 ListsAs {S} {A} run s xs = (xs ≡ xs) × Seen s xs × Lists run s xs
 
--- The items that `s` may ever yield, also after an end of the stream, are a prefix of `xs`.
+-- Every run from `s` yields a prefix of `xs`, also with items that come after an end of the stream.
 unfoldable pub Fronts : {S A : Type 0} → Runs (Answer A) S → S → List A → Type 0
 Fronts {S} {A} run s xs = (l : List (Answer A)) (t : S) → run s l t → Front (items_in l) xs
 

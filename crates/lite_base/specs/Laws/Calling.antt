@@ -46,7 +46,7 @@ module _ {F A B : Type 0} (like : A → A → Type 0) (same : B → B → Type 0
         matches_agree_from (λ _ _. ⊤)
         (λ f' k' g l x w y z a e c d. (alike x w y z e (answers f' g x y c) (answers k' l w z d), tt)) f k tt
 
-    -- So what kin closures return is the same.
+    -- What kin closures return is the same in that case.
     pub kin_answers_by : (y z : B) → KinAnswers like call y z → same y z
     kin_answers_by y z h = alike h.4 h.5 y z h.7 (answers h.0 h.2 h.4 y h.8) (answers h.1 h.3 h.5 z h.9)
 

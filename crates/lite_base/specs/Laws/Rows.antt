@@ -15,7 +15,7 @@ module _ {A : Type 0} (row : (i j : List A) (c : A) (i' j' : List A) → Type 0)
     rows_by (true ∷ o) i j (c ∷ l) r = first i j c r.0 r.1 l r.2 (rows_by o r.0 r.1 l r.3)
     rows_by (false ∷ o) i j (c ∷ l) r = second i j c r.0 r.1 l r.2 (rows_by o r.0 r.1 l r.3)
 
-  -- Rows follow one another, if a row stays a row with more results behind its lists.
+  -- Rows follow one another, if a row stays a row with more results at the ends of its lists.
   pub rows_follow : ((i j : List A) (c : A) (i' j' k h : List A) → row i j c i' j'
       → row (i ++ k) (j ++ h) c (i' ++ k) (j' ++ h))
       → (o p : List Bool) (i j k h l m : List A) → Rows row o i j l → Rows row p k h m

@@ -38,7 +38,7 @@ pub none_held : {C T : Type 0} (like : Sameness T) (holds : C → List T → Typ
 none_held Sameness.equal holds c d h k = ([], h, k)
 none_held (Sameness.by same) holds c d h k = ([], [], h, k, tt)
 
--- So are two collections that are there and hold nothing.
+-- Two collections that are there and hold nothing are the same.
 pub both_there : {C : Type 0} {same : C → C → Type 0} {empty : C → Type 0} → ((c d : C) → empty c → empty d → same c d)
     → (p k : Option C) → IsSome p → IsSome k → IfSome p empty → IfSome k empty
     → OptionBy same p k
