@@ -8,7 +8,7 @@ import math
 from repository import TOP, read_text
 
 PAGE, FILE, PLOT = "docs/SPEED.md", f"{TOP}/throughput/measured.txt", "docs/pictures/speed.svg"
-HEAD = "| Case | N | at N / at 10 N (thousands) | here | original | original, LTO |\n|---|---|---|---|---|---|\n"
+HEAD = "| Case | here | original | original, LTO |\n|---|---|---|---|\n"
 BAR, STEP, LABEL, WIDTH = 6, 18, 170, 420
 # The plot has ratios from the least to the most; what is beyond is drawn at its edge.
 LEAST, MOST = 0.25, 4.0
@@ -41,10 +41,7 @@ def shown(number):
 
 def table():
     """Returns the table of the page."""
-    lines = [
-        f"| `{it.case}` | {it.size:,} | {it.first / 1000:,.0f} / {it.last / 1000:,.0f} | {shown(it.here)} | {it.original} | {it.lto} |" for it in rows()
-    ]
-    return "\n\n" + HEAD + "\n".join(lines) + "\n\n"
+    return "\n\n" + HEAD + "\n".join(f"| `{it.case}` | {shown(it.here)} | {it.original} | {it.lto} |" for it in rows()) + "\n\n"
 
 
 def across(ratio):
