@@ -787,7 +787,7 @@ pub trait StreamExt: Stream {
         lite_reshape::make::cloned(self)
     }
 
-    /// Returns a stream that yields copies of the items, which are references.
+    /// Returns a stream that yields a copy of the value behind each item, which is a reference.
     ///
     /// Size hint: `(0, None)`.
     ///
@@ -919,7 +919,8 @@ pub trait StreamExt: Stream {
 
     /// Returns a future of the next item, or of `None` if the stream ends.
     ///
-    /// It accepts any stream, and polls it once in each poll.
+    /// It accepts any stream, and polls it once in each poll. It is `Pending` if the stream is. It borrows the
+    /// stream, which can be polled on after it.
     ///
     /// # Examples
     ///
@@ -1270,8 +1271,9 @@ pub trait StreamExt: Stream {
     }
 
     /// Returns a future that collects the items before the end into a collection, which takes its memory from
-    /// `alloc`.
+    /// `alloc`. Its value is `Ok(collection)`, of the type `Result<C, Refused<C, Self::Item>>`.
     ///
+    /// It consumes the stream, and is `Pending` when the stream is; what was collected is kept meanwhile.
     /// A `Vec` and a `VecDeque` append items at the back, and a `String` appends characters. A `BTreeMap`
     /// collects pairs: for a key that it has, the old key stays and the value is replaced. A `BTreeSet` keeps
     /// the item that it has. Keys, values and items of these two must be `Drop`. Do not poll the future again
@@ -1279,8 +1281,8 @@ pub trait StreamExt: Stream {
     ///
     /// # Errors
     ///
-    /// If the collection has no memory for an item, the value is [`Refused`]: what was collected before, and
-    /// that item.
+    /// If the collection has no memory for an item, the value is `Err` of a [`Refused`]: what was collected before,
+    /// and that item. What is left of the stream is dropped with the future.
     ///
     /// # Examples
     ///

@@ -6,9 +6,11 @@ use lite_io_base::{AsyncBufRead, AsyncRead, CountedRead, Takings, Tale, fill, fi
 use std::io;
 use std::io::IoSliceMut;
 
-/// A reader over the first bytes of another reader, up to a limit, and then at end of file for ever.
+/// A reader over the first bytes of another reader, up to a limit, and then at end of file until
+/// [`set_limit`](Take::set_limit) raises the limit.
 ///
-/// Returned by [`take`](crate::make::take). Once the limit is used up, the inner reader is not polled.
+/// Returned by [`take`](crate::make::take). Once the limit is used up, the inner reader is not polled. Before that
+/// `Pending`, errors and end of file of the inner reader are passed on, and leave the limit unchanged.
 #[derive(Debug, Drop)]
 pub struct Take<R> {
     inner: R,

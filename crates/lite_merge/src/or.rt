@@ -8,10 +8,10 @@ use crate::picks::poll_in_order;
 use lite_base::{Context, Counted, Poll, Stream};
 use lite_stream::Fuse;
 
-/// A stream that yields the items of two streams as they come, the first stream's items first.
+/// A stream that yields the items of two streams as they come, and prefers the first.
 ///
-/// Returned by [`or`](crate::make::or). The second stream is polled only if the first has no item. A stream
-/// that has ended is not polled. A poll without an item returns an end if both streams have ended, and then
+/// Returned by [`or`](crate::make::or). Each poll polls the first stream, and the second one only if the first has
+/// no item. Both are dropped with it, and not before. A stream that has ended is not polled. A poll without an item returns an end if both streams have ended, and then
 /// this stream ends for ever. Otherwise it returns `Pending`.
 #[derive(Clone, Debug, Drop)]
 pub struct Or<S1, S2> {

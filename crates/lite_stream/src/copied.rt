@@ -6,9 +6,9 @@ ghost use Rattle.lite_stream.specs.Laws.Through.{laws_unhinted, through_counting
 
 use lite_base::{Context, Counted, Poll, Stream, ready};
 
-/// A stream that yields copies of the references that another stream yields.
+/// A stream that yields a copy of the value behind each reference that another stream yields.
 ///
-/// Returned by [`copied`](crate::make::copied).
+/// Returned by [`copied`](crate::make::copied). `Pending` and ends are passed on.
 #[derive(Clone, Debug, Drop)]
 pub struct Copied<S> {
     pub(crate) stream: S,

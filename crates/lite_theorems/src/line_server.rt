@@ -50,9 +50,12 @@ pub trait LineService {
 
 /// Answers each line of `requests` with a reply to `replies`, in order, up to the first end of file.
 ///
-/// It blocks this thread, by `on`, and may wait for ever. If it returns `Ok`, it has written the replies to
-/// all lines, none lost and none twice, and has flushed them. Otherwise it has written a front of those, and
-/// the error says why it stopped. It also flushes when no more input is buffered.
+/// The service gets each line without its newline, and without a carriage return before that. A last line
+/// without a newline is answered, too. The call blocks this thread, by `on`, and may wait for ever.
+///
+/// If it returns `Ok`, it has written the replies to all lines, none lost and none twice, and has flushed them.
+/// Otherwise it has written a prefix of those bytes, which may end within a reply, and the error says why it
+/// stopped. It also flushes when no more input is buffered.
 ///
 /// The caller guarantees that `ranks.counts` holds for the reader.
 ///

@@ -20,7 +20,7 @@ OkLists {S} {T} {E} run s f xs = (l : List (Answer (Result T E))) (t : S) → ru
 unfoldable pub OkSeen : {S T Y : Type 0} → S → (T → Y) → List Y → Type 0
 OkSeen s f xs = ⊤
 
--- As `OkLists`, with `OkSeen`, so that `grind` applies the fact when it meets `xs`.
+-- The same as `OkLists`, in the form that the prover finds by its list.
 abbrev pub OkListsAs : {S T E Y : Type 0} → Runs (Answer (Result T E)) S → S → (T → Y) → List Y → Type 0
 OkListsAs run s f xs = OkSeen s f xs × OkLists run s f xs
 

@@ -43,12 +43,11 @@ Seen x y = ⊤
 abbrev pub ValueHolds : {F A : Type 0} (E : Type 0) → Runs (Poll A) F → F → (A → Type 0) → Type 0
 ValueHolds {F} {A} E run f P = (r : Result A E) → Waited run f r → Seen f r × IfOk r P
 
--- If the future `f` was waited for and returned its value, that is `v`. The value is named twice, so that `grind`
--- applies the fact when it meets `v`.
+-- If the future `f` was waited for and returned its value, that is `v`. The form is one that the prover finds by `v`.
 abbrev pub ValueIs : {F A : Type 0} → Runs (Poll A) F → F → A → Type 0
 ValueIs run f v = (v ≡ v) × ValueHolds AllocError run f (λ w. w ≡ v)
 
--- As `Lists`, with the list named twice, so that `grind` applies the fact when it meets the list.
+-- The same as `Lists`, in the form that the prover finds by its list.
 abbrev pub ListsAs : {S A : Type 0} → Runs (Answer A) S → S → List A → Type 0
 ListsAs {S} {A} run s xs = (xs ≡ xs) × Seen s xs × Lists run s xs
 
@@ -56,6 +55,6 @@ ListsAs {S} {A} run s xs = (xs ≡ xs) × Seen s xs × Lists run s xs
 unfoldable pub Fronts : {S A : Type 0} → Runs (Answer A) S → S → List A → Type 0
 Fronts {S} {A} run s xs = (l : List (Answer A)) (t : S) → run s l t → Front (items_in l) xs
 
--- As `Fronts`, with the list named twice, so that `grind` applies the fact when it meets the list.
+-- The same as `Fronts`, in the form that the prover finds by its list.
 abbrev pub FrontsAs : {S A : Type 0} → Runs (Answer A) S → S → List A → Type 0
 FrontsAs {S} {A} run s xs = (xs ≡ xs) × Fronts run s xs

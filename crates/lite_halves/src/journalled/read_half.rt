@@ -21,10 +21,10 @@ use std::{fmt, io};
 
 /// The half of a journal that reads.
 ///
-/// Returned by [`split_journalled`](crate::split_journalled). Each call locks the journal, so it may wait. A
-/// contract sees how many entries of reads the journal has, and how many bytes they read; those from before
-/// the split are included. It also sees the reads that this half made, each with its answer, in order. What
-/// the stream does between two calls is not known, because the other half may call it.
+/// Returned by [`split_journalled`](crate::split_journalled). Each read locks the journal, so it may wait; `calls`
+/// and `bytes` do not. A contract sees how many entries of reads the journal has, and how many bytes they read;
+/// those from before the split are included. It also sees the reads that this half made, each with its result, in
+/// order. What the stream does between two calls is not known, because the other half may call it.
 #[derive(Drop)]
 pub struct JournalReadHalf<R, T: Tale + Takings + Clone, B: Books> {
     pub(super) rt: R,
@@ -83,9 +83,9 @@ impl<R, T: Tale + Takings + Clone, B: Books> JournalReadHalf<R, T, B> {
         self.tally.calls()
     }
 
-    /// Returns how many bytes these reads have read, modulo 2^64.
+    /// Returns how many bytes the journal's reads have read, modulo 2^64. Those before the split are included.
     ///
-    /// It does not wait. If `AsyncReadExt` is in scope, `reader.bytes()` calls the method of that trait. Call
+    /// It takes no lock and does not wait. If `AsyncReadExt` is in scope, `reader.bytes()` calls the method of that trait. Call
     /// this one as `JournalReadHalf::bytes(&reader)` then.
     ///
     /// # Examples

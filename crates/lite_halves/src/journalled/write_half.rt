@@ -22,11 +22,11 @@ use std::{fmt, io};
 
 /// The half of a journal that writes.
 ///
-/// Returned by [`split_journalled`](crate::split_journalled). Each call locks the journal, so it may wait. A
-/// contract sees how many entries of writes, flushes and closes the journal has, and how many bytes were
-/// written; those from before the split are included. It also sees the calls that this half made, each with
-/// its answer, in order. What the stream does between two calls is not known, because the other half may call
-/// it.
+/// Returned by [`split_journalled`](crate::split_journalled). Each call of I/O locks the journal, so it may wait;
+/// `calls` and `bytes` do not. A contract sees how many entries of writes, flushes and closes the journal has, and
+/// how many bytes were written; those from before the split are included. It also sees the calls that this half
+/// made, each with its result, in order. What the stream does between two calls is not known, because the other
+/// half may call it.
 #[derive(Drop)]
 pub struct JournalWriteHalf<R, T: Tale + Takings + Clone, B: Books> {
     pub(super) rt: R,
@@ -83,9 +83,9 @@ impl<R, T: Tale + Takings + Clone, B: Books> JournalWriteHalf<R, T, B> {
         self.tally.calls()
     }
 
-    /// Returns how many bytes these writes have written, modulo 2^64.
+    /// Returns how many bytes the journal's writes have written, modulo 2^64. Those before the split are included.
     ///
-    /// It does not wait.
+    /// It takes no lock and does not wait.
     ///
     /// # Examples
     ///
