@@ -62,7 +62,7 @@ pub fn pending<T>() -> Pending<T>
 /// Each poll polls `future1`, and then `future2` only if `future1` returned `Pending`.
 ///
 /// The contract says which value comes. It is that of `future1` if its first poll returns one. If one of the
-/// two is never ready, it is the other's. Otherwise it is one of the two.
+/// two is never ready, it is the other's. If the values of both are known, it is one of these.
 ///
 /// # Examples
 ///
@@ -94,7 +94,7 @@ where
 /// generator.
 ///
 /// The contract says which value comes, whatever the generator. If one of the two is never ready, it is the
-/// other's. If both have the same value, it is that one. Otherwise it is one of the two.
+/// other's. If the values of both are known, it is one of these.
 ///
 /// # Examples
 ///
