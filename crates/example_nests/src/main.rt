@@ -6,6 +6,7 @@ mod ask;
 mod gather;
 mod sum;
 mod text;
+mod together;
 
 use ask::{all_even, first_large, last_small, place_of_even};
 use futures_lite::stream::iter_vec;
@@ -46,5 +47,6 @@ fn main(rt: HostRuntime) -> io::Result<()> {
     println!(rt; "{n} {read:?}")?;
     let bytes = packed(&rt, b"ab")??;
     println!(rt; "{bytes:?}")?;
+    together::print(&rt, &rt)?;
     Ok(())
 }

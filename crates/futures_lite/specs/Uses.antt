@@ -3,6 +3,8 @@ pub use Rattle.futures.specs.declared.task.Poll.{Poll}
 pub use Rattle.lite_base.specs.Answers.{Gives, until_end}
 pub use Rattle.lite_base.specs.Calling.{Calls}
 pub use Rattle.lite_base.specs.Future.Finishes.{Finishes}
+pub use Rattle.lite_base.specs.Future.TryZip.{try_pair}
+pub use Rattle.lite_base.specs.declared.future.half.Half.TheVariants.{Asked}
 pub use Rattle.lite_buffered.specs.Budgeted.{budget_of, budgeted_inner, left_of}
 pub use Rattle.lite_buffered.specs.BufReader.{reader_capacity}
 pub use Rattle.lite_buffered.specs.Chain.{first_of, has_ended, second_of}
@@ -56,6 +58,7 @@ pub use Rattle.lite_views.proofs.Exact.{exactly_read}
 pub use Rattle.lite_views.proofs.Futures.{all_read, gathered_left, when_less}
 pub use Rattle.lite_views.proofs.Holding.{awaited_fits, cloned_fits, flat_mapped_lists, flattened_fits}
 pub use Rattle.lite_views.proofs.OkLists.{ok_seen}
+pub use Rattle.lite_views.proofs.Picking.{or_at_once, or_picked, race_picked, try_at_once, try_both, try_fails_at_once, try_first_fails, try_second_fails}
 pub use Rattle.lite_views.proofs.SourceLists.{array_gives, empty_lists, once_fronts, once_lists, range_gives, repeated_on, slice_gives, vec_gives}
 pub use Rattle.lite_views.proofs.Streams.{bytes_lists, pieces_listed}
 pub use Rattle.lite_views.proofs.Texts.{all_read_text, text_left}
@@ -64,7 +67,9 @@ pub use Rattle.lite_views.proofs.Views.{lent_lists, listed_through, seen}
 pub use Rattle.lite_views.proofs.Waiting.{left_seen}
 pub use Rattle.lite_views.proofs.Writing.{copy_left, on_each, written_left}
 pub use Rattle.lite_views.specs.Acting.{ActsAsOnState}
-pub use Rattle.lite_views.specs.Futures.{CountRuns, FindRuns, FoldRuns, LastRuns, NthRuns, TryFoldRuns}
+pub use Rattle.lite_views.specs.Answering.{HasOk, HasValueAs, PickedValue}
+unfoldable pub use Rattle.lite_views.specs.Answering.{AtOnce, NeverReady}
+pub use Rattle.lite_views.specs.Futures.{CountRuns, FindRuns, FoldRuns, LastRuns, NthRuns, TryFoldRuns, TryZipRuns}
 pub use Rattle.lite_views.specs.Iterators.{GivesAll}
 pub use Rattle.lite_views.specs.Lists.{map_while, scan, step_from}
 pub use Rattle.lite_views.specs.OkLists.{AllTaken, OkListsAs}

@@ -1,21 +1,24 @@
 //! Functions that make futures, and the extension methods of every future.
-ghost use Rattle.std.specs.Prelude.{◌≡◌, IfOk, List, OnErr, Some};
-ghost use Rattle.futures_lite.specs.Uses.{Poll, Gives, Finishes, LeftAs, LeftSeen, HasValue, Seen, Waited};
+ghost use Rattle.std.specs.Prelude.{◌≡◌, Err, IfOk, List, Ok, OnErr, Result, Some};
+ghost use Rattle.futures_lite.specs.Uses.{Poll, Gives, Finishes, try_pair, Asked, LeftAs, LeftSeen, HasValue, Seen, ValueIs, Waited};
+ghost use Rattle.futures_lite.specs.Uses.{AtOnce, HasOk, HasValueAs, NeverReady, PickedValue, TryZipRuns};
 
 pub use lite_base::Future;
 pub use lite_base::future::block_on::BlockOn;
-pub use lite_base::future::make::{
-    fuse, or, pending, poll_fn, poll_once, race, race_with_seed, try_zip, yield_now, zip,
-};
+use lite_base::future::make;
+pub use lite_base::future::make::{fuse, poll_fn, poll_once, yield_now, zip};
 pub use lite_base::future::{
     Fuse, Or, Pending, PollFn, PollOnce, Race, Ready, TryZip, YieldNow, Zip,
 };
-use rand_core::Rng;
+use rand_core::{Rng, SeedableRng};
+use rand_pcg::Pcg32;
 use std::alloc::{AllocError, AllocGlobal};
 use std::random::RandomSource;
 use std::sync::Wait;
 
 /// Returns a future that is ready with `value` at the first poll. Do not poll it after that.
+///
+/// The contract says that the value is `value`, and that the first poll returns it.
 ///
 /// # Examples
 ///
@@ -24,12 +27,166 @@ use std::sync::Wait;
 ///
 /// assert_eq!(rt; future::block_on(&rt, future::ready(7u8))?, 7);
 /// ```
-#[tactic(auto, using(lite_views::proofs::Holding::ready_value))]
+#[tactic(auto, using(lite_views::proofs::Holding::ready_value, lite_views::proofs::Picking::ready_at_once))]
 pub fn ready<T>(value: T) -> Ready<T>
     ensures parts { result ≡ record { value = Some value } }
     ensures value { HasValue ⟦<Ready<T> as Future>⟧.run result value }
+    ensures at_once { AtOnce ⟦<Ready<T> as Future>⟧.run result value }
 {
-    lite_base::future::make::ready(value)
+    make::ready(value)
+}
+
+/// Returns a future that is never ready. Every poll returns `Pending`, and wakes nothing.
+///
+/// The contract says that it is never ready. So `or` and `race` with another future have that one's value.
+///
+/// # Examples
+///
+/// ```
+/// use futures_lite::future;
+///
+/// let never = future::pending::<u8>();
+/// assert_eq!(rt; future::block_on(&rt, future::poll_once(never))?, None);
+/// ```
+#[tactic(auto, using(lite_views::proofs::Picking::pending_never))]
+pub fn pending<T>() -> Pending<T>
+    ensures parts { result ≡ record { marker = record {} } }
+    ensures never { NeverReady {A = T} ⟦<Pending<T> as Future>⟧.run result }
+{
+    make::pending()
+}
+
+/// Returns a future that resolves to the value of the future that is ready first. It prefers `future1` if
+/// both are.
+///
+/// Each poll polls `future1`, and then `future2` only if `future1` returned `Pending`.
+///
+/// The contract says which value comes. It is that of `future1` if its first poll returns one. If one of the
+/// two is never ready, it is the other's. If the values of both are known, it is one of these.
+///
+/// # Examples
+///
+/// ```
+/// use futures_lite::future;
+///
+/// let both = future::or(future::ready(1u8), future::ready(2));
+/// assert_eq!(rt; future::block_on(&rt, both)?, 1);
+///
+/// let second = future::or(future::pending(), future::ready(2u8));
+/// assert_eq!(rt; future::block_on(&rt, second)?, 2);
+/// ```
+pub fn or<T, F1, F2>(future1: F1, future2: F2) -> Or<F1, F2>
+where
+    F1: Future<Output = T>,
+    F2: Future<Output = T>,
+    ensures parts { result ≡ record { future1 = future1; future2 = future2 } }
+    ensures at_once { (v : T) → AtOnce F1.run future1 v
+        → ValueIs ⟦<Or<F1, F2> as Future>⟧.run result v × AtOnce ⟦<Or<F1, F2> as Future>⟧.run result v }
+    ensures picked { PickedValue F1.run future1 F2.run future2 ⟦<Or<F1, F2> as Future>⟧.run result }
+{
+    make::or(future1, future2)
+}
+
+/// Returns a future that resolves to the value of the future that is ready first. If both are, `rng` chooses.
+///
+/// Each poll draws one word of `rng`. If its lowest bit is 1, `future1` is polled first, otherwise `future2`.
+/// The other is polled only if that one returned `Pending`. Unlike futures-lite, the caller supplies the
+/// generator.
+///
+/// The contract says which value comes, whatever the generator. If one of the two is never ready, it is the
+/// other's. If the values of both are known, it is one of these.
+///
+/// # Examples
+///
+/// ```
+/// use futures_lite::future;
+/// use rand_core::SeedableRng;
+/// use rand_pcg::Pcg32;
+///
+/// let rng = Pcg32::seed_from_u64(7);
+/// let second = future::race(future::pending(), future::ready(2u8), rng);
+/// assert_eq!(rt; future::block_on(&rt, second)?, 2);
+/// ```
+pub fn race<T, F1, F2, G>(future1: F1, future2: F2, rng: G) -> Race<F1, F2, G>
+where
+    F1: Future<Output = T>,
+    F2: Future<Output = T>,
+    G: Rng,
+    ensures parts { result ≡ record { future1 = future1; future2 = future2; rng = rng } }
+    ensures picked { PickedValue F1.run future1 F2.run future2 ⟦<Race<F1, F2, G> as Future>⟧.run result }
+{
+    make::race(future1, future2, rng)
+}
+
+/// Returns a future like that of [`race`], with a generator made from `seed`.
+///
+/// The generator is a `Pcg32`, so its bits differ from those of futures-lite for the same seed. The contract
+/// says of the value what that of [`race`] does.
+///
+/// # Examples
+///
+/// ```
+/// use futures_lite::future;
+///
+/// let mut firsts = 0u32;
+/// for seed in 0..50u64 {
+///     let winner = future::race_with_seed(future::ready(1u32), future::ready(0), seed);
+///     firsts = firsts.wrapping_add(future::block_on(&rt, winner)?);
+/// }
+/// assert!(rt; firsts > 0 && firsts < 50);
+/// ```
+pub fn race_with_seed<T, F1, F2>(future1: F1, future2: F2, seed: u64) -> Race<F1, F2, Pcg32>
+where
+    F1: Future<Output = T>,
+    F2: Future<Output = T>,
+    ensures parts { result ≡ record {
+      future1 = future1;
+      future2 = future2;
+      rng = ⟦<Pcg32 as SeedableRng>⟧.of_seed (⟦<Pcg32 as SeedableRng>⟧.seed_of_u64 seed);
+    } }
+    ensures picked { PickedValue F1.run future1 F2.run future2 ⟦<Race<F1, F2, Pcg32> as Future>⟧.run result }
+{
+    race(future1, future2, Pcg32::seed_from_u64(seed))
+}
+
+/// Returns a future that resolves to the pair of both values, or to the first error.
+///
+/// Each poll polls each future that is not ready yet once, the first before the second. If the first future
+/// fails, the second is not polled in that poll. The futures and the values have to be `Drop`.
+///
+/// The contract says which value comes. It is the pair if neither future fails, and the error if only one of
+/// them does. If both fail, it is the first's error if its first poll returns that.
+///
+/// # Examples
+///
+/// ```
+/// use futures_lite::future;
+///
+/// let both = future::try_zip(future::ready(Ok::<u8, &str>(1)), future::ready(Ok::<u8, &str>(2)));
+/// assert_eq!(rt; future::block_on(&rt, both)?, Ok((1, 2)));
+///
+/// let second = future::ready(Err::<u8, &str>("full"));
+/// let failed = future::try_zip(future::pending::<Result<u8, &str>>(), second);
+/// assert_eq!(rt; future::block_on(&rt, failed)?, Err("full"));
+/// ```
+pub fn try_zip<T1, T2, E, F1, F2>(future1: F1, future2: F2) -> TryZip<F1, T1, F2, T2>
+where
+    F1: Future<Output = Result<T1, E>>,
+    F2: Future<Output = Result<T2, E>>,
+    ensures first { result.first ≡ Asked future1 }
+    ensures second { result.second ≡ Asked future2 }
+    ensures at_once { (a : Result T1 E) (b : Result T2 E) → AtOnce F1.run future1 a → HasValue F2.run future2 b
+        → HasValueAs (TryZipRuns F1.run F2.run) result (try_pair a b) }
+    ensures both { (a : T1) (b : T2) → HasValue F1.run future1 (Ok a) → HasValue F2.run future2 (Ok b)
+        → HasValueAs (TryZipRuns F1.run F2.run) result (Ok (a, b)) }
+    ensures second_fails { (e : E) → HasOk F1.run future1 → HasValue F2.run future2 (Err e)
+        → HasValueAs (TryZipRuns F1.run F2.run) result (Err e) }
+    ensures first_fails { (e : E) → HasValue F1.run future1 (Err e) → HasOk F2.run future2
+        → HasValueAs (TryZipRuns F1.run F2.run) result (Err e) }
+    ensures fails_at_once { (e : E) → AtOnce F1.run future1 (Err e)
+        → ValueIs (TryZipRuns F1.run F2.run) result (Err e) × AtOnce (TryZipRuns F1.run F2.run) result (Err e) }
+{
+    make::try_zip(future1, future2)
 }
 
 /// Blocks this thread until `future` is ready, and returns its value.
@@ -100,7 +257,8 @@ pub trait FutureExt: Future {
     /// Returns a future that resolves to the value of the future that is ready first. It prefers `self` if
     /// both are.
     ///
-    /// Each poll polls `self`, and then `other` only if `self` returned `Pending`.
+    /// Each poll polls `self`, and then `other` only if `self` returned `Pending`. The contract says which value
+    /// comes, as that of the function [`or`] does.
     ///
     /// # Examples
     ///
@@ -117,7 +275,10 @@ pub trait FutureExt: Future {
     where
         Self: Sized,
         F: Future<Output = Self::Output>,
-        ensures { result ≡ record { future1 = self; future2 = other } }
+        ensures parts { result ≡ record { future1 = self; future2 = other } }
+        ensures at_once { (v : Self.Output) → AtOnce Self.run self v
+            → ValueIs ⟦<Or<Self, F> as Future>⟧.run result v × AtOnce ⟦<Or<Self, F> as Future>⟧.run result v }
+        ensures picked { PickedValue Self.run self F.run other ⟦<Or<Self, F> as Future>⟧.run result }
     {
         or(self, other)
     }
@@ -127,7 +288,7 @@ pub trait FutureExt: Future {
     ///
     /// Each poll draws one word of `rng`. If its lowest bit is 1, `self` is polled first, otherwise `other`.
     /// The other is polled only if that one returned `Pending`. Unlike futures-lite, the caller supplies the
-    /// generator.
+    /// generator. The contract says which value comes, as that of the function [`race`] does.
     ///
     /// # Examples
     ///
@@ -145,7 +306,8 @@ pub trait FutureExt: Future {
         Self: Sized,
         F: Future<Output = Self::Output>,
         G: Rng,
-        ensures { result ≡ record { future1 = self; future2 = other; rng = rng } }
+        ensures parts { result ≡ record { future1 = self; future2 = other; rng = rng } }
+        ensures picked { PickedValue Self.run self F.run other ⟦<Race<Self, F, G> as Future>⟧.run result }
     {
         race(self, other, rng)
     }

@@ -6,6 +6,7 @@ pub mod Exact
 pub mod Futures
 pub mod Holding
 pub mod OkLists
+pub mod Picking
 pub mod SourceLists
 pub mod Streams
 pub mod Texts

@@ -1,7 +1,7 @@
 -- The runs of the futures that the facade names. A clause over them needs no bounds on the types of their states.
 use Rattle.std.specs.Prelude.{ℕ, Bool, List, Option, Result}
 use Rattle.lite_views.specs.Uses.{Mut, MutBor, Poll, Answer, Lent, Question, Runs, CallsBoth, Folds, fold_of, counts, finds, folds, lasts, nths, tries_fold}
-use Rattle.lite_views.specs.Uses.{Consume, Find, Last, Nth, TryFold}
+use Rattle.lite_views.specs.Uses.{Consume, Find, Last, Nth, TryFold, TryZip, TryZips}
 use Rattle.lite_consume.specs.declared.count.Count.{Count}
 use Rattle.lite_consume.specs.declared.fold.Fold.{Fold}
 
@@ -33,3 +33,8 @@ module _ {S A : Type 0} (run : Runs (Answer A) S) where
 abbrev pub TryFoldRuns : {S F B T E : Type 0} → Runs (Answer (Result T E)) S → Mut F (B × (T × Unit {0})) (Result B E)
     → Runs (Poll (Result B E)) (Consume (MutBor S) (TryFold F B))
 TryFoldRuns run g = Folds (Lent run) (fold_of (λ m. (m.f, m.acc)) (tries_fold (CallsBoth g)))
+
+-- The runs of `try_zip` of two futures with these runs.
+abbrev pub TryZipRuns : {F G A B E : Type 0} → Runs (Poll (Result A E)) F → Runs (Poll (Result B E)) G
+    → Runs (Poll (Result (A × B) E)) (TryZip F A G B)
+TryZipRuns run_first run_second x l y = TryZips run_first run_second x.first x.second l y.first y.second

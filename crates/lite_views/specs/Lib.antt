@@ -1,4 +1,5 @@
 pub mod Acting
+pub mod Answering
 pub mod Each
 pub mod Fronts
 pub mod Futures

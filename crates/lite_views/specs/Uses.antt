@@ -4,14 +4,27 @@ pub use Rattle.futures.specs.declared.task.Poll.TheVariants.{Pending, Ready}
 pub use Rattle.lite_base.specs.Answers.{Answer, Endless, Gives, UpToValue, Waiting, end, item, items, strip, until_end}
 pub use Rattle.lite_base.specs.Calling.{Accepts, Always, Calls}
 pub use Rattle.lite_base.specs.Future.Finishes.{Finishes}
+pub use Rattle.lite_base.specs.Future.Half.{Stands}
 pub use Rattle.lite_base.specs.Future.Handed.{handed}
+pub use Rattle.lite_base.specs.Future.Or.{FutureOrs}
+pub use Rattle.lite_base.specs.Future.Picks.{PickRow, PickRows, Picks}
+pub use Rattle.lite_base.specs.Future.Race.{FutureRacesOn, is_first}
 pub use Rattle.lite_base.specs.Future.Ready.{GivesHeld}
+pub use Rattle.lite_base.specs.Future.Together.{PairRows}
+pub use Rattle.lite_base.specs.Future.TryZip.{TryZips, try_pair}
 pub use Rattle.lite_base.specs.Laws.All.{all_split}
+pub use Rattle.lite_base.specs.Laws.Answers.{waiting_not_gives}
 pub use Rattle.lite_base.specs.Laws.Calls.{folds_follow}
+pub use Rattle.lite_base.specs.Laws.Rows.{rows_by}
 pub use Rattle.lite_base.specs.Laws.Segments.{segment_front, to_value_last}
 pub use Rattle.lite_base.specs.Lent.{Lent}
 pub use Rattle.lite_base.specs.Paces.{Paces, left_behind}
 pub use Rattle.lite_base.specs.Runs.{Question, Runs}
+pub use Rattle.lite_base.specs.declared.future.half.Half.{Half}
+pub use Rattle.lite_base.specs.declared.future.half.Half.TheVariants.{Asked, Gave, Taken}
+pub use Rattle.lite_base.specs.declared.future.or.Or.{Or}
+pub use Rattle.lite_base.specs.declared.future.race.Race.{Race}
+pub use Rattle.lite_base.specs.declared.future.try_zip.TryZip.{TryZip}
 pub use Rattle.lite_consume.specs.All.{alls}
 pub use Rattle.lite_consume.specs.Any.{anys}
 pub use Rattle.lite_consume.specs.Calls.{CallsBoth}
@@ -126,6 +139,7 @@ pub use Rattle.lite_write.specs.Parts.{NothingCopied, held_of, met_in, source_of
 pub use Rattle.lite_write.specs.WriteAll.{Ended, HandsMarks, HandsOver, WritesAll}
 pub use Rattle.lite_write.specs.declared.copy.CopyFuture.{CopyFuture}
 pub use Rattle.lite_write.specs.declared.write_all.WriteAllFuture.{WriteAllFuture}
+pub use Rattle.rand_core.specs.Stream.{Stream}
 pub use Rattle.std.proofs.Common.{add-one, ap, append-nil, append_assoc, arith, drop, inl, inr, length, length-append, replicate, subst, suc, sym, take}
 pub use Rattle.std.proofs.Common.{take-append-drop, zero, ◌∙◌}
 pub use Rattle.std.proofs.Math.Bool.{not-not}

@@ -1,0 +1,30 @@
+-- When a future returns its value, and which value that is if two futures are waited for together.
+use Rattle.std.specs.Prelude.{◌≡◌, ◌⊎◌, List, ◌∷◌, Result, Ok}
+use Rattle.lite_views.specs.Uses.{AllocError, Poll, Ready, Runs, Waiting}
+use Rattle.lite_views.specs.Views.{HasValue, ValueHolds, ValueIs}
+
+-- The first poll of the future `f` returns the value `v`.
+unfoldable pub AtOnce : {F A : Type 0} → Runs (Poll A) F → F → A → Type 0
+AtOnce {F} {A} run f v = (a : Poll A) (ins : List (Poll A)) (g : F) → run f (a ∷ ins) g → a ≡ Ready v
+
+-- Every poll of the future `f` returns `Pending`.
+unfoldable pub NeverReady : {F A : Type 0} → Runs (Poll A) F → F → Type 0
+NeverReady {F} {A} run f = (ins : List (Poll A)) (g : F) → run f ins g → Waiting ins
+
+-- There is one value that is `Ok`. If the future `f` is polled until its value, that is the one.
+abbrev pub HasOk : {F A E : Type 0} → Runs (Poll (Result A E)) F → F → Type 0
+HasOk {A = A} run f = (a : A) × HasValue run f (Ok a)
+
+-- As `HasValue`, with the value named twice, so that `grind` applies the fact when it meets the value.
+abbrev pub HasValueAs : {F A : Type 0} → Runs (Poll A) F → F → A → Type 0
+HasValueAs run f v = ValueIs run f v × HasValue run f v
+
+-- The value of the future `x` is that of `f` or that of `g`. If one of these two is never ready, it is the other's. If
+-- both have the same value, it is that one. If both have a value, it is one of the two.
+abbrev pub PickedValue : {F G X A : Type 0} → Runs (Poll A) F → F → Runs (Poll A) G → G → Runs (Poll A) X → X → Type 0
+PickedValue {A = A} run_first f run_second g run x =
+    ((v : A) → NeverReady run_first f → HasValue run_second g v → HasValueAs run x v)
+    × ((v : A) → NeverReady run_second g → HasValue run_first f v → HasValueAs run x v)
+    × ((v : A) → HasValue run_first f v → HasValue run_second g v → HasValueAs run x v)
+    × ((v w : A) → HasValue run_first f v → HasValue run_second g w
+    → ValueHolds AllocError run x (λ u. (u ≡ v) ⊎ (u ≡ w)))
