@@ -16,16 +16,7 @@ pub fn ready<T>(value: T) -> Ready<T>
     Ready { value: Some(value) }
 }
 
-/// Returns a future that is never ready. Every poll returns `Pending`, and wakes nothing.
-///
-/// # Examples
-///
-/// ```
-/// use futures_lite::future;
-///
-/// let never = future::pending::<u8>();
-/// assert_eq!(rt; future::block_on(&rt, future::poll_once(never))?, None);
-/// ```
+/// Returns a future that is never ready.
 pub fn pending<T>() -> Pending<T>
     ensures { result ≡ record { marker = record {} } }
 {
@@ -125,22 +116,6 @@ where
 }
 
 /// Returns a future that resolves to the pair of both values, or to the first error.
-///
-/// Each poll polls each future that is not ready yet once, the first before the second. If the first future
-/// fails, the second is not polled in that poll. The futures and the values have to be `Drop`.
-///
-/// # Examples
-///
-/// ```
-/// use futures_lite::future;
-///
-/// let both = future::try_zip(future::ready(Ok::<u8, &str>(1)), future::ready(Ok::<u8, &str>(2)));
-/// assert_eq!(rt; future::block_on(&rt, both)?, Ok((1, 2)));
-///
-/// let second = future::ready(Err::<u8, &str>("full"));
-/// let failed = future::try_zip(future::pending::<Result<u8, &str>>(), second);
-/// assert_eq!(rt; future::block_on(&rt, failed)?, Err("full"));
-/// ```
 pub fn try_zip<T1, T2, E, F1, F2>(future1: F1, future2: F2) -> TryZip<F1, T1, F2, T2>
 where
     F1: Future<Output = Result<T1, E>>,
@@ -156,20 +131,6 @@ where
 
 /// Returns a future that resolves to the value of the future that is ready first. It prefers `future1` if
 /// both are.
-///
-/// Each poll polls `future1`, and then `future2` only if `future1` returned `Pending`.
-///
-/// # Examples
-///
-/// ```
-/// use futures_lite::future;
-///
-/// let both = future::or(future::ready(1u8), future::ready(2));
-/// assert_eq!(rt; future::block_on(&rt, both)?, 1);
-///
-/// let second = future::or(future::pending(), future::ready(2u8));
-/// assert_eq!(rt; future::block_on(&rt, second)?, 2);
-/// ```
 pub fn or<T, F1, F2>(future1: F1, future2: F2) -> Or<F1, F2>
 where
     F1: Future<Output = T>,
@@ -180,22 +141,6 @@ where
 }
 
 /// Returns a future that resolves to the value of the future that is ready first. If both are, `rng` chooses.
-///
-/// Each poll draws one word of `rng`. If its lowest bit is 1, `future1` is polled first, otherwise `future2`.
-/// The other is polled only if that one returned `Pending`. Unlike futures-lite, the caller supplies the
-/// generator.
-///
-/// # Examples
-///
-/// ```
-/// use futures_lite::future;
-/// use rand_core::SeedableRng;
-/// use rand_pcg::Pcg32;
-///
-/// let rng = Pcg32::seed_from_u64(7);
-/// let second = future::race(future::pending(), future::ready(2u8), rng);
-/// assert_eq!(rt; future::block_on(&rt, second)?, 2);
-/// ```
 pub fn race<T, F1, F2, G>(future1: F1, future2: F2, rng: G) -> Race<F1, F2, G>
 where
     F1: Future<Output = T>,
@@ -211,21 +156,6 @@ where
 }
 
 /// Returns a future like that of [`race`], with a generator made from `seed`.
-///
-/// The generator is a `Pcg32`, so its bits differ from those of futures-lite for the same seed.
-///
-/// # Examples
-///
-/// ```
-/// use futures_lite::future;
-///
-/// let mut firsts = 0u32;
-/// for seed in 0..50u64 {
-///     let winner = future::race_with_seed(future::ready(1u32), future::ready(0), seed);
-///     firsts = firsts.wrapping_add(future::block_on(&rt, winner)?);
-/// }
-/// assert!(rt; firsts > 0 && firsts < 50);
-/// ```
 pub fn race_with_seed<T, F1, F2>(future1: F1, future2: F2, seed: u64) -> Race<F1, F2, Pcg32>
 where
     F1: Future<Output = T>,
