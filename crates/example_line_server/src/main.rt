@@ -5,8 +5,7 @@ mod words;
 
 use futures_lite::AsyncReadExt;
 use futures_lite::future::BlockOn;
-use futures_lite::io::{AssertAsync, BufReader, BufWriter};
-use futures_lite::io::{ServeError, serve_lines};
+use futures_lite::io::{AssertAsync, BufReader, BufWriter, ServeError, serve_lines};
 use std::alloc::AllocGlobal;
 use std::random::RandomSource;
 use std::sync::Wait;
