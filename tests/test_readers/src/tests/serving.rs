@@ -1,8 +1,7 @@
 ghost use Rattle.std.specs.Prelude.{◌∷◌, ◌++◌, []};
 
 use futures_lite::future::BlockOn;
-use futures_lite::io::{BufReader, BufWriter};
-use futures_lite::io::{LineService, ServeError, serve_lines};
+use futures_lite::io::{BufReader, BufWriter, LineService, ServeError, serve_lines};
 use lite_mock::{Marks, Order, Takes};
 use std::alloc::AllocError;
 use std::io::ErrorKind;

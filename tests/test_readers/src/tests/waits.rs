@@ -1,6 +1,7 @@
 use futures_lite::future::BlockOn;
-use futures_lite::io::BufReader;
-use futures_lite::io::{wait_flush, wait_read, wait_read_exact, wait_read_until, wait_write_all};
+use futures_lite::io::{
+    BufReader, wait_flush, wait_read, wait_read_exact, wait_read_until, wait_write_all,
+};
 use std::alloc::AllocError;
 use std::io::ErrorKind;
 use std::test::Fail;
