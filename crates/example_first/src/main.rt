@@ -1,4 +1,4 @@
-//! Numbers, mapped, filtered and cut: what comes out is said by functions of lists, and the numbers that are printed are proved.
+//! Numbers are mapped, filtered and cut. List functions say what comes out, and what is printed is proved.
 #![tactic(auto)]
 
 ghost use Rattle.std.specs.Prelude.{◌≡◌, ◌==◌, ◌%◌, ◌*◌, IfOk, map, take};
