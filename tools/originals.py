@@ -10,7 +10,6 @@ from sources import Sources
 
 PAGE = "docs/FROM-FUTURES-LITE.md"
 LINE = re.compile(r"(?P<module>future|stream|io)::(?P<title>\w+(?:::\w+)?)(?:: (?P<note>.*))?")
-PLAIN = "the same, with `&mut self` in place of `Pin<&mut Self>`"
 
 
 def lines():
@@ -22,6 +21,7 @@ def lines():
 
 
 def row(item, module, title, note):
+    """Returns a row of a table, with a link to the item's entry if it is here."""
     here = linked(item, f"`{title}`").replace("](#", f"](api/{module}.md#") if item else "-"
     return f"| `{title}` | {here} | {note or ''} |"
 

@@ -5,7 +5,7 @@ import textwrap
 
 import pictures
 from repository import TOP, read_text
-from sources import MODULES, PARAMETERS, Sources
+from sources import MODULES, Sources
 from vocabulary import PLAIN, WIDTH, bullet, cited, definitions, imported, libraries, wrapped
 
 ROW = re.compile(r"^\|( .*)\|$", re.M)
